@@ -1,0 +1,5 @@
+pub mod Equilibrium
+pub mod Laws
+pub mod Lines
+pub mod Mixed
+pub mod Profiles

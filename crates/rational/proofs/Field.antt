@@ -1,0 +1,102 @@
+-- the rationals are an ordered field
+use Rattle.std.proofs.Common.{ℕ, suc, zero, ◌*◌, ◌+◌, ◌<◌, ◌≤◌, ◌≡◌, ◌≢◌, ◌⊎◌, inl, inr, ℤ, pos, negsuc, neg_ℤ, ◌*ℤ◌, ◌+ℤ◌, ◌≤ℤ◌, ◌<ℤ◌, refl, sym, ap, ap₂, ◌∙◌, List, [], ◌∷◌, lit<, arith, mul-pos, subst, subst₂, zero-lt-suc}
+use Rattle.std.proofs.lemmas.Int.{ints, by_lt_z}
+use Rattle.rational.specs.Gcd.{gcd}
+use Rattle.rational.specs.Rational.{ℚ, is_lowest, den_pos, lowest, frac, whole, ◌+ℚ◌, ◌*ℚ◌, ◌-ℚ◌, neg_ℚ, inv_ℚ, zero_ℚ, one_ℚ, ◌≤ℚ◌, ◌<ℚ◌}
+use Rattle.rational.proofs.IntegerRing.{integer_ring}
+use Rattle.rational.proofs.RationalRing.{rational_ring, +ℚ_comm, +ℚ-zero, *ℚ_comm}
+use Rattle.rational.proofs.Fractions.{StandsFor, equal_by, equal_by_cross, StandsFor-self, StandsFor-also, StandsFor-frac, StandsFor-add, StandsFor-mul, StandsFor-neg}
+use Rattle.rational.proofs.Order.{le_by, by_le, lt_by, by_lt, eq_by, by_eq}
+use Rattle.rational.proofs.Ring.{ring, num, ◌:+◌, ◌:*◌, ◌:-◌, :neg, A, B, C, D, E, F, G, H}
+use Rattle.rational.proofs.Linear.{linear, Lin, at, lit, ◌⟨+⟩◌, ◌⟨-⟩◌, ◌⟨*⟩◌, ◌⟨≤⟩◌, ◌⟨<⟩◌, ◌⟨=⟩◌, zero-over}
+
+-- ---- order
+pub le_or_lt : (a b : ℚ) → (a ≤ℚ b) ⊎ (b <ℚ a)
+le_or_lt a b =
+    by_lt_z (b.num *ℤ pos a.den) (a.num *ℤ pos b.den) (λ h. inr (record { cross = h })) (λ h. inl (record { cross = h }))
+
+pub le_refl : (a : ℚ) → a ≤ℚ a
+le_refl a = linear (a ∷ []) [] (at 0 ⟨≤⟩ at 0) (λ one z p h. omega (arith, ints)) tt
+
+pub le_trans : (a b c : ℚ) → a ≤ℚ b → b ≤ℚ c → a ≤ℚ c
+le_trans a b c h g =
+    linear (a ∷ b ∷ c ∷ []) ((at 0 ⟨≤⟩ at 1) ∷ (at 1 ⟨≤⟩ at 2) ∷ []) (at 0 ⟨≤⟩ at 2) (λ one z p h. omega (arith, ints)) (h, (g, tt))
+
+pub le_antisymm : (a b : ℚ) → a ≤ℚ b → b ≤ℚ a → a ≡ b
+le_antisymm a b h g =
+    linear (a ∷ b ∷ []) ((at 0 ⟨≤⟩ at 1) ∷ (at 1 ⟨≤⟩ at 0) ∷ []) (at 0 ⟨=⟩ at 1) (λ one z p h. omega (arith, ints)) (h, (g, tt))
+
+pub lt_irrefl : (a : ℚ) → a <ℚ a → ⊥
+lt_irrefl a h = omega (arith, ints, h.cross)
+
+nonneg_num : (a : ℚ) → zero_ℚ ≤ℚ a → pos 0 ≤ℤ a.num
+nonneg_num a h = by_le zero_ℚ a (pos 0) a.num a.den (zero-over a.den (den_pos a)) (StandsFor-self a) h
+
+pos_num : (a : ℚ) → zero_ℚ <ℚ a → pos 0 <ℤ a.num
+pos_num a h = by_lt zero_ℚ a (pos 0) a.num a.den (zero-over a.den (den_pos a)) (StandsFor-self a) h
+
+nonneg-*ℤ : (m n : ℤ) → pos 0 ≤ℤ m → pos 0 ≤ℤ n → pos 0 ≤ℤ (m *ℤ n)
+nonneg-*ℤ (pos m) (pos n) h g = omega (arith, ints)
+nonneg-*ℤ (pos m) (negsuc n) h g = absurd (omega (arith, ints))
+nonneg-*ℤ (negsuc m) n h g = absurd (omega (arith, ints))
+
+pos-*ℤ : (m n : ℤ) → pos 0 <ℤ m → pos 0 <ℤ n → pos 0 <ℤ (m *ℤ n)
+pos-*ℤ (pos zero) n h g = absurd (omega (arith, ints))
+pos-*ℤ (pos (suc m)) (pos zero) h g = absurd (omega (arith, ints))
+pos-*ℤ (pos (suc m)) (pos (suc n)) h g = omega (arith, ints)
+pos-*ℤ (pos (suc m)) (negsuc n) h g = absurd (omega (arith, ints))
+pos-*ℤ (negsuc m) n h g = absurd (omega (arith, ints))
+
+pub nonneg-mul : (a b : ℚ) → zero_ℚ ≤ℚ a → zero_ℚ ≤ℚ b → zero_ℚ ≤ℚ (a *ℚ b)
+nonneg-mul a b h g =
+    le_by zero_ℚ (a *ℚ b) (pos 0) (a.num *ℤ b.num) (a.den * b.den) (zero-over (a.den * b.den) (mul-pos (den_pos a) (den_pos b))) (StandsFor-mul a b _ _ _ _ (StandsFor-self a) (StandsFor-self b)) (nonneg-*ℤ a.num b.num (nonneg_num a h) (nonneg_num b g))
+
+pub pos-mul : (a b : ℚ) → zero_ℚ <ℚ a → zero_ℚ <ℚ b → zero_ℚ <ℚ (a *ℚ b)
+pos-mul a b h g =
+    lt_by zero_ℚ (a *ℚ b) (pos 0) (a.num *ℤ b.num) (a.den * b.den) (zero-over (a.den * b.den) (mul-pos (den_pos a) (den_pos b))) (StandsFor-mul a b _ _ _ _ (StandsFor-self a) (StandsFor-self b)) (pos-*ℤ a.num b.num (pos_num a h) (pos_num b g))
+
+-- a factor that is not negative keeps the order
+pub le-mul_left : (c a b : ℚ) → zero_ℚ ≤ℚ c → a ≤ℚ b → (c *ℚ a) ≤ℚ (c *ℚ b)
+le-mul_left c a b h g =
+    linear ((c *ℚ a) ∷ (c *ℚ b) ∷ (c *ℚ (b -ℚ a)) ∷ []) ((lit (pos 0) ⟨≤⟩ at 2) ∷ (at 2 ⟨=⟩ (at 1 ⟨-⟩ at 0)) ∷ []) (at 0 ⟨≤⟩ at 1) (λ one z p h. omega (arith, ints)) (nonneg-mul c (b -ℚ a) h (linear (a ∷ b ∷ []) ((at 0 ⟨≤⟩ at 1) ∷ []) (lit (pos 0) ⟨≤⟩ (at 1 ⟨-⟩ at 0)) (λ one z p h. omega (arith, ints)) (g, tt)), (ring rational_ring (a ∷ b ∷ c ∷ []) (C :* (B :- A)) (C :* B :- C :* A) refl, tt))
+
+square_ℤ : (m : ℤ) → pos 0 ≤ℤ (m *ℤ m)
+square_ℤ (pos m) = omega (arith, ints)
+square_ℤ (negsuc m) = omega (arith, ints)
+
+pub square-nonneg : (a : ℚ) → zero_ℚ ≤ℚ (a *ℚ a)
+square-nonneg a =
+    le_by zero_ℚ (a *ℚ a) (pos 0) (a.num *ℤ a.num) (a.den * a.den) (zero-over (a.den * a.den) (mul-pos (den_pos a) (den_pos a))) (StandsFor-mul a a _ _ _ _ (StandsFor-self a) (StandsFor-self a)) (square_ℤ a.num)
+
+-- ---- the inverse
+inv_is_pos : (a : ℚ) (n : ℕ) → a.num ≡ pos (suc n) → StandsFor (inv_ℚ a) (pos a.den) (suc n)
+unfolding inv_ℚ
+inv_is_pos a n e = subst (λ x. StandsFor (elim x [ pos n ↦ frac (pos a.den) n | negsuc n ↦ frac (neg_ℤ (pos a.den)) (suc n) ]) (pos a.den) (suc n)) (sym e) (StandsFor-frac (pos a.den) (suc n) (zero-lt-suc n))
+
+inv_is_neg : (a : ℚ) (n : ℕ) → a.num ≡ negsuc n → StandsFor (inv_ℚ a) (neg_ℤ (pos a.den)) (suc n)
+unfolding inv_ℚ
+inv_is_neg a n e = subst (λ x. StandsFor (elim x [ pos n ↦ frac (pos a.den) n | negsuc n ↦ frac (neg_ℤ (pos a.den)) (suc n) ]) (neg_ℤ (pos a.den)) (suc n)) (sym e) (StandsFor-frac (neg_ℤ (pos a.den)) (suc n) (zero-lt-suc n))
+
+pub *ℚ-inv : (a : ℚ) → a ≢ zero_ℚ → a *ℚ inv_ℚ a ≡ one_ℚ
+*ℚ-inv a h = go a.num refl
+  where
+    by : (n : ℤ) (m : ℤ) (k : ℕ) → a.num ≡ n → StandsFor (inv_ℚ a) m (suc k) → (n *ℤ m) ≡ pos (a.den * suc k) → a *ℚ inv_ℚ a ≡ one_ℚ
+    by n m k e p c =
+        equal_by (a *ℚ inv_ℚ a) one_ℚ (a.num *ℤ m) (pos 1) (a.den * suc k) 1 (StandsFor-mul a (inv_ℚ a) a.num m a.den (suc k) (StandsFor-self a) p) (StandsFor-frac (pos 1) 1 (lit< tt)) (ap (λ x. (x *ℤ m) *ℤ pos 1) e ∙ ap (λ x. x *ℤ pos 1) c ∙ ring integer_ring (pos (a.den * suc k) ∷ []) (A :* num 1) (num 1 :* A) refl)
+
+    go : (n : ℤ) → a.num ≡ n → a *ℚ inv_ℚ a ≡ one_ℚ
+    go (pos zero) e = absurd (h (equal_by a zero_ℚ a.num (pos 0) a.den 1 (StandsFor-self a) (StandsFor-frac (pos 0) 1 (lit< tt)) (ap (λ x. x *ℤ pos 1) e ∙ ring integer_ring (pos a.den ∷ []) (num 0 :* num 1) (num 0 :* A) refl)))
+    go (pos (suc n)) e = by (pos (suc n)) (pos a.den) n e (inv_is_pos a n e) (ring integer_ring (pos (suc n) ∷ pos a.den ∷ []) (A :* B) (B :* A) refl)
+    go (negsuc n) e = by (negsuc n) (neg_ℤ (pos a.den)) n e (inv_is_neg a n e) (ring integer_ring (pos (suc n) ∷ pos a.den ∷ []) (:neg A :* :neg B) (B :* A) refl)
+
+-- the middle of two numbers
+abbrev pub half : ℚ
+half = frac (pos 1) 2
+
+two_halves : half +ℚ half ≡ one_ℚ
+unfolding frac ◌+ℚ◌ gcd is_lowest
+two_halves = refl
+
+pub half_twice : (a : ℚ) → (half *ℚ a) +ℚ (half *ℚ a) ≡ a
+half_twice a =
+    ring rational_ring (half ∷ a ∷ []) (A :* B :+ A :* B) ((A :+ A) :* B) refl ∙ ap (λ x. x *ℚ a) two_halves ∙ ring rational_ring (a ∷ []) (num 1 :* A) A refl

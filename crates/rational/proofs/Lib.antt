@@ -1,0 +1,10 @@
+pub mod Codes
+pub mod CommutativeRing
+pub mod Field
+pub mod Fractions
+pub mod IntegerRing
+pub mod Linear
+pub mod Order
+pub mod RationalRing
+pub mod Ring
+pub mod Sums

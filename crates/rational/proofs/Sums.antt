@@ -1,0 +1,65 @@
+-- laws of sums
+use Rattle.std.proofs.Common.{ℕ, suc, zero, ◌<◌, ◌≤◌, ◌≡◌, ◌+◌, eqb, Bool, true, false, cond, refl, sym, ap, ap₂, ◌∙◌, subst, List, [], ◌∷◌, arith, ◌⊎◌, inl, inr, tests, eq-or-lt_of_le, le_of_suc-le-suc}
+use Rattle.std.proofs.lemmas.Int.{ints}
+use Rattle.rational.specs.Rational.{ℚ, ◌+ℚ◌, ◌*ℚ◌, ◌-ℚ◌, neg_ℚ, zero_ℚ, one_ℚ, ◌≤ℚ◌, ◌<ℚ◌}
+use Rattle.rational.specs.Sum.{sum_to, change}
+use Rattle.rational.proofs.RationalRing.{rational_ring}
+use Rattle.rational.proofs.Ring.{ring, num, ◌:+◌, ◌:*◌, ◌:-◌, :neg, A, B, C, D, E, F, G, H}
+use Rattle.rational.proofs.Linear.{linear, Lin, at, lit, ◌⟨+⟩◌, ◌⟨-⟩◌, ◌⟨*⟩◌, ◌⟨≤⟩◌, ◌⟨<⟩◌, ◌⟨=⟩◌}
+use Rattle.rational.proofs.Field.{le_refl}
+
+pub sum_to-same : (n : ℕ) (f g : ℕ → ℚ) → ((i : ℕ) → i < n → f i ≡ g i) → sum_to n f ≡ sum_to n g
+sum_to-same zero f g h = refl
+sum_to-same (suc n) f g h = ap₂ (λ x y. x +ℚ y) (sum_to-same n f g (λ i p. h i (omega arith))) (h n (omega arith))
+
+pub sum_to-add : (n : ℕ) (f g : ℕ → ℚ) → sum_to n (λ i. f i +ℚ g i) ≡ sum_to n f +ℚ sum_to n g
+sum_to-add zero f g = ring rational_ring [] (num 0) (num 0 :+ num 0) refl
+sum_to-add (suc n) f g =
+    ap (λ x. x +ℚ (f n +ℚ g n)) (sum_to-add n f g) ∙ ring rational_ring (sum_to n f ∷ sum_to n g ∷ f n ∷ g n ∷ []) (A :+ B :+ (C :+ D)) (A :+ C :+ (B :+ D)) refl
+
+pub sum_to-scale : (n : ℕ) (c : ℚ) (f : ℕ → ℚ) → sum_to n (λ i. c *ℚ f i) ≡ c *ℚ sum_to n f
+sum_to-scale zero c f = ring rational_ring (c ∷ []) (num 0) (A :* num 0) refl
+sum_to-scale (suc n) c f = ap (λ x. x +ℚ (c *ℚ f n)) (sum_to-scale n c f) ∙ ring rational_ring (c ∷ sum_to n f ∷ f n ∷ []) (A :* B :+ A :* C) (A :* (B :+ C)) refl
+
+pub sum_to-zero : (n : ℕ) → sum_to n (λ i. zero_ℚ) ≡ zero_ℚ
+sum_to-zero zero = refl
+sum_to-zero (suc n) = ap (λ x. x +ℚ zero_ℚ) (sum_to-zero n) ∙ ring rational_ring [] (num 0 :+ num 0) (num 0) refl
+
+-- the order of two sums does not matter
+pub sum_to-exchange : (n m : ℕ) (f : ℕ → ℕ → ℚ) → sum_to n (λ i. sum_to m (λ j. f i j)) ≡ sum_to m (λ j. sum_to n (λ i. f i j))
+sum_to-exchange zero m f = sym (sum_to-zero m)
+sum_to-exchange (suc n) m f =
+    ap (λ x. x +ℚ sum_to m (f n)) (sum_to-exchange n m f) ∙ sym (sum_to-add m (λ j. sum_to n (λ i. f i j)) (f n))
+
+pub sum_to-le : (n : ℕ) (f g : ℕ → ℚ) → ((i : ℕ) → i < n → f i ≤ℚ g i) → sum_to n f ≤ℚ sum_to n g
+sum_to-le zero f g h = le_refl zero_ℚ
+sum_to-le (suc n) f g h =
+    linear (sum_to n f ∷ sum_to n g ∷ f n ∷ g n ∷ []) ((at 0 ⟨≤⟩ at 1) ∷ (at 2 ⟨≤⟩ at 3) ∷ []) ((at 0 ⟨+⟩ at 2) ⟨≤⟩ (at 1 ⟨+⟩ at 3)) (λ one z p h. omega (arith, ints)) (sum_to-le n f g (λ i p. h i (omega arith)), (h n (omega arith), tt))
+
+cond_other : (f : ℕ → ℚ) (v : ℚ) (i c : ℕ) → i < c → change f c v i ≡ f i
+cond_other f v i c h = grind (arith, tests)
+
+cond_past : (f : ℕ → ℚ) (v : ℚ) (i c : ℕ) → c < i → change f c v i ≡ f i
+cond_past f v i c h = grind (arith, tests)
+
+cond_same : (f : ℕ → ℚ) (v : ℚ) (c : ℕ) → change f c v c ≡ v
+cond_same f v c = grind (arith, tests)
+
+sum_to-change_last : (n : ℕ) (f g : ℕ → ℚ) (v w : ℚ) → (sum_to n (λ j. change f n v j *ℚ change g n w j) +ℚ (change f n v n *ℚ change g n w n)) +ℚ (f n *ℚ g n) ≡ (sum_to n (λ j. f j *ℚ g j) +ℚ (f n *ℚ g n)) +ℚ (v *ℚ w)
+sum_to-change_last n f g v w =
+    ap₂ (λ x y. (x +ℚ y) +ℚ (f n *ℚ g n)) (sum_to-same n (λ j. change f n v j *ℚ change g n w j) (λ j. f j *ℚ g j) (λ i p. ap₂ (λ x y. x *ℚ y) (cond_other f v i n p) (cond_other g w i n p))) (ap₂ (λ x y. x *ℚ y) (cond_same f v n) (cond_same g w n))
+    ∙ ring rational_ring (sum_to n (λ j. f j *ℚ g j) ∷ (v *ℚ w) ∷ (f n *ℚ g n) ∷ []) (A :+ B :+ C) (A :+ C :+ B) refl
+
+-- another factor at c, in both rows of a product
+pub sum_to-change : (n c : ℕ) (f g : ℕ → ℚ) (v w : ℚ) → c < n → sum_to n (λ j. change f c v j *ℚ change g c w j) +ℚ (f c *ℚ g c) ≡ sum_to n (λ j. f j *ℚ g j) +ℚ (v *ℚ w)
+sum_to-change zero c f g v w h = absurd (omega arith)
+sum_to-change (suc n) c f g v w h = elim (eq-or-lt_of_le (le_of_suc-le-suc h)) [ inl e ↦ last e | inr p ↦ before p (sum_to-change n c f g v w p) ]
+  where
+    last : c ≡ n → (sum_to n (λ j. change f c v j *ℚ change g c w j) +ℚ (change f c v n *ℚ change g c w n)) +ℚ (f c *ℚ g c) ≡ (sum_to n (λ j. f j *ℚ g j) +ℚ (f n *ℚ g n)) +ℚ (v *ℚ w)
+    last e = rw e (sum_to-change_last n f g v w)
+
+    before : c < n → sum_to n (λ j. change f c v j *ℚ change g c w j) +ℚ (f c *ℚ g c) ≡ sum_to n (λ j. f j *ℚ g j) +ℚ (v *ℚ w) → (sum_to n (λ j. change f c v j *ℚ change g c w j) +ℚ (change f c v n *ℚ change g c w n)) +ℚ (f c *ℚ g c) ≡ (sum_to n (λ j. f j *ℚ g j) +ℚ (f n *ℚ g n)) +ℚ (v *ℚ w)
+    before p ih =
+        ap (λ x. (sum_to n (λ j. change f c v j *ℚ change g c w j) +ℚ x) +ℚ (f c *ℚ g c)) (ap₂ (λ x y. x *ℚ y) (cond_past f v n c p) (cond_past g w n c p))
+        ∙ ring rational_ring (sum_to n (λ j. change f c v j *ℚ change g c w j) ∷ (f n *ℚ g n) ∷ (f c *ℚ g c) ∷ []) (A :+ B :+ C) (A :+ C :+ B) refl ∙ ap (λ x. x +ℚ (f n *ℚ g n)) ih
+        ∙ ring rational_ring (sum_to n (λ j. f j *ℚ g j) ∷ (v *ℚ w) ∷ (f n *ℚ g n) ∷ []) (A :+ B :+ C) (A :+ C :+ B) refl

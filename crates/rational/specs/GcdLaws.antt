@@ -1,0 +1,57 @@
+-- what the greatest common divisor divides, and Gauss's law
+use Rattle.std.proofs.Common.{ℕ, zero, suc, ◌%◌, ◌/◌, ◌*◌, ◌+◌, ◌-◌, ◌≤◌, ◌<◌, ◌≡◌, Bool, true, false, eqb, eqb→eq, arith, refl, sym, ap, ◌∙◌, subst, T, T_not, tests, mul_comm, div-add-mod'}
+use native.Mathlib.Nat.{dvd_refl, dvd-zero, dvd_trans, dvd-add, dvd-mod_iff, dvd-sub, dvd_antisymm, dvd-mul_right, dvd-mul_left, dvd-mul_left_of_dvd, dvd-mul_right_of_dvd, mod-lt, one-dvd, eq-one_of_dvd-one, div-mul_cancel, one-mul, pos_of_dvd_of_pos, dvd_of_mul-dvd-mul_right, mul-dvd-mul_right}
+use Rattle.std.specs.Int.{IsGcd, ◌∣◌}
+use Rattle.std.proofs.lemmas.Nat.Gcd.{IsGcd-from_zero, IsGcd-from_mod}
+use Rattle.rational.specs.Gcd.{gcd, gcd_steps}
+
+mod_small : (k a b : ℕ) → b ≤ suc k → eqb b 0 ≡ false → a % b ≤ k
+mod_small k a b h e = grind (arith, tests)
+
+gcd_steps_is : (k a b : ℕ) → b ≤ k → IsGcd a b (gcd_steps k a b)
+gcd_steps_is zero a b h = IsGcd-from_zero a b (omega arith)
+gcd_steps_is (suc k) a b h = go (eqb b 0) refl (gcd_steps_is k b (a % b))
+  where
+    go : (t : Bool) → eqb b 0 ≡ t → (a % b ≤ k → IsGcd b (a % b) (gcd_steps k b (a % b))) → IsGcd a b (elim t [ true ↦ a | false ↦ gcd_steps k b (a % b) ])
+    go true e ih = IsGcd-from_zero a b (eqb→eq b 0 (subst T (sym e) tt))
+    go false e ih = IsGcd-from_mod a b (gcd_steps k b (a % b)) (ih (mod_small k a b h e))
+
+pub gcd-is : (a b : ℕ) → IsGcd a b (gcd a b)
+unfolding gcd
+gcd-is a b = gcd_steps_is b a b (omega arith)
+
+-- a common divisor of two multiples divides the multiple of the greatest one
+gcd_steps_multiple : (k a b c d : ℕ) → b ≤ k → d ∣ a * c → d ∣ b * c → d ∣ gcd_steps k a b * c
+gcd_steps_multiple zero a b c d h p q = p
+gcd_steps_multiple (suc k) a b c d h p q = go (eqb b 0) refl (gcd_steps_multiple k b (a % b) c d)
+  where
+    less : (a % b) * c ≡ a * c - (a / b) * (b * c)
+    less = let e : (a / b * b + a % b) * c ≡ a * c = ap (λ x. x * c) (div-add-mod' a b) in omega (arith, e)
+
+    go : (t : Bool) → eqb b 0 ≡ t → (a % b ≤ k → d ∣ b * c → d ∣ a % b * c → d ∣ gcd_steps k b (a % b) * c) → d ∣ (elim t [ true ↦ a | false ↦ gcd_steps k b (a % b) ]) * c
+    go true e ih = p
+    go false e ih = ih (mod_small k a b h e) q (subst (λ x. d ∣ x) (sym less) (dvd-sub d p (dvd-mul_left_of_dvd d q (a / b))))
+
+pub gcd-multiple : (a b c d : ℕ) → d ∣ a * c → d ∣ b * c → d ∣ gcd a b * c
+unfolding gcd
+gcd-multiple a b c d p q = gcd_steps_multiple b a b c d (omega arith) p q
+
+-- Gauss: what divides a product and shares no divisor with one factor divides the other
+pub gauss : (a b c : ℕ) → gcd a b ≡ 1 → b ∣ a * c → b ∣ c
+gauss a b c e p = rw (e, one-mul) at (gcd-multiple a b c b p (dvd-mul_right b c))
+
+pub gcd_pos : (a b : ℕ) → 0 < b → 0 < gcd a b
+gcd_pos a b h = pos_of_dvd_of_pos (gcd-is a b).1 h
+
+-- the parts that are left when the greatest common divisor is divided away share none
+pub gcd-parts : (a b : ℕ) → 0 < b → gcd (a / gcd a b) (b / gcd a b) ≡ 1
+gcd-parts a b h =
+    eq-one_of_dvd-one (dvd_of_mul-dvd-mul_right {k = gcd a b} (gcd (a / gcd a b) (b / gcd a b)) (gcd_pos a b h) (subst (λ x. gcd (a / gcd a b) (b / gcd a b) * gcd a b ∣ x) (sym (one-mul (gcd a b))) ((gcd-is a b).2 _ (whole a (gcd-is a b).0 (gcd-is (a / gcd a b) (b / gcd a b)).0) (whole b (gcd-is a b).1 (gcd-is (a / gcd a b) (b / gcd a b)).1))))
+  where
+    whole : (x : ℕ) → gcd a b ∣ x → gcd (a / gcd a b) (b / gcd a b) ∣ x / gcd a b → gcd (a / gcd a b) (b / gcd a b) * gcd a b ∣ x
+    whole x p q = subst (λ y. gcd (a / gcd a b) (b / gcd a b) * gcd a b ∣ y) (div-mul_cancel (gcd a b) p) (mul-dvd-mul_right _ q (gcd a b))
+
+-- lowest terms are unique
+pub lowest_unique : (a b c d : ℕ) → gcd a b ≡ 1 → gcd c d ≡ 1 → a * d ≡ c * b → b ≡ d
+lowest_unique a b c d e f h =
+    dvd_antisymm (gauss a b d e (subst (λ x. b ∣ x) (sym h) (dvd-mul_left b c))) (gauss c d b f (subst (λ x. d ∣ x) h (dvd-mul_left d a)))

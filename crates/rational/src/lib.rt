@@ -1,0 +1,5 @@
+//! The rational numbers, for contracts and proofs.
+#![tactic(auto)]
+
+/// The rationals are there.
+pub fn rationals() {}
