@@ -1,12 +1,13 @@
 -- laws of sums
-use Rattle.std.proofs.Common.{ℕ, suc, zero, ◌<◌, ◌≤◌, ◌≡◌, ◌+◌, eqb, Bool, true, false, cond, refl, sym, ap, ap₂, ◌∙◌, subst, List, [], ◌∷◌, arith, ◌⊎◌, inl, inr, tests, eq-or-lt_of_le, le_of_suc-le-suc}
+use Rattle.std.proofs.Common.{ℕ, suc, zero, ◌<◌, ◌≤◌, ◌≡◌, ◌+◌, ◌*◌, mul-zero, eqb, Bool, true, false, cond, refl, sym, ap, ap₂, ◌∙◌, subst, List, [], ◌∷◌, arith, ◌⊎◌, inl, inr, tests, eq-or-lt_of_le, le_of_suc-le-suc}
 use Rattle.std.proofs.lemmas.Int.{ints}
 use Rattle.rational.specs.Rational.{ℚ, ◌+ℚ◌, ◌*ℚ◌, ◌-ℚ◌, neg_ℚ, zero_ℚ, one_ℚ, ◌≤ℚ◌, ◌<ℚ◌}
 use Rattle.rational.specs.Sum.{sum_to, change}
 use Rattle.rational.proofs.RationalRing.{rational_ring}
-use Rattle.rational.proofs.Ring.{ring, num, ◌:+◌, ◌:*◌, ◌:-◌, :neg, A, B, C, D, E, F, G, H}
+use Rattle.rational.proofs.Ring.{ring, combine, ◌times◌is◌, num, ◌:+◌, ◌:*◌, ◌:-◌, :neg, A, B, C, D, E, F, G, H}
 use Rattle.rational.proofs.Linear.{linear, Lin, at, lit, ◌⟨+⟩◌, ◌⟨-⟩◌, ◌⟨*⟩◌, ◌⟨≤⟩◌, ◌⟨<⟩◌, ◌⟨=⟩◌}
 use Rattle.rational.proofs.Field.{le_refl}
+use native.Mathlib.Nat as N
 
 pub sum_to-same : (n : ℕ) (f g : ℕ → ℚ) → ((i : ℕ) → i < n → f i ≡ g i) → sum_to n f ≡ sum_to n g
 sum_to-same zero f g h = refl
@@ -63,3 +64,25 @@ sum_to-change (suc n) c f g v w h = elim (eq-or-lt_of_le (le_of_suc-le-suc h)) [
         ap (λ x. (sum_to n (λ j. change f c v j *ℚ change g c w j) +ℚ x) +ℚ (f c *ℚ g c)) (ap₂ (λ x y. x *ℚ y) (cond_past f v n c p) (cond_past g w n c p))
         ∙ ring rational_ring (sum_to n (λ j. change f c v j *ℚ change g c w j) ∷ (f n *ℚ g n) ∷ (f c *ℚ g c) ∷ []) (A :+ B :+ C) (A :+ C :+ B) refl ∙ ap (λ x. x +ℚ (f n *ℚ g n)) ih
         ∙ ring rational_ring (sum_to n (λ j. f j *ℚ g j) ∷ (v *ℚ w) ∷ (f n *ℚ g n) ∷ []) (A :+ B :+ C) (A :+ C :+ B) refl
+
+-- a sum over m + n numbers
+pub sum_to-append : (m n : ℕ) (f : ℕ → ℚ) → sum_to (m + n) f ≡ sum_to m f +ℚ sum_to n (λ i. f (m + i))
+sum_to-append m zero f = ap (λ k. sum_to k f) (N.add-zero m) ∙ ring rational_ring (sum_to m f ∷ []) A (A :+ num 0) refl
+sum_to-append m (suc n) f =
+    ap (λ k. sum_to k f) (N.add-suc m n) ∙ ap (λ x. x +ℚ f (m + n)) (sum_to-append m n f) ∙ ring rational_ring (sum_to m f ∷ sum_to n (λ i. f (m + i)) ∷ f (m + n) ∷ []) (A :+ B :+ C) (A :+ (B :+ C)) refl
+
+-- a sum over m blocks of n numbers
+pub sum_to-blocks : (n m : ℕ) (f : ℕ → ℚ) → sum_to (n * m) f ≡ sum_to m (λ j. sum_to n (λ i. f (n * j + i)))
+sum_to-blocks n zero f = ap (λ k. sum_to k f) (mul-zero n)
+sum_to-blocks n (suc m) f =
+    ap (λ k. sum_to k f) (N.mul-suc n m) ∙ sum_to-append (n * m) n f ∙ ap (λ x. x +ℚ sum_to n (λ i. f (n * m + i))) (sum_to-blocks n m f)
+
+change_same : (f : ℕ → ℚ) (c j : ℕ) → change f c (f c) j ≡ f j
+change_same f c j = grind (arith, tests)
+
+-- a sum in which only the term at c counts
+pub sum_to-single : (n c : ℕ) (f : ℕ → ℚ) → c < n → sum_to n (λ i. cond (eqb i c) one_ℚ zero_ℚ *ℚ f i) ≡ f c
+sum_to-single n c f h =
+    let g : ℕ → ℚ = λ i. zero_ℚ in
+    combine rational_ring (sum_to n (λ j. change g c one_ℚ j *ℚ f j) ∷ f c ∷ sum_to n (λ j. zero_ℚ *ℚ f j) ∷ []) ((num 1 times A :+ num 0 :* B is C :+ num 1 :* B) ∷ (num 1 times C is num 0) ∷ []) A B refl
+    (ap (λ x. x +ℚ (zero_ℚ *ℚ f c)) (sum_to-same n _ _ (λ j p. ap (λ x. change g c one_ℚ j *ℚ x) (sym (change_same f c j)))) ∙ sum_to-change n c g f one_ℚ (f c) h, (sum_to-same n (λ j. zero_ℚ *ℚ f j) (λ j. zero_ℚ) (λ j p. ring rational_ring (f j ∷ []) (num 0 :* A) (num 0) refl) ∙ sum_to-zero n, tt))
