@@ -8,7 +8,7 @@ use crate::euclid::{cmp_quotients, gcd};
 use std::cmp::Ordering;
 use std::marker::Model;
 
-#[derive(Clone, Copy)]
+#[derive(Clone, Copy, Debug)]
 pub struct Frac {
     num: i128,
     den: i128,

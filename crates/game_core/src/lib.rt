@@ -1,0 +1,10 @@
+//! Games as the readers hand them on: names, tables and the limits on their sizes.
+#![tactic(auto)]
+
+mod name;
+mod table;
+mod too_large;
+
+pub use name::Name;
+pub use table::Table;
+pub use too_large::{TooLarge, What};

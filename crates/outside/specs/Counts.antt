@@ -1,0 +1,13 @@
+-- Counts of faults. A count never falls and stands still at 2^64 - 1.
+use Rattle.std.specs.Prelude.{ℕ, ◌≡◌, ◌⊎◌, ◌-◌, ◌^◌, ◌<◌, ◌≤◌, OnOk, OnErr}
+use Rattle.std.specs.Prelude.{Result}
+
+-- the count rose, or stands at its last value
+abbrev pub Rose : ℕ → ℕ → Type 0
+Rose before now = (before < now) ⊎ (now ≡ 2 ^ 64 - 1)
+
+-- what a call that may fail does to its count: an Ok leaves it as it was, and a refusal comes only where it rose
+pub record Counts {T E : Type 0} (before now : ℕ) (result : Result T E) : Type 0 where
+  pub never_falls : before ≤ now
+  pub same_at_ok : OnOk result (now ≡ before)
+  pub rose_at_err : OnErr result (Rose before now)

@@ -1,0 +1,12 @@
+//! What lies outside of a run: the inputs that it reads, the sinks that it writes to, and the gate that its
+//! workers pass. The traits say what every implementation keeps. `MemInputs` and `MemSink` hold bytes in
+//! memory and tell them; `RealInputs` and `RealSink` stand over files and the standard streams.
+#![tactic(auto)]
+
+mod gate;
+mod inputs;
+mod sink;
+
+pub use gate::{Gate, OpenGate};
+pub use inputs::{Inputs, OpenFailed, ReadFailed};
+pub use sink::{Sink, WriteFailed};
