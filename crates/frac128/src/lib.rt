@@ -3,9 +3,11 @@
 
 mod euclid;
 mod frac;
+mod memory;
 
 pub use euclid::gcd;
 pub use frac::Frac;
+pub use memory::Memory;
 
 #[cfg(test)]
 mod tests;

@@ -1,6 +1,5 @@
 // Games as tables.
 ghost use Rattle.std.specs.Prelude.{◌≡◌, ◌<◌, ◌≤◌, ◌*◌, ◌+◌, length, map, slice_index, slice_index_or};
-ghost use Rattle.game_theory.specs.Profiles.{IsProfile, number_of, profile_count};
 ghost use Rattle.game_core.specs.Table.{IsTable, GameTable, game_of, strategy_counts, most_payoffs};
 
 use crate::name::Name;
@@ -82,18 +81,5 @@ impl Table {
         ensures valid { IsTable self.now }
     {
         self.payoffs.as_slice()
-    }
-
-    /// A player's payoff at a pure profile, which has one strategy for each player.
-    pub fn payoff(&self, profile: &[u32], player: u32) -> Frac
-        requires profile { IsProfile (strategy_counts self.now) profile.now }
-        requires player { player < length self.now.players }
-        ensures { result ≡ (game_of self.now).pays player (number_of (strategy_counts self.now) profile.now) }
-    {
-        let mut number = 0;
-        for (place, strategy) in profile.iter().enumerate().rev() {
-            number = *strategy as usize + self.strategies[place].len() * number;
-        }
-        self.payoffs[number * self.players.len() + player as usize]
     }
 }
