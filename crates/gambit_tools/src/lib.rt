@@ -1,0 +1,12 @@
+//! The whole of `gambit`: it reads the words and the input, calls the tool, and writes the text or one line
+//! of refusal. `run` carries the main theorem.
+#![tactic(auto)]
+
+mod input;
+mod output;
+mod refusal;
+mod tools;
+
+pub use refusal::Refusal;
+pub use tools::run;
+pub use words::{Settings, Usage, read_settings};
