@@ -35,5 +35,5 @@ IsInputRefusal name before after _ = ⊥
 
 -- a count rose only with its own refusal
 pub record CountsTell (before after : InputsSeen) (refusal : Option Refusal) : Type 0 where
-  pub open : before.open_faults < after.open_faults → refusal ≡ Some refusal.OpenFault
-  pub read : before.read_faults < after.read_faults → refusal ≡ Some refusal.ReadFault
+  pub opening : before.open_faults < after.open_faults → refusal ≡ Some refusal.OpenFault
+  pub reading : before.read_faults < after.read_faults → refusal ≡ Some refusal.ReadFault

@@ -81,9 +81,9 @@ pub record IsOutcome (words : List (List ℕ)) (before after : InputsSeen) (out_
 
 -- no count of faults rose
 pub record NoFault (before after : InputsSeen) (out_before out_after : SinkSeen) : Type 0 where
-  pub open : Rose before.open_faults after.open_faults → ⊥
-  pub read : Rose before.read_faults after.read_faults → ⊥
-  pub write : Rose out_before.faults out_after.faults → ⊥
+  pub opening : Rose before.open_faults after.open_faults → ⊥
+  pub reading : Rose before.read_faults after.read_faults → ⊥
+  pub writing : Rose out_before.faults out_after.faults → ⊥
 
 -- the words are accepted, and the bytes of the input are known and within the limit and stand for a game
 pub record IsAccepted (words : List (List ℕ)) (before : InputsSeen) : Type 0 where
