@@ -1,6 +1,6 @@
 -- Games in strategic form, with any number of players, and their pure profiles.
 -- Source: von Neumann and Morgenstern 1944; Nash 1951. Players, strategies and profiles count from 0.
-use Rattle.std.specs.Prelude.{ℕ, ◌+◌, ◌*◌, ◌/◌, ◌%◌, ◌<◌, List, [], ◌∷◌}
+use Rattle.std.specs.Prelude.{ℕ, suc, ◌+◌, ◌*◌, ◌/◌, ◌%◌, ◌<◌, List, [], ◌∷◌}
 use Rattle.rational.specs.Rational.{ℚ}
 
 -- How many strategies each player has, and what each pure profile pays each player:
@@ -29,3 +29,8 @@ number_of _ _ = 0
 abbrev pub profile_at : List ℕ → ℕ → List ℕ
 profile_at [] k = []
 profile_at (n ∷ ns) k = (k % n) ∷ profile_at ns (k / n)
+
+-- how far the numbers of two profiles are apart of which one plays the player's next strategy, and the rest is the same
+abbrev pub stride : List ℕ → ℕ → ℕ
+stride (n ∷ ns) (suc i) = n * stride ns i
+stride _ _ = 1

@@ -1,0 +1,3 @@
+pub mod Payoffs
+pub mod ProfileNumbers
+pub mod PureProfiles

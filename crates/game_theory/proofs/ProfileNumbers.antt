@@ -1,0 +1,91 @@
+-- Profiles and their numbers.
+use Rattle.std.proofs.Common.{ℕ, zero, suc, ◌+◌, ◌*◌, ◌/◌, ◌%◌, ◌<◌, ◌≤◌, ◌≡◌, List, [], ◌∷◌, length, get_or, set, refl, sym, ap, ap₂, ◌∙◌, arith, mod-lt}
+use Rattle.std.proofs.lemmas.Nat.{div-mul-add, mod-mul-add}
+use Rattle.game_theory.specs.Profiles.{profile_count, IsProfile, number_of, profile_at, stride}
+use Rattle.game_theory.specs.Laws.{ProfilesAreNumbered}
+use native.Mathlib.Nat as N
+
+-- the number of a pair is below the count of pairs
+pair_below : (s n k p : ℕ) → s < n → k < p → s + n * k < n * p
+pair_below s n k p h l = let e : n * suc k ≤ n * p = N.mul-le-mul_left n (omega arith) in omega (arith, e)
+
+-- the remainder of a pair's number
+pub remainder-of : (n s k : ℕ) → s < n → (s + n * k) % n ≡ s
+remainder-of n s k h = ap (λ x. x % n) (omega arith) ∙ mod-mul-add k n s h
+
+-- the quotient of a pair's number
+pub quotient-of : (n s k : ℕ) → s < n → (s + n * k) / n ≡ k
+quotient-of n s k h = ap (λ x. x / n) (omega arith) ∙ div-mul-add k n s h
+
+-- there is a quotient below p only where n is positive
+positive_factor : (n p k : ℕ) → k < n * p → 0 < n
+positive_factor zero p k h = absurd (omega (arith, N.zero-mul p))
+positive_factor (suc n) p k h = omega arith
+
+-- the quotient of a pair's number
+quotient_below : (n p k : ℕ) → k < n * p → k / n < p
+quotient_below n p k h = (N.div-lt_iff_lt-mul {k = n} (positive_factor n p k h)).1 (omega arith)
+
+pub number_of-below : (ns s : List ℕ) → IsProfile ns s → number_of ns s < profile_count ns
+number_of-below [] [] h = omega arith
+number_of-below [] (s ∷ ss) h = absurd h
+number_of-below (n ∷ ns) [] h = absurd h
+number_of-below (n ∷ ns) (s ∷ ss) h = pair_below s n (number_of ns ss) (profile_count ns) h.0 (number_of-below ns ss h.1)
+
+pub profile_at-number_of : (ns s : List ℕ) → IsProfile ns s → profile_at ns (number_of ns s) ≡ s
+profile_at-number_of [] [] h = refl
+profile_at-number_of [] (s ∷ ss) h = absurd h
+profile_at-number_of (n ∷ ns) [] h = absurd h
+profile_at-number_of (n ∷ ns) (s ∷ ss) h =
+    ap₂ (λ x y. x ∷ y) (remainder-of n s (number_of ns ss) h.0) (ap (λ x. profile_at ns x) (quotient-of n s (number_of ns ss) h.0) ∙ profile_at-number_of ns ss h.1)
+
+pub IsProfile-profile_at : (ns : List ℕ) (k : ℕ) → k < profile_count ns → IsProfile ns (profile_at ns k)
+IsProfile-profile_at [] k h = tt
+IsProfile-profile_at (n ∷ ns) k h =
+    (mod-lt k (positive_factor n (profile_count ns) k h), IsProfile-profile_at ns (k / n) (quotient_below n (profile_count ns) k h))
+
+pub number_of-profile_at : (ns : List ℕ) (k : ℕ) → k < profile_count ns → number_of ns (profile_at ns k) ≡ k
+number_of-profile_at [] k h = omega arith
+number_of-profile_at (n ∷ ns) k h =
+    ap (λ x. k % n + n * x) (number_of-profile_at ns (k / n) (quotient_below n (profile_count ns) k h)) ∙ omega (arith, positive_factor n (profile_count ns) k h)
+
+pub ProfilesAreNumbered-all : (ns : List ℕ) → ProfilesAreNumbered ns
+ProfilesAreNumbered-all ns =
+    record { number_is_below = number_of-below ns; profile_at-number_of = profile_at-number_of ns; is_profile = IsProfile-profile_at ns; number_of-profile_at = number_of-profile_at ns }
+
+-- a profile has a strategy of each player
+pub length-profile : (ns s : List ℕ) → IsProfile ns s → length s ≡ length ns
+length-profile [] [] h = refl
+length-profile [] (s ∷ ss) h = absurd h
+length-profile (n ∷ ns) [] h = absurd h
+length-profile (n ∷ ns) (s ∷ ss) h = ap suc (length-profile ns ss h.1)
+
+-- each strategy of a profile is one of the player's
+pub profile-below : (ns s : List ℕ) (i : ℕ) → IsProfile ns s → i < length ns → get_or s i 0 < get_or ns i 0
+profile-below [] s i h l = absurd (omega arith)
+profile-below (n ∷ ns) [] i h l = absurd h
+profile-below (n ∷ ns) (s ∷ ss) zero h l = h.0
+profile-below (n ∷ ns) (s ∷ ss) (suc i) h l = profile-below ns ss i h.1 (omega arith)
+
+-- a list of one strategy of each player is a profile
+pub IsProfile-by_index : (ns s : List ℕ) → length s ≡ length ns → ((i : ℕ) → i < length ns → get_or s i 0 < get_or ns i 0) → IsProfile ns s
+IsProfile-by_index [] [] e h = tt
+IsProfile-by_index [] (s ∷ ss) e h = absurd (omega arith)
+IsProfile-by_index (n ∷ ns) [] e h = absurd (omega arith)
+IsProfile-by_index (n ∷ ns) (s ∷ ss) e h = (h 0 (omega arith), IsProfile-by_index ns ss (omega arith) (λ i l. h (suc i) (omega arith)))
+
+-- a profile with one strategy exchanged is a profile
+pub IsProfile-exchange : (ns s : List ℕ) (i t : ℕ) → IsProfile ns s → i < length ns → t < get_or ns i 0 → IsProfile ns (set s i t)
+IsProfile-exchange [] s i t h l b = absurd (omega arith)
+IsProfile-exchange (n ∷ ns) [] i t h l b = absurd h
+IsProfile-exchange (n ∷ ns) (s ∷ ss) zero t h l b = (b, h.1)
+IsProfile-exchange (n ∷ ns) (s ∷ ss) (suc i) t h l b = (h.0, IsProfile-exchange ns ss i t h.1 (omega arith) b)
+
+-- the number of a profile with one strategy exchanged
+pub number_of-exchange : (ns s : List ℕ) (i t : ℕ) → IsProfile ns s → i < length ns → number_of ns (set s i t) + stride ns i * get_or s i 0 ≡ number_of ns s + stride ns i * t
+number_of-exchange [] s i t h l = absurd (omega arith)
+number_of-exchange (n ∷ ns) [] i t h l = absurd h
+number_of-exchange (n ∷ ns) (s ∷ ss) zero t h l = omega arith
+number_of-exchange (n ∷ ns) (s ∷ ss) (suc i) t h l =
+    let e : n * (number_of ns (set ss i t) + stride ns i * get_or ss i 0) ≡ n * (number_of ns ss + stride ns i * t) = ap (λ x. n * x) (number_of-exchange ns ss i t h.1 (omega arith)) in
+    omega (arith, e)
