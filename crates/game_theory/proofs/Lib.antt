@@ -1,3 +1,5 @@
+pub mod LineOrder
 pub mod Payoffs
+pub mod ProfileLines
 pub mod ProfileNumbers
 pub mod PureProfiles

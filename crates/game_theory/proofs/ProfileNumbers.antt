@@ -1,5 +1,5 @@
 -- Profiles and their numbers.
-use Rattle.std.proofs.Common.{ℕ, zero, suc, ◌+◌, ◌*◌, ◌/◌, ◌%◌, ◌<◌, ◌≤◌, ◌≡◌, List, [], ◌∷◌, length, get_or, set, refl, sym, ap, ap₂, ◌∙◌, arith, mod-lt}
+use Rattle.std.proofs.Common.{ℕ, zero, suc, ◌+◌, ◌*◌, ◌/◌, ◌%◌, ◌<◌, ◌≤◌, ◌≡◌, List, [], ◌∷◌, length, get_or, set, refl, ap, ap₂, ◌∙◌, arith, mod-lt}
 use Rattle.std.proofs.lemmas.Nat.{div-mul-add, mod-mul-add}
 use Rattle.game_theory.specs.Profiles.{profile_count, IsProfile, number_of, profile_at, stride}
 use Rattle.game_theory.specs.Laws.{ProfilesAreNumbered}

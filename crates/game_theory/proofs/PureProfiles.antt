@@ -1,7 +1,7 @@
 -- Pure profiles: their payoffs, and which of them are equilibria.
-use Rattle.std.proofs.Common.{ℕ, zero, suc, ◌+◌, ◌*◌, ◌<◌, ◌≡◌, ◌↔◌, Bool, true, false, List, [], ◌∷◌, length, get_or, set, eqb, eqb→eq, cond, T, pos, refl, sym, ap, ap₂, ◌∙◌, subst, subst₂, arith, tests}
+use Rattle.std.proofs.Common.{ℕ, ◌+◌, ◌*◌, ◌<◌, ◌≡◌, Bool, true, false, List, [], ◌∷◌, length, get_or, set, eqb, eqb→eq, cond, T, pos, refl, sym, ap, ◌∙◌, subst, subst₂, arith, tests}
 use Rattle.std.proofs.lemmas.List.{get_or-set_same, get_or-set_other}
-use Rattle.rational.specs.Rational.{ℚ, ◌*ℚ◌, ◌≤ℚ◌, zero_ℚ, one_ℚ}
+use Rattle.rational.specs.Rational.{ℚ, ◌≤ℚ◌, zero_ℚ, one_ℚ}
 use Rattle.rational.specs.Sum.{sum_to}
 use Rattle.rational.proofs.RationalRing.{rational_ring, *ℚ-one}
 use Rattle.rational.proofs.Ring.{ring, num, ◌:+◌, ◌:*◌, A}
@@ -10,7 +10,7 @@ use Rattle.std.proofs.lemmas.Int.{ints}
 use Rattle.rational.proofs.Field.{le_refl}
 use Rattle.rational.proofs.Sums.{sum_to-same, sum_to-single}
 use Rattle.game_theory.specs.Profiles.{Game, IsProfile, number_of}
-use Rattle.game_theory.specs.Mixed.{Mixed, mean, payoff, IsValid, sure, pure, reply}
+use Rattle.game_theory.specs.Mixed.{mean, IsValid, sure, pure, reply}
 use Rattle.game_theory.specs.Equilibrium.{IsEquilibrium}
 use Rattle.game_theory.specs.Laws.{PurePaysItsCell, PureReplyPaysItsCell, NoGreaterCell, PureEquilibriaByCells, PayoffIsMeanOfReplies}
 use Rattle.game_theory.proofs.Payoffs.{mean-same, mean-first_sure, mean-replies}

@@ -1,6 +1,6 @@
 -- Games in strategic form, with any number of players, and their pure profiles.
 -- Source: von Neumann and Morgenstern 1944; Nash 1951. Players, strategies and profiles count from 0.
-use Rattle.std.specs.Prelude.{ℕ, suc, ◌+◌, ◌*◌, ◌/◌, ◌%◌, ◌<◌, List, [], ◌∷◌}
+use Rattle.std.specs.Prelude.{ℕ, suc, ◌+◌, ◌*◌, ◌/◌, ◌%◌, ◌<◌, ◌≡◌, ◌⊎◌, List, [], ◌∷◌}
 use Rattle.rational.specs.Rational.{ℚ}
 
 -- How many strategies each player has, and what each pure profile pays each player:
@@ -34,3 +34,9 @@ profile_at (n ∷ ns) k = (k % n) ∷ profile_at ns (k / n)
 abbrev pub stride : List ℕ → ℕ → ℕ
 stride (n ∷ ns) (suc i) = n * stride ns i
 stride _ _ = 1
+
+-- The first profile comes before the second, where both are of one game: at the first player that
+-- plays differently it has the smaller strategy.
+abbrev pub ComesBefore : List ℕ → List ℕ → Type 0
+ComesBefore (s ∷ ss) (t ∷ ts) = (s < t) ⊎ ((s ≡ t) × ComesBefore ss ts)
+ComesBefore _ _ = ⊥

@@ -1,5 +1,52 @@
 //! Strategic games and their equilibria, for contracts and proofs.
+//!
+//! The definitions stand in `specs/`; begin with `Profiles`, a game and its pure profiles with
+//! their numbers. `Mixed` has mixed profiles, their payoffs and the pure replies, `Equilibrium`
+//! what an equilibrium is, and `Lines` the lines in which equilibria are listed, their order and
+//! their text. `Laws` states what holds of them, and `Examples` works two games out.
+//!
+//! The functions below do nothing: the contract of each is a law, proved in `proofs/`. The lemmas
+//! there are for the crates above: `ProfileNumbers` on profiles and their numbers, `Payoffs` on
+//! means over the profiles, `PureProfiles` on pure profiles and pure equilibria, `ProfileLines` on
+//! entries and the order of profiles, and `LineOrder` on lists of lines.
 #![tactic(auto)]
 
-/// Games are there.
-pub fn games() {}
+ghost use Rattle.std.specs.Prelude.{ℕ, List};
+ghost use Rattle.game_theory.specs.Laws.{
+  OneListOfPureEquilibria,
+  PayoffIsMeanOfReplies,
+  ProfilesAreNumbered,
+  PureEquilibriaByCells,
+  PurePaysItsCell,
+  PureReplyPaysItsCell,
+};
+
+/// The pure profiles of a game belong to the numbers below their count, one to one.
+pub fn profiles_are_numbered()
+    ensures { (ns : List ℕ) → ProfilesAreNumbered ns }
+{}
+
+/// A pure profile pays each player what its cell says.
+pub fn pure_profiles_pay_their_cell()
+    ensures { PurePaysItsCell }
+{}
+
+/// A pure reply to a pure profile pays what the cell of the profile with that strategy says.
+pub fn pure_replies_pay_their_cell()
+    ensures { PureReplyPaysItsCell }
+{}
+
+/// A pure profile is an equilibrium exactly where no player has a cell with a greater payoff.
+pub fn pure_equilibria_by_cells()
+    ensures { PureEquilibriaByCells }
+{}
+
+/// A player's payoff is the mean of the payoffs of their pure replies.
+pub fn payoff_is_the_mean_of_replies()
+    ensures { PayoffIsMeanOfReplies }
+{}
+
+/// A game has only one list of its pure equilibria.
+pub fn one_list_of_pure_equilibria()
+    ensures { OneListOfPureEquilibria }
+{}
