@@ -1,3 +1,4 @@
+pub mod Examples
 pub mod LineOrder
 pub mod Payoffs
 pub mod ProfileLines

@@ -12,6 +12,7 @@
 #![tactic(auto)]
 
 ghost use Rattle.std.specs.Prelude.{ℕ, List};
+ghost use Rattle.game_theory.specs.Examples.{MatchingPenniesHasNoPureEquilibrium, PrisonersDilemmaHasOnePureEquilibrium};
 ghost use Rattle.game_theory.specs.Laws.{
   OneListOfPureEquilibria,
   PayoffIsMeanOfReplies,
@@ -49,4 +50,14 @@ pub fn payoff_is_the_mean_of_replies()
 /// A game has only one list of its pure equilibria.
 pub fn one_list_of_pure_equilibria()
     ensures { OneListOfPureEquilibria }
+{}
+
+/// In the prisoners' dilemma both confess: that is its only pure equilibrium.
+pub fn prisoners_dilemma()
+    ensures { PrisonersDilemmaHasOnePureEquilibrium }
+{}
+
+/// Even chances are an equilibrium of matching pennies, and no pure profile is one.
+pub fn matching_pennies()
+    ensures { MatchingPenniesHasNoPureEquilibrium }
 {}
