@@ -4,3 +4,5 @@ pub mod Payoffs
 pub mod ProfileLines
 pub mod ProfileNumbers
 pub mod PureProfiles
+pub mod Replies
+pub mod SureStrategies

@@ -1,32 +1,43 @@
--- Means over the pure profiles and payoffs, player by player.
-use Rattle.std.proofs.Common.{ℕ, zero, suc, ◌+◌, ◌*◌, ◌%◌, ◌/◌, ◌<◌, ◌≡◌, List, [], ◌∷◌, length, get_or, refl, sym, ap, ap₂, ◌∙◌, arith, tests}
+-- Means over the pure profiles, player by player.
+use Rattle.std.proofs.Common.{ℕ, zero, suc, ◌+◌, ◌*◌, ◌%◌, ◌/◌, ◌<◌, ◌≡◌, List, [], ◌∷◌, length, get_or, refl, sym, ap, ap₂, ◌∙◌, arith}
 use Rattle.std.proofs.lemmas.Nat.{div-mul-add, mod-mul-add}
 use Rattle.rational.specs.Rational.{ℚ, ◌*ℚ◌}
 use Rattle.rational.specs.Sum.{sum_to}
 use Rattle.rational.proofs.RationalRing.{rational_ring}
 use Rattle.rational.proofs.Ring.{ring, ◌:*◌, A, B, C}
 use Rattle.rational.proofs.Sums.{sum_to-same, sum_to-scale, sum_to-exchange, sum_to-single, sum_to-blocks}
-use Rattle.game_theory.specs.Profiles.{profile_count, profile_at}
-use Rattle.game_theory.specs.Mixed.{Mixed, later, probability, mean, sure, reply}
+use Rattle.game_theory.specs.Profiles.{profile_count, IsProfile, profile_at}
+use Rattle.game_theory.specs.Mixed.{Mixed, later, probability, mean, sure}
+use Rattle.game_theory.proofs.ProfileNumbers.{IsProfile-profile_at}
 use native.Mathlib.Nat as N
 
--- equal probabilities of the strategies give equal probabilities of the profiles
-pub probability-same : (s : List ℕ) (m n : Mixed) → ((i t : ℕ) → m i t ≡ n i t) → probability m s ≡ probability n s
-probability-same [] m n e = refl
-probability-same (t ∷ s) m n e = ap₂ (λ x y. x *ℚ y) (e 0 t) (probability-same s (later m) (later n) (λ i u. e (suc i) u))
+-- equal probabilities of the strategies give a profile equal probabilities
+pub probability-same : (ns s : List ℕ) (m n : Mixed) → IsProfile ns s → ((i t : ℕ) → i < length ns → t < get_or ns i 0 → m i t ≡ n i t) → probability m s ≡ probability n s
+probability-same [] [] m n h e = refl
+probability-same [] (t ∷ s) m n h e = absurd h
+probability-same (c ∷ ns) [] m n h e = absurd h
+probability-same (c ∷ ns) (t ∷ s) m n h e =
+    ap₂ (λ x y. x *ℚ y) (e 0 t (omega arith) h.0) (probability-same ns s (later m) (later n) h.1 (λ i u l b. e (suc i) u (omega arith) b))
 
 -- equal probabilities give equal means
-pub mean-same : (ns : List ℕ) (m n : Mixed) (u : ℕ → ℚ) → ((i t : ℕ) → m i t ≡ n i t) → mean ns m u ≡ mean ns n u
-mean-same ns m n u e = sum_to-same (profile_count ns) _ _ (λ k h. ap (λ x. x *ℚ u k) (probability-same (profile_at ns k) m n e))
+pub mean-same : (ns : List ℕ) (m n : Mixed) (u : ℕ → ℚ) → ((i t : ℕ) → i < length ns → t < get_or ns i 0 → m i t ≡ n i t) → mean ns m u ≡ mean ns n u
+mean-same ns m n u e =
+    sum_to-same (profile_count ns) _ _ (λ k h. ap (λ x. x *ℚ u k) (probability-same ns (profile_at ns k) m n (IsProfile-profile_at ns k h) e))
 
 -- equal numbers at the profiles give equal means
 pub mean-same_numbers : (ns : List ℕ) (m : Mixed) (u v : ℕ → ℚ) → ((k : ℕ) → k < profile_count ns → u k ≡ v k) → mean ns m u ≡ mean ns m v
 mean-same_numbers ns m u v e = sum_to-same (profile_count ns) _ _ (λ k h. ap (λ x. probability m (profile_at ns k) *ℚ x) (e k h))
 
+-- the probability of the profile with number n * j + i, where the first player has n strategies
+probability-first : (n : ℕ) (ns : List ℕ) (m : Mixed) (j i : ℕ) → i < n → probability m (profile_at (n ∷ ns) (n * j + i)) ≡ m 0 i *ℚ probability (later m) (profile_at ns j)
+probability-first n ns m j i h =
+    ap₂ (λ x y. m 0 x *ℚ probability (later m) (profile_at ns y)) (ap (λ x. (x + i) % n) (N.mul_comm n j) ∙ mod-mul-add j n i h) (ap (λ x. (x + i) / n) (N.mul_comm n j) ∙ div-mul-add j n i h)
+
 -- a mean is a mean over the later players of the sums over the first player's strategies
 pub mean-first : (n : ℕ) (ns : List ℕ) (m : Mixed) (u : ℕ → ℚ) → mean (n ∷ ns) m u ≡ mean ns (later m) (λ j. sum_to n (λ i. m 0 i *ℚ u (n * j + i)))
 mean-first n ns m u =
-    sum_to-blocks n (profile_count ns) (λ k. probability m (profile_at (n ∷ ns) k) *ℚ u k) ∙ sum_to-same (profile_count ns) _ _ (λ j h. sum_to-same n _ (λ i. probability (later m) (profile_at ns j) *ℚ (m 0 i *ℚ u (n * j + i))) (λ i p. ap₂ (λ x y. (m 0 x *ℚ probability (later m) (profile_at ns y)) *ℚ u (n * j + i)) (ap (λ x. (x + i) % n) (N.mul_comm n j) ∙ mod-mul-add j n i p) (ap (λ x. (x + i) / n) (N.mul_comm n j) ∙ div-mul-add j n i p) ∙ ring rational_ring (m 0 i ∷ probability (later m) (profile_at ns j) ∷ u (n * j + i) ∷ []) (A :* B :* C) (B :* (A :* C)) refl) ∙ sum_to-scale n (probability (later m) (profile_at ns j)) (λ i. m 0 i *ℚ u (n * j + i)))
+    sum_to-blocks n (profile_count ns) (λ k. probability m (profile_at (n ∷ ns) k) *ℚ u k)
+    ∙ sum_to-same (profile_count ns) _ _ (λ j h. sum_to-same n _ (λ i. probability (later m) (profile_at ns j) *ℚ (m 0 i *ℚ u (n * j + i))) (λ i p. ap (λ x. x *ℚ u (n * j + i)) (probability-first n ns m j i p) ∙ ring rational_ring (m 0 i ∷ probability (later m) (profile_at ns j) ∷ u (n * j + i) ∷ []) (A :* B :* C) (B :* (A :* C)) refl) ∙ sum_to-scale n (probability (later m) (profile_at ns j)) (λ i. m 0 i *ℚ u (n * j + i)))
 
 -- a mean where the first player plays one strategy
 pub mean-first_sure : (n : ℕ) (ns : List ℕ) (m : Mixed) (s : ℕ) (u : ℕ → ℚ) → s < n → ((t : ℕ) → m 0 t ≡ sure s t) → mean (n ∷ ns) m u ≡ mean ns (later m) (λ j. u (n * j + s))
@@ -39,23 +50,3 @@ mean-sum ns m n c u =
     sum_to-same (profile_count ns) _ (λ k. sum_to n (λ i. c i *ℚ (probability m (profile_at ns k) *ℚ u i k))) (λ k h. sym (sum_to-scale n (probability m (profile_at ns k)) (λ i. c i *ℚ u i k)) ∙ sum_to-same n _ _ (λ i p. ring rational_ring (probability m (profile_at ns k) ∷ c i ∷ u i k ∷ []) (A :* (B :* C)) (B :* (A :* C)) refl))
     ∙ sum_to-exchange (profile_count ns) n (λ k i. c i *ℚ (probability m (profile_at ns k) *ℚ u i k))
     ∙ sum_to-same n _ _ (λ i p. sum_to-scale (profile_count ns) (c i) (λ k. probability m (profile_at ns k) *ℚ u i k))
-
--- the later players' part of a later player's reply
-later-reply : (m : Mixed) (i s j t : ℕ) → later (reply m (suc i) s) j t ≡ reply (later m) i s j t
-later-reply m i s j t = grind (arith, tests)
-
--- the first player's part of a later player's reply
-first-reply : (m : Mixed) (i s t : ℕ) → reply m (suc i) s 0 t ≡ m 0 t
-first-reply m i s t = grind (arith, tests)
-
--- the later players' part of the first player's reply
-later-first : (m : Mixed) (s j t : ℕ) → later (reply m 0 s) j t ≡ later m j t
-later-first m s j t = grind (arith, tests)
-
--- a mean is the mean of the means at a player's pure replies
-pub mean-replies : (ns : List ℕ) (m : Mixed) (u : ℕ → ℚ) (i : ℕ) → i < length ns → mean ns m u ≡ sum_to (get_or ns i 0) (λ s. m i s *ℚ mean ns (reply m i s) u)
-mean-replies [] m u i h = absurd (omega arith)
-mean-replies (n ∷ ns) m u zero h =
-    mean-first n ns m u ∙ mean-sum ns (later m) n (m 0) (λ s j. u (n * j + s)) ∙ sum_to-same n _ _ (λ s p. ap (λ x. m 0 s *ℚ x) (sym (mean-first_sure n ns (reply m 0 s) s u p (λ t. refl) ∙ mean-same ns (later (reply m 0 s)) (later m) (λ j. u (n * j + s)) (later-first m s))))
-mean-replies (n ∷ ns) m u (suc i) h =
-    mean-first n ns m u ∙ mean-replies ns (later m) (λ j. sum_to n (λ s. m 0 s *ℚ u (n * j + s))) i (omega arith) ∙ sum_to-same (get_or ns i 0) _ _ (λ s p. ap (λ x. m (suc i) s *ℚ x) (sym (mean-first n ns (reply m (suc i) s) u ∙ mean-same ns _ (reply (later m) i s) _ (later-reply m i s) ∙ mean-same_numbers ns (reply (later m) i s) _ _ (λ j q. sum_to-same n _ _ (λ t r. ap (λ x. x *ℚ u (n * j + t)) (first-reply m i s t))))))

@@ -1,5 +1,5 @@
 -- Profiles and their numbers.
-use Rattle.std.proofs.Common.{ℕ, zero, suc, ◌+◌, ◌*◌, ◌/◌, ◌%◌, ◌<◌, ◌≤◌, ◌≡◌, List, [], ◌∷◌, length, get_or, set, refl, ap, ap₂, ◌∙◌, arith, mod-lt}
+use Rattle.std.proofs.Common.{ℕ, zero, suc, ◌+◌, ◌*◌, ◌/◌, ◌%◌, ◌<◌, ◌≤◌, ◌≡◌, List, [], ◌∷◌, length, get_or, set, refl, sym, ap, ap₂, ◌∙◌, arith, mod-lt}
 use Rattle.std.proofs.lemmas.Nat.{div-mul-add, mod-mul-add}
 use Rattle.game_theory.specs.Profiles.{profile_count, IsProfile, number_of, profile_at, stride}
 use Rattle.game_theory.specs.Laws.{ProfilesAreNumbered}
@@ -89,3 +89,24 @@ number_of-exchange (n ∷ ns) (s ∷ ss) zero t h l = omega arith
 number_of-exchange (n ∷ ns) (s ∷ ss) (suc i) t h l =
     let e : n * (number_of ns (set ss i t) + stride ns i * get_or ss i 0) ≡ n * (number_of ns ss + stride ns i * t) = ap (λ x. n * x) (number_of-exchange ns ss i t h.1 (omega arith)) in
     omega (arith, e)
+
+-- equal numbers are of equal profiles
+pub number_of-injective : (ns s t : List ℕ) → IsProfile ns s → IsProfile ns t → number_of ns s ≡ number_of ns t → s ≡ t
+number_of-injective ns s t h l e = sym (profile_at-number_of ns s h) ∙ ap (λ k. profile_at ns k) e ∙ profile_at-number_of ns t l
+
+-- the next player's stride
+pub stride-next : (ns : List ℕ) (i : ℕ) → i < length ns → stride ns (suc i) ≡ stride ns i * get_or ns i 0
+stride-next [] i h = absurd (omega arith)
+stride-next (n ∷ ns) zero h = omega arith
+stride-next (n ∷ ns) (suc i) h = let e : n * stride ns (suc i) ≡ n * (stride ns i * get_or ns i 0) = ap (λ x. n * x) (stride-next ns i (omega arith)) in omega (arith, e)
+
+-- the stride behind the last player is the count of the profiles
+pub stride-all : (ns : List ℕ) → stride ns (length ns) ≡ profile_count ns
+stride-all [] = refl
+stride-all (n ∷ ns) = ap (λ x. n * x) (stride-all ns)
+
+-- a player's strategy in the profile with a number
+pub strategy-profile_at : (ns : List ℕ) (k i : ℕ) → i < length ns → get_or (profile_at ns k) i 0 ≡ (k / stride ns i) % get_or ns i 0
+strategy-profile_at [] k i h = absurd (omega arith)
+strategy-profile_at (n ∷ ns) k zero h = ap (λ x. x % n) (sym (N.div-one k))
+strategy-profile_at (n ∷ ns) k (suc i) h = strategy-profile_at ns (k / n) i (omega arith) ∙ ap (λ x. x % get_or ns i 0) (N.div-div-eq-div-mul k n (stride ns i))

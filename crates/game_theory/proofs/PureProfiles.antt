@@ -13,7 +13,8 @@ use Rattle.game_theory.specs.Profiles.{Game, IsProfile, number_of}
 use Rattle.game_theory.specs.Mixed.{mean, IsValid, sure, pure, reply}
 use Rattle.game_theory.specs.Equilibrium.{IsEquilibrium}
 use Rattle.game_theory.specs.Laws.{PurePaysItsCell, PureReplyPaysItsCell, NoGreaterCell, PureEquilibriaByCells, PayoffIsMeanOfReplies}
-use Rattle.game_theory.proofs.Payoffs.{mean-same, mean-first_sure, mean-replies}
+use Rattle.game_theory.proofs.Payoffs.{mean-same, mean-first_sure}
+use Rattle.game_theory.proofs.SureStrategies.{sure-not_negative, sum_to-sure}
 use Rattle.game_theory.proofs.ProfileNumbers.{length-profile, profile-below, IsProfile-exchange}
 
 -- the mean at a pure profile is the number that the profile has
@@ -37,26 +38,7 @@ payoff-pure g s i h = mean-pure g.strategies s (g.pays i) h
 
 pub payoff-reply_pure : PureReplyPaysItsCell
 payoff-reply_pure g s i t j h l b =
-    mean-same g.strategies _ (pure (set s i t)) (g.pays j) (λ k v. reply-pure s i t k v (omega (arith, length-profile g.strategies s h))) ∙ payoff-pure g (set s i t) j (IsProfile-exchange g.strategies s i t h l b)
-
-pub payoff-replies : PayoffIsMeanOfReplies
-payoff-replies g m i j h = mean-replies g.strategies m (g.pays j) i h
-
--- zero is at most one
-zero_le_one : zero_ℚ ≤ℚ one_ℚ
-zero_le_one = linear [] [] (lit (pos 0) ⟨≤⟩ lit (pos 1)) (λ one z p h. omega (arith, ints)) tt
-
--- a probability of one strategy is not negative
-pub sure-not_negative : (s t : ℕ) → zero_ℚ ≤ℚ sure s t
-sure-not_negative s t = go (eqb t s)
-  where
-    go : (b : Bool) → zero_ℚ ≤ℚ cond b one_ℚ zero_ℚ
-    go true = zero_le_one
-    go false = le_refl zero_ℚ
-
--- the probabilities of one strategy sum to 1
-pub sum_to-sure : (n s : ℕ) → s < n → sum_to n (sure s) ≡ one_ℚ
-sum_to-sure n s h = sum_to-same n (sure s) _ (λ t p. sym (*ℚ-one (sure s t))) ∙ sum_to-single n s (λ t. one_ℚ) h
+    mean-same g.strategies _ (pure (set s i t)) (g.pays j) (λ k v p q. reply-pure s i t k v (omega (arith, length-profile g.strategies s h))) ∙ payoff-pure g (set s i t) j (IsProfile-exchange g.strategies s i t h l b)
 
 -- a pure profile is valid
 pub IsValid-pure : (ns s : List ℕ) → IsProfile ns s → IsValid ns (pure s)
