@@ -3,6 +3,7 @@ pub mod LineOrder
 pub mod Payoffs
 pub mod ProfileLines
 pub mod ProfileNumbers
+pub mod ProfileOrder
 pub mod PureProfiles
 pub mod Replies
 pub mod SureStrategies

@@ -1,13 +1,14 @@
 -- The order of lines: a list in order is determined by its members.
-use Rattle.std.proofs.Common.{zero, suc, ◌≡◌, ◌⊎◌, inl, inr, List, [], ◌∷◌, ◌++◌, get_or, All, Contains, refl, sym, ap₂, ◌∙◌, subst, arith}
+use Rattle.std.proofs.Common.{zero, suc, ◌≡◌, ◌⊎◌, inl, inr, List, [], ◌∷◌, ◌++◌, length, get_or, All, Contains, refl, sym, ap₂, ◌∙◌, subst, arith}
 use Rattle.std.proofs.lemmas.Int.{ints}
 use Rattle.rational.specs.Rational.{ℚ, ◌<ℚ◌}
-use Rattle.rational.proofs.Field.{lt_irrefl}
+use Rattle.rational.proofs.Field.{le_or_lt, le_antisymm, lt_irrefl}
 use Rattle.rational.proofs.Linear.{linear, at, ◌⟨<⟩◌}
 use Rattle.game_theory.specs.Profiles.{Game}
 use Rattle.game_theory.specs.Lines.{StandsBefore, AreInOrder, ArePureEquilibria, IsPureEquilibriumLine}
 use Rattle.game_theory.specs.Laws.{OneListOfPureEquilibria}
 
+-- the order of numbers is transitive
 lt_trans : (a b c : ℚ) → a <ℚ b → b <ℚ c → a <ℚ c
 lt_trans a b c h g =
     linear (a ∷ b ∷ c ∷ []) ((at 0 ⟨<⟩ at 1) ∷ (at 1 ⟨<⟩ at 2) ∷ []) (at 0 ⟨<⟩ at 2) (λ one z p l. omega (arith, ints)) (h, (g, tt))
@@ -18,6 +19,7 @@ StandsBefore-irrefl [] h = h
 StandsBefore-irrefl (a ∷ x) (inl l) = lt_irrefl a l
 StandsBefore-irrefl (a ∷ x) (inr p) = StandsBefore-irrefl x p.1
 
+-- a line before a second that is before a third stands before the third
 pub StandsBefore-trans : (x y z : List ℚ) → StandsBefore x y → StandsBefore y z → StandsBefore x z
 StandsBefore-trans [] y z h g = absurd h
 StandsBefore-trans (a ∷ x) [] z h g = absurd h
@@ -26,6 +28,28 @@ StandsBefore-trans (a ∷ x) (b ∷ y) (c ∷ z) (inl l) (inl k) = inl (lt_trans
 StandsBefore-trans (a ∷ x) (b ∷ y) (c ∷ z) (inl l) (inr q) = inl (subst (λ v. v <ℚ a) q.0 l)
 StandsBefore-trans (a ∷ x) (b ∷ y) (c ∷ z) (inr p) (inl k) = inl (subst (λ v. c <ℚ v) (sym p.0) k)
 StandsBefore-trans (a ∷ x) (b ∷ y) (c ∷ z) (inr p) (inr q) = inr (p.0 ∙ q.0, StandsBefore-trans x y z p.1 q.1)
+
+-- of two numbers one is less, or they are equal
+order-cases : (a b : ℚ) → (a ≡ b) ⊎ ((a <ℚ b) ⊎ (b <ℚ a))
+order-cases a b =
+    elim (le_or_lt a b) [
+      | inl l ↦ elim (le_or_lt b a) [ inl k ↦ inl (le_antisymm a b l k) | inr k ↦ inr (inl k) ]
+      | inr k ↦ inr (inr k)
+    ]
+
+-- of two lines of one length one stands before the other, or they are equal
+pub StandsBefore-cases : (x y : List ℚ) → length x ≡ length y → (x ≡ y) ⊎ (StandsBefore x y ⊎ StandsBefore y x)
+StandsBefore-cases [] [] e = inl refl
+StandsBefore-cases [] (b ∷ y) e = absurd (omega arith)
+StandsBefore-cases (a ∷ x) [] e = absurd (omega arith)
+StandsBefore-cases (a ∷ x) (b ∷ y) e = go (order-cases a b) (StandsBefore-cases x y (omega arith))
+  where
+    go : (a ≡ b) ⊎ ((a <ℚ b) ⊎ (b <ℚ a)) → (x ≡ y) ⊎ (StandsBefore x y ⊎ StandsBefore y x) → (a ∷ x ≡ b ∷ y) ⊎ (StandsBefore (a ∷ x) (b ∷ y) ⊎ StandsBefore (b ∷ y) (a ∷ x))
+    go (inr (inl l)) c = inr (inr (inl l))
+    go (inr (inr l)) c = inr (inl (inl l))
+    go (inl d) (inl f) = inl (ap₂ (λ v w. v ∷ w) d f)
+    go (inl d) (inr (inl k)) = inr (inl (inr (d, k)))
+    go (inl d) (inr (inr k)) = inr (inr (inr (sym d, k)))
 
 -- lines that begin alike
 pub StandsBefore-append : (zs xs ys : List ℚ) → StandsBefore xs ys → StandsBefore (zs ++ xs) (zs ++ ys)
@@ -59,9 +83,11 @@ Contains-cases : (x : List ℚ) (xs : List (List ℚ)) (z : List ℚ) → Contai
 Contains-cases x xs z (zero, l, e) = inl e
 Contains-cases x xs z (suc k, l, e) = inr (k, omega arith, e)
 
+-- the first line is a member
 Contains-first : (x : List ℚ) (xs : List (List ℚ)) → Contains (x ∷ xs) x
 Contains-first x xs = (0, omega arith, refl)
 
+-- a member of the rest is a member
 Contains-later : (x : List ℚ) (xs : List (List ℚ)) (z : List ℚ) → Contains xs z → Contains (x ∷ xs) z
 Contains-later x xs z c = (suc c.0, omega arith, c.2)
 
@@ -95,6 +121,7 @@ pure_equilibria-within g a b p q z c =
     let w : IsPureEquilibriumLine g z = subst (IsPureEquilibriumLine g) c.2 (p.sound c.0 z c.1) in
     subst (λ v. Contains b v) (sym w.is_line) (q.complete w.profile w.is_profile w.is_equilibrium)
 
+-- a game has one list of pure equilibria
 pub pure_equilibria-determined : OneListOfPureEquilibria
 pure_equilibria-determined g a b p q =
     AreInOrder-determined a b p.in_order q.in_order (pure_equilibria-within g a b p q) (pure_equilibria-within g b a q p)

@@ -1,18 +1,13 @@
 -- Pure profiles: their payoffs, and which of them are equilibria.
-use Rattle.std.proofs.Common.{ℕ, ◌+◌, ◌*◌, ◌<◌, ◌≡◌, Bool, true, false, List, [], ◌∷◌, length, get_or, set, eqb, eqb→eq, cond, T, pos, refl, sym, ap, ◌∙◌, subst, subst₂, arith, tests}
+use Rattle.std.proofs.Common.{ℕ, ◌+◌, ◌*◌, ◌<◌, ◌≡◌, Bool, true, false, List, [], ◌∷◌, length, get_or, set, eqb, eqb→eq, cond, T, refl, sym, ap, ◌∙◌, subst, subst₂, arith, tests}
 use Rattle.std.proofs.lemmas.List.{get_or-set_same, get_or-set_other}
-use Rattle.rational.specs.Rational.{ℚ, ◌≤ℚ◌, zero_ℚ, one_ℚ}
-use Rattle.rational.specs.Sum.{sum_to}
-use Rattle.rational.proofs.RationalRing.{rational_ring, *ℚ-one}
+use Rattle.rational.specs.Rational.{ℚ, ◌≤ℚ◌}
+use Rattle.rational.proofs.RationalRing.{rational_ring}
 use Rattle.rational.proofs.Ring.{ring, num, ◌:+◌, ◌:*◌, A}
-use Rattle.rational.proofs.Linear.{linear, lit, ◌⟨≤⟩◌}
-use Rattle.std.proofs.lemmas.Int.{ints}
-use Rattle.rational.proofs.Field.{le_refl}
-use Rattle.rational.proofs.Sums.{sum_to-same, sum_to-single}
 use Rattle.game_theory.specs.Profiles.{Game, IsProfile, number_of}
 use Rattle.game_theory.specs.Mixed.{mean, IsValid, sure, pure, reply}
 use Rattle.game_theory.specs.Equilibrium.{IsEquilibrium}
-use Rattle.game_theory.specs.Laws.{PurePaysItsCell, PureReplyPaysItsCell, NoGreaterCell, PureEquilibriaByCells, PayoffIsMeanOfReplies}
+use Rattle.game_theory.specs.Laws.{PurePaysItsCell, PureReplyPaysItsCell, NoGreaterCell, PureEquilibriaByCells}
 use Rattle.game_theory.proofs.Payoffs.{mean-same, mean-first_sure}
 use Rattle.game_theory.proofs.SureStrategies.{sure-not_negative, sum_to-sure}
 use Rattle.game_theory.proofs.ProfileNumbers.{length-profile, profile-below, IsProfile-exchange}
@@ -33,9 +28,11 @@ reply-pure s i t j v h = go (eqb j i) refl
     go true e = ap (λ x. sure x v) (sym (ap (λ x. get_or (set s i t) x 0) (eqb→eq j i (subst T (sym e) tt)) ∙ get_or-set_same s i t 0 h))
     go false e = ap (λ x. sure x v) (sym (get_or-set_other s i j t 0 (grind (arith, tests))))
 
+-- a pure profile pays its cell
 pub payoff-pure : PurePaysItsCell
 payoff-pure g s i h = mean-pure g.strategies s (g.pays i) h
 
+-- a pure reply to a pure profile pays the cell of the profile with that strategy exchanged
 pub payoff-reply_pure : PureReplyPaysItsCell
 payoff-reply_pure g s i t j h l b =
     mean-same g.strategies _ (pure (set s i t)) (g.pays j) (λ k v p q. reply-pure s i t k v (omega (arith, length-profile g.strategies s h))) ∙ payoff-pure g (set s i t) j (IsProfile-exchange g.strategies s i t h l b)
@@ -55,5 +52,6 @@ pub IsEquilibrium-by_cells : (g : Game) (s : List ℕ) → IsProfile g.strategie
 IsEquilibrium-by_cells g s h c =
     record { valid = IsValid-pure g.strategies s h; no_better_reply = λ i t l b. subst₂ (λ x y. x ≤ℚ y) (sym (payoff-reply_pure g s i t i h l b)) (sym (payoff-pure g s i h)) (c i t l b) }
 
+-- a pure profile is an equilibrium exactly where it has no greater cell
 pub pure_equilibria-by_cells : PureEquilibriaByCells
 pure_equilibria-by_cells g s h = (NoGreaterCell-equilibrium g s h, IsEquilibrium-by_cells g s h)

@@ -1,14 +1,17 @@
 //! Strategic games and their equilibria, for contracts and proofs.
 //!
-//! The definitions stand in `specs/`; begin with `Profiles`, a game and its pure profiles with
-//! their numbers. `Mixed` has mixed profiles, their payoffs and the pure replies, `Equilibrium`
-//! what an equilibrium is, and `Lines` the lines in which equilibria are listed, their order and
-//! their text. `Laws` states what holds of them, and `Examples` works two games out.
+//! The definitions stand in `specs/`. Begin with `Profiles`: a game, its pure profiles and their
+//! numbers. `Mixed` has mixed profiles, their payoffs and pure replies, `Equilibrium` says what an
+//! equilibrium is, and `Lines` how equilibria are listed: the entries of a line, the order of the
+//! lines and their text. `Laws` states what holds of all games, and `Examples` works out two.
 //!
-//! The functions below do nothing: the contract of each is a law, proved in `proofs/`. The lemmas
-//! there are for the crates above: `ProfileNumbers` on profiles and their numbers, `Payoffs` on
-//! means over the profiles, `PureProfiles` on pure profiles and pure equilibria, `ProfileLines` on
-//! entries and the order of profiles, and `LineOrder` on lists of lines.
+//! The functions below do nothing: the contract of each is a law, so that a check proves it.
+//!
+//! The lemmas in `proofs/` are for the crates above: `ProfileNumbers` on profiles, their numbers
+//! and strides, `ProfileOrder` on which profile comes first, `SureStrategies` on the probabilities
+//! of one strategy, `Payoffs` on means over the profiles, `Replies` on pure replies and on profiles
+//! with equal probabilities, `PureProfiles` on the payoffs and equilibria of pure profiles,
+//! `LineOrder` on lists of lines, and `ProfileLines` on the entries of profiles and their order.
 #![tactic(auto)]
 
 ghost use Rattle.std.specs.Prelude.{ℕ, List};
