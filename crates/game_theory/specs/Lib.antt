@@ -1,3 +1,4 @@
+pub mod Examples
 pub mod Equilibrium
 pub mod Laws
 pub mod Lines

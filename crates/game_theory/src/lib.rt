@@ -1,5 +1,66 @@
 //! Strategic games and their equilibria, for contracts and proofs.
+//!
+//! The definitions stand in `specs/`. Begin with `Profiles`: a game, its pure profiles and their
+//! numbers. `Mixed` has mixed profiles, their payoffs and pure replies, `Equilibrium` says what an
+//! equilibrium is, and `Lines` how equilibria are listed: the entries of a line, the order of the
+//! lines and their text. `Laws` states what holds of all games, and `Examples` works out two.
+//!
+//! The functions below do nothing: the contract of each is a law, so that a check proves it.
+//!
+//! The lemmas in `proofs/` are for the crates above: `ProfileNumbers` on profiles, their numbers
+//! and strides, `ProfileOrder` on which profile comes first, `SureStrategies` on the probabilities
+//! of one strategy, `Payoffs` on means over the profiles, `Replies` on pure replies and on profiles
+//! with equal probabilities, `PureProfiles` on the payoffs and equilibria of pure profiles,
+//! `LineOrder` on lists of lines, and `ProfileLines` on the entries of profiles and their order.
 #![tactic(auto)]
 
-/// Games are there.
-pub fn games() {}
+ghost use Rattle.std.specs.Prelude.{ℕ, List};
+ghost use Rattle.game_theory.specs.Examples.{MatchingPenniesHasNoPureEquilibrium, PrisonersDilemmaHasOnePureEquilibrium};
+ghost use Rattle.game_theory.specs.Laws.{
+  OneListOfPureEquilibria,
+  PayoffIsMeanOfReplies,
+  ProfilesAreNumbered,
+  PureEquilibriaByCells,
+  PurePaysItsCell,
+  PureReplyPaysItsCell,
+};
+
+/// The pure profiles of a game belong to the numbers below their count, one to one.
+pub fn profiles_are_numbered()
+    ensures { (ns : List ℕ) → ProfilesAreNumbered ns }
+{}
+
+/// A pure profile pays each player what its cell says.
+pub fn pure_profiles_pay_their_cell()
+    ensures { PurePaysItsCell }
+{}
+
+/// A pure reply to a pure profile pays what the cell of the profile with that strategy says.
+pub fn pure_replies_pay_their_cell()
+    ensures { PureReplyPaysItsCell }
+{}
+
+/// A pure profile is an equilibrium exactly where no player has a cell with a greater payoff.
+pub fn pure_equilibria_by_cells()
+    ensures { PureEquilibriaByCells }
+{}
+
+/// A player's payoff is the mean of the payoffs of their pure replies.
+pub fn payoff_is_the_mean_of_replies()
+    ensures { PayoffIsMeanOfReplies }
+{}
+
+/// A game has only one list of its pure equilibria.
+pub fn one_list_of_pure_equilibria()
+    ensures { OneListOfPureEquilibria }
+{}
+
+/// In the prisoners' dilemma both confess: that is its only pure equilibrium.
+pub fn prisoners_dilemma()
+    ensures { PrisonersDilemmaHasOnePureEquilibrium }
+{}
+
+/// Even chances are an equilibrium of matching pennies, and no pure profile is one.
+pub fn matching_pennies()
+    ensures { MatchingPenniesHasNoPureEquilibrium }
+{}

@@ -1,0 +1,9 @@
+pub mod Examples
+pub mod LineOrder
+pub mod Payoffs
+pub mod ProfileLines
+pub mod ProfileNumbers
+pub mod ProfileOrder
+pub mod PureProfiles
+pub mod Replies
+pub mod SureStrategies
