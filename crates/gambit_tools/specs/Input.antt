@@ -34,6 +34,6 @@ IsInputRefusal name before after refusal.Memory = Unit {0}
 IsInputRefusal name before after _ = ⊥
 
 -- a count rose only with its own refusal
-pub record CountsTell (before after : InputsSeen) (refusal : Option Refusal) : Type 0 where
-  pub opening : before.open_faults < after.open_faults → refusal ≡ Some refusal.OpenFault
-  pub reading : before.read_faults < after.read_faults → refusal ≡ Some refusal.ReadFault
+pub record CountsTell (before after : InputsSeen) (refused : Option Refusal) : Type 0 where
+  pub opening : before.open_faults < after.open_faults → refused ≡ Some refusal.OpenFault
+  pub reading : before.read_faults < after.read_faults → refused ≡ Some refusal.ReadFault
