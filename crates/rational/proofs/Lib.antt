@@ -1,5 +1,6 @@
 pub mod Codes
 pub mod CommutativeRing
+pub mod Examples
 pub mod Field
 pub mod Fractions
 pub mod IntegerRing
@@ -7,4 +8,5 @@ pub mod Linear
 pub mod Order
 pub mod RationalRing
 pub mod Ring
+pub mod Rules
 pub mod Sums

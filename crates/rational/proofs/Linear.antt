@@ -127,3 +127,7 @@ down_claims qs (c ∷ cs) h = (down_claim qs c h.0, down_claims qs cs h.1)
 -- a claim follows from others where it does so over the whole numbers
 pub linear : (qs : List ℚ) (cs : List Claim) (c : Claim) → ((one : ℤ) (z : ℕ → ℤ) → pos 0 <ℤ one → all_hold_ℤ one z cs → holds_ℤ one z c) → all_hold qs cs → holds qs c
 linear qs cs c f h = up_claim qs c (f (pos (product qs)) (scaled qs) (below_in (pos 0) (pos (product qs)) (omega (arith, product-pos qs))) (down_claims qs cs h))
+
+-- claims that contradict each other over the whole numbers do not hold together
+pub linear_contradiction : (qs : List ℚ) (cs : List Claim) → ((one : ℤ) (z : ℕ → ℤ) → pos 0 <ℤ one → all_hold_ℤ one z cs → ⊥) → all_hold qs cs → ⊥
+linear_contradiction qs cs f h = f (pos (product qs)) (scaled qs) (below_in (pos 0) (pos (product qs)) (omega (arith, product-pos qs))) (down_claims qs cs h)

@@ -1,0 +1,55 @@
+-- First examples: numbers that compute, and one use of each prover.
+use Rattle.std.proofs.Common.{◌≡◌, ◌≢◌, pos, negsuc, List, [], ◌∷◌, refl, arith}
+use Rattle.std.proofs.lemmas.Int.{ints}
+use Rattle.rational.specs.Gcd.{gcd}
+use Rattle.rational.specs.Rational.{ℚ, frac, is_lowest, whole, ◌+ℚ◌, ◌*ℚ◌, ◌-ℚ◌, neg_ℚ, inv_ℚ, zero_ℚ, one_ℚ, ◌≤ℚ◌, ◌<ℚ◌}
+use Rattle.rational.proofs.RationalRing.{rational_ring}
+use Rattle.rational.proofs.Rules.{ring_laws, ring_cancels}
+use Rattle.rational.proofs.Ring.{ring, combine, ◌times◌is◌, num, ◌:+◌, ◌:*◌, ◌:-◌, A, B, C, D}
+use Rattle.rational.proofs.Linear.{linear, linear_contradiction, at, lit, ◌⟨+⟩◌, ◌⟨*⟩◌, ◌⟨≤⟩◌, ◌⟨<⟩◌, ◌⟨=⟩◌}
+use Rattle.rational.proofs.Field.{*ℚ-inv}
+
+-- ---- numbers compute
+-- 1/2 + 1/3 = 5/6
+sum_computes : frac (pos 1) 2 +ℚ frac (pos 1) 3 ≡ frac (pos 5) 6
+unfolding frac ◌+ℚ◌ gcd is_lowest
+sum_computes = refl
+
+-- 2/3 times -3/4 = -1/2
+product_computes : frac (pos 2) 3 *ℚ frac (negsuc 2) 4 ≡ frac (negsuc 0) 2
+unfolding frac ◌*ℚ◌ gcd is_lowest
+product_computes = refl
+
+-- the inverse of -2/3 is -3/2
+inverse_computes : inv_ℚ (frac (negsuc 1) 3) ≡ frac (negsuc 2) 2
+unfolding frac inv_ℚ gcd is_lowest
+inverse_computes = refl
+
+-- ---- identities
+-- an identity without hypotheses
+square_of_sum : (a b : ℚ) → (a +ℚ b) *ℚ (a +ℚ b) ≡ (a *ℚ a) +ℚ (a *ℚ b) +ℚ (a *ℚ b) +ℚ (b *ℚ b)
+square_of_sum a b = simp ring_laws
+
+-- an identity in which terms cancel
+difference_of_squares : (a b : ℚ) → (a +ℚ b) *ℚ (a -ℚ b) ≡ (a *ℚ a) -ℚ (b *ℚ b)
+difference_of_squares a b = simp ring_cancels
+
+-- the same by `ring`, which takes the atoms and both sides
+difference_of_squares_again : (a b : ℚ) → (a +ℚ b) *ℚ (a -ℚ b) ≡ (a *ℚ a) -ℚ (b *ℚ b)
+difference_of_squares_again a b = ring rational_ring (a ∷ b ∷ []) ((A :+ B) :* (A :- B)) (A :* A :- B :* B) refl
+
+-- a common factor p is taken away: the difference of the sides is inv p times the first equation, and a - b times that of the inverse
+cancelled : (a b p : ℚ) → p ≢ zero_ℚ → a *ℚ p ≡ b *ℚ p → a ≡ b
+cancelled a b p ne e =
+    combine rational_ring (a ∷ b ∷ p ∷ inv_ℚ p ∷ []) ((D times A :* C is B :* C) ∷ (B :- A times C :* D is num 1) ∷ []) A B refl (e, (*ℚ-inv p ne, tt))
+
+-- ---- inequalities
+-- what is twice m lies below the greater of two numbers that sum to it
+middle_below : (a b m : ℚ) → a <ℚ b → whole (pos 2) *ℚ m ≡ a +ℚ b → m <ℚ b
+middle_below a b m h e =
+    linear (a ∷ b ∷ m ∷ []) ((at 0 ⟨<⟩ at 1) ∷ ((pos 2 ⟨*⟩ at 2) ⟨=⟩ (at 0 ⟨+⟩ at 1)) ∷ []) (at 2 ⟨<⟩ at 1) (λ one z p h. omega (arith, ints)) (h, (e, tt))
+
+-- a number and its double do not lie on two sides of 1 the wrong way round
+not_both : (a : ℚ) → one_ℚ ≤ℚ a → (a +ℚ a) <ℚ one_ℚ → ⊥
+not_both a h g =
+    linear_contradiction (a ∷ []) ((lit (pos 1) ⟨≤⟩ at 0) ∷ ((at 0 ⟨+⟩ at 0) ⟨<⟩ lit (pos 1)) ∷ []) (λ one z p h. omega (arith, ints)) (h, (g, tt))
