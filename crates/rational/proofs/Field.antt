@@ -1,14 +1,15 @@
 -- the rationals are an ordered field
-use Rattle.std.proofs.Common.{ℕ, suc, zero, ◌*◌, ◌+◌, ◌<◌, ◌≤◌, ◌≡◌, ◌≢◌, ◌⊎◌, inl, inr, ℤ, pos, negsuc, neg_ℤ, ◌*ℤ◌, ◌+ℤ◌, ◌≤ℤ◌, ◌<ℤ◌, refl, sym, ap, ap₂, ◌∙◌, List, [], ◌∷◌, lit<, arith, mul-pos, subst, subst₂, zero-lt-suc}
+use Rattle.std.proofs.Common.{ℕ, suc, zero, ◌*◌, ◌+◌, ◌<◌, ◌≤◌, ◌≡◌, ◌≢◌, ◌⊎◌, ◌↔◌, inl, inr, ℤ, pos, negsuc, neg_ℤ, ◌*ℤ◌, ◌+ℤ◌, ◌≤ℤ◌, ◌<ℤ◌, refl, sym, ap, ap₂, ◌∙◌, List, [], ◌∷◌, lit<, arith, mul-pos, subst, subst₂, zero-lt-suc}
 use Rattle.std.proofs.lemmas.Int.{ints, by_lt_z}
 use Rattle.rational.specs.Gcd.{gcd}
 use Rattle.rational.specs.Rational.{ℚ, is_lowest, den_pos, lowest, frac, whole, ◌+ℚ◌, ◌*ℚ◌, ◌-ℚ◌, neg_ℚ, inv_ℚ, zero_ℚ, one_ℚ, ◌≤ℚ◌, ◌<ℚ◌}
+pub use Rattle.rational.specs.Midpoint.{half}
 use Rattle.rational.proofs.IntegerRing.{integer_ring}
 use Rattle.rational.proofs.RationalRing.{rational_ring, +ℚ_comm, +ℚ-zero, *ℚ_comm}
 use Rattle.rational.proofs.Fractions.{StandsFor, equal_by, equal_by_cross, StandsFor-self, StandsFor-also, StandsFor-frac, StandsFor-add, StandsFor-mul, StandsFor-neg}
 use Rattle.rational.proofs.Order.{le_by, by_le, lt_by, by_lt, eq_by, by_eq}
 use Rattle.rational.proofs.Ring.{ring, num, ◌:+◌, ◌:*◌, ◌:-◌, :neg, A, B, C, D, E, F, G, H}
-use Rattle.rational.proofs.Linear.{linear, Lin, at, lit, ◌⟨+⟩◌, ◌⟨-⟩◌, ◌⟨*⟩◌, ◌⟨≤⟩◌, ◌⟨<⟩◌, ◌⟨=⟩◌, zero-over}
+use Rattle.rational.proofs.Linear.{linear, Lin, at, lit, minus, ◌⟨+⟩◌, ◌⟨-⟩◌, ◌⟨*⟩◌, ◌⟨≤⟩◌, ◌⟨<⟩◌, ◌⟨=⟩◌, zero-over}
 
 -- ---- order
 pub le_or_lt : (a b : ℚ) → (a ≤ℚ b) ⊎ (b <ℚ a)
@@ -29,6 +30,129 @@ le_antisymm a b h g =
 pub lt_irrefl : (a : ℚ) → a <ℚ a → ⊥
 lt_irrefl a h = omega (arith, ints, h.cross)
 
+-- below is transitive
+pub lt_trans : (a b c : ℚ) → a <ℚ b → b <ℚ c → a <ℚ c
+lt_trans a b c h g =
+    linear (a ∷ b ∷ c ∷ []) ((at 0 ⟨<⟩ at 1) ∷ (at 1 ⟨<⟩ at 2) ∷ []) (at 0 ⟨<⟩ at 2) (λ one z p h. omega (arith, ints)) (h, (g, tt))
+
+-- at most, then below
+pub lt_of_le_of_lt : (a b c : ℚ) → a ≤ℚ b → b <ℚ c → a <ℚ c
+lt_of_le_of_lt a b c h g =
+    linear (a ∷ b ∷ c ∷ []) ((at 0 ⟨≤⟩ at 1) ∷ (at 1 ⟨<⟩ at 2) ∷ []) (at 0 ⟨<⟩ at 2) (λ one z p h. omega (arith, ints)) (h, (g, tt))
+
+-- below, then at most
+pub lt_of_lt_of_le : (a b c : ℚ) → a <ℚ b → b ≤ℚ c → a <ℚ c
+lt_of_lt_of_le a b c h g =
+    linear (a ∷ b ∷ c ∷ []) ((at 0 ⟨<⟩ at 1) ∷ (at 1 ⟨≤⟩ at 2) ∷ []) (at 0 ⟨<⟩ at 2) (λ one z p h. omega (arith, ints)) (h, (g, tt))
+
+-- what is below b is at most b
+pub le_of_lt : (a b : ℚ) → a <ℚ b → a ≤ℚ b
+le_of_lt a b h = linear (a ∷ b ∷ []) ((at 0 ⟨<⟩ at 1) ∷ []) (at 0 ⟨≤⟩ at 1) (λ one z p h. omega (arith, ints)) (h, tt)
+
+-- equal numbers are at most one another
+pub le_of_eq : (a b : ℚ) → a ≡ b → a ≤ℚ b
+le_of_eq a b e = subst (λ x. a ≤ℚ x) e (le_refl a)
+
+-- what is below b is not b
+pub ne_of_lt : (a b : ℚ) → a <ℚ b → a ≢ b
+ne_of_lt a b h e = lt_irrefl b (subst (λ x. x <ℚ b) e h)
+
+-- what is at most b has not b below it
+pub not_lt_of_le : (a b : ℚ) → a ≤ℚ b → b <ℚ a → ⊥
+not_lt_of_le a b h g = lt_irrefl a (lt_of_le_of_lt a b a h g)
+
+-- what is below b has not b at most it
+pub not_le_of_lt : (a b : ℚ) → a <ℚ b → b ≤ℚ a → ⊥
+not_le_of_lt a b h g = lt_irrefl a (lt_of_lt_of_le a b a h g)
+
+-- a is at most b where b is not below a
+pub le_of_not_lt : (a b : ℚ) → (b <ℚ a → ⊥) → a ≤ℚ b
+le_of_not_lt a b h = elim (le_or_lt a b) [ inl l ↦ l | inr g ↦ absurd (h g) ]
+
+-- a is below b where b is not at most a
+pub lt_of_not_le : (a b : ℚ) → (b ≤ℚ a → ⊥) → a <ℚ b
+lt_of_not_le a b h = elim (le_or_lt b a) [ inl l ↦ absurd (h l) | inr g ↦ g ]
+
+-- a is at most b or b is at most a
+pub le_total : (a b : ℚ) → (a ≤ℚ b) ⊎ (b ≤ℚ a)
+le_total a b = elim (le_or_lt a b) [ inl l ↦ inl l | inr g ↦ inr (le_of_lt b a g) ]
+
+-- what is at most b is b or below it
+pub eq_or_lt_of_le : (a b : ℚ) → a ≤ℚ b → (a ≡ b) ⊎ (a <ℚ b)
+eq_or_lt_of_le a b h = elim (le_or_lt b a) [ inl l ↦ inl (le_antisymm a b h l) | inr g ↦ inr g ]
+
+-- one of three
+pub trichotomy : (a b : ℚ) → (a <ℚ b) ⊎ ((a ≡ b) ⊎ (b <ℚ a))
+trichotomy a b = elim (le_or_lt a b) [
+  | inl l ↦ elim (eq_or_lt_of_le a b l) [ inl e ↦ inr (inl e) | inr g ↦ inl g ]
+  | inr g ↦ inr (inr g)
+]
+
+-- ---- sums, negation and differences keep or turn the order
+-- the greater of both summands
+pub le-add : (a b c d : ℚ) → a ≤ℚ b → c ≤ℚ d → (a +ℚ c) ≤ℚ (b +ℚ d)
+le-add a b c d h g =
+    linear (a ∷ b ∷ c ∷ d ∷ []) ((at 0 ⟨≤⟩ at 1) ∷ (at 2 ⟨≤⟩ at 3) ∷ []) ((at 0 ⟨+⟩ at 2) ⟨≤⟩ (at 1 ⟨+⟩ at 3)) (λ one z p h. omega (arith, ints)) (h, (g, tt))
+
+-- a summand on the left keeps the order
+pub le-add_left : (c a b : ℚ) → a ≤ℚ b → (c +ℚ a) ≤ℚ (c +ℚ b)
+le-add_left c a b h = le-add c c a b (le_refl c) h
+
+-- a summand on the right keeps the order
+pub le-add_right : (c a b : ℚ) → a ≤ℚ b → (a +ℚ c) ≤ℚ (b +ℚ c)
+le-add_right c a b h = le-add a b c c h (le_refl c)
+
+-- the greater of both summands, one of them truly so
+pub lt-add : (a b c d : ℚ) → a <ℚ b → c ≤ℚ d → (a +ℚ c) <ℚ (b +ℚ d)
+lt-add a b c d h g =
+    linear (a ∷ b ∷ c ∷ d ∷ []) ((at 0 ⟨<⟩ at 1) ∷ (at 2 ⟨≤⟩ at 3) ∷ []) ((at 0 ⟨+⟩ at 2) ⟨<⟩ (at 1 ⟨+⟩ at 3)) (λ one z p h. omega (arith, ints)) (h, (g, tt))
+
+-- a summand on the left keeps the strict order
+pub lt-add_left : (c a b : ℚ) → a <ℚ b → (c +ℚ a) <ℚ (c +ℚ b)
+lt-add_left c a b h =
+    linear (a ∷ b ∷ c ∷ []) ((at 0 ⟨<⟩ at 1) ∷ []) ((at 2 ⟨+⟩ at 0) ⟨<⟩ (at 2 ⟨+⟩ at 1)) (λ one z p h. omega (arith, ints)) (h, tt)
+
+-- a summand on the right keeps the strict order
+pub lt-add_right : (c a b : ℚ) → a <ℚ b → (a +ℚ c) <ℚ (b +ℚ c)
+lt-add_right c a b h = lt-add a b c c h (le_refl c)
+
+-- numbers that are not negative have a sum that is not negative
+pub nonneg-add : (a b : ℚ) → zero_ℚ ≤ℚ a → zero_ℚ ≤ℚ b → zero_ℚ ≤ℚ (a +ℚ b)
+nonneg-add a b h g =
+    linear (a ∷ b ∷ []) ((lit (pos 0) ⟨≤⟩ at 0) ∷ (lit (pos 0) ⟨≤⟩ at 1) ∷ []) (lit (pos 0) ⟨≤⟩ (at 0 ⟨+⟩ at 1)) (λ one z p h. omega (arith, ints)) (h, (g, tt))
+
+-- negation turns the order
+pub le-neg : (a b : ℚ) → a ≤ℚ b → neg_ℚ b ≤ℚ neg_ℚ a
+le-neg a b h =
+    linear (a ∷ b ∷ []) ((at 0 ⟨≤⟩ at 1) ∷ []) (minus (at 1) ⟨≤⟩ minus (at 0)) (λ one z p h. omega (arith, ints)) (h, tt)
+
+-- negation turns the strict order
+pub lt-neg : (a b : ℚ) → a <ℚ b → neg_ℚ b <ℚ neg_ℚ a
+lt-neg a b h =
+    linear (a ∷ b ∷ []) ((at 0 ⟨<⟩ at 1) ∷ []) (minus (at 1) ⟨<⟩ minus (at 0)) (λ one z p h. omega (arith, ints)) (h, tt)
+
+-- a is at most b exactly where b - a is not negative
+pub le-sub : (a b : ℚ) → (a ≤ℚ b) ↔ (zero_ℚ ≤ℚ (b -ℚ a))
+le-sub a b = (
+  λ h. linear (a ∷ b ∷ []) ((at 0 ⟨≤⟩ at 1) ∷ []) (lit (pos 0) ⟨≤⟩ (at 1 ⟨-⟩ at 0)) (λ one z p h. omega (arith, ints)) (h, tt),
+  λ h. linear (a ∷ b ∷ []) ((lit (pos 0) ⟨≤⟩ (at 1 ⟨-⟩ at 0)) ∷ []) (at 0 ⟨≤⟩ at 1) (λ one z p h. omega (arith, ints)) (h, tt),
+)
+
+-- a is below b exactly where b - a is positive
+pub lt-sub : (a b : ℚ) → (a <ℚ b) ↔ (zero_ℚ <ℚ (b -ℚ a))
+lt-sub a b = (
+  λ h. linear (a ∷ b ∷ []) ((at 0 ⟨<⟩ at 1) ∷ []) (lit (pos 0) ⟨<⟩ (at 1 ⟨-⟩ at 0)) (λ one z p h. omega (arith, ints)) (h, tt),
+  λ h. linear (a ∷ b ∷ []) ((lit (pos 0) ⟨<⟩ (at 1 ⟨-⟩ at 0)) ∷ []) (at 0 ⟨<⟩ at 1) (λ one z p h. omega (arith, ints)) (h, tt),
+)
+
+-- a is b exactly where a - b is 0
+pub eq-sub : (a b : ℚ) → (a ≡ b) ↔ (a -ℚ b ≡ zero_ℚ)
+eq-sub a b = (
+  λ h. linear (a ∷ b ∷ []) ((at 0 ⟨=⟩ at 1) ∷ []) ((at 0 ⟨-⟩ at 1) ⟨=⟩ lit (pos 0)) (λ one z p h. omega (arith, ints)) (h, tt),
+  λ h. linear (a ∷ b ∷ []) (((at 0 ⟨-⟩ at 1) ⟨=⟩ lit (pos 0)) ∷ []) (at 0 ⟨=⟩ at 1) (λ one z p h. omega (arith, ints)) (h, tt),
+)
+
+-- ---- signs of products
 nonneg_num : (a : ℚ) → zero_ℚ ≤ℚ a → pos 0 ≤ℤ a.num
 nonneg_num a h = by_le zero_ℚ a (pos 0) a.num a.den (zero-over a.den (den_pos a)) (StandsFor-self a) h
 
@@ -60,6 +184,27 @@ pub le-mul_left : (c a b : ℚ) → zero_ℚ ≤ℚ c → a ≤ℚ b → (c *ℚ
 le-mul_left c a b h g =
     linear ((c *ℚ a) ∷ (c *ℚ b) ∷ (c *ℚ (b -ℚ a)) ∷ []) ((lit (pos 0) ⟨≤⟩ at 2) ∷ (at 2 ⟨=⟩ (at 1 ⟨-⟩ at 0)) ∷ []) (at 0 ⟨≤⟩ at 1) (λ one z p h. omega (arith, ints)) (nonneg-mul c (b -ℚ a) h (linear (a ∷ b ∷ []) ((at 0 ⟨≤⟩ at 1) ∷ []) (lit (pos 0) ⟨≤⟩ (at 1 ⟨-⟩ at 0)) (λ one z p h. omega (arith, ints)) (g, tt)), (ring rational_ring (a ∷ b ∷ c ∷ []) (C :* (B :- A)) (C :* B :- C :* A) refl, tt))
 
+-- a factor on the right that is not negative keeps the order
+pub le-mul_right : (c a b : ℚ) → zero_ℚ ≤ℚ c → a ≤ℚ b → (a *ℚ c) ≤ℚ (b *ℚ c)
+le-mul_right c a b h g = subst₂ (λ x y. x ≤ℚ y) (*ℚ_comm c a) (*ℚ_comm c b) (le-mul_left c a b h g)
+
+-- a positive factor keeps the strict order
+pub lt-mul_left : (c a b : ℚ) → zero_ℚ <ℚ c → a <ℚ b → (c *ℚ a) <ℚ (c *ℚ b)
+lt-mul_left c a b h g =
+    (lt-sub (c *ℚ a) (c *ℚ b)).1 (subst (λ x. zero_ℚ <ℚ x) (ring rational_ring (a ∷ b ∷ c ∷ []) (C :* (B :- A)) (C :* B :- C :* A) refl) (pos-mul c (b -ℚ a) h ((lt-sub a b).0 g)))
+
+-- a positive factor on the right keeps the strict order
+pub lt-mul_right : (c a b : ℚ) → zero_ℚ <ℚ c → a <ℚ b → (a *ℚ c) <ℚ (b *ℚ c)
+lt-mul_right c a b h g = subst₂ (λ x y. x <ℚ y) (*ℚ_comm c a) (*ℚ_comm c b) (lt-mul_left c a b h g)
+
+-- a positive factor can be taken away from an inequality
+pub le_of_mul_left : (c a b : ℚ) → zero_ℚ <ℚ c → (c *ℚ a) ≤ℚ (c *ℚ b) → a ≤ℚ b
+le_of_mul_left c a b h g = le_of_not_lt a b (λ k. not_le_of_lt (c *ℚ b) (c *ℚ a) (lt-mul_left c b a h k) g)
+
+-- a positive factor can be taken away from a strict inequality
+pub lt_of_mul_left : (c a b : ℚ) → zero_ℚ <ℚ c → (c *ℚ a) <ℚ (c *ℚ b) → a <ℚ b
+lt_of_mul_left c a b h g = lt_of_not_le a b (λ k. not_lt_of_le (c *ℚ b) (c *ℚ a) (le-mul_left c b a (le_of_lt zero_ℚ c h) k) g)
+
 square_ℤ : (m : ℤ) → pos 0 ≤ℤ (m *ℤ m)
 square_ℤ (pos m) = omega (arith, ints)
 square_ℤ (negsuc m) = omega (arith, ints)
@@ -89,10 +234,7 @@ pub *ℚ-inv : (a : ℚ) → a ≢ zero_ℚ → a *ℚ inv_ℚ a ≡ one_ℚ
     go (pos (suc n)) e = by (pos (suc n)) (pos a.den) n e (inv_is_pos a n e) (ring integer_ring (pos (suc n) ∷ pos a.den ∷ []) (A :* B) (B :* A) refl)
     go (negsuc n) e = by (negsuc n) (neg_ℤ (pos a.den)) n e (inv_is_neg a n e) (ring integer_ring (pos (suc n) ∷ pos a.den ∷ []) (:neg A :* :neg B) (B :* A) refl)
 
--- the middle of two numbers
-abbrev pub half : ℚ
-half = frac (pos 1) 2
-
+-- ---- halves
 two_halves : half +ℚ half ≡ one_ℚ
 unfolding frac ◌+ℚ◌ gcd is_lowest
 two_halves = refl

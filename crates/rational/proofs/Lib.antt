@@ -1,9 +1,11 @@
 pub mod Codes
 pub mod CommutativeRing
+pub mod Decide
 pub mod Examples
 pub mod Field
 pub mod Fractions
 pub mod IntegerRing
+pub mod Inverse
 pub mod Linear
 pub mod Order
 pub mod RationalRing

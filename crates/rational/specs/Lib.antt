@@ -1,5 +1,7 @@
 pub mod Gcd
 pub mod GcdLaws
 pub mod LowestTerms
+pub mod Midpoint
 pub mod Rational
 pub mod Sum
+pub mod Tests
