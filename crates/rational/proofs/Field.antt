@@ -235,7 +235,8 @@ pub *ℚ-inv : (a : ℚ) → a ≢ zero_ℚ → a *ℚ inv_ℚ a ≡ one_ℚ
     go (negsuc n) e = by (negsuc n) (neg_ℤ (pos a.den)) n e (inv_is_neg a n e) (ring integer_ring (pos (suc n) ∷ pos a.den ∷ []) (:neg A :* :neg B) (B :* A) refl)
 
 -- ---- halves
-two_halves : half +ℚ half ≡ one_ℚ
+-- one half and one half
+pub two_halves : half +ℚ half ≡ one_ℚ
 unfolding frac ◌+ℚ◌ gcd is_lowest
 two_halves = refl
 

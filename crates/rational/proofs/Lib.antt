@@ -7,7 +7,10 @@ pub mod Fractions
 pub mod IntegerRing
 pub mod Inverse
 pub mod Linear
+pub mod Means
+pub mod Midpoints
 pub mod Order
+pub mod Parts
 pub mod RationalRing
 pub mod Ring
 pub mod Rules
