@@ -1,6 +1,7 @@
 -- order and equality of rationals are decidable, and the tests that compute them are right
-use Rattle.std.proofs.Common.{◌≡◌, ◌≢◌, ◌⊎◌, ◌↔◌, inl, inr, Bool, true, false, T, refl, sym, ap₂, subst, pos, ◌*ℤ◌}
+use Rattle.std.proofs.Common.{◌≡◌, ◌≢◌, ◌⊎◌, ◌↔◌, inl, inr, Bool, true, false, IsTrue, T, refl, sym, ap₂, subst, pos, ◌*ℤ◌}
 use Rattle.std.proofs.lemmas.Bool.Decides.{Decides-int_eq}
+use lib.Dec.{T_prop}
 use mathlib.Core.HLevel.{hedberg}
 use Rattle.rational.specs.Rational.{ℚ, zero_ℚ, ◌≤ℚ◌, ◌<ℚ◌}
 use Rattle.rational.specs.Tests.{le_test, lt_test, eq_test}
@@ -30,22 +31,30 @@ lt_or_not a b = elim (le_or_lt b a) [ inl l ↦ inr (not_lt_of_le b a l) | inr g
 pub IsSet-ℚ : IsSet ℚ
 IsSet-ℚ = hedberg (λ a b. elim (eq_or_ne a b) [ inl e ↦ yes e | inr n ↦ no n ])
 
+-- at most is a proposition, as a ghost field wants it
+pub IsProp-le : (a b : ℚ) → IsProp (a ≤ℚ b)
+IsProp-le a b = hlevel T_prop
+
+-- below is a proposition
+pub IsProp-lt : (a b : ℚ) → IsProp (a <ℚ b)
+IsProp-lt a b = hlevel T_prop
+
 -- ---- tests that compute
 T_true : (b : Bool) → T b → b ≡ true
 T_true true t = refl
 T_true false t = absurd t
 
 -- the test of at most says whether a is at most b
-pub le_test-true : (a b : ℚ) → (le_test a b ≡ true) ↔ (a ≤ℚ b)
+pub le_test-true : (a b : ℚ) → IsTrue (le_test a b) ↔ (a ≤ℚ b)
 unfolding le_test
 le_test-true a b = (λ e. record { cross = record { le = subst T (sym e) tt } }, λ h. T_true _ h.cross.le)
 
 -- the test of below says whether a is below b
-pub lt_test-true : (a b : ℚ) → (lt_test a b ≡ true) ↔ (a <ℚ b)
+pub lt_test-true : (a b : ℚ) → IsTrue (lt_test a b) ↔ (a <ℚ b)
 unfolding lt_test
 lt_test-true a b = (λ e. record { cross = record { lt = subst T (sym e) tt } }, λ h. T_true _ h.cross.lt)
 
 -- the test of equality says whether a is b
-pub eq_test-true : (a b : ℚ) → (eq_test a b ≡ true) ↔ (a ≡ b)
+pub eq_test-true : (a b : ℚ) → IsTrue (eq_test a b) ↔ (a ≡ b)
 unfolding eq_test
 eq_test-true a b = (λ e. equal_by_cross a b ((Decides-int_eq (a.num *ℤ pos b.den) (b.num *ℤ pos a.den)).0 e), λ e. (Decides-int_eq (a.num *ℤ pos b.den) (b.num *ℤ pos a.den)).1 (ap₂ (λ (x y : ℚ). x.num *ℤ pos y.den) e (sym e)))

@@ -9,6 +9,7 @@ use Rattle.rational.proofs.RationalRing.{rational_ring, +ℚ_comm, +ℚ-zero, *�
 use Rattle.rational.proofs.Fractions.{StandsFor, equal_by, equal_by_cross, StandsFor-self, StandsFor-also, StandsFor-frac, StandsFor-add, StandsFor-mul, StandsFor-neg}
 use Rattle.rational.proofs.Order.{le_by, by_le, lt_by, by_lt, eq_by, by_eq}
 use Rattle.rational.proofs.Ring.{ring, num, ◌:+◌, ◌:*◌, ◌:-◌, :neg, A, B, C, D, E, F, G, H}
+use Rattle.rational.proofs.Parts.{nonneg-num, pos-num}
 use Rattle.rational.proofs.Linear.{linear, Lin, at, lit, minus, ◌⟨+⟩◌, ◌⟨-⟩◌, ◌⟨*⟩◌, ◌⟨≤⟩◌, ◌⟨<⟩◌, ◌⟨=⟩◌, zero-over}
 
 -- ---- order
@@ -88,6 +89,13 @@ trichotomy a b = elim (le_or_lt a b) [
   | inr g ↦ inr (inr g)
 ]
 
+-- below is at most and not equal
+pub lt-le : (a b : ℚ) → (a <ℚ b) ↔ ((a ≤ℚ b) × (a ≢ b))
+lt-le a b = (
+  λ h. (le_of_lt a b h, ne_of_lt a b h),
+  λ h. elim (eq_or_lt_of_le a b h.0) [ inl e ↦ absurd (h.1 e) | inr l ↦ l ],
+)
+
 -- ---- sums, negation and differences keep or turn the order
 -- the greater of both summands
 pub le-add : (a b c d : ℚ) → a ≤ℚ b → c ≤ℚ d → (a +ℚ c) ≤ℚ (b +ℚ d)
@@ -153,12 +161,6 @@ eq-sub a b = (
 )
 
 -- ---- signs of products
-nonneg_num : (a : ℚ) → zero_ℚ ≤ℚ a → pos 0 ≤ℤ a.num
-nonneg_num a h = by_le zero_ℚ a (pos 0) a.num a.den (zero-over a.den (den_pos a)) (StandsFor-self a) h
-
-pos_num : (a : ℚ) → zero_ℚ <ℚ a → pos 0 <ℤ a.num
-pos_num a h = by_lt zero_ℚ a (pos 0) a.num a.den (zero-over a.den (den_pos a)) (StandsFor-self a) h
-
 nonneg-*ℤ : (m n : ℤ) → pos 0 ≤ℤ m → pos 0 ≤ℤ n → pos 0 ≤ℤ (m *ℤ n)
 nonneg-*ℤ (pos m) (pos n) h g = omega (arith, ints)
 nonneg-*ℤ (pos m) (negsuc n) h g = absurd (omega (arith, ints))
@@ -173,11 +175,11 @@ pos-*ℤ (negsuc m) n h g = absurd (omega (arith, ints))
 
 pub nonneg-mul : (a b : ℚ) → zero_ℚ ≤ℚ a → zero_ℚ ≤ℚ b → zero_ℚ ≤ℚ (a *ℚ b)
 nonneg-mul a b h g =
-    le_by zero_ℚ (a *ℚ b) (pos 0) (a.num *ℤ b.num) (a.den * b.den) (zero-over (a.den * b.den) (mul-pos (den_pos a) (den_pos b))) (StandsFor-mul a b _ _ _ _ (StandsFor-self a) (StandsFor-self b)) (nonneg-*ℤ a.num b.num (nonneg_num a h) (nonneg_num b g))
+    le_by zero_ℚ (a *ℚ b) (pos 0) (a.num *ℤ b.num) (a.den * b.den) (zero-over (a.den * b.den) (mul-pos (den_pos a) (den_pos b))) (StandsFor-mul a b _ _ _ _ (StandsFor-self a) (StandsFor-self b)) (nonneg-*ℤ a.num b.num ((nonneg-num a).0 h) ((nonneg-num b).0 g))
 
 pub pos-mul : (a b : ℚ) → zero_ℚ <ℚ a → zero_ℚ <ℚ b → zero_ℚ <ℚ (a *ℚ b)
 pos-mul a b h g =
-    lt_by zero_ℚ (a *ℚ b) (pos 0) (a.num *ℤ b.num) (a.den * b.den) (zero-over (a.den * b.den) (mul-pos (den_pos a) (den_pos b))) (StandsFor-mul a b _ _ _ _ (StandsFor-self a) (StandsFor-self b)) (pos-*ℤ a.num b.num (pos_num a h) (pos_num b g))
+    lt_by zero_ℚ (a *ℚ b) (pos 0) (a.num *ℤ b.num) (a.den * b.den) (zero-over (a.den * b.den) (mul-pos (den_pos a) (den_pos b))) (StandsFor-mul a b _ _ _ _ (StandsFor-self a) (StandsFor-self b)) (pos-*ℤ a.num b.num ((pos-num a).0 h) ((pos-num b).0 g))
 
 -- a factor that is not negative keeps the order
 pub le-mul_left : (c a b : ℚ) → zero_ℚ ≤ℚ c → a ≤ℚ b → (c *ℚ a) ≤ℚ (c *ℚ b)

@@ -92,7 +92,8 @@ scaled-is (q ∷ qs) zero =
 scaled-is (q ∷ qs) (suc i) =
     StandsFor-also (pick qs i) (scaled qs i) (scaled qs i *ℤ pos q.den) (product qs) (q.den * product qs) (scaled-is qs i) (mul-pos (den_pos q) (product-pos qs)) (ring integer_ring (scaled qs i ∷ pos q.den ∷ pos (product qs) ∷ []) (A :* (B :* C)) (A :* B :* C) refl)
 
-whole-is : (k : ℤ) → StandsFor (whole k) k 1
+-- a whole number stands for itself over 1
+pub whole-is : (k : ℤ) → StandsFor (whole k) k 1
 whole-is k = StandsFor-frac k 1 (lit< tt)
 
 add-same : (a b : ℚ) (n m : ℤ) (d : ℕ) → StandsFor a n d → StandsFor b m d → StandsFor (a +ℚ b) (n +ℤ m) d

@@ -1,5 +1,5 @@
 -- the midpoint of two numbers
-use Rattle.std.proofs.Common.{◌≡◌, pos, List, [], ◌∷◌, refl, arith}
+use Rattle.std.proofs.Common.{◌≡◌, ◌↔◌, ap, ◌∙◌, pos, List, [], ◌∷◌, refl, arith}
 use Rattle.std.proofs.lemmas.Int.{ints}
 use Rattle.rational.specs.Rational.{ℚ, ◌+ℚ◌, ◌*ℚ◌, zero_ℚ, ◌≤ℚ◌, ◌<ℚ◌}
 use Rattle.rational.specs.Midpoint.{half, midpoint}
@@ -16,6 +16,10 @@ midpoint_twice a b = half_twice (a +ℚ b)
 pub midpoint_unique : (a b m : ℚ) → m +ℚ m ≡ a +ℚ b → m ≡ midpoint a b
 midpoint_unique a b m e =
     linear (a ∷ b ∷ m ∷ midpoint a b ∷ []) (((at 2 ⟨+⟩ at 2) ⟨=⟩ (at 0 ⟨+⟩ at 1)) ∷ ((at 3 ⟨+⟩ at 3) ⟨=⟩ (at 0 ⟨+⟩ at 1)) ∷ []) (at 2 ⟨=⟩ at 3) (λ one z p h. omega (arith, ints)) (e, (midpoint_twice a b, tt))
+
+-- m is the midpoint exactly where twice m is the sum
+pub midpoint_is : (a b m : ℚ) → (m ≡ midpoint a b) ↔ (m +ℚ m ≡ a +ℚ b)
+midpoint_is a b m = (λ e. ap (λ x. x +ℚ x) e ∙ midpoint_twice a b, midpoint_unique a b m)
 
 -- the midpoint of a number and itself
 pub midpoint-self : (a : ℚ) → midpoint a a ≡ a

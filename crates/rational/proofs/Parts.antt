@@ -7,12 +7,9 @@ use Rattle.rational.proofs.IntegerRing.{integer_ring}
 use Rattle.rational.proofs.Fractions.{StandsFor, StandsFor-self, StandsFor-also, StandsFor-frac, StandsFor-add, StandsFor-mul, StandsFor-neg, equal_by, equal_by_cross, frac-lowest}
 use Rattle.rational.proofs.Order.{le_by, by_le, lt_by, by_lt, eq_by, by_eq}
 use Rattle.rational.proofs.Ring.{ring, num, ◌:+◌, ◌:*◌, :neg, A, B, C, D}
-use Rattle.rational.proofs.Linear.{zero-over}
+use Rattle.rational.proofs.Linear.{zero-over, whole-is}
 
 -- ---- whole numbers
-whole-is : (n : ℤ) → StandsFor (whole n) n 1
-whole-is n = StandsFor-frac n 1 (lit< tt)
-
 gcd-one : (a : ℕ) → gcd a 1 ≡ 1
 unfolding gcd
 gcd-one a = refl
@@ -119,3 +116,18 @@ frac-lt m n d e p q = (by_lt (frac m d) (frac n e) _ _ (d * e) (over_left m d e 
 pub frac-scale : (n : ℤ) (d k : ℕ) → 0 < d → 0 < k → frac (n *ℤ pos k) (d * k) ≡ frac n d
 frac-scale n d k p q =
     equal_by (frac (n *ℤ pos k) (d * k)) (frac n d) (n *ℤ pos k) n (d * k) d (StandsFor-frac _ _ (mul-pos p q)) (StandsFor-frac n d p) (ring integer_ring (n ∷ pos k ∷ pos d ∷ []) (A :* B :* C) (A :* (C :* B)) refl)
+
+-- a sum of fractions
+pub frac-add : (m n : ℤ) (d e : ℕ) → 0 < d → 0 < e → frac m d +ℚ frac n e ≡ frac ((m *ℤ pos e) +ℤ (n *ℤ pos d)) (d * e)
+frac-add m n d e p q =
+    equal_by (frac m d +ℚ frac n e) (frac ((m *ℤ pos e) +ℤ (n *ℤ pos d)) (d * e)) _ _ (d * e) (d * e) (StandsFor-add (frac m d) (frac n e) m n d e (StandsFor-frac m d p) (StandsFor-frac n e q)) (StandsFor-frac _ _ (mul-pos p q)) refl
+
+-- a product of fractions
+pub frac-mul : (m n : ℤ) (d e : ℕ) → 0 < d → 0 < e → frac m d *ℚ frac n e ≡ frac (m *ℤ n) (d * e)
+frac-mul m n d e p q =
+    equal_by (frac m d *ℚ frac n e) (frac (m *ℤ n) (d * e)) _ _ (d * e) (d * e) (StandsFor-mul (frac m d) (frac n e) m n d e (StandsFor-frac m d p) (StandsFor-frac n e q)) (StandsFor-frac _ _ (mul-pos p q)) refl
+
+-- a negated fraction
+pub frac-neg : (n : ℤ) (d : ℕ) → 0 < d → neg_ℚ (frac n d) ≡ frac (neg_ℤ n) d
+frac-neg n d p =
+    equal_by (neg_ℚ (frac n d)) (frac (neg_ℤ n) d) _ _ d d (StandsFor-neg (frac n d) n d (StandsFor-frac n d p)) (StandsFor-frac _ _ p) refl

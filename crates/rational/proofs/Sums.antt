@@ -1,9 +1,11 @@
 -- laws of sums
-use Rattle.std.proofs.Common.{ℕ, pos, suc, zero, ◌<◌, ◌≤◌, ◌≡◌, ◌+◌, ◌*◌, mul-zero, eqb, Bool, true, false, cond, refl, sym, ap, ap₂, ◌∙◌, subst, List, [], ◌∷◌, arith, ◌⊎◌, inl, inr, tests, eq-or-lt_of_le, le_of_suc-le-suc}
+use Rattle.std.proofs.Common.{ℕ, pos, suc, add-one, zero, ◌<◌, ◌≤◌, ◌≡◌, ◌+◌, ◌*◌, mul-zero, eqb, Bool, true, false, cond, refl, sym, ap, ap₂, ◌∙◌, subst, List, [], ◌∷◌, arith, ◌⊎◌, inl, inr, tests, eq-or-lt_of_le, le_of_suc-le-suc}
 use Rattle.std.proofs.lemmas.Int.{ints}
-use Rattle.rational.specs.Rational.{ℚ, ◌+ℚ◌, ◌*ℚ◌, ◌-ℚ◌, neg_ℚ, zero_ℚ, one_ℚ, ◌≤ℚ◌, ◌<ℚ◌}
+use Rattle.rational.specs.Rational.{ℚ, ◌+ℚ◌, ◌*ℚ◌, ◌-ℚ◌, neg_ℚ, zero_ℚ, one_ℚ, whole, ◌≤ℚ◌, ◌<ℚ◌}
 use Rattle.rational.specs.Sum.{sum_to, change}
 use Rattle.rational.proofs.RationalRing.{rational_ring, *ℚ_comm}
+use Rattle.rational.proofs.Rules.{zero-*ℚ}
+use Rattle.rational.proofs.Parts.{whole-add}
 use Rattle.rational.proofs.Ring.{ring, combine, ◌times◌is◌, num, ◌:+◌, ◌:*◌, ◌:-◌, :neg, A, B, C, D, E, F, G, H}
 use Rattle.rational.proofs.Linear.{linear, Lin, at, lit, ◌⟨+⟩◌, ◌⟨-⟩◌, ◌⟨*⟩◌, ◌⟨≤⟩◌, ◌⟨<⟩◌, ◌⟨=⟩◌}
 use Rattle.rational.proofs.Field.{le_refl, le_antisymm, lt_of_lt_of_le, le-sub}
@@ -86,6 +88,12 @@ sum_to-single n c f h =
     let g : ℕ → ℚ = λ i. zero_ℚ in
     combine rational_ring (sum_to n (λ j. change g c one_ℚ j *ℚ f j) ∷ f c ∷ sum_to n (λ j. zero_ℚ *ℚ f j) ∷ []) ((num 1 times A :+ num 0 :* B is C :+ num 1 :* B) ∷ (num 1 times C is num 0) ∷ []) A B refl
     (ap (λ x. x +ℚ (zero_ℚ *ℚ f c)) (sum_to-same n _ _ (λ j p. ap (λ x. change g c one_ℚ j *ℚ x) (sym (change_same f c j)))) ∙ sum_to-change n c g f one_ℚ (f c) h, (sum_to-same n (λ j. zero_ℚ *ℚ f j) (λ j. zero_ℚ) (λ j p. ring rational_ring (f j ∷ []) (num 0 :* A) (num 0) refl) ∙ sum_to-zero n, tt))
+
+-- n equal terms
+pub sum_to-constant : (n : ℕ) (c : ℚ) → sum_to n (λ i. c) ≡ whole (pos n) *ℚ c
+sum_to-constant zero c = sym (zero-*ℚ c)
+sum_to-constant (suc n) c =
+    ap (λ x. x +ℚ c) (sum_to-constant n c) ∙ ring rational_ring (whole (pos n) ∷ c ∷ []) (A :* B :+ B) ((A :+ num 1) :* B) refl ∙ ap (λ x. x *ℚ c) (sym (whole-add (pos n) (pos 1))) ∙ ap (λ k. whole (pos k) *ℚ c) (add-one n)
 
 -- ---- negation and differences
 -- a sum of negated terms
