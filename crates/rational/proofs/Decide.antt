@@ -1,4 +1,4 @@
--- order and equality of rationals are decidable, and the tests that compute them are right
+-- Order and equality of rationals are decidable, and the tests that compute them are right.
 use Rattle.std.proofs.Common.{◌≡◌, ◌≢◌, ◌⊎◌, ◌↔◌, inl, inr, Bool, true, false, IsTrue, T, refl, sym, ap₂, subst, pos, ◌*ℤ◌}
 use Rattle.std.proofs.lemmas.Bool.Decides.{Decides-int_eq}
 use lib.Dec.{T_prop}

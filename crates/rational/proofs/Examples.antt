@@ -1,15 +1,22 @@
 -- First examples: numbers that compute, and one use of each prover.
-use Rattle.std.proofs.Common.{◌≡◌, ◌≢◌, pos, negsuc, List, [], ◌∷◌, refl, arith}
+use Rattle.std.proofs.Common.{◌-◌, ◌^◌, true, false, ◌≡◌, ◌≢◌, pos, negsuc, [], ◌∷◌, refl, arith}
 use Rattle.std.proofs.lemmas.Int.{ints}
 use Rattle.rational.specs.Gcd.{gcd}
-use Rattle.rational.specs.Rational.{ℚ, frac, is_lowest, whole, ◌+ℚ◌, ◌*ℚ◌, ◌-ℚ◌, neg_ℚ, inv_ℚ, zero_ℚ, one_ℚ, ◌≤ℚ◌, ◌<ℚ◌}
+use Rattle.rational.specs.Rational.{ℚ, frac, is_lowest, whole, ◌+ℚ◌, ◌*ℚ◌, ◌-ℚ◌, inv_ℚ, zero_ℚ, one_ℚ, ◌≤ℚ◌, ◌<ℚ◌}
 use Rattle.rational.proofs.RationalRing.{rational_ring}
+use Rattle.rational.specs.Tests.{le_test, lt_test, eq_test}
+use Rattle.rational.proofs.Decide.{lt_test-true}
 use Rattle.rational.proofs.Rules.{ring_laws, ring_cancels}
 use Rattle.rational.proofs.Ring.{ring, combine, ◌times◌is◌, num, ◌:+◌, ◌:*◌, ◌:-◌, A, B, C, D}
 use Rattle.rational.proofs.Linear.{linear, linear_contradiction, at, lit, ◌⟨+⟩◌, ◌⟨*⟩◌, ◌⟨≤⟩◌, ◌⟨<⟩◌, ◌⟨=⟩◌}
 use Rattle.rational.proofs.Field.{*ℚ-inv}
 
 -- ---- numbers compute
+-- the greatest common divisor, also of numbers of 127 bits
+gcd_computes : (gcd 12 18 ≡ 6) × (gcd (2 ^ 127 - 1) (2 ^ 126 - 6) ≡ 1)
+unfolding gcd
+gcd_computes = (refl, refl)
+
 -- 1/2 + 1/3 = 5/6
 sum_computes : frac (pos 1) 2 +ℚ frac (pos 1) 3 ≡ frac (pos 5) 6
 unfolding frac ◌+ℚ◌ gcd is_lowest
@@ -24,6 +31,16 @@ product_computes = refl
 inverse_computes : inv_ℚ (frac (negsuc 1) 3) ≡ frac (negsuc 2) 2
 unfolding frac inv_ℚ gcd is_lowest
 inverse_computes = refl
+
+-- tests of order and equality at literals: 1/3 < 1/2, 2/4 = 1/2, and not 1/2 <= 1/3
+tests_compute : (lt_test (frac (pos 1) 3) (frac (pos 1) 2) ≡ true) × (eq_test (frac (pos 2) 4) (frac (pos 1) 2) ≡ true) × (le_test (frac (pos 1) 2) (frac (pos 1) 3) ≡ false)
+unfolding lt_test eq_test le_test frac gcd is_lowest
+tests_compute = (refl, refl, refl)
+
+-- an order at literals, by its test
+third_below_half : frac (pos 1) 3 <ℚ frac (pos 1) 2
+unfolding lt_test frac gcd is_lowest
+third_below_half = (lt_test-true (frac (pos 1) 3) (frac (pos 1) 2)).0 refl
 
 -- ---- identities
 -- an identity without hypotheses

@@ -1,33 +1,38 @@
--- the rationals are an ordered field
-use Rattle.std.proofs.Common.{ℕ, suc, zero, ◌*◌, ◌+◌, ◌<◌, ◌≤◌, ◌≡◌, ◌≢◌, ◌⊎◌, ◌↔◌, inl, inr, ℤ, pos, negsuc, neg_ℤ, ◌*ℤ◌, ◌+ℤ◌, ◌≤ℤ◌, ◌<ℤ◌, refl, sym, ap, ap₂, ◌∙◌, List, [], ◌∷◌, lit<, arith, mul-pos, subst, subst₂, zero-lt-suc}
+-- The rationals are an ordered field.
+use Rattle.std.proofs.Common.{ℕ, suc, zero, ◌*◌, ◌≡◌, ◌≢◌, ◌⊎◌, ◌↔◌, inl, inr, ℤ, pos, negsuc, neg_ℤ, ◌*ℤ◌, ◌≤ℤ◌, ◌<ℤ◌, refl, sym, ap, ◌∙◌, [], ◌∷◌, lit<, arith, mul-pos, subst, subst₂, zero-lt-suc}
 use Rattle.std.proofs.lemmas.Int.{ints, by_lt_z}
 use Rattle.rational.specs.Gcd.{gcd}
-use Rattle.rational.specs.Rational.{ℚ, is_lowest, den_pos, lowest, frac, whole, ◌+ℚ◌, ◌*ℚ◌, ◌-ℚ◌, neg_ℚ, inv_ℚ, zero_ℚ, one_ℚ, ◌≤ℚ◌, ◌<ℚ◌}
+use Rattle.rational.specs.Rational.{ℚ, is_lowest, den_pos, frac, ◌+ℚ◌, ◌*ℚ◌, ◌-ℚ◌, neg_ℚ, inv_ℚ, zero_ℚ, one_ℚ, ◌≤ℚ◌, ◌<ℚ◌}
 pub use Rattle.rational.specs.Midpoint.{half}
 use Rattle.rational.proofs.IntegerRing.{integer_ring}
-use Rattle.rational.proofs.RationalRing.{rational_ring, +ℚ_comm, +ℚ-zero, *ℚ_comm}
-use Rattle.rational.proofs.Fractions.{StandsFor, equal_by, equal_by_cross, StandsFor-self, StandsFor-also, StandsFor-frac, StandsFor-add, StandsFor-mul, StandsFor-neg}
-use Rattle.rational.proofs.Order.{le_by, by_le, lt_by, by_lt, eq_by, by_eq}
-use Rattle.rational.proofs.Ring.{ring, num, ◌:+◌, ◌:*◌, ◌:-◌, :neg, A, B, C, D, E, F, G, H}
+use Rattle.rational.proofs.RationalRing.{rational_ring, *ℚ_comm}
+use Rattle.rational.proofs.Fractions.{StandsFor, equal_by, StandsFor-self, StandsFor-frac, StandsFor-mul}
+use Rattle.rational.proofs.Order.{le_by, lt_by}
+use Rattle.rational.proofs.Ring.{ring, num, ◌:+◌, ◌:*◌, ◌:-◌, :neg, A, B, C}
 use Rattle.rational.proofs.Parts.{nonneg-num, pos-num}
-use Rattle.rational.proofs.Linear.{linear, Lin, at, lit, minus, ◌⟨+⟩◌, ◌⟨-⟩◌, ◌⟨*⟩◌, ◌⟨≤⟩◌, ◌⟨<⟩◌, ◌⟨=⟩◌, zero-over}
+use Rattle.rational.proofs.Linear.{linear, at, lit, minus, ◌⟨+⟩◌, ◌⟨-⟩◌, ◌⟨≤⟩◌, ◌⟨<⟩◌, ◌⟨=⟩◌, zero-over}
 
 -- ---- order
+-- a is at most b, or b is below a
 pub le_or_lt : (a b : ℚ) → (a ≤ℚ b) ⊎ (b <ℚ a)
 le_or_lt a b =
     by_lt_z (b.num *ℤ pos a.den) (a.num *ℤ pos b.den) (λ h. inr (record { cross = h })) (λ h. inl (record { cross = h }))
 
+-- at most is reflexive
 pub le_refl : (a : ℚ) → a ≤ℚ a
 le_refl a = linear (a ∷ []) [] (at 0 ⟨≤⟩ at 0) (λ one z p h. omega (arith, ints)) tt
 
+-- at most is transitive
 pub le_trans : (a b c : ℚ) → a ≤ℚ b → b ≤ℚ c → a ≤ℚ c
 le_trans a b c h g =
     linear (a ∷ b ∷ c ∷ []) ((at 0 ⟨≤⟩ at 1) ∷ (at 1 ⟨≤⟩ at 2) ∷ []) (at 0 ⟨≤⟩ at 2) (λ one z p h. omega (arith, ints)) (h, (g, tt))
 
+-- numbers that are at most one another are equal
 pub le_antisymm : (a b : ℚ) → a ≤ℚ b → b ≤ℚ a → a ≡ b
 le_antisymm a b h g =
     linear (a ∷ b ∷ []) ((at 0 ⟨≤⟩ at 1) ∷ (at 1 ⟨≤⟩ at 0) ∷ []) (at 0 ⟨=⟩ at 1) (λ one z p h. omega (arith, ints)) (h, (g, tt))
 
+-- no number is below itself
 pub lt_irrefl : (a : ℚ) → a <ℚ a → ⊥
 lt_irrefl a h = omega (arith, ints, h.cross)
 
@@ -173,10 +178,12 @@ pos-*ℤ (pos (suc m)) (pos (suc n)) h g = omega (arith, ints)
 pos-*ℤ (pos (suc m)) (negsuc n) h g = absurd (omega (arith, ints))
 pos-*ℤ (negsuc m) n h g = absurd (omega (arith, ints))
 
+-- factors that are not negative have a product that is not negative
 pub nonneg-mul : (a b : ℚ) → zero_ℚ ≤ℚ a → zero_ℚ ≤ℚ b → zero_ℚ ≤ℚ (a *ℚ b)
 nonneg-mul a b h g =
     le_by zero_ℚ (a *ℚ b) (pos 0) (a.num *ℤ b.num) (a.den * b.den) (zero-over (a.den * b.den) (mul-pos (den_pos a) (den_pos b))) (StandsFor-mul a b _ _ _ _ (StandsFor-self a) (StandsFor-self b)) (nonneg-*ℤ a.num b.num ((nonneg-num a).0 h) ((nonneg-num b).0 g))
 
+-- positive factors have a positive product
 pub pos-mul : (a b : ℚ) → zero_ℚ <ℚ a → zero_ℚ <ℚ b → zero_ℚ <ℚ (a *ℚ b)
 pos-mul a b h g =
     lt_by zero_ℚ (a *ℚ b) (pos 0) (a.num *ℤ b.num) (a.den * b.den) (zero-over (a.den * b.den) (mul-pos (den_pos a) (den_pos b))) (StandsFor-mul a b _ _ _ _ (StandsFor-self a) (StandsFor-self b)) (pos-*ℤ a.num b.num ((pos-num a).0 h) ((pos-num b).0 g))
@@ -211,6 +218,7 @@ square_ℤ : (m : ℤ) → pos 0 ≤ℤ (m *ℤ m)
 square_ℤ (pos m) = omega (arith, ints)
 square_ℤ (negsuc m) = omega (arith, ints)
 
+-- no square is negative
 pub square-nonneg : (a : ℚ) → zero_ℚ ≤ℚ (a *ℚ a)
 square-nonneg a =
     le_by zero_ℚ (a *ℚ a) (pos 0) (a.num *ℤ a.num) (a.den * a.den) (zero-over (a.den * a.den) (mul-pos (den_pos a) (den_pos a))) (StandsFor-mul a a _ _ _ _ (StandsFor-self a) (StandsFor-self a)) (square_ℤ a.num)
@@ -224,6 +232,7 @@ inv_is_neg : (a : ℚ) (n : ℕ) → a.num ≡ negsuc n → StandsFor (inv_ℚ a
 unfolding inv_ℚ
 inv_is_neg a n e = subst (λ x. StandsFor (elim x [ pos n ↦ frac (pos a.den) n | negsuc n ↦ frac (neg_ℤ (pos a.den)) (suc n) ]) (neg_ℤ (pos a.den)) (suc n)) (sym e) (StandsFor-frac (neg_ℤ (pos a.den)) (suc n) (zero-lt-suc n))
 
+-- a number that is not 0 makes 1 with its inverse
 pub *ℚ-inv : (a : ℚ) → a ≢ zero_ℚ → a *ℚ inv_ℚ a ≡ one_ℚ
 *ℚ-inv a h = go a.num refl
   where
@@ -242,6 +251,7 @@ pub two_halves : half +ℚ half ≡ one_ℚ
 unfolding frac ◌+ℚ◌ gcd is_lowest
 two_halves = refl
 
+-- two halves of a number make the number
 pub half_twice : (a : ℚ) → (half *ℚ a) +ℚ (half *ℚ a) ≡ a
 half_twice a =
     ring rational_ring (half ∷ a ∷ []) (A :* B :+ A :* B) ((A :+ A) :* B) refl ∙ ap (λ x. x *ℚ a) two_halves ∙ ring rational_ring (a ∷ []) (num 1 :* A) A refl

@@ -1,12 +1,11 @@
 -- Linear arithmetic over the rationals. The numbers in play are put over one denominator, and what is left is a statement about whole numbers, which `omega (arith, ints)` proves.
-use Rattle.std.proofs.Common.{ℕ, suc, zero, ◌*◌, ◌+◌, ◌<◌, ◌≤◌, ◌≡◌, ℤ, pos, negsuc, neg_ℤ, ◌*ℤ◌, ◌+ℤ◌, ◌≤ℤ◌, ◌<ℤ◌, refl, sym, ap, ap₂, ◌∙◌, List, [], ◌∷◌, lit<, arith, mul-pos, map}
-use Rattle.std.proofs.lemmas.Int.{ints}
+use Rattle.std.proofs.Common.{ℕ, suc, zero, ◌*◌, ◌<◌, ◌≡◌, ℤ, pos, neg_ℤ, ◌*ℤ◌, ◌+ℤ◌, ◌≤ℤ◌, ◌<ℤ◌, refl, List, [], ◌∷◌, lit<, arith, mul-pos}
 use borrow.Author.Differences.{below_in}
-use Rattle.rational.specs.Rational.{ℚ, den_pos, lowest, frac, whole, ◌+ℚ◌, ◌*ℚ◌, neg_ℚ, zero_ℚ, one_ℚ, ◌≤ℚ◌, ◌<ℚ◌}
+use Rattle.rational.specs.Rational.{ℚ, den_pos, whole, ◌+ℚ◌, ◌*ℚ◌, neg_ℚ, zero_ℚ, ◌≤ℚ◌, ◌<ℚ◌}
 use Rattle.rational.proofs.IntegerRing.{integer_ring}
-use Rattle.rational.proofs.Fractions.{StandsFor, equal_by, StandsFor-self, StandsFor-also, StandsFor-frac, StandsFor-add, StandsFor-mul, StandsFor-neg}
+use Rattle.rational.proofs.Fractions.{StandsFor, StandsFor-self, StandsFor-also, StandsFor-frac, StandsFor-add, StandsFor-mul, StandsFor-neg}
 use Rattle.rational.proofs.Order.{le_by, by_le, lt_by, by_lt, eq_by, by_eq}
-use Rattle.rational.proofs.Ring.{ring, num, ◌:+◌, ◌:*◌, ◌:-◌, :neg, A, B, C, D, E, F, G, H}
+use Rattle.rational.proofs.Ring.{ring, num, ◌:+◌, ◌:*◌, A, B, C}
 
 infixl 60 ◌⟨+⟩◌ ◌⟨-⟩◌
 infixl 70 ◌⟨*⟩◌
@@ -20,11 +19,13 @@ pub data Lin : Type 0 where
   minus : Lin → Lin
   ◌⟨*⟩◌ : ℤ → Lin → Lin
 
+-- at most, below, or equal
 pub data Claim : Type 0 where
   ◌⟨≤⟩◌ : Lin → Lin → Claim
   ◌⟨<⟩◌ : Lin → Lin → Claim
   ◌⟨=⟩◌ : Lin → Lin → Claim
 
+-- the number at an index, and 0 past the end
 abbrev pub pick : List ℚ → ℕ → ℚ
 pick [] i = zero_ℚ
 pick (x ∷ xs) zero = x
@@ -39,6 +40,7 @@ val ρ (a ⟨-⟩ b) = val ρ a +ℚ neg_ℚ (val ρ b)
 val ρ (minus a) = neg_ℚ (val ρ a)
 val ρ (k ⟨*⟩ a) = whole k *ℚ val ρ a
 
+-- what a claim says of rationals
 abbrev pub holds : List ℚ → Claim → Type 0
 holds ρ (a ⟨≤⟩ b) = val ρ a ≤ℚ val ρ b
 holds ρ (a ⟨<⟩ b) = val ρ a <ℚ val ρ b
@@ -53,15 +55,18 @@ val_ℤ one z (a ⟨-⟩ b) = val_ℤ one z a +ℤ neg_ℤ (val_ℤ one z b)
 val_ℤ one z (minus a) = neg_ℤ (val_ℤ one z a)
 val_ℤ one z (k ⟨*⟩ a) = k *ℤ val_ℤ one z a
 
+-- what a claim says of whole numbers
 abbrev pub holds_ℤ : ℤ → (ℕ → ℤ) → Claim → Type 0
 holds_ℤ one z (a ⟨≤⟩ b) = val_ℤ one z a ≤ℤ val_ℤ one z b
 holds_ℤ one z (a ⟨<⟩ b) = val_ℤ one z a <ℤ val_ℤ one z b
 holds_ℤ one z (a ⟨=⟩ b) = val_ℤ one z a ≡ val_ℤ one z b
 
+-- each claim holds of the rationals
 abbrev pub all_hold : List ℚ → List Claim → Type 0
 all_hold ρ [] = Unit {0}
 all_hold ρ (c ∷ cs) = holds ρ c × all_hold ρ cs
 
+-- each claim holds of the whole numbers
 abbrev pub all_hold_ℤ : ℤ → (ℕ → ℤ) → List Claim → Type 0
 all_hold_ℤ one z [] = Unit {0}
 all_hold_ℤ one z (c ∷ cs) = holds_ℤ one z c × all_hold_ℤ one z cs
@@ -81,6 +86,7 @@ scaled [] i = pos 0
 scaled (q ∷ qs) zero = q.num *ℤ pos (product qs)
 scaled (q ∷ qs) (suc i) = scaled qs i *ℤ pos q.den
 
+-- 0 stands for 0 over any denominator
 pub zero-over : (d : ℕ) → 0 < d → StandsFor zero_ℚ (pos 0) d
 zero-over d h = StandsFor-also zero_ℚ (pos 0) (pos 0) 1 d (StandsFor-frac (pos 0) 1 (lit< tt)) h (ring integer_ring (pos d ∷ []) (num 0 :* A) (num 0 :* num 1) refl)
 

@@ -1,13 +1,13 @@
 -- Means: sums of values, each times its weight, where the weights are not negative and sum to 1.
-use Rattle.std.proofs.Common.{ℕ, zero, suc, ◌<◌, ◌≡◌, ◌⊎◌, ◌↔◌, inl, inr, List, [], ◌∷◌, refl, sym, ap, ap₂, ◌∙◌, subst}
-use Rattle.rational.specs.Rational.{ℚ, ◌+ℚ◌, ◌*ℚ◌, ◌-ℚ◌, neg_ℚ, zero_ℚ, one_ℚ, ◌≤ℚ◌}
+use Rattle.std.proofs.Common.{ℕ, ◌<◌, ◌≡◌, ◌⊎◌, ◌↔◌, inl, inr, [], ◌∷◌, refl, sym, ap, ◌∙◌, subst}
+use Rattle.rational.specs.Rational.{ℚ, ◌*ℚ◌, ◌-ℚ◌, zero_ℚ, one_ℚ, ◌≤ℚ◌}
 use Rattle.rational.specs.Sum.{sum_to}
 use Rattle.rational.proofs.RationalRing.{rational_ring}
-use Rattle.rational.proofs.Rules.{*ℚ-zero, zero-*ℚ, one-*ℚ}
+use Rattle.rational.proofs.Rules.{zero-*ℚ, one-*ℚ}
 use Rattle.rational.proofs.Ring.{ring, ◌:*◌, ◌:-◌, A, B, C}
 use Rattle.rational.proofs.Field.{nonneg-mul, le-mul_left, le-sub, eq-sub}
 use Rattle.rational.proofs.Inverse.{no_divisors}
-use Rattle.rational.proofs.Sums.{sum_to-same, sum_to-sub, sum_to-scale_right, sum_to-le, sum_to-zeros, each_zero}
+use Rattle.rational.proofs.Sums.{sum_to-same, sum_to-sub, sum_to-scale_right, sum_to-le, each_zero}
 
 -- the mean of one value is that value
 pub mean-constant : (n : ℕ) (x : ℕ → ℚ) (m : ℚ) → sum_to n x ≡ one_ℚ → sum_to n (λ i. x i *ℚ m) ≡ m

@@ -1,7 +1,7 @@
--- the midpoint of two numbers
-use Rattle.std.proofs.Common.{◌≡◌, ◌↔◌, ap, ◌∙◌, pos, List, [], ◌∷◌, refl, arith}
+-- The midpoint of two numbers.
+use Rattle.std.proofs.Common.{◌≡◌, ◌↔◌, ap, ◌∙◌, pos, [], ◌∷◌, refl, arith}
 use Rattle.std.proofs.lemmas.Int.{ints}
-use Rattle.rational.specs.Rational.{ℚ, ◌+ℚ◌, ◌*ℚ◌, zero_ℚ, ◌≤ℚ◌, ◌<ℚ◌}
+use Rattle.rational.specs.Rational.{ℚ, ◌+ℚ◌, ◌*ℚ◌, zero_ℚ, ◌<ℚ◌}
 use Rattle.rational.specs.Midpoint.{half, midpoint}
 use Rattle.rational.proofs.RationalRing.{rational_ring}
 use Rattle.rational.proofs.Ring.{ring, ◌:+◌, ◌:*◌, A, B, C}

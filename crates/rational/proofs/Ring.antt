@@ -1,6 +1,6 @@
 -- A prover of identities in any commutative ring. An identity is written twice as an expression, and both are brought to a sum of monomials in one order by computing.
-use Rattle.std.proofs.Common.{◌≡◌, ℕ, zero, suc, ◌+◌, ◌*◌, ◌-◌, ◌≤◌, arith, sym, ap, ap₂, ◌∙◌, refl, subst, Bool, true, false, eqb, ltb, leb, List, [], ◌∷◌, min, eqb→eq, ◌&&◌, T, cond}
-use Rattle.std.proofs.Common.{add_comm, suc-add, zero-mul, suc-mul, true≢false}
+use Rattle.std.proofs.Common.{◌≡◌, ℕ, zero, suc, ◌+◌, ◌*◌, ◌-◌, ◌≤◌, arith, sym, ap, ap₂, ◌∙◌, refl, subst, Bool, true, false, eqb, ltb, leb, List, [], ◌∷◌, min, eqb→eq, ◌&&◌, T}
+use Rattle.std.proofs.Common.{suc-add, zero-mul, suc-mul, true≢false}
 use Rattle.std.proofs.Common.{sub-add_cancel}
 use native.Mathlib.Nat as N
 use Rattle.rational.proofs.CommutativeRing.{CommutativeRing}
@@ -28,38 +28,46 @@ same_vars [] [] = true
 same_vars (x ∷ xs) (y ∷ ys) = eqb x y && same_vars xs ys
 same_vars _ _ = false
 
+-- the order of the monomials
 abbrev pub before : List ℕ → List ℕ → Bool
 before [] [] = false
 before [] (y ∷ ys) = true
 before (x ∷ xs) [] = false
 before (x ∷ xs) (y ∷ ys) = elim (ltb x y) [ true ↦ true | false ↦ elim (eqb x y) [ true ↦ before xs ys | false ↦ false ] ]
 
+-- one more variable, in order
 abbrev pub put_var : ℕ → List ℕ → List ℕ
 put_var i [] = i ∷ []
 put_var i (j ∷ m) = elim (leb i j) [ true ↦ i ∷ (j ∷ m) | false ↦ j ∷ put_var i m ]
 
+-- the variables of both monomials, in order
 abbrev pub join_vars : List ℕ → List ℕ → List ℕ
 join_vars [] n = n
 join_vars (i ∷ m) n = put_var i (join_vars m n)
 
+-- one more term, joined with the term of the same variables
 abbrev pub put_term : ℕ → ℕ → List ℕ → Poly → Poly
 put_term p n m nil = term p n m nil
 put_term p n m (term p' n' m' r) =
     elim (same_vars m m') [ true ↦ term (p + p') (n + n') m' r | false ↦ elim (before m m') [ true ↦ term p n m (term p' n' m' r) | false ↦ term p' n' m' (put_term p n m r) ] ]
 
+-- a sum
 abbrev pub add_poly : Poly → Poly → Poly
 add_poly nil b = b
 add_poly (term p n m r) b = put_term p n m (add_poly r b)
 
+-- a negation
 abbrev pub neg_poly : Poly → Poly
 neg_poly nil = nil
 neg_poly (term p n m r) = term n p m (neg_poly r)
 
+-- a term times a sum
 abbrev pub scale_poly : ℕ → ℕ → List ℕ → Poly → Poly
 scale_poly p n m nil = nil
 scale_poly p n m (term p' n' m' r) =
     put_term (p * p' + n * n') (p * n' + n * p') (join_vars m m') (scale_poly p n m r)
 
+-- a product
 abbrev pub mul_poly : Poly → Poly → Poly
 mul_poly nil b = nil
 mul_poly (term p n m r) b = add_poly (scale_poly p n m b) (mul_poly r b)
@@ -69,6 +77,7 @@ abbrev pub clean : Poly → Poly
 clean nil = nil
 clean (term p n m r) = elim (eqb p n) [ true ↦ clean r | false ↦ term (p - min p n) (n - min p n) m (clean r) ]
 
+-- the sum of terms of an expression
 abbrev pub poly_of : Ex → Poly
 poly_of (var i) = term 1 0 (i ∷ []) nil
 poly_of (num k) = term k 0 [] nil
@@ -77,6 +86,7 @@ poly_of (a :* b) = mul_poly (poly_of a) (poly_of b)
 poly_of (a :- b) = add_poly (poly_of a) (neg_poly (poly_of b))
 poly_of (:neg a) = neg_poly (poly_of a)
 
+-- the normal form of an expression
 abbrev pub normal : Ex → Poly
 normal e = clean (poly_of e)
 
@@ -105,11 +115,13 @@ module _ (R : CommutativeRing) where
   times-suc zero = sym (R.add-zero 𝟙)
   times-suc (suc k) = refl
 
+  -- the value at an index, and 0 past the end
   abbrev pub at : List carrier → ℕ → carrier
   at [] i = 𝟘
   at (x ∷ xs) zero = x
   at (x ∷ xs) (suc i) = at xs i
 
+  -- the value of an expression, at the values of its variables
   abbrev pub eval : List carrier → Ex → carrier
   eval ρ (var i) = at ρ i
   eval ρ (num k) = times k
@@ -279,10 +291,12 @@ pub data Use : Type 0 where
   ◌times◌is◌ : Ex → Ex → Ex → Use
 
 infix 40 ◌times◌is◌
+-- a, and the right sides of the known equations by their multipliers
 abbrev pub with_right : Ex → List Use → Ex
 with_right a [] = a
 with_right a ((m times l is r) ∷ us) = with_right (a :+ m :* r) us
 
+-- b, and the left sides of the known equations by their multipliers
 abbrev pub with_left : Ex → List Use → Ex
 with_left b [] = b
 with_left b ((m times l is r) ∷ us) = with_left (b :+ m :* l) us
@@ -290,6 +304,7 @@ with_left b ((m times l is r) ∷ us) = with_left (b :+ m :* l) us
 module _ (R : CommutativeRing) where
   open R use {carrier, ◌⊕◌, ◌⊗◌, neg, 𝟘, 𝟙}
 
+  -- each known equation holds
   abbrev pub Known : List carrier → List Use → Type 0
   Known ρ [] = Unit {0}
   Known ρ ((m times l is r) ∷ us) = (eval R ρ l ≡ eval R ρ r) × Known ρ us

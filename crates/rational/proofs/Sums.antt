@@ -1,29 +1,33 @@
--- laws of sums
-use Rattle.std.proofs.Common.{ℕ, pos, suc, add-one, zero, ◌<◌, ◌≤◌, ◌≡◌, ◌+◌, ◌*◌, mul-zero, eqb, Bool, true, false, cond, refl, sym, ap, ap₂, ◌∙◌, subst, List, [], ◌∷◌, arith, ◌⊎◌, inl, inr, tests, eq-or-lt_of_le, le_of_suc-le-suc}
+-- Laws of sums.
+use Rattle.std.proofs.Common.{ℕ, pos, suc, add-one, zero, ◌<◌, ◌≤◌, ◌≡◌, ◌+◌, ◌*◌, mul-zero, eqb, cond, refl, sym, ap, ap₂, ◌∙◌, subst, [], ◌∷◌, arith, inl, inr, tests, eq-or-lt_of_le, le_of_suc-le-suc}
 use Rattle.std.proofs.lemmas.Int.{ints}
 use Rattle.rational.specs.Rational.{ℚ, ◌+ℚ◌, ◌*ℚ◌, ◌-ℚ◌, neg_ℚ, zero_ℚ, one_ℚ, whole, ◌≤ℚ◌, ◌<ℚ◌}
 use Rattle.rational.specs.Sum.{sum_to, change}
 use Rattle.rational.proofs.RationalRing.{rational_ring, *ℚ_comm}
 use Rattle.rational.proofs.Rules.{zero-*ℚ}
 use Rattle.rational.proofs.Parts.{whole-add}
-use Rattle.rational.proofs.Ring.{ring, combine, ◌times◌is◌, num, ◌:+◌, ◌:*◌, ◌:-◌, :neg, A, B, C, D, E, F, G, H}
-use Rattle.rational.proofs.Linear.{linear, Lin, at, lit, ◌⟨+⟩◌, ◌⟨-⟩◌, ◌⟨*⟩◌, ◌⟨≤⟩◌, ◌⟨<⟩◌, ◌⟨=⟩◌}
+use Rattle.rational.proofs.Ring.{ring, combine, ◌times◌is◌, num, ◌:+◌, ◌:*◌, :neg, A, B, C, D}
+use Rattle.rational.proofs.Linear.{linear, at, lit, ◌⟨+⟩◌, ◌⟨-⟩◌, ◌⟨≤⟩◌, ◌⟨<⟩◌, ◌⟨=⟩◌}
 use Rattle.rational.proofs.Field.{le_refl, le_antisymm, lt_of_lt_of_le, le-sub}
 use native.Mathlib.Nat as N
 
+-- equal terms have equal sums
 pub sum_to-same : (n : ℕ) (f g : ℕ → ℚ) → ((i : ℕ) → i < n → f i ≡ g i) → sum_to n f ≡ sum_to n g
 sum_to-same zero f g h = refl
 sum_to-same (suc n) f g h = ap₂ (λ x y. x +ℚ y) (sum_to-same n f g (λ i p. h i (omega arith))) (h n (omega arith))
 
+-- a sum of sums
 pub sum_to-add : (n : ℕ) (f g : ℕ → ℚ) → sum_to n (λ i. f i +ℚ g i) ≡ sum_to n f +ℚ sum_to n g
 sum_to-add zero f g = ring rational_ring [] (num 0) (num 0 :+ num 0) refl
 sum_to-add (suc n) f g =
     ap (λ x. x +ℚ (f n +ℚ g n)) (sum_to-add n f g) ∙ ring rational_ring (sum_to n f ∷ sum_to n g ∷ f n ∷ g n ∷ []) (A :+ B :+ (C :+ D)) (A :+ C :+ (B :+ D)) refl
 
+-- a factor comes out of a sum
 pub sum_to-scale : (n : ℕ) (c : ℚ) (f : ℕ → ℚ) → sum_to n (λ i. c *ℚ f i) ≡ c *ℚ sum_to n f
 sum_to-scale zero c f = ring rational_ring (c ∷ []) (num 0) (A :* num 0) refl
 sum_to-scale (suc n) c f = ap (λ x. x +ℚ (c *ℚ f n)) (sum_to-scale n c f) ∙ ring rational_ring (c ∷ sum_to n f ∷ f n ∷ []) (A :* B :+ A :* C) (A :* (B :+ C)) refl
 
+-- a sum of zeros
 pub sum_to-zero : (n : ℕ) → sum_to n (λ i. zero_ℚ) ≡ zero_ℚ
 sum_to-zero zero = refl
 sum_to-zero (suc n) = ap (λ x. x +ℚ zero_ℚ) (sum_to-zero n) ∙ ring rational_ring [] (num 0 :+ num 0) (num 0) refl
@@ -34,6 +38,7 @@ sum_to-exchange zero m f = sym (sum_to-zero m)
 sum_to-exchange (suc n) m f =
     ap (λ x. x +ℚ sum_to m (f n)) (sum_to-exchange n m f) ∙ sym (sum_to-add m (λ j. sum_to n (λ i. f i j)) (f n))
 
+-- terms that are at most others have a sum that is at most theirs
 pub sum_to-le : (n : ℕ) (f g : ℕ → ℚ) → ((i : ℕ) → i < n → f i ≤ℚ g i) → sum_to n f ≤ℚ sum_to n g
 sum_to-le zero f g h = le_refl zero_ℚ
 sum_to-le (suc n) f g h =
