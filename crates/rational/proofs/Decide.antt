@@ -28,16 +28,16 @@ pub lt_or_not : (a b : ℚ) → (a <ℚ b) ⊎ (¬ (a <ℚ b))
 lt_or_not a b = elim (le_or_lt b a) [ inl l ↦ inr (not_lt_of_le b a l) | inr g ↦ inl g ]
 
 -- two rationals are equal in one way at most
-pub IsSet-ℚ : IsSet ℚ
-IsSet-ℚ = hedberg (λ a b. elim (eq_or_ne a b) [ inl e ↦ yes e | inr n ↦ no n ])
+pub ℚ_set : IsSet ℚ
+ℚ_set = hedberg (λ a b. elim (eq_or_ne a b) [ inl e ↦ yes e | inr n ↦ no n ])
 
 -- at most is a proposition, as a ghost field wants it
-pub IsProp-le : (a b : ℚ) → IsProp (a ≤ℚ b)
-IsProp-le a b = hlevel T_prop
+pub le_prop : (a b : ℚ) → IsProp (a ≤ℚ b)
+le_prop a b = hlevel T_prop
 
 -- below is a proposition
-pub IsProp-lt : (a b : ℚ) → IsProp (a <ℚ b)
-IsProp-lt a b = hlevel T_prop
+pub lt_prop : (a b : ℚ) → IsProp (a <ℚ b)
+lt_prop a b = hlevel T_prop
 
 -- ---- tests that compute
 T_true : (b : Bool) → T b → b ≡ true

@@ -191,7 +191,7 @@ pos-mul a b h g =
 -- a factor that is not negative keeps the order
 pub le-mul_left : (c a b : ℚ) → zero_ℚ ≤ℚ c → a ≤ℚ b → (c *ℚ a) ≤ℚ (c *ℚ b)
 le-mul_left c a b h g =
-    linear ((c *ℚ a) ∷ (c *ℚ b) ∷ (c *ℚ (b -ℚ a)) ∷ []) ((lit (pos 0) ⟨≤⟩ at 2) ∷ (at 2 ⟨=⟩ (at 1 ⟨-⟩ at 0)) ∷ []) (at 0 ⟨≤⟩ at 1) (λ one z p h. omega (arith, ints)) (nonneg-mul c (b -ℚ a) h (linear (a ∷ b ∷ []) ((at 0 ⟨≤⟩ at 1) ∷ []) (lit (pos 0) ⟨≤⟩ (at 1 ⟨-⟩ at 0)) (λ one z p h. omega (arith, ints)) (g, tt)), (ring rational_ring (a ∷ b ∷ c ∷ []) (C :* (B :- A)) (C :* B :- C :* A) refl, tt))
+    (le-sub (c *ℚ a) (c *ℚ b)).1 (subst (λ x. zero_ℚ ≤ℚ x) (ring rational_ring (a ∷ b ∷ c ∷ []) (C :* (B :- A)) (C :* B :- C :* A) refl) (nonneg-mul c (b -ℚ a) h ((le-sub a b).0 g)))
 
 -- a factor on the right that is not negative keeps the order
 pub le-mul_right : (c a b : ℚ) → zero_ℚ ≤ℚ c → a ≤ℚ b → (a *ℚ c) ≤ℚ (b *ℚ c)
@@ -238,7 +238,8 @@ pub *ℚ-inv : (a : ℚ) → a ≢ zero_ℚ → a *ℚ inv_ℚ a ≡ one_ℚ
   where
     by : (n : ℤ) (m : ℤ) (k : ℕ) → a.num ≡ n → StandsFor (inv_ℚ a) m (suc k) → (n *ℤ m) ≡ pos (a.den * suc k) → a *ℚ inv_ℚ a ≡ one_ℚ
     by n m k e p c =
-        equal_by (a *ℚ inv_ℚ a) one_ℚ (a.num *ℤ m) (pos 1) (a.den * suc k) 1 (StandsFor-mul a (inv_ℚ a) a.num m a.den (suc k) (StandsFor-self a) p) (StandsFor-frac (pos 1) 1 (lit< tt)) (ap (λ x. (x *ℤ m) *ℤ pos 1) e ∙ ap (λ x. x *ℤ pos 1) c ∙ ring integer_ring (pos (a.den * suc k) ∷ []) (A :* num 1) (num 1 :* A) refl)
+        equal_by (a *ℚ inv_ℚ a) one_ℚ (a.num *ℤ m) (pos 1) (a.den * suc k) 1 (StandsFor-mul a (inv_ℚ a) a.num m a.den (suc k) (StandsFor-self a) p) (StandsFor-frac (pos 1) 1 (lit< tt))
+        (ap (λ x. (x *ℤ m) *ℤ pos 1) e ∙ ap (λ x. x *ℤ pos 1) c ∙ ring integer_ring (pos (a.den * suc k) ∷ []) (A :* num 1) (num 1 :* A) refl)
 
     go : (n : ℤ) → a.num ≡ n → a *ℚ inv_ℚ a ≡ one_ℚ
     go (pos zero) e = absurd (h (equal_by a zero_ℚ a.num (pos 0) a.den 1 (StandsFor-self a) (StandsFor-frac (pos 0) 1 (lit< tt)) (ap (λ x. x *ℤ pos 1) e ∙ ring integer_ring (pos a.den ∷ []) (num 0 :* num 1) (num 0 :* A) refl)))

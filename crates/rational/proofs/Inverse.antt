@@ -1,11 +1,13 @@
 -- Inverses, and products that are 0.
-use Rattle.std.proofs.Common.{◌≡◌, ◌≢◌, ◌⊎◌, inl, inr, pos, [], ◌∷◌, refl, sym, ◌∙◌, subst, arith}
+use Rattle.std.proofs.Common.{ℕ, ◌<◌, ◌*◌, ◌*ℤ◌, neg_ℤ, lit<, mul-pos, ◌≡◌, ◌≢◌, ◌⊎◌, inl, inr, pos, [], ◌∷◌, refl, sym, ◌∙◌, subst, arith}
 use Rattle.std.proofs.lemmas.Int.{ints}
 use Rattle.rational.specs.Gcd.{gcd}
 use Rattle.rational.specs.Rational.{ℚ, frac, is_lowest, ◌*ℚ◌, inv_ℚ, zero_ℚ, one_ℚ, ◌≤ℚ◌, ◌<ℚ◌}
 use Rattle.rational.proofs.RationalRing.{rational_ring}
+use Rattle.rational.proofs.IntegerRing.{integer_ring}
+use Rattle.rational.proofs.Parts.{frac-eq, frac-mul}
 use Rattle.rational.proofs.Rules.{*ℚ-zero}
-use Rattle.rational.proofs.Ring.{combine, ◌times◌is◌, num, ◌:*◌, ◌:-◌, :neg, A, B, C, D}
+use Rattle.rational.proofs.Ring.{ring, combine, ◌times◌is◌, num, ◌:*◌, ◌:-◌, :neg, A, B, C, D}
 use Rattle.rational.proofs.Linear.{linear, lit, ◌⟨<⟩◌}
 use Rattle.rational.proofs.Field.{*ℚ-inv, ne_of_lt, lt_of_not_le, le_of_lt, le-mul_left, not_lt_of_le}
 use Rattle.rational.proofs.Decide.{is_zero}
@@ -58,3 +60,14 @@ no_divisors a b e = elim (is_zero a) [
   | inl z ↦ inl z
   | inr n ↦ inr (*ℚ_cancel a b zero_ℚ n (e ∙ sym (*ℚ-zero a)))
 ]
+
+-- ---- inverses of fractions
+-- the inverse of a positive fraction
+pub frac-inv : (n d : ℕ) → 0 < n → 0 < d → inv_ℚ (frac (pos n) d) ≡ frac (pos d) n
+frac-inv n d p q =
+    sym (inv_unique (frac (pos n) d) (frac (pos d) n) (frac-mul (pos n) (pos d) d n q p ∙ (frac-eq (pos n *ℤ pos d) (pos 1) (d * n) 1 (mul-pos q p) (lit< tt)).1 (ring integer_ring (pos n ∷ pos d ∷ []) (A :* B :* num 1) (num 1 :* (B :* A)) refl)))
+
+-- the inverse of a negative fraction
+pub frac-inv_neg : (n d : ℕ) → 0 < n → 0 < d → inv_ℚ (frac (neg_ℤ (pos n)) d) ≡ frac (neg_ℤ (pos d)) n
+frac-inv_neg n d p q =
+    sym (inv_unique (frac (neg_ℤ (pos n)) d) (frac (neg_ℤ (pos d)) n) (frac-mul (neg_ℤ (pos n)) (neg_ℤ (pos d)) d n q p ∙ (frac-eq (neg_ℤ (pos n) *ℤ neg_ℤ (pos d)) (pos 1) (d * n) 1 (mul-pos q p) (lit< tt)).1 (ring integer_ring (pos n ∷ pos d ∷ []) (:neg A :* :neg B :* num 1) (num 1 :* (B :* A)) refl)))

@@ -115,7 +115,8 @@ val-is qs (a ⟨-⟩ b) = add-same _ _ _ _ _ (val-is qs a) (StandsFor-neg _ _ _ 
 val-is qs (minus a) = StandsFor-neg _ _ _ (val-is qs a)
 val-is qs (k ⟨*⟩ a) =
     let v = val_ℤ (pos (product qs)) (scaled qs) a in
-    StandsFor-also (whole k *ℚ val qs a) (k *ℤ v) (k *ℤ v) (1 * product qs) (product qs) (StandsFor-mul (whole k) (val qs a) k v 1 (product qs) (whole-is k) (val-is qs a)) (product-pos qs) (ring integer_ring (k ∷ v ∷ pos (product qs) ∷ []) (A :* B :* C) (A :* B :* (num 1 :* C)) refl)
+    StandsFor-also (whole k *ℚ val qs a) (k *ℤ v) (k *ℤ v) (1 * product qs) (product qs) (StandsFor-mul (whole k) (val qs a) k v 1 (product qs) (whole-is k) (val-is qs a)) (product-pos qs)
+    (ring integer_ring (k ∷ v ∷ pos (product qs) ∷ []) (A :* B :* C) (A :* B :* (num 1 :* C)) refl)
 
 down_claim : (qs : List ℚ) (c : Claim) → holds qs c → holds_ℤ (pos (product qs)) (scaled qs) c
 down_claim qs (a ⟨≤⟩ b) h = by_le _ _ _ _ _ (val-is qs a) (val-is qs b) h

@@ -46,5 +46,5 @@ half_pos =
     linear (half ∷ []) (((at 0 ⟨+⟩ at 0) ⟨=⟩ lit (pos 1)) ∷ []) (lit (pos 0) ⟨<⟩ at 0) (λ one z p h. omega (arith, ints)) (two_halves, tt)
 
 -- the half of a positive number is positive
-pub half-pos : (a : ℚ) → zero_ℚ <ℚ a → zero_ℚ <ℚ (half *ℚ a)
-half-pos a h = pos-mul half a half_pos h
+pub pos-half : (a : ℚ) → zero_ℚ <ℚ a → zero_ℚ <ℚ (half *ℚ a)
+pos-half a h = pos-mul half a half_pos h

@@ -3,7 +3,7 @@ use Rattle.std.proofs.Common.{ℕ, zero, suc, ◌<◌, ◌*◌, ◌≡◌, ◌�
 use Rattle.rational.specs.Gcd.{gcd}
 use Rattle.rational.specs.Rational.{ℚ, frac, den_pos, lowest, whole, ◌+ℚ◌, ◌*ℚ◌, neg_ℚ, zero_ℚ, ◌≤ℚ◌, ◌<ℚ◌}
 use Rattle.rational.proofs.IntegerRing.{integer_ring}
-use Rattle.rational.proofs.Fractions.{StandsFor, StandsFor-self, StandsFor-also, StandsFor-frac, StandsFor-add, StandsFor-mul, StandsFor-neg, equal_by, equal_by_cross, frac-lowest}
+use Rattle.rational.proofs.Fractions.{equal_by_parts, StandsFor, StandsFor-self, StandsFor-also, StandsFor-frac, StandsFor-add, StandsFor-mul, StandsFor-neg, equal_by, equal_by_cross, frac-lowest}
 use Rattle.rational.proofs.Order.{le_by, by_le, lt_by, by_lt, eq_by, by_eq}
 use Rattle.rational.proofs.Ring.{ring, num, ◌:+◌, ◌:*◌, A, B, C}
 use Rattle.rational.proofs.Linear.{zero-over, whole-is}
@@ -21,10 +21,15 @@ whole-num n = (frac-lowest n 1 (lit< tt) (gcd-one (nat_abs n))).0
 pub whole-den : (n : ℤ) → (whole n).den ≡ 1
 whole-den n = (frac-lowest n 1 (lit< tt) (gcd-one (nat_abs n))).1
 
+-- a number with the denominator 1 is whole
+pub whole-own_num : (a : ℚ) → a.den ≡ 1 → whole a.num ≡ a
+whole-own_num a e = equal_by_parts (whole a.num) a (whole-num a.num) (whole-den a.num ∙ sym e)
+
 -- a sum of whole numbers
 pub whole-add : (m n : ℤ) → whole (m +ℤ n) ≡ whole m +ℚ whole n
 whole-add m n =
-    equal_by (whole (m +ℤ n)) (whole m +ℚ whole n) (m +ℤ n) ((m *ℤ pos 1) +ℤ (n *ℤ pos 1)) 1 (1 * 1) (whole-is (m +ℤ n)) (StandsFor-add (whole m) (whole n) m n 1 1 (whole-is m) (whole-is n)) (ring integer_ring (m ∷ n ∷ []) ((A :+ B) :* (num 1 :* num 1)) ((A :* num 1 :+ B :* num 1) :* num 1) refl)
+    equal_by (whole (m +ℤ n)) (whole m +ℚ whole n) (m +ℤ n) ((m *ℤ pos 1) +ℤ (n *ℤ pos 1)) 1 (1 * 1) (whole-is (m +ℤ n)) (StandsFor-add (whole m) (whole n) m n 1 1 (whole-is m) (whole-is n))
+    (ring integer_ring (m ∷ n ∷ []) ((A :+ B) :* (num 1 :* num 1)) ((A :* num 1 :+ B :* num 1) :* num 1) refl)
 
 -- a product of whole numbers
 pub whole-mul : (m n : ℤ) → whole (m *ℤ n) ≡ whole m *ℚ whole n

@@ -32,7 +32,8 @@ parts a b c = a.num ∷ pos a.den ∷ b.num ∷ pos b.den ∷ c.num ∷ pos c.de
 pub +ℚ_assoc : (a b c : ℚ) → (a +ℚ b) +ℚ c ≡ a +ℚ (b +ℚ c)
 unfolding parts
 +ℚ_assoc a b c =
-    same (plus (plus (StandsFor-self a) (StandsFor-self b)) (StandsFor-self c)) (plus (StandsFor-self a) (plus (StandsFor-self b) (StandsFor-self c))) (ring integer_ring (parts a b c) (((A :* D :+ C :* B) :* F :+ E :* (B :* D)) :* (B :* (D :* F))) ((A :* (D :* F) :+ (C :* F :+ E :* D) :* B) :* (B :* D :* F)) refl)
+    same (plus (plus (StandsFor-self a) (StandsFor-self b)) (StandsFor-self c)) (plus (StandsFor-self a) (plus (StandsFor-self b) (StandsFor-self c)))
+    (ring integer_ring (parts a b c) (((A :* D :+ C :* B) :* F :+ E :* (B :* D)) :* (B :* (D :* F))) ((A :* (D :* F) :+ (C :* F :+ E :* D) :* B) :* (B :* D :* F)) refl)
 
 -- summands change places
 pub +ℚ_comm : (a b : ℚ) → a +ℚ b ≡ b +ℚ a
@@ -71,7 +72,8 @@ pub *ℚ-one : (a : ℚ) → a *ℚ one_ℚ ≡ a
 pub *ℚ-add : (a b c : ℚ) → a *ℚ (b +ℚ c) ≡ (a *ℚ b) +ℚ (a *ℚ c)
 unfolding parts
 *ℚ-add a b c =
-    same (times (StandsFor-self a) (plus (StandsFor-self b) (StandsFor-self c))) (plus (times (StandsFor-self a) (StandsFor-self b)) (times (StandsFor-self a) (StandsFor-self c))) (ring integer_ring (parts a b c) (A :* (C :* F :+ E :* D) :* (B :* D :* (B :* F))) ((A :* C :* (B :* F) :+ A :* E :* (B :* D)) :* (B :* (D :* F))) refl)
+    same (times (StandsFor-self a) (plus (StandsFor-self b) (StandsFor-self c))) (plus (times (StandsFor-self a) (StandsFor-self b)) (times (StandsFor-self a) (StandsFor-self c)))
+    (ring integer_ring (parts a b c) (A :* (C :* F :+ E :* D) :* (B :* D :* (B :* F))) ((A :* C :* (B :* F) :+ A :* E :* (B :* D)) :* (B :* (D :* F))) refl)
 
 -- the ring of rationals, for `ring` and `combine`
 abbrev pub rational_ring : CommutativeRing

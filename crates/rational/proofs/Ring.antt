@@ -171,10 +171,18 @@ module _ (R : CommutativeRing) where
   coef-neg p n =
       R.add_comm (times n) (neg (times p)) ∙ ap (λ x. neg (times p) ⊕ x) (sym (L.neg-neg R (times n))) ∙ sym (L.neg-add R (times p) (neg (times n)))
 
+  -- a coefficient times copies of 1
+  coef-scale : (k p n : ℕ) → coef (k * p) (k * n) ≡ times k ⊗ coef p n
+  unfolding coef
+  coef-scale k p n =
+      ap₂ (λ x y. x ⊕ neg y) (times-mul k p) (times-mul k n) ∙ ap (λ x. times k ⊗ times p ⊕ x) (sym (L.mul-neg R (times k) (times n))) ∙ sym (R.mul-add (times k) (times p) (neg (times n)))
+
   coef-mul : (p n p' n' : ℕ) → coef (p * p' + n * n') (p * n' + n * p') ≡ coef p n ⊗ coef p' n'
   unfolding coef
   coef-mul p n p' n' =
-      coef-add (p * p') (p * n') (n * n') (n * p') ∙ ap₂ (λ x y. x ⊕ y) (ap₂ (λ x y. x ⊕ neg y) (times-mul p p') (times-mul p n') ∙ ap (λ x. times p ⊗ times p' ⊕ x) (sym (L.mul-neg R (times p) (times n'))) ∙ sym (R.mul-add (times p) (times p') (neg (times n')))) (ap₂ (λ x y. x ⊕ neg y) (times-mul n n') (times-mul n p') ∙ R.add_comm (times n ⊗ times n') (neg (times n ⊗ times p')) ∙ ap₂ (λ x y. x ⊕ y) (sym (L.neg-mul R (times n) (times p'))) (sym (L.neg-neg R (times n ⊗ times n')) ∙ ap neg (sym (L.mul-neg R (times n) (times n'))) ∙ sym (L.neg-mul R (times n) (neg (times n')))) ∙ sym (R.mul-add (neg (times n)) (times p') (neg (times n')))) ∙ sym (L.add-mul R (times p) (neg (times n)) (times p' ⊕ neg (times n')))
+      coef-add (p * p') (p * n') (n * n') (n * p')
+      ∙ ap₂ (λ x y. x ⊕ y) (coef-scale p p' n') (coef-neg (n * p') (n * n') ∙ ap neg (coef-scale n p' n') ∙ sym (L.neg-mul R (times n) (coef p' n')))
+      ∙ sym (L.add-mul R (times p) (neg (times n)) (coef p' n'))
 
   coef-less : (p n k : ℕ) → k ≤ p → k ≤ n → coef (p - k) (n - k) ≡ coef p n
   coef-less p n k h g =
@@ -203,7 +211,8 @@ module _ (R : CommutativeRing) where
       where
         go : (t s : Bool) → (t ≡ true → m ≡ m') → total ρ (put_term p n m r) ≡ coef p n ⊗ prod ρ m ⊕ total ρ r → total ρ (elim t [ true ↦ term (p + p') (n + n') m' r | false ↦ elim s [ true ↦ term p n m (term p' n' m' r) | false ↦ term p' n' m' (put_term p n m r) ] ]) ≡ coef p n ⊗ prod ρ m ⊕ (coef p' n' ⊗ prod ρ m' ⊕ total ρ r)
         go true s e ih =
-            ap (λ x. x ⊗ prod ρ m' ⊕ total ρ r) (coef-add p n p' n') ∙ ap (λ x. x ⊕ total ρ r) (L.add-mul R (coef p n) (coef p' n') (prod ρ m')) ∙ R.add_assoc (coef p n ⊗ prod ρ m') (coef p' n' ⊗ prod ρ m') (total ρ r) ∙ ap (λ x. coef p n ⊗ prod ρ x ⊕ (coef p' n' ⊗ prod ρ m' ⊕ total ρ r)) (sym (e refl))
+            ap (λ x. x ⊗ prod ρ m' ⊕ total ρ r) (coef-add p n p' n') ∙ ap (λ x. x ⊕ total ρ r) (L.add-mul R (coef p n) (coef p' n') (prod ρ m'))
+            ∙ R.add_assoc (coef p n ⊗ prod ρ m') (coef p' n' ⊗ prod ρ m') (total ρ r) ∙ ap (λ x. coef p n ⊗ prod ρ x ⊕ (coef p' n' ⊗ prod ρ m' ⊕ total ρ r)) (sym (e refl))
         go false true e ih = refl
         go false false e ih =
             ap (λ x. coef p' n' ⊗ prod ρ m' ⊕ x) ih ∙ L.add_left_comm R (coef p' n' ⊗ prod ρ m') (coef p n ⊗ prod ρ m) (total ρ r)
@@ -224,7 +233,9 @@ module _ (R : CommutativeRing) where
     unfolding total
     total-scale p n m nil = sym (L.mul-zero R (coef p n ⊗ prod ρ m))
     total-scale p n m (term p' n' m' r) =
-        total-put (p * p' + n * n') (p * n' + n * p') (join_vars m m') (scale_poly p n m r) ∙ ap₂ (λ x y. x ⊕ y) (ap₂ (λ x y. x ⊗ y) (coef-mul p n p' n') (prod-join m m') ∙ mix (coef p n) (coef p' n') (prod ρ m) (prod ρ m')) (total-scale p n m r) ∙ sym (R.mul-add (coef p n ⊗ prod ρ m) (coef p' n' ⊗ prod ρ m') (total ρ r))
+        total-put (p * p' + n * n') (p * n' + n * p') (join_vars m m') (scale_poly p n m r)
+        ∙ ap₂ (λ x y. x ⊕ y) (ap₂ (λ x y. x ⊗ y) (coef-mul p n p' n') (prod-join m m') ∙ mix (coef p n) (coef p' n') (prod ρ m) (prod ρ m')) (total-scale p n m r)
+        ∙ sym (R.mul-add (coef p n ⊗ prod ρ m) (coef p' n' ⊗ prod ρ m') (total ρ r))
       where
         mix : (a b c d : carrier) → (a ⊗ b) ⊗ (c ⊗ d) ≡ (a ⊗ c) ⊗ (b ⊗ d)
         mix a b c d = R.mul_assoc a b (c ⊗ d) ∙ ap (λ x. a ⊗ x) (L.mul_left_comm R b c d) ∙ sym (R.mul_assoc a c (b ⊗ d))

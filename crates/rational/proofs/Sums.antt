@@ -128,7 +128,8 @@ sum_to-nonneg n f h = subst (λ x. x ≤ℚ sum_to n f) (sum_to-zero n) (sum_to-
 -- further terms that are not negative make no sum less
 pub sum_to-longer : (m n : ℕ) (f : ℕ → ℚ) → ((i : ℕ) → m ≤ i → i < m + n → zero_ℚ ≤ℚ f i) → sum_to m f ≤ℚ sum_to (m + n) f
 sum_to-longer m n f h =
-    subst (λ x. sum_to m f ≤ℚ x) (sym (sum_to-append m n f)) (linear (sum_to m f ∷ sum_to n (λ i. f (m + i)) ∷ []) ((lit (pos 0) ⟨≤⟩ at 1) ∷ []) (at 0 ⟨≤⟩ (at 0 ⟨+⟩ at 1)) (λ one z p h. omega (arith, ints)) (sum_to-nonneg n (λ i. f (m + i)) (λ i k. h (m + i) (omega arith) (omega arith)), tt))
+    subst (λ x. sum_to m f ≤ℚ x) (sym (sum_to-append m n f)) (linear (sum_to m f ∷ sum_to n (λ i. f (m + i)) ∷ []) ((lit (pos 0) ⟨≤⟩ at 1) ∷ []) (at 0 ⟨≤⟩ (at 0 ⟨+⟩ at 1)) (λ one z p h. omega (arith, ints))
+    (sum_to-nonneg n (λ i. f (m + i)) (λ i k. h (m + i) (omega arith) (omega arith)), tt))
 
 -- no term of a sum of terms that are not negative is greater than the sum
 pub term_le_sum : (n c : ℕ) (f : ℕ → ℚ) → ((i : ℕ) → i < n → zero_ℚ ≤ℚ f i) → c < n → f c ≤ℚ sum_to n f
@@ -150,7 +151,8 @@ each_zero n f h e i k = le_antisymm (f i) zero_ℚ (subst (λ x. f i ≤ℚ x) e
 -- a sum is less than another where no term is greater and one is less
 pub sum_to-lt : (n c : ℕ) (f g : ℕ → ℚ) → ((i : ℕ) → i < n → f i ≤ℚ g i) → c < n → f c <ℚ g c → sum_to n f <ℚ sum_to n g
 sum_to-lt n c f g h k l =
-    linear (sum_to n f ∷ sum_to n g ∷ f c ∷ g c ∷ sum_to n (λ i. g i -ℚ f i) ∷ []) ((at 2 ⟨<⟩ at 3) ∷ ((at 3 ⟨-⟩ at 2) ⟨≤⟩ at 4) ∷ (at 4 ⟨=⟩ (at 1 ⟨-⟩ at 0)) ∷ []) (at 0 ⟨<⟩ at 1) (λ one z p h. omega (arith, ints)) (l, (term_le_sum n c (λ i. g i -ℚ f i) (λ i p. (le-sub (f i) (g i)).0 (h i p)) k, (sum_to-sub n g f, tt)))
+    linear (sum_to n f ∷ sum_to n g ∷ f c ∷ g c ∷ sum_to n (λ i. g i -ℚ f i) ∷ []) ((at 2 ⟨<⟩ at 3) ∷ ((at 3 ⟨-⟩ at 2) ⟨≤⟩ at 4) ∷ (at 4 ⟨=⟩ (at 1 ⟨-⟩ at 0)) ∷ []) (at 0 ⟨<⟩ at 1) (λ one z p h. omega (arith, ints))
+    (l, (term_le_sum n c (λ i. g i -ℚ f i) (λ i p. (le-sub (f i) (g i)).0 (h i p)) k, (sum_to-sub n g f, tt)))
 
 -- terms that are not negative, one of them positive, have a positive sum
 pub sum_to-pos : (n c : ℕ) (f : ℕ → ℚ) → ((i : ℕ) → i < n → zero_ℚ ≤ℚ f i) → c < n → zero_ℚ <ℚ f c → zero_ℚ <ℚ sum_to n f

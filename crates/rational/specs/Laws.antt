@@ -6,7 +6,7 @@ use Rattle.rational.specs.Midpoint.{midpoint}
 use Rattle.rational.specs.Sum.{sum_to}
 use Rattle.rational.specs.Tests.{le_test, lt_test, eq_test}
 
--- Fractions with positive denominators stand for the rationals: each rational is one in lowest terms, and fractions are compared, added, multiplied and negated as in school.
+-- Fractions with positive denominators stand for the rationals: each rational is one in lowest terms, and fractions are compared, added, multiplied, negated and turned over as in school.
 pub record FractionsStandForNumbers : Type 0 where
   pub own_parts : (a : ℚ) → frac a.num a.den ≡ a
   pub lowest : (a : ℚ) → (0 < a.den) × (gcd (nat_abs a.num) a.den ≡ 1)
@@ -16,6 +16,8 @@ pub record FractionsStandForNumbers : Type 0 where
   pub sum : (m n : ℤ) (d e : ℕ) → 0 < d → 0 < e → frac m d +ℚ frac n e ≡ frac ((m *ℤ pos e) +ℤ (n *ℤ pos d)) (d * e)
   pub product : (m n : ℤ) (d e : ℕ) → 0 < d → 0 < e → frac m d *ℚ frac n e ≡ frac (m *ℤ n) (d * e)
   pub negation : (n : ℤ) (d : ℕ) → 0 < d → neg_ℚ (frac n d) ≡ frac (neg_ℤ n) d
+  pub inverse : (n d : ℕ) → 0 < n → 0 < d → inv_ℚ (frac (pos n) d) ≡ frac (pos d) n
+  pub inverse_of_negative : (n d : ℕ) → 0 < n → 0 < d → inv_ℚ (frac (neg_ℤ (pos n)) d) ≡ frac (neg_ℤ (pos d)) n
 
 -- The eight laws of a commutative ring.
 pub record IsCommutativeRing : Type 0 where

@@ -34,8 +34,8 @@
 
 ghost use Rattle.rational.specs.Laws.{FractionsStandForNumbers, IsCommutativeRing, IsOrderedField, OrderIsDecidable, MidpointsLieBetween, SumsAddUp, MeansStayBelow};
 
-/// Fractions are compared, added, multiplied and negated as in school, and each number is one
-/// fraction in lowest terms.
+/// Fractions are compared, added, multiplied, negated and turned over as in school, and each number
+/// is one fraction in lowest terms.
 pub fn fractions_stand_for_numbers()
     ensures { FractionsStandForNumbers }
 {}

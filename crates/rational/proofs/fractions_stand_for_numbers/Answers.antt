@@ -1,5 +1,6 @@
 use Rattle.rational.specs.Rational.{den_pos, lowest}
 use Rattle.rational.proofs.Fractions.{frac_self}
+use Rattle.rational.proofs.Inverse.{frac-inv, frac-inv_neg}
 use Rattle.rational.proofs.Parts.{frac-eq, frac-le, frac-lt, frac-add, frac-mul, frac-neg}
 use Rattle.rational.proofs.fractions_stand_for_numbers.Goals as goal
 
@@ -13,4 +14,6 @@ returns c = record {
   sum = frac-add;
   product = frac-mul;
   negation = frac-neg;
+  inverse = frac-inv;
+  inverse_of_negative = frac-inv_neg;
 }
