@@ -5,9 +5,11 @@ use Rattle.std.specs.Int.{IsGcd, ◌∣◌}
 use Rattle.std.proofs.lemmas.Nat.Gcd.{IsGcd-from_zero, IsGcd-from_mod}
 use Rattle.rational.specs.Gcd.{gcd, gcd_steps}
 
+-- a remainder is below the divisor
 mod_small : (k a b : ℕ) → b ≤ suc k → eqb b 0 ≡ false → a % b ≤ k
 mod_small k a b h e = grind (arith, tests)
 
+-- Euclid's steps find the greatest common divisor
 gcd_steps_is : (k a b : ℕ) → b ≤ k → IsGcd a b (gcd_steps k a b)
 gcd_steps_is zero a b h = IsGcd-from_zero a b (omega arith)
 gcd_steps_is (suc k) a b h = go (eqb b 0) refl (gcd_steps_is k b (a % b))

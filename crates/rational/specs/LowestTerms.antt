@@ -5,6 +5,7 @@ use Rattle.std.specs.Int.{◌∣◌}
 use Rattle.rational.specs.Gcd.{gcd, div_ℤ}
 use Rattle.rational.specs.GcdLaws.{gcd-is, gcd-parts}
 
+-- the size of a negated natural
 abs_neg_pos : (n : ℕ) → nat_abs (neg_ℤ (pos n)) ≡ n
 abs_neg_pos zero = refl
 abs_neg_pos (suc n) = refl
@@ -14,6 +15,7 @@ pub nat_abs-div_ℤ : (n : ℤ) (g : ℕ) → nat_abs (div_ℤ n g) ≡ nat_abs 
 nat_abs-div_ℤ (pos n) g = refl
 nat_abs-div_ℤ (negsuc n) g = abs_neg_pos (suc n / g)
 
+-- a negated natural times another
 neg_pos-mul : (a b : ℕ) → neg_ℤ (pos a) *ℤ pos b ≡ neg_ℤ (pos (a * b))
 neg_pos-mul zero b = ap (λ x. pos x) (zero-mul b) ∙ ap (λ x. neg_ℤ (pos x)) (sym (zero-mul b))
 neg_pos-mul (suc a) b = refl
@@ -23,6 +25,7 @@ pub div_ℤ-mul : (n : ℤ) (g : ℕ) → g ∣ nat_abs n → div_ℤ n g *ℤ p
 div_ℤ-mul (pos n) g p = ap pos (div-mul_cancel g p)
 div_ℤ-mul (negsuc n) g p = neg_pos-mul (suc n / g) g ∙ ap (λ x. neg_ℤ (pos x)) (div-mul_cancel g p)
 
+-- a factor of a positive number is positive
 pos_of_factor : (x g n : ℕ) → x * g ≡ suc n → 0 < x
 pos_of_factor x g n e = grind arith
 

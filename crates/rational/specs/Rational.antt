@@ -30,11 +30,12 @@ frac n zero = record { num = pos 0; den = 1; ok = IsLowest-zero }
 frac n (suc d) =
     record { num = div_ℤ n (gcd (nat_abs n) (suc d)); den = suc d / gcd (nat_abs n) (suc d); ok = IsLowest-frac n d }
 
+-- what the test of lowest terms tells
 lowest-out : (n : ℤ) (d : ℕ) → T (is_lowest n d) → (0 < d) × (gcd (nat_abs n) d ≡ 1)
 unfolding is_lowest
 lowest-out n d t = grind (arith, tests)
 
--- what the test asks for
+-- a pair with these two facts passes the test
 pub lowest-in : (n : ℤ) (d : ℕ) → 0 < d → gcd (nat_abs n) d ≡ 1 → T (is_lowest n d)
 unfolding is_lowest
 lowest-in n d h e = search (rules, arith)
