@@ -61,12 +61,12 @@ cancelled a b p ne e =
     combine rational_ring (a ∷ b ∷ p ∷ inv_ℚ p ∷ []) ((D times A :* C is B :* C) ∷ (B :- A times C :* D is num 1) ∷ []) A B refl (e, (*ℚ-inv p ne, tt))
 
 -- ---- inequalities
--- what is twice m lies below the greater of two numbers that sum to it
+-- m lies below the greater of two numbers whose sum is twice m
 middle_below : (a b m : ℚ) → a <ℚ b → whole (pos 2) *ℚ m ≡ a +ℚ b → m <ℚ b
 middle_below a b m h e =
     linear (a ∷ b ∷ m ∷ []) ((at 0 ⟨<⟩ at 1) ∷ ((pos 2 ⟨*⟩ at 2) ⟨=⟩ (at 0 ⟨+⟩ at 1)) ∷ []) (at 2 ⟨<⟩ at 1) (λ one z p h. omega (arith, ints)) (h, (e, tt))
 
--- a number and its double do not lie on two sides of 1 the wrong way round
+-- no number of at least 1 has a double below 1
 not_both : (a : ℚ) → one_ℚ ≤ℚ a → (a +ℚ a) <ℚ one_ℚ → ⊥
 not_both a h g =
     linear_contradiction (a ∷ []) ((lit (pos 1) ⟨≤⟩ at 0) ∷ ((at 0 ⟨+⟩ at 0) ⟨<⟩ lit (pos 1)) ∷ []) (λ one z p h. omega (arith, ints)) (h, (g, tt))

@@ -99,8 +99,8 @@ scaled-is (q ∷ qs) (suc i) =
     StandsFor-also (pick qs i) (scaled qs i) (scaled qs i *ℤ pos q.den) (product qs) (q.den * product qs) (scaled-is qs i) (mul-pos (den_pos q) (product-pos qs)) (ring integer_ring (scaled qs i ∷ pos q.den ∷ pos (product qs) ∷ []) (A :* (B :* C)) (A :* B :* C) refl)
 
 -- a whole number stands for itself over 1
-pub whole-is : (k : ℤ) → StandsFor (whole k) k 1
-whole-is k = StandsFor-frac k 1 (lit< tt)
+pub StandsFor-whole : (k : ℤ) → StandsFor (whole k) k 1
+StandsFor-whole k = StandsFor-frac k 1 (lit< tt)
 
 add-same : (a b : ℚ) (n m : ℤ) (d : ℕ) → StandsFor a n d → StandsFor b m d → StandsFor (a +ℚ b) (n +ℤ m) d
 add-same a b n m d p q =
@@ -109,13 +109,13 @@ add-same a b n m d p q =
 val-is : (qs : List ℚ) (e : Lin) → StandsFor (val qs e) (val_ℤ (pos (product qs)) (scaled qs) e) (product qs)
 val-is qs (at i) = scaled-is qs i
 val-is qs (lit k) =
-    StandsFor-also (whole k) k (k *ℤ pos (product qs)) 1 (product qs) (whole-is k) (product-pos qs) (ring integer_ring (k ∷ pos (product qs) ∷ []) (A :* B) (A :* B :* num 1) refl)
+    StandsFor-also (whole k) k (k *ℤ pos (product qs)) 1 (product qs) (StandsFor-whole k) (product-pos qs) (ring integer_ring (k ∷ pos (product qs) ∷ []) (A :* B) (A :* B :* num 1) refl)
 val-is qs (a ⟨+⟩ b) = add-same _ _ _ _ _ (val-is qs a) (val-is qs b)
 val-is qs (a ⟨-⟩ b) = add-same _ _ _ _ _ (val-is qs a) (StandsFor-neg _ _ _ (val-is qs b))
 val-is qs (minus a) = StandsFor-neg _ _ _ (val-is qs a)
 val-is qs (k ⟨*⟩ a) =
     let v = val_ℤ (pos (product qs)) (scaled qs) a in
-    StandsFor-also (whole k *ℚ val qs a) (k *ℤ v) (k *ℤ v) (1 * product qs) (product qs) (StandsFor-mul (whole k) (val qs a) k v 1 (product qs) (whole-is k) (val-is qs a)) (product-pos qs)
+    StandsFor-also (whole k *ℚ val qs a) (k *ℤ v) (k *ℤ v) (1 * product qs) (product qs) (StandsFor-mul (whole k) (val qs a) k v 1 (product qs) (StandsFor-whole k) (val-is qs a)) (product-pos qs)
     (ring integer_ring (k ∷ v ∷ pos (product qs) ∷ []) (A :* B :* C) (A :* B :* (num 1 :* C)) refl)
 
 down_claim : (qs : List ℚ) (c : Claim) → holds qs c → holds_ℤ (pos (product qs)) (scaled qs) c

@@ -6,7 +6,7 @@ use Rattle.rational.proofs.IntegerRing.{integer_ring}
 use Rattle.rational.proofs.Fractions.{equal_by_parts, StandsFor, StandsFor-self, StandsFor-also, StandsFor-frac, StandsFor-add, StandsFor-mul, StandsFor-neg, equal_by, equal_by_cross, frac-lowest}
 use Rattle.rational.proofs.Order.{le_by, by_le, lt_by, by_lt, eq_by, by_eq}
 use Rattle.rational.proofs.Ring.{ring, num, ◌:+◌, ◌:*◌, A, B, C}
-use Rattle.rational.proofs.Linear.{zero-over, whole-is}
+use Rattle.rational.proofs.Linear.{zero-over, StandsFor-whole}
 
 -- ---- whole numbers
 gcd-one : (a : ℕ) → gcd a 1 ≡ 1
@@ -28,30 +28,30 @@ whole-own_num a e = equal_by_parts (whole a.num) a (whole-num a.num) (whole-den 
 -- a sum of whole numbers
 pub whole-add : (m n : ℤ) → whole (m +ℤ n) ≡ whole m +ℚ whole n
 whole-add m n =
-    equal_by (whole (m +ℤ n)) (whole m +ℚ whole n) (m +ℤ n) ((m *ℤ pos 1) +ℤ (n *ℤ pos 1)) 1 (1 * 1) (whole-is (m +ℤ n)) (StandsFor-add (whole m) (whole n) m n 1 1 (whole-is m) (whole-is n))
+    equal_by (whole (m +ℤ n)) (whole m +ℚ whole n) (m +ℤ n) ((m *ℤ pos 1) +ℤ (n *ℤ pos 1)) 1 (1 * 1) (StandsFor-whole (m +ℤ n)) (StandsFor-add (whole m) (whole n) m n 1 1 (StandsFor-whole m) (StandsFor-whole n))
     (ring integer_ring (m ∷ n ∷ []) ((A :+ B) :* (num 1 :* num 1)) ((A :* num 1 :+ B :* num 1) :* num 1) refl)
 
 -- a product of whole numbers
 pub whole-mul : (m n : ℤ) → whole (m *ℤ n) ≡ whole m *ℚ whole n
 whole-mul m n =
-    equal_by (whole (m *ℤ n)) (whole m *ℚ whole n) (m *ℤ n) (m *ℤ n) 1 (1 * 1) (whole-is (m *ℤ n)) (StandsFor-mul (whole m) (whole n) m n 1 1 (whole-is m) (whole-is n)) refl
+    equal_by (whole (m *ℤ n)) (whole m *ℚ whole n) (m *ℤ n) (m *ℤ n) 1 (1 * 1) (StandsFor-whole (m *ℤ n)) (StandsFor-mul (whole m) (whole n) m n 1 1 (StandsFor-whole m) (StandsFor-whole n)) refl
 
 -- a negated whole number
 pub whole-neg : (n : ℤ) → whole (neg_ℤ n) ≡ neg_ℚ (whole n)
 whole-neg n =
-    equal_by (whole (neg_ℤ n)) (neg_ℚ (whole n)) (neg_ℤ n) (neg_ℤ n) 1 1 (whole-is (neg_ℤ n)) (StandsFor-neg (whole n) n 1 (whole-is n)) refl
+    equal_by (whole (neg_ℤ n)) (neg_ℚ (whole n)) (neg_ℤ n) (neg_ℤ n) 1 1 (StandsFor-whole (neg_ℤ n)) (StandsFor-neg (whole n) n 1 (StandsFor-whole n)) refl
 
 -- whole numbers are in the order of the integers
 pub whole-le : (m n : ℤ) → (whole m ≤ℚ whole n) ↔ (m ≤ℤ n)
-whole-le m n = (by_le (whole m) (whole n) m n 1 (whole-is m) (whole-is n), le_by (whole m) (whole n) m n 1 (whole-is m) (whole-is n))
+whole-le m n = (by_le (whole m) (whole n) m n 1 (StandsFor-whole m) (StandsFor-whole n), le_by (whole m) (whole n) m n 1 (StandsFor-whole m) (StandsFor-whole n))
 
 -- the same for the strict order
 pub whole-lt : (m n : ℤ) → (whole m <ℚ whole n) ↔ (m <ℤ n)
-whole-lt m n = (by_lt (whole m) (whole n) m n 1 (whole-is m) (whole-is n), lt_by (whole m) (whole n) m n 1 (whole-is m) (whole-is n))
+whole-lt m n = (by_lt (whole m) (whole n) m n 1 (StandsFor-whole m) (StandsFor-whole n), lt_by (whole m) (whole n) m n 1 (StandsFor-whole m) (StandsFor-whole n))
 
 -- equal whole numbers are equal integers
 pub whole-eq : (m n : ℤ) → (whole m ≡ whole n) ↔ (m ≡ n)
-whole-eq m n = (by_eq (whole m) (whole n) m n 1 (whole-is m) (whole-is n), λ e. ap (λ x. whole x) e)
+whole-eq m n = (by_eq (whole m) (whole n) m n 1 (StandsFor-whole m) (StandsFor-whole n), λ e. ap (λ x. whole x) e)
 
 -- ---- signs
 zero-is : (a : ℚ) → StandsFor zero_ℚ (pos 0) a.den
