@@ -1,5 +1,5 @@
--- a rational is known by any pair that it stands for
-use Rattle.std.proofs.Common.{ℕ, zero, suc, ◌/◌, ◌*◌, ◌+◌, ◌-◌, ◌≤◌, ◌<◌, ◌≡◌, ℤ, pos, negsuc, neg_ℤ, nat_abs, ◌*ℤ◌, ◌+ℤ◌, ◌≤ℤ◌, ◌<ℤ◌, arith, refl, sym, ap, ap₂, ◌∙◌, subst, zero-lt-suc, List, [], ◌∷◌, mul-pos, le_of_mul-le-mul_right}
+-- A rational is known by any pair that it stands for.
+use Rattle.std.proofs.Common.{ℕ, zero, suc, ◌/◌, ◌*◌, ◌<◌, ◌≡◌, ℤ, pos, neg_ℤ, nat_abs, ◌*ℤ◌, ◌+ℤ◌, arith, refl, sym, ap, ap₂, ◌∙◌, [], ◌∷◌, mul-pos, le_of_mul-le-mul_right}
 use Rattle.std.proofs.lemmas.Int.{unsigned_abs-mul}
 use borrow.Author.Differences.{up, down, same_in}
 use native.Mathlib.Nat.{div-mul_cancel}
@@ -13,11 +13,12 @@ use Rattle.rational.specs.GcdLaws.{gcd-is, lowest_unique}
 use Rattle.rational.specs.LowestTerms.{div_ℤ-mul}
 use Rattle.rational.specs.Rational.{ℚ, is_lowest, lowest-in, den_pos, lowest, frac, ◌+ℚ◌, ◌*ℚ◌, neg_ℚ}
 use Rattle.rational.proofs.IntegerRing.{integer_ring, up-mul, down-mul}
-use Rattle.rational.proofs.Ring.{ring, ◌:+◌, ◌:*◌, ◌:-◌, :neg, A, B, C, D, E, F, G, H}
+use Rattle.rational.proofs.Ring.{ring, ◌:+◌, ◌:*◌, :neg, A, B, C, D, E, F}
 
 ℕ_set : IsSet ℕ
 ℕ_set = hedberg ℕ_discrete
 
+-- rationals with equal numerators and denominators are equal
 pub equal_by_parts : (a b : ℚ) → a.num ≡ b.num → a.den ≡ b.den → a ≡ b
 equal_by_parts a b p q =
     λ i. record {
@@ -46,6 +47,7 @@ pub record StandsFor (a : ℚ) (n : ℤ) (d : ℕ) : Type 0 where
   pub cross : a.num *ℤ pos d ≡ n *ℤ pos a.den
   pub over : 0 < d
 
+-- n over d stands for n over d
 pub StandsFor-frac : (n : ℤ) (d : ℕ) → 0 < d → StandsFor (frac n d) n d
 unfolding frac
 StandsFor-frac n zero h = absurd (N.not-suc-le-zero h)
@@ -55,6 +57,7 @@ StandsFor-frac n (suc d) h = record { over = h; cross = go (gcd (nat_abs n) (suc
     go g p q =
         ap (λ x. div_ℤ n g *ℤ pos x) (sym (div-mul_cancel g q)) ∙ ring integer_ring (div_ℤ n g ∷ pos (suc d / g) ∷ pos g ∷ []) (A :* (B :* C)) (A :* C :* B) refl ∙ ap (λ x. x *ℤ pos (suc d / g)) (div_ℤ-mul n g p)
 
+-- a rational stands for its own parts
 pub StandsFor-self : (a : ℚ) → StandsFor a a.num a.den
 StandsFor-self a = record { cross = refl; over = (den_pos a) }
 
@@ -74,6 +77,7 @@ pub equal_by : (a b : ℚ) (n m : ℤ) (d e : ℕ) → StandsFor a n d → Stand
 equal_by a b n m d e p q h =
     equal_by_cross a b (StandsFor-also a m b.num e b.den (StandsFor-also a n m d e p q.over h) (den_pos b) (sym q.cross)).cross
 
+-- a sum stands for the sum of the fractions
 pub StandsFor-add : (a b : ℚ) (n m : ℤ) (d e : ℕ) → StandsFor a n d → StandsFor b m e → StandsFor (a +ℚ b) ((n *ℤ pos e) +ℤ (m *ℤ pos d)) (d * e)
 unfolding ◌+ℚ◌
 StandsFor-add a b n m d e p q =
@@ -82,6 +86,7 @@ StandsFor-add a b n m d e p q =
     ∙ ap₂ (λ x y. (x *ℤ (pos b.den *ℤ pos e)) +ℤ (y *ℤ (pos a.den *ℤ pos d))) p.cross q.cross
     ∙ ring integer_ring (n ∷ pos a.den ∷ m ∷ pos b.den ∷ pos d ∷ pos e ∷ []) ((A :* B) :* (D :* F) :+ (C :* D) :* (B :* E)) ((A :* F :+ C :* E) :* (B :* D)) refl)
 
+-- a product stands for the product of the fractions
 pub StandsFor-mul : (a b : ℚ) (n m : ℤ) (d e : ℕ) → StandsFor a n d → StandsFor b m e → StandsFor (a *ℚ b) (n *ℤ m) (d * e)
 unfolding ◌*ℚ◌
 StandsFor-mul a b n m d e p q =
@@ -90,6 +95,7 @@ StandsFor-mul a b n m d e p q =
     ∙ ap₂ (λ x y. x *ℤ y) p.cross q.cross
     ∙ ring integer_ring (n ∷ pos a.den ∷ m ∷ pos b.den ∷ []) ((A :* B) :* (C :* D)) ((A :* C) :* (B :* D)) refl)
 
+-- a negated number stands for the negated fraction
 pub StandsFor-neg : (a : ℚ) (n : ℤ) (d : ℕ) → StandsFor a n d → StandsFor (neg_ℚ a) (neg_ℤ n) d
 unfolding neg_ℚ
 StandsFor-neg a n d p =

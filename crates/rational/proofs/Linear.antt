@@ -1,12 +1,11 @@
 -- Linear arithmetic over the rationals. The numbers in play are put over one denominator, and what is left is a statement about whole numbers, which `omega (arith, ints)` proves.
-use Rattle.std.proofs.Common.{ℕ, suc, zero, ◌*◌, ◌+◌, ◌<◌, ◌≤◌, ◌≡◌, ℤ, pos, negsuc, neg_ℤ, ◌*ℤ◌, ◌+ℤ◌, ◌≤ℤ◌, ◌<ℤ◌, refl, sym, ap, ap₂, ◌∙◌, List, [], ◌∷◌, lit<, arith, mul-pos, map}
-use Rattle.std.proofs.lemmas.Int.{ints}
+use Rattle.std.proofs.Common.{ℕ, suc, zero, ◌*◌, ◌<◌, ◌≡◌, ℤ, pos, neg_ℤ, ◌*ℤ◌, ◌+ℤ◌, ◌≤ℤ◌, ◌<ℤ◌, refl, List, [], ◌∷◌, lit<, arith, mul-pos}
 use borrow.Author.Differences.{below_in}
-use Rattle.rational.specs.Rational.{ℚ, den_pos, lowest, frac, whole, ◌+ℚ◌, ◌*ℚ◌, neg_ℚ, zero_ℚ, one_ℚ, ◌≤ℚ◌, ◌<ℚ◌}
+use Rattle.rational.specs.Rational.{ℚ, den_pos, whole, ◌+ℚ◌, ◌*ℚ◌, neg_ℚ, zero_ℚ, ◌≤ℚ◌, ◌<ℚ◌}
 use Rattle.rational.proofs.IntegerRing.{integer_ring}
-use Rattle.rational.proofs.Fractions.{StandsFor, equal_by, StandsFor-self, StandsFor-also, StandsFor-frac, StandsFor-add, StandsFor-mul, StandsFor-neg}
+use Rattle.rational.proofs.Fractions.{StandsFor, StandsFor-self, StandsFor-also, StandsFor-frac, StandsFor-add, StandsFor-mul, StandsFor-neg}
 use Rattle.rational.proofs.Order.{le_by, by_le, lt_by, by_lt, eq_by, by_eq}
-use Rattle.rational.proofs.Ring.{ring, num, ◌:+◌, ◌:*◌, ◌:-◌, :neg, A, B, C, D, E, F, G, H}
+use Rattle.rational.proofs.Ring.{ring, num, ◌:+◌, ◌:*◌, A, B, C}
 
 infixl 60 ◌⟨+⟩◌ ◌⟨-⟩◌
 infixl 70 ◌⟨*⟩◌
@@ -20,11 +19,13 @@ pub data Lin : Type 0 where
   minus : Lin → Lin
   ◌⟨*⟩◌ : ℤ → Lin → Lin
 
+-- at most, below, or equal
 pub data Claim : Type 0 where
   ◌⟨≤⟩◌ : Lin → Lin → Claim
   ◌⟨<⟩◌ : Lin → Lin → Claim
   ◌⟨=⟩◌ : Lin → Lin → Claim
 
+-- the number at an index, and 0 past the end
 abbrev pub pick : List ℚ → ℕ → ℚ
 pick [] i = zero_ℚ
 pick (x ∷ xs) zero = x
@@ -39,6 +40,7 @@ val ρ (a ⟨-⟩ b) = val ρ a +ℚ neg_ℚ (val ρ b)
 val ρ (minus a) = neg_ℚ (val ρ a)
 val ρ (k ⟨*⟩ a) = whole k *ℚ val ρ a
 
+-- what a claim says of rationals
 abbrev pub holds : List ℚ → Claim → Type 0
 holds ρ (a ⟨≤⟩ b) = val ρ a ≤ℚ val ρ b
 holds ρ (a ⟨<⟩ b) = val ρ a <ℚ val ρ b
@@ -53,15 +55,18 @@ val_ℤ one z (a ⟨-⟩ b) = val_ℤ one z a +ℤ neg_ℤ (val_ℤ one z b)
 val_ℤ one z (minus a) = neg_ℤ (val_ℤ one z a)
 val_ℤ one z (k ⟨*⟩ a) = k *ℤ val_ℤ one z a
 
+-- what a claim says of whole numbers
 abbrev pub holds_ℤ : ℤ → (ℕ → ℤ) → Claim → Type 0
 holds_ℤ one z (a ⟨≤⟩ b) = val_ℤ one z a ≤ℤ val_ℤ one z b
 holds_ℤ one z (a ⟨<⟩ b) = val_ℤ one z a <ℤ val_ℤ one z b
 holds_ℤ one z (a ⟨=⟩ b) = val_ℤ one z a ≡ val_ℤ one z b
 
+-- each claim holds of the rationals
 abbrev pub all_hold : List ℚ → List Claim → Type 0
 all_hold ρ [] = Unit {0}
 all_hold ρ (c ∷ cs) = holds ρ c × all_hold ρ cs
 
+-- each claim holds of the whole numbers
 abbrev pub all_hold_ℤ : ℤ → (ℕ → ℤ) → List Claim → Type 0
 all_hold_ℤ one z [] = Unit {0}
 all_hold_ℤ one z (c ∷ cs) = holds_ℤ one z c × all_hold_ℤ one z cs
@@ -81,6 +86,7 @@ scaled [] i = pos 0
 scaled (q ∷ qs) zero = q.num *ℤ pos (product qs)
 scaled (q ∷ qs) (suc i) = scaled qs i *ℤ pos q.den
 
+-- 0 stands for 0 over any denominator
 pub zero-over : (d : ℕ) → 0 < d → StandsFor zero_ℚ (pos 0) d
 zero-over d h = StandsFor-also zero_ℚ (pos 0) (pos 0) 1 d (StandsFor-frac (pos 0) 1 (lit< tt)) h (ring integer_ring (pos d ∷ []) (num 0 :* A) (num 0 :* num 1) refl)
 
@@ -92,8 +98,9 @@ scaled-is (q ∷ qs) zero =
 scaled-is (q ∷ qs) (suc i) =
     StandsFor-also (pick qs i) (scaled qs i) (scaled qs i *ℤ pos q.den) (product qs) (q.den * product qs) (scaled-is qs i) (mul-pos (den_pos q) (product-pos qs)) (ring integer_ring (scaled qs i ∷ pos q.den ∷ pos (product qs) ∷ []) (A :* (B :* C)) (A :* B :* C) refl)
 
-whole-is : (k : ℤ) → StandsFor (whole k) k 1
-whole-is k = StandsFor-frac k 1 (lit< tt)
+-- a whole number stands for itself over 1
+pub StandsFor-whole : (k : ℤ) → StandsFor (whole k) k 1
+StandsFor-whole k = StandsFor-frac k 1 (lit< tt)
 
 add-same : (a b : ℚ) (n m : ℤ) (d : ℕ) → StandsFor a n d → StandsFor b m d → StandsFor (a +ℚ b) (n +ℤ m) d
 add-same a b n m d p q =
@@ -102,13 +109,14 @@ add-same a b n m d p q =
 val-is : (qs : List ℚ) (e : Lin) → StandsFor (val qs e) (val_ℤ (pos (product qs)) (scaled qs) e) (product qs)
 val-is qs (at i) = scaled-is qs i
 val-is qs (lit k) =
-    StandsFor-also (whole k) k (k *ℤ pos (product qs)) 1 (product qs) (whole-is k) (product-pos qs) (ring integer_ring (k ∷ pos (product qs) ∷ []) (A :* B) (A :* B :* num 1) refl)
+    StandsFor-also (whole k) k (k *ℤ pos (product qs)) 1 (product qs) (StandsFor-whole k) (product-pos qs) (ring integer_ring (k ∷ pos (product qs) ∷ []) (A :* B) (A :* B :* num 1) refl)
 val-is qs (a ⟨+⟩ b) = add-same _ _ _ _ _ (val-is qs a) (val-is qs b)
 val-is qs (a ⟨-⟩ b) = add-same _ _ _ _ _ (val-is qs a) (StandsFor-neg _ _ _ (val-is qs b))
 val-is qs (minus a) = StandsFor-neg _ _ _ (val-is qs a)
 val-is qs (k ⟨*⟩ a) =
     let v = val_ℤ (pos (product qs)) (scaled qs) a in
-    StandsFor-also (whole k *ℚ val qs a) (k *ℤ v) (k *ℤ v) (1 * product qs) (product qs) (StandsFor-mul (whole k) (val qs a) k v 1 (product qs) (whole-is k) (val-is qs a)) (product-pos qs) (ring integer_ring (k ∷ v ∷ pos (product qs) ∷ []) (A :* B :* C) (A :* B :* (num 1 :* C)) refl)
+    StandsFor-also (whole k *ℚ val qs a) (k *ℤ v) (k *ℤ v) (1 * product qs) (product qs) (StandsFor-mul (whole k) (val qs a) k v 1 (product qs) (StandsFor-whole k) (val-is qs a)) (product-pos qs)
+    (ring integer_ring (k ∷ v ∷ pos (product qs) ∷ []) (A :* B :* C) (A :* B :* (num 1 :* C)) refl)
 
 down_claim : (qs : List ℚ) (c : Claim) → holds qs c → holds_ℤ (pos (product qs)) (scaled qs) c
 down_claim qs (a ⟨≤⟩ b) h = by_le _ _ _ _ _ (val-is qs a) (val-is qs b) h
@@ -127,3 +135,7 @@ down_claims qs (c ∷ cs) h = (down_claim qs c h.0, down_claims qs cs h.1)
 -- a claim follows from others where it does so over the whole numbers
 pub linear : (qs : List ℚ) (cs : List Claim) (c : Claim) → ((one : ℤ) (z : ℕ → ℤ) → pos 0 <ℤ one → all_hold_ℤ one z cs → holds_ℤ one z c) → all_hold qs cs → holds qs c
 linear qs cs c f h = up_claim qs c (f (pos (product qs)) (scaled qs) (below_in (pos 0) (pos (product qs)) (omega (arith, product-pos qs))) (down_claims qs cs h))
+
+-- claims that contradict each other over the whole numbers do not hold together
+pub linear_contradiction : (qs : List ℚ) (cs : List Claim) → ((one : ℤ) (z : ℕ → ℤ) → pos 0 <ℤ one → all_hold_ℤ one z cs → ⊥) → all_hold qs cs → ⊥
+linear_contradiction qs cs f h = f (pos (product qs)) (scaled qs) (below_in (pos 0) (pos (product qs)) (omega (arith, product-pos qs))) (down_claims qs cs h)

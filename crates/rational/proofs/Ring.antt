@@ -1,6 +1,6 @@
 -- A prover of identities in any commutative ring. An identity is written twice as an expression, and both are brought to a sum of monomials in one order by computing.
-use Rattle.std.proofs.Common.{◌≡◌, ℕ, zero, suc, ◌+◌, ◌*◌, ◌-◌, ◌≤◌, arith, sym, ap, ap₂, ◌∙◌, refl, subst, Bool, true, false, eqb, ltb, leb, List, [], ◌∷◌, min, eqb→eq, ◌&&◌, T, cond}
-use Rattle.std.proofs.Common.{add_comm, suc-add, zero-mul, suc-mul, true≢false}
+use Rattle.std.proofs.Common.{◌≡◌, ℕ, zero, suc, ◌+◌, ◌*◌, ◌-◌, ◌≤◌, arith, sym, ap, ap₂, ◌∙◌, refl, subst, Bool, true, false, eqb, ltb, leb, List, [], ◌∷◌, min, eqb→eq, ◌&&◌, T}
+use Rattle.std.proofs.Common.{suc-add, zero-mul, suc-mul, true≢false}
 use Rattle.std.proofs.Common.{sub-add_cancel}
 use native.Mathlib.Nat as N
 use Rattle.rational.proofs.CommutativeRing.{CommutativeRing}
@@ -28,38 +28,46 @@ same_vars [] [] = true
 same_vars (x ∷ xs) (y ∷ ys) = eqb x y && same_vars xs ys
 same_vars _ _ = false
 
+-- the order of the monomials
 abbrev pub before : List ℕ → List ℕ → Bool
 before [] [] = false
 before [] (y ∷ ys) = true
 before (x ∷ xs) [] = false
 before (x ∷ xs) (y ∷ ys) = elim (ltb x y) [ true ↦ true | false ↦ elim (eqb x y) [ true ↦ before xs ys | false ↦ false ] ]
 
+-- one more variable, in order
 abbrev pub put_var : ℕ → List ℕ → List ℕ
 put_var i [] = i ∷ []
 put_var i (j ∷ m) = elim (leb i j) [ true ↦ i ∷ (j ∷ m) | false ↦ j ∷ put_var i m ]
 
+-- the variables of both monomials, in order
 abbrev pub join_vars : List ℕ → List ℕ → List ℕ
 join_vars [] n = n
 join_vars (i ∷ m) n = put_var i (join_vars m n)
 
+-- one more term, joined with the term of the same variables
 abbrev pub put_term : ℕ → ℕ → List ℕ → Poly → Poly
 put_term p n m nil = term p n m nil
 put_term p n m (term p' n' m' r) =
     elim (same_vars m m') [ true ↦ term (p + p') (n + n') m' r | false ↦ elim (before m m') [ true ↦ term p n m (term p' n' m' r) | false ↦ term p' n' m' (put_term p n m r) ] ]
 
+-- a sum
 abbrev pub add_poly : Poly → Poly → Poly
 add_poly nil b = b
 add_poly (term p n m r) b = put_term p n m (add_poly r b)
 
+-- a negation
 abbrev pub neg_poly : Poly → Poly
 neg_poly nil = nil
 neg_poly (term p n m r) = term n p m (neg_poly r)
 
+-- a term times a sum
 abbrev pub scale_poly : ℕ → ℕ → List ℕ → Poly → Poly
 scale_poly p n m nil = nil
 scale_poly p n m (term p' n' m' r) =
     put_term (p * p' + n * n') (p * n' + n * p') (join_vars m m') (scale_poly p n m r)
 
+-- a product
 abbrev pub mul_poly : Poly → Poly → Poly
 mul_poly nil b = nil
 mul_poly (term p n m r) b = add_poly (scale_poly p n m b) (mul_poly r b)
@@ -69,6 +77,7 @@ abbrev pub clean : Poly → Poly
 clean nil = nil
 clean (term p n m r) = elim (eqb p n) [ true ↦ clean r | false ↦ term (p - min p n) (n - min p n) m (clean r) ]
 
+-- the sum of terms of an expression
 abbrev pub poly_of : Ex → Poly
 poly_of (var i) = term 1 0 (i ∷ []) nil
 poly_of (num k) = term k 0 [] nil
@@ -77,6 +86,7 @@ poly_of (a :* b) = mul_poly (poly_of a) (poly_of b)
 poly_of (a :- b) = add_poly (poly_of a) (neg_poly (poly_of b))
 poly_of (:neg a) = neg_poly (poly_of a)
 
+-- the normal form of an expression
 abbrev pub normal : Ex → Poly
 normal e = clean (poly_of e)
 
@@ -105,11 +115,13 @@ module _ (R : CommutativeRing) where
   times-suc zero = sym (R.add-zero 𝟙)
   times-suc (suc k) = refl
 
+  -- the value at an index, and 0 past the end
   abbrev pub at : List carrier → ℕ → carrier
   at [] i = 𝟘
   at (x ∷ xs) zero = x
   at (x ∷ xs) (suc i) = at xs i
 
+  -- the value of an expression, at the values of its variables
   abbrev pub eval : List carrier → Ex → carrier
   eval ρ (var i) = at ρ i
   eval ρ (num k) = times k
@@ -159,10 +171,18 @@ module _ (R : CommutativeRing) where
   coef-neg p n =
       R.add_comm (times n) (neg (times p)) ∙ ap (λ x. neg (times p) ⊕ x) (sym (L.neg-neg R (times n))) ∙ sym (L.neg-add R (times p) (neg (times n)))
 
+  -- a coefficient times copies of 1
+  coef-scale : (k p n : ℕ) → coef (k * p) (k * n) ≡ times k ⊗ coef p n
+  unfolding coef
+  coef-scale k p n =
+      ap₂ (λ x y. x ⊕ neg y) (times-mul k p) (times-mul k n) ∙ ap (λ x. times k ⊗ times p ⊕ x) (sym (L.mul-neg R (times k) (times n))) ∙ sym (R.mul-add (times k) (times p) (neg (times n)))
+
   coef-mul : (p n p' n' : ℕ) → coef (p * p' + n * n') (p * n' + n * p') ≡ coef p n ⊗ coef p' n'
   unfolding coef
   coef-mul p n p' n' =
-      coef-add (p * p') (p * n') (n * n') (n * p') ∙ ap₂ (λ x y. x ⊕ y) (ap₂ (λ x y. x ⊕ neg y) (times-mul p p') (times-mul p n') ∙ ap (λ x. times p ⊗ times p' ⊕ x) (sym (L.mul-neg R (times p) (times n'))) ∙ sym (R.mul-add (times p) (times p') (neg (times n')))) (ap₂ (λ x y. x ⊕ neg y) (times-mul n n') (times-mul n p') ∙ R.add_comm (times n ⊗ times n') (neg (times n ⊗ times p')) ∙ ap₂ (λ x y. x ⊕ y) (sym (L.neg-mul R (times n) (times p'))) (sym (L.neg-neg R (times n ⊗ times n')) ∙ ap neg (sym (L.mul-neg R (times n) (times n'))) ∙ sym (L.neg-mul R (times n) (neg (times n')))) ∙ sym (R.mul-add (neg (times n)) (times p') (neg (times n')))) ∙ sym (L.add-mul R (times p) (neg (times n)) (times p' ⊕ neg (times n')))
+      coef-add (p * p') (p * n') (n * n') (n * p')
+      ∙ ap₂ (λ x y. x ⊕ y) (coef-scale p p' n') (coef-neg (n * p') (n * n') ∙ ap neg (coef-scale n p' n') ∙ sym (L.neg-mul R (times n) (coef p' n')))
+      ∙ sym (L.add-mul R (times p) (neg (times n)) (coef p' n'))
 
   coef-less : (p n k : ℕ) → k ≤ p → k ≤ n → coef (p - k) (n - k) ≡ coef p n
   coef-less p n k h g =
@@ -191,7 +211,8 @@ module _ (R : CommutativeRing) where
       where
         go : (t s : Bool) → (t ≡ true → m ≡ m') → total ρ (put_term p n m r) ≡ coef p n ⊗ prod ρ m ⊕ total ρ r → total ρ (elim t [ true ↦ term (p + p') (n + n') m' r | false ↦ elim s [ true ↦ term p n m (term p' n' m' r) | false ↦ term p' n' m' (put_term p n m r) ] ]) ≡ coef p n ⊗ prod ρ m ⊕ (coef p' n' ⊗ prod ρ m' ⊕ total ρ r)
         go true s e ih =
-            ap (λ x. x ⊗ prod ρ m' ⊕ total ρ r) (coef-add p n p' n') ∙ ap (λ x. x ⊕ total ρ r) (L.add-mul R (coef p n) (coef p' n') (prod ρ m')) ∙ R.add_assoc (coef p n ⊗ prod ρ m') (coef p' n' ⊗ prod ρ m') (total ρ r) ∙ ap (λ x. coef p n ⊗ prod ρ x ⊕ (coef p' n' ⊗ prod ρ m' ⊕ total ρ r)) (sym (e refl))
+            ap (λ x. x ⊗ prod ρ m' ⊕ total ρ r) (coef-add p n p' n') ∙ ap (λ x. x ⊕ total ρ r) (L.add-mul R (coef p n) (coef p' n') (prod ρ m'))
+            ∙ R.add_assoc (coef p n ⊗ prod ρ m') (coef p' n' ⊗ prod ρ m') (total ρ r) ∙ ap (λ x. coef p n ⊗ prod ρ x ⊕ (coef p' n' ⊗ prod ρ m' ⊕ total ρ r)) (sym (e refl))
         go false true e ih = refl
         go false false e ih =
             ap (λ x. coef p' n' ⊗ prod ρ m' ⊕ x) ih ∙ L.add_left_comm R (coef p' n' ⊗ prod ρ m') (coef p n ⊗ prod ρ m) (total ρ r)
@@ -212,7 +233,9 @@ module _ (R : CommutativeRing) where
     unfolding total
     total-scale p n m nil = sym (L.mul-zero R (coef p n ⊗ prod ρ m))
     total-scale p n m (term p' n' m' r) =
-        total-put (p * p' + n * n') (p * n' + n * p') (join_vars m m') (scale_poly p n m r) ∙ ap₂ (λ x y. x ⊕ y) (ap₂ (λ x y. x ⊗ y) (coef-mul p n p' n') (prod-join m m') ∙ mix (coef p n) (coef p' n') (prod ρ m) (prod ρ m')) (total-scale p n m r) ∙ sym (R.mul-add (coef p n ⊗ prod ρ m) (coef p' n' ⊗ prod ρ m') (total ρ r))
+        total-put (p * p' + n * n') (p * n' + n * p') (join_vars m m') (scale_poly p n m r)
+        ∙ ap₂ (λ x y. x ⊕ y) (ap₂ (λ x y. x ⊗ y) (coef-mul p n p' n') (prod-join m m') ∙ mix (coef p n) (coef p' n') (prod ρ m) (prod ρ m')) (total-scale p n m r)
+        ∙ sym (R.mul-add (coef p n ⊗ prod ρ m) (coef p' n' ⊗ prod ρ m') (total ρ r))
       where
         mix : (a b c d : carrier) → (a ⊗ b) ⊗ (c ⊗ d) ≡ (a ⊗ c) ⊗ (b ⊗ d)
         mix a b c d = R.mul_assoc a b (c ⊗ d) ∙ ap (λ x. a ⊗ x) (L.mul_left_comm R b c d) ∙ sym (R.mul_assoc a c (b ⊗ d))
@@ -279,10 +302,12 @@ pub data Use : Type 0 where
   ◌times◌is◌ : Ex → Ex → Ex → Use
 
 infix 40 ◌times◌is◌
+-- a, and the right sides of the known equations by their multipliers
 abbrev pub with_right : Ex → List Use → Ex
 with_right a [] = a
 with_right a ((m times l is r) ∷ us) = with_right (a :+ m :* r) us
 
+-- b, and the left sides of the known equations by their multipliers
 abbrev pub with_left : Ex → List Use → Ex
 with_left b [] = b
 with_left b ((m times l is r) ∷ us) = with_left (b :+ m :* l) us
@@ -290,6 +315,7 @@ with_left b ((m times l is r) ∷ us) = with_left (b :+ m :* l) us
 module _ (R : CommutativeRing) where
   open R use {carrier, ◌⊕◌, ◌⊗◌, neg, 𝟘, 𝟙}
 
+  -- each known equation holds
   abbrev pub Known : List carrier → List Use → Type 0
   Known ρ [] = Unit {0}
   Known ρ ((m times l is r) ∷ us) = (eval R ρ l ≡ eval R ρ r) × Known ρ us

@@ -1,13 +1,15 @@
--- what the greatest common divisor divides, and Gauss's law
-use Rattle.std.proofs.Common.{ℕ, zero, suc, ◌%◌, ◌/◌, ◌*◌, ◌+◌, ◌-◌, ◌≤◌, ◌<◌, ◌≡◌, Bool, true, false, eqb, eqb→eq, arith, refl, sym, ap, ◌∙◌, subst, T, T_not, tests, mul_comm, div-add-mod'}
-use native.Mathlib.Nat.{dvd_refl, dvd-zero, dvd_trans, dvd-add, dvd-mod_iff, dvd-sub, dvd_antisymm, dvd-mul_right, dvd-mul_left, dvd-mul_left_of_dvd, dvd-mul_right_of_dvd, mod-lt, one-dvd, eq-one_of_dvd-one, div-mul_cancel, one-mul, pos_of_dvd_of_pos, dvd_of_mul-dvd-mul_right, mul-dvd-mul_right}
+-- What the greatest common divisor divides, and Gauss's law.
+use Rattle.std.proofs.Common.{ℕ, zero, suc, ◌%◌, ◌/◌, ◌*◌, ◌+◌, ◌-◌, ◌≤◌, ◌<◌, ◌≡◌, Bool, true, false, eqb, eqb→eq, arith, refl, sym, ap, subst, T, tests, div-add-mod'}
+use native.Mathlib.Nat.{dvd-sub, dvd_antisymm, dvd-mul_right, dvd-mul_left, dvd-mul_left_of_dvd, eq-one_of_dvd-one, div-mul_cancel, one-mul, pos_of_dvd_of_pos, dvd_of_mul-dvd-mul_right, mul-dvd-mul_right}
 use Rattle.std.specs.Int.{IsGcd, ◌∣◌}
 use Rattle.std.proofs.lemmas.Nat.Gcd.{IsGcd-from_zero, IsGcd-from_mod}
 use Rattle.rational.specs.Gcd.{gcd, gcd_steps}
 
+-- a remainder is below the divisor
 mod_small : (k a b : ℕ) → b ≤ suc k → eqb b 0 ≡ false → a % b ≤ k
 mod_small k a b h e = grind (arith, tests)
 
+-- Euclid's steps find the greatest common divisor
 gcd_steps_is : (k a b : ℕ) → b ≤ k → IsGcd a b (gcd_steps k a b)
 gcd_steps_is zero a b h = IsGcd-from_zero a b (omega arith)
 gcd_steps_is (suc k) a b h = go (eqb b 0) refl (gcd_steps_is k b (a % b))
@@ -16,6 +18,7 @@ gcd_steps_is (suc k) a b h = go (eqb b 0) refl (gcd_steps_is k b (a % b))
     go true e ih = IsGcd-from_zero a b (eqb→eq b 0 (subst T (sym e) tt))
     go false e ih = IsGcd-from_mod a b (gcd_steps k b (a % b)) (ih (mod_small k a b h e))
 
+-- what gcd gives is the greatest common divisor
 pub gcd-is : (a b : ℕ) → IsGcd a b (gcd a b)
 unfolding gcd
 gcd-is a b = gcd_steps_is b a b (omega arith)
@@ -32,6 +35,7 @@ gcd_steps_multiple (suc k) a b c d h p q = go (eqb b 0) refl (gcd_steps_multiple
     go true e ih = p
     go false e ih = ih (mod_small k a b h e) q (subst (λ x. d ∣ x) (sym less) (dvd-sub d p (dvd-mul_left_of_dvd d q (a / b))))
 
+-- a common divisor of two multiples divides that multiple of the greatest common divisor
 pub gcd-multiple : (a b c d : ℕ) → d ∣ a * c → d ∣ b * c → d ∣ gcd a b * c
 unfolding gcd
 gcd-multiple a b c d p q = gcd_steps_multiple b a b c d (omega arith) p q
@@ -40,6 +44,7 @@ gcd-multiple a b c d p q = gcd_steps_multiple b a b c d (omega arith) p q
 pub gauss : (a b c : ℕ) → gcd a b ≡ 1 → b ∣ a * c → b ∣ c
 gauss a b c e p = rw (e, one-mul) at (gcd-multiple a b c b p (dvd-mul_right b c))
 
+-- the greatest common divisor with a positive number is positive
 pub gcd_pos : (a b : ℕ) → 0 < b → 0 < gcd a b
 gcd_pos a b h = pos_of_dvd_of_pos (gcd-is a b).1 h
 

@@ -1,5 +1,5 @@
--- The rational numbers: a numerator over a positive denominator, in lowest terms, so that equal numbers are one record
-use Rattle.std.specs.Prelude.{ℕ, zero, suc, ◌*◌, ◌<◌, ◌≡◌, ℤ, pos, negsuc, ◌+ℤ◌, ◌*ℤ◌, neg_ℤ, nat_abs, ◌≤ℤ◌, ◌<ℤ◌, refl, ◌/◌, Bool, true, false, T, nat_lt, nat_eq, ◌&&◌, int_lt, int_le}
+-- The rational numbers: a numerator over a positive denominator, in lowest terms, so that equal numbers are one record.
+use Rattle.std.specs.Prelude.{ℕ, zero, suc, ◌*◌, ◌<◌, ◌≡◌, ℤ, pos, negsuc, ◌+ℤ◌, ◌*ℤ◌, neg_ℤ, nat_abs, ◌≤ℤ◌, ◌<ℤ◌, ◌/◌, Bool, T, nat_lt, nat_eq, ◌&&◌}
 use Rattle.std.proofs.Common.{rules, arith, tests}
 use Rattle.rational.specs.Gcd.{gcd, div_ℤ}
 use Rattle.rational.specs.LowestTerms.{den-pos, div_ℤ-lowest}
@@ -8,15 +8,18 @@ use Rattle.rational.specs.LowestTerms.{den-pos, div_ℤ-lowest}
 unfoldable pub is_lowest : ℤ → ℕ → Bool
 is_lowest n d = nat_lt 0 d && nat_eq (gcd (nat_abs n) d) 1
 
+-- a rational: a numerator over a denominator, which pass the test of lowest terms, so that two rationals with equal parts are one
 pub record ℚ : Type 0 where
   pub num : ℤ
   pub den : ℕ
   pub ok : T (is_lowest num den)
 
+-- 0 over 1 is in lowest terms
 pub IsLowest-zero : T (is_lowest (pos 0) 1)
 unfolding is_lowest gcd
 IsLowest-zero = tt
 
+-- what `frac` divides down to is in lowest terms
 pub IsLowest-frac : (n : ℤ) (d : ℕ) → T (is_lowest (div_ℤ n (gcd (nat_abs n) (suc d))) (suc d / gcd (nat_abs n) (suc d)))
 unfolding is_lowest
 IsLowest-frac n d = search (rules, arith, den-pos (nat_abs n) d, div_ℤ-lowest n d)
@@ -27,32 +30,40 @@ frac n zero = record { num = pos 0; den = 1; ok = IsLowest-zero }
 frac n (suc d) =
     record { num = div_ℤ n (gcd (nat_abs n) (suc d)); den = suc d / gcd (nat_abs n) (suc d); ok = IsLowest-frac n d }
 
+-- what the test of lowest terms tells
 lowest-out : (n : ℤ) (d : ℕ) → T (is_lowest n d) → (0 < d) × (gcd (nat_abs n) d ≡ 1)
 unfolding is_lowest
 lowest-out n d t = grind (arith, tests)
 
+-- a pair with these two facts passes the test
 pub lowest-in : (n : ℤ) (d : ℕ) → 0 < d → gcd (nat_abs n) d ≡ 1 → T (is_lowest n d)
 unfolding is_lowest
 lowest-in n d h e = search (rules, arith)
 
+-- a denominator is positive
 pub den_pos : (q : ℚ) → 0 < q.den
 den_pos q = (lowest-out q.num q.den q.ok).0
 
+-- numerator and denominator share no divisor
 pub lowest : (q : ℚ) → gcd (nat_abs q.num) q.den ≡ 1
 lowest q = (lowest-out q.num q.den q.ok).1
 
 infixl 60 ◌+ℚ◌ ◌-ℚ◌
 infixl 70 ◌*ℚ◌
 infix 50 ◌≤ℚ◌ ◌<ℚ◌
+-- a sum, over the product of the denominators
 unfoldable pub ◌+ℚ◌ : ℚ → ℚ → ℚ
 a +ℚ b = frac ((a.num *ℤ pos b.den) +ℤ (b.num *ℤ pos a.den)) (a.den * b.den)
 
+-- a product
 unfoldable pub ◌*ℚ◌ : ℚ → ℚ → ℚ
 a *ℚ b = frac (a.num *ℤ b.num) (a.den * b.den)
 
+-- a number with the other sign
 unfoldable pub neg_ℚ : ℚ → ℚ
 neg_ℚ a = frac (neg_ℤ a.num) a.den
 
+-- a difference
 abbrev pub ◌-ℚ◌ : ℚ → ℚ → ℚ
 a -ℚ b = a +ℚ neg_ℚ b
 
@@ -60,22 +71,22 @@ a -ℚ b = a +ℚ neg_ℚ b
 unfoldable pub inv_ℚ : ℚ → ℚ
 inv_ℚ a = elim a.num [ pos n ↦ frac (pos a.den) n | negsuc n ↦ frac (neg_ℤ (pos a.den)) (suc n) ]
 
+-- a is at most b, compared by cross products
 pub record ◌≤ℚ◌ (a b : ℚ) : Type 0 where
   pub cross : (a.num *ℤ pos b.den) ≤ℤ (b.num *ℤ pos a.den)
 
+-- a is below b, compared by cross products
 pub record ◌<ℚ◌ (a b : ℚ) : Type 0 where
   pub cross : (a.num *ℤ pos b.den) <ℤ (b.num *ℤ pos a.den)
-
-half_and_third : frac (pos 1) 2 +ℚ frac (pos 2) 6 ≡ frac (negsuc 4) 3 *ℚ frac (negsuc 0) 2
-unfolding frac ◌+ℚ◌ ◌*ℚ◌ gcd is_lowest
-half_and_third = refl
 
 -- a whole number
 abbrev pub whole : ℤ → ℚ
 whole n = frac n 1
 
+-- 0
 abbrev pub zero_ℚ : ℚ
 zero_ℚ = frac (pos 0) 1
 
+-- 1
 abbrev pub one_ℚ : ℚ
 one_ℚ = frac (pos 1) 1

@@ -1,6 +1,6 @@
--- sums of rationals over the numbers below a bound
-use Rattle.std.specs.Prelude.{ℕ, zero, suc, eqb, Bool, true, false, cond}
-use Rattle.rational.specs.Rational.{ℚ, ◌+ℚ◌, ◌*ℚ◌, zero_ℚ}
+-- Sums of rationals over the numbers below a bound.
+use Rattle.std.specs.Prelude.{ℕ, zero, suc, eqb, cond}
+use Rattle.rational.specs.Rational.{ℚ, ◌+ℚ◌, zero_ℚ}
 
 -- f 0 + .. + f (n - 1)
 abbrev pub sum_to : ℕ → (ℕ → ℚ) → ℚ

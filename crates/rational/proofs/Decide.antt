@@ -1,0 +1,60 @@
+-- Order and equality of rationals are decidable, and the tests that compute them are right.
+use Rattle.std.proofs.Common.{◌≡◌, ◌≢◌, ◌⊎◌, ◌↔◌, inl, inr, Bool, true, false, IsTrue, T, refl, sym, ap₂, subst, pos, ◌*ℤ◌}
+use Rattle.std.proofs.lemmas.Bool.Decides.{Decides-int_eq}
+use lib.Dec.{T_prop}
+use mathlib.Core.HLevel.{hedberg}
+use Rattle.rational.specs.Rational.{ℚ, zero_ℚ, ◌≤ℚ◌, ◌<ℚ◌}
+use Rattle.rational.specs.Tests.{le_test, lt_test, eq_test}
+use Rattle.rational.proofs.Fractions.{equal_by_cross}
+use Rattle.rational.proofs.Field.{le_or_lt, le_antisymm, ne_of_lt, not_le_of_lt, not_lt_of_le}
+
+-- a is b or is not
+pub eq_or_ne : (a b : ℚ) → (a ≡ b) ⊎ (a ≢ b)
+eq_or_ne a b = elim (le_or_lt a b) [
+  | inl l ↦ elim (le_or_lt b a) [ inl k ↦ inl (le_antisymm a b l k) | inr k ↦ inr (ne_of_lt a b k) ]
+  | inr k ↦ inr (λ e. ne_of_lt b a k (sym e))
+]
+
+-- a is 0 or is not
+pub is_zero : (a : ℚ) → (a ≡ zero_ℚ) ⊎ (a ≢ zero_ℚ)
+is_zero a = eq_or_ne a zero_ℚ
+
+-- a is at most b or is not
+pub le_or_not : (a b : ℚ) → (a ≤ℚ b) ⊎ (¬ (a ≤ℚ b))
+le_or_not a b = elim (le_or_lt a b) [ inl l ↦ inl l | inr g ↦ inr (not_le_of_lt b a g) ]
+
+-- a is below b or is not
+pub lt_or_not : (a b : ℚ) → (a <ℚ b) ⊎ (¬ (a <ℚ b))
+lt_or_not a b = elim (le_or_lt b a) [ inl l ↦ inr (not_lt_of_le b a l) | inr g ↦ inl g ]
+
+-- two rationals are equal in one way at most
+pub ℚ_set : IsSet ℚ
+ℚ_set = hedberg (λ a b. elim (eq_or_ne a b) [ inl e ↦ yes e | inr n ↦ no n ])
+
+-- at most is a proposition, as a ghost field wants it
+pub le_prop : (a b : ℚ) → IsProp (a ≤ℚ b)
+le_prop a b = hlevel T_prop
+
+-- below is a proposition
+pub lt_prop : (a b : ℚ) → IsProp (a <ℚ b)
+lt_prop a b = hlevel T_prop
+
+-- ---- tests that compute
+T_true : (b : Bool) → T b → b ≡ true
+T_true true t = refl
+T_true false t = absurd t
+
+-- the test of at most says whether a is at most b
+pub le_test-true : (a b : ℚ) → IsTrue (le_test a b) ↔ (a ≤ℚ b)
+unfolding le_test
+le_test-true a b = (λ e. record { cross = record { le = subst T (sym e) tt } }, λ h. T_true _ h.cross.le)
+
+-- the test of below says whether a is below b
+pub lt_test-true : (a b : ℚ) → IsTrue (lt_test a b) ↔ (a <ℚ b)
+unfolding lt_test
+lt_test-true a b = (λ e. record { cross = record { lt = subst T (sym e) tt } }, λ h. T_true _ h.cross.lt)
+
+-- the test of equality says whether a is b
+pub eq_test-true : (a b : ℚ) → IsTrue (eq_test a b) ↔ (a ≡ b)
+unfolding eq_test
+eq_test-true a b = (λ e. equal_by_cross a b ((Decides-int_eq (a.num *ℤ pos b.den) (b.num *ℤ pos a.den)).0 e), λ e. (Decides-int_eq (a.num *ℤ pos b.den) (b.num *ℤ pos a.den)).1 (ap₂ (λ (x y : ℚ). x.num *ℤ pos y.den) e (sym e)))
