@@ -11,6 +11,27 @@ use Rattle.rational.proofs.Fractions.{frac-lowest, equal_by_parts}
 use Rattle.frac128.specs.Fraction.{value_of, PartFits, Fits, InLowestTerms, fields_of, fields_of_value}
 use Rattle.frac128.specs.declared.frac.Frac.TheInside.{Inside}
 
+-- as the code has a number that it stored
+abbrev pub kept : ℤ → ℤ
+kept n = to_z w128 (of_z w128 n)
+
+pub kept-part : (n m : ℤ) → n ≡ m → PartFits m → kept n ≡ m
+kept-part n m e h = ap kept e ∙ to_z-of_z w128 m (fits_signed_from_abs w128 m h)
+
+-- the size of a denominator that the code read
+pub den_size : (q : ℚ) (d : ℤ) (k : ℕ) → d ≡ pos q.den → PartFits (pos q.den) → k ≡ nat_abs (kept d) → k ≡ q.den
+den_size q d k e h is = is ∙ ap nat_abs (kept-part d (pos q.den) e h)
+
+-- the size of a numerator that the code read
+pub num_size : (q : ℚ) (n : ℤ) (k : ℕ) → n ≡ q.num → Fits q → k ≡ nat_abs (kept n) → k ≡ nat_abs q.num
+num_size q n k e h is = is ∙ ap nat_abs (kept-part n q.num e h.num)
+
+pub num_kept : (n : ℤ) (k : ℕ) → SFits w128 n → k ≡ nat_abs (kept n) → k ≡ nat_abs n
+num_kept n k f is = is ∙ ap nat_abs (to_z-of_z w128 n f)
+
+pub size_positive : (q : ℚ) (k : ℕ) → k ≡ q.den → 0 < k
+size_positive q k e = rw e (den_pos q)
+
 stored : (n : ℤ) (d : ℕ) → SFits w128 n → d < 2 ^ 127 → frac (to_z w128 (of_z w128 n)) (nat_abs (to_z w128 d)) ≡ frac n d
 stored n d f h = ap₂ (λ x y. frac x (nat_abs y)) (to_z-of_z w128 n f) (to_z_pos w128 d h)
 

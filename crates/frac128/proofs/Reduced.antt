@@ -1,5 +1,5 @@
 -- the quotient of two sizes, with a sign
-use Rattle.std.proofs.Common.{ℕ, zero, suc, ◌≡◌, ◌≢◌, ◌/◌, ◌<◌, ◌≤◌, ◌^◌, ℤ, pos, negsuc, nat_abs, Bool, true, false, not, arith, refl, sym, ap, ap₂, ◌∙◌, subst, ltb, ◌⊎◌, ⊎_elim, not-le_of_lt, SFits, to_z, of_z, Option, MatchOption}
+use Rattle.std.proofs.Common.{ℕ, zero, suc, ◌≡◌, ◌≢◌, ◌/◌, ◌<◌, ◌≤◌, ◌^◌, ℤ, pos, negsuc, nat_abs, Bool, true, false, not, arith, refl, sym, ap, ap₂, ◌∙◌, subst, ltb, ◌⊎◌, ⊎_elim, not-le_of_lt, SFits, to_z, of_z, Option, None, MatchOption}
 use lib.Signed.{lt_z}
 use mir.Syntax.{w128}
 use mathlib.Core.Bool.{beq}
@@ -73,6 +73,10 @@ lowered_value s n d g t b k =
 -- an answer at one rational is one at an equal rational
 pub answer_at : (o : Option ℚ) (q r : ℚ) → q ≡ r → MatchOption o (¬ (Fits q)) (λ f. (f ≡ q) × Fits f) → MatchOption o (¬ (Fits r)) (λ f. (f ≡ r) × Fits f)
 answer_at o q r e h = subst (λ (x : ℚ). MatchOption o (¬ (Fits x)) (λ f. (f ≡ x) × Fits f)) e h
+
+-- no answer, where the rational does not fit
+pub none_at : (o : Option ℚ) (q : ℚ) → o ≡ None → ¬ (Fits q) → MatchOption o (¬ (Fits q)) (λ f. (f ≡ q) × Fits f)
+none_at o q e h = subst (λ x. MatchOption x (¬ (Fits q)) (λ f. (f ≡ q) × Fits f)) (sym e) h
 
 ltb-zero : (n : ℕ) → ltb n 0 ≡ false
 ltb-zero n = grind arith

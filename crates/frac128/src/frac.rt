@@ -5,6 +5,7 @@ ghost use Rattle.rational.specs.Gcd.{gcd as gcd_of};
 ghost use Rattle.rational.specs.Rational.{frac, zero_ℚ, one_ℚ, neg_ℚ};
 
 use crate::euclid::{cmp_signed_quotients, divided, gcd};
+use crate::fitting::{LIMIT, is_short, signed};
 use std::cmp::Ordering;
 use std::marker::Model;
 
@@ -57,28 +58,6 @@ impl Eq for Frac {
     ghost use Rattle.std.specs.Cmp.Rules.{comparing};
 
     ghost laws = { Prim.search (comparing, rules) };
-}
-
-// The first size that does not fit.
-const LIMIT: u128 = 170141183460469231731687303715884105728;
-
-// The first size whose product with another such size may not fit.
-const SHORT: u128 = 9223372036854775808;
-
-// The number of this size, with a sign.
-fn signed(size: u128, negative: bool) -> i128
-    requires { size < 2 ^ 127 }
-    ensures { result ≡ with_sign negative size }
-{
-    let number = size as i128;
-    if negative { -number } else { number }
-}
-
-// Whether a product with another such part fits.
-fn is_short(part: i128) -> bool
-    ensures { IsTrue result ↔ (nat_abs part < 2 ^ 63) }
-{
-    part.unsigned_abs() < SHORT
 }
 
 impl Frac {

@@ -6,11 +6,16 @@
 #![tactic(auto)]
 
 mod euclid;
+mod fitting;
 mod frac;
 mod memory;
+mod products;
+mod steps;
+mod sums;
 
 pub use frac::Frac;
 pub use memory::Memory;
+pub use steps::{Op, Unfit};
 
 #[cfg(test)]
 mod tests;
