@@ -98,8 +98,7 @@ pub fn run<R: Threads + Sync, I: Inputs, K: Sink, E: Sink, G: Gate>(
 
     // Where the words are accepted, the input holds a game and no fault was counted, the text is written whole,
     // unless memory runs out.
-    ensures complete {
-        let before = inputs_seen I.held I.failed I.open_faults I.read_faults inputs.old in
+    ensures complete { let before = inputs_seen I.held I.failed I.open_faults I.read_faults inputs.old in
         let after = inputs_seen I.held I.failed I.open_faults I.read_faults inputs.new in
         IsAccepted (map string_bytes words.now) before
         → NoFault before after (sink_seen K.taken K.flushed K.faults out.old) (sink_seen K.taken K.flushed K.faults out.new)
