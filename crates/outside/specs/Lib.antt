@@ -1,3 +1,5 @@
 pub mod Counts
 pub mod Inputs
+pub mod MemSink
+pub mod RealSink
 pub mod Sink

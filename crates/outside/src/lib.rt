@@ -5,8 +5,12 @@
 
 mod gate;
 mod inputs;
+mod mem_sink;
+mod real_sink;
 mod sink;
 
 pub use gate::{Gate, OpenGate};
 pub use inputs::{Inputs, OpenFailed, ReadFailed};
+pub use mem_sink::MemSink;
+pub use real_sink::RealSink;
 pub use sink::{Sink, WriteFailed};
