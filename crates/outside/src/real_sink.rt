@@ -5,11 +5,9 @@ ghost use Rattle.outside.specs.Counts.{Counts, next_count};
 ghost use Rattle.outside.specs.Sink.{Takes};
 
 use crate::sink::{Sink, WriteFailed};
+use crate::tries::MOST_TRIES;
 use std::io::{ErrorKind, Write};
 use std::marker::Model;
-
-/// How often one call of ours repeats a call that was interrupted.
-pub(crate) const MOST_TRIES: u32 = 1000;
 
 /// A sink that hands the bytes on to a writer, and does not tell them.
 #[derive(Drop)]
