@@ -1,8 +1,9 @@
 // Inputs over files and standard input.
-ghost use Rattle.std.specs.Prelude.{◌≡◌, ◌≤◌, ℕ, List, Option, length, Some, None, Ok, MatchResult, IfOk, OnOk, OnErr, is_some, option_map, string_bytes};
+ghost use Rattle.std.specs.Prelude.{◌≡◌, true, Some, None, Ok, IsSome, IsNone, IfOk, OnOk, OnErr, is_some, option_map, string_bytes};
 ghost use Rattle.std.specs.Io.{ReadsAtMost};
-ghost use Rattle.std.specs.Io.KnownBytes.{ReadConsumes, Keeps};
+ghost use Rattle.std.specs.Io.KnownBytes.{ReadConsumes};
 ghost use Rattle.outside.specs.Counts.{Counts, next_count};
+ghost use Rattle.outside.specs.RealInputs.{source_left, is_named};
 
 use crate::inputs::{Inputs, OpenFailed, ReadFailed};
 use crate::tries::MOST_TRIES;
@@ -24,12 +25,14 @@ pub struct RealInputs<'a, R: Files + Input + Drop> {
 }
 
 impl<'a, R: Files + Input + Drop> Model for RealInputs<'a, R> {
-    ghost use Rattle.std.specs.Prelude.{option_map, string_bytes};
-    ghost use Rattle.outside.specs.RealInputs.{OpenState};
+    ghost use Rattle.std.specs.Prelude.{◌≡◌, is_some, option_map, string_bytes};
+    ghost use Rattle.outside.specs.RealInputs.{OpenState, is_named};
 
     ghost Value = { OpenState };
 
     ghost view = { λ s. record { standard = R.Reader.remaining s.reader; file = option_map R.File.Read.remaining s.file; selected = option_map (option_map string_bytes) s.selected; failed = option_map (option_map string_bytes) s.failed; open_faults = s.open_faults; read_faults = s.read_faults } };
+
+    ghost invariant = { λ s. is_some s.file ≡ is_named s.selected };
 }
 
 impl<'a, R: Files + Input + Drop> RealInputs<'a, R> {
@@ -66,7 +69,19 @@ impl<'a, R: Files + Input + Drop> Inputs for RealInputs<'a, R> {
 
     ghost read_faults = { λ s. s.read_faults };
 
-    fn select(&mut self, name: Option<String>) -> Result<(), OpenFailed> {
+    fn select(&mut self, name: Option<String>) -> Result<(), OpenFailed>
+        ensures selects { OnOk result (self.new.selected ≡ Some (option_map string_bytes name)) }
+        ensures failed_stays { OnOk result (self.new.failed ≡ self.old.failed) }
+        ensures fails { OnErr result (self.new.failed ≡ Some (option_map string_bytes name)) }
+        ensures selects_nothing { OnErr result (self.new.selected ≡ None) }
+        ensures counts { Counts self.old.open_faults self.new.open_faults result }
+        ensures other_count { self.new.read_faults ≡ self.old.read_faults }
+
+        ensures opens { OnOk result (is_some self.new.file ≡ is_some name) }
+        ensures standard { OnOk result (IsNone name → source_left self.new ≡ self.old.standard) }
+        ensures selected { OnOk result (self.new ≡ record self.old { file = self.new.file; selected = Some (option_map string_bytes name) }) }
+        ensures refused { OnErr result (self.new ≡ record self.old { file = None; selected = None; failed = Some (option_map string_bytes name); open_faults = next_count self.old.open_faults }) }
+    {
         match open_named(self.rt, &name) {
             Ok(file) => {
                 self.file = file;
@@ -83,7 +98,22 @@ impl<'a, R: Files + Input + Drop> Inputs for RealInputs<'a, R> {
         }
     }
 
-    fn read(&mut self, buf: &mut [u8]) -> Result<usize, ReadFailed> {
+    fn read(&mut self, buf: &mut [u8]) -> Result<usize, ReadFailed>
+        ensures bound { ReadsAtMost result buf.new }
+        ensures selected_stays { OnOk result (self.new.selected ≡ self.old.selected) }
+        ensures failed_stays { OnOk result (self.new.failed ≡ self.old.failed) }
+        ensures idle { self.old.selected ≡ None → result ≡ Ok 0 }
+        ensures fails { OnErr result (self.new.failed ≡ self.old.selected) }
+        ensures selects_nothing { OnErr result (self.new.selected ≡ None) }
+        ensures counts { Counts self.old.read_faults self.new.read_faults result }
+        ensures other_count { self.new.open_faults ≡ self.old.open_faults }
+
+        ensures source { OnOk result (IsSome self.old.selected → ReadConsumes (source_left self.old) (source_left self.new) result buf.new) }
+        ensures same_file { OnOk result (is_some self.new.file ≡ is_some self.old.file) }
+        ensures standard { is_named self.old.selected ≡ true → self.new.standard ≡ self.old.standard }
+        ensures nothing { self.old.selected ≡ None → self.new ≡ self.old }
+        ensures refused { OnErr result (self.new ≡ record self.old { standard = self.new.standard; file = None; selected = None; failed = self.old.selected; read_faults = next_count self.old.read_faults }) }
+    {
         if self.selected.is_none() {
             return Ok(0);
         }
