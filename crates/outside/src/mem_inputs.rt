@@ -151,7 +151,7 @@ impl Inputs for MemInputs {
         ensures count { IfOk result (λ n. n ≡ min (length (bytes_left self.old)) (length buf.old)) }
         ensures fills { IfOk result (λ n. buf.new ≡ take n (bytes_left self.old) ++ drop n buf.old) }
         ensures reads { IfOk result (λ n. self.new ≡ record self.old { calls = next_count self.old.calls; position = self.old.position + n }) }
-        ensures refused { OnErr result (self.new ≡ record self.old { calls = next_count self.old.calls; selected = None; failed = self.old.selected; position = 0; read_faults = next_count self.old.read_faults }) }
+        ensures refused { OnErr result (self.new ≡ record self.old { calls = next_count self.old.calls; selected = None; failed = self.old.selected; read_faults = next_count self.old.read_faults }) }
         ensures unfilled { OnErr result (buf.new ≡ buf.old) }
     {
         let fails = self.counts_failing();
@@ -159,7 +159,6 @@ impl Inputs for MemInputs {
             return Ok(0);
         }
         if fails {
-            self.position = 0;
             self.failed = self.selected.take();
             self.read_faults = self.read_faults.saturating_add(1);
             return Err(ReadFailed);
@@ -204,4 +203,64 @@ fn copy_front(bytes: &[u8], buf: &mut [u8]) -> usize
     let count = bytes.len().min(buf.len());
     buf[..count].copy_from_slice(&bytes[..count]);
     count
+}
+
+#[cfg(test)]
+mod tests {
+    use super::*;
+    use std::alloc::{AllocError, Global};
+
+    fn sample(alloc: Global, failing: &[u64]) -> Result<MemInputs, AllocError> {
+        let mut named = Vec::new(alloc);
+        for (name, bytes) in [("one", "abc"), ("two", ""), ("one", "other")] {
+            let pair = (
+                String::from_str(alloc, name)?,
+                Vec::from_slice(alloc, bytes.as_bytes())?,
+            );
+            named.push(pair)?;
+        }
+        let plain = Vec::from_slice(alloc, b"plain")?;
+        let failing = Vec::from_slice(alloc, failing)?;
+        Ok(MemInputs::new(plain, named, failing))
+    }
+
+    #[test]
+    fn selects_by_name(rt: HostRuntime) -> Result<(), AllocError> {
+        let alloc = rt.alloc();
+        let mut inputs = sample(alloc, &[])?;
+        for (name, opens, want) in [
+            ("", true, "plain"),
+            ("one", true, "abc"),
+            ("two", true, ""),
+            ("three", false, ""),
+        ] {
+            let chosen = match name.is_empty() {
+                true => None,
+                false => Some(String::from_str(alloc, name)?),
+            };
+            assert!(rt; inputs.select(chosen).is_ok() == opens);
+            let mut got = Vec::new(alloc);
+            for _ in 0..10 {
+                let mut buf = [0u8; 2];
+                let count = inputs.read(&mut buf).unwrap_or(0);
+                got.extend_from_slice(&buf[..count.min(2)])?;
+            }
+            assert!(rt; got.as_slice() == want.as_bytes());
+        }
+        Ok(())
+    }
+
+    #[test]
+    fn fails_at_numbers(rt: HostRuntime) -> Result<(), AllocError> {
+        let mut inputs = sample(rt.alloc(), &[2, 3, 4, 7])?;
+        let mut buf = [0u8; 3];
+        assert!(rt; inputs.select(None).is_ok());
+        assert!(rt; inputs.read(&mut buf) == Err(ReadFailed));
+        assert!(rt; inputs.read(&mut buf) == Ok(0));
+        assert!(rt; inputs.select(None) == Err(OpenFailed));
+        assert!(rt; inputs.select(None).is_ok());
+        assert!(rt; inputs.read(&mut buf) == Ok(3));
+        assert!(rt; inputs.read(&mut buf) == Err(ReadFailed));
+        Ok(())
+    }
 }

@@ -119,3 +119,42 @@ impl Sink for MemSink {
         Ok(())
     }
 }
+
+#[cfg(test)]
+mod tests {
+    use super::*;
+
+    #[test]
+    fn takes_up_to_the_limit(rt: HostRuntime) -> Result<(), AllocError> {
+        for (most, limit, want) in [
+            (1usize, 2usize, "ab"),
+            (3, 2, "ab"),
+            (3, 5, "abcde"),
+            (9, 9, "abcde"),
+            (2, 0, ""),
+        ] {
+            prove!(0 < most);
+            let mut sink = MemSink::new(rt.alloc(), most, limit, false)?;
+            let mut rest: &[u8] = b"abcde";
+            for _ in 0..9 {
+                match sink.write(rest) {
+                    Ok(count) => rest = &rest[count..],
+                    Err(_) => break,
+                }
+            }
+            assert!(rt; sink.taken() == want.as_bytes());
+            assert!(rt; sink.write(rest).is_ok() == rest.is_empty());
+            assert!(rt; sink.write(&[]) == Ok(0));
+        }
+        Ok(())
+    }
+
+    #[test]
+    fn flushes(rt: HostRuntime) -> Result<(), AllocError> {
+        for flush_fails in [false, true] {
+            let mut sink = MemSink::new(rt.alloc(), 4, 4, flush_fails)?;
+            assert!(rt; sink.flush().is_err() == flush_fails);
+        }
+        Ok(())
+    }
+}

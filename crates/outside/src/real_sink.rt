@@ -114,3 +114,57 @@ fn flush_all<W: Write>(inner: &mut W) -> bool
     }
     false
 }
+
+#[cfg(test)]
+mod tests {
+    use super::*;
+    use std::io;
+
+    // A writer that is interrupted some times before each call that it answers, and takes a few bytes a call.
+    #[derive(Drop)]
+    struct Fitful {
+        interrupts: u32,
+        most: usize,
+    }
+
+    impl Fitful {
+        fn is_interrupted(&mut self) -> bool {
+            let interrupted = self.interrupts > 0;
+            self.interrupts = self.interrupts.saturating_sub(1);
+            interrupted
+        }
+    }
+
+    impl Write for Fitful {
+        fn write(&mut self, buf: &[u8]) -> io::Result<usize> {
+            if self.is_interrupted() {
+                return Err(io::Error::from(ErrorKind::Interrupted));
+            }
+            Ok(self.most.min(buf.len()))
+        }
+
+        fn flush(&mut self) -> io::Result<()> {
+            if self.is_interrupted() {
+                return Err(io::Error::from(ErrorKind::Interrupted));
+            }
+            Ok(())
+        }
+    }
+
+    #[test]
+    fn repeats_interrupted_calls(rt: HostRuntime) {
+        for (interrupts, most, want) in [
+            (0, 3, Ok(3)),
+            (0, 9, Ok(5)),
+            (999, 2, Ok(2)),
+            (1000, 2, Err(WriteFailed)),
+            (0, 0, Err(WriteFailed)),
+        ] {
+            let mut sink = RealSink::new(Fitful { interrupts, most });
+            assert!(rt; sink.write(b"abcde") == want);
+            let mut sink = RealSink::new(Fitful { interrupts, most });
+            assert!(rt; sink.flush().is_ok() == (interrupts < 1000));
+            assert!(rt; sink.write(&[]) == Ok(0));
+        }
+    }
+}
