@@ -90,10 +90,71 @@ impl Table {
         requires player { player < length self.now.players }
         ensures { result ≡ (game_of self.now).pays player (number_of (strategy_counts self.now) profile.now) }
     {
-        let mut number = 0;
-        for (place, strategy) in profile.iter().enumerate().rev() {
-            number = *strategy as usize + self.strategies[place].len() * number;
-        }
+        let number = profile_number(self.strategies.as_slice(), profile);
         self.payoffs[number * self.players.len() + player as usize]
+    }
+}
+
+// The number of a profile in file order, where the players have these strategies.
+fn profile_number(strategies: &[Vec<Name>], profile: &[u32]) -> usize
+    requires profile { IsProfile (map length (map (λ v. v.items) strategies.now)) profile.now }
+    requires few { profile_count (map length (map (λ v. v.items) strategies.now)) ≤ most_payoffs }
+    ensures { result ≡ number_of (map length (map (λ v. v.items) strategies.now)) profile.now }
+{
+    let mut number = 0;
+    for place in (0..profile.len()).rev() {
+        number = profile[place] as usize + strategies[place].len() * number;
+    }
+    number
+}
+
+#[cfg(test)]
+mod tests {
+    use super::*;
+    use std::alloc::{AllocError, Global};
+    use std::cmp::Ordering;
+
+    fn whole(number: i128) -> Frac {
+        Frac::new(number, 1).unwrap_or(Frac::one())
+    }
+
+    fn nameless(alloc: Global) -> Name {
+        Name::new(Vec::new(alloc))
+    }
+
+    // Players with 2 and 3 strategies. In file order the first is paid 30, 10, 50, 0, 20, 60 and the second
+    // 0, 40, 20, 70, 21, 11.
+    #[test]
+    fn pays(rt: HostRuntime) -> Result<(), AllocError> {
+        let alloc = rt.alloc();
+        let players = Vec::from_array(alloc, [nameless(alloc), nameless(alloc)])?;
+        let rows = Vec::from_array(alloc, [nameless(alloc), nameless(alloc)])?;
+        let columns = Vec::from_array(alloc, [nameless(alloc), nameless(alloc), nameless(alloc)])?;
+        let strategies = Vec::from_array(alloc, [rows, columns])?;
+        let payoffs = Vec::from_array(
+            alloc,
+            [
+                whole(30),
+                whole(0),
+                whole(10),
+                whole(40),
+                whole(50),
+                whole(20),
+                whole(0),
+                whole(70),
+                whole(20),
+                whole(21),
+                whole(60),
+                whole(11),
+            ],
+        )?;
+        let table = Table::new(nameless(alloc), players, strategies, payoffs);
+        assert!(rt; table.payoff(&[0, 0], 0).cmp(&whole(30)) == Ordering::Equal);
+        assert!(rt; table.payoff(&[1, 0], 1).cmp(&whole(40)) == Ordering::Equal);
+        assert!(rt; table.payoff(&[0, 1], 0).cmp(&whole(50)) == Ordering::Equal);
+        assert!(rt; table.payoff(&[1, 1], 1).cmp(&whole(70)) == Ordering::Equal);
+        assert!(rt; table.payoff(&[0, 2], 1).cmp(&whole(21)) == Ordering::Equal);
+        assert!(rt; table.payoff(&[1, 2], 0).cmp(&whole(60)) == Ordering::Equal);
+        Ok(())
     }
 }
