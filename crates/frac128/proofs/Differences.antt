@@ -2,8 +2,8 @@
 use Rattle.std.proofs.Common.{ℕ, ◌≡◌, ◌/◌, ◌<◌, ◌^◌, ℤ, pos, neg_ℤ, nat_abs, ◌+ℤ◌, ◌-ℤ◌, ◌*ℤ◌, refl, sym, ap, ap₂, ◌∙◌, subst, List, [], ◌∷◌, Option, Some, None, MatchOption}
 use Rattle.rational.specs.Gcd.{gcd}
 use Rattle.rational.specs.Rational.{ℚ, ◌+ℚ◌, ◌-ℚ◌, neg_ℚ}
-use Rattle.rational.proofs.IntegerRing.{integer_ring}
-use Rattle.rational.proofs.Ring.{ring, ◌:*◌, :neg, A, B}
+use Rattle.rings.proofs.IntegerRing.{integer_ring}
+use Rattle.rings.proofs.Ring.{ring, ◌:*◌, :neg, A, B}
 use Rattle.frac128.specs.Fraction.{PartFits}
 use Rattle.frac128.specs.Steps.{AddFits, SubFits, num_beside}
 use Rattle.frac128.proofs.Parts.{neg_parts, nat_abs-neg_ℤ}

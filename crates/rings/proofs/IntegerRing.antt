@@ -2,7 +2,7 @@
 use Rattle.std.proofs.Common.{◌≡◌, ◌+◌, ◌*◌, ℤ, pos, negsuc, ◌+ℤ◌, ◌*ℤ◌, neg_ℤ, arith, ap}
 use borrow.Author.Differences.{up, down, same_in, product_is, sum_is_lem}
 use lib.IntN.{+ℤ_assoc, +ℤ_comm, +ℤ_idr, +ℤ_invr, *ℤ_comm}
-use Rattle.rational.proofs.CommutativeRing.{CommutativeRing}
+use Rattle.rings.proofs.CommutativeRing.{CommutativeRing}
 
 -- an integer z is read as `up z - down z`: what this makes of a product
 pub up-mul : (a b : ℤ) → up (a *ℤ b) ≡ up a * up b + down a * down b

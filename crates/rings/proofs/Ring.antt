@@ -3,8 +3,8 @@ use Rattle.std.proofs.Common.{◌≡◌, ℕ, zero, suc, ◌+◌, ◌*◌, ◌-�
 use Rattle.std.proofs.Common.{suc-add, zero-mul, suc-mul, true≢false}
 use Rattle.std.proofs.Common.{sub-add_cancel}
 use native.Mathlib.Nat as N
-use Rattle.rational.proofs.CommutativeRing.{CommutativeRing}
-use Rattle.rational.proofs.CommutativeRing as L
+use Rattle.rings.proofs.CommutativeRing.{CommutativeRing}
+use Rattle.rings.proofs.CommutativeRing as L
 
 infixl 60 ◌:+◌ ◌:-◌
 infixl 70 ◌:*◌
