@@ -5,7 +5,8 @@ ghost use Rattle.outside.specs.MemSink.{count_taken};
 ghost use Rattle.outside.specs.Sink.{Takes};
 
 use crate::sink::{Sink, WriteFailed};
-use std::alloc::{AllocError, Global};
+use memory::Memory;
+use std::alloc::Global;
 use std::marker::Model;
 
 /// A sink that keeps the bytes in memory and tells them. One write takes at most `most` bytes, and all writes
@@ -38,7 +39,7 @@ impl MemSink {
         most: usize,
         limit: usize,
         flush_fails: bool,
-    ) -> Result<MemSink, AllocError>
+    ) -> Result<MemSink, Memory>
         requires { 0 < most }
         ensures state { IfOk result (λ s. s ≡ record { taken = []; most = most; limit = limit; flush_fails = flush_fails; flushed = false; faults = 0 }) }
         ensures taken { IfOk result (λ s. ⟦<MemSink as Sink>⟧.taken s ≡ Some []) }
@@ -125,7 +126,7 @@ mod tests {
     use super::*;
 
     #[test]
-    fn takes_up_to_the_limit(rt: HostRuntime) -> Result<(), AllocError> {
+    fn takes_up_to_the_limit(rt: HostRuntime) -> Result<(), Memory> {
         for (most, limit, want) in [
             (1usize, 2usize, "ab"),
             (3, 2, "ab"),
@@ -150,7 +151,7 @@ mod tests {
     }
 
     #[test]
-    fn flushes(rt: HostRuntime) -> Result<(), AllocError> {
+    fn flushes(rt: HostRuntime) -> Result<(), Memory> {
         for flush_fails in [false, true] {
             let mut sink = MemSink::new(rt.alloc(), 4, 4, flush_fails)?;
             assert!(rt; sink.flush().is_err() == flush_fails);

@@ -1,7 +1,9 @@
-//! Want of memory.
+//! Want of memory, which every crate names in the same way.
+#![tactic(auto)]
+
 use std::alloc::{AllocError, AllocFailed};
 
-/// There was no memory for what was asked.
+/// There was no memory for what was asked. It may come at any allocation, and no clause says where.
 #[derive(Debug, Clone, Copy, PartialEq, Eq)]
 pub struct Memory;
 
