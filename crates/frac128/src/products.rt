@@ -58,6 +58,9 @@ fn product_of(negative: bool, a: u128, b: u128, c: u128, d: u128) -> Option<Frac
     requires right_lowest { gcd_of c d ≡ 1 }
     ensures { MatchOption result (¬ (Fits (frac (with_sign negative (a * c)) (b * d)))) (λ f. (f ≡ frac (with_sign negative (a * c)) (b * d)) × Fits f) }
 {
+    if a == 0 || c == 0 {
+        return Some(Frac::zero());
+    }
     let g = gcd(a, d);
     let h = gcd(c, b);
     let top_left = divided(a, g);
