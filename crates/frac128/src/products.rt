@@ -35,17 +35,17 @@ impl Frac {
         ensures { MatchOption result (¬ (DivFits self other)) (λ f. (f ≡ self *ℚ inv_ℚ other) × DivFits self other) }
     {
         let num = self.num();
-        let other_num = other.num();
+        let divisor_num = other.num();
         let size = num.unsigned_abs();
         let den = self.den().unsigned_abs();
-        let other_size = other_num.unsigned_abs();
-        let other_den = other.den().unsigned_abs();
+        let divisor_size = divisor_num.unsigned_abs();
+        let divisor_den = other.den().unsigned_abs();
         product_of(
-            (num < 0) != (other_num < 0),
+            (num < 0) != (divisor_num < 0),
             size,
             den,
-            other_den,
-            other_size,
+            divisor_den,
+            divisor_size,
         )
     }
 }
