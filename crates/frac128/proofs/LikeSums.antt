@@ -4,9 +4,9 @@ use lib.IntN.{+ℤ_comm}
 use native.Mathlib.Nat.{div_self}
 use Rattle.rational.specs.Gcd.{gcd}
 use Rattle.rational.specs.Rational.{ℚ, ◌+ℚ◌, zero_ℚ, frac, den_pos}
-use Rattle.rational.proofs.IntegerRing.{integer_ring}
+use Rattle.rings.proofs.IntegerRing.{integer_ring}
 use Rattle.rational.proofs.RationalRing.{+ℚ_comm, +ℚ-zero}
-use Rattle.rational.proofs.Ring.{ring, ◌:*◌, ◌:+◌, num, A, B}
+use Rattle.rings.proofs.Ring.{ring, ◌:*◌, ◌:+◌, num, A, B}
 use Rattle.frac128.specs.Fraction.{Fits, PartFits}
 use Rattle.frac128.specs.Steps.{AddFits, num_beside}
 use Rattle.frac128.proofs.Parts.{kept, kept-part, zero-num, zero-den}
