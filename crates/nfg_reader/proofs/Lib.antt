@@ -1,0 +1,5 @@
+pub mod Digits
+pub mod Loops
+pub mod Spacing
+pub mod Spans
+pub mod Tables
