@@ -1,5 +1,7 @@
 -- Tokens between blanks.
 use Rattle.std.proofs.Common.{◌≡◌, ◌≢◌, ℕ, Bool, true, false, not, ◌||◌, eqb, ◌==◌, ◌⊎◌, inl, inr, List, [], ◌∷◌, ◌++◌, refl, sym, ap, ◌∙◌, append_assoc}
+use Rattle.std.specs.Bool.{Decides}
+use Rattle.std.proofs.lemmas.Bool.Decides.{Decides-or, Decides-eqb}
 use Rattle.std.specs.List.{AllByRecursion}
 use Rattle.nfg_reader.specs.PlainFile.{IsBlank, IsApart, AreSpaced}
 use Rattle.nfg_reader.specs.PlainReading.{is_blank, is_dark, leading, behind, word_at}
@@ -23,34 +25,43 @@ pub record Next (token bytes rest : List ℕ) : Type 0 where
   pub apart : Stops is_dark rest
 
 -- ---- blanks
-pub blank_passes : (b : ℕ) → IsBlank b → is_blank b ≡ true
-blank_passes b (inl e) = ?
-blank_passes b (inr e) = ?
+pub not_false : (v : Bool) → not v ≡ false → v ≡ true
+not_false true e = refl
+not_false false e = cc
 
-pub passes_blank : (b : ℕ) → is_blank b ≡ true → IsBlank b
-passes_blank b e = ?
+not_true : (v : Bool) → not v ≡ true → v ≡ false
+not_true true e = cc
+not_true false e = refl
+
+tells_blank : (b : ℕ) → Decides (is_blank b) (IsBlank b)
+tells_blank b = Decides-or (b == 32) (b == 10) (Decides-eqb b 32) (Decides-eqb b 10)
 
 pub not_dark_blank : (b : ℕ) → is_dark b ≡ false → IsBlank b
-not_dark_blank b e = ?
+not_dark_blank b e = (tells_blank b).0 (not_false (is_blank b) e)
 
 pub blank_not_dark : (b : ℕ) → IsBlank b → is_dark b ≡ false
-blank_not_dark b h = ?
+blank_not_dark b h = ap not ((tells_blank b).1 h)
 
 pub dark_no_blank : (b : ℕ) → is_dark b ≡ true → is_blank b ≡ false
-dark_no_blank b e = ?
+dark_no_blank b e = not_true (is_blank b) e
 
 pub blanks_pass : (bytes : List ℕ) → AllByRecursion IsBlank bytes → AllByRecursion (λ b. is_blank b ≡ true) bytes
 blanks_pass [] h = tt
-blanks_pass (b ∷ bytes) h = (blank_passes b h.0, blanks_pass bytes h.1)
+blanks_pass (b ∷ bytes) h = ((tells_blank b).1 h.0, blanks_pass bytes h.1)
 
 pub passes_blanks : (bytes : List ℕ) → AllByRecursion (λ b. is_blank b ≡ true) bytes → AllByRecursion IsBlank bytes
 passes_blanks [] h = tt
-passes_blanks (b ∷ bytes) h = (passes_blank b h.0, passes_blanks bytes h.1)
+passes_blanks (b ∷ bytes) h = ((tells_blank b).0 h.0, passes_blanks bytes h.1)
 
 -- ---- a token and what is spaced behind it
+nothing_in_empty : (a b c : List ℕ) → [] ≡ a ++ b ++ c → b ≡ []
+nothing_in_empty [] [] c e = refl
+nothing_in_empty [] (x ∷ b) c e = cc
+nothing_in_empty (x ∷ a) b c e = cc
+
 apart_from : (tokens : List (List ℕ)) (rest : List ℕ) → Stops is_dark rest → Tokens tokens rest → IsApart tokens rest
 apart_from [] rest s t = tt
-apart_from (token ∷ tokens) [] s t = ?
+apart_from (token ∷ tokens) [] s t = absurd (t.begins (nothing_in_empty t.spaced.0 token t.spaced.1 t.spaced.3))
 apart_from (token ∷ tokens) (b ∷ rest) s t = not_dark_blank b s
 
 -- a token before tokens
@@ -77,7 +88,7 @@ unfolding word_at
 word_next bytes = record {
   blanks = leading is_blank bytes;
   are_blanks = passes_blanks _ (leading-passes is_blank bytes);
-  is = ?;
+  is = leading-behind is_blank bytes ∙ ap (λ t. leading is_blank bytes ++ t) (leading-behind is_dark (behind is_blank bytes)) ∙ sym (append_assoc (leading is_blank bytes) (leading is_dark (behind is_blank bytes)) (behind is_dark (behind is_blank bytes)));
   apart = behind-stops is_dark (behind is_blank bytes);
 }
 

@@ -18,10 +18,11 @@ counted_is_table title first second rows columns payoffs r c e =
     let rs : length (counted_names rows) ≡ rows = length-names_from 1 rows in
     let cs : length (counted_names columns) ≡ columns = length-names_from 1 columns in
     let some : (n : ℕ) → IsCount n → 0 < length (counted_names n) = λ n h. omega (arith, length-names_from 1 n, h.some) in
+    let Some : List (List ℕ) → Type 0 = λ names. 0 < length names in
     let few : rows * columns ≤ 100 * 100 = mul-le-mul r.few c.few in
     record {
       strategies_of_each = refl;
-      some_strategy = All-cons (λ (names : List (List ℕ)). 0 < length names) _ _ (some rows r) (All-cons (λ (names : List (List ℕ)). 0 < length names) _ _ (some columns c) (All-nil _));
+      some_strategy = All-cons Some _ (counted_names columns ∷ []) (some rows r) (All-cons Some (counted_names columns) [] (some columns c) (All-nil Some));
       payoffs_of_each = rw (rs, cs) (omega (arith, e));
       few_payoffs = omega (arith, e, few);
     }
