@@ -130,7 +130,6 @@ fn name(alloc: Global, bytes: &[u8]) -> Result<Name, AllocError>
 }
 
 // The table with these parts, in which the strategies are only counted.
-#[tactic(auto, using(crate::proofs::Tables::counted_is_table))]
 fn counted_table(
     alloc: Global,
     title: &[u8],
