@@ -33,6 +33,18 @@ IsInputRefusal name before after refusal.TooLong = IfSome (before.held name) (λ
 IsInputRefusal name before after refusal.Memory = Unit {0}
 IsInputRefusal name before after _ = ⊥
 
+-- Why reading a piece of the selected input is refused: by the input that was selected and the one that failed, and by the
+-- count of failed reads before and after.
+abbrev pub IsPieceRefusal : Option InputName → Option InputName → ℕ → ℕ → Refusal → Type 0
+IsPieceRefusal selected failed before now refusal.ReadFault = Rose before now × (failed ≡ selected)
+IsPieceRefusal selected failed before now refusal.Memory = now ≡ before
+IsPieceRefusal selected failed before now _ = ⊥
+
+-- Why reading the selected input to its end is refused: for a piece of it, or for the bytes that were left.
+abbrev pub IsReadingRefusal : Option (List ℕ) → Option InputName → Option InputName → ℕ → ℕ → Refusal → Type 0
+IsReadingRefusal left selected failed before now refusal.TooLong = IfSome left (λ bytes. most_bytes < length bytes) × (now ≡ before)
+IsReadingRefusal left selected failed before now r = IsPieceRefusal selected failed before now r
+
 -- a count rose only with its own refusal
 pub record CountsTell (before after : InputsSeen) (refused : Option Refusal) : Type 0 where
   pub opening : before.open_faults < after.open_faults → refused ≡ Some refusal.OpenFault

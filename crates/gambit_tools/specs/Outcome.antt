@@ -46,17 +46,17 @@ HasCauseWith settings before after out_before out_after refusal.Memory = Unit {0
 abbrev pub HasCause : List (List ℕ) → InputsSeen → InputsSeen → SinkSeen → SinkSeen → Refusal → Type 0
 HasCause words before after out_before out_after (refusal.Usage u) = settings_of words ≡ Err u
 HasCause words before after out_before out_after r =
-  (settings : Settings) × (settings_of words ≡ Ok settings) × HasCauseWith settings before after out_before out_after r
+    (settings : Settings) × (settings_of words ≡ Ok settings) × HasCauseWith settings before after out_before out_after r
 
 -- What the sink for the text took: the whole text, flushed, where nothing is refused; a front of it before a write
 -- fault; nothing before any other refusal.
 abbrev pub Writes : List (List ℕ) → InputsSeen → SinkSeen → SinkSeen → Option Refusal → Type 0
 Writes words before out_before out_after None =
-  (settings : Settings) × (settings_of words ≡ Ok settings) × (text : List ℕ) × IsTextFor (before.held (input_of settings)) text
-  × Takes out_before.taken out_after.taken text × (out_after.flushed ≡ true)
+    (settings : Settings) × (settings_of words ≡ Ok settings) × (text : List ℕ) × IsTextFor (before.held (input_of settings)) text
+    × Takes out_before.taken out_after.taken text × (out_after.flushed ≡ true)
 Writes words before out_before out_after (Some refusal.WriteFault) =
-  (settings : Settings) × (settings_of words ≡ Ok settings) × (text : List ℕ) × IsTextFor (before.held (input_of settings)) text
-  × (count : ℕ) × Takes out_before.taken out_after.taken (take count text)
+    (settings : Settings) × (settings_of words ≡ Ok settings) × (text : List ℕ) × IsTextFor (before.held (input_of settings)) text
+    × (count : ℕ) × Takes out_before.taken out_after.taken (take count text)
 Writes words before out_before out_after (Some _) = out_after.taken ≡ out_before.taken
 
 -- What standard error took: nothing where nothing is refused, else a front of the refusal's line, and all of it where the
@@ -64,8 +64,8 @@ Writes words before out_before out_after (Some _) = out_after.taken ≡ out_befo
 abbrev pub Tells : SinkSeen → SinkSeen → Option Refusal → Type 0
 Tells err_before err_after None = err_after.taken ≡ err_before.taken
 Tells err_before err_after (Some r) =
-  (count : ℕ) × Takes err_before.taken err_after.taken (take count (refusal_line r))
-  × ((length (refusal_line r) ≤ count) ⊎ Rose err_before.faults err_after.faults)
+    (count : ℕ) × Takes err_before.taken err_after.taken (take count (refusal_line r))
+    × ((length (refusal_line r) ≤ count) ⊎ Rose err_before.faults err_after.faults)
 
 -- a run that answered with this status, because of this refusal or with none
 pub record IsOutcome (words : List (List ℕ)) (before after : InputsSeen) (out_before out_after err_before err_after : SinkSeen) (status : ℕ) (refused : Option Refusal) : Type 0 where

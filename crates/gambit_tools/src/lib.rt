@@ -8,5 +8,5 @@ mod refusal;
 mod tools;
 
 pub use refusal::Refusal;
-pub use tools::run;
+pub use tools::{refuse, run};
 pub use words::{Settings, Usage, read_settings};

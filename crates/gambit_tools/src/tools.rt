@@ -7,7 +7,8 @@ ghost use Rattle.game_core.specs.Table.{GameTable, game_of};
 ghost use Rattle.nfg_reader.specs.PlainFile.{IsPlainFile};
 ghost use Rattle.gambit_tools.specs.Seen.{inputs_seen, sink_seen};
 ghost use Rattle.gambit_tools.specs.Input.{CountsTell};
-ghost use Rattle.gambit_tools.specs.Outcome.{HasCause, Writes, IsOutcome, IsAccepted, NoFault, IsNoGame};
+ghost use Rattle.gambit_tools.specs.Refusals.{status_of};
+ghost use Rattle.gambit_tools.specs.Outcome.{HasCause, Writes, Tells, IsOutcome, IsAccepted, NoFault, IsNoGame};
 ghost use Rattle.gambit_tools.specs.declared.refusal.Refusal.{Refusal};
 
 use crate::input::read_input;
@@ -73,6 +74,16 @@ fn answer<I: Inputs, K: Sink>(
     }
 }
 
+/// Writes the line of a refusal, and answers its status. A fault of the sink ends the writing and changes no
+/// status. Takes no memory.
+pub fn refuse<E: Sink>(err: &mut E, refusal: Refusal) -> u8
+    ensures status { result ≡ status_of refusal }
+    ensures tells { Tells (sink_seen E.taken E.flushed E.faults err.old) (sink_seen E.taken E.flushed E.faults err.new) (Some refusal) }
+{
+    let _ = write_text(err, refusal.line().as_bytes());
+    refusal.status()
+}
+
 /// Does all that the program does, and answers the status with which it ends.
 ///
 /// `words` are the words after the program's own name. The input that they name is selected and read to its
@@ -98,8 +109,7 @@ pub fn run<R: Threads + Sync, I: Inputs, K: Sink, E: Sink, G: Gate>(
 
     // Where the words are accepted, the input holds a game and no fault was counted, the text is written whole,
     // unless memory runs out.
-    ensures complete {
-        let before = inputs_seen I.held I.failed I.open_faults I.read_faults inputs.old in
+    ensures complete { let before = inputs_seen I.held I.failed I.open_faults I.read_faults inputs.old in
         let after = inputs_seen I.held I.failed I.open_faults I.read_faults inputs.new in
         IsAccepted (map string_bytes words.now) before
         → NoFault before after (sink_seen K.taken K.flushed K.faults out.old) (sink_seen K.taken K.flushed K.faults out.new)
@@ -107,9 +117,6 @@ pub fn run<R: Threads + Sync, I: Inputs, K: Sink, E: Sink, G: Gate>(
 {
     match answer(alloc, words, inputs, out) {
         Ok(()) => 0,
-        Err(refusal) => {
-            let _ = write_text(err, refusal.line().as_bytes());
-            refusal.status()
-        }
+        Err(refusal) => refuse(err, refusal),
     }
 }

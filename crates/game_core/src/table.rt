@@ -1,5 +1,6 @@
 // Games as tables.
 ghost use Rattle.std.specs.Prelude.{◌≡◌, ◌<◌, ◌≤◌, ◌*◌, ◌+◌, length, map, slice_index, slice_index_or};
+ghost use Rattle.game_theory.specs.Profiles.{IsProfile, number_of, profile_count};
 ghost use Rattle.game_core.specs.Table.{IsTable, GameTable, game_of, strategy_counts, most_payoffs};
 
 use crate::name::Name;
@@ -81,5 +82,79 @@ impl Table {
         ensures valid { IsTable self.now }
     {
         self.payoffs.as_slice()
+    }
+
+    /// A player's payoff at a pure profile, which has one strategy for each player.
+    pub fn payoff(&self, profile: &[u32], player: u32) -> Frac
+        requires profile { IsProfile (strategy_counts self.now) profile.now }
+        requires player { player < length self.now.players }
+        ensures { result ≡ (game_of self.now).pays player (number_of (strategy_counts self.now) profile.now) }
+    {
+        let number = profile_number(self.strategies.as_slice(), profile);
+        self.payoffs[number * self.players.len() + player as usize]
+    }
+}
+
+// The number of a profile in file order, where the players have these strategies.
+fn profile_number(strategies: &[Vec<Name>], profile: &[u32]) -> usize
+    requires profile { IsProfile (map length (map (λ v. v.items) strategies.now)) profile.now }
+    requires few { profile_count (map length (map (λ v. v.items) strategies.now)) ≤ most_payoffs }
+    ensures { result ≡ number_of (map length (map (λ v. v.items) strategies.now)) profile.now }
+{
+    let mut number = 0;
+    for place in (0..profile.len()).rev() {
+        number = profile[place] as usize + strategies[place].len() * number;
+    }
+    number
+}
+
+#[cfg(test)]
+mod tests {
+    use super::*;
+    use std::alloc::{AllocError, Global};
+    use std::cmp::Ordering;
+
+    fn whole(number: i128) -> Frac {
+        Frac::new(number, 1).unwrap_or(Frac::one())
+    }
+
+    fn nameless(alloc: Global) -> Name {
+        Name::new(Vec::new(alloc))
+    }
+
+    // Players with 2 and 3 strategies. In file order the first is paid 30, 10, 50, 0, 20, 60 and the second
+    // 0, 40, 20, 70, 21, 11.
+    #[test]
+    fn pays(rt: HostRuntime) -> Result<(), AllocError> {
+        let alloc = rt.alloc();
+        let players = Vec::from_array(alloc, [nameless(alloc), nameless(alloc)])?;
+        let rows = Vec::from_array(alloc, [nameless(alloc), nameless(alloc)])?;
+        let columns = Vec::from_array(alloc, [nameless(alloc), nameless(alloc), nameless(alloc)])?;
+        let strategies = Vec::from_array(alloc, [rows, columns])?;
+        let payoffs = Vec::from_array(
+            alloc,
+            [
+                whole(30),
+                whole(0),
+                whole(10),
+                whole(40),
+                whole(50),
+                whole(20),
+                whole(0),
+                whole(70),
+                whole(20),
+                whole(21),
+                whole(60),
+                whole(11),
+            ],
+        )?;
+        let table = Table::new(nameless(alloc), players, strategies, payoffs);
+        assert!(rt; table.payoff(&[0, 0], 0).cmp(&whole(30)) == Ordering::Equal);
+        assert!(rt; table.payoff(&[1, 0], 1).cmp(&whole(40)) == Ordering::Equal);
+        assert!(rt; table.payoff(&[0, 1], 0).cmp(&whole(50)) == Ordering::Equal);
+        assert!(rt; table.payoff(&[1, 1], 1).cmp(&whole(70)) == Ordering::Equal);
+        assert!(rt; table.payoff(&[0, 2], 1).cmp(&whole(21)) == Ordering::Equal);
+        assert!(rt; table.payoff(&[1, 2], 0).cmp(&whole(60)) == Ordering::Equal);
+        Ok(())
     }
 }

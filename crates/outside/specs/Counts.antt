@@ -1,5 +1,5 @@
 -- Counts of faults. A count never falls and stands still at 2^64 - 1.
-use Rattle.std.specs.Prelude.{ℕ, ◌≡◌, ◌⊎◌, ◌-◌, ◌^◌, ◌<◌, ◌≤◌, OnOk, OnErr}
+use Rattle.std.specs.Prelude.{ℕ, ◌≡◌, ◌⊎◌, ◌-◌, ◌^◌, ◌<◌, ◌≤◌, ◌+◌, min, OnOk, OnErr}
 use Rattle.std.specs.Prelude.{Result}
 
 -- the count rose, or stands at its last value
@@ -11,3 +11,7 @@ pub record Counts {T E : Type 0} (before now : ℕ) (result : Result T E) : Type
   pub never_falls : before ≤ now
   pub same_at_ok : OnOk result (now ≡ before)
   pub rose_at_err : OnErr result (Rose before now)
+
+-- a count of one more
+abbrev pub next_count : ℕ → ℕ
+next_count n = min (n + 1) (2 ^ 64 - 1)

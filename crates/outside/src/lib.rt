@@ -5,8 +5,17 @@
 
 mod gate;
 mod inputs;
+mod mem_inputs;
+mod mem_sink;
+mod real_inputs;
+mod real_sink;
 mod sink;
+mod tries;
 
 pub use gate::{Gate, OpenGate};
 pub use inputs::{Inputs, OpenFailed, ReadFailed};
+pub use mem_inputs::MemInputs;
+pub use mem_sink::MemSink;
+pub use real_inputs::RealInputs;
+pub use real_sink::RealSink;
 pub use sink::{Sink, WriteFailed};

@@ -1,10 +1,8 @@
 pub mod Codes
-pub mod CommutativeRing
 pub mod Decide
 pub mod Examples
 pub mod Field
 pub mod Fractions
-pub mod IntegerRing
 pub mod Inverse
 pub mod Linear
 pub mod Means
@@ -12,6 +10,5 @@ pub mod Midpoints
 pub mod Order
 pub mod Parts
 pub mod RationalRing
-pub mod Ring
 pub mod Rules
 pub mod Sums

@@ -2,10 +2,10 @@
 use Rattle.std.proofs.Common.{ℕ, zero, suc, ◌<◌, ◌*◌, ◌≡◌, ◌↔◌, ℤ, pos, negsuc, neg_ℤ, nat_abs, ◌+ℤ◌, ◌*ℤ◌, ◌≤ℤ◌, ◌<ℤ◌, [], ◌∷◌, refl, sym, ap, ap₂, ◌∙◌, lit<, mul-pos}
 use Rattle.rational.specs.Gcd.{gcd}
 use Rattle.rational.specs.Rational.{ℚ, frac, den_pos, lowest, whole, ◌+ℚ◌, ◌*ℚ◌, neg_ℚ, zero_ℚ, ◌≤ℚ◌, ◌<ℚ◌}
-use Rattle.rational.proofs.IntegerRing.{integer_ring}
+use Rattle.rings.proofs.IntegerRing.{integer_ring}
 use Rattle.rational.proofs.Fractions.{equal_by_parts, StandsFor, StandsFor-self, StandsFor-also, StandsFor-frac, StandsFor-add, StandsFor-mul, StandsFor-neg, equal_by, equal_by_cross, frac-lowest}
 use Rattle.rational.proofs.Order.{le_by, by_le, lt_by, by_lt, eq_by, by_eq}
-use Rattle.rational.proofs.Ring.{ring, num, ◌:+◌, ◌:*◌, A, B, C}
+use Rattle.rings.proofs.Ring.{ring, num, ◌:+◌, ◌:*◌, A, B, C}
 use Rattle.rational.proofs.Linear.{zero-over, StandsFor-whole}
 
 -- ---- whole numbers

@@ -12,9 +12,9 @@
 //!   `unfolding frac ◌+ℚ◌ ◌*ℚ◌ gcd is_lowest` that names what is to compute.
 //! - `simp ring_laws` of `proofs::Rules`, for an identity without hypotheses, and
 //!   `simp ring_cancels` where terms cancel. Up to about 30 products of variables.
-//! - `ring` of `proofs::Ring`, for an identity that these leave. The identity is written once more
+//! - `ring` of the crate `rings` (`proofs::Ring`), for an identity that these leave. The identity is written once more
 //!   over `A`, `B`, .. for the atoms.
-//! - `combine` of `proofs::Ring`, for an equation from known equations. Each known equation comes
+//! - `combine`, beside it, for an equation from known equations. Each known equation comes
 //!   with its multiplier, as on paper; `*ℚ-inv`, by which a number times its inverse is 1, is one.
 //! - `linear` of `proofs::Linear`, for an inequality from inequalities and equations that are linear
 //!   in the atoms, and `linear_contradiction` where they contradict each other. No multipliers are

@@ -1,0 +1,39 @@
+-- when a step on two fractions fits
+use Rattle.std.specs.Prelude.{pos, ℤ, ◌*ℤ◌, ◌+ℤ◌, ◌-ℤ◌, ◌/◌}
+use Rattle.rational.specs.Gcd.{gcd}
+use Rattle.rational.specs.Rational.{ℚ, ◌+ℚ◌, ◌-ℚ◌, ◌*ℚ◌, inv_ℚ}
+use Rattle.frac128.specs.Fraction.{PartFits, Fits}
+use Rattle.frac128.specs.declared.steps.Op.{Op}
+use Rattle.frac128.specs.declared.steps.Unfit.{Unfit}
+
+-- the numerator of a over the least common denominator of a and b: its own times the denominator
+-- of b over the greatest common divisor of both denominators
+abbrev pub num_beside : ℚ → ℚ → ℤ
+num_beside a b = a.num *ℤ pos (b.den / gcd a.den b.den)
+
+-- a sum fits where both numerators over the least common denominator, their sum, and the
+-- denominator of the sum in lowest terms fit; the numerator in lowest terms then fits as well
+pub record AddFits (a b : ℚ) : Type 0 where
+  pub left : PartFits (num_beside a b)
+  pub right : PartFits (num_beside b a)
+  pub top : PartFits (num_beside a b +ℤ num_beside b a)
+  pub den : PartFits (pos (a +ℚ b).den)
+
+-- a difference fits in the same way
+pub record SubFits (a b : ℚ) : Type 0 where
+  pub left : PartFits (num_beside a b)
+  pub right : PartFits (num_beside b a)
+  pub top : PartFits (num_beside a b -ℤ num_beside b a)
+  pub den : PartFits (pos (a -ℚ b).den)
+
+-- a product fits where both of its parts in lowest terms do
+abbrev pub MulFits : ℚ → ℚ → Type 0
+MulFits a b = Fits (a *ℚ b)
+
+-- a quotient by a number that is not zero fits where the product by its inverse does
+abbrev pub DivFits : ℚ → ℚ → Type 0
+DivFits a b = Fits (a *ℚ inv_ℚ b)
+
+-- the step that does not fit
+abbrev pub unfit : Op → ℚ → ℚ → Unfit
+unfit op a b = record { op = op; left = a; right = b }

@@ -1,0 +1,55 @@
+//! Products and sums of a fraction's parts, where they fit.
+ghost use Rattle.std.specs.Prelude.{◌≡◌, ◌↔◌, ◌<◌, ◌*◌, ◌^◌, ◌+ℤ◌, ◌*ℤ◌, nat_abs, pos, IsTrue, MatchOption};
+ghost use Rattle.std.specs.Option.{SomeIff};
+ghost use Rattle.frac128.specs.Fraction.{PartFits, with_sign};
+
+/// The first size that does not fit.
+pub const LIMIT: u128 = 170141183460469231731687303715884105728;
+
+// The first size whose product with another such size may not fit.
+const SHORT: u128 = 9223372036854775808;
+
+/// The number of this size, with a sign.
+pub fn signed(size: u128, negative: bool) -> i128
+    requires { size < 2 ^ 127 }
+    ensures { result ≡ with_sign negative size }
+{
+    let number = size as i128;
+    if negative { -number } else { number }
+}
+
+/// Whether the product with another such part fits.
+pub fn is_short(part: i128) -> bool
+    ensures { IsTrue result ↔ (nat_abs part < 2 ^ 63) }
+{
+    part.unsigned_abs() < SHORT
+}
+
+/// The product of two sizes, where it fits 128 bits.
+pub fn product(n: u128, m: u128) -> Option<u128>
+    ensures { SomeIff result (n * m < 2 ^ 128) (n * m) }
+{
+    n.checked_mul(m)
+}
+
+/// The product of a part and a size, where it fits.
+pub fn times(n: i128, m: u128) -> Option<i128>
+    ensures { MatchOption result (¬ (PartFits (n *ℤ pos m))) (λ p. (p ≡ n *ℤ pos m) × PartFits p) }
+{
+    let size = product(n.unsigned_abs(), m)?;
+    if size >= LIMIT {
+        return None;
+    }
+    Some(signed(size, n < 0))
+}
+
+/// The sum of two parts, where it fits.
+pub fn plus(n: i128, m: i128) -> Option<i128>
+    ensures { MatchOption result (¬ (PartFits (n +ℤ m))) (λ s. (s ≡ n +ℤ m) × PartFits s) }
+{
+    let sum = n.checked_add(m)?;
+    if sum.unsigned_abs() >= LIMIT {
+        return None;
+    }
+    Some(sum)
+}

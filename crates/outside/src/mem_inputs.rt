@@ -1,0 +1,266 @@
+// Inputs in memory.
+ghost use Rattle.std.specs.Prelude.{◌≡◌, ◌↔◌, ◌⊎◌, ◌+◌, ◌<◌, ◌^◌, ℕ, [], List, Option, length, map, min, take, drop, ◌++◌, Some, None, Ok, IsTrue, IsErr, IsSome, IfOk, OnOk, OnErr, Contains, is_some, option_map, string_bytes};
+ghost use Rattle.std.specs.Option.{option_copied};
+ghost use Rattle.std.specs.Io.{ReadsAtMost};
+ghost use Rattle.std.specs.Io.KnownBytes.{ReadConsumes, IsAtEnd};
+ghost use Rattle.outside.specs.Counts.{Counts, next_count};
+ghost use Rattle.outside.specs.Inputs.{InputName};
+ghost use Rattle.outside.specs.MemInputs.{first_named, bytes_held, selected_bytes, bytes_left, bytes_left-idle};
+
+use crate::inputs::{Inputs, OpenFailed, ReadFailed};
+use std::marker::Model;
+
+/// Inputs that are held in memory and told: the bytes under no name, and names with their bytes. Calls of
+/// `select` and `read` are numbered together from 1; the number stops at 2^64 - 1. The calls whose numbers
+/// are given fail.
+#[derive(Drop)]
+pub struct MemInputs {
+    plain: Vec<u8>,
+    named: Vec<(String, Vec<u8>)>,
+    failing: Vec<u64>,
+    calls: u64,
+    selected: Option<Option<String>>,
+    failed: Option<Option<String>>,
+    position: usize,
+    open_faults: u64,
+    read_faults: u64,
+}
+
+impl Model for MemInputs {
+    ghost use Rattle.std.specs.Prelude.{map, option_map, string_bytes};
+    ghost use Rattle.outside.specs.MemInputs.{InputsState};
+
+    ghost Value = { InputsState };
+
+    ghost view = { λ s. record { plain = s.plain.items; named = map (λ p. (string_bytes p.0, p.1.items)) s.named.items; failing = s.failing.items; calls = s.calls; selected = option_map (option_map string_bytes) s.selected; failed = option_map (option_map string_bytes) s.failed; position = s.position; open_faults = s.open_faults; read_faults = s.read_faults } };
+}
+
+impl MemInputs {
+    /// Inputs with these bytes under no name, these names with bytes, of which the first counts where names are
+    /// equal, and these numbers of the calls that fail. Takes no memory.
+    pub fn new(plain: Vec<u8>, named: Vec<(String, Vec<u8>)>, failing: Vec<u64>) -> MemInputs
+        ensures state { result ≡ record { plain = plain.items; named = map (λ p. (string_bytes p.0, p.1.items)) named.items; failing = failing.items; calls = 0; selected = None; failed = None; position = 0; open_faults = 0; read_faults = 0 } }
+        ensures held { (n : InputName) → ⟦<MemInputs as Inputs>⟧.held result n ≡ bytes_held plain.items (map (λ p. (string_bytes p.0, p.1.items)) named.items) n }
+        ensures left { ⟦<MemInputs as Inputs>⟧.left result ≡ Some [] }
+        ensures selected { ⟦<MemInputs as Inputs>⟧.selected result ≡ None }
+        ensures failed { ⟦<MemInputs as Inputs>⟧.failed result ≡ None }
+        ensures open_faults { ⟦<MemInputs as Inputs>⟧.open_faults result ≡ 0 }
+        ensures read_faults { ⟦<MemInputs as Inputs>⟧.read_faults result ≡ 0 }
+    {
+        MemInputs {
+            plain,
+            named,
+            failing,
+            calls: 0,
+            selected: None,
+            failed: None,
+            position: 0,
+            open_faults: 0,
+            read_faults: 0,
+        }
+    }
+
+    // Counts a call, and answers whether it is one that fails.
+    fn counts_failing(&mut self) -> bool
+        ensures counts { self.new ≡ record self.old { calls = next_count self.old.calls } }
+        ensures fails { IsTrue result ↔ Contains self.old.failing (next_count self.old.calls) }
+    {
+        self.calls = self.calls.saturating_add(1);
+        self.failing.contains(&self.calls)
+    }
+
+    // The bytes of an input, where there is one of that name.
+    fn bytes_of(&self, name: &Option<String>) -> Option<&[u8]>
+        ensures { option_copied result ≡ bytes_held self.now.plain self.now.named (option_map string_bytes name.now) }
+    {
+        match name {
+            None => Some(self.plain.as_slice()),
+            Some(name) => first_named(self.named.as_slice(), name.as_str()),
+        }
+    }
+
+    // The bytes that are left of the selected input.
+    fn rest(&self) -> &[u8]
+        ensures rest { result.now ≡ bytes_left self.now }
+        ensures fits { self.now.position + length result.now < 2 ^ 64 }
+    {
+        let bytes = match &self.selected {
+            None => &[],
+            Some(name) => self.bytes_of(name).unwrap_or(&[]),
+        };
+        after(bytes, self.position)
+    }
+}
+
+impl Inputs for MemInputs {
+    ghost held = { λ s n. bytes_held s.plain s.named n };
+
+    ghost left = { λ s. Some (bytes_left s) };
+
+    ghost selected = { λ s. s.selected };
+
+    ghost failed = { λ s. s.failed };
+
+    ghost open_faults = { λ s. s.open_faults };
+
+    ghost read_faults = { λ s. s.read_faults };
+
+    /// Fails exactly where the call's number is one that fails or there is no input of that name.
+    fn select(&mut self, name: Option<String>) -> Result<(), OpenFailed>
+        ensures selects { OnOk result (self.new.selected ≡ Some (option_map string_bytes name)) }
+        ensures all_left { OnOk result (Some (bytes_left self.new) ≡ bytes_held self.old.plain self.old.named (option_map string_bytes name)) }
+        ensures failed_stays { OnOk result (self.new.failed ≡ self.old.failed) }
+        ensures fails { OnErr result (self.new.failed ≡ Some (option_map string_bytes name)) }
+        ensures selects_nothing { OnErr result (self.new.selected ≡ None) }
+        ensures held { (n : InputName) → bytes_held self.new.plain self.new.named n ≡ bytes_held self.old.plain self.old.named n }
+        ensures counts { Counts self.old.open_faults self.new.open_faults result }
+        ensures other_count { self.new.read_faults ≡ self.old.read_faults }
+
+        ensures when { IsErr result ↔ (Contains self.old.failing (next_count self.old.calls) ⊎ (bytes_held self.old.plain self.old.named (option_map string_bytes name) ≡ None)) }
+        ensures selected { OnOk result (self.new ≡ record self.old { calls = next_count self.old.calls; selected = Some (option_map string_bytes name); position = 0 }) }
+        ensures refused { OnErr result (self.new ≡ record self.old { calls = next_count self.old.calls; selected = None; failed = Some (option_map string_bytes name); position = 0; open_faults = next_count self.old.open_faults }) }
+    {
+        let fails = self.counts_failing();
+        let absent = self.bytes_of(&name).is_none();
+        self.position = 0;
+        if fails || absent {
+            self.selected = None;
+            self.failed = Some(name);
+            self.open_faults = self.open_faults.saturating_add(1);
+            return Err(OpenFailed);
+        }
+        self.selected = Some(name);
+        Ok(())
+    }
+
+    /// Fails exactly where an input is selected and the call's number is one that fails. Else it takes as many
+    /// bytes as the buffer has room for and are left.
+    fn read(&mut self, buf: &mut [u8]) -> Result<usize, ReadFailed>
+        ensures bound { ReadsAtMost result buf.new }
+        ensures bytes { OnOk result (ReadConsumes (Some (bytes_left self.old)) (Some (bytes_left self.new)) result buf.new) }
+        ensures selected_stays { OnOk result (self.new.selected ≡ self.old.selected) }
+        ensures failed_stays { OnOk result (self.new.failed ≡ self.old.failed) }
+        ensures idle { self.old.selected ≡ None → result ≡ Ok 0 }
+        ensures fails { OnErr result (self.new.failed ≡ self.old.selected) }
+        ensures selects_nothing { OnErr result (self.new.selected ≡ None) }
+        ensures held { (n : InputName) → bytes_held self.new.plain self.new.named n ≡ bytes_held self.old.plain self.old.named n }
+        ensures counts { Counts self.old.read_faults self.new.read_faults result }
+        ensures other_count { self.new.open_faults ≡ self.old.open_faults }
+
+        ensures when { IsErr result ↔ (IsSome self.old.selected × Contains self.old.failing (next_count self.old.calls)) }
+        ensures count { IfOk result (λ n. n ≡ min (length (bytes_left self.old)) (length buf.old)) }
+        ensures fills { IfOk result (λ n. buf.new ≡ take n (bytes_left self.old) ++ drop n buf.old) }
+        ensures reads { IfOk result (λ n. self.new ≡ record self.old { calls = next_count self.old.calls; position = self.old.position + n }) }
+        ensures refused { OnErr result (self.new ≡ record self.old { calls = next_count self.old.calls; selected = None; failed = self.old.selected; read_faults = next_count self.old.read_faults }) }
+        ensures unfilled { OnErr result (buf.new ≡ buf.old) }
+    {
+        let fails = self.counts_failing();
+        if self.selected.is_none() {
+            return Ok(0);
+        }
+        if fails {
+            self.failed = self.selected.take();
+            self.read_faults = self.read_faults.saturating_add(1);
+            return Err(ReadFailed);
+        }
+        let count = copy_front(self.rest(), buf);
+        self.position += count;
+        Ok(count)
+    }
+
+    ghost nothing_left = { bytes_left-idle };
+}
+
+// The bytes of the first pair with a name.
+fn first_named<'a>(named: &'a [(String, Vec<u8>)], name: &str) -> Option<&'a [u8]>
+    ensures { option_copied result ≡ first_named (map (λ p. (string_bytes p.0, p.1.items)) named.now) name.now }
+{
+    for (key, bytes) in named {
+        if key.as_str() == name {
+            return Some(bytes.as_slice());
+        }
+    }
+    None
+}
+
+// The bytes that follow the first `count`.
+fn after(bytes: &[u8], count: usize) -> &[u8]
+    ensures rest { result.now ≡ drop count bytes.now }
+    ensures fits { count + length result.now < 2 ^ 64 }
+{
+    if count <= bytes.len() {
+        &bytes[count..]
+    } else {
+        &[]
+    }
+}
+
+// Copies as many bytes as there are and the buffer has room for, and answers how many.
+fn copy_front(bytes: &[u8], buf: &mut [u8]) -> usize
+    ensures count { result ≡ min (length bytes.now) (length buf.old) }
+    ensures bytes { buf.new ≡ take result bytes.now ++ drop result buf.old }
+{
+    let count = bytes.len().min(buf.len());
+    buf[..count].copy_from_slice(&bytes[..count]);
+    count
+}
+
+#[cfg(test)]
+mod tests {
+    use super::*;
+    use std::alloc::{AllocError, Global};
+
+    fn sample(alloc: Global, failing: &[u64]) -> Result<MemInputs, AllocError> {
+        let mut named = Vec::new(alloc);
+        for (name, bytes) in [("one", "abc"), ("two", ""), ("one", "other")] {
+            let pair = (
+                String::from_str(alloc, name)?,
+                Vec::from_slice(alloc, bytes.as_bytes())?,
+            );
+            named.push(pair)?;
+        }
+        let plain = Vec::from_slice(alloc, b"plain")?;
+        let failing = Vec::from_slice(alloc, failing)?;
+        Ok(MemInputs::new(plain, named, failing))
+    }
+
+    #[test]
+    fn selects_by_name(rt: HostRuntime) -> Result<(), AllocError> {
+        let alloc = rt.alloc();
+        let mut inputs = sample(alloc, &[])?;
+        for (name, opens, want) in [
+            ("", true, "plain"),
+            ("one", true, "abc"),
+            ("two", true, ""),
+            ("three", false, ""),
+        ] {
+            let chosen = match name.is_empty() {
+                true => None,
+                false => Some(String::from_str(alloc, name)?),
+            };
+            assert!(rt; inputs.select(chosen).is_ok() == opens);
+            let mut got = Vec::new(alloc);
+            for _ in 0..10 {
+                let mut buf = [0u8; 2];
+                let count = inputs.read(&mut buf).unwrap_or(0);
+                got.extend_from_slice(&buf[..count.min(2)])?;
+            }
+            assert!(rt; got.as_slice() == want.as_bytes());
+        }
+        Ok(())
+    }
+
+    #[test]
+    fn fails_at_numbers(rt: HostRuntime) -> Result<(), AllocError> {
+        let mut inputs = sample(rt.alloc(), &[2, 3, 4, 7])?;
+        let mut buf = [0u8; 3];
+        assert!(rt; inputs.select(None).is_ok());
+        assert!(rt; inputs.read(&mut buf) == Err(ReadFailed));
+        assert!(rt; inputs.read(&mut buf) == Ok(0));
+        assert!(rt; inputs.select(None) == Err(OpenFailed));
+        assert!(rt; inputs.select(None).is_ok());
+        assert!(rt; inputs.read(&mut buf) == Ok(3));
+        assert!(rt; inputs.read(&mut buf) == Err(ReadFailed));
+        Ok(())
+    }
+}

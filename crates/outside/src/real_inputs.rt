@@ -1,0 +1,214 @@
+// Inputs over files and standard input.
+ghost use Rattle.std.specs.Prelude.{◌≡◌, true, Some, None, Ok, IsSome, IsNone, IfOk, OnOk, OnErr, is_some, option_map, string_bytes};
+ghost use Rattle.std.specs.Io.{ReadsAtMost};
+ghost use Rattle.std.specs.Io.KnownBytes.{ReadConsumes};
+ghost use Rattle.outside.specs.Counts.{Counts, next_count};
+ghost use Rattle.outside.specs.RealInputs.{source_left, is_named};
+
+use crate::inputs::{Inputs, OpenFailed, ReadFailed};
+use crate::tries::MOST_TRIES;
+use std::fs;
+use std::io::{ErrorKind, Read};
+use std::marker::Model;
+use std::rt::Files;
+
+/// Inputs of a runtime: standard input under no name, and files under their names. It does not tell bytes.
+#[derive(Drop)]
+pub struct RealInputs<'a, R: Files + Input + Drop> {
+    rt: &'a R,
+    reader: R::Reader,
+    file: Option<R::File>,
+    selected: Option<Option<String>>,
+    failed: Option<Option<String>>,
+    open_faults: u64,
+    read_faults: u64,
+}
+
+impl<'a, R: Files + Input + Drop> Model for RealInputs<'a, R> {
+    ghost use Rattle.std.specs.Prelude.{◌≡◌, is_some, option_map, string_bytes};
+    ghost use Rattle.outside.specs.RealInputs.{OpenState, is_named};
+
+    ghost Value = { OpenState };
+
+    ghost view = { λ s. record { standard = R.Reader.remaining s.reader; file = option_map R.File.Read.remaining s.file; selected = option_map (option_map string_bytes) s.selected; failed = option_map (option_map string_bytes) s.failed; open_faults = s.open_faults; read_faults = s.read_faults } };
+
+    ghost invariant = { λ s. is_some s.file ≡ is_named s.selected };
+}
+
+impl<'a, R: Files + Input + Drop> RealInputs<'a, R> {
+    /// The inputs of a runtime, none of which is selected.
+    pub fn new(rt: &'a R) -> RealInputs<'a, R>
+        ensures selected { ⟦<RealInputs<'a, R> as Inputs>⟧.selected result ≡ None }
+        ensures failed { ⟦<RealInputs<'a, R> as Inputs>⟧.failed result ≡ None }
+        ensures open_faults { ⟦<RealInputs<'a, R> as Inputs>⟧.open_faults result ≡ 0 }
+        ensures read_faults { ⟦<RealInputs<'a, R> as Inputs>⟧.read_faults result ≡ 0 }
+        ensures no_file { result.file ≡ None }
+    {
+        RealInputs {
+            rt,
+            reader: rt.reader(),
+            file: None,
+            selected: None,
+            failed: None,
+            open_faults: 0,
+            read_faults: 0,
+        }
+    }
+}
+
+impl<'a, R: Files + Input + Drop> Inputs for RealInputs<'a, R> {
+    ghost held = { λ _ _. None };
+
+    ghost left = { λ _. None };
+
+    ghost selected = { λ s. s.selected };
+
+    ghost failed = { λ s. s.failed };
+
+    ghost open_faults = { λ s. s.open_faults };
+
+    ghost read_faults = { λ s. s.read_faults };
+
+    fn select(&mut self, name: Option<String>) -> Result<(), OpenFailed>
+        ensures selects { OnOk result (self.new.selected ≡ Some (option_map string_bytes name)) }
+        ensures failed_stays { OnOk result (self.new.failed ≡ self.old.failed) }
+        ensures fails { OnErr result (self.new.failed ≡ Some (option_map string_bytes name)) }
+        ensures selects_nothing { OnErr result (self.new.selected ≡ None) }
+        ensures counts { Counts self.old.open_faults self.new.open_faults result }
+        ensures other_count { self.new.read_faults ≡ self.old.read_faults }
+
+        ensures opens { OnOk result (is_some self.new.file ≡ is_some name) }
+        ensures standard { OnOk result (IsNone name → source_left self.new ≡ self.old.standard) }
+        ensures selected { OnOk result (self.new ≡ record self.old { file = self.new.file; selected = Some (option_map string_bytes name) }) }
+        ensures refused { OnErr result (self.new ≡ record self.old { file = None; selected = None; failed = Some (option_map string_bytes name); open_faults = next_count self.old.open_faults }) }
+    {
+        match open_named(self.rt, &name) {
+            Ok(file) => {
+                self.file = file;
+                self.selected = Some(name);
+                Ok(())
+            }
+            Err(failure) => {
+                self.file = None;
+                self.selected = None;
+                self.failed = Some(name);
+                self.open_faults = self.open_faults.saturating_add(1);
+                Err(failure)
+            }
+        }
+    }
+
+    fn read(&mut self, buf: &mut [u8]) -> Result<usize, ReadFailed>
+        ensures bound { ReadsAtMost result buf.new }
+        ensures selected_stays { OnOk result (self.new.selected ≡ self.old.selected) }
+        ensures failed_stays { OnOk result (self.new.failed ≡ self.old.failed) }
+        ensures idle { self.old.selected ≡ None → result ≡ Ok 0 }
+        ensures fails { OnErr result (self.new.failed ≡ self.old.selected) }
+        ensures selects_nothing { OnErr result (self.new.selected ≡ None) }
+        ensures counts { Counts self.old.read_faults self.new.read_faults result }
+        ensures other_count { self.new.open_faults ≡ self.old.open_faults }
+
+        ensures source { OnOk result (IsSome self.old.selected → ReadConsumes (source_left self.old) (source_left self.new) result buf.new) }
+        ensures same_file { OnOk result (is_some self.new.file ≡ is_some self.old.file) }
+        ensures standard { is_named self.old.selected ≡ true → self.new.standard ≡ self.old.standard }
+        ensures nothing { self.old.selected ≡ None → self.new ≡ self.old }
+        ensures refused { OnErr result (self.new ≡ record self.old { standard = self.new.standard; file = None; selected = None; failed = self.old.selected; read_faults = next_count self.old.read_faults }) }
+    {
+        if self.selected.is_none() {
+            return Ok(0);
+        }
+        let count = match &mut self.file {
+            Some(file) => read_some(file, buf),
+            None => read_some(&mut self.reader, buf),
+        };
+        if count.is_err() {
+            self.file = None;
+            self.failed = self.selected.take();
+            self.read_faults = self.read_faults.saturating_add(1);
+        }
+        count
+    }
+
+    ghost nothing_left = { λ _ _. tt };
+}
+
+// Opens the file of a name, and nothing for no name.
+fn open_named<R: Files>(rt: &R, name: &Option<String>) -> Result<Option<R::File>, OpenFailed>
+    ensures { IfOk result (λ file. is_some file ≡ is_some name.now) }
+{
+    let Some(path) = name else {
+        return Ok(None);
+    };
+    for _ in 0..MOST_TRIES {
+        match fs::open(rt, path.as_str()) {
+            Ok(file) => return Ok(Some(file)),
+            Err(error) if error.kind() == ErrorKind::Interrupted => {}
+            Err(_) => return Err(OpenFailed),
+        }
+    }
+    Err(OpenFailed)
+}
+
+// Reads to the front of a buffer, and answers how many bytes.
+fn read_some<S: Read>(source: &mut S, buf: &mut [u8]) -> Result<usize, ReadFailed>
+    ensures bound { ReadsAtMost result buf.new }
+    ensures bytes { ReadConsumes (S.remaining source.old) (S.remaining source.new) result buf.new }
+{
+    for _ in 0..MOST_TRIES {
+        match source.read(buf) {
+            Ok(count) => return Ok(count),
+            Err(error) if error.kind() == ErrorKind::Interrupted => {}
+            Err(_) => return Err(ReadFailed),
+        }
+    }
+    Err(ReadFailed)
+}
+
+#[cfg(test)]
+mod tests {
+    use super::*;
+    use std::alloc::AllocError;
+    use std::io;
+
+    // A reader of zeros that is interrupted some times first.
+    #[derive(Drop)]
+    struct Fitful {
+        interrupts: u32,
+    }
+
+    impl Read for Fitful {
+        fn read(&mut self, buf: &mut [u8]) -> io::Result<usize> {
+            if self.interrupts > 0 {
+                self.interrupts -= 1;
+                return Err(io::Error::from(ErrorKind::Interrupted));
+            }
+            Ok(buf.len())
+        }
+    }
+
+    #[test]
+    fn repeats_interrupted_reads(rt: HostRuntime) {
+        for (interrupts, want) in [(0, Ok(4)), (999, Ok(4)), (1000, Err(ReadFailed))] {
+            let mut buf = [1u8; 4];
+            assert!(rt; read_some(&mut Fitful { interrupts }, &mut buf) == want);
+        }
+    }
+
+    #[test]
+    fn reads_files(rt: HostRuntime) -> Result<(), AllocError> {
+        let mut inputs = RealInputs::new(&rt);
+        for (name, opens, want) in [
+            ("/dev/zero", true, Ok(3)),
+            ("/dev/null", true, Ok(0)),
+            (".", true, Err(ReadFailed)),
+            ("/dev/null/none", false, Ok(0)),
+        ] {
+            let name = String::from_str(rt.alloc(), name)?;
+            assert!(rt; inputs.select(Some(name)).is_ok() == opens);
+            assert!(rt; inputs.read(&mut [1u8; 3]) == want);
+            assert!(rt; want.is_ok() || inputs.read(&mut [1u8; 3]) == Ok(0));
+        }
+        assert!(rt; inputs.select(None).is_ok());
+        Ok(())
+    }
+}

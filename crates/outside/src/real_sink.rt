@@ -1,0 +1,170 @@
+// A sink over a writer.
+ghost use Rattle.std.specs.Prelude.{◌≡◌, ◌<◌, ◌≤◌, false, true, length, take, None, IfOk, IfSome, OnOk, OnErr, IfNone, MatchResult, MatchOption};
+ghost use Rattle.std.specs.Io.KnownBytes.{Appends, Keeps};
+ghost use Rattle.outside.specs.Counts.{Counts, next_count};
+ghost use Rattle.outside.specs.Sink.{Takes};
+
+use crate::sink::{Sink, WriteFailed};
+use crate::tries::MOST_TRIES;
+use std::io::{ErrorKind, Write};
+use std::marker::Model;
+
+/// A sink that hands the bytes on to a writer, and does not tell them.
+#[derive(Drop)]
+pub struct RealSink<W: Write + Drop> {
+    inner: W,
+    flushed: bool,
+    faults: u64,
+}
+
+impl<W: Write + Drop> Model for RealSink<W> {
+    ghost use Rattle.outside.specs.RealSink.{WriterState};
+
+    ghost Value = { WriterState };
+
+    ghost view = { λ s. record { contents = W.contents s.inner; flushed = s.flushed; faults = s.faults } };
+}
+
+impl<W: Write + Drop> RealSink<W> {
+    /// A sink over a writer.
+    pub fn new(inner: W) -> RealSink<W>
+        ensures state { result ≡ record { contents = W.contents inner; flushed = false; faults = 0 } }
+        ensures not_flushed { ⟦<RealSink<W> as Sink>⟧.flushed result ≡ false }
+        ensures faults { ⟦<RealSink<W> as Sink>⟧.faults result ≡ 0 }
+    {
+        RealSink {
+            inner,
+            flushed: false,
+            faults: 0,
+        }
+    }
+}
+
+impl<W: Write + Drop> Sink for RealSink<W> {
+    ghost taken = { λ _. None };
+
+    ghost flushed = { λ s. s.flushed };
+
+    ghost faults = { λ s. s.faults };
+
+    fn write(&mut self, piece: &[u8]) -> Result<usize, WriteFailed>
+        ensures bound { IfOk result (λ n. n ≤ length piece.now) }
+        ensures some { 0 < length piece.now → IfOk result (λ n. 0 < n) }
+        ensures not_flushed { self.new.flushed ≡ false }
+        ensures counts { Counts self.old.faults self.new.faults result }
+
+        ensures hands_on { MatchResult result (λ n. Appends self.old.contents self.new.contents (take n piece.now)) (λ _. Keeps self.old.contents self.new.contents) }
+        ensures faults { MatchResult result (λ _. self.new.faults ≡ self.old.faults) (λ _. self.new.faults ≡ next_count self.old.faults) }
+    {
+        self.flushed = false;
+        match write_some(&mut self.inner, piece) {
+            Some(count) => Ok(count),
+            None => {
+                self.faults = self.faults.saturating_add(1);
+                Err(WriteFailed)
+            }
+        }
+    }
+
+    fn flush(&mut self) -> Result<(), WriteFailed>
+        ensures flushed { OnOk result (self.new.flushed ≡ true) }
+        ensures not_flushed { OnErr result (self.new.flushed ≡ false) }
+        ensures counts { Counts self.old.faults self.new.faults result }
+
+        ensures hands_on { Keeps self.old.contents self.new.contents }
+        ensures faults { MatchResult result (λ _. self.new.faults ≡ self.old.faults) (λ _. self.new.faults ≡ next_count self.old.faults) }
+    {
+        self.flushed = flush_all(&mut self.inner);
+        if self.flushed {
+            return Ok(());
+        }
+        self.faults = self.faults.saturating_add(1);
+        Err(WriteFailed)
+    }
+}
+
+// Writes the front of a piece and answers how many bytes were taken, or None where the writer failed or took
+// nothing of a piece that is not empty.
+fn write_some<W: Write>(inner: &mut W, piece: &[u8]) -> Option<usize>
+    ensures bound { IfSome result (λ n. n ≤ length piece.now) }
+    ensures some { 0 < length piece.now → IfSome result (λ n. 0 < n) }
+    ensures bytes { MatchOption result (Keeps (W.contents inner.old) (W.contents inner.new)) (λ n. Appends (W.contents inner.old) (W.contents inner.new) (take n piece.now)) }
+{
+    for _ in 0..MOST_TRIES {
+        match inner.write(piece) {
+            Ok(0) if !piece.is_empty() => return None,
+            Ok(count) => return Some(count),
+            Err(error) if error.kind() == ErrorKind::Interrupted => {}
+            Err(_) => return None,
+        }
+    }
+    None
+}
+
+// Flushes, and answers whether that succeeded.
+fn flush_all<W: Write>(inner: &mut W) -> bool
+    ensures { Keeps (W.contents inner.old) (W.contents inner.new) }
+{
+    for _ in 0..MOST_TRIES {
+        match inner.flush() {
+            Ok(()) => return true,
+            Err(error) if error.kind() == ErrorKind::Interrupted => {}
+            Err(_) => return false,
+        }
+    }
+    false
+}
+
+#[cfg(test)]
+mod tests {
+    use super::*;
+    use std::io;
+
+    // A writer that is interrupted some times before each call that it answers, and takes a few bytes a call.
+    #[derive(Drop)]
+    struct Fitful {
+        interrupts: u32,
+        most: usize,
+    }
+
+    impl Fitful {
+        fn is_interrupted(&mut self) -> bool {
+            let interrupted = self.interrupts > 0;
+            self.interrupts = self.interrupts.saturating_sub(1);
+            interrupted
+        }
+    }
+
+    impl Write for Fitful {
+        fn write(&mut self, buf: &[u8]) -> io::Result<usize> {
+            if self.is_interrupted() {
+                return Err(io::Error::from(ErrorKind::Interrupted));
+            }
+            Ok(self.most.min(buf.len()))
+        }
+
+        fn flush(&mut self) -> io::Result<()> {
+            if self.is_interrupted() {
+                return Err(io::Error::from(ErrorKind::Interrupted));
+            }
+            Ok(())
+        }
+    }
+
+    #[test]
+    fn repeats_interrupted_calls(rt: HostRuntime) {
+        for (interrupts, most, want) in [
+            (0, 3, Ok(3)),
+            (0, 9, Ok(5)),
+            (999, 2, Ok(2)),
+            (1000, 2, Err(WriteFailed)),
+            (0, 0, Err(WriteFailed)),
+        ] {
+            let mut sink = RealSink::new(Fitful { interrupts, most });
+            assert!(rt; sink.write(b"abcde") == want);
+            let mut sink = RealSink::new(Fitful { interrupts, most });
+            assert!(rt; sink.flush().is_ok() == (interrupts < 1000));
+            assert!(rt; sink.write(&[]) == Ok(0));
+        }
+    }
+}

@@ -1,0 +1,3 @@
+pub mod CommutativeRing
+pub mod IntegerRing
+pub mod Ring
