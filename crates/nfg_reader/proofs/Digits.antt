@@ -11,13 +11,13 @@ use Rattle.std.specs.Fmt.{decimal}
 use Rattle.std.specs.List.{AllByRecursion, list_all, fold}
 use Rattle.rational.specs.Rational.{whole}
 use Rattle.rational.proofs.Parts.{whole-num, whole-den}
-use Rattle.frac128.specs.Fraction.{Fits128}
+use Rattle.frac128.specs.Fraction.{Fits}
 use Rattle.nfg_reader.specs.PlainFile.{AreDigits, IsWholeNumber, digits_value}
 use Rattle.nfg_reader.specs.PlainReading.{◌>>=◌, IsCount, is_dark, digits_of, count_of, number_of}
 use Rattle.nfg_reader.proofs.Spacing.{IsWord, not_false}
 
 -- a whole number fits where its size does
-pub whole_fits : (n : ℤ) → nat_abs n < 2 ^ 127 → Fits128 (whole n)
+pub whole_fits : (n : ℤ) → nat_abs n < 2 ^ 127 → Fits (whole n)
 whole_fits n h = record { num = rw whole-num h; den = rw whole-den (omega arith) }
 
 -- a number of at most 17 digits and one more digit are below 10 ^ 18
@@ -116,6 +116,9 @@ count_is text n e nonzero few =
     let zero_first : n ≡ 0 → get_or text 0 0 ≡ 48 = λ z. sym (ap (λ (t : List ℕ). get_or t 0 0) same) ∙ ap (λ (m : ℕ). get_or (decimal m) 0 0) z ∙ ap (λ (t : List ℕ). get_or t 0 0) (decimal_digit 0 (lit< tt)) in
     (record { some = pos_of_ne-zero (λ z. nonzero (zero_first z)); few = few }, sym same)
 
+pub count_in_range : (text : List ℕ) (n : ℕ) → digits_of text ≡ Some n → get_or text 0 0 ≢ 48 → n ≤ 100 → IsCount n
+count_in_range text n e nonzero few = (count_is text n e nonzero few).0
+
 pub count_found : (text : List ℕ) (n : ℕ) → count_of text ≡ Some n → IsCount n × (text ≡ decimal n)
 unfolding count_of
 count_found text n e =
@@ -143,15 +146,15 @@ unfolding number_of
 number_found [] n e = cc
 number_found (b ∷ digits) n e =
     elim (either (b == 45) (option_map (λ m. neg_ℤ (pos m)) (digits_of digits)) (option_map pos (digits_of (b ∷ digits))) (Some n) e) [
-      inl h ↦
-        let p = mapped (λ m. neg_ℤ (pos m)) (digits_of digits) n h.1 in
-        let d = digits_found digits p.0 p.1 in
-        let minus : b ≡ 45 = (Decides-eqb b 45).0 h.0 in
-        inr (digits, rw minus refl, d.0, sym p.2 ∙ ap (λ m. neg_ℤ (pos m)) d.1)
+      | inl h ↦
+          let p = mapped (λ m. neg_ℤ (pos m)) (digits_of digits) n h.1 in
+          let d = digits_found digits p.0 p.1 in
+          let minus : b ≡ 45 = (Decides-eqb b 45).0 h.0 in
+          inr (digits, rw minus refl, d.0, sym p.2 ∙ ap (λ m. neg_ℤ (pos m)) d.1)
       | inr h ↦
-        let p = mapped pos (digits_of (b ∷ digits)) n h.1 in
-        let d = digits_found (b ∷ digits) p.0 p.1 in
-        inl (d.0, sym p.2 ∙ ap pos d.1)
+          let p = mapped pos (digits_of (b ∷ digits)) n h.1 in
+          let d = digits_found (b ∷ digits) p.0 p.1 in
+          inl (d.0, sym p.2 ∙ ap pos d.1)
     ]
 
 pub number_again : (text : List ℕ) (n : ℤ) → IsWholeNumber text n → number_of text ≡ Some n

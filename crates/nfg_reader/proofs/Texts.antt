@@ -64,13 +64,15 @@ reopened text rest h s =
 pub text_next : (bytes text rest : List ℕ) → text_at bytes ≡ Some (text, rest) → IsPlainText text × Next (quoted text) bytes rest
 unfolding text_at
 text_next bytes text rest e =
-    let o = opened (behind is_blank bytes) text rest e in
-    (o.0, record {
-      blanks = leading is_blank bytes;
-      are_blanks = passes_blanks _ (leading-passes is_blank bytes);
-      is = leading-behind is_blank bytes ∙ ap (λ t. leading is_blank bytes ++ t) o.1 ∙ sym (append_assoc (leading is_blank bytes) (quoted text) rest);
-      apart = o.2;
-    })
+    let o = opened (behind is_blank bytes) text rest e in (
+      o.0,
+      record {
+        blanks = leading is_blank bytes;
+        are_blanks = passes_blanks _ (leading-passes is_blank bytes);
+        is = leading-behind is_blank bytes ∙ ap (λ t. leading is_blank bytes ++ t) o.1 ∙ sym (append_assoc (leading is_blank bytes) (quoted text) rest);
+        apart = o.2;
+      },
+    )
 
 -- a text that stands next is read
 pub text_again : (text bytes : List ℕ) (tokens : List (List ℕ)) → IsPlainText text → AreSpaced (quoted text ∷ tokens) bytes → (rest : List ℕ) × (text_at bytes ≡ Some (text, rest)) × AreSpaced tokens rest

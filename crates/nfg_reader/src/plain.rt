@@ -165,13 +165,7 @@ fn table(alloc: Global, bytes: &[u8]) -> Result<Table, PlainStop>
         return Err(PlainStop::NotPlain);
     };
     let payoffs = last_payoffs(alloc, rest, 2 * (rows * columns))?;
-    Ok(counted_table(
-        alloc,
-        title,
-        (first, second),
-        (rows, columns),
-        payoffs,
-    )?)
+    Ok(counted_table(alloc, title, (first, second), (rows, columns), payoffs)?)
 }
 
 /// Reads a plain file: the table that the bytes stand for, or `NotPlain` exactly where they stand for none.
