@@ -116,6 +116,9 @@ count_is text n e nonzero few =
     let zero_first : n ≡ 0 → get_or text 0 0 ≡ 48 = λ z. sym (ap (λ (t : List ℕ). get_or t 0 0) same) ∙ ap (λ (m : ℕ). get_or (decimal m) 0 0) z ∙ ap (λ (t : List ℕ). get_or t 0 0) (decimal_digit 0 (lit< tt)) in
     (record { some = pos_of_ne-zero (λ z. nonzero (zero_first z)); few = few }, sym same)
 
+pub count_in_range : (text : List ℕ) (n : ℕ) → digits_of text ≡ Some n → get_or text 0 0 ≢ 48 → n ≤ 100 → IsCount n
+count_in_range text n e nonzero few = (count_is text n e nonzero few).0
+
 pub count_found : (text : List ℕ) (n : ℕ) → count_of text ≡ Some n → IsCount n × (text ≡ decimal n)
 unfolding count_of
 count_found text n e =

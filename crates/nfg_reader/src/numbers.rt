@@ -44,7 +44,7 @@ fn digits_of(digits: &[u8]) -> Option<u64>
 }
 
 // A number from 1 to 100, without a leading zero.
-#[tactic(auto, unfolding(crate::specs::PlainReading::count_of))]
+#[tactic(auto, using(crate::proofs::Digits::count_in_range), unfolding(crate::specs::PlainReading::count_of))]
 fn count_of(token: &[u8]) -> Option<usize>
     ensures read { Gives (λ n. n) result (count_of token.now) }
     ensures count { IfSome result IsCount }
