@@ -33,8 +33,8 @@ abbrev pub SpellsText : List ℕ → List ℕ → Type 0
 SpellsText [] text = text ≡ []
 SpellsText (b ∷ []) text = (b ≢ 34) × (b ≢ 92) × (text ≡ b ∷ [])
 SpellsText (b ∷ c ∷ bytes) text =
-  ((b ≡ 92) × (c ≡ 34) × (rest : List ℕ) × (text ≡ 34 ∷ rest) × SpellsText bytes rest)
-  ⊎ ((b ≢ 34) × (b ≡ 92 → c ≢ 34) × (rest : List ℕ) × (text ≡ b ∷ rest) × SpellsText (c ∷ bytes) rest)
+    ((b ≡ 92) × (c ≡ 34) × (rest : List ℕ) × (text ≡ 34 ∷ rest) × SpellsText bytes rest)
+    ⊎ ((b ≢ 34) × (b ≡ 92 → c ≢ 34) × (rest : List ℕ) × (text ≡ b ∷ rest) × SpellsText (c ∷ bytes) rest)
 
 -- the longest run of bare bytes: all of them are bare, and none follows
 pub record IsRun (run rest : List ℕ) : Type 0 where
@@ -55,14 +55,14 @@ IsTokenAt bytes rest (Number value) = IsRun bytes rest × ¬ (BeginsWith IsLette
 abbrev pub AreTokensBefore : ℕ → List ℕ → List Spanned → List ℕ → Type 0
 AreTokensBefore at bytes [] rest = (blanks : List ℕ) × AllByRecursion IsBlank blanks × (bytes ≡ blanks ++ rest)
 AreTokensBefore at bytes (spanned ∷ tokens) rest =
-  (blanks front back : List ℕ) × AllByRecursion IsBlank blanks × (bytes ≡ blanks ++ front ++ back)
-  × IsTokenAt front back spanned.token × (spanned.start ≡ at + length blanks) × (spanned.end ≡ spanned.start + length front)
-  × AreTokensBefore spanned.end back tokens rest
+    (blanks front back : List ℕ) × AllByRecursion IsBlank blanks × (bytes ≡ blanks ++ front ++ back)
+    × IsTokenAt front back spanned.token × (spanned.start ≡ at + length blanks) × (spanned.end ≡ spanned.start + length front)
+    × AreTokensBefore spanned.end back tokens rest
 
 -- the bytes are these tokens
 pub record AreTokens (bytes : List ℕ) (tokens : TokenList) : Type 0 where
-  pub tokens : AreTokensBefore 0 bytes tokens.list []
-  pub length : tokens.length ≡ length bytes
+  pub in_order : AreTokensBefore 0 bytes tokens.list []
+  pub to_the_end : tokens.length ≡ length bytes
 
 -- a number of a token is short
 abbrev pub IsShortToken : Token → Type 0
@@ -86,7 +86,7 @@ pub record BeginsNoToken (b : ℕ) : Type 0 where
 abbrev pub IsFaultAt : List ℕ → TextKind → Type 0
 IsFaultAt bytes BadChar = BeginsWith BeginsNoToken bytes
 IsFaultAt bytes OpenText =
-  BeginsWith (λ b. b ≡ 34) bytes × ((inner text rest : List ℕ) → bytes ≡ 34 ∷ inner ++ 34 ∷ rest → SpellsText inner text → ⊥)
+    BeginsWith (λ b. b ≡ 34) bytes × ((inner text rest : List ℕ) → bytes ≡ 34 ∷ inner ++ 34 ∷ rest → SpellsText inner text → ⊥)
 IsFaultAt bytes BadNumber = (run rest : List ℕ) × (bytes ≡ run ++ rest) × IsRun run rest × ¬ (BeginsWith IsLetter run) × IsNoNumber run
 IsFaultAt bytes NumberTooLarge = (run rest : List ℕ) × (bytes ≡ run ++ rest) × IsRun run rest × ¬ (BeginsWith IsLetter run) × IsTooLarge run
 

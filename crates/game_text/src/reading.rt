@@ -53,12 +53,10 @@ pub fn read_tokens(alloc: Global, bytes: &[u8]) -> Result<Tokens, TextStop>
 /// A byte string has one list of tokens at most.
 pub fn tokens_are_single()
     ensures { (bytes : List ℕ) (one other : TokenList) → AreTokens bytes one → AreTokens bytes other → one ≡ other }
-{
-}
+{}
 
 /// A byte string with a first fault has no list of tokens, and no other first fault.
 pub fn first_fault_is_single()
     ensures no_tokens { (bytes : List ℕ) (at : ℕ) (kind : TextKind) (tokens : TokenList) → IsFirstFault bytes at kind → AreTokens bytes tokens → ⊥ }
     ensures no_other { (bytes : List ℕ) (at place : ℕ) (kind other : TextKind) → IsFirstFault bytes at kind → IsFirstFault bytes place other → (at ≡ place) × (kind ≡ other) }
-{
-}
+{}

@@ -33,5 +33,4 @@ pub fn read_number(text: &[u8]) -> Result<Frac, NumberFault>
 /// A text is written in one form at most.
 pub fn numbers_have_one_form()
     ensures { (text : List ℕ) (one other : NumberForm) → IsWritten text one → IsWritten text other → one ≡ other }
-{
-}
+{}
