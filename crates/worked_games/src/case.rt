@@ -6,6 +6,7 @@ use std::alloc::Global;
 use std::thread::Threads;
 
 /// The words and the input of a run, how the outside behaves, and the status and bytes that are wanted.
+#[derive(Clone, Copy)]
 pub struct Case<'a> {
     pub words: &'a [&'a str],
     pub input: &'a str,
