@@ -1,8 +1,8 @@
 -- numbers that share no divisor
-use Rattle.std.proofs.Common.{ℕ, zero, suc, ◌≡◌, ◌*◌, ◌-◌, ◌/◌, ◌<◌, ℤ, pos, negsuc, ◌+ℤ◌, ◌*ℤ◌, nat_abs, arith, refl, sym, ap, ◌∙◌, subst, one-mul, mul_comm, ◌≤◌, Bool, true, false, cond, ltb, tests, ◌⊎◌, inl, inr, ⊎_elim, ◌+◌}
+use Rattle.std.proofs.Common.{ℕ, suc, ◌≡◌, ◌*◌, ◌-◌, ◌/◌, ◌<◌, ℤ, pos, negsuc, ◌+ℤ◌, ◌*ℤ◌, nat_abs, arith, refl, sym, ap, ◌∙◌, subst, one-mul, ◌≤◌, Bool, true, false, cond, ltb, tests, ◌⊎◌, inl, inr, ◌+◌}
 use native.Mathlib.Nat.{dvd_trans, dvd-mul_right, dvd-mul_left, dvd-mul_right_of_dvd, dvd-mul_left_of_dvd, eq-one_of_dvd-one, div-mul_cancel, dvd-add, dvd-sub, dvd_antisymm}
 use lib.IntN.{sub_ℕ}
-use Rattle.std.proofs.lemmas.Int.{ints, unsigned_abs-mul}
+use Rattle.std.proofs.lemmas.Int.{unsigned_abs-mul}
 use Rattle.std.specs.Int.{◌∣◌}
 use Rattle.rational.specs.Gcd.{gcd}
 use Rattle.rational.specs.GcdLaws.{gcd-is, gcd-multiple, gauss}

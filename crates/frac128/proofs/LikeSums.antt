@@ -1,12 +1,12 @@
 -- sums with zero, and sums over one denominator
-use Rattle.std.proofs.Common.{ℕ, ◌≡◌, ◌*◌, ◌/◌, ◌<◌, ◌^◌, ℤ, pos, nat_abs, ◌+ℤ◌, ◌*ℤ◌, refl, sym, ap, ap₂, ◌∙◌, subst, lit<, List, [], ◌∷◌, one-mul, Option, None, MatchOption}
+use Rattle.std.proofs.Common.{ℕ, ◌≡◌, ◌/◌, ◌<◌, ◌^◌, ℤ, pos, ◌+ℤ◌, ◌*ℤ◌, refl, sym, ap, ap₂, ◌∙◌, subst, lit<, [], ◌∷◌}
 use lib.IntN.{+ℤ_comm}
 use native.Mathlib.Nat.{div_self}
 use Rattle.rational.specs.Gcd.{gcd}
-use Rattle.rational.specs.Rational.{ℚ, ◌+ℚ◌, zero_ℚ, frac, den_pos}
+use Rattle.rational.specs.Rational.{ℚ, ◌+ℚ◌, zero_ℚ, den_pos}
 use Rattle.rational.proofs.IntegerRing.{integer_ring}
 use Rattle.rational.proofs.RationalRing.{+ℚ_comm, +ℚ-zero}
-use Rattle.rational.proofs.Ring.{ring, ◌:*◌, ◌:+◌, num, A, B}
+use Rattle.rational.proofs.Ring.{ring, ◌:*◌, ◌:+◌, num, A}
 use Rattle.frac128.specs.Fraction.{Fits, PartFits}
 use Rattle.frac128.specs.Steps.{AddFits, num_beside}
 use Rattle.frac128.proofs.Parts.{kept, kept-part, zero-num, zero-den}

@@ -1,11 +1,9 @@
 -- the sizes of a product, where common divisors are taken out first
-use Rattle.std.proofs.Common.{ℕ, zero, suc, ◌≡◌, ◌≢◌, ◌*◌, ◌/◌, ◌<◌, ◌≤◌, ◌^◌, ℤ, pos, negsuc, neg_ℤ, nat_abs, ◌*ℤ◌, Bool, true, false, not, arith, refl, sym, ap, ap₂, ◌∙◌, subst, mul-pos, zero-mul, ◌⊎◌}
-use lib.Signed.{lt_z}
-use mathlib.Core.Bool.{beq}
+use Rattle.std.proofs.Common.{ℕ, zero, suc, ◌≡◌, ◌*◌, ◌/◌, ◌<◌, ◌≤◌, ◌^◌, pos, neg_ℤ, ◌*ℤ◌, Bool, true, false, arith, refl, sym, ap, ◌∙◌, subst, mul-pos, zero-mul, ◌⊎◌}
 use native.Mathlib.Nat.{div-mul_cancel}
 use Rattle.rational.specs.Gcd.{gcd}
 use Rattle.rational.specs.GcdLaws.{gcd-is, gcd-parts, gcd_pos}
-use Rattle.rational.specs.Rational.{ℚ, ◌*ℚ◌, frac}
+use Rattle.rational.specs.Rational.{frac}
 use Rattle.rational.proofs.Fractions.{StandsFor-frac, equal_by}
 use Rattle.frac128.specs.Fraction.{Fits, with_sign}
 use Rattle.frac128.proofs.Coprime.{coprime-mul, coprime-swap, coprime-parts, quotient-divides, quotient_pos}

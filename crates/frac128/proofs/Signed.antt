@@ -1,7 +1,6 @@
 -- products and quotients of two rationals, by the signs and sizes of their parts
-use Rattle.std.proofs.Common.{ℕ, zero, suc, ◌≡◌, ◌≢◌, ◌*◌, ◌<◌, ℤ, pos, negsuc, neg_ℤ, nat_abs, ◌*ℤ◌, Bool, true, false, not, int_lt, arith, refl, sym, ap, ap₂, ◌∙◌, subst, mul-pos, mul-zero, ltb, pos_of_ne-zero, zero-lt-suc, Option, Some, None, MatchOption}
+use Rattle.std.proofs.Common.{ℕ, zero, suc, ◌≡◌, ◌≢◌, ◌*◌, ◌<◌, ℤ, pos, negsuc, neg_ℤ, nat_abs, ◌*ℤ◌, Bool, true, false, not, int_lt, arith, refl, sym, ap, ap₂, ◌∙◌, subst, mul-pos, mul-zero, ltb, pos_of_ne-zero, Option, Some, None, MatchOption}
 use mathlib.Core.Bool.{beq}
-use native.Mathlib.Nat.{not-suc-le-zero}
 use Rattle.rational.specs.Gcd.{gcd}
 use Rattle.rational.specs.Rational.{ℚ, ◌*ℚ◌, inv_ℚ, zero_ℚ, frac, den_pos, lowest}
 use Rattle.rational.proofs.Fractions.{StandsFor, StandsFor-self, StandsFor-frac, StandsFor-mul, equal_by}

@@ -1,5 +1,5 @@
 -- the parts of a sum, where common divisors are taken out first
-use Rattle.std.proofs.Common.{ℕ, zero, suc, ◌≡◌, ◌+◌, ◌*◌, ◌/◌, ◌<◌, ◌≤◌, ◌^◌, ℤ, pos, negsuc, nat_abs, ◌+ℤ◌, ◌*ℤ◌, Bool, true, false, int_lt, arith, refl, sym, ap, ap₂, ◌∙◌, subst, mul-pos, ltb, List, [], ◌∷◌, Option, Some, None, MatchOption, inr, SFits}
+use Rattle.std.proofs.Common.{ℕ, zero, suc, ◌≡◌, ◌*◌, ◌/◌, ◌<◌, ◌≤◌, ◌^◌, ℤ, pos, negsuc, nat_abs, ◌+ℤ◌, ◌*ℤ◌, false, int_lt, arith, refl, sym, ap, ap₂, ◌∙◌, subst, mul-pos, ltb, [], ◌∷◌, Option, Some, None, MatchOption, inr, SFits}
 use mir.Syntax.{w128}
 use Rattle.std.proofs.lemmas.Int.{to_z-of_z}
 use native.Mathlib.Nat.{div-mul_cancel, dvd_refl, dvd-mul_right, div-le_self, not-suc-le-zero}
