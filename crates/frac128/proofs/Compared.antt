@@ -12,6 +12,7 @@ use Rattle.rational.proofs.Fractions.{equal_by_cross, equal_by_parts}
 use Rattle.frac128.specs.Fraction.{Fits, cmp_ℚ}
 use Rattle.frac128.proofs.Parts.{kept, kept-part}
 
+-- the order of two numbers and of their multiples
 times_ranks : (x y : ℤ) (d : ℕ) (o : Ordering) → 0 < d → MatchOrdering o (x <ℤ y) (x ≡ y) (y <ℤ x) → MatchOrdering o ((x *ℤ pos d) <ℤ (y *ℤ pos d)) (x *ℤ pos d ≡ y *ℤ pos d) ((y *ℤ pos d) <ℤ (x *ℤ pos d))
 times_ranks x y d Less p h = lt-times x y d p h
 times_ranks x y d Equal p h = ap (λ z. z *ℤ pos d) h
@@ -30,6 +31,7 @@ pub record Pair (a b : ℚ) (n d m e : ℤ) : Type 0 where
   pub other_num : m ≡ b.num
   pub other_den : e ≡ pos b.den
 
+-- over one denominator the numerators decide
 pub by_nums : (a b : ℚ) (n d m e : ℤ) (o : Ordering) → Pair a b n d m e → of_z w128 d ≡ of_z w128 e → o ≡ int_cmp (to_z w128 (of_z w128 n)) (to_z w128 (of_z w128 m)) → o ≡ cmp_ℚ a b
 by_nums a b n d m e o k same is =
     let dens : a.den ≡ b.den = ap (of_z w128) (sym k.den) ∙ same ∙ ap (of_z w128) k.other_den in
@@ -46,6 +48,7 @@ pub record Short (n d m e : ℤ) : Type 0 where
   pub other_num : nat_abs (kept m) < 2 ^ 63
   pub other_den : nat_abs (kept e) < 2 ^ 63
 
+-- short parts are compared by their cross products
 pub by_products : (a b : ℚ) (n d m e : ℤ) (o : Ordering) → Pair a b n d m e → Short n d m e → o ≡ int_cmp (kept (kept n *ℤ kept e)) (kept (kept m *ℤ kept d)) → o ≡ cmp_ℚ a b
 by_products a b n d m e o k s is =
     is ∙ ap₂ int_cmp (to_z-of_z w128 (kept n *ℤ kept e) (short_product (kept n) (kept e) s.num s.other_den) ∙ ap₂ ◌*ℤ◌ (kept-part n a.num k.num k.left.num) (kept-part e (pos b.den) k.other_den k.right.den)) (to_z-of_z w128 (kept m *ℤ kept d) (short_product (kept m) (kept d) s.other_num s.den) ∙ ap₂ ◌*ℤ◌ (kept-part m b.num k.other_num k.right.num) (kept-part d (pos a.den) k.den k.left.den))
@@ -65,14 +68,17 @@ cmp_ℚ_ranks a b = ranks (cmp_ℚ a b) (int_ranks (a.num *ℤ pos b.den) (b.num
     ranks Equal h = equal_by_cross a b h
     ranks Greater h = record { cross = h }
 
+-- less is ◌<ℚ◌
 pub cmp_ℚ-less : (a b : ℚ) → (cmp_ℚ a b ≡ Less) ↔ (a <ℚ b)
 cmp_ℚ-less a b =
     (λ e. subst (λ o. MatchOrdering o (a <ℚ b) (a ≡ b) (b <ℚ a)) e (cmp_ℚ_ranks a b), λ h. sym (int_cmp_is (a.num *ℤ pos b.den) (b.num *ℤ pos a.den) Less h.cross))
 
+-- equal is ◌≡◌
 pub cmp_ℚ-equal : (a b : ℚ) → (cmp_ℚ a b ≡ Equal) ↔ (a ≡ b)
 cmp_ℚ-equal a b =
     (λ e. subst (λ o. MatchOrdering o (a <ℚ b) (a ≡ b) (b <ℚ a)) e (cmp_ℚ_ranks a b), λ h. sym (int_cmp_is (a.num *ℤ pos b.den) (b.num *ℤ pos a.den) Equal (ap₂ (λ (x y : ℚ). x.num *ℤ pos y.den) h (sym h))))
 
+-- greater is ◌<ℚ◌ the other way
 pub cmp_ℚ-greater : (a b : ℚ) → (cmp_ℚ a b ≡ Greater) ↔ (b <ℚ a)
 cmp_ℚ-greater a b =
     (λ e. subst (λ o. MatchOrdering o (a <ℚ b) (a ≡ b) (b <ℚ a)) e (cmp_ℚ_ranks a b), λ h. sym (int_cmp_is (a.num *ℤ pos b.den) (b.num *ℤ pos a.den) Greater h.cross))

@@ -1,8 +1,8 @@
 -- numbers that share no divisor
-use Rattle.std.proofs.Common.{ℕ, zero, suc, ◌≡◌, ◌*◌, ◌-◌, ◌/◌, ◌<◌, ℤ, pos, negsuc, ◌+ℤ◌, ◌*ℤ◌, nat_abs, arith, refl, sym, ap, ◌∙◌, subst, one-mul, mul_comm, ◌≤◌, Bool, true, false, cond, ltb, tests, ◌⊎◌, inl, inr, ⊎_elim, ◌+◌}
+use Rattle.std.proofs.Common.{ℕ, suc, ◌≡◌, ◌*◌, ◌-◌, ◌/◌, ◌<◌, ℤ, pos, negsuc, ◌+ℤ◌, ◌*ℤ◌, nat_abs, arith, refl, sym, ap, ◌∙◌, subst, one-mul, ◌≤◌, Bool, true, false, cond, ltb, tests, ◌⊎◌, inl, inr, ◌+◌}
 use native.Mathlib.Nat.{dvd_trans, dvd-mul_right, dvd-mul_left, dvd-mul_right_of_dvd, dvd-mul_left_of_dvd, eq-one_of_dvd-one, div-mul_cancel, dvd-add, dvd-sub, dvd_antisymm}
 use lib.IntN.{sub_ℕ}
-use Rattle.std.proofs.lemmas.Int.{ints, unsigned_abs-mul}
+use Rattle.std.proofs.lemmas.Int.{unsigned_abs-mul}
 use Rattle.std.specs.Int.{◌∣◌}
 use Rattle.rational.specs.Gcd.{gcd}
 use Rattle.rational.specs.GcdLaws.{gcd-is, gcd-multiple, gauss}
@@ -14,6 +14,7 @@ coprime-mul a b c e f =
     let p : g ∣ b = subst (λ x. g ∣ x) (ap (λ x. x * b) e ∙ one-mul b) (gcd-multiple a c b g (gcd-is (a * b) c).0 (dvd-mul_right_of_dvd g (gcd-is (a * b) c).1 b)) in
     eq-one_of_dvd-one (subst (λ x. g ∣ x) f ((gcd-is b c).2 g p (gcd-is (a * b) c).1))
 
+-- to share nothing goes both ways
 pub coprime-swap : (a b : ℕ) → gcd a b ≡ 1 → gcd b a ≡ 1
 coprime-swap a b e =
     let g = gcd b a in
@@ -25,15 +26,19 @@ coprime-parts a b x y p q e =
     let g = gcd x y in
     eq-one_of_dvd-one (subst (λ z. g ∣ z) e ((gcd-is a b).2 g (dvd_trans g (gcd-is x y).0 p) (dvd_trans g (gcd-is x y).1 q)))
 
+-- a quotient by a divisor divides
 pub quotient-divides : (a g : ℕ) → g ∣ a → a / g ∣ a
 quotient-divides a g p = subst (λ x. a / g ∣ x) (div-mul_cancel g p) (dvd-mul_right (a / g) g)
 
+-- a factor of a positive number is positive
 pos_of_factor : (x g n : ℕ) → x * g ≡ n → 0 < n → 0 < x
 pos_of_factor x g n e h = grind arith
 
+-- a quotient by a divisor is positive
 pub quotient_pos : (d g : ℕ) → g ∣ d → 0 < d → 0 < d / g
 quotient_pos d g p h = pos_of_factor (d / g) g d (div-mul_cancel g p) h
 
+-- the size of a difference of naturals
 sub_sizes : (a b : ℕ) → (nat_abs (sub_ℕ a b) + b ≡ a) ⊎ (nat_abs (sub_ℕ a b) + a ≡ b)
 sub_sizes a b = go (ltb a b) refl
   where
@@ -63,6 +68,7 @@ sum_apart n m d e f lowest p apart =
     let k-n : gcd (nat_abs n) k ≡ 1 = coprime-parts (nat_abs n) d (nat_abs n) k (subst (λ x. nat_abs n ∣ x) (one-mul (nat_abs n)) (dvd-mul_left (nat_abs n) 1)) (dvd_trans k k-e p) lowest in
     eq-one_of_dvd-one (subst (λ x. k ∣ x) apart ((gcd-is e f).2 k k-e (gauss (nat_abs n) k f k-n k-left)))
 
+-- the order of the two numbers does not matter
 pub gcd_comm : (a b : ℕ) → gcd a b ≡ gcd b a
 gcd_comm a b =
     dvd_antisymm ((gcd-is b a).2 (gcd a b) (gcd-is a b).1 (gcd-is a b).0) ((gcd-is a b).2 (gcd b a) (gcd-is b a).1 (gcd-is b a).0)

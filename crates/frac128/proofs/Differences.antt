@@ -1,5 +1,5 @@
 -- a difference as a sum
-use Rattle.std.proofs.Common.{ℕ, ◌≡◌, ◌/◌, ◌<◌, ◌^◌, ℤ, pos, neg_ℤ, nat_abs, ◌+ℤ◌, ◌-ℤ◌, ◌*ℤ◌, refl, sym, ap, ap₂, ◌∙◌, subst, List, [], ◌∷◌, Option, Some, None, MatchOption}
+use Rattle.std.proofs.Common.{ℕ, ◌≡◌, ◌/◌, ◌<◌, ◌^◌, ℤ, pos, neg_ℤ, ◌+ℤ◌, ◌*ℤ◌, refl, sym, ap, ap₂, ◌∙◌, subst, [], ◌∷◌, Option, Some, None, MatchOption}
 use Rattle.rational.specs.Gcd.{gcd}
 use Rattle.rational.specs.Rational.{ℚ, ◌+ℚ◌, ◌-ℚ◌, neg_ℚ}
 use Rattle.rings.proofs.IntegerRing.{integer_ring}
@@ -8,19 +8,24 @@ use Rattle.frac128.specs.Fraction.{PartFits}
 use Rattle.frac128.specs.Steps.{AddFits, SubFits, num_beside}
 use Rattle.frac128.proofs.Parts.{neg_parts, nat_abs-neg_ℤ}
 
+-- the other sign leaves the own numerator
 own_same : (a b : ℚ) → num_beside a (neg_ℚ b) ≡ num_beside a b
 own_same a b = ap (λ d. a.num *ℤ pos (d / gcd a.den d)) (neg_parts b).1
 
+-- a sign goes out of a product
 neg-mul : (x : ℤ) (y : ℕ) → neg_ℤ x *ℤ pos y ≡ neg_ℤ (x *ℤ pos y)
 neg-mul x y = ring integer_ring (x ∷ pos y ∷ []) (:neg A :* B) (:neg (A :* B)) refl
 
+-- the other numerator has the other sign
 other_turned : (a b : ℚ) → num_beside (neg_ℚ b) a ≡ neg_ℤ (num_beside b a)
 other_turned a b =
     ap₂ (λ n d. n *ℤ pos (a.den / gcd d a.den)) (neg_parts b).0 (neg_parts b).1 ∙ neg-mul b.num (a.den / gcd b.den a.den)
 
+-- a part fits with either sign
 neg_fits : (n : ℤ) → PartFits n → PartFits (neg_ℤ n)
 neg_fits n h = subst (λ x. x < 2 ^ 127) (sym (nat_abs-neg_ℤ n)) h
 
+-- and the other way
 fits_of_neg : (n : ℤ) → PartFits (neg_ℤ n) → PartFits n
 fits_of_neg n h = subst (λ x. x < 2 ^ 127) (nat_abs-neg_ℤ n) h
 
@@ -34,6 +39,7 @@ SubFits-in a b k =
       den = k.den;
     }
 
+-- and the other way
 pub SubFits-out : (a b : ℚ) → SubFits a b → AddFits a (neg_ℚ b)
 SubFits-out a b k =
     record {
@@ -43,6 +49,7 @@ SubFits-out a b k =
       den = k.den;
     }
 
+-- what an answer for the sum with the other sign says of the difference
 pub difference_answer : (a b c : ℚ) (o : Option ℚ) → c ≡ neg_ℚ b → MatchOption o (¬ (AddFits a c)) (λ f. (f ≡ a +ℚ c) × AddFits a c) → MatchOption o (¬ (SubFits a b)) (λ f. (f ≡ a -ℚ b) × SubFits a b)
 difference_answer a b c None e h = λ k. h (subst (λ x. AddFits a x) (sym e) (SubFits-out a b k))
 difference_answer a b c (Some f) e h =

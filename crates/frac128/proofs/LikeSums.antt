@@ -1,30 +1,35 @@
 -- sums with zero, and sums over one denominator
-use Rattle.std.proofs.Common.{ℕ, ◌≡◌, ◌*◌, ◌/◌, ◌<◌, ◌^◌, ℤ, pos, nat_abs, ◌+ℤ◌, ◌*ℤ◌, refl, sym, ap, ap₂, ◌∙◌, subst, lit<, List, [], ◌∷◌, one-mul, Option, None, MatchOption}
+use Rattle.std.proofs.Common.{ℕ, ◌≡◌, ◌/◌, ◌<◌, ◌^◌, ℤ, pos, ◌+ℤ◌, ◌*ℤ◌, refl, sym, ap, ap₂, ◌∙◌, subst, lit<, [], ◌∷◌}
 use lib.IntN.{+ℤ_comm}
 use native.Mathlib.Nat.{div_self}
 use Rattle.rational.specs.Gcd.{gcd}
-use Rattle.rational.specs.Rational.{ℚ, ◌+ℚ◌, zero_ℚ, frac, den_pos}
+use Rattle.rational.specs.Rational.{ℚ, ◌+ℚ◌, zero_ℚ, den_pos}
 use Rattle.rings.proofs.IntegerRing.{integer_ring}
 use Rattle.rational.proofs.RationalRing.{+ℚ_comm, +ℚ-zero}
-use Rattle.rings.proofs.Ring.{ring, ◌:*◌, ◌:+◌, num, A, B}
+use Rattle.rings.proofs.Ring.{ring, ◌:*◌, ◌:+◌, num, A}
 use Rattle.frac128.specs.Fraction.{Fits, PartFits}
 use Rattle.frac128.specs.Steps.{AddFits, num_beside}
 use Rattle.frac128.proofs.Parts.{kept, kept-part, zero-num, zero-den}
 use Rattle.frac128.proofs.Quotients.{gcd-one, gcd_same}
 use Rattle.frac128.proofs.SumSizes.{Summands, Tops}
 
+-- zero times a number
 zero-times : (k : ℕ) → pos 0 *ℤ pos k ≡ pos 0
 zero-times k = ring integer_ring (pos k ∷ []) (num 0 :* A) (num 0) refl
 
+-- a number times one
 times-one : (n : ℤ) → n *ℤ pos 1 ≡ n
 times-one n = ring integer_ring (n ∷ []) (A :* num 1) A refl
 
+-- zero plus a number
 zero-plus : (n : ℤ) → pos 0 +ℤ n ≡ n
 zero-plus n = ring integer_ring (n ∷ []) (num 0 :+ A) A refl
 
+-- zero over a least common denominator
 beside_zero : (b : ℚ) → num_beside zero_ℚ b ≡ pos 0
 beside_zero b = ap (λ n. n *ℤ pos (b.den / gcd zero_ℚ.den b.den)) zero-num ∙ zero-times (b.den / gcd zero_ℚ.den b.den)
 
+-- a numerator beside zero stays as it is
 zero_beside : (b : ℚ) → num_beside b zero_ℚ ≡ b.num
 zero_beside b =
     ap (λ d. b.num *ℤ pos (d / gcd b.den d)) zero-den ∙ ap (λ g. b.num *ℤ pos (1 / g)) (gcd-one b.den) ∙ times-one b.num
@@ -33,6 +38,7 @@ zero_beside b =
 zero_sum : (b : ℚ) → zero_ℚ +ℚ b ≡ b
 zero_sum b = +ℚ_comm zero_ℚ b ∙ +ℚ-zero b
 
+-- a sum with zero fits
 zero_sum_fits : (b : ℚ) → Fits b → AddFits zero_ℚ b
 zero_sum_fits b f =
     record {
@@ -42,6 +48,7 @@ zero_sum_fits b f =
       den = subst (λ (q : ℚ). q.den < 2 ^ 127) (sym (zero_sum b)) f.den;
     }
 
+-- a sum fits either way round
 AddFits_comm : (a b : ℚ) → AddFits a b → AddFits b a
 AddFits_comm a b k =
     record {
@@ -51,10 +58,12 @@ AddFits_comm a b k =
       den = subst (λ (q : ℚ). q.den < 2 ^ 127) (+ℚ_comm a b) k.den;
     }
 
+-- the answer where the first number is zero
 pub left_zero : (a b : ℚ) → a ≡ zero_ℚ → Fits b → (b ≡ a +ℚ b) × AddFits a b
 left_zero a b e f =
     subst (λ x. (b ≡ x +ℚ b) × AddFits x b) (sym e) (sym (zero_sum b), zero_sum_fits b f)
 
+-- the answer where the second number is zero
 pub right_zero : (a b : ℚ) → b ≡ zero_ℚ → Fits a → (a ≡ a +ℚ b) × AddFits a b
 right_zero a b e f =
     subst (λ x. (a ≡ a +ℚ x) × AddFits a x) (sym e) (sym (+ℚ-zero a), AddFits_comm zero_ℚ a (zero_sum_fits a f))
@@ -65,6 +74,7 @@ like_summands a b d e same =
     let one : 1 ≡ d / d = sym (div_self (subst (λ x. 0 < x) (sym e) (den_pos a))) in
     record { den_is = e; other_den_is = e ∙ same; common_is = sym (gcd_same d); own_is = one; others_is = one }
 
+-- the sum of numerators over one denominator, as the code has it
 pub like_tops : (a b : ℚ) (n m t : ℤ) → n ≡ a.num → Fits a → m ≡ b.num → Fits b → t ≡ kept n +ℤ kept m → PartFits t → Tops a b 1 1 n m n m t
 like_tops a b n m t en fa em fb is fits =
     record {

@@ -1,5 +1,5 @@
 //! Euclid's algorithm, and comparisons of quotients that form no product of more than 128 bits.
-ghost use Rattle.std.specs.Prelude.{◌≡◌, ◌<◌, ◌*◌, ◌/◌, ◌*ℤ◌, pos};
+ghost use Rattle.std.specs.Prelude.{◌≡◌, ◌<◌, ◌*◌, ◌/◌, ◌%◌, ◌*ℤ◌, pos};
 ghost use Rattle.std.specs.Ordering.{nat_cmp, int_cmp};
 ghost use Rattle.rational.specs.Gcd.{gcd as gcd_of};
 
@@ -59,22 +59,30 @@ pub fn divided(n: u128, d: u128) -> u128
     }
 }
 
+// The rest of n / d, by its whole part.
+fn rest_of(n: u128, d: u128, whole: u128) -> u128
+    requires { whole ≡ n / d }
+    ensures { result ≡ n % d }
+{
+    n - whole * d
+}
+
 // The order of a / b and c / d: that of the whole parts, then that of the rests, upside down.
 pub fn cmp_quotients(a: u128, b: u128, c: u128, d: u128) -> Ordering
     requires left { 0 < b }
     requires right { 0 < d }
     ensures { result ≡ nat_cmp (a * d) (c * b) }
 {
-    let q = a / b;
-    let r = c / d;
+    let q = divided(a, b);
+    let r = divided(c, d);
     if q < r {
         return Ordering::Less;
     }
     if r < q {
         return Ordering::Greater;
     }
-    let x = a % b;
-    let y = c % d;
+    let x = rest_of(a, b, q);
+    let y = rest_of(c, d, r);
     if x == 0 {
         if y == 0 {
             Ordering::Equal

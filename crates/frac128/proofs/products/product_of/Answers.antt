@@ -1,4 +1,4 @@
-use Rattle.std.proofs.Common.{mul-pos, inl, inr, arith, sym, ap, ap₂, ◌∙◌, ◌*◌, ◌<◌, ◌≤◌, ◌^◌, subst, subst₂}
+use Rattle.std.proofs.Common.{mul-pos, inl, inr, arith, sym, ap₂, ◌∙◌, ◌*◌, ◌<◌, subst}
 use Rattle.rational.specs.Rational.{frac}
 use Rattle.rational.specs.Gcd.{gcd}
 use Rattle.frac128.specs.Fraction.{with_sign}

@@ -1,10 +1,10 @@
-use Rattle.std.proofs.Common.{arith, sym, ap, ap₂, ◌∙◌, ◌*◌, ◌<◌, subst, int_lt, pos, ◌*ℤ◌, ◌+ℤ◌, inl, inr}
+use Rattle.std.proofs.Common.{arith, sym, ap, ◌∙◌, ◌*◌, ◌<◌, subst, int_lt, pos}
 use Rattle.rational.specs.Rational.{frac}
 use Rattle.rational.specs.Gcd.{gcd}
 use Rattle.frac128.specs.Fraction.{with_sign}
 use Rattle.frac128.proofs.Parts.{kept, num_kept}
-use Rattle.frac128.proofs.Reduced.{common_pos, answer_at, none_at, sizes_wide}
-use Rattle.frac128.proofs.SumSizes.{Over, Summands, over_positive, over_lowest, over_value, over_read, over_wide, summands_common_positive, own_positive, others_positive, other_den_in_range, own_apart, others_apart, kept_top, left_refused, right_refused, top_refused, sum_refused, sum_answer}
+use Rattle.frac128.proofs.Reduced.{common_pos, answer_at, none_at}
+use Rattle.frac128.proofs.SumSizes.{over_positive, over_lowest, over_read, over_wide}
 use Rattle.frac128.proofs.sums.over.Goals as goal
 
 pub divided-lowest_top-requires : goal.divided-lowest_top-requires

@@ -1,10 +1,8 @@
-use Rattle.std.proofs.Common.{arith, sym, ap, ap₂, ◌∙◌, ◌*◌, ◌<◌, subst, nat_abs, pos, ◌*ℤ◌, ◌+ℤ◌, inl, inr}
-use Rattle.rational.specs.Rational.{frac}
+use Rattle.std.proofs.Common.{ap, ◌∙◌, nat_abs}
 use Rattle.rational.specs.Gcd.{gcd}
-use Rattle.frac128.specs.Fraction.{with_sign}
-use Rattle.frac128.proofs.Parts.{kept, den_size, size_positive}
-use Rattle.frac128.proofs.Reduced.{common_pos, answer_at, none_at, sizes_wide}
-use Rattle.frac128.proofs.SumSizes.{Over, Summands, over_positive, over_lowest, over_value, over_wide, summands_common_positive, own_positive, others_positive, other_den_in_range, own_apart, others_apart, kept_top, left_refused, right_refused, top_refused, sum_refused, sum_answer}
+use Rattle.frac128.proofs.Parts.{den_size, size_positive}
+use Rattle.frac128.proofs.Reduced.{common_pos}
+use Rattle.frac128.proofs.SumSizes.{summands_common_positive, own_positive, others_positive, other_den_in_range, own_apart, others_apart, kept_top, left_refused, right_refused, top_refused, sum_refused, sum_answer}
 use Rattle.frac128.proofs.frac.Frac.unlike_sum.Goals as goal
 
 pub divided-own-requires : goal.divided-own-requires
