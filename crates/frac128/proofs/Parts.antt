@@ -1,84 +1,94 @@
--- the parts of a fraction's fields and of its value
-use Rattle.std.proofs.Common.{ℕ, zero, suc, ◌≡◌, ◌≢◌, ◌+◌, ◌*◌, ◌/◌, ◌<◌, ◌≤◌, ◌^◌, ℤ, pos, negsuc, neg_ℤ, nat_abs, ◌<ℤ◌, ◌*ℤ◌, Bool, true, false, not, arith, refl, sym, ap, ap₂, ◌∙◌, subst, subst₂, ltb, rules, SFits, to_z, of_z, ◌⊎◌, inl, inr}
+-- the fields of a fraction and the parts of its value
+use Rattle.std.proofs.Common.{ℕ, zero, suc, ◌≡◌, ◌<◌, ◌^◌, ℤ, pos, negsuc, neg_ℤ, nat_abs, ◌-ℤ◌, arith, refl, sym, ap, ap₂, ◌∙◌, subst, SFits, to_z, of_z, IsTrue, eqb}
 use mir.Syntax.{w128}
-use lib.Signed.{lt_z}
-use mathlib.Core.Bool.{beq}
-use native.Mathlib.Nat.{zero-div, not-suc-le-zero}
 use Rattle.std.proofs.lemmas.Int.{ints, to_z-of_z, to_z_pos, fits_signed_from_abs}
-use Rattle.rational.specs.Gcd.{gcd, div_ℤ}
-use Rattle.rational.specs.GcdLaws.{gcd_pos}
-use Rattle.rational.specs.Rational.{ℚ, frac, den_pos, lowest}
+use Rattle.std.proofs.lemmas.Bool.Decides.{Decides-eqb}
+use native.Mathlib.Nat.{dvd_antisymm, dvd-zero, dvd_refl}
+use Rattle.rational.specs.Gcd.{gcd}
+use Rattle.rational.specs.GcdLaws.{gcd-is}
+use Rattle.rational.specs.Rational.{ℚ, frac, zero_ℚ, neg_ℚ, den_pos, lowest}
 use Rattle.rational.proofs.Fractions.{frac-lowest, equal_by_parts}
-use Rattle.frac128.specs.Fraction.{quotient, Fits128, with_sign}
+use Rattle.frac128.specs.Fraction.{value_of, PartFits, Fits, InLowestTerms, fields_of, fields_of_value}
+use Rattle.frac128.specs.declared.frac.Frac.TheInside.{Inside}
 
 stored : (n : ℤ) (d : ℕ) → SFits w128 n → d < 2 ^ 127 → frac (to_z w128 (of_z w128 n)) (nat_abs (to_z w128 d)) ≡ frac n d
 stored n d f h = ap₂ (λ x y. frac x (nat_abs y)) (to_z-of_z w128 n f) (to_z_pos w128 d h)
 
+-- a fraction that is made of parts in lowest terms has these parts
 pub stored_parts : (n : ℤ) (d : ℕ) → SFits w128 n → d < 2 ^ 127 → 0 < d → gcd (nat_abs n) d ≡ 1 → ((frac (to_z w128 (of_z w128 n)) (nat_abs (to_z w128 d))).num ≡ n) × ((frac (to_z w128 (of_z w128 n)) (nat_abs (to_z w128 d))).den ≡ d)
 stored_parts n d f h p e =
-    let s = stored n d f h in let l = frac-lowest n d p e in
+    let s = stored n d f h in
+    let l = frac-lowest n d p e in
     (ap (λ (q : ℚ). q.num) s ∙ l.0, ap (λ (q : ℚ). q.den) s ∙ l.1)
 
-pos_abs : (d : ℤ) → pos 0 <ℤ d → 0 < nat_abs d
-pos_abs (pos n) h = omega (arith, ints)
-pos_abs (negsuc n) h = absurd (omega (arith, ints))
+fields-is : (a : Inside) (q : ℚ) → InLowestTerms a → value_of a ≡ q → fields_of q ≡ a
+fields-is a q h v = ap fields_of (sym v) ∙ fields_of_value a h
 
-pub read_parts : (n d : ℤ) (q : ℚ) → frac n (nat_abs d) ≡ q → pos 0 <ℤ d → gcd (nat_abs n) (nat_abs d) ≡ 1 → nat_abs n < 2 ^ 127 → nat_abs d < 2 ^ 127 → (to_z w128 (of_z w128 n) ≡ q.num) × (nat_abs (to_z w128 (of_z w128 d)) ≡ q.den)
-read_parts n d q v p e h g =
-    let l = frac-lowest n (nat_abs d) (pos_abs d p) e in
-    (to_z-of_z w128 n (fits_signed_from_abs w128 n h) ∙ sym l.0 ∙ ap (λ (q : ℚ). q.num) v, ap nat_abs (to_z-of_z w128 d (fits_signed_from_abs w128 d g)) ∙ sym l.1 ∙ ap (λ (q : ℚ). q.den) v)
+-- what is read of a fraction's fields
+pub read_num : (a : Inside) (q : ℚ) → InLowestTerms a → value_of a ≡ q → to_z w128 (of_z w128 a.num) ≡ q.num
+read_num a q h v =
+    to_z-of_z w128 a.num (fits_signed_from_abs w128 a.num h.num_fits) ∙ ap (λ (x : Inside). x.num) (sym (fields-is a q h v))
 
-pub nat_abs-with_sign : (b : Bool) (n : ℕ) → nat_abs (with_sign b n) ≡ n
-nat_abs-with_sign true zero = refl
-nat_abs-with_sign true (suc n) = refl
-nat_abs-with_sign false n = refl
+pub read_den : (a : Inside) (q : ℚ) → InLowestTerms a → value_of a ≡ q → to_z w128 (of_z w128 a.den) ≡ pos q.den
+read_den a q h v =
+    to_z-of_z w128 a.den (fits_signed_from_abs w128 a.den h.den_fits) ∙ ap (λ (x : Inside). x.den) (sym (fields-is a q h v))
 
-div_ℤ-with_sign : (b : Bool) (n g : ℕ) → 0 < g → div_ℤ (with_sign b n) g ≡ with_sign b (n / g)
-div_ℤ-with_sign true zero g h = rw zero-div
-div_ℤ-with_sign true (suc n) g h = refl
-div_ℤ-with_sign false n g h = refl
-
-pub frac_parts : (b : Bool) (n d : ℕ) → 0 < d → ((frac (with_sign b n) d).num ≡ with_sign b (n / gcd n d)) × ((frac (with_sign b n) d).den ≡ d / gcd n d)
-unfolding frac
-frac_parts b n zero h = absurd (not-suc-le-zero h)
-frac_parts b n (suc d) h =
-    (ap (λ x. div_ℤ (with_sign b n) (gcd x (suc d))) (nat_abs-with_sign b n) ∙ div_ℤ-with_sign b n (gcd n (suc d)) (gcd_pos n (suc d) h), ap (λ x. suc d / gcd x (suc d)) (nat_abs-with_sign b n))
-
--- what `reduce` asks of `make`, and what it gives
-pub reduced_den : (b : Bool) (n d g : ℕ) → 0 < d → g ≡ gcd n d → 0 < d / g
-reduced_den b n d g h e = rw e (subst (λ x. 0 < x) (frac_parts b n d h).1 (den_pos (frac (with_sign b n) d)))
-
-pub reduced_lowest : (b : Bool) (n d g : ℕ) → 0 < d → g ≡ gcd n d → gcd (nat_abs (with_sign b (n / g))) (d / g) ≡ 1
-reduced_lowest b n d g h e =
-    rw e (subst₂ (λ x y. gcd (nat_abs x) y ≡ 1) (frac_parts b n d h).0 (frac_parts b n d h).1 (lowest (frac (with_sign b n) d)))
-
-pub reduced_value : (b : Bool) (n d g : ℕ) (q : ℚ) → 0 < d → g ≡ gcd n d → q.num ≡ with_sign b (n / g) → q.den ≡ d / g → q ≡ frac (with_sign b n) d
-reduced_value b n d g q h e f k =
-    equal_by_parts q (frac (with_sign b n) d) (f ∙ ap (λ x. with_sign b (n / x)) e ∙ sym (frac_parts b n d h).0) (k ∙ ap (λ x. d / x) e ∙ sym (frac_parts b n d h).1)
-
-pub too_wide : (b : Bool) (n d g : ℕ) → 0 < d → g ≡ gcd n d → (2 ^ 127 ≤ n / g) ⊎ (2 ^ 127 ≤ d / g) → ¬ (Fits128 (frac (with_sign b n) d))
-too_wide b n d g h e w f =
-    let k : nat_abs (frac (with_sign b n) d).num ≡ n / g = ap nat_abs (frac_parts b n d h).0 ∙ nat_abs-with_sign b (n / gcd n d) ∙ ap (λ x. n / x) (sym e) in
-    let l : (frac (with_sign b n) d).den ≡ d / g = (frac_parts b n d h).1 ∙ ap (λ x. d / x) (sym e) in
-    omega (arith, k, l)
-
-pub fits_by : (b : Bool) (n d g : ℕ) (q : ℚ) → q.num ≡ with_sign b (n / g) → q.den ≡ d / g → n / g < 2 ^ 127 → d / g < 2 ^ 127 → Fits128 q
-fits_by b n d g q e f h k =
+-- the value of a fraction fits
+pub read_fits : (a : Inside) (q : ℚ) → InLowestTerms a → value_of a ≡ q → Fits q
+read_fits a q h v =
+    let e = sym (fields-is a q h v) in
     record {
-      num = let x : nat_abs q.num ≡ n / g = ap nat_abs e ∙ nat_abs-with_sign b (n / g) in omega (arith, x);
-      den = omega (arith, f);
+      num = subst PartFits (ap (λ (x : Inside). x.num) e) h.num_fits;
+      den = subst PartFits (ap (λ (x : Inside). x.den) e) h.den_fits;
     }
 
-ltb-zero : (n : ℕ) → ltb n 0 ≡ false
-ltb-zero n = grind arith
+pub zero-num : zero_ℚ.num ≡ pos 0
+unfolding frac gcd
+zero-num = refl
 
--- the greatest common divisor is positive
-pub common_pos : (n d g : ℕ) → 0 < d → g ≡ gcd n d → 0 < g
-common_pos n d g h e = rw e (gcd_pos n d h)
+zero-den : zero_ℚ.den ≡ 1
+unfolding frac gcd
+zero-den = refl
 
--- a quotient by its sign and sizes
-pub quotient_by_sizes : (n d : ℤ) → d ≢ pos 0 → frac (with_sign (not (beq (lt_z n (pos 0)) (lt_z d (pos 0)))) (nat_abs n)) (nat_abs d) ≡ quotient n d
-quotient_by_sizes (pos n) (pos d) h = rw (ltb-zero n, ltb-zero d)
-quotient_by_sizes (pos n) (negsuc d) h = rw (ltb-zero n)
-quotient_by_sizes (negsuc n) (pos d) h = rw (ltb-zero d)
-quotient_by_sizes (negsuc n) (negsuc d) h = refl
+gcd-zero_left : (d : ℕ) → gcd 0 d ≡ d
+gcd-zero_left d =
+    dvd_antisymm (gcd-is 0 d).1 ((gcd-is 0 d).2 d (dvd-zero d) (dvd_refl d))
+
+-- a rational is zero where its numerator is
+pub zero_by_num : (q : ℚ) → q.num ≡ pos 0 → q ≡ zero_ℚ
+zero_by_num q e =
+    equal_by_parts q zero_ℚ (e ∙ sym zero-num) (sym (gcd-zero_left q.den) ∙ ap (λ n. gcd (nat_abs n) q.den) (sym e) ∙ lowest q ∙ sym zero-den)
+
+bits_zero : (n : ℤ) → nat_abs n < 2 ^ 127 → of_z w128 n ≡ 0 → n ≡ pos 0
+bits_zero (pos n) h e = ap pos e
+bits_zero (negsuc n) h e = absurd (omega (arith, e))
+
+pub zero_test : (q : ℚ) (n : ℤ) → n ≡ q.num → Fits q → (IsTrue (eqb (of_z w128 n) 0) → q ≡ zero_ℚ) × (q ≡ zero_ℚ → IsTrue (eqb (of_z w128 n) 0))
+zero_test q n e h =
+    (λ t. zero_by_num q (sym e ∙ bits_zero n (subst PartFits (sym e) h.num) ((Decides-eqb (of_z w128 n) 0).0 t)), λ z. (Decides-eqb (of_z w128 n) 0).1 (ap (of_z w128) (e ∙ ap (λ (x : ℚ). x.num) z ∙ zero-num)))
+
+pub nat_abs-neg_ℤ : (n : ℤ) → nat_abs (neg_ℤ n) ≡ nat_abs n
+nat_abs-neg_ℤ (pos zero) = refl
+nat_abs-neg_ℤ (pos (suc n)) = refl
+nat_abs-neg_ℤ (negsuc n) = refl
+
+-- the parts of a rational with the other sign
+pub neg_parts : (q : ℚ) → ((neg_ℚ q).num ≡ neg_ℤ q.num) × ((neg_ℚ q).den ≡ q.den)
+unfolding neg_ℚ
+neg_parts q =
+    frac-lowest (neg_ℤ q.num) q.den (den_pos q) (ap (λ n. gcd n q.den) (nat_abs-neg_ℤ q.num) ∙ lowest q)
+
+zero-minus : (n : ℤ) → pos 0 -ℤ n ≡ neg_ℤ n
+zero-minus n = omega (arith, ints)
+
+neg_fits : (n : ℤ) → SFits w128 n → nat_abs n < 2 ^ 127 → SFits w128 (pos 0 -ℤ n)
+neg_fits n f h = rw (zero-minus n) (fits_signed_from_abs w128 (neg_ℤ n) (subst (λ x. x < 2 ^ 127) (sym (nat_abs-neg_ℤ n)) h))
+
+pub neg_value : (q r : ℚ) (n d : ℤ) (k : ℕ) → Fits q → n ≡ q.num → d ≡ pos q.den → k ≡ nat_abs (to_z w128 (of_z w128 d)) → r.num ≡ to_z w128 (of_z w128 (pos 0 -ℤ to_z w128 (of_z w128 n))) → r.den ≡ k → r ≡ neg_ℚ q
+neg_value q r n d k fits en ed ek rn rd =
+    let h : nat_abs n < 2 ^ 127 = subst PartFits (sym en) fits.num in
+    let g : nat_abs d < 2 ^ 127 = subst PartFits (sym ed) fits.den in
+    let f : SFits w128 n = fits_signed_from_abs w128 n h in
+    let num : r.num ≡ neg_ℤ q.num = rn ∙ ap (λ x. to_z w128 (of_z w128 (pos 0 -ℤ x))) (to_z-of_z w128 n f) ∙ to_z-of_z w128 (pos 0 -ℤ n) (neg_fits n f h) ∙ zero-minus n ∙ ap neg_ℤ en in
+    let den : r.den ≡ q.den = rd ∙ ek ∙ ap nat_abs (to_z-of_z w128 d (fits_signed_from_abs w128 d g) ∙ ed) in
+    equal_by_parts r (neg_ℚ q) (num ∙ sym (neg_parts q).0) (den ∙ sym (neg_parts q).1)

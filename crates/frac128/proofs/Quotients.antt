@@ -1,8 +1,9 @@
 -- steps of Euclid's algorithm
-use Rattle.std.proofs.Common.{ℕ, ◌≡◌, ◌≢◌, ◌+◌, ◌*◌, ◌%◌, ◌/◌, ◌<◌, ◌≤◌, arith, refl, sym, ap, ap₂, ◌∙◌, subst, mul-le-mul_right, mul-lt-mul_of_pos_right, div-add-mod', mod-lt, zero-mul, mul_comm, mul-pos, pos_of_ne-zero}
+use Rattle.std.proofs.Common.{ℕ, ◌≡◌, ◌+◌, ◌*◌, ◌%◌, ◌/◌, ◌<◌, ◌≤◌, arith, refl, sym, ap, ap₂, ◌∙◌, mul-le-mul_right, mul-lt-mul_of_pos_right, div-add-mod', mod-lt, zero-mul, mul_comm, mul-pos, pos_of_ne-zero}
 use Rattle.std.proofs.Common.{Ordering, Less, Equal, Greater}
 use Rattle.std.specs.Ordering.{nat_cmp}
 use Rattle.std.proofs.lemmas.Nat.Gcd.{IsGcd-from_mod, same_from_IsGcd, IsGcd-from_zero}
+use native.Mathlib.Nat.{eq-one_of_dvd-one}
 use Rattle.rational.specs.Gcd.{gcd}
 use Rattle.rational.specs.GcdLaws.{gcd-is}
 
@@ -11,6 +12,9 @@ gcd-step a b = same_from_IsGcd a b (gcd a b) (gcd b (a % b)) (gcd-is a b) (IsGcd
 
 pub gcd-zero : (a : ℕ) → gcd a 0 ≡ a
 gcd-zero a = same_from_IsGcd a 0 (gcd a 0) a (gcd-is a 0) (IsGcd-from_zero a 0 refl)
+
+pub gcd-one : (a : ℕ) → gcd a 1 ≡ 1
+gcd-one a = eq-one_of_dvd-one (gcd-is a 1).1
 
 cmp_less : (m n : ℕ) → m < n → nat_cmp m n ≡ Less
 cmp_less m n h = grind arith

@@ -1,7 +1,8 @@
--- what the fields of a fraction stand for
-use Rattle.std.specs.Prelude.{ℕ, suc, ◌≡◌, ◌<◌, ◌^◌, nat_abs, pos, negsuc, neg_ℤ, ℤ, ◌<ℤ◌, ◌*ℤ◌, Bool, true, false}
+-- what a fraction stands for, which rationals fit one, and their order and sign
+use Rattle.std.specs.Prelude.{ℕ, suc, ◌≡◌, ◌<◌, ◌^◌, nat_abs, pos, negsuc, neg_ℤ, ℤ, ◌<ℤ◌, ◌*ℤ◌, Bool, true, false, nat_eq}
 use Rattle.std.specs.declared.cmp.Ordering.{Ordering}
-use Rattle.std.specs.Ordering.{int_cmp}
+use Rattle.std.specs.Ordering.{int_cmp, int_eq, eq_of_both, on}
+use Rattle.std.specs.Int.{int_signum}
 use Rattle.std.proofs.Common.{refl, ap, ◌∙◌, arith}
 use Rattle.std.proofs.lemmas.Int.{ints}
 use Rattle.rational.proofs.Fractions.{frac-lowest}
@@ -12,29 +13,42 @@ use Rattle.frac128.specs.declared.frac.Frac.TheInside.{Inside}
 abbrev pub value_of : Inside → ℚ
 value_of a = frac a.num (nat_abs a.den)
 
+-- a part of a fraction lies from -(2^127 - 1) to 2^127 - 1
+abbrev pub PartFits : ℤ → Type 0
+PartFits n = nat_abs n < 2 ^ 127
+
+-- both parts of a rational in lowest terms fit
+pub record Fits (q : ℚ) : Type 0 where
+  pub num : PartFits q.num
+  pub den : PartFits (pos q.den)
+
 pub record InLowestTerms (a : Inside) : Type 0 where
   pub den_pos : pos 0 <ℤ a.den
   pub lowest : gcd (nat_abs a.num) (nat_abs a.den) ≡ 1
-  pub in_range : nat_abs a.num < 2 ^ 127
-  pub den_in_range : nat_abs a.den < 2 ^ 127
+  pub num_fits : PartFits a.num
+  pub den_fits : PartFits a.den
 
 -- n over d, where d may be negative; 0 where d is 0
 abbrev pub quotient : ℤ → ℤ → ℚ
 quotient n (pos d) = frac n d
 quotient n (negsuc d) = frac (neg_ℤ n) (suc d)
 
--- both parts lie from -(2^127 - 1) to 2^127 - 1
-pub record Fits128 (q : ℚ) : Type 0 where
-  pub num : nat_abs q.num < 2 ^ 127
-  pub den : q.den < 2 ^ 127
-
+-- the number of a size, negative where the test is true
 abbrev pub with_sign : Bool → ℕ → ℤ
 with_sign true n = neg_ℤ (pos n)
 with_sign false n = pos n
 
--- the order of two rationals
+-- the order of two rationals, by their cross products
 abbrev pub cmp_ℚ : ℚ → ℚ → Ordering
 cmp_ℚ a b = int_cmp (a.num *ℤ pos b.den) (b.num *ℤ pos a.den)
+
+-- whether two rationals are the same
+abbrev pub eq_ℚ : ℚ → ℚ → Bool
+eq_ℚ = eq_of_both (on (λ q. q.num) int_eq) (on (λ q. q.den) nat_eq)
+
+-- -1, 0 or 1, as a rational is negative, zero or positive
+abbrev pub sign_of : ℚ → ℤ
+sign_of a = int_signum a.num
 
 -- the fields of a fraction with this value
 abbrev pub fields_of : ℚ → Inside

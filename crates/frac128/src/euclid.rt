@@ -1,12 +1,15 @@
-// Euclid's algorithm, and a comparison of quotients that forms no product.
-ghost use Rattle.std.specs.Prelude.{◌≡◌, ◌<◌, ◌*◌};
-ghost use Rattle.std.specs.Ordering.{nat_cmp};
+//! Euclid's algorithm, and comparisons of quotients that form no product of more than 128 bits.
+ghost use Rattle.std.specs.Prelude.{◌≡◌, ◌<◌, ◌*◌, ◌/◌, ◌*ℤ◌, pos};
+ghost use Rattle.std.specs.Ordering.{nat_cmp, int_cmp};
 ghost use Rattle.rational.specs.Gcd.{gcd as gcd_of};
 
 use std::cmp::Ordering;
 
-// The greatest common divisor.
-pub fn gcd(a: u128, b: u128) -> u128
+// The greatest number of 64 bits.
+const WORD: u128 = 18446744073709551615;
+
+// The greatest common divisor, by steps on 64 bits.
+fn gcd_64(a: u64, b: u64) -> u64
     ensures { result ≡ gcd_of a b }
 {
     let mut x = a;
@@ -19,7 +22,41 @@ pub fn gcd(a: u128, b: u128) -> u128
     x
 }
 
-// The order of a / b and c / d.
+// The greatest common divisor. Steps on 128 bits are taken only until both numbers fit 64.
+pub fn gcd(a: u128, b: u128) -> u128
+    ensures { result ≡ gcd_of a b }
+{
+    if b == 1 {
+        return 1;
+    }
+    let mut x = a;
+    let mut y = b;
+    while x > WORD || y > WORD {
+        if y == 0 {
+            return x;
+        }
+        let rest = x % y;
+        x = y;
+        y = rest;
+    }
+    gcd_64(x as u64, y as u64) as u128
+}
+
+// The whole part of n / d. A division of 128 bits is made only where a part does not fit 64.
+pub fn divided(n: u128, d: u128) -> u128
+    requires { 0 < d }
+    ensures { result ≡ n / d }
+{
+    if d == 1 {
+        n
+    } else if n <= WORD && d <= WORD {
+        (n as u64 / d as u64) as u128
+    } else {
+        n / d
+    }
+}
+
+// The order of a / b and c / d: that of the whole parts, then that of the rests, upside down.
 pub fn cmp_quotients(a: u128, b: u128, c: u128, d: u128) -> Ordering
     requires left { 0 < b }
     requires right { 0 < d }
@@ -45,5 +82,24 @@ pub fn cmp_quotients(a: u128, b: u128, c: u128, d: u128) -> Ordering
         Ordering::Greater
     } else {
         cmp_quotients(d, y, b, x)
+    }
+}
+
+// The order of n / b and m / d, whose numerators may be negative.
+pub fn cmp_signed_quotients(n: i128, b: u128, m: i128, d: u128) -> Ordering
+    requires left { 0 < b }
+    requires right { 0 < d }
+    ensures { result ≡ int_cmp (n *ℤ pos d) (m *ℤ pos b) }
+{
+    if n < 0 {
+        if m < 0 {
+            cmp_quotients(m.unsigned_abs(), d, n.unsigned_abs(), b)
+        } else {
+            Ordering::Less
+        }
+    } else if m < 0 {
+        Ordering::Greater
+    } else {
+        cmp_quotients(n.unsigned_abs(), b, m.unsigned_abs(), d)
     }
 }

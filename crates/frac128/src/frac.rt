@@ -1,14 +1,16 @@
-// The type of fractions.
-ghost use Rattle.std.specs.Prelude.{◌≡◌, ◌≢◌, ◌⊎◌, ◌<◌, ◌≤◌, ◌^◌, nat_abs, int_lt, pos, MatchOption};
-ghost use Rattle.frac128.specs.Fraction.{quotient, Fits128, with_sign, cmp_ℚ};
+//! The type of fractions.
+ghost use Rattle.std.specs.Prelude.{◌≡◌, ◌≢◌, ◌⊎◌, ◌↔◌, ◌<◌, ◌<ℤ◌, ◌^◌, nat_abs, int_lt, pos, IsNone, IfSome, IsTrue, MatchOption};
+ghost use Rattle.frac128.specs.Fraction.{quotient, Fits, PartFits, with_sign, cmp_ℚ, sign_of};
 ghost use Rattle.rational.specs.Gcd.{gcd as gcd_of};
-ghost use Rattle.rational.specs.Rational.{frac, one_ℚ, ◌*ℚ◌};
+ghost use Rattle.rational.specs.Rational.{frac, zero_ℚ, one_ℚ, neg_ℚ};
 
-use crate::euclid::{cmp_quotients, gcd};
+use crate::euclid::{cmp_signed_quotients, divided, gcd};
 use std::cmp::Ordering;
 use std::marker::Model;
 
-#[derive(Clone, Copy, Debug)]
+/// A rational number in lowest terms: its denominator is positive, and both parts lie from
+/// -(2^127 - 1) to 2^127 - 1.
+#[derive(Debug, Clone, Copy)]
 pub struct Frac {
     num: i128,
     den: i128,
@@ -33,7 +35,35 @@ impl Model for Frac {
     ghost inverse_ok = { fields_of_value };
 }
 
+impl PartialEq for Frac {
+    ghost use Rattle.std.proofs.Common.{rules};
+    ghost use Rattle.std.specs.Cmp.Rules.{comparing};
+    ghost use Rattle.frac128.specs.Fraction.{eq_ℚ};
+
+    ghost eq = { eq_ℚ };
+
+    ghost laws = { Prim.search (comparing, rules) };
+
+    fn eq(&self, other: &Frac) -> bool
+        ensures same { IsTrue result ↔ (self.now ≡ other.now) }
+        ensures value { result ≡ eq_ℚ self.now other.now }
+    {
+        self.num() == other.num() && self.den() == other.den()
+    }
+}
+
+impl Eq for Frac {
+    ghost use Rattle.std.proofs.Common.{rules};
+    ghost use Rattle.std.specs.Cmp.Rules.{comparing};
+
+    ghost laws = { Prim.search (comparing, rules) };
+}
+
+// The first size that does not fit.
 const LIMIT: u128 = 170141183460469231731687303715884105728;
+
+// The first size whose product with another such size may not fit.
+const SHORT: u128 = 9223372036854775808;
 
 // The number of this size, with a sign.
 fn signed(size: u128, negative: bool) -> i128
@@ -44,8 +74,23 @@ fn signed(size: u128, negative: bool) -> i128
     if negative { -number } else { number }
 }
 
+// Whether a product with another such part fits.
+fn is_short(part: i128) -> bool
+    ensures { IsTrue result ↔ (nat_abs part < 2 ^ 63) }
+{
+    part.unsigned_abs() < SHORT
+}
+
 impl Frac {
-    // One.
+    /// Zero.
+    #[tactic(auto, unfolding(rational::specs::Gcd::gcd))]
+    pub fn zero() -> Frac
+        ensures { result ≡ zero_ℚ }
+    {
+        Frac { num: 0, den: 1 }
+    }
+
+    /// One.
     #[tactic(auto, unfolding(rational::specs::Gcd::gcd))]
     pub fn one() -> Frac
         ensures { result ≡ one_ℚ }
@@ -53,16 +98,81 @@ impl Frac {
         Frac { num: 1, den: 1 }
     }
 
-    // One half.
-    #[tactic(auto, unfolding(rational::specs::Gcd::gcd))]
-    pub fn half() -> Frac
-        ensures { result ≡ frac (pos 1) 2 }
+    /// The fraction `num / den` in lowest terms. `None` where `den` is 0, or where one of the two
+    /// parts in lowest terms does not lie from -(2^127 - 1) to 2^127 - 1.
+    pub fn new(num: i128, den: i128) -> Option<Frac>
+        ensures none { IsNone result ↔ ((den ≡ pos 0) ⊎ (¬ (Fits (quotient num den)))) }
+        ensures value { IfSome result (λ f. f ≡ quotient num den) }
+        ensures fits { IfSome result Fits }
+        ensures divisor { IfSome result (λ _. den ≢ pos 0) }
     {
-        Frac { num: 1, den: 2 }
+        if den == 0 {
+            return None;
+        }
+        Frac::reduced(
+            (num < 0) != (den < 0),
+            num.unsigned_abs(),
+            den.unsigned_abs(),
+        )
     }
 
-    // The fraction of two parts that are in lowest terms.
-    fn make(num: i128, den: u128) -> Frac
+    /// The numerator in lowest terms, with the sign of the fraction.
+    pub fn num(self) -> i128
+        ensures value { result ≡ self.num }
+        ensures fits { Fits self }
+    {
+        self.num
+    }
+
+    /// The denominator in lowest terms, which is positive.
+    pub fn den(self) -> i128
+        ensures value { result ≡ pos self.den }
+        ensures positive { 0 < self.den }
+        ensures fits { PartFits (pos self.den) }
+    {
+        self.den
+    }
+
+    /// Whether the fraction is zero.
+    pub fn is_zero(self) -> bool
+        ensures { IsTrue result ↔ (self ≡ zero_ℚ) }
+    {
+        self.num() == 0
+    }
+
+    /// 1, 0 or -1, as the fraction is positive, zero or negative.
+    pub fn signum(self) -> i8
+        ensures { result ≡ sign_of self }
+    {
+        self.num().signum() as i8
+    }
+
+    /// The fraction with the other sign.
+    pub fn neg(self) -> Frac
+        ensures { result ≡ neg_ℚ self }
+    {
+        Frac::from_lowest_terms(-self.num(), self.den().unsigned_abs())
+    }
+
+    /// The order of the two values.
+    pub fn cmp(self, other: Frac) -> Ordering
+        ensures { result ≡ cmp_ℚ self other }
+    {
+        let num = self.num();
+        let den = self.den();
+        let other_num = other.num();
+        let other_den = other.den();
+        if den == other_den {
+            return num.cmp(&other_num);
+        }
+        if is_short(num) && is_short(den) && is_short(other_num) && is_short(other_den) {
+            return (num * other_den).cmp(&(other_num * den));
+        }
+        cmp_signed_quotients(num, den.unsigned_abs(), other_num, other_den.unsigned_abs())
+    }
+
+    // The fraction of two parts in lowest terms.
+    pub(crate) fn from_lowest_terms(num: i128, den: u128) -> Frac
         requires positive { 0 < den }
         requires lowest { gcd_of (nat_abs num) den ≡ 1 }
         requires num_in_range { nat_abs num < 2 ^ 127 }
@@ -74,111 +184,26 @@ impl Frac {
         Frac { num, den }
     }
 
-    // The numerator and the denominator.
-    fn parts(&self) -> (i128, u128)
-        ensures num { result.0 ≡ self.now.num }
-        ensures den { result.1 ≡ self.now.den }
-        ensures positive { 0 < result.1 }
-    {
-        (self.num, self.den.unsigned_abs())
-    }
-
-    // Whether the value is negative, the numerator's size, and the denominator.
-    fn sizes(&self) -> (bool, u128, u128)
-        ensures sign { result.0 ≡ int_lt self.now.num (pos 0) }
-        ensures num { result.1 ≡ nat_abs self.now.num }
-        ensures den { result.2 ≡ self.now.den }
-        ensures positive { 0 < result.2 }
-    {
-        let (num, den) = self.parts();
-        (num < 0, num.unsigned_abs(), den)
-    }
-
-    // The fraction of two sizes in lowest terms, with a sign, where they fit.
-    fn assemble(negative: bool, top: u128, bottom: u128) -> Option<Frac>
+    // The fraction of two sizes that share no divisor, with a sign, where they fit.
+    pub(crate) fn from_sizes(negative: bool, top: u128, bottom: u128) -> Option<Frac>
         requires positive { 0 < bottom }
         requires lowest { gcd_of top bottom ≡ 1 }
-        ensures { MatchOption result ((2 ^ 127 ≤ top) ⊎ (2 ^ 127 ≤ bottom)) (λ f. (f.num ≡ with_sign negative top) × (f.den ≡ bottom) × (top < 2 ^ 127) × (bottom < 2 ^ 127)) }
+        ensures { MatchOption result (¬ (Fits (frac (with_sign negative top) bottom))) (λ f. (f ≡ frac (with_sign negative top) bottom) × Fits f) }
     {
         if top >= LIMIT || bottom >= LIMIT {
             return None;
         }
-        Some(Frac::make(signed(top, negative), bottom))
+        Some(Frac::from_lowest_terms(signed(top, negative), bottom))
     }
 
-    // The quotient of two numbers, with a sign, where its parts in lowest terms fit.
-    fn reduce(negative: bool, top: u128, bottom: u128) -> Option<Frac>
+    // The quotient of two sizes, with a sign, where its parts in lowest terms fit.
+    fn reduced(negative: bool, top: u128, bottom: u128) -> Option<Frac>
         requires { 0 < bottom }
-        ensures { MatchOption result (¬ (Fits128 (frac (with_sign negative top) bottom))) (λ f. (f ≡ frac (with_sign negative top) bottom) × Fits128 f) }
+        ensures { MatchOption result (¬ (Fits (frac (with_sign negative top) bottom))) (λ f. (f ≡ frac (with_sign negative top) bottom) × Fits f) }
     {
         let common = gcd(top, bottom);
-        let top = top / common;
-        let bottom = bottom / common;
-        if top >= LIMIT || bottom >= LIMIT {
-            return None;
-        }
-        Some(Frac::make(signed(top, negative), bottom))
-    }
-
-    // The fraction num / den, where its parts in lowest terms fit.
-    pub fn new(num: i128, den: i128) -> Option<Frac>
-        ensures { MatchOption result ((den ≡ pos 0) ⊎ (¬ (Fits128 (quotient num den)))) (λ f. (den ≢ pos 0) × (f ≡ quotient num den) × Fits128 f) }
-    {
-        if den == 0 {
-            return None;
-        }
-        Frac::reduce(
-            (num < 0) != (den < 0),
-            num.unsigned_abs(),
-            den.unsigned_abs(),
-        )
-    }
-
-    // The product, where its parts fit. Common divisors are taken out before anything is multiplied.
-    pub fn mul(self, other: Frac) -> Option<Frac>
-        ensures { MatchOption result (¬ (Fits128 (self *ℚ other))) (λ f. (f ≡ self *ℚ other) × Fits128 f) }
-    {
-        let (minus, a, b) = self.sizes();
-        let (less, c, d) = other.sizes();
-        let g = gcd(a, d);
-        let h = gcd(c, b);
-        let Some(top) = (a / g).checked_mul(c / h) else {
-            return None;
-        };
-        let Some(bottom) = (b / h).checked_mul(d / g) else {
-            return None;
-        };
-        Frac::assemble(minus != less, top, bottom)
-    }
-
-    // The order of the values.
-    pub fn cmp(&self, other: &Frac) -> Ordering
-        ensures { result ≡ cmp_ℚ self.now other.now }
-    {
-        let (left, below_left) = self.parts();
-        let (right, below_right) = other.parts();
-        if left < 0 {
-            if right < 0 {
-                cmp_quotients(
-                    right.unsigned_abs(),
-                    below_right,
-                    left.unsigned_abs(),
-                    below_left,
-                )
-            } else {
-                Ordering::Less
-            }
-        } else if right < 0 {
-            Ordering::Greater
-        } else {
-            cmp_quotients(
-                left.unsigned_abs(),
-                below_left,
-                right.unsigned_abs(),
-                below_right,
-            )
-        }
+        let lowest_top = divided(top, common);
+        let lowest_bottom = divided(bottom, common);
+        Frac::from_sizes(negative, lowest_top, lowest_bottom)
     }
 }
-
-pub const ONE: Frac = Frac { num: 1, den: 1 };

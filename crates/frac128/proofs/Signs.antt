@@ -1,0 +1,34 @@
+-- the sign of a rational, in the words of ◌<ℚ◌ and ◌≡◌
+use Rattle.std.proofs.Common.{◌≡◌, ◌↔◌, ℤ, pos, negsuc, ◌<ℤ◌, arith, ap, ◌∙◌}
+use Rattle.std.specs.Int.{int_signum}
+use Rattle.std.proofs.lemmas.Int.{ints}
+use Rattle.rational.specs.Rational.{ℚ, zero_ℚ, den_pos, ◌<ℚ◌}
+use Rattle.rational.proofs.Fractions.{StandsFor-self}
+use Rattle.rational.proofs.Linear.{zero-over}
+use Rattle.rational.proofs.Order.{lt_by, by_lt}
+use Rattle.frac128.specs.Fraction.{sign_of}
+use Rattle.frac128.proofs.Parts.{zero_by_num, zero-num}
+
+signum_one : (n : ℤ) → (int_signum n ≡ pos 1) ↔ (pos 0 <ℤ n)
+signum_one (pos n) = (λ e. omega (arith, ints, e), λ h. omega (arith, ints))
+signum_one (negsuc n) = (λ e. absurd (cc), λ h. absurd (omega (arith, ints)))
+
+signum_zero : (n : ℤ) → (int_signum n ≡ pos 0) ↔ (n ≡ pos 0)
+signum_zero (pos n) = (λ e. omega (arith, ints, e), λ h. omega (arith, ints, h))
+signum_zero (negsuc n) = (λ e. absurd (cc), λ h. absurd (cc))
+
+signum_minus : (n : ℤ) → (int_signum n ≡ negsuc 0) ↔ (n <ℤ pos 0)
+signum_minus (pos n) = (λ e. absurd (cc), λ h. absurd (omega (arith, ints)))
+signum_minus (negsuc n) = (λ e. omega (arith, ints), λ h. omega (arith, ints))
+
+pub sign_of-positive : (q : ℚ) → (sign_of q ≡ pos 1) ↔ (zero_ℚ <ℚ q)
+sign_of-positive q =
+    (λ e. lt_by zero_ℚ q (pos 0) q.num q.den (zero-over q.den (den_pos q)) (StandsFor-self q) ((signum_one q.num).0 e), λ h. (signum_one q.num).1 (by_lt zero_ℚ q (pos 0) q.num q.den (zero-over q.den (den_pos q)) (StandsFor-self q) h))
+
+pub sign_of-zero : (q : ℚ) → (sign_of q ≡ pos 0) ↔ (q ≡ zero_ℚ)
+sign_of-zero q =
+    (λ e. zero_by_num q ((signum_zero q.num).0 e), λ h. (signum_zero q.num).1 (ap (λ (x : ℚ). x.num) h ∙ zero-num))
+
+pub sign_of-negative : (q : ℚ) → (sign_of q ≡ negsuc 0) ↔ (q <ℚ zero_ℚ)
+sign_of-negative q =
+    (λ e. lt_by q zero_ℚ q.num (pos 0) q.den (StandsFor-self q) (zero-over q.den (den_pos q)) ((signum_minus q.num).0 e), λ h. (signum_minus q.num).1 (by_lt q zero_ℚ q.num (pos 0) q.den (StandsFor-self q) (zero-over q.den (den_pos q)) h))
