@@ -64,6 +64,7 @@ fn is_less(left: Frac, right: Frac) -> bool
 fn best_payoff(table: &Table, player: usize, stride: usize, first: usize) -> Frac
     requires player { player < length table.now.players }
     requires profiles { (s : ℕ) → s < slice_index (strategy_counts table.now) player → first + stride * s < profile_count (strategy_counts table.now) }
+    requires valid { IsTable table.now }
     ensures { IsBest ((game_of table.now).pays player) first stride (slice_index (strategy_counts table.now) player) result }
 {
     let mut best = payoff(table, player, first);

@@ -1,0 +1,7 @@
+pub mod Best
+pub mod EntryTexts
+pub mod Exchanges
+pub mod Listed
+pub mod Ranks
+pub mod Strides
+pub mod Striking
