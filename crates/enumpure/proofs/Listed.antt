@@ -13,22 +13,9 @@ use Rattle.game_theory.proofs.LineOrder.{AreInOrder-push}
 use Rattle.game_theory.proofs.ProfileLines.{StandsBefore-entries}
 use Rattle.game_theory.proofs.ProfileNumbers.{number_of-below, profile_at-number_of}
 use Rattle.game_theory.proofs.PureProfiles.{NoGreaterCell-equilibrium, IsEquilibrium-by_cells}
-use Rattle.enumpure.specs.Ranks.{ranked}
+use Rattle.enumpure.specs.Ranks.{ranked, rank_flag, rank_line, lines_below}
 use Rattle.enumpure.specs.Replies.{exchanged, PlaysBestReply, flag, AreStable}
 use Rattle.enumpure.proofs.Ranks.{IsProfile-ranked, ComesBefore-ranked, rank_of, rank_of-below, ranked-rank_of}
-
--- the flag of the profile with a rank
-abbrev pub rank_flag : List ℕ → List Bool → ℕ → Bool
-rank_flag ns flags r = flag flags (number_of ns (ranked ns r))
-
--- the line of the profile with a rank
-abbrev pub rank_line : List ℕ → ℕ → List ℚ
-rank_line ns r = entries ns (pure (ranked ns r))
-
--- the lines of the flagged profiles with ranks below r
-unfoldable pub lines_below : List ℕ → List Bool → ℕ → List (List ℚ)
-lines_below ns flags zero = []
-lines_below ns flags (suc r) = lines_below ns flags r ++ cond (rank_flag ns flags r) (rank_line ns r ∷ []) []
 
 -- no lines at first
 pub lines_text-none : (ns : List ℕ) (flags : List Bool) → [] ≡ lines_text (lines_below ns flags 0)
@@ -54,29 +41,31 @@ All-push P [] x h p (suc k) d l = absurd (omega arith)
 All-push P (y ∷ xs) x h p zero d l = h 0 d (omega arith)
 All-push P (y ∷ xs) x h p (suc k) d l = All-push P xs x (λ j e b. h (suc j) e (omega arith)) p k d (omega arith)
 
+-- what holds of no lines
+All-none : (P : List ℚ → Type 0) → All P []
+All-none P k d l = absurd (omega arith)
+
 -- what holds of the line of each flagged profile holds of the lines
 All-lines_below : (P : List ℚ → Type 0) (ns : List ℕ) (flags : List Bool) (r : ℕ) → ((q : ℕ) → q < r → IsTrue (rank_flag ns flags q) → P (rank_line ns q)) → All P (lines_below ns flags r)
 unfolding lines_below
-All-lines_below P ns flags zero h k d l = absurd (omega arith)
-All-lines_below P ns flags (suc r) h = go (rank_flag ns flags r) refl
+All-lines_below P ns flags zero h = All-none P
+All-lines_below P ns flags (suc r) h = go (All-lines_below P ns flags r (λ q l. h q (omega arith))) (rank_flag ns flags r) refl
   where
-    before : All P (lines_below ns flags r)
-    before = All-lines_below P ns flags r (λ q l. h q (omega arith))
-    go : (b : Bool) → rank_flag ns flags r ≡ b → All P (lines_below ns flags r ++ cond b (rank_line ns r ∷ []) [])
-    go true e = All-push P (lines_below ns flags r) (rank_line ns r) before (h r (omega arith) e)
-    go false e = subst (All P) (sym (append-nil (lines_below ns flags r))) before
+    go : All P (lines_below ns flags r) → (b : Bool) → rank_flag ns flags r ≡ b → All P (lines_below ns flags r ++ cond b (rank_line ns r ∷ []) [])
+    go before true e = All-push P (lines_below ns flags r) (rank_line ns r) before (h r (omega arith) e)
+    go before false e = subst (All P) (sym (append-nil (lines_below ns flags r))) before
 
 -- the lines are in order
 AreInOrder-lines_below : (ns : List ℕ) (flags : List Bool) (r : ℕ) → r ≤ profile_count ns → AreInOrder (lines_below ns flags r)
 unfolding lines_below
 AreInOrder-lines_below ns flags zero h = tt
-AreInOrder-lines_below ns flags (suc r) h = go (rank_flag ns flags r)
+AreInOrder-lines_below ns flags (suc r) h = go (AreInOrder-lines_below ns flags r (omega arith)) (rank_flag ns flags r)
   where
-    before : All (λ y. StandsBefore y (rank_line ns r)) (lines_below ns flags r)
-    before = All-lines_below (λ y. StandsBefore y (rank_line ns r)) ns flags r (λ q l t. StandsBefore-entries ns (ranked ns q) (ranked ns r) (IsProfile-ranked ns q (omega arith)) (IsProfile-ranked ns r (omega arith)) (ComesBefore-ranked ns q r l (omega arith)))
-    go : (b : Bool) → AreInOrder (lines_below ns flags r ++ cond b (rank_line ns r ∷ []) [])
-    go true = AreInOrder-push (lines_below ns flags r) (rank_line ns r) (AreInOrder-lines_below ns flags r (omega arith)) before
-    go false = subst AreInOrder (sym (append-nil (lines_below ns flags r))) (AreInOrder-lines_below ns flags r (omega arith))
+    earlier : All (λ y. StandsBefore y (rank_line ns r)) (lines_below ns flags r)
+    earlier = All-lines_below (λ y. StandsBefore y (rank_line ns r)) ns flags r (λ q l t. StandsBefore-entries ns (ranked ns q) (ranked ns r) (IsProfile-ranked ns q (omega arith)) (IsProfile-ranked ns r (omega arith)) (ComesBefore-ranked ns q r l (omega arith)))
+    go : AreInOrder (lines_below ns flags r) → (b : Bool) → AreInOrder (lines_below ns flags r ++ cond b (rank_line ns r ∷ []) [])
+    go before true = AreInOrder-push (lines_below ns flags r) (rank_line ns r) before earlier
+    go before false = subst AreInOrder (sym (append-nil (lines_below ns flags r))) before
 
 -- a member of the first list is one of both
 Contains-append : (xs ys : List (List ℚ)) (z : List ℚ) → Contains xs z → Contains (xs ++ ys) z
@@ -93,11 +82,11 @@ Contains-last (x ∷ xs) z = let c = Contains-last xs z in (suc c.0, omega (arit
 Contains-lines_below : (ns : List ℕ) (flags : List Bool) (r q : ℕ) → q < r → IsTrue (rank_flag ns flags q) → Contains (lines_below ns flags r) (rank_line ns q)
 unfolding lines_below
 Contains-lines_below ns flags zero q l t = absurd (omega arith)
-Contains-lines_below ns flags (suc r) q l t = go (cases_eq q r)
+Contains-lines_below ns flags (suc r) q l t = go (λ b. Contains-lines_below ns flags r q b t) (cases_eq q r)
   where
-    go : (q ≡ r) ⊎ (q ≢ r) → Contains (lines_below ns flags (suc r)) (rank_line ns q)
-    go (inr e) = Contains-append (lines_below ns flags r) _ (rank_line ns q) (Contains-lines_below ns flags r q (omega arith) t)
-    go (inl e) = subst (λ v. Contains (lines_below ns flags r ++ cond (rank_flag ns flags v) (rank_line ns v ∷ []) []) (rank_line ns q)) e (subst (λ v. Contains (lines_below ns flags r ++ cond v (rank_line ns q ∷ []) []) (rank_line ns q)) (sym t) (Contains-last (lines_below ns flags r) (rank_line ns q)))
+    go : (q < r → Contains (lines_below ns flags r) (rank_line ns q)) → (q ≡ r) ⊎ (q ≢ r) → Contains (lines_below ns flags (suc r)) (rank_line ns q)
+    go f (inr e) = Contains-append (lines_below ns flags r) _ (rank_line ns q) (f (omega arith))
+    go f (inl e) = subst (λ v. Contains (lines_below ns flags r ++ cond (rank_flag ns flags v) (rank_line ns v ∷ []) []) (rank_line ns q)) e (subst (λ v. Contains (lines_below ns flags r ++ cond v (rank_line ns q ∷ []) []) (rank_line ns q)) (sym t) (Contains-last (lines_below ns flags r) (rank_line ns q)))
 
 -- a best reply at a profile's number has no greater cell
 cell_number : (g : Game) (s : List ℕ) (i t : ℕ) → IsProfile g.strategies s → (g.pays i (exchanged g.strategies (number_of g.strategies s) i t) ≤ℚ g.pays i (number_of g.strategies s)) ↔ (g.pays i (number_of g.strategies (set s i t)) ≤ℚ g.pays i (number_of g.strategies s))

@@ -53,13 +53,13 @@ rest_less q r p h l e = let m : p * (q / p) ≡ p * (r / p) = ap (λ x. p * x) e
 -- the profile with the smaller rank comes before the other
 pub ComesBefore-ranked : (ns : List ℕ) (q r : ℕ) → q < r → r < profile_count ns → ComesBefore (ranked ns q) (ranked ns r)
 ComesBefore-ranked [] q r h l = absurd (omega arith)
-ComesBefore-ranked (n ∷ ns) q r h l = go (cases_order (q / profile_count ns) (r / profile_count ns))
+ComesBefore-ranked (n ∷ ns) q r h l = go (cases_order (q / profile_count ns) (r / profile_count ns)) (λ k. ComesBefore-ranked ns (q % profile_count ns) (r % profile_count ns) k (mod-lt r (positive_second n (profile_count ns) r l)))
   where
     p : ℕ
     p = profile_count ns
     some : 0 < p
     some = positive_second n p r l
-    go : (q / p ≡ r / p) ⊎ ((q / p < r / p) ⊎ (r / p < q / p)) → ComesBefore (ranked (n ∷ ns) q) (ranked (n ∷ ns) r)
-    go (inr (inl k)) = inl k
-    go (inr (inr k)) = absurd (wrong_order q r p some h k)
-    go (inl e) = inr (e, ComesBefore-ranked ns (q % p) (r % p) (rest_less q r p some h e) (mod-lt r some))
+    go : (q / p ≡ r / p) ⊎ ((q / p < r / p) ⊎ (r / p < q / p)) → (q % p < r % p → ComesBefore (ranked ns (q % p)) (ranked ns (r % p))) → ComesBefore (ranked (n ∷ ns) q) (ranked (n ∷ ns) r)
+    go (inr (inl k)) f = inl k
+    go (inr (inr k)) f = absurd (wrong_order q r p some h k)
+    go (inl e) f = inr (e, f (rest_less q r p some h e))

@@ -4,7 +4,7 @@ use Rattle.std.proofs.lemmas.Bool.{cases_eq}
 use Rattle.rational.specs.Rational.{ℚ, ◌≤ℚ◌}
 use Rattle.rational.proofs.Field.{le_trans}
 use Rattle.game_theory.specs.Profiles.{Game, profile_count, stride}
-use Rattle.enumpure.specs.Replies.{exchanged, PlaysBestReply, flag, IsBest, AreStruck, KeepsBestReplies}
+use Rattle.enumpure.specs.Replies.{exchanged, PlaysBestReply, flag, IsBest, AreStruck, KeepsBestReplies, AreStable}
 use Rattle.enumpure.proofs.Exchanges.{IsPlace, strategy_at, strategy_at-below, exchanged-below, exchanged-again, strategy_at-exchanged, exchanged-own, exchanged-first}
 
 -- The flags after the profiles with numbers below `first` were looked at: those of the profiles that come
@@ -59,3 +59,25 @@ AreStruckBelow-step g i old mid new first best f l b z best_is struck h =
         own : IsTrue (flag new k) ↔ (IsTrue (flag mid k) × (best ≤ℚ g.pays i k))
         own =
             subst (λ v. IsTrue (flag new v) ↔ (IsTrue (flag mid v) × (best ≤ℚ g.pays i v))) (sym here) (struck.struck (strategy_at ns k i) (strategy_at-below ns k i (record { number = p; player = l })))
+
+-- The flags after the players before `count`: those of profiles at which each of these plays a best reply.
+pub record AreStableBelow (g : Game) (flags : List Bool) (count : ℕ) : Type 0 where
+  pub of_each : length flags ≡ profile_count g.strategies
+  pub stable : (k : ℕ) → k < profile_count g.strategies → IsTrue (flag flags k) ↔ ((i : ℕ) → i < count → PlaysBestReply g i k)
+
+-- at first all flags are true
+pub AreStableBelow-none : (g : Game) (flags : List Bool) → length flags ≡ profile_count g.strategies → ((k : ℕ) → k < profile_count g.strategies → IsTrue (flag flags k)) → AreStableBelow g flags 0
+AreStableBelow-none g flags e h = record { of_each = e; stable = λ k l. (λ t i b. absurd (omega arith), λ _. h k l) }
+
+-- one player more
+pub AreStableBelow-next : (g : Game) (old new : List Bool) (i : ℕ) → length new ≡ length old → AreStableBelow g old i → KeepsBestReplies g i old new → AreStableBelow g new (i + 1)
+AreStableBelow-next g old new i e h kept =
+    record { of_each = e ∙ h.of_each; stable = λ k l. (λ t j b. each k j t l b (cases_eq j i), λ r. (kept k l).1 ((h.stable k l).1 (λ j b. r j (omega arith)), r i (omega arith))) }
+  where
+    each : (k j : ℕ) → IsTrue (flag new k) → k < profile_count g.strategies → j < i + 1 → (j ≡ i) ⊎ (j ≢ i) → PlaysBestReply g j k
+    each k j t l b (inl q) = subst (λ v. PlaysBestReply g v k) (sym q) ((kept k l).0 t).1
+    each k j t l b (inr q) = (h.stable k l).0 ((kept k l).0 t).0 j (omega arith)
+
+-- at last all players
+pub AreStable-all : (g : Game) (flags : List Bool) → AreStableBelow g flags (length g.strategies) → AreStable g flags
+AreStable-all g flags h = record { of_each = h.of_each; stable = h.stable }

@@ -2,10 +2,10 @@
 ghost use Rattle.std.specs.Prelude.{◌≡◌, ◌<◌, ◌≤◌, ◌^◌, ◌++◌, ℕ, List, All, length, IfOk, OnOk};
 ghost use Rattle.game_theory.specs.Profiles.{Game, IsProfile, profile_count, number_of};
 ghost use Rattle.game_theory.specs.Mixed.{sure, pure};
-ghost use Rattle.game_theory.specs.Lines.{listed, entries, line_text};
+ghost use Rattle.game_theory.specs.Lines.{listed, entries, line_text, lines_text};
 ghost use Rattle.game_core.specs.Table.{game_of};
 ghost use Rattle.enumpure.specs.Entries.{entries_text};
-ghost use Rattle.enumpure.specs.Ranks.{ranked};
+ghost use Rattle.enumpure.specs.Ranks.{ranked, lines_below};
 ghost use Rattle.enumpure.specs.Text.{IsPureEquilibriaText};
 
 use crate::replies::{stable_profiles, strategy_counts};
@@ -49,8 +49,9 @@ fn push_entries(text: &mut Vec<u8>, strategies: usize, played: usize) -> Result<
     ensures { OnOk result (text.new.items ≡ text.old.items ++ entries_text (listed strategies (sure played))) }
 {
     for strategy in 0..strategies {
+        let digit = if strategy == played { b'1' } else { b'0' };
         text.push(b',')?;
-        text.push(if strategy == played { b'1' } else { b'0' })?;
+        text.push(digit)?;
     }
     Ok(())
 }
@@ -71,6 +72,26 @@ fn push_line(text: &mut Vec<u8>, counts: &[usize], profile: &[usize]) -> Result<
     Ok(())
 }
 
+// Adds the lines of the flagged profiles in the order of their ranks. Writes over `profile`.
+fn push_lines(
+    text: &mut Vec<u8>,
+    counts: &[usize],
+    stable: &[bool],
+    profile: &mut [usize],
+) -> Result<(), Memory>
+    requires players { length profile.old ≡ length counts.now }
+    requires flags { length stable.now ≡ profile_count counts.now }
+    ensures { OnOk result (text.new.items ≡ text.old.items ++ lines_text (lines_below counts.now stable.now (length stable.now))) }
+{
+    for rank in 0..stable.len() {
+        set_profile(profile, counts, stable.len(), rank);
+        if stable[profile_number(counts, profile)] {
+            push_line(text, counts, profile)?;
+        }
+    }
+    Ok(())
+}
+
 /// The lines of the pure equilibria of a table, for any number of players: each pure profile at which no
 /// player has a strategy with a greater payoff, once, in descending order of the lines' entries.
 pub fn list_pure_equilibria(alloc: Global, table: &Table) -> Result<Vec<u8>, Memory>
@@ -80,12 +101,7 @@ pub fn list_pure_equilibria(alloc: Global, table: &Table) -> Result<Vec<u8>, Mem
     let stable = stable_profiles(alloc, table)?;
     let mut profile = vec![in alloc; 0; counts.len()]?;
     let mut text = Vec::new(alloc);
-    for rank in 0..stable.len() {
-        set_profile(&mut profile, &counts, stable.len(), rank);
-        if stable[profile_number(&counts, &profile)] {
-            push_line(&mut text, &counts, &profile)?;
-        }
-    }
+    push_lines(&mut text, &counts, &stable, &mut profile)?;
     Ok(text)
 }
 

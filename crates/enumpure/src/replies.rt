@@ -1,9 +1,9 @@
 // The profiles of a table at which each player plays a best reply.
-ghost use Rattle.std.specs.Prelude.{◌≡◌, ℕ, ◌+◌, ◌*◌, ◌<◌, ◌≤◌, ◌↔◌, IsTrue, IfOk, length, slice_index};
+ghost use Rattle.std.specs.Prelude.{◌≡◌, ℕ, ◌+◌, ◌*◌, ◌<◌, ◌≤◌, ◌↔◌, IsTrue, IfOk, EachIndex, length, slice_index};
 ghost use Rattle.rational.specs.Rational.{◌<ℚ◌};
 ghost use Rattle.game_theory.specs.Profiles.{profile_count, stride as stride_of};
 ghost use Rattle.game_core.specs.Table.{game_of, strategy_counts, IsTable};
-ghost use Rattle.enumpure.specs.Replies.{IsBest, AreStruck, KeepsBestReplies, AreStable};
+ghost use Rattle.enumpure.specs.Replies.{IsBest, AreStruck, KeepsBestReplies, AreStable, flag};
 
 use frac128::{Frac, Memory};
 use game_core::Table;
@@ -117,15 +117,24 @@ fn strike_player(stable: &mut [bool], table: &Table, player: usize, stride: usiz
     }
 }
 
+// Takes the flags from the profiles at which some player has a strategy with a greater payoff.
+fn strike_all(stable: &mut [bool], table: &Table)
+    requires flags { length stable.old ≡ profile_count (strategy_counts table.now) }
+    requires all { EachIndex stable.old (λ k. IsTrue (flag stable.old k)) }
+    ensures { AreStable (game_of table.now) stable.new }
+{
+    let mut stride = 1;
+    for player in 0..table.players().len() {
+        strike_player(stable, table, player, stride);
+        stride *= strategy_count(table, player);
+    }
+}
+
 // For each profile, by its number, whether each player plays a best reply.
 pub fn stable_profiles(alloc: Global, table: &Table) -> Result<Vec<bool>, Memory>
     ensures { IfOk result (λ flags. AreStable (game_of table.now) flags.items) }
 {
     let mut stable = vec![in alloc; true; profile_count(table)]?;
-    let mut stride = 1;
-    for player in 0..table.players().len() {
-        strike_player(&mut stable, table, player, stride);
-        stride *= strategy_count(table, player);
-    }
+    strike_all(&mut stable, table);
     Ok(stable)
 }

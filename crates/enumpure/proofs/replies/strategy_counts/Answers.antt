@@ -1,19 +1,19 @@
-use Rattle.std.proofs.Common.{rules, ◌≡◌, ℕ, ◌+◌, ◌*◌, ◌<◌, ◌≤◌, ◌↔◌, IsTrue, IfOk, length, slice_index, ◌-◌, ◌/◌, ◌%◌, Bool, true, false, nat_eq, nat_lt, List, [], ◌∷◌, ◌++◌, slice_index_or, slice_set, bit_and, bit_or, Fits, w8, w32, w64, Bor, MutBor}
-use Rattle.rational.specs.Rational.{◌<ℚ◌}
-use Rattle.game_theory.specs.Profiles.{profile_count}
-use Rattle.game_theory.specs.Profiles.{stride as stride_of}
-use Rattle.game_core.specs.Table.{game_of, strategy_counts, IsTable}
-use Rattle.enumpure.specs.Replies.{IsBest, AreStruck, KeepsBestReplies, AreStable}
+use Rattle.std.proofs.Common.{◌+◌, ◌<◌, ◌≤◌, ◌≡◌, ◌++◌, ◌∷◌, [], List, ℕ, length, get_or, take, sym, ap, ap₂, ◌∙◌, arith}
+use Rattle.std.proofs.lemmas.List.{take_more, take_all}
+use Rattle.game_core.specs.Table.{strategy_counts}
+use Rattle.enumpure.proofs.Strides.{length-strategy_counts}
 use Rattle.enumpure.proofs.replies.strategy_counts.Goals as goal
 
--- src/replies.rt:26:5
-pub loop-player-init : goal.loop-player-init
-loop-player-init c = ?
-
--- src/replies.rt:26:5
 pub loop-player-preserved : goal.loop-player-preserved
-loop-player-preserved c = ?
+loop-player-preserved c =
+    let t = c.args.table.now in
+    let player : c.loop-player.player < length (strategy_counts t) = omega (arith, length-strategy_counts t c.players-player-end.ensures.valid, ap length c.players-player-end.ensures.players) in
+    let was : c.loop-player.counts.items ≡ take c.loop-player.player (strategy_counts t) = c.loop-player.invariant in
+    c.in_ok-push.ensures.items ∙ ap₂ (λ x y. x ++ y ∷ []) was c.strategy_count.ensures ∙ sym (take_more (strategy_counts t) c.loop-player.player 0 player)
 
--- src/replies.rt:22:1
 pub returns : goal.returns
-returns c = ?
+returns c =
+    let t = c.args.table.now in
+    let all : length (strategy_counts t) ≤ c.loop-player.player = omega (arith, length-strategy_counts t c.players-player-end.ensures.valid, ap length c.players-player-end.ensures.players) in
+    let is : c.loop-player.counts.items ≡ take c.loop-player.player (strategy_counts t) = c.loop-player.invariant in
+    is ∙ take_all c.loop-player.player (strategy_counts t) all
