@@ -1,5 +1,5 @@
 -- The lines of flagged profiles, by rank.
-use Rattle.std.proofs.Common.{ℕ, zero, suc, ◌+◌, ◌<◌, ◌≤◌, ◌≡◌, ◌≢◌, ◌⊎◌, inl, inr, Bool, true, false, cond, IsTrue, List, [], ◌∷◌, ◌++◌, length, get_or, set, add-one, ◌↔◌, All, Contains, refl, sym, ap, ◌∙◌, subst, arith, append_assoc, length-append}
+use Rattle.std.proofs.Common.{ℕ, zero, suc, ◌+◌, ◌<◌, ◌≤◌, ◌≡◌, ◌≢◌, ◌⊎◌, inl, inr, Bool, true, false, cond, IsTrue, List, [], ◌∷◌, ◌++◌, length, get_or, set, add-one, ◌↔◌, All, Contains, refl, sym, ap, ap₂, ◌∙◌, subst, arith, append_assoc, length-append}
 use Rattle.std.proofs.lemmas.Bool.{cases_eq}
 use Rattle.std.proofs.lemmas.Grind.{flat_map-append}
 use Rattle.std.proofs.lemmas.List.{append-nil}
@@ -15,24 +15,33 @@ use Rattle.game_theory.proofs.ProfileNumbers.{number_of-below, profile_at-number
 use Rattle.game_theory.proofs.PureProfiles.{NoGreaterCell-equilibrium, IsEquilibrium-by_cells}
 use Rattle.enumpure.specs.Ranks.{ranked, rank_flag, rank_line, lines_below}
 use Rattle.enumpure.specs.Replies.{exchanged, PlaysBestReply, flag, AreStable}
+use Rattle.enumpure.specs.Text.{IsPureEquilibriaText}
 use Rattle.enumpure.proofs.Ranks.{IsProfile-ranked, ComesBefore-ranked, rank_of, rank_of-below, ranked-rank_of}
 
 -- no lines at first
-pub lines_text-none : (ns : List ℕ) (flags : List Bool) → [] ≡ lines_text (lines_below ns flags 0)
+pub lines_text-none : (ns : List ℕ) (flags : List Bool) (old : List ℕ) → old ≡ old ++ lines_text (lines_below ns flags 0)
 unfolding lines_below
-lines_text-none ns flags = refl
+lines_text-none ns flags old = sym (append-nil old)
+
+-- the lines with that of a flagged profile
+lines_below-flagged : (ns : List ℕ) (flags : List Bool) (r : ℕ) → rank_flag ns flags r ≡ true → lines_below ns flags r ++ rank_line ns r ∷ [] ≡ lines_below ns flags (r + 1)
+unfolding lines_below
+lines_below-flagged ns flags r f = ap (λ v. lines_below ns flags r ++ cond v (rank_line ns r ∷ []) []) (sym f) ∙ ap (lines_below ns flags) (sym (add-one r))
+
+-- the lines where the profile is not flagged
+lines_below-other : (ns : List ℕ) (flags : List Bool) (r : ℕ) → rank_flag ns flags r ≡ false → lines_below ns flags r ≡ lines_below ns flags (r + 1)
+unfolding lines_below
+lines_below-other ns flags r f =
+    sym (append-nil (lines_below ns flags r)) ∙ ap (λ v. lines_below ns flags r ++ cond v (rank_line ns r ∷ []) []) (sym f) ∙ ap (lines_below ns flags) (sym (add-one r))
 
 -- the text with the line of a flagged profile
-pub lines_text-push : (ns : List ℕ) (flags : List Bool) (r : ℕ) (text : List ℕ) → text ≡ lines_text (lines_below ns flags r) → rank_flag ns flags r ≡ true → text ++ line_text (rank_line ns r) ≡ lines_text (lines_below ns flags (r + 1))
-unfolding lines_below
-lines_text-push ns flags r text e f =
-    ap (λ v. v ++ line_text (rank_line ns r)) e ∙ ap (λ v. lines_text (lines_below ns flags r) ++ v) (sym (append-nil (line_text (rank_line ns r)))) ∙ sym (flat_map-append line_text (lines_below ns flags r) (rank_line ns r ∷ [])) ∙ ap (λ v. lines_text (lines_below ns flags r ++ cond v (rank_line ns r ∷ []) [])) (sym f) ∙ ap (λ v. lines_text (lines_below ns flags v)) (sym (add-one r))
+pub lines_text-push : (ns : List ℕ) (flags : List Bool) (r : ℕ) (old text : List ℕ) → text ≡ old ++ lines_text (lines_below ns flags r) → rank_flag ns flags r ≡ true → text ++ line_text (rank_line ns r) ≡ old ++ lines_text (lines_below ns flags (r + 1))
+lines_text-push ns flags r old text e f =
+    ap (λ v. v ++ line_text (rank_line ns r)) e ∙ append_assoc old (lines_text (lines_below ns flags r)) (line_text (rank_line ns r)) ∙ ap (λ v. old ++ v) (ap (λ v. lines_text (lines_below ns flags r) ++ v) (sym (append-nil (line_text (rank_line ns r)))) ∙ sym (flat_map-append line_text (lines_below ns flags r) (rank_line ns r ∷ [])) ∙ ap lines_text (lines_below-flagged ns flags r f))
 
 -- the text where the profile is not flagged
-pub lines_text-skip : (ns : List ℕ) (flags : List Bool) (r : ℕ) (text : List ℕ) → text ≡ lines_text (lines_below ns flags r) → rank_flag ns flags r ≡ false → text ≡ lines_text (lines_below ns flags (r + 1))
-unfolding lines_below
-lines_text-skip ns flags r text e f =
-    e ∙ ap lines_text (sym (append-nil (lines_below ns flags r)) ∙ ap (λ v. lines_below ns flags r ++ cond v (rank_line ns r ∷ []) []) (sym f)) ∙ ap (λ v. lines_text (lines_below ns flags v)) (sym (add-one r))
+pub lines_text-skip : (ns : List ℕ) (flags : List Bool) (r : ℕ) (old text : List ℕ) → text ≡ old ++ lines_text (lines_below ns flags r) → rank_flag ns flags r ≡ false → text ≡ old ++ lines_text (lines_below ns flags (r + 1))
+lines_text-skip ns flags r old text e f = e ∙ ap (λ v. old ++ lines_text v) (lines_below-other ns flags r f)
 
 -- what holds of the lines and of a further one holds of all
 All-push : (P : List ℚ → Type 0) (xs : List (List ℚ)) (x : List ℚ) → All P xs → P x → All P (xs ++ x ∷ [])
@@ -118,3 +127,8 @@ ArePureEquilibria-lines_below g flags h =
         let same : ranked g.strategies (rank_of g.strategies s) ≡ s = ranked-rank_of g.strategies s p in
         let flagged : IsTrue (flag flags (number_of g.strategies s)) = flag-equilibrium g flags s h p e in
         subst (λ v. Contains (lines_below g.strategies flags (profile_count g.strategies)) (entries g.strategies (pure v))) same (Contains-lines_below g.strategies flags (profile_count g.strategies) (rank_of g.strategies s) (rank_of-below g.strategies s p) (subst (λ v. IsTrue (flag flags (number_of g.strategies v))) (sym same) flagged))
+
+-- the text of these lines
+pub IsPureEquilibriaText-listed : (g : Game) (flags : List Bool) (counts text : List ℕ) → counts ≡ g.strategies → AreStable g flags → text ≡ lines_text (lines_below counts flags (length flags)) → IsPureEquilibriaText g text
+IsPureEquilibriaText-listed g flags counts text e h t =
+    record { lines = lines_below g.strategies flags (profile_count g.strategies); are_pure_equilibria = ArePureEquilibria-lines_below g flags h; is_text = t ∙ ap₂ (λ v w. lines_text (lines_below v flags w)) e h.of_each }
