@@ -73,6 +73,7 @@ AreStruck-keep p first stride n best old new d ne h =
   where
     same : flag new (first + stride * n) ≡ flag old (first + stride * n)
     same = h.others (first + stride * n) (not_before first stride n (first + stride * n) d refl)
+
     last : IsTrue (flag new (first + stride * n)) ↔ (IsTrue (flag old (first + stride * n)) × (best ≤ℚ p (first + stride * n)))
     last = (λ t. (subst IsTrue same t, not_lt_le best (p (first + stride * n)) ne), λ w. subst IsTrue (sym same) w.0)
 
@@ -83,8 +84,10 @@ AreStruck-clear p first stride n best old new d b l h =
   where
     place : ℕ
     place = first + stride * n
+
     earlier : (s : ℕ) → s < n → IsTrue (flag (set new place false) (first + stride * s)) ↔ (IsTrue (flag old (first + stride * s)) × (best ≤ℚ p (first + stride * s)))
     earlier s q =
         subst (λ v. IsTrue v ↔ (IsTrue (flag old (first + stride * s)) × (best ≤ℚ p (first + stride * s)))) (sym (get_or-set_other new place (first + stride * s) false false (places_differ first stride s n d q))) (h.struck s q)
+
     last : IsTrue (flag (set new place false) place) ↔ (IsTrue (flag old place) × (best ≤ℚ p place))
     last = (λ t. cc (t, get_or-set_same new place false false b), λ w. absurd (lt_not_le (p place) best l w.1))

@@ -72,6 +72,7 @@ AreInOrder-lines_below ns flags (suc r) h = go (AreInOrder-lines_below ns flags 
   where
     earlier : All (λ y. StandsBefore y (rank_line ns r)) (lines_below ns flags r)
     earlier = All-lines_below (λ y. StandsBefore y (rank_line ns r)) ns flags r (λ q l t. StandsBefore-entries ns (ranked ns q) (ranked ns r) (IsProfile-ranked ns q (omega arith)) (IsProfile-ranked ns r (omega arith)) (ComesBefore-ranked ns q r l (omega arith)))
+
     go : AreInOrder (lines_below ns flags r) → (b : Bool) → AreInOrder (lines_below ns flags r ++ cond b (rank_line ns r ∷ []) [])
     go before true = AreInOrder-push (lines_below ns flags r) (rank_line ns r) before earlier
     go before false = subst AreInOrder (sym (append-nil (lines_below ns flags r))) before

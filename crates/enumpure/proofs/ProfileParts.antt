@@ -48,14 +48,19 @@ next_part ns target profile i later rest l b h =
   where
     n : ℕ
     n = get_or ns i 0
+
     rest_of : List ℕ
     rest_of = drop (suc i) ns
+
     count : later ≡ n * profile_count rest_of
     count = h.later_is ∙ ap profile_count (drop-cons ns i 0 l)
+
     both : (0 < n) × (0 < profile_count rest_of)
     both = factors n (profile_count rest_of) rest (omega (arith, h.rest_below, count))
+
     later_next : later / n ≡ profile_count rest_of
     later_next = ap (λ v. v / n) count ∙ mul-div_cancel_left (profile_count rest_of) both.0
+
     parts : ranked (n ∷ rest_of) rest ≡ get_or target i 0 ∷ drop (suc i) target
     parts = ap (λ v. ranked v rest) (sym (drop-cons ns i 0 l)) ∙ h.ahead ∙ drop-cons target i 0 b
 
@@ -89,6 +94,7 @@ IsNumberBelow-next ns s i number d l b h =
   where
     parts : number_of (drop i ns) (drop i s) ≡ get_or s i 0 + get_or ns i 0 * number_of (drop (suc i) ns) (drop (suc i) s)
     parts = ap₂ number_of (drop-cons ns i 0 l) (drop-cons s i 0 b)
+
     sum_next : number + d * get_or s i 0 + d * get_or ns i 0 * number_of (drop (suc i) ns) (drop (suc i) s) ≡ number_of ns s
     sum_next = let e : number + d * (get_or s i 0 + get_or ns i 0 * number_of (drop (suc i) ns) (drop (suc i) s)) ≡ number_of ns s = ap (λ v. number + d * v) (sym parts) ∙ h.sum in omega (arith, e)
 

@@ -57,8 +57,10 @@ ComesBefore-ranked (n ∷ ns) q r h l = go (cases_order (q / profile_count ns) (
   where
     p : ℕ
     p = profile_count ns
+
     some : 0 < p
     some = positive_second n p r l
+
     go : (q / p ≡ r / p) ⊎ ((q / p < r / p) ⊎ (r / p < q / p)) → (q % p < r % p → ComesBefore (ranked ns (q % p)) (ranked ns (r % p))) → ComesBefore (ranked (n ∷ ns) q) (ranked (n ∷ ns) r)
     go (inr (inl k)) f = inl k
     go (inr (inr k)) f = absurd (wrong_order q r p some h k)

@@ -40,22 +40,28 @@ AreStruckBelow-step g i old mid new first best f l b z best_is struck h =
   where
     ns : List ℕ
     ns = g.strategies
+
     from : (k s : ℕ) → k < profile_count ns → exchanged ns k i 0 ≡ first → exchanged ns k i s ≡ first + stride ns i * s
     from k s p e =
         sym (exchanged-again ns k i 0 s (record { number = p; player = l }) b) ∙ ap (λ v. exchanged ns v i s) e ∙ exchanged-first ns first i s (record { number = f; player = l }) z
+
     kept : (k : ℕ) → k < profile_count ns → exchanged ns k i 0 ≢ first → flag new k ≡ flag mid k
     kept k p ne =
         struck.others k (λ s q e. ne (ap (λ v. exchanged ns v i 0) (e ∙ sym (exchanged-first ns first i s (record { number = f; player = l }) z)) ∙ exchanged-again ns first i s 0 (record { number = f; player = l }) q ∙ exchanged-first ns first i 0 (record { number = f; player = l }) z ∙ omega arith))
+
     done : (k : ℕ) → k < profile_count ns → exchanged ns k i 0 < first + 1 → (exchanged ns k i 0 ≡ first) ⊎ (exchanged ns k i 0 ≢ first) → IsTrue (flag new k) ↔ (IsTrue (flag old k) × PlaysBestReply g i k)
     done k p e (inr ne) = subst (λ v. IsTrue v ↔ (IsTrue (flag old k) × PlaysBestReply g i k)) (sym (kept k p ne)) (h.done k p (omega arith))
     done k p e (inl q) = (λ t. (subst IsTrue same ((own.0 t).0), reached.0 (own.0 t).1), λ w. own.1 (subst IsTrue (sym same) w.0, reached.1 w.1))
       where
         here : k ≡ first + stride ns i * strategy_at ns k i
         here = sym (exchanged-own ns k i (record { number = p; player = l })) ∙ from k (strategy_at ns k i) p q
+
         same : flag mid k ≡ flag old k
         same = h.ahead k p (omega arith)
+
         reached : (best ≤ℚ g.pays i k) ↔ PlaysBestReply g i k
         reached = best-reached g i k first best (λ s. from k s p q) best_is
+
         own : IsTrue (flag new k) ↔ (IsTrue (flag mid k) × (best ≤ℚ g.pays i k))
         own =
             subst (λ v. IsTrue (flag new v) ↔ (IsTrue (flag mid v) × (best ≤ℚ g.pays i v))) (sym here) (struck.struck (strategy_at ns k i) (strategy_at-below ns k i (record { number = p; player = l })))

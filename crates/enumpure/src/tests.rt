@@ -1,4 +1,4 @@
-ghost use Rattle.std.specs.Prelude.{◌≡◌, ◌<◌, ◌≤◌, ◌*◌, length, All};
+ghost use Rattle.std.specs.Prelude.{◌≡◌, ◌<◌, ◌≤◌, ◌*◌, length, map, All, IfOk};
 ghost use Rattle.game_theory.specs.Profiles.{profile_count};
 ghost use Rattle.game_core.specs.Table.{most_payoffs};
 
@@ -7,31 +7,53 @@ use frac128::{Frac, Memory};
 use game_core::{Name, Table};
 use std::alloc::Global;
 
+// This many names.
+fn names(alloc: Global, count: usize) -> Result<Vec<Name>, Memory>
+    ensures { IfOk result (λ names. length names.items ≡ count) }
+{
+    let mut names = Vec::new(alloc);
+    for _name in 0..count {
+        names.push(Name::new(Vec::new(alloc)))?;
+    }
+    Ok(names)
+}
+
+// Names of so many strategies for each player.
+fn strategies(alloc: Global, counts: &[usize]) -> Result<Vec<Vec<Name>>, Memory>
+    ensures { IfOk result (λ strategies. map length (map (λ v. v.items) strategies.items) ≡ counts.now) }
+{
+    let mut strategies = Vec::new(alloc);
+    for count in counts {
+        strategies.push(names(alloc, *count)?)?;
+    }
+    Ok(strategies)
+}
+
+// The fractions of whole numbers.
+fn fractions(alloc: Global, numbers: &[i128]) -> Result<Vec<Frac>, Memory>
+    ensures { IfOk result (λ fractions. length fractions.items ≡ length numbers.now) }
+{
+    let mut fractions = Vec::new(alloc);
+    for number in numbers {
+        let Some(fraction) = Frac::new(*number, 1) else {
+            return Err(Memory);
+        };
+        fractions.push(fraction)?;
+    }
+    Ok(fractions)
+}
+
 // Whether the game with these numbers of strategies and these whole payoffs, in file order, has this text.
 fn has_text(alloc: Global, counts: &[usize], payoffs: &[i128], text: &[u8]) -> Result<bool, Memory>
     requires some_strategy { All (λ n. 0 < n) counts.now }
     requires payoffs_of_each { length payoffs.now ≡ length counts.now * profile_count counts.now }
     requires few_payoffs { length payoffs.now ≤ most_payoffs }
 {
-    let mut players = Vec::new(alloc);
-    let mut strategies = Vec::new(alloc);
-    for count in counts {
-        players.push(Name::new(Vec::new(alloc)))?;
-        let mut names = Vec::new(alloc);
-        for _ in 0..*count {
-            names.push(Name::new(Vec::new(alloc)))?;
-        }
-        strategies.push(names)?;
-    }
-    let mut numbers = Vec::new(alloc);
-    for payoff in payoffs {
-        let Some(number) = Frac::new(*payoff, 1) else {
-            return Err(Memory);
-        };
-        numbers.push(number)?;
-    }
     let title = Name::new(Vec::new(alloc));
-    let table = Table::new(title, players, strategies, numbers);
+    let players = names(alloc, counts.len())?;
+    let strategies = strategies(alloc, counts)?;
+    let payoffs = fractions(alloc, payoffs)?;
+    let table = Table::new(title, players, strategies, payoffs);
     let found = list_pure_equilibria(alloc, &table)?;
     Ok(found.as_slice() == text)
 }
