@@ -62,9 +62,8 @@ pub entry_text-other : (played n digit : ℕ) → n ≢ played → digit ≡ 48 
 entry_text-other played n digit ne d = ap (λ v. 44 ∷ v ∷ []) d ∙ ap (λ v. 44 ∷ v) (sym number_text-zero) ∙ ap entry_text (sym (sure-other played n ne))
 
 -- the text with one strategy's comma and digit
-pub entries_text-digit : (text comma all old : List ℕ) (played n digit : ℕ) → text ≡ old ++ entries_text (listed n (sure played)) → comma ≡ text ++ 44 ∷ [] → all ≡ comma ++ digit ∷ [] → 44 ∷ digit ∷ [] ≡ entry_text (sure played n) → all ≡ old ++ entries_text (listed (n + 1) (sure played))
-entries_text-digit text comma all old played n digit t e f d =
-    f ∙ ap (λ v. v ++ digit ∷ []) e ∙ append_assoc text (44 ∷ []) (digit ∷ []) ∙ ap (λ v. text ++ v) d ∙ entries_text-listed_next text old n (sure played) t
+pub entries_text-digit : (text all old : List ℕ) (played n digit : ℕ) → text ≡ old ++ entries_text (listed n (sure played)) → all ≡ text ++ 44 ∷ digit ∷ [] → 44 ∷ digit ∷ [] ≡ entry_text (sure played n) → all ≡ old ++ entries_text (listed (n + 1) (sure played))
+entries_text-digit text all old played n digit t e d = e ∙ ap (λ v. text ++ v) d ∙ entries_text-listed_next text old n (sure played) t
 
 -- the text of the line of a game with some player
 pub line_text-grown : (begun text all old ns : List ℕ) (m : Mixed) → HaveStrategies ns → length ns ≢ 0 → begun ≡ old ++ codes "NE" → text ≡ begun ++ entries_text (entries ns m) → all ≡ text ++ 10 ∷ [] → all ≡ old ++ line_text (entries ns m)

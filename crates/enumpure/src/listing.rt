@@ -50,8 +50,7 @@ fn push_entries(text: &mut Vec<u8>, strategies: usize, played: usize) -> Result<
 {
     for strategy in 0..strategies {
         let digit = if strategy == played { b'1' } else { b'0' };
-        text.push(b',')?;
-        text.push(digit)?;
+        text.extend_from_slice(&[b',', digit])?;
     }
     Ok(())
 }
