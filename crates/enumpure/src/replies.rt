@@ -8,7 +8,6 @@ ghost use Rattle.enumpure.specs.Replies.{IsBest, AreStruck, KeepsBestReplies, Ar
 use frac128::{Frac, Memory};
 use game_core::Table;
 use std::alloc::Global;
-use std::cmp::Ordering;
 
 // How many strategies a player has.
 fn strategy_count(table: &Table, player: usize) -> usize
@@ -53,10 +52,7 @@ fn payoff(table: &Table, player: usize, profile: usize) -> Frac
 fn is_less(left: Frac, right: Frac) -> bool
     ensures { IsTrue result ↔ (left <ℚ right) }
 {
-    match left.cmp(right) {
-        Ordering::Less => true,
-        _ => false,
-    }
+    left.cmp(right).is_lt()
 }
 
 // The best payoff among a player's strategies against what the others play in a profile, `first`, in
