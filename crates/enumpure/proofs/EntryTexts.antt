@@ -1,12 +1,12 @@
 -- The text of a line, as it grows entry by entry.
-use Rattle.std.proofs.Common.{ℕ, zero, suc, ◌+◌, ◌<◌, ◌≡◌, ◌≢◌, Bool, true, false, eqb, eqb→eq, cond, T, List, [], ◌∷◌, ◌++◌, length, get_or, take, map, codes, refl, sym, ap, ap₂, ◌∙◌, subst, arith, append_assoc, add-one}
-use Rattle.std.specs.List.{flat_map, join_with_byte}
+use Rattle.std.proofs.Common.{ℕ, zero, suc, ◌+◌, ◌<◌, ◌≡◌, ◌≢◌, List, [], ◌∷◌, ◌++◌, length, get_or, take, map, codes, refl, sym, ap, ◌∙◌, arith, append_assoc, add-one}
+use Rattle.std.specs.List.{join_with_byte}
 use Rattle.std.specs.Fmt.{digits}
 use Rattle.std.proofs.lemmas.Grind.{flat_map-append}
 use Rattle.std.proofs.lemmas.List.{append-nil}
 use Rattle.rational.specs.Gcd.{gcd}
 use Rattle.rational.specs.Rational.{ℚ, is_lowest, frac, zero_ℚ, one_ℚ}
-use Rattle.game_theory.specs.Mixed.{Mixed, later, sure, pure}
+use Rattle.game_theory.specs.Mixed.{Mixed, later, sure}
 use Rattle.game_theory.specs.Lines.{listed, entries, number_text, line_text}
 use Rattle.game_theory.proofs.SureStrategies.{sure-at, sure-other}
 use Rattle.enumpure.specs.Entries.{entry_text, entries_text}

@@ -1,20 +1,19 @@
 -- The lines of flagged profiles, by rank.
-use Rattle.std.proofs.Common.{ℕ, zero, suc, ◌+◌, ◌<◌, ◌≤◌, ◌≡◌, ◌≢◌, ◌⊎◌, inl, inr, Bool, true, false, cond, IsTrue, List, [], ◌∷◌, ◌++◌, length, get_or, set, add-one, ◌↔◌, All, Contains, refl, sym, ap, ap₂, ◌∙◌, subst, arith, append_assoc, length-append}
+use Rattle.std.proofs.Common.{ℕ, zero, suc, ◌+◌, ◌<◌, ◌≤◌, ◌≡◌, ◌≢◌, ◌⊎◌, inl, inr, Bool, true, false, cond, IsTrue, List, [], ◌∷◌, ◌++◌, length, set, add-one, ◌↔◌, All, Contains, refl, sym, ap, ap₂, ◌∙◌, subst, arith, append_assoc}
 use Rattle.std.proofs.lemmas.Bool.{cases_eq}
 use Rattle.std.proofs.lemmas.Grind.{flat_map-append}
 use Rattle.std.proofs.lemmas.List.{append-nil}
 use Rattle.rational.specs.Rational.{ℚ, ◌≤ℚ◌}
-use Rattle.game_theory.specs.Profiles.{Game, profile_count, IsProfile, number_of, profile_at}
+use Rattle.game_theory.specs.Profiles.{Game, profile_count, IsProfile, number_of}
 use Rattle.game_theory.specs.Mixed.{pure}
 use Rattle.game_theory.specs.Equilibrium.{IsEquilibrium}
-use Rattle.game_theory.specs.Laws.{NoGreaterCell}
 use Rattle.game_theory.specs.Lines.{entries, StandsBefore, AreInOrder, IsPureEquilibriumLine, ArePureEquilibria, line_text, lines_text}
 use Rattle.game_theory.proofs.LineOrder.{AreInOrder-push}
 use Rattle.game_theory.proofs.ProfileLines.{StandsBefore-entries}
 use Rattle.game_theory.proofs.ProfileNumbers.{number_of-below, profile_at-number_of}
 use Rattle.game_theory.proofs.PureProfiles.{NoGreaterCell-equilibrium, IsEquilibrium-by_cells}
 use Rattle.enumpure.specs.Ranks.{ranked, rank_flag, rank_line, lines_below}
-use Rattle.enumpure.specs.Replies.{exchanged, PlaysBestReply, flag, AreStable}
+use Rattle.enumpure.specs.Replies.{exchanged, flag, AreStable}
 use Rattle.enumpure.specs.Text.{IsPureEquilibriaText}
 use Rattle.enumpure.proofs.Ranks.{IsProfile-ranked, ComesBefore-ranked, rank_of, rank_of-below, ranked-rank_of}
 

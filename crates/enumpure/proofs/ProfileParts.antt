@@ -1,13 +1,13 @@
 -- A profile that is written, and its number that is added up, player by player.
-use Rattle.std.proofs.Common.{ℕ, zero, suc, ◌+◌, ◌*◌, ◌/◌, ◌%◌, ◌<◌, ◌≤◌, ◌≡◌, ◌≢◌, ◌⊎◌, inl, inr, List, [], ◌∷◌, length, get_or, set, drop, refl, sym, ap, ap₂, ◌∙◌, subst, arith, mod-lt, drop-cons, add-one}
+use Rattle.std.proofs.Common.{ℕ, suc, ◌+◌, ◌*◌, ◌/◌, ◌%◌, ◌<◌, ◌≤◌, ◌≡◌, ◌≢◌, ◌⊎◌, inl, inr, List, [], ◌∷◌, length, get_or, set, drop, refl, sym, ap, ap₂, ◌∙◌, subst, arith, mod-lt, drop-cons, add-one}
 use Rattle.std.proofs.lemmas.Bool.{cases_eq}
-use Rattle.std.proofs.lemmas.List.{get_or-drop, get_or-set_same, get_or-set_other, ext_get_or, drop_all}
+use Rattle.std.proofs.lemmas.List.{get_or-set_same, get_or-set_other, ext_get_or, drop_all}
 use Rattle.std.proofs.Math.Nat.{mul-div_cancel_left}
 use Rattle.game_theory.specs.Profiles.{profile_count, IsProfile, number_of, stride}
-use Rattle.game_theory.proofs.ProfileNumbers.{length-profile, number_of-below, profile-below, stride-next}
+use Rattle.game_theory.proofs.ProfileNumbers.{profile-below, stride-next}
 use Rattle.enumpure.specs.Ranks.{ranked}
-use Rattle.enumpure.proofs.Ranks.{IsProfile-ranked}
-use Rattle.enumpure.proofs.Strides.{HaveStrategies, stride_next-at_most}
+use Rattle.enumpure.proofs.Ranks.{factors-positive}
+use Rattle.enumpure.proofs.Strides.{HaveStrategies}
 
 -- The strategies of the players before `i` are written, and the others are those of the profile with rank
 -- `rest` among the profiles of the players from `i` on, of which there are `later`.
@@ -16,16 +16,6 @@ pub record IsSetBelow (ns target profile : List ℕ) (i later rest : ℕ) : Type
   pub later_is : later ≡ profile_count (drop i ns)
   pub rest_below : rest < later
   pub ahead : ranked (drop i ns) rest ≡ drop i target
-
--- at first none is written
-pub IsSetBelow-none : (ns profile : List ℕ) (later rank : ℕ) → later ≡ profile_count ns → rank < later → IsSetBelow ns (ranked ns rank) profile 0 later rank
-IsSetBelow-none ns profile later rank e l = record { written = λ j b. absurd (omega arith); later_is = e; rest_below = l; ahead = refl }
-
--- a factor of a product with a number below it is positive
-factors : (n p k : ℕ) → k < n * p → (0 < n) × (0 < p)
-factors zero p k h = absurd (omega arith)
-factors (suc n) zero k h = absurd (omega arith)
-factors (suc n) (suc p) k h = (omega arith, omega arith)
 
 -- what the next player's strategy and the players behind have
 pub record IsNextPart (ns target : List ℕ) (i later rest : ℕ) : Type 0 where
@@ -42,7 +32,7 @@ next_part ns target profile i later rest l b h =
       some_strategy = both.0;
       next_later = later_next ∙ ap (λ v. profile_count (drop v ns)) (sym (add-one i));
       some_later = subst (λ v. 0 < v) (sym later_next) both.1;
-      strategy = ap (λ v. rest / v) later_next ∙ ap (λ v. get_or v 0 0) parts ∙ refl;
+      strategy = ap (λ v. rest / v) later_next ∙ ap (λ v. get_or v 0 0) parts;
       ahead = ap₂ (λ v w. ranked (drop v ns) (rest % w)) (add-one i) later_next ∙ ap (λ v. drop 1 v) parts ∙ ap (λ v. drop v target) (sym (add-one i));
     }
   where
@@ -56,7 +46,7 @@ next_part ns target profile i later rest l b h =
     count = h.later_is ∙ ap profile_count (drop-cons ns i 0 l)
 
     both : (0 < n) × (0 < profile_count rest_of)
-    both = factors n (profile_count rest_of) rest (omega (arith, h.rest_below, count))
+    both = factors-positive n (profile_count rest_of) rest (omega (arith, h.rest_below, count))
 
     later_next : later / n ≡ profile_count rest_of
     later_next = ap (λ v. v / n) count ∙ mul-div_cancel_left (profile_count rest_of) both.0
@@ -82,10 +72,6 @@ IsSetBelow-all ns target profile i later rest e l h = ext_get_or 0 profile targe
 pub record IsNumberBelow (ns s : List ℕ) (i number d : ℕ) : Type 0 where
   pub stride_is : d ≡ stride ns i
   pub sum : number + d * number_of (drop i ns) (drop i s) ≡ number_of ns s
-
--- at first the number is 0
-pub IsNumberBelow-none : (ns s : List ℕ) → IsNumberBelow ns s 0 0 1
-IsNumberBelow-none ns s = record { stride_is = refl; sum = omega arith }
 
 -- one player more
 pub IsNumberBelow-next : (ns s : List ℕ) (i number d : ℕ) → i < length ns → i < length s → IsNumberBelow ns s i number d → IsNumberBelow ns s (i + 1) (number + d * get_or s i 0) (d * get_or ns i 0)

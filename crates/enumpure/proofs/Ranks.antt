@@ -1,22 +1,22 @@
 -- The ranks of pure profiles in the order of their lines.
-use Rattle.std.proofs.Common.{ℕ, zero, suc, ◌+◌, ◌*◌, ◌/◌, ◌%◌, ◌<◌, ◌≤◌, ◌≡◌, ◌⊎◌, inl, inr, List, [], ◌∷◌, length, get_or, refl, sym, ap, ap₂, ◌∙◌, subst, arith, mod-lt}
+use Rattle.std.proofs.Common.{ℕ, zero, suc, ◌+◌, ◌*◌, ◌/◌, ◌%◌, ◌<◌, ◌≤◌, ◌≡◌, ◌⊎◌, inl, inr, List, [], ◌∷◌, refl, ap, ap₂, ◌∙◌, arith, mod-lt}
 use Rattle.std.proofs.lemmas.Bool.{cases_order}
 use Rattle.std.proofs.lemmas.Nat.{mul-add-lt, div-mul-add, mod-mul-add, div_below}
 use Rattle.std.proofs.Math.Nat.{mul-le-mul_left}
 use Rattle.game_theory.specs.Profiles.{profile_count, IsProfile, ComesBefore}
-use Rattle.game_theory.proofs.ProfileNumbers.{length-profile}
 use Rattle.enumpure.specs.Ranks.{ranked}
 
--- a factor of a product with a number below it is positive
-positive_second : (n p k : ℕ) → k < n * p → 0 < p
-positive_second n zero k h = absurd (omega arith)
-positive_second n (suc p) k h = omega arith
+-- the factors of a product with a number below it are positive
+pub factors-positive : (n p k : ℕ) → k < n * p → (0 < n) × (0 < p)
+factors-positive zero p k h = absurd (omega arith)
+factors-positive (suc n) zero k h = absurd (omega arith)
+factors-positive (suc n) (suc p) k h = (omega arith, omega arith)
 
 -- the profile with a rank below the count is a profile
 pub IsProfile-ranked : (ns : List ℕ) (r : ℕ) → r < profile_count ns → IsProfile ns (ranked ns r)
 IsProfile-ranked [] r h = tt
 IsProfile-ranked (n ∷ ns) r h =
-    let p : 0 < profile_count ns = positive_second n (profile_count ns) r h in
+    let p : 0 < profile_count ns = (factors-positive n (profile_count ns) r h).1 in
     (div_below r (profile_count ns) n p h, IsProfile-ranked ns (r % profile_count ns) (mod-lt r p))
 
 -- the rank of a profile
@@ -53,13 +53,13 @@ rest_less q r p h l e = let m : p * (q / p) ≡ p * (r / p) = ap (λ x. p * x) e
 -- the profile with the smaller rank comes before the other
 pub ComesBefore-ranked : (ns : List ℕ) (q r : ℕ) → q < r → r < profile_count ns → ComesBefore (ranked ns q) (ranked ns r)
 ComesBefore-ranked [] q r h l = absurd (omega arith)
-ComesBefore-ranked (n ∷ ns) q r h l = go (cases_order (q / profile_count ns) (r / profile_count ns)) (λ k. ComesBefore-ranked ns (q % profile_count ns) (r % profile_count ns) k (mod-lt r (positive_second n (profile_count ns) r l)))
+ComesBefore-ranked (n ∷ ns) q r h l = go (cases_order (q / profile_count ns) (r / profile_count ns)) (λ k. ComesBefore-ranked ns (q % profile_count ns) (r % profile_count ns) k (mod-lt r ((factors-positive n (profile_count ns) r l).1)))
   where
     p : ℕ
     p = profile_count ns
 
     some : 0 < p
-    some = positive_second n p r l
+    some = (factors-positive n p r l).1
 
     go : (q / p ≡ r / p) ⊎ ((q / p < r / p) ⊎ (r / p < q / p)) → (q % p < r % p → ComesBefore (ranked ns (q % p)) (ranked ns (r % p))) → ComesBefore (ranked (n ∷ ns) q) (ranked (n ∷ ns) r)
     go (inr (inl k)) f = inl k

@@ -1,11 +1,11 @@
 -- Flags of profiles, as they are struck player by player.
-use Rattle.std.proofs.Common.{ℕ, zero, suc, ◌+◌, ◌*◌, ◌<◌, ◌≤◌, ◌≡◌, ◌≢◌, ◌⊎◌, ◌↔◌, inl, inr, Bool, IsTrue, List, length, get_or, refl, sym, ap, ◌∙◌, subst, arith}
+use Rattle.std.proofs.Common.{ℕ, ◌+◌, ◌*◌, ◌<◌, ◌≤◌, ◌≡◌, ◌≢◌, ◌⊎◌, ◌↔◌, inl, inr, Bool, IsTrue, List, length, get_or, refl, sym, ap, ◌∙◌, subst, arith}
 use Rattle.std.proofs.lemmas.Bool.{cases_eq}
 use Rattle.rational.specs.Rational.{ℚ, ◌≤ℚ◌}
 use Rattle.rational.proofs.Field.{le_trans}
 use Rattle.game_theory.specs.Profiles.{Game, profile_count, stride}
 use Rattle.enumpure.specs.Replies.{exchanged, PlaysBestReply, flag, IsBest, AreStruck, KeepsBestReplies, AreStable}
-use Rattle.enumpure.proofs.Exchanges.{IsPlace, strategy_at, strategy_at-below, exchanged-below, exchanged-again, strategy_at-exchanged, exchanged-own, exchanged-first}
+use Rattle.enumpure.proofs.Exchanges.{strategy_at, strategy_at-below, exchanged-below, exchanged-again, strategy_at-exchanged, exchanged-own, exchanged-first}
 
 -- The flags after the profiles with numbers below `first` were looked at: those of the profiles that come
 -- from them by an exchange of player i's strategy are done, and the others are as they were.

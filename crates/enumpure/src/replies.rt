@@ -17,7 +17,7 @@ fn strategy_count(table: &Table, player: usize) -> usize
     table.strategies(player).len()
 }
 
-// How many strategies each player has.
+/// How many strategies each player has.
 pub fn strategy_counts(alloc: Global, table: &Table) -> Result<Vec<usize>, Memory>
     ensures { IfOk result (λ counts. counts.items ≡ strategy_counts table.now) }
 {
@@ -126,7 +126,7 @@ fn strike_all(stable: &mut [bool], table: &Table)
     }
 }
 
-// For each profile, by its number, whether each player plays a best reply.
+/// For each profile, by its number, whether each player plays a best reply.
 pub fn stable_profiles(alloc: Global, table: &Table) -> Result<Vec<bool>, Memory>
     ensures { IfOk result (λ flags. AreStable (game_of table.now) flags.items) }
 {

@@ -1,4 +1,4 @@
-use Rattle.std.proofs.Common.{◌≡◌, ◌++◌, length, sym, ap, ap₂, ◌∙◌, subst}
+use Rattle.std.proofs.Common.{◌++◌, length, sym, ap, ◌∙◌, subst}
 use Rattle.game_theory.specs.Lines.{lines_text}
 use Rattle.game_core.specs.Table.{game_of}
 use Rattle.enumpure.specs.Ranks.{lines_below}

@@ -1,7 +1,7 @@
-use Rattle.std.proofs.Common.{◌+◌, ◌*◌, ◌<◌, ◌≤◌, ◌≡◌, length, get_or, ap, arith}
-use Rattle.game_theory.specs.Profiles.{profile_count, number_of, stride}
+use Rattle.std.proofs.Common.{◌*◌, ◌≡◌, get_or, ap, arith}
+use Rattle.game_theory.specs.Profiles.{stride}
 use Rattle.game_theory.proofs.ProfileNumbers.{length-profile, number_of-below}
-use Rattle.enumpure.proofs.ProfileParts.{IsNumberBelow-none, IsNumberBelow-next, number_so_far, number_of-past, HaveStrategies-profile}
+use Rattle.enumpure.proofs.ProfileParts.{IsNumberBelow-next, number_so_far, number_of-past, HaveStrategies-profile}
 use Rattle.enumpure.proofs.Strides.{stride_next-at_most}
 use Rattle.enumpure.proofs.listing.profile_number.Goals as goal
 

@@ -1,4 +1,3 @@
-use Rattle.std.proofs.Common.{◌≡◌}
 use Rattle.enumpure.proofs.EntryTexts.{entry_text-played, entry_text-other, entries_text-digit}
 use Rattle.enumpure.proofs.listing.push_entries.Goals as goal
 use Rattle.enumpure.proofs.listing.push_entries.Goals.{then-strategy-played, else-strategy-played}

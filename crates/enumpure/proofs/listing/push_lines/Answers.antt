@@ -1,5 +1,5 @@
-use Rattle.std.proofs.Common.{◌+◌, ◌<◌, ◌≡◌, ◌++◌, length, sym, ap, ◌∙◌, subst, arith}
-use Rattle.game_theory.specs.Profiles.{IsProfile, profile_count, number_of}
+use Rattle.std.proofs.Common.{◌≡◌, ◌++◌, length, sym, ap, ◌∙◌, subst, arith}
+use Rattle.game_theory.specs.Profiles.{IsProfile, number_of}
 use Rattle.game_theory.specs.Mixed.{pure}
 use Rattle.game_theory.specs.Lines.{entries, line_text, lines_text}
 use Rattle.game_theory.proofs.ProfileNumbers.{number_of-below}

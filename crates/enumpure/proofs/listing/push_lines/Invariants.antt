@@ -1,4 +1,4 @@
-use Rattle.std.proofs.Common.{◌≡◌, ◌++◌, length}
+use Rattle.std.proofs.Common.{◌≡◌, ◌++◌}
 use Rattle.game_theory.specs.Lines.{lines_text}
 use Rattle.enumpure.specs.Ranks.{lines_below}
 use Rattle.enumpure.proofs.listing.push_lines.Given as goal

@@ -1,6 +1,6 @@
-use Rattle.std.proofs.Common.{◌<◌, ◌≡◌, length, ◌∙◌, sym, arith}
+use Rattle.std.proofs.Common.{arith}
 use Rattle.enumpure.specs.Ranks.{ranked}
-use Rattle.enumpure.proofs.ProfileParts.{next_part, IsSetBelow-none, IsSetBelow-next, IsSetBelow-all, length-ranked}
+use Rattle.enumpure.proofs.ProfileParts.{IsSetBelow-next, IsSetBelow-all, length-ranked}
 use Rattle.enumpure.proofs.listing.set_profile.Goals as goal
 
 pub loop-player-preserved : goal.loop-player-preserved

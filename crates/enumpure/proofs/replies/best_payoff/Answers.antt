@@ -1,5 +1,4 @@
-use Rattle.std.proofs.Common.{◌<◌, ◌+◌, ◌*◌, get_or, sym, ap, ◌∙◌, subst, arith}
-use Rattle.game_theory.specs.Profiles.{profile_count}
+use Rattle.std.proofs.Common.{◌<◌, ◌+◌, get_or, sym, subst, arith}
 use Rattle.game_core.specs.Table.{game_of, strategy_counts}
 use Rattle.enumpure.specs.Replies.{IsBest}
 use Rattle.enumpure.proofs.Best.{IsBest-one, IsBest-greater, IsBest-same}

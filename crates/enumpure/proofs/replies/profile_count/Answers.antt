@@ -1,5 +1,5 @@
-use Rattle.std.proofs.Common.{◌+◌, ◌*◌, ◌<◌, ◌≡◌, length, get_or, sym, ap, ap₂, ◌∙◌, arith, add-one}
-use Rattle.game_theory.specs.Profiles.{profile_count, stride}
+use Rattle.std.proofs.Common.{◌*◌, ◌<◌, ◌≡◌, length, get_or, sym, ap, ap₂, ◌∙◌, arith, add-one}
+use Rattle.game_theory.specs.Profiles.{stride}
 use Rattle.game_theory.proofs.ProfileNumbers.{stride-next, stride-all}
 use Rattle.game_core.specs.Table.{strategy_counts}
 use Rattle.enumpure.proofs.Strides.{HaveStrategies-table, length-strategy_counts, stride_next-at_most, profile_count-table}

@@ -1,4 +1,4 @@
-use Rattle.std.proofs.Common.{◌+◌, ◌*◌, false, set, ap, sym, subst, subst₂, arith}
+use Rattle.std.proofs.Common.{◌+◌, sym, subst, arith}
 use Rattle.rational.specs.Rational.{◌<ℚ◌}
 use Rattle.game_core.specs.Table.{game_of}
 use Rattle.enumpure.specs.Replies.{AreStruck}

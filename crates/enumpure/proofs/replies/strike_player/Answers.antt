@@ -1,8 +1,7 @@
-use Rattle.std.proofs.Common.{ℕ, ◌+◌, ◌*◌, ◌<◌, ◌≡◌, length, get_or, sym, ap, ◌∙◌, subst, arith}
-use Rattle.game_theory.specs.Profiles.{profile_count, stride}
+use Rattle.std.proofs.Common.{◌+◌, ◌<◌, length, get_or, sym, ◌∙◌, subst, arith}
 use Rattle.game_core.specs.Table.{game_of, strategy_counts}
 use Rattle.enumpure.specs.Replies.{IsBest, AreStruck}
-use Rattle.enumpure.proofs.Exchanges.{strategy_at, strategy_at-by_stride, strides_away-below}
+use Rattle.enumpure.proofs.Exchanges.{strategy_at-by_stride, strides_away-below}
 use Rattle.enumpure.proofs.Strides.{HaveStrategies-table, length-strategy_counts, stride-positive}
 use Rattle.enumpure.proofs.Striking.{AreStruckBelow, AreStruckBelow-none, AreStruckBelow-skip, AreStruckBelow-step, KeepsBestReplies-all}
 use Rattle.enumpure.proofs.replies.strike_player.Goals as goal
