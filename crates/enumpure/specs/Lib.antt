@@ -1,1 +1,4 @@
+pub mod Entries
+pub mod Ranks
+pub mod Replies
 pub mod Text

@@ -1,20 +1,107 @@
 // The text of the pure equilibria of a table.
-ghost use Rattle.std.specs.Prelude.{◌≡◌, ℕ, List, IfOk};
-ghost use Rattle.game_theory.specs.Profiles.{Game};
+ghost use Rattle.std.specs.Prelude.{◌≡◌, ◌<◌, ◌≤◌, ◌^◌, ◌++◌, ℕ, List, All, length, IfOk, OnOk};
+ghost use Rattle.game_theory.specs.Profiles.{Game, IsProfile, profile_count, number_of};
+ghost use Rattle.game_theory.specs.Mixed.{sure, pure};
+ghost use Rattle.game_theory.specs.Lines.{listed, entries, line_text, lines_text};
 ghost use Rattle.game_core.specs.Table.{game_of};
+ghost use Rattle.enumpure.specs.Entries.{entries_text};
+ghost use Rattle.enumpure.specs.Ranks.{ranked, lines_below};
 ghost use Rattle.enumpure.specs.Text.{IsPureEquilibriaText};
 
+use crate::replies::{stable_profiles, strategy_counts};
 use frac128::Memory;
 use game_core::Table;
 use std::alloc::Global;
 
+// Writes the profile with a rank in the order of lines.
+fn set_profile(profile: &mut [usize], counts: &[usize], profiles: usize, rank: usize)
+    requires players { length profile.old ≡ length counts.now }
+    requires profiles { profiles ≡ profile_count counts.now }
+    requires rank { rank < profiles }
+    ensures { profile.new ≡ ranked counts.now rank }
+{
+    let mut later = profiles;
+    let mut rest = rank;
+    for player in 0..counts.len() {
+        later /= counts[player];
+        profile[player] = rest / later;
+        rest %= later;
+    }
+}
+
+// The number of a profile.
+fn profile_number(counts: &[usize], profile: &[usize]) -> usize
+    requires profile { IsProfile counts.now profile.now }
+    requires few { profile_count counts.now < 2 ^ 64 }
+    ensures { result ≡ number_of counts.now profile.now }
+{
+    let mut number = 0;
+    let mut stride = 1;
+    for player in 0..counts.len() {
+        number += stride * profile[player];
+        stride *= counts[player];
+    }
+    number
+}
+
+// Adds a player's entries, each behind a comma.
+fn push_entries(text: &mut Vec<u8>, strategies: usize, played: usize) -> Result<(), Memory>
+    ensures { OnOk result (text.new.items ≡ text.old.items ++ entries_text (listed strategies (sure played))) }
+{
+    for strategy in 0..strategies {
+        let digit = if strategy == played { b'1' } else { b'0' };
+        text.extend_from_slice(&[b',', digit])?;
+    }
+    Ok(())
+}
+
+// Adds the line of a pure profile.
+fn push_line(text: &mut Vec<u8>, counts: &[usize], profile: &[usize]) -> Result<(), Memory>
+    requires profile { IsProfile counts.now profile.now }
+    ensures { OnOk result (text.new.items ≡ text.old.items ++ line_text (entries counts.now (pure profile.now))) }
+{
+    text.extend_from_slice(b"NE")?;
+    if counts.is_empty() {
+        text.push(b',')?;
+    }
+    for player in 0..counts.len() {
+        push_entries(text, counts[player], profile[player])?;
+    }
+    text.push(b'\n')?;
+    Ok(())
+}
+
+// Adds the lines of the flagged profiles in the order of their ranks. Writes over `profile`.
+fn push_lines(
+    text: &mut Vec<u8>,
+    counts: &[usize],
+    stable: &[bool],
+    profile: &mut [usize],
+) -> Result<(), Memory>
+    requires players { length profile.old ≡ length counts.now }
+    requires flags { length stable.now ≡ profile_count counts.now }
+    ensures { OnOk result (text.new.items ≡ text.old.items ++ lines_text (lines_below counts.now stable.now (length stable.now))) }
+{
+    for rank in 0..stable.len() {
+        set_profile(profile, counts, stable.len(), rank);
+        if stable[profile_number(counts, profile)] {
+            push_line(text, counts, profile)?;
+        }
+    }
+    Ok(())
+}
+
 /// The lines of the pure equilibria of a table, for any number of players: each pure profile at which no
 /// player has a strategy with a greater payoff, once, in descending order of the lines' entries.
-pub fn list_pure_equilibria(_alloc: Global, table: &Table) -> Result<Vec<u8>, Memory>
+pub fn list_pure_equilibria(alloc: Global, table: &Table) -> Result<Vec<u8>, Memory>
     ensures { IfOk result (λ text. IsPureEquilibriaText (game_of table.now) text.items) }
 {
-    let _ = table;
-    Err(Memory)
+    let counts = strategy_counts(alloc, table)?;
+    let stable = stable_profiles(alloc, table)?;
+    let mut profile = vec![in alloc; 0; counts.len()]?;
+    let mut text = Vec::new(alloc);
+    push_lines(&mut text, &counts, &stable, &mut profile)?;
+    Ok(text)
 }
 
 /// A game has one such text.

@@ -1,0 +1,74 @@
+-- The strides and the number of profiles of a table.
+use Rattle.std.proofs.Common.{ℕ, zero, suc, ◌*◌, ◌<◌, ◌≤◌, ◌≡◌, List, [], ◌∷◌, length, get_or, sym, ◌∙◌, subst, arith}
+use Rattle.std.proofs.lemmas.List.{get_or-map, length-map}
+use Rattle.std.proofs.Math.Nat.{mul-le-mul_left}
+use Rattle.game_theory.specs.Profiles.{profile_count, stride}
+use Rattle.game_theory.proofs.ProfileNumbers.{stride-next}
+use Rattle.game_core.specs.Table.{GameTable, IsTable, strategy_counts, most_payoffs}
+
+-- each player has some strategy
+pub record HaveStrategies (ns : List ℕ) : Type 0 where
+  pub some : (i : ℕ) → i < length ns → 0 < get_or ns i 0
+
+-- the players after the first have some strategy
+pub HaveStrategies-later : (n : ℕ) (ns : List ℕ) → HaveStrategies (n ∷ ns) → HaveStrategies ns
+HaveStrategies-later n ns h = record { some = λ i l. h.some (suc i) (omega arith) }
+
+-- a product of positive numbers is positive
+positive_product : (a b : ℕ) → 0 < a → 0 < b → 0 < a * b
+positive_product (suc a) (suc b) h l = omega arith
+positive_product zero b h l = absurd (omega arith)
+positive_product (suc a) zero h l = absurd (omega arith)
+
+-- there is some profile
+pub profile_count-positive : (ns : List ℕ) → HaveStrategies ns → 0 < profile_count ns
+profile_count-positive [] h = omega arith
+profile_count-positive (n ∷ ns) h =
+    positive_product n (profile_count ns) (h.some 0 (omega arith)) (profile_count-positive ns (HaveStrategies-later n ns h))
+
+-- strides are positive
+pub stride-positive : (ns : List ℕ) (i : ℕ) → HaveStrategies ns → 0 < stride ns i
+stride-positive ns zero h = omega arith
+stride-positive [] (suc i) h = omega arith
+stride-positive (n ∷ ns) (suc i) h = positive_product n (stride ns i) (h.some 0 (omega arith)) (stride-positive ns i (HaveStrategies-later n ns h))
+
+-- strides are at most the number of profiles
+pub stride-at_most : (ns : List ℕ) (i : ℕ) → HaveStrategies ns → stride ns i ≤ profile_count ns
+stride-at_most ns zero h = omega (arith, profile_count-positive ns h)
+stride-at_most [] (suc i) h = omega arith
+stride-at_most (n ∷ ns) (suc i) h = mul-le-mul_left n (stride-at_most ns i (HaveStrategies-later n ns h))
+
+-- the next stride is at most the number of profiles
+pub stride_next-at_most : (ns : List ℕ) (i : ℕ) → i < length ns → HaveStrategies ns → stride ns i * get_or ns i 0 ≤ profile_count ns
+stride_next-at_most ns i l h = subst (λ v. v ≤ profile_count ns) (stride-next ns i l) (stride-at_most ns (suc i) h)
+
+-- each player of a table has some strategy
+pub HaveStrategies-table : (t : GameTable) → IsTable t → HaveStrategies (strategy_counts t)
+HaveStrategies-table t h = record { some = at }
+  where
+    at : (i : ℕ) → i < length (strategy_counts t) → 0 < get_or (strategy_counts t) i 0
+    at i l =
+        let b : i < length t.strategies = omega (arith, length-map t.strategies length) in
+        subst (λ v. 0 < v) (sym (get_or-map length t.strategies i [] 0 b)) (h.some_strategy i [] b)
+
+-- a table has a count of strategies for each player
+pub length-strategy_counts : (t : GameTable) → IsTable t → length (strategy_counts t) ≡ length t.players
+length-strategy_counts t h = length-map t.strategies length ∙ h.strategies_of_each
+
+-- a positive number of numbers makes no product smaller
+at_most_product : (a b : ℕ) → 0 < a → b ≤ a * b
+at_most_product zero b h = absurd (omega arith)
+at_most_product (suc a) b h = omega arith
+
+-- the profiles of a game with no players
+profile_count-none : (ns : List ℕ) → length ns ≡ 0 → profile_count ns ≡ 1
+profile_count-none [] e = omega arith
+profile_count-none (n ∷ ns) e = absurd (omega arith)
+
+-- a table has few profiles
+pub profile_count-table : (t : GameTable) → IsTable t → profile_count (strategy_counts t) ≤ most_payoffs
+profile_count-table t h = go (length t.players) h.payoffs_of_each (length-strategy_counts t h)
+  where
+    go : (p : ℕ) → length t.payoffs ≡ p * profile_count (strategy_counts t) → length (strategy_counts t) ≡ p → profile_count (strategy_counts t) ≤ most_payoffs
+    go zero e l = omega (arith, profile_count-none (strategy_counts t) l)
+    go (suc p) e l = omega (arith, at_most_product (suc p) (profile_count (strategy_counts t)) (omega arith), h.few_payoffs)

@@ -1,0 +1,48 @@
+use Rattle.std.proofs.Common.{◌≡◌, ◌++◌, length, sym, ap, ◌∙◌, subst, arith}
+use Rattle.game_theory.specs.Profiles.{IsProfile, number_of}
+use Rattle.game_theory.specs.Mixed.{pure}
+use Rattle.game_theory.specs.Lines.{entries, line_text, lines_text}
+use Rattle.game_theory.proofs.ProfileNumbers.{number_of-below}
+use Rattle.enumpure.specs.Ranks.{ranked, lines_below}
+use Rattle.enumpure.specs.Replies.{flag}
+use Rattle.enumpure.proofs.Listed.{lines_text-none, lines_text-push, lines_text-skip}
+use Rattle.enumpure.proofs.Ranks.{IsProfile-ranked}
+use Rattle.enumpure.proofs.listing.push_lines.Goals as goal
+use Rattle.enumpure.proofs.listing.push_lines.Goals.{then-stable-profile_number+in_ok-push_line, else-stable-profile_number}
+
+pub loop-rank-init : goal.loop-rank-init
+loop-rank-init c = lines_text-none c.args.counts.now c.args.stable.now c.args.text.now.items
+
+pub profile_number-requires-clause-profile : goal.profile_number-requires-clause-profile
+profile_number-requires-clause-profile c =
+    subst (IsProfile c.args.counts.now) (sym c.set_profile.ensures) (IsProfile-ranked c.args.counts.now c.loop-rank.rank (omega (arith, c.requires.flags)))
+
+pub bounds-stable-profile_number : goal.bounds-stable-profile_number
+bounds-stable-profile_number c =
+    let ns = c.args.counts.now in
+    let p : IsProfile ns c.set_profile.new.profile = subst (IsProfile ns) (sym c.set_profile.ensures) (IsProfile-ranked ns c.loop-rank.rank (omega (arith, c.requires.flags))) in
+    omega (arith, number_of-below ns c.set_profile.new.profile p, c.requires.flags)
+
+pub push_line-requires : goal.push_line-requires
+push_line-requires c =
+    record {
+      profile = subst (IsProfile c.args.counts.now) (sym c.set_profile.ensures) (IsProfile-ranked c.args.counts.now c.loop-rank.rank (omega (arith, c.requires.flags)));
+    }
+
+pub loop-rank-preserved : goal.loop-rank-preserved
+loop-rank-preserved c =
+    let ns = c.args.counts.now in
+    let flags = c.args.stable.now in
+    let r = c.loop-rank.rank in
+    let old = c.args.text.now.items in
+    let text = c.loop-rank.text.items in
+    let e : c.profile_number.result ≡ number_of ns (ranked ns r) = c.profile_number.ensures ∙ ap (number_of ns) c.set_profile.ensures in
+    elim c.if-stable-profile_number.branch [
+      | then-stable-profile_number+in_ok-push_line w ↦ let line = ap (λ v. text ++ line_text (entries ns (pure v))) c.set_profile.ensures in cc (w.text-is, w.in_ok-push_line.ensures, line, lines_text-push ns flags r old text c.loop-rank.invariant (sym (ap (flag flags) e) ∙ w.if-stable-profile_number.true))
+      | else-stable-profile_number w ↦ cc (w.text-is, lines_text-skip ns flags r old text c.loop-rank.invariant (sym (ap (flag flags) e) ∙ w.if-stable-profile_number.false))
+    ]
+
+pub returns : goal.returns
+returns c =
+    let all : c.loop-rank.rank ≡ length c.args.stable.now = omega arith in
+    c.loop-rank.invariant ∙ ap (λ v. c.args.text.now.items ++ lines_text (lines_below c.args.counts.now c.args.stable.now v)) all

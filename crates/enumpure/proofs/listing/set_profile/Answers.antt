@@ -1,0 +1,14 @@
+use Rattle.std.proofs.Common.{arith}
+use Rattle.enumpure.specs.Ranks.{ranked}
+use Rattle.enumpure.proofs.ProfileParts.{IsSetBelow-next, IsSetBelow-all, length-ranked}
+use Rattle.enumpure.proofs.listing.set_profile.Goals as goal
+
+pub loop-player-preserved : goal.loop-player-preserved
+loop-player-preserved c =
+    let ns = c.args.counts.now in
+    IsSetBelow-next ns (ranked ns c.args.rank) c.loop-player.profile c.loop-player.player c.loop-player.later c.loop-player.rest (omega arith) (omega (arith, length-ranked ns c.args.rank)) (omega arith) c.loop-player.invariant
+
+pub returns : goal.returns
+returns c =
+    let ns = c.args.counts.now in
+    IsSetBelow-all ns (ranked ns c.args.rank) c.loop-player.profile c.loop-player.player c.loop-player.later c.loop-player.rest (omega (arith, length-ranked ns c.args.rank)) (omega (arith, length-ranked ns c.args.rank)) c.loop-player.invariant

@@ -1,0 +1,13 @@
+-- The text of entries, as it grows.
+use Rattle.std.specs.Prelude.{ℕ, List, ◌∷◌}
+use Rattle.std.specs.List.{flat_map}
+use Rattle.rational.specs.Rational.{ℚ}
+use Rattle.game_theory.specs.Lines.{number_text}
+
+-- an entry behind a comma
+abbrev pub entry_text : ℚ → List ℕ
+entry_text q = 44 ∷ number_text q
+
+-- each entry behind a comma
+abbrev pub entries_text : List ℚ → List ℕ
+entries_text qs = flat_map entry_text qs

@@ -1,0 +1,136 @@
+// The profiles of a table at which each player plays a best reply.
+ghost use Rattle.std.specs.Prelude.{◌≡◌, ℕ, ◌+◌, ◌*◌, ◌<◌, ◌≤◌, ◌↔◌, IsTrue, IfOk, EachIndex, length, slice_index};
+ghost use Rattle.rational.specs.Rational.{◌<ℚ◌};
+ghost use Rattle.game_theory.specs.Profiles.{profile_count, stride as stride_of};
+ghost use Rattle.game_core.specs.Table.{game_of, strategy_counts, IsTable};
+ghost use Rattle.enumpure.specs.Replies.{IsBest, AreStruck, KeepsBestReplies, AreStable, flag};
+
+use frac128::{Frac, Memory};
+use game_core::Table;
+use std::alloc::Global;
+
+// How many strategies a player has.
+fn strategy_count(table: &Table, player: usize) -> usize
+    requires { player < length table.now.players }
+    ensures { result ≡ slice_index (strategy_counts table.now) player }
+{
+    table.strategies(player).len()
+}
+
+/// How many strategies each player has.
+pub fn strategy_counts(alloc: Global, table: &Table) -> Result<Vec<usize>, Memory>
+    ensures { IfOk result (λ counts. counts.items ≡ strategy_counts table.now) }
+{
+    let mut counts = Vec::new(alloc);
+    for player in 0..table.players().len() {
+        counts.push(strategy_count(table, player))?;
+    }
+    Ok(counts)
+}
+
+// How many pure profiles there are.
+fn profile_count(table: &Table) -> usize
+    ensures count { result ≡ profile_count (strategy_counts table.now) }
+{
+    let mut count = 1;
+    for player in 0..table.players().len() {
+        count *= strategy_count(table, player);
+    }
+    count
+}
+
+// A player's payoff at the profile with a number.
+fn payoff(table: &Table, player: usize, profile: usize) -> Frac
+    requires player { player < length table.now.players }
+    requires profile { profile < profile_count (strategy_counts table.now) }
+    ensures { result ≡ (game_of table.now).pays player profile }
+{
+    table.payoffs()[profile * table.players().len() + player]
+}
+
+// Whether the first fraction is less.
+fn is_less(left: Frac, right: Frac) -> bool
+    ensures { IsTrue result ↔ (left <ℚ right) }
+{
+    left.cmp(right).is_lt()
+}
+
+// The best payoff among a player's strategies against what the others play in a profile, `first`, in
+// which the player plays strategy 0. The stride leads to the profile with the player's next strategy.
+fn best_payoff(table: &Table, player: usize, stride: usize, first: usize) -> Frac
+    requires player { player < length table.now.players }
+    requires profiles { (s : ℕ) → s < slice_index (strategy_counts table.now) player → first + stride * s < profile_count (strategy_counts table.now) }
+    requires valid { IsTable table.now }
+    ensures { IsBest ((game_of table.now).pays player) first stride (slice_index (strategy_counts table.now) player) result }
+{
+    let mut best = payoff(table, player, first);
+    for strategy in 1..strategy_count(table, player) {
+        let other = payoff(table, player, first + stride * strategy);
+        if is_less(best, other) {
+            best = other;
+        }
+    }
+    best
+}
+
+// Takes the flags from those of the same profiles whose payoff is less than the best.
+fn strike(
+    stable: &mut [bool],
+    table: &Table,
+    player: usize,
+    stride: usize,
+    first: usize,
+    best: Frac,
+)
+    requires player { player < length table.now.players }
+    requires flags { length stable.old ≡ profile_count (strategy_counts table.now) }
+    requires stride { 0 < stride }
+    requires profiles { (s : ℕ) → s < slice_index (strategy_counts table.now) player → first + stride * s < profile_count (strategy_counts table.now) }
+    ensures struck { AreStruck ((game_of table.now).pays player) first stride (slice_index (strategy_counts table.now) player) best stable.old stable.new }
+{
+    for strategy in 0..strategy_count(table, player) {
+        let profile = first + stride * strategy;
+        if is_less(payoff(table, player, profile), best) {
+            stable[profile] = false;
+        }
+    }
+}
+
+// Takes the flags from the profiles at which the player has a strategy with a greater payoff.
+fn strike_player(stable: &mut [bool], table: &Table, player: usize, stride: usize)
+    requires player { player < length table.now.players }
+    requires flags { length stable.old ≡ profile_count (strategy_counts table.now) }
+    requires stride { stride ≡ stride_of (strategy_counts table.now) player }
+    requires valid { IsTable table.now }
+    ensures { KeepsBestReplies (game_of table.now) player stable.old stable.new }
+{
+    let strategies = strategy_count(table, player);
+    for first in 0..stable.len() {
+        if first / stride % strategies == 0 {
+            let best = best_payoff(table, player, stride, first);
+            strike(stable, table, player, stride, first, best);
+        }
+    }
+}
+
+// Takes the flags from the profiles at which some player has a strategy with a greater payoff.
+fn strike_all(stable: &mut [bool], table: &Table)
+    requires flags { length stable.old ≡ profile_count (strategy_counts table.now) }
+    requires all { EachIndex stable.old (λ k. IsTrue (flag stable.old k)) }
+    ensures { AreStable (game_of table.now) stable.new }
+{
+    let mut stride = 1;
+    for player in 0..table.players().len() {
+        strike_player(stable, table, player, stride);
+        stride *= strategy_count(table, player);
+    }
+}
+
+/// For each profile, by its number, whether each player plays a best reply.
+pub fn stable_profiles(alloc: Global, table: &Table) -> Result<Vec<bool>, Memory>
+    ensures { IfOk result (λ flags. AreStable (game_of table.now) flags.items) }
+{
+    let mut stable = vec![in alloc; true; profile_count(table)]?;
+    strike_all(&mut stable, table);
+    Ok(stable)
+}
