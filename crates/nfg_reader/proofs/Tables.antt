@@ -6,6 +6,7 @@ use Rattle.game_core.specs.Table.{GameTable, IsTable}
 use Rattle.nfg_reader.specs.PlainFile.{names_from, counted_names}
 use Rattle.nfg_reader.specs.PlainReading.{IsCount}
 
+-- how many names there are
 length-names_from : (first n : ℕ) → length (names_from first n) ≡ n
 length-names_from first zero = refl
 length-names_from first (suc n) = ap suc (length-names_from (suc first) n)
