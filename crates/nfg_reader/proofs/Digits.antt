@@ -1,10 +1,10 @@
 -- Digits, counts and whole numbers.
-use Rattle.std.proofs.Common.{◌≡◌, ◌≢◌, ℕ, suc, ◌+◌, ◌*◌, ◌-◌, ◌<◌, ◌≤◌, ◌^◌, Bool, true, false, cond, not, ◌&&◌, ◌||◌, ◌==◌, eqb, leb, List, [], ◌∷◌, length, get_or, ℤ, pos, neg_ℤ, nat_abs, Option, Some, None, option_map, ◌⊎◌, inl, inr, refl, sym, ap, ◌∙◌, mul_comm, lit<, arith, rules}
+use Rattle.std.proofs.Common.{◌≡◌, ◌≢◌, ℕ, suc, ◌+◌, ◌*◌, ◌-◌, ◌<◌, ◌≤◌, ◌^◌, true, false, not, ◌&&◌, ◌||◌, ◌==◌, leb, List, [], ◌∷◌, length, get_or, ℤ, pos, neg_ℤ, nat_abs, Some, option_map, inl, inr, refl, sym, ap, ◌∙◌, mul_comm, lit<, arith, rules}
 use Rattle.std.proofs.Math.Nat.{pow-suc, pow-le-pow_right, pos_of_ne-zero}
 use Rattle.std.proofs.lemmas.Bool.{and_parts, and_from, or_parts}
 use Rattle.std.proofs.lemmas.Bool.Decides.{Decides-eqb, nat_tests}
 use Rattle.std.proofs.lemmas.Option.{cond_some}
-use Rattle.std.proofs.lemmas.Str.Parse.{IsNumeralModel, IsDigitsTest, FoldsDigits, numerals_by_fold, tells_digits}
+use Rattle.std.proofs.lemmas.Str.Parse.{IsNumeralModel, numerals_by_fold}
 use Rattle.std.proofs.lemmas.Fmt.{digits_decimal, digits_value-decimal, decimal-digits_value, length-decimal-le, decimal_nonempty, first_decimal, decimal_digit}
 use Rattle.std.specs.Char.{IsAsciiDigit, is_ascii_digit}
 use Rattle.std.specs.Fmt.{decimal}
@@ -13,7 +13,7 @@ use Rattle.rational.specs.Rational.{whole}
 use Rattle.rational.proofs.Parts.{whole-num, whole-den}
 use Rattle.frac128.specs.Fraction.{Fits}
 use Rattle.nfg_reader.specs.PlainFile.{AreDigits, IsWholeNumber, digits_value}
-use Rattle.nfg_reader.specs.PlainReading.{◌>>=◌, IsCount, is_dark, digits_of, count_of, number_of}
+use Rattle.nfg_reader.specs.PlainReading.{IsCount, is_dark, digits_of, count_of, number_of}
 use Rattle.nfg_reader.proofs.Choices.{bind_some, refused, either, mapped, not_false}
 use Rattle.nfg_reader.proofs.Spacing.{IsWord}
 

@@ -1,5 +1,5 @@
 -- Words, counts and payoffs between blanks.
-use Rattle.std.proofs.Common.{◌≡◌, ◌≢◌, ℕ, zero, suc, Bool, true, false, List, [], ◌∷◌, ◌++◌, length, map, ℤ, Option, Some, None, refl, sym, ap, ◌∙◌, nat_eq, arith}
+use Rattle.std.proofs.Common.{◌≡◌, ◌≢◌, ℕ, zero, suc, true, List, [], ◌∷◌, length, map, ℤ, Some, refl, sym, ap, ◌∙◌, nat_eq}
 use Rattle.std.proofs.lemmas.Option.{cond_some}
 use Rattle.std.proofs.lemmas.Slice.Eq.{slice_eq-Decides}
 use Rattle.std.proofs.lemmas.Bool.Decides.{Decides-eqb}
@@ -7,7 +7,7 @@ use Rattle.std.specs.Cmp.Lexicographic.{pointwise}
 use Rattle.std.specs.Fmt.{decimal}
 use Rattle.rational.specs.Rational.{ℚ, whole}
 use Rattle.nfg_reader.specs.PlainFile.{IsWholeNumber, AreWholeNumbers, AreSpaced}
-use Rattle.nfg_reader.specs.PlainReading.{◌>>=◌, IsCount, word_at, after_word, count_of, number_of, count_at, payoff_at, payoffs_at}
+use Rattle.nfg_reader.specs.PlainReading.{IsCount, word_at, after_word, count_of, number_of, count_at, payoff_at, payoffs_at}
 use Rattle.nfg_reader.proofs.Spacing.{Next, Tokens, IsWord, before, word_next, word_again}
 use Rattle.nfg_reader.proofs.Choices.{bind_some, some_same}
 use Rattle.nfg_reader.proofs.Digits.{count_found, count_again, count_word, number_found, number_again, number_word}

@@ -1,5 +1,5 @@
 -- What is read is a plain file of the table, and a plain file is read.
-use Rattle.std.proofs.Common.{◌≡◌, ◌≢◌, ℕ, ◌+◌, ◌*◌, Bool, true, false, List, [], ◌∷◌, ◌++◌, length, map, ℤ, Option, Some, None, Result, Ok, Err, IfOk, refl, sym, ap, ◌∙◌, subst}
+use Rattle.std.proofs.Common.{◌≡◌, ℕ, ◌*◌, true, List, [], ◌∷◌, length, map, ℤ, Some, Result, Ok, Err, IfOk, refl, sym, ap, ◌∙◌, subst}
 use Rattle.std.proofs.lemmas.Bool.{and_parts, and_from}
 use Rattle.std.proofs.lemmas.Option.{cond_some}
 use Rattle.std.specs.Prelude.{codes, IsErrOf}
@@ -9,8 +9,8 @@ use Rattle.rational.specs.Rational.{ℚ, whole}
 use Rattle.game_core.specs.Table.{GameTable}
 use Rattle.nfg_reader.specs.declared.plain.PlainStop.{PlainStop}
 use Rattle.nfg_reader.specs.declared.plain.PlainStop.TheVariants as stops
-use Rattle.nfg_reader.specs.PlainFile.{IsBlank, IsPlainText, IsWholeNumber, AreWholeNumbers, AreSpaced, PlainGame, IsPlainGame, IsPlainFile, plain_table, plain_tokens, quoted}
-use Rattle.nfg_reader.specs.PlainReading.{◌>>=◌, Reads, IsCount, is_blank, counted_table, after_word, text_at, count_at, payoffs_at, title_at, players_at, counts_at, last_payoffs_at, table_at}
+use Rattle.nfg_reader.specs.PlainFile.{IsPlainText, AreWholeNumbers, AreSpaced, IsPlainFile, quoted}
+use Rattle.nfg_reader.specs.PlainReading.{Reads, IsCount, is_blank, counted_table, after_word, text_at, count_at, payoffs_at, title_at, players_at, counts_at, last_payoffs_at, table_at}
 use Rattle.nfg_reader.proofs.Spacing.{Tokens, IsWord, before, blanks_pass, passes_blanks}
 use Rattle.nfg_reader.proofs.Texts.{text_next, text_again}
 use Rattle.nfg_reader.proofs.Digits.{count_word}
