@@ -67,7 +67,7 @@ pub zero-num : zero_ℚ.num ≡ pos 0
 unfolding frac gcd
 zero-num = refl
 
-zero-den : zero_ℚ.den ≡ 1
+pub zero-den : zero_ℚ.den ≡ 1
 unfolding frac gcd
 zero-den = refl
 
@@ -83,6 +83,9 @@ zero_by_num q e =
 bits_zero : (n : ℤ) → nat_abs n < 2 ^ 127 → of_z w128 n ≡ 0 → n ≡ pos 0
 bits_zero (pos n) h e = ap pos e
 bits_zero (negsuc n) h e = absurd (omega (arith, e))
+
+pub zero_read : (q : ℚ) (n : ℤ) → n ≡ q.num → Fits q → of_z w128 n ≡ 0 → q ≡ zero_ℚ
+zero_read q n e h z = zero_by_num q (sym e ∙ bits_zero n (subst PartFits (sym e) h.num) z)
 
 pub zero_test : (q : ℚ) (n : ℤ) → n ≡ q.num → Fits q → (IsTrue (eqb (of_z w128 n) 0) → q ≡ zero_ℚ) × (q ≡ zero_ℚ → IsTrue (eqb (of_z w128 n) 0))
 zero_test q n e h =

@@ -1,9 +1,10 @@
 -- steps of Euclid's algorithm
-use Rattle.std.proofs.Common.{ℕ, ◌≡◌, ◌+◌, ◌*◌, ◌%◌, ◌/◌, ◌<◌, ◌≤◌, arith, refl, sym, ap, ap₂, ◌∙◌, mul-le-mul_right, mul-lt-mul_of_pos_right, div-add-mod', mod-lt, zero-mul, mul_comm, mul-pos, pos_of_ne-zero}
+use Rattle.std.proofs.Common.{subst, ℕ, ◌≡◌, ◌+◌, ◌*◌, ◌%◌, ◌/◌, ◌<◌, ◌≤◌, arith, refl, sym, ap, ap₂, ◌∙◌, mul-le-mul_right, mul-lt-mul_of_pos_right, div-add-mod', mod-lt, zero-mul, mul_comm, mul-pos, pos_of_ne-zero, ◌⊎◌, inl, inr}
 use Rattle.std.proofs.Common.{Ordering, Less, Equal, Greater}
 use Rattle.std.specs.Ordering.{nat_cmp}
 use Rattle.std.proofs.lemmas.Nat.Gcd.{IsGcd-from_mod, same_from_IsGcd, IsGcd-from_zero}
-use native.Mathlib.Nat.{eq-one_of_dvd-one}
+use native.Mathlib.Nat.{eq-one_of_dvd-one, dvd_antisymm, dvd_refl}
+use Rattle.std.specs.Int.{◌∣◌}
 use Rattle.rational.specs.Gcd.{gcd}
 use Rattle.rational.specs.GcdLaws.{gcd-is}
 
@@ -15,6 +16,14 @@ gcd-zero a = same_from_IsGcd a 0 (gcd a 0) a (gcd-is a 0) (IsGcd-from_zero a 0 r
 
 pub gcd-one : (a : ℕ) → gcd a 1 ≡ 1
 gcd-one a = eq-one_of_dvd-one (gcd-is a 1).1
+
+pub gcd_same : (a : ℕ) → gcd a a ≡ a
+gcd_same a = dvd_antisymm (gcd-is a a).0 ((gcd-is a a).2 a (dvd_refl a) (dvd_refl a))
+
+-- a number shares only 1 with 1
+pub one_shared : (a b : ℕ) → (a ≡ 1) ⊎ (b ≡ 1) → 1 ≡ gcd a b
+one_shared a b (inl e) = sym (eq-one_of_dvd-one (subst (λ x. gcd a b ∣ x) e (gcd-is a b).0))
+one_shared a b (inr e) = sym (eq-one_of_dvd-one (subst (λ x. gcd a b ∣ x) e (gcd-is a b).1))
 
 cmp_less : (m n : ℕ) → m < n → nat_cmp m n ≡ Less
 cmp_less m n h = grind arith

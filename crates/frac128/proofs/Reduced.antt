@@ -1,5 +1,5 @@
 -- the quotient of two sizes, with a sign
-use Rattle.std.proofs.Common.{ℕ, zero, suc, ◌≡◌, ◌≢◌, ◌/◌, ◌<◌, ◌≤◌, ◌^◌, ℤ, pos, negsuc, nat_abs, Bool, true, false, not, arith, refl, sym, ap, ap₂, ◌∙◌, subst, ltb, ◌⊎◌, ⊎_elim, not-le_of_lt, SFits, to_z, of_z, Option, None, MatchOption}
+use Rattle.std.proofs.Common.{◌*◌, ℕ, zero, suc, ◌≡◌, ◌≢◌, ◌/◌, ◌<◌, ◌≤◌, ◌^◌, ℤ, pos, negsuc, nat_abs, Bool, true, false, not, arith, refl, sym, ap, ap₂, ◌∙◌, subst, ltb, ◌⊎◌, ⊎_elim, not-le_of_lt, SFits, to_z, of_z, Option, None, MatchOption, zero-mul, mul-zero, lit<}
 use lib.Signed.{lt_z}
 use mir.Syntax.{w128}
 use mathlib.Core.Bool.{beq}
@@ -7,9 +7,11 @@ use native.Mathlib.Nat.{zero-div, not-suc-le-zero}
 use Rattle.std.proofs.lemmas.Int.{to_z-of_z}
 use Rattle.rational.specs.Gcd.{gcd, div_ℤ}
 use Rattle.rational.specs.GcdLaws.{gcd_pos, gcd-parts}
-use Rattle.rational.specs.Rational.{ℚ, frac, den_pos}
-use Rattle.rational.proofs.Fractions.{equal_by_parts, frac-lowest}
-use Rattle.frac128.specs.Fraction.{quotient, Fits, with_sign}
+use Rattle.rational.specs.Rational.{ℚ, zero_ℚ, frac, den_pos}
+use Rattle.rational.proofs.Fractions.{equal_by_parts, frac-lowest, StandsFor, StandsFor-frac, equal_by}
+use Rattle.rational.proofs.Linear.{zero-over}
+use Rattle.frac128.proofs.Parts.{zero-num, zero-den}
+use Rattle.frac128.specs.Fraction.{quotient, Fits, PartFits, with_sign}
 
 pub nat_abs-with_sign : (b : Bool) (n : ℕ) → nat_abs (with_sign b n) ≡ n
 nat_abs-with_sign true zero = refl
@@ -91,3 +93,14 @@ quotient_by_sizes (pos n) (pos d) h = rw (ltb-zero n, ltb-zero d)
 quotient_by_sizes (pos n) (negsuc d) h = rw (ltb-zero n)
 quotient_by_sizes (negsuc n) (pos d) h = rw (ltb-zero d)
 quotient_by_sizes (negsuc n) (negsuc d) h = refl
+
+zero_with_sign : (s : Bool) → with_sign s 0 ≡ pos 0
+zero_with_sign true = refl
+zero_with_sign false = refl
+
+-- a product with a factor zero
+pub zero_product : (s : Bool) (a c d : ℕ) (z : ℚ) → 0 < d → (a ≡ 0) ⊎ (c ≡ 0) → z ≡ zero_ℚ → (z ≡ frac (with_sign s (a * c)) d) × Fits z
+zero_product s a c d z h e is =
+    let top : a * c ≡ 0 = ⊎_elim (λ p. ap (λ x. x * c) p ∙ zero-mul c) (λ p. ap (λ x. a * x) p ∙ mul-zero a) e in
+    let value : frac (with_sign s (a * c)) d ≡ zero_ℚ = equal_by (frac (with_sign s (a * c)) d) zero_ℚ (pos 0) (pos 0) d d (subst (λ x. StandsFor (frac x d) (pos 0) d) (sym (ap (with_sign s) top ∙ zero_with_sign s)) (StandsFor-frac (pos 0) d h)) (zero-over d h) refl in
+    (is ∙ sym value, subst Fits (sym is) (record { num = subst PartFits (sym zero-num) (lit< tt); den = subst (λ x. x < 2 ^ 127) (sym zero-den) (lit< tt) }))

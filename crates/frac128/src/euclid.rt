@@ -5,8 +5,8 @@ ghost use Rattle.rational.specs.Gcd.{gcd as gcd_of};
 
 use std::cmp::Ordering;
 
-// The greatest number of 64 bits.
-const WORD: u128 = 18446744073709551615;
+/// The greatest number of 64 bits.
+pub const WORD: u128 = 18446744073709551615;
 
 // The greatest common divisor, by steps on 64 bits.
 fn gcd_64(a: u64, b: u64) -> u64
@@ -26,7 +26,10 @@ fn gcd_64(a: u64, b: u64) -> u64
 pub fn gcd(a: u128, b: u128) -> u128
     ensures { result ≡ gcd_of a b }
 {
-    if b == 1 {
+    if a == b {
+        return a;
+    }
+    if a == 1 || b == 1 {
         return 1;
     }
     let mut x = a;

@@ -3,8 +3,13 @@ ghost use Rattle.std.specs.Prelude.{◌≡◌, ◌↔◌, ◌<◌, ◌*◌, ◌^
 ghost use Rattle.std.specs.Option.{SomeIff};
 ghost use Rattle.frac128.specs.Fraction.{PartFits, with_sign};
 
+use crate::euclid::WORD;
+
 /// The first size that does not fit.
 pub const LIMIT: u128 = 170141183460469231731687303715884105728;
+
+// 2^64.
+const RADIX: u128 = 18446744073709551616;
 
 // The first size whose product with another such size may not fit.
 const SHORT: u128 = 9223372036854775808;
@@ -25,11 +30,32 @@ pub fn is_short(part: i128) -> bool
     part.unsigned_abs() < SHORT
 }
 
-/// The product of two sizes, where it fits 128 bits.
+/// The product of two sizes, where it fits 128 bits. Nothing is divided.
 pub fn product(n: u128, m: u128) -> Option<u128>
     ensures { SomeIff result (n * m < 2 ^ 128) (n * m) }
 {
-    n.checked_mul(m)
+    if n <= WORD && m <= WORD {
+        Some(n * m)
+    } else if m <= WORD {
+        long_product(n, m)
+    } else if n <= WORD {
+        long_product(m, n)
+    } else {
+        None
+    }
+}
+
+// The product of two sizes, where it fits 128 bits, by the two halves of the first one.
+fn long_product(long: u128, short: u128) -> Option<u128>
+    requires { short < 2 ^ 64 }
+    ensures { SomeIff result (long * short < 2 ^ 128) (long * short) }
+{
+    let high = long / RADIX * short;
+    if high > WORD {
+        return None;
+    }
+    let low = long % RADIX * short;
+    (high * RADIX).checked_add(low)
 }
 
 /// The product of a part and a size, where it fits.

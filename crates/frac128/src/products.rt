@@ -35,17 +35,17 @@ impl Frac {
         ensures { MatchOption result (¬ (DivFits self other)) (λ f. (f ≡ self *ℚ inv_ℚ other) × DivFits self other) }
     {
         let num = self.num();
-        let other_num = other.num();
+        let divisor_num = other.num();
         let size = num.unsigned_abs();
         let den = self.den().unsigned_abs();
-        let other_size = other_num.unsigned_abs();
-        let other_den = other.den().unsigned_abs();
+        let divisor_size = divisor_num.unsigned_abs();
+        let divisor_den = other.den().unsigned_abs();
         product_of(
-            (num < 0) != (other_num < 0),
+            (num < 0) != (divisor_num < 0),
             size,
             den,
-            other_den,
-            other_size,
+            divisor_den,
+            divisor_size,
         )
     }
 }
@@ -58,6 +58,9 @@ fn product_of(negative: bool, a: u128, b: u128, c: u128, d: u128) -> Option<Frac
     requires right_lowest { gcd_of c d ≡ 1 }
     ensures { MatchOption result (¬ (Fits (frac (with_sign negative (a * c)) (b * d)))) (λ f. (f ≡ frac (with_sign negative (a * c)) (b * d)) × Fits f) }
 {
+    if a == 0 || c == 0 {
+        return Some(Frac::zero());
+    }
     let g = gcd(a, d);
     let h = gcd(c, b);
     let top_left = divided(a, g);

@@ -22,6 +22,14 @@ pub struct Unfit {
     pub right: Frac,
 }
 
+impl Unfit {
+    fn of(op: Op, left: Frac, right: Frac) -> Unfit
+        ensures { result ≡ unfit op left right }
+    {
+        Unfit { op, left, right }
+    }
+}
+
 impl Frac {
     /// The sum.
     ///
@@ -36,11 +44,7 @@ impl Frac {
         ensures step { IfErr result (λ e. e ≡ unfit Op.Add self other) }
         ensures unfit { OnErr result (¬ (AddFits self other)) }
     {
-        self.sum(other).ok_or(Unfit {
-            op: Op::Add,
-            left: self,
-            right: other,
-        })
+        self.sum(other).ok_or(Unfit::of(Op::Add, self, other))
     }
 
     /// The difference.
@@ -54,11 +58,8 @@ impl Frac {
         ensures step { IfErr result (λ e. e ≡ unfit Op.Sub self other) }
         ensures unfit { OnErr result (¬ (SubFits self other)) }
     {
-        self.difference(other).ok_or(Unfit {
-            op: Op::Sub,
-            left: self,
-            right: other,
-        })
+        self.difference(other)
+            .ok_or(Unfit::of(Op::Sub, self, other))
     }
 
     /// The product.
@@ -72,11 +73,7 @@ impl Frac {
         ensures step { IfErr result (λ e. e ≡ unfit Op.Mul self other) }
         ensures unfit { OnErr result (¬ (MulFits self other)) }
     {
-        self.product(other).ok_or(Unfit {
-            op: Op::Mul,
-            left: self,
-            right: other,
-        })
+        self.product(other).ok_or(Unfit::of(Op::Mul, self, other))
     }
 
     /// The quotient.
@@ -91,10 +88,6 @@ impl Frac {
         ensures step { IfErr result (λ e. e ≡ unfit Op.Div self other) }
         ensures unfit { OnErr result (¬ (DivFits self other)) }
     {
-        self.quotient(other).ok_or(Unfit {
-            op: Op::Div,
-            left: self,
-            right: other,
-        })
+        self.quotient(other).ok_or(Unfit::of(Op::Div, self, other))
     }
 }

@@ -10,9 +10,35 @@ use crate::euclid::{divided, gcd};
 use crate::fitting::{plus, product, times};
 
 impl Frac {
+    // The sum, where it fits.
+    pub(crate) fn sum(self, other: Frac) -> Option<Frac>
+        ensures { MatchOption result (¬ (AddFits self other)) (λ f. (f ≡ self +ℚ other) × AddFits self other) }
+    {
+        let num = self.num();
+        let other_num = other.num();
+        if num == 0 {
+            Some(other)
+        } else if other_num == 0 {
+            Some(self)
+        } else if self.den() == other.den() {
+            self.like_sum(other)
+        } else {
+            self.unlike_sum(other)
+        }
+    }
+
+    // The sum of fractions over the same denominator, where it fits.
+    fn like_sum(self, other: Frac) -> Option<Frac>
+        requires { self.den ≡ other.den }
+        ensures { MatchOption result (¬ (AddFits self other)) (λ f. (f ≡ self +ℚ other) × AddFits self other) }
+    {
+        let top = plus(self.num(), other.num())?;
+        over(top, 1, 1, self.den().unsigned_abs())
+    }
+
     // The sum, where it fits. Of the divisors of the denominator, the numerator shares only some of
     // those that both denominators share.
-    pub(crate) fn sum(self, other: Frac) -> Option<Frac>
+    fn unlike_sum(self, other: Frac) -> Option<Frac>
         ensures { MatchOption result (¬ (AddFits self other)) (λ f. (f ≡ self +ℚ other) × AddFits self other) }
     {
         let den = self.den().unsigned_abs();

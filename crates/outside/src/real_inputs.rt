@@ -13,6 +13,8 @@ use std::marker::Model;
 use std::rt::Files;
 
 /// Inputs of a runtime: standard input under no name, and files under their names. It does not tell bytes.
+/// A folder opens too, and its first read fails. A call of std that was interrupted is repeated, at most 1,000
+/// times in one call of the inputs; after that the call fails.
 #[derive(Drop)]
 pub struct RealInputs<'a, R: Files + Input + Drop> {
     rt: &'a R,
@@ -188,7 +190,7 @@ mod tests {
 
     #[test]
     fn repeats_interrupted_reads(rt: HostRuntime) {
-        for (interrupts, want) in [(0, Ok(4)), (999, Ok(4)), (1000, Err(ReadFailed))] {
+        for (interrupts, want) in [(0, Ok(4)), (1000, Ok(4)), (1001, Err(ReadFailed))] {
             let mut buf = [1u8; 4];
             assert!(rt; read_some(&mut Fitful { interrupts }, &mut buf) == want);
         }

@@ -1,4 +1,4 @@
 // How often a call that was interrupted is repeated.
 
-/// The most tries in one call of ours.
-pub const MOST_TRIES: u32 = 1000;
+/// The most calls of std for one call of ours: the first, and 1,000 repeats.
+pub const MOST_TRIES: u32 = 1001;

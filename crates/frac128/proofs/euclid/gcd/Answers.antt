@@ -1,10 +1,14 @@
-use Rattle.std.proofs.Common.{sym, ap, ◌∙◌}
+use Rattle.std.proofs.Common.{sym, ap, ◌∙◌, inl, inr}
 use Rattle.rational.specs.Gcd.{gcd as gcd_of}
-use Rattle.frac128.proofs.Quotients.{gcd-one, gcd-step, gcd-zero}
+use Rattle.frac128.proofs.Quotients.{gcd_same, one_shared, gcd-step, gcd-zero}
 use Rattle.frac128.proofs.euclid.gcd.Goals as goal
+use Rattle.frac128.proofs.euclid.gcd.Goals.{then-a-eq1-via-then-a-eq1, then-a-eq1-via-else-a-eq1+then-b-eq1}
 
-pub returns-then-b-eq1 : goal.returns-then-b-eq1
-returns-then-b-eq1 c = sym (ap (gcd_of c.args.a) c.if-b-eq1.true ∙ gcd-one c.args.a)
+pub returns-then-a-b : goal.returns-then-a-b
+returns-then-a-b c = sym (gcd_same c.args.a) ∙ ap (gcd_of c.args.a) c.if-a-b.true
+
+pub returns-then-a-eq1 : goal.returns-then-a-eq1
+returns-then-a-eq1 c = one_shared c.args.a c.args.b (elim c.then-a-eq1.branch [ then-a-eq1-via-then-a-eq1 w ↦ inl w.if-a-eq1.true | then-a-eq1-via-else-a-eq1+then-b-eq1 w ↦ inr w.if-b-eq1.true ])
 
 pub returns-then-y-eq0 : goal.returns-then-y-eq0
 returns-then-y-eq0 c =

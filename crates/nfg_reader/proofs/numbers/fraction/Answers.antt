@@ -1,4 +1,4 @@
-use Rattle.std.proofs.Common.{inl, inr, refl, arith}
+use Rattle.std.proofs.Common.{inl, inr, arith, refl}
 use Rattle.std.proofs.lemmas.Int.{ints}
 use Rattle.nfg_reader.proofs.Digits.{whole_fits}
 use Rattle.nfg_reader.proofs.numbers.fraction.Goals as goal

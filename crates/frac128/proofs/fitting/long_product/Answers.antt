@@ -1,0 +1,10 @@
+use Rattle.std.proofs.Common.{subst, ◌<◌, ◌^◌}
+use Rattle.std.specs.Option.{SomeIff}
+use Rattle.frac128.proofs.Halves.{by_halves, wide_half}
+use Rattle.frac128.proofs.fitting.long_product.Goals as goal
+
+pub returns-then-high-gt-WORD : goal.returns-then-high-gt-WORD
+returns-then-high-gt-WORD c = wide_half c.args.long c.args.short c.if-high-gt-WORD.true
+
+pub returns : goal.returns
+returns c = subst (λ n. SomeIff c.checked_add.result (n < 2 ^ 128) n) (by_halves c.args.long c.args.short) c.checked_add.ensures

@@ -1,0 +1,96 @@
+// One run over memory, and what it must do.
+use gambit_tools::run;
+use memory::Memory;
+use outside::{MemInputs, MemSink, OpenGate};
+use std::alloc::Global;
+use std::thread::Threads;
+
+/// The words and the input of a run, how the outside behaves, and the status and bytes that are wanted.
+pub struct Case<'a> {
+    pub words: &'a [&'a str],
+    pub input: &'a str,
+    pub failing: &'a [u64],
+    pub out_most: usize,
+    pub out_limit: usize,
+    pub flush_fails: bool,
+    pub err_limit: usize,
+    pub status: u8,
+    pub out: &'a str,
+    pub err: &'a str,
+}
+
+impl<'a> Case<'a> {
+    /// A run of `enumpure` over a game, with nothing that fails and ample room, which ends with status 0 and
+    /// writes nothing.
+    pub fn of(input: &'a str) -> Case<'a> {
+        Case {
+            words: &["enumpure"],
+            input,
+            failing: &[],
+            out_most: 1000,
+            out_limit: 1000,
+            flush_fails: false,
+            err_limit: 1000,
+            status: 0,
+            out: "",
+            err: "",
+        }
+    }
+
+    /// Whether the run does what is wanted.
+    pub fn holds<R: Threads + Sync>(&self, rt: &R, alloc: Global) -> Result<bool, Memory> {
+        let input = Vec::from_slice(alloc, self.input.as_bytes())?;
+        let failing = Vec::from_slice(alloc, self.failing)?;
+        let mut inputs = MemInputs::new(input, Vec::new(alloc), failing);
+        let most = self.out_most.max(1);
+        let mut out = MemSink::new(alloc, most, self.out_limit, self.flush_fails)?;
+        let mut err = MemSink::new(alloc, 1000, self.err_limit, false)?;
+        let words = owned(alloc, self.words)?;
+        let status = run(
+            rt,
+            alloc,
+            &words,
+            &mut inputs,
+            &mut out,
+            &mut err,
+            &OpenGate,
+        );
+        Ok(status == self.status
+            && out.taken() == self.out.as_bytes()
+            && err.taken() == self.err.as_bytes())
+    }
+}
+
+fn owned(alloc: Global, words: &[&str]) -> Result<Vec<String>, Memory> {
+    let mut owned = Vec::new(alloc);
+    for word in words {
+        owned.push(String::from_str(alloc, word)?)?;
+    }
+    Ok(owned)
+}
+
+/// Runs `enumpure` over this many spaces, and answers whether the status and the line on standard error are these.
+pub fn spaces_answer<R: Threads + Sync>(
+    rt: &R,
+    alloc: Global,
+    count: usize,
+    status: u8,
+    line: &str,
+) -> Result<bool, Memory> {
+    let mut input = Vec::new(alloc);
+    input.resize(count, b' ')?;
+    let mut inputs = MemInputs::new(input, Vec::new(alloc), Vec::new(alloc));
+    let mut out = MemSink::new(alloc, 1000, 1000, false)?;
+    let mut err = MemSink::new(alloc, 1000, 1000, false)?;
+    let words = owned(alloc, &["enumpure"])?;
+    let answer = run(
+        rt,
+        alloc,
+        &words,
+        &mut inputs,
+        &mut out,
+        &mut err,
+        &OpenGate,
+    );
+    Ok(answer == status && out.taken().is_empty() && err.taken() == line.as_bytes())
+}

@@ -1,0 +1,9 @@
+//! Worked games and failing inputs and outputs, as tests over `gambit_tools::run`. Nothing here is called by the program.
+#![tactic(auto)]
+
+#[cfg(test)]
+mod case;
+#[cfg(test)]
+mod enumpure;
+#[cfg(test)]
+mod faults;
