@@ -1,5 +1,5 @@
 -- Words, counts and payoffs between blanks.
-use Rattle.std.proofs.Common.{◌≡◌, ◌≢◌, ℕ, zero, suc, Bool, true, false, List, [], ◌∷◌, ◌++◌, length, map, ℤ, Option, Some, None, refl, sym, ap, ◌∙◌, nat_eq, arith}
+use Rattle.std.proofs.Common.{◌≡◌, ◌≢◌, ℕ, zero, suc, true, List, [], ◌∷◌, length, map, ℤ, Some, refl, sym, ap, ◌∙◌, nat_eq}
 use Rattle.std.proofs.lemmas.Option.{cond_some}
 use Rattle.std.proofs.lemmas.Slice.Eq.{slice_eq-Decides}
 use Rattle.std.proofs.lemmas.Bool.Decides.{Decides-eqb}
@@ -7,9 +7,10 @@ use Rattle.std.specs.Cmp.Lexicographic.{pointwise}
 use Rattle.std.specs.Fmt.{decimal}
 use Rattle.rational.specs.Rational.{ℚ, whole}
 use Rattle.nfg_reader.specs.PlainFile.{IsWholeNumber, AreWholeNumbers, AreSpaced}
-use Rattle.nfg_reader.specs.PlainReading.{◌>>=◌, IsCount, word_at, after_word, count_of, number_of, count_at, payoff_at, payoffs_at}
+use Rattle.nfg_reader.specs.PlainReading.{IsCount, word_at, after_word, count_of, number_of, count_at, payoff_at, payoffs_at}
 use Rattle.nfg_reader.proofs.Spacing.{Next, Tokens, IsWord, before, word_next, word_again}
-use Rattle.nfg_reader.proofs.Digits.{bind_some, some_same, count_found, count_again, count_word, number_found, number_again, number_word}
+use Rattle.nfg_reader.proofs.Choices.{bind_some, some_same}
+use Rattle.nfg_reader.proofs.Digits.{count_found, count_again, count_word, number_found, number_again, number_word}
 
 -- a word is not empty
 pub some_word : (token : List ℕ) → IsWord token → token ≢ []
@@ -17,6 +18,7 @@ some_word [] w e = w
 some_word (b ∷ token) w e = cc
 
 -- ---- a word that is expected
+-- the word stands next
 pub expected_next : (bytes word rest : List ℕ) → after_word bytes word ≡ Some rest → Next word bytes rest
 unfolding after_word
 expected_next bytes word rest e =
@@ -24,6 +26,7 @@ expected_next bytes word rest e =
     let same : (word_at bytes).0 ≡ word = (slice_eq-Decides Decides-eqb (word_at bytes).0 word _ refl).0 p.0 in
     rw same at (rw p.1 at (word_next bytes))
 
+-- a word that stands next is found
 pub expected_again : (bytes word : List ℕ) (tokens : List (List ℕ)) → IsWord word → AreSpaced (word ∷ tokens) bytes → (rest : List ℕ) × (after_word bytes word ≡ Some rest) × AreSpaced tokens rest
 unfolding after_word
 expected_again bytes word tokens w s =
@@ -32,6 +35,7 @@ expected_again bytes word tokens w s =
     ((word_at bytes).1, rw same refl, a.1)
 
 -- ---- a count
+-- what is read is a count that stands next
 pub count_next : (bytes : List ℕ) (n : ℕ) (rest : List ℕ) → count_at bytes ≡ Some (n, rest) → IsCount n × Next (decimal n) bytes rest
 unfolding count_at
 count_next bytes n rest e =
@@ -42,6 +46,7 @@ count_next bytes n rest e =
     let word : (word_at bytes).0 ≡ decimal n = c.1 ∙ ap decimal value in
     (rw value at c.0, rw word at (rw after at (word_next bytes)))
 
+-- a count that stands next is read
 pub count_at_again : (bytes : List ℕ) (n : ℕ) (tokens : List (List ℕ)) → IsCount n → AreSpaced (decimal n ∷ tokens) bytes → (rest : List ℕ) × (count_at bytes ≡ Some (n, rest)) × AreSpaced tokens rest
 unfolding count_at
 count_at_again bytes n tokens h s =
@@ -49,6 +54,7 @@ count_at_again bytes n tokens h s =
     ((word_at bytes).1, rw (a.0, count_again n h) refl, a.1)
 
 -- ---- payoffs
+-- a payoff comes next, and then rest
 pub record IsPayoff (bytes : List ℕ) (payoff : ℚ) (rest : List ℕ) : Type 0 where
   pub text : List ℕ
   pub value : ℤ
@@ -56,6 +62,7 @@ pub record IsPayoff (bytes : List ℕ) (payoff : ℚ) (rest : List ℕ) : Type 0
   pub is_value : payoff ≡ whole value
   pub next : Next text bytes rest
 
+-- what is read is a payoff
 pub payoff_next : (bytes : List ℕ) (payoff : ℚ) (rest : List ℕ) → payoff_at bytes ≡ Some (payoff, rest) → IsPayoff bytes payoff rest
 unfolding payoff_at
 payoff_next bytes payoff rest e =
@@ -69,13 +76,14 @@ payoff_next bytes payoff rest e =
       next = rw after at (word_next bytes);
     }
 
+-- a whole number that stands next is read as a payoff
 pub payoff_again : (bytes text : List ℕ) (n : ℤ) (tokens : List (List ℕ)) → IsWholeNumber text n → AreSpaced (text ∷ tokens) bytes → (rest : List ℕ) × (payoff_at bytes ≡ Some (whole n, rest)) × AreSpaced tokens rest
 unfolding payoff_at
 payoff_again bytes text n tokens h s =
     let a = word_again text bytes tokens (number_word text n h) s in
     ((word_at bytes).1, rw (a.0, number_again text n h) refl, a.1)
 
--- payoffs with which the tokens end
+-- payoffs come next, as many as this, and then rest
 pub record ArePayoffs (number : ℕ) (bytes : List ℕ) (payoffs : List ℚ) (rest : List ℕ) : Type 0 where
   pub texts : List (List ℕ)
   pub values : List ℤ
@@ -84,9 +92,11 @@ pub record ArePayoffs (number : ℕ) (bytes : List ℕ) (payoffs : List ℚ) (re
   pub all : length values ≡ number
   pub spaced : Tokens [] rest → Tokens texts bytes
 
+-- one more whole number
 whole_cons : (payoff : ℚ) (payoffs : List ℚ) (value : ℤ) (values : List ℤ) → payoff ≡ whole value → payoffs ≡ map whole values → payoff ∷ payoffs ≡ map whole (value ∷ values)
 whole_cons payoff payoffs value values e f = rw (e, f) refl
 
+-- what is read are payoffs
 pub payoffs_next : (number : ℕ) (bytes : List ℕ) (payoffs : List ℚ) (rest : List ℕ) → payoffs_at number bytes ≡ Some (payoffs, rest) → ArePayoffs number bytes payoffs rest
 payoffs_next zero bytes payoffs rest e =
     let same = some_same _ _ e in
@@ -107,6 +117,7 @@ payoffs_next (suc number) bytes payoffs rest e =
       spaced = λ t. before one.text bytes p.0.1 more.texts (some_word one.text (number_word one.text one.value one.is_number)) one.next (more.spaced (rw after t));
     }
 
+-- whole numbers are read as payoffs
 pub payoffs_again : (texts : List (List ℕ)) (values : List ℤ) (bytes : List ℕ) → AreWholeNumbers texts values → AreSpaced texts bytes
     → (rest : List ℕ) × (payoffs_at (length values) bytes ≡ Some (map whole values, rest)) × AreSpaced [] rest
 payoffs_again [] [] bytes h s = (bytes, refl, s)

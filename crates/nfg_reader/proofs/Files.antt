@@ -1,5 +1,5 @@
 -- What is read is a plain file of the table, and a plain file is read.
-use Rattle.std.proofs.Common.{◌≡◌, ◌≢◌, ℕ, ◌+◌, ◌*◌, Bool, true, false, List, [], ◌∷◌, ◌++◌, length, map, ℤ, Option, Some, None, Result, Ok, Err, IfOk, refl, sym, ap, ◌∙◌, subst}
+use Rattle.std.proofs.Common.{◌≡◌, ℕ, ◌*◌, true, List, [], ◌∷◌, length, map, ℤ, Some, Result, Ok, Err, IfOk, refl, sym, ap, ◌∙◌, subst}
 use Rattle.std.proofs.lemmas.Bool.{and_parts, and_from}
 use Rattle.std.proofs.lemmas.Option.{cond_some}
 use Rattle.std.specs.Prelude.{codes, IsErrOf}
@@ -9,30 +9,36 @@ use Rattle.rational.specs.Rational.{ℚ, whole}
 use Rattle.game_core.specs.Table.{GameTable}
 use Rattle.nfg_reader.specs.declared.plain.PlainStop.{PlainStop}
 use Rattle.nfg_reader.specs.declared.plain.PlainStop.TheVariants as stops
-use Rattle.nfg_reader.specs.PlainFile.{IsBlank, IsPlainText, IsWholeNumber, AreWholeNumbers, AreSpaced, PlainGame, IsPlainGame, IsPlainFile, plain_table, plain_tokens, quoted}
-use Rattle.nfg_reader.specs.PlainReading.{◌>>=◌, Reads, IsCount, is_blank, counted_table, after_word, text_at, count_at, payoffs_at, title_at, players_at, counts_at, last_payoffs_at, table_at}
+use Rattle.nfg_reader.specs.PlainFile.{IsPlainText, AreWholeNumbers, AreSpaced, IsPlainFile, quoted}
+use Rattle.nfg_reader.specs.PlainReading.{Reads, IsCount, is_blank, counted_table, after_word, text_at, count_at, payoffs_at, title_at, players_at, counts_at, last_payoffs_at, table_at}
 use Rattle.nfg_reader.proofs.Spacing.{Tokens, IsWord, before, blanks_pass, passes_blanks}
 use Rattle.nfg_reader.proofs.Texts.{text_next, text_again}
-use Rattle.nfg_reader.proofs.Digits.{bind_some, some_same, count_word}
+use Rattle.nfg_reader.proofs.Digits.{count_word}
+use Rattle.nfg_reader.proofs.Choices.{bind_some, some_same}
 use Rattle.nfg_reader.proofs.Fields.{some_word, expected_next, expected_again, count_next, count_at_again, ArePayoffs, payoffs_next, payoffs_again}
 
 -- ---- what was read before further tokens
+-- a word
 word_before : (bytes word rest : List ℕ) (tokens : List (List ℕ)) → IsWord word → after_word bytes word ≡ Some rest → Tokens tokens rest → Tokens (word ∷ tokens) bytes
 word_before bytes word rest tokens w e t = before word bytes rest tokens (some_word word w) (expected_next bytes word rest e) t
 
+-- a text
 text_before : (bytes text rest : List ℕ) (tokens : List (List ℕ)) → text_at bytes ≡ Some (text, rest) → Tokens tokens rest → Tokens (quoted text ∷ tokens) bytes
 text_before bytes text rest tokens e t = before (quoted text) bytes rest tokens (λ h. cc) (text_next bytes text rest e).1 t
 
+-- a count
 count_before : (bytes : List ℕ) (n : ℕ) (rest : List ℕ) (tokens : List (List ℕ)) → count_at bytes ≡ Some (n, rest) → Tokens tokens rest → Tokens (decimal n ∷ tokens) bytes
 count_before bytes n rest tokens e t =
     let c = count_next bytes n rest e in
     before (decimal n) bytes rest tokens (some_word (decimal n) (count_word n c.0)) c.1 t
 
 -- ---- the title
+-- the title comes next, and then rest
 pub record IsTitle (bytes title rest : List ℕ) : Type 0 where
   pub plain : IsPlainText title
   pub spaced : (tokens : List (List ℕ)) → Tokens tokens rest → Tokens (codes "NFG" ∷ codes "1" ∷ codes "R" ∷ quoted title ∷ tokens) bytes
 
+-- what is read is a title
 title_next : (bytes title rest : List ℕ) → title_at bytes ≡ Some (title, rest) → IsTitle bytes title rest
 unfolding title_at
 title_next bytes title rest e =
@@ -44,6 +50,7 @@ title_next bytes title rest e =
       spaced = λ tokens t. word_before bytes (codes "NFG") a.0 _ (refl, (refl, (refl, tt))) a.1 (word_before a.0 (codes "1") b.0 _ (refl, tt) b.1 (word_before b.0 (codes "R") c.0 _ (refl, tt) c.1 (text_before c.0 title rest tokens c.2 t)));
     }
 
+-- a title is read
 title_again : (bytes title : List ℕ) (tokens : List (List ℕ)) → IsPlainText title → AreSpaced (codes "NFG" ∷ codes "1" ∷ codes "R" ∷ quoted title ∷ tokens) bytes
     → (rest : List ℕ) × (title_at bytes ≡ Some (title, rest)) × AreSpaced tokens rest
 unfolding title_at
@@ -55,11 +62,13 @@ title_again bytes title tokens h s =
     (d.0, rw (a.1, b.1, c.1) d.1, d.2)
 
 -- ---- the players
+-- the two players come next, and then rest
 pub record ArePlayers (bytes first second rest : List ℕ) : Type 0 where
   pub first_plain : IsPlainText first
   pub second_plain : IsPlainText second
   pub spaced : (tokens : List (List ℕ)) → Tokens tokens rest → Tokens (codes "{" ∷ quoted first ∷ quoted second ∷ codes "}" ∷ tokens) bytes
 
+-- what is read are two players
 players_next : (bytes : List ℕ) (x : List ℕ × List ℕ × List ℕ) → players_at bytes ≡ Some x → ArePlayers bytes x.0 x.1 x.2
 unfolding players_at
 players_next bytes x e =
@@ -74,6 +83,7 @@ players_next bytes x e =
     } in
     subst (λ (y : List ℕ × List ℕ × List ℕ). ArePlayers bytes y.0 y.1 y.2) (some_same _ _ d.2) here
 
+-- two players are read
 players_again : (bytes first second : List ℕ) (tokens : List (List ℕ)) → IsPlainText first → IsPlainText second → AreSpaced (codes "{" ∷ quoted first ∷ quoted second ∷ codes "}" ∷ tokens) bytes
     → (rest : List ℕ) × (players_at bytes ≡ Some (first, second, rest)) × AreSpaced tokens rest
 unfolding players_at
@@ -85,11 +95,13 @@ players_again bytes first second tokens f g s =
     (d.0, rw (a.1, b.1, c.1, d.1) refl, d.2)
 
 -- ---- the counts
+-- the two counts come next, and then rest
 pub record AreCounts (bytes : List ℕ) (rows columns : ℕ) (rest : List ℕ) : Type 0 where
   pub rows_count : IsCount rows
   pub columns_count : IsCount columns
   pub spaced : (tokens : List (List ℕ)) → Tokens tokens rest → Tokens (codes "{" ∷ decimal rows ∷ decimal columns ∷ codes "}" ∷ tokens) bytes
 
+-- what is read are two counts
 counts_next : (bytes : List ℕ) (x : ℕ × ℕ × List ℕ) → counts_at bytes ≡ Some x → AreCounts bytes x.0 x.1 x.2
 unfolding counts_at
 counts_next bytes x e =
@@ -104,6 +116,7 @@ counts_next bytes x e =
     } in
     subst (λ (y : ℕ × ℕ × List ℕ). AreCounts bytes y.0 y.1 y.2) (some_same _ _ d.2) here
 
+-- two counts are read
 counts_again : (bytes : List ℕ) (rows columns : ℕ) (tokens : List (List ℕ)) → IsCount rows → IsCount columns → AreSpaced (codes "{" ∷ decimal rows ∷ decimal columns ∷ codes "}" ∷ tokens) bytes
     → (rest : List ℕ) × (counts_at bytes ≡ Some (rows, columns, rest)) × AreSpaced tokens rest
 unfolding counts_at
@@ -115,14 +128,17 @@ counts_again bytes rows columns tokens f g s =
     (d.0, rw (a.1, b.1, c.1, d.1) refl, d.2)
 
 -- ---- the payoffs
+-- the bytes of a list pass where the whole list does
 all_pass : (bytes : List ℕ) → list_all is_blank bytes ≡ true → AllByRecursion (λ b. is_blank b ≡ true) bytes
 all_pass [] e = tt
 all_pass (b ∷ bytes) e = let p = and_parts (is_blank b) (list_all is_blank bytes) e in (p.0, all_pass bytes p.1)
 
+-- and the other way
 pass_all : (bytes : List ℕ) → AllByRecursion (λ b. is_blank b ≡ true) bytes → list_all is_blank bytes ≡ true
 pass_all [] h = refl
 pass_all (b ∷ bytes) h = and_from _ _ h.0 (pass_all bytes h.1)
 
+-- what is read are payoffs with which the file ends
 last_next : (number : ℕ) (bytes : List ℕ) (payoffs : List ℚ) → last_payoffs_at number bytes ≡ Some payoffs → (rest : List ℕ) × ArePayoffs number bytes payoffs rest × Tokens [] rest
 unfolding last_payoffs_at
 last_next number bytes payoffs e =
@@ -130,6 +146,7 @@ last_next number bytes payoffs e =
     let q = cond_some (list_all is_blank p.0.1) p.0.0 payoffs p.2 in
     (p.0.1, rw q.1 at (payoffs_next number bytes p.0.0 p.0.1 p.1), record { begins = tt; spaced = passes_blanks _ (all_pass _ q.0) })
 
+-- payoffs with which the file ends are read
 last_again : (texts : List (List ℕ)) (values : List ℤ) (bytes : List ℕ) → AreWholeNumbers texts values → AreSpaced texts bytes → last_payoffs_at (length values) bytes ≡ Some (map whole values)
 unfolding last_payoffs_at
 last_again texts values bytes h s =
@@ -175,14 +192,17 @@ table_again bytes table f =
     rw (a.1, b.1, c.1, e) (ap Some (sym f.is_table))
 
 -- ---- what a reader answered
+-- a table that was read is the one of the file
 pub read_is_plain : (bytes : List ℕ) (result : Result GameTable PlainStop) → Reads (λ t. t) result (table_at bytes) → IfOk result (λ table. IsPlainFile bytes table)
 read_is_plain bytes (Ok table) h = table_next bytes table h
 read_is_plain bytes (Err e) h = tt
 
+-- bytes that were refused are no plain file
 pub refused_is_no_plain : (bytes : List ℕ) (result : Result GameTable PlainStop) → Reads (λ t. t) result (table_at bytes) → IsErrOf result stops.NotPlain → (table : GameTable) → IsPlainFile bytes table → ⊥
 refused_is_no_plain bytes (Ok table) h r t f = cc
 refused_is_no_plain bytes (Err stops.NotPlain) h r t f = let read = table_again bytes t f in cc
 refused_is_no_plain bytes (Err stops.Memory) h r t f = cc
 
+-- a plain file has one table
 pub one_table : (bytes : List ℕ) (one other : GameTable) → IsPlainFile bytes one → IsPlainFile bytes other → one ≡ other
 one_table bytes one other f g = some_same one other (sym (table_again bytes one f) ∙ table_again bytes other g)

@@ -1,5 +1,5 @@
 -- Payoffs and names, one after the other, as loops make them.
-use Rattle.std.proofs.Common.{◌≡◌, ℕ, suc, ◌+◌, ◌-◌, ◌<◌, ◌≤◌, List, [], ◌∷◌, ◌++◌, Option, Some, None, refl, sym, ap, ◌∙◌, append_assoc, add-one, arith}
+use Rattle.std.proofs.Common.{◌≡◌, ℕ, suc, ◌+◌, ◌-◌, ◌<◌, ◌≤◌, List, [], ◌∷◌, ◌++◌, Option, Some, None, refl, sym, ap, ◌∙◌, append_assoc, arith}
 use Rattle.std.proofs.lemmas.List.{append-nil}
 use Rattle.std.specs.Fmt.{decimal}
 use Rattle.rational.specs.Rational.{ℚ}
@@ -10,10 +10,12 @@ use Rattle.nfg_reader.specs.PlainReading.{payoff_at, payoffs_at, ◌>>=◌}
 abbrev pub with_front : List ℚ → Option (List ℚ × List ℕ) → Option (List ℚ × List ℕ)
 with_front front reading = reading >>= λ x. Some (front ++ x.0, x.1)
 
+-- one more payoff in front
 with_front-cons : (front : List ℚ) (payoff : ℚ) (reading : Option (List ℚ × List ℕ)) → with_front front (reading >>= λ x. Some (payoff ∷ x.0, x.1)) ≡ with_front (front ++ payoff ∷ []) reading
 with_front-cons front payoff (Some x) = ap (λ (qs : List ℚ). Some (qs, x.1)) (simp append_assoc)
 with_front-cons front payoff None = refl
 
+-- the next payoff and the others
 one_payoff : (n i : ℕ) (bytes : List ℕ) → i < n → payoffs_at (n - i) bytes ≡ (payoff_at bytes >>= λ x. payoffs_at (n - (i + 1)) x.1 >>= λ y. Some (x.0 ∷ y.0, y.1))
 one_payoff n i bytes lt = let e : n - i ≡ suc (n - (i + 1)) = omega arith in rw e refl
 

@@ -1,5 +1,5 @@
 -- The longest front of a list whose bytes pass a test, and what comes behind it.
-use Rattle.std.proofs.Common.{◌≡◌, ℕ, suc, ◌+◌, Bool, true, false, cond, List, [], ◌∷◌, ◌++◌, take, drop, refl, sym, ap, one-add}
+use Rattle.std.proofs.Common.{◌≡◌, ℕ, ◌+◌, Bool, true, false, cond, List, [], ◌∷◌, ◌++◌, take, drop, refl, ap, one-add}
 use Rattle.std.specs.List.{prefix_len, AllByRecursion}
 use Rattle.std.proofs.lemmas.List.Sums.{prefix_len-le-length}
 use Rattle.nfg_reader.specs.PlainReading.{leading, behind}
@@ -9,11 +9,13 @@ abbrev pub Stops : (ℕ → Bool) → List ℕ → Type 0
 Stops p [] = Unit {0}
 Stops p (b ∷ bytes) = p b ≡ false
 
+-- the front by its length
 pub take-prefix_len : (p : ℕ → Bool) (bytes : List ℕ) → take (prefix_len p bytes) bytes ≡ leading p bytes
 take-prefix_len p [] = refl
 take-prefix_len p (b ∷ bytes) =
     elim (p b) as (λ v. take (cond v (1 + prefix_len p bytes) 0) (b ∷ bytes) ≡ cond v (b ∷ leading p bytes) []) [ true ↦ rw one-add (ap (λ t. b ∷ t) (take-prefix_len p bytes)) | false ↦ refl ]
 
+-- what comes behind it, by the length
 pub drop-prefix_len : (p : ℕ → Bool) (bytes : List ℕ) → drop (prefix_len p bytes) bytes ≡ behind p bytes
 drop-prefix_len p [] = refl
 drop-prefix_len p (b ∷ bytes) =
@@ -49,6 +51,7 @@ leading-is p [] [] h s = refl
 leading-is p [] (b ∷ rest) h s = rw s refl
 leading-is p (b ∷ front) rest h s = rw h.0 (ap (λ t. b ∷ t) (leading-is p front rest h.1 s))
 
+-- the same of what comes behind it
 pub behind-is : (p : ℕ → Bool) (front rest : List ℕ) → AllByRecursion (λ b. p b ≡ true) front → Stops p rest → behind p (front ++ rest) ≡ rest
 behind-is p [] [] h s = refl
 behind-is p [] (b ∷ rest) h s = rw s refl

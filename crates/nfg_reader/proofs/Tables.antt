@@ -1,11 +1,12 @@
 -- Tables in which the strategies are only counted.
-use Rattle.std.proofs.Common.{◌≡◌, ℕ, zero, suc, ◌+◌, ◌*◌, ◌<◌, ◌≤◌, List, [], ◌∷◌, length, refl, ap, arith}
+use Rattle.std.proofs.Common.{◌≡◌, ℕ, zero, suc, ◌*◌, ◌<◌, ◌≤◌, List, [], ◌∷◌, length, refl, ap, arith}
 use Rattle.std.proofs.Math.Nat.{mul-le-mul}
 use Rattle.std.proofs.lemmas.List.Elements.{All-nil, All-cons}
 use Rattle.game_core.specs.Table.{GameTable, IsTable}
 use Rattle.nfg_reader.specs.PlainFile.{names_from, counted_names}
 use Rattle.nfg_reader.specs.PlainReading.{IsCount}
 
+-- how many names there are
 length-names_from : (first n : ℕ) → length (names_from first n) ≡ n
 length-names_from first zero = refl
 length-names_from first (suc n) = ap suc (length-names_from (suc first) n)

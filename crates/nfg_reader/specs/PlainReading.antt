@@ -1,6 +1,6 @@
 -- Reading a plain file, as functions of its bytes: each takes one part off the front and gives what it
 -- stands for and the bytes after it, or nothing.
-use Rattle.std.specs.Prelude.{ℕ, ◌+◌, ◌-◌, ◌*◌, zero, suc, ◌≤◌, Bool, true, false, if◌then◌else◌, cond, not, ◌&&◌, ◌||◌, ◌==◌, nat_le, nat_eq, ◌≡◌, List, [], ◌∷◌, ◌++◌, length, map, slice_index, ℤ, pos, neg_ℤ, Option, Some, None, Result, Ok, Err, option_and_then, option_map, codes}
+use Rattle.std.specs.Prelude.{ℕ, ◌*◌, zero, suc, ◌≤◌, Bool, true, if◌then◌else◌, not, ◌&&◌, ◌||◌, ◌==◌, nat_le, nat_eq, ◌≡◌, List, [], ◌∷◌, length, slice_index, ℤ, pos, neg_ℤ, Option, Some, None, Result, Ok, Err, option_map, codes}
 use Rattle.std.specs.Char.{is_ascii_digit}
 use Rattle.std.specs.List.{list_all}
 use Rattle.std.specs.Cmp.Lexicographic.{pointwise}
