@@ -56,9 +56,11 @@ impl<'a> Case<'a> {
             &mut err,
             &OpenGate,
         );
-        Ok(status == self.status
-            && out.taken() == self.out.as_bytes()
-            && err.taken() == self.err.as_bytes())
+        Ok(
+            status == self.status
+                && out.taken() == self.out.as_bytes()
+                && err.taken() == self.err.as_bytes(),
+        )
     }
 }
 
