@@ -112,7 +112,6 @@ fn profile_number(strategies: &[Vec<Name>], profile: &[u32]) -> usize
 mod tests {
     use super::*;
     use std::alloc::{AllocError, Global};
-    use std::cmp::Ordering;
 
     fn whole(number: i128) -> Frac {
         Frac::new(number, 1).unwrap_or(Frac::one())
@@ -149,12 +148,12 @@ mod tests {
             ],
         )?;
         let table = Table::new(nameless(alloc), players, strategies, payoffs);
-        assert!(rt; table.payoff(&[0, 0], 0).cmp(&whole(30)) == Ordering::Equal);
-        assert!(rt; table.payoff(&[1, 0], 1).cmp(&whole(40)) == Ordering::Equal);
-        assert!(rt; table.payoff(&[0, 1], 0).cmp(&whole(50)) == Ordering::Equal);
-        assert!(rt; table.payoff(&[1, 1], 1).cmp(&whole(70)) == Ordering::Equal);
-        assert!(rt; table.payoff(&[0, 2], 1).cmp(&whole(21)) == Ordering::Equal);
-        assert!(rt; table.payoff(&[1, 2], 0).cmp(&whole(60)) == Ordering::Equal);
+        assert!(rt; table.payoff(&[0, 0], 0) == whole(30));
+        assert!(rt; table.payoff(&[1, 0], 1) == whole(40));
+        assert!(rt; table.payoff(&[0, 1], 0) == whole(50));
+        assert!(rt; table.payoff(&[1, 1], 1) == whole(70));
+        assert!(rt; table.payoff(&[0, 2], 1) == whole(21));
+        assert!(rt; table.payoff(&[1, 2], 0) == whole(60));
         Ok(())
     }
 }
