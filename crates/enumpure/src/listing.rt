@@ -1,5 +1,5 @@
 // The text of the pure equilibria of a table.
-ghost use Rattle.std.specs.Prelude.{◌≡◌, ◌<◌, ◌≤◌, ◌^◌, ◌++◌, ℕ, List, All, length, IfOk, OnOk};
+ghost use Rattle.std.specs.Prelude.{◌≡◌, ◌<◌, ◌^◌, ◌++◌, ℕ, List, length, IfOk, OnOk};
 ghost use Rattle.game_theory.specs.Profiles.{Game, IsProfile, profile_count, number_of};
 ghost use Rattle.game_theory.specs.Mixed.{sure, pure};
 ghost use Rattle.game_theory.specs.Lines.{listed, entries, line_text, lines_text};

@@ -1,5 +1,5 @@
 // The profiles of a table at which each player plays a best reply.
-ghost use Rattle.std.specs.Prelude.{◌≡◌, ℕ, ◌+◌, ◌*◌, ◌<◌, ◌≤◌, ◌↔◌, IsTrue, IfOk, EachIndex, length, slice_index};
+ghost use Rattle.std.specs.Prelude.{◌≡◌, ℕ, ◌+◌, ◌*◌, ◌<◌, ◌↔◌, IsTrue, IfOk, EachIndex, length, slice_index};
 ghost use Rattle.rational.specs.Rational.{◌<ℚ◌};
 ghost use Rattle.game_theory.specs.Profiles.{profile_count, stride as stride_of};
 ghost use Rattle.game_core.specs.Table.{game_of, strategy_counts, IsTable};
