@@ -1,4 +1,5 @@
 pub mod Causes
+pub mod Exact
 pub mod Outcomes
 pub mod Reading
 pub mod Taking

@@ -1,4 +1,5 @@
 pub mod Input
+pub mod Laws
 pub mod Outcome
 pub mod Refusals
 pub mod Seen

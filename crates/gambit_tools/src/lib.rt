@@ -8,5 +8,5 @@ mod refusal;
 mod tools;
 
 pub use refusal::Refusal;
-pub use tools::{refuse, run};
+pub use tools::{refusals_are_exact, refuse, run};
 pub use words::{Settings, Usage, read_settings};

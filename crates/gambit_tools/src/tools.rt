@@ -8,6 +8,7 @@ ghost use Rattle.nfg_reader.specs.PlainFile.{IsPlainFile};
 ghost use Rattle.gambit_tools.specs.Seen.{inputs_seen, sink_seen};
 ghost use Rattle.gambit_tools.specs.Input.{CountsTell};
 ghost use Rattle.gambit_tools.specs.Refusals.{status_of};
+ghost use Rattle.gambit_tools.specs.Laws.{RefusalsAreExact};
 ghost use Rattle.gambit_tools.specs.Outcome.{HasCause, Writes, Tells, IsOutcome, IsAccepted, NoFault, IsNoGame};
 ghost use Rattle.gambit_tools.specs.declared.refusal.Refusal.{Refusal};
 
@@ -120,3 +121,9 @@ pub fn run<R: Threads + Sync, I: Inputs, K: Sink, E: Sink, G: Gate>(
         Err(refusal) => refuse(err, refusal),
     }
 }
+
+/// The causes of a run's refusals exclude each other: the words alone decide a usage refusal, and the bytes alone
+/// whether the input is too long or no game.
+pub fn refusals_are_exact()
+    ensures { RefusalsAreExact }
+{}
