@@ -11,6 +11,7 @@ use Rattle.nfg_reader.specs.declared.plain.PlainStop.{PlainStop}
 use Rattle.nfg_reader.specs.declared.plain.PlainStop.TheVariants as stops
 
 infixl 10 ◌>>=◌
+-- what follows, where there is something
 abbrev pub ◌>>=◌ : {A B : Type 0} → Option A → (A → Option B) → Option B
 None >>= f = None
 (Some x) >>= f = f x
@@ -26,9 +27,11 @@ Reads view (Ok x) reading = reading ≡ Some (view x)
 Reads view (Err stops.NotPlain) reading = reading ≡ None
 Reads view (Err stops.Memory) reading = Unit {0}
 
+-- a space or a line feed
 abbrev pub is_blank : ℕ → Bool
 is_blank b = b == 32 || b == 10
 
+-- any other byte
 abbrev pub is_dark : ℕ → Bool
 is_dark b = not (is_blank b)
 
@@ -64,6 +67,7 @@ abbrev pub closed_text : List ℕ → List ℕ → Option (List ℕ × List ℕ)
 closed_text text [] = None
 closed_text text (b ∷ rest) = if b == 34 && is_apart rest then Some (text, rest) else None
 
+-- a text, where a quote comes
 abbrev pub opened_text : List ℕ → Option (List ℕ × List ℕ)
 opened_text [] = None
 opened_text (b ∷ bytes) = if b == 34 then closed_text (leading is_plain bytes) (behind is_plain bytes) else None
@@ -76,6 +80,7 @@ text_at bytes = opened_text (behind is_blank bytes)
 unfoldable pub digits_of : List ℕ → Option ℕ
 digits_of digits = if list_all is_ascii_digit digits && nat_le 1 (length digits) && nat_le (length digits) 18 then Some (digits_value digits) else None
 
+-- a number of strategies
 pub record IsCount (n : ℕ) : Type 0 where
   pub some : 1 ≤ n
   pub few : n ≤ 100
@@ -86,15 +91,18 @@ count_of digits = do
   n ← digits_of digits
   if slice_index digits 0 == 48 || not (nat_le n 100) then None else Some n
 
+-- a whole number, or nothing
 unfoldable pub number_of : List ℕ → Option ℤ
 number_of [] = None
 number_of (b ∷ digits) = if b == 45 then option_map (λ n. neg_ℤ (pos n)) (digits_of digits) else option_map pos (digits_of (b ∷ digits))
 
+-- the next word as a count
 unfoldable pub count_at : List ℕ → Option (ℕ × List ℕ)
 count_at bytes = do
   n ← count_of (word_at bytes).0
   Some (n, (word_at bytes).1)
 
+-- the next word as a payoff
 unfoldable pub payoff_at : List ℕ → Option (ℚ × List ℕ)
 payoff_at bytes = do
   n ← number_of (word_at bytes).0

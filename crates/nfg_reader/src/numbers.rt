@@ -23,6 +23,7 @@ fn value_of(digits: &[u8]) -> u64
     value
 }
 
+// Whether the bytes are decimal digits alone.
 fn are_digits(bytes: &[u8]) -> bool
     ensures { result ≡ list_all is_ascii_digit bytes.now }
 {

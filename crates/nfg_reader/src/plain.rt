@@ -123,6 +123,7 @@ fn strategy_names(alloc: Global, count: usize) -> Result<Vec<Name>, AllocError>
     Ok(names)
 }
 
+// The name with these bytes.
 fn name(alloc: Global, bytes: &[u8]) -> Result<Name, AllocError>
     ensures { IfOk result (λ name. name ≡ bytes.now) }
 {
