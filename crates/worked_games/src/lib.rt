@@ -4,6 +4,6 @@
 #[cfg(test)]
 mod case;
 #[cfg(test)]
-mod enumpure;
-#[cfg(test)]
 mod faults;
+#[cfg(test)]
+mod pure_equilibria;

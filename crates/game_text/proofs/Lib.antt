@@ -1,0 +1,9 @@
+pub mod Bytes
+pub mod FirstBytes
+pub mod Fronts
+pub mod Next
+pub mod Passes
+pub mod Quoted
+pub mod Runs
+pub mod Single
+pub mod Steps

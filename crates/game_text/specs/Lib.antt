@@ -1,0 +1,4 @@
+pub mod Reading
+pub mod Stops
+pub mod TokenList
+pub mod Tokens

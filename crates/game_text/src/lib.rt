@@ -1,0 +1,16 @@
+//! The tokens of game files, with their places.
+#![tactic(auto)]
+
+mod reading;
+mod spans;
+mod text;
+mod token;
+
+pub use number_text::{NumberFault, read_number};
+pub use reading::{
+    TextFault, TextKind, TextStop, first_fault_is_single, read_tokens, tokens_are_single,
+};
+pub use token::{Spanned, Token, Tokens};
+
+#[cfg(test)]
+mod tests;
