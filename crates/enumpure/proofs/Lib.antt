@@ -1,8 +1,10 @@
 pub mod Best
 pub mod EntryTexts
 pub mod Exchanges
+pub mod LineLengths
 pub mod Listed
 pub mod ProfileParts
 pub mod Ranks
 pub mod Strides
 pub mod Striking
+pub mod Totals

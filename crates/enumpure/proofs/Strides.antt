@@ -56,7 +56,7 @@ pub length-strategy_counts : (t : GameTable) → IsTable t → length (strategy_
 length-strategy_counts t h = length-map t.strategies length ∙ h.strategies_of_each
 
 -- a positive number of numbers makes no product smaller
-at_most_product : (a b : ℕ) → 0 < a → b ≤ a * b
+pub at_most_product : (a b : ℕ) → 0 < a → b ≤ a * b
 at_most_product zero b h = absurd (omega arith)
 at_most_product (suc a) b h = omega arith
 

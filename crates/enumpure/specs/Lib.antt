@@ -1,4 +1,5 @@
 pub mod Entries
 pub mod Ranks
 pub mod Replies
+pub mod Stops
 pub mod Text

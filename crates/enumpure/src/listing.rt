@@ -1,17 +1,42 @@
 // The text of the pure equilibria of a table.
-ghost use Rattle.std.specs.Prelude.{◌≡◌, ◌<◌, ◌^◌, ◌++◌, ℕ, List, length, IfOk, OnOk};
+ghost use Rattle.std.specs.Prelude.{◌≡◌, ◌<◌, ◌≤◌, ◌^◌, ◌++◌, ℕ, List, length, IfOk, IfErr, OnOk};
 ghost use Rattle.game_theory.specs.Profiles.{Game, IsProfile, profile_count, number_of};
 ghost use Rattle.game_theory.specs.Mixed.{sure, pure};
 ghost use Rattle.game_theory.specs.Lines.{listed, entries, line_text, lines_text};
 ghost use Rattle.game_core.specs.Table.{game_of};
 ghost use Rattle.enumpure.specs.Entries.{entries_text};
 ghost use Rattle.enumpure.specs.Ranks.{ranked, lines_below};
-ghost use Rattle.enumpure.specs.Text.{IsPureEquilibriaText};
+ghost use Rattle.enumpure.specs.Stops.{IsStop};
+ghost use Rattle.enumpure.specs.Text.{IsPureEquilibriaText, most_text};
 
+use crate::lengths::text_length;
 use crate::replies::{stable_profiles, strategy_counts};
 use frac128::Memory;
-use game_core::Table;
+use game_core::{Table, TooLarge, What};
 use std::alloc::Global;
+
+// The most bytes that a text may have.
+const MOST_TEXT: usize = 67_108_864;
+
+/// Why the pure equilibria were not listed.
+#[derive(Clone, Copy, Debug, PartialEq, Eq)]
+pub enum ListStop {
+    /// The text would have more than 67,108,864 bytes.
+    TooLarge(TooLarge),
+    /// Memory ran out.
+    Memory,
+}
+
+impl From<Memory> for ListStop {
+    ghost use Rattle.std.specs.Prelude.{◌≡◌};
+    ghost use Rattle.enumpure.specs.declared.listing.ListStop.TheVariants as stops;
+
+    ghost from_gives = { λ _ e. e ≡ stops.Memory };
+
+    fn from(_memory: Memory) -> ListStop {
+        ListStop::Memory
+    }
+}
 
 // Writes the profile with a rank in the order of lines.
 fn set_profile(profile: &mut [usize], counts: &[usize], profiles: usize, rank: usize)
@@ -91,17 +116,45 @@ fn push_lines(
     Ok(())
 }
 
+// The lines of the flagged profiles, in a text that has room for so many bytes from the start.
+fn write_lines(
+    alloc: Global,
+    counts: &[usize],
+    stable: &[bool],
+    bytes: usize,
+) -> Result<Vec<u8>, Memory>
+    requires flags { length stable.now ≡ profile_count counts.now }
+    ensures { IfOk result (λ text. text.items ≡ lines_text (lines_below counts.now stable.now (length stable.now))) }
+{
+    let mut profile = vec![in alloc; 0; counts.len()]?;
+    let mut text = Vec::with_capacity(alloc, bytes)?;
+    push_lines(&mut text, counts, stable, &mut profile)?;
+    Ok(text)
+}
+
 /// The lines of the pure equilibria of a table, for any number of players: each pure profile at which no
 /// player has a strategy with a greater payoff, once, in descending order of the lines' entries.
-pub fn list_pure_equilibria(alloc: Global, table: &Table) -> Result<Vec<u8>, Memory>
-    ensures { IfOk result (λ text. IsPureEquilibriaText (game_of table.now) text.items) }
+///
+/// # Errors
+///
+/// `TooLarge` exactly where the lines have more than 67,108,864 bytes, which are counted before any line is
+/// written; `Memory` where memory ran out.
+pub fn list_pure_equilibria(alloc: Global, table: &Table) -> Result<Vec<u8>, ListStop>
+    ensures text { IfOk result (λ text. IsPureEquilibriaText (game_of table.now) text.items) }
+    ensures within_limit { IfOk result (λ text. length text.items ≤ most_text) }
+    ensures stop { IfErr result (IsStop (game_of table.now)) }
 {
     let counts = strategy_counts(alloc, table)?;
     let stable = stable_profiles(alloc, table)?;
-    let mut profile = vec![in alloc; 0; counts.len()]?;
-    let mut text = Vec::new(alloc);
-    push_lines(&mut text, &counts, &stable, &mut profile)?;
-    Ok(text)
+    let bytes = text_length(table, &stable);
+    if bytes > MOST_TEXT {
+        return Err(ListStop::TooLarge(TooLarge {
+            what: What::Text,
+            count: MOST_TEXT as u64 + 1,
+            limit: MOST_TEXT as u64,
+        }));
+    }
+    Ok(write_lines(alloc, &counts, &stable, bytes)?)
 }
 
 /// A game has one such text.

@@ -9,8 +9,8 @@ use frac128::{Frac, Memory};
 use game_core::Table;
 use std::alloc::Global;
 
-// How many strategies a player has.
-fn strategy_count(table: &Table, player: usize) -> usize
+/// How many strategies a player has.
+pub fn strategy_count(table: &Table, player: usize) -> usize
     requires { player < length table.now.players }
     ensures { result ≡ slice_index (strategy_counts table.now) player }
 {

@@ -46,8 +46,8 @@ fn main(rt: HostRuntime) -> ExitCode {
                 &OpenGate,
             )
         }
-        Words::NotText => refuse(&mut err, Refusal::Usage(Usage::Words)),
-        Words::NoMemory => refuse(&mut err, Refusal::Memory),
+        Words::NotText => refuse(alloc, &mut err, Refusal::Usage(Usage::Words)),
+        Words::NoMemory => refuse(alloc, &mut err, Refusal::Memory),
     };
     ExitCode::from(status)
 }

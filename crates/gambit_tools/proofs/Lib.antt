@@ -3,3 +3,4 @@ pub mod Exact
 pub mod Outcomes
 pub mod Reading
 pub mod Taking
+pub mod Trees

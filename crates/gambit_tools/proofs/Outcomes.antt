@@ -1,65 +1,88 @@
--- what a run does where it is refused
-use Rattle.std.proofs.Common.{ℕ, ◌≡◌, ◌≤◌, ◌<◌, ◌⊎◌, ◌∙◌, inl, inr, sym, ap, subst, refl, arith, List, length, take, Option, None, Some, IfSome, Ok, Err, Result, OnOk, OnErr}
-use Rattle.std.proofs.lemmas.List.{take_all}
-use Rattle.outside.specs.Counts.{Rose}
-use Rattle.outside.specs.Sink.{Takes}
-use Rattle.outside.specs.declared.sink.WriteFailed.{WriteFailed}
-use Rattle.words.specs.declared.Settings.{Settings}
+-- refusals of an input whose bytes are known
+use Rattle.std.proofs.Common.{ℕ, ◌≡◌, ◌≤◌, ◌<◌, ◌⊎◌, ◌++◌, ◌∙◌, inl, inr, sym, ap, subst, refl, arith, List, ◌∷◌, length, Option, Some, IfSome, Ok, Err, Result}
+use Rattle.words.specs.Words.{Command, command_from}
 use Rattle.words.specs.declared.Usage.{Usage}
-use Rattle.words.specs.Words.{settings_of}
+use Rattle.game_core.specs.Table.{GameTable, game_of}
+use Rattle.game_core.specs.declared.too_large.TooLarge.{TooLarge}
+use Rattle.game_text.specs.declared.token.Token.{Token}
+use Rattle.game_text.specs.declared.token.Token.TheVariants.{Text, Word}
+use Rattle.game_text.proofs.Single.{one_list, no_list}
+use Rattle.nfg_reader.specs.TableFile.{braced_texts, IsTableFile, HasTooManyPayoffs}
+use Rattle.nfg_reader.specs.Stops.{too_many_payoffs}
+use Rattle.enumpure.specs.Text.{IsTextTooLong}
+use Rattle.enumpure.specs.Stops.{too_long_text}
 use Rattle.gambit_tools.specs.Seen.{InputsSeen, SinkSeen}
-use Rattle.gambit_tools.specs.Input.{most_bytes, CountsTell}
-use Rattle.gambit_tools.specs.Refusals.{status_of, refusal_line}
-use Rattle.gambit_tools.specs.Outcome.{HasCause, HasCauseWith, Tells, input_of, IsNoGame, IsAccepted, NoFault}
+use Rattle.gambit_tools.specs.Input.{most_bytes}
+use Rattle.gambit_tools.specs.Game.{AreRefused, BeginsAsTree, IsGameFile, IsTooManyFile, IsTooLongFile, tokens_of}
+use Rattle.gambit_tools.specs.Refusals.{status_of}
+use Rattle.gambit_tools.specs.Outcome.{HasCause, input_of, IsAccepted, NoFault}
 use Rattle.gambit_tools.specs.declared.refusal.Refusal.{Refusal}
 use Rattle.gambit_tools.specs.declared.refusal.Refusal.TheVariants as refusal
+use Rattle.nfg_reader.proofs.FileLaws.{one_table, not_too_many}
 
--- a front of the line was written, and the whole line where no fault was counted
-pub Tells-line : (before after : SinkSeen) (r : Refusal) (line : List ℕ) (result : Result (Unit {0}) WriteFailed) → line ≡ refusal_line r → OnOk result (Takes before.taken after.taken line) → OnErr result ((count : ℕ) × Takes before.taken after.taken (take count line)) → OnErr result (Rose before.faults after.faults) → Tells before after (Some r)
-Tells-line before after r line (Ok done) e whole front rose =
-    (length line, subst (λ x. Takes before.taken after.taken (take (length line) x)) e (subst (λ x. Takes before.taken after.taken x) (sym (take_all (length line) line (omega arith))) whole), inl (omega (arith, ap length e)))
-Tells-line before after r line (Err failed) e whole front rose =
-    (front.0, subst (λ x. Takes before.taken after.taken (take front.0 x)) e front.1, inr rose)
-
-some_same : (a b : Refusal) → Some a ≡ Some b → a ≡ b
-some_same a b e = cc
-
--- a counted fault of an input shows in the status
-pub status-input_faults : (before after : InputsSeen) (r : Refusal) (status : ℕ) → status ≡ status_of r → CountsTell before after (Some r) → (before.open_faults < after.open_faults) ⊎ (before.read_faults < after.read_faults) → (status ≡ 3) ⊎ (status ≡ 5)
-status-input_faults before after r status e tell (inl h) = inl (e ∙ ap status_of (some_same r refusal.OpenFault (tell.opening h)))
-status-input_faults before after r status e tell (inr h) = inl (e ∙ ap status_of (some_same r refusal.ReadFault (tell.reading h)))
-
-err_same : (a b : Refusal) → ◌≡◌ {A = Result (Unit {0}) Refusal} (Err a) (Err b) → a ≡ b
-err_same a b e = cc
-
--- a counted fault of the output shows in the status
-pub status-output_faults : (r : Refusal) (status : ℕ) → status ≡ status_of r → ◌≡◌ {A = Result (Unit {0}) Refusal} (Err r) (Err refusal.WriteFault) → status ≡ 4
-status-output_faults r status e f = e ∙ ap status_of (err_same r refusal.WriteFault f)
-
-ok_same : (a b : Settings) → ◌≡◌ {A = Result Settings Usage} (Ok a) (Ok b) → a ≡ b
+ok_same : (a b : Command) → ◌≡◌ {A = Result Command Usage} (Ok a) (Ok b) → a ≡ b
 ok_same a b e = cc
 
-err_is_no_ok : (u : Usage) (a : Settings) → ◌≡◌ {A = Result Settings Usage} (Err u) (Ok a) → ⊥
+pub err_is_no_ok : (u : Usage) (a : Command) → ◌≡◌ {A = Result Command Usage} (Err u) (Ok a) → ⊥
 err_is_no_ok u a e = cc
 
--- the input that accepted words name has the known bytes
-same_settings : (words : List (List ℕ)) (before : InputsSeen) (accepted : IsAccepted words before) (settings : Settings) → settings_of words ≡ Ok settings → before.held (input_of settings) ≡ Some accepted.bytes
-same_settings words before accepted settings e = ap (λ s. before.held (input_of s)) (ok_same settings accepted.settings (sym e ∙ accepted.are_settings)) ∙ accepted.are_bytes
+-- two commands of the same words name the same input
+pub same_input : (words : List (List ℕ)) (before : InputsSeen) (one other : Command) (bytes : List ℕ) → command_from words ≡ Ok one → before.held (input_of one) ≡ Some bytes → command_from words ≡ Ok other → before.held (input_of other) ≡ Some bytes
+same_input words before one other bytes e held f = ap (λ x. before.held (input_of x)) (ok_same other one (sym f ∙ e)) ∙ held
 
-too_long : (held : Option (List ℕ)) (bytes : List ℕ) → held ≡ Some bytes → length bytes ≤ most_bytes → IfSome held (λ b. most_bytes < length b) → ⊥
-too_long held bytes e few long = let h : most_bytes < length bytes = subst (λ x. IfSome x (λ b. most_bytes < length b)) e long in omega arith
+-- what is said of known bytes
+pub of_known : (known : Option (List ℕ)) (bytes : List ℕ) (P : List ℕ → Type 0) → known ≡ Some bytes → IfSome known P → P bytes
+of_known known bytes P e h = subst (λ k. IfSome k P) e h
 
-no_game : (held : Option (List ℕ)) (bytes : List ℕ) → held ≡ Some bytes → IfSome held (λ b. (length b ≤ most_bytes) × IsNoGame b) → IsNoGame bytes
-no_game held bytes e h = (subst (λ x. IfSome x (λ b. (length b ≤ most_bytes) × IsNoGame b)) e h).1
+-- the first byte of a first word
+abbrev first_byte : List Token → ℕ
+first_byte (Word (b ∷ _) ∷ _) = b
+first_byte _ = 0
+
+-- a file of a table is none of a tree
+pub no_tree : (tokens : List Token) (table : GameTable) → IsTableFile tokens table → BeginsAsTree tokens → ⊥
+no_tree tokens table file tree =
+    let begins : first_byte tokens ≡ 78 = ap first_byte (file.are_tokens ∙ ap (λ x. x ++ file.comment ++ file.body) (file.is_front.is_front ∙ ap (λ x. x ++ Text table.title ∷ braced_texts table.players ++ file.is_front.strategy_part) file.is_front.is_header.2)) in
+    let other : first_byte tokens ≡ 69 = ap first_byte tree.1 in
+    omega (arith, begins, other)
+
+-- a file of a table passes no limit where its text is not too long
+not_beyond : (bytes : List ℕ) (table : GameTable) (file : IsGameFile bytes table) (named : TooLarge) → ¬ (IsTextTooLong (game_of table)) → ((named ≡ too_many_payoffs) × IsTooManyFile bytes) ⊎ ((named ≡ too_long_text) × IsTooLongFile bytes) → ⊥
+not_beyond bytes table file named short (inl p) =
+    not_too_many (tokens_of file.tokens) table file.is_table file.few_payoffs (subst (λ t. HasTooManyPayoffs (tokens_of t)) (one_list bytes p.1.tokens file.tokens p.1.are_tokens file.are_tokens) p.1.too_many)
+not_beyond bytes table file named short (inr p) =
+    let other : IsTableFile (tokens_of file.tokens) p.1.table = subst (λ t. IsTableFile (tokens_of t) p.1.table) (one_list bytes p.1.is_file.tokens file.tokens p.1.is_file.are_tokens file.are_tokens) p.1.is_file.is_table in
+    short (subst (λ t. IsTextTooLong (game_of t)) (one_table (tokens_of file.tokens) p.1.table table other file.is_table) p.1.too_long)
+
+-- the bytes of a file of a table within its limits are not refused
+pub not_refused : (bytes : List ℕ) (table : GameTable) (file : IsGameFile bytes table) (r : Refusal) → length bytes ≤ most_bytes → ¬ (IsTextTooLong (game_of table)) → AreRefused bytes r → ⊥
+not_refused bytes table file (refusal.Usage u) few short refused = refused
+not_refused bytes table file refusal.OpenFault few short refused = refused
+not_refused bytes table file refusal.ReadFault few short refused = refused
+not_refused bytes table file refusal.WriteFault few short refused = refused
+not_refused bytes table file refusal.TooLong few short refused = let long : most_bytes < length bytes = refused in omega arith
+not_refused bytes table file (refusal.Text fault) few short refused = no_list bytes fault.at fault.kind file.tokens refused.1 file.are_tokens
+not_refused bytes table file (refusal.Nfg fault) few short refused =
+    refused.2.no_table table (subst (λ t. IsTableFile (tokens_of t) table) (one_list bytes file.tokens refused.2.tokens file.are_tokens refused.2.are_tokens) file.is_table)
+not_refused bytes table file (refusal.TooLarge counted count limit) few short refused = not_beyond bytes table file _ short refused.1
+not_refused bytes table file refusal.NotBuilt few short refused =
+    no_tree (tokens_of file.tokens) table file.is_table (subst (λ t. BeginsAsTree (tokens_of t)) (one_list bytes refused.1.tokens file.tokens refused.1.are_tokens file.are_tokens) refused.1.begins)
+not_refused bytes table file refusal.Memory few short refused = refused
+
+-- bytes that are accepted are not the cause
+not_by_bytes : (words : List (List ℕ)) (before : InputsSeen) (accepted : IsAccepted words before) (command : Command) (r : Refusal) → command_from words ≡ Ok command → IfSome (before.held (input_of command)) (λ b. AreRefused b r) → ⊥
+not_by_bytes words before accepted command r e refused =
+    not_refused accepted.bytes accepted.table accepted.is_file r accepted.within_limit accepted.short_text (of_known _ accepted.bytes (λ b. AreRefused b r) (same_input words before accepted.command command accepted.bytes accepted.is_command accepted.are_bytes e) refused)
 
 -- where the input is accepted and no fault was counted, only memory can be the cause
 pub status-accepted : (words : List (List ℕ)) (before after : InputsSeen) (out_before out_after : SinkSeen) (r : Refusal) → HasCause words before after out_before out_after r → IsAccepted words before → NoFault before after out_before out_after → status_of r ≡ 5
-status-accepted words before after out_before out_after (refusal.Usage u) cause accepted none = absurd (err_is_no_ok u accepted.settings (sym cause ∙ accepted.are_settings))
+status-accepted words before after out_before out_after (refusal.Usage u) cause accepted none = absurd (err_is_no_ok u accepted.command (sym cause ∙ accepted.is_command))
 status-accepted words before after out_before out_after refusal.OpenFault cause accepted none = absurd (none.opening cause.2.rose)
 status-accepted words before after out_before out_after refusal.ReadFault cause accepted none = absurd (none.reading cause.2.rose)
 status-accepted words before after out_before out_after refusal.WriteFault cause accepted none = absurd (none.writing cause.2)
-status-accepted words before after out_before out_after refusal.TooLong cause accepted none =
-    absurd (too_long _ accepted.bytes (same_settings words before accepted cause.0 cause.1) accepted.within_limit cause.2)
-status-accepted words before after out_before out_after refusal.NotBuilt cause accepted none =
-    absurd (no_game _ accepted.bytes (same_settings words before accepted cause.0 cause.1) cause.2 accepted.table accepted.is_file)
+status-accepted words before after out_before out_after refusal.TooLong cause accepted none = absurd (not_by_bytes words before accepted cause.0 refusal.TooLong cause.1 cause.2)
+status-accepted words before after out_before out_after (refusal.Text fault) cause accepted none = absurd (not_by_bytes words before accepted cause.0 (refusal.Text fault) cause.1 cause.2)
+status-accepted words before after out_before out_after (refusal.Nfg fault) cause accepted none = absurd (not_by_bytes words before accepted cause.0 (refusal.Nfg fault) cause.1 cause.2)
+status-accepted words before after out_before out_after (refusal.TooLarge counted count limit) cause accepted none = absurd (not_by_bytes words before accepted cause.0 (refusal.TooLarge counted count limit) cause.1 cause.2)
+status-accepted words before after out_before out_after refusal.NotBuilt cause accepted none = absurd (not_by_bytes words before accepted cause.0 refusal.NotBuilt cause.1 cause.2)
 status-accepted words before after out_before out_after refusal.Memory cause accepted none = refl

@@ -1,5 +1,5 @@
 -- how reading is refused
-use Rattle.std.proofs.Common.{ℕ, ◌≡◌, ◌<◌, ◌∙◌, sym, ap, subst, List, Option, None, Some}
+use Rattle.std.proofs.Common.{ℕ, ◌≡◌, ◌∙◌, subst, List, Option}
 use Rattle.outside.specs.Counts.{Rose}
 use Rattle.outside.specs.Inputs.{InputName}
 use Rattle.gambit_tools.specs.Input.{IsPieceRefusal, IsReadingRefusal}
@@ -14,4 +14,7 @@ IsReadingRefusal-piece left selected mid failed before between now refusal.ReadF
 IsReadingRefusal-piece left selected mid failed before between now refusal.WriteFault e f p = elim p [ ]
 IsReadingRefusal-piece left selected mid failed before between now refusal.TooLong e f p = elim p [ ]
 IsReadingRefusal-piece left selected mid failed before between now refusal.NotBuilt e f p = elim p [ ]
+IsReadingRefusal-piece left selected mid failed before between now (refusal.Text fault) e f p = elim p [ ]
+IsReadingRefusal-piece left selected mid failed before between now (refusal.Nfg fault) e f p = elim p [ ]
+IsReadingRefusal-piece left selected mid failed before between now (refusal.TooLarge counted count limit) e f p = elim p [ ]
 IsReadingRefusal-piece left selected mid failed before between now refusal.Memory e f p = p ∙ f

@@ -1,5 +1,5 @@
 -- The input that is read, and how reading it is refused.
-use Rattle.std.specs.Prelude.{ℕ, ◌<◌, ◌≤◌, ◌≡◌, List, length, Option, None, Some, IfSome}
+use Rattle.std.specs.Prelude.{ℕ, ◌<◌, ◌≡◌, List, length, Option, None, Some, IfSome}
 use Rattle.outside.specs.Counts.{Rose}
 use Rattle.outside.specs.Inputs.{InputName}
 use Rattle.gambit_tools.specs.Seen.{InputsSeen}

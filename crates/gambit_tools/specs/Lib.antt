@@ -1,3 +1,4 @@
+pub mod Game
 pub mod Input
 pub mod Laws
 pub mod Outcome

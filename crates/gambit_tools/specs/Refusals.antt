@@ -1,5 +1,12 @@
 -- The status and the line of each refusal.
-use Rattle.std.specs.Prelude.{ℕ, List, [], ◌∷◌, ◌++◌, Option, None, Some, codes}
+use Rattle.std.specs.Prelude.{ℕ, ◌≡◌, ◌⊎◌, List, [], ◌∷◌, ◌++◌, Option, None, Some, codes}
+use Rattle.std.specs.Fmt.{decimal}
+use Rattle.game_core.specs.declared.too_large.What.{What}
+use Rattle.game_core.specs.declared.too_large.What.TheVariants as what
+use Rattle.game_text.specs.declared.reading.TextKind.{TextKind}
+use Rattle.game_text.specs.declared.reading.TextKind.TheVariants as text_kind
+use Rattle.nfg_reader.specs.declared.reading.NfgKind.{NfgKind}
+use Rattle.nfg_reader.specs.declared.reading.NfgKind.TheVariants as nfg_kind
 use Rattle.words.specs.declared.Usage.{Usage}
 use Rattle.words.specs.declared.Usage.TheVariants as usage
 use Rattle.gambit_tools.specs.declared.refusal.Refusal.{Refusal}
@@ -12,6 +19,9 @@ status_of refusal.OpenFault = 3
 status_of refusal.ReadFault = 3
 status_of refusal.WriteFault = 4
 status_of refusal.TooLong = 1
+status_of (refusal.Text fault) = 1
+status_of (refusal.Nfg fault) = 1
+status_of (refusal.TooLarge counted count limit) = 1
 status_of refusal.NotBuilt = 1
 status_of refusal.Memory = 5
 
@@ -25,15 +35,54 @@ usage_text usage.NoTool = codes "no tool"
 usage_text usage.UnknownTool = codes "unknown tool"
 usage_text usage.Words = codes "words not understood"
 
+abbrev pub text_kind_text : TextKind → List ℕ
+text_kind_text text_kind.BadChar = codes "bad character"
+text_kind_text text_kind.OpenText = codes "unclosed text"
+text_kind_text text_kind.BadNumber = codes "bad number"
+text_kind_text text_kind.NumberTooLarge = codes "number too large"
+
+abbrev pub nfg_kind_text : NfgKind → List ℕ
+nfg_kind_text nfg_kind.Header = codes "header"
+nfg_kind_text nfg_kind.Players = codes "players"
+nfg_kind_text nfg_kind.Strategies = codes "strategies"
+nfg_kind_text nfg_kind.Outcome = codes "outcome"
+nfg_kind_text nfg_kind.PayoffCount = codes "payoff count"
+nfg_kind_text nfg_kind.Trailing = codes "trailing"
+
+abbrev pub what_text : What → List ℕ
+what_text what.Payoffs = codes "payoffs"
+what_text what.Choices = codes "choices"
+what_text what.Nodes = codes "nodes"
+what_text what.Depth = codes "depth"
+what_text what.Labels = codes "labels"
+what_text what.Bases = codes "bases"
+what_text what.Pairs = codes "pairs"
+what_text what.Rows = codes "rows"
+what_text what.Text = codes "bytes of text"
+
 abbrev pub refusal_text : Refusal → List ℕ
 refusal_text (refusal.Usage u) = usage_text u
 refusal_text refusal.OpenFault = codes "cannot open"
 refusal_text refusal.ReadFault = codes "read failed"
 refusal_text refusal.WriteFault = codes "write failed"
 refusal_text refusal.TooLong = codes "file longer than 16777216 bytes"
+refusal_text (refusal.Text fault) = codes "text fault at " ++ decimal fault.at ++ codes ": " ++ text_kind_text fault.kind
+refusal_text (refusal.Nfg fault) = codes "nfg fault at " ++ decimal fault.at ++ codes ": " ++ nfg_kind_text fault.kind
+refusal_text (refusal.TooLarge counted count limit) = codes "too large: " ++ decimal count ++ codes " " ++ what_text counted ++ codes ", limit " ++ decimal limit
 refusal_text refusal.NotBuilt = codes "not built yet"
 refusal_text refusal.Memory = codes "out of memory"
 
 -- the line of a refusal on standard error
 abbrev pub refusal_line : Refusal → List ℕ
 refusal_line r = codes "gambit: " ++ refusal_text r ++ 10 ∷ []
+
+-- a refusal whose line names numbers, so that forming it takes memory
+abbrev pub NamesNumbers : Refusal → Type 0
+NamesNumbers (refusal.Text fault) = Unit {0}
+NamesNumbers (refusal.Nfg fault) = Unit {0}
+NamesNumbers (refusal.TooLarge counted count limit) = Unit {0}
+NamesNumbers _ = ⊥
+
+-- the refusal that is told: itself, or want of memory where its line could not be formed
+abbrev pub IsToldAs : Refusal → Refusal → Type 0
+IsToldAs r told = (told ≡ r) ⊎ (NamesNumbers r × (told ≡ refusal.Memory))

@@ -9,4 +9,4 @@ mod tools;
 
 pub use refusal::Refusal;
 pub use tools::{refusals_are_exact, refuse, run};
-pub use words::{Settings, Usage, read_settings};
+pub use words::{Settings, SettingsStop, Usage, read_settings};

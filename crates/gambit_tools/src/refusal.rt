@@ -1,10 +1,18 @@
 // How a run is refused.
-ghost use Rattle.std.specs.Prelude.{◌≡◌};
+ghost use Rattle.std.specs.Prelude.{◌≡◌, IfOk, MatchOption, string_bytes};
+ghost use Rattle.gambit_tools.specs.Refusals.{text_kind_text, nfg_kind_text, what_text, refusal_line};
+ghost use Rattle.gambit_tools.specs.declared.refusal.Refusal.TheVariants as refusal;
 
+use game_core::{TooLarge, What};
+use game_text::{TextFault, TextKind};
+use memory::Memory;
+use nfg_reader::{NfgFault, NfgKind};
+use std::alloc::Global;
 use thiserror::Error;
 use words::Usage;
 
-/// Why a run is refused. The line on standard error is [`Refusal::line`]; the derived text is for debugging.
+/// Why a run is refused. The line on standard error is that of [`Refusal::line`]; the derived text is for
+/// debugging.
 #[derive(Clone, Copy, Debug, Error)]
 pub enum Refusal {
     /// The words are refused.
@@ -22,6 +30,15 @@ pub enum Refusal {
     /// An input has more than 16,777,216 bytes.
     #[error("input too long")]
     TooLong,
+    /// The bytes are no list of tokens: the first fault.
+    #[error("text fault")]
+    Text(TextFault),
+    /// The tokens are no file of a table.
+    #[error("nfg fault")]
+    Nfg(NfgFault),
+    /// A count passed its limit.
+    #[error("too large")]
+    TooLarge { what: What, count: u64, limit: u64 },
     /// The input is of a kind that is not read yet.
     #[error("not built yet")]
     NotBuilt,
@@ -30,8 +47,51 @@ pub enum Refusal {
     Memory,
 }
 
+// The words for a kind of fault in a text.
+fn text_kind_text(kind: TextKind) -> &'static str
+    ensures { result.now ≡ text_kind_text kind }
+{
+    match kind {
+        TextKind::BadChar => "bad character",
+        TextKind::OpenText => "unclosed text",
+        TextKind::BadNumber => "bad number",
+        TextKind::NumberTooLarge => "number too large",
+    }
+}
+
+// The words for a kind of fault in a file of a table.
+fn nfg_kind_text(kind: NfgKind) -> &'static str
+    ensures { result.now ≡ nfg_kind_text kind }
+{
+    match kind {
+        NfgKind::Header => "header",
+        NfgKind::Players => "players",
+        NfgKind::Strategies => "strategies",
+        NfgKind::Outcome => "outcome",
+        NfgKind::PayoffCount => "payoff count",
+        NfgKind::Trailing => "trailing",
+    }
+}
+
+// The words for what is counted against a limit.
+fn what_text(what: What) -> &'static str
+    ensures { result.now ≡ what_text what }
+{
+    match what {
+        What::Payoffs => "payoffs",
+        What::Choices => "choices",
+        What::Nodes => "nodes",
+        What::Depth => "depth",
+        What::Labels => "labels",
+        What::Bases => "bases",
+        What::Pairs => "pairs",
+        What::Rows => "rows",
+        What::Text => "bytes of text",
+    }
+}
+
 impl Refusal {
-    ghost use Rattle.gambit_tools.specs.Refusals.{status_of, refusal_line};
+    ghost use Rattle.gambit_tools.specs.Refusals.{status_of, refusal_line, NamesNumbers};
 
     /// The status with which the program ends: 1 for the game, 2 for the words, 3 for an input, 4 for the
     /// output, 5 for want of memory.
@@ -42,25 +102,77 @@ impl Refusal {
             Refusal::Usage(_) => 2,
             Refusal::OpenFault | Refusal::ReadFault => 3,
             Refusal::WriteFault => 4,
-            Refusal::TooLong | Refusal::NotBuilt => 1,
+            Refusal::TooLong
+            | Refusal::Text(_)
+            | Refusal::Nfg(_)
+            | Refusal::TooLarge { .. }
+            | Refusal::NotBuilt => 1,
             Refusal::Memory => 5,
         }
     }
 
-    /// The line on standard error, with its line feed.
-    pub fn line(&self) -> &'static str
-        ensures { result.now ≡ refusal_line self.now }
+    /// The line on standard error, with its line feed, where it names no numbers. Takes no memory.
+    pub fn fixed_line(&self) -> Option<&'static str>
+        ensures { MatchOption result (NamesNumbers self.now) (λ line. line.now ≡ refusal_line self.now) }
     {
         match self {
-            Refusal::Usage(Usage::NoTool) => "gambit: no tool\n",
-            Refusal::Usage(Usage::UnknownTool) => "gambit: unknown tool\n",
-            Refusal::Usage(Usage::Words) => "gambit: words not understood\n",
-            Refusal::OpenFault => "gambit: cannot open\n",
-            Refusal::ReadFault => "gambit: read failed\n",
-            Refusal::WriteFault => "gambit: write failed\n",
-            Refusal::TooLong => "gambit: file longer than 16777216 bytes\n",
-            Refusal::NotBuilt => "gambit: not built yet\n",
-            Refusal::Memory => "gambit: out of memory\n",
+            Refusal::Usage(Usage::NoTool) => Some("gambit: no tool\n"),
+            Refusal::Usage(Usage::UnknownTool) => Some("gambit: unknown tool\n"),
+            Refusal::Usage(Usage::Words) => Some("gambit: words not understood\n"),
+            Refusal::OpenFault => Some("gambit: cannot open\n"),
+            Refusal::ReadFault => Some("gambit: read failed\n"),
+            Refusal::WriteFault => Some("gambit: write failed\n"),
+            Refusal::TooLong => Some("gambit: file longer than 16777216 bytes\n"),
+            Refusal::NotBuilt => Some("gambit: not built yet\n"),
+            Refusal::Memory => Some("gambit: out of memory\n"),
+            Refusal::Text(_) | Refusal::Nfg(_) | Refusal::TooLarge { .. } => None,
         }
     }
+
+    /// The line on standard error, with its line feed.
+    pub fn line(&self, alloc: Global) -> Result<String, Memory>
+        ensures { IfOk result (λ line. string_bytes line ≡ refusal_line self.now) }
+    {
+        match self {
+            Refusal::Text(fault) => text_line(alloc, *fault),
+            Refusal::Nfg(fault) => nfg_line(alloc, *fault),
+            Refusal::TooLarge { what, count, limit } => {
+                let passed = TooLarge {
+                    what: *what,
+                    count: *count,
+                    limit: *limit,
+                };
+                limit_line(alloc, passed)
+            }
+            _ => match self.fixed_line() {
+                Some(line) => Ok(String::from_str(alloc, line)?),
+                None => Err(Memory),
+            },
+        }
+    }
+}
+
+fn text_line(alloc: Global, fault: TextFault) -> Result<String, Memory>
+    ensures { IfOk result (λ line. string_bytes line ≡ refusal_line (refusal.Text fault)) }
+{
+    let at = fault.at;
+    let kind = text_kind_text(fault.kind);
+    Ok(format!(in alloc; "gambit: text fault at {at}: {kind}\n")?)
+}
+
+fn nfg_line(alloc: Global, fault: NfgFault) -> Result<String, Memory>
+    ensures { IfOk result (λ line. string_bytes line ≡ refusal_line (refusal.Nfg fault)) }
+{
+    let at = fault.at;
+    let kind = nfg_kind_text(fault.kind);
+    Ok(format!(in alloc; "gambit: nfg fault at {at}: {kind}\n")?)
+}
+
+fn limit_line(alloc: Global, passed: TooLarge) -> Result<String, Memory>
+    ensures { IfOk result (λ line. string_bytes line ≡ refusal_line (refusal.TooLarge passed.what passed.count passed.limit)) }
+{
+    let what = what_text(passed.what);
+    let count = passed.count;
+    let limit = passed.limit;
+    Ok(format!(in alloc; "gambit: too large: {count} {what}, limit {limit}\n")?)
 }

@@ -1,41 +1,93 @@
 // The top call.
-ghost use Rattle.std.specs.Prelude.{◌≡◌, ℕ, ◌<◌, ◌⊎◌, List, Option, None, Some, map, string_bytes, IfOk, IfErr, IsErrOf};
+ghost use Rattle.std.specs.Prelude.{option_map, ◌≡◌, ℕ, ◌<◌, ◌≤◌, ◌⊎◌, ◌↔◌, List, Option, None, Some, length, map, codes, string_bytes, IsTrue, IfOk, IfErr};
 ghost use Rattle.std.specs.Result.{result_err};
 ghost use Rattle.outside.specs.Inputs.{InputName};
-ghost use Rattle.enumpure.specs.Text.{IsPureEquilibriaText};
-ghost use Rattle.game_core.specs.Table.{GameTable, game_of};
-ghost use Rattle.nfg_reader.specs.PlainFile.{IsPlainFile};
+ghost use Rattle.words.specs.Words.{command_of};
 ghost use Rattle.gambit_tools.specs.Seen.{inputs_seen, sink_seen};
-ghost use Rattle.gambit_tools.specs.Input.{CountsTell};
-ghost use Rattle.gambit_tools.specs.Refusals.{status_of};
+ghost use Rattle.gambit_tools.specs.Input.{CountsTell, most_bytes};
+ghost use Rattle.gambit_tools.specs.Game.{IsTextOf, AreRefused, BeginsAsTree, tokens_of};
+ghost use Rattle.gambit_tools.specs.Refusals.{status_of, IsToldAs, NamesNumbers};
 ghost use Rattle.gambit_tools.specs.Laws.{RefusalsAreExact};
-ghost use Rattle.gambit_tools.specs.Outcome.{HasCause, Writes, Tells, IsOutcome, IsAccepted, NoFault, IsNoGame};
+ghost use Rattle.gambit_tools.specs.Outcome.{input_of, HasCause, Writes, Tells, TakesLine, IsOutcome, IsAccepted, NoFault};
 ghost use Rattle.gambit_tools.specs.declared.refusal.Refusal.{Refusal};
+ghost use Rattle.game_text.specs.declared.token.Token.TheVariants as token_kind;
 
 use crate::input::read_input;
 use crate::output::write_text;
 use crate::refusal::Refusal;
-use enumpure::list_pure_equilibria;
-use nfg_reader::{PlainStop, read_plain};
+use enumpure::{ListStop, list_pure_equilibria};
+use game_core::TooLarge;
+use game_text::{TextStop, Token, Tokens, read_tokens};
+use nfg_reader::{NfgStop, read};
 use outside::{Gate, Inputs, Sink};
 use std::alloc::Global;
 use std::thread::Threads;
-use words::{Settings, read_settings};
+use words::{Settings, SettingsStop, read_settings};
+
+/// The refusal for a count that passed its limit.
+fn too_large(passed: TooLarge) -> Refusal
+    ensures { result ≡ Refusal.TooLarge passed.what passed.count passed.limit }
+{
+    Refusal::TooLarge {
+        what: passed.what,
+        count: passed.count,
+        limit: passed.limit,
+    }
+}
+
+/// Whether a token is the word with which a file of a tree begins.
+fn is_tree_word(token: &Token) -> bool
+    ensures { IsTrue result ↔ (token.now ≡ token_kind.Word (codes "EFG")) }
+{
+    match token {
+        Token::Word(word) => word.bytes() == b"EFG".as_slice(),
+        _ => false,
+    }
+}
+
+/// Whether the tokens begin as those of a file of a tree.
+fn begins_as_tree(tokens: &Tokens) -> bool
+    ensures { IsTrue result ↔ BeginsAsTree (tokens_of tokens.now) }
+{
+    match tokens.list().split_first() {
+        Some((spanned, _)) => is_tree_word(&spanned.token),
+        None => false,
+    }
+}
 
 /// The text of the pure equilibria of the game that the bytes stand for.
 fn pure_equilibria_text(alloc: Global, bytes: &[u8]) -> Result<Vec<u8>, Refusal>
-    ensures text { IfOk result (λ text. (table : GameTable) × IsPlainFile bytes.now table × IsPureEquilibriaText (game_of table) text.items) }
-    ensures not_built { IsErrOf result Refusal.NotBuilt → IsNoGame bytes.now }
-    ensures only { IfErr result (λ r. (r ≡ Refusal.NotBuilt) ⊎ (r ≡ Refusal.Memory)) }
+    requires { length bytes.now ≤ most_bytes }
+    ensures text { IfOk result (λ text. IsTextOf bytes.now text.items) }
+    ensures refused { IfErr result (λ r. (r ≡ Refusal.Memory) ⊎ AreRefused bytes.now r) }
 {
-    let table = match read_plain(alloc, bytes) {
+    let tokens = match read_tokens(alloc, bytes) {
+        Ok(tokens) => tokens,
+        Err(TextStop::Fault(fault)) => return Err(Refusal::Text(fault)),
+        Err(TextStop::Memory) => return Err(Refusal::Memory),
+    };
+    if begins_as_tree(&tokens) {
+        return Err(Refusal::NotBuilt);
+    }
+    let table = match read(alloc, &tokens) {
         Ok(table) => table,
-        Err(PlainStop::NotPlain) => return Err(Refusal::NotBuilt),
-        Err(PlainStop::Memory) => return Err(Refusal::Memory),
+        Err(NfgStop::Fault(fault)) => return Err(Refusal::Nfg(fault)),
+        Err(NfgStop::TooLarge(passed)) => return Err(too_large(passed)),
+        Err(NfgStop::Memory) => return Err(Refusal::Memory),
     };
     match list_pure_equilibria(alloc, &table) {
         Ok(text) => Ok(text),
-        Err(_) => Err(Refusal::Memory),
+        Err(ListStop::TooLarge(passed)) => Err(too_large(passed)),
+        Err(ListStop::Memory) => Err(Refusal::Memory),
+    }
+}
+
+/// The name of the input that the settings read.
+fn input_name(settings: Settings) -> Option<String>
+    ensures { option_map string_bytes result ≡ input_of (command_of settings) }
+{
+    match settings {
+        Settings::Enumpure { file } => file,
     }
 }
 
@@ -59,30 +111,57 @@ fn answer<I: Inputs, K: Sink>(
     ensures output_faults { K.faults out.old < K.faults out.new → result ≡ Err Refusal.WriteFault }
     ensures held { (n : InputName) → I.held inputs.new n ≡ I.held inputs.old n }
 {
-    let settings = match read_settings(words) {
+    let settings = match read_settings(alloc, words) {
         Ok(settings) => settings,
-        Err(usage) => return Err(Refusal::Usage(usage)),
+        Err(SettingsStop::Usage(usage)) => return Err(Refusal::Usage(usage)),
+        Err(SettingsStop::Memory) => return Err(Refusal::Memory),
     };
-    let text = match settings {
-        Settings::Enumpure => {
-            let bytes = read_input(alloc, inputs, None)?;
-            pure_equilibria_text(alloc, &bytes)?
-        }
-    };
+    let bytes = read_input(alloc, inputs, input_name(settings))?;
+    let text = pure_equilibria_text(alloc, &bytes)?;
     match write_text(out, &text) {
         Ok(()) => Ok(()),
         Err(_) => Err(Refusal::WriteFault),
     }
 }
 
-/// Writes the line of a refusal, and answers its status. A fault of the sink ends the writing and changes no
-/// status. Takes no memory.
-pub fn refuse<E: Sink>(err: &mut E, refusal: Refusal) -> u8
-    ensures status { result ≡ status_of refusal }
-    ensures tells { Tells (sink_seen E.taken E.flushed E.faults err.old) (sink_seen E.taken E.flushed E.faults err.new) (Some refusal) }
+/// Writes a line. A fault of the sink ends the writing. Takes no memory.
+fn write_line<E: Sink>(err: &mut E, line: &str)
+    ensures { TakesLine (sink_seen E.taken E.flushed E.faults err.old) (sink_seen E.taken E.flushed E.faults err.new) line.now }
 {
-    let _ = write_text(err, refusal.line().as_bytes());
-    refusal.status()
+    let _ = write_text(err, line.as_bytes());
+}
+
+/// Writes the line of a refusal that names numbers, or that of want of memory where it cannot be formed.
+fn refuse_with_numbers<E: Sink>(alloc: Global, err: &mut E, refusal: Refusal) -> u8
+    requires { NamesNumbers refusal }
+    ensures { (told : Refusal) × IsToldAs refusal told × (result ≡ status_of told)
+        × Tells (sink_seen E.taken E.flushed E.faults err.old) (sink_seen E.taken E.flushed E.faults err.new) (Some told) }
+{
+    match refusal.line(alloc) {
+        Ok(line) => {
+            write_line(err, line.as_str());
+            refusal.status()
+        }
+        Err(_) => {
+            write_line(err, "gambit: out of memory\n");
+            5
+        }
+    }
+}
+
+/// Writes the line of a refusal, and answers its status. Where the line names numbers and there is no memory to
+/// form it, want of memory is told in its place. A fault of the sink ends the writing and changes no status.
+pub fn refuse<E: Sink>(alloc: Global, err: &mut E, refusal: Refusal) -> u8
+    ensures { (told : Refusal) × IsToldAs refusal told × (result ≡ status_of told)
+        × Tells (sink_seen E.taken E.flushed E.faults err.old) (sink_seen E.taken E.flushed E.faults err.new) (Some told) }
+{
+    match refusal.fixed_line() {
+        Some(line) => {
+            write_line(err, line);
+            refusal.status()
+        }
+        None => refuse_with_numbers(alloc, err, refusal),
+    }
 }
 
 /// Does all that the program does, and answers the status with which it ends.
@@ -118,12 +197,12 @@ pub fn run<R: Threads + Sync, I: Inputs, K: Sink, E: Sink, G: Gate>(
 {
     match answer(alloc, words, inputs, out) {
         Ok(()) => 0,
-        Err(refusal) => refuse(err, refusal),
+        Err(refusal) => refuse(alloc, err, refusal),
     }
 }
 
 /// The causes of a run's refusals exclude each other: the words alone decide a usage refusal, and the bytes alone
-/// whether the input is too long or no game.
+/// the kind of a refusal of the input.
 pub fn refusals_are_exact()
     ensures { RefusalsAreExact }
 {}

@@ -1,2 +1,3 @@
-pub mod PlainFile
-pub mod PlainReading
+pub mod Stops
+pub mod TableFile
+pub mod TableReading

@@ -1,11 +1,15 @@
 //! Reads files of games in table form.
 #![tactic(auto)]
 
-mod numbers;
-mod plain;
-mod tokens;
+mod front;
+mod lists;
+mod outcomes;
+mod pieces;
+mod reading;
+mod refusal;
+mod strategies;
 
-pub use plain::{PlainStop, plain_files_have_one_table, read_plain};
+pub use reading::{NfgFault, NfgKind, NfgStop, files_have_one_table, read};
 
 #[cfg(test)]
 mod tests;

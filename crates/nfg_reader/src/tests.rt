@@ -1,6 +1,7 @@
 use super::*;
 use frac128::Frac;
-use game_core::{Name, Table};
+use game_core::{Name, Table, TooLarge, What};
+use game_text::read_tokens;
 use std::alloc::{AllocError, Global};
 
 // The title, the players' names, and each player's strategies' names, with a comma behind each name.
@@ -25,94 +26,293 @@ fn put(text: &mut Vec<u8>, name: &Name) -> Result<(), AllocError> {
     Ok(())
 }
 
-fn whole_numbers(alloc: Global, numbers: &[i128]) -> Result<Vec<Option<Frac>>, AllocError> {
-    let mut fractions = Vec::new(alloc);
-    for number in numbers {
-        fractions.push(Frac::new(*number, 1))?;
+// What the reader answers on a text; a text without tokens is out of memory here.
+fn answer(alloc: Global, text: &str) -> Result<Table, NfgStop> {
+    match read_tokens(alloc, text.as_bytes()) {
+        Ok(tokens) => read(alloc, &tokens),
+        Err(_) => Err(NfgStop::Memory),
     }
-    Ok(fractions)
 }
 
 #[test]
-fn reads_plain_files(rt: HostRuntime) {
-    let most = 999999999999999999;
+fn reads_tables(rt: HostRuntime) {
     for (text, names, payoffs) in [
         (
             "NFG 1 R \"PD\" { \"A\" \"B\" } { 2 2 } 3 3 5 0 0 5 1 1",
             "PD,A,B,1,2,1,2,",
-            [3, 3, 5, 0, 0, 5, 1, 1].as_slice(),
-        ),
-        (
-            "\n\n  NFG 1\nR   \"PD\"\n{ \"A\" \"B\" }\n{ 2 2 }\n\n3 3 5 0\n0 5 1 1 \n",
-            "PD,A,B,1,2,1,2,",
-            [3, 3, 5, 0, 0, 5, 1, 1].as_slice(),
-        ),
-        (
-            "NFG 1 R \"\" { \"\" \"\" } { 1 1 } -0 007",
-            ",,,1,1,",
-            [0, 7].as_slice(),
-        ),
-        (
-            "NFG 1 R \"two { words\n\" { \"a b\" \"}\" } { 1 1 } 999999999999999999 -999999999999999999",
-            "two { words\n,a b,},1,1,",
-            [most, -most].as_slice(),
-        ),
-        (
-            "NFG 1 R \"\" { \"A\" \"B\" } { 1 10 } 0 1 2 3 4 5 6 7 8 9 10 11 12 13 14 15 16 17 18 -19",
-            ",A,B,1,1,2,3,4,5,6,7,8,9,10,",
             [
-                0, 1, 2, 3, 4, 5, 6, 7, 8, 9, 10, 11, 12, 13, 14, 15, 16, 17, 18, -19,
+                (3, 1),
+                (3, 1),
+                (5, 1),
+                (0, 1),
+                (0, 1),
+                (5, 1),
+                (1, 1),
+                (1, 1),
             ]
             .as_slice(),
         ),
+        (
+            "NFG 1.0 D \"PD\"{\"A\"\"B\"}{2 1}\n1 2\t3 4",
+            "PD,A,B,1,2,1,",
+            [(1, 1), (2, 1), (3, 1), (4, 1)].as_slice(),
+        ),
+        (
+            "NFG 1 R \"\" { \"a\" \"b\" \"c\" } { { \"x\" \"y\" } { \"z\" } { \"u\" } } \"a comment\" 1 2 3 4 5 6",
+            ",a,b,c,x,y,z,u,",
+            [(1, 1), (2, 1), (3, 1), (4, 1), (5, 1), (6, 1)].as_slice(),
+        ),
+        (
+            "NFG 1 R \"\" { \"A\" \"B\" } { 1 1 } 1/2 -0.25",
+            ",A,B,1,1,",
+            [(1, 2), (-1, 4)].as_slice(),
+        ),
+        (
+            "NFG 1 R \"\" { \"A\" \"B\" } { 1 2 } 1, 2 3,4",
+            ",A,B,1,1,2,",
+            [(1, 1), (2, 1), (3, 1), (4, 1)].as_slice(),
+        ),
+        (
+            "NFG 1 R \"Selten\" { \"Player 1\" \"Player 2\" } { { \"1\" \"2\" \"3\" } { \"1\" \"2\" } } \"\" { { \"\" 1, 1 } { \"\" 0, 2 } { \"\" 0, 2 } { \"\" 1, 1 } { \"\" 0, 3 } { \"\" 2, 0 } } 1 2 3 4 5 6",
+            "Selten,Player 1,Player 2,1,2,3,1,2,",
+            [
+                (1, 1),
+                (1, 1),
+                (0, 1),
+                (2, 1),
+                (0, 1),
+                (2, 1),
+                (1, 1),
+                (1, 1),
+                (0, 1),
+                (3, 1),
+                (2, 1),
+                (0, 1),
+            ]
+            .as_slice(),
+        ),
+        (
+            "NFG 1 R \"\" { \"A\" \"B\" } { 3 1 } { { \"\" 7 8 } { \"\" 5 6 } } 2 0 1",
+            ",A,B,1,2,3,1,",
+            [(5, 1), (6, 1), (0, 1), (0, 1), (7, 1), (8, 1)].as_slice(),
+        ),
+        (
+            "NFG 1 R \"\" { \"A\" \"B\" } { 1 1 } { } 0",
+            ",A,B,1,1,",
+            [(0, 1), (0, 1)].as_slice(),
+        ),
     ] {
-        let table = read_plain(rt.alloc(), text.as_bytes()).expect(&rt, text);
+        let table = match answer(rt.alloc(), text) {
+            Ok(table) => table,
+            Err(_) => panic!(rt; "refused: {text}"),
+        };
         let read = names_of(rt.alloc(), &table).expect(&rt, "memory");
         assert!(rt; read.as_slice() == names.as_bytes());
-        let expected = whole_numbers(rt.alloc(), payoffs).expect(&rt, "memory");
-        assert!(rt; table.payoffs().len() == expected.len());
-        for (payoff, number) in table.payoffs().iter().zip(expected.as_slice()) {
-            assert!(rt; Some(*payoff) == *number);
+        assert!(rt; table.payoffs().len() == payoffs.len());
+        for (payoff, parts) in table.payoffs().iter().zip(payoffs) {
+            assert!(rt; Some(*payoff) == Frac::new(parts.0, parts.1));
         }
     }
 }
 
 #[test]
-fn refuses_other_files(rt: HostRuntime) {
-    for text in [
-        "",
-        "\n",
-        "NFG 1 R \"\" { \"A\" } { 1 } 7",
-        "NFG 1 R \"\" { \"A\" \"B\" } { 2 1 } 1 2 3",
-        "NFG 1 R \"\" { \"A\" \"B\" } { 2 1 } 1 2 3 4 5",
-        "NFG 1 R \"\" { \"A\" \"B\" } { 0 1 }",
-        "NFG 1 R \"\" { \"A\" \"B\" } { 01 1 } 1 2",
-        "NFG 1 R \"\" { \"A\" \"B\" } { 1 02 } 1 2 3 4",
-        "NFG 1 R \"\" { \"A\" \"B\" } { 1 +1 } 1 2",
-        "NFG 1 R \"\" { \"A\" \"B\" } { 101 1 } 1 2",
-        "NFG 1 R \"\" { \"A\" \"B\" } { 1 1 } 1000000000000000000 2",
-        "NFG 1 R \"\" { \"A\" \"B\" } { 1 1 } 1 0000000000000000000",
-        "NFG 1 R \"\" { \"A\" \"B\" } { 1 1 } 1 -",
-        "NFG 1 R \"\" { \"A\" \"B\" } { 1 1 } 1 --2",
-        "NFG 1 R \"\" { \"A\" \"B\" } { 1 1 } 1 +2",
-        "NFG 1 R \"\" { \"A\" \"B\" } { 1 1 } 1 2.0",
-        "NFG 1 R \"\" { \"A\" \"B\" } { 1 1 } 1 2/1",
-        "NFG 1 R \"a\"b\" { \"A\" \"B\" } { 1 1 } 1 2",
-        "NFG 1 R \"a\\b\" { \"A\" \"B\" } { 1 1 } 1 2",
-        "NFG 1 R \"\" { \"A\" \"B } { 1 1 } 1 2",
-        "NFG 1 R \"\" { \"A\"\t\"B\" } { 1 1 } 1 2",
-        "NFG 1 R \"\" { \"A\" \"B\" } { 1 1 } 1\t2",
-        "NFG 1 R \"\" { \"A\" \"B\" } { 1 1 } 1 2\r\n",
-        "NFG 1 R \"\"{ \"A\" \"B\" } { 1 1 } 1 2",
-        "NFG 1 R \"\" { \"A\" \"B\"} { 1 1 } 1 2",
-        "NFG 1 R \"\" {\"A\" \"B\" } { 1 1 } 1 2",
-        "NFG 1 R \"\" { A B } { 1 1 } 1 2",
-        "NFG 1 D \"\" { \"A\" \"B\" } { 1 1 } 1 2",
-        "NFG 2 R \"\" { \"A\" \"B\" } { 1 1 } 1 2",
-        "nfg 1 R \"\" { \"A\" \"B\" } { 1 1 } 1 2",
-        "NFG 1 R \"\" { \"A\" \"B\" } { 1 1 } 1 2 }",
+fn names_faults(rt: HostRuntime) {
+    for (text, kind, at) in [
+        ("", NfgKind::Header, 0),
+        (
+            "nfg 1 R \"\" { \"A\" \"B\" } { 1 1 } 1 2",
+            NfgKind::Header,
+            0,
+        ),
+        (
+            "NFG 2 R \"\" { \"A\" \"B\" } { 1 1 } 1 2",
+            NfgKind::Header,
+            4,
+        ),
+        (
+            "NFG 1 S \"\" { \"A\" \"B\" } { 1 1 } 1 2",
+            NfgKind::Header,
+            6,
+        ),
+        ("NFG 1 R { \"A\" \"B\" } { 1 1 } 1 2", NfgKind::Header, 8),
+        ("NFG 1 R", NfgKind::Header, 7),
+        ("NFG 1 R \"\" 5 { 2 2 } 1 2", NfgKind::Players, 11),
+        ("NFG 1 R \"\" { } { 1 1 } 1 2", NfgKind::Players, 13),
+        ("NFG 1 R \"\" { 2 2 } 1 2", NfgKind::Players, 13),
+        ("NFG 1 R \"\" { \"A\" 7 } { 1 1 } 1 2", NfgKind::Players, 17),
+        ("NFG 1 R \"\" { \"A\" \"B\" } 1 2", NfgKind::Strategies, 23),
+        (
+            "NFG 1 R \"\" { \"A\" \"B\" } { 2 0 } 1 2",
+            NfgKind::Strategies,
+            27,
+        ),
+        (
+            "NFG 1 R \"\" { \"A\" \"B\" } { 1.5 2 } 1 2",
+            NfgKind::Strategies,
+            25,
+        ),
+        (
+            "NFG 1 R \"\" { \"A\" \"B\" } { 2 -2 } 1 2",
+            NfgKind::Strategies,
+            27,
+        ),
+        (
+            "NFG 1 R \"\" { \"A\" \"B\" } { 1 } 1 2",
+            NfgKind::Strategies,
+            27,
+        ),
+        (
+            "NFG 1 R \"\" { \"A\" \"B\" } { 1 1 1 } 1 2",
+            NfgKind::Strategies,
+            29,
+        ),
+        (
+            "NFG 1 R \"\" { \"A\" \"B\" } { { \"a\" } } 1 2",
+            NfgKind::Strategies,
+            33,
+        ),
+        (
+            "NFG 1 R \"\" { \"A\" \"B\" } { { \"a\" } { \"b\" } { \"c\" } } 1 2",
+            NfgKind::Strategies,
+            41,
+        ),
+        (
+            "NFG 1 R \"\" { \"A\" \"B\" } { { \"a\" } { } } 1 2",
+            NfgKind::Strategies,
+            35,
+        ),
+        (
+            "NFG 1 R \"\" { \"A\" \"B\" } { { \"a\" 1 } { \"b\" } } 1 2",
+            NfgKind::Strategies,
+            31,
+        ),
+        (
+            "NFG 1 R \"PD\" { \"A\" \"B\" } { 2 2 } 3 3 5 0 0 5 1",
+            NfgKind::PayoffCount,
+            46,
+        ),
+        (
+            "NFG 1 R \"\" { \"A\" \"B\" } { 1 1 } }",
+            NfgKind::PayoffCount,
+            31,
+        ),
+        (
+            "NFG 1 R \"\" { \"A\" \"B\" } { 1 1 } word",
+            NfgKind::PayoffCount,
+            31,
+        ),
+        (
+            "NFG 1 R \"\" { \"A\" \"B\" } { 1 1 } , 1 2",
+            NfgKind::PayoffCount,
+            31,
+        ),
+        (
+            "NFG 1 R \"\" { \"A\" \"B\" } { 1 1 } 1, , 2",
+            NfgKind::PayoffCount,
+            34,
+        ),
+        (
+            "NFG 1 R \"\" { \"A\" \"B\" } { 1 1 } 1 x",
+            NfgKind::PayoffCount,
+            33,
+        ),
+        (
+            "NFG 1 R \"\" { \"A\" \"B\" } { 724 724 }",
+            NfgKind::PayoffCount,
+            34,
+        ),
+        (
+            "NFG 1 R \"PD\" { \"A\" \"B\" } { 2 2 } 3 3 5 0 0 5 1 1 9",
+            NfgKind::Trailing,
+            49,
+        ),
+        (
+            "NFG 1 R \"\" { \"A\" \"B\" } { 1 1 } 1 2,",
+            NfgKind::Trailing,
+            34,
+        ),
+        (
+            "NFG 1 R \"\" { \"A\" \"B\" } { 1 1 } { 1 } 1",
+            NfgKind::Outcome,
+            33,
+        ),
+        (
+            "NFG 1 R \"\" { \"A\" \"B\" } { 1 1 } { { 1 2 } } 1",
+            NfgKind::Outcome,
+            35,
+        ),
+        (
+            "NFG 1 R \"\" { \"A\" \"B\" } { 1 1 } { { \"\" 1 } } 1",
+            NfgKind::Outcome,
+            40,
+        ),
+        (
+            "NFG 1 R \"\" { \"A\" \"B\" } { 1 1 } { { \"\" 1, , 2 } } 1",
+            NfgKind::Outcome,
+            41,
+        ),
+        (
+            "NFG 1 R \"\" { \"A\" \"B\" } { 1 1 } { { \"\" 1, 2, } } 1",
+            NfgKind::Outcome,
+            42,
+        ),
+        (
+            "NFG 1 R \"\" { \"A\" \"B\" } { 1 1 } { { \"\" 1 2 } ",
+            NfgKind::Outcome,
+            44,
+        ),
+        (
+            "NFG 1 R \"\" { \"A\" \"B\" } { 1 1 } { { \"\" 1 2 } } 2",
+            NfgKind::Outcome,
+            46,
+        ),
+        (
+            "NFG 1 R \"Selten\" { \"Player 1\" \"Player 2\" } { { \"1\" \"2\" \"3\" } { \"1\" \"2\" } } \"\" { { \"\" 1, 1 } { \"\" 0, 2 } { \"\" 0, 2 } { \"\" 1, 1 } { \"\" 0, 3 } { \"\" 2, 0 } } 1 2 3 4 5 7",
+            NfgKind::Outcome,
+            164,
+        ),
+        (
+            "NFG 1 R \"Selten\" { \"Player 1\" \"Player 2\" } { { \"1\" \"2\" \"3\" } { \"1\" \"2\" } } \"\" { { \"\" 1, 1 } { \"\" 0, 2 } { \"\" 0, 2 } { \"\" 1, 1 } { \"\" 0, 3 } { \"\" 2, 0 } } 1 2 3 4 5",
+            NfgKind::PayoffCount,
+            163,
+        ),
+        (
+            "NFG 1 R \"Selten\" { \"Player 1\" \"Player 2\" } { { \"1\" \"2\" \"3\" } { \"1\" \"2\" } } \"\" { { \"\" 1, 1 } { \"\" 0, 2 } { \"\" 0, 2 } { \"\" 1, 1 } { \"\" 0, 3 } { \"\" 2, 0 } } 1 2 -3 4 5 6",
+            NfgKind::PayoffCount,
+            158,
+        ),
+        (
+            "NFG 1 R \"Selten\" { \"Player 1\" \"Player 2\" } { { \"1\" \"2\" \"3\" } { \"1\" \"2\" } } \"\" { { \"\" 1, 1 } { \"\" 0, 2 } { \"\" 0, 2 } { \"\" 1, 1 } { \"\" 0, 3 } { \"\" 2, 0 } } 1 2 0.5 4 5 6",
+            NfgKind::PayoffCount,
+            158,
+        ),
+        (
+            "NFG 1 R \"Selten\" { \"Player 1\" \"Player 2\" } { { \"1\" \"2\" \"3\" } { \"1\" \"2\" } } \"\" { { \"\" 1, 1 } { \"\" 0, 2 } { \"\" 0, 2 } { \"\" 1, 1 } { \"\" 0, 3 } { \"\" 2, 0 } } 1 2 3 4 5 6 0",
+            NfgKind::Trailing,
+            166,
+        ),
     ] {
-        let answer = read_plain(rt.alloc(), text.as_bytes());
-        assert!(rt; matches!(answer, Err(PlainStop::NotPlain)), "{text}");
+        let refused =
+            matches!(answer(rt.alloc(), text), Err(NfgStop::Fault(fault)) if fault == NfgFault { at, kind });
+        assert!(rt; refused, "{text}");
+    }
+}
+
+#[test]
+fn keeps_the_limit(rt: HostRuntime) {
+    for text in [
+        "NFG 1 R \"\" { \"A\" \"B\" } { 1024 513 }",
+        "NFG 1 R \"\" { \"A\" \"B\" } { 1024 513 } 1 2 }",
+        "NFG 1 R \"\" { \"A\" \"B\" } { 9000000000000000000 9000000000000000000 }",
+        "NFG 1 R \"\" { \"A\" \"B\" \"C\" \"D\" \"E\" \"F\" } { 9000000000000000000 9000000000000000000 9000000000000000000 9000000000000000000 9000000000000000000 9000000000000000000 } 1",
+    ] {
+        let limit = TooLarge {
+            what: What::Payoffs,
+            count: 1048577,
+            limit: 1048576,
+        };
+        let refused =
+            matches!(answer(rt.alloc(), text), Err(NfgStop::TooLarge(stop)) if stop == limit);
+        assert!(rt; refused, "{text}");
     }
 }

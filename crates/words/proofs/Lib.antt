@@ -1,1 +1,1 @@
-pub mod SettingsLemmas
+pub mod FileWords

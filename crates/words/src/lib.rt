@@ -1,14 +1,16 @@
 //! The words of a command line, and what they say.
 #![tactic(auto)]
 
-ghost use Rattle.std.specs.Prelude.{◌≡◌, map, string_bytes};
-ghost use Rattle.words.specs.Words.{settings_of};
+ghost use Rattle.std.specs.Prelude.{◌≡◌, Ok, Err, map, string_bytes, IfOk, IfErr};
+ghost use Rattle.words.specs.Words.{command_from, command_of, enumpure_of, is_file, IsStop};
+
+use std::alloc::Global;
 
 /// Which tool is to run, and how.
-#[derive(Clone, Copy, Debug, PartialEq, Eq)]
+#[derive(Debug, Drop)]
 pub enum Settings {
-    /// List the pure equilibria of the game on the input without a name.
-    Enumpure,
+    /// List the pure equilibria of the game in a file, or on standard input where no file is named.
+    Enumpure { file: Option<String> },
 }
 
 /// How the words are refused.
@@ -22,18 +24,52 @@ pub enum Usage {
     Words,
 }
 
-/// Reads the words that stand after the program's own name. Takes no memory.
-pub fn read_settings(words: &[String]) -> Result<Settings, Usage>
-    ensures { result ≡ settings_of (map string_bytes words.now) }
+/// Why the words gave no settings.
+#[derive(Clone, Copy, Debug, PartialEq, Eq)]
+pub enum SettingsStop {
+    /// The words are refused.
+    Usage(Usage),
+    /// Memory ran out.
+    Memory,
+}
+
+// Whether a word names a file.
+fn is_file(word: &str) -> bool
+    ensures { result ≡ is_file word.now }
+{
+    match word.as_bytes().first() {
+        Some(byte) => *byte != b'-',
+        None => false,
+    }
+}
+
+// The settings of `enumpure`, by the words after it.
+fn read_enumpure(alloc: Global, words: &[String]) -> Result<Settings, SettingsStop>
+    ensures settings { IfOk result (λ s. enumpure_of (map string_bytes words.now) ≡ Ok (command_of s)) }
+    ensures stop { IfErr result (IsStop (enumpure_of (map string_bytes words.now))) }
+{
+    let Some((word, rest)) = words.split_first() else {
+        return Ok(Settings::Enumpure { file: None });
+    };
+    if !rest.is_empty() || !is_file(word.as_str()) {
+        return Err(SettingsStop::Usage(Usage::Words));
+    }
+    match String::from_str(alloc, word.as_str()) {
+        Ok(file) => Ok(Settings::Enumpure { file: Some(file) }),
+        Err(_) => Err(SettingsStop::Memory),
+    }
+}
+
+/// Reads the words that stand after the program's own name.
+pub fn read_settings(alloc: Global, words: &[String]) -> Result<Settings, SettingsStop>
+    ensures settings { IfOk result (λ s. command_from (map string_bytes words.now) ≡ Ok (command_of s)) }
+    ensures stop { IfErr result (IsStop (command_from (map string_bytes words.now))) }
 {
     let Some((tool, rest)) = words.split_first() else {
-        return Err(Usage::NoTool);
+        return Err(SettingsStop::Usage(Usage::NoTool));
     };
     if tool.as_str() != "enumpure" {
-        Err(Usage::UnknownTool)
-    } else if rest.is_empty() {
-        Ok(Settings::Enumpure)
-    } else {
-        Err(Usage::Words)
+        return Err(SettingsStop::Usage(Usage::UnknownTool));
     }
+    read_enumpure(alloc, rest)
 }

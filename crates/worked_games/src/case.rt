@@ -5,11 +5,12 @@ use outside::{MemInputs, MemSink, OpenGate};
 use std::alloc::Global;
 use std::thread::Threads;
 
-/// The words and the input of a run, how the outside behaves, and the status and bytes that are wanted.
+/// The words of a run, its input without a name and its file with its name, how the outside behaves, and the status and bytes that are wanted.
 #[derive(Clone, Copy)]
 pub struct Case<'a> {
     pub words: &'a [&'a str],
     pub input: &'a str,
+    pub file: Option<(&'a str, &'a str)>,
     pub failing: &'a [u64],
     pub out_most: usize,
     pub out_limit: usize,
@@ -27,6 +28,7 @@ impl<'a> Case<'a> {
         Case {
             words: &["enumpure"],
             input,
+            file: None,
             failing: &[],
             out_most: 1000,
             out_limit: 1000,
@@ -42,7 +44,12 @@ impl<'a> Case<'a> {
     pub fn holds<R: Threads + Sync>(&self, rt: &R, alloc: Global) -> Result<bool, Memory> {
         let input = Vec::from_slice(alloc, self.input.as_bytes())?;
         let failing = Vec::from_slice(alloc, self.failing)?;
-        let mut inputs = MemInputs::new(input, Vec::new(alloc), failing);
+        let mut named = Vec::new(alloc);
+        if let Some((name, game)) = self.file {
+            let bytes = Vec::from_slice(alloc, game.as_bytes())?;
+            named.push((String::from_str(alloc, name)?, bytes))?;
+        }
+        let mut inputs = MemInputs::new(input, named, failing);
         let most = self.out_most.max(1);
         let mut out = MemSink::new(alloc, most, self.out_limit, self.flush_fails)?;
         let mut err = MemSink::new(alloc, 1000, self.err_limit, false)?;
@@ -72,28 +79,43 @@ fn owned(alloc: Global, words: &[&str]) -> Result<Vec<String>, Memory> {
     Ok(owned)
 }
 
-/// Runs `enumpure` over this many spaces, and answers whether the status and the line on standard error are these.
-pub fn spaces_answer<R: Threads + Sync>(
-    rt: &R,
-    alloc: Global,
-    count: usize,
-    status: u8,
-    line: &str,
-) -> Result<bool, Memory> {
-    let mut input = Vec::new(alloc);
-    input.resize(count, b' ')?;
-    let mut inputs = MemInputs::new(input, Vec::new(alloc), Vec::new(alloc));
-    let mut out = MemSink::new(alloc, 1000, 1000, false)?;
-    let mut err = MemSink::new(alloc, 1000, 1000, false)?;
-    let words = owned(alloc, &["enumpure"])?;
-    let answer = run(
-        rt,
-        alloc,
-        &words,
-        &mut inputs,
-        &mut out,
-        &mut err,
-        &OpenGate,
-    );
-    Ok(answer == status && out.taken().is_empty() && err.taken() == line.as_bytes())
+/// A run of `enumpure` over bytes with a piece after them many times, and the status, the number of bytes of text and
+/// the line on standard error that are wanted.
+#[derive(Clone, Copy)]
+pub struct Large<'a> {
+    pub front: &'a str,
+    pub piece: &'a str,
+    pub count: usize,
+    pub status: u8,
+    pub text_length: usize,
+    pub err: &'a str,
+}
+
+impl<'a> Large<'a> {
+    /// Whether the run does what is wanted.
+    pub fn holds<R: Threads + Sync>(&self, rt: &R, alloc: Global) -> Result<bool, Memory> {
+        let mut input = Vec::from_slice(alloc, self.front.as_bytes())?;
+        for _ in 0..self.count {
+            input.extend_from_slice(self.piece.as_bytes())?;
+        }
+        let mut inputs = MemInputs::new(input, Vec::new(alloc), Vec::new(alloc));
+        let most = self.text_length.max(1);
+        let mut out = MemSink::new(alloc, most, self.text_length, false)?;
+        let mut err = MemSink::new(alloc, 1000, 1000, false)?;
+        let words = owned(alloc, &["enumpure"])?;
+        let answer = run(
+            rt,
+            alloc,
+            &words,
+            &mut inputs,
+            &mut out,
+            &mut err,
+            &OpenGate,
+        );
+        Ok(
+            answer == self.status
+                && out.taken().len() == self.text_length
+                && err.taken() == self.err.as_bytes(),
+        )
+    }
 }

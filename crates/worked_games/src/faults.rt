@@ -1,14 +1,13 @@
 // Words that are refused, inputs that are refused, and calls of the outside that fail.
-use crate::case::{Case, spaces_answer};
+use crate::case::{Case, Large};
 use memory::Memory;
 
 const DILEMMA: &str = "NFG 1 R \"PD\" { \"A\" \"B\" } { 2 2 } 3 3 5 0 0 5 1 1";
 
-/// Words other than `enumpure` alone.
+/// Words other than `enumpure` and the name of one file.
 #[test]
 fn words_are_refused(rt: HostRuntime) -> Result<(), Memory> {
-    let rows: [(&[&str], &str); 5] = [
-        (&[], "gambit: no tool\n"),
+    let rows: [(&[&str], &str); 4] = [
         (&["solve"], "gambit: unknown tool\n"),
         (&["Enumpure", "-S"], "gambit: unknown tool\n"),
         (&["enumpure", "-q"], "gambit: words not understood\n"),
@@ -26,21 +25,96 @@ fn words_are_refused(rt: HostRuntime) -> Result<(), Memory> {
     Ok(())
 }
 
-/// Inputs that are no plain file.
+/// Words after `enumpure` that do not name one file.
 #[test]
-fn other_files_are_not_built(rt: HostRuntime) -> Result<(), Memory> {
-    let rows = [
-        "",
-        "NFG 1 R \"\" { \"A\" } { 1 } 7",
-        "NFG 1 R \"PD\" { \"A\" \"B\" } { 2 2 } 3 3 5 0 0 5 1",
-        "NFG 1 R \"PD\" { \"A\" \"B\" } { 2 2 } 3 3 5 0 0 5 1 1 9",
-        "EFG 2 R \"\" { \"A\" \"B\" }",
+fn one_file_is_named(rt: HostRuntime) -> Result<(), Memory> {
+    let rows: [(&[&str], &str); 3] = [
+        (&["enumpure", "-"], "gambit: words not understood\n"),
+        (&["enumpure", "a", "b"], "gambit: words not understood\n"),
+        (&["enumpure", "a", ""], "gambit: words not understood\n"),
     ];
-    for input in rows {
+    for (words, err) in rows {
+        let case = Case {
+            words,
+            status: 2,
+            err,
+            ..Case::of(DILEMMA)
+        };
+        assert!(rt; case.holds(&rt, rt.alloc())?);
+    }
+    Ok(())
+}
+
+/// Bytes that are no game, one row for each kind of fault, and trees. Too many payoffs are
+/// seen before what stands after the strategies.
+#[test]
+fn bad_files_are_refused(rt: HostRuntime) -> Result<(), Memory> {
+    let rows = [
+        ("", "gambit: nfg fault at 0: header\n"),
+        (
+            "NFG 1 R \"\" { } { 1 } 1",
+            "gambit: nfg fault at 13: players\n",
+        ),
+        (
+            "NFG 1 R \"\" { \"A\" } { 0 } 1",
+            "gambit: nfg fault at 21: strategies\n",
+        ),
+        (
+            "NFG 1 R \"\" { \"A\" } { 1 } { { \"\" 1 } } 2",
+            "gambit: nfg fault at 38: outcome\n",
+        ),
+        (
+            "NFG 1 R \"PD\" { \"A\" \"B\" } { 2 2 } 3 3 5 0 0 5 1",
+            "gambit: nfg fault at 46: payoff count\n",
+        ),
+        (
+            "NFG 1 R \"PD\" { \"A\" \"B\" } { 2 2 } 3 3 5 0 0 5 1 1 9",
+            "gambit: nfg fault at 49: trailing\n",
+        ),
+        (
+            "NFG 1 R \"\" { \"A\" } { 1 } 1/0",
+            "gambit: text fault at 25: bad number\n",
+        ),
+        (
+            "NFG 1 R \"\" { \"A\" } { 1 } 1e19",
+            "gambit: text fault at 25: number too large\n",
+        ),
+        ("NFG 1 R \"A", "gambit: text fault at 8: unclosed text\n"),
+        ("EFG 2 R ?", "gambit: text fault at 8: bad character\n"),
+        (
+            "NFG 1 R \"\" { \"A\" \"B\" } { 1024 513 } word",
+            "gambit: too large: 1048577 payoffs, limit 1048576\n",
+        ),
+        ("EFG 2 R \"\" { \"A\" \"B\" }", "gambit: not built yet\n"),
+        (" EFG", "gambit: not built yet\n"),
+    ];
+    for (input, err) in rows {
         let case = Case {
             status: 1,
-            err: "gambit: not built yet\n",
+            err,
             ..Case::of(input)
+        };
+        assert!(rt; case.holds(&rt, rt.alloc())?);
+    }
+    Ok(())
+}
+
+/// A game in a file with a name, and a name that no file has. Standard input is not read then.
+#[test]
+fn files_are_named(rt: HostRuntime) -> Result<(), Memory> {
+    let rows: [(&[&str], u8, &str, &str); 3] = [
+        (&["enumpure", "pd.nfg"], 0, "NE,0,1,0,1\n", ""),
+        (&["enumpure", "none.nfg"], 3, "", "gambit: cannot open\n"),
+        (&["enumpure"], 1, "", "gambit: nfg fault at 0: header\n"),
+    ];
+    for (words, status, out, err) in rows {
+        let case = Case {
+            words,
+            file: Some(("pd.nfg", DILEMMA)),
+            status,
+            out,
+            err,
+            ..Case::of("")
         };
         assert!(rt; case.holds(&rt, rt.alloc())?);
     }
@@ -99,13 +173,17 @@ fn failing_sinks_are_told(rt: HostRuntime) -> Result<(), Memory> {
     Ok(())
 }
 
-/// A fault of standard error changes no status, and leaves a front of the line.
+/// A fault of standard error changes no status, and leaves a front of the line; the last row has room for the line.
 #[test]
 fn faults_of_the_error_sink_change_nothing(rt: HostRuntime) -> Result<(), Memory> {
-    let rows = [(0, ""), (7, "gambit:"), (16, "gambit: no tool\n")];
-    for (err_limit, err) in rows {
+    let rows: [(&[&str], usize, &str); 3] = [
+        (&[], 0, ""),
+        (&[], 7, "gambit:"),
+        (&[], 16, "gambit: no tool\n"),
+    ];
+    for (words, err_limit, err) in rows {
         let case = Case {
-            words: &[],
+            words,
             err_limit,
             status: 2,
             err,
@@ -134,12 +212,62 @@ fn an_empty_text_is_flushed(rt: HostRuntime) -> Result<(), Memory> {
     Ok(())
 }
 
-/// An input one byte longer than the limit, and one at the limit.
+/// Inputs at the limits on bytes, on payoffs and on the text, and just above them. Where all payoffs are zero, all
+/// profiles are equilibria: 255 against 255 strategies give 65,025 lines of 1,023 bytes.
 #[test]
-fn long_inputs_are_refused(rt: HostRuntime) -> Result<(), Memory> {
-    let long = "gambit: file longer than 16777216 bytes\n";
-    let none = "gambit: not built yet\n";
-    assert!(rt; spaces_answer(&rt, rt.alloc(), 16_777_217, 1, long)?);
-    assert!(rt; spaces_answer(&rt, rt.alloc(), 16_777_216, 1, none)?);
+fn limits_are_kept(rt: HostRuntime) -> Result<(), Memory> {
+    let rows = [
+        (
+            "",
+            " ",
+            16_777_217,
+            1,
+            0,
+            "gambit: file longer than 16777216 bytes\n",
+        ),
+        (
+            "",
+            " ",
+            16_777_216,
+            1,
+            0,
+            "gambit: nfg fault at 16777216: header\n",
+        ),
+        (
+            "NFG 1 R \"\" { \"A\" \"B\" } { 1024 512 }",
+            " 0",
+            1_048_576,
+            1,
+            0,
+            "gambit: too large: 67108865 bytes of text, limit 67108864\n",
+        ),
+        (
+            "NFG 1 R \"\" { \"A\" \"B\" } { 255 255 }",
+            " 0",
+            130_050,
+            0,
+            66_520_575,
+            "",
+        ),
+        (
+            "NFG 1 R \"\" { \"A\" \"B\" } { 256 256 }",
+            " 0",
+            131_072,
+            1,
+            0,
+            "gambit: too large: 67108865 bytes of text, limit 67108864\n",
+        ),
+    ];
+    for (front, piece, count, status, text_length, err) in rows {
+        let large = Large {
+            front,
+            piece,
+            count,
+            status,
+            text_length,
+            err,
+        };
+        assert!(rt; large.holds(&rt, rt.alloc())?);
+    }
     Ok(())
 }

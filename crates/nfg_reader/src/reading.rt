@@ -1,0 +1,133 @@
+// Reads a table from the tokens of a file.
+ghost use Rattle.std.specs.Prelude.{◌≡◌, ◌≤◌, List, map, IfOk, IfErr};
+ghost use Rattle.game_core.specs.Table.{GameTable, IsTable};
+ghost use Rattle.game_text.specs.declared.token.Token.{Token as token};
+ghost use Rattle.nfg_reader.specs.TableFile.{IsTableFile};
+ghost use Rattle.nfg_reader.specs.TableReading.{front_of, table_of};
+ghost use Rattle.nfg_reader.specs.Stops.{IsStop, IsStopOf};
+
+use crate::front::{Front, read_front};
+use crate::outcomes::last_payoffs;
+use crate::refusal::Refusal;
+use crate::strategies::{profile_count, strategy_names};
+use frac128::Frac;
+use game_core::{Table, TooLarge, What};
+use game_text::Tokens;
+use std::alloc::{AllocError, Global};
+
+/// The kind of a fault in a file of a table.
+#[derive(Clone, Copy, Debug, PartialEq, Eq)]
+pub enum NfgKind {
+    /// One of the first four tokens: `NFG`, 1, `R` or `D`, and the title.
+    Header,
+    /// The list of players.
+    Players,
+    /// The list of strategies.
+    Strategies,
+    /// The list of outcomes, or an outcome number above their number.
+    Outcome,
+    /// The payoffs, or the outcome numbers.
+    PayoffCount,
+    /// A token behind the end.
+    Trailing,
+}
+
+/// A fault in a file of a table: its kind, and the byte offset from 0 of the token named, or the source's length
+/// where the tokens end too early.
+#[derive(Clone, Copy, Debug, PartialEq, Eq)]
+pub struct NfgFault {
+    /// The offset.
+    pub at: usize,
+    /// The kind.
+    pub kind: NfgKind,
+}
+
+/// Why a table was not read.
+#[derive(Clone, Copy, Debug, PartialEq, Eq)]
+pub enum NfgStop {
+    /// The tokens are no file of a table.
+    Fault(NfgFault),
+    /// There would be more than 1,048,576 payoffs.
+    TooLarge(TooLarge),
+    /// Memory ran out.
+    Memory,
+}
+
+impl From<AllocError> for NfgStop {
+    ghost use Rattle.std.specs.Prelude.{◌≡◌};
+    ghost use Rattle.nfg_reader.specs.declared.reading.NfgStop.TheVariants.{Memory};
+
+    ghost from_gives = { λ _ e. e ≡ Memory };
+
+    fn from(_error: AllocError) -> NfgStop {
+        NfgStop::Memory
+    }
+}
+
+// Where the token stands from which on so many are left, or the source's length where none is.
+fn place(tokens: &Tokens, left: usize) -> usize
+    ensures { result ≤ tokens.now.length }
+{
+    let list = tokens.list();
+    let index = list.len().saturating_sub(left);
+    if index < list.len() {
+        list[index].start
+    } else {
+        tokens.source_length()
+    }
+}
+
+// The stop for a refusal.
+fn stop(refusal: Refusal, tokens: &Tokens) -> NfgStop
+    ensures { IsStopOf refusal tokens.now.length result }
+{
+    match refusal {
+        Refusal::Unfit(kind, left) => NfgStop::Fault(NfgFault {
+            at: place(tokens, left),
+            kind,
+        }),
+        Refusal::Memory => NfgStop::Memory,
+    }
+}
+
+// The table with these parts.
+fn table(alloc: Global, front: Front, payoffs: Vec<Frac>) -> Result<Table, AllocError>
+    requires { IsTable (table_of (front_of front) payoffs.items) }
+    ensures { IfOk result (λ t. t ≡ table_of (front_of front) payoffs.items) }
+{
+    let Front {
+        title,
+        players,
+        strategies,
+    } = front;
+    let strategies = strategy_names(alloc, strategies)?;
+    Ok(Table::new(title, players, strategies, payoffs))
+}
+
+/// Reads the table that the tokens stand for.
+pub fn read(alloc: Global, tokens: &Tokens) -> Result<Table, NfgStop>
+    ensures table { IfOk result (IsTableFile (map (λ s. s.token) tokens.now.list)) }
+    ensures stop { IfErr result (IsStop (map (λ s. s.token) tokens.now.list) tokens.now.length) }
+{
+    let (front, rest) = match read_front(alloc, tokens.list()) {
+        Ok(read) => read,
+        Err(refusal) => return Err(stop(refusal, tokens)),
+    };
+    let players = front.players.len();
+    let Some(profiles) = profile_count(alloc, players, &front.strategies)? else {
+        return Err(NfgStop::TooLarge(TooLarge {
+            what: What::Payoffs,
+            count: 1048577,
+            limit: 1048576,
+        }));
+    };
+    match last_payoffs(alloc, rest, players, profiles) {
+        Ok(payoffs) => Ok(table(alloc, front, payoffs)?),
+        Err(refusal) => Err(stop(refusal, tokens)),
+    }
+}
+
+/// The tokens of a file stand for one table at most.
+pub fn files_have_one_table()
+    ensures { (tokens : List token) (one other : GameTable) → IsTableFile tokens one → IsTableFile tokens other → one ≡ other }
+{}
