@@ -1,1 +1,5 @@
+pub mod OwnSets
 pub mod Table
+pub mod Tree
+pub mod TreeCodes
+pub mod TreeGame

@@ -1,0 +1,137 @@
+-- What contracts see of a game tree, and what makes it one. Source: Gambit's description of its `.efg` format, version 2;
+-- Kuhn 1953.
+use Rattle.std.specs.Prelude.{ℕ, zero, suc, ◌<◌, ◌≤◌, ◌^◌, ◌≡◌, ◌==◌, Bool, false, if◌then◌else◌, List, [], ◌∷◌, ◌++◌, length, map, slice_get, slice_index_or, All, IfSome, Option, Some, None}
+use Rattle.rational.specs.Rational.{ℚ, ◌≤ℚ◌, zero_ℚ, one_ℚ}
+use Rattle.rational.specs.Sum.{sum_to}
+use Rattle.game_core.specs.declared.tree.Action.{Action}
+use Rattle.game_core.specs.declared.tree.Kind.{Kind}
+use Rattle.game_core.specs.declared.tree.Kind.TheVariants.{Chance, Move, End}
+use Rattle.game_core.specs.declared.tree.Node.{Node}
+
+-- an information set: its owner (nothing for chance), the number and the name that a file gives it, its actions and its nodes
+pub record InformationSet : Type 0 where
+  pub owner : Option ℕ
+  pub label : ℕ
+  pub name : List ℕ
+  pub actions : List Action
+  pub members : List ℕ
+
+-- an outcome: the number and the name that a file gives it, and what it pays each player
+pub record TreeOutcome : Type 0 where
+  pub label : ℕ
+  pub name : List ℕ
+  pub payoffs : List ℚ
+
+-- a title, the players' names, the nodes in prefix order, the information sets and the outcomes
+pub record GameTree : Type 0 where
+  pub title : List ℕ
+  pub players : List (List ℕ)
+  pub nodes : List Node
+  pub sets : List InformationSet
+  pub outcomes : List TreeOutcome
+
+-- the most nodes of a tree, and the most edges from the root to a node
+abbrev pub most_nodes : ℕ
+most_nodes = 65536
+
+abbrev pub most_depth : ℕ
+most_depth = 1024
+
+-- how many actions there are at a node with this set: none at an end
+abbrev pub action_count : List InformationSet → Option ℕ → ℕ
+action_count sets None = 0
+action_count sets (Some s) = slice_index_or (map (λ set. length set.actions) sets) s 0
+
+-- where a node hangs: the node and the action that lead to it; nothing and 0 for the root
+abbrev pub Place : Type 0
+Place = Option ℕ × ℕ
+
+-- the places of a node's actions, from action a on
+abbrev pub places_from : ℕ → ℕ → ℕ → List Place
+places_from node a zero = []
+places_from node a (suc n) = (Some node, a) ∷ places_from node (suc a) n
+
+-- Nodes in prefix order, numbered from k on: each hangs at the first place that is free, and the places of its own actions come
+-- before the others. The rest stays free behind the last node.
+abbrev pub AreInPrefixOrder : List InformationSet → ℕ → List Node → List Place → List Place → Type 0
+AreInPrefixOrder sets k [] free rest = free ≡ rest
+AreInPrefixOrder sets k (node ∷ nodes) [] rest = ⊥
+AreInPrefixOrder sets k (node ∷ nodes) (place ∷ free) rest =
+    ((node.parent, node.branch) ≡ place) × AreInPrefixOrder sets (suc k) nodes (places_from k 0 (action_count sets node.set) ++ free) rest
+
+-- node k lies d edges below the root
+abbrev pub LiesBelowRoot : List Node → ℕ → ℕ → Type 0
+LiesBelowRoot nodes zero k = (node : Node) × (slice_get nodes k ≡ Some node) × (node.parent ≡ None)
+LiesBelowRoot nodes (suc d) k = (node : Node) × (parent : ℕ) × (slice_get nodes k ≡ Some node) × (node.parent ≡ Some parent) × LiesBelowRoot nodes d parent
+
+-- who chooses at a set with this owner
+abbrev pub kind_of_owner : Option ℕ → Kind
+kind_of_owner None = Chance
+kind_of_owner (Some i) = Move i
+
+-- who chooses at a node with this set
+abbrev pub kind_at : List InformationSet → Option ℕ → Kind
+kind_at sets None = End
+kind_at sets (Some s) = kind_of_owner (slice_index_or (map (λ set. set.owner) sets) s None)
+
+-- a number below a bound, where there is one
+abbrev pub IsWithin : ℕ → Option ℕ → Type 0
+IsWithin bound index = IfSome index (λ i. i < bound)
+
+-- a node names a set and an outcome of the tree, where it names any, and its kind is that of its set
+pub record NodeFits (t : GameTree) (node : Node) : Type 0 where
+  pub kind_is : node.kind ≡ kind_at t.sets node.set
+  pub set_within : IsWithin (length t.sets) node.set
+  pub outcome_within : IsWithin (length t.outcomes) node.outcome
+
+-- whether this is the set's number
+abbrev pub is_set : ℕ → Option ℕ → Bool
+is_set s None = false
+is_set s (Some r) = r == s
+
+-- the numbers of the nodes that name set s, numbered from k on
+abbrev pub members_from : ℕ → ℕ → List Node → List ℕ
+members_from k s [] = []
+members_from k s (node ∷ nodes) = if is_set s node.set then k ∷ members_from (suc k) s nodes else members_from (suc k) s nodes
+
+-- the probability of action a in a list of actions
+abbrev pub probability_at : List Action → ℕ → ℚ
+probability_at actions a = slice_index_or (map (λ action. action.prob) actions) a zero_ℚ
+
+-- probabilities of chance: not negative, with the sum 1
+pub record AreChances (actions : List Action) : Type 0 where
+  pub not_negative : All (λ action. zero_ℚ ≤ℚ action.prob) actions
+  pub sum_is_one : sum_to (length actions) (probability_at actions) ≡ one_ℚ
+
+-- the actions of a player have no probabilities: 0 stands in their place
+abbrev pub ProbabilitiesFit : Option ℕ → List Action → Type 0
+ProbabilitiesFit None actions = AreChances actions
+ProbabilitiesFit (Some i) actions = All (λ action. action.prob ≡ zero_ℚ) actions
+
+-- set s is chance's or one of the players', has actions, and its members are the nodes that name it
+pub record SetFits (t : GameTree) (s : ℕ) (set : InformationSet) : Type 0 where
+  pub owner_within : IsWithin (length t.players) set.owner
+  pub some_action : 0 < length set.actions
+  pub probabilities : ProbabilitiesFit set.owner set.actions
+  pub members_are : set.members ≡ members_from 0 s t.nodes
+  pub some_member : 0 < length set.members
+
+-- a game tree within the limits
+pub record IsTree (t : GameTree) : Type 0 where
+  pub in_prefix_order : AreInPrefixOrder t.sets 0 t.nodes ((None, 0) ∷ []) []
+  pub nodes_fit : All (NodeFits t) t.nodes
+  pub sets_fit : (s : ℕ) (set : InformationSet) → slice_get t.sets s ≡ Some set → SetFits t s set
+  pub outcomes_fit : All (λ outcome. length outcome.payoffs ≡ length t.players) t.outcomes
+  pub few_nodes : length t.nodes ≤ most_nodes
+  pub few_sets : length t.sets ≤ length t.nodes
+  pub few_edges : (d k : ℕ) → LiesBelowRoot t.nodes d k → d ≤ most_depth
+  pub few_players : length t.players < 2 ^ 32
+
+-- the numbers of player i's own sets in order, where the sets are numbered from s on
+abbrev pub own_from : ℕ → ℕ → List InformationSet → List ℕ
+own_from s i [] = []
+own_from s i (set ∷ sets) = if is_set i set.owner then s ∷ own_from (suc s) i sets else own_from (suc s) i sets
+
+-- the numbers of player i's own sets in order
+abbrev pub own_sets : GameTree → ℕ → List ℕ
+own_sets t i = own_from 0 i t.sets

@@ -1,0 +1,6 @@
+pub mod Behaviour
+pub mod Equilibrium
+pub mod Examples
+pub mod Laws
+pub mod Recall
+pub mod Trees
