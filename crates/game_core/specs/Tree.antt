@@ -116,9 +116,9 @@ pub record SetFits (t : GameTree) (s : ℕ) (set : InformationSet) : Type 0 wher
   pub members_are : set.members ≡ members_from 0 s t.nodes
   pub some_member : 0 < length set.members
 
--- a game tree within the limits
-pub record IsTree (t : GameTree) : Type 0 where
-  pub in_prefix_order : AreInPrefixOrder t.sets 0 t.nodes ((None, 0) ∷ []) []
+-- A game tree within the limits, as far as it goes: its nodes leave these places free.
+pub record IsBegunTree (t : GameTree) (free : List Place) : Type 0 where
+  pub in_prefix_order : AreInPrefixOrder t.sets 0 t.nodes ((None, 0) ∷ []) free
   pub nodes_fit : All (NodeFits t) t.nodes
   pub sets_fit : (s : ℕ) (set : InformationSet) → slice_get t.sets s ≡ Some set → SetFits t s set
   pub outcomes_fit : All (λ outcome. length outcome.payoffs ≡ length t.players) t.outcomes
@@ -126,6 +126,10 @@ pub record IsTree (t : GameTree) : Type 0 where
   pub few_sets : length t.sets ≤ length t.nodes
   pub few_edges : (d k : ℕ) → LiesBelowRoot t.nodes d k → d ≤ most_depth
   pub few_players : length t.players < 2 ^ 32
+
+-- a game tree within the limits: no place is left free
+abbrev pub IsTree : GameTree → Type 0
+IsTree t = IsBegunTree t []
 
 -- the numbers of player i's own sets in order, where the sets are numbered from s on
 abbrev pub own_from : ℕ → ℕ → List InformationSet → List ℕ

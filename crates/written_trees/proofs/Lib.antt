@@ -1,0 +1,3 @@
+pub mod OutcomeUses
+pub mod SetUses
+pub mod UseSteps

@@ -1,0 +1,161 @@
+-- The game tree that written nodes describe. Source: Gambit's description of its `.efg` format, version 2.
+use Rattle.std.specs.Prelude.{ℕ, suc, ◌<◌, ◌≡◌, ◌&&◌, nat_eq, Bool, true, false, List, [], ◌∷◌, length, map, filter, All, IfSome, option_map, Option, Some, None}
+use Rattle.std.specs.List.{position_or_len}
+use Rattle.indexmap.specs.IndexSet.{insert_all}
+use Rattle.rational.specs.Rational.{ℚ, ◌≤ℚ◌, zero_ℚ, one_ℚ}
+use Rattle.rational.specs.Sum.{sum_to}
+use Rattle.frac128.specs.Steps.{AddFits}
+use Rattle.game_core.specs.declared.tree.Action.{Action}
+use Rattle.game_core.specs.declared.tree.Kind.{Kind}
+use Rattle.game_core.specs.declared.tree.Kind.TheVariants.{End}
+use Rattle.game_core.specs.declared.tree.Node.{Node}
+use Rattle.game_core.specs.Tree.{GameTree, InformationSet, TreeOutcome, Place, IsBegunTree, LiesBelowRoot, kind_of_owner, probability_at}
+use Rattle.written_trees.specs.Written.{SetUse, OutcomeUse, WrittenNode}
+
+-- ---- uses
+-- x with a number in front of others, where there is an x
+abbrev pub with_number : {U : Type 0} → ℕ → Option U → List (ℕ × U) → List (ℕ × U)
+with_number k None uses = uses
+with_number k (Some u) uses = (k, u) ∷ uses
+
+-- what the nodes use, with the nodes' numbers from k on
+abbrev pub uses_from : {U : Type 0} → (WrittenNode → Option U) → ℕ → List WrittenNode → List (ℕ × U)
+uses_from used k [] = []
+uses_from used k (node ∷ nodes) = with_number k (used node) (uses_from used (suc k) nodes)
+
+-- the uses of sets, and of outcomes
+abbrev pub set_uses : List WrittenNode → List (ℕ × SetUse)
+set_uses nodes = uses_from (λ node. node.set) 0 nodes
+
+abbrev pub outcome_uses : List WrittenNode → List (ℕ × OutcomeUse)
+outcome_uses nodes = uses_from (λ node. node.outcome) 0 nodes
+
+-- A set is told from others by its owner and its number: chance and each player number their sets separately.
+abbrev pub SetKey : Type 0
+SetKey = Option ℕ × ℕ
+
+abbrev pub key_of : SetUse → SetKey
+key_of used = (used.owner, used.label)
+
+abbrev pub same_owner : Option ℕ → Option ℕ → Bool
+same_owner None None = true
+same_owner None (Some j) = false
+same_owner (Some i) None = false
+same_owner (Some i) (Some j) = nat_eq i j
+
+abbrev pub same_set : SetKey → SetKey → Bool
+same_set one other = same_owner one.0 other.0 && nat_eq one.1 other.1
+
+-- the sets and the outcomes, each once, in the order of their first use
+abbrev pub sets_of : List (ℕ × SetUse) → List SetKey
+sets_of uses = insert_all same_set [] (map (λ x. key_of x.1) uses)
+
+abbrev pub outcomes_of : List (ℕ × OutcomeUse) → List ℕ
+outcomes_of uses = insert_all nat_eq [] (map (λ x. x.1.label) uses)
+
+-- the uses of one set, and of one outcome
+abbrev pub uses_of_set : SetKey → List (ℕ × SetUse) → List (ℕ × SetUse)
+uses_of_set key uses = filter (λ x. same_set key (key_of x.1)) uses
+
+abbrev pub uses_of_outcome : ℕ → List (ℕ × OutcomeUse) → List (ℕ × OutcomeUse)
+uses_of_outcome label uses = filter (λ x. nat_eq label x.1.label) uses
+
+-- ---- what the uses of one set, or of one outcome, say
+-- the first that is there
+abbrev pub first_some : {A : Type 0} → List (Option A) → Option A
+first_some [] = None
+first_some (None ∷ rest) = first_some rest
+first_some (Some x ∷ rest) = Some x
+
+-- the list that is there, and else the empty one
+abbrev pub or_empty : {A : Type 0} → Option (List A) → List A
+or_empty None = []
+or_empty (Some list) = list
+
+-- the first list: the first use has it
+abbrev pub first_list : {A : Type 0} → List (Option (List A)) → List A
+first_list [] = []
+first_list (list ∷ later) = or_empty list
+
+-- a set has its first name, which is empty where none is given, the actions of its first use, and the nodes that use it
+abbrev pub described_set : SetKey → List (ℕ × SetUse) → InformationSet
+described_set key uses = record {
+  owner = key.0;
+  label = key.1;
+  name = or_empty (first_some (map (λ x. x.1.name) uses));
+  actions = first_list (map (λ x. x.1.actions) uses);
+  members = map (λ x. x.0) uses;
+}
+
+-- an outcome has its first name, which is empty where none is given, and the payoffs of its first use
+abbrev pub described_outcome : ℕ → List (ℕ × OutcomeUse) → TreeOutcome
+described_outcome label uses = record {
+  label = label;
+  name = or_empty (first_some (map (λ x. x.1.name) uses));
+  payoffs = first_list (map (λ x. x.1.payoffs) uses);
+}
+
+-- the probabilities of chance are not negative; each can be added to the sum of those before it, and the whole sum is 1
+pub record AddUpToOne (actions : List Action) : Type 0 where
+  pub not_negative : All (λ action. zero_ℚ ≤ℚ action.prob) actions
+  pub additions_fit : (a : ℕ) → a < length actions → AddFits (sum_to a (probability_at actions)) (probability_at actions a)
+  pub sum_is_one : sum_to (length actions) (probability_at actions) ≡ one_ℚ
+
+-- the first list of a set of chance has probabilities
+abbrev pub IsFirstList : Option ℕ → List Action → Type 0
+IsFirstList None actions = AddUpToOne actions
+IsFirstList (Some i) actions = Unit {0}
+
+-- a later list of a set has as many actions, with the same probabilities
+abbrev pub RepeatsActions : List Action → ℕ × SetUse → Type 0
+RepeatsActions actions x = IfSome x.1.actions (λ list. map (λ action. action.prob) list ≡ map (λ action. action.prob) actions)
+
+-- the uses of one set agree: the first has a list of actions, and later lists repeat it
+abbrev pub AgreeOnActions : List (ℕ × SetUse) → Type 0
+AgreeOnActions [] = Unit {0}
+AgreeOnActions (first ∷ later) = (actions : List Action) × (first.1.actions ≡ Some actions) × IsFirstList first.1.owner actions × All (RepeatsActions actions) later
+
+-- the uses of one outcome agree: the first has payoffs, and later ones repeat them
+abbrev pub AgreeOnPayoffs : List (ℕ × OutcomeUse) → Type 0
+AgreeOnPayoffs [] = Unit {0}
+AgreeOnPayoffs (first ∷ later) = (payoffs : List ℚ) × (first.1.payoffs ≡ Some payoffs) × All (λ x. IfSome x.1.payoffs (λ list. list ≡ payoffs)) later
+
+-- ---- the tree
+-- who chooses at a node
+abbrev pub kind_of_use : Option SetUse → Kind
+kind_of_use None = End
+kind_of_use (Some used) = kind_of_owner used.owner
+
+-- the number of a node's set, and of its outcome
+abbrev pub set_number : List SetKey → Option SetUse → Option ℕ
+set_number keys used = option_map (λ u. position_or_len (same_set (key_of u)) keys) used
+
+abbrev pub outcome_number : List ℕ → Option OutcomeUse → Option ℕ
+outcome_number labels used = option_map (λ u. position_or_len (nat_eq u.label) labels) used
+
+-- a node of the tree stands for a written one, where the sets and the outcomes are these
+pub record StandsFor (keys : List SetKey) (labels : List ℕ) (node : Node) (written : WrittenNode) : Type 0 where
+  pub kind_is : node.kind ≡ kind_of_use written.set
+  pub set_is : node.set ≡ set_number keys written.set
+  pub outcome_is : node.outcome ≡ outcome_number labels written.outcome
+
+abbrev pub StandForEach : List SetKey → List ℕ → List Node → List WrittenNode → Type 0
+StandForEach keys labels [] [] = Unit {0}
+StandForEach keys labels (node ∷ nodes) (one ∷ written) = StandsFor keys labels node one × StandForEach keys labels nodes written
+StandForEach keys labels _ _ = ⊥
+
+-- Written nodes describe a tree, as far as it goes: its nodes hang in prefix order and leave these places free, and its sets and
+-- outcomes are those that the nodes use.
+pub record Describe (written : List WrittenNode) (t : GameTree) (free : List Place) : Type 0 where
+  pub begun : IsBegunTree t free
+  pub nodes_stand : StandForEach (sets_of (set_uses written)) (outcomes_of (outcome_uses written)) t.nodes written
+  pub sets_are : t.sets ≡ map (λ key. described_set key (uses_of_set key (set_uses written))) (sets_of (set_uses written))
+  pub outcomes_are : t.outcomes ≡ map (λ label. described_outcome label (uses_of_outcome label (outcome_uses written))) (outcomes_of (outcome_uses written))
+  pub sets_agree : (key : SetKey) → AgreeOnActions (uses_of_set key (set_uses written))
+  pub outcomes_agree : (label : ℕ) → AgreeOnPayoffs (uses_of_outcome label (outcome_uses written))
+
+-- how many edges below the root the first of some free places lies
+abbrev pub LiesAt : GameTree → List Place → ℕ → Type 0
+LiesAt t [] d = ⊥
+LiesAt t ((None, a) ∷ free) d = d ≡ 0
+LiesAt t ((Some k, a) ∷ free) d = (e : ℕ) × LiesBelowRoot t.nodes e k × (d ≡ suc e)

@@ -1,0 +1,65 @@
+-- That written nodes describe one tree, and that building gives it.
+use Rattle.std.specs.Prelude.{ℕ, suc, ◌<◌, ◌≤◌, ◌^◌, ◌≡◌, List, [], ◌∷◌, length, All, IfSome, Option, Some, None}
+use Rattle.rational.specs.Rational.{zero_ℚ}
+use Rattle.game_core.specs.declared.tree.Action.{Action}
+use Rattle.game_core.specs.declared.too_large.What.{What}
+use Rattle.game_core.specs.declared.too_large.What.TheVariants.{Nodes, Depth}
+use Rattle.game_core.specs.Tree.{GameTree, Place, most_nodes, most_depth}
+use Rattle.written_trees.specs.Written.{SetUse, OutcomeUse, WrittenNode}
+use Rattle.written_trees.specs.Described.{Describe, LiesAt}
+use Rattle.written_trees.specs.Building.{Begun, nothing_begun, add_nodes, passed, tree_begun, free_places}
+
+-- a list of actions has at least one, and a player's have no probabilities
+abbrev pub HasNoProbability : Option ℕ → Action → Type 0
+HasNoProbability None action = Unit {0}
+HasNoProbability (Some i) action = action.prob ≡ zero_ℚ
+
+pub record IsActionList (owner : Option ℕ) (actions : List Action) : Type 0 where
+  pub some_action : 0 < length actions
+  pub no_probabilities : All (HasNoProbability owner) actions
+
+-- a use of a set by one of so many players, or by chance
+pub record IsSetUse (players : ℕ) (used : SetUse) : Type 0 where
+  pub owner_within : IfSome used.owner (λ i. i < players)
+  pub is_list : IfSome used.actions (IsActionList used.owner)
+
+-- a use of an outcome that pays so many players
+abbrev pub IsOutcomeUse : ℕ → OutcomeUse → Type 0
+IsOutcomeUse players used = IfSome used.payoffs (λ payoffs. length payoffs ≡ players)
+
+-- a node of a game with so many players
+pub record IsWrittenNode (players : ℕ) (node : WrittenNode) : Type 0 where
+  pub set_is : IfSome node.set (IsSetUse players)
+  pub outcome_is : IfSome node.outcome (IsOutcomeUse players)
+
+-- what is built is described
+abbrev pub BuiltIsDescribed : Type 0
+BuiltIsDescribed =
+    (title : List ℕ) (players : List (List ℕ)) (written : List WrittenNode) (begun : Begun) → length players < 2 ^ 32
+    → All (IsWrittenNode (length players)) written → add_nodes nothing_begun written ≡ Some begun
+    → Describe written (tree_begun title players begun) (free_places begun.branchings)
+
+-- what is described is built
+pub record IsBuilt (written : List WrittenNode) (t : GameTree) (free : List Place) : Type 0 where
+  pub begun : Begun
+  pub is_built : add_nodes nothing_begun written ≡ Some begun
+  pub tree_is : t ≡ tree_begun t.title t.players begun
+  pub free_is : free ≡ free_places begun.branchings
+
+abbrev pub DescribedIsBuilt : Type 0
+DescribedIsBuilt = (written : List WrittenNode) (t : GameTree) (free : List Place) → Describe written t free → IsBuilt written t free
+
+-- a limit is passed where a further node would be one too many, or else one edge too far below the root
+abbrev pub PassesAt : GameTree → List Place → What → Type 0
+PassesAt t free Nodes = (length t.nodes ≡ most_nodes) × (d : ℕ) × LiesAt t free d
+PassesAt t free Depth = (length t.nodes < most_nodes) × LiesAt t free (suc most_depth)
+PassesAt t free _ = ⊥
+
+pub record LimitsAreSeen (written : List WrittenNode) (title : List ℕ) (players : List (List ℕ)) (begun : Begun) : Type 0 where
+  pub passes : (what : What) → passed begun ≡ Some what → PassesAt (tree_begun title players begun) (free_places begun.branchings) what
+  pub passed_so : (what : What) → PassesAt (tree_begun title players begun) (free_places begun.branchings) what → passed begun ≡ Some what
+
+abbrev pub LimitsAreExact : Type 0
+LimitsAreExact =
+    (written : List WrittenNode) (title : List ℕ) (players : List (List ℕ)) (begun : Begun)
+    → add_nodes nothing_begun written ≡ Some begun → LimitsAreSeen written title players begun

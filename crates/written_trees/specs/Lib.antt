@@ -1,0 +1,4 @@
+pub mod Building
+pub mod Described
+pub mod Laws
+pub mod Written
