@@ -1,3 +1,0 @@
-pub mod OutcomeUses
-pub mod SetUses
-pub mod UseSteps

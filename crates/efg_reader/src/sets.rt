@@ -1,0 +1,122 @@
+// The information sets, numbered by their first use.
+ghost use Rattle.std.specs.Prelude.{◌≡◌, ◌<◌, length, option_map, IfOk, OnOk};
+ghost use Rattle.file_parts.specs.Reading.{Reads, kinds};
+ghost use Rattle.efg_reader.specs.States.{begun_sets, AreSets};
+ghost use Rattle.efg_reader.specs.TreeReading.{set_step_at};
+
+use crate::actions::{first_list, later_list};
+use crate::fault::EfgKind;
+use crate::pieces::positive;
+use file_parts::{Refusal, copied, optional_text, unfit};
+use game_core::{Action, Name};
+use game_text::Spanned;
+use indexmap::IndexSet;
+use std::alloc::{AllocError, Global};
+
+/// What tells a set from others: chance and each player number their sets separately.
+#[derive(Clone, Copy, Debug, PartialEq, Eq, Hash)]
+pub struct SetKey {
+    /// The owner, and nothing for chance.
+    pub owner: Option<u32>,
+    /// The number that the file gives it.
+    pub label: u64,
+}
+
+/// A set as far as it was used.
+#[derive(Drop)]
+pub struct SetBegun {
+    /// The owner, and nothing for chance.
+    pub owner: Option<u32>,
+    /// The number that the file gives it.
+    pub label: u64,
+    /// Its first name, where one came.
+    pub name: Option<Name>,
+    /// The actions of its first use.
+    pub actions: Vec<Action>,
+    /// The nodes that use it.
+    pub members: Vec<u32>,
+}
+
+/// The sets in the order of their first use.
+#[derive(Drop)]
+pub struct Sets {
+    /// What tells them apart.
+    pub keys: IndexSet<SetKey>,
+    /// The sets.
+    pub list: Vec<SetBegun>,
+}
+
+// A name of its own, where one came.
+pub fn optional_name(alloc: Global, name: Option<&Name>) -> Result<Option<Name>, AllocError>
+    ensures { IfOk result (λ copy. copy ≡ option_map (λ n. n.now) name) }
+{
+    match name {
+        Some(name) => Ok(Some(copied(alloc, name)?)),
+        None => Ok(None),
+    }
+}
+
+// A set of a first use by this node, with the actions that come; and the tokens behind them.
+fn first_use<'a>(
+    alloc: Global,
+    key: SetKey,
+    name: Option<&Name>,
+    node: u32,
+    tokens: &'a [Spanned],
+) -> Result<(SetBegun, &'a [Spanned]), Refusal<EfgKind>> {
+    let (actions, rest) = first_list(alloc, tokens, key.owner, key.label)?;
+    let name = optional_name(alloc, name)?;
+    let members = Vec::from_slice(alloc, &[node])?;
+    let set = SetBegun {
+        owner: key.owner,
+        label: key.label,
+        name,
+        actions,
+        members,
+    };
+    Ok((set, rest))
+}
+
+// The tokens behind a later use of a set by this node, which is noted.
+fn later_use<'a>(
+    alloc: Global,
+    set: &mut SetBegun,
+    name: Option<&Name>,
+    node: u32,
+    tokens: &'a [Spanned],
+) -> Result<&'a [Spanned], Refusal<EfgKind>> {
+    let rest = later_list(tokens, set.owner, set.actions.as_slice())?;
+    if set.name.is_none() {
+        set.name = optional_name(alloc, name)?;
+    }
+    set.members.push(node)?;
+    Ok(rest)
+}
+
+/// The number of the set that this node of this owner uses, and the tokens behind it.
+pub fn read_set<'a>(
+    alloc: Global,
+    sets: &mut Sets,
+    owner: Option<u32>,
+    node: u32,
+    tokens: &'a [Spanned],
+) -> Result<(usize, &'a [Spanned]), Refusal<EfgKind>>
+    requires sets { AreSets sets.old }
+    ensures sets { OnOk result (AreSets sets.new) }
+    ensures read { Reads (λ x. ((begun_sets sets.new, x.0), kinds x.1.now)) result (set_step_at node (begun_sets sets.old) owner (kinds tokens.now)) }
+{
+    let Some((label, behind)) = positive(tokens) else {
+        return Err(unfit(EfgKind::Node, tokens));
+    };
+    let (name, behind) = optional_text(behind);
+    let key = SetKey { owner, label };
+    let (place, is_new) = sets.keys.insert_full(key)?;
+    if is_new {
+        let (set, rest) = first_use(alloc, key, name, node, behind)?;
+        sets.list.push(set)?;
+        Ok((place, rest))
+    } else {
+        let rest = later_use(alloc, &mut sets.list[place], name, node, behind)?;
+        Ok((place, rest))
+    }
+}
