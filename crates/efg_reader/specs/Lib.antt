@@ -1,3 +1,4 @@
 pub mod States
+pub mod Stops
 pub mod TreeFile
 pub mod TreeReading

@@ -6,13 +6,14 @@ use Rattle.rational.specs.Rational.{ℚ, ◌+ℚ◌, zero_ℚ, one_ℚ}
 use Rattle.frac128.specs.Fraction.{eq_ℚ}
 use Rattle.game_core.specs.declared.tree.Action.{Action}
 use Rattle.game_core.specs.declared.too_large.What.{What}
+use Rattle.game_core.specs.declared.tree.Kind.{Kind}
 use Rattle.game_core.specs.Tree.{GameTree}
 use Rattle.game_text.specs.declared.token.Token.{Token}
 use Rattle.game_text.specs.declared.token.Token.TheVariants.{Left, Right, Text, Word, Number}
 use Rattle.file_parts.specs.Reading.{◌>>=◌, left_at, right_at, text_at, word_at, number_at, whole_at, label_at, optional_text_at, behind_text, names_at, texts_at, payoff_at, payoffs_at, title_at, opens, ends}
 use Rattle.written_trees.specs.Written.{SetUse, OutcomeUse, WrittenNode}
-use Rattle.written_trees.specs.Described.{key_of}
-use Rattle.written_trees.specs.Building.{Begun, use_some_outcome, may_be_first, repeats_actions, repeats_payoffs, BegunSet, BegunOutcome, add_node, use_set, use_outcome, set_place, outcome_place, new_set, used_set, new_outcome, used_outcome, may_follow, passed, nothing_begun, tree_begun}
+use Rattle.written_trees.specs.Described.{key_of, kind_of_use}
+use Rattle.written_trees.specs.Building.{Begun, use_some_set, use_some_outcome, may_be_first, repeats_actions, repeats_payoffs, BegunSet, BegunOutcome, add_node, use_set, use_outcome, set_place, outcome_place, new_set, used_set, new_outcome, used_outcome, may_follow, passed, nothing_begun, tree_begun}
 
 -- ---- a list of actions
 -- as many actions as come
@@ -240,3 +241,11 @@ outcome_step_at players outcomes tokens = do
   used ← outcome_use_at players tokens
   more ← with_outcome outcomes used.0
   Some (more, used.1)
+
+-- ---- a node beside those before it, as it is read
+-- who chooses at node k, and the sets with the one that it uses
+unfoldable pub choice_step_at : ℕ → ℕ → List BegunSet → List Token → Option ((List BegunSet × (Kind × Option ℕ)) × List Token)
+choice_step_at players k sets tokens = do
+  used ← choice_at players tokens
+  more ← use_some_set k sets used.0
+  Some ((more, (kind_of_use used.0, option_map (λ u. set_place sets (key_of u)) used.0)), used.1)

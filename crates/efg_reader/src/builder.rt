@@ -1,13 +1,23 @@
 // The tree as far as it is begun.
+ghost use Rattle.std.specs.Prelude.{◌≡◌, ◌<◌, ℕ, All, IfOk};
+ghost use Rattle.written_trees.specs.Building.{passed, nothing_begun, begun_count};
+ghost use Rattle.efg_reader.specs.States.{begun_of, begun_sets, branchings_of, IsBuilder, HasTaken};
+
 use crate::outcomes::Outcomes;
 use crate::sets::Sets;
-use game_core::{Node, What};
+use game_core::{Kind, Node, What};
 use indexmap::IndexSet;
-use std::alloc::Global;
+use std::alloc::{AllocError, Global};
+
+/// The most nodes of a tree.
+const MOST_NODES: usize = 65536;
+
+/// The most edges from the root to a node.
+const MOST_DEPTH: u32 = 1024;
 
 /// A node some of whose actions lead nowhere yet; before the root there is one of these without a node.
 #[derive(Clone, Copy, Debug, PartialEq, Eq)]
-pub struct Open {
+pub struct Branching {
     /// The node, and nothing before the root.
     pub node: Option<u32>,
     /// The first action that leads nowhere yet.
@@ -16,6 +26,15 @@ pub struct Open {
     pub count: usize,
     /// How many edges below the root the children lie.
     pub depth: u32,
+}
+
+/// What a node says of the choice that is made there.
+#[derive(Clone, Copy, Debug, PartialEq, Eq)]
+pub struct Choice {
+    /// Who chooses.
+    pub kind: Kind,
+    /// The number of the information set, and nothing at an end.
+    pub set: Option<u32>,
 }
 
 /// The tree as far as it is begun.
@@ -28,5 +47,101 @@ pub struct Builder {
     /// The outcomes.
     pub outcomes: Outcomes,
     /// The nodes with free places; the last one has the first of them.
-    pub open: Vec<Open>,
+    pub branchings: Vec<Branching>,
+}
+
+// Takes the first free place.
+fn take_place(branchings: &mut Vec<Branching>) -> Option<Branching>
+    requires next { All (λ b. b.next < 4294967295) branchings.old.items }
+    ensures { HasTaken (branchings_of branchings.old.items) result (branchings_of branchings.new.items) }
+{
+    let last = branchings.len().checked_sub(1)?;
+    let taken = branchings[last];
+    if (taken.next as usize) + 1 < taken.count {
+        branchings[last].next += 1;
+    } else {
+        branchings.pop();
+    }
+    Some(taken)
+}
+
+impl Builder {
+    /// Nothing but the place of the root.
+    pub fn new(alloc: Global) -> Result<Builder, AllocError>
+        ensures nothing { IfOk result (λ builder. begun_of builder ≡ nothing_begun) }
+        ensures valid { (players : ℕ) → IfOk result (IsBuilder players) }
+    {
+        let root = Branching {
+            node: None,
+            next: 0,
+            count: 1,
+            depth: 0,
+        };
+        let sets = Sets {
+            keys: IndexSet::new(alloc),
+            list: Vec::new(alloc),
+        };
+        let outcomes = Outcomes {
+            labels: IndexSet::new(alloc),
+            list: Vec::new(alloc),
+        };
+        Ok(Builder {
+            nodes: Vec::new(alloc),
+            sets,
+            outcomes,
+            branchings: Vec::from_slice(alloc, &[root])?,
+        })
+    }
+
+    /// The limit that a further node would pass.
+    pub fn passed(&self) -> Option<What>
+        ensures { result ≡ passed (begun_of self.now) }
+    {
+        let branching = self.branchings.last()?;
+        if self.nodes.len() >= MOST_NODES {
+            Some(What::Nodes)
+        } else if branching.depth > MOST_DEPTH {
+            Some(What::Depth)
+        } else {
+            None
+        }
+    }
+
+    // How many actions a set has, and none at an end.
+    fn count(&self, set: Option<u32>) -> usize
+        ensures { result ≡ begun_count (begun_sets self.now.sets) set }
+    {
+        match set {
+            None => 0,
+            Some(set) => match self.sets.list.get(set as usize) {
+                Some(set) => set.actions.len(),
+                None => 0,
+            },
+        }
+    }
+
+    /// Adds a node with this choice and this outcome at the first free place.
+    pub fn add(&mut self, choice: Choice, outcome: Option<u32>) -> Result<(), AllocError> {
+        let Some(place) = take_place(&mut self.branchings) else {
+            return Ok(());
+        };
+        let number = self.nodes.len() as u32;
+        let count = self.count(choice.set);
+        if count > 0 {
+            self.branchings.push(Branching {
+                node: Some(number),
+                next: 0,
+                count,
+                depth: place.depth + 1,
+            })?;
+        }
+        self.nodes.push(Node {
+            kind: choice.kind,
+            parent: place.node,
+            branch: place.next,
+            set: choice.set,
+            outcome,
+        })?;
+        Ok(())
+    }
 }

@@ -170,16 +170,16 @@ fn read_named<'a>(
     label: u64,
     players: usize,
     tokens: &'a [Spanned],
-) -> Result<(usize, &'a [Spanned]), Refusal<EfgKind>> {
+) -> Result<(u32, &'a [Spanned]), Refusal<EfgKind>> {
     let (name, behind) = optional_text(tokens);
     let (place, is_new) = outcomes.labels.insert_full(label)?;
     if is_new {
         let (outcome, rest) = first_use(alloc, label, name, players, behind)?;
         outcomes.list.push(outcome)?;
-        Ok((place, rest))
+        Ok((place as u32, rest))
     } else {
         let rest = later_use(alloc, &mut outcomes.list[place], name, behind)?;
-        Ok((place, rest))
+        Ok((place as u32, rest))
     }
 }
 
@@ -189,8 +189,9 @@ pub fn read_outcome<'a>(
     outcomes: &mut Outcomes,
     players: usize,
     tokens: &'a [Spanned],
-) -> Result<(Option<usize>, &'a [Spanned]), Refusal<EfgKind>>
+) -> Result<(Option<u32>, &'a [Spanned]), Refusal<EfgKind>>
     requires outcomes { AreOutcomes players outcomes.old }
+    requires few { length outcomes.old.list.items < 4294967295 }
     ensures outcomes { OnOk result (AreOutcomes players outcomes.new) }
     ensures read { Reads (λ x. ((begun_outcomes outcomes.new, x.0), kinds x.1.now)) result (outcome_step_at players (begun_outcomes outcomes.old) (kinds tokens.now)) }
 {

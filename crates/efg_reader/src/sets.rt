@@ -100,8 +100,9 @@ pub fn read_set<'a>(
     owner: Option<u32>,
     node: u32,
     tokens: &'a [Spanned],
-) -> Result<(usize, &'a [Spanned]), Refusal<EfgKind>>
+) -> Result<(u32, &'a [Spanned]), Refusal<EfgKind>>
     requires sets { AreSets sets.old }
+    requires few { length sets.old.list.items < 4294967295 }
     ensures sets { OnOk result (AreSets sets.new) }
     ensures read { Reads (λ x. ((begun_sets sets.new, x.0), kinds x.1.now)) result (set_step_at node (begun_sets sets.old) owner (kinds tokens.now)) }
 {
@@ -114,9 +115,9 @@ pub fn read_set<'a>(
     if is_new {
         let (set, rest) = first_use(alloc, key, name, node, behind)?;
         sets.list.push(set)?;
-        Ok((place, rest))
+        Ok((place as u32, rest))
     } else {
         let rest = later_use(alloc, &mut sets.list[place], name, node, behind)?;
-        Ok((place, rest))
+        Ok((place as u32, rest))
     }
 }

@@ -1,5 +1,6 @@
 pub mod HeaderLaws
 pub mod NumberLaws
 pub mod Options
+pub mod Places
 pub mod Repeats
 pub mod TokenLaws

@@ -1,5 +1,5 @@
 // Names and payoffs, one after another.
-ghost use Rattle.std.specs.Prelude.{◌≡◌, length, IfOk};
+ghost use Rattle.std.specs.Prelude.{◌≡◌, ◌≤◌, length, IfOk};
 ghost use Rattle.file_parts.specs.declared.refusal.Refusal.TheVariants.{Unfit};
 ghost use Rattle.file_parts.specs.Reading.{Gives, Reads, kinds, texts_at, names_at, payoff_start, payoff_at, payoffs_at};
 
@@ -7,7 +7,7 @@ use crate::pieces::{behind_comma, left, number, right, text};
 use crate::refusal::Refusal;
 use frac128::Frac;
 use game_core::Name;
-use game_text::Spanned;
+use game_text::{Spanned, Tokens};
 use std::alloc::{AllocError, Global};
 
 /// That the first of these tokens does not fit.
@@ -15,6 +15,20 @@ pub fn unfit<K>(kind: K, tokens: &[Spanned]) -> Refusal<K>
     ensures { result ≡ Unfit kind (length tokens.now) }
 {
     Refusal::Unfit(kind, tokens.len())
+}
+
+/// Where the token stands from which on so many are left, as a byte offset from 0, or the source's length where none
+/// is.
+pub fn place(tokens: &Tokens, left: usize) -> usize
+    ensures { result ≤ tokens.now.length }
+{
+    let list = tokens.list();
+    let index = list.len().saturating_sub(left);
+    if index < list.len() {
+        list[index].start
+    } else {
+        tokens.source_length()
+    }
 }
 
 /// A name of its own with these bytes.

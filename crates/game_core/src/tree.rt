@@ -1,8 +1,13 @@
 // Games as trees.
-ghost use Rattle.std.specs.Prelude.{◌≡◌};
+ghost use Rattle.std.specs.Prelude.{◌≡◌, ◌<◌, ◌^◌, [], All, length, map, slice_get, IfOk};
+ghost use Rattle.game_trees.specs.Trees.{IsTree as is_game_tree};
+ghost use Rattle.game_core.specs.OwnSets.{AreOwnLists};
+ghost use Rattle.game_core.specs.Tree.{IsTree, IsWithin, GameTree, own_sets};
+ghost use Rattle.game_core.specs.TreeGame.{game_of_tree};
 
 use crate::name::Name;
-use frac128::Frac;
+use frac128::{Frac, Memory};
+use std::alloc::Global;
 use std::marker::Model;
 
 /// Who chooses at a node.
@@ -175,3 +180,136 @@ impl Outcome {
     }
 }
 
+// No set for each player.
+fn no_lists(alloc: Global, players: usize) -> Result<Vec<Vec<u32>>, Memory>
+    ensures { IfOk result (λ lists. AreOwnLists [] players (map (λ v. v.items) lists.items)) }
+{
+    let mut lists = Vec::new(alloc);
+    for _ in 0..players {
+        lists.push(Vec::new(alloc))?;
+    }
+    Ok(lists)
+}
+
+// The numbers of each player's own sets in order.
+fn own_lists(alloc: Global, players: usize, sets: &[InfoSet]) -> Result<Vec<Vec<u32>>, Memory>
+    requires few { length sets.now < 2 ^ 32 }
+    requires owners { All (λ set. IsWithin players set.owner) sets.now }
+    ensures { IfOk result (λ lists. AreOwnLists sets.now players (map (λ v. v.items) lists.items)) }
+{
+    let mut lists = no_lists(alloc, players)?;
+    for number in 0..sets.len() {
+        if let Some(player) = sets[number].owner() {
+            lists[player as usize].push(number as u32)?;
+        }
+    }
+    Ok(lists)
+}
+
+/// A game as a tree. The nodes stand in prefix order, the sets and the outcomes in the order in which the nodes
+/// first name them. There are at most 65,536 nodes, none more than 1,024 edges from the root.
+#[derive(Debug, Drop)]
+pub struct Tree {
+    title: Name,
+    players: Vec<Name>,
+    nodes: Vec<Node>,
+    sets: Vec<InfoSet>,
+    outcomes: Vec<Outcome>,
+    own: Vec<Vec<u32>>,
+}
+
+impl Model for Tree {
+    ghost use Rattle.std.specs.Prelude.{length, map};
+    ghost use Rattle.game_core.specs.Tree.{GameTree, IsTree};
+    ghost use Rattle.game_core.specs.TreeCodes.{code_of_tree};
+    ghost use Rattle.game_core.specs.OwnSets.{AreOwnLists};
+
+    ghost Value = { GameTree };
+
+    ghost coded = { code_of_tree };
+
+    ghost view = { λ t. record { title = t.title; players = t.players.items; nodes = t.nodes.items; sets = t.sets.items; outcomes = t.outcomes.items } };
+
+    ghost invariant = { λ t. IsTree (record { title = t.title; players = t.players.items; nodes = t.nodes.items; sets = t.sets.items; outcomes = t.outcomes.items })
+        × AreOwnLists t.sets.items (length t.players.items) (map (λ v. v.items) t.own.items) };
+}
+
+impl Tree {
+    /// The tree with these parts.
+    pub fn new(
+        alloc: Global,
+        title: Name,
+        players: Vec<Name>,
+        nodes: Vec<Node>,
+        sets: Vec<InfoSet>,
+        outcomes: Vec<Outcome>,
+    ) -> Result<Tree, Memory>
+        requires { IsTree (record { title = title; players = players.items; nodes = nodes.items; sets = sets.items; outcomes = outcomes.items }) }
+        ensures { IfOk result (λ t. t ≡ record { title = title; players = players.items; nodes = nodes.items; sets = sets.items; outcomes = outcomes.items }) }
+    {
+        let own = own_lists(alloc, players.len(), sets.as_slice())?;
+        Ok(Tree {
+            title,
+            players,
+            nodes,
+            sets,
+            outcomes,
+            own,
+        })
+    }
+
+    /// The game's title.
+    pub fn title(&self) -> &Name
+        ensures title { result.now ≡ self.now.title }
+        ensures valid { IsTree self.now }
+    {
+        &self.title
+    }
+
+    /// The players' names.
+    pub fn players(&self) -> &[Name]
+        ensures players { result.now ≡ self.now.players }
+        ensures valid { IsTree self.now }
+    {
+        self.players.as_slice()
+    }
+
+    /// The nodes in prefix order.
+    pub fn nodes(&self) -> &[Node]
+        ensures nodes { result.now ≡ self.now.nodes }
+        ensures valid { IsTree self.now }
+    {
+        self.nodes.as_slice()
+    }
+
+    /// The information sets, in the order in which the nodes first name them.
+    pub fn sets(&self) -> &[InfoSet]
+        ensures sets { result.now ≡ self.now.sets }
+        ensures valid { IsTree self.now }
+    {
+        self.sets.as_slice()
+    }
+
+    /// The outcomes, in the order in which the nodes first name them.
+    pub fn outcomes(&self) -> &[Outcome]
+        ensures outcomes { result.now ≡ self.now.outcomes }
+        ensures valid { IsTree self.now }
+    {
+        self.outcomes.as_slice()
+    }
+
+    /// The number of the set at this place among a player's own sets in order; nothing exactly where the player
+    /// has no more sets. Takes no memory.
+    pub fn own_sets(&self, player: u32, place: u32) -> Option<u32>
+        ensures { result ≡ slice_get (own_sets self.now player) place }
+    {
+        let list = self.own.get(player as usize)?;
+        let set = list.get(place as usize)?;
+        Some(*set)
+    }
+}
+
+/// What a tree stands for is a game tree.
+pub fn trees_are_game_trees()
+    ensures { (t : GameTree) → IsTree t → is_game_tree (game_of_tree t) }
+{}

@@ -1,6 +1,6 @@
 -- Two trees worked out: one-card poker and an entry game.
-use Rattle.std.specs.Prelude.{ℕ, zero, suc, ◌≡◌, ◌⊎◌, List, [], ◌∷◌, length, map, slice_index_or, Option, Some, None, ℤ, pos, negsuc}
-use Rattle.rational.specs.Rational.{ℚ, frac, whole, zero_ℚ}
+use Rattle.std.specs.Prelude.{ℕ, zero, suc, ◌≡◌, ◌⊎◌, List, [], ◌∷◌, length, slice_index_or, Option, Some, None, ℤ, pos, negsuc}
+use Rattle.rational.specs.Rational.{frac, whole, zero_ℚ}
 use Rattle.game_trees.specs.Trees.{Tree}
 use Rattle.game_trees.specs.Behaviour.{Behaviour, IsValid, payoff, pure}
 use Rattle.game_trees.specs.Equilibrium.{IsEquilibrium}
@@ -41,8 +41,8 @@ tree_of players rows owners = record {
 abbrev pub one_card_poker : Tree
 one_card_poker = tree_of 2
     (inner 0 0 0
-     ∷ inner 0 0 1 ∷ inner 1 0 3 ∷ end 2 0 (pos 2 ∷ negsuc 1 ∷ []) ∷ end 2 1 (pos 1 ∷ negsuc 0 ∷ []) ∷ end 1 1 (pos 1 ∷ negsuc 0 ∷ [])
-     ∷ inner 0 1 2 ∷ inner 6 0 3 ∷ end 7 0 (negsuc 1 ∷ pos 2 ∷ []) ∷ end 7 1 (pos 1 ∷ negsuc 0 ∷ []) ∷ end 6 1 (negsuc 0 ∷ pos 1 ∷ []) ∷ [])
+    ∷ inner 0 0 1 ∷ inner 1 0 3 ∷ end 2 0 (pos 2 ∷ negsuc 1 ∷ []) ∷ end 2 1 (pos 1 ∷ negsuc 0 ∷ []) ∷ end 1 1 (pos 1 ∷ negsuc 0 ∷ [])
+    ∷ inner 0 1 2 ∷ inner 6 0 3 ∷ end 7 0 (negsuc 1 ∷ pos 2 ∷ []) ∷ end 7 1 (pos 1 ∷ negsuc 0 ∷ []) ∷ end 6 1 (negsuc 0 ∷ pos 1 ∷ []) ∷ [])
     (None ∷ Some 0 ∷ Some 0 ∷ Some 1 ∷ [])
 
 -- Fred raises on red, and with probability 1/3 on black; Alice meets with probability 2/3.

@@ -1,5 +1,5 @@
 -- The laws of game trees, each carried by the contract of a function of this crate.
-use Rattle.std.specs.Prelude.{ℕ, ◌<◌, ◌≡◌, true, false, Option, Some, None}
+use Rattle.std.specs.Prelude.{ℕ, ◌<◌, ◌≡◌, true, false, Some, None}
 use Rattle.rational.specs.Rational.{ℚ, ◌+ℚ◌, ◌*ℚ◌, zero_ℚ}
 use Rattle.rational.specs.Sum.{sum_to}
 use Rattle.game_trees.specs.Trees.{Tree, IsTree, IsChild, IsWithin}

@@ -1,5 +1,5 @@
 -- Perfect recall. Source: Kuhn 1953; von Stengel 1996.
-use Rattle.std.specs.Prelude.{ℕ, zero, suc, ◌<◌, ◌≡◌, Bool, true, false, if◌then◌else◌, List, [], ◌∷◌, ◌++◌, Option, Some, None}
+use Rattle.std.specs.Prelude.{ℕ, zero, suc, ◌<◌, ◌≡◌, if◌then◌else◌, List, [], ◌∷◌, ◌++◌, Option, Some, None}
 use Rattle.game_trees.specs.Trees.{Tree}
 use Rattle.game_trees.specs.Behaviour.{is_own}
 

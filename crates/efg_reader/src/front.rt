@@ -1,0 +1,33 @@
+// The part of a file up to the nodes.
+ghost use Rattle.std.specs.Prelude.{◌≡◌};
+ghost use Rattle.file_parts.specs.Reading.{Reads, kinds};
+ghost use Rattle.efg_reader.specs.TreeReading.{front_at};
+
+use crate::fault::EfgKind;
+use file_parts::{Refusal, behind_text, copied, names, title};
+use game_core::Name;
+use game_text::Spanned;
+use std::alloc::Global;
+
+/// The title and the players.
+#[derive(Drop)]
+pub struct Front {
+    /// The title.
+    pub title: Name,
+    /// The players' names.
+    pub players: Vec<Name>,
+}
+
+/// The title, the players, and the tokens behind them and the comment that may come.
+#[tactic(auto, unfolding(crate::specs::TreeReading::front_at))]
+pub fn read_front(
+    alloc: Global,
+    tokens: &[Spanned],
+) -> Result<(Front, &[Spanned]), Refusal<EfgKind>>
+    ensures { Reads (λ x. ((x.0.title, x.0.players.items), kinds x.1.now)) result (front_at (kinds tokens.now)) }
+{
+    let (title, behind) = title(tokens, b"EFG", 2, EfgKind::Header)?;
+    let title = copied(alloc, title)?;
+    let (players, behind) = names(alloc, behind, EfgKind::Players)?;
+    Ok((Front { title, players }, behind_text(behind)))
+}

@@ -1,0 +1,158 @@
+// The nodes of a file.
+ghost use Rattle.std.specs.Prelude.{◌≡◌, ◌<◌, ◌≢◌, [], None, length, IfOk, OnOk};
+ghost use Rattle.file_parts.specs.Reading.{Reads, kinds};
+ghost use Rattle.efg_reader.specs.States.{begun_of, begun_sets, AreSets, IsBuilder, ReadsNodes};
+ghost use Rattle.efg_reader.specs.TreeReading.{choice_step_at, next_at, one_more_at, nodes_at, whole_nodes_at};
+ghost use Rattle.written_trees.specs.Building.{passed};
+
+use crate::builder::{Builder, Choice};
+use crate::fault::EfgKind;
+use crate::outcomes::read_outcome;
+use crate::pieces::{begins_node, player};
+use crate::sets::{Sets, read_set};
+use file_parts::{Refusal, ends, text, unfit, word};
+use game_core::{Kind, What};
+use game_text::Spanned;
+use std::alloc::{AllocError, Global};
+
+/// Why nodes are not read.
+#[derive(Clone, Copy, Debug, PartialEq, Eq)]
+pub enum Stop {
+    /// A token does not fit, or memory ran out.
+    Refused(Refusal<EfgKind>),
+    /// A node passes a limit.
+    Passed(What),
+}
+
+impl From<Refusal<EfgKind>> for Stop {
+    ghost use Rattle.std.specs.Prelude.{◌≡◌};
+    ghost use Rattle.efg_reader.specs.declared.nodes.Stop.TheVariants.{Refused};
+
+    ghost from_gives = { λ refusal stop. stop ≡ Refused refusal };
+
+    fn from(refusal: Refusal<EfgKind>) -> Stop {
+        Stop::Refused(refusal)
+    }
+}
+
+impl From<AllocError> for Stop {
+    ghost use Rattle.std.specs.Prelude.{◌≡◌};
+    ghost use Rattle.file_parts.specs.declared.refusal.Refusal.TheVariants.{Memory};
+    ghost use Rattle.efg_reader.specs.declared.nodes.Stop.TheVariants.{Refused};
+
+    ghost from_gives = { λ _ stop. stop ≡ Refused Memory };
+
+    fn from(_error: AllocError) -> Stop {
+        Stop::Refused(Refusal::Memory)
+    }
+}
+
+// A node with this number up to its outcome: the choice that is made there, and the tokens behind it.
+fn choice<'a>(
+    alloc: Global,
+    sets: &mut Sets,
+    players: u32,
+    number: u32,
+    tokens: &'a [Spanned],
+) -> Result<(Choice, &'a [Spanned]), Refusal<EfgKind>>
+    requires sets { AreSets sets.old }
+    requires few { length sets.old.list.items < 4294967295 }
+    ensures sets { OnOk result (AreSets sets.new) }
+    ensures read { Reads (λ x. ((begun_sets sets.new, (x.0.kind, x.0.set)), kinds x.1.now)) result (choice_step_at players number (begun_sets sets.old) (kinds tokens.now)) }
+{
+    let Some((word, behind)) = word(tokens) else {
+        return Err(unfit(EfgKind::Node, tokens));
+    };
+    let Some((_, behind)) = text(behind) else {
+        return Err(unfit(EfgKind::Node, behind));
+    };
+    if word.bytes() == b"c".as_slice() {
+        let (set, rest) = read_set(alloc, sets, None, number, behind)?;
+        let choice = Choice {
+            kind: Kind::Chance,
+            set: Some(set),
+        };
+        Ok((choice, rest))
+    } else if word.bytes() == b"p".as_slice() {
+        let (player, behind) = player(behind, players)?;
+        let (set, rest) = read_set(alloc, sets, Some(player), number, behind)?;
+        let choice = Choice {
+            kind: Kind::Move { player },
+            set: Some(set),
+        };
+        Ok((choice, rest))
+    } else if word.bytes() == b"t".as_slice() {
+        let choice = Choice {
+            kind: Kind::End,
+            set: None,
+        };
+        Ok((choice, behind))
+    } else {
+        Err(unfit(EfgKind::Node, tokens))
+    }
+}
+
+// A further node, which passes no limit, and the tokens behind it.
+fn next<'a>(
+    alloc: Global,
+    builder: &mut Builder,
+    players: u32,
+    tokens: &'a [Spanned],
+) -> Result<&'a [Spanned], Refusal<EfgKind>>
+    requires valid { IsBuilder players builder.old }
+    requires room { passed (begun_of builder.old) ≡ None }
+    requires free { (begun_of builder.old).branchings ≢ [] }
+    ensures valid { OnOk result (IsBuilder players builder.new) }
+    ensures shorter { IfOk result (λ rest. length rest.now < length tokens.now) }
+    ensures read { Reads (λ rest. (begun_of builder.new, kinds rest.now)) result (next_at players (begun_of builder.old) (kinds tokens.now)) }
+{
+    let number = builder.nodes.len() as u32;
+    let (choice, behind) = choice(alloc, &mut builder.sets, players, number, tokens)?;
+    let (outcome, rest) = read_outcome(alloc, &mut builder.outcomes, players as usize, behind)?;
+    builder.add(choice, outcome)?;
+    Ok(rest)
+}
+
+// A further node, and the tokens behind it.
+#[tactic(auto, unfolding(crate::specs::TreeReading::one_more_at))]
+fn one_more<'a>(
+    alloc: Global,
+    builder: &mut Builder,
+    players: u32,
+    tokens: &'a [Spanned],
+) -> Result<&'a [Spanned], Stop>
+    requires valid { IsBuilder players builder.old }
+    requires free { (begun_of builder.old).branchings ≢ [] }
+    ensures valid { OnOk result (IsBuilder players builder.new) }
+    ensures shorter { IfOk result (λ rest. length rest.now < length tokens.now) }
+    ensures read { ReadsNodes (λ rest. (begun_of builder.new, kinds rest.now)) result (one_more_at players (begun_of builder.old) (kinds tokens.now)) }
+{
+    if !begins_node(tokens) {
+        return Err(Stop::Refused(unfit(EfgKind::Node, tokens)));
+    }
+    if let Some(what) = builder.passed() {
+        return Err(Stop::Passed(what));
+    }
+    match next(alloc, builder, players, tokens) {
+        Ok(rest) => Ok(rest),
+        Err(refusal) => Err(Stop::Refused(refusal)),
+    }
+}
+
+/// The tree of all nodes of a file, behind which it ends.
+#[tactic(auto, unfolding(crate::specs::TreeReading::whole_nodes_at))]
+pub fn read_nodes(alloc: Global, players: u32, tokens: &[Spanned]) -> Result<Builder, Stop>
+    ensures valid { IfOk result (IsBuilder players) }
+    ensures read { ReadsNodes (λ builder. begun_of builder) result (whole_nodes_at players (kinds tokens.now)) }
+{
+    let mut builder = Builder::new(alloc)?;
+    let mut rest = tokens;
+    while !builder.branchings.is_empty() {
+        rest = one_more(alloc, &mut builder, players, rest)?;
+    }
+    if ends(rest) {
+        Ok(builder)
+    } else {
+        Err(Stop::Refused(unfit(EfgKind::Trailing, rest)))
+    }
+}

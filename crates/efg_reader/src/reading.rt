@@ -1,0 +1,134 @@
+// Reads a tree from the tokens of a file.
+ghost use Rattle.std.specs.Prelude.{◌≡◌, ◌≤◌, ◌<◌, ◌^◌, List, length, map, IfOk, IfErr};
+ghost use Rattle.efg_reader.specs.declared.fault.EfgStop.TheVariants.{Memory};
+ghost use Rattle.std.specs.List.{AllByRecursion};
+ghost use Rattle.game_core.specs.Tree.{GameTree, IsTree};
+ghost use Rattle.game_text.specs.declared.token.Token.{Token as token};
+ghost use Rattle.game_text.specs.Tokens.{IsShortToken};
+ghost use Rattle.written_trees.specs.Described.{or_empty};
+ghost use Rattle.written_trees.specs.Building.{finished_set, finished_outcome, tree_begun};
+ghost use Rattle.efg_reader.specs.TreeFile.{IsTreeFile};
+ghost use Rattle.efg_reader.specs.States.{begun_of, begun_set, begun_outcome};
+ghost use Rattle.efg_reader.specs.Stops.{IsStop, IsStopOf, IsNodesStopOf};
+
+use crate::builder::Builder;
+use crate::fault::{EfgFault, EfgKind, EfgStop};
+use crate::front::{Front, read_front};
+use crate::nodes::{Stop, read_nodes};
+use crate::outcomes::OutcomeBegun;
+use crate::sets::SetBegun;
+use file_parts::{Refusal, place};
+use game_core::{InfoSet, Name, Outcome, TooLarge, Tree, What};
+use game_text::Tokens;
+use std::alloc::{AllocError, Global};
+
+// The stop for a refusal.
+fn stop(refusal: Refusal<EfgKind>, tokens: &Tokens) -> EfgStop
+    ensures { IsStopOf refusal tokens.now.length result }
+{
+    match refusal {
+        Refusal::Unfit(kind, left) => EfgStop::Fault(EfgFault {
+            at: place(tokens, left),
+            kind,
+        }),
+        Refusal::Memory => EfgStop::Memory,
+    }
+}
+
+// The stop for nodes that are not read: where the tokens end inside the nodes, that is the fault.
+fn nodes_stop(stopped: Stop, tokens: &Tokens) -> EfgStop
+    ensures { IsNodesStopOf stopped tokens.now.length result }
+{
+    match stopped {
+        Stop::Refused(Refusal::Unfit(_, 0)) => stop(Refusal::Unfit(EfgKind::Unfinished, 0), tokens),
+        Stop::Refused(refusal) => stop(refusal, tokens),
+        Stop::Passed(What::Nodes) => EfgStop::TooLarge(TooLarge {
+            what: What::Nodes,
+            count: 65537,
+            limit: 65536,
+        }),
+        Stop::Passed(_) => EfgStop::TooLarge(TooLarge {
+            what: What::Depth,
+            count: 1025,
+            limit: 1024,
+        }),
+    }
+}
+
+// The name that came, and else the empty one.
+fn or_empty(alloc: Global, name: Option<Name>) -> Name
+    ensures { result ≡ or_empty name }
+{
+    match name {
+        Some(name) => name,
+        None => Name::new(Vec::new(alloc)),
+    }
+}
+
+// The sets with their names.
+fn finished_sets(alloc: Global, sets: Vec<SetBegun>) -> Result<Vec<InfoSet>, AllocError>
+    ensures { IfOk result (λ v. v.items ≡ map finished_set (map begun_set sets.items)) }
+{
+    let mut finished = Vec::new(alloc);
+    for set in sets {
+        let name = or_empty(alloc, set.name);
+        finished.push(InfoSet::new(
+            set.owner,
+            set.label,
+            name,
+            set.actions,
+            set.members,
+        ))?;
+    }
+    Ok(finished)
+}
+
+// The outcomes with their names.
+fn finished_outcomes(
+    alloc: Global,
+    outcomes: Vec<OutcomeBegun>,
+) -> Result<Vec<Outcome>, AllocError>
+    ensures { IfOk result (λ v. v.items ≡ map finished_outcome (map begun_outcome outcomes.items)) }
+{
+    let mut finished = Vec::new(alloc);
+    for outcome in outcomes {
+        let name = or_empty(alloc, outcome.name);
+        finished.push(Outcome::new(outcome.label, name, outcome.payoffs))?;
+    }
+    Ok(finished)
+}
+
+// The tree with these parts.
+fn tree(alloc: Global, front: Front, builder: Builder) -> Result<Tree, EfgStop>
+    requires { IsTree (tree_begun front.title front.players.items (begun_of builder)) }
+    ensures tree { IfOk result (λ t. t ≡ tree_begun front.title front.players.items (begun_of builder)) }
+    ensures memory { IfErr result (λ stop. stop ≡ Memory) }
+{
+    let sets = finished_sets(alloc, builder.sets.list)?;
+    let outcomes = finished_outcomes(alloc, builder.outcomes.list)?;
+    match Tree::new(alloc, front.title, front.players, builder.nodes, sets, outcomes) {
+        Ok(tree) => Ok(tree),
+        Err(_) => Err(EfgStop::Memory),
+    }
+}
+
+/// Reads the tree that the tokens stand for.
+pub fn read(alloc: Global, tokens: &Tokens) -> Result<Tree, EfgStop>
+    requires few { length tokens.now.list < 2 ^ 32 }
+    ensures tree { IfOk result (IsTreeFile (map (λ s. s.token) tokens.now.list)) }
+    ensures stop { IfErr result (IsStop (map (λ s. s.token) tokens.now.list) tokens.now.length) }
+{
+    let (front, rest) = match read_front(alloc, tokens.list()) {
+        Ok(read) => read,
+        Err(refusal) => return Err(stop(refusal, tokens)),
+    };
+    match read_nodes(alloc, front.players.len() as u32, rest) {
+        Ok(builder) => tree(alloc, front, builder),
+        Err(stopped) => Err(nodes_stop(stopped, tokens)),
+    }
+}
+
+/// The tokens of a file stand for one tree at most. Numbers of tokens are below 2^63 in size.
+pub fn files_have_one_tree()
+    ensures { (tokens : List token) (one other : GameTree) → AllByRecursion IsShortToken tokens → IsTreeFile tokens one → IsTreeFile tokens other → one ≡ other }
+{}
