@@ -45,7 +45,7 @@ set_place sets key = position_or_len (λ set. same_set key (key_of_begun set)) s
 abbrev pub add_test : ℚ → ℚ → Bool
 add_test a b =
     nat_lt (nat_abs (num_beside a b)) (2 ^ 127) && (nat_lt (nat_abs (num_beside b a)) (2 ^ 127)
-      && (nat_lt (nat_abs (num_beside a b +ℤ num_beside b a)) (2 ^ 127) && nat_lt (a +ℚ b).den (2 ^ 127)))
+    && (nat_lt (nat_abs (num_beside a b +ℤ num_beside b a)) (2 ^ 127) && nat_lt (a +ℚ b).den (2 ^ 127)))
 
 -- whether a probability may come after others with this sum: it is not negative, the sum fits, and is at most 1
 unfoldable pub may_follow : ℚ → ℚ → Bool
@@ -124,8 +124,8 @@ pub record Branching : Type 0 where
 
 -- the free places of so many actions from one on
 abbrev pub places_after : Option ℕ → ℕ → ℕ → List Place
-places_after node next zero = []
-places_after node next (suc n) = (node, next) ∷ places_after node (suc next) n
+places_after from next zero = []
+places_after from next (suc n) = (from, next) ∷ places_after from (suc next) n
 
 abbrev pub free_places : List Branching → List Place
 free_places branchings = flat_map (λ b. places_after b.node b.next (b.count - b.next)) branchings
