@@ -1,6 +1,8 @@
 // The outcomes, numbered by their first use.
-ghost use Rattle.std.specs.Prelude.{◌≡◌, ◌<◌, length, OnOk};
-ghost use Rattle.file_parts.specs.Reading.{Reads, Gives, kinds, right_at, payoff_at, payoffs_at};
+ghost use Rattle.std.specs.Prelude.{◌≡◌, ◌<◌, ℕ, length, OnOk};
+ghost use Rattle.file_parts.specs.declared.refusal.Refusal.TheVariants.{Unfit};
+ghost use Rattle.efg_reader.specs.declared.fault.EfgKind.{EfgKind};
+ghost use Rattle.file_parts.specs.Reading.{Reads, Gives, kinds, right_at, payoffs_at};
 ghost use Rattle.efg_reader.specs.States.{begun_outcomes, AreOutcomes};
 ghost use Rattle.efg_reader.specs.TreeReading.{outcome_step_at, payoffs_repeated_at, later_payoffs_at, payoff_list_at};
 
@@ -33,8 +35,7 @@ pub struct Outcomes {
     pub list: Vec<OutcomeBegun>,
 }
 
-// The kind of the fault at a token that is no payoff where one is wanted, or comes where the list should end: whether the list is
-// too short or too long.
+// The kind of the fault at a token: whether the payoffs are too few or too many there, or the token fits no list.
 fn mismatch_or_node(differs: bool) -> EfgKind {
     if differs {
         EfgKind::OutcomeMismatch
@@ -43,17 +44,12 @@ fn mismatch_or_node(differs: bool) -> EfgKind {
     }
 }
 
-// The next payoff, of which this many came before, and the tokens behind it.
-fn next_payoff(tokens: &[Spanned], index: usize) -> Result<(Frac, &[Spanned]), Refusal<EfgKind>>
-    ensures { Reads (λ x. (x.0, kinds x.1.now)) result (payoff_at index (kinds tokens.now)) }
+// That no payoff comes, of which this many came before.
+fn no_payoff(tokens: &[Spanned], index: usize) -> Refusal<EfgKind>
+    ensures { (kind : EfgKind) × (left : ℕ) × (result ≡ Unfit kind left) }
 {
-    match payoff(tokens, index) {
-        Some(next) => Ok(next),
-        None => {
-            let start = payoff_start(tokens, index);
-            Err(unfit(mismatch_or_node(right(start).is_some()), start))
-        }
-    }
+    let start = payoff_start(tokens, index);
+    unfit(mismatch_or_node(right(start).is_some()), start)
 }
 
 // The tokens behind the brace that closes payoffs.
@@ -78,7 +74,9 @@ fn payoffs(
     let mut payoffs = Vec::new(alloc);
     let mut rest = tokens;
     for index in 0..players {
-        let next = next_payoff(rest, index)?;
+        let Some(next) = payoff(rest, index) else {
+            return Err(no_payoff(rest, index));
+        };
         payoffs.push(next.0)?;
         rest = next.1;
     }
@@ -108,7 +106,9 @@ fn repeated<'a>(tokens: &'a [Spanned], payoffs: &[Frac]) -> Result<&'a [Spanned]
 {
     let mut rest = tokens;
     for index in 0..payoffs.len() {
-        let next = next_payoff(rest, index)?;
+        let Some(next) = payoff(rest, index) else {
+            return Err(no_payoff(rest, index));
+        };
         if next.0 != payoffs[index] {
             return Err(unfit(EfgKind::OutcomeMismatch, payoff_start(rest, index)));
         }

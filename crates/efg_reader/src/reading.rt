@@ -104,9 +104,16 @@ fn tree(alloc: Global, front: Front, builder: Builder) -> Result<Tree, EfgStop>
     ensures tree { IfOk result (λ t. t ≡ tree_begun front.title front.players.items (begun_of builder)) }
     ensures memory { IfErr result (λ stop. stop ≡ Memory) }
 {
-    let sets = finished_sets(alloc, builder.sets.list)?;
-    let outcomes = finished_outcomes(alloc, builder.outcomes.list)?;
-    match Tree::new(alloc, front.title, front.players, builder.nodes, sets, outcomes) {
+    let Front { title, players } = front;
+    let Builder {
+        nodes,
+        sets,
+        outcomes,
+        ..
+    } = builder;
+    let sets = finished_sets(alloc, sets.list)?;
+    let outcomes = finished_outcomes(alloc, outcomes.list)?;
+    match Tree::new(alloc, title, players, nodes, sets, outcomes) {
         Ok(tree) => Ok(tree),
         Err(_) => Err(EfgStop::Memory),
     }

@@ -46,9 +46,9 @@ pub struct Sets {
     pub list: Vec<SetBegun>,
 }
 
-// A name of its own, where one came.
+/// A name of its own, where one came.
 pub fn optional_name(alloc: Global, name: Option<&Name>) -> Result<Option<Name>, AllocError>
-    ensures { IfOk result (λ copy. copy ≡ option_map (λ n. n.now) name) }
+    ensures { IfOk result (λ copy. option_map (λ t. t.now) name ≡ copy) }
 {
     match name {
         Some(name) => Ok(Some(copied(alloc, name)?)),
