@@ -1,11 +1,12 @@
 -- What the reader keeps while it reads, in the words of the tree that is begun.
-use Rattle.std.specs.Prelude.{ℕ, suc, ◌<◌, ◌≤◌, ◌≡◌, List, [], ◌∷◌, length, map, reverse, All, Option, None, Some, Result, Ok, Err}
-use Rattle.indexmap.specs.IndexSet.{keys}
+use Rattle.std.specs.Prelude.{ℕ, suc, ◌≤◌, ◌≡◌, List, [], ◌∷◌, ◌++◌, length, map, reverse, All, Option, None, Some, Result, Ok, Err}
+use Rattle.std.specs.List.{AllByRecursion}
 use Rattle.game_core.specs.declared.too_large.What.{What}
+use Rattle.game_core.specs.declared.tree.Kind.{Kind}
 use Rattle.game_core.specs.Tree.{most_nodes, most_depth}
 use Rattle.file_parts.specs.declared.refusal.Refusal.TheVariants as refusals
 use Rattle.written_trees.specs.Described.{SetKey}
-use Rattle.written_trees.specs.Building.{Begun, BegunSet, BegunOutcome, Branching, take_place, add_places}
+use Rattle.written_trees.specs.Building.{Begun, BegunSet, BegunOutcome, Branching, begun_count, take_place, add_places}
 use Rattle.written_trees.specs.Laws.{IsActionList}
 use Rattle.efg_reader.specs.declared.sets.SetBegun.{SetBegun}
 use Rattle.efg_reader.specs.declared.sets.Sets.{Sets}
@@ -57,6 +58,11 @@ begun_of builder = record {
   branchings = branchings_of builder.branchings.items;
 }
 
+-- a branching among so many nodes: each of its actions before the next led to one of them, and it lies within the limit
+pub record IsNear (nodes : ℕ) (b : Branching) : Type 0 where
+  pub next_within : b.next ≤ nodes
+  pub depth_within : b.depth ≤ suc most_depth
+
 -- what the reader keeps to between two nodes
 pub record IsBuilder (players : ℕ) (builder : Builder) : Type 0 where
   pub sets : AreSets builder.sets
@@ -64,8 +70,21 @@ pub record IsBuilder (players : ℕ) (builder : Builder) : Type 0 where
   pub few_nodes : length builder.nodes.items ≤ most_nodes
   pub few_sets : length builder.sets.list.items ≤ length builder.nodes.items
   pub few_outcomes : length builder.outcomes.list.items ≤ length builder.nodes.items
-  pub next_within : All (λ b. b.next ≤ length builder.nodes.items) builder.branchings.items
-  pub depth_within : All (λ b. b.depth ≤ suc most_depth) builder.branchings.items
+  pub near : AllByRecursion (IsNear (length builder.nodes.items)) (branchings_of builder.branchings.items)
+
+-- the tree with a node of this kind, with this set and this outcome, at the first free place
+abbrev pub grown_at : Begun → Kind → Option ℕ → Option ℕ → List Branching → Option Begun
+grown_at begun kind set outcome [] = None
+grown_at begun kind set outcome (b ∷ rest) =
+    Some (record {
+      nodes = begun.nodes ++ record { kind = kind; parent = b.node; branch = b.next; set = set; outcome = outcome } ∷ [];
+      sets = begun.sets;
+      outcomes = begun.outcomes;
+      branchings = add_places (length begun.nodes) (begun_count begun.sets set) (suc b.depth) (take_place b rest);
+    })
+
+abbrev pub grown : Begun → Kind → Option ℕ → Option ℕ → Option Begun
+grown begun kind set outcome = grown_at begun kind set outcome begun.branchings
 
 -- the first free place was taken, where there was one
 abbrev pub HasTaken : List Branching → Option Kept → List Branching → Type 0

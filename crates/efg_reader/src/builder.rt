@@ -1,7 +1,9 @@
 // The tree as far as it is begun.
-ghost use Rattle.std.specs.Prelude.{◌≡◌, ◌<◌, ℕ, All, IfOk};
-ghost use Rattle.written_trees.specs.Building.{passed, nothing_begun, begun_count};
-ghost use Rattle.efg_reader.specs.States.{begun_of, begun_sets, branchings_of, IsBuilder, HasTaken};
+ghost use Rattle.std.specs.Prelude.{◌≡◌, ◌≢◌, ◌<◌, ◌≤◌, ℕ, suc, [], None, Some, All, length, IfOk, OnOk};
+ghost use Rattle.std.specs.List.{AllByRecursion};
+ghost use Rattle.game_core.specs.Tree.{most_nodes};
+ghost use Rattle.written_trees.specs.Building.{passed, nothing_begun, begun_count, add_places};
+ghost use Rattle.efg_reader.specs.States.{begun_of, begun_sets, branchings_of, grown, IsNear, IsBuilder, HasTaken};
 
 use crate::outcomes::Outcomes;
 use crate::sets::Sets;
@@ -65,6 +67,26 @@ fn take_place(branchings: &mut Vec<Branching>) -> Option<Branching>
     Some(taken)
 }
 
+// Adds the free places of this node with so many actions, whose children lie at this depth.
+fn add_places(
+    branchings: &mut Vec<Branching>,
+    node: u32,
+    count: usize,
+    depth: u32,
+) -> Result<(), AllocError>
+    ensures { OnOk result (branchings_of branchings.new.items ≡ add_places node count depth (branchings_of branchings.old.items)) }
+{
+    if count > 0 {
+        branchings.push(Branching {
+            node: Some(node),
+            next: 0,
+            count,
+            depth,
+        })?;
+    }
+    Ok(())
+}
+
 impl Builder {
     /// Nothing but the place of the root.
     pub fn new(alloc: Global) -> Result<Builder, AllocError>
@@ -121,20 +143,23 @@ impl Builder {
     }
 
     /// Adds a node with this choice and this outcome at the first free place.
-    pub fn add(&mut self, choice: Choice, outcome: Option<u32>) -> Result<(), AllocError> {
+    pub fn add(&mut self, choice: Choice, outcome: Option<u32>) -> Result<(), AllocError>
+        requires near { AllByRecursion (IsNear (length self.old.nodes.items)) (branchings_of self.old.branchings.items) }
+        requires free { branchings_of self.old.branchings.items ≢ [] }
+        requires room { passed (begun_of self.old) ≡ None }
+        ensures grown { OnOk result (grown (begun_of self.old) choice.kind choice.set outcome ≡ Some (begun_of self.new)) }
+        ensures near { OnOk result (AllByRecursion (IsNear (length self.new.nodes.items)) (branchings_of self.new.branchings.items)) }
+        ensures few_nodes { OnOk result (length self.new.nodes.items ≤ most_nodes) }
+        ensures longer { OnOk result (length self.new.nodes.items ≡ suc (length self.old.nodes.items)) }
+        ensures sets { self.new.sets ≡ self.old.sets }
+        ensures outcomes { self.new.outcomes ≡ self.old.outcomes }
+    {
         let Some(place) = take_place(&mut self.branchings) else {
             return Ok(());
         };
         let number = self.nodes.len() as u32;
         let count = self.count(choice.set);
-        if count > 0 {
-            self.branchings.push(Branching {
-                node: Some(number),
-                next: 0,
-                count,
-                depth: place.depth + 1,
-            })?;
-        }
+        add_places(&mut self.branchings, number, count, place.depth + 1)?;
         self.nodes.push(Node {
             kind: choice.kind,
             parent: place.node,
