@@ -1,0 +1,5 @@
+pub mod HeaderLaws
+pub mod NumberLaws
+pub mod Options
+pub mod Repeats
+pub mod TokenLaws
