@@ -11,14 +11,16 @@ use Rattle.game_core.specs.Table.{GameTable, IsTable, most_payoffs, strategy_cou
 use Rattle.game_text.specs.Tokens.{AreInPlace}
 use Rattle.game_text.specs.declared.token.Spanned.{Spanned}
 use Rattle.game_text.specs.declared.token.Token.{Token}
+use Rattle.file_parts.specs.declared.refusal.Refusal.{Refusal}
+use Rattle.file_parts.specs.declared.refusal.Refusal.TheVariants as refusals
+use Rattle.file_parts.specs.Reading.{Refuses}
+use Rattle.file_parts.proofs.Options.{some_same}
 use Rattle.nfg_reader.specs.TableFile.{AreStrategies, AreOutcomes, outcome_payoffs, IsPayoffBody, IsOutcomeBody, IsTableFile, HasTooManyPayoffs}
 use Rattle.nfg_reader.specs.Stops.{IsStop, IsStopOf}
+use Rattle.nfg_reader.specs.declared.reading.NfgKind.{NfgKind}
 use Rattle.nfg_reader.specs.declared.reading.NfgStop.{NfgStop}
-use Rattle.nfg_reader.specs.declared.refusal.Refusal.{Refusal}
-use Rattle.nfg_reader.specs.declared.refusal.Refusal.TheVariants as refusals
-use Rattle.nfg_reader.specs.TableReading.{Refuses, front_at, rest_at, table_at, FrontPart, profiles, table_of, IsTooLong}
-use Rattle.nfg_reader.proofs.Options.{some_same}
-use Rattle.nfg_reader.proofs.Products.{lengths_counted}
+use Rattle.nfg_reader.specs.TableReading.{front_at, rest_at, table_at, FrontPart, profiles, table_of, IsTooLong}
+use Rattle.nfg_reader.proofs.CountedNames.{lengths_counted}
 use Rattle.nfg_reader.proofs.FrontLaws.{front_is, front_again}
 use Rattle.nfg_reader.proofs.BodyLaws.{rest_is, rest_again}
 
@@ -117,7 +119,7 @@ pub no_rest_of : (tokens : List Token) (front : FrontPart × List Token) (player
 no_rest_of tokens front players count e p c few r = no_rest tokens front e (rw (p, c) at few) (rw (p, c) at r)
 
 -- the stop that a refusal becomes
-pub stop_by : {Y : Type 0} (reading : Option Y) (refusal : Refusal) (tokens : List Token) (source_length : ℕ) (stop : NfgStop) → Refuses refusal reading → IsStopOf refusal source_length stop → (reading ≡ None → IsNoTable tokens) → IsStop tokens source_length stop
+pub stop_by : {Y : Type 0} (reading : Option Y) (refusal : Refusal NfgKind) (tokens : List Token) (source_length : ℕ) (stop : NfgStop) → Refuses refusal reading → IsStopOf refusal source_length stop → (reading ≡ None → IsNoTable tokens) → IsStop tokens source_length stop
 stop_by reading (refusals.Unfit kind left) tokens source_length stop r s none = subst (IsStop tokens source_length) (sym s.1) (s.2, (none r).0, (none r).1)
 stop_by reading refusals.Memory tokens source_length stop r s none = subst (IsStop tokens source_length) (sym s) tt
 

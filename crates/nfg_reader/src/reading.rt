@@ -8,8 +8,8 @@ ghost use Rattle.nfg_reader.specs.Stops.{IsStop, IsStopOf};
 
 use crate::front::{Front, read_front};
 use crate::outcomes::last_payoffs;
-use crate::refusal::Refusal;
 use crate::strategies::{profile_count, strategy_names};
+use file_parts::Refusal;
 use frac128::Frac;
 use game_core::{Table, TooLarge, What};
 use game_text::Tokens;
@@ -78,7 +78,7 @@ fn place(tokens: &Tokens, left: usize) -> usize
 }
 
 // The stop for a refusal.
-fn stop(refusal: Refusal, tokens: &Tokens) -> NfgStop
+fn stop(refusal: Refusal<NfgKind>, tokens: &Tokens) -> NfgStop
     ensures { IsStopOf refusal tokens.now.length result }
 {
     match refusal {
