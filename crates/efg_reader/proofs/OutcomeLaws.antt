@@ -6,13 +6,13 @@ use Rattle.rational.specs.Rational.{ℚ}
 use Rattle.game_text.specs.declared.token.Token.{Token}
 use Rattle.game_text.specs.declared.token.Token.TheVariants.{Left, Right}
 use Rattle.game_text.specs.Tokens.{IsShortToken}
-use Rattle.file_parts.specs.Parts.{whole_number, AreNumbers}
+use Rattle.file_parts.specs.Parts.{whole_number, AreNumbers, optional_text}
 use Rattle.file_parts.specs.Reading.{left_at, right_at, label_at, optional_text_at, payoffs_at, opens}
 use Rattle.file_parts.proofs.Options.{bind_some, some_same, either}
 use Rattle.file_parts.proofs.TokenLaws.{left_is, right_is, label_is, label_again, optional_text_is}
 use Rattle.file_parts.proofs.NumberLaws.{payoffs_are, payoffs_again}
 use Rattle.written_trees.specs.Written.{OutcomeUse}
-use Rattle.efg_reader.specs.TreeFile.{optional_text, ArePayoffs, IsOutcomePart}
+use Rattle.efg_reader.specs.TreeFile.{ArePayoffs, IsOutcomePart}
 use Rattle.efg_reader.specs.TreeReading.{optional_at, payoff_list_at, named_outcome_at, outcome_use_at}
 use Rattle.efg_reader.proofs.SetLaws.{IsBare, optional_text_again, short_label, optional_is, optional_again, no_list_again}
 

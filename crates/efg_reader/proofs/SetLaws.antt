@@ -10,13 +10,13 @@ use Rattle.game_core.specs.declared.tree.Action.{Action}
 use Rattle.game_text.specs.declared.token.Token.{Token}
 use Rattle.game_text.specs.declared.token.Token.TheVariants.{Left, Right, Text, Number}
 use Rattle.game_text.specs.Tokens.{IsShortToken}
-use Rattle.file_parts.specs.Parts.{whole_number}
+use Rattle.file_parts.specs.Parts.{whole_number, optional_text}
 use Rattle.file_parts.specs.Reading.{◌>>=◌, left_at, right_at, label_at, optional_text_at, texts_at, opens}
 use Rattle.file_parts.proofs.Options.{bind_some, some_same, either}
 use Rattle.file_parts.proofs.TokenLaws.{left_is, right_is, label_is, label_again, optional_text_is, passes_le, le_passes}
 use Rattle.written_trees.specs.Written.{SetUse}
 use Rattle.written_trees.specs.Laws.{HasNoProbability, IsActionList}
-use Rattle.efg_reader.specs.TreeFile.{optional_text, action_tokens, AreActions, IsSetPart}
+use Rattle.efg_reader.specs.TreeFile.{action_tokens, AreActions, IsSetPart}
 use Rattle.efg_reader.specs.TreeReading.{chance_actions_at, own_action, actions_at, closed_at, action_list_at, optional_at, positive_at, set_use_at}
 
 -- ---- what may follow

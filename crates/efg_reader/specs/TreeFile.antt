@@ -7,15 +7,10 @@ use Rattle.game_core.specs.declared.too_large.What.{What}
 use Rattle.game_core.specs.Tree.{GameTree, Place}
 use Rattle.game_text.specs.declared.token.Token.{Token}
 use Rattle.game_text.specs.declared.token.Token.TheVariants.{Left, Right, Text, Word, Number}
-use Rattle.file_parts.specs.Parts.{whole_number, IsHeader, braced_texts, IsComment, AreNumbers}
+use Rattle.file_parts.specs.Parts.{whole_number, optional_text, IsHeader, braced_texts, IsComment, AreNumbers}
 use Rattle.written_trees.specs.Written.{SetUse, OutcomeUse, WrittenNode}
 use Rattle.written_trees.specs.Described.{Describe}
 use Rattle.written_trees.specs.Laws.{IsActionList, PassesAt}
-
--- a text that may stand there
-abbrev pub optional_text : Option (List ℕ) → List Token
-optional_text None = []
-optional_text (Some text) = Text text ∷ []
 
 -- an action: a text, and behind it a number where chance chooses
 abbrev pub action_tokens : Option ℕ → Action → List Token

@@ -1,5 +1,5 @@
--- What is read of single tokens, texts and whole numbers, and that each is read again.
-use Rattle.std.proofs.Common.{◌≡◌, ℕ, zero, suc, ◌^◌, ◌<◌, ◌≤◌, true, false, List, [], ◌∷◌, ◌++◌, length, map, ℤ, pos, negsuc, Option, Some, None, inl, inr, nat_eq, nat_le, nat_lt, refl, sym, ap, ◌∙◌, append_assoc, subst, arith}
+-- What is read of single tokens, whole numbers, comments and texts in braces, and that each is read again.
+use Rattle.std.proofs.Common.{◌≡◌, ℕ, zero, suc, ◌^◌, ◌<◌, ◌≤◌, true, false, List, [], ◌∷◌, ◌++◌, length, map, ℤ, pos, negsuc, Some, inl, inr, nat_eq, nat_le, nat_lt, refl, sym, ap, ◌∙◌, append_assoc, subst, arith}
 use Rattle.std.proofs.lemmas.Bool.Decides.{Decides-eqb, nat_tests}
 use Rattle.std.proofs.lemmas.Option.{cond_some}
 use Rattle.std.proofs.lemmas.Slice.Eq.{slice_eq-Decides}
@@ -8,7 +8,7 @@ use Rattle.rational.specs.Rational.{ℚ, whole}
 use Rattle.rational.proofs.Parts.{whole-num, whole-den, whole-own_num}
 use Rattle.game_text.specs.declared.token.Token.{Token}
 use Rattle.game_text.specs.declared.token.Token.TheVariants.{Left, Right, Text, Word, Number}
-use Rattle.file_parts.specs.Parts.{whole_number, braced_texts, IsComment}
+use Rattle.file_parts.specs.Parts.{whole_number, optional_text, braced_texts, IsComment}
 use Rattle.file_parts.specs.Reading.{left_at, right_at, text_at, word_at, number_at, natural, natural_of, whole_at, count_at, label_at, after_word, optional_text_at, behind_text, ends, texts_at, names_at}
 use Rattle.file_parts.proofs.Options.{bind_some, some_same, chosen, refused}
 
@@ -138,13 +138,8 @@ unfolding label_at
 label_again n rest h = rw (whole_again n rest, lt_passes n (2 ^ 64) h) refl
 
 -- ---- a text or none
--- a text that may come
-abbrev pub optional : Option (List ℕ) → List Token
-optional (Some text) = Text text ∷ []
-optional None = []
-
 -- what is read as a text that may come is a text, or nothing
-pub optional_text_is : (tokens : List Token) → tokens ≡ optional (optional_text_at tokens).0 ++ (optional_text_at tokens).1
+pub optional_text_is : (tokens : List Token) → tokens ≡ optional_text (optional_text_at tokens).0 ++ (optional_text_at tokens).1
 optional_text_is (Text text ∷ tokens) = refl
 optional_text_is _ = refl
 

@@ -1,5 +1,5 @@
 -- Parts that files of games have in common: which tokens stand for what.
-use Rattle.std.specs.Prelude.{ℕ, ◌≡◌, ◌⊎◌, List, [], ◌∷◌, ◌++◌, map, codes, pos}
+use Rattle.std.specs.Prelude.{ℕ, ◌≡◌, ◌⊎◌, List, [], ◌∷◌, ◌++◌, map, codes, pos, Option, Some, None}
 use Rattle.rational.specs.Rational.{ℚ, whole}
 use Rattle.game_text.specs.declared.token.Token.{Token}
 use Rattle.game_text.specs.declared.token.Token.TheVariants.{Left, Right, Comma, Text, Word, Number}
@@ -15,6 +15,11 @@ IsLetter letter = (letter ≡ codes "R") ⊎ (letter ≡ codes "D")
 -- a format's word, a number of its version's value, and the word `R` or `D`
 abbrev pub IsHeader : List ℕ → ℕ → List Token → Type 0
 IsHeader word version tokens = (letter : List ℕ) × IsLetter letter × (tokens ≡ Word word ∷ whole_number version ∷ Word letter ∷ [])
+
+-- a text, where there is one
+abbrev pub optional_text : Option (List ℕ) → List Token
+optional_text (Some text) = Text text ∷ []
+optional_text None = []
 
 -- texts in braces
 abbrev pub braced_texts : List (List ℕ) → List Token

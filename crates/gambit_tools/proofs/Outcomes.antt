@@ -7,7 +7,8 @@ use Rattle.game_core.specs.declared.too_large.TooLarge.{TooLarge}
 use Rattle.game_text.specs.declared.token.Token.{Token}
 use Rattle.game_text.specs.declared.token.Token.TheVariants.{Text, Word}
 use Rattle.game_text.proofs.Single.{one_list, no_list}
-use Rattle.nfg_reader.specs.TableFile.{braced_texts, IsTableFile, HasTooManyPayoffs}
+use Rattle.file_parts.specs.Parts.{braced_texts}
+use Rattle.nfg_reader.specs.TableFile.{IsTableFile, HasTooManyPayoffs}
 use Rattle.nfg_reader.specs.Stops.{too_many_payoffs}
 use Rattle.enumpure.specs.Text.{IsTextTooLong}
 use Rattle.enumpure.specs.Stops.{too_long_text}

@@ -1,18 +1,19 @@
 -- What is read behind the strategies is a comment and a body, and these are read.
-use Rattle.std.proofs.Common.{◌≡◌, ℕ, zero, suc, ◌+◌, ◌*◌, ◌≤◌, true, false, List, [], ◌∷◌, ◌++◌, length, map, Some, ◌⊎◌, inl, inr, nat_le, refl, sym, ap, ◌∙◌, subst, append_assoc, length-append, arith}
+use Rattle.std.proofs.Common.{◌≡◌, ℕ, zero, suc, ◌+◌, ◌*◌, ◌≤◌, true, List, [], ◌∷◌, ◌++◌, length, map, Some, ◌⊎◌, inl, inr, nat_le, refl, sym, ap, ◌∙◌, subst, append_assoc, length-append, arith}
 use Rattle.std.proofs.lemmas.Option.{cond_some}
 use Rattle.std.proofs.lemmas.List.Concat.{flat_map_single}
 use Rattle.std.specs.List.{flat_map}
 use Rattle.rational.specs.Rational.{ℚ}
 use Rattle.game_text.specs.declared.token.Token.{Token}
-use Rattle.game_text.specs.declared.token.Token.TheVariants.{Left, Right, Text, Number}
-use Rattle.nfg_reader.specs.TableFile.{whole_number, IsComment, AreNumbers, IsOutcome, AreOutcomes, outcome_payoffs, IsPayoffBody, IsOutcomeBody}
-use Rattle.nfg_reader.specs.TableReading.{◌>>=◌, left_at, right_at, text_at, whole_at, behind_text, repeat_at, payoffs_at, opens, ends, outcome_at, outcomes_at, outcome_number_at, outcome_body_at, body_at, rest_at, FrontPart, profiles, table_of}
-use Rattle.nfg_reader.proofs.Options.{bind_some, some_same, either}
-use Rattle.nfg_reader.proofs.TokenLaws.{left_is, right_is, text_is, whole_is, whole_again}
-use Rattle.nfg_reader.proofs.NumberLaws.{payoffs_are, payoffs_again, repeat_are, repeat_again}
+use Rattle.game_text.specs.declared.token.Token.TheVariants.{Left, Right, Text}
+use Rattle.file_parts.specs.Parts.{whole_number, IsComment}
+use Rattle.file_parts.specs.Reading.{◌>>=◌, left_at, right_at, text_at, whole_at, behind_text, repeat_at, payoffs_at, opens, ends}
+use Rattle.file_parts.proofs.Options.{bind_some, some_same, either}
+use Rattle.file_parts.proofs.TokenLaws.{left_is, right_is, text_is, whole_is, whole_again, passes_le, le_passes, comment_is, over_comment, end_is}
+use Rattle.file_parts.proofs.NumberLaws.{payoffs_are, payoffs_again, numbers_closed, numbers_bare, repeat_are, repeat_again}
+use Rattle.nfg_reader.specs.TableFile.{IsOutcome, AreOutcomes, outcome_payoffs, IsPayoffBody, IsOutcomeBody}
+use Rattle.nfg_reader.specs.TableReading.{outcome_at, outcomes_at, outcome_number_at, outcome_body_at, body_at, rest_at, FrontPart, profiles, table_of}
 use Rattle.nfg_reader.proofs.OutcomeSteps.{no_outcome}
-use Rattle.nfg_reader.proofs.FrontLaws.{passes_le, le_passes}
 
 -- ---- outcomes
 -- an outcome's tokens come first
@@ -151,13 +152,6 @@ body_is front tokens x e =
       | inr p ↦ let q = payoffs_are n tokens x p.1 in (q.front, inl (q.are_numbers, q.all), q.is)
     ]
 
--- numbers do not open
-numbers_closed : (tokens : List Token) (values : List ℚ) → AreNumbers tokens values → opens (tokens ++ []) ≡ false
-numbers_closed [] values h = refl
-numbers_closed (Number v ∷ tokens) values h = refl
-numbers_closed _ [] h = absurd h
-numbers_closed _ (w ∷ values) h = absurd h
-
 -- a body with which the tokens end is read
 body_again : (front : FrontPart) (body : List Token) (payoffs : List ℚ) → IsPayoffBody body (table_of front payoffs) ⊎ IsOutcomeBody body (table_of front payoffs) → body_at (length front.players) (profiles front) (body ++ []) ≡ Some (payoffs, [])
 unfolding body_at
@@ -169,32 +163,10 @@ body_again front body payoffs (inr h) =
     rw o (outcome_body_again front body payoffs [] h)
 
 -- ---- the comment and the end
--- a comment is passed over, or none stands there
-comment_is : (tokens : List Token) → (comment : List Token) × IsComment comment × (tokens ≡ comment ++ behind_text tokens)
-comment_is (Text text ∷ tokens) = (Text text ∷ [], inr (text, refl), refl)
-comment_is _ = ([], inl refl, refl)
-
--- at the end no token is left
-end_is : (tokens : List Token) → ends tokens ≡ true → tokens ≡ []
-end_is [] e = refl
-end_is (token ∷ tokens) e = cc
-
--- numbers begin with no text
-numbers_bare : (tokens : List Token) (values : List ℚ) → AreNumbers tokens values → behind_text (tokens ++ []) ≡ tokens ++ []
-numbers_bare [] values h = refl
-numbers_bare (Number v ∷ tokens) values h = refl
-numbers_bare _ [] h = absurd h
-numbers_bare _ (w ∷ values) h = absurd h
-
 -- a body begins with no text
 body_bare : (front : FrontPart) (body : List Token) (payoffs : List ℚ) → IsPayoffBody body (table_of front payoffs) ⊎ IsOutcomeBody body (table_of front payoffs) → behind_text (body ++ []) ≡ body ++ []
 body_bare front body payoffs (inl h) = numbers_bare body payoffs h.0
 body_bare front body payoffs (inr h) = rw h.3 refl
-
--- the comment is passed over
-over_comment : (comment tokens : List Token) → IsComment comment → behind_text tokens ≡ tokens → behind_text (comment ++ tokens) ≡ tokens
-over_comment comment tokens (inl h) e = rw h e
-over_comment comment tokens (inr h) e = rw h.1 refl
 
 -- a comment and a body
 pub record IsLast (front : FrontPart) (tokens : List Token) (payoffs : List ℚ) : Type 0 where

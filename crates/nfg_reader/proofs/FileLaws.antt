@@ -11,14 +11,16 @@ use Rattle.game_core.specs.Table.{GameTable, IsTable, most_payoffs, strategy_cou
 use Rattle.game_text.specs.Tokens.{AreInPlace}
 use Rattle.game_text.specs.declared.token.Spanned.{Spanned}
 use Rattle.game_text.specs.declared.token.Token.{Token}
+use Rattle.file_parts.specs.declared.refusal.Refusal.{Refusal}
+use Rattle.file_parts.specs.declared.refusal.Refusal.TheVariants as refusals
+use Rattle.file_parts.specs.Reading.{Refuses}
+use Rattle.file_parts.proofs.Options.{some_same}
 use Rattle.nfg_reader.specs.TableFile.{AreStrategies, AreOutcomes, outcome_payoffs, IsPayoffBody, IsOutcomeBody, IsTableFile, HasTooManyPayoffs}
 use Rattle.nfg_reader.specs.Stops.{IsStop, IsStopOf}
+use Rattle.nfg_reader.specs.declared.reading.NfgKind.{NfgKind}
 use Rattle.nfg_reader.specs.declared.reading.NfgStop.{NfgStop}
-use Rattle.nfg_reader.specs.declared.refusal.Refusal.{Refusal}
-use Rattle.nfg_reader.specs.declared.refusal.Refusal.TheVariants as refusals
-use Rattle.nfg_reader.specs.TableReading.{Refuses, front_at, rest_at, table_at, FrontPart, profiles, table_of, IsTooLong}
-use Rattle.nfg_reader.proofs.Options.{some_same}
-use Rattle.nfg_reader.proofs.Products.{lengths_counted}
+use Rattle.nfg_reader.specs.TableReading.{front_at, rest_at, table_at, FrontPart, profiles, table_of, IsTooLong}
+use Rattle.nfg_reader.proofs.CountedNames.{lengths_counted}
 use Rattle.nfg_reader.proofs.FrontLaws.{front_is, front_again}
 use Rattle.nfg_reader.proofs.BodyLaws.{rest_is, rest_again}
 
@@ -117,7 +119,7 @@ pub no_rest_of : (tokens : List Token) (front : FrontPart × List Token) (player
 no_rest_of tokens front players count e p c few r = no_rest tokens front e (rw (p, c) at few) (rw (p, c) at r)
 
 -- the stop that a refusal becomes
-pub stop_by : {Y : Type 0} (reading : Option Y) (refusal : Refusal) (tokens : List Token) (source_length : ℕ) (stop : NfgStop) → Refuses refusal reading → IsStopOf refusal source_length stop → (reading ≡ None → IsNoTable tokens) → IsStop tokens source_length stop
+pub stop_by : {Y : Type 0} (reading : Option Y) (refusal : Refusal NfgKind) (tokens : List Token) (source_length : ℕ) (stop : NfgStop) → Refuses refusal reading → IsStopOf refusal source_length stop → (reading ≡ None → IsNoTable tokens) → IsStop tokens source_length stop
 stop_by reading (refusals.Unfit kind left) tokens source_length stop r s none = subst (IsStop tokens source_length) (sym s.1) (s.2, (none r).0, (none r).1)
 stop_by reading refusals.Memory tokens source_length stop r s none = subst (IsStop tokens source_length) (sym s) tt
 
@@ -183,15 +185,3 @@ pub finished : (tokens : List Token) (front : FrontPart × List Token) (payoffs 
 finished tokens front payoffs players count e p c few r =
     let rest : rest_at (length front.0.players) (profiles front.0) front.1 ≡ Some payoffs = rw (p, c) at r in
     (read_is_table tokens front payoffs e rest (rw (p, c) at few), table_next tokens front payoffs e rest)
-
--- ---- places
--- tokens in place end in the source
-in_order : (from to : ℕ) (tokens : List Spanned) → AreInPlace from to tokens → from ≤ to
-in_order from to [] h = h
-in_order from to (one ∷ tokens) h = let more = in_order one.end to tokens h.3 in omega (arith, h.0, h.1, more)
-
--- a token begins in the source
-pub place_within : (from to i : ℕ) (tokens : List Spanned) (other : Spanned) → AreInPlace from to tokens → i < length tokens → (get_or tokens i other).start ≤ to
-place_within from to i [] other h lt = absurd (omega arith)
-place_within from to zero (first ∷ tokens) other h lt = let more = in_order first.end to tokens h.3 in omega (arith, h.1, more)
-place_within from to (suc i) (first ∷ tokens) other h lt = place_within first.end to i tokens other h.3 (omega arith)

@@ -1,43 +1,21 @@
 -- What is read up to the strategies is the front of a file, and such a front is read.
-use Rattle.std.proofs.Common.{◌≡◌, ℕ, ◌≤◌, true, false, List, [], ◌∷◌, ◌++◌, length, map, Option, Some, None, ◌⊎◌, inl, inr, nat_le, nat_eq, refl, sym, ap, ◌∙◌, subst, append_assoc, arith}
-use Rattle.std.proofs.lemmas.Bool.Decides.{Decides-eqb, nat_tests}
-use Rattle.std.proofs.lemmas.Option.{cond_some}
+use Rattle.std.proofs.Common.{◌≡◌, ℕ, ◌≤◌, false, List, [], ◌∷◌, ◌++◌, length, map, Some, inl, inr, refl, sym, ap, ◌∙◌, subst, append_assoc}
 use Rattle.std.proofs.lemmas.List.{length-map}
 use Rattle.std.proofs.lemmas.List.Concat.{flat_map_single}
 use Rattle.std.specs.Prelude.{codes}
 use Rattle.std.specs.List.{AllByRecursion, flat_map}
-use Rattle.rational.specs.Rational.{one_ℚ}
 use Rattle.game_text.specs.declared.token.Token.{Token}
-use Rattle.game_text.specs.declared.token.Token.TheVariants.{Left, Right, Text, Word, Number}
-use Rattle.nfg_reader.specs.TableFile.{whole_number, braced_texts, counted_names, AreStrategies, IsFront}
-use Rattle.nfg_reader.specs.TableReading.{or_else, left_at, right_at, whole_at, after_word, repeat_at, names_at, count_at, counted_at, named_at, opens, strategies_at, version_at, letter_at, title_at, FrontPart, front_at}
-use Rattle.nfg_reader.proofs.Options.{bind_some, some_same, either}
-use Rattle.nfg_reader.proofs.TokenLaws.{left_is, right_is, text_is, expected_is, expected_again, whole_is, whole_again, names_is, names_again}
-use Rattle.nfg_reader.proofs.NumberLaws.{repeat_are, repeat_again}
-
--- a test of order that holds
-pub passes_le : (a b : ℕ) → nat_le a b ≡ true → a ≤ b
-passes_le a b e = grind (arith, nat_tests)
-
--- and the other way
-pub le_passes : (a b : ℕ) → a ≤ b → nat_le a b ≡ true
-le_passes a b h = grind (arith, nat_tests)
+use Rattle.game_text.specs.declared.token.Token.TheVariants.{Left, Right, Text, Word}
+use Rattle.file_parts.specs.Parts.{whole_number, braced_texts}
+use Rattle.file_parts.specs.Reading.{left_at, right_at, repeat_at, names_at, count_at, opens, title_at}
+use Rattle.file_parts.proofs.Options.{bind_some, some_same, either}
+use Rattle.file_parts.proofs.TokenLaws.{left_is, right_is, count_is, count_again, names_is, names_again}
+use Rattle.file_parts.proofs.NumberLaws.{repeat_are, repeat_again}
+use Rattle.file_parts.proofs.HeaderLaws.{title_is, title_again}
+use Rattle.nfg_reader.specs.TableFile.{counted_names, AreStrategies, IsFront}
+use Rattle.nfg_reader.specs.TableReading.{counted_at, named_at, strategies_at, FrontPart, front_at}
 
 -- ---- counted strategies
--- what is read as a count is one
-count_is : (i : ℕ) (tokens : List Token) (x : ℕ × List Token) → count_at tokens ≡ Some x → (1 ≤ x.0) × (tokens ≡ (whole_number x.0 ∷ []) ++ x.1)
-unfolding count_at
-count_is i tokens x e =
-    let a = bind_some (whole_at tokens) _ x e in
-    let p = cond_some (nat_le 1 a.0.0) a.0 x a.2 in
-    let P : ℕ × List Token → Type 0 = λ y. (1 ≤ y.0) × (tokens ≡ (whole_number y.0 ∷ []) ++ y.1) in
-    subst P p.1 (passes_le 1 a.0.0 p.0, whole_is tokens a.0 a.1)
-
--- a count is read
-count_again : (i n : ℕ) (rest : List Token) → 1 ≤ n → count_at ((whole_number n ∷ []) ++ rest) ≡ Some (n, rest)
-unfolding count_at
-count_again i n rest h = rw (whole_again n rest, le_passes 1 n h) refl
-
 -- what is read as strategies
 pub record IsRead (n : ℕ) (tokens : List Token) (x : List (List (List ℕ)) × List Token) : Type 0 where
   pub part : List Token
@@ -55,7 +33,7 @@ unfolding counted_at
 counted_is n tokens x e =
     let a = bind_some (repeat_at (λ _. count_at) 0 n tokens) _ x e in
     let b = bind_some (right_at a.0.1) _ x a.2 in
-    let parts = repeat_are (λ _. count_at) (λ n. whole_number n ∷ []) (λ n. 1 ≤ n) count_is 0 n tokens a.0 a.1 in
+    let parts = repeat_are (λ _. count_at) (λ n. whole_number n ∷ []) (λ n. 1 ≤ n) (λ _. count_is) 0 n tokens a.0 a.1 in
     let inner : tokens ≡ map whole_number a.0.0 ++ (Right ∷ b.0) = parts.is ∙ ap (λ (q : List Token). q ++ a.0.1) (flat_map_single whole_number a.0.0) ∙ ap (λ (q : List Token). map whole_number a.0.0 ++ q) (right_is a.0.1 b.0 b.1) in
     let here : IsRead n tokens (map counted_names a.0.0, b.0) = record {
       part = Left ∷ (map whole_number a.0.0 ++ (Right ∷ []));
@@ -69,7 +47,7 @@ counted_is n tokens x e =
 counted_again : (counts : List ℕ) (rest : List Token) → AllByRecursion (λ n. 1 ≤ n) counts → counted_at (length counts) (map whole_number counts ++ (Right ∷ rest)) ≡ Some (map counted_names counts, rest)
 unfolding counted_at
 counted_again counts rest h =
-    let e : repeat_at (λ _. count_at) 0 (length counts) (map whole_number counts ++ (Right ∷ rest)) ≡ Some (counts, Right ∷ rest) = rw (← flat_map_single whole_number counts) (repeat_again (λ _. count_at) (λ n. whole_number n ∷ []) (λ n. 1 ≤ n) count_again 0 counts (Right ∷ rest) h) in
+    let e : repeat_at (λ _. count_at) 0 (length counts) (map whole_number counts ++ (Right ∷ rest)) ≡ Some (counts, Right ∷ rest) = rw (← flat_map_single whole_number counts) (repeat_again (λ _. count_at) (λ n. whole_number n ∷ []) (λ n. 1 ≤ n) (λ _. count_again) 0 counts (Right ∷ rest) h) in
     rw e refl
 
 -- ---- named strategies
@@ -135,64 +113,6 @@ strategies_again part rest strategies (inr h) =
     let tokens : part ++ rest ≡ Left ∷ (flat_map braced_texts strategies ++ (Right ∷ rest)) = rw h.1 (sym (closed (flat_map braced_texts strategies) rest)) in
     rw tokens (strategies_read strategies rest h.0)
 
--- ---- the header and the title
--- one of two gave something
-or_is : {A : Type 0} (a b : Option A) (x : A) → or_else a b ≡ Some x → (a ≡ Some x) ⊎ (b ≡ Some x)
-or_is (Some y) b x e = inl e
-or_is None b x e = inr e
-
--- what is read as a version is a number of value 1
-version_is : (tokens rest : List Token) → version_at tokens ≡ Some rest → tokens ≡ Number one_ℚ ∷ rest
-unfolding version_at
-version_is tokens rest e =
-    let a = bind_some (whole_at tokens) _ rest e in
-    let p = cond_some (nat_eq a.0.0 1) a.0.1 rest a.2 in
-    let one : a.0.0 ≡ 1 = (Decides-eqb a.0.0 1).0 p.0 in
-    whole_is tokens a.0 a.1 ∙ ap (λ (n : ℕ). whole_number n ∷ a.0.1) one ∙ ap (λ (r : List Token). Number one_ℚ ∷ r) p.1
-
--- a number of value 1 is read as a version
-version_again : (rest : List Token) → version_at (Number one_ℚ ∷ rest) ≡ Some rest
-unfolding version_at
-version_again rest =
-    let e : whole_at (Number one_ℚ ∷ rest) ≡ Some (1, rest) = whole_again 1 rest in
-    rw e refl
-
--- `R` or `D`
-abbrev pub IsLetter : List ℕ → Type 0
-IsLetter letter = (letter ≡ codes "R") ⊎ (letter ≡ codes "D")
-
--- what is read as a letter is `R` or `D`
-letter_is : (tokens rest : List Token) → letter_at tokens ≡ Some rest → (letter : List ℕ) × IsLetter letter × (tokens ≡ Word letter ∷ rest)
-letter_is tokens rest e = elim (or_is (after_word (codes "R") tokens) (after_word (codes "D") tokens) rest e) [
-  | inl r ↦ (codes "R", inl refl, expected_is (codes "R") tokens rest r)
-  | inr d ↦ (codes "D", inr refl, expected_is (codes "D") tokens rest d)
-]
-
--- `D` is not `R`
-no_r : (rest : List Token) → after_word (codes "R") (Word (codes "D") ∷ rest) ≡ None
-unfolding after_word
-no_r rest = refl
-
--- `R` and `D` are read
-letter_again : (letter : List ℕ) (rest : List Token) → IsLetter letter → letter_at (Word letter ∷ rest) ≡ Some rest
-letter_again letter rest (inl r) = rw (r, expected_again (codes "R") rest) refl
-letter_again letter rest (inr d) = rw (d, no_r rest) (expected_again (codes "D") rest)
-
--- what is read as a title stands behind a header
-title_is : (tokens : List Token) (x : List ℕ × List Token) → title_at tokens ≡ Some x → (letter : List ℕ) × IsLetter letter × (tokens ≡ Word (codes "NFG") ∷ Number one_ℚ ∷ Word letter ∷ Text x.0 ∷ x.1)
-unfolding title_at
-title_is tokens x e =
-    let a = bind_some (after_word (codes "NFG") tokens) _ x e in
-    let b = bind_some (version_at a.0) _ x a.2 in
-    let c = bind_some (letter_at b.0) _ x b.2 in
-    let l = letter_is b.0 c.0 c.1 in
-    (l.0, l.1, expected_is (codes "NFG") tokens a.0 a.1 ∙ ap (λ (r : List Token). Word (codes "NFG") ∷ r) (version_is a.0 b.0 b.1 ∙ ap (λ (r : List Token). Number one_ℚ ∷ r) (l.2 ∙ ap (λ (r : List Token). Word l.0 ∷ r) (text_is c.0 x c.2))))
-
--- a title behind a header is read
-title_again : (letter title : List ℕ) (rest : List Token) → IsLetter letter → title_at (Word (codes "NFG") ∷ Number one_ℚ ∷ Word letter ∷ Text title ∷ rest) ≡ Some (title, rest)
-unfolding title_at
-title_again letter title rest h = rw (expected_again (codes "NFG") (Number one_ℚ ∷ Word letter ∷ Text title ∷ rest), version_again (Word letter ∷ Text title ∷ rest), letter_again letter (Text title ∷ rest) h) refl
-
 -- ---- the front
 -- the front's tokens come first
 abbrev pub IsFrontAt : List Token → FrontPart × List Token → Type 0
@@ -202,14 +122,14 @@ IsFrontAt tokens x = (front : List Token) × IsFront front x.0.title x.0.players
 pub front_is : (tokens : List Token) (x : FrontPart × List Token) → front_at tokens ≡ Some x → IsFrontAt tokens x
 unfolding front_at
 front_is tokens x e =
-    let a = bind_some (title_at tokens) _ x e in
+    let a = bind_some (title_at (codes "NFG") 1 tokens) _ x e in
     let b = bind_some (names_at a.0.1) _ x a.2 in
     let c = bind_some (strategies_at (length b.0.0) b.0.1) _ x b.2 in
-    let t = title_is tokens a.0 a.1 in
+    let t = title_is (codes "NFG") 1 tokens a.0 a.1 in
     let p = names_is a.0.1 b.0 b.1 in
     let s = strategies_are (length b.0.0) b.0.1 c.0 c.1 in
     let r = s.2 in
-    let header : List Token = Word (codes "NFG") ∷ Number one_ℚ ∷ Word t.0 ∷ [] in
+    let header : List Token = Word (codes "NFG") ∷ whole_number 1 ∷ Word t.0 ∷ [] in
     let players : List Token = braced_texts b.0.0 in
     let front : List Token = header ++ (Text a.0.0 ∷ (players ++ r.part)) in
     let behind : a.0.1 ≡ (players ++ r.part) ++ c.0.1 = p.1 ∙ ap (λ (q : List Token). players ++ q) (s.1 ∙ r.is) ∙ sym (append_assoc players r.part c.0.1) in
@@ -232,9 +152,9 @@ unfolding front_at
 front_again front rest title players strategies f =
     let h = f.is_header in
     let names : List Token = braced_texts players in
-    let tokens : front ++ rest ≡ Word (codes "NFG") ∷ Number one_ℚ ∷ Word h.0 ∷ Text title ∷ (names ++ (f.strategy_part ++ rest)) =
-    rw (f.is_front, h.2) (ap (λ (q : List Token). Word (codes "NFG") ∷ Number one_ℚ ∷ Word h.0 ∷ Text title ∷ q) (append_assoc names f.strategy_part rest)) in
-    let t = title_again h.0 title (names ++ (f.strategy_part ++ rest)) h.1 in
+    let tokens : front ++ rest ≡ Word (codes "NFG") ∷ whole_number 1 ∷ Word h.0 ∷ Text title ∷ (names ++ (f.strategy_part ++ rest)) =
+    rw (f.is_front, h.2) (ap (λ (q : List Token). Word (codes "NFG") ∷ whole_number 1 ∷ Word h.0 ∷ Text title ∷ q) (append_assoc names f.strategy_part rest)) in
+    let t = title_again (codes "NFG") 1 h.0 title (names ++ (f.strategy_part ++ rest)) h.1 in
     let p = names_again players (f.strategy_part ++ rest) f.some_player in
     let s : strategies_at (length players) (f.strategy_part ++ rest) ≡ Some (strategies, rest) = rw (← f.strategies_of_each) (strategies_again f.strategy_part rest strategies f.are_strategies) in
     rw (tokens, t, p, s) refl

@@ -1,9 +1,6 @@
 pub mod BodyLaws
+pub mod CountedNames
 pub mod FileLaws
 pub mod FrontLaws
-pub mod NumberLaws
-pub mod Options
 pub mod OutcomeSteps
-pub mod TokenLaws
 pub mod Products
-pub mod Repeats

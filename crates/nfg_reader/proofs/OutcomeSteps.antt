@@ -5,11 +5,12 @@ use Rattle.std.specs.List.{flat_map}
 use Rattle.rational.specs.Rational.{ℚ}
 use Rattle.game_text.specs.declared.token.Spanned.{Spanned}
 use Rattle.game_text.specs.declared.token.Token.{Token}
+use Rattle.file_parts.specs.Reading.{◌>>=◌, kinds, left_at, right_at, text_at, payoffs_at, repeat_at, opens}
+use Rattle.file_parts.proofs.TokenLaws.{left_is, right_is, text_is}
+use Rattle.file_parts.proofs.NumberLaws.{payoffs_are}
+use Rattle.file_parts.proofs.Repeats.{with_front, with_front-cons}
 use Rattle.nfg_reader.specs.TableFile.{outcome_payoffs}
-use Rattle.nfg_reader.specs.TableReading.{◌>>=◌, kinds, left_at, right_at, text_at, payoffs_at, repeat_at, opens, outcome_at, outcomes_at, outcome_number_at, outcome_body_at}
-use Rattle.nfg_reader.proofs.TokenLaws.{left_is, right_is, text_is}
-use Rattle.nfg_reader.proofs.NumberLaws.{payoffs_are}
-use Rattle.nfg_reader.proofs.Repeats.{with_front, with_front-cons}
+use Rattle.nfg_reader.specs.TableReading.{outcome_at, outcomes_at, outcome_number_at, outcome_body_at}
 
 -- the next outcome and the others
 one_outcome : (players m : ℕ) (tokens : List Token) → 0 < m → opens tokens ≡ true → outcomes_at players m tokens ≡ (outcome_at players tokens >>= λ one. outcomes_at players (m - 1) one.1 >>= λ more. Some (one.0 ∷ more.0, more.1))

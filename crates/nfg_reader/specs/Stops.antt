@@ -4,11 +4,12 @@ use Rattle.game_core.specs.Table.{GameTable}
 use Rattle.game_core.specs.declared.too_large.TooLarge.{TooLarge}
 use Rattle.game_core.specs.declared.too_large.What.TheVariants.{Payoffs}
 use Rattle.game_text.specs.declared.token.Token.{Token}
+use Rattle.file_parts.specs.declared.refusal.Refusal.{Refusal}
+use Rattle.file_parts.specs.declared.refusal.Refusal.TheVariants as refusals
 use Rattle.nfg_reader.specs.TableFile.{IsTableFile, HasTooManyPayoffs}
 use Rattle.nfg_reader.specs.declared.reading.NfgFault.{NfgFault}
+use Rattle.nfg_reader.specs.declared.reading.NfgKind.{NfgKind}
 use Rattle.nfg_reader.specs.declared.reading.NfgStop.{NfgStop}
-use Rattle.nfg_reader.specs.declared.refusal.Refusal.{Refusal}
-use Rattle.nfg_reader.specs.declared.refusal.Refusal.TheVariants as refusals
 use Rattle.nfg_reader.specs.declared.reading.NfgStop.TheVariants as stops
 
 -- the count of payoffs that is named: it stops at the first number above the limit
@@ -24,6 +25,6 @@ IsStop tokens source_length (stops.TooLarge limit) = HasTooManyPayoffs tokens ×
 IsStop tokens source_length stops.Memory = Unit {0}
 
 -- the stop that a refusal of a part becomes
-abbrev pub IsStopOf : Refusal → ℕ → NfgStop → Type 0
+abbrev pub IsStopOf : Refusal NfgKind → ℕ → NfgStop → Type 0
 IsStopOf (refusals.Unfit kind left) source_length stop = (fault : NfgFault) × (stop ≡ stops.Fault fault) × (fault.at ≤ source_length)
 IsStopOf refusals.Memory source_length stop = stop ≡ stops.Memory

@@ -2,11 +2,8 @@
 #![tactic(auto)]
 
 mod front;
-mod lists;
 mod outcomes;
-mod pieces;
 mod reading;
-mod refusal;
 mod strategies;
 
 pub use reading::{NfgFault, NfgKind, NfgStop, files_have_one_table, read};

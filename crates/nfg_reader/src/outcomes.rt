@@ -3,13 +3,12 @@ ghost use Rattle.std.specs.Prelude.{◌≡◌, ◌*◌, ◌<◌, ◌≤◌, ℕ,
 ghost use Rattle.std.specs.List.{All, flat_map};
 ghost use Rattle.rational.specs.Rational.{zero_ℚ};
 ghost use Rattle.game_core.specs.Table.{most_payoffs};
+ghost use Rattle.file_parts.specs.Reading.{Reads, kinds, repeat_at};
 ghost use Rattle.nfg_reader.specs.TableFile.{outcome_payoffs};
-ghost use Rattle.nfg_reader.specs.TableReading.{Reads, kinds, repeat_at, outcome_at, outcomes_at, outcome_number_at, outcome_body_at, body_at, rest_at};
+ghost use Rattle.nfg_reader.specs.TableReading.{outcome_at, outcomes_at, outcome_number_at, outcome_body_at, body_at, rest_at};
 
-use crate::lists::{payoffs, unfit};
-use crate::pieces::{behind_text, ends, left, opens, right, text, whole};
 use crate::reading::NfgKind;
-use crate::refusal::Refusal;
+use file_parts::{Refusal, behind_text, ends, left, opens, payoffs, right, text, unfit, whole};
 use frac128::Frac;
 use game_text::Spanned;
 use std::alloc::{AllocError, Global};
@@ -20,7 +19,7 @@ fn outcome(
     alloc: Global,
     tokens: &[Spanned],
     players: usize,
-) -> Result<(Vec<Frac>, &[Spanned]), Refusal>
+) -> Result<(Vec<Frac>, &[Spanned]), Refusal<NfgKind>>
     ensures shorter { IfOk result (λ x. length x.1.now < length tokens.now) }
     ensures read { Reads (λ x. (x.0.items, kinds x.1.now)) result (outcome_at players (kinds tokens.now)) }
 {
@@ -43,7 +42,7 @@ fn outcomes(
     alloc: Global,
     tokens: &[Spanned],
     players: usize,
-) -> Result<(Vec<Vec<Frac>>, &[Spanned]), Refusal>
+) -> Result<(Vec<Vec<Frac>>, &[Spanned]), Refusal<NfgKind>>
     ensures { Reads (λ x. (map (λ v. v.items) x.0.items, kinds x.1.now)) result (outcomes_at players (length (kinds tokens.now)) (kinds tokens.now)) }
 {
     let mut outcomes = Vec::new(alloc);
@@ -58,7 +57,10 @@ fn outcomes(
 
 // The number of an outcome, where there are so many, or 0, and the tokens behind it.
 #[tactic(auto, unfolding(crate::specs::TableReading::outcome_number_at))]
-fn outcome_number(tokens: &[Spanned], outcomes: usize) -> Result<(usize, &[Spanned]), Refusal>
+fn outcome_number(
+    tokens: &[Spanned],
+    outcomes: usize,
+) -> Result<(usize, &[Spanned]), Refusal<NfgKind>>
     ensures read { Reads (λ x. (x.0, kinds x.1.now)) result (outcome_number_at outcomes (kinds tokens.now)) }
     ensures within { IfOk result (λ x. x.0 ≤ outcomes) }
 {
@@ -73,13 +75,13 @@ fn outcome_number(tokens: &[Spanned], outcomes: usize) -> Result<(usize, &[Spann
 }
 
 // This many numbers of outcomes, and the tokens behind them.
-#[tactic(auto, using(crate::proofs::Repeats::repeats))]
+#[tactic(auto, using(file_parts::proofs::Repeats::repeats))]
 fn outcome_numbers(
     alloc: Global,
     tokens: &[Spanned],
     outcomes: usize,
     count: usize,
-) -> Result<(Vec<usize>, &[Spanned]), Refusal>
+) -> Result<(Vec<usize>, &[Spanned]), Refusal<NfgKind>>
     ensures read { Reads (λ x. (x.0.items, kinds x.1.now)) result (repeat_at (λ _. outcome_number_at outcomes) 0 count (kinds tokens.now)) }
     ensures within { IfOk result (λ x. All (λ n. n ≤ outcomes) x.0.items) }
 {
@@ -129,7 +131,7 @@ fn outcome_body(
     tokens: &[Spanned],
     players: usize,
     profiles: usize,
-) -> Result<(Vec<Frac>, &[Spanned]), Refusal>
+) -> Result<(Vec<Frac>, &[Spanned]), Refusal<NfgKind>>
     ensures { Reads (λ x. (x.0.items, kinds x.1.now)) result (outcome_body_at players profiles (kinds tokens.now)) }
 {
     let Some(inner) = left(tokens) else {
@@ -151,7 +153,7 @@ fn body(
     tokens: &[Spanned],
     players: usize,
     profiles: usize,
-) -> Result<(Vec<Frac>, &[Spanned]), Refusal>
+) -> Result<(Vec<Frac>, &[Spanned]), Refusal<NfgKind>>
     requires { players * profiles ≤ most_payoffs }
     ensures { Reads (λ x. (x.0.items, kinds x.1.now)) result (body_at players profiles (kinds tokens.now)) }
 {
@@ -169,7 +171,7 @@ pub fn last_payoffs(
     tokens: &[Spanned],
     players: usize,
     profiles: usize,
-) -> Result<Vec<Frac>, Refusal>
+) -> Result<Vec<Frac>, Refusal<NfgKind>>
     requires { players * profiles ≤ most_payoffs }
     ensures { Reads (λ v. v.items) result (rest_at players profiles (kinds tokens.now)) }
 {

@@ -8,8 +8,8 @@ ghost use Rattle.nfg_reader.specs.Stops.{IsStop, IsStopOf};
 
 use crate::front::{Front, read_front};
 use crate::outcomes::last_payoffs;
-use crate::refusal::Refusal;
 use crate::strategies::{profile_count, strategy_names};
+use file_parts::{Refusal, place};
 use frac128::Frac;
 use game_core::{Table, TooLarge, What};
 use game_text::Tokens;
@@ -64,21 +64,8 @@ impl From<AllocError> for NfgStop {
     }
 }
 
-// Where the token stands from which on so many are left, or the source's length where none is.
-fn place(tokens: &Tokens, left: usize) -> usize
-    ensures { result ≤ tokens.now.length }
-{
-    let list = tokens.list();
-    let index = list.len().saturating_sub(left);
-    if index < list.len() {
-        list[index].start
-    } else {
-        tokens.source_length()
-    }
-}
-
 // The stop for a refusal.
-fn stop(refusal: Refusal, tokens: &Tokens) -> NfgStop
+fn stop(refusal: Refusal<NfgKind>, tokens: &Tokens) -> NfgStop
     ensures { IsStopOf refusal tokens.now.length result }
 {
     match refusal {

@@ -3,13 +3,12 @@ ghost use Rattle.std.specs.Prelude.{◌≡◌, ◌*◌, ◌+◌, ◌<◌, ◌≤
 ghost use Rattle.std.specs.List.{AllByRecursion};
 ghost use Rattle.game_theory.specs.Profiles.{profile_count};
 ghost use Rattle.game_core.specs.Table.{most_payoffs};
+ghost use Rattle.file_parts.specs.Reading.{Reads, kinds, count_at, names_at, repeat_at};
 ghost use Rattle.nfg_reader.specs.TableFile.{counted_names};
-ghost use Rattle.nfg_reader.specs.TableReading.{Reads, Gives, kinds, count_at, names_at, repeat_at, counted_at, named_at, strategies_at, names_of};
+ghost use Rattle.nfg_reader.specs.TableReading.{counted_at, named_at, strategies_at, names_of};
 
-use crate::lists::{names, unfit};
-use crate::pieces::{left, opens, right, whole};
 use crate::reading::NfgKind;
-use crate::refusal::Refusal;
+use file_parts::{Refusal, count, left, names, opens, right, unfit};
 use game_core::Name;
 use game_text::Spanned;
 use std::alloc::{AllocError, Global};
@@ -26,26 +25,13 @@ pub enum Strategies {
     Named(Vec<Vec<Name>>),
 }
 
-// A count of at least 1, and the tokens behind it.
-#[tactic(auto, unfolding(crate::specs::TableReading::count_at))]
-fn count(tokens: &[Spanned]) -> Option<(u128, &[Spanned])>
-    ensures { Gives (λ x. (x.0, kinds x.1.now)) result (count_at (kinds tokens.now)) }
-{
-    let (count, rest) = whole(tokens)?;
-    if count >= 1 {
-        Some((count, rest))
-    } else {
-        None
-    }
-}
-
 // One count for each player, and the tokens behind them.
-#[tactic(auto, using(crate::proofs::Repeats::repeats))]
+#[tactic(auto, using(file_parts::proofs::Repeats::repeats))]
 fn counts(
     alloc: Global,
     tokens: &[Spanned],
     players: usize,
-) -> Result<(Vec<u128>, &[Spanned]), Refusal>
+) -> Result<(Vec<u128>, &[Spanned]), Refusal<NfgKind>>
     ensures { Reads (λ x. (x.0.items, kinds x.1.now)) result (repeat_at (λ _. count_at) 0 players (kinds tokens.now)) }
 {
     let mut counts = Vec::new(alloc);
@@ -61,12 +47,12 @@ fn counts(
 }
 
 // One list of names for each player, and the tokens behind them.
-#[tactic(auto, using(crate::proofs::Repeats::repeats))]
+#[tactic(auto, using(file_parts::proofs::Repeats::repeats))]
 fn lists(
     alloc: Global,
     tokens: &[Spanned],
     players: usize,
-) -> Result<(Vec<Vec<Name>>, &[Spanned]), Refusal>
+) -> Result<(Vec<Vec<Name>>, &[Spanned]), Refusal<NfgKind>>
     ensures { Reads (λ x. (map (λ v. v.items) x.0.items, kinds x.1.now)) result (repeat_at (λ _. names_at) 0 players (kinds tokens.now)) }
 {
     let mut lists = Vec::new(alloc);
@@ -85,7 +71,7 @@ fn counted(
     alloc: Global,
     tokens: &[Spanned],
     players: usize,
-) -> Result<(Strategies, &[Spanned]), Refusal>
+) -> Result<(Strategies, &[Spanned]), Refusal<NfgKind>>
     ensures { Reads (λ x. (names_of x.0, kinds x.1.now)) result (counted_at players (kinds tokens.now)) }
 {
     let (counts, behind) = counts(alloc, tokens, players)?;
@@ -101,7 +87,7 @@ fn named(
     alloc: Global,
     tokens: &[Spanned],
     players: usize,
-) -> Result<(Strategies, &[Spanned]), Refusal>
+) -> Result<(Strategies, &[Spanned]), Refusal<NfgKind>>
     ensures { Reads (λ x. (names_of x.0, kinds x.1.now)) result (named_at players (kinds tokens.now)) }
 {
     let (lists, behind) = lists(alloc, tokens, players)?;
@@ -117,7 +103,7 @@ pub fn read_strategies(
     alloc: Global,
     tokens: &[Spanned],
     players: usize,
-) -> Result<(Strategies, &[Spanned]), Refusal>
+) -> Result<(Strategies, &[Spanned]), Refusal<NfgKind>>
     ensures { Reads (λ x. (names_of x.0, kinds x.1.now)) result (strategies_at players (kinds tokens.now)) }
 {
     let Some(inner) = left(tokens) else {
@@ -181,7 +167,7 @@ fn lengths(alloc: Global, lists: &[Vec<Name>]) -> Result<Vec<u128>, AllocError>
 }
 
 // The names `1`, `2` and so on, as many as counted.
-#[tactic(auto, using(crate::proofs::Repeats::names_more))]
+#[tactic(auto, using(crate::proofs::CountedNames::names_more))]
 fn numbered(alloc: Global, count: u128) -> Result<Vec<Name>, AllocError>
     ensures { IfOk result (λ v. v.items ≡ counted_names count) }
 {

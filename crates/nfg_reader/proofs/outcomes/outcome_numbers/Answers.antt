@@ -1,7 +1,8 @@
 use Rattle.std.proofs.Common.{◌≤◌}
 use Rattle.std.proofs.lemmas.List.Elements.{All-push}
-use Rattle.nfg_reader.specs.TableReading.{kinds, outcome_number_at}
-use Rattle.nfg_reader.proofs.Repeats.{repeat_goes_on}
+use Rattle.file_parts.specs.Reading.{kinds}
+use Rattle.file_parts.proofs.Repeats.{repeat_goes_on}
+use Rattle.nfg_reader.specs.TableReading.{outcome_number_at}
 use Rattle.nfg_reader.proofs.outcomes.outcome_numbers.Goals as goal
 
 pub loop-preserved : goal.loop-preserved

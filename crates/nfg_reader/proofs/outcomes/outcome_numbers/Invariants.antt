@@ -1,7 +1,8 @@
 use Rattle.std.proofs.Common.{◌≡◌, ◌-◌, ◌≤◌}
 use Rattle.std.specs.List.{All}
-use Rattle.nfg_reader.specs.TableReading.{kinds, outcome_number_at, repeat_at}
-use Rattle.nfg_reader.proofs.Repeats.{with_front}
+use Rattle.file_parts.specs.Reading.{kinds, repeat_at}
+use Rattle.file_parts.proofs.Repeats.{with_front}
+use Rattle.nfg_reader.specs.TableReading.{outcome_number_at}
 use Rattle.nfg_reader.proofs.outcomes.outcome_numbers.Given as goal
 
 abbrev pub invariant-loop : goal.invariant-loop

@@ -1,6 +1,7 @@
 use Rattle.std.proofs.Common.{◌≡◌, ◌+◌, ◌-◌, ◌≤◌, map, length}
-use Rattle.nfg_reader.specs.TableReading.{kinds, outcomes_at}
-use Rattle.nfg_reader.proofs.Repeats.{with_front}
+use Rattle.file_parts.specs.Reading.{kinds}
+use Rattle.file_parts.proofs.Repeats.{with_front}
+use Rattle.nfg_reader.specs.TableReading.{outcomes_at}
 use Rattle.nfg_reader.proofs.outcomes.outcomes.Given as goal
 
 abbrev pub invariant-loop-alloc : goal.invariant-loop-alloc

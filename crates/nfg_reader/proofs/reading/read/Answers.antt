@@ -1,7 +1,8 @@
 use Rattle.std.proofs.Common.{◌≡◌, ◌*◌, ◌<◌, ◌≤◌, Some, List, length, refl, arith}
 use Rattle.game_core.specs.Table.{most_payoffs}
 use Rattle.game_text.specs.declared.token.Token.{Token}
-use Rattle.nfg_reader.specs.TableReading.{FrontPart, kinds, front_at, front_of, profiles, rest_at}
+use Rattle.file_parts.specs.Reading.{kinds}
+use Rattle.nfg_reader.specs.TableReading.{FrontPart, front_at, front_of, profiles, rest_at}
 use Rattle.nfg_reader.proofs.FileLaws.{stop_by, no_front, no_rest_of, front_some, too_many_next, finished}
 use Rattle.nfg_reader.proofs.reading.read.Goals as goal
 

@@ -1,6 +1,6 @@
 use Rattle.std.proofs.Common.{◌≡◌, ◌-◌}
-use Rattle.nfg_reader.specs.TableReading.{kinds, count_at, repeat_at}
-use Rattle.nfg_reader.proofs.Repeats.{with_front}
+use Rattle.file_parts.specs.Reading.{kinds, count_at, repeat_at}
+use Rattle.file_parts.proofs.Repeats.{with_front}
 use Rattle.nfg_reader.proofs.strategies.counts.Given as goal
 
 abbrev pub invariant-loop : goal.invariant-loop

@@ -1,6 +1,6 @@
 use Rattle.std.proofs.Common.{◌≡◌, ◌++◌, ◌∷◌, [], map}
-use Rattle.nfg_reader.specs.TableReading.{kinds, names_at}
-use Rattle.nfg_reader.proofs.Repeats.{repeat_goes_on, map_push}
+use Rattle.file_parts.specs.Reading.{kinds, names_at}
+use Rattle.file_parts.proofs.Repeats.{repeat_goes_on, map_push}
 use Rattle.nfg_reader.proofs.strategies.lists.Goals as goal
 
 pub loop-preserved : goal.loop-preserved

@@ -1,6 +1,6 @@
 use Rattle.std.proofs.Common.{◌≡◌, ◌-◌, map}
-use Rattle.nfg_reader.specs.TableReading.{kinds, names_at, repeat_at}
-use Rattle.nfg_reader.proofs.Repeats.{with_front}
+use Rattle.file_parts.specs.Reading.{kinds, names_at, repeat_at}
+use Rattle.file_parts.proofs.Repeats.{with_front}
 use Rattle.nfg_reader.proofs.strategies.lists.Given as goal
 
 abbrev pub invariant-loop : goal.invariant-loop

@@ -1,7 +1,0 @@
-use Rattle.std.proofs.Common.{◌≡◌, ◌-◌}
-use Rattle.nfg_reader.specs.TableReading.{kinds, payoff_at, payoffs_at, repeat_at}
-use Rattle.nfg_reader.proofs.Repeats.{with_front}
-use Rattle.nfg_reader.proofs.lists.payoffs.Given as goal
-
-abbrev pub invariant-loop-index : goal.invariant-loop-index
-invariant-loop-index l = with_front l.payoffs.items (repeat_at payoff_at l.index (l.count - l.index) (kinds l.rest)) ≡ payoffs_at l.count (kinds l.tokens)
