@@ -1,2 +1,4 @@
 mod Numbers
 mod PlayersSets
+mod PrefixOrder
+mod TreeLaws

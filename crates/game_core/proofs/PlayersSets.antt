@@ -1,8 +1,8 @@
 -- The lists of the players' own sets, one set after another.
-use Rattle.std.proofs.Common.{◌≡◌, ◌≢◌, ◌<◌, ◌≤◌, ◌+◌, ◌∙◌, sym, ap, subst, refl, ℕ, zero, suc, Bool, true, false, cond, Option, Some, None, List, [], ◌∷◌, ◌++◌, length, get_or, set, slice_get, add-one, below_more, arith, take, map, All, inl, inr, option_map}
-use Rattle.std.proofs.Math.Nat.{add-suc, suc-add, add-zero}
+use Rattle.std.proofs.Common.{◌≡◌, ◌<◌, ◌≤◌, ◌+◌, ◌∙◌, sym, ap, subst, refl, ℕ, suc, Bool, true, false, cond, Option, Some, None, List, [], ◌∷◌, ◌++◌, length, get_or, set, below_more, arith, take, map, All, inl, inr, option_map}
+use Rattle.std.proofs.Math.Nat.{add-zero}
 use Rattle.std.proofs.lemmas.Bool.{cases_eq, eqb-true, eq-eqb, false_from_ne_true}
-use Rattle.std.proofs.lemmas.List.{append-nil, length-append, length-set, get_or-set_same, get_or-set_other, get_or_append_left, get_or_push, length_push, length-take-le, get_or-map, map-set, take_more, length-map}
+use Rattle.std.proofs.lemmas.List.{append-nil, length-set, get_or-set_same, get_or-set_other, get_or_append_left, get_or_push, length_push, length-take-le, get_or-map, map-set, take_more, length-map}
 use Rattle.std.proofs.lemmas.Option.{slice_get-get_or, slice_get_read, slice_get-map, get_or_from_slice_get, same_Some}
 use Rattle.game_core.specs.OwnSets.{AreOwnLists}
 use Rattle.game_core.specs.Tree.{GameTree, IsTree, InformationSet, IsWithin, is_set, own_from}
@@ -36,8 +36,9 @@ own_from-own s i last own = rw own refl
 -- one more player without sets
 pub AreOwnLists-one_more : (players : ℕ) (lists : List (List ℕ)) → AreOwnLists [] players lists → AreOwnLists [] (players + 1) (lists ++ [] ∷ [])
 AreOwnLists-one_more players lists h = record {
-    one_for_each = length_push lists [] ∙ ap (λ n. n + 1) h.one_for_each;
-    are_own = λ i below. slice_get-get_or (lists ++ [] ∷ []) i [] below ∙ ap Some (empty i (rw length_push at below)) }
+  one_for_each = length_push lists [] ∙ ap (λ n. n + 1) h.one_for_each;
+  are_own = λ i below. slice_get-get_or (lists ++ [] ∷ []) i [] below ∙ ap Some (empty i (rw length_push at below));
+}
   where
     empty : (i : ℕ) → i < length lists + 1 → get_or (lists ++ [] ∷ []) i [] ≡ []
     empty = below_more _ _ (λ i below. get_or_append_left lists ([] ∷ []) [] i below ∙ get_or_from_slice_get lists i [] [] (h.are_own i below)) (get_or_push lists [] [] (length lists) refl)
@@ -45,20 +46,23 @@ AreOwnLists-one_more players lists h = record {
 -- one more set of chance
 AreOwnLists-chance : (sets : List InformationSet) (last : InformationSet) (players : ℕ) (lists : List (List ℕ)) → last.owner ≡ None → AreOwnLists sets players lists → AreOwnLists (sets ++ last ∷ []) players lists
 AreOwnLists-chance sets last players lists owner h = record {
-    one_for_each = h.one_for_each;
-    are_own = λ i below. h.are_own i below ∙ ap Some (sym (own_from-push i sets last ∙ ap (λ v. own_from 0 i sets ++ v) (own_from-other _ i last (ap (is_set i) owner)) ∙ append-nil _)) }
+  one_for_each = h.one_for_each;
+  are_own = λ i below. h.are_own i below ∙ ap Some (sym (own_from-push i sets last ∙ ap (λ v. own_from 0 i sets ++ v) (own_from-other _ i last (ap (is_set i) owner)) ∙ append-nil _));
+}
 
 -- the list of one player after one more set of another player or of that player
 list_after : (sets : List InformationSet) (last : InformationSet) (player i : ℕ) (lists : List (List ℕ)) → last.owner ≡ Some player → i < length lists → get_or lists i [] ≡ own_from 0 i sets → get_or (set lists player (get_or lists player [] ++ length sets ∷ [])) i [] ≡ own_from 0 i (sets ++ last ∷ [])
 list_after sets last player i lists owner below h = elim (cases_eq i player) [
-      inl same ↦ rw same (get_or-set_same lists player _ [] (rw same at below) ∙ ap (λ v. v ++ length sets ∷ []) (rw same at h) ∙ ap (λ v. own_from 0 player sets ++ v) (sym (own_from-own _ player last (ap (is_set player) owner ∙ eq-eqb player player refl))) ∙ sym (own_from-push player sets last))
-    | inr other ↦ get_or-set_other lists player i _ [] other ∙ h ∙ sym (append-nil _) ∙ ap (λ v. own_from 0 i sets ++ v) (sym (own_from-other _ i last (ap (is_set i) owner ∙ false_from_ne_true _ (λ same. other (sym (eqb-true player i same)))))) ∙ sym (own_from-push i sets last) ]
+  | inl same ↦ rw same (get_or-set_same lists player _ [] (rw same at below) ∙ ap (λ v. v ++ length sets ∷ []) (rw same at h) ∙ ap (λ v. own_from 0 player sets ++ v) (sym (own_from-own _ player last (ap (is_set player) owner ∙ eq-eqb player player refl))) ∙ sym (own_from-push player sets last))
+  | inr other ↦ get_or-set_other lists player i _ [] other ∙ h ∙ sym (append-nil _) ∙ ap (λ v. own_from 0 i sets ++ v) (sym (own_from-other _ i last (ap (is_set i) owner ∙ false_from_ne_true _ (λ same. other (sym (eqb-true player i same)))))) ∙ sym (own_from-push i sets last)
+]
 
 -- one more set of a player
 AreOwnLists-player : (sets : List InformationSet) (last : InformationSet) (players player : ℕ) (lists : List (List ℕ)) → last.owner ≡ Some player → AreOwnLists sets players lists → AreOwnLists (sets ++ last ∷ []) players (set lists player (get_or lists player [] ++ length sets ∷ []))
 AreOwnLists-player sets last players player lists owner h = record {
-    one_for_each = length-set lists player _ ∙ h.one_for_each;
-    are_own = λ i below. slice_get-get_or (set lists player _) i [] below ∙ ap Some (list_after sets last player i lists owner (rw length-set at below) (get_or_from_slice_get lists i _ [] (h.are_own i (rw length-set at below)))) }
+  one_for_each = length-set lists player _ ∙ h.one_for_each;
+  are_own = λ i below. slice_get-get_or (set lists player _) i [] below ∙ ap Some (list_after sets last player i lists owner (rw length-set at below) (get_or_from_slice_get lists i _ [] (h.are_own i (rw length-set at below))));
+}
 
 -- the set at a place is one of chance
 pub AreOwnLists-step_chance : (sets : List InformationSet) (k : ℕ) (here : InformationSet) (players : ℕ) (lists : List (List ℕ)) → k < length sets → here ≡ get_or sets k here → here.owner ≡ None → AreOwnLists (take k sets) players lists → AreOwnLists (take (k + 1) sets) players lists

@@ -1,5 +1,5 @@
 -- How trees are stored as numbers and lists.
-use Rattle.std.specs.Prelude.{ℕ, zero, suc, List, ◌≡◌, Option, Some, None, refl}
+use Rattle.std.specs.Prelude.{ℕ, zero, suc, List, ◌≡◌, Option, refl}
 use Rattle.std.specs.Coded.{Coded, code_by, coded×, coded_ℕ, coded_list, coded_option}
 use Rattle.rational.specs.Rational.{ℚ}
 use Rattle.rational.proofs.Codes.{code_ℚ}
@@ -36,13 +36,13 @@ code_of_kind = code_by (ℕ × ℕ) (coded× coded_ℕ coded_ℕ) kind_parts (λ
 abbrev pub code_of_node : Coded Node
 code_of_node =
     code_by (Kind × (Option ℕ × (ℕ × (Option ℕ × Option ℕ)))) (coded× code_of_kind (coded× (coded_option coded_ℕ) (coded× coded_ℕ (coded× (coded_option coded_ℕ) (coded_option coded_ℕ)))))
-      (λ n. (n.kind, (n.parent, (n.branch, (n.set, n.outcome))))) (λ p. record { kind = p.0; parent = p.1.0; branch = p.1.1.0; set = p.1.1.1.0; outcome = p.1.1.1.1 }) (λ _. refl)
+    (λ n. (n.kind, (n.parent, (n.branch, (n.set, n.outcome))))) (λ p. record { kind = p.0; parent = p.1.0; branch = p.1.1.0; set = p.1.1.1.0; outcome = p.1.1.1.1 }) (λ _. refl)
 
 -- a set is stored as its five parts
 abbrev pub code_of_set : Coded InformationSet
 code_of_set =
     code_by (Option ℕ × (ℕ × (List ℕ × (List Action × List ℕ)))) (coded× (coded_option coded_ℕ) (coded× coded_ℕ (coded× (coded_list coded_ℕ) (coded× (coded_list code_of_action) (coded_list coded_ℕ)))))
-      (λ s. (s.owner, (s.label, (s.name, (s.actions, s.members))))) (λ p. record { owner = p.0; label = p.1.0; name = p.1.1.0; actions = p.1.1.1.0; members = p.1.1.1.1 }) (λ _. refl)
+    (λ s. (s.owner, (s.label, (s.name, (s.actions, s.members))))) (λ p. record { owner = p.0; label = p.1.0; name = p.1.1.0; actions = p.1.1.1.0; members = p.1.1.1.1 }) (λ _. refl)
 
 -- an outcome is stored as its three parts
 abbrev pub code_of_outcome : Coded TreeOutcome
@@ -53,4 +53,4 @@ code_of_outcome =
 abbrev pub code_of_tree : Coded GameTree
 code_of_tree =
     code_by (List ℕ × (List (List ℕ) × (List Node × (List InformationSet × List TreeOutcome)))) (coded× (coded_list coded_ℕ) (coded× (coded_list (coded_list coded_ℕ)) (coded× (coded_list code_of_node) (coded× (coded_list code_of_set) (coded_list code_of_outcome)))))
-      (λ t. (t.title, (t.players, (t.nodes, (t.sets, t.outcomes))))) (λ p. record { title = p.0; players = p.1.0; nodes = p.1.1.0; sets = p.1.1.1.0; outcomes = p.1.1.1.1 }) (λ _. refl)
+    (λ t. (t.title, (t.players, (t.nodes, (t.sets, t.outcomes))))) (λ p. record { title = p.0; players = p.1.0; nodes = p.1.1.0; sets = p.1.1.1.0; outcomes = p.1.1.1.1 }) (λ _. refl)

@@ -2,7 +2,6 @@
 use Rattle.std.specs.Prelude.{ℕ, List, [], length, map, slice_index_or, Option, Some, None}
 use Rattle.rational.specs.Rational.{ℚ, zero_ℚ}
 use Rattle.game_trees.specs.Trees.{Tree}
-use Rattle.game_core.specs.declared.tree.Node.{Node}
 use Rattle.game_core.specs.Tree.{GameTree, TreeOutcome, action_count, probability_at}
 
 -- a number where there is one, and else 0

@@ -1,4 +1,3 @@
-use Rattle.std.proofs.Common.{◌≡◌, map, ap, sym}
 use Rattle.std.proofs.lemmas.List.{map_push}
 use Rattle.game_core.proofs.PlayersSets.{AreOwnLists-one_more}
 use Rattle.game_core.proofs.tree.no_lists.Goals as goal

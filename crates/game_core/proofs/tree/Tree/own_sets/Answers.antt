@@ -1,4 +1,4 @@
-use Rattle.std.proofs.Common.{◌≡◌, ◌<◌, ◌≤◌, ◌∙◌, refl, ap, sym, rules, arith, length, map, get_or, slice_get}
+use Rattle.std.proofs.Common.{◌≡◌, ◌≤◌, refl, ap, sym, arith, length}
 use Rattle.std.proofs.lemmas.List.{length-map}
 use Rattle.std.proofs.lemmas.Option.{slice_get_past, slice_get_read}
 use Rattle.game_core.specs.Tree.{own_from}
