@@ -1,4 +1,5 @@
 mod Numbers
 mod PlayersSets
 mod PrefixOrder
+mod SmallTree
 mod TreeLaws

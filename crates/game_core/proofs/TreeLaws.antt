@@ -1,12 +1,14 @@
 -- What a tree stands for is a game tree.
-use Rattle.std.proofs.Common.{◌≡◌, ◌<◌, ◌∙◌, sym, ap, subst, refl, ℕ, zero, suc, Option, Some, None, List, [], ◌∷◌, All, length, map, get_or, slice_get, arith}
-use Rattle.std.proofs.lemmas.List.{get_or-map}
-use Rattle.std.proofs.lemmas.Option.{same_Some}
+use Rattle.std.proofs.Common.{◌≡◌, ◌<◌, ◌≤◌, ◌∙◌, sym, ap, subst, refl, ℕ, zero, suc, Option, Some, None, List, [], ◌∷◌, All, length, map, get_or, slice_get, arith}
+use Rattle.std.proofs.lemmas.List.{length-map}
+use Rattle.std.proofs.lemmas.List.Elements.{All-get_or, All-map}
+use Rattle.std.proofs.lemmas.Option.{none-some, slice_get_within, same_Some}
 use Rattle.rational.specs.Rational.{◌≤ℚ◌, zero_ℚ, one_ℚ}
 use Rattle.rational.specs.Sum.{sum_to}
 use Rattle.game_trees.specs.Trees.{IsTree as is_game_tree, IsChild, IsLottery}
 use Rattle.game_core.specs.declared.tree.Action.{Action}
-use Rattle.game_core.specs.Tree.{GameTree, IsTree, InformationSet, IsWithin, AreChances, ProbabilitiesFit, SetFits, action_count, probability_at}
+use Rattle.game_core.specs.declared.tree.Node.{Node}
+use Rattle.game_core.specs.Tree.{AreInPrefixOrder, GameTree, IsTree, InformationSet, IsWithin, AreChances, ProbabilitiesFit, SetFits, LiesBelowRoot, most_depth, action_count, probability_at}
 use Rattle.game_core.specs.TreeGame.{game_of_tree, or_zero}
 use Rattle.game_core.proofs.PrefixOrder.{child_at, hangs_at, place_at, root, same_node}
 
@@ -22,12 +24,9 @@ part_of f [] k x d is = cc
 part_of f (y ∷ xs) zero x d is = ap f (same_Some y x is)
 part_of f (y ∷ xs) (suc k) x d is = part_of f xs k x d is
 
--- what holds of each element holds of its part
+-- what holds of each element's part holds of the part at a place
 part_has : {X Y : Type 0} (P : Y → Type 0) (f : X → Y) (xs : List X) (k : ℕ) (d : Y) → All (λ x. P (f x)) xs → k < length xs → P (get_or (map f xs) k d)
-part_has P f xs k d h below =
-    let found = element xs k below in
-    let here : P (f (get_or xs k found.0)) = h k found.0 below in
-    subst P (sym (get_or-map f xs k found.0 d below)) here
+part_has P f xs k d h below = All-get_or P (map f xs) k d (rw length-map below) (All-map P f xs h)
 
 -- a number within a bound
 within : (bound n : ℕ) (o : Option ℕ) → IsWithin bound o → o ≡ Some n → n < bound
@@ -41,6 +40,23 @@ some_set sets (Some s) a below = (s, refl, below)
 -- probabilities that are an owner's, where chance is the owner
 chances : (owner : Option ℕ) (actions : List Action) → ProbabilitiesFit owner actions → owner ≡ None → AreChances actions
 chances owner actions h is = subst (λ o. ProbabilitiesFit o actions) is h
+
+-- in a tree a node lies at most as many edges below the root as its number
+depth_within : (sets : List InformationSet) (nodes : List Node) → AreInPrefixOrder sets 0 nodes ((None, 0) ∷ []) [] → (d k : ℕ) → LiesBelowRoot nodes d k → (d ≤ k) × (k < length nodes)
+depth_within sets nodes ordered zero k h = (omega arith, slice_get_within nodes k h.0 h.1)
+depth_within sets nodes ordered (suc d) zero h =
+    let hangs = sym (part_of (λ node. node.parent) nodes 0 h.0 None h.2) ∙ ap (λ p. p.0) (root sets nodes ordered).1 in
+    absurd (none-some h.1 (sym hangs ∙ h.3))
+depth_within sets nodes ordered (suc d) (suc k) h =
+    let inside = slice_get_within nodes (suc k) h.0 h.2 in
+    let place = hangs_at sets nodes ordered (suc k) (omega arith) inside in
+    let parent = same_Some _ _ (sym place.2 ∙ part_of (λ node. node.parent) nodes (suc k) h.0 None h.2 ∙ h.3) in
+    let above = depth_within sets nodes ordered d h.1 h.4 in
+    (omega arith, inside)
+
+-- a tree of few nodes is not too deep
+pub few_edges : (sets : List InformationSet) (nodes : List Node) → AreInPrefixOrder sets 0 nodes ((None, 0) ∷ []) [] → length nodes ≤ most_depth → (d k : ℕ) → LiesBelowRoot nodes d k → d ≤ most_depth
+few_edges sets nodes ordered few d k h = let depth = depth_within sets nodes ordered d k h in omega arith
 
 -- the set at a place fits
 set_fits : (t : GameTree) → IsTree t → (s : ℕ) → s < length t.sets → (set : InformationSet) × (slice_get t.sets s ≡ Some set) × SetFits t s set

@@ -313,3 +313,104 @@ impl Tree {
 pub fn trees_are_game_trees()
     ensures { (t : GameTree) → IsTree t → is_game_tree (game_of_tree t) }
 {}
+
+#[cfg(test)]
+mod tests {
+    use super::*;
+
+    fn nameless(alloc: Global) -> Name {
+        Name::new(Vec::new(alloc))
+    }
+
+    fn action(alloc: Global, prob: Frac) -> Action
+        ensures { result.prob ≡ prob }
+    {
+        Action {
+            name: nameless(alloc),
+            prob,
+        }
+    }
+
+    fn node(
+        kind: Kind,
+        parent: Option<u32>,
+        branch: u32,
+        set: Option<u32>,
+        outcome: Option<u32>,
+    ) -> Node
+        ensures { result ≡ record { kind = kind; parent = parent; branch = branch; set = set; outcome = outcome } }
+    {
+        Node {
+            kind,
+            parent,
+            branch,
+            set,
+            outcome,
+        }
+    }
+
+    // Chance draws one of two nodes that the second player can't tell apart. After the first of them and the
+    // first action, that player has one more set.
+    fn small_tree(alloc: Global) -> Result<Tree, Memory> {
+        let half = Frac::new(1, 2).ok_or(Memory)?;
+        let mover = Kind::Move { player: 1 };
+        let players = Vec::from_array(alloc, [nameless(alloc), nameless(alloc)])?;
+        let nodes = Vec::from_array(
+            alloc,
+            [
+                node(Kind::Chance, None, 0, Some(0), None),
+                node(mover, Some(0), 0, Some(1), None),
+                node(mover, Some(1), 0, Some(2), None),
+                node(Kind::End, Some(2), 0, None, Some(0)),
+                node(Kind::End, Some(1), 1, None, Some(1)),
+                node(mover, Some(0), 1, Some(1), None),
+                node(Kind::End, Some(5), 0, None, Some(1)),
+                node(Kind::End, Some(5), 1, None, Some(0)),
+            ],
+        )?;
+        let draws = Vec::from_array(alloc, [action(alloc, half), action(alloc, half)])?;
+        let root = Vec::from_array(alloc, [0])?;
+        let draw = InfoSet::new(None, 1, nameless(alloc), draws, root);
+        let zero = Frac::zero();
+        let choices = Vec::from_array(alloc, [action(alloc, zero), action(alloc, zero)])?;
+        let both = Vec::from_array(alloc, [1, 5])?;
+        let blind = InfoSet::new(Some(1), 1, nameless(alloc), choices, both);
+        let only = Vec::from_array(alloc, [action(alloc, zero)])?;
+        let third = Vec::from_array(alloc, [2])?;
+        let last = InfoSet::new(Some(1), 2, nameless(alloc), only, third);
+        let sets = Vec::from_array(alloc, [draw, blind, last])?;
+        let gains = Vec::from_array(alloc, [half, zero])?;
+        let won = Outcome::new(1, nameless(alloc), gains);
+        let losses = Vec::from_array(alloc, [zero, half])?;
+        let lost = Outcome::new(2, nameless(alloc), losses);
+        let outcomes = Vec::from_array(alloc, [won, lost])?;
+        Tree::new(alloc, nameless(alloc), players, nodes, sets, outcomes)
+    }
+
+    #[test]
+    fn keeps_own_sets(rt: HostRuntime) -> Result<(), Memory> {
+        let alloc = rt.alloc();
+        let tree = small_tree(alloc)?;
+        assert!(rt; tree.own_sets(0, 0) == None);
+        assert!(rt; tree.own_sets(1, 0) == Some(1));
+        assert!(rt; tree.own_sets(1, 1) == Some(2));
+        assert!(rt; tree.own_sets(1, 2) == None);
+        assert!(rt; tree.own_sets(2, 0) == None);
+        assert!(rt; tree.nodes().len() == 8);
+        assert!(rt; tree.players().len() == 2);
+        assert!(rt; tree.title().bytes().len() == 0);
+        assert!(rt; tree.sets().len() == 3);
+        let blind = &tree.sets()[1];
+        assert!(rt; blind.owner() == Some(1));
+        assert!(rt; blind.label() == 1);
+        assert!(rt; blind.name().bytes().len() == 0);
+        assert!(rt; blind.actions().len() == 2);
+        assert!(rt; blind.members() == [1, 5].as_slice());
+        assert!(rt; tree.outcomes().len() == 2);
+        let lost = &tree.outcomes()[1];
+        assert!(rt; lost.label() == 2);
+        assert!(rt; lost.name().bytes().len() == 0);
+        assert!(rt; lost.payoffs().len() == 2);
+        Ok(())
+    }
+}
