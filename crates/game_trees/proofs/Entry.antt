@@ -9,9 +9,16 @@ use Rattle.rational.proofs.Field.{lt_irrefl}
 use Rattle.rational.proofs.Sums.{sum_to-zeros}
 use Rattle.game_theory.specs.Mixed.{sure}
 use Rattle.game_theory.proofs.SureStrategies.{zero_lt_one, sure-other, sure-not_negative, sum_to-sure}
+use Rattle.game_trees.specs.Trees.{IsTree}
 use Rattle.game_trees.specs.Behaviour.{IsChoice, payoff, pure, reply}
 use Rattle.game_trees.specs.Equilibrium.{IsEquilibrium}
 use Rattle.game_trees.specs.Examples.{entry_game, both, EntryHasTwoPureEquilibria}
+use Rattle.game_trees.proofs.TreeTests.{tree-tested, even_lottery}
+
+-- the entry game is a tree
+entry-tree : IsTree entry_game
+entry-tree =
+    tree-tested entry_game (record { some_node = refl; nodes = refl; edges = refl; sets = refl }) (λ s l e. even_lottery entry_game s refl (λ a. refl))
 
 -- what holds at 0 and at 1 holds below 2
 below_two : (P : ℕ → Type 0) → P 0 → P 1 → (i : ℕ) → i < 2 → P i
@@ -89,6 +96,7 @@ stable_pairs x y h l =
 pub entry-equilibria : EntryHasTwoPureEquilibria
 entry-equilibria =
     record {
+      tree = entry-tree;
       stays_out = equilibrium_where_stable 0 0 (omega arith) (omega arith) stable-00;
       enters = equilibrium_where_stable 1 1 (omega arith) (omega arith) stable-11;
       no_other = λ choice e. stable_pairs (choice 0) (choice 1) (choice-below 2 (choice 0) (e.valid.sum_is_one 0 0 (omega arith) refl)) (choice-below 2 (choice 1) (e.valid.sum_is_one 1 1 (omega arith) refl)) (stable_at_equilibrium choice e);

@@ -5,8 +5,15 @@ use Rattle.rational.specs.Gcd.{gcd}
 use Rattle.rational.specs.Rational.{ℚ, is_lowest, frac, ◌+ℚ◌, ◌*ℚ◌, ◌≤ℚ◌, zero_ℚ, one_ℚ}
 use Rattle.rational.specs.Sum.{sum_to}
 use Rattle.rational.proofs.Field.{le_refl}
+use Rattle.game_trees.specs.Trees.{IsTree}
 use Rattle.game_trees.specs.Behaviour.{payoff}
 use Rattle.game_trees.specs.Examples.{one_card_poker, bluffs, PokerIsWorthAThird}
+use Rattle.game_trees.proofs.TreeTests.{tree-tested, even_lottery}
+
+-- one-card poker is a tree
+poker-tree : IsTree one_card_poker
+poker-tree =
+    tree-tested one_card_poker (record { some_node = refl; nodes = refl; edges = refl; sets = refl }) (λ s l e. even_lottery one_card_poker s refl (λ a. refl))
 
 -- two numbers that are not negative, and 0 behind them
 pair-not_negative : (x y : ℚ) → zero_ℚ ≤ℚ x → zero_ℚ ≤ℚ y → (a : ℕ) → zero_ℚ ≤ℚ slice_index_or (x ∷ y ∷ []) a zero_ℚ
@@ -43,4 +50,4 @@ alice_gets = refl
 -- the law of the game
 pub poker-worth : PokerIsWorthAThird
 poker-worth =
-    record { valid = record { not_negative = λ s i a h e l. bluffs-not_negative s a; sum_is_one = bluffs-sum }; fred = fred_gets; alice = alice_gets }
+    record { tree = poker-tree; valid = record { not_negative = λ s i a h e l. bluffs-not_negative s a; sum_is_one = bluffs-sum }; fred = fred_gets; alice = alice_gets }

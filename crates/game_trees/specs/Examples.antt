@@ -1,9 +1,10 @@
--- Two trees worked out: one-card poker and an entry game.
+-- Three trees worked out: one-card poker, an entry game, and a player who forgets.
 use Rattle.std.specs.Prelude.{ℕ, zero, suc, ◌≡◌, ◌⊎◌, List, [], ◌∷◌, length, slice_index_or, Option, Some, None, ℤ, pos, negsuc}
 use Rattle.rational.specs.Rational.{frac, whole, zero_ℚ}
-use Rattle.game_trees.specs.Trees.{Tree}
+use Rattle.game_trees.specs.Trees.{Tree, IsTree}
 use Rattle.game_trees.specs.Behaviour.{Behaviour, IsValid, payoff, pure}
 use Rattle.game_trees.specs.Equilibrium.{IsEquilibrium}
+use Rattle.game_trees.specs.Recall.{HasPerfectRecall}
 
 -- a row of a tree: the parent and the branch, the set, and what the outcome pays each player
 pub record Row : Type 0 where
@@ -54,6 +55,7 @@ bluffs (suc (suc (suc s))) a = slice_index_or (frac (pos 2) 3 ∷ frac (pos 1) 3
 
 -- poker with bluffs is worth 1/3 to Fred
 pub record PokerIsWorthAThird : Type 0 where
+  pub tree : IsTree one_card_poker
   pub valid : IsValid one_card_poker bluffs
   pub fred : payoff one_card_poker bluffs 0 ≡ frac (pos 1) 3
   pub alice : payoff one_card_poker bluffs 1 ≡ frac (negsuc 0) 3
@@ -71,6 +73,21 @@ both first second (suc s) = second
 
 -- to stay out against a fight, and to enter a market that is shared, are the equilibria of the entry game in which no choice is random
 pub record EntryHasTwoPureEquilibria : Type 0 where
+  pub tree : IsTree entry_game
   pub stays_out : IsEquilibrium entry_game (pure (both 0 0))
   pub enters : IsEquilibrium entry_game (pure (both 1 1))
   pub no_other : (choice : ℕ → ℕ) → IsEquilibrium entry_game (pure choice) → ((choice 0 ≡ 0) × (choice 1 ≡ 0)) ⊎ ((choice 0 ≡ 1) × (choice 1 ≡ 1))
+
+-- A player chooses twice and forgets the first choice (set 0) at the second (set 1).
+abbrev pub forgetful_game : Tree
+forgetful_game = tree_of 1
+    (inner 0 0 0
+    ∷ inner 0 0 1 ∷ end 1 0 (pos 1 ∷ []) ∷ end 1 1 (pos 0 ∷ [])
+    ∷ inner 0 1 1 ∷ end 4 0 (pos 0 ∷ []) ∷ end 4 1 (pos 2 ∷ []) ∷ [])
+    (Some 0 ∷ Some 0 ∷ [])
+
+-- both players recall their choices in poker, and the forgetful player does not
+pub record RecallInTwoGames : Type 0 where
+  pub fred : HasPerfectRecall one_card_poker 0
+  pub alice : HasPerfectRecall one_card_poker 1
+  pub forgetful : HasPerfectRecall forgetful_game 0 → ⊥

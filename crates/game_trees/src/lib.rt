@@ -2,12 +2,12 @@
 //!
 //! The definitions stand in `specs/`. Begin with `Trees`: a game tree and what makes it one. `Behaviour` has
 //! behaviour, the values of nodes, payoffs and pure replies, `Equilibrium` says what an equilibrium is, and
-//! `Recall` what perfect recall is. `Laws` states what holds of all trees, and `Examples` works out two.
+//! `Recall` what perfect recall is. `Laws` states what holds of all trees, and `Examples` works out three.
 //!
 //! The functions below do nothing: the contract of each is a law, so that a check proves it.
 #![tactic(auto)]
 
-ghost use Rattle.game_trees.specs.Examples.{EntryHasTwoPureEquilibria, PokerIsWorthAThird};
+ghost use Rattle.game_trees.specs.Examples.{EntryHasTwoPureEquilibria, PokerIsWorthAThird, RecallInTwoGames};
 ghost use Rattle.game_trees.specs.Laws.{
   EndsPayTheirOutcome,
   ValuesAreUnique,
@@ -49,4 +49,9 @@ pub fn poker_is_worth_a_third()
 /// The entry game has two equilibria without random choices.
 pub fn entry_has_two_pure_equilibria()
     ensures { EntryHasTwoPureEquilibria }
+{}
+
+/// The players of one-card poker recall their choices, and a player who forgets does not.
+pub fn recall_in_two_games()
+    ensures { RecallInTwoGames }
 {}

@@ -1,5 +1,5 @@
 -- What one more use makes of the sets and the outcomes that were used before: the statements.
-use Rattle.std.proofs.Common.{ℕ, ◌<◌, ◌≡◌, true, List, [], ◌∷◌, ◌++◌, length, map, Some, slice_index_or}
+use Rattle.std.proofs.Common.{ℕ, ◌≡◌, true, List, [], ◌∷◌, ◌++◌, map, Some}
 use Rattle.std.specs.List.{position_or_len, list_any}
 use Rattle.std.specs.Prelude.{nat_eq}
 use Rattle.written_trees.specs.Written.{SetUse, OutcomeUse}

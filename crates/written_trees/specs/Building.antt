@@ -1,9 +1,9 @@
 -- How a tree grows, node by node, as functions: what is begun so far, and what a further node makes of it.
-use Rattle.std.specs.Prelude.{ℕ, zero, suc, ◌+◌, ◌-◌, ◌<◌, ◌^◌, ◌≡◌, ◌&&◌, if◌then◌else◌, nat_abs, nat_eq, nat_lt, nat_le, Bool, true, false, List, [], ◌∷◌, ◌++◌, length, map, slice_get, slice_set, slice_index_or, option_map, pos, ◌+ℤ◌, Option, Some, None}
+use Rattle.std.specs.Prelude.{ℕ, zero, suc, ◌-◌, ◌^◌, ◌&&◌, if◌then◌else◌, nat_abs, nat_eq, nat_lt, nat_le, Bool, true, List, [], ◌∷◌, ◌++◌, length, map, slice_get, slice_set, slice_index_or, option_map, ◌+ℤ◌, Option, Some, None}
 use Rattle.std.specs.List.{position_or_len, flat_map}
 use Rattle.std.specs.Cmp.Lexicographic.{pointwise}
 use Rattle.rational.specs.Rational.{ℚ, ◌+ℚ◌, zero_ℚ, one_ℚ}
-use Rattle.rational.specs.Tests.{le_test, eq_test}
+use Rattle.rational.specs.Tests.{le_test}
 use Rattle.frac128.specs.Fraction.{eq_ℚ}
 use Rattle.frac128.specs.Steps.{num_beside}
 use Rattle.game_core.specs.declared.tree.Action.{Action}
