@@ -101,6 +101,7 @@ fn first_payoffs(
 }
 
 // The tokens behind payoffs that repeat these.
+#[tactic(auto, using(crate::proofs::OutcomeSteps::repeated_steps))]
 fn repeated<'a>(tokens: &'a [Spanned], payoffs: &[Frac]) -> Result<&'a [Spanned], Refusal<EfgKind>>
     ensures { Reads (λ rest. kinds rest.now) result (payoffs_repeated_at 0 payoffs.now (kinds tokens.now)) }
 {
