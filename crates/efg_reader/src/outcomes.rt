@@ -119,6 +119,7 @@ fn repeated<'a>(tokens: &'a [Spanned], payoffs: &[Frac]) -> Result<&'a [Spanned]
 }
 
 // The tokens behind the payoffs of a later use, which may come, and repeat these.
+#[tactic(auto, using(crate::proofs::OutcomeSteps::later_steps))]
 fn later_payoffs<'a>(
     tokens: &'a [Spanned],
     payoffs: &[Frac],
