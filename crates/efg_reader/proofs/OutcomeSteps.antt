@@ -1,5 +1,5 @@
 -- Payoffs and outcomes, as the code reads them.
-use Rattle.std.proofs.Common.{◌≡◌, ℕ, suc, ◌+◌, ◌<◌, ◌≤◌, Bool, true, false, inl, inr, if◌then◌else◌, List, [], ◌∷◌, length, drop, get_or, Option, Some, None, refl, sym, ◌∙◌, arith}
+use Rattle.std.proofs.Common.{◌≡◌, ℕ, suc, ◌+◌, ◌<◌, ◌≤◌, Bool, true, false, inl, inr, nat_eq, if◌then◌else◌, List, [], ◌∷◌, length, drop, get_or, Option, Some, None, refl, sym, ◌∙◌, arith}
 use Rattle.std.proofs.Math.Seq.{drop-cons}
 use Rattle.std.proofs.lemmas.Bool.{cases_Bool}
 use Rattle.std.proofs.lemmas.List.{drop_all}
@@ -8,10 +8,10 @@ use Rattle.rational.specs.Rational.{ℚ, zero_ℚ}
 use Rattle.frac128.specs.Fraction.{eq_ℚ}
 use Rattle.game_text.specs.declared.token.Token.{Token}
 use Rattle.game_text.specs.declared.token.Token.TheVariants.{Left}
-use Rattle.file_parts.specs.Reading.{◌>>=◌, left_at, right_at, payoff_at, payoffs_at, repeat_at}
+use Rattle.file_parts.specs.Reading.{◌>>=◌, left_at, right_at, payoff_at, payoffs_at, repeat_at, label_at}
 use Rattle.file_parts.proofs.TokenLaws.{left_is}
-use Rattle.written_trees.specs.Building.{repeats_payoffs}
-use Rattle.efg_reader.specs.TreeReading.{payoff_list_at, payoffs_repeated_at, later_payoffs_at}
+use Rattle.written_trees.specs.Building.{BegunOutcome, repeats_payoffs}
+use Rattle.efg_reader.specs.TreeReading.{payoff_list_at, outcome_use_at, payoffs_repeated_at, later_payoffs_at, named_step_at, outcome_step_at}
 
 -- ---- payoffs that repeat others
 -- the next and the others
@@ -121,3 +121,21 @@ pub later_closed : (payoffs : List ℚ) (tokens inner behind : List Token) → l
 later_closed payoffs tokens inner behind opened repeated = rw (later_opened payoffs tokens inner opened, repeated) refl
 
 pub ruleset later_steps = (later_absent, later_differs, later_closed)
+
+-- ---- a step
+-- no number of an outcome comes
+pub step_fails : (players : ℕ) (outcomes : List BegunOutcome) (tokens : List Token) → label_at tokens ≡ None → outcome_step_at players outcomes tokens ≡ None
+unfolding outcome_step_at outcome_use_at
+step_fails players outcomes tokens h = rw h refl
+
+-- no outcome is used
+pub step_none : (players : ℕ) (outcomes : List BegunOutcome) (tokens : List Token) (label : ℕ) (rest : List Token) → label_at tokens ≡ Some (label, rest) → label ≡ 0 → outcome_step_at players outcomes tokens ≡ Some ((outcomes, None), rest)
+unfolding outcome_step_at outcome_use_at
+step_none players outcomes tokens label rest h e = rw (h, e) refl
+
+-- an outcome is used
+pub step_named : (players : ℕ) (outcomes : List BegunOutcome) (tokens : List Token) (label : ℕ) (rest : List Token) → label_at tokens ≡ Some (label, rest) → nat_eq label 0 ≡ false → outcome_step_at players outcomes tokens ≡ named_step_at players label outcomes rest
+unfolding outcome_step_at outcome_use_at named_step_at
+step_named players outcomes tokens label rest h e = rw (h, e) refl
+
+pub ruleset step_is = (step_fails, step_none, step_named)
