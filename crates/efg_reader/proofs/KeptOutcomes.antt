@@ -10,7 +10,9 @@ use Rattle.std.proofs.lemmas.Option.{slice_get-get_or, slice_get_past}
 use Rattle.indexmap.specs.IndexSet.{insert_key}
 use Rattle.rational.specs.Rational.{ℚ}
 use Rattle.game_text.specs.declared.token.Token.{Token}
-use Rattle.file_parts.specs.Reading.{left_at, right_at, optional_text_at, payoffs_at}
+use Rattle.file_parts.specs.declared.refusal.Refusal.{Refusal}
+use Rattle.file_parts.specs.declared.refusal.Refusal.TheVariants as refusals
+use Rattle.file_parts.specs.Reading.{Refuses, left_at, right_at, optional_text_at, payoffs_at}
 use Rattle.file_parts.proofs.Options.{bind_some, some_same}
 use Rattle.file_parts.proofs.NumberLaws.{payoffs_are}
 use Rattle.written_trees.specs.Building.{BegunOutcome, or_else, outcome_place}
@@ -21,7 +23,7 @@ use Rattle.efg_reader.specs.TreeReading.{payoff_list_at, later_payoffs_at, named
 use Rattle.efg_reader.proofs.NamedOutcomes.{first_read, first_fails, later_read, later_fails}
 
 -- the number of an outcome
-abbrev label_of : OutcomeBegun → ℕ
+abbrev pub label_of : OutcomeBegun → ℕ
 label_of outcome = outcome.label
 
 -- ---- the place
@@ -70,7 +72,7 @@ all_paid players tokens rest payoffs e =
     sym (ap (λ (x : List ℚ × List Token). length x.0) same) ∙ (payoffs_are players a.0 b.0 b.1).all
 
 -- an outcome pays so many players
-abbrev Pays : ℕ → OutcomeBegun → Type 0
+abbrev pub Pays : ℕ → OutcomeBegun → Type 0
 Pays players outcome = length outcome.payoffs.items ≡ players
 
 -- ---- what is kept
@@ -103,7 +105,7 @@ module _ (label : ℕ) (labels : List ℕ) (list : List OutcomeBegun) (before af
 
 -- ---- what is read
 -- the outcomes, the place and the tokens after a step
-abbrev step_to : List BegunOutcome → ℕ → List Token → Option ((List BegunOutcome × Option ℕ) × List Token)
+abbrev pub step_to : List BegunOutcome → ℕ → List Token → Option ((List BegunOutcome × Option ℕ) × List Token)
 step_to outcomes place rest = Some ((outcomes, Some place), rest)
 
 module _ (players label : ℕ) (labels : List ℕ) (list : List OutcomeBegun) (name : Option (List ℕ)) (tokens behind : List Token) (are : labels ≡ map label_of list) (text : (name, behind) ≡ optional_text_at tokens) where
@@ -141,3 +143,9 @@ module _ (players label : ℕ) (labels : List ℕ) (list : List OutcomeBegun) (n
         later_read players label (map begun_outcome list) name tokens behind text (begun_outcome before) rest (stands_there label labels list are before known stands) (by_players (Some rest) h)
         ∙ ap₂ (λ one p. step_to (slice_set (map begun_outcome list) p one) p rest) is (place_is label labels list are)
         ∙ ap (λ outcomes. step_to outcomes place rest) (sym (map-set begun_outcome list place after))
+
+-- ---- refusals
+-- what is refused where one reading gives nothing is refused where another gives nothing then
+pub refused_too : {K Y Z : Type 0} (refusal : Refusal K) (one : Option Y) (other : Option Z) → (one ≡ None → other ≡ None) → Refuses refusal one → Refuses refusal other
+refused_too (refusals.Unfit kind left) one other follows h = follows h
+refused_too refusals.Memory one other follows h = tt
