@@ -1,11 +1,11 @@
 -- The outcomes that are kept, when one is used.
-use Rattle.std.proofs.Common.{◌≡◌, ℕ, suc, ◌+◌, ◌<◌, ◌≤◌, Bool, true, false, not, inl, inr, nat_eq, List, [], ◌∷◌, ◌++◌, length, map, get_or, slice_get, slice_set, All, Option, Some, None, true≢false, refl, sym, ap, ap₂, ◌∙◌, arith}
+use Rattle.std.proofs.Common.{◌≡◌, ℕ, ◌<◌, ◌≤◌, Bool, true, false, inl, inr, nat_eq, List, [], ◌∷◌, ◌++◌, length, map, get_or, slice_get, slice_set, All, Option, Some, None, true≢false, sym, ap, ap₂, ◌∙◌, arith}
 use Rattle.std.specs.List.{position_or_len, list_any}
 use Rattle.std.proofs.Math.Seq.{map-set_same}
-use Rattle.std.proofs.lemmas.Bool.{cases_Bool, not-true, not-false}
+use Rattle.std.proofs.lemmas.Bool.{cases_Bool}
 use Rattle.std.proofs.lemmas.Bool.Decides.{Decides-eqb}
 use Rattle.std.proofs.lemmas.List.{length-map, map-set, map-append, get_or-map}
-use Rattle.std.proofs.lemmas.List.Elements.{All-get_or, All-push, All-set, All-same}
+use Rattle.std.proofs.lemmas.List.Elements.{All-get_or, All-push, All-set}
 use Rattle.std.proofs.lemmas.Option.{slice_get-get_or, slice_get_past}
 use Rattle.indexmap.specs.IndexSet.{insert_key}
 use Rattle.rational.specs.Rational.{ℚ}

@@ -1,25 +1,14 @@
 -- A use of an outcome with a number, as the code reads it.
-use Rattle.std.proofs.Common.{◌≡◌, ℕ, suc, ◌+◌, ◌<◌, ◌≤◌, Bool, true, false, not, inl, inr, nat_eq, if◌then◌else◌, List, [], ◌∷◌, ◌++◌, length, map, get_or, slice_get, slice_set, All, Option, Some, None, true≢false, refl, sym, ap, ◌∙◌, subst, arith}
-use Rattle.std.specs.List.{position_or_len, list_any}
-use Rattle.std.proofs.Math.Seq.{map-set_same}
-use Rattle.std.proofs.lemmas.Bool.{cases_Bool, not-true, not-false}
-use Rattle.std.proofs.lemmas.List.{length-map, map-set, map-append, get_or-map}
-use Rattle.std.proofs.lemmas.List.Elements.{All-get_or, All-push, All-set}
-use Rattle.std.proofs.lemmas.Option.{slice_get-get_or, slice_get_past}
+use Rattle.std.proofs.Common.{◌≡◌, ℕ, inl, inr, if◌then◌else◌, List, [], ◌∷◌, ◌++◌, slice_get, slice_set, Option, Some, None, refl, ◌∙◌}
+use Rattle.std.proofs.lemmas.Bool.{cases_Bool}
 use Rattle.rational.specs.Rational.{ℚ}
 use Rattle.game_text.specs.declared.token.Token.{Token}
 use Rattle.game_text.specs.declared.token.Token.TheVariants.{Left}
-use Rattle.file_parts.specs.Reading.{◌>>=◌, left_at, right_at, optional_text_at, payoffs_at}
-use Rattle.file_parts.proofs.Options.{bind_some, some_same}
-use Rattle.file_parts.proofs.NumberLaws.{payoffs_are}
+use Rattle.file_parts.specs.Reading.{◌>>=◌, optional_text_at}
 use Rattle.written_trees.specs.Written.{OutcomeUse}
 use Rattle.written_trees.specs.Building.{BegunOutcome, or_else, outcome_place, repeats_payoffs, used_outcome}
-use Rattle.written_trees.proofs.InsertedKeys.{position-none, position-map}
 use Rattle.efg_reader.specs.TreeReading.{optional_at, payoff_list_at, named_outcome_at, later_payoffs_at, with_outcome, named_step_at}
-
--- payoffs in braces that came
-abbrev came : List ℚ × List Token → Option (Option (List ℚ) × List Token)
-came x = Some (Some x.0, x.1)
+use Rattle.efg_reader.proofs.OutcomeSteps.{came}
 
 -- what a step gives
 abbrev Stepped : Type 0

@@ -1,5 +1,5 @@
 -- Payoffs and outcomes, as the code reads them.
-use Rattle.std.proofs.Common.{◌≡◌, ℕ, suc, ◌+◌, ◌<◌, ◌≤◌, Bool, true, false, inl, inr, nat_eq, if◌then◌else◌, List, [], ◌∷◌, length, drop, get_or, Option, Some, None, refl, sym, ◌∙◌, arith}
+use Rattle.std.proofs.Common.{◌≡◌, ℕ, suc, ◌+◌, ◌<◌, ◌≤◌, true, false, inl, inr, nat_eq, if◌then◌else◌, List, [], ◌∷◌, length, drop, get_or, Option, Some, None, refl, sym, ◌∙◌, arith}
 use Rattle.std.proofs.Math.Seq.{drop-cons}
 use Rattle.std.proofs.lemmas.Bool.{cases_Bool}
 use Rattle.std.proofs.lemmas.List.{drop_all}
@@ -82,7 +82,7 @@ compared i (own ∷ payoffs) tokens = by (payoff_at i tokens) (compared (suc i) 
     by (Some x) h = one_compared x.0 own payoffs (repeat_at payoff_at (suc i) (length payoffs) x.1) (payoffs_repeated_at (suc i) payoffs x.1) (h x.1)
 
 -- payoffs in braces that came, and what is left behind them
-abbrev came : List ℚ × List Token → Option (Option (List ℚ) × List Token)
+abbrev pub came : List ℚ × List Token → Option (Option (List ℚ) × List Token)
 came x = Some (Some x.0, x.1)
 
 abbrev behind_brace : List ℚ → List Token → Option (List ℚ × List Token)

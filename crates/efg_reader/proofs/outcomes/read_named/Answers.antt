@@ -1,7 +1,7 @@
-use Rattle.std.proofs.Common.{rules, ◌≡◌, ◌∙◌, sym, ap, Some, None, length, get_or, map, slice_set, List, [], ◌∷◌, ◌++◌, ℕ}
+use Rattle.std.proofs.Common.{rules, ◌∙◌, sym, ap, get_or, map, slice_set, List, [], ◌∷◌, ◌++◌, ℕ}
 use Rattle.std.proofs.lemmas.Bool.{not-true, not-false}
 use Rattle.std.proofs.lemmas.List.Elements.{All-same}
-use Rattle.file_parts.specs.Reading.{Refuses, kinds}
+use Rattle.file_parts.specs.Reading.{kinds}
 use Rattle.efg_reader.specs.declared.outcomes.OutcomeBegun.{OutcomeBegun}
 use Rattle.efg_reader.specs.States.{begun_outcome}
 use Rattle.efg_reader.proofs.KeptOutcomes.{label_of, Pays, step_to, refused_too, first_labels, first_paid, first_used, first_unread, later_labels, later_paid, later_used, later_unread}
