@@ -1,5 +1,5 @@
 -- Payoffs and outcomes, as the code reads them.
-use Rattle.std.proofs.Common.{◌≡◌, ℕ, suc, ◌+◌, ◌<◌, ◌≤◌, true, false, inl, inr, nat_eq, if◌then◌else◌, List, [], ◌∷◌, length, drop, get_or, Option, Some, None, refl, sym, ◌∙◌, arith}
+use Rattle.std.proofs.Common.{◌≡◌, ℕ, suc, ◌+◌, ◌<◌, ◌≤◌, true, false, inl, inr, nat_eq, if◌then◌else◌, List, [], ◌∷◌, length, drop, get_or, Option, Some, None, refl, sym, ◌∙◌, subst, arith}
 use Rattle.std.proofs.Math.Seq.{drop-cons}
 use Rattle.std.proofs.lemmas.Bool.{cases_Bool}
 use Rattle.std.proofs.lemmas.List.{drop_all}
@@ -8,10 +8,16 @@ use Rattle.rational.specs.Rational.{ℚ, zero_ℚ}
 use Rattle.frac128.specs.Fraction.{eq_ℚ}
 use Rattle.game_text.specs.declared.token.Token.{Token}
 use Rattle.game_text.specs.declared.token.Token.TheVariants.{Left}
-use Rattle.file_parts.specs.Reading.{◌>>=◌, left_at, right_at, payoff_at, payoffs_at, repeat_at, label_at}
+use Rattle.file_parts.specs.declared.refusal.Refusal.{Refusal}
+use Rattle.file_parts.specs.declared.refusal.Refusal.TheVariants.{Unfit}
+use Rattle.file_parts.specs.Reading.{Refuses, ◌>>=◌, left_at, right_at, payoff_at, payoffs_at, repeat_at, label_at}
 use Rattle.file_parts.proofs.TokenLaws.{left_is}
 use Rattle.written_trees.specs.Building.{BegunOutcome, repeats_payoffs}
 use Rattle.efg_reader.specs.TreeReading.{payoff_list_at, outcome_use_at, payoffs_repeated_at, later_payoffs_at, named_step_at, outcome_step_at}
+
+-- what does not fit is refused where nothing is read
+pub unfit_refused : {K Y : Type 0} (refusal : Refusal K) (reading : Option Y) → (kind : K) × (left : ℕ) × (refusal ≡ Unfit kind left) → reading ≡ None → Refuses refusal reading
+unfit_refused refusal reading unfit h = subst (λ r. Refuses r reading) (sym unfit.2) h
 
 -- ---- payoffs that repeat others
 -- the next and the others
