@@ -235,6 +235,13 @@ later_payoffs_at players payoffs tokens = do
 abbrev pub with_outcome : List BegunOutcome → Option OutcomeUse → Option (List BegunOutcome × Option ℕ)
 with_outcome outcomes used = use_some_outcome outcomes used >>= λ more. Some (more, option_map (λ u. outcome_place outcomes u.label) used)
 
+-- an outcome that a node uses, behind its number
+unfoldable pub named_step_at : ℕ → ℕ → List BegunOutcome → List Token → Option ((List BegunOutcome × Option ℕ) × List Token)
+named_step_at players label outcomes tokens = do
+  used ← named_outcome_at players label tokens
+  more ← with_outcome outcomes used.0
+  Some (more, used.1)
+
 -- an outcome that a node uses, or none
 unfoldable pub outcome_step_at : ℕ → List BegunOutcome → List Token → Option ((List BegunOutcome × Option ℕ) × List Token)
 outcome_step_at players outcomes tokens = do

@@ -1,10 +1,11 @@
 // The outcomes, numbered by their first use.
-ghost use Rattle.std.specs.Prelude.{◌≡◌, ◌<◌, ℕ, length, OnOk};
+ghost use Rattle.std.specs.Prelude.{◌≡◌, ◌<◌, ℕ, Some, length, option_map, IfOk, OnOk};
 ghost use Rattle.file_parts.specs.declared.refusal.Refusal.TheVariants.{Unfit};
 ghost use Rattle.efg_reader.specs.declared.fault.EfgKind.{EfgKind};
 ghost use Rattle.file_parts.specs.Reading.{Reads, Gives, kinds, right_at, payoffs_at};
+ghost use Rattle.written_trees.specs.Building.{or_else};
 ghost use Rattle.efg_reader.specs.States.{begun_outcomes, AreOutcomes};
-ghost use Rattle.efg_reader.specs.TreeReading.{outcome_step_at, payoffs_repeated_at, later_payoffs_at, payoff_list_at};
+ghost use Rattle.efg_reader.specs.TreeReading.{outcome_step_at, named_step_at, payoffs_repeated_at, later_payoffs_at, payoff_list_at};
 
 use crate::fault::EfgKind;
 use crate::sets::optional_name;
@@ -101,6 +102,7 @@ fn first_payoffs(
 }
 
 // The tokens behind payoffs that repeat these.
+#[tactic(auto, using(crate::proofs::OutcomeSteps::repeated_steps))]
 fn repeated<'a>(tokens: &'a [Spanned], payoffs: &[Frac]) -> Result<&'a [Spanned], Refusal<EfgKind>>
     ensures { Reads (λ rest. kinds rest.now) result (payoffs_repeated_at 0 payoffs.now (kinds tokens.now)) }
 {
@@ -118,6 +120,7 @@ fn repeated<'a>(tokens: &'a [Spanned], payoffs: &[Frac]) -> Result<&'a [Spanned]
 }
 
 // The tokens behind the payoffs of a later use, which may come, and repeat these.
+#[tactic(auto, using(crate::proofs::OutcomeSteps::later_steps))]
 fn later_payoffs<'a>(
     tokens: &'a [Spanned],
     payoffs: &[Frac],
@@ -138,7 +141,11 @@ fn first_use<'a>(
     name: Option<&Name>,
     players: usize,
     tokens: &'a [Spanned],
-) -> Result<(OutcomeBegun, &'a [Spanned]), Refusal<EfgKind>> {
+) -> Result<(OutcomeBegun, &'a [Spanned]), Refusal<EfgKind>>
+    ensures label { IfOk result (λ x. x.0.label ≡ label) }
+    ensures name { IfOk result (λ x. x.0.name ≡ option_map (λ t. t.now) name.entry) }
+    ensures read { Reads (λ x. (x.0.payoffs.items, kinds x.1.now)) result (payoff_list_at players (kinds tokens.now)) }
+{
     let (payoffs, rest) = first_payoffs(alloc, tokens, players)?;
     let name = optional_name(alloc, name)?;
     let outcome = OutcomeBegun {
@@ -155,7 +162,12 @@ fn later_use<'a>(
     outcome: &mut OutcomeBegun,
     name: Option<&Name>,
     tokens: &'a [Spanned],
-) -> Result<&'a [Spanned], Refusal<EfgKind>> {
+) -> Result<&'a [Spanned], Refusal<EfgKind>>
+    ensures label { OnOk result (outcome.new.label ≡ outcome.old.label) }
+    ensures name { OnOk result (outcome.new.name ≡ or_else outcome.old.name (option_map (λ t. t.now) name.entry)) }
+    ensures payoffs { OnOk result (outcome.new.payoffs.items ≡ outcome.old.payoffs.items) }
+    ensures read { Reads (λ rest. kinds rest.now) result (later_payoffs_at (length outcome.old.payoffs.items) outcome.old.payoffs.items (kinds tokens.now)) }
+{
     let rest = later_payoffs(tokens, outcome.payoffs.as_slice())?;
     if outcome.name.is_none() {
         outcome.name = optional_name(alloc, name)?;
@@ -170,7 +182,12 @@ fn read_named<'a>(
     label: u64,
     players: usize,
     tokens: &'a [Spanned],
-) -> Result<(u32, &'a [Spanned]), Refusal<EfgKind>> {
+) -> Result<(u32, &'a [Spanned]), Refusal<EfgKind>>
+    requires outcomes { AreOutcomes players outcomes.old }
+    requires few { length outcomes.old.list.items < 4294967295 }
+    ensures outcomes { OnOk result (AreOutcomes players outcomes.new) }
+    ensures read { Reads (λ x. ((begun_outcomes outcomes.new, Some x.0), kinds x.1.now)) result (named_step_at players label (begun_outcomes outcomes.old) (kinds tokens.now)) }
+{
     let (name, behind) = optional_text(tokens);
     let (place, is_new) = outcomes.labels.insert_full(label)?;
     if is_new {
@@ -184,6 +201,7 @@ fn read_named<'a>(
 }
 
 /// The number of the outcome that a node uses, where it uses one, and the tokens behind it.
+#[tactic(auto, using(crate::proofs::OutcomeSteps::step_is))]
 pub fn read_outcome<'a>(
     alloc: Global,
     outcomes: &mut Outcomes,

@@ -13,7 +13,11 @@ pub fn positive(tokens: &[Spanned]) -> Option<(u64, &[Spanned])>
     ensures { Gives (λ x. (x.0, kinds x.1.now)) result (positive_at (kinds tokens.now)) }
 {
     let (number, rest) = label(tokens)?;
-    if number >= 1 { Some((number, rest)) } else { None }
+    if number >= 1 {
+        Some((number, rest))
+    } else {
+        None
+    }
 }
 
 /// A player, counted from 0, by the number of 1 to the number of players that comes, and the tokens behind it.

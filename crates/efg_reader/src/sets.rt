@@ -48,7 +48,7 @@ pub struct Sets {
 
 /// A name of its own, where one came.
 pub fn optional_name(alloc: Global, name: Option<&Name>) -> Result<Option<Name>, AllocError>
-    ensures { IfOk result (λ copy. option_map (λ t. t.now) name ≡ copy) }
+    ensures { IfOk result (λ copy. copy ≡ option_map (λ t. t.now) name.entry) }
 {
     match name {
         Some(name) => Ok(Some(copied(alloc, name)?)),

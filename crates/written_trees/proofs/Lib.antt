@@ -1,9 +1,9 @@
 mod Chances
 mod FirstUses
-mod InsertedKeys
 mod Said
 pub mod Built
 pub mod Depths
+pub mod InsertedKeys
 pub mod Limits
 pub mod Lists
 pub mod Members
