@@ -79,13 +79,38 @@ fn owned(alloc: Global, words: &[&str]) -> Result<Vec<String>, Memory> {
     Ok(owned)
 }
 
-/// A run of `enumpure` over bytes with a piece after them many times, and the status, the number of bytes of text and
-/// the line on standard error that are wanted.
+/// Whether a run of `enumpure` over these bytes ends with this status, writes so many bytes of text and tells this line.
+pub fn holds_over<R: Threads + Sync>(
+    rt: &R,
+    alloc: Global,
+    input: Vec<u8>,
+    status: u8,
+    text_length: usize,
+    line: &str,
+) -> Result<bool, Memory> {
+    let mut inputs = MemInputs::new(input, Vec::new(alloc), Vec::new(alloc));
+    let mut out = MemSink::new(alloc, text_length.max(1), text_length, false)?;
+    let mut err = MemSink::new(alloc, 1000, 1000, false)?;
+    let words = owned(alloc, &["enumpure"])?;
+    let answer = run(
+        rt,
+        alloc,
+        &words,
+        &mut inputs,
+        &mut out,
+        &mut err,
+        &OpenGate,
+    );
+    Ok(answer == status
+        && out.taken().len() == text_length
+        && err.taken() == line.as_bytes())
+}
+
+/// A run of `enumpure` over pieces, each so many times, and the status, the number of bytes of text and the line on
+/// standard error that are wanted.
 #[derive(Clone, Copy)]
 pub struct Large<'a> {
-    pub front: &'a str,
-    pub piece: &'a str,
-    pub count: usize,
+    pub pieces: &'a [(&'a str, usize)],
     pub status: u8,
     pub text_length: usize,
     pub err: &'a str,
@@ -94,28 +119,17 @@ pub struct Large<'a> {
 impl<'a> Large<'a> {
     /// Whether the run does what is wanted.
     pub fn holds<R: Threads + Sync>(&self, rt: &R, alloc: Global) -> Result<bool, Memory> {
-        let mut input = Vec::from_slice(alloc, self.front.as_bytes())?;
-        for _ in 0..self.count {
-            input.extend_from_slice(self.piece.as_bytes())?;
+        let mut input = Vec::new(alloc);
+        for (piece, count) in self.pieces {
+            append(&mut input, piece, *count)?;
         }
-        let mut inputs = MemInputs::new(input, Vec::new(alloc), Vec::new(alloc));
-        let most = self.text_length.max(1);
-        let mut out = MemSink::new(alloc, most, self.text_length, false)?;
-        let mut err = MemSink::new(alloc, 1000, 1000, false)?;
-        let words = owned(alloc, &["enumpure"])?;
-        let answer = run(
-            rt,
-            alloc,
-            &words,
-            &mut inputs,
-            &mut out,
-            &mut err,
-            &OpenGate,
-        );
-        Ok(
-            answer == self.status
-                && out.taken().len() == self.text_length
-                && err.taken() == self.err.as_bytes(),
-        )
+        holds_over(rt, alloc, input, self.status, self.text_length, self.err)
     }
+}
+
+fn append(input: &mut Vec<u8>, piece: &str, count: usize) -> Result<(), Memory> {
+    for _ in 0..count {
+        input.extend_from_slice(piece.as_bytes())?;
+    }
+    Ok(())
 }

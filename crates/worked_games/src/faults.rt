@@ -45,8 +45,8 @@ fn one_file_is_named(rt: HostRuntime) -> Result<(), Memory> {
     Ok(())
 }
 
-/// Bytes that are no game, one row for each kind of fault, and trees. Too many payoffs are
-/// seen before what stands after the strategies.
+/// Bytes that are no game in table form, one row for each kind of fault. Too many payoffs are seen before what stands
+/// after the strategies, and the first word `EFG` alone sends the tokens to the reader of trees.
 #[test]
 fn bad_files_are_refused(rt: HostRuntime) -> Result<(), Memory> {
     let rows = [
@@ -85,8 +85,8 @@ fn bad_files_are_refused(rt: HostRuntime) -> Result<(), Memory> {
             "NFG 1 R \"\" { \"A\" \"B\" } { 1024 513 } word",
             "gambit: too large: 1048577 payoffs, limit 1048576\n",
         ),
-        ("EFG 2 R \"\" { \"A\" \"B\" }", "gambit: not built yet\n"),
-        (" EFG", "gambit: not built yet\n"),
+        (" EFG", "gambit: efg fault at 4: header\n"),
+        ("efg 2 R", "gambit: nfg fault at 0: header\n"),
     ];
     for (input, err) in rows {
         let case = Case {
@@ -260,9 +260,7 @@ fn limits_are_kept(rt: HostRuntime) -> Result<(), Memory> {
     ];
     for (front, piece, count, status, text_length, err) in rows {
         let large = Large {
-            front,
-            piece,
-            count,
+            pieces: &[(front, 1), (piece, count)],
             status,
             text_length,
             err,

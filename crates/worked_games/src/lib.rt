@@ -7,3 +7,5 @@ mod case;
 mod faults;
 #[cfg(test)]
 mod pure_equilibria;
+#[cfg(test)]
+mod trees;

@@ -1,0 +1,507 @@
+// Files of game trees: which are read, and how the others are refused.
+use crate::case::{Case, Large, holds_over};
+use memory::Memory;
+use std::alloc::Global;
+
+/// Trees that are read: one row for each way to write a node, and the example files.
+#[test]
+fn trees_are_read(rt: HostRuntime) -> Result<(), Memory> {
+    let rows = [
+        "EFG 2 R \"\" { \"A\" } t \"\" 0",
+        "EFG 2 D \"Title\" { \"A\" \"B\" } \"comment\" t \"end\" 1 \"out\" { 1 -1/2 }",
+        "EFG 2 R \"\" { \"A\" } c \"\" 1 { \"a\" 1 } 0 t \"\" 1 { 2.5 }",
+        "EFG 2 R \"\" { \"A\" } c \"\" 1 \"\" { \"a\" 0 \"b\" 1 } 3 \"bonus\" { 1 } t \"\" 0 t \"\" 3",
+        "EFG 2 R \"\" { \"A\" \"B\" } c \"\" 1 \"\" { \"a\" 1 } 0 p \"\" 1 1 \"\" { \"b\" } 0 p \"\" 2 1 \"\" { \"c\" } 0 t \"\" 0",
+        "EFG 2 R \"\" { \"A\" \"B\" } p \"\" 1 1 \"\" { \"l\" \"r\" } 0 p \"\" 1 1 \"later\" { \"x\" \"y\" } 0 t \"\" 1 { 1 2 } t \"\" 1 \"named\" { 1, 2 } t \"\" 1 \"other\"",
+        "EFG 2 R \"\" { \"A\" } c \"\" 1 \"\" { \"a\" 1/2 \"b\" 0.5 } 0 c \"\" 1 \"x\" { \"\" 5e-1 \"\" 2/4 } 0 t \"\" 0 t \"\" 0 t \"\" 0",
+        "EFG 2 R \"A simple Poker game\" { \"Fred\" \"Alice\" }\n\"\"\n\nc \"\" 1 \"\" { \"Red\" 1/2 \"Black\" 1/2 } 0\np \"\" 1 1 \"\" { \"Raise\" \"Fold\" } 0\np \"\" 2 1 \"\" { \"Meet\" \"Pass\" } 0\nt \"\" 1 \"Win Big\" { 2, -2 }\nt \"\" 2 \"Win\" { 1, -1 }\nt \"\" 2 \"Win\" { 1, -1 }\np \"\" 1 2 \"\" { \"Raise\" \"Fold\" } 0\np \"\" 2 1 \"\" { \"Meet\" \"Pass\" } 0\nt \"\" 3 \"Lose Big\" { -2, 2 }\nt \"\" 2 \"Win\" { 1, -1 }\nt \"\" 4 \"Lose\" { -1, 1 }\n",
+        "EFG 2 R \"Entry\" { \"E\" \"I\" }\np \"\" 1 1 \"\" { \"Out\" \"In\" } 0\nt \"\" 1 \"Out\" { 0, 2 }\np \"\" 2 1 \"\" { \"Fight\" \"Accommodate\" } 0\nt \"\" 2 \"Fight\" { -1, -1 }\nt \"\" 3 \"Share\" { 1, 1 }\n",
+        "EFG 2 R \"Forget\" { \"One\" \"Two\" }\np \"\" 1 1 \"\" { \"A\" \"B\" } 0\np \"\" 1 2 \"\" { \"C\" \"D\" } 0\nt \"\" 1 \"\" { 1, 0 }\nt \"\" 2 \"\" { 0, 0 }\np \"\" 1 2 \"\" { \"C\" \"D\" } 0\nt \"\" 2 \"\"\nt \"\" 3 \"\" { 2, 0 }\n",
+        "EFG 2 R \"Alone\" { \"A\" }\np \"\" 1 1 \"\" { \"L\" \"R\" } 0\nt \"\" 1 \"\" { 3 }\np \"\" 1 2 \"\" { \"U\" \"D\" } 0\nt \"\" 2 \"\" { 1 }\nt \"\" 3 \"\" { 2 }\n",
+    ];
+    for input in rows {
+        let case = Case {
+            status: 1,
+            err: "gambit: not built yet\n",
+            ..Case::of(input)
+        };
+        assert!(rt; case.holds(&rt, rt.alloc())?);
+    }
+    Ok(())
+}
+
+/// The first four tokens and the players.
+#[test]
+fn headers_of_trees_are_refused(rt: HostRuntime) -> Result<(), Memory> {
+    let rows = [
+        (
+            "EFG 1 R \"\" { \"A\" } t \"\" 0",
+            "gambit: efg fault at 4: header\n",
+        ),
+        (
+            "EFG 2 X \"\" { \"A\" } t \"\" 0",
+            "gambit: efg fault at 6: header\n",
+        ),
+        (
+            "EFG 2 R { \"A\" } t \"\" 0",
+            "gambit: efg fault at 8: header\n",
+        ),
+        (
+            "EFG",
+            "gambit: efg fault at 3: header\n",
+        ),
+        (
+            "EFG 2 R \"\" \"A\" t \"\" 0",
+            "gambit: efg fault at 11: players\n",
+        ),
+        (
+            "EFG 2 R \"\" { } t \"\" 0",
+            "gambit: efg fault at 13: players\n",
+        ),
+        (
+            "EFG 2 R \"\" { \"A\" 1 } t \"\" 0",
+            "gambit: efg fault at 17: players\n",
+        ),
+    ];
+    for (input, err) in rows {
+        let case = Case {
+            status: 1,
+            err,
+            ..Case::of(input)
+        };
+        assert!(rt; case.holds(&rt, rt.alloc())?);
+    }
+    Ok(())
+}
+
+/// Tokens that end inside the nodes, and tokens behind the last node.
+#[test]
+fn ends_of_trees_are_refused(rt: HostRuntime) -> Result<(), Memory> {
+    let rows = [
+        (
+            "EFG 2 R \"\" { \"A\" }",
+            "gambit: efg fault at 18: unfinished\n",
+        ),
+        (
+            "EFG 2 R \"\" { \"A\" } \"comment\"",
+            "gambit: efg fault at 28: unfinished\n",
+        ),
+        (
+            "EFG 2 R \"\" { \"A\" } t",
+            "gambit: efg fault at 20: unfinished\n",
+        ),
+        (
+            "EFG 2 R \"\" { \"A\" } t \"\" 1",
+            "gambit: efg fault at 25: unfinished\n",
+        ),
+        (
+            "EFG 2 R \"\" { \"A\" } t \"\" 1 \"\"",
+            "gambit: efg fault at 28: unfinished\n",
+        ),
+        (
+            "EFG 2 R \"\" { \"A\" } p \"\" 1 1 \"\" { \"a\" } 0",
+            "gambit: efg fault at 40: unfinished\n",
+        ),
+        (
+            "EFG 2 R \"\" { \"A\" } p \"\" 1 1 \"\" { \"a\" \"b\" } 0 t \"\" 0",
+            "gambit: efg fault at 51: unfinished\n",
+        ),
+        (
+            "EFG 2 R \"\" { \"A\" } t \"\" 0 5",
+            "gambit: efg fault at 26: trailing\n",
+        ),
+        (
+            "EFG 2 R \"\" { \"A\" } t \"\" 0 \"x\"",
+            "gambit: efg fault at 26: trailing\n",
+        ),
+        (
+            "EFG 2 R \"\" { \"A\" } t \"\" 0 t \"\" 0",
+            "gambit: efg fault at 26: trailing\n",
+        ),
+        (
+            "EFG 2 R \"\" { \"A\" } t \"\" 1 \"\" { 5 } {",
+            "gambit: efg fault at 35: trailing\n",
+        ),
+    ];
+    for (input, err) in rows {
+        let case = Case {
+            status: 1,
+            err,
+            ..Case::of(input)
+        };
+        assert!(rt; case.holds(&rt, rt.alloc())?);
+    }
+    Ok(())
+}
+
+/// Tokens that a node does not allow where they stand, and players that there are not.
+#[test]
+fn nodes_are_refused(rt: HostRuntime) -> Result<(), Memory> {
+    let rows = [
+        (
+            "EFG 2 R \"\" { \"A\" } x \"\" 0",
+            "gambit: efg fault at 19: node\n",
+        ),
+        (
+            "EFG 2 R \"\" { \"A\" } 1",
+            "gambit: efg fault at 19: node\n",
+        ),
+        (
+            "EFG 2 R \"\" { \"A\" } \"one\" \"two\" t \"\" 0",
+            "gambit: efg fault at 25: node\n",
+        ),
+        (
+            "EFG 2 R \"\" { \"A\" } t 0",
+            "gambit: efg fault at 21: node\n",
+        ),
+        (
+            "EFG 2 R \"\" { \"A\" } t \"\" -1",
+            "gambit: efg fault at 24: node\n",
+        ),
+        (
+            "EFG 2 R \"\" { \"A\" } t \"\" 1/2",
+            "gambit: efg fault at 24: node\n",
+        ),
+        (
+            "EFG 2 R \"\" { \"A\" } t \"\" \"x\"",
+            "gambit: efg fault at 24: node\n",
+        ),
+        (
+            "EFG 2 R \"\" { \"A\" } p \"\" 1 0 \"\" { \"a\" } 0 t \"\" 0",
+            "gambit: efg fault at 26: node\n",
+        ),
+        (
+            "EFG 2 R \"\" { \"A\" } c \"\" 1/2 \"\" { \"a\" 1 } 0 t \"\" 0",
+            "gambit: efg fault at 24: node\n",
+        ),
+        (
+            "EFG 2 R \"\" { \"A\" } p \"\" 1.5 1 \"\" { \"a\" } 0 t \"\" 0",
+            "gambit: efg fault at 24: node\n",
+        ),
+        (
+            "EFG 2 R \"\" { \"A\" } p \"\" -1 1 \"\" { \"a\" } 0 t \"\" 0",
+            "gambit: efg fault at 24: node\n",
+        ),
+        (
+            "EFG 2 R \"\" { \"A\" } p \"\" \"A\" 1 \"\" { \"a\" } 0 t \"\" 0",
+            "gambit: efg fault at 24: node\n",
+        ),
+        (
+            "EFG 2 R \"\" { \"A\" } p \"\" 1 1 \"\" { } 0 t \"\" 0",
+            "gambit: efg fault at 33: node\n",
+        ),
+        (
+            "EFG 2 R \"\" { \"A\" } p \"\" 1 1 \"\" { \"a\" 1 } 0 t \"\" 0",
+            "gambit: efg fault at 37: node\n",
+        ),
+        (
+            "EFG 2 R \"\" { \"A\" } c \"\" 1 \"\" { \"a\" } 0 t \"\" 0",
+            "gambit: efg fault at 35: node\n",
+        ),
+        (
+            "EFG 2 R \"\" { \"A\" } c \"\" 1 \"\" { \"a\" 1 1 } 0 t \"\" 0",
+            "gambit: efg fault at 37: node\n",
+        ),
+        (
+            "EFG 2 R \"\" { \"A\" } p \"\" 1 1 \"\" { \"a\" } 0 \"x\" t \"\" 0",
+            "gambit: efg fault at 41: node\n",
+        ),
+        (
+            "EFG 2 R \"\" { \"A\" } p \"\" 1 1 \"\" { \"a\" } 0 { 5 } t \"\" 0",
+            "gambit: efg fault at 41: node\n",
+        ),
+        (
+            "EFG 2 R \"\" { \"A\" } p \"\" 1 1 \"\" { \"a\" } } t \"\" 0",
+            "gambit: efg fault at 39: node\n",
+        ),
+        (
+            "EFG 2 R \"\" { \"A\" \"B\" } t \"\" 1 \"\" { , 1 2 }",
+            "gambit: efg fault at 35: node\n",
+        ),
+        (
+            "EFG 2 R \"\" { \"A\" \"B\" } t \"\" 1 \"\" { 1,, 2 }",
+            "gambit: efg fault at 37: node\n",
+        ),
+        (
+            "EFG 2 R \"\" { \"A\" \"B\" } t \"\" 1 \"\" { 1, 2, }",
+            "gambit: efg fault at 39: node\n",
+        ),
+        (
+            "EFG 2 R \"\" { \"A\" \"B\" } t \"\" 1 \"\" { 1, 2, 3 }",
+            "gambit: efg fault at 39: node\n",
+        ),
+        (
+            "EFG 2 R \"\" { \"A\" \"B\" } t \"\" 1 \"\" { 1 word }",
+            "gambit: efg fault at 37: node\n",
+        ),
+        (
+            "EFG 2 R \"\" { \"A\" } p \"\" 0 1 \"\" { \"a\" } 0 t \"\" 0",
+            "gambit: efg fault at 24: unknown player\n",
+        ),
+        (
+            "EFG 2 R \"\" { \"A\" } p \"\" 2 1 \"\" { \"a\" } 0 t \"\" 0",
+            "gambit: efg fault at 24: unknown player\n",
+        ),
+    ];
+    for (input, err) in rows {
+        let case = Case {
+            status: 1,
+            err,
+            ..Case::of(input)
+        };
+        assert!(rt; case.holds(&rt, rt.alloc())?);
+    }
+    Ok(())
+}
+
+/// First uses of a set without its actions, and later actions that differ. Chance and each player number their sets
+/// separately.
+#[test]
+fn sets_are_refused(rt: HostRuntime) -> Result<(), Memory> {
+    let rows = [
+        (
+            "EFG 2 R \"\" { \"A\" } p \"\" 1 1 foo",
+            "gambit: efg fault at 28: set mismatch\n",
+        ),
+        (
+            "EFG 2 R \"\" { \"A\" } p \"\" 1 1 0",
+            "gambit: efg fault at 28: set mismatch\n",
+        ),
+        (
+            "EFG 2 R \"\" { \"A\" } p \"\" 1 1 \"name\" 0",
+            "gambit: efg fault at 35: set mismatch\n",
+        ),
+        (
+            "EFG 2 R \"\" { \"A\" } c \"\" 1 \"\" \"\" { \"a\" 1 } 0",
+            "gambit: efg fault at 29: set mismatch\n",
+        ),
+        (
+            "EFG 2 R \"\" { \"A\" } p \"\" 1 1 \"\" { \"a\" } 0 c \"\" 1 0",
+            "gambit: efg fault at 48: set mismatch\n",
+        ),
+        (
+            "EFG 2 R \"\" { \"A\" \"B\" } p \"\" 1 1 \"\" { \"a\" } 0 p \"\" 2 1 0",
+            "gambit: efg fault at 54: set mismatch\n",
+        ),
+        (
+            "EFG 2 R \"\" { \"A\" \"B\" } p \"\" 1 1 \"\" { \"l\" \"r\" } 0 p \"\" 1 1 \"\" { \"l\" } 0",
+            "gambit: efg fault at 67: set mismatch\n",
+        ),
+        (
+            "EFG 2 R \"\" { \"A\" \"B\" } p \"\" 1 1 \"\" { \"l\" \"r\" } 0 p \"\" 1 1 \"\" { } 0",
+            "gambit: efg fault at 63: set mismatch\n",
+        ),
+        (
+            "EFG 2 R \"\" { \"A\" \"B\" } p \"\" 1 1 \"\" { \"l\" \"r\" } 0 p \"\" 1 1 \"\" { \"l\" \"r\" \"x\" } 0",
+            "gambit: efg fault at 71: set mismatch\n",
+        ),
+        (
+            "EFG 2 R \"\" { \"A\" \"B\" } p \"\" 1 1 \"\" { \"l\" \"r\" } 0 p \"\" 1 1 \"\" { \"l\" 0 } 0",
+            "gambit: efg fault at 67: node\n",
+        ),
+        (
+            "EFG 2 R \"\" { \"A\" \"B\" } p \"\" 1 1 \"\" { \"l\" \"r\" } 0 p \"\" 1 1 \"\" { \"l\" \"r\" 0 } 0",
+            "gambit: efg fault at 71: node\n",
+        ),
+        (
+            "EFG 2 R \"\" { \"A\" } c \"\" 1 \"\" { \"a\" 1/2 \"b\" 1/2 } 0 c \"\" 1 \"\" { \"a\" 1/2 \"b\" 1/3 } 0",
+            "gambit: efg fault at 75: set mismatch\n",
+        ),
+        (
+            "EFG 2 R \"\" { \"A\" } c \"\" 1 \"\" { \"a\" 1/2 \"b\" 1/2 } 0 c \"\" 1 \"\" { \"a\" 1/2 } 0",
+            "gambit: efg fault at 71: set mismatch\n",
+        ),
+        (
+            "EFG 2 R \"\" { \"A\" } c \"\" 1 \"\" { \"a\" 1/2 \"b\" 1/2 } 0 c \"\" 1 \"\" { \"a\" \"b\" } 0",
+            "gambit: efg fault at 67: node\n",
+        ),
+    ];
+    for (input, err) in rows {
+        let case = Case {
+            status: 1,
+            err,
+            ..Case::of(input)
+        };
+        assert!(rt; case.holds(&rt, rt.alloc())?);
+    }
+    Ok(())
+}
+
+/// Probabilities that are negative, whose sum is not 1, or that can't be added.
+#[test]
+fn probabilities_are_refused(rt: HostRuntime) -> Result<(), Memory> {
+    let rows = [
+        (
+            "EFG 2 R \"\" { \"A\" } c \"\" 1 \"\" { \"x\" 0.333333 \"y\" 0.333333 \"z\" 0.333333 } 0",
+            "gambit: efg fault at 70: probability of set 1 sums to 999999/1000000\n",
+        ),
+        (
+            "EFG 2 R \"\" { \"A\" } c \"\" 7 \"\" { \"x\" -1/2 \"y\" 3/2 } 0",
+            "gambit: efg fault at 35: probability of set 7 sums to -1/2\n",
+        ),
+        (
+            "EFG 2 R \"\" { \"A\" } c \"\" 2 \"\" { \"x\" 3/4 \"y\" 1/2 } 0",
+            "gambit: efg fault at 43: probability of set 2 sums to 5/4\n",
+        ),
+        (
+            "EFG 2 R \"\" { \"A\" } c \"\" 1 \"\" { \"x\" 0 } 0",
+            "gambit: efg fault at 37: probability of set 1 sums to 0\n",
+        ),
+        (
+            "EFG 2 R \"\" { \"A\" } c \"\" 3 \"\" { \"x\" 1/9223372036854775807 \"y\" 1/9223372036854775783 \"z\" 1/9223372036854775805 } 0",
+            "gambit: efg fault at 87: probability of set 3 out of range: add 18446744073709551590/85070591730234615626035978899717881881 1/9223372036854775805\n",
+        ),
+        (
+            "EFG 2 R \"\" { \"A\" } c \"\" 3 \"\" { \"x\" 1/9223372036854775807 \"y\" 1/9223372036854775783 \"z\" -1/9223372036854775805 } 0",
+            "gambit: efg fault at 87: probability of set 3 out of range: add 18446744073709551590/85070591730234615626035978899717881881 -1/9223372036854775805\n",
+        ),
+    ];
+    for (input, err) in rows {
+        let case = Case {
+            status: 1,
+            err,
+            ..Case::of(input)
+        };
+        assert!(rt; case.holds(&rt, rt.alloc())?);
+    }
+    Ok(())
+}
+
+/// First uses of an outcome without its payoffs, payoffs for more or fewer players, and later payoffs that differ.
+#[test]
+fn outcomes_are_refused(rt: HostRuntime) -> Result<(), Memory> {
+    let rows = [
+        (
+            "EFG 2 R \"\" { \"A\" } t \"\" 1 foo",
+            "gambit: efg fault at 26: outcome mismatch\n",
+        ),
+        (
+            "EFG 2 R \"\" { \"A\" } t \"\" 1 \"\" foo",
+            "gambit: efg fault at 29: outcome mismatch\n",
+        ),
+        (
+            "EFG 2 R \"\" { \"A\" } p \"\" 1 1 \"\" { \"a\" \"b\" } 0 t \"\" 1 \"\" t \"\" 1",
+            "gambit: efg fault at 55: outcome mismatch\n",
+        ),
+        (
+            "EFG 2 R \"\" { \"A\" \"B\" } t \"\" 1 \"\" { 1 }",
+            "gambit: efg fault at 37: outcome mismatch\n",
+        ),
+        (
+            "EFG 2 R \"\" { \"A\" \"B\" } t \"\" 1 \"\" { 1, }",
+            "gambit: efg fault at 38: outcome mismatch\n",
+        ),
+        (
+            "EFG 2 R \"\" { \"A\" \"B\" } t \"\" 1 \"\" { }",
+            "gambit: efg fault at 35: outcome mismatch\n",
+        ),
+        (
+            "EFG 2 R \"\" { \"A\" \"B\" } t \"\" 1 \"\" { 1 2 3 }",
+            "gambit: efg fault at 39: outcome mismatch\n",
+        ),
+        (
+            "EFG 2 R \"\" { \"A\" \"B\" } p \"\" 1 1 \"\" { \"l\" \"r\" } 0 t \"\" 1 \"\" { 1, 2 } t \"\" 1 \"\" { 1, 3 }",
+            "gambit: efg fault at 83: outcome mismatch\n",
+        ),
+        (
+            "EFG 2 R \"\" { \"A\" \"B\" } p \"\" 1 1 \"\" { \"l\" \"r\" } 0 t \"\" 1 \"\" { 1, 2 } t \"\" 1 \"\" { 1 }",
+            "gambit: efg fault at 82: outcome mismatch\n",
+        ),
+        (
+            "EFG 2 R \"\" { \"A\" \"B\" } p \"\" 1 1 \"\" { \"l\" \"r\" } 0 t \"\" 1 \"\" { 1, 2 } t \"\" 1 \"\" { 1, 2 2 }",
+            "gambit: efg fault at 85: outcome mismatch\n",
+        ),
+        (
+            "EFG 2 R \"\" { \"A\" \"B\" } p \"\" 1 1 \"\" { \"l\" \"r\" } 0 t \"\" 1 \"\" { 1, 2 } t \"\" 1 \"\" { 1, 2, }",
+            "gambit: efg fault at 84: node\n",
+        ),
+    ];
+    for (input, err) in rows {
+        let case = Case {
+            status: 1,
+            err,
+            ..Case::of(input)
+        };
+        assert!(rt; case.holds(&rt, rt.alloc())?);
+    }
+    Ok(())
+}
+
+/// Trees at the limit on nodes, and just above it. In the last row the node that is one too many lies one edge too far
+/// below the root as well.
+#[test]
+fn limits_on_nodes_are_kept(rt: HostRuntime) -> Result<(), Memory> {
+    let front = "EFG 2 R \"\" { \"A\" } p \"\" 1 1 \"\" {";
+    let rows = [
+        (65_535, 65_535, 0, "", "", "gambit: not built yet\n"),
+        (
+            65_535,
+            65_534,
+            0,
+            "",
+            "",
+            "gambit: efg fault at 720914: unfinished\n",
+        ),
+        (
+            65_536,
+            65_536,
+            0,
+            "",
+            "",
+            "gambit: too large: 65537 nodes, limit 65536\n",
+        ),
+        (
+            64_512,
+            64_511,
+            1_023,
+            " p \"\" 1 2 { \"a\" } 0",
+            " t",
+            "gambit: too large: 65537 nodes, limit 65536\n",
+        ),
+    ];
+    for (actions, ends, chain, start, last, err) in rows {
+        let pieces = [
+            (front, 1),
+            (" \"a\"", actions),
+            (" } 0", 1),
+            (" t \"\" 0", ends),
+            (start, 1),
+            (" p \"\" 1 2 0", chain),
+            (last, 1),
+        ];
+        let large = Large {
+            pieces: &pieces,
+            status: 1,
+            text_length: 0,
+            err,
+        };
+        assert!(rt; large.holds(&rt, rt.alloc())?);
+    }
+    Ok(())
+}
+
+/// One player with a chain of this many nodes, which have one action each and sets of their own, and then an end.
+fn chain(alloc: Global, nodes: u32) -> Result<Vec<u8>, Memory> {
+    let mut input = Vec::from_slice(alloc, b"EFG 2 R \"\" { \"A\" }")?;
+    for node in 0..nodes {
+        let set = node.saturating_add(1);
+        let text = format!(in alloc; " p \"\" 1 {set} \"\" {{ \"a\" }} 0")?;
+        input.extend_from_slice(text.as_bytes())?;
+    }
+    input.extend_from_slice(b" t \"\" 0")?;
+    Ok(input)
+}
+
+/// Trees at the limit on edges below the root, and just above it.
+#[test]
+fn limits_on_depth_are_kept(rt: HostRuntime) -> Result<(), Memory> {
+    let rows = [
+        (1_024, "gambit: not built yet\n"),
+        (1_025, "gambit: too large: 1025 depth, limit 1024\n"),
+    ];
+    for (nodes, err) in rows {
+        let input = chain(rt.alloc(), nodes)?;
+        assert!(rt; holds_over(&rt, rt.alloc(), input, 1, 0, err)?);
+    }
+    Ok(())
+}
