@@ -30,6 +30,7 @@ fn next_sum(sum: Frac, prob: Frac, set: u64) -> Result<Frac, EfgKind>
 }
 
 // As many actions of chance as come, their sum, and the tokens behind them. The set has this number.
+#[tactic(auto, using(crate::proofs::ActionSteps::summed_steps))]
 fn chance_actions(
     alloc: Global,
     tokens: &[Spanned],
@@ -144,6 +145,7 @@ fn repeated<'a>(
 }
 
 // The tokens behind actions that repeat these.
+#[tactic(auto, using(crate::proofs::ActionSteps::repeat_steps))]
 fn all_repeated<'a>(
     tokens: &'a [Spanned],
     owner: Option<u32>,
