@@ -1,5 +1,5 @@
 -- Lists of actions, as loops read them.
-use Rattle.std.proofs.Common.{◌≡◌, ℕ, suc, ◌+◌, ◌<◌, ◌≤◌, true, false, List, [], ◌∷◌, ◌++◌, length, map, drop, get_or, Option, Some, None, refl, sym, ap, ◌∙◌, append_assoc, arith}
+use Rattle.std.proofs.Common.{◌≡◌, ℕ, suc, ◌+◌, ◌<◌, ◌≤◌, true, false, List, [], ◌∷◌, ◌++◌, length, map, drop, get_or, Option, Some, None, refl, sym, ap, ◌∙◌, append_assoc, arith, add-one}
 use Rattle.std.proofs.lemmas.List.{append-nil}
 use Rattle.std.proofs.Math.Seq.{drop-cons}
 use Rattle.rational.specs.Rational.{ℚ, ◌+ℚ◌}
@@ -67,7 +67,9 @@ pub ruleset summed_steps = (summed_goes_on, summed_stops, summed_lacks, summed_d
 -- ---- actions that are repeated
 -- the next action and the others
 next_repeated : (owner : Option ℕ) (actions : List Action) (i : ℕ) (action : Action) (tokens : List Token) → i < length actions → action ≡ get_or actions i action → all_repeated_at owner (drop i actions) tokens ≡ (repeated_at owner action tokens >>= λ rest. all_repeated_at owner (drop (i + 1) actions) rest)
-next_repeated owner actions i action tokens lt is = ?
+next_repeated owner actions i action tokens lt is =
+    let here : drop i actions ≡ action ∷ drop (i + 1) actions = rw add-one (drop-cons actions i action lt ∙ ap (λ (a : Action). a ∷ drop (suc i) actions) (sym is)) in
+    ap (λ (list : List Action). all_repeated_at owner list tokens) here
 
 -- one was repeated
 pub repeats_go_on : (owner : Option ℕ) (actions : List Action) (i : ℕ) (action : Action) (tokens after : List Token) (total : Option (List Token)) → i < length actions → action ≡ get_or actions i action → repeated_at owner action tokens ≡ Some after
