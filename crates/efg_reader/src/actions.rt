@@ -42,16 +42,17 @@ fn chance_actions(
     let mut sum = Frac::zero();
     let mut rest = tokens;
     while let Some((name, after)) = text(rest) {
-        let Some((prob, behind)) = number(after) else {
+        let Some(next) = number(after) else {
             return Err(unfit(EfgKind::Node, after));
         };
+        let prob = next.0;
         sum = match next_sum(sum, prob, set) {
-            Ok(next) => next,
+            Ok(more) => more,
             Err(kind) => return Err(unfit(kind, after)),
         };
         let name = copied(alloc, name)?;
         actions.push(Action { name, prob })?;
-        rest = behind;
+        rest = next.1;
     }
     Ok((actions, sum, rest))
 }
