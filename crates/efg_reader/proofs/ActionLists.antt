@@ -1,17 +1,21 @@
 -- First lists of actions, whose probabilities are added up as they are read, and later lists, which are compared as they are read.
-use Rattle.std.proofs.Common.{◌≡◌, ℕ, suc, ◌<◌, ◌≤◌, ◌&&◌, Bool, true, false, cond, true≢false, List, [], ◌∷◌, length, map, Option, Some, None, if◌then◌else◌, nat_le, nat_eq, refl, sym, ap, ◌∙◌, All, arith}
+use Rattle.std.proofs.Common.{◌≡◌, ℕ, suc, ◌<◌, ◌≤◌, ◌&&◌, Bool, true, false, cond, true≢false, List, [], ◌∷◌, length, map, Option, Some, None, if◌then◌else◌, nat_le, nat_eq, refl, sym, ap, ◌∙◌, subst, All, arith}
 use Rattle.std.specs.List.{AllByRecursion}
 use Rattle.std.specs.Ordering.{int_eq}
 use Rattle.std.proofs.lemmas.Bool.Decides.{Decides-eqb, Decides-int_eq}
-use Rattle.std.proofs.lemmas.List.Elements.{recursion_from_All}
+use Rattle.std.proofs.lemmas.List.Elements.{All-map, recursion_from_All}
+use Rattle.std.proofs.lemmas.Option.{cond_some}
 use Rattle.rational.specs.Rational.{ℚ, ◌+ℚ◌, zero_ℚ, one_ℚ}
 use Rattle.frac128.specs.Fraction.{eq_ℚ}
 use Rattle.game_core.specs.declared.tree.Action.{Action}
 use Rattle.game_text.specs.declared.token.Token.{Token}
 use Rattle.game_text.specs.declared.token.Token.TheVariants.{Left, Text, Number}
-use Rattle.file_parts.specs.Reading.{◌>>=◌, left_at, right_at, texts_at}
-use Rattle.file_parts.proofs.TokenLaws.{left_is, le_passes}
-use Rattle.written_trees.specs.Building.{may_follow, adds_up, repeats_actions}
+use Rattle.file_parts.specs.Reading.{◌>>=◌, Refuses, left_at, right_at, texts_at}
+use Rattle.file_parts.specs.declared.refusal.Refusal.{Refusal}
+use Rattle.file_parts.specs.declared.refusal.Refusal.TheVariants as refusals
+use Rattle.file_parts.proofs.Options.{bind_some, some_same}
+use Rattle.file_parts.proofs.TokenLaws.{left_is, passes_le, le_passes}
+use Rattle.written_trees.specs.Building.{may_follow, adds_up, may_be_first, repeats_actions}
 use Rattle.written_trees.specs.Laws.{HasNoProbability, IsActionList}
 use Rattle.efg_reader.specs.TreeReading.{chance_actions_at, own_action, actions_at, closed_at, action_list_at, summed_at, first_list_at, all_repeated_at, later_list_at}
 use Rattle.efg_reader.proofs.ActionSteps.{Summed}
@@ -34,21 +38,28 @@ sum_after sum (action ∷ actions) = if may_follow sum action.prob then sum_afte
 abbrev with_sum : ℚ → List Action × List Token → Summed
 with_sum sum x = sum_after sum x.0 >>= λ total. Some ((x.0, total), x.1)
 
+-- one more action in front of a reading with a sum
+abbrev more_summed : Action → Summed → Summed
+more_summed action reading = reading >>= λ more. Some ((action ∷ more.0.0, more.0.1), more.1)
+
+-- actions and what is behind them, with their sum
+abbrev summed : List Action → List Token → Option ℚ → Summed
+summed actions rest total = total >>= λ t. Some ((actions, t), rest)
+
 -- one more action in front of a sum
-with_sum-cons : (action : Action) (actions : List Action) (rest : List Token) (may : Bool) (total : Option ℚ)
-    → (if may then ((total >>= λ t. Some ((actions, t), rest)) >>= λ more. Some ((action ∷ more.0.0, more.0.1), more.1)) else None) ≡ ((if may then total else None) >>= λ t. Some ((action ∷ actions, t), rest))
+with_sum-cons : (action : Action) (actions : List Action) (rest : List Token) (may : Bool) (total : Option ℚ) → (if may then more_summed action (summed actions rest total) else None) ≡ summed (action ∷ actions) rest (if may then total else None)
 with_sum-cons action actions rest true None = refl
 with_sum-cons action actions rest true (Some t) = refl
 with_sum-cons action actions rest false total = refl
 
 -- nothing comes of nothing, whatever the test says
-nothing_follows : {A : Type 0} (may : Bool) → (if may then None else None) ≡ None {A = A}
+nothing_follows : {A : Type 0} (may : Bool) → (let none : Option A = None in if may then none else none) ≡ None
 nothing_follows true = refl
 nothing_follows false = refl
 
 -- an action in front of a reading that is added up
 sums_on : (sum : ℚ) (action : Action) (reading : Listed)
-    → (if may_follow sum action.prob then ((reading >>= with_sum (sum +ℚ action.prob)) >>= λ more. Some ((action ∷ more.0.0, more.0.1), more.1)) else None) ≡ ((reading >>= more_actions action) >>= with_sum sum)
+    → (if may_follow sum action.prob then more_summed action (reading >>= with_sum (sum +ℚ action.prob)) else None) ≡ ((reading >>= more_actions action) >>= with_sum sum)
 sums_on sum action None = nothing_follows (may_follow sum action.prob)
 sums_on sum action (Some x) = with_sum-cons action x.0 x.1 (may_follow sum action.prob) (sum_after (sum +ℚ action.prob) x.0)
 
@@ -75,26 +86,82 @@ adds_up_is sum (action ∷ actions) = by (may_follow sum action.prob) (adds_up_i
     by false e = refl
 
 -- ---- a first list
+-- a list that is closed by a brace
+abbrev closed_list : List Action × List Token → Listed
+closed_list x = closed_at (length x.0) x.1 >>= λ rest. Some (x.0, rest)
+
+-- a list that may stand first
+abbrev tested : Option ℕ → Listed → Listed
+tested owner reading = reading >>= λ x. if may_be_first owner x.0 then Some x else None
+
+-- no list comes
+pub first_without : (owner : Option ℕ) (tokens : List Token) → left_at tokens ≡ None → first_list_at owner tokens ≡ None
+unfolding first_list_at action_list_at
+first_without owner tokens l = rw l refl
+
+-- behind its brace a first list is read, closed and tested
+first_list_is : (owner : Option ℕ) (tokens inner : List Token) → left_at tokens ≡ Some inner → first_list_at owner tokens ≡ tested owner (actions_at owner inner >>= closed_list)
+unfolding first_list_at action_list_at
+first_list_is owner tokens inner l = rw l refl
+
+-- a player's list is not tested
+own_tested : (i : ℕ) (reading : Listed) → tested (Some i) reading ≡ reading
+own_tested i None = refl
+own_tested i (Some x) = refl
+
+-- a player's list is read and closed
+pub own_list_is : (owner : Option ℕ) (i n : ℕ) (tokens inner behind : List Token) (actions : List Action) (closed : Option (List Token)) → owner ≡ Some i → left_at tokens ≡ Some inner → actions_at (Some 0) inner ≡ Some (actions, behind) → n ≡ length actions → closed_at n behind ≡ closed
+    → first_list_at owner tokens ≡ (closed >>= λ rest. Some (actions, rest))
+own_list_is owner i n tokens inner behind actions closed o l a e c =
+    let rest : first_list_at (Some i) tokens ≡ (closed_at (length actions) behind >>= λ rest. Some (actions, rest)) = first_list_is (Some i) tokens inner l ∙ ap (λ (r : Listed). tested (Some i) (r >>= closed_list)) a ∙ own_tested i (closed_list (actions, behind)) in
+    rw (o, ← c, e) rest
+
 -- the list of chance that the code reads: added up as it is read, then closed, then tested
 abbrev closed_sum : (List Action × ℚ) × List Token → Listed
 closed_sum x = closed_at (length x.0.0) x.1 >>= λ rest. if eq_ℚ x.0.1 one_ℚ then Some (x.0.0, rest) else None
 
--- the test behind the brace
-tested_behind : (actions : List Action) (behind : List Token) (total : Option ℚ) (closed : Option (List Token)) → closed_at (length actions) behind ≡ closed
-    → ((closed >>= λ rest. Some (actions, rest)) >>= λ x. if is_one total then Some x else None) ≡ ((total >>= λ t. Some ((actions, t), behind)) >>= closed_sum)
-tested_behind actions behind None None e = refl
-tested_behind actions behind None (Some rest) e = refl
-tested_behind actions behind (Some t) None e = rw e refl
-tested_behind actions behind (Some t) (Some rest) e = rw e refl
+-- the sum is tested behind the brace
+sum_tested : (actions : List Action) (behind : List Token) (total : Option ℚ) (closed : Option (List Token)) → closed_at (length actions) behind ≡ closed → adds_up zero_ℚ actions ≡ is_one total
+    → tested None (closed >>= λ rest. Some (actions, rest)) ≡ (summed actions behind total >>= closed_sum)
+sum_tested actions behind None None e a = refl
+sum_tested actions behind None (Some rest) e a = rw a refl
+sum_tested actions behind (Some t) None e a = rw e refl
+sum_tested actions behind (Some t) (Some rest) e a = rw (e, a) refl
 
--- a first list of chance
-first_chance : (reading : Listed) → ((reading >>= λ x. closed_at (length x.0) x.1 >>= λ rest. Some (x.0, rest)) >>= λ x. if adds_up zero_ℚ x.0 then Some x else None) ≡ ((reading >>= with_sum zero_ℚ) >>= closed_sum)
-first_chance None = refl
-first_chance (Some x) = ?
+-- a list of chance is added up
+sums_tested : (reading : Listed) → tested None (reading >>= closed_list) ≡ ((reading >>= with_sum zero_ℚ) >>= closed_sum)
+sums_tested None = refl
+sums_tested (Some x) = sum_tested x.0 x.1 (sum_after zero_ℚ x.0) (closed_at (length x.0) x.1) refl (adds_up_is zero_ℚ x.0)
 
-pub first_chance_is : (tokens inner : List Token) → left_at tokens ≡ Some inner → first_list_at None tokens ≡ (summed_at zero_ℚ inner >>= closed_sum)
-unfolding first_list_at action_list_at
-first_chance_is tokens inner l = rw (l, summed_is zero_ℚ inner) (first_chance (chance_actions_at inner))
+-- a list of chance is added up, closed and tested
+pub chance_list_is : (owner : Option ℕ) (tokens inner : List Token) (sums : Summed) → owner ≡ None → left_at tokens ≡ Some inner → summed_at zero_ℚ inner ≡ sums → first_list_at owner tokens ≡ (sums >>= closed_sum)
+chance_list_is owner tokens inner sums o l s =
+    let all : first_list_at None tokens ≡ (summed_at zero_ℚ inner >>= closed_sum) = first_list_is None tokens inner l ∙ sums_tested (chance_actions_at inner) ∙ ap (λ (r : Summed). r >>= closed_sum) (sym (summed_is zero_ℚ inner)) in
+    rw (o, ← s) all
+
+-- with what closes it and what the test says
+pub chance_list_by : (owner : Option ℕ) (n : ℕ) (tokens inner behind : List Token) (actions : List Action) (sum one : ℚ) (closed : Option (List Token)) (is : Bool) → owner ≡ None → left_at tokens ≡ Some inner → summed_at zero_ℚ inner ≡ Some ((actions, sum), behind)
+    → n ≡ length actions → closed_at n behind ≡ closed → one ≡ one_ℚ → eq_ℚ sum one ≡ is → first_list_at owner tokens ≡ (closed >>= λ rest. if is then Some (actions, rest) else None)
+chance_list_by owner n tokens inner behind actions sum one closed is o l s e c w t = rw (← c, ← t, w, e) (chance_list_is owner tokens inner (Some ((actions, sum), behind)) o l s)
+
+-- a part that is refused refuses the whole
+pub refused_on : {K Y Z : Type 0} (refusal : Refusal K) (part : Option Y) (whole : Option Z) → (part ≡ None → whole ≡ None) → Refuses refusal part → Refuses refusal whole
+refused_on (refusals.Unfit kind left) part whole on h = on h
+refused_on refusals.Memory part whole on h = tt
+
+-- a player's actions have no probabilities
+pub own_list_so : (owner : Option ℕ) (i n : ℕ) (inner behind rest : List Token) (actions : List Action) → owner ≡ Some i → actions_at (Some 0) inner ≡ Some (actions, behind) → n ≡ length actions → closed_at n behind ≡ Some rest → IsActionList owner actions
+own_list_so owner i n inner behind rest actions o a e c =
+    let none : All (HasNoProbability (Some i)) (map own_action (texts_at inner).0) = All-map (HasNoProbability (Some i)) own_action (texts_at inner).0 (λ k d lt. refl) in
+    let all : All (HasNoProbability (Some i)) actions = subst (λ (x : List Action × List Token). All (HasNoProbability (Some i)) x.0) (some_same _ _ a) none in
+    record { some_action = some; no_probabilities = subst (λ (who : Option ℕ). All (HasNoProbability who) actions) (sym o) all }
+  where
+    some : 0 < length actions
+    some =
+        let b = bind_some (right_at behind) _ rest c in
+        let p = cond_some (nat_le 1 n) b.0 rest b.2 in
+        let le = passes_le 1 n p.0 in
+        omega arith
 
 -- ---- a later list
 -- the brace that closes actions, and whether they repeat others
@@ -102,7 +169,7 @@ abbrev repeated_behind : List Action → List Action × List Token → Option (L
 repeated_behind actions x = right_at x.1 >>= λ rest. if repeats_actions actions (Some x.0) then Some rest else None
 
 -- nothing comes of a test that fails
-never : (closed : Option (List Token)) → (closed >>= λ rest. None) ≡ None {A = List Token}
+never : (closed : Option (List Token)) → (let none : List Token → Option (List Token) = λ rest. None in closed >>= none) ≡ None
 never None = refl
 never (Some rest) = refl
 
