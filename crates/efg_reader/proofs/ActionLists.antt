@@ -10,7 +10,7 @@ use Rattle.frac128.specs.Fraction.{eq_ℚ}
 use Rattle.game_core.specs.declared.tree.Action.{Action}
 use Rattle.game_text.specs.declared.token.Token.{Token}
 use Rattle.game_text.specs.declared.token.Token.TheVariants.{Left, Text, Number}
-use Rattle.file_parts.specs.Reading.{◌>>=◌, Refuses, left_at, right_at, texts_at}
+use Rattle.file_parts.specs.Reading.{◌>>=◌, Refuses, left_at, right_at, texts_at, opens}
 use Rattle.file_parts.specs.declared.refusal.Refusal.{Refusal}
 use Rattle.file_parts.specs.declared.refusal.Refusal.TheVariants as refusals
 use Rattle.file_parts.proofs.Options.{bind_some, some_same}
@@ -173,6 +173,11 @@ never : (closed : Option (List Token)) → (let none : List Token → Option (Li
 never None = refl
 never (Some rest) = refl
 
+-- a test that passes changes nothing
+closed_as_it_is : (closed : Option (List Token)) → (closed >>= λ rest. if true then Some rest else None) ≡ closed
+closed_as_it_is None = refl
+closed_as_it_is (Some rest) = refl
+
 -- a rational is itself
 eq_ℚ-self : (a : ℚ) → eq_ℚ a a ≡ true
 eq_ℚ-self a = rw ((Decides-int_eq a.num a.num).1 refl, (Decides-eqb a.den a.den).1 refl) refl
@@ -191,7 +196,78 @@ repeats_on : (one action : Action) (actions : List Action) (reading : Listed) �
 repeats_on one action actions None = sym (nothing_follows (eq_ℚ one.prob action.prob))
 repeats_on one action actions (Some x) = compared (eq_ℚ one.prob action.prob) (right_at x.1) (repeats_actions actions (Some x.0))
 
--- the tokens behind a test
-behind_test : (same : Bool) (tokens : List Token) (f : List Token → Option (List Token)) → (if same then f tokens else None) ≡ ((if same then Some tokens else None) >>= f)
+-- what follows a test that passes
+behind_test : (same : Bool) (tokens : List Token) (f : List Token → Option (List Token)) → (if same then (f tokens >>= right_at) else None) ≡ (((if same then Some tokens else None) >>= f) >>= right_at)
 behind_test true tokens f = refl
 behind_test false tokens f = refl
+
+-- chance's actions repeat these, and are closed
+chance_repeats : (actions : List Action) (tokens : List Token) → (chance_actions_at tokens >>= repeated_behind actions) ≡ (all_repeated_at None actions tokens >>= right_at)
+chance_repeats [] (Text name ∷ Number prob ∷ tokens) = too_long (record { name = name; prob = prob }) (chance_actions_at tokens)
+chance_repeats [] (Text name ∷ tokens) = refl
+chance_repeats [] tokens = closed_as_it_is (right_at tokens)
+chance_repeats (action ∷ actions) (Text name ∷ Number prob ∷ tokens) =
+    let one : Action = record { name = name; prob = prob } in
+    repeats_on one action actions (chance_actions_at tokens) ∙ ap (λ (r : Option (List Token)). if eq_ℚ prob action.prob then r else None) (chance_repeats actions tokens) ∙ behind_test (eq_ℚ prob action.prob) tokens (all_repeated_at None actions)
+chance_repeats (action ∷ actions) (Text name ∷ tokens) = refl
+chance_repeats (action ∷ actions) tokens = never (right_at tokens)
+
+-- a player's actions repeat these, and are closed
+own_repeats : (i : ℕ) (actions : List Action) (tokens : List Token) → AllByRecursion (HasNoProbability (Some i)) actions → (actions_at (Some i) tokens >>= repeated_behind actions) ≡ (all_repeated_at (Some i) actions tokens >>= right_at)
+own_repeats i [] (Text name ∷ tokens) h = never (right_at (texts_at tokens).1)
+own_repeats i [] tokens h = closed_as_it_is (right_at tokens)
+own_repeats i (action ∷ actions) (Text name ∷ tokens) h = rw (h.0, eq_ℚ-self zero_ℚ) (own_repeats i actions tokens h.1)
+own_repeats i (action ∷ actions) tokens h = never (right_at tokens)
+
+-- actions repeat these, and are closed
+actions_repeat : (owner : Option ℕ) (actions : List Action) (tokens : List Token) → All (HasNoProbability owner) actions → (actions_at owner tokens >>= repeated_behind actions) ≡ (all_repeated_at owner actions tokens >>= right_at)
+actions_repeat None actions tokens h = chance_repeats actions tokens
+actions_repeat (Some i) actions tokens h = own_repeats i actions tokens (recursion_from_All (HasNoProbability (Some i)) actions h)
+
+-- what repeats one or more actions has one or more
+repeats_some : (actions list : List Action) → 0 < length actions → repeats_actions actions (Some list) ≡ true → 1 ≤ length list
+repeats_some [] list some e = absurd (omega arith)
+repeats_some (action ∷ actions) [] some e = absurd (true≢false (sym e))
+repeats_some (action ∷ actions) (one ∷ list) some e = omega arith
+
+-- the number of actions needs no test where they repeat one or more
+counted : (closed : Option (List Token)) (n : ℕ) (repeats : Bool) → (repeats ≡ true → 1 ≤ n)
+    → ((closed >>= λ rest. if nat_le 1 n then Some rest else None) >>= λ rest. if repeats then Some rest else None) ≡ (closed >>= λ rest. if repeats then Some rest else None)
+counted None n repeats h = refl
+counted (Some rest) n true h = rw (le_passes 1 n (h refl)) refl
+counted (Some rest) n false h = by (nat_le 1 n)
+  where
+    by : (some : Bool) → ((if some then Some rest else None) >>= λ rest. if false then Some rest else None) ≡ None
+    by true = refl
+    by false = refl
+
+-- a list that comes
+abbrev that_comes : List Action × List Token → Option (Option (List Action) × List Token)
+that_comes x = Some (Some x.0, x.1)
+
+-- a list that comes is compared
+abbrev compared_list : List Action → Listed → Option (List Token)
+compared_list actions reading = (reading >>= that_comes) >>= λ list. if repeats_actions actions list.0 then Some list.1 else None
+
+-- the comparison goes to the brace
+compared_closed : (actions list : List Action) (closed : Option (List Token)) → compared_list actions (closed >>= λ rest. Some (list, rest)) ≡ (closed >>= λ rest. if repeats_actions actions (Some list) then Some rest else None)
+compared_closed actions list None = refl
+compared_closed actions list (Some rest) = refl
+
+list_repeats : (actions : List Action) (reading : Listed) → 0 < length actions → compared_list actions (reading >>= closed_list) ≡ (reading >>= repeated_behind actions)
+list_repeats actions None some = refl
+list_repeats actions (Some x) some = compared_closed actions x.0 (closed_at (length x.0) x.1) ∙ counted (right_at x.1) (length x.0) (repeats_actions actions (Some x.0)) (repeats_some actions x.0 some)
+
+-- no later list comes
+no_left : (tokens : List Token) → left_at tokens ≡ None → opens tokens ≡ false
+no_left (Left ∷ tokens) e = cc
+no_left _ e = refl
+
+pub later_without : (owner : Option ℕ) (actions : List Action) (tokens : List Token) → left_at tokens ≡ None → later_list_at owner actions tokens ≡ Some tokens
+unfolding later_list_at
+later_without owner actions tokens l = rw (no_left tokens l) refl
+
+-- a later list is compared as it is read
+pub later_list_is : (owner : Option ℕ) (actions : List Action) (tokens inner : List Token) → IsActionList owner actions → left_at tokens ≡ Some inner → later_list_at owner actions tokens ≡ (all_repeated_at owner actions inner >>= right_at)
+unfolding later_list_at action_list_at
+later_list_is owner actions tokens inner h l = rw (left_is tokens inner l) (list_repeats actions (actions_at owner inner) h.some_action ∙ actions_repeat owner actions inner h.no_probabilities)
