@@ -1,8 +1,10 @@
 // The information sets, numbered by their first use.
-ghost use Rattle.std.specs.Prelude.{◌≡◌, ◌<◌, length, option_map, IfOk, OnOk};
+ghost use Rattle.std.specs.Prelude.{◌≡◌, ◌<◌, [], ◌∷◌, ◌++◌, length, option_map, IfOk, OnOk};
 ghost use Rattle.file_parts.specs.Reading.{Reads, kinds};
-ghost use Rattle.efg_reader.specs.States.{begun_sets, AreSets};
-ghost use Rattle.efg_reader.specs.TreeReading.{set_step_at};
+ghost use Rattle.written_trees.specs.Building.{or_else};
+ghost use Rattle.written_trees.specs.Laws.{IsActionList};
+ghost use Rattle.efg_reader.specs.States.{begun_set, begun_sets, AreSets};
+ghost use Rattle.efg_reader.specs.TreeReading.{first_list_at, later_list_at, set_step_at};
 
 use crate::actions::{first_list, later_list};
 use crate::fault::EfgKind;
@@ -48,7 +50,7 @@ pub struct Sets {
 
 /// A name of its own, where one came.
 pub fn optional_name(alloc: Global, name: Option<&Name>) -> Result<Option<Name>, AllocError>
-    ensures { IfOk result (λ copy. option_map (λ t. t.now) name ≡ copy) }
+    ensures { IfOk result (λ copy. option_map (λ t. t.now) name.entry ≡ copy) }
 {
     match name {
         Some(name) => Ok(Some(copied(alloc, name)?)),
@@ -63,7 +65,11 @@ fn first_use<'a>(
     name: Option<&Name>,
     node: u32,
     tokens: &'a [Spanned],
-) -> Result<(SetBegun, &'a [Spanned]), Refusal<EfgKind>> {
+) -> Result<(SetBegun, &'a [Spanned]), Refusal<EfgKind>>
+    ensures read { Reads (λ x. (x.0.actions.items, kinds x.1.now)) result (first_list_at key.owner (kinds tokens.now)) }
+    ensures list { IfOk result (λ x. IsActionList key.owner x.0.actions.items) }
+    ensures set { IfOk result (λ x. begun_set x.0 ≡ record { owner = key.owner; label = key.label; name = option_map (λ t. t.now) name.entry; actions = x.0.actions.items; members = node ∷ [] }) }
+{
     let (actions, rest) = first_list(alloc, tokens, key.owner, key.label)?;
     let name = optional_name(alloc, name)?;
     let members = Vec::from_slice(alloc, &[node])?;
@@ -84,7 +90,11 @@ fn later_use<'a>(
     name: Option<&Name>,
     node: u32,
     tokens: &'a [Spanned],
-) -> Result<&'a [Spanned], Refusal<EfgKind>> {
+) -> Result<&'a [Spanned], Refusal<EfgKind>>
+    requires { IsActionList set.old.owner set.old.actions.items }
+    ensures read { Reads (λ rest. kinds rest.now) result (later_list_at set.old.owner set.old.actions.items (kinds tokens.now)) }
+    ensures set { OnOk result (begun_set set.new ≡ record { owner = set.old.owner; label = set.old.label; name = or_else set.old.name (option_map (λ t. t.now) name.entry); actions = set.old.actions.items; members = set.old.members.items ++ node ∷ [] }) }
+{
     let rest = later_list(tokens, set.owner, set.actions.as_slice())?;
     if set.name.is_none() {
         set.name = optional_name(alloc, name)?;
