@@ -1,6 +1,8 @@
 // The information sets, numbered by their first use.
-ghost use Rattle.std.specs.Prelude.{◌≡◌, ◌<◌, [], ◌∷◌, ◌++◌, length, option_map, IfOk, OnOk};
+ghost use Rattle.std.specs.Prelude.{◌≡◌, ◌<◌, [], ◌∷◌, ◌++◌, not, if◌then◌else◌, length, option_map, IfOk, OnOk};
+ghost use Rattle.std.specs.List.{position_or_len, list_any};
 ghost use Rattle.file_parts.specs.Reading.{Reads, kinds};
+ghost use Rattle.written_trees.specs.Described.{same_set};
 ghost use Rattle.written_trees.specs.Building.{or_else};
 ghost use Rattle.written_trees.specs.Laws.{IsActionList};
 ghost use Rattle.efg_reader.specs.States.{begun_set, begun_sets, AreSets};
@@ -13,7 +15,7 @@ use file_parts::{Refusal, copied, optional_text, unfit};
 use game_core::{Action, Name};
 use game_text::Spanned;
 use indexmap::IndexSet;
-use std::alloc::{AllocError, Global};
+use std::alloc::{AllocError, AllocFailed, Global};
 
 /// What tells a set from others: chance and each player number their sets separately.
 #[derive(Clone, Copy, Debug, PartialEq, Eq, Hash)]
@@ -103,6 +105,15 @@ fn later_use<'a>(
     Ok(rest)
 }
 
+// The place of this key among those that are known, and whether it is new. It is known afterwards.
+fn placed(known: &mut IndexSet<SetKey>, key: SetKey) -> Result<(usize, bool), AllocFailed<SetKey>>
+    ensures place { IfOk result (λ x. x.0 ≡ position_or_len (λ k. same_set (key.owner, key.label) (k.owner, k.label)) known.old.keys) }
+    ensures added { IfOk result (λ x. x.1 ≡ not (list_any (λ k. same_set (key.owner, key.label) (k.owner, k.label)) known.old.keys)) }
+    ensures keys { IfOk result (λ x. known.new.keys ≡ (if x.1 then known.old.keys ++ key ∷ [] else known.old.keys)) }
+{
+    known.insert_full(key)
+}
+
 /// The number of the set that this node of this owner uses, and the tokens behind it.
 pub fn read_set<'a>(
     alloc: Global,
@@ -121,7 +132,7 @@ pub fn read_set<'a>(
     };
     let (name, behind) = optional_text(behind);
     let key = SetKey { owner, label };
-    let (place, is_new) = sets.keys.insert_full(key)?;
+    let (place, is_new) = placed(&mut sets.keys, key)?;
     if is_new {
         let (set, rest) = first_use(alloc, key, name, node, behind)?;
         sets.list.push(set)?;
