@@ -242,7 +242,7 @@ counted (Some rest) n false h = by (nat_le 1 n)
     by false = refl
 
 -- a list that comes
-abbrev that_comes : List Action × List Token → Option (Option (List Action) × List Token)
+abbrev pub that_comes : List Action × List Token → Option (Option (List Action) × List Token)
 that_comes x = Some (Some x.0, x.1)
 
 -- a list that comes is compared

@@ -1,5 +1,5 @@
 // The information sets, numbered by their first use.
-ghost use Rattle.std.specs.Prelude.{◌≡◌, ◌<◌, [], ◌∷◌, ◌++◌, not, if◌then◌else◌, length, option_map, IfOk, OnOk};
+ghost use Rattle.std.specs.Prelude.{◌≡◌, ◌+◌, ◌<◌, [], ◌∷◌, ◌++◌, not, if◌then◌else◌, length, option_map, IfOk, OnOk};
 ghost use Rattle.std.specs.List.{position_or_len, list_any};
 ghost use Rattle.file_parts.specs.Reading.{Reads, kinds};
 ghost use Rattle.written_trees.specs.Described.{same_set};
@@ -108,6 +108,7 @@ fn later_use<'a>(
 // The place of this key among those that are known, and whether it is new. It is known afterwards.
 fn placed(known: &mut IndexSet<SetKey>, key: SetKey) -> Result<(usize, bool), AllocFailed<SetKey>>
     ensures place { IfOk result (λ x. x.0 ≡ position_or_len (λ k. same_set (key.owner, key.label) (k.owner, k.label)) known.old.keys) }
+    ensures within { IfOk result (λ x. x.0 < length known.old.keys + (if x.1 then 1 else 0)) }
     ensures added { IfOk result (λ x. x.1 ≡ not (list_any (λ k. same_set (key.owner, key.label) (k.owner, k.label)) known.old.keys)) }
     ensures keys { IfOk result (λ x. known.new.keys ≡ (if x.1 then known.old.keys ++ key ∷ [] else known.old.keys)) }
 {
