@@ -1,8 +1,11 @@
 -- A set that a node uses, as the reader finds it among those before it.
-use Rattle.std.proofs.Common.{◌≡◌, ℕ, suc, ◌+◌, Bool, true, false, true≢false, cond, not, ◌||◌, one-add, List, [], ◌∷◌, ◌++◌, length, map, option_map, slice_get, slice_set, Option, Some, None, if◌then◌else◌, refl, sym, ap, ◌∙◌, arith}
+use Rattle.std.proofs.Common.{◌≡◌, ℕ, suc, ◌+◌, Bool, true, false, true≢false, cond, not, ◌||◌, one-add, List, [], ◌∷◌, ◌++◌, length, map, option_map, slice_get, slice_set, get_or, ◌<◌, All, Option, Some, None, if◌then◌else◌, refl, sym, ap, ap₂, ◌∙◌, subst, arith}
 use Rattle.std.specs.List.{position_or_len, list_any}
 use Rattle.std.proofs.lemmas.Bool.{cases_Bool}
-use Rattle.std.proofs.lemmas.Option.{slice_get-map}
+use Rattle.std.proofs.lemmas.Option.{slice_get-map, slice_get-get_or}
+use Rattle.std.proofs.lemmas.List.{map-append, map-set, length-map}
+use Rattle.std.proofs.lemmas.List.Elements.{All-push, All-set}
+use Rattle.std.proofs.Math.Seq.{map-set_same}
 use Rattle.game_core.specs.declared.tree.Action.{Action}
 use Rattle.game_text.specs.declared.token.Token.{Token}
 use Rattle.game_text.specs.declared.token.Token.TheVariants.{Left}
@@ -11,9 +14,11 @@ use Rattle.file_parts.proofs.Options.{some_same}
 use Rattle.written_trees.specs.Described.{SetKey, key_of, same_set}
 use Rattle.written_trees.specs.Written.{SetUse}
 use Rattle.written_trees.specs.Building.{or_else, BegunSet, key_of_begun, set_place, use_set, may_be_first, repeats_actions}
+use Rattle.written_trees.specs.Laws.{IsActionList}
 use Rattle.written_trees.proofs.Lists.{key_at, map-map}
 use Rattle.written_trees.proofs.SetUses.{same_set-Decides}
 use Rattle.efg_reader.specs.declared.sets.SetBegun.{SetBegun}
+use Rattle.efg_reader.specs.declared.sets.SetKey.{SetKey as Key}
 use Rattle.efg_reader.specs.declared.sets.Sets.{Sets}
 use Rattle.efg_reader.specs.States.{begun_set, begun_sets, AreSets}
 use Rattle.efg_reader.specs.TreeReading.{action_list_at, optional_at, positive_at, set_use_at, first_list_at, later_list_at, set_step_at}
@@ -150,7 +155,17 @@ pub record Comes (sets : Sets) (owner : Option ℕ) (tokens after : List Token) 
   pub is_label : positive_at tokens ≡ Some (label, behind)
   pub is_name : (name, after) ≡ optional_text_at behind
   pub is_place : place ≡ position_or_len (λ k. same_set (owner, label) (k.owner, k.label)) sets.keys.keys
+  pub within : place < length sets.keys.keys + (if is_new then 1 else 0)
   pub is_added : is_new ≡ not (list_any (λ k. same_set (owner, label) (k.owner, k.label)) sets.keys.keys)
+
+-- what is read at a place stands there
+stands_at : {X : Type 0} (xs : List X) (i : ℕ) (x : X) → i < length xs → x ≡ get_or xs i x → slice_get xs i ≡ Some x
+stands_at xs i x lt is = slice_get-get_or xs i x lt ∙ ap Some (sym is)
+
+-- no number comes
+pub step_without : (k : ℕ) (sets : List BegunSet) (owner : Option ℕ) (tokens : List Token) → positive_at tokens ≡ None → set_step_at k sets owner tokens ≡ None
+unfolding set_step_at set_use_at
+step_without k sets owner tokens none = rw none refl
 
 module _ {sets : Sets} {owner : Option ℕ} {tokens after : List Token} {label : ℕ} {name : Option (List ℕ)} {place : ℕ} {is_new : Bool} (h : Comes sets owner tokens after label name place is_new) where
   -- the keys are those of the sets that are begun
@@ -161,14 +176,21 @@ module _ {sets : Sets} {owner : Option ℕ} {tokens after : List Token} {label :
   place_begun : place ≡ set_place (begun_sets sets) (owner, label)
   place_begun = h.is_place ∙ place_is (λ k. (k.owner, k.label)) sets.keys.keys (begun_sets sets) keys_begun (owner, label)
 
+  -- the place of a known set
+  pub known_within : is_new ≡ false → place < length sets.list.items
+  known_within known =
+      let below : place < length sets.keys.keys + 0 = rw known at h.within in
+      let same : length sets.keys.keys ≡ length sets.list.items = sym (length-map sets.keys.keys (λ k. (k.owner, k.label))) ∙ ap length h.are.keys_are ∙ length-map sets.list.items (λ s. (s.owner, s.label)) in
+      omega arith
+
   -- a first use begins a set
-  pub step_begins : (k : ℕ) → is_new ≡ true → set_step_at k (begun_sets sets) owner tokens ≡ (first_list_at owner after >>= λ x. Some ((begun_sets sets ++ begun_by k (owner, label) name x.0 ∷ [], place), x.1))
+  step_begins : (k : ℕ) → is_new ≡ true → set_step_at k (begun_sets sets) owner tokens ≡ (first_list_at owner after >>= λ x. Some ((begun_sets sets ++ begun_by k (owner, label) name x.0 ∷ [], place), x.1))
   step_begins k new =
       let none = new_key (λ k. (k.owner, k.label)) sets.keys.keys (begun_sets sets) keys_begun (owner, label) (negated true _ (sym new ∙ h.is_added)) in
       rw place_begun (step_is k (begun_sets sets) owner label name tokens h.behind after h.is_label h.is_name ∙ begins k (begun_sets sets) (owner, label) name (optional_at (action_list_at owner) after) none ∙ first_comes owner _ after)
 
   -- a later use goes on with it
-  pub step_goes_on : (k : ℕ) (set : SetBegun) → is_new ≡ false → slice_get sets.list.items place ≡ Some set
+  step_goes_on : (k : ℕ) (set : SetBegun) → is_new ≡ false → slice_get sets.list.items place ≡ Some set
       → set_step_at k (begun_sets sets) owner tokens ≡ (later_list_at set.owner set.actions.items after >>= λ rest. Some ((slice_set (begun_sets sets) place (used_by k name (begun_set set)), place), rest))
   unfolding later_list_at
   step_goes_on k set known at =
@@ -180,3 +202,51 @@ module _ {sets : Sets} {owner : Option ℕ} {tokens after : List Token} {label :
           rw place_begun (step_is k (begun_sets sets) owner label name tokens h.behind after h.is_label h.is_name ∙ goes_on k (begun_sets sets) (owner, label) name (begun_set set) (optional_at (action_list_at owner) after) stands)
       in
       step ∙ ap (λ (who : Option ℕ). later_list_at who set.actions.items after >>= goes) (sym same)
+
+  -- no first list is read
+  pub first_refused : (k : ℕ) → is_new ≡ true → first_list_at owner after ≡ None → set_step_at k (begun_sets sets) owner tokens ≡ None
+  first_refused k new none = step_begins k new ∙ ap (λ (r : Option (List Action × List Token)). let onward : List Action × List Token → Step = λ x. Some ((begun_sets sets ++ begun_by k (owner, label) name x.0 ∷ [], place), x.1) in r >>= onward) none
+
+  -- a set was begun
+  pub first_used : (k : ℕ) (more : Sets) (set : SetBegun) (rest : List Token) → is_new ≡ true → first_list_at owner after ≡ Some (set.actions.items, rest) → begun_set set ≡ begun_by k (owner, label) name set.actions.items → more.list.items ≡ sets.list.items ++ set ∷ []
+      → set_step_at k (begun_sets sets) owner tokens ≡ Some ((begun_sets more, place), rest)
+  first_used k more set rest new read is list = rw (list, map-append begun_set sets.list.items (set ∷ []), is) (step_begins k new ∙ rw read refl)
+
+  -- no later list is read
+  pub later_refused : (k : ℕ) (set : SetBegun) → is_new ≡ false → set ≡ get_or sets.list.items place set → later_list_at set.owner set.actions.items after ≡ None → set_step_at k (begun_sets sets) owner tokens ≡ None
+  later_refused k set known is none = step_goes_on k set known (stands_at sets.list.items place set (known_within known) is) ∙ rw none refl
+
+  -- a set was used again
+  pub later_used : (k : ℕ) (more : Sets) (set next : SetBegun) (rest : List Token) → is_new ≡ false → set ≡ get_or sets.list.items place set → later_list_at set.owner set.actions.items after ≡ Some rest → begun_set next ≡ used_by k name (begun_set set)
+      → more.list.items ≡ slice_set sets.list.items place next → set_step_at k (begun_sets sets) owner tokens ≡ Some ((begun_sets more, place), rest)
+  later_used k more set next rest known is read next_is list = rw (list, map-set begun_set sets.list.items place next, next_is) (step_goes_on k set known (stands_at sets.list.items place set (known_within known) is) ∙ rw read refl)
+
+-- ---- what stays true of the sets
+-- a set that has a list of actions
+abbrev HasList : BegunSet → Type 0
+HasList set = IsActionList set.owner set.actions
+
+-- with a set of a first use
+pub sets_begin : (sets more : Sets) (k : ℕ) (key : Key) (name : Option (List ℕ)) (set : SetBegun) (is_new : Bool) → AreSets sets → is_new ≡ true → more.keys.keys ≡ (if is_new then sets.keys.keys ++ key ∷ [] else sets.keys.keys) → more.list.items ≡ sets.list.items ++ set ∷ []
+    → begun_set set ≡ begun_by k (key.owner, key.label) name set.actions.items → IsActionList key.owner set.actions.items → AreSets more
+sets_begin sets more k key name set is_new are new keys list is has =
+    let of_key : Key → SetKey = λ k. (k.owner, k.label) in
+    let of_set : SetBegun → SetKey = λ s. (s.owner, s.label) in
+    let last : of_key key ≡ of_set set = sym (ap key_of_begun is) in
+    let added : more.keys.keys ≡ sets.keys.keys ++ key ∷ [] = rw new at keys in
+    record {
+      keys_are = rw (added, list) (map-append of_key sets.keys.keys (key ∷ []) ∙ ap₂ (λ front one. front ++ one ∷ []) are.keys_are last ∙ sym (map-append of_set sets.list.items (set ∷ [])));
+      lists_are = rw list (All-push (λ s. HasList (begun_set s)) sets.list.items set are.lists_are (subst HasList (sym is) has));
+    }
+
+-- with a set that is used again
+pub sets_go_on : (sets more : Sets) (k : ℕ) (key : Key) (name : Option (List ℕ)) (place : ℕ) (set next : SetBegun) (is_new : Bool) → AreSets sets → is_new ≡ false → more.keys.keys ≡ (if is_new then sets.keys.keys ++ key ∷ [] else sets.keys.keys) → place < length sets.list.items → set ≡ get_or sets.list.items place set
+    → more.list.items ≡ slice_set sets.list.items place next → begun_set next ≡ used_by k name (begun_set set) → AreSets more
+sets_go_on sets more k key name place set next is_new are known keys lt is list next_is =
+    let of_set : SetBegun → SetKey = λ s. (s.owner, s.label) in
+    let kept : more.keys.keys ≡ sets.keys.keys = rw known at keys in
+    let has : HasList (begun_set set) = subst (λ s. HasList (begun_set s)) (sym is) (are.lists_are place set lt) in
+    record {
+      keys_are = rw (kept, list) (are.keys_are ∙ sym (map-set_same of_set sets.list.items place next set (ap key_of_begun next_is ∙ ap of_set is)));
+      lists_are = rw list (All-set (λ s. HasList (begun_set s)) sets.list.items place next (subst HasList (sym next_is) has) are.lists_are);
+    }
