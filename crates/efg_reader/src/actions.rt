@@ -30,6 +30,7 @@ fn next_sum(sum: Frac, prob: Frac, set: u64) -> Result<Frac, EfgKind>
 }
 
 // As many actions of chance as come, their sum, and the tokens behind them. The set has this number.
+#[tactic(auto, using(crate::proofs::ActionSteps::summed_steps))]
 fn chance_actions(
     alloc: Global,
     tokens: &[Spanned],
@@ -41,16 +42,17 @@ fn chance_actions(
     let mut sum = Frac::zero();
     let mut rest = tokens;
     while let Some((name, after)) = text(rest) {
-        let Some((prob, behind)) = number(after) else {
+        let Some(next) = number(after) else {
             return Err(unfit(EfgKind::Node, after));
         };
+        let prob = next.0;
         sum = match next_sum(sum, prob, set) {
-            Ok(next) => next,
+            Ok(more) => more,
             Err(kind) => return Err(unfit(kind, after)),
         };
         let name = copied(alloc, name)?;
         actions.push(Action { name, prob })?;
-        rest = behind;
+        rest = next.1;
     }
     Ok((actions, sum, rest))
 }
@@ -144,6 +146,7 @@ fn repeated<'a>(
 }
 
 // The tokens behind actions that repeat these.
+#[tactic(auto, using(crate::proofs::ActionSteps::repeat_steps))]
 fn all_repeated<'a>(
     tokens: &'a [Spanned],
     owner: Option<u32>,
