@@ -9,7 +9,7 @@ use Rattle.file_parts.proofs.Options.{bind_some, some_same}
 use Rattle.written_trees.specs.Written.{SetUse}
 use Rattle.written_trees.specs.Described.{key_of, kind_of_use}
 use Rattle.written_trees.specs.Building.{BegunSet, use_set, use_some_set, set_place}
-use Rattle.efg_reader.specs.TreeReading.{choice_at, choice_behind, choice_step_at, action_list_at, optional_at, positive_at, set_use_at, set_step_at, own_use_at, chance_use_at, player_at, is_word}
+use Rattle.efg_reader.specs.TreeReading.{choice_at, choice_behind, choice_step_at, action_list_at, optional_at, positive_at, set_use_at, set_step_at, set_choice_at, own_choice_at, own_use_at, chance_use_at, player_at, is_word}
 
 -- a set's use is of the owner for whom it is read
 use_owner : (owner : Option ℕ) (tokens : List Token) (x : SetUse × List Token) → set_use_at owner tokens ≡ Some x → x.0.owner ≡ owner
@@ -40,7 +40,7 @@ with_place sets x more = Some ((more, set_place sets (key_of x.0)), x.1)
 
 -- the choice at a set is a step of the set
 set_choice : (k : ℕ) (sets : List BegunSet) (owner : Option ℕ) (tokens : List Token)
-    → ((set_use_at owner tokens >>= as_use) >>= λ c. use_some_set k sets c.0 >>= as_choice sets c.0 c.1) ≡ (set_step_at k sets owner tokens >>= at_set owner)
+    → ((set_use_at owner tokens >>= as_use) >>= λ c. use_some_set k sets c.0 >>= as_choice sets c.0 c.1) ≡ set_choice_at k sets owner tokens
 unfolding set_step_at
 set_choice k sets owner tokens = go (set_use_at owner tokens) (λ x e. use_owner owner tokens x e)
   where
@@ -71,19 +71,19 @@ behind players k sets tokens word name e f = rw (e, f) refl
 
 -- chance
 pub by_chance : (players k : ℕ) (sets : List BegunSet) (tokens : List Token) (word name : List ℕ × List Token) → word_at tokens ≡ Some word → text_at word.1 ≡ Some name → is_word word.0 (codes "c") ≡ true
-    → choice_step_at players k sets tokens ≡ (set_step_at k sets None name.1 >>= at_set None)
+    → choice_step_at players k sets tokens ≡ set_choice_at k sets None name.1
 unfolding chance_use_at
 by_chance players k sets tokens word name e f c = behind players k sets tokens word name e f ∙ rw c (set_choice k sets None name.1)
 
 -- a player's number, and then the set
 pub by_player : (players k : ℕ) (sets : List BegunSet) (tokens : List Token) (word name : List ℕ × List Token) → word_at tokens ≡ Some word → text_at word.1 ≡ Some name → is_word word.0 (codes "c") ≡ false → is_word word.0 (codes "p") ≡ true
-    → choice_step_at players k sets tokens ≡ (player_at players name.1 >>= λ player. set_step_at k sets (Some player.0) player.1 >>= at_set (Some player.0))
+    → choice_step_at players k sets tokens ≡ own_choice_at players k sets name.1
 unfolding own_use_at
 by_player players k sets tokens word name e f c p = behind players k sets tokens word name e f ∙ rw (c, p) (go (player_at players name.1))
   where
     go : (P : Option (ℕ × List Token))
         → ((P >>= λ player. set_use_at (Some player.0) player.1 >>= as_use) >>= λ c. use_some_set k sets c.0 >>= as_choice sets c.0 c.1)
-          ≡ (P >>= λ player. set_step_at k sets (Some player.0) player.1 >>= at_set (Some player.0))
+          ≡ (P >>= λ player. set_choice_at k sets (Some player.0) player.1)
     go None = refl
     go (Some player) = set_choice k sets (Some player.0) player.1
 

@@ -7,7 +7,7 @@ use Rattle.frac128.specs.Fraction.{eq_ℚ}
 use Rattle.game_core.specs.declared.tree.Action.{Action}
 use Rattle.game_core.specs.declared.too_large.What.{What}
 use Rattle.game_core.specs.declared.tree.Kind.{Kind}
-use Rattle.game_core.specs.Tree.{GameTree}
+use Rattle.game_core.specs.Tree.{GameTree, kind_of_owner}
 use Rattle.game_text.specs.declared.token.Token.{Token}
 use Rattle.game_text.specs.declared.token.Token.TheVariants.{Left, Right, Text, Word, Number}
 use Rattle.file_parts.specs.Reading.{◌>>=◌, left_at, right_at, text_at, word_at, number_at, whole_at, label_at, optional_text_at, behind_text, names_at, texts_at, payoff_at, payoffs_at, title_at, opens, ends}
@@ -256,3 +256,11 @@ choice_step_at players k sets tokens = do
   used ← choice_at players tokens
   more ← use_some_set k sets used.0
   Some ((more, (kind_of_use used.0, option_map (λ u. set_place sets (key_of u)) used.0)), used.1)
+
+-- the choice at a set of this owner
+abbrev pub set_choice_at : ℕ → List BegunSet → Option ℕ → List Token → Option ((List BegunSet × (Kind × Option ℕ)) × List Token)
+set_choice_at k sets owner tokens = set_step_at k sets owner tokens >>= λ x. Some ((x.0.0, (kind_of_owner owner, Some x.0.1)), x.1)
+
+-- the choice of the player whose number comes
+abbrev pub own_choice_at : ℕ → ℕ → List BegunSet → List Token → Option ((List BegunSet × (Kind × Option ℕ)) × List Token)
+own_choice_at players k sets tokens = player_at players tokens >>= λ player. set_choice_at k sets (Some player.0) player.1

@@ -1,8 +1,9 @@
 // The nodes of a file.
 ghost use Rattle.std.specs.Prelude.{◌≡◌, ◌<◌, ◌≢◌, [], None, length, IfOk, OnOk};
 ghost use Rattle.file_parts.specs.Reading.{Reads, kinds};
+ghost use Rattle.game_core.specs.Tree.{kind_of_owner};
 ghost use Rattle.efg_reader.specs.States.{begun_of, begun_sets, AreSets, IsBuilder, ReadsNodes};
-ghost use Rattle.efg_reader.specs.TreeReading.{choice_step_at, next_at, one_more_at, nodes_at, whole_nodes_at};
+ghost use Rattle.efg_reader.specs.TreeReading.{is_word, set_choice_at, own_choice_at, choice_step_at, next_at, one_more_at, whole_nodes_at};
 ghost use Rattle.written_trees.specs.Building.{passed};
 
 use crate::builder::{Builder, Choice};
@@ -11,7 +12,7 @@ use crate::outcomes::read_outcome;
 use crate::pieces::{begins_node, player};
 use crate::sets::{Sets, read_set};
 use file_parts::{Refusal, ends, text, unfit, word};
-use game_core::{Kind, What};
+use game_core::{Kind, Name, What};
 use game_text::Spanned;
 use std::alloc::{AllocError, Global};
 
@@ -47,6 +48,67 @@ impl From<AllocError> for Stop {
     }
 }
 
+// Whether a word is this one.
+fn is_word(word: &Name, expected: &[u8]) -> bool
+    ensures { result ≡ is_word word.now expected.now }
+{
+    word.bytes() == expected
+}
+
+// Who chooses at a set with this owner.
+fn kind_of(owner: Option<u32>) -> Kind
+    ensures { result ≡ kind_of_owner owner }
+{
+    match owner {
+        Some(player) => Kind::Move { player },
+        None => Kind::Chance,
+    }
+}
+
+// The choice at a set of this owner, and the tokens behind it.
+fn set_choice<'a>(
+    alloc: Global,
+    sets: &mut Sets,
+    owner: Option<u32>,
+    number: u32,
+    tokens: &'a [Spanned],
+) -> Result<(Choice, &'a [Spanned]), Refusal<EfgKind>>
+    requires sets { AreSets sets.old }
+    requires few { length sets.old.list.items < 4294967295 }
+    ensures sets { OnOk result (AreSets sets.new) }
+    ensures read { Reads (λ x. ((begun_sets sets.new, (x.0.kind, x.0.set)), kinds x.1.now)) result (set_choice_at number (begun_sets sets.old) owner (kinds tokens.now)) }
+{
+    match read_set(alloc, sets, owner, number, tokens) {
+        Ok((set, rest)) => {
+            let choice = Choice {
+                kind: kind_of(owner),
+                set: Some(set),
+            };
+            Ok((choice, rest))
+        }
+        Err(refusal) => Err(refusal),
+    }
+}
+
+// The choice of the player whose number comes, and the tokens behind it.
+fn own_choice<'a>(
+    alloc: Global,
+    sets: &mut Sets,
+    players: u32,
+    number: u32,
+    tokens: &'a [Spanned],
+) -> Result<(Choice, &'a [Spanned]), Refusal<EfgKind>>
+    requires sets { AreSets sets.old }
+    requires few { length sets.old.list.items < 4294967295 }
+    ensures sets { OnOk result (AreSets sets.new) }
+    ensures read { Reads (λ x. ((begun_sets sets.new, (x.0.kind, x.0.set)), kinds x.1.now)) result (own_choice_at players number (begun_sets sets.old) (kinds tokens.now)) }
+{
+    match player(tokens, players) {
+        Ok((player, behind)) => set_choice(alloc, sets, Some(player), number, behind),
+        Err(refusal) => Err(refusal),
+    }
+}
+
 // A node with this number up to its outcome: the choice that is made there, and the tokens behind it.
 fn choice<'a>(
     alloc: Global,
@@ -60,28 +122,17 @@ fn choice<'a>(
     ensures sets { OnOk result (AreSets sets.new) }
     ensures read { Reads (λ x. ((begun_sets sets.new, (x.0.kind, x.0.set)), kinds x.1.now)) result (choice_step_at players number (begun_sets sets.old) (kinds tokens.now)) }
 {
-    let Some((word, behind)) = word(tokens) else {
+    let Some((word, name_on)) = word(tokens) else {
         return Err(unfit(EfgKind::Node, tokens));
     };
-    let Some((_, behind)) = text(behind) else {
-        return Err(unfit(EfgKind::Node, behind));
+    let Some((_, behind)) = text(name_on) else {
+        return Err(unfit(EfgKind::Node, name_on));
     };
-    if word.bytes() == b"c".as_slice() {
-        let (set, rest) = read_set(alloc, sets, None, number, behind)?;
-        let choice = Choice {
-            kind: Kind::Chance,
-            set: Some(set),
-        };
-        Ok((choice, rest))
-    } else if word.bytes() == b"p".as_slice() {
-        let (player, behind) = player(behind, players)?;
-        let (set, rest) = read_set(alloc, sets, Some(player), number, behind)?;
-        let choice = Choice {
-            kind: Kind::Move { player },
-            set: Some(set),
-        };
-        Ok((choice, rest))
-    } else if word.bytes() == b"t".as_slice() {
+    if is_word(word, b"c") {
+        set_choice(alloc, sets, None, number, behind)
+    } else if is_word(word, b"p") {
+        own_choice(alloc, sets, players, number, behind)
+    } else if is_word(word, b"t") {
         let choice = Choice {
             kind: Kind::End,
             set: None,
