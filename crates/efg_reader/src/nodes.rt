@@ -158,10 +158,19 @@ fn next<'a>(
     ensures read { Reads (λ rest. (begun_of builder.new, kinds rest.now)) result (next_at players (begun_of builder.old) (kinds tokens.now)) }
 {
     let number = builder.nodes.len() as u32;
-    let (choice, behind) = choice(alloc, &mut builder.sets, players, number, tokens)?;
-    let (outcome, rest) = read_outcome(alloc, &mut builder.outcomes, players as usize, behind)?;
-    builder.add(choice, outcome)?;
-    Ok(rest)
+    let (choice, behind) = match choice(alloc, &mut builder.sets, players, number, tokens) {
+        Ok(read) => read,
+        Err(refusal) => return Err(refusal),
+    };
+    let outcomes = &mut builder.outcomes;
+    let (outcome, rest) = match read_outcome(alloc, outcomes, players as usize, behind) {
+        Ok(read) => read,
+        Err(refusal) => return Err(refusal),
+    };
+    match builder.add(choice, outcome) {
+        Ok(()) => Ok(rest),
+        Err(_) => Err(Refusal::Memory),
+    }
 }
 
 // A further node, and the tokens behind it.
