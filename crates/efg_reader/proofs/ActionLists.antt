@@ -1,7 +1,6 @@
 -- First lists of actions, whose probabilities are added up as they are read, and later lists, which are compared as they are read.
-use Rattle.std.proofs.Common.{◌≡◌, ℕ, suc, ◌<◌, ◌≤◌, ◌&&◌, Bool, true, false, cond, true≢false, List, [], ◌∷◌, length, map, Option, Some, None, if◌then◌else◌, nat_le, nat_eq, refl, sym, ap, ◌∙◌, subst, All, arith}
+use Rattle.std.proofs.Common.{◌≡◌, ℕ, ◌<◌, ◌≤◌, ◌&&◌, Bool, true, false, true≢false, List, [], ◌∷◌, length, map, Option, Some, None, if◌then◌else◌, nat_le, refl, sym, ap, ◌∙◌, subst, All, arith}
 use Rattle.std.specs.List.{AllByRecursion}
-use Rattle.std.specs.Ordering.{int_eq}
 use Rattle.std.proofs.lemmas.Bool.Decides.{Decides-eqb, Decides-int_eq}
 use Rattle.std.proofs.lemmas.List.Elements.{All-map, recursion_from_All}
 use Rattle.std.proofs.lemmas.Option.{cond_some}

@@ -1,4 +1,4 @@
-use Rattle.std.proofs.Common.{rules, ◌≡◌, ◌∙◌, Some, None, false, true, length, arith, sym, refl}
+use Rattle.std.proofs.Common.{rules, ◌≡◌, Some, None, false, true, length, arith, refl}
 use Rattle.rational.specs.Rational.{one_ℚ}
 use Rattle.file_parts.specs.Reading.{kinds, Refuses}
 use Rattle.efg_reader.specs.TreeReading.{first_list_at}
