@@ -1,7 +1,6 @@
 -- First lists of actions, whose probabilities are added up as they are read, and later lists, which are compared as they are read.
-use Rattle.std.proofs.Common.{◌≡◌, ℕ, suc, ◌<◌, ◌≤◌, ◌&&◌, Bool, true, false, cond, true≢false, List, [], ◌∷◌, length, map, Option, Some, None, if◌then◌else◌, nat_le, nat_eq, refl, sym, ap, ◌∙◌, subst, All, arith}
+use Rattle.std.proofs.Common.{◌≡◌, ℕ, ◌<◌, ◌≤◌, ◌&&◌, Bool, true, false, true≢false, List, [], ◌∷◌, length, map, Option, Some, None, if◌then◌else◌, nat_le, refl, sym, ap, ◌∙◌, subst, All, arith}
 use Rattle.std.specs.List.{AllByRecursion}
-use Rattle.std.specs.Ordering.{int_eq}
 use Rattle.std.proofs.lemmas.Bool.Decides.{Decides-eqb, Decides-int_eq}
 use Rattle.std.proofs.lemmas.List.Elements.{All-map, recursion_from_All}
 use Rattle.std.proofs.lemmas.Option.{cond_some}
@@ -140,9 +139,9 @@ chance_list_is owner tokens inner sums o l s =
     rw (o, ← s) all
 
 -- with what closes it and what the test says
-pub chance_list_by : (owner : Option ℕ) (n : ℕ) (tokens inner behind : List Token) (actions : List Action) (sum one : ℚ) (closed : Option (List Token)) (is : Bool) → owner ≡ None → left_at tokens ≡ Some inner → summed_at zero_ℚ inner ≡ Some ((actions, sum), behind)
-    → n ≡ length actions → closed_at n behind ≡ closed → one ≡ one_ℚ → eq_ℚ sum one ≡ is → first_list_at owner tokens ≡ (closed >>= λ rest. if is then Some (actions, rest) else None)
-chance_list_by owner n tokens inner behind actions sum one closed is o l s e c w t = rw (← c, ← t, w, e) (chance_list_is owner tokens inner (Some ((actions, sum), behind)) o l s)
+pub chance_list_by : (owner : Option ℕ) (n : ℕ) (tokens inner behind : List Token) (actions : List Action) (sum : ℚ) (closed : Option (List Token)) (is : Bool) → owner ≡ None → left_at tokens ≡ Some inner → summed_at zero_ℚ inner ≡ Some ((actions, sum), behind)
+    → n ≡ length actions → closed_at n behind ≡ closed → eq_ℚ sum one_ℚ ≡ is → first_list_at owner tokens ≡ (closed >>= λ rest. if is then Some (actions, rest) else None)
+chance_list_by owner n tokens inner behind actions sum closed is o l s e c t = rw (← c, ← t, e) (chance_list_is owner tokens inner (Some ((actions, sum), behind)) o l s)
 
 -- a part that is refused refuses the whole
 pub refused_on : {K Y Z : Type 0} (refusal : Refusal K) (part : Option Y) (whole : Option Z) → (part ≡ None → whole ≡ None) → Refuses refusal part → Refuses refusal whole

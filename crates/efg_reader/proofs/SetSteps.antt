@@ -1,7 +1,6 @@
 -- A set that a node uses, as the reader finds it among those before it.
-use Rattle.std.proofs.Common.{◌≡◌, ℕ, suc, ◌+◌, Bool, true, false, true≢false, cond, not, ◌||◌, one-add, List, [], ◌∷◌, ◌++◌, length, map, option_map, slice_get, slice_set, get_or, ◌<◌, All, Option, Some, None, if◌then◌else◌, refl, sym, ap, ap₂, ◌∙◌, subst, arith}
+use Rattle.std.proofs.Common.{◌≡◌, ℕ, ◌+◌, Bool, true, false, true≢false, cond, not, ◌||◌, one-add, List, [], ◌∷◌, ◌++◌, length, map, option_map, slice_get, slice_set, get_or, ◌<◌, Option, Some, None, if◌then◌else◌, refl, sym, ap, ap₂, ◌∙◌, subst, arith}
 use Rattle.std.specs.List.{position_or_len, list_any}
-use Rattle.std.proofs.lemmas.Bool.{cases_Bool}
 use Rattle.std.proofs.lemmas.Option.{slice_get-map, slice_get-get_or}
 use Rattle.std.proofs.lemmas.List.{map-append, map-set, length-map}
 use Rattle.std.proofs.lemmas.List.Elements.{All-push, All-set}
@@ -9,7 +8,7 @@ use Rattle.std.proofs.Math.Seq.{map-set_same}
 use Rattle.game_core.specs.declared.tree.Action.{Action}
 use Rattle.game_text.specs.declared.token.Token.{Token}
 use Rattle.game_text.specs.declared.token.Token.TheVariants.{Left}
-use Rattle.file_parts.specs.Reading.{◌>>=◌, optional_text_at, left_at, opens}
+use Rattle.file_parts.specs.Reading.{◌>>=◌, optional_text_at}
 use Rattle.file_parts.proofs.Options.{some_same}
 use Rattle.written_trees.specs.Described.{SetKey, key_of, same_set}
 use Rattle.written_trees.specs.Written.{SetUse}
@@ -78,6 +77,13 @@ used_by k name set = record { owner = set.owner; label = set.label; name = or_el
 abbrev Step : Type 0
 Step = Option ((List BegunSet × ℕ) × List Token)
 
+-- the step that begins a set, and the one that goes on with a set
+abbrev begun_step : ℕ → List BegunSet → ℕ → SetKey → Option (List ℕ) → List Action × List Token → Step
+begun_step k sets place key name x = Some ((sets ++ begun_by k key name x.0 ∷ [], place), x.1)
+
+abbrev used_step : ℕ → List BegunSet → ℕ → Option (List ℕ) → BegunSet → List Token → Step
+used_step k sets place name set rest = Some ((slice_set sets place (used_by k name set), place), rest)
+
 -- a use of a set with this key
 abbrev use_of : SetKey → Option (List ℕ) → Option (List Action) → SetUse
 use_of key name actions = record { owner = key.0; label = key.1; name = name; actions = actions }
@@ -118,27 +124,23 @@ first_comes owner f tokens = sym (ap (λ (r : Option (List Action × List Token)
 
 -- the set is begun
 begins : (k : ℕ) (sets : List BegunSet) (key : SetKey) (name : Option (List ℕ)) (reading : Option (Option (List Action) × List Token)) → slice_get sets (set_place sets key) ≡ None
-    → ((reading >>= with_list key name) >>= step_behind k sets) ≡ (reading >>= first_then key.0 (λ x. Some ((sets ++ begun_by k key name x.0 ∷ [], set_place sets key), x.1)))
+    → ((reading >>= with_list key name) >>= step_behind k sets) ≡ (reading >>= first_then key.0 (begun_step k sets (set_place sets key) key name))
 begins k sets key name None none = refl
 begins k sets key name (Some list) none = by list.0 list.1
   where
-    by : (actions : Option (List Action)) (rest : List Token) → step_behind k sets (use_of key name actions, rest) ≡ first_then key.0 (λ x. Some ((sets ++ begun_by k key name x.0 ∷ [], set_place sets key), x.1)) (actions, rest)
+    by : (actions : Option (List Action)) (rest : List Token) → step_behind k sets (use_of key name actions, rest) ≡ first_then key.0 (begun_step k sets (set_place sets key) key name) (actions, rest)
     by None rest = rw none refl
     by (Some actions) rest =
         rw none (sym (test_first (may_be_first key.0 actions) (sets ++ begun_by k key name actions ∷ []) (λ more. Some ((more, set_place sets key), rest))))
 
 -- ---- a later use
--- a test stands before what either side makes of it
-both_tested : (test : Bool) (sets : List BegunSet) (place : ℕ) (rest : List Token)
-    → (let onward : List BegunSet → Step = λ more. Some ((more, place), rest) in (if test then Some sets else None) >>= onward) ≡ (let onward : List Token → Step = λ r. Some ((sets, place), r) in (if test then Some rest else None) >>= onward)
-both_tested true sets place rest = refl
-both_tested false sets place rest = refl
-
 -- the set goes on
 goes_on : (k : ℕ) (sets : List BegunSet) (key : SetKey) (name : Option (List ℕ)) (set : BegunSet) (reading : Option (Option (List Action) × List Token)) → slice_get sets (set_place sets key) ≡ Some set
-    → ((reading >>= with_list key name) >>= step_behind k sets) ≡ ((reading >>= λ list. if repeats_actions set.actions list.0 then Some list.1 else None) >>= λ rest. Some ((slice_set sets (set_place sets key) (used_by k name set), set_place sets key), rest))
+    → ((reading >>= with_list key name) >>= step_behind k sets) ≡ ((reading >>= λ list. if repeats_actions set.actions list.0 then Some list.1 else None) >>= used_step k sets (set_place sets key) name set)
 goes_on k sets key name set None at = refl
-goes_on k sets key name set (Some list) at = rw at (both_tested (repeats_actions set.actions list.0) (slice_set sets (set_place sets key) (used_by k name set)) (set_place sets key) list.1)
+goes_on k sets key name set (Some list) at =
+    let test : Bool = repeats_actions set.actions list.0 in
+    rw at (sym (test_first test (slice_set sets (set_place sets key) (used_by k name set)) (λ more. Some ((more, set_place sets key), list.1))) ∙ test_first test list.1 (used_step k sets (set_place sets key) name set))
 
 -- ---- the code's words
 -- what a negated test says
@@ -184,28 +186,31 @@ module _ {sets : Sets} {owner : Option ℕ} {tokens after : List Token} {label :
       omega arith
 
   -- a first use begins a set
-  step_begins : (k : ℕ) → is_new ≡ true → set_step_at k (begun_sets sets) owner tokens ≡ (first_list_at owner after >>= λ x. Some ((begun_sets sets ++ begun_by k (owner, label) name x.0 ∷ [], place), x.1))
+  step_begins : (k : ℕ) → is_new ≡ true → set_step_at k (begun_sets sets) owner tokens ≡ (first_list_at owner after >>= begun_step k (begun_sets sets) place (owner, label) name)
   step_begins k new =
       let none = new_key (λ k. (k.owner, k.label)) sets.keys.keys (begun_sets sets) keys_begun (owner, label) (negated true _ (sym new ∙ h.is_added)) in
       rw place_begun (step_is k (begun_sets sets) owner label name tokens h.behind after h.is_label h.is_name ∙ begins k (begun_sets sets) (owner, label) name (optional_at (action_list_at owner) after) none ∙ first_comes owner _ after)
 
+  -- the set at the place of a known key stands among those that are begun
+  stands_begun : (set : SetBegun) → slice_get sets.list.items place ≡ Some set → slice_get (begun_sets sets) (set_place (begun_sets sets) (owner, label)) ≡ Some (begun_set set)
+  stands_begun set at = rw (← place_begun) (slice_get-map begun_set sets.list.items place ∙ ap (option_map begun_set) at)
+
+  -- its owner is the one that comes
+  owner_known : (set : SetBegun) → is_new ≡ false → slice_get sets.list.items place ≡ Some set → set.owner ≡ owner
+  owner_known set known at = ap (λ (key : SetKey). key.0) (known_key (λ k. (k.owner, k.label)) sets.keys.keys (begun_sets sets) keys_begun (owner, label) (begun_set set) (negated false _ (sym known ∙ h.is_added)) (stands_begun set at))
+
   -- a later use goes on with it
-  step_goes_on : (k : ℕ) (set : SetBegun) → is_new ≡ false → slice_get sets.list.items place ≡ Some set
-      → set_step_at k (begun_sets sets) owner tokens ≡ (later_list_at set.owner set.actions.items after >>= λ rest. Some ((slice_set (begun_sets sets) place (used_by k name (begun_set set)), place), rest))
+  step_by_owner : (k : ℕ) (set : SetBegun) → slice_get sets.list.items place ≡ Some set → set_step_at k (begun_sets sets) owner tokens ≡ (later_list_at owner set.actions.items after >>= used_step k (begun_sets sets) place name (begun_set set))
   unfolding later_list_at
-  step_goes_on k set known at =
-      let stands : slice_get (begun_sets sets) (set_place (begun_sets sets) (owner, label)) ≡ Some (begun_set set) = rw (← place_begun) (slice_get-map begun_set sets.list.items place ∙ ap (option_map begun_set) at) in
-      let own = known_key (λ k. (k.owner, k.label)) sets.keys.keys (begun_sets sets) keys_begun (owner, label) (begun_set set) (negated false _ (sym known ∙ h.is_added)) stands in
-      let same : set.owner ≡ owner = ap (λ (key : SetKey). key.0) own in
-      let goes : List Token → Step = λ rest. Some ((slice_set (begun_sets sets) place (used_by k name (begun_set set)), place), rest) in
-      let step : set_step_at k (begun_sets sets) owner tokens ≡ (later_list_at owner set.actions.items after >>= goes) =
-          rw place_begun (step_is k (begun_sets sets) owner label name tokens h.behind after h.is_label h.is_name ∙ goes_on k (begun_sets sets) (owner, label) name (begun_set set) (optional_at (action_list_at owner) after) stands)
-      in
-      step ∙ ap (λ (who : Option ℕ). later_list_at who set.actions.items after >>= goes) (sym same)
+  step_by_owner k set at =
+      rw place_begun (step_is k (begun_sets sets) owner label name tokens h.behind after h.is_label h.is_name ∙ goes_on k (begun_sets sets) (owner, label) name (begun_set set) (optional_at (action_list_at owner) after) (stands_begun set at))
+
+  step_goes_on : (k : ℕ) (set : SetBegun) → is_new ≡ false → slice_get sets.list.items place ≡ Some set → set_step_at k (begun_sets sets) owner tokens ≡ (later_list_at set.owner set.actions.items after >>= used_step k (begun_sets sets) place name (begun_set set))
+  step_goes_on k set known at = step_by_owner k set at ∙ ap (λ (who : Option ℕ). later_list_at who set.actions.items after >>= used_step k (begun_sets sets) place name (begun_set set)) (sym (owner_known set known at))
 
   -- no first list is read
   pub first_refused : (k : ℕ) → is_new ≡ true → first_list_at owner after ≡ None → set_step_at k (begun_sets sets) owner tokens ≡ None
-  first_refused k new none = step_begins k new ∙ ap (λ (r : Option (List Action × List Token)). let onward : List Action × List Token → Step = λ x. Some ((begun_sets sets ++ begun_by k (owner, label) name x.0 ∷ [], place), x.1) in r >>= onward) none
+  first_refused k new none = step_begins k new ∙ ap (λ (r : Option (List Action × List Token)). r >>= begun_step k (begun_sets sets) place (owner, label) name) none
 
   -- a set was begun
   pub first_used : (k : ℕ) (more : Sets) (set : SetBegun) (rest : List Token) → is_new ≡ true → first_list_at owner after ≡ Some (set.actions.items, rest) → begun_set set ≡ begun_by k (owner, label) name set.actions.items → more.list.items ≡ sets.list.items ++ set ∷ []

@@ -1,5 +1,5 @@
 // Lists of actions.
-ghost use Rattle.std.specs.Prelude.{◌≡◌, ◌<◌, true, false, length, Some, IfOk, MatchResult};
+ghost use Rattle.std.specs.Prelude.{◌≡◌, true, false, Some, IfOk, MatchResult};
 ghost use Rattle.rational.specs.Rational.{◌+ℚ◌, zero_ℚ};
 ghost use Rattle.file_parts.specs.Reading.{Reads, kinds};
 ghost use Rattle.written_trees.specs.Building.{may_follow};
@@ -7,7 +7,7 @@ ghost use Rattle.written_trees.specs.Laws.{IsActionList};
 ghost use Rattle.efg_reader.specs.TreeReading.{summed_at, actions_at, closed_at, first_list_at, repeated_at, all_repeated_at, later_list_at};
 
 use crate::fault::EfgKind;
-use file_parts::{Refusal, copied, left, number, opens, right, text, unfit};
+use file_parts::{Refusal, copied, left, number, right, text, unfit};
 use frac128::Frac;
 use game_core::Action;
 use game_text::Spanned;

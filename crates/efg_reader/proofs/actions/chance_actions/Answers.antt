@@ -1,4 +1,3 @@
-use Rattle.std.proofs.Common.{◌≡◌}
 use Rattle.file_parts.specs.Reading.{kinds}
 use Rattle.efg_reader.proofs.ActionSteps.{summed_goes_on}
 use Rattle.efg_reader.proofs.actions.chance_actions.Goals as goal

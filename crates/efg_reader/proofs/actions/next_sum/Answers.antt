@@ -1,4 +1,4 @@
-use Rattle.std.proofs.Common.{◌≡◌, pos, ◌<ℤ◌, ◌≤ℤ◌, sym, ◌∙◌, arith}
+use Rattle.std.proofs.Common.{sym, ◌∙◌, arith}
 use Rattle.std.proofs.lemmas.Int.{ints}
 use Rattle.efg_reader.proofs.Probabilities.{may_follow_so, negative_may_not, excess_may_not}
 use Rattle.efg_reader.proofs.actions.next_sum.Goals as goal

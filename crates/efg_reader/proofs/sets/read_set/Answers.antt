@@ -1,4 +1,4 @@
-use Rattle.std.proofs.Common.{rules, ◌≡◌, ◌<◌, length, option_map, refl, arith}
+use Rattle.std.proofs.Common.{rules, option_map, refl}
 use Rattle.std.specs.Vec.{with_item}
 use Rattle.file_parts.specs.Reading.{kinds, Refuses}
 use Rattle.efg_reader.specs.States.{begun_sets}
