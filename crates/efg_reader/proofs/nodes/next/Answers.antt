@@ -2,7 +2,7 @@ use Rattle.std.proofs.Common.{◌≡◌, ℕ, suc, ◌≤◌, ◌<◌, List, len
 use Rattle.std.proofs.lemmas.List.{length-map}
 use Rattle.game_text.specs.declared.token.Token.{Token}
 use Rattle.file_parts.specs.Reading.{kinds}
-use Rattle.written_trees.specs.Building.{Begun, BegunSet, BegunOutcome}
+use Rattle.written_trees.specs.Building.{Begun}
 use Rattle.efg_reader.specs.States.{begun_of, begun_set, begun_sets, begun_outcome, begun_outcomes, IsBuilder, AreSets, AreOutcomes}
 use Rattle.efg_reader.specs.TreeReading.{choice_step_at, outcome_step_at, next_at}
 use Rattle.efg_reader.proofs.KeptOutcomes.{refused_too}
@@ -18,13 +18,50 @@ returns-in-Err-clause-read c =
     refused_too c.in-Err.refusal _ _ (choice_refused c.args.players begun (kinds c.args.tokens.now)) read
 
 pub returns-in-Err-read_outcome-clause-read : goal.returns-in-Err-read_outcome-clause-read
-returns-in-Err-read_outcome-clause-read c = ?
+returns-in-Err-read_outcome-clause-read c =
+    let begun = begun_of c.args.builder.now in
+    let number : c.len-number.result ≡ length begun.nodes = omega (arith, c.len-number.ensures, c.args.builder.now.nodes.ok.0) in
+    let step : ChoiceStep = ((begun_sets c.choice.new.sets, (c.in-Ok.read.0.kind, c.in-Ok.read.0.set)), kinds c.in-Ok.read.1.now) in
+    let chosen : choice_step_at c.args.players (length begun.nodes) begun.sets (kinds c.args.tokens.now) ≡ Some step = rw number at c.in-Ok.ensures.read in
+    refused_too c.in-Err-read_outcome.refusal _ _ (outcome_refused c.args.players begun (kinds c.args.tokens.now) step chosen) c.in-Err-read_outcome.ensures.read
 
 pub returns-in-Ok-add-clause-valid : goal.returns-in-Ok-add-clause-valid
-returns-in-Ok-add-clause-valid c = ?
-
-pub returns-in-Ok-add-clause-shorter : goal.returns-in-Ok-add-clause-shorter
-returns-in-Ok-add-clause-shorter c = ?
+returns-in-Ok-add-clause-valid c =
+    let begun = begun_of c.args.builder.now in
+    let number : c.len-number.result ≡ length begun.nodes = omega (arith, c.len-number.ensures, c.args.builder.now.nodes.ok.0) in
+    let step : ChoiceStep = ((begun_sets c.choice.new.sets, (c.in-Ok.read.0.kind, c.in-Ok.read.0.set)), kinds c.in-Ok.read.1.now) in
+    let paid : OutcomeStep = ((begun_outcomes c.read_outcome.new.outcomes, c.in-Ok-read_outcome.read.0), kinds c.in-Ok-read_outcome.read.1.now) in
+    let chosen : choice_step_at c.args.players (length begun.nodes) begun.sets (kinds c.args.tokens.now) ≡ Some step = rw number at c.in-Ok.ensures.read in
+    let sets : length c.choice.new.sets.list.items ≤ suc (length c.args.builder.now.sets.list.items) = rw (length-map, length-map) at (few_sets_more c.args.players (length begun.nodes) begun.sets (kinds c.args.tokens.now) step chosen) in
+    let outcomes : length c.read_outcome.new.outcomes.list.items ≤ suc (length c.args.builder.now.outcomes.list.items) = rw (length-map, length-map) at (few_outcomes_more c.args.players begun.outcomes (kinds c.in-Ok.read.1.now) paid c.in-Ok-read_outcome.ensures.read) in
+    let added = c.in-Ok-add.ensures in
+    let old = c.requires.valid in
+    record {
+      sets = subst AreSets (sym added.sets) c.in-Ok.ensures.sets;
+      outcomes = subst (AreOutcomes c.args.players) (sym added.outcomes) c.in-Ok-read_outcome.ensures.outcomes;
+      few_nodes = added.few_nodes;
+      few_sets = rw added.sets (omega (arith, sets, old.few_sets, added.longer));
+      few_outcomes = rw added.outcomes (omega (arith, outcomes, old.few_outcomes, added.longer));
+      near = added.near;
+    }
 
 pub returns-in-Ok-add-clause-read : goal.returns-in-Ok-add-clause-read
-returns-in-Ok-add-clause-read c = ?
+returns-in-Ok-add-clause-read c =
+    let begun = begun_of c.args.builder.now in
+    let number : c.len-number.result ≡ length begun.nodes = omega (arith, c.len-number.ensures, c.args.builder.now.nodes.ok.0) in
+    let step : ChoiceStep = ((begun_sets c.choice.new.sets, (c.in-Ok.read.0.kind, c.in-Ok.read.0.set)), kinds c.in-Ok.read.1.now) in
+    let paid : OutcomeStep = ((begun_outcomes c.read_outcome.new.outcomes, c.in-Ok-read_outcome.read.0), kinds c.in-Ok-read_outcome.read.1.now) in
+    let chosen : choice_step_at c.args.players (length begun.nodes) begun.sets (kinds c.args.tokens.now) ≡ Some step = rw number at c.in-Ok.ensures.read in
+    node_added c.args.players begun (begun_of c.add.new.self) (kinds c.args.tokens.now) step paid chosen c.in-Ok-read_outcome.ensures.read c.in-Ok-add.ensures.grown
+
+pub returns-in-Ok-add-clause-shorter : goal.returns-in-Ok-add-clause-shorter
+returns-in-Ok-add-clause-shorter c =
+    let begun = begun_of c.args.builder.now in
+    let number : c.len-number.result ≡ length begun.nodes = omega (arith, c.len-number.ensures, c.args.builder.now.nodes.ok.0) in
+    let step : ChoiceStep = ((begun_sets c.choice.new.sets, (c.in-Ok.read.0.kind, c.in-Ok.read.0.set)), kinds c.in-Ok.read.1.now) in
+    let paid : OutcomeStep = ((begun_outcomes c.read_outcome.new.outcomes, c.in-Ok-read_outcome.read.0), kinds c.in-Ok-read_outcome.read.1.now) in
+    let chosen : choice_step_at c.args.players (length begun.nodes) begun.sets (kinds c.args.tokens.now) ≡ Some step = rw number at c.in-Ok.ensures.read in
+    let read : next_at c.args.players begun (kinds c.args.tokens.now) ≡ Some (begun_of c.add.new.self, kinds c.in-Ok-read_outcome.read.1.now) =
+    node_added c.args.players begun (begun_of c.add.new.self) (kinds c.args.tokens.now) step paid chosen c.in-Ok-read_outcome.ensures.read c.in-Ok-add.ensures.grown in
+    let shorter : length (kinds c.in-Ok-read_outcome.read.1.now) < length (kinds c.args.tokens.now) = next_takes c.args.players begun (kinds c.args.tokens.now) (begun_of c.add.new.self, kinds c.in-Ok-read_outcome.read.1.now) read in
+    rw (length-map, length-map) at shorter
