@@ -208,7 +208,10 @@ pub fn read_nodes(alloc: Global, players: u32, tokens: &[Spanned]) -> Result<Bui
     let mut builder = Builder::new(alloc)?;
     let mut rest = tokens;
     while !builder.branchings.is_empty() {
-        rest = one_more(alloc, &mut builder, players, rest)?;
+        rest = match one_more(alloc, &mut builder, players, rest) {
+            Ok(after) => after,
+            Err(stop) => return Err(stop),
+        };
     }
     if ends(rest) {
         Ok(builder)
