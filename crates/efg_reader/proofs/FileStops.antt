@@ -1,6 +1,7 @@
 -- How reading a file ends.
 use Rattle.std.proofs.Common.{◌≡◌, ℕ, suc, ◌+◌, ◌<◌, ◌≤◌, ◌^◌, ◌⊎◌, inl, inr, List, [], ◌∷◌, ◌++◌, length, map, codes, Option, Some, None, Result, Ok, Err, refl, sym, ap, ◌∙◌, subst, length-append, arith}
 use Rattle.std.proofs.lemmas.List.{length-map}
+use Rattle.std.specs.Prelude.{IfOk}
 use Rattle.std.specs.List.{AllByRecursion}
 use Rattle.game_core.specs.declared.too_large.What.{What}
 use Rattle.game_core.specs.declared.too_large.What.TheVariants as what
@@ -81,3 +82,14 @@ nodes_stop tokens x source_length (Passed passed) stop short few e h s = passed_
 -- what is read is a tree
 pub read_tree : (tokens : List Token) (x : Head × List Token) (begun : Begun) → length x.0.1 < 2 ^ 32 → front_at tokens ≡ Some x → whole_nodes_at (length x.0.1) x.1 ≡ Ok begun → IsTree (tree_begun x.0.0 x.0.1 begun)
 read_tree tokens x begun few e f = (read_is_file tokens x begun few e f).describe.begun
+
+-- so they are few
+pub few_of : (list : List Spanned) (x : Head × List Token) → length list < 2 ^ 32 → front_at (map (λ s. s.token) list) ≡ Some x → length x.0.1 < 2 ^ 32
+few_of list x few e =
+    let names : length x.0.1 ≤ length list = rw (length-map list (λ s. s.token)) at (few_names (map (λ s. s.token) list) x e) in
+    omega (arith, names, few)
+
+-- a tree that has been made is that of the file
+pub if_ok : {E : Type 0} (result : Result GameTree E) (tokens : List Token) (tree : GameTree) → IfOk result (λ t. t ≡ tree) → IsTreeFile tokens tree → IfOk result (IsTreeFile tokens)
+if_ok (Ok t) tokens tree e f = subst (IsTreeFile tokens) (sym e) f
+if_ok (Err _) tokens tree e f = tt

@@ -1,11 +1,12 @@
-use Rattle.std.proofs.Common.{◌≡◌, ◌<◌, ◌^◌, ℕ, List, length, map, sym, subst, ap, Some, Ok, arith}
+use Rattle.std.proofs.Common.{◌≡◌, ◌<◌, ◌^◌, ℕ, List, length, map, sym, subst, ap, refl, ◌∙◌, Some, Ok, arith}
 use Rattle.std.proofs.lemmas.List.{length-map}
 use Rattle.game_text.specs.declared.token.Token.{Token}
 use Rattle.file_parts.specs.Reading.{kinds}
 use Rattle.efg_reader.specs.States.{begun_of}
+use Rattle.efg_reader.specs.TreeFile.{IsTreeFile}
 use Rattle.efg_reader.specs.TreeReading.{Head, front_at, whole_nodes_at}
 use Rattle.efg_reader.proofs.FileLaws.{read_is_file}
-use Rattle.efg_reader.proofs.FileStops.{all_short, few_names, front_stop, nodes_stop, read_tree}
+use Rattle.efg_reader.proofs.FileStops.{all_short, few_names, few_of, front_stop, if_ok, nodes_stop, read_tree}
 use Rattle.efg_reader.proofs.reading.read.Goals as goal
 
 pub returns-in-Err-clause-stop : goal.returns-in-Err-clause-stop
@@ -13,13 +14,37 @@ returns-in-Err-clause-stop c =
     front_stop (kinds c.args.tokens.now.list) c.args.tokens.now.length c.in-Err.refusal c.stop.result (rw c.list.ensures.list at c.in-Err.ensures) c.stop.ensures
 
 pub overflow_cast-len : goal.overflow_cast-len
-overflow_cast-len c = ?
+overflow_cast-len c =
+    let tokens = kinds c.args.tokens.now.list in
+    let x : Head × List Token = ((c.in-Ok.read.0.title, c.in-Ok.read.0.players.items), kinds c.in-Ok.read.1.now) in
+    let front : front_at tokens ≡ Some x = rw c.list.ensures.list at c.in-Ok.ensures in
+    let few : length c.in-Ok.read.0.players.items < 2 ^ 32 = few_of c.args.tokens.now.list x c.requires.few front in
+    record { fits = omega (arith, few, c.len.ensures, c.in-Ok.read.0.players.ok.0) }
 
 pub tree-requires : goal.tree-requires
-tree-requires c = ?
+tree-requires c =
+    let tokens = kinds c.args.tokens.now.list in
+    let x : Head × List Token = ((c.in-Ok.read.0.title, c.in-Ok.read.0.players.items), kinds c.in-Ok.read.1.now) in
+    let front : front_at tokens ≡ Some x = rw c.list.ensures.list at c.in-Ok.ensures in
+    let few : length c.in-Ok.read.0.players.items < 2 ^ 32 = few_of c.args.tokens.now.list x c.requires.few front in
+    let players : c.len.result ≡ length c.in-Ok.read.0.players.items = c.len.ensures ∙ c.in-Ok.read.0.players.ok.0 in
+    read_tree tokens x (begun_of c.in-Ok-read_nodes.builder) few front (rw players at c.in-Ok-read_nodes.ensures.read)
 
 pub returns-in-Ok-read_nodes-clause-tree : goal.returns-in-Ok-read_nodes-clause-tree
-returns-in-Ok-read_nodes-clause-tree c = ?
+returns-in-Ok-read_nodes-clause-tree c =
+    let tokens = kinds c.args.tokens.now.list in
+    let x : Head × List Token = ((c.in-Ok.read.0.title, c.in-Ok.read.0.players.items), kinds c.in-Ok.read.1.now) in
+    let front : front_at tokens ≡ Some x = rw c.list.ensures.list at c.in-Ok.ensures in
+    let few : length c.in-Ok.read.0.players.items < 2 ^ 32 = few_of c.args.tokens.now.list x c.requires.few front in
+    let players : c.len.result ≡ length c.in-Ok.read.0.players.items = c.len.ensures ∙ c.in-Ok.read.0.players.ok.0 in
+    if_ok c.tree.result tokens _ c.tree.ensures.tree (read_is_file tokens x (begun_of c.in-Ok-read_nodes.builder) few front (rw players at c.in-Ok-read_nodes.ensures.read))
 
 pub returns-in-Err-read_nodes-clause-stop : goal.returns-in-Err-read_nodes-clause-stop
-returns-in-Err-read_nodes-clause-stop c = ?
+returns-in-Err-read_nodes-clause-stop c =
+    let tokens = kinds c.args.tokens.now.list in
+    let x : Head × List Token = ((c.in-Ok.read.0.title, c.in-Ok.read.0.players.items), kinds c.in-Ok.read.1.now) in
+    let front : front_at tokens ≡ Some x = rw c.list.ensures.list at c.in-Ok.ensures in
+    let few : length c.in-Ok.read.0.players.items < 2 ^ 32 = few_of c.args.tokens.now.list x c.requires.few front in
+    let players : c.len.result ≡ length c.in-Ok.read.0.players.items = c.len.ensures ∙ c.in-Ok.read.0.players.ok.0 in
+    let short = all_short 0 c.args.tokens.now.length c.args.tokens.now.list c.list.ensures.in_place in
+    nodes_stop tokens x c.args.tokens.now.length c.in-Err-read_nodes.stopped c.nodes_stop.result short few front (rw players at c.in-Err-read_nodes.ensures.read) c.nodes_stop.ensures
