@@ -9,7 +9,7 @@ use Rattle.file_parts.proofs.Options.{bind_some, some_same}
 use Rattle.written_trees.specs.Written.{SetUse}
 use Rattle.written_trees.specs.Described.{key_of, kind_of_use}
 use Rattle.written_trees.specs.Building.{BegunSet, use_set, use_some_set, set_place}
-use Rattle.efg_reader.specs.TreeReading.{choice_at, choice_behind, choice_step_at, action_list_at, optional_at, positive_at, set_use_at, set_step_at, set_choice_at, own_choice_at, own_use_at, chance_use_at, player_at, is_word}
+use Rattle.tree_files.specs.TreeReading.{choice_at, choice_behind, choice_step_at, action_list_at, optional_at, positive_at, set_use_at, set_step_at, set_choice_at, own_choice_at, own_use_at, chance_use_at, player_at, is_word}
 
 -- a set's use is of the owner for whom it is read
 use_owner : (owner : Option ℕ) (tokens : List Token) (x : SetUse × List Token) → set_use_at owner tokens ≡ Some x → x.0.owner ≡ owner

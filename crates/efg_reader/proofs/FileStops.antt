@@ -18,16 +18,16 @@ use Rattle.file_parts.proofs.Options.{bind_some, some_same}
 use Rattle.file_parts.proofs.HeaderLaws.{title_is}
 use Rattle.file_parts.proofs.TokenLaws.{names_is}
 use Rattle.written_trees.specs.Building.{Begun, tree_begun}
-use Rattle.efg_reader.specs.declared.fault.EfgKind.{EfgKind}
+use Rattle.tree_uses.specs.declared.fault.EfgKind.{EfgKind}
 use Rattle.efg_reader.specs.declared.fault.EfgStop.{EfgStop}
 use Rattle.efg_reader.specs.declared.nodes.Stop.{Stop}
 use Rattle.efg_reader.specs.declared.nodes.Stop.TheVariants.{Refused, Passed}
 use Rattle.efg_reader.specs.States.{RefusesNodes}
 use Rattle.efg_reader.specs.Stops.{IsStop, IsStopOf, IsNodesStopOf, IsPassed}
-use Rattle.efg_reader.specs.TreeFile.{IsTreeFile, PassesLimit}
-use Rattle.efg_reader.specs.TreeReading.{Head, front_at, whole_nodes_at}
-use Rattle.efg_reader.proofs.FileStatements.{StandForNothing}
-use Rattle.efg_reader.proofs.FileLaws.{read_is_file, met_is_passed, no_front_is_nothing, no_nodes_are_nothing}
+use Rattle.tree_files.specs.TreeFile.{IsTreeFile, PassesLimit}
+use Rattle.tree_files.specs.TreeReading.{Head, front_at, whole_nodes_at}
+use Rattle.tree_files.proofs.FileStatements.{StandForNothing}
+use Rattle.tree_files.proofs.FileLaws.{read_is_file, met_is_passed, no_front_is_nothing, no_nodes_are_nothing}
 
 -- ---- the tokens
 -- numbers of tokens in place are short

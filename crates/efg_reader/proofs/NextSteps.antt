@@ -8,9 +8,9 @@ use Rattle.written_trees.specs.Written.{SetUse, OutcomeUse, WrittenNode}
 use Rattle.written_trees.specs.Building.{Begun, BegunSet, BegunOutcome, use_set, with_use, use_some_set, use_outcome, with_outcome_use, use_some_outcome, set_place, outcome_place, may_be_first, repeats_actions, repeats_payoffs, used_set, new_set, used_outcome, new_outcome, add_node}
 use Rattle.written_trees.specs.Described.{key_of}
 use Rattle.efg_reader.specs.States.{grown}
-use Rattle.efg_reader.specs.TreeFile.{IsNode, IsOutcomePart}
-use Rattle.efg_reader.specs.TreeReading.{choice_at, choice_step_at, outcome_use_at, outcome_step_at, with_outcome, node_at, next_at}
-use Rattle.efg_reader.proofs.NodeLaws.{node_is}
+use Rattle.tree_files.specs.TreeFile.{IsNode, IsOutcomePart}
+use Rattle.tree_files.specs.TreeReading.{choice_at, choice_step_at, outcome_use_at, outcome_step_at, with_outcome, node_at, next_at}
+use Rattle.tree_files.proofs.NodeLaws.{node_is}
 use Rattle.efg_reader.proofs.NodeSteps.{ChoiceStep, OutcomeStep, with_uses, with_both, in_steps, next_in_steps}
 
 -- ---- the node

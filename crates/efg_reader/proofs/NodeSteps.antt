@@ -8,7 +8,7 @@ use Rattle.written_trees.specs.Written.{SetUse, OutcomeUse, WrittenNode}
 use Rattle.written_trees.specs.Described.{key_of, kind_of_use}
 use Rattle.written_trees.specs.Building.{Begun, BegunSet, BegunOutcome, Branching, use_set, use_some_set, use_some_outcome, set_place, outcome_place, add_at, add_node, with_node}
 use Rattle.efg_reader.specs.States.{grown_at, grown}
-use Rattle.efg_reader.specs.TreeReading.{choice_at, choice_behind, choice_step_at, set_use_at, set_step_at, own_use_at, chance_use_at, player_at, outcome_use_at, outcome_step_at, with_outcome, node_at, next_at, is_word}
+use Rattle.tree_files.specs.TreeReading.{choice_at, choice_behind, choice_step_at, set_use_at, set_step_at, own_use_at, chance_use_at, player_at, outcome_use_at, outcome_step_at, with_outcome, node_at, next_at, is_word}
 
 -- ---- a node in steps
 -- what a step of the choice, and of the outcome, gives

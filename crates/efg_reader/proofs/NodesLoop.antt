@@ -11,7 +11,7 @@ use Rattle.efg_reader.specs.declared.builder.Builder.{Builder}
 use Rattle.efg_reader.specs.declared.nodes.Stop.{Stop}
 use Rattle.efg_reader.specs.declared.nodes.Stop.TheVariants.{Refused, Passed}
 use Rattle.efg_reader.specs.States.{begun_of, branching_of, branchings_of, RefusesNodes}
-use Rattle.efg_reader.specs.TreeReading.{Nodes, one_more_at, is_whole, nodes_at, whole_nodes_at, and_then}
+use Rattle.tree_files.specs.TreeReading.{Nodes, one_more_at, is_whole, nodes_at, whole_nodes_at, and_then}
 
 -- what is still to be read gives the whole
 pub record IsUnderWay (players : ℕ) (begun : Begun) (rest : List Token) (total : Nodes) : Type 0 where

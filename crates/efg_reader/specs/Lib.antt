@@ -1,4 +1,2 @@
 pub mod States
 pub mod Stops
-pub mod TreeFile
-pub mod TreeReading

@@ -8,38 +8,11 @@ use Rattle.file_parts.specs.declared.refusal.Refusal.TheVariants as refusals
 use Rattle.written_trees.specs.Described.{SetKey}
 use Rattle.written_trees.specs.Building.{Begun, BegunSet, BegunOutcome, Branching, begun_count, take_place, add_places}
 use Rattle.written_trees.specs.Laws.{IsActionList}
-use Rattle.efg_reader.specs.declared.sets.SetBegun.{SetBegun}
-use Rattle.efg_reader.specs.declared.sets.Sets.{Sets}
-use Rattle.efg_reader.specs.declared.outcomes.OutcomeBegun.{OutcomeBegun}
-use Rattle.efg_reader.specs.declared.outcomes.Outcomes.{Outcomes}
+use Rattle.tree_uses.specs.Uses.{begun_sets, begun_outcomes, AreSets, AreOutcomes}
 use Rattle.efg_reader.specs.declared.builder.Branching.{Branching as Kept}
 use Rattle.efg_reader.specs.declared.builder.Builder.{Builder}
 use Rattle.efg_reader.specs.declared.nodes.Stop.{Stop}
 use Rattle.efg_reader.specs.declared.nodes.Stop.TheVariants.{Refused, Passed}
-
--- a set, as far as it was used
-abbrev pub begun_set : SetBegun → BegunSet
-begun_set set = record { owner = set.owner; label = set.label; name = set.name; actions = set.actions.items; members = set.members.items }
-
-abbrev pub begun_sets : Sets → List BegunSet
-begun_sets sets = map begun_set sets.list.items
-
--- the keys are those of the sets in order, and each set has a list of actions
-pub record AreSets (sets : Sets) : Type 0 where
-  pub keys_are : map {B = SetKey} (λ key. (key.owner, key.label)) sets.keys.keys ≡ map {B = SetKey} (λ set. (set.owner, set.label)) sets.list.items
-  pub lists_are : All (λ set. IsActionList set.owner set.actions.items) sets.list.items
-
--- an outcome, as far as it was used
-abbrev pub begun_outcome : OutcomeBegun → BegunOutcome
-begun_outcome outcome = record { label = outcome.label; name = outcome.name; payoffs = outcome.payoffs.items }
-
-abbrev pub begun_outcomes : Outcomes → List BegunOutcome
-begun_outcomes outcomes = map begun_outcome outcomes.list.items
-
--- the labels are those of the outcomes in order, and each outcome pays so many players
-pub record AreOutcomes (players : ℕ) (outcomes : Outcomes) : Type 0 where
-  pub labels_are : outcomes.labels.keys ≡ map (λ outcome. outcome.label) outcomes.list.items
-  pub payoffs_are : All (λ outcome. length outcome.payoffs.items ≡ players) outcomes.list.items
 
 -- a node with free places
 abbrev pub branching_of : Kept → Branching

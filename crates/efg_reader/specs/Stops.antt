@@ -5,11 +5,11 @@ use Rattle.game_core.specs.declared.too_large.TooLarge.{TooLarge}
 use Rattle.game_core.specs.declared.too_large.What.{What}
 use Rattle.game_core.specs.declared.too_large.What.TheVariants.{Nodes, Depth}
 use Rattle.game_text.specs.declared.token.Token.{Token}
-use Rattle.efg_reader.specs.TreeFile.{IsTreeFile, PassesLimit}
+use Rattle.tree_files.specs.TreeFile.{IsTreeFile, PassesLimit}
 use Rattle.file_parts.specs.declared.refusal.Refusal.{Refusal}
 use Rattle.file_parts.specs.declared.refusal.Refusal.TheVariants as refusals
 use Rattle.efg_reader.specs.declared.fault.EfgFault.{EfgFault}
-use Rattle.efg_reader.specs.declared.fault.EfgKind.{EfgKind}
+use Rattle.tree_uses.specs.declared.fault.EfgKind.{EfgKind}
 use Rattle.efg_reader.specs.declared.fault.EfgStop.{EfgStop}
 use Rattle.efg_reader.specs.declared.nodes.Stop.{Stop}
 use Rattle.efg_reader.specs.declared.nodes.Stop.TheVariants.{Refused, Passed}

@@ -1,13 +1,13 @@
 // The part of a file up to the nodes.
 ghost use Rattle.std.specs.Prelude.{◌≡◌};
 ghost use Rattle.file_parts.specs.Reading.{Reads, kinds};
-ghost use Rattle.efg_reader.specs.TreeReading.{front_at};
+ghost use Rattle.tree_files.specs.TreeReading.{front_at};
 
-use crate::fault::EfgKind;
 use file_parts::{Refusal, behind_text, copied, names, title};
 use game_core::Name;
 use game_text::Spanned;
 use std::alloc::Global;
+use tree_uses::EfgKind;
 
 /// The title and the players.
 #[derive(Drop)]
@@ -19,7 +19,7 @@ pub struct Front {
 }
 
 /// The title, the players, and the tokens behind them and the comment that may come.
-#[tactic(auto, unfolding(crate::specs::TreeReading::front_at))]
+#[tactic(auto, unfolding(tree_files::specs::TreeReading::front_at))]
 pub fn read_front(
     alloc: Global,
     tokens: &[Spanned],

@@ -2,19 +2,17 @@
 ghost use Rattle.std.specs.Prelude.{◌≡◌, ◌<◌, ◌≢◌, [], None, length, IfOk, OnOk};
 ghost use Rattle.file_parts.specs.Reading.{Reads, kinds};
 ghost use Rattle.game_core.specs.Tree.{kind_of_owner};
-ghost use Rattle.efg_reader.specs.States.{begun_of, begun_sets, AreSets, IsBuilder, ReadsNodes};
-ghost use Rattle.efg_reader.specs.TreeReading.{is_word, set_choice_at, own_choice_at, choice_step_at, next_at, one_more_at, whole_nodes_at};
+ghost use Rattle.tree_uses.specs.Uses.{begun_sets, AreSets};
+ghost use Rattle.efg_reader.specs.States.{begun_of, IsBuilder, ReadsNodes};
+ghost use Rattle.tree_files.specs.TreeReading.{is_word, set_choice_at, own_choice_at, choice_step_at, next_at, one_more_at, whole_nodes_at};
 ghost use Rattle.written_trees.specs.Building.{passed};
 
 use crate::builder::{Builder, Choice};
-use crate::fault::EfgKind;
-use crate::outcomes::read_outcome;
-use crate::pieces::{begins_node, player};
-use crate::sets::{Sets, read_set};
 use file_parts::{Refusal, ends, text, unfit, word};
 use game_core::{Kind, Name, What};
 use game_text::Spanned;
 use std::alloc::{AllocError, Global};
+use tree_uses::{EfgKind, Sets, begins_node, player, read_outcome, read_set};
 
 /// Why nodes are not read.
 #[derive(Clone, Copy, Debug, PartialEq, Eq)]
@@ -174,7 +172,7 @@ fn next<'a>(
 }
 
 // A further node, and the tokens behind it.
-#[tactic(auto, unfolding(crate::specs::TreeReading::one_more_at))]
+#[tactic(auto, unfolding(tree_files::specs::TreeReading::one_more_at))]
 fn one_more<'a>(
     alloc: Global,
     builder: &mut Builder,
@@ -200,7 +198,7 @@ fn one_more<'a>(
 }
 
 /// The tree of all nodes of a file, behind which it ends.
-#[tactic(auto, unfolding(crate::specs::TreeReading::whole_nodes_at))]
+#[tactic(auto, unfolding(tree_files::specs::TreeReading::whole_nodes_at))]
 pub fn read_nodes(alloc: Global, players: u32, tokens: &[Spanned]) -> Result<Builder, Stop>
     ensures valid { IfOk result (IsBuilder players) }
     ensures read { ReadsNodes (λ builder. begun_of builder) result (whole_nodes_at players (kinds tokens.now)) }

@@ -7,20 +7,20 @@ ghost use Rattle.game_text.specs.declared.token.Token.{Token as token};
 ghost use Rattle.game_text.specs.Tokens.{IsShortToken};
 ghost use Rattle.written_trees.specs.Described.{or_empty};
 ghost use Rattle.written_trees.specs.Building.{finished_set, finished_outcome, tree_begun};
-ghost use Rattle.efg_reader.specs.TreeFile.{IsTreeFile};
-ghost use Rattle.efg_reader.specs.States.{begun_of, begun_set, begun_outcome};
+ghost use Rattle.tree_files.specs.TreeFile.{IsTreeFile};
+ghost use Rattle.tree_uses.specs.Uses.{begun_set, begun_outcome};
+ghost use Rattle.efg_reader.specs.States.{begun_of};
 ghost use Rattle.efg_reader.specs.Stops.{IsStop, IsStopOf, IsNodesStopOf};
 
 use crate::builder::Builder;
-use crate::fault::{EfgFault, EfgKind, EfgStop};
+use crate::fault::{EfgFault, EfgStop};
 use crate::front::{Front, read_front};
 use crate::nodes::{Stop, read_nodes};
-use crate::outcomes::OutcomeBegun;
-use crate::sets::SetBegun;
 use file_parts::{Refusal, place};
 use game_core::{InfoSet, Name, Outcome, TooLarge, Tree, What};
 use game_text::Tokens;
 use std::alloc::{AllocError, Global};
+use tree_uses::{EfgKind, OutcomeBegun, SetBegun};
 
 // The stop for a refusal.
 fn stop(refusal: Refusal<EfgKind>, tokens: &Tokens) -> EfgStop
@@ -134,8 +134,3 @@ pub fn read(alloc: Global, tokens: &Tokens) -> Result<Tree, EfgStop>
         Err(stopped) => Err(nodes_stop(stopped, tokens)),
     }
 }
-
-/// The tokens of a file stand for one tree at most. Numbers of tokens are below 2^63 in size.
-pub fn files_have_one_tree()
-    ensures { (tokens : List token) (one other : GameTree) → AllByRecursion IsShortToken tokens → IsTreeFile tokens one → IsTreeFile tokens other → one ≡ other }
-{}

@@ -1,0 +1,2 @@
+pub mod TreeFile
+pub mod TreeReading

@@ -1,0 +1,13 @@
+//! The information sets and the outcomes that the nodes of a tree's file use, numbered by their first use.
+#![tactic(auto)]
+
+mod actions;
+mod fault;
+mod outcomes;
+mod pieces;
+mod sets;
+
+pub use fault::EfgKind;
+pub use outcomes::{OutcomeBegun, Outcomes, read_outcome};
+pub use pieces::{begins_node, player};
+pub use sets::{SetBegun, SetKey, Sets, read_set};
