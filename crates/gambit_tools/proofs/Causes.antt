@@ -22,6 +22,7 @@ HasCause-bytes words command before after out_before out_after bytes refusal.Wri
 HasCause-bytes words command before after out_before out_after bytes refusal.TooLong e are refused = (command, e, known _ bytes refusal.TooLong are refused)
 HasCause-bytes words command before after out_before out_after bytes (refusal.Text fault) e are refused = (command, e, known _ bytes (refusal.Text fault) are refused)
 HasCause-bytes words command before after out_before out_after bytes (refusal.Nfg fault) e are refused = (command, e, known _ bytes (refusal.Nfg fault) are refused)
+HasCause-bytes words command before after out_before out_after bytes (refusal.Efg fault) e are refused = (command, e, known _ bytes (refusal.Efg fault) are refused)
 HasCause-bytes words command before after out_before out_after bytes (refusal.TooLarge counted count limit) e are refused = (command, e, known _ bytes (refusal.TooLarge counted count limit) are refused)
 HasCause-bytes words command before after out_before out_after bytes refusal.NotBuilt e are refused = (command, e, known _ bytes refusal.NotBuilt are refused)
 HasCause-bytes words command before after out_before out_after bytes refusal.Memory e are refused = elim refused [ ]
@@ -40,6 +41,7 @@ to_memory words before after out_before out_after refusal.WriteFault names cause
 to_memory words before after out_before out_after refusal.TooLong names cause = elim names [ ]
 to_memory words before after out_before out_after (refusal.Text fault) names cause = (cause.0, cause.1, tt)
 to_memory words before after out_before out_after (refusal.Nfg fault) names cause = (cause.0, cause.1, tt)
+to_memory words before after out_before out_after (refusal.Efg fault) names cause = (cause.0, cause.1, tt)
 to_memory words before after out_before out_after (refusal.TooLarge counted count limit) names cause = (cause.0, cause.1, tt)
 to_memory words before after out_before out_after refusal.NotBuilt names cause = elim names [ ]
 to_memory words before after out_before out_after refusal.Memory names cause = elim names [ ]
@@ -57,6 +59,7 @@ nothing words before out_before out_after refusal.WriteFault names writes = elim
 nothing words before out_before out_after refusal.TooLong names writes = elim names [ ]
 nothing words before out_before out_after (refusal.Text fault) names writes = writes
 nothing words before out_before out_after (refusal.Nfg fault) names writes = writes
+nothing words before out_before out_after (refusal.Efg fault) names writes = writes
 nothing words before out_before out_after (refusal.TooLarge counted count limit) names writes = writes
 nothing words before out_before out_after refusal.NotBuilt names writes = elim names [ ]
 nothing words before out_before out_after refusal.Memory names writes = elim names [ ]

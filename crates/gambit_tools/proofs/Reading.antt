@@ -16,5 +16,6 @@ IsReadingRefusal-piece left selected mid failed before between now refusal.TooLo
 IsReadingRefusal-piece left selected mid failed before between now refusal.NotBuilt e f p = elim p [ ]
 IsReadingRefusal-piece left selected mid failed before between now (refusal.Text fault) e f p = elim p [ ]
 IsReadingRefusal-piece left selected mid failed before between now (refusal.Nfg fault) e f p = elim p [ ]
+IsReadingRefusal-piece left selected mid failed before between now (refusal.Efg fault) e f p = elim p [ ]
 IsReadingRefusal-piece left selected mid failed before between now (refusal.TooLarge counted count limit) e f p = elim p [ ]
 IsReadingRefusal-piece left selected mid failed before between now refusal.Memory e f p = p ∙ f

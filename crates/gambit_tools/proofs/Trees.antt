@@ -1,13 +1,25 @@
--- how the tokens of a file of a tree begin
-use Rattle.std.proofs.Common.{ℕ, ◌≡◌, ◌∙◌, sym, ap, List, ◌∷◌, map, Bool, IsTrue, codes, eqb}
+-- how the tokens of a file of a tree begin, and how the file is refused
+use Rattle.std.proofs.Common.{ℕ, ◌≡◌, ◌≤◌, ◌++◌, ◌∙◌, inl, inr, sym, ap, subst, List, ◌∷◌, length, map, Bool, IsTrue, codes, eqb}
 use lib.Pointwise.{pointwise}
 use Rattle.std.proofs.lemmas.Bool.Decides.{Decides-eqb}
 use Rattle.std.proofs.lemmas.Slice.Eq.{slice_eq-Decides}
+use Rattle.game_core.specs.Tree.{GameTree, Place}
+use Rattle.game_core.specs.declared.too_large.TooLarge.{TooLarge}
+use Rattle.game_core.specs.declared.too_large.What.{What}
+use Rattle.game_core.specs.declared.too_large.What.TheVariants.{Nodes, Depth}
 use Rattle.game_text.specs.TokenList.{TokenList}
+use Rattle.game_text.specs.Tokens.{AreTokens}
 use Rattle.game_text.specs.declared.token.Spanned.{Spanned}
 use Rattle.game_text.specs.declared.token.Token.{Token}
-use Rattle.game_text.specs.declared.token.Token.TheVariants.{Word}
-use Rattle.gambit_tools.specs.Game.{BeginsAsTree, tokens_of}
+use Rattle.game_text.specs.declared.token.Token.TheVariants.{Text, Word}
+use Rattle.file_parts.specs.Parts.{whole_number, braced_texts}
+use Rattle.tree_files.specs.TreeFile.{IsBegunFile, PassesLimit}
+use Rattle.efg_reader.specs.Stops.{IsPassed}
+use Rattle.gambit_tools.specs.Input.{most_bytes}
+use Rattle.gambit_tools.specs.Game.{AreRefused, BeginsAsTree, tokens_of}
+use Rattle.gambit_tools.specs.TreeRefusals.{IsTreeRefusal}
+use Rattle.gambit_tools.specs.declared.refusal.Refusal.{Refusal}
+use Rattle.gambit_tools.specs.declared.refusal.Refusal.TheVariants as refusal
 
 -- a comparison of a word's bytes tells whether the word is the token
 pub word_is : (token : Token) (word bytes name : List ℕ) (b : Bool) → token ≡ Word word → bytes ≡ word → b ≡ pointwise eqb bytes name → (IsTrue b → token ≡ Word name) × (token ≡ Word name → IsTrue b)
@@ -26,3 +38,31 @@ begins_by_first tokens s rest b e is =
   where
     heads : (x y : Token) (xs ys : List Token) → x ∷ xs ≡ y ∷ ys → x ≡ y
     heads x y xs ys e = cc
+
+-- a file of a tree, which may be unfinished, begins as a tree
+pub begun_begins : (tokens : List Token) (tree : GameTree) (free : List Place) → IsBegunFile tokens tree free → BeginsAsTree tokens
+begun_begins tokens tree free file =
+    let front = file.is_front in
+    let header = front.is_header in
+    let rest : List Token = (whole_number 2 ∷ Word header.0 ∷ Text tree.title ∷ braced_texts tree.players ++ front.comment) ++ file.nodes in
+    (rest, file.are_tokens ∙ ap (λ x. x ++ file.nodes) (front.is_front ∙ ap (λ x. x ++ Text tree.title ∷ braced_texts tree.players ++ front.comment) header.2))
+
+-- a limit of trees that is passed is one of these
+pub some_limit : (tokens : List Token) (limit : TooLarge) → IsPassed tokens limit → (what : What) × PassesLimit tokens what
+some_limit tokens limit (inl p) = (Nodes, p.1)
+some_limit tokens limit (inr p) = (Depth, p.1)
+
+-- tokens that pass a limit of trees begin as a tree
+pub limit_begins : (tokens : List Token) (limit : TooLarge) → IsPassed tokens limit → BeginsAsTree tokens
+limit_begins tokens limit h =
+    let passed = (some_limit tokens limit h).1 in
+    let begun = begun_begins passed.begun passed.tree passed.free passed.is_begun in
+    (begun.0 ++ Word passed.word ∷ passed.rest, passed.are_tokens ∙ ap (λ x. x ++ Word passed.word ∷ passed.rest) begun.1)
+
+-- a refusal of the tokens of a tree is one of the bytes
+pub tree_refused : (bytes : List ℕ) (tokens : TokenList) (r : Refusal) → length bytes ≤ most_bytes → AreTokens bytes tokens → BeginsAsTree (tokens_of tokens) → IsTreeRefusal tokens r → AreRefused bytes r
+tree_refused bytes tokens (refusal.Efg fault) few are begins h =
+    (few, subst (λ n. fault.at ≤ n) are.to_the_end h.0, record { tokens = tokens; are_tokens = are; begins = begins; no_tree = h.1; no_limit = h.2 })
+tree_refused bytes tokens (refusal.TooLarge counted count limit) few are begins h = (few, inr (inr (record { tokens = tokens; are_tokens = are; is_passed = h })))
+tree_refused bytes tokens refusal.NotBuilt few are begins h = (few, record { tokens = tokens; are_tokens = are; tree = h.0; is_tree = h.1 })
+tree_refused bytes tokens _ few are begins h = elim h [ ]

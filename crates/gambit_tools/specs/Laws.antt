@@ -13,6 +13,7 @@ abbrev pub AreOfOneKind : Refusal → Refusal → Type 0
 AreOfOneKind refusal.TooLong refusal.TooLong = Unit {0}
 AreOfOneKind (refusal.Text one) (refusal.Text other) = one ≡ other
 AreOfOneKind (refusal.Nfg one) (refusal.Nfg other) = Unit {0}
+AreOfOneKind (refusal.Efg one) (refusal.Efg other) = Unit {0}
 AreOfOneKind (refusal.TooLarge _ _ _) (refusal.TooLarge _ _ _) = Unit {0}
 AreOfOneKind refusal.NotBuilt refusal.NotBuilt = Unit {0}
 AreOfOneKind _ _ = ⊥

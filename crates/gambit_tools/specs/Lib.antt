@@ -4,3 +4,4 @@ pub mod Laws
 pub mod Outcome
 pub mod Refusals
 pub mod Seen
+pub mod TreeRefusals

@@ -7,6 +7,11 @@ use Rattle.game_text.specs.declared.reading.TextKind.{TextKind}
 use Rattle.game_text.specs.declared.reading.TextKind.TheVariants as text_kind
 use Rattle.nfg_reader.specs.declared.reading.NfgKind.{NfgKind}
 use Rattle.nfg_reader.specs.declared.reading.NfgKind.TheVariants as nfg_kind
+use Rattle.frac128.specs.declared.steps.Op.{Op}
+use Rattle.frac128.specs.declared.steps.Op.TheVariants.{Add, Sub, Mul, Div}
+use Rattle.game_theory.specs.Lines.{number_text}
+use Rattle.tree_uses.specs.declared.fault.EfgKind.{EfgKind}
+use Rattle.tree_uses.specs.declared.fault.EfgKind.TheVariants as efg_kind
 use Rattle.words.specs.declared.Usage.{Usage}
 use Rattle.words.specs.declared.Usage.TheVariants as usage
 use Rattle.gambit_tools.specs.declared.refusal.Refusal.{Refusal}
@@ -21,6 +26,7 @@ status_of refusal.WriteFault = 4
 status_of refusal.TooLong = 1
 status_of (refusal.Text fault) = 1
 status_of (refusal.Nfg fault) = 1
+status_of (refusal.Efg fault) = 1
 status_of (refusal.TooLarge counted count limit) = 1
 status_of refusal.NotBuilt = 1
 status_of refusal.Memory = 5
@@ -49,6 +55,25 @@ nfg_kind_text nfg_kind.Outcome = codes "outcome"
 nfg_kind_text nfg_kind.PayoffCount = codes "payoff count"
 nfg_kind_text nfg_kind.Trailing = codes "trailing"
 
+abbrev pub op_text : Op → List ℕ
+op_text Add = codes "add"
+op_text Sub = codes "sub"
+op_text Mul = codes "mul"
+op_text Div = codes "div"
+
+abbrev pub efg_kind_text : EfgKind → List ℕ
+efg_kind_text efg_kind.Header = codes "header"
+efg_kind_text efg_kind.Players = codes "players"
+efg_kind_text efg_kind.Node = codes "node"
+efg_kind_text efg_kind.UnknownPlayer = codes "unknown player"
+efg_kind_text efg_kind.SetMismatch = codes "set mismatch"
+efg_kind_text (efg_kind.Probability set sum) = codes "probability of set " ++ decimal set ++ codes " sums to " ++ number_text sum
+efg_kind_text (efg_kind.ProbabilityRange set unfit) =
+    codes "probability of set " ++ decimal set ++ codes " out of range: " ++ op_text unfit.op ++ codes " " ++ number_text unfit.left ++ codes " " ++ number_text unfit.right
+efg_kind_text efg_kind.OutcomeMismatch = codes "outcome mismatch"
+efg_kind_text efg_kind.Unfinished = codes "unfinished"
+efg_kind_text efg_kind.Trailing = codes "trailing"
+
 abbrev pub what_text : What → List ℕ
 what_text what.Payoffs = codes "payoffs"
 what_text what.Choices = codes "choices"
@@ -68,6 +93,7 @@ refusal_text refusal.WriteFault = codes "write failed"
 refusal_text refusal.TooLong = codes "file longer than 16777216 bytes"
 refusal_text (refusal.Text fault) = codes "text fault at " ++ decimal fault.at ++ codes ": " ++ text_kind_text fault.kind
 refusal_text (refusal.Nfg fault) = codes "nfg fault at " ++ decimal fault.at ++ codes ": " ++ nfg_kind_text fault.kind
+refusal_text (refusal.Efg fault) = codes "efg fault at " ++ decimal fault.at ++ codes ": " ++ efg_kind_text fault.kind
 refusal_text (refusal.TooLarge counted count limit) = codes "too large: " ++ decimal count ++ codes " " ++ what_text counted ++ codes ", limit " ++ decimal limit
 refusal_text refusal.NotBuilt = codes "not built yet"
 refusal_text refusal.Memory = codes "out of memory"
@@ -80,6 +106,7 @@ refusal_line r = codes "gambit: " ++ refusal_text r ++ 10 ∷ []
 abbrev pub NamesNumbers : Refusal → Type 0
 NamesNumbers (refusal.Text fault) = Unit {0}
 NamesNumbers (refusal.Nfg fault) = Unit {0}
+NamesNumbers (refusal.Efg fault) = Unit {0}
 NamesNumbers (refusal.TooLarge counted count limit) = Unit {0}
 NamesNumbers _ = ⊥
 

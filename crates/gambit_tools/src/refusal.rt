@@ -1,8 +1,12 @@
 // How a run is refused.
 ghost use Rattle.std.specs.Prelude.{◌≡◌, IfOk, MatchOption, string_bytes};
-ghost use Rattle.gambit_tools.specs.Refusals.{text_kind_text, nfg_kind_text, what_text, refusal_line};
+ghost use Rattle.gambit_tools.specs.Refusals.{text_kind_text, nfg_kind_text, efg_kind_text, op_text, what_text, refusal_line};
+ghost use Rattle.game_theory.specs.Lines.{number_text};
+ghost use Rattle.tree_uses.specs.declared.fault.EfgKind.TheVariants.{Probability, ProbabilityRange};
 ghost use Rattle.gambit_tools.specs.declared.refusal.Refusal.TheVariants as refusal;
 
+use efg_reader::{EfgFault, EfgKind};
+use frac128::{Frac, Op, Unfit};
 use game_core::{TooLarge, What};
 use game_text::{TextFault, TextKind};
 use memory::Memory;
@@ -36,6 +40,9 @@ pub enum Refusal {
     /// The tokens are no file of a table.
     #[error("nfg fault")]
     Nfg(NfgFault),
+    /// The tokens are no file of a tree.
+    #[error("efg fault")]
+    Efg(EfgFault),
     /// A count passed its limit.
     #[error("too large")]
     TooLarge { what: What, count: u64, limit: u64 },
@@ -73,6 +80,68 @@ fn nfg_kind_text(kind: NfgKind) -> &'static str
     }
 }
 
+// The words for a step.
+fn op_text(op: Op) -> &'static str
+    ensures { result.now ≡ op_text op }
+{
+    match op {
+        Op::Add => "add",
+        Op::Sub => "sub",
+        Op::Mul => "mul",
+        Op::Div => "div",
+    }
+}
+
+// The text of a fraction.
+fn fraction(alloc: Global, value: Frac) -> Result<String, Memory>
+    ensures { IfOk result (λ text. string_bytes text ≡ number_text value) }
+{
+    let num = value.num();
+    let den = value.den();
+    if den == 1 {
+        Ok(format!(in alloc; "{num}")?)
+    } else {
+        Ok(format!(in alloc; "{num}/{den}")?)
+    }
+}
+
+// The words for a kind of fault in a file of a tree.
+fn efg_kind_text(alloc: Global, kind: EfgKind) -> Result<String, Memory>
+    ensures { IfOk result (λ text. string_bytes text ≡ efg_kind_text kind) }
+{
+    let text = match kind {
+        EfgKind::Header => "header",
+        EfgKind::Players => "players",
+        EfgKind::Node => "node",
+        EfgKind::UnknownPlayer => "unknown player",
+        EfgKind::SetMismatch => "set mismatch",
+        EfgKind::OutcomeMismatch => "outcome mismatch",
+        EfgKind::Unfinished => "unfinished",
+        EfgKind::Trailing => "trailing",
+        EfgKind::Probability { set, sum } => return probability_text(alloc, set, sum),
+        EfgKind::ProbabilityRange { set, unfit } => return range_text(alloc, set, unfit),
+    };
+    Ok(String::from_str(alloc, text)?)
+}
+
+// The words for probabilities with this sum.
+fn probability_text(alloc: Global, set: u64, sum: Frac) -> Result<String, Memory>
+    ensures { IfOk result (λ text. string_bytes text ≡ efg_kind_text (Probability set sum)) }
+{
+    let sum = fraction(alloc, sum)?;
+    Ok(format!(in alloc; "probability of set {set} sums to {sum}")?)
+}
+
+// The words for a probability that can't be added.
+fn range_text(alloc: Global, set: u64, unfit: Unfit) -> Result<String, Memory>
+    ensures { IfOk result (λ text. string_bytes text ≡ efg_kind_text (ProbabilityRange set unfit)) }
+{
+    let op = op_text(unfit.op);
+    let left = fraction(alloc, unfit.left)?;
+    let right = fraction(alloc, unfit.right)?;
+    Ok(format!(in alloc; "probability of set {set} out of range: {op} {left} {right}")?)
+}
+
 // The words for what is counted against a limit.
 fn what_text(what: What) -> &'static str
     ensures { result.now ≡ what_text what }
@@ -105,6 +174,7 @@ impl Refusal {
             Refusal::TooLong
             | Refusal::Text(_)
             | Refusal::Nfg(_)
+            | Refusal::Efg(_)
             | Refusal::TooLarge { .. }
             | Refusal::NotBuilt => 1,
             Refusal::Memory => 5,
@@ -125,7 +195,7 @@ impl Refusal {
             Refusal::TooLong => Some("gambit: file longer than 16777216 bytes\n"),
             Refusal::NotBuilt => Some("gambit: not built yet\n"),
             Refusal::Memory => Some("gambit: out of memory\n"),
-            Refusal::Text(_) | Refusal::Nfg(_) | Refusal::TooLarge { .. } => None,
+            Refusal::Text(_) | Refusal::Nfg(_) | Refusal::Efg(_) | Refusal::TooLarge { .. } => None,
         }
     }
 
@@ -136,6 +206,7 @@ impl Refusal {
         match self {
             Refusal::Text(fault) => text_line(alloc, *fault),
             Refusal::Nfg(fault) => nfg_line(alloc, *fault),
+            Refusal::Efg(fault) => efg_line(alloc, *fault),
             Refusal::TooLarge { what, count, limit } => {
                 let passed = TooLarge {
                     what: *what,
@@ -166,6 +237,14 @@ fn nfg_line(alloc: Global, fault: NfgFault) -> Result<String, Memory>
     let at = fault.at;
     let kind = nfg_kind_text(fault.kind);
     Ok(format!(in alloc; "gambit: nfg fault at {at}: {kind}\n")?)
+}
+
+fn efg_line(alloc: Global, fault: EfgFault) -> Result<String, Memory>
+    ensures { IfOk result (λ line. string_bytes line ≡ refusal_line (refusal.Efg fault)) }
+{
+    let at = fault.at;
+    let kind = efg_kind_text(alloc, fault.kind)?;
+    Ok(format!(in alloc; "gambit: efg fault at {at}: {kind}\n")?)
 }
 
 fn limit_line(alloc: Global, passed: TooLarge) -> Result<String, Memory>

@@ -1,11 +1,12 @@
 // The top call.
-ghost use Rattle.std.specs.Prelude.{option_map, ◌≡◌, ℕ, ◌<◌, ◌≤◌, ◌⊎◌, ◌↔◌, List, Option, None, Some, length, map, codes, string_bytes, IsTrue, IfOk, IfErr};
+ghost use Rattle.std.specs.Prelude.{option_map, ◌≡◌, ℕ, ◌<◌, ◌≤◌, ◌^◌, ◌⊎◌, ◌↔◌, List, Option, None, Some, length, map, codes, string_bytes, IsTrue, IfOk, IfErr};
 ghost use Rattle.std.specs.Result.{result_err};
 ghost use Rattle.outside.specs.Inputs.{InputName};
 ghost use Rattle.words.specs.Words.{command_of};
 ghost use Rattle.gambit_tools.specs.Seen.{inputs_seen, sink_seen};
 ghost use Rattle.gambit_tools.specs.Input.{CountsTell, most_bytes};
 ghost use Rattle.gambit_tools.specs.Game.{IsTextOf, AreRefused, BeginsAsTree, tokens_of};
+ghost use Rattle.gambit_tools.specs.TreeRefusals.{IsTreeRefusal};
 ghost use Rattle.gambit_tools.specs.Refusals.{status_of, IsToldAs, NamesNumbers};
 ghost use Rattle.gambit_tools.specs.Laws.{RefusalsAreExact};
 ghost use Rattle.gambit_tools.specs.Outcome.{input_of, HasCause, Writes, Tells, TakesLine, IsOutcome, IsAccepted, NoFault};
@@ -15,6 +16,7 @@ ghost use Rattle.game_text.specs.declared.token.Token.TheVariants as token_kind;
 use crate::input::read_input;
 use crate::output::write_text;
 use crate::refusal::Refusal;
+use efg_reader::EfgStop;
 use enumpure::{ListStop, list_pure_equilibria};
 use game_core::TooLarge;
 use game_text::{TextStop, Token, Tokens, read_tokens};
@@ -45,13 +47,27 @@ fn is_tree_word(token: &Token) -> bool
     }
 }
 
-/// Whether the tokens begin as those of a file of a tree.
+/// Whether the tokens begin as those of a file of a tree. There are no more tokens than bytes.
 fn begins_as_tree(tokens: &Tokens) -> bool
-    ensures { IsTrue result ↔ BeginsAsTree (tokens_of tokens.now) }
+    ensures begins { IsTrue result ↔ BeginsAsTree (tokens_of tokens.now) }
+    ensures few { length tokens.now.list ≤ tokens.now.length }
 {
     match tokens.list().split_first() {
         Some((spanned, _)) => is_tree_word(&spanned.token),
         None => false,
+    }
+}
+
+/// The refusal for a file that begins as that of a tree: trees are read, and nothing is done with them yet.
+fn tree_refusal(alloc: Global, tokens: &Tokens) -> Refusal
+    requires few { length tokens.now.list < 2 ^ 32 }
+    ensures { (result ≡ Refusal.Memory) ⊎ IsTreeRefusal tokens.now result }
+{
+    match efg_reader::read(alloc, tokens) {
+        Ok(_tree) => Refusal::NotBuilt,
+        Err(EfgStop::Fault(fault)) => Refusal::Efg(fault),
+        Err(EfgStop::TooLarge(passed)) => too_large(passed),
+        Err(EfgStop::Memory) => Refusal::Memory,
     }
 }
 
@@ -67,7 +83,7 @@ fn pure_equilibria_text(alloc: Global, bytes: &[u8]) -> Result<Vec<u8>, Refusal>
         Err(TextStop::Memory) => return Err(Refusal::Memory),
     };
     if begins_as_tree(&tokens) {
-        return Err(Refusal::NotBuilt);
+        return Err(tree_refusal(alloc, &tokens));
     }
     let table = match read(alloc, &tokens) {
         Ok(table) => table,

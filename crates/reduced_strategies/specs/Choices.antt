@@ -1,0 +1,52 @@
+-- Reduced strategies of a game tree. Source: von Stengel 1996; Kuhn 1953.
+use Rattle.std.specs.Prelude.{ℕ, zero, suc, ◌<◌, ◌≤◌, ◌≡◌, ◌⊎◌, ◌↔◌, ◌==◌, if◌then◌else◌, List, [], ◌∷◌, length, All, Contains, Some}
+use Rattle.game_trees.specs.Trees.{Tree}
+use Rattle.game_trees.specs.Behaviour.{is_own}
+use Rattle.game_trees.specs.Recall.{own_history}
+
+-- the sets below n that are player i's own, in order
+abbrev pub own_below : Tree → ℕ → ℕ → List ℕ → List ℕ
+own_below t i zero later = later
+own_below t i (suc n) later = own_below t i n (if is_own t i n then n ∷ later else later)
+
+-- player i's own sets, in order
+abbrev pub own_sets : Tree → ℕ → List ℕ
+own_sets t i = own_below t i t.sets []
+
+-- A choice list gives each own set in order an action, counted from 1, or 0, which is written `*`, for none. This is what a list
+-- gives a set, where the list is of these sets; to any other set it gives none.
+abbrev pub choice_at : List ℕ → List ℕ → ℕ → ℕ
+choice_at (set ∷ sets) (choice ∷ choices) s = if set == s then choice else choice_at sets choices s
+choice_at _ _ s = 0
+
+-- a history agrees with choices: each action in it is chosen at its set
+abbrev pub Agrees : (ℕ → ℕ) → List (ℕ × ℕ) → Type 0
+Agrees choice [] = Unit {0}
+Agrees choice (step ∷ history) = (choice step.0 ≡ suc step.1) × Agrees choice history
+
+-- a set is reached under choices of player i: some member's own history agrees with them
+abbrev pub IsReached : Tree → ℕ → (ℕ → ℕ) → ℕ → Type 0
+IsReached t i choice s = (k : ℕ) × (k < t.size) × (t.set k ≡ Some s) × Agrees choice (own_history t i k)
+
+-- A reduced strategy of player i: a choice list that has an action at a set exactly where the set is reached under it.
+pub record IsReduced (t : Tree) (i : ℕ) (choices : List ℕ) : Type 0 where
+  pub one_for_each : length choices ≡ length (own_sets t i)
+  pub are_actions : (s : ℕ) → choice_at (own_sets t i) choices s ≤ t.actions s
+  pub fixed_where_reached : (s : ℕ) → s < t.sets → t.owner s ≡ Some i → (0 < choice_at (own_sets t i) choices s) ↔ IsReached t i (choice_at (own_sets t i) choices) s
+
+-- the first list comes before the second: at the first set that differs it has the smaller number, and `*` is before all actions
+abbrev pub ComesBefore : List ℕ → List ℕ → Type 0
+ComesBefore (a ∷ rest) (b ∷ others) = (a < b) ⊎ ((a ≡ b) × ComesBefore rest others)
+ComesBefore _ _ = ⊥
+
+-- each list comes before the next, so that none stands twice
+abbrev pub AreAscending : List (List ℕ) → Type 0
+AreAscending [] = Unit {0}
+AreAscending (a ∷ []) = Unit {0}
+AreAscending (a ∷ b ∷ lists) = ComesBefore a b × AreAscending (b ∷ lists)
+
+-- the reduced strategies of player i: all of them, each once, in order
+pub record AreReducedStrategies (t : Tree) (i : ℕ) (strategies : List (List ℕ)) : Type 0 where
+  pub ascending : AreAscending strategies
+  pub sound : All (IsReduced t i) strategies
+  pub complete : (choices : List ℕ) → IsReduced t i choices → Contains strategies choices

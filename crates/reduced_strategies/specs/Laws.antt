@@ -1,0 +1,51 @@
+-- The laws of reduced strategies, each carried by the contract of a function of this crate. None wants perfect recall.
+use Rattle.std.specs.Prelude.{ℕ, suc, ◌<◌, ◌≡◌, List, map, length, Some}
+use Rattle.game_theory.specs.Profiles.{IsProfile}
+use Rattle.game_theory.specs.Mixed.{pure as pure_profile}
+use Rattle.game_theory.specs.Equilibrium.{IsEquilibrium as is_table_equilibrium}
+use Rattle.game_trees.specs.Trees.{Tree, IsTree}
+use Rattle.game_trees.specs.Behaviour.{IsChoice, payoff, pure}
+use Rattle.game_trees.specs.Equilibrium.{IsEquilibrium}
+use Rattle.reduced_strategies.specs.Choices.{IsReduced, own_sets, choice_at, AreReducedStrategies}
+use Rattle.reduced_strategies.specs.StrategicForm.{AreStrategies, IsCompletion, completed, strategic_form}
+
+-- every completion of a profile pays its cell
+abbrev pub CompletionsPayTheCell : Type 0
+CompletionsPayTheCell =
+    (t : Tree) (strategies : List (List (List ℕ))) (profile : List ℕ) (choice : ℕ → ℕ) (i : ℕ) → IsTree t → AreStrategies t strategies
+    → IsProfile (map length strategies) profile → IsCompletion t strategies profile choice
+    → payoff t (pure choice) i ≡ payoff t (pure (completed t strategies profile)) i
+
+-- the profile with first actions is a completion
+abbrev pub FirstActionsComplete : Type 0
+FirstActionsComplete =
+    (t : Tree) (strategies : List (List (List ℕ))) (profile : List ℕ) → IsTree t → AreStrategies t strategies
+    → IsProfile (map length strategies) profile → IsCompletion t strategies profile (completed t strategies profile)
+
+-- every choice of actions has its reduced strategy, which it completes
+pub record HasReduced (t : Tree) (i : ℕ) (choice : ℕ → ℕ) : Type 0 where
+  pub choices : List ℕ
+  pub is_reduced : IsReduced t i choices
+  pub is_completed : (s : ℕ) → 0 < choice_at (own_sets t i) choices s → choice_at (own_sets t i) choices s ≡ suc (choice s)
+
+abbrev pub ChoicesHaveReduced : Type 0
+ChoicesHaveReduced = (t : Tree) (i : ℕ) (choice : ℕ → ℕ) → IsTree t → IsChoice t i choice → HasReduced t i choice
+
+-- a pure equilibrium of the strategic form, completed, is an equilibrium of the tree: no player has a better pure reply there
+abbrev pub PureEquilibriaHoldOnTheTree : Type 0
+PureEquilibriaHoldOnTheTree =
+    (t : Tree) (strategies : List (List (List ℕ))) (profile : List ℕ) → IsTree t → AreStrategies t strategies
+    → IsProfile (map length strategies) profile → is_table_equilibrium (strategic_form t strategies) (pure_profile profile)
+    → IsEquilibrium t (pure (completed t strategies profile))
+
+-- completed choices tell the reduced strategies
+abbrev pub CompletedChoicesTellStrategies : Type 0
+CompletedChoicesTellStrategies =
+    (t : Tree) (strategies : List (List (List ℕ))) (one other : List ℕ) → IsTree t → AreStrategies t strategies
+    → IsProfile (map length strategies) one → IsProfile (map length strategies) other
+    → ((s i : ℕ) → s < t.sets → t.owner s ≡ Some i → completed t strategies one s ≡ completed t strategies other s)
+    → one ≡ other
+
+-- a player has one list of reduced strategies
+abbrev pub OneListOfStrategies : Type 0
+OneListOfStrategies = (t : Tree) (i : ℕ) (one other : List (List ℕ)) → AreReducedStrategies t i one → AreReducedStrategies t i other → one ≡ other
