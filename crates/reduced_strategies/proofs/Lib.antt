@@ -1,5 +1,7 @@
+pub mod Alone
 pub mod Completions
 pub mod Histories
+pub mod Nodes
 pub mod Reached
 pub mod ReducedStrategies
 pub mod Sets

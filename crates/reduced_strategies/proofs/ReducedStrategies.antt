@@ -76,14 +76,13 @@ reduced-fixed t i choice w s l o =
       λ h. subst (λ x. 0 < x) (sym (reduced-reached t i choice s (own_sets-has t i s l o) (IsReached-same t i list (λ x. suc (choice x)) w same s h))) (omega arith),
     )
 
--- every choice of actions has its reduced strategy
-pub choices-have_reduced : ChoicesHaveReduced
-choices-have_reduced t i choice w c =
-    record {
-      choices = reduced t i choice;
-      is_reduced = record { one_for_each = length-map (own_sets t i) (reached_action t i choice); are_actions = reduced-actions t i choice c; fixed_where_reached = reduced-fixed t i choice w };
-      is_completed = λ s h. (reduced-given t i choice s h).2;
-    }
+-- it is a reduced strategy
+reduced-reduced : (t : Tree) (i : ℕ) (choice : ℕ → ℕ) → IsTree t → IsChoice t i choice → IsReduced t i (reduced t i choice)
+reduced-reduced t i choice w c = record { one_for_each = length-map (own_sets t i) (reached_action t i choice); are_actions = reduced-actions t i choice c; fixed_where_reached = reduced-fixed t i choice w }
+
+-- the choice completes it
+reduced-completed : (t : Tree) (i : ℕ) (choice : ℕ → ℕ) → CompletesList t i choice (reduced t i choice)
+reduced-completed t i choice s h = (reduced-given t i choice s h).2
 
 -- ---- there is no other
 -- a reduced strategy is the same as the choices that complete it where they are reached
@@ -109,3 +108,13 @@ positive_alike (suc x) (suc y) z f g h k = h (omega arith) ∙ sym (k (omega ari
 pub reduced-unique : (t : Tree) (i : ℕ) (choice : ℕ → ℕ) (xs ys : List ℕ) → IsTree t → IsReduced t i xs → IsReduced t i ys → CompletesList t i choice xs → CompletesList t i choice ys → xs ≡ ys
 reduced-unique t i choice xs ys w p q c d =
     choice_at-determines 0 (own_sets t i) xs ys (own_sets-ascend t i) p.one_for_each q.one_for_each (λ s. positive_alike _ _ (suc (choice s)) (given-alike t i choice xs ys w p q c d s) (given-alike t i choice ys xs w q p d c s) (c s) (d s))
+
+-- every choice of actions completes exactly one reduced strategy
+pub choices-have_reduced : ChoicesHaveReduced
+choices-have_reduced t i choice w c =
+    record {
+      choices = reduced t i choice;
+      is_reduced = reduced-reduced t i choice w c;
+      is_completed = reduced-completed t i choice;
+      only_one = λ other r d. reduced-unique t i choice other (reduced t i choice) w r (reduced-reduced t i choice w c) d (reduced-completed t i choice);
+    }

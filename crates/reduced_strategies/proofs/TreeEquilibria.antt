@@ -1,21 +1,23 @@
--- A pure equilibrium of the strategic form holds on the tree.
-use Rattle.std.proofs.Common.{ℕ, suc, ◌<◌, ◌≡◌, ◌≢◌, inl, inr, Bool, true, false, Decides, Some, List, [], length, map, get_or, set, refl, sym, ap, ◌∙◌, subst, subst₂, arith}
+-- The pure equilibria of the strategic form are those of the tree.
+use Rattle.std.proofs.Common.{ℕ, suc, ◌-◌, ◌<◌, ◌≡◌, ◌≢◌, inl, inr, Bool, true, false, Decides, Some, List, [], length, map, get_or, set, refl, sym, ap, ◌∙◌, subst, subst₂, arith}
 use Rattle.std.specs.Prelude.{if◌then◌else◌}
 use Rattle.std.proofs.lemmas.Bool.{cases_eq}
 use Rattle.std.proofs.lemmas.List.{length-map, get_or-set_same, get_or-set_other, get_or_default}
 use Rattle.rational.specs.Rational.{◌≤ℚ◌}
 use Rattle.game_theory.specs.Profiles.{IsProfile, number_of}
-use Rattle.game_theory.specs.Mixed.{sure}
+use Rattle.game_theory.specs.Mixed.{sure, pure as pure_profile}
+use Rattle.game_theory.specs.Equilibrium.{IsEquilibrium as is_table_equilibrium}
 use Rattle.game_theory.specs.Laws.{NoGreaterCell}
 use Rattle.game_theory.proofs.SureStrategies.{sure-not_negative, sum_to-sure}
 use Rattle.game_theory.proofs.ProfileNumbers.{length-profile, profile_at-number_of, IsProfile-exchange}
-use Rattle.game_theory.proofs.PureProfiles.{NoGreaterCell-equilibrium}
+use Rattle.game_theory.proofs.PureProfiles.{NoGreaterCell-equilibrium, IsEquilibrium-by_cells}
 use Rattle.game_trees.specs.Trees.{Tree, IsTree}
 use Rattle.game_trees.specs.Behaviour.{IsValid, IsChoice, is_own, payoff, pure, reply}
+use Rattle.game_trees.specs.Equilibrium.{IsEquilibrium}
 use Rattle.game_trees.proofs.Subtrees.{value-agree}
 use Rattle.reduced_strategies.specs.Choices.{own_sets, choice_at}
 use Rattle.reduced_strategies.specs.StrategicForm.{AreStrategies, list_of, given_at, completed, IsCompletion, strategic_form}
-use Rattle.reduced_strategies.specs.Laws.{PureEquilibriaHoldOnTheTree}
+use Rattle.reduced_strategies.specs.Laws.{PureEquilibriaAreThoseOfTheTree}
 use Rattle.reduced_strategies.proofs.Sets.{is_own-decides}
 use Rattle.reduced_strategies.proofs.ReducedStrategies.{CompletesList, choices-have_reduced}
 use Rattle.reduced_strategies.proofs.StrategyProfiles.{strategies-count, strategies-of, given_at-own, first_actions-complete}
@@ -62,6 +64,17 @@ completed-valid t strategies profile w a f =
     }
 
 -- ---- one player's strategy exchanged
+-- the others' lists are as before
+list_of-kept : (strategies : List (List (List ℕ))) (profile : List ℕ) (i n j : ℕ) → j ≢ i → list_of strategies (set profile i n) j ≡ list_of strategies profile j
+list_of-kept strategies profile i n j apart = ap (λ x. get_or (get_or strategies j []) x []) (get_or-set_other profile i j n 0 apart)
+
+-- and so is what the profile gives their sets
+given_at-kept : (t : Tree) (strategies : List (List (List ℕ))) (profile : List ℕ) (i n s j : ℕ) → t.owner s ≡ Some j → j ≢ i → given_at t strategies (set profile i n) s ≡ given_at t strategies profile s
+given_at-kept t strategies profile i n s j o apart =
+    given_at-own t strategies (set profile i n) s j o
+    ∙ ap (λ x. choice_at (own_sets t j) x s) (list_of-kept strategies profile i n j apart)
+    ∙ sym (given_at-own t strategies profile s j o)
+
 -- first actions, but player i's own sets by a choice
 abbrev replied : Tree → List (List (List ℕ)) → List ℕ → ℕ → (ℕ → ℕ) → ℕ → ℕ
 replied t strategies profile i choice = by_owner t i choice (completed t strategies profile)
@@ -90,10 +103,6 @@ module _ (t : Tree) (strategies : List (List (List ℕ))) (profile : List ℕ) (
       let long = length-profile (map length strategies) profile f in
       ap (λ x. get_or (get_or strategies i []) x []) (get_or-set_same profile i n 0 (omega (arith, player-within, long)))
 
-  -- the others' lists are as before
-  list_of-kept : (j : ℕ) → j ≢ i → list_of strategies (set profile i n) j ≡ list_of strategies profile j
-  list_of-kept j apart = ap (λ x. get_or (get_or strategies j []) x []) (get_or-set_other profile i j n 0 apart)
-
   -- the reply completes the new profile at the player's sets
   reply-completes_own : (s : ℕ) → s < t.sets → t.owner s ≡ Some i → CompletesAt t strategies (set profile i n) (replied t strategies profile i choice) s
   reply-completes_own s m o =
@@ -105,8 +114,7 @@ module _ (t : Tree) (strategies : List (List (List ℕ))) (profile : List ℕ) (
   reply-completes_other : (s j : ℕ) → s < t.sets → t.owner s ≡ Some j → j ≢ i → CompletesAt t strategies (set profile i n) (replied t strategies profile i choice) s
   reply-completes_other s j m o apart =
       let same = by_owner-other t i j choice (completed t strategies profile) s o apart in
-      let kept = ap (λ x. choice_at (own_sets t j) x s) (list_of-kept j apart) in
-      let given = given_at-own t strategies (set profile i n) s j o ∙ kept ∙ sym (given_at-own t strategies profile s j o) in
+      let given = given_at-kept t strategies profile i n s j o apart in
       CompletesAt-same t strategies profile (set profile i n) (completed t strategies profile) (replied t strategies profile i choice) s same given (first_actions-complete t strategies profile w a f s j m o)
 
   -- so it completes the new profile
@@ -135,9 +143,43 @@ no_better_reply t strategies profile i choice w a f best player c =
     reply-no_better t strategies profile i member.0 choice w a f player member.1 c (subst (CompletesList t i choice) (sym place) h.is_completed) best
 
 -- a pure equilibrium of the strategic form, completed, is an equilibrium of the tree
-pub equilibria-hold : PureEquilibriaHoldOnTheTree
-equilibria-hold t strategies profile w a f e =
+equilibrium-of_table : (t : Tree) (strategies : List (List (List ℕ))) (profile : List ℕ) → IsTree t → AreStrategies t strategies → IsProfile (map length strategies) profile
+    → is_table_equilibrium (strategic_form t strategies) (pure_profile profile) → IsEquilibrium t (pure (completed t strategies profile))
+equilibrium-of_table t strategies profile w a f e =
     record {
       valid = completed-valid t strategies profile w a f;
       no_better_reply = λ i choice player c. no_better_reply t strategies profile i choice w a f (NoGreaterCell-equilibrium (strategic_form t strategies) profile f e) player c;
     }
+
+-- ---- from the tree to the strategic form
+-- first actions, but player i's own sets by the first actions of strategy n, are the first actions of the profile with that strategy
+replied-completed : (t : Tree) (strategies : List (List (List ℕ))) (profile : List ℕ) (i n s j : ℕ) → t.owner s ≡ Some j → replied t strategies profile i (completed t strategies (set profile i n)) s ≡ completed t strategies (set profile i n) s
+replied-completed t strategies profile i n s j o = elim (cases_eq j i) [ inl e ↦ own (o ∙ ap Some e) | inr e ↦ other e ]
+  where
+    own : t.owner s ≡ Some i → replied t strategies profile i (completed t strategies (set profile i n)) s ≡ completed t strategies (set profile i n) s
+    own p = by_owner-own t i (completed t strategies (set profile i n)) (completed t strategies profile) s p
+
+    other : j ≢ i → replied t strategies profile i (completed t strategies (set profile i n)) s ≡ completed t strategies (set profile i n) s
+    other apart =
+        by_owner-other t i j (completed t strategies (set profile i n)) (completed t strategies profile) s o apart
+        ∙ ap (λ x. x - 1) (sym (given_at-kept t strategies profile i n s j o apart))
+
+-- so the reply by them pays the cell of that profile
+first_actions-pay : (t : Tree) (strategies : List (List (List ℕ))) (profile : List ℕ) (i n : ℕ) → IsTree t → IsProfile (map length strategies) (set profile i n)
+    → payoff t (reply t (pure (completed t strategies profile)) i (completed t strategies (set profile i n))) i ≡ (strategic_form t strategies).pays i (number_of (map length strategies) (set profile i n))
+first_actions-pay t strategies profile i n w g =
+    let same = value-agree t (pure (replied t strategies profile i (completed t strategies (set profile i n)))) (pure (completed t strategies (set profile i n))) i 0 w w.some_node (λ c s j a p l e o m. ap (λ x. sure x a) (replied-completed t strategies profile i n s j o)) in
+    payoff-reply t i i (completed t strategies (set profile i n)) (completed t strategies profile) w ∙ same ∙ sym (pays-cell t strategies (set profile i n) i g)
+
+-- and at an equilibrium of the tree no cell by another strategy pays its player more
+cells-no_greater : (t : Tree) (strategies : List (List (List ℕ))) (profile : List ℕ) → IsTree t → AreStrategies t strategies → IsProfile (map length strategies) profile → IsEquilibrium t (pure (completed t strategies profile)) → NoGreaterCell (strategic_form t strategies) profile
+cells-no_greater t strategies profile w a f e i n l b =
+    let exchanged = IsProfile-exchange (map length strategies) profile i n f l b in
+    let player : i < t.players = omega (arith, a.one_for_each, length-map strategies (length {A = List ℕ})) in
+    let best = e.no_better_reply i (completed t strategies (set profile i n)) player (λ s m o. (first_actions-complete t strategies (set profile i n) w a exchanged s i m o).0) in
+    subst₂ (λ x y. x ≤ℚ y) (first_actions-pay t strategies profile i n w exchanged) (sym (pays-cell t strategies profile i f)) best
+
+-- the pure equilibria of the strategic form are those of the tree
+pub equilibria-same : PureEquilibriaAreThoseOfTheTree
+equilibria-same t strategies profile w a f =
+    (equilibrium-of_table t strategies profile w a f, λ e. IsEquilibrium-by_cells (strategic_form t strategies) profile f (cells-no_greater t strategies profile w a f e))

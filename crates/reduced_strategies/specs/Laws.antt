@@ -1,12 +1,13 @@
 -- The laws of reduced strategies, each carried by the contract of a function of this crate. None wants perfect recall.
-use Rattle.std.specs.Prelude.{ℕ, suc, ◌<◌, ◌≡◌, List, map, length, Some}
+use Rattle.std.specs.Prelude.{ℕ, suc, ◌<◌, ◌≡◌, ◌↔◌, List, map, length, Some}
 use Rattle.game_theory.specs.Profiles.{IsProfile}
 use Rattle.game_theory.specs.Mixed.{pure as pure_profile}
 use Rattle.game_theory.specs.Equilibrium.{IsEquilibrium as is_table_equilibrium}
 use Rattle.game_trees.specs.Trees.{Tree, IsTree}
 use Rattle.game_trees.specs.Behaviour.{IsChoice, payoff, pure}
 use Rattle.game_trees.specs.Equilibrium.{IsEquilibrium}
-use Rattle.reduced_strategies.specs.Choices.{IsReduced, own_sets, choice_at, AreReducedStrategies}
+use Rattle.game_trees.specs.Recall.{own_history}
+use Rattle.reduced_strategies.specs.Choices.{IsReduced, Agrees, own_sets, choice_at, AreReducedStrategies}
 use Rattle.reduced_strategies.specs.StrategicForm.{AreStrategies, IsCompletion, completed, strategic_form}
 
 -- every completion of a profile pays its cell
@@ -22,21 +23,22 @@ FirstActionsComplete =
     (t : Tree) (strategies : List (List (List ℕ))) (profile : List ℕ) → IsTree t → AreStrategies t strategies
     → IsProfile (map length strategies) profile → IsCompletion t strategies profile (completed t strategies profile)
 
--- every choice of actions has its reduced strategy, which it completes
+-- every choice of actions has its reduced strategy, which it completes, and completes no other
 pub record HasReduced (t : Tree) (i : ℕ) (choice : ℕ → ℕ) : Type 0 where
   pub choices : List ℕ
   pub is_reduced : IsReduced t i choices
   pub is_completed : (s : ℕ) → 0 < choice_at (own_sets t i) choices s → choice_at (own_sets t i) choices s ≡ suc (choice s)
+  pub only_one : (other : List ℕ) → IsReduced t i other → ((s : ℕ) → 0 < choice_at (own_sets t i) other s → choice_at (own_sets t i) other s ≡ suc (choice s)) → other ≡ choices
 
 abbrev pub ChoicesHaveReduced : Type 0
 ChoicesHaveReduced = (t : Tree) (i : ℕ) (choice : ℕ → ℕ) → IsTree t → IsChoice t i choice → HasReduced t i choice
 
--- a pure equilibrium of the strategic form, completed, is an equilibrium of the tree: no player has a better pure reply there
-abbrev pub PureEquilibriaHoldOnTheTree : Type 0
-PureEquilibriaHoldOnTheTree =
+-- a profile is an equilibrium of the strategic form exactly where, completed, it is one of the tree: no player has a better pure reply
+abbrev pub PureEquilibriaAreThoseOfTheTree : Type 0
+PureEquilibriaAreThoseOfTheTree =
     (t : Tree) (strategies : List (List (List ℕ))) (profile : List ℕ) → IsTree t → AreStrategies t strategies
-    → IsProfile (map length strategies) profile → is_table_equilibrium (strategic_form t strategies) (pure_profile profile)
-    → IsEquilibrium t (pure (completed t strategies profile))
+    → IsProfile (map length strategies) profile
+    → is_table_equilibrium (strategic_form t strategies) (pure_profile profile) ↔ IsEquilibrium t (pure (completed t strategies profile))
 
 -- completed choices tell the reduced strategies
 abbrev pub CompletedChoicesTellStrategies : Type 0
@@ -49,3 +51,10 @@ CompletedChoicesTellStrategies =
 -- a player has one list of reduced strategies
 abbrev pub OneListOfStrategies : Type 0
 OneListOfStrategies = (t : Tree) (i : ℕ) (one other : List (List ℕ)) → AreReducedStrategies t i one → AreReducedStrategies t i other → one ≡ other
+
+-- two reduced strategies under which the same nodes can be reached are one
+abbrev pub NodesTellStrategies : Type 0
+NodesTellStrategies =
+    (t : Tree) (i : ℕ) (one other : List ℕ) → IsTree t → IsReduced t i one → IsReduced t i other
+    → ((k : ℕ) → k < t.size → Agrees (choice_at (own_sets t i) one) (own_history t i k) ↔ Agrees (choice_at (own_sets t i) other) (own_history t i k))
+    → one ≡ other

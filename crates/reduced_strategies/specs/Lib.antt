@@ -1,3 +1,4 @@
 pub mod Choices
+pub mod Examples
 pub mod Laws
 pub mod StrategicForm

@@ -1,18 +1,20 @@
 //! Reduced strategies of game trees, and the strategic form over them, for contracts and proofs.
 //!
 //! The definitions stand in `specs/`: `Choices` says what a reduced strategy is and in which order they stand,
-//! `StrategicForm` what their profiles pay, and `Laws` what holds of them.
+//! `StrategicForm` what their profiles pay, and `Laws` what holds of them. `Examples` works out one tree.
 //!
 //! The functions below do nothing: the contract of each is a law, so that a check proves it.
 #![tactic(auto)]
 
+ghost use Rattle.reduced_strategies.specs.Examples.{ReducedStrategiesOfOnePlayer};
 ghost use Rattle.reduced_strategies.specs.Laws.{
   ChoicesHaveReduced,
   CompletedChoicesTellStrategies,
   CompletionsPayTheCell,
   FirstActionsComplete,
+  NodesTellStrategies,
   OneListOfStrategies,
-  PureEquilibriaHoldOnTheTree,
+  PureEquilibriaAreThoseOfTheTree,
 };
 
 /// Every completion of a profile pays its cell.
@@ -25,14 +27,14 @@ pub fn first_actions_complete()
     ensures { FirstActionsComplete }
 {}
 
-/// Every choice of actions has its reduced strategy.
+/// Every choice of actions completes exactly one reduced strategy.
 pub fn choices_have_reduced()
     ensures { ChoicesHaveReduced }
 {}
 
-/// A pure equilibrium of the strategic form, completed, is an equilibrium of the tree.
-pub fn pure_equilibria_hold_on_the_tree()
-    ensures { PureEquilibriaHoldOnTheTree }
+/// A pure profile is an equilibrium of the strategic form exactly where, completed, it is an equilibrium of the tree.
+pub fn pure_equilibria_are_those_of_the_tree()
+    ensures { PureEquilibriaAreThoseOfTheTree }
 {}
 
 /// Two profiles with the same completed choices are one.
@@ -43,4 +45,14 @@ pub fn completed_choices_tell_strategies()
 /// A player has one list of reduced strategies.
 pub fn one_list_of_strategies()
     ensures { OneListOfStrategies }
+{}
+
+/// Two reduced strategies under which the same nodes can be reached are one.
+pub fn nodes_tell_strategies()
+    ensures { NodesTellStrategies }
+{}
+
+/// A player who ends the game or chooses once more has three reduced strategies.
+pub fn reduced_strategies_of_one_player()
+    ensures { ReducedStrategiesOfOnePlayer }
 {}

@@ -1,0 +1,5 @@
+use Rattle.reduced_strategies.proofs.Alone.{alone-strategies}
+use Rattle.reduced_strategies.proofs.reduced_strategies_of_one_player.Goals as goal
+
+pub returns : goal.returns
+returns c = alone-strategies
