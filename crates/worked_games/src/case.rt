@@ -101,9 +101,7 @@ pub fn holds_over<R: Threads + Sync>(
         &mut err,
         &OpenGate,
     );
-    Ok(answer == status
-        && out.taken().len() == text_length
-        && err.taken() == line.as_bytes())
+    Ok(answer == status && out.taken().len() == text_length && err.taken() == line.as_bytes())
 }
 
 /// A run of `enumpure` over pieces, each so many times, and the status, the number of bytes of text and the line on

@@ -46,10 +46,7 @@ fn headers_of_trees_are_refused(rt: HostRuntime) -> Result<(), Memory> {
             "EFG 2 R { \"A\" } t \"\" 0",
             "gambit: efg fault at 8: header\n",
         ),
-        (
-            "EFG",
-            "gambit: efg fault at 3: header\n",
-        ),
+        ("EFG", "gambit: efg fault at 3: header\n"),
         (
             "EFG 2 R \"\" \"A\" t \"\" 0",
             "gambit: efg fault at 11: players\n",
