@@ -12,10 +12,10 @@ use Rattle.rational.specs.Rational.{ℚ}
 use Rattle.game_text.specs.declared.token.Token.{Token}
 use Rattle.file_parts.specs.declared.refusal.Refusal.{Refusal}
 use Rattle.file_parts.specs.declared.refusal.Refusal.TheVariants as refusals
-use Rattle.file_parts.specs.Reading.{Refuses, left_at, right_at, optional_text_at, payoffs_at}
+use Rattle.file_parts.specs.Reading.{Refuses, left_at, right_at, optional_text_at, payoffs_at, or_else}
 use Rattle.file_parts.proofs.Options.{bind_some, some_same}
 use Rattle.file_parts.proofs.NumberLaws.{payoffs_are}
-use Rattle.written_trees.specs.Building.{BegunOutcome, or_else, outcome_place}
+use Rattle.written_trees.specs.Building.{BegunOutcome, outcome_place}
 use Rattle.written_trees.proofs.InsertedKeys.{position-none, position-map, insert_key-known, insert_key-new}
 use Rattle.tree_uses.specs.declared.outcomes.OutcomeBegun.{OutcomeBegun}
 use Rattle.tree_uses.specs.declared.outcomes.Outcomes.{Outcomes}

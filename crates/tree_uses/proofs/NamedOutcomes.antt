@@ -4,9 +4,9 @@ use Rattle.std.proofs.lemmas.Bool.{cases_Bool}
 use Rattle.rational.specs.Rational.{ℚ}
 use Rattle.game_text.specs.declared.token.Token.{Token}
 use Rattle.game_text.specs.declared.token.Token.TheVariants.{Left}
-use Rattle.file_parts.specs.Reading.{◌>>=◌, optional_text_at}
+use Rattle.file_parts.specs.Reading.{◌>>=◌, optional_text_at, or_else}
 use Rattle.written_trees.specs.Written.{OutcomeUse}
-use Rattle.written_trees.specs.Building.{BegunOutcome, or_else, outcome_place, repeats_payoffs, used_outcome}
+use Rattle.written_trees.specs.Building.{BegunOutcome, outcome_place, repeats_payoffs, used_outcome}
 use Rattle.tree_files.specs.TreeReading.{optional_at, payoff_list_at, named_outcome_at, later_payoffs_at, with_outcome, named_step_at}
 use Rattle.tree_uses.proofs.OutcomeSteps.{came}
 

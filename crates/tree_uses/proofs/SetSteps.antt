@@ -8,11 +8,11 @@ use Rattle.std.proofs.Math.Seq.{map-set_same}
 use Rattle.game_core.specs.declared.tree.Action.{Action}
 use Rattle.game_text.specs.declared.token.Token.{Token}
 use Rattle.game_text.specs.declared.token.Token.TheVariants.{Left}
-use Rattle.file_parts.specs.Reading.{◌>>=◌, optional_text_at}
+use Rattle.file_parts.specs.Reading.{◌>>=◌, optional_text_at, or_else}
 use Rattle.file_parts.proofs.Options.{some_same}
 use Rattle.written_trees.specs.Described.{SetKey, key_of, same_set}
 use Rattle.written_trees.specs.Written.{SetUse}
-use Rattle.written_trees.specs.Building.{or_else, BegunSet, key_of_begun, set_place, use_set, may_be_first, repeats_actions}
+use Rattle.written_trees.specs.Building.{BegunSet, key_of_begun, set_place, use_set, may_be_first, repeats_actions}
 use Rattle.written_trees.specs.Laws.{IsActionList}
 use Rattle.written_trees.proofs.Lists.{key_at, map-map}
 use Rattle.written_trees.proofs.SetUses.{same_set-Decides}

@@ -6,12 +6,13 @@ use Rattle.std.proofs.lemmas.Option.{slice_get-map, slice_get_within, get_or_fro
 use Rattle.game_core.specs.declared.tree.Action.{Action}
 use Rattle.game_core.specs.declared.tree.Node.{Node}
 use Rattle.game_core.specs.Tree.{GameTree, InformationSet, IsWithin, ProbabilitiesFit, NodeFits, SetFits, IsBegunTree}
+use Rattle.file_parts.proofs.Options.{bind_some, chosen, some_same}
 use Rattle.written_trees.specs.Written.{SetUse, OutcomeUse, WrittenNode}
 use Rattle.written_trees.specs.Described.{SetKey, key_of, same_set, set_uses, outcome_uses, sets_of, outcomes_of, uses_of_set, uses_of_outcome, described_set, described_outcome, IsFirstList, AgreeOnActions}
 use Rattle.written_trees.specs.Building.{BegunSet, BegunOutcome, outcome_place, repeats_payoffs, new_outcome, used_outcome, with_outcome_use, use_outcome, use_some_outcome, free_places, Begun, nothing_begun, add_nodes, finished_set, finished_outcome, tree_begun}
 use Rattle.written_trees.specs.Laws.{HasNoProbability, IsActionList, IsSetUse, IsOutcomeUse, IsWrittenNode, BuiltIsDescribed}
 use Rattle.written_trees.proofs.UseSteps.{begun_set, sets_begun, AllAgree, begun_outcome, outcomes_begun, PayoffsAgree}
-use Rattle.written_trees.proofs.Options.{bind_some, chosen, some_same, mapped_some}
+use Rattle.written_trees.proofs.Options.{mapped_some}
 use Rattle.written_trees.proofs.Lists.{map-map}
 use Rattle.written_trees.proofs.Depths.{few_edges_of}
 use Rattle.written_trees.proofs.Uses.{sets_more, outcomes_more, all_uses}

@@ -5,10 +5,10 @@ use Rattle.game_core.specs.declared.tree.Node.{Node}
 use Rattle.game_core.specs.declared.too_large.What.{What}
 use Rattle.game_core.specs.declared.too_large.What.TheVariants.{Nodes, Depth}
 use Rattle.game_core.specs.Tree.{GameTree, Place, most_nodes, most_depth}
+use Rattle.file_parts.proofs.Options.{some_same}
 use Rattle.written_trees.specs.Described.{LiesAt}
 use Rattle.written_trees.specs.Building.{Branching, Begun, passed_at, free_places, take_place, tree_begun}
 use Rattle.written_trees.specs.Laws.{PassesAt, LimitsAreExact}
-use Rattle.written_trees.proofs.Options.{some_same}
 use Rattle.written_trees.proofs.Depths.{HangsAt, hangs_once, AllLie, few_edges_of}
 use Rattle.written_trees.proofs.Places.{free_places-take}
 use Rattle.written_trees.proofs.Sound.{AreBranchings, IsSound, sound}

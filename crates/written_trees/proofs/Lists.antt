@@ -1,7 +1,7 @@
 -- Lists with one more element at the end.
+use Rattle.file_parts.proofs.Options.{some_same}
 use Rattle.std.proofs.Common.{◌≡◌, ℕ, zero, suc, ◌+◌, List, [], ◌∷◌, ◌++◌, length, map, slice_set, slice_get, Some, None, ◌⊎◌, Bool, true, false, cond, not, ◌||◌, one-add, inl, inr, refl, sym, ap, ◌∙◌, subst, append_assoc, append-nil, arith}
 use Rattle.std.specs.List.{position_or_len, list_any}
-use Rattle.written_trees.proofs.Options.{some_same}
 
 -- what holds of the empty list, and of a list with one more element at the end, holds of each list
 pub at_end : {A : Type 0} (P : List A → Type 0) → P [] → ((front : List A) (one : A) → P front → P (front ++ one ∷ [])) → (list : List A) → P list

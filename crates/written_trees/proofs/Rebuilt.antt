@@ -3,9 +3,10 @@ use Rattle.std.proofs.Common.{◌≡◌, ℕ, ◌≤◌, List, [], ◌∷◌, �
 use Rattle.std.proofs.lemmas.List.{length-map}
 use Rattle.game_core.specs.declared.tree.Node.{Node}
 use Rattle.game_core.specs.Tree.{Place, IsWithin, LiesBelowRoot, most_nodes, most_depth}
+use Rattle.file_parts.specs.Reading.{◌>>=◌}
 use Rattle.written_trees.specs.Written.{WrittenNode}
 use Rattle.written_trees.specs.Described.{set_uses, outcome_uses, sets_of}
-use Rattle.written_trees.specs.Building.{◌>>=◌, BegunSet, Branching, Begun, nothing_begun, free_places, take_place, add_nodes, finished_set, tree_begun}
+use Rattle.written_trees.specs.Building.{BegunSet, Branching, Begun, nothing_begun, free_places, take_place, add_nodes, finished_set, tree_begun}
 use Rattle.written_trees.specs.Laws.{DescribedIsBuilt}
 use Rattle.written_trees.proofs.UseSteps.{sets_begun, AllAgree, outcomes_begun, PayoffsAgree}
 use Rattle.written_trees.proofs.Lists.{at_end}

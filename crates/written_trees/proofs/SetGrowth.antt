@@ -5,10 +5,10 @@ use Rattle.std.proofs.lemmas.List.Elements.{All-weaker, All-push}
 use Rattle.std.proofs.lemmas.Option.{slice_get_within}
 use Rattle.game_core.specs.declared.tree.Node.{Node}
 use Rattle.game_core.specs.Tree.{IsWithin, action_count}
+use Rattle.file_parts.proofs.Options.{bind_some, chosen, some_same}
 use Rattle.written_trees.specs.Written.{SetUse}
 use Rattle.written_trees.specs.Described.{key_of}
 use Rattle.written_trees.specs.Building.{BegunSet, set_place, may_be_first, repeats_actions, new_set, used_set, with_use, use_set, use_some_set, begun_count, finished_set}
-use Rattle.written_trees.proofs.Options.{bind_some, chosen, some_same}
 use Rattle.written_trees.proofs.Lists.{map-set_same, map-map, position_past}
 use Rattle.written_trees.proofs.Members.{NameSets, HaveMembers, have_members-none, have_members-new, have_members-again}
 

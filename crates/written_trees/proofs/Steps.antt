@@ -5,10 +5,11 @@ use Rattle.game_core.specs.declared.tree.Node.{Node}
 use Rattle.game_core.specs.declared.too_large.What.{What}
 use Rattle.game_core.specs.declared.too_large.What.TheVariants.{Nodes, Depth}
 use Rattle.game_core.specs.Tree.{most_nodes, most_depth}
+use Rattle.file_parts.specs.Reading.{◌>>=◌}
+use Rattle.file_parts.proofs.Options.{bind_some, some_same}
 use Rattle.written_trees.specs.Written.{WrittenNode}
 use Rattle.written_trees.specs.Described.{key_of, kind_of_use}
-use Rattle.written_trees.specs.Building.{◌>>=◌, set_place, outcome_place, BegunSet, BegunOutcome, Branching, Begun, nothing_begun, use_some_set, use_some_outcome, with_node, add_at, add_node, passed_at, passed, within_limits, add_nodes}
-use Rattle.written_trees.proofs.Options.{bind_some, some_same}
+use Rattle.written_trees.specs.Building.{set_place, outcome_place, BegunSet, BegunOutcome, Branching, Begun, nothing_begun, use_some_set, use_some_outcome, with_node, add_at, add_node, passed_at, passed, within_limits, add_nodes}
 use Rattle.written_trees.proofs.Lists.{at_end}
 
 -- a further node within the limits

@@ -11,19 +11,9 @@ use Rattle.game_core.specs.declared.tree.Node.{Node}
 use Rattle.game_core.specs.declared.too_large.What.{What}
 use Rattle.game_core.specs.declared.too_large.What.TheVariants.{Nodes, Depth}
 use Rattle.game_core.specs.Tree.{GameTree, InformationSet, TreeOutcome, Place, most_nodes, most_depth}
+use Rattle.file_parts.specs.Reading.{◌>>=◌, or_else}
 use Rattle.written_trees.specs.Written.{SetUse, OutcomeUse, WrittenNode}
 use Rattle.written_trees.specs.Described.{SetKey, key_of, same_set, or_empty, kind_of_use}
-
-infixl 10 ◌>>=◌
--- what follows, where there is something
-abbrev pub ◌>>=◌ : {A B : Type 0} → Option A → (A → Option B) → Option B
-None >>= f = None
-(Some x) >>= f = f x
-
--- the first, or else the second
-abbrev pub or_else : {A : Type 0} → Option A → Option A → Option A
-or_else None other = other
-or_else (Some x) other = Some x
 
 -- ---- sets
 -- a set as far as it was used: its name may still come
