@@ -2,8 +2,7 @@
 ghost use Rattle.std.specs.Prelude.{◌≡◌, ◌<◌, ℕ, Some, length, option_map, IfOk, OnOk};
 ghost use Rattle.file_parts.specs.declared.refusal.Refusal.TheVariants.{Unfit};
 ghost use Rattle.tree_uses.specs.declared.fault.EfgKind.{EfgKind};
-ghost use Rattle.file_parts.specs.Reading.{Reads, Gives, kinds, right_at, payoffs_at};
-ghost use Rattle.written_trees.specs.Building.{or_else};
+ghost use Rattle.file_parts.specs.Reading.{Reads, Gives, kinds, right_at, payoffs_at, or_else};
 ghost use Rattle.tree_uses.specs.Uses.{begun_outcomes, AreOutcomes};
 ghost use Rattle.tree_files.specs.TreeReading.{outcome_step_at, named_step_at, payoffs_repeated_at, later_payoffs_at, payoff_list_at};
 

@@ -1,9 +1,8 @@
 // The information sets, numbered by their first use.
 ghost use Rattle.std.specs.Prelude.{◌≡◌, ◌+◌, ◌<◌, [], ◌∷◌, ◌++◌, not, if◌then◌else◌, length, option_map, IfOk, OnOk};
 ghost use Rattle.std.specs.List.{position_or_len, list_any};
-ghost use Rattle.file_parts.specs.Reading.{Reads, kinds};
+ghost use Rattle.file_parts.specs.Reading.{Reads, kinds, or_else};
 ghost use Rattle.written_trees.specs.Described.{same_set};
-ghost use Rattle.written_trees.specs.Building.{or_else};
 ghost use Rattle.written_trees.specs.Laws.{IsActionList};
 ghost use Rattle.tree_uses.specs.Uses.{begun_set, begun_sets, AreSets};
 ghost use Rattle.tree_files.specs.TreeReading.{first_list_at, later_list_at, set_step_at};
