@@ -47,6 +47,7 @@ set_choice k sets owner tokens = go (set_use_at owner tokens) (λ x e. use_owner
     owned : (x : SetUse × List Token) (S : Option (List BegunSet)) → x.0.owner ≡ owner → (S >>= as_choice sets (Some x.0) x.1) ≡ ((S >>= with_place sets x) >>= at_set owner)
     owned x None o = refl
     owned x (Some more) o = rw o refl
+
     go : (U : Option (SetUse × List Token)) → ((x : SetUse × List Token) → U ≡ Some x → x.0.owner ≡ owner)
         → ((U >>= as_use) >>= λ c. use_some_set k sets c.0 >>= as_choice sets c.0 c.1) ≡ ((U >>= λ x. use_set k sets x.0 >>= with_place sets x) >>= at_set owner)
     go None o = refl
@@ -83,7 +84,7 @@ by_player players k sets tokens word name e f c p = behind players k sets tokens
   where
     go : (P : Option (ℕ × List Token))
         → ((P >>= λ player. set_use_at (Some player.0) player.1 >>= as_use) >>= λ c. use_some_set k sets c.0 >>= as_choice sets c.0 c.1)
-          ≡ (P >>= λ player. set_choice_at k sets (Some player.0) player.1)
+        ≡ (P >>= λ player. set_choice_at k sets (Some player.0) player.1)
     go None = refl
     go (Some player) = set_choice k sets (Some player.0) player.1
 

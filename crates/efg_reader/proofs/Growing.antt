@@ -59,7 +59,7 @@ place_taken kept last taken goes_on e t g lt =
     let after : branchings_of (slice_set kept last (with_next goes_on)) ≡ branching_of (with_next goes_on) ∷ branchings_of h.front = ap branchings_of (h.written (with_next goes_on)) ∙ branchings-push h.front (with_next goes_on) in
     let next = next_is (branching_of h.one) (branchings_of h.front) (rw one at lt) in
     subst (λ (start : List Branching). HasTaken start (Some taken) (branchings_of (slice_set kept last (with_next goes_on)))) (sym start)
-      (ap branching_of one, after ∙ ap (λ (b : Kept). branching_of (with_next b) ∷ branchings_of h.front) other ∙ sym next)
+    (ap branching_of one, after ∙ ap (λ (b : Kept). branching_of (with_next b) ∷ branchings_of h.front) other ∙ sym next)
 
 -- what is found at a place below the length stands there
 pub found_at : {A : Type 0} (list : List A) (i : ℕ) (x : A) → (true ≡ nat_lt i (length list)) × (x ≡ slice_index_or list i x) → slice_get list i ≡ Some x
@@ -71,7 +71,7 @@ found_at list i x h =
 pub count_found : (sets : List SetBegun) (s : ℕ) (set : SetBegun) → slice_get sets s ≡ Some set → slice_index_or (map (λ set. length set.actions) (map begun_set sets)) s 0 ≡ length set.actions.items
 count_found sets s set e =
     get_or_from_slice_get (map (λ set. length set.actions) (map begun_set sets)) s (length set.actions.items) 0
-      (slice_get-map (λ (set : BegunSet). length set.actions) (map begun_set sets) s ∙ ap (option_map (λ (set : BegunSet). length set.actions)) (slice_get-map begun_set sets s ∙ ap (option_map begun_set) e))
+    (slice_get-map (λ (set : BegunSet). length set.actions) (map begun_set sets) s ∙ ap (option_map (λ (set : BegunSet). length set.actions)) (slice_get-map begun_set sets s ∙ ap (option_map begun_set) e))
 
 -- what holds of each of two lists in turn
 both_lists : (P : Branching → Type 0) (xs ys : List Branching) → AllByRecursion P (xs ++ ys) → AllByRecursion P xs × AllByRecursion P ys
@@ -115,6 +115,7 @@ has_room begun b rest e = first (nat_le most_nodes (length begun.nodes)) refl e
     second : (w : Bool) → nat_lt most_depth b.depth ≡ w → ◌≡◌ {A = Option What} (cond w (Some Depth) None) None → b.depth ≤ most_depth
     second true f e = cc
     second false f e = grind (arith, nat_tests)
+
     first : (v : Bool) → nat_le most_nodes (length begun.nodes) ≡ v → ◌≡◌ {A = Option What} (cond v (Some Nodes) (cond (nat_lt most_depth b.depth) (Some Depth) None)) None → (length begun.nodes < most_nodes) × (b.depth ≤ most_depth)
     first true f e = cc
     first false f e = (grind (arith, nat_tests), second (nat_lt most_depth b.depth) refl e)
@@ -131,6 +132,7 @@ few_next begun kept room near = each_kept (λ b. b.next < 4294967295) kept (go (
     small : (nodes : ℕ) (branchings : List Branching) → nodes < most_nodes → AllByRecursion (IsNear nodes) branchings → AllByRecursion (λ b. b.next < 4294967295) branchings
     small nodes [] lt h = tt
     small nodes (b ∷ rest) lt h = (omega (arith, h.0.next_within), small nodes rest lt h.1)
+
     go : (branchings : List Branching) → passed_at begun branchings ≡ None → AllByRecursion (IsNear (length begun.nodes)) branchings → AllByRecursion (λ b. b.next < 4294967295) branchings
     go [] room near = tt
     go (b ∷ rest) room near = small (length begun.nodes) (b ∷ rest) (has_room begun b rest room).0 near

@@ -84,7 +84,7 @@ place_step begun c u (b ∷ rest) (Some sets) (Some outcomes) s o = rw (s, o) re
 -- the outcome is read behind the choice
 outcome_later : (begun : Begun) (c : Choice) (u : Paid) (S : Option (List BegunSet)) (O : Option (List BegunOutcome))
     → (S >>= λ sets. O >>= λ outcomes. grown_by begun c u begun.branchings sets outcomes)
-      ≡ (S >>= λ sets. ((O >>= paired (outcome_of begun u)) >>= paired u.1) >>= λ o. with_both begun (chosen begun c sets) o)
+    ≡ (S >>= λ sets. ((O >>= paired (outcome_of begun u)) >>= paired u.1) >>= λ o. with_both begun (chosen begun c sets) o)
 outcome_later begun c u None O = refl
 outcome_later begun c u (Some sets) None = refl
 outcome_later begun c u (Some sets) (Some outcomes) = refl
@@ -99,14 +99,14 @@ outcome_step players begun c (Some u) S s = place_step begun c u begun.branching
 -- the choice's step
 choice_later : (players : ℕ) (begun : Begun) (c : Choice) (S : Option (List BegunSet))
     → (S >>= λ sets. outcome_behind players begun (outcome_use_at players c.1) >>= λ o. with_both begun (chosen begun c sets) o)
-      ≡ ((S >>= maybe_chosen begun c) >>= λ x. outcome_behind players begun (outcome_use_at players x.1) >>= λ o. with_both begun x o)
+    ≡ ((S >>= maybe_chosen begun c) >>= λ x. outcome_behind players begun (outcome_use_at players x.1) >>= λ o. with_both begun x o)
 choice_later players begun c None = refl
 choice_later players begun c (Some sets) = refl
 
 -- a node's parts, in both orders
 both_orders : (players : ℕ) (begun : Begun) (C : Option Choice)
     → ((C >>= λ c. outcome_use_at players c.1 >>= as_node c) >>= λ n. add_node begun n.0 >>= paired n.1)
-      ≡ ((C >>= λ c. use_some_set (length begun.nodes) begun.sets c.0 >>= maybe_chosen begun c) >>= λ x. outcome_behind players begun (outcome_use_at players x.1) >>= λ o. with_both begun x o)
+    ≡ ((C >>= λ c. use_some_set (length begun.nodes) begun.sets c.0 >>= maybe_chosen begun c) >>= λ x. outcome_behind players begun (outcome_use_at players x.1) >>= λ o. with_both begun x o)
 both_orders players begun None = refl
 both_orders players begun (Some c) = outcome_step players begun c (outcome_use_at players c.1) (use_some_set (length begun.nodes) begun.sets c.0) refl ∙ choice_later players begun c (use_some_set (length begun.nodes) begun.sets c.0)
 

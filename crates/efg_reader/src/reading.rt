@@ -72,22 +72,13 @@ fn finished_sets(alloc: Global, sets: Vec<SetBegun>) -> Result<Vec<InfoSet>, All
     let mut finished = Vec::new(alloc);
     for set in sets {
         let name = or_empty(alloc, set.name);
-        finished.push(InfoSet::new(
-            set.owner,
-            set.label,
-            name,
-            set.actions,
-            set.members,
-        ))?;
+        finished.push(InfoSet::new(set.owner, set.label, name, set.actions, set.members))?;
     }
     Ok(finished)
 }
 
 // The outcomes with their names.
-fn finished_outcomes(
-    alloc: Global,
-    outcomes: Vec<OutcomeBegun>,
-) -> Result<Vec<Outcome>, AllocError>
+fn finished_outcomes(alloc: Global, outcomes: Vec<OutcomeBegun>) -> Result<Vec<Outcome>, AllocError>
     ensures { IfOk result (λ v. v.items ≡ map finished_outcome (map begun_outcome outcomes.items)) }
 {
     let mut finished = Vec::new(alloc);

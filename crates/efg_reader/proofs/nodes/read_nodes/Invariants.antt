@@ -7,7 +7,7 @@ use Rattle.efg_reader.proofs.nodes.read_nodes.Given as goal
 abbrev pub invariant-loop-alloc : goal.invariant-loop-alloc
 invariant-loop-alloc l = record {
   valid : IsBuilder l.players l.builder;
-  under_way : IsUnderWay l.players (begun_of l.builder) (kinds l.rest) (all_nodes l.players (kinds l.tokens))
+  under_way : IsUnderWay l.players (begun_of l.builder) (kinds l.rest) (all_nodes l.players (kinds l.tokens));
 }
 
 abbrev pub decreases-loop-alloc : goal.decreases-loop-alloc
