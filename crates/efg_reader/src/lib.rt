@@ -11,3 +11,6 @@ pub use fault::{EfgFault, EfgStop};
 pub use reading::read;
 pub use tree_files::files_have_one_tree;
 pub use tree_uses::EfgKind;
+
+#[cfg(test)]
+mod tests;
