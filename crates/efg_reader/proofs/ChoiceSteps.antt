@@ -1,5 +1,5 @@
 -- The choice at a node as the code reads it: its word, its name, and then its set.
-use Rattle.std.proofs.Common.{◌≡◌, ℕ, List, [], ◌∷◌, Bool, true, false, cond, codes, Option, Some, None, option_map, refl, sym, ap, ◌∙◌}
+use Rattle.std.proofs.Common.{◌≡◌, ℕ, List, true, false, codes, Option, Some, None, option_map, refl, sym, ap, ◌∙◌}
 use Rattle.game_core.specs.declared.tree.Kind.{Kind}
 use Rattle.game_core.specs.declared.tree.Kind.TheVariants.{End}
 use Rattle.game_core.specs.Tree.{kind_of_owner}

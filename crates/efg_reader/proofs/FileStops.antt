@@ -1,5 +1,5 @@
 -- How reading a file ends.
-use Rattle.std.proofs.Common.{◌≡◌, ℕ, suc, ◌+◌, ◌<◌, ◌≤◌, ◌^◌, ◌⊎◌, inl, inr, List, [], ◌∷◌, ◌++◌, length, map, codes, Option, Some, None, Result, Ok, Err, refl, sym, ap, ◌∙◌, subst, length-append, arith}
+use Rattle.std.proofs.Common.{◌≡◌, ℕ, suc, ◌+◌, ◌<◌, ◌≤◌, ◌^◌, inl, inr, List, [], ◌∷◌, ◌++◌, length, map, codes, Some, Result, Ok, Err, refl, sym, ap, ◌∙◌, subst, length-append, arith}
 use Rattle.std.proofs.lemmas.List.{length-map}
 use Rattle.std.specs.Prelude.{IfOk}
 use Rattle.std.specs.List.{AllByRecursion}
@@ -11,7 +11,7 @@ use Rattle.game_text.specs.declared.token.Token.{Token}
 use Rattle.game_text.specs.declared.token.Token.TheVariants.{Text, Right}
 use Rattle.game_text.specs.Tokens.{AreInPlace, IsShortToken}
 use Rattle.file_parts.specs.Parts.{braced_texts}
-use Rattle.file_parts.specs.Reading.{Refuses, title_at, names_at, behind_text}
+use Rattle.file_parts.specs.Reading.{Refuses, title_at, names_at}
 use Rattle.file_parts.specs.declared.refusal.Refusal.{Refusal}
 use Rattle.file_parts.specs.declared.refusal.Refusal.TheVariants as refusals
 use Rattle.file_parts.proofs.Options.{bind_some, some_same}
@@ -23,10 +23,9 @@ use Rattle.efg_reader.specs.declared.fault.EfgStop.{EfgStop}
 use Rattle.efg_reader.specs.declared.nodes.Stop.{Stop}
 use Rattle.efg_reader.specs.declared.nodes.Stop.TheVariants.{Refused, Passed}
 use Rattle.efg_reader.specs.States.{RefusesNodes}
-use Rattle.efg_reader.specs.Stops.{IsStop, IsStopOf, IsNodesStopOf, IsPassed}
+use Rattle.efg_reader.specs.Stops.{IsStop, IsStopOf, IsNodesStopOf}
 use Rattle.tree_files.specs.TreeFile.{IsTreeFile, PassesLimit}
 use Rattle.tree_files.specs.TreeReading.{Head, front_at, whole_nodes_at}
-use Rattle.tree_files.proofs.FileStatements.{StandForNothing}
 use Rattle.tree_files.proofs.FileLaws.{read_is_file, met_is_passed, no_front_is_nothing, no_nodes_are_nothing}
 
 -- ---- the tokens

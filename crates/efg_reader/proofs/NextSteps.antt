@@ -1,17 +1,16 @@
 -- A further node as the code reads it.
-use Rattle.std.proofs.Common.{◌≡◌, ℕ, suc, ◌+◌, ◌<◌, ◌≤◌, List, [], ◌∷◌, ◌++◌, length, map, Bool, true, false, cond, Option, Some, None, slice_get, slice_set, refl, sym, ap, ◌∙◌, length-append, arith}
+use Rattle.std.proofs.Common.{◌≡◌, ℕ, suc, ◌+◌, ◌<◌, ◌≤◌, List, [], ◌∷◌, ◌++◌, length, Option, Some, None, slice_get, slice_set, refl, sym, ap, ◌∙◌, length-append, arith}
 use Rattle.std.proofs.lemmas.List.{length-set}
 use Rattle.game_text.specs.declared.token.Token.{Token}
-use Rattle.file_parts.specs.Reading.{◌>>=◌}
 use Rattle.file_parts.proofs.Options.{bind_some, some_same, chosen}
 use Rattle.written_trees.specs.Written.{SetUse, OutcomeUse, WrittenNode}
-use Rattle.written_trees.specs.Building.{Begun, BegunSet, BegunOutcome, use_set, with_use, use_some_set, use_outcome, with_outcome_use, use_some_outcome, set_place, outcome_place, may_be_first, repeats_actions, repeats_payoffs, used_set, new_set, used_outcome, new_outcome, add_node}
+use Rattle.written_trees.specs.Building.{Begun, BegunSet, BegunOutcome, with_use, use_some_set, with_outcome_use, use_some_outcome, set_place, outcome_place, may_be_first, repeats_actions, repeats_payoffs, used_set, new_set, used_outcome, new_outcome, add_node}
 use Rattle.written_trees.specs.Described.{key_of}
 use Rattle.efg_reader.specs.States.{grown}
 use Rattle.tree_files.specs.TreeFile.{IsNode, IsOutcomePart}
 use Rattle.tree_files.specs.TreeReading.{choice_at, choice_step_at, outcome_use_at, outcome_step_at, with_outcome, node_at, next_at}
 use Rattle.tree_files.proofs.NodeLaws.{node_is}
-use Rattle.efg_reader.proofs.NodeSteps.{ChoiceStep, OutcomeStep, with_uses, with_both, in_steps, next_in_steps}
+use Rattle.efg_reader.proofs.NodeSteps.{ChoiceStep, OutcomeStep, with_uses, next_in_steps}
 
 -- ---- the node
 -- the choice is not read

@@ -1,14 +1,13 @@
 -- A node as the code reads it: its choice, its outcome, and then its place.
-use Rattle.std.proofs.Common.{◌≡◌, ℕ, suc, ◌<◌, List, [], ◌∷◌, length, Bool, true, false, codes, Option, Some, None, option_map, refl, sym, ap, ◌∙◌, subst}
+use Rattle.std.proofs.Common.{◌≡◌, ℕ, List, [], ◌∷◌, length, Option, Some, None, option_map, refl, ◌∙◌}
 use Rattle.game_core.specs.declared.tree.Kind.{Kind}
-use Rattle.game_core.specs.declared.tree.Kind.TheVariants.{Chance, Move, End}
 use Rattle.game_text.specs.declared.token.Token.{Token}
-use Rattle.file_parts.specs.Reading.{◌>>=◌, word_at, text_at}
+use Rattle.file_parts.specs.Reading.{◌>>=◌}
 use Rattle.written_trees.specs.Written.{SetUse, OutcomeUse, WrittenNode}
 use Rattle.written_trees.specs.Described.{key_of, kind_of_use}
-use Rattle.written_trees.specs.Building.{Begun, BegunSet, BegunOutcome, Branching, use_set, use_some_set, use_some_outcome, set_place, outcome_place, add_at, add_node, with_node}
+use Rattle.written_trees.specs.Building.{Begun, BegunSet, BegunOutcome, Branching, use_some_set, use_some_outcome, set_place, outcome_place, add_at, add_node}
 use Rattle.efg_reader.specs.States.{grown_at, grown}
-use Rattle.tree_files.specs.TreeReading.{choice_at, choice_behind, choice_step_at, set_use_at, set_step_at, own_use_at, chance_use_at, player_at, outcome_use_at, outcome_step_at, with_outcome, node_at, next_at, is_word}
+use Rattle.tree_files.specs.TreeReading.{choice_at, choice_step_at, outcome_use_at, outcome_step_at, with_outcome, node_at, next_at}
 
 -- ---- a node in steps
 -- what a step of the choice, and of the outcome, gives

@@ -1,13 +1,11 @@
 -- What the reader keeps while it reads, in the words of the tree that is begun.
-use Rattle.std.specs.Prelude.{ℕ, suc, ◌≤◌, ◌≡◌, List, [], ◌∷◌, ◌++◌, length, map, reverse, All, Option, None, Some, Result, Ok, Err}
+use Rattle.std.specs.Prelude.{ℕ, suc, ◌≤◌, ◌≡◌, List, [], ◌∷◌, ◌++◌, length, map, reverse, Option, None, Some, Result, Ok, Err}
 use Rattle.std.specs.List.{AllByRecursion}
 use Rattle.game_core.specs.declared.too_large.What.{What}
 use Rattle.game_core.specs.declared.tree.Kind.{Kind}
 use Rattle.game_core.specs.Tree.{most_nodes, most_depth}
 use Rattle.file_parts.specs.declared.refusal.Refusal.TheVariants as refusals
-use Rattle.written_trees.specs.Described.{SetKey}
-use Rattle.written_trees.specs.Building.{Begun, BegunSet, BegunOutcome, Branching, begun_count, take_place, add_places}
-use Rattle.written_trees.specs.Laws.{IsActionList}
+use Rattle.written_trees.specs.Building.{Begun, Branching, begun_count, take_place, add_places}
 use Rattle.tree_uses.specs.Uses.{begun_sets, begun_outcomes, AreSets, AreOutcomes}
 use Rattle.efg_reader.specs.declared.builder.Branching.{Branching as Kept}
 use Rattle.efg_reader.specs.declared.builder.Builder.{Builder}

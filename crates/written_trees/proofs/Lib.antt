@@ -1,8 +1,7 @@
-mod Chances
-mod FirstUses
-mod Said
 pub mod Built
+pub mod Chances
 pub mod Depths
+pub mod FirstUses
 pub mod InsertedKeys
 pub mod Limits
 pub mod Lists
@@ -11,6 +10,7 @@ pub mod Options
 pub mod OutcomeUses
 pub mod Places
 pub mod Rebuilt
+pub mod Said
 pub mod SetGrowth
 pub mod SetUses
 pub mod Sound

@@ -1,12 +1,10 @@
-use Rattle.std.proofs.Common.{◌≡◌, ℕ, suc, ◌≤◌, ◌<◌, List, length, map, ap, sym, ◌∙◌, refl, subst, Some, Option, arith}
+use Rattle.std.proofs.Common.{◌≡◌, suc, ◌≤◌, ◌<◌, length, sym, subst, Some, arith}
 use Rattle.std.proofs.lemmas.List.{length-map}
-use Rattle.game_text.specs.declared.token.Token.{Token}
 use Rattle.file_parts.specs.Reading.{kinds}
-use Rattle.written_trees.specs.Building.{Begun}
-use Rattle.tree_uses.specs.Uses.{begun_set, begun_sets, begun_outcome, begun_outcomes, AreSets, AreOutcomes}
-use Rattle.efg_reader.specs.States.{begun_of, IsBuilder}
-use Rattle.tree_files.specs.TreeReading.{choice_step_at, outcome_step_at, next_at}
-use Rattle.tree_uses.proofs.KeptOutcomes.{refused_too}
+use Rattle.tree_uses.specs.Uses.{begun_sets, begun_outcomes, AreSets, AreOutcomes}
+use Rattle.efg_reader.specs.States.{begun_of}
+use Rattle.tree_files.specs.TreeReading.{choice_step_at, next_at}
+use Rattle.tree_uses.proofs.Refused.{refused_too}
 use Rattle.efg_reader.proofs.NodeSteps.{ChoiceStep, OutcomeStep}
 use Rattle.efg_reader.proofs.NextSteps.{choice_refused, outcome_refused, node_added, few_sets_more, few_outcomes_more, next_takes}
 use Rattle.efg_reader.proofs.nodes.next.Goals as goal

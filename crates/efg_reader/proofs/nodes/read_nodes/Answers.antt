@@ -1,9 +1,9 @@
-use Rattle.std.proofs.Common.{◌≡◌, ◌∙◌, sym, refl, subst, Ok}
+use Rattle.std.proofs.Common.{◌∙◌, sym, subst}
 use Rattle.std.proofs.lemmas.List.{length-map}
 use Rattle.file_parts.specs.Reading.{kinds}
 use Rattle.written_trees.specs.Building.{Begun}
 use Rattle.efg_reader.specs.States.{begun_of}
-use Rattle.tree_files.specs.TreeReading.{is_whole, one_more_at}
+use Rattle.tree_files.specs.TreeReading.{one_more_at}
 use Rattle.efg_reader.proofs.NodesLoop.{IsUnderWay, all_nodes, at_first, goes_on, breaks_off, comes_to_end, whole_read, more_behind, broken_off, refuses_all, whole_by_kept, some_branching}
 use Rattle.efg_reader.proofs.nodes.read_nodes.Goals as goal
 

@@ -1,12 +1,10 @@
-use Rattle.std.proofs.Common.{◌≡◌, ◌<◌, ◌^◌, ℕ, List, length, map, sym, subst, ap, refl, ◌∙◌, Some, Ok, arith}
-use Rattle.std.proofs.lemmas.List.{length-map}
+use Rattle.std.proofs.Common.{◌≡◌, ◌<◌, ◌^◌, List, length, ◌∙◌, Some, arith}
 use Rattle.game_text.specs.declared.token.Token.{Token}
 use Rattle.file_parts.specs.Reading.{kinds}
 use Rattle.efg_reader.specs.States.{begun_of}
-use Rattle.tree_files.specs.TreeFile.{IsTreeFile}
-use Rattle.tree_files.specs.TreeReading.{Head, front_at, whole_nodes_at}
+use Rattle.tree_files.specs.TreeReading.{Head, front_at}
 use Rattle.tree_files.proofs.FileLaws.{read_is_file}
-use Rattle.efg_reader.proofs.FileStops.{all_short, few_names, few_of, front_stop, if_ok, nodes_stop, read_tree}
+use Rattle.efg_reader.proofs.FileStops.{all_short, few_of, front_stop, if_ok, nodes_stop, read_tree}
 use Rattle.efg_reader.proofs.reading.read.Goals as goal
 
 pub returns-in-Err-clause-stop : goal.returns-in-Err-clause-stop

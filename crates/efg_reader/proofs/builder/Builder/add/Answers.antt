@@ -1,9 +1,6 @@
-use Rattle.std.proofs.Common.{◌≡◌, ℕ, suc, ◌<◌, ◌≤◌, List, ◌++◌, ◌∷◌, [], length, length-append, ap, ◌∙◌, arith}
-use Rattle.std.specs.List.{AllByRecursion}
-use Rattle.written_trees.specs.Building.{Branching, take_place, passed_at}
-use Rattle.efg_reader.specs.declared.builder.Branching.{Branching as Kept}
-use Rattle.efg_reader.specs.States.{IsNear, branchings_of, begun_of}
-use Rattle.efg_reader.proofs.Growing.{each_kept, near_after, few_next}
+use Rattle.std.proofs.Common.{◌≡◌, suc, length, length-append, ap, ◌∙◌, arith}
+use Rattle.efg_reader.specs.States.{begun_of}
+use Rattle.efg_reader.proofs.Growing.{near_after, few_next}
 use Rattle.efg_reader.proofs.builder.Builder.add.Goals as goal
 
 pub take_place-requires : goal.take_place-requires

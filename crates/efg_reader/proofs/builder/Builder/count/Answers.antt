@@ -1,8 +1,5 @@
-use Rattle.std.proofs.Common.{◌≡◌, ◌<◌, length, Some, arith, sym, ap, ◌∙◌}
-use Rattle.std.proofs.lemmas.Option.{slice_get-get_or}
+use Rattle.std.proofs.Common.{◌≡◌, Some, sym, ◌∙◌}
 use Rattle.std.specs.Prelude.{slice_get}
-use Rattle.tree_uses.specs.Uses.{begun_sets}
-use Rattle.written_trees.specs.Building.{begun_count}
 use Rattle.efg_reader.proofs.Growing.{count_found, found_at}
 use Rattle.efg_reader.proofs.builder.Builder.count.Goals as goal
 
