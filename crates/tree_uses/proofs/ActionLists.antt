@@ -1,7 +1,6 @@
 -- First lists of actions, whose probabilities are added up as they are read, and later lists, which are compared as they are read.
 use Rattle.std.proofs.Common.{◌≡◌, ℕ, ◌<◌, ◌≤◌, ◌&&◌, Bool, true, false, true≢false, List, [], ◌∷◌, length, map, Option, Some, None, if◌then◌else◌, nat_le, refl, sym, ap, ◌∙◌, subst, All, arith}
 use Rattle.std.specs.List.{AllByRecursion}
-use Rattle.std.proofs.lemmas.Bool.Decides.{Decides-eqb, Decides-int_eq}
 use Rattle.std.proofs.lemmas.List.Elements.{All-map, recursion_from_All}
 use Rattle.std.proofs.lemmas.Option.{cond_some}
 use Rattle.rational.specs.Rational.{ℚ, ◌+ℚ◌, zero_ℚ, one_ℚ}
@@ -9,13 +8,13 @@ use Rattle.frac128.specs.Fraction.{eq_ℚ}
 use Rattle.game_core.specs.declared.tree.Action.{Action}
 use Rattle.game_text.specs.declared.token.Token.{Token}
 use Rattle.game_text.specs.declared.token.Token.TheVariants.{Left, Text, Number}
-use Rattle.file_parts.specs.Reading.{◌>>=◌, Refuses, left_at, right_at, texts_at, opens}
-use Rattle.file_parts.specs.declared.refusal.Refusal.{Refusal}
-use Rattle.file_parts.specs.declared.refusal.Refusal.TheVariants as refusals
+use Rattle.file_parts.specs.Reading.{◌>>=◌, left_at, right_at, texts_at, opens}
 use Rattle.file_parts.proofs.Options.{bind_some, some_same}
 use Rattle.file_parts.proofs.TokenLaws.{left_is, passes_le, le_passes}
 use Rattle.written_trees.specs.Building.{may_follow, adds_up, may_be_first, repeats_actions}
 use Rattle.written_trees.specs.Laws.{HasNoProbability, IsActionList}
+use Rattle.written_trees.proofs.Chances.{eq_ℚ-Decides}
+use Rattle.written_trees.proofs.InsertedKeys.{eq_self}
 use Rattle.tree_files.specs.TreeReading.{chance_actions_at, own_action, actions_at, closed_at, action_list_at, summed_at, first_list_at, all_repeated_at, later_list_at}
 use Rattle.tree_uses.proofs.ActionSteps.{Summed}
 
@@ -143,11 +142,6 @@ pub chance_list_by : (owner : Option ℕ) (n : ℕ) (tokens inner behind : List 
     → n ≡ length actions → closed_at n behind ≡ closed → eq_ℚ sum one_ℚ ≡ is → first_list_at owner tokens ≡ (closed >>= λ rest. if is then Some (actions, rest) else None)
 chance_list_by owner n tokens inner behind actions sum closed is o l s e c t = rw (← c, ← t, e) (chance_list_is owner tokens inner (Some ((actions, sum), behind)) o l s)
 
--- a part that is refused refuses the whole
-pub refused_on : {K Y Z : Type 0} (refusal : Refusal K) (part : Option Y) (whole : Option Z) → (part ≡ None → whole ≡ None) → Refuses refusal part → Refuses refusal whole
-refused_on (refusals.Unfit kind left) part whole on h = on h
-refused_on refusals.Memory part whole on h = tt
-
 -- a player's actions have no probabilities
 pub own_list_so : (owner : Option ℕ) (i n : ℕ) (inner behind rest : List Token) (actions : List Action) → owner ≡ Some i → actions_at (Some 0) inner ≡ Some (actions, behind) → n ≡ length actions → closed_at n behind ≡ Some rest → IsActionList owner actions
 own_list_so owner i n inner behind rest actions o a e c =
@@ -176,10 +170,6 @@ never (Some rest) = refl
 closed_as_it_is : (closed : Option (List Token)) → (closed >>= λ rest. if true then Some rest else None) ≡ closed
 closed_as_it_is None = refl
 closed_as_it_is (Some rest) = refl
-
--- a rational is itself
-eq_ℚ-self : (a : ℚ) → eq_ℚ a a ≡ true
-eq_ℚ-self a = rw ((Decides-int_eq a.num a.num).1 refl, (Decides-eqb a.den a.den).1 refl) refl
 
 -- no action is repeated by one
 too_long : (action : Action) (reading : Listed) → ((reading >>= more_actions action) >>= repeated_behind []) ≡ None
@@ -215,7 +205,7 @@ chance_repeats (action ∷ actions) tokens = never (right_at tokens)
 own_repeats : (i : ℕ) (actions : List Action) (tokens : List Token) → AllByRecursion (HasNoProbability (Some i)) actions → (actions_at (Some i) tokens >>= repeated_behind actions) ≡ (all_repeated_at (Some i) actions tokens >>= right_at)
 own_repeats i [] (Text name ∷ tokens) h = never (right_at (texts_at tokens).1)
 own_repeats i [] tokens h = closed_as_it_is (right_at tokens)
-own_repeats i (action ∷ actions) (Text name ∷ tokens) h = rw (h.0, eq_ℚ-self zero_ℚ) (own_repeats i actions tokens h.1)
+own_repeats i (action ∷ actions) (Text name ∷ tokens) h = rw (h.0, eq_self eq_ℚ eq_ℚ-Decides zero_ℚ) (own_repeats i actions tokens h.1)
 own_repeats i (action ∷ actions) tokens h = never (right_at tokens)
 
 -- actions repeat these, and are closed

@@ -10,9 +10,7 @@ use Rattle.std.proofs.lemmas.Option.{slice_get-get_or, slice_get_past}
 use Rattle.indexmap.specs.IndexSet.{insert_key}
 use Rattle.rational.specs.Rational.{ℚ}
 use Rattle.game_text.specs.declared.token.Token.{Token}
-use Rattle.file_parts.specs.declared.refusal.Refusal.{Refusal}
-use Rattle.file_parts.specs.declared.refusal.Refusal.TheVariants as refusals
-use Rattle.file_parts.specs.Reading.{Refuses, left_at, right_at, optional_text_at, payoffs_at, or_else}
+use Rattle.file_parts.specs.Reading.{left_at, right_at, optional_text_at, payoffs_at, or_else}
 use Rattle.file_parts.proofs.Options.{bind_some, some_same}
 use Rattle.file_parts.proofs.NumberLaws.{payoffs_are}
 use Rattle.written_trees.specs.Building.{BegunOutcome, outcome_place}
@@ -48,11 +46,6 @@ place_within p (x ∷ xs) h = elim (cases_Bool (p x)) [
   | inl e ↦ rw e (omega arith)
   | inr e ↦ let less : position_or_len p xs < length xs = place_within p xs (rw e at h) in rw e (omega arith)
 ]
-
--- what is refused where one reading gives nothing is refused where another gives nothing then
-pub refused_too : {K Y Z : Type 0} (refusal : Refusal K) (one : Option Y) (other : Option Z) → (one ≡ None → other ≡ None) → Refuses refusal one → Refuses refusal other
-refused_too (refusals.Unfit kind left) one other follows h = follows h
-refused_too refusals.Memory one other follows h = tt
 
 -- the outcomes, the place of one and the tokens after a step
 abbrev step_to : List BegunOutcome → ℕ → List Token → Option ((List BegunOutcome × Option ℕ) × List Token)

@@ -4,4 +4,5 @@ pub mod KeptOutcomes
 pub mod NamedOutcomes
 pub mod OutcomeSteps
 pub mod Probabilities
+pub mod Refused
 pub mod SetSteps

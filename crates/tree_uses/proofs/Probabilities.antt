@@ -1,7 +1,6 @@
 -- One more probability: what the code compares says whether it may follow.
 use Rattle.std.proofs.Common.{◌≡◌, inl, inr, Bool, true, false, ◌&&◌, true≢false, refl, sym, ap₂, subst, ◌∙◌, ℤ, pos, negsuc, ◌*ℤ◌, ◌<ℤ◌, ◌≤ℤ◌, Decides, arith}
 use Rattle.std.proofs.lemmas.Bool.{cases_Bool}
-use Rattle.std.proofs.lemmas.Bool.Decides.{nat_tests}
 use Rattle.std.proofs.lemmas.Int.{ints}
 use Rattle.std.proofs.lemmas.Cmp.{int_ranked}
 use Rattle.std.specs.Bool.{◌==◌}
@@ -16,7 +15,8 @@ use Rattle.rational.proofs.Decide.{le_test-true}
 use Rattle.rational.proofs.Parts.{nonneg-num}
 use Rattle.frac128.specs.Fraction.{cmp_ℚ, sign_of}
 use Rattle.frac128.specs.Steps.{AddFits}
-use Rattle.written_trees.specs.Building.{add_test, may_follow}
+use Rattle.written_trees.specs.Building.{may_follow}
+use Rattle.written_trees.proofs.Chances.{add_test-Decides}
 
 -- a test fails where what it decides does not hold
 test_fails : {P : Type 0} (b : Bool) → Decides b P → ¬ P → b ≡ false
@@ -50,10 +50,6 @@ order_fails Less x y e h = absurd (true≢false (sym h))
 order_fails Equal x y e h = absurd (true≢false (sym h))
 order_fails Greater x y e h = let gt = int_ranked x y Greater e in grind (arith, ints)
 
--- the test of a sum that fits
-sum_passes : (a b : ℚ) → AddFits a b → add_test a b ≡ true
-sum_passes a b h = grind (arith, nat_tests)
-
 -- the order of two rationals answers it too
 order_le : (r : Ordering) (a b : ℚ) → r ≡ cmp_ℚ a b → (ordering_index r == 2) ≡ false → le_test a b ≡ true
 unfolding le_test
@@ -75,7 +71,7 @@ last_fails false b d e = refl
 -- a probability that is not negative may follow where the sum fits and is at most 1
 pub may_follow_so : (sum prob next one : ℚ) (sign : ℤ) (r : Ordering) → next ≡ sum +ℚ prob → AddFits sum prob → sign ≡ sign_of prob → pos 0 ≤ℤ sign → one ≡ one_ℚ → r ≡ cmp_ℚ next one → (ordering_index r == 2) ≡ false → may_follow sum prob ≡ true
 unfolding may_follow
-may_follow_so sum prob next one sign r n f s nonneg o e h = all_pass _ _ _ (sign_passes prob (subst (λ z. pos 0 ≤ℤ z) s nonneg)) (sum_passes sum prob f) (order_le r (sum +ℚ prob) one_ℚ (e ∙ ap₂ cmp_ℚ n o) h)
+may_follow_so sum prob next one sign r n f s nonneg o e h = all_pass _ _ _ (sign_passes prob (subst (λ z. pos 0 ≤ℤ z) s nonneg)) ((add_test-Decides sum prob).1 f) (order_le r (sum +ℚ prob) one_ℚ (e ∙ ap₂ cmp_ℚ n o) h)
 
 -- a negative probability may not follow
 pub negative_may_not : (sum prob : ℚ) (sign : ℤ) → sign ≡ sign_of prob → sign <ℤ pos 0 → may_follow sum prob ≡ false

@@ -1,5 +1,5 @@
 -- A set that a node uses, as the reader finds it among those before it.
-use Rattle.std.proofs.Common.{◌≡◌, ℕ, ◌+◌, Bool, true, false, true≢false, cond, not, ◌||◌, one-add, List, [], ◌∷◌, ◌++◌, length, map, option_map, slice_get, slice_set, get_or, ◌<◌, Option, Some, None, if◌then◌else◌, refl, sym, ap, ap₂, ◌∙◌, subst, arith}
+use Rattle.std.proofs.Common.{◌≡◌, ℕ, ◌+◌, Bool, true, false, not, ◌||◌, List, [], ◌∷◌, ◌++◌, length, map, option_map, slice_get, slice_set, get_or, ◌<◌, Option, Some, None, if◌then◌else◌, refl, sym, ap, ap₂, ◌∙◌, subst, arith}
 use Rattle.std.specs.List.{position_or_len, list_any}
 use Rattle.std.proofs.lemmas.Option.{slice_get-map, slice_get-get_or}
 use Rattle.std.proofs.lemmas.List.{map-append, map-set, length-map}
@@ -14,7 +14,8 @@ use Rattle.written_trees.specs.Described.{SetKey, key_of, same_set}
 use Rattle.written_trees.specs.Written.{SetUse}
 use Rattle.written_trees.specs.Building.{BegunSet, key_of_begun, set_place, use_set, may_be_first, repeats_actions}
 use Rattle.written_trees.specs.Laws.{IsActionList}
-use Rattle.written_trees.proofs.Lists.{key_at, map-map}
+use Rattle.written_trees.proofs.InsertedKeys.{position-map, slice_get-found, slice_get-none}
+use Rattle.written_trees.proofs.Lists.{map-map}
 use Rattle.written_trees.proofs.SetUses.{same_set-Decides}
 use Rattle.tree_uses.specs.declared.sets.SetBegun.{SetBegun}
 use Rattle.tree_uses.specs.declared.sets.SetKey.{SetKey as Key}
@@ -24,24 +25,10 @@ use Rattle.tree_files.specs.TreeReading.{action_list_at, optional_at, positive_a
 use Rattle.tree_uses.proofs.ActionLists.{first_without, that_comes}
 
 -- ---- places
--- the first place that passes in a list from which another is made
-position-map : {X Y : Type 0} (p : X → Bool) (f : Y → X) (ys : List Y) → position_or_len p (map f ys) ≡ position_or_len (λ y. p (f y)) ys
-position-map p f [] = refl
-position-map p f (y ∷ ys) = ap (λ n. cond (not (p (f y))) (1 + n) 0) (position-map p f ys)
-
 -- whether one passes there
 any-map : {X Y : Type 0} (p : X → Bool) (f : Y → X) (ys : List Y) → list_any p (map f ys) ≡ list_any (λ y. p (f y)) ys
 any-map p f [] = refl
 any-map p f (y ∷ ys) = ap (λ b. p (f y) || b) (any-map p f ys)
-
--- nothing stands at the first place that passes where none does
-none_at : {X : Type 0} (p : X → Bool) (xs : List X) → list_any p xs ≡ false → slice_get xs (position_or_len p xs) ≡ None
-none_at p [] e = refl
-none_at p (x ∷ xs) e = by (p x) (none_at p xs) e
-  where
-    by : (b : Bool) → (list_any p xs ≡ false → slice_get xs (position_or_len p xs) ≡ None) → (b || list_any p xs) ≡ false → slice_get (x ∷ xs) (cond (not b) (1 + position_or_len p xs) 0) ≡ None
-    by true rest e = absurd (true≢false e)
-    by false rest e = rw one-add (rest e)
 
 -- ---- keys
 -- keys that are those of the sets in order
@@ -56,13 +43,13 @@ module _ {K : Type 0} (f : K → SetKey) (keys : List K) (sets : List BegunSet) 
 
   -- a new key has no set
   pub new_key : list_any (λ k. same_set key (f k)) keys ≡ false → slice_get sets (set_place sets key) ≡ None
-  new_key e = none_at (λ set. same_set key (key_of_begun set)) sets (sym any_is ∙ e)
+  new_key e = slice_get-none (λ set. same_set key (key_of_begun set)) sets (sym any_is ∙ e)
 
   -- the set that stands at the place of a known key has this key
   pub known_key : (set : BegunSet) → list_any (λ k. same_set key (f k)) keys ≡ true → slice_get sets (set_place sets key) ≡ Some set → key_of_begun set ≡ key
   known_key set e at =
       let all : list_any (same_set key) (map key_of_begun sets) ≡ true = any-map (same_set key) key_of_begun sets ∙ sym any_is ∙ e in
-      let found = key_at same_set (λ a b. (same_set-Decides a b).0) (map key_of_begun sets) key all in
+      let found = slice_get-found same_set same_set-Decides (map key_of_begun sets) key all in
       some_same _ _ (sym (slice_get-map key_of_begun sets (set_place sets key) ∙ ap (option_map key_of_begun) at) ∙ ap (slice_get (map key_of_begun sets)) (sym (position-map (same_set key) key_of_begun sets)) ∙ found)
 
 -- ---- steps

@@ -16,7 +16,8 @@ use Rattle.written_trees.proofs.Options.{mapped_some}
 use Rattle.written_trees.proofs.Lists.{map-map}
 use Rattle.written_trees.proofs.Depths.{few_edges_of}
 use Rattle.written_trees.proofs.Uses.{sets_more, outcomes_more, all_uses}
-use Rattle.written_trees.proofs.Standing.{StandsIn, Stand, stand_length, stand-push, stand_longer, stand_all, IsUsedIn, all_used, same_set-sound, set_within, outcome_within, kind_there}
+use Rattle.written_trees.proofs.SetUses.{same_set-Decides}
+use Rattle.written_trees.proofs.Standing.{StandsIn, Stand, stand_length, stand-push, stand_longer, stand_all, IsUsedIn, all_used, set_within, outcome_within, kind_there}
 use Rattle.written_trees.proofs.Steps.{new_node, Step, grown, built_so}
 use Rattle.written_trees.proofs.Sound.{IsSound, sound}
 
@@ -120,7 +121,7 @@ good_set players key [] same are agree some = absurd (omega arith)
 good_set players key (first ∷ later) same are agree some =
     let P = λ (x : ℕ × SetUse). same_set key (key_of x.1) ≡ true in
     let Q = λ (x : ℕ × SetUse). IsSetUse players x.1 in
-    let owner : key.0 ≡ first.1.owner = ap (λ k. k.0) (same_set-sound key (key_of first.1) (All-head P first later same)) in
+    let owner : key.0 ≡ first.1.owner = ap (λ k. k.0) ((same_set-Decides key (key_of first.1)).0 (All-head P first later same)) in
     let of_first = All-head Q first later are in
     let list : IsActionList first.1.owner agree.0 = rw agree.1 at of_first.is_list in
     record {

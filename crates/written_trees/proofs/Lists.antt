@@ -1,7 +1,7 @@
 -- Lists with one more element at the end.
+use Rattle.std.proofs.Common.{◌≡◌, ℕ, zero, suc, ◌+◌, List, [], ◌∷◌, ◌++◌, length, map, slice_set, slice_get, Some, None, ◌⊎◌, Bool, true, false, cond, not, one-add, inl, inr, refl, sym, ap, ◌∙◌, subst, append_assoc, append-nil, arith}
+use Rattle.std.specs.List.{position_or_len}
 use Rattle.file_parts.proofs.Options.{some_same}
-use Rattle.std.proofs.Common.{◌≡◌, ℕ, zero, suc, ◌+◌, List, [], ◌∷◌, ◌++◌, length, map, slice_set, slice_get, Some, None, ◌⊎◌, Bool, true, false, cond, not, ◌||◌, one-add, inl, inr, refl, sym, ap, ◌∙◌, subst, append_assoc, append-nil, arith}
-use Rattle.std.specs.List.{position_or_len, list_any}
 
 -- what holds of the empty list, and of a list with one more element at the end, holds of each list
 pub at_end : {A : Type 0} (P : List A → Type 0) → P [] → ((front : List A) (one : A) → P front → P (front ++ one ∷ [])) → (list : List A) → P list
@@ -62,12 +62,3 @@ position_past {A} p (x ∷ xs) e = go (p x) (position_past p xs) e
     go : (v : Bool) → (slice_get xs (position_or_len p xs) ≡ None → position_or_len p xs ≡ length xs) → slice_get (x ∷ xs) (cond (not v) (1 + position_or_len p xs) 0) ≡ None → cond (not v) (1 + position_or_len p xs) 0 ≡ suc (length xs)
     go true h e = cc
     go false h e = rw one-add (ap suc (h (rw one-add at e)))
-
--- a key that is listed stands at the first place that is the same
-pub key_at : {K : Type 0} (same : K → K → Bool) → ((a b : K) → same a b ≡ true → a ≡ b) → (keys : List K) (key : K) → list_any (same key) keys ≡ true → slice_get keys (position_or_len (same key) keys) ≡ Some key
-key_at same sound [] key e = cc
-key_at {K} same sound (one ∷ keys) key e = go (same key one) refl (key_at same sound keys key) e
-  where
-    go : (v : Bool) → same key one ≡ v → (list_any (same key) keys ≡ true → slice_get keys (position_or_len (same key) keys) ≡ Some key) → (v || list_any (same key) keys) ≡ true → slice_get (one ∷ keys) (cond (not v) (1 + position_or_len (same key) keys) 0) ≡ Some key
-    go true is h e = ap Some (sym (sound key one is))
-    go false is h e = rw one-add (h e)

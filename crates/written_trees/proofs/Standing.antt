@@ -1,5 +1,5 @@
 -- The nodes of a tree beside the written nodes that they stand for.
-use Rattle.std.proofs.Common.{◌≡◌, ℕ, suc, ◌&&◌, nat_eq, Bool, true, false, List, [], ◌∷◌, ◌++◌, length, map, slice_get, All, IfSome, Option, Some, None, option_map, refl, sym, ap, ap₂, ◌∙◌}
+use Rattle.std.proofs.Common.{◌≡◌, ℕ, suc, nat_eq, List, [], ◌∷◌, ◌++◌, length, map, slice_get, All, IfSome, Option, Some, None, option_map, refl, sym, ap, ◌∙◌}
 use Rattle.std.specs.List.{position_or_len}
 use Rattle.std.proofs.lemmas.Bool.Decides.{Decides-eqb}
 use Rattle.std.proofs.lemmas.List.Elements.{All-nil, All-cons, All-head, All-tail, All-push, All-weaker}
@@ -7,8 +7,10 @@ use Rattle.std.proofs.lemmas.Option.{slice_get_within, slice_get-map, get_or_fro
 use Rattle.game_core.specs.declared.tree.Node.{Node}
 use Rattle.game_core.specs.Tree.{InformationSet, IsWithin, kind_of_owner, kind_at}
 use Rattle.written_trees.specs.Written.{SetUse, OutcomeUse, WrittenNode}
-use Rattle.written_trees.specs.Described.{SetKey, key_of, same_owner, same_set, set_uses, outcome_uses, sets_of, outcomes_of, kind_of_use, set_number, outcome_number, StandsFor, StandForEach}
-use Rattle.written_trees.proofs.Lists.{at_end, key_at}
+use Rattle.written_trees.specs.Described.{key_of, same_set, set_uses, outcome_uses, sets_of, outcomes_of, kind_of_use, set_number, outcome_number, StandsFor, StandForEach}
+use Rattle.written_trees.proofs.InsertedKeys.{slice_get-found}
+use Rattle.written_trees.proofs.Lists.{at_end}
+use Rattle.written_trees.proofs.SetUses.{same_set-Decides}
 use Rattle.written_trees.proofs.Uses.{IsUsedSet, IsUsedOutcome, sets_more, outcomes_more}
 
 -- ---- nodes that stand for each
@@ -110,27 +112,9 @@ stand_shorter nodes written one h =
     stand_alike (written ++ one ∷ []) written nodes written (All-weaker (IsUsedIn written) (HasNumbers (written ++ one ∷ []) written) (has_numbers written one) written (all_used written)) h
 
 -- ---- keys
--- the same owner
-same_owner-sound : (a b : Option ℕ) → same_owner a b ≡ true → a ≡ b
-same_owner-sound None None e = refl
-same_owner-sound None (Some j) e = cc
-same_owner-sound (Some i) None e = cc
-same_owner-sound (Some i) (Some j) e = ap Some ((Decides-eqb i j).0 e)
-
--- both tests held
-both : (v w : Bool) → (v && w) ≡ true → (v ≡ true) × (w ≡ true)
-both true w e = (refl, e)
-both false w e = cc
-
--- the same set
-pub same_set-sound : (a b : SetKey) → same_set a b ≡ true → a ≡ b
-same_set-sound a b e =
-    let h = both (same_owner a.0 b.0) (nat_eq a.1 b.1) e in
-    ap₂ (λ x y. (x, y)) (same_owner-sound a.0 b.0 h.0) ((Decides-eqb a.1 b.1).0 h.1)
-
 -- the key of a used set stands at its number
 pub key_there : (uses : List (ℕ × SetUse)) (u : SetUse) → IsUsedSet uses u → slice_get (sets_of uses) (position_or_len (same_set (key_of u)) (sets_of uses)) ≡ Some (key_of u)
-key_there uses u h = key_at same_set same_set-sound (sets_of uses) (key_of u) h
+key_there uses u h = slice_get-found same_set same_set-Decides (sets_of uses) (key_of u) h
 
 -- the number of a used set is one of the sets'
 pub set_within : (uses : List (ℕ × SetUse)) (o : Option SetUse) → IfSome o (IsUsedSet uses) → IsWithin (length (sets_of uses)) (set_number (sets_of uses) o)
@@ -140,7 +124,7 @@ set_within uses (Some u) h = slice_get_within (sets_of uses) _ (key_of u) (key_t
 -- the number of a used outcome is one of the outcomes'
 pub outcome_within : (uses : List (ℕ × OutcomeUse)) (o : Option OutcomeUse) → IfSome o (IsUsedOutcome uses) → IsWithin (length (outcomes_of uses)) (outcome_number (outcomes_of uses) o)
 outcome_within uses None h = tt
-outcome_within uses (Some u) h = slice_get_within (outcomes_of uses) _ u.label (key_at nat_eq (λ a b. (Decides-eqb a b).0) (outcomes_of uses) u.label h)
+outcome_within uses (Some u) h = slice_get_within (outcomes_of uses) _ u.label (slice_get-found nat_eq Decides-eqb (outcomes_of uses) u.label h)
 
 -- who chooses there
 pub kind_there : (uses : List (ℕ × SetUse)) (sets : List InformationSet) (o : Option SetUse) → map (λ set. set.owner) sets ≡ map (λ key. key.0) (sets_of uses) → IfSome o (IsUsedSet uses) → kind_of_use o ≡ kind_at sets (set_number (sets_of uses) o)

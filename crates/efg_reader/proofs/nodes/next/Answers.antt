@@ -4,7 +4,7 @@ use Rattle.file_parts.specs.Reading.{kinds}
 use Rattle.tree_uses.specs.Uses.{begun_sets, begun_outcomes, AreSets, AreOutcomes}
 use Rattle.efg_reader.specs.States.{begun_of}
 use Rattle.tree_files.specs.TreeReading.{choice_step_at, next_at}
-use Rattle.tree_uses.proofs.KeptOutcomes.{refused_too}
+use Rattle.tree_uses.proofs.Refused.{refused_too}
 use Rattle.efg_reader.proofs.NodeSteps.{ChoiceStep, OutcomeStep}
 use Rattle.efg_reader.proofs.NextSteps.{choice_refused, outcome_refused, node_added, few_sets_more, few_outcomes_more, next_takes}
 use Rattle.efg_reader.proofs.nodes.next.Goals as goal

@@ -4,7 +4,8 @@ use Rattle.frac128.specs.Fraction.{eq_ℚ}
 use Rattle.game_text.specs.declared.token.Token.{Token}
 use Rattle.file_parts.specs.Reading.{◌>>=◌, kinds, Refuses}
 use Rattle.tree_files.specs.TreeReading.{closed_at, first_list_at}
-use Rattle.tree_uses.proofs.ActionLists.{first_without, own_list_is, own_list_so, chance_list_is, chance_list_by, refused_on}
+use Rattle.tree_uses.proofs.ActionLists.{first_without, own_list_is, own_list_so, chance_list_is, chance_list_by}
+use Rattle.tree_uses.proofs.Refused.{refused_too}
 use Rattle.tree_uses.proofs.actions.first_list.Goals as goal
 use Rattle.tree_uses.proofs.actions.first_list.Goals.{After-len, After-len-in-None}
 
@@ -31,17 +32,17 @@ returns-in_default-clause-read c = rw c.unfit.ensures (first_without c.args.owne
 
 pub returns-in_err-rest-in-Some-owner-clause-read : goal.returns-in_err-rest-in-Some-owner-clause-read
 returns-in_err-rest-in-Some-owner-clause-read c =
-    let refused : Refuses c.in_err-rest-in-Some-owner.field-0.0 (first_list_at c.args.owner (kinds c.args.tokens.now)) = refused_on _ _ _ (own_list (goal.at.returns-in_err-rest-in-Some-owner-clause-read c).After-len None) c.in_err-rest-in-Some-owner.ensures in
+    let refused : Refuses c.in_err-rest-in-Some-owner.field-0.0 (first_list_at c.args.owner (kinds c.args.tokens.now)) = refused_too _ _ _ (own_list (goal.at.returns-in_err-rest-in-Some-owner-clause-read c).After-len None) c.in_err-rest-in-Some-owner.ensures in
     search rules
 
 pub returns-in_err-actions-in-None-clause-read : goal.returns-in_err-actions-in-None-clause-read
 returns-in_err-actions-in-None-clause-read c =
-    let refused : Refuses c.in_err-actions-in-None.field-0.0 (first_list_at c.args.owner (kinds c.args.tokens.now)) = refused_on _ _ _ (λ none. chance_list_is c.args.owner (kinds c.args.tokens.now) (kinds c.in-Some.inner.now) None c.in-None.is c.in-Some.ensures none) c.in_err-actions-in-None.ensures in
+    let refused : Refuses c.in_err-actions-in-None.field-0.0 (first_list_at c.args.owner (kinds c.args.tokens.now)) = refused_too _ _ _ (λ none. chance_list_is c.args.owner (kinds c.args.tokens.now) (kinds c.in-Some.inner.now) None c.in-None.is c.in-Some.ensures none) c.in_err-actions-in-None.ensures in
     search rules
 
 pub returns-in_err-rest-in-None-clause-read : goal.returns-in_err-rest-in-None-clause-read
 returns-in_err-rest-in-None-clause-read c =
-    let refused : Refuses c.in_err-rest-in-None.field-0.0 (first_list_at c.args.owner (kinds c.args.tokens.now)) = refused_on _ _ _ (λ none. chance_list (goal.at.returns-in_err-rest-in-None-clause-read c).After-len-in-None None _ none refl) c.in_err-rest-in-None.ensures in
+    let refused : Refuses c.in_err-rest-in-None.field-0.0 (first_list_at c.args.owner (kinds c.args.tokens.now)) = refused_too _ _ _ (λ none. chance_list (goal.at.returns-in_err-rest-in-None-clause-read c).After-len-in-None None _ none refl) c.in_err-rest-in-None.ensures in
     search rules
 
 pub returns-then-ne-clause-read : goal.returns-then-ne-clause-read

@@ -2,7 +2,8 @@ use Rattle.std.proofs.Common.{rules, ◌≡◌, List, Option, None, Some, ◌∙
 use Rattle.game_text.specs.declared.token.Token.{Token}
 use Rattle.file_parts.specs.Reading.{◌>>=◌, kinds, right_at, Refuses}
 use Rattle.tree_files.specs.TreeReading.{all_repeated_at, later_list_at}
-use Rattle.tree_uses.proofs.ActionLists.{later_without, later_list_is, refused_on}
+use Rattle.tree_uses.proofs.ActionLists.{later_without, later_list_is}
+use Rattle.tree_uses.proofs.Refused.{refused_too}
 use Rattle.tree_uses.proofs.actions.later_list.Goals as goal
 use Rattle.tree_uses.proofs.actions.later_list.Goals.{In-Some}
 
@@ -16,7 +17,7 @@ returns-in_default c = later_without c.args.owner c.args.actions.now (kinds c.ar
 
 pub returns-in_err-behind : goal.returns-in_err-behind
 returns-in_err-behind c =
-    let refused : Refuses c.in_err-behind.field-0.0 (later_list_at c.args.owner c.args.actions.now (kinds c.args.tokens.now)) = refused_on _ _ _ (list_by (goal.at.returns-in_err-behind c).In-Some None) c.in_err-behind.ensures in
+    let refused : Refuses c.in_err-behind.field-0.0 (later_list_at c.args.owner c.args.actions.now (kinds c.args.tokens.now)) = refused_too _ _ _ (list_by (goal.at.returns-in_err-behind c).In-Some None) c.in_err-behind.ensures in
     search rules
 
 pub returns-in-Some-right : goal.returns-in-Some-right

@@ -1,7 +1,8 @@
 use Rattle.std.proofs.Common.{rules, ◌∙◌, refl, sym}
 use Rattle.std.proofs.lemmas.Bool.{not-true, not-false}
 use Rattle.file_parts.specs.Reading.{kinds}
-use Rattle.tree_uses.proofs.KeptOutcomes.{refused_too, first_kept, first_unread, first_used, later_kept, later_unread, later_used}
+use Rattle.tree_uses.proofs.KeptOutcomes.{first_kept, first_unread, first_used, later_kept, later_unread, later_used}
+use Rattle.tree_uses.proofs.Refused.{refused_too}
 use Rattle.tree_uses.proofs.outcomes.read_named.Goals as goal
 
 -- a first use

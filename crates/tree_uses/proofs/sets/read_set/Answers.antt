@@ -3,7 +3,7 @@ use Rattle.std.specs.Vec.{with_item}
 use Rattle.file_parts.specs.Reading.{kinds, Refuses}
 use Rattle.tree_uses.specs.Uses.{begun_sets}
 use Rattle.tree_files.specs.TreeReading.{set_step_at}
-use Rattle.tree_uses.proofs.ActionLists.{refused_on}
+use Rattle.tree_uses.proofs.Refused.{refused_too}
 use Rattle.tree_uses.proofs.SetSteps.{Comes, step_without, first_refused, first_used, later_refused, later_used, known_within, sets_begin, sets_go_on}
 use Rattle.tree_uses.proofs.sets.read_set.Goals as goal
 use Rattle.tree_uses.proofs.sets.read_set.Goals.{In_ok-place}
@@ -26,13 +26,13 @@ returns-in_default-clause-read c = rw c.unfit.ensures (step_without c.args.node 
 pub returns-in_err-set-clause-read : goal.returns-in_err-set-clause-read
 returns-in_err-set-clause-read c =
     let known = comes (goal.at.returns-in_err-set-clause-read c).In_ok-place in
-    let refused : Refuses c.in_err-set.field-0.0 (set_step_at c.args.node (begun_sets c.args.sets.now) c.args.owner (kinds c.args.tokens.now)) = refused_on _ _ _ (λ none. first_refused known c.args.node c.if-is_new.true none) c.in_err-set.ensures.read in
+    let refused : Refuses c.in_err-set.field-0.0 (set_step_at c.args.node (begun_sets c.args.sets.now) c.args.owner (kinds c.args.tokens.now)) = refused_too _ _ _ (λ none. first_refused known c.args.node c.if-is_new.true none) c.in_err-set.ensures.read in
     search rules
 
 pub returns-in_err-rest-clause-read : goal.returns-in_err-rest-clause-read
 returns-in_err-rest-clause-read c =
     let known = comes (goal.at.returns-in_err-rest-clause-read c).In_ok-place in
-    let refused : Refuses c.in_err-rest.field-0.0 (set_step_at c.args.node (begun_sets c.args.sets.now) c.args.owner (kinds c.args.tokens.now)) = refused_on _ _ _ (λ none. later_refused known c.args.node c.index_mut.result.now c.if-is_new.false c.index_mut.ensures.value none) c.in_err-rest.ensures.read in
+    let refused : Refuses c.in_err-rest.field-0.0 (set_step_at c.args.node (begun_sets c.args.sets.now) c.args.owner (kinds c.args.tokens.now)) = refused_too _ _ _ (λ none. later_refused known c.args.node c.index_mut.result.now c.if-is_new.false c.index_mut.ensures.value none) c.in_err-rest.ensures.read in
     search rules
 
 pub returns-in_ok-push-clause-sets : goal.returns-in_ok-push-clause-sets
