@@ -1,7 +1,7 @@
 // Names and payoffs, one after another.
 ghost use Rattle.std.specs.Prelude.{◌≡◌, ◌≤◌, length, IfOk};
 ghost use Rattle.file_parts.specs.declared.refusal.Refusal.TheVariants.{Unfit};
-ghost use Rattle.file_parts.specs.Reading.{Gives, Reads, kinds, texts_at, names_at, payoff_start, payoff_at, payoffs_at};
+ghost use Rattle.file_parts.specs.Reading.{Gives, Reads, kinds, texts_at, names_at, place_of, payoff_start, payoff_at, payoffs_at};
 
 use crate::pieces::{behind_comma, left, number, right, text};
 use crate::refusal::Refusal;
@@ -20,7 +20,8 @@ pub fn unfit<K>(kind: K, tokens: &[Spanned]) -> Refusal<K>
 /// Where the token stands from which on so many are left, as a byte offset from 0, or the source's length where none
 /// is.
 pub fn place(tokens: &Tokens, left: usize) -> usize
-    ensures { result ≤ tokens.now.length }
+    ensures place { result ≡ place_of tokens.now left }
+    ensures within { result ≤ tokens.now.length }
 {
     let list = tokens.list();
     let index = list.len().saturating_sub(left);

@@ -40,10 +40,10 @@ abbrev first_action : List (ℕ × ℕ) → ℕ
 first_action [] = 0
 first_action (x ∷ xs) = x.1
 
--- nodes 1 and 4 share a set, but action 0 leads to the one and action 1 to the other
+-- nodes 2 and 7 share a set, but action 0 leads to the one and action 1 to the other
 forgets : HasPerfectRecall forgetful_game 0 → ⊥
 forgets h =
-    let same : zero ≡ suc zero = ap first_action (h 1 1 4 refl (omega arith) (omega arith) refl refl) in
+    let same : zero ≡ suc zero = ap first_action (h 1 2 7 refl (omega arith) (omega arith) refl refl) in
     cc
 
 -- the law of the two games

@@ -78,13 +78,14 @@ pub record EntryHasTwoPureEquilibria : Type 0 where
   pub enters : IsEquilibrium entry_game (pure (both 1 1))
   pub no_other : (choice : ℕ → ℕ) → IsEquilibrium entry_game (pure choice) → ((choice 0 ≡ 0) × (choice 1 ≡ 0)) ⊎ ((choice 0 ≡ 1) × (choice 1 ≡ 1))
 
--- A player chooses twice and forgets the first choice (set 0) at the second (set 1).
+-- A player chooses (set 0), chance may end the game (set 2), and else the player chooses again and has forgotten the first choice
+-- (set 1).
 abbrev pub forgetful_game : Tree
 forgetful_game = tree_of 1
     (inner 0 0 0
-    ∷ inner 0 0 1 ∷ end 1 0 (pos 1 ∷ []) ∷ end 1 1 (pos 0 ∷ [])
-    ∷ inner 0 1 1 ∷ end 4 0 (pos 0 ∷ []) ∷ end 4 1 (pos 2 ∷ []) ∷ [])
-    (Some 0 ∷ Some 0 ∷ [])
+    ∷ inner 0 0 2 ∷ inner 1 0 1 ∷ end 2 0 (pos 1 ∷ []) ∷ end 2 1 (pos 0 ∷ []) ∷ end 1 1 (pos 0 ∷ [])
+    ∷ inner 0 1 2 ∷ inner 6 0 1 ∷ end 7 0 (pos 0 ∷ []) ∷ end 7 1 (pos 2 ∷ []) ∷ end 6 1 (pos 0 ∷ []) ∷ [])
+    (Some 0 ∷ Some 0 ∷ None ∷ [])
 
 -- both players recall their choices in poker, and the forgetful player does not
 pub record RecallInTwoGames : Type 0 where
