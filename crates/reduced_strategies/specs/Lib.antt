@@ -1,4 +1,5 @@
 pub mod Choices
 pub mod Examples
 pub mod Laws
+pub mod Places
 pub mod StrategicForm
