@@ -1,0 +1,43 @@
+-- A player's decisions on a game tree, in the order of the nodes.
+use Rattle.std.specs.Prelude.{ℕ, ◌<◌, ◌≡◌, List, [], ◌∷◌, ◌++◌, length, map, slice_index, slice_get, Contains, Option, Some, None}
+use Rattle.game_trees.specs.Trees.{Tree}
+use Rattle.game_trees.specs.Recall.{own_history}
+use Rattle.reduced_strategies.specs.Choices.{own_sets, AreReducedStrategies}
+use Rattle.decision_walk.specs.declared.decision.Decision.{Decision}
+use Rattle.decision_walk.specs.declared.decision.Step.{Step}
+use Rattle.decision_walk.specs.Walks.{AreLinked}
+
+-- how many actions each of player i's own sets has
+abbrev pub action_counts : Tree → ℕ → List ℕ
+action_counts t i = map t.actions (own_sets t i)
+
+-- the own history of the decision to which a step leads, where these nodes are the decisions'
+abbrev pub history_by : Tree → ℕ → List ℕ → Option Step → List (ℕ × ℕ)
+history_by t i nodes None = []
+history_by t i nodes (Some step) = own_history t i (slice_index nodes step.decision) ++ (slice_index (own_sets t i) step.place, step.action) ∷ []
+
+-- a decision is the choice at node k: it has the place of the node's set, and the step before it leads there
+pub record IsDecisionAt (t : Tree) (i : ℕ) (nodes : List ℕ) (decision : Decision) (k : ℕ) : Type 0 where
+  pub within : k < t.size
+  pub set : ℕ
+  pub at_set : t.set k ≡ Some set
+  pub own : t.owner set ≡ Some i
+  pub place_is : slice_get (own_sets t i) decision.place ≡ Some set
+  pub history_is : own_history t i k ≡ history_by t i nodes decision.before
+
+-- the decisions of player i, one for each node at which the player chooses
+pub record AreDecisions (t : Tree) (i : ℕ) (decisions : List Decision) : Type 0 where
+  pub nodes : List ℕ
+  pub one_for_each : length nodes ≡ length decisions
+  pub are_decisions : (j k : ℕ) (decision : Decision) → slice_get decisions j ≡ Some decision → slice_get nodes j ≡ Some k → IsDecisionAt t i nodes decision k
+  pub all : (k s : ℕ) → k < t.size → t.set k ≡ Some s → t.owner s ≡ Some i → Contains nodes k
+  pub linked : AreLinked decisions (action_counts t i)
+
+-- the decisions of each player
+pub record AreDecisionsOfAll (t : Tree) (lists : List (List Decision)) : Type 0 where
+  pub one_for_each : length lists ≡ t.players
+  pub are_decisions : (i : ℕ) (decisions : List Decision) → slice_get lists i ≡ Some decisions → AreDecisions t i decisions
+
+-- player i has so many reduced strategies
+abbrev pub HasCount : Tree → ℕ → ℕ → Type 0
+HasCount t i n = (strategies : List (List ℕ)) × AreReducedStrategies t i strategies × (n ≡ length strategies)

@@ -1,0 +1,42 @@
+// The reduced strategies of one player.
+ghost use Rattle.std.specs.Prelude.{◌≡◌, ◌<◌, ◌+◌, ◌^◌, ℕ, length, map, min, IfOk};
+ghost use Rattle.game_core.specs.TreeGame.{game_of_tree};
+ghost use Rattle.reduced_strategies.specs.Choices.{AreReducedStrategies};
+ghost use Rattle.strategy_lists.specs.Decisions.{AreDecisions, HasCount};
+
+use decision_walk::Decision;
+use game_core::Tree;
+use memory::Memory;
+use std::alloc::Global;
+
+/// How many reduced strategies a player has, but at most one more than `most`: counting stops there.
+/// `decisions` are the player's.
+pub fn count_strategies(
+    alloc: Global,
+    tree: &Tree,
+    decisions: &[Decision],
+    player: u32,
+    most: usize,
+) -> Result<usize, Memory>
+    requires player { player < length tree.now.players }
+    requires decisions { AreDecisions (game_of_tree tree.now) player decisions.now }
+    requires most { most + 1 < 2 ^ 64 }
+    ensures { IfOk result (λ count. (all : ℕ) × HasCount (game_of_tree tree.now) player all × (count ≡ min all (most + 1))) }
+{
+    Err(Memory)
+}
+
+/// The reduced strategies of a player in order, each as a list of the actions at the player's own sets, counted
+/// from 1, with 0 for none. `decisions` are the player's.
+pub fn list_strategies(
+    alloc: Global,
+    tree: &Tree,
+    decisions: &[Decision],
+    player: u32,
+) -> Result<Vec<Vec<u32>>, Memory>
+    requires player { player < length tree.now.players }
+    requires decisions { AreDecisions (game_of_tree tree.now) player decisions.now }
+    ensures { IfOk result (λ strategies. AreReducedStrategies (game_of_tree tree.now) player (map (λ v. v.items) strategies.items)) }
+{
+    Err(Memory)
+}
