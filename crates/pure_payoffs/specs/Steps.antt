@@ -1,0 +1,73 @@
+-- The steps in which a pure profile's payoff on a tree is computed, and whether they fit.
+use Rattle.std.specs.Prelude.{ℕ, zero, suc, ◌≡◌, ◌==◌, ◌&&◌, Bool, if◌then◌else◌, List, [], ◌∷◌, ◌++◌, All, Option, Some, None}
+use Rattle.rational.specs.Rational.{ℚ, ◌*ℚ◌, zero_ℚ}
+use Rattle.rational.specs.Sum.{sum_to}
+use Rattle.frac128.specs.Fraction.{eq_ℚ}
+use Rattle.frac128.specs.Steps.{AddFits, SubFits, MulFits, DivFits, unfit}
+use Rattle.frac128.specs.declared.steps.Op.{Op}
+use Rattle.frac128.specs.declared.steps.Op.TheVariants.{Add, Sub, Mul, Div}
+use Rattle.frac128.specs.declared.steps.Unfit.{Unfit}
+use Rattle.game_trees.specs.Trees.{Tree}
+use Rattle.game_trees.specs.Behaviour.{is_parent, value, pure}
+
+-- a step: an operation on two numbers
+abbrev pub Step : Type 0
+Step = Unfit
+
+abbrev pub OperationFits : Op → ℚ → ℚ → Type 0
+OperationFits Add a b = AddFits a b
+OperationFits Sub a b = SubFits a b
+OperationFits Mul a b = MulFits a b
+OperationFits Div a b = DivFits a b
+
+-- a step fits
+abbrev pub StepFits : Step → Type 0
+StepFits s = OperationFits s.op s.left s.right
+
+-- the first of these steps that does not fit
+pub record IsFirstUnfit (steps : List Step) (step : Step) : Type 0 where
+  pub before : List Step
+  pub behind : List Step
+  pub is_there : steps ≡ before ++ step ∷ behind
+  pub earlier_fit : All StepFits before
+  pub does_not_fit : StepFits step → ⊥
+
+-- the number below n that passes a test which only one does
+abbrev pub the_one_below : ℕ → (ℕ → Bool) → ℕ
+the_one_below zero passes = 0
+the_one_below (suc n) passes = if passes n then n else the_one_below n passes
+
+-- the node to which action a of node k leads
+abbrev pub child : Tree → ℕ → ℕ → ℕ
+child t k a = the_one_below t.size (λ c. is_parent t k c && (t.branch c == a))
+
+-- The steps at a chance node, where these are the probabilities of its first actions, the values of its children and the steps of
+-- these: for each action in order whose probability is not 0 the steps of its child, the product of the probability and the
+-- child's value, and the addition of the product to the sum so far.
+abbrev pub chance_steps : ℕ → (ℕ → ℚ) → (ℕ → ℚ) → (ℕ → List Step) → List Step
+chance_steps zero chances values later = []
+chance_steps (suc a) chances values later =
+    chance_steps a chances values later
+    ++ (if eq_ℚ (chances a) zero_ℚ then [] else later a ++ unfit Mul (chances a) (values a) ∷ unfit Add (sum_to a (λ b. chances b *ℚ values b)) (chances a *ℚ values a) ∷ [])
+
+-- The steps at a node by the owner of its set: those of what comes behind it, and last the addition of this to what the outcome pays.
+abbrev pub owner_steps : Tree → (ℕ → ℕ) → ℕ → (ℕ → List Step) → ℕ → ℕ → Option ℕ → List Step
+owner_steps t choice i later k s None =
+    chance_steps (t.actions s) (t.chance s) (λ a. value t (pure choice) i (child t k a)) (λ a. later (child t k a))
+    ++ unfit Add (t.pays k i) (sum_to (t.actions s) (λ a. t.chance s a *ℚ value t (pure choice) i (child t k a))) ∷ []
+owner_steps t choice i later k s (Some j) =
+    later (child t k (choice s)) ++ unfit Add (t.pays k i) (value t (pure choice) i (child t k (choice s))) ∷ []
+
+-- the steps at a node by its set: none at an end
+abbrev pub node_steps : Tree → (ℕ → ℕ) → ℕ → (ℕ → List Step) → ℕ → Option ℕ → List Step
+node_steps t choice i later k None = []
+node_steps t choice i later k (Some s) = owner_steps t choice i later k s (t.owner s)
+
+-- the steps of node k's value for player i, where what lies more than d edges below has none
+abbrev pub steps_to : Tree → (ℕ → ℕ) → ℕ → ℕ → ℕ → List Step
+steps_to t choice i zero k = []
+steps_to t choice i (suc d) k = node_steps t choice i (steps_to t choice i d) k (t.set k)
+
+-- the steps of player i's payoff, where this is the choice at each set
+abbrev pub payoff_steps : Tree → (ℕ → ℕ) → ℕ → List Step
+payoff_steps t choice i = steps_to t choice i t.size 0
