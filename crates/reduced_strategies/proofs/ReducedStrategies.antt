@@ -77,11 +77,11 @@ reduced-fixed t i choice w s l o =
     )
 
 -- it is a reduced strategy
-reduced-reduced : (t : Tree) (i : ℕ) (choice : ℕ → ℕ) → IsTree t → IsChoice t i choice → IsReduced t i (reduced t i choice)
+pub reduced-reduced : (t : Tree) (i : ℕ) (choice : ℕ → ℕ) → IsTree t → IsChoice t i choice → IsReduced t i (reduced t i choice)
 reduced-reduced t i choice w c = record { one_for_each = length-map (own_sets t i) (reached_action t i choice); are_actions = reduced-actions t i choice c; fixed_where_reached = reduced-fixed t i choice w }
 
 -- the choice completes it
-reduced-completed : (t : Tree) (i : ℕ) (choice : ℕ → ℕ) → CompletesList t i choice (reduced t i choice)
+pub reduced-completed : (t : Tree) (i : ℕ) (choice : ℕ → ℕ) → CompletesList t i choice (reduced t i choice)
 reduced-completed t i choice s h = (reduced-given t i choice s h).2
 
 -- ---- there is no other

@@ -85,11 +85,11 @@ own_sets-ascend t i = own_below-ascend t i t.sets [] tt
 
 -- ---- choice lists
 -- the choice at the first set
-choice_at-first : (set choice s : ℕ) (sets choices : List ℕ) → set ≡ s → choice_at (set ∷ sets) (choice ∷ choices) s ≡ choice
+pub choice_at-first : (set choice s : ℕ) (sets choices : List ℕ) → set ≡ s → choice_at (set ∷ sets) (choice ∷ choices) s ≡ choice
 choice_at-first set choice s sets choices e = grind (arith, tests)
 
 -- the choice at a later set
-choice_at-later : (set choice s : ℕ) (sets choices : List ℕ) → set ≢ s → choice_at (set ∷ sets) (choice ∷ choices) s ≡ choice_at sets choices s
+pub choice_at-later : (set choice s : ℕ) (sets choices : List ℕ) → set ≢ s → choice_at (set ∷ sets) (choice ∷ choices) s ≡ choice_at sets choices s
 choice_at-later set choice s sets choices e = grind (arith, tests)
 
 -- a list of a function's values gives each of the sets that value
@@ -113,7 +113,7 @@ choice_at-among (set ∷ sets) (choice ∷ choices) s h = go (set == s) (Decides
     go false d later p = inr (later p)
 
 -- a set below those of the list is given no action
-choice_at-below : (n : ℕ) (sets choices : List ℕ) (s : ℕ) → AscendFrom n sets → s < n → choice_at sets choices s ≡ 0
+pub choice_at-below : (n : ℕ) (sets choices : List ℕ) (s : ℕ) → AscendFrom n sets → s < n → choice_at sets choices s ≡ 0
 choice_at-below n sets choices s o l =
     elim (cases_lt 0 (choice_at sets choices s)) [ inl p ↦ absurd (omega (arith, IsAmong-from n sets s o (choice_at-among sets choices s p))) | inr p ↦ omega arith ]
 

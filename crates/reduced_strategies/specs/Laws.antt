@@ -48,7 +48,11 @@ CompletedChoicesTellStrategies =
     → ((s i : ℕ) → s < t.sets → t.owner s ≡ Some i → completed t strategies one s ≡ completed t strategies other s)
     → one ≡ other
 
--- a player has one list of reduced strategies
+-- a player has a list of reduced strategies
+abbrev pub StrategiesExist : Type 0
+StrategiesExist = (t : Tree) (i : ℕ) → IsTree t → (strategies : List (List ℕ)) × AreReducedStrategies t i strategies
+
+-- and only one
 abbrev pub OneListOfStrategies : Type 0
 OneListOfStrategies = (t : Tree) (i : ℕ) (one other : List (List ℕ)) → AreReducedStrategies t i one → AreReducedStrategies t i other → one ≡ other
 

@@ -15,6 +15,7 @@ ghost use Rattle.reduced_strategies.specs.Laws.{
   NodesTellStrategies,
   OneListOfStrategies,
   PureEquilibriaAreThoseOfTheTree,
+  StrategiesExist,
 };
 
 /// Every completion of a profile pays its cell.
@@ -42,7 +43,12 @@ pub fn completed_choices_tell_strategies()
     ensures { CompletedChoicesTellStrategies }
 {}
 
-/// A player has one list of reduced strategies.
+/// A player has a list of reduced strategies.
+pub fn strategies_exist()
+    ensures { StrategiesExist }
+{}
+
+/// A player has only one list of reduced strategies.
 pub fn one_list_of_strategies()
     ensures { OneListOfStrategies }
 {}
