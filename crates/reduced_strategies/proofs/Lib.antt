@@ -1,6 +1,6 @@
 pub mod Alone
 pub mod Completions
-mod Existence
+pub mod Existence
 pub mod Histories
 pub mod Nodes
 pub mod Reached

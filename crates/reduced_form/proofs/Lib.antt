@@ -1,0 +1,3 @@
+mod ActionTexts
+mod SetCounts
+mod FormCounts

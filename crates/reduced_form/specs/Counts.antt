@@ -1,0 +1,22 @@
+-- The numbers of the players' reduced strategies, and the sizes of the form by them.
+use Rattle.std.specs.Prelude.{ℕ, suc, ◌+◌, ◌*◌, ◌<◌, ◌≤◌, ◌≡◌, List, [], ◌∷◌, length, map, slice_index}
+use Rattle.game_theory.specs.Profiles.{profile_count}
+use Rattle.game_trees.specs.Trees.{Tree}
+use Rattle.reduced_strategies.specs.Choices.{own_sets}
+use Rattle.reduced_strategies.specs.StrategicForm.{AreStrategies}
+use Rattle.strategy_lists.specs.Decisions.{HasCount}
+
+-- the numbers of strategies of the first players
+abbrev pub AreCounts : Tree → List ℕ → Type 0
+AreCounts t counts = (i : ℕ) → i < length counts → HasCount t i (slice_index counts i)
+
+-- strategies times own sets, added over the players from player i on, by the numbers of strategies
+abbrev pub choices_by : Tree → ℕ → List ℕ → ℕ
+choices_by t i [] = 0
+choices_by t i (n ∷ counts) = n * length (own_sets t i) + choices_by t (suc i) counts
+
+-- all strategies of all players, where these are their numbers
+pub record AreCounted (t : Tree) (counts : List ℕ) : Type 0 where
+  pub strategies : List (List (List ℕ))
+  pub are_strategies : AreStrategies t strategies
+  pub counts_are : counts ≡ map length strategies

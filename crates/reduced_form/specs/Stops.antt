@@ -1,0 +1,44 @@
+-- Why a tree has no reduced form within the limits.
+use Rattle.std.specs.Prelude.{ℕ, ◌<◌, ◌≤◌, ◌≡◌, ◌⊎◌, ⊤, List}
+use Rattle.game_trees.specs.Trees.{Tree}
+use Rattle.reduced_strategies.specs.StrategicForm.{AreStrategies}
+use Rattle.game_core.specs.Table.{most_payoffs}
+use Rattle.game_core.specs.declared.too_large.TooLarge.{TooLarge}
+use Rattle.game_core.specs.declared.too_large.What.TheVariants as what
+use Rattle.pure_payoffs.specs.Steps.{Step}
+use Rattle.reduced_form.specs.Limits.{payoff_count, choice_count, most_choices, AreFew, IsFirstUnfitAt}
+use Rattle.reduced_form.specs.declared.stop.ReduceStop.{ReduceStop}
+use Rattle.reduced_form.specs.declared.stop.ReduceStop.TheVariants as stops
+
+-- the counts that are named: counting stops at the first number above the limit
+abbrev pub too_many_payoffs : TooLarge
+too_many_payoffs = record { what = what.Payoffs; count = 1048577; limit = 1048576 }
+
+abbrev pub too_many_choices : TooLarge
+too_many_choices = record { what = what.Choices; count = 67108865; limit = 67108864 }
+
+-- the form has more payoffs than it may
+pub record HasTooManyPayoffs (t : Tree) : Type 0 where
+  pub strategies : List (List (List ℕ))
+  pub are_strategies : AreStrategies t strategies
+  pub many : most_payoffs < payoff_count t strategies
+
+-- the form has no more payoffs than it may, but more choices
+pub record HasTooManyChoices (t : Tree) : Type 0 where
+  pub strategies : List (List (List ℕ))
+  pub are_strategies : AreStrategies t strategies
+  pub few_payoffs : payoff_count t strategies ≤ most_payoffs
+  pub many : most_choices < choice_count t strategies
+
+-- both counts are within their limits, and this is the first step that does not fit
+pub record HasUnfitStep (t : Tree) (profile player : ℕ) (step : Step) : Type 0 where
+  pub strategies : List (List (List ℕ))
+  pub are_strategies : AreStrategies t strategies
+  pub are_few : AreFew t strategies
+  pub is_first : IsFirstUnfitAt t strategies profile player step
+
+-- a count is too large, first that of payoffs and then that of choices; else a step does not fit; or memory ran out
+abbrev pub IsStop : Tree → ReduceStop → Type 0
+IsStop t (stops.TooLarge limit) = (HasTooManyPayoffs t × (limit ≡ too_many_payoffs)) ⊎ (HasTooManyChoices t × (limit ≡ too_many_choices))
+IsStop t (stops.Range profile player unfit) = HasUnfitStep t profile player unfit
+IsStop t stops.Memory = ⊤

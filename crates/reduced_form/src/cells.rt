@@ -1,0 +1,105 @@
+// The payoffs of a reduced form.
+ghost use Rattle.std.specs.Prelude.{◌≡◌, ◌<◌, ◌≤◌, ◌*◌, ◌+◌, suc, length, map, IfOk, IfErr, OnOk, All};
+ghost use Rattle.game_theory.specs.Profiles.{profile_count, profile_at};
+ghost use Rattle.game_core.specs.Table.{most_payoffs};
+ghost use Rattle.game_core.specs.TreeGame.{game_of_tree};
+ghost use Rattle.pure_payoffs.specs.Children.{AreChildren};
+ghost use Rattle.reduced_strategies.specs.Places.{ArePlaces};
+ghost use Rattle.reduced_strategies.specs.StrategicForm.{AreStrategies};
+ghost use Rattle.reduced_form.specs.Cells.{AreCells, IsCellStop};
+
+use crate::stop::ReduceStop;
+use frac128::Frac;
+use game_core::Tree;
+use pure_payoffs::{Play, children_of_all};
+use std::alloc::Global;
+
+// How many profiles there are, where the players have so many strategies.
+fn profile_count(counts: &[usize]) -> usize
+    requires few { profile_count counts.now ≤ most_payoffs }
+    requires some { All (λ n. 0 < n) counts.now }
+    ensures { result ≡ profile_count counts.now }
+{
+    let mut profiles = 1;
+    for count in counts {
+        profiles *= *count;
+    }
+    profiles
+}
+
+// Writes the profile with a number in file order, in which the first player's strategy changes fastest.
+fn set_profile(profile: &mut [u32], counts: &[usize], number: usize)
+    requires players { length profile.old ≡ length counts.now }
+    requires few { All (λ n. n ≤ most_payoffs) counts.now }
+    requires some { All (λ n. 0 < n) counts.now }
+    ensures { profile.new ≡ profile_at counts.now number }
+{
+    let mut rest = number;
+    for player in 0..counts.len() {
+        profile[player] = (rest % counts[player]) as u32;
+        rest /= counts[player];
+    }
+}
+
+// Adds what a profile pays each player.
+fn push_cells(play: &Play, payoffs: &mut Vec<Frac>, number: u32) -> Result<(), ReduceStop>
+    requires children { AreChildren (game_of_tree play.now.tree.now) (map (λ v. v.items) play.now.children.now) }
+    requires places { ArePlaces (game_of_tree play.now.tree.now) play.now.places.now }
+    requires strategies { AreStrategies (game_of_tree play.now.tree.now) (map (λ v. map (λ w. w.items) v.items) play.now.strategies.now) }
+    requires number { number < profile_count (map length (map (λ v. map (λ w. w.items) v.items) play.now.strategies.now)) }
+    requires profile { play.now.profile.now ≡ profile_at (map length (map (λ v. map (λ w. w.items) v.items) play.now.strategies.now)) number }
+    requires so_many { length payoffs.old.items ≡ number * length play.now.tree.now.players }
+    requires cells { AreCells (game_of_tree play.now.tree.now) (map (λ v. map (λ w. w.items) v.items) play.now.strategies.now) payoffs.old.items }
+    ensures so_many { OnOk result (length payoffs.new.items ≡ suc number * length play.now.tree.now.players) }
+    ensures cells { OnOk result (AreCells (game_of_tree play.now.tree.now) (map (λ v. map (λ w. w.items) v.items) play.now.strategies.now) payoffs.new.items) }
+    ensures stop { IfErr result (IsCellStop (game_of_tree play.now.tree.now) (map (λ v. map (λ w. w.items) v.items) play.now.strategies.now)) }
+{
+    for player in 0..play.tree.players().len() as u32 {
+        match play.payoff(player) {
+            Ok(payoff) => payoffs.push(payoff)?,
+            Err(unfit) => {
+                return Err(ReduceStop::Range {
+                    profile: number,
+                    player,
+                    unfit,
+                });
+            }
+        }
+    }
+    Ok(())
+}
+
+/// What each profile pays each player, profiles in file order. `places` has each set's place among its owner's
+/// own sets, and `counts` how many strategies each player has.
+pub fn cells(
+    alloc: Global,
+    tree: &Tree,
+    places: &[u32],
+    strategies: &[Vec<Vec<u32>>],
+    counts: &[usize],
+) -> Result<Vec<Frac>, ReduceStop>
+    requires places { ArePlaces (game_of_tree tree.now) places.now }
+    requires strategies { AreStrategies (game_of_tree tree.now) (map (λ v. map (λ w. w.items) v.items) strategies.now) }
+    requires counts { counts.now ≡ map length (map (λ v. map (λ w. w.items) v.items) strategies.now) }
+    requires few { length tree.now.players * profile_count counts.now ≤ most_payoffs }
+    ensures so_many { IfOk result (λ payoffs. length payoffs.items ≡ length tree.now.players * profile_count counts.now) }
+    ensures cells { IfOk result (λ payoffs. AreCells (game_of_tree tree.now) (map (λ v. map (λ w. w.items) v.items) strategies.now) payoffs.items) }
+    ensures stop { IfErr result (IsCellStop (game_of_tree tree.now) (map (λ v. map (λ w. w.items) v.items) strategies.now)) }
+{
+    let children = children_of_all(alloc, tree)?;
+    let profiles = profile_count(counts);
+    let mut profile = vec![in alloc; 0; counts.len()]?;
+    let mut payoffs = Vec::with_capacity(alloc, tree.players().len() * profiles)?;
+    for number in 0..profiles {
+        set_profile(&mut profile, counts, number);
+        let play = Play {
+            tree,
+            children: &children,
+            places,
+            strategies,
+            profile: &profile,
+        };
+        push_cells(&play, &mut payoffs, number as u32)?;
+    }
+    Ok(payoffs)
+}

@@ -1,0 +1,145 @@
+// The reduced strategic form.
+ghost use Rattle.std.specs.Prelude.{◌≡◌, ◌≢◌, ◌<◌, ◌≤◌, ◌*◌, length, map, IfOk, IfErr};
+ghost use Rattle.game_theory.specs.Profiles.{profile_count};
+ghost use Rattle.game_trees.specs.Trees.{Tree as game_tree, IsTree as is_game_tree};
+ghost use Rattle.game_core.specs.Table.{IsTable};
+ghost use Rattle.game_core.specs.Tree.{GameTree, IsTree};
+ghost use Rattle.game_core.specs.TreeGame.{game_of_tree};
+ghost use Rattle.reduced_strategies.specs.StrategicForm.{AreStrategies};
+ghost use Rattle.strategy_lists.specs.Decisions.{AreDecisionsOfAll};
+ghost use Rattle.reduced_form.specs.declared.stop.ReduceStop.{ReduceStop};
+ghost use Rattle.reduced_form.specs.declared.stop.ReduceStop.TheVariants as stops;
+ghost use Rattle.reduced_form.specs.Limits.{AreFew, AllFit};
+ghost use Rattle.reduced_form.specs.ReducedForm.{ReducedForm, IsReducedForm, PaysCompletions, strategy_name};
+ghost use Rattle.reduced_form.specs.Stops.{IsStop};
+
+use crate::cells::cells;
+use crate::limits::{check_choices, count_all};
+use crate::names::names_of_all;
+use crate::stop::ReduceStop;
+use decision_walk::Decision;
+use frac128::{Frac, Memory};
+use game_core::{Name, Table, Tree};
+use std::alloc::Global;
+use std::marker::Model;
+use strategy_lists::{decisions_of_all, list_strategies, set_places};
+
+/// The reduced strategic form of a tree. Players and strategies are numbered from 0.
+#[derive(Debug, Drop)]
+pub struct Reduced {
+    choices: Vec<Vec<Vec<u32>>>,
+    table: Table,
+}
+
+impl Model for Reduced {
+    ghost use Rattle.std.specs.Prelude.{map};
+    ghost use Rattle.reduced_form.specs.ReducedForm.{ReducedForm, code_of_form};
+
+    ghost Value = { ReducedForm };
+
+    ghost coded = { code_of_form };
+
+    ghost view = { λ r. record { choices = map (λ v. map (λ w. w.items) v.items) r.choices.items; table = r.table } };
+}
+
+impl Reduced {
+    ghost use Rattle.std.specs.Prelude.{◌≡◌, map};
+
+    /// For each player the reduced strategies in order, and in each for each own set in order its action, counted
+    /// from 1, or 0 for none.
+    pub fn choices(&self) -> &[Vec<Vec<u32>>]
+        ensures { map (λ v. map (λ w. w.items) v.items) result.now ≡ self.now.choices }
+    {
+        self.choices.as_slice()
+    }
+
+    /// The table of the strategies' profiles, with the tree's title and players.
+    pub fn table(&self) -> &Table
+        ensures { result.now ≡ self.now.table }
+    {
+        &self.table
+    }
+}
+
+// The reduced strategies of each player.
+fn strategies_of_all(
+    alloc: Global,
+    tree: &Tree,
+    decisions: &[Vec<Decision>],
+) -> Result<Vec<Vec<Vec<u32>>>, Memory>
+    requires decisions { AreDecisionsOfAll (game_of_tree tree.now) (map (λ v. v.items) decisions.now) }
+    ensures { IfOk result (λ strategies. AreStrategies (game_of_tree tree.now) (map (λ v. map (λ w. w.items) v.items) strategies.items)) }
+{
+    let mut strategies = Vec::with_capacity(alloc, decisions.len())?;
+    for player in 0..decisions.len() {
+        strategies.push(list_strategies(alloc, tree, &decisions[player], player as u32)?)?;
+    }
+    Ok(strategies)
+}
+
+// A name of its own with these bytes.
+fn copied(alloc: Global, name: &Name) -> Result<Name, Memory>
+    ensures { IfOk result (λ copy. copy ≡ name.now) }
+{
+    Ok(Name::new(Vec::from_slice(alloc, name.bytes())?))
+}
+
+// The players' names.
+fn player_names(alloc: Global, tree: &Tree) -> Result<Vec<Name>, Memory>
+    ensures { IfOk result (λ names. names.items ≡ tree.now.players) }
+{
+    let mut names = Vec::with_capacity(alloc, tree.players().len())?;
+    for name in tree.players() {
+        names.push(copied(alloc, name)?)?;
+    }
+    Ok(names)
+}
+
+// The table of these strategies with these payoffs.
+fn table_of(
+    alloc: Global,
+    tree: &Tree,
+    strategies: &[Vec<Vec<u32>>],
+    payoffs: Vec<Frac>,
+) -> Result<Table, Memory>
+    requires { IsTable (record { title = tree.now.title; players = tree.now.players; strategies = map (map strategy_name) (map (λ v. map (λ w. w.items) v.items) strategies.now); payoffs = payoffs.items }) }
+    ensures { IfOk result (λ table. table ≡ record { title = tree.now.title; players = tree.now.players; strategies = map (map strategy_name) (map (λ v. map (λ w. w.items) v.items) strategies.now); payoffs = payoffs.items }) }
+{
+    let title = copied(alloc, tree.title())?;
+    let players = player_names(alloc, tree)?;
+    let names = names_of_all(alloc, strategies)?;
+    Ok(Table::new(title, players, names, payoffs))
+}
+
+/// The reduced strategic form of a tree: all reduced strategies of each player, each once, in order, with the table
+/// of their profiles, in which each cell pays what every completion of its profile pays on the tree.
+///
+/// # Errors
+///
+/// `TooLarge` exactly where the form would have more than 1,048,576 payoffs or, where it has not, more than
+/// 67,108,864 choices, which are counted before anything is built. `Range` exactly where both counts are within
+/// their limits and a step of a payoff does not fit: the first. `Memory` where memory ran out.
+pub fn reduce(alloc: Global, tree: &Tree) -> Result<Reduced, ReduceStop>
+    ensures form { IfOk result (IsReducedForm tree.now) }
+    ensures completions { IfOk result (PaysCompletions tree.now) }
+    ensures few { IfOk result (λ form. AreFew (game_of_tree tree.now) form.choices) }
+    ensures all_fit { IfOk result (λ form. AllFit (game_of_tree tree.now) form.choices) }
+    ensures stop { IfErr result (IsStop (game_of_tree tree.now)) }
+{
+    let places = set_places(alloc, tree)?;
+    let decisions = decisions_of_all(alloc, tree, &places)?;
+    let counts = count_all(alloc, tree, &decisions)?;
+    check_choices(tree, &counts)?;
+    let choices = strategies_of_all(alloc, tree, &decisions)?;
+    let payoffs = cells(alloc, tree, &places, &choices, &counts)?;
+    let table = table_of(alloc, tree, &choices, payoffs)?;
+    Ok(Reduced { choices, table })
+}
+
+/// A tree has one reason at most why it is not reduced, other than want of memory, and then it has no reduced form
+/// within the limits whose steps all fit.
+pub fn stops_are_exact()
+    ensures one_reason { (t : game_tree) (one other : ReduceStop) → is_game_tree t → one ≢ stops.Memory → other ≢ stops.Memory → IsStop t one → IsStop t other → one ≡ other }
+    ensures no_form { (t : GameTree) (stop : ReduceStop) (form : ReducedForm) → IsTree t → stop ≢ stops.Memory → IsStop (game_of_tree t) stop
+        → IsReducedForm t form → AreFew (game_of_tree t) form.choices → AllFit (game_of_tree t) form.choices → ⊥ }
+{}

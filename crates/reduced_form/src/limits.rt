@@ -1,0 +1,106 @@
+// The sizes of a reduced form, counted before it is built.
+ghost use Rattle.std.specs.Prelude.{◌≡◌, ◌<◌, ◌≤◌, ◌*◌, ◌+◌, ◌^◌, length, map, IfOk, IfErr, OnOk};
+ghost use Rattle.game_theory.specs.Profiles.{profile_count};
+ghost use Rattle.game_core.specs.Table.{most_payoffs};
+ghost use Rattle.game_core.specs.Tree.{own_sets as tree_sets};
+ghost use Rattle.game_core.specs.TreeGame.{game_of_tree};
+ghost use Rattle.reduced_strategies.specs.Choices.{own_sets};
+ghost use Rattle.strategy_lists.specs.Decisions.{AreDecisionsOfAll};
+ghost use Rattle.reduced_form.specs.declared.stop.ReduceStop.TheVariants as stops;
+ghost use Rattle.reduced_form.specs.Counts.{AreCounted, choices_by};
+ghost use Rattle.reduced_form.specs.Limits.{most_choices};
+ghost use Rattle.reduced_form.specs.Stops.{IsStop, too_many_payoffs, too_many_choices};
+
+use crate::stop::ReduceStop;
+use decision_walk::Decision;
+use game_core::{TooLarge, Tree, What, trees_are_game_trees};
+use std::alloc::Global;
+use strategy_lists::{count_strategies, own_sets_are_those_of_the_tree};
+
+// The most payoffs of a reduced form.
+const MOST_PAYOFFS: usize = 1_048_576;
+
+// The most choices of a reduced form.
+const MOST_CHOICES: u64 = 67_108_864;
+
+fn too_many_payoffs() -> ReduceStop
+    ensures { result ≡ stops.TooLarge too_many_payoffs }
+{
+    ReduceStop::TooLarge(TooLarge {
+        what: What::Payoffs,
+        count: MOST_PAYOFFS as u64 + 1,
+        limit: MOST_PAYOFFS as u64,
+    })
+}
+
+fn too_many_choices() -> ReduceStop
+    ensures { result ≡ stops.TooLarge too_many_choices }
+{
+    ReduceStop::TooLarge(TooLarge {
+        what: What::Choices,
+        count: MOST_CHOICES + 1,
+        limit: MOST_CHOICES,
+    })
+}
+
+/// How many reduced strategies each player has, where the form has no more payoffs than it may. Nothing is
+/// built, and counting stops where it is known to have more.
+pub fn count_all(
+    alloc: Global,
+    tree: &Tree,
+    decisions: &[Vec<Decision>],
+) -> Result<Vec<usize>, ReduceStop>
+    requires decisions { AreDecisionsOfAll (game_of_tree tree.now) (map (λ v. v.items) decisions.now) }
+    ensures counted { IfOk result (λ counts. AreCounted (game_of_tree tree.now) counts.items) }
+    ensures few { IfOk result (λ counts. length tree.now.players * profile_count counts.items ≤ most_payoffs) }
+    ensures stop { IfErr result (IsStop (game_of_tree tree.now)) }
+{
+    trees_are_game_trees();
+    let players = tree.players().len();
+    if players > MOST_PAYOFFS {
+        return Err(too_many_payoffs());
+    }
+    let mut counts = Vec::new(alloc);
+    let mut payoffs = players;
+    for player in 0..players {
+        let most = MOST_PAYOFFS / payoffs;
+        let count = count_strategies(alloc, tree, &decisions[player], player as u32, most)?;
+        if count > most {
+            return Err(too_many_payoffs());
+        }
+        payoffs *= count;
+        counts.push(count)?;
+    }
+    Ok(counts)
+}
+
+// How many own sets a player has.
+fn own_set_count(tree: &Tree, player: u32) -> usize
+    requires { player < length tree.now.players }
+    ensures { result ≡ length (tree_sets tree.now player) }
+{
+    let sets = tree.sets().len();
+    let mut count = 0;
+    while count < sets && tree.own_sets(player, count as u32).is_some() {
+        count += 1;
+    }
+    count
+}
+
+/// That the form has no more choices than it may, where the players have so many strategies.
+pub fn check_choices(tree: &Tree, counts: &[usize]) -> Result<(), ReduceStop>
+    requires counted { AreCounted (game_of_tree tree.now) counts.now }
+    requires few { length tree.now.players * profile_count counts.now ≤ most_payoffs }
+    ensures few { OnOk result (choices_by (game_of_tree tree.now) 0 counts.now ≤ most_choices) }
+    ensures stop { IfErr result (IsStop (game_of_tree tree.now)) }
+{
+    own_sets_are_those_of_the_tree();
+    let mut choices = 0;
+    for player in 0..tree.players().len() {
+        choices += counts[player] as u64 * own_set_count(tree, player as u32) as u64;
+        if choices > MOST_CHOICES {
+            return Err(too_many_choices());
+        }
+    }
+    Ok(())
+}
