@@ -1,0 +1,5 @@
+mod ActionCounts
+mod Moves
+mod OwnNumbers
+mod PlayersDecisions
+mod WalksAreStrategies
