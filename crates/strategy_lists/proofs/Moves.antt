@@ -3,25 +3,19 @@ use Rattle.std.proofs.Common.{ℕ, zero, suc, ◌<◌, ◌≡◌, Option, Some, 
 use Rattle.std.proofs.lemmas.Bool.{false_from_ne_true}
 use Rattle.std.proofs.lemmas.List.{append-nil, get_or-map, get_or_default, length-map}
 use Rattle.std.proofs.lemmas.Option.{none-some}
-use Rattle.std.specs.Option.{unwrap_or}
 use Rattle.game_trees.specs.Trees.{Tree, IsTree}
 use Rattle.game_trees.specs.Recall.{own_step, own_history}
 use Rattle.game_core.specs.declared.tree.Kind.{Kind}
 use Rattle.game_core.specs.declared.tree.Kind.TheVariants.{Move}
 use Rattle.game_core.specs.declared.tree.Node.{Node}
 use Rattle.game_core.specs.Tree.{GameTree, IsWithin, InformationSet, IsTree as is_game, kind_at, kind_of_owner}
-use Rattle.game_core.specs.TreeGame.{game_of_tree, or_zero}
+use Rattle.game_core.specs.TreeGame.{game_of_tree}
 use Rattle.reduced_strategies.proofs.Sets.{is_own-decides}
 use Rattle.reduced_strategies.proofs.Histories.{own_history-step}
 use Rattle.strategy_lists.specs.OwnNumbers.{ArePlacesBelow}
 use Rattle.strategy_lists.proofs.OwnNumbers.{ArePlacesBelow-same}
 use Rattle.strategy_lists.proofs.WalksAreStrategies.{element}
 use Rattle.strategy_lists.specs.Made.{mover_of, owner_of, mover, IsMove, IsLastMove}
-
--- a number or 0
-or_zero-unwrap : (o : Option ℕ) → or_zero o ≡ unwrap_or o 0
-or_zero-unwrap None = refl
-or_zero-unwrap (Some n) = refl
 
 -- who chooses at an owner's set is that owner
 mover-owner : (o : Option ℕ) → mover_of (kind_of_owner o) ≡ o
@@ -40,10 +34,6 @@ module _ (t : GameTree) (k : ℕ) (past : Node) (below : k < length t.nodes) whe
   mover-at valid =
       let set : (game_of_tree t).set k ≡ (get_or t.nodes k past).set = get_or-map (λ node. node.set) t.nodes k past None below in
       ap (owner_of (game_of_tree t)) set ∙ mover-kind t (get_or t.nodes k past).set ∙ ap mover_of (sym (valid.nodes_fit k past below).kind_is)
-
-  -- its parent
-  pub parent-at : (game_of_tree t).parent k ≡ unwrap_or (get_or t.nodes k past).parent 0
-  parent-at = ap or_zero (get_or-map (λ node. node.parent) t.nodes k past None below) ∙ or_zero-unwrap (get_or t.nodes k past).parent
 
   -- the action that leads to it
   pub branch-at : (game_of_tree t).branch k ≡ (get_or t.nodes k past).branch
@@ -87,15 +77,8 @@ last-move t i n k above action valid later below parent branch before same own =
       history_is = sym same ∙ own_history-step t i k valid later below ∙ ap (λ x. own_history t i (t.parent k) ++ x) step ∙ ap (λ x. own_history t i x ++ (move.0, action) ∷ []) (sym parent);
     }
 
--- the same of a list that is the tree's
+-- the same by a list that is the tree's
 module _ (t : GameTree) (nodes : List Node) (k : ℕ) (past : Node) (same : nodes ≡ t.nodes) (below : k < length t.nodes) where
-  -- the parent is the game's, and stands before the node
-  pub parent-before : (above : ℕ) → IsTree (game_of_tree t) → 0 < k → above ≡ unwrap_or (get_or nodes k past).parent 0 → (above ≡ (game_of_tree t).parent k) × (above < k)
-  parent-before above law later is =
-      let parent : above ≡ (game_of_tree t).parent k = is ∙ ap (λ xs. unwrap_or (get_or xs k past).parent 0) same ∙ sym (parent-at t k past below) in
-      let before = law.after_parent k later below in
-      (parent, omega arith)
-
   -- who moves there is as in the game
   pub mover-is : (who : Option ℕ) → is_game t → who ≡ mover_of (get_or nodes k past).kind → who ≡ mover (game_of_tree t) k
   mover-is who valid is = is ∙ ap (λ xs. mover_of (get_or xs k past).kind) same ∙ sym (mover-at t k past below valid)

@@ -51,8 +51,8 @@ fn last_move(tree: &Tree, number: usize, player: u32) -> Option<(usize, u32)>
     trees_are_game_trees();
     let nodes = tree.nodes();
     let mut here = number;
-    while here > 0 {
-        let above = nodes[here].parent.unwrap_or(0) as usize;
+    while let Some(parent) = nodes[here].parent {
+        let above = parent as usize;
         if mover(&nodes[above]) == Some(player) {
             return Some((above, nodes[here].branch));
         }
