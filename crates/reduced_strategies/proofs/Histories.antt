@@ -42,7 +42,7 @@ own_history-step t i (suc k) w p l =
 
 -- ---- agreement
 -- a history in two parts agrees where both parts do
-Agrees-append : (choice : ℕ → ℕ) (xs ys : List (ℕ × ℕ)) → Agrees choice (xs ++ ys) ↔ (Agrees choice xs × Agrees choice ys)
+pub Agrees-append : (choice : ℕ → ℕ) (xs ys : List (ℕ × ℕ)) → Agrees choice (xs ++ ys) ↔ (Agrees choice xs × Agrees choice ys)
 Agrees-append choice [] ys = (λ h. (tt, h), λ h. h.1)
 Agrees-append choice (x ∷ xs) ys =
     let later = Agrees-append choice xs ys in

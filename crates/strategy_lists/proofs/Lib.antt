@@ -1,0 +1,6 @@
+mod ActionCounts
+mod Moves
+mod OwnNumbers
+mod Parents
+mod PlayersDecisions
+mod WalksAreStrategies

@@ -2,12 +2,25 @@
 ghost use Rattle.std.specs.Prelude.{◌≡◌, ◌<◌, ◌+◌, ◌^◌, ℕ, length, map, min, IfOk};
 ghost use Rattle.game_core.specs.TreeGame.{game_of_tree};
 ghost use Rattle.reduced_strategies.specs.Choices.{AreReducedStrategies};
-ghost use Rattle.strategy_lists.specs.Decisions.{AreDecisions, HasCount};
+ghost use Rattle.strategy_lists.specs.Decisions.{action_counts, AreDecisions, HasCount};
 
-use decision_walk::Decision;
+use decision_walk::{Decision, count_walks, list_walks};
 use game_core::Tree;
 use memory::Memory;
 use std::alloc::Global;
+
+// How many actions each of a player's own sets has.
+fn own_action_counts(alloc: Global, tree: &Tree, player: u32) -> Result<Vec<u32>, Memory>
+    ensures { IfOk result (λ counts. counts.items ≡ action_counts (game_of_tree tree.now) player) }
+{
+    let mut counts = Vec::new(alloc);
+    for set in tree.sets() {
+        if set.owner() == Some(player) {
+            counts.push(set.actions().len() as u32)?;
+        }
+    }
+    Ok(counts)
+}
 
 /// How many reduced strategies a player has, but at most one more than `most`: counting stops there.
 /// `decisions` are the player's.
@@ -23,7 +36,8 @@ pub fn count_strategies(
     requires most { most + 1 < 2 ^ 64 }
     ensures { IfOk result (λ count. (all : ℕ) × HasCount (game_of_tree tree.now) player all × (count ≡ min all (most + 1))) }
 {
-    Err(Memory)
+    let actions = own_action_counts(alloc, tree, player)?;
+    count_walks(alloc, decisions, actions.as_slice(), most)
 }
 
 /// The reduced strategies of a player in order, each as a list of the actions at the player's own sets, counted
@@ -38,5 +52,6 @@ pub fn list_strategies(
     requires decisions { AreDecisions (game_of_tree tree.now) player decisions.now }
     ensures { IfOk result (λ strategies. AreReducedStrategies (game_of_tree tree.now) player (map (λ v. v.items) strategies.items)) }
 {
-    Err(Memory)
+    let actions = own_action_counts(alloc, tree, player)?;
+    list_walks(alloc, decisions, actions.as_slice())
 }

@@ -1,0 +1,21 @@
+use Rattle.std.proofs.Common.{◌≡◌, ◌<◌, ◌∙◌, Some, None, sym, refl, subst, arith, rules}
+use Rattle.game_core.specs.TreeGame.{game_of_tree}
+use Rattle.strategy_lists.specs.Made.{LeadsTo}
+use Rattle.strategy_lists.proofs.Moves.{move_at, mover-move}
+use Rattle.strategy_lists.proofs.decisions.decision_at.Goals as goal
+use Rattle.strategy_lists.proofs.decisions.decision_at.Goals.{in-Some, in-None}
+
+-- the step leads to the decision
+led_to : (c : goal.After-place_at-2) → LeadsTo (game_of_tree c.args.tree.now) c.args.player c.args.number c.match-last_move.before
+led_to c = elim c.match-last_move.branch [
+  | in-Some w ↦ (
+      let last = w.in-Some.ensures in
+      let number = c.requires.numbers.are_places w.in-Some.node c.args.player (omega (arith, last.above, c.requires.within)) (mover-move _ _ _ _ last.is_move) in
+      subst (LeadsTo (game_of_tree c.args.tree.now) c.args.player c.args.number) (sym w.before-is) (record { node = w.in-Some.node; last = last; number_is = number; place_is = w.place_at.ensures c.args.player last.set last.is_move }))
+  | in-None w ↦ subst (LeadsTo (game_of_tree c.args.tree.now) c.args.player c.args.number) (sym w.before-is) w.in-None.ensures
+]
+
+pub returns : goal.returns
+returns c =
+    let move = move_at (game_of_tree c.args.tree.now) c.args.player c.args.number c.requires.moves in
+    record { set = move.0; is_move = move.1; place_is = c.place_at-2.ensures c.args.player move.0 move.1; led_to = led_to c }

@@ -1,0 +1,8 @@
+use Rattle.std.proofs.Common.{map}
+use Rattle.game_core.specs.TreeGame.{game_of_tree}
+use Rattle.strategy_lists.specs.Made.{AreMadeByAll}
+use Rattle.strategy_lists.proofs.decisions.decisions_of_all.Given as goal
+
+-- the decisions at the nodes before this one
+abbrev pub invariant-loop-number : goal.invariant-loop-number
+invariant-loop-number l = AreMadeByAll (game_of_tree l.tree) l.number (map (λ v. v.items) l.lists.items)

@@ -1,0 +1,66 @@
+-- The decisions of the players, one node of a game tree after another.
+use Rattle.std.specs.Prelude.{ℕ, ◌<◌, ◌≡◌, List, [], ◌∷◌, ◌++◌, length, map, slice_get, Option, Some, None}
+use Rattle.game_trees.specs.Trees.{Tree}
+use Rattle.game_trees.specs.Recall.{own_history}
+use Rattle.game_core.specs.declared.tree.Kind.{Kind}
+use Rattle.game_core.specs.declared.tree.Kind.TheVariants.{Chance, Move, End}
+use Rattle.reduced_strategies.specs.Choices.{own_sets}
+use Rattle.decision_walk.specs.declared.decision.Decision.{Decision}
+use Rattle.decision_walk.specs.declared.decision.Step.{Step}
+use Rattle.strategy_lists.specs.OwnNumbers.{own_numbers}
+
+-- the player who moves at a node of this kind
+abbrev pub mover_of : Kind → Option ℕ
+mover_of Chance = None
+mover_of (Move i) = Some i
+mover_of End = None
+
+-- the player who owns a node's set
+abbrev pub owner_of : Tree → Option ℕ → Option ℕ
+owner_of t None = None
+owner_of t (Some s) = t.owner s
+
+-- the player who moves at node k
+abbrev pub mover : Tree → ℕ → Option ℕ
+mover t k = owner_of t (t.set k)
+
+-- node k is a node of this set of player i
+pub record IsMove (t : Tree) (i k s : ℕ) : Type 0 where
+  pub at_set : t.set k ≡ Some s
+  pub own : t.owner s ≡ Some i
+
+-- node a is the last node above node k at which player i moves, and this action leads from there towards k
+pub record IsLastMove (t : Tree) (i k a action : ℕ) : Type 0 where
+  pub above : a < k
+  pub set : ℕ
+  pub is_move : IsMove t i a set
+  pub history_is : own_history t i k ≡ own_history t i a ++ (set, action) ∷ []
+
+-- a step is that by the last move above node k
+pub record IsStepTo (t : Tree) (i k : ℕ) (step : Step) : Type 0 where
+  pub node : ℕ
+  pub last : IsLastMove t i k node step.action
+  pub number_is : step.decision ≡ length (own_numbers (mover t) i node)
+  pub place_is : slice_get (own_sets t i) step.place ≡ Some last.set
+
+-- the step before the decision at node k, where there is one
+abbrev pub LeadsTo : Tree → ℕ → ℕ → Option Step → Type 0
+LeadsTo t i k None = own_history t i k ≡ []
+LeadsTo t i k (Some step) = IsStepTo t i k step
+
+-- the decision is that of player i at node k
+pub record IsMadeAt (t : Tree) (i k : ℕ) (decision : Decision) : Type 0 where
+  pub set : ℕ
+  pub is_move : IsMove t i k set
+  pub place_is : slice_get (own_sets t i) decision.place ≡ Some set
+  pub led_to : LeadsTo t i k decision.before
+
+-- the decisions of player i at the nodes below n
+pub record AreMade (t : Tree) (n i : ℕ) (decisions : List Decision) : Type 0 where
+  pub one_for_each : length decisions ≡ length (own_numbers (mover t) i n)
+  pub are_made : (j k : ℕ) (decision : Decision) → slice_get decisions j ≡ Some decision → slice_get (own_numbers (mover t) i n) j ≡ Some k → IsMadeAt t i k decision
+
+-- the decisions of each player at the nodes below n
+pub record AreMadeByAll (t : Tree) (n : ℕ) (lists : List (List Decision)) : Type 0 where
+  pub one_for_each : length lists ≡ t.players
+  pub are_made : (i : ℕ) (decisions : List Decision) → slice_get lists i ≡ Some decisions → AreMade t n i decisions
