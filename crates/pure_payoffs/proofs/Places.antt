@@ -1,6 +1,6 @@
 -- Where a play's parts stand.
 use Rattle.std.proofs.Common.{ℕ, suc, ◌-◌, ◌<◌, ◌≡◌, Some, List, [], length, map, get_or, slice_get, sym, ap, ◌∙◌, subst, arith}
-use Rattle.std.proofs.lemmas.List.{length-map, get_or-map}
+use Rattle.std.proofs.lemmas.List.{length-map, get_or-map, get_or_default}
 use Rattle.std.proofs.lemmas.Option.{slice_get_within, get_or_from_slice_get}
 use Rattle.game_theory.proofs.ProfileNumbers.{length-profile}
 use Rattle.game_trees.specs.Trees.{Tree, IsTree}
@@ -13,16 +13,24 @@ use Rattle.pure_payoffs.specs.Plays.{IsPlay}
 use Rattle.pure_payoffs.specs.Steps.{child}
 use Rattle.pure_payoffs.proofs.Choices.{choice_at-place}
 use Rattle.pure_payoffs.proofs.Filling.{list-read}
-use Rattle.pure_payoffs.proofs.NodeSteps.{child-is}
+use Rattle.pure_payoffs.proofs.NodeSteps.{child-is, child-later}
 
 -- the node to which an action leads stands in the list of children
-pub child-read : {V : Type 0} (f : V → List ℕ) (t : Tree) (lists : List V) (k s a : ℕ) (list : V) → IsTree t → AreChildren t (map f lists) → k < t.size → t.set k ≡ Some s → a < t.actions s → list ≡ get_or lists k list → (a < length (f list)) × (get_or (f list) a 0 ≡ child t k a)
-child-read f t lists k s a list w h l e m is =
+pub child-read : {V : Type 0} (f : V → List ℕ) (t : Tree) (lists : List V) (k s a : ℕ) (d : V) → IsTree t → AreChildren t (map f lists) → k < t.size → t.set k ≡ Some s → a < t.actions s → (a < length (f (get_or lists k d))) × (get_or (f (get_or lists k d)) a 0 ≡ child t k a)
+child-read f t lists k s a d w h l e m =
     let c = h.are_children k s a l e m in
     let inside : k < length lists = omega (arith, h.one_for_each, length-map lists f) in
-    let same = list-read f lists k list inside is in
+    let same = get_or-map f lists k d [] inside in
     let found = subst (λ x. slice_get x a ≡ Some c.0) same c.1 in
-    (slice_get_within (f list) a c.0 found, get_or_from_slice_get (f list) a c.0 0 found ∙ sym (child-is t k a c.0 w c.2))
+    (slice_get_within (f (get_or lists k d)) a c.0 found, get_or_from_slice_get (f (get_or lists k d)) a c.0 0 found ∙ sym (child-is t k a c.0 w c.2))
+
+-- a node that is read there is the child, and stands behind
+pub child-found : {V : Type 0} (f : V → List ℕ) (t : Tree) (lists : List V) (k s a : ℕ) (d : V) (c : ℕ) → IsTree t → AreChildren t (map f lists) → k < t.size → t.set k ≡ Some s → a < t.actions s → c ≡ get_or (f (get_or lists k d)) a c → (c ≡ child t k a) × (k < c) × (c < t.size)
+child-found f t lists k s a d c w h l e m is =
+    let read = child-read f t lists k s a d w h l e m in
+    let same = is ∙ get_or_default (f (get_or lists k d)) a c 0 read.0 ∙ read.1 in
+    let later = child-later t k s a w l e m in
+    (same, omega (arith, later.0, same), omega (arith, later.1, same))
 
 module _ (t : Tree) (children : List (List ℕ)) (places : List ℕ) (strategies : List (List (List ℕ))) (profile : List ℕ) (h : IsPlay t children places strategies profile) where
   -- a play's profile gives each set of a player one of its actions

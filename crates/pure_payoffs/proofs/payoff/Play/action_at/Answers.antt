@@ -1,5 +1,5 @@
 use Rattle.std.proofs.Common.{◌-◌, ◌≡◌, ◌∙◌, ◌<◌, [], sym, ap, map, get_or, length, arith}
-use Rattle.std.proofs.lemmas.List.{length-map, get_or-map}
+use Rattle.std.proofs.lemmas.List.{length-map, get_or-map, get_or_default}
 use Rattle.reduced_strategies.specs.StrategicForm.{list_of}
 use Rattle.pure_payoffs.proofs.Places.{owner-plays, owner-strategies, strategy-within, place-within, completed-read, strategy-read}
 use Rattle.pure_payoffs.proofs.payoff.Play.action_at.Goals as goal
@@ -30,13 +30,17 @@ strategy-is c =
     let before = (goal.at.After-index-strategy c).After-index-self-owner in
     strategy-read (λ v. v.items) (λ w. w.items) c.args.self.now.strategies.now c.args.owner _ c.index-self-owner.result c.index-strategy.result.now (inside before) (number-within before) c.index-strategy.ensures
 
+-- the set's place is one of the strategy's
+at-place : (c : After-index-strategy) → get_or c.args.self.now.places.now c.args.set 0 < length c.index-strategy.result.now.items
+at-place c = rw (strategy-is c) at (place-within _ _ _ _ _ c.requires.play _ _ c.requires.set c.requires.owner)
+
 pub index-requires : goal.index-requires
-index-requires c =
-    let same = strategy-is (goal.at.index-requires c).After-index-strategy in
-    rw c.index-strategy.result.now.ok.0 (rw same at (place-within _ _ _ _ _ c.requires.play _ _ c.requires.set c.requires.owner))
+index-requires c = rw c.index-strategy.result.now.ok.0 (at-place (goal.at.index-requires c).After-index-strategy)
 
 pub returns : goal.returns
 returns c =
-    let same = strategy-is (goal.at.returns c).After-index-strategy in
-    let read = completed-read _ _ _ _ _ c.requires.play _ _ c.requires.set c.requires.owner in
-    c.saturating_sub.ensures ∙ ?
+    let before = (goal.at.returns c).After-index-strategy in
+    let place = get_or c.args.self.now.places.now c.args.set 0 in
+    c.saturating_sub.ensures
+    ∙ ap (λ x. x - 1) (c.index.ensures ∙ get_or_default c.index-strategy.result.now.items place c.index.result.now 0 (at-place before) ∙ ap (λ v. get_or v place 0) (sym (strategy-is before)))
+    ∙ sym (completed-read _ _ _ _ _ c.requires.play _ _ c.requires.set c.requires.owner)
