@@ -1,2 +1,4 @@
 pub mod Children
+pub mod Filled
+pub mod Plays
 pub mod Steps

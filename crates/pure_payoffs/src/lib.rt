@@ -10,3 +10,6 @@ mod payoff;
 
 pub use children::children_of_all;
 pub use payoff::Play;
+
+#[cfg(test)]
+mod tests;

@@ -1,0 +1,108 @@
+-- The steps and the value of a node, by those of its children.
+use Rattle.std.proofs.Common.{ℕ, zero, suc, ◌+◌, ◌<◌, ◌≤◌, ◌≡◌, ◌≢◌, Bool, true, false, Option, Some, None, List, [], ◌∷◌, ◌++◌, refl, sym, ap, ap₂, ◌∙◌, subst, arith}
+use Rattle.std.specs.Prelude.{◌==◌, ◌&&◌, nat_lt, if◌then◌else◌}
+use Rattle.std.specs.Bool.{Decides}
+use Rattle.std.proofs.lemmas.Bool.Decides.{Decides-and, Decides-eqb, Decides-ltb}
+use Rattle.rational.specs.Rational.{ℚ, ◌+ℚ◌, ◌*ℚ◌, zero_ℚ}
+use Rattle.rational.specs.Sum.{sum_to}
+use Rattle.rational.proofs.Sums.{sum_to-same, sum_to-single}
+use Rattle.frac128.specs.Fraction.{eq_ℚ}
+use Rattle.frac128.specs.Steps.{unfit}
+use Rattle.frac128.specs.declared.steps.Op.TheVariants.{Add, Mul}
+use Rattle.game_theory.specs.Mixed.{sure}
+use Rattle.game_trees.specs.Trees.{Tree, IsTree, IsChild}
+use Rattle.game_trees.specs.Behaviour.{is_parent, of_owner, action_probability, value, pure}
+use Rattle.game_trees.proofs.Values.{value-by_actions, value-end}
+use Rattle.pure_payoffs.specs.Plays.{steps_at, steps_behind, value_behind}
+use Rattle.pure_payoffs.specs.Steps.{Step, the_one_below, child, chance_steps, owner_steps, node_steps, steps_to}
+
+-- the only number below n that passes a test
+the_one_below-is : (n c : ℕ) (passes : ℕ → Bool) → c < n → passes c ≡ true → ((d : ℕ) → d < n → passes d ≡ true → d ≡ c) → the_one_below n passes ≡ c
+the_one_below-is zero c passes l h only = absurd (omega arith)
+the_one_below-is (suc n) c passes l h only = go (passes n) refl (λ m. the_one_below-is n c passes m h (λ d k p. only d (omega arith) p))
+  where
+    go : (b : Bool) → passes n ≡ b → (c < n → the_one_below n passes ≡ c) → (if b then n else the_one_below n passes) ≡ c
+    go true e earlier = only n (omega arith) e
+    go false e earlier = let other : c ≢ n = λ s. cc (h, e, ap passes s) in earlier (omega arith)
+
+-- what the test of a child tells
+is_child-decides : (t : Tree) (k a c : ℕ) → Decides (is_parent t k c && (t.branch c == a)) (((0 < c) × (t.parent c ≡ k)) × (t.branch c ≡ a))
+is_child-decides t k a c = Decides-and (is_parent t k c) (t.branch c == a) (Decides-and (nat_lt 0 c) (t.parent c == k) (Decides-ltb 0 c) (Decides-eqb (t.parent c) k)) (Decides-eqb (t.branch c) a)
+
+-- a node that is a child is the one that the steps name
+pub child-is : (t : Tree) (k a c : ℕ) → IsTree t → IsChild t k a c → child t k a ≡ c
+child-is t k a c w h =
+    the_one_below-is t.size c (λ d. is_parent t k d && (t.branch d == a)) h.1 ((is_child-decides t k a c).1 ((h.0, h.2), h.3))
+    (λ d l p. let q = (is_child-decides t k a d).0 p in w.one_child k a d c (q.0.0, l, q.0.1, q.1) h)
+
+-- each action of a node's set leads to the node that the steps name
+pub child-is_child : (t : Tree) (k s a : ℕ) → IsTree t → k < t.size → t.set k ≡ Some s → a < t.actions s → IsChild t k a (child t k a)
+child-is_child t k s a w l e m = let c = w.some_child k s a l e m in subst (IsChild t k a) (sym (child-is t k a c.0 w c.1)) c.1
+
+-- that node stands behind
+pub child-later : (t : Tree) (k s a : ℕ) → IsTree t → k < t.size → t.set k ≡ Some s → a < t.actions s → (k < child t k a) × (child t k a < t.size)
+child-later t k s a w l e m =
+    let c = child-is_child t k s a w l e m in
+    let after = w.after_parent (child t k a) c.0 c.1 in
+    (omega (arith, after, c.2), c.1)
+
+-- the steps at a node of chance, where the children's steps are the same
+chance_steps-same : (n : ℕ) (chances values : ℕ → ℚ) (f g : ℕ → List Step) → ((a : ℕ) → a < n → f a ≡ g a) → chance_steps n chances values f ≡ chance_steps n chances values g
+chance_steps-same zero chances values f g h = refl
+chance_steps-same (suc a) chances values f g h =
+    ap₂ (λ x y. x ++ (if eq_ℚ (chances a) zero_ℚ then [] else y ++ unfit Mul (chances a) (values a) ∷ unfit Add (sum_to a (λ b. chances b *ℚ values b)) (chances a *ℚ values a) ∷ [])) (chance_steps-same a chances values f g (λ b l. h b (omega arith))) (h a (omega arith))
+
+module _ (t : Tree) (choice : ℕ → ℕ) (i : ℕ) (w : IsTree t) (chosen : (s j : ℕ) → s < t.sets → t.owner s ≡ Some j → choice s < t.actions s) where
+  -- the steps at a node, where those of later nodes are the same
+  node_steps-same : (f g : ℕ → List Step) (k : ℕ) → k < t.size → ((c : ℕ) → k < c → c < t.size → f c ≡ g c) → node_steps t choice i f k (t.set k) ≡ node_steps t choice i g k (t.set k)
+  node_steps-same f g k l h = go (t.set k) refl
+    where
+      owned : (s : ℕ) (o : Option ℕ) → t.set k ≡ Some s → t.owner s ≡ o → owner_steps t choice i f k s o ≡ owner_steps t choice i g k s o
+      owned s None e p = ap (λ x. x ++ unfit Add (t.pays k i) (sum_to (t.actions s) (λ a. t.chance s a *ℚ value t (pure choice) i (child t k a))) ∷ [])
+          (chance_steps-same (t.actions s) (t.chance s) _ (λ a. f (child t k a)) (λ a. g (child t k a)) (λ a m. let c = child-later t k s a w l e m in h (child t k a) c.0 c.1))
+      owned s (Some j) e p =
+          let c = child-later t k s (choice s) w l e (chosen s j (w.sets_within k s l e) p) in
+          ap (λ x. x ++ unfit Add (t.pays k i) (value t (pure choice) i (child t k (choice s))) ∷ []) (h (child t k (choice s)) c.0 c.1)
+
+      go : (o : Option ℕ) → t.set k ≡ o → node_steps t choice i f k o ≡ node_steps t choice i g k o
+      go None e = refl
+      go (Some s) e = owned s (t.owner s) e refl
+
+  -- where no node lies deeper, one more edge adds no step
+  steps_to-enough : (d k : ℕ) → k < t.size → t.size ≤ d + k → steps_to t choice i d k ≡ steps_to t choice i (suc d) k
+  steps_to-enough zero k l h = absurd (omega arith)
+  steps_to-enough (suc d) k l h = node_steps-same (steps_to t choice i d) (steps_to t choice i (suc d)) k l (λ c after m. steps_to-enough d c m (omega arith))
+
+  -- the steps of a node, by those of its children
+  steps_at-recur : (k : ℕ) → k < t.size → steps_at t choice i k ≡ node_steps t choice i (steps_at t choice i) k (t.set k)
+  steps_at-recur k l = steps_to-enough t.size k l (omega arith)
+
+  -- an end has no step
+  pub steps_at-end : (k : ℕ) → k < t.size → t.set k ≡ None → steps_at t choice i k ≡ []
+  steps_at-end k l e = steps_at-recur k l ∙ ap (node_steps t choice i (steps_at t choice i) k) e
+
+  -- at any other node the last step adds what comes behind it
+  pub steps_at-inner : (k s : ℕ) → k < t.size → t.set k ≡ Some s → steps_at t choice i k ≡ steps_behind t choice i k s (t.owner s) ++ unfit Add (t.pays k i) (value_behind t choice i k s (t.owner s)) ∷ []
+  steps_at-inner k s l e = steps_at-recur k l ∙ ap (node_steps t choice i (steps_at t choice i) k) e ∙ by_owner (t.owner s)
+    where
+      by_owner : (o : Option ℕ) → owner_steps t choice i (steps_at t choice i) k s o ≡ steps_behind t choice i k s o ++ unfit Add (t.pays k i) (value_behind t choice i k s o) ∷ []
+      by_owner None = refl
+      by_owner (Some j) = refl
+
+  -- the weighted values of a node's children sum to the value of what comes behind it
+  weighted-behind : (k s : ℕ) → s < t.sets → sum_to (t.actions s) (λ a. action_probability t (pure choice) s a *ℚ value t (pure choice) i (child t k a)) ≡ value_behind t choice i k s (t.owner s)
+  weighted-behind k s l = go (t.owner s) refl
+    where
+      go : (o : Option ℕ) → t.owner s ≡ o → sum_to (t.actions s) (λ a. of_owner o (t.chance s a) (sure (choice s) a) *ℚ value t (pure choice) i (child t k a)) ≡ value_behind t choice i k s o
+      go None p = refl
+      go (Some j) p = sum_to-single (t.actions s) (choice s) (λ a. value t (pure choice) i (child t k a)) (chosen s j l p)
+
+  -- the value of such a node is what its outcome pays and the value of what comes behind it
+  pub value-inner : (k s : ℕ) → k < t.size → t.set k ≡ Some s → value t (pure choice) i k ≡ t.pays k i +ℚ value_behind t choice i k s (t.owner s)
+  value-inner k s l e =
+      value-by_actions t (pure choice) i k s (child t k) w l e (λ a m. child-is_child t k s a w l e m)
+      ∙ ap (λ x. t.pays k i +ℚ x) (weighted-behind k s (w.sets_within k s l e))
+
+  -- the value of an end is what its outcome pays
+  pub value-last : (k : ℕ) → k < t.size → t.set k ≡ None → value t (pure choice) i k ≡ t.pays k i
+  value-last k l e = value-end t (pure choice) i k w l e

@@ -1,0 +1,47 @@
+-- Steps one after another: what they give.
+use Rattle.std.proofs.Common.{ℕ, zero, suc, ◌≤◌, ◌≡◌, Bool, true, false, inl, inr, List, [], ◌∷◌, ◌++◌, All, Result, Ok, Err, refl, sym, ap, ◌∙◌, subst, append_assoc, arith, eq-or-lt_of_le, le_of_suc-le-suc}
+use Rattle.std.specs.Prelude.{IfOk, IfErr, OnOk, OnErr}
+use Rattle.std.proofs.lemmas.List.Elements.{All-nil, All-cons, All-append}
+use Rattle.rational.specs.Rational.{ℚ, ◌+ℚ◌, ◌*ℚ◌}
+use Rattle.frac128.specs.Steps.{AddFits, MulFits, unfit}
+use Rattle.frac128.specs.declared.steps.Op.TheVariants.{Add, Mul}
+use Rattle.frac128.specs.declared.steps.Unfit.{Unfit}
+use Rattle.pure_payoffs.specs.Plays.{Give}
+use Rattle.pure_payoffs.specs.Steps.{Step, StepFits, IsFirstUnfit, chance_steps}
+
+-- the first step that does not fit stays the first before further steps
+pub first_unfit-more : (steps rest : List Step) (u : Step) → IsFirstUnfit steps u → IsFirstUnfit (steps ++ rest) u
+first_unfit-more steps rest u h =
+    record { before = h.before; behind = h.behind ++ rest; is_there = ap (λ s. s ++ rest) h.is_there ∙ append_assoc h.before (u ∷ h.behind) rest; earlier_fit = h.earlier_fit; does_not_fit = h.does_not_fit }
+
+-- it stays the first behind steps that fit
+pub first_unfit-behind : (steps rest : List Step) (u : Step) → All StepFits steps → IsFirstUnfit rest u → IsFirstUnfit (steps ++ rest) u
+first_unfit-behind steps rest u fit h =
+    record { before = steps ++ h.before; behind = h.behind; is_there = ap (λ s. steps ++ s) h.is_there ∙ sym (append_assoc steps h.before (u ∷ h.behind)); earlier_fit = All-append StepFits steps h.before fit h.earlier_fit; does_not_fit = h.does_not_fit }
+
+-- a step that does not fit is the first from itself on
+pub first_unfit-here : (u : Step) (behind : List Step) → (StepFits u → ⊥) → IsFirstUnfit (u ∷ behind) u
+first_unfit-here u behind refused = record { before = []; behind = behind; is_there = refl; earlier_fit = All-nil StepFits; does_not_fit = refused }
+
+-- a step that fits stands alone
+pub one-fits : (step : Step) → StepFits step → All StepFits (step ∷ [])
+one-fits step fits = All-cons StepFits step [] fits (All-nil StepFits)
+
+-- what an addition gives
+pub added-gives : (a b : ℚ) (r : Result ℚ Unfit) → IfOk r (λ f. f ≡ a +ℚ b) → OnOk r (AddFits a b) → IfErr r (λ e. e ≡ unfit Add a b) → OnErr r (AddFits a b → ⊥) → Give (unfit Add a b ∷ []) (a +ℚ b) r
+added-gives a b (Ok v) value fits step refused = (value, one-fits (unfit Add a b) fits)
+added-gives a b (Err u) value fits step refused = subst (IsFirstUnfit (unfit Add a b ∷ [])) (sym step) (first_unfit-here (unfit Add a b) [] refused)
+
+-- steps that fit change nothing in what those behind them give
+pub behind-gives : (steps rest : List Step) (v : ℚ) (r : Result ℚ Unfit) → All StepFits steps → Give rest v r → Give (steps ++ rest) v r
+behind-gives steps rest v (Ok x) fit g = (g.0, All-append StepFits steps rest fit g.1)
+behind-gives steps rest v (Err u) fit g = first_unfit-behind steps rest u fit g
+
+-- the first step of chance that does not fit is the same where there are more actions
+pub first_unfit-chance : (m n : ℕ) (chances values : ℕ → ℚ) (later : ℕ → List Step) (u : Step) → m ≤ n → IsFirstUnfit (chance_steps m chances values later) u → IsFirstUnfit (chance_steps n chances values later) u
+first_unfit-chance m zero chances values later u h first =
+    let e : m ≡ 0 = omega arith in subst (λ k. IsFirstUnfit (chance_steps k chances values later) u) e first
+first_unfit-chance m (suc n) chances values later u h first = elim (eq-or-lt_of_le h) [
+  | inl e ↦ subst (λ k. IsFirstUnfit (chance_steps k chances values later) u) e first
+  | inr l ↦ first_unfit-more (chance_steps n chances values later) _ u (first_unfit-chance m n chances values later u (le_of_suc-le-suc l) first)
+]

@@ -1,0 +1,8 @@
+use Rattle.std.proofs.Common.{map}
+use Rattle.game_core.specs.TreeGame.{game_of_tree}
+use Rattle.pure_payoffs.specs.Filled.{AreFilled}
+use Rattle.pure_payoffs.proofs.children.children_of_all.Given as goal
+
+-- the nodes before this one stand in their parents' lists
+abbrev pub invariant-loop-number : goal.invariant-loop-number
+invariant-loop-number l = AreFilled (game_of_tree l.tree) l.number (map (λ v. v.items) l.lists.items)

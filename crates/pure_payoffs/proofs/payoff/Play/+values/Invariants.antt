@@ -1,0 +1,30 @@
+use Rattle.std.proofs.Common.{◌≡◌, ◌+◌, ◌-◌, ◌*◌, All, map, length}
+use Rattle.rational.specs.Rational.{◌*ℚ◌}
+use Rattle.rational.specs.Sum.{sum_to}
+use Rattle.game_trees.specs.Behaviour.{pure, value}
+use Rattle.game_core.specs.TreeGame.{game_of_tree}
+use Rattle.reduced_strategies.specs.StrategicForm.{completed}
+use Rattle.pure_payoffs.specs.Plays.{steps_at}
+use Rattle.pure_payoffs.specs.Steps.{StepFits, chance_steps, child}
+use Rattle.pure_payoffs.proofs.payoff.Play.+values.Given as goal
+
+-- four times the number of nodes from this one on, and more for each call at the node
+abbrev pub decreases-chance_value : goal.decreases-chance_value
+decreases-chance_value l = 4 * (length l.self.now.tree.now.nodes - l.node)
+
+abbrev pub decreases-value : goal.decreases-value
+decreases-value l = 4 * (length l.self.now.tree.now.nodes - l.node) + 2
+
+abbrev pub decreases-value_behind : goal.decreases-value_behind
+decreases-value_behind l = 4 * (length l.self.now.tree.now.nodes - l.node) + 1
+
+abbrev pub decreases-with_branch : goal.decreases-with_branch
+decreases-with_branch l = 4 * (length l.self.now.tree.now.nodes - l.child) + 3
+
+-- the sum over the actions so far, whose steps all fit
+abbrev pub invariant-chance_value-loop-action : goal.invariant-chance_value-loop-action
+invariant-chance_value-loop-action l =
+    let t = game_of_tree l.self.tree.now in
+    let choice = completed t (map (λ v. map (λ w. w.items) v.items) l.self.strategies.now) l.self.profile.now in
+    (l.sum ≡ sum_to l.action (λ a. t.chance l.set a *ℚ value t (pure choice) l.player (child t l.node a)))
+    × All StepFits (chance_steps l.action (t.chance l.set) (λ a. value t (pure choice) l.player (child t l.node a)) (λ a. steps_at t choice l.player (child t l.node a)))

@@ -1,0 +1,46 @@
+-- What the steps of a play are computed from.
+use Rattle.std.specs.Prelude.{ℕ, ◌<◌, ◌≡◌, List, [], ◌∷◌, ◌++◌, if◌then◌else◌, map, length, All, Option, Some, None, Result, MatchResult}
+use Rattle.rational.specs.Rational.{ℚ, ◌+ℚ◌, ◌*ℚ◌, zero_ℚ}
+use Rattle.rational.specs.Sum.{sum_to}
+use Rattle.frac128.specs.Fraction.{eq_ℚ}
+use Rattle.frac128.specs.Steps.{unfit}
+use Rattle.frac128.specs.declared.steps.Op.TheVariants.{Add, Mul}
+use Rattle.frac128.specs.declared.steps.Unfit.{Unfit}
+use Rattle.game_theory.specs.Profiles.{IsProfile}
+use Rattle.game_trees.specs.Trees.{Tree, IsTree}
+use Rattle.game_trees.specs.Behaviour.{value, pure}
+use Rattle.reduced_strategies.specs.Places.{ArePlaces}
+use Rattle.reduced_strategies.specs.StrategicForm.{AreStrategies}
+use Rattle.pure_payoffs.specs.Children.{AreChildren}
+use Rattle.pure_payoffs.specs.Steps.{Step, StepFits, IsFirstUnfit, child, chance_steps, steps_to}
+
+-- a game tree, its nodes' children, its sets' places, and a profile of its reduced strategies
+pub record IsPlay (t : Tree) (children : List (List ℕ)) (places : List ℕ) (strategies : List (List (List ℕ))) (profile : List ℕ) : Type 0 where
+  pub tree : IsTree t
+  pub children_are : AreChildren t children
+  pub places_are : ArePlaces t places
+  pub strategies_are : AreStrategies t strategies
+  pub is_profile : IsProfile (map length strategies) profile
+
+-- what these steps give: a value where all fit, and else the first that does not
+abbrev pub Give : List Step → ℚ → Result ℚ Unfit → Type 0
+Give steps v result = MatchResult result (λ x. (x ≡ v) × All StepFits steps) (IsFirstUnfit steps)
+
+-- the steps of a node's value
+abbrev pub steps_at : Tree → (ℕ → ℕ) → ℕ → ℕ → List Step
+steps_at t choice i k = steps_to t choice i t.size k
+
+-- The steps with which a child's product with its probability is added to a sum: none where the probability is 0, and else those of
+-- the child, the product and the addition.
+abbrev pub branch_steps : ℚ → ℚ → ℚ → List Step → List Step
+branch_steps prob sum v steps = if eq_ℚ prob zero_ℚ then [] else steps ++ unfit Mul prob v ∷ unfit Add sum (prob *ℚ v) ∷ []
+
+-- the steps of what comes behind a node, by the owner of its set
+abbrev pub steps_behind : Tree → (ℕ → ℕ) → ℕ → ℕ → ℕ → Option ℕ → List Step
+steps_behind t choice i k s None = chance_steps (t.actions s) (t.chance s) (λ a. value t (pure choice) i (child t k a)) (λ a. steps_at t choice i (child t k a))
+steps_behind t choice i k s (Some j) = steps_at t choice i (child t k (choice s))
+
+-- the value of what comes behind a node, by the owner of its set
+abbrev pub value_behind : Tree → (ℕ → ℕ) → ℕ → ℕ → ℕ → Option ℕ → ℚ
+value_behind t choice i k s None = sum_to (t.actions s) (λ a. t.chance s a *ℚ value t (pure choice) i (child t k a))
+value_behind t choice i k s (Some j) = value t (pure choice) i (child t k (choice s))
