@@ -3,7 +3,7 @@
 
 ghost use Rattle.std.specs.Prelude.{◌≡◌, [], ◌∷◌, ◌++◌, string_bytes, IfOk, OnOk, MatchOption};
 ghost use Rattle.game_theory.specs.Lines.{line_text, number_text};
-ghost use Rattle.ne_printer.specs.Entries.{entry_text, entries_text, IsOneDigit};
+ghost use Rattle.ne_printer.specs.Entries.{entry_text, entries_text, line_start, IsOneDigit};
 
 use frac128::{Frac, Memory};
 use std::alloc::Global;
@@ -34,10 +34,7 @@ pub fn fraction(alloc: Global, value: Frac) -> Result<Vec<u8>, Memory>
 pub fn push_line(alloc: Global, text: &mut Vec<u8>, entries: &[Frac]) -> Result<(), Memory>
     ensures { OnOk result (text.new.items ≡ text.old.items ++ line_text entries.now) }
 {
-    text.extend_from_slice(b"NE")?;
-    if entries.is_empty() {
-        text.push(b',')?;
-    }
+    text.extend_from_slice(line_start(entries))?;
     push_entries(alloc, text, entries)?;
     text.push(b'\n')?;
     Ok(())
@@ -50,6 +47,13 @@ pub fn line(alloc: Global, entries: &[Frac]) -> Result<Vec<u8>, Memory>
     let mut line = Vec::new(alloc);
     push_line(alloc, &mut line, entries)?;
     Ok(line)
+}
+
+// What stands before the entries where each is behind a comma.
+fn line_start(entries: &[Frac]) -> &'static [u8]
+    ensures { result.now ≡ line_start entries.now }
+{
+    if entries.is_empty() { b"NE," } else { b"NE" }
 }
 
 // Adds the entries, each behind a comma.
