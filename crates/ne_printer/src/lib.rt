@@ -81,6 +81,7 @@ fn push_entry(alloc: Global, text: &mut Vec<u8>, entry: Frac) -> Result<(), Memo
 }
 
 // The text of a whole number from 0 to 9, which most entries are, without formatting.
+#[tactic(auto, using(crate::proofs::LineTexts::number_text_cast))]
 fn one_digit(value: Frac) -> Option<u8>
     ensures { MatchOption result (¬ (IsOneDigit value)) (λ digit. number_text value ≡ digit ∷ []) }
 {
