@@ -1,8 +1,9 @@
 //! The text of equilibria: lines and fractions.
 #![tactic(auto)]
 
-ghost use Rattle.std.specs.Prelude.{◌≡◌, ◌++◌, string_bytes, IfOk, OnOk};
+ghost use Rattle.std.specs.Prelude.{◌≡◌, [], ◌∷◌, ◌++◌, string_bytes, IfOk, OnOk, MatchOption};
 ghost use Rattle.game_theory.specs.Lines.{line_text, number_text};
+ghost use Rattle.ne_printer.specs.Entries.{entry_text, entries_text, line_start, IsOneDigit};
 
 use frac128::{Frac, Memory};
 use std::alloc::Global;
@@ -25,7 +26,7 @@ pub fn fraction_text(alloc: Global, value: Frac) -> Result<String, Memory>
 pub fn fraction(alloc: Global, value: Frac) -> Result<Vec<u8>, Memory>
     ensures { IfOk result (λ text. text.items ≡ number_text value) }
 {
-    Err(Memory)
+    Ok(fraction_text(alloc, value)?.into_bytes())
 }
 
 /// Adds the line of an equilibrium with these entries to a text: `NE,`, the entries with commas between them, and
@@ -33,12 +34,62 @@ pub fn fraction(alloc: Global, value: Frac) -> Result<Vec<u8>, Memory>
 pub fn push_line(alloc: Global, text: &mut Vec<u8>, entries: &[Frac]) -> Result<(), Memory>
     ensures { OnOk result (text.new.items ≡ text.old.items ++ line_text entries.now) }
 {
-    Err(Memory)
+    text.extend_from_slice(line_start(entries))?;
+    push_entries(alloc, text, entries)?;
+    text.push(b'\n')?;
+    Ok(())
 }
 
 /// The line of an equilibrium with these entries: `NE,`, the entries with commas between them, and a line feed.
 pub fn line(alloc: Global, entries: &[Frac]) -> Result<Vec<u8>, Memory>
     ensures { IfOk result (λ line. line.items ≡ line_text entries.now) }
 {
-    Err(Memory)
+    let mut line = Vec::new(alloc);
+    push_line(alloc, &mut line, entries)?;
+    Ok(line)
 }
+
+// What stands before the entries where each is behind a comma.
+fn line_start(entries: &[Frac]) -> &'static [u8]
+    ensures { result.now ≡ line_start entries.now }
+{
+    if entries.is_empty() { b"NE," } else { b"NE" }
+}
+
+// Adds the entries, each behind a comma.
+fn push_entries(alloc: Global, text: &mut Vec<u8>, entries: &[Frac]) -> Result<(), Memory>
+    ensures { OnOk result (text.new.items ≡ text.old.items ++ entries_text entries.now) }
+{
+    for entry in entries {
+        push_entry(alloc, text, *entry)?;
+    }
+    Ok(())
+}
+
+// Adds an entry behind a comma.
+fn push_entry(alloc: Global, text: &mut Vec<u8>, entry: Frac) -> Result<(), Memory>
+    ensures { OnOk result (text.new.items ≡ text.old.items ++ entry_text entry) }
+{
+    if let Some(digit) = one_digit(entry) {
+        text.extend_from_slice(&[b',', digit])?;
+    } else {
+        let written = fraction_text(alloc, entry)?;
+        text.push(b',')?;
+        text.extend_from_slice(written.as_bytes())?;
+    }
+    Ok(())
+}
+
+// The text of a whole number from 0 to 9, which most entries are, without formatting.
+#[tactic(auto, using(crate::proofs::LineTexts::number_text_cast))]
+fn one_digit(value: Frac) -> Option<u8>
+    ensures { MatchOption result (¬ (IsOneDigit value)) (λ digit. number_text value ≡ digit ∷ []) }
+{
+    match (value.num(), value.den()) {
+        (num @ 0..=9, 1) => Some(b'0' + num as u8),
+        _ => None,
+    }
+}
+
+#[cfg(test)]
+mod tests;
