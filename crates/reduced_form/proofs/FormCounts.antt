@@ -1,9 +1,10 @@
 -- The sizes of a reduced form by the numbers of strategies.
-use Rattle.std.proofs.Common.{ℕ, zero, suc, ◌+◌, ◌*◌, ◌/◌, ◌<◌, ◌≤◌, ◌≡◌, inl, inr, Some, List, [], ◌∷◌, ◌++◌, length, map, take, drop, get_or, All, refl, sym, ap, ap₂, ◌∙◌, subst, arith, min, below_more}
+use Rattle.std.proofs.Common.{ℕ, zero, suc, ◌+◌, ◌*◌, ◌/◌, ◌<◌, ◌≤◌, ◌≡◌, inl, inr, Some, List, [], ◌∷◌, ◌++◌, length, map, take, drop, get_or, All, refl, sym, ap, ap₂, ◌∙◌, subst, arith, min, below_more, option_map}
 use Rattle.std.specs.Prelude.{slice_get}
 use Rattle.std.proofs.lemmas.List.{length-map, length_push, length-take-le, take_all, take_more, get_or_append_left, get_or_push, ext_get_or, get_or-take, take-append-drop, get_or-map}
-use Rattle.std.proofs.lemmas.Option.{slice_get-get_or, get_or_from_slice_get, slice_get_within}
-use Rattle.std.proofs.Math.Nat.{lt-div-mul-add}
+use Rattle.std.proofs.lemmas.Option.{slice_get-get_or, slice_get-map, slice_get_read}
+use Rattle.std.proofs.Math.Nat.{lt-div-mul-add, mul-div-le, min-le_left, min-eq_left, min-eq_right}
+use Rattle.std.proofs.lemmas.Bool.{cases_lt}
 use native.Mathlib.Nat as N
 use Rattle.game_theory.specs.Profiles.{profile_count}
 use Rattle.game_trees.specs.Trees.{Tree, IsTree}
@@ -195,3 +196,70 @@ many-choices t counts k h few many =
       few_payoffs = subst (λ x. t.players * profile_count x ≤ most_payoffs) h.counts_are few;
       many = omega arith;
     }
+
+-- ---- steps of the counts
+-- a count that stops above a number, and is above it
+pub above_min : (count all most : ℕ) → count ≡ min all (most + 1) → most < count → most < all
+above_min count all most is above = omega (arith, min-le_left all (most + 1))
+
+-- a count that stops above a number, and is not above it
+pub below_min : (count all most : ℕ) → count ≡ min all (most + 1) → count ≤ most → count ≡ all
+below_min count all most is below = elim (cases_lt (most + 1) all) [
+  | inl l ↦ (let e : min all (most + 1) ≡ most + 1 = min-eq_right {n = most + 1} {m = all} (omega arith) in absurd (omega arith))
+  | inr l ↦ is ∙ min-eq_left {n = all} {m = most + 1} l
+]
+
+-- what counting keeps
+pub record AreCountedSoFar (t : Tree) (player payoffs : ℕ) (counts : List ℕ) : Type 0 where
+  pub one_for_each : length counts ≡ player
+  pub are_counts : AreCounts t counts
+  pub payoffs_are : payoffs ≡ t.players * profile_count counts
+  pub some : 0 < t.players → 0 < payoffs
+  pub few : payoffs ≤ most_payoffs
+
+-- one more player is counted
+pub AreCountedSoFar-step : (t : Tree) (player payoffs count all : ℕ) (counts new : List ℕ) → IsTree t → AreCountedSoFar t player payoffs counts → player < t.players → new ≡ counts ++ count ∷ []
+    → HasCount t player all → count ≡ min all (most_payoffs / payoffs + 1) → count ≤ most_payoffs / payoffs → AreCountedSoFar t (player + 1) (payoffs * count) new
+AreCountedSoFar-step t player payoffs count all counts new w h l pushed has is below =
+    let exact = below_min count all (most_payoffs / payoffs) is below in
+    let here : HasCount t (length counts) count = subst (λ k. HasCount t k count) (sym h.one_for_each) (subst (HasCount t player) (sym exact) has) in
+    let room : payoffs * count ≤ payoffs * (most_payoffs / payoffs) = N.mul-le-mul_left payoffs below in
+    record {
+      one_for_each = ap length pushed ∙ length_push counts count ∙ ap (λ k. k + 1) h.one_for_each;
+      are_counts = subst (AreCounts t) (sym pushed) (AreCounts-push t counts count h.are_counts here);
+      payoffs_are = ap (λ x. x * count) h.payoffs_are ∙ N.mul_assoc t.players (profile_count counts) count ∙ ap (λ x. t.players * x) (sym (profile_count-push counts count)) ∙ ap (λ x. t.players * profile_count x) (sym pushed);
+      some = λ p. positive-product payoffs count (h.some p) (HasCount-positive t (length counts) count w here);
+      few = omega (arith, mul-div-le most_payoffs payoffs);
+    }
+
+-- one more player has too many strategies
+pub AreCountedSoFar-many : (t : Tree) (player payoffs count all : ℕ) (counts : List ℕ) → IsTree t → AreCountedSoFar t player payoffs counts → player < t.players
+    → HasCount t player all → count ≡ min all (most_payoffs / payoffs + 1) → most_payoffs / payoffs < count → HasTooManyPayoffs t
+AreCountedSoFar-many t player payoffs count all counts w h l has is above =
+    many-next t counts payoffs all w h.are_counts (subst (λ k. HasCount t k all) (sym h.one_for_each) has) (omega (arith, h.one_for_each)) h.payoffs_are (h.some (omega arith)) (above_min count all (most_payoffs / payoffs) is above)
+
+-- the choices of the players up to one
+pub choices-step : (t : Tree) (counts : List ℕ) (player choices own : ℕ) → AreCounted t counts → player < t.players → choices ≡ choices_by t 0 (take player counts) → own ≡ length (own_sets t player)
+    → choices + get_or counts player 0 * own ≡ choices_by t 0 (take (player + 1) counts)
+choices-step t counts player choices own h l is here =
+    let inside : player < length counts = omega (arith, ap length h.counts_are, length-map h.strategies (length {A = List ℕ}), h.are_strategies.one_for_each) in
+    ap₂ (λ x y. x + get_or counts player 0 * y) is here ∙ sym (choices_by-next t counts player inside)
+
+-- no player has more strategies than a form has payoffs
+pub few_strategies : (t : Tree) (counts : List ℕ) (i : ℕ) → IsTree t → AreCounted t counts → 0 < t.players → t.players * profile_count counts ≤ most_payoffs → get_or counts i 0 ≤ most_payoffs
+few_strategies t counts i w h p few =
+    let positive : All (λ n. 0 < n) counts = subst (All (λ n. 0 < n)) (sym h.counts_are) (counts-positive t h.strategies w h.are_strategies) in
+    let room : 1 * profile_count counts ≤ t.players * profile_count counts = N.mul-le-mul_right (profile_count counts) (omega arith) in
+    omega (arith, profile_count-player counts i positive)
+
+-- the choices of one player are not many
+pub few_choices : (m n : ℕ) → m ≤ most_payoffs → n ≤ 65536 → m * n ≤ 68719476736
+few_choices m n h l =
+    let first : m * n ≤ most_payoffs * n = N.mul-le-mul_right n h in
+    let second : most_payoffs * n ≤ most_payoffs * 65536 = N.mul-le-mul_left most_payoffs l in
+    omega arith
+
+-- what stands at a place, seen through a function
+pub read_through : {V W : Type 0} (f : V → W) (lists : List V) (k : ℕ) (v : V) (w : W) → k < length lists → v ≡ get_or lists k v → w ≡ f v → slice_get (map f lists) k ≡ Some w
+read_through f lists k v w l is seen =
+    slice_get-map f lists k ∙ ap (option_map f) (slice_get_read lists (length lists) k v refl l is) ∙ ap Some (sym seen)

@@ -94,6 +94,7 @@ pub fn check_choices(tree: &Tree, counts: &[usize]) -> Result<(), ReduceStop>
     ensures few { OnOk result (choices_by (game_of_tree tree.now) 0 counts.now ≤ most_choices) }
     ensures stop { IfErr result (IsStop (game_of_tree tree.now)) }
 {
+    trees_are_game_trees();
     own_sets_are_those_of_the_tree();
     let mut choices = 0;
     for player in 0..tree.players().len() {

@@ -1,29 +1,37 @@
-use Rattle.std.proofs.Common.{rules, ◌≡◌, ◌<◌, ◌≤◌, ◌*◌, ◌+◌, ◌^◌, length, map, IfOk, IfErr, OnOk, ℕ, ◌-◌, ◌/◌, ◌%◌, Bool, true, false, nat_eq, nat_lt, List, [], ◌∷◌, ◌++◌, slice_index_or, slice_set, bit_and, bit_or, Fits, w8, w32, w64, Bor, MutBor}
-use Rattle.game_theory.specs.Profiles.{profile_count}
-use Rattle.game_core.specs.Table.{most_payoffs}
-use Rattle.game_core.specs.Tree.{own_sets as tree_sets}
+use Rattle.std.proofs.Common.{◌+◌, ◌*◌, ◌<◌, ◌≤◌, inr, length, get_or, refl, sym, ap, ◌∙◌, subst, arith}
 use Rattle.game_core.specs.TreeGame.{game_of_tree}
-use Rattle.reduced_strategies.specs.Choices.{own_sets}
-use Rattle.strategy_lists.specs.Decisions.{AreDecisionsOfAll}
-use Rattle.reduced_form.specs.declared.stop.ReduceStop.TheVariants as stops
-use Rattle.reduced_form.specs.Counts.{AreCounted, choices_by}
 use Rattle.reduced_form.specs.Limits.{most_choices}
-use Rattle.reduced_form.specs.Stops.{IsStop, too_many_payoffs, too_many_choices}
+use Rattle.reduced_form.specs.Stops.{IsStop}
+use Rattle.reduced_form.proofs.FormCounts.{choices-step, few_choices, few_strategies, many-choices}
+use Rattle.reduced_form.proofs.SetCounts.{own_sets-short}
 use Rattle.reduced_form.proofs.limits.check_choices.Goals as goal
+use Rattle.reduced_form.proofs.limits.check_choices.Goals.{After-own_set_count}
 
--- src/limits.rt:100:20
+-- the choices of one player are few
+few : (c : After-own_set_count) → get_or c.args.counts.now c.loop-player.player 0 * c.own_set_count.result ≤ 68719476736
+few c =
+    let valid = c.trees_are_game_trees.ensures c.args.tree.now c.players-player-end.ensures.valid in
+    let some : 0 < length c.args.tree.now.players = omega (arith, ap length c.players-player-end.ensures.players) in
+    few_choices _ _ (few_strategies (game_of_tree c.args.tree.now) c.args.counts.now c.loop-player.player valid c.requires.counted some c.requires.few)
+      (omega (arith, c.own_set_count.ensures, own_sets-short c.args.tree.now c.loop-player.player, c.players-player-end.ensures.valid.few_sets, c.players-player-end.ensures.valid.few_nodes))
+
 pub overflow_mul-choices : goal.overflow_mul-choices
-overflow_mul-choices c = ?
+overflow_mul-choices c = omega (arith, few c)
 
--- src/limits.rt:100:9
 pub overflow_add-choices : goal.overflow_add-choices
-overflow_add-choices c = ?
+overflow_add-choices c = omega (arith, few c, c.loop-player.invariant.few)
 
--- src/limits.rt:102:13
-pub returns-then-choices-gt-MOST_CHOICES-clause-stop :
-    goal.returns-then-choices-gt-MOST_CHOICES-clause-stop
-returns-then-choices-gt-MOST_CHOICES-clause-stop c = ?
+pub returns-then-choices-gt-MOST_CHOICES-clause-stop : goal.returns-then-choices-gt-MOST_CHOICES-clause-stop
+returns-then-choices-gt-MOST_CHOICES-clause-stop c =
+    let t = game_of_tree c.args.tree.now in
+    let own = c.own_set_count.ensures ∙ ap length (c.own_sets_are_those_of_the_tree.ensures c.args.tree.now c.loop-player.player) in
+    let next = choices-step t c.args.counts.now c.loop-player.player c.loop-player.choices c.own_set_count.result c.requires.counted (omega (arith, ap length c.players-player-end.ensures.players)) c.loop-player.invariant.choices_are own in
+    let many = many-choices t c.args.counts.now (c.loop-player.player + 1) c.requires.counted c.requires.few (subst (λ x. most_choices < x) next c.if-choices-gt-MOST_CHOICES.true) in
+    subst (IsStop t) (sym c.too_many_choices.ensures) (inr (many, refl))
 
--- src/limits.rt:99:5
 pub loop-player-preserved : goal.loop-player-preserved
-loop-player-preserved c = ?
+loop-player-preserved c =
+    let t = game_of_tree c.args.tree.now in
+    let own = c.own_set_count.ensures ∙ ap length (c.own_sets_are_those_of_the_tree.ensures c.args.tree.now c.loop-player.player) in
+    let next = choices-step t c.args.counts.now c.loop-player.player c.loop-player.choices c.own_set_count.result c.requires.counted (omega (arith, ap length c.players-player-end.ensures.players)) c.loop-player.invariant.choices_are own in
+    record { choices_are = next; few = omega (arith, c.if-choices-gt-MOST_CHOICES.false) }

@@ -1,33 +1,38 @@
-use Rattle.std.proofs.Common.{rules, ◌≡◌, ◌<◌, ◌≤◌, ◌*◌, ◌+◌, ◌^◌, length, map, IfOk, IfErr, OnOk, ℕ, ◌-◌, ◌/◌, ◌%◌, Bool, true, false, nat_eq, nat_lt, List, [], ◌∷◌, ◌++◌, slice_index_or, slice_set, bit_and, bit_or, Fits, w8, w32, w64, Bor, MutBor}
-use Rattle.game_theory.specs.Profiles.{profile_count}
-use Rattle.game_core.specs.Table.{most_payoffs}
-use Rattle.game_core.specs.Tree.{own_sets as tree_sets}
+use Rattle.std.proofs.Common.{◌<◌, inl, [], length, refl, sym, ap, subst, arith}
+use Rattle.std.proofs.lemmas.List.{length-map}
 use Rattle.game_core.specs.TreeGame.{game_of_tree}
-use Rattle.reduced_strategies.specs.Choices.{own_sets}
-use Rattle.strategy_lists.specs.Decisions.{AreDecisionsOfAll}
-use Rattle.reduced_form.specs.declared.stop.ReduceStop.TheVariants as stops
-use Rattle.reduced_form.specs.Counts.{AreCounted, choices_by}
-use Rattle.reduced_form.specs.Limits.{most_choices}
-use Rattle.reduced_form.specs.Stops.{IsStop, too_many_payoffs, too_many_choices}
+use Rattle.reduced_form.specs.Stops.{IsStop}
+use Rattle.reduced_form.proofs.FormCounts.{AreCounted-all, AreCountedSoFar-many, AreCountedSoFar-step, many-front, read_through}
 use Rattle.reduced_form.proofs.limits.count_all.Goals as goal
 
--- src/limits.rt:61:9
-pub returns-then-players-gt-MOST_PAYOFFS-clause-stop :
-    goal.returns-then-players-gt-MOST_PAYOFFS-clause-stop
-returns-then-players-gt-MOST_PAYOFFS-clause-stop c = ?
+pub returns-then-players-gt-MOST_PAYOFFS-clause-stop : goal.returns-then-players-gt-MOST_PAYOFFS-clause-stop
+returns-then-players-gt-MOST_PAYOFFS-clause-stop c =
+    let valid = c.trees_are_game_trees.ensures c.args.tree.now c.players-players.ensures.valid in
+    let many = many-front (game_of_tree c.args.tree.now) [] valid (λ i l. absurd (omega arith)) (omega arith) (omega (arith, ap length c.players-players.ensures.players)) in
+    subst (IsStop (game_of_tree c.args.tree.now)) (sym c.too_many_payoffs.ensures) (inl (many, refl))
 
--- src/limits.rt:67:21
 pub count_strategies-requires-clause-decisions : goal.count_strategies-requires-clause-decisions
-count_strategies-requires-clause-decisions c = ?
+count_strategies-requires-clause-decisions c =
+    let counted = c.requires.decisions.one_for_each in
+    let inside : c.loop-player.player < length c.args.decisions.now = omega (arith, length-map c.args.decisions.now (λ v. v.items), counted, ap length c.players-players.ensures.players) in
+    c.requires.decisions.are_decisions c.loop-player.player c.deref.result.now (read_through (λ v. v.items) c.args.decisions.now c.loop-player.player c.index-decisions-player.result c.deref.result.now inside c.index-decisions-player.is c.deref.ensures.value)
 
--- src/limits.rt:69:13
 pub returns-then-count-most-clause-stop : goal.returns-then-count-most-clause-stop
-returns-then-count-most-clause-stop c = ?
+returns-then-count-most-clause-stop c =
+    let valid = c.trees_are_game_trees.ensures c.args.tree.now c.players-players.ensures.valid in
+    let inside : c.loop-player.player < length c.args.tree.now.players = omega (arith, ap length c.players-players.ensures.players) in
+    let h = c.in_ok-count.ensures {u = tt} in
+    let many = AreCountedSoFar-many (game_of_tree c.args.tree.now) c.loop-player.player c.loop-player.payoffs c.in_ok-count.count h.0 c.loop-player.counts.items valid c.loop-player.invariant inside h.1 h.2 c.if-count-most.true in
+    subst (IsStop (game_of_tree c.args.tree.now)) (sym c.too_many_payoffs-then-count-most.ensures) (inl (many, refl))
 
--- src/limits.rt:65:5
 pub loop-player-preserved : goal.loop-player-preserved
-loop-player-preserved c = ?
+loop-player-preserved c =
+    let valid = c.trees_are_game_trees.ensures c.args.tree.now c.players-players.ensures.valid in
+    let inside : c.loop-player.player < length c.args.tree.now.players = omega (arith, ap length c.players-players.ensures.players) in
+    let h = c.in_ok-count.ensures {u = tt} in
+    AreCountedSoFar-step (game_of_tree c.args.tree.now) c.loop-player.player c.loop-player.payoffs c.in_ok-count.count h.0 c.loop-player.counts.items c.push.new.self.items valid c.loop-player.invariant inside (c.in_ok-push.ensures {u = tt}).items h.1 h.2 c.if-count-most.false
 
--- src/limits.rt:48:1
 pub returns-clause-counted : goal.returns-clause-counted
-returns-clause-counted c = ?
+returns-clause-counted c =
+    let valid = c.trees_are_game_trees.ensures c.args.tree.now c.players-players.ensures.valid in
+    AreCounted-all (game_of_tree c.args.tree.now) c.loop-player.counts.items valid c.loop-player.invariant.are_counts (omega (arith, c.loop-player.invariant.one_for_each, ap length c.players-players.ensures.players))

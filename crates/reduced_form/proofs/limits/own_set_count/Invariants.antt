@@ -1,4 +1,4 @@
-use Rattle.std.proofs.Common.{ℕ, ◌≤◌, ◌-◌, length}
+use Rattle.std.proofs.Common.{◌≤◌, ◌-◌, length}
 use Rattle.game_core.specs.Tree.{own_sets}
 use Rattle.reduced_form.proofs.limits.own_set_count.Given as goal
 
