@@ -108,9 +108,9 @@ with_firsts-has a (suc n) xs b y g l h = append-in (with_first a xs) (with_first
 with_firsts-ordered : (a n : ℕ) (xs : List (List ℕ)) → AreOrdered xs → AreOrdered (with_firsts a n xs)
 with_firsts-ordered a zero xs o = tt
 with_firsts-ordered a (suc n) xs o = append-ordered (with_first a xs) (with_firsts (suc a) n xs) (with_first-ordered a xs o) (with_firsts-ordered (suc a) n xs o) (λ x y l m.
-  let t = with_first-tells a xs x l in
-  let u = with_firsts-tells (suc a) n xs y m in
-  subst (λ v. ComesBefore v y) (sym t.1) (subst (ComesBefore (a ∷ t.0)) (sym u.4) (inl (omega (arith, u.2)))))
+    let t = with_first-tells a xs x l in
+    let u = with_firsts-tells (suc a) n xs y m in
+    subst (λ v. ComesBefore v y) (sym t.1) (subst (ComesBefore (a ∷ t.0)) (sym u.4) (inl (omega (arith, u.2)))))
 
 -- ---- all lists within bounds
 -- a choice for each bound, which it does not pass
@@ -195,11 +195,13 @@ choices-bounded : (actions : ℕ → ℕ) (n : ℕ) (sets choices : List ℕ) �
 choices-bounded actions n [] [] o d h = tt
 choices-bounded actions n [] (c ∷ choices) o d h = absurd (omega arith)
 choices-bounded actions n (set ∷ sets) [] o d h = absurd (omega arith)
-choices-bounded actions n (set ∷ sets) (choice ∷ choices) o d h =
-    (omega (arith, choice_at-first set choice set sets choices refl, h set), choices-bounded actions (suc set) sets choices o.1 (omega arith) (λ s. elim (cases_eq set s) [
-      | inl e ↦ omega (arith, choice_at-below (suc set) sets choices s o.1 (omega arith))
-      | inr e ↦ omega (arith, choice_at-later set choice s sets choices e, h s)
-    ]))
+choices-bounded actions n (set ∷ sets) (choice ∷ choices) o d h = (
+  omega (arith, choice_at-first set choice set sets choices refl, h set),
+  choices-bounded actions (suc set) sets choices o.1 (omega arith) (λ s. elim (cases_eq set s) [
+    | inl e ↦ omega (arith, choice_at-below (suc set) sets choices s o.1 (omega arith))
+    | inr e ↦ omega (arith, choice_at-later set choice s sets choices e, h s)
+  ]),
+)
 
 -- the choices with the first action where there is none
 abbrev completion : Tree → ℕ → List ℕ → ℕ → ℕ
@@ -217,7 +219,7 @@ strategies t i = passing (is_reduced t i) (bounded_lists (map t.actions (own_set
 is_reduced-tells : (t : Tree) (i : ℕ) (choices : List ℕ) → IsTree t → AreBounded (map t.actions (own_sets t i)) choices → is_reduced t i choices ≡ true → IsReduced t i choices
 is_reduced-tells t i choices w b e =
     subst (IsReduced t i) (sym ((bytes_eq-Decides choices (reduced t i (completion t i choices))).0 e))
-      (reduced-reduced t i (completion t i choices) w (λ s l o. omega (arith, bounded-choices t.actions (own_sets t i) choices b s, w.some_action s l)))
+    (reduced-reduced t i (completion t i choices) w (λ s l o. omega (arith, bounded-choices t.actions (own_sets t i) choices b s, w.some_action s l)))
 
 -- and a reduced strategy is
 reduced-is_reduced : (t : Tree) (i : ℕ) (choices : List ℕ) → IsTree t → AreBounded (map t.actions (own_sets t i)) choices → IsReduced t i choices → is_reduced t i choices ≡ true
@@ -228,10 +230,13 @@ reduced-is_reduced t i choices w b r =
 
 -- every player has a list of reduced strategies
 pub strategies-exist : StrategiesExist
-strategies-exist t i w = (strategies t i, record {
-  ascending = ordered-ascend (strategies t i) (passing-ordered (is_reduced t i) _ (bounded_lists-ordered (map t.actions (own_sets t i))));
-  sound = each_place (IsReduced t i) (strategies t i) (λ z m. let p = passing-tells (is_reduced t i) _ z m in is_reduced-tells t i z w (bounded_lists-tells (map t.actions (own_sets t i)) z p.0) p.1);
-  complete = λ choices r.
-    let b = choices-bounded t.actions 0 (own_sets t i) choices (own_sets-ascend t i) r.one_for_each r.are_actions in
-    contained (strategies t i) choices (passing-has (is_reduced t i) _ choices (bounded_lists-has (map t.actions (own_sets t i)) choices b) (reduced-is_reduced t i choices w b r));
-})
+strategies-exist t i w = (
+  strategies t i,
+  record {
+    ascending = ordered-ascend (strategies t i) (passing-ordered (is_reduced t i) _ (bounded_lists-ordered (map t.actions (own_sets t i))));
+    sound = each_place (IsReduced t i) (strategies t i) (λ z m. let p = passing-tells (is_reduced t i) _ z m in is_reduced-tells t i z w (bounded_lists-tells (map t.actions (own_sets t i)) z p.0) p.1);
+    complete = λ choices r.
+        let b = choices-bounded t.actions 0 (own_sets t i) choices (own_sets-ascend t i) r.one_for_each r.are_actions in
+        contained (strategies t i) choices (passing-has (is_reduced t i) _ choices (bounded_lists-has (map t.actions (own_sets t i)) choices b) (reduced-is_reduced t i choices w b r));
+  },
+)
