@@ -39,7 +39,7 @@ profile_count-positive [] h = omega arith
 profile_count-positive (n ∷ ns) h = positive-product n (profile_count ns) (h 0 0 (omega arith)) (profile_count-positive ns (λ k d l. h (suc k) d (omega arith)))
 
 -- and then the first players have no more profiles than all
-profile_count-front : (k : ℕ) (ns : List ℕ) → All (λ n. 0 < n) ns → profile_count (take k ns) ≤ profile_count ns
+pub profile_count-front : (k : ℕ) (ns : List ℕ) → All (λ n. 0 < n) ns → profile_count (take k ns) ≤ profile_count ns
 profile_count-front zero ns h = let p = profile_count-positive ns h in omega arith
 profile_count-front (suc k) [] h = omega arith
 profile_count-front (suc k) (n ∷ ns) h = N.mul-le-mul_left n (profile_count-front k ns (λ j d l. h (suc j) d (omega arith)))
@@ -74,10 +74,13 @@ slice_get-tabulated (suc n) (suc i) f x h = slice_get-tabulated n i (λ k. f (su
 
 -- all players have their strategies
 pub all_strategies : (t : Tree) → IsTree t → (strategies : List (List (List ℕ))) × AreStrategies t strategies
-all_strategies t w = (tabulated t.players (λ i. (strategies-exist t i w).0), record {
-  one_for_each = length-tabulated t.players _;
-  are_reduced = λ i list h. subst (AreReducedStrategies t i) (slice_get-tabulated t.players i _ list h) (strategies-exist t i w).1;
-})
+all_strategies t w = (
+  tabulated t.players (λ i. (strategies-exist t i w).0),
+  record {
+    one_for_each = length-tabulated t.players _;
+    are_reduced = λ i list h. subst (AreReducedStrategies t i) (slice_get-tabulated t.players i _ list h) (strategies-exist t i w).1;
+  },
+)
 
 -- a player has at least one strategy
 pub some_strategy : (t : Tree) (i : ℕ) (list : List (List ℕ)) → IsTree t → AreReducedStrategies t i list → 0 < length list
@@ -238,6 +241,17 @@ pub AreCountedSoFar-many : (t : Tree) (player payoffs count all : ℕ) (counts :
 AreCountedSoFar-many t player payoffs count all counts w h l has is above =
     many-next t counts payoffs all w h.are_counts (subst (λ k. HasCount t k all) (sym h.one_for_each) has) (omega (arith, h.one_for_each)) h.payoffs_are (h.some (omega arith)) (above_min count all (most_payoffs / payoffs) is above)
 
+-- the numbers of strategies are those of any lists of all strategies
+pub counted-same : (t : Tree) (counts : List ℕ) (strategies : List (List (List ℕ))) → AreCounted t counts → AreStrategies t strategies → counts ≡ map length strategies
+counted-same t counts strategies h a =
+    let first : length (map length h.strategies) ≡ t.players = length-map h.strategies (length {A = List ℕ}) ∙ h.are_strategies.one_for_each in
+    let second : length (map length strategies) ≡ t.players = length-map strategies (length {A = List ℕ}) ∙ a.one_for_each in
+    h.counts_are ∙ ext_get_or 0 (map length h.strategies) (map length strategies) (first ∙ sym second) (λ i l.
+    let list = get_or h.strategies i [] in
+    let inside : i < length h.strategies = omega (arith, h.are_strategies.one_for_each) in
+    let has : HasCount t i (length list) = (list, h.are_strategies.are_reduced i list (slice_get-get_or h.strategies i [] inside), refl) in
+    get_or-map length h.strategies i [] 0 inside ∙ count_is t strategies i (length list) a (omega (arith, a.one_for_each)) has)
+
 -- the choices of the players up to one
 pub choices-step : (t : Tree) (counts : List ℕ) (player choices own : ℕ) → AreCounted t counts → player < t.players → choices ≡ choices_by t 0 (take player counts) → own ≡ length (own_sets t player)
     → choices + get_or counts player 0 * own ≡ choices_by t 0 (take (player + 1) counts)
@@ -263,3 +277,9 @@ few_choices m n h l =
 pub read_through : {V W : Type 0} (f : V → W) (lists : List V) (k : ℕ) (v : V) (w : W) → k < length lists → v ≡ get_or lists k v → w ≡ f v → slice_get (map f lists) k ≡ Some w
 read_through f lists k v w l is seen =
     slice_get-map f lists k ∙ ap (option_map f) (slice_get_read lists (length lists) k v refl l is) ∙ ap Some (sym seen)
+
+-- one more player's list of strategies
+pub reduced-push : (t : Tree) (lists : List (List (List ℕ))) (last : List (List ℕ)) → ((i : ℕ) → i < length lists → AreReducedStrategies t i (get_or lists i [])) → AreReducedStrategies t (length lists) last
+    → (i : ℕ) → i < length lists + 1 → AreReducedStrategies t i (get_or (lists ++ last ∷ []) i [])
+reduced-push t lists last h here =
+    below_more _ _ (λ i l. subst (AreReducedStrategies t i) (sym (get_or_append_left lists (last ∷ []) [] i l)) (h i l)) (subst (AreReducedStrategies t (length lists)) (sym (get_or_push lists last [] (length lists) refl)) here)

@@ -1,3 +1,6 @@
 mod ActionTexts
 mod SetCounts
 mod FormCounts
+mod CellRows
+mod Profiles
+mod FormLaws

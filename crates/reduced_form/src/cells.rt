@@ -10,7 +10,7 @@ ghost use Rattle.reduced_form.specs.Cells.{AreCells, IsCellStop};
 
 use crate::stop::ReduceStop;
 use frac128::Frac;
-use game_core::Tree;
+use game_core::{Tree, trees_are_game_trees};
 use pure_payoffs::{Play, children_of_all};
 use std::alloc::Global;
 
@@ -86,10 +86,12 @@ pub fn cells(
     ensures cells { IfOk result (λ payoffs. AreCells (game_of_tree tree.now) (map (λ v. map (λ w. w.items) v.items) strategies.now) payoffs.items) }
     ensures stop { IfErr result (IsCellStop (game_of_tree tree.now) (map (λ v. map (λ w. w.items) v.items) strategies.now)) }
 {
+    trees_are_game_trees();
+    let players = tree.players().len();
     let children = children_of_all(alloc, tree)?;
     let profiles = profile_count(counts);
     let mut profile = vec![in alloc; 0; counts.len()]?;
-    let mut payoffs = Vec::with_capacity(alloc, tree.players().len() * profiles)?;
+    let mut payoffs = Vec::with_capacity(alloc, players * profiles)?;
     for number in 0..profiles {
         set_profile(&mut profile, counts, number);
         let play = Play {

@@ -1,5 +1,5 @@
 // The reduced strategic form.
-ghost use Rattle.std.specs.Prelude.{◌≡◌, ◌≢◌, ◌<◌, ◌≤◌, ◌*◌, length, map, IfOk, IfErr};
+ghost use Rattle.std.specs.Prelude.{◌≡◌, ◌<◌, ◌≤◌, ◌*◌, length, map, IfOk, IfErr};
 ghost use Rattle.game_theory.specs.Profiles.{profile_count};
 ghost use Rattle.game_trees.specs.Trees.{Tree as game_tree, IsTree as is_game_tree};
 ghost use Rattle.game_core.specs.Table.{IsTable};
@@ -19,7 +19,7 @@ use crate::names::names_of_all;
 use crate::stop::ReduceStop;
 use decision_walk::Decision;
 use frac128::{Frac, Memory};
-use game_core::{Name, Table, Tree};
+use game_core::{Name, Table, Tree, trees_are_game_trees};
 use std::alloc::Global;
 use std::marker::Model;
 use strategy_lists::{decisions_of_all, list_strategies, set_places};
@@ -71,7 +71,7 @@ fn strategies_of_all(
     ensures { IfOk result (λ strategies. AreStrategies (game_of_tree tree.now) (map (λ v. map (λ w. w.items) v.items) strategies.items)) }
 {
     let mut strategies = Vec::with_capacity(alloc, decisions.len())?;
-    for player in 0..decisions.len() {
+    for player in 0..tree.players().len() {
         strategies.push(list_strategies(alloc, tree, &decisions[player], player as u32)?)?;
     }
     Ok(strategies)
@@ -126,20 +126,17 @@ pub fn reduce(alloc: Global, tree: &Tree) -> Result<Reduced, ReduceStop>
     ensures all_fit { IfOk result (λ form. AllFit (game_of_tree tree.now) form.choices) }
     ensures stop { IfErr result (IsStop (game_of_tree tree.now)) }
 {
+    trees_are_game_trees();
+    let _players = tree.players();
     let places = set_places(alloc, tree)?;
     let decisions = decisions_of_all(alloc, tree, &places)?;
     let counts = count_all(alloc, tree, &decisions)?;
     check_choices(tree, &counts)?;
     let choices = strategies_of_all(alloc, tree, &decisions)?;
-    let payoffs = cells(alloc, tree, &places, &choices, &counts)?;
+    let payoffs = match cells(alloc, tree, &places, &choices, &counts) {
+        Ok(payoffs) => payoffs,
+        Err(stop) => return Err(stop),
+    };
     let table = table_of(alloc, tree, &choices, payoffs)?;
     Ok(Reduced { choices, table })
 }
-
-/// A tree has one reason at most why it is not reduced, other than want of memory, and then it has no reduced form
-/// within the limits whose steps all fit.
-pub fn stops_are_exact()
-    ensures one_reason { (t : game_tree) (one other : ReduceStop) → is_game_tree t → one ≢ stops.Memory → other ≢ stops.Memory → IsStop t one → IsStop t other → one ≡ other }
-    ensures no_form { (t : GameTree) (stop : ReduceStop) (form : ReducedForm) → IsTree t → stop ≢ stops.Memory → IsStop (game_of_tree t) stop
-        → IsReducedForm t form → AreFew (game_of_tree t) form.choices → AllFit (game_of_tree t) form.choices → ⊥ }
-{}

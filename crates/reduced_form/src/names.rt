@@ -55,10 +55,7 @@ fn names_of_one(alloc: Global, strategies: &[Vec<u32>]) -> Result<Vec<Name>, Mem
 }
 
 /// The names of all players' strategies.
-pub fn names_of_all(
-    alloc: Global,
-    strategies: &[Vec<Vec<u32>>],
-) -> Result<Vec<Vec<Name>>, Memory>
+pub fn names_of_all(alloc: Global, strategies: &[Vec<Vec<u32>>]) -> Result<Vec<Vec<Name>>, Memory>
     ensures { IfOk result (λ names. map (λ v. v.items) names.items ≡ map (map strategy_name) (map (λ v. map (λ w. w.items) v.items) strategies.now)) }
 {
     let mut names = Vec::with_capacity(alloc, strategies.len())?;

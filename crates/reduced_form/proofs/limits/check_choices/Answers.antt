@@ -13,7 +13,7 @@ few c =
     let valid = c.trees_are_game_trees.ensures c.args.tree.now c.players-player-end.ensures.valid in
     let some : 0 < length c.args.tree.now.players = omega (arith, ap length c.players-player-end.ensures.players) in
     few_choices _ _ (few_strategies (game_of_tree c.args.tree.now) c.args.counts.now c.loop-player.player valid c.requires.counted some c.requires.few)
-      (omega (arith, c.own_set_count.ensures, own_sets-short c.args.tree.now c.loop-player.player, c.players-player-end.ensures.valid.few_sets, c.players-player-end.ensures.valid.few_nodes))
+    (omega (arith, c.own_set_count.ensures, own_sets-short c.args.tree.now c.loop-player.player, c.players-player-end.ensures.valid.few_sets, c.players-player-end.ensures.valid.few_nodes))
 
 pub overflow_mul-choices : goal.overflow_mul-choices
 overflow_mul-choices c = omega (arith, few c)

@@ -1,0 +1,96 @@
+-- The table of a reduced form, and that its cells are those of the strategic form.
+use Rattle.std.proofs.Common.{ℕ, zero, suc, ◌+◌, ◌*◌, ◌<◌, ◌≤◌, ◌≡◌, ◌⊎◌, inl, inr, List, [], ◌∷◌, length, map, get_or, All, refl, sym, ap, ap₂, ◌∙◌, subst, arith}
+use Rattle.std.proofs.lemmas.List.{length-map, get_or-map, get_or_default}
+use native.Mathlib.Nat as N
+use Rattle.rational.specs.Rational.{ℚ, zero_ℚ}
+use Rattle.game_theory.specs.Profiles.{IsProfile, profile_count, profile_at, number_of}
+use Rattle.game_theory.proofs.ProfileNumbers.{number_of-below, profile_at-number_of}
+use Rattle.game_trees.specs.Trees.{Tree, IsTree as is_game_tree}
+use Rattle.game_trees.specs.Behaviour.{payoff, pure}
+use Rattle.reduced_strategies.specs.StrategicForm.{AreStrategies, completed}
+use Rattle.reduced_strategies.proofs.Completions.{completions-pay}
+use Rattle.game_core.specs.Table.{GameTable, IsTable, game_of, most_payoffs, strategy_counts}
+use Rattle.game_core.specs.Tree.{GameTree}
+use Rattle.game_core.specs.TreeGame.{game_of_tree}
+use Rattle.reduced_form.specs.Cells.{AreCells, IsCellStop}
+use Rattle.reduced_form.specs.Counts.{AreCounted, choices_by}
+use Rattle.reduced_form.specs.Limits.{AreFew, AllFit, most_choices}
+use Rattle.reduced_form.specs.ReducedForm.{ReducedForm, IsReducedForm, PaysCompletions, strategy_name}
+use Rattle.reduced_form.specs.Stops.{IsStop}
+use Rattle.reduced_form.specs.declared.stop.ReduceStop.{ReduceStop}
+use Rattle.reduced_form.specs.declared.stop.ReduceStop.TheVariants as stops
+use Rattle.reduced_form.proofs.FormCounts.{profile_count-player, counts-positive, counted-same, choice_count-by}
+
+-- ---- sizes
+-- there are no more profiles than payoffs may be
+pub few_profiles : (players : ℕ) (counts : List ℕ) → length counts ≡ players → players * profile_count counts ≤ most_payoffs → profile_count counts ≤ most_payoffs
+few_profiles players [] l h = omega arith
+few_profiles players (n ∷ counts) l h = let room : 1 * profile_count (n ∷ counts) ≤ players * profile_count (n ∷ counts) = N.mul-le-mul_right (profile_count (n ∷ counts)) (omega arith) in omega arith
+
+-- and no player has more strategies
+pub few_of_each : (counts : List ℕ) → All (λ n. 0 < n) counts → profile_count counts ≤ most_payoffs → All (λ n. n ≤ most_payoffs) counts
+few_of_each counts positive few k d l = omega (arith, get_or_default counts k d 0 l, profile_count-player counts k positive)
+
+-- a cell's place among the payoffs
+cell_place : (players count k i : ℕ) → k < count → i < players → k * players + i < players * count
+cell_place players count k i h l = let room : players * (k + 1) ≤ players * count = N.mul-le-mul_left players (omega arith) in omega arith
+
+-- ---- the table
+-- names do not change how many strategies there are
+counts-named : (strategies : List (List (List ℕ))) → map length (map (map strategy_name) strategies) ≡ map length strategies
+counts-named [] = refl
+counts-named (list ∷ lists) = ap₂ (λ x y. x ∷ y) (length-map list strategy_name) (counts-named lists)
+
+-- the table of strategies with these payoffs
+abbrev pub form_table : GameTree → List (List (List ℕ)) → List ℚ → GameTable
+form_table t strategies payoffs = record { title = t.title; players = t.players; strategies = map (map strategy_name) strategies; payoffs = payoffs }
+
+-- it is a table
+pub form_table-is_table : (t : GameTree) (strategies : List (List (List ℕ))) (payoffs : List ℚ) → is_game_tree (game_of_tree t) → AreStrategies (game_of_tree t) strategies
+    → length payoffs ≡ length t.players * profile_count (map length strategies) → length t.players * profile_count (map length strategies) ≤ most_payoffs → IsTable (form_table t strategies payoffs)
+form_table-is_table t strategies payoffs w a long few = record {
+  strategies_of_each = length-map strategies (map strategy_name) ∙ a.one_for_each;
+  some_strategy = λ k d l.
+      let counts : List ℕ = map length (map (map strategy_name) strategies) in
+      let inside : k < length counts = omega (arith, length-map (map (map strategy_name) strategies) (length {A = List ℕ})) in
+      let some : 0 < get_or counts k 0 = subst (All (λ n. 0 < n)) (sym (counts-named strategies)) (counts-positive (game_of_tree t) strategies w a) k 0 inside in
+      subst (λ x. 0 < x) (get_or-map length (map (map strategy_name) strategies) k d 0 l) some;
+  payoffs_of_each = long ∙ ap (λ ns. length t.players * profile_count ns) (sym (counts-named strategies));
+  few_payoffs = omega arith;
+}
+
+-- ---- the form
+-- the reduced form with these strategies and payoffs
+pub form-is_form : (t : GameTree) (strategies : List (List (List ℕ))) (payoffs : List ℚ) (table : GameTable) → AreStrategies (game_of_tree t) strategies → table ≡ form_table t strategies payoffs
+    → length payoffs ≡ length t.players * profile_count (map length strategies) → AreCells (game_of_tree t) strategies payoffs → IsReducedForm t (record { choices = strategies; table = table })
+form-is_form t strategies payoffs table a is long cells = subst (λ (x : GameTable). IsReducedForm t (record { choices = strategies; table = x })) (sym is) (record {
+  are_strategies = a;
+  title_is = refl;
+  players_are = refl;
+  names_are = refl;
+  pays = λ i k l h. (cells k i l (omega (arith, cell_place (length t.players) (profile_count (map length strategies)) k i h l))).value_is;
+})
+
+-- all steps of its cells fit
+pub form-all_fit : (t : Tree) (strategies : List (List (List ℕ))) (payoffs : List ℚ) → length payoffs ≡ t.players * profile_count (map length strategies) → AreCells t strategies payoffs → AllFit t strategies
+form-all_fit t strategies payoffs long cells k i h l = (cells k i l (omega (arith, cell_place t.players (profile_count (map length strategies)) k i h l))).steps_fit
+
+-- each cell is what every completion pays
+pub form-pays_completions : (t : GameTree) (form : ReducedForm) → is_game_tree (game_of_tree t) → IsReducedForm t form → PaysCompletions t form
+form-pays_completions t form w f profile choice i p c l =
+    let ns : List ℕ = map length form.choices in
+    completions-pay (game_of_tree t) form.choices profile choice i w f.are_strategies p c
+    ∙ ap (λ x. payoff (game_of_tree t) (pure (completed (game_of_tree t) form.choices x)) i) (sym (profile_at-number_of ns profile p))
+    ∙ sym (f.pays i (number_of ns profile) l (number_of-below ns profile p))
+
+-- both counts are within their limits
+pub form-few : (t : Tree) (counts : List ℕ) (strategies : List (List (List ℕ))) → AreCounted t counts → AreStrategies t strategies → t.players * profile_count counts ≤ most_payoffs → choices_by t 0 counts ≤ most_choices → AreFew t strategies
+form-few t counts strategies h a payoffs choices =
+    let same = counted-same t counts strategies h a in
+    record { few_payoffs = subst (λ ns. t.players * profile_count ns ≤ most_payoffs) same payoffs; few_choices = omega (arith, choice_count-by t strategies counts same) }
+
+-- a stop of the cells is one of the form
+pub cell_stop-is_stop : (t : Tree) (strategies : List (List (List ℕ))) (stop : ReduceStop) → AreStrategies t strategies → AreFew t strategies → IsCellStop t strategies stop → IsStop t stop
+cell_stop-is_stop t strategies (stops.TooLarge limit) a few h = absurd h
+cell_stop-is_stop t strategies (stops.Range profile player step) a few h = record { strategies = strategies; are_strategies = a; are_few = few; is_first = h }
+cell_stop-is_stop t strategies stops.Memory a few h = tt

@@ -1,0 +1,81 @@
+use Rattle.std.proofs.Common.{ℕ, ◌*◌, ◌≡◌, ◌≤◌, Global, Vec, List, length, map, sym, ap, ◌∙◌, subst}
+use Rattle.game_theory.specs.Profiles.{profile_count}
+use Rattle.game_trees.specs.Trees.{IsTree}
+use Rattle.game_core.specs.Table.{IsTable, most_payoffs}
+use Rattle.game_core.specs.TreeGame.{game_of_tree}
+use Rattle.reduced_form.specs.Cells.{AreCells, IsCellStop}
+use Rattle.reduced_form.specs.Counts.{choices_by}
+use Rattle.reduced_form.specs.Limits.{AreFew, most_choices}
+use Rattle.reduced_form.specs.ReducedForm.{IsReducedForm}
+use Rattle.reduced_form.proofs.FormCounts.{counted-same}
+use Rattle.reduced_form.proofs.FormLaws.{cell_stop-is_stop, form-all_fit, form-few, form-is_form, form-pays_completions, form_table, form_table-is_table}
+use Rattle.reduced_form.proofs.form.reduce.Goals as goal
+use Rattle.reduced_form.proofs.form.reduce.Goals.{In_ok-choices, In-Ok}
+
+-- strategies as contracts see them
+abbrev seen : List (Vec (Vec ℕ Global) Global) → List (List (List ℕ))
+seen strategies = map (λ v. map (λ w. w.items) v.items) strategies
+
+-- the strategies
+abbrev lists : In_ok-choices → List (List (List ℕ))
+lists c = seen c.in_ok-choices.choices.items
+
+-- the counts are those of the strategies
+same : (c : In_ok-choices) → c.in_ok-counts.counts.items ≡ map length (lists c)
+same c = counted-same (game_of_tree c.args.tree.now) c.in_ok-counts.counts.items (lists c) (c.in_ok-counts.ensures {u = tt}).counted (c.in_ok-choices.ensures {u = tt})
+
+-- both counts are within their limits
+few : (c : In_ok-choices) → AreFew (game_of_tree c.args.tree.now) (lists c)
+few c =
+    form-few (game_of_tree c.args.tree.now) c.in_ok-counts.counts.items (lists c) (c.in_ok-counts.ensures {u = tt}).counted (c.in_ok-choices.ensures {u = tt}) (c.in_ok-counts.ensures {u = tt}).few
+    (subst (λ (ns : List ℕ). choices_by (game_of_tree c.args.tree.now) 0 ns ≤ most_choices) c.deref-3.ensures.value (c.in_ok-check_choices.ensures {u = tt}).few)
+
+-- there is a payoff for each cell
+long : (c : In-Ok) → c.in_ok-counts.counts.items ≡ map length (seen c.in_ok-choices.choices.items) → length c.in-Ok.payoffs.items ≡ length c.args.tree.now.players * profile_count (map length (seen c.in_ok-choices.choices.items))
+long c same = (c.in-Ok.ensures {u = tt}).so_many ∙ ap (λ ns. length c.args.tree.now.players * profile_count ns) (c.deref-7.ensures.value ∙ same)
+
+-- the payoffs are those of the cells
+paid : (c : In-Ok) → AreCells (game_of_tree c.args.tree.now) (seen c.in_ok-choices.choices.items) c.in-Ok.payoffs.items
+paid c = subst (λ xs. AreCells (game_of_tree c.args.tree.now) (seen xs) c.in-Ok.payoffs.items) c.deref-6.ensures.value (c.in-Ok.ensures {u = tt}).cells
+
+pub cells-requires-clause-counts : goal.cells-requires-clause-counts
+cells-requires-clause-counts c =
+    c.deref-7.ensures.value ∙ same (goal.at.cells-requires-clause-counts c).In_ok-choices ∙ ap (λ xs. map length (seen xs)) (sym c.deref-6.ensures.value)
+
+pub returns-in-Err-clause-stop : goal.returns-in-Err-clause-stop
+returns-in-Err-clause-stop c =
+    let t = game_of_tree c.args.tree.now in
+    let d = (goal.at.returns-in-Err-clause-stop c).In_ok-choices in
+    cell_stop-is_stop t (lists d) c.in-Err.stop (c.in_ok-choices.ensures {u = tt}) (few d) (subst (λ xs. IsCellStop t (seen xs) c.in-Err.stop) c.deref-6.ensures.value (c.in-Err.ensures {u = tt}).stop)
+
+pub table_of-requires : goal.table_of-requires
+table_of-requires c =
+    let t = c.args.tree.now in
+    let d = (goal.at.table_of-requires c).In-Ok in
+    let valid = c.trees_are_game_trees.ensures t c.players-players.ensures.valid in
+    let table = form_table-is_table t (seen c.in_ok-choices.choices.items) c.in-Ok.payoffs.items valid (c.in_ok-choices.ensures {u = tt}) (long d (same (goal.at.table_of-requires c).In_ok-choices)) (few (goal.at.table_of-requires c).In_ok-choices).few_payoffs in
+    subst (λ xs. IsTable (form_table t (seen xs) c.in-Ok.payoffs.items)) (sym c.deref-8.ensures.value) table
+
+pub returns-clause-form : goal.returns-clause-form
+returns-clause-form c =
+    let t = c.args.tree.now in
+    let d = (goal.at.returns-clause-form c).In-Ok in
+    let table = c.in_ok-table.ensures {u = tt} ∙ ap (λ xs. form_table t (seen xs) c.in-Ok.payoffs.items) c.deref-8.ensures.value in
+    form-is_form t (seen c.in_ok-choices.choices.items) c.in-Ok.payoffs.items c.in_ok-table.table (c.in_ok-choices.ensures {u = tt}) table (long d (same (goal.at.returns-clause-form c).In_ok-choices)) (paid d)
+
+pub returns-clause-completions : goal.returns-clause-completions
+returns-clause-completions c =
+    let t = c.args.tree.now in
+    let d = (goal.at.returns-clause-completions c).In-Ok in
+    let valid = c.trees_are_game_trees.ensures t c.players-players.ensures.valid in
+    let table = c.in_ok-table.ensures {u = tt} ∙ ap (λ xs. form_table t (seen xs) c.in-Ok.payoffs.items) c.deref-8.ensures.value in
+    form-pays_completions t (record { choices = seen c.in_ok-choices.choices.items; table = c.in_ok-table.table }) valid
+    (form-is_form t (seen c.in_ok-choices.choices.items) c.in-Ok.payoffs.items c.in_ok-table.table (c.in_ok-choices.ensures {u = tt}) table (long d (same (goal.at.returns-clause-completions c).In_ok-choices)) (paid d))
+
+pub returns-clause-few : goal.returns-clause-few
+returns-clause-few c = few (goal.at.returns-clause-few c).In_ok-choices
+
+pub returns-clause-all_fit : goal.returns-clause-all_fit
+returns-clause-all_fit c =
+    let d = (goal.at.returns-clause-all_fit c).In-Ok in
+    form-all_fit (game_of_tree c.args.tree.now) (seen c.in_ok-choices.choices.items) c.in-Ok.payoffs.items (long d (same (goal.at.returns-clause-all_fit c).In_ok-choices)) (paid d)
