@@ -3,7 +3,7 @@ use Rattle.std.proofs.Common.{ℕ, zero, suc, ◌+◌, ◌<◌, ◌≡◌, inl, 
 use Rattle.std.proofs.lemmas.Bool.{cases_eq}
 use Rattle.std.proofs.lemmas.List.{length-map, length-set, length_push, map-set, get_or-set_same, get_or-set_other}
 use Rattle.std.proofs.lemmas.List.Elements.{All-map}
-use Rattle.std.proofs.lemmas.Option.{none-some, same_Some, slice_get_within, slice_get-get_or, slice_get-map, get_or_from_slice_get}
+use Rattle.std.proofs.lemmas.Option.{none-some, same_Some, slice_get_within, slice_get-get_or, slice_get-map, slice_get_read, get_or_from_slice_get}
 use Rattle.game_trees.specs.Trees.{Tree, IsTree}
 use Rattle.game_trees.specs.Recall.{own_history}
 use Rattle.reduced_strategies.specs.Choices.{own_sets}
@@ -17,6 +17,10 @@ use Rattle.strategy_lists.specs.OwnNumbers.{own_numbers}
 use Rattle.strategy_lists.proofs.OwnNumbers.{slice_get-push_cases, own_numbers-own, own_numbers-other, own_numbers-at, own_numbers-tell, own_numbers-fewer}
 use Rattle.strategy_lists.proofs.Moves.{mover-move}
 use Rattle.strategy_lists.proofs.WalksAreStrategies.{element, own_set-place, own_set-tell}
+
+-- the list at a place
+pub list-at : {V X : Type 0} (items : V → List X) (lists : List V) (k : ℕ) (v : V) → k < length lists → v ≡ get_or lists k v → slice_get (map items lists) k ≡ Some (items v)
+list-at items lists k v below is = slice_get-map items lists k ∙ ap (option_map items) (slice_get_read lists (length lists) k v refl below is)
 
 -- ---- one more node
 -- a node at which the player does not move adds no decision
