@@ -1,5 +1,5 @@
 -- Numbers that are a player's own, and the place of each of them.
-use Rattle.std.proofs.Common.{ℕ, zero, suc, ◌+◌, ◌^◌, eqb, ◌<◌, ◌≤◌, ◌≡◌, ◌⊎◌, inl, inr, Bool, true, false, Decides, Option, Some, None, List, [], ◌∷◌, ◌++◌, length, map, get_or, slice_get, set, All, refl, sym, ap, subst, ◌∙◌, arith, below_more}
+use Rattle.std.proofs.Common.{ℕ, zero, suc, ◌+◌, ◌^◌, eqb, ◌<◌, ◌≤◌, ◌≡◌, ◌⊎◌, inl, inr, Bool, true, false, Decides, Option, Some, None, List, [], ◌∷◌, ◌++◌, length, map, get_or, slice_get, All, refl, sym, ap, subst, ◌∙◌, arith}
 use Rattle.std.specs.Option.{option_eq}
 use Rattle.std.specs.Prelude.{◌==◌, if◌then◌else◌, IfSome}
 use Rattle.std.proofs.lemmas.Bool.Decides.{Decides-eqb, Decides-like}

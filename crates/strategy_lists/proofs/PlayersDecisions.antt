@@ -1,18 +1,17 @@
 -- The lists of the players' decisions, one node after another.
-use Rattle.std.proofs.Common.{ℕ, zero, suc, ◌+◌, ◌<◌, ◌≡◌, inl, inr, Option, Some, None, List, [], ◌∷◌, ◌++◌, length, map, get_or, slice_get, set, All, Contains, ◌⊎◌, refl, sym, ap, subst, ◌∙◌, arith, option_map}
+use Rattle.std.proofs.Common.{ℕ, suc, ◌+◌, ◌<◌, ◌≡◌, inl, inr, Option, Some, None, List, [], ◌∷◌, ◌++◌, length, map, get_or, slice_get, set, All, Contains, ◌⊎◌, refl, sym, ap, subst, ◌∙◌, arith, option_map}
 use Rattle.std.proofs.lemmas.Bool.{cases_eq}
-use Rattle.std.proofs.lemmas.List.{length-map, length-set, length_push, map-set, get_or-set_same, get_or-set_other}
+use Rattle.std.proofs.lemmas.List.{length-map, length-set, length_push, get_or-set_same, get_or-set_other}
 use Rattle.std.proofs.lemmas.List.Elements.{All-map}
 use Rattle.std.proofs.lemmas.Option.{none-some, same_Some, slice_get_within, slice_get-get_or, slice_get-map, slice_get_read, get_or_from_slice_get}
 use Rattle.game_trees.specs.Trees.{Tree, IsTree}
 use Rattle.game_trees.specs.Recall.{own_history}
 use Rattle.reduced_strategies.specs.Choices.{own_sets}
-use Rattle.reduced_strategies.proofs.Sets.{own_sets-tell}
 use Rattle.decision_walk.specs.declared.decision.Decision.{Decision}
 use Rattle.decision_walk.specs.declared.decision.Step.{Step}
 use Rattle.decision_walk.specs.Walks.{AreLinked, ComesFrom}
 use Rattle.strategy_lists.specs.Decisions.{action_counts, history_by, IsDecisionAt, AreDecisions, AreDecisionsOfAll}
-use Rattle.strategy_lists.specs.Made.{mover, IsMove, IsLastMove, IsStepTo, LeadsTo, IsMadeAt, AreMade, AreMadeByAll}
+use Rattle.strategy_lists.specs.Made.{mover, IsStepTo, LeadsTo, IsMadeAt, AreMade, AreMadeByAll}
 use Rattle.strategy_lists.specs.OwnNumbers.{own_numbers}
 use Rattle.strategy_lists.proofs.OwnNumbers.{slice_get-push_cases, own_numbers-own, own_numbers-other, own_numbers-at, own_numbers-tell, own_numbers-fewer}
 use Rattle.strategy_lists.proofs.Moves.{mover-move}

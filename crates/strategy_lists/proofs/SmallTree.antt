@@ -1,5 +1,5 @@
 -- The tree of a test: the first player ends the game, or lets the second player choose, and then chooses once more.
-use Rattle.std.proofs.Common.{◌≡◌, ◌<◌, ◌≤◌, ◌∙◌, sym, ap, subst, refl, ℕ, zero, suc, Option, Some, None, List, [], ◌∷◌, All, length, slice_get, arith}
+use Rattle.std.proofs.Common.{◌≡◌, ◌<◌, ◌≤◌, ◌∙◌, ap, subst, refl, ℕ, zero, suc, Option, Some, None, List, [], ◌∷◌, All, length, slice_get, arith}
 use Rattle.std.proofs.lemmas.List.Elements.{All-nil, All-cons, All-from_recursion}
 use Rattle.std.proofs.lemmas.Option.{none-some, same_Some, slice_get_within}
 use Rattle.rational.specs.Rational.{zero_ℚ}
@@ -7,7 +7,7 @@ use Rattle.game_core.specs.declared.tree.Action.{Action}
 use Rattle.game_core.specs.declared.tree.Kind.{Kind}
 use Rattle.game_core.specs.declared.tree.Kind.TheVariants.{Move, End}
 use Rattle.game_core.specs.declared.tree.Node.{Node}
-use Rattle.game_core.specs.Tree.{GameTree, IsTree, InformationSet, AreInPrefixOrder, LiesBelowRoot, NodeFits, SetFits, kind_at, most_depth}
+use Rattle.game_core.specs.Tree.{GameTree, IsTree, InformationSet, AreInPrefixOrder, LiesBelowRoot, NodeFits, SetFits, kind_at}
 
 -- a node without an outcome
 abbrev node : Kind → Option ℕ → ℕ → Option ℕ → Node

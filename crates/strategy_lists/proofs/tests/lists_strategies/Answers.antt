@@ -1,6 +1,4 @@
-use Rattle.std.proofs.Common.{◌≡◌, ◌<◌, ◌∙◌, Some, ap, sym, refl, subst, length, arith, rules}
-use Rattle.game_core.specs.TreeGame.{game_of_tree}
-use Rattle.strategy_lists.specs.Decisions.{AreDecisions}
+use Rattle.std.proofs.Common.{◌<◌, ◌∙◌, Some, ap, sym, length, rules}
 use Rattle.strategy_lists.proofs.PlayersDecisions.{list-at}
 use Rattle.strategy_lists.proofs.tests.lists_strategies.Goals as goal
 

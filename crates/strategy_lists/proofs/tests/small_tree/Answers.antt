@@ -1,4 +1,4 @@
-use Rattle.std.proofs.Common.{◌≡◌, ◌∙◌, ap, refl, length, rules}
+use Rattle.std.proofs.Common.{◌≡◌, ◌∙◌, ap, refl, length}
 use Rattle.strategy_lists.proofs.SmallTree.{small_nodes, small_is_tree}
 use Rattle.strategy_lists.proofs.tests.small_tree.Goals as goal
 
