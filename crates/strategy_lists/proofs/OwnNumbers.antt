@@ -108,7 +108,7 @@ pub own_sets-numbers : (t : Tree) (i : ℕ) → own_sets t i ≡ own_numbers t.o
 own_sets-numbers t i = own_below-numbers t i t.sets [] ∙ append-nil _
 
 -- the tests of an owner are one
-is_set-own : (o : Option ℕ) (i : ℕ) → is_set i o ≡ is_own_of o i
+pub is_set-own : (o : Option ℕ) (i : ℕ) → is_set i o ≡ is_own_of o i
 is_set-own None i = refl
 is_set-own (Some j) i = refl
 
