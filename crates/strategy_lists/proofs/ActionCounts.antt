@@ -1,13 +1,13 @@
 -- A set has at most as many actions as the tree has nodes.
-use Rattle.std.proofs.Common.{ℕ, zero, suc, ◌+◌, ◌<◌, ◌≤◌, ◌^◌, ◌≡◌, Bool, true, false, Decides, Option, Some, None, List, [], ◌∷◌, ◌++◌, length, map, get_or, slice_get, refl, sym, ap, subst, ◌∙◌, arith}
-use Rattle.std.specs.Prelude.{◌==◌, if◌then◌else◌}
-use Rattle.std.proofs.lemmas.Bool.Decides.{Decides-eqb, Decides-like}
-use Rattle.std.proofs.lemmas.List.{length-append, length-map, get_or-map, map-append, append-nil}
-use Rattle.std.proofs.lemmas.Option.{slice_get-get_or, same_Some}
+use Rattle.std.proofs.Common.{ℕ, zero, suc, ◌<◌, ◌≤◌, ◌^◌, ◌≡◌, Bool, true, false, Decides, Option, Some, None, List, [], ◌∷◌, ◌++◌, length, map, get_or, refl, sym, ap, subst, ◌∙◌, arith}
+use Rattle.std.specs.Prelude.{if◌then◌else◌}
+use Rattle.std.proofs.lemmas.List.{length-append, get_or-map, map-append}
+use Rattle.std.proofs.lemmas.Option.{slice_get-get_or}
 use Rattle.game_core.specs.declared.tree.Node.{Node}
 use Rattle.game_core.specs.Tree.{GameTree, IsTree, InformationSet, Place, AreInPrefixOrder, action_count, places_from, members_from, is_set}
 use Rattle.game_core.specs.TreeGame.{game_of_tree}
-use Rattle.strategy_lists.proofs.OwnNumbers.{own_numbers-own, own_numbers-other}
+use Rattle.reduced_strategies.proofs.Sets.{is_own_of-decides}
+use Rattle.strategy_lists.proofs.OwnNumbers.{is_set-own, own_numbers-own, own_numbers-other}
 use Rattle.strategy_lists.specs.OwnNumbers.{own_numbers}
 
 -- a node has a place for each action
@@ -25,8 +25,7 @@ places-taken sets k (node ∷ nodes) (place ∷ free) h =
 
 -- whether this is the set's number
 is_set-decides : (s : ℕ) (o : Option ℕ) → Decides (is_set s o) (o ≡ Some s)
-is_set-decides s None = (λ e. cc, λ e. cc)
-is_set-decides s (Some r) = Decides-like (r == s) (λ e. ap Some e) (λ e. cc) (Decides-eqb r s)
+is_set-decides s o = subst (λ b. Decides b (o ≡ Some s)) (sym (is_set-own o s)) (is_own_of-decides o s)
 
 -- a set with a node has at most as many actions as there are nodes
 actions-few : (sets : List InformationSet) (k m s : ℕ) (nodes : List Node) (free : List Place) → AreInPrefixOrder sets k nodes free [] → 0 < length (members_from m s nodes) → action_count sets (Some s) ≤ length nodes

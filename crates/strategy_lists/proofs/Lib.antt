@@ -3,4 +3,5 @@ mod Moves
 mod OwnNumbers
 mod Parents
 mod PlayersDecisions
+mod SmallTree
 mod WalksAreStrategies

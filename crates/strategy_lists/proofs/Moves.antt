@@ -1,14 +1,12 @@
 -- The nodes at which a player moves, and the own history past other nodes.
-use Rattle.std.proofs.Common.{ℕ, zero, suc, ◌<◌, ◌≡◌, Option, Some, None, List, [], ◌∷◌, ◌++◌, length, map, get_or, slice_get, All, refl, sym, ap, subst, ◌∙◌, arith}
+use Rattle.std.proofs.Common.{ℕ, ◌<◌, ◌≡◌, Option, Some, None, List, [], ◌∷◌, ◌++◌, length, map, get_or, All, refl, sym, ap, subst, ◌∙◌}
 use Rattle.std.proofs.lemmas.Bool.{false_from_ne_true}
 use Rattle.std.proofs.lemmas.List.{append-nil, get_or-map, get_or_default, length-map}
 use Rattle.std.proofs.lemmas.Option.{none-some}
 use Rattle.game_trees.specs.Trees.{Tree, IsTree}
 use Rattle.game_trees.specs.Recall.{own_step, own_history}
-use Rattle.game_core.specs.declared.tree.Kind.{Kind}
-use Rattle.game_core.specs.declared.tree.Kind.TheVariants.{Move}
 use Rattle.game_core.specs.declared.tree.Node.{Node}
-use Rattle.game_core.specs.Tree.{GameTree, IsWithin, InformationSet, IsTree as is_game, kind_at, kind_of_owner}
+use Rattle.game_core.specs.Tree.{GameTree, IsWithin, IsTree as is_game, kind_at, kind_of_owner}
 use Rattle.game_core.specs.TreeGame.{game_of_tree}
 use Rattle.reduced_strategies.proofs.Sets.{is_own-decides}
 use Rattle.reduced_strategies.proofs.Histories.{own_history-step}

@@ -1,5 +1,5 @@
 -- Numbers that are a player's own, and the place of each of them.
-use Rattle.std.proofs.Common.{ℕ, zero, suc, ◌+◌, ◌^◌, eqb, ◌<◌, ◌≤◌, ◌≡◌, ◌⊎◌, inl, inr, Bool, true, false, Decides, Option, Some, None, List, [], ◌∷◌, ◌++◌, length, map, get_or, slice_get, set, All, refl, sym, ap, subst, ◌∙◌, arith, below_more}
+use Rattle.std.proofs.Common.{ℕ, zero, suc, ◌+◌, ◌^◌, eqb, ◌<◌, ◌≤◌, ◌≡◌, ◌⊎◌, inl, inr, Bool, true, false, Decides, Option, Some, None, List, [], ◌∷◌, ◌++◌, length, map, get_or, slice_get, All, refl, sym, ap, subst, ◌∙◌, arith}
 use Rattle.std.specs.Option.{option_eq}
 use Rattle.std.specs.Prelude.{◌==◌, if◌then◌else◌, IfSome}
 use Rattle.std.proofs.lemmas.Bool.Decides.{Decides-eqb, Decides-like}
@@ -108,7 +108,7 @@ pub own_sets-numbers : (t : Tree) (i : ℕ) → own_sets t i ≡ own_numbers t.o
 own_sets-numbers t i = own_below-numbers t i t.sets [] ∙ append-nil _
 
 -- the tests of an owner are one
-is_set-own : (o : Option ℕ) (i : ℕ) → is_set i o ≡ is_own_of o i
+pub is_set-own : (o : Option ℕ) (i : ℕ) → is_set i o ≡ is_own_of o i
 is_set-own None i = refl
 is_set-own (Some j) i = refl
 

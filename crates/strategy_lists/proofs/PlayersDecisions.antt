@@ -1,22 +1,33 @@
 -- The lists of the players' decisions, one node after another.
 use Rattle.std.proofs.Common.{ℕ, zero, suc, ◌+◌, ◌<◌, ◌≡◌, inl, inr, Option, Some, None, List, [], ◌∷◌, ◌++◌, length, map, get_or, slice_get, set, All, Contains, ◌⊎◌, refl, sym, ap, subst, ◌∙◌, arith, option_map}
-use Rattle.std.proofs.lemmas.Bool.{cases_eq}
-use Rattle.std.proofs.lemmas.List.{length-map, length-set, length_push, map-set, get_or-set_same, get_or-set_other}
+use Rattle.std.proofs.lemmas.List.{length-map, length-set, length_push}
 use Rattle.std.proofs.lemmas.List.Elements.{All-map}
-use Rattle.std.proofs.lemmas.Option.{none-some, same_Some, slice_get_within, slice_get-get_or, slice_get-map, get_or_from_slice_get}
+use Rattle.std.proofs.lemmas.Option.{none-some, same_Some, slice_get_within, slice_get-get_or, slice_get-map, slice_get_read, get_or_from_slice_get}
 use Rattle.game_trees.specs.Trees.{Tree, IsTree}
 use Rattle.game_trees.specs.Recall.{own_history}
 use Rattle.reduced_strategies.specs.Choices.{own_sets}
-use Rattle.reduced_strategies.proofs.Sets.{own_sets-tell}
 use Rattle.decision_walk.specs.declared.decision.Decision.{Decision}
 use Rattle.decision_walk.specs.declared.decision.Step.{Step}
 use Rattle.decision_walk.specs.Walks.{AreLinked, ComesFrom}
 use Rattle.strategy_lists.specs.Decisions.{action_counts, history_by, IsDecisionAt, AreDecisions, AreDecisionsOfAll}
-use Rattle.strategy_lists.specs.Made.{mover, IsMove, IsLastMove, IsStepTo, LeadsTo, IsMadeAt, AreMade, AreMadeByAll}
+use Rattle.strategy_lists.specs.Made.{mover, IsStepTo, LeadsTo, IsMadeAt, AreMade, AreMadeByAll}
 use Rattle.strategy_lists.specs.OwnNumbers.{own_numbers}
 use Rattle.strategy_lists.proofs.OwnNumbers.{slice_get-push_cases, own_numbers-own, own_numbers-other, own_numbers-at, own_numbers-tell, own_numbers-fewer}
 use Rattle.strategy_lists.proofs.Moves.{mover-move}
 use Rattle.strategy_lists.proofs.WalksAreStrategies.{element, own_set-place, own_set-tell}
+
+-- the list at a place
+pub list-at : {V X : Type 0} (items : V → List X) (lists : List V) (k : ℕ) (v : V) → k < length lists → v ≡ get_or lists k v → slice_get (map items lists) k ≡ Some (items v)
+list-at items lists k v below is = slice_get-map items lists k ∙ ap (option_map items) (slice_get_read lists (length lists) k v refl below is)
+
+-- the list at a place after a list is replaced: the new one there, and elsewhere the list that was there before
+set-cases : {V X : Type 0} (items : V → List X) (lists : List V) (k i : ℕ) (new : V) (x : List X) → slice_get (map items (set lists k new)) i ≡ Some x → ((i ≡ k) × (x ≡ items new)) ⊎ ((i ≡ k → ⊥) × (slice_get (map items lists) i ≡ Some x))
+set-cases items [] k i new x h = absurd (none-some x h)
+set-cases items (v ∷ lists) zero zero new x h = inl (refl, sym (same_Some (items new) x h))
+set-cases items (v ∷ lists) zero (suc i) new x h = inr (λ e. omega arith, h)
+set-cases items (v ∷ lists) (suc k) zero new x h = inr (λ e. omega arith, h)
+set-cases items (v ∷ lists) (suc k) (suc i) new x h =
+    elim (set-cases items lists k i new x h) [ inl here ↦ inl (ap suc here.0, here.1) | inr other ↦ inr (λ e. other.0 (omega arith), other.1) ]
 
 -- ---- one more node
 -- a node at which the player does not move adds no decision
@@ -61,29 +72,16 @@ AreMadeByAll-nobody t n lists nobody h = record {
 
 -- a node at which a player moves, whose list takes the decision
 pub AreMadeByAll-player : {V : Type 0} (items : V → List Decision) (t : Tree) (n player : ℕ) (lists : List V) (old new : V) (last : Decision) → mover t n ≡ Some player → IsMadeAt t player n last → player < length lists → old ≡ get_or lists player old → items new ≡ items old ++ last ∷ [] → AreMadeByAll t n (map items lists) → AreMadeByAll t (suc n) (map items (set lists player new))
-AreMadeByAll-player {V} items t n player lists old new last own made below old_is new_is h = record {
+AreMadeByAll-player items t n player lists old new last own made below old_is new_is h = record {
   one_for_each = length-map (set lists player new) items ∙ length-set lists player new ∙ sym (length-map lists items) ∙ h.one_for_each;
-  are_made = list;
+  are_made = λ i decisions at_i. elim (set-cases items lists player i new decisions at_i) [
+    | inl here ↦ subst (λ x. AreMade t (suc n) x decisions) (sym here.0) (subst (AreMade t (suc n) player) (sym (here.1 ∙ new_is)) taken)
+    | inr other ↦ AreMade-other t n i decisions (λ mine. other.0 (same_Some i player (sym mine ∙ own))) (h.are_made i decisions other.1)
+  ];
 }
   where
-    -- the list of a player in the new lists
-    found : (i : ℕ) (decisions : List Decision) (xs : List V) → slice_get (map items xs) i ≡ Some decisions → i < length xs
-    found i decisions xs at_i = rw length-map at (slice_get_within (map items xs) i decisions at_i)
-
-    at : (i : ℕ) (xs : List V) (v : V) → i < length xs → slice_get (map items xs) i ≡ Some (items (get_or xs i v))
-    at i xs v inside = slice_get-map items xs i ∙ ap (option_map items) (slice_get-get_or xs i v inside)
-
-    list : (i : ℕ) (decisions : List Decision) → slice_get (map items (set lists player new)) i ≡ Some decisions → AreMade t (suc n) i decisions
-    list i decisions at_i = elim (cases_eq i player) [
-      | inl same ↦ (
-          let is : decisions ≡ items old ++ last ∷ [] = same_Some _ _ (sym at_i ∙ at i (set lists player new) new (found i decisions (set lists player new) at_i) ∙ ap (λ x. Some (items (get_or (set lists player new) x new))) same ∙ ap (λ v. Some (items v)) (get_or-set_same lists player new new below)) ∙ new_is in
-          let before : AreMade t n player (items old) = h.are_made player (items old) (at player lists old below ∙ ap (λ v. Some (items v)) (sym old_is)) in
-          subst (λ x. AreMade t (suc n) x decisions) (sym same) (subst (AreMade t (suc n) player) (sym is) (AreMade-own t n player (items old) last own made before)))
-      | inr other ↦ (
-          let inside : i < length lists = rw length-set at (found i decisions (set lists player new) at_i) in
-          let is : Some decisions ≡ slice_get (map items lists) i = sym at_i ∙ at i (set lists player new) old (found i decisions (set lists player new) at_i) ∙ ap (λ v. Some (items v)) (get_or-set_other lists player i new old other) ∙ sym (at i lists old inside) in
-          AreMade-other t n i decisions (λ mine. other (same_Some i player (sym mine ∙ own))) (h.are_made i decisions (sym is)))
-    ]
+    taken : AreMade t (suc n) player (items old ++ last ∷ [])
+    taken = AreMade-own t n player (items old) last own made (h.are_made player (items old) (list-at items lists player old below old_is))
 
 -- ---- all nodes
 module _ (t : Tree) (valid : IsTree t) (i : ℕ) (decisions : List Decision) (h : AreMade t t.size i decisions) where

@@ -1,8 +1,8 @@
 -- The walks over a player's decisions are the player's reduced strategies.
-use Rattle.std.proofs.Common.{ℕ, zero, suc, ◌<◌, ◌≤◌, ◌≡◌, ◌≢◌, ◌↔◌, inl, inr, Option, Some, None, List, [], ◌∷◌, ◌++◌, length, map, get_or, slice_get, All, Contains, refl, sym, ap, subst, ◌∙◌, arith}
+use Rattle.std.proofs.Common.{ℕ, zero, suc, ◌<◌, ◌≤◌, ◌≡◌, ◌≢◌, ◌↔◌, inl, inr, Option, Some, None, List, [], ◌∷◌, length, map, get_or, slice_get, All, refl, sym, ap, subst, ◌∙◌, arith}
 use Rattle.std.proofs.lemmas.Bool.{cases_lt}
 use Rattle.std.proofs.lemmas.List.{length-map, get_or-map}
-use Rattle.std.proofs.lemmas.List.Elements.{All-weaker, All-get_or}
+use Rattle.std.proofs.lemmas.List.Elements.{All-weaker}
 use Rattle.std.proofs.lemmas.Option.{none-some, same_Some, slice_get_within, slice_get-get_or, get_or_from_slice_get}
 use Rattle.game_trees.specs.Trees.{Tree}
 use Rattle.game_trees.specs.Recall.{own_history}
@@ -11,7 +11,7 @@ use Rattle.reduced_strategies.proofs.Sets.{own_sets-tell, choice_at-among, choic
 use Rattle.reduced_strategies.proofs.Histories.{Agrees-append}
 use Rattle.decision_walk.specs.declared.decision.Decision.{Decision}
 use Rattle.decision_walk.specs.declared.decision.Step.{Step}
-use Rattle.decision_walk.specs.Walks.{ComesFrom, IsLedTo, IsReachedWithin, IsReached, IsPlaceReached, IsWalk, AreWalks}
+use Rattle.decision_walk.specs.Walks.{ComesFrom, IsLedTo, IsReachedWithin, IsPlaceReached, IsWalk, AreWalks}
 use Rattle.strategy_lists.specs.Decisions.{action_counts, history_by, IsDecisionAt, AreDecisions}
 use Rattle.strategy_lists.specs.OwnNumbers.{own_numbers}
 use Rattle.strategy_lists.proofs.OwnNumbers.{own_sets-numbers, own_numbers-at, own_numbers-tell, own_numbers-place}
@@ -25,9 +25,11 @@ element (x ∷ xs) (suc k) below = element xs k (omega arith)
 
 -- a value of the element at a place
 pub value_at : {X : Type 0} (f : X → ℕ) (xs : List X) (k : ℕ) (x : X) → slice_get xs k ≡ Some x → get_or (map f xs) k 0 ≡ f x
-value_at f [] k x h = absurd (none-some x h)
-value_at f (y ∷ xs) zero x h = ap f (same_Some y x h)
-value_at f (y ∷ xs) (suc k) x h = value_at f xs k x h
+value_at f xs k x h = get_or-map f xs k x 0 (slice_get_within xs k x h) ∙ ap f (get_or_from_slice_get xs k x x h)
+
+-- what holds of each element holds of the element at a place
+all_at : {X : Type 0} (P : X → Type 0) (xs : List X) (k : ℕ) (x : X) → All P xs → slice_get xs k ≡ Some x → P x
+all_at P xs k x all h = subst P (get_or_from_slice_get xs k x x h) (all k x (slice_get_within xs k x h))
 
 -- a choice list gives a set that stands at one place the choice there
 choice_at-place : (sets choices : List ℕ) (place s : ℕ) → ((j l : ℕ) → slice_get sets j ≡ Some s → slice_get sets l ≡ Some s → j ≡ l) → slice_get sets place ≡ Some s → choice_at sets choices s ≡ get_or choices place 0
@@ -91,7 +93,8 @@ module _ (t : Tree) (i : ℕ) (decisions : List Decision) (are : AreDecisions t 
         let less : step.decision < j = comes.0 in
         let k = get_or are.nodes step.decision 0 in
         let at_k : slice_get are.nodes step.decision ≡ Some k = slice_get-get_or are.nodes step.decision 0 (omega arith) in
-        let place_inside : step.place < length (own_sets t i) = subst (λ p. p < length (own_sets t i)) (sym comes.3) (rw length-map at (subst (λ d. d.place < length (action_counts t i)) (get_or_from_slice_get decisions step.decision comes.1 comes.1 comes.2) (are.linked.places_within step.decision comes.1 (slice_get_within decisions step.decision comes.1 comes.2)))) in
+        let within = all_at (λ d. d.place < length (action_counts t i)) decisions step.decision comes.1 are.linked.places_within comes.2 in
+        let place_inside : step.place < length (own_sets t i) = omega (arith, comes.3, length-map (own_sets t i) t.actions) in
         let s = get_or (own_sets t i) step.place 0 in
         let choice : chosen s ≡ get_or choices step.place 0 = choice-at_set t i choices step.place s (slice_get-get_or (own_sets t i) step.place 0 place_inside) in
         let reached = earlier step.decision (omega arith) k at_k in

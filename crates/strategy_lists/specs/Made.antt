@@ -1,5 +1,5 @@
 -- The decisions of the players, one node of a game tree after another.
-use Rattle.std.specs.Prelude.{ℕ, ◌<◌, ◌≡◌, List, [], ◌∷◌, ◌++◌, length, map, slice_get, Option, Some, None}
+use Rattle.std.specs.Prelude.{ℕ, ◌<◌, ◌≡◌, List, [], ◌∷◌, ◌++◌, length, slice_get, Option, Some, None}
 use Rattle.game_trees.specs.Trees.{Tree}
 use Rattle.game_trees.specs.Recall.{own_history}
 use Rattle.game_core.specs.declared.tree.Kind.{Kind}

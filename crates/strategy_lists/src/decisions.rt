@@ -1,12 +1,11 @@
 // The players' decisions.
 ghost use Rattle.std.specs.Prelude.{◌≡◌, ◌<◌, ℕ, All, length, map, IfOk, MatchOption, slice_get, Some, []};
 ghost use Rattle.game_trees.specs.Recall.{own_history};
-ghost use Rattle.game_core.specs.Tree.{IsTree};
 ghost use Rattle.game_core.specs.TreeGame.{game_of_tree};
 ghost use Rattle.reduced_strategies.specs.Choices.{own_sets};
 ghost use Rattle.reduced_strategies.specs.Places.{ArePlaces};
 ghost use Rattle.strategy_lists.specs.Decisions.{AreDecisionsOfAll};
-ghost use Rattle.strategy_lists.specs.Made.{AreMadeByAll, IsLastMove, IsMadeAt, IsMove, mover, mover_of};
+ghost use Rattle.strategy_lists.specs.Made.{IsLastMove, IsMadeAt, IsMove, mover, mover_of};
 ghost use Rattle.strategy_lists.specs.OwnNumbers.{ArePlacesBelow};
 
 use crate::places::places_among;
@@ -95,7 +94,7 @@ fn decision_at(tree: &Tree, places: &[u32], numbers: &[u32], number: usize, play
     }
 }
 
-// No decision of each player.
+// An empty list for each player.
 fn no_lists(alloc: Global, players: usize) -> Result<Vec<Vec<Decision>>, Memory>
     ensures { IfOk result (λ lists. (length lists.items ≡ players) × All (λ list. list.items ≡ []) lists.items) }
 {

@@ -27,7 +27,7 @@ fn next_place(counts: &mut [u32], owner: Option<u32>) -> u32
     }
 }
 
-/// For each of these owners its place among those that are the same player, from 0; any number where there is none.
+/// For each owner its place among the owners that are the same player, from 0; any number where there is none.
 pub fn places_among(
     alloc: Global,
     players: usize,

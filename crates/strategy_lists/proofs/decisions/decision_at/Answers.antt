@@ -1,4 +1,4 @@
-use Rattle.std.proofs.Common.{◌≡◌, ◌<◌, ◌∙◌, Some, None, sym, refl, subst, arith, rules}
+use Rattle.std.proofs.Common.{sym, subst, arith}
 use Rattle.game_core.specs.TreeGame.{game_of_tree}
 use Rattle.strategy_lists.specs.Made.{LeadsTo}
 use Rattle.strategy_lists.proofs.Moves.{move_at, mover-move}

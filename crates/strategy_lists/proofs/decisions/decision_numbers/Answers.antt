@@ -1,4 +1,4 @@
-use Rattle.std.proofs.Common.{◌≡◌, ◌∙◌, map, ap, sym, refl, length, get_or, subst, All, arith, rules}
+use Rattle.std.proofs.Common.{◌∙◌, map, ap, sym, length, get_or, subst}
 use Rattle.std.proofs.lemmas.Result.{IfOk-weaker}
 use Rattle.game_core.specs.Tree.{IsWithin}
 use Rattle.strategy_lists.specs.Made.{mover_of}

@@ -1,8 +1,8 @@
-use Rattle.std.proofs.Common.{◌≡◌, ◌<◌, ◌≤◌, ◌∙◌, Some, sym, ap, subst, refl, length, get_or, arith, rules}
+use Rattle.std.proofs.Common.{◌≡◌, ◌<◌, ◌∙◌, Some, sym, ap, length, arith}
 use Rattle.std.proofs.lemmas.Bool.{both_ways}
 use Rattle.game_trees.specs.Recall.{own_history}
 use Rattle.game_core.specs.TreeGame.{game_of_tree}
-use Rattle.strategy_lists.specs.Made.{mover, IsLastMove}
+use Rattle.strategy_lists.specs.Made.{mover}
 use Rattle.strategy_lists.proofs.Moves.{mover-is, branch-is, history-past, last-move}
 use Rattle.strategy_lists.proofs.Parents.{parent-before, root-is}
 use Rattle.strategy_lists.proofs.OwnNumbers.{owner-decides}

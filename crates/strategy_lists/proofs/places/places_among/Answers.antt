@@ -1,7 +1,7 @@
-use Rattle.std.proofs.Common.{ℕ, ◌≡◌, ◌<◌, ◌+◌, ◌^◌, ◌∙◌, None, length, map, drop, get_or, ap, sym, subst, refl, arith, rules, add-one}
-use Rattle.std.proofs.lemmas.List.{take_at, length-set}
+use Rattle.std.proofs.Common.{ℕ, ◌≡◌, ◌∙◌, None, length, drop, get_or, ap, arith, add-one}
+use Rattle.std.proofs.lemmas.List.{take_at}
 use Rattle.game_core.specs.Tree.{IsWithin}
-use Rattle.strategy_lists.specs.OwnNumbers.{AreCounts, ArePlacesBelow, counted}
+use Rattle.strategy_lists.specs.OwnNumbers.{counted}
 use Rattle.strategy_lists.proofs.OwnNumbers.{AreCounts-next, ArePlacesBelow-next, counts-room, place-counted}
 use Rattle.strategy_lists.proofs.places.places_among.Goals as goal
 

@@ -1,4 +1,4 @@
-use Rattle.std.proofs.Common.{◌≡◌, ◌∙◌, map, ap, sym, refl, subst, length, get_or, arith, rules}
+use Rattle.std.proofs.Common.{◌∙◌, map, ap, sym, subst, length, get_or}
 use Rattle.std.proofs.lemmas.Result.{IfOk-weaker}
 use Rattle.game_core.specs.Tree.{IsWithin}
 use Rattle.strategy_lists.proofs.OwnNumbers.{owners-within, ArePlaces-owners}

@@ -1,4 +1,4 @@
-use Rattle.std.proofs.Common.{◌≡◌, ◌∙◌, map, sym, refl, subst, length, arith, rules}
+use Rattle.std.proofs.Common.{◌∙◌, refl, subst, length}
 use Rattle.std.proofs.lemmas.Result.{IfOk-weaker}
 use Rattle.game_core.specs.TreeGame.{game_of_tree}
 use Rattle.decision_walk.specs.Walks.{AreWalks}

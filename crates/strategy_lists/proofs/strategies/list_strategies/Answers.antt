@@ -1,4 +1,4 @@
-use Rattle.std.proofs.Common.{◌≡◌, ◌∙◌, map, sym, refl, subst, arith, rules}
+use Rattle.std.proofs.Common.{◌∙◌, map, subst}
 use Rattle.std.proofs.lemmas.Result.{IfOk-weaker}
 use Rattle.game_core.specs.TreeGame.{game_of_tree}
 use Rattle.decision_walk.specs.Walks.{AreWalks}

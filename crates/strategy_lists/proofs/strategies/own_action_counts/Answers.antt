@@ -1,4 +1,4 @@
-use Rattle.std.proofs.Common.{◌≡◌, ◌<◌, ◌∙◌, Some, length, map, get_or, ap, sym, refl, arith, rules, add-one}
+use Rattle.std.proofs.Common.{◌≡◌, ◌∙◌, length, map, ap, sym, arith, add-one}
 use Rattle.std.proofs.lemmas.Bool.{both_ways}
 use Rattle.game_core.specs.TreeGame.{game_of_tree}
 use Rattle.strategy_lists.specs.OwnNumbers.{own_numbers}
