@@ -10,8 +10,8 @@ use Rattle.game_core.specs.Tree.{GameTree, IsTree, InformationSet, TreeOutcome, 
 use Rattle.game_core.specs.TreeGame.{game_of_tree}
 use Rattle.game_core.proofs.TreeLaws.{few_edges}
 use Rattle.reduced_strategies.specs.Choices.{own_sets, IsReached, IsReduced, AreReducedStrategies}
-use Rattle.pure_payoffs.specs.TestTrees.{IsPlayedBy}
-use Rattle.pure_payoffs.proofs.TestNodes.{inner, end, set_of, thirds_fit}
+use Rattle.pure_payoffs.specs.TestTrees.{IsPlayedBy, inner, end}
+use Rattle.pure_payoffs.proofs.TestNodes.{set_of, thirds_fit}
 
 -- the nodes
 abbrev pub lottery_nodes : List Node

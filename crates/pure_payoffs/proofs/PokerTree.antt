@@ -10,24 +10,8 @@ use Rattle.game_core.specs.Tree.{GameTree, IsTree, InformationSet, TreeOutcome, 
 use Rattle.game_core.specs.TreeGame.{game_of_tree}
 use Rattle.game_core.proofs.TreeLaws.{few_edges}
 use Rattle.reduced_strategies.specs.Choices.{own_sets, choice_at, IsReached, IsReduced, AreReducedStrategies}
-use Rattle.pure_payoffs.specs.TestTrees.{IsPlayedBy, poker_places, poker_strategies}
-use Rattle.pure_payoffs.proofs.TestNodes.{inner, end, set_of, halves_fit, plain_fit}
-
--- the nodes
-abbrev pub poker_nodes : List Node
-poker_nodes =
-    inner Chance None 0 0
-    ∷ inner (Move 0) (Some 0) 0 1
-    ∷ inner (Move 1) (Some 1) 0 3
-    ∷ end 2 0 0
-    ∷ end 2 1 1
-    ∷ end 1 1 1
-    ∷ inner (Move 0) (Some 0) 1 2
-    ∷ inner (Move 1) (Some 6) 0 3
-    ∷ end 7 0 2
-    ∷ end 7 1 1
-    ∷ end 6 1 3
-    ∷ []
+use Rattle.pure_payoffs.specs.TestTrees.{ArePokerSets, IsPlayedBy, end, poker_nodes, poker_places, poker_strategies}
+use Rattle.pure_payoffs.proofs.TestNodes.{set_of, halves_fit, plain_fit}
 
 -- Fred's strategies
 abbrev of_fred : List (List ℕ)
@@ -64,24 +48,24 @@ one_or_two (suc zero) h = inl refl
 one_or_two (suc (suc zero)) h = inr refl
 one_or_two (suc (suc (suc x))) h = absurd (omega (arith, h.1))
 
-module _ (title fred alice : List ℕ) (draw on_red on_black after_raise : List ℕ) (a b c d e f g h : Action) (met_on_red won met_on_black lost : TreeOutcome) where
+module _ (title : List ℕ) (players : List (List ℕ)) (draw on_red on_black after_raise : List ℕ) (a b c d e f g h : Action) (outcomes : List TreeOutcome) where
   -- the tree
   abbrev pub poker : GameTree
   poker = record {
     title = title;
-    players = fred ∷ alice ∷ [];
+    players = players;
     nodes = poker_nodes;
     sets = set_of None draw a b (0 ∷ []) ∷ set_of (Some 0) on_red c d (1 ∷ []) ∷ set_of (Some 0) on_black e f (6 ∷ []) ∷ set_of (Some 1) after_raise g h (2 ∷ 7 ∷ []) ∷ [];
-    outcomes = met_on_red ∷ won ∷ met_on_black ∷ lost ∷ [];
+    outcomes = outcomes;
   }
 
   -- an end fits
-  end_fits : (parent branch outcome : ℕ) → outcome < 4 → NodeFits poker (end parent branch outcome)
+  end_fits : (parent branch outcome : ℕ) → outcome < length outcomes → NodeFits poker (end parent branch outcome)
   end_fits parent branch outcome below = record { kind_is = refl; set_within = tt; outcome_within = below }
 
   -- the nodes fit
-  nodes_fit : All (NodeFits poker) poker_nodes
-  nodes_fit = All-from_recursion (NodeFits poker) poker_nodes
+  nodes_fit : length outcomes ≡ 4 → All (NodeFits poker) poker_nodes
+  nodes_fit four = All-from_recursion (NodeFits poker) poker_nodes
       (record { kind_is = refl; set_within = omega arith; outcome_within = tt },
       (record { kind_is = refl; set_within = omega arith; outcome_within = tt },
       (record { kind_is = refl; set_within = omega arith; outcome_within = tt },
@@ -106,28 +90,28 @@ module _ (title fred alice : List ℕ) (draw on_red on_black after_raise : List 
     pub h_is : h.prob ≡ zero_ℚ
 
   -- the sets fit
-  sets_fit : HaveChances → (s : ℕ) (set : InformationSet) → slice_get poker.sets s ≡ Some set → SetFits poker s set
-  sets_fit p zero set is =
+  sets_fit : length players ≡ 2 → HaveChances → (s : ℕ) (set : InformationSet) → slice_get poker.sets s ≡ Some set → SetFits poker s set
+  sets_fit two p zero set is =
       subst (SetFits poker 0) (same_Some _ set is) (record { owner_within = tt; some_action = omega arith; probabilities = halves_fit a b p.a_is p.b_is; members_are = refl; some_member = omega arith })
-  sets_fit p (suc zero) set is =
+  sets_fit two p (suc zero) set is =
       subst (SetFits poker 1) (same_Some _ set is) (record { owner_within = omega arith; some_action = omega arith; probabilities = plain_fit 0 c d p.c_is p.d_is; members_are = refl; some_member = omega arith })
-  sets_fit p (suc (suc zero)) set is =
+  sets_fit two p (suc (suc zero)) set is =
       subst (SetFits poker 2) (same_Some _ set is) (record { owner_within = omega arith; some_action = omega arith; probabilities = plain_fit 0 e f p.e_is p.f_is; members_are = refl; some_member = omega arith })
-  sets_fit p (suc (suc (suc zero))) set is =
+  sets_fit two p (suc (suc (suc zero))) set is =
       subst (SetFits poker 3) (same_Some _ set is) (record { owner_within = omega arith; some_action = omega arith; probabilities = plain_fit 1 g h p.g_is p.h_is; members_are = refl; some_member = omega arith })
-  sets_fit p (suc (suc (suc (suc s)))) set is = absurd (none-some set is)
+  sets_fit two p (suc (suc (suc (suc s)))) set is = absurd (none-some set is)
 
   -- the nodes stand in prefix order
   in_order : AreInPrefixOrder poker.sets 0 poker_nodes ((None, 0) ∷ []) []
   in_order = (refl, (refl, (refl, (refl, (refl, (refl, (refl, (refl, (refl, (refl, (refl, refl)))))))))))
 
   -- the tree is one
-  pub poker_is_tree : HaveChances → length met_on_red.payoffs ≡ 2 → length won.payoffs ≡ 2 → length met_on_black.payoffs ≡ 2 → length lost.payoffs ≡ 2 → IsTree poker
-  poker_is_tree p red win black loss = record {
+  poker_is_tree : length players ≡ 2 → HaveChances → length outcomes ≡ 4 → All (λ outcome. length outcome.payoffs ≡ 2) outcomes → IsTree poker
+  poker_is_tree two p four pays = record {
     in_prefix_order = in_order;
-    nodes_fit = nodes_fit;
-    sets_fit = sets_fit p;
-    outcomes_fit = All-from_recursion (λ outcome. length outcome.payoffs ≡ 2) poker.outcomes (red, (win, (black, (loss, tt))));
+    nodes_fit = nodes_fit four;
+    sets_fit = sets_fit two p;
+    outcomes_fit = λ k outcome below. pays k outcome below ∙ sym two;
     few_nodes = omega arith;
     few_sets = omega arith;
     few_edges = few_edges poker.sets poker_nodes in_order (omega arith);
@@ -216,5 +200,23 @@ module _ (title fred alice : List ℕ) (draw on_red on_black after_raise : List 
   places (suc (suc (suc (suc s)))) i l o = absurd (omega arith)
 
   -- the tree with its places and strategies
-  pub poker_is_played : IsPlayedBy poker poker_places poker_strategies
-  poker_is_played = record { places_are = record { one_for_each = refl; are_places = places }; strategies_are = record { one_for_each = refl; are_reduced = strategies } }
+  poker_is_played : length players ≡ 2 → IsPlayedBy poker poker_places poker_strategies
+  poker_is_played two = record { places_are = record { one_for_each = refl; are_places = places }; strategies_are = record { one_for_each = sym two; are_reduced = strategies } }
+
+-- a tree of these parts is one, with its places and strategies
+pub poker_whole : (title : List ℕ) (players : List (List ℕ)) (nodes : List Node) (sets : List InformationSet) (outcomes : List TreeOutcome) → length players ≡ 2 → nodes ≡ poker_nodes → ArePokerSets sets → (length outcomes ≡ 4) × All (λ outcome. length outcome.payoffs ≡ 2) outcomes
+    → IsTree (record { title = title; players = players; nodes = nodes; sets = sets; outcomes = outcomes }) × IsPlayedBy (record { title = title; players = players; nodes = nodes; sets = sets; outcomes = outcomes }) poker_places poker_strategies
+poker_whole title players nodes sets outcomes two nodes_are s pays =
+    rw (nodes_are, s.are, s.draw_is.is, s.on_red_is.is, s.on_black_is.is, s.after_raise_is.is) (
+      poker_is_tree title players _ _ _ _ _ _ _ _ _ _ _ _ outcomes two (record {
+        a_is = s.draw_is.one_prob;
+        b_is = s.draw_is.other_prob;
+        c_is = s.on_red_is.one_prob;
+        d_is = s.on_red_is.other_prob;
+        e_is = s.on_black_is.one_prob;
+        f_is = s.on_black_is.other_prob;
+        g_is = s.after_raise_is.one_prob;
+        h_is = s.after_raise_is.other_prob;
+      }) pays.0 pays.1,
+      poker_is_played title players _ _ _ _ _ _ _ _ _ _ _ _ outcomes two,
+    )

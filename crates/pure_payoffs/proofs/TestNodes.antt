@@ -4,18 +4,7 @@ use Rattle.std.proofs.lemmas.List.Elements.{All-nil, All-cons}
 use Rattle.rational.specs.Gcd.{gcd}
 use Rattle.rational.specs.Rational.{ℚ, frac, is_lowest, ◌+ℚ◌, ◌≤ℚ◌, zero_ℚ, one_ℚ}
 use Rattle.game_core.specs.declared.tree.Action.{Action}
-use Rattle.game_core.specs.declared.tree.Kind.{Kind}
-use Rattle.game_core.specs.declared.tree.Kind.TheVariants.{End}
-use Rattle.game_core.specs.declared.tree.Node.{Node}
 use Rattle.game_core.specs.Tree.{InformationSet, AreChances, ProbabilitiesFit}
-
--- a node with a set
-abbrev pub inner : Kind → Option ℕ → ℕ → ℕ → Node
-inner kind parent branch set = record { kind = kind; parent = parent; branch = branch; set = Some set; outcome = None }
-
--- an end
-abbrev pub end : ℕ → ℕ → ℕ → Node
-end parent branch outcome = record { kind = End; parent = Some parent; branch = branch; set = None; outcome = Some outcome }
 
 -- a set of two actions
 abbrev pub set_of : Option ℕ → List ℕ → Action → Action → List ℕ → InformationSet

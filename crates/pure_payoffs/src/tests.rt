@@ -1,6 +1,6 @@
-ghost use Rattle.std.specs.Prelude.{◌≡◌, None, Some, [], ◌∷◌, map, length, slice_index_or, IfOk};
+ghost use Rattle.std.specs.Prelude.{◌≡◌, None, Some, [], ◌∷◌, All, map, length, IfOk};
 ghost use Rattle.frac128.specs.Fraction.{quotient};
-ghost use Rattle.pure_payoffs.specs.TestTrees.{IsPair, IsPlayedBy, poker_places, poker_strategies};
+ghost use Rattle.pure_payoffs.specs.TestTrees.{ArePokerSets, IsPair, IsPlayedBy, poker_nodes, poker_places, poker_strategies};
 
 use crate::{Play, children_of_all};
 use frac128::{Frac, Op, Unfit};
@@ -81,47 +81,65 @@ fn fraction(num: i128, den: i128) -> Result<Frac, Memory>
     Frac::new(num, den).ok_or(Memory)
 }
 
-// One-card poker: chance draws a red or a black card (set 0). Fred raises or folds on red (set 1) and on black
-// (set 2), and Alice, who does not see the card, meets or passes (set 3).
-fn poker(alloc: Global) -> Result<Tree, Memory>
-    ensures { IfOk result (λ t. IsPlayedBy t poker_places poker_strategies) }
+fn poker_nodes(alloc: Global) -> Result<Vec<Node>, Memory>
+    ensures { IfOk result (λ nodes. nodes.items ≡ poker_nodes) }
 {
     let fred = Kind::Move { player: 0 };
     let alice = Kind::Move { player: 1 };
-    let players = Vec::from_array(alloc, [nameless(alloc), nameless(alloc)])?;
-    let nodes = Vec::from_array(
-        alloc,
-        [
-            inner(Kind::Chance, None, 0, 0),
-            inner(fred, Some(0), 0, 1),
-            inner(alice, Some(1), 0, 3),
-            end(2, 0, 0),
-            end(2, 1, 1),
-            end(1, 1, 1),
-            inner(fred, Some(0), 1, 2),
-            inner(alice, Some(6), 0, 3),
-            end(7, 0, 2),
-            end(7, 1, 1),
-            end(6, 1, 3),
-        ],
-    )?;
+    let nodes = [
+        inner(Kind::Chance, None, 0, 0),
+        inner(fred, Some(0), 0, 1),
+        inner(alice, Some(1), 0, 3),
+        end(2, 0, 0),
+        end(2, 1, 1),
+        end(1, 1, 1),
+        inner(fred, Some(0), 1, 2),
+        inner(alice, Some(6), 0, 3),
+        end(7, 0, 2),
+        end(7, 1, 1),
+        end(6, 1, 3),
+    ];
+    Ok(Vec::from_array(alloc, nodes)?)
+}
+
+fn poker_sets(alloc: Global) -> Result<Vec<InfoSet>, Memory>
+    ensures { IfOk result (λ sets. ArePokerSets sets.items) }
+{
     let half = fraction(1, 2)?;
     let zero = Frac::zero();
     let root = Vec::from_array(alloc, [0])?;
     let draw = pair(alloc, None, half, half, root)?;
-    let first = Vec::from_array(alloc, [1])?;
-    let on_red = pair(alloc, Some(0), zero, zero, first)?;
-    let sixth = Vec::from_array(alloc, [6])?;
-    let on_black = pair(alloc, Some(0), zero, zero, sixth)?;
+    let red = Vec::from_array(alloc, [1])?;
+    let on_red = pair(alloc, Some(0), zero, zero, red)?;
+    let black = Vec::from_array(alloc, [6])?;
+    let on_black = pair(alloc, Some(0), zero, zero, black)?;
     let both = Vec::from_array(alloc, [2, 7])?;
     let after_raise = pair(alloc, Some(1), zero, zero, both)?;
-    let sets = Vec::from_array(alloc, [draw, on_red, on_black, after_raise])?;
+    let sets = [draw, on_red, on_black, after_raise];
+    Ok(Vec::from_array(alloc, sets)?)
+}
+
+fn poker_outcomes(alloc: Global) -> Result<Vec<Outcome>, Memory>
+    ensures { IfOk result (λ outcomes. (length outcomes.items ≡ 4) × All (λ outcome. length outcome.payoffs ≡ 2) outcomes.items) }
+{
     let two = fraction(2, 1)?;
     let met_on_red = gain(alloc, two)?;
     let won = gain(alloc, Frac::one())?;
     let met_on_black = gain(alloc, two.neg())?;
     let lost = gain(alloc, Frac::one().neg())?;
-    let outcomes = Vec::from_array(alloc, [met_on_red, won, met_on_black, lost])?;
+    let outcomes = [met_on_red, won, met_on_black, lost];
+    Ok(Vec::from_array(alloc, outcomes)?)
+}
+
+// One-card poker: chance draws a red or a black card (set 0). Fred raises or folds on red (set 1) and on black
+// (set 2), and Alice, who does not see the card, meets or passes (set 3).
+fn poker(alloc: Global) -> Result<Tree, Memory>
+    ensures { IfOk result (λ t. IsPlayedBy t poker_places poker_strategies) }
+{
+    let players = Vec::from_array(alloc, [nameless(alloc), nameless(alloc)])?;
+    let nodes = poker_nodes(alloc)?;
+    let sets = poker_sets(alloc)?;
+    let outcomes = poker_outcomes(alloc)?;
     Tree::new(alloc, nameless(alloc), players, nodes, sets, outcomes)
 }
 
