@@ -1,12 +1,12 @@
 -- The lottery of the tests.
-use Rattle.std.proofs.Common.{◌≡◌, ◌<◌, ◌≤◌, ◌∙◌, sym, subst, refl, ℕ, zero, suc, Option, Some, None, List, [], ◌∷◌, All, Contains, ◌↔◌, length, slice_get, get_or, pos, arith}
+use Rattle.std.proofs.Common.{◌≡◌, ◌<◌, subst, refl, ℕ, zero, suc, Some, None, List, [], ◌∷◌, Contains, ◌↔◌, length, slice_get, get_or, pos, arith}
 use Rattle.std.proofs.lemmas.List.Elements.{All-from_recursion}
 use Rattle.std.proofs.lemmas.Option.{none-some, same_Some}
 use Rattle.rational.specs.Rational.{ℚ, frac}
 use Rattle.game_core.specs.declared.tree.Action.{Action}
 use Rattle.game_core.specs.declared.tree.Kind.TheVariants.{Chance}
 use Rattle.game_core.specs.declared.tree.Node.{Node}
-use Rattle.game_core.specs.Tree.{GameTree, IsTree, InformationSet, TreeOutcome, AreInPrefixOrder, NodeFits, SetFits}
+use Rattle.game_core.specs.Tree.{GameTree, IsTree, InformationSet, AreInPrefixOrder, NodeFits, SetFits}
 use Rattle.game_core.specs.TreeGame.{game_of_tree}
 use Rattle.game_core.proofs.TreeLaws.{few_edges}
 use Rattle.reduced_strategies.specs.Choices.{own_sets, IsReached, IsReduced, AreReducedStrategies}

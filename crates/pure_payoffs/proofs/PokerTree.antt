@@ -1,10 +1,9 @@
 -- The tree of one-card poker in the tests.
-use Rattle.std.proofs.Common.{◌≡◌, ◌<◌, ◌≤◌, ◌⊎◌, inl, inr, ◌∙◌, sym, subst, refl, ℕ, zero, suc, Option, Some, None, List, [], ◌∷◌, All, Contains, ◌↔◌, length, slice_get, get_or, pos, arith, tests}
+use Rattle.std.proofs.Common.{◌≡◌, ◌<◌, ◌≤◌, ◌⊎◌, inl, inr, ◌∙◌, sym, subst, refl, ℕ, zero, suc, Some, None, List, [], ◌∷◌, All, Contains, ◌↔◌, length, slice_get, get_or, pos, arith, tests}
 use Rattle.std.proofs.lemmas.List.Elements.{All-from_recursion}
 use Rattle.std.proofs.lemmas.Option.{none-some, same_Some}
-use Rattle.rational.specs.Rational.{ℚ, frac, zero_ℚ}
+use Rattle.rational.specs.Rational.{frac, zero_ℚ}
 use Rattle.game_core.specs.declared.tree.Action.{Action}
-use Rattle.game_core.specs.declared.tree.Kind.TheVariants.{Chance, Move}
 use Rattle.game_core.specs.declared.tree.Node.{Node}
 use Rattle.game_core.specs.Tree.{GameTree, IsTree, InformationSet, TreeOutcome, AreInPrefixOrder, NodeFits, SetFits}
 use Rattle.game_core.specs.TreeGame.{game_of_tree}
@@ -65,18 +64,37 @@ module _ (title : List ℕ) (players : List (List ℕ)) (draw on_red on_black af
 
   -- the nodes fit
   nodes_fit : length outcomes ≡ 4 → All (NodeFits poker) poker_nodes
-  nodes_fit four = All-from_recursion (NodeFits poker) poker_nodes
-      (record { kind_is = refl; set_within = omega arith; outcome_within = tt },
-      (record { kind_is = refl; set_within = omega arith; outcome_within = tt },
-      (record { kind_is = refl; set_within = omega arith; outcome_within = tt },
-      (end_fits 2 0 0 (omega arith),
-      (end_fits 2 1 1 (omega arith),
-      (end_fits 1 1 1 (omega arith),
-      (record { kind_is = refl; set_within = omega arith; outcome_within = tt },
-      (record { kind_is = refl; set_within = omega arith; outcome_within = tt },
-      (end_fits 7 0 2 (omega arith),
-      (end_fits 7 1 1 (omega arith),
-      (end_fits 6 1 3 (omega arith), tt)))))))))))
+  nodes_fit four = All-from_recursion (NodeFits poker) poker_nodes (
+    record { kind_is = refl; set_within = omega arith; outcome_within = tt },
+    (
+      record { kind_is = refl; set_within = omega arith; outcome_within = tt },
+      (
+        record { kind_is = refl; set_within = omega arith; outcome_within = tt },
+        (
+          end_fits 2 0 0 (omega arith),
+          (
+            end_fits 2 1 1 (omega arith),
+            (
+              end_fits 1 1 1 (omega arith),
+              (
+                record { kind_is = refl; set_within = omega arith; outcome_within = tt },
+                (
+                  record { kind_is = refl; set_within = omega arith; outcome_within = tt },
+                  (
+                    end_fits 7 0 2 (omega arith),
+                    (
+                      end_fits 7 1 1 (omega arith),
+                      (end_fits 6 1 3 (omega arith), tt),
+                    ),
+                  ),
+                ),
+              ),
+            ),
+          ),
+        ),
+      ),
+    ),
+  )
 
   -- the actions have these probabilities
   pub record HaveChances : Type 0 where

@@ -1,5 +1,5 @@
 -- Nodes, sets and chances of the tests' trees.
-use Rattle.std.proofs.Common.{◌≡◌, ◌<◌, ◌∙◌, refl, ℕ, Option, Some, None, List, [], ◌∷◌, pos, arith}
+use Rattle.std.proofs.Common.{◌≡◌, refl, ℕ, Option, Some, None, List, [], ◌∷◌, pos, arith}
 use Rattle.std.proofs.lemmas.List.Elements.{All-nil, All-cons}
 use Rattle.rational.specs.Gcd.{gcd}
 use Rattle.rational.specs.Rational.{ℚ, frac, is_lowest, ◌+ℚ◌, ◌≤ℚ◌, zero_ℚ, one_ℚ}

@@ -197,7 +197,16 @@ fn poker_pays_its_cells(rt: HostRuntime) -> Result<(), Memory> {
     let tree = poker(alloc)?;
     let children = children_of_all(alloc, &tree)?;
     let strategies = strategies_of_both(alloc)?;
-    let table = [(0, 1), (1, 1), (1, 2), (0, 1), (-1, 2), (1, 1), (0, 1), (0, 1)];
+    let table = [
+        (0, 1),
+        (1, 1),
+        (1, 2),
+        (0, 1),
+        (-1, 2),
+        (1, 1),
+        (0, 1),
+        (0, 1),
+    ];
     for cell in 0..table.len() {
         let fred = cell as u32 / 2;
         let alice = cell as u32 % 2;
