@@ -1,5 +1,5 @@
 -- What choice lists give the sets, by their places.
-use Rattle.std.proofs.Common.{ℕ, zero, suc, ◌<◌, ◌≤◌, ◌≡◌, ◌≢◌, Some, List, [], ◌∷◌, length, get_or, slice_get, ◌∙◌, arith, tests}
+use Rattle.std.proofs.Common.{ℕ, zero, suc, ◌≤◌, ◌≡◌, ◌≢◌, Some, List, [], ◌∷◌, length, get_or, slice_get, ◌∙◌, arith, tests}
 use Rattle.std.proofs.lemmas.Option.{same_Some}
 use Rattle.reduced_strategies.specs.Choices.{choice_at}
 use Rattle.reduced_strategies.proofs.Sets.{AscendFrom}

@@ -1,5 +1,5 @@
 -- What the steps of a node give.
-use Rattle.std.proofs.Common.{ℕ, ◌<◌, ◌≡◌, Option, Some, None, List, [], ◌∷◌, All, Result, Ok, Err, refl, sym, ap, ◌∙◌, subst}
+use Rattle.std.proofs.Common.{ℕ, ◌<◌, ◌≡◌, Option, Some, None, [], ◌∷◌, All, Result, Ok, sym, ◌∙◌, subst}
 use Rattle.std.specs.Prelude.{IfOk, IfErr, OnOk, OnErr}
 use Rattle.std.proofs.lemmas.List.Elements.{All-nil}
 use Rattle.rational.specs.Rational.{ℚ, ◌+ℚ◌}

@@ -1,10 +1,10 @@
 -- Steps one after another: what they give.
-use Rattle.std.proofs.Common.{ℕ, zero, suc, ◌≤◌, ◌≡◌, Bool, true, false, inl, inr, List, [], ◌∷◌, ◌++◌, All, Result, Ok, Err, refl, sym, ap, ◌∙◌, subst, append_assoc, arith, eq-or-lt_of_le, le_of_suc-le-suc}
+use Rattle.std.proofs.Common.{ℕ, zero, suc, ◌≤◌, ◌≡◌, inl, inr, List, [], ◌∷◌, ◌++◌, All, Result, Ok, Err, refl, sym, ap, ◌∙◌, subst, append_assoc, arith, eq-or-lt_of_le, le_of_suc-le-suc}
 use Rattle.std.specs.Prelude.{IfOk, IfErr, OnOk, OnErr}
 use Rattle.std.proofs.lemmas.List.Elements.{All-nil, All-cons, All-append}
-use Rattle.rational.specs.Rational.{ℚ, ◌+ℚ◌, ◌*ℚ◌}
-use Rattle.frac128.specs.Steps.{AddFits, MulFits, unfit}
-use Rattle.frac128.specs.declared.steps.Op.TheVariants.{Add, Mul}
+use Rattle.rational.specs.Rational.{ℚ, ◌+ℚ◌}
+use Rattle.frac128.specs.Steps.{AddFits, unfit}
+use Rattle.frac128.specs.declared.steps.Op.TheVariants.{Add}
 use Rattle.frac128.specs.declared.steps.Unfit.{Unfit}
 use Rattle.pure_payoffs.specs.Plays.{Give}
 use Rattle.pure_payoffs.specs.Steps.{Step, StepFits, IsFirstUnfit, chance_steps}

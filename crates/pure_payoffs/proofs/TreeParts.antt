@@ -1,10 +1,10 @@
 -- The parts of the game that a tree stands for, read from the tree's lists.
-use Rattle.std.proofs.Common.{ℕ, ◌<◌, ◌≡◌, Option, Some, None, List, [], length, map, get_or, unwrap_or, refl, sym, ap, ◌∙◌, subst, arith}
+use Rattle.std.proofs.Common.{ℕ, ◌<◌, ◌≡◌, Option, Some, None, List, [], length, map, get_or, unwrap_or, refl, sym, ap, ◌∙◌}
 use Rattle.std.proofs.lemmas.List.{get_or-map}
 use Rattle.rational.specs.Rational.{ℚ, zero_ℚ}
 use Rattle.game_core.specs.declared.tree.Action.{Action}
 use Rattle.game_core.specs.declared.tree.Kind.{Kind}
-use Rattle.game_core.specs.declared.tree.Kind.TheVariants.{Chance, Move}
+use Rattle.game_core.specs.declared.tree.Kind.TheVariants.{Move}
 use Rattle.game_core.specs.declared.tree.Node.{Node}
 use Rattle.game_core.specs.Tree.{GameTree, InformationSet, kind_of_owner, probability_at}
 use Rattle.game_core.specs.TreeGame.{game_of_tree, or_zero, outcome_pays}

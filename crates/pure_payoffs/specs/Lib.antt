@@ -2,3 +2,4 @@ pub mod Children
 pub mod Filled
 pub mod Plays
 pub mod Steps
+pub mod TestTrees

@@ -1,6 +1,6 @@
 -- What the steps of a play are computed from.
-use Rattle.std.specs.Prelude.{ℕ, ◌<◌, ◌≡◌, List, [], ◌∷◌, ◌++◌, if◌then◌else◌, map, length, All, Option, Some, None, Result, MatchResult}
-use Rattle.rational.specs.Rational.{ℚ, ◌+ℚ◌, ◌*ℚ◌, zero_ℚ}
+use Rattle.std.specs.Prelude.{ℕ, ◌≡◌, List, [], ◌∷◌, ◌++◌, if◌then◌else◌, map, length, All, Option, Some, None, Result, MatchResult}
+use Rattle.rational.specs.Rational.{ℚ, ◌*ℚ◌, zero_ℚ}
 use Rattle.rational.specs.Sum.{sum_to}
 use Rattle.frac128.specs.Fraction.{eq_ℚ}
 use Rattle.frac128.specs.Steps.{unfit}
@@ -9,8 +9,10 @@ use Rattle.frac128.specs.declared.steps.Unfit.{Unfit}
 use Rattle.game_theory.specs.Profiles.{IsProfile}
 use Rattle.game_trees.specs.Trees.{Tree, IsTree}
 use Rattle.game_trees.specs.Behaviour.{value, pure}
+use Rattle.game_core.specs.TreeGame.{game_of_tree}
 use Rattle.reduced_strategies.specs.Places.{ArePlaces}
-use Rattle.reduced_strategies.specs.StrategicForm.{AreStrategies}
+use Rattle.reduced_strategies.specs.StrategicForm.{AreStrategies, completed}
+use Rattle.pure_payoffs.specs.declared.payoff.Play.{Play}
 use Rattle.pure_payoffs.specs.Children.{AreChildren}
 use Rattle.pure_payoffs.specs.Steps.{Step, StepFits, IsFirstUnfit, child, chance_steps, steps_to}
 
@@ -21,6 +23,22 @@ pub record IsPlay (t : Tree) (children : List (List ℕ)) (places : List ℕ) (s
   pub places_are : ArePlaces t places
   pub strategies_are : AreStrategies t strategies
   pub is_profile : IsProfile (map length strategies) profile
+
+-- the game of a play's tree
+abbrev pub game_of : Play → Tree
+game_of play = game_of_tree play.tree.now
+
+-- a play's strategies
+abbrev pub strategies_of : Play → List (List (List ℕ))
+strategies_of play = map (λ v. map (λ w. w.items) v.items) play.strategies.now
+
+-- the choice at each set
+abbrev pub choice_of : Play → ℕ → ℕ
+choice_of play = completed (game_of play) (strategies_of play) play.profile.now
+
+-- the parts of a play fit
+abbrev pub IsPlayed : Play → Type 0
+IsPlayed play = IsPlay (game_of play) (map (λ v. v.items) play.children.now) play.places.now (strategies_of play) play.profile.now
 
 -- what these steps give: a value where all fit, and else the first that does not
 abbrev pub Give : List Step → ℚ → Result ℚ Unfit → Type 0

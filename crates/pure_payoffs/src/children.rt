@@ -10,8 +10,8 @@ use game_core::{Tree, trees_are_game_trees};
 use memory::Memory;
 use std::alloc::Global;
 
-/// What the tree stands for is a game tree. Does nothing.
-pub fn is_game_tree(tree: &Tree)
+// What the tree stands for is a game tree. Does nothing.
+pub(crate) fn stands_for_game_tree(tree: &Tree)
     ensures { IsTree (game_of_tree tree.now) }
 {
     trees_are_game_trees();
@@ -44,7 +44,7 @@ fn rooms(alloc: Global, tree: &Tree) -> Result<Vec<Vec<u32>>, Memory>
 pub fn children_of_all(alloc: Global, tree: &Tree) -> Result<Vec<Vec<u32>>, Memory>
     ensures { IfOk result (λ lists. AreChildren (game_of_tree tree.now) (map (λ v. v.items) lists.items)) }
 {
-    is_game_tree(tree);
+    stands_for_game_tree(tree);
     let mut lists = rooms(alloc, tree)?;
     let nodes = tree.nodes();
     for number in 1..nodes.len() {

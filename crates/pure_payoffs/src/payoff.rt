@@ -3,10 +3,9 @@ ghost use Rattle.std.specs.Prelude.{◌≡◌, ◌<◌, length};
 ghost use Rattle.game_core.specs.Tree.{IsWithin};
 ghost use Rattle.game_core.specs.TreeGame.{outcome_pays};
 
-use crate::children::is_game_tree;
+use crate::children::stands_for_game_tree;
 use frac128::{Frac, Unfit};
 use game_core::{Kind, Tree};
-use reduced_strategies::first_actions_complete;
 
 /// A pure profile of reduced strategies on a tree. Players, nodes, sets and strategies are numbered from 0.
 #[derive(Clone, Copy, Debug)]
@@ -45,7 +44,7 @@ impl<'a> Play<'a> {
     ghost use Rattle.reduced_strategies.specs.Places.{ArePlaces};
     ghost use Rattle.reduced_strategies.specs.StrategicForm.{AreStrategies, completed};
     ghost use Rattle.pure_payoffs.specs.Children.{AreChildren};
-    ghost use Rattle.pure_payoffs.specs.Plays.{IsPlay, Give, steps_at, branch_steps, steps_behind, value_behind};
+    ghost use Rattle.pure_payoffs.specs.Plays.{IsPlayed, Give, game_of, choice_of, steps_at, branch_steps, steps_behind, value_behind};
     ghost use Rattle.pure_payoffs.specs.Steps.{StepFits, IsFirstUnfit, payoff_steps};
 
     /// What the profile pays a player, where the first action is taken at each set to which the player's strategy
@@ -66,18 +65,18 @@ impl<'a> Play<'a> {
             (λ value. (value ≡ payoff t (pure choice) player) × All StepFits (payoff_steps t choice player))
             (IsFirstUnfit (payoff_steps t choice player)) }
     {
-        is_game_tree(self.tree);
+        stands_for_game_tree(self.tree);
         self.value(0, player)
     }
 
     // What the profile pays a player from a node on.
     #[cycle(values)]
     fn value(&self, node: u32, player: u32) -> Result<Frac, Unfit>
-        requires play { IsPlay (game_of_tree self.now.tree.now) (map (λ v. v.items) self.now.children.now) self.now.places.now (map (λ v. map (λ w. w.items) v.items) self.now.strategies.now) self.now.profile.now }
+        requires play { IsPlayed self.now }
         requires node { node < length self.now.tree.now.nodes }
         requires player { player < length self.now.tree.now.players }
-        ensures { let t = game_of_tree self.now.tree.now in
-            let choice = completed t (map (λ v. map (λ w. w.items) v.items) self.now.strategies.now) self.now.profile.now in
+        ensures { let t = game_of self.now in
+            let choice = choice_of self.now in
             Give (steps_at t choice player node) (value t (pure choice) player node) result }
     {
         let here = self.tree.nodes()[node as usize];
@@ -91,13 +90,13 @@ impl<'a> Play<'a> {
     // What the profile pays a player behind a node with this set.
     #[cycle(values)]
     fn value_behind(&self, node: u32, set: u32, kind: Kind, player: u32) -> Result<Frac, Unfit>
-        requires play { IsPlay (game_of_tree self.now.tree.now) (map (λ v. v.items) self.now.children.now) self.now.places.now (map (λ v. map (λ w. w.items) v.items) self.now.strategies.now) self.now.profile.now }
+        requires play { IsPlayed self.now }
         requires node { node < length self.now.tree.now.nodes }
         requires player { player < length self.now.tree.now.players }
-        requires set { (game_of_tree self.now.tree.now).set node ≡ Some set }
-        requires kind { kind ≡ kind_of_owner ((game_of_tree self.now.tree.now).owner set) }
-        ensures { let t = game_of_tree self.now.tree.now in
-            let choice = completed t (map (λ v. map (λ w. w.items) v.items) self.now.strategies.now) self.now.profile.now in
+        requires set { (game_of self.now).set node ≡ Some set }
+        requires kind { kind ≡ kind_of_owner ((game_of self.now).owner set) }
+        ensures { let t = game_of self.now in
+            let choice = choice_of self.now in
             Give (steps_behind t choice player node set (t.owner set)) (value_behind t choice player node set (t.owner set)) result }
     {
         match kind {
@@ -112,12 +111,12 @@ impl<'a> Play<'a> {
     // The sum of the products of probability and value of each child of a node of chance.
     #[cycle(values)]
     fn chance_value(&self, node: u32, set: u32, player: u32) -> Result<Frac, Unfit>
-        requires play { IsPlay (game_of_tree self.now.tree.now) (map (λ v. v.items) self.now.children.now) self.now.places.now (map (λ v. map (λ w. w.items) v.items) self.now.strategies.now) self.now.profile.now }
+        requires play { IsPlayed self.now }
         requires node { node < length self.now.tree.now.nodes }
         requires player { player < length self.now.tree.now.players }
-        requires set { (game_of_tree self.now.tree.now).set node ≡ Some set }
-        ensures { let t = game_of_tree self.now.tree.now in
-            let choice = completed t (map (λ v. map (λ w. w.items) v.items) self.now.strategies.now) self.now.profile.now in
+        requires set { (game_of self.now).set node ≡ Some set }
+        ensures { let t = game_of self.now in
+            let choice = choice_of self.now in
             Give (steps_behind t choice player node set None) (value_behind t choice player node set None) result }
     {
         let actions = self.tree.sets()[set as usize].actions();
@@ -132,11 +131,11 @@ impl<'a> Play<'a> {
     // The sum with the product of a probability, where it is not 0, and the value of a child.
     #[cycle(values)]
     fn with_branch(&self, sum: Frac, prob: Frac, child: u32, player: u32) -> Result<Frac, Unfit>
-        requires play { IsPlay (game_of_tree self.now.tree.now) (map (λ v. v.items) self.now.children.now) self.now.places.now (map (λ v. map (λ w. w.items) v.items) self.now.strategies.now) self.now.profile.now }
+        requires play { IsPlayed self.now }
         requires node { child < length self.now.tree.now.nodes }
         requires player { player < length self.now.tree.now.players }
-        ensures { let t = game_of_tree self.now.tree.now in
-            let choice = completed t (map (λ v. map (λ w. w.items) v.items) self.now.strategies.now) self.now.profile.now in
+        ensures { let t = game_of self.now in
+            let choice = choice_of self.now in
             Give (branch_steps prob sum (value t (pure choice) player child) (steps_at t choice player child)) (sum +ℚ prob *ℚ value t (pure choice) player child) result }
     {
         if prob.is_zero() {
@@ -148,10 +147,10 @@ impl<'a> Play<'a> {
 
     // The action, numbered from 0, that the owner of a set takes there.
     fn action_at(&self, owner: u32, set: u32) -> usize
-        requires play { IsPlay (game_of_tree self.now.tree.now) (map (λ v. v.items) self.now.children.now) self.now.places.now (map (λ v. map (λ w. w.items) v.items) self.now.strategies.now) self.now.profile.now }
+        requires play { IsPlayed self.now }
         requires set { set < length self.now.tree.now.sets }
-        requires owner { (game_of_tree self.now.tree.now).owner set ≡ Some owner }
-        ensures { result ≡ completed (game_of_tree self.now.tree.now) (map (λ v. map (λ w. w.items) v.items) self.now.strategies.now) self.now.profile.now set }
+        requires owner { (game_of self.now).owner set ≡ Some owner }
+        ensures { result ≡ choice_of self.now set }
     {
         let number = self.profile[owner as usize];
         let strategy = &self.strategies[owner as usize][number as usize];

@@ -1,8 +1,6 @@
-use Rattle.std.proofs.Common.{ℕ, ◌≡◌, ◌∙◌, ◌<◌, sym, ap, refl, map, get_or, length, arith}
-use Rattle.std.proofs.lemmas.List.{get_or_default}
+use Rattle.std.proofs.Common.{ℕ, ◌≡◌, ◌∙◌, ◌<◌, ap, refl, get_or, length, arith}
 use Rattle.std.proofs.lemmas.Result.{err_from_is_err_and}
-use Rattle.game_core.specs.TreeGame.{game_of_tree}
-use Rattle.reduced_strategies.specs.StrategicForm.{completed}
+use Rattle.pure_payoffs.specs.Plays.{choice_of, game_of}
 use Rattle.pure_payoffs.proofs.BranchSteps.{skipped-gives, child-refused, product-refused, product-added, branch-more, branch-refused}
 use Rattle.pure_payoffs.proofs.NodeValues.{owned-gives, end-gives, behind-refused, node-added}
 use Rattle.pure_payoffs.proofs.Places.{child-read, child-found, play-chooses}
@@ -15,11 +13,11 @@ with_branch-returns-then-is_zero t c = skipped-gives _ _ _ _ (c.if-is_zero.ensur
 
 pub with_branch-returns-in_err-value : goal.with_branch-returns-in_err-value
 with_branch-returns-in_err-value t c =
-    let p = err_from_is_err_and c.from_residual.result c.from_residual.ensures.1 in rw (p.1, p.2) (child-refused _ _ _ _ _ (λ e. cc (c.if-is_zero.ensures.1 e)) c.in_err-value.ensures)
+    let p = err_from_is_err_and c.from_residual.result c.from_residual.ensures.1 in rw (p.1, p.2) (child-refused c.args.prob c.args.sum _ _ c.in_err-value.field-0.0 (λ e. cc (c.if-is_zero.ensures.1 e)) c.in_err-value.ensures)
 
 pub with_branch-returns-in_err-mul : goal.with_branch-returns-in_err-mul
 with_branch-returns-in_err-mul t c =
-    let p = err_from_is_err_and c.from_residual-in_err-mul.result c.from_residual-in_err-mul.ensures.1 in rw (p.1, p.2) (product-refused _ _ _ _ _ _ (λ e. cc (c.if-is_zero.ensures.1 e)) c.in_ok-value.ensures.0 c.in_ok-value.ensures.1 c.in_err-mul.ensures.step c.in_err-mul.ensures.unfit)
+    let p = err_from_is_err_and c.from_residual-in_err-mul.result c.from_residual-in_err-mul.ensures.1 in rw (p.1, p.2) (product-refused c.args.prob c.args.sum _ _ _ c.in_err-mul.field-0.0 (λ e. cc (c.if-is_zero.ensures.1 e)) c.in_ok-value.ensures.0 c.in_ok-value.ensures.1 c.in_err-mul.ensures.step c.in_err-mul.ensures.unfit)
 
 pub with_branch-returns : goal.with_branch-returns
 with_branch-returns t c =
@@ -47,7 +45,7 @@ value-returns-in-None t c =
     end-gives _ _ c.args.player c.requires.play.tree (play-chooses _ _ _ _ _ c.requires.play) c.args.node c.requires.node _ set pays
 
 -- the owner chooses one of the set's actions
-chosen : (t : ℕ) (c : goal.value_behind-After-index-self-node t) → c.action_at-action.result < (game_of_tree c.args.self.now.tree.now).actions c.args.set
+chosen : (t : ℕ) (c : goal.value_behind-After-index-self-node t) → c.action_at-action.result < (game_of c.args.self.now).actions c.args.set
 chosen t c =
     let within = c.requires.play.tree.sets_within c.args.node c.args.set c.requires.node c.requires.set in
     let owner = owner-read c.args.kind _ c.in-Move.owner c.requires.kind c.in-Move.is in
@@ -68,9 +66,7 @@ pub value_behind-returns-in-Move : goal.value_behind-returns-in-Move
 value_behind-returns-in-Move t c =
     let below = chosen t (goal.at.value_behind-returns-in-Move t c).After-index-self-node in
     let found = child-found (λ v. v.items) _ c.args.self.now.children.now c.args.node c.args.set c.action_at-action.result c.index-self-node.result c.index.result.now c.requires.play.tree c.requires.play.children_are c.requires.node c.requires.set below c.index.ensures in
-    let game = game_of_tree c.args.self.now.tree.now in
-    let choice = completed game (map (λ v. map (λ w. w.items) v.items) c.args.self.now.strategies.now) c.args.self.now.profile.now in
-    owned-gives game choice c.args.player c.args.node c.args.set c.in-Move.owner c.index.result.now _ _ (owner-read c.args.kind _ c.in-Move.owner c.requires.kind c.in-Move.is) (rw c.action_at-action.ensures at found.0) c.value.ensures
+    owned-gives (game_of c.args.self.now) (choice_of c.args.self.now) c.args.player c.args.node c.args.set c.in-Move.owner c.index.result.now _ _ (owner-read c.args.kind _ c.in-Move.owner c.requires.kind c.in-Move.is) (rw c.action_at-action.ensures at found.0) c.value.ensures
 
 -- the set of a node of chance is one of the sets
 set-within : (t : ℕ) (c : goal.chance_value-After-index-actions-action t) → c.args.set < length c.sets.result.now
@@ -79,7 +75,7 @@ set-within t c =
     omega (arith, within, ap length c.sets.ensures.sets)
 
 -- an action in the loop is one of the set's
-action-within : (t : ℕ) (c : goal.chance_value-After-index-actions-action t) → c.loop-action.action < (game_of_tree c.args.self.now.tree.now).actions c.args.set
+action-within : (t : ℕ) (c : goal.chance_value-After-index-actions-action t) → c.loop-action.action < (game_of c.args.self.now).actions c.args.set
 action-within t c =
     let count = count-read c.args.self.now.tree.now _ c.args.set _ _ c.sets.ensures.sets (set-within t c) c.index-sets-set.is c.actions-actions.ensures in
     rw (← count) c.loop-action-test.true

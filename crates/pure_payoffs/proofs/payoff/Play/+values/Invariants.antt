@@ -1,10 +1,8 @@
-use Rattle.std.proofs.Common.{◌≡◌, ◌+◌, ◌-◌, ◌*◌, All, map, length}
+use Rattle.std.proofs.Common.{◌≡◌, ◌+◌, ◌-◌, ◌*◌, All, length}
 use Rattle.rational.specs.Rational.{◌*ℚ◌}
 use Rattle.rational.specs.Sum.{sum_to}
 use Rattle.game_trees.specs.Behaviour.{pure, value}
-use Rattle.game_core.specs.TreeGame.{game_of_tree}
-use Rattle.reduced_strategies.specs.StrategicForm.{completed}
-use Rattle.pure_payoffs.specs.Plays.{steps_at}
+use Rattle.pure_payoffs.specs.Plays.{choice_of, game_of, steps_at}
 use Rattle.pure_payoffs.specs.Steps.{StepFits, chance_steps, child}
 use Rattle.pure_payoffs.proofs.payoff.Play.+values.Given as goal
 
@@ -24,7 +22,7 @@ decreases-with_branch l = 4 * (length l.self.now.tree.now.nodes - l.child) + 3
 -- the sum over the actions so far, whose steps all fit
 abbrev pub invariant-chance_value-loop-action : goal.invariant-chance_value-loop-action
 invariant-chance_value-loop-action l =
-    let t = game_of_tree l.self.tree.now in
-    let choice = completed t (map (λ v. map (λ w. w.items) v.items) l.self.strategies.now) l.self.profile.now in
+    let t = game_of l.self in
+    let choice = choice_of l.self in
     (l.sum ≡ sum_to l.action (λ a. t.chance l.set a *ℚ value t (pure choice) l.player (child t l.node a)))
     × All StepFits (chance_steps l.action (t.chance l.set) (λ a. value t (pure choice) l.player (child t l.node a)) (λ a. steps_at t choice l.player (child t l.node a)))
