@@ -1,0 +1,2 @@
+pub mod EquilibriumLines
+pub mod PrintedSets
