@@ -1,0 +1,6 @@
+pub mod EquilibriumLines
+pub mod Listed
+pub mod OrderedLines
+pub mod OrderedProfiles
+pub mod PrintedSets
+pub mod Ranks
