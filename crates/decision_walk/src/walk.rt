@@ -6,6 +6,79 @@ use crate::decision::{Decision, Step};
 use memory::Memory;
 use std::alloc::Global;
 
+// A walk on its way through the decisions.
+#[derive(Drop)]
+struct Walk<'a> {
+    decisions: &'a [Decision],
+    actions: &'a [u32],
+    // The action of each set, counted from 1, and 0 where it has none.
+    choices: Vec<u32>,
+    // Whether each decision so far is reached.
+    reached: Vec<bool>,
+    // The decisions that gave their set its action, the last one at the end.
+    fixed: Vec<usize>,
+}
+
+impl<'a> Walk<'a> {
+    // A walk before its first decision.
+    fn new(alloc: Global, decisions: &'a [Decision], actions: &'a [u32]) -> Result<Walk<'a>, Memory> {
+        Ok(Walk {
+            decisions,
+            actions,
+            choices: vec![in alloc; 0; actions.len()]?,
+            reached: vec![in alloc; false; decisions.len()]?,
+            fixed: Vec::new(alloc),
+        })
+    }
+
+    // Whether the walk comes by this step to the decision after it.
+    fn is_led_to(&self, before: Option<Step>) -> bool {
+        match before {
+            None => true,
+            Some(step) => {
+                let choice = self.choices[step.place as usize];
+                self.reached[step.decision as usize] && choice > 0 && choice - 1 == step.action
+            }
+        }
+    }
+
+    // Goes over one decision, with the first action where its set has none yet.
+    fn visit(&mut self, number: usize) -> Result<(), Memory> {
+        let decision = self.decisions[number];
+        let place = decision.place as usize;
+        let is_reached = self.is_led_to(decision.before);
+        self.reached[number] = is_reached;
+        if is_reached && self.choices[place] == 0 {
+            self.choices[place] = 1;
+            self.fixed.push(number)?;
+        }
+        Ok(())
+    }
+
+    // Goes on to the end over the decisions from a number on.
+    fn forward(&mut self, from: usize) -> Result<(), Memory> {
+        for number in from..self.decisions.len() {
+            self.visit(number)?;
+        }
+        Ok(())
+    }
+
+    // Goes back to the last set that has a further action, and takes that. Answers the decision to go on with.
+    fn back(&mut self) -> Option<usize> {
+        while let Some(last) = self.fixed.last() {
+            let number = *last;
+            let place = self.decisions[number].place as usize;
+            if self.choices[place] < self.actions[place] {
+                self.choices[place] += 1;
+                return Some(number + 1);
+            }
+            self.choices[place] = 0;
+            self.fixed.pop();
+        }
+        None
+    }
+}
+
 /// How many choice lists there are, but at most one more than `most`: counting stops there. `actions` has the
 /// number of actions of each of the player's own sets in order.
 pub fn count_walks(
@@ -18,7 +91,18 @@ pub fn count_walks(
     requires most { most + 1 < 2 ^ 64 }
     ensures { IfOk result (λ count. (lists : List (List ℕ)) × AreWalks decisions.now actions.now lists × (count ≡ min (length lists) (most + 1))) }
 {
-    Err(Memory)
+    let mut walk = Walk::new(alloc, decisions, actions)?;
+    let mut count = 0;
+    let mut from = Some(0);
+    while let Some(number) = from {
+        walk.forward(number)?;
+        count += 1;
+        if count > most {
+            return Ok(count);
+        }
+        from = walk.back();
+    }
+    Ok(count)
 }
 
 /// All choice lists in order. `actions` has the number of actions of each of the player's own sets in order.
@@ -30,5 +114,14 @@ pub fn list_walks(
     requires linked { AreLinked decisions.now actions.now }
     ensures { IfOk result (λ lists. AreWalks decisions.now actions.now (map (λ v. v.items) lists.items)) }
 {
-    Err(Memory)
+    let mut walk = Walk::new(alloc, decisions, actions)?;
+    let mut lists = Vec::new(alloc);
+    let mut from = Some(0);
+    while let Some(number) = from {
+        walk.forward(number)?;
+        lists.push(walk.choices.clone()?)?;
+        from = walk.back();
+    }
+    lists.sort()?;
+    Ok(lists)
 }
