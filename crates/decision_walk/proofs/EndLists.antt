@@ -79,7 +79,7 @@ test_false true zero h = absurd (omega (arith, h refl))
 test_false true (suc c) h = elim (eqb_tells (suc c) 0) [ inl p ↦ absurd (omega (arith, p.1)) | inr q ↦ q.0 ]
 
 -- the end
-ends-nil : (actions : List ℕ) (flags : List Bool) (choices : List ℕ) → ends actions [] flags choices ≡ choices ∷ []
+pub ends-nil : (actions : List ℕ) (flags : List Bool) (choices : List ℕ) → ends actions [] flags choices ≡ choices ∷ []
 unfolding ends
 ends-nil actions flags choices = refl
 

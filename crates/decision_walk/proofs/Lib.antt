@@ -1,2 +1,5 @@
 pub mod Flags
 pub mod EndLists
+pub mod Ascending
+pub mod Steps
+pub mod WalkSteps

@@ -1,5 +1,5 @@
 -- The ends of the walk in the order in which it comes to them.
-use Rattle.std.specs.Prelude.{ℕ, zero, suc, ◌<◌, ◌≤◌, ◌-◌, ◌≡◌, ◌==◌, ◌&&◌, Bool, true, false, if◌then◌else◌, List, [], ◌∷◌, ◌++◌, length, map, reverse, take, drop, slice_index, slice_index_or, slice_set, Option, Some, None}
+use Rattle.std.specs.Prelude.{ℕ, zero, suc, ◌<◌, ◌≤◌, ◌-◌, ◌≡◌, ◌==◌, ◌&&◌, Bool, true, false, if◌then◌else◌, List, [], ◌∷◌, ◌++◌, length, map, reverse, take, drop, slice_index, slice_index_or, slice_set, replicate, Option, Some, None}
 use Rattle.decision_walk.specs.declared.decision.Decision.{Decision}
 use Rattle.decision_walk.specs.declared.decision.Step.{Step}
 use Rattle.decision_walk.specs.declared.walk.Walk.{Walk}
@@ -58,3 +58,21 @@ later_ends walk = later walk.decisions.now walk.actions.now walk.reached.items (
 -- the ends to come before decision n
 abbrev pub ends_from : Walk → ℕ → List (List ℕ)
 ends_from walk n = ends walk.actions.now (drop n walk.decisions.now) (take n walk.reached.items) walk.choices.items ++ later_ends walk
+
+-- a walk before its first decision
+pub record IsStart (decisions : List Decision) (actions : List ℕ) (walk : Walk) : Type 0 where
+  pub decisions_are : walk.decisions.now ≡ decisions
+  pub actions_are : walk.actions.now ≡ actions
+  pub at_start : IsAt walk 0
+  pub ends_are : ends_from walk 0 ≡ ends actions decisions [] (replicate (length actions) 0)
+
+-- walks over the same decisions
+pub record IsSameGame (old new : Walk) : Type 0 where
+  pub decisions : new.decisions ≡ old.decisions
+  pub actions : new.actions ≡ old.actions
+
+-- a walk before decision n comes to decision m, with the same ends before it
+pub record ComesTo (old : Walk) (n : ℕ) (new : Walk) (m : ℕ) : Type 0 where
+  pub same : IsSameGame old new
+  pub comes_at : IsAt new m
+  pub ends : ends_from new m ≡ ends_from old n

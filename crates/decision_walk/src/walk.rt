@@ -1,8 +1,10 @@
 // The walk.
-ghost use Rattle.std.specs.Prelude.{◌≡◌, ◌<◌, ◌+◌, ◌^◌, List, ℕ, length, map, min, IfOk};
+ghost use Rattle.std.specs.Prelude.{◌≡◌, ◌<◌, ◌+◌, ◌^◌, List, [], ℕ, length, map, min, slice_get, IfOk, MatchOption};
+ghost use Rattle.decision_walk.specs.declared.decision.Decision.{Decision};
+ghost use Rattle.decision_walk.specs.Ends.{is_led_to, IsAt, IsStart, IsSameGame, ComesTo, later_ends, ends_from};
 ghost use Rattle.decision_walk.specs.Walks.{AreLinked, AreWalks};
 
-use crate::decision::{Decision, Step};
+use crate::decision::Decision;
 use memory::Memory;
 use std::alloc::Global;
 
@@ -15,13 +17,16 @@ struct Walk<'a> {
     choices: Vec<u32>,
     // Whether each decision so far is reached.
     reached: Vec<bool>,
-    // The decisions that gave their set its action, the last one at the end.
+    // The decisions that gave their set its action, in order.
     fixed: Vec<usize>,
 }
 
 impl<'a> Walk<'a> {
     // A walk before its first decision.
-    fn new(alloc: Global, decisions: &'a [Decision], actions: &'a [u32]) -> Result<Walk<'a>, Memory> {
+    fn new(alloc: Global, decisions: &'a [Decision], actions: &'a [u32]) -> Result<Walk<'a>, Memory>
+        requires linked { AreLinked decisions.now actions.now }
+        ensures { IfOk result (λ walk. IsStart decisions.now actions.now walk) }
+    {
         Ok(Walk {
             decisions,
             actions,
@@ -31,9 +36,13 @@ impl<'a> Walk<'a> {
         })
     }
 
-    // Whether the walk comes by this step to the decision after it.
-    fn is_led_to(&self, before: Option<Step>) -> bool {
-        match before {
+    // Whether a decision is reached, where the walk is before it.
+    fn is_reached(&self, number: usize) -> bool
+        requires at { IsAt self.now number }
+        requires within { number < length self.now.decisions.now }
+        ensures { (d : Decision) → slice_get self.now.decisions.now number ≡ Some d → result ≡ is_led_to self.now.reached.items self.now.choices.items d.before }
+    {
+        match self.decisions[number].before {
             None => true,
             Some(step) => {
                 let choice = self.choices[step.place as usize];
@@ -43,10 +52,13 @@ impl<'a> Walk<'a> {
     }
 
     // Goes over one decision, with the first action where its set has none yet.
-    fn visit(&mut self, number: usize) -> Result<(), Memory> {
-        let decision = self.decisions[number];
-        let place = decision.place as usize;
-        let is_reached = self.is_led_to(decision.before);
+    fn visit(&mut self, number: usize) -> Result<(), Memory>
+        requires at { IsAt self.old number }
+        requires within { number < length self.old.decisions.now }
+        ensures { IfOk result (λ _. ComesTo self.old number self.new (number + 1)) }
+    {
+        let place = self.decisions[number].place as usize;
+        let is_reached = self.is_reached(number);
         self.reached[number] = is_reached;
         if is_reached && self.choices[place] == 0 {
             self.choices[place] = 1;
@@ -56,7 +68,10 @@ impl<'a> Walk<'a> {
     }
 
     // Goes on to the end over the decisions from a number on.
-    fn forward(&mut self, from: usize) -> Result<(), Memory> {
+    fn forward(&mut self, from: usize) -> Result<(), Memory>
+        requires { IsAt self.old from }
+        ensures { IfOk result (λ _. ComesTo self.old from self.new (length self.old.decisions.now)) }
+    {
         for number in from..self.decisions.len() {
             self.visit(number)?;
         }
@@ -64,7 +79,11 @@ impl<'a> Walk<'a> {
     }
 
     // Goes back to the last set that has a further action, and takes that. Answers the decision to go on with.
-    fn back(&mut self) -> Option<usize> {
+    fn back(&mut self) -> Option<usize>
+        requires { IsAt self.old (length self.old.decisions.now) }
+        ensures same { IsSameGame self.old self.new }
+        ensures ends { MatchOption result (later_ends self.old ≡ []) (λ next. IsAt self.new next × (ends_from self.new next ≡ later_ends self.old)) }
+    {
         while let Some(last) = self.fixed.last() {
             let number = *last;
             let place = self.decisions[number].place as usize;
