@@ -28,7 +28,7 @@ branches-first : (f : ℕ → List (List ℕ)) (a n m : ℕ) → n ≡ suc m →
 branches-first f a n m e = ap (branches f a) e
 
 -- ---- the ends to come after the present one
-later-nil : (decisions : List Decision) (actions : List ℕ) (flags : List Bool) (choices : List ℕ) → later decisions actions flags [] choices ≡ []
+pub later-nil : (decisions : List Decision) (actions : List ℕ) (flags : List Bool) (choices : List ℕ) → later decisions actions flags [] choices ≡ []
 unfolding later
 later-nil decisions actions flags choices = refl
 

@@ -1,9 +1,9 @@
 -- The steps of the walk, of its state.
-use Rattle.std.proofs.Common.{ℕ, zero, suc, ◌+◌, ◌-◌, ◌<◌, ◌≤◌, ◌≡◌, Bool, true, false, Some, None, List, [], ◌∷◌, ◌++◌, length, map, get_or, set, take, drop, reverse, refl, sym, ap, ap₂, ◌∙◌, subst, subst₂, arith}
+use Rattle.std.proofs.Common.{ℕ, zero, suc, ◌+◌, ◌-◌, ◌<◌, ◌≤◌, ◌≡◌, Bool, true, false, Some, None, List, [], ◌∷◌, ◌++◌, length, map, get_or, set, take, drop, reverse, refl, sym, ap, ap₂, ◌∙◌, subst, subst₂, arith, replicate}
 use Rattle.std.specs.Prelude.{slice_get}
 use Rattle.std.proofs.Math.ListN as lists
 use Rattle.std.proofs.Math.Seq.{drop-length}
-use Rattle.std.proofs.lemmas.List.{reverse-append}
+use Rattle.std.proofs.lemmas.List.{reverse-append, append-nil, length-replicate}
 use Rattle.std.proofs.lemmas.Option.{slice_get_within}
 use Rattle.decision_walk.specs.declared.decision.Decision.{Decision}
 use Rattle.decision_walk.specs.declared.walk.Walk.{Walk}
@@ -11,7 +11,7 @@ use Rattle.decision_walk.specs.Walks.{AreLinked}
 use Rattle.decision_walk.specs.Ends.{is_led_to, ends, later, FallBelow, IsAt, IsStart, IsSameGame, ComesTo, later_ends, ends_from}
 use Rattle.decision_walk.proofs.Flags.{place-within}
 use Rattle.decision_walk.proofs.EndLists.{ends-nil}
-use Rattle.decision_walk.proofs.Steps.{pass-forward, branch-forward, later-further, later-last, place_of-at}
+use Rattle.decision_walk.proofs.Steps.{pass-forward, branch-forward, later-further, later-last, place_of-at, later-nil}
 
 -- numbers that fall below n fall below more
 FallBelow-more : (n m : ℕ) (fixed : List ℕ) → FallBelow n fixed → n ≤ m → FallBelow m fixed
@@ -39,6 +39,10 @@ IsAt-parts old new n m a s choices reached within fall =
       within = subst (λ v. m ≤ length v) (sym decisions) within;
       fixed = fall;
     }
+
+-- a decision's place has a choice
+pub choice-within : (walk : Walk) (n j : ℕ) (d : Decision) → IsAt walk n → slice_get walk.decisions.now j ≡ Some d → d.place < length walk.choices.items
+choice-within walk n j d a at = omega (arith, place-within walk.decisions.now walk.actions.now j d a.linked at, a.choices)
 
 -- the ends to come, by the parts of the state
 ends_of : List Decision → List ℕ → List Bool → List ℕ → List ℕ → ℕ → List (List ℕ)
@@ -120,3 +124,23 @@ walk-unfixes old new n j front d a last at most s reached choices fixed =
     (IsAt-parts old new n n a s (ap length choices ∙ lists.length-set old.choices.items d.place 0) (ap length reached) a.within
         (FallBelow-more j n (reverse new.fixed.items) (subst (λ v. FallBelow j (reverse v)) (sym fixed) fall.1) (omega (arith, fall.0))),
      cc)
+
+-- a walk before its first decision, by its parts
+pub walk-starts : (decisions : List Decision) (actions : List ℕ) (walk : Walk) → AreLinked decisions actions → walk.decisions.now ≡ decisions → walk.actions.now ≡ actions → walk.choices.items ≡ replicate (length actions) 0 → length walk.reached.items ≡ length decisions → walk.fixed.items ≡ []
+    → IsStart decisions actions walk
+walk-starts decisions actions walk w d a choices reached fixed =
+    let linked : AreLinked walk.decisions.now walk.actions.now = subst₂ AreLinked (sym d) (sym a) w in
+    let none : later_ends walk ≡ [] = ap (λ v. later walk.decisions.now walk.actions.now walk.reached.items (reverse v) walk.choices.items) fixed ∙ later-nil walk.decisions.now walk.actions.now walk.reached.items walk.choices.items in
+    record {
+      decisions_are = d;
+      actions_are = a;
+      at_start = record {
+        linked = linked;
+        choices = ap length choices ∙ length-replicate (length actions) 0 ∙ ap length (sym a);
+        reached = reached ∙ ap length (sym d);
+        within = omega arith;
+        fixed = subst (λ v. FallBelow 0 (reverse v)) (sym fixed) tt;
+      };
+      ends_are = ap (λ v. ends walk.actions.now walk.decisions.now [] walk.choices.items ++ v) none ∙ append-nil (ends walk.actions.now walk.decisions.now [] walk.choices.items)
+          ∙ ap₂ (λ v w. ends v w [] walk.choices.items) a d ∙ ap (ends actions decisions []) choices;
+    }
