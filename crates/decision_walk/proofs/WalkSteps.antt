@@ -3,8 +3,9 @@ use Rattle.std.proofs.Common.{ℕ, zero, suc, ◌+◌, ◌-◌, ◌<◌, ◌≤�
 use Rattle.std.specs.Prelude.{slice_get}
 use Rattle.std.proofs.Math.ListN as lists
 use Rattle.std.proofs.Math.Seq.{drop-length}
-use Rattle.std.proofs.lemmas.List.{reverse-append, append-nil, length-replicate}
-use Rattle.std.proofs.lemmas.Option.{slice_get_within}
+use Rattle.std.proofs.lemmas.List.{reverse-append, append-nil, length-replicate, take_all}
+use Rattle.std.proofs.lemmas.Grind.{take_at_read}
+use Rattle.std.proofs.lemmas.Option.{slice_get_within, slice_get-get_or, get_or_from_slice_get}
 use Rattle.decision_walk.specs.declared.decision.Decision.{Decision}
 use Rattle.decision_walk.specs.declared.walk.Walk.{Walk}
 use Rattle.decision_walk.specs.Walks.{AreLinked}
@@ -93,16 +94,39 @@ ends_from-end walk =
     ∙ ap (λ v. v ++ later_ends walk) (ends-nil walk.actions.now (take (length walk.decisions.now) walk.reached.items) walk.choices.items)
 
 -- ---- a step back
+-- a list before its last number, and that number
+last-split : (xs : List ℕ) (j : ℕ) → slice_get xs (length xs - 1) ≡ Some j → xs ≡ take (length xs - 1) xs ++ j ∷ []
+last-split xs j e =
+    let within : length xs - 1 < length xs = slice_get_within xs (length xs - 1) j e in
+    sym (take_all (length xs - 1 + 1) xs (omega arith)) ∙ (take_at_read xs (length xs - 1) j within).1 ∙ ap (λ v. take (length xs - 1) xs ++ v ∷ []) (get_or_from_slice_get xs (length xs - 1) j j e)
+
+-- a list with no last number
+pub last-none : (xs : List ℕ) → slice_get xs (length xs - 1) ≡ None → xs ≡ []
+last-none [] e = refl
+last-none (x ∷ xs) e = let within : length (x ∷ xs) - 1 < length (x ∷ xs) = omega arith in let some = slice_get-get_or (x ∷ xs) (length (x ∷ xs) - 1) x within in absurd (cc)
+
+-- with no set to take back no end is to come
+pub later_ends-none : (walk : Walk) → walk.fixed.items ≡ [] → later_ends walk ≡ []
+later_ends-none walk e = ap (λ v. later walk.decisions.now walk.actions.now walk.reached.items (reverse v) walk.choices.items) e ∙ later-nil walk.decisions.now walk.actions.now walk.reached.items walk.choices.items
+
+-- the last decision that gave its set an action
+pub last-within : (walk : Walk) (n j : ℕ) → IsAt walk n → slice_get walk.fixed.items (length walk.fixed.items - 1) ≡ Some j → j < length walk.decisions.now
+last-within walk n j a last =
+    let front = take (length walk.fixed.items - 1) walk.fixed.items in
+    let fall : FallBelow n (j ∷ reverse front) = subst (FallBelow n) (ap reverse (last-split walk.fixed.items j last) ∙ reverse-append front (j ∷ [])) a.fixed in
+    omega (arith, fall.0, a.within)
+
 -- the last set takes its next action
-pub walk-further : (old new : Walk) (n j : ℕ) (front : List ℕ) (d : Decision) → IsAt old n → old.fixed.items ≡ front ++ j ∷ [] → slice_get old.decisions.now j ≡ Some d → get_or old.choices.items d.place 0 < get_or old.actions.now d.place 0
+pub walk-further : (old new : Walk) (n j : ℕ) (d : Decision) → IsAt old n → slice_get old.fixed.items (length old.fixed.items - 1) ≡ Some j → slice_get old.decisions.now j ≡ Some d → get_or old.choices.items d.place 0 < get_or old.actions.now d.place 0
     → IsSameGame old new → new.reached.items ≡ old.reached.items → new.choices.items ≡ set old.choices.items d.place (suc (get_or old.choices.items d.place 0)) → new.fixed.items ≡ old.fixed.items
     → IsAt new (suc j) × (ends_from new (suc j) ≡ later_ends old)
 unfolding ends_of
-walk-further old new n j front d a last at more s reached choices fixed =
+walk-further old new n j d a last at more s reached choices fixed =
     let within : j < length old.decisions.now = slice_get_within old.decisions.now j d at in
     let place : d.place < length old.actions.now = place-within old.decisions.now old.actions.now j d a.linked at in
     let next = suc (get_or old.choices.items d.place 0) in
-    let backward : reverse old.fixed.items ≡ j ∷ reverse front = ap reverse last ∙ reverse-append front (j ∷ []) in
+    let front = take (length old.fixed.items - 1) old.fixed.items in
+    let backward : reverse old.fixed.items ≡ j ∷ reverse front = ap reverse (last-split old.fixed.items j last) ∙ reverse-append front (j ∷ []) in
     let fall : FallBelow n (j ∷ reverse front) = subst (FallBelow n) backward a.fixed in
     (IsAt-parts old new n (suc j) a s (ap length choices ∙ lists.length-set old.choices.items d.place next) (ap length reached) (omega arith)
         (subst (FallBelow (suc j)) (sym (ap reverse fixed ∙ backward)) (omega arith, fall.1)),
@@ -110,14 +134,23 @@ walk-further old new n j front d a last at more s reached choices fixed =
      ∙ later-further old.decisions.now old.actions.now old.reached.items j (reverse front) old.choices.items d.place (place_of-at old.decisions.now j d at) (omega (arith, a.choices)) more
      ∙ ap (λ v. later old.decisions.now old.actions.now old.reached.items v old.choices.items) (sym backward))
 
+-- the same at the number after it, and with ends that an earlier state had
+pub walk-further_next : (old new : Walk) (n j m : ℕ) (d : Decision) (before : List (List ℕ)) → IsAt old n → slice_get old.fixed.items (length old.fixed.items - 1) ≡ Some j → slice_get old.decisions.now j ≡ Some d → get_or old.choices.items d.place 0 < get_or old.actions.now d.place 0
+    → IsSameGame old new → new.reached.items ≡ old.reached.items → new.choices.items ≡ set old.choices.items d.place (suc (get_or old.choices.items d.place 0)) → new.fixed.items ≡ old.fixed.items → m ≡ suc j → later_ends old ≡ before
+    → IsAt new m × (ends_from new m ≡ before)
+walk-further_next old new n j m d before a last at more s reached choices fixed next same =
+    let step = walk-further old new n j d a last at more s reached choices fixed in
+    subst (λ v. IsAt new v × (ends_from new v ≡ before)) (sym next) (step.0, step.1 ∙ same)
+
 -- the last set has no further action
-pub walk-unfixes : (old new : Walk) (n j : ℕ) (front : List ℕ) (d : Decision) → IsAt old n → old.fixed.items ≡ front ++ j ∷ [] → slice_get old.decisions.now j ≡ Some d → get_or old.actions.now d.place 0 ≤ get_or old.choices.items d.place 0
-    → IsSameGame old new → new.reached.items ≡ old.reached.items → new.choices.items ≡ set old.choices.items d.place 0 → new.fixed.items ≡ front
+pub walk-unfixes : (old new : Walk) (n j : ℕ) (d : Decision) → IsAt old n → slice_get old.fixed.items (length old.fixed.items - 1) ≡ Some j → slice_get old.decisions.now j ≡ Some d → get_or old.actions.now d.place 0 ≤ get_or old.choices.items d.place 0
+    → IsSameGame old new → new.reached.items ≡ old.reached.items → new.choices.items ≡ set old.choices.items d.place 0 → new.fixed.items ≡ take (length old.fixed.items - 1) old.fixed.items
     → IsAt new n × (later_ends new ≡ later_ends old)
-walk-unfixes old new n j front d a last at most s reached choices fixed =
+walk-unfixes old new n j d a last at most s reached choices fixed =
     let decisions : new.decisions.now ≡ old.decisions.now = ap (λ b. b.now) s.decisions in
     let actions : new.actions.now ≡ old.actions.now = ap (λ b. b.now) s.actions in
-    let backward : reverse old.fixed.items ≡ j ∷ reverse front = ap reverse last ∙ reverse-append front (j ∷ []) in
+    let front = take (length old.fixed.items - 1) old.fixed.items in
+    let backward : reverse old.fixed.items ≡ j ∷ reverse front = ap reverse (last-split old.fixed.items j last) ∙ reverse-append front (j ∷ []) in
     let fall : FallBelow n (j ∷ reverse front) = subst (FallBelow n) backward a.fixed in
     let step = later-last old.decisions.now old.actions.now old.reached.items j (reverse front) old.choices.items d.place (place_of-at old.decisions.now j d at) most in
     let backward_new : reverse new.fixed.items ≡ reverse front = ap reverse fixed in
@@ -130,7 +163,7 @@ pub walk-starts : (decisions : List Decision) (actions : List ℕ) (walk : Walk)
     → IsStart decisions actions walk
 walk-starts decisions actions walk w d a choices reached fixed =
     let linked : AreLinked walk.decisions.now walk.actions.now = subst₂ AreLinked (sym d) (sym a) w in
-    let none : later_ends walk ≡ [] = ap (λ v. later walk.decisions.now walk.actions.now walk.reached.items (reverse v) walk.choices.items) fixed ∙ later-nil walk.decisions.now walk.actions.now walk.reached.items walk.choices.items in
+    let none = later_ends-none walk fixed in
     record {
       decisions_are = d;
       actions_are = a;
