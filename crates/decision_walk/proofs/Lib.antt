@@ -3,3 +3,4 @@ pub mod EndLists
 pub mod Ascending
 pub mod Steps
 pub mod WalkSteps
+pub mod Turns
