@@ -30,7 +30,7 @@ before_or_after (a ∷ x) (b ∷ y) e ne = elim (three_ways a b) [
   | inr m ↦ elim m [
     | inr g ↦ inr (inl g)
     | inl s ↦ elim (before_or_after x y (omega arith) (λ rest. ne (ap₂ (λ v w. v ∷ w) s rest))) [ inl f ↦ inl (inr (s, f)) | inr f ↦ inr (inr (sym s, f)) ]
-    ]
+  ]
 ]
 
 -- an ascending order of a list and others: what comes before them all may stand in front
@@ -100,7 +100,7 @@ before_from_cmp (a ∷ x) (b ∷ y) e ne h = elim (three_ways a b) [
   | inr m ↦ elim m [
     | inr g ↦ let yes = cmp-less a b x y g in cc
     | inl s ↦ inr (s, before_from_cmp x y (omega arith) (λ rest. ne (ap₂ (λ v w. v ∷ w) s rest)) (sym (cmp-same a b x y s) ∙ h))
-    ]
+  ]
 ]
 
 -- lists ascend where each comes before the next
@@ -117,4 +117,4 @@ AllPairs-permutation xs ys p h = AllPairs-from_IsDistinct bytes_decides ys (IsDi
 pub ascending_from_sort : (n : ℕ) (xs : List (List ℕ)) → All (λ x. length x ≡ n) xs → AllPairs Differ xs → IsSorted (slice_cmp nat_cmp) xs → AreAscending xs
 ascending_from_sort n xs long differ sorted =
     ascending_from_next xs (λ k d l. before_from_cmp (get_or xs k d) (get_or xs (suc k) d) (long k d (omega arith) ∙ sym (long (suc k) d (omega arith))) (differ k (suc k) d (omega arith) (omega arith))
-        (subst (λ i. is_lt (slice_cmp nat_cmp (get_or xs i d) (get_or xs k d)) ≡ false) (add-one k) (sorted k d (omega arith) l)))
+    (subst (λ i. is_lt (slice_cmp nat_cmp (get_or xs i d) (get_or xs k d)) ≡ false) (add-one k) (sorted k d (omega arith) l)))

@@ -33,8 +33,8 @@ AllPairs-append : (R : List ℕ → List ℕ → Type 0) (xs ys : List (List ℕ
 AllPairs-append R [] ys p q c = q
 AllPairs-append R (x ∷ xs) ys p q c =
     AllPairs-cons R x (xs ++ ys)
-        (All-append (R x) xs ys (λ k d l. p 0 (suc k) d (omega arith) (omega arith)) (c 0 x (omega arith)))
-        (AllPairs-append R xs ys (λ i j d l m. p (suc i) (suc j) d (omega arith) (omega arith)) q (λ k d l. c (suc k) d (omega arith)))
+    (All-append (R x) xs ys (λ k d l. p 0 (suc k) d (omega arith) (omega arith)) (c 0 x (omega arith)))
+    (AllPairs-append R xs ys (λ i j d l m. p (suc i) (suc j) d (omega arith) (omega arith)) q (λ k d l. c (suc k) d (omega arith)))
 
 -- two lists differ
 abbrev pub Differ : List ℕ → List ℕ → Type 0
@@ -46,8 +46,8 @@ AllPairs-branches tag each a zero p t = λ i j d l m. absurd (omega arith)
 AllPairs-branches tag each a (suc n) p t =
     let after : All (λ y. a < tag y) (branches each (suc a) n) = All-branches (λ y. a < tag y) each (suc a) n (λ b low high k d l. omega (arith, t b (omega arith) (omega arith) k d l)) in
     AllPairs-append Differ (each a) (branches each (suc a) n) (p a (omega arith) (omega arith))
-        (AllPairs-branches tag each (suc a) n (λ b low high. p b (omega arith) (omega arith)) (λ b low high. t b (omega arith) (omega arith)))
-        (λ k d l i e m same. omega (arith, t a (omega arith) (omega arith) k d l, after i e m, ap tag same))
+    (AllPairs-branches tag each (suc a) n (λ b low high. p b (omega arith) (omega arith)) (λ b low high. t b (omega arith) (omega arith)))
+    (λ k d l i e m same. omega (arith, t a (omega arith) (omega arith) k d l, after i e m, ap tag same))
 
 -- ---- a decision
 -- the walk branches at a decision: it is reached, and its set has no action
@@ -105,7 +105,7 @@ abbrev pub AreRest : List Decision → ℕ → List Decision → Type 0
 AreRest decisions n ds = (k : ℕ) → slice_get ds k ≡ slice_get decisions (n + k)
 
 -- the first of them
-AreRest-first : (decisions : List Decision) (n : ℕ) (d : Decision) (ds : List Decision) → AreRest decisions n (d ∷ ds) → slice_get decisions n ≡ Some d
+pub AreRest-first : (decisions : List Decision) (n : ℕ) (d : Decision) (ds : List Decision) → AreRest decisions n (d ∷ ds) → slice_get decisions n ≡ Some d
 AreRest-first decisions n d ds r = let e : n ≡ n + 0 = omega arith in ap (slice_get decisions) e ∙ sym (r 0)
 
 -- those after it
@@ -128,16 +128,16 @@ ends-sound : (decisions : List Decision) (actions : List ℕ) (ds : List Decisio
     → All (IsWalk decisions actions) (ends actions ds flags choices)
 ends-sound decisions actions [] flags choices n w r o =
     subst (All (IsWalk decisions actions)) (sym (ends-nil actions flags choices))
-        (All-cons (IsWalk decisions actions) choices [] (IsWalk-end decisions actions flags choices n w o (AreRest-none decisions n r)) (All-nil (IsWalk decisions actions)))
+    (All-cons (IsWalk decisions actions) choices [] (IsWalk-end decisions actions flags choices n w o (AreRest-none decisions n r)) (All-nil (IsWalk decisions actions)))
 ends-sound decisions actions (d ∷ ds) flags choices n w r o =
     let at = AreRest-first decisions n d ds r in
     let rest = AreRest-later decisions n d ds r in
     elim (branches_or_passes flags choices d) [
-    | inl b ↦ subst (All (IsWalk decisions actions)) (sym (ends-branch actions d ds flags choices b))
-        (All-branches (IsWalk decisions actions) (ends_with actions d ds flags choices) 1 (get_or actions d.place 0)
-            (λ a low high. ends-sound decisions actions ds (flags ++ true ∷ []) (set choices d.place a) (suc n) w rest (IsOnWay-branch decisions actions flags choices n d a w o at b.0 b.1 (omega arith) (omega arith))))
-    | inr p ↦ subst (All (IsWalk decisions actions)) (sym (ends-pass actions d ds flags choices p))
-        (ends-sound decisions actions ds (flags ++ is_led_to flags choices d.before ∷ []) choices (suc n) w rest (IsOnWay-pass decisions actions flags choices n d w o at p))
+      | inl b ↦ subst (All (IsWalk decisions actions)) (sym (ends-branch actions d ds flags choices b))
+          (All-branches (IsWalk decisions actions) (ends_with actions d ds flags choices) 1 (get_or actions d.place 0)
+          (λ a low high. ends-sound decisions actions ds (flags ++ true ∷ []) (set choices d.place a) (suc n) w rest (IsOnWay-branch decisions actions flags choices n d a w o at b.0 b.1 (omega arith) (omega arith))))
+      | inr p ↦ subst (All (IsWalk decisions actions)) (sym (ends-pass actions d ds flags choices p))
+          (ends-sound decisions actions ds (flags ++ is_led_to flags choices d.before ∷ []) choices (suc n) w rest (IsOnWay-pass decisions actions flags choices n d w o at p))
     ]
 
 -- ---- each choice list is an end
@@ -154,7 +154,7 @@ extended_end decisions actions flags choices other n w all o is x p l = elim (ca
         let flag = (told-reached decisions actions flags other n (suc reached.0) reached.0 reached.1 w (told-extends decisions actions flags choices other n w o x) below (omega arith) reached.2).1 reached.4 in
         let positive : 0 < get_or choices p 0 = subst (λ v. 0 < get_or choices v 0) reached.3 (o.have_actions reached.0 reached.1 below reached.2 flag) in
         absurd (omega arith)
-    ]
+  ]
 ]
 
 -- choices with an action that go on from others go on from those with this action
@@ -184,14 +184,14 @@ ends-complete decisions actions (d ∷ ds) flags choices other n w r o is x =
     let within : d.place < length actions = place-within decisions actions n d w at in
     let most : get_or other d.place 0 ≤ get_or actions d.place 0 = is.are_actions d.place within in
     elim (branches_or_passes flags choices d) [
-    | inl b ↦
-        let positive : 0 < get_or other d.place 0 = branch-action decisions actions flags choices other n d w o at b.0 is x in
-        subst (λ v. Contains v other) (sym (ends-branch actions d ds flags choices b))
-            (Contains-branches (ends_with actions d ds flags choices) 1 (get_or actions d.place 0) (get_or other d.place 0) other (omega arith) (omega arith)
-                (ends-complete decisions actions ds (flags ++ true ∷ []) (set choices d.place (get_or other d.place 0)) other (suc n) w rest (IsOnWay-branch decisions actions flags choices n d (get_or other d.place 0) w o at b.0 b.1 positive most) is
-                    (Extends-set choices other d.place x (omega (arith, o.one_for_each)))))
-    | inr p ↦ subst (λ v. Contains v other) (sym (ends-pass actions d ds flags choices p))
-        (ends-complete decisions actions ds (flags ++ is_led_to flags choices d.before ∷ []) choices other (suc n) w rest (IsOnWay-pass decisions actions flags choices n d w o at p) is x)
+      | inl b ↦
+          let positive : 0 < get_or other d.place 0 = branch-action decisions actions flags choices other n d w o at b.0 is x in
+          subst (λ v. Contains v other) (sym (ends-branch actions d ds flags choices b))
+          (Contains-branches (ends_with actions d ds flags choices) 1 (get_or actions d.place 0) (get_or other d.place 0) other (omega arith) (omega arith)
+          (ends-complete decisions actions ds (flags ++ true ∷ []) (set choices d.place (get_or other d.place 0)) other (suc n) w rest (IsOnWay-branch decisions actions flags choices n d (get_or other d.place 0) w o at b.0 b.1 positive most) is
+          (Extends-set choices other d.place x (omega (arith, o.one_for_each)))))
+      | inr p ↦ subst (λ v. Contains v other) (sym (ends-pass actions d ds flags choices p))
+          (ends-complete decisions actions ds (flags ++ is_led_to flags choices d.before ∷ []) choices other (suc n) w rest (IsOnWay-pass decisions actions flags choices n d w o at p) is x)
     ]
 
 -- ---- no end stands twice
@@ -208,7 +208,7 @@ ends-extend actions [] flags choices = subst (All (Extends choices)) (sym (ends-
 ends-extend actions (d ∷ ds) flags choices = elim (branches_or_passes flags choices d) [
   | inl b ↦ subst (All (Extends choices)) (sym (ends-branch actions d ds flags choices b))
       (All-branches (Extends choices) (ends_with actions d ds flags choices) 1 (get_or actions d.place 0)
-          (λ a low high k e l. Extends-unset choices (get_or (ends_with actions d ds flags choices a) k e) d.place a b.1 (ends-extend actions ds (flags ++ true ∷ []) (set choices d.place a) k e l)))
+      (λ a low high k e l. Extends-unset choices (get_or (ends_with actions d ds flags choices a) k e) d.place a b.1 (ends-extend actions ds (flags ++ true ∷ []) (set choices d.place a) k e l)))
   | inr p ↦ subst (All (Extends choices)) (sym (ends-pass actions d ds flags choices p)) (ends-extend actions ds (flags ++ is_led_to flags choices d.before ∷ []) choices)
 ]
 
@@ -225,11 +225,11 @@ ends-differ actions (d ∷ ds) flags choices n long within =
     let here : d.place < n = within 0 d (omega arith) in
     let rest : All (λ d. d.place < n) ds = λ k e l. within (suc k) e (omega arith) in
     elim (branches_or_passes flags choices d) [
-    | inl b ↦ subst (AllPairs Differ) (sym (ends-branch actions d ds flags choices b))
-        (AllPairs-branches (λ x. get_or x d.place 0) (ends_with actions d ds flags choices) 1 (get_or actions d.place 0)
-            (λ a low high. ends-differ actions ds (flags ++ true ∷ []) (set choices d.place a) n (lists.length-set choices d.place a ∙ long) rest)
-            (λ a low high. ends_with-action actions d ds flags choices a (omega arith) (omega arith)))
-    | inr p ↦ subst (AllPairs Differ) (sym (ends-pass actions d ds flags choices p)) (ends-differ actions ds (flags ++ is_led_to flags choices d.before ∷ []) choices n long rest)
+      | inl b ↦ subst (AllPairs Differ) (sym (ends-branch actions d ds flags choices b))
+          (AllPairs-branches (λ x. get_or x d.place 0) (ends_with actions d ds flags choices) 1 (get_or actions d.place 0)
+          (λ a low high. ends-differ actions ds (flags ++ true ∷ []) (set choices d.place a) n (lists.length-set choices d.place a ∙ long) rest)
+          (λ a low high. ends_with-action actions d ds flags choices a (omega arith) (omega arith)))
+      | inr p ↦ subst (AllPairs Differ) (sym (ends-pass actions d ds flags choices p)) (ends-differ actions ds (flags ++ is_led_to flags choices d.before ∷ []) choices n long rest)
     ]
 
 -- ---- the whole walk

@@ -17,7 +17,7 @@ abbrev pub AreTold : List Decision → List Bool → List ℕ → ℕ → Type 0
 AreTold decisions flags choices n = (k : ℕ) (d : Decision) → k < n → slice_get decisions k ≡ Some d → get_or flags k false ≡ is_led_to flags choices d.before
 
 -- both parts of a test that passes
-both_pass : (a b : Bool) → (a && b) ≡ true → (a ≡ true) × (b ≡ true)
+pub both_pass : (a b : Bool) → (a && b) ≡ true → (a ≡ true) × (b ≡ true)
 both_pass true b h = (refl, h)
 both_pass false b h = cc
 
@@ -30,9 +30,10 @@ led-exactly : (R : ℕ → Type 0) (decisions : List Decision) (flags : List Boo
     → ((k : ℕ) (d : Decision) → k < j → slice_get decisions k ≡ Some d → (get_or flags k false ≡ true) ↔ R k) → (is_led_to flags choices before ≡ true) ↔ IsLedTo R choices before
 led-exactly R decisions flags choices j None c same = (λ h. tt, λ h. refl)
 led-exactly R decisions flags choices j (Some step) c same =
-    let flag = same step.decision c.1 c.0 c.2 in
-    (λ h. let both = both_pass (get_or flags step.decision false) (get_or choices step.place 0 == suc step.action) h in (flag.0 both.0, eqb-true (get_or choices step.place 0) (suc step.action) both.1),
-     λ h. pass_both (get_or flags step.decision false) (get_or choices step.place 0 == suc step.action) (flag.1 h.0) (eq-eqb (get_or choices step.place 0) (suc step.action) h.1))
+    let flag = same step.decision c.1 c.0 c.2 in (
+      λ h. let both = both_pass (get_or flags step.decision false) (get_or choices step.place 0 == suc step.action) h in (flag.0 both.0, eqb-true (get_or choices step.place 0) (suc step.action) both.1),
+      λ h. pass_both (get_or flags step.decision false) (get_or choices step.place 0 == suc step.action) (flag.1 h.0) (eq-eqb (get_or choices step.place 0) (suc step.action) h.1),
+    )
 
 -- flags that tell are set exactly where a decision is reached
 pub told-reached : (decisions : List Decision) (actions : List ℕ) (flags : List Bool) (choices : List ℕ) (n m k : ℕ) (d : Decision) → AreLinked decisions actions → AreTold decisions flags choices n → k < n → k < m → slice_get decisions k ≡ Some d
@@ -40,9 +41,10 @@ pub told-reached : (decisions : List Decision) (actions : List ℕ) (flags : Lis
 told-reached decisions actions flags choices n zero k d w t l m e = absurd (omega arith)
 told-reached decisions actions flags choices n (suc m) k d w t l b e =
     let led = led-exactly (IsReachedWithin decisions choices m) decisions flags choices k d.before (w.come_from k d e) (λ i earlier below at. told-reached decisions actions flags choices n m i earlier w t (omega arith) (omega arith) at) in
-    let flag : get_or flags k false ≡ is_led_to flags choices d.before = t k d l e in
-    (λ h. (d, e, led.0 (sym flag ∙ h)),
-     λ h. let same : h.0 ≡ d = cc (h.1, e) in flag ∙ led.1 (subst (λ (v : Decision). IsLedTo (IsReachedWithin decisions choices m) choices v.before) same h.2))
+    let flag : get_or flags k false ≡ is_led_to flags choices d.before = t k d l e in (
+      λ h. (d, e, led.0 (sym flag ∙ h)),
+      λ h. let same : h.0 ≡ d = cc (h.1, e) in flag ∙ led.1 (subst (λ (v : Decision). IsLedTo (IsReachedWithin decisions choices m) choices v.before) same h.2),
+    )
 
 -- the next decision is reached where flags that tell lead to it
 pub led-reached : (decisions : List Decision) (actions : List ℕ) (flags : List Bool) (choices : List ℕ) (n : ℕ) (d : Decision) → AreLinked decisions actions → AreTold decisions flags choices n → slice_get decisions n ≡ Some d
@@ -70,7 +72,7 @@ pub led-extends : (decisions : List Decision) (flags : List Bool) (choices other
 led-extends decisions flags choices other n j None c l h x = refl
 led-extends decisions flags choices other n j (Some step) c l h x =
     same_where_passed (get_or flags step.decision false) (get_or other step.place 0) (get_or choices step.place 0) (suc step.action)
-        (λ e. x step.place (subst (λ p. 0 < get_or choices p 0) (sym c.3) (h step.decision c.1 (omega (arith, c.0)) c.2 e)))
+    (λ e. x step.place (subst (λ p. 0 < get_or choices p 0) (sym c.3) (h step.decision c.1 (omega (arith, c.0)) c.2 e)))
 
 -- one more flag says nothing of a step from an earlier decision
 led-more : (decisions : List Decision) (flags : List Bool) (r : Bool) (choices : List ℕ) (j : ℕ) (before : Option Step) → ComesFrom decisions j before → j ≤ length flags → is_led_to (flags ++ r ∷ []) choices before ≡ is_led_to flags choices before
@@ -122,7 +124,7 @@ last_flag : (flags : List Bool) (r : Bool) (k : ℕ) → length flags ≡ k → 
 last_flag flags r k e = subst (λ v. get_or (flags ++ r ∷ []) v false ≡ r) e (get_or-append_seam flags r [] false)
 
 -- a number below n + 1
-below_or_last : (k n : ℕ) → k < suc n → (k < n) ⊎ (k ≡ n)
+pub below_or_last : (k n : ℕ) → k < suc n → (k < n) ⊎ (k ≡ n)
 below_or_last k n l = elim (cases_lt k n) [ inl b ↦ inl b | inr b ↦ inr (omega arith) ]
 
 -- the decision at a place is one
@@ -138,8 +140,8 @@ told-step decisions actions flags choices other n d r w o at led x k e l also =
     let from = w.come_from k e also in
     let same : is_led_to (flags ++ r ∷ []) other e.before ≡ is_led_to flags choices e.before = led-more decisions flags r other k e.before from (omega arith) ∙ led-extends decisions flags choices other n k e.before from here o.have_actions x in
     elim (below_or_last k n l) [
-    | inl b ↦ lists.get_or-append flags (r ∷ []) false k (omega arith) ∙ o.told k e b also ∙ sym same
-    | inr b ↦ last_flag flags r k (omega arith) ∙ led ∙ ap (λ (v : Decision). is_led_to flags choices v.before) (one_decision decisions k n d e b at also) ∙ sym same
+      | inl b ↦ lists.get_or-append flags (r ∷ []) false k (omega arith) ∙ o.told k e b also ∙ sym same
+      | inr b ↦ last_flag flags r k (omega arith) ∙ led ∙ ap (λ (v : Decision). is_led_to flags choices v.before) (one_decision decisions k n d e b at also) ∙ sym same
     ]
 
 -- and flagged decisions have actions
@@ -148,11 +150,11 @@ have_actions-step : (decisions : List Decision) (actions : List ℕ) (flags : Li
 have_actions-step decisions actions flags choices other n d r o at g k e l also h =
     let long : length flags ≡ n = o.flag_for_each in
     elim (below_or_last k n l) [
-    | inl b ↦
-        let flag : get_or flags k false ≡ true = sym (lists.get_or-append flags (r ∷ []) false k (omega arith)) ∙ h in
-        let positive : 0 < get_or choices e.place 0 = o.have_actions k e b also flag in
-        omega (arith, g.extends e.place positive)
-    | inr b ↦ subst (λ (v : Decision). 0 < get_or other v.place 0) (one_decision decisions k n d e b at also) (g.has_action (sym (last_flag flags r k (omega arith)) ∙ h))
+      | inl b ↦
+          let flag : get_or flags k false ≡ true = sym (lists.get_or-append flags (r ∷ []) false k (omega arith)) ∙ h in
+          let positive : 0 < get_or choices e.place 0 = o.have_actions k e b also flag in
+          omega (arith, g.extends e.place positive)
+      | inr b ↦ subst (λ (v : Decision). 0 < get_or other v.place 0) (one_decision decisions k n d e b at also) (g.has_action (sym (last_flag flags r k (omega arith)) ∙ h))
     ]
 
 -- and an action stands only where a decision is flagged
@@ -161,8 +163,8 @@ fixed-step : (decisions : List Decision) (actions : List ℕ) (flags : List Bool
 fixed-step decisions actions flags choices other n d r o at g p h =
     let long : length flags ≡ n = o.flag_for_each in
     elim (g.no_more p h) [
-    | inl b ↦ let f = o.fixed p b in (f.0, f.1, omega (arith, f.2), f.3, f.4, lists.get_or-append flags (r ∷ []) false f.0 (omega (arith, f.2)) ∙ f.5)
-    | inr b ↦ (n, d, omega arith, at, b.0, last_flag flags r n long ∙ b.1)
+      | inl b ↦ let f = o.fixed p b in (f.0, f.1, omega (arith, f.2), f.3, f.4, lists.get_or-append flags (r ∷ []) false f.0 (omega (arith, f.2)) ∙ f.5)
+      | inr b ↦ (n, d, omega arith, at, b.0, last_flag flags r n long ∙ b.1)
     ]
 
 -- the walk after one more decision
@@ -206,7 +208,7 @@ pub IsOnWay-pass : (decisions : List Decision) (actions : List ℕ) (flags : Lis
     → (is_led_to flags choices d.before ≡ true → 0 < get_or choices d.place 0) → IsOnWay decisions actions (flags ++ is_led_to flags choices d.before ∷ []) choices (suc n)
 IsOnWay-pass decisions actions flags choices n d w o at passed =
     IsOnWay-step decisions actions flags choices choices n d (is_led_to flags choices d.before) w o at refl
-        (record { long = refl; extends = λ p h. refl; are_actions = o.are_actions; has_action = passed; no_more = λ p h. inl h })
+    (record { long = refl; extends = λ p h. refl; are_actions = o.are_actions; has_action = passed; no_more = λ p h. inl h })
 
 -- ---- the end of the walk
 -- all decisions are among the first n
@@ -219,9 +221,10 @@ IsWalk-end decisions actions flags choices n w o all =
     record {
       one_for_each = o.one_for_each;
       are_actions = λ p l. o.are_actions p;
-      fixed_where_reached = λ p l.
-          (λ h. let f = o.fixed p h in (f.0, f.1, f.3, f.4, (told-reached decisions actions flags choices n (suc f.0) f.0 f.1 w o.told f.2 (omega arith) f.3).0 f.5),
-           λ h. subst (λ v. 0 < get_or choices v 0) h.3 (o.have_actions h.0 h.1 (all h.0 h.1 h.2) h.2 ((told-reached decisions actions flags choices n (suc h.0) h.0 h.1 w o.told (all h.0 h.1 h.2) (omega arith) h.2).1 h.4)));
+      fixed_where_reached = λ p l. (
+        λ h. let f = o.fixed p h in (f.0, f.1, f.3, f.4, (told-reached decisions actions flags choices n (suc f.0) f.0 f.1 w o.told f.2 (omega arith) f.3).0 f.5),
+        λ h. subst (λ v. 0 < get_or choices v 0) h.3 (o.have_actions h.0 h.1 (all h.0 h.1 h.2) h.2 ((told-reached decisions actions flags choices n (suc h.0) h.0 h.1 w o.told (all h.0 h.1 h.2) (omega arith) h.2).1 h.4)),
+      );
     }
 
 -- flags of choices tell those that a walk with these choices reaches

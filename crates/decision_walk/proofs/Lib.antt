@@ -1,6 +1,7 @@
-pub mod Flags
-pub mod EndLists
 pub mod Ascending
+pub mod EndLists
+pub mod Flags
+pub mod Linked
 pub mod Steps
-pub mod WalkSteps
 pub mod Turns
+pub mod WalkSteps

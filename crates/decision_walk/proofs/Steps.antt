@@ -48,7 +48,7 @@ later-flag decisions actions flags r n j (i ∷ fixed) choices f l =
     let each : (a : ℕ) → ends_at decisions actions (set flags j r) choices i a ≡ ends_at decisions actions flags choices i a = λ a. ap (λ v. ends actions (drop (suc i) decisions) v (set choices p a)) (take-set-le (suc i) flags j r earlier) in
     later-cons decisions actions (set flags j r) i fixed choices
     ∙ ap₂ (λ v w. v ++ w) (branches-same (ends_at decisions actions (set flags j r) choices i) (ends_at decisions actions flags choices i) (suc (get_or choices p 0)) (get_or actions p 0 - get_or choices p 0) each)
-        (later-flag decisions actions flags r i j fixed (set choices p 0) f.1 (omega arith))
+    (later-flag decisions actions flags r i j fixed (set choices p 0) f.1 (omega arith))
     ∙ sym (later-cons decisions actions flags i fixed choices)
 
 -- those after action a of the last set
@@ -57,7 +57,7 @@ later-set : (decisions : List Decision) (actions : List ℕ) (flags : List Bool)
 later-set decisions actions flags j fixed choices p a place l =
     let here : get_or (set choices p a) (place_of decisions j) 0 ≡ a = ap (λ v. get_or (set choices p a) v 0) place ∙ get_or-set_same choices p a 0 l in
     let each : (b : ℕ) → ends_at decisions actions flags (set choices p a) j b ≡ ends_at decisions actions flags choices j b =
-        λ b. ap (λ v. ends actions (drop (suc j) decisions) (take (suc j) flags) (set (set choices p a) v b)) place ∙ ap (ends actions (drop (suc j) decisions) (take (suc j) flags)) (set-set choices p a b ∙ ap (λ v. set choices v b) (sym place)) in
+    λ b. ap (λ v. ends actions (drop (suc j) decisions) (take (suc j) flags) (set (set choices p a) v b)) place ∙ ap (ends actions (drop (suc j) decisions) (take (suc j) flags)) (set-set choices p a b ∙ ap (λ v. set choices v b) (sym place)) in
     later-cons decisions actions flags j fixed (set choices p a)
     ∙ ap₂ (λ v w. branches (ends_at decisions actions flags (set choices p a) j) (suc v) (w - v) ++ later decisions actions flags fixed (set (set choices p a) (place_of decisions j) 0)) here (ap (λ v. get_or actions v 0) place)
     ∙ ap₂ (λ v w. v ++ later decisions actions flags fixed w) (branches-same (ends_at decisions actions flags (set choices p a) j) (ends_at decisions actions flags choices j) (suc a) (get_or actions p 0 - a) each) (ap (λ v. set (set choices p a) v 0) place ∙ set-set choices p a 0)
@@ -112,10 +112,10 @@ pass-forward decisions actions flags r j d fixed choices from at l fall led pass
     let also : r ≡ is_led_to (take j flags) choices d.before = led ∙ sym (is_led_to-take decisions flags choices j d.before from) in
     let rest = drop (suc j) decisions in
     ap₂ (λ v w. v ++ w)
-        (ap (λ v. ends actions rest v choices) (take-suc-set flags j r l ∙ ap (λ v. take j flags ++ v ∷ []) also)
-        ∙ sym (ends-pass actions d rest (take j flags) choices (λ h. passed (also ∙ h)))
-        ∙ ap (λ v. ends actions v (take j flags) choices) (sym (drop-first decisions j d at)))
-        (later-flag decisions actions flags r j j fixed choices fall (omega arith))
+    (ap (λ v. ends actions rest v choices) (take-suc-set flags j r l ∙ ap (λ v. take j flags ++ v ∷ []) also)
+    ∙ sym (ends-pass actions d rest (take j flags) choices (λ h. passed (also ∙ h)))
+    ∙ ap (λ v. ends actions v (take j flags) choices) (sym (drop-first decisions j d at)))
+    (later-flag decisions actions flags r j j fixed choices fall (omega arith))
 
 -- the walk takes the first action at a decision
 pub branch-forward : (decisions : List Decision) (actions : List ℕ) (flags : List Bool) (j : ℕ) (d : Decision) (fixed choices : List ℕ) → ComesFrom decisions j d.before → slice_get decisions j ≡ Some d → j < length flags → FallBelow j fixed → d.place < length choices
@@ -131,10 +131,10 @@ branch-forward decisions actions flags j d fixed choices from at l fall within s
     let front : take (suc j) new ≡ take j flags ++ true ∷ [] = take-suc-set flags j true l in
     let same : (b : ℕ) → ends_at decisions actions new choices j b ≡ each b = λ b. ap₂ (λ v w. ends actions rest v (set choices w b)) front place in
     let others : later decisions actions new fixed (set choices d.place 0) ≡ later decisions actions flags fixed choices =
-        ap (later decisions actions new fixed) (ap (set choices d.place) (sym none) ∙ set-get_or choices d.place 0) ∙ later-flag decisions actions flags true j j fixed choices fall (omega arith) in
+    ap (later decisions actions new fixed) (ap (set choices d.place) (sym none) ∙ set-get_or choices d.place 0) ∙ later-flag decisions actions flags true j j fixed choices fall (omega arith) in
     ap₂ (λ v w. v ++ w)
-        (ap (λ v. ends actions rest v (set choices d.place 1)) front)
-        (later-set decisions actions new j fixed choices d.place 1 place within ∙ ap₂ (λ v w. v ++ w) (branches-same (ends_at decisions actions new choices j) each 2 (m - 1) same) others)
+    (ap (λ v. ends actions rest v (set choices d.place 1)) front)
+    (later-set decisions actions new j fixed choices d.place 1 place within ∙ ap₂ (λ v w. v ++ w) (branches-same (ends_at decisions actions new choices j) each 2 (m - 1) same) others)
     ∙ sym (append_assoc (each 1) (branches each 2 (m - 1)) (later decisions actions flags fixed choices))
     ∙ ap (λ v. v ++ later decisions actions flags fixed choices)
-        (sym (branches-first each 1 m (m - 1) (omega arith)) ∙ sym (ends-branch actions d rest (take j flags) choices (also, none)) ∙ ap (λ v. ends actions v (take j flags) choices) (sym (drop-first decisions j d at)))
+    (sym (branches-first each 1 m (m - 1) (omega arith)) ∙ sym (ends-branch actions d rest (take j flags) choices (also, none)) ∙ ap (λ v. ends actions v (take j flags) choices) (sym (drop-first decisions j d at)))

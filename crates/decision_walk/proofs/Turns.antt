@@ -79,7 +79,7 @@ walks_of_ends decisions actions w =
 pub walks_from_sort : (decisions : List Decision) (actions : List ℕ) (lists : List (List ℕ)) → AreLinked decisions actions → IsPermutation (all_ends decisions actions) lists → IsSorted (slice_cmp nat_cmp) lists → AreWalks decisions actions lists
 walks_from_sort decisions actions lists w p s =
     walks_in_order decisions actions lists w p
-        (ascending_from_sort (length actions) lists (All-permutation (λ x. length x ≡ length actions) (all_ends decisions actions) lists p (all_ends-long decisions actions w)) (AllPairs-permutation (all_ends decisions actions) lists p (all_ends-differ decisions actions w)) s)
+    (ascending_from_sort (length actions) lists (All-permutation (λ x. length x ≡ length actions) (all_ends decisions actions) lists p (all_ends-long decisions actions w)) (AllPairs-permutation (all_ends decisions actions) lists p (all_ends-differ decisions actions w)) s)
 
 -- a count of the ends up to a limit is one of the choice lists
 pub walks_counted : (decisions : List Decision) (actions : List ℕ) (count limit : ℕ) → AreLinked decisions actions → count ≡ min (length (all_ends decisions actions)) limit → (lists : List (List ℕ)) × AreWalks decisions actions lists × (count ≡ min (length lists) limit)

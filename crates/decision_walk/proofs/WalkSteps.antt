@@ -127,12 +127,13 @@ walk-further old new n j d a last at more s reached choices fixed =
     let next = suc (get_or old.choices.items d.place 0) in
     let front = take (length old.fixed.items - 1) old.fixed.items in
     let backward : reverse old.fixed.items ≡ j ∷ reverse front = ap reverse (last-split old.fixed.items j last) ∙ reverse-append front (j ∷ []) in
-    let fall : FallBelow n (j ∷ reverse front) = subst (FallBelow n) backward a.fixed in
-    (IsAt-parts old new n (suc j) a s (ap length choices ∙ lists.length-set old.choices.items d.place next) (ap length reached) (omega arith)
-        (subst (FallBelow (suc j)) (sym (ap reverse fixed ∙ backward)) (omega arith, fall.1)),
-     ends_from-parts old new (suc j) old.reached.items (j ∷ reverse front) (set old.choices.items d.place next) s reached (ap reverse fixed ∙ backward) choices
-     ∙ later-further old.decisions.now old.actions.now old.reached.items j (reverse front) old.choices.items d.place (place_of-at old.decisions.now j d at) (omega (arith, a.choices)) more
-     ∙ ap (λ v. later old.decisions.now old.actions.now old.reached.items v old.choices.items) (sym backward))
+    let fall : FallBelow n (j ∷ reverse front) = subst (FallBelow n) backward a.fixed in (
+      IsAt-parts old new n (suc j) a s (ap length choices ∙ lists.length-set old.choices.items d.place next) (ap length reached) (omega arith)
+          (subst (FallBelow (suc j)) (sym (ap reverse fixed ∙ backward)) (omega arith, fall.1)),
+      ends_from-parts old new (suc j) old.reached.items (j ∷ reverse front) (set old.choices.items d.place next) s reached (ap reverse fixed ∙ backward) choices
+          ∙ later-further old.decisions.now old.actions.now old.reached.items j (reverse front) old.choices.items d.place (place_of-at old.decisions.now j d at) (omega (arith, a.choices)) more
+          ∙ ap (λ v. later old.decisions.now old.actions.now old.reached.items v old.choices.items) (sym backward),
+    )
 
 -- the same at the number after it, and with ends that an earlier state had
 pub walk-further_next : (old new : Walk) (n j m : ℕ) (d : Decision) (before : List (List ℕ)) → IsAt old n → slice_get old.fixed.items (length old.fixed.items - 1) ≡ Some j → slice_get old.decisions.now j ≡ Some d → get_or old.choices.items d.place 0 < get_or old.actions.now d.place 0
@@ -153,10 +154,11 @@ walk-unfixes old new n j d a last at most s reached choices fixed =
     let backward : reverse old.fixed.items ≡ j ∷ reverse front = ap reverse (last-split old.fixed.items j last) ∙ reverse-append front (j ∷ []) in
     let fall : FallBelow n (j ∷ reverse front) = subst (FallBelow n) backward a.fixed in
     let step = later-last old.decisions.now old.actions.now old.reached.items j (reverse front) old.choices.items d.place (place_of-at old.decisions.now j d at) most in
-    let backward_new : reverse new.fixed.items ≡ reverse front = ap reverse fixed in
-    (IsAt-parts old new n n a s (ap length choices ∙ lists.length-set old.choices.items d.place 0) (ap length reached) a.within
-        (FallBelow-more j n (reverse new.fixed.items) (subst (λ v. FallBelow j (reverse v)) (sym fixed) fall.1) (omega (arith, fall.0))),
-     cc)
+    let backward_new : reverse new.fixed.items ≡ reverse front = ap reverse fixed in (
+      IsAt-parts old new n n a s (ap length choices ∙ lists.length-set old.choices.items d.place 0) (ap length reached) a.within
+          (FallBelow-more j n (reverse new.fixed.items) (subst (λ v. FallBelow j (reverse v)) (sym fixed) fall.1) (omega (arith, fall.0))),
+      cc,
+    )
 
 -- a walk before its first decision, by its parts
 pub walk-starts : (decisions : List Decision) (actions : List ℕ) (walk : Walk) → AreLinked decisions actions → walk.decisions.now ≡ decisions → walk.actions.now ≡ actions → walk.choices.items ≡ replicate (length actions) 0 → length walk.reached.items ≡ length decisions → walk.fixed.items ≡ []

@@ -1,2 +1,3 @@
-pub mod Walks
 pub mod Ends
+pub mod Tested
+pub mod Walks

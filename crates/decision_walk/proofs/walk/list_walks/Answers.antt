@@ -24,4 +24,4 @@ pub returns : goal.returns
 returns c =
     let none = ap (left c.loop-from.walk) c.in_default.is in
     walks_kept (λ v. v.items) c.args.decisions.now c.args.actions.now c.loop-from.lists.items c.sort.new.self.items c.requires.linked
-        (c.loop-from.invariant.ends ∙ ap (λ v. map (λ w. w.items) c.loop-from.lists.items ++ v) none) c.in_ok-sort.ensures.permutation c.in_ok-sort.ensures.sorted
+    (c.loop-from.invariant.ends ∙ ap (λ v. map (λ w. w.items) c.loop-from.lists.items ++ v) none) c.in_ok-sort.ensures.permutation c.in_ok-sort.ensures.sorted

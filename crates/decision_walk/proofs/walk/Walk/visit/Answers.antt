@@ -18,8 +18,8 @@ returns-in_ok-push c =
     let at = slice_get-get_or walk.decisions.now c.args.number none_there c.requires.within in
     let read = get_or_default_zero walk.choices.items d.place c.index.result.now (choice-within walk c.args.number c.args.number d c.requires.at at) in
     subst (ComesTo walk c.args.number _) (sym (add-one c.args.number))
-        (walk-branches walk _ c.args.number d c.requires.at at (sym (c.is_reached-is_reached.ensures d at) ∙ c.if-is_reached.true) (sym read ∙ sym c.index.ensures ∙ c.if-index-eq0.true)
-            (record { decisions = refl; actions = refl }) (ap (set walk.reached.items c.args.number) c.if-is_reached.true) refl c.in_ok-push.ensures.items)
+    (walk-branches walk _ c.args.number d c.requires.at at (sym (c.is_reached-is_reached.ensures d at) ∙ c.if-is_reached.true) (sym read ∙ sym c.index.ensures ∙ c.if-index-eq0.true)
+    (record { decisions = refl; actions = refl }) (ap (set walk.reached.items c.args.number) c.if-is_reached.true) refl c.in_ok-push.ensures.items)
 
 pub returns-else-is_reached : goal.returns-else-is_reached
 returns-else-is_reached c =
@@ -32,4 +32,4 @@ returns-else-is_reached c =
       | else-is_reached-via-else-is_reached w ↦ cc (h, w.if-is_reached.false)
     ] in
     subst (ComesTo walk c.args.number _) (sym (add-one c.args.number))
-        (walk-passes walk _ c.args.number d c.is_reached-is_reached.result c.requires.at at (c.is_reached-is_reached.ensures d at) passed (record { decisions = refl; actions = refl }) refl refl refl)
+    (walk-passes walk _ c.args.number d c.is_reached-is_reached.result c.requires.at at (c.is_reached-is_reached.ensures d at) passed (record { decisions = refl; actions = refl }) refl refl refl)

@@ -1,0 +1,7 @@
+use Rattle.decision_walk.proofs.tests.apart.Goals as goal
+
+pub loop-place-init : goal.loop-place-init
+loop-place-init c = ?
+
+pub loop-place-preserved : goal.loop-place-preserved
+loop-place-preserved c = ?
