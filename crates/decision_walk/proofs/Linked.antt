@@ -106,3 +106,7 @@ linked-more ds actions d a w place before some =
                 ComesFrom-none (ds ++ d ∷ []) j e.before (subst (λ (v : Decision). v.before ≡ None) same before)
           ];
     }
+
+-- no decisions are linked
+pub linked-none : AreLinked [] []
+linked-none = record { some_action = All-nil (λ n. 0 < n); places_within = All-nil (λ (d : Decision). d.place < 0); come_from = λ j d e. cc }
