@@ -1,15 +1,14 @@
 -- How the ends to come change with each step of the walk.
-use Rattle.std.proofs.Common.{ℕ, zero, suc, ◌+◌, ◌-◌, ◌<◌, ◌≤◌, ◌≡◌, ◌≢◌, Bool, true, false, ◌&&◌, Option, Some, None, List, [], ◌∷◌, ◌++◌, length, map, get_or, set, take, drop, refl, sym, ap, ap₂, ◌∙◌, subst, arith, append_assoc}
+use Rattle.std.proofs.Common.{ℕ, zero, suc, ◌-◌, ◌<◌, ◌≤◌, ◌≡◌, Bool, true, false, ◌&&◌, Option, Some, None, List, [], ◌∷◌, ◌++◌, length, get_or, set, take, drop, refl, sym, ap, ap₂, ◌∙◌, arith, append_assoc}
 use Rattle.std.specs.Prelude.{◌==◌, slice_get}
-use Rattle.std.proofs.Math.Seq.{drop-cons, drop-length, take-suc-set}
-use Rattle.std.proofs.lemmas.List.{get_or-set_same, get_or-set_other, set-get_or, take-set-le, get_or-take}
+use Rattle.std.proofs.Math.Seq.{drop-cons, take-suc-set}
+use Rattle.std.proofs.lemmas.List.{get_or-set_same, set-get_or, take-set-le, get_or-take}
 use Rattle.std.proofs.lemmas.Option.{slice_get_within, get_or_from_slice_get}
 use Rattle.decision_walk.specs.declared.decision.Decision.{Decision}
 use Rattle.decision_walk.specs.declared.decision.Step.{Step}
-use Rattle.decision_walk.specs.Walks.{ComesFrom, AreLinked}
+use Rattle.decision_walk.specs.Walks.{ComesFrom}
 use Rattle.decision_walk.specs.Ends.{is_led_to, branches, ends, place_of, ends_at, later, FallBelow}
-use Rattle.decision_walk.proofs.Flags.{place-within}
-use Rattle.decision_walk.proofs.EndLists.{Branches, Passes, ends_with, ends-nil, ends-branch, ends-pass}
+use Rattle.decision_walk.proofs.EndLists.{ends_with, ends-branch, ends-pass}
 
 -- ---- lists
 -- a number behind one that is set again

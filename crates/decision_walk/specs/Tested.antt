@@ -1,5 +1,5 @@
 -- A test of whether decisions are linked, for decisions that are written out.
-use Rattle.std.specs.Prelude.{ℕ, zero, suc, ◌==◌, ◌&&◌, Bool, true, false, nat_lt, List, [], ◌∷◌, length, slice_get, Option, Some, None}
+use Rattle.std.specs.Prelude.{ℕ, suc, ◌==◌, ◌&&◌, Bool, true, false, nat_lt, List, [], ◌∷◌, length, slice_get, Option, Some, None}
 use Rattle.std.specs.List.{list_all}
 use Rattle.decision_walk.specs.declared.decision.Decision.{Decision}
 use Rattle.decision_walk.specs.declared.decision.Step.{Step}

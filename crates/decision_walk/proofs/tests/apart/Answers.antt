@@ -1,4 +1,4 @@
-use Rattle.std.proofs.Common.{ℕ, ◌+◌, ◌≡◌, None, length, sym, ap, ◌∙◌, subst₂, arith}
+use Rattle.std.proofs.Common.{◌+◌, ◌≡◌, None, length, sym, ap, ◌∙◌, subst₂, arith}
 use Rattle.std.proofs.Math.ListN as lists
 use Rattle.decision_walk.specs.declared.decision.Decision.{Decision}
 use Rattle.decision_walk.specs.Walks.{AreLinked}

@@ -1,5 +1,4 @@
-use Rattle.std.proofs.Common.{ℕ, ◌+◌, ◌<◌, ◌≤◌, ◌≡◌, length, min, sym, ap, ◌∙◌, arith}
-use Rattle.decision_walk.proofs.EndLists.{all_ends}
+use Rattle.std.proofs.Common.{◌+◌, length, ap, ◌∙◌, arith}
 use Rattle.decision_walk.proofs.Turns.{left, end_there, IsTurn-made, walks_counted}
 use Rattle.decision_walk.proofs.walk.count_walks.Goals as goal
 

@@ -1,4 +1,4 @@
-use Rattle.std.proofs.Common.{◌++◌, ◌≡◌, length, map, ap, ◌∙◌, arith}
+use Rattle.std.proofs.Common.{◌++◌, length, map, ap, ◌∙◌, arith}
 use Rattle.std.proofs.lemmas.List.Elements.{same_from_all_zip}
 use Rattle.decision_walk.proofs.Turns.{left, IsTurn-made, kept-more, walks_kept}
 use Rattle.decision_walk.proofs.walk.list_walks.Goals as goal

@@ -1,9 +1,9 @@
-use Rattle.std.proofs.Common.{ℕ, suc, ◌-◌, ◌+◌, ◌<◌, ◌≤◌, ◌≡◌, Some, None, length, get_or, set, take, vec_len, refl, sym, ap, ◌∙◌, subst, arith, add-one}
+use Rattle.std.proofs.Common.{suc, ◌-◌, ◌+◌, ◌<◌, ◌≤◌, ◌≡◌, Some, None, length, get_or, set, take, vec_len, refl, sym, ap, ◌∙◌, subst, arith, add-one}
 use Rattle.std.specs.Prelude.{slice_get}
 use Rattle.std.proofs.lemmas.Option.{slice_get-get_or}
 use Rattle.std.proofs.lemmas.Grind.{get_or_default_zero}
 use Rattle.decision_walk.specs.declared.decision.Decision.{Decision}
-use Rattle.decision_walk.specs.Ends.{IsAt, later_ends, ends_from}
+use Rattle.decision_walk.specs.Ends.{later_ends}
 use Rattle.decision_walk.proofs.WalkSteps.{walk-further_next, walk-unfixes, last-within, last-none, later_ends-none, choice-within}
 use Rattle.decision_walk.proofs.walk.Walk.back.Goals as goal
 
