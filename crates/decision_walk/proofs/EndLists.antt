@@ -101,11 +101,11 @@ ends-pass actions d ds flags choices p =
 
 -- ---- the decisions that are left
 -- the decisions from number n on
-abbrev pub AreRest : List Decision → ℕ → List Decision → Type 0
+abbrev AreRest : List Decision → ℕ → List Decision → Type 0
 AreRest decisions n ds = (k : ℕ) → slice_get ds k ≡ slice_get decisions (n + k)
 
 -- the first of them
-pub AreRest-first : (decisions : List Decision) (n : ℕ) (d : Decision) (ds : List Decision) → AreRest decisions n (d ∷ ds) → slice_get decisions n ≡ Some d
+AreRest-first : (decisions : List Decision) (n : ℕ) (d : Decision) (ds : List Decision) → AreRest decisions n (d ∷ ds) → slice_get decisions n ≡ Some d
 AreRest-first decisions n d ds r = let e : n ≡ n + 0 = omega arith in ap (slice_get decisions) e ∙ sym (r 0)
 
 -- those after it

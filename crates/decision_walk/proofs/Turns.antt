@@ -32,11 +32,7 @@ pub record IsTurn (start : Walk) (n : ℕ) (choices : List ℕ) (next : Walk) (f
   pub next_at : IsAtNext next from
   pub ends : ends_from start n ≡ choices ∷ left next from
 
--- where the walk goes forward it stands behind the last decision
-pub at_end : (start there : Walk) (n : ℕ) → ComesTo start n there (length start.decisions.now) → IsAt there (length there.decisions.now)
-at_end start there n c = subst (λ v. IsAt there (length v.now)) (sym c.same.decisions) c.comes_at
-
--- and has its choices as the next end
+-- a walk that goes forward to the end has its choices as the next end
 pub end_there : (start there : Walk) (n : ℕ) → ComesTo start n there (length start.decisions.now) → ends_from start n ≡ there.choices.items ∷ later_ends there
 end_there start there n c = sym c.ends ∙ ap (λ v. ends_from there (length v.now)) (sym c.same.decisions) ∙ ends_from-end there
 
@@ -70,13 +66,13 @@ walks_in_order decisions actions lists w p a =
     }
 
 -- the choice lists are as many as the ends
-pub walks_of_ends : (decisions : List Decision) (actions : List ℕ) → AreLinked decisions actions → (lists : List (List ℕ)) × AreWalks decisions actions lists × (length lists ≡ length (all_ends decisions actions))
+walks_of_ends : (decisions : List Decision) (actions : List ℕ) → AreLinked decisions actions → (lists : List (List ℕ)) × AreWalks decisions actions lists × (length lists ≡ length (all_ends decisions actions))
 walks_of_ends decisions actions w =
     let order = ascending_order (length actions) (all_ends decisions actions) (all_ends-long decisions actions w) (all_ends-differ decisions actions w) in
     (order.0, walks_in_order decisions actions order.0 w order.2 order.1, length_permutation (all_ends decisions actions) order.0 order.2)
 
 -- the ends in the order of a sort are the choice lists
-pub walks_from_sort : (decisions : List Decision) (actions : List ℕ) (lists : List (List ℕ)) → AreLinked decisions actions → IsPermutation (all_ends decisions actions) lists → IsSorted (slice_cmp nat_cmp) lists → AreWalks decisions actions lists
+walks_from_sort : (decisions : List Decision) (actions : List ℕ) (lists : List (List ℕ)) → AreLinked decisions actions → IsPermutation (all_ends decisions actions) lists → IsSorted (slice_cmp nat_cmp) lists → AreWalks decisions actions lists
 walks_from_sort decisions actions lists w p s =
     walks_in_order decisions actions lists w p
     (ascending_from_sort (length actions) lists (All-permutation (λ x. length x ≡ length actions) (all_ends decisions actions) lists p (all_ends-long decisions actions w)) (AllPairs-permutation (all_ends decisions actions) lists p (all_ends-differ decisions actions w)) s)

@@ -19,15 +19,6 @@ FallBelow-more : (n m : ℕ) (fixed : List ℕ) → FallBelow n fixed → n ≤ 
 FallBelow-more n m [] f l = tt
 FallBelow-more n m (j ∷ fixed) f l = (omega (arith, f.0), f.1)
 
--- a walk comes to where it is
-pub ComesTo-refl : (walk : Walk) (n : ℕ) → IsAt walk n → ComesTo walk n walk n
-ComesTo-refl walk n a = record { same = record { decisions = refl; actions = refl }; comes_at = a; ends = refl }
-
--- and on from there
-pub ComesTo-trans : (first second third : Walk) (n m k : ℕ) → ComesTo first n second m → ComesTo second m third k → ComesTo first n third k
-ComesTo-trans first second third n m k p q =
-    record { same = record { decisions = q.same.decisions ∙ p.same.decisions; actions = q.same.actions ∙ p.same.actions }; comes_at = q.comes_at; ends = q.ends ∙ p.ends }
-
 -- the state after a step, by its parts
 IsAt-parts : (old new : Walk) (n m : ℕ) → IsAt old n → IsSameGame old new → length new.choices.items ≡ length old.choices.items → length new.reached.items ≡ length old.reached.items → m ≤ length old.decisions.now → FallBelow m (reverse new.fixed.items) → IsAt new m
 IsAt-parts old new n m a s choices reached within fall =
@@ -117,7 +108,7 @@ last-within walk n j a last =
     omega (arith, fall.0, a.within)
 
 -- the last set takes its next action
-pub walk-further : (old new : Walk) (n j : ℕ) (d : Decision) → IsAt old n → slice_get old.fixed.items (length old.fixed.items - 1) ≡ Some j → slice_get old.decisions.now j ≡ Some d → get_or old.choices.items d.place 0 < get_or old.actions.now d.place 0
+walk-further : (old new : Walk) (n j : ℕ) (d : Decision) → IsAt old n → slice_get old.fixed.items (length old.fixed.items - 1) ≡ Some j → slice_get old.decisions.now j ≡ Some d → get_or old.choices.items d.place 0 < get_or old.actions.now d.place 0
     → IsSameGame old new → new.reached.items ≡ old.reached.items → new.choices.items ≡ set old.choices.items d.place (suc (get_or old.choices.items d.place 0)) → new.fixed.items ≡ old.fixed.items
     → IsAt new (suc j) × (ends_from new (suc j) ≡ later_ends old)
 unfolding ends_of
