@@ -10,7 +10,7 @@ use Rattle.reduced_strategies.specs.Choices.{AreAscending}
 use Rattle.decision_walk.specs.declared.decision.Decision.{Decision}
 use Rattle.decision_walk.specs.declared.walk.Walk.{Walk}
 use Rattle.decision_walk.specs.Walks.{AreLinked, IsWalk, AreWalks}
-use Rattle.decision_walk.specs.Ends.{IsAt, IsSameGame, ComesTo, later_ends, ends_from}
+use Rattle.decision_walk.specs.Ends.{IsAt, ComesTo, later_ends, ends_from}
 use Rattle.decision_walk.proofs.EndLists.{all_ends, all_ends-sound, all_ends-complete, all_ends-differ}
 use Rattle.decision_walk.proofs.Ascending.{ascending_order, ascending_from_sort, AllPairs-permutation}
 use Rattle.decision_walk.proofs.WalkSteps.{ends_from-end}
@@ -28,7 +28,6 @@ IsAtNext walk (Some n) = IsAt walk n
 
 -- a turn from decision n to the next one to go on with: one end is seen
 pub record IsTurn (start : Walk) (n : ℕ) (choices : List ℕ) (next : Walk) (from : Option ℕ) : Type 0 where
-  pub same : IsSameGame start next
   pub next_at : IsAtNext next from
   pub ends : ends_from start n ≡ choices ∷ left next from
 
@@ -37,19 +36,9 @@ pub end_there : (start there : Walk) (n : ℕ) → ComesTo start n there (length
 end_there start there n c = sym c.ends ∙ ap (λ v. ends_from there (length v.now)) (sym c.same.decisions) ∙ ends_from-end there
 
 -- forward and back is a turn
-pub IsTurn-made : (start there next : Walk) (n : ℕ) (from : Option ℕ) → ComesTo start n there (length start.decisions.now) → IsSameGame there next → MatchOption from (later_ends there ≡ []) (λ m. IsAt next m × (ends_from next m ≡ later_ends there)) → IsTurn start n there.choices.items next from
-IsTurn-made start there next n None c s h =
-    record {
-      same = record { decisions = s.decisions ∙ c.same.decisions; actions = s.actions ∙ c.same.actions };
-      next_at = tt;
-      ends = end_there start there n c ∙ ap (λ v. there.choices.items ∷ v) h;
-    }
-IsTurn-made start there next n (Some m) c s h =
-    record {
-      same = record { decisions = s.decisions ∙ c.same.decisions; actions = s.actions ∙ c.same.actions };
-      next_at = h.0;
-      ends = end_there start there n c ∙ ap (λ v. there.choices.items ∷ v) (sym h.1);
-    }
+pub IsTurn-made : (start there next : Walk) (n : ℕ) (from : Option ℕ) → ComesTo start n there (length start.decisions.now) → MatchOption from (later_ends there ≡ []) (λ m. IsAt next m × (ends_from next m ≡ later_ends there)) → IsTurn start n there.choices.items next from
+IsTurn-made start there next n None c h = record { next_at = tt; ends = end_there start there n c ∙ ap (λ v. there.choices.items ∷ v) h }
+IsTurn-made start there next n (Some m) c h = record { next_at = h.0; ends = end_there start there n c ∙ ap (λ v. there.choices.items ∷ v) (sym h.1) }
 
 -- ---- all turns
 -- all ends have one length

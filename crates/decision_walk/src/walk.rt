@@ -1,7 +1,7 @@
 // The walk.
 ghost use Rattle.std.specs.Prelude.{◌≡◌, ◌<◌, ◌+◌, ◌^◌, List, [], ℕ, length, map, min, slice_get, IfOk, MatchOption};
 ghost use Rattle.decision_walk.specs.declared.decision.Decision.{Decision};
-ghost use Rattle.decision_walk.specs.Ends.{is_led_to, IsAt, IsStart, IsSameGame, ComesTo, later_ends, ends_from};
+ghost use Rattle.decision_walk.specs.Ends.{is_led_to, IsAt, IsStart, ComesTo, later_ends, ends_from};
 ghost use Rattle.decision_walk.specs.Walks.{AreLinked, AreWalks};
 
 use crate::decision::Decision;
@@ -81,8 +81,7 @@ impl<'a> Walk<'a> {
     // Goes back to the last set that has a further action, and takes that. Answers the decision to go on with.
     fn back(&mut self) -> Option<usize>
         requires { IsAt self.old (length self.old.decisions.now) }
-        ensures same { IsSameGame self.old self.new }
-        ensures ends { MatchOption result (later_ends self.old ≡ []) (λ next. IsAt self.new next × (ends_from self.new next ≡ later_ends self.old)) }
+        ensures { MatchOption result (later_ends self.old ≡ []) (λ next. IsAt self.new next × (ends_from self.new next ≡ later_ends self.old)) }
     {
         while let Some(last) = self.fixed.last() {
             let number = *last;

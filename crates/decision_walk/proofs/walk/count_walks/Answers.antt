@@ -9,13 +9,13 @@ returns-then-count-most c =
 
 pub loop-from-smaller : goal.loop-from-smaller
 loop-from-smaller c =
-    let turn = IsTurn-made c.loop-from.walk c.forward.new.self c.back-from.new.self c.in-Some.number c.back-from.result c.in_ok-forward.ensures c.back-from.ensures.same c.back-from.ensures.ends in
+    let turn = IsTurn-made c.loop-from.walk c.forward.new.self c.back-from.new.self c.in-Some.number c.back-from.result c.in_ok-forward.ensures c.back-from.ensures in
     let seen = ap (left c.loop-from.walk) c.in-Some.is ∙ turn.ends in
     omega (arith, ap length seen)
 
 pub loop-from-preserved : goal.loop-from-preserved
 loop-from-preserved c =
-    let turn = IsTurn-made c.loop-from.walk c.forward.new.self c.back-from.new.self c.in-Some.number c.back-from.result c.in_ok-forward.ensures c.back-from.ensures.same c.back-from.ensures.ends in
+    let turn = IsTurn-made c.loop-from.walk c.forward.new.self c.back-from.new.self c.in-Some.number c.back-from.result c.in_ok-forward.ensures c.back-from.ensures in
     let seen = ap (left c.loop-from.walk) c.in-Some.is ∙ turn.ends in
     record { at = turn.next_at; ends = omega (arith, ap length seen); few = c.if-count-most.false }
 

@@ -11,8 +11,8 @@ use Rattle.decision_walk.proofs.walk.Walk.back.Goals as goal
 abbrev none_there : Decision
 none_there = record { place = 0; before = None }
 
-pub returns-then-index-self-clause-ends : goal.returns-then-index-self-clause-ends
-returns-then-index-self-clause-ends c =
+pub returns-then-index-self : goal.returns-then-index-self
+returns-then-index-self c =
     let walk = c.loop-last.self in
     let n = length walk.decisions.now in
     let j = c.in-Some.last.now in
@@ -39,6 +39,6 @@ loop-last-preserved c =
     let step = walk-unfixes walk _ n j d c.loop-last.invariant.at last at most (record { decisions = refl; actions = refl }) refl refl popped in
     record { same = record { decisions = c.loop-last.invariant.same.decisions; actions = c.loop-last.invariant.same.actions }; at = step.0; ends = step.1 ∙ c.loop-last.invariant.ends }
 
-pub returns-clause-ends : goal.returns-clause-ends
-returns-clause-ends c =
+pub returns : goal.returns
+returns c =
     sym c.loop-last.invariant.ends ∙ later_ends-none c.loop-last.self (last-none c.loop-last.self.fixed.items (subst (λ v. slice_get v (length v - 1) ≡ None) c.deref.ensures.value (sym c.in_default.ensures.value)))
