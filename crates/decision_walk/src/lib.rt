@@ -8,6 +8,8 @@
 #![tactic(auto)]
 
 mod decision;
+#[cfg(test)]
+mod tests;
 mod walk;
 
 pub use decision::{Decision, Step};

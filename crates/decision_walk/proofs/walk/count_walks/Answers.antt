@@ -1,0 +1,25 @@
+use Rattle.std.proofs.Common.{◌+◌, length, ap, ◌∙◌, arith}
+use Rattle.decision_walk.proofs.Turns.{left, end_there, IsTurn-made, walks_counted}
+use Rattle.decision_walk.proofs.walk.count_walks.Goals as goal
+
+pub returns-then-count-most : goal.returns-then-count-most
+returns-then-count-most c =
+    let seen = ap (left c.loop-from.walk) c.in-Some.is ∙ end_there c.loop-from.walk c.forward.new.self c.in-Some.number c.in_ok-forward.ensures in
+    walks_counted c.args.decisions.now c.args.actions.now (c.loop-from.count + 1) (c.args.most + 1) c.requires.linked (omega (arith, ap length seen))
+
+pub loop-from-smaller : goal.loop-from-smaller
+loop-from-smaller c =
+    let turn = IsTurn-made c.loop-from.walk c.forward.new.self c.back-from.new.self c.in-Some.number c.back-from.result c.in_ok-forward.ensures c.back-from.ensures in
+    let seen = ap (left c.loop-from.walk) c.in-Some.is ∙ turn.ends in
+    omega (arith, ap length seen)
+
+pub loop-from-preserved : goal.loop-from-preserved
+loop-from-preserved c =
+    let turn = IsTurn-made c.loop-from.walk c.forward.new.self c.back-from.new.self c.in-Some.number c.back-from.result c.in_ok-forward.ensures c.back-from.ensures in
+    let seen = ap (left c.loop-from.walk) c.in-Some.is ∙ turn.ends in
+    record { at = turn.next_at; ends = omega (arith, ap length seen); few = c.if-count-most.false }
+
+pub returns : goal.returns
+returns c =
+    let none = ap (left c.loop-from.walk) c.in_default.is in
+    walks_counted c.args.decisions.now c.args.actions.now c.loop-from.count (c.args.most + 1) c.requires.linked (omega (arith, ap length none))
