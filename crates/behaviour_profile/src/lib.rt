@@ -42,7 +42,8 @@ impl Behaviour {
     pub fn entry(&self, place: u32) -> Option<Frac>
         ensures { result ≡ slice_get self.now place }
     {
-        None
+        let entry = self.entries.get(place as usize)?;
+        Some(*entry)
     }
 
     /// All entries.

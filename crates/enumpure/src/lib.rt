@@ -9,6 +9,7 @@ mod listing;
 mod replies;
 
 pub use listing::{ListStop, list_pure_equilibria, pure_equilibria_have_one_text};
+pub use replies::stable_profiles;
 
 #[cfg(test)]
 mod tests;
