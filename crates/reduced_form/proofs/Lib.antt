@@ -4,3 +4,4 @@ mod FormCounts
 mod CellRows
 mod Profiles
 mod FormLaws
+mod Exact
