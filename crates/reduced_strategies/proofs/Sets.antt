@@ -85,11 +85,11 @@ own_sets-ascend t i = own_below-ascend t i t.sets [] tt
 
 -- ---- choice lists
 -- the choice at the first set
-choice_at-first : (set choice s : ℕ) (sets choices : List ℕ) → set ≡ s → choice_at (set ∷ sets) (choice ∷ choices) s ≡ choice
+pub choice_at-first : (set choice s : ℕ) (sets choices : List ℕ) → set ≡ s → choice_at (set ∷ sets) (choice ∷ choices) s ≡ choice
 choice_at-first set choice s sets choices e = grind (arith, tests)
 
 -- the choice at a later set
-choice_at-later : (set choice s : ℕ) (sets choices : List ℕ) → set ≢ s → choice_at (set ∷ sets) (choice ∷ choices) s ≡ choice_at sets choices s
+pub choice_at-later : (set choice s : ℕ) (sets choices : List ℕ) → set ≢ s → choice_at (set ∷ sets) (choice ∷ choices) s ≡ choice_at sets choices s
 choice_at-later set choice s sets choices e = grind (arith, tests)
 
 -- a list of a function's values gives each of the sets that value
