@@ -1,5 +1,5 @@
 mod Numbers
 mod PlayersSets
 mod PrefixOrder
-mod SmallTree
+pub mod SmallTree
 pub mod TreeLaws

@@ -7,10 +7,11 @@ use Rattle.game_core.specs.declared.tree.Action.{Action}
 use Rattle.game_core.specs.declared.tree.Node.{Node}
 use Rattle.game_core.specs.Tree.{GameTree, IsTree, InformationSet, TreeOutcome, AreInPrefixOrder, NodeFits, SetFits}
 use Rattle.game_core.specs.TreeGame.{game_of_tree}
+use Rattle.game_core.proofs.SmallTree.{halves}
 use Rattle.game_core.proofs.TreeLaws.{few_edges}
 use Rattle.reduced_strategies.specs.Choices.{own_sets, choice_at, IsReached, IsReduced, AreReducedStrategies}
 use Rattle.pure_payoffs.specs.TestTrees.{ArePokerSets, IsPlayedBy, end, poker_nodes, poker_places, poker_strategies}
-use Rattle.pure_payoffs.proofs.TestNodes.{set_of, halves_fit, plain_fit}
+use Rattle.pure_payoffs.proofs.TestNodes.{set_of, plain_fit}
 
 -- Fred's strategies
 abbrev of_fred : List (List ℕ)
@@ -110,7 +111,7 @@ module _ (title : List ℕ) (players : List (List ℕ)) (draw on_red on_black af
   -- the sets fit
   sets_fit : length players ≡ 2 → HaveChances → (s : ℕ) (set : InformationSet) → slice_get poker.sets s ≡ Some set → SetFits poker s set
   sets_fit two p zero set is =
-      subst (SetFits poker 0) (same_Some _ set is) (record { owner_within = tt; some_action = omega arith; probabilities = halves_fit a b p.a_is p.b_is; members_are = refl; some_member = omega arith })
+      subst (SetFits poker 0) (same_Some _ set is) (record { owner_within = tt; some_action = omega arith; probabilities = halves a b p.a_is p.b_is; members_are = refl; some_member = omega arith })
   sets_fit two p (suc zero) set is =
       subst (SetFits poker 1) (same_Some _ set is) (record { owner_within = omega arith; some_action = omega arith; probabilities = plain_fit 0 c d p.c_is p.d_is; members_are = refl; some_member = omega arith })
   sets_fit two p (suc (suc zero)) set is =
