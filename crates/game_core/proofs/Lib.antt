@@ -1,5 +1,5 @@
 mod Numbers
 mod PlayersSets
 mod PrefixOrder
-pub mod SmallTree
-pub mod TreeLaws
+mod SmallTree
+mod TreeLaws

@@ -40,7 +40,7 @@ unfolding frac gcd is_lowest ◌+ℚ◌
 two_halves = refl
 
 -- a half and a half are chance's probabilities
-pub halves : (x y : Action) → x.prob ≡ half → y.prob ≡ half → AreChances (x ∷ y ∷ [])
+halves : (x y : Action) → x.prob ≡ half → y.prob ≡ half → AreChances (x ∷ y ∷ [])
 halves x y first second = record {
   not_negative = All-cons (λ a. zero_ℚ ≤ℚ a.prob) x (y ∷ []) (rw first half_positive) (All-cons (λ a. zero_ℚ ≤ℚ a.prob) y [] (rw second half_positive) (All-nil _));
   sum_is_one = rw (first, second) two_halves;
