@@ -1,1 +1,2 @@
 pub mod BehaviourEntries
+mod TestTree

@@ -115,3 +115,6 @@ fn push_set(entries: &mut Vec<Frac>, actions: usize, chosen: usize) -> Result<()
     }
     Ok(())
 }
+
+#[cfg(test)]
+mod tests;

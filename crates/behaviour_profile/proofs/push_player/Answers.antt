@@ -31,11 +31,11 @@ loop-place-preserved c =
     let here = found (goal.at.loop-place-preserved c).After-own_sets in
     elim c.match-own_sets.branch [
       | in-Some+in_ok-push_set w ↦
-        (let at : slice_get (own_sets t i) place ≡ Some w.in-Some.set = sym here ∙ w.in-Some.is in
-        let below : w.in-Some.set < length c.sets-sets.result.now = omega (arith, own_set-below t i place w.in-Some.set at, ap length c.sets-sets.ensures.sets) in
-        let actions = ap length w.actions.ensures ∙ actions-counted tree c.sets-sets.result.now w.index-sets-set.result w.in-Some.set c.sets-sets.ensures.sets below w.index-sets-set.is in
-        let chosen = w.saturating_sub-chosen.ensures ∙ sym (first_for_none-place t i choices place w.in-Some.set c.requires at) in
-        entries_at-push t (pure (first_for_none t i choices)) _ c.loop-place.entries.items c.args.entries.now.items (own_sets t i) place w.in-Some.set at c.loop-place.invariant
-        (ap (λ v. v.items) w.entries-is ∙ w.in_ok-push_set.ensures {u = tt} ∙ ap₂ (λ n k. c.loop-place.entries.items ++ listed n (sure k)) actions chosen))
+          (let at : slice_get (own_sets t i) place ≡ Some w.in-Some.set = sym here ∙ w.in-Some.is in
+          let below : w.in-Some.set < length c.sets-sets.result.now = omega (arith, own_set-below t i place w.in-Some.set at, ap length c.sets-sets.ensures.sets) in
+          let actions = ap length w.actions.ensures ∙ actions-counted tree c.sets-sets.result.now w.index-sets-set.result w.in-Some.set c.sets-sets.ensures.sets below w.index-sets-set.is in
+          let chosen = w.saturating_sub-chosen.ensures ∙ sym (first_for_none-place t i choices place w.in-Some.set c.requires at) in
+          entries_at-push t (pure (first_for_none t i choices)) _ c.loop-place.entries.items c.args.entries.now.items (own_sets t i) place w.in-Some.set at c.loop-place.invariant
+          (ap (λ v. v.items) w.entries-is ∙ w.in_ok-push_set.ensures {u = tt} ∙ ap₂ (λ n k. c.loop-place.entries.items ++ listed n (sure k)) actions chosen))
       | in_default w ↦ absurd (place-found t i place (omega (arith, c.requires)) (sym here ∙ w.in_default.is))
     ]
