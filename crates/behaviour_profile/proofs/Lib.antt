@@ -1,0 +1,2 @@
+pub mod BehaviourEntries
+mod TestTree
