@@ -1,2 +1,1 @@
 pub mod BehaviourEntries
-mod TestTree

@@ -115,6 +115,3 @@ fn push_set(entries: &mut Vec<Frac>, actions: usize, chosen: usize) -> Result<()
     }
     Ok(())
 }
-
-#[cfg(test)]
-mod tests;
