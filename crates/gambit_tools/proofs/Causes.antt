@@ -1,34 +1,34 @@
 -- why a run is refused
-use Rattle.std.proofs.Common.{ℕ, ◌≡◌, ◌<◌, ◌⊎◌, ◌∙◌, inl, inr, sym, ap, subst, List, Option, None, Some, IfSome, Ok, Err, Result}
+use Rattle.std.proofs.Common.{ℕ, Bool, ◌≡◌, ◌<◌, ◌⊎◌, ◌∙◌, inl, inr, sym, ap, subst, List, Option, None, Some, IfSome, Ok, Err, Result}
 use Rattle.words.specs.Words.{Command, command_from}
 use Rattle.gambit_tools.specs.Seen.{InputsSeen, SinkSeen}
 use Rattle.gambit_tools.specs.Input.{AreBytesOf, CountsTell}
-use Rattle.gambit_tools.specs.Game.{AreRefused}
-use Rattle.gambit_tools.specs.Outcome.{HasCause, Writes, input_of}
+use Rattle.gambit_tools.specs.GameRefusals.{AreRefused}
+use Rattle.gambit_tools.specs.Outcome.{HasCause, Writes, input_of, strategic_of}
 use Rattle.gambit_tools.specs.Refusals.{status_of, NamesNumbers, IsToldAs}
 use Rattle.gambit_tools.specs.declared.refusal.Refusal.{Refusal}
 use Rattle.gambit_tools.specs.declared.refusal.Refusal.TheVariants as refusal
 
-known : (held : Option (List ℕ)) (bytes : List ℕ) (r : Refusal) → AreBytesOf held bytes → AreRefused bytes r → IfSome held (λ b. AreRefused b r)
-known None bytes r are refused = tt
-known (Some b) bytes r are refused = subst (λ x. AreRefused x r) (sym are) refused
+known : (strategic : Bool) (held : Option (List ℕ)) (bytes : List ℕ) (r : Refusal) → AreBytesOf held bytes → AreRefused strategic bytes r → IfSome held (λ b. AreRefused strategic b r)
+known strategic None bytes r are refused = tt
+known strategic (Some b) bytes r are refused = subst (λ x. AreRefused strategic x r) (sym are) refused
 
 -- the bytes that were read are refused
-pub HasCause-bytes : (words : List (List ℕ)) (command : Command) (before after : InputsSeen) (out_before out_after : SinkSeen) (bytes : List ℕ) (r : Refusal) → command_from words ≡ Ok command → AreBytesOf (before.held (input_of command)) bytes → AreRefused bytes r → HasCause words before after out_before out_after r
+pub HasCause-bytes : (words : List (List ℕ)) (command : Command) (before after : InputsSeen) (out_before out_after : SinkSeen) (bytes : List ℕ) (r : Refusal) → command_from words ≡ Ok command → AreBytesOf (before.held (input_of command)) bytes → AreRefused (strategic_of command) bytes r → HasCause words before after out_before out_after r
 HasCause-bytes words command before after out_before out_after bytes (refusal.Usage u) e are refused = elim refused [ ]
 HasCause-bytes words command before after out_before out_after bytes refusal.OpenFault e are refused = elim refused [ ]
 HasCause-bytes words command before after out_before out_after bytes refusal.ReadFault e are refused = elim refused [ ]
 HasCause-bytes words command before after out_before out_after bytes refusal.WriteFault e are refused = elim refused [ ]
-HasCause-bytes words command before after out_before out_after bytes refusal.TooLong e are refused = (command, e, known _ bytes refusal.TooLong are refused)
-HasCause-bytes words command before after out_before out_after bytes (refusal.Text fault) e are refused = (command, e, known _ bytes (refusal.Text fault) are refused)
-HasCause-bytes words command before after out_before out_after bytes (refusal.Nfg fault) e are refused = (command, e, known _ bytes (refusal.Nfg fault) are refused)
-HasCause-bytes words command before after out_before out_after bytes (refusal.Efg fault) e are refused = (command, e, known _ bytes (refusal.Efg fault) are refused)
-HasCause-bytes words command before after out_before out_after bytes (refusal.TooLarge counted count limit) e are refused = (command, e, known _ bytes (refusal.TooLarge counted count limit) are refused)
-HasCause-bytes words command before after out_before out_after bytes refusal.NotBuilt e are refused = (command, e, known _ bytes refusal.NotBuilt are refused)
+HasCause-bytes words command before after out_before out_after bytes refusal.TooLong e are refused = (command, e, known _ _ bytes refusal.TooLong are refused)
+HasCause-bytes words command before after out_before out_after bytes (refusal.Text fault) e are refused = (command, e, known _ _ bytes (refusal.Text fault) are refused)
+HasCause-bytes words command before after out_before out_after bytes (refusal.Nfg fault) e are refused = (command, e, known _ _ bytes (refusal.Nfg fault) are refused)
+HasCause-bytes words command before after out_before out_after bytes (refusal.Efg fault) e are refused = (command, e, known _ _ bytes (refusal.Efg fault) are refused)
+HasCause-bytes words command before after out_before out_after bytes (refusal.TooLarge counted count limit) e are refused = (command, e, known _ _ bytes (refusal.TooLarge counted count limit) are refused)
+HasCause-bytes words command before after out_before out_after bytes (refusal.Range place step) e are refused = (command, e, known _ _ bytes (refusal.Range place step) are refused)
 HasCause-bytes words command before after out_before out_after bytes refusal.Memory e are refused = elim refused [ ]
 
 -- the text of the bytes is refused
-pub HasCause-text : (words : List (List ℕ)) (command : Command) (before after : InputsSeen) (out_before out_after : SinkSeen) (bytes : List ℕ) (r : Refusal) → command_from words ≡ Ok command → AreBytesOf (before.held (input_of command)) bytes → (r ≡ refusal.Memory) ⊎ AreRefused bytes r → HasCause words before after out_before out_after r
+pub HasCause-text : (words : List (List ℕ)) (command : Command) (before after : InputsSeen) (out_before out_after : SinkSeen) (bytes : List ℕ) (r : Refusal) → command_from words ≡ Ok command → AreBytesOf (before.held (input_of command)) bytes → (r ≡ refusal.Memory) ⊎ AreRefused (strategic_of command) bytes r → HasCause words before after out_before out_after r
 HasCause-text words command before after out_before out_after bytes r e are (inl m) = subst (HasCause words before after out_before out_after) (sym m) (command, e, tt)
 HasCause-text words command before after out_before out_after bytes r e are (inr refused) = HasCause-bytes words command before after out_before out_after bytes r e are refused
 
@@ -43,7 +43,7 @@ to_memory words before after out_before out_after (refusal.Text fault) names cau
 to_memory words before after out_before out_after (refusal.Nfg fault) names cause = (cause.0, cause.1, tt)
 to_memory words before after out_before out_after (refusal.Efg fault) names cause = (cause.0, cause.1, tt)
 to_memory words before after out_before out_after (refusal.TooLarge counted count limit) names cause = (cause.0, cause.1, tt)
-to_memory words before after out_before out_after refusal.NotBuilt names cause = elim names [ ]
+to_memory words before after out_before out_after (refusal.Range place step) names cause = (cause.0, cause.1, tt)
 to_memory words before after out_before out_after refusal.Memory names cause = elim names [ ]
 
 pub HasCause-told : (words : List (List ℕ)) (before after : InputsSeen) (out_before out_after : SinkSeen) (r told : Refusal) → IsToldAs r told → HasCause words before after out_before out_after r → HasCause words before after out_before out_after told
@@ -61,7 +61,7 @@ nothing words before out_before out_after (refusal.Text fault) names writes = wr
 nothing words before out_before out_after (refusal.Nfg fault) names writes = writes
 nothing words before out_before out_after (refusal.Efg fault) names writes = writes
 nothing words before out_before out_after (refusal.TooLarge counted count limit) names writes = writes
-nothing words before out_before out_after refusal.NotBuilt names writes = elim names [ ]
+nothing words before out_before out_after (refusal.Range place step) names writes = writes
 nothing words before out_before out_after refusal.Memory names writes = elim names [ ]
 
 pub Writes-told : (words : List (List ℕ)) (before : InputsSeen) (out_before out_after : SinkSeen) (r told : Refusal) → IsToldAs r told → Writes words before out_before out_after (Some r) → Writes words before out_before out_after (Some told)

@@ -1,8 +1,13 @@
+pub mod Accepted
+pub mod Alike
 pub mod Causes
 pub mod Exact
+pub mod Formats
+pub mod Forms
 pub mod OneKind
 pub mod Outcomes
 pub mod Reading
 pub mod Taking
+pub mod Texts
 pub mod Tokens
 pub mod Trees

@@ -13,7 +13,7 @@ IsReadingRefusal-piece left selected mid failed before between now refusal.OpenF
 IsReadingRefusal-piece left selected mid failed before between now refusal.ReadFault e f p = (subst (λ x. Rose x now) f p.0, p.1 ∙ e)
 IsReadingRefusal-piece left selected mid failed before between now refusal.WriteFault e f p = elim p [ ]
 IsReadingRefusal-piece left selected mid failed before between now refusal.TooLong e f p = elim p [ ]
-IsReadingRefusal-piece left selected mid failed before between now refusal.NotBuilt e f p = elim p [ ]
+IsReadingRefusal-piece left selected mid failed before between now (refusal.Range place step) e f p = elim p [ ]
 IsReadingRefusal-piece left selected mid failed before between now (refusal.Text fault) e f p = elim p [ ]
 IsReadingRefusal-piece left selected mid failed before between now (refusal.Nfg fault) e f p = elim p [ ]
 IsReadingRefusal-piece left selected mid failed before between now (refusal.Efg fault) e f p = elim p [ ]

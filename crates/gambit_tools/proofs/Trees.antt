@@ -1,5 +1,5 @@
--- how the tokens of a file of a tree begin, and how the file is refused
-use Rattle.std.proofs.Common.{ℕ, ◌≡◌, ◌≤◌, ◌++◌, ◌∙◌, inl, inr, sym, ap, subst, List, ◌∷◌, length, map, Bool, IsTrue, codes, eqb}
+-- how the tokens of a file of a tree begin
+use Rattle.std.proofs.Common.{ℕ, ◌≡◌, ◌++◌, ◌∙◌, inl, inr, sym, ap, List, ◌∷◌, map, Bool, IsTrue, codes, eqb}
 use lib.Pointwise.{pointwise}
 use Rattle.std.proofs.lemmas.Bool.Decides.{Decides-eqb}
 use Rattle.std.proofs.lemmas.Slice.Eq.{slice_eq-Decides}
@@ -8,18 +8,13 @@ use Rattle.game_core.specs.declared.too_large.TooLarge.{TooLarge}
 use Rattle.game_core.specs.declared.too_large.What.{What}
 use Rattle.game_core.specs.declared.too_large.What.TheVariants.{Nodes, Depth}
 use Rattle.game_text.specs.TokenList.{TokenList}
-use Rattle.game_text.specs.Tokens.{AreTokens}
 use Rattle.game_text.specs.declared.token.Spanned.{Spanned}
 use Rattle.game_text.specs.declared.token.Token.{Token}
 use Rattle.game_text.specs.declared.token.Token.TheVariants.{Text, Word}
 use Rattle.file_parts.specs.Parts.{whole_number, braced_texts}
 use Rattle.tree_files.specs.TreeFile.{IsBegunFile, PassesLimit}
 use Rattle.efg_reader.specs.Stops.{IsPassed}
-use Rattle.gambit_tools.specs.Input.{most_bytes}
-use Rattle.gambit_tools.specs.Game.{AreRefused, BeginsAsTree, tokens_of}
-use Rattle.gambit_tools.specs.TreeRefusals.{IsTreeRefusal}
-use Rattle.gambit_tools.specs.declared.refusal.Refusal.{Refusal}
-use Rattle.gambit_tools.specs.declared.refusal.Refusal.TheVariants as refusal
+use Rattle.gambit_tools.specs.Game.{BeginsAsTree, tokens_of}
 
 -- a comparison of a word's bytes tells whether the word is the token
 pub word_is : (token : Token) (word bytes name : List ℕ) (b : Bool) → token ≡ Word word → bytes ≡ word → b ≡ pointwise eqb bytes name → (IsTrue b → token ≡ Word name) × (token ≡ Word name → IsTrue b)
@@ -58,11 +53,3 @@ limit_begins tokens limit h =
     let passed = (some_limit tokens limit h).1 in
     let begun = begun_begins passed.begun passed.tree passed.free passed.is_begun in
     (begun.0 ++ Word passed.word ∷ passed.rest, passed.are_tokens ∙ ap (λ x. x ++ Word passed.word ∷ passed.rest) begun.1)
-
--- a refusal of the tokens of a tree is one of the bytes
-pub tree_refused : (bytes : List ℕ) (tokens : TokenList) (r : Refusal) → length bytes ≤ most_bytes → AreTokens bytes tokens → BeginsAsTree (tokens_of tokens) → IsTreeRefusal tokens r → AreRefused bytes r
-tree_refused bytes tokens (refusal.Efg fault) few are begins h =
-    (few, subst (λ n. fault.at ≤ n) are.to_the_end h.0, record { tokens = tokens; are_tokens = are; begins = begins; no_tree = h.1; no_limit = h.2 })
-tree_refused bytes tokens (refusal.TooLarge counted count limit) few are begins h = (few, inr (inr (record { tokens = tokens; are_tokens = are; is_passed = h })))
-tree_refused bytes tokens refusal.NotBuilt few are begins h = (few, record { tokens = tokens; are_tokens = are; tree = h.0; is_tree = h.1 })
-tree_refused bytes tokens _ few are begins h = elim h [ ]

@@ -12,7 +12,7 @@ use Rattle.nfg_reader.specs.TableFile.{IsTableFile}
 use Rattle.tree_files.specs.TreeFile.{IsTreeFile}
 use Rattle.tree_lines.specs.TreeEquilibria.{IsTreeEquilibriaText}
 use Rattle.reduced_form.specs.Limits.{AreFew, AllFit}
-use Rattle.reduced_form.specs.ReducedForm.{ReducedForm, IsReducedForm}
+use Rattle.reduced_strategies.specs.StrategicForm.{AreStrategies, strategic_form}
 use Rattle.enumpure.specs.Text.{IsPureEquilibriaText, IsTextTooLong, most_text}
 use Rattle.gambit_tools.specs.Input.{most_bytes}
 
@@ -37,16 +37,16 @@ pub record IsTreeGameFile (bytes : List ℕ) (tree : GameTree) : Type 0 where
   pub are_tokens : AreTokens bytes tokens
   pub is_tree : IsTreeFile (tokens_of tokens) tree
 
--- the reduced form of a tree, whose counts are within their limits and whose steps all fit
-pub record IsFormOf (tree : GameTree) (form : ReducedForm) : Type 0 where
-  pub is_form : IsReducedForm tree form
-  pub are_few : AreFew (game_of_tree tree) form.choices
-  pub all_fit : AllFit (game_of_tree tree) form.choices
+-- the reduced strategies of a tree, whose form is within the limits, and whose payoffs are computed in steps that all fit
+pub record AreFormStrategies (tree : GameTree) (strategies : List (List (List ℕ))) : Type 0 where
+  pub are_strategies : AreStrategies (game_of_tree tree) strategies
+  pub are_few : AreFew (game_of_tree tree) strategies
+  pub all_fit : AllFit (game_of_tree tree) strategies
 
--- The text of a tree's pure equilibria, which are those of its reduced form: by the strategies of the form, or as behaviour.
-abbrev pub IsFormText : Bool → GameTree → ReducedForm → List ℕ → Type 0
-IsFormText true tree form text = IsPureEquilibriaText (game_of form.table) text
-IsFormText false tree form text = IsTreeEquilibriaText (game_of_tree tree) form.choices text
+-- The text of a tree's pure equilibria, which are those of its reduced strategic form: by strategies, or as behaviour.
+abbrev pub IsFormText : Bool → GameTree → List (List (List ℕ)) → List ℕ → Type 0
+IsFormText true tree strategies text = IsPureEquilibriaText (strategic_form (game_of_tree tree) strategies) text
+IsFormText false tree strategies text = IsTreeEquilibriaText (game_of_tree tree) strategies text
 
 -- the bytes are a file of a table, and the text is that of its pure equilibria
 pub record IsTextOfTable (bytes text : List ℕ) : Type 0 where
@@ -58,9 +58,9 @@ pub record IsTextOfTable (bytes text : List ℕ) : Type 0 where
 pub record IsTextOfTree (strategic : Bool) (bytes text : List ℕ) : Type 0 where
   pub tree : GameTree
   pub is_file : IsTreeGameFile bytes tree
-  pub form : ReducedForm
-  pub is_form : IsFormOf tree form
-  pub is_text : IsFormText strategic tree form text
+  pub strategies : List (List (List ℕ))
+  pub are_strategies : AreFormStrategies tree strategies
+  pub is_text : IsFormText strategic tree strategies text
 
 -- the bytes are within the limit and a file of a game, and the text is that of its pure equilibria, within its limit
 pub record IsTextOf (strategic : Bool) (bytes text : List ℕ) : Type 0 where
@@ -78,9 +78,9 @@ pub record IsShortTable (bytes : List ℕ) : Type 0 where
 pub record IsShortTree (strategic : Bool) (bytes : List ℕ) : Type 0 where
   pub tree : GameTree
   pub is_file : IsTreeGameFile bytes tree
-  pub form : ReducedForm
-  pub is_form : IsFormOf tree form
-  pub short_text : (text : List ℕ) → IsFormText strategic tree form text → length text ≤ most_text
+  pub strategies : List (List (List ℕ))
+  pub are_strategies : AreFormStrategies tree strategies
+  pub short_text : (text : List ℕ) → IsFormText strategic tree strategies text → length text ≤ most_text
 
 -- the bytes are a file of a game with a text that is not too long
 abbrev pub IsShortGame : Bool → List ℕ → Type 0

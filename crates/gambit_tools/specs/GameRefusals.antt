@@ -12,13 +12,12 @@ use Rattle.nfg_reader.specs.TableFile.{IsTableFile, HasTooManyPayoffs}
 use Rattle.nfg_reader.specs.Stops.{too_many_payoffs}
 use Rattle.tree_files.specs.TreeFile.{IsTreeFile, PassesLimit}
 use Rattle.efg_reader.specs.Stops.{IsPassed}
-use Rattle.reduced_form.specs.ReducedForm.{ReducedForm}
 use Rattle.reduced_form.specs.Stops.{IsStop as is_form_stop}
 use Rattle.reduced_form.specs.declared.stop.ReduceStop.TheVariants as form_stops
 use Rattle.enumpure.specs.Text.{IsTextTooLong, most_text}
 use Rattle.enumpure.specs.Stops.{too_long_text}
 use Rattle.gambit_tools.specs.Input.{most_bytes}
-use Rattle.gambit_tools.specs.Game.{tokens_of, BeginsAsTree, IsGameFile, IsTreeGameFile, IsFormOf, IsFormText}
+use Rattle.gambit_tools.specs.Game.{tokens_of, BeginsAsTree, IsGameFile, IsTreeGameFile, AreFormStrategies, IsFormText}
 use Rattle.gambit_tools.specs.declared.refusal.Site.{Site}
 use Rattle.gambit_tools.specs.declared.refusal.Site.TheVariants as site
 use Rattle.gambit_tools.specs.declared.refusal.Refusal.{Refusal}
@@ -58,10 +57,10 @@ pub record IsTooLongFile (bytes : List ℕ) : Type 0 where
 pub record IsTooLongTree (strategic : Bool) (bytes : List ℕ) : Type 0 where
   pub tree : GameTree
   pub is_file : IsTreeGameFile bytes tree
-  pub form : ReducedForm
-  pub is_form : IsFormOf tree form
+  pub strategies : List (List (List ℕ))
+  pub are_strategies : AreFormStrategies tree strategies
   pub text : List ℕ
-  pub is_text : IsFormText strategic tree form text
+  pub is_text : IsFormText strategic tree strategies text
   pub is_long : most_text < length text
 
 -- the bytes have tokens, which begin as a file of a tree that passes this limit

@@ -12,14 +12,13 @@ use Rattle.nfg_reader.specs.TableFile.{IsTableFile, HasTooManyPayoffs}
 use Rattle.nfg_reader.specs.Stops.{too_many_payoffs}
 use Rattle.tree_files.specs.TreeFile.{IsTreeFile, PassesLimit}
 use Rattle.efg_reader.specs.Stops.{IsPassed}
-use Rattle.reduced_form.specs.ReducedForm.{ReducedForm}
 use Rattle.reduced_form.specs.Stops.{IsStop as is_form_stop}
 use Rattle.reduced_form.specs.declared.stop.ReduceStop.TheVariants as form_stops
 use Rattle.enumpure.specs.Text.{IsPureEquilibriaText, IsTextTooLong, most_text}
 use Rattle.enumpure.specs.Stops.{too_long_text}
 use Rattle.enumpure.specs.declared.listing.ListStop.{ListStop}
 use Rattle.enumpure.specs.declared.listing.ListStop.TheVariants as list_stops
-use Rattle.gambit_tools.specs.Game.{tokens_of, IsFormOf, IsFormText}
+use Rattle.gambit_tools.specs.Game.{tokens_of, AreFormStrategies, IsFormText}
 use Rattle.gambit_tools.specs.declared.refusal.Site.TheVariants as site
 use Rattle.gambit_tools.specs.declared.refusal.Refusal.{Refusal}
 use Rattle.gambit_tools.specs.declared.refusal.Refusal.TheVariants as refusal
@@ -33,9 +32,9 @@ refusal_of list_stops.Memory = refusal.Memory
 pub record IsTextOfTreeTokens (strategic : Bool) (tokens : TokenList) (text : List ℕ) : Type 0 where
   pub tree : GameTree
   pub is_tree : IsTreeFile (tokens_of tokens) tree
-  pub form : ReducedForm
-  pub is_form : IsFormOf tree form
-  pub is_text : IsFormText strategic tree form text
+  pub strategies : List (List (List ℕ))
+  pub are_strategies : AreFormStrategies tree strategies
+  pub is_text : IsFormText strategic tree strategies text
   pub short_text : length text ≤ most_text
 
 -- the tokens are no tree, or pass a limit of trees
@@ -51,15 +50,15 @@ IsFormRefusal tree (refusal.Range (site.Cell profile player) step) = is_form_sto
 IsFormRefusal tree _ = ⊥
 
 -- the text is too long
-abbrev pub IsLongRefusal : Bool → GameTree → ReducedForm → Refusal → Type 0
-IsLongRefusal strategic tree form (refusal.TooLarge counted count limit) =
-    (record { what = counted; count = count; limit = limit } ≡ too_long_text) × (text : List ℕ) × IsFormText strategic tree form text × (most_text < length text)
-IsLongRefusal strategic tree form _ = ⊥
+abbrev pub IsLongRefusal : Bool → GameTree → List (List (List ℕ)) → Refusal → Type 0
+IsLongRefusal strategic tree strategies (refusal.TooLarge counted count limit) =
+    (record { what = counted; count = count; limit = limit } ≡ too_long_text) × (text : List ℕ) × IsFormText strategic tree strategies text × (most_text < length text)
+IsLongRefusal strategic tree strategies _ = ⊥
 
 -- a tree of the tokens has no reduced form, or its text is too long
 abbrev pub IsGameRefusal : Bool → TokenList → Refusal → Type 0
 IsGameRefusal strategic tokens r =
-    (tree : GameTree) × IsTreeFile (tokens_of tokens) tree × (IsFormRefusal tree r ⊎ ((form : ReducedForm) × IsFormOf tree form × IsLongRefusal strategic tree form r))
+    (tree : GameTree) × IsTreeFile (tokens_of tokens) tree × (IsFormRefusal tree r ⊎ ((strategies : List (List (List ℕ))) × AreFormStrategies tree strategies × IsLongRefusal strategic tree strategies r))
 
 -- the tokens are refused as those of a tree
 abbrev pub IsTreeRefusal : Bool → TokenList → Refusal → Type 0

@@ -8,7 +8,7 @@ ghost use Rattle.gambit_tools.specs.Input.{CountsTell, most_bytes};
 ghost use Rattle.tree_files.specs.TreeFile.{IsTreeFile};
 ghost use Rattle.reduced_form.specs.ReducedForm.{IsReducedForm};
 ghost use Rattle.enumpure.specs.Text.{most_text};
-ghost use Rattle.gambit_tools.specs.Game.{IsTextOf, IsFormOf, IsFormText, BeginsAsTree, tokens_of};
+ghost use Rattle.gambit_tools.specs.Game.{IsTextOf, AreFormStrategies, IsFormText, BeginsAsTree, tokens_of};
 ghost use Rattle.gambit_tools.specs.GameRefusals.{AreRefused};
 ghost use Rattle.gambit_tools.specs.TokenTexts.{IsTextOfTreeTokens, IsTextOfTableTokens, IsReadRefusal, IsFormRefusal, IsLongRefusal, IsTreeRefusal, IsTableRefusal, refusal_of};
 ghost use Rattle.gambit_tools.specs.Refusals.{status_of, IsToldAs, NamesNumbers};
@@ -80,7 +80,8 @@ fn tree_of(alloc: Global, tokens: &Tokens) -> Result<Tree, Refusal>
 
 /// The reduced form of a tree.
 fn form_of(alloc: Global, tree: &Tree) -> Result<Reduced, Refusal>
-    ensures form { IfOk result (IsFormOf tree.now) }
+    ensures form { IfOk result (IsReducedForm tree.now) }
+    ensures strategies { IfOk result (λ form. AreFormStrategies tree.now form.choices) }
     ensures refused { IfErr result (λ r. (r ≡ Refusal.Memory) ⊎ IsFormRefusal tree.now r) }
 {
     match reduce(alloc, tree) {
@@ -116,9 +117,9 @@ fn form_text(
     reduced: &Reduced,
 ) -> Result<Vec<u8>, Refusal>
     requires form { IsReducedForm tree.now reduced.now }
-    ensures text { IfOk result (λ text. IsFormText strategic tree.now reduced.now text.items) }
+    ensures text { IfOk result (λ text. IsFormText strategic tree.now reduced.now.choices text.items) }
     ensures short { IfOk result (λ text. length text.items ≤ most_text) }
-    ensures refused { IfErr result (λ r. (r ≡ Refusal.Memory) ⊎ IsLongRefusal strategic tree.now reduced.now r) }
+    ensures refused { IfErr result (λ r. (r ≡ Refusal.Memory) ⊎ IsLongRefusal strategic tree.now reduced.now.choices r) }
 {
     let listed = if strategic {
         list_pure_equilibria(alloc, reduced.table())

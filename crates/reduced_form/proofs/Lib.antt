@@ -4,4 +4,4 @@ mod FormCounts
 mod CellRows
 mod Profiles
 mod FormLaws
-mod Exact
+pub mod Exact
