@@ -1,6 +1,6 @@
 mod ActionTexts
 mod SetCounts
-mod FormCounts
+pub mod FormCounts
 mod CellRows
 mod Profiles
-mod FormLaws
+pub mod FormLaws
