@@ -4,12 +4,13 @@ use Rattle.std.specs.List.{count_by}
 use Rattle.std.proofs.lemmas.Grind.{flat_map-append}
 use Rattle.std.proofs.lemmas.List.{append-nil}
 use Rattle.rational.specs.Rational.{ℚ}
-use Rattle.game_theory.specs.Profiles.{profile_count}
+use Rattle.game_theory.specs.Profiles.{profile_count, number_of}
 use Rattle.game_theory.specs.Lines.{line_text, lines_text}
 use Rattle.game_trees.specs.Trees.{Tree}
 use Rattle.enumpure.specs.Replies.{flag}
 use Rattle.enumpure.proofs.Totals.{total, one_if, total-flags}
-use Rattle.tree_lines.specs.Ranks.{rank_line, rank_flag, flagged_below, lines_below}
+use Rattle.tree_lines.specs.Orders.{ordered}
+use Rattle.tree_lines.specs.Ranks.{ranked, rank_line, rank_flag, flagged_below, lines_below}
 use Rattle.tree_lines.proofs.Listed.{flagged_below-none, flagged_below-push, flagged_below-skip}
 use Rattle.enumpure_trees.proofs.RankSums.{AllHaveNumbers, total-ordered}
 
@@ -51,4 +52,4 @@ length-lines_below t strategies orders flags n same h long each =
     ∙ ap (λ v. v * n) (ap (λ v. total v (λ q. one_if (rank_flag strategies orders (flag flags) q))) (long ∙ ap profile_count (sym same)) ∙ sums ∙ ap (λ v. total v (λ k. one_if (flag flags k))) (sym (long ∙ ap profile_count (sym same))) ∙ total-flags flags)
   where
     sums : total (profile_count (map length orders)) (λ q. one_if (rank_flag strategies orders (flag flags) q)) ≡ total (profile_count (map length orders)) (λ k. one_if (flag flags k))
-    sums = ?
+    sums = ap (λ ns. total (profile_count (map length orders)) (λ q. one_if (flag flags (number_of ns (ordered orders (ranked ns q)))))) (sym same) ∙ total-ordered orders (λ k. one_if (flag flags k)) h

@@ -2,9 +2,13 @@
 use Rattle.std.proofs.Common.{ℕ, suc, ◌+◌, ◌<◌, ◌≡◌, Some, List, [], ◌∷◌, ◌++◌, length, map, get_or, below_more, refl, sym, ap, ap₂, ◌∙◌, subst, arith}
 use Rattle.std.specs.List.{range_with_len}
 use Rattle.std.specs.List.Sorted.{IsPermutation}
-use Rattle.std.proofs.lemmas.List.{length-map, get_or-map, get_or_append_left, get_or_push}
+use Rattle.std.proofs.lemmas.List.{length-map, get_or-map, get_or_append_left, get_or_push, ext_get_or}
 use Rattle.std.proofs.lemmas.Option.{get_or_from_slice_get, slice_get_within}
-use Rattle.tree_lines.specs.Orders.{IsOrder, AreOrders}
+use Rattle.game_theory.specs.Profiles.{IsProfile, profile_count, number_of}
+use Rattle.tree_lines.specs.Orders.{IsOrder, AreOrders, ordered}
+use Rattle.tree_lines.specs.Ranks.{ranked, ranked_profile}
+use Rattle.tree_lines.proofs.OrderedProfiles.{order-of, IsProfile-ordered}
+use Rattle.tree_lines.proofs.Ranks.{IsProfile-ranked}
 use Rattle.enumpure_trees.specs.StrategyOrders.{IsSortedOrder, AreSortedOrders}
 use Rattle.enumpure_trees.proofs.RankSums.{HasNumbers, AllHaveNumbers}
 
@@ -20,12 +24,28 @@ AreSortedOrders-rest : (list : List (List ℕ)) (strategies : List (List (List �
 AreSortedOrders-rest list strategies order orders h = record { one_for_each = omega (arith, h.one_for_each); are_sorted = λ i l. h.are_sorted (suc i) (omega arith) }
 
 -- there are as many numbers as strategies
-pub length-orders : (strategies : List (List (List ℕ))) (orders : List (List ℕ)) → AreSortedOrders strategies orders → map length orders ≡ map length strategies
-length-orders [] [] h = refl
-length-orders [] (order ∷ orders) h = absurd (omega (arith, h.one_for_each))
-length-orders (list ∷ strategies) [] h = absurd (omega (arith, h.one_for_each))
-length-orders (list ∷ strategies) (order ∷ orders) h =
-    ap₂ (λ x y. x ∷ y) ((h.are_sorted 0 (omega arith)).is_order.one_for_each) (length-orders strategies orders (AreSortedOrders-rest list strategies order orders h))
+pub orders-counts : (strategies : List (List (List ℕ))) (orders : List (List ℕ)) → AreOrders strategies orders → map length orders ≡ map length strategies
+orders-counts strategies orders h =
+    let one = length-map orders (length {A = ℕ}) in
+    let other = length-map strategies (length {A = List ℕ}) in
+    ext_get_or 0 (map length orders) (map length strategies) (one ∙ h.one_for_each ∙ sym other) (λ i l.
+    let inside : i < length strategies = omega (arith, one, h.one_for_each) in
+    get_or-map length orders i [] 0 (omega arith) ∙ (order-of strategies orders i h inside).one_for_each ∙ sym (get_or-map length strategies i [] 0 inside))
+
+-- a profile that was written
+pub record IsRanked (strategies : List (List (List ℕ))) (orders : List (List ℕ)) (r : ℕ) (profile : List ℕ) : Type 0 where
+  pub profile_is : profile ≡ ranked_profile strategies orders r
+  pub is_profile : IsProfile (map length strategies) profile
+  pub has_number : number_of (map length orders) profile ≡ number_of (map length strategies) (ranked_profile strategies orders r)
+  pub is_ordered : IsProfile (map length orders) profile
+
+-- is that with its rank
+pub IsRanked-ordered : (strategies : List (List (List ℕ))) (orders : List (List ℕ)) (r : ℕ) (profile : List ℕ) → AreOrders strategies orders → r < profile_count (map length strategies) → profile ≡ ordered orders (ranked (map length orders) r) → IsRanked strategies orders r profile
+IsRanked-ordered strategies orders r profile h l e =
+    let same = orders-counts strategies orders h in
+    let is : profile ≡ ranked_profile strategies orders r = e ∙ ap (λ ns. ordered orders (ranked ns r)) same in
+    let whole : IsProfile (map length strategies) profile = subst (IsProfile (map length strategies)) (sym is) (IsProfile-ordered strategies orders (ranked (map length strategies) r) h (IsProfile-ranked (map length strategies) r l)) in
+    record { profile_is = is; is_profile = whole; has_number = ap₂ number_of same is; is_ordered = subst (λ ns. IsProfile ns profile) (sym same) whole }
 
 -- each has the numbers once
 pub AllHaveNumbers-sorted : (strategies : List (List (List ℕ))) (orders : List (List ℕ)) → AreSortedOrders strategies orders → AllHaveNumbers orders
