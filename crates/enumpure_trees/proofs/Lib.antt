@@ -6,5 +6,6 @@ mod RankedProfiles
 mod Sorted
 mod SortedOrders
 mod Stability
+mod TestTree
 mod Texts
 mod Told

@@ -1,7 +1,7 @@
 -- The profile with a rank, as it is written player by player.
-use Rattle.std.proofs.Common.{ℕ, zero, suc, ◌+◌, ◌/◌, ◌%◌, ◌<◌, ◌≤◌, ◌≡◌, ◌≢◌, List, [], ◌∷◌, length, map, get_or, set, Vec, Global, vec_len, below_more, refl, sym, ap, ap₂, ◌∙◌, subst, arith, mod-lt}
+use Rattle.std.proofs.Common.{ℕ, zero, suc, ◌+◌, ◌/◌, ◌%◌, ◌<◌, ◌≤◌, ◌≡◌, ◌≢◌, List, [], ◌∷◌, length, map, get_or, set, Vec, Global, vec_len, below_more, refl, sym, ap, ◌∙◌, subst, arith, mod-lt}
 use Rattle.std.proofs.lemmas.List.{length-map, get_or-map, get_or_default, get_or-set_same, get_or-set_other, ext_get_or}
-use Rattle.game_theory.specs.Profiles.{IsProfile, profile_count}
+use Rattle.game_theory.specs.Profiles.{profile_count}
 use Rattle.game_theory.proofs.ProfileNumbers.{profile-below}
 use Rattle.enumpure.specs.Ranks.{ranked as places_ranked}
 use Rattle.enumpure.proofs.ProfileParts.{IsSetBelow, next_part, length-ranked}

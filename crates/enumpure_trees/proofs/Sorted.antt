@@ -1,5 +1,5 @@
 -- Strategies that a sort by completed lists puts in order.
-use Rattle.std.proofs.Common.{ℕ, ◌+◌, ◌-◌, ◌<◌, ◌≡◌, List, [], ◌∷◌, length, map, get_or, All, Contains, is_lt, refl, sym, ap, ◌∙◌, subst, subst₂, arith}
+use Rattle.std.proofs.Common.{ℕ, ◌-◌, ◌<◌, ◌≡◌, List, [], ◌∷◌, length, map, get_or, All, Contains, is_lt, sym, ap, ◌∙◌, subst, subst₂, arith}
 use Rattle.std.specs.List.{AllPairs, range_with_len}
 use Rattle.std.specs.List.Sorted.{IsPermutation, IsSorted}
 use Rattle.std.specs.Ordering.{nat_cmp}
@@ -13,7 +13,7 @@ use Rattle.std.proofs.lemmas.Simd.{map-map}
 use Rattle.decision_walk.proofs.Ascending.{AllPairs-permutation, before_from_cmp}
 use Rattle.decision_walk.proofs.EndLists.{Differ}
 use Rattle.reduced_strategies.specs.Choices.{ComesBefore}
-use Rattle.tree_lines.specs.Orders.{completed_list, completed_of, IsOrder}
+use Rattle.tree_lines.specs.Orders.{completed_list, completed_of}
 use Rattle.enumpure_trees.specs.StrategyOrders.{AreTold, first_numbered, IsSortedOrder}
 
 -- the list at a place, completed, is as long as all

@@ -1,5 +1,5 @@
 -- The orders of all players.
-use Rattle.std.proofs.Common.{ℕ, suc, ◌+◌, ◌<◌, ◌≡◌, Some, List, [], ◌∷◌, ◌++◌, length, map, get_or, below_more, refl, sym, ap, ap₂, ◌∙◌, subst, arith}
+use Rattle.std.proofs.Common.{ℕ, suc, ◌+◌, ◌<◌, ◌≡◌, List, [], ◌∷◌, ◌++◌, length, map, get_or, below_more, sym, ap, ap₂, ◌∙◌, subst, arith}
 use Rattle.std.specs.List.{range_with_len}
 use Rattle.std.specs.List.Sorted.{IsPermutation}
 use Rattle.std.proofs.lemmas.List.{length-map, get_or-map, get_or_append_left, get_or_push, ext_get_or}
@@ -10,7 +10,7 @@ use Rattle.tree_lines.specs.Ranks.{ranked, ranked_profile}
 use Rattle.tree_lines.proofs.OrderedProfiles.{order-of, IsProfile-ordered}
 use Rattle.tree_lines.proofs.Ranks.{IsProfile-ranked}
 use Rattle.enumpure_trees.specs.StrategyOrders.{IsSortedOrder, AreSortedOrders}
-use Rattle.enumpure_trees.proofs.RankSums.{HasNumbers, AllHaveNumbers}
+use Rattle.enumpure_trees.proofs.RankSums.{AllHaveNumbers}
 
 -- they are orders
 pub AreOrders-sorted : (strategies : List (List (List ℕ))) (orders : List (List ℕ)) → AreSortedOrders strategies orders → AreOrders strategies orders

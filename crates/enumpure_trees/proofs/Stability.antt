@@ -1,5 +1,5 @@
 -- The profiles that are stable in a reduced form's table are the equilibria of the strategic form.
-use Rattle.std.proofs.Common.{ℕ, ◌<◌, ◌≡◌, ◌↔◌, Bool, IsTrue, List, length, map, get_or, sym, ap, ◌∙◌, subst, subst₂, arith}
+use Rattle.std.proofs.Common.{ℕ, ◌<◌, ◌≡◌, ◌↔◌, Bool, IsTrue, List, length, map, sym, subst, subst₂, arith}
 use Rattle.rational.specs.Rational.{ℚ, ◌≤ℚ◌}
 use Rattle.game_theory.specs.Profiles.{Game, profile_count, profile_at}
 use Rattle.game_theory.specs.Mixed.{pure}

@@ -1,11 +1,11 @@
 -- The text of the flagged lines is that of the tree's equilibria, and its length.
-use Rattle.std.proofs.Common.{ℕ, ◌+◌, ◌*◌, ◌/◌, ◌<◌, ◌≤◌, ◌≡◌, Bool, List, length, map, ap, ◌∙◌, subst, arith}
+use Rattle.std.proofs.Common.{ℕ, ◌+◌, ◌*◌, ◌/◌, ◌<◌, ◌≤◌, ◌≡◌, Bool, List, length, map, ap, subst, ◌∙◌, arith}
 use Rattle.std.specs.List.{count_by}
 use Rattle.std.proofs.Math.Nat.{mul-le-mul_right}
 use Rattle.game_theory.specs.Profiles.{IsProfile, profile_count}
 use Rattle.game_theory.specs.Lines.{line_text, lines_text}
 use Rattle.game_trees.specs.Trees.{IsTree}
-use Rattle.game_core.specs.Table.{game_of}
+use Rattle.game_core.specs.Table.{GameTable, game_of}
 use Rattle.game_core.specs.Tree.{GameTree}
 use Rattle.game_core.specs.TreeGame.{game_of_tree}
 use Rattle.reduced_form.specs.ReducedForm.{ReducedForm, IsReducedForm}
@@ -27,6 +27,10 @@ pub record AreListed (t : GameTree) (form : ReducedForm) (orders : List (List �
   pub is_form : IsReducedForm t form
   pub are_sorted : AreSortedOrders form.choices orders
   pub are_stable : AreStable (game_of form.table) flags
+
+-- the flags are those of the form's table
+pub AreListed-made : (t : GameTree) (form : ReducedForm) (orders : List (List ℕ)) (flags : List Bool) (table : GameTable) → IsTree (game_of_tree t) → IsReducedForm t form → AreSortedOrders form.choices orders → AreStable (game_of table) flags → table ≡ form.table → AreListed t form orders flags
+AreListed-made t form orders flags table w f s h e = record { is_tree = w; is_form = f; are_sorted = s; are_stable = subst (λ x. AreStable (game_of x) flags) e h }
 
 -- there is a flag for each profile
 pub length-flags : (t : GameTree) (form : ReducedForm) (flags : List Bool) → IsReducedForm t form → AreStable (game_of form.table) flags → length flags ≡ profile_count (map length form.choices)

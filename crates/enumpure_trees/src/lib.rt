@@ -8,3 +8,6 @@ mod listing;
 mod orders;
 
 pub use listing::list_pure_behaviours;
+
+#[cfg(test)]
+mod tests;

@@ -1,4 +1,4 @@
-use Rattle.std.proofs.Common.{ℕ, ◌*◌, ◌<◌, ◌≤◌, ◌≡◌, Bool, List, length, map, refl, sym, ap, ap₂, ◌∙◌, subst, arith, rules}
+use Rattle.std.proofs.Common.{◌*◌, ◌≡◌, length, map, refl, sym, ap, ap₂, ◌∙◌, subst, arith, rules}
 use Rattle.std.proofs.Math.ListN.{replicate}
 use Rattle.std.specs.List.{count_by}
 use Rattle.game_theory.specs.Profiles.{IsProfile}
@@ -11,7 +11,7 @@ use Rattle.tree_lines.specs.Orders.{AreOrders}
 use Rattle.tree_lines.specs.Ranks.{lines_below}
 use Rattle.enumpure_trees.proofs.FormSizes.{IsProfile-first}
 use Rattle.enumpure_trees.proofs.SortedOrders.{AreOrders-sorted}
-use Rattle.enumpure_trees.proofs.Texts.{AreListed, length-flags, IsTreeEquilibriaText-listed, length-listed, above_limit, below_limit}
+use Rattle.enumpure_trees.proofs.Texts.{AreListed-made, length-flags, IsTreeEquilibriaText-listed, length-listed, above_limit, below_limit}
 use Rattle.enumpure_trees.proofs.listing.list_pure_behaviours.Goals as goal
 
 pub line_length-requires-clause-profile : goal.line_length-requires-clause-profile
@@ -27,8 +27,9 @@ write_lines-requires-clause-orders c =
 
 pub write_lines-requires-clause-flags : goal.write_lines-requires-clause-flags
 write_lines-requires-clause-flags c =
-    let stable = subst (λ t. AreStable (game_of t) c.in_ok-stable.stable.items) c.table.ensures (c.in_ok-stable.ensures {u = tt}) in
-    ap length c.deref-4.ensures.value ∙ length-flags c.args.tree.now c.args.reduced.now c.in_ok-stable.stable.items c.requires.form stable
+    let flags = c.in_ok-stable.stable.items in
+    let stable = subst (λ t. AreStable (game_of t) flags) c.table.ensures (c.in_ok-stable.ensures {u = tt}) in
+    ap length c.deref-4.ensures.value ∙ length-flags c.args.tree.now c.args.reduced.now flags c.requires.form stable
 
 pub returns-then-count-each-clause-stop : goal.returns-then-count-each-clause-stop
 returns-then-count-each-clause-stop c =
@@ -36,7 +37,7 @@ returns-then-count-each-clause-stop c =
     let form = c.args.reduced.now in
     let orders = map (λ v. v.items) c.in_ok-orders.orders.items in
     let flags = c.in_ok-stable.stable.items in
-    let listed : AreListed tree form orders flags = record { is_tree = c.trees_are_game_trees.ensures tree c.players.ensures.valid; is_form = c.requires.form; are_sorted = c.in_ok-orders.ensures {u = tt}; are_stable = subst (λ t. AreStable (game_of t) flags) c.table.ensures (c.in_ok-stable.ensures {u = tt}) } in
+    let listed = AreListed-made tree form orders flags c.table.result.now (c.trees_are_game_trees.ensures tree c.players.ensures.valid) c.requires.form (c.in_ok-orders.ensures {u = tt}) (c.in_ok-stable.ensures {u = tt}) c.table.ensures in
     let counted : c.count-count.result ≡ count_by (λ b. b) c.deref-2.result.now = search rules in
     let long = length-listed tree form orders flags c.in_ok-each.each listed (c.in_ok-each.ensures {u = tt}).each in
     let above = above_limit most_text c.in_ok-each.each c.count-count.result (c.in_ok-each.ensures {u = tt}).some c.if-count-each.true in
@@ -49,7 +50,7 @@ returns-clause-text c =
     let form = c.args.reduced.now in
     let orders = map (λ v. v.items) c.in_ok-orders.orders.items in
     let flags = c.in_ok-stable.stable.items in
-    let listed : AreListed tree form orders flags = record { is_tree = c.trees_are_game_trees.ensures tree c.players.ensures.valid; is_form = c.requires.form; are_sorted = c.in_ok-orders.ensures {u = tt}; are_stable = subst (λ t. AreStable (game_of t) flags) c.table.ensures (c.in_ok-stable.ensures {u = tt}) } in
+    let listed = AreListed-made tree form orders flags c.table.result.now (c.trees_are_game_trees.ensures tree c.players.ensures.valid) c.requires.form (c.in_ok-orders.ensures {u = tt}) (c.in_ok-stable.ensures {u = tt}) c.table.ensures in
     let text = c.in_ok-write_lines.ensures {u = tt} ∙ ap₂ (λ os fs. lines_text (lines_below (game_of_tree tree) form.choices (map (λ v. v.items) os) (flag fs) (length fs))) c.deref-3.ensures.value c.deref-4.ensures.value in
     IsTreeEquilibriaText-listed tree form orders flags c.in_ok-write_lines.field-0.items listed text
 
@@ -59,7 +60,7 @@ returns-clause-within_limit c =
     let form = c.args.reduced.now in
     let orders = map (λ v. v.items) c.in_ok-orders.orders.items in
     let flags = c.in_ok-stable.stable.items in
-    let listed : AreListed tree form orders flags = record { is_tree = c.trees_are_game_trees.ensures tree c.players.ensures.valid; is_form = c.requires.form; are_sorted = c.in_ok-orders.ensures {u = tt}; are_stable = subst (λ t. AreStable (game_of t) flags) c.table.ensures (c.in_ok-stable.ensures {u = tt}) } in
+    let listed = AreListed-made tree form orders flags c.table.result.now (c.trees_are_game_trees.ensures tree c.players.ensures.valid) c.requires.form (c.in_ok-orders.ensures {u = tt}) (c.in_ok-stable.ensures {u = tt}) c.table.ensures in
     let text = c.in_ok-write_lines.ensures {u = tt} ∙ ap₂ (λ os fs. lines_text (lines_below (game_of_tree tree) form.choices (map (λ v. v.items) os) (flag fs) (length fs))) c.deref-3.ensures.value c.deref-4.ensures.value in
     let counted : c.count-count.result ≡ count_by (λ b. b) c.deref-2.result.now = search rules in
     let long = length-listed tree form orders flags c.in_ok-each.each listed (c.in_ok-each.ensures {u = tt}).each in

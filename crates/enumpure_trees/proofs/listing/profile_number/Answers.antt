@@ -1,5 +1,4 @@
-use Rattle.std.proofs.Common.{ℕ, ◌+◌, ◌*◌, ◌<◌, ◌≡◌, length, map, get_or, ap, ◌∙◌, subst, sym, arith}
-use Rattle.std.proofs.lemmas.List.{length-map}
+use Rattle.std.proofs.Common.{◌+◌, ◌*◌, ◌≡◌, length, map, get_or, ap, ◌∙◌, subst, sym, arith}
 use Rattle.game_theory.specs.Profiles.{stride}
 use Rattle.game_theory.proofs.ProfileNumbers.{length-profile, number_of-below}
 use Rattle.enumpure.proofs.ProfileParts.{IsNumberBelow, IsNumberBelow-next, number_so_far, number_of-past, HaveStrategies-profile}

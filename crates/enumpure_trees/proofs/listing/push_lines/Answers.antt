@@ -1,13 +1,13 @@
-use Rattle.std.proofs.Common.{◌≡◌, ◌++◌, map, length, sym, ap, ◌∙◌, subst, arith}
-use Rattle.game_theory.specs.Profiles.{IsProfile, profile_count, number_of}
-use Rattle.game_theory.specs.Lines.{line_text, lines_text}
+use Rattle.std.proofs.Common.{◌++◌, map, length, sym, ap, ◌∙◌, arith}
+use Rattle.game_theory.specs.Profiles.{profile_count}
+use Rattle.game_theory.specs.Lines.{line_text}
 use Rattle.game_theory.proofs.ProfileNumbers.{number_of-below}
 use Rattle.game_core.specs.TreeGame.{game_of_tree}
 use Rattle.enumpure.specs.Replies.{flag}
-use Rattle.tree_lines.specs.Ranks.{rank_line, rank_flag, lines_below}
+use Rattle.tree_lines.specs.Ranks.{rank_line, rank_flag}
 use Rattle.tree_lines.specs.TreeEquilibria.{profile_line}
 use Rattle.enumpure_trees.proofs.FlagCounts.{text-none, text-push, text-skip}
-use Rattle.enumpure_trees.proofs.SortedOrders.{orders-counts, IsRanked, IsRanked-ordered}
+use Rattle.enumpure_trees.proofs.SortedOrders.{orders-counts, IsRanked-ordered}
 use Rattle.enumpure_trees.proofs.listing.push_lines.Goals as goal
 use Rattle.enumpure_trees.proofs.listing.push_lines.Goals.{then-lines-profile_number+in_ok-behaviour+in_ok-push_line, else-lines-profile_number}
 

@@ -1,4 +1,4 @@
-use Rattle.std.proofs.Common.{◌≡◌, length, map, sym, ap, ◌∙◌, subst, arith}
+use Rattle.std.proofs.Common.{◌≡◌, map, sym, ap, ◌∙◌, subst, arith}
 use Rattle.std.proofs.lemmas.List.{length-map, take_all}
 use Rattle.enumpure_trees.specs.StrategyOrders.{first_numbered, IsSortedOrder}
 use Rattle.enumpure_trees.proofs.Sorted.{IsSortedOrder-sorted}
