@@ -1,19 +1,24 @@
 //! Behaviour on a tree: the probability of each action at each player's information set.
 #![tactic(auto)]
 
-ghost use Rattle.std.specs.Prelude.{◌≡◌, length, map, IfOk};
+ghost use Rattle.std.specs.Prelude.{◌≡◌, ◌++◌, length, map, IfOk, OnOk};
+ghost use Rattle.game_theory.specs.Lines.{listed};
+ghost use Rattle.game_theory.specs.Mixed.{sure};
 ghost use Rattle.game_theory.specs.Profiles.{IsProfile};
 ghost use Rattle.game_trees.specs.Behaviour.{pure};
 ghost use Rattle.game_core.specs.TreeGame.{game_of_tree};
+ghost use Rattle.reduced_strategies.specs.Choices.{own_sets};
 ghost use Rattle.reduced_strategies.specs.StrategicForm.{completed};
-ghost use Rattle.reduced_strategies.specs.TreeEntries.{tree_entries};
+ghost use Rattle.reduced_strategies.specs.TreeEntries.{own_entries, tree_entries};
 ghost use Rattle.reduced_form.specs.ReducedForm.{IsReducedForm};
+ghost use Rattle.behaviour_profile.specs.FirstActions.{first_for_none};
 
 use frac128::{Frac, Memory};
 use game_core::Tree;
 use reduced_form::Reduced;
 use std::alloc::Global;
 use std::marker::Model;
+use strategy_lists::own_sets_are_those_of_the_tree;
 
 /// Behaviour on a tree. Contracts see it as the list of its entries: player by player, each player's own sets in
 /// order, and the probability of each action in order.
@@ -66,6 +71,47 @@ impl Behaviour {
         requires profile { IsProfile (map length reduced.now.choices) profile.now }
         ensures { IfOk result (λ behaviour. behaviour ≡ tree_entries (game_of_tree tree.now) (pure (completed (game_of_tree tree.now) reduced.now.choices profile.now))) }
     {
-        Err(Memory)
+        let mut entries = Vec::new(alloc);
+        for player in 0..tree.players().len() {
+            let strategy = &reduced.choices()[player][profile[player] as usize];
+            push_player(&mut entries, tree, player as u32, strategy)?;
+        }
+        Ok(Behaviour { entries })
     }
+}
+
+// Adds the entries of a player who plays a strategy, with the first action at each set to which it gives none.
+fn push_player(
+    entries: &mut Vec<Frac>,
+    tree: &Tree,
+    player: u32,
+    strategy: &[u32],
+) -> Result<(), Memory>
+    requires { length strategy.now ≡ length (own_sets (game_of_tree tree.now) player) }
+    ensures { OnOk result (entries.new.items ≡ entries.old.items ++ own_entries (game_of_tree tree.now) (pure (first_for_none (game_of_tree tree.now) player strategy.now)) player) }
+{
+    own_sets_are_those_of_the_tree();
+    let sets = tree.sets();
+    for place in 0..strategy.len() {
+        if let Some(set) = tree.own_sets(player, place as u32) {
+            let chosen = (strategy[place] as usize).saturating_sub(1);
+            push_set(entries, sets[set as usize].actions().len(), chosen)?;
+        }
+    }
+    Ok(())
+}
+
+// Adds the entries of a set with so many actions: 1 for the chosen action, which counts from 0, and 0 for the others.
+fn push_set(entries: &mut Vec<Frac>, actions: usize, chosen: usize) -> Result<(), Memory>
+    ensures { OnOk result (entries.new.items ≡ entries.old.items ++ listed actions (sure chosen)) }
+{
+    for action in 0..actions {
+        let entry = if action == chosen {
+            Frac::one()
+        } else {
+            Frac::zero()
+        };
+        entries.push(entry)?;
+    }
+    Ok(())
 }

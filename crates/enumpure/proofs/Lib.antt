@@ -1,8 +1,8 @@
 pub mod Best
-pub mod EntryTexts
 pub mod Exchanges
 pub mod LineLengths
 pub mod Listed
+pub mod ProfileEntries
 pub mod ProfileParts
 pub mod Ranks
 pub mod Strides

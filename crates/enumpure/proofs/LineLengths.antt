@@ -6,25 +6,38 @@ use Rattle.std.proofs.lemmas.Grind.{flat_map-append}
 use Rattle.std.proofs.lemmas.List.{append-nil, take_all}
 use Rattle.std.proofs.lemmas.List.Sums.{sum_by-cons}
 use Rattle.std.proofs.Math.Nat.{mul-le-mul, mul-le-mul_left}
-use Rattle.rational.specs.Rational.{ℚ}
+use Rattle.std.specs.Fmt.{digits}
+use Rattle.rational.specs.Gcd.{gcd}
+use Rattle.rational.specs.Rational.{ℚ, is_lowest, frac, zero_ℚ, one_ℚ}
 use Rattle.game_theory.specs.Profiles.{profile_count}
 use Rattle.game_theory.specs.Mixed.{Mixed, later, sure, pure}
-use Rattle.game_theory.specs.Lines.{listed, entries, line_text, lines_text}
+use Rattle.game_theory.specs.Lines.{listed, entries, number_text, line_text, lines_text}
+use Rattle.game_theory.proofs.SureStrategies.{sure-at, sure-other}
 use Rattle.game_core.specs.Table.{GameTable, IsTable, strategy_counts, most_payoffs}
-use Rattle.enumpure.specs.Entries.{entry_text, entries_text}
+use Rattle.ne_printer.specs.Entries.{entry_text, entries_text}
+use Rattle.ne_printer.proofs.LineTexts.{line_text-joined}
 use Rattle.enumpure.specs.Ranks.{rank_flag, rank_line, lines_below}
 use Rattle.enumpure.specs.Replies.{flag}
-use Rattle.enumpure.proofs.EntryTexts.{line_text-some, entry_text-played, entry_text-other}
 use Rattle.enumpure.proofs.Strides.{HaveStrategies, HaveStrategies-later, HaveStrategies-table, length-strategy_counts, profile_count-positive, profile_count-table, at_most_product}
 use Rattle.enumpure.proofs.Totals.{total, one_if, total-ranked, total-flags}
+
+-- the text of 1
+number_text-one : number_text one_ℚ ≡ 49 ∷ []
+unfolding frac gcd is_lowest digits
+number_text-one = refl
+
+-- the text of 0
+number_text-zero : number_text zero_ℚ ≡ 48 ∷ []
+unfolding frac gcd is_lowest digits
+number_text-zero = refl
 
 -- an entry of a pure profile is a comma and a digit
 length-entry_text : (s t : ℕ) → length (entry_text (sure s t)) ≡ 2
 length-entry_text s t = go (cases_eq t s)
   where
     go : (t ≡ s) ⊎ (t ≢ s) → length (entry_text (sure s t)) ≡ 2
-    go (inl e) = ap length (sym (entry_text-played s t 49 e refl))
-    go (inr e) = ap length (sym (entry_text-other s t 48 e refl))
+    go (inl e) = ap (λ q. length (entry_text q)) (ap (sure s) e ∙ sure-at s) ∙ ap (λ v. length (44 ∷ v)) number_text-one
+    go (inr e) = ap (λ q. length (entry_text q)) (sure-other s t e) ∙ ap (λ v. length (44 ∷ v)) number_text-zero
 
 -- n entries of two bytes each
 length-listed : (n : ℕ) (f : ℕ → ℚ) → ((s : ℕ) → length (entry_text (f s)) ≡ 2) → length (entries_text (listed n f)) ≡ 2 * n
@@ -40,7 +53,7 @@ length-entries (n ∷ ns) m h =
 -- the length of the line with some entry
 length-line_some : (q : ℚ) (qs : List ℚ) → length (line_text (q ∷ qs)) ≡ 3 + length (entries_text (q ∷ qs))
 length-line_some q qs =
-    ap length (sym (line_text-some q qs)) ∙ length-append (codes "NE") (entries_text (q ∷ qs) ++ 10 ∷ []) ∙ ap (λ v. 2 + v) (length-append (entries_text (q ∷ qs)) (10 ∷ [])) ∙ omega arith
+    ap length (sym (line_text-joined [] (q ∷ qs))) ∙ length-append (codes "NE") (entries_text (q ∷ qs) ++ 10 ∷ []) ∙ ap (λ v. 2 + v) (length-append (entries_text (q ∷ qs)) (10 ∷ [])) ∙ omega arith
 
 -- the length of the line without entries
 pub length-line_none : (ns profile : List ℕ) → HaveStrategies ns → sum_by (λ n. n) ns ≡ 0 → length (line_text (entries ns (pure profile))) ≡ 4

@@ -1,4 +1,3 @@
-pub mod Entries
 pub mod Ranks
 pub mod Replies
 pub mod Stops

@@ -2,17 +2,17 @@
 ghost use Rattle.std.specs.Prelude.{◌≡◌, ◌<◌, ◌≤◌, ◌^◌, ◌++◌, ℕ, List, length, IfOk, IfErr, OnOk};
 ghost use Rattle.game_theory.specs.Profiles.{Game, IsProfile, profile_count, number_of};
 ghost use Rattle.game_theory.specs.Mixed.{sure, pure};
-ghost use Rattle.game_theory.specs.Lines.{listed, entries, line_text, lines_text};
+ghost use Rattle.game_theory.specs.Lines.{listed, entries as entries_of, lines_text};
 ghost use Rattle.game_core.specs.Table.{game_of};
-ghost use Rattle.enumpure.specs.Entries.{entries_text};
 ghost use Rattle.enumpure.specs.Ranks.{ranked, lines_below};
 ghost use Rattle.enumpure.specs.Stops.{IsStop};
 ghost use Rattle.enumpure.specs.Text.{IsPureEquilibriaText, most_text};
 
 use crate::lengths::text_length;
 use crate::replies::{stable_profiles, strategy_counts};
-use frac128::Memory;
+use frac128::{Frac, Memory};
 use game_core::{Table, TooLarge, What};
+use ne_printer::push_line;
 use std::alloc::Global;
 
 // The most bytes that a text may have.
@@ -69,39 +69,41 @@ fn profile_number(counts: &[usize], profile: &[usize]) -> usize
     number
 }
 
-// Adds a player's entries, each behind a comma.
-fn push_entries(text: &mut Vec<u8>, strategies: usize, played: usize) -> Result<(), Memory>
-    ensures { OnOk result (text.new.items ≡ text.old.items ++ entries_text (listed strategies (sure played))) }
+// Adds a player's entries: 1 for the strategy that is played, and 0 for the others.
+fn push_entries(entries: &mut Vec<Frac>, strategies: usize, played: usize) -> Result<(), Memory>
+    ensures { OnOk result (entries.new.items ≡ entries.old.items ++ listed strategies (sure played)) }
 {
     for strategy in 0..strategies {
-        let digit = if strategy == played { b'1' } else { b'0' };
-        text.extend_from_slice(&[b',', digit])?;
+        let entry = if strategy == played {
+            Frac::one()
+        } else {
+            Frac::zero()
+        };
+        entries.push(entry)?;
     }
     Ok(())
 }
 
-// Adds the line of a pure profile.
-fn push_line(text: &mut Vec<u8>, counts: &[usize], profile: &[usize]) -> Result<(), Memory>
+// Writes the entries of a pure profile over those that stood there.
+fn set_entries(entries: &mut Vec<Frac>, counts: &[usize], profile: &[usize]) -> Result<(), Memory>
     requires profile { IsProfile counts.now profile.now }
-    ensures { OnOk result (text.new.items ≡ text.old.items ++ line_text (entries counts.now (pure profile.now))) }
+    ensures { OnOk result (entries.new.items ≡ entries_of counts.now (pure profile.now)) }
 {
-    text.extend_from_slice(b"NE")?;
-    if counts.is_empty() {
-        text.push(b',')?;
-    }
+    entries.clear();
     for player in 0..counts.len() {
-        push_entries(text, counts[player], profile[player])?;
+        push_entries(entries, counts[player], profile[player])?;
     }
-    text.push(b'\n')?;
     Ok(())
 }
 
-// Adds the lines of the flagged profiles in the order of their ranks. Writes over `profile`.
+// Adds the lines of the flagged profiles in the order of their ranks. Writes over `profile` and `entries`.
 fn push_lines(
+    alloc: Global,
     text: &mut Vec<u8>,
     counts: &[usize],
     stable: &[bool],
     profile: &mut [usize],
+    entries: &mut Vec<Frac>,
 ) -> Result<(), Memory>
     requires players { length profile.old ≡ length counts.now }
     requires flags { length stable.now ≡ profile_count counts.now }
@@ -110,7 +112,8 @@ fn push_lines(
     for rank in 0..stable.len() {
         set_profile(profile, counts, stable.len(), rank);
         if stable[profile_number(counts, profile)] {
-            push_line(text, counts, profile)?;
+            set_entries(entries, counts, profile)?;
+            push_line(alloc, text, entries)?;
         }
     }
     Ok(())
@@ -127,8 +130,9 @@ fn write_lines(
     ensures { IfOk result (λ text. text.items ≡ lines_text (lines_below counts.now stable.now (length stable.now))) }
 {
     let mut profile = vec![in alloc; 0; counts.len()]?;
+    let mut entries = Vec::new(alloc);
     let mut text = Vec::with_capacity(alloc, bytes)?;
-    push_lines(&mut text, counts, stable, &mut profile)?;
+    push_lines(alloc, &mut text, counts, stable, &mut profile, &mut entries)?;
     Ok(text)
 }
 

@@ -1,5 +1,5 @@
 -- The status and the line of each refusal.
-use Rattle.std.specs.Prelude.{ℕ, ◌≡◌, ◌⊎◌, List, [], ◌∷◌, ◌++◌, Option, None, Some, codes}
+use Rattle.std.specs.Prelude.{ℕ, suc, ◌≡◌, ◌⊎◌, List, [], ◌∷◌, ◌++◌, Option, None, Some, codes}
 use Rattle.std.specs.Fmt.{decimal}
 use Rattle.game_core.specs.declared.too_large.What.{What}
 use Rattle.game_core.specs.declared.too_large.What.TheVariants as what
@@ -14,6 +14,8 @@ use Rattle.tree_uses.specs.declared.fault.EfgKind.{EfgKind}
 use Rattle.tree_uses.specs.declared.fault.EfgKind.TheVariants as efg_kind
 use Rattle.words.specs.declared.Usage.{Usage}
 use Rattle.words.specs.declared.Usage.TheVariants as usage
+use Rattle.gambit_tools.specs.declared.refusal.Site.{Site}
+use Rattle.gambit_tools.specs.declared.refusal.Site.TheVariants as site
 use Rattle.gambit_tools.specs.declared.refusal.Refusal.{Refusal}
 use Rattle.gambit_tools.specs.declared.refusal.Refusal.TheVariants as refusal
 
@@ -28,7 +30,7 @@ status_of (refusal.Text fault) = 1
 status_of (refusal.Nfg fault) = 1
 status_of (refusal.Efg fault) = 1
 status_of (refusal.TooLarge counted count limit) = 1
-status_of refusal.NotBuilt = 1
+status_of (refusal.Range place step) = 1
 status_of refusal.Memory = 5
 
 -- the status of a run, which is 0 where nothing is refused
@@ -85,6 +87,10 @@ what_text what.Pairs = codes "pairs"
 what_text what.Rows = codes "rows"
 what_text what.Text = codes "bytes of text"
 
+-- where a step stands; profiles and players are counted from 1
+abbrev pub site_text : Site → List ℕ
+site_text (site.Cell profile player) = codes "profile " ++ decimal (suc profile) ++ codes " player " ++ decimal (suc player)
+
 abbrev pub refusal_text : Refusal → List ℕ
 refusal_text (refusal.Usage u) = usage_text u
 refusal_text refusal.OpenFault = codes "cannot open"
@@ -95,7 +101,7 @@ refusal_text (refusal.Text fault) = codes "text fault at " ++ decimal fault.at +
 refusal_text (refusal.Nfg fault) = codes "nfg fault at " ++ decimal fault.at ++ codes ": " ++ nfg_kind_text fault.kind
 refusal_text (refusal.Efg fault) = codes "efg fault at " ++ decimal fault.at ++ codes ": " ++ efg_kind_text fault.kind
 refusal_text (refusal.TooLarge counted count limit) = codes "too large: " ++ decimal count ++ codes " " ++ what_text counted ++ codes ", limit " ++ decimal limit
-refusal_text refusal.NotBuilt = codes "not built yet"
+refusal_text (refusal.Range place step) = codes "range in " ++ site_text place ++ codes ": " ++ op_text step.op ++ codes " " ++ number_text step.left ++ codes " " ++ number_text step.right
 refusal_text refusal.Memory = codes "out of memory"
 
 -- the line of a refusal on standard error
@@ -108,6 +114,7 @@ NamesNumbers (refusal.Text fault) = Unit {0}
 NamesNumbers (refusal.Nfg fault) = Unit {0}
 NamesNumbers (refusal.Efg fault) = Unit {0}
 NamesNumbers (refusal.TooLarge counted count limit) = Unit {0}
+NamesNumbers (refusal.Range place step) = Unit {0}
 NamesNumbers _ = ⊥
 
 -- the refusal that is told: itself, or want of memory where its line could not be formed

@@ -7,6 +7,6 @@ mod output;
 mod refusal;
 mod tools;
 
-pub use refusal::Refusal;
+pub use refusal::{Refusal, Site};
 pub use tools::{refusals_are_exact, refuse, run};
 pub use words::{Settings, SettingsStop, Usage, read_settings};

@@ -1,6 +1,6 @@
 // How a run is refused.
 ghost use Rattle.std.specs.Prelude.{◌≡◌, IfOk, MatchOption, string_bytes};
-ghost use Rattle.gambit_tools.specs.Refusals.{text_kind_text, nfg_kind_text, efg_kind_text, op_text, what_text, refusal_line};
+ghost use Rattle.gambit_tools.specs.Refusals.{text_kind_text, nfg_kind_text, efg_kind_text, op_text, site_text, what_text, refusal_line};
 ghost use Rattle.game_theory.specs.Lines.{number_text};
 ghost use Rattle.tree_uses.specs.declared.fault.EfgKind.TheVariants.{Probability, ProbabilityRange};
 ghost use Rattle.gambit_tools.specs.declared.refusal.Refusal.TheVariants as refusal;
@@ -10,10 +10,23 @@ use frac128::{Frac, Op, Unfit};
 use game_core::{TooLarge, What};
 use game_text::{TextFault, TextKind};
 use memory::Memory;
+use ne_printer::fraction_text;
 use nfg_reader::{NfgFault, NfgKind};
 use std::alloc::Global;
 use thiserror::Error;
 use words::Usage;
+
+/// Where a step of the arithmetic stands. Profiles and players are numbered from 0.
+#[derive(Clone, Copy, Debug)]
+pub enum Site {
+    /// In the payoff of a player at a profile of a reduced form.
+    Cell {
+        /// The profile.
+        profile: u32,
+        /// The player.
+        player: u32,
+    },
+}
 
 /// Why a run is refused. The line on standard error is that of [`Refusal::line`]; the derived text is for
 /// debugging.
@@ -46,9 +59,9 @@ pub enum Refusal {
     /// A count passed its limit.
     #[error("too large")]
     TooLarge { what: What, count: u64, limit: u64 },
-    /// The input is of a kind that is not read yet.
-    #[error("not built yet")]
-    NotBuilt,
+    /// A step of the arithmetic does not fit 128 bits.
+    #[error("range")]
+    Range { site: Site, unfit: Unfit },
     /// Memory ran out.
     #[error("out of memory")]
     Memory,
@@ -92,19 +105,6 @@ fn op_text(op: Op) -> &'static str
     }
 }
 
-// The text of a fraction.
-fn fraction(alloc: Global, value: Frac) -> Result<String, Memory>
-    ensures { IfOk result (λ text. string_bytes text ≡ number_text value) }
-{
-    let num = value.num();
-    let den = value.den();
-    if den == 1 {
-        Ok(format!(in alloc; "{num}")?)
-    } else {
-        Ok(format!(in alloc; "{num}/{den}")?)
-    }
-}
-
 // The words for a kind of fault in a file of a tree.
 fn efg_kind_text(alloc: Global, kind: EfgKind) -> Result<String, Memory>
     ensures { IfOk result (λ text. string_bytes text ≡ efg_kind_text kind) }
@@ -128,7 +128,7 @@ fn efg_kind_text(alloc: Global, kind: EfgKind) -> Result<String, Memory>
 fn probability_text(alloc: Global, set: u64, sum: Frac) -> Result<String, Memory>
     ensures { IfOk result (λ text. string_bytes text ≡ efg_kind_text (Probability set sum)) }
 {
-    let sum = fraction(alloc, sum)?;
+    let sum = fraction_text(alloc, sum)?;
     Ok(format!(in alloc; "probability of set {set} sums to {sum}")?)
 }
 
@@ -137,8 +137,8 @@ fn range_text(alloc: Global, set: u64, unfit: Unfit) -> Result<String, Memory>
     ensures { IfOk result (λ text. string_bytes text ≡ efg_kind_text (ProbabilityRange set unfit)) }
 {
     let op = op_text(unfit.op);
-    let left = fraction(alloc, unfit.left)?;
-    let right = fraction(alloc, unfit.right)?;
+    let left = fraction_text(alloc, unfit.left)?;
+    let right = fraction_text(alloc, unfit.right)?;
     Ok(format!(in alloc; "probability of set {set} out of range: {op} {left} {right}")?)
 }
 
@@ -176,7 +176,7 @@ impl Refusal {
             | Refusal::Nfg(_)
             | Refusal::Efg(_)
             | Refusal::TooLarge { .. }
-            | Refusal::NotBuilt => 1,
+            | Refusal::Range { .. } => 1,
             Refusal::Memory => 5,
         }
     }
@@ -193,9 +193,12 @@ impl Refusal {
             Refusal::ReadFault => Some("gambit: read failed\n"),
             Refusal::WriteFault => Some("gambit: write failed\n"),
             Refusal::TooLong => Some("gambit: file longer than 16777216 bytes\n"),
-            Refusal::NotBuilt => Some("gambit: not built yet\n"),
             Refusal::Memory => Some("gambit: out of memory\n"),
-            Refusal::Text(_) | Refusal::Nfg(_) | Refusal::Efg(_) | Refusal::TooLarge { .. } => None,
+            Refusal::Text(_)
+            | Refusal::Nfg(_)
+            | Refusal::Efg(_)
+            | Refusal::TooLarge { .. }
+            | Refusal::Range { .. } => None,
         }
     }
 
@@ -215,6 +218,7 @@ impl Refusal {
                 };
                 limit_line(alloc, passed)
             }
+            Refusal::Range { site, unfit } => range_line(alloc, *site, *unfit),
             _ => match self.fixed_line() {
                 Some(line) => Ok(String::from_str(alloc, line)?),
                 None => Err(Memory),
@@ -254,4 +258,27 @@ fn limit_line(alloc: Global, passed: TooLarge) -> Result<String, Memory>
     let count = passed.count;
     let limit = passed.limit;
     Ok(format!(in alloc; "gambit: too large: {count} {what}, limit {limit}\n")?)
+}
+
+// The words for a site.
+fn site_text(alloc: Global, site: Site) -> Result<String, Memory>
+    ensures { IfOk result (λ text. string_bytes text ≡ site_text site) }
+{
+    match site {
+        Site::Cell { profile, player } => {
+            let profile = profile as u64 + 1;
+            let player = player as u64 + 1;
+            Ok(format!(in alloc; "profile {profile} player {player}")?)
+        }
+    }
+}
+
+fn range_line(alloc: Global, site: Site, unfit: Unfit) -> Result<String, Memory>
+    ensures { IfOk result (λ line. string_bytes line ≡ refusal_line (refusal.Range site unfit)) }
+{
+    let site = site_text(alloc, site)?;
+    let op = op_text(unfit.op);
+    let left = fraction_text(alloc, unfit.left)?;
+    let right = fraction_text(alloc, unfit.right)?;
+    Ok(format!(in alloc; "gambit: range in {site}: {op} {left} {right}\n")?)
 }

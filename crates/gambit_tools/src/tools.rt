@@ -5,23 +5,29 @@ ghost use Rattle.outside.specs.Inputs.{InputName};
 ghost use Rattle.words.specs.Words.{command_of};
 ghost use Rattle.gambit_tools.specs.Seen.{inputs_seen, sink_seen};
 ghost use Rattle.gambit_tools.specs.Input.{CountsTell, most_bytes};
-ghost use Rattle.gambit_tools.specs.Game.{IsTextOf, AreRefused, BeginsAsTree, tokens_of};
-ghost use Rattle.gambit_tools.specs.TreeRefusals.{IsTreeRefusal};
+ghost use Rattle.tree_files.specs.TreeFile.{IsTreeFile};
+ghost use Rattle.reduced_form.specs.ReducedForm.{IsReducedForm};
+ghost use Rattle.enumpure.specs.Text.{most_text};
+ghost use Rattle.gambit_tools.specs.Game.{IsTextOf, IsFormOf, IsFormText, BeginsAsTree, tokens_of};
+ghost use Rattle.gambit_tools.specs.GameRefusals.{AreRefused};
+ghost use Rattle.gambit_tools.specs.TokenTexts.{IsTextOfTreeTokens, IsTextOfTableTokens, IsReadRefusal, IsFormRefusal, IsLongRefusal, IsTreeRefusal, IsTableRefusal, refusal_of};
 ghost use Rattle.gambit_tools.specs.Refusals.{status_of, IsToldAs, NamesNumbers};
 ghost use Rattle.gambit_tools.specs.Laws.{RefusalsAreExact};
-ghost use Rattle.gambit_tools.specs.Outcome.{input_of, HasCause, Writes, Tells, TakesLine, IsOutcome, IsAccepted, NoFault};
+ghost use Rattle.gambit_tools.specs.Outcome.{input_of, strategic_of, HasCause, Writes, Tells, TakesLine, IsOutcome, IsAccepted, NoFault};
 ghost use Rattle.gambit_tools.specs.declared.refusal.Refusal.{Refusal};
 ghost use Rattle.game_text.specs.declared.token.Token.TheVariants as token_kind;
 
 use crate::input::read_input;
 use crate::output::write_text;
-use crate::refusal::Refusal;
+use crate::refusal::{Refusal, Site};
 use efg_reader::EfgStop;
 use enumpure::{ListStop, list_pure_equilibria};
-use game_core::TooLarge;
+use enumpure_trees::list_pure_behaviours;
+use game_core::{TooLarge, Tree};
 use game_text::{TextStop, Token, Tokens, read_tokens};
 use nfg_reader::{NfgStop, read};
 use outside::{Gate, Inputs, Sink};
+use reduced_form::{ReduceStop, Reduced, reduce};
 use std::alloc::Global;
 use std::thread::Threads;
 use words::{Settings, SettingsStop, read_settings};
@@ -58,24 +64,105 @@ fn begins_as_tree(tokens: &Tokens) -> bool
     }
 }
 
-/// The refusal for a file that begins as that of a tree: trees are read, and nothing is done with them yet.
-fn tree_refusal(alloc: Global, tokens: &Tokens) -> Refusal
+/// The tree that the tokens stand for.
+fn tree_of(alloc: Global, tokens: &Tokens) -> Result<Tree, Refusal>
     requires few { length tokens.now.list < 2 ^ 32 }
-    ensures { (result ≡ Refusal.Memory) ⊎ IsTreeRefusal tokens.now result }
+    ensures tree { IfOk result (IsTreeFile (tokens_of tokens.now)) }
+    ensures refused { IfErr result (λ r. (r ≡ Refusal.Memory) ⊎ IsReadRefusal tokens.now r) }
 {
     match efg_reader::read(alloc, tokens) {
-        Ok(_tree) => Refusal::NotBuilt,
-        Err(EfgStop::Fault(fault)) => Refusal::Efg(fault),
-        Err(EfgStop::TooLarge(passed)) => too_large(passed),
-        Err(EfgStop::Memory) => Refusal::Memory,
+        Ok(tree) => Ok(tree),
+        Err(EfgStop::Fault(fault)) => Err(Refusal::Efg(fault)),
+        Err(EfgStop::TooLarge(passed)) => Err(too_large(passed)),
+        Err(EfgStop::Memory) => Err(Refusal::Memory),
     }
 }
 
-/// The text of the pure equilibria of the game that the bytes stand for.
-fn pure_equilibria_text(alloc: Global, bytes: &[u8]) -> Result<Vec<u8>, Refusal>
+/// The reduced form of a tree.
+fn form_of(alloc: Global, tree: &Tree) -> Result<Reduced, Refusal>
+    ensures form { IfOk result (IsFormOf tree.now) }
+    ensures refused { IfErr result (λ r. (r ≡ Refusal.Memory) ⊎ IsFormRefusal tree.now r) }
+{
+    match reduce(alloc, tree) {
+        Ok(reduced) => Ok(reduced),
+        Err(ReduceStop::TooLarge(passed)) => Err(too_large(passed)),
+        Err(ReduceStop::Range {
+            profile,
+            player,
+            unfit,
+        }) => {
+            let site = Site::Cell { profile, player };
+            Err(Refusal::Range { site, unfit })
+        }
+        Err(ReduceStop::Memory) => Err(Refusal::Memory),
+    }
+}
+
+/// The refusal for a text that was not listed.
+fn list_refusal(stop: ListStop) -> Refusal
+    ensures { result ≡ refusal_of stop }
+{
+    match stop {
+        ListStop::TooLarge(passed) => too_large(passed),
+        ListStop::Memory => Refusal::Memory,
+    }
+}
+
+/// The text of the pure equilibria of a tree with this reduced form, by strategies or as behaviour.
+fn form_text(
+    alloc: Global,
+    strategic: bool,
+    tree: &Tree,
+    reduced: &Reduced,
+) -> Result<Vec<u8>, Refusal>
+    requires form { IsReducedForm tree.now reduced.now }
+    ensures text { IfOk result (λ text. IsFormText strategic tree.now reduced.now text.items) }
+    ensures short { IfOk result (λ text. length text.items ≤ most_text) }
+    ensures refused { IfErr result (λ r. (r ≡ Refusal.Memory) ⊎ IsLongRefusal strategic tree.now reduced.now r) }
+{
+    let listed = if strategic {
+        list_pure_equilibria(alloc, reduced.table())
+    } else {
+        list_pure_behaviours(alloc, tree, reduced)
+    };
+    listed.map_err(list_refusal)
+}
+
+/// The text of the pure equilibria of the tree that the tokens stand for, by strategies or as behaviour.
+fn tree_text(alloc: Global, strategic: bool, tokens: &Tokens) -> Result<Vec<u8>, Refusal>
+    requires few { length tokens.now.list < 2 ^ 32 }
+    ensures text { IfOk result (λ text. IsTextOfTreeTokens strategic tokens.now text.items) }
+    ensures refused { IfErr result (λ r. (r ≡ Refusal.Memory) ⊎ IsTreeRefusal strategic tokens.now r) }
+{
+    let tree = tree_of(alloc, tokens)?;
+    let reduced = form_of(alloc, &tree)?;
+    form_text(alloc, strategic, &tree, &reduced)
+}
+
+/// The text of the pure equilibria of the table that the tokens stand for.
+fn table_text(alloc: Global, tokens: &Tokens) -> Result<Vec<u8>, Refusal>
+    ensures text { IfOk result (λ text. IsTextOfTableTokens tokens.now text.items) }
+    ensures refused { IfErr result (λ r. (r ≡ Refusal.Memory) ⊎ IsTableRefusal tokens.now r) }
+{
+    let table = match read(alloc, tokens) {
+        Ok(table) => table,
+        Err(NfgStop::Fault(fault)) => return Err(Refusal::Nfg(fault)),
+        Err(NfgStop::TooLarge(passed)) => return Err(too_large(passed)),
+        Err(NfgStop::Memory) => return Err(Refusal::Memory),
+    };
+    list_pure_equilibria(alloc, &table).map_err(list_refusal)
+}
+
+/// The text of the pure equilibria of the game that the bytes stand for; those of a tree by strategies or as
+/// behaviour.
+fn pure_equilibria_text(
+    alloc: Global,
+    strategic: bool,
+    bytes: &[u8],
+) -> Result<Vec<u8>, Refusal>
     requires { length bytes.now ≤ most_bytes }
-    ensures text { IfOk result (λ text. IsTextOf bytes.now text.items) }
-    ensures refused { IfErr result (λ r. (r ≡ Refusal.Memory) ⊎ AreRefused bytes.now r) }
+    ensures text { IfOk result (λ text. IsTextOf strategic bytes.now text.items) }
+    ensures refused { IfErr result (λ r. (r ≡ Refusal.Memory) ⊎ AreRefused strategic bytes.now r) }
 {
     let tokens = match read_tokens(alloc, bytes) {
         Ok(tokens) => tokens,
@@ -83,18 +170,18 @@ fn pure_equilibria_text(alloc: Global, bytes: &[u8]) -> Result<Vec<u8>, Refusal>
         Err(TextStop::Memory) => return Err(Refusal::Memory),
     };
     if begins_as_tree(&tokens) {
-        return Err(tree_refusal(alloc, &tokens));
+        tree_text(alloc, strategic, &tokens)
+    } else {
+        table_text(alloc, &tokens)
     }
-    let table = match read(alloc, &tokens) {
-        Ok(table) => table,
-        Err(NfgStop::Fault(fault)) => return Err(Refusal::Nfg(fault)),
-        Err(NfgStop::TooLarge(passed)) => return Err(too_large(passed)),
-        Err(NfgStop::Memory) => return Err(Refusal::Memory),
-    };
-    match list_pure_equilibria(alloc, &table) {
-        Ok(text) => Ok(text),
-        Err(ListStop::TooLarge(passed)) => Err(too_large(passed)),
-        Err(ListStop::Memory) => Err(Refusal::Memory),
+}
+
+/// Whether the settings ask for a tree's equilibria by strategies.
+fn is_strategic(settings: &Settings) -> bool
+    ensures { result ≡ strategic_of (command_of settings.now) }
+{
+    match settings {
+        Settings::Enumpure { strategic, .. } => *strategic,
     }
 }
 
@@ -103,7 +190,7 @@ fn input_name(settings: Settings) -> Option<String>
     ensures { option_map string_bytes result ≡ input_of (command_of settings) }
 {
     match settings {
-        Settings::Enumpure { file } => file,
+        Settings::Enumpure { file, .. } => file,
     }
 }
 
@@ -132,8 +219,9 @@ fn answer<I: Inputs, K: Sink>(
         Err(SettingsStop::Usage(usage)) => return Err(Refusal::Usage(usage)),
         Err(SettingsStop::Memory) => return Err(Refusal::Memory),
     };
+    let strategic = is_strategic(&settings);
     let bytes = read_input(alloc, inputs, input_name(settings))?;
-    let text = pure_equilibria_text(alloc, &bytes)?;
+    let text = pure_equilibria_text(alloc, strategic, &bytes)?;
     match write_text(out, &text) {
         Ok(()) => Ok(()),
         Err(_) => Err(Refusal::WriteFault),

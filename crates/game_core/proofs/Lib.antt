@@ -2,4 +2,4 @@ mod Numbers
 mod PlayersSets
 mod PrefixOrder
 mod SmallTree
-pub mod TreeLaws
+mod TreeLaws

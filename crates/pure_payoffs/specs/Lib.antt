@@ -2,4 +2,3 @@ pub mod Children
 pub mod Filled
 pub mod Plays
 pub mod Steps
-pub mod TestTrees

@@ -10,6 +10,3 @@ mod payoff;
 
 pub use children::children_of_all;
 pub use payoff::Play;
-
-#[cfg(test)]
-mod tests;

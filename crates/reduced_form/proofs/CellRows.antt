@@ -1,11 +1,10 @@
 -- The cells of a reduced form in the order in which they are computed.
-use Rattle.std.proofs.Common.{ℕ, suc, ◌+◌, ◌*◌, ◌/◌, ◌%◌, ◌<◌, ◌≤◌, ◌≡◌, ◌⊎◌, inl, inr, List, [], ◌∷◌, ◌++◌, length, map, get_or, All, refl, sym, ap, ap₂, ◌∙◌, subst, arith, below_more}
+use Rattle.std.proofs.Common.{ℕ, ◌+◌, ◌*◌, ◌/◌, ◌%◌, ◌<◌, ◌≤◌, ◌≡◌, ◌⊎◌, inl, inr, List, [], ◌∷◌, ◌++◌, length, get_or, sym, ap, ◌∙◌, subst, arith}
 use Rattle.std.proofs.lemmas.Bool.{cases_lt}
 use Rattle.std.proofs.lemmas.List.{length_push, get_or_append_left, get_or_push}
 use Rattle.std.proofs.lemmas.Nat.{div-mul-add, mod-mul-add}
 use native.Mathlib.Nat as N
 use Rattle.rational.specs.Rational.{ℚ, zero_ℚ}
-use Rattle.game_theory.specs.Profiles.{profile_count}
 use Rattle.game_trees.specs.Trees.{Tree}
 use Rattle.reduced_form.specs.Cells.{IsCell, AreCells}
 use Rattle.reduced_form.specs.Limits.{EarlierFit}

@@ -1,7 +1,7 @@
 -- The sizes of a reduced form by the numbers of strategies.
-use Rattle.std.proofs.Common.{ℕ, zero, suc, ◌+◌, ◌*◌, ◌/◌, ◌<◌, ◌≤◌, ◌≡◌, inl, inr, Some, List, [], ◌∷◌, ◌++◌, length, map, take, drop, get_or, All, refl, sym, ap, ap₂, ◌∙◌, subst, arith, min, below_more, option_map}
+use Rattle.std.proofs.Common.{ℕ, zero, suc, ◌+◌, ◌*◌, ◌/◌, ◌<◌, ◌≤◌, ◌≡◌, inl, inr, Some, List, [], ◌∷◌, ◌++◌, length, map, take, get_or, All, refl, sym, ap, ap₂, ◌∙◌, subst, arith, min, below_more, option_map}
 use Rattle.std.specs.Prelude.{slice_get}
-use Rattle.std.proofs.lemmas.List.{length-map, length_push, length-take-le, take_all, take_more, get_or_append_left, get_or_push, ext_get_or, get_or-take, take-append-drop, get_or-map}
+use Rattle.std.proofs.lemmas.List.{length-map, length_push, length-take-le, take_all, take_more, get_or_append_left, get_or_push, ext_get_or, get_or-take, get_or-map}
 use Rattle.std.proofs.lemmas.Option.{slice_get-get_or, slice_get-map, slice_get_read}
 use Rattle.std.proofs.Math.Nat.{lt-div-mul-add, mul-div-le, min-le_left, min-eq_left, min-eq_right}
 use Rattle.std.proofs.lemmas.Bool.{cases_lt}
@@ -16,7 +16,7 @@ use Rattle.reduced_strategies.proofs.Existence.{strategies-exist}
 use Rattle.game_core.specs.Table.{most_payoffs}
 use Rattle.strategy_lists.specs.Decisions.{HasCount}
 use Rattle.reduced_form.specs.Counts.{AreCounts, AreCounted, choices_by}
-use Rattle.reduced_form.specs.Limits.{payoff_count, choice_count, choices_from, most_choices}
+use Rattle.reduced_form.specs.Limits.{choice_count, choices_from, most_choices}
 use Rattle.reduced_form.specs.Stops.{HasTooManyPayoffs, HasTooManyChoices}
 
 -- ---- products

@@ -1,15 +1,15 @@
 -- The table of a reduced form, and that its cells are those of the strategic form.
-use Rattle.std.proofs.Common.{ℕ, zero, suc, ◌+◌, ◌*◌, ◌<◌, ◌≤◌, ◌≡◌, ◌⊎◌, inl, inr, List, [], ◌∷◌, length, map, get_or, All, refl, sym, ap, ap₂, ◌∙◌, subst, arith}
+use Rattle.std.proofs.Common.{ℕ, ◌+◌, ◌*◌, ◌<◌, ◌≤◌, ◌≡◌, List, [], ◌∷◌, length, map, get_or, All, refl, sym, ap, ap₂, ◌∙◌, subst, arith}
 use Rattle.std.proofs.lemmas.List.{length-map, get_or-map, get_or_default}
 use native.Mathlib.Nat as N
-use Rattle.rational.specs.Rational.{ℚ, zero_ℚ}
-use Rattle.game_theory.specs.Profiles.{IsProfile, profile_count, profile_at, number_of}
+use Rattle.rational.specs.Rational.{ℚ}
+use Rattle.game_theory.specs.Profiles.{profile_count, number_of}
 use Rattle.game_theory.proofs.ProfileNumbers.{number_of-below, profile_at-number_of}
 use Rattle.game_trees.specs.Trees.{Tree, IsTree as is_game_tree}
 use Rattle.game_trees.specs.Behaviour.{payoff, pure}
 use Rattle.reduced_strategies.specs.StrategicForm.{AreStrategies, completed}
 use Rattle.reduced_strategies.proofs.Completions.{completions-pay}
-use Rattle.game_core.specs.Table.{GameTable, IsTable, game_of, most_payoffs, strategy_counts}
+use Rattle.game_core.specs.Table.{GameTable, IsTable, most_payoffs}
 use Rattle.game_core.specs.Tree.{GameTree}
 use Rattle.game_core.specs.TreeGame.{game_of_tree}
 use Rattle.reduced_form.specs.Cells.{AreCells, IsCellStop}

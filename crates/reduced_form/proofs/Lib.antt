@@ -4,3 +4,4 @@ pub mod FormCounts
 mod CellRows
 mod Profiles
 pub mod FormLaws
+mod Exact

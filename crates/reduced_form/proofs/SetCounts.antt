@@ -1,5 +1,5 @@
 -- How many own sets a player has.
-use Rattle.std.proofs.Common.{ℕ, suc, ◌≤◌, Bool, true, false, cond, List, [], ◌∷◌, length, arith}
+use Rattle.std.proofs.Common.{ℕ, suc, ◌≤◌, Bool, true, false, List, [], ◌∷◌, length, arith}
 use Rattle.std.specs.Prelude.{if◌then◌else◌}
 use Rattle.game_core.specs.Tree.{GameTree, InformationSet, is_set, own_from, own_sets}
 

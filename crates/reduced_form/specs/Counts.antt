@@ -1,6 +1,5 @@
 -- The numbers of the players' reduced strategies, and the sizes of the form by them.
-use Rattle.std.specs.Prelude.{ℕ, suc, ◌+◌, ◌*◌, ◌<◌, ◌≤◌, ◌≡◌, List, [], ◌∷◌, length, map, slice_index}
-use Rattle.game_theory.specs.Profiles.{profile_count}
+use Rattle.std.specs.Prelude.{ℕ, suc, ◌+◌, ◌*◌, ◌<◌, ◌≡◌, List, [], ◌∷◌, length, map, slice_index}
 use Rattle.game_trees.specs.Trees.{Tree}
 use Rattle.reduced_strategies.specs.Choices.{own_sets}
 use Rattle.reduced_strategies.specs.StrategicForm.{AreStrategies}

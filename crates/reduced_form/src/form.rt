@@ -1,9 +1,9 @@
 // The reduced strategic form.
-ghost use Rattle.std.specs.Prelude.{◌≡◌, ◌<◌, ◌≤◌, ◌*◌, length, map, IfOk, IfErr};
+ghost use Rattle.std.specs.Prelude.{◌≡◌, ◌≢◌, ◌<◌, ◌≤◌, ◌*◌, length, map, IfOk, IfErr};
 ghost use Rattle.game_theory.specs.Profiles.{profile_count};
-ghost use Rattle.game_trees.specs.Trees.{Tree as game_tree, IsTree as is_game_tree};
+ghost use Rattle.game_trees.specs.Trees.{Tree as game_tree};
 ghost use Rattle.game_core.specs.Table.{IsTable};
-ghost use Rattle.game_core.specs.Tree.{GameTree, IsTree};
+ghost use Rattle.game_core.specs.Tree.{GameTree};
 ghost use Rattle.game_core.specs.TreeGame.{game_of_tree};
 ghost use Rattle.reduced_strategies.specs.StrategicForm.{AreStrategies};
 ghost use Rattle.strategy_lists.specs.Decisions.{AreDecisionsOfAll};
@@ -140,3 +140,11 @@ pub fn reduce(alloc: Global, tree: &Tree) -> Result<Reduced, ReduceStop>
     let table = table_of(alloc, tree, &choices, payoffs)?;
     Ok(Reduced { choices, table })
 }
+
+/// A tree has one reason at most why it is not reduced, other than want of memory, and then it has no reduced form
+/// within the limits whose steps all fit.
+pub fn stops_are_exact()
+    ensures one_reason { (t : game_tree) (one other : ReduceStop) → one ≢ stops.Memory → other ≢ stops.Memory → IsStop t one → IsStop t other → one ≡ other }
+    ensures no_form { (t : GameTree) (stop : ReduceStop) (form : ReducedForm) → stop ≢ stops.Memory → IsStop (game_of_tree t) stop
+        → IsReducedForm t form → AreFew (game_of_tree t) form.choices → AllFit (game_of_tree t) form.choices → ⊥ }
+{}

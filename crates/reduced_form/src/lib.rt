@@ -10,5 +10,5 @@ mod limits;
 mod names;
 mod stop;
 
-pub use form::{Reduced, reduce};
+pub use form::{Reduced, reduce, stops_are_exact};
 pub use stop::ReduceStop;

@@ -1,6 +1,6 @@
 -- What the words of a command line say.
 use lib.Pointwise.{pointwise}
-use Rattle.std.specs.Prelude.{ℕ, Bool, false, not, if◌then◌else◌, ◌==◌, ◌≡◌, nat_eq, List, [], ◌∷◌, Option, None, Some, option_map, string_bytes, codes, Result, Ok, Err}
+use Rattle.std.specs.Prelude.{ℕ, Bool, true, false, not, if◌then◌else◌, ◌==◌, ◌≡◌, nat_eq, List, [], ◌∷◌, Option, None, Some, option_map, string_bytes, codes, Result, Ok, Err}
 use Rattle.words.specs.declared.Settings.{Settings}
 use Rattle.words.specs.declared.Settings.TheVariants as settings
 use Rattle.words.specs.declared.SettingsStop.{SettingsStop}
@@ -8,13 +8,14 @@ use Rattle.words.specs.declared.SettingsStop.TheVariants as stops
 use Rattle.words.specs.declared.Usage.{Usage}
 use Rattle.words.specs.declared.Usage.TheVariants.{NoTool, UnknownTool, Words}
 
--- what a command line asks for: the tool, and the name of the game's file, which is None for standard input
+-- what a command line asks for: the tool, whether it works on the strategic form of a tree, and the name of the game's file, which
+-- is None for standard input
 pub data Command : Type 0 where
-  Enumpure : (file : Option (List ℕ)) → Command
+  Enumpure : (strategic : Bool) → (file : Option (List ℕ)) → Command
 
 -- the command that settings stand for
 abbrev pub command_of : Settings → Command
-command_of (settings.Enumpure file) = Enumpure (option_map string_bytes file)
+command_of (settings.Enumpure strategic file) = Enumpure strategic (option_map string_bytes file)
 
 -- whether two words have the same bytes
 abbrev pub is_word : List ℕ → List ℕ → Bool
@@ -25,11 +26,16 @@ abbrev pub is_file : List ℕ → Bool
 is_file [] = false
 is_file (b ∷ bytes) = not (b == 45)
 
--- the words after `enumpure`: at most one, which names a file
+-- the words after the options: at most one, which names a file
+abbrev pub file_of : Bool → List (List ℕ) → Result Command Usage
+file_of strategic [] = Ok (Enumpure strategic None)
+file_of strategic (word ∷ []) = if is_file word then Ok (Enumpure strategic (Some word)) else Err Words
+file_of strategic (word ∷ other ∷ words) = Err Words
+
+-- the words after `enumpure`: the option `-S`, which may be left out, and then at most one file
 abbrev pub enumpure_of : List (List ℕ) → Result Command Usage
-enumpure_of [] = Ok (Enumpure None)
-enumpure_of (word ∷ []) = if is_file word then Ok (Enumpure (Some word)) else Err Words
-enumpure_of (word ∷ other ∷ words) = Err Words
+enumpure_of [] = file_of false []
+enumpure_of (word ∷ words) = if is_word word (codes "-S") then file_of true words else file_of false (word ∷ words)
 
 -- The command that the words after the program's name give, or how they are refused: the first word names the tool.
 abbrev pub command_from : List (List ℕ) → Result Command Usage

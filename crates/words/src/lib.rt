@@ -2,15 +2,19 @@
 #![tactic(auto)]
 
 ghost use Rattle.std.specs.Prelude.{◌≡◌, Ok, Err, map, string_bytes, IfOk, IfErr};
-ghost use Rattle.words.specs.Words.{command_from, command_of, enumpure_of, is_file, IsStop};
+ghost use Rattle.words.specs.Words.{command_from, command_of, enumpure_of, file_of, is_file, IsStop};
 
 use std::alloc::Global;
 
 /// Which tool is to run, and how.
 #[derive(Debug, Drop)]
 pub enum Settings {
-    /// List the pure equilibria of the game in a file, or on standard input where no file is named.
-    Enumpure { file: Option<String> },
+    /// List the pure equilibria of the game in a file, or on standard input where no file is named; those of a tree
+    /// by reduced strategies where `strategic` is set, and else as behaviour.
+    Enumpure {
+        strategic: bool,
+        file: Option<String>,
+    },
 }
 
 /// How the words are refused.
@@ -43,20 +47,37 @@ fn is_file(word: &str) -> bool
     }
 }
 
-// The settings of `enumpure`, by the words after it.
-fn read_enumpure(alloc: Global, words: &[String]) -> Result<Settings, SettingsStop>
-    ensures settings { IfOk result (λ s. enumpure_of (map string_bytes words.now) ≡ Ok (command_of s)) }
-    ensures stop { IfErr result (IsStop (enumpure_of (map string_bytes words.now))) }
+// The settings of `enumpure`, by the words after its options.
+fn read_file(alloc: Global, strategic: bool, words: &[String]) -> Result<Settings, SettingsStop>
+    ensures settings { IfOk result (λ s. file_of strategic (map string_bytes words.now) ≡ Ok (command_of s)) }
+    ensures stop { IfErr result (IsStop (file_of strategic (map string_bytes words.now))) }
 {
     let Some((word, rest)) = words.split_first() else {
-        return Ok(Settings::Enumpure { file: None });
+        return Ok(Settings::Enumpure {
+            strategic,
+            file: None,
+        });
     };
     if !rest.is_empty() || !is_file(word.as_str()) {
         return Err(SettingsStop::Usage(Usage::Words));
     }
     match String::from_str(alloc, word.as_str()) {
-        Ok(file) => Ok(Settings::Enumpure { file: Some(file) }),
+        Ok(file) => Ok(Settings::Enumpure {
+            strategic,
+            file: Some(file),
+        }),
         Err(_) => Err(SettingsStop::Memory),
+    }
+}
+
+// The settings of `enumpure`, by the words after it.
+fn read_enumpure(alloc: Global, words: &[String]) -> Result<Settings, SettingsStop>
+    ensures settings { IfOk result (λ s. enumpure_of (map string_bytes words.now) ≡ Ok (command_of s)) }
+    ensures stop { IfErr result (IsStop (enumpure_of (map string_bytes words.now))) }
+{
+    match words.split_first() {
+        Some((word, rest)) if word.as_str() == "-S" => read_file(alloc, true, rest),
+        _ => read_file(alloc, false, words),
     }
 }
 

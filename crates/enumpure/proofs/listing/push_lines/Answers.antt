@@ -8,7 +8,7 @@ use Rattle.enumpure.specs.Replies.{flag}
 use Rattle.enumpure.proofs.Listed.{lines_text-none, lines_text-push, lines_text-skip}
 use Rattle.enumpure.proofs.Ranks.{IsProfile-ranked}
 use Rattle.enumpure.proofs.listing.push_lines.Goals as goal
-use Rattle.enumpure.proofs.listing.push_lines.Goals.{then-stable-profile_number+in_ok-push_line, else-stable-profile_number}
+use Rattle.enumpure.proofs.listing.push_lines.Goals.{then-stable-profile_number+in_ok-set_entries+in_ok-push_line, else-stable-profile_number}
 
 pub loop-rank-init : goal.loop-rank-init
 loop-rank-init c = lines_text-none c.args.counts.now c.args.stable.now c.args.text.now.items
@@ -23,8 +23,8 @@ bounds-stable-profile_number c =
     let p : IsProfile ns c.set_profile.new.profile = subst (IsProfile ns) (sym c.set_profile.ensures) (IsProfile-ranked ns c.loop-rank.rank (omega (arith, c.requires.flags))) in
     omega (arith, number_of-below ns c.set_profile.new.profile p, c.requires.flags)
 
-pub push_line-requires : goal.push_line-requires
-push_line-requires c =
+pub set_entries-requires : goal.set_entries-requires
+set_entries-requires c =
     record {
       profile = subst (IsProfile c.args.counts.now) (sym c.set_profile.ensures) (IsProfile-ranked c.args.counts.now c.loop-rank.rank (omega (arith, c.requires.flags)));
     }
@@ -38,8 +38,10 @@ loop-rank-preserved c =
     let text = c.loop-rank.text.items in
     let e : c.profile_number.result ≡ number_of ns (ranked ns r) = c.profile_number.ensures ∙ ap (number_of ns) c.set_profile.ensures in
     elim c.if-stable-profile_number.branch [
-      | then-stable-profile_number+in_ok-push_line w ↦ let line = ap (λ v. text ++ line_text (entries ns (pure v))) c.set_profile.ensures in cc (w.text-is, w.in_ok-push_line.ensures, line, lines_text-push ns flags r old text c.loop-rank.invariant (sym (ap (flag flags) e) ∙ w.if-stable-profile_number.true))
-      | else-stable-profile_number w ↦ cc (w.text-is, lines_text-skip ns flags r old text c.loop-rank.invariant (sym (ap (flag flags) e) ∙ w.if-stable-profile_number.false))
+      | then-stable-profile_number+in_ok-set_entries+in_ok-push_line w ↦
+        (let line = ap line_text (w.deref.ensures.value ∙ w.in_ok-set_entries.ensures {u = tt} ∙ ap (λ v. entries ns (pure v)) c.set_profile.ensures) in
+        ap (λ v. v.items) w.text-is ∙ w.in_ok-push_line.ensures {u = tt} ∙ ap (λ v. text ++ v) line ∙ lines_text-push ns flags r old text c.loop-rank.invariant (sym (ap (flag flags) e) ∙ w.if-stable-profile_number.true))
+      | else-stable-profile_number w ↦ ap (λ v. v.items) w.text-is ∙ lines_text-skip ns flags r old text c.loop-rank.invariant (sym (ap (flag flags) e) ∙ w.if-stable-profile_number.false)
     ]
 
 pub returns : goal.returns

@@ -1,12 +1,10 @@
 use Rattle.std.proofs.Common.{ℕ, ◌*◌, ◌≡◌, ◌≤◌, Global, Vec, List, length, map, sym, ap, ◌∙◌, subst}
 use Rattle.game_theory.specs.Profiles.{profile_count}
-use Rattle.game_trees.specs.Trees.{IsTree}
-use Rattle.game_core.specs.Table.{IsTable, most_payoffs}
+use Rattle.game_core.specs.Table.{IsTable}
 use Rattle.game_core.specs.TreeGame.{game_of_tree}
 use Rattle.reduced_form.specs.Cells.{AreCells, IsCellStop}
 use Rattle.reduced_form.specs.Counts.{choices_by}
 use Rattle.reduced_form.specs.Limits.{AreFew, most_choices}
-use Rattle.reduced_form.specs.ReducedForm.{IsReducedForm}
 use Rattle.reduced_form.proofs.FormCounts.{counted-same}
 use Rattle.reduced_form.proofs.FormLaws.{cell_stop-is_stop, form-all_fit, form-few, form-is_form, form-pays_completions, form_table, form_table-is_table}
 use Rattle.reduced_form.proofs.form.reduce.Goals as goal

@@ -1,0 +1,271 @@
+ghost use Rattle.std.specs.Prelude.{◌<◌};
+
+use efg_reader::read;
+use frac128::{Frac, Memory, Op, Unfit};
+use game_core::{TooLarge, Tree, What};
+use game_text::read_tokens;
+use ne_printer::fraction;
+use reduced_form::{ReduceStop, Reduced, reduce};
+use std::alloc::Global;
+
+// The tree that a text stands for; nothing where it is none.
+fn tree_of(alloc: Global, text: &[u8]) -> Option<Tree> {
+    let Ok(tokens) = read_tokens(alloc, text) else {
+        return None;
+    };
+    if tokens.list().len() >= u32::MAX as usize {
+        return None;
+    }
+    read(alloc, &tokens).ok()
+}
+
+// Adds the names of a player's strategies, each behind a space.
+fn push_names(text: &mut Vec<u8>, reduced: &Reduced, player: usize) -> Result<(), Memory> {
+    if player < reduced.table().players().len() {
+        for name in reduced.table().strategies(player) {
+            text.push(b' ')?;
+            text.extend_from_slice(name.bytes())?;
+        }
+    }
+    Ok(())
+}
+
+// The strategies' names of each player behind a comma, and then the payoffs behind a semicolon, profile by profile.
+fn form_text(alloc: Global, reduced: &Reduced) -> Result<Vec<u8>, Memory> {
+    let mut text = Vec::new(alloc);
+    for player in 0..reduced.table().players().len() {
+        text.push(b',')?;
+        push_names(&mut text, reduced, player)?;
+    }
+    text.push(b';')?;
+    push_payoffs(alloc, &mut text, reduced.table().payoffs())?;
+    Ok(text)
+}
+
+// Adds payoffs, each behind a space.
+fn push_payoffs(alloc: Global, text: &mut Vec<u8>, payoffs: &[Frac]) -> Result<(), Memory> {
+    for payoff in payoffs {
+        text.push(b' ')?;
+        text.extend_from_slice(&fraction(alloc, *payoff)?)?;
+    }
+    Ok(())
+}
+
+// Whether the reduced form of a tree has this text.
+fn has_form(alloc: Global, text: &[u8], form: &str) -> Result<bool, Memory> {
+    let Some(tree) = tree_of(alloc, text) else {
+        return Ok(false);
+    };
+    match reduce(alloc, &tree) {
+        Ok(reduced) => Ok(form_text(alloc, &reduced)?.as_slice() == form.as_bytes()),
+        Err(_) => Ok(false),
+    }
+}
+
+// Whether a tree is refused so.
+fn stops(alloc: Global, text: &[u8], stop: ReduceStop) -> bool {
+    let Some(tree) = tree_of(alloc, text) else {
+        return false;
+    };
+    match reduce(alloc, &tree) {
+        Ok(_) => false,
+        Err(found) => found == stop,
+    }
+}
+
+const POKER: &[u8] = br#"EFG 2 R "A simple Poker game" { "Fred" "Alice" } ""
+c "" 1 "" { "Red" 1/2 "Black" 1/2 } 0
+p "" 1 1 "" { "Raise" "Fold" } 0
+p "" 2 1 "" { "Meet" "Pass" } 0
+t "" 1 "Win Big" { 2, -2 }
+t "" 2 "Win" { 1, -1 }
+t "" 2 "Win" { 1, -1 }
+p "" 1 2 "" { "Raise" "Fold" } 0
+p "" 2 1 "" { "Meet" "Pass" } 0
+t "" 3 "Lose Big" { -2, 2 }
+t "" 2 "Win" { 1, -1 }
+t "" 4 "Lose" { -1, 1 }"#;
+
+const ALONE: &[u8] = br#"EFG 2 R "Alone" { "A" }
+p "" 1 1 "" { "L" "R" } 0
+t "" 1 "" { 3 }
+p "" 1 2 "" { "U" "D" } 0
+t "" 2 "" { 1 }
+t "" 3 "" { 2 }"#;
+
+const FORGET: &[u8] = br#"EFG 2 R "Forget" { "One" "Two" }
+p "" 1 1 "" { "A" "B" } 0
+p "" 1 2 "" { "C" "D" } 0
+t "" 1 "" { 1, 0 }
+t "" 2 "" { 0, 0 }
+p "" 1 2 "" { "C" "D" } 0
+t "" 2 ""
+t "" 3 "" { 2, 0 }"#;
+
+// One set with ten actions.
+const WIDE: &[u8] = br#"EFG 2 R "" { "A" }
+p "" 1 1 "" { "" "" "" "" "" "" "" "" "" "" } 0
+t "" 1 "" { 0 } t "" 2 "" { 1 } t "" 3 "" { 2 } t "" 4 "" { 3 } t "" 5 "" { 4 }
+t "" 6 "" { 5 } t "" 7 "" { 6 } t "" 8 "" { 7 } t "" 9 "" { 8 } t "" 10 "" { 9 }"#;
+
+// The first player forgets which of two ways led to a set, and one of the ways goes through another set.
+const TWO_WAYS: &[u8] = br#"EFG 2 R "" { "A" }
+p "" 1 1 "" { "L" "R" } 0
+p "" 1 2 "" { "a" "b" } 0
+t "" 1 "" { 1 }
+t "" 2 "" { 2 }
+p "" 1 3 "" { "x" "y" } 0
+p "" 1 2 "" { "a" "b" } 0
+t "" 3 "" { 3 }
+t "" 4 "" { 4 }
+t "" 5 "" { 5 }"#;
+
+// Outcomes stand at inner nodes too, and chance takes the second way never.
+const PAID_ON_THE_WAY: &[u8] = br#"EFG 2 R "" { "A" "B" }
+p "" 2 1 "" { "x" "y" } 1 "" { 10, 0 }
+c "" 1 "" { "" 1 "" 0 "" 0 } 2 "" { 1, 1/2 }
+t "" 3 "" { 1/3, 2 }
+t "" 4 "" { 7, 7 }
+p "" 1 1 "" { "only" } 0
+t "" 4 ""
+t "" 0"#;
+
+#[test]
+fn reduces_trees(rt: HostRuntime) -> Result<(), Memory> {
+    let alloc = rt.alloc();
+    let poker = ", 11 12 21 22, 1 2; 0 0 1/2 -1/2 -1/2 1/2 0 0 1 -1 0 0 1 -1 0 0";
+    assert!(rt; has_form(alloc, POKER, poker)?);
+    assert!(rt; has_form(alloc, ALONE, ", 1* 21 22; 3 1 2")?);
+    assert!(rt; has_form(alloc, FORGET, ", 11 12 21 22, *; 1 0 0 0 0 0 2 0")?);
+    let wide = ", 1 2 3 4 5 6 7 8 9 (10); 0 1 2 3 4 5 6 7 8 9";
+    assert!(rt; has_form(alloc, WIDE, wide)?);
+    let two_ways = ", 11* 12* 2*2 211 221; 1 2 5 3 4";
+    assert!(rt; has_form(alloc, TWO_WAYS, two_ways)?);
+    let paid = ", 1, 1 2; 34/3 5/2 10 0";
+    assert!(rt; has_form(alloc, PAID_ON_THE_WAY, paid)?);
+    assert!(rt; has_form(alloc, b"EFG 2 R \"\" { \"A\" } t \"\" 0", ", *; 0")?);
+    Ok(())
+}
+
+// A chain of sets of one node, whose first action ends the game and whose second goes on. The sets' numbers begin
+// behind `first`.
+fn push_chain(alloc: Global, text: &mut Vec<u8>, first: u32, sets: u32) -> Result<(), Memory>
+    requires first { first < 1000 }
+    requires sets { sets < 1000 }
+{
+    for set in 1..=sets {
+        let number = first + set;
+        let nodes = format!(in alloc; "p \"\" 1 {number} \"\" {{ \"\" \"\" }} 0 t \"\" 0\n")?;
+        text.extend_from_slice(nodes.as_bytes())?;
+    }
+    text.extend_from_slice(b"t \"\" 0\n")?;
+    Ok(())
+}
+
+// One player, and chance leads to one of two chains.
+fn two_chains(alloc: Global, sets: u32) -> Result<Vec<u8>, Memory>
+    requires sets { sets < 1000 }
+{
+    let mut text = Vec::new(alloc);
+    text.extend_from_slice(b"EFG 2 R \"\" { \"A\" } c \"\" 1 \"\" { \"\" 1/2 \"\" 1/2 } 0\n")?;
+    push_chain(alloc, &mut text, 0, sets)?;
+    push_chain(alloc, &mut text, sets, sets)?;
+    Ok(text)
+}
+
+// Chance leads to one of so many sets of two actions.
+fn many_sets(alloc: Global, sets: u32) -> Result<Vec<u8>, Memory>
+    requires sets { sets < 1000 }
+{
+    let mut text = Vec::new(alloc);
+    text.extend_from_slice(b"EFG 2 R \"\" { \"A\" \"B\" } c \"\" 1 \"\" {")?;
+    for _ in 0..sets {
+        text.extend_from_slice(format!(in alloc; " \"\" 1/{sets}")?.as_bytes())?;
+    }
+    text.extend_from_slice(b" } 0\n")?;
+    push_sets(alloc, &mut text, sets)?;
+    Ok(text)
+}
+
+// So many sets of two actions that end the game.
+fn push_sets(alloc: Global, text: &mut Vec<u8>, sets: u32) -> Result<(), Memory>
+    requires sets { sets < 1000 }
+{
+    for set in 1..=sets {
+        let nodes = format!(in alloc; "p \"\" 1 {set} \"\" {{ \"\" \"\" }} 0 t \"\" 0 t \"\" 0\n")?;
+        text.extend_from_slice(nodes.as_bytes())?;
+    }
+    Ok(())
+}
+
+#[test]
+fn refuses_large_forms(rt: HostRuntime) -> Result<(), Memory> {
+    let alloc = rt.alloc();
+    let choices = ReduceStop::TooLarge(TooLarge {
+        what: What::Choices,
+        count: 67_108_865,
+        limit: 67_108_864,
+    });
+    let payoffs = ReduceStop::TooLarge(TooLarge {
+        what: What::Payoffs,
+        count: 1_048_577,
+        limit: 1_048_576,
+    });
+    // 331 times 331 strategies, and 660 sets.
+    assert!(rt; stops(alloc, &two_chains(alloc, 330)?, choices));
+    // 2 to the power 100 strategies; and 2 to the power 20 of one player, and one of the other.
+    assert!(rt; stops(alloc, &many_sets(alloc, 100)?, payoffs));
+    assert!(rt; stops(alloc, &many_sets(alloc, 20)?, payoffs));
+    Ok(())
+}
+
+// The probability 2 to the power -62 on the way to a node that is worth 2 to the power -124.
+const SMALL_PRODUCT: &[u8] = br#"EFG 2 R "" { "A" }
+c "" 1 "" { "" 1/4611686018427387904 "" 4611686018427387903/4611686018427387904 } 0
+c "" 2 "" { "" 1/4611686018427387904 "" 4611686018427387903/4611686018427387904 } 0
+t "" 1 "" { 1/4611686018427387904 }
+t "" 0
+t "" 0"#;
+
+// Three thirds of payoffs whose denominators are powers of 2, of 3 and of 5.
+const WIDE_SUM: &[u8] = br#"EFG 2 R "" { "A" }
+p "" 1 1 "" { "ends" "goes on" } 0
+t "" 0
+c "" 1 "" { "" 1/3 "" 1/3 "" 1/3 } 0
+t "" 1 "" { 1/4611686018427387904 }
+t "" 2 "" { 1/4052555153018976267 }
+t "" 3 "" { 1/7450580596923828125 }"#;
+
+// The step with these operands.
+fn step(op: Op, left: (i128, i128), right: (i128, i128)) -> Option<Unfit> {
+    let left = Frac::new(left.0, left.1)?;
+    let right = Frac::new(right.0, right.1)?;
+    Some(Unfit { op, left, right })
+}
+
+#[test]
+fn refuses_wide_steps(rt: HostRuntime) -> Result<(), Memory> {
+    let alloc = rt.alloc();
+    let half = 4_611_686_018_427_387_904;
+    let whole = 21_267_647_932_558_653_966_460_912_964_485_513_216;
+    let unfit = step(Op::Mul, (1, half), (1, whole)).ok_or(Memory)?;
+    let product = ReduceStop::Range {
+        profile: 0,
+        player: 0,
+        unfit,
+    };
+    assert!(rt; stops(alloc, SMALL_PRODUCT, product));
+    let sum = (
+        8_664_241_171_446_364_171,
+        56_067_335_814_250_429_175_672_743_034_936_623_104,
+    );
+    let third = (1, 22_351_741_790_771_484_375);
+    let unfit = step(Op::Add, sum, third).ok_or(Memory)?;
+    let addition = ReduceStop::Range {
+        profile: 1,
+        player: 0,
+        unfit,
+    };
+    assert!(rt; stops(alloc, WIDE_SUM, addition));
+    Ok(())
+}
