@@ -90,7 +90,7 @@ cmp-less : (a b : ℕ) (x y : List ℕ) → b < a → is_lt (slice_cmp nat_cmp (
 cmp-less a b x y l = ap (λ o. is_lt (ordering_then o (slice_cmp nat_cmp y x))) (nat_cmp-less a b l)
 
 -- of two lists of one length that differ, the first comes before the second if that is not less
-before_from_cmp : (x y : List ℕ) → length x ≡ length y → x ≢ y → is_lt (slice_cmp nat_cmp y x) ≡ false → ComesBefore x y
+pub before_from_cmp : (x y : List ℕ) → length x ≡ length y → x ≢ y → is_lt (slice_cmp nat_cmp y x) ≡ false → ComesBefore x y
 before_from_cmp [] [] e ne h = absurd (ne refl)
 before_from_cmp [] (b ∷ y) e ne h = absurd (omega arith)
 before_from_cmp (a ∷ x) [] e ne h = absurd (omega arith)

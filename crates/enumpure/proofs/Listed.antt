@@ -104,12 +104,12 @@ cell_number g s i t p =
     (subst (λ v. g.pays i v ≤ℚ g.pays i (number_of g.strategies s)) e, subst (λ v. g.pays i v ≤ℚ g.pays i (number_of g.strategies s)) (sym e))
 
 -- the flagged profiles are the equilibria
-IsEquilibrium-flag : (g : Game) (flags : List Bool) (s : List ℕ) → AreStable g flags → IsProfile g.strategies s → IsTrue (flag flags (number_of g.strategies s)) → IsEquilibrium g (pure s)
+pub IsEquilibrium-flag : (g : Game) (flags : List Bool) (s : List ℕ) → AreStable g flags → IsProfile g.strategies s → IsTrue (flag flags (number_of g.strategies s)) → IsEquilibrium g (pure s)
 IsEquilibrium-flag g flags s h p t =
     IsEquilibrium-by_cells g s p (λ i c l b. (cell_number g s i c p).0 ((h.stable (number_of g.strategies s) (number_of-below g.strategies s p)).0 t i l c b))
 
 -- the equilibria are flagged
-flag-equilibrium : (g : Game) (flags : List Bool) (s : List ℕ) → AreStable g flags → IsProfile g.strategies s → IsEquilibrium g (pure s) → IsTrue (flag flags (number_of g.strategies s))
+pub flag-equilibrium : (g : Game) (flags : List Bool) (s : List ℕ) → AreStable g flags → IsProfile g.strategies s → IsEquilibrium g (pure s) → IsTrue (flag flags (number_of g.strategies s))
 flag-equilibrium g flags s h p e =
     (h.stable (number_of g.strategies s) (number_of-below g.strategies s p)).1 (λ i l t b. (cell_number g s i t p).1 (NoGreaterCell-equilibrium g s p e i t l b))
 

@@ -14,7 +14,7 @@ total zero f = 0
 total (suc n) f = total n f + f n
 
 -- equal terms have equal sums
-total-same : (n : ℕ) (f g : ℕ → ℕ) → ((i : ℕ) → i < n → f i ≡ g i) → total n f ≡ total n g
+pub total-same : (n : ℕ) (f g : ℕ → ℕ) → ((i : ℕ) → i < n → f i ≡ g i) → total n f ≡ total n g
 total-same zero f g h = refl
 total-same (suc n) f g h = ap₂ (λ x y. x + y) (total-same n f g (λ i l. h i (omega arith))) (h n (omega arith))
 
@@ -29,7 +29,7 @@ total-add zero f g = refl
 total-add (suc n) f g = omega (arith, total-add n f g)
 
 -- the order of two sums does not matter
-total-exchange : (n m : ℕ) (f : ℕ → ℕ → ℕ) → total n (λ i. total m (λ j. f i j)) ≡ total m (λ j. total n (λ i. f i j))
+pub total-exchange : (n m : ℕ) (f : ℕ → ℕ → ℕ) → total n (λ i. total m (λ j. f i j)) ≡ total m (λ j. total n (λ i. f i j))
 total-exchange zero m f = sym (total-zero m)
 total-exchange (suc n) m f = ap (λ v. v + total m (λ j. f n j)) (total-exchange n m f) ∙ sym (total-add m (λ j. total n (λ i. f i j)) (λ j. f n j))
 
@@ -39,7 +39,7 @@ total-append m zero f = omega (arith, ap (λ v. total v f) (add-zero m))
 total-append m (suc n) f = ap (λ v. total v f) (add-suc m n) ∙ ap (λ v. v + f (m + n)) (total-append m n f) ∙ add_assoc (total m f) (total n (λ i. f (m + i))) (f (m + n))
 
 -- a sum in n parts of p terms
-total-parts : (n p : ℕ) (f : ℕ → ℕ) → total (n * p) f ≡ total n (λ a. total p (λ q. f (a * p + q)))
+pub total-parts : (n p : ℕ) (f : ℕ → ℕ) → total (n * p) f ≡ total n (λ a. total p (λ q. f (a * p + q)))
 total-parts zero p f = ap (λ v. total v f) (zero-mul p)
 total-parts (suc n) p f =
     let e : suc n * p ≡ n * p + p = omega arith in

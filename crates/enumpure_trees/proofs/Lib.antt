@@ -1,0 +1,10 @@
+mod FlagCounts
+mod FormSizes
+mod LineLengths
+mod RankSums
+mod RankedProfiles
+mod Sorted
+mod SortedOrders
+mod Stability
+mod Texts
+mod Told

@@ -1,15 +1,134 @@
 // The text of the pure equilibria of a tree.
-ghost use Rattle.std.specs.Prelude.{◌≤◌, length, IfOk, IfErr};
+ghost use Rattle.std.specs.Prelude.{◌≡◌, ◌<◌, ◌≤◌, ◌^◌, ◌++◌, ℕ, List, length, map, IfOk, IfErr, OnOk, replicate};
+ghost use Rattle.game_theory.specs.Profiles.{IsProfile, profile_count, number_of};
+ghost use Rattle.game_theory.specs.Lines.{line_text, lines_text};
+ghost use Rattle.game_trees.specs.Trees.{IsTree};
 ghost use Rattle.game_core.specs.TreeGame.{game_of_tree};
 ghost use Rattle.reduced_form.specs.ReducedForm.{IsReducedForm};
-ghost use Rattle.tree_lines.specs.TreeEquilibria.{IsTreeEquilibriaText};
+ghost use Rattle.tree_lines.specs.Orders.{AreOrders, ordered};
+ghost use Rattle.tree_lines.specs.Ranks.{ranked, lines_below};
+ghost use Rattle.tree_lines.specs.TreeEquilibria.{profile_line, IsTreeEquilibriaText};
+ghost use Rattle.enumpure.specs.Replies.{flag};
 ghost use Rattle.enumpure.specs.Text.{most_text};
 ghost use Rattle.enumpure_trees.specs.Stops.{IsTreeListStop};
 
-use enumpure::ListStop;
-use game_core::Tree;
+use crate::orders::orders_of_all;
+use behaviour_profile::Behaviour;
+use enumpure::{ListStop, stable_profiles};
+use frac128::Memory;
+use game_core::{TooLarge, Tree, What, trees_are_game_trees};
+use ne_printer::{line, push_line};
 use reduced_form::Reduced;
 use std::alloc::Global;
+
+// The most bytes that a text may have.
+const MOST_TEXT: usize = 67_108_864;
+
+// What the lines are of: a tree and its reduced form, the order of each player's strategies, and for each profile, by
+// its number, whether it is an equilibrium.
+#[derive(Clone, Copy)]
+struct Lines<'a> {
+    tree: &'a Tree,
+    reduced: &'a Reduced,
+    orders: &'a [Vec<u32>],
+    stable: &'a [bool],
+}
+
+// The profile in which each player plays the first strategy.
+fn first_profile(alloc: Global, players: usize) -> Result<Vec<u32>, Memory>
+    ensures { IfOk result (λ profile. profile.items ≡ replicate players 0) }
+{
+    Ok(vec![in alloc; 0; players]?)
+}
+
+// Writes the profile with a rank in the order of lines.
+fn set_profile(profile: &mut [u32], orders: &[Vec<u32>], profiles: usize, rank: usize)
+    requires players { length profile.old ≡ length orders.now }
+    requires profiles { profiles ≡ profile_count (map length (map (λ v. v.items) orders.now)) }
+    requires rank { rank < profiles }
+    ensures { profile.new ≡ ordered (map (λ v. v.items) orders.now) (ranked (map length (map (λ v. v.items) orders.now)) rank) }
+{
+    let mut later = profiles;
+    let mut rest = rank;
+    for player in 0..orders.len() {
+        later /= orders[player].len();
+        profile[player] = orders[player][rest / later];
+        rest %= later;
+    }
+}
+
+// The number of a profile.
+fn profile_number(orders: &[Vec<u32>], profile: &[u32]) -> usize
+    requires profile { IsProfile (map length (map (λ v. v.items) orders.now)) profile.now }
+    requires few { profile_count (map length (map (λ v. v.items) orders.now)) < 2 ^ 64 }
+    ensures { result ≡ number_of (map length (map (λ v. v.items) orders.now)) profile.now }
+{
+    let mut number = 0;
+    let mut stride = 1;
+    for player in 0..orders.len() {
+        number += stride * profile[player] as usize;
+        stride *= orders[player].len();
+    }
+    number
+}
+
+// How many bytes the line of each profile has: as many as that of the given one.
+fn line_length(
+    alloc: Global,
+    tree: &Tree,
+    reduced: &Reduced,
+    profile: &[u32],
+) -> Result<usize, Memory>
+    requires tree { IsTree (game_of_tree tree.now) }
+    requires form { IsReducedForm tree.now reduced.now }
+    requires profile { IsProfile (map length reduced.now.choices) profile.now }
+    ensures some { IfOk result (λ bytes. 0 < bytes) }
+    ensures each { IfOk result (λ bytes. (other : List ℕ) → IsProfile (map length reduced.now.choices) other → length (line_text (profile_line (game_of_tree tree.now) reduced.now.choices other)) ≡ bytes) }
+{
+    let behaviour = Behaviour::from_reduced(alloc, tree, reduced, profile)?;
+    Ok(line(alloc, behaviour.entries())?.len())
+}
+
+// Adds the lines of the flagged profiles in the order of their ranks. Writes over `profile`.
+fn push_lines(
+    alloc: Global,
+    text: &mut Vec<u8>,
+    lines: &Lines,
+    profile: &mut [u32],
+) -> Result<(), Memory>
+    requires players { length profile.old ≡ length lines.now.orders.now }
+    requires form { IsReducedForm lines.now.tree.now lines.now.reduced.now }
+    requires orders { AreOrders lines.now.reduced.now.choices (map (λ v. v.items) lines.now.orders.now) }
+    requires flags { length lines.now.stable.now ≡ profile_count (map length lines.now.reduced.now.choices) }
+    ensures { OnOk result (text.new.items ≡ text.old.items ++ lines_text (lines_below (game_of_tree lines.now.tree.now) lines.now.reduced.now.choices (map (λ v. v.items) lines.now.orders.now) (flag lines.now.stable.now) (length lines.now.stable.now))) }
+{
+    for rank in 0..lines.stable.len() {
+        set_profile(profile, lines.orders, lines.stable.len(), rank);
+        if lines.stable[profile_number(lines.orders, profile)] {
+            let behaviour = Behaviour::from_reduced(alloc, lines.tree, lines.reduced, profile)?;
+            push_line(alloc, text, behaviour.entries())?;
+        }
+    }
+    Ok(())
+}
+
+// The lines of the flagged profiles, in a text that has room for so many bytes from the start. Writes over `profile`.
+fn write_lines(
+    alloc: Global,
+    lines: &Lines,
+    profile: &mut [u32],
+    bytes: usize,
+) -> Result<Vec<u8>, Memory>
+    requires players { length profile.old ≡ length lines.now.orders.now }
+    requires form { IsReducedForm lines.now.tree.now lines.now.reduced.now }
+    requires orders { AreOrders lines.now.reduced.now.choices (map (λ v. v.items) lines.now.orders.now) }
+    requires flags { length lines.now.stable.now ≡ profile_count (map length lines.now.reduced.now.choices) }
+    ensures { IfOk result (λ text. text.items ≡ lines_text (lines_below (game_of_tree lines.now.tree.now) lines.now.reduced.now.choices (map (λ v. v.items) lines.now.orders.now) (flag lines.now.stable.now) (length lines.now.stable.now))) }
+{
+    let mut text = Vec::with_capacity(alloc, bytes)?;
+    push_lines(alloc, &mut text, lines, profile)?;
+    Ok(text)
+}
 
 /// The lines of the pure equilibria of a tree: each pure profile of the reduced strategic form at which no player has
 /// a strategy with a greater payoff, once, as behaviour with the first action at each set to which the player's
@@ -29,5 +148,24 @@ pub fn list_pure_behaviours(
     ensures within_limit { IfOk result (λ text. length text.items ≤ most_text) }
     ensures stop { IfErr result (IsTreeListStop (game_of_tree tree.now) reduced.now.choices) }
 {
-    Err(ListStop::Memory)
+    trees_are_game_trees();
+    let stable = stable_profiles(alloc, reduced.table())?;
+    let orders = orders_of_all(alloc, tree, reduced)?;
+    let mut profile = first_profile(alloc, tree.players().len())?;
+    let each = line_length(alloc, tree, reduced, &profile)?;
+    let count = stable.iter().filter(|stable| **stable).count();
+    if count > MOST_TEXT / each {
+        return Err(ListStop::TooLarge(TooLarge {
+            what: What::Text,
+            count: MOST_TEXT as u64 + 1,
+            limit: MOST_TEXT as u64,
+        }));
+    }
+    let lines = Lines {
+        tree,
+        reduced,
+        orders: &orders,
+        stable: &stable,
+    };
+    Ok(write_lines(alloc, &lines, &mut profile, count * each)?)
 }

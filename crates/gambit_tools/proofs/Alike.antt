@@ -11,7 +11,8 @@ use Rattle.game_core.specs.Table.{game_of}
 use Rattle.game_core.specs.Tree.{GameTree}
 use Rattle.game_core.specs.TreeGame.{game_of_tree}
 use Rattle.reduced_strategies.specs.StrategicForm.{strategic_form}
-use Rattle.reduced_form.specs.ReducedForm.{ReducedForm, IsReducedForm, strategy_name}
+use Rattle.reduced_form.specs.ReducedForm.{ReducedForm, IsReducedForm}
+use Rattle.reduced_form.proofs.FormLaws.{counts-named}
 use Rattle.enumpure.specs.Text.{IsPureEquilibriaText, IsTextTooLong}
 
 -- the game with these strategies and payoffs
@@ -49,11 +50,6 @@ lines-same ns one other lines e h = record {
 -- the text of the one is that of the other
 text-same : (ns : List ℕ) (one other : ℕ → ℕ → ℚ) (text : List ℕ) → Same ns one other → IsPureEquilibriaText (game ns one) text → IsPureEquilibriaText (game ns other) text
 text-same ns one other text e h = record { lines = h.lines; are_pure_equilibria = lines-same ns one other h.lines e h.are_pure_equilibria; is_text = h.is_text }
-
--- names do not change how many strategies there are
-counts-named : (strategies : List (List (List ℕ))) → map length (map (map strategy_name) strategies) ≡ map length strategies
-counts-named [] = refl
-counts-named (list ∷ lists) = ap₂ (λ x y. x ∷ y) (length-map list strategy_name) (counts-named lists)
 
 -- the text of a reduced form's table is that of the strategic form
 pub form_table-text : (tree : GameTree) (form : ReducedForm) (text : List ℕ) → IsReducedForm tree form → IsPureEquilibriaText (game_of form.table) text → IsPureEquilibriaText (strategic_form (game_of_tree tree) form.choices) text

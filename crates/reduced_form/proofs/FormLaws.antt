@@ -37,7 +37,7 @@ cell_place players count k i h l = let room : players * (k + 1) ≤ players * co
 
 -- ---- the table
 -- names do not change how many strategies there are
-counts-named : (strategies : List (List (List ℕ))) → map length (map (map strategy_name) strategies) ≡ map length strategies
+pub counts-named : (strategies : List (List (List ℕ))) → map length (map (map strategy_name) strategies) ≡ map length strategies
 counts-named [] = refl
 counts-named (list ∷ lists) = ap₂ (λ x y. x ∷ y) (length-map list strategy_name) (counts-named lists)
 

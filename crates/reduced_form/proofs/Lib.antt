@@ -1,7 +1,7 @@
 mod ActionTexts
 mod SetCounts
-mod FormCounts
+pub mod FormCounts
 mod CellRows
 mod Profiles
-mod FormLaws
+pub mod FormLaws
 pub mod Exact
