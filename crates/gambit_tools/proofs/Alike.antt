@@ -1,5 +1,5 @@
 -- games in which the players have the same strategies and the same payoffs have the same equilibria
-use Rattle.std.proofs.Common.{ℕ, ◌≡◌, ◌<◌, ◌∙◌, sym, ap, ap₂, refl, subst, List, [], ◌∷◌, length, map, Contains}
+use Rattle.std.proofs.Common.{ℕ, ◌≡◌, ◌<◌, ◌⊎◌, ◌∙◌, inl, inr, sym, ap, refl, subst, Bool, true, List, length, map, Contains}
 use Rattle.std.proofs.lemmas.List.{length-map}
 use Rattle.rational.specs.Rational.{ℚ, ◌≤ℚ◌}
 use Rattle.game_theory.specs.Profiles.{Game, IsProfile, profile_count}
@@ -7,13 +7,20 @@ use Rattle.game_theory.specs.Mixed.{Mixed, pure, payoff, reply}
 use Rattle.game_theory.specs.Equilibrium.{IsEquilibrium}
 use Rattle.game_theory.specs.Lines.{IsPureEquilibriumLine, ArePureEquilibria, entries}
 use Rattle.game_theory.proofs.Payoffs.{mean-same_numbers}
-use Rattle.game_core.specs.Table.{game_of}
+use Rattle.game_core.specs.Table.{GameTable, game_of}
 use Rattle.game_core.specs.Tree.{GameTree}
 use Rattle.game_core.specs.TreeGame.{game_of_tree}
 use Rattle.reduced_strategies.specs.StrategicForm.{strategic_form}
 use Rattle.reduced_form.specs.ReducedForm.{ReducedForm, IsReducedForm}
 use Rattle.reduced_form.proofs.FormLaws.{counts-named}
-use Rattle.enumpure.specs.Text.{IsPureEquilibriaText, IsTextTooLong}
+use Rattle.enumpure.specs.Stops.{IsStop}
+use Rattle.enumpure.specs.Text.{IsPureEquilibriaText}
+use Rattle.enumpure.specs.declared.listing.ListStop.{ListStop}
+use Rattle.enumpure.specs.declared.listing.ListStop.TheVariants as list_stops
+use Rattle.gambit_tools.specs.Game.{IsFormText}
+use Rattle.gambit_tools.specs.TokenTexts.{IsLongRefusal, refusal_of}
+use Rattle.gambit_tools.specs.declared.refusal.Refusal.{Refusal}
+use Rattle.gambit_tools.specs.declared.refusal.Refusal.TheVariants as refusal
 
 -- the game with these strategies and payoffs
 abbrev game : List ℕ → (ℕ → ℕ → ℚ) → Game
@@ -59,3 +66,15 @@ form_table-text tree form text f h =
     let players : length ns ≡ length tree.players = length-map form.choices (length {A = List ℕ}) ∙ f.are_strategies.one_for_each in
     let moved : IsPureEquilibriaText (game ns (game_of form.table).pays) text = subst (λ x. IsPureEquilibriaText (game x (game_of form.table).pays) text) counts h in
     text-same ns (game_of form.table).pays (strategic_form (game_of_tree tree) form.choices).pays text (λ i k l b. f.pays i k (subst (λ x. i < x) players l) b) moved
+
+-- the text of a form's table is that by strategies
+pub strategic-text : (strategic : Bool) (tree : GameTree) (form : ReducedForm) (table : GameTable) (text : List ℕ) → strategic ≡ true → table ≡ form.table → IsReducedForm tree form → IsPureEquilibriaText (game_of table) text → IsFormText strategic tree form.choices text
+strategic-text strategic tree form table text e same f h =
+    subst (λ b. IsFormText b tree form.choices text) (sym e) (form_table-text tree form text f (subst (λ t. IsPureEquilibriaText (game_of t) text) same h))
+
+-- a text of a form's table that is too long is too long by strategies
+pub strategic-stop : (strategic : Bool) (tree : GameTree) (form : ReducedForm) (table : GameTable) (stop : ListStop) (r : Refusal) → strategic ≡ true → table ≡ form.table → IsReducedForm tree form → IsStop (game_of table) stop → r ≡ refusal_of stop
+    → (r ≡ refusal.Memory) ⊎ IsLongRefusal strategic tree form.choices r
+strategic-stop strategic tree form table list_stops.Memory r e same f h is = inl is
+strategic-stop strategic tree form table (list_stops.TooLarge limit) r e same f h is =
+    inr (subst (IsLongRefusal strategic tree form.choices) (sym is) (h.1, h.0.text, strategic-text strategic tree form table h.0.text e same f h.0.is_text, h.0.is_long))

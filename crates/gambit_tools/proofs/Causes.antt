@@ -19,12 +19,12 @@ HasCause-bytes words command before after out_before out_after bytes (refusal.Us
 HasCause-bytes words command before after out_before out_after bytes refusal.OpenFault e are refused = elim refused [ ]
 HasCause-bytes words command before after out_before out_after bytes refusal.ReadFault e are refused = elim refused [ ]
 HasCause-bytes words command before after out_before out_after bytes refusal.WriteFault e are refused = elim refused [ ]
-HasCause-bytes words command before after out_before out_after bytes refusal.TooLong e are refused = (command, e, known _ _ bytes refusal.TooLong are refused)
-HasCause-bytes words command before after out_before out_after bytes (refusal.Text fault) e are refused = (command, e, known _ _ bytes (refusal.Text fault) are refused)
-HasCause-bytes words command before after out_before out_after bytes (refusal.Nfg fault) e are refused = (command, e, known _ _ bytes (refusal.Nfg fault) are refused)
-HasCause-bytes words command before after out_before out_after bytes (refusal.Efg fault) e are refused = (command, e, known _ _ bytes (refusal.Efg fault) are refused)
-HasCause-bytes words command before after out_before out_after bytes (refusal.TooLarge counted count limit) e are refused = (command, e, known _ _ bytes (refusal.TooLarge counted count limit) are refused)
-HasCause-bytes words command before after out_before out_after bytes (refusal.Range place step) e are refused = (command, e, known _ _ bytes (refusal.Range place step) are refused)
+HasCause-bytes words command before after out_before out_after bytes refusal.TooLong e are refused = (command, e, known (strategic_of command) _ bytes refusal.TooLong are refused)
+HasCause-bytes words command before after out_before out_after bytes (refusal.Text fault) e are refused = (command, e, known (strategic_of command) _ bytes (refusal.Text fault) are refused)
+HasCause-bytes words command before after out_before out_after bytes (refusal.Nfg fault) e are refused = (command, e, known (strategic_of command) _ bytes (refusal.Nfg fault) are refused)
+HasCause-bytes words command before after out_before out_after bytes (refusal.Efg fault) e are refused = (command, e, known (strategic_of command) _ bytes (refusal.Efg fault) are refused)
+HasCause-bytes words command before after out_before out_after bytes (refusal.TooLarge counted count limit) e are refused = (command, e, known (strategic_of command) _ bytes (refusal.TooLarge counted count limit) are refused)
+HasCause-bytes words command before after out_before out_after bytes (refusal.Range place step) e are refused = (command, e, known (strategic_of command) _ bytes (refusal.Range place step) are refused)
 HasCause-bytes words command before after out_before out_after bytes refusal.Memory e are refused = elim refused [ ]
 
 -- the text of the bytes is refused

@@ -1,5 +1,5 @@
 -- which bytes begin as a file of a tree, and that they stand for one game at most
-use Rattle.std.proofs.Common.{ℕ, ◌≡◌, ◌++◌, ◌∙◌, inl, inr, ap, arith, List, [], ◌∷◌}
+use Rattle.std.proofs.Common.{ℕ, ◌≡◌, ◌++◌, ◌∙◌, inl, inr, ap, arith, Bool, List, [], ◌∷◌}
 use Rattle.game_core.specs.Table.{GameTable}
 use Rattle.game_core.specs.Tree.{GameTree}
 use Rattle.game_core.specs.declared.too_large.TooLarge.{TooLarge}

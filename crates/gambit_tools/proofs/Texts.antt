@@ -1,5 +1,5 @@
 -- the text that tokens give, and why they are refused, as of the bytes
-use Rattle.std.proofs.Common.{ℕ, ◌≡◌, ◌≢◌, ◌≤◌, ◌<◌, ◌⊎◌, ◌∙◌, inl, inr, sym, ap, subst, Bool, true, false, List, length, map}
+use Rattle.std.proofs.Common.{ℕ, ◌≡◌, ◌≢◌, ◌≤◌, ◌<◌, ◌⊎◌, ◌∙◌, inl, inr, subst, Bool, false, IsTrue, List, length, Result, Ok, Err, IfErr}
 use Rattle.game_core.specs.Tree.{GameTree}
 use Rattle.game_text.specs.TokenList.{TokenList}
 use Rattle.game_text.specs.Tokens.{AreTokens}
@@ -64,3 +64,15 @@ table_refused strategic bytes tokens (refusal.TooLarge counted count limit) few 
 table_refused strategic bytes tokens (refusal.TooLarge counted count limit) few are none (inr h) =
     (few, inl (inr (h.0, record { table = h.1; is_file = record { tokens = tokens; are_tokens = are; is_table = h.2.is_table; few_payoffs = h.2.few_payoffs }; too_long = h.3 })))
 table_refused strategic bytes tokens _ few are none h = elim h [ ]
+
+-- ---- answers
+-- what a false test tells
+pub not_begun : {P : Type 0} (b : Bool) → b ≡ false → (P → IsTrue b) → P → ⊥
+not_begun b e h p = cc (e, h p)
+
+-- refusals of the tokens of a table are refusals of the bytes
+pub table_refusals : {X : Type 0} (strategic : Bool) (bytes : List ℕ) (tokens : TokenList) (answer : Result X Refusal) → length bytes ≤ most_bytes → AreTokens bytes tokens → (BeginsAsTree (tokens_of tokens) → ⊥)
+    → IfErr answer (λ r. (r ≡ refusal.Memory) ⊎ IsTableRefusal tokens r) → IfErr answer (λ r. (r ≡ refusal.Memory) ⊎ AreRefused strategic bytes r)
+table_refusals strategic bytes tokens (Ok x) few are none h = h
+table_refusals strategic bytes tokens (Err r) few are none (inl m) = inl m
+table_refusals strategic bytes tokens (Err r) few are none (inr h) = inr (table_refused strategic bytes tokens r few are none h)

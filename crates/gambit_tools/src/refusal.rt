@@ -4,6 +4,7 @@ ghost use Rattle.gambit_tools.specs.Refusals.{text_kind_text, nfg_kind_text, efg
 ghost use Rattle.game_theory.specs.Lines.{number_text};
 ghost use Rattle.tree_uses.specs.declared.fault.EfgKind.TheVariants.{Probability, ProbabilityRange};
 ghost use Rattle.gambit_tools.specs.declared.refusal.Refusal.TheVariants as refusal;
+ghost use Rattle.gambit_tools.specs.declared.refusal.Site.TheVariants as site;
 
 use efg_reader::{EfgFault, EfgKind};
 use frac128::{Frac, Op, Unfit};
@@ -260,16 +261,21 @@ fn limit_line(alloc: Global, passed: TooLarge) -> Result<String, Memory>
     Ok(format!(in alloc; "gambit: too large: {count} {what}, limit {limit}\n")?)
 }
 
+// The words for the payoff of a player at a profile.
+fn cell_text(alloc: Global, profile: u32, player: u32) -> Result<String, Memory>
+    ensures { IfOk result (λ text. string_bytes text ≡ site_text (site.Cell profile player)) }
+{
+    let profile_number = profile as u64 + 1;
+    let player_number = player as u64 + 1;
+    Ok(format!(in alloc; "profile {profile_number} player {player_number}")?)
+}
+
 // The words for a site.
 fn site_text(alloc: Global, site: Site) -> Result<String, Memory>
     ensures { IfOk result (λ text. string_bytes text ≡ site_text site) }
 {
     match site {
-        Site::Cell { profile, player } => {
-            let profile = profile as u64 + 1;
-            let player = player as u64 + 1;
-            Ok(format!(in alloc; "profile {profile} player {player}")?)
-        }
+        Site::Cell { profile, player } => cell_text(alloc, profile, player),
     }
 }
 

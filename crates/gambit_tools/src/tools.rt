@@ -121,12 +121,17 @@ fn form_text(
     ensures short { IfOk result (λ text. length text.items ≤ most_text) }
     ensures refused { IfErr result (λ r. (r ≡ Refusal.Memory) ⊎ IsLongRefusal strategic tree.now reduced.now.choices r) }
 {
-    let listed = if strategic {
-        list_pure_equilibria(alloc, reduced.table())
+    if strategic {
+        match list_pure_equilibria(alloc, reduced.table()) {
+            Ok(text) => Ok(text),
+            Err(stop) => Err(list_refusal(stop)),
+        }
     } else {
-        list_pure_behaviours(alloc, tree, reduced)
-    };
-    listed.map_err(list_refusal)
+        match list_pure_behaviours(alloc, tree, reduced) {
+            Ok(text) => Ok(text),
+            Err(stop) => Err(list_refusal(stop)),
+        }
+    }
 }
 
 /// The text of the pure equilibria of the tree that the tokens stand for, by strategies or as behaviour.
@@ -151,7 +156,10 @@ fn table_text(alloc: Global, tokens: &Tokens) -> Result<Vec<u8>, Refusal>
         Err(NfgStop::TooLarge(passed)) => return Err(too_large(passed)),
         Err(NfgStop::Memory) => return Err(Refusal::Memory),
     };
-    list_pure_equilibria(alloc, &table).map_err(list_refusal)
+    match list_pure_equilibria(alloc, &table) {
+        Ok(text) => Ok(text),
+        Err(stop) => Err(list_refusal(stop)),
+    }
 }
 
 /// The text of the pure equilibria of the game that the bytes stand for; those of a tree by strategies or as
