@@ -1,16 +1,36 @@
 -- The trees of the tests.
-use Rattle.std.proofs.Common.{ℕ, zero, suc, ◌<◌, ◌≡◌, ◌^◌, Some, None, List, [], ◌∷◌, length, slice_get, refl, subst, arith}
+use Rattle.std.proofs.Common.{ℕ, zero, suc, ◌<◌, ◌≤◌, ◌≡◌, ◌^◌, ap, ◌∙◌, Some, None, List, [], ◌∷◌, length, slice_get, refl, subst, arith}
 use Rattle.std.proofs.lemmas.List.Elements.{All-nil, All-cons, All-from_recursion}
-use Rattle.std.proofs.lemmas.Option.{none-some, same_Some}
+use Rattle.std.proofs.lemmas.Option.{none-some, same_Some, slice_get_within}
 use Rattle.rational.specs.Rational.{zero_ℚ}
 use Rattle.game_core.specs.declared.tree.Action.{Action}
-use Rattle.game_core.specs.Tree.{GameTree, IsTree, InformationSet, TreeOutcome, AreInPrefixOrder, NodeFits, SetFits, ProbabilitiesFit}
-use Rattle.game_core.proofs.TreeLaws.{few_edges}
+use Rattle.game_core.specs.declared.tree.Node.{Node}
+use Rattle.game_core.specs.Tree.{GameTree, IsTree, InformationSet, TreeOutcome, AreInPrefixOrder, LiesBelowRoot, NodeFits, SetFits, ProbabilitiesFit}
 use Rattle.enumpure_trees.specs.TestTrees.{plain_set, IsPlainSet, inner, end, two_moves}
 
 -- a player's actions have no probabilities
 plain_fit : (i : ℕ) (one other : Action) → one.prob ≡ zero_ℚ → other.prob ≡ zero_ℚ → ProbabilitiesFit (Some i) (one ∷ other ∷ [])
 plain_fit i one other first second = All-cons (λ a. a.prob ≡ zero_ℚ) one (other ∷ []) first (All-cons (λ a. a.prob ≡ zero_ℚ) other [] second (All-nil _))
+
+-- a parent stands before its child
+parent-less : (replier k : ℕ) (child : Node) (parent : ℕ) → slice_get (two_moves replier) k ≡ Some child → child.parent ≡ Some parent → parent < k
+parent-less replier zero child parent at is = absurd (none-some parent (ap (λ n. n.parent) (same_Some _ child at) ∙ is))
+parent-less replier (suc zero) child parent at is = let same = same_Some _ parent (ap (λ n. n.parent) (same_Some _ child at) ∙ is) in omega arith
+parent-less replier (suc (suc zero)) child parent at is = let same = same_Some _ parent (ap (λ n. n.parent) (same_Some _ child at) ∙ is) in omega arith
+parent-less replier (suc (suc (suc zero))) child parent at is = let same = same_Some _ parent (ap (λ n. n.parent) (same_Some _ child at) ∙ is) in omega arith
+parent-less replier (suc (suc (suc (suc k)))) child parent at is = last k at
+  where
+    last : (k : ℕ) → slice_get (end 0 1 2 ∷ []) k ≡ Some child → parent < suc (suc (suc (suc k)))
+    last zero at = let same = same_Some _ parent (ap (λ n. n.parent) (same_Some _ child at) ∙ is) in omega arith
+    last (suc k) at = absurd (none-some child at)
+
+-- a node lies at most as many edges below the root as its number
+depth-within : (replier d k : ℕ) → LiesBelowRoot (two_moves replier) d k → (d ≤ k) × (k < 5)
+depth-within replier zero k h = (omega arith, slice_get_within (two_moves replier) k h.0 h.1)
+depth-within replier (suc d) k h =
+    let above = depth-within replier d h.1 h.4 in
+    let less = parent-less replier k h.0 h.1 h.2 h.3 in
+    (omega arith, slice_get_within (two_moves replier) k h.0 h.2)
 
 module _ (title : List ℕ) (players : List (List ℕ)) (replier : ℕ) (reply_name opening_name : List ℕ) (x y z w : Action) (one other left : TreeOutcome) where
   -- the sets
@@ -44,7 +64,7 @@ module _ (title : List ℕ) (players : List (List ℕ)) (replier : ℕ) (reply_n
     outcomes_fit = All-from_recursion (λ outcome. length outcome.payoffs ≡ length players) tree.outcomes (p, (q, (r, tt)));
     few_nodes = omega arith;
     few_sets = omega arith;
-    few_edges = few_edges sets (two_moves replier) in_order (omega arith);
+    few_edges = λ d k h. let depth = depth-within replier d k h in omega arith;
     few_players = few;
   }
 
