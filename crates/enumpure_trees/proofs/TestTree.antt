@@ -6,7 +6,7 @@ use Rattle.rational.specs.Rational.{zero_ℚ}
 use Rattle.game_core.specs.declared.tree.Action.{Action}
 use Rattle.game_core.specs.declared.tree.Node.{Node}
 use Rattle.game_core.specs.Tree.{GameTree, IsTree, InformationSet, TreeOutcome, AreInPrefixOrder, LiesBelowRoot, NodeFits, SetFits, ProbabilitiesFit}
-use Rattle.enumpure_trees.specs.TestTrees.{plain_set, IsPlainSet, inner, end, two_moves}
+use Rattle.enumpure_trees.specs.TestTrees.{plain_set, IsPlainSet, end, two_moves}
 
 -- a player's actions have no probabilities
 plain_fit : (i : ℕ) (one other : Action) → one.prob ≡ zero_ℚ → other.prob ≡ zero_ℚ → ProbabilitiesFit (Some i) (one ∷ other ∷ [])

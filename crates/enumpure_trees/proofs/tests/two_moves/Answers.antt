@@ -1,4 +1,4 @@
-use Rattle.std.proofs.Common.{◌≡◌, ◌∙◌, ap, length, refl, sym, arith}
+use Rattle.std.proofs.Common.{◌≡◌, ◌∙◌, refl, arith}
 use Rattle.enumpure_trees.specs.TestTrees.{two_moves}
 use Rattle.enumpure_trees.proofs.TestTree.{two_moves-is_tree}
 use Rattle.enumpure_trees.proofs.tests.two_moves.Goals as goal
