@@ -14,7 +14,6 @@ use Rattle.tree_lines.specs.TreeEquilibria.{profile_line}
 use Rattle.tree_lines.proofs.EquilibriumLines.{AreActions, completed-actions}
 use Rattle.tree_lines.proofs.PrintedSets.{printed_sets, tree_entries-profile, IsProfile-printed}
 
-
 -- the lines of two choices of actions are of one length
 lengths-same : (t : Tree) (f g : ℕ → ℕ) → AreActions t f → AreActions t g → length (line_text (tree_entries t (pure f))) ≡ length (line_text (tree_entries t (pure g)))
 lengths-same t f g a b = go (cases_eq (sum_by (λ n. n) counts) 0)

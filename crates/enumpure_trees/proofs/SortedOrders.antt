@@ -1,10 +1,10 @@
 -- The orders of all players.
-use Rattle.std.proofs.Common.{ℕ, suc, ◌+◌, ◌<◌, ◌≡◌, List, [], ◌∷◌, ◌++◌, length, map, get_or, below_more, sym, ap, ap₂, ◌∙◌, subst, arith}
+use Rattle.std.proofs.Common.{ℕ, suc, ◌+◌, ◌<◌, ◌≡◌, List, [], ◌∷◌, ◌++◌, length, map, get_or, below_more, sym, ap, ◌∙◌, subst, arith}
 use Rattle.std.specs.List.{range_with_len}
 use Rattle.std.specs.List.Sorted.{IsPermutation}
 use Rattle.std.proofs.lemmas.List.{length-map, get_or-map, get_or_append_left, get_or_push, ext_get_or}
 use Rattle.std.proofs.lemmas.Option.{get_or_from_slice_get, slice_get_within}
-use Rattle.game_theory.specs.Profiles.{IsProfile, profile_count, number_of}
+use Rattle.game_theory.specs.Profiles.{IsProfile, profile_count}
 use Rattle.tree_lines.specs.Orders.{IsOrder, AreOrders, ordered}
 use Rattle.tree_lines.specs.Ranks.{ranked, ranked_profile}
 use Rattle.tree_lines.proofs.OrderedProfiles.{order-of, IsProfile-ordered}
@@ -36,16 +36,12 @@ orders-counts strategies orders h =
 pub record IsRanked (strategies : List (List (List ℕ))) (orders : List (List ℕ)) (r : ℕ) (profile : List ℕ) : Type 0 where
   pub profile_is : profile ≡ ranked_profile strategies orders r
   pub is_profile : IsProfile (map length strategies) profile
-  pub has_number : number_of (map length orders) profile ≡ number_of (map length strategies) (ranked_profile strategies orders r)
-  pub is_ordered : IsProfile (map length orders) profile
 
 -- is that with its rank
 pub IsRanked-ordered : (strategies : List (List (List ℕ))) (orders : List (List ℕ)) (r : ℕ) (profile : List ℕ) → AreOrders strategies orders → r < profile_count (map length strategies) → profile ≡ ordered orders (ranked (map length orders) r) → IsRanked strategies orders r profile
 IsRanked-ordered strategies orders r profile h l e =
-    let same = orders-counts strategies orders h in
-    let is : profile ≡ ranked_profile strategies orders r = e ∙ ap (λ ns. ordered orders (ranked ns r)) same in
-    let whole : IsProfile (map length strategies) profile = subst (IsProfile (map length strategies)) (sym is) (IsProfile-ordered strategies orders (ranked (map length strategies) r) h (IsProfile-ranked (map length strategies) r l)) in
-    record { profile_is = is; is_profile = whole; has_number = ap₂ number_of same is; is_ordered = subst (λ ns. IsProfile ns profile) (sym same) whole }
+    let is : profile ≡ ranked_profile strategies orders r = e ∙ ap (λ ns. ordered orders (ranked ns r)) (orders-counts strategies orders h) in
+    record { profile_is = is; is_profile = subst (IsProfile (map length strategies)) (sym is) (IsProfile-ordered strategies orders (ranked (map length strategies) r) h (IsProfile-ranked (map length strategies) r l)) }
 
 -- each has the numbers once
 pub AllHaveNumbers-sorted : (strategies : List (List (List ℕ))) (orders : List (List ℕ)) → AreSortedOrders strategies orders → AllHaveNumbers orders

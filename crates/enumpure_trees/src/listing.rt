@@ -72,6 +72,16 @@ fn profile_number(orders: &[Vec<u32>], profile: &[u32]) -> usize
     number
 }
 
+// Whether a profile is an equilibrium.
+fn is_stable(lines: &Lines, profile: &[u32]) -> bool
+    requires orders { AreOrders lines.now.reduced.now.choices (map (λ v. v.items) lines.now.orders.now) }
+    requires flags { length lines.now.stable.now ≡ profile_count (map length lines.now.reduced.now.choices) }
+    requires profile { IsProfile (map length lines.now.reduced.now.choices) profile.now }
+    ensures { result ≡ flag lines.now.stable.now (number_of (map length lines.now.reduced.now.choices) profile.now) }
+{
+    lines.stable[profile_number(lines.orders, profile)]
+}
+
 // How many bytes the line of each profile has: as many as that of the given one.
 fn line_length(
     alloc: Global,
@@ -104,7 +114,7 @@ fn push_lines(
 {
     for rank in 0..lines.stable.len() {
         set_profile(profile, lines.orders, lines.stable.len(), rank);
-        if lines.stable[profile_number(lines.orders, profile)] {
+        if is_stable(lines, profile) {
             let behaviour = Behaviour::from_reduced(alloc, lines.tree, lines.reduced, profile)?;
             push_line(alloc, text, behaviour.entries())?;
         }

@@ -22,10 +22,7 @@ fn compare_completed(one: &[u32], other: &[u32]) -> Ordering
 }
 
 // The strategies with their numbers.
-fn numbered<'a>(
-    alloc: Global,
-    strategies: &'a [Vec<u32>],
-) -> Result<Vec<(u32, &'a [u32])>, Memory>
+fn numbered<'a>(alloc: Global, strategies: &'a [Vec<u32>]) -> Result<Vec<(u32, &'a [u32])>, Memory>
     requires few { length strategies.now < 2 ^ 32 }
     ensures { IfOk result (λ numbered. map (λ p. (p.0, p.1.now)) numbered.items ≡ first_numbered (map (λ v. v.items) strategies.now) (length strategies.now)) }
 {
@@ -61,11 +58,7 @@ fn order_of(alloc: Global, strategies: &[Vec<u32>]) -> Result<Vec<u32>, Memory>
 }
 
 /// For each player the numbers of the strategies in the order of their lines.
-pub fn orders_of_all(
-    alloc: Global,
-    tree: &Tree,
-    reduced: &Reduced,
-) -> Result<Vec<Vec<u32>>, Memory>
+pub fn orders_of_all(alloc: Global, tree: &Tree, reduced: &Reduced) -> Result<Vec<Vec<u32>>, Memory>
     requires form { IsReducedForm tree.now reduced.now }
     ensures { IfOk result (λ orders. AreSortedOrders reduced.now.choices (map (λ v. v.items) orders.items)) }
 {

@@ -1,7 +1,6 @@
 use Rattle.std.proofs.Common.{◌++◌, map, length, sym, ap, ◌∙◌, arith}
-use Rattle.game_theory.specs.Profiles.{profile_count}
+use Rattle.game_theory.specs.Profiles.{profile_count, number_of}
 use Rattle.game_theory.specs.Lines.{line_text}
-use Rattle.game_theory.proofs.ProfileNumbers.{number_of-below}
 use Rattle.game_core.specs.TreeGame.{game_of_tree}
 use Rattle.enumpure.specs.Replies.{flag}
 use Rattle.tree_lines.specs.Ranks.{rank_line, rank_flag}
@@ -9,7 +8,7 @@ use Rattle.tree_lines.specs.TreeEquilibria.{profile_line}
 use Rattle.enumpure_trees.proofs.FlagCounts.{text-none, text-push, text-skip}
 use Rattle.enumpure_trees.proofs.SortedOrders.{orders-counts, IsRanked-ordered}
 use Rattle.enumpure_trees.proofs.listing.push_lines.Goals as goal
-use Rattle.enumpure_trees.proofs.listing.push_lines.Goals.{then-lines-profile_number+in_ok-behaviour+in_ok-push_line, else-lines-profile_number}
+use Rattle.enumpure_trees.proofs.listing.push_lines.Goals.{then-is_stable+in_ok-behaviour+in_ok-push_line, else-is_stable}
 
 pub loop-rank-init : goal.loop-rank-init
 loop-rank-init c =
@@ -22,21 +21,10 @@ set_profile-requires-clause-profiles c =
     let orders = map (λ v. v.items) c.args.lines.now.orders.now in
     c.requires.flags ∙ ap profile_count (sym (orders-counts c.args.lines.now.reduced.now.choices orders c.requires.orders))
 
-pub profile_number-requires-clause-profile : goal.profile_number-requires-clause-profile
-profile_number-requires-clause-profile c =
+pub is_stable-requires-clause-profile : goal.is_stable-requires-clause-profile
+is_stable-requires-clause-profile c =
     let orders = map (λ v. v.items) c.args.lines.now.orders.now in
-    (IsRanked-ordered c.args.lines.now.reduced.now.choices orders c.loop-rank.rank c.set_profile.new.profile c.requires.orders (omega (arith, c.requires.flags)) c.set_profile.ensures).is_ordered
-
-pub profile_number-requires-clause-few : goal.profile_number-requires-clause-few
-profile_number-requires-clause-few c =
-    let orders = map (λ v. v.items) c.args.lines.now.orders.now in
-    omega (arith, c.requires.flags, ap profile_count (orders-counts c.args.lines.now.reduced.now.choices orders c.requires.orders))
-
-pub bounds-lines-profile_number : goal.bounds-lines-profile_number
-bounds-lines-profile_number c =
-    let orders = map (λ v. v.items) c.args.lines.now.orders.now in
-    let is = IsRanked-ordered c.args.lines.now.reduced.now.choices orders c.loop-rank.rank c.set_profile.new.profile c.requires.orders (omega (arith, c.requires.flags)) c.set_profile.ensures in
-    omega (arith, c.profile_number.ensures, number_of-below (map length orders) c.set_profile.new.profile is.is_ordered, c.requires.flags, ap profile_count (orders-counts c.args.lines.now.reduced.now.choices orders c.requires.orders))
+    (IsRanked-ordered c.args.lines.now.reduced.now.choices orders c.loop-rank.rank c.set_profile.new.profile c.requires.orders (omega (arith, c.requires.flags)) c.set_profile.ensures).is_profile
 
 pub from_reduced-requires-clause-profile : goal.from_reduced-requires-clause-profile
 from_reduced-requires-clause-profile c =
@@ -52,11 +40,11 @@ loop-rank-preserved c =
     let r = c.loop-rank.rank in
     let text = c.loop-rank.text.items in
     let is = IsRanked-ordered strategies orders r c.set_profile.new.profile c.requires.orders (omega (arith, c.requires.flags)) c.set_profile.ensures in
-    let flagged = ap (flag flags) (c.profile_number.ensures ∙ is.has_number) in
-    elim c.if-lines-profile_number.branch [
-      | then-lines-profile_number+in_ok-behaviour+in_ok-push_line w ↦
+    let flagged = c.is_stable.ensures ∙ ap (λ p. flag flags (number_of (map length strategies) p)) is.profile_is in
+    elim c.if-is_stable.branch [
+      | then-is_stable+in_ok-behaviour+in_ok-push_line w ↦
           let entries = w.entries.ensures ∙ w.in_ok-behaviour.ensures {u = tt} ∙ ap (profile_line t strategies) is.profile_is in
           let pushed = ap (λ v. v.items) w.text-is ∙ w.in_ok-push_line.ensures {u = tt} ∙ ap (λ v. text ++ line_text v) entries in
-          pushed ∙ text-push (rank_line t strategies orders) (rank_flag strategies orders (flag flags)) r c.args.text.now.items text c.loop-rank.invariant (sym flagged ∙ w.if-lines-profile_number.true)
-      | else-lines-profile_number w ↦ ap (λ v. v.items) w.text-is ∙ text-skip (rank_line t strategies orders) (rank_flag strategies orders (flag flags)) r c.args.text.now.items text c.loop-rank.invariant (sym flagged ∙ w.if-lines-profile_number.false)
+          pushed ∙ text-push (rank_line t strategies orders) (rank_flag strategies orders (flag flags)) r c.args.text.now.items text c.loop-rank.invariant (sym flagged ∙ w.if-is_stable.true)
+      | else-is_stable w ↦ ap (λ v. v.items) w.text-is ∙ text-skip (rank_line t strategies orders) (rank_flag strategies orders (flag flags)) r c.args.text.now.items text c.loop-rank.invariant (sym flagged ∙ w.if-is_stable.false)
     ]
