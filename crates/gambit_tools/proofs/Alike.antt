@@ -39,9 +39,9 @@ equilibrium-same : (ns : List ℕ) (one other : ℕ → ℕ → ℚ) (m : Mixed)
 equilibrium-same ns one other m e h = record {
   valid = h.valid;
   no_better_reply = λ i s l b.
-    let now : payoff (game ns one) m i ≡ payoff (game ns other) m i = mean-same_numbers ns m (one i) (other i) (λ k. e i k l) in
-    let then : payoff (game ns one) (reply m i s) i ≡ payoff (game ns other) (reply m i s) i = mean-same_numbers ns (reply m i s) (one i) (other i) (λ k. e i k l) in
-    subst (λ x. x ≤ℚ payoff (game ns other) m i) then (subst (λ x. payoff (game ns one) (reply m i s) i ≤ℚ x) now (h.no_better_reply i s l b));
+      let now : payoff (game ns one) m i ≡ payoff (game ns other) m i = mean-same_numbers ns m (one i) (other i) (λ k. e i k l) in
+      let then : payoff (game ns one) (reply m i s) i ≡ payoff (game ns other) (reply m i s) i = mean-same_numbers ns (reply m i s) (one i) (other i) (λ k. e i k l) in
+      subst (λ x. x ≤ℚ payoff (game ns other) m i) then (subst (λ x. payoff (game ns one) (reply m i s) i ≤ℚ x) now (h.no_better_reply i s l b));
 }
 
 -- the lines of the one are those of the other
@@ -49,8 +49,8 @@ lines-same : (ns : List ℕ) (one other : ℕ → ℕ → ℚ) (lines : List (Li
 lines-same ns one other lines e h = record {
   in_order = h.in_order;
   sound = λ k d l.
-    let line = h.sound k d l in
-    record { profile = line.profile; is_profile = line.is_profile; is_equilibrium = equilibrium-same ns one other (pure line.profile) e line.is_equilibrium; is_line = line.is_line };
+      let line = h.sound k d l in
+      record { profile = line.profile; is_profile = line.is_profile; is_equilibrium = equilibrium-same ns one other (pure line.profile) e line.is_equilibrium; is_line = line.is_line };
   complete = λ profile p q. h.complete profile p (equilibrium-same ns other one (pure profile) (Same-sym ns one other e) q);
 }
 

@@ -87,11 +87,13 @@ fn form_of(alloc: Global, tree: &Tree) -> Result<Reduced, Refusal>
     match reduce(alloc, tree) {
         Ok(reduced) => Ok(reduced),
         Err(ReduceStop::TooLarge(passed)) => Err(too_large(passed)),
-        Err(ReduceStop::Range {
-            profile,
-            player,
-            unfit,
-        }) => {
+        Err(
+            ReduceStop::Range {
+                profile,
+                player,
+                unfit,
+            },
+        ) => {
             let site = Site::Cell { profile, player };
             Err(Refusal::Range { site, unfit })
         }
@@ -164,11 +166,7 @@ fn table_text(alloc: Global, tokens: &Tokens) -> Result<Vec<u8>, Refusal>
 
 /// The text of the pure equilibria of the game that the bytes stand for; those of a tree by strategies or as
 /// behaviour.
-fn pure_equilibria_text(
-    alloc: Global,
-    strategic: bool,
-    bytes: &[u8],
-) -> Result<Vec<u8>, Refusal>
+fn pure_equilibria_text(alloc: Global, strategic: bool, bytes: &[u8]) -> Result<Vec<u8>, Refusal>
     requires { length bytes.now ≤ most_bytes }
     ensures text { IfOk result (λ text. IsTextOf strategic bytes.now text.items) }
     ensures refused { IfErr result (λ r. (r ≡ Refusal.Memory) ⊎ AreRefused strategic bytes.now r) }
