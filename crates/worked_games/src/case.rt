@@ -79,8 +79,8 @@ fn owned(alloc: Global, words: &[&str]) -> Result<Vec<String>, Memory> {
     Ok(owned)
 }
 
-/// Whether a run of `enumpure` over these bytes ends with this status, writes so many bytes of text and tells this line.
-pub fn holds_over<R: Threads + Sync>(
+// Whether a run of `enumpure` over these bytes ends with this status, writes so many bytes of text and tells this line.
+fn holds_over<R: Threads + Sync>(
     rt: &R,
     alloc: Global,
     input: Vec<u8>,

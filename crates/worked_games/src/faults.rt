@@ -4,14 +4,16 @@ use memory::Memory;
 
 const DILEMMA: &str = "NFG 1 R \"PD\" { \"A\" \"B\" } { 2 2 } 3 3 5 0 0 5 1 1";
 
-/// Words other than `enumpure` and the name of one file.
+/// Words other than `enumpure`, its option and the name of one file.
 #[test]
 fn words_are_refused(rt: HostRuntime) -> Result<(), Memory> {
-    let rows: [(&[&str], &str); 4] = [
+    let rows: [(&[&str], &str); 6] = [
         (&["solve"], "gambit: unknown tool\n"),
         (&["Enumpure", "-S"], "gambit: unknown tool\n"),
         (&["enumpure", "-q"], "gambit: words not understood\n"),
         (&["enumpure", ""], "gambit: words not understood\n"),
+        (&["enumpure", "-S", "-S"], "gambit: words not understood\n"),
+        (&["enumpure", "-s"], "gambit: words not understood\n"),
     ];
     for (words, err) in rows {
         let case = Case {
@@ -28,10 +30,11 @@ fn words_are_refused(rt: HostRuntime) -> Result<(), Memory> {
 /// Words after `enumpure` that do not name one file.
 #[test]
 fn one_file_is_named(rt: HostRuntime) -> Result<(), Memory> {
-    let rows: [(&[&str], &str); 3] = [
+    let rows: [(&[&str], &str); 4] = [
         (&["enumpure", "-"], "gambit: words not understood\n"),
         (&["enumpure", "a", "b"], "gambit: words not understood\n"),
         (&["enumpure", "a", ""], "gambit: words not understood\n"),
+        (&["enumpure", "a", "-S"], "gambit: words not understood\n"),
     ];
     for (words, err) in rows {
         let case = Case {
@@ -102,8 +105,9 @@ fn bad_files_are_refused(rt: HostRuntime) -> Result<(), Memory> {
 /// A game in a file with a name, and a name that no file has. Standard input is not read then.
 #[test]
 fn files_are_named(rt: HostRuntime) -> Result<(), Memory> {
-    let rows: [(&[&str], u8, &str, &str); 3] = [
+    let rows: [(&[&str], u8, &str, &str); 4] = [
         (&["enumpure", "pd.nfg"], 0, "NE,0,1,0,1\n", ""),
+        (&["enumpure", "-S", "pd.nfg"], 0, "NE,0,1,0,1\n", ""),
         (&["enumpure", "none.nfg"], 3, "", "gambit: cannot open\n"),
         (&["enumpure"], 1, "", "gambit: nfg fault at 0: header\n"),
     ];

@@ -70,3 +70,79 @@ fn pure_equilibria_of_tables(rt: HostRuntime) -> Result<(), Memory> {
     }
     Ok(())
 }
+
+/// Trees with their pure equilibria as behaviour and by reduced strategies, worked out by hand.
+#[test]
+fn pure_equilibria_of_trees(rt: HostRuntime) -> Result<(), Memory> {
+    let rows = [
+        // A firm stays out or enters, and the other fights or shares.
+        (
+            "EFG 2 R \"Entry\" { \"E\" \"I\" } p \"\" 1 1 \"\" { \"Out\" \"In\" } 0 t \"\" 1 \"Out\" { 0, 2 } p \"\" 2 1 \"\" { \"Fight\" \"Accommodate\" } 0 t \"\" 2 \"Fight\" { -1, -1 } t \"\" 3 \"Share\" { 1, 1 }",
+            "NE,1,0,1,0\nNE,0,1,0,1\n",
+            "NE,1,0,1,0\nNE,0,1,0,1\n",
+        ),
+        // A player who forgets the first choice; the other has no sets.
+        (
+            "EFG 2 R \"Forget\" { \"One\" \"Two\" } p \"\" 1 1 \"\" { \"A\" \"B\" } 0 p \"\" 1 2 \"\" { \"C\" \"D\" } 0 t \"\" 1 \"\" { 1, 0 } t \"\" 2 \"\" { 0, 0 } p \"\" 1 2 \"\" { \"C\" \"D\" } 0 t \"\" 2 \"\" t \"\" 3 \"\" { 2, 0 }",
+            "NE,0,1,0,1\n",
+            "NE,0,0,0,1,1\n",
+        ),
+        // One player, who ends the game with the first action.
+        (
+            "EFG 2 R \"Alone\" { \"A\" } p \"\" 1 1 \"\" { \"L\" \"R\" } 0 t \"\" 1 \"\" { 3 } p \"\" 1 2 \"\" { \"U\" \"D\" } 0 t \"\" 2 \"\" { 1 } t \"\" 3 \"\" { 2 }",
+            "NE,1,0,1,0\n",
+            "NE,1,0,0\n",
+        ),
+        // No player has a set.
+        (
+            "EFG 2 R \"\" { \"A\" \"B\" } c \"\" 1 \"\" { \"\" 1/3 \"\" 2/3 } 0 t \"\" 1 \"\" { 1 2 } t \"\" 0",
+            "NE,\n",
+            "NE,1,1\n",
+        ),
+        // Where all pay the same, all five reduced strategies are equilibria. The second set is reached in two ways, so
+        // that the strategies 2*2 and 211 stand in another order than their lines.
+        (
+            "EFG 2 R \"\" { \"A\" } p \"\" 1 1 \"\" { \"L\" \"R\" } 0 p \"\" 1 2 \"\" { \"a\" \"b\" } 0 t \"\" 0 t \"\" 0 p \"\" 1 3 \"\" { \"x\" \"y\" } 0 p \"\" 1 2 \"\" { \"a\" \"b\" } 0 t \"\" 0 t \"\" 0 t \"\" 0",
+            "NE,1,0,1,0,1,0\nNE,1,0,0,1,1,0\nNE,0,1,1,0,1,0\nNE,0,1,1,0,0,1\nNE,0,1,0,1,1,0\n",
+            "NE,1,0,0,0,0\nNE,0,1,0,0,0\nNE,0,0,1,0,0\nNE,0,0,0,1,0\nNE,0,0,0,0,1\n",
+        ),
+    ];
+    for (input, behaviour, strategies) in rows {
+        let as_behaviour = Case {
+            out: behaviour,
+            ..Case::of(input)
+        };
+        assert!(rt; as_behaviour.holds(&rt, rt.alloc())?);
+        let by_strategies = Case {
+            words: &["enumpure", "-S"],
+            out: strategies,
+            ..Case::of(input)
+        };
+        assert!(rt; by_strategies.holds(&rt, rt.alloc())?);
+    }
+    Ok(())
+}
+
+/// Trees whose payoffs are not computed within 128 bits: a product, and a sum.
+#[test]
+fn wide_steps_are_refused(rt: HostRuntime) -> Result<(), Memory> {
+    let rows = [
+        (
+            "EFG 2 R \"\" { \"A\" } c \"\" 1 \"\" { \"\" 1/4611686018427387904 \"\" 4611686018427387903/4611686018427387904 } 0 c \"\" 2 \"\" { \"\" 1/4611686018427387904 \"\" 4611686018427387903/4611686018427387904 } 0 t \"\" 1 \"\" { 1/4611686018427387904 } t \"\" 0 t \"\" 0",
+            "gambit: range in profile 1 player 1: mul 1/4611686018427387904 1/21267647932558653966460912964485513216\n",
+        ),
+        (
+            "EFG 2 R \"\" { \"A\" } p \"\" 1 1 \"\" { \"ends\" \"goes on\" } 0 t \"\" 0 c \"\" 1 \"\" { \"\" 1/3 \"\" 1/3 \"\" 1/3 } 0 t \"\" 1 \"\" { 1/4611686018427387904 } t \"\" 2 \"\" { 1/4052555153018976267 } t \"\" 3 \"\" { 1/7450580596923828125 }",
+            "gambit: range in profile 2 player 1: add 8664241171446364171/56067335814250429175672743034936623104 1/22351741790771484375\n",
+        ),
+    ];
+    for (input, err) in rows {
+        let case = Case {
+            status: 1,
+            err,
+            ..Case::of(input)
+        };
+        assert!(rt; case.holds(&rt, rt.alloc())?);
+    }
+    Ok(())
+}

@@ -1,28 +1,57 @@
 // Files of game trees: which are read, and how the others are refused.
-use crate::case::{Case, Large, holds_over};
+use crate::case::{Case, Large};
 use memory::Memory;
 use std::alloc::Global;
 
-/// Trees that are read: one row for each way to write a node, and the example files.
+/// Trees that are read, with their pure equilibria: one row for each way to write a node, and the example files.
 #[test]
 fn trees_are_read(rt: HostRuntime) -> Result<(), Memory> {
     let rows = [
-        "EFG 2 R \"\" { \"A\" } t \"\" 0",
-        "EFG 2 D \"Title\" { \"A\" \"B\" } \"comment\" t \"end\" 1 \"out\" { 1 -1/2 }",
-        "EFG 2 R \"\" { \"A\" } c \"\" 1 { \"a\" 1 } 0 t \"\" 1 { 2.5 }",
-        "EFG 2 R \"\" { \"A\" } c \"\" 1 \"\" { \"a\" 0 \"b\" 1 } 3 \"bonus\" { 1 } t \"\" 0 t \"\" 3",
-        "EFG 2 R \"\" { \"A\" \"B\" } c \"\" 1 \"\" { \"a\" 1 } 0 p \"\" 1 1 \"\" { \"b\" } 0 p \"\" 2 1 \"\" { \"c\" } 0 t \"\" 0",
-        "EFG 2 R \"\" { \"A\" \"B\" } p \"\" 1 1 \"\" { \"l\" \"r\" } 0 p \"\" 1 1 \"later\" { \"x\" \"y\" } 0 t \"\" 1 { 1 2 } t \"\" 1 \"named\" { 1, 2 } t \"\" 1 \"other\"",
-        "EFG 2 R \"\" { \"A\" } c \"\" 1 \"\" { \"a\" 1/2 \"b\" 0.5 } 0 c \"\" 1 \"x\" { \"\" 5e-1 \"\" 2/4 } 0 t \"\" 0 t \"\" 0 t \"\" 0",
-        "EFG 2 R \"A simple Poker game\" { \"Fred\" \"Alice\" }\n\"\"\n\nc \"\" 1 \"\" { \"Red\" 1/2 \"Black\" 1/2 } 0\np \"\" 1 1 \"\" { \"Raise\" \"Fold\" } 0\np \"\" 2 1 \"\" { \"Meet\" \"Pass\" } 0\nt \"\" 1 \"Win Big\" { 2, -2 }\nt \"\" 2 \"Win\" { 1, -1 }\nt \"\" 2 \"Win\" { 1, -1 }\np \"\" 1 2 \"\" { \"Raise\" \"Fold\" } 0\np \"\" 2 1 \"\" { \"Meet\" \"Pass\" } 0\nt \"\" 3 \"Lose Big\" { -2, 2 }\nt \"\" 2 \"Win\" { 1, -1 }\nt \"\" 4 \"Lose\" { -1, 1 }\n",
-        "EFG 2 R \"Entry\" { \"E\" \"I\" }\np \"\" 1 1 \"\" { \"Out\" \"In\" } 0\nt \"\" 1 \"Out\" { 0, 2 }\np \"\" 2 1 \"\" { \"Fight\" \"Accommodate\" } 0\nt \"\" 2 \"Fight\" { -1, -1 }\nt \"\" 3 \"Share\" { 1, 1 }\n",
-        "EFG 2 R \"Forget\" { \"One\" \"Two\" }\np \"\" 1 1 \"\" { \"A\" \"B\" } 0\np \"\" 1 2 \"\" { \"C\" \"D\" } 0\nt \"\" 1 \"\" { 1, 0 }\nt \"\" 2 \"\" { 0, 0 }\np \"\" 1 2 \"\" { \"C\" \"D\" } 0\nt \"\" 2 \"\"\nt \"\" 3 \"\" { 2, 0 }\n",
-        "EFG 2 R \"Alone\" { \"A\" }\np \"\" 1 1 \"\" { \"L\" \"R\" } 0\nt \"\" 1 \"\" { 3 }\np \"\" 1 2 \"\" { \"U\" \"D\" } 0\nt \"\" 2 \"\" { 1 }\nt \"\" 3 \"\" { 2 }\n",
+        ("EFG 2 R \"\" { \"A\" } t \"\" 0", "NE,\n"),
+        (
+            "EFG 2 D \"Title\" { \"A\" \"B\" } \"comment\" t \"end\" 1 \"out\" { 1 -1/2 }",
+            "NE,\n",
+        ),
+        (
+            "EFG 2 R \"\" { \"A\" } c \"\" 1 { \"a\" 1 } 0 t \"\" 1 { 2.5 }",
+            "NE,\n",
+        ),
+        (
+            "EFG 2 R \"\" { \"A\" } c \"\" 1 \"\" { \"a\" 0 \"b\" 1 } 3 \"bonus\" { 1 } t \"\" 0 t \"\" 3",
+            "NE,\n",
+        ),
+        (
+            "EFG 2 R \"\" { \"A\" \"B\" } c \"\" 1 \"\" { \"a\" 1 } 0 p \"\" 1 1 \"\" { \"b\" } 0 p \"\" 2 1 \"\" { \"c\" } 0 t \"\" 0",
+            "NE,1,1\n",
+        ),
+        (
+            "EFG 2 R \"\" { \"A\" \"B\" } p \"\" 1 1 \"\" { \"l\" \"r\" } 0 p \"\" 1 1 \"later\" { \"x\" \"y\" } 0 t \"\" 1 { 1 2 } t \"\" 1 \"named\" { 1, 2 } t \"\" 1 \"other\"",
+            "NE,1,0\nNE,0,1\n",
+        ),
+        (
+            "EFG 2 R \"\" { \"A\" } c \"\" 1 \"\" { \"a\" 1/2 \"b\" 0.5 } 0 c \"\" 1 \"x\" { \"\" 5e-1 \"\" 2/4 } 0 t \"\" 0 t \"\" 0 t \"\" 0",
+            "NE,\n",
+        ),
+        (
+            "EFG 2 R \"A simple Poker game\" { \"Fred\" \"Alice\" }\n\"\"\n\nc \"\" 1 \"\" { \"Red\" 1/2 \"Black\" 1/2 } 0\np \"\" 1 1 \"\" { \"Raise\" \"Fold\" } 0\np \"\" 2 1 \"\" { \"Meet\" \"Pass\" } 0\nt \"\" 1 \"Win Big\" { 2, -2 }\nt \"\" 2 \"Win\" { 1, -1 }\nt \"\" 2 \"Win\" { 1, -1 }\np \"\" 1 2 \"\" { \"Raise\" \"Fold\" } 0\np \"\" 2 1 \"\" { \"Meet\" \"Pass\" } 0\nt \"\" 3 \"Lose Big\" { -2, 2 }\nt \"\" 2 \"Win\" { 1, -1 }\nt \"\" 4 \"Lose\" { -1, 1 }\n",
+            "",
+        ),
+        (
+            "EFG 2 R \"Entry\" { \"E\" \"I\" }\np \"\" 1 1 \"\" { \"Out\" \"In\" } 0\nt \"\" 1 \"Out\" { 0, 2 }\np \"\" 2 1 \"\" { \"Fight\" \"Accommodate\" } 0\nt \"\" 2 \"Fight\" { -1, -1 }\nt \"\" 3 \"Share\" { 1, 1 }\n",
+            "NE,1,0,1,0\nNE,0,1,0,1\n",
+        ),
+        (
+            "EFG 2 R \"Forget\" { \"One\" \"Two\" }\np \"\" 1 1 \"\" { \"A\" \"B\" } 0\np \"\" 1 2 \"\" { \"C\" \"D\" } 0\nt \"\" 1 \"\" { 1, 0 }\nt \"\" 2 \"\" { 0, 0 }\np \"\" 1 2 \"\" { \"C\" \"D\" } 0\nt \"\" 2 \"\"\nt \"\" 3 \"\" { 2, 0 }\n",
+            "NE,0,1,0,1\n",
+        ),
+        (
+            "EFG 2 R \"Alone\" { \"A\" }\np \"\" 1 1 \"\" { \"L\" \"R\" } 0\nt \"\" 1 \"\" { 3 }\np \"\" 1 2 \"\" { \"U\" \"D\" } 0\nt \"\" 2 \"\" { 1 }\nt \"\" 3 \"\" { 2 }\n",
+            "NE,1,0,1,0\n",
+        ),
     ];
-    for input in rows {
+    for (input, out) in rows {
         let case = Case {
-            status: 1,
-            err: "gambit: not built yet\n",
+            out,
             ..Case::of(input)
         };
         assert!(rt; case.holds(&rt, rt.alloc())?);
@@ -430,7 +459,14 @@ fn outcomes_are_refused(rt: HostRuntime) -> Result<(), Memory> {
 fn limits_on_nodes_are_kept(rt: HostRuntime) -> Result<(), Memory> {
     let front = "EFG 2 R \"\" { \"A\" } p \"\" 1 1 \"\" {";
     let rows = [
-        (65_535, 65_535, 0, "", "", "gambit: not built yet\n"),
+        (
+            65_535,
+            65_535,
+            0,
+            "",
+            "",
+            "gambit: too large: 67108865 bytes of text, limit 67108864\n",
+        ),
         (
             65_535,
             65_534,
@@ -477,28 +513,107 @@ fn limits_on_nodes_are_kept(rt: HostRuntime) -> Result<(), Memory> {
     Ok(())
 }
 
+/// A player with one set: where all actions pay the same, each has its line. 5,791 lines of 11,585 bytes are within the
+/// limit on the text, and 5,792 lines of 11,587 bytes are above it.
+#[test]
+fn limits_on_texts_of_trees_are_kept(rt: HostRuntime) -> Result<(), Memory> {
+    let front = "EFG 2 R \"\" { \"A\" } p \"\" 1 1 \"\" {";
+    let rows = [
+        (5_791, 0, 67_088_735, ""),
+        (
+            5_792,
+            1,
+            0,
+            "gambit: too large: 67108865 bytes of text, limit 67108864\n",
+        ),
+    ];
+    for (actions, status, text_length, err) in rows {
+        let pieces = [
+            (front, 1),
+            (" \"a\"", actions),
+            (" } 0", 1),
+            (" t \"\" 0", actions),
+        ];
+        let large = Large {
+            pieces: &pieces,
+            status,
+            text_length,
+            err,
+        };
+        assert!(rt; large.holds(&rt, rt.alloc())?);
+    }
+    Ok(())
+}
+
 /// One player with a chain of this many nodes, which have one action each and sets of their own, and then an end.
-fn chain(alloc: Global, nodes: u32) -> Result<Vec<u8>, Memory> {
-    let mut input = Vec::from_slice(alloc, b"EFG 2 R \"\" { \"A\" }")?;
+fn chain(alloc: Global, nodes: u32) -> Result<String, Memory> {
+    let mut input = String::from_str(alloc, "EFG 2 R \"\" { \"A\" }")?;
     for node in 0..nodes {
         let set = node.saturating_add(1);
         let text = format!(in alloc; " p \"\" 1 {set} \"\" {{ \"a\" }} 0")?;
-        input.extend_from_slice(text.as_bytes())?;
+        input.push_str(text.as_str())?;
     }
-    input.extend_from_slice(b" t \"\" 0")?;
+    input.push_str(" t \"\" 0")?;
     Ok(input)
+}
+
+/// The line of so many entries, which are all 1.
+fn ones(alloc: Global, entries: u32) -> Result<String, Memory> {
+    let mut line = String::from_str(alloc, "NE")?;
+    for _ in 0..entries {
+        line.push_str(",1")?;
+    }
+    line.push_str("\n")?;
+    Ok(line)
 }
 
 /// Trees at the limit on edges below the root, and just above it.
 #[test]
 fn limits_on_depth_are_kept(rt: HostRuntime) -> Result<(), Memory> {
-    let rows = [
-        (1_024, "gambit: not built yet\n"),
-        (1_025, "gambit: too large: 1025 depth, limit 1024\n"),
-    ];
-    for (nodes, err) in rows {
-        let input = chain(rt.alloc(), nodes)?;
-        assert!(rt; holds_over(&rt, rt.alloc(), input, 1, 0, err)?);
+    let alloc = rt.alloc();
+    let deep = chain(alloc, 1_024)?;
+    let line = ones(alloc, 1_024)?;
+    let kept = Case {
+        out: line.as_str(),
+        out_limit: 3000,
+        ..Case::of(deep.as_str())
+    };
+    assert!(rt; kept.holds(&rt, alloc)?);
+    let too_deep = chain(alloc, 1_025)?;
+    let refused = Case {
+        status: 1,
+        err: "gambit: too large: 1025 depth, limit 1024\n",
+        ..Case::of(too_deep.as_str())
+    };
+    assert!(rt; refused.holds(&rt, alloc)?);
+    Ok(())
+}
+
+/// Adds a chain of this many sets of one node, whose first action ends the game and whose second goes on. The sets'
+/// numbers begin behind `first`.
+fn push_chain(alloc: Global, input: &mut String, first: u32, sets: u32) -> Result<(), Memory> {
+    for set in 0..sets {
+        let number = first.saturating_add(set).saturating_add(1);
+        let text = format!(in alloc; " p \"\" 1 {number} \"\" {{ \"\" \"\" }} 0 t \"\" 0")?;
+        input.push_str(text.as_str())?;
     }
+    input.push_str(" t \"\" 0")?;
+    Ok(())
+}
+
+/// One player, whom chance leads to one of two chains of 330 sets: 331 times 331 strategies, each with 660 choices.
+#[test]
+fn limits_on_choices_are_kept(rt: HostRuntime) -> Result<(), Memory> {
+    let alloc = rt.alloc();
+    let front = "EFG 2 R \"\" { \"A\" } c \"\" 1 \"\" { \"\" 1/2 \"\" 1/2 } 0";
+    let mut input = String::from_str(alloc, front)?;
+    push_chain(alloc, &mut input, 0, 330)?;
+    push_chain(alloc, &mut input, 330, 330)?;
+    let case = Case {
+        status: 1,
+        err: "gambit: too large: 67108865 choices, limit 67108864\n",
+        ..Case::of(input.as_str())
+    };
+    assert!(rt; case.holds(&rt, alloc)?);
     Ok(())
 }
