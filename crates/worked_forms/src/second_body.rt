@@ -111,9 +111,8 @@ fn push_choice(entries: &mut Vec<Frac>, count: usize, chosen: usize) -> Result<(
 // The line of a profile by strategies.
 fn strategies_line(alloc: Global, counts: &[usize], profile: usize) -> Result<Vec<u8>, Memory> {
     let mut entries = Vec::new(alloc);
-    for player in 0..counts.len() {
-        let count = counts.get(player).copied().unwrap_or(0);
-        push_choice(&mut entries, count, choice(counts, profile, player))?;
+    for (player, count) in counts.iter().enumerate() {
+        push_choice(&mut entries, *count, choice(counts, profile, player))?;
     }
     line(alloc, &entries)
 }
@@ -126,8 +125,10 @@ fn push_behaviour(
     actions: &[u32],
 ) -> Result<(), Memory> {
     for (place, action) in (0..u32::MAX).zip(actions) {
-        let set = tree.own_sets(player, place).unwrap_or(u32::MAX);
-        if let Some(set) = tree.sets().get(set as usize) {
+        let Some(number) = tree.own_sets(player, place) else {
+            continue;
+        };
+        if let Some(set) = tree.sets().get(number as usize) {
             let chosen = (*action as usize).saturating_sub(1);
             push_choice(entries, set.actions().len(), chosen)?;
         }
