@@ -1,6 +1,10 @@
-//! Worked reduced forms, as tests over `reduced_form::reduce` on the text of trees. Nothing here is called by the
-//! program.
+//! Worked reduced forms, as tests over `reduced_form::reduce` on the text of trees, and pure equilibria of small games
+//! beside a plain listing of them by the definition. Nothing here is called by the program.
 #![tactic(auto)]
 
+#[cfg(test)]
+mod games;
+#[cfg(test)]
+mod second_body;
 #[cfg(test)]
 mod tests;

@@ -1,23 +1,11 @@
 ghost use Rattle.std.specs.Prelude.{◌<◌};
 
-use efg_reader::read;
+use crate::games::{ALONE, FORGET, PAID_ON_THE_WAY, POKER, TWO_WAYS, tree_of};
 use frac128::{Frac, Memory, Op, Unfit};
-use game_core::{TooLarge, Tree, What};
-use game_text::read_tokens;
+use game_core::{TooLarge, What};
 use ne_printer::fraction;
 use reduced_form::{ReduceStop, Reduced, reduce};
 use std::alloc::Global;
-
-// The tree that a text stands for; nothing where it is none.
-fn tree_of(alloc: Global, text: &[u8]) -> Option<Tree> {
-    let Ok(tokens) = read_tokens(alloc, text) else {
-        return None;
-    };
-    if tokens.list().len() >= u32::MAX as usize {
-        return None;
-    }
-    read(alloc, &tokens).ok()
-}
 
 // Adds the names of a player's strategies, each behind a space.
 fn push_names(text: &mut Vec<u8>, reduced: &Reduced, player: usize) -> Result<(), Memory> {
@@ -73,62 +61,11 @@ fn stops(alloc: Global, text: &[u8], stop: ReduceStop) -> bool {
     }
 }
 
-const POKER: &[u8] = br#"EFG 2 R "A simple Poker game" { "Fred" "Alice" } ""
-c "" 1 "" { "Red" 1/2 "Black" 1/2 } 0
-p "" 1 1 "" { "Raise" "Fold" } 0
-p "" 2 1 "" { "Meet" "Pass" } 0
-t "" 1 "Win Big" { 2, -2 }
-t "" 2 "Win" { 1, -1 }
-t "" 2 "Win" { 1, -1 }
-p "" 1 2 "" { "Raise" "Fold" } 0
-p "" 2 1 "" { "Meet" "Pass" } 0
-t "" 3 "Lose Big" { -2, 2 }
-t "" 2 "Win" { 1, -1 }
-t "" 4 "Lose" { -1, 1 }"#;
-
-const ALONE: &[u8] = br#"EFG 2 R "Alone" { "A" }
-p "" 1 1 "" { "L" "R" } 0
-t "" 1 "" { 3 }
-p "" 1 2 "" { "U" "D" } 0
-t "" 2 "" { 1 }
-t "" 3 "" { 2 }"#;
-
-const FORGET: &[u8] = br#"EFG 2 R "Forget" { "One" "Two" }
-p "" 1 1 "" { "A" "B" } 0
-p "" 1 2 "" { "C" "D" } 0
-t "" 1 "" { 1, 0 }
-t "" 2 "" { 0, 0 }
-p "" 1 2 "" { "C" "D" } 0
-t "" 2 ""
-t "" 3 "" { 2, 0 }"#;
-
 // One set with ten actions.
 const WIDE: &[u8] = br#"EFG 2 R "" { "A" }
 p "" 1 1 "" { "" "" "" "" "" "" "" "" "" "" } 0
 t "" 1 "" { 0 } t "" 2 "" { 1 } t "" 3 "" { 2 } t "" 4 "" { 3 } t "" 5 "" { 4 }
 t "" 6 "" { 5 } t "" 7 "" { 6 } t "" 8 "" { 7 } t "" 9 "" { 8 } t "" 10 "" { 9 }"#;
-
-// The first player forgets which of two ways led to a set, and one of the ways goes through another set.
-const TWO_WAYS: &[u8] = br#"EFG 2 R "" { "A" }
-p "" 1 1 "" { "L" "R" } 0
-p "" 1 2 "" { "a" "b" } 0
-t "" 1 "" { 1 }
-t "" 2 "" { 2 }
-p "" 1 3 "" { "x" "y" } 0
-p "" 1 2 "" { "a" "b" } 0
-t "" 3 "" { 3 }
-t "" 4 "" { 4 }
-t "" 5 "" { 5 }"#;
-
-// Outcomes stand at inner nodes too, and chance takes the second way never.
-const PAID_ON_THE_WAY: &[u8] = br#"EFG 2 R "" { "A" "B" }
-p "" 2 1 "" { "x" "y" } 1 "" { 10, 0 }
-c "" 1 "" { "" 1 "" 0 "" 0 } 2 "" { 1, 1/2 }
-t "" 3 "" { 1/3, 2 }
-t "" 4 "" { 7, 7 }
-p "" 1 1 "" { "only" } 0
-t "" 4 ""
-t "" 0"#;
 
 #[test]
 fn reduces_trees(rt: HostRuntime) -> Result<(), Memory> {
