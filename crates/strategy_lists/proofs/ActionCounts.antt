@@ -1,14 +1,16 @@
--- A set has at most as many actions as the tree has nodes.
-use Rattle.std.proofs.Common.{ℕ, zero, suc, ◌<◌, ◌≤◌, ◌^◌, ◌≡◌, Bool, true, false, Decides, Option, Some, None, List, [], ◌∷◌, ◌++◌, length, map, get_or, refl, sym, ap, subst, ◌∙◌, arith}
+-- A set has at most as many actions as the tree has nodes; and the numbers of actions of a player's own sets, one after another.
+use Rattle.std.proofs.Common.{ℕ, zero, suc, ◌<◌, ◌≤◌, ◌^◌, ◌≡◌, inl, inr, Bool, true, false, Decides, Option, Some, None, List, [], ◌∷◌, ◌++◌, length, map, get_or, slice_get, take, refl, sym, ap, subst, ◌∙◌, arith}
 use Rattle.std.specs.Prelude.{if◌then◌else◌}
-use Rattle.std.proofs.lemmas.List.{length-append, get_or-map, map-append}
-use Rattle.std.proofs.lemmas.Option.{slice_get-get_or}
+use Rattle.std.proofs.Math.Seq.{take-suc, take-length}
+use Rattle.std.proofs.lemmas.Bool.{cases_lt}
+use Rattle.std.proofs.lemmas.List.{length-append, length_push, get_or-map, map-append}
+use Rattle.std.proofs.lemmas.Option.{none-some, slice_get_within, slice_get-get_or, get_or_from_slice_get}
 use Rattle.game_core.specs.declared.tree.Node.{Node}
-use Rattle.game_core.specs.Tree.{GameTree, IsTree, InformationSet, Place, AreInPrefixOrder, action_count, places_from, members_from, is_set}
+use Rattle.game_core.specs.Tree.{GameTree, IsTree, InformationSet, Place, AreInPrefixOrder, action_count, places_from, members_from, is_set, own_sets}
 use Rattle.game_core.specs.TreeGame.{game_of_tree}
 use Rattle.reduced_strategies.proofs.Sets.{is_own_of-decides}
-use Rattle.strategy_lists.proofs.OwnNumbers.{is_set-own, own_numbers-own, own_numbers-other}
-use Rattle.strategy_lists.specs.OwnNumbers.{own_numbers}
+use Rattle.strategy_lists.proofs.OwnNumbers.{is_set-own, own_from-own_sets, own_sets-numbers, own_numbers-length}
+use Rattle.strategy_lists.proofs.WalksAreStrategies.{own_set-tell}
 
 -- a node has a place for each action
 length-places : (node a n : ℕ) → length (places_from node a n) ≡ n
@@ -53,14 +55,27 @@ actions-fit t s set valid below is =
     let few = actions-few t.sets 0 0 s t.nodes _ valid.in_prefix_order some in
     omega (arith, actions-at t s set below is, valid.few_nodes)
 
--- the owner of a set is that of the game
-pub owner-at : (t : GameTree) (s : ℕ) (set : InformationSet) → s < length t.sets → set ≡ get_or t.sets s set → (game_of_tree t).owner s ≡ set.owner
-owner-at t s set below is = get_or-map (λ x. x.owner) t.sets s set None below ∙ ap (λ x. x.owner) (sym is)
+-- a set of the tree's lists that is one of the player's own is one of the sets
+pub own_set-within : (t : GameTree) (i place s : ℕ) → slice_get (own_sets t i) place ≡ Some s → s < length t.sets
+own_set-within t i place s h = (own_set-tell (game_of_tree t) i place s (ap (λ xs. slice_get xs place) (sym (own_from-own_sets t i)) ∙ h)).0
 
--- the numbers of actions with one more set of the player, and with one of another owner
-pub counts-own : (owner : ℕ → Option ℕ) (actions : ℕ → ℕ) (i n count : ℕ) (counts : List ℕ) → owner n ≡ Some i → actions n ≡ count → counts ≡ map actions (own_numbers owner i n) → counts ++ count ∷ [] ≡ map actions (own_numbers owner i (suc n))
-counts-own owner actions i n count counts own is h =
-    rw (own_numbers-own owner i n own, map-append actions (own_numbers owner i n) (n ∷ []), is, h) refl
+-- a player has fewer own sets than a place can count
+pub own_sets-few : (t : GameTree) (i : ℕ) → IsTree t → length (own_sets t i) < 2 ^ 32
+own_sets-few t i valid =
+    let short = own_numbers-length (game_of_tree t).owner i (length t.sets) in
+    omega (arith, ap length (own_from-own_sets t i), ap length (own_sets-numbers (game_of_tree t) i), short, valid.few_sets, valid.few_nodes)
 
-pub counts-other : (owner : ℕ → Option ℕ) (actions : ℕ → ℕ) (i n : ℕ) (counts : List ℕ) → (owner n ≡ Some i → ⊥) → counts ≡ map actions (own_numbers owner i n) → counts ≡ map actions (own_numbers owner i (suc n))
-counts-other owner actions i n counts other h = h ∙ ap (map actions) (sym (own_numbers-other owner i n other))
+-- the numbers of actions with one more set, and of all sets
+module _ (actions : ℕ → ℕ) (sets counts : List ℕ) (h : counts ≡ map actions (take (length counts) sets)) where
+  pub counts-more : (s count : ℕ) → slice_get sets (length counts) ≡ Some s → actions s ≡ count → counts ++ count ∷ [] ≡ map actions (take (length (counts ++ count ∷ [])) sets)
+  counts-more s count at is =
+      let inside = slice_get_within sets (length counts) s at in
+      let next : take (suc (length counts)) sets ≡ take (length counts) sets ++ s ∷ [] = take-suc sets (length counts) s inside ∙ ap (λ x. take (length counts) sets ++ x ∷ []) (get_or_from_slice_get sets (length counts) s s at) in
+      let long : length (counts ++ count ∷ []) ≡ suc (length counts) = length_push counts count ∙ omega arith in
+      rw (long, next, map-append actions (take (length counts) sets) (s ∷ []), is) (ap (λ xs. xs ++ count ∷ []) h)
+
+  pub counts-all : slice_get sets (length counts) ≡ None → length counts ≤ length sets → counts ≡ map actions sets
+  counts-all at_none few = elim (cases_lt (length counts) (length sets)) [
+    | inl less ↦ absurd (none-some _ (sym at_none ∙ slice_get-get_or sets (length counts) 0 less))
+    | inr past ↦ (let all : length counts ≡ length sets = omega arith in h ∙ ap (λ n. map actions (take n sets)) all ∙ ap (map actions) (take-length sets))
+  ]

@@ -1,18 +1,15 @@
 -- The nodes at which a player moves, and the own history past other nodes.
-use Rattle.std.proofs.Common.{ℕ, ◌<◌, ◌≡◌, Option, Some, None, List, [], ◌∷◌, ◌++◌, length, map, get_or, All, refl, sym, ap, subst, ◌∙◌}
+use Rattle.std.proofs.Common.{ℕ, ◌<◌, ◌≡◌, Option, Some, None, List, [], ◌∷◌, ◌++◌, length, get_or, refl, sym, ap, ◌∙◌}
 use Rattle.std.proofs.lemmas.Bool.{false_from_ne_true}
-use Rattle.std.proofs.lemmas.List.{append-nil, get_or-map, get_or_default, length-map}
+use Rattle.std.proofs.lemmas.List.{append-nil, get_or-map}
 use Rattle.std.proofs.lemmas.Option.{none-some}
 use Rattle.game_trees.specs.Trees.{Tree, IsTree}
 use Rattle.game_trees.specs.Recall.{own_step, own_history}
 use Rattle.game_core.specs.declared.tree.Node.{Node}
-use Rattle.game_core.specs.Tree.{GameTree, IsWithin, IsTree as is_game, kind_at, kind_of_owner}
+use Rattle.game_core.specs.Tree.{GameTree, IsTree as is_game, kind_at, kind_of_owner}
 use Rattle.game_core.specs.TreeGame.{game_of_tree}
 use Rattle.reduced_strategies.proofs.Sets.{is_own-decides}
 use Rattle.reduced_strategies.proofs.Histories.{own_history-step}
-use Rattle.strategy_lists.specs.OwnNumbers.{ArePlacesBelow}
-use Rattle.strategy_lists.proofs.OwnNumbers.{ArePlacesBelow-same}
-use Rattle.strategy_lists.proofs.WalksAreStrategies.{element}
 use Rattle.strategy_lists.specs.Made.{mover_of, owner_of, mover, IsMove, IsLastMove}
 
 -- who chooses at an owner's set is that owner
@@ -90,28 +87,3 @@ pub mover-within : (t : Tree) (i k : ℕ) → IsTree t → k < t.size → mover 
 mover-within t i k valid below own =
     let move = move_at t i k own in
     valid.owners_within move.0 i (valid.sets_within k move.0 below move.1.at_set) move.1.own
-
--- an owner is within a bound if each player who it may be is
-within-from : (bound : ℕ) (o : Option ℕ) → ((i : ℕ) → o ≡ Some i → i < bound) → IsWithin bound o
-within-from bound None h = tt
-within-from bound (Some i) h = h i refl
-
--- the list of who moves at the nodes
-module _ (t : GameTree) (valid : is_game t) (movers : List (Option ℕ)) (is : movers ≡ map (λ node. mover_of node.kind) t.nodes) where
-  -- what stands there
-  at_node : (k : ℕ) → k < length t.nodes → get_or movers k None ≡ mover (game_of_tree t) k
-  at_node k below =
-      let node = (element t.nodes k below).0 in
-      ap (λ xs. get_or xs k None) is ∙ get_or-map (λ n. mover_of n.kind) t.nodes k node None below ∙ sym (mover-at t k node below valid)
-
-  -- they are players
-  pub movers-within : IsTree (game_of_tree t) → All (IsWithin (length t.players)) movers
-  movers-within law k d below =
-      let inside : k < length t.nodes = rw (is, length-map) at below in
-      subst (IsWithin (length t.players)) (get_or_default movers k None d below) (within-from (length t.players) (get_or movers k None) (λ i own. mover-within (game_of_tree t) i k law inside (sym (at_node k inside) ∙ own)))
-
-  -- their places are those by the game
-  pub movers-places : (places : List ℕ) → ArePlacesBelow (λ k. get_or movers k None) (length movers) places → ArePlacesBelow (mover (game_of_tree t)) (length t.nodes) places
-  movers-places places h =
-      let long : length movers ≡ length t.nodes = ap length is ∙ length-map t.nodes (λ node. mover_of node.kind) in
-      ArePlacesBelow-same _ (mover (game_of_tree t)) (length t.nodes) places at_node (subst (λ n. ArePlacesBelow (λ k. get_or movers k None) n places) long h)

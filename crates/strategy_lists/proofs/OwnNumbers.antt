@@ -7,7 +7,7 @@ use Rattle.std.proofs.Math.Nat.{add-zero}
 use Rattle.std.proofs.lemmas.Bool.{cases_lt, cases_eq, false_from_ne_true}
 use Rattle.std.proofs.lemmas.List.{append-nil, append_assoc, length_push, length-map, length-set, get_or-set_same, get_or-set_other, get_or_append_left, get_or_push}
 use Rattle.std.proofs.lemmas.List.Elements.{All-map}
-use Rattle.std.proofs.lemmas.Option.{none-some, same_Some, slice_get_within, slice_get-get_or}
+use Rattle.std.proofs.lemmas.Option.{none-some, same_Some, slice_get-get_or}
 use Rattle.game_trees.specs.Trees.{Tree}
 use Rattle.game_trees.specs.Behaviour.{is_own_of}
 use Rattle.game_core.specs.Tree.{GameTree, IsTree, InformationSet, IsWithin, is_set, own_from}
@@ -19,13 +19,13 @@ use Rattle.strategy_lists.specs.OwnNumbers.{own_numbers, AreCounts, counted, Are
 
 -- ---- lists
 -- an earlier element keeps its place
-slice_get-push : {X : Type 0} (xs : List X) (y x : X) (j : ℕ) → slice_get xs j ≡ Some x → slice_get (xs ++ y ∷ []) j ≡ Some x
+pub slice_get-push : {X : Type 0} (xs : List X) (y x : X) (j : ℕ) → slice_get xs j ≡ Some x → slice_get (xs ++ y ∷ []) j ≡ Some x
 slice_get-push [] y x j h = absurd (none-some x h)
 slice_get-push (z ∷ xs) y x zero h = h
 slice_get-push (z ∷ xs) y x (suc j) h = slice_get-push xs y x j h
 
 -- the last element stands behind the others
-slice_get-last : {X : Type 0} (xs : List X) (y : X) → slice_get (xs ++ y ∷ []) (length xs) ≡ Some y
+pub slice_get-last : {X : Type 0} (xs : List X) (y : X) → slice_get (xs ++ y ∷ []) (length xs) ≡ Some y
 slice_get-last [] y = refl
 slice_get-last (z ∷ xs) y = slice_get-last xs y
 
@@ -83,15 +83,6 @@ module _ (owner : ℕ → Option ℕ) (i : ℕ) where
   -- a number stands at one place
   pub own_numbers-place : (n j l k : ℕ) → slice_get (own_numbers owner i n) j ≡ Some k → slice_get (own_numbers owner i n) l ≡ Some k → j ≡ l
   own_numbers-place n j l k h g = (own_numbers-tell n j k h).2 ∙ sym (own_numbers-tell n l k g).2
-
-  -- an own number below another has fewer before it
-  pub own_numbers-fewer : (k n : ℕ) → k < n → owner k ≡ Some i → length (own_numbers owner i k) < length (own_numbers owner i n)
-  own_numbers-fewer k n below own = slice_get_within (own_numbers owner i n) _ k (own_numbers-at k n below own)
-
--- the same numbers by owners that are the same below n
-own_numbers-same : (owner other : ℕ → Option ℕ) (i n : ℕ) → ((k : ℕ) → k < n → owner k ≡ other k) → own_numbers owner i n ≡ own_numbers other i n
-own_numbers-same owner other i zero same = refl
-own_numbers-same owner other i (suc n) same = rw (same n (omega arith), own_numbers-same owner other i n (λ k below. same k (omega arith))) refl
 
 -- ---- own sets
 -- the own sets below n are the own numbers below n
@@ -168,13 +159,6 @@ ArePlacesBelow-next owner n place places is h = record {
   where
     at_last : (k i : ℕ) → k ≡ n → owner k ≡ Some i → get_or (places ++ place ∷ []) k 0 ≡ length (own_numbers owner i k)
     at_last k i same own = get_or_push places place 0 k (h.one_for_each ∙ sym same) ∙ is i (ap owner (sym same) ∙ own) ∙ ap (λ x. length (own_numbers owner i x)) (sym same)
-
--- the same places by owners that are the same below n
-pub ArePlacesBelow-same : (owner other : ℕ → Option ℕ) (n : ℕ) (places : List ℕ) → ((k : ℕ) → k < n → owner k ≡ other k) → ArePlacesBelow owner n places → ArePlacesBelow other n places
-ArePlacesBelow-same owner other n places same h = record {
-  one_for_each = h.one_for_each;
-  are_places = λ k i below own. h.are_places k i below (same k below ∙ own) ∙ ap length (own_numbers-same owner other i k (λ l less. same l (omega arith)));
-}
 
 -- places among the owners of the sets are the places of the sets
 pub ArePlaces-below : (t : Tree) (places : List ℕ) → ArePlacesBelow t.owner t.sets places → ArePlaces t places

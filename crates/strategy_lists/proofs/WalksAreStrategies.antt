@@ -123,11 +123,11 @@ module _ (t : Tree) (i : ℕ) (decisions : List Decision) (are : AreDecisions t 
         back h =
             let own = own_set-tell t i place s at_place in
             let found = are.all h.0 s h.1 h.2 own.1 in
-            let at_node : slice_get are.nodes found.0 ≡ Some h.0 = slice_get-get_or are.nodes found.0 h.0 found.1 ∙ ap Some found.2 in
-            let d = decision_of found.0 h.0 at_node in
-            let same : d.2.set ≡ s = same_Some d.2.set s (sym d.2.at_set ∙ h.2) in
-            let place_is : d.0.place ≡ place = own_set-place t i s d.0.place place (d.2.place_is ∙ ap Some same) at_place in
-            (found.0, d.0, d.1, place_is, (reached_by_history (suc found.0) found.0 (omega arith) h.0 at_node).1 h.3)
+            let node = node_of found.number found.decision found.stands_at in
+            let same : found.is_at_node.set ≡ s = same_Some found.is_at_node.set s (sym found.is_at_node.at_set ∙ h.2) in
+            let place_is : found.decision.place ≡ place = own_set-place t i s found.decision.place place (found.is_at_node.place_is ∙ ap Some same) at_place in
+            let history : own_history t i h.0 ≡ own_history t i node.0 = found.is_at_node.history_is ∙ sym node.2.history_is in
+            (found.number, found.decision, found.stands_at, place_is, (reached_by_history (suc found.number) found.number (omega arith) node.0 node.1).1 (subst (Agrees chosen) history h.3))
 
     -- a walk is a reduced strategy
     walk-reduced : IsWalk decisions (action_counts t i) choices → IsReduced t i choices

@@ -1,5 +1,5 @@
--- A player's decisions on a game tree, in the order of the nodes.
-use Rattle.std.specs.Prelude.{ℕ, ◌<◌, ◌≡◌, List, [], ◌∷◌, ◌++◌, length, map, slice_index, slice_get, Contains, Option, Some, None}
+-- A player's decisions on a game tree, each after those before it. Nodes of one set with the same own history can share one.
+use Rattle.std.specs.Prelude.{ℕ, ◌<◌, ◌≡◌, List, [], ◌∷◌, ◌++◌, length, map, slice_index, slice_get, Option, Some, None}
 use Rattle.game_trees.specs.Trees.{Tree}
 use Rattle.game_trees.specs.Recall.{own_history}
 use Rattle.reduced_strategies.specs.Choices.{own_sets, AreReducedStrategies}
@@ -25,12 +25,19 @@ pub record IsDecisionAt (t : Tree) (i : ℕ) (nodes : List ℕ) (decision : Deci
   pub place_is : slice_get (own_sets t i) decision.place ≡ Some set
   pub history_is : own_history t i k ≡ history_by t i nodes decision.before
 
--- the decisions of player i, one for each node at which the player chooses
+-- one of the decisions is the choice at node k
+pub record HasDecision (t : Tree) (i : ℕ) (nodes : List ℕ) (decisions : List Decision) (k : ℕ) : Type 0 where
+  pub number : ℕ
+  pub decision : Decision
+  pub stands_at : slice_get decisions number ≡ Some decision
+  pub is_at_node : IsDecisionAt t i nodes decision k
+
+-- the decisions of player i: each is the choice at a node that stands for it, and each node at which the player chooses has one
 pub record AreDecisions (t : Tree) (i : ℕ) (decisions : List Decision) : Type 0 where
   pub nodes : List ℕ
   pub one_for_each : length nodes ≡ length decisions
   pub are_decisions : (j k : ℕ) (decision : Decision) → slice_get decisions j ≡ Some decision → slice_get nodes j ≡ Some k → IsDecisionAt t i nodes decision k
-  pub all : (k s : ℕ) → k < t.size → t.set k ≡ Some s → t.owner s ≡ Some i → Contains nodes k
+  pub all : (k s : ℕ) → k < t.size → t.set k ≡ Some s → t.owner s ≡ Some i → HasDecision t i nodes decisions k
   pub linked : AreLinked decisions (action_counts t i)
 
 -- the decisions of each player

@@ -1,5 +1,5 @@
 -- The decisions of the players, one node of a game tree after another.
-use Rattle.std.specs.Prelude.{ℕ, ◌<◌, ◌≡◌, List, [], ◌∷◌, ◌++◌, length, slice_get, Option, Some, None}
+use Rattle.std.specs.Prelude.{ℕ, ◌<◌, ◌≤◌, ◌≡◌, ◌⊎◌, List, [], ◌∷◌, ◌++◌, length, slice_index, slice_index_or, slice_get, Option, Some, None}
 use Rattle.game_trees.specs.Trees.{Tree}
 use Rattle.game_trees.specs.Recall.{own_history}
 use Rattle.game_core.specs.declared.tree.Kind.{Kind}
@@ -7,7 +7,8 @@ use Rattle.game_core.specs.declared.tree.Kind.TheVariants.{Chance, Move, End}
 use Rattle.reduced_strategies.specs.Choices.{own_sets}
 use Rattle.decision_walk.specs.declared.decision.Decision.{Decision}
 use Rattle.decision_walk.specs.declared.decision.Step.{Step}
-use Rattle.strategy_lists.specs.OwnNumbers.{own_numbers}
+use Rattle.decision_walk.specs.Walks.{ComesFrom}
+use Rattle.strategy_lists.specs.Decisions.{IsDecisionAt}
 
 -- the player who moves at a node of this kind
 abbrev pub mover_of : Kind → Option ℕ
@@ -36,31 +37,42 @@ pub record IsLastMove (t : Tree) (i k a action : ℕ) : Type 0 where
   pub is_move : IsMove t i a set
   pub history_is : own_history t i k ≡ own_history t i a ++ (set, action) ∷ []
 
--- a step is that by the last move above node k
-pub record IsStepTo (t : Tree) (i k : ℕ) (step : Step) : Type 0 where
+-- a step is that by the last move above node k, where these are the numbers of the decisions at the nodes
+pub record IsStepTo (t : Tree) (i : ℕ) (numbers : List ℕ) (k : ℕ) (step : Step) : Type 0 where
   pub node : ℕ
   pub last : IsLastMove t i k node step.action
-  pub number_is : step.decision ≡ length (own_numbers (mover t) i node)
+  pub number_is : step.decision ≡ slice_index numbers node
   pub place_is : slice_get (own_sets t i) step.place ≡ Some last.set
 
 -- the step before the decision at node k, where there is one
-abbrev pub LeadsTo : Tree → ℕ → ℕ → Option Step → Type 0
-LeadsTo t i k None = own_history t i k ≡ []
-LeadsTo t i k (Some step) = IsStepTo t i k step
+abbrev pub LeadsTo : Tree → ℕ → List ℕ → ℕ → Option Step → Type 0
+LeadsTo t i numbers k None = own_history t i k ≡ []
+LeadsTo t i numbers k (Some step) = IsStepTo t i numbers k step
 
 -- the decision is that of player i at node k
-pub record IsMadeAt (t : Tree) (i k : ℕ) (decision : Decision) : Type 0 where
+pub record IsMadeAt (t : Tree) (i : ℕ) (numbers : List ℕ) (k : ℕ) (decision : Decision) : Type 0 where
   pub set : ℕ
   pub is_move : IsMove t i k set
   pub place_is : slice_get (own_sets t i) decision.place ≡ Some set
-  pub led_to : LeadsTo t i k decision.before
+  pub led_to : LeadsTo t i numbers k decision.before
 
--- the decisions of player i at the nodes below n
-pub record AreMade (t : Tree) (n i : ℕ) (decisions : List Decision) : Type 0 where
-  pub one_for_each : length decisions ≡ length (own_numbers (mover t) i n)
-  pub are_made : (j k : ℕ) (decision : Decision) → slice_get decisions j ≡ Some decision → slice_get (own_numbers (mover t) i n) j ≡ Some k → IsMadeAt t i k decision
+-- a list has a decision at this number, which it had before or which came behind the others
+abbrev pub HasTaken : List Decision → List Decision → Decision → ℕ → Type 0
+HasTaken old new decision number = (slice_get new number ≡ Some decision) × ((new ≡ old) ⊎ (new ≡ old ++ decision ∷ []))
+
+-- the decisions of player i at the nodes below n, their numbers by node, and by set the number of one of them, where there is one
+pub record AreMade (t : Tree) (n i : ℕ) (numbers : List ℕ) (latest : List (Option ℕ)) (decisions : List Decision) : Type 0 where
+  pub nodes : List ℕ
+  pub one_for_each : length nodes ≡ length decisions
+  pub are_decisions : (j k : ℕ) (decision : Decision) → slice_get decisions j ≡ Some decision → slice_get nodes j ≡ Some k → IsDecisionAt t i nodes decision k
+  pub all : (k : ℕ) → k < n → mover t k ≡ Some i → (decision : Decision) × (slice_get decisions (slice_index numbers k) ≡ Some decision) × IsDecisionAt t i nodes decision k
+  pub come_from : (j : ℕ) (decision : Decision) → slice_get decisions j ≡ Some decision → ComesFrom decisions j decision.before
+  pub latest_within : (s j : ℕ) → t.owner s ≡ Some i → slice_index_or latest s None ≡ Some j → j < length decisions
 
 -- the decisions of each player at the nodes below n
-pub record AreMadeByAll (t : Tree) (n : ℕ) (lists : List (List Decision)) : Type 0 where
-  pub one_for_each : length lists ≡ t.players
-  pub are_made : (i : ℕ) (decisions : List Decision) → slice_get lists i ≡ Some decisions → AreMade t n i decisions
+pub record AreMadeByAll (t : Tree) (n : ℕ) (numbers : List ℕ) (latest : List (Option ℕ)) (lists : List (List Decision)) : Type 0 where
+  pub list_for_each : length lists ≡ t.players
+  pub number_for_each : length numbers ≡ n
+  pub latest_for_each : length latest ≡ t.sets
+  pub few : (i : ℕ) (decisions : List Decision) → slice_get lists i ≡ Some decisions → length decisions ≤ n
+  pub are_made : (i : ℕ) (decisions : List Decision) → slice_get lists i ≡ Some decisions → AreMade t n i numbers latest decisions

@@ -1,14 +1,12 @@
 // The players' decisions.
-ghost use Rattle.std.specs.Prelude.{◌≡◌, ◌<◌, ℕ, All, length, map, IfOk, MatchOption, slice_get, Some, []};
+ghost use Rattle.std.specs.Prelude.{◌≡◌, ◌<◌, ◌≤◌, ◌^◌, ℕ, All, length, map, IfOk, IfSome, MatchOption, slice_get, Some, None, []};
 ghost use Rattle.game_trees.specs.Recall.{own_history};
 ghost use Rattle.game_core.specs.TreeGame.{game_of_tree};
 ghost use Rattle.reduced_strategies.specs.Choices.{own_sets};
 ghost use Rattle.reduced_strategies.specs.Places.{ArePlaces};
 ghost use Rattle.strategy_lists.specs.Decisions.{AreDecisionsOfAll};
-ghost use Rattle.strategy_lists.specs.Made.{IsLastMove, IsMadeAt, IsMove, mover, mover_of};
-ghost use Rattle.strategy_lists.specs.OwnNumbers.{ArePlacesBelow};
+ghost use Rattle.strategy_lists.specs.Made.{HasTaken, IsLastMove, IsMadeAt, IsMove, mover, mover_of};
 
-use crate::places::places_among;
 use decision_walk::{Decision, Step};
 use game_core::{Kind, Node, Tree, trees_are_game_trees};
 use memory::Memory;
@@ -24,21 +22,15 @@ fn mover(node: &Node) -> Option<u32>
     }
 }
 
-// The player who moves at each node, where one does.
-fn movers(alloc: Global, nodes: &[Node]) -> Result<Vec<Option<u32>>, Memory>
-    ensures { IfOk result (λ movers. movers.items ≡ map (λ node. mover_of node.kind) nodes.now) }
+// The player who moves at a node, and the node's set; nothing where no player does.
+fn move_at(tree: &Tree, number: usize) -> Option<(u32, u32)>
+    requires { number < length tree.now.nodes }
+    ensures { MatchOption result (mover (game_of_tree tree.now) number ≡ None) (λ it. IsMove (game_of_tree tree.now) it.0 number it.1) }
 {
-    Ok(nodes.iter().map(mover).collect(alloc)?)
-}
-
-// For each node its place among the nodes at which the same player moves, from 0; any number for one at which
-// none does.
-fn decision_numbers(alloc: Global, tree: &Tree) -> Result<Vec<u32>, Memory>
-    ensures { IfOk result (λ numbers. ArePlacesBelow (mover (game_of_tree tree.now)) (length tree.now.nodes) numbers.items) }
-{
-    trees_are_game_trees();
-    let movers = movers(alloc, tree.nodes())?;
-    places_among(alloc, tree.players().len(), movers.as_slice())
+    let node = &tree.nodes()[number];
+    let player = mover(node)?;
+    let set = node.set?;
+    Some((player, set))
 }
 
 // The last node above this one at which the player moves, and the action there that leads towards this one;
@@ -72,13 +64,14 @@ fn place_at(tree: &Tree, places: &[u32], number: usize) -> u32
     }
 }
 
-// The decision at a node where this player moves.
+// The decision at a node where this player moves. `numbers` has the numbers of the decisions at the nodes before
+// it.
 fn decision_at(tree: &Tree, places: &[u32], numbers: &[u32], number: usize, player: u32) -> Decision
     requires places { ArePlaces (game_of_tree tree.now) places.now }
-    requires numbers { ArePlacesBelow (mover (game_of_tree tree.now)) (length tree.now.nodes) numbers.now }
+    requires numbers { number ≤ length numbers.now }
     requires within { number < length tree.now.nodes }
     requires moves { mover (game_of_tree tree.now) number ≡ Some player }
-    ensures { IsMadeAt (game_of_tree tree.now) player number result }
+    ensures { IsMadeAt (game_of_tree tree.now) player numbers.now number result }
 {
     let before = match last_move(tree, number, player) {
         Some((node, action)) => Some(Step {
@@ -105,8 +98,32 @@ fn no_lists(alloc: Global, players: usize) -> Result<Vec<Vec<Decision>>, Memory>
     Ok(lists)
 }
 
-/// The decisions of each player, in the order of the nodes. `places` has each set's place among its owner's own
-/// sets.
+// The number of a decision in its player's list: that of the decision made last for its set where this is the
+// same one, and else a new one, which then is the set's.
+fn take(
+    list: &mut Vec<Decision>,
+    latest: &mut Option<u32>,
+    decision: Decision,
+) -> Result<u32, Memory>
+    requires latest { IfSome latest.old (λ number. number < length list.old.items) }
+    requires few { length list.old.items < 2 ^ 32 }
+    ensures list { IfOk result (λ number. HasTaken list.old.items list.new.items decision number) }
+    ensures latest { IfOk result (λ number. latest.new ≡ Some number) }
+    ensures shared { IfSome latest.old (λ number. slice_get list.old.items number ≡ Some decision → list.new.items ≡ list.old.items) }
+{
+    if let Some(number) = *latest {
+        if list[number as usize] == decision {
+            return Ok(number);
+        }
+    }
+    let number = list.len() as u32;
+    list.push(decision)?;
+    *latest = Some(number);
+    Ok(number)
+}
+
+/// The decisions of each player, each after those before it. Nodes of one set with the same own history can share
+/// one. `places` has each set's place among its owner's own sets.
 pub fn decisions_of_all(
     alloc: Global,
     tree: &Tree,
@@ -116,14 +133,17 @@ pub fn decisions_of_all(
     ensures { IfOk result (λ lists. AreDecisionsOfAll (game_of_tree tree.now) (map (λ v. v.items) lists.items)) }
 {
     trees_are_game_trees();
-    let nodes = tree.nodes();
-    let numbers = decision_numbers(alloc, tree)?;
     let mut lists = no_lists(alloc, tree.players().len())?;
-    for number in 0..nodes.len() {
-        if let Some(player) = mover(&nodes[number]) {
-            let decision = decision_at(tree, places, numbers.as_slice(), number, player);
-            lists[player as usize].push(decision)?;
+    let mut latest = vec![in alloc; None; tree.sets().len()]?;
+    let mut numbers = Vec::new(alloc);
+    for node in 0..tree.nodes().len() {
+        let mut number = 0;
+        if let Some((player, set)) = move_at(tree, node) {
+            let decision = decision_at(tree, places, numbers.as_slice(), node, player);
+            let list = &mut lists[player as usize];
+            number = take(list, &mut latest[set as usize], decision)?;
         }
+        numbers.push(number)?;
     }
     Ok(lists)
 }

@@ -27,12 +27,8 @@ fn next_place(counts: &mut [u32], owner: Option<u32>) -> u32
     }
 }
 
-/// For each owner its place among the owners that are the same player, from 0; any number where there is none.
-pub fn places_among(
-    alloc: Global,
-    players: usize,
-    owners: &[Option<u32>],
-) -> Result<Vec<u32>, Memory>
+// For each owner its place among the owners that are the same player, from 0; any number where there is none.
+fn places_among(alloc: Global, players: usize, owners: &[Option<u32>]) -> Result<Vec<u32>, Memory>
     requires few { length owners.now < 2 ^ 32 }
     requires within { All (IsWithin players) owners.now }
     ensures { IfOk result (λ places. ArePlacesBelow (λ k. slice_index_or owners.now k None) (length owners.now) places.items) }

@@ -13,11 +13,10 @@ use std::alloc::Global;
 fn own_action_counts(alloc: Global, tree: &Tree, player: u32) -> Result<Vec<u32>, Memory>
     ensures { IfOk result (λ counts. counts.items ≡ action_counts (game_of_tree tree.now) player) }
 {
+    let sets = tree.sets();
     let mut counts = Vec::new(alloc);
-    for set in tree.sets() {
-        if set.owner() == Some(player) {
-            counts.push(set.actions().len() as u32)?;
-        }
+    while let Some(set) = tree.own_sets(player, counts.len() as u32) {
+        counts.push(sets[set as usize].actions().len() as u32)?;
     }
     Ok(counts)
 }

@@ -1,18 +1,17 @@
-use Rattle.std.proofs.Common.{sym, subst, arith}
+use Rattle.std.proofs.Common.{refl, sym, subst}
 use Rattle.game_core.specs.TreeGame.{game_of_tree}
 use Rattle.strategy_lists.specs.Made.{LeadsTo}
-use Rattle.strategy_lists.proofs.Moves.{move_at, mover-move}
+use Rattle.strategy_lists.proofs.Moves.{move_at}
 use Rattle.strategy_lists.proofs.decisions.decision_at.Goals as goal
 use Rattle.strategy_lists.proofs.decisions.decision_at.Goals.{in-Some, in-None}
 
 -- the step leads to the decision
-led_to : (c : goal.After-place_at-2) → LeadsTo (game_of_tree c.args.tree.now) c.args.player c.args.number c.match-last_move.before
+led_to : (c : goal.After-place_at-2) → LeadsTo (game_of_tree c.args.tree.now) c.args.player c.args.numbers.now c.args.number c.match-last_move.before
 led_to c = elim c.match-last_move.branch [
   | in-Some w ↦ (
       let last = w.in-Some.ensures in
-      let number = c.requires.numbers.are_places w.in-Some.node c.args.player (omega (arith, last.above, c.requires.within)) (mover-move _ _ _ _ last.is_move) in
-      subst (LeadsTo (game_of_tree c.args.tree.now) c.args.player c.args.number) (sym w.before-is) (record { node = w.in-Some.node; last = last; number_is = number; place_is = w.place_at.ensures c.args.player last.set last.is_move }))
-  | in-None w ↦ subst (LeadsTo (game_of_tree c.args.tree.now) c.args.player c.args.number) (sym w.before-is) w.in-None.ensures
+      subst (LeadsTo (game_of_tree c.args.tree.now) c.args.player c.args.numbers.now c.args.number) (sym w.before-is) (record { node = w.in-Some.node; last = last; number_is = refl; place_is = w.place_at.ensures c.args.player last.set last.is_move }))
+  | in-None w ↦ subst (LeadsTo (game_of_tree c.args.tree.now) c.args.player c.args.numbers.now c.args.number) (sym w.before-is) w.in-None.ensures
 ]
 
 pub returns : goal.returns

@@ -4,5 +4,5 @@ use Rattle.strategy_lists.specs.Made.{AreMadeByAll}
 use Rattle.strategy_lists.proofs.decisions.decisions_of_all.Given as goal
 
 -- the decisions at the nodes before this one
-abbrev pub invariant-loop-number : goal.invariant-loop-number
-invariant-loop-number l = AreMadeByAll (game_of_tree l.tree) l.number (map (λ v. v.items) l.lists.items)
+abbrev pub invariant-loop-node : goal.invariant-loop-node
+invariant-loop-node l = AreMadeByAll (game_of_tree l.tree) l.node l.numbers.items l.latest.items (map (λ v. v.items) l.lists.items)
