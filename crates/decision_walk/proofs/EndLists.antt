@@ -101,15 +101,15 @@ ends-pass actions d ds flags choices p =
 
 -- ---- the decisions that are left
 -- the decisions from number n on
-abbrev AreRest : List Decision → ℕ → List Decision → Type 0
+abbrev pub AreRest : List Decision → ℕ → List Decision → Type 0
 AreRest decisions n ds = (k : ℕ) → slice_get ds k ≡ slice_get decisions (n + k)
 
 -- the first of them
-AreRest-first : (decisions : List Decision) (n : ℕ) (d : Decision) (ds : List Decision) → AreRest decisions n (d ∷ ds) → slice_get decisions n ≡ Some d
+pub AreRest-first : (decisions : List Decision) (n : ℕ) (d : Decision) (ds : List Decision) → AreRest decisions n (d ∷ ds) → slice_get decisions n ≡ Some d
 AreRest-first decisions n d ds r = let e : n ≡ n + 0 = omega arith in ap (slice_get decisions) e ∙ sym (r 0)
 
 -- those after it
-AreRest-later : (decisions : List Decision) (n : ℕ) (d : Decision) (ds : List Decision) → AreRest decisions n (d ∷ ds) → AreRest decisions (suc n) ds
+pub AreRest-later : (decisions : List Decision) (n : ℕ) (d : Decision) (ds : List Decision) → AreRest decisions n (d ∷ ds) → AreRest decisions (suc n) ds
 AreRest-later decisions n d ds r k = let e : n + suc k ≡ suc n + k = omega arith in r (suc k) ∙ ap (slice_get decisions) e
 
 -- where none is left, all are before
@@ -120,7 +120,7 @@ AreRest-none decisions n r k d at = elim (cases_lt k n) [
 ]
 
 -- all are left at the start
-AreRest-all : (decisions : List Decision) → AreRest decisions 0 decisions
+pub AreRest-all : (decisions : List Decision) → AreRest decisions 0 decisions
 AreRest-all decisions k = let e : k ≡ 0 + k = omega arith in ap (slice_get decisions) e
 
 -- ---- each end is a choice list

@@ -120,7 +120,7 @@ record GoesOn (actions choices other : List ℕ) (place : ℕ) (r : Bool) : Type
   no_more : (p : ℕ) → 0 < get_or other p 0 → (0 < get_or choices p 0) ⊎ ((place ≡ p) × (r ≡ true))
 
 -- the last flag
-last_flag : (flags : List Bool) (r : Bool) (k : ℕ) → length flags ≡ k → get_or (flags ++ r ∷ []) k false ≡ r
+pub last_flag : (flags : List Bool) (r : Bool) (k : ℕ) → length flags ≡ k → get_or (flags ++ r ∷ []) k false ≡ r
 last_flag flags r k e = subst (λ v. get_or (flags ++ r ∷ []) v false ≡ r) e (get_or-append_seam flags r [] false)
 
 -- a number below n + 1
@@ -128,7 +128,7 @@ pub below_or_last : (k n : ℕ) → k < suc n → (k < n) ⊎ (k ≡ n)
 below_or_last k n l = elim (cases_lt k n) [ inl b ↦ inl b | inr b ↦ inr (omega arith) ]
 
 -- the decision at a place is one
-one_decision : (decisions : List Decision) (k n : ℕ) (d e : Decision) → k ≡ n → slice_get decisions n ≡ Some d → slice_get decisions k ≡ Some e → d ≡ e
+pub one_decision : (decisions : List Decision) (k n : ℕ) (d e : Decision) → k ≡ n → slice_get decisions n ≡ Some d → slice_get decisions k ≡ Some e → d ≡ e
 one_decision decisions k n d e same at also = let there : slice_get decisions k ≡ slice_get decisions n = ap (slice_get decisions) same in cc
 
 -- with one more flag and choices that go on, the first n + 1 decisions are told

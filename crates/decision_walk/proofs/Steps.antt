@@ -94,7 +94,7 @@ is_led_to-take decisions flags choices j None c = refl
 is_led_to-take decisions flags choices j (Some step) c = ap (λ b. b && (get_or choices step.place 0 == suc step.action)) (get_or-take j flags step.decision false c.0)
 
 -- the decisions that are left begin with the next
-drop-first : (decisions : List Decision) (j : ℕ) (d : Decision) → slice_get decisions j ≡ Some d → drop j decisions ≡ d ∷ drop (suc j) decisions
+pub drop-first : (decisions : List Decision) (j : ℕ) (d : Decision) → slice_get decisions j ≡ Some d → drop j decisions ≡ d ∷ drop (suc j) decisions
 drop-first decisions j d at = drop-cons decisions j d (slice_get_within decisions j d at) ∙ ap (λ v. v ∷ drop (suc j) decisions) (get_or_from_slice_get decisions j d d at)
 
 -- the place of a decision

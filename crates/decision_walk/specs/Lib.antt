@@ -1,3 +1,4 @@
 pub mod Ends
 pub mod Tested
 pub mod Walks
+pub mod Ways

@@ -65,6 +65,23 @@ fn lists_choices(rt: HostRuntime) -> Result<(), Memory> {
             &[&[1, 1], &[1, 2], &[2, 1], &[2, 2]]
         )?
     );
+    // The second action leads to one set, and the third to two.
+    let branching = [
+        first(0),
+        after(1, 0, 0, 1),
+        after(2, 0, 0, 2),
+        after(3, 0, 0, 2),
+    ];
+    let seven: [&[u32]; 7] = [
+        &[1, 0, 0, 0],
+        &[2, 1, 0, 0],
+        &[2, 2, 0, 0],
+        &[3, 0, 1, 1],
+        &[3, 0, 1, 2],
+        &[3, 0, 2, 1],
+        &[3, 0, 2, 2],
+    ];
+    assert!(rt; has_lists(alloc, &branching, &[3, 2, 2, 2], &seven)?);
     // The second set is reached by its later decision alone where the first takes its second action.
     let later = [
         first(0),
@@ -90,11 +107,16 @@ fn apart(alloc: Global, count: u32) -> Result<(Vec<Decision>, Vec<u32>), Memory>
     Ok((decisions, actions))
 }
 
-// Of 2 ^ 100 choice lists no more than one above the limit is counted.
+// No more than one above the limit is counted, of 2 ^ 100 choice lists or of four.
 #[test]
 fn counting_stops(rt: HostRuntime) -> Result<(), Memory> {
     let alloc = rt.alloc();
     let (decisions, actions) = apart(alloc, 100)?;
     assert!(rt; count_walks(alloc, &decisions, &actions, 1000)? == 1001);
+    // The second set has two decisions: four lists.
+    let forgetful = [first(0), after(1, 0, 0, 0), after(1, 0, 0, 1)];
+    for (most, count) in [(0, 1), (2, 3), (3, 4), (4, 4)] {
+        assert!(rt; count_walks(alloc, &forgetful, &[2, 2], most)? == count);
+    }
     Ok(())
 }

@@ -1,6 +1,6 @@
 use Rattle.std.proofs.Common.{◌+◌, length, ap, ◌∙◌, arith}
 use Rattle.decision_walk.proofs.Turns.{left, end_there, IsTurn-made, walks_counted}
-use Rattle.decision_walk.proofs.walk.count_walks.Goals as goal
+use Rattle.decision_walk.proofs.walk.count_ends.Goals as goal
 
 pub returns-then-count-most : goal.returns-then-count-most
 returns-then-count-most c =

@@ -1,7 +1,7 @@
 use Rattle.std.proofs.Common.{◌+◌, ◌≤◌, ◌≡◌, length}
 use Rattle.decision_walk.proofs.EndLists.{all_ends}
 use Rattle.decision_walk.proofs.Turns.{left, IsAtNext}
-use Rattle.decision_walk.proofs.walk.count_walks.Given as goal
+use Rattle.decision_walk.proofs.walk.count_ends.Given as goal
 
 abbrev pub invariant-loop-from : goal.invariant-loop-from
 invariant-loop-from l = record {
