@@ -1,9 +1,7 @@
 pub mod Ascending
-pub mod Behind
 pub mod EndLists
 pub mod Flags
 pub mod Linked
 pub mod Steps
 pub mod Turns
 pub mod WalkSteps
-pub mod Ways

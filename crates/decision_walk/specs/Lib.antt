@@ -1,4 +1,3 @@
 pub mod Ends
 pub mod Tested
 pub mod Walks
-pub mod Ways

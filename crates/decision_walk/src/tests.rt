@@ -2,7 +2,7 @@ ghost use Rattle.std.specs.Prelude.{◌≡◌, ◌<◌, ◌+◌, ◌^◌, None, 
 ghost use Rattle.decision_walk.specs.Tested.{are_linked};
 ghost use Rattle.decision_walk.specs.Walks.{AreLinked};
 
-use crate::{Decision, Step, count_walks, list_walks};
+use crate::{Decision, Step, count_ends, list_walks};
 use memory::Memory;
 use std::alloc::Global;
 
@@ -40,7 +40,7 @@ fn has_lists(
     requires { IsTrue (are_linked decisions.now actions.now) }
 {
     let lists = list_walks(alloc, decisions, actions)?;
-    let count = count_walks(alloc, decisions, actions, 100)?;
+    let count = count_ends(alloc, decisions, actions, 100)?;
     let same = lists
         .iter()
         .zip(expected)
@@ -107,16 +107,11 @@ fn apart(alloc: Global, count: u32) -> Result<(Vec<Decision>, Vec<u32>), Memory>
     Ok((decisions, actions))
 }
 
-// No more than one above the limit is counted, of 2 ^ 100 choice lists or of four.
+// Of 2 ^ 100 choice lists no more than one above the limit is counted.
 #[test]
 fn counting_stops(rt: HostRuntime) -> Result<(), Memory> {
     let alloc = rt.alloc();
     let (decisions, actions) = apart(alloc, 100)?;
-    assert!(rt; count_walks(alloc, &decisions, &actions, 1000)? == 1001);
-    // The second set has two decisions: four lists.
-    let forgetful = [first(0), after(1, 0, 0, 0), after(1, 0, 0, 1)];
-    for (most, count) in [(0, 1), (2, 3), (3, 4), (4, 4)] {
-        assert!(rt; count_walks(alloc, &forgetful, &[2, 2], most)? == count);
-    }
+    assert!(rt; count_ends(alloc, &decisions, &actions, 1000)? == 1001);
     Ok(())
 }

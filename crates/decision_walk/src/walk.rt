@@ -97,7 +97,8 @@ impl<'a> Walk<'a> {
     }
 }
 
-/// How many choice lists there are, but at most one more than `most`, where the walk goes to the end of each.
+/// How many choice lists there are, but at most one more than `most`: counting stops there. The walk goes to the end
+/// of each. `actions` has the number of actions of each of the player's own sets in order.
 pub fn count_ends(
     alloc: Global,
     decisions: &[Decision],

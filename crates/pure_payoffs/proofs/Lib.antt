@@ -5,4 +5,5 @@ pub mod NodeSteps
 pub mod NodeValues
 pub mod Places
 pub mod Runs
+pub mod Standing
 pub mod TreeParts

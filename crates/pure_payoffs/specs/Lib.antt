@@ -1,4 +1,5 @@
 pub mod Children
 pub mod Filled
 pub mod Plays
+pub mod Shortcuts
 pub mod Steps

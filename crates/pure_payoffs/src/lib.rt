@@ -2,11 +2,14 @@
 //!
 //! The value of a node is what its outcome pays plus what comes behind it: the value of the child that the
 //! profile chooses, or at a chance node the sum of the products of probability and value of each child in
-//! order whose probability is not 0. `specs/Steps` has the order of all steps.
+//! order whose probability is not 0. `specs/Steps` has the order of all steps. Nodes at which a player chooses and
+//! nothing is paid add 0, which always fits; `Shortcuts` leads past them for all players.
 #![tactic(auto)]
 
 mod children;
 mod payoff;
+mod shortcuts;
 
 pub use children::children_of_all;
 pub use payoff::Play;
+pub use shortcuts::Shortcuts;

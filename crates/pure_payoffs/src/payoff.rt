@@ -1,9 +1,11 @@
 // The payoff of a pure profile.
 ghost use Rattle.std.specs.Prelude.{◌≡◌, ◌<◌, length};
+ghost use Rattle.frac128.specs.Fraction.{Fits};
 ghost use Rattle.game_core.specs.Tree.{IsWithin};
 ghost use Rattle.game_core.specs.TreeGame.{outcome_pays};
 
 use crate::children::stands_for_game_tree;
+use crate::shortcuts::Shortcuts;
 use frac128::{Frac, Unfit};
 use game_core::{Kind, Tree};
 
@@ -34,6 +36,13 @@ fn outcome_payoff(tree: &Tree, outcome: Option<u32>, player: u32) -> Frac
     }
 }
 
+// A fraction fits. Does nothing.
+fn fits(value: Frac)
+    ensures { Fits value }
+{
+    value.num();
+}
+
 impl<'a> Play<'a> {
     ghost use Rattle.std.specs.Prelude.{◌≡◌, ◌<◌, length, map, All, MatchResult, Some, None};
     ghost use Rattle.rational.specs.Rational.{◌+ℚ◌, ◌*ℚ◌};
@@ -45,77 +54,117 @@ impl<'a> Play<'a> {
     ghost use Rattle.reduced_strategies.specs.StrategicForm.{AreStrategies, completed};
     ghost use Rattle.pure_payoffs.specs.Children.{AreChildren};
     ghost use Rattle.pure_payoffs.specs.Plays.{IsPlayed, Give, game_of, choice_of, steps_at, branch_steps, steps_behind, value_behind};
+    ghost use Rattle.pure_payoffs.specs.Shortcuts.{KeepShortcuts};
     ghost use Rattle.pure_payoffs.specs.Steps.{StepFits, IsFirstUnfit, payoff_steps};
 
     /// What the profile pays a player, where the first action is taken at each set to which the player's strategy
-    /// gives none. Takes no memory.
+    /// gives none. Takes no memory. `shortcuts` are forgotten where the profile is another than before.
     ///
     /// # Errors
     ///
     /// The first step that does not fit.
-    pub fn payoff(&self, player: u32) -> Result<Frac, Unfit>
+    pub fn payoff(&self, shortcuts: &mut Shortcuts, player: u32) -> Result<Frac, Unfit>
         requires player { player < length self.now.tree.now.players }
         requires children { AreChildren (game_of_tree self.now.tree.now) (map (λ v. v.items) self.now.children.now) }
         requires places { ArePlaces (game_of_tree self.now.tree.now) self.now.places.now }
         requires strategies { AreStrategies (game_of_tree self.now.tree.now) (map (λ v. map (λ w. w.items) v.items) self.now.strategies.now) }
         requires profile { IsProfile (map length (map (λ v. map (λ w. w.items) v.items) self.now.strategies.now)) self.now.profile.now }
-        ensures { let t = game_of_tree self.now.tree.now in
+        requires keep { KeepShortcuts (game_of_tree self.now.tree.now) (completed (game_of_tree self.now.tree.now) (map (λ v. map (λ w. w.items) v.items) self.now.strategies.now) self.now.profile.now) shortcuts.old }
+        ensures keep { KeepShortcuts (game_of_tree self.now.tree.now) (completed (game_of_tree self.now.tree.now) (map (λ v. map (λ w. w.items) v.items) self.now.strategies.now) self.now.profile.now) shortcuts.new }
+        ensures gives { let t = game_of_tree self.now.tree.now in
             let choice = completed t (map (λ v. map (λ w. w.items) v.items) self.now.strategies.now) self.now.profile.now in
             MatchResult result
             (λ value. (value ≡ payoff t (pure choice) player) × All StepFits (payoff_steps t choice player))
             (IsFirstUnfit (payoff_steps t choice player)) }
     {
         stands_for_game_tree(self.tree);
-        self.value(0, player)
+        self.value(shortcuts, 0, player)
     }
 
     // What the profile pays a player from a node on.
     #[cycle(values)]
-    fn value(&self, node: u32, player: u32) -> Result<Frac, Unfit>
+    fn value(&self, shortcuts: &mut Shortcuts, node: u32, player: u32) -> Result<Frac, Unfit>
         requires play { IsPlayed self.now }
         requires node { node < length self.now.tree.now.nodes }
         requires player { player < length self.now.tree.now.players }
-        ensures { let t = game_of self.now in
+        requires keep { KeepShortcuts (game_of self.now) (choice_of self.now) shortcuts.old }
+        ensures keep { KeepShortcuts (game_of self.now) (choice_of self.now) shortcuts.new }
+        ensures gives { let t = game_of self.now in
+            let choice = choice_of self.now in
+            Give (steps_at t choice player node) (value t (pure choice) player node) result }
+    {
+        let target = shortcuts.take(self, node);
+        let value = self.value_at(shortcuts, target, player)?;
+        fits(value);
+        Ok(value)
+    }
+
+    // The same, and no node is passed by.
+    #[cycle(values)]
+    fn value_at(&self, shortcuts: &mut Shortcuts, node: u32, player: u32) -> Result<Frac, Unfit>
+        requires play { IsPlayed self.now }
+        requires node { node < length self.now.tree.now.nodes }
+        requires player { player < length self.now.tree.now.players }
+        requires keep { KeepShortcuts (game_of self.now) (choice_of self.now) shortcuts.old }
+        ensures keep { KeepShortcuts (game_of self.now) (choice_of self.now) shortcuts.new }
+        ensures gives { let t = game_of self.now in
             let choice = choice_of self.now in
             Give (steps_at t choice player node) (value t (pure choice) player node) result }
     {
         let here = self.tree.nodes()[node as usize];
         let pays = outcome_payoff(self.tree, here.outcome, player);
         match here.set {
-            Some(set) => pays.add(self.value_behind(node, set, here.kind, player)?),
+            Some(set) => pays.add(self.value_behind(shortcuts, node, set, here.kind, player)?),
             None => Ok(pays),
         }
     }
 
     // What the profile pays a player behind a node with this set.
     #[cycle(values)]
-    fn value_behind(&self, node: u32, set: u32, kind: Kind, player: u32) -> Result<Frac, Unfit>
+    fn value_behind(
+        &self,
+        shortcuts: &mut Shortcuts,
+        node: u32,
+        set: u32,
+        kind: Kind,
+        player: u32,
+    ) -> Result<Frac, Unfit>
         requires play { IsPlayed self.now }
         requires node { node < length self.now.tree.now.nodes }
         requires player { player < length self.now.tree.now.players }
         requires set { (game_of self.now).set node ≡ Some set }
         requires kind { kind ≡ kind_of_owner ((game_of self.now).owner set) }
-        ensures { let t = game_of self.now in
+        requires keep { KeepShortcuts (game_of self.now) (choice_of self.now) shortcuts.old }
+        ensures keep { KeepShortcuts (game_of self.now) (choice_of self.now) shortcuts.new }
+        ensures gives { let t = game_of self.now in
             let choice = choice_of self.now in
             Give (steps_behind t choice player node set (t.owner set)) (value_behind t choice player node set (t.owner set)) result }
     {
         match kind {
             Kind::Move { player: owner } => {
                 let action = self.action_at(owner, set);
-                self.value(self.children[node as usize][action], player)
+                self.value(shortcuts, self.children[node as usize][action], player)
             }
-            _ => self.chance_value(node, set, player),
+            _ => self.chance_value(shortcuts, node, set, player),
         }
     }
 
     // The sum of the products of probability and value of each child of a node of chance.
     #[cycle(values)]
-    fn chance_value(&self, node: u32, set: u32, player: u32) -> Result<Frac, Unfit>
+    fn chance_value(
+        &self,
+        shortcuts: &mut Shortcuts,
+        node: u32,
+        set: u32,
+        player: u32,
+    ) -> Result<Frac, Unfit>
         requires play { IsPlayed self.now }
         requires node { node < length self.now.tree.now.nodes }
         requires player { player < length self.now.tree.now.players }
         requires set { (game_of self.now).set node ≡ Some set }
-        ensures { let t = game_of self.now in
+        requires keep { KeepShortcuts (game_of self.now) (choice_of self.now) shortcuts.old }
+        ensures keep { KeepShortcuts (game_of self.now) (choice_of self.now) shortcuts.new }
+        ensures gives { let t = game_of self.now in
             let choice = choice_of self.now in
             Give (steps_behind t choice player node set None) (value_behind t choice player node set None) result }
     {
@@ -123,30 +172,40 @@ impl<'a> Play<'a> {
         let children = &self.children[node as usize];
         let mut sum = Frac::zero();
         for action in 0..actions.len() {
-            sum = self.with_branch(sum, actions[action].prob, children[action], player)?;
+            let prob = actions[action].prob;
+            sum = self.with_branch(shortcuts, sum, prob, children[action], player)?;
         }
         Ok(sum)
     }
 
     // The sum with the product of a probability, where it is not 0, and the value of a child.
     #[cycle(values)]
-    fn with_branch(&self, sum: Frac, prob: Frac, child: u32, player: u32) -> Result<Frac, Unfit>
+    fn with_branch(
+        &self,
+        shortcuts: &mut Shortcuts,
+        sum: Frac,
+        prob: Frac,
+        child: u32,
+        player: u32,
+    ) -> Result<Frac, Unfit>
         requires play { IsPlayed self.now }
         requires node { child < length self.now.tree.now.nodes }
         requires player { player < length self.now.tree.now.players }
-        ensures { let t = game_of self.now in
+        requires keep { KeepShortcuts (game_of self.now) (choice_of self.now) shortcuts.old }
+        ensures keep { KeepShortcuts (game_of self.now) (choice_of self.now) shortcuts.new }
+        ensures gives { let t = game_of self.now in
             let choice = choice_of self.now in
             Give (branch_steps prob sum (value t (pure choice) player child) (steps_at t choice player child)) (sum +ℚ prob *ℚ value t (pure choice) player child) result }
     {
         if prob.is_zero() {
             return Ok(sum);
         }
-        let value = self.value(child, player)?;
+        let value = self.value(shortcuts, child, player)?;
         sum.add(prob.mul(value)?)
     }
 
     // The action, numbered from 0, that the owner of a set takes there.
-    fn action_at(&self, owner: u32, set: u32) -> usize
+    pub(crate) fn action_at(&self, owner: u32, set: u32) -> usize
         requires play { IsPlayed self.now }
         requires set { set < length self.now.tree.now.sets }
         requires owner { (game_of self.now).owner set ≡ Some owner }

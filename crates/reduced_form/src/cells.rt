@@ -4,14 +4,15 @@ ghost use Rattle.game_theory.specs.Profiles.{profile_count, profile_at};
 ghost use Rattle.game_core.specs.Table.{most_payoffs};
 ghost use Rattle.game_core.specs.TreeGame.{game_of_tree};
 ghost use Rattle.pure_payoffs.specs.Children.{AreChildren};
+ghost use Rattle.pure_payoffs.specs.Shortcuts.{HasRoom, KeepShortcuts};
 ghost use Rattle.reduced_strategies.specs.Places.{ArePlaces};
-ghost use Rattle.reduced_strategies.specs.StrategicForm.{AreStrategies};
+ghost use Rattle.reduced_strategies.specs.StrategicForm.{AreStrategies, completed};
 ghost use Rattle.reduced_form.specs.Cells.{AreCells, IsCellStop};
 
 use crate::stop::ReduceStop;
 use frac128::Frac;
 use game_core::{Tree, trees_are_game_trees};
-use pure_payoffs::{Play, children_of_all};
+use pure_payoffs::{Play, Shortcuts, children_of_all};
 use std::alloc::Global;
 
 // How many profiles there are, where the players have so many strategies.
@@ -42,20 +43,27 @@ fn set_profile(profile: &mut [u32], counts: &[usize], number: usize)
 }
 
 // Adds what a profile pays each player.
-fn push_cells(play: &Play, payoffs: &mut Vec<Frac>, number: u32) -> Result<(), ReduceStop>
+fn push_cells(
+    play: &Play,
+    shortcuts: &mut Shortcuts,
+    payoffs: &mut Vec<Frac>,
+    number: u32,
+) -> Result<(), ReduceStop>
     requires children { AreChildren (game_of_tree play.now.tree.now) (map (λ v. v.items) play.now.children.now) }
     requires places { ArePlaces (game_of_tree play.now.tree.now) play.now.places.now }
     requires strategies { AreStrategies (game_of_tree play.now.tree.now) (map (λ v. map (λ w. w.items) v.items) play.now.strategies.now) }
     requires number { number < profile_count (map length (map (λ v. map (λ w. w.items) v.items) play.now.strategies.now)) }
     requires profile { play.now.profile.now ≡ profile_at (map length (map (λ v. map (λ w. w.items) v.items) play.now.strategies.now)) number }
+    requires keep { KeepShortcuts (game_of_tree play.now.tree.now) (completed (game_of_tree play.now.tree.now) (map (λ v. map (λ w. w.items) v.items) play.now.strategies.now) play.now.profile.now) shortcuts.old }
     requires so_many { length payoffs.old.items ≡ number * length play.now.tree.now.players }
     requires cells { AreCells (game_of_tree play.now.tree.now) (map (λ v. map (λ w. w.items) v.items) play.now.strategies.now) payoffs.old.items }
+    ensures room { HasRoom (length play.now.tree.now.nodes) shortcuts.new }
     ensures so_many { OnOk result (length payoffs.new.items ≡ suc number * length play.now.tree.now.players) }
     ensures cells { OnOk result (AreCells (game_of_tree play.now.tree.now) (map (λ v. map (λ w. w.items) v.items) play.now.strategies.now) payoffs.new.items) }
     ensures stop { IfErr result (IsCellStop (game_of_tree play.now.tree.now) (map (λ v. map (λ w. w.items) v.items) play.now.strategies.now)) }
 {
     for player in 0..play.tree.players().len() as u32 {
-        match play.payoff(player) {
+        match play.payoff(shortcuts, player) {
             Ok(payoff) => payoffs.push(payoff)?,
             Err(unfit) => {
                 return Err(ReduceStop::Range {
@@ -91,9 +99,11 @@ pub fn cells(
     let children = children_of_all(alloc, tree)?;
     let profiles = profile_count(counts);
     let mut profile = vec![in alloc; 0; counts.len()]?;
+    let mut shortcuts = Shortcuts::new(alloc, tree)?;
     let mut payoffs = Vec::with_capacity(alloc, players * profiles)?;
     for number in 0..profiles {
         set_profile(&mut profile, counts, number);
+        shortcuts.forget();
         let play = Play {
             tree,
             children: &children,
@@ -101,7 +111,7 @@ pub fn cells(
             strategies,
             profile: &profile,
         };
-        push_cells(&play, &mut payoffs, number as u32)?;
+        push_cells(&play, &mut shortcuts, &mut payoffs, number as u32)?;
     }
     Ok(payoffs)
 }

@@ -67,6 +67,20 @@ p "" 1 1 "" { "" "" "" "" "" "" "" "" "" "" } 0
 t "" 1 "" { 0 } t "" 2 "" { 1 } t "" 3 "" { 2 } t "" 4 "" { 3 } t "" 5 "" { 4 }
 t "" 6 "" { 5 } t "" 7 "" { 6 } t "" 8 "" { 7 } t "" 9 "" { 8 } t "" 10 "" { 9 }"#;
 
+// Chance leads to one of two nodes of the first set, and the second action to one of two nodes of the second.
+const TWO_NODES: &[u8] = br#"EFG 2 R "" { "A" }
+c "" 1 "" { "" 1/2 "" 1/2 } 0
+p "" 1 1 "" { "" "" } 0
+t "" 1 "" { 2 }
+p "" 1 2 "" { "" "" } 0
+t "" 2 "" { 4 }
+t "" 3 "" { 6 }
+p "" 1 1 "" { "" "" } 0
+t "" 4 "" { 8 }
+p "" 1 2 "" { "" "" } 0
+t "" 5 "" { 10 }
+t "" 6 "" { 12 }"#;
+
 #[test]
 fn reduces_trees(rt: HostRuntime) -> Result<(), Memory> {
     let alloc = rt.alloc();
@@ -74,6 +88,7 @@ fn reduces_trees(rt: HostRuntime) -> Result<(), Memory> {
     assert!(rt; has_form(alloc, POKER, poker)?);
     assert!(rt; has_form(alloc, ALONE, ", 1* 21 22; 3 1 2")?);
     assert!(rt; has_form(alloc, FORGET, ", 11 12 21 22, *; 1 0 0 0 0 0 2 0")?);
+    assert!(rt; has_form(alloc, TWO_NODES, ", 1* 21 22; 5 7 9")?);
     let wide = ", 1 2 3 4 5 6 7 8 9 (10); 0 1 2 3 4 5 6 7 8 9";
     assert!(rt; has_form(alloc, WIDE, wide)?);
     let two_ways = ", 11* 12* 2*2 211 221; 1 2 5 3 4";
@@ -110,27 +125,31 @@ fn two_chains(alloc: Global, sets: u32) -> Result<Vec<u8>, Memory>
     Ok(text)
 }
 
-// Chance leads to one of so many sets of two actions.
-fn many_sets(alloc: Global, sets: u32) -> Result<Vec<u8>, Memory>
+// Chance leads to one of so many sets of two actions, or to one of so many of one action.
+fn many_sets(alloc: Global, sets: u32, single: u32) -> Result<Vec<u8>, Memory>
     requires sets { sets < 1000 }
+    requires single { single < 100000 }
 {
+    let all = sets + single;
     let mut text = Vec::new(alloc);
     text.extend_from_slice(b"EFG 2 R \"\" { \"A\" \"B\" } c \"\" 1 \"\" {")?;
-    for _ in 0..sets {
-        text.extend_from_slice(format!(in alloc; " \"\" 1/{sets}")?.as_bytes())?;
+    for _ in 0..all {
+        text.extend_from_slice(format!(in alloc; " \"\" 1/{all}")?.as_bytes())?;
     }
     text.extend_from_slice(b" } 0\n")?;
-    push_sets(alloc, &mut text, sets)?;
+    for set in 1..=all {
+        push_set(alloc, &mut text, set, set <= sets)?;
+    }
     Ok(text)
 }
 
-// So many sets of two actions that end the game.
-fn push_sets(alloc: Global, text: &mut Vec<u8>, sets: u32) -> Result<(), Memory>
-    requires sets { sets < 1000 }
-{
-    for set in 1..=sets {
-        let nodes = format!(in alloc; "p \"\" 1 {set} \"\" {{ \"\" \"\" }} 0 t \"\" 0 t \"\" 0\n")?;
-        text.extend_from_slice(nodes.as_bytes())?;
+// A set of two actions, or of one, that end the game.
+fn push_set(alloc: Global, text: &mut Vec<u8>, set: u32, two: bool) -> Result<(), Memory> {
+    text.extend_from_slice(format!(in alloc; "p \"\" 1 {set} \"\" {{ \"\" ")?.as_bytes())?;
+    if two {
+        text.extend_from_slice(b"\"\" } 0 t \"\" 0 t \"\" 0\n")?;
+    } else {
+        text.extend_from_slice(b"} 0 t \"\" 0\n")?;
     }
     Ok(())
 }
@@ -151,8 +170,10 @@ fn refuses_large_forms(rt: HostRuntime) -> Result<(), Memory> {
     // 331 times 331 strategies, and 660 sets.
     assert!(rt; stops(alloc, &two_chains(alloc, 330)?, choices));
     // 2 to the power 100 strategies; and 2 to the power 20 of one player, and one of the other.
-    assert!(rt; stops(alloc, &many_sets(alloc, 100)?, payoffs));
-    assert!(rt; stops(alloc, &many_sets(alloc, 20)?, payoffs));
+    assert!(rt; stops(alloc, &many_sets(alloc, 100, 0)?, payoffs));
+    assert!(rt; stops(alloc, &many_sets(alloc, 20, 0)?, payoffs));
+    // Sets of one action add no strategy.
+    assert!(rt; stops(alloc, &many_sets(alloc, 20, 20_000)?, payoffs));
     Ok(())
 }
 

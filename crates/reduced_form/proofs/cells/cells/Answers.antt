@@ -37,3 +37,6 @@ set_profile-requires-clause-some c =
 
 pub overflow_cast-number : goal.overflow_cast-number
 overflow_cast-number c = omega (arith, c.profile_count-profiles.ensures, few (game_of_tree c.args.tree.now) c.args.counts.now _ c.requires.strategies c.requires.counts c.requires.few)
+
+pub push_cells-requires-clause-keep : goal.push_cells-requires-clause-keep
+push_cells-requires-clause-keep c = c.forget.ensures (game_of_tree c.args.tree.now) _ c.loop-number.invariant.room

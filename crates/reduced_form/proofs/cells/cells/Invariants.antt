@@ -1,10 +1,12 @@
 use Rattle.std.proofs.Common.{◌≡◌, ◌*◌, length, map}
 use Rattle.game_core.specs.TreeGame.{game_of_tree}
+use Rattle.pure_payoffs.specs.Shortcuts.{HasRoom}
 use Rattle.reduced_form.specs.Cells.{AreCells}
 use Rattle.reduced_form.proofs.cells.cells.Given as goal
 
 abbrev pub invariant-loop-number : goal.invariant-loop-number
 invariant-loop-number l = record {
+  room : HasRoom (length l.tree.nodes) l.shortcuts;
   digits : length l.profile.items ≡ length l.counts;
   so_many : length l.payoffs.items ≡ l.number * length l.tree.players;
   cells : AreCells (game_of_tree l.tree) (map (λ v. map (λ w. w.items) v.items) l.strategies) l.payoffs.items;

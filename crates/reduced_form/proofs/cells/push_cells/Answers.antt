@@ -23,7 +23,7 @@ returns-in-Err-clause-stop c =
       is_profile = c.requires.number;
       is_player = omega (arith, ap length c.players.ensures.players);
       earlier_fit = cells-earlier t strategies c.loop-player.payoffs.items c.args.number c.loop-player.player c.loop-player.invariant.so_many c.loop-player.invariant.cells;
-      is_first = subst (λ (p : List ℕ). IsFirstUnfit (payoff_steps t (completed t strategies p) c.loop-player.player) c.in-Err.unfit) c.requires.profile (c.in-Err.ensures {u = tt});
+      is_first = subst (λ (p : List ℕ). IsFirstUnfit (payoff_steps t (completed t strategies p) c.loop-player.player) c.in-Err.unfit) c.requires.profile (c.in-Err.ensures {u = tt}).gives;
     }
 
 pub loop-player-preserved : goal.loop-player-preserved
@@ -32,8 +32,9 @@ loop-player-preserved c =
     let strategies = map (λ v. map (λ w. w.items) v.items) c.args.play.now.strategies.now in
     let inside : c.loop-player.player < length c.args.play.now.tree.now.players = omega (arith, ap length c.players.ensures.players) in
     let items = (c.in_ok-push-in-Ok.ensures {u = tt}).items in
-    let paid = c.in-Ok.ensures {u = tt} in
+    let paid = (c.in-Ok.ensures {u = tt}).gives in
     record {
+      keep = (c.in-Ok.ensures {u = tt}).keep;
       so_many = ap length items ∙ length_push c.loop-player.payoffs.items c.in-Ok.payoff ∙ omega (arith, c.loop-player.invariant.so_many);
       cells = subst (AreCells t strategies) (sym items) (cells-push t strategies c.loop-player.payoffs.items c.args.number c.loop-player.player c.in-Ok.payoff c.loop-player.invariant.so_many inside c.loop-player.invariant.cells (record {
         value_is = paid.0 ∙ ap (λ p. payoff t (pure (completed t strategies p)) c.loop-player.player) c.requires.profile;

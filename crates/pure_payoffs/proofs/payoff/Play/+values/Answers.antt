@@ -1,4 +1,4 @@
-use Rattle.std.proofs.Common.{ℕ, ◌≡◌, ◌∙◌, ◌<◌, ap, refl, get_or, length, arith}
+use Rattle.std.proofs.Common.{Ok, Err, ℕ, ◌≡◌, ◌∙◌, ◌<◌, ap, refl, get_or, length, arith}
 use Rattle.std.proofs.lemmas.Result.{err_from_is_err_and}
 use Rattle.pure_payoffs.specs.Plays.{choice_of, game_of}
 use Rattle.pure_payoffs.proofs.BranchSteps.{skipped-gives, child-refused, product-refused, product-added, branch-more, branch-refused}
@@ -8,37 +8,37 @@ use Rattle.pure_payoffs.proofs.TreeParts.{set-read, pays-read, count-read, prob-
 use Rattle.pure_payoffs.proofs.payoff.Play.+values.Goals as goal
 use Rattle.pure_payoffs.proofs.payoff.Play.+values.Goals.{value_behind-After-index-self-node, chance_value-After-index-actions-action}
 
-pub with_branch-returns-then-is_zero : goal.with_branch-returns-then-is_zero
-with_branch-returns-then-is_zero t c = skipped-gives _ _ _ _ (c.if-is_zero.ensures.0 refl)
+pub with_branch-returns-then-is_zero-clause-gives : goal.with_branch-returns-then-is_zero-clause-gives
+with_branch-returns-then-is_zero-clause-gives t c = skipped-gives _ _ _ _ (c.if-is_zero.ensures.0 refl)
 
-pub with_branch-returns-in_err-value : goal.with_branch-returns-in_err-value
-with_branch-returns-in_err-value t c =
-    let p = err_from_is_err_and c.from_residual.result c.from_residual.ensures.1 in rw (p.1, p.2) (child-refused c.args.prob c.args.sum _ _ c.in_err-value.field-0.0 (λ e. cc (c.if-is_zero.ensures.1 e)) c.in_err-value.ensures)
+pub with_branch-returns-in_err-value-clause-gives : goal.with_branch-returns-in_err-value-clause-gives
+with_branch-returns-in_err-value-clause-gives t c =
+    let p = err_from_is_err_and c.from_residual.result c.from_residual.ensures.1 in rw (p.1, p.2) (child-refused c.args.prob c.args.sum _ _ c.in_err-value.field-0.0 (λ e. cc (c.if-is_zero.ensures.1 e)) c.in_err-value.ensures.gives)
 
-pub with_branch-returns-in_err-mul : goal.with_branch-returns-in_err-mul
-with_branch-returns-in_err-mul t c =
-    let p = err_from_is_err_and c.from_residual-in_err-mul.result c.from_residual-in_err-mul.ensures.1 in rw (p.1, p.2) (product-refused c.args.prob c.args.sum _ _ _ c.in_err-mul.field-0.0 (λ e. cc (c.if-is_zero.ensures.1 e)) c.in_ok-value.ensures.0 c.in_ok-value.ensures.1 c.in_err-mul.ensures.step c.in_err-mul.ensures.unfit)
+pub with_branch-returns-in_err-mul-clause-gives : goal.with_branch-returns-in_err-mul-clause-gives
+with_branch-returns-in_err-mul-clause-gives t c =
+    let p = err_from_is_err_and c.from_residual-in_err-mul.result c.from_residual-in_err-mul.ensures.1 in rw (p.1, p.2) (product-refused c.args.prob c.args.sum _ _ _ c.in_err-mul.field-0.0 (λ e. cc (c.if-is_zero.ensures.1 e)) c.in_ok-value.ensures.gives.0 c.in_ok-value.ensures.gives.1 c.in_err-mul.ensures.step c.in_err-mul.ensures.unfit)
 
-pub with_branch-returns : goal.with_branch-returns
-with_branch-returns t c =
-    product-added _ _ _ _ _ _ _ (λ e. cc (c.if-is_zero.ensures.1 e)) c.in_ok-value.ensures.0 c.in_ok-mul.ensures.value c.in_ok-value.ensures.1 c.in_ok-mul.ensures.fits c.add.ensures.value c.add.ensures.fits c.add.ensures.step c.add.ensures.unfit
+pub with_branch-returns-clause-gives : goal.with_branch-returns-clause-gives
+with_branch-returns-clause-gives t c =
+    product-added _ _ _ _ _ _ _ (λ e. cc (c.if-is_zero.ensures.1 e)) c.in_ok-value.ensures.gives.0 c.in_ok-mul.ensures.value c.in_ok-value.ensures.gives.1 c.in_ok-mul.ensures.fits c.add.ensures.value c.add.ensures.fits c.add.ensures.step c.add.ensures.unfit
 
-pub value-returns-in_err-value_behind-in-Some : goal.value-returns-in_err-value_behind-in-Some
-value-returns-in_err-value_behind-in-Some t c =
+pub value_at-returns-in_err-value_behind-in-Some-clause-gives : goal.value_at-returns-in_err-value_behind-in-Some-clause-gives
+value_at-returns-in_err-value_behind-in-Some-clause-gives t c =
     let below : c.args.node < length c.nodes.result.now = omega (arith, ap length c.nodes.ensures.nodes) in
     let set = set-read c.args.self.now.tree.now _ c.args.node _ c.nodes.ensures.nodes below ∙ c.in-Some.is in
     let p = err_from_is_err_and c.from_residual.result c.from_residual.ensures.1 in
-    rw (p.1, p.2) (behind-refused _ _ c.args.player c.requires.play.tree (play-chooses _ _ _ _ _ c.requires.play) c.args.node c.requires.node _ set _ c.in_err-value_behind-in-Some.ensures)
+    rw (p.1, p.2) (behind-refused _ _ c.args.player c.requires.play.tree (play-chooses _ _ _ _ _ c.requires.play) c.args.node c.requires.node _ set _ c.in_err-value_behind-in-Some.ensures.gives)
 
-pub value-returns-in_ok-value_behind-in-Some : goal.value-returns-in_ok-value_behind-in-Some
-value-returns-in_ok-value_behind-in-Some t c =
+pub value_at-returns-in_ok-value_behind-in-Some-clause-gives : goal.value_at-returns-in_ok-value_behind-in-Some-clause-gives
+value_at-returns-in_ok-value_behind-in-Some-clause-gives t c =
     let below : c.args.node < length c.nodes.result.now = omega (arith, ap length c.nodes.ensures.nodes) in
     let set = set-read c.args.self.now.tree.now _ c.args.node _ c.nodes.ensures.nodes below ∙ c.in-Some.is in
     let pays = pays-read c.args.self.now.tree.now _ c.args.node c.args.player _ _ c.nodes.ensures.nodes below c.outcome_payoff-pays.ensures in
-    node-added _ _ c.args.player c.requires.play.tree (play-chooses _ _ _ _ _ c.requires.play) c.args.node c.requires.node _ set _ _ _ pays c.in_ok-value_behind-in-Some.ensures.0 c.in_ok-value_behind-in-Some.ensures.1 c.add.ensures.value c.add.ensures.fits c.add.ensures.step c.add.ensures.unfit
+    node-added _ _ c.args.player c.requires.play.tree (play-chooses _ _ _ _ _ c.requires.play) c.args.node c.requires.node _ set _ _ _ pays c.in_ok-value_behind-in-Some.ensures.gives.0 c.in_ok-value_behind-in-Some.ensures.gives.1 c.add.ensures.value c.add.ensures.fits c.add.ensures.step c.add.ensures.unfit
 
-pub value-returns-in-None : goal.value-returns-in-None
-value-returns-in-None t c =
+pub value_at-returns-in-None-clause-gives : goal.value_at-returns-in-None-clause-gives
+value_at-returns-in-None-clause-gives t c =
     let below : c.args.node < length c.nodes.result.now = omega (arith, ap length c.nodes.ensures.nodes) in
     let set = set-read c.args.self.now.tree.now _ c.args.node _ c.nodes.ensures.nodes below ∙ c.in-None.is in
     let pays = pays-read c.args.self.now.tree.now _ c.args.node c.args.player _ _ c.nodes.ensures.nodes below c.outcome_payoff-pays.ensures in
@@ -60,13 +60,13 @@ pub value_behind-value-requires : goal.value_behind-value-requires
 value_behind-value-requires t c =
     let below = chosen t (goal.at.value_behind-value-requires t c).After-index-self-node in
     let found = child-found (λ v. v.items) _ c.args.self.now.children.now c.args.node c.args.set c.action_at-action.result c.index-self-node.result c.index.result.now c.requires.play.tree c.requires.play.children_are c.requires.node c.requires.set below c.index.ensures in
-    (omega arith, (c.requires.play, (found.2, c.requires.player)))
+    (omega arith, (c.requires.play, (found.2, (c.requires.player, c.requires.keep))))
 
-pub value_behind-returns-in-Move : goal.value_behind-returns-in-Move
-value_behind-returns-in-Move t c =
-    let below = chosen t (goal.at.value_behind-returns-in-Move t c).After-index-self-node in
+pub value_behind-returns-in-Move-clause-gives : goal.value_behind-returns-in-Move-clause-gives
+value_behind-returns-in-Move-clause-gives t c =
+    let below = chosen t (goal.at.value_behind-returns-in-Move-clause-gives t c).After-index-self-node in
     let found = child-found (λ v. v.items) _ c.args.self.now.children.now c.args.node c.args.set c.action_at-action.result c.index-self-node.result c.index.result.now c.requires.play.tree c.requires.play.children_are c.requires.node c.requires.set below c.index.ensures in
-    owned-gives (game_of c.args.self.now) (choice_of c.args.self.now) c.args.player c.args.node c.args.set c.in-Move.owner c.index.result.now _ _ (owner-read c.args.kind _ c.in-Move.owner c.requires.kind c.in-Move.is) (rw c.action_at-action.ensures at found.0) c.value.ensures
+    owned-gives (game_of c.args.self.now) (choice_of c.args.self.now) c.args.player c.args.node c.args.set c.in-Move.owner c.index.result.now _ _ (owner-read c.args.kind _ c.in-Move.owner c.requires.kind c.in-Move.is) (rw c.action_at-action.ensures at found.0) c.value.ensures.gives
 
 -- the set of a node of chance is one of the sets
 set-within : (t : ℕ) (c : goal.chance_value-After-index-actions-action t) → c.args.set < length c.sets.result.now
@@ -82,23 +82,23 @@ action-within t c =
 
 pub chance_value-index-requires : goal.chance_value-index-requires
 chance_value-index-requires t c =
-    let read = child-read (λ v. v.items) _ c.args.self.now.children.now c.args.node c.args.set c.loop-action.action c.index-self-node.result c.requires.play.tree c.requires.play.children_are c.requires.node c.requires.set (action-within t c) in
+    let read = child-read (λ v. v.items) _ c.args.self.now.children.now c.args.node c.args.set c.loop-action.action c.index-self-node.result c.requires.play.tree c.requires.play.children_are c.requires.node c.requires.set (action-within t (goal.at.chance_value-index-requires t c).After-index-actions-action) in
     rw (get_or c.args.self.now.children.now c.args.node c.index-self-node.result).ok.0 read.0
 
 pub chance_value-with_branch-requires : goal.chance_value-with_branch-requires
 chance_value-with_branch-requires t c =
     let below = action-within t (goal.at.chance_value-with_branch-requires t c).After-index-actions-action in
     let found = child-found (λ v. v.items) _ c.args.self.now.children.now c.args.node c.args.set c.loop-action.action c.index-self-node.result c.index.result.now c.requires.play.tree c.requires.play.children_are c.requires.node c.requires.set below c.index.ensures in
-    (omega arith, (c.requires.play, (found.2, c.requires.player)))
+    (omega arith, (c.requires.play, (found.2, (c.requires.player, c.loop-action.invariant.0))))
 
-pub chance_value-returns-in_err-sum : goal.chance_value-returns-in_err-sum
-chance_value-returns-in_err-sum t c =
-    let before = (goal.at.chance_value-returns-in_err-sum t c).After-index-actions-action in
+pub chance_value-returns-in_err-sum-clause-gives : goal.chance_value-returns-in_err-sum-clause-gives
+chance_value-returns-in_err-sum-clause-gives t c =
+    let before = (goal.at.chance_value-returns-in_err-sum-clause-gives t c).After-index-actions-action in
     let below = action-within t before in
     let found = child-found (λ v. v.items) _ c.args.self.now.children.now c.args.node c.args.set c.loop-action.action c.index-self-node.result c.index.result.now c.requires.play.tree c.requires.play.children_are c.requires.node c.requires.set below c.index.ensures in
     let prob = prob-read c.args.self.now.tree.now _ c.args.set c.loop-action.action _ _ _ c.sets.ensures.sets (set-within t before) c.index-sets-set.is c.actions-actions.ensures c.loop-action-test.true in
     let p = err_from_is_err_and c.from_residual.result c.from_residual.ensures.1 in
-    rw (p.1, p.2) (branch-refused _ _ _ c.loop-action.action _ _ c.loop-action.invariant.0 prob c.loop-action.invariant.1 _ _ below (rw found.0 at c.in_err-sum.ensures))
+    rw (p.1, p.2) (branch-refused _ _ _ c.loop-action.action _ _ c.loop-action.invariant.1 prob c.loop-action.invariant.2 _ _ below (rw found.0 at c.in_err-sum.ensures.gives))
 
 pub chance_value-loop-action-preserved : goal.chance_value-loop-action-preserved
 chance_value-loop-action-preserved t c =
@@ -106,12 +106,21 @@ chance_value-loop-action-preserved t c =
     let below = action-within t before in
     let found = child-found (λ v. v.items) _ c.args.self.now.children.now c.args.node c.args.set c.loop-action.action c.index-self-node.result c.index.result.now c.requires.play.tree c.requires.play.children_are c.requires.node c.requires.set below c.index.ensures in
     let prob = prob-read c.args.self.now.tree.now _ c.args.set c.loop-action.action _ _ _ c.sets.ensures.sets (set-within t before) c.index-sets-set.is c.actions-actions.ensures c.loop-action-test.true in
-    branch-more _ _ _ c.loop-action.action _ _ c.loop-action.invariant.0 prob c.loop-action.invariant.1 _ (rw found.0 at c.in_ok-sum.ensures.0) (rw found.0 at c.in_ok-sum.ensures.1)
+    let more = branch-more _ _ _ c.loop-action.action _ _ c.loop-action.invariant.1 prob c.loop-action.invariant.2 _ (rw found.0 at c.in_ok-sum.ensures.gives.0) (rw found.0 at c.in_ok-sum.ensures.gives.1) in
+    (c.in_ok-sum.ensures.keep, more.0, more.1)
 
-pub chance_value-returns : goal.chance_value-returns
-chance_value-returns t c =
+pub chance_value-returns-clause-gives : goal.chance_value-returns-clause-gives
+chance_value-returns-clause-gives t c =
     let within = c.requires.play.tree.sets_within c.args.node c.args.set c.requires.node c.requires.set in
     let inside : c.args.set < length c.sets.result.now = omega (arith, within, ap length c.sets.ensures.sets) in
     let count = count-read c.args.self.now.tree.now _ c.args.set _ _ c.sets.ensures.sets inside c.index-sets-set.is c.actions-actions.ensures in
     let all : c.loop-action.action ≡ length c.actions-actions.result.now = omega arith in
-    rw (← count, ← all) c.loop-action.invariant
+    rw (← count, ← all) (c.loop-action.invariant.1, c.loop-action.invariant.2)
+
+pub value-returns-in_err-value-clause-gives : goal.value-returns-in_err-value-clause-gives
+value-returns-in_err-value-clause-gives t c =
+    let p = err_from_is_err_and c.from_residual.result c.from_residual.ensures.1 in
+    rw (p.1, p.2) (c.take-target.ensures.stands.gives c.args.player (Err c.in_err-value.field-0.0) tt c.in_err-value.ensures.gives)
+
+pub value-returns-clause-gives : goal.value-returns-clause-gives
+value-returns-clause-gives t c = c.take-target.ensures.stands.gives c.args.player (Ok c.in_ok-value.value) c.fits.ensures c.in_ok-value.ensures.gives

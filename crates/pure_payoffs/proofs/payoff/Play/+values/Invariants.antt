@@ -3,26 +3,31 @@ use Rattle.rational.specs.Rational.{◌*ℚ◌}
 use Rattle.rational.specs.Sum.{sum_to}
 use Rattle.game_trees.specs.Behaviour.{pure, value}
 use Rattle.pure_payoffs.specs.Plays.{choice_of, game_of, steps_at}
+use Rattle.pure_payoffs.specs.Shortcuts.{KeepShortcuts}
 use Rattle.pure_payoffs.specs.Steps.{StepFits, chance_steps, child}
 use Rattle.pure_payoffs.proofs.payoff.Play.+values.Given as goal
 
--- four times the number of nodes from this one on, and more for each call at the node
+-- five times the number of nodes from this one on, and more for each call at the node
 abbrev pub decreases-chance_value : goal.decreases-chance_value
-decreases-chance_value l = 4 * (length l.self.now.tree.now.nodes - l.node)
+decreases-chance_value l = 5 * (length l.self.now.tree.now.nodes - l.node)
+
+abbrev pub decreases-value_at : goal.decreases-value_at
+decreases-value_at l = 5 * (length l.self.now.tree.now.nodes - l.node) + 2
 
 abbrev pub decreases-value : goal.decreases-value
-decreases-value l = 4 * (length l.self.now.tree.now.nodes - l.node) + 2
+decreases-value l = 5 * (length l.self.now.tree.now.nodes - l.node) + 3
 
 abbrev pub decreases-value_behind : goal.decreases-value_behind
-decreases-value_behind l = 4 * (length l.self.now.tree.now.nodes - l.node) + 1
+decreases-value_behind l = 5 * (length l.self.now.tree.now.nodes - l.node) + 1
 
 abbrev pub decreases-with_branch : goal.decreases-with_branch
-decreases-with_branch l = 4 * (length l.self.now.tree.now.nodes - l.child) + 3
+decreases-with_branch l = 5 * (length l.self.now.tree.now.nodes - l.child) + 4
 
--- the sum over the actions so far, whose steps all fit
+-- the shortcuts are kept, and the sum is over the actions so far, whose steps all fit
 abbrev pub invariant-chance_value-loop-action : goal.invariant-chance_value-loop-action
 invariant-chance_value-loop-action l =
     let t = game_of l.self in
     let choice = choice_of l.self in
-    (l.sum ≡ sum_to l.action (λ a. t.chance l.set a *ℚ value t (pure choice) l.player (child t l.node a)))
+    KeepShortcuts t choice l.shortcuts
+    × (l.sum ≡ sum_to l.action (λ a. t.chance l.set a *ℚ value t (pure choice) l.player (child t l.node a)))
     × All StepFits (chance_steps l.action (t.chance l.set) (λ a. value t (pure choice) l.player (child t l.node a)) (λ a. steps_at t choice l.player (child t l.node a)))

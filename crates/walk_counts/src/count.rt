@@ -2,10 +2,9 @@
 ghost use Rattle.std.specs.Prelude.{◌≡◌, ◌<◌, ◌+◌, ◌*◌, ◌^◌, List, ℕ, true, length, map, min, replicate, slice_index, slice_set, All, IfOk, IsTrue, []};
 ghost use Rattle.decision_walk.specs.Ends.{ends};
 ghost use Rattle.decision_walk.specs.Walks.{AreLinked, AreWalks};
-ghost use Rattle.decision_walk.specs.Ways.{AreApart, AreBehind, sum_branches, ways_from};
+ghost use Rattle.walk_counts.specs.Ways.{AreApart, AreBehind, sum_branches, ways_from};
 
-use crate::decision::Decision;
-use crate::walk::count_ends;
+use decision_walk::{Decision, count_ends};
 use memory::Memory;
 use std::alloc::Global;
 

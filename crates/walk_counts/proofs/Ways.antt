@@ -8,7 +8,7 @@ use Rattle.decision_walk.specs.declared.decision.Decision.{Decision}
 use Rattle.decision_walk.specs.declared.decision.Step.{Step}
 use Rattle.decision_walk.specs.Walks.{ComesFrom, AreLinked}
 use Rattle.decision_walk.specs.Ends.{is_led_to, branches, ends}
-use Rattle.decision_walk.specs.Ways.{AreApart, leads_from, is_first, product_where, sum_branches, ways_from}
+use Rattle.walk_counts.specs.Ways.{AreApart, leads_from, is_first, product_where, sum_branches, ways_from}
 use Rattle.decision_walk.proofs.Flags.{last_flag, one_decision, place-within}
 use Rattle.decision_walk.proofs.EndLists.{AreRest, AreRest-first, AreRest-later, AreRest-all, ends-nil, ends-branch, ends-pass, ends_with, all_ends}
 

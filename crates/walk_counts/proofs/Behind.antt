@@ -9,7 +9,7 @@ use Rattle.std.proofs.lemmas.Option.{slice_get_within}
 use Rattle.decision_walk.specs.declared.decision.Decision.{Decision}
 use Rattle.decision_walk.specs.declared.decision.Step.{Step}
 use Rattle.decision_walk.specs.Walks.{ComesFrom, AreLinked}
-use Rattle.decision_walk.specs.Ways.{AreApart, AreBehind, is_first, leads_from, product_where, sum_branches, ways_from, ways_where}
+use Rattle.walk_counts.specs.Ways.{AreApart, AreBehind, is_first, leads_from, product_where, sum_branches, ways_from, ways_where}
 use Rattle.decision_walk.proofs.Flags.{one_decision, below_or_last}
 use Rattle.decision_walk.proofs.Steps.{drop-first}
 

@@ -1,7 +1,7 @@
 use Rattle.std.proofs.Common.{◌+◌}
 use Rattle.std.proofs.lemmas.Result.{IfOk-weaker}
 use Rattle.decision_walk.proofs.Turns.{walks_counted}
-use Rattle.decision_walk.proofs.count.count_walks.Goals as goal
+use Rattle.walk_counts.proofs.count.count_walks.Goals as goal
 
 pub returns-then-branch : goal.returns-then-branch
 returns-then-branch c =

@@ -1,8 +1,8 @@
 use Rattle.std.proofs.Common.{◌≡◌, length, min, ap, sym, ◌∙◌, arith, add-one}
 use Rattle.std.specs.Prelude.{slice_index}
-use Rattle.decision_walk.specs.Ways.{sum_branches}
-use Rattle.decision_walk.proofs.Behind.{sum-next}
-use Rattle.decision_walk.proofs.count.sum.Goals as goal
+use Rattle.walk_counts.specs.Ways.{sum_branches}
+use Rattle.walk_counts.proofs.Behind.{sum-next}
+use Rattle.walk_counts.proofs.count.sum.Goals as goal
 
 pub loop-number-preserved : goal.loop-number-preserved
 loop-number-preserved c =

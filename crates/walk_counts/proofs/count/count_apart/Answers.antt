@@ -2,10 +2,10 @@ use Rattle.std.proofs.Common.{suc, ◌-◌, ◌<◌, ◌≡◌, None, length, ma
 use Rattle.std.proofs.lemmas.List.{length-map}
 use Rattle.std.proofs.lemmas.Option.{slice_get-get_or}
 use Rattle.decision_walk.specs.declared.decision.Decision.{Decision}
-use Rattle.decision_walk.specs.Ways.{AreBehind, is_first, ways_where}
-use Rattle.decision_walk.proofs.Ways.{all_ends-counted}
-use Rattle.decision_walk.proofs.Behind.{first-start, first-more, first-stays, ways-summed, step-before, AreBehind-first, AreBehind-multiplied}
-use Rattle.decision_walk.proofs.count.count_apart.Goals as goal
+use Rattle.walk_counts.specs.Ways.{AreBehind, is_first, ways_where}
+use Rattle.walk_counts.proofs.Ways.{all_ends-counted}
+use Rattle.walk_counts.proofs.Behind.{first-start, first-more, first-stays, ways-summed, step-before, AreBehind-first, AreBehind-multiplied}
+use Rattle.walk_counts.proofs.count.count_apart.Goals as goal
 
 -- a decision where there is none
 abbrev none_there : Decision

@@ -2,8 +2,8 @@ use Rattle.std.proofs.Common.{◌<◌, false, None, get_or, ◌∙◌, sym, arit
 use Rattle.std.proofs.lemmas.List.{get_or_default}
 use Rattle.std.proofs.lemmas.Option.{slice_get-get_or}
 use Rattle.decision_walk.specs.declared.decision.Decision.{Decision}
-use Rattle.decision_walk.proofs.Behind.{AreSeen-none, AreSeen-next, AreSeen-all}
-use Rattle.decision_walk.proofs.count.are_apart.Goals as goal
+use Rattle.walk_counts.proofs.Behind.{AreSeen-none, AreSeen-next, AreSeen-all}
+use Rattle.walk_counts.proofs.count.are_apart.Goals as goal
 
 -- a decision where there is none
 abbrev none_there : Decision

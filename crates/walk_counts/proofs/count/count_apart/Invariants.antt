@@ -1,6 +1,6 @@
 use Rattle.std.proofs.Common.{◌≡◌, ◌≤◌, length, map, min}
-use Rattle.decision_walk.specs.Ways.{AreBehind, is_first, ways_where}
-use Rattle.decision_walk.proofs.count.count_apart.Given as goal
+use Rattle.walk_counts.specs.Ways.{AreBehind, is_first, ways_where}
+use Rattle.walk_counts.proofs.count.count_apart.Given as goal
 
 abbrev pub invariant-loop-left : goal.invariant-loop-left
 invariant-loop-left l = record {

@@ -1,8 +1,8 @@
 use Rattle.std.proofs.Common.{None, get_or, arith, add-one}
 use Rattle.std.proofs.lemmas.Option.{slice_get-get_or}
 use Rattle.decision_walk.specs.declared.decision.Decision.{Decision}
-use Rattle.decision_walk.proofs.Behind.{AreOnes-none, AreOnes-next, AreBehind-ones}
-use Rattle.decision_walk.proofs.count.ones.Goals as goal
+use Rattle.walk_counts.proofs.Behind.{AreOnes-none, AreOnes-next, AreBehind-ones}
+use Rattle.walk_counts.proofs.count.ones.Goals as goal
 
 -- a decision where there is none
 abbrev none_there : Decision

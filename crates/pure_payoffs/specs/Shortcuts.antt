@@ -1,0 +1,39 @@
+-- Nodes at which the profile only leads on: what the node behind gives, they give as well.
+use Rattle.std.specs.Prelude.{ℕ, ◌<◌, ◌≤◌, ◌≡◌, length, slice_index, Some, Result, IfOk}
+use Rattle.rational.specs.Rational.{ℚ, zero_ℚ}
+use Rattle.frac128.specs.Fraction.{Fits}
+use Rattle.frac128.specs.declared.steps.Unfit.{Unfit}
+use Rattle.game_trees.specs.Trees.{Tree}
+use Rattle.game_trees.specs.Behaviour.{value, pure}
+use Rattle.pure_payoffs.specs.declared.shortcuts.Shortcuts.{Shortcuts}
+use Rattle.pure_payoffs.specs.Plays.{Give, steps_at}
+use Rattle.pure_payoffs.specs.Steps.{child}
+
+-- at node k a player chooses and nothing is paid, and the choice leads to node c
+pub record OnlyLeadsTo (t : Tree) (choice : ℕ → ℕ) (k c : ℕ) : Type 0 where
+  pub set : ℕ
+  pub owner : ℕ
+  pub at_set : t.set k ≡ Some set
+  pub own : t.owner set ≡ Some owner
+  pub pays_nothing : (i : ℕ) → t.pays k i ≡ zero_ℚ
+  pub leads : c ≡ child t k (choice set)
+  pub later : k < c
+  pub within : c < t.size
+
+-- what the steps of node s give, those of node k give as well
+pub record StandsFor (t : Tree) (choice : ℕ → ℕ) (k s : ℕ) : Type 0 where
+  pub not_before : k ≤ s
+  pub within : s < t.size
+  pub gives : (i : ℕ) (result : Result ℚ Unfit) → IfOk result Fits
+      → Give (steps_at t choice i s) (value t (pure choice) i s) result → Give (steps_at t choice i k) (value t (pure choice) i k) result
+
+-- there is room for so many nodes, and no entry is from a later round
+pub record HasRoom (nodes : ℕ) (shortcuts : Shortcuts) : Type 0 where
+  pub rounds_long : length shortcuts.rounds.items ≡ nodes
+  pub targets_long : length shortcuts.targets.items ≡ nodes
+  pub no_later : (k : ℕ) → slice_index shortcuts.rounds.items k ≤ shortcuts.round
+
+-- the entries of the present round are true
+pub record KeepShortcuts (t : Tree) (choice : ℕ → ℕ) (shortcuts : Shortcuts) : Type 0 where
+  pub room : HasRoom t.size shortcuts
+  pub stand : (k : ℕ) → k < t.size → slice_index shortcuts.rounds.items k ≡ shortcuts.round → StandsFor t choice k (slice_index shortcuts.targets.items k)

@@ -1,0 +1,97 @@
+// Shortcuts past nodes at which a profile only leads on.
+ghost use Rattle.std.specs.Prelude.{◌≡◌, ◌<◌, ℕ, length, MatchOption, ⊤, IfOk};
+ghost use Rattle.game_trees.specs.Trees.{Tree as game_tree};
+ghost use Rattle.pure_payoffs.specs.Plays.{IsPlayed, game_of, choice_of};
+ghost use Rattle.pure_payoffs.specs.Shortcuts.{HasRoom, KeepShortcuts, OnlyLeadsTo, StandsFor};
+
+use crate::payoff::Play;
+use game_core::{Kind, Tree};
+use memory::Memory;
+use std::alloc::Global;
+
+/// For nodes of a tree the first node from there on, along the choices of a profile, at which something is paid or
+/// no player chooses: as far as such nodes were asked for since the last `forget`.
+#[derive(Debug, Drop)]
+pub struct Shortcuts {
+    // The present round, from 1.
+    round: u32,
+    // For each node the round of its entry, and 0 where it has none.
+    rounds: Vec<u32>,
+    // For each node its entry.
+    targets: Vec<u32>,
+}
+
+// The node to which the profile leads from a node at which a player chooses and nothing is paid.
+fn next(play: &Play, node: u32) -> Option<u32>
+    requires play { IsPlayed play.now }
+    requires node { node < length play.now.tree.now.nodes }
+    ensures { MatchOption result ⊤ (λ next. OnlyLeadsTo (game_of play.now) (choice_of play.now) node next) }
+{
+    let here = play.tree.nodes()[node as usize];
+    if here.outcome.is_some() {
+        return None;
+    }
+    match (here.kind, here.set) {
+        (Kind::Move { player }, Some(set)) => {
+            let action = play.action_at(player, set);
+            Some(play.children[node as usize][action])
+        }
+        _ => None,
+    }
+}
+
+// The first node from this one on at which something is paid or no player chooses.
+fn target(play: &Play, node: u32) -> u32
+    requires play { IsPlayed play.now }
+    requires node { node < length play.now.tree.now.nodes }
+    ensures { StandsFor (game_of play.now) (choice_of play.now) node result }
+{
+    let mut here = node;
+    while let Some(next) = next(play, here) {
+        here = next;
+    }
+    here
+}
+
+impl Shortcuts {
+    /// Room for the nodes of a tree, without an entry.
+    pub fn new(alloc: Global, tree: &Tree) -> Result<Shortcuts, Memory>
+        ensures { IfOk result (HasRoom (length tree.now.nodes)) }
+    {
+        let nodes = tree.nodes().len();
+        Ok(Shortcuts {
+            round: 1,
+            rounds: vec![in alloc; 0; nodes]?,
+            targets: vec![in alloc; 0; nodes]?,
+        })
+    }
+
+    /// Forgets all entries.
+    pub fn forget(&mut self)
+        ensures { (t : game_tree) (choice : ℕ → ℕ) → HasRoom t.size self.old → KeepShortcuts t choice self.new }
+    {
+        if self.round == u32::MAX {
+            self.rounds.fill(0);
+            self.round = 0;
+        }
+        self.round += 1;
+    }
+
+    // The node that stands for this one.
+    pub(crate) fn take(&mut self, play: &Play, node: u32) -> u32
+        requires play { IsPlayed play.now }
+        requires node { node < length play.now.tree.now.nodes }
+        requires keep { KeepShortcuts (game_of play.now) (choice_of play.now) self.old }
+        ensures stands { StandsFor (game_of play.now) (choice_of play.now) node result }
+        ensures keep { KeepShortcuts (game_of play.now) (choice_of play.now) self.new }
+    {
+        let number = node as usize;
+        if self.rounds[number] == self.round {
+            return self.targets[number];
+        }
+        let target = target(play, node);
+        self.rounds[number] = self.round;
+        self.targets[number] = target;
+        target
+    }
+}
