@@ -65,7 +65,7 @@ test_cases true (suc c) = inr (λ h. omega arith)
 test_cases false c = inr (λ h. cc)
 
 -- the walk branches or passes
-branches_or_passes : (flags : List Bool) (choices : List ℕ) (d : Decision) → Branches flags choices d ⊎ Passes flags choices d
+pub branches_or_passes : (flags : List Bool) (choices : List ℕ) (d : Decision) → Branches flags choices d ⊎ Passes flags choices d
 branches_or_passes flags choices d = test_cases (is_led_to flags choices d.before) (get_or choices d.place 0)
 
 -- the test where it branches

@@ -9,7 +9,7 @@ use Rattle.std.proofs.lemmas.Option.{slice_get_within}
 use Rattle.decision_walk.specs.declared.decision.Decision.{Decision}
 use Rattle.decision_walk.specs.declared.decision.Step.{Step}
 use Rattle.decision_walk.specs.Walks.{ComesFrom, AreLinked}
-use Rattle.walk_counts.specs.Ways.{AreApart, AreBehind, is_first, leads_from, product_where, sum_branches, ways_from, ways_where}
+use Rattle.walk_counts.specs.Ways.{AreBehind, is_first, leads_from, product_where, sum_branches, ways_from, ways_where}
 use Rattle.decision_walk.proofs.Flags.{one_decision, below_or_last}
 use Rattle.decision_walk.proofs.Steps.{drop-first}
 
@@ -64,49 +64,6 @@ sum-next numbers n sum limit fits is =
   where
     go : (s x t : ℕ) → sum ≡ min s limit → t ≡ s + x → min (min (sum + x) 18446744073709551615) limit ≡ min t limit
     go s x t is more = omega arith
-
--- ---- sets that were seen
--- a set is marked where one of the first n decisions is its own, and no two of these have one set
-pub record AreSeen (decisions : List Decision) (sets n : ℕ) (seen : List Bool) : Type 0 where
-  pub one_for_each : length seen ≡ sets
-  pub told : (k : ℕ) (d : Decision) → k < n → slice_get decisions k ≡ Some d → get_or seen d.place false ≡ true
-  pub apart : (j k : ℕ) (d e : Decision) → j < n → k < n → slice_get decisions j ≡ Some d → slice_get decisions k ≡ Some e → d.place ≡ e.place → j ≡ k
-
--- nothing was gone over
-pub AreSeen-none : (decisions : List Decision) (sets : ℕ) (seen : List Bool) → seen ≡ replicate sets false → AreSeen decisions sets 0 seen
-AreSeen-none decisions sets seen e = record {
-  one_for_each = ap length e ∙ length-replicate sets false;
-  told = λ k d l at. absurd (omega arith);
-  apart = λ j k d e l m at there same. absurd (omega arith);
-}
-
--- one more decision, whose set was not seen
-pub AreSeen-next : (decisions : List Decision) (sets n : ℕ) (seen : List Bool) (d : Decision) → slice_get decisions n ≡ Some d → d.place < sets → AreSeen decisions sets n seen → get_or seen d.place false ≡ false → AreSeen decisions sets (suc n) (set seen d.place true)
-AreSeen-next decisions sets n seen d at within s fresh =
-    let inside : d.place < length seen = omega (arith, s.one_for_each) in
-    let other : (k : ℕ) (e : Decision) → k < n → slice_get decisions k ≡ Some e → e.place ≡ d.place → ⊥ = λ k e l there same. let marked : get_or seen d.place false ≡ true = ap (λ v. get_or seen v false) (sym same) ∙ s.told k e l there in let clash : true ≡ false = sym marked ∙ fresh in cc in
-    record {
-      one_for_each = lists.length-set seen d.place true ∙ s.one_for_each;
-      told = λ k e l there. elim (below_or_last k n l) [
-        | inl b ↦ get_or-set_other seen d.place e.place true false (other k e b there) ∙ s.told k e b there
-        | inr b ↦ subst (λ (v : Decision). get_or (set seen d.place true) v.place false ≡ true) (one_decision decisions k n d e b at there) (get_or-set_same seen d.place true false inside)
-      ];
-      apart = λ j k e f l m here there same. elim (below_or_last j n l) [
-        | inl b ↦ elim (below_or_last k n m) [
-          | inl c ↦ s.apart j k e f b c here there same
-          | inr c ↦ absurd (other j e b here (same ∙ sym (ap (λ (v : Decision). v.place) (one_decision decisions k n d f c at there))))
-        ]
-        | inr b ↦ elim (below_or_last k n m) [
-          | inl c ↦ absurd (other k f c there (sym same ∙ sym (ap (λ (v : Decision). v.place) (one_decision decisions j n d e b at here))))
-          | inr c ↦ omega (arith, b, c)
-        ]
-      ];
-    }
-
--- where all decisions were gone over, no set has two
-pub AreSeen-all : (decisions : List Decision) (sets n : ℕ) (seen : List Bool) → length decisions ≤ n → AreSeen decisions sets n seen → AreApart decisions
-AreSeen-all decisions sets n seen all s j k d e here there same =
-    s.apart j k d e (omega (arith, slice_get_within decisions j d here)) (omega (arith, slice_get_within decisions k e there)) here there same
 
 -- ---- the products
 -- the product with one more decision

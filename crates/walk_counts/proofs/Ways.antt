@@ -14,12 +14,12 @@ use Rattle.decision_walk.proofs.EndLists.{AreRest, AreRest-first, AreRest-later,
 
 -- ---- sums
 -- branches have together as many members as each of them has
-length-branches : (each : ℕ → List (List ℕ)) (a n : ℕ) → length (branches each a n) ≡ sum_branches (λ b. length (each b)) a n
+pub length-branches : (each : ℕ → List (List ℕ)) (a n : ℕ) → length (branches each a n) ≡ sum_branches (λ b. length (each b)) a n
 length-branches each a zero = refl
 length-branches each a (suc n) = lists.length-append (each a) (branches each (suc a) n) ∙ ap (λ v. length (each a) + v) (length-branches each (suc a) n)
 
 -- sums of the same numbers
-sum-same : (f g : ℕ → ℕ) (a n : ℕ) → ((b : ℕ) → f b ≡ g b) → sum_branches f a n ≡ sum_branches g a n
+pub sum-same : (f g : ℕ → ℕ) (a n : ℕ) → ((b : ℕ) → f b ≡ g b) → sum_branches f a n ≡ sum_branches g a n
 sum-same f g a zero h = refl
 sum-same f g a (suc n) h = ap₂ (λ v w. v + w) (h a) (sum-same f g (suc a) n h)
 

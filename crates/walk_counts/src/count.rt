@@ -4,6 +4,7 @@ ghost use Rattle.decision_walk.specs.Ends.{ends};
 ghost use Rattle.decision_walk.specs.Walks.{AreLinked, AreWalks};
 ghost use Rattle.walk_counts.specs.Ways.{AreApart, AreBehind, sum_branches, ways_from};
 
+use crate::kept::{kept_decisions, shared_sets};
 use decision_walk::{Decision, count_ends};
 use memory::Memory;
 use std::alloc::Global;
@@ -24,22 +25,6 @@ fn sum(numbers: &[usize], limit: usize) -> usize
         sum = sum.saturating_add(*number).min(limit);
     }
     sum
-}
-
-// Whether no set has two decisions.
-fn are_apart(alloc: Global, decisions: &[Decision], sets: usize) -> Result<bool, Memory>
-    requires { All (λ d. d.place < sets) decisions.now }
-    ensures { IfOk result (λ apart. apart ≡ true → AreApart decisions.now) }
-{
-    let mut seen = vec![in alloc; false; sets]?;
-    for decision in decisions {
-        let place = decision.place as usize;
-        if seen[place] {
-            return Ok(false);
-        }
-        seen[place] = true;
-    }
-    Ok(true)
 }
 
 // For each decision a 1 for each action of its set.
@@ -104,9 +89,13 @@ pub fn count_walks(
     requires most { most + 1 < 2 ^ 64 }
     ensures { IfOk result (λ count. (lists : List (List ℕ)) × AreWalks decisions.now actions.now lists × (count ≡ min (length lists) (most + 1))) }
 {
-    if are_apart(alloc, decisions, actions.len())? {
+    let shared = shared_sets(alloc, decisions, actions.len())?;
+    if !shared.contains(&true) {
         count_apart(alloc, decisions, actions, most + 1)
-    } else {
+    } else if decisions.len() > u32::MAX as usize {
         count_ends(alloc, decisions, actions, most)
+    } else {
+        let kept = kept_decisions(alloc, decisions, actions, &shared)?;
+        count_ends(alloc, &kept, actions, most)
     }
 }

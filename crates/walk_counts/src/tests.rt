@@ -54,6 +54,10 @@ fn counts_lists(rt: HostRuntime) -> Result<(), Memory> {
     let wide = [first(0), first(1), first(2)];
     // The second set has two decisions: four lists.
     let forgetful = [first(0), behind(1, 0), behind(1, 1)];
+    // The same with sets of one action, which add no list.
+    let single = [first(2), first(0), first(3)];
+    let between = [first(0), first(2), behind(1, 0), first(3), behind(1, 1)];
+    assert!(rt; counts(alloc, &single, &[2, 2, 1, 1], 9, 2)?);
     for (most, seven, thousand, four) in [
         (0, 1, 1, 1),
         (2, 3, 3, 3),
@@ -65,6 +69,7 @@ fn counts_lists(rt: HostRuntime) -> Result<(), Memory> {
         assert!(rt; counts(alloc, &branching, &[3, 2, 2, 2], most, seven)?);
         assert!(rt; counts(alloc, &wide, &[1000, 1000, 1000], most, thousand)?);
         assert!(rt; counts(alloc, &forgetful, &[2, 2], most, four)?);
+        assert!(rt; counts(alloc, &between, &[2, 2, 1, 1], most, four)?);
     }
     Ok(())
 }

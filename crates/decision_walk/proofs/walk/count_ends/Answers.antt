@@ -5,7 +5,7 @@ use Rattle.decision_walk.proofs.walk.count_ends.Goals as goal
 pub returns-then-count-most : goal.returns-then-count-most
 returns-then-count-most c =
     let seen = ap (left c.loop-from.walk) c.in-Some.is ∙ end_there c.loop-from.walk c.forward.new.self c.in-Some.number c.in_ok-forward.ensures in
-    walks_counted c.args.decisions.now c.args.actions.now (c.loop-from.count + 1) (c.args.most + 1) c.requires.linked (omega (arith, ap length seen))
+    omega (arith, ap length seen)
 
 pub loop-from-smaller : goal.loop-from-smaller
 loop-from-smaller c =
@@ -22,4 +22,4 @@ loop-from-preserved c =
 pub returns : goal.returns
 returns c =
     let none = ap (left c.loop-from.walk) c.in_default.is in
-    walks_counted c.args.decisions.now c.args.actions.now c.loop-from.count (c.args.most + 1) c.requires.linked (omega (arith, ap length none))
+    omega (arith, ap length none)
