@@ -1,5 +1,5 @@
 // The walk.
-ghost use Rattle.std.specs.Prelude.{◌≡◌, ◌<◌, ◌+◌, ◌^◌, [], length, map, min, replicate, slice_get, IfOk, MatchOption};
+ghost use Rattle.std.specs.Prelude.{◌≡◌, ◌<◌, ◌+◌, ◌^◌, List, [], ℕ, length, map, min, replicate, slice_get, IfOk, MatchOption};
 ghost use Rattle.decision_walk.specs.declared.decision.Decision.{Decision};
 ghost use Rattle.decision_walk.specs.Ends.{ends, is_led_to, IsAt, IsStart, ComesTo, later_ends, ends_from};
 ghost use Rattle.decision_walk.specs.Walks.{AreLinked, AreWalks};
@@ -97,8 +97,8 @@ impl<'a> Walk<'a> {
     }
 }
 
-/// How many ends the walk has, but at most one more than `most`: counting stops there. It ends once for each choice
-/// list. `actions` has the number of actions of each of the player's own sets in order.
+/// How many choice lists there are, but at most one more than `most`: counting stops there. The walk ends once for each
+/// of them. `actions` has the number of actions of each of the player's own sets in order.
 pub fn count_ends(
     alloc: Global,
     decisions: &[Decision],
@@ -107,7 +107,8 @@ pub fn count_ends(
 ) -> Result<usize, Memory>
     requires linked { AreLinked decisions.now actions.now }
     requires most { most + 1 < 2 ^ 64 }
-    ensures { IfOk result (λ count. count ≡ min (length (ends actions.now decisions.now [] (replicate (length actions.now) 0))) (most + 1)) }
+    ensures lists { IfOk result (λ count. (lists : List (List ℕ)) × AreWalks decisions.now actions.now lists × (count ≡ min (length lists) (most + 1))) }
+    ensures ends { IfOk result (λ count. count ≡ min (length (ends actions.now decisions.now [] (replicate (length actions.now) 0))) (most + 1)) }
 {
     let mut walk = Walk::new(alloc, decisions, actions)?;
     let mut count = 0;

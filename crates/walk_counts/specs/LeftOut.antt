@@ -43,7 +43,7 @@ abbrev pub marked : List Bool → Option Step → List Bool
 marked kept None = kept
 marked kept (Some step) = slice_set kept step.decision true
 
--- a set is marked where it has two decisions
+-- each set that has two decisions is marked
 pub record AreShared (decisions : List Decision) (sets : ℕ) (shared : List Bool) : Type 0 where
   pub one_for_each : length shared ≡ sets
   pub alone : (j k : ℕ) (d e : Decision) → slice_get decisions j ≡ Some d → slice_get decisions k ≡ Some e → slice_index_or shared d.place false ≡ false → d.place ≡ e.place → j ≡ k

@@ -2,8 +2,13 @@ use Rattle.std.proofs.Common.{◌+◌, length, ap, ◌∙◌, arith}
 use Rattle.decision_walk.proofs.Turns.{left, end_there, IsTurn-made, walks_counted}
 use Rattle.decision_walk.proofs.walk.count_ends.Goals as goal
 
-pub returns-then-count-most : goal.returns-then-count-most
-returns-then-count-most c =
+pub returns-then-count-most-clause-lists : goal.returns-then-count-most-clause-lists
+returns-then-count-most-clause-lists c =
+    let seen = ap (left c.loop-from.walk) c.in-Some.is ∙ end_there c.loop-from.walk c.forward.new.self c.in-Some.number c.in_ok-forward.ensures in
+    walks_counted c.args.decisions.now c.args.actions.now (c.loop-from.count + 1) (c.args.most + 1) c.requires.linked (omega (arith, ap length seen))
+
+pub returns-then-count-most-clause-ends : goal.returns-then-count-most-clause-ends
+returns-then-count-most-clause-ends c =
     let seen = ap (left c.loop-from.walk) c.in-Some.is ∙ end_there c.loop-from.walk c.forward.new.self c.in-Some.number c.in_ok-forward.ensures in
     omega (arith, ap length seen)
 
@@ -19,7 +24,12 @@ loop-from-preserved c =
     let seen = ap (left c.loop-from.walk) c.in-Some.is ∙ turn.ends in
     record { at = turn.next_at; ends = omega (arith, ap length seen); few = c.if-count-most.false }
 
-pub returns : goal.returns
-returns c =
+pub returns-clause-lists : goal.returns-clause-lists
+returns-clause-lists c =
+    let none = ap (left c.loop-from.walk) c.in_default.is in
+    walks_counted c.args.decisions.now c.args.actions.now c.loop-from.count (c.args.most + 1) c.requires.linked (omega (arith, ap length none))
+
+pub returns-clause-ends : goal.returns-clause-ends
+returns-clause-ends c =
     let none = ap (left c.loop-from.walk) c.in_default.is in
     omega (arith, ap length none)

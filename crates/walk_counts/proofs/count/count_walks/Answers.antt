@@ -11,8 +11,7 @@ returns-then-not-contains c =
     IfOk-weaker c.count_apart.result _ _ (λ count h. walks_counted c.args.decisions.now c.args.actions.now count (c.args.most + 1) c.requires.linked h) c.count_apart.ensures
 
 pub returns-then-decisions : goal.returns-then-decisions
-returns-then-decisions c =
-    IfOk-weaker c.count_ends.result _ _ (λ count h. walks_counted c.args.decisions.now c.args.actions.now count (c.args.most + 1) c.requires.linked h) c.count_ends.ensures
+returns-then-decisions c = c.count_ends.ensures.lists
 
 pub count_apart-requires-clause-apart : goal.count_apart-requires-clause-apart
 count_apart-requires-clause-apart c = AreApart-shared c.args.decisions.now (length c.args.actions.now) c.in_ok-shared.shared.items c.in_ok-shared.ensures (λ h.
@@ -22,4 +21,4 @@ count_apart-requires-clause-apart c = AreApart-shared c.args.decisions.now (leng
 
 pub returns : goal.returns
 returns c =
-    IfOk-weaker c.count_ends-else-decisions.result _ _ (λ count h. walks_counted c.args.decisions.now c.args.actions.now count (c.args.most + 1) c.requires.linked (h ∙ ap (λ v. min (length (all_ends v c.args.actions.now)) (c.args.most + 1)) c.deref-else-decisions-2.ensures.value ∙ ap (λ v. min v (c.args.most + 1)) c.in_ok-kept.ensures.as_many)) c.count_ends-else-decisions.ensures
+    IfOk-weaker c.count_ends-else-decisions.result _ _ (λ count h. walks_counted c.args.decisions.now c.args.actions.now count (c.args.most + 1) c.requires.linked (h ∙ ap (λ v. min (length (all_ends v c.args.actions.now)) (c.args.most + 1)) c.deref-else-decisions-2.ensures.value ∙ ap (λ v. min v (c.args.most + 1)) c.in_ok-kept.ensures.as_many)) c.count_ends-else-decisions.ensures.ends
