@@ -1,11 +1,14 @@
 -- How reading a file ends.
 use Rattle.std.proofs.Common.{◌≡◌, ℕ, suc, ◌+◌, ◌<◌, ◌≤◌, ◌^◌, inl, inr, List, [], ◌∷◌, ◌++◌, length, map, codes, Some, Result, Ok, Err, refl, sym, ap, ◌∙◌, subst, length-append, arith}
 use Rattle.std.proofs.lemmas.List.{length-map}
-use Rattle.std.specs.Prelude.{IfOk}
+use Rattle.std.specs.Prelude.{IfOk, IfErr}
 use Rattle.std.specs.List.{AllByRecursion}
+use Rattle.answers.specs.Answers.{Gives, IsSingleAs}
+use Rattle.game_core.specs.declared.too_large.TooLarge.{TooLarge}
 use Rattle.game_core.specs.declared.too_large.What.{What}
 use Rattle.game_core.specs.declared.too_large.What.TheVariants as what
 use Rattle.game_core.specs.Tree.{GameTree, IsTree}
+use Rattle.game_text.specs.TokenList.{TokenList, bare}
 use Rattle.game_text.specs.declared.token.Spanned.{Spanned}
 use Rattle.game_text.specs.declared.token.Token.{Token}
 use Rattle.game_text.specs.declared.token.Token.TheVariants.{Text, Right}
@@ -20,13 +23,14 @@ use Rattle.file_parts.proofs.TokenLaws.{names_is}
 use Rattle.written_trees.specs.Building.{Begun, tree_begun}
 use Rattle.tree_uses.specs.declared.fault.EfgKind.{EfgKind}
 use Rattle.efg_reader.specs.declared.fault.EfgStop.{EfgStop}
+use Rattle.efg_reader.specs.declared.fault.EfgStop.TheVariants as stops
 use Rattle.efg_reader.specs.declared.nodes.Stop.{Stop}
 use Rattle.efg_reader.specs.declared.nodes.Stop.TheVariants.{Refused, Passed}
 use Rattle.efg_reader.specs.States.{RefusesNodes}
-use Rattle.efg_reader.specs.Stops.{IsStop, IsStopOf, IsNodesStopOf}
+use Rattle.efg_reader.specs.Stops.{IsPassed, IsStopOf, IsNodesStopOf, tree_in, but_for_fault}
 use Rattle.tree_files.specs.TreeFile.{IsTreeFile, PassesLimit}
 use Rattle.tree_files.specs.TreeReading.{Head, front_at, whole_nodes_at}
-use Rattle.tree_files.proofs.FileLaws.{read_is_file, met_is_passed, no_front_is_nothing, no_nodes_are_nothing}
+use Rattle.tree_files.proofs.FileLaws.{read_is_file, met_is_passed, no_front_is_nothing, no_nodes_are_nothing, one_tree, not_passed, one_limit}
 
 -- ---- the tokens
 -- numbers of tokens in place are short
@@ -50,32 +54,26 @@ few_names tokens x e =
 
 -- ---- stops
 -- a stop for a front that is not read
-pub front_stop : (tokens : List Token) (source_length : ℕ) (refusal : Refusal EfgKind) (stop : EfgStop) → Refuses refusal (front_at tokens) → IsStopOf refusal source_length stop → IsStop tokens source_length stop
-front_stop tokens source_length (refusals.Unfit kind left) stop h s =
-    let none = no_front_is_nothing tokens h in
-    subst (IsStop tokens source_length) (sym s.1) (s.2, none.no_tree, none.no_limit)
-front_stop tokens source_length refusals.Memory stop h s = subst (IsStop tokens source_length) (sym s) tt
+pub front_stop : (tokens : TokenList) (refusal : Refusal EfgKind) (stop : EfgStop) → Refuses refusal (front_at (bare tokens)) → IsStopOf refusal tokens.length stop → Gives stops.Memory (tree_in tokens) (Err stop)
+front_stop tokens (refusals.Unfit kind left) stop h s =
+    let none = no_front_is_nothing (bare tokens) h in
+    subst (λ x. Gives stops.Memory (tree_in tokens) (Err x)) (sym s.1) (inr (s.2, none.no_tree, none.no_limit))
+front_stop tokens refusals.Memory stop h s = inl s
 
 -- the limit that is passed
-passed_stop : (tokens : List Token) (source_length : ℕ) (passed : What) (stop : EfgStop) → PassesLimit tokens passed → IsNodesStopOf (Passed passed) source_length stop → IsStop tokens source_length stop
-passed_stop tokens source_length what.Nodes stop p s = subst (IsStop tokens source_length) (sym s) (inl (refl, p))
-passed_stop tokens source_length what.Depth stop p s = subst (IsStop tokens source_length) (sym s) (inr (refl, p))
-passed_stop tokens source_length what.Payoffs stop p s = absurd p.passes
-passed_stop tokens source_length what.Choices stop p s = absurd p.passes
-passed_stop tokens source_length what.Labels stop p s = absurd p.passes
-passed_stop tokens source_length what.Bases stop p s = absurd p.passes
-passed_stop tokens source_length what.Pairs stop p s = absurd p.passes
-passed_stop tokens source_length what.Rows stop p s = absurd p.passes
-passed_stop tokens source_length what.Text stop p s = absurd p.passes
+passed_stop : (tokens : TokenList) (passed : What) (stop : EfgStop) → PassesLimit (bare tokens) passed → IsNodesStopOf (Passed passed) tokens.length stop → Gives stops.Memory (tree_in tokens) (Err stop)
+passed_stop tokens what.Nodes stop p s = subst (λ x. Gives stops.Memory (tree_in tokens) (Err x)) (sym s) (inr (inl (refl, p)))
+passed_stop tokens what.Depth stop p s = subst (λ x. Gives stops.Memory (tree_in tokens) (Err x)) (sym s) (inr (inr (refl, p)))
+passed_stop tokens _ stop p s = absurd p.passes
 
 -- a stop for nodes that are not read
-pub nodes_stop : (tokens : List Token) (x : Head × List Token) (source_length : ℕ) (stopped : Stop) (stop : EfgStop) → AllByRecursion IsShortToken tokens → length x.0.1 < 2 ^ 32 → front_at tokens ≡ Some x
-    → RefusesNodes stopped (whole_nodes_at (length x.0.1) x.1) → IsNodesStopOf stopped source_length stop → IsStop tokens source_length stop
-nodes_stop tokens x source_length (Refused (refusals.Unfit kind left)) stop short few e h s =
-    let none = no_nodes_are_nothing tokens x short e h in
-    subst (IsStop tokens source_length) (sym s.1) (s.2, none.no_tree, none.no_limit)
-nodes_stop tokens x source_length (Refused refusals.Memory) stop short few e h s = subst (IsStop tokens source_length) (sym s) tt
-nodes_stop tokens x source_length (Passed passed) stop short few e h s = passed_stop tokens source_length passed stop (met_is_passed tokens x passed few e h) s
+pub nodes_stop : (tokens : TokenList) (x : Head × List Token) (stopped : Stop) (stop : EfgStop) → AllByRecursion IsShortToken (bare tokens) → length x.0.1 < 2 ^ 32 → front_at (bare tokens) ≡ Some x
+    → RefusesNodes stopped (whole_nodes_at (length x.0.1) x.1) → IsNodesStopOf stopped tokens.length stop → Gives stops.Memory (tree_in tokens) (Err stop)
+nodes_stop tokens x (Refused (refusals.Unfit kind left)) stop short few e h s =
+    let none = no_nodes_are_nothing (bare tokens) x short e h in
+    subst (λ x. Gives stops.Memory (tree_in tokens) (Err x)) (sym s.1) (inr (s.2, none.no_tree, none.no_limit))
+nodes_stop tokens x (Refused refusals.Memory) stop short few e h s = inl s
+nodes_stop tokens x (Passed passed) stop short few e h s = passed_stop tokens passed stop (met_is_passed (bare tokens) x passed few e h) s
 
 -- ---- the tree
 -- what is read is a tree
@@ -89,6 +87,36 @@ few_of list x few e =
     omega (arith, names, few)
 
 -- a tree that has been made is that of the file
-pub if_ok : {E : Type 0} (result : Result GameTree E) (tokens : List Token) (tree : GameTree) → IfOk result (λ t. t ≡ tree) → IsTreeFile tokens tree → IfOk result (IsTreeFile tokens)
-if_ok (Ok t) tokens tree e f = subst (IsTreeFile tokens) (sym e) f
-if_ok (Err _) tokens tree e f = tt
+pub made_tree : (result : Result GameTree EfgStop) (tokens : TokenList) (tree : GameTree) → IfOk result (λ t. t ≡ tree) → IfErr result (λ stop. stop ≡ stops.Memory) → IsTreeFile (bare tokens) tree → Gives stops.Memory (tree_in tokens) result
+made_tree (Ok t) tokens tree e m f = subst (IsTreeFile (bare tokens)) (sym e) f
+made_tree (Err stop) tokens tree e m f = inl m
+
+-- ---- one answer
+-- a limit of trees that is passed is one of these
+some_limit : (tokens : List Token) (limit : TooLarge) → IsPassed tokens limit → (what : What) × PassesLimit tokens what
+some_limit tokens limit (inl p) = (what.Nodes, p.1)
+some_limit tokens limit (inr p) = (what.Depth, p.1)
+
+-- a tree passes no limit
+no_limit : (tokens : List Token) (tree : GameTree) (limit : TooLarge) → AllByRecursion IsShortToken tokens → IsTreeFile tokens tree → IsPassed tokens limit → ⊥
+no_limit tokens tree limit short f p = let some = some_limit tokens limit p in not_passed tokens tree some.0 short f some.1
+
+-- one limit is passed at most
+passed-same : (tokens : List Token) (one other : TooLarge) → AllByRecursion IsShortToken tokens → IsPassed tokens one → IsPassed tokens other → one ≡ other
+passed-same tokens one other short (inl h) (inl k) = h.0 ∙ sym k.0
+passed-same tokens one other short (inr h) (inr k) = h.0 ∙ sym k.0
+passed-same tokens one other short (inl h) (inr k) = let same = one_limit tokens what.Nodes what.Depth short h.1 k.1 in cc
+passed-same tokens one other short (inr h) (inl k) = let same = one_limit tokens what.Nodes what.Depth short k.1 h.1 in cc
+
+pub tree_in-single : (tokens : TokenList) → AllByRecursion IsShortToken (bare tokens) → IsSingleAs but_for_fault (tree_in tokens)
+tree_in-single tokens short (Ok one) (Ok other) h k = ap Ok (one_tree (bare tokens) one other short h k)
+tree_in-single tokens short (Ok one) (Err (stops.Fault fault)) h k = absurd (k.1 one h)
+tree_in-single tokens short (Ok one) (Err (stops.TooLarge limit)) h k = absurd (no_limit (bare tokens) one limit short h k)
+tree_in-single tokens short (Err (stops.Fault fault)) (Ok other) h k = absurd (h.1 other k)
+tree_in-single tokens short (Err (stops.Fault fault)) (Err (stops.Fault next)) h k = refl
+tree_in-single tokens short (Err (stops.Fault fault)) (Err (stops.TooLarge limit)) h k = (let some = some_limit (bare tokens) limit k in absurd (h.2 some.0 some.1))
+tree_in-single tokens short (Err (stops.TooLarge limit)) (Ok other) h k = absurd (no_limit (bare tokens) other limit short k h)
+tree_in-single tokens short (Err (stops.TooLarge limit)) (Err (stops.Fault fault)) h k = (let some = some_limit (bare tokens) limit h in absurd (k.2 some.0 some.1))
+tree_in-single tokens short (Err (stops.TooLarge limit)) (Err (stops.TooLarge next)) h k = ap (λ limit. Err (stops.TooLarge limit)) (passed-same (bare tokens) limit next short h k)
+tree_in-single tokens short (Err stops.Memory) other h k = absurd h
+tree_in-single tokens short one (Err stops.Memory) h k = absurd k

@@ -1,15 +1,18 @@
--- Why reading a tree stops.
-use Rattle.std.specs.Prelude.{ℕ, ◌≤◌, ◌≡◌, ◌⊎◌, List}
+-- What the tokens of a tree answer: the tree, or why it is not read.
+use Rattle.std.specs.Prelude.{ℕ, ◌≤◌, ◌≡◌, ◌⊎◌, List, Ok, Err}
+use Rattle.answers.specs.Answers.{Answer}
 use Rattle.game_core.specs.Tree.{GameTree}
 use Rattle.game_core.specs.declared.too_large.TooLarge.{TooLarge}
 use Rattle.game_core.specs.declared.too_large.What.{What}
 use Rattle.game_core.specs.declared.too_large.What.TheVariants.{Nodes, Depth}
+use Rattle.game_text.specs.TokenList.{TokenList, bare}
 use Rattle.game_text.specs.declared.token.Token.{Token}
 use Rattle.tree_files.specs.TreeFile.{IsTreeFile, PassesLimit}
 use Rattle.file_parts.specs.declared.refusal.Refusal.{Refusal}
 use Rattle.file_parts.specs.declared.refusal.Refusal.TheVariants as refusals
 use Rattle.efg_reader.specs.declared.fault.EfgFault.{EfgFault}
 use Rattle.tree_uses.specs.declared.fault.EfgKind.{EfgKind}
+use Rattle.tree_uses.specs.declared.fault.EfgKind.TheVariants.{Header}
 use Rattle.efg_reader.specs.declared.fault.EfgStop.{EfgStop}
 use Rattle.efg_reader.specs.declared.nodes.Stop.{Stop}
 use Rattle.efg_reader.specs.declared.nodes.Stop.TheVariants.{Refused, Passed}
@@ -26,13 +29,19 @@ too_deep = record { what = Depth; count = 1025; limit = 1024 }
 abbrev pub IsPassed : List Token → TooLarge → Type 0
 IsPassed tokens limit = ((limit ≡ too_many_nodes) × PassesLimit tokens Nodes) ⊎ ((limit ≡ too_deep) × PassesLimit tokens Depth)
 
--- A fault comes exactly where the tokens are no file of a tree and pass no limit, and its place lies in the source; a limit comes
--- exactly where it is passed.
-abbrev pub IsStop : List Token → ℕ → EfgStop → Type 0
-IsStop tokens source_length (stops.Fault fault) =
-    (fault.at ≤ source_length) × ((tree : GameTree) → IsTreeFile tokens tree → ⊥) × ((what : What) → PassesLimit tokens what → ⊥)
-IsStop tokens source_length (stops.TooLarge limit) = IsPassed tokens limit
-IsStop tokens source_length stops.Memory = Unit {0}
+-- The tree of a file, within the limits of trees. A fault comes where the tokens are no file of a tree and pass no limit, and its
+-- place lies in the source; a limit comes where it is passed.
+abbrev pub tree_in : TokenList → Answer EfgStop GameTree
+tree_in tokens (Ok tree) = IsTreeFile (bare tokens) tree
+tree_in tokens (Err (stops.Fault fault)) =
+    (fault.at ≤ tokens.length) × ((tree : GameTree) → IsTreeFile (bare tokens) tree → ⊥) × ((what : What) → PassesLimit (bare tokens) what → ⊥)
+tree_in tokens (Err (stops.TooLarge limit)) = IsPassed (bare tokens) limit
+tree_in tokens (Err stops.Memory) = ⊥
+
+-- a stop without the kind and the place of a fault
+abbrev pub but_for_fault : EfgStop → EfgStop
+but_for_fault (stops.Fault fault) = stops.Fault (record { at = 0; kind = Header })
+but_for_fault stop = stop
 
 -- the stop that a refusal of a part becomes
 abbrev pub IsStopOf : Refusal EfgKind → ℕ → EfgStop → Type 0

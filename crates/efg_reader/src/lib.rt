@@ -8,7 +8,7 @@ mod nodes;
 mod reading;
 
 pub use fault::{EfgFault, EfgStop};
-pub use reading::read;
+pub use reading::{read, trees_are_single};
 pub use tree_files::files_have_one_tree;
 pub use tree_uses::EfgKind;
 

@@ -1,16 +1,16 @@
 // Reads a tree from the tokens of a file.
-ghost use Rattle.std.specs.Prelude.{◌≡◌, ◌≤◌, ◌<◌, ◌^◌, List, length, map, IfOk, IfErr};
-ghost use Rattle.efg_reader.specs.declared.fault.EfgStop.TheVariants.{Memory};
+ghost use Rattle.std.specs.Prelude.{◌≡◌, ◌<◌, ◌^◌, length, map, IfOk, IfErr};
+ghost use Rattle.answers.specs.Answers.{Gives, IsSingleAs};
+ghost use Rattle.game_core.specs.Tree.{IsTree};
 ghost use Rattle.std.specs.List.{AllByRecursion};
-ghost use Rattle.game_core.specs.Tree.{GameTree, IsTree};
-ghost use Rattle.game_text.specs.declared.token.Token.{Token as token};
+ghost use Rattle.game_text.specs.TokenList.{TokenList, bare};
 ghost use Rattle.game_text.specs.Tokens.{IsShortToken};
 ghost use Rattle.written_trees.specs.Described.{or_empty};
 ghost use Rattle.written_trees.specs.Building.{finished_set, finished_outcome, tree_begun};
-ghost use Rattle.tree_files.specs.TreeFile.{IsTreeFile};
 ghost use Rattle.tree_uses.specs.Uses.{begun_set, begun_outcome};
 ghost use Rattle.efg_reader.specs.States.{begun_of};
-ghost use Rattle.efg_reader.specs.Stops.{IsStop, IsStopOf, IsNodesStopOf};
+ghost use Rattle.efg_reader.specs.Stops.{IsStopOf, IsNodesStopOf, tree_in, but_for_fault};
+ghost use Rattle.efg_reader.specs.declared.fault.EfgStop.TheVariants.{Memory};
 
 use crate::builder::Builder;
 use crate::fault::{EfgFault, EfgStop};
@@ -113,8 +113,7 @@ fn tree(alloc: Global, front: Front, builder: Builder) -> Result<Tree, EfgStop>
 /// Reads the tree that the tokens stand for.
 pub fn read(alloc: Global, tokens: &Tokens) -> Result<Tree, EfgStop>
     requires few { length tokens.now.list < 2 ^ 32 }
-    ensures tree { IfOk result (IsTreeFile (map (λ s. s.token) tokens.now.list)) }
-    ensures stop { IfErr result (IsStop (map (λ s. s.token) tokens.now.list) tokens.now.length) }
+    ensures { Gives Memory (tree_in tokens.now) result }
 {
     let (front, rest) = match read_front(alloc, tokens.list()) {
         Ok(read) => read,
@@ -125,3 +124,8 @@ pub fn read(alloc: Global, tokens: &Tokens) -> Result<Tree, EfgStop>
         Err(stopped) => Err(nodes_stop(stopped, tokens)),
     }
 }
+
+/// Tokens whose numbers are below 2^63 in size have one answer at most, but for the kind and the place of a fault.
+pub fn trees_are_single()
+    ensures { (tokens : TokenList) → AllByRecursion IsShortToken (bare tokens) → IsSingleAs but_for_fault (tree_in tokens) }
+{}

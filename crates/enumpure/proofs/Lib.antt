@@ -7,4 +7,5 @@ pub mod ProfileParts
 pub mod Ranks
 pub mod Strides
 pub mod Striking
+pub mod Texts
 pub mod Totals

@@ -1,5 +1,5 @@
 -- The text of `gambit enumpure`.
-use Rattle.std.specs.Prelude.{ℕ, ◌<◌, ◌≡◌, List, length}
+use Rattle.std.specs.Prelude.{ℕ, ◌≡◌, List}
 use Rattle.rational.specs.Rational.{ℚ}
 use Rattle.game_theory.specs.Profiles.{Game}
 use Rattle.game_theory.specs.Lines.{ArePureEquilibria, lines_text}
@@ -13,9 +13,3 @@ pub record IsPureEquilibriaText (game : Game) (text : List ℕ) : Type 0 where
 -- the most bytes that a text may have
 abbrev pub most_text : ℕ
 most_text = 67108864
-
--- the game's text is longer than a text may be
-pub record IsTextTooLong (game : Game) : Type 0 where
-  pub text : List ℕ
-  pub is_text : IsPureEquilibriaText game text
-  pub is_long : most_text < length text

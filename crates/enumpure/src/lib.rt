@@ -8,7 +8,7 @@ mod lengths;
 mod listing;
 mod replies;
 
-pub use listing::{ListStop, list_pure_equilibria, pure_equilibria_have_one_text};
+pub use listing::{ListStop, list_pure_equilibria, pure_texts_are_single};
 pub use replies::stable_profiles;
 
 #[cfg(test)]

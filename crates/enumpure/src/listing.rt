@@ -1,12 +1,13 @@
 // The text of the pure equilibria of a table.
-ghost use Rattle.std.specs.Prelude.{◌≡◌, ◌<◌, ◌≤◌, ◌^◌, ◌++◌, ℕ, List, length, IfOk, IfErr, OnOk};
+ghost use Rattle.std.specs.Prelude.{◌≡◌, ◌<◌, ◌≤◌, ◌^◌, ◌++◌, length, IfOk, OnOk};
+ghost use Rattle.answers.specs.Answers.{Gives, IsSingle, map_ok};
 ghost use Rattle.game_theory.specs.Profiles.{Game, IsProfile, profile_count, number_of};
 ghost use Rattle.game_theory.specs.Mixed.{sure, pure};
 ghost use Rattle.game_theory.specs.Lines.{listed, entries as entries_of, lines_text};
 ghost use Rattle.game_core.specs.Table.{game_of};
 ghost use Rattle.enumpure.specs.Ranks.{ranked, lines_below};
-ghost use Rattle.enumpure.specs.Stops.{IsStop};
-ghost use Rattle.enumpure.specs.Text.{IsPureEquilibriaText, most_text};
+ghost use Rattle.enumpure.specs.Stops.{pure_text};
+ghost use Rattle.enumpure.specs.declared.listing.ListStop.TheVariants as stops;
 
 use crate::lengths::text_length;
 use crate::replies::{stable_profiles, strategy_counts};
@@ -144,9 +145,7 @@ fn write_lines(
 /// `TooLarge` exactly where the lines have more than 67,108,864 bytes, which are counted before any line is
 /// written; `Memory` where memory ran out.
 pub fn list_pure_equilibria(alloc: Global, table: &Table) -> Result<Vec<u8>, ListStop>
-    ensures text { IfOk result (λ text. IsPureEquilibriaText (game_of table.now) text.items) }
-    ensures within_limit { IfOk result (λ text. length text.items ≤ most_text) }
-    ensures stop { IfErr result (IsStop (game_of table.now)) }
+    ensures { Gives stops.Memory (pure_text (game_of table.now)) (map_ok result (λ text. text.items)) }
 {
     let counts = strategy_counts(alloc, table)?;
     let stable = stable_profiles(alloc, table)?;
@@ -161,7 +160,7 @@ pub fn list_pure_equilibria(alloc: Global, table: &Table) -> Result<Vec<u8>, Lis
     Ok(write_lines(alloc, &counts, &stable, bytes)?)
 }
 
-/// A game has one such text.
-pub fn pure_equilibria_have_one_text()
-    ensures { (game : Game) (one other : List ℕ) → IsPureEquilibriaText game one → IsPureEquilibriaText game other → one ≡ other }
+/// A game has one such text, or one that is too long.
+pub fn pure_texts_are_single()
+    ensures { (game : Game) → IsSingle (pure_text game) }
 {}

@@ -7,4 +7,4 @@
 mod listing;
 mod orders;
 
-pub use listing::list_pure_behaviours;
+pub use listing::{behaviour_texts_are_single, list_pure_behaviours};

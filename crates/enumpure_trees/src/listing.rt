@@ -1,16 +1,17 @@
 // The text of the pure equilibria of a tree.
-ghost use Rattle.std.specs.Prelude.{◌≡◌, ◌<◌, ◌≤◌, ◌^◌, ◌++◌, ℕ, List, length, map, IfOk, IfErr, OnOk, replicate};
+ghost use Rattle.std.specs.Prelude.{◌≡◌, ◌<◌, ◌≤◌, ◌^◌, ◌++◌, ℕ, List, length, map, IfOk, OnOk, replicate};
+ghost use Rattle.answers.specs.Answers.{Gives, IsSingle, map_ok};
 ghost use Rattle.game_theory.specs.Profiles.{IsProfile, profile_count, number_of};
 ghost use Rattle.game_theory.specs.Lines.{line_text, lines_text};
-ghost use Rattle.game_trees.specs.Trees.{IsTree};
+ghost use Rattle.game_trees.specs.Trees.{IsTree, Tree as game_tree};
 ghost use Rattle.game_core.specs.TreeGame.{game_of_tree};
 ghost use Rattle.reduced_form.specs.ReducedForm.{IsReducedForm};
 ghost use Rattle.tree_lines.specs.Orders.{AreOrders, ordered};
 ghost use Rattle.tree_lines.specs.Ranks.{ranked, lines_below};
-ghost use Rattle.tree_lines.specs.TreeEquilibria.{profile_line, IsTreeEquilibriaText};
+ghost use Rattle.tree_lines.specs.TreeEquilibria.{profile_line};
 ghost use Rattle.enumpure.specs.Replies.{flag};
-ghost use Rattle.enumpure.specs.Text.{most_text};
-ghost use Rattle.enumpure_trees.specs.Stops.{IsTreeListStop};
+ghost use Rattle.enumpure.specs.declared.listing.ListStop.TheVariants as stops;
+ghost use Rattle.enumpure_trees.specs.Stops.{behaviour_text};
 
 use crate::orders::orders_of_all;
 use behaviour_profile::Behaviour;
@@ -154,9 +155,7 @@ pub fn list_pure_behaviours(
     reduced: &Reduced,
 ) -> Result<Vec<u8>, ListStop>
     requires form { IsReducedForm tree.now reduced.now }
-    ensures text { IfOk result (λ text. IsTreeEquilibriaText (game_of_tree tree.now) reduced.now.choices text.items) }
-    ensures within_limit { IfOk result (λ text. length text.items ≤ most_text) }
-    ensures stop { IfErr result (IsTreeListStop (game_of_tree tree.now) reduced.now.choices) }
+    ensures { Gives stops.Memory (behaviour_text (game_of_tree tree.now) reduced.now.choices) (map_ok result (λ text. text.items)) }
 {
     trees_are_game_trees();
     let stable = stable_profiles(alloc, reduced.table())?;
@@ -179,3 +178,8 @@ pub fn list_pure_behaviours(
     };
     Ok(write_lines(alloc, &lines, &mut profile, count * each)?)
 }
+
+/// A tree has one such text, or one that is too long.
+pub fn behaviour_texts_are_single()
+    ensures { (t : game_tree) (strategies : List (List (List ℕ))) → IsSingle (behaviour_text t strategies) }
+{}

@@ -1,13 +1,6 @@
-pub mod Accepted
-pub mod Alike
-pub mod Causes
-pub mod Exact
-pub mod Formats
-pub mod Forms
-pub mod OneKind
-pub mod Outcomes
-pub mod Reading
+pub mod Computing
+pub mod Contents
+pub mod Running
+pub mod Singles
 pub mod Taking
-pub mod Texts
-pub mod Tokens
 pub mod Trees

@@ -1,8 +1,8 @@
 -- The input that is read, and how reading it is refused.
-use Rattle.std.specs.Prelude.{ℕ, ◌<◌, ◌≡◌, List, length, Option, None, Some, IfSome}
+use Rattle.std.specs.Prelude.{ℕ, ◌+◌, ◌<◌, ◌≡◌, List, length, Option, None, Some}
+use Rattle.std.specs.Io.KnownBytes.{Consumes, IsAtEnd}
 use Rattle.outside.specs.Counts.{Rose}
-use Rattle.outside.specs.Inputs.{InputName}
-use Rattle.gambit_tools.specs.Seen.{InputsSeen}
+use Rattle.outside.specs.Inputs.{InputName, InputsSeen}
 use Rattle.gambit_tools.specs.declared.refusal.Refusal.{Refusal}
 use Rattle.gambit_tools.specs.declared.refusal.Refusal.TheVariants as refusal
 
@@ -15,35 +15,49 @@ abbrev pub AreBytesOf : Option (List ℕ) → List ℕ → Type 0
 AreBytesOf None bytes = Unit {0}
 AreBytesOf (Some known) bytes = known ≡ bytes
 
--- the input could not be opened: the count of such faults rose, and the input is the failed one
+-- the input was read to its end
+pub record IsReadToEnd (name : InputName) (after : InputsSeen) : Type 0 where
+  pub selected : after.selected ≡ Some name
+  pub at_end : IsAtEnd after.left
+
+-- one byte more than an input may have was read, and no further one
+pub record IsReadTooFar (name : InputName) (before after : InputsSeen) : Type 0 where
+  pub selected : after.selected ≡ Some name
+  pub taken : List ℕ
+  pub count : length taken ≡ most_bytes + 1
+  pub are_first : Consumes (before.held name) after.left taken
+
+-- the input could not be opened: the count of such faults rose, the input is the failed one, and none is selected
 pub record IsOpenFault (name : InputName) (before after : InputsSeen) : Type 0 where
   pub rose : Rose before.open_faults after.open_faults
   pub failed : after.failed ≡ Some name
+  pub none_selected : after.selected ≡ None
 
--- the input could not be read: the count of such faults rose, and the input is the failed one
+-- the input could not be read: the count of such faults rose, the input is the failed one, and none is selected
 pub record IsReadFault (name : InputName) (before after : InputsSeen) : Type 0 where
   pub rose : Rose before.read_faults after.read_faults
   pub failed : after.failed ≡ Some name
+  pub none_selected : after.selected ≡ None
 
 -- why reading an input to its end is refused
 abbrev pub IsInputRefusal : InputName → InputsSeen → InputsSeen → Refusal → Type 0
 IsInputRefusal name before after refusal.OpenFault = IsOpenFault name before after
 IsInputRefusal name before after refusal.ReadFault = IsReadFault name before after
-IsInputRefusal name before after refusal.TooLong = IfSome (before.held name) (λ bytes. most_bytes < length bytes)
-IsInputRefusal name before after refusal.Memory = Unit {0}
+IsInputRefusal name before after refusal.TooLong = IsReadTooFar name before after
+IsInputRefusal name before after refusal.Memory = after.selected ≡ Some name
 IsInputRefusal name before after _ = ⊥
 
--- Why reading a piece of the selected input is refused: by the input that was selected and the one that failed, and by the
--- count of failed reads before and after.
-abbrev pub IsPieceRefusal : Option InputName → Option InputName → ℕ → ℕ → Refusal → Type 0
-IsPieceRefusal selected failed before now refusal.ReadFault = Rose before now × (failed ≡ selected)
-IsPieceRefusal selected failed before now refusal.Memory = now ≡ before
-IsPieceRefusal selected failed before now _ = ⊥
+-- why reading a piece of the selected input is refused
+abbrev pub IsPieceRefusal : InputsSeen → InputsSeen → Refusal → Type 0
+IsPieceRefusal before after refusal.ReadFault = Rose before.read_faults after.read_faults × (after.failed ≡ before.selected) × (after.selected ≡ None)
+IsPieceRefusal before after refusal.Memory = (after.selected ≡ before.selected) × (after.read_faults ≡ before.read_faults)
+IsPieceRefusal before after _ = ⊥
 
--- Why reading the selected input to its end is refused: for a piece of it, or for the bytes that were left.
-abbrev pub IsReadingRefusal : Option (List ℕ) → Option InputName → Option InputName → ℕ → ℕ → Refusal → Type 0
-IsReadingRefusal left selected failed before now refusal.TooLong = IfSome left (λ bytes. most_bytes < length bytes) × (now ≡ before)
-IsReadingRefusal left selected failed before now r = IsPieceRefusal selected failed before now r
+-- why reading the selected input to its end is refused, of which these bytes were left: for a piece of it, or for their number
+abbrev pub IsReadingRefusal : Option (List ℕ) → InputsSeen → InputsSeen → Refusal → Type 0
+IsReadingRefusal left before after refusal.TooLong =
+    (after.selected ≡ before.selected) × (after.read_faults ≡ before.read_faults) × (taken : List ℕ) × (length taken ≡ most_bytes + 1) × Consumes left after.left taken
+IsReadingRefusal left before after r = IsPieceRefusal before after r
 
 -- a count rose only with its own refusal
 pub record CountsTell (before after : InputsSeen) (refused : Option Refusal) : Type 0 where

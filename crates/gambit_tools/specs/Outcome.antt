@@ -1,60 +1,122 @@
--- What a run does: what it answers and why, what it writes, and what it tells on standard error.
-use Rattle.std.specs.Prelude.{ℕ, ◌<◌, ◌≤◌, ◌≡◌, ◌⊎◌, Bool, true, List, length, take, Option, None, Some, IfSome, Ok, Err}
+-- What a run does: what it answers and why, what it reads and writes, and what it tells on standard error.
+use Rattle.std.specs.Prelude.{ℕ, ◌<◌, ◌≤◌, ◌≡◌, ◌⊎◌, true, List, [], ◌∷◌, length, take, Contains, Option, None, Some, Ok, Err, Result}
+use Rattle.std.specs.Result.{result_err}
+use Rattle.answers.specs.Answers.{map_err}
 use Rattle.outside.specs.Counts.{Rose}
-use Rattle.outside.specs.Inputs.{InputName}
-use Rattle.outside.specs.Sink.{Takes}
-use Rattle.words.specs.Words.{Command, Enumpure, command_from}
-use Rattle.gambit_tools.specs.Seen.{InputsSeen, SinkSeen}
-use Rattle.gambit_tools.specs.Input.{most_bytes, AreBytesOf, IsOpenFault, IsReadFault}
-use Rattle.gambit_tools.specs.Game.{IsTextOf, IsShortGame}
-use Rattle.gambit_tools.specs.GameRefusals.{AreRefused}
+use Rattle.outside.specs.Inputs.{InputName, InputsSeen}
+use Rattle.outside.specs.Sink.{SinkSeen, Takes}
+use Rattle.words.specs.Words.{Command, command_from}
+use Rattle.words.specs.declared.Usage.{Usage}
+use Rattle.gambit_tools.specs.Seen.{Outside, Seen, but_for_err}
+use Rattle.gambit_tools.specs.Input.{AreBytesOf, IsOpenFault, IsReadFault, IsReadToEnd, IsReadTooFar, CountsTell}
+use Rattle.gambit_tools.specs.Commands.{inputs_of, answer_of}
+use Rattle.gambit_tools.specs.Origins.{Origin, Words, Outside as OfOutside, Length, Contents, Memory, Fault, Opening, Reading, Writing, origin, forget}
 use Rattle.gambit_tools.specs.Refusals.{run_status, refusal_line}
 use Rattle.gambit_tools.specs.declared.refusal.Refusal.{Refusal}
 use Rattle.gambit_tools.specs.declared.refusal.Refusal.TheVariants as refusal
 
--- the input that a command names
-abbrev pub input_of : Command → InputName
-input_of (Enumpure strategic file) = file
+-- what a run answers: the text, or why it is refused
+abbrev pub RunAnswer : Type 0
+RunAnswer = Result (List ℕ) Refusal
 
--- whether a command lists a tree's equilibria by strategies
-abbrev pub strategic_of : Command → Bool
-strategic_of (Enumpure strategic file) = strategic
+-- ---- contents
+-- the contents are those of the inputs with these names, where they are known
+abbrev pub AreContents : (InputName → Option (List ℕ)) → List InputName → List (List ℕ) → Type 0
+AreContents held [] [] = Unit {0}
+AreContents held (name ∷ names) (bytes ∷ contents) = AreBytesOf (held name) bytes × AreContents held names contents
+AreContents held _ _ = ⊥
 
--- the text for an input, whose bytes may be known
-pub record IsTextFor (strategic : Bool) (known : Option (List ℕ)) (text : List ℕ) : Type 0 where
-  pub bytes : List ℕ
-  pub are_bytes : AreBytesOf known bytes
-  pub is_text_of : IsTextOf strategic bytes text
+-- the contents are those that the inputs with these names tell
+abbrev pub AreToldContents : (InputName → Option (List ℕ)) → List InputName → List (List ℕ) → Type 0
+AreToldContents held [] [] = Unit {0}
+AreToldContents held (name ∷ names) (bytes ∷ contents) = (held name ≡ Some bytes) × AreToldContents held names contents
+AreToldContents held _ _ = ⊥
 
--- the text of a command
-abbrev pub IsTextWith : Command → InputsSeen → List ℕ → Type 0
-IsTextWith command before text = IsTextFor (strategic_of command) (before.held (input_of command)) text
+-- the contents of a command's inputs have this answer
+pub record HasAnswer (command : Command) (before : InputsSeen) (answer : RunAnswer) : Type 0 where
+  pub contents : List (List ℕ)
+  pub are_contents : AreContents before.held (inputs_of command) contents
+  pub is_answer : answer_of command contents answer
 
--- Why a run with this command is refused: by the outside, or by the bytes of its input. Want of memory has no cause.
-abbrev pub HasCauseWith : Command → InputsSeen → InputsSeen → SinkSeen → SinkSeen → Refusal → Type 0
-HasCauseWith command before after out_before out_after refusal.OpenFault = IsOpenFault (input_of command) before after
-HasCauseWith command before after out_before out_after refusal.ReadFault = IsReadFault (input_of command) before after
-HasCauseWith command before after out_before out_after refusal.WriteFault = Rose out_before.faults out_after.faults
-HasCauseWith command before after out_before out_after refusal.Memory = Unit {0}
-HasCauseWith command before after out_before out_after r = IfSome (before.held (input_of command)) (λ bytes. AreRefused (strategic_of command) bytes r)
+-- ---- what is read
+-- each of the inputs with these names was read to its end, in this order
+abbrev pub AreRead : List InputName → InputsSeen → InputsSeen → Type 0
+AreRead [] before after = after ≡ before
+AreRead (name ∷ []) before after = IsReadToEnd name after
+AreRead (name ∷ other ∷ names) before after = AreRead (other ∷ names) before after
 
--- Why a run is refused: for its words, or with the command that its words give.
-abbrev pub HasCause : List (List ℕ) → InputsSeen → InputsSeen → SinkSeen → SinkSeen → Refusal → Type 0
-HasCause words before after out_before out_after (refusal.Usage u) = command_from words ≡ Err u
-HasCause words before after out_before out_after r =
-    (command : Command) × (command_from words ≡ Ok command) × HasCauseWith command before after out_before out_after r
+-- what was read of inputs with these names before a refusal with this origin
+abbrev pub HasReadBefore : List InputName → InputsSeen → InputsSeen → Origin → Type 0
+HasReadBefore names before after (Words usage) = after ≡ before
+HasReadBefore names before after (OfOutside Writing) = AreRead names before after
+HasReadBefore names before after (OfOutside _) = after.selected ≡ None
+HasReadBefore names before after Length = (name : InputName) × Contains names name × IsReadTooFar name before after
+HasReadBefore names before after Contents = AreRead names before after
+HasReadBefore names before after Memory = (after ≡ before) ⊎ ((name : InputName) × Contains names name × (after.selected ≡ Some name))
 
--- What the sink for the text took: the whole text, flushed, where nothing is refused; a front of it before a write
--- fault; nothing before any other refusal.
-abbrev pub Writes : List (List ℕ) → InputsSeen → SinkSeen → SinkSeen → Option Refusal → Type 0
-Writes words before out_before out_after None =
-    (command : Command) × (command_from words ≡ Ok command) × (text : List ℕ) × IsTextWith command before text
-    × Takes out_before.taken out_after.taken text × (out_after.flushed ≡ true)
-Writes words before out_before out_after (Some refusal.WriteFault) =
-    (command : Command) × (command_from words ≡ Ok command) × (text : List ℕ) × IsTextWith command before text
-    × (count : ℕ) × Takes out_before.taken out_after.taken (take count text)
-Writes words before out_before out_after (Some _) = out_after.taken ≡ out_before.taken
+-- what a run has read: all inputs with these names, or what it had to before a refusal, and no other input
+abbrev pub HasRead : List InputName → InputsSeen → InputsSeen → RunAnswer → Type 0
+HasRead names before after (Ok text) = AreRead names before after
+HasRead names before after (Err r) = HasReadBefore names before after (origin r)
 
+-- ---- what is answered
+-- a fault of an input with one of these names, of which its count tells
+abbrev pub IsFault : List InputName → InputsSeen → InputsSeen → Fault → Type 0
+IsFault names before after Opening = (name : InputName) × Contains names name × IsOpenFault name before after
+IsFault names before after Reading = (name : InputName) × Contains names name × IsReadFault name before after
+IsFault names before after Writing = ⊥
+
+-- why a command's text is not computed, by where the refusal comes from
+abbrev pub IsRefusedIn : Command → InputsSeen → InputsSeen → Refusal → Origin → Type 0
+IsRefusedIn command before after r (Words usage) = ⊥
+IsRefusedIn command before after r (OfOutside fault) = IsFault (inputs_of command) before after fault
+IsRefusedIn command before after r Length = HasAnswer command before (Err r)
+IsRefusedIn command before after r Contents = HasAnswer command before (Err r)
+IsRefusedIn command before after r Memory = Unit {0}
+
+-- why a command answers so
+abbrev pub Answers : Command → InputsSeen → InputsSeen → RunAnswer → Type 0
+Answers command before after (Ok text) = HasAnswer command before (Ok text)
+Answers command before after (Err r) = IsRefusedIn command before after r (origin r)
+
+-- what reading a command's inputs and computing its text does
+pub record IsComputed (command : Command) (before after : InputsSeen) (answer : RunAnswer) : Type 0 where
+  pub answers : Answers command before after answer
+  pub has_read : HasRead (inputs_of command) before after answer
+  -- a count rose only with its own refusal, and no input is changed
+  pub counts : CountsTell before after (result_err answer)
+  pub inputs_stay : (name : InputName) → after.held name ≡ before.held name
+
+-- ---- what is written
+-- why a run with this command does not end well: its text is not computed, and nothing is written, or not written, and a front of it is
+abbrev pub IsStoppedIn : Command → Outside → Outside → Refusal → Origin → Type 0
+IsStoppedIn command before after r (OfOutside Writing) =
+    Rose before.out.faults after.out.faults × (text : List ℕ) × HasAnswer command before.inputs (Ok text)
+    × (count : ℕ) × Takes before.out.taken after.out.taken (take count text)
+IsStoppedIn command before after r o = IsRefusedIn command before.inputs after.inputs r o × (after.out.taken ≡ before.out.taken)
+
+-- what a run with this command writes, and why: the whole text, which is flushed, or what it has written before a refusal
+abbrev pub Ends : Command → Outside → Outside → RunAnswer → Type 0
+Ends command before after (Ok text) = HasAnswer command before.inputs (Ok text) × Takes before.out.taken after.out.taken text × (after.out.flushed ≡ true)
+Ends command before after (Err r) = IsStoppedIn command before after r (origin r)
+
+-- a run with this command
+pub record IsCommandRun (command : Command) (before after : Outside) (answer : RunAnswer) : Type 0 where
+  pub ends : Ends command before after answer
+  pub has_read : HasRead (inputs_of command) before.inputs after.inputs answer
+
+-- a run whose words are refused: it reads and writes nothing
+pub record IsUsageRun (usage : Usage) (before after : Outside) (answer : RunAnswer) : Type 0 where
+  pub is_refused : answer ≡ Err (refusal.Usage usage)
+  pub nothing_read : after.inputs ≡ before.inputs
+  pub nothing_written : after.out.taken ≡ before.out.taken
+
+-- a run whose words give this
+abbrev pub IsRunOf : Result Command Usage → Outside → Outside → RunAnswer → Type 0
+IsRunOf (Ok command) before after answer = IsCommandRun command before after answer
+IsRunOf (Err usage) before after answer = IsUsageRun usage before after answer
+
+-- ---- what is told
 -- a front of a line was taken, and all of it where the count of faults did not rise
 abbrev pub TakesLine : SinkSeen → SinkSeen → List ℕ → Type 0
 TakesLine before after line =
@@ -62,32 +124,40 @@ TakesLine before after line =
 
 -- what standard error took: nothing where nothing is refused, else the line of the refusal
 abbrev pub Tells : SinkSeen → SinkSeen → Option Refusal → Type 0
-Tells err_before err_after None = err_after.taken ≡ err_before.taken
-Tells err_before err_after (Some r) = TakesLine err_before err_after (refusal_line r)
+Tells before after None = after.taken ≡ before.taken
+Tells before after (Some r) = TakesLine before after (refusal_line r)
 
--- a run that answered with this status, because of this refusal or with none
-pub record IsOutcome (words : List (List ℕ)) (before after : InputsSeen) (out_before out_after err_before err_after : SinkSeen) (status : ℕ) (refused : Option Refusal) : Type 0 where
-  pub status_is : status ≡ run_status refused
-  pub has_cause : IfSome refused (HasCause words before after out_before out_after)
-  pub writes : Writes words before out_before out_after refused
-  pub tells : Tells err_before err_after refused
-  -- a fault that was counted is told by the status
-  pub input_faults : (before.open_faults < after.open_faults) ⊎ (before.read_faults < after.read_faults) → (status ≡ 3) ⊎ (status ≡ 5)
-  pub output_faults : out_before.faults < out_after.faults → status ≡ 4
-  -- no input is changed
-  pub inputs_stay : (name : InputName) → after.held name ≡ before.held name
-
+-- ---- runs
 -- no count of faults rose
-pub record NoFault (before after : InputsSeen) (out_before out_after : SinkSeen) : Type 0 where
-  pub opening : Rose before.open_faults after.open_faults → ⊥
-  pub reading : Rose before.read_faults after.read_faults → ⊥
-  pub writing : Rose out_before.faults out_after.faults → ⊥
+pub record NoFault (before after : Outside) : Type 0 where
+  pub opening : Rose before.inputs.open_faults after.inputs.open_faults → ⊥
+  pub reading : Rose before.inputs.read_faults after.inputs.read_faults → ⊥
+  pub writing : Rose before.out.faults after.out.faults → ⊥
 
--- the words are accepted, the bytes of the input are known, within the limit, and a file of a game, and its text is not too long
-pub record IsAccepted (words : List (List ℕ)) (before : InputsSeen) : Type 0 where
-  pub command : Command
-  pub is_command : command_from words ≡ Ok command
-  pub bytes : List ℕ
-  pub are_bytes : before.held (input_of command) ≡ Some bytes
-  pub within_limit : length bytes ≤ most_bytes
-  pub short_game : IsShortGame (strategic_of command) bytes
+-- Where the words are a command, the inputs tell their contents and no fault was counted, the contents have this answer and no
+-- other, unless memory runs out.
+abbrev pub IsExact : List (List ℕ) → Outside → Outside → RunAnswer → Type 0
+IsExact words before after answer =
+    (command : Command) → command_from words ≡ Ok command
+    → (contents : List (List ℕ)) → AreToldContents before.inputs.held (inputs_of command) contents → NoFault before after
+    → (answer ≡ Err refusal.Memory)
+    ⊎ (answer_of command contents answer × ((other : RunAnswer) → answer_of command contents other → map_err forget answer ≡ map_err forget other))
+
+-- Where then the contents are not refused, the text is written whole, unless memory runs out.
+abbrev pub IsComplete : List (List ℕ) → Outside → Outside → ℕ → Type 0
+IsComplete words before after status =
+    (command : Command) → command_from words ≡ Ok command
+    → (contents : List (List ℕ)) → AreToldContents before.inputs.held (inputs_of command) contents → NoFault before after
+    → ((r : Refusal) → ¬ (answer_of command contents (Err r))) → (status ≡ 0) ⊎ (status ≡ 5)
+
+-- a run with this answer, which is told by the status and on standard error
+pub record IsOutcome (words : List (List ℕ)) (before after : Seen) (status : ℕ) (answer : RunAnswer) : Type 0 where
+  pub status_is : status ≡ run_status (result_err answer)
+  pub is_run : IsRunOf (command_from words) (but_for_err before) (but_for_err after) answer
+  pub is_exact : IsExact words (but_for_err before) (but_for_err after) answer
+  pub tells : Tells before.err after.err (result_err answer)
+  -- a fault that was counted is told by the status
+  pub input_faults : (before.inputs.open_faults < after.inputs.open_faults) ⊎ (before.inputs.read_faults < after.inputs.read_faults) → (status ≡ 3) ⊎ (status ≡ 5)
+  pub output_faults : before.out.faults < after.out.faults → status ≡ 4
+  -- no input is changed
+  pub inputs_stay : (name : InputName) → after.inputs.held name ≡ before.inputs.held name

@@ -1,10 +1,9 @@
 // Reads an input to its end.
 ghost use Rattle.std.specs.Prelude.{◌≡◌, ◌+◌, ◌<◌, ◌≤◌, Option, None, Some, List, ℕ, [], Ok, length, vec_len, option_map, string_bytes, IfOk, IfErr, OnOk, OnErr};
 ghost use Rattle.std.specs.Result.{result_err};
-ghost use Rattle.std.specs.Io.KnownBytes.{Consumes};
+ghost use Rattle.std.specs.Io.KnownBytes.{Consumes, IsAtEnd};
 ghost use Rattle.outside.specs.Inputs.{InputName};
-ghost use Rattle.gambit_tools.specs.Seen.{inputs_seen};
-ghost use Rattle.gambit_tools.specs.Input.{most_bytes, AreBytesOf, IsInputRefusal, IsPieceRefusal, IsReadingRefusal, CountsTell};
+ghost use Rattle.gambit_tools.specs.Input.{most_bytes, AreBytesOf, IsInputRefusal, IsPieceRefusal, IsReadingRefusal, IsReadToEnd, CountsTell};
 
 use crate::refusal::Refusal;
 use outside::Inputs;
@@ -39,16 +38,19 @@ fn read_piece<I: Inputs>(
     ensures longer { IfOk result (λ count. vec_len bytes.new ≡ vec_len bytes.old + count) }
 
     // What was read so far and what is left are the input's bytes.
-    ensures so_far { OnOk result ((start : Option (List ℕ)) → Consumes start (I.left inputs.old) bytes.old.items
-        → Consumes start (I.left inputs.new) bytes.new.items) }
-    ensures at_end { result ≡ Ok 0 → (start : Option (List ℕ)) → Consumes start (I.left inputs.old) bytes.old.items
+    ensures so_far { OnOk result ((start : Option (List ℕ)) → Consumes start (I.seen inputs.old).left bytes.old.items
+        → Consumes start (I.seen inputs.new).left bytes.new.items) }
+    ensures at_end { result ≡ Ok 0 → (start : Option (List ℕ)) → Consumes start (I.seen inputs.old).left bytes.old.items
         → AreBytesOf start bytes.new.items }
+    ensures nothing_left { result ≡ Ok 0 → IsAtEnd (I.seen inputs.new).left }
 
-    ensures selected { OnOk result (I.selected inputs.new ≡ I.selected inputs.old) }
-    ensures no_fault { OnOk result (I.read_faults inputs.new ≡ I.read_faults inputs.old) }
-    ensures refused { IfErr result (IsPieceRefusal (I.selected inputs.old) (I.failed inputs.new) (I.read_faults inputs.old) (I.read_faults inputs.new)) }
-    ensures open_faults { I.open_faults inputs.new ≡ I.open_faults inputs.old }
-    ensures held { (n : InputName) → I.held inputs.new n ≡ I.held inputs.old n }
+    ensures selected { OnOk result ((I.seen inputs.new).selected ≡ (I.seen inputs.old).selected) }
+    ensures no_fault { OnOk result ((I.seen inputs.new).read_faults ≡ (I.seen inputs.old).read_faults) }
+    ensures refused { IfErr result (IsPieceRefusal
+        (I.seen inputs.old)
+        (I.seen inputs.new)) }
+    ensures open_faults { (I.seen inputs.new).open_faults ≡ (I.seen inputs.old).open_faults }
+    ensures held { (n : InputName) → (I.seen inputs.new).held n ≡ (I.seen inputs.old).held n }
 {
     let room = buffer.len().min(MOST_BYTES + 1 - bytes.len());
     let Ok(count) = inputs.read(&mut buffer[..room]) else {
@@ -62,12 +64,15 @@ fn read_piece<I: Inputs>(
 
 /// Reads the selected input to its end, or to the first byte above the limit.
 fn read_selected<I: Inputs>(alloc: Global, inputs: &mut I) -> Result<Vec<u8>, Refusal>
-    ensures bytes { IfOk result (λ bytes. AreBytesOf (I.left inputs.old) bytes.items) }
+    ensures bytes { IfOk result (λ bytes. AreBytesOf (I.seen inputs.old).left bytes.items) }
     ensures within_limit { IfOk result (λ bytes. vec_len bytes ≤ most_bytes) }
-    ensures refused { IfErr result (IsReadingRefusal (I.left inputs.old) (I.selected inputs.old) (I.failed inputs.new) (I.read_faults inputs.old) (I.read_faults inputs.new)) }
-    ensures no_fault { OnOk result (I.read_faults inputs.new ≡ I.read_faults inputs.old) }
-    ensures open_faults { I.open_faults inputs.new ≡ I.open_faults inputs.old }
-    ensures held { (n : InputName) → I.held inputs.new n ≡ I.held inputs.old n }
+    ensures read { OnOk result (((I.seen inputs.new).selected ≡ (I.seen inputs.old).selected) × IsAtEnd (I.seen inputs.new).left) }
+    ensures refused { IfErr result (IsReadingRefusal (I.seen inputs.old).left
+        (I.seen inputs.old)
+        (I.seen inputs.new)) }
+    ensures no_fault { OnOk result ((I.seen inputs.new).read_faults ≡ (I.seen inputs.old).read_faults) }
+    ensures open_faults { (I.seen inputs.new).open_faults ≡ (I.seen inputs.old).open_faults }
+    ensures held { (n : InputName) → (I.seen inputs.new).held n ≡ (I.seen inputs.old).held n }
 {
     let Ok(mut buffer) = new_buffer(alloc) else {
         return Err(Refusal::Memory);
@@ -88,15 +93,16 @@ pub fn read_input<I: Inputs>(
     inputs: &mut I,
     name: Option<String>,
 ) -> Result<Vec<u8>, Refusal>
-    ensures bytes { IfOk result (λ bytes. AreBytesOf (I.held inputs.old (option_map string_bytes name)) bytes.items) }
+    ensures bytes { IfOk result (λ bytes. AreBytesOf ((I.seen inputs.old).held (option_map string_bytes name)) bytes.items) }
     ensures within_limit { IfOk result (λ bytes. length bytes.items ≤ most_bytes) }
+    ensures read { OnOk result (IsReadToEnd (option_map string_bytes name) (I.seen inputs.new)) }
     ensures refused { IfErr result (IsInputRefusal (option_map string_bytes name)
-        (inputs_seen I.held I.failed I.open_faults I.read_faults inputs.old)
-        (inputs_seen I.held I.failed I.open_faults I.read_faults inputs.new)) }
+        (I.seen inputs.old)
+        (I.seen inputs.new)) }
     ensures counts { CountsTell
-        (inputs_seen I.held I.failed I.open_faults I.read_faults inputs.old)
-        (inputs_seen I.held I.failed I.open_faults I.read_faults inputs.new) (result_err result) }
-    ensures held { (n : InputName) → I.held inputs.new n ≡ I.held inputs.old n }
+        (I.seen inputs.old)
+        (I.seen inputs.new) (result_err result) }
+    ensures held { (n : InputName) → (I.seen inputs.new).held n ≡ (I.seen inputs.old).held n }
 {
     match inputs.select(name) {
         Ok(()) => read_selected(alloc, inputs),

@@ -1,7 +1,8 @@
 -- A byte string has one list of tokens at most, and one first fault.
-use Rattle.std.proofs.Common.{◌≡◌, ◌≢◌, ℕ, ◌+◌, ◌<◌, ◌≤◌, List, [], ◌∷◌, ◌++◌, length, drop, refl, sym, ap, subst, ◌∙◌, append_assoc, arith}
+use Rattle.std.proofs.Common.{◌≡◌, ◌≢◌, ℕ, ◌+◌, ◌<◌, ◌≤◌, List, [], ◌∷◌, ◌++◌, length, drop, Ok, Err, refl, sym, ap, subst, ◌∙◌, append_assoc, arith}
 use Rattle.std.proofs.lemmas.List.{append_cancel_right}
 use Rattle.std.specs.List.{AllByRecursion, prefix_len}
+use Rattle.answers.specs.Answers.{IsSingle}
 use Rattle.rational.specs.Rational.{ℚ}
 use Rattle.number_text.specs.Numbers.{NumberForm, IsNumber, IsTooLarge, value_of, IsWithinLimits}
 use Rattle.game_text.specs.TokenList.{TokenList, token_parts}
@@ -11,7 +12,10 @@ use Rattle.game_text.specs.declared.token.Token.TheVariants.{Left, Right, Comma,
 use Rattle.game_text.specs.declared.reading.TextKind.{TextKind}
 use Rattle.game_text.specs.declared.reading.TextKind.TheVariants.{BadChar, OpenText, BadNumber, NumberTooLarge}
 use Rattle.game_text.specs.Tokens.{BeginsWith, IsBlank, IsRun, IsTokenAt, IsFaultAt, AreTokens, AreTokensBefore, IsFirstFault}
+use Rattle.game_text.specs.declared.reading.TextFault.{TextFault}
+use Rattle.game_text.specs.declared.reading.TextStop.TheVariants as text_stop
 use Rattle.game_text.specs.Reading.{is_bare, spelled, behind_text}
+use Rattle.game_text.specs.Stops.{tokens_of}
 use Rattle.game_text.proofs.FirstBytes.{kind_at, kind_of_fault, kind_at-token, kind_at-fault, kind_no_blank}
 use Rattle.game_text.proofs.Quoted.{spelled-text}
 use Rattle.game_text.proofs.Runs.{drop-run}
@@ -217,3 +221,16 @@ one_fault bytes at place kind other h k =
     let sizes : length h.rest ≡ length k.rest = ap length rests in
     let moved : IsFaultAt h.rest other = rw rests k.is_fault in
     (omega (arith, h.is_at, k.is_at), fault_once h.rest kind other h.is_fault moved)
+
+-- ---- one answer
+equal_faults : (one other : TextFault) → (one.at ≡ other.at) × (one.kind ≡ other.kind) → one ≡ other
+equal_faults one other e = rw (e.0, e.1) refl
+
+pub tokens_of-single : (bytes : List ℕ) → IsSingle (tokens_of bytes)
+tokens_of-single bytes (Ok one) (Ok other) h k = ap Ok (one_list bytes one other h k)
+tokens_of-single bytes (Ok one) (Err (text_stop.Fault fault)) h k = absurd (no_list bytes fault.at fault.kind one k h)
+tokens_of-single bytes (Err (text_stop.Fault fault)) (Ok other) h k = absurd (no_list bytes fault.at fault.kind other h k)
+tokens_of-single bytes (Err (text_stop.Fault one)) (Err (text_stop.Fault other)) h k =
+    ap (λ fault. Err (text_stop.Fault fault)) (equal_faults one other (one_fault bytes one.at other.at one.kind other.kind h k))
+tokens_of-single bytes (Err text_stop.Memory) other h k = absurd h
+tokens_of-single bytes one (Err text_stop.Memory) h k = absurd k

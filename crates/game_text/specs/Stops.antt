@@ -1,10 +1,13 @@
--- Why reading tokens stops.
-use Rattle.std.specs.Prelude.{ℕ, List}
-use Rattle.game_text.specs.Tokens.{IsFirstFault}
+-- What the bytes of a source answer: their tokens, or the first fault.
+use Rattle.std.specs.Prelude.{ℕ, List, Ok, Err}
+use Rattle.answers.specs.Answers.{Answer}
+use Rattle.game_text.specs.TokenList.{TokenList}
+use Rattle.game_text.specs.Tokens.{AreTokens, IsFirstFault}
 use Rattle.game_text.specs.declared.reading.TextStop.{TextStop}
 use Rattle.game_text.specs.declared.reading.TextStop.TheVariants.{Fault, Memory}
 
--- at the first fault, or for want of memory
-abbrev pub IsStop : List ℕ → TextStop → Type 0
-IsStop bytes (Fault fault) = IsFirstFault bytes fault.at fault.kind
-IsStop bytes Memory = Unit {0}
+-- the tokens of the bytes, or their first fault
+abbrev pub tokens_of : List ℕ → Answer TextStop TokenList
+tokens_of bytes (Ok tokens) = AreTokens bytes tokens
+tokens_of bytes (Err (Fault fault)) = IsFirstFault bytes fault.at fault.kind
+tokens_of bytes (Err Memory) = ⊥

@@ -1,5 +1,5 @@
 -- What contracts see of the tokens of a source.
-use Rattle.std.specs.Prelude.{ℕ, zero, suc, List, [], ◌≡◌, refl}
+use Rattle.std.specs.Prelude.{ℕ, zero, suc, List, [], map, ◌≡◌, refl}
 use Rattle.std.specs.Coded.{Coded, code_by, coded×, coded_ℕ, coded_list}
 use Rattle.rational.specs.Rational.{ℚ, zero_ℚ}
 use Rattle.rational.proofs.Codes.{code_ℚ}
@@ -11,6 +11,10 @@ use Rattle.game_text.specs.declared.token.Token.TheVariants.{Left, Right, Comma,
 pub record TokenList : Type 0 where
   pub list : List Spanned
   pub length : ℕ
+
+-- the tokens without their places
+abbrev pub bare : TokenList → List Token
+bare tokens = map (λ s. s.token) tokens.list
 
 -- a token is stored as its kind, its bytes and its value
 abbrev pub token_parts : Token → ℕ × (List ℕ × ℚ)

@@ -7,9 +7,7 @@ mod text;
 mod token;
 
 pub use number_text::{NumberFault, read_number};
-pub use reading::{
-    TextFault, TextKind, TextStop, first_fault_is_single, read_tokens, tokens_are_single,
-};
+pub use reading::{TextFault, TextKind, TextStop, read_tokens, tokens_are_single};
 pub use token::{Spanned, Token, Tokens};
 
 #[cfg(test)]

@@ -1,12 +1,11 @@
 // Reads the tokens of a source.
 ghost use Rattle.std.specs.Prelude.{◌≡◌, ℕ, List, ◌∷◌, IfOk, IfErr};
+ghost use Rattle.answers.specs.Answers.{Gives, IsSingle};
 ghost use Rattle.number_text.specs.Numbers.{IsNumber};
-ghost use Rattle.game_text.specs.TokenList.{TokenList};
-ghost use Rattle.game_text.specs.Tokens.{AreTokens, IsFirstFault, BeginsWith, IsBlank};
+ghost use Rattle.game_text.specs.Tokens.{BeginsWith, IsBlank};
 ghost use Rattle.game_text.specs.Reading.{IsNext, IsNoMark, RefusesNumber, StopsAt};
-ghost use Rattle.game_text.specs.Stops.{IsStop};
-ghost use Rattle.game_text.specs.declared.reading.TextKind.{TextKind};
-ghost use Rattle.game_text.specs.declared.reading.TextStop.TheVariants.{Fault};
+ghost use Rattle.game_text.specs.Stops.{tokens_of};
+ghost use Rattle.game_text.specs.declared.reading.TextStop.TheVariants.{Fault, Memory};
 
 use crate::spans::{bare_length, is_letter, without_blanks};
 use crate::text::{closing, text};
@@ -138,8 +137,7 @@ fn fault(kind: TextKind, at: usize) -> TextStop
 /// Reads the tokens of a source in one pass. `Fault` comes exactly where the bytes are no list of tokens, and
 /// names the first fault.
 pub fn read_tokens(alloc: Global, bytes: &[u8]) -> Result<Tokens, TextStop>
-    ensures tokens { IfOk result (AreTokens bytes.now) }
-    ensures fault { IfErr result (IsStop bytes.now) }
+    ensures { Gives Memory (tokens_of bytes.now) result }
 {
     let mut list = Vec::new(alloc);
     let mut rest = without_blanks(bytes);
@@ -153,13 +151,7 @@ pub fn read_tokens(alloc: Global, bytes: &[u8]) -> Result<Tokens, TextStop>
     Ok(Tokens::new(list, bytes.len()))
 }
 
-/// A byte string has one list of tokens at most.
+/// A byte string has one answer at most: a list of tokens, or a first fault.
 pub fn tokens_are_single()
-    ensures { (bytes : List ℕ) (one other : TokenList) → AreTokens bytes one → AreTokens bytes other → one ≡ other }
-{}
-
-/// A byte string with a first fault has no list of tokens, and no other first fault.
-pub fn first_fault_is_single()
-    ensures no_tokens { (bytes : List ℕ) (at : ℕ) (kind : TextKind) (tokens : TokenList) → IsFirstFault bytes at kind → AreTokens bytes tokens → ⊥ }
-    ensures no_other { (bytes : List ℕ) (at place : ℕ) (kind other : TextKind) → IsFirstFault bytes at kind → IsFirstFault bytes place other → (at ≡ place) × (kind ≡ other) }
+    ensures { (bytes : List ℕ) → IsSingle (tokens_of bytes) }
 {}

@@ -1,14 +1,16 @@
--- Why reading a table stops.
-use Rattle.std.specs.Prelude.{ℕ, ◌≤◌, ◌≡◌, List}
-use Rattle.game_core.specs.Table.{GameTable}
+-- What the tokens of a table answer: the table, or why it is not read.
+use Rattle.std.specs.Prelude.{ℕ, ◌≤◌, ◌≡◌, List, Ok, Err}
+use Rattle.answers.specs.Answers.{Answer}
+use Rattle.game_core.specs.Table.{GameTable, IsTable}
 use Rattle.game_core.specs.declared.too_large.TooLarge.{TooLarge}
 use Rattle.game_core.specs.declared.too_large.What.TheVariants.{Payoffs}
-use Rattle.game_text.specs.declared.token.Token.{Token}
+use Rattle.game_text.specs.TokenList.{TokenList, bare}
 use Rattle.file_parts.specs.declared.refusal.Refusal.{Refusal}
 use Rattle.file_parts.specs.declared.refusal.Refusal.TheVariants as refusals
 use Rattle.nfg_reader.specs.TableFile.{IsTableFile, HasTooManyPayoffs}
 use Rattle.nfg_reader.specs.declared.reading.NfgFault.{NfgFault}
 use Rattle.nfg_reader.specs.declared.reading.NfgKind.{NfgKind}
+use Rattle.nfg_reader.specs.declared.reading.NfgKind.TheVariants.{Header}
 use Rattle.nfg_reader.specs.declared.reading.NfgStop.{NfgStop}
 use Rattle.nfg_reader.specs.declared.reading.NfgStop.TheVariants as stops
 
@@ -16,13 +18,19 @@ use Rattle.nfg_reader.specs.declared.reading.NfgStop.TheVariants as stops
 abbrev pub too_many_payoffs : TooLarge
 too_many_payoffs = record { what = Payoffs; count = 1048577; limit = 1048576 }
 
--- A fault comes exactly where the tokens are no file of a table and do not pass the limit on payoffs, and its place lies in
--- the source; the limit comes exactly where it is passed.
-abbrev pub IsStop : List Token → ℕ → NfgStop → Type 0
-IsStop tokens source_length (stops.Fault fault) =
-    (fault.at ≤ source_length) × ((table : GameTable) → IsTableFile tokens table → ⊥) × ¬ (HasTooManyPayoffs tokens)
-IsStop tokens source_length (stops.TooLarge limit) = HasTooManyPayoffs tokens × (limit ≡ too_many_payoffs)
-IsStop tokens source_length stops.Memory = Unit {0}
+-- The table of a file, within the limit on payoffs. A fault comes where the tokens are no file of a table and do not pass the
+-- limit, and its place lies in the source; the limit comes where it is passed.
+abbrev pub table_in : TokenList → Answer NfgStop GameTable
+table_in tokens (Ok table) = IsTableFile (bare tokens) table × IsTable table
+table_in tokens (Err (stops.Fault fault)) =
+    (fault.at ≤ tokens.length) × ((table : GameTable) → IsTableFile (bare tokens) table → ⊥) × ¬ (HasTooManyPayoffs (bare tokens))
+table_in tokens (Err (stops.TooLarge limit)) = HasTooManyPayoffs (bare tokens) × (limit ≡ too_many_payoffs)
+table_in tokens (Err stops.Memory) = ⊥
+
+-- a stop without the kind and the place of a fault
+abbrev pub but_for_fault : NfgStop → NfgStop
+but_for_fault (stops.Fault fault) = stops.Fault (record { at = 0; kind = Header })
+but_for_fault stop = stop
 
 -- the stop that a refusal of a part becomes
 abbrev pub IsStopOf : Refusal NfgKind → ℕ → NfgStop → Type 0

@@ -6,7 +6,7 @@ mod outcomes;
 mod reading;
 mod strategies;
 
-pub use reading::{NfgFault, NfgKind, NfgStop, files_have_one_table, read};
+pub use reading::{NfgFault, NfgKind, NfgStop, files_have_one_table, read, tables_are_single};
 
 #[cfg(test)]
 mod tests;

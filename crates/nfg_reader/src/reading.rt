@@ -1,10 +1,13 @@
 // Reads a table from the tokens of a file.
-ghost use Rattle.std.specs.Prelude.{◌≡◌, ◌≤◌, List, map, IfOk, IfErr};
+ghost use Rattle.std.specs.Prelude.{◌≡◌, List, IfOk};
+ghost use Rattle.answers.specs.Answers.{Gives, IsSingleAs};
 ghost use Rattle.game_core.specs.Table.{GameTable, IsTable};
+ghost use Rattle.game_text.specs.TokenList.{TokenList};
 ghost use Rattle.game_text.specs.declared.token.Token.{Token as token};
 ghost use Rattle.nfg_reader.specs.TableFile.{IsTableFile};
 ghost use Rattle.nfg_reader.specs.TableReading.{front_of, table_of};
-ghost use Rattle.nfg_reader.specs.Stops.{IsStop, IsStopOf};
+ghost use Rattle.nfg_reader.specs.Stops.{IsStopOf, table_in, but_for_fault};
+ghost use Rattle.nfg_reader.specs.declared.reading.NfgStop.TheVariants.{Memory};
 
 use crate::front::{Front, read_front};
 use crate::outcomes::last_payoffs;
@@ -93,8 +96,7 @@ fn table(alloc: Global, front: Front, payoffs: Vec<Frac>) -> Result<Table, Alloc
 
 /// Reads the table that the tokens stand for.
 pub fn read(alloc: Global, tokens: &Tokens) -> Result<Table, NfgStop>
-    ensures table { IfOk result (IsTableFile (map (λ s. s.token) tokens.now.list)) }
-    ensures stop { IfErr result (IsStop (map (λ s. s.token) tokens.now.list) tokens.now.length) }
+    ensures { Gives Memory (table_in tokens.now) result }
 {
     let (front, rest) = match read_front(alloc, tokens.list()) {
         Ok(read) => read,
@@ -113,6 +115,11 @@ pub fn read(alloc: Global, tokens: &Tokens) -> Result<Table, NfgStop>
         Err(refusal) => Err(stop(refusal, tokens)),
     }
 }
+
+/// The tokens of a source have one answer at most, but for the kind and the place of a fault.
+pub fn tables_are_single()
+    ensures { (tokens : TokenList) → IsSingleAs but_for_fault (table_in tokens) }
+{}
 
 /// The tokens of a file stand for one table at most.
 pub fn files_have_one_table()

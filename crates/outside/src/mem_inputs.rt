@@ -40,12 +40,12 @@ impl MemInputs {
     /// equal, and these numbers of the calls that fail. Takes no memory.
     pub fn new(plain: Vec<u8>, named: Vec<(String, Vec<u8>)>, failing: Vec<u64>) -> MemInputs
         ensures state { result ≡ record { plain = plain.items; named = map (λ p. (string_bytes p.0, p.1.items)) named.items; failing = failing.items; calls = 0; selected = None; failed = None; position = 0; open_faults = 0; read_faults = 0 } }
-        ensures held { (n : InputName) → ⟦<MemInputs as Inputs>⟧.held result n ≡ bytes_held plain.items (map (λ p. (string_bytes p.0, p.1.items)) named.items) n }
-        ensures left { ⟦<MemInputs as Inputs>⟧.left result ≡ Some [] }
-        ensures selected { ⟦<MemInputs as Inputs>⟧.selected result ≡ None }
-        ensures failed { ⟦<MemInputs as Inputs>⟧.failed result ≡ None }
-        ensures open_faults { ⟦<MemInputs as Inputs>⟧.open_faults result ≡ 0 }
-        ensures read_faults { ⟦<MemInputs as Inputs>⟧.read_faults result ≡ 0 }
+        ensures held { (n : InputName) → (⟦<MemInputs as Inputs>⟧.seen result).held n ≡ bytes_held plain.items (map (λ p. (string_bytes p.0, p.1.items)) named.items) n }
+        ensures left { (⟦<MemInputs as Inputs>⟧.seen result).left ≡ Some [] }
+        ensures selected { (⟦<MemInputs as Inputs>⟧.seen result).selected ≡ None }
+        ensures failed { (⟦<MemInputs as Inputs>⟧.seen result).failed ≡ None }
+        ensures open_faults { (⟦<MemInputs as Inputs>⟧.seen result).open_faults ≡ 0 }
+        ensures read_faults { (⟦<MemInputs as Inputs>⟧.seen result).read_faults ≡ 0 }
     {
         MemInputs {
             plain,
@@ -93,17 +93,7 @@ impl MemInputs {
 }
 
 impl Inputs for MemInputs {
-    ghost held = { λ s n. bytes_held s.plain s.named n };
-
-    ghost left = { λ s. Some (bytes_left s) };
-
-    ghost selected = { λ s. s.selected };
-
-    ghost failed = { λ s. s.failed };
-
-    ghost open_faults = { λ s. s.open_faults };
-
-    ghost read_faults = { λ s. s.read_faults };
+    ghost seen = { λ s. record { held = bytes_held s.plain s.named; left = Some (bytes_left s); selected = s.selected; failed = s.failed; open_faults = s.open_faults; read_faults = s.read_faults } };
 
     /// Fails exactly where the call's number is one that fails or there is no input of that name.
     fn select(&mut self, name: Option<String>) -> Result<(), OpenFailed>

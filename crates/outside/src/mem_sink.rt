@@ -42,9 +42,9 @@ impl MemSink {
     ) -> Result<MemSink, Memory>
         requires { 0 < most }
         ensures state { IfOk result (λ s. s ≡ record { taken = []; most = most; limit = limit; flush_fails = flush_fails; flushed = false; faults = 0 }) }
-        ensures taken { IfOk result (λ s. ⟦<MemSink as Sink>⟧.taken s ≡ Some []) }
-        ensures not_flushed { IfOk result (λ s. ⟦<MemSink as Sink>⟧.flushed s ≡ false) }
-        ensures faults { IfOk result (λ s. ⟦<MemSink as Sink>⟧.faults s ≡ 0) }
+        ensures taken { IfOk result (λ s. (⟦<MemSink as Sink>⟧.seen s).taken ≡ Some []) }
+        ensures not_flushed { IfOk result (λ s. (⟦<MemSink as Sink>⟧.seen s).flushed ≡ false) }
+        ensures faults { IfOk result (λ s. (⟦<MemSink as Sink>⟧.seen s).faults ≡ 0) }
     {
         let bytes = Vec::with_capacity(alloc, limit)?;
         Ok(MemSink {
@@ -59,18 +59,14 @@ impl MemSink {
 
     /// The bytes taken so far.
     pub fn taken(&self) -> &[u8]
-        ensures { Some result.now ≡ ⟦<MemSink as Sink>⟧.taken self.now }
+        ensures { Some result.now ≡ (⟦<MemSink as Sink>⟧.seen self.now).taken }
     {
         self.bytes.as_slice()
     }
 }
 
 impl Sink for MemSink {
-    ghost taken = { λ s. Some s.taken };
-
-    ghost flushed = { λ s. s.flushed };
-
-    ghost faults = { λ s. s.faults };
+    ghost seen = { λ s. record { taken = Some s.taken; flushed = s.flushed; faults = s.faults } };
 
     /// Fails exactly where the piece is not empty and `limit` bytes are taken already.
     fn write(&mut self, piece: &[u8]) -> Result<usize, WriteFailed>

@@ -40,10 +40,10 @@ impl<'a, R: Files + Input + Drop> Model for RealInputs<'a, R> {
 impl<'a, R: Files + Input + Drop> RealInputs<'a, R> {
     /// The inputs of a runtime, none of which is selected.
     pub fn new(rt: &'a R) -> RealInputs<'a, R>
-        ensures selected { ⟦<RealInputs<'a, R> as Inputs>⟧.selected result ≡ None }
-        ensures failed { ⟦<RealInputs<'a, R> as Inputs>⟧.failed result ≡ None }
-        ensures open_faults { ⟦<RealInputs<'a, R> as Inputs>⟧.open_faults result ≡ 0 }
-        ensures read_faults { ⟦<RealInputs<'a, R> as Inputs>⟧.read_faults result ≡ 0 }
+        ensures selected { (⟦<RealInputs<'a, R> as Inputs>⟧.seen result).selected ≡ None }
+        ensures failed { (⟦<RealInputs<'a, R> as Inputs>⟧.seen result).failed ≡ None }
+        ensures open_faults { (⟦<RealInputs<'a, R> as Inputs>⟧.seen result).open_faults ≡ 0 }
+        ensures read_faults { (⟦<RealInputs<'a, R> as Inputs>⟧.seen result).read_faults ≡ 0 }
         ensures no_file { result.file ≡ None }
     {
         RealInputs {
@@ -59,17 +59,7 @@ impl<'a, R: Files + Input + Drop> RealInputs<'a, R> {
 }
 
 impl<'a, R: Files + Input + Drop> Inputs for RealInputs<'a, R> {
-    ghost held = { λ _ _. None };
-
-    ghost left = { λ _. None };
-
-    ghost selected = { λ s. s.selected };
-
-    ghost failed = { λ s. s.failed };
-
-    ghost open_faults = { λ s. s.open_faults };
-
-    ghost read_faults = { λ s. s.read_faults };
+    ghost seen = { λ s. record { held = λ _. None; left = None; selected = s.selected; failed = s.failed; open_faults = s.open_faults; read_faults = s.read_faults } };
 
     fn select(&mut self, name: Option<String>) -> Result<(), OpenFailed>
         ensures selects { OnOk result (self.new.selected ≡ Some (option_map string_bytes name)) }

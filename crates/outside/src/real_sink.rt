@@ -31,8 +31,8 @@ impl<W: Write + Drop> RealSink<W> {
     /// A sink over a writer.
     pub fn new(inner: W) -> RealSink<W>
         ensures state { result ≡ record { contents = W.contents inner; flushed = false; faults = 0 } }
-        ensures not_flushed { ⟦<RealSink<W> as Sink>⟧.flushed result ≡ false }
-        ensures faults { ⟦<RealSink<W> as Sink>⟧.faults result ≡ 0 }
+        ensures not_flushed { (⟦<RealSink<W> as Sink>⟧.seen result).flushed ≡ false }
+        ensures faults { (⟦<RealSink<W> as Sink>⟧.seen result).faults ≡ 0 }
     {
         RealSink {
             inner,
@@ -43,11 +43,7 @@ impl<W: Write + Drop> RealSink<W> {
 }
 
 impl<W: Write + Drop> Sink for RealSink<W> {
-    ghost taken = { λ _. None };
-
-    ghost flushed = { λ s. s.flushed };
-
-    ghost faults = { λ s. s.faults };
+    ghost seen = { λ s. record { taken = None; flushed = s.flushed; faults = s.faults } };
 
     fn write(&mut self, piece: &[u8]) -> Result<usize, WriteFailed>
         ensures bound { IfOk result (λ n. n ≤ length piece.now) }

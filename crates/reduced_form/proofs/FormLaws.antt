@@ -1,5 +1,5 @@
 -- The table of a reduced form, and that its cells are those of the strategic form.
-use Rattle.std.proofs.Common.{ℕ, ◌+◌, ◌*◌, ◌<◌, ◌≤◌, ◌≡◌, List, [], ◌∷◌, length, map, get_or, All, refl, sym, ap, ap₂, ◌∙◌, subst, arith}
+use Rattle.std.proofs.Common.{ℕ, ◌+◌, ◌*◌, ◌<◌, ◌≤◌, ◌≡◌, List, [], ◌∷◌, length, map, get_or, All, inl, inr, refl, sym, ap, ap₂, ◌∙◌, subst, arith}
 use Rattle.std.proofs.lemmas.List.{length-map, get_or-map, get_or_default}
 use native.Mathlib.Nat as N
 use Rattle.rational.specs.Rational.{ℚ}
@@ -61,13 +61,15 @@ form_table-is_table t strategies payoffs w a long few = record {
 
 -- ---- the form
 -- the reduced form with these strategies and payoffs
-pub form-is_form : (t : GameTree) (strategies : List (List (List ℕ))) (payoffs : List ℚ) (table : GameTable) → AreStrategies (game_of_tree t) strategies → table ≡ form_table t strategies payoffs
-    → length payoffs ≡ length t.players * profile_count (map length strategies) → AreCells (game_of_tree t) strategies payoffs → IsReducedForm t (record { choices = strategies; table = table })
-form-is_form t strategies payoffs table a is long cells = subst (λ (x : GameTable). IsReducedForm t (record { choices = strategies; table = x })) (sym is) (record {
+pub form-is_form : (t : GameTree) (strategies : List (List (List ℕ))) (payoffs : List ℚ) (table : GameTable) → is_game_tree (game_of_tree t) → AreStrategies (game_of_tree t) strategies → table ≡ form_table t strategies payoffs
+    → length payoffs ≡ length t.players * profile_count (map length strategies) → length t.players * profile_count (map length strategies) ≤ most_payoffs → AreCells (game_of_tree t) strategies payoffs
+    → IsReducedForm t (record { choices = strategies; table = table })
+form-is_form t strategies payoffs table w a is long few cells = subst (λ (x : GameTable). IsReducedForm t (record { choices = strategies; table = x })) (sym is) (record {
   are_strategies = a;
   title_is = refl;
   players_are = refl;
   names_are = refl;
+  is_table = form_table-is_table t strategies payoffs w a long few;
   pays = λ i k l h. (cells k i l (omega (arith, cell_place (length t.players) (profile_count (map length strategies)) k i h l))).value_is;
 })
 
@@ -92,5 +94,5 @@ form-few t counts strategies h a payoffs choices =
 -- a stop of the cells is one of the form
 pub cell_stop-is_stop : (t : Tree) (strategies : List (List (List ℕ))) (stop : ReduceStop) → AreStrategies t strategies → AreFew t strategies → IsCellStop t strategies stop → IsStop t stop
 cell_stop-is_stop t strategies (stops.TooLarge limit) a few h = absurd h
-cell_stop-is_stop t strategies (stops.Range profile player step) a few h = record { strategies = strategies; are_strategies = a; are_few = few; is_first = h }
-cell_stop-is_stop t strategies stops.Memory a few h = tt
+cell_stop-is_stop t strategies (stops.Range profile player step) a few h = inr (record { strategies = strategies; are_strategies = a; are_few = few; is_first = h })
+cell_stop-is_stop t strategies stops.Memory a few h = inl refl

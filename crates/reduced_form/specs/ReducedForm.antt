@@ -6,7 +6,7 @@ use Rattle.std.specs.Fmt.{decimal}
 use Rattle.game_theory.specs.Profiles.{IsProfile, profile_count, number_of}
 use Rattle.game_trees.specs.Behaviour.{payoff, pure}
 use Rattle.reduced_strategies.specs.StrategicForm.{AreStrategies, IsCompletion, strategic_form}
-use Rattle.game_core.specs.Table.{GameTable, code_of_table, game_of}
+use Rattle.game_core.specs.Table.{GameTable, IsTable, code_of_table, game_of}
 use Rattle.game_core.specs.Tree.{GameTree}
 use Rattle.game_core.specs.TreeGame.{game_of_tree}
 
@@ -36,6 +36,7 @@ pub record IsReducedForm (t : GameTree) (form : ReducedForm) : Type 0 where
   pub title_is : form.table.title ≡ t.title
   pub players_are : form.table.players ≡ t.players
   pub names_are : form.table.strategies ≡ map (map strategy_name) form.choices
+  pub is_table : IsTable form.table
   pub pays : (i k : ℕ) → i < length t.players → k < profile_count (map length form.choices) → (game_of form.table).pays i k ≡ (strategic_form (game_of_tree t) form.choices).pays i k
 
 -- each cell is what every completion of its profile pays on the tree

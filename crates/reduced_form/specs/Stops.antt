@@ -1,12 +1,16 @@
 -- Why a tree has no reduced form within the limits.
-use Rattle.std.specs.Prelude.{ℕ, ◌<◌, ◌≤◌, ◌≡◌, ◌⊎◌, ⊤, List}
+use Rattle.std.specs.Prelude.{ℕ, ◌<◌, ◌≤◌, ◌≡◌, ◌⊎◌, List, Ok, Err}
+use Rattle.answers.specs.Answers.{Answer}
 use Rattle.game_trees.specs.Trees.{Tree}
 use Rattle.reduced_strategies.specs.StrategicForm.{AreStrategies}
 use Rattle.game_core.specs.Table.{most_payoffs}
+use Rattle.game_core.specs.Tree.{GameTree}
+use Rattle.game_core.specs.TreeGame.{game_of_tree}
 use Rattle.game_core.specs.declared.too_large.TooLarge.{TooLarge}
 use Rattle.game_core.specs.declared.too_large.What.TheVariants as what
 use Rattle.pure_payoffs.specs.Steps.{Step}
-use Rattle.reduced_form.specs.Limits.{payoff_count, choice_count, most_choices, AreFew, IsFirstUnfitAt}
+use Rattle.reduced_form.specs.Limits.{payoff_count, choice_count, most_choices, AreFew, AllFit, IsFirstUnfitAt}
+use Rattle.reduced_form.specs.ReducedForm.{ReducedForm, IsReducedForm}
 use Rattle.reduced_form.specs.declared.stop.ReduceStop.{ReduceStop}
 use Rattle.reduced_form.specs.declared.stop.ReduceStop.TheVariants as stops
 
@@ -37,8 +41,18 @@ pub record HasUnfitStep (t : Tree) (profile player : ℕ) (step : Step) : Type 0
   pub are_few : AreFew t strategies
   pub is_first : IsFirstUnfitAt t strategies profile player step
 
--- a count is too large, first that of payoffs and then that of choices; else a step does not fit; or memory ran out
+-- why a tree has no reduced form: a count is too large, first that of payoffs and then that of choices; or a step does not fit
+abbrev pub IsReason : Tree → ReduceStop → Type 0
+IsReason t (stops.TooLarge limit) = (HasTooManyPayoffs t × (limit ≡ too_many_payoffs)) ⊎ (HasTooManyChoices t × (limit ≡ too_many_choices))
+IsReason t (stops.Range profile player unfit) = HasUnfitStep t profile player unfit
+IsReason t stops.Memory = ⊥
+
+-- a reason, or want of memory
 abbrev pub IsStop : Tree → ReduceStop → Type 0
-IsStop t (stops.TooLarge limit) = (HasTooManyPayoffs t × (limit ≡ too_many_payoffs)) ⊎ (HasTooManyChoices t × (limit ≡ too_many_choices))
-IsStop t (stops.Range profile player unfit) = HasUnfitStep t profile player unfit
-IsStop t stops.Memory = ⊤
+IsStop t stop = (stop ≡ stops.Memory) ⊎ IsReason t stop
+
+-- The reduced form of a tree, whose counts are within their limits and whose payoffs are computed in steps that all fit; or why it
+-- has none.
+abbrev pub form_of : GameTree → Answer ReduceStop ReducedForm
+form_of tree (Ok form) = IsReducedForm tree form × AreFew (game_of_tree tree) form.choices × AllFit (game_of_tree tree) form.choices
+form_of tree (Err stop) = IsReason (game_of_tree tree) stop

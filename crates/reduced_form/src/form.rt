@@ -1,17 +1,14 @@
 // The reduced strategic form.
-ghost use Rattle.std.specs.Prelude.{◌≡◌, ◌≢◌, ◌<◌, ◌≤◌, ◌*◌, length, map, IfOk, IfErr};
-ghost use Rattle.game_theory.specs.Profiles.{profile_count};
-ghost use Rattle.game_trees.specs.Trees.{Tree as game_tree};
+ghost use Rattle.std.specs.Prelude.{◌≡◌, map, IfOk};
+ghost use Rattle.answers.specs.Answers.{Gives, IsSingle};
 ghost use Rattle.game_core.specs.Table.{IsTable};
 ghost use Rattle.game_core.specs.Tree.{GameTree};
 ghost use Rattle.game_core.specs.TreeGame.{game_of_tree};
 ghost use Rattle.reduced_strategies.specs.StrategicForm.{AreStrategies};
 ghost use Rattle.strategy_lists.specs.Decisions.{AreDecisionsOfAll};
-ghost use Rattle.reduced_form.specs.declared.stop.ReduceStop.{ReduceStop};
 ghost use Rattle.reduced_form.specs.declared.stop.ReduceStop.TheVariants as stops;
-ghost use Rattle.reduced_form.specs.Limits.{AreFew, AllFit};
-ghost use Rattle.reduced_form.specs.ReducedForm.{ReducedForm, IsReducedForm, PaysCompletions, strategy_name};
-ghost use Rattle.reduced_form.specs.Stops.{IsStop};
+ghost use Rattle.reduced_form.specs.ReducedForm.{PaysCompletions, strategy_name};
+ghost use Rattle.reduced_form.specs.Stops.{form_of};
 
 use crate::cells::cells;
 use crate::limits::{check_choices, count_all};
@@ -120,11 +117,8 @@ fn table_of(
 /// 67,108,864 choices, which are counted before anything is built. `Range` exactly where both counts are within
 /// their limits and a step of a payoff does not fit: the first. `Memory` where memory ran out.
 pub fn reduce(alloc: Global, tree: &Tree) -> Result<Reduced, ReduceStop>
-    ensures form { IfOk result (IsReducedForm tree.now) }
+    ensures answer { Gives stops.Memory (form_of tree.now) result }
     ensures completions { IfOk result (PaysCompletions tree.now) }
-    ensures few { IfOk result (λ form. AreFew (game_of_tree tree.now) form.choices) }
-    ensures all_fit { IfOk result (λ form. AllFit (game_of_tree tree.now) form.choices) }
-    ensures stop { IfErr result (IsStop (game_of_tree tree.now)) }
 {
     trees_are_game_trees();
     let _players = tree.players();
@@ -141,10 +135,7 @@ pub fn reduce(alloc: Global, tree: &Tree) -> Result<Reduced, ReduceStop>
     Ok(Reduced { choices, table })
 }
 
-/// A tree has one reason at most why it is not reduced, other than want of memory, and then it has no reduced form
-/// within the limits whose steps all fit.
-pub fn stops_are_exact()
-    ensures one_reason { (t : game_tree) (one other : ReduceStop) → one ≢ stops.Memory → other ≢ stops.Memory → IsStop t one → IsStop t other → one ≡ other }
-    ensures no_form { (t : GameTree) (stop : ReduceStop) (form : ReducedForm) → stop ≢ stops.Memory → IsStop (game_of_tree t) stop
-        → IsReducedForm t form → AreFew (game_of_tree t) form.choices → AllFit (game_of_tree t) form.choices → ⊥ }
+/// A tree has one reduced form within the limits, or one reason why it has none.
+pub fn forms_are_single()
+    ensures { (tree : GameTree) → IsSingle (form_of tree) }
 {}

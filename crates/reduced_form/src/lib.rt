@@ -10,5 +10,5 @@ mod limits;
 mod names;
 mod stop;
 
-pub use form::{Reduced, reduce, stops_are_exact};
+pub use form::{Reduced, forms_are_single, reduce};
 pub use stop::ReduceStop;

@@ -1,4 +1,4 @@
-use Rattle.std.proofs.Common.{length, refl, sym, ◌∙◌, subst, arith}
+use Rattle.std.proofs.Common.{inr, length, rules, refl, sym, ◌∙◌, subst, arith}
 use Rattle.game_theory.specs.Lines.{lines_text}
 use Rattle.game_core.specs.Table.{game_of}
 use Rattle.enumpure.specs.Ranks.{lines_below}
@@ -6,13 +6,13 @@ use Rattle.enumpure.specs.Replies.{AreStable}
 use Rattle.enumpure.proofs.Listed.{IsPureEquilibriaText-listed}
 use Rattle.enumpure.proofs.listing.list_pure_equilibria.Goals as goal
 
-pub returns-then-bytes-gt-MOST_TEXT-clause-stop : goal.returns-then-bytes-gt-MOST_TEXT-clause-stop
-returns-then-bytes-gt-MOST_TEXT-clause-stop c =
+pub returns-then-bytes-gt-MOST_TEXT : goal.returns-then-bytes-gt-MOST_TEXT
+returns-then-bytes-gt-MOST_TEXT c =
     let g = game_of c.args.table.now in
     let flags = c.deref.result.now in
     let stable : AreStable g flags = subst (AreStable g) (sym c.deref.ensures.value) c.in_ok-stable.ensures in
-    (record { text = lines_text (lines_below g.strategies flags (length flags)); is_text = IsPureEquilibriaText-listed g flags g.strategies _ refl stable refl; is_long = omega (arith, c.text_length-bytes.ensures, c.if-bytes-gt-MOST_TEXT.true) }, refl)
+    inr ((lines_text (lines_below g.strategies flags (length flags)), IsPureEquilibriaText-listed g flags g.strategies _ refl stable refl, omega (arith, c.text_length-bytes.ensures, c.if-bytes-gt-MOST_TEXT.true)), refl)
 
-pub returns-clause-text : goal.returns-clause-text
-returns-clause-text c =
-    IsPureEquilibriaText-listed (game_of c.args.table.now) c.deref-3.result.now c.deref-2.result.now c.in_ok-write_lines.field-0.items (c.deref-2.ensures.value ∙ c.in_ok-counts.ensures) (subst (AreStable (game_of c.args.table.now)) (sym c.deref-3.ensures.value) c.in_ok-stable.ensures) c.in_ok-write_lines.ensures
+pub returns : goal.returns
+returns c =
+    (IsPureEquilibriaText-listed (game_of c.args.table.now) c.deref-3.result.now c.deref-2.result.now c.in_ok-write_lines.field-0.items (c.deref-2.ensures.value ∙ c.in_ok-counts.ensures) (subst (AreStable (game_of c.args.table.now)) (sym c.deref-3.ensures.value) c.in_ok-stable.ensures) c.in_ok-write_lines.ensures, search rules)

@@ -1,4 +1,4 @@
-use Rattle.std.proofs.Common.{◌*◌, ◌≡◌, length, map, refl, sym, ap, ap₂, ◌∙◌, subst, arith, rules}
+use Rattle.std.proofs.Common.{◌*◌, ◌≡◌, inr, length, map, refl, sym, ap, ap₂, ◌∙◌, subst, arith, rules}
 use Rattle.std.proofs.Math.ListN.{replicate}
 use Rattle.std.specs.List.{count_by}
 use Rattle.game_theory.specs.Profiles.{IsProfile}
@@ -31,8 +31,8 @@ write_lines-requires-clause-flags c =
     let stable = subst (λ t. AreStable (game_of t) flags) c.table.ensures (c.in_ok-stable.ensures {u = tt}) in
     ap length c.deref-4.ensures.value ∙ length-flags c.args.tree.now c.args.reduced.now flags c.requires.form stable
 
-pub returns-then-count-each-clause-stop : goal.returns-then-count-each-clause-stop
-returns-then-count-each-clause-stop c =
+pub returns-then-count-each : goal.returns-then-count-each
+returns-then-count-each c =
     let tree = c.args.tree.now in
     let form = c.args.reduced.now in
     let orders = map (λ v. v.items) c.in_ok-orders.orders.items in
@@ -42,20 +42,10 @@ returns-then-count-each-clause-stop c =
     let long = length-listed tree form orders flags c.in_ok-each.each listed (c.in_ok-each.ensures {u = tt}).each in
     let above = above_limit most_text c.in_ok-each.each c.count-count.result (c.in_ok-each.ensures {u = tt}).some c.if-count-each.true in
     let same = ap (λ n. n * c.in_ok-each.each) (counted ∙ ap (count_by (λ b. b)) c.deref-2.ensures.value) in
-    (record { text = lines_text (lines_below (game_of_tree tree) form.choices orders (flag flags) (length flags)); is_text = IsTreeEquilibriaText-listed tree form orders flags _ listed refl; is_long = omega (arith, long, above, same) }, refl)
+    inr ((lines_text (lines_below (game_of_tree tree) form.choices orders (flag flags) (length flags)), IsTreeEquilibriaText-listed tree form orders flags _ listed refl, omega (arith, long, above, same)), refl)
 
-pub returns-clause-text : goal.returns-clause-text
-returns-clause-text c =
-    let tree = c.args.tree.now in
-    let form = c.args.reduced.now in
-    let orders = map (λ v. v.items) c.in_ok-orders.orders.items in
-    let flags = c.in_ok-stable.stable.items in
-    let listed = AreListed-made tree form orders flags c.table.result.now (c.trees_are_game_trees.ensures tree c.players.ensures.valid) c.requires.form (c.in_ok-orders.ensures {u = tt}) (c.in_ok-stable.ensures {u = tt}) c.table.ensures in
-    let text = c.in_ok-write_lines.ensures {u = tt} ∙ ap₂ (λ os fs. lines_text (lines_below (game_of_tree tree) form.choices (map (λ v. v.items) os) (flag fs) (length fs))) c.deref-3.ensures.value c.deref-4.ensures.value in
-    IsTreeEquilibriaText-listed tree form orders flags c.in_ok-write_lines.field-0.items listed text
-
-pub returns-clause-within_limit : goal.returns-clause-within_limit
-returns-clause-within_limit c =
+pub returns : goal.returns
+returns c =
     let tree = c.args.tree.now in
     let form = c.args.reduced.now in
     let orders = map (λ v. v.items) c.in_ok-orders.orders.items in
@@ -66,4 +56,4 @@ returns-clause-within_limit c =
     let long = length-listed tree form orders flags c.in_ok-each.each listed (c.in_ok-each.ensures {u = tt}).each in
     let below = below_limit most_text c.in_ok-each.each c.count-count.result (c.in_ok-each.ensures {u = tt}).some c.if-count-each.false in
     let same = ap (λ n. n * c.in_ok-each.each) (counted ∙ ap (count_by (λ b. b)) c.deref-2.ensures.value) in
-    omega (arith, ap length text, long, below, same)
+    (IsTreeEquilibriaText-listed tree form orders flags c.in_ok-write_lines.field-0.items listed text, omega (arith, ap length text, long, below, same))

@@ -1,5 +1,5 @@
-use Rattle.game_text.proofs.Single.{one_list}
+use Rattle.game_text.proofs.Single.{tokens_of-single}
 use Rattle.game_text.proofs.reading.tokens_are_single.Goals as goal
 
 pub returns : goal.returns
-returns c = one_list
+returns c = tokens_of-single

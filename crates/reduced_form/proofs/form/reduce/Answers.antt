@@ -1,10 +1,11 @@
 use Rattle.std.proofs.Common.{ℕ, ◌*◌, ◌≡◌, ◌≤◌, Global, Vec, List, length, map, sym, ap, ◌∙◌, subst}
 use Rattle.game_theory.specs.Profiles.{profile_count}
-use Rattle.game_core.specs.Table.{IsTable}
+use Rattle.game_core.specs.Table.{GameTable, IsTable}
 use Rattle.game_core.specs.TreeGame.{game_of_tree}
 use Rattle.reduced_form.specs.Cells.{AreCells, IsCellStop}
 use Rattle.reduced_form.specs.Counts.{choices_by}
 use Rattle.reduced_form.specs.Limits.{AreFew, most_choices}
+use Rattle.reduced_form.specs.ReducedForm.{IsReducedForm}
 use Rattle.reduced_form.proofs.FormCounts.{counted-same}
 use Rattle.reduced_form.proofs.FormLaws.{cell_stop-is_stop, form-all_fit, form-few, form-is_form, form-pays_completions, form_table, form_table-is_table}
 use Rattle.reduced_form.proofs.form.reduce.Goals as goal
@@ -40,10 +41,10 @@ pub cells-requires-clause-counts : goal.cells-requires-clause-counts
 cells-requires-clause-counts c =
     c.deref-7.ensures.value ∙ same (goal.at.cells-requires-clause-counts c).In_ok-choices ∙ ap (λ xs. map length (seen xs)) (sym c.deref-6.ensures.value)
 
-pub returns-in-Err-clause-stop : goal.returns-in-Err-clause-stop
-returns-in-Err-clause-stop c =
+pub returns-in-Err-clause-answer : goal.returns-in-Err-clause-answer
+returns-in-Err-clause-answer c =
     let t = game_of_tree c.args.tree.now in
-    let d = (goal.at.returns-in-Err-clause-stop c).In_ok-choices in
+    let d = (goal.at.returns-in-Err-clause-answer c).In_ok-choices in
     cell_stop-is_stop t (lists d) c.in-Err.stop (c.in_ok-choices.ensures {u = tt}) (few d) (subst (λ xs. IsCellStop t (seen xs) c.in-Err.stop) c.deref-6.ensures.value (c.in-Err.ensures {u = tt}).stop)
 
 pub table_of-requires : goal.table_of-requires
@@ -54,26 +55,28 @@ table_of-requires c =
     let table = form_table-is_table t (seen c.in_ok-choices.choices.items) c.in-Ok.payoffs.items valid (c.in_ok-choices.ensures {u = tt}) (long d (same (goal.at.table_of-requires c).In_ok-choices)) (few (goal.at.table_of-requires c).In_ok-choices).few_payoffs in
     subst (λ xs. IsTable (form_table t (seen xs) c.in-Ok.payoffs.items)) (sym c.deref-8.ensures.value) table
 
-pub returns-clause-form : goal.returns-clause-form
-returns-clause-form c =
+-- the form
+made : (c : In-Ok) → c.in_ok-counts.counts.items ≡ map length (seen c.in_ok-choices.choices.items) → AreFew (game_of_tree c.args.tree.now) (seen c.in_ok-choices.choices.items)
+    → (table : GameTable) → table ≡ form_table c.args.tree.now (seen c.in_ok-choices.choices.items) c.in-Ok.payoffs.items
+    → IsReducedForm c.args.tree.now (record { choices = seen c.in_ok-choices.choices.items; table = table })
+made c counts few table is =
     let t = c.args.tree.now in
-    let d = (goal.at.returns-clause-form c).In-Ok in
+    let valid = c.trees_are_game_trees.ensures t c.players-players.ensures.valid in
+    form-is_form t (seen c.in_ok-choices.choices.items) c.in-Ok.payoffs.items table valid (c.in_ok-choices.ensures {u = tt}) is (long c counts) few.few_payoffs (paid c)
+
+pub returns-clause-answer : goal.returns-clause-answer
+returns-clause-answer c =
+    let t = c.args.tree.now in
+    let d = (goal.at.returns-clause-answer c).In-Ok in
+    let choices = (goal.at.returns-clause-answer c).In_ok-choices in
     let table = c.in_ok-table.ensures {u = tt} ∙ ap (λ xs. form_table t (seen xs) c.in-Ok.payoffs.items) c.deref-8.ensures.value in
-    form-is_form t (seen c.in_ok-choices.choices.items) c.in-Ok.payoffs.items c.in_ok-table.table (c.in_ok-choices.ensures {u = tt}) table (long d (same (goal.at.returns-clause-form c).In_ok-choices)) (paid d)
+    (made d (same choices) (few choices) c.in_ok-table.table table, few choices, form-all_fit (game_of_tree t) (seen c.in_ok-choices.choices.items) c.in-Ok.payoffs.items (long d (same choices)) (paid d))
 
 pub returns-clause-completions : goal.returns-clause-completions
 returns-clause-completions c =
     let t = c.args.tree.now in
     let d = (goal.at.returns-clause-completions c).In-Ok in
+    let choices = (goal.at.returns-clause-completions c).In_ok-choices in
     let valid = c.trees_are_game_trees.ensures t c.players-players.ensures.valid in
     let table = c.in_ok-table.ensures {u = tt} ∙ ap (λ xs. form_table t (seen xs) c.in-Ok.payoffs.items) c.deref-8.ensures.value in
-    form-pays_completions t (record { choices = seen c.in_ok-choices.choices.items; table = c.in_ok-table.table }) valid
-    (form-is_form t (seen c.in_ok-choices.choices.items) c.in-Ok.payoffs.items c.in_ok-table.table (c.in_ok-choices.ensures {u = tt}) table (long d (same (goal.at.returns-clause-completions c).In_ok-choices)) (paid d))
-
-pub returns-clause-few : goal.returns-clause-few
-returns-clause-few c = few (goal.at.returns-clause-few c).In_ok-choices
-
-pub returns-clause-all_fit : goal.returns-clause-all_fit
-returns-clause-all_fit c =
-    let d = (goal.at.returns-clause-all_fit c).In-Ok in
-    form-all_fit (game_of_tree c.args.tree.now) (seen c.in_ok-choices.choices.items) c.in-Ok.payoffs.items (long d (same (goal.at.returns-clause-all_fit c).In_ok-choices)) (paid d)
+    form-pays_completions t (record { choices = seen c.in_ok-choices.choices.items; table = c.in_ok-table.table }) valid (made d (same choices) (few choices) c.in_ok-table.table table)

@@ -1,0 +1,114 @@
+-- Laws of answers.
+use Rattle.std.proofs.Common.{◌≡◌, ◌∙◌, inl, inr, ap, sym, subst, refl, Result, Ok, Err}
+use Rattle.std.specs.Result.{IsErrAnd}
+use Rattle.answers.specs.Answers.{Answer, only, refuse_where, by_case, ◌>>=◌, refused_by, map_err, map_ok, IsSingle, IsSingleAs, Gives}
+
+-- two values of one answer
+ok_same : {E Y : Type 0} (a b : Y) → ◌≡◌ {A = Result Y E} (Ok a) (Ok b) → a ≡ b
+ok_same a b e = cc
+
+-- two refusals of one answer
+err_same : {E Y : Type 0} (a b : E) → ◌≡◌ {A = Result Y E} (Err a) (Err b) → a ≡ b
+err_same a b e = cc
+
+-- a value is no refusal
+ok_no_err : {E Y : Type 0} (a : Y) (r : E) → ◌≡◌ {A = Result Y E} (Ok a) (Err r) → ⊥
+ok_no_err a r e = cc
+
+-- ---- at most one answer
+-- the values of a single stage are the same
+pub single-value : {E F Y : Type 0} (seen : E → F) (p : Answer E Y) (a b : Y) → IsSingleAs seen p → p (Ok a) → p (Ok b) → a ≡ b
+single-value seen p a b s h k = ok_same _ _ (s (Ok a) (Ok b) h k)
+
+-- a single stage with a value is not refused
+pub single-exclude : {E F Y : Type 0} (seen : E → F) (p : Answer E Y) (a : Y) (r : E) → IsSingleAs seen p → p (Ok a) → p (Err r) → ⊥
+single-exclude seen p a r s h k = ok_no_err _ _ (s (Ok a) (Err r) h k)
+
+-- stages one after another are single, if each is
+pub bind-single : {E F Y Z : Type 0} (seen : E → F) (p : Answer E Y) (f : Y → Answer E Z) → IsSingleAs seen p → ((y : Y) → p (Ok y) → IsSingleAs seen (f y)) → IsSingleAs seen (p >>= f)
+bind-single seen p f s t (Ok a) (Ok b) h k =
+    t k.0 k.1 (Ok a) (Ok b) (subst (λ y. f y (Ok a)) (single-value seen p h.0 k.0 s h.1 k.1) h.2) k.2
+bind-single seen p f s t (Ok a) (Err r) h (inl k) = absurd (single-exclude seen p h.0 r s h.1 k)
+bind-single seen p f s t (Ok a) (Err r) h (inr k) =
+    t k.0 k.1 (Ok a) (Err r) (subst (λ y. f y (Ok a)) (single-value seen p h.0 k.0 s h.1 k.1) h.2) k.2
+bind-single seen p f s t (Err r) (Ok b) (inl h) k = absurd (single-exclude seen p k.0 r s k.1 h)
+bind-single seen p f s t (Err r) (Ok b) (inr h) k =
+    t k.0 k.1 (Err r) (Ok b) (subst (λ y. f y (Err r)) (single-value seen p h.0 k.0 s h.1 k.1) h.2) k.2
+bind-single seen p f s t (Err r) (Err q) (inl h) (inl k) = ap Err (err_same _ _ (s (Err r) (Err q) h k))
+bind-single seen p f s t (Err r) (Err q) (inl h) (inr k) = absurd (single-exclude seen p k.0 r s k.1 h)
+bind-single seen p f s t (Err r) (Err q) (inr h) (inl k) = absurd (single-exclude seen p h.0 q s h.1 k)
+bind-single seen p f s t (Err r) (Err q) (inr h) (inr k) =
+    t k.0 k.1 (Err r) (Err q) (subst (λ y. f y (Err r)) (single-value seen p h.0 k.0 s h.1 k.1) h.2) k.2
+
+-- a value and nothing else is single
+pub only-single : {E F Y : Type 0} (seen : E → F) (y : Y) → IsSingleAs seen (only {E = E} y)
+only-single seen y one other h k = ap (map_err seen) (h ∙ sym k)
+
+-- so is a refusal where P holds
+pub refuse_where-single : {E F : Type 0} (seen : E → F) (P : Type 0) (refusal : E) → IsSingleAs seen (refuse_where P refusal)
+refuse_where-single seen P refusal (Ok _) (Ok _) h k = refl
+refuse_where-single seen P refusal (Ok _) (Err r) h k = absurd (h k.0)
+refuse_where-single seen P refusal (Err r) (Ok _) h k = absurd (k h.0)
+refuse_where-single seen P refusal (Err r) (Err q) h k = ap (λ x. Err (seen x)) (h.1 ∙ sym k.1)
+
+-- one of two stages is single, if each is where it is taken
+pub by_case-single : {E F Y : Type 0} (seen : E → F) (P : Type 0) (p q : Answer E Y) → (P → IsSingleAs seen p) → (¬ P → IsSingleAs seen q) → IsSingleAs seen (by_case P p q)
+by_case-single seen P p q s t one other (inl h) (inl k) = s h.0 one other h.1 k.1
+by_case-single seen P p q s t one other (inl h) (inr k) = absurd (k.0 h.0)
+by_case-single seen P p q s t one other (inr h) (inl k) = absurd (h.0 k.0)
+by_case-single seen P p q s t one other (inr h) (inr k) = t h.0 one other h.1 k.1
+
+-- telling a stage's reasons to stop by refusals keeps it single
+pub refused_by-single : {S E G Y : Type 0} (seen : E → G) (told : S → E) (p : Answer S Y) → ((one other : Result Y S) → p one → p other → map_err (λ stop. seen (told stop)) one ≡ map_err (λ stop. seen (told stop)) other) → IsSingleAs seen (refused_by told p)
+refused_by-single seen told p s (Ok a) (Ok b) h k = ap Ok (single-value (λ stop. seen (told stop)) p a b s h k)
+refused_by-single seen told p s (Ok a) (Err r) h k = absurd (single-exclude (λ stop. seen (told stop)) p a k.0 s h k.1)
+refused_by-single seen told p s (Err r) (Ok b) h k = absurd (single-exclude (λ stop. seen (told stop)) p b h.0 s k h.1)
+refused_by-single seen told p s (Err r) (Err q) h k =
+    ap Err (ap seen h.2 ∙ err_same _ _ (s (Err h.0) (Err k.0) h.1 k.1) ∙ sym (ap seen k.2))
+
+-- a stage that is single is so where less of its refusals is seen
+pub single-less : {E F G Y : Type 0} (seen : E → F) (less : E → G) (p : Answer E Y) → ((one other : E) → seen one ≡ seen other → less one ≡ less other) → IsSingleAs seen p → IsSingleAs less p
+single-less seen less p l s (Ok a) (Ok b) h k = ap Ok (single-value seen p a b s h k)
+single-less seen less p l s (Ok a) (Err r) h k = absurd (single-exclude seen p a r s h k)
+single-less seen less p l s (Err r) (Ok b) h k = absurd (single-exclude seen p b r s k h)
+single-less seen less p l s (Err r) (Err q) h k = ap Err (l r q (err_same _ _ (s (Err r) (Err q) h k)))
+
+-- a stage with at most one answer has so however its refusals are seen
+pub single-as : {E F Y : Type 0} (seen : E → F) (p : Answer E Y) → IsSingle p → IsSingleAs seen p
+single-as seen p s one other h k = ap (map_err seen) (s one other h k)
+
+-- ---- what calls give
+-- the answer of the second of two stages is that of both
+pub gives_bind : {E Y Z : Type 0} (memory : E) (p : Answer E Y) (f : Y → Answer E Z) (y : Y) (answer : Result Z E) → p (Ok y) → Gives memory (f y) answer → Gives memory (p >>= f) answer
+gives_bind memory p f y (Ok z) h g = (y, h, g)
+gives_bind memory p f y (Err r) h (inl m) = inl m
+gives_bind memory p f y (Err r) h (inr g) = inr (inr (y, h, g))
+
+-- a refusal of the first is that of both
+pub gives_first : {E Y Z : Type 0} (memory : E) (p : Answer E Y) (f : Y → Answer E Z) (r : E) → Gives memory p (Err r) → Gives memory (p >>= f) (Err r)
+gives_first memory p f r (inl m) = inl m
+gives_first memory p f r (inr h) = inr (inl h)
+
+-- what a call gives whose reasons to stop are told by refusals
+pub gives_refused : {S E Y : Type 0} (memory : S) (told : S → E) (p : Answer S Y) (answer : Result Y S) → Gives memory p answer → Gives (told memory) (refused_by told p) (map_err told answer)
+gives_refused memory told p (Ok y) g = g
+gives_refused memory told p (Err r) (inl m) = inl (ap told m)
+gives_refused memory told p (Err r) (inr h) = inr (r, h, refl)
+
+-- the same where the answer's value stands for another
+pub gives_bind_as : {E X Y Z : Type 0} (memory : E) (p : Answer E Y) (f : Y → Answer E Z) (y : Y) (answer : Result X E) (view : X → Z) → p (Ok y) → Gives memory (f y) (map_ok answer view) → Gives memory (p >>= f) (map_ok answer view)
+gives_bind_as memory p f y answer view h g = gives_bind memory p f y (map_ok answer view) h g
+
+-- what the exit of a `?` gives
+pub gives_exit : {E X Y Z : Type 0} (memory : E) (p : Answer E Y) (f : Y → Answer E Z) (r : E) (answer : Result X E) (view : X → Z) → Gives memory p (Err r) → IsErrAnd answer (λ q. q ≡ r) → Gives memory (p >>= f) (map_ok answer view)
+gives_exit memory p f r (Ok x) view g e = elim e [ ]
+gives_exit memory p f r (Err q) view g e = subst (λ r. Gives memory (p >>= f) (Err r)) (sym e) (gives_first memory p f r g)
+
+-- what the exit of a `?` gives that tells a stage's reason to stop by a refusal
+pub gives_told_exit : {S E X Y Z : Type 0} (memory : S) (told : S → E) (p : Answer S Y) (f : Y → Answer E Z) (stop : S) (answer : Result X E) (view : X → Z) → Gives memory p (Err stop) → IsErrAnd answer (λ q. q ≡ told stop) → Gives (told memory) (refused_by told p >>= f) (map_ok answer view)
+gives_told_exit memory told p f stop (Ok x) view g e = elim e [ ]
+gives_told_exit memory told p f stop (Err q) view g e =
+    subst (λ r. Gives (told memory) (refused_by told p >>= f) (Err r)) (sym e) (gives_first (told memory) (refused_by told p) f (told stop) (gives_refused memory told p (Err stop) g))
+
+-- what calls of stages one after another give
+pub ruleset stages = (gives_bind_as, gives_exit, gives_told_exit)

@@ -1,0 +1,52 @@
+//! What a computation in stages may answer, and its laws.
+#![tactic(auto)]
+
+ghost use Rattle.std.specs.Prelude.{◌≡◌, Ok, Err, Result};
+ghost use Rattle.answers.specs.Answers.{Answer, IsSingle, IsSingleAs, Gives, then, refused_by, map_err};
+
+/// Two stages, of which the second may speak of what the first gives.
+pub trait Stages<E, F, Y, Z> {
+    /// How refusals are compared.
+    ghost seen: { E → F };
+
+    /// The refusal for want of memory.
+    ghost memory: { E };
+
+    /// The first stage.
+    ghost first: { Answer E Y };
+
+    /// The second stage, by the value of the first.
+    ghost second: { Y → Answer E Z };
+}
+
+/// Stages one after another have at most one answer, if each has.
+pub fn stages_are_single<E, F, Y, Z, S: Stages<E, F, Y, Z>>()
+    ensures { IsSingleAs S.seen S.first → ((y : Y) → S.first (Ok y) → IsSingleAs S.seen (S.second y)) → IsSingleAs S.seen (then S.first S.second) }
+{}
+
+/// The answer of the second of two stages is that of both, and so is a refusal of the first.
+pub fn stages_give<E, F, Y, Z, S: Stages<E, F, Y, Z>>()
+    ensures second { (y : Y) (answer : Result Z E) → S.first (Ok y) → Gives S.memory (S.second y) answer → Gives S.memory (then S.first S.second) answer }
+    ensures first { (r : E) → Gives S.memory S.first (Err r) → Gives S.memory (then S.first S.second) (Err r) }
+{}
+
+/// A stage whose reasons to stop are told by refusals.
+pub trait Reasons<R, E, G, Y> {
+    /// How refusals are compared.
+    ghost seen: { E → G };
+
+    /// The reason for want of memory.
+    ghost memory: { R };
+
+    /// The refusal for a reason.
+    ghost told: { R → E };
+
+    /// The stage.
+    ghost stage: { Answer R Y };
+}
+
+/// A stage with at most one answer has so when its reasons are told by refusals, and its call gives it.
+pub fn reasons_are_told<R, E, G, Y, S: Reasons<R, E, G, Y>>()
+    ensures single { IsSingle S.stage → IsSingleAs S.seen (refused_by S.told S.stage) }
+    ensures given { (answer : Result Y R) → Gives S.memory S.stage answer → Gives (S.told S.memory) (refused_by S.told S.stage) (map_err S.told answer) }
+{}

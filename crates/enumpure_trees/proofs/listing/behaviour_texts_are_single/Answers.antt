@@ -1,0 +1,7 @@
+use Rattle.tree_lines.specs.TreeEquilibria.{IsTreeEquilibriaText}
+use Rattle.tree_lines.proofs.EquilibriumLines.{text-determined}
+use Rattle.enumpure.proofs.Texts.{within_text_limit-single}
+use Rattle.enumpure_trees.proofs.listing.behaviour_texts_are_single.Goals as goal
+
+pub returns : goal.returns
+returns c = λ t strategies. within_text_limit-single (IsTreeEquilibriaText t strategies) (text-determined t strategies)

@@ -1,0 +1,160 @@
+-- Runs: from the computed text to what is told, and that they are exact.
+use Rattle.std.proofs.Common.{ℕ, suc, ◌≡◌, ◌<◌, ◌⊎◌, ◌∙◌, inl, inr, sym, ap, subst, refl, arith, List, [], ◌∷◌, Contains, Option, None, Some, Result, Ok, Err}
+use Rattle.std.specs.Result.{result_err}
+use Rattle.answers.specs.Answers.{map_ok}
+use Rattle.outside.specs.Inputs.{InputName, InputsSeen}
+use Rattle.words.specs.Words.{Command, command_from}
+use Rattle.words.specs.declared.Usage.{Usage}
+use Rattle.gambit_tools.specs.Seen.{Outside, Seen, but_for_err}
+use Rattle.gambit_tools.specs.Input.{AreBytesOf, CountsTell}
+use Rattle.gambit_tools.specs.Commands.{inputs_of, answer_of}
+use Rattle.gambit_tools.specs.Origins.{Origin, Words, Outside as OfOutside, Length, Contents as OfContents, Memory, Opening, Reading, Writing, origin}
+use Rattle.gambit_tools.specs.Outcome.{RunAnswer, AreContents, AreToldContents, HasAnswer, AreRead, HasReadBefore, IsStoppedIn, IsCommandRun, IsRunOf, IsExact, IsComplete, NoFault, Tells, IsOutcome}
+use Rattle.gambit_tools.specs.Refusals.{status_of, run_status, NamesNumbers, IsToldAs}
+use Rattle.gambit_tools.specs.declared.refusal.Refusal.{Refusal}
+use Rattle.gambit_tools.specs.declared.refusal.Refusal.TheVariants as refusal
+use Rattle.gambit_tools.proofs.Singles.{answer_of-single}
+
+-- ---- what is told
+-- a refusal that names numbers comes from the contents
+names_contents : (r : Refusal) → NamesNumbers r → origin r ≡ OfContents
+names_contents (refusal.Text fault) names = refl
+names_contents (refusal.Nfg fault) names = refl
+names_contents (refusal.Efg fault) names = refl
+names_contents (refusal.TooLarge counted count limit) names = refl
+names_contents (refusal.Range place step) names = refl
+names_contents _ names = elim names [ ]
+
+-- of inputs that were read one is selected, or nothing was read
+later : (names : List InputName) (first name : InputName) → Contains names name → Contains (first ∷ names) name
+later names first name h = (suc h.0, omega (arith, h.1), h.2)
+
+some_read : (names : List InputName) (before after : InputsSeen) → AreRead names before after → (after ≡ before) ⊎ ((name : InputName) × Contains names name × (after.selected ≡ Some name))
+some_read [] before after h = inl h
+some_read (name ∷ []) before after h = inr (name, (0, omega arith, refl), h.selected)
+some_read (name ∷ other ∷ names) before after h = elim (some_read (other ∷ names) before after h) [ inl e ↦ inl e | inr s ↦ inr (s.0, later (other ∷ names) name s.0 s.1, s.2) ]
+
+-- want of memory that is told in place of a refusal by the contents
+memory_told : (command : Command) (before after : Outside) (r : Refusal) → origin r ≡ OfContents → IsCommandRun command before after (Err r) → IsCommandRun command before after (Err refusal.Memory)
+memory_told command before after r o h =
+    let stopped = subst (IsStoppedIn command before after r) o h.ends in
+    record { ends = (tt, stopped.1); has_read = some_read (inputs_of command) before.inputs after.inputs (subst (HasReadBefore (inputs_of command) before.inputs after.inputs) o h.has_read) }
+
+err_same : (a b : Refusal) → ◌≡◌ {A = RunAnswer} (Err a) (Err b) → a ≡ b
+err_same a b e = cc
+
+pub told-run : (given : Result Command Usage) (before after : Outside) (r told : Refusal) → IsToldAs r told → IsRunOf given before after (Err r) → IsRunOf given before after (Err told)
+told-run given before after r told (inl e) h = subst (λ x. IsRunOf given before after (Err x)) (sym e) h
+told-run (Ok command) before after r told (inr (names, e)) h = subst (λ x. IsRunOf (Ok command) before after (Err x)) (sym e) (memory_told command before after r (names_contents r names) h)
+told-run (Err usage) before after r told (inr (names, e)) h = absurd (subst NamesNumbers (err_same r (refusal.Usage usage) h.is_refused) names)
+
+some_same : (a b : Refusal) → Some a ≡ Some b → a ≡ b
+some_same a b e = cc
+
+-- a counted fault of an input shows in the status that is told
+pub status-input_faults : (before after : InputsSeen) (r told : Refusal) (status : ℕ) → IsToldAs r told → status ≡ status_of told → CountsTell before after (Some r) → (before.open_faults < after.open_faults) ⊎ (before.read_faults < after.read_faults) → (status ≡ 3) ⊎ (status ≡ 5)
+status-input_faults before after r told status (inl t) e tell (inl h) = inl (e ∙ ap status_of (t ∙ some_same r refusal.OpenFault (tell.opening h)))
+status-input_faults before after r told status (inl t) e tell (inr h) = inl (e ∙ ap status_of (t ∙ some_same r refusal.ReadFault (tell.reading h)))
+status-input_faults before after r told status (inr p) e tell h = inr (e ∙ ap status_of p.1)
+
+-- a counted fault of the output shows in the status that is told
+pub status-output_faults : (r told : Refusal) (status : ℕ) → IsToldAs r told → status ≡ status_of told → Some r ≡ Some refusal.WriteFault → status ≡ 4
+status-output_faults r told status (inl t) e f = e ∙ ap status_of (t ∙ some_same r refusal.WriteFault f)
+status-output_faults r told status (inr p) e f = absurd (subst NamesNumbers (some_same r refusal.WriteFault f) p.0)
+
+-- ---- runs are exact
+-- contents that are told are the contents
+told_contents : (held : InputName → Option (List ℕ)) (names : List InputName) (one other : List (List ℕ)) → AreContents held names one → AreToldContents held names other → one ≡ other
+told_contents held [] [] [] h k = refl
+told_contents held (name ∷ names) (bytes ∷ one) (told ∷ other) h k =
+    (let same : told ≡ bytes = subst (λ x. AreBytesOf x bytes) k.0 h.0 in
+    let rest : one ≡ other = told_contents held names one other h.1 k.1 in
+    subst (λ x. bytes ∷ one ≡ x ∷ other) (sym same) (ap (λ x. bytes ∷ x) rest))
+told_contents held [] [] (told ∷ other) h k = absurd k
+told_contents held [] (bytes ∷ one) other h k = absurd h
+told_contents held (name ∷ names) [] other h k = absurd h
+told_contents held (name ∷ names) (bytes ∷ one) [] h k = absurd k
+
+-- an answer by the contents is one by what the inputs tell
+by_told : (command : Command) (before : InputsSeen) (contents : List (List ℕ)) (answer : RunAnswer) → AreToldContents before.held (inputs_of command) contents → HasAnswer command before answer → answer_of command contents answer
+by_told command before contents answer told h = subst (λ c. answer_of command c answer) (told_contents before.held (inputs_of command) h.contents contents h.are_contents told) h.is_answer
+
+of_memory : (r : Refusal) → origin r ≡ Memory → r ≡ refusal.Memory
+of_memory refusal.Memory e = refl
+of_memory _ e = absurd cc
+
+-- a refusal is by what the inputs tell, where no fault was counted and memory did not run out
+told_refusal : (command : Command) (before after : Outside) (contents : List (List ℕ)) (r : Refusal) (o : Origin) → origin r ≡ o → IsStoppedIn command before after r o
+    → AreToldContents before.inputs.held (inputs_of command) contents → NoFault before after → (◌≡◌ {A = RunAnswer} (Err r) (Err refusal.Memory)) ⊎ answer_of command contents (Err r)
+told_refusal command before after contents r (Words usage) e h told none = absurd h.0
+told_refusal command before after contents r (OfOutside Opening) e h told none = absurd (none.opening h.0.2.rose)
+told_refusal command before after contents r (OfOutside Reading) e h told none = absurd (none.reading h.0.2.rose)
+told_refusal command before after contents r (OfOutside Writing) e h told none = absurd (none.writing h.0)
+told_refusal command before after contents r Length e h told none = inr (by_told command before.inputs contents (Err r) told h.0)
+told_refusal command before after contents r OfContents e h told none = inr (by_told command before.inputs contents (Err r) told h.0)
+told_refusal command before after contents r Memory e h told none = inl (ap Err (of_memory r e))
+
+-- and so is an answer
+told_answer : (command : Command) (before after : Outside) (contents : List (List ℕ)) (answer : RunAnswer) → IsCommandRun command before after answer
+    → AreToldContents before.inputs.held (inputs_of command) contents → NoFault before after → (answer ≡ Err refusal.Memory) ⊎ answer_of command contents answer
+told_answer command before after contents (Ok text) h told none = inr (by_told command before.inputs contents (Ok text) told h.ends.0)
+told_answer command before after contents (Err r) h told none = told_refusal command before after contents r (origin r) refl h.ends told none
+
+run-exact : (words : List (List ℕ)) (before after : Outside) (answer : RunAnswer) → IsRunOf (command_from words) before after answer → IsExact words before after answer
+run-exact words before after answer h command e contents told none =
+    elim (told_answer command before after contents answer (subst (λ w. IsRunOf w before after answer) e h) told none) [
+      | inl m ↦ inl m
+      | inr g ↦ inr (g, λ other k. answer_of-single command contents answer other g k)
+    ]
+
+-- ---- outcomes
+none_some : (r : Refusal) → None ≡ Some r → ⊥
+none_some r e = cc
+
+-- a run that answers the text
+pub outcome-text : {X : Type 0} (words : List (List ℕ)) (before after : Seen) (answered : Result X Refusal) (view : X → List ℕ) → None ≡ result_err answered
+    → IsRunOf (command_from words) (but_for_err before) (but_for_err after) (map_ok answered view) → CountsTell before.inputs after.inputs (result_err answered)
+    → (before.out.faults < after.out.faults → result_err answered ≡ Some refusal.WriteFault)
+    → ((name : InputName) → after.inputs.held name ≡ before.inputs.held name) → after.err.taken ≡ before.err.taken → IsOutcome words before after 0 (map_ok answered view)
+outcome-text words before after (Ok x) view e h counts faults stay untold = record {
+  status_is = refl;
+  is_run = h;
+  is_exact = run-exact words (but_for_err before) (but_for_err after) (Ok (view x)) h;
+  tells = untold;
+  input_faults = λ rose. absurd (elim rose [ inl l ↦ none_some _ (counts.opening l) | inr l ↦ none_some _ (counts.reading l) ]);
+  output_faults = λ rose. absurd (none_some _ (faults rose));
+  inputs_stay = stay;
+}
+outcome-text words before after (Err r) view e h counts faults stay untold = absurd (none_some r e)
+
+-- a run that is refused
+pub outcome-told : {X : Type 0} (words : List (List ℕ)) (before after : Seen) (answered : Result X Refusal) (view : X → List ℕ) (r told : Refusal) (status : ℕ) → Some r ≡ result_err answered
+    → IsRunOf (command_from words) (but_for_err before) (but_for_err after) (map_ok answered view) → CountsTell before.inputs after.inputs (result_err answered)
+    → (before.out.faults < after.out.faults → result_err answered ≡ Some refusal.WriteFault)
+    → ((name : InputName) → after.inputs.held name ≡ before.inputs.held name) → IsToldAs r told → status ≡ status_of told → Tells before.err after.err (Some told)
+    → IsOutcome words before after status (Err told)
+outcome-told words before after (Ok x) view r told status e h counts faults stay is status_is tells = absurd (none_some r (sym e))
+outcome-told words before after (Err q) view r told status e h counts faults stay is status_is tells =
+    (let same : IsToldAs q told = subst (λ x. IsToldAs x told) (some_same r q e) is in
+    let run : IsRunOf (command_from words) (but_for_err before) (but_for_err after) (Err told) = told-run (command_from words) (but_for_err before) (but_for_err after) q told same h in
+    record {
+      status_is = status_is;
+      is_run = run;
+      is_exact = run-exact words (but_for_err before) (but_for_err after) (Err told) run;
+      tells = tells;
+      input_faults = status-input_faults before.inputs after.inputs q told status same status_is counts;
+      output_faults = λ rose. status-output_faults q told status same status_is (faults rose);
+      inputs_stay = stay;
+    })
+
+-- what is not refused is answered
+unrefused : (command : Command) (contents : List (List ℕ)) (answer : RunAnswer) (status : ℕ) → status ≡ run_status (result_err answer) → answer_of command contents answer → ((r : Refusal) → ¬ (answer_of command contents (Err r))) → (status ≡ 0) ⊎ (status ≡ 5)
+unrefused command contents (Ok text) status e g none = inl e
+unrefused command contents (Err r) status e g none = absurd (none r g)
+
+pub outcome-complete : (words : List (List ℕ)) (before after : Seen) (status : ℕ) (answer : RunAnswer) → IsOutcome words before after status answer → IsComplete words (but_for_err before) (but_for_err after) status
+outcome-complete words before after status answer o command e contents told none not_refused =
+    elim (o.is_exact command e contents told none) [
+      | inl m ↦ inr (o.status_is ∙ ap (λ x. run_status (result_err x)) m)
+      | inr g ↦ unrefused command contents answer status o.status_is g.0 not_refused
+    ]

@@ -1,0 +1,98 @@
+-- Each stage has at most one answer.
+use Rattle.std.proofs.Common.{ℕ, ◌≡◌, ◌<◌, ◌∙◌, sym, ap, refl, Bool, true, false, List, [], length, slice_index_or}
+use Rattle.std.specs.List.{AllByRecursion}
+use Rattle.answers.specs.Answers.{IsSingle, IsSingleAs, refuse_where, only, refused_by}
+use Rattle.answers.proofs.Answers.{bind-single, by_case-single, only-single, refuse_where-single, refused_by-single, single-as, single-less}
+use Rattle.game_core.specs.Table.{game_of as game_of_table}
+use Rattle.game_core.specs.Tree.{GameTree}
+use Rattle.game_core.specs.TreeGame.{game_of_tree}
+use Rattle.game_core.specs.declared.game.Game.{Game}
+use Rattle.game_core.specs.declared.game.Game.TheVariants.{Strategic, Extensive}
+use Rattle.game_text.specs.TokenList.{TokenList, bare}
+use Rattle.game_text.specs.Tokens.{IsShortToken}
+use Rattle.game_text.specs.Stops.{tokens_of}
+use Rattle.game_text.proofs.Passes.{tokens_are_short}
+use Rattle.game_text.proofs.Single.{tokens_of-single}
+use Rattle.nfg_reader.specs.Stops.{table_in, but_for_fault as nfg_but_for_fault}
+use Rattle.nfg_reader.specs.declared.reading.NfgStop.{NfgStop}
+use Rattle.nfg_reader.specs.declared.reading.NfgStop.TheVariants as nfg_stop
+use Rattle.nfg_reader.proofs.FileLaws.{table_in-single}
+use Rattle.efg_reader.specs.Stops.{tree_in, but_for_fault as efg_but_for_fault}
+use Rattle.efg_reader.specs.declared.fault.EfgStop.{EfgStop}
+use Rattle.efg_reader.specs.declared.fault.EfgStop.TheVariants as efg_stop
+use Rattle.efg_reader.proofs.FileStops.{tree_in-single}
+use Rattle.reduced_form.specs.ReducedForm.{ReducedForm}
+use Rattle.reduced_form.specs.Stops.{form_of}
+use Rattle.reduced_form.proofs.Exact.{form_of-single}
+use Rattle.tree_lines.specs.TreeEquilibria.{IsTreeEquilibriaText}
+use Rattle.tree_lines.proofs.EquilibriumLines.{text-determined}
+use Rattle.enumpure.specs.Stops.{pure_text}
+use Rattle.enumpure.proofs.Texts.{pure_text-single, within_text_limit-single}
+use Rattle.words.specs.Words.{Command, Enumpure}
+use Rattle.gambit_tools.specs.Input.{most_bytes}
+use Rattle.gambit_tools.specs.Told.{text_refusal, nfg_refusal, efg_refusal, form_refusal, list_refusal}
+use Rattle.gambit_tools.specs.Games.{BeginsAsTree, tokens_in, tree_game, table_game, game_of, game_in}
+use Rattle.gambit_tools.specs.Enumpure.{form_text, enumpure}
+use Rattle.gambit_tools.specs.Commands.{tool_of, answer_of}
+use Rattle.gambit_tools.specs.Origins.{forget}
+use Rattle.gambit_tools.specs.declared.refusal.Refusal.TheVariants as refusal
+
+-- ---- games
+tokens_in-single : (bytes : List ℕ) → IsSingleAs forget (tokens_in bytes)
+tokens_in-single bytes =
+    bind-single forget (refuse_where (most_bytes < length bytes) refusal.TooLong) (λ _. refused_by text_refusal (tokens_of bytes))
+    (refuse_where-single forget (most_bytes < length bytes) refusal.TooLong)
+    (λ _ _. refused_by-single forget text_refusal (tokens_of bytes) (single-as (λ stop. forget (text_refusal stop)) (tokens_of bytes) (tokens_of-single bytes)))
+
+-- a stop without its fault is told in the same way
+nfg_told : (stop : NfgStop) → forget (nfg_refusal stop) ≡ forget (nfg_refusal (nfg_but_for_fault stop))
+nfg_told (nfg_stop.Fault fault) = refl
+nfg_told (nfg_stop.TooLarge limit) = refl
+nfg_told nfg_stop.Memory = refl
+
+efg_told : (stop : EfgStop) → forget (efg_refusal stop) ≡ forget (efg_refusal (efg_but_for_fault stop))
+efg_told (efg_stop.Fault fault) = refl
+efg_told (efg_stop.TooLarge limit) = refl
+efg_told efg_stop.Memory = refl
+
+table_game-single : (tokens : TokenList) → IsSingleAs forget (table_game tokens)
+table_game-single tokens =
+    bind-single forget (refused_by nfg_refusal (table_in tokens)) (λ table. only (Strategic table))
+    (refused_by-single forget nfg_refusal (table_in tokens) (single-less nfg_but_for_fault (λ stop. forget (nfg_refusal stop)) (table_in tokens)
+      (λ one other e. nfg_told one ∙ ap (λ stop. forget (nfg_refusal stop)) e ∙ sym (nfg_told other)) (table_in-single tokens)))
+    (λ table _. only-single forget (Strategic table))
+
+tree_game-single : (tokens : TokenList) → AllByRecursion IsShortToken (bare tokens) → IsSingleAs forget (tree_game tokens)
+tree_game-single tokens short =
+    bind-single forget (refused_by efg_refusal (tree_in tokens)) (λ tree. only (Extensive tree))
+    (refused_by-single forget efg_refusal (tree_in tokens) (single-less efg_but_for_fault (λ stop. forget (efg_refusal stop)) (tree_in tokens)
+      (λ one other e. efg_told one ∙ ap (λ stop. forget (efg_refusal stop)) e ∙ sym (efg_told other)) (tree_in-single tokens short)))
+    (λ tree _. only-single forget (Extensive tree))
+
+game_in-single : (bytes : List ℕ) → IsSingleAs forget (game_in bytes)
+game_in-single bytes =
+    bind-single forget (tokens_in bytes) game_of (tokens_in-single bytes)
+    (λ tokens h. by_case-single forget (BeginsAsTree (bare tokens)) (tree_game tokens) (table_game tokens) (λ _. tree_game-single tokens (tokens_are_short bytes tokens h.2)) (λ _. table_game-single tokens))
+
+-- ---- the tool `enumpure`
+form_text-single : (strategic : Bool) (tree : GameTree) (form : ReducedForm) → IsSingle (form_text strategic tree form)
+form_text-single true tree form = pure_text-single (game_of_table form.table)
+form_text-single false tree form = within_text_limit-single (IsTreeEquilibriaText (game_of_tree tree) form.choices) (text-determined (game_of_tree tree) form.choices)
+
+enumpure-single : (strategic : Bool) (game : Game) → IsSingleAs forget (enumpure strategic game)
+enumpure-single strategic (Strategic table) =
+    refused_by-single forget list_refusal (pure_text (game_of_table table)) (single-as (λ stop. forget (list_refusal stop)) (pure_text (game_of_table table)) (pure_text-single (game_of_table table)))
+enumpure-single strategic (Extensive tree) =
+    bind-single forget (refused_by form_refusal (form_of tree)) (λ form. refused_by list_refusal (form_text strategic tree form))
+    (refused_by-single forget form_refusal (form_of tree) (single-as (λ stop. forget (form_refusal stop)) (form_of tree) (form_of-single tree)))
+    (λ form _. refused_by-single forget list_refusal (form_text strategic tree form) (single-as (λ stop. forget (list_refusal stop)) (form_text strategic tree form) (form_text-single strategic tree form)))
+
+-- ---- commands
+-- each tool has a line
+tool_of-single : (command : Command) (game : Game) → IsSingleAs forget (tool_of command game)
+tool_of-single (Enumpure strategic file) game = enumpure-single strategic game
+
+pub answer_of-single : (command : Command) (contents : List (List ℕ)) → IsSingleAs forget (answer_of command contents)
+answer_of-single command contents =
+    let bytes = slice_index_or contents 0 [] in
+    bind-single forget (game_in bytes) (tool_of command) (game_in-single bytes) (λ game _. tool_of-single command game)

@@ -1,0 +1,27 @@
+-- The tool `enumpure`: the text of a game's pure equilibria.
+use Rattle.std.specs.Prelude.{ℕ, Bool, true, false, List}
+use Rattle.answers.specs.Answers.{Answer, ◌>>=◌, refused_by}
+use Rattle.game_core.specs.Table.{game_of}
+use Rattle.game_core.specs.Tree.{GameTree}
+use Rattle.game_core.specs.TreeGame.{game_of_tree}
+use Rattle.game_core.specs.declared.game.Game.{Game}
+use Rattle.game_core.specs.declared.game.Game.TheVariants.{Strategic, Extensive}
+use Rattle.reduced_form.specs.ReducedForm.{ReducedForm}
+use Rattle.reduced_form.specs.Stops.{form_of}
+use Rattle.enumpure.specs.Stops.{pure_text}
+use Rattle.enumpure.specs.declared.listing.ListStop.{ListStop}
+use Rattle.enumpure_trees.specs.Stops.{behaviour_text}
+use Rattle.gambit_tools.specs.Told.{form_refusal, list_refusal}
+use Rattle.gambit_tools.specs.declared.refusal.Refusal.{Refusal}
+
+-- The text of a tree's pure equilibria, which are those of its reduced strategic form: by strategies, or as behaviour.
+abbrev pub form_text : Bool → GameTree → ReducedForm → Answer ListStop (List ℕ)
+form_text true tree form = pure_text (game_of form.table)
+form_text false tree form = behaviour_text (game_of_tree tree) form.choices
+
+-- the answer of `enumpure`, where a tree's equilibria are listed by strategies or not
+abbrev pub enumpure : Bool → Game → Answer Refusal (List ℕ)
+enumpure strategic (Strategic table) = refused_by list_refusal (pure_text (game_of table))
+enumpure strategic (Extensive tree) = do
+  form ← refused_by form_refusal (form_of tree)
+  refused_by list_refusal (form_text strategic tree form)

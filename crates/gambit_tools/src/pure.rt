@@ -1,0 +1,63 @@
+// The tool `enumpure`.
+ghost use Rattle.std.specs.Prelude.{option_map, string_bytes};
+ghost use Rattle.answers.specs.Answers.{Gives, map_ok};
+ghost use Rattle.reduced_form.specs.ReducedForm.{IsReducedForm};
+ghost use Rattle.enumpure.specs.declared.listing.ListStop.TheVariants as list_stop;
+ghost use Rattle.words.specs.Words.{Enumpure};
+ghost use Rattle.gambit_tools.specs.Enumpure.{form_text, enumpure};
+ghost use Rattle.gambit_tools.specs.Outcome.{IsComputed};
+
+use crate::games::game_in;
+use crate::input::read_input;
+use crate::refusal::Refusal;
+use enumpure::{ListStop, list_pure_equilibria};
+use enumpure_trees::list_pure_behaviours;
+use game_core::{Game, Tree};
+use outside::Inputs;
+use reduced_form::{Reduced, reduce};
+use std::alloc::Global;
+
+/// The text of the pure equilibria of a tree with this reduced form, by strategies or as behaviour.
+fn form_text(
+    alloc: Global,
+    strategic: bool,
+    tree: &Tree,
+    reduced: &Reduced,
+) -> Result<Vec<u8>, ListStop>
+    requires form { IsReducedForm tree.now reduced.now }
+    ensures { Gives list_stop.Memory (form_text strategic tree.now reduced.now) (map_ok result (λ text. text.items)) }
+{
+    if strategic {
+        list_pure_equilibria(alloc, reduced.table())
+    } else {
+        list_pure_behaviours(alloc, tree, reduced)
+    }
+}
+
+/// The text of the pure equilibria of a game; those of a tree by strategies or as behaviour.
+fn pure_equilibria(alloc: Global, strategic: bool, game: &Game) -> Result<Vec<u8>, Refusal>
+    ensures { Gives Refusal.Memory (enumpure strategic game.now) (map_ok result (λ text. text.items)) }
+{
+    match game {
+        Game::Strategic(table) => Ok(list_pure_equilibria(alloc, table)?),
+        Game::Extensive(tree) => {
+            let reduced = reduce(alloc, tree)?;
+            Ok(form_text(alloc, strategic, tree, &reduced)?)
+        }
+    }
+}
+
+/// Reads the game in a file, or on standard input where no file is named, and lists its pure equilibria.
+pub fn enumpure<I: Inputs>(
+    alloc: Global,
+    strategic: bool,
+    file: Option<String>,
+    inputs: &mut I,
+) -> Result<Vec<u8>, Refusal>
+    ensures { IsComputed (Enumpure strategic (option_map string_bytes file))
+        (I.seen inputs.old) (I.seen inputs.new) (map_ok result (λ text. text.items)) }
+{
+    let bytes = read_input(alloc, inputs, file)?;
+    let game = game_in(alloc, &bytes)?;
+    pure_equilibria(alloc, strategic, &game)
+}
