@@ -79,16 +79,15 @@ fn owned(alloc: Global, words: &[&str]) -> Result<Vec<String>, Memory> {
     Ok(owned)
 }
 
-// Whether a run of `enumpure` over these bytes ends with this status, writes so many bytes of text and tells this line.
+// Whether a run of `enumpure` over these inputs ends with this status, writes so many bytes of text and tells this line.
 fn holds_over<R: Threads + Sync>(
     rt: &R,
     alloc: Global,
-    input: Vec<u8>,
+    mut inputs: MemInputs,
     status: u8,
     text_length: usize,
     line: &str,
 ) -> Result<bool, Memory> {
-    let mut inputs = MemInputs::new(input, Vec::new(alloc), Vec::new(alloc));
     let mut out = MemSink::new(alloc, text_length.max(1), text_length, false)?;
     let mut err = MemSink::new(alloc, 1000, 1000, false)?;
     let words = owned(alloc, &["enumpure"])?;
@@ -104,11 +103,12 @@ fn holds_over<R: Threads + Sync>(
     Ok(answer == status && out.taken().len() == text_length && err.taken() == line.as_bytes())
 }
 
-/// A run of `enumpure` over pieces, each so many times, and the status, the number of bytes of text and the line on
-/// standard error that are wanted.
+/// A run of `enumpure` over pieces, each so many times, the numbers of the calls of the input that fail, and the status,
+/// the number of bytes of text and the line on standard error that are wanted.
 #[derive(Clone, Copy)]
 pub struct Large<'a> {
     pub pieces: &'a [(&'a str, usize)],
+    pub failing: &'a [u64],
     pub status: u8,
     pub text_length: usize,
     pub err: &'a str,
@@ -121,7 +121,9 @@ impl<'a> Large<'a> {
         for (piece, count) in self.pieces {
             append(&mut input, piece, *count)?;
         }
-        holds_over(rt, alloc, input, self.status, self.text_length, self.err)
+        let failing = Vec::from_slice(alloc, self.failing)?;
+        let inputs = MemInputs::new(input, Vec::new(alloc), failing);
+        holds_over(rt, alloc, inputs, self.status, self.text_length, self.err)
     }
 }
 

@@ -177,21 +177,28 @@ fn failing_sinks_are_told(rt: HostRuntime) -> Result<(), Memory> {
     Ok(())
 }
 
-/// A fault of standard error changes no status, and leaves a front of the line; the last row has room for the line.
+/// A fault of standard error changes no status, and leaves a front of the line, whether it names numbers or not: (words,
+/// input, bytes that standard error takes, status, what it took).
 #[test]
 fn faults_of_the_error_sink_change_nothing(rt: HostRuntime) -> Result<(), Memory> {
-    let rows: [(&[&str], usize, &str); 3] = [
-        (&[], 0, ""),
-        (&[], 7, "gambit:"),
-        (&[], 16, "gambit: no tool\n"),
+    let long = "NFG 1 R \"\" { \"A\" } { 1048577 }";
+    let rows: [(&[&str], &str, usize, u8, &str); 8] = [
+        (&[], "", 0, 2, ""),
+        (&[], "", 7, 2, "gambit:"),
+        (&[], "", 16, 2, "gambit: no tool\n"),
+        (&["enumpure"], "", 0, 1, ""),
+        (&["enumpure"], "", 7, 1, "gambit:"),
+        (&["enumpure"], "", 31, 1, "gambit: nfg fault at 0: header\n"),
+        (&["enumpure"], long, 0, 1, ""),
+        (&["enumpure"], long, 19, 1, "gambit: too large: "),
     ];
-    for (words, err_limit, err) in rows {
+    for (words, input, err_limit, status, err) in rows {
         let case = Case {
             words,
             err_limit,
-            status: 2,
+            status,
             err,
-            ..Case::of("")
+            ..Case::of(input)
         };
         assert!(rt; case.holds(&rt, rt.alloc())?);
     }
@@ -265,11 +272,27 @@ fn limits_are_kept(rt: HostRuntime) -> Result<(), Memory> {
     for (front, piece, count, status, text_length, err) in rows {
         let large = Large {
             pieces: &[(front, 1), (piece, count)],
+            failing: &[],
             status,
             text_length,
             err,
         };
         assert!(rt; large.holds(&rt, rt.alloc())?);
     }
+    Ok(())
+}
+
+/// An input is read to the first byte above the limit and no further: after its selection and 257 reads of 65,536 bytes
+/// at most, the next call would fail.
+#[test]
+fn nothing_is_read_behind_the_limit(rt: HostRuntime) -> Result<(), Memory> {
+    let large = Large {
+        pieces: &[(" ", 16_777_218)],
+        failing: &[259],
+        status: 1,
+        text_length: 0,
+        err: "gambit: file longer than 16777216 bytes\n",
+    };
+    assert!(rt; large.holds(&rt, rt.alloc())?);
     Ok(())
 }

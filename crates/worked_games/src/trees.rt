@@ -504,6 +504,7 @@ fn limits_on_nodes_are_kept(rt: HostRuntime) -> Result<(), Memory> {
         ];
         let large = Large {
             pieces: &pieces,
+            failing: &[],
             status: 1,
             text_length: 0,
             err,
@@ -536,6 +537,7 @@ fn limits_on_texts_of_trees_are_kept(rt: HostRuntime) -> Result<(), Memory> {
         ];
         let large = Large {
             pieces: &pieces,
+            failing: &[],
             status,
             text_length,
             err,
