@@ -1,7 +1,8 @@
 //! Extreme points of linear systems by lexicographic pivots, for contracts and proofs.
 //!
-//! `specs::Points` has the solutions without negative entries and the extreme ones among them, `specs::Reach` what
-//! lexicographic pivots reach. The functions below have no other meaning than the laws that they promise.
+//! `specs::Points` has the solutions without negative entries and the extreme ones among them,
+//! `specs::Reach` what lexicographic pivots reach. The functions below have no other meaning than
+//! the laws that they promise.
 #![tactic(auto)]
 
 ghost use Rattle.extreme_points.specs.Laws.{LexicographicPivotsReach, BasicSolutionsAreExtreme, ClosedSetsCover, ZerosDetermine};

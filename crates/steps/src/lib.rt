@@ -1,4 +1,5 @@
-//! Counted steps, at no cost: a count that contracts see and that takes no bytes when the program runs.
+//! Counted steps, at no cost: a count that contracts see and that takes no bytes when the program
+//! runs.
 #![tactic(auto)]
 
 ghost use Rattle.std.specs.Prelude.{◌≡◌, ◌+◌, ◌<◌, ℕ};
@@ -6,8 +7,8 @@ ghost use Rattle.std.specs.Prelude.{◌≡◌, ◌+◌, ◌<◌, ℕ};
 use std::marker::Model;
 use std::sync::ledger::{Blank, Book, Ledger, Share};
 
-/// How many steps were made. Contracts see it as a number. It takes no bytes, and only `tick` changes it. Which operation is
-/// a step is said where `tick` is called.
+/// How many steps were made. Contracts see it as a number. It takes no bytes, and only `tick`
+/// changes it. Which operation is a step is said where `tick` is called.
 #[derive(Drop)]
 pub struct Steps<L: Ledger> {
     book: Book<L>,

@@ -1,0 +1,4 @@
+pub mod RatioRows
+pub mod Starts
+pub mod TableauPivot
+pub mod Tableaux
