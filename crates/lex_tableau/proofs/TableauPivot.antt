@@ -14,7 +14,8 @@ use Rattle.linear_systems.specs.Rows.{Alike}
 use Rattle.linear_systems.proofs.Pivot.{eqb_same, eqb_apart}
 use Rattle.linear_systems.proofs.Reached.{reached_pivot, reached_alike}
 use Rattle.whole_rows.specs.Rows.{from_place, fraction, IsRow}
-use Rattle.lex_tableau.specs.Rows.{Numbers, row_of, tableau, IsTableau, IsPivotOf, with_variables_exchanged}
+use Rattle.lex_tableau.specs.Rows.{Numbers, numbers_of, row_of, tableau, IsTableau, IsPivotOf, with_variables_exchanged}
+use Rattle.lex_tableau.specs.Pivots.{HasPivotRow, HasOtherRows}
 use Rattle.whole_rows.specs.PivotedRows.{IsPivotedRow, IsPivotRow}
 use Rattle.whole_rows.proofs.RowValues.{fraction_over}
 
@@ -167,3 +168,19 @@ exchanged_read P n r c e l xs ys hr hc he hl hy h =
 
 pub rated_in : (n : Numbers) (r : ℕ) → IsTableau n → r < n.rated → r < length n.basics
 rated_in n r t h = let k : n.rated ≤ length n.basics = t.rated in omega arith
+
+-- the pivot, as the code copies the variables and exchanges two of them
+pub copied_pivot : (m : Numbers) (r c e l : ℕ) (ss bs ns : List ℕ) (k : ℕ) (xs : List ℤ) → IsTableau m → ss ≡ m.starts → bs ≡ m.basics → ns ≡ m.nonbasics → k ≡ m.rated → r < m.rated → c < length m.nonbasics → (tableau m).cell r c ≢ zero_ℚ → length xs ≡ length m.numbers → HasPivotRow m r c xs → HasOtherRows m r c xs → e ≡ get_or ns c e → l ≡ get_or bs r l → IsTableau (numbers_of ss (slice_set bs r e) (slice_set ns c l) k xs) × IsPivotOf m r c (numbers_of ss (slice_set bs r e) (slice_set ns c l) k xs)
+copied_pivot m r c e l ss bs ns k xs t hs hb hn hk hr hc ne sh own others he hl =
+    subst (λ (n : Numbers). IsTableau n × IsPivotOf m r c n) (sym same) (pivot_is_tableau m r c xs t hr hc ne sh own others, is_pivot m r c xs t hr hc ne sh own others)
+  where
+    entered : e ≡ get_or m.nonbasics c 0
+    entered = he ∙ ap (λ ns. get_or ns c e) hn ∙ get_or_default m.nonbasics c e 0 hc
+
+    left : l ≡ get_or m.basics r 0
+    left = hl ∙ ap (λ bs. get_or bs r l) hb ∙ get_or_default m.basics r l 0 (rated_in m r t hr)
+
+    same : numbers_of ss (slice_set bs r e) (slice_set ns c l) k xs ≡ with_variables_exchanged m r c xs
+    same =
+        ap₂ (λ x y. numbers_of x y (slice_set ns c l) k xs) hs (ap₂ (λ x y. slice_set x r y) hb entered)
+        ∙ ap₂ (λ x y. numbers_of m.starts (slice_set m.basics r (get_or m.nonbasics c 0)) x y xs) (ap₂ (λ x y. slice_set x c y) hn left) hk

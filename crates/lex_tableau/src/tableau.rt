@@ -1,6 +1,7 @@
 // Tableaux of whole numbers.
 ghost use Rattle.std.specs.Prelude.{◌≡◌, ◌≢◌, ◌+◌, ◌<◌, ◌<ℤ◌, pos, length, IfOk, IfErr, OnOk};
 ghost use Rattle.rational.specs.Rational.{zero_ℚ};
+ghost use Rattle.frac128.specs.Fraction.{sign_of};
 ghost use Rattle.lex_tableau.specs.PivotStops.{IsPivotStop};
 ghost use Rattle.lex_tableau.specs.Pivots.{HasOtherRows, HasPivotRow, steps_of_pivot};
 ghost use Rattle.lex_tableau.specs.Ratio.{IsRatioRow};
@@ -53,19 +54,18 @@ fn fraction_at(numbers: &[i128], first: usize, place: usize) -> Frac
     fraction(numbers[first + place], numbers[first])
 }
 
-// A copy of a list.
-fn copied(alloc: Global, xs: &[u32]) -> Result<Vec<u32>, Memory>
-    ensures { IfOk result (λ v. v.items ≡ xs.now) }
+// The sign of the fraction at a place of a row.
+fn sign_at(numbers: &[i128], first: usize, place: usize) -> i8
+    requires place_in { first + place < length numbers.now }
+    requires positive { pos 0 <ℤ from_place numbers.now first 0 }
+    requires fit { AllPartsFit numbers.now }
+    ensures { result ≡ sign_of (fraction_of (from_place numbers.now first) place) }
 {
-    let mut copy = Vec::new(alloc);
-    for x in xs {
-        copy.push(*x)?;
-    }
-    Ok(copy)
+    numbers[first + place].signum() as i8
 }
 
-// A copy of a list of numbers.
-fn copied_numbers(alloc: Global, xs: &[i128]) -> Result<Vec<i128>, Memory>
+// A copy of a list.
+fn copied(alloc: Global, xs: &[u32]) -> Result<Vec<u32>, Memory>
     ensures { IfOk result (λ v. v.items ≡ xs.now) }
 {
     let mut copy = Vec::new(alloc);
@@ -150,6 +150,20 @@ impl Tableau {
         )
     }
 
+    /// The sign of the entry of a row in a column: -1, 0 or 1. The fraction is not formed.
+    pub fn entry_sign(&self, row: usize, col: usize) -> i8
+        requires row_in { row < length self.now.basics }
+        requires col_in { col < length self.now.nonbasics }
+        ensures value { result ≡ sign_of ((tableau self.now).cell row col) }
+        ensures valid { IsTableau self.now }
+    {
+        sign_at(
+            self.numbers.as_slice(),
+            row * (self.nonbasics.len() + 2),
+            col + 1,
+        )
+    }
+
     /// The right side of a row.
     pub fn right(&self, row: usize) -> Frac
         requires { row < length self.now.basics }
@@ -212,14 +226,29 @@ impl Tableau {
         )
     }
 
-    // The same tableau once more.
-    fn duplicate(&self, alloc: Global) -> Result<Tableau, Memory>
-        ensures { IfOk result (λ t. t ≡ self.now) }
+    // The tableau with these numbers, which the pivot made.
+    fn with_numbers(
+        &self,
+        alloc: Global,
+        numbers: Vec<i128>,
+        row: usize,
+        col: usize,
+    ) -> Result<Tableau, Memory>
+        requires row_in { row < self.now.rated }
+        requires col_in { col < length self.now.nonbasics }
+        requires entry { (tableau self.now).cell row col ≢ zero_ℚ }
+        requires shape { length numbers.items ≡ length self.now.numbers }
+        requires pivot_row { HasPivotRow self.now row col numbers.items }
+        requires others { HasOtherRows self.now row col numbers.items }
+        ensures pivot { IfOk result (IsPivotOf self.now row col) }
+        ensures valid { IfOk result IsTableau }
     {
         let starts = copied(alloc, self.starts.as_slice())?;
-        let basics = copied(alloc, self.basics.as_slice())?;
-        let nonbasics = copied(alloc, self.nonbasics.as_slice())?;
-        let numbers = copied_numbers(alloc, self.numbers.as_slice())?;
+        let mut basics = copied(alloc, self.basics.as_slice())?;
+        let mut nonbasics = copied(alloc, self.nonbasics.as_slice())?;
+        let entering = nonbasics[col];
+        nonbasics[col] = basics[row];
+        basics[row] = entering;
         Ok(Tableau {
             starts,
             basics,
@@ -252,18 +281,15 @@ impl Tableau {
         ensures counted { steps.new ≡ steps.old + 1 }
     {
         steps.tick();
-        let Ok(mut next) = self.duplicate(alloc) else {
+        let Ok(mut numbers) = self.room(alloc) else {
             return Err(PivotStop::Memory);
         };
-        let Ok(mut spare) = self.room(alloc) else {
-            return Err(PivotStop::Memory);
-        };
-        match self.write_numbers(spare.as_mut_slice(), row, col) {
-            Ok(()) => {
-                next.take_numbers(&mut spare, row, col);
-                Ok(next)
-            }
-            Err(unfit) => Err(PivotStop::Unfit(unfit)),
+        if let Err(unfit) = self.write_numbers(numbers.as_mut_slice(), row, col) {
+            return Err(PivotStop::Unfit(unfit));
+        }
+        match self.with_numbers(alloc, numbers, row, col) {
+            Ok(next) => Ok(next),
+            Err(_) => Err(PivotStop::Memory),
         }
     }
 
