@@ -14,6 +14,7 @@ mod products;
 mod steps;
 mod sums;
 
+pub use euclid::{cmp_signed_quotients, gcd};
 pub use frac::Frac;
 pub use memory::Memory;
 pub use steps::{Op, Unfit};

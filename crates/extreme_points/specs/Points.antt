@@ -1,0 +1,33 @@
+-- The points of a system: its solutions without negative entries, and the extreme ones among them
+-- (Avis et al. 2010)
+use Rattle.std.specs.Prelude.{ℕ, ◌<◌, ◌≡◌, ◌≢◌}
+use Rattle.rational.specs.Rational.{ℚ, ◌+ℚ◌, ◌*ℚ◌, zero_ℚ, ◌≤ℚ◌}
+use Rattle.rational.specs.Sum.{sum_to}
+use Rattle.linear_systems.specs.Tableau.{Tableau, Solves}
+use Rattle.linear_systems.specs.Rows.{unit_at}
+use Rattle.linear_systems.specs.Reached.{IsVariableOf}
+
+-- x solves s, and no variable of s is negative in it
+pub record IsPoint (s : Tableau) (x : ℕ → ℚ) : Type 0 where
+  pub solves : Solves s x
+  pub nonnegative : (v : ℕ) → IsVariableOf s v → zero_ℚ ≤ℚ x v
+
+-- x and y are equal at the variables of s
+abbrev pub AreEqualAt : Tableau → (ℕ → ℚ) → (ℕ → ℚ) → Type 0
+AreEqualAt s x y = (v : ℕ) → IsVariableOf s v → x v ≡ y v
+
+-- p is a point, and in the middle of no two different points
+pub record IsExtremePoint (s : Tableau) (p : ℕ → ℚ) : Type 0 where
+  pub point : IsPoint s p
+  pub alone : (x y : ℕ → ℚ) → IsPoint s x → IsPoint s y
+      → ((v : ℕ) → IsVariableOf s v → x v +ℚ y v ≡ p v +ℚ p v) → AreEqualAt s x y
+
+-- some nonbasic variable of s is not 0
+pub record IsNonzero (s : Tableau) (p : ℕ → ℚ) : Type 0 where
+  pub column : ℕ
+  pub within : column < s.width
+  pub other : p (s.nonbasic column) ≢ zero_ℚ
+
+-- the solution in which nonbasic variables are 0: each basic variable is its row's right side
+abbrev pub basic_solution : Tableau → ℕ → ℚ
+basic_solution t v = sum_to t.rows (λ i. t.right i *ℚ unit_at v (t.basic i))

@@ -1,0 +1,5 @@
+pub mod RatioRows
+pub mod Signs
+pub mod Starts
+pub mod TableauPivot
+pub mod Tableaux

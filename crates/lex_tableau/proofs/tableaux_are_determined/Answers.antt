@@ -1,0 +1,5 @@
+use Rattle.lex_tableau.proofs.Tableaux.{determined}
+use Rattle.lex_tableau.proofs.tableaux_are_determined.Goals as goal
+
+pub returns : goal.returns
+returns c = determined

@@ -1,0 +1,9 @@
+pub mod Laws
+pub mod PivotStops
+pub mod Pivots
+pub mod Ratio
+pub mod Rows
+pub mod StartStops
+pub mod Starts
+pub use Rattle.whole_rows.specs.StartRows
+pub use Rattle.whole_rows.specs.Steps

@@ -1,0 +1,20 @@
+-- The steps of the pivot of a tableau
+use Rattle.std.specs.Prelude.{ℕ, ℤ, ◌+◌, length, List}
+use Rattle.whole_rows.specs.Steps.{Step}
+use Rattle.whole_rows.specs.Pivots.{pivot_steps}
+use Rattle.whole_rows.specs.Lists.{IsPivotAt, AreOthersPivoted}
+use Rattle.lex_tableau.specs.Rows.{Numbers, size_of, row_of}
+
+-- the steps of the pivot of a tableau on a row and a column
+abbrev pub steps_of_pivot : Numbers → ℕ → ℕ → List Step
+steps_of_pivot n row col =
+    pivot_steps (length n.nonbasics + 2) (row_of n) row (col + 1) (length n.basics)
+
+-- these numbers have as its row what the pivot makes of it
+abbrev pub HasPivotRow : Numbers → ℕ → ℕ → List ℤ → Type 0
+HasPivotRow n row col new = IsPivotAt n.numbers (size_of n) row (col + 1) new
+
+-- and as the other rows what it makes of them
+abbrev pub HasOtherRows : Numbers → ℕ → ℕ → List ℤ → Type 0
+HasOtherRows n row col new =
+    AreOthersPivoted n.numbers (size_of n) row (col + 1) (length n.basics) new

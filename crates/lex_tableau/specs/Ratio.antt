@@ -1,0 +1,74 @@
+-- The lexicographic row among the first rows, and the order of two rows' quotients.
+use Rattle.std.specs.Prelude.{ℕ, ℤ, ◌+◌, ◌<◌, ◌≡◌, nat_abs, List, length, get_or, Option, MatchOption}
+use Rattle.std.specs.declared.cmp.Ordering.{Ordering}
+use Rattle.std.specs.declared.cmp.Ordering.TheVariants.{Less, Equal, Greater}
+use Rattle.rational.specs.Rational.{ℚ, frac, ◌*ℚ◌, inv_ℚ, zero_ℚ, ◌≤ℚ◌, ◌<ℚ◌}
+use Rattle.linear_systems.specs.Tableau.{Tableau}
+use Rattle.linear_systems.specs.Lex.{IsLexLess}
+use Rattle.linear_systems.specs.Rows.{key, HasDistinctVariables, IsLexicographicRow}
+use Rattle.lex_tableau.specs.Rows.{Numbers, tableau, tableau_of, IsReachedFrom}
+use Rattle.whole_rows.specs.Lists.{row_at}
+
+-- the variables of a list, one after the other
+abbrev pub listed : List ℕ → ℕ → ℕ
+listed starts q = get_or starts q 0
+
+-- entry p of row i's key, divided by the row's entry in column c
+abbrev pub quotient_of : List ℕ → Tableau → ℕ → ℕ → ℕ → ℚ
+quotient_of starts t c i p = key (listed starts) t i p *ℚ inv_ℚ (t.cell i c)
+
+-- the order of two numbers
+abbrev pub Compares : ℚ → ℚ → Ordering → Type 0
+Compares a b Less = a <ℚ b
+Compares a b Equal = a ≡ b
+Compares a b Greater = b <ℚ a
+
+-- the order of two sequences by their first n entries
+abbrev pub LexCompares : ℕ → (ℕ → ℚ) → (ℕ → ℚ) → Ordering → Type 0
+LexCompares n f g Less = IsLexLess n f g
+LexCompares n f g Equal = (p : ℕ) → p < n → f p ≡ g p
+LexCompares n f g Greater = IsLexLess n g f
+
+-- the lexicographic row among the first k rows, or none where none of them has a positive entry
+abbrev pub IsBest : ℕ → ℕ → List ℕ → Tableau → ℕ → Option ℕ → Type 0
+IsBest k m starts t c o =
+    MatchOption o ((i : ℕ) → i < k → t.cell i c ≤ℚ zero_ℚ) (λ r. IsLexicographicRow k m (listed starts) t c r)
+
+-- the lexicographic row of a column of a tableau, or none where no rated row has a positive entry
+abbrev pub IsRatioRow : Numbers → ℕ → Option ℕ → Type 0
+IsRatioRow n col o = IsBest n.rated n.rated n.starts (tableau n) col o
+
+-- The same of the tableau with these starts, variables and numbers
+
+-- n over the coefficient of row i is entry p of its key
+abbrev pub IsKeyNumber : List ℕ → List ℕ → List ℕ → List ℤ → ℕ → ℕ → ℤ → Type 0
+IsKeyNumber starts basics nonbasics numbers i p n =
+    frac n (nat_abs (row_at (length nonbasics + 2) numbers i 0))
+    ≡ key (listed starts) (tableau_of basics nonbasics numbers) i p
+
+-- the order of the quotients of rows i and k at entry p
+abbrev pub ComparesAt : List ℕ → List ℕ → List ℕ → List ℤ → ℕ → ℕ → ℕ → ℕ → Ordering → Type 0
+ComparesAt starts basics nonbasics numbers c i k p o =
+    Compares (quotient_of starts (tableau_of basics nonbasics numbers) c i p)
+    (quotient_of starts (tableau_of basics nonbasics numbers) c k p) o
+
+-- the order of the quotients of rows i and k by their first n entries
+abbrev pub ComparesRows : ℕ → List ℕ → List ℕ → List ℕ → List ℤ → ℕ → ℕ → ℕ → Ordering → Type 0
+ComparesRows n starts basics nonbasics numbers c i k o =
+    LexCompares n (quotient_of starts (tableau_of basics nonbasics numbers) c i)
+    (quotient_of starts (tableau_of basics nonbasics numbers) c k) o
+
+-- the lexicographic row among the first k rows
+abbrev pub IsBestOf : ℕ → ℕ → List ℕ → List ℕ → List ℕ → List ℤ → ℕ → Option ℕ → Type 0
+IsBestOf k rated starts basics nonbasics numbers c o =
+    IsBest k rated starts (tableau_of basics nonbasics numbers) c o
+
+-- pivots on the first rows led to it
+abbrev pub IsReachedBy : ℕ → List ℕ → List ℕ → List ℕ → List ℤ → Type 0
+IsReachedBy rated starts basics nonbasics numbers =
+    IsReachedFrom rated starts (tableau_of basics nonbasics numbers)
+
+-- no variable stands twice in it
+abbrev pub HasEachOnce : List ℕ → List ℕ → List ℤ → Type 0
+HasEachOnce basics nonbasics numbers =
+    HasDistinctVariables (tableau_of basics nonbasics numbers)

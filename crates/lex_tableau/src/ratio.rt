@@ -1,0 +1,173 @@
+// The lexicographic row of a column.
+ghost use Rattle.std.specs.Prelude.{◌≡◌, suc, pos, ◌+◌, ◌*◌, ◌<◌, ◌≤◌, ◌<ℤ◌, ◌≤ℤ◌, true, false, length};
+ghost use Rattle.lex_tableau.specs.Ratio.{ComparesAt, ComparesRows, HasEachOnce, IsBestOf, IsKeyNumber, IsReachedBy};
+ghost use Rattle.whole_rows.specs.Lists.{AllPartsFit, AreRows, row_at};
+
+use std::cmp::Ordering;
+use whole_rows::compare_quotients;
+
+// The number that stands for an entry of a row's key: at place 0 for the right side, then for the
+// coefficients of the start's basic variables.
+fn key_number(
+    basics: &[u32],
+    nonbasics: &[u32],
+    numbers: &[i128],
+    starts: &[u32],
+    row: usize,
+    place: usize,
+) -> i128
+    requires row_in { row < length basics.now }
+    requires place_in { place ≤ length starts.now }
+    requires shape { length numbers.now ≡ length basics.now * (length nonbasics.now + 2) }
+    requires fit { AllPartsFit numbers.now }
+    requires positive { pos 0 <ℤ row_at (length nonbasics.now + 2) numbers.now row 0 }
+    requires distinct { HasEachOnce basics.now nonbasics.now numbers.now }
+    ensures { IsKeyNumber starts.now basics.now nonbasics.now numbers.now row place result }
+{
+    let first = row * (nonbasics.len() + 2);
+    if place == 0 {
+        return numbers[first + (nonbasics.len() + 1)];
+    }
+    let variable = starts[place - 1];
+    if basics[row] == variable {
+        return numbers[first];
+    }
+    for j in 0..nonbasics.len() {
+        if nonbasics[j] == variable {
+            return numbers[first + (j + 1)];
+        }
+    }
+    0
+}
+
+// The order of two rows' quotients at a place.
+fn compare_at(
+    basics: &[u32],
+    nonbasics: &[u32],
+    numbers: &[i128],
+    starts: &[u32],
+    column: usize,
+    row: usize,
+    best: usize,
+    place: usize,
+) -> Ordering
+    requires row_in { row < length basics.now }
+    requires best_in { best < length basics.now }
+    requires column_in { column < length nonbasics.now }
+    requires place_in { place ≤ length starts.now }
+    requires shape { length numbers.now ≡ length basics.now * (length nonbasics.now + 2) }
+    requires fit { AllPartsFit numbers.now }
+    requires are_rows { AreRows (length basics.now) (length nonbasics.now + 2) numbers.now }
+    requires distinct { HasEachOnce basics.now nonbasics.now numbers.now }
+    requires positive { pos 0 <ℤ row_at (length nonbasics.now + 2) numbers.now row (column + 1) }
+    requires best_positive { pos 0 <ℤ row_at (length nonbasics.now + 2) numbers.now best (column + 1) }
+    ensures { ComparesAt starts.now basics.now nonbasics.now numbers.now column row best place result }
+{
+    let size = nonbasics.len() + 2;
+    compare_quotients(
+        key_number(basics, nonbasics, numbers, starts, row, place),
+        numbers[row * size + (column + 1)],
+        key_number(basics, nonbasics, numbers, starts, best, place),
+        numbers[best * size + (column + 1)],
+    )
+}
+
+// The order of two rows' quotients, place by place.
+fn compare_rows(
+    basics: &[u32],
+    nonbasics: &[u32],
+    numbers: &[i128],
+    starts: &[u32],
+    rated: usize,
+    column: usize,
+    row: usize,
+    best: usize,
+) -> Ordering
+    requires row_in { row < length basics.now }
+    requires best_in { best < length basics.now }
+    requires column_in { column < length nonbasics.now }
+    requires rated_in { rated ≤ length starts.now }
+    requires shape { length numbers.now ≡ length basics.now * (length nonbasics.now + 2) }
+    requires fit { AllPartsFit numbers.now }
+    requires are_rows { AreRows (length basics.now) (length nonbasics.now + 2) numbers.now }
+    requires distinct { HasEachOnce basics.now nonbasics.now numbers.now }
+    requires positive { pos 0 <ℤ row_at (length nonbasics.now + 2) numbers.now row (column + 1) }
+    requires best_positive { pos 0 <ℤ row_at (length nonbasics.now + 2) numbers.now best (column + 1) }
+    ensures { ComparesRows (suc rated) starts.now basics.now nonbasics.now numbers.now column row best result }
+{
+    for place in 0..rated + 1 {
+        match compare_at(basics, nonbasics, numbers, starts, column, row, best, place) {
+            Ordering::Less => return Ordering::Less,
+            Ordering::Equal => {}
+            Ordering::Greater => return Ordering::Greater,
+        }
+    }
+    Ordering::Equal
+}
+
+// Whether a number is above 0.
+fn is_positive(n: i128) -> bool
+    ensures positive { result ≡ true → pos 0 <ℤ n }
+    ensures otherwise { result ≡ false → n ≤ℤ pos 0 }
+{
+    n > 0
+}
+
+// The best row after one more.
+fn next_best(
+    basics: &[u32],
+    nonbasics: &[u32],
+    numbers: &[i128],
+    starts: &[u32],
+    rated: usize,
+    column: usize,
+    row: usize,
+    best: Option<usize>,
+) -> Option<usize>
+    requires row_in { row < rated }
+    requires rows { rated ≤ length basics.now }
+    requires rated_in { rated ≤ length starts.now }
+    requires column_in { column < length nonbasics.now }
+    requires shape { length numbers.now ≡ length basics.now * (length nonbasics.now + 2) }
+    requires fit { AllPartsFit numbers.now }
+    requires are_rows { AreRows (length basics.now) (length nonbasics.now + 2) numbers.now }
+    requires reached { IsReachedBy rated starts.now basics.now nonbasics.now numbers.now }
+    requires best { IsBestOf row rated starts.now basics.now nonbasics.now numbers.now column best }
+    ensures { IsBestOf (suc row) rated starts.now basics.now nonbasics.now numbers.now column result }
+{
+    if !is_positive(numbers[row * (nonbasics.len() + 2) + (column + 1)]) {
+        return best;
+    }
+    let Some(old) = best else {
+        return Some(row);
+    };
+    match compare_rows(basics, nonbasics, numbers, starts, rated, column, row, old) {
+        Ordering::Less => Some(row),
+        _ => Some(old),
+    }
+}
+
+// The lexicographic row of a column; `None` where no rated row has a positive entry there.
+pub fn ratio_row(
+    basics: &[u32],
+    nonbasics: &[u32],
+    numbers: &[i128],
+    starts: &[u32],
+    rated: usize,
+    column: usize,
+) -> Option<usize>
+    requires rows { rated ≤ length basics.now }
+    requires rated_in { rated ≤ length starts.now }
+    requires column_in { column < length nonbasics.now }
+    requires shape { length numbers.now ≡ length basics.now * (length nonbasics.now + 2) }
+    requires fit { AllPartsFit numbers.now }
+    requires are_rows { AreRows (length basics.now) (length nonbasics.now + 2) numbers.now }
+    requires reached { IsReachedBy rated starts.now basics.now nonbasics.now numbers.now }
+    ensures { IsBestOf rated rated starts.now basics.now nonbasics.now numbers.now column result }
+{
+    let mut best = None;
+    for row in 0..rated {
+        best = next_best(basics, nonbasics, numbers, starts, rated, column, row, best);
+    }
+    best
+}

@@ -1,0 +1,64 @@
+// Systems of linear equations over fractions.
+ghost use Rattle.std.specs.Prelude.{◌≡◌};
+ghost use Rattle.lex_tableau.specs.Starts.{IsSystem, parts_of};
+
+use frac128::Frac;
+use std::marker::Model;
+
+/// A system of linear equations. Row i says that its basic variable plus the sum of its cells times
+/// the nonbasic variables is its right side. The first `rated` rows take part in ratio tests.
+///
+/// No variable stands twice, each row has a cell for each column and a right side, and `rated` is
+/// at most the number of rows. Rows and columns are counted from 0.
+#[derive(Debug, Drop)]
+pub struct System {
+    pub(crate) basics: Vec<u32>,
+    pub(crate) nonbasics: Vec<u32>,
+    pub(crate) cells: Vec<Frac>,
+    pub(crate) rated: usize,
+}
+
+impl Model for System {
+    ghost use Rattle.lex_tableau.specs.Starts.{Parts, parts_of, code_of_parts, IsSystem};
+
+    ghost Value = { Parts };
+
+    ghost coded = { code_of_parts };
+
+    ghost view = { λ s. parts_of s.basics.items s.nonbasics.items s.cells.items s.rated };
+
+    ghost invariant = { λ s. IsSystem (parts_of s.basics.items s.nonbasics.items s.cells.items s.rated) };
+}
+
+impl System {
+    /// The system with these variables and cells. The cells stand row by row, with the right side
+    /// last in each row. Takes no memory.
+    pub fn new(basics: Vec<u32>, nonbasics: Vec<u32>, cells: Vec<Frac>, rated: usize) -> System
+        requires { IsSystem (parts_of basics.items nonbasics.items cells.items rated) }
+        ensures value { result ≡ parts_of basics.items nonbasics.items cells.items rated }
+        ensures valid { IsSystem result }
+    {
+        System {
+            basics,
+            nonbasics,
+            cells,
+            rated,
+        }
+    }
+
+    /// The basic variables, row by row.
+    pub fn basics(&self) -> &[u32]
+        ensures value { result.now ≡ self.now.basics }
+        ensures valid { IsSystem self.now }
+    {
+        self.basics.as_slice()
+    }
+
+    /// The nonbasic variables, column by column.
+    pub fn nonbasics(&self) -> &[u32]
+        ensures value { result.now ≡ self.now.nonbasics }
+        ensures valid { IsSystem self.now }
+    {
+        self.nonbasics.as_slice()
+    }
+}

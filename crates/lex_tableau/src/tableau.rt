@@ -1,0 +1,362 @@
+// Tableaux of whole numbers.
+ghost use Rattle.std.specs.Prelude.{◌≡◌, ◌≢◌, ◌+◌, ◌<◌, ◌<ℤ◌, pos, length, IfOk, IfErr, OnOk};
+ghost use Rattle.rational.specs.Rational.{zero_ℚ};
+ghost use Rattle.frac128.specs.Fraction.{sign_of};
+ghost use Rattle.lex_tableau.specs.PivotStops.{IsPivotStop};
+ghost use Rattle.lex_tableau.specs.Pivots.{HasOtherRows, HasPivotRow, steps_of_pivot};
+ghost use Rattle.lex_tableau.specs.Ratio.{IsRatioRow};
+ghost use Rattle.lex_tableau.specs.Rows.{IsPivotOf, IsTableau, IsValueOf, tableau, with_variables_exchanged};
+ghost use Rattle.lex_tableau.specs.StartStops.{IsStartStop};
+ghost use Rattle.lex_tableau.specs.Starts.{IsStartOf, StartFits};
+ghost use Rattle.whole_rows.specs.Lists.{AllPartsFit};
+ghost use Rattle.whole_rows.specs.Rows.{fraction as fraction_of, from_place};
+ghost use Rattle.whole_rows.specs.Steps.{AllFit, IsFirstUnfit};
+
+use crate::ratio::ratio_row;
+use crate::system::System;
+use frac128::{Frac, Memory, Unfit};
+use std::alloc::Global;
+use std::marker::Model;
+use std::mem;
+use std::sync::ledger::Ledger;
+use steps::Steps;
+use whole_rows::{fraction, write_pivot, write_starts};
+
+/// A system of linear equations after pivots. Row i says that its basic variable plus the sum of
+/// its entries times the nonbasic variables is its right side. Contracts see it as whole numbers,
+/// and `tableau` of them is the tableau of fractions.
+#[derive(Debug, Drop)]
+pub struct Tableau {
+    starts: Vec<u32>,
+    basics: Vec<u32>,
+    nonbasics: Vec<u32>,
+    rated: usize,
+    numbers: Vec<i128>,
+}
+
+impl Model for Tableau {
+    ghost use Rattle.lex_tableau.specs.Rows.{Numbers, numbers_of, IsTableau};
+
+    ghost Value = { Numbers };
+
+    ghost view = { λ t. numbers_of t.starts.items t.basics.items t.nonbasics.items t.rated t.numbers.items };
+
+    ghost invariant = { λ t. IsTableau (numbers_of t.starts.items t.basics.items t.nonbasics.items t.rated t.numbers.items) };
+}
+
+// The fraction at a place of a row.
+fn fraction_at(numbers: &[i128], first: usize, place: usize) -> Frac
+    requires place_in { first + place < length numbers.now }
+    requires positive { pos 0 <ℤ from_place numbers.now first 0 }
+    requires fit { AllPartsFit numbers.now }
+    ensures { result ≡ fraction_of (from_place numbers.now first) place }
+{
+    fraction(numbers[first + place], numbers[first])
+}
+
+// The sign of the fraction at a place of a row.
+fn sign_at(numbers: &[i128], first: usize, place: usize) -> i8
+    requires place_in { first + place < length numbers.now }
+    requires positive { pos 0 <ℤ from_place numbers.now first 0 }
+    requires fit { AllPartsFit numbers.now }
+    ensures { result ≡ sign_of (fraction_of (from_place numbers.now first) place) }
+{
+    numbers[first + place].signum() as i8
+}
+
+// A copy of a list.
+fn copied(alloc: Global, xs: &[u32]) -> Result<Vec<u32>, Memory>
+    ensures { IfOk result (λ v. v.items ≡ xs.now) }
+{
+    let mut copy = Vec::new(alloc);
+    for x in xs {
+        copy.push(*x)?;
+    }
+    Ok(copy)
+}
+
+/// Why a pivot gives no tableau.
+#[derive(Debug, Drop)]
+pub enum PivotStop {
+    Unfit(Unfit),
+    Memory,
+}
+
+/// Why there is no start: a row, from 0, with the first step that does not fit; or no memory.
+#[derive(Debug, Drop)]
+pub enum StartStop {
+    Unfit { row: u32, unfit: Unfit },
+    Memory,
+}
+
+impl Tableau {
+    /// The start of a system: each row over its least common denominator.
+    ///
+    /// # Errors
+    ///
+    /// The first step that does not fit, with its row; or no memory.
+    pub fn start(alloc: Global, system: &System) -> Result<Tableau, StartStop>
+        ensures start { IfOk result (IsStartOf system.now) }
+        ensures valid { IfOk result IsTableau }
+        ensures fits { OnOk result (StartFits system.now) }
+        ensures unfit { IfErr result (IsStartStop system.now) }
+    {
+        let rows = system.basics.len();
+        let count = system.nonbasics.len() + 1;
+        let Some(total) = rows.checked_mul(count + 1) else {
+            return Err(StartStop::Memory);
+        };
+        let Ok(mut numbers) = vec![in alloc; 0; total] else {
+            return Err(StartStop::Memory);
+        };
+        let Ok(starts) = copied(alloc, system.basics.as_slice()) else {
+            return Err(StartStop::Memory);
+        };
+        let Ok(basics) = copied(alloc, system.basics.as_slice()) else {
+            return Err(StartStop::Memory);
+        };
+        let Ok(nonbasics) = copied(alloc, system.nonbasics.as_slice()) else {
+            return Err(StartStop::Memory);
+        };
+        match write_starts(system.cells.as_slice(), numbers.as_mut_slice(), rows, count) {
+            Ok(()) => {}
+            Err(stop) => {
+                return Err(StartStop::Unfit {
+                    row: stop.row as u32,
+                    unfit: stop.unfit,
+                });
+            }
+        }
+        Ok(Tableau {
+            starts,
+            basics,
+            nonbasics,
+            rated: system.rated,
+            numbers,
+        })
+    }
+
+    /// The entry of a row in a column.
+    pub fn entry(&self, row: usize, col: usize) -> Frac
+        requires row_in { row < length self.now.basics }
+        requires col_in { col < length self.now.nonbasics }
+        ensures value { result ≡ (tableau self.now).cell row col }
+        ensures valid { IsTableau self.now }
+    {
+        fraction_at(
+            self.numbers.as_slice(),
+            row * (self.nonbasics.len() + 2),
+            col + 1,
+        )
+    }
+
+    /// The sign of the entry of a row in a column: -1, 0 or 1. The fraction is not formed.
+    pub fn entry_sign(&self, row: usize, col: usize) -> i8
+        requires row_in { row < length self.now.basics }
+        requires col_in { col < length self.now.nonbasics }
+        ensures value { result ≡ sign_of ((tableau self.now).cell row col) }
+        ensures valid { IsTableau self.now }
+    {
+        sign_at(
+            self.numbers.as_slice(),
+            row * (self.nonbasics.len() + 2),
+            col + 1,
+        )
+    }
+
+    /// The right side of a row.
+    pub fn right(&self, row: usize) -> Frac
+        requires { row < length self.now.basics }
+        ensures value { result ≡ (tableau self.now).right row }
+        ensures valid { IsTableau self.now }
+    {
+        fraction_at(
+            self.numbers.as_slice(),
+            row * (self.nonbasics.len() + 2),
+            self.nonbasics.len() + 1,
+        )
+    }
+
+    /// The basic variables, row by row.
+    pub fn basics(&self) -> &[u32]
+        ensures { result.now ≡ self.now.basics }
+    {
+        self.basics.as_slice()
+    }
+
+    /// The nonbasic variables, column by column.
+    pub fn nonbasics(&self) -> &[u32]
+        ensures { result.now ≡ self.now.nonbasics }
+    {
+        self.nonbasics.as_slice()
+    }
+
+    /// The basic variable of a row.
+    pub fn basic(&self, row: usize) -> u32
+        requires { row < length self.now.basics }
+        ensures { result ≡ (tableau self.now).basic row }
+    {
+        self.basics[row]
+    }
+
+    /// The nonbasic variable of a column.
+    pub fn nonbasic(&self, col: usize) -> u32
+        requires { col < length self.now.nonbasics }
+        ensures { result ≡ (tableau self.now).nonbasic col }
+    {
+        self.nonbasics[col]
+    }
+
+    /// The lexicographic row of a column: the rated row with a positive entry there whose key,
+    /// divided by the entry, is least. A row's key is its right side, and then its coefficients of
+    /// the start's rated basic variables in order. `None` exactly where no rated row has a positive
+    /// entry in the column. Takes no memory.
+    pub fn ratio_row(&self, col: usize) -> Option<usize>
+        requires { col < length self.now.nonbasics }
+        ensures best { IsRatioRow self.now col result }
+        ensures valid { IsTableau self.now }
+    {
+        ratio_row(
+            self.basics.as_slice(),
+            self.nonbasics.as_slice(),
+            self.numbers.as_slice(),
+            self.starts.as_slice(),
+            self.rated,
+            col,
+        )
+    }
+
+    // The tableau with these numbers, which the pivot made.
+    fn with_numbers(
+        &self,
+        alloc: Global,
+        numbers: Vec<i128>,
+        row: usize,
+        col: usize,
+    ) -> Result<Tableau, Memory>
+        requires row_in { row < self.now.rated }
+        requires col_in { col < length self.now.nonbasics }
+        requires entry { (tableau self.now).cell row col ≢ zero_ℚ }
+        requires shape { length numbers.items ≡ length self.now.numbers }
+        requires pivot_row { HasPivotRow self.now row col numbers.items }
+        requires others { HasOtherRows self.now row col numbers.items }
+        ensures pivot { IfOk result (IsPivotOf self.now row col) }
+        ensures valid { IfOk result IsTableau }
+    {
+        let starts = copied(alloc, self.starts.as_slice())?;
+        let mut basics = copied(alloc, self.basics.as_slice())?;
+        let mut nonbasics = copied(alloc, self.nonbasics.as_slice())?;
+        let entering = nonbasics[col];
+        nonbasics[col] = basics[row];
+        basics[row] = entering;
+        Ok(Tableau {
+            starts,
+            basics,
+            nonbasics,
+            rated: self.rated,
+            numbers,
+        })
+    }
+
+    /// The pivot on a rated row and a column, as a new tableau. It counts one step.
+    ///
+    /// # Errors
+    ///
+    /// The first step that does not fit, in the order of the rows and in each of the coefficient of
+    /// the basic variable, the columns and the right side; or no memory.
+    pub fn pivoted<L: Ledger>(
+        &self,
+        alloc: Global,
+        row: usize,
+        col: usize,
+        steps: &mut Steps<L>,
+    ) -> Result<Tableau, PivotStop>
+        requires row_in { row < self.now.rated }
+        requires col_in { col < length self.now.nonbasics }
+        requires entry { (tableau self.now).cell row col ≢ zero_ℚ }
+        ensures pivot { IfOk result (IsPivotOf self.now row col) }
+        ensures valid { IfOk result IsTableau }
+        ensures fits { OnOk result (AllFit (steps_of_pivot self.now row col)) }
+        ensures unfit { IfErr result (IsPivotStop self.now row col) }
+        ensures counted { steps.new ≡ steps.old + 1 }
+    {
+        steps.tick();
+        let Ok(mut numbers) = self.room(alloc) else {
+            return Err(PivotStop::Memory);
+        };
+        if let Err(unfit) = self.write_numbers(numbers.as_mut_slice(), row, col) {
+            return Err(PivotStop::Unfit(unfit));
+        }
+        match self.with_numbers(alloc, numbers, row, col) {
+            Ok(next) => Ok(next),
+            Err(_) => Err(PivotStop::Memory),
+        }
+    }
+
+    /// The value of a variable where the nonbasic ones are 0: the right side of its row, and 0
+    /// where it is not basic.
+    pub fn value(&self, variable: u32) -> Frac
+        ensures value { IsValueOf (tableau self.now) variable result }
+        ensures valid { IsTableau self.now }
+    {
+        for row in 0..self.basics.len() {
+            if self.basics[row] == variable {
+                return self.right(row);
+            }
+        }
+        Frac::zero()
+    }
+
+    /// Room for as many numbers.
+    pub(crate) fn room(&self, alloc: Global) -> Result<Vec<i128>, Memory>
+        ensures { IfOk result (λ v. length v.items ≡ length self.now.numbers) }
+    {
+        Ok(vec![in alloc; 0; self.numbers.len()]?)
+    }
+
+    /// Writes the numbers that the pivot makes.
+    pub(crate) fn write_numbers(
+        &self,
+        spare: &mut [i128],
+        row: usize,
+        col: usize,
+    ) -> Result<(), Unfit>
+        requires row_in { row < self.now.rated }
+        requires col_in { col < length self.now.nonbasics }
+        requires entry { (tableau self.now).cell row col ≢ zero_ℚ }
+        requires shape { length spare.old ≡ length self.now.numbers }
+        ensures length { length spare.new ≡ length spare.old }
+        ensures pivot_row { OnOk result (HasPivotRow self.now row col spare.new) }
+        ensures others { OnOk result (HasOtherRows self.now row col spare.new) }
+        ensures fits { OnOk result (AllFit (steps_of_pivot self.now row col)) }
+        ensures unfit { IfErr result (IsFirstUnfit (steps_of_pivot self.now row col)) }
+    {
+        write_pivot(
+            self.numbers.as_slice(),
+            spare,
+            self.basics.len(),
+            self.nonbasics.len() + 2,
+            row,
+            col + 1,
+        )
+    }
+
+    /// Takes these numbers for its own, which the pivot made, and gives the old ones.
+    pub(crate) fn take_numbers(&mut self, spare: &mut Vec<i128>, row: usize, col: usize)
+        requires row_in { row < self.old.rated }
+        requires col_in { col < length self.old.nonbasics }
+        requires entry { (tableau self.old).cell row col ≢ zero_ℚ }
+        requires shape { length spare.old.items ≡ length self.old.numbers }
+        requires pivot_row { HasPivotRow self.old row col spare.old.items }
+        requires others { HasOtherRows self.old row col spare.old.items }
+        ensures new { self.new ≡ with_variables_exchanged self.old row col spare.old.items }
+        ensures pivot { IsPivotOf self.old row col self.new }
+        ensures valid { IsTableau self.new }
+        ensures spare { spare.new.items ≡ self.old.numbers }
+    {
+        let entering = self.nonbasics[col];
+        self.nonbasics[col] = self.basics[row];
+        self.basics[row] = entering;
+        mem::swap(&mut self.numbers, spare);
+    }
+}

@@ -1,0 +1,93 @@
+// A tableau that is pivoted in place.
+ghost use Rattle.std.specs.Prelude.{◌≡◌, ◌≢◌, ◌+◌, ◌<◌, length, IfOk, IfErr, OnOk, OnErr};
+ghost use Rattle.rational.specs.Rational.{zero_ℚ};
+ghost use Rattle.lex_tableau.specs.Pivots.{steps_of_pivot};
+ghost use Rattle.lex_tableau.specs.Rows.{IsPivotOf, IsTableau, tableau};
+ghost use Rattle.lex_tableau.specs.StartStops.{IsStartStop};
+ghost use Rattle.lex_tableau.specs.Starts.{IsStartOf, StartFits};
+ghost use Rattle.whole_rows.specs.Steps.{AllFit, IsFirstUnfit};
+
+use crate::system::System;
+use crate::tableau::{StartStop, Tableau};
+use frac128::Unfit;
+use std::alloc::Global;
+use std::marker::Model;
+use std::sync::ledger::Ledger;
+use steps::Steps;
+
+/// A tableau, with the room of a second one: its pivots take no memory. Contracts see the tableau.
+#[derive(Debug, Drop)]
+pub struct Work {
+    tableau: Tableau,
+    spare: Vec<i128>,
+}
+
+impl Model for Work {
+    ghost use Rattle.std.specs.Prelude.{◌≡◌, length};
+    ghost use Rattle.lex_tableau.specs.Rows.{Numbers, IsTableau};
+
+    ghost Value = { Numbers };
+
+    ghost view = { λ w. w.tableau };
+
+    ghost invariant = { λ w. (length w.spare.items ≡ length w.tableau.numbers) × IsTableau w.tableau };
+}
+
+impl Work {
+    /// The start of a system, with the room of a second tableau.
+    ///
+    /// # Errors
+    ///
+    /// Those of `Tableau::start`.
+    pub fn new(alloc: Global, system: &System) -> Result<Work, StartStop>
+        ensures start { IfOk result (IsStartOf system.now) }
+        ensures valid { IfOk result IsTableau }
+        ensures fits { OnOk result (StartFits system.now) }
+        ensures unfit { IfErr result (IsStartStop system.now) }
+    {
+        match Tableau::start(alloc, system) {
+            Ok(tableau) => match tableau.room(alloc) {
+                Ok(spare) => Ok(Work { tableau, spare }),
+                Err(_) => Err(StartStop::Memory),
+            },
+            Err(stop) => Err(stop),
+        }
+    }
+
+    /// The tableau as it is now.
+    pub fn now(&self) -> &Tableau
+        ensures value { result.now ≡ self.now }
+        ensures valid { IsTableau self.now }
+    {
+        &self.tableau
+    }
+
+    /// The pivot on a rated row and a column. It counts one step.
+    ///
+    /// # Errors
+    ///
+    /// The first step that does not fit, in the order of the rows and in each of the coefficient of
+    /// the basic variable, the columns and the right side. The tableau is then unchanged.
+    pub fn pivot<L: Ledger>(
+        &mut self,
+        row: usize,
+        col: usize,
+        steps: &mut Steps<L>,
+    ) -> Result<(), Unfit>
+        requires row_in { row < self.old.rated }
+        requires col_in { col < length self.old.nonbasics }
+        requires entry { (tableau self.old).cell row col ≢ zero_ℚ }
+        ensures pivot { OnOk result (IsPivotOf self.old row col self.new) }
+        ensures valid { IsTableau self.new }
+        ensures fits { OnOk result (AllFit (steps_of_pivot self.old row col)) }
+        ensures unfit { IfErr result (IsFirstUnfit (steps_of_pivot self.old row col)) }
+        ensures unchanged { OnErr result (self.new ≡ self.old) }
+        ensures counted { steps.new ≡ steps.old + 1 }
+    {
+        steps.tick();
+        self.tableau
+            .write_numbers(self.spare.as_mut_slice(), row, col)?;
+        self.tableau.take_numbers(&mut self.spare, row, col);
+        Ok(())
+    }
+}

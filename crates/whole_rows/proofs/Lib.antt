@@ -1,0 +1,9 @@
+pub mod Determined
+pub mod Fitting
+pub mod PlaceSteps
+pub mod Quotients
+pub mod RowFrames
+pub mod RowValues
+pub mod RowWrites
+pub mod ShortNumbers
+pub mod StartRows

@@ -1,0 +1,11 @@
+use Rattle.std.proofs.Common.{nat_abs, sym, subst₂}
+use Rattle.std.specs.Int.{w128, ◌∣◌}
+use Rattle.whole_rows.proofs.Quotients.{exact, shortened_back}
+use Rattle.whole_rows.proofs.arithmetic.exact_quotient.Goals as goal
+
+pub returns-else-is_short-clause-value : goal.returns-else-is_short-clause-value
+returns-else-is_short-clause-value c = exact w128 c.args.n c.args.d c.ranges.n c.ranges.d c.requires.positive c.requires.divides
+
+pub short_quotient-requires-clause-divides : goal.short_quotient-requires-clause-divides
+short_quotient-requires-clause-divides c =
+    subst₂ (λ d n. nat_abs d ∣ nat_abs n) (sym (shortened_back c.shortened-then-is_short-2.result c.args.d (record { sfits = c.shortened-then-is_short-2.type_inv }) c.ranges.d c.shortened-then-is_short-2.ensures)) (sym (shortened_back c.shortened.result c.args.n (record { sfits = c.shortened.type_inv }) c.ranges.n c.shortened.ensures)) c.requires.divides

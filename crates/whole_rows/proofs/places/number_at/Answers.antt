@@ -1,0 +1,23 @@
+use Rattle.std.proofs.Common.{◌+◌}
+use Rattle.std.specs.Int.{w128}
+use Rattle.std.proofs.lemmas.Int.{to_z-of_z}
+use Rattle.whole_rows.specs.Rows.{from_place}
+use Rattle.whole_rows.proofs.Fitting.{read_at, read_first, turned_back}
+use Rattle.whole_rows.proofs.PlaceSteps.{told_lead, none_column, some_column, told_other}
+use Rattle.whole_rows.proofs.places.number_at.Goals as goal
+
+pub returns-then-place-eq0 : goal.returns-then-place-eq0
+returns-then-place-eq0 c =
+    told_lead (from_place c.args.numbers.now c.args.own) (from_place c.args.numbers.now c.args.first) c.args.column c.args.u c.args.v c.args.place c.product.result c.if-place-eq0.true (simp (read_first c.args.numbers.now c.args.own c.requires.fit, to_z-of_z w128 c.args.u c.ranges.u) at c.product.ensures)
+
+pub returns-in_default : goal.returns-in_default
+returns-in_default c =
+    none_column (from_place c.args.numbers.now c.args.own) (from_place c.args.numbers.now c.args.first) c.args.column c.args.u c.args.v c.args.place c.if-place-eq0.false c.if-place-column.true (simp (read_first c.args.numbers.now c.args.first c.requires.fit, to_z-of_z w128 c.args.v c.ranges.v) at c.in_default.ensures)
+
+pub returns-in-Some : goal.returns-in-Some
+returns-in-Some c =
+    some_column (from_place c.args.numbers.now c.args.own) (from_place c.args.numbers.now c.args.first) c.args.column c.args.u c.args.v c.args.place c.in-Some.number _ c.if-place-eq0.false c.if-place-column.true (simp (read_first c.args.numbers.now c.args.first c.requires.fit, to_z-of_z w128 c.args.v c.ranges.v) at c.in-Some.ensures) (turned_back c.in-Some.number c.in-Some.ensures.1)
+
+pub returns-else-place-column : goal.returns-else-place-column
+returns-else-place-column c =
+    told_other (from_place c.args.numbers.now c.args.own) (from_place c.args.numbers.now c.args.first) c.args.column c.args.u c.args.v c.args.place c.combination.result c.if-place-eq0.false c.if-place-column.false (simp (read_at c.args.numbers.now (c.args.own + c.args.place) c.requires.fit, read_at c.args.numbers.now (c.args.first + c.args.place) c.requires.fit, to_z-of_z w128 c.args.u c.ranges.u, to_z-of_z w128 c.args.v c.ranges.v) at c.combination.ensures)

@@ -1,0 +1,22 @@
+use Rattle.std.proofs.Common.{◌+◌, ◌∙◌, ◌-ℤ◌, ap₂, subst, sym}
+use Rattle.frac128.specs.Fraction.{PartFits}
+use Rattle.std.specs.Int.{w64}
+use Rattle.std.proofs.lemmas.Int.{to_z-of_z}
+use Rattle.whole_rows.specs.Rows.{from_place}
+use Rattle.whole_rows.proofs.Fitting.{read_at, read_first, read_back, turned_back}
+use Rattle.whole_rows.proofs.ShortNumbers.{product_fits, short_leads, short_column, short_other}
+use Rattle.whole_rows.proofs.places.short_number.Goals as goal
+
+pub returns-then-place-eq0 : goal.returns-then-place-eq0
+returns-then-place-eq0 c =
+    short_leads (from_place c.args.numbers.now c.args.own) (from_place c.args.numbers.now c.args.first) c.args.column c.args.place c.args.u c.args.v c.short_times.result c.if-place-eq0.true (simp (read_first c.args.numbers.now c.args.own c.requires.fit, to_z-of_z w64 c.args.u c.ranges.u) at c.short_times.ensures)
+
+pub returns-then-place-column : goal.returns-then-place-column
+returns-then-place-column c =
+    short_column (from_place c.args.numbers.now c.args.own) (from_place c.args.numbers.now c.args.first) c.args.column c.args.place c.args.u c.args.v c.in-Some.part _ c.if-place-eq0.false c.if-place-column.true (simp (read_first c.args.numbers.now c.args.first c.requires.fit, to_z-of_z w64 c.args.v c.ranges.v) at c.in-Some.ensures) (turned_back c.in-Some.part (product_fits c.in-Some.part c.in-Some.ensures.1))
+
+pub returns : goal.returns
+returns c =
+    short_other (from_place c.args.numbers.now c.args.own) (from_place c.args.numbers.now c.args.first) c.args.column c.args.place c.args.u c.args.v c.in-Some-short_times.left c.in-Some-short_times-2.right _ c.if-place-eq0.false c.if-place-column.false (simp (read_at c.args.numbers.now (c.args.own + c.args.place) c.requires.fit, to_z-of_z w64 c.args.u c.ranges.u) at c.in-Some-short_times.ensures) (simp (read_at c.args.numbers.now (c.args.first + c.args.place) c.requires.fit, to_z-of_z w64 c.args.v c.ranges.v) at c.in-Some-short_times-2.ensures)
+    (read_back c.short_difference.result c.short_difference.ensures.fits ∙ c.short_difference.ensures.value ∙ ap₂ (λ x y. x -ℤ y) (read_back c.in-Some-short_times.left (product_fits c.in-Some-short_times.left c.in-Some-short_times.ensures.1)) (read_back c.in-Some-short_times-2.right (product_fits c.in-Some-short_times-2.right c.in-Some-short_times-2.ensures.1)))
+    (subst PartFits (sym (read_back c.short_difference.result c.short_difference.ensures.fits)) c.short_difference.ensures.fits)

@@ -1,0 +1,21 @@
+use Rattle.std.proofs.Common.{◌+◌}
+use Rattle.whole_rows.specs.Rows.{from_place}
+use Rattle.whole_rows.proofs.Fitting.{read_at, read_first, read_back}
+use Rattle.whole_rows.proofs.PlaceSteps.{first_lead, first_column, first_other, unfit_other}
+use Rattle.whole_rows.proofs.places.unfit_at.Goals as goal
+
+pub returns-then-place-eq0 : goal.returns-then-place-eq0
+returns-then-place-eq0 c =
+    first_lead (from_place c.args.numbers.now c.args.own) (from_place c.args.numbers.now c.args.first) c.args.column c.args.u c.args.v c.args.place c.unfit_product.result c.if-place-eq0.true c.requires.unfit (simp (read_first c.args.numbers.now c.args.own c.requires.fit, read_back c.args.u c.requires.own_factor) at c.unfit_product.ensures)
+
+pub returns-then-place-column : goal.returns-then-place-column
+returns-then-place-column c =
+    first_column (from_place c.args.numbers.now c.args.own) (from_place c.args.numbers.now c.args.first) c.args.column c.args.u c.args.v c.args.place c.unfit_product-then-place-column.result c.if-place-eq0.false c.if-place-column.true c.requires.unfit (simp (read_first c.args.numbers.now c.args.first c.requires.fit, read_back c.args.v c.requires.other_factor) at c.unfit_product-then-place-column.ensures)
+
+pub returns-else-place-column : goal.returns-else-place-column
+returns-else-place-column c =
+    first_other (from_place c.args.numbers.now c.args.own) (from_place c.args.numbers.now c.args.first) c.args.column c.args.u c.args.v c.args.place c.unfit_combination.result c.if-place-eq0.false c.if-place-column.false (simp (read_at c.args.numbers.now (c.args.own + c.args.place) c.requires.fit, read_at c.args.numbers.now (c.args.first + c.args.place) c.requires.fit, read_back c.args.u c.requires.own_factor, read_back c.args.v c.requires.other_factor) at c.unfit_combination.ensures)
+
+pub unfit_combination-requires-clause-unfit : goal.unfit_combination-requires-clause-unfit
+unfit_combination-requires-clause-unfit c =
+    simp (read_at c.args.numbers.now (c.args.own + c.args.place) c.requires.fit, read_at c.args.numbers.now (c.args.first + c.args.place) c.requires.fit, read_back c.args.u c.requires.own_factor, read_back c.args.v c.requires.other_factor) (unfit_other (from_place c.args.numbers.now c.args.own) (from_place c.args.numbers.now c.args.first) c.args.column c.args.u c.args.v c.args.place c.if-place-eq0.false c.if-place-column.false c.requires.unfit)

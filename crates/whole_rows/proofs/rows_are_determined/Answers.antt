@@ -1,0 +1,5 @@
+use Rattle.whole_rows.proofs.Determined.{rows_determined}
+use Rattle.whole_rows.proofs.rows_are_determined.Goals as goal
+
+pub returns : goal.returns
+returns c = rows_determined

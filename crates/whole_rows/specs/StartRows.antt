@@ -1,0 +1,59 @@
+-- The rows of a system of fractions as whole numbers, and the steps by which they become so
+use Rattle.std.specs.Prelude.{ℕ, ℤ, pos, zero, suc, ◌+◌, ◌*◌, ◌/◌, ◌<◌, ◌≡◌, List, [], ◌∷◌, ◌++◌, get_or}
+use Rattle.rational.specs.Gcd.{gcd}
+use Rattle.rational.specs.Rational.{ℚ, zero_ℚ}
+use Rattle.frac128.specs.Fraction.{PartFits}
+use Rattle.frac128.specs.declared.steps.Unfit.{Unfit}
+use Rattle.whole_rows.specs.Rows.{IsRow, fraction}
+use Rattle.whole_rows.specs.Steps.{Step, times, AllFit, IsFirstUnfit}
+
+-- the fractions from a place of a list on
+abbrev pub cells_from : List ℚ → ℕ → ℕ → ℚ
+cells_from cells first place = get_or cells (first + place) zero_ℚ
+
+-- the least common denominator of the first k cells
+abbrev pub common_to : (ℕ → ℚ) → ℕ → ℕ
+common_to cells zero = 1
+common_to cells (suc k) =
+    common_to cells k * ((cells k).den / gcd (common_to cells k) (cells k).den)
+
+-- its steps: each times what the next denominator adds
+abbrev pub denominator_steps : (ℕ → ℚ) → ℕ → List Step
+denominator_steps cells zero = []
+denominator_steps cells (suc k) =
+    denominator_steps cells k ++ times (pos (common_to cells k)) (pos ((cells k).den / gcd (common_to cells k) (cells k).den)) ∷ []
+
+-- the steps of the first k numbers of a row with the common denominator b
+abbrev pub numerator_steps : (ℕ → ℚ) → ℕ → ℕ → List Step
+numerator_steps cells b zero = []
+numerator_steps cells b (suc k) =
+    numerator_steps cells b k ++ times (cells k).num (pos (b / (cells k).den)) ∷ []
+
+-- the steps of the numbers over the common denominator
+abbrev pub over_steps : ℕ → (ℕ → ℚ) → List Step
+over_steps count cells = numerator_steps cells (common_to cells count) count
+
+-- the steps of a row of so many cells
+abbrev pub start_row_steps : ℕ → (ℕ → ℚ) → List Step
+start_row_steps count cells = denominator_steps cells count ++ over_steps count cells
+
+-- b is the common denominator, and all its steps fit
+abbrev pub IsCommonDenominator : ℕ → (ℕ → ℚ) → ℤ → Type 0
+IsCommonDenominator count cells b =
+    (b ≡ pos (common_to cells count)) × PartFits b × AllFit (denominator_steps cells count)
+
+-- new is a row that stands for the cells
+pub record IsStartRow (count : ℕ) (cells : ℕ → ℚ) (new : ℕ → ℤ) : Type 0 where
+  pub is_row : IsRow (count + 1) new
+  pub same : (k : ℕ) → k < count → fraction new (k + 1) ≡ cells k
+
+-- all rows of so many cells fit
+abbrev pub RowsFit : ℕ → ℕ → List ℚ → Type 0
+RowsFit rows count cells =
+    (i : ℕ) → i < rows → AllFit (start_row_steps count (cells_from cells (i * count)))
+
+-- row i is the first with a step that does not fit, and e that step
+pub record IsFirstUnfitRow (rows count : ℕ) (cells : List ℚ) (i : ℕ) (e : Unfit) : Type 0 where
+  pub within : i < rows
+  pub before : (j : ℕ) → j < i → AllFit (start_row_steps count (cells_from cells (j * count)))
+  pub here : IsFirstUnfit (start_row_steps count (cells_from cells (i * count))) e

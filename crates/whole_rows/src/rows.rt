@@ -1,0 +1,167 @@
+// Rows of whole numbers, in a list of them.
+ghost use Rattle.std.specs.Prelude.{◌≡◌, ◌+◌, ◌<◌, ◌≤◌, ℕ, ◌<ℤ◌, pos, nat_abs, length, IfErr, OnOk, IsTrue};
+ghost use Rattle.std.specs.Int.{◌∣◌};
+ghost use Rattle.frac128.specs.Fraction.{PartFits};
+ghost use Rattle.whole_rows.specs.Lists.{AgreeOutside, AllPartsFit, AreSame, IsDivided, IsWritten, IsWrittenBy, RowFits, RowFitsShort, steps_at};
+ghost use Rattle.whole_rows.specs.Pivots.{other_factor, own_factor, turned};
+ghost use Rattle.whole_rows.specs.Rows.{IsCommonDivisor, from_place};
+ghost use Rattle.whole_rows.specs.Shorts.{IsShort};
+ghost use Rattle.whole_rows.specs.Steps.{AllFit, IsFirstUnfit};
+
+use crate::divisors::{Divisor, quotient_by};
+use crate::places::{number_at, short_number, unfit_at};
+use frac128::{Unfit, gcd};
+
+// The greatest common divisor of a row. Where it is found to be 1, the rest is not looked at.
+pub fn common_divisor(numbers: &[i128], own: usize, size: usize) -> u128
+    requires own_in { own + size ≤ length numbers.now }
+    requires some { 0 < size }
+    requires positive { pos 0 <ℤ from_place numbers.now own 0 }
+    requires fit { RowFits size (from_place numbers.now own) }
+    ensures { IsCommonDivisor (from_place numbers.now own) size result }
+{
+    let mut common = numbers[own].unsigned_abs();
+    for place in 1..size {
+        if common == 1 {
+            return 1;
+        }
+        common = gcd(common, numbers[own + place].unsigned_abs());
+    }
+    common
+}
+
+// Divides a row.
+pub fn divide_row(numbers: &mut [i128], own: usize, size: usize, by: i128)
+    requires own_in { own + size ≤ length numbers.old }
+    requires positive { pos 0 <ℤ by }
+    requires fit { RowFits size (from_place numbers.old own) }
+    requires divides { (p : ℕ) → p < size → nat_abs by ∣ nat_abs (from_place numbers.old own p) }
+    ensures length { length numbers.new ≡ length numbers.old }
+    ensures kept { AgreeOutside own size numbers.new numbers.old }
+    ensures divided { IsDivided size by (from_place numbers.new own) (from_place numbers.old own) }
+    ensures fit { RowFits size (from_place numbers.new own) }
+{
+    let divisor = Divisor::of(by);
+    for place in 0..size {
+        numbers[own + place] = quotient_by(numbers[own + place], by, divisor);
+    }
+}
+
+// Writes a row times u, less the pivot's row times v.
+pub fn write_combination(
+    numbers: &[i128],
+    spare: &mut [i128],
+    own: usize,
+    first: usize,
+    column: usize,
+    size: usize,
+    u: i128,
+    v: i128,
+) -> Result<(), Unfit>
+    requires own_in { own + size ≤ length numbers.now }
+    requires first_in { first + size ≤ length numbers.now }
+    requires spare_in { own + size ≤ length spare.old }
+    requires fit { AllPartsFit numbers.now }
+    requires own_factor { PartFits u }
+    requires other_factor { PartFits v }
+    ensures length { length spare.new ≡ length spare.old }
+    ensures kept { AgreeOutside own size spare.new spare.old }
+    ensures written { OnOk result (IsWritten numbers.now own first column u v size spare.new) }
+    ensures fits { OnOk result (AllFit (steps_at numbers.now own first column u v size)) }
+    ensures unfit { IfErr result (IsFirstUnfit (steps_at numbers.now own first column u v size)) }
+{
+    for place in 0..size {
+        let Some(number) = number_at(numbers, own, first, column, place, u, v) else {
+            return Err(unfit_at(numbers, own, first, column, place, u, v));
+        };
+        spare[own + place] = number;
+    }
+    Ok(())
+}
+
+// Writes a row times u, less the pivot's row times v, divided. It gives up where a number has more
+// than 64 bits or is not divided.
+pub fn write_divided(
+    numbers: &[i128],
+    spare: &mut [i128],
+    own: usize,
+    first: usize,
+    column: usize,
+    size: usize,
+    u: i64,
+    v: i64,
+    by: Divisor,
+) -> bool
+    requires own_in { own + size ≤ length numbers.now }
+    requires first_in { first + size ≤ length numbers.now }
+    requires spare_in { own + size ≤ length spare.old }
+    requires fit { AllPartsFit numbers.now }
+    requires own_factor { IsShort u }
+    requires other_factor { IsShort v }
+    ensures length { length spare.new ≡ length spare.old }
+    ensures kept { AgreeOutside own size spare.new spare.old }
+    ensures divided { IsTrue result → IsWrittenBy by.value numbers.now own first column u v size spare.new }
+    ensures fits { IsTrue result → RowFitsShort numbers.now own first column size }
+{
+    for place in 0..size {
+        let Some(number) = short_number(numbers, own, first, column, place, u, v) else {
+            return false;
+        };
+        let Some(quotient) = by.quotient(number) else {
+            return false;
+        };
+        spare[own + place] = quotient;
+    }
+    true
+}
+
+// Copies a row.
+pub fn copy_row(numbers: &[i128], spare: &mut [i128], own: usize, size: usize)
+    requires own_in { own + size ≤ length numbers.now }
+    requires spare_in { own + size ≤ length spare.old }
+    ensures length { length spare.new ≡ length spare.old }
+    ensures kept { AgreeOutside own size spare.new spare.old }
+    ensures written { AreSame size (from_place spare.new own) (from_place numbers.now own) }
+{
+    for place in 0..size {
+        spare[own + place] = numbers[own + place];
+    }
+}
+
+// A number of the pivot's row.
+fn turned_number(numbers: &[i128], first: usize, column: usize, place: usize) -> i128
+    requires place_in { first + place < length numbers.now }
+    requires column_in { first + column < length numbers.now }
+    requires fit { AllPartsFit numbers.now }
+    ensures value { result ≡ turned (from_place numbers.now first) column place }
+    ensures fits { PartFits result }
+{
+    let number = if place == 0 {
+        numbers[first + column]
+    } else if place == column {
+        numbers[first]
+    } else {
+        numbers[first + place]
+    };
+    if numbers[first + column] < 0 {
+        -number
+    } else {
+        number
+    }
+}
+
+// Writes the pivot's row.
+pub fn write_turned(numbers: &[i128], spare: &mut [i128], first: usize, column: usize, size: usize)
+    requires first_in { first + size ≤ length numbers.now }
+    requires spare_in { first + size ≤ length spare.old }
+    requires column_in { column < size }
+    requires fit { AllPartsFit numbers.now }
+    ensures length { length spare.new ≡ length spare.old }
+    ensures kept { AgreeOutside first size spare.new spare.old }
+    ensures written { AreSame size (from_place spare.new first) (turned (from_place numbers.now first) column) }
+    ensures fit { RowFits size (from_place spare.new first) }
+{
+    for place in 0..size {
+        spare[first + place] = turned_number(numbers, first, column, place);
+    }
+}
