@@ -4,7 +4,6 @@ pub mod LineLengths
 pub mod Listed
 pub mod ProfileEntries
 pub mod ProfileParts
-pub mod Ranks
 pub mod Strides
 pub mod Striking
 pub mod Texts

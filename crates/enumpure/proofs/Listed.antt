@@ -12,10 +12,11 @@ use Rattle.game_theory.proofs.LineOrder.{AreInOrder-push}
 use Rattle.game_theory.proofs.ProfileLines.{StandsBefore-entries}
 use Rattle.game_theory.proofs.ProfileNumbers.{number_of-below, profile_at-number_of}
 use Rattle.game_theory.proofs.PureProfiles.{NoGreaterCell-equilibrium, IsEquilibrium-by_cells}
-use Rattle.enumpure.specs.Ranks.{ranked, rank_flag, rank_line, lines_below}
+use Rattle.game_theory.specs.Ranks.{ranked}
+use Rattle.enumpure.specs.Ranks.{rank_flag, rank_line, lines_below}
 use Rattle.enumpure.specs.Replies.{exchanged, flag, AreStable}
 use Rattle.enumpure.specs.Text.{IsPureEquilibriaText}
-use Rattle.enumpure.proofs.Ranks.{IsProfile-ranked, ComesBefore-ranked, rank_of, rank_of-below, ranked-rank_of}
+use Rattle.game_theory.proofs.Ranks.{IsProfile-ranked, ComesBefore-ranked, rank_of, rank_of-below, ranked-rank_of}
 
 -- no lines at first
 pub lines_text-none : (ns : List ℕ) (flags : List Bool) (old : List ℕ) → old ≡ old ++ lines_text (lines_below ns flags 0)

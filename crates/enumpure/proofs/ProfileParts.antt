@@ -5,8 +5,8 @@ use Rattle.std.proofs.lemmas.List.{get_or-set_same, get_or-set_other, ext_get_or
 use Rattle.std.proofs.Math.Nat.{mul-div_cancel_left}
 use Rattle.game_theory.specs.Profiles.{profile_count, IsProfile, number_of, stride}
 use Rattle.game_theory.proofs.ProfileNumbers.{profile-below, stride-next}
-use Rattle.enumpure.specs.Ranks.{ranked}
-use Rattle.enumpure.proofs.Ranks.{factors-positive}
+use Rattle.game_theory.specs.Ranks.{ranked}
+use Rattle.game_theory.proofs.Ranks.{factors-positive}
 use Rattle.enumpure.proofs.Strides.{HaveStrategies}
 
 -- The strategies of the players before `i` are written, and the others are those of the profile with rank

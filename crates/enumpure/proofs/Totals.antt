@@ -5,7 +5,7 @@ use Rattle.std.proofs.lemmas.List.{take_all}
 use Rattle.std.proofs.lemmas.List.Sums.{count_by_more_yes, count_by_more_no}
 use Rattle.std.proofs.lemmas.Nat.{div-mul-add, mod-mul-add}
 use Rattle.game_theory.specs.Profiles.{profile_count, number_of}
-use Rattle.enumpure.specs.Ranks.{ranked}
+use Rattle.game_theory.specs.Ranks.{ranked}
 use Rattle.enumpure.specs.Replies.{flag}
 
 -- f 0 + .. + f (n - 1)

@@ -2,14 +2,10 @@
 use Rattle.std.specs.Prelude.{ℕ, zero, suc, ◌/◌, ◌%◌, Bool, cond, List, [], ◌∷◌, ◌++◌}
 use Rattle.rational.specs.Rational.{ℚ}
 use Rattle.game_theory.specs.Profiles.{profile_count, number_of}
+use Rattle.game_theory.specs.Ranks.{ranked}
 use Rattle.game_theory.specs.Mixed.{pure}
 use Rattle.game_theory.specs.Lines.{entries}
 use Rattle.enumpure.specs.Replies.{flag}
-
--- the profile with a rank: the last player's strategy changes fastest
-abbrev pub ranked : List ℕ → ℕ → List ℕ
-ranked [] r = []
-ranked (n ∷ ns) r = (r / profile_count ns) ∷ ranked ns (r % profile_count ns)
 
 -- the flag of the profile with a rank
 abbrev pub rank_flag : List ℕ → List Bool → ℕ → Bool

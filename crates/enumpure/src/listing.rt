@@ -5,7 +5,8 @@ ghost use Rattle.game_theory.specs.Profiles.{Game, IsProfile, profile_count, num
 ghost use Rattle.game_theory.specs.Mixed.{sure, pure};
 ghost use Rattle.game_theory.specs.Lines.{listed, entries as entries_of, lines_text};
 ghost use Rattle.game_core.specs.Table.{game_of};
-ghost use Rattle.enumpure.specs.Ranks.{ranked, lines_below};
+ghost use Rattle.game_theory.specs.Ranks.{ranked};
+ghost use Rattle.enumpure.specs.Ranks.{lines_below};
 ghost use Rattle.enumpure.specs.Stops.{pure_text};
 ghost use Rattle.enumpure.specs.declared.listing.ListStop.TheVariants as stops;
 

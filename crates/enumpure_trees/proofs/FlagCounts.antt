@@ -10,7 +10,8 @@ use Rattle.game_trees.specs.Trees.{Tree}
 use Rattle.enumpure.specs.Replies.{flag}
 use Rattle.enumpure.proofs.Totals.{total, one_if, total-flags}
 use Rattle.tree_lines.specs.Orders.{ordered}
-use Rattle.tree_lines.specs.Ranks.{ranked, rank_line, rank_flag, flagged_below, lines_below}
+use Rattle.game_theory.specs.Ranks.{ranked}
+use Rattle.tree_lines.specs.Ranks.{rank_line, rank_flag, flagged_below, lines_below}
 use Rattle.tree_lines.proofs.Listed.{flagged_below-none, flagged_below-push, flagged_below-skip}
 use Rattle.enumpure_trees.proofs.RankSums.{AllHaveNumbers, total-ordered}
 

@@ -9,7 +9,7 @@ use Rattle.std.proofs.lemmas.Nat.{div-mul-add, mod-mul-add}
 use Rattle.game_theory.specs.Profiles.{profile_count, number_of}
 use Rattle.enumpure.proofs.Totals.{total, total-same, total-parts, total-exchange}
 use Rattle.tree_lines.specs.Orders.{ordered}
-use Rattle.tree_lines.specs.Ranks.{ranked}
+use Rattle.game_theory.specs.Ranks.{ranked}
 
 -- the first term and the others
 total-first : (n : ℕ) (f : ℕ → ℕ) → total (suc n) f ≡ f 0 + total n (λ a. f (suc a))

@@ -3,16 +3,10 @@ use Rattle.std.proofs.Common.{ℕ, zero, suc, ◌+◌, ◌/◌, ◌%◌, ◌<◌
 use Rattle.std.proofs.lemmas.List.{length-map, get_or-map, get_or_default, get_or-set_same, get_or-set_other, ext_get_or}
 use Rattle.game_theory.specs.Profiles.{profile_count}
 use Rattle.game_theory.proofs.ProfileNumbers.{profile-below}
-use Rattle.enumpure.specs.Ranks.{ranked as places_ranked}
+use Rattle.game_theory.specs.Ranks.{ranked}
 use Rattle.enumpure.proofs.ProfileParts.{IsSetBelow, next_part, length-ranked}
-use Rattle.enumpure.proofs.Ranks.{IsProfile-ranked}
+use Rattle.game_theory.proofs.Ranks.{IsProfile-ranked}
 use Rattle.tree_lines.specs.Orders.{ordered}
-use Rattle.tree_lines.specs.Ranks.{ranked}
-
--- the places with a rank are those of a table's profile
-pub ranked-same : (ns : List ℕ) (r : ℕ) → places_ranked ns r ≡ ranked ns r
-ranked-same [] r = refl
-ranked-same (n ∷ ns) r = ap (λ places. (r / profile_count ns) ∷ places) (ranked-same ns (r % profile_count ns))
 
 -- there is a strategy for each place
 length-ordered : (orders : List (List ℕ)) (places : List ℕ) → length places ≡ length orders → length (ordered orders places) ≡ length orders
@@ -34,7 +28,7 @@ pub record IsWrittenBelow (orders : List (List ℕ)) (places profile : List ℕ)
   pub written : (j : ℕ) → j < i → get_or profile j 0 ≡ get_or (get_or orders j []) (get_or places j 0) 0
 
 -- none is written at first
-pub IsWrittenBelow-none : (orders : List (List ℕ)) (profile : List ℕ) (profiles rank : ℕ) → profiles ≡ profile_count (map length orders) → rank < profiles → IsWrittenBelow orders (places_ranked (map length orders) rank) profile 0 profiles rank
+pub IsWrittenBelow-none : (orders : List (List ℕ)) (profile : List ℕ) (profiles rank : ℕ) → profiles ≡ profile_count (map length orders) → rank < profiles → IsWrittenBelow orders (ranked (map length orders) rank) profile 0 profiles rank
 IsWrittenBelow-none orders profile profiles rank e l = record { at = record { written = λ j q. refl; later_is = e; rest_below = l; ahead = refl }; written = λ j q. absurd (omega arith) }
 
 -- the next player's place
@@ -64,21 +58,21 @@ IsWrittenBelow-next orders places profile i later rest count value b next is h =
     }
 
 -- at last the profile is written
-pub IsWrittenBelow-all : (orders : List (List ℕ)) (profile : List ℕ) (rank i later rest : ℕ) → length profile ≡ length orders → length orders ≤ i → IsWrittenBelow orders (places_ranked (map length orders) rank) profile i later rest → profile ≡ ordered orders (ranked (map length orders) rank)
+pub IsWrittenBelow-all : (orders : List (List ℕ)) (profile : List ℕ) (rank i later rest : ℕ) → length profile ≡ length orders → length orders ≤ i → IsWrittenBelow orders (ranked (map length orders) rank) profile i later rest → profile ≡ ordered orders (ranked (map length orders) rank)
 IsWrittenBelow-all orders profile rank i later rest e l h =
     let ns : List ℕ = map length orders in
-    let long : length (places_ranked ns rank) ≡ length orders = length-ranked ns rank ∙ length-map orders (length {A = ℕ}) in
-    ext_get_or 0 profile (ordered orders (places_ranked ns rank)) (e ∙ sym (length-ordered orders (places_ranked ns rank) long)) (λ j b. h.written j (omega arith) ∙ sym (ordered-at orders (places_ranked ns rank) j long (omega arith))) ∙ ap (ordered orders) (ranked-same ns rank)
+    let long : length (ranked ns rank) ≡ length orders = length-ranked ns rank ∙ length-map orders (length {A = ℕ}) in
+    ext_get_or 0 profile (ordered orders (ranked ns rank)) (e ∙ sym (length-ordered orders (ranked ns rank) long)) (λ j b. h.written j (omega arith) ∙ sym (ordered-at orders (ranked ns rank) j long (omega arith)))
 
 -- the places with a rank are one for each player
-pub length-places : (orders : List (List ℕ)) (rank : ℕ) → length (places_ranked (map length orders) rank) ≡ length orders
+pub length-places : (orders : List (List ℕ)) (rank : ℕ) → length (ranked (map length orders) rank) ≡ length orders
 length-places orders rank = length-ranked (map length orders) rank ∙ length-map orders (length {A = ℕ})
 
 -- the next place is that of a strategy
-pub place-below : (orders : List (List ℕ)) (rank i later rest count : ℕ) → rank < profile_count (map length orders) → i < length orders → count ≡ get_or (map length orders) i 0 → IsNextPlace orders (places_ranked (map length orders) rank) i later rest count → rest / (later / count) < count
+pub place-below : (orders : List (List ℕ)) (rank i later rest count : ℕ) → rank < profile_count (map length orders) → i < length orders → count ≡ get_or (map length orders) i 0 → IsNextPlace orders (ranked (map length orders) rank) i later rest count → rest / (later / count) < count
 place-below orders rank i later rest count b l is next =
     let ns : List ℕ = map length orders in
-    omega (arith, next.place_is, is, profile-below ns (places_ranked ns rank) i (IsProfile-ranked ns rank b) (omega (arith, length-map orders (length {A = ℕ}))))
+    omega (arith, next.place_is, is, profile-below ns (ranked ns rank) i (IsProfile-ranked ns rank b) (omega (arith, length-map orders (length {A = ℕ}))))
 
 -- ---- the lists that are read
 -- there is a count for each player
@@ -96,13 +90,13 @@ count-at lists i list l is =
 
 -- the next place, where the player's list is read
 pub IsNextPlace-read : (lists : List (Vec ℕ Global)) (profile : List ℕ) (rank i later rest count : ℕ) (list : Vec ℕ Global) → i < length lists → list ≡ get_or lists i list → count ≡ vec_len list
-    → IsWrittenBelow (map (λ v. v.items) lists) (places_ranked (map length (map (λ v. v.items) lists)) rank) profile i later rest → IsNextPlace (map (λ v. v.items) lists) (places_ranked (map length (map (λ v. v.items) lists)) rank) i later rest count
+    → IsWrittenBelow (map (λ v. v.items) lists) (ranked (map length (map (λ v. v.items) lists)) rank) profile i later rest → IsNextPlace (map (λ v. v.items) lists) (ranked (map length (map (λ v. v.items) lists)) rank) i later rest count
 IsNextPlace-read lists profile rank i later rest count list l is counted h =
-    IsNextPlace-written (map (λ v. v.items) lists) (places_ranked (map length (map (λ v. v.items) lists)) rank) profile i later rest count (length-places (map (λ v. v.items) lists) rank) (omega (arith, length-map lists (λ v. v.items))) (counted ∙ count-at lists i list l is) h
+    IsNextPlace-written (map (λ v. v.items) lists) (ranked (map length (map (λ v. v.items) lists)) rank) profile i later rest count (length-places (map (λ v. v.items) lists) rank) (omega (arith, length-map lists (λ v. v.items))) (counted ∙ count-at lists i list l is) h
 
 -- it is a place in the list
 pub place-read : (lists : List (Vec ℕ Global)) (rank i later rest count : ℕ) (list again : Vec ℕ Global) → rank < profile_count (map length (map (λ v. v.items) lists)) → i < length lists → list ≡ get_or lists i list → count ≡ vec_len list → again ≡ get_or lists i again
-    → IsNextPlace (map (λ v. v.items) lists) (places_ranked (map length (map (λ v. v.items) lists)) rank) i later rest count → rest / (later / count) < vec_len again
+    → IsNextPlace (map (λ v. v.items) lists) (ranked (map length (map (λ v. v.items) lists)) rank) i later rest count → rest / (later / count) < vec_len again
 place-read lists rank i later rest count list again b l is counted is_again next =
     omega (arith, count-at lists i list l is, count-at lists i again l is_again, place-below (map (λ v. v.items) lists) rank i later rest count b (omega (arith, length-map lists (λ v. v.items))) (counted ∙ count-at lists i list l is) next)
 

@@ -6,9 +6,10 @@ use Rattle.std.proofs.lemmas.List.{length-map, get_or-map, get_or_append_left, g
 use Rattle.std.proofs.lemmas.Option.{get_or_from_slice_get, slice_get_within}
 use Rattle.game_theory.specs.Profiles.{IsProfile, profile_count}
 use Rattle.tree_lines.specs.Orders.{IsOrder, AreOrders, ordered}
-use Rattle.tree_lines.specs.Ranks.{ranked, ranked_profile}
+use Rattle.game_theory.specs.Ranks.{ranked}
+use Rattle.tree_lines.specs.Ranks.{ranked_profile}
 use Rattle.tree_lines.proofs.OrderedProfiles.{order-of, IsProfile-ordered}
-use Rattle.tree_lines.proofs.Ranks.{IsProfile-ranked}
+use Rattle.game_theory.proofs.Ranks.{IsProfile-ranked}
 use Rattle.enumpure_trees.specs.StrategyOrders.{IsSortedOrder, AreSortedOrders}
 use Rattle.enumpure_trees.proofs.RankSums.{AllHaveNumbers}
 

@@ -10,11 +10,12 @@ use Rattle.game_core.specs.Tree.{GameTree}
 use Rattle.game_core.specs.TreeGame.{game_of_tree}
 use Rattle.reduced_form.specs.ReducedForm.{ReducedForm, IsReducedForm}
 use Rattle.enumpure.specs.Replies.{flag, AreStable}
-use Rattle.tree_lines.specs.Ranks.{ranked, lines_below}
+use Rattle.game_theory.specs.Ranks.{ranked}
+use Rattle.tree_lines.specs.Ranks.{lines_below}
 use Rattle.tree_lines.specs.TreeEquilibria.{profile_line, IsTreeEquilibriaText}
 use Rattle.tree_lines.proofs.Listed.{AreTreeEquilibria-lines_below}
 use Rattle.tree_lines.proofs.OrderedProfiles.{IsProfile-ordered}
-use Rattle.tree_lines.proofs.Ranks.{IsProfile-ranked}
+use Rattle.game_theory.proofs.Ranks.{IsProfile-ranked}
 use Rattle.enumpure_trees.specs.StrategyOrders.{AreSortedOrders}
 use Rattle.enumpure_trees.proofs.FlagCounts.{length-lines_below}
 use Rattle.enumpure_trees.proofs.FormSizes.{form-counts}

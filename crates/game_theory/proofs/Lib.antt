@@ -5,5 +5,6 @@ pub mod ProfileLines
 pub mod ProfileNumbers
 pub mod ProfileOrder
 pub mod PureProfiles
+pub mod Ranks
 pub mod Replies
 pub mod SureStrategies

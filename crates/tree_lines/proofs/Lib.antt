@@ -3,4 +3,3 @@ pub mod Listed
 pub mod OrderedLines
 pub mod OrderedProfiles
 pub mod PrintedSets
-pub mod Ranks

@@ -12,11 +12,12 @@ use Rattle.game_trees.specs.Trees.{Tree, IsTree}
 use Rattle.reduced_strategies.specs.StrategicForm.{AreStrategies}
 use Rattle.reduced_strategies.proofs.TreeEquilibria.{equilibria-same}
 use Rattle.tree_lines.specs.Orders.{AreOrders, ordered}
-use Rattle.tree_lines.specs.Ranks.{ranked, ranked_profile, rank_flag, rank_line, flagged_below, lines_below, TellsEquilibria}
+use Rattle.game_theory.specs.Ranks.{ranked}
+use Rattle.tree_lines.specs.Ranks.{ranked_profile, rank_flag, rank_line, flagged_below, lines_below, TellsEquilibria}
 use Rattle.tree_lines.specs.TreeEquilibria.{profile_line, IsFormEquilibrium, IsTreeEquilibriumLine, AreTreeEquilibria}
 use Rattle.tree_lines.proofs.OrderedLines.{ordered-before}
 use Rattle.tree_lines.proofs.OrderedProfiles.{IsProfile-ordered, profile-has_places}
-use Rattle.tree_lines.proofs.Ranks.{IsProfile-ranked, ComesBefore-ranked, rank_of, rank_of-below, ranked-rank_of}
+use Rattle.game_theory.proofs.Ranks.{IsProfile-ranked, ComesBefore-ranked, rank_of, rank_of-below, ranked-rank_of}
 
 -- ---- the flagged lines
 -- there are none at first

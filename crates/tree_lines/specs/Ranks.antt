@@ -2,14 +2,10 @@
 use Rattle.std.specs.Prelude.{ℕ, zero, suc, ◌/◌, ◌%◌, ◌<◌, ◌↔◌, Bool, cond, IsTrue, List, [], ◌∷◌, ◌++◌, length, map}
 use Rattle.rational.specs.Rational.{ℚ}
 use Rattle.game_theory.specs.Profiles.{profile_count, number_of, profile_at}
+use Rattle.game_theory.specs.Ranks.{ranked}
 use Rattle.game_trees.specs.Trees.{Tree}
 use Rattle.tree_lines.specs.Orders.{ordered}
 use Rattle.tree_lines.specs.TreeEquilibria.{profile_line, IsFormEquilibrium}
-
--- the places with a rank: the last player's place changes fastest
-abbrev pub ranked : List ℕ → ℕ → List ℕ
-ranked [] r = []
-ranked (n ∷ ns) r = (r / profile_count ns) ∷ ranked ns (r % profile_count ns)
 
 -- the profile with a rank
 abbrev pub ranked_profile : List (List (List ℕ)) → List (List ℕ) → ℕ → List ℕ

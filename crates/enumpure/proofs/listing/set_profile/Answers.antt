@@ -1,5 +1,5 @@
 use Rattle.std.proofs.Common.{arith}
-use Rattle.enumpure.specs.Ranks.{ranked}
+use Rattle.game_theory.specs.Ranks.{ranked}
 use Rattle.enumpure.proofs.ProfileParts.{IsSetBelow-next, IsSetBelow-all, length-ranked}
 use Rattle.enumpure.proofs.listing.set_profile.Goals as goal
 

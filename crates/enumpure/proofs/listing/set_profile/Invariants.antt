@@ -1,4 +1,4 @@
-use Rattle.enumpure.specs.Ranks.{ranked}
+use Rattle.game_theory.specs.Ranks.{ranked}
 use Rattle.enumpure.proofs.ProfileParts.{IsSetBelow}
 use Rattle.enumpure.proofs.listing.set_profile.Given as goal
 

@@ -1,5 +1,5 @@
 use Rattle.std.proofs.Common.{length, map}
-use Rattle.enumpure.specs.Ranks.{ranked}
+use Rattle.game_theory.specs.Ranks.{ranked}
 use Rattle.enumpure_trees.proofs.RankedProfiles.{IsWrittenBelow}
 use Rattle.enumpure_trees.proofs.listing.set_profile.Given as goal
 

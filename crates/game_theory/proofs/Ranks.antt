@@ -1,10 +1,10 @@
--- The ranks of places, in the order of lines.
+-- The ranks of pure profiles in the order of their lines.
 use Rattle.std.proofs.Common.{ℕ, zero, suc, ◌+◌, ◌*◌, ◌/◌, ◌%◌, ◌<◌, ◌≤◌, ◌≡◌, ◌⊎◌, inl, inr, List, [], ◌∷◌, refl, ap, ap₂, ◌∙◌, arith, mod-lt}
 use Rattle.std.proofs.lemmas.Bool.{cases_order}
 use Rattle.std.proofs.lemmas.Nat.{mul-add-lt, div-mul-add, mod-mul-add, div_below}
 use Rattle.std.proofs.Math.Nat.{mul-le-mul_left}
 use Rattle.game_theory.specs.Profiles.{profile_count, IsProfile, ComesBefore}
-use Rattle.tree_lines.specs.Ranks.{ranked}
+use Rattle.game_theory.specs.Ranks.{ranked}
 
 -- the factors of a product with a number below it are positive
 pub factors-positive : (n p k : ℕ) → k < n * p → (0 < n) × (0 < p)
@@ -12,26 +12,26 @@ factors-positive zero p k h = absurd (omega arith)
 factors-positive (suc n) zero k h = absurd (omega arith)
 factors-positive (suc n) (suc p) k h = (omega arith, omega arith)
 
--- the places with a rank below the count are a profile
+-- the profile with a rank below the count is a profile
 pub IsProfile-ranked : (ns : List ℕ) (r : ℕ) → r < profile_count ns → IsProfile ns (ranked ns r)
 IsProfile-ranked [] r h = tt
 IsProfile-ranked (n ∷ ns) r h =
     let p : 0 < profile_count ns = (factors-positive n (profile_count ns) r h).1 in
     (div_below r (profile_count ns) n p h, IsProfile-ranked ns (r % profile_count ns) (mod-lt r p))
 
--- the rank of places
+-- the rank of a profile
 abbrev pub rank_of : List ℕ → List ℕ → ℕ
 rank_of (n ∷ ns) (s ∷ ss) = s * profile_count ns + rank_of ns ss
 rank_of _ _ = 0
 
--- a rank is below the count
+-- a profile's rank is below the count
 pub rank_of-below : (ns s : List ℕ) → IsProfile ns s → rank_of ns s < profile_count ns
 rank_of-below [] [] h = omega arith
 rank_of-below [] (a ∷ s) h = absurd h
 rank_of-below (n ∷ ns) [] h = absurd h
 rank_of-below (n ∷ ns) (a ∷ s) h = omega (arith, mul-add-lt a (profile_count ns) (rank_of ns s) n h.0 (rank_of-below ns s h.1))
 
--- the places with the rank of places are those places
+-- the profile with a profile's rank is that profile
 pub ranked-rank_of : (ns s : List ℕ) → IsProfile ns s → ranked ns (rank_of ns s) ≡ s
 ranked-rank_of [] [] h = refl
 ranked-rank_of [] (a ∷ s) h = absurd h
@@ -50,7 +50,7 @@ wrong_order q r p h l k =
 rest_less : (q r p : ℕ) → 0 < p → q < r → q / p ≡ r / p → q % p < r % p
 rest_less q r p h l e = let m : p * (q / p) ≡ p * (r / p) = ap (λ x. p * x) e in omega (arith, m)
 
--- the places with the smaller rank come before the others
+-- the profile with the smaller rank comes before the other
 pub ComesBefore-ranked : (ns : List ℕ) (q r : ℕ) → q < r → r < profile_count ns → ComesBefore (ranked ns q) (ranked ns r)
 ComesBefore-ranked [] q r h l = absurd (omega arith)
 ComesBefore-ranked (n ∷ ns) q r h l = go (cases_order (q / profile_count ns) (r / profile_count ns)) (λ k. ComesBefore-ranked ns (q % profile_count ns) (r % profile_count ns) k (mod-lt r ((factors-positive n (profile_count ns) r l).1)))
