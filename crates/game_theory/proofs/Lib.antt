@@ -1,5 +1,6 @@
 pub mod Examples
 pub mod LineOrder
+pub mod LineTexts
 pub mod Payoffs
 pub mod ProfileLines
 pub mod ProfileNumbers

@@ -5,7 +5,7 @@ use Rattle.rational.specs.Sum.{sum_to}
 use Rattle.game_theory.specs.Profiles.{Game, profile_count, IsProfile, number_of, profile_at}
 use Rattle.game_theory.specs.Mixed.{Mixed, payoff, pure, reply}
 use Rattle.game_theory.specs.Equilibrium.{IsEquilibrium}
-use Rattle.game_theory.specs.Lines.{ArePureEquilibria}
+use Rattle.game_theory.specs.Lines.{ArePureEquilibria, entries, line_text}
 
 -- profiles and the numbers below their count belong to each other
 pub record ProfilesAreNumbered (ns : List ℕ) : Type 0 where
@@ -46,3 +46,9 @@ PayoffIsMeanOfReplies =
 abbrev pub OneListOfPureEquilibria : Type 0
 OneListOfPureEquilibria =
     (g : Game) (a b : List (List ℚ)) → ArePureEquilibria g a → ArePureEquilibria g b → a ≡ b
+
+-- two pure profiles never have the same line
+abbrev pub LinesTellProfiles : Type 0
+LinesTellProfiles =
+    (ns one other : List ℕ) → IsProfile ns one → IsProfile ns other
+    → line_text (entries ns (pure one)) ≡ line_text (entries ns (pure other)) → one ≡ other

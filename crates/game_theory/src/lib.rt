@@ -3,7 +3,7 @@
 //! The definitions stand in `specs/`. Begin with `Profiles`: a game, its pure profiles and their
 //! numbers. `Mixed` has mixed profiles, their payoffs and pure replies, `Equilibrium` says what an
 //! equilibrium is, and `Lines` how equilibria are listed: the entries of a line, the order of the
-//! lines and their text. `Laws` states what holds of all games, and `Examples` works out two.
+//! lines and their text. `Laws` states what holds of all games, and `Examples` works out three.
 //!
 //! The functions below do nothing: the contract of each is a law, so that a check proves it.
 //!
@@ -11,12 +11,18 @@
 //! and strides, `ProfileOrder` on which profile comes first, `SureStrategies` on the probabilities
 //! of one strategy, `Payoffs` on means over the profiles, `Replies` on pure replies and on profiles
 //! with equal probabilities, `PureProfiles` on the payoffs and equilibria of pure profiles,
-//! `LineOrder` on lists of lines, and `ProfileLines` on the entries of profiles and their order.
+//! `LineOrder` on lists of lines, `ProfileLines` on the entries of profiles and their order, and
+//! `LineTexts` on the texts of the lines of pure profiles.
 #![tactic(auto)]
 
 ghost use Rattle.std.specs.Prelude.{ℕ, List};
-ghost use Rattle.game_theory.specs.Examples.{MatchingPenniesHasNoPureEquilibrium, PrisonersDilemmaHasOnePureEquilibrium};
+ghost use Rattle.game_theory.specs.Examples.{
+  BattleOfTheSexesHasTwoPureEquilibria,
+  MatchingPenniesHasNoPureEquilibrium,
+  PrisonersDilemmaHasOnePureEquilibrium,
+};
 ghost use Rattle.game_theory.specs.Laws.{
+  LinesTellProfiles,
   OneListOfPureEquilibria,
   PayoffIsMeanOfReplies,
   ProfilesAreNumbered,
@@ -55,9 +61,19 @@ pub fn one_list_of_pure_equilibria()
     ensures { OneListOfPureEquilibria }
 {}
 
+/// Two pure profiles never have the same line.
+pub fn lines_tell_profiles()
+    ensures { LinesTellProfiles }
+{}
+
 /// In the prisoners' dilemma both confess: that is its only pure equilibrium.
 pub fn prisoners_dilemma()
     ensures { PrisonersDilemmaHasOnePureEquilibrium }
+{}
+
+/// In the battle of the sexes the players meet at either place: those are its only pure equilibria, in this order.
+pub fn battle_of_the_sexes()
+    ensures { BattleOfTheSexesHasTwoPureEquilibria }
 {}
 
 /// Even chances are an equilibrium of matching pennies, and no pure profile is one.

@@ -1,10 +1,17 @@
 -- The laws of the rational numbers, as statements. Those of a commutative ring and of an ordered field are the usual axioms; each is proved by a function of src/lib.rt.
 use Rattle.std.specs.Prelude.{ℕ, suc, ◌+◌, ◌*◌, ◌<◌, ◌≡◌, ◌≢◌, ◌⊎◌, ◌↔◌, IsTrue, ℤ, pos, neg_ℤ, ◌+ℤ◌, ◌*ℤ◌, ◌≤ℤ◌, ◌<ℤ◌, nat_abs}
+use Rattle.std.specs.Int.{◌∣◌}
 use Rattle.rational.specs.Gcd.{gcd}
 use Rattle.rational.specs.Rational.{ℚ, frac, ◌+ℚ◌, ◌*ℚ◌, neg_ℚ, inv_ℚ, zero_ℚ, one_ℚ, ◌≤ℚ◌, ◌<ℚ◌}
 use Rattle.rational.specs.Midpoint.{midpoint}
 use Rattle.rational.specs.Sum.{sum_to}
 use Rattle.rational.specs.Tests.{le_test, lt_test, eq_test}
+
+-- What `gcd` gives divides both numbers, and each common divisor divides it.
+pub record GcdIsGreatest : Type 0 where
+  pub divides_first : (a b : ℕ) → gcd a b ∣ a
+  pub divides_second : (a b : ℕ) → gcd a b ∣ b
+  pub greatest : (a b d : ℕ) → d ∣ a → d ∣ b → d ∣ gcd a b
 
 -- Fractions with positive denominators stand for the rationals: each rational is one in lowest terms, and fractions are compared, added, multiplied, negated and turned over as in school.
 pub record FractionsStandForNumbers : Type 0 where

@@ -32,7 +32,12 @@
 //! | `Codes` | how a rational is stored, for an `impl Model` whose value is a `ℚ` |
 #![tactic(auto)]
 
-ghost use Rattle.rational.specs.Laws.{FractionsStandForNumbers, IsCommutativeRing, IsOrderedField, OrderIsDecidable, MidpointsLieBetween, SumsAddUp, MeansStayBelow};
+ghost use Rattle.rational.specs.Laws.{GcdIsGreatest, FractionsStandForNumbers, IsCommutativeRing, IsOrderedField, OrderIsDecidable, MidpointsLieBetween, SumsAddUp, MeansStayBelow};
+
+/// The greatest common divisor of two numbers divides both, and each common divisor divides it.
+pub fn gcd_is_greatest()
+    ensures { GcdIsGreatest }
+{}
 
 /// Fractions are compared, added, multiplied, negated and turned over as in school, and each number
 /// is one fraction in lowest terms.
