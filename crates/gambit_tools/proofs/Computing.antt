@@ -9,7 +9,7 @@ use Rattle.gambit_tools.specs.Input.{most_bytes, AreBytesOf, IsInputRefusal, IsR
 use Rattle.gambit_tools.specs.Games.{game_in}
 use Rattle.gambit_tools.specs.Commands.{inputs_of, tool_of, answer_of}
 use Rattle.gambit_tools.specs.Origins.{Contents as of_contents, origin}
-use Rattle.gambit_tools.specs.Outcome.{AreContents, AreRead, HasAnswer, HasReadBefore, IsComputed, IsRefusedIn}
+use Rattle.gambit_tools.specs.Outcome.{AreContents, AreRead, HasAnswer, HasReadBefore, IsComputed, IsRefusedIn, SelectsFew}
 use Rattle.gambit_tools.specs.declared.refusal.Refusal.{Refusal}
 use Rattle.gambit_tools.specs.declared.refusal.Refusal.TheVariants as refusal
 use Rattle.gambit_tools.proofs.Contents.{game_in-origin, game_in-too_long, tool_of-origin}
@@ -21,6 +21,10 @@ the_input command name one = subst (λ names. Contains names name) (sym one) (0,
 -- the bytes of the one input are the contents
 one_content : (command : Command) (name : InputName) (before : InputsSeen) (bytes : List ℕ) → inputs_of command ≡ name ∷ [] → AreBytesOf (before.held name) bytes → AreContents before.held (inputs_of command) (bytes ∷ [])
 one_content command name before bytes one are = subst (λ names. AreContents before.held names (bytes ∷ [])) (sym one) (are, tt)
+
+-- one selection is made for the one input
+one_selection : (command : Command) (name : InputName) (before after : InputsSeen) → inputs_of command ≡ name ∷ [] → after.selections ≤ before.selections + 1 → SelectsFew (inputs_of command) before after
+one_selection command name before after one few = subst (λ names. SelectsFew names before after) (sym one) few
 
 -- an input of which too many bytes were read is too long
 too_long : (held left : Option (List ℕ)) (taken : List ℕ) → length taken ≡ most_bytes + 1 → Consumes held left taken → (bytes : List ℕ) × AreBytesOf held bytes × (most_bytes < length bytes)
@@ -34,19 +38,20 @@ counts_none before after r h = record { opening = λ l. (let e = h.opening l in 
 
 -- an input that is not read
 pub refused-computed : (command : Command) (name : InputName) (before after : InputsSeen) (r : Refusal) → inputs_of command ≡ name ∷ [] → IsInputRefusal name before after r → CountsTell before after (Some r)
-    → ((n : InputName) → after.held n ≡ before.held n) → IsComputed command before after (Err r)
-refused-computed command name before after refusal.OpenFault one h counts stay = record { answers = (name, the_input command name one, h); has_read = h.none_selected; counts = counts; inputs_stay = stay }
-refused-computed command name before after refusal.ReadFault one h counts stay = record { answers = (name, the_input command name one, h); has_read = h.none_selected; counts = counts; inputs_stay = stay }
-refused-computed command name before after refusal.TooLong one h counts stay =
+    → after.selections ≤ before.selections + 1 → ((n : InputName) → after.held n ≡ before.held n) → IsComputed command before after (Err r)
+refused-computed command name before after refusal.OpenFault one h counts few stay = record { answers = (name, the_input command name one, h); has_read = h.none_selected; selects_few = one_selection command name before after one few; counts = counts; inputs_stay = stay }
+refused-computed command name before after refusal.ReadFault one h counts few stay = record { answers = (name, the_input command name one, h); has_read = h.none_selected; selects_few = one_selection command name before after one few; counts = counts; inputs_stay = stay }
+refused-computed command name before after refusal.TooLong one h counts few stay =
     (let long = too_long (before.held name) after.left h.taken h.count h.are_first in
     record {
       answers = record { contents = long.0 ∷ []; are_contents = one_content command name before long.0 one long.1; is_answer = inl (game_in-too_long long.0 long.2) };
       has_read = (name, the_input command name one, h);
+      selects_few = one_selection command name before after one few;
       counts = counts;
       inputs_stay = stay;
     })
-refused-computed command name before after refusal.Memory one h counts stay = record { answers = tt; has_read = inr (name, the_input command name one, h); counts = counts; inputs_stay = stay }
-refused-computed command name before after _ one h counts stay = elim h [ ]
+refused-computed command name before after refusal.Memory one h counts few stay = record { answers = tt; has_read = inr (name, the_input command name one, h); selects_few = one_selection command name before after one few; counts = counts; inputs_stay = stay }
+refused-computed command name before after _ one h counts few stay = elim h [ ]
 
 -- ---- inputs that are read
 -- an input that is read to its end, and no count rose
@@ -56,12 +61,13 @@ pub record IsRead (command : Command) (name : InputName) (before after : InputsS
   pub few : length bytes ≤ most_bytes
   pub read : IsReadToEnd name after
   pub counts : CountsTell before after None
+  pub once : after.selections ≤ before.selections + 1
   pub stay : (n : InputName) → after.held n ≡ before.held n
 
 -- want of memory
 memory-computed : (command : Command) (name : InputName) (before after : InputsSeen) (bytes : List ℕ) → IsRead command name before after bytes → IsComputed command before after (Err refusal.Memory)
 memory-computed command name before after bytes h =
-    record { answers = tt; has_read = inr (name, the_input command name h.one, h.read.selected); counts = counts_none before after refusal.Memory h.counts; inputs_stay = h.stay }
+    record { answers = tt; has_read = inr (name, the_input command name h.one, h.read.selected); selects_few = one_selection command name before after h.one h.once; counts = counts_none before after refusal.Memory h.counts; inputs_stay = h.stay }
 
 -- a refusal by the contents
 contents-computed : (command : Command) (name : InputName) (before after : InputsSeen) (bytes : List ℕ) (r : Refusal) → IsRead command name before after bytes → origin r ≡ of_contents → answer_of command (bytes ∷ []) (Err r) → IsComputed command before after (Err r)
@@ -70,6 +76,7 @@ contents-computed command name before after bytes r h o g =
     record {
       answers = subst (λ o. IsRefusedIn command before after r o) (sym o) answer;
       has_read = subst (λ o. HasReadBefore (inputs_of command) before after o) (sym o) (subst (λ names. HasReadBefore names before after of_contents) (sym h.one) h.read);
+      selects_few = one_selection command name before after h.one h.once;
       counts = counts_none before after r h.counts;
       inputs_stay = h.stay;
     }
@@ -85,6 +92,7 @@ pub text-computed : {X : Type 0} (command : Command) (name : InputName) (before 
 text-computed command name before after bytes game (Ok x) view h k g = record {
   answers = record { contents = bytes ∷ []; are_contents = one_content command name before bytes h.one h.are; is_answer = (game, k, g) };
   has_read = subst (λ names. AreRead names before after) (sym h.one) h.read;
+  selects_few = one_selection command name before after h.one h.once;
   counts = h.counts;
   inputs_stay = h.stay;
 }

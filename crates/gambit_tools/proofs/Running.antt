@@ -38,7 +38,7 @@ some_read (name ∷ other ∷ names) before after h = elim (some_read (other ∷
 memory_told : (command : Command) (before after : Outside) (r : Refusal) → origin r ≡ OfContents → IsCommandRun command before after (Err r) → IsCommandRun command before after (Err refusal.Memory)
 memory_told command before after r o h =
     let stopped = subst (IsStoppedIn command before after r) o h.ends in
-    record { ends = (tt, stopped.1); has_read = some_read (inputs_of command) before.inputs after.inputs (subst (HasReadBefore (inputs_of command) before.inputs after.inputs) o h.has_read) }
+    record { ends = (tt, stopped.1); has_read = some_read (inputs_of command) before.inputs after.inputs (subst (HasReadBefore (inputs_of command) before.inputs after.inputs) o h.has_read); selects_few = h.selects_few }
 
 err_same : (a b : Refusal) → ◌≡◌ {A = RunAnswer} (Err a) (Err b) → a ≡ b
 err_same a b e = cc

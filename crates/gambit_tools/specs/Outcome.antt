@@ -1,5 +1,5 @@
 -- What a run does: what it answers and why, what it reads and writes, and what it tells on standard error.
-use Rattle.std.specs.Prelude.{ℕ, ◌<◌, ◌≤◌, ◌≡◌, ◌⊎◌, true, List, [], ◌∷◌, length, take, Contains, Option, None, Some, Ok, Err, Result}
+use Rattle.std.specs.Prelude.{ℕ, ◌+◌, ◌<◌, ◌≤◌, ◌≡◌, ◌⊎◌, true, List, [], ◌∷◌, length, take, Contains, Option, None, Some, Ok, Err, Result}
 use Rattle.std.specs.Result.{result_err}
 use Rattle.answers.specs.Answers.{map_err}
 use Rattle.outside.specs.Counts.{Rose}
@@ -79,10 +79,15 @@ abbrev pub Answers : Command → InputsSeen → InputsSeen → RunAnswer → Typ
 Answers command before after (Ok text) = HasAnswer command before (Ok text)
 Answers command before after (Err r) = IsRefusedIn command before after r (origin r)
 
+-- no more selections were made than there are inputs with these names
+abbrev pub SelectsFew : List InputName → InputsSeen → InputsSeen → Type 0
+SelectsFew names before after = after.selections ≤ before.selections + length names
+
 -- what reading a command's inputs and computing its text does
 pub record IsComputed (command : Command) (before after : InputsSeen) (answer : RunAnswer) : Type 0 where
   pub answers : Answers command before after answer
   pub has_read : HasRead (inputs_of command) before after answer
+  pub selects_few : SelectsFew (inputs_of command) before after
   -- a count rose only with its own refusal, and no input is changed
   pub counts : CountsTell before after (result_err answer)
   pub inputs_stay : (name : InputName) → after.held name ≡ before.held name
@@ -104,6 +109,7 @@ Ends command before after (Err r) = IsStoppedIn command before after r (origin r
 pub record IsCommandRun (command : Command) (before after : Outside) (answer : RunAnswer) : Type 0 where
   pub ends : Ends command before after answer
   pub has_read : HasRead (inputs_of command) before.inputs after.inputs answer
+  pub selects_few : SelectsFew (inputs_of command) before.inputs after.inputs
 
 -- a run whose words are refused: it reads and writes nothing
 pub record IsUsageRun (usage : Usage) (before after : Outside) (answer : RunAnswer) : Type 0 where

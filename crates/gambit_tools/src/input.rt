@@ -50,6 +50,7 @@ fn read_piece<I: Inputs>(
         (I.seen inputs.old)
         (I.seen inputs.new)) }
     ensures open_faults { (I.seen inputs.new).open_faults ≡ (I.seen inputs.old).open_faults }
+    ensures selections { (I.seen inputs.new).selections ≡ (I.seen inputs.old).selections }
     ensures held { (n : InputName) → (I.seen inputs.new).held n ≡ (I.seen inputs.old).held n }
 {
     let room = buffer.len().min(MOST_BYTES + 1 - bytes.len());
@@ -72,6 +73,7 @@ fn read_selected<I: Inputs>(alloc: Global, inputs: &mut I) -> Result<Vec<u8>, Re
         (I.seen inputs.new)) }
     ensures no_fault { OnOk result ((I.seen inputs.new).read_faults ≡ (I.seen inputs.old).read_faults) }
     ensures open_faults { (I.seen inputs.new).open_faults ≡ (I.seen inputs.old).open_faults }
+    ensures selections { (I.seen inputs.new).selections ≡ (I.seen inputs.old).selections }
     ensures held { (n : InputName) → (I.seen inputs.new).held n ≡ (I.seen inputs.old).held n }
 {
     let Ok(mut buffer) = new_buffer(alloc) else {
@@ -99,9 +101,8 @@ pub fn read_input<I: Inputs>(
     ensures refused { IfErr result (IsInputRefusal (option_map string_bytes name)
         (I.seen inputs.old)
         (I.seen inputs.new)) }
-    ensures counts { CountsTell
-        (I.seen inputs.old)
-        (I.seen inputs.new) (result_err result) }
+    ensures counts { CountsTell (I.seen inputs.old) (I.seen inputs.new) (result_err result) }
+    ensures selections { (I.seen inputs.new).selections ≤ (I.seen inputs.old).selections + 1 }
     ensures held { (n : InputName) → (I.seen inputs.new).held n ≡ (I.seen inputs.old).held n }
 {
     match inputs.select(name) {

@@ -14,6 +14,8 @@ pub record InputsSeen : Type 0 where
   -- the selected input, and the one whose call failed last: nothing where there is none
   pub selected : Option InputName
   pub failed : Option InputName
+  -- how many calls of `select` were made
+  pub selections : ℕ
   -- how many calls of `select` and of `read` have failed
   pub open_faults : ℕ
   pub read_faults : ℕ

@@ -6,8 +6,8 @@ use Rattle.std.proofs.Math.Seq.{drop-nil}
 use Rattle.outside.specs.Inputs.{InputName}
 
 -- the bytes under no name, the names with their bytes, the numbers of the calls that fail, how many calls there
--- were, the selected and the failed input, how many bytes of the selected one are read, and how many calls
--- of each kind have failed
+-- were, the selected and the failed input, how many bytes of the selected one are read, how many
+-- selections were made, and how many calls of each kind have failed
 pub record InputsState : Type 0 where
   pub plain : List ℕ
   pub named : List (List ℕ × List ℕ)
@@ -16,6 +16,7 @@ pub record InputsState : Type 0 where
   pub selected : Option InputName
   pub failed : Option InputName
   pub position : ℕ
+  pub selections : ℕ
   pub open_faults : ℕ
   pub read_faults : ℕ
 

@@ -3,12 +3,13 @@ use Rattle.std.specs.Prelude.{ℕ, Bool, List, Option, is_some, unwrap_or, optio
 use Rattle.outside.specs.Inputs.{InputName}
 
 -- the bytes left of standard input and of the open file, where they are known, the selected and the failed
--- input, and how many calls of each kind have failed
+-- input, how many selections were made, and how many calls of each kind have failed
 pub record OpenState : Type 0 where
   pub standard : Option (List ℕ)
   pub file : Option (Option (List ℕ))
   pub selected : Option InputName
   pub failed : Option InputName
+  pub selections : ℕ
   pub open_faults : ℕ
   pub read_faults : ℕ
 

@@ -2,7 +2,7 @@
 ghost use Rattle.std.specs.Prelude.{◌≡◌, ◌≤◌, ℕ, List, [], Option, Some, None, Ok, IsSome, OnOk, OnErr, option_map, string_bytes};
 ghost use Rattle.std.specs.Io.{ReadsAtMost};
 ghost use Rattle.std.specs.Io.KnownBytes.{ReadConsumes, IsAtEnd};
-ghost use Rattle.outside.specs.Counts.{Counts};
+ghost use Rattle.outside.specs.Counts.{Counts, next_count};
 ghost use Rattle.outside.specs.Inputs.{InputName, InputsSeen};
 
 /// An input could not be opened.
@@ -15,8 +15,8 @@ pub struct ReadFailed;
 
 /// Inputs by name, and one without a name. At most one of them is selected, and only that one is read.
 pub trait Inputs {
-    /// What can be seen of them: bytes where they are known, the selected and the failed input, and the counts
-    /// of failed calls.
+    /// What can be seen of them: bytes where they are known, the selected and the failed input, and the counts of
+    /// selections and of failed calls. A count stands still at 2^64 - 1.
     ghost seen: { Self → InputsSeen };
 
     /// Selects an input, of which all bytes are then left. A name is kept and not copied. `OpenFailed` comes
@@ -28,6 +28,7 @@ pub trait Inputs {
         ensures fails { OnErr result ((seen self.new).failed ≡ Some (option_map string_bytes name)) }
         ensures selects_nothing { OnErr result ((seen self.new).selected ≡ None) }
         ensures held { (n : InputName) → (seen self.new).held n ≡ (seen self.old).held n }
+        ensures selections { (seen self.new).selections ≡ next_count (seen self.old).selections }
         ensures counts { Counts (seen self.old).open_faults (seen self.new).open_faults result }
         ensures other_count { (seen self.new).read_faults ≡ (seen self.old).read_faults };
 
@@ -44,6 +45,7 @@ pub trait Inputs {
         ensures fails { OnErr result ((seen self.new).failed ≡ (seen self.old).selected) }
         ensures selects_nothing { OnErr result ((seen self.new).selected ≡ None) }
         ensures held { (n : InputName) → (seen self.new).held n ≡ (seen self.old).held n }
+        ensures selections { (seen self.new).selections ≡ (seen self.old).selections }
         ensures counts { Counts (seen self.old).read_faults (seen self.new).read_faults result }
         ensures other_count { (seen self.new).open_faults ≡ (seen self.old).open_faults };
 

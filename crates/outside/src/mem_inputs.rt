@@ -22,6 +22,7 @@ pub struct MemInputs {
     selected: Option<Option<String>>,
     failed: Option<Option<String>>,
     position: usize,
+    selections: u64,
     open_faults: u64,
     read_faults: u64,
 }
@@ -32,18 +33,19 @@ impl Model for MemInputs {
 
     ghost Value = { InputsState };
 
-    ghost view = { λ s. record { plain = s.plain.items; named = map (λ p. (string_bytes p.0, p.1.items)) s.named.items; failing = s.failing.items; calls = s.calls; selected = option_map (option_map string_bytes) s.selected; failed = option_map (option_map string_bytes) s.failed; position = s.position; open_faults = s.open_faults; read_faults = s.read_faults } };
+    ghost view = { λ s. record { plain = s.plain.items; named = map (λ p. (string_bytes p.0, p.1.items)) s.named.items; failing = s.failing.items; calls = s.calls; selected = option_map (option_map string_bytes) s.selected; failed = option_map (option_map string_bytes) s.failed; position = s.position; selections = s.selections; open_faults = s.open_faults; read_faults = s.read_faults } };
 }
 
 impl MemInputs {
     /// Inputs with these bytes under no name, these names with bytes, of which the first counts where names are
     /// equal, and these numbers of the calls that fail. Takes no memory.
     pub fn new(plain: Vec<u8>, named: Vec<(String, Vec<u8>)>, failing: Vec<u64>) -> MemInputs
-        ensures state { result ≡ record { plain = plain.items; named = map (λ p. (string_bytes p.0, p.1.items)) named.items; failing = failing.items; calls = 0; selected = None; failed = None; position = 0; open_faults = 0; read_faults = 0 } }
+        ensures state { result ≡ record { plain = plain.items; named = map (λ p. (string_bytes p.0, p.1.items)) named.items; failing = failing.items; calls = 0; selected = None; failed = None; position = 0; selections = 0; open_faults = 0; read_faults = 0 } }
         ensures held { (n : InputName) → (⟦<MemInputs as Inputs>⟧.seen result).held n ≡ bytes_held plain.items (map (λ p. (string_bytes p.0, p.1.items)) named.items) n }
         ensures left { (⟦<MemInputs as Inputs>⟧.seen result).left ≡ Some [] }
         ensures selected { (⟦<MemInputs as Inputs>⟧.seen result).selected ≡ None }
         ensures failed { (⟦<MemInputs as Inputs>⟧.seen result).failed ≡ None }
+        ensures selections { (⟦<MemInputs as Inputs>⟧.seen result).selections ≡ 0 }
         ensures open_faults { (⟦<MemInputs as Inputs>⟧.seen result).open_faults ≡ 0 }
         ensures read_faults { (⟦<MemInputs as Inputs>⟧.seen result).read_faults ≡ 0 }
     {
@@ -55,6 +57,7 @@ impl MemInputs {
             selected: None,
             failed: None,
             position: 0,
+            selections: 0,
             open_faults: 0,
             read_faults: 0,
         }
@@ -93,7 +96,7 @@ impl MemInputs {
 }
 
 impl Inputs for MemInputs {
-    ghost seen = { λ s. record { held = bytes_held s.plain s.named; left = Some (bytes_left s); selected = s.selected; failed = s.failed; open_faults = s.open_faults; read_faults = s.read_faults } };
+    ghost seen = { λ s. record { held = bytes_held s.plain s.named; left = Some (bytes_left s); selected = s.selected; failed = s.failed; selections = s.selections; open_faults = s.open_faults; read_faults = s.read_faults } };
 
     /// Fails exactly where the call's number is one that fails or there is no input of that name.
     fn select(&mut self, name: Option<String>) -> Result<(), OpenFailed>
@@ -103,15 +106,17 @@ impl Inputs for MemInputs {
         ensures fails { OnErr result (self.new.failed ≡ Some (option_map string_bytes name)) }
         ensures selects_nothing { OnErr result (self.new.selected ≡ None) }
         ensures held { (n : InputName) → bytes_held self.new.plain self.new.named n ≡ bytes_held self.old.plain self.old.named n }
+        ensures selections { self.new.selections ≡ next_count self.old.selections }
         ensures counts { Counts self.old.open_faults self.new.open_faults result }
         ensures other_count { self.new.read_faults ≡ self.old.read_faults }
 
         ensures when { IsErr result ↔ (Contains self.old.failing (next_count self.old.calls) ⊎ (bytes_held self.old.plain self.old.named (option_map string_bytes name) ≡ None)) }
-        ensures selected { OnOk result (self.new ≡ record self.old { calls = next_count self.old.calls; selected = Some (option_map string_bytes name); position = 0 }) }
-        ensures refused { OnErr result (self.new ≡ record self.old { calls = next_count self.old.calls; selected = None; failed = Some (option_map string_bytes name); position = 0; open_faults = next_count self.old.open_faults }) }
+        ensures selected { OnOk result (self.new ≡ record self.old { calls = next_count self.old.calls; selected = Some (option_map string_bytes name); position = 0; selections = next_count self.old.selections }) }
+        ensures refused { OnErr result (self.new ≡ record self.old { calls = next_count self.old.calls; selected = None; failed = Some (option_map string_bytes name); position = 0; selections = next_count self.old.selections; open_faults = next_count self.old.open_faults }) }
     {
         let fails = self.counts_failing();
         let absent = self.bytes_of(&name).is_none();
+        self.selections = self.selections.saturating_add(1);
         self.position = 0;
         if fails || absent {
             self.selected = None;
@@ -134,6 +139,7 @@ impl Inputs for MemInputs {
         ensures fails { OnErr result (self.new.failed ≡ self.old.selected) }
         ensures selects_nothing { OnErr result (self.new.selected ≡ None) }
         ensures held { (n : InputName) → bytes_held self.new.plain self.new.named n ≡ bytes_held self.old.plain self.old.named n }
+        ensures selections { self.new.selections ≡ self.old.selections }
         ensures counts { Counts self.old.read_faults self.new.read_faults result }
         ensures other_count { self.new.open_faults ≡ self.old.open_faults }
 

@@ -22,6 +22,7 @@ pub struct RealInputs<'a, R: Files + Input + Drop> {
     file: Option<R::File>,
     selected: Option<Option<String>>,
     failed: Option<Option<String>>,
+    selections: u64,
     open_faults: u64,
     read_faults: u64,
 }
@@ -32,7 +33,7 @@ impl<'a, R: Files + Input + Drop> Model for RealInputs<'a, R> {
 
     ghost Value = { OpenState };
 
-    ghost view = { λ s. record { standard = R.Reader.remaining s.reader; file = option_map R.File.Read.remaining s.file; selected = option_map (option_map string_bytes) s.selected; failed = option_map (option_map string_bytes) s.failed; open_faults = s.open_faults; read_faults = s.read_faults } };
+    ghost view = { λ s. record { standard = R.Reader.remaining s.reader; file = option_map R.File.Read.remaining s.file; selected = option_map (option_map string_bytes) s.selected; failed = option_map (option_map string_bytes) s.failed; selections = s.selections; open_faults = s.open_faults; read_faults = s.read_faults } };
 
     ghost invariant = { λ s. is_some s.file ≡ is_named s.selected };
 }
@@ -42,6 +43,7 @@ impl<'a, R: Files + Input + Drop> RealInputs<'a, R> {
     pub fn new(rt: &'a R) -> RealInputs<'a, R>
         ensures selected { (⟦<RealInputs<'a, R> as Inputs>⟧.seen result).selected ≡ None }
         ensures failed { (⟦<RealInputs<'a, R> as Inputs>⟧.seen result).failed ≡ None }
+        ensures selections { (⟦<RealInputs<'a, R> as Inputs>⟧.seen result).selections ≡ 0 }
         ensures open_faults { (⟦<RealInputs<'a, R> as Inputs>⟧.seen result).open_faults ≡ 0 }
         ensures read_faults { (⟦<RealInputs<'a, R> as Inputs>⟧.seen result).read_faults ≡ 0 }
         ensures no_file { result.file ≡ None }
@@ -52,6 +54,7 @@ impl<'a, R: Files + Input + Drop> RealInputs<'a, R> {
             file: None,
             selected: None,
             failed: None,
+            selections: 0,
             open_faults: 0,
             read_faults: 0,
         }
@@ -59,21 +62,23 @@ impl<'a, R: Files + Input + Drop> RealInputs<'a, R> {
 }
 
 impl<'a, R: Files + Input + Drop> Inputs for RealInputs<'a, R> {
-    ghost seen = { λ s. record { held = λ _. None; left = None; selected = s.selected; failed = s.failed; open_faults = s.open_faults; read_faults = s.read_faults } };
+    ghost seen = { λ s. record { held = λ _. None; left = None; selected = s.selected; failed = s.failed; selections = s.selections; open_faults = s.open_faults; read_faults = s.read_faults } };
 
     fn select(&mut self, name: Option<String>) -> Result<(), OpenFailed>
         ensures selects { OnOk result (self.new.selected ≡ Some (option_map string_bytes name)) }
         ensures failed_stays { OnOk result (self.new.failed ≡ self.old.failed) }
         ensures fails { OnErr result (self.new.failed ≡ Some (option_map string_bytes name)) }
         ensures selects_nothing { OnErr result (self.new.selected ≡ None) }
+        ensures selections { self.new.selections ≡ next_count self.old.selections }
         ensures counts { Counts self.old.open_faults self.new.open_faults result }
         ensures other_count { self.new.read_faults ≡ self.old.read_faults }
 
         ensures opens { OnOk result (is_some self.new.file ≡ is_some name) }
         ensures standard { OnOk result (IsNone name → source_left self.new ≡ self.old.standard) }
-        ensures selected { OnOk result (self.new ≡ record self.old { file = self.new.file; selected = Some (option_map string_bytes name) }) }
-        ensures refused { OnErr result (self.new ≡ record self.old { file = None; selected = None; failed = Some (option_map string_bytes name); open_faults = next_count self.old.open_faults }) }
+        ensures selected { OnOk result (self.new ≡ record self.old { file = self.new.file; selected = Some (option_map string_bytes name); selections = next_count self.old.selections }) }
+        ensures refused { OnErr result (self.new ≡ record self.old { file = None; selected = None; failed = Some (option_map string_bytes name); selections = next_count self.old.selections; open_faults = next_count self.old.open_faults }) }
     {
+        self.selections = self.selections.saturating_add(1);
         match open_named(self.rt, &name) {
             Ok(file) => {
                 self.file = file;
@@ -97,6 +102,7 @@ impl<'a, R: Files + Input + Drop> Inputs for RealInputs<'a, R> {
         ensures idle { self.old.selected ≡ None → result ≡ Ok 0 }
         ensures fails { OnErr result (self.new.failed ≡ self.old.selected) }
         ensures selects_nothing { OnErr result (self.new.selected ≡ None) }
+        ensures selections { self.new.selections ≡ self.old.selections }
         ensures counts { Counts self.old.read_faults self.new.read_faults result }
         ensures other_count { self.new.open_faults ≡ self.old.open_faults }
 

@@ -12,7 +12,7 @@ returns-in_err-bytes g c =
     let p = err_from_is_err_and c.from_residual.result c.from_residual.ensures.1 in
     let name = option_map string_bytes c.args.file in
     let e = c.in_err-bytes.ensures in
-    rw (p.1, p.2) (refused-computed (Enumpure c.args.strategic name) name (g.I.Inputs.seen c.args.inputs.now) (g.I.Inputs.seen c.read_input.new.inputs) c.in_err-bytes.field-0.0 refl e.refused e.counts e.held)
+    rw (p.1, p.2) (refused-computed (Enumpure c.args.strategic name) name (g.I.Inputs.seen c.args.inputs.now) (g.I.Inputs.seen c.read_input.new.inputs) c.in_err-bytes.field-0.0 refl e.refused e.counts e.selections e.held)
 
 pub returns-in_err-game : goal.returns-in_err-game
 returns-in_err-game g c =
@@ -20,7 +20,7 @@ returns-in_err-game g c =
     let name = option_map string_bytes c.args.file in
     let e = c.in_ok-bytes.ensures in
     let read : IsRead (Enumpure c.args.strategic name) name (g.I.Inputs.seen c.args.inputs.now) (g.I.Inputs.seen c.read_input.new.inputs) c.in_ok-bytes.bytes.items =
-    record { one = refl; are = e.bytes; few = e.within_limit; read = e.read; counts = e.counts; stay = e.held } in
+    record { one = refl; are = e.bytes; few = e.within_limit; read = e.read; counts = e.counts; once = e.selections; stay = e.held } in
     rw (p.1, p.2) (game-computed (Enumpure c.args.strategic name) name (g.I.Inputs.seen c.args.inputs.now) (g.I.Inputs.seen c.read_input.new.inputs) c.in_ok-bytes.bytes.items c.in_err-game.field-0.0 read
       (subst (λ b. Gives refusal.Memory (game_in b) (Err c.in_err-game.field-0.0)) c.deref.ensures.value c.in_err-game.ensures))
 
@@ -29,6 +29,6 @@ returns g c =
     let name = option_map string_bytes c.args.file in
     let e = c.in_ok-bytes.ensures in
     let read : IsRead (Enumpure c.args.strategic name) name (g.I.Inputs.seen c.args.inputs.now) (g.I.Inputs.seen c.read_input.new.inputs) c.in_ok-bytes.bytes.items =
-    record { one = refl; are = e.bytes; few = e.within_limit; read = e.read; counts = e.counts; stay = e.held } in
+    record { one = refl; are = e.bytes; few = e.within_limit; read = e.read; counts = e.counts; once = e.selections; stay = e.held } in
     text-computed (Enumpure c.args.strategic name) name (g.I.Inputs.seen c.args.inputs.now) (g.I.Inputs.seen c.read_input.new.inputs) c.in_ok-bytes.bytes.items c.in_ok-game.game c.pure_equilibria.result (λ text. text.items) read
     (subst (λ b. game_in b (Ok c.in_ok-game.game)) c.deref.ensures.value c.in_ok-game.ensures) c.pure_equilibria.ensures

@@ -20,6 +20,7 @@ select-tells g c = record {
   fails = c.ensures.fails;
   selects_nothing = c.ensures.selects_nothing;
   held = λ _. refl;
+  selections = c.ensures.selections;
   counts = c.ensures.counts;
   other_count = c.ensures.other_count;
 }
@@ -34,6 +35,7 @@ read-tells g c = record {
   fails = c.ensures.fails;
   selects_nothing = c.ensures.selects_nothing;
   held = λ _. refl;
+  selections = c.ensures.selections;
   counts = c.ensures.counts;
   other_count = c.ensures.other_count;
 }
