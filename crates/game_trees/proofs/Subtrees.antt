@@ -7,7 +7,7 @@ use Rattle.game_trees.specs.Laws.{AgreeWithin, ValuesDependOnSubtrees}
 use Rattle.game_trees.proofs.Children.{over_children-same}
 
 -- a parent lies one edge further above
-above_parent : (t : Tree) (n k c x : ℕ) → 0 < c → t.parent c ≡ k → IsAbove t n c x → IsAbove t (suc n) k x
+pub above_parent : (t : Tree) (n k c x : ℕ) → 0 < c → t.parent c ≡ k → IsAbove t n c x → IsAbove t (suc n) k x
 above_parent t zero k c x p e h = (subst (λ y. 0 < y) h p, sym e ∙ ap t.parent h)
 above_parent t (suc n) k c x p e h = (h.0, above_parent t n k c (t.parent x) p e h.1)
 

@@ -77,7 +77,7 @@ module _ (t : Tree) (n : ℕ) (lists : List (List ℕ)) (w : IsTree t) (p : 0 < 
       go c q m (inr e) = kept-before c q (omega arith)
 
 -- the list at a place, seen by its elements
-pub list-read : {V : Type 0} (f : V → List ℕ) (lists : List V) (k : ℕ) (list : V) → k < length lists → list ≡ get_or lists k list → get_or (map f lists) k [] ≡ f list
+pub list-read : {V W : Type 0} (f : V → List W) (lists : List V) (k : ℕ) (list : V) → k < length lists → list ≡ get_or lists k list → get_or (map f lists) k [] ≡ f list
 list-read f lists k list below is = get_or-map f lists k list [] below ∙ ap f (sym is)
 
 -- a node's parent has a list

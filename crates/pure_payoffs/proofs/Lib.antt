@@ -5,5 +5,8 @@ pub mod NodeSteps
 pub mod NodeValues
 pub mod Places
 pub mod Runs
+pub mod SettledFlags
+pub mod SettledNodes
+pub mod SettledPlaces
 pub mod Standing
 pub mod TreeParts

@@ -3,17 +3,16 @@ use Rattle.std.proofs.Common.{ℕ, zero, suc, ◌+◌, ◌<◌, ◌≤◌, ◌�
 use Rattle.std.specs.Prelude.{◌==◌, ◌&&◌, nat_lt, if◌then◌else◌}
 use Rattle.std.specs.Bool.{Decides}
 use Rattle.std.proofs.lemmas.Bool.Decides.{Decides-and, Decides-eqb, Decides-ltb}
-use Rattle.rational.specs.Rational.{ℚ, ◌+ℚ◌, ◌*ℚ◌, zero_ℚ}
+use Rattle.rational.specs.Rational.{ℚ, ◌+ℚ◌, ◌*ℚ◌}
 use Rattle.rational.specs.Sum.{sum_to}
-use Rattle.rational.proofs.Sums.{sum_to-single}
-use Rattle.frac128.specs.Fraction.{eq_ℚ}
+use Rattle.rational.proofs.Sums.{sum_to-same, sum_to-single}
 use Rattle.frac128.specs.Steps.{unfit}
-use Rattle.frac128.specs.declared.steps.Op.TheVariants.{Add, Mul}
+use Rattle.frac128.specs.declared.steps.Op.TheVariants.{Add}
 use Rattle.game_theory.specs.Mixed.{sure}
 use Rattle.game_trees.specs.Trees.{Tree, IsTree, IsChild}
 use Rattle.game_trees.specs.Behaviour.{is_parent, of_owner, action_probability, value, pure}
 use Rattle.game_trees.proofs.Values.{value-by_actions, value-end}
-use Rattle.pure_payoffs.specs.Plays.{steps_at, steps_behind, value_behind}
+use Rattle.pure_payoffs.specs.Plays.{steps_at, branch_steps, steps_behind, value_behind}
 use Rattle.pure_payoffs.specs.Steps.{Step, the_one_below, child, chance_steps, owner_steps, node_steps, steps_to}
 
 -- the only number below n that passes a test
@@ -46,11 +45,18 @@ child-later t k s a w l e m =
     let after = w.after_parent (child t k a) c.0 c.1 in
     (omega (arith, after, c.2), c.1)
 
--- the steps at a node of chance, where the children's steps are the same
-chance_steps-same : (n : ℕ) (chances values : ℕ → ℚ) (f g : ℕ → List Step) → ((a : ℕ) → a < n → f a ≡ g a) → chance_steps n chances values f ≡ chance_steps n chances values g
-chance_steps-same zero chances values f g h = refl
-chance_steps-same (suc a) chances values f g h =
-    ap₂ (λ x y. x ++ (if eq_ℚ (chances a) zero_ℚ then [] else y ++ unfit Mul (chances a) (values a) ∷ unfit Add (sum_to a (λ b. chances b *ℚ values b)) (chances a *ℚ values a) ∷ [])) (chance_steps-same a chances values f g (λ b l. h b (omega arith))) (h a (omega arith))
+-- the sums of products of probabilities and values, where the values are the same
+pub weighted-same : (n : ℕ) (chances v w : ℕ → ℚ) → ((a : ℕ) → a < n → v a ≡ w a) → sum_to n (λ a. chances a *ℚ v a) ≡ sum_to n (λ a. chances a *ℚ w a)
+weighted-same n chances v w h = sum_to-same n (λ a. chances a *ℚ v a) (λ a. chances a *ℚ w a) (λ a l. ap (λ x. chances a *ℚ x) (h a l))
+
+-- the steps at a node of chance, where the children's values and steps are the same
+pub chance_steps-same : (n : ℕ) (chances v w : ℕ → ℚ) (f g : ℕ → List Step) → ((a : ℕ) → a < n → v a ≡ w a) → ((a : ℕ) → a < n → f a ≡ g a) → chance_steps n chances v f ≡ chance_steps n chances w g
+chance_steps-same zero chances v w f g e h = refl
+chance_steps-same (suc a) chances v w f g e h =
+    let earlier : (b : ℕ) → b < a → v b ≡ w b = λ b l. e b (omega arith) in
+    ap₂ (λ x y. x ++ y) (chance_steps-same a chances v w f g earlier (λ b l. h b (omega arith)))
+    (ap₂ (λ s x. branch_steps (chances a) s x (f a)) (weighted-same a chances v w earlier) (e a (omega arith))
+    ∙ ap (branch_steps (chances a) (sum_to a (λ b. chances b *ℚ w b)) (w a)) (h a (omega arith)))
 
 module _ (t : Tree) (choice : ℕ → ℕ) (i : ℕ) (w : IsTree t) (chosen : (s j : ℕ) → s < t.sets → t.owner s ≡ Some j → choice s < t.actions s) where
   -- the steps at a node, where those of later nodes are the same
@@ -59,7 +65,7 @@ module _ (t : Tree) (choice : ℕ → ℕ) (i : ℕ) (w : IsTree t) (chosen : (s
     where
       owned : (s : ℕ) (o : Option ℕ) → t.set k ≡ Some s → t.owner s ≡ o → owner_steps t choice i f k s o ≡ owner_steps t choice i g k s o
       owned s None e p = ap (λ x. x ++ unfit Add (t.pays k i) (sum_to (t.actions s) (λ a. t.chance s a *ℚ value t (pure choice) i (child t k a))) ∷ [])
-          (chance_steps-same (t.actions s) (t.chance s) _ (λ a. f (child t k a)) (λ a. g (child t k a)) (λ a m. let c = child-later t k s a w l e m in h (child t k a) c.0 c.1))
+          (chance_steps-same (t.actions s) (t.chance s) _ _ (λ a. f (child t k a)) (λ a. g (child t k a)) (λ a m. refl) (λ a m. let c = child-later t k s a w l e m in h (child t k a) c.0 c.1))
       owned s (Some j) e p =
           let c = child-later t k s (choice s) w l e (chosen s j (w.sets_within k s l e) p) in
           ap (λ x. x ++ unfit Add (t.pays k i) (value t (pure choice) i (child t k (choice s))) ∷ []) (h (child t k (choice s)) c.0 c.1)

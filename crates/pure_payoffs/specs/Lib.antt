@@ -1,5 +1,6 @@
 pub mod Children
 pub mod Filled
 pub mod Plays
+pub mod Settled
 pub mod Shortcuts
 pub mod Steps

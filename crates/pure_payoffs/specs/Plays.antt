@@ -48,6 +48,10 @@ Give steps v result = MatchResult result (λ x. (x ≡ v) × All StepFits steps)
 abbrev pub steps_at : Tree → (ℕ → ℕ) → ℕ → ℕ → List Step
 steps_at t choice i k = steps_to t choice i t.size k
 
+-- what the steps of node k's value for player i give
+abbrev pub GiveAt : Tree → (ℕ → ℕ) → ℕ → ℕ → Result ℚ Unfit → Type 0
+GiveAt t choice i k result = Give (steps_at t choice i k) (value t (pure choice) i k) result
+
 -- The steps with which a child's product with its probability is added to a sum: none where the probability is 0, and else those of
 -- the child, the product and the addition.
 abbrev pub branch_steps : ℚ → ℚ → ℚ → List Step → List Step

@@ -7,6 +7,7 @@ use Rattle.game_trees.specs.Trees.{Tree}
 use Rattle.game_trees.specs.Behaviour.{value, pure}
 use Rattle.pure_payoffs.specs.declared.shortcuts.Shortcuts.{Shortcuts}
 use Rattle.pure_payoffs.specs.Plays.{Give, steps_at}
+use Rattle.pure_payoffs.specs.Settled.{KeepValues}
 use Rattle.pure_payoffs.specs.Steps.{child}
 
 -- at node k a player chooses and nothing is paid, and the choice leads to node c
@@ -27,13 +28,14 @@ pub record StandsFor (t : Tree) (choice : ℕ → ℕ) (k s : ℕ) : Type 0 wher
   pub gives : (i : ℕ) (result : Result ℚ Unfit) → IfOk result Fits
       → Give (steps_at t choice i s) (value t (pure choice) i s) result → Give (steps_at t choice i k) (value t (pure choice) i k) result
 
--- there is room for so many nodes, and no entry is from a later round
-pub record HasRoom (nodes : ℕ) (shortcuts : Shortcuts) : Type 0 where
-  pub rounds_long : length shortcuts.rounds.items ≡ nodes
-  pub targets_long : length shortcuts.targets.items ≡ nodes
+-- there is room for the nodes, no entry is from a later round, and the values that are kept are right for every profile
+pub record HasRoom (t : Tree) (shortcuts : Shortcuts) : Type 0 where
+  pub rounds_long : length shortcuts.rounds.items ≡ t.size
+  pub targets_long : length shortcuts.targets.items ≡ t.size
   pub no_later : (k : ℕ) → slice_index shortcuts.rounds.items k ≤ shortcuts.round
+  pub settled : KeepValues t shortcuts.settled
 
 -- the entries of the present round are true
 pub record KeepShortcuts (t : Tree) (choice : ℕ → ℕ) (shortcuts : Shortcuts) : Type 0 where
-  pub room : HasRoom t.size shortcuts
+  pub room : HasRoom t shortcuts
   pub stand : (k : ℕ) → k < t.size → slice_index shortcuts.rounds.items k ≡ shortcuts.round → StandsFor t choice k (slice_index shortcuts.targets.items k)

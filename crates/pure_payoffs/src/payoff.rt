@@ -94,8 +94,13 @@ impl<'a> Play<'a> {
             Give (steps_at t choice player node) (value t (pure choice) player node) result }
     {
         let target = shortcuts.take(self, node);
+        if let Some(value) = shortcuts.settled_value(self, target, player) {
+            fits(value);
+            return Ok(value);
+        }
         let value = self.value_at(shortcuts, target, player)?;
         fits(value);
+        shortcuts.settle(self, target, player, value);
         Ok(value)
     }
 

@@ -1,10 +1,13 @@
 // Shortcuts past nodes at which a profile only leads on.
-ghost use Rattle.std.specs.Prelude.{◌≡◌, ◌<◌, ℕ, length, MatchOption, ⊤, IfOk};
+ghost use Rattle.std.specs.Prelude.{◌≡◌, ◌<◌, ℕ, length, MatchOption, ⊤, IfOk, IfSome, Ok};
 ghost use Rattle.game_trees.specs.Trees.{Tree as game_tree};
-ghost use Rattle.pure_payoffs.specs.Plays.{IsPlayed, game_of, choice_of};
+ghost use Rattle.game_core.specs.TreeGame.{game_of_tree};
+ghost use Rattle.pure_payoffs.specs.Plays.{IsPlayed, GiveAt, game_of, choice_of};
 ghost use Rattle.pure_payoffs.specs.Shortcuts.{HasRoom, KeepShortcuts, OnlyLeadsTo, StandsFor};
 
 use crate::payoff::Play;
+use crate::settled::Settled;
+use frac128::Frac;
 use game_core::{Kind, Tree};
 use memory::Memory;
 use std::alloc::Global;
@@ -19,6 +22,8 @@ pub struct Shortcuts {
     rounds: Vec<u32>,
     // For each node its entry.
     targets: Vec<u32>,
+    // What no profile changes.
+    settled: Settled,
 }
 
 // The node to which the profile leads from a node at which a player chooses and nothing is paid.
@@ -56,19 +61,20 @@ fn target(play: &Play, node: u32) -> u32
 impl Shortcuts {
     /// Room for the nodes of a tree, without an entry.
     pub fn new(alloc: Global, tree: &Tree) -> Result<Shortcuts, Memory>
-        ensures { IfOk result (HasRoom (length tree.now.nodes)) }
+        ensures { IfOk result (HasRoom (game_of_tree tree.now)) }
     {
         let nodes = tree.nodes().len();
         Ok(Shortcuts {
             round: 1,
             rounds: vec![in alloc; 0; nodes]?,
             targets: vec![in alloc; 0; nodes]?,
+            settled: Settled::new(alloc, tree)?,
         })
     }
 
-    /// Forgets all entries.
+    /// Forgets all entries, and keeps what no profile changes.
     pub fn forget(&mut self)
-        ensures { (t : game_tree) (choice : ℕ → ℕ) → HasRoom t.size self.old → KeepShortcuts t choice self.new }
+        ensures { (t : game_tree) (choice : ℕ → ℕ) → HasRoom t self.old → KeepShortcuts t choice self.new }
     {
         if self.round == u32::MAX {
             self.rounds.fill(0);
@@ -93,5 +99,25 @@ impl Shortcuts {
         self.rounds[number] = self.round;
         self.targets[number] = target;
         target
+    }
+    // What a node is worth to a player whatever the profile, where that is kept.
+    pub(crate) fn settled_value(&self, play: &Play, node: u32, player: u32) -> Option<Frac>
+        requires play { IsPlayed play.now }
+        requires node { node < length play.now.tree.now.nodes }
+        requires keep { KeepShortcuts (game_of play.now) (choice_of play.now) self.now }
+        ensures { IfSome result (λ v. GiveAt (game_of play.now) (choice_of play.now) player node (Ok v)) }
+    {
+        self.settled.value(node, player)
+    }
+
+    // Keeps what a node is worth to a player, where no profile changes that.
+    pub(crate) fn settle(&mut self, play: &Play, node: u32, player: u32, worth: Frac)
+        requires play { IsPlayed play.now }
+        requires node { node < length play.now.tree.now.nodes }
+        requires keep { KeepShortcuts (game_of play.now) (choice_of play.now) self.old }
+        requires gives { GiveAt (game_of play.now) (choice_of play.now) player node (Ok worth) }
+        ensures keep { KeepShortcuts (game_of play.now) (choice_of play.now) self.new }
+    {
+        self.settled.keep(node, player, worth);
     }
 }

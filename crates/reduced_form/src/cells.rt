@@ -57,7 +57,7 @@ fn push_cells(
     requires keep { KeepShortcuts (game_of_tree play.now.tree.now) (completed (game_of_tree play.now.tree.now) (map (λ v. map (λ w. w.items) v.items) play.now.strategies.now) play.now.profile.now) shortcuts.old }
     requires so_many { length payoffs.old.items ≡ number * length play.now.tree.now.players }
     requires cells { AreCells (game_of_tree play.now.tree.now) (map (λ v. map (λ w. w.items) v.items) play.now.strategies.now) payoffs.old.items }
-    ensures room { HasRoom (length play.now.tree.now.nodes) shortcuts.new }
+    ensures room { HasRoom (game_of_tree play.now.tree.now) shortcuts.new }
     ensures so_many { OnOk result (length payoffs.new.items ≡ suc number * length play.now.tree.now.players) }
     ensures cells { OnOk result (AreCells (game_of_tree play.now.tree.now) (map (λ v. map (λ w. w.items) v.items) play.now.strategies.now) payoffs.new.items) }
     ensures stop { IfErr result (IsCellStop (game_of_tree play.now.tree.now) (map (λ v. map (λ w. w.items) v.items) play.now.strategies.now)) }

@@ -66,6 +66,21 @@ p "" 1 1 "" { "only" } 0
 t "" 4 ""
 t "" 0"#;
 
+// Behind two actions only chance moves: once at a node with an outcome of its own, above another such node.
+pub const CHANCE_BEHIND: &[u8] = br#"EFG 2 R "" { "A" "B" }
+p "" 1 1 "" { "x" "y" } 0
+c "" 1 "" { "" 1/2 "" 1/2 "" 0 } 1 "" { 1, 2 }
+c "" 2 "" { "" 1/3 "" 2/3 } 2 "" { 3, 0 }
+t "" 3 "" { 6, 9 }
+t "" 4 "" { 0, 3 }
+t "" 5 "" { 2, -2 }
+t "" 6 "" { 7, 7 }
+p "" 2 1 "" { "u" "v" } 0
+t "" 5
+c "" 2 "" { "" 1/3 "" 2/3 } 0
+t "" 3
+t "" 5"#;
+
 // A firm stays out or enters, and the other fights or shares.
 pub const ENTRY: &[u8] = br#"EFG 2 R "Entry" { "E" "I" }
 p "" 1 1 "" { "Out" "In" } 0

@@ -1,5 +1,5 @@
 // The pure equilibria of small games by the definition, every reply of every player tried, beside the real listings.
-use crate::games::{ALL_ZERO, ALONE, ENTRY, FORGET, PAID_ON_THE_WAY, POKER, TWO_WAYS, tree_of};
+use crate::games::{ALL_ZERO, ALONE, CHANCE_BEHIND, ENTRY, FORGET, PAID_ON_THE_WAY, POKER, TWO_WAYS, tree_of};
 use enumpure::list_pure_equilibria;
 use enumpure_trees::list_pure_behaviours;
 use frac128::{Frac, Memory};
@@ -266,6 +266,7 @@ fn agrees_on_trees(rt: HostRuntime) -> Result<(), Memory> {
         (FORGET, 1),
         (TWO_WAYS, 1),
         (PAID_ON_THE_WAY, 1),
+        (CHANCE_BEHIND, 2),
         (ENTRY, 2),
         (ALL_ZERO, 15),
     ];

@@ -1,6 +1,6 @@
 ghost use Rattle.std.specs.Prelude.{◌<◌};
 
-use crate::games::{ALONE, FORGET, PAID_ON_THE_WAY, POKER, TWO_WAYS, tree_of};
+use crate::games::{ALONE, CHANCE_BEHIND, FORGET, PAID_ON_THE_WAY, POKER, TWO_WAYS, tree_of};
 use frac128::{Frac, Memory, Op, Unfit};
 use game_core::{TooLarge, What};
 use ne_printer::fraction;
@@ -95,6 +95,8 @@ fn reduces_trees(rt: HostRuntime) -> Result<(), Memory> {
     assert!(rt; has_form(alloc, TWO_WAYS, two_ways)?);
     let paid = ", 1, 1 2; 34/3 5/2 10 0";
     assert!(rt; has_form(alloc, PAID_ON_THE_WAY, paid)?);
+    let behind = ", 1 2, 1 2; 9/2 7/2 2 -2 9/2 7/2 10/3 5/3";
+    assert!(rt; has_form(alloc, CHANCE_BEHIND, behind)?);
     assert!(rt; has_form(alloc, b"EFG 2 R \"\" { \"A\" } t \"\" 0", ", *; 0")?);
     Ok(())
 }

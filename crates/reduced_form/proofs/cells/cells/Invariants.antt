@@ -6,7 +6,7 @@ use Rattle.reduced_form.proofs.cells.cells.Given as goal
 
 abbrev pub invariant-loop-number : goal.invariant-loop-number
 invariant-loop-number l = record {
-  room : HasRoom (length l.tree.nodes) l.shortcuts;
+  room : HasRoom (game_of_tree l.tree) l.shortcuts;
   digits : length l.profile.items ≡ length l.counts;
   so_many : length l.payoffs.items ≡ l.number * length l.tree.players;
   cells : AreCells (game_of_tree l.tree) (map (λ v. map (λ w. w.items) v.items) l.strategies) l.payoffs.items;

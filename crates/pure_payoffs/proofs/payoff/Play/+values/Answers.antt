@@ -122,5 +122,8 @@ value-returns-in_err-value-clause-gives t c =
     let p = err_from_is_err_and c.from_residual.result c.from_residual.ensures.1 in
     rw (p.1, p.2) (c.take-target.ensures.stands.gives c.args.player (Err c.in_err-value.field-0.0) tt c.in_err-value.ensures.gives)
 
+pub value-returns-in-Some-clause-gives : goal.value-returns-in-Some-clause-gives
+value-returns-in-Some-clause-gives t c = c.take-target.ensures.stands.gives c.args.player (Ok c.in-Some.value) c.fits.ensures c.in-Some.ensures
+
 pub value-returns-clause-gives : goal.value-returns-clause-gives
-value-returns-clause-gives t c = c.take-target.ensures.stands.gives c.args.player (Ok c.in_ok-value.value) c.fits.ensures c.in_ok-value.ensures.gives
+value-returns-clause-gives t c = c.take-target.ensures.stands.gives c.args.player (Ok c.in_ok-value.value) c.fits-2.ensures c.in_ok-value.ensures.gives

@@ -1,0 +1,47 @@
+-- Nodes in whose subtrees no player moves: what they give is the same for every profile.
+use Rattle.std.specs.Prelude.{ℕ, ◌<◌, ◌≤◌, ◌≡◌, Bool, true, false, List, [], length, map, slice_index_or, Option, Some, None, IfSome, Ok}
+use Rattle.rational.specs.Rational.{ℚ}
+use Rattle.game_trees.specs.Trees.{Tree, IsWithin}
+use Rattle.pure_payoffs.specs.declared.settled.Settled.{Settled}
+use Rattle.pure_payoffs.specs.Plays.{GiveAt}
+
+-- no player moves at node k
+abbrev pub NoPlayerAt : Tree → ℕ → Type 0
+NoPlayerAt t k = (s i : ℕ) → t.set k ≡ Some s → t.owner s ≡ Some i → ⊥
+
+-- no player moves in the subtree of node k
+abbrev pub IsSettled : Tree → ℕ → Type 0
+IsSettled t k = (c : ℕ) → c < t.size → IsWithin t k c → NoPlayerAt t c
+
+-- whatever the players choose, node k gives player i this value, and its steps fit
+abbrev pub Settles : Tree → ℕ → ℕ → ℚ → Type 0
+Settles t i k v = (choice : ℕ → ℕ) → GiveAt t choice i k (Ok v)
+
+-- a flag for each of the first n nodes; at those that are flagged no player moves
+pub record TellNoPlayer (t : Tree) (n : ℕ) (flags : List Bool) : Type 0 where
+  pub one_for_each : length flags ≡ n
+  pub no_player : (k : ℕ) → k < n → slice_index_or flags k false ≡ true → NoPlayerAt t k
+
+-- a flag for each node as before, and from node n on those whose parent is flagged are flagged
+pub record ArePassedUp (t : Tree) (n : ℕ) (flags : List Bool) : Type 0 where
+  pub tell : TellNoPlayer t t.size flags
+  pub pass : (c : ℕ) → n ≤ c → 0 < c → c < t.size → slice_index_or flags (t.parent c) false ≡ true → slice_index_or flags c false ≡ true
+
+-- a flag for each node; in the subtrees of those that are flagged no player moves
+pub record AreSettledFlags (t : Tree) (flags : List Bool) : Type 0 where
+  pub one_for_each : length flags ≡ t.size
+  pub settled : (k : ℕ) → k < t.size → slice_index_or flags k false ≡ true → IsSettled t k
+
+-- a place for what node k is worth to player i, where that is the same for every profile
+pub record IsPlace (t : Tree) (k i : ℕ) (place : Option ℚ) : Type 0 where
+  pub settled : IsSettled t k
+  pub value : IfSome place (Settles t i k)
+
+-- the places of n nodes
+pub record HavePlaces (t : Tree) (n : ℕ) (lists : List (List (Option ℚ))) : Type 0 where
+  pub one_for_each : length lists ≡ n
+  pub places : (k i : ℕ) → k < n → i < length (slice_index_or lists k []) → IsPlace t k i (slice_index_or (slice_index_or lists k []) i None)
+
+-- the values that are kept are right for every profile
+abbrev pub KeepValues : Tree → Settled → Type 0
+KeepValues t settled = HavePlaces t t.size (map (λ v. v.items) settled.places.items)

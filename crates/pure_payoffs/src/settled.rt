@@ -1,0 +1,114 @@
+// Values of nodes in whose subtrees no player moves.
+ghost use Rattle.std.specs.Prelude.{◌≡◌, ◌<◌, ℕ, length, All, IfOk, IfSome, IsTrue, None, Ok, slice_index_or, false, true};
+ghost use Rattle.game_trees.specs.Trees.{Tree as game_tree, IsTree};
+ghost use Rattle.game_core.specs.TreeGame.{game_of_tree};
+ghost use Rattle.pure_payoffs.specs.Plays.{GiveAt};
+ghost use Rattle.pure_payoffs.specs.Settled.{TellNoPlayer, AreSettledFlags, KeepValues, Settles};
+
+use crate::children::stands_for_game_tree;
+use frac128::Frac;
+use game_core::{Kind, Node, Tree};
+use memory::Memory;
+use std::alloc::Global;
+
+/// The most values that are kept: as many as a table may have payoffs.
+const MOST_VALUES: usize = 1_048_576;
+
+/// What nodes in whose subtrees no player moves are worth to the players, as far as it was asked for. Of the nodes
+/// on a path the topmost is kept, and no more than `MOST_VALUES` in all.
+#[derive(Debug, Drop)]
+pub(crate) struct Settled {
+    // For each node a place for each player, or no place at all.
+    places: Vec<Vec<Option<Frac>>>,
+}
+
+// For each node whether no player moves there.
+fn flags_of_chance(alloc: Global, tree: &Tree) -> Result<Vec<bool>, Memory>
+    ensures { IfOk result (λ flags. TellNoPlayer (game_of_tree tree.now) (length tree.now.nodes) flags.items) }
+{
+    let mut flags = Vec::new(alloc);
+    for node in tree.nodes() {
+        flags.push(!matches!(node.kind, Kind::Move { .. }))?;
+    }
+    Ok(flags)
+}
+
+// For each node whether no player moves in its subtree.
+fn settled_flags(alloc: Global, tree: &Tree) -> Result<Vec<bool>, Memory>
+    ensures { IfOk result (λ flags. AreSettledFlags (game_of_tree tree.now) flags.items) }
+{
+    stands_for_game_tree(tree);
+    let mut flags = flags_of_chance(alloc, tree)?;
+    let nodes = tree.nodes();
+    for number in (1..nodes.len()).rev() {
+        let parent = nodes[number].parent.unwrap_or(0);
+        if !flags[number] {
+            flags[parent as usize] = false;
+        }
+    }
+    Ok(flags)
+}
+
+// Whether no player moves in the subtree of a node of chance, and one moves in that of its parent.
+fn is_topmost(flags: &[bool], number: usize, node: &Node) -> bool
+    requires { number < length flags.now }
+    ensures { IsTrue result → slice_index_or flags.now number false ≡ true }
+{
+    let parent = node.parent.unwrap_or(0) as usize;
+    flags[number] && node.set.is_some() && matches!(flags.get(parent), Some(false))
+}
+
+// A place for each of so many players, all free.
+fn free_places(alloc: Global, players: usize) -> Result<Vec<Option<Frac>>, Memory>
+    ensures { IfOk result (λ places. All (λ place. place ≡ None) places.items) }
+{
+    let mut places = Vec::with_capacity(alloc, players)?;
+    for _ in 0..players {
+        places.push(None)?;
+    }
+    Ok(places)
+}
+
+impl Settled {
+    /// No value so far.
+    pub(crate) fn new(alloc: Global, tree: &Tree) -> Result<Settled, Memory>
+        ensures { IfOk result (KeepValues (game_of_tree tree.now)) }
+    {
+        let flags = settled_flags(alloc, tree)?;
+        let players = tree.players().len();
+        let mut room = MOST_VALUES;
+        let mut places = Vec::new(alloc);
+        for (number, node) in tree.nodes().iter().enumerate() {
+            let mut of_players = Vec::new(alloc);
+            if players <= room && is_topmost(&flags, number, node) {
+                room -= players;
+                of_players = free_places(alloc, players)?;
+            }
+            places.push(of_players)?;
+        }
+        Ok(Settled { places })
+    }
+
+    /// What a node is worth to a player, where that is kept.
+    pub(crate) fn value(&self, node: u32, player: u32) -> Option<Frac>
+        requires node { node < length self.now.places.items }
+        ensures { (t : game_tree) → KeepValues t self.now → IfSome result (Settles t player node) }
+    {
+        match self.places[node as usize].get(player as usize) {
+            Some(place) => *place,
+            None => None,
+        }
+    }
+
+    /// Keeps what a node is worth to a player, where it has a place.
+    pub(crate) fn keep(&mut self, node: u32, player: u32, worth: Frac)
+        requires node { node < length self.old.places.items }
+        ensures { (t : game_tree) (choice : ℕ → ℕ) → IsTree t → KeepValues t self.old
+            → GiveAt t choice player node (Ok worth) → KeepValues t self.new }
+    {
+        let places = &mut self.places[node as usize];
+        if (player as usize) < places.len() {
+            places[player as usize] = Some(worth);
+        }
+    }
+}
