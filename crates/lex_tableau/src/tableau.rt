@@ -75,18 +75,59 @@ fn copied(alloc: Global, xs: &[u32]) -> Result<Vec<u32>, Memory>
     Ok(copy)
 }
 
-/// Why a pivot gives no tableau.
+/// Why a pivot gives no tableau: its first step that does not fit, or no memory.
 #[derive(Debug, Drop)]
 pub enum PivotStop {
     Unfit(Unfit),
     Memory,
 }
 
-/// Why there is no start: a row, from 0, with the first step that does not fit; or no memory.
+impl From<Unfit> for PivotStop {
+    ghost use Rattle.std.specs.Prelude.{◌≡◌};
+    ghost use Rattle.lex_tableau.specs.declared.tableau.PivotStop.TheVariants as pivot_stops;
+
+    ghost from_gives = { λ unfit e. e ≡ pivot_stops.Unfit unfit };
+
+    fn from(unfit: Unfit) -> PivotStop {
+        PivotStop::Unfit(unfit)
+    }
+}
+
+impl From<Memory> for PivotStop {
+    ghost use Rattle.std.specs.Prelude.{◌≡◌};
+    ghost use Rattle.lex_tableau.specs.declared.tableau.PivotStop.TheVariants as pivot_stops;
+
+    ghost from_gives = { λ _ e. e ≡ pivot_stops.Memory };
+
+    fn from(_memory: Memory) -> PivotStop {
+        PivotStop::Memory
+    }
+}
+
+/// Why there is no start: a row, counted from 0, with its first step that does not fit; or no
+/// memory.
 #[derive(Debug, Drop)]
 pub enum StartStop {
     Unfit { row: u32, unfit: Unfit },
     Memory,
+}
+
+impl From<Memory> for StartStop {
+    ghost use Rattle.std.specs.Prelude.{◌≡◌};
+    ghost use Rattle.lex_tableau.specs.declared.tableau.StartStop.TheVariants as start_stops;
+
+    ghost from_gives = { λ _ e. e ≡ start_stops.Memory };
+
+    fn from(_memory: Memory) -> StartStop {
+        StartStop::Memory
+    }
+}
+
+// So many zeros.
+fn zeros(alloc: Global, count: usize) -> Result<Vec<i128>, Memory>
+    ensures { IfOk result (λ v. length v.items ≡ count) }
+{
+    Ok(vec![in alloc; 0; count]?)
 }
 
 impl Tableau {
@@ -106,18 +147,10 @@ impl Tableau {
         let Some(total) = rows.checked_mul(count + 1) else {
             return Err(StartStop::Memory);
         };
-        let Ok(mut numbers) = vec![in alloc; 0; total] else {
-            return Err(StartStop::Memory);
-        };
-        let Ok(starts) = copied(alloc, system.basics.as_slice()) else {
-            return Err(StartStop::Memory);
-        };
-        let Ok(basics) = copied(alloc, system.basics.as_slice()) else {
-            return Err(StartStop::Memory);
-        };
-        let Ok(nonbasics) = copied(alloc, system.nonbasics.as_slice()) else {
-            return Err(StartStop::Memory);
-        };
+        let mut numbers = zeros(alloc, total)?;
+        let starts = copied(alloc, system.basics.as_slice())?;
+        let basics = copied(alloc, system.basics.as_slice())?;
+        let nonbasics = copied(alloc, system.nonbasics.as_slice())?;
         match write_starts(system.cells.as_slice(), numbers.as_mut_slice(), rows, count) {
             Ok(()) => {}
             Err(stop) => {
@@ -281,16 +314,9 @@ impl Tableau {
         ensures counted { steps.new ≡ steps.old + 1 }
     {
         steps.tick();
-        let Ok(mut numbers) = self.room(alloc) else {
-            return Err(PivotStop::Memory);
-        };
-        if let Err(unfit) = self.write_numbers(numbers.as_mut_slice(), row, col) {
-            return Err(PivotStop::Unfit(unfit));
-        }
-        match self.with_numbers(alloc, numbers, row, col) {
-            Ok(next) => Ok(next),
-            Err(_) => Err(PivotStop::Memory),
-        }
+        let mut numbers = self.room(alloc)?;
+        self.write_numbers(numbers.as_mut_slice(), row, col)?;
+        Ok(self.with_numbers(alloc, numbers, row, col)?)
     }
 
     /// The value of a variable where the nonbasic ones are 0: the right side of its row, and 0
@@ -311,7 +337,7 @@ impl Tableau {
     pub(crate) fn room(&self, alloc: Global) -> Result<Vec<i128>, Memory>
         ensures { IfOk result (λ v. length v.items ≡ length self.now.numbers) }
     {
-        Ok(vec![in alloc; 0; self.numbers.len()]?)
+        zeros(alloc, self.numbers.len())
     }
 
     /// Writes the numbers that the pivot makes.

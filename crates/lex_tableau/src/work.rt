@@ -45,13 +45,9 @@ impl Work {
         ensures fits { OnOk result (StartFits system.now) }
         ensures unfit { IfErr result (IsStartStop system.now) }
     {
-        match Tableau::start(alloc, system) {
-            Ok(tableau) => match tableau.room(alloc) {
-                Ok(spare) => Ok(Work { tableau, spare }),
-                Err(_) => Err(StartStop::Memory),
-            },
-            Err(stop) => Err(stop),
-        }
+        let tableau = Tableau::start(alloc, system)?;
+        let spare = tableau.room(alloc)?;
+        Ok(Work { tableau, spare })
     }
 
     /// The tableau as it is now.
