@@ -1,5 +1,5 @@
 // The nodes of a file.
-ghost use Rattle.std.specs.Prelude.{◌≡◌, ◌<◌, ◌≢◌, [], None, length, IfOk, OnOk};
+ghost use Rattle.std.specs.Prelude.{◌≡◌, ◌<◌, ◌≢◌, [], None, length, IfOk};
 ghost use Rattle.file_parts.specs.Reading.{Reads, kinds};
 ghost use Rattle.game_core.specs.Tree.{kind_of_owner};
 ghost use Rattle.tree_uses.specs.Uses.{begun_sets, AreSets};
@@ -63,43 +63,43 @@ fn kind_of(owner: Option<u32>) -> Kind
     }
 }
 
-// The choice at a set of this owner, and the tokens behind it.
+// The sets with one of this owner, the choice at it, and the tokens behind it.
 fn set_choice<'a>(
     alloc: Global,
-    sets: &mut Sets,
+    sets: Sets,
     owner: Option<u32>,
     number: u32,
     tokens: &'a [Spanned],
-) -> Result<(Choice, &'a [Spanned]), Refusal<EfgKind>>
-    requires sets { AreSets sets.old }
-    requires few { length sets.old.list.items < 4294967295 }
-    ensures sets { OnOk result (AreSets sets.new) }
-    ensures read { Reads (λ x. ((begun_sets sets.new, (x.0.kind, x.0.set)), kinds x.1.now)) result (set_choice_at number (begun_sets sets.old) owner (kinds tokens.now)) }
+) -> Result<(Sets, Choice, &'a [Spanned]), Refusal<EfgKind>>
+    requires sets { AreSets sets }
+    requires few { length sets.list.items < 4294967295 }
+    ensures sets { IfOk result (λ x. AreSets x.0) }
+    ensures read { Reads (λ x. ((begun_sets x.0, (x.1.kind, x.1.set)), kinds x.2.now)) result (set_choice_at number (begun_sets sets) owner (kinds tokens.now)) }
 {
     match read_set(alloc, sets, owner, number, tokens) {
-        Ok((set, rest)) => {
+        Ok((sets, set, rest)) => {
             let choice = Choice {
                 kind: kind_of(owner),
                 set: Some(set),
             };
-            Ok((choice, rest))
+            Ok((sets, choice, rest))
         }
         Err(refusal) => Err(refusal),
     }
 }
 
-// The choice of the player whose number comes, and the tokens behind it.
+// The sets with one of the player whose number comes, the choice at it, and the tokens behind it.
 fn own_choice<'a>(
     alloc: Global,
-    sets: &mut Sets,
+    sets: Sets,
     players: u32,
     number: u32,
     tokens: &'a [Spanned],
-) -> Result<(Choice, &'a [Spanned]), Refusal<EfgKind>>
-    requires sets { AreSets sets.old }
-    requires few { length sets.old.list.items < 4294967295 }
-    ensures sets { OnOk result (AreSets sets.new) }
-    ensures read { Reads (λ x. ((begun_sets sets.new, (x.0.kind, x.0.set)), kinds x.1.now)) result (own_choice_at players number (begun_sets sets.old) (kinds tokens.now)) }
+) -> Result<(Sets, Choice, &'a [Spanned]), Refusal<EfgKind>>
+    requires sets { AreSets sets }
+    requires few { length sets.list.items < 4294967295 }
+    ensures sets { IfOk result (λ x. AreSets x.0) }
+    ensures read { Reads (λ x. ((begun_sets x.0, (x.1.kind, x.1.set)), kinds x.2.now)) result (own_choice_at players number (begun_sets sets) (kinds tokens.now)) }
 {
     match player(tokens, players) {
         Ok((player, behind)) => set_choice(alloc, sets, Some(player), number, behind),
@@ -107,18 +107,19 @@ fn own_choice<'a>(
     }
 }
 
-// A node with this number up to its outcome: the choice that is made there, and the tokens behind it.
+// A node with this number up to its outcome: the sets with the one that it uses, the choice that is made there, and
+// the tokens behind it.
 fn choice<'a>(
     alloc: Global,
-    sets: &mut Sets,
+    sets: Sets,
     players: u32,
     number: u32,
     tokens: &'a [Spanned],
-) -> Result<(Choice, &'a [Spanned]), Refusal<EfgKind>>
-    requires sets { AreSets sets.old }
-    requires few { length sets.old.list.items < 4294967295 }
-    ensures sets { OnOk result (AreSets sets.new) }
-    ensures read { Reads (λ x. ((begun_sets sets.new, (x.0.kind, x.0.set)), kinds x.1.now)) result (choice_step_at players number (begun_sets sets.old) (kinds tokens.now)) }
+) -> Result<(Sets, Choice, &'a [Spanned]), Refusal<EfgKind>>
+    requires sets { AreSets sets }
+    requires few { length sets.list.items < 4294967295 }
+    ensures sets { IfOk result (λ x. AreSets x.0) }
+    ensures read { Reads (λ x. ((begun_sets x.0, (x.1.kind, x.1.set)), kinds x.2.now)) result (choice_step_at players number (begun_sets sets) (kinds tokens.now)) }
 {
     let Some((word, name_on)) = word(tokens) else {
         return Err(unfit(EfgKind::Node, tokens));
@@ -135,55 +136,65 @@ fn choice<'a>(
             kind: Kind::End,
             set: None,
         };
-        Ok((choice, behind))
+        Ok((sets, choice, behind))
     } else {
         Err(unfit(EfgKind::Node, tokens))
     }
 }
 
-// A further node, which passes no limit, and the tokens behind it.
+// The tree with a further node, which passes no limit, and the tokens behind it.
 fn next<'a>(
     alloc: Global,
-    builder: &mut Builder,
+    builder: Builder,
     players: u32,
     tokens: &'a [Spanned],
-) -> Result<&'a [Spanned], Refusal<EfgKind>>
-    requires valid { IsBuilder players builder.old }
-    requires room { passed (begun_of builder.old) ≡ None }
-    requires free { (begun_of builder.old).branchings ≢ [] }
-    ensures valid { OnOk result (IsBuilder players builder.new) }
-    ensures shorter { IfOk result (λ rest. length rest.now < length tokens.now) }
-    ensures read { Reads (λ rest. (begun_of builder.new, kinds rest.now)) result (next_at players (begun_of builder.old) (kinds tokens.now)) }
+) -> Result<(Builder, &'a [Spanned]), Refusal<EfgKind>>
+    requires valid { IsBuilder players builder }
+    requires room { passed (begun_of builder) ≡ None }
+    requires free { (begun_of builder).branchings ≢ [] }
+    ensures valid { IfOk result (λ x. IsBuilder players x.0) }
+    ensures shorter { IfOk result (λ x. length x.1.now < length tokens.now) }
+    ensures read { Reads (λ x. (begun_of x.0, kinds x.1.now)) result (next_at players (begun_of builder) (kinds tokens.now)) }
 {
-    let number = builder.nodes.len() as u32;
-    let (choice, behind) = match choice(alloc, &mut builder.sets, players, number, tokens) {
+    let Builder {
+        nodes,
+        sets,
+        outcomes,
+        branchings,
+    } = builder;
+    let (sets, choice, behind) = match choice(alloc, sets, players, nodes.len() as u32, tokens) {
         Ok(read) => read,
         Err(refusal) => return Err(refusal),
     };
-    let outcomes = &mut builder.outcomes;
-    let (outcome, rest) = match read_outcome(alloc, outcomes, players as usize, behind) {
+    let (outcomes, outcome, rest) = match read_outcome(alloc, outcomes, players as usize, behind) {
         Ok(read) => read,
         Err(refusal) => return Err(refusal),
     };
-    match builder.add(choice, outcome) {
-        Ok(()) => Ok(rest),
+    let mut more = Builder {
+        nodes,
+        sets,
+        outcomes,
+        branchings,
+    };
+    match more.add(choice, outcome) {
+        Ok(()) => Ok((more, rest)),
         Err(_) => Err(Refusal::Memory),
     }
 }
 
-// A further node, and the tokens behind it.
+// The tree with a further node, and the tokens behind it.
 #[tactic(auto, unfolding(tree_files::specs::TreeReading::one_more_at))]
 fn one_more<'a>(
     alloc: Global,
-    builder: &mut Builder,
+    builder: Builder,
     players: u32,
     tokens: &'a [Spanned],
-) -> Result<&'a [Spanned], Stop>
-    requires valid { IsBuilder players builder.old }
-    requires free { (begun_of builder.old).branchings ≢ [] }
-    ensures valid { OnOk result (IsBuilder players builder.new) }
-    ensures shorter { IfOk result (λ rest. length rest.now < length tokens.now) }
-    ensures read { ReadsNodes (λ rest. (begun_of builder.new, kinds rest.now)) result (one_more_at players (begun_of builder.old) (kinds tokens.now)) }
+) -> Result<(Builder, &'a [Spanned]), Stop>
+    requires valid { IsBuilder players builder }
+    requires free { (begun_of builder).branchings ≢ [] }
+    ensures valid { IfOk result (λ x. IsBuilder players x.0) }
+    ensures shorter { IfOk result (λ x. length x.1.now < length tokens.now) }
+    ensures read { ReadsNodes (λ x. (begun_of x.0, kinds x.1.now)) result (one_more_at players (begun_of builder) (kinds tokens.now)) }
 {
     if !begins_node(tokens) {
         return Err(Stop::Refused(unfit(EfgKind::Node, tokens)));
@@ -192,7 +203,7 @@ fn one_more<'a>(
         return Err(Stop::Passed(what));
     }
     match next(alloc, builder, players, tokens) {
-        Ok(rest) => Ok(rest),
+        Ok(read) => Ok(read),
         Err(refusal) => Err(Stop::Refused(refusal)),
     }
 }
@@ -206,8 +217,8 @@ pub fn read_nodes(alloc: Global, players: u32, tokens: &[Spanned]) -> Result<Bui
     let mut builder = Builder::new(alloc)?;
     let mut rest = tokens;
     while !builder.branchings.is_empty() {
-        rest = match one_more(alloc, &mut builder, players, rest) {
-            Ok(after) => after,
+        (builder, rest) = match one_more(alloc, builder, players, rest) {
+            Ok(read) => read,
             Err(stop) => return Err(stop),
         };
     }

@@ -1,5 +1,5 @@
 mod FlagCounts
-mod FormSizes
+pub mod FormSizes
 mod LineLengths
 mod RankSums
 mod RankedProfiles

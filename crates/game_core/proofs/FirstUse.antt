@@ -1,5 +1,5 @@
 -- Indices that are numbered by first use, told one after another.
-use Rattle.std.proofs.Common.{ℕ, zero, suc, ◌<◌, ◌≡◌, ◌∙◌, sym, ap, ◌⊎◌, inl, inr, Option, Some, None, List, [], ◌∷◌, slice_get, arith}
+use Rattle.std.proofs.Common.{ℕ, zero, suc, ◌<◌, ◌≡◌, ap, ◌⊎◌, inl, inr, Option, Some, None, List, [], ◌∷◌, slice_get, arith}
 use Rattle.std.proofs.lemmas.Bool.{cases_lt}
 use Rattle.std.proofs.lemmas.Option.{none-some, same_Some}
 use Rattle.game_core.specs.Tree.{AreInOrderOfFirstUse}

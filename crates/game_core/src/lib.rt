@@ -1,4 +1,4 @@
-//! Games as the readers hand them on: names, tables, trees and the limits on their sizes.
+//! Games as the readers hand them on: names, tables, trees and the limits on their sizes; and what lies outside of a run.
 #![tactic(auto)]
 
 mod game;
@@ -9,8 +9,13 @@ mod tree;
 
 pub use game::Game;
 pub use name::Name;
+pub use outside::{
+    Gate, Inputs, MemInputs, MemSink, OpenFailed, OpenGate, ReadFailed, RealInputs, RealSink, Sink,
+    WriteFailed,
+};
 pub use table::Table;
 pub use too_large::{TooLarge, What};
 pub use tree::{
-    Action, InfoSet, Kind, Node, Outcome, Tree, sets_are_numbered_by_first_nodes, trees_are_game_trees,
+    Action, InfoSet, Kind, Node, Outcome, Tree, sets_are_numbered_by_first_nodes,
+    trees_are_game_trees,
 };

@@ -1,5 +1,5 @@
 // Games as tables.
-ghost use Rattle.std.specs.Prelude.{◌≡◌, ◌<◌, ◌≤◌, ◌*◌, ◌+◌, length, map, slice_index, slice_index_or};
+ghost use Rattle.std.specs.Prelude.{◌≡◌, ◌<◌, ◌≤◌, ◌*◌, ◌+◌, Some, length, map, slice_get, slice_index_or};
 ghost use Rattle.game_theory.specs.Profiles.{IsProfile, number_of, profile_count};
 ghost use Rattle.game_core.specs.Table.{IsTable, GameTable, game_of, strategy_counts, most_payoffs};
 
@@ -70,7 +70,7 @@ impl Table {
     /// The names of a player's strategies.
     pub fn strategies(&self, player: usize) -> &[Name]
         requires { player < length self.now.players }
-        ensures strategies { result.now ≡ slice_index_or self.now.strategies player result.now }
+        ensures strategies { slice_get self.now.strategies player ≡ Some result.now }
         ensures valid { IsTable self.now }
     {
         self.strategies[player].as_slice()

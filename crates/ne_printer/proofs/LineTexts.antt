@@ -1,14 +1,15 @@
 -- The text of a line, as it grows entry by entry.
-use Rattle.std.proofs.Common.{ℕ, ◌+◌, ◌≡◌, pos, ℤ, nat_abs, to_z, of_z, FitsSigned, ◌≤ℤ◌, List, [], ◌∷◌, ◌++◌, map, codes, ap, ap₂, ◌∙◌, append_assoc, arith, ◌==◌, if◌then◌else◌}
+use Rattle.std.proofs.Common.{ℕ, ◌+◌, ◌≡◌, pos, ℤ, nat_abs, to_z, of_z, FitsSigned, ◌≤ℤ◌, List, [], ◌∷◌, ◌++◌, length, map, codes, take, ap, ap₂, sym, ◌∙◌, append_assoc, arith, ◌==◌, if◌then◌else◌}
 use Rattle.std.specs.Int.{w128}
 use Rattle.std.proofs.lemmas.Int.{ints}
 use Rattle.std.specs.List.{join_with_byte}
 use Rattle.std.specs.Fmt.{decimal, signed_decimal}
 use Rattle.std.proofs.lemmas.Fmt.{decimal_digit}
+use Rattle.std.proofs.Math.Seq.{take-append_seam}
 use Rattle.std.proofs.lemmas.List.{append-nil}
 use Rattle.rational.specs.Rational.{ℚ}
 use Rattle.game_theory.specs.Lines.{number_text, line_text}
-use Rattle.ne_printer.specs.Entries.{entries_text, line_start}
+use Rattle.ne_printer.specs.Entries.{entries_text, line_start, BeginsWith}
 
 -- the text of a whole number from 0 to 9, by its numerator as it is cast
 pub number_text_cast : (q : ℚ) (z : ℤ) → z ≡ q.num → FitsSigned w128 z → pos 0 ≤ℤ z → z ≤ℤ pos 9 → q.den ≡ 1 → number_text q ≡ (48 + nat_abs (to_z w128 (of_z w128 z))) ∷ []
@@ -26,3 +27,16 @@ commas q (r ∷ qs) = ap (λ v. 44 ∷ number_text q ++ v) (commas r qs)
 pub line_text-joined : (old : List ℕ) (qs : List ℚ) → ((old ++ line_start qs) ++ entries_text qs) ++ 10 ∷ [] ≡ old ++ line_text qs
 line_text-joined old [] = simp append_assoc
 line_text-joined old (q ∷ qs) = ap (λ v. ((old ++ codes "NE") ++ v) ++ 10 ∷ []) (commas q qs) ∙ simp append_assoc
+
+-- ---- texts that begin with others
+-- a text begins with itself
+pub begins_same : (old new : List ℕ) → new ≡ old → BeginsWith old new
+begins_same old new e = ([], e ∙ sym (append-nil old))
+
+-- one that goes on where another does
+pub begins_on : (old text new : List ℕ) → BeginsWith old text → BeginsWith text new → BeginsWith old new
+begins_on old text new h k = (h.0 ++ k.0, k.1 ∙ ap (λ v. v ++ k.0) h.1 ∙ append_assoc old h.0 k.0)
+
+-- cut back to the length that it had
+pub begins_cut : (old new : List ℕ) (n : ℕ) → n ≡ length old → BeginsWith old new → take n new ≡ old
+begins_cut old new n long h = rw (h.1, long) (take-append_seam old h.0)

@@ -1,5 +1,5 @@
 -- The text of entries, as it grows, and the numbers that are one digit.
-use Rattle.std.specs.Prelude.{ℕ, ◌<◌, ◌≡◌, pos, List, [], ◌∷◌, codes}
+use Rattle.std.specs.Prelude.{ℕ, ◌<◌, ◌≡◌, pos, List, [], ◌∷◌, ◌++◌, codes}
 use Rattle.std.specs.List.{flat_map}
 use Rattle.rational.specs.Rational.{ℚ}
 use Rattle.game_theory.specs.Lines.{number_text}
@@ -23,3 +23,7 @@ pub record IsOneDigit (q : ℚ) : Type 0 where
   pub below_ten : digit < 10
   pub num_is : q.num ≡ pos digit
   pub is_whole : q.den ≡ 1
+
+-- a text begins with another
+abbrev pub BeginsWith : List ℕ → List ℕ → Type 0
+BeginsWith front text = (rest : List ℕ) × (text ≡ front ++ rest)

@@ -1,9 +1,9 @@
 //! The text of equilibria: lines and fractions.
 #![tactic(auto)]
 
-ghost use Rattle.std.specs.Prelude.{◌≡◌, [], ◌∷◌, ◌++◌, string_bytes, IfOk, OnOk, MatchOption};
+ghost use Rattle.std.specs.Prelude.{◌≡◌, [], ◌∷◌, ◌++◌, string_bytes, IfOk, OnOk, OnErr, MatchOption};
 ghost use Rattle.game_theory.specs.Lines.{line_text, number_text};
-ghost use Rattle.ne_printer.specs.Entries.{entry_text, entries_text, line_start, IsOneDigit};
+ghost use Rattle.ne_printer.specs.Entries.{entry_text, entries_text, line_start, BeginsWith, IsOneDigit};
 
 use frac128::{Frac, Memory};
 use std::alloc::Global;
@@ -32,12 +32,15 @@ pub fn fraction(alloc: Global, value: Frac) -> Result<Vec<u8>, Memory>
 /// Adds the line of an equilibrium with these entries to a text: `NE,`, the entries with commas between them, and
 /// a line feed.
 pub fn push_line(alloc: Global, text: &mut Vec<u8>, entries: &[Frac]) -> Result<(), Memory>
-    ensures { OnOk result (text.new.items ≡ text.old.items ++ line_text entries.now) }
+    ensures line { OnOk result (text.new.items ≡ text.old.items ++ line_text entries.now) }
+    ensures memory { OnErr result (text.new.items ≡ text.old.items) }
 {
-    text.extend_from_slice(line_start(entries))?;
-    push_entries(alloc, text, entries)?;
-    text.push(b'\n')?;
-    Ok(())
+    let length = text.len();
+    let pushed = push_parts(alloc, text, entries);
+    if pushed.is_err() {
+        text.truncate(length);
+    }
+    pushed
 }
 
 /// The line of an equilibrium with these entries: `NE,`, the entries with commas between them, and a line feed.
@@ -49,6 +52,17 @@ pub fn line(alloc: Global, entries: &[Frac]) -> Result<Vec<u8>, Memory>
     Ok(line)
 }
 
+// Adds a line; where memory runs out, a part of it may stand behind the text.
+fn push_parts(alloc: Global, text: &mut Vec<u8>, entries: &[Frac]) -> Result<(), Memory>
+    ensures line { OnOk result (text.new.items ≡ text.old.items ++ line_text entries.now) }
+    ensures kept { BeginsWith text.old.items text.new.items }
+{
+    text.extend_from_slice(line_start(entries))?;
+    push_entries(alloc, text, entries)?;
+    text.push(b'\n')?;
+    Ok(())
+}
+
 // What stands before the entries where each is behind a comma.
 fn line_start(entries: &[Frac]) -> &'static [u8]
     ensures { result.now ≡ line_start entries.now }
@@ -58,7 +72,8 @@ fn line_start(entries: &[Frac]) -> &'static [u8]
 
 // Adds the entries, each behind a comma.
 fn push_entries(alloc: Global, text: &mut Vec<u8>, entries: &[Frac]) -> Result<(), Memory>
-    ensures { OnOk result (text.new.items ≡ text.old.items ++ entries_text entries.now) }
+    ensures entries { OnOk result (text.new.items ≡ text.old.items ++ entries_text entries.now) }
+    ensures kept { BeginsWith text.old.items text.new.items }
 {
     for entry in entries {
         push_entry(alloc, text, *entry)?;
@@ -68,7 +83,8 @@ fn push_entries(alloc: Global, text: &mut Vec<u8>, entries: &[Frac]) -> Result<(
 
 // Adds an entry behind a comma.
 fn push_entry(alloc: Global, text: &mut Vec<u8>, entry: Frac) -> Result<(), Memory>
-    ensures { OnOk result (text.new.items ≡ text.old.items ++ entry_text entry) }
+    ensures entry { OnOk result (text.new.items ≡ text.old.items ++ entry_text entry) }
+    ensures kept { BeginsWith text.old.items text.new.items }
 {
     if let Some(digit) = one_digit(entry) {
         text.extend_from_slice(&[b',', digit])?;

@@ -174,50 +174,50 @@ fn later_use<'a>(
     Ok(rest)
 }
 
-// The number of the outcome with this label, which a node uses, and the tokens behind it.
+// The outcomes with the one of this label, which a node uses, its number, and the tokens behind it.
 fn read_named<'a>(
     alloc: Global,
-    outcomes: &mut Outcomes,
+    mut outcomes: Outcomes,
     label: u64,
     players: usize,
     tokens: &'a [Spanned],
-) -> Result<(u32, &'a [Spanned]), Refusal<EfgKind>>
-    requires outcomes { AreOutcomes players outcomes.old }
-    requires few { length outcomes.old.list.items < 4294967295 }
-    ensures outcomes { OnOk result (AreOutcomes players outcomes.new) }
-    ensures read { Reads (λ x. ((begun_outcomes outcomes.new, Some x.0), kinds x.1.now)) result (named_step_at players label (begun_outcomes outcomes.old) (kinds tokens.now)) }
+) -> Result<(Outcomes, u32, &'a [Spanned]), Refusal<EfgKind>>
+    requires outcomes { AreOutcomes players outcomes }
+    requires few { length outcomes.list.items < 4294967295 }
+    ensures outcomes { IfOk result (λ x. AreOutcomes players x.0) }
+    ensures read { Reads (λ x. ((begun_outcomes x.0, Some x.1), kinds x.2.now)) result (named_step_at players label (begun_outcomes outcomes) (kinds tokens.now)) }
 {
     let (name, behind) = optional_text(tokens);
     let (place, is_new) = outcomes.labels.insert_full(label)?;
     if is_new {
         let (outcome, rest) = first_use(alloc, label, name, players, behind)?;
         outcomes.list.push(outcome)?;
-        Ok((place as u32, rest))
+        Ok((outcomes, place as u32, rest))
     } else {
         let rest = later_use(alloc, &mut outcomes.list[place], name, behind)?;
-        Ok((place as u32, rest))
+        Ok((outcomes, place as u32, rest))
     }
 }
 
-/// The number of the outcome that a node uses, where it uses one, and the tokens behind it.
+/// The outcomes with the one that a node uses, where it uses one, its number, and the tokens behind it.
 #[tactic(auto, using(crate::proofs::OutcomeSteps::step_is))]
 pub fn read_outcome<'a>(
     alloc: Global,
-    outcomes: &mut Outcomes,
+    outcomes: Outcomes,
     players: usize,
     tokens: &'a [Spanned],
-) -> Result<(Option<u32>, &'a [Spanned]), Refusal<EfgKind>>
-    requires outcomes { AreOutcomes players outcomes.old }
-    requires few { length outcomes.old.list.items < 4294967295 }
-    ensures outcomes { OnOk result (AreOutcomes players outcomes.new) }
-    ensures read { Reads (λ x. ((begun_outcomes outcomes.new, x.0), kinds x.1.now)) result (outcome_step_at players (begun_outcomes outcomes.old) (kinds tokens.now)) }
+) -> Result<(Outcomes, Option<u32>, &'a [Spanned]), Refusal<EfgKind>>
+    requires outcomes { AreOutcomes players outcomes }
+    requires few { length outcomes.list.items < 4294967295 }
+    ensures outcomes { IfOk result (λ x. AreOutcomes players x.0) }
+    ensures read { Reads (λ x. ((begun_outcomes x.0, x.1), kinds x.2.now)) result (outcome_step_at players (begun_outcomes outcomes) (kinds tokens.now)) }
 {
     let Some((number, rest)) = label(tokens) else {
         return Err(unfit(EfgKind::Node, tokens));
     };
     if number == 0 {
-        return Ok((None, rest));
+        return Ok((outcomes, None, rest));
     }
-    let (place, rest) = read_named(alloc, outcomes, number, players, rest)?;
-    Ok((Some(place), rest))
+    let (outcomes, place, rest) = read_named(alloc, outcomes, number, players, rest)?;
+    Ok((outcomes, Some(place), rest))
 }

@@ -114,18 +114,18 @@ fn placed(known: &mut IndexSet<SetKey>, key: SetKey) -> Result<(usize, bool), Al
     known.insert_full(key)
 }
 
-/// The number of the set that this node of this owner uses, and the tokens behind it.
+/// The sets with the one that this node of this owner uses, its number, and the tokens behind it.
 pub fn read_set<'a>(
     alloc: Global,
-    sets: &mut Sets,
+    mut sets: Sets,
     owner: Option<u32>,
     node: u32,
     tokens: &'a [Spanned],
-) -> Result<(u32, &'a [Spanned]), Refusal<EfgKind>>
-    requires sets { AreSets sets.old }
-    requires few { length sets.old.list.items < 4294967295 }
-    ensures sets { OnOk result (AreSets sets.new) }
-    ensures read { Reads (λ x. ((begun_sets sets.new, x.0), kinds x.1.now)) result (set_step_at node (begun_sets sets.old) owner (kinds tokens.now)) }
+) -> Result<(Sets, u32, &'a [Spanned]), Refusal<EfgKind>>
+    requires sets { AreSets sets }
+    requires few { length sets.list.items < 4294967295 }
+    ensures sets { IfOk result (λ x. AreSets x.0) }
+    ensures read { Reads (λ x. ((begun_sets x.0, x.1), kinds x.2.now)) result (set_step_at node (begun_sets sets) owner (kinds tokens.now)) }
 {
     let Some((label, behind)) = positive(tokens) else {
         return Err(unfit(EfgKind::Node, tokens));
@@ -136,9 +136,9 @@ pub fn read_set<'a>(
     if is_new {
         let (set, rest) = first_use(alloc, key, name, node, behind)?;
         sets.list.push(set)?;
-        Ok((place as u32, rest))
+        Ok((sets, place as u32, rest))
     } else {
         let rest = later_use(alloc, &mut sets.list[place], name, node, behind)?;
-        Ok((place as u32, rest))
+        Ok((sets, place as u32, rest))
     }
 }

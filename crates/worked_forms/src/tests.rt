@@ -1,8 +1,11 @@
 ghost use Rattle.std.specs.Prelude.{◌<◌};
 
-use crate::games::{ALONE, CHANCE_BEHIND, FORGET, PAID_ON_THE_WAY, POKER, TWO_WAYS, tree_of};
+use crate::games::{
+    ALONE, CHANCE_BEHIND, ENTRY, FORGET, PAID_ON_THE_WAY, POKER, TWO_WAYS, tree_of,
+};
+use behaviour_profile::Behaviour;
 use frac128::{Frac, Memory, Op, Unfit};
-use game_core::{TooLarge, What};
+use game_core::{TooLarge, What, trees_are_game_trees};
 use ne_printer::fraction;
 use reduced_form::{ReduceStop, Reduced, reduce};
 use std::alloc::Global;
@@ -227,5 +230,43 @@ fn refuses_wide_steps(rt: HostRuntime) -> Result<(), Memory> {
         unfit,
     };
     assert!(rt; stops(alloc, WIDE_SUM, addition));
+    Ok(())
+}
+
+// The behaviour of a tree at which each player plays the first strategy; nothing where there is no such tree.
+fn first_behaviour(alloc: Global, text: &[u8]) -> Result<Option<Behaviour>, Memory> {
+    let Some(tree) = tree_of(alloc, text) else {
+        return Ok(None);
+    };
+    let Ok(reduced) = reduce(alloc, &tree) else {
+        return Ok(None);
+    };
+    trees_are_game_trees();
+    let profile = vec![in alloc; 0; tree.players().len()]?;
+    let behaviour = Behaviour::from_reduced(alloc, &tree, &reduced, &profile)?;
+    Ok(Some(behaviour))
+}
+
+// Each game with the entries of the players' first strategies, by hand; behind them there is none.
+#[test]
+fn entries_end(rt: HostRuntime) -> Result<(), Memory> {
+    let alloc = rt.alloc();
+    let rows = [
+        (POKER, [1, 0, 1, 0, 1, 0].as_slice()),
+        (ALONE, [1, 0, 1, 0].as_slice()),
+        (PAID_ON_THE_WAY, [1, 1, 0].as_slice()),
+        (ENTRY, [1, 0, 1, 0].as_slice()),
+        (b"EFG 2 R \"\" { \"A\" } t \"\" 0".as_slice(), [].as_slice()),
+    ];
+    for (text, entries) in rows {
+        let behaviour = first_behaviour(alloc, text)?.ok_or(Memory)?;
+        let mut place = 0;
+        for entry in entries {
+            assert!(rt; behaviour.entry(place) == Frac::new(*entry, 1));
+            place = place.saturating_add(1);
+        }
+        assert!(rt; behaviour.entry(place) == None);
+        assert!(rt; behaviour.entry(u32::MAX) == None);
+    }
     Ok(())
 }

@@ -1,7 +1,7 @@
 // One run over memory, and what it must do.
 use gambit_tools::run;
+use game_core::{MemInputs, MemSink, OpenGate};
 use memory::Memory;
-use outside::{MemInputs, MemSink, OpenGate};
 use std::alloc::Global;
 use std::thread::Threads;
 

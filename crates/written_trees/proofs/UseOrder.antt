@@ -9,7 +9,7 @@ use Rattle.indexmap.specs.IndexSet.{insert_key, insert_all}
 use Rattle.game_core.specs.declared.tree.Node.{Node}
 use Rattle.game_core.specs.Tree.{AreInOrderOfFirstUse}
 use Rattle.game_core.proofs.FirstUse.{AreNumberedFrom, in_order}
-use Rattle.written_trees.specs.Written.{SetUse, OutcomeUse, WrittenNode}
+use Rattle.written_trees.specs.Written.{OutcomeUse, WrittenNode}
 use Rattle.written_trees.specs.Described.{SetKey, key_of, same_set, with_number, uses_from, set_uses, outcome_uses, sets_of, outcomes_of, StandForEach}
 use Rattle.written_trees.proofs.InsertedKeys.{or_true, eq_self, slice_get-found, position-none, position-kept, position-inserted, insert_key-known, insert_key-new, any_inserted}
 use Rattle.written_trees.proofs.SetUses.{same_set-Decides}

@@ -11,28 +11,28 @@ use Rattle.efg_reader.proofs.nodes.next.Goals as goal
 
 pub returns-in-Err-clause-read : goal.returns-in-Err-clause-read
 returns-in-Err-clause-read c =
-    let begun = begun_of c.args.builder.now in
-    let number : c.len-number.result ≡ length begun.nodes = omega (arith, c.len-number.ensures, c.args.builder.now.nodes.ok.0) in
+    let begun = begun_of c.args.builder in
+    let number : c.len.result ≡ length begun.nodes = omega (arith, c.len.ensures, c.args.builder.nodes.ok.0) in
     let read = rw number at c.in-Err.ensures.read in
     refused_too c.in-Err.refusal _ _ (choice_refused c.args.players begun (kinds c.args.tokens.now)) read
 
 pub returns-in-Err-read_outcome-clause-read : goal.returns-in-Err-read_outcome-clause-read
 returns-in-Err-read_outcome-clause-read c =
-    let begun = begun_of c.args.builder.now in
-    let number : c.len-number.result ≡ length begun.nodes = omega (arith, c.len-number.ensures, c.args.builder.now.nodes.ok.0) in
-    let step : ChoiceStep = ((begun_sets c.choice.new.sets, (c.in-Ok.read.0.kind, c.in-Ok.read.0.set)), kinds c.in-Ok.read.1.now) in
+    let begun = begun_of c.args.builder in
+    let number : c.len.result ≡ length begun.nodes = omega (arith, c.len.ensures, c.args.builder.nodes.ok.0) in
+    let step : ChoiceStep = ((begun_sets c.in-Ok.read.0, (c.in-Ok.read.1.kind, c.in-Ok.read.1.set)), kinds c.in-Ok.read.2.now) in
     let chosen : choice_step_at c.args.players (length begun.nodes) begun.sets (kinds c.args.tokens.now) ≡ Some step = rw number at c.in-Ok.ensures.read in
     refused_too c.in-Err-read_outcome.refusal _ _ (outcome_refused c.args.players begun (kinds c.args.tokens.now) step chosen) c.in-Err-read_outcome.ensures.read
 
 pub returns-in-Ok-add-clause-valid : goal.returns-in-Ok-add-clause-valid
 returns-in-Ok-add-clause-valid c =
-    let begun = begun_of c.args.builder.now in
-    let number : c.len-number.result ≡ length begun.nodes = omega (arith, c.len-number.ensures, c.args.builder.now.nodes.ok.0) in
-    let step : ChoiceStep = ((begun_sets c.choice.new.sets, (c.in-Ok.read.0.kind, c.in-Ok.read.0.set)), kinds c.in-Ok.read.1.now) in
-    let paid : OutcomeStep = ((begun_outcomes c.read_outcome.new.outcomes, c.in-Ok-read_outcome.read.0), kinds c.in-Ok-read_outcome.read.1.now) in
+    let begun = begun_of c.args.builder in
+    let number : c.len.result ≡ length begun.nodes = omega (arith, c.len.ensures, c.args.builder.nodes.ok.0) in
+    let step : ChoiceStep = ((begun_sets c.in-Ok.read.0, (c.in-Ok.read.1.kind, c.in-Ok.read.1.set)), kinds c.in-Ok.read.2.now) in
+    let paid : OutcomeStep = ((begun_outcomes c.in-Ok-read_outcome.read.0, c.in-Ok-read_outcome.read.1), kinds c.in-Ok-read_outcome.read.2.now) in
     let chosen : choice_step_at c.args.players (length begun.nodes) begun.sets (kinds c.args.tokens.now) ≡ Some step = rw number at c.in-Ok.ensures.read in
-    let sets : length c.choice.new.sets.list.items ≤ suc (length c.args.builder.now.sets.list.items) = rw (length-map, length-map) at (few_sets_more c.args.players (length begun.nodes) begun.sets (kinds c.args.tokens.now) step chosen) in
-    let outcomes : length c.read_outcome.new.outcomes.list.items ≤ suc (length c.args.builder.now.outcomes.list.items) = rw (length-map, length-map) at (few_outcomes_more c.args.players begun.outcomes (kinds c.in-Ok.read.1.now) paid c.in-Ok-read_outcome.ensures.read) in
+    let sets : length c.in-Ok.read.0.list.items ≤ suc (length c.args.builder.sets.list.items) = rw (length-map, length-map) at (few_sets_more c.args.players (length begun.nodes) begun.sets (kinds c.args.tokens.now) step chosen) in
+    let outcomes : length c.in-Ok-read_outcome.read.0.list.items ≤ suc (length c.args.builder.outcomes.list.items) = rw (length-map, length-map) at (few_outcomes_more c.args.players begun.outcomes (kinds c.in-Ok.read.2.now) paid c.in-Ok-read_outcome.ensures.read) in
     let added = c.in-Ok-add.ensures in
     let old = c.requires.valid in
     record {
@@ -46,21 +46,21 @@ returns-in-Ok-add-clause-valid c =
 
 pub returns-in-Ok-add-clause-read : goal.returns-in-Ok-add-clause-read
 returns-in-Ok-add-clause-read c =
-    let begun = begun_of c.args.builder.now in
-    let number : c.len-number.result ≡ length begun.nodes = omega (arith, c.len-number.ensures, c.args.builder.now.nodes.ok.0) in
-    let step : ChoiceStep = ((begun_sets c.choice.new.sets, (c.in-Ok.read.0.kind, c.in-Ok.read.0.set)), kinds c.in-Ok.read.1.now) in
-    let paid : OutcomeStep = ((begun_outcomes c.read_outcome.new.outcomes, c.in-Ok-read_outcome.read.0), kinds c.in-Ok-read_outcome.read.1.now) in
+    let begun = begun_of c.args.builder in
+    let number : c.len.result ≡ length begun.nodes = omega (arith, c.len.ensures, c.args.builder.nodes.ok.0) in
+    let step : ChoiceStep = ((begun_sets c.in-Ok.read.0, (c.in-Ok.read.1.kind, c.in-Ok.read.1.set)), kinds c.in-Ok.read.2.now) in
+    let paid : OutcomeStep = ((begun_outcomes c.in-Ok-read_outcome.read.0, c.in-Ok-read_outcome.read.1), kinds c.in-Ok-read_outcome.read.2.now) in
     let chosen : choice_step_at c.args.players (length begun.nodes) begun.sets (kinds c.args.tokens.now) ≡ Some step = rw number at c.in-Ok.ensures.read in
     node_added c.args.players begun (begun_of c.add.new.self) (kinds c.args.tokens.now) step paid chosen c.in-Ok-read_outcome.ensures.read c.in-Ok-add.ensures.grown
 
 pub returns-in-Ok-add-clause-shorter : goal.returns-in-Ok-add-clause-shorter
 returns-in-Ok-add-clause-shorter c =
-    let begun = begun_of c.args.builder.now in
-    let number : c.len-number.result ≡ length begun.nodes = omega (arith, c.len-number.ensures, c.args.builder.now.nodes.ok.0) in
-    let step : ChoiceStep = ((begun_sets c.choice.new.sets, (c.in-Ok.read.0.kind, c.in-Ok.read.0.set)), kinds c.in-Ok.read.1.now) in
-    let paid : OutcomeStep = ((begun_outcomes c.read_outcome.new.outcomes, c.in-Ok-read_outcome.read.0), kinds c.in-Ok-read_outcome.read.1.now) in
+    let begun = begun_of c.args.builder in
+    let number : c.len.result ≡ length begun.nodes = omega (arith, c.len.ensures, c.args.builder.nodes.ok.0) in
+    let step : ChoiceStep = ((begun_sets c.in-Ok.read.0, (c.in-Ok.read.1.kind, c.in-Ok.read.1.set)), kinds c.in-Ok.read.2.now) in
+    let paid : OutcomeStep = ((begun_outcomes c.in-Ok-read_outcome.read.0, c.in-Ok-read_outcome.read.1), kinds c.in-Ok-read_outcome.read.2.now) in
     let chosen : choice_step_at c.args.players (length begun.nodes) begun.sets (kinds c.args.tokens.now) ≡ Some step = rw number at c.in-Ok.ensures.read in
-    let read : next_at c.args.players begun (kinds c.args.tokens.now) ≡ Some (begun_of c.add.new.self, kinds c.in-Ok-read_outcome.read.1.now) =
+    let read : next_at c.args.players begun (kinds c.args.tokens.now) ≡ Some (begun_of c.add.new.self, kinds c.in-Ok-read_outcome.read.2.now) =
     node_added c.args.players begun (begun_of c.add.new.self) (kinds c.args.tokens.now) step paid chosen c.in-Ok-read_outcome.ensures.read c.in-Ok-add.ensures.grown in
-    let shorter : length (kinds c.in-Ok-read_outcome.read.1.now) < length (kinds c.args.tokens.now) = next_takes c.args.players begun (kinds c.args.tokens.now) (begun_of c.add.new.self, kinds c.in-Ok-read_outcome.read.1.now) read in
+    let shorter : length (kinds c.in-Ok-read_outcome.read.2.now) < length (kinds c.args.tokens.now) = next_takes c.args.players begun (kinds c.args.tokens.now) (begun_of c.add.new.self, kinds c.in-Ok-read_outcome.read.2.now) read in
     rw (length-map, length-map) at shorter

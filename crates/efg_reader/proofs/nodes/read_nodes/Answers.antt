@@ -32,7 +32,7 @@ loop-alloc-preserved c =
     let free = whole_by_kept c.loop-alloc.builder c.is_empty.result c.is_empty.ensures ∙ c.loop-alloc-test.true in
     record {
       valid = c.in-Ok.ensures.valid;
-      under_way = goes_on c.args.players begun (begun_of c.one_more.new.builder) (kinds c.loop-alloc.rest.now) (kinds c.in-Ok.after.now) (all_nodes c.args.players tokens) free c.in-Ok.ensures.read (rw (length-map c.in-Ok.after.now (λ s. s.token), length-map c.loop-alloc.rest.now (λ s. s.token)) c.in-Ok.ensures.shorter) c.loop-alloc.invariant.under_way;
+      under_way = goes_on c.args.players begun (begun_of c.in-Ok.read.0) (kinds c.loop-alloc.rest.now) (kinds c.in-Ok.read.1.now) (all_nodes c.args.players tokens) free c.in-Ok.ensures.read (rw (length-map c.in-Ok.read.1.now (λ s. s.token), length-map c.loop-alloc.rest.now (λ s. s.token)) c.in-Ok.ensures.shorter) c.loop-alloc.invariant.under_way;
     }
 
 pub returns-then-ends-clause-read : goal.returns-then-ends-clause-read

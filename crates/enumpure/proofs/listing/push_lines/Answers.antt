@@ -41,7 +41,7 @@ loop-rank-preserved c =
     elim c.if-stable-profile_number.branch [
       | then-stable-profile_number+in_ok-set_entries+in_ok-push_line w ↦
           (let line = ap line_text (w.deref.ensures.value ∙ w.in_ok-set_entries.ensures {u = tt} ∙ ap (λ v. entries ns (pure v)) c.set_profile.ensures) in
-          ap (λ v. v.items) w.text-is ∙ w.in_ok-push_line.ensures {u = tt} ∙ ap (λ v. text ++ v) line ∙ lines_text-push ns flags r old text c.loop-rank.invariant (sym (ap (flag flags) e) ∙ w.if-stable-profile_number.true))
+          ap (λ v. v.items) w.text-is ∙ w.in_ok-push_line.ensures.line ∙ ap (λ v. text ++ v) line ∙ lines_text-push ns flags r old text c.loop-rank.invariant (sym (ap (flag flags) e) ∙ w.if-stable-profile_number.true))
       | else-stable-profile_number w ↦ ap (λ v. v.items) w.text-is ∙ lines_text-skip ns flags r old text c.loop-rank.invariant (sym (ap (flag flags) e) ∙ w.if-stable-profile_number.false)
     ]
 

@@ -44,7 +44,7 @@ loop-rank-preserved c =
     elim c.if-is_stable.branch [
       | then-is_stable+in_ok-behaviour+in_ok-push_line w ↦
           let entries = w.entries.ensures ∙ w.in_ok-behaviour.ensures {u = tt} ∙ ap (profile_line t strategies) is.profile_is in
-          let pushed = ap (λ v. v.items) w.text-is ∙ w.in_ok-push_line.ensures {u = tt} ∙ ap (λ v. text ++ line_text v) entries in
+          let pushed = ap (λ v. v.items) w.text-is ∙ w.in_ok-push_line.ensures.line ∙ ap (λ v. text ++ line_text v) entries in
           pushed ∙ text-push (rank_line t strategies orders) (rank_flag strategies orders (flag flags)) r c.args.text.now.items text c.loop-rank.invariant (sym flagged ∙ w.if-is_stable.true)
       | else-is_stable w ↦ ap (λ v. v.items) w.text-is ∙ text-skip (rank_line t strategies orders) (rank_flag strategies orders (flag flags)) r c.args.text.now.items text c.loop-rank.invariant (sym flagged ∙ w.if-is_stable.false)
     ]

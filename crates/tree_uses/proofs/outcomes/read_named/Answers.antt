@@ -9,38 +9,38 @@ use Rattle.tree_uses.proofs.outcomes.read_named.Goals as goal
 pub returns-in_err-outcome-clause-read : goal.returns-in_err-outcome-clause-read
 returns-in_err-outcome-clause-read c =
     let new = not-true _ (sym c.in_ok-place.ensures.added ∙ c.if-is_new.true) in
-    let unread = first_unread c.args.players c.args.label c.args.outcomes.now c.requires.outcomes new _ (kinds c.args.tokens.now) (kinds c.optional_text.result.1.now) c.optional_text.ensures in
+    let unread = first_unread c.args.players c.args.label c.args.outcomes c.requires.outcomes new _ (kinds c.args.tokens.now) (kinds c.optional_text.result.1.now) c.optional_text.ensures in
     let refused = refused_too c.in_err-outcome.field-0.0 _ _ unread c.in_err-outcome.ensures.read in
     search rules
 
 pub returns-in_ok-push-clause-outcomes : goal.returns-in_ok-push-clause-outcomes
 returns-in_ok-push-clause-outcomes c =
     let new = not-true _ (sym c.in_ok-place.ensures.added ∙ c.if-is_new.true) in
-    first_kept c.args.players c.args.label c.args.outcomes.now c.requires.outcomes new _ c.in_ok-outcome.outcome (kinds c.optional_text.result.1.now) (kinds c.in_ok-outcome.rest.now)
+    first_kept c.args.players c.args.label c.args.outcomes c.requires.outcomes new _ c.in_ok-outcome.outcome (kinds c.optional_text.result.1.now) (kinds c.in_ok-outcome.rest.now)
     c.in_ok-place.ensures.keys c.in_ok-push.ensures.items c.in_ok-outcome.ensures.label c.in_ok-outcome.ensures.read
 
 pub returns-in_ok-push-clause-read : goal.returns-in_ok-push-clause-read
 returns-in_ok-push-clause-read c =
     let new = not-true _ (sym c.in_ok-place.ensures.added ∙ c.if-is_new.true) in
-    first_used c.args.players c.args.label c.args.outcomes.now c.requires.outcomes new _ (kinds c.args.tokens.now) (kinds c.optional_text.result.1.now) c.optional_text.ensures c.push.new.self.items c.in_ok-outcome.outcome c.in_ok-place.place (kinds c.in_ok-outcome.rest.now)
+    first_used c.args.players c.args.label c.args.outcomes c.requires.outcomes new _ (kinds c.args.tokens.now) (kinds c.optional_text.result.1.now) c.optional_text.ensures c.push.new.self.items c.in_ok-outcome.outcome c.in_ok-place.place (kinds c.in_ok-outcome.rest.now)
     c.in_ok-place.ensures.index c.in_ok-push.ensures.items c.in_ok-outcome.ensures.label c.in_ok-outcome.ensures.name c.in_ok-outcome.ensures.read
 
 -- a later use
 pub returns-in_err-rest-clause-read : goal.returns-in_err-rest-clause-read
 returns-in_err-rest-clause-read c =
     let known = not-false _ (sym c.in_ok-place.ensures.added ∙ c.if-is_new.false) in
-    let unread = later_unread c.args.players c.args.label c.args.outcomes.now c.requires.outcomes known c.index_mut.result.now c.in_ok-place.place c.in_ok-place.ensures.index c.index_mut.ensures.value _ (kinds c.args.tokens.now) (kinds c.optional_text.result.1.now) c.optional_text.ensures in
+    let unread = later_unread c.args.players c.args.label c.args.outcomes c.requires.outcomes known c.index_mut.result.now c.in_ok-place.place c.in_ok-place.ensures.index c.index_mut.ensures.value _ (kinds c.args.tokens.now) (kinds c.optional_text.result.1.now) c.optional_text.ensures in
     let refused = refused_too c.in_err-rest.field-0.0 _ _ unread c.in_err-rest.ensures.read in
     search rules
 
 pub returns-in_ok-rest-clause-outcomes : goal.returns-in_ok-rest-clause-outcomes
 returns-in_ok-rest-clause-outcomes c =
     let known = not-false _ (sym c.in_ok-place.ensures.added ∙ c.if-is_new.false) in
-    later_kept c.args.players c.args.label c.args.outcomes.now c.requires.outcomes known c.index_mut.result.now c.in_ok-place.place c.in_ok-place.ensures.index c.index_mut.ensures.value _ c.later_use.new.outcome
+    later_kept c.args.players c.args.label c.args.outcomes c.requires.outcomes known c.index_mut.result.now c.in_ok-place.place c.in_ok-place.ensures.index c.index_mut.ensures.value _ c.later_use.new.outcome
     c.in_ok-place.ensures.keys refl c.in_ok-rest.ensures.label c.in_ok-rest.ensures.payoffs
 
 pub returns-in_ok-rest-clause-read : goal.returns-in_ok-rest-clause-read
 returns-in_ok-rest-clause-read c =
     let known = not-false _ (sym c.in_ok-place.ensures.added ∙ c.if-is_new.false) in
-    later_used c.args.players c.args.label c.args.outcomes.now c.requires.outcomes known c.index_mut.result.now c.in_ok-place.place c.in_ok-place.ensures.index c.index_mut.ensures.value _ (kinds c.args.tokens.now) (kinds c.optional_text.result.1.now) c.optional_text.ensures c.later_use.new.outcome (kinds c.in_ok-rest.rest.now)
+    later_used c.args.players c.args.label c.args.outcomes c.requires.outcomes known c.index_mut.result.now c.in_ok-place.place c.in_ok-place.ensures.index c.index_mut.ensures.value _ (kinds c.args.tokens.now) (kinds c.optional_text.result.1.now) c.optional_text.ensures c.later_use.new.outcome (kinds c.in_ok-rest.rest.now)
     c.in_ok-rest.ensures.label c.in_ok-rest.ensures.name c.in_ok-rest.ensures.payoffs c.in_ok-rest.ensures.read

@@ -9,7 +9,7 @@ use Rattle.tree_uses.proofs.sets.read_set.Goals as goal
 use Rattle.tree_uses.proofs.sets.read_set.Goals.{In_ok-place}
 
 -- what is known of the set that comes, where its key was noted
-comes : (c : In_ok-place) → Comes c.args.sets.now c.args.owner (kinds c.args.tokens.now) (kinds c.optional_text.result.1.now) c.in-Some.label (option_map (λ t. t.now) c.optional_text.result.0) c.in_ok-place.place c.in_ok-place.is_new
+comes : (c : In_ok-place) → Comes c.args.sets c.args.owner (kinds c.args.tokens.now) (kinds c.optional_text.result.1.now) c.in-Some.label (option_map (λ t. t.now) c.optional_text.result.0) c.in_ok-place.place c.in_ok-place.is_new
 comes c = record {
   are = c.requires.sets;
   behind = kinds c.in-Some.behind.now;
@@ -21,23 +21,23 @@ comes c = record {
 }
 
 pub returns-in_default-clause-read : goal.returns-in_default-clause-read
-returns-in_default-clause-read c = rw c.unfit.ensures (step_without c.args.node (begun_sets c.args.sets.now) c.args.owner (kinds c.args.tokens.now) c.in_default.ensures)
+returns-in_default-clause-read c = rw c.unfit.ensures (step_without c.args.node (begun_sets c.args.sets) c.args.owner (kinds c.args.tokens.now) c.in_default.ensures)
 
 pub returns-in_err-set-clause-read : goal.returns-in_err-set-clause-read
 returns-in_err-set-clause-read c =
     let known = comes (goal.at.returns-in_err-set-clause-read c).In_ok-place in
-    let refused : Refuses c.in_err-set.field-0.0 (set_step_at c.args.node (begun_sets c.args.sets.now) c.args.owner (kinds c.args.tokens.now)) = refused_too _ _ _ (λ none. first_refused known c.args.node c.if-is_new.true none) c.in_err-set.ensures.read in
+    let refused : Refuses c.in_err-set.field-0.0 (set_step_at c.args.node (begun_sets c.args.sets) c.args.owner (kinds c.args.tokens.now)) = refused_too _ _ _ (λ none. first_refused known c.args.node c.if-is_new.true none) c.in_err-set.ensures.read in
     search rules
 
 pub returns-in_err-rest-clause-read : goal.returns-in_err-rest-clause-read
 returns-in_err-rest-clause-read c =
     let known = comes (goal.at.returns-in_err-rest-clause-read c).In_ok-place in
-    let refused : Refuses c.in_err-rest.field-0.0 (set_step_at c.args.node (begun_sets c.args.sets.now) c.args.owner (kinds c.args.tokens.now)) = refused_too _ _ _ (λ none. later_refused known c.args.node c.index_mut.result.now c.if-is_new.false c.index_mut.ensures.value none) c.in_err-rest.ensures.read in
+    let refused : Refuses c.in_err-rest.field-0.0 (set_step_at c.args.node (begun_sets c.args.sets) c.args.owner (kinds c.args.tokens.now)) = refused_too _ _ _ (λ none. later_refused known c.args.node c.index_mut.result.now c.if-is_new.false c.index_mut.ensures.value none) c.in_err-rest.ensures.read in
     search rules
 
 pub returns-in_ok-push-clause-sets : goal.returns-in_ok-push-clause-sets
 returns-in_ok-push-clause-sets c =
-    sets_begin c.args.sets.now (record { keys = c.placed.new.known; list = c.push.new.self }) c.args.node (record { owner = c.args.owner; label = c.in-Some.label }) _ c.in_ok-set.set c.in_ok-place.is_new c.requires.sets c.if-is_new.true c.in_ok-place.ensures.keys c.in_ok-push.ensures.items c.in_ok-set.ensures.set c.in_ok-set.ensures.list
+    sets_begin c.args.sets (record { keys = c.placed.new.known; list = c.push.new.self }) c.args.node (record { owner = c.args.owner; label = c.in-Some.label }) _ c.in_ok-set.set c.in_ok-place.is_new c.requires.sets c.if-is_new.true c.in_ok-place.ensures.keys c.in_ok-push.ensures.items c.in_ok-set.ensures.set c.in_ok-set.ensures.list
 
 pub returns-in_ok-push-clause-read : goal.returns-in_ok-push-clause-read
 returns-in_ok-push-clause-read c =
@@ -47,9 +47,9 @@ returns-in_ok-push-clause-read c =
 pub returns-in_ok-rest-clause-sets : goal.returns-in_ok-rest-clause-sets
 returns-in_ok-rest-clause-sets c =
     let known = comes (goal.at.returns-in_ok-rest-clause-sets c).In_ok-place in
-    sets_go_on c.args.sets.now (record { keys = c.placed.new.known; list = with_item c.args.sets.now.list c.in_ok-place.place c.later_use.new.set }) c.args.node (record { owner = c.args.owner; label = c.in-Some.label }) _ c.in_ok-place.place c.index_mut.result.now c.later_use.new.set c.in_ok-place.is_new c.requires.sets c.if-is_new.false c.in_ok-place.ensures.keys (known_within known c.if-is_new.false) c.index_mut.ensures.value refl c.in_ok-rest.ensures.set
+    sets_go_on c.args.sets (record { keys = c.placed.new.known; list = with_item c.args.sets.list c.in_ok-place.place c.later_use.new.set }) c.args.node (record { owner = c.args.owner; label = c.in-Some.label }) _ c.in_ok-place.place c.index_mut.result.now c.later_use.new.set c.in_ok-place.is_new c.requires.sets c.if-is_new.false c.in_ok-place.ensures.keys (known_within known c.if-is_new.false) c.index_mut.ensures.value refl c.in_ok-rest.ensures.set
 
 pub returns-in_ok-rest-clause-read : goal.returns-in_ok-rest-clause-read
 returns-in_ok-rest-clause-read c =
     let known = comes (goal.at.returns-in_ok-rest-clause-read c).In_ok-place in
-    later_used known c.args.node (record { keys = c.placed.new.known; list = with_item c.args.sets.now.list c.in_ok-place.place c.later_use.new.set }) c.index_mut.result.now c.later_use.new.set (kinds c.in_ok-rest.rest.now) c.if-is_new.false c.index_mut.ensures.value c.in_ok-rest.ensures.read c.in_ok-rest.ensures.set refl
+    later_used known c.args.node (record { keys = c.placed.new.known; list = with_item c.args.sets.list c.in_ok-place.place c.later_use.new.set }) c.index_mut.result.now c.later_use.new.set (kinds c.in_ok-rest.rest.now) c.if-is_new.false c.index_mut.ensures.value c.in_ok-rest.ensures.read c.in_ok-rest.ensures.set refl
