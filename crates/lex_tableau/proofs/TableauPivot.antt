@@ -1,5 +1,5 @@
 -- What a pivot of whole numbers makes of a tableau.
-use Rattle.std.proofs.Common.{ℕ, ℤ, pos, suc, zero, ◌≡◌, ◌≢◌, ◌<◌, ◌≤◌, ◌+◌, ◌*◌, ◌/◌, ◌%◌, refl, sym, ap, ap₂, ◌∙◌, subst, List, [], ◌∷◌, arith, ◌⊎◌, inl, inr, length, get_or, slice_set, mul-le-mul_right, div-add-mod', mod-lt}
+use Rattle.std.proofs.Common.{ℕ, ℤ, pos, suc, zero, ◌≡◌, ◌≢◌, ◌<◌, ◌≤◌, ◌+◌, ◌*◌, ◌/◌, ◌%◌, refl, sym, ap, ap₂, ◌∙◌, subst, subst₂, List, [], ◌∷◌, arith, ◌⊎◌, inl, inr, length, get_or, slice_set, mul-le-mul_right, div-add-mod', mod-lt}
 use Rattle.std.proofs.lemmas.Bool.{cases_eq, cases_lt}
 use Rattle.std.specs.Result.{OnOk}
 use Rattle.std.specs.declared.result.Result.{Result}
@@ -11,10 +11,14 @@ use Rattle.rings.proofs.Ring as R
 use Rattle.frac128.specs.Fraction.{PartFits}
 use Rattle.linear_systems.specs.Tableau.{Tableau, pivot}
 use Rattle.linear_systems.specs.Rows.{Alike}
-use Rattle.linear_systems.proofs.Pivot.{eqb_same, eqb_apart}
+use Rattle.linear_systems.specs.Lex.{IsLexPositive}
+use Rattle.linear_systems.specs.Rows.{key}
+use Rattle.linear_systems.proofs.LexRow.{keys_stay_alike}
+use Rattle.linear_systems.proofs.Pivot.{eqb_same, eqb_apart, pivot_solves}
+use Rattle.lex_tableau.specs.Ratio.{listed, KeepsPositiveKeys}
 use Rattle.linear_systems.proofs.Reached.{reached_pivot, reached_alike}
 use Rattle.whole_rows.specs.Rows.{from_place, fraction, IsRow}
-use Rattle.lex_tableau.specs.Rows.{Numbers, numbers_of, row_of, tableau, IsTableau, IsPivotOf, with_variables_exchanged}
+use Rattle.lex_tableau.specs.Rows.{Numbers, HasSolutionsOf, numbers_of, row_of, tableau, IsTableau, IsPivotOf, with_variables_exchanged}
 use Rattle.lex_tableau.specs.Pivots.{HasPivotRow, HasOtherRows}
 use Rattle.whole_rows.specs.PivotedRows.{IsPivotedRow, IsPivotRow}
 use Rattle.whole_rows.proofs.RowValues.{fraction_over}
@@ -184,3 +188,12 @@ copied_pivot m r c e l ss bs ns k xs t hs hb hn hk hr hc ne sh own others he hl 
     same =
         ap₂ (λ x y. numbers_of x y (slice_set ns c l) k xs) hs (ap₂ (λ x y. slice_set x r y) hb entered)
         ∙ ap₂ (λ x y. numbers_of m.starts (slice_set m.basics r (get_or m.nonbasics c 0)) x y xs) (ap₂ (λ x y. slice_set x c y) hn left) hk
+
+-- a pivot keeps the solutions
+pub solutions_kept : (n m : Numbers) (r c : ℕ) → IsTableau n → r < n.rated → c < length n.nonbasics → (tableau n).cell r c ≢ zero_ℚ → IsPivotOf n r c m → HasSolutionsOf n m
+solutions_kept n m r c t hr hc ne p x = pivot_solves (tableau n) (tableau m) x r c (rated_in n r t hr) hc ne p.fractions
+
+-- and on the lexicographic row the keys
+pub keys_kept : (n m : Numbers) (r c : ℕ) → IsTableau n → c < length n.nonbasics → IsPivotOf n r c m → KeepsPositiveKeys n r c m
+keys_kept n m r c t hc p best keys =
+    subst₂ (λ (ss : List ℕ) (k : ℕ). (i : ℕ) → i < k → IsLexPositive (suc k) (key (listed ss) (tableau m) i)) (sym p.starts) (sym p.rated) (keys_stay_alike n.rated (listed n.starts) (tableau n) (tableau m) c r t.rated hc best p.fractions keys)

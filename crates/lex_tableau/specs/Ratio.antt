@@ -1,10 +1,10 @@
 -- The lexicographic row among the first rows, and the order of two rows' quotients.
-use Rattle.std.specs.Prelude.{ℕ, ℤ, ◌+◌, ◌<◌, ◌≡◌, nat_abs, List, length, get_or, Option, MatchOption}
+use Rattle.std.specs.Prelude.{ℕ, ℤ, pos, ◌<ℤ◌, ◌+◌, ◌<◌, ◌≡◌, nat_abs, suc, List, length, get_or, Option, Some, MatchOption}
 use Rattle.std.specs.declared.cmp.Ordering.{Ordering}
 use Rattle.std.specs.declared.cmp.Ordering.TheVariants.{Less, Equal, Greater}
 use Rattle.rational.specs.Rational.{ℚ, frac, ◌*ℚ◌, inv_ℚ, zero_ℚ, ◌≤ℚ◌, ◌<ℚ◌}
 use Rattle.linear_systems.specs.Tableau.{Tableau}
-use Rattle.linear_systems.specs.Lex.{IsLexLess}
+use Rattle.linear_systems.specs.Lex.{IsLexLess, IsLexPositive}
 use Rattle.linear_systems.specs.Rows.{key, HasDistinctVariables, IsLexicographicRow}
 use Rattle.lex_tableau.specs.Rows.{Numbers, tableau, tableau_of, IsReachedFrom}
 use Rattle.whole_rows.specs.Lists.{row_at}
@@ -32,11 +32,22 @@ LexCompares n f g Greater = IsLexLess n g f
 -- the lexicographic row among the first k rows, or none where none of them has a positive entry
 abbrev pub IsBest : ℕ → ℕ → List ℕ → Tableau → ℕ → Option ℕ → Type 0
 IsBest k m starts t c o =
-    MatchOption o ((i : ℕ) → i < k → t.cell i c ≤ℚ zero_ℚ) (λ r. IsLexicographicRow k m (listed starts) t c r)
+    MatchOption o ((i : ℕ) → i < k → t.cell i c ≤ℚ zero_ℚ)
+    (λ r. IsLexicographicRow k m (listed starts) t c r)
 
 -- the lexicographic row of a column of a tableau, or none where no rated row has a positive entry
 abbrev pub IsRatioRow : Numbers → ℕ → Option ℕ → Type 0
 IsRatioRow n col o = IsBest n.rated n.rated n.starts (tableau n) col o
+
+-- the keys of the rated rows are lexicographically positive
+abbrev pub HasPositiveKeys : Numbers → Type 0
+HasPositiveKeys n =
+    (i : ℕ) → i < n.rated → IsLexPositive (suc n.rated) (key (listed n.starts) (tableau n) i)
+
+-- where the row is the column's lexicographic row, keys that are all positive stay so
+abbrev pub KeepsPositiveKeys : Numbers → ℕ → ℕ → Numbers → Type 0
+KeepsPositiveKeys n row col new =
+    IsRatioRow n col (Some row) → HasPositiveKeys n → HasPositiveKeys new
 
 -- The same of the tableau with these starts, variables and numbers
 
@@ -62,6 +73,10 @@ ComparesRows n starts basics nonbasics numbers c i k o =
 abbrev pub IsBestOf : ℕ → ℕ → List ℕ → List ℕ → List ℕ → List ℤ → ℕ → Option ℕ → Type 0
 IsBestOf k rated starts basics nonbasics numbers c o =
     IsBest k rated starts (tableau_of basics nonbasics numbers) c o
+
+-- row i has a positive entry in column c
+abbrev pub IsPositiveIn : List ℕ → List ℤ → ℕ → ℕ → Type 0
+IsPositiveIn nonbasics numbers i c = pos 0 <ℤ row_at (length nonbasics + 2) numbers i (c + 1)
 
 -- pivots on the first rows led to it
 abbrev pub IsReachedBy : ℕ → List ℕ → List ℕ → List ℕ → List ℤ → Type 0

@@ -1,7 +1,7 @@
 -- Tableaux of whole numbers, and the tableaux of fractions that they stand for
-use Rattle.std.specs.Prelude.{ℕ, ℤ, ◌+◌, ◌*◌, ◌<◌, ◌≤◌, ◌≡◌, ◌≢◌, List, length, get_or, slice_set}
+use Rattle.std.specs.Prelude.{ℕ, ℤ, ◌+◌, ◌*◌, ◌<◌, ◌≤◌, ◌≡◌, ◌≢◌, ◌↔◌, List, length, get_or, slice_set}
 use Rattle.rational.specs.Rational.{ℚ, zero_ℚ}
-use Rattle.linear_systems.specs.Tableau.{Tableau, pivot}
+use Rattle.linear_systems.specs.Tableau.{Tableau, Solves, pivot}
 use Rattle.linear_systems.specs.Rows.{Alike}
 use Rattle.linear_systems.specs.Reached.{IsStart, IsReached}
 pub use Rattle.whole_rows.specs.Rows.{from_place, fraction, IsRow}
@@ -90,3 +90,7 @@ pub record IsPivotOf (n : Numbers) (row col : ℕ) (new : Numbers) : Type 0 wher
   pub fractions : Alike (pivot (tableau n) row col) (tableau new)
   pub starts : new.starts ≡ n.starts
   pub rated : new.rated ≡ n.rated
+
+-- the two have the same solutions
+abbrev pub HasSolutionsOf : Numbers → Numbers → Type 0
+HasSolutionsOf n new = (x : ℕ → ℚ) → Solves (tableau n) x ↔ Solves (tableau new) x

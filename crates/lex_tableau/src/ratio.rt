@@ -1,6 +1,6 @@
 // The lexicographic row of a column.
 ghost use Rattle.std.specs.Prelude.{◌≡◌, suc, pos, ◌+◌, ◌*◌, ◌<◌, ◌≤◌, ◌<ℤ◌, ◌≤ℤ◌, true, false, length};
-ghost use Rattle.lex_tableau.specs.Ratio.{ComparesAt, ComparesRows, HasEachOnce, IsBestOf, IsKeyNumber, IsReachedBy};
+ghost use Rattle.lex_tableau.specs.Ratio.{ComparesAt, ComparesRows, HasEachOnce, IsBestOf, IsKeyNumber, IsPositiveIn, IsReachedBy};
 ghost use Rattle.whole_rows.specs.Lists.{AllPartsFit, AreRows, row_at};
 
 use std::cmp::Ordering;
@@ -59,8 +59,8 @@ fn compare_at(
     requires fit { AllPartsFit numbers.now }
     requires are_rows { AreRows (length basics.now) (length nonbasics.now + 2) numbers.now }
     requires distinct { HasEachOnce basics.now nonbasics.now numbers.now }
-    requires positive { pos 0 <ℤ row_at (length nonbasics.now + 2) numbers.now row (column + 1) }
-    requires best_positive { pos 0 <ℤ row_at (length nonbasics.now + 2) numbers.now best (column + 1) }
+    requires positive { IsPositiveIn nonbasics.now numbers.now row column }
+    requires best_positive { IsPositiveIn nonbasics.now numbers.now best column }
     ensures { ComparesAt starts.now basics.now nonbasics.now numbers.now column row best place result }
 {
     let size = nonbasics.len() + 2;
@@ -91,8 +91,8 @@ fn compare_rows(
     requires fit { AllPartsFit numbers.now }
     requires are_rows { AreRows (length basics.now) (length nonbasics.now + 2) numbers.now }
     requires distinct { HasEachOnce basics.now nonbasics.now numbers.now }
-    requires positive { pos 0 <ℤ row_at (length nonbasics.now + 2) numbers.now row (column + 1) }
-    requires best_positive { pos 0 <ℤ row_at (length nonbasics.now + 2) numbers.now best (column + 1) }
+    requires positive { IsPositiveIn nonbasics.now numbers.now row column }
+    requires best_positive { IsPositiveIn nonbasics.now numbers.now best column }
     ensures { ComparesRows (suc rated) starts.now basics.now nonbasics.now numbers.now column row best result }
 {
     for place in 0..rated + 1 {

@@ -4,8 +4,8 @@ ghost use Rattle.rational.specs.Rational.{zero_ℚ};
 ghost use Rattle.frac128.specs.Fraction.{sign_of};
 ghost use Rattle.lex_tableau.specs.PivotStops.{IsPivotStop};
 ghost use Rattle.lex_tableau.specs.Pivots.{HasOtherRows, HasPivotRow, steps_of_pivot};
-ghost use Rattle.lex_tableau.specs.Ratio.{IsRatioRow};
-ghost use Rattle.lex_tableau.specs.Rows.{IsPivotOf, IsTableau, IsValueOf, tableau, with_variables_exchanged};
+ghost use Rattle.lex_tableau.specs.Ratio.{IsRatioRow, KeepsPositiveKeys};
+ghost use Rattle.lex_tableau.specs.Rows.{HasSolutionsOf, IsPivotOf, IsTableau, IsValueOf, tableau, with_variables_exchanged};
 ghost use Rattle.lex_tableau.specs.StartStops.{IsStartStop};
 ghost use Rattle.lex_tableau.specs.Starts.{IsStartOf, StartFits};
 ghost use Rattle.whole_rows.specs.Lists.{AllPartsFit};
@@ -274,6 +274,8 @@ impl Tableau {
         requires pivot_row { HasPivotRow self.now row col numbers.items }
         requires others { HasOtherRows self.now row col numbers.items }
         ensures pivot { IfOk result (IsPivotOf self.now row col) }
+        ensures solutions { IfOk result (HasSolutionsOf self.now) }
+        ensures keys { IfOk result (KeepsPositiveKeys self.now row col) }
         ensures valid { IfOk result IsTableau }
     {
         let starts = copied(alloc, self.starts.as_slice())?;
@@ -308,6 +310,8 @@ impl Tableau {
         requires col_in { col < length self.now.nonbasics }
         requires entry { (tableau self.now).cell row col ≢ zero_ℚ }
         ensures pivot { IfOk result (IsPivotOf self.now row col) }
+        ensures solutions { IfOk result (HasSolutionsOf self.now) }
+        ensures keys { IfOk result (KeepsPositiveKeys self.now row col) }
         ensures valid { IfOk result IsTableau }
         ensures fits { OnOk result (AllFit (steps_of_pivot self.now row col)) }
         ensures unfit { IfErr result (IsPivotStop self.now row col) }
@@ -377,6 +381,8 @@ impl Tableau {
         requires others { HasOtherRows self.old row col spare.old.items }
         ensures new { self.new ≡ with_variables_exchanged self.old row col spare.old.items }
         ensures pivot { IsPivotOf self.old row col self.new }
+        ensures solutions { HasSolutionsOf self.old self.new }
+        ensures keys { KeepsPositiveKeys self.old row col self.new }
         ensures valid { IsTableau self.new }
         ensures spare { spare.new.items ≡ self.old.numbers }
     {

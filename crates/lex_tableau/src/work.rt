@@ -2,7 +2,8 @@
 ghost use Rattle.std.specs.Prelude.{◌≡◌, ◌≢◌, ◌+◌, ◌<◌, length, IfOk, IfErr, OnOk, OnErr};
 ghost use Rattle.rational.specs.Rational.{zero_ℚ};
 ghost use Rattle.lex_tableau.specs.Pivots.{steps_of_pivot};
-ghost use Rattle.lex_tableau.specs.Rows.{IsPivotOf, IsTableau, tableau};
+ghost use Rattle.lex_tableau.specs.Ratio.{KeepsPositiveKeys};
+ghost use Rattle.lex_tableau.specs.Rows.{HasSolutionsOf, IsPivotOf, IsTableau, tableau};
 ghost use Rattle.lex_tableau.specs.StartStops.{IsStartStop};
 ghost use Rattle.lex_tableau.specs.Starts.{IsStartOf, StartFits};
 ghost use Rattle.whole_rows.specs.Steps.{AllFit, IsFirstUnfit};
@@ -74,6 +75,8 @@ impl Work {
         requires col_in { col < length self.old.nonbasics }
         requires entry { (tableau self.old).cell row col ≢ zero_ℚ }
         ensures pivot { OnOk result (IsPivotOf self.old row col self.new) }
+        ensures solutions { OnOk result (HasSolutionsOf self.old self.new) }
+        ensures keys { OnOk result (KeepsPositiveKeys self.old row col self.new) }
         ensures valid { IsTableau self.new }
         ensures fits { OnOk result (AllFit (steps_of_pivot self.old row col)) }
         ensures unfit { IfErr result (IsFirstUnfit (steps_of_pivot self.old row col)) }

@@ -3,7 +3,7 @@ use Rattle.rational.specs.Rational.{zero_ℚ}
 use Rattle.whole_rows.specs.Rows.{from_place}
 use Rattle.lex_tableau.specs.Rows.{Numbers, row_of, tableau, IsTableau, IsPivotOf}
 use Rattle.whole_rows.specs.PivotedRows.{IsPivotedRow, IsPivotRow}
-use Rattle.lex_tableau.proofs.TableauPivot.{pivot_is_tableau, is_pivot, exchanged_read, rated_in}
+use Rattle.lex_tableau.proofs.TableauPivot.{solutions_kept, keys_kept, pivot_is_tableau, is_pivot, exchanged_read, rated_in}
 use Rattle.lex_tableau.proofs.tableau.Tableau.take_numbers.Goals as goal
 
 pub invariant_of-self : goal.invariant_of-self
@@ -17,3 +17,10 @@ returns-clause-pivot c =
 
 pub returns-clause-valid : goal.returns-clause-valid
 returns-clause-valid c = invariant_of-self c
+
+pub returns-clause-solutions : goal.returns-clause-solutions
+returns-clause-solutions c =
+    solutions_kept c.args.self.now _ c.args.row c.args.col (subst IsTableau c.self.view_is c.self.invariant) c.requires.row_in c.requires.col_in c.requires.entry (returns-clause-pivot c)
+
+pub returns-clause-keys : goal.returns-clause-keys
+returns-clause-keys c = keys_kept c.args.self.now _ c.args.row c.args.col (subst IsTableau c.self.view_is c.self.invariant) c.requires.col_in (returns-clause-pivot c)

@@ -1,6 +1,6 @@
 use Rattle.std.proofs.Common.{◌∙◌, ap, subst}
 use Rattle.lex_tableau.specs.Rows.{Numbers, IsTableau}
-use Rattle.lex_tableau.proofs.TableauPivot.{copied_pivot}
+use Rattle.lex_tableau.proofs.TableauPivot.{solutions_kept, keys_kept, copied_pivot}
 use Rattle.lex_tableau.proofs.tableau.Tableau.with_numbers.Goals as goal
 
 pub invariant_of-result : goal.invariant_of-result
@@ -13,3 +13,10 @@ returns-clause-pivot c =
 
 pub returns-clause-valid : goal.returns-clause-valid
 returns-clause-valid c = invariant_of-result c
+
+pub returns-clause-solutions : goal.returns-clause-solutions
+returns-clause-solutions c =
+    solutions_kept c.args.self.now _ c.args.row c.args.col (subst IsTableau c.self.view_is c.self.invariant) c.requires.row_in c.requires.col_in c.requires.entry (returns-clause-pivot c)
+
+pub returns-clause-keys : goal.returns-clause-keys
+returns-clause-keys c = keys_kept c.args.self.now _ c.args.row c.args.col (subst IsTableau c.self.view_is c.self.invariant) c.requires.col_in (returns-clause-pivot c)
