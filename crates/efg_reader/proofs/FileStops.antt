@@ -26,6 +26,7 @@ use Rattle.efg_reader.specs.States.{RefusesNodes}
 use Rattle.efg_reader.specs.Stops.{IsStop, IsStopOf, IsNodesStopOf}
 use Rattle.tree_files.specs.TreeFile.{IsTreeFile, PassesLimit}
 use Rattle.tree_files.specs.TreeReading.{Head, front_at, whole_nodes_at}
+use Rattle.written_trees.proofs.BegunTrees.{whole_is_tree}
 use Rattle.tree_files.proofs.FileLaws.{read_is_file, met_is_passed, no_front_is_nothing, no_nodes_are_nothing}
 
 -- ---- the tokens
@@ -80,7 +81,7 @@ nodes_stop tokens x source_length (Passed passed) stop short few e h s = passed_
 -- ---- the tree
 -- what is read is a tree
 pub read_tree : (tokens : List Token) (x : Head × List Token) (begun : Begun) → length x.0.1 < 2 ^ 32 → front_at tokens ≡ Some x → whole_nodes_at (length x.0.1) x.1 ≡ Ok begun → IsTree (tree_begun x.0.0 x.0.1 begun)
-read_tree tokens x begun few e f = (read_is_file tokens x begun few e f).describe.begun
+read_tree tokens x begun few e f = whole_is_tree _ (read_is_file tokens x begun few e f).describe.begun
 
 -- so they are few
 pub few_of : (list : List Spanned) (x : Head × List Token) → length list < 2 ^ 32 → front_at (map (λ s. s.token) list) ≡ Some x → length x.0.1 < 2 ^ 32

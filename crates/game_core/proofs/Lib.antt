@@ -1,3 +1,4 @@
+pub mod FirstUse
 mod Numbers
 mod PlayersSets
 mod PrefixOrder

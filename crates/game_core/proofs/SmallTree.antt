@@ -1,5 +1,5 @@
 -- The tree of a test: chance draws one of two nodes that the second player can't tell apart.
-use Rattle.std.proofs.Common.{◌≡◌, ◌<◌, ◌∙◌, sym, subst, refl, ℕ, zero, suc, Option, Some, None, List, [], ◌∷◌, All, length, slice_get, arith}
+use Rattle.std.proofs.Common.{◌≡◌, ◌<◌, ◌∙◌, sym, subst, refl, inl, inr, ℕ, zero, suc, Option, Some, None, List, [], ◌∷◌, All, length, map, slice_get, arith}
 use Rattle.std.proofs.lemmas.List.Elements.{All-nil, All-cons, All-from_recursion}
 use Rattle.std.proofs.lemmas.Option.{none-some, same_Some}
 use Rattle.rational.specs.Gcd.{gcd}
@@ -10,6 +10,7 @@ use Rattle.game_core.specs.declared.tree.Kind.{Kind}
 use Rattle.game_core.specs.declared.tree.Kind.TheVariants.{Chance, Move, End}
 use Rattle.game_core.specs.declared.tree.Node.{Node}
 use Rattle.game_core.specs.Tree.{GameTree, IsTree, InformationSet, TreeOutcome, AreChances, AreInPrefixOrder, NodeFits, SetFits, kind_at}
+use Rattle.game_core.proofs.FirstUse.{AreNumberedFrom, in_order}
 use Rattle.game_core.proofs.TreeLaws.{few_edges}
 
 -- a node
@@ -28,6 +29,13 @@ small_nodes =
     ∷ node End (Some 5) 0 None (Some 1)
     ∷ node End (Some 5) 1 None (Some 0)
     ∷ []
+
+-- the sets, and the outcomes, are numbered by their first use
+sets_numbered : AreNumberedFrom 0 (map (λ node. node.set) small_nodes)
+sets_numbered = inr (refl, inr (refl, inr (refl, inl (omega arith, tt))))
+
+outcomes_numbered : AreNumberedFrom 0 (map (λ node. node.outcome) small_nodes)
+outcomes_numbered = inr (refl, inr (refl, inl (omega arith, inl (omega arith, tt))))
 
 -- a half is not negative
 half_positive : zero_ℚ ≤ℚ half
@@ -113,8 +121,8 @@ module _ (title : List ℕ) (players : List (List ℕ)) (draw blind last won los
   sets_fit two hx hy hz hw hv (suc (suc (suc s))) set is = absurd (none-some set is)
 
   -- the nodes stand in prefix order
-  in_order : AreInPrefixOrder small_sets 0 small_nodes ((None, 0) ∷ []) []
-  in_order = (refl, (refl, (refl, (refl, (refl, (refl, (refl, (refl, refl))))))))
+  in_prefix_order : AreInPrefixOrder small_sets 0 small_nodes ((None, 0) ∷ []) []
+  in_prefix_order = (refl, (refl, (refl, (refl, (refl, (refl, (refl, (refl, refl))))))))
 
   -- an outcome pays each player
   abbrev Pays : TreeOutcome → Type 0
@@ -123,12 +131,14 @@ module _ (title : List ℕ) (players : List (List ℕ)) (draw blind last won los
   -- the tree is one
   pub small_is_tree : length players ≡ 2 → x.prob ≡ half → y.prob ≡ half → z.prob ≡ zero_ℚ → w.prob ≡ zero_ℚ → v.prob ≡ zero_ℚ → length gains ≡ 2 → length losses ≡ 2 → IsTree small
   small_is_tree two hx hy hz hw hv gain loss = record {
-    in_prefix_order = in_order;
+    in_prefix_order = in_prefix_order;
     nodes_fit = nodes_fit;
     sets_fit = sets_fit two hx hy hz hw hv;
     outcomes_fit = All-from_recursion Pays small.outcomes (gain ∙ sym two, (loss ∙ sym two, tt));
+    sets_in_order = in_order (map (λ node. node.set) small_nodes) sets_numbered;
+    outcomes_in_order = in_order (map (λ node. node.outcome) small_nodes) outcomes_numbered;
     few_nodes = omega arith;
     few_sets = omega arith;
-    few_edges = few_edges small_sets small_nodes in_order (omega arith);
+    few_edges = few_edges small_sets small_nodes in_prefix_order (omega arith);
     few_players = omega arith;
   }

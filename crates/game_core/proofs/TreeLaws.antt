@@ -2,9 +2,10 @@
 use Rattle.std.proofs.Common.{◌≡◌, ◌<◌, ◌≤◌, ◌∙◌, sym, ap, subst, refl, ℕ, zero, suc, Option, Some, None, List, [], ◌∷◌, All, length, map, get_or, slice_get, arith}
 use Rattle.std.proofs.lemmas.List.{length-map}
 use Rattle.std.proofs.lemmas.List.Elements.{All-get_or, All-map}
-use Rattle.std.proofs.lemmas.Option.{none-some, slice_get_within, same_Some}
+use Rattle.std.proofs.lemmas.Option.{none-some, slice_get_within, slice_get-get_or, get_or_from_slice_get, same_Some}
 use Rattle.rational.specs.Rational.{◌≤ℚ◌, zero_ℚ, one_ℚ}
 use Rattle.rational.specs.Sum.{sum_to}
+use Rattle.game_trees.specs.FirstNodes.{AreNumberedByFirstNodes}
 use Rattle.game_trees.specs.Trees.{IsTree as is_game_tree, IsChild, IsLottery}
 use Rattle.game_core.specs.declared.tree.Action.{Action}
 use Rattle.game_core.specs.declared.tree.Node.{Node}
@@ -97,3 +98,11 @@ game_tree t valid =
       one_child = λ k a c d first second. same_node t.sets t.nodes order c d first.1 second.1 (child_place t valid k a c first ∙ sym (child_place t valid k a d second));
       lotteries = lottery t valid;
     }
+
+-- and its sets are numbered by their first nodes
+pub numbered_by_first_nodes : (t : GameTree) → IsTree t → AreNumberedByFirstNodes (game_of_tree t)
+numbered_by_first_nodes t valid k s r inside is below =
+    let names = map (λ node. node.set) t.nodes in
+    let here = slice_get-get_or names k None (rw length-map inside) ∙ ap Some is in
+    let earlier = valid.sets_in_order k s r here below in
+    (earlier.0, earlier.1, get_or_from_slice_get names earlier.0 (Some r) None earlier.2)

@@ -116,20 +116,24 @@ pub record SetFits (t : GameTree) (s : ℕ) (set : InformationSet) : Type 0 wher
   pub members_are : set.members ≡ members_from 0 s t.nodes
   pub some_member : 0 < length set.members
 
--- A game tree within the limits, as far as it goes: its nodes leave these places free.
-pub record IsBegunTree (t : GameTree) (free : List Place) : Type 0 where
-  pub in_prefix_order : AreInPrefixOrder t.sets 0 t.nodes ((None, 0) ∷ []) free
+-- Indices that nodes name in turn are numbered by first use: before a node that names one comes, for each smaller one, a node
+-- that names it.
+abbrev pub AreInOrderOfFirstUse : List (Option ℕ) → Type 0
+AreInOrderOfFirstUse names = (k s r : ℕ) → slice_get names k ≡ Some (Some s) → r < s → (l : ℕ) × (l < k) × (slice_get names l ≡ Some (Some r))
+
+-- A game tree within the limits: its nodes stand in prefix order and leave no place free, and its sets and outcomes in the order in
+-- which the nodes first name them.
+pub record IsTree (t : GameTree) : Type 0 where
+  pub in_prefix_order : AreInPrefixOrder t.sets 0 t.nodes ((None, 0) ∷ []) []
   pub nodes_fit : All (NodeFits t) t.nodes
   pub sets_fit : (s : ℕ) (set : InformationSet) → slice_get t.sets s ≡ Some set → SetFits t s set
   pub outcomes_fit : All (λ outcome. length outcome.payoffs ≡ length t.players) t.outcomes
+  pub sets_in_order : AreInOrderOfFirstUse (map (λ node. node.set) t.nodes)
+  pub outcomes_in_order : AreInOrderOfFirstUse (map (λ node. node.outcome) t.nodes)
   pub few_nodes : length t.nodes ≤ most_nodes
   pub few_sets : length t.sets ≤ length t.nodes
   pub few_edges : (d k : ℕ) → LiesBelowRoot t.nodes d k → d ≤ most_depth
   pub few_players : length t.players < 2 ^ 32
-
--- a game tree within the limits: no place is left free
-abbrev pub IsTree : GameTree → Type 0
-IsTree t = IsBegunTree t []
 
 -- the numbers of player i's own sets in order, where the sets are numbered from s on
 abbrev pub own_from : ℕ → ℕ → List InformationSet → List ℕ

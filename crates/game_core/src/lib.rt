@@ -11,4 +11,6 @@ pub use game::Game;
 pub use name::Name;
 pub use table::Table;
 pub use too_large::{TooLarge, What};
-pub use tree::{Action, InfoSet, Kind, Node, Outcome, Tree, trees_are_game_trees};
+pub use tree::{
+    Action, InfoSet, Kind, Node, Outcome, Tree, sets_are_numbered_by_first_nodes, trees_are_game_trees,
+};

@@ -1,5 +1,6 @@
 // Games as trees.
 ghost use Rattle.std.specs.Prelude.{◌≡◌, ◌<◌, ◌^◌, [], All, length, map, slice_get, IfOk};
+ghost use Rattle.game_trees.specs.FirstNodes.{AreNumberedByFirstNodes};
 ghost use Rattle.game_trees.specs.Trees.{IsTree as is_game_tree};
 ghost use Rattle.game_core.specs.OwnSets.{AreOwnLists};
 ghost use Rattle.game_core.specs.Tree.{IsTree, IsWithin, GameTree, own_sets};
@@ -312,6 +313,11 @@ impl Tree {
 /// What a tree stands for is a game tree.
 pub fn trees_are_game_trees()
     ensures { (t : GameTree) → IsTree t → is_game_tree (game_of_tree t) }
+{}
+
+/// Its sets are numbered by their first nodes.
+pub fn sets_are_numbered_by_first_nodes()
+    ensures { (t : GameTree) → IsTree t → AreNumberedByFirstNodes (game_of_tree t) }
 {}
 
 #[cfg(test)]

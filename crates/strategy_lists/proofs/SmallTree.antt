@@ -1,5 +1,5 @@
 -- The tree of a test: the first player ends the game, or lets the second player choose, and then chooses once more.
-use Rattle.std.proofs.Common.{◌≡◌, ◌<◌, ◌≤◌, ◌∙◌, ap, subst, refl, ℕ, zero, suc, Option, Some, None, List, [], ◌∷◌, All, length, slice_get, arith}
+use Rattle.std.proofs.Common.{◌≡◌, ◌<◌, ◌≤◌, ◌∙◌, ap, subst, refl, inr, ℕ, zero, suc, Option, Some, None, List, [], ◌∷◌, All, length, map, slice_get, arith}
 use Rattle.std.proofs.lemmas.List.Elements.{All-nil, All-cons, All-from_recursion}
 use Rattle.std.proofs.lemmas.Option.{none-some, same_Some, slice_get_within}
 use Rattle.rational.specs.Rational.{zero_ℚ}
@@ -8,6 +8,7 @@ use Rattle.game_core.specs.declared.tree.Kind.{Kind}
 use Rattle.game_core.specs.declared.tree.Kind.TheVariants.{Move, End}
 use Rattle.game_core.specs.declared.tree.Node.{Node}
 use Rattle.game_core.specs.Tree.{GameTree, IsTree, InformationSet, AreInPrefixOrder, LiesBelowRoot, NodeFits, SetFits, kind_at}
+use Rattle.game_core.proofs.FirstUse.{AreNumberedFrom, in_order}
 
 -- a node without an outcome
 abbrev node : Kind → Option ℕ → ℕ → Option ℕ → Node
@@ -23,6 +24,10 @@ small_nodes =
     ∷ node End (Some 3) 0 None
     ∷ node End (Some 3) 1 None
     ∷ []
+
+-- the sets are numbered by their first use
+sets_numbered : AreNumberedFrom 0 (map (λ node. node.set) small_nodes)
+sets_numbered = inr (refl, inr (refl, inr (refl, tt)))
 
 -- an action without a probability
 abbrev IsPlain : Action → Type 0
@@ -98,16 +103,18 @@ module _ (title : List ℕ) (players : List (List ℕ)) (opening answer closing 
   sets_fit two hx hy hz hw hv (suc (suc (suc s))) set is = absurd (none-some set is)
 
   -- the nodes stand in prefix order
-  in_order : AreInPrefixOrder small_sets 0 small_nodes ((None, 0) ∷ []) []
-  in_order = (refl, (refl, (refl, (refl, (refl, (refl, refl))))))
+  in_prefix_order : AreInPrefixOrder small_sets 0 small_nodes ((None, 0) ∷ []) []
+  in_prefix_order = (refl, (refl, (refl, (refl, (refl, (refl, refl))))))
 
   -- the tree is one
   pub small_is_tree : length players ≡ 2 → IsPlain x → IsPlain y → IsPlain z → IsPlain w → IsPlain v → IsTree small
   small_is_tree two hx hy hz hw hv = record {
-    in_prefix_order = in_order;
+    in_prefix_order = in_prefix_order;
     nodes_fit = nodes_fit;
     sets_fit = sets_fit two hx hy hz hw hv;
     outcomes_fit = All-nil _;
+    sets_in_order = in_order (map (λ node. node.set) small_nodes) sets_numbered;
+    outcomes_in_order = in_order (map (λ node. node.outcome) small_nodes) tt;
     few_nodes = omega arith;
     few_sets = omega arith;
     few_edges = λ d k h. let depth = depth-within d k h in omega arith;

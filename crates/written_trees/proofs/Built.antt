@@ -5,10 +5,10 @@ use Rattle.std.proofs.lemmas.List.Elements.{All-nil, All-head, All-push, All-set
 use Rattle.std.proofs.lemmas.Option.{slice_get-map, slice_get_within, get_or_from_slice_get}
 use Rattle.game_core.specs.declared.tree.Action.{Action}
 use Rattle.game_core.specs.declared.tree.Node.{Node}
-use Rattle.game_core.specs.Tree.{GameTree, InformationSet, IsWithin, ProbabilitiesFit, NodeFits, SetFits, IsBegunTree}
+use Rattle.game_core.specs.Tree.{GameTree, InformationSet, IsWithin, ProbabilitiesFit, NodeFits, SetFits}
 use Rattle.file_parts.proofs.Options.{bind_some, chosen, some_same}
 use Rattle.written_trees.specs.Written.{SetUse, OutcomeUse, WrittenNode}
-use Rattle.written_trees.specs.Described.{SetKey, key_of, same_set, set_uses, outcome_uses, sets_of, outcomes_of, uses_of_set, uses_of_outcome, described_set, described_outcome, IsFirstList, AgreeOnActions}
+use Rattle.written_trees.specs.Described.{SetKey, key_of, same_set, set_uses, outcome_uses, sets_of, outcomes_of, uses_of_set, uses_of_outcome, described_set, described_outcome, IsBegunTree, IsFirstList, AgreeOnActions}
 use Rattle.written_trees.specs.Building.{BegunSet, BegunOutcome, outcome_place, repeats_payoffs, new_outcome, used_outcome, with_outcome_use, use_outcome, use_some_outcome, free_places, Begun, nothing_begun, add_nodes, finished_set, finished_outcome, tree_begun}
 use Rattle.written_trees.specs.Laws.{HasNoProbability, IsActionList, IsSetUse, IsOutcomeUse, IsWrittenNode, BuiltIsDescribed}
 use Rattle.written_trees.proofs.UseSteps.{begun_set, sets_begun, AllAgree, begun_outcome, outcomes_begun, PayoffsAgree}
@@ -20,6 +20,7 @@ use Rattle.written_trees.proofs.SetUses.{same_set-Decides}
 use Rattle.written_trees.proofs.Standing.{StandsIn, Stand, stand_length, stand-push, stand_longer, stand_all, IsUsedIn, all_used, set_within, outcome_within, kind_there}
 use Rattle.written_trees.proofs.Steps.{new_node, Step, grown, built_so}
 use Rattle.written_trees.proofs.Sound.{IsSound, sound}
+use Rattle.written_trees.proofs.UseOrder.{sets-in_order, outcomes-in_order}
 
 -- ---- what is begun beside the uses
 -- the sets and the outcomes are those that the nodes use, whose uses agree, and the nodes stand for the written ones
@@ -190,6 +191,8 @@ module _ (title : List ℕ) (players : List (List ℕ)) (written : List WrittenN
     nodes_fit = nodes_fit;
     sets_fit = sets_fit;
     outcomes_fit = All-map (λ outcome. length outcome.payoffs ≡ length players) finished_outcome begun.outcomes (all_pay (length players) written begun built are);
+    sets_in_order = sets-in_order written begun.nodes from.nodes_stand;
+    outcomes_in_order = outcomes-in_order written begun.nodes from.nodes_stand;
     few_nodes = kept.few_nodes;
     few_sets = rw (length-map begun.sets finished_set) kept.few_sets;
     few_edges = λ d k lies. few_edges_of begun.nodes d k kept.lie lies;

@@ -1,3 +1,4 @@
+pub mod BegunTrees
 pub mod Built
 pub mod Chances
 pub mod Depths
@@ -16,5 +17,6 @@ pub mod SetUses
 pub mod Sound
 pub mod Standing
 pub mod Steps
+pub mod UseOrder
 pub mod UseSteps
 pub mod Uses

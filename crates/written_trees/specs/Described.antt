@@ -1,5 +1,5 @@
 -- The game tree that written nodes describe. Source: Gambit's description of its `.efg` format, version 2.
-use Rattle.std.specs.Prelude.{ℕ, suc, ◌<◌, ◌≡◌, ◌&&◌, nat_eq, Bool, true, false, List, [], ◌∷◌, length, map, filter, All, IfSome, option_map, Option, Some, None}
+use Rattle.std.specs.Prelude.{ℕ, suc, ◌<◌, ◌≤◌, ◌^◌, ◌≡◌, ◌&&◌, nat_eq, Bool, true, false, List, [], ◌∷◌, length, map, slice_get, filter, All, IfSome, option_map, Option, Some, None}
 use Rattle.std.specs.List.{position_or_len}
 use Rattle.indexmap.specs.IndexSet.{insert_all}
 use Rattle.rational.specs.Rational.{ℚ, ◌≤ℚ◌, zero_ℚ, one_ℚ}
@@ -9,7 +9,7 @@ use Rattle.game_core.specs.declared.tree.Action.{Action}
 use Rattle.game_core.specs.declared.tree.Kind.{Kind}
 use Rattle.game_core.specs.declared.tree.Kind.TheVariants.{End}
 use Rattle.game_core.specs.declared.tree.Node.{Node}
-use Rattle.game_core.specs.Tree.{GameTree, InformationSet, TreeOutcome, Place, IsBegunTree, LiesBelowRoot, kind_of_owner, probability_at}
+use Rattle.game_core.specs.Tree.{GameTree, InformationSet, TreeOutcome, Place, AreInPrefixOrder, NodeFits, SetFits, AreInOrderOfFirstUse, LiesBelowRoot, most_nodes, most_depth, kind_of_owner, probability_at}
 use Rattle.written_trees.specs.Written.{SetUse, OutcomeUse, WrittenNode}
 
 -- ---- uses
@@ -143,6 +143,19 @@ abbrev pub StandForEach : List SetKey → List ℕ → List Node → List Writte
 StandForEach keys labels [] [] = Unit {0}
 StandForEach keys labels (node ∷ nodes) (one ∷ written) = StandsFor keys labels node one × StandForEach keys labels nodes written
 StandForEach keys labels _ _ = ⊥
+
+-- A game tree within the limits, as far as it goes: its nodes leave these places free. Where none is left, it is a tree.
+pub record IsBegunTree (t : GameTree) (free : List Place) : Type 0 where
+  pub in_prefix_order : AreInPrefixOrder t.sets 0 t.nodes ((None, 0) ∷ []) free
+  pub nodes_fit : All (NodeFits t) t.nodes
+  pub sets_fit : (s : ℕ) (set : InformationSet) → slice_get t.sets s ≡ Some set → SetFits t s set
+  pub outcomes_fit : All (λ outcome. length outcome.payoffs ≡ length t.players) t.outcomes
+  pub sets_in_order : AreInOrderOfFirstUse (map (λ node. node.set) t.nodes)
+  pub outcomes_in_order : AreInOrderOfFirstUse (map (λ node. node.outcome) t.nodes)
+  pub few_nodes : length t.nodes ≤ most_nodes
+  pub few_sets : length t.sets ≤ length t.nodes
+  pub few_edges : (d k : ℕ) → LiesBelowRoot t.nodes d k → d ≤ most_depth
+  pub few_players : length t.players < 2 ^ 32
 
 -- Written nodes describe a tree, as far as it goes: its nodes hang in prefix order and leave these places free, and its sets and
 -- outcomes are those that the nodes use.

@@ -1,12 +1,12 @@
 -- That written nodes describe one tree, and that building gives it.
-use Rattle.std.specs.Prelude.{ℕ, suc, ◌<◌, ◌^◌, ◌≡◌, List, length, All, IfSome, Option, Some, None}
+use Rattle.std.specs.Prelude.{ℕ, suc, ◌<◌, ◌^◌, ◌≡◌, ◌↔◌, List, [], length, All, IfSome, Option, Some, None}
 use Rattle.rational.specs.Rational.{zero_ℚ}
 use Rattle.game_core.specs.declared.tree.Action.{Action}
 use Rattle.game_core.specs.declared.too_large.What.{What}
 use Rattle.game_core.specs.declared.too_large.What.TheVariants.{Nodes, Depth}
-use Rattle.game_core.specs.Tree.{GameTree, Place, most_nodes, most_depth}
+use Rattle.game_core.specs.Tree.{GameTree, Place, IsTree, most_nodes, most_depth}
 use Rattle.written_trees.specs.Written.{SetUse, OutcomeUse, WrittenNode}
-use Rattle.written_trees.specs.Described.{Describe, LiesAt}
+use Rattle.written_trees.specs.Described.{Describe, IsBegunTree, LiesAt}
 use Rattle.written_trees.specs.Building.{Begun, nothing_begun, add_nodes, passed, tree_begun, free_places}
 
 -- a list of actions has at least one, and a player's have no probabilities
@@ -31,6 +31,10 @@ IsOutcomeUse players used = IfSome used.payoffs (λ payoffs. length payoffs ≡ 
 pub record IsWrittenNode (players : ℕ) (node : WrittenNode) : Type 0 where
   pub set_is : IfSome node.set (IsSetUse players)
   pub outcome_is : IfSome node.outcome (IsOutcomeUse players)
+
+-- a begun tree that leaves no place free is a tree, and each tree is one
+abbrev pub WholeTreesAreTrees : Type 0
+WholeTreesAreTrees = (t : GameTree) → IsBegunTree t [] ↔ IsTree t
 
 -- what is built is described
 abbrev pub BuiltIsDescribed : Type 0

@@ -7,7 +7,12 @@
 //! The functions below do nothing: the contract of each is a law, so that a check proves it.
 #![tactic(auto)]
 
-ghost use Rattle.written_trees.specs.Laws.{BuiltIsDescribed, DescribedIsBuilt, LimitsAreExact};
+ghost use Rattle.written_trees.specs.Laws.{WholeTreesAreTrees, BuiltIsDescribed, DescribedIsBuilt, LimitsAreExact};
+
+/// A begun tree that leaves no place free is a tree, and each tree is one.
+pub fn whole_trees_are_trees()
+    ensures { WholeTreesAreTrees }
+{}
 
 /// What is built from written nodes is the tree that they describe.
 pub fn built_is_described()
