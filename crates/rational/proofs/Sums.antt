@@ -22,6 +22,12 @@ sum_to-add zero f g = ring rational_ring [] (num 0) (num 0 :+ num 0) refl
 sum_to-add (suc n) f g =
     ap (λ x. x +ℚ (f n +ℚ g n)) (sum_to-add n f g) ∙ ring rational_ring (sum_to n f ∷ sum_to n g ∷ f n ∷ g n ∷ []) (A :+ B :+ (C :+ D)) (A :+ C :+ (B :+ D)) refl
 
+-- the first term of a sum
+pub sum_to-first : (n : ℕ) (f : ℕ → ℚ) → sum_to (suc n) f ≡ f 0 +ℚ sum_to n (λ j. f (suc j))
+sum_to-first zero f = ring rational_ring (f 0 ∷ []) (num 0 :+ A) (A :+ num 0) refl
+sum_to-first (suc n) f =
+    ap (λ x. x +ℚ f (suc n)) (sum_to-first n f) ∙ ring rational_ring (f 0 ∷ sum_to n (λ j. f (suc j)) ∷ f (suc n) ∷ []) (A :+ B :+ C) (A :+ (B :+ C)) refl
+
 -- a factor comes out of a sum
 pub sum_to-scale : (n : ℕ) (c : ℚ) (f : ℕ → ℚ) → sum_to n (λ i. c *ℚ f i) ≡ c *ℚ sum_to n f
 sum_to-scale zero c f = ring rational_ring (c ∷ []) (num 0) (A :* num 0) refl

@@ -32,7 +32,7 @@ AscendFrom-earlier m n [] h o = tt
 AscendFrom-earlier m n (set ∷ sets) h o = (omega (arith, o.0), o.1)
 
 -- no set is below the first number
-IsAmong-from : (n : ℕ) (sets : List ℕ) (s : ℕ) → AscendFrom n sets → IsAmong sets s → n ≤ s
+pub IsAmong-from : (n : ℕ) (sets : List ℕ) (s : ℕ) → AscendFrom n sets → IsAmong sets s → n ≤ s
 IsAmong-from n [] s o h = absurd h
 IsAmong-from n (set ∷ sets) s o (inl e) = omega (arith, o.0)
 IsAmong-from n (set ∷ sets) s o (inr h) = omega (arith, o.0, IsAmong-from (suc set) sets s o.1 h)

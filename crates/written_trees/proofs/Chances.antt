@@ -12,7 +12,7 @@ use Rattle.rational.proofs.Field.{le-add_left}
 use Rattle.rational.proofs.Fractions.{equal_by_parts}
 use Rattle.rational.proofs.RationalRing.{+ℚ_assoc, +ℚ-zero}
 use Rattle.rational.proofs.Rules.{zero-+ℚ}
-use Rattle.rational.proofs.Sums.{sum_to-nonneg}
+use Rattle.rational.proofs.Sums.{sum_to-first, sum_to-nonneg}
 use Rattle.frac128.specs.Fraction.{eq_ℚ}
 use Rattle.frac128.specs.Steps.{AddFits}
 use Rattle.game_core.specs.declared.tree.Action.{Action}
@@ -45,11 +45,6 @@ record EndWithOne (sum : ℚ) (actions : List Action) : Type 0 where
   not_negative : All IsNotNegative actions
   additions_fit : (a : ℕ) → a < length actions → AddFits (sum +ℚ sum_to a (probability_at actions)) (probability_at actions a)
   sum_is_one : sum +ℚ sum_to (length actions) (probability_at actions) ≡ one_ℚ
-
--- a sum from its first term on
-sum_to-first : (n : ℕ) (f : ℕ → ℚ) → sum_to (suc n) f ≡ f 0 +ℚ sum_to n (λ i. f (suc i))
-sum_to-first zero f = zero-+ℚ (f 0) ∙ sym (+ℚ-zero (f 0))
-sum_to-first (suc n) f = ap (λ x. x +ℚ f (suc n)) (sum_to-first n f) ∙ +ℚ_assoc (f 0) (sum_to n (λ i. f (suc i))) (f (suc n))
 
 -- a first probability goes to the sum of those before it
 sum_onward : (sum : ℚ) (n : ℕ) (f : ℕ → ℚ) → sum +ℚ sum_to (suc n) f ≡ (sum +ℚ f 0) +ℚ sum_to n (λ i. f (suc i))

@@ -1,0 +1,5 @@
+mod Answers
+mod LastSteps
+mod Members
+mod PrefixOrder
+mod Histories

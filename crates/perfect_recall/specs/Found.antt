@@ -1,0 +1,72 @@
+-- What is found of perfect recall in a tree.
+use Rattle.std.specs.Prelude.{ℕ, ◌<◌, ◌≡◌, ◌≢◌, List, map, slice_get, Option, Some, None, Result, Ok, Err}
+use Rattle.std.specs.List.{range_with_len}
+use Rattle.game_trees.specs.Trees.{Tree}
+use Rattle.game_trees.specs.Recall.{own_history, HasPerfectRecall}
+use Rattle.sequence_forms.specs.Sequences.{last_step, history_before}
+use Rattle.game_core.specs.Tree.{GameTree, InformationSet}
+use Rattle.game_core.specs.TreeGame.{game_of_tree}
+use Rattle.perfect_recall.specs.declared.recall.Forgets.{Forgets}
+use Rattle.perfect_recall.specs.declared.recall.RecallStop.{RecallStop}
+use Rattle.perfect_recall.specs.declared.recall.RecallStop.TheVariants as stops
+
+-- ---- a tree in which the players recall
+-- the last own set and action before set s, by its owner; none at a set of chance
+abbrev pub step_before : Tree → ℕ → Option ℕ → Option (ℕ × ℕ)
+step_before t s None = None
+step_before t s (Some i) = last_step (history_before t i s)
+
+-- each player has perfect recall, and these are the steps before the sets
+pub record IsRecallOf (t : Tree) (before : List (Option (ℕ × ℕ))) : Type 0 where
+  pub all_recall : (i : ℕ) → i < t.players → HasPerfectRecall t i
+  pub before_is : before ≡ map (λ s. step_before t s (t.owner s)) (range_with_len 0 t.sets)
+
+-- ---- a player who forgets
+-- the nodes of set s have the same own history for player i
+abbrev pub IsAlike : Tree → ℕ → ℕ → Type 0
+IsAlike t i s = (k l : ℕ) → k < t.size → l < t.size → t.set k ≡ Some s → t.set l ≡ Some s → own_history t i k ≡ own_history t i l
+
+-- player i's own sets before set s are so
+abbrev pub EarlierAreAlike : Tree → ℕ → ℕ → Type 0
+EarlierAreAlike t i s = (r : ℕ) → r < s → t.owner r ≡ Some i → IsAlike t i r
+
+-- node k is the first of set s
+pub record IsFirstNode (t : Tree) (s k : ℕ) : Type 0 where
+  pub within : k < t.size
+  pub in_set : t.set k ≡ Some s
+  pub none_before : (l : ℕ) → l < k → t.set l ≢ Some s
+
+-- node l is the first of set s whose own history for player i is another than that of node k
+pub record IsFirstOther (t : Tree) (i s k l : ℕ) : Type 0 where
+  pub within : l < t.size
+  pub in_set : t.set l ≡ Some s
+  pub other : own_history t i l ≢ own_history t i k
+  pub same_before : (m : ℕ) → m < l → t.set m ≡ Some s → own_history t i m ≡ own_history t i k
+
+-- Player f.player forgets at the first of the player's sets with nodes of different own histories. It is named as a file numbers it,
+-- with its first node and its first node with another own history.
+pub record ForgetsAt (t : GameTree) (f : Forgets) : Type 0 where
+  pub number : ℕ
+  pub set : InformationSet
+  pub stands_at : slice_get t.sets number ≡ Some set
+  pub own : set.owner ≡ Some f.player
+  pub sets_before : EarlierAreAlike (game_of_tree t) f.player number
+  pub label_is : f.set ≡ set.label
+  pub first_is : IsFirstNode (game_of_tree t) number f.first_node
+  pub second_is : IsFirstOther (game_of_tree t) f.player number f.first_node f.second_node
+
+-- the first player who forgets, and where
+pub record IsForgetting (t : GameTree) (f : Forgets) : Type 0 where
+  pub players_before : (i : ℕ) → i < f.player → HasPerfectRecall (game_of_tree t) i
+  pub forgets : ForgetsAt t f
+
+-- ---- the answer
+-- what is found: that all recall, with the steps before the sets, or who forgets first, and where
+abbrev pub IsFound : GameTree → Result (List (Option (ℕ × ℕ))) Forgets → Type 0
+IsFound t (Ok before) = IsRecallOf (game_of_tree t) before
+IsFound t (Err forgets) = IsForgetting t forgets
+
+-- why none is found: a player forgets, or memory ran out
+abbrev pub IsStop : GameTree → RecallStop → Type 0
+IsStop t (stops.Forgets forgets) = IsForgetting t forgets
+IsStop t stops.Memory = Unit {0}

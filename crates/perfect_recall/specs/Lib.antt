@@ -1,0 +1,3 @@
+pub mod LastSteps
+pub mod Members
+pub mod Found

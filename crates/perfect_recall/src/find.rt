@@ -1,0 +1,172 @@
+// Whether the players recall.
+ghost use Rattle.std.specs.Prelude.{◌≡◌, ◌↔◌, ◌<◌, ◌+◌, ℕ, List, Option, Result, length, slice_index, IsTrue, IfOk, IfErr, MatchOption, None, Some};
+ghost use Rattle.game_trees.specs.Recall.{HasPerfectRecall};
+ghost use Rattle.game_core.specs.Tree.{GameTree, IsTree};
+ghost use Rattle.game_core.specs.TreeGame.{game_of_tree};
+ghost use Rattle.perfect_recall.specs.declared.recall.Forgets.{Forgets};
+ghost use Rattle.perfect_recall.specs.LastSteps.{AreSteps};
+ghost use Rattle.perfect_recall.specs.Members.{HaveSameStep, IsForgettingBelow, IsOtherMember, NobodyForgetsBelow};
+ghost use Rattle.perfect_recall.specs.Found.{EarlierAreAlike, ForgetsAt, IsAlike, IsForgetting, IsFound, IsRecallOf, IsStop, step_before};
+
+use crate::paths::last_steps;
+use crate::recall::{Forgets, Recall, RecallStop};
+use game_core::{Tree, trees_are_game_trees};
+use memory::Memory;
+use std::alloc::Global;
+use tree_parts::{owner, stands_for_game_tree};
+
+// Whether two steps are the same.
+fn are_same(step: Option<(u32, u32)>, other: Option<(u32, u32)>) -> bool
+    ensures { IsTrue result ↔ (step ≡ other) }
+{
+    match (step, other) {
+        (None, None) => true,
+        (Some((set, action)), Some((other_set, other_action))) => {
+            set == other_set && action == other_action
+        }
+        _ => false,
+    }
+}
+
+// The first of these nodes with another step before it than before the first node, where there is one.
+fn other_member(members: &[u32], steps: &[Option<(u32, u32)>]) -> Option<u32>
+    requires some { 0 < length members.now }
+    requires within { (j : ℕ) → j < length members.now → slice_index members.now j < length steps.now }
+    ensures { MatchOption result (HaveSameStep members.now steps.now (length members.now)) (IsOtherMember members.now steps.now) }
+{
+    let first = steps[members[0] as usize];
+    for member in members {
+        if !are_same(steps[*member as usize], first) {
+            return Some(*member);
+        }
+    }
+    None
+}
+
+// Where the owner of a set forgets at this set, but at none before it.
+fn forgets_at(
+    tree: &Tree,
+    steps: &[Option<(u32, u32)>],
+    player: u32,
+    number: usize,
+) -> Option<Forgets>
+    requires length { length steps.now ≡ length tree.now.nodes }
+    requires steps { AreSteps (game_of_tree tree.now) steps.now }
+    requires set { number < length tree.now.sets }
+    requires own { (game_of_tree tree.now).owner number ≡ Some player }
+    requires earlier { EarlierAreAlike (game_of_tree tree.now) player number }
+    ensures player { MatchOption result (IsAlike (game_of_tree tree.now) player number) (λ f. f.player ≡ player) }
+    ensures forgets { MatchOption result (IsAlike (game_of_tree tree.now) player number) (ForgetsAt tree.now) }
+{
+    stands_for_game_tree(tree);
+    let set = &tree.sets()[number];
+    let members = set.members();
+    let Some(second_node) = other_member(members, steps) else {
+        return None;
+    };
+    Some(Forgets {
+        player,
+        set: set.label(),
+        first_node: members[0],
+        second_node,
+    })
+}
+
+// Who forgets first at the sets up to this one, where this is found at the sets before it.
+fn with_set(
+    tree: &Tree,
+    steps: &[Option<(u32, u32)>],
+    number: usize,
+    found: Option<Forgets>,
+) -> Option<Forgets>
+    requires length { length steps.now ≡ length tree.now.nodes }
+    requires steps { AreSteps (game_of_tree tree.now) steps.now }
+    requires set { number < length tree.now.sets }
+    requires found { MatchOption found (NobodyForgetsBelow tree.now number) (IsForgettingBelow tree.now number) }
+    ensures { MatchOption result (NobodyForgetsBelow tree.now (number + 1)) (IsForgettingBelow tree.now (number + 1)) }
+{
+    let Some(player) = owner(tree, number) else {
+        return found;
+    };
+    if let Some(forgets) = found {
+        if forgets.player <= player {
+            return found;
+        }
+    }
+    match forgets_at(tree, steps, player, number) {
+        Some(forgets) => Some(forgets),
+        None => found,
+    }
+}
+
+// The first player who forgets, and where; nothing where no player does.
+fn first_forgetting(tree: &Tree, steps: &[Option<(u32, u32)>]) -> Option<Forgets>
+    requires length { length steps.now ≡ length tree.now.nodes }
+    requires steps { AreSteps (game_of_tree tree.now) steps.now }
+    ensures { MatchOption result (NobodyForgetsBelow tree.now (length tree.now.sets)) (IsForgettingBelow tree.now (length tree.now.sets)) }
+{
+    let mut found = None;
+    for number in 0..tree.sets().len() {
+        found = with_set(tree, steps, number, found);
+    }
+    found
+}
+
+// The step before a set, where all players recall.
+fn step_before_set(tree: &Tree, steps: &[Option<(u32, u32)>], number: usize) -> Option<(u32, u32)>
+    requires length { length steps.now ≡ length tree.now.nodes }
+    requires steps { AreSteps (game_of_tree tree.now) steps.now }
+    requires recall { (i : ℕ) → HasPerfectRecall (game_of_tree tree.now) i }
+    requires set { number < length tree.now.sets }
+    ensures { result ≡ step_before (game_of_tree tree.now) number ((game_of_tree tree.now).owner number) }
+{
+    let set = &tree.sets()[number];
+    let members = set.members();
+    steps[members[0] as usize]
+}
+
+// The steps before the sets, where all players recall.
+fn steps_before_sets(
+    alloc: Global,
+    tree: &Tree,
+    steps: &[Option<(u32, u32)>],
+) -> Result<Vec<Option<(u32, u32)>>, Memory>
+    requires length { length steps.now ≡ length tree.now.nodes }
+    requires steps { AreSteps (game_of_tree tree.now) steps.now }
+    requires recall { (i : ℕ) → HasPerfectRecall (game_of_tree tree.now) i }
+    ensures { IfOk result (λ before. IsRecallOf (game_of_tree tree.now) before.items) }
+{
+    let sets = tree.sets().len();
+    let mut before = Vec::with_capacity(alloc, sets)?;
+    for number in 0..sets {
+        before.push(step_before_set(tree, steps, number))?;
+    }
+    Ok(before)
+}
+
+/// The last own sets and actions before the sets of a tree in which each player has perfect recall. Time and room in
+/// proportion to nodes, sets and players.
+///
+/// # Errors
+///
+/// `Forgets` exactly where a player lacks perfect recall: the first such player, that player's first set in which two
+/// nodes have different own histories, the set's first node, and its first node with another own history. `Memory`
+/// where memory ran out.
+pub fn find_recall(alloc: Global, tree: &Tree) -> Result<Recall, RecallStop>
+    ensures recall { IfOk result (IsRecallOf (game_of_tree tree.now)) }
+    ensures stop { IfErr result (IsStop tree.now) }
+{
+    let steps = last_steps(alloc, tree)?;
+    if let Some(forgets) = first_forgetting(tree, &steps) {
+        return Err(RecallStop::Forgets(forgets));
+    }
+    let before = steps_before_sets(alloc, tree, &steps)?;
+    Ok(Recall::new(before))
+}
+
+/// One thing at most is found of a tree.
+pub fn answers_are_exact()
+    ensures { (t : GameTree) (one other : Result (List (Option (ℕ × ℕ))) Forgets) → IsTree t → IsFound t one → IsFound t other → one ≡ other }
+{
+    trees_are_game_trees();
+}

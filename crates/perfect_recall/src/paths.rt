@@ -1,0 +1,93 @@
+// The players' last own steps on the paths of a tree.
+ghost use Rattle.std.specs.Prelude.{◌≡◌, ◌<◌, ◌≤◌, ◌+◌, None, Some, length, IfOk, MatchOption};
+ghost use Rattle.game_trees.specs.Trees.{IsWithin};
+ghost use Rattle.game_core.specs.TreeGame.{game_of_tree};
+ghost use Rattle.perfect_recall.specs.LastSteps.{AreLast, AreSteps, Chooses, IsStepBefore, NobodyChooses};
+
+use game_core::Tree;
+use memory::Memory;
+use std::alloc::Global;
+use tree_parts::{branch, owner, parent, set, stands_for_game_tree};
+
+// The player who chooses at a node, and the node's set; nothing where no player does.
+fn choice_at(tree: &Tree, node: usize) -> Option<(u32, u32)>
+    requires { node < length tree.now.nodes }
+    ensures { MatchOption result (NobodyChooses (game_of_tree tree.now) node) (λ it. Chooses (game_of_tree tree.now) node it.0 it.1) }
+{
+    stands_for_game_tree(tree);
+    let set = set(tree, node)?;
+    let player = owner(tree, set as usize)?;
+    Some((player, set))
+}
+
+// The players' last steps at a node are those at a node above it again. `steps` has the steps before the nodes that
+// come before it.
+fn go_up(
+    tree: &Tree,
+    steps: &[Option<(u32, u32)>],
+    last: &mut [Option<(u32, u32)>],
+    from: usize,
+    to: usize,
+)
+    requires node { from < length tree.now.nodes }
+    requires above { IsWithin (game_of_tree tree.now) to from }
+    requires reach { from < length steps.now }
+    requires steps { AreSteps (game_of_tree tree.now) steps.now }
+    requires last { AreLast (game_of_tree tree.now) from last.old }
+    ensures { AreLast (game_of_tree tree.now) to last.new }
+{
+    stands_for_game_tree(tree);
+    let mut here = from;
+    while here != to {
+        here = parent(tree, here);
+        if let Some((player, _)) = choice_at(tree, here) {
+            last[player as usize] = steps[here];
+        }
+    }
+}
+
+// The players' last steps at a node's parent are those at the node.
+fn go_down(tree: &Tree, last: &mut [Option<(u32, u32)>], node: usize)
+    requires node { node < length tree.now.nodes }
+    requires later { 0 < node }
+    requires last { AreLast (game_of_tree tree.now) ((game_of_tree tree.now).parent node) last.old }
+    ensures { AreLast (game_of_tree tree.now) node last.new }
+{
+    stands_for_game_tree(tree);
+    let above = parent(tree, node);
+    if let Some((player, set)) = choice_at(tree, above) {
+        last[player as usize] = Some((set, branch(tree, node)));
+    }
+}
+
+// The step before a node of the player who chooses there.
+fn step_at(tree: &Tree, last: &[Option<(u32, u32)>], node: usize) -> Option<(u32, u32)>
+    requires node { node < length tree.now.nodes }
+    requires last { AreLast (game_of_tree tree.now) node last.now }
+    ensures { IsStepBefore (game_of_tree tree.now) node result }
+{
+    stands_for_game_tree(tree);
+    let (player, _) = choice_at(tree, node)?;
+    last[player as usize]
+}
+
+// For each node the last own set and action before it of the player who chooses there; nothing where there is none,
+// and where nobody does.
+pub(crate) fn last_steps(alloc: Global, tree: &Tree) -> Result<Vec<Option<(u32, u32)>>, Memory>
+    ensures length { IfOk result (λ steps. length steps.items ≡ length tree.now.nodes) }
+    ensures steps { IfOk result (λ steps. AreSteps (game_of_tree tree.now) steps.items) }
+{
+    stands_for_game_tree(tree);
+    let nodes = tree.nodes().len();
+    let mut room = vec![in alloc; None; tree.players().len()]?;
+    let last = room.as_mut_slice();
+    let mut steps = Vec::with_capacity(alloc, nodes)?;
+    steps.push(step_at(tree, last, 0))?;
+    for node in 1..nodes {
+        let above = parent(tree, node);
+        go_up(tree, steps.as_slice(), last, node - 1, above);
+        go_down(tree, last, node);
+        steps.push(step_at(tree, last, node))?;
+    }
+    Ok(steps)
+}
