@@ -59,14 +59,14 @@ table_game-single : (tokens : TokenList) → IsSingleAs forget (table_game token
 table_game-single tokens =
     bind-single forget (refused_by nfg_refusal (table_in tokens)) (λ table. only (Strategic table))
     (refused_by-single forget nfg_refusal (table_in tokens) (single-less nfg_but_for_fault (λ stop. forget (nfg_refusal stop)) (table_in tokens)
-      (λ one other e. nfg_told one ∙ ap (λ stop. forget (nfg_refusal stop)) e ∙ sym (nfg_told other)) (table_in-single tokens)))
+    (λ one other e. nfg_told one ∙ ap (λ stop. forget (nfg_refusal stop)) e ∙ sym (nfg_told other)) (table_in-single tokens)))
     (λ table _. only-single forget (Strategic table))
 
 tree_game-single : (tokens : TokenList) → AllByRecursion IsShortToken (bare tokens) → IsSingleAs forget (tree_game tokens)
 tree_game-single tokens short =
     bind-single forget (refused_by efg_refusal (tree_in tokens)) (λ tree. only (Extensive tree))
     (refused_by-single forget efg_refusal (tree_in tokens) (single-less efg_but_for_fault (λ stop. forget (efg_refusal stop)) (tree_in tokens)
-      (λ one other e. efg_told one ∙ ap (λ stop. forget (efg_refusal stop)) e ∙ sym (efg_told other)) (tree_in-single tokens short)))
+    (λ one other e. efg_told one ∙ ap (λ stop. forget (efg_refusal stop)) e ∙ sym (efg_told other)) (tree_in-single tokens short)))
     (λ tree _. only-single forget (Extensive tree))
 
 game_in-single : (bytes : List ℕ) → IsSingleAs forget (game_in bytes)

@@ -148,10 +148,10 @@ forms-same t one other h g =
     let short : length other.table.payoffs ≡ length t.players * profiles =
     g.is_table.payoffs_of_each ∙ ap₂ (λ n ns. n * profile_count ns) (ap length g.players_are) counts in
     let same : (i k : ℕ) → i < length t.players → k < profiles → get_or one.table.payoffs (k * length t.players + i) zero_ℚ ≡ get_or other.table.payoffs (k * length t.players + i) zero_ℚ = λ i k l b.
-        let left = subst (λ n. get_or one.table.payoffs (k * n + i) zero_ℚ ≡ (strategic_form (game_of_tree t) one.choices).pays i k) (ap length h.players_are) (h.pays i k l b) in
-        let below : k < profile_count (map length other.choices) = subst (λ c. k < profile_count (map length c)) choices b in
-        let right = subst (λ n. get_or other.table.payoffs (k * n + i) zero_ℚ ≡ (strategic_form (game_of_tree t) other.choices).pays i k) (ap length g.players_are) (g.pays i k l below) in
-        left ∙ ap (λ c. (strategic_form (game_of_tree t) c).pays i k) choices ∙ sym right in
+    let left = subst (λ n. get_or one.table.payoffs (k * n + i) zero_ℚ ≡ (strategic_form (game_of_tree t) one.choices).pays i k) (ap length h.players_are) (h.pays i k l b) in
+    let below : k < profile_count (map length other.choices) = subst (λ c. k < profile_count (map length c)) choices b in
+    let right = subst (λ n. get_or other.table.payoffs (k * n + i) zero_ℚ ≡ (strategic_form (game_of_tree t) other.choices).pays i k) (ap length g.players_are) (g.pays i k l below) in
+    left ∙ ap (λ c. (strategic_form (game_of_tree t) c).pays i k) choices ∙ sym right in
     ap₂ form (tables-same one.table other.table (h.title_is ∙ sym g.title_is) (h.players_are ∙ sym g.players_are) names (payoffs-same (length t.players) profiles one.table.payoffs other.table.payoffs long short same)) choices
   where
     form : GameTable → List (List (List ℕ)) → ReducedForm

@@ -22,7 +22,7 @@ returns-in_err-game g c =
     let read : IsRead (Enumpure c.args.strategic name) name (g.I.Inputs.seen c.args.inputs.now) (g.I.Inputs.seen c.read_input.new.inputs) c.in_ok-bytes.bytes.items =
     record { one = refl; are = e.bytes; few = e.within_limit; read = e.read; counts = e.counts; once = e.selections; stay = e.held } in
     rw (p.1, p.2) (game-computed (Enumpure c.args.strategic name) name (g.I.Inputs.seen c.args.inputs.now) (g.I.Inputs.seen c.read_input.new.inputs) c.in_ok-bytes.bytes.items c.in_err-game.field-0.0 read
-      (subst (λ b. Gives refusal.Memory (game_in b) (Err c.in_err-game.field-0.0)) c.deref.ensures.value c.in_err-game.ensures))
+    (subst (λ b. Gives refusal.Memory (game_in b) (Err c.in_err-game.field-0.0)) c.deref.ensures.value c.in_err-game.ensures))
 
 pub returns : goal.returns
 returns g c =
