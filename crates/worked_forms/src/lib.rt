@@ -5,6 +5,8 @@
 #[cfg(test)]
 mod games;
 #[cfg(test)]
+mod recall;
+#[cfg(test)]
 mod second_body;
 #[cfg(test)]
 mod tests;
