@@ -4,8 +4,7 @@ use Rattle.rational.specs.Rational.{◌≤ℚ◌}
 use Rattle.game_trees.specs.Trees.{Tree}
 use Rattle.game_trees.specs.Behaviour.{Behaviour, IsValid, IsChoice, payoff, reply}
 
--- A valid behaviour at which no player has a pure reply with a greater payoff. Of a player with perfect recall no other reply pays
--- more than the best pure one.
+-- A valid behaviour at which no player has a pure reply, one action at each own set, with a greater payoff.
 pub record IsEquilibrium (t : Tree) (b : Behaviour) : Type 0 where
   pub valid : IsValid t b
   pub no_better_reply : (i : ℕ) (choice : ℕ → ℕ) → i < t.players → IsChoice t i choice → payoff t (reply t b i choice) i ≤ℚ payoff t b i

@@ -58,7 +58,8 @@ impl<'a> Play<'a> {
     ghost use Rattle.pure_payoffs.specs.Steps.{StepFits, IsFirstUnfit, payoff_steps};
 
     /// What the profile pays a player, where the first action is taken at each set to which the player's strategy
-    /// gives none. Takes no memory. `shortcuts` are forgotten where the profile is another than before.
+    /// gives none. Takes no memory. `shortcuts` are those of this profile: the caller forgets
+    /// them before another one.
     ///
     /// # Errors
     ///
