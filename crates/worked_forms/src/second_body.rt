@@ -1,5 +1,7 @@
 // The pure equilibria of small games by the definition, every reply of every player tried, beside the real listings.
-use crate::games::{ALL_ZERO, ALONE, CHANCE_BEHIND, ENTRY, FORGET, PAID_ON_THE_WAY, POKER, TWO_WAYS, tree_of};
+use crate::games::{
+    ALL_ZERO, ALONE, CHANCE_BEHIND, ENTRY, FORGET, PAID_ON_THE_WAY, POKER, TWO_WAYS, tree_of,
+};
 use enumpure::list_pure_equilibria;
 use enumpure_trees::list_pure_behaviours;
 use frac128::{Frac, Memory};
