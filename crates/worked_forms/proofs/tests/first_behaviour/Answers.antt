@@ -10,4 +10,4 @@ from_reduced-requires-clause-profile c =
     let reduced = c.in-Ok.reduced in
     let valid = c.trees_are_game_trees.ensures tree c.players.ensures.valid in
     let zeros = c.deref.ensures.value ∙ c.in_ok-profile.ensures.items_if_clones_equal (λ y e. e) ∙ ap (λ names. replicate (length names) 0) c.players.ensures.players in
-    subst (IsProfile (map length reduced.choices)) (sym zeros) (IsProfile-first tree reduced valid c.in-Ok.ensures.form)
+    subst (IsProfile (map length reduced.choices)) (sym zeros) (IsProfile-first tree reduced valid c.in-Ok.ensures.answer.0)
