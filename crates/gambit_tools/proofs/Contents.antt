@@ -84,6 +84,7 @@ enumpure_origin strategic (Strategic table) r h = ap origin h.2 ∙ list_origin 
 enumpure_origin strategic (Extensive tree) r (inl h) = ap origin h.2 ∙ form_origin tree h.0 h.1
 enumpure_origin strategic (Extensive tree) r (inr h) = ap origin h.2.2 ∙ form_text_origin strategic tree h.0 h.2.0 h.2.1
 
--- each tool has a line
+-- each tool that is built has a line
 pub tool_of-origin : (command : Command) (game : Game) (r : Refusal) → tool_of command game (Err r) → origin r ≡ Contents
 tool_of-origin (Enumpure strategic file) game r h = enumpure_origin strategic game r h
+tool_of-origin _ game r h = absurd h

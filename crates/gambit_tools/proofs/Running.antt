@@ -46,7 +46,10 @@ err_same a b e = cc
 pub told-run : (given : Result Command Usage) (before after : Outside) (r told : Refusal) → IsToldAs r told → IsRunOf given before after (Err r) → IsRunOf given before after (Err told)
 told-run given before after r told (inl e) h = subst (λ x. IsRunOf given before after (Err x)) (sym e) h
 told-run (Ok command) before after r told (inr (names, e)) h = subst (λ x. IsRunOf (Ok command) before after (Err x)) (sym e) (memory_told command before after r (names_contents r names) h)
-told-run (Err usage) before after r told (inr (names, e)) h = absurd (subst NamesNumbers (err_same r (refusal.Usage usage) h.is_refused) names)
+told-run (Err usage) before after r told (inr (names, e)) h = absurd (elim h.is_refused [
+  | inl u ↦ subst NamesNumbers (err_same r (refusal.Usage usage) u) names
+  | inr m ↦ subst NamesNumbers (err_same r refusal.Memory m) names
+])
 
 some_same : (a b : Refusal) → Some a ≡ Some b → a ≡ b
 some_same a b e = cc

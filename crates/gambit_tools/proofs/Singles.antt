@@ -13,10 +13,8 @@ use Rattle.game_text.specs.Tokens.{IsShortToken}
 use Rattle.game_text.specs.Stops.{tokens_of}
 use Rattle.game_text.proofs.Passes.{tokens_are_short}
 use Rattle.game_text.proofs.Single.{tokens_of-single}
-use Rattle.nfg_reader.specs.Stops.{table_in, but_for_fault as nfg_but_for_fault}
-use Rattle.nfg_reader.specs.declared.reading.NfgStop.{NfgStop}
-use Rattle.nfg_reader.specs.declared.reading.NfgStop.TheVariants as nfg_stop
-use Rattle.nfg_reader.proofs.FileLaws.{table_in-single}
+use Rattle.nfg_reader.specs.Stops.{table_in}
+use Rattle.nfg_reader.proofs.Single.{table_in-single}
 use Rattle.efg_reader.specs.Stops.{tree_in, but_for_fault as efg_but_for_fault}
 use Rattle.efg_reader.specs.declared.fault.EfgStop.{EfgStop}
 use Rattle.efg_reader.specs.declared.fault.EfgStop.TheVariants as efg_stop
@@ -45,11 +43,6 @@ tokens_in-single bytes =
     (λ _ _. refused_by-single forget text_refusal (tokens_of bytes) (single-as (λ stop. forget (text_refusal stop)) (tokens_of bytes) (tokens_of-single bytes)))
 
 -- a stop without its fault is told in the same way
-nfg_told : (stop : NfgStop) → forget (nfg_refusal stop) ≡ forget (nfg_refusal (nfg_but_for_fault stop))
-nfg_told (nfg_stop.Fault fault) = refl
-nfg_told (nfg_stop.TooLarge limit) = refl
-nfg_told nfg_stop.Memory = refl
-
 efg_told : (stop : EfgStop) → forget (efg_refusal stop) ≡ forget (efg_refusal (efg_but_for_fault stop))
 efg_told (efg_stop.Fault fault) = refl
 efg_told (efg_stop.TooLarge limit) = refl
@@ -58,8 +51,7 @@ efg_told efg_stop.Memory = refl
 table_game-single : (tokens : TokenList) → IsSingleAs forget (table_game tokens)
 table_game-single tokens =
     bind-single forget (refused_by nfg_refusal (table_in tokens)) (λ table. only (Strategic table))
-    (refused_by-single forget nfg_refusal (table_in tokens) (single-less nfg_but_for_fault (λ stop. forget (nfg_refusal stop)) (table_in tokens)
-    (λ one other e. nfg_told one ∙ ap (λ stop. forget (nfg_refusal stop)) e ∙ sym (nfg_told other)) (table_in-single tokens)))
+    (refused_by-single forget nfg_refusal (table_in tokens) (single-as (λ stop. forget (nfg_refusal stop)) (table_in tokens) (table_in-single tokens)))
     (λ table _. only-single forget (Strategic table))
 
 tree_game-single : (tokens : TokenList) → AllByRecursion IsShortToken (bare tokens) → IsSingleAs forget (tree_game tokens)
@@ -88,9 +80,10 @@ enumpure-single strategic (Extensive tree) =
     (λ form _. refused_by-single forget list_refusal (form_text strategic tree form) (single-as (λ stop. forget (list_refusal stop)) (form_text strategic tree form) (form_text-single strategic tree form)))
 
 -- ---- commands
--- each tool has a line
+-- each tool that is built has a line
 tool_of-single : (command : Command) (game : Game) → IsSingleAs forget (tool_of command game)
 tool_of-single (Enumpure strategic file) game = enumpure-single strategic game
+tool_of-single _ game = λ one other h k. absurd h
 
 pub answer_of-single : (command : Command) (contents : List (List ℕ)) → IsSingleAs forget (answer_of command contents)
 answer_of-single command contents =

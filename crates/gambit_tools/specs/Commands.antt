@@ -1,4 +1,5 @@
--- What a command reads and answers. Each tool has a line in each of these.
+-- What a command reads and answers. Each tool that is built has a line in each of these; a tool that is not built reads nothing and
+-- answers nothing.
 use Rattle.std.specs.Prelude.{ℕ, List, [], ◌∷◌, slice_index_or}
 use Rattle.answers.specs.Answers.{Answer, ◌>>=◌}
 use Rattle.game_core.specs.declared.game.Game.{Game}
@@ -11,10 +12,12 @@ use Rattle.gambit_tools.specs.declared.refusal.Refusal.{Refusal}
 -- the inputs that a command names, in the order in which they are read
 abbrev pub inputs_of : Command → List InputName
 inputs_of (Enumpure strategic file) = file ∷ []
+inputs_of _ = []
 
 -- what a command's tool answers for a game
 abbrev pub tool_of : Command → Game → Answer Refusal (List ℕ)
 tool_of (Enumpure strategic file) game = enumpure strategic game
+tool_of _ game = λ answer. ⊥
 
 -- The answer of a command by the contents of its inputs: the order of the stages is the order of refusals.
 abbrev pub answer_of : Command → List (List ℕ) → Answer Refusal (List ℕ)

@@ -111,9 +111,9 @@ pub record IsCommandRun (command : Command) (before after : Outside) (answer : R
   pub has_read : HasRead (inputs_of command) before.inputs after.inputs answer
   pub selects_few : SelectsFew (inputs_of command) before.inputs after.inputs
 
--- a run whose words are refused: it reads and writes nothing
+-- a run whose words are refused: it is refused so, or for want of memory, and it reads and writes nothing
 pub record IsUsageRun (usage : Usage) (before after : Outside) (answer : RunAnswer) : Type 0 where
-  pub is_refused : answer ≡ Err (refusal.Usage usage)
+  pub is_refused : (answer ≡ Err (refusal.Usage usage)) ⊎ (answer ≡ Err refusal.Memory)
   pub nothing_read : after.inputs ≡ before.inputs
   pub nothing_written : after.out.taken ≡ before.out.taken
 

@@ -3,7 +3,7 @@ ghost use Rattle.std.specs.Prelude.{option_map, ◌≡◌, ℕ, ◌<◌, ◌≤�
 ghost use Rattle.std.specs.Result.{result_err};
 ghost use Rattle.answers.specs.Answers.{map_ok, IsSingleAs};
 ghost use Rattle.outside.specs.Inputs.{InputName};
-ghost use Rattle.words.specs.Words.{Command, command_of, command_from};
+ghost use Rattle.words.specs.Words.{Command, command_of, command_from, IsBuilt};
 ghost use Rattle.gambit_tools.specs.Seen.{outside, seen};
 ghost use Rattle.gambit_tools.specs.Input.{CountsTell};
 ghost use Rattle.gambit_tools.specs.Refusals.{status_of, IsToldAs, NamesNumbers};
@@ -20,8 +20,9 @@ use std::alloc::Global;
 use std::thread::Threads;
 use words::{Settings, SettingsStop, read_settings};
 
-/// Reads the inputs that the settings name, and computes the text. Each tool has an arm.
+/// Reads the inputs that the settings name, and computes the text. Each tool that is built has an arm.
 fn compute<I: Inputs>(alloc: Global, settings: Settings, inputs: &mut I) -> Result<Vec<u8>, Refusal>
+    requires { IsBuilt (command_of settings) }
     ensures { IsComputed (command_of settings)
         (I.seen inputs.old)
         (I.seen inputs.new)
@@ -29,6 +30,7 @@ fn compute<I: Inputs>(alloc: Global, settings: Settings, inputs: &mut I) -> Resu
 {
     match settings {
         Settings::Enumpure { strategic, file } => enumpure(alloc, strategic, file, inputs),
+        _ => unreachable!(),
     }
 }
 
@@ -135,7 +137,8 @@ pub fn run<R: Threads + Sync, I: Inputs, K: Sink, E: Sink, G: Gate>(
     }
 }
 
-/// The contents of a command's inputs have at most one answer, but for kind and place of a fault in a file.
+/// The contents of a command's inputs have at most one answer, but for kind and place of a fault in a file of a
+/// tree.
 pub fn answers_are_single()
     ensures { (command : Command) (contents : List (List ℕ)) → IsSingleAs forget (answer_of command contents) }
 {}

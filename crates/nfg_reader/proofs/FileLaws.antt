@@ -1,27 +1,16 @@
 -- What is read is the table of a file, and such a file is read.
-use Rattle.std.proofs.Common.{◌≡◌, ℕ, zero, suc, ◌*◌, ◌≤◌, ◌<◌, List, [], ◌∷◌, ◌++◌, length, map, get_or, Option, Some, None, ◌⊎◌, inl, inr, Ok, Err, refl, sym, ap, ◌∙◌, subst, append_assoc, length-append, arith}
+use Rattle.std.proofs.Common.{◌≡◌, ℕ, zero, suc, ◌*◌, ◌≤◌, ◌<◌, List, [], ◌∷◌, ◌++◌, length, map, get_or, Some, None, ◌⊎◌, inl, inr, refl, sym, ap, ◌∙◌, subst, append_assoc, length-append, arith}
 use Rattle.std.proofs.Math.Nat.{mul-suc}
 use Rattle.std.proofs.lemmas.List.{append-nil, length-replicate}
 use Rattle.std.proofs.lemmas.List.Elements.{All-nil, All-cons}
 use Rattle.std.specs.Prelude.{All}
 use Rattle.std.specs.List.{AllByRecursion, flat_map}
-use Rattle.answers.specs.Answers.{Gives, IsSingleAs}
 use Rattle.rational.specs.Rational.{ℚ, zero_ℚ}
 use Rattle.game_theory.specs.Profiles.{profile_count}
 use Rattle.game_core.specs.Table.{GameTable, IsTable, most_payoffs, strategy_counts}
-use Rattle.game_text.specs.TokenList.{TokenList, bare}
-use Rattle.game_text.specs.Tokens.{AreInPlace}
-use Rattle.game_text.specs.declared.token.Spanned.{Spanned}
 use Rattle.game_text.specs.declared.token.Token.{Token}
-use Rattle.file_parts.specs.declared.refusal.Refusal.{Refusal}
-use Rattle.file_parts.specs.declared.refusal.Refusal.TheVariants as refusals
-use Rattle.file_parts.specs.Reading.{Refuses}
 use Rattle.file_parts.proofs.Options.{some_same}
 use Rattle.nfg_reader.specs.TableFile.{AreStrategies, AreOutcomes, outcome_payoffs, IsPayoffBody, IsOutcomeBody, IsTableFile, HasTooManyPayoffs}
-use Rattle.nfg_reader.specs.Stops.{IsStopOf, table_in, but_for_fault}
-use Rattle.nfg_reader.specs.declared.reading.NfgKind.{NfgKind}
-use Rattle.nfg_reader.specs.declared.reading.NfgStop.{NfgStop}
-use Rattle.nfg_reader.specs.declared.reading.NfgStop.TheVariants as stops
 use Rattle.nfg_reader.specs.TableReading.{front_at, rest_at, table_at, FrontPart, profiles, table_of, IsTooLong}
 use Rattle.nfg_reader.proofs.CountedNames.{lengths_counted}
 use Rattle.nfg_reader.proofs.FrontLaws.{front_is, front_again}
@@ -121,11 +110,6 @@ no_rest tokens front e few r =
 pub no_rest_of : (tokens : List Token) (front : FrontPart × List Token) (players count : ℕ) → front_at tokens ≡ Some front → players ≡ length front.0.players → count ≡ profiles front.0 → players * count ≤ most_payoffs → rest_at players count front.1 ≡ None → IsNoTable tokens
 no_rest_of tokens front players count e p c few r = no_rest tokens front e (rw (p, c) at few) (rw (p, c) at r)
 
--- the stop that a refusal becomes
-pub stop_by : {Y : Type 0} (reading : Option Y) (refusal : Refusal NfgKind) (tokens : TokenList) (stop : NfgStop) → Refuses refusal reading → IsStopOf refusal tokens.length stop → (reading ≡ None → IsNoTable (bare tokens)) → Gives stops.Memory (table_in tokens) (Err stop)
-stop_by reading (refusals.Unfit kind left) tokens stop r s none = subst (λ x. Gives stops.Memory (table_in tokens) (Err x)) (sym s.1) (inr (s.2, (none r).0, (none r).1))
-stop_by reading refusals.Memory tokens stop r s none = inl s
-
 -- ---- what was read is a table
 -- lists with a name each have positive lengths
 all_lengths : (lists : List (List (List ℕ))) → AllByRecursion (λ names. 1 ≤ length names) lists → AllByRecursion (λ n. 1 ≤ n) (map length lists)
@@ -189,20 +173,6 @@ finished tokens front payoffs players count e p c few r =
     let rest : rest_at (length front.0.players) (profiles front.0) front.1 ≡ Some payoffs = rw (p, c) at r in
     (read_is_table tokens front payoffs e rest (rw (p, c) at few), table_next tokens front payoffs e rest)
 
--- ---- one answer
 -- a table within the limit does not pass it
-within : (tokens : TokenList) (table : GameTable) → IsTableFile (bare tokens) table → IsTable table → ¬ (HasTooManyPayoffs (bare tokens))
-within tokens table f t = not_too_many (bare tokens) table f (omega (arith, t.payoffs_of_each, t.few_payoffs))
-
-pub table_in-single : (tokens : TokenList) → IsSingleAs but_for_fault (table_in tokens)
-table_in-single tokens (Ok one) (Ok other) h k = ap Ok (one_table (bare tokens) one other h.0 k.0)
-table_in-single tokens (Ok one) (Err (stops.Fault fault)) h k = absurd (k.1 one h.0)
-table_in-single tokens (Ok one) (Err (stops.TooLarge limit)) h k = absurd (within tokens one h.0 h.1 k.0)
-table_in-single tokens (Err (stops.Fault fault)) (Ok other) h k = absurd (h.1 other k.0)
-table_in-single tokens (Err (stops.Fault fault)) (Err (stops.Fault next)) h k = refl
-table_in-single tokens (Err (stops.Fault fault)) (Err (stops.TooLarge limit)) h k = absurd (h.2 k.0)
-table_in-single tokens (Err (stops.TooLarge limit)) (Ok other) h k = absurd (within tokens other k.0 k.1 h.0)
-table_in-single tokens (Err (stops.TooLarge limit)) (Err (stops.Fault fault)) h k = absurd (k.2 h.0)
-table_in-single tokens (Err (stops.TooLarge limit)) (Err (stops.TooLarge next)) h k = ap (λ limit. Err (stops.TooLarge limit)) (h.1 ∙ sym k.1)
-table_in-single tokens (Err stops.Memory) other h k = absurd h
-table_in-single tokens one (Err stops.Memory) h k = absurd k
+pub within : (tokens : List Token) (table : GameTable) → IsTableFile tokens table → IsTable table → ¬ (HasTooManyPayoffs tokens)
+within tokens table f t = not_too_many tokens table f (omega (arith, t.payoffs_of_each, t.few_payoffs))

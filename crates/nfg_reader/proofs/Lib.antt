@@ -1,6 +1,13 @@
 pub mod BodyLaws
 pub mod CountedNames
+pub mod FaultKinds
+pub mod FaultLaws
 pub mod FileLaws
 pub mod FrontLaws
 pub mod OutcomeSteps
 pub mod Products
+pub mod ReadStops
+pub mod Single
+pub mod TableReaders
+pub mod TableValues
+pub mod Whole

@@ -1,16 +1,16 @@
 -- What the tokens of a table answer: the table, or why it is not read.
-use Rattle.std.specs.Prelude.{ℕ, ◌≤◌, ◌≡◌, List, Ok, Err}
+use Rattle.std.specs.Prelude.{◌≡◌, Ok, Err}
 use Rattle.answers.specs.Answers.{Answer}
 use Rattle.game_core.specs.Table.{GameTable, IsTable}
 use Rattle.game_core.specs.declared.too_large.TooLarge.{TooLarge}
 use Rattle.game_core.specs.declared.too_large.What.TheVariants.{Payoffs}
 use Rattle.game_text.specs.TokenList.{TokenList, bare}
+use Rattle.file_parts.specs.Reading.{place_of}
 use Rattle.file_parts.specs.declared.refusal.Refusal.{Refusal}
 use Rattle.file_parts.specs.declared.refusal.Refusal.TheVariants as refusals
 use Rattle.nfg_reader.specs.TableFile.{IsTableFile, HasTooManyPayoffs}
-use Rattle.nfg_reader.specs.declared.reading.NfgFault.{NfgFault}
+use Rattle.nfg_reader.specs.Faults.{IsFault}
 use Rattle.nfg_reader.specs.declared.reading.NfgKind.{NfgKind}
-use Rattle.nfg_reader.specs.declared.reading.NfgKind.TheVariants.{Header}
 use Rattle.nfg_reader.specs.declared.reading.NfgStop.{NfgStop}
 use Rattle.nfg_reader.specs.declared.reading.NfgStop.TheVariants as stops
 
@@ -18,21 +18,15 @@ use Rattle.nfg_reader.specs.declared.reading.NfgStop.TheVariants as stops
 abbrev pub too_many_payoffs : TooLarge
 too_many_payoffs = record { what = Payoffs; count = 1048577; limit = 1048576 }
 
--- The table of a file, within the limit on payoffs. A fault comes where the tokens are no file of a table and do not pass the
--- limit, and its place lies in the source; the limit comes where it is passed.
+-- The table of a file, within the limit on payoffs. A fault comes with its kind and place where the tokens have one and do not
+-- pass the limit; the limit comes where it is passed.
 abbrev pub table_in : TokenList → Answer NfgStop GameTable
 table_in tokens (Ok table) = IsTableFile (bare tokens) table × IsTable table
-table_in tokens (Err (stops.Fault fault)) =
-    (fault.at ≤ tokens.length) × ((table : GameTable) → IsTableFile (bare tokens) table → ⊥) × ¬ (HasTooManyPayoffs (bare tokens))
+table_in tokens (Err (stops.Fault fault)) = IsFault tokens fault.kind fault.at × ¬ (HasTooManyPayoffs (bare tokens))
 table_in tokens (Err (stops.TooLarge limit)) = HasTooManyPayoffs (bare tokens) × (limit ≡ too_many_payoffs)
 table_in tokens (Err stops.Memory) = ⊥
 
--- a stop without the kind and the place of a fault
-abbrev pub but_for_fault : NfgStop → NfgStop
-but_for_fault (stops.Fault fault) = stops.Fault (record { at = 0; kind = Header })
-but_for_fault stop = stop
-
 -- the stop that a refusal of a part becomes
-abbrev pub IsStopOf : Refusal NfgKind → ℕ → NfgStop → Type 0
-IsStopOf (refusals.Unfit kind left) source_length stop = (fault : NfgFault) × (stop ≡ stops.Fault fault) × (fault.at ≤ source_length)
-IsStopOf refusals.Memory source_length stop = stop ≡ stops.Memory
+abbrev pub IsStopOf : Refusal NfgKind → TokenList → NfgStop → Type 0
+IsStopOf (refusals.Unfit kind left) tokens stop = stop ≡ stops.Fault (record { at = place_of tokens left; kind = kind })
+IsStopOf refusals.Memory tokens stop = stop ≡ stops.Memory

@@ -6,7 +6,9 @@ mod outcomes;
 mod reading;
 mod strategies;
 
-pub use reading::{NfgFault, NfgKind, NfgStop, files_have_one_table, read, tables_are_single};
+pub use reading::{
+    NfgFault, NfgKind, NfgStop, faults_are_single, files_have_one_table, read, tables_are_single,
+};
 
 #[cfg(test)]
 mod tests;

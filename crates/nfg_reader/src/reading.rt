@@ -1,12 +1,13 @@
 // Reads a table from the tokens of a file.
-ghost use Rattle.std.specs.Prelude.{◌≡◌, List, IfOk};
-ghost use Rattle.answers.specs.Answers.{Gives, IsSingleAs};
+ghost use Rattle.std.specs.Prelude.{ℕ, ◌≡◌, ◌⊎◌, List, IfOk};
+ghost use Rattle.answers.specs.Answers.{Gives, IsSingle};
 ghost use Rattle.game_core.specs.Table.{GameTable, IsTable};
-ghost use Rattle.game_text.specs.TokenList.{TokenList};
+ghost use Rattle.game_text.specs.TokenList.{TokenList, bare};
 ghost use Rattle.game_text.specs.declared.token.Token.{Token as token};
 ghost use Rattle.nfg_reader.specs.TableFile.{IsTableFile};
+ghost use Rattle.nfg_reader.specs.Faults.{IsFile, IsFault};
 ghost use Rattle.nfg_reader.specs.TableReading.{front_of, table_of};
-ghost use Rattle.nfg_reader.specs.Stops.{IsStopOf, table_in, but_for_fault};
+ghost use Rattle.nfg_reader.specs.Stops.{IsStopOf, table_in};
 ghost use Rattle.nfg_reader.specs.declared.reading.NfgStop.TheVariants.{Memory};
 
 use crate::front::{Front, read_front};
@@ -69,7 +70,7 @@ impl From<AllocError> for NfgStop {
 
 // The stop for a refusal.
 fn stop(refusal: Refusal<NfgKind>, tokens: &Tokens) -> NfgStop
-    ensures { IsStopOf refusal tokens.now.length result }
+    ensures { IsStopOf refusal tokens.now result }
 {
     match refusal {
         Refusal::Unfit(kind, left) => NfgStop::Fault(NfgFault {
@@ -116,9 +117,17 @@ pub fn read(alloc: Global, tokens: &Tokens) -> Result<Table, NfgStop>
     }
 }
 
-/// The tokens of a source have one answer at most, but for the kind and the place of a fault.
+/// The tokens of a source have one answer at most, with the kind and the place of a fault.
 pub fn tables_are_single()
-    ensures { (tokens : TokenList) → IsSingleAs but_for_fault (table_in tokens) }
+    ensures { (tokens : TokenList) → IsSingle (table_in tokens) }
+{}
+
+/// The tokens of a source have one fault at most; they have none where they are a file of a table, and one where they
+/// are none.
+pub fn faults_are_single()
+    ensures one { (tokens : TokenList) (kind other : NfgKind) (at place : ℕ) → IsFault tokens kind at → IsFault tokens other place → (kind ≡ other) × (at ≡ place) }
+    ensures of_no_file { (tokens : TokenList) (kind : NfgKind) (at : ℕ) → IsFile (bare tokens) → IsFault tokens kind at → ⊥ }
+    ensures of_others { (tokens : TokenList) → IsFile (bare tokens) ⊎ ((kind : NfgKind) × (at : ℕ) × IsFault tokens kind at) }
 {}
 
 /// The tokens of a file stand for one table at most.

@@ -1,1 +1,10 @@
-pub mod FileWords
+pub mod Rules
+pub mod Runs
+pub mod Turns
+pub mod Lines
+pub mod Rows
+pub mod Whole
+pub mod Told
+pub mod Numbers
+pub mod Answered
+pub mod Named

@@ -1,48 +1,216 @@
--- What the words of a command line say.
-use lib.Pointwise.{pointwise}
-use Rattle.std.specs.Prelude.{ℕ, Bool, true, false, not, if◌then◌else◌, ◌==◌, ◌≡◌, nat_eq, List, [], ◌∷◌, Option, None, Some, option_map, string_bytes, codes, Result, Ok, Err}
+-- What a command line asks for.
+use Rattle.std.specs.Prelude.{ℕ, Bool, true, false, if◌then◌else◌, ◌&&◌, ◌≡◌, List, [], ◌∷◌, length, Option, None, Some, option_map, option_and_then, string_bytes, Result, Ok, Err, codes, nat_le, nat_lt, slice_index}
+use Prim.Native.String.{String}
+use Rattle.std.specs.List.{list_any}
+use Rattle.std.specs.Str.{all_ascii_digits}
+use Rattle.std.specs.Str.Parse.{digits_value}
 use Rattle.words.specs.declared.Settings.{Settings}
 use Rattle.words.specs.declared.Settings.TheVariants as settings
 use Rattle.words.specs.declared.SettingsStop.{SettingsStop}
 use Rattle.words.specs.declared.SettingsStop.TheVariants as stops
 use Rattle.words.specs.declared.Usage.{Usage}
 use Rattle.words.specs.declared.Usage.TheVariants.{NoTool, UnknownTool, Words}
+use Rattle.words.specs.Grammar.{Options, Part, has_flag, has_prices, is_word, parts_of, plain_of, values_of}
 
--- what a command line asks for: the tool, whether it works on the strategic form of a tree, and the name of the game's file, which
--- is None for standard input
+-- a tool and how it works; a file that is None is standard input
 pub data Command : Type 0 where
   Enumpure : (strategic : Bool) → (file : Option (List ℕ)) → Command
+  Enummixed : (undominated : Bool) → (workers : ℕ) → (file : Option (List ℕ)) → Command
+  Lcp : (strategic : Bool) → (file : Option (List ℕ)) → Command
+  Lp : (strategic prices : Bool) → (file : Option (List ℕ)) → Command
+  Convert : (html : Bool) → (row column : ℕ) → (file : Option (List ℕ)) → Command
+  Check : (strategic : Bool) → (game : List ℕ) → (lines : Option (List ℕ)) → Command
+  Make : (number rows columns workers : ℕ) → Command
+
+-- ---- plain words and values
+
+abbrev pub at_most_one : List (List ℕ) → Option (Option (List ℕ))
+at_most_one [] = Some None
+at_most_one (text ∷ []) = Some (Some text)
+at_most_one (text ∷ other ∷ texts) = None
+
+-- a number of one to ten digits, in its range
+abbrev pub number_of : (least most : ℕ) → List ℕ → Option ℕ
+number_of least most text =
+    if all_ascii_digits text && (nat_lt 0 (length text) && (nat_le (length text) 10
+    && (nat_le least (digits_value 10 text) && nat_le (digits_value 10 text) most)))
+    then Some (digits_value 10 text) else None
+
+abbrev pub number_or : ℕ → (least most : ℕ) → Option (List ℕ) → Option ℕ
+number_or default least most None = Some default
+number_or default least most (Some text) = number_of least most text
+
+-- the number that an option gives, or its default
+abbrev pub number_from : ℕ → (least most : ℕ) → List (List ℕ) → Option ℕ
+number_from default least most texts = option_and_then (number_or default least most) (at_most_one texts)
+
+-- `-j`
+abbrev pub workers_from : List (List ℕ) → Option ℕ
+workers_from = number_from 1 1 64
+
+-- `-r` and `-c`
+abbrev pub player_from : ℕ → List (List ℕ) → Option ℕ
+player_from default = number_from default 1 4294967295
+
+-- `-e`, which may be left out or be `1`
+abbrev pub is_one_or_none : Option (List ℕ) → Bool
+is_one_or_none None = true
+is_one_or_none (Some text) = is_word text (codes "1")
+
+-- `-O`, which must be there: whether it is `html`, and not `sgame`
+abbrev pub layout_of : Option (List ℕ) → Option Bool
+layout_of None = None
+layout_of (Some text) = if is_word text (codes "html") then Some true else if is_word text (codes "sgame") then Some false else None
+
+-- ---- the tools, each with its options and what they say
+
+-- the first letter of a text
+abbrev pub letter : String → ℕ
+letter text = slice_index (codes text) 0
+
+abbrev pub enumpure_options : Options
+enumpure_options = record { flags = codes "qS"; valued = []; prices = false }
+
+abbrev pub enumpure_settings : (strategic : Bool) → (plain : List (List ℕ)) → Option Command
+enumpure_settings strategic plain = option_map (Enumpure strategic) (at_most_one plain)
+
+abbrev pub enumpure_of : List Part → Option Command
+enumpure_of parts = enumpure_settings (has_flag (letter "S") parts) (plain_of parts)
+
+abbrev pub enummixed_options : Options
+enummixed_options = record { flags = codes "qD"; valued = codes "j"; prices = false }
+
+abbrev pub enummixed_settings : (undominated : Bool) → (workers plain : List (List ℕ)) → Option Command
+enummixed_settings undominated workers plain = option_and_then (λ n. option_map (Enummixed undominated n) (at_most_one plain)) (workers_from workers)
+
+abbrev pub enummixed_of : List Part → Option Command
+enummixed_of parts = enummixed_settings (has_flag (letter "D") parts) (values_of (letter "j") parts) (plain_of parts)
+
+abbrev pub lcp_options : Options
+lcp_options = record { flags = codes "qS"; valued = codes "e"; prices = false }
+
+abbrev pub lcp_settings : (strategic : Bool) → (equilibria plain : List (List ℕ)) → Option Command
+lcp_settings strategic equilibria plain =
+    option_and_then (λ e. if is_one_or_none e then option_map (Lcp strategic) (at_most_one plain) else None) (at_most_one equilibria)
+
+abbrev pub lcp_of : List Part → Option Command
+lcp_of parts = lcp_settings (has_flag (letter "S") parts) (values_of (letter "e") parts) (plain_of parts)
+
+abbrev pub lp_options : Options
+lp_options = record { flags = codes "qS"; valued = []; prices = true }
+
+abbrev pub lp_settings : (strategic prices : Bool) → (plain : List (List ℕ)) → Option Command
+lp_settings strategic prices plain = option_map (Lp strategic prices) (at_most_one plain)
+
+abbrev pub lp_of : List Part → Option Command
+lp_of parts = lp_settings (has_flag (letter "S") parts) (has_prices parts) (plain_of parts)
+
+abbrev pub convert_options : Options
+convert_options = record { flags = codes "q"; valued = codes "Orc"; prices = false }
+
+abbrev pub convert_settings : (layouts rows columns plain : List (List ℕ)) → Option Command
+convert_settings layouts rows columns plain = option_and_then (λ html. option_and_then (λ row. option_and_then (λ column.
+    option_map (Convert html row column) (at_most_one plain))
+    (player_from 2 columns)) (player_from 1 rows)) (option_and_then layout_of (at_most_one layouts))
+
+abbrev pub convert_of : List Part → Option Command
+convert_of parts = convert_settings (values_of (letter "O") parts) (values_of (letter "r") parts) (values_of (letter "c") parts) (plain_of parts)
+
+abbrev pub check_options : Options
+check_options = record { flags = codes "qS"; valued = []; prices = false }
+
+abbrev pub check_settings : (strategic : Bool) → (plain : List (List ℕ)) → Option Command
+check_settings strategic [] = None
+check_settings strategic (game ∷ plain) = option_map (Check strategic game) (at_most_one plain)
+
+abbrev pub check_of : List Part → Option Command
+check_of parts = check_settings (has_flag (letter "S") parts) (plain_of parts)
+
+abbrev pub make_options : Options
+make_options = record { flags = codes "q"; valued = codes "j"; prices = false }
+
+abbrev pub table_settings : (workers : ℕ) → List (List ℕ) → Option Command
+table_settings workers (number ∷ rows ∷ columns ∷ []) = option_and_then (λ n. option_and_then (λ r. option_map (λ c. Make n r c workers)
+    (number_of 1 32 columns)) (number_of 1 32 rows)) (number_of 0 2147483647 number)
+table_settings workers plain = None
+
+abbrev pub make_settings : (workers plain : List (List ℕ)) → Option Command
+make_settings workers plain = option_and_then (λ n. table_settings n plain) (workers_from workers)
+
+abbrev pub make_of : List Part → Option Command
+make_of parts = make_settings (values_of (letter "j") parts) (plain_of parts)
+
+-- ---- the whole line
+
+-- the words after the tool's
+abbrev pub answer : Options → (List Part → Option Command) → List (List ℕ) → Option Command
+answer options settings words = option_and_then settings (parts_of options words None)
+
+abbrev pub understood : Option Command → Result Command Usage
+understood (Some command) = Ok command
+understood None = Err Words
+
+-- The command that words give to one of the seven tools, built or not, or how they are refused: the first word names the tool.
+abbrev pub any_command_from : List (List ℕ) → Result Command Usage
+any_command_from [] = Err NoTool
+any_command_from (tool ∷ words) = if is_word tool (codes "enumpure") then understood (answer enumpure_options enumpure_of words)
+    else if is_word tool (codes "enummixed") then understood (answer enummixed_options enummixed_of words)
+    else if is_word tool (codes "lcp") then understood (answer lcp_options lcp_of words)
+    else if is_word tool (codes "lp") then understood (answer lp_options lp_of words)
+    else if is_word tool (codes "convert") then understood (answer convert_options convert_of words)
+    else if is_word tool (codes "check") then understood (answer check_options check_of words)
+    else if is_word tool (codes "make") then understood (answer make_options make_of words)
+    else Err UnknownTool
+
+-- the names of the tools that are built
+abbrev pub built_tools : List (List ℕ)
+built_tools = codes "enumpure" ∷ []
+
+abbrev pub is_built : List ℕ → Bool
+is_built tool = list_any (is_word tool) built_tools
+
+-- The command that the words after the program's name give, or how they are refused: a tool that is not built is an unknown one.
+abbrev pub command_from : List (List ℕ) → Result Command Usage
+command_from [] = Err NoTool
+command_from (tool ∷ words) = if is_built tool then any_command_from (tool ∷ words) else Err UnknownTool
+
+-- the name of a command's tool
+abbrev pub tool_name : Command → List ℕ
+tool_name (Enumpure strategic file) = codes "enumpure"
+tool_name (Enummixed undominated workers file) = codes "enummixed"
+tool_name (Lcp strategic file) = codes "lcp"
+tool_name (Lp strategic prices file) = codes "lp"
+tool_name (Convert html row column file) = codes "convert"
+tool_name (Check strategic game lines) = codes "check"
+tool_name (Make number rows columns workers) = codes "make"
+
+-- the command's tool is built
+abbrev pub IsBuilt : Command → Type 0
+IsBuilt command = is_built (tool_name command) ≡ true
+
+-- ---- the code's answers
 
 -- the command that settings stand for
 abbrev pub command_of : Settings → Command
 command_of (settings.Enumpure strategic file) = Enumpure strategic (option_map string_bytes file)
+command_of (settings.Enummixed undominated workers file) = Enummixed undominated workers (option_map string_bytes file)
+command_of (settings.Lcp strategic file) = Lcp strategic (option_map string_bytes file)
+command_of (settings.Lp strategic prices file) = Lp strategic prices (option_map string_bytes file)
+command_of (settings.Convert html row column file) = Convert html row column (option_map string_bytes file)
+command_of (settings.Check strategic game lines) = Check strategic (string_bytes game) (option_map string_bytes lines)
+command_of (settings.Make number rows columns workers) = Make number rows columns workers
 
--- whether two words have the same bytes
-abbrev pub is_word : List ℕ → List ℕ → Bool
-is_word = pointwise nat_eq
+-- why there is no answer: the words are refused, or memory ran out
+abbrev pub IsRefused : {X : Type 0} → Option X → SettingsStop → Type 0
+IsRefused answer (stops.Usage usage) = (answer ≡ None) × (usage ≡ Words)
+IsRefused answer stops.Memory = Unit {0}
 
--- whether a word names a file: it is not empty and does not begin with `-`
-abbrev pub is_file : List ℕ → Bool
-is_file [] = false
-is_file (b ∷ bytes) = not (b == 45)
+-- the settings are those of the answer, or there is none, or memory ran out
+abbrev pub IsAnswer : Option Command → Result Settings SettingsStop → Type 0
+IsAnswer answer (Ok s) = answer ≡ Some (command_of s)
+IsAnswer answer (Err stop) = IsRefused answer stop
 
--- the words after the options: at most one, which names a file
-abbrev pub file_of : Bool → List (List ℕ) → Result Command Usage
-file_of strategic [] = Ok (Enumpure strategic None)
-file_of strategic (word ∷ []) = if is_file word then Ok (Enumpure strategic (Some word)) else Err Words
-file_of strategic (word ∷ other ∷ words) = Err Words
-
--- the words after `enumpure`: the option `-S`, which may be left out, and then at most one file
-abbrev pub enumpure_of : List (List ℕ) → Result Command Usage
-enumpure_of [] = file_of false []
-enumpure_of (word ∷ words) = if is_word word (codes "-S") then file_of true words else file_of false (word ∷ words)
-
--- The command that the words after the program's name give, or how they are refused: the first word names the tool.
-abbrev pub command_from : List (List ℕ) → Result Command Usage
-command_from [] = Err NoTool
-command_from (tool ∷ words) = if is_word tool (codes "enumpure") then enumpure_of words else Err UnknownTool
-
--- why reading gives no settings: the words are refused so, or they are accepted and memory ran out
+-- why reading gives no settings: the words are refused so, or memory ran out
 abbrev pub IsStop : Result Command Usage → SettingsStop → Type 0
-IsStop answer (stops.Usage usage) = answer ≡ Err usage
-IsStop answer stops.Memory = (command : Command) × (answer ≡ Ok command)
+IsStop line (stops.Usage usage) = line ≡ Err usage
+IsStop line stops.Memory = Unit {0}

@@ -1,19 +1,61 @@
 //! The words of a command line, and what they say.
 #![tactic(auto)]
 
-ghost use Rattle.std.specs.Prelude.{◌≡◌, Ok, Err, map, string_bytes, IfOk, IfErr};
-ghost use Rattle.words.specs.Words.{command_from, command_of, enumpure_of, file_of, is_file, IsStop};
+ghost use Rattle.std.specs.Prelude.{◌≡◌, Ok, map, string_bytes, IfOk, IfErr};
+ghost use Rattle.words.specs.Words.{any_command_from, command_from, command_of, is_built};
+ghost use Rattle.words.specs.Words.{IsBuilt, IsStop};
+
+mod commands;
+mod texts;
+mod tools;
 
 use std::alloc::Global;
 
-/// Which tool is to run, and how.
+/// Which tool is to run, and how. A file that is left out stands for standard input.
 #[derive(Debug, Drop)]
 pub enum Settings {
-    /// List the pure equilibria of the game in a file, or on standard input where no file is named; those of a tree
-    /// by reduced strategies where `strategic` is set, and else as behaviour.
+    /// List the pure equilibria of a game: those of a tree by reduced strategies where `strategic` is set, and else as
+    /// behaviour.
     Enumpure {
         strategic: bool,
         file: Option<String>,
+    },
+    /// List the extreme equilibria of a game of two players.
+    Enummixed {
+        undominated: bool,
+        workers: u32,
+        file: Option<String>,
+    },
+    /// Print an equilibrium of a game of two players by complementary pivoting.
+    Lcp {
+        strategic: bool,
+        file: Option<String>,
+    },
+    /// Print an equilibrium of a constant-sum game of two players by linear programming.
+    Lp {
+        strategic: bool,
+        prices: bool,
+        file: Option<String>,
+    },
+    /// Print the strategic form, as HTML or as LaTeX for `sgame`.
+    Convert {
+        html: bool,
+        row: u32,
+        column: u32,
+        file: Option<String>,
+    },
+    /// Check lines of profiles of the game.
+    Check {
+        strategic: bool,
+        game: String,
+        lines: Option<String>,
+    },
+    /// Make a table, and count what is found in it.
+    Make {
+        number: u32,
+        rows: u32,
+        columns: u32,
+        workers: u32,
     },
 }
 
@@ -22,7 +64,7 @@ pub enum Settings {
 pub enum Usage {
     /// There is no word.
     NoTool,
-    /// The first word names no tool.
+    /// The first word names no tool, or one that is not built.
     UnknownTool,
     /// The words after the tool's are not understood.
     Words,
@@ -37,60 +79,46 @@ pub enum SettingsStop {
     Memory,
 }
 
-// Whether a word names a file.
-fn is_file(word: &str) -> bool
-    ensures { result ≡ is_file word.now }
+// Whether a tool of this name is built.
+fn is_built(tool: &str) -> bool
+    ensures { result ≡ is_built tool.now }
 {
-    match word.as_bytes().first() {
-        Some(byte) => *byte != b'-',
-        None => false,
-    }
+    tool == "enumpure"
 }
 
-// The settings of `enumpure`, by the words after its options.
-fn read_file(alloc: Global, strategic: bool, words: &[String]) -> Result<Settings, SettingsStop>
-    ensures settings { IfOk result (λ s. file_of strategic (map string_bytes words.now) ≡ Ok (command_of s)) }
-    ensures stop { IfErr result (IsStop (file_of strategic (map string_bytes words.now))) }
+/// Reads words that name any of the seven tools, built or not.
+pub fn read_any_settings(alloc: Global, words: &[String]) -> Result<Settings, SettingsStop>
+    ensures settings { IfOk result (λ s. any_command_from (map string_bytes words.now)
+        ≡ Ok (command_of s)) }
+    ensures stop { IfErr result (IsStop (any_command_from (map string_bytes words.now))) }
 {
-    let Some((word, rest)) = words.split_first() else {
-        return Ok(Settings::Enumpure {
-            strategic,
-            file: None,
-        });
+    let Some((tool, rest)) = words.split_first() else {
+        return Err(SettingsStop::Usage(Usage::NoTool));
     };
-    if !rest.is_empty() || !is_file(word.as_str()) {
-        return Err(SettingsStop::Usage(Usage::Words));
-    }
-    match String::from_str(alloc, word.as_str()) {
-        Ok(file) => Ok(Settings::Enumpure {
-            strategic,
-            file: Some(file),
-        }),
-        Err(_) => Err(SettingsStop::Memory),
-    }
-}
-
-// The settings of `enumpure`, by the words after it.
-fn read_enumpure(alloc: Global, words: &[String]) -> Result<Settings, SettingsStop>
-    ensures settings { IfOk result (λ s. enumpure_of (map string_bytes words.now) ≡ Ok (command_of s)) }
-    ensures stop { IfErr result (IsStop (enumpure_of (map string_bytes words.now))) }
-{
-    match words.split_first() {
-        Some((word, rest)) if word.as_str() == "-S" => read_file(alloc, true, rest),
-        _ => read_file(alloc, false, words),
+    match tool.as_str() {
+        "enumpure" => tools::read_enumpure(alloc, rest),
+        "enummixed" => tools::read_enummixed(alloc, rest),
+        "lcp" => tools::read_lcp(alloc, rest),
+        "lp" => tools::read_lp(alloc, rest),
+        "convert" => tools::read_convert(alloc, rest),
+        "check" => tools::read_check(alloc, rest),
+        "make" => tools::read_make(alloc, rest),
+        _ => Err(SettingsStop::Usage(Usage::UnknownTool)),
     }
 }
 
 /// Reads the words that stand after the program's own name.
 pub fn read_settings(alloc: Global, words: &[String]) -> Result<Settings, SettingsStop>
-    ensures settings { IfOk result (λ s. command_from (map string_bytes words.now) ≡ Ok (command_of s)) }
+    ensures settings { IfOk result (λ s. command_from (map string_bytes words.now)
+        ≡ Ok (command_of s)) }
     ensures stop { IfErr result (IsStop (command_from (map string_bytes words.now))) }
+    ensures built { IfOk result (λ s. IsBuilt (command_of s)) }
 {
-    let Some((tool, rest)) = words.split_first() else {
+    let Some((tool, _)) = words.split_first() else {
         return Err(SettingsStop::Usage(Usage::NoTool));
     };
-    if tool.as_str() != "enumpure" {
+    if !is_built(tool.as_str()) {
         return Err(SettingsStop::Usage(Usage::UnknownTool));
     }
-    read_enumpure(alloc, rest)
+    read_any_settings(alloc, words)
 }

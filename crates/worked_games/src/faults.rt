@@ -4,16 +4,18 @@ use memory::Memory;
 
 const DILEMMA: &str = "NFG 1 R \"PD\" { \"A\" \"B\" } { 2 2 } 3 3 5 0 0 5 1 1";
 
-/// Words other than `enumpure`, its option and the name of one file.
+/// No tool that is built, and words after `enumpure` other than its letters and the name of one file.
 #[test]
 fn words_are_refused(rt: HostRuntime) -> Result<(), Memory> {
-    let rows: [(&[&str], &str); 6] = [
+    let rows: [(&[&str], &str); 8] = [
+        (&[], "gambit: no tool\n"),
         (&["solve"], "gambit: unknown tool\n"),
-        (&["Enumpure", "-S"], "gambit: unknown tool\n"),
-        (&["enumpure", "-q"], "gambit: words not understood\n"),
-        (&["enumpure", ""], "gambit: words not understood\n"),
-        (&["enumpure", "-S", "-S"], "gambit: words not understood\n"),
+        (&["lp", "--price"], "gambit: unknown tool\n"),
+        (&["enummixed", "-c"], "gambit: unknown tool\n"),
         (&["enumpure", "-s"], "gambit: words not understood\n"),
+        (&["enumpure", "-P"], "gambit: words not understood\n"),
+        (&["enumpure", "a", "b"], "gambit: words not understood\n"),
+        (&["enumpure", "a", ""], "gambit: words not understood\n"),
     ];
     for (words, err) in rows {
         let case = Case {
@@ -27,21 +29,23 @@ fn words_are_refused(rt: HostRuntime) -> Result<(), Memory> {
     Ok(())
 }
 
-/// Words after `enumpure` that do not name one file.
+/// Letters of `enumpure`, and names that are unlike one: (words, the name of the file that is there).
 #[test]
-fn one_file_is_named(rt: HostRuntime) -> Result<(), Memory> {
-    let rows: [(&[&str], &str); 4] = [
-        (&["enumpure", "-"], "gambit: words not understood\n"),
-        (&["enumpure", "a", "b"], "gambit: words not understood\n"),
-        (&["enumpure", "a", ""], "gambit: words not understood\n"),
-        (&["enumpure", "a", "-S"], "gambit: words not understood\n"),
+fn letters_and_names_are_read(rt: HostRuntime) -> Result<(), Memory> {
+    let rows: [(&[&str], &str); 6] = [
+        (&["enumpure", "-q", "a"], "a"),
+        (&["enumpure", "-S", "a", "-Sq"], "a"),
+        (&["enumpure", "--", "-S"], "-S"),
+        (&["enumpure", "--", "--"], "--"),
+        (&["enumpure", "-"], "-"),
+        (&["enumpure", ""], ""),
     ];
-    for (words, err) in rows {
+    for (words, name) in rows {
         let case = Case {
             words,
-            status: 2,
-            err,
-            ..Case::of(DILEMMA)
+            file: Some((name, DILEMMA)),
+            out: "NE,0,1,0,1\n",
+            ..Case::of("")
         };
         assert!(rt; case.holds(&rt, rt.alloc())?);
     }

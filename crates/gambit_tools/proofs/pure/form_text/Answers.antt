@@ -1,4 +1,4 @@
-use Rattle.std.proofs.Common.{sym, subst, true, false}
+use Rattle.std.proofs.Common.{sym, subst}
 use Rattle.answers.specs.Answers.{Gives, map_ok}
 use Rattle.enumpure.specs.declared.listing.ListStop.TheVariants as list_stop
 use Rattle.enumpure.specs.Stops.{pure_text}

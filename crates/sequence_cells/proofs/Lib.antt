@@ -1,0 +1,4 @@
+mod Gathering
+mod Order
+mod Placed
+mod Places

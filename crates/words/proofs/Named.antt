@@ -1,0 +1,90 @@
+-- The command that words give is one of the tool that they name.
+use Rattle.std.proofs.Common.{◌≡◌, ◌∙◌, ap, sym, subst, refl, ℕ, Bool, true, false, if◌then◌else◌, List, [], ◌∷◌, Option, Some, None, Result, Ok, Err, codes, IfOk}
+use Rattle.std.specs.Prelude.{option_and_then, option_map}
+use Rattle.std.proofs.lemmas.Slice.Eq.{bytes_eq-Decides}
+use Rattle.words.specs.Grammar.{has_flag, has_prices, is_word, parts_of, plain_of, values_of}
+use Rattle.words.specs.Words.{Command, Enumpure, Enummixed, Lcp, Lp, Convert, Check, Make, answer, any_command_from, at_most_one, check_of, check_options, check_settings, command_of, convert_of, convert_options, enummixed_of, enummixed_options, enumpure_of, enumpure_options, is_built, is_one_or_none, layout_of, lcp_of, lcp_options, lp_of, lp_options, make_of, make_options, number_of, player_from, table_settings, tool_name, understood, workers_from, IsBuilt}
+use Rattle.words.specs.declared.Settings.{Settings}
+use Rattle.words.specs.declared.SettingsStop.{SettingsStop}
+use Rattle.words.specs.declared.Usage.{Usage}
+
+-- a command, if there is one, is of the tool with this name
+abbrev Named : List ℕ → Option Command → Type 0
+Named name None = Unit {0}
+Named name (Some command) = tool_name command ≡ name
+
+map_named : {X : Type 0} (name : List ℕ) (f : X → Command) → ((x : X) → tool_name (f x) ≡ name) → (o : Option X) → Named name (option_map f o)
+map_named name f is None = tt
+map_named name f is (Some x) = is x
+
+then_named : {X : Type 0} (name : List ℕ) (f : X → Option Command) → ((x : X) → Named name (f x)) → (o : Option X) → Named name (option_and_then f o)
+then_named name f is None = tt
+then_named name f is (Some x) = is x
+
+if_named : (name : List ℕ) (b : Bool) (o : Option Command) → Named name o → Named name (if b then o else None)
+if_named name true o is = is
+if_named name false o is = tt
+
+-- ---- the tools
+enumpure_named : (words : List (List ℕ)) → Named (codes "enumpure") (answer enumpure_options enumpure_of words)
+enumpure_named words = then_named _ enumpure_of (λ ps. map_named _ (Enumpure (has_flag 83 ps)) (λ file. refl) (at_most_one (plain_of ps))) (parts_of enumpure_options words None)
+
+enummixed_named : (words : List (List ℕ)) → Named (codes "enummixed") (answer enummixed_options enummixed_of words)
+enummixed_named words = then_named _ enummixed_of (λ ps. then_named _ (λ n. option_map (Enummixed (has_flag 68 ps) n) (at_most_one (plain_of ps)))
+    (λ n. map_named _ (Enummixed (has_flag 68 ps) n) (λ file. refl) (at_most_one (plain_of ps))) (workers_from (values_of 106 ps))) (parts_of enummixed_options words None)
+
+lcp_named : (words : List (List ℕ)) → Named (codes "lcp") (answer lcp_options lcp_of words)
+lcp_named words = then_named _ lcp_of (λ ps. then_named _ (λ e. if is_one_or_none e then option_map (Lcp (has_flag 83 ps)) (at_most_one (plain_of ps)) else None)
+    (λ e. if_named _ (is_one_or_none e) _ (map_named _ (Lcp (has_flag 83 ps)) (λ file. refl) (at_most_one (plain_of ps)))) (at_most_one (values_of 101 ps))) (parts_of lcp_options words None)
+
+lp_named : (words : List (List ℕ)) → Named (codes "lp") (answer lp_options lp_of words)
+lp_named words = then_named _ lp_of (λ ps. map_named _ (Lp (has_flag 83 ps) (has_prices ps)) (λ file. refl) (at_most_one (plain_of ps))) (parts_of lp_options words None)
+
+convert_named : (words : List (List ℕ)) → Named (codes "convert") (answer convert_options convert_of words)
+convert_named words = then_named _ convert_of (λ ps. then_named _ _ (λ html. then_named _ _ (λ row. then_named _ _ (λ column.
+    map_named _ (Convert html row column) (λ file. refl) (at_most_one (plain_of ps))) (player_from 2 (values_of 99 ps))) (player_from 1 (values_of 114 ps)))
+    (option_and_then layout_of (at_most_one (values_of 79 ps)))) (parts_of convert_options words None)
+
+game_named : (strategic : Bool) (plain : List (List ℕ)) → Named (codes "check") (check_settings strategic plain)
+game_named strategic [] = tt
+game_named strategic (game ∷ plain) = map_named _ (Check strategic game) (λ lines. refl) (at_most_one plain)
+
+check_named : (words : List (List ℕ)) → Named (codes "check") (answer check_options check_of words)
+check_named words = then_named _ check_of (λ ps. game_named (has_flag 83 ps) (plain_of ps)) (parts_of check_options words None)
+
+table_named : (workers : ℕ) (plain : List (List ℕ)) → Named (codes "make") (table_settings workers plain)
+table_named workers (number ∷ rows ∷ columns ∷ []) = then_named _ _ (λ n. then_named _ _ (λ r. map_named _ (λ c. Make n r c workers) (λ c. refl) (number_of 1 32 columns)) (number_of 1 32 rows)) (number_of 0 2147483647 number)
+table_named workers _ = tt
+
+make_named : (words : List (List ℕ)) → Named (codes "make") (answer make_options make_of words)
+make_named words = then_named _ make_of (λ ps. then_named _ (λ n. table_settings n (plain_of ps)) (λ n. table_named n (plain_of ps)) (workers_from (values_of 106 ps))) (parts_of make_options words None)
+
+-- ---- the whole line
+-- the first word names the tool of the line's command
+abbrev NamedFirst : List ℕ → Result Command Usage → Type 0
+NamedFirst tool line = IfOk line (λ command. tool_name command ≡ tool)
+
+understood_named : (tool : List ℕ) (o : Option Command) → Named tool o → NamedFirst tool (understood o)
+understood_named tool None is = tt
+understood_named tool (Some command) is = is
+
+either_named : (tool name : List ℕ) (o : Option Command) (other : Result Command Usage) → Named name o → NamedFirst tool other → NamedFirst tool (if is_word tool name then understood o else other)
+either_named tool name o other is rest = go (is_word tool name) refl
+  where
+    go : (t : Bool) → is_word tool name ≡ t → NamedFirst tool (if t then understood o else other)
+    go true e = understood_named tool o (subst (λ n. Named n o) (sym ((bytes_eq-Decides tool name).0 e)) is)
+    go false e = rest
+
+any_named : (tool : List ℕ) (words : List (List ℕ)) → NamedFirst tool (any_command_from (tool ∷ words))
+any_named tool words =
+    either_named tool (codes "enumpure") _ _ (enumpure_named words) (either_named tool (codes "enummixed") _ _ (enummixed_named words) (either_named tool (codes "lcp") _ _ (lcp_named words)
+    (either_named tool (codes "lp") _ _ (lp_named words) (either_named tool (codes "convert") _ _ (convert_named words) (either_named tool (codes "check") _ _ (check_named words)
+    (either_named tool (codes "make") _ _ (make_named words) tt))))))
+
+-- where the first word is the name of a tool that is built, so is the command's tool
+pub built : (words : List (List ℕ)) (tool : List ℕ) (rest : List (List ℕ)) → words ≡ tool ∷ rest → is_built tool ≡ true
+    → (answer : Result Settings SettingsStop) → IfOk answer (λ s. any_command_from words ≡ Ok (command_of s)) → IfOk answer (λ s. IsBuilt (command_of s))
+built words tool rest e is (Ok s) h =
+    let named : tool_name (command_of s) ≡ tool = subst (NamedFirst tool) (ap any_command_from (sym e) ∙ h) (any_named tool rest) in
+    ap is_built named ∙ is
+built words tool rest e is (Err stop) h = tt
