@@ -11,6 +11,3 @@ pub use fault::{EfgFault, EfgStop};
 pub use reading::{read, trees_are_single};
 pub use tree_files::files_have_one_tree;
 pub use tree_uses::EfgKind;
-
-#[cfg(test)]
-mod tests;

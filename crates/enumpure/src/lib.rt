@@ -10,6 +10,3 @@ mod replies;
 
 pub use listing::{ListStop, list_pure_equilibria, pure_texts_are_single};
 pub use replies::stable_profiles;
-
-#[cfg(test)]
-mod tests;

@@ -9,6 +9,3 @@ mod strategies;
 pub use reading::{
     NfgFault, NfgKind, NfgStop, faults_are_single, files_have_one_table, read, tables_are_single,
 };
-
-#[cfg(test)]
-mod tests;

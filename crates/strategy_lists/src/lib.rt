@@ -8,6 +8,3 @@ mod strategies;
 pub use decisions::decisions_of_all;
 pub use places::{own_sets_are_those_of_the_tree, set_places};
 pub use strategies::{count_strategies, list_strategies};
-
-#[cfg(test)]
-mod tests;

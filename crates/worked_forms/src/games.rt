@@ -1,6 +1,6 @@
 // Games as text that several tests read.
 use efg_reader::read;
-use game_core::Tree;
+use game_core::{Table, Tree};
 use game_text::read_tokens;
 use std::alloc::Global;
 
@@ -13,6 +13,14 @@ pub fn tree_of(alloc: Global, text: &[u8]) -> Option<Tree> {
         return None;
     }
     read(alloc, &tokens).ok()
+}
+
+// The table that a text stands for; nothing where it is none.
+pub fn table_of(alloc: Global, text: &[u8]) -> Option<Table> {
+    let Ok(tokens) = read_tokens(alloc, text) else {
+        return None;
+    };
+    nfg_reader::read(alloc, &tokens).ok()
 }
 
 pub const POKER: &[u8] = br#"EFG 2 R "A simple Poker game" { "Fred" "Alice" } ""

@@ -1,9 +1,11 @@
-//! Worked reduced forms, as tests over `reduced_form::reduce` on the text of trees, and pure equilibria of small games
-//! beside a plain listing of them by the definition. Nothing here is called by the program.
+//! Tables and trees as they are read, and reduced forms, as tests over the readers and `reduced_form::reduce` on text, and
+//! pure equilibria of small games beside a plain listing of them by the definition. Nothing here is called by the program.
 #![tactic(auto)]
 
 #[cfg(test)]
 mod games;
+#[cfg(test)]
+mod reading;
 #[cfg(test)]
 mod recall;
 #[cfg(test)]

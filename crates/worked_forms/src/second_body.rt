@@ -1,12 +1,12 @@
 // The pure equilibria of small games by the definition, every reply of every player tried, beside the real listings.
 use crate::games::{
-    ALL_ZERO, ALONE, CHANCE_BEHIND, ENTRY, FORGET, PAID_ON_THE_WAY, POKER, TWO_WAYS, tree_of,
+    ALL_ZERO, ALONE, CHANCE_BEHIND, ENTRY, FORGET, PAID_ON_THE_WAY, POKER, TWO_WAYS, table_of,
+    tree_of,
 };
 use enumpure::list_pure_equilibria;
 use enumpure_trees::list_pure_behaviours;
 use frac128::{Frac, Memory};
 use game_core::{Table, Tree};
-use game_text::read_tokens;
 use ne_printer::line;
 use reduced_form::{Reduced, reduce};
 use std::alloc::Global;
@@ -185,14 +185,6 @@ fn behaviour_text(alloc: Global, tree: &Tree, reduced: &Reduced) -> Result<Vec<u
         lines.push(behaviour_line(alloc, tree, reduced, &counts, *profile)?)?;
     }
     joined(alloc, lines)
-}
-
-// The table that a text stands for; nothing where it is none.
-fn table_of(alloc: Global, text: &[u8]) -> Option<Table> {
-    let Ok(tokens) = read_tokens(alloc, text) else {
-        return None;
-    };
-    nfg_reader::read(alloc, &tokens).ok()
 }
 
 // How many pure equilibria a table has, where both listings of them are the same; else nothing.

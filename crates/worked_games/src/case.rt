@@ -42,6 +42,16 @@ impl<'a> Case<'a> {
 
     /// Whether the run does what is wanted.
     pub fn holds<R: Threads + Sync>(&self, rt: &R, alloc: Global) -> Result<bool, Memory> {
+        self.takes(rt, alloc, self.out.as_bytes())
+    }
+
+    /// Whether the run does what is wanted, with these bytes on its output.
+    pub fn takes<R: Threads + Sync>(
+        &self,
+        rt: &R,
+        alloc: Global,
+        taken: &[u8],
+    ) -> Result<bool, Memory> {
         let input = Vec::from_slice(alloc, self.input.as_bytes())?;
         let failing = Vec::from_slice(alloc, self.failing)?;
         let mut named = Vec::new(alloc);
@@ -63,15 +73,12 @@ impl<'a> Case<'a> {
             &mut err,
             &OpenGate,
         );
-        Ok(
-            status == self.status
-                && out.taken() == self.out.as_bytes()
-                && err.taken() == self.err.as_bytes(),
-        )
+        Ok(status == self.status && out.taken() == taken && err.taken() == self.err.as_bytes())
     }
 }
 
-fn owned(alloc: Global, words: &[&str]) -> Result<Vec<String>, Memory> {
+/// Words as a run takes them.
+pub fn owned(alloc: Global, words: &[&str]) -> Result<Vec<String>, Memory> {
     let mut owned = Vec::new(alloc);
     for word in words {
         owned.push(String::from_str(alloc, word)?)?;

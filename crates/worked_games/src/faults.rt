@@ -1,6 +1,8 @@
 // Words that are refused, inputs that are refused, and calls of the outside that fail.
 use crate::case::{Case, Large};
 use memory::Memory;
+use std::alloc::Global;
+use std::thread::Threads;
 
 const DILEMMA: &str = "NFG 1 R \"PD\" { \"A\" \"B\" } { 2 2 } 3 3 5 0 0 5 1 1";
 
@@ -129,16 +131,24 @@ fn files_are_named(rt: HostRuntime) -> Result<(), Memory> {
     Ok(())
 }
 
-/// The call of the inputs that fails, by its number: the selection, the first read, the read that would find the end.
-#[test]
-fn failing_inputs_are_told(rt: HostRuntime) -> Result<(), Memory> {
+const ENTRY: &str =
+    "EFG 2 R \"Entry\" { \"E\" \"I\" } p \"\" 1 1 \"\" { \"Out\" \"In\" } 0 t \"\" 1 \"Out\" { 0, 2 } \
+p \"\" 2 1 \"\" { \"Fight\" \"Accommodate\" } 0 t \"\" 2 \"Fight\" { -1, -1 } t \"\" 3 \"Share\" { 1, 1 }";
+
+// Whether each call of the inputs that fails is told: the selection, the first read, the read that would find the end. No
+// other call is made.
+fn failing_inputs_are_told<R: Threads + Sync>(
+    rt: &R,
+    alloc: Global,
+    whole: Case,
+) -> Result<bool, Memory> {
     let rows: [(&[u64], u8, &str, &str); 6] = [
         (&[1], 3, "gambit: cannot open\n", ""),
         (&[2], 3, "gambit: read failed\n", ""),
         (&[3], 3, "gambit: read failed\n", ""),
         (&[1, 2, 3], 3, "gambit: cannot open\n", ""),
-        (&[4], 0, "", "NE,0,1,0,1\n"),
-        (&[0], 0, "", "NE,0,1,0,1\n"),
+        (&[4], 0, "", whole.out),
+        (&[0], 0, "", whole.out),
     ];
     for (failing, status, err, out) in rows {
         let case = Case {
@@ -146,37 +156,63 @@ fn failing_inputs_are_told(rt: HostRuntime) -> Result<(), Memory> {
             status,
             err,
             out,
-            ..Case::of(DILEMMA)
+            ..whole
         };
-        assert!(rt; case.holds(&rt, rt.alloc())?);
+        if !case.holds(rt, alloc)? {
+            return Ok(false);
+        }
     }
-    Ok(())
+    Ok(true)
 }
 
-/// Sinks that take few bytes a call, fail after some bytes, or fail to flush: (bytes a call, bytes in all, whether the
-/// flush fails), then the status, and what both sinks took.
-#[test]
-fn failing_sinks_are_told(rt: HostRuntime) -> Result<(), Memory> {
-    let told = "gambit: write failed\n";
-    let rows = [
-        (1, 1000, false, 0, "NE,0,1,0,1\n", ""),
-        (7, 11, false, 0, "NE,0,1,0,1\n", ""),
-        (1000, 5, false, 4, "NE,0,", told),
-        (1, 10, false, 4, "NE,0,1,0,1", told),
-        (1000, 0, false, 4, "", told),
-        (1000, 1000, true, 4, "NE,0,1,0,1\n", told),
-    ];
-    for (out_most, out_limit, flush_fails, status, out, err) in rows {
+// Whether the write that fails is told after each number of bytes, with the output taking this many bytes a call at most.
+fn failing_writes_are_told<R: Threads + Sync>(
+    rt: &R,
+    alloc: Global,
+    whole: Case,
+    out_most: usize,
+) -> Result<bool, Memory> {
+    let text = whole.out.as_bytes();
+    for out_limit in 0..text.len() {
         let case = Case {
             out_most,
             out_limit,
-            flush_fails,
-            status,
-            out,
-            err,
-            ..Case::of(DILEMMA)
+            status: 4,
+            err: "gambit: write failed\n",
+            ..whole
         };
-        assert!(rt; case.holds(&rt, rt.alloc())?);
+        if !case.takes(rt, alloc, &text[..out_limit])? {
+            return Ok(false);
+        }
+    }
+    Ok(true)
+}
+
+/// Each selection, read, write and flush that fails, in turn, on a table and on a tree.
+#[test]
+fn each_failing_call_is_told(rt: HostRuntime) -> Result<(), Memory> {
+    let rows = [
+        (DILEMMA, "NE,0,1,0,1\n"),
+        (ENTRY, "NE,1,0,1,0\nNE,0,1,0,1\n"),
+    ];
+    for (input, out) in rows {
+        let whole = Case {
+            out,
+            ..Case::of(input)
+        };
+        assert!(rt; failing_inputs_are_told(&rt, rt.alloc(), whole)?);
+        for out_most in [1, 7, 1000] {
+            assert!(rt; failing_writes_are_told(&rt, rt.alloc(), whole, out_most)?);
+            let slow = Case { out_most, ..whole };
+            assert!(rt; slow.holds(&rt, rt.alloc())?);
+        }
+        let unflushed = Case {
+            flush_fails: true,
+            status: 4,
+            err: "gambit: write failed\n",
+            ..whole
+        };
+        assert!(rt; unflushed.holds(&rt, rt.alloc())?);
     }
     Ok(())
 }
@@ -186,7 +222,7 @@ fn failing_sinks_are_told(rt: HostRuntime) -> Result<(), Memory> {
 fn faults_of_the_error_sink_change_nothing(rt: HostRuntime) -> Result<(), Memory> {
     let rows: [(&[&str], usize, &str); 3] = [
         (&[], 0, ""),
-        (&[], 7, "gambit:"),
+        (&[], 3, "gam"),
         (&[], 16, "gambit: no tool\n"),
     ];
     for (words, err_limit, err) in rows {

@@ -4,8 +4,12 @@
 #[cfg(test)]
 mod case;
 #[cfg(test)]
+mod cuts;
+#[cfg(test)]
 mod faults;
 #[cfg(test)]
 mod pure_equilibria;
+#[cfg(test)]
+mod tables;
 #[cfg(test)]
 mod trees;

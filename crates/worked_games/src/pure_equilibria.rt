@@ -55,6 +55,21 @@ fn pure_equilibria_of_tables(rt: HostRuntime) -> Result<(), Memory> {
             "NFG 1 R \"\" { \"A\" \"B\" } { { \"1\" \"2\" \"3\" } { \"1\" \"2\" } } \"\" { { \"\" 1, 1 } { \"\" 0, 2 } { \"\" 0, 2 } { \"\" 1, 1 } { \"\" 0, 3 } { \"\" 2, 0 } } 1 2 3 4 5 6",
             "NE,1,0,0,1,0\n",
         ),
+        // Rock, paper, scissors has none.
+        (
+            "NFG 1 R \"\" { \"A\" \"B\" } { 3 3 } 0 0 1 -1 -1 1 -1 1 0 0 1 -1 1 -1 -1 1 0 0",
+            "",
+        ),
+        // Two equilibria in another order than their numbers.
+        (
+            "NFG 1 R \"\" { \"A\" \"B\" } { 3 2 } 1 5 4 3 4 0 2 5 0 2 1 1",
+            "NE,1,0,0,0,1\nNE,0,1,0,1,0\n",
+        ),
+        // The first player cares for the second, the second for the third and the third for the first.
+        (
+            "NFG 1 R \"\" { \"A\" \"B\" \"C\" } { 2 2 2 } 1 2 -1 1 2 7 5 0 -1 4 0 7 1 0 3 1 0 6 5 2 3 4 2 6",
+            "NE,1,0,0,1,0,1\nNE,0,1,1,0,1,0\n",
+        ),
         // Outcome 0 pays nothing.
         (
             "NFG 1 R \"\" { \"A\" } { 2 } { { \"loss\" -1 } } 1 0",

@@ -105,6 +105,14 @@ fn headers_of_trees_are_refused(rt: HostRuntime) -> Result<(), Memory> {
 fn ends_of_trees_are_refused(rt: HostRuntime) -> Result<(), Memory> {
     let rows = [
         (
+            "EFG 2 R \"\" { \"A\" } p \"\" 1 1 { \"x\" } 0",
+            "gambit: efg fault at 37: unfinished\n",
+        ),
+        (
+            "EFG 2 R \"\" { \"A\" } t \"\" 0 0",
+            "gambit: efg fault at 26: trailing\n",
+        ),
+        (
             "EFG 2 R \"\" { \"A\" }",
             "gambit: efg fault at 18: unfinished\n",
         ),
@@ -131,6 +139,14 @@ fn ends_of_trees_are_refused(rt: HostRuntime) -> Result<(), Memory> {
         (
             "EFG 2 R \"\" { \"A\" } p \"\" 1 1 \"\" { \"a\" \"b\" } 0 t \"\" 0",
             "gambit: efg fault at 51: unfinished\n",
+        ),
+        (
+            "EFG 2 R \"Entry\" { \"E\" \"I\" }\np",
+            "gambit: efg fault at 29: unfinished\n",
+        ),
+        (
+            "EFG 2 R \"Entry\" { \"E\" \"I\" }\np \"\" 1 1 \"\" { \"Out\" \"In\" } 0\nt \"\" 1 \"Out\" { 0, 2 }\np \"\" 2 1 \"\" { \"Fight\" \"Accommodate\" } 0\nt \"\" 2 \"Fight\" { -1, -1 }\n",
+            "gambit: efg fault at 145: unfinished\n",
         ),
         (
             "EFG 2 R \"\" { \"A\" } t \"\" 0 5",
@@ -164,6 +180,14 @@ fn ends_of_trees_are_refused(rt: HostRuntime) -> Result<(), Memory> {
 #[test]
 fn nodes_are_refused(rt: HostRuntime) -> Result<(), Memory> {
     let rows = [
+        (
+            "EFG 2 R \"\" { \"A\" } p \"\" 1 1 { } 0",
+            "gambit: efg fault at 30: node\n",
+        ),
+        (
+            "EFG 2 R \"\" { \"A\" } p \"\" 2 1 { \"x\" } 0",
+            "gambit: efg fault at 24: unknown player\n",
+        ),
         (
             "EFG 2 R \"\" { \"A\" } x \"\" 0",
             "gambit: efg fault at 19: node\n",
@@ -261,6 +285,10 @@ fn nodes_are_refused(rt: HostRuntime) -> Result<(), Memory> {
             "gambit: efg fault at 37: node\n",
         ),
         (
+            "EFG 2 R \"Entry\" { \"E\" \"I\" }\np \"\" 3 1 \"\" { \"Out\" \"In\" } 0\nt \"\" 1 \"Out\" { 0, 2 }\np \"\" 2 1 \"\" { \"Fight\" \"Accommodate\" } 0\nt \"\" 2 \"Fight\" { -1, -1 }\nt \"\" 3 \"Share\" { 1, 1 }\n",
+            "gambit: efg fault at 33: unknown player\n",
+        ),
+        (
             "EFG 2 R \"\" { \"A\" } p \"\" 0 1 \"\" { \"a\" } 0 t \"\" 0",
             "gambit: efg fault at 24: unknown player\n",
         ),
@@ -285,6 +313,10 @@ fn nodes_are_refused(rt: HostRuntime) -> Result<(), Memory> {
 #[test]
 fn sets_are_refused(rt: HostRuntime) -> Result<(), Memory> {
     let rows = [
+        (
+            "EFG 2 R \"\" { \"A\" } p \"\" 1 1 { \"x\" } 0 p \"\" 1 1 { \"x\" \"y\" } 0",
+            "gambit: efg fault at 53: set mismatch\n",
+        ),
         (
             "EFG 2 R \"\" { \"A\" } p \"\" 1 1 foo",
             "gambit: efg fault at 28: set mismatch\n",
@@ -358,6 +390,10 @@ fn sets_are_refused(rt: HostRuntime) -> Result<(), Memory> {
 fn probabilities_are_refused(rt: HostRuntime) -> Result<(), Memory> {
     let rows = [
         (
+            "EFG 2 R \"\" { \"A\" } c \"\" 1 { \"x\" -1/2 \"y\" 3/2 } 0",
+            "gambit: efg fault at 32: probability of set 1 sums to -1/2\n",
+        ),
+        (
             "EFG 2 R \"\" { \"A\" } c \"\" 1 \"\" { \"x\" 0.333333 \"y\" 0.333333 \"z\" 0.333333 } 0",
             "gambit: efg fault at 70: probability of set 1 sums to 999999/1000000\n",
         ),
@@ -397,6 +433,10 @@ fn probabilities_are_refused(rt: HostRuntime) -> Result<(), Memory> {
 #[test]
 fn outcomes_are_refused(rt: HostRuntime) -> Result<(), Memory> {
     let rows = [
+        (
+            "EFG 2 R \"\" { \"A\" } t \"\" 1 { 1 2 }",
+            "gambit: efg fault at 30: outcome mismatch\n",
+        ),
         (
             "EFG 2 R \"\" { \"A\" } t \"\" 1 foo",
             "gambit: efg fault at 26: outcome mismatch\n",
