@@ -3,6 +3,7 @@ use Rattle.std.proofs.Common.{ℕ, zero, suc, ◌+◌, ◌-◌, ◌<◌, ◌≤�
 use Rattle.std.proofs.lemmas.Grind.{flat_map-append}
 use Rattle.std.proofs.lemmas.List.{append-nil, take_more, get_or-map, length-map}
 use Rattle.std.proofs.lemmas.Option.{none-some, same_Some, slice_get-get_or, slice_get_within, get_or_from_slice_get}
+use Rattle.game_theory.proofs.Entries.{listed-next}
 use Rattle.rational.specs.Rational.{ℚ}
 use Rattle.game_theory.specs.Lines.{listed}
 use Rattle.game_theory.specs.Mixed.{sure}
@@ -19,16 +20,6 @@ use Rattle.reduced_strategies.proofs.StrategyProfiles.{given_at-own, list_of-red
 use Rattle.pure_payoffs.proofs.Choices.{choice_at-place}
 use Rattle.pure_payoffs.proofs.Places.{strategy-read}
 use Rattle.behaviour_profile.specs.FirstActions.{first_for_none, entries_at}
-
--- one entry more
-listed-next : (n : ℕ) (f : ℕ → ℚ) → listed (suc n) f ≡ listed n f ++ f n ∷ []
-listed-next zero f = refl
-listed-next (suc n) f = ap (λ v. f 0 ∷ v) (listed-next n (λ i. f (suc i)))
-
--- the entries of a set with one action more
-pub listed-push : (all now old : List ℚ) (n : ℕ) (f : ℕ → ℚ) (x : ℚ) → now ≡ old ++ listed n f → all ≡ now ++ x ∷ [] → x ≡ f n → all ≡ old ++ listed (n + 1) f
-listed-push all now old n f x before push is =
-    push ∙ ap₂ (λ v w. v ++ w ∷ []) before is ∙ append_assoc old (listed n f) (f n ∷ []) ∙ ap (λ v. old ++ v) (sym (listed-next n f) ∙ ap (λ v. listed v f) (sym (add-one n)))
 
 -- the entries of one set more
 pub entries_at-push : (t : Tree) (b : Behaviour) (all now old : List ℚ) (sets : List ℕ) (place s : ℕ) → slice_get sets place ≡ Some s → now ≡ old ++ entries_at t b (take place sets) → all ≡ now ++ listed (t.actions s) (b s)

@@ -11,7 +11,8 @@ use Rattle.std.proofs.lemmas.Bool.Decides.{nat_tests}
 use Rattle.std.proofs.lemmas.List.Sorted.{IsPermutation-refl, IsPermutation-sym, IsPermutation-trans, IsPermutation-cons, IsPermutation-middle, All-permutation}
 use Rattle.std.proofs.lemmas.Map.Keys.{IsDistinct-IsPermutation}
 use Rattle.std.proofs.lemmas.Map.Made.{AllPairs-from_IsDistinct, IsDistinct-from_AllPairs}
-use Rattle.reduced_strategies.specs.Choices.{ComesBefore, AreAscending}
+use Rattle.lists.proofs.Orders.{AreAscending-rest}
+use Rattle.lists.specs.Orders.{ComesBefore, AreAscending}
 use Rattle.decision_walk.proofs.EndLists.{Differ}
 
 -- ---- an order by insertion
@@ -38,11 +39,6 @@ record IsPut (x : List ℕ) (ys zs : List (List ℕ)) : Type 0 where
   permutation : IsPermutation (x ∷ ys) zs
   front : (w : List ℕ) → ComesBefore w x → AreAscending (w ∷ ys) → AreAscending (w ∷ zs)
 
--- the lists after the first ascend
-rest_ascends : (y : List ℕ) (ys : List (List ℕ)) → AreAscending (y ∷ ys) → AreAscending ys
-rest_ascends y [] h = tt
-rest_ascends y (z ∷ ys) h = h.1
-
 -- the same behind a list that comes before
 IsPut-after : (x y : List ℕ) (ys zs : List (List ℕ)) → ComesBefore y x → AreAscending (y ∷ ys) → IsPut x ys zs → IsPut x (y ∷ ys) (y ∷ zs)
 IsPut-after x y ys zs b a p =
@@ -58,7 +54,7 @@ put x [] a long differ = (x ∷ [], record { ascending = tt; permutation = IsPer
 put x (y ∷ ys) a long differ = elim (before_or_after x y (long 0 y (omega arith)) (differ 0 y (omega arith))) [
   | inl b ↦ (x ∷ y ∷ ys, record { ascending = (b, a); permutation = IsPermutation-refl (x ∷ y ∷ ys); front = λ w f g. (f, (b, a)) })
   | inr b ↦
-      let rest = put x ys (rest_ascends y ys a) (λ k d l. long (suc k) d (omega arith)) (λ k d l. differ (suc k) d (omega arith)) in
+      let rest = put x ys (AreAscending-rest y ys a) (λ k d l. long (suc k) d (omega arith)) (λ k d l. differ (suc k) d (omega arith)) in
       (y ∷ rest.0, IsPut-after x y ys rest.0 b a rest.1)
 ]
 

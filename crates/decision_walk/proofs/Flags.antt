@@ -3,7 +3,7 @@ use Rattle.std.proofs.Common.{ℕ, zero, suc, ◌<◌, ◌≤◌, ◌≡◌, ◌
 use Rattle.std.specs.Prelude.{◌==◌, slice_get}
 use Rattle.std.proofs.Math.ListN as lists
 use Rattle.std.proofs.Math.Seq.{get_or-append_seam}
-use Rattle.std.proofs.lemmas.Bool.{cases_eq, cases_lt, eqb-true, eq-eqb}
+use Rattle.std.proofs.lemmas.Bool.{cases_eq, cases_lt, eqb-true, eq-eqb, and_parts}
 use Rattle.std.proofs.lemmas.List.{get_or-set_same, get_or-set_other, length-replicate}
 use Rattle.std.proofs.lemmas.Option.{slice_get_within, get_or_from_slice_get}
 use Rattle.decision_walk.specs.declared.decision.Decision.{Decision}
@@ -16,11 +16,6 @@ use Rattle.decision_walk.specs.Ends.{is_led_to}
 abbrev pub AreTold : List Decision → List Bool → List ℕ → ℕ → Type 0
 AreTold decisions flags choices n = (k : ℕ) (d : Decision) → k < n → slice_get decisions k ≡ Some d → get_or flags k false ≡ is_led_to flags choices d.before
 
--- both parts of a test that passes
-pub both_pass : (a b : Bool) → (a && b) ≡ true → (a ≡ true) × (b ≡ true)
-both_pass true b h = (refl, h)
-both_pass false b h = cc
-
 -- two tests that pass
 pass_both : (a b : Bool) → a ≡ true → b ≡ true → (a && b) ≡ true
 pass_both a b h g = ap (λ v. v && b) h ∙ g
@@ -31,7 +26,7 @@ led-exactly : (R : ℕ → Type 0) (decisions : List Decision) (flags : List Boo
 led-exactly R decisions flags choices j None c same = (λ h. tt, λ h. refl)
 led-exactly R decisions flags choices j (Some step) c same =
     let flag = same step.decision c.1 c.0 c.2 in (
-      λ h. let both = both_pass (get_or flags step.decision false) (get_or choices step.place 0 == suc step.action) h in (flag.0 both.0, eqb-true (get_or choices step.place 0) (suc step.action) both.1),
+      λ h. let both = and_parts (get_or flags step.decision false) (get_or choices step.place 0 == suc step.action) h in (flag.0 both.0, eqb-true (get_or choices step.place 0) (suc step.action) both.1),
       λ h. pass_both (get_or flags step.decision false) (get_or choices step.place 0 == suc step.action) (flag.1 h.0) (eq-eqb (get_or choices step.place 0) (suc step.action) h.1),
     )
 

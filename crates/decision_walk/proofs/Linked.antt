@@ -3,21 +3,21 @@ use Rattle.std.proofs.Common.{ℕ, zero, suc, ◌+◌, ◌<◌, ◌≤◌, ◌�
 use Rattle.std.specs.Prelude.{nat_lt, slice_get}
 use Rattle.std.specs.List.{list_all}
 use Rattle.std.proofs.Math.ListN as lists
-use Rattle.std.proofs.lemmas.Bool.{ltb-true, eqb-true}
+use Rattle.std.proofs.lemmas.Bool.{ltb-true, eqb-true, and_parts}
 use Rattle.std.proofs.lemmas.List.Elements.{All-nil, All-cons, All-append}
 use Rattle.std.proofs.lemmas.Option.{slice_get_within}
 use Rattle.decision_walk.specs.declared.decision.Decision.{Decision}
 use Rattle.decision_walk.specs.declared.decision.Step.{Step}
 use Rattle.decision_walk.specs.Walks.{ComesFrom, AreLinked}
 use Rattle.decision_walk.specs.Tested.{has_place, comes_from, are_linked_from, are_linked}
-use Rattle.decision_walk.proofs.Flags.{both_pass, below_or_last}
+use Rattle.decision_walk.proofs.Flags.{below_or_last}
 
 -- ---- by the test
 -- numbers that all pass are positive
 all_positive : (xs : List ℕ) → list_all (λ n. nat_lt 0 n) xs ≡ true → All (λ n. 0 < n) xs
 all_positive [] h = All-nil (λ n. 0 < n)
 all_positive (x ∷ xs) h =
-    let both = both_pass (nat_lt 0 x) (list_all (λ n. nat_lt 0 n) xs) h in
+    let both = and_parts (nat_lt 0 x) (list_all (λ n. nat_lt 0 n) xs) h in
     All-cons (λ n. 0 < n) x xs (ltb-true 0 x both.0) (all_positive xs both.1)
 
 -- a decision with this place
@@ -29,15 +29,15 @@ has_place-true (Some d) place h = (d, refl, eqb-true place d.place h)
 comes_from-true : (decisions : List Decision) (j : ℕ) (before : Option Step) → comes_from decisions j before ≡ true → ComesFrom decisions j before
 comes_from-true decisions j None h = tt
 comes_from-true decisions j (Some step) h =
-    let both = both_pass (nat_lt step.decision j) (has_place (slice_get decisions step.decision) step.place) h in
+    let both = and_parts (nat_lt step.decision j) (has_place (slice_get decisions step.decision) step.place) h in
     let found = has_place-true (slice_get decisions step.decision) step.place both.1 in
     (ltb-true step.decision j both.0, found.0, found.1, found.2)
 
 -- what the test of decision j says
 linked_from-parts : (decisions : List Decision) (n j : ℕ) (d : Decision) (ds : List Decision) → are_linked_from decisions n j (d ∷ ds) ≡ true → (d.place < n) × ComesFrom decisions j d.before × (are_linked_from decisions n (suc j) ds ≡ true)
 linked_from-parts decisions n j d ds h =
-    let both = both_pass (nat_lt d.place n && comes_from decisions j d.before) (are_linked_from decisions n (suc j) ds) h in
-    let here = both_pass (nat_lt d.place n) (comes_from decisions j d.before) both.0 in
+    let both = and_parts (nat_lt d.place n && comes_from decisions j d.before) (are_linked_from decisions n (suc j) ds) h in
+    let here = and_parts (nat_lt d.place n) (comes_from decisions j d.before) both.0 in
     (ltb-true d.place n here.0, comes_from-true decisions j d.before here.1, both.1)
 
 -- the decisions that pass have places
@@ -61,7 +61,7 @@ linked_from-come decisions n j (c ∷ ds) (suc k) d h e =
 -- decisions that pass the test are linked
 pub linked-tested : (decisions : List Decision) (actions : List ℕ) → are_linked decisions actions ≡ true → AreLinked decisions actions
 linked-tested decisions actions h =
-    let both = both_pass (list_all (λ n. nat_lt 0 n) actions) (are_linked_from decisions (length actions) 0 decisions) h in
+    let both = and_parts (list_all (λ n. nat_lt 0 n) actions) (are_linked_from decisions (length actions) 0 decisions) h in
     record {
       some_action = all_positive actions both.0;
       places_within = linked_from-places decisions (length actions) 0 decisions both.1;

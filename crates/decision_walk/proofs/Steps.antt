@@ -4,6 +4,7 @@ use Rattle.std.specs.Prelude.{◌==◌, slice_get}
 use Rattle.std.proofs.Math.Seq.{drop-cons, take-suc-set}
 use Rattle.std.proofs.lemmas.List.{get_or-set_same, set-get_or, take-set-le, get_or-take}
 use Rattle.std.proofs.lemmas.Option.{slice_get_within, get_or_from_slice_get}
+use Rattle.lists.proofs.Elements.{set-set}
 use Rattle.decision_walk.specs.declared.decision.Decision.{Decision}
 use Rattle.decision_walk.specs.declared.decision.Step.{Step}
 use Rattle.decision_walk.specs.Walks.{ComesFrom}
@@ -11,12 +12,6 @@ use Rattle.decision_walk.specs.Ends.{is_led_to, branches, ends, place_of, ends_a
 use Rattle.decision_walk.proofs.EndLists.{ends_with, ends-branch, ends-pass}
 
 -- ---- lists
--- a number behind one that is set again
-set-set : (xs : List ℕ) (i a b : ℕ) → set (set xs i a) i b ≡ set xs i b
-set-set [] i a b = refl
-set-set (x ∷ xs) zero a b = refl
-set-set (x ∷ xs) (suc i) a b = ap (λ v. x ∷ v) (set-set xs i a b)
-
 -- branches that are the same for each action
 branches-same : (f g : ℕ → List (List ℕ)) (a n : ℕ) → ((b : ℕ) → f b ≡ g b) → branches f a n ≡ branches g a n
 branches-same f g a zero h = refl

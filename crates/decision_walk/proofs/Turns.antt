@@ -6,7 +6,7 @@ use Rattle.std.specs.Ordering.{nat_cmp, is_lt}
 use Rattle.std.specs.Cmp.Lexicographic.{slice_cmp}
 use Rattle.std.proofs.lemmas.List.{append-nil, map-append, get_or-map, length-map}
 use Rattle.std.proofs.lemmas.List.Sorted.{IsPermutation-map, All-permutation, Contains-permutation, length_permutation}
-use Rattle.reduced_strategies.specs.Choices.{AreAscending}
+use Rattle.lists.specs.Orders.{AreAscending}
 use Rattle.decision_walk.specs.declared.decision.Decision.{Decision}
 use Rattle.decision_walk.specs.declared.walk.Walk.{Walk}
 use Rattle.decision_walk.specs.Walks.{AreLinked, IsWalk, AreWalks}

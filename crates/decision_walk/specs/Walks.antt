@@ -1,6 +1,6 @@
 -- Choice lists that give a set an action exactly where one of its decisions is reached, by a player's decisions in order.
 use Rattle.std.specs.Prelude.{ℕ, zero, suc, ◌<◌, ◌≤◌, ◌≡◌, ◌↔◌, List, length, slice_index, slice_get, All, Contains, Option, Some, None}
-use Rattle.reduced_strategies.specs.Choices.{AreAscending}
+use Rattle.lists.specs.Orders.{AreAscending}
 use Rattle.decision_walk.specs.declared.decision.Decision.{Decision}
 use Rattle.decision_walk.specs.declared.decision.Step.{Step}
 

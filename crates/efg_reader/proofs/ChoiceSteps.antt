@@ -1,11 +1,13 @@
 -- The choice at a node as the code reads it: its word, its name, and then its set.
 use Rattle.std.proofs.Common.{◌≡◌, ℕ, List, true, false, codes, Option, Some, None, option_map, refl, sym, ap, ◌∙◌}
+use Rattle.std.proofs.lemmas.Option.{same_Some}
+use Rattle.lists.specs.Options.{◌>>=◌}
+use Rattle.lists.proofs.Options.{bind_some}
 use Rattle.game_core.specs.declared.tree.Kind.{Kind}
 use Rattle.game_core.specs.declared.tree.Kind.TheVariants.{End}
 use Rattle.game_core.specs.Tree.{kind_of_owner}
 use Rattle.game_text.specs.declared.token.Token.{Token}
-use Rattle.file_parts.specs.Reading.{◌>>=◌, word_at, text_at, optional_text_at}
-use Rattle.file_parts.proofs.Options.{bind_some, some_same}
+use Rattle.file_parts.specs.Reading.{word_at, text_at, optional_text_at}
 use Rattle.written_trees.specs.Written.{SetUse}
 use Rattle.written_trees.specs.Described.{key_of, kind_of_use}
 use Rattle.written_trees.specs.Building.{BegunSet, use_set, use_some_set, set_place}
@@ -17,7 +19,7 @@ unfolding set_use_at
 use_owner owner tokens x e =
     let label = bind_some (positive_at tokens) _ x e in
     let list = bind_some (optional_at (action_list_at owner) (optional_text_at label.0.1).1) _ x label.2 in
-    ap (λ (y : SetUse × List Token). y.0.owner) (sym (some_same _ _ list.2))
+    ap (λ (y : SetUse × List Token). y.0.owner) (sym (same_Some _ _ list.2))
 
 -- a choice with its sets: who chooses, and the number of the set
 abbrev pub Chosen : Type 0

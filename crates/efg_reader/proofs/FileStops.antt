@@ -3,6 +3,8 @@ use Rattle.std.proofs.Common.{◌≡◌, ℕ, suc, ◌+◌, ◌<◌, ◌≤◌, 
 use Rattle.std.proofs.lemmas.List.{length-map}
 use Rattle.std.specs.Prelude.{IfOk, IfErr}
 use Rattle.std.specs.List.{AllByRecursion}
+use Rattle.std.proofs.lemmas.Option.{same_Some}
+use Rattle.lists.proofs.Options.{bind_some}
 use Rattle.answers.specs.Answers.{Gives, IsSingleAs}
 use Rattle.game_core.specs.declared.too_large.TooLarge.{TooLarge}
 use Rattle.game_core.specs.declared.too_large.What.{What}
@@ -17,7 +19,6 @@ use Rattle.file_parts.specs.Parts.{braced_texts}
 use Rattle.file_parts.specs.Reading.{Refuses, title_at, names_at}
 use Rattle.file_parts.specs.declared.refusal.Refusal.{Refusal}
 use Rattle.file_parts.specs.declared.refusal.Refusal.TheVariants as refusals
-use Rattle.file_parts.proofs.Options.{bind_some, some_same}
 use Rattle.file_parts.proofs.HeaderLaws.{title_is}
 use Rattle.file_parts.proofs.TokenLaws.{names_is}
 use Rattle.written_trees.specs.Building.{Begun, tree_begun}
@@ -47,7 +48,7 @@ few_names tokens x e =
     let b = bind_some (names_at a.0.1) _ x a.2 in
     let title = title_is (codes "EFG") 2 tokens a.0 a.1 in
     let names = names_is a.0.1 b.0 b.1 in
-    let same : b.0.0 ≡ x.0.1 = ap (λ (x : Head × List Token). x.0.1) (some_same _ _ b.2) in
+    let same : b.0.0 ≡ x.0.1 = ap (λ (x : Head × List Token). x.0.1) (same_Some _ _ b.2) in
     let inner : length (map Text b.0.0 ++ Right ∷ []) ≡ length b.0.0 + 1 = length-append (map Text b.0.0) (Right ∷ []) ∙ ap (λ (n : ℕ). n + 1) (length-map b.0.0 Text) in
     let behind : length a.0.1 ≡ suc (length b.0.0 + 1) + length b.0.1 = ap length names.1 ∙ length-append (braced_texts b.0.0) b.0.1 ∙ ap (λ (n : ℕ). suc n + length b.0.1) inner in
     let all : length tokens ≡ suc (suc (suc (suc (length a.0.1)))) = ap length title.2 in

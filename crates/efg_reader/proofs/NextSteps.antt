@@ -1,8 +1,9 @@
 -- A further node as the code reads it.
 use Rattle.std.proofs.Common.{◌≡◌, ℕ, suc, ◌+◌, ◌<◌, ◌≤◌, List, [], ◌∷◌, ◌++◌, length, Option, Some, None, slice_get, slice_set, refl, sym, ap, ◌∙◌, length-append, arith}
 use Rattle.std.proofs.lemmas.List.{length-set}
+use Rattle.std.proofs.lemmas.Option.{same_Some}
+use Rattle.lists.proofs.Options.{bind_some, chosen}
 use Rattle.game_text.specs.declared.token.Token.{Token}
-use Rattle.file_parts.proofs.Options.{bind_some, some_same, chosen}
 use Rattle.written_trees.specs.Written.{SetUse, OutcomeUse, WrittenNode}
 use Rattle.written_trees.specs.Building.{Begun, BegunSet, BegunOutcome, with_use, use_some_set, with_outcome_use, use_some_outcome, set_place, outcome_place, may_be_first, repeats_actions, repeats_payoffs, used_set, new_set, used_outcome, new_outcome, add_node}
 use Rattle.written_trees.specs.Described.{key_of}
@@ -29,17 +30,17 @@ node_added players begun more tokens c o e f g = next_in_steps players begun tok
 -- ---- how many sets and outcomes there are
 -- one more set at most
 one_more_set : (k : ℕ) (sets more : List BegunSet) (used : Option SetUse) → use_some_set k sets used ≡ Some more → length more ≤ suc (length sets)
-one_more_set k sets more None e = let same : length sets ≡ length more = ap length (some_same _ _ e) in omega (arith, same)
+one_more_set k sets more None e = let same : length sets ≡ length more = ap length (same_Some _ _ e) in omega (arith, same)
 one_more_set k sets more (Some used) e = go (slice_get sets (set_place sets (key_of used))) e
   where
     go : (found : Option BegunSet) → with_use k sets used found ≡ Some more → length more ≤ suc (length sets)
     go None e =
         let list = bind_some used.actions _ more e in
-        let same : sets ++ new_set k used list.0 ∷ [] ≡ more = some_same _ _ (chosen (may_be_first used.owner list.0) (Some (sets ++ new_set k used list.0 ∷ [])) more list.2).1 in
+        let same : sets ++ new_set k used list.0 ∷ [] ≡ more = same_Some _ _ (chosen (may_be_first used.owner list.0) (Some (sets ++ new_set k used list.0 ∷ [])) more list.2).1 in
         let one : length more ≡ length sets + 1 = sym (ap length same) ∙ length-append sets (new_set k used list.0 ∷ []) in
         omega (arith, one)
     go (Some set) e =
-        let same : slice_set sets (set_place sets (key_of used)) (used_set k used set) ≡ more = some_same _ _ (chosen (repeats_actions set.actions used.actions) (Some (slice_set sets (set_place sets (key_of used)) (used_set k used set))) more e).1 in
+        let same : slice_set sets (set_place sets (key_of used)) (used_set k used set) ≡ more = same_Some _ _ (chosen (repeats_actions set.actions used.actions) (Some (slice_set sets (set_place sets (key_of used)) (used_set k used set))) more e).1 in
         let all : length more ≡ length sets = sym (ap length same) ∙ length-set sets (set_place sets (key_of used)) (used_set k used set) in
         omega (arith, all)
 
@@ -48,22 +49,22 @@ unfolding choice_step_at
 few_sets_more players k sets tokens c e =
     let a = bind_some (choice_at players tokens) _ c e in
     let b = bind_some (use_some_set k sets a.0.0) _ c a.2 in
-    let same : b.0 ≡ c.0.0 = ap (λ (c : ChoiceStep). c.0.0) (some_same _ _ b.2) in
+    let same : b.0 ≡ c.0.0 = ap (λ (c : ChoiceStep). c.0.0) (same_Some _ _ b.2) in
     rw same at (one_more_set k sets b.0 a.0.0 b.1)
 
 -- one more outcome at most
 one_more_outcome : (outcomes more : List BegunOutcome) (used : Option OutcomeUse) → use_some_outcome outcomes used ≡ Some more → length more ≤ suc (length outcomes)
-one_more_outcome outcomes more None e = let same : length outcomes ≡ length more = ap length (some_same _ _ e) in omega (arith, same)
+one_more_outcome outcomes more None e = let same : length outcomes ≡ length more = ap length (same_Some _ _ e) in omega (arith, same)
 one_more_outcome outcomes more (Some used) e = go (slice_get outcomes (outcome_place outcomes used.label)) e
   where
     go : (found : Option BegunOutcome) → with_outcome_use outcomes used found ≡ Some more → length more ≤ suc (length outcomes)
     go None e =
         let list = bind_some used.payoffs _ more e in
-        let same : outcomes ++ new_outcome used list.0 ∷ [] ≡ more = some_same _ _ list.2 in
+        let same : outcomes ++ new_outcome used list.0 ∷ [] ≡ more = same_Some _ _ list.2 in
         let one : length more ≡ length outcomes + 1 = sym (ap length same) ∙ length-append outcomes (new_outcome used list.0 ∷ []) in
         omega (arith, one)
     go (Some outcome) e =
-        let same : slice_set outcomes (outcome_place outcomes used.label) (used_outcome used outcome) ≡ more = some_same _ _ (chosen (repeats_payoffs outcome.payoffs used.payoffs) (Some (slice_set outcomes (outcome_place outcomes used.label) (used_outcome used outcome))) more e).1 in
+        let same : slice_set outcomes (outcome_place outcomes used.label) (used_outcome used outcome) ≡ more = same_Some _ _ (chosen (repeats_payoffs outcome.payoffs used.payoffs) (Some (slice_set outcomes (outcome_place outcomes used.label) (used_outcome used outcome))) more e).1 in
         let all : length more ≡ length outcomes = sym (ap length same) ∙ length-set outcomes (outcome_place outcomes used.label) (used_outcome used outcome) in
         omega (arith, all)
 
@@ -73,7 +74,7 @@ few_outcomes_more players outcomes tokens o e =
     let a = bind_some (outcome_use_at players tokens) _ o e in
     let b = bind_some (with_outcome outcomes a.0.0) _ o a.2 in
     let d = bind_some (use_some_outcome outcomes a.0.0) _ b.0 b.1 in
-    let same : d.0 ≡ o.0.0 = ap (λ (x : List BegunOutcome × Option ℕ). x.0) (some_same _ _ d.2) ∙ ap (λ (o : OutcomeStep). o.0.0) (some_same _ _ b.2) in
+    let same : d.0 ≡ o.0.0 = ap (λ (x : List BegunOutcome × Option ℕ). x.0) (same_Some _ _ d.2) ∙ ap (λ (o : OutcomeStep). o.0.0) (same_Some _ _ b.2) in
     rw same at (one_more_outcome outcomes d.0 a.0.0 d.1)
 
 -- ---- the tokens
@@ -95,6 +96,6 @@ next_takes players begun tokens x e =
     let a = bind_some (node_at players tokens) _ x e in
     let b = bind_some (add_node begun a.0.0) _ x a.2 in
     let n = node_is players tokens a.0 a.1 in
-    let rest : a.0.1 ≡ x.1 = ap (λ (x : Begun × List Token). x.1) (some_same _ _ b.2) in
+    let rest : a.0.1 ≡ x.1 = ap (λ (x : Begun × List Token). x.1) (same_Some _ _ b.2) in
     let all : length tokens ≡ length n.0 + length x.1 = ap length n.2 ∙ length-append n.0 a.0.1 ∙ ap (λ (r : List Token). length n.0 + length r) rest in
     omega (arith, all, node_takes players n.0 a.0.0 n.1)

@@ -4,7 +4,7 @@ use Rattle.std.proofs.lemmas.Bool.{cases_eq}
 use Rattle.std.proofs.lemmas.List.{get_or-set_same, get_or-set_other}
 use Rattle.std.proofs.Math.Nat.{mul-le-mul_left}
 use Rattle.rational.specs.Rational.{ℚ, ◌≤ℚ◌, ◌<ℚ◌}
-use Rattle.rational.proofs.Field.{le_refl, le_trans, le_or_lt, lt_irrefl}
+use Rattle.rational.proofs.Field.{le_refl, le_trans, le_or_lt, lt_irrefl, le_of_lt, le_of_not_lt, not_le_of_lt}
 use Rattle.rational.proofs.Linear.{linear, at, ◌⟨≤⟩◌, ◌⟨<⟩◌}
 use Rattle.std.proofs.lemmas.Int.{ints}
 use Rattle.enumpure.specs.Replies.{flag, IsBest, AreStruck}
@@ -16,18 +16,6 @@ below_next P n h p s l = go (cases_eq s n)
     go : (s ≡ n) ⊎ (s ≢ n) → P s
     go (inl e) = subst P (sym e) p
     go (inr e) = h s (omega arith)
-
--- a lesser number is at most the greater
-pub lt_le : (a b : ℚ) → a <ℚ b → a ≤ℚ b
-lt_le a b h = linear (a ∷ b ∷ []) ((at 0 ⟨<⟩ at 1) ∷ []) (at 0 ⟨≤⟩ at 1) (λ one z p l. omega (arith, ints)) (h, tt)
-
--- what is not less is at least as great
-pub not_lt_le : (a b : ℚ) → (b <ℚ a → ⊥) → a ≤ℚ b
-not_lt_le a b h = elim (le_or_lt a b) [ inl l ↦ l | inr l ↦ absurd (h l) ]
-
--- a number that is less is not at least as great
-pub lt_not_le : (a b : ℚ) → a <ℚ b → b ≤ℚ a → ⊥
-lt_not_le a b h l = lt_irrefl a (linear (a ∷ b ∷ []) ((at 0 ⟨<⟩ at 1) ∷ (at 1 ⟨≤⟩ at 0) ∷ []) (at 0 ⟨<⟩ at 0) (λ one z p k. omega (arith, ints)) (h, (l, tt)))
 
 -- the best of the first number alone
 pub IsBest-one : (p : ℕ → ℚ) (first stride : ℕ) → IsBest p first stride 1 (p first)
@@ -42,7 +30,7 @@ IsBest-one p first stride =
 pub IsBest-greater : (p : ℕ → ℚ) (first stride n : ℕ) (best other : ℚ) → IsBest p first stride n best → other ≡ p (first + stride * n) → best <ℚ other → IsBest p first stride (n + 1) other
 IsBest-greater p first stride n best other h e l =
     record {
-      upper = below_next (λ s. p (first + stride * s) ≤ℚ other) n (λ s b. le_trans _ best other (h.upper s b) (lt_le best other l)) (subst (λ v. v ≤ℚ other) e (le_refl other));
+      upper = below_next (λ s. p (first + stride * s) ≤ℚ other) n (λ s b. le_trans _ best other (h.upper s b) (le_of_lt best other l)) (subst (λ v. v ≤ℚ other) e (le_refl other));
       attained = (n, omega arith, e);
     }
 
@@ -50,7 +38,7 @@ IsBest-greater p first stride n best other h e l =
 pub IsBest-same : (p : ℕ → ℚ) (first stride n : ℕ) (best other : ℚ) → IsBest p first stride n best → other ≡ p (first + stride * n) → (best <ℚ other → ⊥) → IsBest p first stride (n + 1) best
 IsBest-same p first stride n best other h e l =
     record {
-      upper = below_next (λ s. p (first + stride * s) ≤ℚ best) n h.upper (subst (λ v. v ≤ℚ best) e (not_lt_le other best l));
+      upper = below_next (λ s. p (first + stride * s) ≤ℚ best) n h.upper (subst (λ v. v ≤ℚ best) e (le_of_not_lt other best l));
       attained = (h.attained.0, omega (arith, h.attained.1), h.attained.2);
     }
 
@@ -75,7 +63,7 @@ AreStruck-keep p first stride n best old new d ne h =
     same = h.others (first + stride * n) (not_before first stride n (first + stride * n) d refl)
 
     last : IsTrue (flag new (first + stride * n)) ↔ (IsTrue (flag old (first + stride * n)) × (best ≤ℚ p (first + stride * n)))
-    last = (λ t. (subst IsTrue same t, not_lt_le best (p (first + stride * n)) ne), λ w. subst IsTrue (sym same) w.0)
+    last = (λ t. (subst IsTrue same t, le_of_not_lt best (p (first + stride * n)) ne), λ w. subst IsTrue (sym same) w.0)
 
 -- a flag whose number is less than the best is struck
 pub AreStruck-clear : (p : ℕ → ℚ) (first stride n : ℕ) (best : ℚ) (old new : List Bool) → 0 < stride → first + stride * n < length new → p (first + stride * n) <ℚ best → AreStruck p first stride n best old new → AreStruck p first stride (n + 1) best old (set new (first + stride * n) false)
@@ -90,4 +78,4 @@ AreStruck-clear p first stride n best old new d b l h =
         subst (λ v. IsTrue v ↔ (IsTrue (flag old (first + stride * s)) × (best ≤ℚ p (first + stride * s)))) (sym (get_or-set_other new place (first + stride * s) false false (places_differ first stride s n d q))) (h.struck s q)
 
     last : IsTrue (flag (set new place false) place) ↔ (IsTrue (flag old place) × (best ≤ℚ p place))
-    last = (λ t. cc (t, get_or-set_same new place false false b), λ w. absurd (lt_not_le (p place) best l w.1))
+    last = (λ t. cc (t, get_or-set_same new place false false b), λ w. absurd (not_le_of_lt (p place) best l w.1))

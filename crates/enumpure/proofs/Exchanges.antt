@@ -1,15 +1,10 @@
 -- Profiles in which one player's strategy is exchanged, by their numbers.
 use Rattle.std.proofs.Common.{ℕ, zero, suc, ◌+◌, ◌*◌, ◌/◌, ◌%◌, ◌<◌, ◌≡◌, List, [], ◌∷◌, length, get_or, set, refl, sym, ap, ap₂, ◌∙◌, subst, arith}
 use Rattle.std.proofs.lemmas.List.{get_or-set_same, set-get_or}
+use Rattle.lists.proofs.Elements.{set-set}
 use Rattle.game_theory.specs.Profiles.{profile_count, IsProfile, number_of, profile_at, stride}
 use Rattle.game_theory.proofs.ProfileNumbers.{length-profile, number_of-below, number_of-profile_at, profile_at-number_of, IsProfile-profile_at, IsProfile-exchange, number_of-exchange_from, profile-below, strategy-profile_at}
 use Rattle.enumpure.specs.Replies.{exchanged}
-
--- the later of two writes to one place stays
-set-again : (xs : List ℕ) (i a b : ℕ) → set (set xs i a) i b ≡ set xs i b
-set-again [] i a b = refl
-set-again (x ∷ xs) zero a b = refl
-set-again (x ∷ xs) (suc i) a b = ap (λ v. x ∷ v) (set-again xs i a b)
 
 -- a player of a game, and the number of a profile
 pub record IsPlace (ns : List ℕ) (k i : ℕ) : Type 0 where
@@ -39,7 +34,7 @@ profile_at-exchanged ns k i s p l = profile_at-number_of ns (set (profile_at ns 
 -- the later of two exchanges stays
 pub exchanged-again : (ns : List ℕ) (k i s t : ℕ) → IsPlace ns k i → s < get_or ns i 0 → exchanged ns (exchanged ns k i s) i t ≡ exchanged ns k i t
 exchanged-again ns k i s t p l =
-    ap (λ v. number_of ns (set v i t)) (profile_at-exchanged ns k i s p l) ∙ ap (number_of ns) (set-again (profile_at ns k) i s t)
+    ap (λ v. number_of ns (set v i t)) (profile_at-exchanged ns k i s p l) ∙ ap (number_of ns) (set-set (profile_at ns k) i s t)
 
 -- the strategy that was taken
 pub strategy_at-exchanged : (ns : List ℕ) (k i s : ℕ) → IsPlace ns k i → s < get_or ns i 0 → strategy_at ns (exchanged ns k i s) i ≡ s

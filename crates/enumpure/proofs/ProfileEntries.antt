@@ -1,25 +1,16 @@
 -- The entries of a profile, as they grow player by player.
 use Rattle.std.proofs.Common.{ℕ, zero, suc, ◌+◌, ◌<◌, ◌≡◌, List, [], ◌∷◌, ◌++◌, length, get_or, take, refl, sym, ap, ap₂, ◌∙◌, arith, append_assoc, add-one}
 use Rattle.std.proofs.lemmas.List.{append-nil}
+use Rattle.game_theory.proofs.Entries.{listed-next}
 use Rattle.rational.specs.Rational.{ℚ}
 use Rattle.game_theory.specs.Mixed.{Mixed, later}
 use Rattle.game_theory.specs.Lines.{listed, entries}
-
--- one entry more
-listed-next : (n : ℕ) (f : ℕ → ℚ) → listed (suc n) f ≡ listed n f ++ f n ∷ []
-listed-next zero f = refl
-listed-next (suc n) f = ap (λ v. f 0 ∷ v) (listed-next n (λ i. f (suc i)))
 
 -- one player's entries more
 entries-next : (ns : List ℕ) (m : Mixed) (i : ℕ) → i < length ns → entries (take (suc i) ns) m ≡ entries (take i ns) m ++ listed (get_or ns i 0) (m i)
 entries-next [] m i h = absurd (omega arith)
 entries-next (n ∷ ns) m zero h = append-nil (listed n (m 0))
 entries-next (n ∷ ns) m (suc i) h = ap (λ v. listed n (m 0) ++ v) (entries-next ns (later m) i (omega arith)) ∙ sym (append_assoc (listed n (m 0)) _ _)
-
--- a player's entries with one more
-pub listed-push : (all now old : List ℚ) (n : ℕ) (f : ℕ → ℚ) (x : ℚ) → now ≡ old ++ listed n f → all ≡ now ++ x ∷ [] → x ≡ f n → all ≡ old ++ listed (n + 1) f
-listed-push all now old n f x before push is =
-    push ∙ ap₂ (λ v w. v ++ w ∷ []) before is ∙ append_assoc old (listed n f) (f n ∷ []) ∙ ap (λ v. old ++ v) (sym (listed-next n f) ∙ ap (λ v. listed v f) (sym (add-one n)))
 
 -- the entries with those of one player more
 pub entries-push : (all now : List ℚ) (ns : List ℕ) (m : Mixed) (i : ℕ) → i < length ns → now ≡ entries (take i ns) m → all ≡ now ++ listed (get_or ns i 0) (m i) → all ≡ entries (take (i + 1) ns) m

@@ -1,5 +1,5 @@
 -- The strides and the number of profiles of a table.
-use Rattle.std.proofs.Common.{ℕ, zero, suc, ◌*◌, ◌<◌, ◌≤◌, ◌≡◌, List, [], ◌∷◌, length, get_or, sym, ◌∙◌, subst, arith}
+use Rattle.std.proofs.Common.{ℕ, zero, suc, ◌*◌, ◌<◌, ◌≤◌, ◌≡◌, List, [], ◌∷◌, length, get_or, sym, ◌∙◌, subst, arith, mul-pos}
 use Rattle.std.proofs.lemmas.List.{get_or-map, length-map}
 use Rattle.std.proofs.Math.Nat.{mul-le-mul_left}
 use Rattle.game_theory.specs.Profiles.{profile_count, stride}
@@ -14,23 +14,17 @@ pub record HaveStrategies (ns : List ℕ) : Type 0 where
 pub HaveStrategies-later : (n : ℕ) (ns : List ℕ) → HaveStrategies (n ∷ ns) → HaveStrategies ns
 HaveStrategies-later n ns h = record { some = λ i l. h.some (suc i) (omega arith) }
 
--- a product of positive numbers is positive
-positive_product : (a b : ℕ) → 0 < a → 0 < b → 0 < a * b
-positive_product (suc a) (suc b) h l = omega arith
-positive_product zero b h l = absurd (omega arith)
-positive_product (suc a) zero h l = absurd (omega arith)
-
 -- there is some profile
 pub profile_count-positive : (ns : List ℕ) → HaveStrategies ns → 0 < profile_count ns
 profile_count-positive [] h = omega arith
 profile_count-positive (n ∷ ns) h =
-    positive_product n (profile_count ns) (h.some 0 (omega arith)) (profile_count-positive ns (HaveStrategies-later n ns h))
+    mul-pos (h.some 0 (omega arith)) (profile_count-positive ns (HaveStrategies-later n ns h))
 
 -- strides are positive
 pub stride-positive : (ns : List ℕ) (i : ℕ) → HaveStrategies ns → 0 < stride ns i
 stride-positive ns zero h = omega arith
 stride-positive [] (suc i) h = omega arith
-stride-positive (n ∷ ns) (suc i) h = positive_product n (stride ns i) (h.some 0 (omega arith)) (stride-positive ns i (HaveStrategies-later n ns h))
+stride-positive (n ∷ ns) (suc i) h = mul-pos (h.some 0 (omega arith)) (stride-positive ns i (HaveStrategies-later n ns h))
 
 -- strides are at most the number of profiles
 pub stride-at_most : (ns : List ℕ) (i : ℕ) → HaveStrategies ns → stride ns i ≤ profile_count ns

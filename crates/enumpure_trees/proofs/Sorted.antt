@@ -10,9 +10,9 @@ use Rattle.std.proofs.lemmas.List.Elements.{Contains-get_or}
 use Rattle.std.proofs.lemmas.List.FromFn.{length-range_with_len, get_or-range_with_len, length-map-range_with_len, get_or-map-range_with_len}
 use Rattle.std.proofs.lemmas.List.Sorted.{IsPermutation-map, All-permutation, Contains-permutation, length_permutation, ranks_by, sorted_far}
 use Rattle.std.proofs.lemmas.Simd.{map-map}
+use Rattle.lists.specs.Orders.{ComesBefore}
 use Rattle.decision_walk.proofs.Ascending.{AllPairs-permutation, before_from_cmp}
 use Rattle.decision_walk.proofs.EndLists.{Differ}
-use Rattle.reduced_strategies.specs.Choices.{ComesBefore}
 use Rattle.tree_lines.specs.Orders.{completed_list, completed_of}
 use Rattle.enumpure_trees.specs.StrategyOrders.{AreTold, first_numbered, IsSortedOrder}
 

@@ -6,9 +6,10 @@ use Rattle.linear_systems.specs.Tableau.{Tableau, pivot}
 use Rattle.linear_systems.specs.Lex.{IsLexPositive}
 use Rattle.linear_systems.specs.Rows.{key, IsLexicographicRow, Alike}
 use Rattle.std.proofs.lemmas.Bool.{cases_eq}
+use Rattle.rational.proofs.Inverse.{ne_zero_of_pos}
 use Rattle.linear_systems.specs.Reached.{IsVariableOf, in_row, in_column}
 use Rattle.linear_systems.proofs.Pivot.{eqb_same, eqb_apart}
-use Rattle.linear_systems.proofs.Lex.{lex_same, pos_not_zero}
+use Rattle.linear_systems.proofs.Lex.{lex_same}
 use Rattle.linear_systems.proofs.LexRow.{keys_stay_alike}
 use Rattle.linear_systems.proofs.Reached.{reached_start, reached_pivot, reached_alike}
 use Rattle.linear_systems.proofs.Rows.{key_alike, coefficient_own, coefficient_basic}
@@ -54,7 +55,7 @@ pivot_reached N s t u r c st p hc x a =
     let rows : t.rows ≡ s.rows = p.reached.rows in
     let width : t.width ≡ s.width = p.reached.width in
     record {
-      reached = reached_alike N s.rows s (pivot t r c) u st.start.rated a (reached_pivot N s.rows s t r c st.start.rated x.within (omega arith) (pos_not_zero (t.cell r c) x.positive) p.reached);
+      reached = reached_alike N s.rows s (pivot t r c) u st.start.rated a (reached_pivot N s.rows s t r c st.start.rated x.within (omega arith) (ne_zero_of_pos (t.cell r c) x.positive) p.reached);
       variables = λ v h. p.variables v (variables_pivot t r c v (let w : r < s.rows = x.within in omega arith) (omega arith) (variables_alike (pivot t r c) u v a h));
       keys = keys_stay_alike s.rows s.basic t u c r (omega arith) (omega arith) x a p.keys;
     }

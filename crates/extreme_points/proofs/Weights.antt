@@ -1,6 +1,8 @@
 -- A weight for each variable, and what is left of their sum when each basic variable's weight is taken away by its row
 use Rattle.std.proofs.Common.{ℕ, pos, suc, ◌<◌, ◌≡◌, refl, sym, ap, ap₂, ◌∙◌, subst, [], ◌∷◌, arith}
 use Rattle.std.proofs.lemmas.Int.{ints}
+use Rattle.rational.proofs.Rules.{times_one}
+use Rattle.rational.proofs.Inverse.{ne_zero_of_pos, inv_pos}
 use Rattle.rational.specs.Rational.{ℚ, ◌+ℚ◌, ◌*ℚ◌, ◌-ℚ◌, neg_ℚ, inv_ℚ, zero_ℚ, one_ℚ, ◌<ℚ◌}
 use Rattle.rational.specs.Sum.{sum_to}
 use Rattle.rational.proofs.RationalRing.{rational_ring}
@@ -12,13 +14,10 @@ use Rattle.linear_systems.specs.Tableau.{Tableau, left}
 use Rattle.linear_systems.specs.Lex.{IsLexLess}
 use Rattle.linear_systems.specs.Rows.{unit_at, coefficient, key, row}
 use Rattle.linear_systems.specs.Reached.{IsCombination, IsReached}
-use Rattle.linear_systems.proofs.Lex.{lex_same, lex_scale, inv_pos, pos_not_zero}
+use Rattle.linear_systems.proofs.Lex.{lex_same, lex_scale}
 use Rattle.linear_systems.proofs.Rows.{unit_self, unit_other, sum_single, times_zero, coefficient_own, coefficient_basic, coefficient_cell, coefficient_row, key_row, key_at, key_factor}
 use Rattle.linear_systems.proofs.Span.{spanned_same, spanned_mix, spanned_trans, spanned_is}
 use Rattle.extreme_points.specs.Reach.{IsLexReached, IsBasic, IsNeighbour}
-
-pub times_one : (a b : ℚ) → b ≡ one_ℚ → a *ℚ b ≡ a
-times_one a b e = ap (λ x. a *ℚ x) e ∙ ring rational_ring (a ∷ []) (A :* num 1) A refl
 
 -- the sum of the weighted values, less what the rows say of the weighted basic variables
 abbrev pub reduced : ℕ → (ℕ → ℚ) → Tableau → (ℕ → ℚ) → ℚ → ℚ
@@ -72,7 +71,7 @@ improves N w s t u r c p q hr hc hpos near neg =
     let growth : reduced N w u (unit_at e) zero_ℚ -ℚ cost ≡ factor *ℚ row t (unit_at e) zero_ℚ r = gap_is N w s t u r c (unit_at e) zero_ℚ p.reached q.reached hr near in
     let entry : row t (unit_at e) zero_ℚ r ≡ t.cell r c = coefficient_row t r e ∙ coefficient_cell t r c p.reached.proper (omega arith) (omega arith) in
     let scale : zero_ℚ <ℚ (neg_ℚ cost *ℚ inv_ℚ (t.cell r c)) = pos-mul (neg_ℚ cost) (inv_ℚ (t.cell r c)) (linear (cost ∷ []) ((at 0 ⟨<⟩ lit (pos 0)) ∷ []) (lit (pos 0) ⟨<⟩ minus (at 0)) (λ one z u v. omega (arith, ints)) (neg, tt)) (inv_pos (t.cell r c) hpos) in
-    let same : neg_ℚ cost *ℚ inv_ℚ (t.cell r c) ≡ factor = combine rational_ring (cost ∷ inv_ℚ (t.cell r c) ∷ factor ∷ t.cell r c ∷ reduced N w u (unit_at e) zero_ℚ ∷ []) ((B times (E :- A) is (C :* D)) ∷ (:neg B times E is num 0) ∷ (C times D :* B is num 1) ∷ []) (:neg A :* B) C refl (growth ∙ ap (λ a. factor *ℚ a) entry, (reduced_of N w s u e q.reached near.entered, (*ℚ-inv (t.cell r c) (pos_not_zero (t.cell r c) hpos), tt))) in
+    let same : neg_ℚ cost *ℚ inv_ℚ (t.cell r c) ≡ factor = combine rational_ring (cost ∷ inv_ℚ (t.cell r c) ∷ factor ∷ t.cell r c ∷ reduced N w u (unit_at e) zero_ℚ ∷ []) ((B times (E :- A) is (C :* D)) ∷ (:neg B times E is num 0) ∷ (C times D :* B is num 1) ∷ []) (:neg A :* B) C refl (growth ∙ ap (λ a. factor *ℚ a) entry, (reduced_of N w s u e q.reached near.entered, (*ℚ-inv (t.cell r c) (ne_zero_of_pos (t.cell r c) hpos), tt))) in
     record { by = lex_same (suc s.rows) (λ k. factor *ℚ key s.basic t r k) _ (λ k hk. ap (λ a. factor *ℚ a) (sym (key_row s.basic t r k)) ∙ sym (gap_is N w s t u r c (key_at s.basic k) (key_factor k) p.reached q.reached hr near)) (lex_scale (suc s.rows) factor (key s.basic t r) (subst (λ a. zero_ℚ <ℚ a) same scale) (p.keys r hr)) }
 
 -- ---- the left side of a row, variable by variable

@@ -6,10 +6,11 @@ use Rattle.std.proofs.lemmas.Int.{to_z-of_z, fits_signed_mul}
 use Rattle.std.specs.Ordering.{MatchOrdering}
 use Rattle.std.proofs.lemmas.Bool.Decides.{Decides-eqb}
 use Rattle.std.specs.Cmp.{int_cmp_is, int_ranks}
+use Rattle.rational.specs.Tests.{cmp_ℚ}
 use Rattle.rational.specs.Rational.{ℚ, den_pos, ◌<ℚ◌}
 use Rattle.rational.proofs.Order.{lt-times}
 use Rattle.rational.proofs.Fractions.{equal_by_cross, equal_by_parts}
-use Rattle.frac128.specs.Fraction.{Fits, cmp_ℚ}
+use Rattle.frac128.specs.Fraction.{Fits}
 use Rattle.frac128.proofs.Parts.{kept, kept-part}
 
 -- the order of two numbers and of their multiples

@@ -1,16 +1,16 @@
 -- a difference as a sum
 use Rattle.std.proofs.Common.{ℕ, ◌≡◌, ◌/◌, ◌<◌, ◌^◌, ℤ, pos, neg_ℤ, ◌+ℤ◌, ◌*ℤ◌, refl, sym, ap, ap₂, ◌∙◌, subst, [], ◌∷◌, Option, Some, None, MatchOption}
+use Rattle.rational.proofs.Parts.{abs-neg, neg-parts}
 use Rattle.rational.specs.Gcd.{gcd}
 use Rattle.rational.specs.Rational.{ℚ, ◌+ℚ◌, ◌-ℚ◌, neg_ℚ}
 use Rattle.rings.proofs.IntegerRing.{integer_ring}
 use Rattle.rings.proofs.Ring.{ring, ◌:*◌, :neg, A, B}
 use Rattle.frac128.specs.Fraction.{PartFits}
 use Rattle.frac128.specs.Steps.{AddFits, SubFits, num_beside}
-use Rattle.frac128.proofs.Parts.{neg_parts, nat_abs-neg_ℤ}
 
 -- the other sign leaves the own numerator
 own_same : (a b : ℚ) → num_beside a (neg_ℚ b) ≡ num_beside a b
-own_same a b = ap (λ d. a.num *ℤ pos (d / gcd a.den d)) (neg_parts b).1
+own_same a b = ap (λ d. a.num *ℤ pos (d / gcd a.den d)) (neg-parts b).1
 
 -- a sign goes out of a product
 neg-mul : (x : ℤ) (y : ℕ) → neg_ℤ x *ℤ pos y ≡ neg_ℤ (x *ℤ pos y)
@@ -19,15 +19,15 @@ neg-mul x y = ring integer_ring (x ∷ pos y ∷ []) (:neg A :* B) (:neg (A :* B
 -- the other numerator has the other sign
 other_turned : (a b : ℚ) → num_beside (neg_ℚ b) a ≡ neg_ℤ (num_beside b a)
 other_turned a b =
-    ap₂ (λ n d. n *ℤ pos (a.den / gcd d a.den)) (neg_parts b).0 (neg_parts b).1 ∙ neg-mul b.num (a.den / gcd b.den a.den)
+    ap₂ (λ n d. n *ℤ pos (a.den / gcd d a.den)) (neg-parts b).0 (neg-parts b).1 ∙ neg-mul b.num (a.den / gcd b.den a.den)
 
 -- a part fits with either sign
-neg_fits : (n : ℤ) → PartFits n → PartFits (neg_ℤ n)
-neg_fits n h = subst (λ x. x < 2 ^ 127) (sym (nat_abs-neg_ℤ n)) h
+pub neg_fits : (n : ℤ) → PartFits n → PartFits (neg_ℤ n)
+neg_fits n h = subst (λ x. x < 2 ^ 127) (sym (abs-neg n)) h
 
 -- and the other way
 fits_of_neg : (n : ℤ) → PartFits (neg_ℤ n) → PartFits n
-fits_of_neg n h = subst (λ x. x < 2 ^ 127) (nat_abs-neg_ℤ n) h
+fits_of_neg n h = subst (λ x. x < 2 ^ 127) (abs-neg n) h
 
 -- a difference fits where the sum with the other sign does
 pub SubFits-in : (a b : ℚ) → AddFits a (neg_ℚ b) → SubFits a b

@@ -1,5 +1,6 @@
 -- sums with zero, and sums over one denominator
 use Rattle.std.proofs.Common.{ℕ, ◌≡◌, ◌/◌, ◌<◌, ◌^◌, ℤ, pos, ◌+ℤ◌, ◌*ℤ◌, refl, sym, ap, ap₂, ◌∙◌, subst, lit<, [], ◌∷◌}
+use Rattle.std.proofs.Math.IntN.{zero-*ℤ}
 use lib.IntN.{+ℤ_comm}
 use native.Mathlib.Nat.{div_self}
 use Rattle.rational.specs.Gcd.{gcd}
@@ -13,10 +14,6 @@ use Rattle.frac128.proofs.Parts.{kept, kept-part, zero-num, zero-den}
 use Rattle.frac128.proofs.Quotients.{gcd-one, gcd_same}
 use Rattle.frac128.proofs.SumSizes.{Summands, Tops}
 
--- zero times a number
-zero-times : (k : ℕ) → pos 0 *ℤ pos k ≡ pos 0
-zero-times k = ring integer_ring (pos k ∷ []) (num 0 :* A) (num 0) refl
-
 -- a number times one
 times-one : (n : ℤ) → n *ℤ pos 1 ≡ n
 times-one n = ring integer_ring (n ∷ []) (A :* num 1) A refl
@@ -27,7 +24,7 @@ zero-plus n = ring integer_ring (n ∷ []) (num 0 :+ A) A refl
 
 -- zero over a least common denominator
 beside_zero : (b : ℚ) → num_beside zero_ℚ b ≡ pos 0
-beside_zero b = ap (λ n. n *ℤ pos (b.den / gcd zero_ℚ.den b.den)) zero-num ∙ zero-times (b.den / gcd zero_ℚ.den b.den)
+beside_zero b = ap (λ n. n *ℤ pos (b.den / gcd zero_ℚ.den b.den)) zero-num ∙ zero-*ℤ (pos (b.den / gcd zero_ℚ.den b.den))
 
 -- a numerator beside zero stays as it is
 zero_beside : (b : ℚ) → num_beside b zero_ℚ ≡ b.num

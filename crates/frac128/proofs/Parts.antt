@@ -3,6 +3,7 @@ use Rattle.std.proofs.Common.{◌≤ℤ◌, ◌↔◌, ◌-◌, ℕ, zero, suc, 
 use mir.Syntax.{w128}
 use Rattle.std.proofs.lemmas.Int.{ints, to_z-of_z, to_z_pos, fits_signed_from_abs}
 use Rattle.std.proofs.lemmas.Bool.Decides.{Decides-eqb}
+use Rattle.rational.proofs.Parts.{abs-neg, neg-parts}
 use native.Mathlib.Nat.{dvd_antisymm, dvd-zero, dvd_refl}
 use Rattle.rational.specs.Gcd.{gcd}
 use Rattle.rational.specs.GcdLaws.{gcd-is}
@@ -101,25 +102,13 @@ pub zero_test : (q : ℚ) (n : ℤ) → n ≡ q.num → Fits q → (IsTrue (eqb 
 zero_test q n e h =
     (λ t. zero_by_num q (sym e ∙ bits_zero n (subst PartFits (sym e) h.num) ((Decides-eqb (of_z w128 n) 0).0 t)), λ z. (Decides-eqb (of_z w128 n) 0).1 (ap (of_z w128) (e ∙ ap (λ (x : ℚ). x.num) z ∙ zero-num)))
 
--- a size has no sign
-pub nat_abs-neg_ℤ : (n : ℤ) → nat_abs (neg_ℤ n) ≡ nat_abs n
-nat_abs-neg_ℤ (pos zero) = refl
-nat_abs-neg_ℤ (pos (suc n)) = refl
-nat_abs-neg_ℤ (negsuc n) = refl
-
--- the parts of a rational with the other sign
-pub neg_parts : (q : ℚ) → ((neg_ℚ q).num ≡ neg_ℤ q.num) × ((neg_ℚ q).den ≡ q.den)
-unfolding neg_ℚ
-neg_parts q =
-    frac-lowest (neg_ℤ q.num) q.den (den_pos q) (ap (λ n. gcd n q.den) (nat_abs-neg_ℤ q.num) ∙ lowest q)
-
 -- zero less a number
 zero-minus : (n : ℤ) → pos 0 -ℤ n ≡ neg_ℤ n
 zero-minus n = omega (arith, ints)
 
 -- the other sign fits 128 bits
 neg_fits : (n : ℤ) → SFits w128 n → nat_abs n < 2 ^ 127 → SFits w128 (pos 0 -ℤ n)
-neg_fits n f h = rw (zero-minus n) (fits_signed_from_abs w128 (neg_ℤ n) (subst (λ x. x < 2 ^ 127) (sym (nat_abs-neg_ℤ n)) h))
+neg_fits n f h = rw (zero-minus n) (fits_signed_from_abs w128 (neg_ℤ n) (subst (λ x. x < 2 ^ 127) (sym (abs-neg n)) h))
 
 -- the fraction with the other sign
 pub neg_value : (q r : ℚ) (n d : ℤ) (k : ℕ) → Fits q → n ≡ q.num → d ≡ pos q.den → k ≡ nat_abs (to_z w128 (of_z w128 d)) → r.num ≡ to_z w128 (of_z w128 (pos 0 -ℤ to_z w128 (of_z w128 n))) → r.den ≡ k → r ≡ neg_ℚ q
@@ -129,7 +118,7 @@ neg_value q r n d k fits en ed ek rn rd =
     let f : SFits w128 n = fits_signed_from_abs w128 n h in
     let num : r.num ≡ neg_ℤ q.num = rn ∙ ap (λ x. to_z w128 (of_z w128 (pos 0 -ℤ x))) (to_z-of_z w128 n f) ∙ to_z-of_z w128 (pos 0 -ℤ n) (neg_fits n f h) ∙ zero-minus n ∙ ap neg_ℤ en in
     let den : r.den ≡ q.den = rd ∙ ek ∙ ap nat_abs (to_z-of_z w128 d (fits_signed_from_abs w128 d g) ∙ ed) in
-    equal_by_parts r (neg_ℚ q) (num ∙ sym (neg_parts q).0) (den ∙ sym (neg_parts q).1)
+    equal_by_parts r (neg_ℚ q) (num ∙ sym (neg-parts q).0) (den ∙ sym (neg-parts q).1)
 
 -- a part fits where it lies from -(2^127 - 1) to 2^127 - 1
 pub PartFits-bounds : (n : ℤ) → PartFits n ↔ ((neg_ℤ (pos (2 ^ 127 - 1)) ≤ℤ n) × (n ≤ℤ pos (2 ^ 127 - 1)))
@@ -140,6 +129,6 @@ PartFits-bounds (negsuc n) = (λ h. (omega (arith, ints), omega (arith, ints)), 
 pub Fits-neg : (q : ℚ) → Fits q → Fits (neg_ℚ q)
 Fits-neg q f =
     record {
-      num = subst (λ x. x < 2 ^ 127) (sym (ap nat_abs (neg_parts q).0 ∙ nat_abs-neg_ℤ q.num)) f.num;
-      den = subst (λ x. x < 2 ^ 127) (sym (neg_parts q).1) f.den;
+      num = subst (λ x. x < 2 ^ 127) (sym (ap nat_abs (neg-parts q).0 ∙ abs-neg q.num)) f.num;
+      den = subst (λ x. x < 2 ^ 127) (sym (neg-parts q).1) f.den;
     }

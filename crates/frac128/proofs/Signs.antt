@@ -2,11 +2,11 @@
 use Rattle.std.proofs.Common.{◌≡◌, ◌↔◌, ℤ, pos, negsuc, ◌<ℤ◌, arith, ap, ◌∙◌}
 use Rattle.std.specs.Int.{int_signum}
 use Rattle.std.proofs.lemmas.Int.{ints}
+use Rattle.rational.specs.Tests.{sign_of}
 use Rattle.rational.specs.Rational.{ℚ, zero_ℚ, den_pos, ◌<ℚ◌}
 use Rattle.rational.proofs.Fractions.{StandsFor-self}
 use Rattle.rational.proofs.Linear.{zero-over}
 use Rattle.rational.proofs.Order.{lt_by, by_lt}
-use Rattle.frac128.specs.Fraction.{sign_of}
 use Rattle.frac128.proofs.Parts.{zero_by_num, zero-num}
 
 -- the sign of a positive number

@@ -4,6 +4,7 @@ use mir.Syntax.{w128}
 use Rattle.std.proofs.lemmas.Int.{to_z-of_z}
 use native.Mathlib.Nat.{div-mul_cancel, dvd_refl, dvd-mul_right, div-le_self, not-suc-le-zero}
 use Rattle.std.specs.Int.{◌∣◌}
+use Rattle.rational.proofs.Parts.{frac_num_size}
 use lib.IntN.{+ℤ_comm}
 use Rattle.rational.specs.Gcd.{gcd}
 use Rattle.rational.specs.GcdLaws.{gcd-is, gcd-parts, gcd_pos}
@@ -77,13 +78,6 @@ over_wide t size own others common shared top rest k wide f =
 -- at most, and below
 le-lt_trans : {a b c : ℕ} → a ≤ b → b < c → a < c
 le-lt_trans h g = omega arith
-
--- a numerator in lowest terms is no larger
-frac_num_size : (t : ℤ) (d : ℕ) → 0 < d → nat_abs (frac t d).num ≤ nat_abs t
-unfolding frac
-frac_num_size t zero h = absurd (not-suc-le-zero h)
-frac_num_size t (suc d) h =
-    subst (λ x. x ≤ nat_abs t) (sym (nat_abs-div_ℤ t (gcd (nat_abs t) (suc d)))) (div-le_self (nat_abs t) (gcd (nat_abs t) (suc d)))
 
 -- what the code has of a + b before the sum is brought to lowest terms
 pub record Summands (a b : ℚ) (d e g own others : ℕ) : Type 0 where

@@ -5,6 +5,7 @@ use Rattle.std.specs.Ordering.{int_cmp, int_eq, eq_of_both, on}
 use Rattle.std.specs.Int.{int_signum}
 use Rattle.std.proofs.Common.{refl, ap, ◌∙◌, arith}
 use Rattle.std.proofs.lemmas.Int.{ints}
+use Rattle.rational.proofs.Parts.{pos_abs, pos_nat_abs}
 use Rattle.rational.proofs.Fractions.{frac-lowest}
 use Rattle.rational.specs.Gcd.{gcd}
 use Rattle.rational.specs.Rational.{ℚ, frac}
@@ -38,29 +39,9 @@ abbrev pub with_sign : Bool → ℕ → ℤ
 with_sign true n = neg_ℤ (pos n)
 with_sign false n = pos n
 
--- the order of two rationals, by their cross products
-abbrev pub cmp_ℚ : ℚ → ℚ → Ordering
-cmp_ℚ a b = int_cmp (a.num *ℤ pos b.den) (b.num *ℤ pos a.den)
-
--- whether two rationals are the same
-abbrev pub eq_ℚ : ℚ → ℚ → Bool
-eq_ℚ = eq_of_both (on (λ q. q.num) int_eq) (on (λ q. q.den) nat_eq)
-
--- -1, 0 or 1, as a rational is negative, zero or positive
-abbrev pub sign_of : ℚ → ℤ
-sign_of a = int_signum a.num
-
 -- the fields of a fraction with this value
 abbrev pub fields_of : ℚ → Inside
 fields_of q = record { num = q.num; den = pos q.den }
-
-pos_nat_abs : (d : ℤ) → pos 0 <ℤ d → pos (nat_abs d) ≡ d
-pos_nat_abs (pos n) h = refl
-pos_nat_abs (negsuc n) h = absurd (omega (arith, ints))
-
-pos_abs : (d : ℤ) → pos 0 <ℤ d → 0 < nat_abs d
-pos_abs (pos n) h = omega (arith, ints)
-pos_abs (negsuc n) h = absurd (omega (arith, ints))
 
 pub fields_of_value : (a : Inside) → InLowestTerms a → fields_of (value_of a) ≡ a
 fields_of_value a h =

@@ -1,8 +1,9 @@
 //! The type of fractions.
 ghost use Rattle.std.specs.Prelude.{◌≡◌, ◌≢◌, ◌⊎◌, ◌↔◌, ◌<◌, ◌<ℤ◌, ◌^◌, nat_abs, int_lt, pos, IsNone, IfSome, IsTrue, MatchOption};
-ghost use Rattle.frac128.specs.Fraction.{quotient, Fits, PartFits, with_sign, cmp_ℚ, sign_of};
+ghost use Rattle.frac128.specs.Fraction.{quotient, Fits, PartFits, with_sign};
 ghost use Rattle.rational.specs.Gcd.{gcd as gcd_of};
 ghost use Rattle.rational.specs.Rational.{frac, zero_ℚ, one_ℚ, neg_ℚ};
+ghost use Rattle.rational.specs.Tests.{cmp_ℚ, sign_of};
 
 use crate::euclid::{cmp_signed_quotients, divided, gcd};
 use crate::fitting::{LIMIT, is_short, signed};
@@ -39,7 +40,7 @@ impl Model for Frac {
 impl PartialEq for Frac {
     ghost use Rattle.std.proofs.Common.{rules};
     ghost use Rattle.std.specs.Cmp.Rules.{comparing};
-    ghost use Rattle.frac128.specs.Fraction.{eq_ℚ};
+    ghost use Rattle.rational.specs.Tests.{eq_ℚ};
 
     ghost eq = { eq_ℚ };
 

@@ -2,5 +2,6 @@ pub mod FirstUse
 mod Numbers
 mod PlayersSets
 mod PrefixOrder
+pub mod SetNumbers
 mod SmallTree
 mod TreeLaws

@@ -3,29 +3,10 @@ use Rattle.std.proofs.Common.{◌≡◌, ◌<◌, ◌≤◌, ◌+◌, ◌*◌, �
 use Rattle.std.proofs.Math.Nat.{mul-le-mul_left, mul-le-mul_right}
 use Rattle.std.proofs.Math.Seq.{drop-cons, drop-length}
 use Rattle.std.proofs.lemmas.List.{get_or-map, get_or_default, length-map}
+use Rattle.game_theory.proofs.ProfileNumbers.{length-profile, number_of-below}
 use Rattle.rational.specs.Rational.{ℚ, zero_ℚ}
 use Rattle.game_theory.specs.Profiles.{IsProfile, number_of, profile_count}
 use Rattle.game_core.specs.Table.{GameTable, IsTable, strategy_counts, game_of}
-
--- a profile has a strategy for each player
-pub IsProfile-length : (ns ss : List ℕ) → IsProfile ns ss → length ss ≡ length ns
-IsProfile-length [] [] h = refl
-IsProfile-length [] (s ∷ ss) h = absurd h
-IsProfile-length (n ∷ ns) [] h = absurd h
-IsProfile-length (n ∷ ns) (s ∷ ss) h = ap suc (IsProfile-length ns ss h.1)
-
--- a digit before a number below a bound stays below the product
-digit_below : (s n r p : ℕ) → s < n → r < p → s + n * r < n * p
-digit_below s n r p digit below =
-    let room : n * (r + 1) ≤ n * p = mul-le-mul_left n (omega arith) in
-    omega arith
-
--- a profile's number is below the number of profiles
-pub number_of-below : (ns ss : List ℕ) → IsProfile ns ss → number_of ns ss < profile_count ns
-number_of-below [] [] h = omega arith
-number_of-below [] (s ∷ ss) h = absurd h
-number_of-below (n ∷ ns) [] h = absurd h
-number_of-below (n ∷ ns) (s ∷ ss) h = digit_below s n (number_of ns ss) (profile_count ns) h.0 (number_of-below ns ss h.1)
 
 -- more players have no fewer profiles
 below_product : (s n r p : ℕ) → s < n → r < p → r < n * p
@@ -54,7 +35,7 @@ length_at f xs k x below here =
 -- the number from a player on, where the player's place is one below that of the later players
 pub number_of-before : (ns ss : List ℕ) (k n s m : ℕ) → IsProfile ns ss → 0 < k → k ≤ length ss → n ≡ get_or ns (k - 1) 0 → s ≡ get_or ss (k - 1) 0 → m ≡ number_of (drop k ns) (drop k ss) → (s + n * m ≡ number_of (drop (k - 1) ns) (drop (k - 1) ss)) × (s + n * m < profile_count ns)
 number_of-before ns ss k n s m h some within player strategy later =
-    let long = IsProfile-length ns ss h in
+    let long = length-profile ns ss h in
     let whole : (k - 1) + 1 ≡ k = omega arith in
     let step = rw whole at (number_of-step ns ss (k - 1) (omega arith) (omega arith)) in
     let same : s + n * m ≡ number_of (drop (k - 1) ns) (drop (k - 1) ss) = rw (player, strategy, later) (sym step) in

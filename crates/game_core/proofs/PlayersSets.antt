@@ -4,13 +4,9 @@ use Rattle.std.proofs.Math.Nat.{add-zero}
 use Rattle.std.proofs.lemmas.Bool.{cases_eq, eqb-true, eq-eqb, false_from_ne_true}
 use Rattle.std.proofs.lemmas.List.{append-nil, length-set, get_or-set_same, get_or-set_other, get_or_append_left, get_or_push, length_push, length-take-le, get_or-map, map-set, take_more, length-map}
 use Rattle.std.proofs.lemmas.Option.{slice_get-get_or, slice_get_read, slice_get-map, get_or_from_slice_get, same_Some}
+use Rattle.lists.proofs.Elements.{test_in_front}
 use Rattle.game_core.specs.OwnSets.{AreOwnLists}
 use Rattle.game_core.specs.Tree.{GameTree, IsTree, InformationSet, IsWithin, is_set, own_from}
-
--- a number that a test puts in front leaves the list's end as it is
-test_in_front : (b : Bool) (s : ℕ) (xs ys zs : List ℕ) → xs ≡ ys ++ zs → cond b (s ∷ xs) xs ≡ cond b (s ∷ ys) ys ++ zs
-test_in_front true s xs ys zs same = ap (λ v. s ∷ v) same
-test_in_front false s xs ys zs same = same
 
 -- one more set comes last among its owner's own sets
 own_from-push_at : (s i : ℕ) (sets : List InformationSet) (last : InformationSet) → own_from s i (sets ++ last ∷ []) ≡ own_from s i sets ++ own_from (s + length sets) i (last ∷ [])

@@ -113,7 +113,7 @@ abbrev AreBefore : ℕ → List Place → Type 0
 AreBefore k places = (p : Place) → IsAmong p places → IsWithin k p.0
 
 -- a number below a bound
-within : (k n : ℕ) (o : Option ℕ) → IsWithin k o → o ≡ Some n → n < k
+pub within : (k n : ℕ) (o : Option ℕ) → IsWithin k o → o ≡ Some n → n < k
 within k n o h is = subst (IsWithin k) is h
 
 -- a number below a greater bound

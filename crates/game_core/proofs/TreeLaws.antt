@@ -3,6 +3,7 @@ use Rattle.std.proofs.Common.{◌≡◌, ◌<◌, ◌≤◌, ◌∙◌, sym, ap,
 use Rattle.std.proofs.lemmas.List.{length-map}
 use Rattle.std.proofs.lemmas.List.Elements.{All-get_or, All-map}
 use Rattle.std.proofs.lemmas.Option.{none-some, slice_get_within, slice_get-get_or, get_or_from_slice_get, same_Some}
+use Rattle.lists.proofs.Elements.{element}
 use Rattle.rational.specs.Rational.{◌≤ℚ◌, zero_ℚ, one_ℚ}
 use Rattle.rational.specs.Sum.{sum_to}
 use Rattle.game_trees.specs.FirstNodes.{AreNumberedByFirstNodes}
@@ -11,13 +12,7 @@ use Rattle.game_core.specs.declared.tree.Action.{Action}
 use Rattle.game_core.specs.declared.tree.Node.{Node}
 use Rattle.game_core.specs.Tree.{AreInPrefixOrder, GameTree, IsTree, InformationSet, IsWithin, AreChances, ProbabilitiesFit, SetFits, LiesBelowRoot, most_depth, action_count, probability_at}
 use Rattle.game_core.specs.TreeGame.{game_of_tree, or_zero}
-use Rattle.game_core.proofs.PrefixOrder.{child_at, hangs_at, place_at, root, same_node}
-
--- the element at a place of a list
-element : {X : Type 0} (xs : List X) (k : ℕ) → k < length xs → (x : X) × (slice_get xs k ≡ Some x)
-element [] k below = absurd (omega arith)
-element (x ∷ xs) zero below = (x, refl)
-element (x ∷ xs) (suc k) below = element xs k (omega arith)
+use Rattle.game_core.proofs.PrefixOrder.{child_at, hangs_at, place_at, root, same_node, within}
 
 -- a part of the element at a place
 part_of : {X Y : Type 0} (f : X → Y) (xs : List X) (k : ℕ) (x : X) (d : Y) → slice_get xs k ≡ Some x → get_or (map f xs) k d ≡ f x
@@ -28,10 +23,6 @@ part_of f (y ∷ xs) (suc k) x d is = part_of f xs k x d is
 -- what holds of each element's part holds of the part at a place
 part_has : {X Y : Type 0} (P : Y → Type 0) (f : X → Y) (xs : List X) (k : ℕ) (d : Y) → All (λ x. P (f x)) xs → k < length xs → P (get_or (map f xs) k d)
 part_has P f xs k d h below = All-get_or P (map f xs) k d (rw length-map below) (All-map P f xs h)
-
--- a number within a bound
-within : (bound n : ℕ) (o : Option ℕ) → IsWithin bound o → o ≡ Some n → n < bound
-within bound n o h is = subst (IsWithin bound) is h
 
 -- a node with an action has a set
 some_set : (sets : List InformationSet) (set : Option ℕ) (a : ℕ) → a < action_count sets set → (s : ℕ) × (set ≡ Some s) × (a < action_count sets (Some s))

@@ -3,7 +3,7 @@ use Rattle.std.proofs.Common.{◌≡◌, ◌≢◌, ℕ, ◌≤◌, Bool, true, 
 use Rattle.std.specs.Prelude.{nat_le}
 use Rattle.std.specs.Bool.{Decides}
 use Rattle.std.specs.Char.{is_ascii_digit}
-use Rattle.std.proofs.lemmas.Bool.{both_ways}
+use Rattle.std.proofs.lemmas.Bool.{both_ways, false_from_ne_true}
 use Rattle.std.proofs.lemmas.Bool.Decides.{Decides-or, Decides-and, Decides-eqb, leb_tells}
 use Rattle.game_text.specs.Tokens.{IsBlank, IsLetter, IsBare}
 use Rattle.game_text.specs.Reading.{is_blank, is_letter, is_bare}
@@ -31,13 +31,8 @@ pub tells_bare : (b : ℕ) → Decides (is_bare b) (IsBare b)
 tells_bare b =
     Decides-or (is_letter b) (is_ascii_digit b || (b == 43 || (b == 45 || (b == 46 || b == 47)))) (tells_letter b) (Decides-or (is_ascii_digit b) (b == 43 || (b == 45 || (b == 46 || b == 47))) (tells_range 48 57 b) (tells_sign b))
 
--- a test that cannot hold
-pub untrue : (v : Bool) → (v ≡ true → ⊥) → v ≡ false
-untrue true h = absurd (h refl)
-untrue false h = refl
-
 pub unequal : (a b : ℕ) → a ≢ b → (a == b) ≡ false
-unequal a b h = untrue (a == b) (λ e. h ((Decides-eqb a b).0 e))
+unequal a b h = false_from_ne_true (a == b) (λ e. h ((Decides-eqb a b).0 e))
 
 -- a bare byte is no blank
 pub bare_no_blank : (b : ℕ) → IsBare b → IsBlank b → ⊥
@@ -53,9 +48,9 @@ bare_no_mark b h = (λ k. omega arith, λ k. omega arith, λ k. omega arith)
 
 -- a blank is not bare
 pub blank_not_bare : (b : ℕ) → IsBlank b → is_bare b ≡ false
-blank_not_bare b h = untrue (is_bare b) (λ e. bare_no_blank b ((tells_bare b).0 e) h)
+blank_not_bare b h = false_from_ne_true (is_bare b) (λ e. bare_no_blank b ((tells_bare b).0 e) h)
 
 -- a byte that is not bare is no letter
 pub not_bare_no_letter : (b : ℕ) → is_bare b ≡ false → is_letter b ≡ false
 not_bare_no_letter b e =
-    untrue (is_letter b) (λ k. both_ways (is_bare b) e ((tells_bare b).1 (inl ((tells_letter b).0 k))))
+    false_from_ne_true (is_letter b) (λ k. both_ways (is_bare b) e ((tells_bare b).1 (inl ((tells_letter b).0 k))))

@@ -1,5 +1,6 @@
 -- What the first byte tells of the token or fault that comes.
 use Rattle.std.proofs.Common.{◌≡◌, ◌≢◌, ℕ, ◌<◌, true, false, if◌then◌else◌, ◌==◌, List, [], ◌∷◌, ◌++◌, refl, arith}
+use Rattle.std.proofs.lemmas.Bool.{false_from_ne_true}
 use Rattle.game_text.specs.TokenList.{token_parts}
 use Rattle.game_text.specs.declared.token.Token.{Token}
 use Rattle.game_text.specs.declared.token.Token.TheVariants.{Left, Right, Comma, Text, Word, Number}
@@ -7,7 +8,7 @@ use Rattle.game_text.specs.declared.reading.TextKind.{TextKind}
 use Rattle.game_text.specs.declared.reading.TextKind.TheVariants.{BadChar, OpenText, BadNumber, NumberTooLarge}
 use Rattle.game_text.specs.Tokens.{BeginsWith, BeginsNoToken, IsBlank, IsLetter, IsRun, IsTokenAt, IsFaultAt}
 use Rattle.game_text.specs.Reading.{is_blank, is_letter, is_bare}
-use Rattle.game_text.proofs.Bytes.{tells_blank, tells_letter, tells_bare, untrue, unequal, blank_not_bare, not_bare_no_letter}
+use Rattle.game_text.proofs.Bytes.{tells_blank, tells_letter, tells_bare, unequal, blank_not_bare, not_bare_no_letter}
 
 -- 0 to 5 for the kinds of tokens, 6 for a byte that begins none, 7 for a blank, and 8 at the end
 abbrev pub kind_at : List ℕ → ℕ
@@ -29,7 +30,7 @@ kind_at-word (b ∷ run) rest back h k = let e : is_letter b ≡ true = (tells_l
 kind_at-number : (run rest back : List ℕ) → IsRun run rest → ¬ (BeginsWith IsLetter run) → kind_at (run ++ back) ≡ 5
 kind_at-number [] rest back h k = absurd (let s : 0 < 0 = h.some in omega arith)
 kind_at-number (b ∷ run) rest back h k =
-    let no : is_letter b ≡ false = untrue (is_letter b) (λ e. k ((tells_letter b).0 e)) in
+    let no : is_letter b ≡ false = false_from_ne_true (is_letter b) (λ e. k ((tells_letter b).0 e)) in
     let bare : is_bare b ≡ true = (tells_bare b).1 h.bare.0 in
     rw (bare, no) refl
 
@@ -53,9 +54,9 @@ kind_at-token front back (Number value) h = kind_at-number front back back h.0 h
 kind_at-bad_char : (bytes : List ℕ) → BeginsWith BeginsNoToken bytes → kind_at bytes ≡ 6
 kind_at-bad_char [] h = absurd h
 kind_at-bad_char (b ∷ bytes) h =
-    let bare : is_bare b ≡ false = untrue (is_bare b) (λ e. h.not_bare ((tells_bare b).0 e)) in
+    let bare : is_bare b ≡ false = false_from_ne_true (is_bare b) (λ e. h.not_bare ((tells_bare b).0 e)) in
     let no : is_letter b ≡ false = not_bare_no_letter b bare in
-    let blank : is_blank b ≡ false = untrue (is_blank b) (λ e. h.no_blank ((tells_blank b).0 e)) in
+    let blank : is_blank b ≡ false = false_from_ne_true (is_blank b) (λ e. h.no_blank ((tells_blank b).0 e)) in
     let quote : (b == 34) ≡ false = unequal b 34 h.no_quote in
     let comma : (b == 44) ≡ false = unequal b 44 h.no_comma in
     let right : (b == 125) ≡ false = unequal b 125 h.no_brace.1 in

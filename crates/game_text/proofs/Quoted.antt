@@ -1,15 +1,15 @@
 -- Quoted texts and what their bytes spell.
 use Rattle.std.proofs.Common.{◌≡◌, ◌≢◌, ℕ, Bool, true, false, cond, ◌&&◌, ◌==◌, inl, inr, List, [], ◌∷◌, ◌++◌, Option, Some, None, refl, sym, ap, ◌∙◌}
-use Rattle.std.proofs.lemmas.Bool.{and_parts}
+use Rattle.std.proofs.lemmas.Bool.{and_parts, false_from_ne_true}
 use Rattle.std.proofs.lemmas.Bool.Decides.{Decides-eqb}
 use Rattle.game_text.specs.Tokens.{BeginsWith, SpellsText}
 use Rattle.game_text.specs.Reading.{spelled_byte, spelled, behind_text}
-use Rattle.game_text.proofs.Bytes.{untrue, unequal}
+use Rattle.game_text.proofs.Bytes.{unequal}
 
 -- not a backslash before a quote
 no_escape : (b c : ℕ) → (b ≡ 92 → c ≢ 34) → (b == 92 && c == 34) ≡ false
 no_escape b c h =
-    untrue (b == 92 && c == 34) (λ e. let p = and_parts (b == 92) (c == 34) e in h ((Decides-eqb b 92).0 p.0) ((Decides-eqb c 34).0 p.1))
+    false_from_ne_true (b == 92 && c == 34) (λ e. let p = and_parts (b == 92) (c == 34) e in h ((Decides-eqb b 92).0 p.0) ((Decides-eqb c 34).0 p.1))
 
 -- the bytes between the quotes spell what is read, up to the closing quote
 pub spelled-text : (inner text rest : List ℕ) → SpellsText inner text → (spelled (inner ++ 34 ∷ rest) ≡ text) × (behind_text (inner ++ 34 ∷ rest) ≡ 34 ∷ rest)

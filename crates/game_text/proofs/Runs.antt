@@ -1,9 +1,10 @@
 -- Runs of bare bytes.
 use Rattle.std.proofs.Common.{◌≡◌, ℕ, ◌<◌, true, List, [], ◌∷◌, ◌++◌, length, take, drop}
 use Rattle.std.specs.List.{prefix_len, AllByRecursion}
+use Rattle.std.proofs.lemmas.Bool.{false_from_ne_true}
 use Rattle.game_text.specs.Tokens.{BeginsWith, IsBlank, IsBare, IsRun}
 use Rattle.game_text.specs.Reading.{is_bare, is_blank}
-use Rattle.game_text.proofs.Bytes.{tells_bare, tells_blank, untrue}
+use Rattle.game_text.proofs.Bytes.{tells_bare, tells_blank}
 use Rattle.game_text.proofs.Fronts.{take_passes, drop_stops, drop-front}
 use Rattle.number_text.proofs.Spans.{Stops}
 
@@ -23,7 +24,7 @@ bare_stops (b ∷ rest) s h = let e : is_bare b ≡ true = (tells_bare b).1 h in
 
 stops_bare : (rest : List ℕ) → ¬ (BeginsWith IsBare rest) → Stops is_bare rest
 stops_bare [] h = tt
-stops_bare (b ∷ rest) h = untrue (is_bare b) (λ e. h ((tells_bare b).0 e))
+stops_bare (b ∷ rest) h = false_from_ne_true (is_bare b) (λ e. h ((tells_bare b).0 e))
 
 -- the longest front of bare bytes is a run, if it has any
 pub run_is : (bytes run rest : List ℕ) → run ≡ take (prefix_len is_bare bytes) bytes → rest ≡ drop (prefix_len is_bare bytes) bytes → 0 < length run → IsRun run rest

@@ -2,16 +2,11 @@
 use Rattle.std.proofs.Common.{zero, suc, ◌≡◌, ◌⊎◌, inl, inr, List, [], ◌∷◌, ◌++◌, length, get_or, All, Contains, refl, sym, ap₂, ◌∙◌, subst, arith}
 use Rattle.std.proofs.lemmas.Int.{ints}
 use Rattle.rational.specs.Rational.{ℚ, ◌<ℚ◌}
-use Rattle.rational.proofs.Field.{le_or_lt, le_antisymm, lt_irrefl}
+use Rattle.rational.proofs.Field.{le_or_lt, le_antisymm, lt_irrefl, lt_trans}
 use Rattle.rational.proofs.Linear.{linear, at, ◌⟨<⟩◌}
 use Rattle.game_theory.specs.Profiles.{Game}
 use Rattle.game_theory.specs.Lines.{StandsBefore, AreInOrder, ArePureEquilibria, IsPureEquilibriumLine}
 use Rattle.game_theory.specs.Laws.{OneListOfPureEquilibria}
-
--- the order of numbers is transitive
-lt_trans : (a b c : ℚ) → a <ℚ b → b <ℚ c → a <ℚ c
-lt_trans a b c h g =
-    linear (a ∷ b ∷ c ∷ []) ((at 0 ⟨<⟩ at 1) ∷ (at 1 ⟨<⟩ at 2) ∷ []) (at 0 ⟨<⟩ at 2) (λ one z p l. omega (arith, ints)) (h, (g, tt))
 
 -- no line stands before itself
 pub StandsBefore-irrefl : (x : List ℚ) → StandsBefore x x → ⊥

@@ -3,7 +3,8 @@ use Rattle.std.proofs.Common.{ℕ, zero, suc, ◌+◌, ◌*◌, ◌/◌, ◌%◌
 use Rattle.std.proofs.lemmas.Bool.{cases_order}
 use Rattle.std.proofs.lemmas.Nat.{mul-add-lt, div-mul-add, mod-mul-add, div_below}
 use Rattle.std.proofs.Math.Nat.{mul-le-mul_left}
-use Rattle.game_theory.specs.Profiles.{profile_count, IsProfile, ComesBefore}
+use Rattle.lists.specs.Orders.{ComesBefore}
+use Rattle.game_theory.specs.Profiles.{profile_count, IsProfile}
 use Rattle.game_theory.specs.Ranks.{ranked}
 
 -- the factors of a product with a number below it are positive

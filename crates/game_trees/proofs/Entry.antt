@@ -1,6 +1,7 @@
 -- The entry game: its equilibria in which no choice is random.
 use Rattle.std.proofs.Common.{ℕ, zero, suc, ◌<◌, ◌≤◌, ◌≡◌, ◌⊎◌, inl, inr, refl, sym, ◌∙◌, subst, arith}
 use Rattle.std.proofs.lemmas.Bool.{cases_lt}
+use Rattle.lists.proofs.Numbers.{below_two}
 use borrow.Author.Count.{below_none, below_more}
 use Rattle.rational.specs.Gcd.{gcd}
 use Rattle.rational.specs.Rational.{ℚ, is_lowest, frac, ◌+ℚ◌, ◌*ℚ◌, ◌≤ℚ◌, ◌<ℚ◌, zero_ℚ, one_ℚ}
@@ -19,10 +20,6 @@ use Rattle.game_trees.proofs.TreeTests.{tree-tested, even_lottery}
 entry-tree : IsTree entry_game
 entry-tree =
     tree-tested entry_game (record { some_node = refl; nodes = refl; edges = refl; sets = refl }) (λ s l e. even_lottery entry_game s refl (λ a. refl))
-
--- what holds at 0 and at 1 holds below 2
-below_two : (P : ℕ → Type 0) → P 0 → P 1 → (i : ℕ) → i < 2 → P i
-below_two P p q = below_more P 1 (below_more P 0 (below_none P) p) q
 
 -- what player i gets where the firms choose these actions
 abbrev gets : ℕ → ℕ → ℕ → ℚ

@@ -2,6 +2,7 @@
 use Rattle.std.proofs.Common.{ℕ, zero, suc, ◌<◌, ◌≡◌, Bool, true, false, Option, Some, None, refl, sym, ◌∙◌, pos}
 use Rattle.std.specs.Prelude.{◌==◌, ◌&&◌, ◌||◌, nat_lt}
 use Rattle.std.proofs.lemmas.Bool.Decides.{Decides-and, Decides-eqb, Decides-ltb, Decides-below_and, Decides-below_or}
+use Rattle.std.proofs.lemmas.Bool.{and_parts}
 use Rattle.rational.specs.Gcd.{gcd}
 use Rattle.rational.specs.Rational.{is_lowest, frac, ◌+ℚ◌, ◌≤ℚ◌, zero_ℚ, one_ℚ}
 use Rattle.rational.specs.Sum.{sum_to}
@@ -56,10 +57,6 @@ pub implies-tells : (x y : Bool) → implies x y ≡ true → x ≡ true → y �
 implies-tells true y h e = h
 implies-tells false y h e = cc
 
--- both tests hold
-pub both-tell : (x y : Bool) → (x && y) ≡ true → (x ≡ true) × (y ≡ true)
-both-tell x y = (Decides-and x y (λ e. e, λ e. e) (λ e. e, λ e. e)).0
-
 -- ---- the tests of a tree
 -- whether action a of node k leads to node c
 abbrev is_child : Tree → ℕ → ℕ → ℕ → Bool
@@ -100,8 +97,8 @@ pub record PassesTests (t : Tree) : Type 0 where
 -- a child, from its test
 is_child-tells : (t : Tree) (k a c : ℕ) → is_child t k a c ≡ true → c < t.size → IsChild t k a c
 is_child-tells t k a c h l =
-    let p = both-tell (nat_lt 0 c) (t.parent c == k && t.branch c == a) h in
-    let q = both-tell (t.parent c == k) (t.branch c == a) p.1 in
+    let p = and_parts (nat_lt 0 c) (t.parent c == k && t.branch c == a) h in
+    let q = and_parts (t.parent c == k) (t.branch c == a) p.1 in
     ((Decides-ltb 0 c).0 p.0, l, (Decides-eqb (t.parent c) k).0 q.0, (Decides-eqb (t.branch c) a).0 q.1)
 
 -- the test of a child
@@ -112,7 +109,7 @@ child-passes t k a c h =
 -- the set of a node
 node-tells : (t : Tree) → PassesTests t → (k s : ℕ) → k < t.size → t.set k ≡ Some s → (nat_lt s t.sets ≡ true) × (actions_lead t k s ≡ true)
 node-tells t w k s l e =
-    both-tell (nat_lt s t.sets) (actions_lead t k s) (if_any-tells (t.set k) (λ s. nat_lt s t.sets && actions_lead t k s) s (each_below-tells (node_fits t) t.size w.nodes k l) e)
+    and_parts (nat_lt s t.sets) (actions_lead t k s) (if_any-tells (t.set k) (λ s. nat_lt s t.sets && actions_lead t k s) s (each_below-tells (node_fits t) t.size w.nodes k l) e)
 
 -- the child behind an action
 child-tells : (t : Tree) → PassesTests t → (k s a : ℕ) → k < t.size → t.set k ≡ Some s → a < t.actions s → (c : ℕ) × IsChild t k a c
@@ -123,23 +120,23 @@ child-tells t w k s a l e m =
 -- the edge to a node
 edge-tells : (t : Tree) → PassesTests t → (c : ℕ) → 0 < c → c < t.size → (nat_lt (t.parent c) c ≡ true) × ((is_led_to t c && is_alone t c) ≡ true)
 edge-tells t w c p l =
-    both-tell (nat_lt (t.parent c) c) (is_led_to t c && is_alone t c) (implies-tells (nat_lt 0 c) _ (each_below-tells (edge_fits t) t.size w.edges c l) ((Decides-ltb 0 c).1 p))
+    and_parts (nat_lt (t.parent c) c) (is_led_to t c && is_alone t c) (implies-tells (nat_lt 0 c) _ (each_below-tells (edge_fits t) t.size w.edges c l) ((Decides-ltb 0 c).1 p))
 
 -- the action that leads to a node
 action-tells : (t : Tree) → PassesTests t → (c : ℕ) → 0 < c → c < t.size → (s : ℕ) × (t.set (t.parent c) ≡ Some s) × (t.branch c < t.actions s)
 action-tells t w c p l =
-    let o = is_one-tells (t.set (t.parent c)) (λ s. nat_lt (t.branch c) (t.actions s)) (both-tell (is_led_to t c) (is_alone t c) (edge-tells t w c p l).1).0 in
+    let o = is_one-tells (t.set (t.parent c)) (λ s. nat_lt (t.branch c) (t.actions s)) (and_parts (is_led_to t c) (is_alone t c) (edge-tells t w c p l).1).0 in
     (o.0, o.1, (Decides-ltb (t.branch c) (t.actions o.0)).0 o.2)
 
 -- no other node is behind that action
 alone-tells : (t : Tree) → PassesTests t → (c d : ℕ) → 0 < c → c < t.size → IsChild t (t.parent c) (t.branch c) d → c ≡ d
 alone-tells t w c d p l h =
-    let alone = each_below-tells (λ d. implies (is_child t (t.parent c) (t.branch c) d) (c == d)) t.size (both-tell (is_led_to t c) (is_alone t c) (edge-tells t w c p l).1).1 d h.1 in
+    let alone = each_below-tells (λ d. implies (is_child t (t.parent c) (t.branch c) d) (c == d)) t.size (and_parts (is_led_to t c) (is_alone t c) (edge-tells t w c p l).1).1 d h.1 in
     (Decides-eqb c d).0 (implies-tells (is_child t (t.parent c) (t.branch c) d) (c == d) alone (child-passes t (t.parent c) (t.branch c) d h))
 
 -- the owner and the actions of a set
 set-tells : (t : Tree) → PassesTests t → (s : ℕ) → s < t.sets → (if_any (t.owner s) (λ i. nat_lt i t.players) ≡ true) × (nat_lt 0 (t.actions s) ≡ true)
-set-tells t w s l = both-tell (if_any (t.owner s) (λ i. nat_lt i t.players)) (nat_lt 0 (t.actions s)) (each_below-tells (set_fits t) t.sets w.sets s l)
+set-tells t w s l = and_parts (if_any (t.owner s) (λ i. nat_lt i t.players)) (nat_lt 0 (t.actions s)) (each_below-tells (set_fits t) t.sets w.sets s l)
 
 -- what passes the tests, with lotteries for chance, is a tree
 pub tree-tested : (t : Tree) → PassesTests t → ((s : ℕ) → s < t.sets → t.owner s ≡ None → IsLottery t s) → IsTree t

@@ -5,23 +5,23 @@ use Rattle.std.specs.declared.cmp.Ordering.TheVariants.{Less, Equal, Greater}
 use Rattle.std.specs.Ordering.{MatchOrdering}
 use Rattle.std.specs.Cmp.{int_ranks}
 use Rattle.std.proofs.lemmas.Int.{ints}
+use Rattle.rational.proofs.Inverse.{ne_zero_of_pos}
 use Rattle.rational.specs.Rational.{ℚ, frac, whole, zero_ℚ, inv_ℚ, ◌<ℚ◌, ◌≤ℚ◌, ◌*ℚ◌, ◌-ℚ◌}
 use Rattle.rational.proofs.RationalRing.{rational_ring}
 use Rattle.rational.proofs.Field.{not_lt_of_le, *ℚ-inv}
 use Rattle.rational.proofs.Linear.{linear, at, lit, ◌⟨-⟩◌, ◌⟨<⟩◌}
-use Rattle.rational.proofs.Parts.{frac-lt, frac-eq, frac-le}
+use Rattle.rational.proofs.Parts.{frac-lt, frac-eq, frac-le, pos_abs}
 use Rattle.rings.proofs.IntegerRing.{integer_ring}
 use Rattle.rings.proofs.Ring.{ring, combine, ◌times◌is◌, num, var, ◌:-◌, ◌:*◌, A}
 use Rattle.linear_systems.specs.Tableau.{Tableau}
 use Rattle.linear_systems.specs.Lex.{IsLexLess}
 use Rattle.linear_systems.specs.Rows.{coefficient, key, HasDistinctVariables}
-use Rattle.linear_systems.proofs.Lex.{pos_not_zero}
 use Rattle.linear_systems.proofs.Rows.{coefficient_own, coefficient_cell, coefficient_absent}
 use Rattle.linear_systems.proofs.LexRow.{lex_first, lex_pass, lex_take, below_cases, quotients_apart}
 use Rattle.whole_rows.specs.Rows.{from_place}
 use Rattle.lex_tableau.specs.Rows.{tableau_of, IsReachedFrom}
 use Rattle.lex_tableau.specs.Ratio.{listed, quotient_of, Compares, LexCompares, IsBest}
-use Rattle.whole_rows.proofs.RowValues.{fraction_over, over_entry, whole_ne, pos_ne, frac_over, positive_size}
+use Rattle.whole_rows.proofs.RowValues.{fraction_over, over_entry, whole_ne, pos_ne, frac_over}
 
 -- ---- the numbers of a key
 key_past : (b : ℕ → ℕ) (t : Tableau) (i p : ℕ) → p ≢ 0 → coefficient t i (b (p - 1)) ≡ key b t i p
@@ -46,7 +46,7 @@ module _ (bs ns : List ℕ) (xs : List ℤ) (ss : List ℕ) (i p : ℕ) (d : Has
 
   pub key_absent : get_or bs i 0 ≢ get_or ss (p - 1) 0 → ((j : ℕ) → j < length ns → get_or ns j 0 ≢ get_or ss (p - 1) 0) → frac (pos 0) (nat_abs lead) ≡ key (listed ss) (tableau_of bs ns xs) i p
   key_absent n g =
-      frac_over (pos 0) (nat_abs lead) (positive_size lead pr) ∙ ring rational_ring (inv_ℚ (whole (pos (nat_abs lead))) ∷ []) (num 0 :* A) (num 0) refl
+      frac_over (pos 0) (nat_abs lead) (pos_abs lead pr) ∙ ring rational_ring (inv_ℚ (whole (pos (nat_abs lead))) ∷ []) (num 0 :* A) (num 0) refl
       ∙ sym (coefficient_absent (tableau_of bs ns xs) i (get_or ss (p - 1) 0) n g) ∙ key_past (listed ss) (tableau_of bs ns xs) i p hp
 
 -- ---- quotients
@@ -77,7 +77,7 @@ pub compared : (bs ns : List ℕ) (xs : List ℤ) (ss : List ℕ) (c i r p : ℕ
 compared bs ns xs ss c i r p k l o bi br hi hr ki kr same =
     subst (λ q. Compares q (quotient_of ss (tableau_of bs ns xs) c r p) o) (sym (quotient k i bi hi) ∙ ap (λ q. q *ℚ inv_ℚ ((tableau_of bs ns xs).cell i c)) ki)
     (subst (λ q. Compares (frac k (nat_abs (from_place xs (i * (length ns + 2)) (c + 1)))) q o) (sym (quotient l r br hr) ∙ ap (λ q. q *ℚ inv_ℚ ((tableau_of bs ns xs).cell r c)) kr)
-    (compares_frac k l (nat_abs (from_place xs (i * (length ns + 2)) (c + 1))) (nat_abs (from_place xs (r * (length ns + 2)) (c + 1))) o (positive_size (from_place xs (i * (length ns + 2)) (c + 1)) hi) (positive_size (from_place xs (r * (length ns + 2)) (c + 1)) hr) same))
+    (compares_frac k l (nat_abs (from_place xs (i * (length ns + 2)) (c + 1))) (nat_abs (from_place xs (r * (length ns + 2)) (c + 1))) o (pos_abs (from_place xs (i * (length ns + 2)) (c + 1)) hi) (pos_abs (from_place xs (r * (length ns + 2)) (c + 1)) hr) same))
   where
     quotient : (k : ℤ) (i : ℕ) → pos 0 <ℤ from_place xs (i * (length ns + 2)) 0 → pos 0 <ℤ from_place xs (i * (length ns + 2)) (c + 1) → frac k (nat_abs (from_place xs (i * (length ns + 2)) 0)) *ℚ inv_ℚ ((tableau_of bs ns xs).cell i c) ≡ frac k (nat_abs (from_place xs (i * (length ns + 2)) (c + 1)))
     quotient k i b t = quotient_is k (from_place xs (i * (length ns + 2)) (c + 1)) (from_place xs (i * (length ns + 2)) 0) b t
@@ -99,13 +99,13 @@ more_same p f g e l q h = elim (below_cases q p (omega arith)) [ inl k ↦ subst
 
 -- ---- the signs of cells
 pub cell_positive : (bs ns : List ℕ) (xs : List ℤ) (i c : ℕ) → pos 0 <ℤ from_place xs (i * (length ns + 2)) 0 → pos 0 <ℤ from_place xs (i * (length ns + 2)) (c + 1) → zero_ℚ <ℚ (tableau_of bs ns xs).cell i c
-cell_positive bs ns xs i c b t = (frac-lt (pos 0) (from_place xs (i * (length ns + 2)) (c + 1)) 1 (nat_abs (from_place xs (i * (length ns + 2)) 0)) (omega arith) (positive_size (from_place xs (i * (length ns + 2)) 0) b)).1 (subst₂ (λ x y. x <ℤ y) (ring integer_ring (pos (nat_abs (from_place xs (i * (length ns + 2)) 0)) ∷ []) (num 0) (num 0 :* A) refl) (ring integer_ring (from_place xs (i * (length ns + 2)) (c + 1) ∷ []) A (A :* num 1) refl) t)
+cell_positive bs ns xs i c b t = (frac-lt (pos 0) (from_place xs (i * (length ns + 2)) (c + 1)) 1 (nat_abs (from_place xs (i * (length ns + 2)) 0)) (omega arith) (pos_abs (from_place xs (i * (length ns + 2)) 0) b)).1 (subst₂ (λ x y. x <ℤ y) (ring integer_ring (pos (nat_abs (from_place xs (i * (length ns + 2)) 0)) ∷ []) (num 0) (num 0 :* A) refl) (ring integer_ring (from_place xs (i * (length ns + 2)) (c + 1) ∷ []) A (A :* num 1) refl) t)
 
 pub cell_not_positive : (bs ns : List ℕ) (xs : List ℤ) (i c : ℕ) → pos 0 <ℤ from_place xs (i * (length ns + 2)) 0 → from_place xs (i * (length ns + 2)) (c + 1) ≤ℤ pos 0 → (tableau_of bs ns xs).cell i c ≤ℚ zero_ℚ
-cell_not_positive bs ns xs i c b t = (frac-le (from_place xs (i * (length ns + 2)) (c + 1)) (pos 0) (nat_abs (from_place xs (i * (length ns + 2)) 0)) 1 (positive_size (from_place xs (i * (length ns + 2)) 0) b) (omega arith)).1 (subst₂ (λ x y. x ≤ℤ y) (ring integer_ring (from_place xs (i * (length ns + 2)) (c + 1) ∷ []) A (A :* num 1) refl) (ring integer_ring (pos (nat_abs (from_place xs (i * (length ns + 2)) 0)) ∷ []) (num 0) (num 0 :* A) refl) t)
+cell_not_positive bs ns xs i c b t = (frac-le (from_place xs (i * (length ns + 2)) (c + 1)) (pos 0) (nat_abs (from_place xs (i * (length ns + 2)) 0)) 1 (pos_abs (from_place xs (i * (length ns + 2)) 0) b) (omega arith)).1 (subst₂ (λ x y. x ≤ℤ y) (ring integer_ring (from_place xs (i * (length ns + 2)) (c + 1) ∷ []) A (A :* num 1) refl) (ring integer_ring (pos (nat_abs (from_place xs (i * (length ns + 2)) 0)) ∷ []) (num 0) (num 0 :* A) refl) t)
 
 pub number_positive : (bs ns : List ℕ) (xs : List ℤ) (i c : ℕ) → pos 0 <ℤ from_place xs (i * (length ns + 2)) 0 → zero_ℚ <ℚ (tableau_of bs ns xs).cell i c → pos 0 <ℤ from_place xs (i * (length ns + 2)) (c + 1)
-number_positive bs ns xs i c b t = subst₂ (λ x y. x <ℤ y) (ring integer_ring (pos (nat_abs (from_place xs (i * (length ns + 2)) 0)) ∷ []) (num 0 :* A) (num 0) refl) (ring integer_ring (from_place xs (i * (length ns + 2)) (c + 1) ∷ []) (A :* num 1) A refl) ((frac-lt (pos 0) (from_place xs (i * (length ns + 2)) (c + 1)) 1 (nat_abs (from_place xs (i * (length ns + 2)) 0)) (omega arith) (positive_size (from_place xs (i * (length ns + 2)) 0) b)).0 t)
+number_positive bs ns xs i c b t = subst₂ (λ x y. x <ℤ y) (ring integer_ring (pos (nat_abs (from_place xs (i * (length ns + 2)) 0)) ∷ []) (num 0 :* A) (num 0) refl) (ring integer_ring (from_place xs (i * (length ns + 2)) (c + 1) ∷ []) (A :* num 1) A refl) ((frac-lt (pos 0) (from_place xs (i * (length ns + 2)) (c + 1)) 1 (nat_abs (from_place xs (i * (length ns + 2)) 0)) (omega arith) (pos_abs (from_place xs (i * (length ns + 2)) 0) b)).0 t)
 
 pub not_at_most : (n : ℤ) → (n ≤ℤ pos 0 → ⊥) → pos 0 <ℤ n
 not_at_most n h = grind (arith, ints, h)
@@ -127,5 +127,5 @@ module _ (k m : ℕ) (ss : List ℕ) (t : Tableau) (c : ℕ) where
   best_kept r Greater p hk n h b l = lex_pass k m (listed ss) t c r b (λ _. l)
   best_kept r Equal p hk n h b l =
       let w : r < k = b.within in
-      absurd (quotients_apart p.bound m p.start t k r (t.cell k c) (t.cell r c) p.begins p.reached hk (omega arith) (omega arith) (pos_not_zero (t.cell k c) h)
+      absurd (quotients_apart p.bound m p.start t k r (t.cell k c) (t.cell r c) p.begins p.reached hk (omega arith) (omega arith) (ne_zero_of_pos (t.cell k c) h)
       (λ q hq. ap (λ v. coefficient t k v *ℚ inv_ℚ (t.cell k c)) (p.basics q hq) ∙ l (suc q) (omega arith) ∙ ap (λ v. coefficient t r v *ℚ inv_ℚ (t.cell r c)) (sym (p.basics q hq))))

@@ -1,7 +1,6 @@
 // Tableaux of whole numbers.
 ghost use Rattle.std.specs.Prelude.{◌≡◌, ◌≢◌, ◌+◌, ◌<◌, ◌<ℤ◌, pos, length, IfOk, IfErr, OnOk};
 ghost use Rattle.rational.specs.Rational.{zero_ℚ};
-ghost use Rattle.frac128.specs.Fraction.{sign_of};
 ghost use Rattle.lex_tableau.specs.PivotStops.{IsPivotStop};
 ghost use Rattle.lex_tableau.specs.Pivots.{HasOtherRows, HasPivotRow, steps_of_pivot};
 ghost use Rattle.lex_tableau.specs.Ratio.{IsRatioRow, KeepsPositiveKeys};
@@ -11,6 +10,7 @@ ghost use Rattle.lex_tableau.specs.Starts.{IsStartOf, StartFits};
 ghost use Rattle.whole_rows.specs.Lists.{AllPartsFit};
 ghost use Rattle.whole_rows.specs.Rows.{fraction as fraction_of, from_place};
 ghost use Rattle.whole_rows.specs.Steps.{AllFit, IsFirstUnfit};
+ghost use Rattle.rational.specs.Tests.{sign_of};
 
 use crate::ratio::ratio_row;
 use crate::system::System;

@@ -1,11 +1,12 @@
 -- The rows of a tableau as functions of all variables, and what a pivot makes of them
 use Rattle.std.proofs.Common.{ℕ, suc, zero, ◌<◌, ◌≡◌, ◌≢◌, refl, sym, ap, ap₂, ◌∙◌, [], ◌∷◌, arith, inl, inr, eq-or-lt_of_le, le_of_suc-le-suc}
+use Rattle.rational.proofs.Rules.{times_one}
 use Rattle.rational.specs.Rational.{ℚ, ◌+ℚ◌, ◌*ℚ◌, ◌-ℚ◌, inv_ℚ, zero_ℚ, one_ℚ}
 use Rattle.rational.specs.Sum.{sum_to}
 use Rattle.linear_systems.specs.Tableau.{Tableau, left, pivot}
 use Rattle.rational.proofs.RationalRing.{rational_ring}
 use Rattle.rings.proofs.Ring.{ring, num, ◌:+◌, ◌:*◌, ◌:-◌, A, B, C, D, E, F, G}
-use Rattle.rational.proofs.Sums.{sum_to-same, sum_to-zero}
+use Rattle.rational.proofs.Sums.{sum_to-same, sum_to-zero, sum_to-zeros}
 use Rattle.linear_systems.proofs.Pivot.{eqb_same, eqb_apart, pivot_row, other_row, right_same, right_other}
 use Rattle.linear_systems.specs.Rows.{unit_at, coefficient, key, row, HasDistinctVariables, Alike}
 
@@ -30,37 +31,31 @@ unit_self v = rw (eqb_same v)
 pub unit_other : (v w : ℕ) → w ≢ v → unit_at v w ≡ zero_ℚ
 unit_other v w h = rw (eqb_apart w v h)
 
-pub sum_none : (n : ℕ) (f : ℕ → ℚ) → ((j : ℕ) → j < n → f j ≡ zero_ℚ) → sum_to n f ≡ zero_ℚ
-sum_none n f h = sum_to-same n f (λ j. zero_ℚ) h ∙ sum_to-zero n
-
 pub sum_single : (n : ℕ) (f : ℕ → ℚ) (c : ℕ) → c < n → ((j : ℕ) → j < n → j ≢ c → f j ≡ zero_ℚ) → sum_to n f ≡ f c
 sum_single zero f c h z = absurd (omega arith)
 sum_single (suc n) f c h z = elim (eq-or-lt_of_le (le_of_suc-le-suc h)) [ inl e ↦ here e | inr l ↦ below l (sum_single n f c l (λ j p. z j (omega arith))) ]
   where
     here : c ≡ n → sum_to n f +ℚ f n ≡ f c
     here e =
-        ap₂ (λ x k. x +ℚ f k) (sum_none n f (λ j p. z j (omega arith) (omega arith))) (sym e) ∙ ring rational_ring (f c ∷ []) (num 0 :+ A) A refl
+        ap₂ (λ x k. x +ℚ f k) (sum_to-zeros n f (λ j p. z j (omega arith) (omega arith))) (sym e) ∙ ring rational_ring (f c ∷ []) (num 0 :+ A) A refl
 
     below : c < n → sum_to n f ≡ f c → sum_to n f +ℚ f n ≡ f c
     below l e = ap₂ (λ x y. x +ℚ y) e (z n (omega arith) (omega arith)) ∙ ring rational_ring (f c ∷ []) (A :+ num 0) A refl
 
 -- ---- the coefficient of a variable
-times_one : (a b : ℚ) → b ≡ one_ℚ → a *ℚ b ≡ a
-times_one a b e = ap (λ x. a *ℚ x) e ∙ ring rational_ring (a ∷ []) (A :* num 1) A refl
-
 pub times_zero : (a b : ℚ) → b ≡ zero_ℚ → a *ℚ b ≡ zero_ℚ
 times_zero a b e = ap (λ x. a *ℚ x) e ∙ ring rational_ring (a ∷ []) (A :* num 0) (num 0) refl
 
 pub coefficient_own : (t : Tableau) (i : ℕ) → HasDistinctVariables t → i < t.rows → coefficient t i (t.basic i) ≡ one_ℚ
 unfolding left
 coefficient_own t i p h =
-    ap₂ (λ x y. x +ℚ y) (unit_self (t.basic i)) (sum_none t.width _ (λ j k. times_zero (t.cell i j) _ (unit_other (t.basic i) (t.nonbasic j) (λ e. p.apart i j h k (sym e)))))
+    ap₂ (λ x y. x +ℚ y) (unit_self (t.basic i)) (sum_to-zeros t.width _ (λ j k. times_zero (t.cell i j) _ (unit_other (t.basic i) (t.nonbasic j) (λ e. p.apart i j h k (sym e)))))
     ∙ ring rational_ring [] (num 1 :+ num 0) (num 1) refl
 
 pub coefficient_basic : (t : Tableau) (i k : ℕ) → HasDistinctVariables t → i < t.rows → k < t.rows → i ≢ k → coefficient t i (t.basic k) ≡ zero_ℚ
 unfolding left
 coefficient_basic t i k p hi hk ne =
-    ap₂ (λ x y. x +ℚ y) (unit_other (t.basic k) (t.basic i) (λ e. ne (p.basic_once i k hi hk e))) (sum_none t.width _ (λ j l. times_zero (t.cell i j) _ (unit_other (t.basic k) (t.nonbasic j) (λ e. p.apart k j hk l (sym e)))))
+    ap₂ (λ x y. x +ℚ y) (unit_other (t.basic k) (t.basic i) (λ e. ne (p.basic_once i k hi hk e))) (sum_to-zeros t.width _ (λ j l. times_zero (t.cell i j) _ (unit_other (t.basic k) (t.nonbasic j) (λ e. p.apart k j hk l (sym e)))))
     ∙ ring rational_ring [] (num 0 :+ num 0) (num 0) refl
 
 pub coefficient_cell : (t : Tableau) (i j : ℕ) → HasDistinctVariables t → i < t.rows → j < t.width → coefficient t i (t.nonbasic j) ≡ t.cell i j
@@ -73,7 +68,7 @@ coefficient_cell t i j p hi hj =
 pub coefficient_absent : (t : Tableau) (i v : ℕ) → t.basic i ≢ v → ((j : ℕ) → j < t.width → t.nonbasic j ≢ v) → coefficient t i v ≡ zero_ℚ
 unfolding left
 coefficient_absent t i v h g =
-    ap₂ (λ x y. x +ℚ y) (unit_other v (t.basic i) h) (sum_none t.width _ (λ j k. times_zero (t.cell i j) _ (unit_other v (t.nonbasic j) (g j k)))) ∙ ring rational_ring [] (num 0 :+ num 0) (num 0) refl
+    ap₂ (λ x y. x +ℚ y) (unit_other v (t.basic i) h) (sum_to-zeros t.width _ (λ j k. times_zero (t.cell i j) _ (unit_other v (t.nonbasic j) (g j k)))) ∙ ring rational_ring [] (num 0 :+ num 0) (num 0) refl
 
 -- ---- the key as values of the row
 abbrev pub key_at : (ℕ → ℕ) → ℕ → ℕ → ℚ
@@ -87,7 +82,7 @@ key_factor (suc p) = zero_ℚ
 pub left_zero : (t : Tableau) (i : ℕ) → left t (λ v. zero_ℚ) i ≡ zero_ℚ
 unfolding left
 left_zero t i =
-    ap (λ x. zero_ℚ +ℚ x) (sum_none t.width _ (λ j k. times_zero (t.cell i j) zero_ℚ refl)) ∙ ring rational_ring [] (num 0 :+ num 0) (num 0) refl
+    ap (λ x. zero_ℚ +ℚ x) (sum_to-zeros t.width _ (λ j k. times_zero (t.cell i j) zero_ℚ refl)) ∙ ring rational_ring [] (num 0 :+ num 0) (num 0) refl
 
 pub key_row : (b : ℕ → ℕ) (t : Tableau) (i p : ℕ) → row t (key_at b p) (key_factor p) i ≡ key b t i p
 key_row b t i zero = ap (λ x. x +ℚ (one_ℚ *ℚ t.right i)) (left_zero t i) ∙ ring rational_ring (t.right i ∷ []) (num 0 :+ num 1 :* A) A refl

@@ -5,11 +5,11 @@ use Rattle.std.proofs.lemmas.List.{append-nil, length-replicate}
 use Rattle.std.proofs.lemmas.List.Elements.{All-nil, All-cons}
 use Rattle.std.specs.Prelude.{All}
 use Rattle.std.specs.List.{AllByRecursion, flat_map}
+use Rattle.std.proofs.lemmas.Option.{same_Some}
 use Rattle.rational.specs.Rational.{ℚ, zero_ℚ}
 use Rattle.game_theory.specs.Profiles.{profile_count}
 use Rattle.game_core.specs.Table.{GameTable, IsTable, most_payoffs, strategy_counts}
 use Rattle.game_text.specs.declared.token.Token.{Token}
-use Rattle.file_parts.proofs.Options.{some_same}
 use Rattle.nfg_reader.specs.TableFile.{AreStrategies, AreOutcomes, outcome_payoffs, IsPayoffBody, IsOutcomeBody, IsTableFile, HasTooManyPayoffs}
 use Rattle.nfg_reader.specs.TableReading.{front_at, rest_at, table_at, FrontPart, profiles, table_of, IsTooLong}
 use Rattle.nfg_reader.proofs.CountedNames.{lengths_counted}
@@ -58,7 +58,7 @@ table_again tokens table f =
 
 -- a file has one table
 pub one_table : (tokens : List Token) (one other : GameTable) → IsTableFile tokens one → IsTableFile tokens other → one ≡ other
-one_table tokens one other f g = some_same one other (sym (table_again tokens one f) ∙ table_again tokens other g)
+one_table tokens one other f g = same_Some one other (sym (table_again tokens one f) ∙ table_again tokens other g)
 
 -- ---- too many payoffs
 pub too_many_next : (tokens : List Token) (front : FrontPart × List Token) → front_at tokens ≡ Some front → IsTooLong front.0 → HasTooManyPayoffs tokens
@@ -77,7 +77,7 @@ pub not_too_many : (tokens : List Token) (table : GameTable) → IsTableFile tok
 not_too_many tokens table f few h =
     let p = parts_again tokens table f in
     let q = too_many_again tokens h in
-    let same = some_same _ q.0 (sym p.is_front ∙ q.1) in
+    let same = same_Some _ q.0 (sym p.is_front ∙ q.1) in
     let le : length q.0.0.players * profiles q.0.0 ≤ most_payoffs = subst (λ (x : FrontPart × List Token). length x.0.players * profiles x.0 ≤ most_payoffs) same few in
     absurd (omega (arith, le, q.2))
 
@@ -93,7 +93,7 @@ no_front tokens e = (λ table f. let p = parts_again tokens table f in let q = p
 -- where a front of few payoffs is read, and no payoffs
 pub no_rest : (tokens : List Token) (front : FrontPart × List Token) → front_at tokens ≡ Some front → length front.0.players * profiles front.0 ≤ most_payoffs → rest_at (length front.0.players) (profiles front.0) front.1 ≡ None → IsNoTable tokens
 no_rest tokens front e few r =
-    let by : (other : FrontPart × List Token) → front_at tokens ≡ Some other → front ≡ other = λ other o. some_same front other (sym e ∙ o) in (
+    let by : (other : FrontPart × List Token) → front_at tokens ≡ Some other → front ≡ other = λ other o. same_Some front other (sym e ∙ o) in (
       λ table f.
           let p = parts_again tokens table f in
           let same = by _ p.is_front in

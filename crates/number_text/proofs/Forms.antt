@@ -1,12 +1,13 @@
 -- The form that is read is the form that is written, and no other.
 use Rattle.std.proofs.Common.{◌≡◌, ◌≢◌, ℕ, ◌+◌, ◌<◌, Bool, true, false, cond, not, ◌&&◌, ◌||◌, ◌==◌, ltb, List, [], ◌∷◌, ◌++◌, length, ℤ, pos, Option, Some, None, ◌⊎◌, inl, inr, refl, sym, ap, ap₂, ◌∙◌, subst, append_assoc, arith}
-use Rattle.std.proofs.lemmas.Bool.{and_parts, and_from}
+use Rattle.std.proofs.lemmas.Bool.{and_parts, and_from, or_cases}
 use Rattle.std.proofs.lemmas.Bool.Decides.{Decides-eqb, nat_tests}
 use Rattle.std.proofs.lemmas.List.Elements.{All-from_recursion}
 use Rattle.std.proofs.lemmas.List.{append-nil}
-use Rattle.std.proofs.lemmas.Option.{cond_some}
+use Rattle.std.proofs.lemmas.Option.{cond_some, same_Some}
 use Rattle.std.specs.Char.{IsAsciiDigit, is_ascii_digit}
 use Rattle.std.specs.List.{All, AllByRecursion, list_all}
+use Rattle.lists.proofs.Options.{either}
 use Rattle.frac128.specs.Fraction.{with_sign}
 use Rattle.number_text.specs.Digits.{AreDigits, digits_value}
 use Rattle.number_text.specs.Numbers.{NumberForm, Fraction, Decimal, IsSign, IsMantissa, IsExponent, IsWritten}
@@ -14,23 +15,9 @@ use Rattle.number_text.specs.Reading.{is_minus, behind_sign, leading, behind, is
 use Rattle.number_text.proofs.Digits.{passes_digits, digits_pass, each_passes, front_digits, zeros_value, others_value}
 use Rattle.number_text.proofs.Spans.{Stops, leading-behind, leading-is, behind-is}
 
--- equal answers have equal values
-some_same : {A : Type 0} (x y : A) → Some x ≡ Some y → x ≡ y
-some_same x y e = cc
-
 -- no answer is no value
 none_some : {A B : Type 0} (x : A) → None ≡ Some x → B
 none_some x e = cc
-
--- which way a choice went
-chosen : {A : Type 0} (v : Bool) (x y z : A) → cond v x y ≡ z → ((v ≡ true) × (x ≡ z)) ⊎ ((v ≡ false) × (y ≡ z))
-chosen true x y z e = inl (refl, e)
-chosen false x y z e = inr (refl, e)
-
--- one of two tests passed
-or_either : (v w : Bool) → (v || w) ≡ true → (v ≡ true) ⊎ (w ≡ true)
-or_either true w e = inl refl
-or_either false w e = inr e
 
 -- a test that failed
 not_true : (v : Bool) → not v ≡ true → v ≡ false
@@ -144,12 +131,12 @@ no_digits = refl
 pub power_found : (text : List ℕ) (power : Bool × List ℕ) → power_of text ≡ Some power → IsExponent text (with_sign power.0 (digits_value power.1)) × AllByRecursion IsAsciiDigit power.1
 unfolding power_of
 power_found [] power e =
-    let p : (false, []) ≡ power = some_same _ power e in
+    let p : (false, []) ≡ power = same_Some _ power e in
     subst (λ (x : Bool × List ℕ). IsExponent [] (with_sign x.0 (digits_value x.1)) × AllByRecursion IsAsciiDigit x.1) p (inl (refl, no_digits), tt)
 power_found (b ∷ bytes) power e =
     let p = cond_some ((b == 101 || b == 69) && are_digits (behind_sign bytes)) (is_minus bytes, behind_sign bytes) power e in
     let q = and_parts (b == 101 || b == 69) (are_digits (behind_sign bytes)) p.0 in
-    let letter : (b ≡ 101) ⊎ (b ≡ 69) = elim (or_either (b == 101) (b == 69) q.0) [ inl f ↦ inl (same_byte b 101 f) | inr f ↦ inr (same_byte b 69 f) ] in
+    let letter : (b ≡ 101) ⊎ (b ≡ 69) = elim (or_cases (b == 101) (b == 69) q.0) [ inl f ↦ inl (same_byte b 101 f) | inr f ↦ inr (same_byte b 69 f) ] in
     let s = sign_found bytes in
     let d = digits_tested (behind_sign bytes) q.1 in
     subst (λ (x : Bool × List ℕ). IsExponent (b ∷ bytes) (with_sign x.0 (digits_value x.1)) × AllByRecursion IsAsciiDigit x.1) p.1
@@ -216,7 +203,7 @@ exponent_behind negative before text exponent (inr h) =
 -- there are digits where the test passes
 some_digits : (before after : List ℕ) → (ltb 0 (length before) || ltb 0 (length after)) ≡ true → 0 < length before + length after
 some_digits before after e =
-    elim (or_either (ltb 0 (length before)) (ltb 0 (length after)) e) [ inl f ↦ omega (arith, some_bytes before f) | inr f ↦ omega (arith, some_bytes after f) ]
+    elim (or_cases (ltb 0 (length before)) (ltb 0 (length after)) e) [ inl f ↦ omega (arith, some_bytes before f) | inr f ↦ omega (arith, some_bytes after f) ]
 
 -- the test passes where there are digits
 digits_some : (before after : List ℕ) → 0 < length before + length after → (ltb 0 (length before) || ltb 0 (length after)) ≡ true
@@ -225,13 +212,13 @@ digits_some before after h = grind (arith, nat_tests)
 -- a decimal that is read has an exponent
 with_power_found : (negative : Bool) (before after : List ℕ) (o : Option (Bool × List ℕ)) (form : NumberForm) → with_power negative before after o ≡ Some form → (power : Bool × List ℕ) × (o ≡ Some power) × (Decimal negative before after (with_sign power.0 (digits_value power.1)) ≡ form)
 with_power_found negative before after None form e = none_some form e
-with_power_found negative before after (Some power) form e = (power, refl, some_same _ form e)
+with_power_found negative before after (Some power) form e = (power, refl, same_Some _ form e)
 
 -- a decimal that is read is written so
 decimal_found : (sign mantissa before after power text : List ℕ) (negative : Bool) (form : NumberForm) → IsSign sign negative → (0 < length before + length after → IsMantissa mantissa before after) → text ≡ sign ++ mantissa ++ power → decimal_of negative before after power ≡ Some form → IsWritten text form
 unfolding decimal_of
 decimal_found sign mantissa before after power text negative form s m is e =
-    elim (chosen (ltb 0 (length before) || ltb 0 (length after)) (with_power negative before after (power_of power)) None (Some form) e) [
+    elim (either (ltb 0 (length before) || ltb 0 (length after)) (with_power negative before after (power_of power)) None (Some form) e) [
       | inl h ↦
           let p = with_power_found negative before after (power_of power) form h.1 in
           subst (IsWritten text) p.2 (sign, mantissa, power, s, m (some_digits before after h.0), (power_found power p.0 p.1).0, is)
@@ -293,10 +280,10 @@ unfolding form_with
 rest_found sign before [] text negative form s all is e =
     decimal_found sign before before [] [] text negative form s (without_point before all) is e
 rest_found sign before (b ∷ bytes) text negative form s all is e =
-    elim (chosen (b == 47) (fraction_of negative before bytes) (cond (b == 46) (decimal_of negative before (leading is_ascii_digit bytes) (behind is_ascii_digit bytes)) (decimal_of negative before [] (b ∷ bytes))) (Some form) e) [
+    elim (either (b == 47) (fraction_of negative before bytes) (cond (b == 46) (decimal_of negative before (leading is_ascii_digit bytes) (behind is_ascii_digit bytes)) (decimal_of negative before [] (b ∷ bytes))) (Some form) e) [
       | inl h ↦ fraction_found sign before bytes text negative form s all (is ∙ ap (λ a. sign ++ before ++ (a ∷ bytes)) (same_byte b 47 h.0)) h.1
       | inr h ↦
-          elim (chosen (b == 46) (decimal_of negative before (leading is_ascii_digit bytes) (behind is_ascii_digit bytes)) (decimal_of negative before [] (b ∷ bytes)) (Some form) h.1) [
+          elim (either (b == 46) (decimal_of negative before (leading is_ascii_digit bytes) (behind is_ascii_digit bytes)) (decimal_of negative before [] (b ∷ bytes)) (Some form) h.1) [
             | inl k ↦
                 let after = leading is_ascii_digit bytes in
                 let power = behind is_ascii_digit bytes in
@@ -361,4 +348,4 @@ form_again text (Decimal negative before after exponent) w =
 
 -- a text has one form
 pub one_form : (text : List ℕ) (one other : NumberForm) → IsWritten text one → IsWritten text other → one ≡ other
-one_form text one other p q = some_same one other (sym (form_again text one p) ∙ form_again text other q)
+one_form text one other p q = same_Some one other (sym (form_again text one p) ∙ form_again text other q)

@@ -6,12 +6,13 @@ use Rattle.std.proofs.lemmas.Nat.{pow-add}
 use Rattle.std.proofs.lemmas.Nat.Gcd.{le_of_dvd}
 use native.Mathlib.Nat.{dvd-mul_left}
 use Rattle.std.specs.Int.{◌∣◌}
+use Rattle.frac128.proofs.ProductSizes.{with_sign-mul}
 use Rattle.rings.proofs.IntegerRing.{integer_ring}
 use Rattle.rings.proofs.Ring.{ring, num, ◌:*◌, :neg, A, B, C, D}
 use Rattle.rational.specs.GcdLaws.{gauss}
 use Rattle.rational.specs.Rational.{ℚ, frac, whole, ◌*ℚ◌, den_pos, lowest}
 use Rattle.rational.proofs.Fractions.{StandsFor-frac, equal_by, cancel_pos, frac_self}
-use Rattle.rational.proofs.Parts.{whole-num, frac-mul, frac-scale}
+use Rattle.rational.proofs.Parts.{whole-num, frac-mul, frac-scale, frac_num_size}
 use Rattle.frac128.specs.Fraction.{with_sign, quotient, Fits, PartFits}
 use Rattle.frac128.proofs.Parts.{kept, kept-part}
 use Rattle.frac128.proofs.Reduced.{nat_abs-with_sign}
@@ -21,12 +22,6 @@ use Rattle.number_text.specs.Reading.{GivesShort}
 -- a power of ten is positive
 pub ten_pos : (k : ℕ) → 0 < 10 ^ k
 ten_pos k = omega (arith, one-le-pow k 10 (lit< tt))
-
--- ---- signs
--- a factor goes into a size with a sign
-pub with_sign-mul : (s : Bool) (n k : ℕ) → with_sign s n *ℤ pos k ≡ with_sign s (n * k)
-with_sign-mul true n k = ring integer_ring (pos n ∷ pos k ∷ []) (:neg A :* B) (:neg (A :* B)) refl
-with_sign-mul false n k = refl
 
 -- ---- fractions over a multiple
 -- a fraction over a multiple is the fraction in lowest terms over that multiple
@@ -63,16 +58,9 @@ den_below n d p =
     let sizes : nat_abs a.num * d ≡ nat_abs n * a.den = sym (unsigned_abs-mul a.num (pos d)) ∙ ap nat_abs (StandsFor-frac n d p).cross ∙ unsigned_abs-mul n (pos a.den) in
     le_of_dvd p (gauss (nat_abs a.num) a.den d (lowest a) (subst (λ x. a.den ∣ x) (sym sizes) (dvd-mul_left a.den (nat_abs n))))
 
--- nor a larger numerator
-num_below : (n : ℤ) (d : ℕ) → 0 < d → nat_abs (frac n d).num ≤ nat_abs n
-num_below n d p =
-    let a = frac n d in
-    let sizes : nat_abs a.num * d ≡ nat_abs n * a.den = sym (unsigned_abs-mul a.num (pos d)) ∙ ap nat_abs (StandsFor-frac n d p).cross ∙ unsigned_abs-mul n (pos a.den) in
-    le_of_mul-le-mul_right (omega (arith, sizes, mul-le-mul_left (nat_abs n) (den_below n d p))) p
-
 -- so it fits where its parts do
 pub parts_fit : (n : ℤ) (d : ℕ) → nat_abs n < 2 ^ 127 → 0 < d → d < 2 ^ 127 → Fits (frac n d)
-parts_fit n d h p k = record { num = omega (arith, num_below n d p); den = omega (arith, den_below n d p) }
+parts_fit n d h p k = record { num = omega (arith, frac_num_size n d p); den = omega (arith, den_below n d p) }
 
 -- a numerator over a denominator fits, whatever type holds the denominator
 pub over_fits : (n z : ℤ) (d : ℕ) → z ≡ pos d → nat_abs n < 2 ^ 127 → 0 < d → d < 2 ^ 127 → (z ≡ pos 0) ⊎ (¬ (Fits (quotient n z))) → ⊥

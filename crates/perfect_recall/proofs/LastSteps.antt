@@ -89,13 +89,6 @@ module _ (t : Tree) (to here p : ℕ) (w : IsTree t) (below : here < t.size) (wi
   pub last-player : (last : List (Option (ℕ × ℕ))) (i s : ℕ) (step : Option (ℕ × ℕ)) → Chooses t p i s → step ≡ last_step (own_history t i p) → AreLast t here last → AreLast t p (set last i step)
   last-player last i s step = subst (λ q. Chooses t q i s → step ≡ last_step (own_history t i q) → AreLast t here last → AreLast t q (set last i step)) (sym is) (up-player t here w later below last i s step)
 
--- no steps of a number of players
-pub get_or-copies : {X : Type 0} (n k : ℕ) (x : X) → get_or (replicate n x) k x ≡ x
-get_or-copies n k x = elim (cases_lt k n) [
-  | inl below ↦ get_or-replicate n k x x below
-  | inr past ↦ get_or_past (replicate n x) k x (omega (arith, length-replicate n x))
-]
-
 -- one step more
 pub AreSteps-push : (t : Tree) (steps : List (Option (ℕ × ℕ))) (step : Option (ℕ × ℕ)) → AreSteps t steps → IsStepBefore t (length steps) step → AreSteps t (steps ++ step ∷ [])
 AreSteps-push t steps step h here k l = elim (cases_lt k (length steps)) [

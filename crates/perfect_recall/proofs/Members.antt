@@ -3,15 +3,11 @@ use Rattle.std.proofs.Common.{◌≡◌, ◌<◌, ◌+◌, ◌∙◌, sym, ap, s
 use Rattle.std.specs.Prelude.{◌==◌, if◌then◌else◌}
 use Rattle.std.proofs.lemmas.Bool.Decides.{Decides-eqb, Decides-like, not_from_Decides}
 use Rattle.std.proofs.lemmas.Option.{slice_get-get_or}
+use Rattle.game_core.proofs.SetNumbers.{is_set-decides}
 use Rattle.game_trees.specs.Trees.{Tree}
 use Rattle.game_core.specs.declared.tree.Node.{Node}
 use Rattle.game_core.specs.Tree.{GameTree, IsTree, InformationSet, members_from, is_set}
 use Rattle.game_core.specs.TreeGame.{game_of_tree}
-
--- whether this is the set's number
-is_set-decides : (s : ℕ) (o : Option ℕ) → Decides (is_set s o) (o ≡ Some s)
-is_set-decides s None = (λ e. cc, λ e. cc)
-is_set-decides s (Some r) = Decides-like (r == s) (λ e. ap Some e) (λ e. cc) (Decides-eqb r s)
 
 -- the set of a node
 abbrev set_at : List Node → ℕ → Option ℕ

@@ -5,24 +5,19 @@ use Rattle.std.specs.Ordering.{int_eq}
 use Rattle.std.proofs.lemmas.Bool.{false_from_ne_true}
 use Rattle.std.proofs.lemmas.Bool.Decides.{Decides-and, Decides-eqb, Decides-int_eq}
 use Rattle.std.proofs.lemmas.List.Elements.{All-nil, All-append}
+use Rattle.rational.proofs.Decide.{eq_ℚ-decides}
+use Rattle.rational.specs.Tests.{eq_ℚ}
 use Rattle.rational.specs.Rational.{ℚ, ◌+ℚ◌, ◌*ℚ◌, zero_ℚ}
 use Rattle.rational.specs.Sum.{sum_to}
 use Rattle.rational.proofs.Fractions.{equal_by_parts}
 use Rattle.rational.proofs.RationalRing.{+ℚ-zero}
 use Rattle.rational.proofs.Rules.{zero-*ℚ}
-use Rattle.frac128.specs.Fraction.{eq_ℚ}
 use Rattle.frac128.specs.Steps.{AddFits, MulFits, unfit}
 use Rattle.frac128.specs.declared.steps.Op.TheVariants.{Add, Mul}
 use Rattle.frac128.specs.declared.steps.Unfit.{Unfit}
 use Rattle.pure_payoffs.specs.Plays.{Give, branch_steps}
 use Rattle.pure_payoffs.specs.Steps.{Step, StepFits, IsFirstUnfit, chance_steps}
 use Rattle.pure_payoffs.proofs.Runs.{first_unfit-behind, first_unfit-here, first_unfit-more, first_unfit-chance, one-fits, added-gives, behind-gives}
-
--- the test of two rationals decides whether they are the same
-eq_ℚ-decides : (a b : ℚ) → Decides (eq_ℚ a b) (a ≡ b)
-eq_ℚ-decides a b =
-    let parts = Decides-and (int_eq a.num b.num) (nat_eq a.den b.den) (Decides-int_eq a.num b.num) (Decides-eqb a.den b.den) in
-    (λ t. let p = parts.0 t in equal_by_parts a b p.0 p.1, λ e. parts.1 (ap (λ (x : ℚ). x.num) e, ap (λ (x : ℚ). x.den) e))
 
 -- a branch with the probability 0 adds nothing
 pub skipped-gives : (prob sum v : ℚ) (steps : List Step) → prob ≡ zero_ℚ → Give (branch_steps prob sum v steps) (sum +ℚ prob *ℚ v) (Ok sum)

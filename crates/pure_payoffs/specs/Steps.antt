@@ -1,8 +1,8 @@
 -- The steps in which a pure profile's payoff on a tree is computed, and whether they fit.
 use Rattle.std.specs.Prelude.{ℕ, zero, suc, ◌≡◌, ◌==◌, ◌&&◌, Bool, if◌then◌else◌, List, [], ◌∷◌, ◌++◌, All, Option, Some, None}
+use Rattle.rational.specs.Tests.{eq_ℚ}
 use Rattle.rational.specs.Rational.{ℚ, ◌*ℚ◌, zero_ℚ}
 use Rattle.rational.specs.Sum.{sum_to}
-use Rattle.frac128.specs.Fraction.{eq_ℚ}
 use Rattle.frac128.specs.Steps.{AddFits, SubFits, MulFits, DivFits, unfit}
 use Rattle.frac128.specs.declared.steps.Op.{Op}
 use Rattle.frac128.specs.declared.steps.Op.TheVariants.{Add, Sub, Mul, Div}

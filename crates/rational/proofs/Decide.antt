@@ -1,11 +1,13 @@
 -- Order and equality of rationals are decidable, and the tests that compute them are right.
-use Rattle.std.proofs.Common.{◌≡◌, ◌≢◌, ◌⊎◌, ◌↔◌, inl, inr, Bool, true, false, IsTrue, T, refl, sym, ap₂, subst, pos, ◌*ℤ◌}
-use Rattle.std.proofs.lemmas.Bool.Decides.{Decides-int_eq}
+use Rattle.std.proofs.Common.{◌≡◌, ◌≢◌, ◌⊎◌, ◌↔◌, inl, inr, Bool, true, false, IsTrue, Decides, T, refl, sym, ap, ap₂, subst, pos, ◌*ℤ◌}
+use Rattle.std.proofs.lemmas.Bool.Decides.{Decides-and, Decides-eqb, Decides-int_eq, Decides-like}
+use Rattle.std.specs.Prelude.{nat_eq}
+use Rattle.std.specs.Ordering.{int_eq}
 use lib.Dec.{T_prop}
 use mathlib.Core.HLevel.{hedberg}
 use Rattle.rational.specs.Rational.{ℚ, zero_ℚ, ◌≤ℚ◌, ◌<ℚ◌}
-use Rattle.rational.specs.Tests.{le_test, lt_test, eq_test}
-use Rattle.rational.proofs.Fractions.{equal_by_cross}
+use Rattle.rational.specs.Tests.{le_test, lt_test, eq_test, eq_ℚ}
+use Rattle.rational.proofs.Fractions.{equal_by_cross, equal_by_parts}
 use Rattle.rational.proofs.Field.{le_or_lt, le_antisymm, ne_of_lt, not_le_of_lt, not_lt_of_le}
 
 -- a is b or is not
@@ -58,3 +60,8 @@ lt_test-true a b = (λ e. record { cross = record { lt = subst T (sym e) tt } },
 pub eq_test-true : (a b : ℚ) → IsTrue (eq_test a b) ↔ (a ≡ b)
 unfolding eq_test
 eq_test-true a b = (λ e. equal_by_cross a b ((Decides-int_eq (a.num *ℤ pos b.den) (b.num *ℤ pos a.den)).0 e), λ e. (Decides-int_eq (a.num *ℤ pos b.den) (b.num *ℤ pos a.den)).1 (ap₂ (λ (x y : ℚ). x.num *ℤ pos y.den) e (sym e)))
+
+-- two rationals are the same where their parts are
+pub eq_ℚ-decides : (a b : ℚ) → Decides (eq_ℚ a b) (a ≡ b)
+eq_ℚ-decides a b =
+    Decides-like (eq_ℚ a b) (λ h. equal_by_parts a b h.0 h.1) (λ e. (ap (λ (x : ℚ). x.num) e, ap (λ (x : ℚ). x.den) e)) (Decides-and (int_eq a.num b.num) (nat_eq a.den b.den) (Decides-int_eq a.num b.num) (Decides-eqb a.den b.den))

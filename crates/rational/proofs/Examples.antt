@@ -51,9 +51,9 @@ square_of_sum a b = simp ring_laws
 difference_of_squares : (a b : ℚ) → (a +ℚ b) *ℚ (a -ℚ b) ≡ (a *ℚ a) -ℚ (b *ℚ b)
 difference_of_squares a b = simp ring_cancels
 
--- the same by `ring`, which takes the atoms and both sides
-difference_of_squares_again : (a b : ℚ) → (a +ℚ b) *ℚ (a -ℚ b) ≡ (a *ℚ a) -ℚ (b *ℚ b)
-difference_of_squares_again a b = ring rational_ring (a ∷ b ∷ []) ((A :+ B) :* (A :- B)) (A :* A :- B :* B) refl
+-- the same with the factors exchanged by `ring`, which takes the atoms and both sides
+squares_exchanged : (a b : ℚ) → (a -ℚ b) *ℚ (a +ℚ b) ≡ (a *ℚ a) -ℚ (b *ℚ b)
+squares_exchanged a b = ring rational_ring (a ∷ b ∷ []) ((A :- B) :* (A :+ B)) (A :* A :- B :* B) refl
 
 -- a common factor p is taken away: the difference of the sides is inv p times the first equation, and a - b times that of the inverse
 cancelled : (a b p : ℚ) → p ≢ zero_ℚ → a *ℚ p ≡ b *ℚ p → a ≡ b

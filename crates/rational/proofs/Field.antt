@@ -171,7 +171,7 @@ nonneg-*ℤ (pos m) (pos n) h g = omega (arith, ints)
 nonneg-*ℤ (pos m) (negsuc n) h g = absurd (omega (arith, ints))
 nonneg-*ℤ (negsuc m) n h g = absurd (omega (arith, ints))
 
-pos-*ℤ : (m n : ℤ) → pos 0 <ℤ m → pos 0 <ℤ n → pos 0 <ℤ (m *ℤ n)
+pub pos-*ℤ : (m n : ℤ) → pos 0 <ℤ m → pos 0 <ℤ n → pos 0 <ℤ (m *ℤ n)
 pos-*ℤ (pos zero) n h g = absurd (omega (arith, ints))
 pos-*ℤ (pos (suc m)) (pos zero) h g = absurd (omega (arith, ints))
 pos-*ℤ (pos (suc m)) (pos (suc n)) h g = omega (arith, ints)

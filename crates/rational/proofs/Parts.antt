@@ -1,5 +1,8 @@
 -- What the numerator and the denominator of a rational tell of it.
-use Rattle.std.proofs.Common.{ℕ, zero, suc, ◌<◌, ◌*◌, ◌≡◌, ◌↔◌, ℤ, pos, negsuc, neg_ℤ, nat_abs, ◌+ℤ◌, ◌*ℤ◌, ◌≤ℤ◌, ◌<ℤ◌, [], ◌∷◌, refl, sym, ap, ap₂, ◌∙◌, lit<, mul-pos}
+use Rattle.std.proofs.Common.{ℕ, zero, suc, ◌<◌, ◌≤◌, ◌*◌, ◌≡◌, ◌↔◌, ℤ, pos, negsuc, neg_ℤ, nat_abs, ◌+ℤ◌, ◌*ℤ◌, ◌≤ℤ◌, ◌<ℤ◌, [], ◌∷◌, refl, sym, ap, ap₂, ◌∙◌, subst, lit<, mul-pos, arith}
+use Rattle.std.proofs.lemmas.Int.{ints}
+use Rattle.std.proofs.Math.Nat.{not-suc-le-zero, div-le_self}
+use Rattle.rational.specs.LowestTerms.{nat_abs-div_ℤ}
 use Rattle.rational.specs.Gcd.{gcd}
 use Rattle.rational.specs.Rational.{ℚ, frac, den_pos, lowest, whole, ◌+ℚ◌, ◌*ℚ◌, neg_ℚ, zero_ℚ, ◌≤ℚ◌, ◌<ℚ◌}
 use Rattle.rings.proofs.IntegerRing.{integer_ring}
@@ -73,13 +76,31 @@ negative-num a = (by_lt a zero_ℚ a.num (pos 0) a.den (StandsFor-self a) (zero-
 pub zero-num : (a : ℚ) → (a ≡ zero_ℚ) ↔ (a.num ≡ pos 0)
 zero-num a = (by_eq a zero_ℚ a.num (pos 0) a.den (StandsFor-self a) (zero-is a), eq_by a zero_ℚ a.num (pos 0) a.den (StandsFor-self a) (zero-is a))
 
+-- ---- sizes
+-- the size of a positive number is the number
+pub pos_nat_abs : (d : ℤ) → pos 0 <ℤ d → pos (nat_abs d) ≡ d
+pos_nat_abs (pos n) h = refl
+pos_nat_abs (negsuc n) h = absurd (omega (arith, ints))
+
+-- and is positive
+pub pos_abs : (d : ℤ) → pos 0 <ℤ d → 0 < nat_abs d
+pos_abs (pos n) h = omega (arith, ints)
+pos_abs (negsuc n) h = absurd (omega (arith, ints))
+
+-- a numerator in lowest terms is no larger
+pub frac_num_size : (t : ℤ) (d : ℕ) → 0 < d → nat_abs (frac t d).num ≤ nat_abs t
+unfolding frac
+frac_num_size t zero h = absurd (not-suc-le-zero h)
+frac_num_size t (suc d) h =
+    subst (λ x. x ≤ nat_abs t) (sym (nat_abs-div_ℤ t (gcd (nat_abs t) (suc d)))) (div-le_self (nat_abs t) (gcd (nat_abs t) (suc d)))
+
 -- ---- negation
-abs-neg : (n : ℤ) → nat_abs (neg_ℤ n) ≡ nat_abs n
+pub abs-neg : (n : ℤ) → nat_abs (neg_ℤ n) ≡ nat_abs n
 abs-neg (pos zero) = refl
 abs-neg (pos (suc n)) = refl
 abs-neg (negsuc n) = refl
 
-neg-parts : (a : ℚ) → ((neg_ℚ a).num ≡ neg_ℤ a.num) × ((neg_ℚ a).den ≡ a.den)
+pub neg-parts : (a : ℚ) → ((neg_ℚ a).num ≡ neg_ℤ a.num) × ((neg_ℚ a).den ≡ a.den)
 unfolding neg_ℚ
 neg-parts a = frac-lowest (neg_ℤ a.num) a.den (den_pos a) (ap (λ x. gcd x a.den) (abs-neg a.num) ∙ lowest a)
 

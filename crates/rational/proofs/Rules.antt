@@ -20,6 +20,10 @@ zero-+ℚ a = L.zero-add rational_ring a
 pub add-*ℚ : (a b c : ℚ) → (a +ℚ b) *ℚ c ≡ (a *ℚ c) +ℚ (b *ℚ c)
 add-*ℚ a b c = L.add-mul rational_ring a b c
 
+-- a factor times 1
+pub times_one : (a b : ℚ) → b ≡ one_ℚ → a *ℚ b ≡ a
+times_one a b e = ap (λ x. a *ℚ x) e ∙ *ℚ-one a
+
 -- 1 times a factor
 pub one-*ℚ : (a : ℚ) → one_ℚ *ℚ a ≡ a
 one-*ℚ a = L.one-mul rational_ring a

@@ -5,6 +5,7 @@ use Rattle.std.proofs.lemmas.Nat.{div_below, div-add-mod'}
 use Rattle.std.proofs.lemmas.Bool.{cases_lt}
 use Rattle.std.proofs.lemmas.List.{ext_get_or}
 use Rattle.std.proofs.lemmas.Option.{slice_get-get_or}
+use Rattle.lists.proofs.Numbers.{positive_factor}
 use Rattle.answers.specs.Answers.{IsSingle}
 use Rattle.rational.specs.Rational.{ℚ, zero_ℚ}
 use Rattle.game_theory.specs.Profiles.{profile_count}
@@ -113,16 +114,12 @@ reason-no_form t strategies (stops.Range k i s) h a few fit =
     unfit-among (cell_steps t strategies k i) s moved.is_first (fit k i moved.is_profile moved.is_player))
 
 -- ---- forms
--- a product above a number has a positive factor
-some_factor : (n m j : ℕ) → j < n * m → 0 < n
-some_factor n m j h = grind arith
-
 -- payoffs are told by profile and player
 payoffs-same : (players profiles : ℕ) (one other : List ℚ) → length one ≡ players * profiles → length other ≡ players * profiles
     → ((i k : ℕ) → i < players → k < profiles → get_or one (k * players + i) zero_ℚ ≡ get_or other (k * players + i) zero_ℚ) → one ≡ other
 payoffs-same players profiles one other long short same = ext_get_or zero_ℚ one other (long ∙ sym short) (λ j l.
     let inside : j < players * profiles = omega (arith, long) in
-    let some : 0 < players = some_factor players profiles j inside in
+    let some : 0 < players = positive_factor players profiles j inside in
     let profile : j / players < profiles = div_below j players profiles some (rw (mul_comm profiles players) inside) in
     let at : j / players * players + j % players ≡ j = div-add-mod' j players in
     subst (λ x. get_or one x zero_ℚ ≡ get_or other x zero_ℚ) at (same (j % players) (j / players) (mod-lt j some) profile))

@@ -1,5 +1,5 @@
 -- The sizes of a reduced form by the numbers of strategies.
-use Rattle.std.proofs.Common.{ℕ, zero, suc, ◌+◌, ◌*◌, ◌/◌, ◌<◌, ◌≤◌, ◌≡◌, inl, inr, Some, List, [], ◌∷◌, ◌++◌, length, map, take, get_or, All, refl, sym, ap, ap₂, ◌∙◌, subst, arith, min, below_more, option_map}
+use Rattle.std.proofs.Common.{ℕ, zero, suc, ◌+◌, ◌*◌, ◌/◌, ◌<◌, ◌≤◌, ◌≡◌, inl, inr, Some, List, [], ◌∷◌, ◌++◌, length, map, take, get_or, All, refl, sym, ap, ap₂, ◌∙◌, subst, arith, min, below_more, option_map, mul-pos}
 use Rattle.std.specs.Prelude.{slice_get}
 use Rattle.std.proofs.lemmas.List.{length-map, length_push, length-take-le, take_all, take_more, get_or_append_left, get_or_push, ext_get_or, get_or-take, get_or-map}
 use Rattle.std.proofs.lemmas.Option.{slice_get-get_or, slice_get-map, slice_get_read}
@@ -29,14 +29,10 @@ profile_count-append (m ∷ ms) ns = ap (λ x. m * x) (profile_count-append ms n
 pub profile_count-push : (ns : List ℕ) (n : ℕ) → profile_count (ns ++ n ∷ []) ≡ profile_count ns * n
 profile_count-push ns n = profile_count-append ns (n ∷ []) ∙ ap (λ x. profile_count ns * x) (omega arith)
 
--- a product of positive numbers is positive
-positive-product : (m n : ℕ) → 0 < m → 0 < n → 0 < m * n
-positive-product m n h l = let e : m * 1 ≤ m * n = N.mul-le-mul_left m (omega arith) in omega arith
-
 -- where each player has a strategy there is a profile
 pub profile_count-positive : (ns : List ℕ) → All (λ n. 0 < n) ns → 0 < profile_count ns
 profile_count-positive [] h = omega arith
-profile_count-positive (n ∷ ns) h = positive-product n (profile_count ns) (h 0 0 (omega arith)) (profile_count-positive ns (λ k d l. h (suc k) d (omega arith)))
+profile_count-positive (n ∷ ns) h = mul-pos (h 0 0 (omega arith)) (profile_count-positive ns (λ k d l. h (suc k) d (omega arith)))
 
 -- and then the first players have no more profiles than all
 pub profile_count-front : (k : ℕ) (ns : List ℕ) → All (λ n. 0 < n) ns → profile_count (take k ns) ≤ profile_count ns
@@ -231,7 +227,7 @@ AreCountedSoFar-step t player payoffs count all counts new w h l pushed has is b
       one_for_each = ap length pushed ∙ length_push counts count ∙ ap (λ k. k + 1) h.one_for_each;
       are_counts = subst (AreCounts t) (sym pushed) (AreCounts-push t counts count h.are_counts here);
       payoffs_are = ap (λ x. x * count) h.payoffs_are ∙ N.mul_assoc t.players (profile_count counts) count ∙ ap (λ x. t.players * x) (sym (profile_count-push counts count)) ∙ ap (λ x. t.players * profile_count x) (sym pushed);
-      some = λ p. positive-product payoffs count (h.some p) (HasCount-positive t (length counts) count w here);
+      some = λ p. mul-pos (h.some p) (HasCount-positive t (length counts) count w here);
       few = omega (arith, mul-div-le most_payoffs payoffs);
     }
 

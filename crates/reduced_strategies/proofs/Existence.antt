@@ -5,8 +5,9 @@ use Rattle.std.specs.Str.{bytes_eq}
 use Rattle.std.proofs.lemmas.Bool.{cases_lt, cases_eq}
 use Rattle.std.proofs.lemmas.List.{length-map}
 use Rattle.std.proofs.lemmas.Slice.Eq.{bytes_eq-Decides}
+use Rattle.lists.specs.Orders.{ComesBefore, AreAscending}
 use Rattle.game_trees.specs.Trees.{Tree, IsTree}
-use Rattle.reduced_strategies.specs.Choices.{own_sets, choice_at, IsReduced, ComesBefore, AreAscending}
+use Rattle.reduced_strategies.specs.Choices.{own_sets, choice_at, IsReduced}
 use Rattle.reduced_strategies.specs.Laws.{StrategiesExist}
 use Rattle.reduced_strategies.proofs.Sets.{AscendFrom, own_sets-ascend, choice_at-first, choice_at-later, choice_at-below}
 use Rattle.reduced_strategies.proofs.ReducedStrategies.{CompletesList, reduced, reduced-reduced, reduced-completed, reduced-unique}

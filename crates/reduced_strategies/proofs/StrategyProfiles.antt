@@ -3,6 +3,7 @@ use Rattle.std.proofs.Common.{ℕ, suc, ◌<◌, ◌≡◌, Some, List, [], leng
 use Rattle.std.proofs.Math.ListN as lists
 use Rattle.std.proofs.lemmas.List.{length-map, ext_get_or}
 use Rattle.std.proofs.lemmas.Option.{slice_get-get_or}
+use Rattle.lists.proofs.Orders.{AreAscending-place}
 use Rattle.game_theory.specs.Profiles.{IsProfile}
 use Rattle.game_theory.proofs.ProfileNumbers.{length-profile, profile-below}
 use Rattle.game_trees.specs.Trees.{Tree, IsTree}
@@ -11,7 +12,6 @@ use Rattle.reduced_strategies.specs.StrategicForm.{AreStrategies, list_of, given
 use Rattle.reduced_strategies.specs.Laws.{FirstActionsComplete, CompletedChoicesTellStrategies}
 use Rattle.reduced_strategies.proofs.Sets.{own_sets-tell, choice_at-among}
 use Rattle.reduced_strategies.proofs.ReducedStrategies.{CompletesList, reduced-unique}
-use Rattle.reduced_strategies.proofs.StrategyOrder.{AreAscending-place}
 
 -- how many strategies a player has
 pub strategies-count : (strategies : List (List (List ℕ))) (i : ℕ) → get_or (map (length {A = List ℕ}) strategies) i 0 ≡ length (get_or strategies i [])

@@ -1,5 +1,6 @@
 -- Reduced strategies of a game tree. Source: von Stengel 1996; Kuhn 1953.
 use Rattle.std.specs.Prelude.{ℕ, zero, suc, ◌<◌, ◌≤◌, ◌≡◌, ◌⊎◌, ◌↔◌, ◌==◌, if◌then◌else◌, List, [], ◌∷◌, length, All, Contains, Some}
+use Rattle.lists.specs.Orders.{ComesBefore, AreAscending}
 use Rattle.game_trees.specs.Trees.{Tree}
 use Rattle.game_trees.specs.Behaviour.{is_own}
 use Rattle.game_trees.specs.Recall.{own_history}
@@ -34,18 +35,7 @@ pub record IsReduced (t : Tree) (i : ℕ) (choices : List ℕ) : Type 0 where
   pub are_actions : (s : ℕ) → choice_at (own_sets t i) choices s ≤ t.actions s
   pub fixed_where_reached : (s : ℕ) → s < t.sets → t.owner s ≡ Some i → (0 < choice_at (own_sets t i) choices s) ↔ IsReached t i (choice_at (own_sets t i) choices) s
 
--- the first list comes before the second: at the first set that differs it has the smaller number, and `*` is before all actions
-abbrev pub ComesBefore : List ℕ → List ℕ → Type 0
-ComesBefore (a ∷ rest) (b ∷ others) = (a < b) ⊎ ((a ≡ b) × ComesBefore rest others)
-ComesBefore _ _ = ⊥
-
--- each list comes before the next, so that none stands twice
-abbrev pub AreAscending : List (List ℕ) → Type 0
-AreAscending [] = Unit {0}
-AreAscending (a ∷ []) = Unit {0}
-AreAscending (a ∷ b ∷ lists) = ComesBefore a b × AreAscending (b ∷ lists)
-
--- the reduced strategies of player i: all of them, each once, in order
+-- the reduced strategies of player i: all of them, each once, in order; `*` stands before all actions
 pub record AreReducedStrategies (t : Tree) (i : ℕ) (strategies : List (List ℕ)) : Type 0 where
   pub ascending : AreAscending strategies
   pub sound : All (IsReduced t i) strategies

@@ -5,6 +5,7 @@ use Rattle.std.proofs.Math.Seq.{take-suc, take-length}
 use Rattle.std.proofs.lemmas.Bool.{cases_lt}
 use Rattle.std.proofs.lemmas.List.{length-append, length_push, get_or-map, map-append}
 use Rattle.std.proofs.lemmas.Option.{none-some, slice_get_within, slice_get-get_or, get_or_from_slice_get}
+use Rattle.game_core.proofs.SetNumbers.{is_set-decides}
 use Rattle.game_core.specs.declared.tree.Node.{Node}
 use Rattle.game_core.specs.Tree.{GameTree, IsTree, InformationSet, Place, AreInPrefixOrder, action_count, places_from, members_from, is_set, own_sets}
 use Rattle.game_core.specs.TreeGame.{game_of_tree}
@@ -24,10 +25,6 @@ places-taken sets k (node ∷ nodes) [] h = absurd h
 places-taken sets k (node ∷ nodes) (place ∷ free) h =
     let later = places-taken sets (suc k) nodes (places_from k 0 (action_count sets node.set) ++ free) h.1 in
     omega (arith, length-append (places_from k 0 (action_count sets node.set)) free)
-
--- whether this is the set's number
-is_set-decides : (s : ℕ) (o : Option ℕ) → Decides (is_set s o) (o ≡ Some s)
-is_set-decides s o = subst (λ b. Decides b (o ≡ Some s)) (sym (is_set-own o s)) (is_own_of-decides o s)
 
 -- a set with a node has at most as many actions as there are nodes
 actions-few : (sets : List InformationSet) (k m s : ℕ) (nodes : List Node) (free : List Place) → AreInPrefixOrder sets k nodes free [] → 0 < length (members_from m s nodes) → action_count sets (Some s) ≤ length nodes

@@ -8,6 +8,7 @@ use Rattle.std.proofs.lemmas.Bool.{cases_lt, cases_eq, false_from_ne_true}
 use Rattle.std.proofs.lemmas.List.{append-nil, append_assoc, length_push, length-map, length-set, get_or-set_same, get_or-set_other, get_or_append_left, get_or_push}
 use Rattle.std.proofs.lemmas.List.Elements.{All-map}
 use Rattle.std.proofs.lemmas.Option.{none-some, same_Some, slice_get-get_or}
+use Rattle.lists.proofs.Elements.{slice_get-end}
 use Rattle.game_trees.specs.Trees.{Tree}
 use Rattle.game_trees.specs.Behaviour.{is_own_of}
 use Rattle.game_core.specs.Tree.{GameTree, IsTree, InformationSet, IsWithin, is_set, own_from}
@@ -23,11 +24,6 @@ pub slice_get-push : {X : Type 0} (xs : List X) (y x : X) (j : ℕ) → slice_ge
 slice_get-push [] y x j h = absurd (none-some x h)
 slice_get-push (z ∷ xs) y x zero h = h
 slice_get-push (z ∷ xs) y x (suc j) h = slice_get-push xs y x j h
-
--- the last element stands behind the others
-pub slice_get-last : {X : Type 0} (xs : List X) (y : X) → slice_get (xs ++ y ∷ []) (length xs) ≡ Some y
-slice_get-last [] y = refl
-slice_get-last (z ∷ xs) y = slice_get-last xs y
 
 -- an element is an earlier one or the last
 pub slice_get-push_cases : {X : Type 0} (xs : List X) (y x : X) (j : ℕ) → slice_get (xs ++ y ∷ []) j ≡ Some x → (slice_get xs j ≡ Some x) ⊎ ((j ≡ length xs) × (y ≡ x))
@@ -66,7 +62,7 @@ module _ (owner : ℕ → Option ℕ) (i : ℕ) where
       go false h = h
 
       at_last : k ≡ n → slice_get (own_numbers owner i (suc n)) (length (own_numbers owner i k)) ≡ Some k
-      at_last same = rw (own_numbers-own n (subst (λ x. owner x ≡ Some i) same own), same) (slice_get-last (own_numbers owner i n) n)
+      at_last same = rw (own_numbers-own n (subst (λ x. owner x ≡ Some i) same own), same) (slice_get-end (own_numbers owner i n) n)
 
   -- what stands at a place is an own number, and has so many before it
   pub own_numbers-tell : (n j k : ℕ) → slice_get (own_numbers owner i n) j ≡ Some k → (k < n) × (owner k ≡ Some i) × (j ≡ length (own_numbers owner i k))

@@ -5,6 +5,7 @@ use Rattle.std.proofs.lemmas.Bool.{cases_lt, cases_eq}
 use Rattle.std.proofs.lemmas.List.{length-map, length-set, length_push, get_or-set_same, get_or-set_other, get_or_append_left, get_or_push, get_or_past, get_or-replicate, length-replicate}
 use Rattle.std.proofs.lemmas.List.Elements.{All-map}
 use Rattle.std.proofs.lemmas.Option.{none-some, same_Some, slice_get_within, slice_get-get_or, slice_get-map, slice_get_read, get_or_from_slice_get}
+use Rattle.lists.proofs.Elements.{element}
 use Rattle.game_trees.specs.Trees.{Tree, IsTree}
 use Rattle.game_trees.specs.Recall.{own_history}
 use Rattle.reduced_strategies.specs.Choices.{own_sets}
@@ -15,7 +16,7 @@ use Rattle.strategy_lists.specs.Decisions.{action_counts, history_by, IsDecision
 use Rattle.strategy_lists.specs.Made.{mover, IsMove, IsStepTo, LeadsTo, IsMadeAt, HasTaken, AreMade, AreMadeByAll}
 use Rattle.strategy_lists.proofs.OwnNumbers.{slice_get-push, slice_get-push_cases}
 use Rattle.strategy_lists.proofs.Moves.{mover-move, mover-within}
-use Rattle.strategy_lists.proofs.WalksAreStrategies.{element, own_set-place, own_set-tell}
+use Rattle.strategy_lists.proofs.WalksAreStrategies.{own_set-place, own_set-tell}
 
 -- the list at a place
 pub list-at : {V X : Type 0} (items : V → List X) (lists : List V) (k : ℕ) (v : V) → k < length lists → v ≡ get_or lists k v → slice_get (map items lists) k ≡ Some (items v)
@@ -190,13 +191,6 @@ AreMade-own t n i numbers number s latest decisions d long inside below made at_
     ]
 
 -- ---- all players
--- each element of copies of one value is the value, and so is what stands past the end
-pub get_or-copies : {X : Type 0} (n k : ℕ) (x : X) → get_or (replicate n x) k x ≡ x
-get_or-copies n k x = elim (cases_lt k n) [
-  | inl below ↦ get_or-replicate n k x x below
-  | inr past ↦ get_or_past (replicate n x) k x (omega (arith, length-replicate n x))
-]
-
 -- what holds of no value holds of nothing alone
 pub none_alone : {X : Type 0} (P : Option X → Type 0) → ((x : X) → P (Some x) → ⊥) → (y : Option X) → P y → y ≡ None
 none_alone P other None h = refl

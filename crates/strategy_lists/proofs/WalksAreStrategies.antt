@@ -4,6 +4,7 @@ use Rattle.std.proofs.lemmas.Bool.{cases_lt}
 use Rattle.std.proofs.lemmas.List.{length-map, get_or-map}
 use Rattle.std.proofs.lemmas.List.Elements.{All-weaker}
 use Rattle.std.proofs.lemmas.Option.{none-some, same_Some, slice_get_within, slice_get-get_or, get_or_from_slice_get}
+use Rattle.lists.proofs.Elements.{element}
 use Rattle.game_trees.specs.Trees.{Tree}
 use Rattle.game_trees.specs.Recall.{own_history}
 use Rattle.reduced_strategies.specs.Choices.{own_sets, choice_at, Agrees, IsReached as is_set_reached, IsReduced, AreReducedStrategies}
@@ -17,12 +18,6 @@ use Rattle.strategy_lists.specs.OwnNumbers.{own_numbers}
 use Rattle.strategy_lists.proofs.OwnNumbers.{own_sets-numbers, own_numbers-at, own_numbers-tell, own_numbers-place}
 
 -- ---- lists
--- the element at a place of a list
-pub element : {X : Type 0} (xs : List X) (k : ℕ) → k < length xs → (x : X) × (slice_get xs k ≡ Some x)
-element [] k below = absurd (omega arith)
-element (x ∷ xs) zero below = (x, refl)
-element (x ∷ xs) (suc k) below = element xs k (omega arith)
-
 -- a value of the element at a place
 pub value_at : {X : Type 0} (f : X → ℕ) (xs : List X) (k : ℕ) (x : X) → slice_get xs k ≡ Some x → get_or (map f xs) k 0 ≡ f x
 value_at f xs k x h = get_or-map f xs k x 0 (slice_get_within xs k x h) ∙ ap f (get_or_from_slice_get xs k x x h)

@@ -2,16 +2,17 @@
 use Rattle.std.proofs.Common.{ℕ, zero, suc, ◌+◌, ◌-◌, ◌<◌, ◌≤◌, ◌≡◌, inl, inr, List, [], ◌∷◌, ◌++◌, length, map, get_or, refl, sym, ap, ap₂, ◌∙◌, subst, subst₂, arith}
 use Rattle.std.proofs.lemmas.Bool.{cases_lt, cases_eq}
 use Rattle.std.proofs.lemmas.List.{length-map, map-append}
-use Rattle.game_theory.specs.Profiles.{IsProfile, ComesBefore}
+use Rattle.lists.specs.Orders.{ComesBefore}
+use Rattle.game_theory.specs.Profiles.{IsProfile}
 use Rattle.game_theory.specs.Lines.{StandsBefore}
 use Rattle.game_theory.proofs.ProfileLines.{StandsBefore-entries}
 use Rattle.game_theory.proofs.ProfileNumbers.{length-profile, profile-below}
 use Rattle.game_trees.specs.Trees.{Tree, IsTree}
 use Rattle.game_trees.specs.Behaviour.{pure}
-use Rattle.reduced_strategies.specs.Choices.{own_sets, choice_at, ComesBefore as comes_before}
+use Rattle.reduced_strategies.specs.Choices.{own_sets, choice_at}
 use Rattle.reduced_strategies.specs.StrategicForm.{AreStrategies, list_of, completed}
 use Rattle.reduced_strategies.specs.TreeEntries.{tree_entries}
-use Rattle.reduced_strategies.proofs.Sets.{IsAmong, AscendFrom, own_sets-tell, own_sets-ascend, choice_at-first, choice_at-later, choice_at-map, choice_at-below}
+use Rattle.reduced_strategies.proofs.Sets.{IsAmong, AscendFrom, own_sets-tell, own_sets-ascend, choice_at-first, choice_at-later, choice_at-map, choice_at-below, IsAmong-from}
 use Rattle.reduced_strategies.proofs.StrategyProfiles.{given_at-own, list_of-reduced, strategies-count}
 use Rattle.tree_lines.specs.Orders.{completed_list, completed_of, AreOrders, ordered}
 use Rattle.tree_lines.specs.TreeEquilibria.{profile_line}
@@ -26,7 +27,7 @@ ComesBefore-behind [] xs ys c = c
 ComesBefore-behind (z ∷ zs) xs ys c = inr (refl, ComesBefore-behind zs xs ys c)
 
 -- lists with more behind them
-ComesBefore-longer : (xs ys us vs : List ℕ) → comes_before xs ys → ComesBefore (xs ++ us) (ys ++ vs)
+ComesBefore-longer : (xs ys us vs : List ℕ) → ComesBefore xs ys → ComesBefore (xs ++ us) (ys ++ vs)
 ComesBefore-longer [] ys us vs c = absurd c
 ComesBefore-longer (x ∷ xs) [] us vs c = absurd c
 ComesBefore-longer (x ∷ xs) (y ∷ ys) us vs (inl l) = inl l
@@ -56,11 +57,11 @@ first_difference (x ∷ one) (y ∷ other) (inr p) = FirstDifference-cons x y on
 
 -- ---- the order of lines
 -- actions that are the same at the players before k, and come before at player k
-module _ (t : Tree) (f g : ℕ → ℕ) (k : ℕ) (same : (j : ℕ) → j < k → map f (own_sets t j) ≡ map g (own_sets t j)) (before : comes_before (map f (own_sets t k)) (map g (own_sets t k))) where
+module _ (t : Tree) (f g : ℕ → ℕ) (k : ℕ) (same : (j : ℕ) → j < k → map f (own_sets t j) ≡ map g (own_sets t j)) (before : ComesBefore (map f (own_sets t k)) (map g (own_sets t k))) where
   -- come before at player k's sets and any behind them
   first-before : (i : ℕ) (xs ys : List ℕ) → i ≡ k → ComesBefore (map f (own_sets t i) ++ xs) (map g (own_sets t i) ++ ys)
   first-before i xs ys e =
-      ComesBefore-longer (map f (own_sets t i)) (map g (own_sets t i)) xs ys (subst (λ x. comes_before (map f (own_sets t x)) (map g (own_sets t x))) (sym e) before)
+      ComesBefore-longer (map f (own_sets t i)) (map g (own_sets t i)) xs ys (subst (λ x. ComesBefore (map f (own_sets t x)) (map g (own_sets t x))) (sym e) before)
 
   -- and behind the sets of an earlier player
   later-before : (i : ℕ) (xs ys : List ℕ) → i < k → ComesBefore xs ys → ComesBefore (map f (own_sets t i) ++ xs) (map g (own_sets t i) ++ ys)
@@ -82,11 +83,6 @@ module _ (t : Tree) (f g : ℕ → ℕ) (k : ℕ) (same : (j : ℕ) → j < k �
       subst₂ (λ x y. StandsBefore x y) (sym (tree_entries-profile t f)) (sym (tree_entries-profile t g)) (StandsBefore-entries (map t.actions (printed_sets t)) (map f (printed_sets t)) (map g (printed_sets t)) (IsProfile-printed t f a) (IsProfile-printed t g b) (sets_from-before 0 t.players (omega arith) (omega arith)))
 
 -- ---- completed lists
--- none of ascending sets is below the first number
-among-from : (n : ℕ) (sets : List ℕ) (s : ℕ) → AscendFrom n sets → IsAmong sets s → n ≤ s
-among-from n sets s o m =
-    elim (cases_lt s n) [ inl l ↦ absurd (omega (arith, choice_at-map (λ x. 1) sets s m, choice_at-below n sets (map (λ x. 1) sets) s o l)) | inr l ↦ l ]
-
 -- a list completed is that of the actions that it gives its sets
 completed_list-actions : (n : ℕ) (sets choices : List ℕ) (action : ℕ → ℕ) → AscendFrom n sets → length choices ≡ length sets → ((s : ℕ) → IsAmong sets s → action s ≡ choice_at sets choices s - 1) → completed_list choices ≡ map action sets
 completed_list-actions n [] [] action o e h = refl
@@ -96,7 +92,7 @@ completed_list-actions n (set ∷ sets) (choice ∷ choices) action o e h =
     ap₂ (λ x xs. x ∷ xs) (sym (h set (inl refl) ∙ ap (λ c. c - 1) (choice_at-first set choice set sets choices refl))) (completed_list-actions (suc set) sets choices action o.1 (omega arith) later)
   where
     later : (s : ℕ) → IsAmong sets s → action s ≡ choice_at sets choices s - 1
-    later s m = let above = among-from (suc set) sets s o.1 m in h s (inr m) ∙ ap (λ c. c - 1) (choice_at-later set choice s sets choices (λ e. omega arith))
+    later s m = let above = IsAmong-from (suc set) sets s o.1 m in h s (inr m) ∙ ap (λ c. c - 1) (choice_at-later set choice s sets choices (λ e. omega arith))
 
 -- a player's list in a profile, completed, has the profile's actions at the own sets
 completed_list-of : (t : Tree) (strategies : List (List (List ℕ))) (profile : List ℕ) (i : ℕ) → AreStrategies t strategies → IsProfile (map length strategies) profile → i < t.players → completed_list (list_of strategies profile i) ≡ map (completed t strategies profile) (own_sets t i)
@@ -116,11 +112,11 @@ module _ (t : Tree) (strategies : List (List (List ℕ))) (orders : List (List �
       sym (completed_of-place one i p l) ∙ ap (λ x. completed_of (get_or strategies i []) (get_or (get_or orders i []) x 0)) e ∙ completed_of-place other i q l
 
   -- the smaller place has the actions that come before
-  actions-before : (one other : List ℕ) (i : ℕ) → IsProfile (map length strategies) one → IsProfile (map length strategies) other → i < t.players → get_or one i 0 < get_or other i 0 → comes_before (map (completed t strategies (ordered orders one)) (own_sets t i)) (map (completed t strategies (ordered orders other)) (own_sets t i))
+  actions-before : (one other : List ℕ) (i : ℕ) → IsProfile (map length strategies) one → IsProfile (map length strategies) other → i < t.players → get_or one i 0 < get_or other i 0 → ComesBefore (map (completed t strategies (ordered orders one)) (own_sets t i)) (map (completed t strategies (ordered orders other)) (own_sets t i))
   actions-before one other i p q l b =
       let order = order-of strategies orders i h (omega (arith, a.one_for_each)) in
       let below = profile-below (map length strategies) other i q (omega (arith, a.one_for_each, length-map strategies (length {A = List ℕ}))) in
-      subst₂ (λ x y. comes_before x y) (completed_of-place one i p l) (completed_of-place other i q l) (order.ascending (get_or one i 0) (get_or other i 0) b (omega (arith, below, strategies-count strategies i, order.one_for_each)))
+      subst₂ (λ x y. ComesBefore x y) (completed_of-place one i p l) (completed_of-place other i q l) (order.ascending (get_or one i 0) (get_or other i 0) b (omega (arith, below, strategies-count strategies i, order.one_for_each)))
 
   -- the line of the places that come before stands before
   pub ordered-before : (one other : List ℕ) → IsProfile (map length strategies) one → IsProfile (map length strategies) other → ComesBefore one other → StandsBefore (profile_line t strategies (ordered orders one)) (profile_line t strategies (ordered orders other))

@@ -1,6 +1,6 @@
 -- A player's strategies in the order of their lines.
 use Rattle.std.specs.Prelude.{ℕ, ◌-◌, ◌<◌, ◌≡◌, List, [], ◌∷◌, length, map, slice_index, slice_index_or, slice_get, All, Contains, Some}
-use Rattle.reduced_strategies.specs.Choices.{ComesBefore}
+use Rattle.lists.specs.Orders.{ComesBefore}
 
 -- the actions of a strategy, counted from 0, with the first action where it has none
 abbrev pub completed_list : List ℕ → List ℕ

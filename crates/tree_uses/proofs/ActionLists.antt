@@ -2,18 +2,19 @@
 use Rattle.std.proofs.Common.{◌≡◌, ℕ, ◌<◌, ◌≤◌, ◌&&◌, Bool, true, false, true≢false, List, [], ◌∷◌, length, map, Option, Some, None, if◌then◌else◌, nat_le, refl, sym, ap, ◌∙◌, subst, All, arith}
 use Rattle.std.specs.List.{AllByRecursion}
 use Rattle.std.proofs.lemmas.List.Elements.{All-map, recursion_from_All}
-use Rattle.std.proofs.lemmas.Option.{cond_some}
+use Rattle.std.proofs.lemmas.Option.{cond_some, same_Some}
+use Rattle.rational.proofs.Decide.{eq_ℚ-decides}
+use Rattle.rational.specs.Tests.{eq_ℚ}
+use Rattle.lists.specs.Options.{◌>>=◌}
+use Rattle.lists.proofs.Options.{bind_some}
 use Rattle.rational.specs.Rational.{ℚ, ◌+ℚ◌, zero_ℚ, one_ℚ}
-use Rattle.frac128.specs.Fraction.{eq_ℚ}
 use Rattle.game_core.specs.declared.tree.Action.{Action}
 use Rattle.game_text.specs.declared.token.Token.{Token}
 use Rattle.game_text.specs.declared.token.Token.TheVariants.{Left, Text, Number}
-use Rattle.file_parts.specs.Reading.{◌>>=◌, left_at, right_at, texts_at, opens}
-use Rattle.file_parts.proofs.Options.{bind_some, some_same}
+use Rattle.file_parts.specs.Reading.{left_at, right_at, texts_at, opens}
 use Rattle.file_parts.proofs.TokenLaws.{left_is, passes_le, le_passes}
 use Rattle.written_trees.specs.Building.{may_follow, adds_up, may_be_first, repeats_actions}
 use Rattle.written_trees.specs.Laws.{HasNoProbability, IsActionList}
-use Rattle.written_trees.proofs.Chances.{eq_ℚ-Decides}
 use Rattle.written_trees.proofs.InsertedKeys.{eq_self}
 use Rattle.tree_files.specs.TreeReading.{chance_actions_at, own_action, actions_at, closed_at, action_list_at, summed_at, first_list_at, all_repeated_at, later_list_at}
 use Rattle.tree_uses.proofs.ActionSteps.{Summed}
@@ -146,7 +147,7 @@ chance_list_by owner n tokens inner behind actions sum closed is o l s e c t = r
 pub own_list_so : (owner : Option ℕ) (i n : ℕ) (inner behind rest : List Token) (actions : List Action) → owner ≡ Some i → actions_at (Some 0) inner ≡ Some (actions, behind) → n ≡ length actions → closed_at n behind ≡ Some rest → IsActionList owner actions
 own_list_so owner i n inner behind rest actions o a e c =
     let none : All (HasNoProbability (Some i)) (map own_action (texts_at inner).0) = All-map (HasNoProbability (Some i)) own_action (texts_at inner).0 (λ k d lt. refl) in
-    let all : All (HasNoProbability (Some i)) actions = subst (λ (x : List Action × List Token). All (HasNoProbability (Some i)) x.0) (some_same _ _ a) none in
+    let all : All (HasNoProbability (Some i)) actions = subst (λ (x : List Action × List Token). All (HasNoProbability (Some i)) x.0) (same_Some _ _ a) none in
     record { some_action = some; no_probabilities = subst (λ (who : Option ℕ). All (HasNoProbability who) actions) (sym o) all }
   where
     some : 0 < length actions
@@ -205,7 +206,7 @@ chance_repeats (action ∷ actions) tokens = never (right_at tokens)
 own_repeats : (i : ℕ) (actions : List Action) (tokens : List Token) → AllByRecursion (HasNoProbability (Some i)) actions → (actions_at (Some i) tokens >>= repeated_behind actions) ≡ (all_repeated_at (Some i) actions tokens >>= right_at)
 own_repeats i [] (Text name ∷ tokens) h = never (right_at (texts_at tokens).1)
 own_repeats i [] tokens h = closed_as_it_is (right_at tokens)
-own_repeats i (action ∷ actions) (Text name ∷ tokens) h = rw (h.0, eq_self eq_ℚ eq_ℚ-Decides zero_ℚ) (own_repeats i actions tokens h.1)
+own_repeats i (action ∷ actions) (Text name ∷ tokens) h = rw (h.0, eq_self eq_ℚ eq_ℚ-decides zero_ℚ) (own_repeats i actions tokens h.1)
 own_repeats i (action ∷ actions) tokens h = never (right_at tokens)
 
 -- actions repeat these, and are closed

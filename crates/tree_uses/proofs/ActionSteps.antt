@@ -2,11 +2,12 @@
 use Rattle.std.proofs.Common.{◌≡◌, ℕ, suc, ◌+◌, ◌<◌, true, false, List, [], ◌∷◌, ◌++◌, length, drop, get_or, Option, Some, None, refl, sym, ap, ◌∙◌, append_assoc, add-one}
 use Rattle.std.proofs.lemmas.List.{append-nil}
 use Rattle.std.proofs.Math.Seq.{drop-cons}
+use Rattle.lists.specs.Options.{◌>>=◌}
 use Rattle.rational.specs.Rational.{ℚ, ◌+ℚ◌}
 use Rattle.game_core.specs.declared.tree.Action.{Action}
 use Rattle.game_text.specs.declared.token.Token.{Token}
 use Rattle.game_text.specs.declared.token.Token.TheVariants.{Text, Number}
-use Rattle.file_parts.specs.Reading.{◌>>=◌, text_at, number_at}
+use Rattle.file_parts.specs.Reading.{text_at, number_at}
 use Rattle.file_parts.proofs.TokenLaws.{text_is, number_is}
 use Rattle.written_trees.specs.Building.{may_follow}
 use Rattle.tree_files.specs.TreeReading.{summed_at, repeated_at, all_repeated_at}

@@ -6,12 +6,13 @@ use Rattle.std.proofs.lemmas.Bool.{cases_Bool}
 use Rattle.std.proofs.lemmas.Bool.Decides.{Decides-eqb}
 use Rattle.std.proofs.lemmas.List.{length-map, map-set, map-append, get_or-map}
 use Rattle.std.proofs.lemmas.List.Elements.{All-get_or, All-push, All-set, All-same}
-use Rattle.std.proofs.lemmas.Option.{slice_get-get_or, slice_get_past}
+use Rattle.std.proofs.lemmas.Option.{slice_get-get_or, slice_get_past, same_Some}
+use Rattle.std.specs.Option.{option_or}
+use Rattle.lists.proofs.Options.{bind_some}
 use Rattle.indexmap.specs.IndexSet.{insert_key}
 use Rattle.rational.specs.Rational.{ℚ}
 use Rattle.game_text.specs.declared.token.Token.{Token}
-use Rattle.file_parts.specs.Reading.{left_at, right_at, optional_text_at, payoffs_at, or_else}
-use Rattle.file_parts.proofs.Options.{bind_some, some_same}
+use Rattle.file_parts.specs.Reading.{left_at, right_at, optional_text_at, payoffs_at}
 use Rattle.file_parts.proofs.NumberLaws.{payoffs_are}
 use Rattle.written_trees.specs.Building.{BegunOutcome, outcome_place}
 use Rattle.written_trees.proofs.InsertedKeys.{position-none, position-map, insert_key-known, insert_key-new}
@@ -36,7 +37,7 @@ all_paid players tokens rest payoffs e =
     let a = bind_some (left_at tokens) _ (payoffs, rest) e in
     let b = bind_some (payoffs_at players a.0) _ (payoffs, rest) a.2 in
     let c = bind_some (right_at b.0.1) _ (payoffs, rest) b.2 in
-    let same : (b.0.0, c.0) ≡ (payoffs, rest) = some_same _ _ c.2 in
+    let same : (b.0.0, c.0) ≡ (payoffs, rest) = same_Some _ _ c.2 in
     sym (ap (λ (x : List ℚ × List Token). length x.0) same) ∙ (payoffs_are players a.0 b.0 b.1).all
 
 -- a place where something stands lies within the list
@@ -138,9 +139,9 @@ module _ (players label : ℕ) (old : Outcomes) (are : AreOutcomes players old) 
       later_unread h = later_fails players label (begun_outcomes old) name tokens behind text (begun_outcome before) stands_there (by_players None h)
 
       -- with the same payoffs, or none, the outcome that goes on is read
-      pub later_used : (after : OutcomeBegun) (rest : List Token) → after.label ≡ before.label → after.name ≡ or_else before.name name → after.payoffs.items ≡ before.payoffs.items → later_payoffs_at (length before.payoffs.items) before.payoffs.items behind ≡ Some rest
+      pub later_used : (after : OutcomeBegun) (rest : List Token) → after.label ≡ before.label → after.name ≡ option_or before.name name → after.payoffs.items ≡ before.payoffs.items → later_payoffs_at (length before.payoffs.items) before.payoffs.items behind ≡ Some rest
           → named_step_at players label (begun_outcomes old) tokens ≡ step_to (map begun_outcome (slice_set old.list.items place after)) place rest
       later_used after rest own named paid h =
-          let is : record { label = before.label; name = or_else before.name name; payoffs = before.payoffs.items } ≡ begun_outcome after = λ i. record { label = sym own i; name = sym named i; payoffs = sym paid i } in
+          let is : record { label = before.label; name = option_or before.name name; payoffs = before.payoffs.items } ≡ begun_outcome after = λ i. record { label = sym own i; name = sym named i; payoffs = sym paid i } in
           later_read players label (begun_outcomes old) name tokens behind text (begun_outcome before) rest stands_there (by_players (Some rest) h)
           ∙ ap₂ (λ o p. step_to (slice_set (begun_outcomes old) p o) p rest) is (place_is ∙ sym at_place) ∙ ap (λ outcomes. step_to outcomes place rest) (sym (map-set begun_outcome old.list.items place after))

@@ -1,10 +1,12 @@
 -- A use of an outcome with a number, as the code reads it.
 use Rattle.std.proofs.Common.{◌≡◌, ℕ, inl, inr, if◌then◌else◌, List, [], ◌∷◌, ◌++◌, slice_get, slice_set, Option, Some, None, refl, ◌∙◌}
 use Rattle.std.proofs.lemmas.Bool.{cases_Bool}
+use Rattle.std.specs.Option.{option_or}
+use Rattle.lists.specs.Options.{◌>>=◌}
 use Rattle.rational.specs.Rational.{ℚ}
 use Rattle.game_text.specs.declared.token.Token.{Token}
 use Rattle.game_text.specs.declared.token.Token.TheVariants.{Left}
-use Rattle.file_parts.specs.Reading.{◌>>=◌, optional_text_at, or_else}
+use Rattle.file_parts.specs.Reading.{optional_text_at}
 use Rattle.written_trees.specs.Written.{OutcomeUse}
 use Rattle.written_trees.specs.Building.{BegunOutcome, outcome_place, repeats_payoffs, used_outcome}
 use Rattle.tree_files.specs.TreeReading.{optional_at, payoff_list_at, named_outcome_at, later_payoffs_at, with_outcome, named_step_at}
@@ -98,7 +100,7 @@ module _ (players label : ℕ) (outcomes : List BegunOutcome) (name : Option (Li
   first_is none = step_by_payoffs outcomes label name players tokens behind text ∙ first_step outcomes label name none players behind
 
   -- a later use
-  later_is : (outcome : BegunOutcome) → slice_get outcomes own_place ≡ Some outcome → named_step_at players label outcomes tokens ≡ (later_payoffs_at players outcome.payoffs behind >>= λ rest. Some ((slice_set outcomes own_place (record { label = outcome.label; name = or_else outcome.name name; payoffs = outcome.payoffs }), Some own_place), rest))
+  later_is : (outcome : BegunOutcome) → slice_get outcomes own_place ≡ Some outcome → named_step_at players label outcomes tokens ≡ (later_payoffs_at players outcome.payoffs behind >>= λ rest. Some ((slice_set outcomes own_place (record { label = outcome.label; name = option_or outcome.name name; payoffs = outcome.payoffs }), Some own_place), rest))
   later_is outcome known = step_by_payoffs outcomes label name players tokens behind text ∙ later_step outcomes label name outcome known players behind
 
   -- a first use without its payoffs
@@ -114,5 +116,5 @@ module _ (players label : ℕ) (outcomes : List BegunOutcome) (name : Option (Li
   later_fails outcome known h = later_is outcome known ∙ (rw h refl)
 
   -- a later use that keeps to the payoffs
-  pub later_read : (outcome : BegunOutcome) (rest : List Token) → slice_get outcomes own_place ≡ Some outcome → later_payoffs_at players outcome.payoffs behind ≡ Some rest → named_step_at players label outcomes tokens ≡ Some ((slice_set outcomes own_place (record { label = outcome.label; name = or_else outcome.name name; payoffs = outcome.payoffs }), Some own_place), rest)
+  pub later_read : (outcome : BegunOutcome) (rest : List Token) → slice_get outcomes own_place ≡ Some outcome → later_payoffs_at players outcome.payoffs behind ≡ Some rest → named_step_at players label outcomes tokens ≡ Some ((slice_set outcomes own_place (record { label = outcome.label; name = option_or outcome.name name; payoffs = outcome.payoffs }), Some own_place), rest)
   later_read outcome rest known h = later_is outcome known ∙ (rw h refl)

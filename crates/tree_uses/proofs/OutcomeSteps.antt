@@ -4,13 +4,14 @@ use Rattle.std.proofs.Math.Seq.{drop-cons}
 use Rattle.std.proofs.lemmas.Bool.{cases_Bool}
 use Rattle.std.proofs.lemmas.List.{drop_all}
 use Rattle.std.specs.Cmp.Lexicographic.{pointwise}
+use Rattle.rational.specs.Tests.{eq_ℚ}
+use Rattle.lists.specs.Options.{◌>>=◌}
 use Rattle.rational.specs.Rational.{ℚ, zero_ℚ}
-use Rattle.frac128.specs.Fraction.{eq_ℚ}
 use Rattle.game_text.specs.declared.token.Token.{Token}
 use Rattle.game_text.specs.declared.token.Token.TheVariants.{Left}
 use Rattle.file_parts.specs.declared.refusal.Refusal.{Refusal}
 use Rattle.file_parts.specs.declared.refusal.Refusal.TheVariants.{Unfit}
-use Rattle.file_parts.specs.Reading.{Refuses, ◌>>=◌, left_at, right_at, payoff_at, payoffs_at, repeat_at, label_at}
+use Rattle.file_parts.specs.Reading.{Refuses, left_at, right_at, payoff_at, payoffs_at, repeat_at, label_at}
 use Rattle.file_parts.proofs.TokenLaws.{left_is}
 use Rattle.written_trees.specs.Building.{BegunOutcome, repeats_payoffs}
 use Rattle.tree_files.specs.TreeReading.{payoff_list_at, outcome_use_at, payoffs_repeated_at, later_payoffs_at, named_step_at, outcome_step_at}

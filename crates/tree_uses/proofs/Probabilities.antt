@@ -10,10 +10,9 @@ use Rattle.std.specs.declared.cmp.Ordering.{Ordering}
 use Rattle.std.specs.declared.cmp.Ordering.TheVariants.{Less, Equal, Greater}
 use Rattle.std.specs.Ordering.{int_cmp, ordering_index}
 use Rattle.rational.specs.Rational.{ℚ, ◌+ℚ◌, zero_ℚ, one_ℚ}
-use Rattle.rational.specs.Tests.{le_test}
+use Rattle.rational.specs.Tests.{le_test, cmp_ℚ, sign_of}
 use Rattle.rational.proofs.Decide.{le_test-true}
 use Rattle.rational.proofs.Parts.{nonneg-num}
-use Rattle.frac128.specs.Fraction.{cmp_ℚ, sign_of}
 use Rattle.frac128.specs.Steps.{AddFits}
 use Rattle.written_trees.specs.Building.{may_follow}
 use Rattle.written_trees.proofs.Chances.{add_test-Decides}

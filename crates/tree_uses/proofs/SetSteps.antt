@@ -1,15 +1,16 @@
 -- A set that a node uses, as the reader finds it among those before it.
 use Rattle.std.proofs.Common.{◌≡◌, ℕ, ◌+◌, Bool, true, false, not, ◌||◌, List, [], ◌∷◌, ◌++◌, length, map, option_map, slice_get, slice_set, get_or, ◌<◌, Option, Some, None, if◌then◌else◌, refl, sym, ap, ap₂, ◌∙◌, subst, arith}
 use Rattle.std.specs.List.{position_or_len, list_any}
-use Rattle.std.proofs.lemmas.Option.{slice_get-map, slice_get-get_or}
+use Rattle.std.proofs.lemmas.Option.{slice_get-map, slice_get-get_or, same_Some}
 use Rattle.std.proofs.lemmas.List.{map-append, map-set, length-map}
 use Rattle.std.proofs.lemmas.List.Elements.{All-push, All-set}
 use Rattle.std.proofs.Math.Seq.{map-set_same}
+use Rattle.std.specs.Option.{option_or}
+use Rattle.lists.specs.Options.{◌>>=◌}
 use Rattle.game_core.specs.declared.tree.Action.{Action}
 use Rattle.game_text.specs.declared.token.Token.{Token}
 use Rattle.game_text.specs.declared.token.Token.TheVariants.{Left}
-use Rattle.file_parts.specs.Reading.{◌>>=◌, optional_text_at, or_else}
-use Rattle.file_parts.proofs.Options.{some_same}
+use Rattle.file_parts.specs.Reading.{optional_text_at}
 use Rattle.written_trees.specs.Described.{SetKey, key_of, same_set}
 use Rattle.written_trees.specs.Written.{SetUse}
 use Rattle.written_trees.specs.Building.{BegunSet, key_of_begun, set_place, use_set, may_be_first, repeats_actions}
@@ -50,7 +51,7 @@ module _ {K : Type 0} (f : K → SetKey) (keys : List K) (sets : List BegunSet) 
   known_key set e at =
       let all : list_any (same_set key) (map key_of_begun sets) ≡ true = any-map (same_set key) key_of_begun sets ∙ sym any_is ∙ e in
       let found = slice_get-found same_set same_set-Decides (map key_of_begun sets) key all in
-      some_same _ _ (sym (slice_get-map key_of_begun sets (set_place sets key) ∙ ap (option_map key_of_begun) at) ∙ ap (slice_get (map key_of_begun sets)) (sym (position-map (same_set key) key_of_begun sets)) ∙ found)
+      same_Some _ _ (sym (slice_get-map key_of_begun sets (set_place sets key) ∙ ap (option_map key_of_begun) at) ∙ ap (slice_get (map key_of_begun sets)) (sym (position-map (same_set key) key_of_begun sets)) ∙ found)
 
 -- ---- steps
 -- a set of a first use, and a set that is used again
@@ -58,7 +59,7 @@ abbrev pub begun_by : ℕ → SetKey → Option (List ℕ) → List Action → B
 begun_by k key name actions = record { owner = key.0; label = key.1; name = name; actions = actions; members = k ∷ [] }
 
 abbrev pub used_by : ℕ → Option (List ℕ) → BegunSet → BegunSet
-used_by k name set = record { owner = set.owner; label = set.label; name = or_else set.name name; actions = set.actions; members = set.members ++ k ∷ [] }
+used_by k name set = record { owner = set.owner; label = set.label; name = option_or set.name name; actions = set.actions; members = set.members ++ k ∷ [] }
 
 -- what a step gives
 abbrev Step : Type 0

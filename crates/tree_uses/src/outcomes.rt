@@ -2,9 +2,10 @@
 ghost use Rattle.std.specs.Prelude.{◌≡◌, ◌<◌, ℕ, Some, length, option_map, IfOk, OnOk};
 ghost use Rattle.file_parts.specs.declared.refusal.Refusal.TheVariants.{Unfit};
 ghost use Rattle.tree_uses.specs.declared.fault.EfgKind.{EfgKind};
-ghost use Rattle.file_parts.specs.Reading.{Reads, Gives, kinds, right_at, payoffs_at, or_else};
+ghost use Rattle.file_parts.specs.Reading.{Reads, Gives, kinds, right_at, payoffs_at};
 ghost use Rattle.tree_uses.specs.Uses.{begun_outcomes, AreOutcomes};
 ghost use Rattle.tree_files.specs.TreeReading.{outcome_step_at, named_step_at, payoffs_repeated_at, later_payoffs_at, payoff_list_at};
+ghost use Rattle.std.specs.Option.{option_or};
 
 use crate::fault::EfgKind;
 use crate::sets::optional_name;
@@ -163,7 +164,7 @@ fn later_use<'a>(
     tokens: &'a [Spanned],
 ) -> Result<&'a [Spanned], Refusal<EfgKind>>
     ensures label { OnOk result (outcome.new.label ≡ outcome.old.label) }
-    ensures name { OnOk result (outcome.new.name ≡ or_else outcome.old.name (option_map (λ t. t.now) name.entry)) }
+    ensures name { OnOk result (outcome.new.name ≡ option_or outcome.old.name (option_map (λ t. t.now) name.entry)) }
     ensures payoffs { OnOk result (outcome.new.payoffs.items ≡ outcome.old.payoffs.items) }
     ensures read { Reads (λ rest. kinds rest.now) result (later_payoffs_at (length outcome.old.payoffs.items) outcome.old.payoffs.items (kinds tokens.now)) }
 {

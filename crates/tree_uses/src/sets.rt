@@ -1,11 +1,12 @@
 // The information sets, numbered by their first use.
 ghost use Rattle.std.specs.Prelude.{◌≡◌, ◌+◌, ◌<◌, [], ◌∷◌, ◌++◌, not, if◌then◌else◌, length, option_map, IfOk, OnOk};
 ghost use Rattle.std.specs.List.{position_or_len, list_any};
-ghost use Rattle.file_parts.specs.Reading.{Reads, kinds, or_else};
+ghost use Rattle.file_parts.specs.Reading.{Reads, kinds};
 ghost use Rattle.written_trees.specs.Described.{same_set};
 ghost use Rattle.written_trees.specs.Laws.{IsActionList};
 ghost use Rattle.tree_uses.specs.Uses.{begun_set, begun_sets, AreSets};
 ghost use Rattle.tree_files.specs.TreeReading.{first_list_at, later_list_at, set_step_at};
+ghost use Rattle.std.specs.Option.{option_or};
 
 use crate::actions::{first_list, later_list};
 use crate::fault::EfgKind;
@@ -94,7 +95,7 @@ fn later_use<'a>(
 ) -> Result<&'a [Spanned], Refusal<EfgKind>>
     requires { IsActionList set.old.owner set.old.actions.items }
     ensures read { Reads (λ rest. kinds rest.now) result (later_list_at set.old.owner set.old.actions.items (kinds tokens.now)) }
-    ensures set { OnOk result (begun_set set.new ≡ record { owner = set.old.owner; label = set.old.label; name = or_else set.old.name (option_map (λ t. t.now) name.entry); actions = set.old.actions.items; members = set.old.members.items ++ node ∷ [] }) }
+    ensures set { OnOk result (begun_set set.new ≡ record { owner = set.old.owner; label = set.old.label; name = option_or set.old.name (option_map (λ t. t.now) name.entry); actions = set.old.actions.items; members = set.old.members.items ++ node ∷ [] }) }
 {
     let rest = later_list(tokens, set.owner, set.actions.as_slice())?;
     if set.name.is_none() {

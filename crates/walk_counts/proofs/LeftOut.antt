@@ -3,7 +3,7 @@ use Rattle.std.proofs.Common.{ℕ, zero, suc, ◌+◌, ◌-◌, ◌<◌, ◌≤�
 use Rattle.std.specs.Prelude.{◌==◌, slice_get, if◌then◌else◌, IfSome}
 use Rattle.std.proofs.Math.ListN as lists
 use Rattle.std.proofs.Math.Seq.{drop-length}
-use Rattle.std.proofs.lemmas.Bool.{cases_eq, cases_lt}
+use Rattle.std.proofs.lemmas.Bool.{cases_eq, cases_lt, cases_Bool}
 use Rattle.std.proofs.lemmas.List.{append-nil, get_or_default, get_or_append_left, get_or_push, length_push, get_or-set_same, get_or-set_other, length-replicate, get_or-replicate}
 use Rattle.std.proofs.lemmas.Option.{same_Some, slice_get_within, slice_get-get_or}
 use Rattle.decision_walk.specs.declared.decision.Decision.{Decision}
@@ -16,11 +16,6 @@ use Rattle.decision_walk.proofs.Steps.{drop-first}
 use Rattle.walk_counts.specs.LeftOut.{is_kept, kept_below, renumbered_step, renumbered, kept_from, marked, AreEnough, AreShared}
 use Rattle.walk_counts.specs.Ways.{AreApart}
 use Rattle.walk_counts.proofs.Ways.{length-branches, sum-same}
-
--- a test passes or not
-true_or_false : (b : Bool) → (b ≡ true) ⊎ (b ≡ false)
-true_or_false true = inl refl
-true_or_false false = inr refl
 
 -- it does not do both
 not_both : (b : Bool) → b ≡ true → b ≡ false → ⊥
@@ -41,7 +36,7 @@ module _ (kept : List Bool) where
 
   -- there are no fewer below more
   below-next : (n : ℕ) → kept_below kept n ≤ kept_below kept (suc n)
-  below-next n = elim (true_or_false (is_kept kept n)) [ inl held ↦ omega (arith, below-kept n held) | inr out ↦ omega (arith, below-left_out n out) ]
+  below-next n = elim (cases_Bool (is_kept kept n)) [ inl held ↦ omega (arith, below-kept n held) | inr out ↦ omega (arith, below-left_out n out) ]
 
   below-more : (n k : ℕ) → kept_below kept n ≤ kept_below kept (n + k)
   below-more n zero = let e : n ≡ n + 0 = omega arith in subst (λ v. kept_below kept n ≤ kept_below kept v) e (omega arith)
@@ -71,7 +66,7 @@ module _ (kept : List Bool) where
   kept-at (c ∷ ds) n (suc k) zero d at held e =
       let there : n + suc k ≡ suc n + k = omega arith in
       let later = ap (kept_below kept) there in
-      elim (true_or_false (is_kept kept n)) [
+      elim (cases_Bool (is_kept kept n)) [
         | inl here ↦ absurd (omega (arith, later, below-kept n here, below-more (suc n) k))
         | inr out ↦ ap (λ xs. slice_get xs 0) (from-left_out n c ds out) ∙ kept-at ds (suc n) k 0 d at (ap (is_kept kept) (sym there) ∙ held) (omega (arith, later, below-left_out n out))
       ]
@@ -79,7 +74,7 @@ module _ (kept : List Bool) where
       let there : n + suc k ≡ suc n + k = omega arith in
       let later = ap (kept_below kept) there in
       let also = ap (is_kept kept) (sym there) ∙ held in
-      elim (true_or_false (is_kept kept n)) [
+      elim (cases_Bool (is_kept kept n)) [
         | inl here ↦ ap (λ xs. slice_get xs (suc m)) (from-kept n c ds here) ∙ kept-at ds (suc n) k m d at also (omega (arith, later, below-kept n here))
         | inr out ↦ ap (λ xs. slice_get xs (suc m)) (from-left_out n c ds out) ∙ kept-at ds (suc n) k (suc m) d at also (omega (arith, later, below-left_out n out))
       ]
@@ -108,7 +103,7 @@ module _ (kept : List Bool) where
 
   kept-tell : (ds : List Decision) (n m : ℕ) (e : Decision) → slice_get (kept_from kept n ds) m ≡ Some e → IsKeptAt ds n m e
   kept-tell [] n m e at = cc
-  kept-tell (c ∷ ds) n m e at = elim (true_or_false (is_kept kept n)) [
+  kept-tell (c ∷ ds) n m e at = elim (cases_Bool (is_kept kept n)) [
     | inl here ↦ first m (sym (ap (λ xs. slice_get xs m) (from-kept n c ds here)) ∙ at) here (λ l behind. kept-tell ds (suc n) l e behind)
     | inr out ↦ IsKeptAt-later c ds n m m e (omega (arith, below-left_out n out)) (kept-tell ds (suc n) m e (sym (ap (λ xs. slice_get xs m) (from-left_out n c ds out)) ∙ at))
   ]
@@ -243,7 +238,7 @@ module _ (decisions : List Decision) (actions : List ℕ) (kept : List Bool) (li
       let later = AreRest-later decisions n d ds rest in
       let m = get_or actions d.place 0 in
       let more = kept_from kept (suc n) ds in
-      elim (true_or_false (is_kept kept n)) [
+      elim (cases_Bool (is_kept kept n)) [
         | inl held ↦
             let whole : length (ends actions (kept_from kept n (d ∷ ds)) marks picks) ≡ length (ends actions (renumbered kept d ∷ more) marks picks) = ap (λ v. length (ends actions v marks picks)) (from-kept kept n d ds held) in
             let led = led-alike n flags choices marks picks d d.before a at held refl (linked.come_from n d at) in
@@ -458,7 +453,7 @@ AreShared-all decisions sets n seen shared all s = record {
 -- where no set is marked, none has two decisions
 pub AreApart-shared : (decisions : List Decision) (sets : ℕ) (shared : List Bool) → AreShared decisions sets shared → (Contains shared true → ⊥) → AreApart decisions
 AreApart-shared decisions sets shared s none j k d e here there same =
-    s.alone j k d e here there (elim (true_or_false (get_or shared d.place false)) [ inl marked_there ↦ absurd (none (contained shared d.place marked_there)) | inr unmarked ↦ unmarked ]) same
+    s.alone j k d e here there (elim (cases_Bool (get_or shared d.place false)) [ inl marked_there ↦ absurd (none (contained shared d.place marked_there)) | inr unmarked ↦ unmarked ]) same
   where
     contained : (xs : List Bool) (p : ℕ) → get_or xs p false ≡ true → Contains xs true
     contained xs p held = elim (cases_lt p (length xs)) [
@@ -477,7 +472,7 @@ pub record AreNumbered (decisions : List Decision) (kept : List Bool) (n : ℕ) 
 -- there are no more than all
 pub kept_below-all : (kept : List Bool) (n : ℕ) → kept_below kept n ≤ n
 kept_below-all kept zero = omega arith
-kept_below-all kept (suc n) = elim (true_or_false (is_kept kept n)) [ inl held ↦ omega (arith, below-kept kept n held, kept_below-all kept n) | inr out ↦ omega (arith, below-left_out kept n out, kept_below-all kept n) ]
+kept_below-all kept (suc n) = elim (cases_Bool (is_kept kept n)) [ inl held ↦ omega (arith, below-kept kept n held, kept_below-all kept n) | inr out ↦ omega (arith, below-left_out kept n out, kept_below-all kept n) ]
 
 pub AreNumbered-none : (decisions : List Decision) (kept : List Bool) (numbers : List ℕ) (list : List Decision) → numbers ≡ [] → list ≡ [] → AreNumbered decisions kept 0 numbers list
 AreNumbered-none decisions kept numbers list no_numbers none = record {

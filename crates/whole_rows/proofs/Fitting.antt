@@ -3,12 +3,12 @@ use Rattle.std.proofs.Common.{ℕ, ℤ, pos, negsuc, zero, suc, ◌≡◌, ◌<�
 use Rattle.std.proofs.Math.Nat.{div-le_self}
 use Rattle.std.specs.Int.{w128}
 use Rattle.std.proofs.lemmas.Int.{ints, to_z-of_z, fits_signed_from_abs}
+use Rattle.frac128.proofs.Differences.{neg_fits}
 use Rattle.rational.specs.Gcd.{gcd}
 use Rattle.rational.specs.Rational.{ℚ, whole, frac, ◌+ℚ◌, ◌-ℚ◌}
 use Rattle.rings.proofs.IntegerRing.{integer_ring}
 use Rattle.rings.proofs.Ring.{ring, num, ◌:*◌, ◌:-◌, :neg, A}
-use Rattle.frac128.proofs.Parts.{nat_abs-neg_ℤ}
-use Rattle.rational.proofs.Parts.{whole-num, whole-den, whole-mul, whole-neg, whole-add}
+use Rattle.rational.proofs.Parts.{whole-num, whole-den, whole-mul, whole-neg, whole-add, abs-neg}
 use Rattle.rational.specs.LowestTerms.{nat_abs-div_ℤ}
 use Rattle.frac128.specs.declared.steps.Unfit.{Unfit}
 use Rattle.frac128.specs.Fraction.{PartFits, Fits, quotient}
@@ -95,10 +95,6 @@ plus_none k = omega arith
 -- and the number at the beginning of a row
 pub read_first : (xs : List ℤ) (k : ℕ) → ((k : ℕ) → PartFits (get_or xs k (pos 0))) → to_z w128 (of_z w128 (slice_index_or xs k (pos 0))) ≡ get_or xs (k + 0) (pos 0)
 read_first xs k h = read_at xs k h ∙ ap (λ n. get_or xs n (pos 0)) (plus_none k)
-
--- either sign fits
-pub neg_fits : (n : ℤ) → PartFits n → PartFits (neg_ℤ n)
-neg_fits n h = subst (λ k. k < 2 ^ 127) (sym (nat_abs-neg_ℤ n)) h
 
 -- a number with its sign turned
 pub turned_back : (n : ℤ) → PartFits n → to_z w128 (of_z w128 (pos 0 -ℤ to_z w128 (of_z w128 n))) ≡ neg_ℤ n

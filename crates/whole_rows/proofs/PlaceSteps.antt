@@ -1,11 +1,12 @@
 -- The steps and the number at one place of a row, by the three kinds of place.
 use Rattle.std.proofs.Common.{ℕ, ℤ, ◌≡◌, ◌≢◌, ◌*ℤ◌, ◌-ℤ◌, neg_ℤ, refl, sym, ap, ◌∙◌, subst, [], ◌∷◌, Option, Some, None, MatchOption, inl}
+use Rattle.frac128.proofs.Differences.{neg_fits}
 use Rattle.linear_systems.proofs.Pivot.{eqb_same, eqb_apart}
 use Rattle.frac128.specs.Fraction.{PartFits}
 use Rattle.frac128.specs.declared.steps.Unfit.{Unfit}
 use Rattle.whole_rows.specs.Steps.{times, less, AllFit, IsFirstUnfit, unfit_step}
 use Rattle.whole_rows.specs.Pivots.{place_steps, place_number}
-use Rattle.whole_rows.proofs.Fitting.{times_fits, neg_fits}
+use Rattle.whole_rows.proofs.Fitting.{times_fits}
 
 module _ (row b : ℕ → ℤ) (c : ℕ) (u v : ℤ) (p : ℕ) where
   pub steps_lead : p ≡ 0 → place_steps row b c u v p ≡ times (row 0) u ∷ []

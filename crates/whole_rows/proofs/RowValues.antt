@@ -10,15 +10,14 @@ use Rattle.rational.specs.LowestTerms.{div_ℤ-mul, nat_abs-div_ℤ}
 use Rattle.std.proofs.Math.Nat.{div-le_self}
 use Rattle.rational.specs.Rational.{ℚ, frac, whole, zero_ℚ, neg_ℚ, inv_ℚ, ◌*ℚ◌, ◌-ℚ◌}
 use Rattle.rational.proofs.RationalRing.{rational_ring}
-use Rattle.rational.proofs.Field.{*ℚ-inv}
+use Rattle.rational.proofs.Field.{*ℚ-inv, pos-*ℤ}
 use Rattle.rational.proofs.Inverse.{frac-inv, inv_ℚ-mul, inv_ℚ-inv, inv_ne_zero}
-use Rattle.rational.proofs.Parts.{whole-mul, whole-neg, whole-eq, frac-mul, frac-scale}
+use Rattle.rational.proofs.Parts.{whole-mul, whole-neg, whole-eq, frac-mul, frac-scale, abs-neg, pos_abs}
 use Rattle.rational.proofs.Fractions.{cancel_pos}
 use Rattle.rational.proofs.Order.{lt_of_times, lt-times}
 use Rattle.rings.proofs.IntegerRing.{integer_ring}
 use Rattle.rings.proofs.Ring.{◌times◌is◌, combine, ring, num, var, ◌:+◌, ◌:*◌, ◌:-◌, :neg}
 use Rattle.rings.proofs.Ring as R
-use Rattle.frac128.proofs.Parts.{nat_abs-neg_ℤ}
 use Rattle.linear_systems.proofs.Pivot.{eqb_same, eqb_apart}
 use Rattle.frac128.specs.Fraction.{PartFits}
 use Rattle.whole_rows.specs.Rows.{fraction, IsRow, IsCommonDivisor}
@@ -88,7 +87,7 @@ sign_ne (negsuc p) e = let h : negsuc 0 ≡ pos 0 = e in omega (arith, ints)
 
 pub nat_abs-signed : (p n : ℤ) → nat_abs (signed_by p n) ≡ nat_abs n
 nat_abs-signed (pos p) n = refl
-nat_abs-signed (negsuc p) n = nat_abs-neg_ℤ n
+nat_abs-signed (negsuc p) n = abs-neg n
 
 pub own_sign : (p : ℤ) → p ≢ pos 0 → pos 0 <ℤ signed_by p p
 own_sign (pos p) h = go p h
@@ -129,20 +128,12 @@ module _ (p k : ℤ) (h : p ≢ pos 0) where
   own_factor_pos = lt_of_times (pos 0) (own_factor p k) (gcd (nat_abs p) (nat_abs k)) (subst₂ (λ x y. x <ℤ y) (ring integer_ring (pos (gcd (nat_abs p) (nat_abs k)) ∷ []) (num 0) (num 0 :* R.A) refl) (sym own_times) (own_sign p h))
 
 -- ---- a row divided by its greatest common divisor
-positive_times : (a b : ℤ) → pos 0 <ℤ a → pos 0 <ℤ b → pos 0 <ℤ (a *ℤ b)
-positive_times a (pos b) h g = subst (λ x. x <ℤ (a *ℤ pos b)) (ring integer_ring (pos b ∷ []) (num 0 :* R.A) (num 0) refl) (lt-times (pos 0) a b (omega (arith, ints)) h)
-positive_times a (negsuc b) h g = absurd (omega (arith, ints))
-
-pub positive_size : (n : ℤ) → pos 0 <ℤ n → 0 < nat_abs n
-positive_size (pos n) h = omega (arith, ints)
-positive_size (negsuc n) h = absurd (omega (arith, ints))
-
 pub reduced : (size : ℕ) (row new : ℕ → ℤ) (g : ℤ) → 0 < size → pos 0 <ℤ g → pos 0 <ℤ row 0 → IsCommonDivisor row size (nat_abs g) → ((p : ℕ) → p < size → new p *ℤ g ≡ row p) → ((p : ℕ) → p < size → PartFits (new p)) → IsReduced size row new
 reduced size row new (negsuc g) h gp rp d e f = absurd (omega (arith, ints))
 reduced size row new (pos g) h gp rp d e f =
     record {
       is_row = record { positive = lead; fits = f; lowest = λ k q. eq-one_of_dvd-one (dvd_of_mul-dvd-mul_right {k = g} k d.positive (subst (λ x. k * g ∣ x) (sym (one-mul g)) (d.greatest (k * g) (λ p hp. subst (λ x. k * g ∣ x) (sym (unsigned_abs-mul (new p) (pos g)) ∙ ap nat_abs (e p hp)) (mul-dvd-mul_right _ (q p hp) g))))) };
-      same = λ p hp. sym (ap₂ (λ x y. frac x (nat_abs y)) (sym (e p hp)) (sym (e 0 h)) ∙ ap (frac (new p *ℤ pos g)) (unsigned_abs-mul (new 0) (pos g)) ∙ frac-scale (new p) (nat_abs (new 0)) g (positive_size (new 0) lead) d.positive);
+      same = λ p hp. sym (ap₂ (λ x y. frac x (nat_abs y)) (sym (e p hp)) (sym (e 0 h)) ∙ ap (frac (new p *ℤ pos g)) (unsigned_abs-mul (new 0) (pos g)) ∙ frac-scale (new p) (nat_abs (new 0)) g (pos_abs (new 0) lead) d.positive);
     }
   where
     lead : pos 0 <ℤ new 0
@@ -179,7 +170,7 @@ module _ (row b : ℕ → ℤ) (c : ℕ) (a0 : pos 0 <ℤ row 0) (b0 : pos 0 <�
   cross = sym (whole-mul v (b c)) ∙ ap whole takes ∙ whole-mul (row c) u
 
   pub combined_lead : pos 0 <ℤ combined 0
-  combined_lead = positive_times (row 0) u a0 u_pos
+  combined_lead = pos-*ℤ (row 0) u a0 u_pos
 
   at_place : (p : ℕ) → 0 < p → p ≢ c → combined p ≡ (row p *ℤ u) -ℤ (b p *ℤ v)
   at_place p hp n = rw (eqb_apart p 0 (λ e. omega (arith, e, hp)), eqb_apart p c n) refl
@@ -214,7 +205,7 @@ module _ (row b : ℕ → ℤ) (c : ℕ) (a0 : pos 0 <ℤ row 0) (b0 : pos 0 <�
       lead = divided_lead z g (combined 0) (e 0 (omega arith)) combined_lead
 
       same : (p : ℕ) → p < size → fraction z p ≡ fraction combined p
-      same p ps = sym (ap₂ (λ x y. frac x (nat_abs y)) (sym (e p ps)) (sym (e 0 (omega arith))) ∙ ap (frac (z p *ℤ pos g)) (unsigned_abs-mul (z 0) (pos g)) ∙ frac-scale (z p) (nat_abs (z 0)) g (positive_size (z 0) lead) hg)
+      same p ps = sym (ap₂ (λ x y. frac x (nat_abs y)) (sym (e p ps)) (sym (e 0 (omega arith))) ∙ ap (frac (z p *ℤ pos g)) (unsigned_abs-mul (z 0) (pos g)) ∙ frac-scale (z p) (nat_abs (z 0)) g (pos_abs (z 0) lead) hg)
 
   pub lead_is : (size g : ℕ) (z : ℕ → ℤ) → c < size → ((p : ℕ) → p < size → z p *ℤ pos g ≡ combined p) → pos 0 <ℤ z 0
   lead_is size g z hs e = divided_lead z g (combined 0) (e 0 (omega arith)) combined_lead
@@ -326,7 +317,7 @@ stored_pos n h l = subst (λ z. pos 0 <ℤ z) (sym (stored n l)) (positive_pos n
     positive_pos n h = omega (arith, ints)
 
 pub row_size : (row : ℕ → ℤ) → pos 0 <ℤ row 0 → 0 < nat_abs (row 0)
-row_size row h = positive_size (row 0) h
+row_size row h = pos_abs (row 0) h
 
 pub factors_are : (p k g u v : ℤ) → g ≡ pos (gcd (nat_abs p) (nat_abs k)) → u ≡ div_ℤ (signed_by p p) (nat_abs g) → v ≡ div_ℤ (signed_by p k) (nat_abs g) → (u ≡ own_factor p k) × (v ≡ other_factor p k)
 factors_are p k g u v e f h = (f ∙ ap (λ z. div_ℤ (signed_by p p) (nat_abs z)) e, h ∙ ap (λ z. div_ℤ (signed_by p k) (nat_abs z)) e)

@@ -3,11 +3,12 @@ use Rattle.std.proofs.Common.{ℕ, ℤ, zero, suc, ◌≡◌, ◌≢◌, ◌<◌
 use Rattle.std.specs.Int.{w64}
 use Rattle.std.proofs.lemmas.Int.{ints, unsigned_abs-mul, to_z-of_z, fits_signed_from_abs}
 use Rattle.std.proofs.Math.Nat.{mul-le-mul_right}
+use Rattle.frac128.proofs.Differences.{neg_fits}
 use Rattle.frac128.specs.Fraction.{PartFits}
 use Rattle.whole_rows.specs.Steps.{AllFit}
 use Rattle.whole_rows.specs.Pivots.{place_steps, place_number, steps_to}
 use Rattle.whole_rows.specs.Shorts.{IsShort, FitsShort}
-use Rattle.whole_rows.proofs.Fitting.{times_fits, all_fit, neg_fits}
+use Rattle.whole_rows.proofs.Fitting.{times_fits, all_fit}
 use Rattle.whole_rows.proofs.PlaceSteps.{steps_lead, number_lead, steps_column, number_column, steps_other, number_other}
 use Rattle.whole_rows.proofs.RowWrites.{all_fit-append}
 

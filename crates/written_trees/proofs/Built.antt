@@ -2,11 +2,11 @@
 use Rattle.std.proofs.Common.{◌≡◌, ℕ, ◌<◌, ◌^◌, true, List, [], ◌∷◌, ◌++◌, length, map, slice_get, All, IfSome, Option, Some, None, refl, sym, ap, ◌∙◌, subst, arith}
 use Rattle.std.proofs.lemmas.List.{length-map}
 use Rattle.std.proofs.lemmas.List.Elements.{All-nil, All-head, All-push, All-set, All-pop, All-map, All-weaker, All-get_or, All-filter, filter_passes}
-use Rattle.std.proofs.lemmas.Option.{slice_get-map, slice_get_within, get_or_from_slice_get}
+use Rattle.std.proofs.lemmas.Option.{slice_get-map, slice_get_within, get_or_from_slice_get, same_Some}
+use Rattle.lists.proofs.Options.{bind_some, chosen}
 use Rattle.game_core.specs.declared.tree.Action.{Action}
 use Rattle.game_core.specs.declared.tree.Node.{Node}
 use Rattle.game_core.specs.Tree.{GameTree, InformationSet, IsWithin, ProbabilitiesFit, NodeFits, SetFits}
-use Rattle.file_parts.proofs.Options.{bind_some, chosen, some_same}
 use Rattle.written_trees.specs.Written.{SetUse, OutcomeUse, WrittenNode}
 use Rattle.written_trees.specs.Described.{SetKey, key_of, same_set, set_uses, outcome_uses, sets_of, outcomes_of, uses_of_set, uses_of_outcome, described_set, described_outcome, IsBegunTree, IsFirstList, AgreeOnActions}
 use Rattle.written_trees.specs.Building.{BegunSet, BegunOutcome, outcome_place, repeats_payoffs, new_outcome, used_outcome, with_outcome_use, use_outcome, use_some_outcome, free_places, Begun, nothing_begun, add_nodes, finished_set, finished_outcome, tree_begun}
@@ -83,16 +83,16 @@ pay-use n outcomes others used h u e = go (slice_get outcomes (outcome_place out
     go None none is =
         let a = bind_some used.payoffs _ others is in
         let long : length a.0 ≡ n = rw a.1 at u in
-        rw (← some_same _ _ a.2) (All-push (λ outcome. length outcome.payoffs ≡ n) outcomes (new_outcome used a.0) h long)
+        rw (← same_Some _ _ a.2) (All-push (λ outcome. length outcome.payoffs ≡ n) outcomes (new_outcome used a.0) h long)
     go (Some outcome) there is =
         let P = λ (one : BegunOutcome). length one.payoffs ≡ n in
         let p = outcome_place outcomes used.label in
         let long : length outcome.payoffs ≡ n = rw (get_or_from_slice_get outcomes p outcome outcome there) at (All-get_or P outcomes p outcome (slice_get_within outcomes p outcome there) h) in
-        rw (← some_same _ _ ((chosen (repeats_payoffs outcome.payoffs used.payoffs) _ others is).1)) (All-set P outcomes p (used_outcome used outcome) long h)
+        rw (← same_Some _ _ ((chosen (repeats_payoffs outcome.payoffs used.payoffs) _ others is).1)) (All-set P outcomes p (used_outcome used outcome) long h)
 
 -- and so does what may be one
 pay-some : (n : ℕ) (outcomes others : List BegunOutcome) (used : Option OutcomeUse) → PayAll n outcomes → IfSome used (IsOutcomeUse n) → use_some_outcome outcomes used ≡ Some others → PayAll n others
-pay-some n outcomes others None h u e = rw (← some_same _ _ e) h
+pay-some n outcomes others None h u e = rw (← same_Some _ _ e) h
 pay-some n outcomes others (Some used) h u e = pay-use n outcomes others used h u e
 
 -- in what is built each outcome pays each player

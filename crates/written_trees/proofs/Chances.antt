@@ -5,25 +5,20 @@ use Rattle.std.proofs.lemmas.List.{length-map}
 use Rattle.std.proofs.lemmas.List.Elements.{All-nil, All-cons, All-head, All-tail, All-map}
 use Rattle.std.proofs.lemmas.Bool.Decides.{Decides-eqb, Decides-int_eq, Decides-ltb, Decides-and, Decides-like}
 use Rattle.std.proofs.lemmas.Slice.Eq.{slice_eq-Decides}
+use Rattle.rational.specs.Tests.{eq_ℚ}
 use Rattle.rational.specs.Rational.{ℚ, ◌+ℚ◌, ◌≤ℚ◌, zero_ℚ, one_ℚ}
 use Rattle.rational.specs.Sum.{sum_to}
-use Rattle.rational.proofs.Decide.{le_test-true}
+use Rattle.rational.proofs.Decide.{le_test-true, eq_ℚ-decides}
 use Rattle.rational.proofs.Field.{le-add_left}
 use Rattle.rational.proofs.Fractions.{equal_by_parts}
 use Rattle.rational.proofs.RationalRing.{+ℚ_assoc, +ℚ-zero}
 use Rattle.rational.proofs.Rules.{zero-+ℚ}
 use Rattle.rational.proofs.Sums.{sum_to-first, sum_to-nonneg}
-use Rattle.frac128.specs.Fraction.{eq_ℚ}
 use Rattle.frac128.specs.Steps.{AddFits}
 use Rattle.game_core.specs.declared.tree.Action.{Action}
 use Rattle.game_core.specs.Tree.{probability_at}
 use Rattle.written_trees.specs.Described.{AddUpToOne, IsFirstList}
 use Rattle.written_trees.specs.Building.{add_test, may_follow, adds_up, may_be_first, repeats_actions, repeats_payoffs}
-
--- two rationals are equal where their parts are
-pub eq_ℚ-Decides : (a b : ℚ) → Decides (eq_ℚ a b) (a ≡ b)
-eq_ℚ-Decides a b =
-    Decides-like (eq_ℚ a b) (λ h. equal_by_parts a b h.0 h.1) (λ e. (ap (λ (x : ℚ). x.num) e, ap (λ (x : ℚ). x.den) e)) (Decides-and (int_eq a.num b.num) (nat_eq a.den b.den) (Decides-int_eq a.num b.num) (Decides-eqb a.den b.den))
 
 -- the test of a sum that fits
 pub add_test-Decides : (a b : ℚ) → Decides (add_test a b) (AddFits a b)
@@ -87,7 +82,7 @@ EndWithOne-parts sum x actions h = (
 -- the test of probabilities that come after others
 adds_up_from : (sum : ℚ) (actions : List Action) → Decides (adds_up sum actions) (EndWithOne sum actions)
 adds_up_from sum [] =
-    Decides-like (eq_ℚ sum one_ℚ) (λ e. record { not_negative = All-nil IsNotNegative; additions_fit = λ a lt. absurd (omega arith); sum_is_one = +ℚ-zero sum ∙ e }) (λ h. sym (+ℚ-zero sum) ∙ h.sum_is_one) (eq_ℚ-Decides sum one_ℚ)
+    Decides-like (eq_ℚ sum one_ℚ) (λ e. record { not_negative = All-nil IsNotNegative; additions_fit = λ a lt. absurd (omega arith); sum_is_one = +ℚ-zero sum ∙ e }) (λ h. sym (+ℚ-zero sum) ∙ h.sum_is_one) (eq_ℚ-decides sum one_ℚ)
 adds_up_from sum (x ∷ actions) =
     Decides-like (adds_up sum (x ∷ actions)) (λ h. EndWithOne-cons sum x actions h.0.0 h.0.1.0 h.1) parts (Decides-and _ _ (may_follow-Decides sum x.prob) (adds_up_from (sum +ℚ x.prob) actions))
   where
@@ -122,9 +117,9 @@ may_be_first-Decides (Some i) actions = (λ e. tt, λ h. refl)
 -- the test of a later list of actions
 pub repeats_actions-Decides : (actions : List Action) (list : Option (List Action)) → Decides (repeats_actions actions list) (IfSome list (λ list. map (λ action. action.prob) list ≡ map (λ action. action.prob) actions))
 repeats_actions-Decides actions None = (λ e. tt, λ h. refl)
-repeats_actions-Decides actions (Some list) = slice_eq-Decides eq_ℚ-Decides (map (λ action. action.prob) list) (map (λ action. action.prob) actions) _ refl
+repeats_actions-Decides actions (Some list) = slice_eq-Decides eq_ℚ-decides (map (λ action. action.prob) list) (map (λ action. action.prob) actions) _ refl
 
 -- the test of later payoffs
 pub repeats_payoffs-Decides : (payoffs : List ℚ) (list : Option (List ℚ)) → Decides (repeats_payoffs payoffs list) (IfSome list (λ list. list ≡ payoffs))
 repeats_payoffs-Decides payoffs None = (λ e. tt, λ h. refl)
-repeats_payoffs-Decides payoffs (Some list) = slice_eq-Decides eq_ℚ-Decides list payoffs _ refl
+repeats_payoffs-Decides payoffs (Some list) = slice_eq-Decides eq_ℚ-decides list payoffs _ refl

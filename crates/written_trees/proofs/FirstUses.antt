@@ -6,13 +6,9 @@ use Rattle.std.proofs.lemmas.List.{append-nil, map-append}
 use Rattle.std.proofs.lemmas.List.Elements.{filter-append}
 use Rattle.std.proofs.lemmas.List.Sums.{fold-append}
 use Rattle.std.proofs.lemmas.Option.{slice_get-map}
+use Rattle.std.proofs.Math.Bool.{or_assoc, or-false}
 use Rattle.indexmap.specs.IndexSet.{insert_key, insert_all}
-use Rattle.written_trees.proofs.InsertedKeys.{AreDistinct, AreDistinct-insert_all, any_inserted, insert_key-known, insert_key-new, eq_self, eq_comm, or_false, or_true, slice_get-none, slice_get-found, position-kept, position-inserted, map-others, map-one}
-
--- `or` is associative
-or_assoc : (a b c : Bool) → ((a || b) || c) ≡ (a || (b || c))
-or_assoc true b c = refl
-or_assoc false b c = refl
+use Rattle.written_trees.proofs.InsertedKeys.{AreDistinct, AreDistinct-insert_all, any_inserted, insert_key-known, insert_key-new, eq_self, eq_comm, or_true, slice_get-none, slice_get-found, position-kept, position-inserted, map-others, map-one}
 
 -- ---- a filter and its test
 module _ {X : Type 0} (p : X → Bool) where
@@ -57,7 +53,7 @@ module _ {K U : Type 0} (eq : K → K → Bool) (key : U → K) (decides : (a b 
 
   -- a key is there where it was before, or where a use has it
   any_inserted_from : (ks : List K) (k : K) (uses : List (ℕ × U)) → list_any (eq k) (insert_all eq ks (map (λ x. key x.1) uses)) ≡ (list_any (eq k) ks || list_any (λ x. eq k (key x.1)) uses)
-  any_inserted_from ks k [] = sym (or_false (list_any (eq k) ks))
+  any_inserted_from ks k [] = sym (or-false (list_any (eq k) ks))
   any_inserted_from ks k (x ∷ uses) =
       any_inserted_from (insert_key eq ks (key x.1)) k uses
       ∙ ap (λ b. b || list_any (λ x. eq k (key x.1)) uses) (any_inserted eq decides ks (key x.1) k)

@@ -4,12 +4,8 @@ use Rattle.std.specs.List.{position_or_len, list_any}
 use Rattle.std.proofs.lemmas.Bool.{cases_Bool}
 use Rattle.std.proofs.lemmas.List.Folds.{list_any-append, position_or_len_push}
 use Rattle.std.proofs.lemmas.Option.{slice_get_past}
+use Rattle.std.proofs.Math.Bool.{or-false}
 use Rattle.indexmap.specs.IndexSet.{insert_key, insert_all}
-
--- `or` with a test that fails
-pub or_false : (b : Bool) → (b || false) ≡ b
-or_false true = refl
-or_false false = refl
 
 -- `or` with a test that passes
 pub or_true : (b : Bool) → (b || true) ≡ true
@@ -90,9 +86,9 @@ module _ {K : Type 0} (eq : K → K → Bool) (decides : (a b : K) → Decides (
   any_inserted ks x k = elim (cases_Bool (list_any (eq x) ks)) [
     | inl h ↦ elim (cases_Bool (eq k x)) [
       | inl e ↦ rw (insert_key-known ks x h, e, or_true) (ap (λ y. list_any (eq y) ks) ((decides k x).0 e) ∙ h)
-      | inr e ↦ rw (insert_key-known ks x h, e, or_false) refl
+      | inr e ↦ rw (insert_key-known ks x h, e, or-false) refl
     ]
-    | inr h ↦ rw (insert_key-new ks x h, list_any-append (eq k) ks (x ∷ []), or_false) refl
+    | inr h ↦ rw (insert_key-new ks x h, list_any-append (eq k) ks (x ∷ []), or-false) refl
   ]
 
   -- the places of the keys that were there stay

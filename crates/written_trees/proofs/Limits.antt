@@ -1,11 +1,11 @@
 -- The limits are seen where they are.
 use Rattle.std.proofs.Common.{◌≡◌, ℕ, suc, ◌<◌, ◌≤◌, nat_lt, nat_le, Bool, true, false, cond, List, [], ◌∷◌, length, Option, Some, None, refl, subst, arith}
 use Rattle.std.proofs.lemmas.Bool.Decides.{nat_tests}
+use Rattle.std.proofs.lemmas.Option.{same_Some}
 use Rattle.game_core.specs.declared.tree.Node.{Node}
 use Rattle.game_core.specs.declared.too_large.What.{What}
 use Rattle.game_core.specs.declared.too_large.What.TheVariants.{Nodes, Depth}
 use Rattle.game_core.specs.Tree.{GameTree, Place, most_nodes, most_depth}
-use Rattle.file_parts.proofs.Options.{some_same}
 use Rattle.written_trees.specs.Described.{LiesAt}
 use Rattle.written_trees.specs.Building.{Branching, Begun, passed_at, free_places, take_place, tree_begun}
 use Rattle.written_trees.specs.Laws.{PassesAt, LimitsAreExact}
@@ -44,11 +44,11 @@ module _ (title : List ℕ) (players : List (List ℕ)) (begun : Begun) (h : IsS
       go : (v w : Bool) → nat_le most_nodes (length begun.nodes) ≡ v → nat_lt most_depth b.depth ≡ w → cond v (Some Nodes) (cond w (Some Depth) None) ≡ Some what → PassesAt tree ((b.node, b.next) ∷ more) what
       go true w p q is =
           let full : most_nodes ≤ length begun.nodes = grind (arith, nat_tests) in
-          subst (PassesAt tree ((b.node, b.next) ∷ more)) (some_same Nodes what is) (omega (arith, h.few_nodes), b.depth, lies_at tree b.node b.next b.depth more are.0.hangs)
+          subst (PassesAt tree ((b.node, b.next) ∷ more)) (same_Some Nodes what is) (omega (arith, h.few_nodes), b.depth, lies_at tree b.node b.next b.depth more are.0.hangs)
       go false true p q is =
           let deep : most_depth < b.depth = grind (arith, nat_tests) in
           let depth : b.depth ≡ suc most_depth = omega (arith, hangs_few begun.nodes b.node b.depth h.lie are.0.hangs) in
-          subst (PassesAt tree ((b.node, b.next) ∷ more)) (some_same Depth what is) (grind (arith, nat_tests), lies_at tree b.node b.next (suc most_depth) more (rw depth at are.0.hangs))
+          subst (PassesAt tree ((b.node, b.next) ∷ more)) (same_Some Depth what is) (grind (arith, nat_tests), lies_at tree b.node b.next (suc most_depth) more (rw depth at are.0.hangs))
       go false false p q is = cc
 
   -- and the other way round

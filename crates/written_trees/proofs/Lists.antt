@@ -1,7 +1,7 @@
 -- Lists with one more element at the end.
 use Rattle.std.proofs.Common.{◌≡◌, ℕ, zero, suc, ◌+◌, List, [], ◌∷◌, ◌++◌, length, map, slice_set, slice_get, Some, None, ◌⊎◌, Bool, true, false, cond, not, one-add, inl, inr, refl, sym, ap, ◌∙◌, subst, append_assoc, append-nil, arith}
 use Rattle.std.specs.List.{position_or_len}
-use Rattle.file_parts.proofs.Options.{some_same}
+use Rattle.std.proofs.lemmas.Option.{same_Some}
 
 -- what holds of the empty list, and of a list with one more element at the end, holds of each list
 pub at_end : {A : Type 0} (P : List A → Type 0) → P [] → ((front : List A) (one : A) → P front → P (front ++ one ∷ [])) → (list : List A) → P list
@@ -17,14 +17,9 @@ slice_get-longer [] ys k x e = cc
 slice_get-longer (z ∷ xs) ys zero x e = e
 slice_get-longer (z ∷ xs) ys (suc k) x e = slice_get-longer xs ys k x e
 
--- the element at the end
-pub slice_get-end : {A : Type 0} (xs : List A) (x : A) → slice_get (xs ++ x ∷ []) (length xs) ≡ Some x
-slice_get-end [] x = refl
-slice_get-end (z ∷ xs) x = slice_get-end xs x
-
 -- an element stood there before, or is the one at the end
 pub slice_get-push_cases : {A : Type 0} (xs : List A) (y : A) (k : ℕ) (x : A) → slice_get (xs ++ y ∷ []) k ≡ Some x → (slice_get xs k ≡ Some x) ⊎ ((k ≡ length xs) × (x ≡ y))
-slice_get-push_cases [] y zero x e = inr (refl, sym (some_same _ _ e))
+slice_get-push_cases [] y zero x e = inr (refl, sym (same_Some _ _ e))
 slice_get-push_cases [] y (suc k) x e = cc
 slice_get-push_cases (z ∷ xs) y zero x e = inl e
 slice_get-push_cases (z ∷ xs) y (suc k) x e = elim (slice_get-push_cases xs y k x e) [
@@ -35,7 +30,7 @@ slice_get-push_cases (z ∷ xs) y (suc k) x e = elim (slice_get-push_cases xs y 
 -- an element stood there before a write, or is what was written
 pub slice_get-set_cases : {A : Type 0} (xs : List A) (i : ℕ) (y : A) (k : ℕ) (x : A) → slice_get (slice_set xs i y) k ≡ Some x → ((k ≡ i → ⊥) × (slice_get xs k ≡ Some x)) ⊎ ((k ≡ i) × (x ≡ y))
 slice_get-set_cases [] i y k x e = cc
-slice_get-set_cases (z ∷ xs) zero y zero x e = inr (refl, sym (some_same _ _ e))
+slice_get-set_cases (z ∷ xs) zero y zero x e = inr (refl, sym (same_Some _ _ e))
 slice_get-set_cases (z ∷ xs) zero y (suc k) x e = inl (λ q. absurd (omega arith), e)
 slice_get-set_cases (z ∷ xs) (suc i) y zero x e = inl (λ q. absurd (omega arith), e)
 slice_get-set_cases (z ∷ xs) (suc i) y (suc k) x e = elim (slice_get-set_cases xs i y k x e) [
@@ -46,7 +41,7 @@ slice_get-set_cases (z ∷ xs) (suc i) y (suc k) x e = elim (slice_get-set_cases
 -- a function that does not see a write
 pub map-set_same : {A B : Type 0} (f : A → B) (xs : List A) (i : ℕ) (x y : A) → slice_get xs i ≡ Some x → f y ≡ f x → map f (slice_set xs i y) ≡ map f xs
 map-set_same f [] i x y e h = refl
-map-set_same f (z ∷ xs) zero x y e h = ap (λ v. v ∷ map f xs) (h ∙ ap f (sym (some_same z x e)))
+map-set_same f (z ∷ xs) zero x y e h = ap (λ v. v ∷ map f xs) (h ∙ ap f (sym (same_Some z x e)))
 map-set_same f (z ∷ xs) (suc i) x y e h = ap (λ v. f z ∷ v) (map-set_same f xs i x y e h)
 
 -- one function after another

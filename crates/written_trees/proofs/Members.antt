@@ -3,6 +3,7 @@ use Rattle.std.proofs.Common.{◌≡◌, ℕ, suc, ◌+◌, ◌<◌, Bool, true,
 use Rattle.std.proofs.lemmas.Bool.Decides.{nat_tests}
 use Rattle.std.proofs.lemmas.List.Elements.{All-head, All-tail}
 use Rattle.std.proofs.lemmas.Option.{slice_get_within}
+use Rattle.lists.proofs.Elements.{test_in_front}
 use Rattle.game_core.specs.declared.tree.Node.{Node}
 use Rattle.game_core.specs.Tree.{IsWithin, is_set, members_from}
 use Rattle.written_trees.specs.Building.{BegunSet}
@@ -12,11 +13,6 @@ use Rattle.written_trees.proofs.Lists.{slice_get-push_cases, slice_get-set_cases
 abbrev pub NameSets : ℕ → List Node → Type 0
 NameSets n nodes = All (λ node. IsWithin n node.set) nodes
 
--- a number that may stand in front
-in_front : (v : Bool) (k : ℕ) (all front rest : List ℕ) → all ≡ front ++ rest → cond v (k ∷ all) all ≡ cond v (k ∷ front) front ++ rest
-in_front true k all front rest e = ap (λ v. k ∷ v) e
-in_front false k all front rest e = e
-
 -- the last node comes last
 members_from-push : (k s : ℕ) (nodes : List Node) (node : Node) → members_from k s (nodes ++ node ∷ []) ≡ members_from k s nodes ++ (cond (is_set s node.set) ((k + length nodes) ∷ []) [])
 members_from-push k s [] node =
@@ -24,7 +20,7 @@ members_from-push k s [] node =
     rw e refl
 members_from-push k s (one ∷ nodes) node =
     let e : k + suc (length nodes) ≡ suc k + length nodes = omega arith in
-    rw e (in_front (is_set s one.set) k _ _ _ (members_from-push (suc k) s nodes node))
+    rw e (test_in_front (is_set s one.set) k _ _ _ (members_from-push (suc k) s nodes node))
 
 -- a number is itself
 is_set-same : (s : ℕ) → is_set s (Some s) ≡ true

@@ -1,9 +1,9 @@
 -- What is described is built.
 use Rattle.std.proofs.Common.{◌≡◌, ℕ, ◌≤◌, List, [], ◌∷◌, ◌++◌, length, map, Some, refl, sym, ap, ap₂, ◌∙◌, length-append, arith}
 use Rattle.std.proofs.lemmas.List.{length-map}
+use Rattle.lists.specs.Options.{◌>>=◌}
 use Rattle.game_core.specs.declared.tree.Node.{Node}
 use Rattle.game_core.specs.Tree.{Place, IsWithin, LiesBelowRoot, most_nodes, most_depth}
-use Rattle.file_parts.specs.Reading.{◌>>=◌}
 use Rattle.written_trees.specs.Written.{WrittenNode}
 use Rattle.written_trees.specs.Described.{set_uses, outcome_uses, sets_of}
 use Rattle.written_trees.specs.Building.{BegunSet, Branching, Begun, nothing_begun, free_places, take_place, add_nodes, finished_set, tree_begun}

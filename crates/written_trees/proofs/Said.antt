@@ -1,11 +1,11 @@
 -- What uses say, first and later.
 use Rattle.std.proofs.Common.{◌≡◌, Bool, true, false, List, [], ◌∷◌, ◌++◌, Option, Some, None, Decides, All, true≢false, if◌then◌else◌, refl, sym}
 use Rattle.std.proofs.lemmas.List.Elements.{All-pop}
-use Rattle.file_parts.specs.Reading.{or_else}
+use Rattle.std.specs.Option.{option_or}
 use Rattle.written_trees.specs.Described.{first_some}
 
 -- what one more use says first
-pub first_some-push : {A : Type 0} (said : List (Option A)) (x : Option A) → first_some (said ++ x ∷ []) ≡ or_else (first_some said) x
+pub first_some-push : {A : Type 0} (said : List (Option A)) (x : Option A) → first_some (said ++ x ∷ []) ≡ option_or (first_some said) x
 first_some-push [] None = refl
 first_some-push [] (Some y) = refl
 first_some-push (None ∷ said) x = first_some-push said x

@@ -2,10 +2,10 @@
 use Rattle.std.proofs.Common.{◌≡◌, ℕ, suc, ◌+◌, ◌<◌, ◌≤◌, List, [], ◌∷◌, ◌++◌, length, map, slice_set, slice_get, get_or, Option, Some, None, option_map, refl, sym, ap, ◌∙◌, length-append, length-set, append-nil, arith}
 use Rattle.std.proofs.lemmas.List.{map-append, length-map, get_or_append_left}
 use Rattle.std.proofs.lemmas.List.Elements.{All-weaker, All-push}
-use Rattle.std.proofs.lemmas.Option.{slice_get_within}
+use Rattle.std.proofs.lemmas.Option.{slice_get_within, same_Some}
+use Rattle.lists.proofs.Options.{bind_some, chosen}
 use Rattle.game_core.specs.declared.tree.Node.{Node}
 use Rattle.game_core.specs.Tree.{IsWithin, action_count}
-use Rattle.file_parts.proofs.Options.{bind_some, chosen, some_same}
 use Rattle.written_trees.specs.Written.{SetUse}
 use Rattle.written_trees.specs.Described.{key_of}
 use Rattle.written_trees.specs.Building.{BegunSet, set_place, may_be_first, repeats_actions, new_set, used_set, with_use, use_set, use_some_set, begun_count, finished_set}
@@ -68,14 +68,14 @@ grows-use k sets others used e = go (slice_get sets (set_place sets (key_of used
         let a = bind_some used.actions _ others h in
         let c = chosen (may_be_first used.owner a.0) (Some (sets ++ new_set k used a.0 ∷ [])) others a.2 in
         let place : set_place sets (key_of used) ≡ length sets = position_past _ sets none in
-        rw (place, ← some_same _ _ c.1) (grows-new k sets (new_set k used a.0) refl)
+        rw (place, ← same_Some _ _ c.1) (grows-new k sets (new_set k used a.0) refl)
     go (Some set) there h =
         let c = chosen (repeats_actions set.actions used.actions) _ others h in
-        rw (← some_same _ _ c.1) (grows-again k sets (set_place sets (key_of used)) set (used_set k used set) there refl refl)
+        rw (← same_Some _ _ c.1) (grows-again k sets (set_place sets (key_of used)) set (used_set k used set) there refl refl)
 
 -- what a node makes of the sets
 pub grows : (k : ℕ) (sets others : List BegunSet) (used : Option SetUse) → use_some_set k sets used ≡ Some others → GrowsTo k sets (used_number sets used) others
-grows k sets others None e = rw (← some_same _ _ e) (grows-none k sets)
+grows k sets others None e = rw (← same_Some _ _ e) (grows-none k sets)
 grows k sets others (Some used) e = grows-use k sets others used e
 
 -- a set keeps the number of its actions

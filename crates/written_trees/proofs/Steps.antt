@@ -1,12 +1,13 @@
 -- Building, a node at a time from the end.
 use Rattle.std.proofs.Common.{◌≡◌, ◌<◌, ◌≤◌, nat_lt, nat_le, Bool, true, false, cond, List, [], ◌∷◌, ◌++◌, length, Option, Some, None, option_map, refl, sym, ◌∙◌, subst, arith}
 use Rattle.std.proofs.lemmas.Bool.Decides.{nat_tests}
+use Rattle.std.proofs.lemmas.Option.{same_Some}
+use Rattle.lists.specs.Options.{◌>>=◌}
+use Rattle.lists.proofs.Options.{bind_some}
 use Rattle.game_core.specs.declared.tree.Node.{Node}
 use Rattle.game_core.specs.declared.too_large.What.{What}
 use Rattle.game_core.specs.declared.too_large.What.TheVariants.{Nodes, Depth}
 use Rattle.game_core.specs.Tree.{most_nodes, most_depth}
-use Rattle.file_parts.specs.Reading.{◌>>=◌}
-use Rattle.file_parts.proofs.Options.{bind_some, some_same}
 use Rattle.written_trees.specs.Written.{WrittenNode}
 use Rattle.written_trees.specs.Described.{key_of, kind_of_use}
 use Rattle.written_trees.specs.Building.{set_place, outcome_place, BegunSet, BegunOutcome, Branching, Begun, nothing_begun, use_some_set, use_some_outcome, with_node, add_at, add_node, passed_at, passed, within_limits, add_nodes}
@@ -84,7 +85,7 @@ room_again begun b rest h =
     rw (p, q) refl
 
 -- nothing was passed
-allowed : {A : Type 0} (p : Option What) (o : Option A) (x : A) → within_limits p o ≡ Some x → (p ≡ None) × (o ≡ Some x)
+pub allowed : {A : Type 0} (p : Option What) (o : Option A) (x : A) → within_limits p o ≡ Some x → (p ≡ None) × (o ≡ Some x)
 allowed None o x e = (refl, e)
 allowed (Some what) o x e = cc
 
@@ -99,7 +100,7 @@ step_is begun one next e = go begun.branchings refl e
         let r = room begun b rest p.0 in
         let s = bind_some (use_some_set (length begun.nodes) begun.sets one.set) _ next p.1 in
         let o = bind_some (use_some_outcome begun.outcomes one.outcome) _ next s.2 in
-        (record { first = b; rest = rest; sets = s.0; outcomes = o.0; branchings_are = is; more_nodes = r.0; few_edges = r.1; sets_are = s.1; outcomes_are = o.1 }, some_same _ _ o.2)
+        (record { first = b; rest = rest; sets = s.0; outcomes = o.0; branchings_are = is; more_nodes = r.0; few_edges = r.1; sets_are = s.1; outcomes_are = o.1 }, same_Some _ _ o.2)
 
 -- and each step adds a node
 pub step_again : (begun : Begun) (one : WrittenNode) (s : Step begun one) → next_node begun one ≡ Some (grown begun one s)
@@ -108,7 +109,7 @@ step_again begun one s = rw (s.branchings_are, room_again begun s.first s.rest (
 -- what holds at first, and after each step, holds of what was built
 pub built_so : (P : List WrittenNode → Begun → Type 0) → P [] nothing_begun → ((written : List WrittenNode) (begun : Begun) (one : WrittenNode) (s : Step begun one) → P written begun → P (written ++ one ∷ []) (grown begun one s))
     → (written : List WrittenNode) (begun : Begun) → add_nodes nothing_begun written ≡ Some begun → P written begun
-built_so P none more = at_end (λ written. (begun : Begun) → add_nodes nothing_begun written ≡ Some begun → P written begun) (λ begun e. subst (P []) (some_same _ _ e) none) last
+built_so P none more = at_end (λ written. (begun : Begun) → add_nodes nothing_begun written ≡ Some begun → P written begun) (λ begun e. subst (P []) (same_Some _ _ e) none) last
   where
     last : (written : List WrittenNode) (one : WrittenNode) → ((begun : Begun) → add_nodes nothing_begun written ≡ Some begun → P written begun) → (begun : Begun) → add_nodes nothing_begun (written ++ one ∷ []) ≡ Some begun → P (written ++ one ∷ []) begun
     last written one h begun e =

@@ -2,16 +2,16 @@
 use Rattle.std.specs.Prelude.{ℕ, zero, suc, ◌-◌, ◌^◌, ◌&&◌, if◌then◌else◌, nat_abs, nat_eq, nat_lt, nat_le, Bool, true, List, [], ◌∷◌, ◌++◌, length, map, slice_get, slice_set, slice_index_or, option_map, ◌+ℤ◌, Option, Some, None}
 use Rattle.std.specs.List.{position_or_len, flat_map}
 use Rattle.std.specs.Cmp.Lexicographic.{pointwise}
+use Rattle.std.specs.Option.{option_or}
+use Rattle.lists.specs.Options.{◌>>=◌}
 use Rattle.rational.specs.Rational.{ℚ, ◌+ℚ◌, zero_ℚ, one_ℚ}
-use Rattle.rational.specs.Tests.{le_test}
-use Rattle.frac128.specs.Fraction.{eq_ℚ}
+use Rattle.rational.specs.Tests.{le_test, eq_ℚ}
 use Rattle.frac128.specs.Steps.{num_beside}
 use Rattle.game_core.specs.declared.tree.Action.{Action}
 use Rattle.game_core.specs.declared.tree.Node.{Node}
 use Rattle.game_core.specs.declared.too_large.What.{What}
 use Rattle.game_core.specs.declared.too_large.What.TheVariants.{Nodes, Depth}
 use Rattle.game_core.specs.Tree.{GameTree, InformationSet, TreeOutcome, Place, most_nodes, most_depth}
-use Rattle.file_parts.specs.Reading.{◌>>=◌, or_else}
 use Rattle.written_trees.specs.Written.{SetUse, OutcomeUse, WrittenNode}
 use Rattle.written_trees.specs.Described.{SetKey, key_of, same_set, or_empty, kind_of_use}
 
@@ -61,7 +61,7 @@ abbrev pub new_set : ℕ → SetUse → List Action → BegunSet
 new_set k used actions = record { owner = used.owner; label = used.label; name = used.name; actions = actions; members = k ∷ [] }
 
 abbrev pub used_set : ℕ → SetUse → BegunSet → BegunSet
-used_set k used set = record { owner = set.owner; label = set.label; name = or_else set.name used.name; actions = set.actions; members = set.members ++ k ∷ [] }
+used_set k used set = record { owner = set.owner; label = set.label; name = option_or set.name used.name; actions = set.actions; members = set.members ++ k ∷ [] }
 
 -- the sets after the set with this place is used again, or a new one is made where there is none
 abbrev pub with_use : ℕ → List BegunSet → SetUse → Option BegunSet → Option (List BegunSet)
@@ -93,7 +93,7 @@ abbrev pub new_outcome : OutcomeUse → List ℚ → BegunOutcome
 new_outcome used payoffs = record { label = used.label; name = used.name; payoffs = payoffs }
 
 abbrev pub used_outcome : OutcomeUse → BegunOutcome → BegunOutcome
-used_outcome used outcome = record { label = outcome.label; name = or_else outcome.name used.name; payoffs = outcome.payoffs }
+used_outcome used outcome = record { label = outcome.label; name = option_or outcome.name used.name; payoffs = outcome.payoffs }
 
 abbrev pub with_outcome_use : List BegunOutcome → OutcomeUse → Option BegunOutcome → Option (List BegunOutcome)
 with_outcome_use outcomes used None = used.payoffs >>= λ payoffs. Some (outcomes ++ new_outcome used payoffs ∷ [])

@@ -1,7 +1,8 @@
 use Rattle.std.proofs.Common.{◌≡◌, ◌<◌, ◌+◌, ◌*◌, ◌-◌, ◌∙◌, sym, refl, length, map, drop, get_or, arith, rules}
 use Rattle.std.proofs.lemmas.List.{length-map}
+use Rattle.game_theory.proofs.ProfileNumbers.{length-profile}
 use Rattle.game_theory.specs.Profiles.{number_of, profile_count}
-use Rattle.game_core.proofs.Numbers.{IsProfile-length, number_of-before, number_of-end, length_at}
+use Rattle.game_core.proofs.Numbers.{number_of-before, number_of-end, length_at}
 use Rattle.game_core.proofs.table.profile_number.Goals as goal
 
 pub loop-place-init : goal.loop-place-init
@@ -9,12 +10,12 @@ loop-place-init c = number_of-end (map length (map (λ v. v.items) c.args.strate
 
 pub offset_bounds-strategies-place : goal.offset_bounds-strategies-place
 offset_bounds-strategies-place c =
-    let long = simp length-map at (IsProfile-length (map length (map (λ v. v.items) c.args.strategies.now)) c.args.profile.now c.requires.profile) in
+    let long = simp length-map at (length-profile (map length (map (λ v. v.items) c.args.strategies.now)) c.args.profile.now c.requires.profile) in
     search rules
 
 pub bounds-strategies-place : goal.bounds-strategies-place
 bounds-strategies-place c =
-    let long = simp length-map at (IsProfile-length (map length (map (λ v. v.items) c.args.strategies.now)) c.args.profile.now c.requires.profile) in
+    let long = simp length-map at (length-profile (map length (map (λ v. v.items) c.args.strategies.now)) c.args.profile.now c.requires.profile) in
     omega arith
 
 -- the strategies before the place, with their number's bound
@@ -24,7 +25,7 @@ before : (c : goal.After-len) →
     (number ≡ number_of (drop (c.loop-place.place - 1) counts) (drop (c.loop-place.place - 1) c.args.profile.now)) × (number < profile_count counts)
 before c =
     let counts = map length (map (λ v. v.items) c.args.strategies.now) in
-    let long = simp length-map at (IsProfile-length counts c.args.profile.now c.requires.profile) in
+    let long = simp length-map at (length-profile counts c.args.profile.now c.requires.profile) in
     let inside : c.loop-place.place - 1 < length c.args.strategies.now = omega arith in
     let strategies = length_at (λ v. v.items) c.args.strategies.now (c.loop-place.place - 1) c.index-strategies-place.result inside c.index-strategies-place.is in
     let player : c.len.result ≡ length c.index-strategies-place.result.items = omega arith in

@@ -1,8 +1,9 @@
 use Rattle.std.proofs.Common.{◌∙◌, ◌*ℤ◌, ap, ap₂, pos, nat_abs, int_cmp}
 use Rattle.std.specs.Int.{w128}
 use Rattle.std.proofs.lemmas.Int.{to_z-of_z}
+use Rattle.rational.proofs.Parts.{pos_nat_abs}
 use Rattle.whole_rows.proofs.Fitting.{read_back}
-use Rattle.whole_rows.proofs.Quotients.{shortened_back, size_back}
+use Rattle.whole_rows.proofs.Quotients.{shortened_back}
 use Rattle.whole_rows.proofs.arithmetic.compare_quotients.Goals as goal
 
 pub returns-then-is_short-4 : goal.returns-then-is_short-4
@@ -14,5 +15,5 @@ returns-then-is_short-4 c =
 pub returns : goal.returns
 returns c =
     c.cmp_signed_quotients.ensures ∙ ap₂ int_cmp
-    (ap₂ (λ x y. x *ℤ y) (to_z-of_z w128 c.args.n c.ranges.n) (ap pos (c.unsigned_abs-2.ensures.value ∙ ap nat_abs (to_z-of_z w128 c.args.d c.ranges.d)) ∙ size_back c.args.d c.requires.right))
-    (ap₂ (λ x y. x *ℤ y) (to_z-of_z w128 c.args.m c.ranges.m) (ap pos (c.unsigned_abs.ensures.value ∙ ap nat_abs (to_z-of_z w128 c.args.b c.ranges.b)) ∙ size_back c.args.b c.requires.left))
+    (ap₂ (λ x y. x *ℤ y) (to_z-of_z w128 c.args.n c.ranges.n) (ap pos (c.unsigned_abs-2.ensures.value ∙ ap nat_abs (to_z-of_z w128 c.args.d c.ranges.d)) ∙ pos_nat_abs c.args.d c.requires.right))
+    (ap₂ (λ x y. x *ℤ y) (to_z-of_z w128 c.args.m c.ranges.m) (ap pos (c.unsigned_abs.ensures.value ∙ ap nat_abs (to_z-of_z w128 c.args.b c.ranges.b)) ∙ pos_nat_abs c.args.b c.requires.left))

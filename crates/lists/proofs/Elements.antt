@@ -1,0 +1,33 @@
+-- Lists and their elements.
+use Rattle.std.proofs.Common.{◌≡◌, ℕ, zero, suc, ◌<◌, ◌⊎◌, inl, inr, Bool, true, false, cond, Option, Some, List, [], ◌∷◌, ◌++◌, length, get_or, set, slice_get, replicate, refl, ap, arith}
+use Rattle.std.proofs.lemmas.Bool.{cases_lt}
+use Rattle.std.proofs.lemmas.List.{get_or-replicate, get_or_past, length-replicate}
+
+-- the element at a place of a list
+pub element : {A : Type 0} (xs : List A) (k : ℕ) → k < length xs → (x : A) × (slice_get xs k ≡ Some x)
+element [] k below = absurd (omega arith)
+element (x ∷ xs) zero below = (x, refl)
+element (x ∷ xs) (suc k) below = element xs k (omega arith)
+
+-- the element that was put at the end
+pub slice_get-end : {A : Type 0} (xs : List A) (x : A) → slice_get (xs ++ x ∷ []) (length xs) ≡ Some x
+slice_get-end [] x = refl
+slice_get-end (z ∷ xs) x = slice_get-end xs x
+
+-- each element of copies of one value is the value, and so is what stands past the end
+pub get_or-copies : {A : Type 0} (n k : ℕ) (x : A) → get_or (replicate n x) k x ≡ x
+get_or-copies n k x = elim (cases_lt k n) [
+  | inl below ↦ get_or-replicate n k x x below
+  | inr past ↦ get_or_past (replicate n x) k x (omega (arith, length-replicate n x))
+]
+
+-- of two numbers set at one place the later stays
+pub set-set : (xs : List ℕ) (i a b : ℕ) → set (set xs i a) i b ≡ set xs i b
+set-set [] i a b = refl
+set-set (x ∷ xs) zero a b = refl
+set-set (x ∷ xs) (suc i) a b = ap (λ v. x ∷ v) (set-set xs i a b)
+
+-- a number that a test puts in front leaves the list's end as it is
+pub test_in_front : (b : Bool) (s : ℕ) (xs ys zs : List ℕ) → xs ≡ ys ++ zs → cond b (s ∷ xs) xs ≡ cond b (s ∷ ys) ys ++ zs
+test_in_front true s xs ys zs same = ap (λ v. s ∷ v) same
+test_in_front false s xs ys zs same = same

@@ -1,0 +1,4 @@
+pub mod Elements
+pub mod Numbers
+pub mod Options
+pub mod Orders

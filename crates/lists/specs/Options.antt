@@ -1,0 +1,8 @@
+-- Options one after another.
+use Rattle.std.specs.Prelude.{Option, Some, None}
+
+infixl 10 ◌>>=◌
+-- what follows, where there is something
+abbrev pub ◌>>=◌ : {A B : Type 0} → Option A → (A → Option B) → Option B
+None >>= f = None
+(Some x) >>= f = f x
