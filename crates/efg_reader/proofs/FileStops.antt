@@ -10,11 +10,11 @@ use Rattle.game_core.specs.declared.too_large.TooLarge.{TooLarge}
 use Rattle.game_core.specs.declared.too_large.What.{What}
 use Rattle.game_core.specs.declared.too_large.What.TheVariants as what
 use Rattle.game_core.specs.Tree.{GameTree, IsTree}
-use Rattle.game_text.specs.TokenList.{TokenList, bare}
-use Rattle.game_text.specs.declared.token.Spanned.{Spanned}
-use Rattle.game_text.specs.declared.token.Token.{Token}
-use Rattle.game_text.specs.declared.token.Token.TheVariants.{Text, Right}
-use Rattle.game_text.specs.Tokens.{AreInPlace, IsShortToken}
+use Rattle.game_tokens.specs.TokenList.{TokenList, bare}
+use Rattle.game_tokens.specs.declared.token.Spanned.{Spanned}
+use Rattle.game_tokens.specs.declared.token.Token.{Token}
+use Rattle.game_tokens.specs.declared.token.Token.TheVariants.{Text, Right}
+use Rattle.game_tokens.specs.InPlace.{AreInPlace, IsShortToken}
 use Rattle.file_parts.specs.Parts.{braced_texts}
 use Rattle.file_parts.specs.Reading.{Refuses, title_at, names_at}
 use Rattle.file_parts.specs.declared.refusal.Refusal.{Refusal}

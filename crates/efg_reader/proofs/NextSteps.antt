@@ -3,7 +3,7 @@ use Rattle.std.proofs.Common.{◌≡◌, ℕ, suc, ◌+◌, ◌<◌, ◌≤◌, 
 use Rattle.std.proofs.lemmas.List.{length-set}
 use Rattle.std.proofs.lemmas.Option.{same_Some}
 use Rattle.lists.proofs.Options.{bind_some, chosen}
-use Rattle.game_text.specs.declared.token.Token.{Token}
+use Rattle.game_tokens.specs.declared.token.Token.{Token}
 use Rattle.written_trees.specs.Written.{SetUse, OutcomeUse, WrittenNode}
 use Rattle.written_trees.specs.Building.{Begun, BegunSet, BegunOutcome, with_use, use_some_set, with_outcome_use, use_some_outcome, set_place, outcome_place, may_be_first, repeats_actions, repeats_payoffs, used_set, new_set, used_outcome, new_outcome, add_node}
 use Rattle.written_trees.specs.Described.{key_of}

@@ -2,7 +2,7 @@
 use Rattle.std.proofs.Common.{◌≡◌, ℕ, List, [], ◌∷◌, length, Option, Some, None, option_map, refl, ◌∙◌}
 use Rattle.lists.specs.Options.{◌>>=◌}
 use Rattle.game_core.specs.declared.tree.Kind.{Kind}
-use Rattle.game_text.specs.declared.token.Token.{Token}
+use Rattle.game_tokens.specs.declared.token.Token.{Token}
 use Rattle.written_trees.specs.Written.{SetUse, OutcomeUse, WrittenNode}
 use Rattle.written_trees.specs.Described.{key_of, kind_of_use}
 use Rattle.written_trees.specs.Building.{Begun, BegunSet, BegunOutcome, Branching, use_some_set, use_some_outcome, set_place, outcome_place, add_at, add_node}

@@ -1,7 +1,7 @@
 -- Nodes as the loop reads them.
 use Rattle.std.proofs.Common.{◌≡◌, ℕ, zero, suc, ◌<◌, ◌≢◌, nat_eq, Bool, true, false, List, [], length, map, Result, Ok, Err, Option, Some, None, refl, sym, ap, ◌∙◌, arith}
 use Rattle.game_core.specs.declared.too_large.What.{What}
-use Rattle.game_text.specs.declared.token.Token.{Token}
+use Rattle.game_tokens.specs.declared.token.Token.{Token}
 use Rattle.std.specs.Prelude.{vec_len}
 use Rattle.std.proofs.lemmas.List.{length-map, length-reverse}
 use Rattle.file_parts.specs.Reading.{ends}

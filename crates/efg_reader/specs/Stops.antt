@@ -5,8 +5,8 @@ use Rattle.game_core.specs.Tree.{GameTree}
 use Rattle.game_core.specs.declared.too_large.TooLarge.{TooLarge}
 use Rattle.game_core.specs.declared.too_large.What.{What}
 use Rattle.game_core.specs.declared.too_large.What.TheVariants.{Nodes, Depth}
-use Rattle.game_text.specs.TokenList.{TokenList, bare}
-use Rattle.game_text.specs.declared.token.Token.{Token}
+use Rattle.game_tokens.specs.TokenList.{TokenList, bare}
+use Rattle.game_tokens.specs.declared.token.Token.{Token}
 use Rattle.tree_files.specs.TreeFile.{IsTreeFile, PassesLimit}
 use Rattle.file_parts.specs.declared.refusal.Refusal.{Refusal}
 use Rattle.file_parts.specs.declared.refusal.Refusal.TheVariants as refusals

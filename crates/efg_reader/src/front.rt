@@ -5,7 +5,7 @@ ghost use Rattle.tree_files.specs.TreeReading.{front_at};
 
 use file_parts::{Refusal, behind_text, copied, names, title};
 use game_core::Name;
-use game_text::Spanned;
+use game_tokens::Spanned;
 use std::alloc::Global;
 use tree_uses::EfgKind;
 

@@ -10,7 +10,7 @@ ghost use Rattle.written_trees.specs.Building.{passed};
 use crate::builder::{Builder, Choice};
 use file_parts::{Refusal, ends, text, unfit, word};
 use game_core::{Kind, Name, What};
-use game_text::Spanned;
+use game_tokens::Spanned;
 use std::alloc::{AllocError, Global};
 use tree_uses::{EfgKind, Sets, begins_node, player, read_outcome, read_set};
 

@@ -3,8 +3,8 @@ ghost use Rattle.std.specs.Prelude.{◌≡◌, ◌<◌, ◌^◌, length, map, If
 ghost use Rattle.answers.specs.Answers.{Gives, IsSingleAs};
 ghost use Rattle.game_core.specs.Tree.{IsTree};
 ghost use Rattle.std.specs.List.{AllByRecursion};
-ghost use Rattle.game_text.specs.TokenList.{TokenList, bare};
-ghost use Rattle.game_text.specs.Tokens.{IsShortToken};
+ghost use Rattle.game_tokens.specs.TokenList.{TokenList, bare};
+ghost use Rattle.game_tokens.specs.InPlace.{IsShortToken};
 ghost use Rattle.written_trees.specs.Described.{or_empty};
 ghost use Rattle.written_trees.specs.Building.{finished_set, finished_outcome, tree_begun};
 ghost use Rattle.tree_uses.specs.Uses.{begun_set, begun_outcome};
@@ -18,7 +18,7 @@ use crate::front::{Front, read_front};
 use crate::nodes::{Stop, read_nodes};
 use file_parts::{Refusal, place};
 use game_core::{InfoSet, Name, Outcome, TooLarge, Tree, What};
-use game_text::Tokens;
+use game_tokens::Tokens;
 use std::alloc::{AllocError, Global};
 use tree_uses::{EfgKind, OutcomeBegun, SetBegun};
 

@@ -8,8 +8,8 @@ use Rattle.game_core.specs.Tree.{GameTree}
 use Rattle.game_core.specs.TreeGame.{game_of_tree}
 use Rattle.game_core.specs.declared.game.Game.{Game}
 use Rattle.game_core.specs.declared.game.Game.TheVariants.{Strategic, Extensive}
-use Rattle.game_text.specs.TokenList.{TokenList, bare}
-use Rattle.game_text.specs.Tokens.{IsShortToken}
+use Rattle.game_tokens.specs.TokenList.{TokenList, bare}
+use Rattle.game_tokens.specs.InPlace.{IsShortToken}
 use Rattle.game_text.specs.Stops.{tokens_of}
 use Rattle.game_text.proofs.Passes.{tokens_are_short}
 use Rattle.game_text.proofs.Single.{tokens_of-single}

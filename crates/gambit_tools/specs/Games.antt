@@ -3,10 +3,10 @@ use Rattle.std.specs.Prelude.{ℕ, ◌<◌, ◌≡◌, List, ◌∷◌, length, 
 use Rattle.answers.specs.Answers.{Answer, only, refuse_where, by_case, ◌>>=◌, ◌>>◌, refused_by}
 use Rattle.game_core.specs.declared.game.Game.{Game}
 use Rattle.game_core.specs.declared.game.Game.TheVariants.{Strategic, Extensive}
-use Rattle.game_text.specs.TokenList.{TokenList, bare}
+use Rattle.game_tokens.specs.TokenList.{TokenList, bare}
 use Rattle.game_text.specs.Stops.{tokens_of}
-use Rattle.game_text.specs.declared.token.Token.{Token}
-use Rattle.game_text.specs.declared.token.Token.TheVariants.{Word}
+use Rattle.game_tokens.specs.declared.token.Token.{Token}
+use Rattle.game_tokens.specs.declared.token.Token.TheVariants.{Word}
 use Rattle.nfg_reader.specs.Stops.{table_in}
 use Rattle.efg_reader.specs.Stops.{tree_in}
 use Rattle.gambit_tools.specs.Input.{most_bytes}

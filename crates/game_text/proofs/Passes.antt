@@ -1,13 +1,15 @@
 -- One more token behind those that were read.
 use Rattle.std.proofs.Common.{◌≡◌, ℕ, ◌+◌, ◌<◌, ◌≤◌, List, [], ◌∷◌, ◌++◌, length, map, sym, ap, ◌∙◌, append_assoc, length-append, arith}
 use Rattle.std.specs.List.{AllByRecursion}
-use Rattle.number_text.specs.Numbers.{IsNumber, IsShort, NumberForm, Fraction, Decimal, value_of, IsWithinLimits}
+use Rattle.frac128.specs.Short.{IsShort}
+use Rattle.number_text.specs.Numbers.{IsNumber, NumberForm, Fraction, Decimal, value_of, IsWithinLimits}
 use Rattle.rational.specs.Rational.{ℚ}
-use Rattle.game_text.specs.TokenList.{TokenList, bare}
-use Rattle.game_text.specs.declared.token.Spanned.{Spanned}
-use Rattle.game_text.specs.declared.token.Token.{Token}
-use Rattle.game_text.specs.declared.token.Token.TheVariants.{Left, Right, Comma, Text, Word, Number}
-use Rattle.game_text.specs.Tokens.{IsBlank, IsTokenAt, AreTokens, AreTokensBefore, AreInPlace, IsShortToken}
+use Rattle.game_tokens.specs.TokenList.{TokenList, bare}
+use Rattle.game_tokens.specs.declared.token.Spanned.{Spanned}
+use Rattle.game_tokens.specs.declared.token.Token.{Token}
+use Rattle.game_tokens.specs.declared.token.Token.TheVariants.{Left, Right, Comma, Text, Word, Number}
+use Rattle.game_text.specs.Tokens.{IsBlank, IsTokenAt, AreTokens, AreTokensBefore}
+use Rattle.game_tokens.specs.InPlace.{AreInPlace, IsShortToken}
 
 -- bytes that begin with blanks
 abbrev pub BlanksBefore : List ℕ → List ℕ → Type 0

@@ -5,10 +5,10 @@ use Rattle.std.specs.List.{AllByRecursion, prefix_len}
 use Rattle.answers.specs.Answers.{IsSingle}
 use Rattle.rational.specs.Rational.{ℚ}
 use Rattle.number_text.specs.Numbers.{NumberForm, IsNumber, IsTooLarge, value_of, IsWithinLimits}
-use Rattle.game_text.specs.TokenList.{TokenList, token_parts}
-use Rattle.game_text.specs.declared.token.Spanned.{Spanned}
-use Rattle.game_text.specs.declared.token.Token.{Token}
-use Rattle.game_text.specs.declared.token.Token.TheVariants.{Left, Right, Comma, Text, Word, Number}
+use Rattle.game_tokens.specs.TokenList.{TokenList, token_parts}
+use Rattle.game_tokens.specs.declared.token.Spanned.{Spanned}
+use Rattle.game_tokens.specs.declared.token.Token.{Token}
+use Rattle.game_tokens.specs.declared.token.Token.TheVariants.{Left, Right, Comma, Text, Word, Number}
 use Rattle.game_text.specs.declared.reading.TextKind.{TextKind}
 use Rattle.game_text.specs.declared.reading.TextKind.TheVariants.{BadChar, OpenText, BadNumber, NumberTooLarge}
 use Rattle.game_text.specs.Tokens.{BeginsWith, IsBlank, IsRun, IsTokenAt, IsFaultAt, AreTokens, AreTokensBefore, IsFirstFault}

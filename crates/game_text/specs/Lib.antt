@@ -1,4 +1,3 @@
 pub mod Reading
 pub mod Stops
-pub mod TokenList
 pub mod Tokens

@@ -3,7 +3,7 @@ use Rattle.std.specs.Prelude.{ℕ, ◌<◌, ◌≡◌, ◌≢◌, Bool, if◌the
 use Rattle.std.specs.Char.{is_ascii_digit}
 use Rattle.number_text.specs.Numbers.{IsTooLarge, IsNoNumber}
 use Rattle.game_text.specs.Tokens.{IsTokenAt, IsFaultAt, IsBlank}
-use Rattle.game_text.specs.declared.token.Token.{Token}
+use Rattle.game_tokens.specs.declared.token.Token.{Token}
 use Rattle.game_text.specs.declared.reading.TextKind.{TextKind}
 use Rattle.game_text.specs.declared.reading.TextKind.TheVariants.{BadChar, OpenText, BadNumber, NumberTooLarge}
 use Rattle.game_text.specs.declared.reading.TextStop.{TextStop}

@@ -2,11 +2,11 @@
 use Rattle.std.specs.Prelude.{ℕ, ◌+◌, ◌<◌, ◌≤◌, ◌≡◌, ◌≢◌, ◌⊎◌, List, [], ◌∷◌, ◌++◌, length}
 use Rattle.std.specs.Char.{IsAsciiDigit}
 use Rattle.std.specs.List.{AllByRecursion}
-use Rattle.number_text.specs.Numbers.{IsShort, IsNumber, IsTooLarge, IsNoNumber}
-use Rattle.game_text.specs.TokenList.{TokenList}
-use Rattle.game_text.specs.declared.token.Spanned.{Spanned}
-use Rattle.game_text.specs.declared.token.Token.{Token}
-use Rattle.game_text.specs.declared.token.Token.TheVariants.{Left, Right, Comma, Text, Word, Number}
+use Rattle.number_text.specs.Numbers.{IsNumber, IsTooLarge, IsNoNumber}
+use Rattle.game_tokens.specs.TokenList.{TokenList}
+use Rattle.game_tokens.specs.declared.token.Spanned.{Spanned}
+use Rattle.game_tokens.specs.declared.token.Token.{Token}
+use Rattle.game_tokens.specs.declared.token.Token.TheVariants.{Left, Right, Comma, Text, Word, Number}
 use Rattle.game_text.specs.declared.reading.TextKind.{TextKind}
 use Rattle.game_text.specs.declared.reading.TextKind.TheVariants.{BadChar, OpenText, BadNumber, NumberTooLarge}
 
@@ -63,16 +63,6 @@ AreTokensBefore at bytes (spanned ∷ tokens) rest =
 pub record AreTokens (bytes : List ℕ) (tokens : TokenList) : Type 0 where
   pub in_order : AreTokensBefore 0 bytes tokens.list []
   pub to_the_end : tokens.length ≡ length bytes
-
--- a number of a token is short
-abbrev pub IsShortToken : Token → Type 0
-IsShortToken (Number value) = IsShort value
-IsShortToken _ = Unit {0}
-
--- the spans are in order, none ends behind the source's end, and numbers are short
-abbrev pub AreInPlace : ℕ → ℕ → List Spanned → Type 0
-AreInPlace from to [] = from ≤ to
-AreInPlace from to (spanned ∷ tokens) = (from ≤ spanned.start) × (spanned.start < spanned.end) × IsShortToken spanned.token × AreInPlace spanned.end to tokens
 
 -- a byte that begins no token
 pub record BeginsNoToken (b : ℕ) : Type 0 where

@@ -4,11 +4,10 @@
 mod reading;
 mod spans;
 mod text;
-mod token;
 
+pub use game_tokens::{Spanned, Token, Tokens};
 pub use number_text::{NumberFault, read_number};
 pub use reading::{TextFault, TextKind, TextStop, read_tokens, tokens_are_single};
-pub use token::{Spanned, Token, Tokens};
 
 #[cfg(test)]
 mod tests;

@@ -9,9 +9,9 @@ ghost use Rattle.game_text.specs.declared.reading.TextStop.TheVariants.{Fault, M
 
 use crate::spans::{bare_length, is_letter, without_blanks};
 use crate::text::{closing, text};
-use crate::token::{Spanned, Token, Tokens};
 use frac128::Frac;
 use game_core::Name;
+use game_tokens::{Spanned, Token, Tokens};
 use number_text::{NumberFault, read_number};
 use std::alloc::{AllocError, AllocFailed, Global};
 

@@ -7,5 +7,6 @@ mod reading;
 mod strategies;
 
 pub use reading::{
-    NfgFault, NfgKind, NfgStop, faults_are_single, files_have_one_table, read, tables_are_single,
+    NfgFault, NfgKind, NfgStop, faults_are_single, files_are_read, files_have_one_table, read,
+    tables_are_single,
 };

@@ -1,11 +1,12 @@
 // Reads a table from the tokens of a file.
-ghost use Rattle.std.specs.Prelude.{ℕ, ◌≡◌, ◌⊎◌, List, IfOk};
+ghost use Rattle.std.specs.Prelude.{ℕ, ◌≡◌, ◌⊎◌, List, Ok, IfOk};
 ghost use Rattle.answers.specs.Answers.{Gives, IsSingle};
 ghost use Rattle.game_core.specs.Table.{GameTable, IsTable};
-ghost use Rattle.game_text.specs.TokenList.{TokenList, bare};
-ghost use Rattle.game_text.specs.declared.token.Token.{Token as token};
+ghost use Rattle.game_tokens.specs.TokenList.{TokenList, bare};
+ghost use Rattle.game_tokens.specs.declared.token.Token.{Token as token};
 ghost use Rattle.nfg_reader.specs.TableFile.{IsTableFile};
 ghost use Rattle.nfg_reader.specs.Faults.{IsFile, IsFault};
+ghost use Rattle.nfg_reader.specs.TableParsing.{parse_table};
 ghost use Rattle.nfg_reader.specs.TableReading.{front_of, table_of};
 ghost use Rattle.nfg_reader.specs.Stops.{IsStopOf, table_in};
 ghost use Rattle.nfg_reader.specs.declared.reading.NfgStop.TheVariants.{Memory};
@@ -16,7 +17,7 @@ use crate::strategies::{profile_count, strategy_names};
 use file_parts::{Refusal, place};
 use frac128::Frac;
 use game_core::{Table, TooLarge, What};
-use game_text::Tokens;
+use game_tokens::Tokens;
 use std::alloc::{AllocError, Global};
 
 /// The kind of a fault in a file of a table.
@@ -133,4 +134,10 @@ pub fn faults_are_single()
 /// The tokens of a file stand for one table at most.
 pub fn files_have_one_table()
     ensures { (tokens : List token) (one other : GameTable) → IsTableFile tokens one → IsTableFile tokens other → one ≡ other }
+{}
+
+/// A table is read exactly where the tokens are a file of it.
+pub fn files_are_read()
+    ensures sound { (tokens : List token) (table : GameTable) → parse_table tokens ≡ Ok table → IsTableFile tokens table }
+    ensures complete { (tokens : List token) (table : GameTable) → IsTableFile tokens table → parse_table tokens ≡ Ok table }
 {}

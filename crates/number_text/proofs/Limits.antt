@@ -5,7 +5,8 @@ use Rattle.rational.specs.Rational.{ℚ, frac, ◌*ℚ◌}
 use Rattle.frac128.specs.Fraction.{with_sign}
 use Rattle.frac128.proofs.Reduced.{nat_abs-with_sign}
 use Rattle.number_text.specs.Digits.{digits_value, without_leading_zeros, without_trailing_zeros}
-use Rattle.number_text.specs.Numbers.{Decimal, IsShort, ten_to, value_of}
+use Rattle.frac128.specs.Short.{IsShort}
+use Rattle.number_text.specs.Numbers.{Decimal, ten_to, value_of}
 use Rattle.number_text.specs.Reading.{GivesShort, GivesValue}
 use Rattle.number_text.proofs.Digits.{Struck, struck_behind, digits_parts, zeros_behind}
 use Rattle.number_text.proofs.Powers.{common_factor, ten_pos}

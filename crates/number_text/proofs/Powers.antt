@@ -16,7 +16,8 @@ use Rattle.rational.proofs.Parts.{whole-num, frac-mul, frac-scale, frac_num_size
 use Rattle.frac128.specs.Fraction.{with_sign, quotient, Fits, PartFits}
 use Rattle.frac128.proofs.Parts.{kept, kept-part}
 use Rattle.frac128.proofs.Reduced.{nat_abs-with_sign}
-use Rattle.number_text.specs.Numbers.{IsShort, ten_to}
+use Rattle.frac128.specs.Short.{IsShort}
+use Rattle.number_text.specs.Numbers.{ten_to}
 use Rattle.number_text.specs.Reading.{GivesShort}
 
 -- a power of ten is positive

@@ -5,6 +5,7 @@ use Rattle.std.specs.Char.{IsAsciiDigit}
 use Rattle.std.specs.List.{AllByRecursion}
 use Rattle.rational.specs.Rational.{ℚ, frac, whole, ◌*ℚ◌}
 use Rattle.frac128.specs.Fraction.{with_sign}
+use Rattle.frac128.specs.Short.{IsShort}
 use Rattle.number_text.specs.Digits.{AreDigits, digits_value, without_leading_zeros, without_trailing_zeros}
 
 -- what the text of a number says
@@ -50,11 +51,6 @@ abbrev pub value_of : NumberForm → ℚ
 value_of (Fraction negative top bottom) = frac (with_sign negative (digits_value top)) (digits_value bottom)
 value_of (Decimal negative before after exponent) =
     frac (with_sign negative (digits_value (before ++ after))) (10 ^ length after) *ℚ ten_to exponent
-
--- both parts of a rational in lowest terms are below 2^63 in size
-pub record IsShort (q : ℚ) : Type 0 where
-  pub num : nat_abs q.num < 2 ^ 63
-  pub den : q.den < 2 ^ 63
 
 -- The form is within the limits: an exponent from -18 to 18, at most 36 digits when the leading zeros, and the trailing
 -- zeros behind the point, are struck, and parts of the value below 2^63.

@@ -5,7 +5,8 @@ use Rattle.std.specs.List.{list_all}
 use Rattle.rational.specs.Rational.{ℚ}
 use Rattle.frac128.specs.Fraction.{with_sign}
 use Rattle.number_text.specs.Digits.{digits_value, without_leading_zeros}
-use Rattle.number_text.specs.Numbers.{NumberForm, Fraction, Decimal, IsShort, IsWithinLimits, value_of}
+use Rattle.frac128.specs.Short.{IsShort}
+use Rattle.number_text.specs.Numbers.{NumberForm, Fraction, Decimal, IsWithinLimits, value_of}
 use Rattle.number_text.specs.declared.number.NumberFault.{NumberFault}
 use Rattle.number_text.specs.declared.number.NumberFault.TheVariants as faults
 

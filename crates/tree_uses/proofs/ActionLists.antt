@@ -9,8 +9,8 @@ use Rattle.lists.specs.Options.{◌>>=◌}
 use Rattle.lists.proofs.Options.{bind_some}
 use Rattle.rational.specs.Rational.{ℚ, ◌+ℚ◌, zero_ℚ, one_ℚ}
 use Rattle.game_core.specs.declared.tree.Action.{Action}
-use Rattle.game_text.specs.declared.token.Token.{Token}
-use Rattle.game_text.specs.declared.token.Token.TheVariants.{Left, Text, Number}
+use Rattle.game_tokens.specs.declared.token.Token.{Token}
+use Rattle.game_tokens.specs.declared.token.Token.TheVariants.{Left, Text, Number}
 use Rattle.file_parts.specs.Reading.{left_at, right_at, texts_at, opens}
 use Rattle.file_parts.proofs.TokenLaws.{left_is, passes_le, le_passes}
 use Rattle.written_trees.specs.Building.{may_follow, adds_up, may_be_first, repeats_actions}

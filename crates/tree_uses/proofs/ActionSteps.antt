@@ -5,8 +5,8 @@ use Rattle.std.proofs.Math.Seq.{drop-cons}
 use Rattle.lists.specs.Options.{◌>>=◌}
 use Rattle.rational.specs.Rational.{ℚ, ◌+ℚ◌}
 use Rattle.game_core.specs.declared.tree.Action.{Action}
-use Rattle.game_text.specs.declared.token.Token.{Token}
-use Rattle.game_text.specs.declared.token.Token.TheVariants.{Text, Number}
+use Rattle.game_tokens.specs.declared.token.Token.{Token}
+use Rattle.game_tokens.specs.declared.token.Token.TheVariants.{Text, Number}
 use Rattle.file_parts.specs.Reading.{text_at, number_at}
 use Rattle.file_parts.proofs.TokenLaws.{text_is, number_is}
 use Rattle.written_trees.specs.Building.{may_follow}

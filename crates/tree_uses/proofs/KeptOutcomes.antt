@@ -11,7 +11,7 @@ use Rattle.std.specs.Option.{option_or}
 use Rattle.lists.proofs.Options.{bind_some}
 use Rattle.indexmap.specs.IndexSet.{insert_key}
 use Rattle.rational.specs.Rational.{ℚ}
-use Rattle.game_text.specs.declared.token.Token.{Token}
+use Rattle.game_tokens.specs.declared.token.Token.{Token}
 use Rattle.file_parts.specs.Reading.{left_at, right_at, optional_text_at, payoffs_at}
 use Rattle.file_parts.proofs.NumberLaws.{payoffs_are}
 use Rattle.written_trees.specs.Building.{BegunOutcome, outcome_place}

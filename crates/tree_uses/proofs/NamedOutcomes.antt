@@ -4,8 +4,8 @@ use Rattle.std.proofs.lemmas.Bool.{cases_Bool}
 use Rattle.std.specs.Option.{option_or}
 use Rattle.lists.specs.Options.{◌>>=◌}
 use Rattle.rational.specs.Rational.{ℚ}
-use Rattle.game_text.specs.declared.token.Token.{Token}
-use Rattle.game_text.specs.declared.token.Token.TheVariants.{Left}
+use Rattle.game_tokens.specs.declared.token.Token.{Token}
+use Rattle.game_tokens.specs.declared.token.Token.TheVariants.{Left}
 use Rattle.file_parts.specs.Reading.{optional_text_at}
 use Rattle.written_trees.specs.Written.{OutcomeUse}
 use Rattle.written_trees.specs.Building.{BegunOutcome, outcome_place, repeats_payoffs, used_outcome}

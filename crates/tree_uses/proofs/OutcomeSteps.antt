@@ -7,8 +7,8 @@ use Rattle.std.specs.Cmp.Lexicographic.{pointwise}
 use Rattle.rational.specs.Tests.{eq_ℚ}
 use Rattle.lists.specs.Options.{◌>>=◌}
 use Rattle.rational.specs.Rational.{ℚ, zero_ℚ}
-use Rattle.game_text.specs.declared.token.Token.{Token}
-use Rattle.game_text.specs.declared.token.Token.TheVariants.{Left}
+use Rattle.game_tokens.specs.declared.token.Token.{Token}
+use Rattle.game_tokens.specs.declared.token.Token.TheVariants.{Left}
 use Rattle.file_parts.specs.declared.refusal.Refusal.{Refusal}
 use Rattle.file_parts.specs.declared.refusal.Refusal.TheVariants.{Unfit}
 use Rattle.file_parts.specs.Reading.{Refuses, left_at, right_at, payoff_at, payoffs_at, repeat_at, label_at}

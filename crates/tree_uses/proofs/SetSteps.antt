@@ -8,8 +8,8 @@ use Rattle.std.proofs.Math.Seq.{map-set_same}
 use Rattle.std.specs.Option.{option_or}
 use Rattle.lists.specs.Options.{◌>>=◌}
 use Rattle.game_core.specs.declared.tree.Action.{Action}
-use Rattle.game_text.specs.declared.token.Token.{Token}
-use Rattle.game_text.specs.declared.token.Token.TheVariants.{Left}
+use Rattle.game_tokens.specs.declared.token.Token.{Token}
+use Rattle.game_tokens.specs.declared.token.Token.TheVariants.{Left}
 use Rattle.file_parts.specs.Reading.{optional_text_at}
 use Rattle.written_trees.specs.Described.{SetKey, key_of, same_set}
 use Rattle.written_trees.specs.Written.{SetUse}

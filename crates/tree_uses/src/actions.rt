@@ -10,7 +10,7 @@ use crate::fault::EfgKind;
 use file_parts::{Refusal, copied, left, number, right, text, unfit};
 use frac128::Frac;
 use game_core::Action;
-use game_text::Spanned;
+use game_tokens::Spanned;
 use std::alloc::Global;
 use std::cmp::Ordering;
 

@@ -12,7 +12,7 @@ use crate::sets::optional_name;
 use file_parts::{Refusal, label, left, number, optional_text, payoff, payoff_start, right, unfit};
 use frac128::Frac;
 use game_core::Name;
-use game_text::Spanned;
+use game_tokens::Spanned;
 use indexmap::IndexSet;
 use std::alloc::Global;
 

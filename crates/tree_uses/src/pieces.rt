@@ -5,7 +5,7 @@ ghost use Rattle.tree_files.specs.TreeReading.{positive_at, player_at, begins_no
 
 use crate::fault::EfgKind;
 use file_parts::{Refusal, label, unfit, whole, word};
-use game_text::Spanned;
+use game_tokens::Spanned;
 
 /// A number of at least 1, and the tokens behind it.
 #[tactic(auto, unfolding(tree_files::specs::TreeReading::positive_at))]

@@ -13,7 +13,7 @@ use crate::fault::EfgKind;
 use crate::pieces::positive;
 use file_parts::{Refusal, copied, optional_text, unfit};
 use game_core::{Action, Name};
-use game_text::Spanned;
+use game_tokens::Spanned;
 use indexmap::IndexSet;
 use std::alloc::{AllocError, AllocFailed, Global};
 

@@ -86,6 +86,42 @@ pub fn owned(alloc: Global, words: &[&str]) -> Result<Vec<String>, Memory> {
     Ok(owned)
 }
 
+/// Whether `enumpure` refuses a game with this fault; the game's text is given in two parts.
+pub fn is_refused<R: Threads + Sync>(
+    rt: &R,
+    alloc: Global,
+    front: &str,
+    rest: &str,
+    fault: &str,
+) -> Result<bool, Memory> {
+    let input = format!(in alloc; "{front}{rest}")?;
+    let line = format!(in alloc; "gambit: {fault}\n")?;
+    let case = Case {
+        status: 1,
+        err: line.as_str(),
+        ..Case::of(input.as_str())
+    };
+    case.holds(rt, alloc)
+}
+
+/// Whether `enumpure` refuses each game of a list, a line each: the fault, a stroke, and what follows the front.
+pub fn are_refused<R: Threads + Sync>(
+    rt: &R,
+    alloc: Global,
+    front: &str,
+    games: &str,
+) -> Result<bool, Memory> {
+    for game in games.split('\n') {
+        let Some((fault, rest)) = game.split_once(" | ") else {
+            return Ok(false);
+        };
+        if !is_refused(rt, alloc, front, rest, fault)? {
+            return Ok(false);
+        }
+    }
+    Ok(true)
+}
+
 // Whether a run of `enumpure` over these inputs ends with this status, writes so many bytes of text and tells this line.
 fn holds_over<R: Threads + Sync>(
     rt: &R,

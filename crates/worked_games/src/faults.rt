@@ -1,5 +1,5 @@
 // Words that are refused, inputs that are refused, and calls of the outside that fail.
-use crate::case::{Case, Large};
+use crate::case::{Case, Large, are_refused, is_refused};
 use memory::Memory;
 use std::alloc::Global;
 use std::thread::Threads;
@@ -58,53 +58,20 @@ fn letters_and_names_are_read(rt: HostRuntime) -> Result<(), Memory> {
 /// after the strategies, and the first word `EFG` alone sends the tokens to the reader of trees.
 #[test]
 fn bad_files_are_refused(rt: HostRuntime) -> Result<(), Memory> {
-    let rows = [
-        ("", "gambit: nfg fault at 0: header\n"),
-        (
-            "NFG 1 R \"\" { } { 1 } 1",
-            "gambit: nfg fault at 13: players\n",
-        ),
-        (
-            "NFG 1 R \"\" { \"A\" } { 0 } 1",
-            "gambit: nfg fault at 21: strategies\n",
-        ),
-        (
-            "NFG 1 R \"\" { \"A\" } { 1 } { { \"\" 1 } } 2",
-            "gambit: nfg fault at 38: outcome\n",
-        ),
-        (
-            "NFG 1 R \"PD\" { \"A\" \"B\" } { 2 2 } 3 3 5 0 0 5 1",
-            "gambit: nfg fault at 46: payoff count\n",
-        ),
-        (
-            "NFG 1 R \"PD\" { \"A\" \"B\" } { 2 2 } 3 3 5 0 0 5 1 1 9",
-            "gambit: nfg fault at 49: trailing\n",
-        ),
-        (
-            "NFG 1 R \"\" { \"A\" } { 1 } 1/0",
-            "gambit: text fault at 25: bad number\n",
-        ),
-        (
-            "NFG 1 R \"\" { \"A\" } { 1 } 1e19",
-            "gambit: text fault at 25: number too large\n",
-        ),
-        ("NFG 1 R \"A", "gambit: text fault at 8: unclosed text\n"),
-        ("EFG 2 R ?", "gambit: text fault at 8: bad character\n"),
-        (
-            "NFG 1 R \"\" { \"A\" \"B\" } { 1024 513 } word",
-            "gambit: too large: 1048577 payoffs, limit 1048576\n",
-        ),
-        (" EFG", "gambit: efg fault at 4: header\n"),
-        ("efg 2 R", "gambit: nfg fault at 0: header\n"),
-    ];
-    for (input, err) in rows {
-        let case = Case {
-            status: 1,
-            err,
-            ..Case::of(input)
-        };
-        assert!(rt; case.holds(&rt, rt.alloc())?);
-    }
+    let whole = r#"nfg fault at 13: players | NFG 1 R "" { } { 1 } 1
+nfg fault at 21: strategies | NFG 1 R "" { "A" } { 0 } 1
+nfg fault at 38: outcome | NFG 1 R "" { "A" } { 1 } { { "" 1 } } 2
+nfg fault at 46: payoff count | NFG 1 R "PD" { "A" "B" } { 2 2 } 3 3 5 0 0 5 1
+nfg fault at 49: trailing | NFG 1 R "PD" { "A" "B" } { 2 2 } 3 3 5 0 0 5 1 1 9
+text fault at 25: bad number | NFG 1 R "" { "A" } { 1 } 1/0
+text fault at 25: number too large | NFG 1 R "" { "A" } { 1 } 1e19
+text fault at 8: unclosed text | NFG 1 R "A
+text fault at 8: bad character | EFG 2 R ?
+too large: 1048577 payoffs, limit 1048576 | NFG 1 R "" { "A" "B" } { 1024 513 } word
+nfg fault at 0: header | efg 2 R"#;
+    assert!(rt; are_refused(&rt, rt.alloc(), "", whole)?);
+    assert!(rt; is_refused(&rt, rt.alloc(), "", "", "nfg fault at 0: header")?);
+    assert!(rt; is_refused(&rt, rt.alloc(), "", " EFG", "efg fault at 4: header")?);
     Ok(())
 }
 

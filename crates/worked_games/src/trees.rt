@@ -1,7 +1,12 @@
 // Files of game trees: which are read, and how the others are refused.
-use crate::case::{Case, Large};
+use crate::case::{Case, Large, are_refused, is_refused};
 use memory::Memory;
 use std::alloc::Global;
+
+// The header and the players of a tree with one player, and of one with two.
+const ONE: &str = "EFG 2 R \"\" { \"A\" } ";
+
+const TWO: &str = "EFG 2 R \"\" { \"A\" \"B\" } ";
 
 /// Trees that are read, with their pure equilibria: one row for each way to write a node, and the example files.
 #[test]
@@ -62,249 +67,98 @@ fn trees_are_read(rt: HostRuntime) -> Result<(), Memory> {
 /// The first four tokens and the players.
 #[test]
 fn headers_of_trees_are_refused(rt: HostRuntime) -> Result<(), Memory> {
-    let rows = [
-        (
-            "EFG 1 R \"\" { \"A\" } t \"\" 0",
-            "gambit: efg fault at 4: header\n",
-        ),
-        (
-            "EFG 2 X \"\" { \"A\" } t \"\" 0",
-            "gambit: efg fault at 6: header\n",
-        ),
-        (
-            "EFG 2 R { \"A\" } t \"\" 0",
-            "gambit: efg fault at 8: header\n",
-        ),
-        ("EFG", "gambit: efg fault at 3: header\n"),
-        (
-            "EFG 2 R \"\" \"A\" t \"\" 0",
-            "gambit: efg fault at 11: players\n",
-        ),
-        (
-            "EFG 2 R \"\" { } t \"\" 0",
-            "gambit: efg fault at 13: players\n",
-        ),
-        (
-            "EFG 2 R \"\" { \"A\" 1 } t \"\" 0",
-            "gambit: efg fault at 17: players\n",
-        ),
-    ];
-    for (input, err) in rows {
-        let case = Case {
-            status: 1,
-            err,
-            ..Case::of(input)
-        };
-        assert!(rt; case.holds(&rt, rt.alloc())?);
-    }
+    let whole = r#"efg fault at 4: header | EFG 1 R "" { "A" } t "" 0
+efg fault at 6: header | EFG 2 X "" { "A" } t "" 0
+efg fault at 8: header | EFG 2 R { "A" } t "" 0
+efg fault at 3: header | EFG
+efg fault at 11: players | EFG 2 R "" "A" t "" 0
+efg fault at 13: players | EFG 2 R "" { } t "" 0
+efg fault at 17: players | EFG 2 R "" { "A" 1 } t "" 0"#;
+    assert!(rt; are_refused(&rt, rt.alloc(), "", whole)?);
     Ok(())
 }
 
 /// Tokens that end inside the nodes, and tokens behind the last node.
 #[test]
 fn ends_of_trees_are_refused(rt: HostRuntime) -> Result<(), Memory> {
-    let rows = [
-        (
-            "EFG 2 R \"\" { \"A\" } p \"\" 1 1 { \"x\" } 0",
-            "gambit: efg fault at 37: unfinished\n",
-        ),
-        (
-            "EFG 2 R \"\" { \"A\" } t \"\" 0 0",
-            "gambit: efg fault at 26: trailing\n",
-        ),
-        (
-            "EFG 2 R \"\" { \"A\" }",
-            "gambit: efg fault at 18: unfinished\n",
-        ),
-        (
-            "EFG 2 R \"\" { \"A\" } \"comment\"",
-            "gambit: efg fault at 28: unfinished\n",
-        ),
-        (
-            "EFG 2 R \"\" { \"A\" } t",
-            "gambit: efg fault at 20: unfinished\n",
-        ),
-        (
-            "EFG 2 R \"\" { \"A\" } t \"\" 1",
-            "gambit: efg fault at 25: unfinished\n",
-        ),
-        (
-            "EFG 2 R \"\" { \"A\" } t \"\" 1 \"\"",
-            "gambit: efg fault at 28: unfinished\n",
-        ),
-        (
-            "EFG 2 R \"\" { \"A\" } p \"\" 1 1 \"\" { \"a\" } 0",
-            "gambit: efg fault at 40: unfinished\n",
-        ),
-        (
-            "EFG 2 R \"\" { \"A\" } p \"\" 1 1 \"\" { \"a\" \"b\" } 0 t \"\" 0",
-            "gambit: efg fault at 51: unfinished\n",
-        ),
-        (
+    let one = r#"efg fault at 37: unfinished | p "" 1 1 { "x" } 0
+efg fault at 26: trailing | t "" 0 0
+efg fault at 28: unfinished | "comment"
+efg fault at 20: unfinished | t
+efg fault at 25: unfinished | t "" 1
+efg fault at 28: unfinished | t "" 1 ""
+efg fault at 40: unfinished | p "" 1 1 "" { "a" } 0
+efg fault at 51: unfinished | p "" 1 1 "" { "a" "b" } 0 t "" 0
+efg fault at 26: trailing | t "" 0 5
+efg fault at 26: trailing | t "" 0 "x"
+efg fault at 26: trailing | t "" 0 t "" 0
+efg fault at 35: trailing | t "" 1 "" { 5 } {"#;
+    let whole = r#"efg fault at 18: unfinished | EFG 2 R "" { "A" }"#;
+    assert!(rt; are_refused(&rt, rt.alloc(), ONE, one)?);
+    assert!(rt; are_refused(&rt, rt.alloc(), "", whole)?);
+    assert!(rt;
+        is_refused(
+            &rt,
+            rt.alloc(),
+            "",
             "EFG 2 R \"Entry\" { \"E\" \"I\" }\np",
-            "gambit: efg fault at 29: unfinished\n",
-        ),
-        (
+            "efg fault at 29: unfinished"
+        )?
+    );
+    assert!(rt;
+        is_refused(
+            &rt,
+            rt.alloc(),
+            "",
             "EFG 2 R \"Entry\" { \"E\" \"I\" }\np \"\" 1 1 \"\" { \"Out\" \"In\" } 0\nt \"\" 1 \"Out\" { 0, 2 }\np \"\" 2 1 \"\" { \"Fight\" \"Accommodate\" } 0\nt \"\" 2 \"Fight\" { -1, -1 }\n",
-            "gambit: efg fault at 145: unfinished\n",
-        ),
-        (
-            "EFG 2 R \"\" { \"A\" } t \"\" 0 5",
-            "gambit: efg fault at 26: trailing\n",
-        ),
-        (
-            "EFG 2 R \"\" { \"A\" } t \"\" 0 \"x\"",
-            "gambit: efg fault at 26: trailing\n",
-        ),
-        (
-            "EFG 2 R \"\" { \"A\" } t \"\" 0 t \"\" 0",
-            "gambit: efg fault at 26: trailing\n",
-        ),
-        (
-            "EFG 2 R \"\" { \"A\" } t \"\" 1 \"\" { 5 } {",
-            "gambit: efg fault at 35: trailing\n",
-        ),
-    ];
-    for (input, err) in rows {
-        let case = Case {
-            status: 1,
-            err,
-            ..Case::of(input)
-        };
-        assert!(rt; case.holds(&rt, rt.alloc())?);
-    }
+            "efg fault at 145: unfinished"
+        )?
+    );
     Ok(())
 }
 
 /// Tokens that a node does not allow where they stand, and players that there are not.
 #[test]
 fn nodes_are_refused(rt: HostRuntime) -> Result<(), Memory> {
-    let rows = [
-        (
-            "EFG 2 R \"\" { \"A\" } p \"\" 1 1 { } 0",
-            "gambit: efg fault at 30: node\n",
-        ),
-        (
-            "EFG 2 R \"\" { \"A\" } p \"\" 2 1 { \"x\" } 0",
-            "gambit: efg fault at 24: unknown player\n",
-        ),
-        (
-            "EFG 2 R \"\" { \"A\" } x \"\" 0",
-            "gambit: efg fault at 19: node\n",
-        ),
-        (
-            "EFG 2 R \"\" { \"A\" } 1",
-            "gambit: efg fault at 19: node\n",
-        ),
-        (
-            "EFG 2 R \"\" { \"A\" } \"one\" \"two\" t \"\" 0",
-            "gambit: efg fault at 25: node\n",
-        ),
-        (
-            "EFG 2 R \"\" { \"A\" } t 0",
-            "gambit: efg fault at 21: node\n",
-        ),
-        (
-            "EFG 2 R \"\" { \"A\" } t \"\" -1",
-            "gambit: efg fault at 24: node\n",
-        ),
-        (
-            "EFG 2 R \"\" { \"A\" } t \"\" 1/2",
-            "gambit: efg fault at 24: node\n",
-        ),
-        (
-            "EFG 2 R \"\" { \"A\" } t \"\" \"x\"",
-            "gambit: efg fault at 24: node\n",
-        ),
-        (
-            "EFG 2 R \"\" { \"A\" } p \"\" 1 0 \"\" { \"a\" } 0 t \"\" 0",
-            "gambit: efg fault at 26: node\n",
-        ),
-        (
-            "EFG 2 R \"\" { \"A\" } c \"\" 1/2 \"\" { \"a\" 1 } 0 t \"\" 0",
-            "gambit: efg fault at 24: node\n",
-        ),
-        (
-            "EFG 2 R \"\" { \"A\" } p \"\" 1.5 1 \"\" { \"a\" } 0 t \"\" 0",
-            "gambit: efg fault at 24: node\n",
-        ),
-        (
-            "EFG 2 R \"\" { \"A\" } p \"\" -1 1 \"\" { \"a\" } 0 t \"\" 0",
-            "gambit: efg fault at 24: node\n",
-        ),
-        (
-            "EFG 2 R \"\" { \"A\" } p \"\" \"A\" 1 \"\" { \"a\" } 0 t \"\" 0",
-            "gambit: efg fault at 24: node\n",
-        ),
-        (
-            "EFG 2 R \"\" { \"A\" } p \"\" 1 1 \"\" { } 0 t \"\" 0",
-            "gambit: efg fault at 33: node\n",
-        ),
-        (
-            "EFG 2 R \"\" { \"A\" } p \"\" 1 1 \"\" { \"a\" 1 } 0 t \"\" 0",
-            "gambit: efg fault at 37: node\n",
-        ),
-        (
-            "EFG 2 R \"\" { \"A\" } c \"\" 1 \"\" { \"a\" } 0 t \"\" 0",
-            "gambit: efg fault at 35: node\n",
-        ),
-        (
-            "EFG 2 R \"\" { \"A\" } c \"\" 1 \"\" { \"a\" 1 1 } 0 t \"\" 0",
-            "gambit: efg fault at 37: node\n",
-        ),
-        (
-            "EFG 2 R \"\" { \"A\" } p \"\" 1 1 \"\" { \"a\" } 0 \"x\" t \"\" 0",
-            "gambit: efg fault at 41: node\n",
-        ),
-        (
-            "EFG 2 R \"\" { \"A\" } p \"\" 1 1 \"\" { \"a\" } 0 { 5 } t \"\" 0",
-            "gambit: efg fault at 41: node\n",
-        ),
-        (
-            "EFG 2 R \"\" { \"A\" } p \"\" 1 1 \"\" { \"a\" } } t \"\" 0",
-            "gambit: efg fault at 39: node\n",
-        ),
-        (
-            "EFG 2 R \"\" { \"A\" \"B\" } t \"\" 1 \"\" { , 1 2 }",
-            "gambit: efg fault at 35: node\n",
-        ),
-        (
-            "EFG 2 R \"\" { \"A\" \"B\" } t \"\" 1 \"\" { 1,, 2 }",
-            "gambit: efg fault at 37: node\n",
-        ),
-        (
-            "EFG 2 R \"\" { \"A\" \"B\" } t \"\" 1 \"\" { 1, 2, }",
-            "gambit: efg fault at 39: node\n",
-        ),
-        (
-            "EFG 2 R \"\" { \"A\" \"B\" } t \"\" 1 \"\" { 1, 2, 3 }",
-            "gambit: efg fault at 39: node\n",
-        ),
-        (
-            "EFG 2 R \"\" { \"A\" \"B\" } t \"\" 1 \"\" { 1 word }",
-            "gambit: efg fault at 37: node\n",
-        ),
-        (
+    let one = r#"efg fault at 30: node | p "" 1 1 { } 0
+efg fault at 24: unknown player | p "" 2 1 { "x" } 0
+efg fault at 19: node | x "" 0
+efg fault at 19: node | 1
+efg fault at 25: node | "one" "two" t "" 0
+efg fault at 21: node | t 0
+efg fault at 24: node | t "" -1
+efg fault at 24: node | t "" 1/2
+efg fault at 24: node | t "" "x"
+efg fault at 26: node | p "" 1 0 "" { "a" } 0 t "" 0
+efg fault at 24: node | c "" 1/2 "" { "a" 1 } 0 t "" 0
+efg fault at 24: node | p "" 1.5 1 "" { "a" } 0 t "" 0
+efg fault at 24: node | p "" -1 1 "" { "a" } 0 t "" 0
+efg fault at 24: node | p "" "A" 1 "" { "a" } 0 t "" 0
+efg fault at 33: node | p "" 1 1 "" { } 0 t "" 0
+efg fault at 37: node | p "" 1 1 "" { "a" 1 } 0 t "" 0
+efg fault at 35: node | c "" 1 "" { "a" } 0 t "" 0
+efg fault at 37: node | c "" 1 "" { "a" 1 1 } 0 t "" 0
+efg fault at 41: node | p "" 1 1 "" { "a" } 0 "x" t "" 0
+efg fault at 41: node | p "" 1 1 "" { "a" } 0 { 5 } t "" 0
+efg fault at 39: node | p "" 1 1 "" { "a" } } t "" 0
+efg fault at 24: unknown player | p "" 0 1 "" { "a" } 0 t "" 0
+efg fault at 24: unknown player | p "" 2 1 "" { "a" } 0 t "" 0"#;
+    let two = r#"efg fault at 35: node | t "" 1 "" { , 1 2 }
+efg fault at 37: node | t "" 1 "" { 1,, 2 }
+efg fault at 39: node | t "" 1 "" { 1, 2, }
+efg fault at 39: node | t "" 1 "" { 1, 2, 3 }
+efg fault at 37: node | t "" 1 "" { 1 word }"#;
+    assert!(rt; are_refused(&rt, rt.alloc(), ONE, one)?);
+    assert!(rt; are_refused(&rt, rt.alloc(), TWO, two)?);
+    assert!(rt;
+        is_refused(
+            &rt,
+            rt.alloc(),
+            "",
             "EFG 2 R \"Entry\" { \"E\" \"I\" }\np \"\" 3 1 \"\" { \"Out\" \"In\" } 0\nt \"\" 1 \"Out\" { 0, 2 }\np \"\" 2 1 \"\" { \"Fight\" \"Accommodate\" } 0\nt \"\" 2 \"Fight\" { -1, -1 }\nt \"\" 3 \"Share\" { 1, 1 }\n",
-            "gambit: efg fault at 33: unknown player\n",
-        ),
-        (
-            "EFG 2 R \"\" { \"A\" } p \"\" 0 1 \"\" { \"a\" } 0 t \"\" 0",
-            "gambit: efg fault at 24: unknown player\n",
-        ),
-        (
-            "EFG 2 R \"\" { \"A\" } p \"\" 2 1 \"\" { \"a\" } 0 t \"\" 0",
-            "gambit: efg fault at 24: unknown player\n",
-        ),
-    ];
-    for (input, err) in rows {
-        let case = Case {
-            status: 1,
-            err,
-            ..Case::of(input)
-        };
-        assert!(rt; case.holds(&rt, rt.alloc())?);
-    }
+            "efg fault at 33: unknown player"
+        )?
+    );
     Ok(())
 }
 
@@ -312,184 +166,57 @@ fn nodes_are_refused(rt: HostRuntime) -> Result<(), Memory> {
 /// separately.
 #[test]
 fn sets_are_refused(rt: HostRuntime) -> Result<(), Memory> {
-    let rows = [
-        (
-            "EFG 2 R \"\" { \"A\" } p \"\" 1 1 { \"x\" } 0 p \"\" 1 1 { \"x\" \"y\" } 0",
-            "gambit: efg fault at 53: set mismatch\n",
-        ),
-        (
-            "EFG 2 R \"\" { \"A\" } p \"\" 1 1 foo",
-            "gambit: efg fault at 28: set mismatch\n",
-        ),
-        (
-            "EFG 2 R \"\" { \"A\" } p \"\" 1 1 0",
-            "gambit: efg fault at 28: set mismatch\n",
-        ),
-        (
-            "EFG 2 R \"\" { \"A\" } p \"\" 1 1 \"name\" 0",
-            "gambit: efg fault at 35: set mismatch\n",
-        ),
-        (
-            "EFG 2 R \"\" { \"A\" } c \"\" 1 \"\" \"\" { \"a\" 1 } 0",
-            "gambit: efg fault at 29: set mismatch\n",
-        ),
-        (
-            "EFG 2 R \"\" { \"A\" } p \"\" 1 1 \"\" { \"a\" } 0 c \"\" 1 0",
-            "gambit: efg fault at 48: set mismatch\n",
-        ),
-        (
-            "EFG 2 R \"\" { \"A\" \"B\" } p \"\" 1 1 \"\" { \"a\" } 0 p \"\" 2 1 0",
-            "gambit: efg fault at 54: set mismatch\n",
-        ),
-        (
-            "EFG 2 R \"\" { \"A\" \"B\" } p \"\" 1 1 \"\" { \"l\" \"r\" } 0 p \"\" 1 1 \"\" { \"l\" } 0",
-            "gambit: efg fault at 67: set mismatch\n",
-        ),
-        (
-            "EFG 2 R \"\" { \"A\" \"B\" } p \"\" 1 1 \"\" { \"l\" \"r\" } 0 p \"\" 1 1 \"\" { } 0",
-            "gambit: efg fault at 63: set mismatch\n",
-        ),
-        (
-            "EFG 2 R \"\" { \"A\" \"B\" } p \"\" 1 1 \"\" { \"l\" \"r\" } 0 p \"\" 1 1 \"\" { \"l\" \"r\" \"x\" } 0",
-            "gambit: efg fault at 71: set mismatch\n",
-        ),
-        (
-            "EFG 2 R \"\" { \"A\" \"B\" } p \"\" 1 1 \"\" { \"l\" \"r\" } 0 p \"\" 1 1 \"\" { \"l\" 0 } 0",
-            "gambit: efg fault at 67: node\n",
-        ),
-        (
-            "EFG 2 R \"\" { \"A\" \"B\" } p \"\" 1 1 \"\" { \"l\" \"r\" } 0 p \"\" 1 1 \"\" { \"l\" \"r\" 0 } 0",
-            "gambit: efg fault at 71: node\n",
-        ),
-        (
-            "EFG 2 R \"\" { \"A\" } c \"\" 1 \"\" { \"a\" 1/2 \"b\" 1/2 } 0 c \"\" 1 \"\" { \"a\" 1/2 \"b\" 1/3 } 0",
-            "gambit: efg fault at 75: set mismatch\n",
-        ),
-        (
-            "EFG 2 R \"\" { \"A\" } c \"\" 1 \"\" { \"a\" 1/2 \"b\" 1/2 } 0 c \"\" 1 \"\" { \"a\" 1/2 } 0",
-            "gambit: efg fault at 71: set mismatch\n",
-        ),
-        (
-            "EFG 2 R \"\" { \"A\" } c \"\" 1 \"\" { \"a\" 1/2 \"b\" 1/2 } 0 c \"\" 1 \"\" { \"a\" \"b\" } 0",
-            "gambit: efg fault at 67: node\n",
-        ),
-    ];
-    for (input, err) in rows {
-        let case = Case {
-            status: 1,
-            err,
-            ..Case::of(input)
-        };
-        assert!(rt; case.holds(&rt, rt.alloc())?);
-    }
+    let one = r#"efg fault at 53: set mismatch | p "" 1 1 { "x" } 0 p "" 1 1 { "x" "y" } 0
+efg fault at 28: set mismatch | p "" 1 1 foo
+efg fault at 28: set mismatch | p "" 1 1 0
+efg fault at 35: set mismatch | p "" 1 1 "name" 0
+efg fault at 29: set mismatch | c "" 1 "" "" { "a" 1 } 0
+efg fault at 48: set mismatch | p "" 1 1 "" { "a" } 0 c "" 1 0
+efg fault at 75: set mismatch | c "" 1 "" { "a" 1/2 "b" 1/2 } 0 c "" 1 "" { "a" 1/2 "b" 1/3 } 0
+efg fault at 71: set mismatch | c "" 1 "" { "a" 1/2 "b" 1/2 } 0 c "" 1 "" { "a" 1/2 } 0
+efg fault at 67: node | c "" 1 "" { "a" 1/2 "b" 1/2 } 0 c "" 1 "" { "a" "b" } 0"#;
+    let two = r#"efg fault at 54: set mismatch | p "" 1 1 "" { "a" } 0 p "" 2 1 0
+efg fault at 67: set mismatch | p "" 1 1 "" { "l" "r" } 0 p "" 1 1 "" { "l" } 0
+efg fault at 63: set mismatch | p "" 1 1 "" { "l" "r" } 0 p "" 1 1 "" { } 0
+efg fault at 71: set mismatch | p "" 1 1 "" { "l" "r" } 0 p "" 1 1 "" { "l" "r" "x" } 0
+efg fault at 67: node | p "" 1 1 "" { "l" "r" } 0 p "" 1 1 "" { "l" 0 } 0
+efg fault at 71: node | p "" 1 1 "" { "l" "r" } 0 p "" 1 1 "" { "l" "r" 0 } 0"#;
+    assert!(rt; are_refused(&rt, rt.alloc(), ONE, one)?);
+    assert!(rt; are_refused(&rt, rt.alloc(), TWO, two)?);
     Ok(())
 }
 
 /// Probabilities that are negative, whose sum is not 1, or that can't be added.
 #[test]
 fn probabilities_are_refused(rt: HostRuntime) -> Result<(), Memory> {
-    let rows = [
-        (
-            "EFG 2 R \"\" { \"A\" } c \"\" 1 { \"x\" -1/2 \"y\" 3/2 } 0",
-            "gambit: efg fault at 32: probability of set 1 sums to -1/2\n",
-        ),
-        (
-            "EFG 2 R \"\" { \"A\" } c \"\" 1 \"\" { \"x\" 0.333333 \"y\" 0.333333 \"z\" 0.333333 } 0",
-            "gambit: efg fault at 70: probability of set 1 sums to 999999/1000000\n",
-        ),
-        (
-            "EFG 2 R \"\" { \"A\" } c \"\" 7 \"\" { \"x\" -1/2 \"y\" 3/2 } 0",
-            "gambit: efg fault at 35: probability of set 7 sums to -1/2\n",
-        ),
-        (
-            "EFG 2 R \"\" { \"A\" } c \"\" 2 \"\" { \"x\" 3/4 \"y\" 1/2 } 0",
-            "gambit: efg fault at 43: probability of set 2 sums to 5/4\n",
-        ),
-        (
-            "EFG 2 R \"\" { \"A\" } c \"\" 1 \"\" { \"x\" 0 } 0",
-            "gambit: efg fault at 37: probability of set 1 sums to 0\n",
-        ),
-        (
-            "EFG 2 R \"\" { \"A\" } c \"\" 3 \"\" { \"x\" 1/9223372036854775807 \"y\" 1/9223372036854775783 \"z\" 1/9223372036854775805 } 0",
-            "gambit: efg fault at 87: probability of set 3 out of range: add 18446744073709551590/85070591730234615626035978899717881881 1/9223372036854775805\n",
-        ),
-        (
-            "EFG 2 R \"\" { \"A\" } c \"\" 3 \"\" { \"x\" 1/9223372036854775807 \"y\" 1/9223372036854775783 \"z\" -1/9223372036854775805 } 0",
-            "gambit: efg fault at 87: probability of set 3 out of range: add 18446744073709551590/85070591730234615626035978899717881881 -1/9223372036854775805\n",
-        ),
-    ];
-    for (input, err) in rows {
-        let case = Case {
-            status: 1,
-            err,
-            ..Case::of(input)
-        };
-        assert!(rt; case.holds(&rt, rt.alloc())?);
-    }
+    let one = r#"efg fault at 32: probability of set 1 sums to -1/2 | c "" 1 { "x" -1/2 "y" 3/2 } 0
+efg fault at 70: probability of set 1 sums to 999999/1000000 | c "" 1 "" { "x" 0.333333 "y" 0.333333 "z" 0.333333 } 0
+efg fault at 35: probability of set 7 sums to -1/2 | c "" 7 "" { "x" -1/2 "y" 3/2 } 0
+efg fault at 43: probability of set 2 sums to 5/4 | c "" 2 "" { "x" 3/4 "y" 1/2 } 0
+efg fault at 37: probability of set 1 sums to 0 | c "" 1 "" { "x" 0 } 0
+efg fault at 87: probability of set 3 out of range: add 18446744073709551590/85070591730234615626035978899717881881 1/9223372036854775805 | c "" 3 "" { "x" 1/9223372036854775807 "y" 1/9223372036854775783 "z" 1/9223372036854775805 } 0
+efg fault at 87: probability of set 3 out of range: add 18446744073709551590/85070591730234615626035978899717881881 -1/9223372036854775805 | c "" 3 "" { "x" 1/9223372036854775807 "y" 1/9223372036854775783 "z" -1/9223372036854775805 } 0"#;
+    assert!(rt; are_refused(&rt, rt.alloc(), ONE, one)?);
     Ok(())
 }
 
 /// First uses of an outcome without its payoffs, payoffs for more or fewer players, and later payoffs that differ.
 #[test]
 fn outcomes_are_refused(rt: HostRuntime) -> Result<(), Memory> {
-    let rows = [
-        (
-            "EFG 2 R \"\" { \"A\" } t \"\" 1 { 1 2 }",
-            "gambit: efg fault at 30: outcome mismatch\n",
-        ),
-        (
-            "EFG 2 R \"\" { \"A\" } t \"\" 1 foo",
-            "gambit: efg fault at 26: outcome mismatch\n",
-        ),
-        (
-            "EFG 2 R \"\" { \"A\" } t \"\" 1 \"\" foo",
-            "gambit: efg fault at 29: outcome mismatch\n",
-        ),
-        (
-            "EFG 2 R \"\" { \"A\" } p \"\" 1 1 \"\" { \"a\" \"b\" } 0 t \"\" 1 \"\" t \"\" 1",
-            "gambit: efg fault at 55: outcome mismatch\n",
-        ),
-        (
-            "EFG 2 R \"\" { \"A\" \"B\" } t \"\" 1 \"\" { 1 }",
-            "gambit: efg fault at 37: outcome mismatch\n",
-        ),
-        (
-            "EFG 2 R \"\" { \"A\" \"B\" } t \"\" 1 \"\" { 1, }",
-            "gambit: efg fault at 38: outcome mismatch\n",
-        ),
-        (
-            "EFG 2 R \"\" { \"A\" \"B\" } t \"\" 1 \"\" { }",
-            "gambit: efg fault at 35: outcome mismatch\n",
-        ),
-        (
-            "EFG 2 R \"\" { \"A\" \"B\" } t \"\" 1 \"\" { 1 2 3 }",
-            "gambit: efg fault at 39: outcome mismatch\n",
-        ),
-        (
-            "EFG 2 R \"\" { \"A\" \"B\" } p \"\" 1 1 \"\" { \"l\" \"r\" } 0 t \"\" 1 \"\" { 1, 2 } t \"\" 1 \"\" { 1, 3 }",
-            "gambit: efg fault at 83: outcome mismatch\n",
-        ),
-        (
-            "EFG 2 R \"\" { \"A\" \"B\" } p \"\" 1 1 \"\" { \"l\" \"r\" } 0 t \"\" 1 \"\" { 1, 2 } t \"\" 1 \"\" { 1 }",
-            "gambit: efg fault at 82: outcome mismatch\n",
-        ),
-        (
-            "EFG 2 R \"\" { \"A\" \"B\" } p \"\" 1 1 \"\" { \"l\" \"r\" } 0 t \"\" 1 \"\" { 1, 2 } t \"\" 1 \"\" { 1, 2 2 }",
-            "gambit: efg fault at 85: outcome mismatch\n",
-        ),
-        (
-            "EFG 2 R \"\" { \"A\" \"B\" } p \"\" 1 1 \"\" { \"l\" \"r\" } 0 t \"\" 1 \"\" { 1, 2 } t \"\" 1 \"\" { 1, 2, }",
-            "gambit: efg fault at 84: node\n",
-        ),
-    ];
-    for (input, err) in rows {
-        let case = Case {
-            status: 1,
-            err,
-            ..Case::of(input)
-        };
-        assert!(rt; case.holds(&rt, rt.alloc())?);
-    }
+    let one = r#"efg fault at 30: outcome mismatch | t "" 1 { 1 2 }
+efg fault at 26: outcome mismatch | t "" 1 foo
+efg fault at 29: outcome mismatch | t "" 1 "" foo
+efg fault at 55: outcome mismatch | p "" 1 1 "" { "a" "b" } 0 t "" 1 "" t "" 1"#;
+    let two = r#"efg fault at 37: outcome mismatch | t "" 1 "" { 1 }
+efg fault at 38: outcome mismatch | t "" 1 "" { 1, }
+efg fault at 35: outcome mismatch | t "" 1 "" { }
+efg fault at 39: outcome mismatch | t "" 1 "" { 1 2 3 }
+efg fault at 83: outcome mismatch | p "" 1 1 "" { "l" "r" } 0 t "" 1 "" { 1, 2 } t "" 1 "" { 1, 3 }
+efg fault at 82: outcome mismatch | p "" 1 1 "" { "l" "r" } 0 t "" 1 "" { 1, 2 } t "" 1 "" { 1 }
+efg fault at 85: outcome mismatch | p "" 1 1 "" { "l" "r" } 0 t "" 1 "" { 1, 2 } t "" 1 "" { 1, 2 2 }
+efg fault at 84: node | p "" 1 1 "" { "l" "r" } 0 t "" 1 "" { 1, 2 } t "" 1 "" { 1, 2, }"#;
+    assert!(rt; are_refused(&rt, rt.alloc(), ONE, one)?);
+    assert!(rt; are_refused(&rt, rt.alloc(), TWO, two)?);
     Ok(())
 }
 

@@ -1,5 +1,5 @@
 use Rattle.std.proofs.Common.{ℕ, List, refl, ◌∙◌, sym}
-use Rattle.game_text.specs.declared.token.Token.{Token}
+use Rattle.game_tokens.specs.declared.token.Token.{Token}
 use Rattle.file_parts.specs.Reading.{kinds}
 use Rattle.tree_uses.specs.Uses.{begun_sets}
 use Rattle.efg_reader.proofs.ChoiceSteps.{no_word, no_name, by_chance, by_player, at_end, no_node}

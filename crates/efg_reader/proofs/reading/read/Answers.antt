@@ -1,5 +1,5 @@
 use Rattle.std.proofs.Common.{◌≡◌, ◌<◌, ◌^◌, List, length, ◌∙◌, Some, arith}
-use Rattle.game_text.specs.declared.token.Token.{Token}
+use Rattle.game_tokens.specs.declared.token.Token.{Token}
 use Rattle.file_parts.specs.Reading.{kinds}
 use Rattle.efg_reader.specs.States.{begun_of}
 use Rattle.tree_files.specs.TreeReading.{Head, front_at}

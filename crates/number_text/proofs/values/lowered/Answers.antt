@@ -1,6 +1,6 @@
 use Rattle.std.proofs.Common.{◌≤◌, ◌^◌, pos, sym, subst, ◌∙◌, arith}
 use Rattle.frac128.proofs.Parts.{kept-part}
-use Rattle.number_text.specs.Numbers.{IsShort}
+use Rattle.frac128.specs.Short.{IsShort}
 use Rattle.number_text.proofs.Powers.{ten_pos, long_den, short_at, step_on, step_end, tested_long}
 use Rattle.number_text.proofs.values.lowered.Goals as goal
 

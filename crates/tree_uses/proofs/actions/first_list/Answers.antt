@@ -2,7 +2,7 @@ use Rattle.std.proofs.Common.{rules, ◌≡◌, Bool, List, Option, Some, None, 
 use Rattle.rational.specs.Tests.{eq_ℚ}
 use Rattle.lists.specs.Options.{◌>>=◌}
 use Rattle.rational.specs.Rational.{one_ℚ}
-use Rattle.game_text.specs.declared.token.Token.{Token}
+use Rattle.game_tokens.specs.declared.token.Token.{Token}
 use Rattle.file_parts.specs.Reading.{kinds, Refuses}
 use Rattle.tree_files.specs.TreeReading.{closed_at, first_list_at}
 use Rattle.tree_uses.proofs.ActionLists.{first_without, own_list_is, own_list_so, chance_list_is, chance_list_by}

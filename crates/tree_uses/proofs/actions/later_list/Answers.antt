@@ -1,6 +1,6 @@
 use Rattle.std.proofs.Common.{rules, ◌≡◌, List, Option, None, Some, ◌∙◌, ap}
 use Rattle.lists.specs.Options.{◌>>=◌}
-use Rattle.game_text.specs.declared.token.Token.{Token}
+use Rattle.game_tokens.specs.declared.token.Token.{Token}
 use Rattle.file_parts.specs.Reading.{kinds, right_at, Refuses}
 use Rattle.tree_files.specs.TreeReading.{all_repeated_at, later_list_at}
 use Rattle.tree_uses.proofs.ActionLists.{later_without, later_list_is}

@@ -40,13 +40,13 @@ pub struct Tokens {
 }
 
 impl Model for Tokens {
-    ghost use Rattle.game_text.specs.TokenList.{TokenList, code_of_tokens};
+    ghost use Rattle.game_tokens.specs.TokenList.{TokenList, code_of_tokens};
 
     ghost Value = { TokenList };
 
     ghost coded = { code_of_tokens };
 
-    ghost use Rattle.game_text.specs.Tokens.{AreInPlace};
+    ghost use Rattle.game_tokens.specs.InPlace.{AreInPlace};
 
     ghost view = { λ t. record { list = t.list.items; length = t.source_length } };
 
@@ -55,10 +55,10 @@ impl Model for Tokens {
 
 impl Tokens {
     ghost use Rattle.std.specs.Prelude.{◌≡◌};
-    ghost use Rattle.game_text.specs.Tokens.{AreInPlace};
+    ghost use Rattle.game_tokens.specs.InPlace.{AreInPlace};
 
-    /// These tokens of a source of this length.
-    pub(crate) fn new(list: Vec<Spanned>, source_length: usize) -> Tokens
+    /// These tokens of a source of this length. Takes no memory.
+    pub fn new(list: Vec<Spanned>, source_length: usize) -> Tokens
         requires { AreInPlace 0 source_length list.items }
         ensures { result ≡ record { list = list.items; length = source_length } }
     {
