@@ -1,4 +1,5 @@
+pub mod CellSums
 mod Gathering
-mod Order
-mod Placed
-mod Places
+pub mod Order
+pub mod Placed
+pub mod Places

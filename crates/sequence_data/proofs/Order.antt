@@ -29,7 +29,7 @@ abbrev AreAmong : List Cell → List Cell → Type 0
 AreAmong xs ys = (i : ℕ) (c : Cell) → slice_get xs i ≡ Some c → (j : ℕ) × (slice_get ys j ≡ Some c)
 
 -- the cells behind the first are in order
-order-tail : (x : Cell) (xs : List Cell) → AreInOrder (x ∷ xs) → AreInOrder xs
+pub order-tail : (x : Cell) (xs : List Cell) → AreInOrder (x ∷ xs) → AreInOrder xs
 order-tail x xs h i j c d l at_i at_j = h (suc i) (suc j) c d (omega arith) at_i at_j
 
 -- in lists with the same cells the first is the same
