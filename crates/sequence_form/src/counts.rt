@@ -1,5 +1,5 @@
 // The sizes of sequence forms.
-ghost use Rattle.std.specs.Prelude.{◌≡◌, ℕ, length, slice_index};
+ghost use Rattle.std.specs.Prelude.{◌≡◌, ◌<◌, ◌^◌, ℕ, length, slice_index};
 ghost use Rattle.game_core.specs.Table.{strategy_counts};
 ghost use Rattle.game_core.specs.TreeGame.{game_of_tree};
 ghost use Rattle.reduced_strategies.specs.Choices.{own_sets};
@@ -29,7 +29,8 @@ pub struct Counts {
 
 // How many sequences a player has.
 fn sequence_count(tree: &Tree, player: u32) -> u64
-    ensures { result ≡ sequences (side_of (game_of_tree tree.now) player) }
+    ensures value { result ≡ sequences (side_of (game_of_tree tree.now) player) }
+    ensures few { result < 2 ^ 32 }
 {
     stands_for_game_tree(tree);
     let mut count = 1;
@@ -41,7 +42,8 @@ fn sequence_count(tree: &Tree, player: u32) -> u64
 
 // How many sets a player owns.
 fn set_count(tree: &Tree, player: u32) -> u64
-    ensures { result ≡ length (own_sets (game_of_tree tree.now) player) }
+    ensures value { result ≡ length (own_sets (game_of_tree tree.now) player) }
+    ensures few { result < 2 ^ 32 }
 {
     stands_for_game_tree(tree);
     let mut count = 0;
@@ -58,6 +60,7 @@ pub fn counts_tree(tree: &Tree) -> Counts
     requires { length tree.now.players ≡ 2 }
     ensures counts { result ≡ counts_of (tree_side (game_of_tree tree.now) 0) (tree_side (game_of_tree tree.now) 1) }
     ensures form { (f : FormData) → IsTreeForm (game_of_tree tree.now) f → result ≡ counts_of f.first f.second }
+    ensures few { AreFew result }
 {
     Counts {
         sequences_one: sequence_count(tree, 0),
@@ -72,6 +75,7 @@ pub fn counts_table(table: &Table) -> Counts
     requires { length table.now.players ≡ 2 }
     ensures counts { result ≡ counts_of (start_side (slice_index (strategy_counts table.now) 0)) (start_side (slice_index (strategy_counts table.now) 1)) }
     ensures form { (f : FormData) → IsTableForm table.now f → result ≡ counts_of f.first f.second }
+    ensures few { AreFew result }
 {
     let _players = table.players();
     Counts {

@@ -16,8 +16,14 @@ loop-set-preserved c =
     let more = next-push (game_of_tree c.args.tree.now) c.args.player c.loop-set.set (omega (arith, ap length c.sets-set-end.ensures.sets)) in
     omega (arith, more, c.loop-set.invariant, c.own_actions.ensures.value)
 
-pub returns : goal.returns
-returns c =
+pub returns-clause-value : goal.returns-clause-value
+returns-clause-value c =
     let g = game_of_tree c.args.tree.now in
     let whole : c.loop-set.set ≡ length c.args.tree.now.sets = omega (arith, ap length c.sets-set-end.ensures.sets) in
     c.loop-set.invariant ∙ ap (next_sequence g c.args.player) whole ∙ next-all g c.args.player
+
+pub returns-clause-few : goal.returns-clause-few
+returns-clause-few c =
+    let whole : c.loop-set.set ≡ length c.args.tree.now.sets = omega (arith, ap length c.sets-set-end.ensures.sets) in
+    let few = next-few c.args.tree.now c.args.player c.loop-set.set c.stands_for_game_tree.ensures.valid (omega (arith, whole)) in
+    omega (arith, few, c.loop-set.invariant)

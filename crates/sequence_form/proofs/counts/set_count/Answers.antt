@@ -9,8 +9,13 @@ overflow_add-count c =
     let g = game_of_tree c.args.tree.now in
     omega (arith, c.loop-set.invariant, own_numbers-length g.owner c.args.player c.loop-set.set, ap length c.sets-set-end.ensures.sets, c.stands_for_game_tree.ensures.valid.few_sets, c.stands_for_game_tree.ensures.valid.few_nodes)
 
-pub returns : goal.returns
-returns c =
+pub returns-clause-value : goal.returns-clause-value
+returns-clause-value c =
     let g = game_of_tree c.args.tree.now in
     let whole : c.loop-set.set ≡ length c.args.tree.now.sets = omega (arith, ap length c.sets-set-end.ensures.sets) in
     c.loop-set.invariant ∙ ap (λ n. length (own_numbers g.owner c.args.player n)) whole ∙ ap length (sym (own_sets-numbers g c.args.player))
+
+pub returns-clause-few : goal.returns-clause-few
+returns-clause-few c =
+    let g = game_of_tree c.args.tree.now in
+    omega (arith, c.loop-set.invariant, own_numbers-length g.owner c.args.player c.loop-set.set, ap length c.sets-set-end.ensures.sets, c.stands_for_game_tree.ensures.valid.few_sets, c.stands_for_game_tree.ensures.valid.few_nodes)
