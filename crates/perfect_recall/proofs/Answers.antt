@@ -1,14 +1,16 @@
--- One thing at most is found of a tree.
-use Rattle.std.proofs.Common.{◌≡◌, ◌<◌, ◌∙◌, sym, ap, subst, ℕ, inl, inr, Option, Some, None, List, slice_get, Result, Ok, Err}
+-- A tree has one recall, or one player who forgets first.
+use Rattle.std.proofs.Common.{◌≡◌, ◌<◌, ◌∙◌, sym, ap, subst, ℕ, inl, inr, Option, Some, None, List, slice_get, Ok, Err}
 use Rattle.std.proofs.lemmas.Bool.{cases_order}
 use Rattle.std.proofs.lemmas.List.{get_or-map}
 use Rattle.std.proofs.lemmas.Option.{same_Some, slice_get_within, get_or_from_slice_get}
+use Rattle.answers.specs.Answers.{IsSingle}
 use Rattle.game_trees.specs.Trees.{Tree, IsTree as is_game_tree}
 use Rattle.game_trees.specs.Recall.{HasPerfectRecall}
 use Rattle.game_core.specs.Tree.{GameTree, InformationSet}
 use Rattle.game_core.specs.TreeGame.{game_of_tree}
 use Rattle.perfect_recall.specs.declared.recall.Forgets.{Forgets}
-use Rattle.perfect_recall.specs.Found.{IsAlike, IsFirstNode, IsFirstOther, ForgetsAt, IsForgetting, IsRecallOf, IsFound}
+use Rattle.perfect_recall.specs.declared.recall.RecallStop.TheVariants as stops
+use Rattle.perfect_recall.specs.Found.{IsAlike, IsFirstNode, IsFirstOther, ForgetsAt, IsForgetting, IsRecallOf, recall_of}
 use Rattle.perfect_recall.proofs.Histories.{recall-alike}
 
 -- the owner of a set by the tree's list
@@ -83,8 +85,11 @@ recall-not_forgets t before f w h k =
     let within = slice_get_within t.sets k.forgets.number k.forgets.set k.forgets.stands_at in
     forgets-not_recalls t f k.forgets (h.all_recall f.player (w.owners_within k.forgets.number f.player within (own t f k.forgets)))
 
-pub same_answer : (t : GameTree) (one other : Result (List (Option (ℕ × ℕ))) Forgets) → is_game_tree (game_of_tree t) → IsFound t one → IsFound t other → one ≡ other
-same_answer t (Ok a) (Ok b) w h k = ap Ok (h.before_is ∙ sym k.before_is)
-same_answer t (Ok a) (Err g) w h k = absurd (recall-not_forgets t a g w h k)
-same_answer t (Err f) (Ok b) w h k = absurd (recall-not_forgets t b f w k h)
-same_answer t (Err f) (Err g) w h k = ap Err (same_forgets t f g h k)
+pub recall-single : (t : GameTree) → is_game_tree (game_of_tree t) → IsSingle (recall_of t)
+recall-single t w (Ok a) (Ok b) h k = ap Ok (h.before_is ∙ sym k.before_is)
+recall-single t w (Ok a) (Err (stops.Forgets g)) h k = absurd (recall-not_forgets t a g w h k)
+recall-single t w (Err (stops.Forgets f)) (Ok b) h k = absurd (recall-not_forgets t b f w k h)
+recall-single t w (Err (stops.Forgets f)) (Err (stops.Forgets g)) h k = ap (λ x. Err (stops.Forgets x)) (same_forgets t f g h k)
+recall-single t w (Err stops.Memory) other h k = absurd h
+recall-single t w (Ok a) (Err stops.Memory) h k = absurd k
+recall-single t w (Err (stops.Forgets f)) (Err stops.Memory) h k = absurd k

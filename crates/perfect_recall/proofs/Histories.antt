@@ -17,19 +17,19 @@ use Rattle.perfect_recall.specs.Found.{IsAlike, EarlierAreAlike, IsFirstNode, Is
 use Rattle.perfect_recall.proofs.Members.{AreMembers}
 
 -- the last node above node k at which player i chooses, and the action there
-record HasLastChoice (t : Tree) (i k : ℕ) : Type 0 where
-  node : ℕ
-  before : node < k
-  set : ℕ
-  action : ℕ
-  chooses : Chooses t node i set
-  history_is : own_history t i k ≡ own_history t i node ++ (set, action) ∷ []
+pub record HasLastChoice (t : Tree) (i k : ℕ) : Type 0 where
+  pub node : ℕ
+  pub before : node < k
+  pub set : ℕ
+  pub action : ℕ
+  pub chooses : Chooses t node i set
+  pub history_is : own_history t i k ≡ own_history t i node ++ (set, action) ∷ []
 
 -- there is one, or the history is empty
-abbrev HasHistory : Tree → ℕ → ℕ → Type 0
+abbrev pub HasHistory : Tree → ℕ → ℕ → Type 0
 HasHistory t i k = (own_history t i k ≡ []) ⊎ HasLastChoice t i k
 
-has_history : (t : Tree) (i k : ℕ) → IsTree t → k < t.size → HasHistory t i k
+pub has_history : (t : Tree) (i k : ℕ) → IsTree t → k < t.size → HasHistory t i k
 has_history t i k w l = along_paths t (HasHistory t i) w (inl refl) next k l
   where
     next : (c : ℕ) → 0 < c → c < t.size → HasHistory t i (t.parent c) → HasHistory t i c
@@ -44,10 +44,10 @@ has_history t i k w l = along_paths t (HasHistory t i) w (inl refl) next k l
         go s q false d a (inr x) = inr (record { node = x.node; before = omega (arith, x.before); set = x.set; action = x.action; chooses = x.chooses; history_is = history-other t i c s w p m q (not_from_Decides false d refl) ∙ x.history_is })
 
 -- the last step of an empty history, and of another
-step-none : (t : Tree) (i k : ℕ) → own_history t i k ≡ [] → last_step (own_history t i k) ≡ None
+pub step-none : (t : Tree) (i k : ℕ) → own_history t i k ≡ [] → last_step (own_history t i k) ≡ None
 step-none t i k e = ap last_step e
 
-step-some : (t : Tree) (i k : ℕ) (h : HasLastChoice t i k) → last_step (own_history t i k) ≡ Some (h.set, h.action)
+pub step-some : (t : Tree) (i k : ℕ) (h : HasLastChoice t i k) → last_step (own_history t i k) ≡ Some (h.set, h.action)
 step-some t i k h = ap last_step h.history_is ∙ last_step-append (h.set, h.action) (own_history t i h.node)
 
 module _ (t : Tree) (i s f : ℕ) (w : IsTree t) (order : AreNumberedByFirstNodes t) (earlier : EarlierAreAlike t i s) (first : IsFirstNode t s f) where

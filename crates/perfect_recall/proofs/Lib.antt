@@ -2,4 +2,4 @@ mod Answers
 mod LastSteps
 mod Members
 mod PrefixOrder
-mod Histories
+pub mod Histories

@@ -1,6 +1,7 @@
 -- What is found of perfect recall in a tree.
-use Rattle.std.specs.Prelude.{ℕ, ◌<◌, ◌≡◌, ◌≢◌, List, map, slice_get, Option, Some, None, Result, Ok, Err}
+use Rattle.std.specs.Prelude.{ℕ, ◌<◌, ◌≡◌, ◌≢◌, List, map, slice_get, Option, Some, None, Ok, Err}
 use Rattle.std.specs.List.{range_with_len}
+use Rattle.answers.specs.Answers.{Answer}
 use Rattle.game_trees.specs.Trees.{Tree}
 use Rattle.game_trees.specs.Recall.{own_history, HasPerfectRecall}
 use Rattle.sequence_forms.specs.Sequences.{last_step, history_before}
@@ -61,12 +62,8 @@ pub record IsForgetting (t : GameTree) (f : Forgets) : Type 0 where
   pub forgets : ForgetsAt t f
 
 -- ---- the answer
--- what is found: that all recall, with the steps before the sets, or who forgets first, and where
-abbrev pub IsFound : GameTree → Result (List (Option (ℕ × ℕ))) Forgets → Type 0
-IsFound t (Ok before) = IsRecallOf (game_of_tree t) before
-IsFound t (Err forgets) = IsForgetting t forgets
-
--- why none is found: a player forgets, or memory ran out
-abbrev pub IsStop : GameTree → RecallStop → Type 0
-IsStop t (stops.Forgets forgets) = IsForgetting t forgets
-IsStop t stops.Memory = Unit {0}
+-- what a tree has: the steps before its sets, where all recall, or who forgets first, and where
+abbrev pub recall_of : GameTree → Answer RecallStop (List (Option (ℕ × ℕ)))
+recall_of t (Ok before) = IsRecallOf (game_of_tree t) before
+recall_of t (Err (stops.Forgets forgets)) = IsForgetting t forgets
+recall_of t (Err stops.Memory) = ⊥

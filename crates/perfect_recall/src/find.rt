@@ -1,12 +1,13 @@
 // Whether the players recall.
-ghost use Rattle.std.specs.Prelude.{◌≡◌, ◌↔◌, ◌<◌, ◌+◌, ℕ, List, Option, Result, length, slice_index, IsTrue, IfOk, IfErr, MatchOption, None, Some};
+ghost use Rattle.std.specs.Prelude.{◌≡◌, ◌↔◌, ◌<◌, ◌+◌, ℕ, length, slice_index, IsTrue, IfOk, MatchOption, None, Some};
+ghost use Rattle.answers.specs.Answers.{Gives, IsSingle};
 ghost use Rattle.game_trees.specs.Recall.{HasPerfectRecall};
 ghost use Rattle.game_core.specs.Tree.{GameTree, IsTree};
 ghost use Rattle.game_core.specs.TreeGame.{game_of_tree};
-ghost use Rattle.perfect_recall.specs.declared.recall.Forgets.{Forgets};
+ghost use Rattle.perfect_recall.specs.declared.recall.RecallStop.TheVariants as stops;
 ghost use Rattle.perfect_recall.specs.LastSteps.{AreSteps};
 ghost use Rattle.perfect_recall.specs.Members.{HaveSameStep, IsForgettingBelow, IsOtherMember, NobodyForgetsBelow};
-ghost use Rattle.perfect_recall.specs.Found.{EarlierAreAlike, ForgetsAt, IsAlike, IsForgetting, IsFound, IsRecallOf, IsStop, step_before};
+ghost use Rattle.perfect_recall.specs.Found.{EarlierAreAlike, ForgetsAt, IsAlike, IsRecallOf, recall_of, step_before};
 
 use crate::paths::last_steps;
 use crate::recall::{Forgets, Recall, RecallStop};
@@ -153,8 +154,7 @@ fn steps_before_sets(
 /// nodes have different own histories, the set's first node, and its first node with another own history. `Memory`
 /// where memory ran out.
 pub fn find_recall(alloc: Global, tree: &Tree) -> Result<Recall, RecallStop>
-    ensures recall { IfOk result (IsRecallOf (game_of_tree tree.now)) }
-    ensures stop { IfErr result (IsStop tree.now) }
+    ensures { Gives stops.Memory (recall_of tree.now) result }
 {
     let steps = last_steps(alloc, tree)?;
     if let Some(forgets) = first_forgetting(tree, &steps) {
@@ -164,9 +164,9 @@ pub fn find_recall(alloc: Global, tree: &Tree) -> Result<Recall, RecallStop>
     Ok(Recall::new(before))
 }
 
-/// One thing at most is found of a tree.
-pub fn answers_are_exact()
-    ensures { (t : GameTree) (one other : Result (List (Option (ℕ × ℕ))) Forgets) → IsTree t → IsFound t one → IsFound t other → one ≡ other }
+/// A tree has one recall, or one player who forgets first.
+pub fn recalls_are_single()
+    ensures { (t : GameTree) → IsTree t → IsSingle (recall_of t) }
 {
     trees_are_game_trees();
 }

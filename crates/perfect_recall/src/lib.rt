@@ -9,5 +9,5 @@ mod find;
 mod paths;
 mod recall;
 
-pub use find::{answers_are_exact, find_recall};
+pub use find::{find_recall, recalls_are_single};
 pub use recall::{Forgets, Recall, RecallStop};

@@ -1,4 +1,4 @@
--- A set has at most as many actions as the tree has nodes; and the numbers of actions of a player's own sets, one after another.
+-- A set has fewer actions than the tree has nodes; and the numbers of actions of a player's own sets, one after another.
 use Rattle.std.proofs.Common.{ℕ, zero, suc, ◌<◌, ◌≤◌, ◌^◌, ◌≡◌, inl, inr, Bool, true, false, Decides, Option, Some, None, List, [], ◌∷◌, ◌++◌, length, map, get_or, slice_get, take, refl, sym, ap, subst, ◌∙◌, arith}
 use Rattle.std.specs.Prelude.{if◌then◌else◌}
 use Rattle.std.proofs.Math.Seq.{take-suc, take-length}
@@ -26,14 +26,14 @@ places-taken sets k (node ∷ nodes) (place ∷ free) h =
     let later = places-taken sets (suc k) nodes (places_from k 0 (action_count sets node.set) ++ free) h.1 in
     omega (arith, length-append (places_from k 0 (action_count sets node.set)) free)
 
--- a set with a node has at most as many actions as there are nodes
-actions-few : (sets : List InformationSet) (k m s : ℕ) (nodes : List Node) (free : List Place) → AreInPrefixOrder sets k nodes free [] → 0 < length (members_from m s nodes) → action_count sets (Some s) ≤ length nodes
+-- a set with a node has fewer actions than there are nodes
+actions-few : (sets : List InformationSet) (k m s : ℕ) (nodes : List Node) (free : List Place) → AreInPrefixOrder sets k nodes free [] → 0 < length (members_from m s nodes) → action_count sets (Some s) < length nodes
 actions-few sets k m s [] free h some = absurd (omega arith)
 actions-few sets k m s (node ∷ nodes) [] h some = absurd h
 actions-few sets k m s (node ∷ nodes) (place ∷ free) h some =
     go (is_set s node.set) (is_set-decides s node.set) (actions-few sets (suc k) (suc m) s nodes (places_from k 0 (action_count sets node.set) ++ free) h.1) some
   where
-    go : (b : Bool) → Decides b (node.set ≡ Some s) → (0 < length (members_from (suc m) s nodes) → action_count sets (Some s) ≤ length nodes) → 0 < length (if b then m ∷ members_from (suc m) s nodes else members_from (suc m) s nodes) → action_count sets (Some s) ≤ suc (length nodes)
+    go : (b : Bool) → Decides b (node.set ≡ Some s) → (0 < length (members_from (suc m) s nodes) → action_count sets (Some s) < length nodes) → 0 < length (if b then m ∷ members_from (suc m) s nodes else members_from (suc m) s nodes) → action_count sets (Some s) < suc (length nodes)
     go true d later some =
         let taken = places-taken sets (suc k) nodes (places_from k 0 (action_count sets node.set) ++ free) h.1 in
         let same : action_count sets node.set ≡ action_count sets (Some s) = ap (action_count sets) (d.0 refl) in
@@ -44,13 +44,17 @@ actions-few sets k m s (node ∷ nodes) (place ∷ free) h some =
 pub actions-at : (t : GameTree) (s : ℕ) (set : InformationSet) → s < length t.sets → set ≡ get_or t.sets s set → action_count t.sets (Some s) ≡ length set.actions
 actions-at t s set below is = get_or-map (λ x. length x.actions) t.sets s set 0 below ∙ ap (λ x. length x.actions) (sym is)
 
+-- it is smaller than the number of nodes
+pub actions-below : (t : GameTree) (s : ℕ) → IsTree t → s < length t.sets → action_count t.sets (Some s) < length t.nodes
+actions-below t s valid below =
+    let set = get_or t.sets s (record { owner = None; label = 0; name = []; actions = []; members = [] }) in
+    let fits = valid.sets_fit s set (slice_get-get_or t.sets s _ below) in
+    let some : 0 < length (members_from 0 s t.nodes) = subst (λ xs. 0 < length xs) fits.members_are fits.some_member in
+    actions-few t.sets 0 0 s t.nodes _ valid.in_prefix_order some
+
 -- it fits 32 bits
 pub actions-fit : (t : GameTree) (s : ℕ) (set : InformationSet) → IsTree t → s < length t.sets → set ≡ get_or t.sets s set → length set.actions < 2 ^ 32
-actions-fit t s set valid below is =
-    let fits = valid.sets_fit s (get_or t.sets s set) (slice_get-get_or t.sets s set below) in
-    let some : 0 < length (members_from 0 s t.nodes) = subst (λ xs. 0 < length xs) fits.members_are fits.some_member in
-    let few = actions-few t.sets 0 0 s t.nodes _ valid.in_prefix_order some in
-    omega (arith, actions-at t s set below is, valid.few_nodes)
+actions-fit t s set valid below is = omega (arith, actions-below t s valid below, actions-at t s set below is, valid.few_nodes)
 
 -- a set of the tree's lists that is one of the player's own is one of the sets
 pub own_set-within : (t : GameTree) (i place s : ℕ) → slice_get (own_sets t i) place ≡ Some s → s < length t.sets

@@ -1,6 +1,6 @@
-mod ActionCounts
+pub mod ActionCounts
 mod Moves
-mod OwnNumbers
+pub mod OwnNumbers
 mod Parents
 mod PlayersDecisions
 mod SmallTree

@@ -1,4 +1,0 @@
-mod Gathering
-mod Order
-mod Placed
-mod Places

@@ -1,0 +1,5 @@
+pub mod CellSums
+mod Gathering
+pub mod Order
+pub mod Placed
+pub mod Places

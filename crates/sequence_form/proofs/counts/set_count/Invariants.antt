@@ -1,0 +1,7 @@
+use Rattle.std.proofs.Common.{◌≡◌, length}
+use Rattle.game_core.specs.TreeGame.{game_of_tree}
+use Rattle.strategy_lists.specs.OwnNumbers.{own_numbers}
+use Rattle.sequence_form.proofs.counts.set_count.Given as goal
+
+abbrev pub invariant-loop-set : goal.invariant-loop-set
+invariant-loop-set l = l.count ≡ length (own_numbers (game_of_tree l.tree).owner l.player l.set)

@@ -1,0 +1,5 @@
+pub mod Counts
+pub mod Forms
+pub mod Laws
+pub mod Paths
+pub mod Sequences

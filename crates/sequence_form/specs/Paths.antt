@@ -1,0 +1,45 @@
+-- What the paths of a tree of two players lead to: rows, columns, chances and payoffs, and the steps in which they are computed.
+use Rattle.std.specs.Prelude.{ℕ, zero, suc, List, [], ◌∷◌, ◌++◌, map, Option, Some, None}
+use Rattle.frac128.specs.Steps.{unfit}
+use Rattle.frac128.specs.declared.steps.Op.TheVariants.{Add, Mul}
+use Rattle.game_trees.specs.Trees.{Tree}
+use Rattle.sequence_forms.specs.Forms.{chance_of_path, payoff_of_path, row, column}
+use Rattle.sequence_forms.specs.Lists.{leaves}
+use Rattle.sequence_data.specs.Steps.{PlacedStep, at_place}
+use Rattle.sequence_data.specs.declared.types.Leaf.{Leaf}
+
+-- node k with its last sequences, its chance and the payoffs of its path
+abbrev pub leaf_at : Tree → ℕ → Leaf
+leaf_at t k = record { place = k; row = row t k; column = column t k; chance = chance_of_path t k; one = payoff_of_path t 0 k; two = payoff_of_path t 1 k }
+
+-- the leaves of a tree
+abbrev pub tree_leaves : Tree → List Leaf
+tree_leaves t = map (leaf_at t) (leaves t)
+
+-- ---- steps
+-- the chance of a node behind set s with this owner: the parent's times the probability, where chance plays there
+abbrev pub chance_step : Tree → ℕ → ℕ → Option ℕ → List PlacedStep
+chance_step t k s None = at_place k (unfit Mul (chance_of_path t (t.parent k)) (t.chance s (t.branch k))) ∷ []
+chance_step t k s (Some i) = []
+
+abbrev pub chance_steps : Tree → ℕ → Option ℕ → List PlacedStep
+chance_steps t k None = []
+chance_steps t k (Some s) = chance_step t k s (t.owner s)
+
+-- what the outcome of a node pays player i is added to what the path to its parent pays
+abbrev pub payoff_step : Tree → ℕ → ℕ → PlacedStep
+payoff_step t k i = at_place k (unfit Add (payoff_of_path t i (t.parent k)) (t.pays k i))
+
+-- the steps at a node behind the root
+abbrev pub child_steps : Tree → ℕ → List PlacedStep
+child_steps t k = chance_steps t k (t.set (t.parent k)) ++ payoff_step t k 0 ∷ payoff_step t k 1 ∷ []
+
+-- the steps at a node: none at the root
+abbrev pub node_steps : Tree → ℕ → List PlacedStep
+node_steps t zero = []
+node_steps t (suc k) = child_steps t (suc k)
+
+-- the steps at the first n nodes
+abbrev pub path_steps : Tree → ℕ → List PlacedStep
+path_steps t zero = []
+path_steps t (suc n) = path_steps t n ++ node_steps t n

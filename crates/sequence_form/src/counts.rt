@@ -1,0 +1,103 @@
+// The sizes of sequence forms.
+ghost use Rattle.std.specs.Prelude.{◌≡◌, ◌<◌, ◌^◌, ℕ, length, slice_index};
+ghost use Rattle.game_core.specs.Table.{strategy_counts};
+ghost use Rattle.game_core.specs.TreeGame.{game_of_tree};
+ghost use Rattle.reduced_strategies.specs.Choices.{own_sets};
+ghost use Rattle.sequence_data.specs.Data.{FormData};
+ghost use Rattle.sequence_forms.specs.Sequences.{side_of};
+ghost use Rattle.sequence_forms.specs.Sides.{sequences};
+ghost use Rattle.sequence_form.specs.Counts.{AreFew, counts_of, problem_rows, size_of_program};
+ghost use Rattle.sequence_form.specs.Forms.{IsTableForm, IsTreeForm};
+ghost use Rattle.sequence_form.specs.Sequences.{start_side, tree_side};
+
+use crate::sequences::{is_own, own_actions};
+use game_core::{Table, Tree};
+use tree_parts::stands_for_game_tree;
+
+/// The sizes of a sequence form: of both players the numbers of sequences, the empty one included, and of own sets.
+#[derive(Clone, Copy, Debug, PartialEq, Eq)]
+pub struct Counts {
+    /// The sequences of player one.
+    pub sequences_one: u64,
+    /// The sequences of player two.
+    pub sequences_two: u64,
+    /// The sets of player one.
+    pub sets_one: u64,
+    /// The sets of player two.
+    pub sets_two: u64,
+}
+
+// How many sequences a player has.
+fn sequence_count(tree: &Tree, player: u32) -> u64
+    ensures value { result ≡ sequences (side_of (game_of_tree tree.now) player) }
+    ensures few { result < 2 ^ 32 }
+{
+    stands_for_game_tree(tree);
+    let mut count = 1;
+    for set in 0..tree.sets().len() {
+        count += own_actions(tree, set, player) as u64;
+    }
+    count
+}
+
+// How many sets a player owns.
+fn set_count(tree: &Tree, player: u32) -> u64
+    ensures value { result ≡ length (own_sets (game_of_tree tree.now) player) }
+    ensures few { result < 2 ^ 32 }
+{
+    stands_for_game_tree(tree);
+    let mut count = 0;
+    for set in 0..tree.sets().len() {
+        if is_own(tree, set, player) {
+            count += 1;
+        }
+    }
+    count
+}
+
+/// The sizes of the sequence form of a tree of two players, before it is made. Takes no memory.
+pub fn counts_tree(tree: &Tree) -> Counts
+    requires { length tree.now.players ≡ 2 }
+    ensures counts { result ≡ counts_of (tree_side (game_of_tree tree.now) 0) (tree_side (game_of_tree tree.now) 1) }
+    ensures form { (f : FormData) → IsTreeForm (game_of_tree tree.now) f → result ≡ counts_of f.first f.second }
+    ensures few { AreFew result }
+{
+    Counts {
+        sequences_one: sequence_count(tree, 0),
+        sequences_two: sequence_count(tree, 1),
+        sets_one: set_count(tree, 0),
+        sets_two: set_count(tree, 1),
+    }
+}
+
+/// The sizes of the sequence form of a table of two players, before it is made. Takes no memory.
+pub fn counts_table(table: &Table) -> Counts
+    requires { length table.now.players ≡ 2 }
+    ensures counts { result ≡ counts_of (start_side (slice_index (strategy_counts table.now) 0)) (start_side (slice_index (strategy_counts table.now) 1)) }
+    ensures form { (f : FormData) → IsTableForm table.now f → result ≡ counts_of f.first f.second }
+    ensures few { AreFew result }
+{
+    let _players = table.players();
+    Counts {
+        sequences_one: table.strategies(0).len() as u64 + 1,
+        sequences_two: table.strategies(1).len() as u64 + 1,
+        sets_one: 1,
+        sets_two: 1,
+    }
+}
+
+/// How many rows the complementarity problem of a form of these sizes has.
+pub fn rows(form: &Counts) -> u64
+    requires { AreFew form.now }
+    ensures { result ≡ problem_rows form.now }
+{
+    form.sequences_one + form.sequences_two + 2 * (form.sets_one + 1) + 2 * (form.sets_two + 1)
+}
+
+/// The size of the linear program of a form of these sizes: its rows and columns together.
+pub fn program_size(form: &Counts) -> u64
+    requires { AreFew form.now }
+    ensures { result ≡ size_of_program form.now }
+{
+    (form.sets_one + 1) + form.sequences_two + form.sequences_one + (form.sets_two + 1)
+}

@@ -1,0 +1,59 @@
+//! The sequence form of a game with two players. `build` makes that of a tree in which the players recall, `build_table` that of
+//! a table, and `counts_tree` and `counts_table` tell its sizes before it is made.
+//!
+//! The sets' numbers give the sequences' numbers (`sequences`), each node's last sequences, chance and payoffs come from its
+//! parent's (`paths`), and the leaves go into the cells of `sequence_data`. `specs/Forms` says what the form of a tree and of a
+//! table is, and when there is none; `specs/Laws` what it stands for, and what plans pay by it.
+#![tactic(auto)]
+
+ghost use Rattle.answers.specs.Answers.{IsSingle};
+ghost use Rattle.game_core.specs.Table.{GameTable};
+ghost use Rattle.game_core.specs.Tree.{GameTree};
+ghost use Rattle.sequence_form.specs.Forms.{table_form, tree_form};
+ghost use Rattle.sequence_form.specs.Laws.{
+  TableFormsPayPlans,
+  TableFormsStandForTables,
+  TreeFormsPayPlans,
+  TreeFormsStandForTrees,
+};
+
+mod counts;
+mod paths;
+mod sequences;
+mod table;
+mod tree;
+
+pub use counts::{Counts, counts_table, counts_tree, program_size, rows};
+pub use sequence_data::{Cell, Leaf, SeqForm, SeqStop, SetRow, Side};
+pub use table::build_table;
+pub use tree::build;
+
+/// A tree has one form, or one reason why it has none.
+pub fn tree_forms_are_single()
+    ensures { (t : GameTree) → IsSingle (tree_form t) }
+{}
+
+/// A table has one form, or one reason why it has none.
+pub fn table_forms_are_single()
+    ensures { (t : GameTable) → IsSingle (table_form t) }
+{}
+
+/// The form of a tree is its sequence form within its bounds.
+pub fn tree_forms_stand_for_trees()
+    ensures { TreeFormsStandForTrees }
+{}
+
+/// Two plans pay by the form of a tree what their behaviour pays on the tree.
+pub fn tree_forms_pay_plans()
+    ensures { TreeFormsPayPlans }
+{}
+
+/// The form of a table is its sequence form within its bounds.
+pub fn table_forms_stand_for_tables()
+    ensures { TableFormsStandForTables }
+{}
+
+/// Two plans pay by the form of a table what the strategies' weights in them pay.
+pub fn table_forms_pay_plans()
+    ensures { TableFormsPayPlans }
+{}

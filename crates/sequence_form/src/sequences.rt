@@ -1,0 +1,108 @@
+// The sequences of a player of a tree, and the player's side.
+ghost use Rattle.std.specs.Prelude.{◌≡◌, ◌<◌, IsTrue, Some, length, IfOk};
+ghost use Rattle.game_trees.specs.Behaviour.{is_own};
+ghost use Rattle.game_core.specs.TreeGame.{game_of_tree};
+ghost use Rattle.perfect_recall.specs.Found.{IsRecallOf};
+ghost use Rattle.sequence_forms.specs.Sequences.{sequence_before};
+ghost use Rattle.sequence_form.specs.Sequences.{AreFirsts, own_actions, set_row, tree_side};
+
+use game_core::Tree;
+use memory::Memory;
+use perfect_recall::Recall;
+use sequence_data::{SetRow, Side};
+use std::alloc::Global;
+use tree_parts::{action_count, owner, stands_for_game_tree};
+
+// Whether a player owns a set.
+pub(crate) fn is_own(tree: &Tree, set: usize, player: u32) -> bool
+    requires { set < length tree.now.sets }
+    ensures { result ≡ is_own (game_of_tree tree.now) player set }
+{
+    match owner(tree, set) {
+        Some(own) => own == player,
+        None => false,
+    }
+}
+
+// How many sequences a set gives a player: one for each action where the player owns it, and else none.
+pub(crate) fn own_actions(tree: &Tree, set: usize, player: u32) -> u32
+    requires { set < length tree.now.sets }
+    ensures value { result ≡ own_actions (game_of_tree tree.now) player set }
+    ensures few { result < 65536 }
+{
+    stands_for_game_tree(tree);
+    if is_own(tree, set, player) {
+        action_count(tree, set) as u32
+    } else {
+        0
+    }
+}
+
+// For each set, and behind the last one, the sequence that comes next behind those of the player's sets before it.
+pub(crate) fn first_sequences(alloc: Global, tree: &Tree, player: u32) -> Result<Vec<u32>, Memory>
+    ensures { IfOk result (λ firsts. AreFirsts (game_of_tree tree.now) player firsts.items) }
+{
+    stands_for_game_tree(tree);
+    let sets = tree.sets().len();
+    let mut firsts = Vec::with_capacity(alloc, sets + 1)?;
+    let mut next = 1;
+    firsts.push(next)?;
+    for set in 0..sets {
+        next += own_actions(tree, set, player);
+        firsts.push(next)?;
+    }
+    Ok(firsts)
+}
+
+// The sequence before a player's own set.
+fn sequence_before(tree: &Tree, recall: &Recall, firsts: &[u32], player: u32, set: usize) -> u32
+    requires recall { IsRecallOf (game_of_tree tree.now) recall.now }
+    requires firsts { AreFirsts (game_of_tree tree.now) player firsts.now }
+    requires set { set < length tree.now.sets }
+    requires own { (game_of_tree tree.now).owner set ≡ Some player }
+    ensures { result ≡ sequence_before (game_of_tree tree.now) player set }
+{
+    stands_for_game_tree(tree);
+    match recall.before()[set] {
+        Some((own, action)) => firsts[own as usize] + action,
+        None => 0,
+    }
+}
+
+// A player's own set, with the sequence before it and its own.
+fn set_row(tree: &Tree, recall: &Recall, firsts: &[u32], player: u32, set: usize) -> SetRow
+    requires recall { IsRecallOf (game_of_tree tree.now) recall.now }
+    requires firsts { AreFirsts (game_of_tree tree.now) player firsts.now }
+    requires set { set < length tree.now.sets }
+    requires own { (game_of_tree tree.now).owner set ≡ Some player }
+    ensures { result ≡ set_row (game_of_tree tree.now) player set }
+{
+    stands_for_game_tree(tree);
+    SetRow {
+        before: sequence_before(tree, recall, firsts, player, set),
+        first: firsts[set],
+        count: action_count(tree, set) as u32,
+    }
+}
+
+// A player's side.
+pub(crate) fn side(
+    alloc: Global,
+    tree: &Tree,
+    recall: &Recall,
+    firsts: &[u32],
+    player: u32,
+) -> Result<Side, Memory>
+    requires recall { IsRecallOf (game_of_tree tree.now) recall.now }
+    requires firsts { AreFirsts (game_of_tree tree.now) player firsts.now }
+    ensures { IfOk result (λ side. side ≡ tree_side (game_of_tree tree.now) player) }
+{
+    let sets = tree.sets().len();
+    let mut rows = Vec::new(alloc);
+    for set in 0..sets {
+        if is_own(tree, set, player) {
+            rows.push(set_row(tree, recall, firsts, player, set))?;
+        }
+    }
+    Ok(Side::new(firsts[sets], rows))
+}
