@@ -1,4 +1,4 @@
-use Rattle.std.proofs.Common.{sym, ◌∙◌, ap}
+use Rattle.std.proofs.Common.{◌++◌, sym, ◌∙◌, ap}
 use Rattle.file_parts.specs.Parts.{braced_texts}
 use Rattle.file_parts.specs.Parsing.{parse_names}
 use Rattle.file_parts.proofs.TokenLaws.{names_is, names_again}
