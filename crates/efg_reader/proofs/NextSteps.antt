@@ -1,101 +1,159 @@
 -- A further node as the code reads it.
-use Rattle.std.proofs.Common.{◌≡◌, ℕ, suc, ◌+◌, ◌<◌, ◌≤◌, List, [], ◌∷◌, ◌++◌, length, Option, Some, None, slice_get, slice_set, refl, sym, ap, ◌∙◌, length-append, arith}
+use Rattle.std.proofs.Common.{◌≡◌, ◌≢◌, ℕ, suc, ◌+◌, ◌<◌, ◌≤◌, ◌&&◌, nat_eq, true, false, if◌then◌else◌, List, [], ◌∷◌, ◌++◌, length, Option, Some, None, slice_get, slice_set, inl, inr, refl, sym, ap, ◌∙◌, length-append, arith}
 use Rattle.std.proofs.lemmas.List.{length-set}
+use Rattle.std.specs.Prelude.{Result, Ok, Err, codes}
+use Rattle.game_core.specs.declared.tree.Kind.TheVariants.{End}
+use Rattle.file_parts.specs.declared.refusal.Refusal.{Refusal}
+use Rattle.file_parts.specs.declared.refusal.Refusal.TheVariants.{Unfit}
+use Rattle.file_parts.specs.Reading.{word_at, text_at, whole_at, optional_text_at}
+use Rattle.file_parts.specs.Parsing.{Parsed, ◌>>=◌, IsRefusal, wanted}
+use Rattle.file_parts.proofs.Parses.{refused_first}
+use Rattle.file_parts.proofs.Readers.{bind_ok, ok_same, ok_err}
+use Rattle.written_trees.specs.Written.{SetUse, OutcomeUse}
+use Rattle.written_trees.specs.Building.{Begun, Branching, BegunSet, BegunOutcome, set_place, outcome_place, passed, new_set, used_set, new_outcome, used_outcome}
+use Rattle.tree_files.specs.TreeReading.{begins_node, is_word, positive_at, grown_at, grown}
+use Rattle.tree_files.specs.TreeParsing.{Choice, bare_use, parse_first_list, parse_later_list, parse_use, parse_set, parse_player, parse_set_choice, parse_own_choice, parse_behind, parse_choice, bare_outcome_use, parse_first_payoffs, parse_later_payoffs, parse_outcome_use, parse_named, parse_outcome, with_parts, parse_next, parse_at}
+use Rattle.tree_files.specs.declared.fault.EfgKind.{EfgKind}
+use Rattle.tree_files.specs.declared.fault.EfgKind.TheVariants.{Node, UnknownPlayer}
+use Rattle.tree_files.proofs.NodeSteps.{with_uses}
 use Rattle.std.proofs.lemmas.Option.{same_Some}
 use Rattle.lists.proofs.Options.{bind_some, chosen}
 use Rattle.game_tokens.specs.declared.token.Token.{Token}
-use Rattle.written_trees.specs.Written.{SetUse, OutcomeUse, WrittenNode}
-use Rattle.written_trees.specs.Building.{Begun, BegunSet, BegunOutcome, with_use, use_some_set, with_outcome_use, use_some_outcome, set_place, outcome_place, may_be_first, repeats_actions, repeats_payoffs, used_set, new_set, used_outcome, new_outcome, add_node}
-use Rattle.written_trees.specs.Described.{key_of}
-use Rattle.efg_reader.specs.States.{grown}
-use Rattle.tree_files.specs.TreeFile.{IsNode, IsOutcomePart}
-use Rattle.tree_files.specs.TreeReading.{choice_at, choice_step_at, outcome_use_at, outcome_step_at, with_outcome, node_at, next_at}
-use Rattle.tree_files.proofs.NodeLaws.{node_is}
-use Rattle.efg_reader.proofs.NodeSteps.{ChoiceStep, OutcomeStep, with_uses, next_in_steps}
+use Rattle.std.proofs.lemmas.Bool.{cases_Bool}
+
+-- no node's word comes
+pub no_word : (players : ℕ) (begun : Begun) (branchings : List Branching) (tokens : List Token) (refusal : Refusal EfgKind) → begins_node tokens ≡ false → refusal ≡ Unfit Node (length tokens) → IsRefusal refusal (parse_at players begun branchings tokens)
+no_word players begun [] tokens refusal n u = rw u refl
+no_word players begun (b ∷ branchings) tokens refusal n u = rw (u, n) refl
 
 -- ---- the node
+-- where a node may come, it is read at the first free place
+pub record MayCome (players : ℕ) (begun : Begun) (tokens : List Token) : Type 0 where
+  pub first : Branching
+  pub others : List Branching
+  pub free : begun.branchings ≡ first ∷ others
+  pub is : parse_at players begun begun.branchings tokens ≡ parse_next players begun first others tokens
+
+may_by : (players : ℕ) (begun : Begun) (branchings : List Branching) (tokens : List Token) → begun.branchings ≡ branchings → branchings ≢ [] → begins_node tokens ≡ true → passed begun ≡ None → MayCome players begun tokens
+may_by players begun [] tokens e some n room = absurd (some refl)
+may_by players begun (b ∷ rest) tokens e some n room =
+    let here : parse_at players begun (b ∷ rest) tokens ≡ parse_next players begun b rest tokens = rw (n, room) refl in
+    record { first = b; others = rest; free = e; is = ap (λ (branchings : List Branching). parse_at players begun branchings tokens) e ∙ here }
+
+pub may_come : (players : ℕ) (begun : Begun) (tokens : List Token) → begun.branchings ≢ [] → begins_node tokens ≡ true → passed begun ≡ None → MayCome players begun tokens
+may_come players begun tokens some n room = may_by players begun begun.branchings tokens refl some n room
+
 -- the choice is not read
-pub choice_refused : (players : ℕ) (begun : Begun) (tokens : List Token) → choice_step_at players (length begun.nodes) begun.sets tokens ≡ None → next_at players begun tokens ≡ None
-choice_refused players begun tokens e = next_in_steps players begun tokens ∙ rw e refl
+pub choice_refused : (players : ℕ) (begun : Begun) (tokens : List Token) (refusal : Refusal EfgKind) → MayCome players begun tokens → IsRefusal refusal (parse_choice players (length begun.nodes) begun.sets tokens) → IsRefusal refusal (parse_at players begun begun.branchings tokens)
+unfolding parse_next
+choice_refused players begun tokens refusal m r = rw m.is (refused_first refusal (parse_choice players (length begun.nodes) begun.sets tokens) _ r)
 
 -- the outcome is not read
-pub outcome_refused : (players : ℕ) (begun : Begun) (tokens : List Token) (c : ChoiceStep) → choice_step_at players (length begun.nodes) begun.sets tokens ≡ Some c → outcome_step_at players begun.outcomes c.1 ≡ None → next_at players begun tokens ≡ None
-outcome_refused players begun tokens c e f = next_in_steps players begun tokens ∙ rw (e, f) refl
+pub outcome_refused : (players : ℕ) (begun : Begun) (tokens : List Token) (refusal : Refusal EfgKind) (c : Choice × List Token) → MayCome players begun tokens → parse_choice players (length begun.nodes) begun.sets tokens ≡ Ok c → IsRefusal refusal (parse_outcome players begun.outcomes c.1) → IsRefusal refusal (parse_at players begun begun.branchings tokens)
+unfolding parse_next
+outcome_refused players begun tokens refusal c m e r = rw (m.is, e) (refused_first refusal (parse_outcome players begun.outcomes c.1) _ r)
 
 -- both are read, and the tree grows
-pub node_added : (players : ℕ) (begun more : Begun) (tokens : List Token) (c : ChoiceStep) (o : OutcomeStep) → choice_step_at players (length begun.nodes) begun.sets tokens ≡ Some c → outcome_step_at players begun.outcomes c.1 ≡ Some o
-    → grown (with_uses begun c.0.0 o.0.0) c.0.1.0 c.0.1.1 o.0.1 ≡ Some more → next_at players begun tokens ≡ Some (more, o.1)
-node_added players begun more tokens c o e f g = next_in_steps players begun tokens ∙ rw (e, f, g) refl
+pub node_added : (players : ℕ) (begun more : Begun) (tokens : List Token) (c : Choice × List Token) (o : (List BegunOutcome × Option ℕ) × List Token) → MayCome players begun tokens → parse_choice players (length begun.nodes) begun.sets tokens ≡ Ok c → parse_outcome players begun.outcomes c.1 ≡ Ok o
+    → grown (with_uses begun c.0.0 o.0.0) c.0.1.0 c.0.1.1 o.0.1 ≡ Some more → parse_at players begun begun.branchings tokens ≡ Ok (more, o.1)
+unfolding parse_next
+node_added players begun more tokens c o m e f g =
+    let here : grown_at (with_uses begun c.0.0 o.0.0) c.0.1.0 c.0.1.1 o.0.1 (m.first ∷ m.others) ≡ Some more = ap (grown_at (with_uses begun c.0.0 o.0.0) c.0.1.0 c.0.1.1 o.0.1) (sym m.free) ∙ g in
+    let same : with_parts begun m.first m.others c.0 o.0 ≡ more = same_Some _ _ here in
+    rw (m.is, e, f) (ap (λ (b : Begun). Ok (b, o.1)) same)
 
 -- ---- how many sets and outcomes there are
 -- one more set at most
-one_more_set : (k : ℕ) (sets more : List BegunSet) (used : Option SetUse) → use_some_set k sets used ≡ Some more → length more ≤ suc (length sets)
-one_more_set k sets more None e = let same : length sets ≡ length more = ap length (same_Some _ _ e) in omega (arith, same)
-one_more_set k sets more (Some used) e = go (slice_get sets (set_place sets (key_of used))) e
-  where
-    go : (found : Option BegunSet) → with_use k sets used found ≡ Some more → length more ≤ suc (length sets)
-    go None e =
-        let list = bind_some used.actions _ more e in
-        let same : sets ++ new_set k used list.0 ∷ [] ≡ more = same_Some _ _ (chosen (may_be_first used.owner list.0) (Some (sets ++ new_set k used list.0 ∷ [])) more list.2).1 in
-        let one : length more ≡ length sets + 1 = sym (ap length same) ∙ length-append sets (new_set k used list.0 ∷ []) in
-        omega (arith, one)
-    go (Some set) e =
-        let same : slice_set sets (set_place sets (key_of used)) (used_set k used set) ≡ more = same_Some _ _ (chosen (repeats_actions set.actions used.actions) (Some (slice_set sets (set_place sets (key_of used)) (used_set k used set))) more e).1 in
-        let all : length more ≡ length sets = sym (ap length same) ∙ length-set sets (set_place sets (key_of used)) (used_set k used set) in
-        omega (arith, all)
+use_adds : (k : ℕ) (sets : List BegunSet) (used : SetUse) (found : Option BegunSet) (tokens : List Token) (x : List BegunSet × List Token) → parse_use k sets used found tokens ≡ Ok x → length x.0 ≤ suc (length sets)
+use_adds k sets used None tokens x e =
+    let a = bind_ok (parse_first_list used.owner used.label tokens) _ x e in
+    let same : length (sets ++ new_set k used a.0.0 ∷ []) ≡ length x.0 = ap (λ (z : List BegunSet × List Token). length z.0) (ok_same _ x a.2) in
+    let one = length-append sets (new_set k used a.0.0 ∷ []) in
+    omega (arith, same, one)
+use_adds k sets used (Some set) tokens x e =
+    let a = bind_ok (parse_later_list set.owner set.actions tokens) _ x e in
+    let place = set_place sets (used.owner, used.label) in
+    let same : length (slice_set sets place (used_set k used set)) ≡ length x.0 = ap (λ (z : List BegunSet × List Token). length z.0) (ok_same _ x a.2) in
+    let all = length-set sets place (used_set k used set) in
+    omega (arith, same, all)
 
-pub few_sets_more : (players k : ℕ) (sets : List BegunSet) (tokens : List Token) (c : ChoiceStep) → choice_step_at players k sets tokens ≡ Some c → length c.0.0 ≤ suc (length sets)
-unfolding choice_step_at
-few_sets_more players k sets tokens c e =
-    let a = bind_some (choice_at players tokens) _ c e in
-    let b = bind_some (use_some_set k sets a.0.0) _ c a.2 in
-    let same : b.0 ≡ c.0.0 = ap (λ (c : ChoiceStep). c.0.0) (same_Some _ _ b.2) in
-    rw same at (one_more_set k sets b.0 a.0.0 b.1)
+set_adds : (k : ℕ) (sets : List BegunSet) (owner : Option ℕ) (tokens : List Token) (x : (List BegunSet × ℕ) × List Token) → parse_set k sets owner tokens ≡ Ok x → length x.0.0 ≤ suc (length sets)
+unfolding parse_set
+set_adds k sets owner tokens x e =
+    let a = bind_ok (wanted Node tokens (positive_at tokens)) _ x e in
+    let used = bare_use owner a.0.0 (optional_text_at a.0.1).0 in
+    let found = slice_get sets (set_place sets (owner, a.0.0)) in
+    let b = bind_ok (parse_use k sets used found (optional_text_at a.0.1).1) _ x a.2 in
+    let same : length b.0.0 ≡ length x.0.0 = ap (λ (z : (List BegunSet × ℕ) × List Token). length z.0.0) (ok_same _ x b.2) in
+    let few = use_adds k sets used found (optional_text_at a.0.1).1 b.0 b.1 in
+    omega (arith, same, few)
+
+set_choice_adds : (k : ℕ) (sets : List BegunSet) (owner : Option ℕ) (tokens : List Token) (x : Choice × List Token) → parse_set_choice k sets owner tokens ≡ Ok x → length x.0.0 ≤ suc (length sets)
+unfolding parse_set_choice
+set_choice_adds k sets owner tokens x e =
+    let a = bind_ok (parse_set k sets owner tokens) _ x e in
+    let same : length a.0.0.0 ≡ length x.0.0 = ap (λ (z : Choice × List Token). length z.0.0) (ok_same _ x a.2) in
+    let few = set_adds k sets owner tokens a.0 a.1 in
+    omega (arith, same, few)
+
+own_choice_adds : (players k : ℕ) (sets : List BegunSet) (tokens : List Token) (x : Choice × List Token) → parse_own_choice players k sets tokens ≡ Ok x → length x.0.0 ≤ suc (length sets)
+unfolding parse_own_choice
+own_choice_adds players k sets tokens x e = let a = bind_ok (parse_player players tokens) _ x e in set_choice_adds k sets (Some a.0.0) a.0.1 x a.2
+
+behind_adds : (players k : ℕ) (sets : List BegunSet) (word : List ℕ) (start tokens : List Token) (x : Choice × List Token) → parse_behind players k sets word start tokens ≡ Ok x → length x.0.0 ≤ suc (length sets)
+behind_adds players k sets word start tokens x e = elim (cases_Bool (is_word word (codes "c"))) [
+  | inl c ↦ let f : parse_set_choice k sets None tokens ≡ Ok x = rw c at e in set_choice_adds k sets None tokens x f
+  | inr c ↦ elim (cases_Bool (is_word word (codes "p"))) [
+    | inl p ↦ let f : parse_own_choice players k sets tokens ≡ Ok x = rw (c, p) at e in own_choice_adds players k sets tokens x f
+    | inr p ↦ elim (cases_Bool (is_word word (codes "t"))) [
+      | inl t ↦
+          let f : ◌≡◌ {A = Parsed EfgKind Choice} (Ok ((sets, (End, None)), tokens)) (Ok x) = rw (c, p, t) at e in
+          let same : length sets ≡ length x.0.0 = ap (λ (z : Choice × List Token). length z.0.0) (ok_same _ x f) in
+          omega (arith, same)
+      | inr t ↦ let f : ◌≡◌ {A = Parsed EfgKind Choice} (Err (Node, start)) (Ok x) = rw (c, p, t) at e in absurd (ok_err x (Node, start) (sym f))
+    ]
+  ]
+]
+
+pub few_sets_more : (players k : ℕ) (sets : List BegunSet) (tokens : List Token) (x : Choice × List Token) → parse_choice players k sets tokens ≡ Ok x → length x.0.0 ≤ suc (length sets)
+unfolding parse_choice
+few_sets_more players k sets tokens x e =
+    let w = bind_ok (wanted Node tokens (word_at tokens)) _ x e in
+    let n = bind_ok (wanted Node w.0.1 (text_at w.0.1)) _ x w.2 in
+    behind_adds players k sets w.0.0 tokens n.0.1 x n.2
 
 -- one more outcome at most
-one_more_outcome : (outcomes more : List BegunOutcome) (used : Option OutcomeUse) → use_some_outcome outcomes used ≡ Some more → length more ≤ suc (length outcomes)
-one_more_outcome outcomes more None e = let same : length outcomes ≡ length more = ap length (same_Some _ _ e) in omega (arith, same)
-one_more_outcome outcomes more (Some used) e = go (slice_get outcomes (outcome_place outcomes used.label)) e
-  where
-    go : (found : Option BegunOutcome) → with_outcome_use outcomes used found ≡ Some more → length more ≤ suc (length outcomes)
-    go None e =
-        let list = bind_some used.payoffs _ more e in
-        let same : outcomes ++ new_outcome used list.0 ∷ [] ≡ more = same_Some _ _ list.2 in
-        let one : length more ≡ length outcomes + 1 = sym (ap length same) ∙ length-append outcomes (new_outcome used list.0 ∷ []) in
-        omega (arith, one)
-    go (Some outcome) e =
-        let same : slice_set outcomes (outcome_place outcomes used.label) (used_outcome used outcome) ≡ more = same_Some _ _ (chosen (repeats_payoffs outcome.payoffs used.payoffs) (Some (slice_set outcomes (outcome_place outcomes used.label) (used_outcome used outcome))) more e).1 in
-        let all : length more ≡ length outcomes = sym (ap length same) ∙ length-set outcomes (outcome_place outcomes used.label) (used_outcome used outcome) in
-        omega (arith, all)
+outcome_adds : (players : ℕ) (outcomes : List BegunOutcome) (used : OutcomeUse) (found : Option BegunOutcome) (tokens : List Token) (x : List BegunOutcome × List Token) → parse_outcome_use players outcomes used found tokens ≡ Ok x → length x.0 ≤ suc (length outcomes)
+outcome_adds players outcomes used None tokens x e =
+    let a = bind_ok (parse_first_payoffs players tokens) _ x e in
+    let same : length (outcomes ++ new_outcome used a.0.0 ∷ []) ≡ length x.0 = ap (λ (z : List BegunOutcome × List Token). length z.0) (ok_same _ x a.2) in
+    let one = length-append outcomes (new_outcome used a.0.0 ∷ []) in
+    omega (arith, same, one)
+outcome_adds players outcomes used (Some outcome) tokens x e =
+    let a = bind_ok (parse_later_payoffs outcome.payoffs tokens) _ x e in
+    let place = outcome_place outcomes used.label in
+    let same : length (slice_set outcomes place (used_outcome used outcome)) ≡ length x.0 = ap (λ (z : List BegunOutcome × List Token). length z.0) (ok_same _ x a.2) in
+    let all = length-set outcomes place (used_outcome used outcome) in
+    omega (arith, same, all)
 
-pub few_outcomes_more : (players : ℕ) (outcomes : List BegunOutcome) (tokens : List Token) (o : OutcomeStep) → outcome_step_at players outcomes tokens ≡ Some o → length o.0.0 ≤ suc (length outcomes)
-unfolding outcome_step_at
-few_outcomes_more players outcomes tokens o e =
-    let a = bind_some (outcome_use_at players tokens) _ o e in
-    let b = bind_some (with_outcome outcomes a.0.0) _ o a.2 in
-    let d = bind_some (use_some_outcome outcomes a.0.0) _ b.0 b.1 in
-    let same : d.0 ≡ o.0.0 = ap (λ (x : List BegunOutcome × Option ℕ). x.0) (same_Some _ _ d.2) ∙ ap (λ (o : OutcomeStep). o.0.0) (same_Some _ _ b.2) in
-    rw same at (one_more_outcome outcomes d.0 a.0.0 d.1)
+named_adds : (players label : ℕ) (outcomes : List BegunOutcome) (tokens : List Token) (x : (List BegunOutcome × Option ℕ) × List Token) → parse_named players label outcomes tokens ≡ Ok x → length x.0.0 ≤ suc (length outcomes)
+unfolding parse_named
+named_adds players label outcomes tokens x e =
+    let used = bare_outcome_use label (optional_text_at tokens).0 in
+    let found = slice_get outcomes (outcome_place outcomes label) in
+    let b = bind_ok (parse_outcome_use players outcomes used found (optional_text_at tokens).1) _ x e in
+    let same : length b.0.0 ≡ length x.0.0 = ap (λ (z : (List BegunOutcome × Option ℕ) × List Token). length z.0.0) (ok_same _ x b.2) in
+    let few = outcome_adds players outcomes used found (optional_text_at tokens).1 b.0 b.1 in
+    omega (arith, same, few)
 
--- ---- the tokens
--- an outcome takes a token
-outcome_takes : (players : ℕ) (tokens : List Token) (used : Option OutcomeUse) → IsOutcomePart players tokens used → 0 < length tokens
-outcome_takes players tokens None h = rw h (omega arith)
-outcome_takes players tokens (Some used) h = rw h.2 (omega arith)
-
--- so a node does
-node_takes : (players : ℕ) (part : List Token) (node : WrittenNode) → IsNode players part node → 0 < length part
-node_takes players part node h =
-    let all : length part ≡ length h.0 + length h.1 = ap length h.2 ∙ length-append h.0 h.1 in
-    omega (arith, all, outcome_takes players h.1 node.outcome h.4)
-
--- a further node is shorter than its tokens
-pub next_takes : (players : ℕ) (begun : Begun) (tokens : List Token) (x : Begun × List Token) → next_at players begun tokens ≡ Some x → length x.1 < length tokens
-unfolding next_at
-next_takes players begun tokens x e =
-    let a = bind_some (node_at players tokens) _ x e in
-    let b = bind_some (add_node begun a.0.0) _ x a.2 in
-    let n = node_is players tokens a.0 a.1 in
-    let rest : a.0.1 ≡ x.1 = ap (λ (x : Begun × List Token). x.1) (same_Some _ _ b.2) in
-    let all : length tokens ≡ length n.0 + length x.1 = ap length n.2 ∙ length-append n.0 a.0.1 ∙ ap (λ (r : List Token). length n.0 + length r) rest in
-    omega (arith, all, node_takes players n.0 a.0.0 n.1)
+pub few_outcomes_more : (players : ℕ) (outcomes : List BegunOutcome) (tokens : List Token) (x : (List BegunOutcome × Option ℕ) × List Token) → parse_outcome players outcomes tokens ≡ Ok x → length x.0.0 ≤ suc (length outcomes)
+unfolding parse_outcome
+few_outcomes_more players outcomes tokens x e =
+    let a = bind_ok (wanted Node tokens (whole_at tokens)) _ x e in
+    elim (cases_Bool (nat_eq a.0.0 0)) [
+      | inl z ↦
+          let f : ◌≡◌ {A = Parsed EfgKind (List BegunOutcome × Option ℕ)} (Ok ((outcomes, None), a.0.1)) (Ok x) = rw z at a.2 in
+          let same : length outcomes ≡ length x.0.0 = ap (λ (z : (List BegunOutcome × Option ℕ) × List Token). length z.0.0) (ok_same _ x f) in
+          omega (arith, same)
+      | inr z ↦ let f : parse_named players a.0.0 outcomes a.0.1 ≡ Ok x = rw z at a.2 in named_adds players a.0.0 outcomes a.0.1 x f
+    ]

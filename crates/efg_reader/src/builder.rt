@@ -1,10 +1,11 @@
 // The tree as far as it is begun.
-ghost use Rattle.std.specs.Prelude.{◌≡◌, ◌≢◌, ◌<◌, ◌≤◌, ℕ, suc, [], None, Some, All, length, IfOk, OnOk};
+ghost use Rattle.std.specs.Prelude.{◌≡◌, ◌≢◌, ◌<◌, ◌≤◌, suc, [], None, Some, All, length, IfOk, OnOk};
 ghost use Rattle.std.specs.List.{AllByRecursion};
 ghost use Rattle.game_core.specs.Tree.{most_nodes};
 ghost use Rattle.written_trees.specs.Building.{passed, nothing_begun, begun_count, add_places};
 ghost use Rattle.tree_uses.specs.Uses.{begun_sets};
-ghost use Rattle.efg_reader.specs.States.{begun_of, branchings_of, grown, IsNear, IsBuilder, HasTaken};
+ghost use Rattle.tree_files.specs.TreeReading.{grown};
+ghost use Rattle.efg_reader.specs.States.{begun_of, branchings_of, IsNear, IsBuilder, HasTaken};
 
 use game_core::{Kind, Node, What};
 use indexmap::IndexSet;
@@ -91,7 +92,7 @@ impl Builder {
     /// Nothing but the place of the root.
     pub fn new(alloc: Global) -> Result<Builder, AllocError>
         ensures nothing { IfOk result (λ builder. begun_of builder ≡ nothing_begun) }
-        ensures valid { (players : ℕ) → IfOk result (IsBuilder players) }
+        ensures valid { IfOk result IsBuilder }
     {
         let root = Branching {
             node: None,

@@ -1,7 +1,8 @@
 // The part of a file up to the nodes.
 ghost use Rattle.std.specs.Prelude.{◌≡◌};
-ghost use Rattle.file_parts.specs.Reading.{Reads, kinds};
-ghost use Rattle.tree_files.specs.TreeReading.{front_at};
+ghost use Rattle.file_parts.specs.Reading.{kinds};
+ghost use Rattle.file_parts.specs.Parsing.{Parses};
+ghost use Rattle.tree_files.specs.TreeParsing.{parse_head};
 
 use file_parts::{Refusal, behind_text, copied, names, title};
 use game_core::Name;
@@ -19,12 +20,12 @@ pub struct Front {
 }
 
 /// The title, the players, and the tokens behind them and the comment that may come.
-#[tactic(auto, unfolding(tree_files::specs::TreeReading::front_at))]
+#[tactic(auto, using(file_parts::proofs::Parses::refused_first), unfolding(tree_files::specs::TreeParsing::parse_head))]
 pub fn read_front(
     alloc: Global,
     tokens: &[Spanned],
 ) -> Result<(Front, &[Spanned]), Refusal<EfgKind>>
-    ensures { Reads (λ x. ((x.0.title, x.0.players.items), kinds x.1.now)) result (front_at (kinds tokens.now)) }
+    ensures { Parses (λ x. ((x.0.title, x.0.players.items), kinds x.1.now)) result (parse_head (kinds tokens.now)) }
 {
     let (title, behind) = title(tokens, b"EFG", 2, EfgKind::Header)?;
     let title = copied(alloc, title)?;

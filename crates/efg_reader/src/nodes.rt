@@ -1,10 +1,14 @@
 // The nodes of a file.
-ghost use Rattle.std.specs.Prelude.{◌≡◌, ◌<◌, ◌≢◌, [], None, length, IfOk};
-ghost use Rattle.file_parts.specs.Reading.{Reads, kinds};
+ghost use Rattle.std.specs.Prelude.{◌≡◌, ◌<◌, ◌≢◌, [], true, None, length, IfOk};
+ghost use Rattle.std.specs.List.{AllByRecursion};
+ghost use Rattle.game_tokens.specs.InPlace.{IsShortToken};
+ghost use Rattle.file_parts.specs.Reading.{kinds};
+ghost use Rattle.file_parts.specs.Parsing.{Parses};
 ghost use Rattle.game_core.specs.Tree.{kind_of_owner};
 ghost use Rattle.tree_uses.specs.Uses.{begun_sets, AreSets};
-ghost use Rattle.efg_reader.specs.States.{begun_of, IsBuilder, ReadsNodes};
-ghost use Rattle.tree_files.specs.TreeReading.{is_word, set_choice_at, own_choice_at, choice_step_at, next_at, one_more_at, whole_nodes_at};
+ghost use Rattle.efg_reader.specs.States.{begun_of, IsBuilder, ReadsNode, ReadsNodes};
+ghost use Rattle.tree_files.specs.TreeReading.{is_word, begins_node};
+ghost use Rattle.tree_files.specs.TreeParsing.{parse_set_choice, parse_own_choice, parse_choice, parse_at};
 ghost use Rattle.written_trees.specs.Building.{passed};
 
 use crate::builder::{Builder, Choice};
@@ -64,6 +68,7 @@ fn kind_of(owner: Option<u32>) -> Kind
 }
 
 // The sets with one of this owner, the choice at it, and the tokens behind it.
+#[tactic(auto, using(file_parts::proofs::Parses::refused_first), unfolding(tree_files::specs::TreeParsing::parse_set_choice))]
 fn set_choice<'a>(
     alloc: Global,
     sets: Sets,
@@ -73,8 +78,9 @@ fn set_choice<'a>(
 ) -> Result<(Sets, Choice, &'a [Spanned]), Refusal<EfgKind>>
     requires sets { AreSets sets }
     requires few { length sets.list.items < 4294967295 }
+    requires short { AllByRecursion IsShortToken (kinds tokens.now) }
     ensures sets { IfOk result (λ x. AreSets x.0) }
-    ensures read { Reads (λ x. ((begun_sets x.0, (x.1.kind, x.1.set)), kinds x.2.now)) result (set_choice_at number (begun_sets sets) owner (kinds tokens.now)) }
+    ensures read { Parses (λ x. ((begun_sets x.0, (x.1.kind, x.1.set)), kinds x.2.now)) result (parse_set_choice number (begun_sets sets) owner (kinds tokens.now)) }
 {
     match read_set(alloc, sets, owner, number, tokens) {
         Ok((sets, set, rest)) => {
@@ -89,6 +95,7 @@ fn set_choice<'a>(
 }
 
 // The sets with one of the player whose number comes, the choice at it, and the tokens behind it.
+#[tactic(auto, using(file_parts::proofs::Parses::refused_first, crate::proofs::ShortRests::player_leaves), unfolding(tree_files::specs::TreeParsing::parse_own_choice))]
 fn own_choice<'a>(
     alloc: Global,
     sets: Sets,
@@ -98,8 +105,9 @@ fn own_choice<'a>(
 ) -> Result<(Sets, Choice, &'a [Spanned]), Refusal<EfgKind>>
     requires sets { AreSets sets }
     requires few { length sets.list.items < 4294967295 }
+    requires short { AllByRecursion IsShortToken (kinds tokens.now) }
     ensures sets { IfOk result (λ x. AreSets x.0) }
-    ensures read { Reads (λ x. ((begun_sets x.0, (x.1.kind, x.1.set)), kinds x.2.now)) result (own_choice_at players number (begun_sets sets) (kinds tokens.now)) }
+    ensures read { Parses (λ x. ((begun_sets x.0, (x.1.kind, x.1.set)), kinds x.2.now)) result (parse_own_choice players number (begun_sets sets) (kinds tokens.now)) }
 {
     match player(tokens, players) {
         Ok((player, behind)) => set_choice(alloc, sets, Some(player), number, behind),
@@ -109,6 +117,7 @@ fn own_choice<'a>(
 
 // A node with this number up to its outcome: the sets with the one that it uses, the choice that is made there, and
 // the tokens behind it.
+#[tactic(auto, using(crate::proofs::ShortRests::short_behind), unfolding(tree_files::specs::TreeParsing::parse_choice))]
 fn choice<'a>(
     alloc: Global,
     sets: Sets,
@@ -118,8 +127,9 @@ fn choice<'a>(
 ) -> Result<(Sets, Choice, &'a [Spanned]), Refusal<EfgKind>>
     requires sets { AreSets sets }
     requires few { length sets.list.items < 4294967295 }
+    requires short { AllByRecursion IsShortToken (kinds tokens.now) }
     ensures sets { IfOk result (λ x. AreSets x.0) }
-    ensures read { Reads (λ x. ((begun_sets x.0, (x.1.kind, x.1.set)), kinds x.2.now)) result (choice_step_at players number (begun_sets sets) (kinds tokens.now)) }
+    ensures read { Parses (λ x. ((begun_sets x.0, (x.1.kind, x.1.set)), kinds x.2.now)) result (parse_choice players number (begun_sets sets) (kinds tokens.now)) }
 {
     let Some((word, name_on)) = word(tokens) else {
         return Err(unfit(EfgKind::Node, tokens));
@@ -149,12 +159,13 @@ fn next<'a>(
     players: u32,
     tokens: &'a [Spanned],
 ) -> Result<(Builder, &'a [Spanned]), Refusal<EfgKind>>
-    requires valid { IsBuilder players builder }
+    requires valid { IsBuilder builder }
+    requires begins { begins_node (kinds tokens.now) ≡ true }
     requires room { passed (begun_of builder) ≡ None }
     requires free { (begun_of builder).branchings ≢ [] }
-    ensures valid { IfOk result (λ x. IsBuilder players x.0) }
-    ensures shorter { IfOk result (λ x. length x.1.now < length tokens.now) }
-    ensures read { Reads (λ x. (begun_of x.0, kinds x.1.now)) result (next_at players (begun_of builder) (kinds tokens.now)) }
+    requires short { AllByRecursion IsShortToken (kinds tokens.now) }
+    ensures valid { IfOk result (λ x. IsBuilder x.0) }
+    ensures read { Parses (λ x. (begun_of x.0, kinds x.1.now)) result (parse_at players (begun_of builder) (begun_of builder).branchings (kinds tokens.now)) }
 {
     let Builder {
         nodes,
@@ -183,18 +194,18 @@ fn next<'a>(
 }
 
 // The tree with a further node, and the tokens behind it.
-#[tactic(auto, unfolding(tree_files::specs::TreeReading::one_more_at))]
+#[tactic(auto, using(crate::proofs::NextSteps::no_word))]
 fn one_more<'a>(
     alloc: Global,
     builder: Builder,
     players: u32,
     tokens: &'a [Spanned],
 ) -> Result<(Builder, &'a [Spanned]), Stop>
-    requires valid { IsBuilder players builder }
+    requires valid { IsBuilder builder }
     requires free { (begun_of builder).branchings ≢ [] }
-    ensures valid { IfOk result (λ x. IsBuilder players x.0) }
-    ensures shorter { IfOk result (λ x. length x.1.now < length tokens.now) }
-    ensures read { ReadsNodes (λ x. (begun_of x.0, kinds x.1.now)) result (one_more_at players (begun_of builder) (kinds tokens.now)) }
+    requires short { AllByRecursion IsShortToken (kinds tokens.now) }
+    ensures valid { IfOk result (λ x. IsBuilder x.0) }
+    ensures read { ReadsNode (λ x. (begun_of x.0, kinds x.1.now)) result players (begun_of builder) (kinds tokens.now) }
 {
     if !begins_node(tokens) {
         return Err(Stop::Refused(unfit(EfgKind::Node, tokens)));
@@ -209,10 +220,9 @@ fn one_more<'a>(
 }
 
 /// The tree of all nodes of a file, behind which it ends.
-#[tactic(auto, unfolding(tree_files::specs::TreeReading::whole_nodes_at))]
 pub fn read_nodes(alloc: Global, players: u32, tokens: &[Spanned]) -> Result<Builder, Stop>
-    ensures valid { IfOk result (IsBuilder players) }
-    ensures read { ReadsNodes (λ builder. begun_of builder) result (whole_nodes_at players (kinds tokens.now)) }
+    requires short { AllByRecursion IsShortToken (kinds tokens.now) }
+    ensures { ReadsNodes (λ builder. begun_of builder) result players (kinds tokens.now) }
 {
     let mut builder = Builder::new(alloc)?;
     let mut rest = tokens;

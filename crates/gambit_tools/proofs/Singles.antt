@@ -1,6 +1,5 @@
 -- Each stage has at most one answer.
 use Rattle.std.proofs.Common.{ℕ, ◌≡◌, ◌<◌, ◌∙◌, sym, ap, refl, Bool, true, false, List, [], length, slice_index_or}
-use Rattle.std.specs.List.{AllByRecursion}
 use Rattle.answers.specs.Answers.{IsSingle, IsSingleAs, refuse_where, only, refused_by}
 use Rattle.answers.proofs.Answers.{bind-single, by_case-single, only-single, refuse_where-single, refused_by-single, single-as, single-less}
 use Rattle.game_core.specs.Table.{game_of as game_of_table}
@@ -8,14 +7,11 @@ use Rattle.game_core.specs.Tree.{GameTree}
 use Rattle.game_core.specs.TreeGame.{game_of_tree}
 use Rattle.game_core.specs.declared.game.Game.{Game}
 use Rattle.game_core.specs.declared.game.Game.TheVariants.{Strategic, Extensive}
-use Rattle.game_tokens.specs.TokenList.{TokenList, bare}
-use Rattle.game_tokens.specs.InPlace.{IsShortToken}
 use Rattle.game_text.specs.Stops.{tokens_of}
-use Rattle.game_text.proofs.Passes.{tokens_are_short}
 use Rattle.game_text.proofs.Single.{tokens_of-single}
 use Rattle.nfg_reader.specs.Stops.{table_in}
 use Rattle.nfg_reader.proofs.Single.{table_in-single}
-use Rattle.efg_reader.specs.Stops.{tree_in, but_for_fault as efg_but_for_fault}
+use Rattle.efg_reader.specs.Stops.{tree_in, but_for_kind}
 use Rattle.efg_reader.specs.declared.fault.EfgStop.{EfgStop}
 use Rattle.efg_reader.specs.declared.fault.EfgStop.TheVariants as efg_stop
 use Rattle.efg_reader.proofs.FileStops.{tree_in-single}
@@ -34,6 +30,8 @@ use Rattle.gambit_tools.specs.Enumpure.{form_text, enumpure}
 use Rattle.gambit_tools.specs.Commands.{tool_of, answer_of}
 use Rattle.gambit_tools.specs.Origins.{forget}
 use Rattle.gambit_tools.specs.declared.refusal.Refusal.TheVariants as refusal
+use Rattle.game_tokens.specs.TokenList.{TokenList, bare}
+use Rattle.game_tokens.specs.InPlace.{IsShortToken}
 
 -- ---- games
 tokens_in-single : (bytes : List ℕ) → IsSingleAs forget (tokens_in bytes)
@@ -42,8 +40,8 @@ tokens_in-single bytes =
     (refuse_where-single forget (most_bytes < length bytes) refusal.TooLong)
     (λ _ _. refused_by-single forget text_refusal (tokens_of bytes) (single-as (λ stop. forget (text_refusal stop)) (tokens_of bytes) (tokens_of-single bytes)))
 
--- a stop without its fault is told in the same way
-efg_told : (stop : EfgStop) → forget (efg_refusal stop) ≡ forget (efg_refusal (efg_but_for_fault stop))
+-- a stop is told as one without the kind of a fault among the nodes
+efg_told : (stop : EfgStop) → forget (efg_refusal stop) ≡ efg_refusal (but_for_kind stop)
 efg_told (efg_stop.Fault fault) = refl
 efg_told (efg_stop.TooLarge limit) = refl
 efg_told efg_stop.Memory = refl
@@ -54,17 +52,17 @@ table_game-single tokens =
     (refused_by-single forget nfg_refusal (table_in tokens) (single-as (λ stop. forget (nfg_refusal stop)) (table_in tokens) (table_in-single tokens)))
     (λ table _. only-single forget (Strategic table))
 
-tree_game-single : (tokens : TokenList) → AllByRecursion IsShortToken (bare tokens) → IsSingleAs forget (tree_game tokens)
-tree_game-single tokens short =
+tree_game-single : (tokens : TokenList) → IsSingleAs forget (tree_game tokens)
+tree_game-single tokens =
     bind-single forget (refused_by efg_refusal (tree_in tokens)) (λ tree. only (Extensive tree))
-    (refused_by-single forget efg_refusal (tree_in tokens) (single-less efg_but_for_fault (λ stop. forget (efg_refusal stop)) (tree_in tokens)
-    (λ one other e. efg_told one ∙ ap (λ stop. forget (efg_refusal stop)) e ∙ sym (efg_told other)) (tree_in-single tokens short)))
+    (refused_by-single forget efg_refusal (tree_in tokens) (single-less but_for_kind (λ stop. forget (efg_refusal stop)) (tree_in tokens)
+    (λ one other e. efg_told one ∙ ap efg_refusal e ∙ sym (efg_told other)) (tree_in-single tokens)))
     (λ tree _. only-single forget (Extensive tree))
 
 game_in-single : (bytes : List ℕ) → IsSingleAs forget (game_in bytes)
 game_in-single bytes =
     bind-single forget (tokens_in bytes) game_of (tokens_in-single bytes)
-    (λ tokens h. by_case-single forget (BeginsAsTree (bare tokens)) (tree_game tokens) (table_game tokens) (λ _. tree_game-single tokens (tokens_are_short bytes tokens h.2)) (λ _. table_game-single tokens))
+    (λ tokens _. by_case-single forget (BeginsAsTree (bare tokens)) (tree_game tokens) (table_game tokens) (λ _. tree_game-single tokens) (λ _. table_game-single tokens))
 
 -- ---- the tool `enumpure`
 form_text-single : (strategic : Bool) (tree : GameTree) (form : ReducedForm) → IsSingle (form_text strategic tree form)

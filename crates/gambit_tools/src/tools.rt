@@ -137,8 +137,8 @@ pub fn run<R: Threads + Sync, I: Inputs, K: Sink, E: Sink, G: Gate>(
     }
 }
 
-/// The contents of a command's inputs have at most one answer, but for kind and place of a fault in a file of a
-/// tree.
+/// The contents of a command's inputs have at most one answer, but for the kind that a fault in a file of a tree has
+/// among the nodes.
 pub fn answers_are_single()
     ensures { (command : Command) (contents : List (List ℕ)) → IsSingleAs forget (answer_of command contents) }
 {}

@@ -1,8 +1,6 @@
-pub mod ActionLists
 pub mod ActionSteps
 pub mod KeptOutcomes
-pub mod NamedOutcomes
+pub mod Labels
 pub mod OutcomeSteps
 pub mod Probabilities
-pub mod Refused
 pub mod SetSteps

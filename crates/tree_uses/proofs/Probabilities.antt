@@ -1,9 +1,10 @@
 -- One more probability: what the code compares says whether it may follow.
-use Rattle.std.proofs.Common.{◌≡◌, inl, inr, Bool, true, false, ◌&&◌, true≢false, refl, sym, ap₂, subst, ◌∙◌, ℤ, pos, negsuc, ◌*ℤ◌, ◌<ℤ◌, ◌≤ℤ◌, Decides, arith}
+use Rattle.std.proofs.Common.{◌≡◌, ℕ, inl, inr, Bool, true, false, ◌&&◌, true≢false, refl, sym, ap₂, subst, ◌∙◌, ℤ, pos, negsuc, ◌*ℤ◌, ◌<ℤ◌, ◌≤ℤ◌, Decides, arith}
 use Rattle.std.proofs.lemmas.Bool.{cases_Bool}
 use Rattle.std.proofs.lemmas.Int.{ints}
 use Rattle.std.proofs.lemmas.Cmp.{int_ranked}
 use Rattle.std.specs.Bool.{◌==◌}
+use Rattle.std.specs.Prelude.{Ok, Err, if◌then◌else◌}
 use Rattle.std.specs.Int.{int_signum}
 use Rattle.std.specs.Int.RustNames.{int_le}
 use Rattle.std.specs.declared.cmp.Ordering.{Ordering}
@@ -13,8 +14,12 @@ use Rattle.rational.specs.Rational.{ℚ, ◌+ℚ◌, zero_ℚ, one_ℚ}
 use Rattle.rational.specs.Tests.{le_test, cmp_ℚ, sign_of}
 use Rattle.rational.proofs.Decide.{le_test-true}
 use Rattle.rational.proofs.Parts.{nonneg-num}
-use Rattle.frac128.specs.Steps.{AddFits}
-use Rattle.written_trees.specs.Building.{may_follow}
+use Rattle.frac128.specs.Steps.{AddFits, unfit}
+use Rattle.frac128.specs.declared.steps.Op.TheVariants.{Add}
+use Rattle.frac128.specs.declared.steps.Unfit.{Unfit}
+use Rattle.written_trees.specs.Building.{add_test}
+use Rattle.tree_files.specs.TreeParsing.{sum_with}
+use Rattle.tree_files.specs.declared.fault.EfgKind.TheVariants.{Probability, ProbabilityRange}
 use Rattle.written_trees.proofs.Chances.{add_test-Decides}
 
 -- a test fails where what it decides does not hold
@@ -58,26 +63,28 @@ order_gt : (r : Ordering) (a b : ℚ) → r ≡ cmp_ℚ a b → (ordering_index 
 unfolding le_test
 order_gt r a b e h = order_fails r (a.num *ℤ pos b.den) (b.num *ℤ pos a.den) e h
 
--- three tests that pass, and three of which the last fails
-all_pass : (a b d : Bool) → a ≡ true → b ≡ true → d ≡ true → (a && (b && d)) ≡ true
-all_pass a b d e f g = rw (e, f, g) refl
-
-last_fails : (a b d : Bool) → d ≡ false → (a && (b && d)) ≡ false
-last_fails true true d e = e
-last_fails true false d e = refl
-last_fails false b d e = refl
-
+-- ---- the sum with one more
 -- a probability that is not negative may follow where the sum fits and is at most 1
-pub may_follow_so : (sum prob next one : ℚ) (sign : ℤ) (r : Ordering) → next ≡ sum +ℚ prob → AddFits sum prob → sign ≡ sign_of prob → pos 0 ≤ℤ sign → one ≡ one_ℚ → r ≡ cmp_ℚ next one → (ordering_index r == 2) ≡ false → may_follow sum prob ≡ true
-unfolding may_follow
-may_follow_so sum prob next one sign r n f s nonneg o e h = all_pass _ _ _ (sign_passes prob (subst (λ z. pos 0 ≤ℤ z) s nonneg)) ((add_test-Decides sum prob).1 f) (order_le r (sum +ℚ prob) one_ℚ (e ∙ ap₂ cmp_ℚ n o) h)
+pub sum_so : (set : ℕ) (sum prob next one : ℚ) (sign : ℤ) (r : Ordering) → next ≡ sum +ℚ prob → AddFits sum prob → sign ≡ sign_of prob → pos 0 ≤ℤ sign → one ≡ one_ℚ → r ≡ cmp_ℚ next one → (ordering_index r == 2) ≡ false → Ok next ≡ sum_with set sum prob
+unfolding sum_with
+sum_so set sum prob next one sign r n f s nonneg o e h =
+    rw (n, (add_test-Decides sum prob).1 f, sign_passes prob (subst (λ z. pos 0 ≤ℤ z) s nonneg), order_le r (sum +ℚ prob) one_ℚ (e ∙ ap₂ cmp_ℚ n o) h) refl
 
 -- a negative probability may not follow
-pub negative_may_not : (sum prob : ℚ) (sign : ℤ) → sign ≡ sign_of prob → sign <ℤ pos 0 → may_follow sum prob ≡ false
-unfolding may_follow
-negative_may_not sum prob sign s h = rw (sign_fails prob (subst (λ z. z <ℤ pos 0) s h)) refl
+pub sum_negative : (set : ℕ) (sum prob next : ℚ) (sign : ℤ) → next ≡ sum +ℚ prob → AddFits sum prob → sign ≡ sign_of prob → sign <ℤ pos 0 → Err (Probability set next) ≡ sum_with set sum prob
+unfolding sum_with
+sum_negative set sum prob next sign n f s h = rw (n, (add_test-Decides sum prob).1 f, sign_fails prob (subst (λ z. z <ℤ pos 0) s h)) refl
 
 -- nor one with which the sum is above 1
-pub excess_may_not : (sum prob next one : ℚ) (r : Ordering) → next ≡ sum +ℚ prob → one ≡ one_ℚ → r ≡ cmp_ℚ next one → (ordering_index r == 2) ≡ true → may_follow sum prob ≡ false
-unfolding may_follow
-excess_may_not sum prob next one r n o e h = last_fails _ _ _ (order_gt r (sum +ℚ prob) one_ℚ (e ∙ ap₂ cmp_ℚ n o) h)
+pub sum_above : (set : ℕ) (sum prob next one : ℚ) (r : Ordering) → next ≡ sum +ℚ prob → AddFits sum prob → one ≡ one_ℚ → r ≡ cmp_ℚ next one → (ordering_index r == 2) ≡ true → Err (Probability set next) ≡ sum_with set sum prob
+unfolding sum_with
+sum_above set sum prob next one r n f o e h = rw (n, (add_test-Decides sum prob).1 f) (by (le_test zero_ℚ prob) (order_gt r (sum +ℚ prob) one_ℚ (e ∙ ap₂ cmp_ℚ n o) h))
+  where
+    by : (nonneg : Bool) → le_test (sum +ℚ prob) one_ℚ ≡ false → Err (Probability set (sum +ℚ prob)) ≡ (if nonneg && le_test (sum +ℚ prob) one_ℚ then Ok (sum +ℚ prob) else Err (Probability set (sum +ℚ prob)))
+    by true e = rw e refl
+    by false e = refl
+
+-- nor one whose sum does not fit
+pub sum_outside : (set : ℕ) (sum prob : ℚ) (step : Unfit) → ¬ (AddFits sum prob) → step ≡ unfit Add sum prob → Err (ProbabilityRange set step) ≡ sum_with set sum prob
+unfolding sum_with
+sum_outside set sum prob step f u = rw (u, test_fails (add_test sum prob) (add_test-Decides sum prob) f) refl

@@ -1,23 +1,25 @@
 // Lists of actions.
-ghost use Rattle.std.specs.Prelude.{◌≡◌, true, false, Some, IfOk, MatchResult};
-ghost use Rattle.rational.specs.Rational.{◌+ℚ◌, zero_ℚ};
-ghost use Rattle.file_parts.specs.Reading.{Reads, kinds};
-ghost use Rattle.written_trees.specs.Building.{may_follow};
-ghost use Rattle.written_trees.specs.Laws.{IsActionList};
-ghost use Rattle.tree_files.specs.TreeReading.{summed_at, actions_at, closed_at, first_list_at, repeated_at, all_repeated_at, later_list_at};
+ghost use Rattle.std.specs.Prelude.{◌≡◌, if◌then◌else◌, List, map, Ok};
+ghost use Rattle.rational.specs.Rational.{zero_ℚ};
+ghost use Rattle.game_core.specs.declared.tree.Action.{Action as action};
+ghost use Rattle.game_tokens.specs.declared.token.Token.{Token as token};
+ghost use Rattle.file_parts.specs.Reading.{kinds, texts_at};
+ghost use Rattle.file_parts.specs.Parsing.{Parses};
+ghost use Rattle.tree_files.specs.TreeReading.{own_action};
+ghost use Rattle.tree_files.specs.TreeParsing.{sum_with, parse_chances, parse_closed, parse_first_list, parse_repeated, parse_all_repeated, parse_later_list};
+ghost use Rattle.tree_files.specs.declared.fault.EfgKind.TheVariants.{Node, SetMismatch};
 
-use crate::fault::EfgKind;
 use file_parts::{Refusal, copied, left, number, right, text, unfit};
 use frac128::Frac;
 use game_core::Action;
 use game_tokens::Spanned;
 use std::alloc::Global;
 use std::cmp::Ordering;
+use tree_files::EfgKind;
 
 // The sum with one more probability of the set with this number.
-#[tactic(auto, unfolding(written_trees::specs::Building::may_follow))]
 fn next_sum(sum: Frac, prob: Frac, set: u64) -> Result<Frac, EfgKind>
-    ensures { MatchResult result (λ next. (may_follow sum prob ≡ true) × (next ≡ sum +ℚ prob)) (λ _. may_follow sum prob ≡ false) }
+    ensures { result ≡ sum_with set sum prob }
 {
     let next = match sum.add(prob) {
         Ok(next) => next,
@@ -36,7 +38,7 @@ fn chance_actions(
     tokens: &[Spanned],
     set: u64,
 ) -> Result<(Vec<Action>, Frac, &[Spanned]), Refusal<EfgKind>>
-    ensures { Reads (λ x. ((x.0.items, x.1), kinds x.2.now)) result (summed_at zero_ℚ (kinds tokens.now)) }
+    ensures { Parses (λ x. ((x.0.items, x.1), kinds x.2.now)) result (parse_chances set zero_ℚ (kinds tokens.now)) }
 {
     let mut actions = Vec::new(alloc);
     let mut sum = Frac::zero();
@@ -62,7 +64,7 @@ fn own_actions(
     alloc: Global,
     tokens: &[Spanned],
 ) -> Result<(Vec<Action>, &[Spanned]), Refusal<EfgKind>>
-    ensures { Reads (λ x. (x.0.items, kinds x.1.now)) result (actions_at (Some 0) (kinds tokens.now)) }
+    ensures { Parses {Y = List action × List token} (λ x. (x.0.items, kinds x.1.now)) result (Ok (map own_action (texts_at (kinds tokens.now)).0, (texts_at (kinds tokens.now)).1)) }
 {
     let mut actions = Vec::new(alloc);
     let mut rest = tokens;
@@ -77,7 +79,7 @@ fn own_actions(
 
 // The tokens behind the brace that closes this many actions, which is at least one.
 fn closed(tokens: &[Spanned], count: usize) -> Result<&[Spanned], Refusal<EfgKind>>
-    ensures { Reads (λ rest. kinds rest.now) result (closed_at count (kinds tokens.now)) }
+    ensures { Parses (λ rest. (tt, kinds rest.now)) result (parse_closed count (kinds tokens.now)) }
 {
     match right(tokens) {
         Some(rest) if count >= 1 => Ok(rest),
@@ -86,14 +88,14 @@ fn closed(tokens: &[Spanned], count: usize) -> Result<&[Spanned], Refusal<EfgKin
 }
 
 /// The actions of a set at its first use, and the tokens behind them. The set has this number.
+#[tactic(auto, using(crate::proofs::ActionSteps::list_steps))]
 pub fn first_list(
     alloc: Global,
     tokens: &[Spanned],
     owner: Option<u32>,
     set: u64,
 ) -> Result<(Vec<Action>, &[Spanned]), Refusal<EfgKind>>
-    ensures read { Reads (λ x. (x.0.items, kinds x.1.now)) result (first_list_at owner (kinds tokens.now)) }
-    ensures list { IfOk result (λ x. IsActionList owner x.0.items) }
+    ensures { Parses (λ x. (x.0.items, kinds x.1.now)) result (parse_first_list owner set (kinds tokens.now)) }
 {
     let Some(inner) = left(tokens) else {
         return Err(unfit(EfgKind::SetMismatch, tokens));
@@ -116,7 +118,9 @@ pub fn first_list(
 }
 
 // The kind of the fault where a text is wanted, or not wanted, and another token comes.
-fn mismatch_or_node(differs: bool) -> EfgKind {
+fn mismatch_or_node(differs: bool) -> EfgKind
+    ensures { result ≡ (if differs then SetMismatch else Node) }
+{
     if differs {
         EfgKind::SetMismatch
     } else {
@@ -125,12 +129,13 @@ fn mismatch_or_node(differs: bool) -> EfgKind {
 }
 
 // The tokens behind an action that repeats this one.
+#[tactic(auto, unfolding(tree_files::specs::TreeParsing::parse_repeated))]
 fn repeated<'a>(
     tokens: &'a [Spanned],
     owner: Option<u32>,
     action: &Action,
 ) -> Result<&'a [Spanned], Refusal<EfgKind>>
-    ensures { Reads (λ rest. kinds rest.now) result (repeated_at owner action.now (kinds tokens.now)) }
+    ensures { Parses (λ rest. (tt, kinds rest.now)) result (parse_repeated owner action.now (kinds tokens.now)) }
 {
     let Some((_, after)) = text(tokens) else {
         return Err(unfit(mismatch_or_node(right(tokens).is_some()), tokens));
@@ -152,7 +157,7 @@ fn all_repeated<'a>(
     owner: Option<u32>,
     actions: &[Action],
 ) -> Result<&'a [Spanned], Refusal<EfgKind>>
-    ensures { Reads (λ rest. kinds rest.now) result (all_repeated_at owner actions.now (kinds tokens.now)) }
+    ensures { Parses (λ rest. (tt, kinds rest.now)) result (parse_all_repeated owner actions.now (kinds tokens.now)) }
 {
     let mut rest = tokens;
     for action in actions {
@@ -162,13 +167,13 @@ fn all_repeated<'a>(
 }
 
 /// The tokens behind the actions of a later use, which may come, and repeat these.
+#[tactic(auto, using(file_parts::proofs::Parses::refused_first), unfolding(tree_files::specs::TreeParsing::parse_repeated_list))]
 pub fn later_list<'a>(
     tokens: &'a [Spanned],
     owner: Option<u32>,
     actions: &[Action],
 ) -> Result<&'a [Spanned], Refusal<EfgKind>>
-    requires list { IsActionList owner actions.now }
-    ensures { Reads (λ rest. kinds rest.now) result (later_list_at owner actions.now (kinds tokens.now)) }
+    ensures { Parses (λ rest. (tt, kinds rest.now)) result (parse_later_list owner actions.now (kinds tokens.now)) }
 {
     let Some(inner) = left(tokens) else {
         return Ok(tokens);

@@ -2,12 +2,11 @@
 #![tactic(auto)]
 
 mod actions;
-mod fault;
 mod outcomes;
 mod pieces;
 mod sets;
 
-pub use fault::EfgKind;
 pub use outcomes::{OutcomeBegun, Outcomes, read_outcome};
 pub use pieces::{begins_node, player};
 pub use sets::{SetBegun, SetKey, Sets, read_set};
+pub use tree_files::EfgKind;

@@ -1,13 +1,15 @@
 // The outcomes, numbered by their first use.
-ghost use Rattle.std.specs.Prelude.{◌≡◌, ◌<◌, ℕ, Some, length, option_map, IfOk, OnOk};
+ghost use Rattle.std.specs.Prelude.{◌≡◌, ◌<◌, Some, if◌then◌else◌, length, option_map, IfOk, OnOk};
+ghost use Rattle.std.specs.List.{AllByRecursion};
+ghost use Rattle.game_tokens.specs.InPlace.{IsShortToken};
 ghost use Rattle.file_parts.specs.declared.refusal.Refusal.TheVariants.{Unfit};
-ghost use Rattle.tree_uses.specs.declared.fault.EfgKind.{EfgKind};
-ghost use Rattle.file_parts.specs.Reading.{Reads, Gives, kinds, right_at, payoffs_at};
+ghost use Rattle.file_parts.specs.Reading.{kinds, payoff_start};
+ghost use Rattle.file_parts.specs.Parsing.{Parses, parse_each};
 ghost use Rattle.tree_uses.specs.Uses.{begun_outcomes, AreOutcomes};
-ghost use Rattle.tree_files.specs.TreeReading.{outcome_step_at, named_step_at, payoffs_repeated_at, later_payoffs_at, payoff_list_at};
+ghost use Rattle.tree_files.specs.TreeParsing.{closes, parse_payoff, parse_payoffs_end, parse_first_payoffs, parse_same_payoffs, parse_later_payoffs, parse_named, parse_outcome};
+ghost use Rattle.tree_files.specs.declared.fault.EfgKind.TheVariants.{Node, OutcomeMismatch};
 ghost use Rattle.std.specs.Option.{option_or};
 
-use crate::fault::EfgKind;
 use crate::sets::optional_name;
 use file_parts::{Refusal, label, left, number, optional_text, payoff, payoff_start, right, unfit};
 use frac128::Frac;
@@ -15,6 +17,7 @@ use game_core::Name;
 use game_tokens::Spanned;
 use indexmap::IndexSet;
 use std::alloc::Global;
+use tree_files::EfgKind;
 
 /// An outcome as far as it was used.
 #[derive(Drop)]
@@ -37,7 +40,9 @@ pub struct Outcomes {
 }
 
 // The kind of the fault at a token: whether the payoffs are too few or too many there, or the token fits no list.
-fn mismatch_or_node(differs: bool) -> EfgKind {
+fn mismatch_or_node(differs: bool) -> EfgKind
+    ensures { result ≡ (if differs then OutcomeMismatch else Node) }
+{
     if differs {
         EfgKind::OutcomeMismatch
     } else {
@@ -47,7 +52,7 @@ fn mismatch_or_node(differs: bool) -> EfgKind {
 
 // That no payoff comes, of which this many came before.
 fn no_payoff(tokens: &[Spanned], index: usize) -> Refusal<EfgKind>
-    ensures { (kind : EfgKind) × (left : ℕ) × (result ≡ Unfit kind left) }
+    ensures { result ≡ Unfit (if closes (payoff_start index (kinds tokens.now)) then OutcomeMismatch else Node) (length (payoff_start index (kinds tokens.now))) }
 {
     let start = payoff_start(tokens, index);
     unfit(mismatch_or_node(right(start).is_some()), start)
@@ -55,7 +60,7 @@ fn no_payoff(tokens: &[Spanned], index: usize) -> Refusal<EfgKind>
 
 // The tokens behind the brace that closes payoffs.
 fn closed(tokens: &[Spanned]) -> Result<&[Spanned], Refusal<EfgKind>>
-    ensures { Reads (λ rest. kinds rest.now) result (right_at (kinds tokens.now)) }
+    ensures { Parses (λ rest. (tt, kinds rest.now)) result (parse_payoffs_end (kinds tokens.now)) }
 {
     match right(tokens) {
         Some(rest) => Ok(rest),
@@ -64,13 +69,13 @@ fn closed(tokens: &[Spanned]) -> Result<&[Spanned], Refusal<EfgKind>>
 }
 
 // The payoffs of this many players, and the tokens behind them.
-#[tactic(auto, using(file_parts::proofs::Repeats::repeats))]
+#[tactic(auto, using(file_parts::proofs::Parses::parses))]
 fn payoffs(
     alloc: Global,
     tokens: &[Spanned],
     players: usize,
 ) -> Result<(Vec<Frac>, &[Spanned]), Refusal<EfgKind>>
-    ensures { Reads (λ x. (x.0.items, kinds x.1.now)) result (payoffs_at players (kinds tokens.now)) }
+    ensures { Parses (λ x. (x.0.items, kinds x.1.now)) result (parse_each parse_payoff 0 players (kinds tokens.now)) }
 {
     let mut payoffs = Vec::new(alloc);
     let mut rest = tokens;
@@ -85,13 +90,13 @@ fn payoffs(
 }
 
 // The payoffs of an outcome at its first use, and the tokens behind them.
-#[tactic(auto, unfolding(tree_files::specs::TreeReading::payoff_list_at))]
+#[tactic(auto, using(file_parts::proofs::Parses::refused_first), unfolding(tree_files::specs::TreeParsing::parse_first_payoffs))]
 fn first_payoffs(
     alloc: Global,
     tokens: &[Spanned],
     players: usize,
 ) -> Result<(Vec<Frac>, &[Spanned]), Refusal<EfgKind>>
-    ensures { Reads (λ x. (x.0.items, kinds x.1.now)) result (payoff_list_at players (kinds tokens.now)) }
+    ensures { Parses (λ x. (x.0.items, kinds x.1.now)) result (parse_first_payoffs players (kinds tokens.now)) }
 {
     let Some(inner) = left(tokens) else {
         return Err(unfit(EfgKind::OutcomeMismatch, tokens));
@@ -104,7 +109,7 @@ fn first_payoffs(
 // The tokens behind payoffs that repeat these.
 #[tactic(auto, using(crate::proofs::OutcomeSteps::repeated_steps))]
 fn repeated<'a>(tokens: &'a [Spanned], payoffs: &[Frac]) -> Result<&'a [Spanned], Refusal<EfgKind>>
-    ensures { Reads (λ rest. kinds rest.now) result (payoffs_repeated_at 0 payoffs.now (kinds tokens.now)) }
+    ensures { Parses (λ rest. (tt, kinds rest.now)) result (parse_same_payoffs 0 payoffs.now (kinds tokens.now)) }
 {
     let mut rest = tokens;
     for index in 0..payoffs.len() {
@@ -120,12 +125,12 @@ fn repeated<'a>(tokens: &'a [Spanned], payoffs: &[Frac]) -> Result<&'a [Spanned]
 }
 
 // The tokens behind the payoffs of a later use, which may come, and repeat these.
-#[tactic(auto, using(crate::proofs::OutcomeSteps::later_steps))]
+#[tactic(auto, using(file_parts::proofs::Parses::refused_first), unfolding(tree_files::specs::TreeParsing::parse_repeated_payoffs))]
 fn later_payoffs<'a>(
     tokens: &'a [Spanned],
     payoffs: &[Frac],
 ) -> Result<&'a [Spanned], Refusal<EfgKind>>
-    ensures { Reads (λ rest. kinds rest.now) result (later_payoffs_at (length payoffs.now) payoffs.now (kinds tokens.now)) }
+    ensures { Parses (λ rest. (tt, kinds rest.now)) result (parse_later_payoffs payoffs.now (kinds tokens.now)) }
 {
     let Some(inner) = left(tokens) else {
         return Ok(tokens);
@@ -144,7 +149,7 @@ fn first_use<'a>(
 ) -> Result<(OutcomeBegun, &'a [Spanned]), Refusal<EfgKind>>
     ensures label { IfOk result (λ x. x.0.label ≡ label) }
     ensures name { IfOk result (λ x. x.0.name ≡ option_map (λ t. t.now) name.entry) }
-    ensures read { Reads (λ x. (x.0.payoffs.items, kinds x.1.now)) result (payoff_list_at players (kinds tokens.now)) }
+    ensures read { Parses (λ x. (x.0.payoffs.items, kinds x.1.now)) result (parse_first_payoffs players (kinds tokens.now)) }
 {
     let (payoffs, rest) = first_payoffs(alloc, tokens, players)?;
     let name = optional_name(alloc, name)?;
@@ -166,7 +171,7 @@ fn later_use<'a>(
     ensures label { OnOk result (outcome.new.label ≡ outcome.old.label) }
     ensures name { OnOk result (outcome.new.name ≡ option_or outcome.old.name (option_map (λ t. t.now) name.entry)) }
     ensures payoffs { OnOk result (outcome.new.payoffs.items ≡ outcome.old.payoffs.items) }
-    ensures read { Reads (λ rest. kinds rest.now) result (later_payoffs_at (length outcome.old.payoffs.items) outcome.old.payoffs.items (kinds tokens.now)) }
+    ensures read { Parses (λ rest. (tt, kinds rest.now)) result (parse_later_payoffs outcome.old.payoffs.items (kinds tokens.now)) }
 {
     let rest = later_payoffs(tokens, outcome.payoffs.as_slice())?;
     if outcome.name.is_none() {
@@ -183,10 +188,10 @@ fn read_named<'a>(
     players: usize,
     tokens: &'a [Spanned],
 ) -> Result<(Outcomes, u32, &'a [Spanned]), Refusal<EfgKind>>
-    requires outcomes { AreOutcomes players outcomes }
+    requires outcomes { AreOutcomes outcomes }
     requires few { length outcomes.list.items < 4294967295 }
-    ensures outcomes { IfOk result (λ x. AreOutcomes players x.0) }
-    ensures read { Reads (λ x. ((begun_outcomes x.0, Some x.1), kinds x.2.now)) result (named_step_at players label (begun_outcomes outcomes) (kinds tokens.now)) }
+    ensures outcomes { IfOk result (λ x. AreOutcomes x.0) }
+    ensures read { Parses (λ x. ((begun_outcomes x.0, Some x.1), kinds x.2.now)) result (parse_named players label (begun_outcomes outcomes) (kinds tokens.now)) }
 {
     let (name, behind) = optional_text(tokens);
     let (place, is_new) = outcomes.labels.insert_full(label)?;
@@ -201,17 +206,18 @@ fn read_named<'a>(
 }
 
 /// The outcomes with the one that a node uses, where it uses one, its number, and the tokens behind it.
-#[tactic(auto, using(crate::proofs::OutcomeSteps::step_is))]
+#[tactic(auto, using(crate::proofs::Labels::outcome_steps))]
 pub fn read_outcome<'a>(
     alloc: Global,
     outcomes: Outcomes,
     players: usize,
     tokens: &'a [Spanned],
 ) -> Result<(Outcomes, Option<u32>, &'a [Spanned]), Refusal<EfgKind>>
-    requires outcomes { AreOutcomes players outcomes }
+    requires outcomes { AreOutcomes outcomes }
     requires few { length outcomes.list.items < 4294967295 }
-    ensures outcomes { IfOk result (λ x. AreOutcomes players x.0) }
-    ensures read { Reads (λ x. ((begun_outcomes x.0, x.1), kinds x.2.now)) result (outcome_step_at players (begun_outcomes outcomes) (kinds tokens.now)) }
+    requires short { AllByRecursion IsShortToken (kinds tokens.now) }
+    ensures outcomes { IfOk result (λ x. AreOutcomes x.0) }
+    ensures read { Parses (λ x. ((begun_outcomes x.0, x.1), kinds x.2.now)) result (parse_outcome players (begun_outcomes outcomes) (kinds tokens.now)) }
 {
     let Some((number, rest)) = label(tokens) else {
         return Err(unfit(EfgKind::Node, tokens));

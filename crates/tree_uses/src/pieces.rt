@@ -1,15 +1,20 @@
 // Numbers and players at the front of a list of tokens.
 ghost use Rattle.std.specs.Prelude.{◌≡◌, ◌<◌};
-ghost use Rattle.file_parts.specs.Reading.{Gives, Reads, kinds};
-ghost use Rattle.tree_files.specs.TreeReading.{positive_at, player_at, begins_node, is_node_word};
+ghost use Rattle.std.specs.List.{AllByRecursion};
+ghost use Rattle.game_tokens.specs.InPlace.{IsShortToken};
+ghost use Rattle.file_parts.specs.Reading.{Gives, kinds};
+ghost use Rattle.file_parts.specs.Parsing.{Parses};
+ghost use Rattle.tree_files.specs.TreeReading.{positive_at, begins_node, is_node_word};
+ghost use Rattle.tree_files.specs.TreeParsing.{parse_player};
 
-use crate::fault::EfgKind;
 use file_parts::{Refusal, label, unfit, whole, word};
 use game_tokens::Spanned;
+use tree_files::EfgKind;
 
 /// A number of at least 1, and the tokens behind it.
-#[tactic(auto, unfolding(tree_files::specs::TreeReading::positive_at))]
+#[tactic(auto, using(crate::proofs::Labels::positives))]
 pub fn positive(tokens: &[Spanned]) -> Option<(u64, &[Spanned])>
+    requires short { AllByRecursion IsShortToken (kinds tokens.now) }
     ensures { Gives (λ x. (x.0, kinds x.1.now)) result (positive_at (kinds tokens.now)) }
 {
     let (number, rest) = label(tokens)?;
@@ -21,9 +26,9 @@ pub fn positive(tokens: &[Spanned]) -> Option<(u64, &[Spanned])>
 }
 
 /// A player, counted from 0, by the number of 1 to the number of players that comes, and the tokens behind it.
-#[tactic(auto, unfolding(tree_files::specs::TreeReading::player_at))]
+#[tactic(auto, unfolding(tree_files::specs::TreeParsing::parse_player))]
 pub fn player(tokens: &[Spanned], players: u32) -> Result<(u32, &[Spanned]), Refusal<EfgKind>>
-    ensures { Reads (λ x. (x.0, kinds x.1.now)) result (player_at players (kinds tokens.now)) }
+    ensures { Parses (λ x. (x.0, kinds x.1.now)) result (parse_player players (kinds tokens.now)) }
 {
     let Some((number, rest)) = whole(tokens) else {
         return Err(unfit(EfgKind::Node, tokens));

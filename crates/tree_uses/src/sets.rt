@@ -1,21 +1,22 @@
 // The information sets, numbered by their first use.
 ghost use Rattle.std.specs.Prelude.{◌≡◌, ◌+◌, ◌<◌, [], ◌∷◌, ◌++◌, not, if◌then◌else◌, length, option_map, IfOk, OnOk};
-ghost use Rattle.std.specs.List.{position_or_len, list_any};
-ghost use Rattle.file_parts.specs.Reading.{Reads, kinds};
+ghost use Rattle.std.specs.List.{position_or_len, list_any, AllByRecursion};
+ghost use Rattle.game_tokens.specs.InPlace.{IsShortToken};
+ghost use Rattle.file_parts.specs.Reading.{kinds};
+ghost use Rattle.file_parts.specs.Parsing.{Parses};
 ghost use Rattle.written_trees.specs.Described.{same_set};
-ghost use Rattle.written_trees.specs.Laws.{IsActionList};
 ghost use Rattle.tree_uses.specs.Uses.{begun_set, begun_sets, AreSets};
-ghost use Rattle.tree_files.specs.TreeReading.{first_list_at, later_list_at, set_step_at};
+ghost use Rattle.tree_files.specs.TreeParsing.{parse_first_list, parse_later_list, parse_set};
 ghost use Rattle.std.specs.Option.{option_or};
 
 use crate::actions::{first_list, later_list};
-use crate::fault::EfgKind;
 use crate::pieces::positive;
 use file_parts::{Refusal, copied, optional_text, unfit};
 use game_core::{Action, Name};
 use game_tokens::Spanned;
 use indexmap::IndexSet;
 use std::alloc::{AllocError, AllocFailed, Global};
+use tree_files::EfgKind;
 
 /// What tells a set from others: chance and each player number their sets separately.
 #[derive(Clone, Copy, Debug, PartialEq, Eq, Hash)]
@@ -68,8 +69,7 @@ fn first_use<'a>(
     node: u32,
     tokens: &'a [Spanned],
 ) -> Result<(SetBegun, &'a [Spanned]), Refusal<EfgKind>>
-    ensures read { Reads (λ x. (x.0.actions.items, kinds x.1.now)) result (first_list_at key.owner (kinds tokens.now)) }
-    ensures list { IfOk result (λ x. IsActionList key.owner x.0.actions.items) }
+    ensures read { Parses (λ x. (x.0.actions.items, kinds x.1.now)) result (parse_first_list key.owner key.label (kinds tokens.now)) }
     ensures set { IfOk result (λ x. begun_set x.0 ≡ record { owner = key.owner; label = key.label; name = option_map (λ t. t.now) name.entry; actions = x.0.actions.items; members = node ∷ [] }) }
 {
     let (actions, rest) = first_list(alloc, tokens, key.owner, key.label)?;
@@ -93,8 +93,7 @@ fn later_use<'a>(
     node: u32,
     tokens: &'a [Spanned],
 ) -> Result<&'a [Spanned], Refusal<EfgKind>>
-    requires { IsActionList set.old.owner set.old.actions.items }
-    ensures read { Reads (λ rest. kinds rest.now) result (later_list_at set.old.owner set.old.actions.items (kinds tokens.now)) }
+    ensures read { Parses (λ rest. (tt, kinds rest.now)) result (parse_later_list set.old.owner set.old.actions.items (kinds tokens.now)) }
     ensures set { OnOk result (begun_set set.new ≡ record { owner = set.old.owner; label = set.old.label; name = option_or set.old.name (option_map (λ t. t.now) name.entry); actions = set.old.actions.items; members = set.old.members.items ++ node ∷ [] }) }
 {
     let rest = later_list(tokens, set.owner, set.actions.as_slice())?;
@@ -125,8 +124,9 @@ pub fn read_set<'a>(
 ) -> Result<(Sets, u32, &'a [Spanned]), Refusal<EfgKind>>
     requires sets { AreSets sets }
     requires few { length sets.list.items < 4294967295 }
+    requires short { AllByRecursion IsShortToken (kinds tokens.now) }
     ensures sets { IfOk result (λ x. AreSets x.0) }
-    ensures read { Reads (λ x. ((begun_sets x.0, x.1), kinds x.2.now)) result (set_step_at node (begun_sets sets) owner (kinds tokens.now)) }
+    ensures read { Parses (λ x. ((begun_sets x.0, x.1), kinds x.2.now)) result (parse_set node (begun_sets sets) owner (kinds tokens.now)) }
 {
     let Some((label, behind)) = positive(tokens) else {
         return Err(unfit(EfgKind::Node, tokens));

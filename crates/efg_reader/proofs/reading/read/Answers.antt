@@ -1,48 +1,47 @@
-use Rattle.std.proofs.Common.{◌≡◌, ◌<◌, ◌^◌, List, length, ◌∙◌, Some, arith}
-use Rattle.game_tokens.specs.declared.token.Token.{Token}
+use Rattle.std.proofs.Common.{◌≡◌, ◌<◌, ◌^◌, List, length, ◌∙◌, Ok, arith}
 use Rattle.file_parts.specs.Reading.{kinds}
 use Rattle.efg_reader.specs.States.{begun_of}
-use Rattle.tree_files.specs.TreeReading.{Head, front_at}
-use Rattle.tree_files.proofs.FileLaws.{read_is_file}
-use Rattle.efg_reader.proofs.FileStops.{all_short, few_of, front_stop, made_tree, nodes_stop, read_tree}
+use Rattle.tree_files.specs.TreeReading.{Head}
+use Rattle.tree_files.specs.TreeParsing.{parse_head}
+use Rattle.efg_reader.proofs.FileStops.{all_short, few_of, front_stop, made_tree, nodes_stop, read_file, read_tree}
+use Rattle.efg_reader.proofs.ShortRests.{head_leaves}
 use Rattle.efg_reader.proofs.reading.read.Goals as goal
+use Rattle.game_tokens.specs.declared.token.Token.{Token}
 
 pub returns-in-Err : goal.returns-in-Err
 returns-in-Err c =
-    front_stop c.args.tokens.now c.in-Err.refusal c.stop.result (rw c.list.ensures.list at c.in-Err.ensures) c.stop.ensures
+    front_stop c.args.tokens.now c.in-Err.refusal c.stop.result c.requires.few (rw c.list.ensures.list at c.in-Err.ensures) c.stop.ensures
 
 pub overflow_cast-len : goal.overflow_cast-len
 overflow_cast-len c =
-    let tokens = kinds c.args.tokens.now.list in
     let x : Head × List Token = ((c.in-Ok.read.0.title, c.in-Ok.read.0.players.items), kinds c.in-Ok.read.1.now) in
-    let front : front_at tokens ≡ Some x = rw c.list.ensures.list at c.in-Ok.ensures in
+    let front : parse_head (kinds c.args.tokens.now.list) ≡ Ok x = rw c.list.ensures.list at c.in-Ok.ensures in
     let few : length c.in-Ok.read.0.players.items < 2 ^ 32 = few_of c.args.tokens.now.list x c.requires.few front in
     record { fits = omega (arith, few, c.len.ensures, c.in-Ok.read.0.players.ok.0) }
 
+pub read_nodes-requires : goal.read_nodes-requires
+read_nodes-requires c =
+    let x : Head × List Token = ((c.in-Ok.read.0.title, c.in-Ok.read.0.players.items), kinds c.in-Ok.read.1.now) in
+    let front : parse_head (kinds c.args.tokens.now.list) ≡ Ok x = rw c.list.ensures.list at c.in-Ok.ensures in
+    record { short = head_leaves (kinds c.args.tokens.now.list) x front (all_short 0 c.args.tokens.now.length c.args.tokens.now.list c.list.ensures.in_place) }
+
 pub tree-requires : goal.tree-requires
 tree-requires c =
-    let tokens = kinds c.args.tokens.now.list in
     let x : Head × List Token = ((c.in-Ok.read.0.title, c.in-Ok.read.0.players.items), kinds c.in-Ok.read.1.now) in
-    let front : front_at tokens ≡ Some x = rw c.list.ensures.list at c.in-Ok.ensures in
-    let few : length c.in-Ok.read.0.players.items < 2 ^ 32 = few_of c.args.tokens.now.list x c.requires.few front in
+    let front : parse_head (kinds c.args.tokens.now.list) ≡ Ok x = rw c.list.ensures.list at c.in-Ok.ensures in
     let players : c.len.result ≡ length c.in-Ok.read.0.players.items = c.len.ensures ∙ c.in-Ok.read.0.players.ok.0 in
-    read_tree tokens x (begun_of c.in-Ok-read_nodes.builder) few front (rw players at c.in-Ok-read_nodes.ensures.read)
+    read_tree c.args.tokens.now.list x (begun_of c.in-Ok-read_nodes.builder) c.requires.few front (rw players at c.in-Ok-read_nodes.ensures)
 
 pub returns-in-Ok-read_nodes : goal.returns-in-Ok-read_nodes
 returns-in-Ok-read_nodes c =
-    let tokens = kinds c.args.tokens.now.list in
     let x : Head × List Token = ((c.in-Ok.read.0.title, c.in-Ok.read.0.players.items), kinds c.in-Ok.read.1.now) in
-    let front : front_at tokens ≡ Some x = rw c.list.ensures.list at c.in-Ok.ensures in
-    let few : length c.in-Ok.read.0.players.items < 2 ^ 32 = few_of c.args.tokens.now.list x c.requires.few front in
+    let front : parse_head (kinds c.args.tokens.now.list) ≡ Ok x = rw c.list.ensures.list at c.in-Ok.ensures in
     let players : c.len.result ≡ length c.in-Ok.read.0.players.items = c.len.ensures ∙ c.in-Ok.read.0.players.ok.0 in
-    made_tree c.tree.result c.args.tokens.now _ c.tree.ensures.tree c.tree.ensures.memory (read_is_file tokens x (begun_of c.in-Ok-read_nodes.builder) few front (rw players at c.in-Ok-read_nodes.ensures.read))
+    made_tree c.tree.result c.args.tokens.now _ c.tree.ensures.tree c.tree.ensures.memory (read_file c.args.tokens.now.list x (begun_of c.in-Ok-read_nodes.builder) c.requires.few front (rw players at c.in-Ok-read_nodes.ensures))
 
 pub returns-in-Err-read_nodes : goal.returns-in-Err-read_nodes
 returns-in-Err-read_nodes c =
-    let tokens = kinds c.args.tokens.now.list in
     let x : Head × List Token = ((c.in-Ok.read.0.title, c.in-Ok.read.0.players.items), kinds c.in-Ok.read.1.now) in
-    let front : front_at tokens ≡ Some x = rw c.list.ensures.list at c.in-Ok.ensures in
-    let few : length c.in-Ok.read.0.players.items < 2 ^ 32 = few_of c.args.tokens.now.list x c.requires.few front in
+    let front : parse_head (kinds c.args.tokens.now.list) ≡ Ok x = rw c.list.ensures.list at c.in-Ok.ensures in
     let players : c.len.result ≡ length c.in-Ok.read.0.players.items = c.len.ensures ∙ c.in-Ok.read.0.players.ok.0 in
-    let short = all_short 0 c.args.tokens.now.length c.args.tokens.now.list c.list.ensures.in_place in
-    nodes_stop c.args.tokens.now x c.in-Err-read_nodes.stopped c.nodes_stop.result short few front (rw players at c.in-Err-read_nodes.ensures.read) c.nodes_stop.ensures
+    nodes_stop c.args.tokens.now x c.in-Err-read_nodes.stopped c.nodes_stop.result c.requires.few front (rw players at c.in-Err-read_nodes.ensures) c.nodes_stop.ensures

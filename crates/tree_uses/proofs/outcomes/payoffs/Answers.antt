@@ -1,13 +1,13 @@
-use Rattle.file_parts.specs.Reading.{kinds, payoff_at}
-use Rattle.file_parts.proofs.Repeats.{repeat_goes_on, repeat_ends}
-use Rattle.tree_uses.proofs.OutcomeSteps.{unfit_refused}
+use Rattle.std.proofs.Common.{if◌then◌else◌}
+use Rattle.file_parts.specs.Reading.{kinds, payoff_start, number_at}
+use Rattle.file_parts.proofs.Parses.{each_ends, wanted_refused}
+use Rattle.tree_files.specs.TreeParsing.{closes, parse_payoff}
+use Rattle.tree_files.specs.declared.fault.EfgKind.TheVariants.{Node, OutcomeMismatch}
 use Rattle.tree_uses.proofs.outcomes.payoffs.Goals as goal
-
-pub loop-index-preserved : goal.loop-index-preserved
-loop-index-preserved c =
-    rw c.in_ok-push.ensures.items (repeat_goes_on payoff_at c.loop-index.payoffs.items c.args.players c.loop-index.index (kinds c.loop-index.rest.now) c.in-Some.next.0 (kinds c.in-Some.next.1.now) _ c.loop-index-test.true c.in-Some.ensures c.loop-index.invariant)
 
 pub returns-in_default : goal.returns-in_default
 returns-in_default c =
-    let nothing = repeat_ends payoff_at c.loop-index.payoffs.items c.args.players c.loop-index.index (kinds c.loop-index.rest.now) _ c.loop-index-test.true c.in_default.ensures c.loop-index.invariant in
-    unfit_refused c.no_payoff.result _ c.no_payoff.ensures nothing
+    let rest = kinds c.loop-index.rest.now in
+    let start = payoff_start c.loop-index.index rest in
+    each_ends parse_payoff c.loop-index.payoffs.items c.args.players c.loop-index.index rest c.no_payoff.result _ c.loop-index-test.true
+    (wanted_refused (if closes start then OutcomeMismatch else Node) start (number_at start) c.no_payoff.result c.in_default.ensures c.no_payoff.ensures) c.loop-index.invariant

@@ -1,23 +1,20 @@
 use Rattle.std.proofs.Common.{rules, ◌∙◌, refl, sym}
 use Rattle.std.proofs.lemmas.Bool.{not-true, not-false}
 use Rattle.file_parts.specs.Reading.{kinds}
-use Rattle.tree_uses.proofs.KeptOutcomes.{first_kept, first_unread, first_used, later_kept, later_unread, later_used}
-use Rattle.tree_uses.proofs.Refused.{refused_too}
+use Rattle.tree_uses.proofs.KeptOutcomes.{first_kept, first_refused, first_used, later_kept, later_refused, later_used}
 use Rattle.tree_uses.proofs.outcomes.read_named.Goals as goal
 
 -- a first use
 pub returns-in_err-outcome-clause-read : goal.returns-in_err-outcome-clause-read
 returns-in_err-outcome-clause-read c =
     let new = not-true _ (sym c.in_ok-place.ensures.added ∙ c.if-is_new.true) in
-    let unread = first_unread c.args.players c.args.label c.args.outcomes c.requires.outcomes new _ (kinds c.args.tokens.now) (kinds c.optional_text.result.1.now) c.optional_text.ensures in
-    let refused = refused_too c.in_err-outcome.field-0.0 _ _ unread c.in_err-outcome.ensures.read in
-    search rules
+    let refused = first_refused c.args.players c.args.label c.args.outcomes c.requires.outcomes new _ (kinds c.args.tokens.now) (kinds c.optional_text.result.1.now) c.optional_text.ensures c.in_err-outcome.field-0.0 c.in_err-outcome.ensures.read in
+    search (refused, rules)
 
 pub returns-in_ok-push-clause-outcomes : goal.returns-in_ok-push-clause-outcomes
 returns-in_ok-push-clause-outcomes c =
     let new = not-true _ (sym c.in_ok-place.ensures.added ∙ c.if-is_new.true) in
-    first_kept c.args.players c.args.label c.args.outcomes c.requires.outcomes new _ c.in_ok-outcome.outcome (kinds c.optional_text.result.1.now) (kinds c.in_ok-outcome.rest.now)
-    c.in_ok-place.ensures.keys c.in_ok-push.ensures.items c.in_ok-outcome.ensures.label c.in_ok-outcome.ensures.read
+    first_kept c.args.players c.args.label c.args.outcomes c.requires.outcomes new _ c.in_ok-outcome.outcome c.in_ok-place.ensures.keys c.in_ok-push.ensures.items c.in_ok-outcome.ensures.label
 
 pub returns-in_ok-push-clause-read : goal.returns-in_ok-push-clause-read
 returns-in_ok-push-clause-read c =
@@ -29,15 +26,14 @@ returns-in_ok-push-clause-read c =
 pub returns-in_err-rest-clause-read : goal.returns-in_err-rest-clause-read
 returns-in_err-rest-clause-read c =
     let known = not-false _ (sym c.in_ok-place.ensures.added ∙ c.if-is_new.false) in
-    let unread = later_unread c.args.players c.args.label c.args.outcomes c.requires.outcomes known c.index_mut.result.now c.in_ok-place.place c.in_ok-place.ensures.index c.index_mut.ensures.value _ (kinds c.args.tokens.now) (kinds c.optional_text.result.1.now) c.optional_text.ensures in
-    let refused = refused_too c.in_err-rest.field-0.0 _ _ unread c.in_err-rest.ensures.read in
-    search rules
+    let refused = later_refused c.args.players c.args.label c.args.outcomes c.requires.outcomes known c.index_mut.result.now c.in_ok-place.place c.in_ok-place.ensures.index c.index_mut.ensures.value _ (kinds c.args.tokens.now) (kinds c.optional_text.result.1.now) c.optional_text.ensures c.in_err-rest.field-0.0 c.in_err-rest.ensures.read in
+    search (refused, rules)
 
 pub returns-in_ok-rest-clause-outcomes : goal.returns-in_ok-rest-clause-outcomes
 returns-in_ok-rest-clause-outcomes c =
     let known = not-false _ (sym c.in_ok-place.ensures.added ∙ c.if-is_new.false) in
     later_kept c.args.players c.args.label c.args.outcomes c.requires.outcomes known c.index_mut.result.now c.in_ok-place.place c.in_ok-place.ensures.index c.index_mut.ensures.value _ c.later_use.new.outcome
-    c.in_ok-place.ensures.keys refl c.in_ok-rest.ensures.label c.in_ok-rest.ensures.payoffs
+    c.in_ok-place.ensures.keys refl c.in_ok-rest.ensures.label
 
 pub returns-in_ok-rest-clause-read : goal.returns-in_ok-rest-clause-read
 returns-in_ok-rest-clause-read c =

@@ -1,9 +1,7 @@
 use Rattle.std.proofs.Common.{rules, option_map, refl}
 use Rattle.std.specs.Vec.{with_item}
-use Rattle.file_parts.specs.Reading.{kinds, Refuses}
+use Rattle.file_parts.specs.Reading.{kinds}
 use Rattle.tree_uses.specs.Uses.{begun_sets}
-use Rattle.tree_files.specs.TreeReading.{set_step_at}
-use Rattle.tree_uses.proofs.Refused.{refused_too}
 use Rattle.tree_uses.proofs.SetSteps.{Comes, step_without, first_refused, first_used, later_refused, later_used, known_within, sets_begin, sets_go_on}
 use Rattle.tree_uses.proofs.sets.read_set.Goals as goal
 use Rattle.tree_uses.proofs.sets.read_set.Goals.{In_ok-place}
@@ -21,23 +19,23 @@ comes c = record {
 }
 
 pub returns-in_default-clause-read : goal.returns-in_default-clause-read
-returns-in_default-clause-read c = rw c.unfit.ensures (step_without c.args.node (begun_sets c.args.sets) c.args.owner (kinds c.args.tokens.now) c.in_default.ensures)
+returns-in_default-clause-read c = step_without c.args.node (begun_sets c.args.sets) c.args.owner (kinds c.args.tokens.now) c.unfit.result c.in_default.ensures c.unfit.ensures
 
 pub returns-in_err-set-clause-read : goal.returns-in_err-set-clause-read
 returns-in_err-set-clause-read c =
     let known = comes (goal.at.returns-in_err-set-clause-read c).In_ok-place in
-    let refused : Refuses c.in_err-set.field-0.0 (set_step_at c.args.node (begun_sets c.args.sets) c.args.owner (kinds c.args.tokens.now)) = refused_too _ _ _ (λ none. first_refused known c.args.node c.if-is_new.true none) c.in_err-set.ensures.read in
-    search rules
+    let refused = first_refused known c.args.node c.in_err-set.field-0.0 c.if-is_new.true c.in_err-set.ensures.read in
+    search (refused, rules)
 
 pub returns-in_err-rest-clause-read : goal.returns-in_err-rest-clause-read
 returns-in_err-rest-clause-read c =
     let known = comes (goal.at.returns-in_err-rest-clause-read c).In_ok-place in
-    let refused : Refuses c.in_err-rest.field-0.0 (set_step_at c.args.node (begun_sets c.args.sets) c.args.owner (kinds c.args.tokens.now)) = refused_too _ _ _ (λ none. later_refused known c.args.node c.index_mut.result.now c.if-is_new.false c.index_mut.ensures.value none) c.in_err-rest.ensures.read in
-    search rules
+    let refused = later_refused known c.args.node c.index_mut.result.now c.in_err-rest.field-0.0 c.if-is_new.false c.index_mut.ensures.value c.in_err-rest.ensures.read in
+    search (refused, rules)
 
 pub returns-in_ok-push-clause-sets : goal.returns-in_ok-push-clause-sets
 returns-in_ok-push-clause-sets c =
-    sets_begin c.args.sets (record { keys = c.placed.new.known; list = c.push.new.self }) c.args.node (record { owner = c.args.owner; label = c.in-Some.label }) _ c.in_ok-set.set c.in_ok-place.is_new c.requires.sets c.if-is_new.true c.in_ok-place.ensures.keys c.in_ok-push.ensures.items c.in_ok-set.ensures.set c.in_ok-set.ensures.list
+    sets_begin c.args.sets (record { keys = c.placed.new.known; list = c.push.new.self }) c.args.node (record { owner = c.args.owner; label = c.in-Some.label }) _ c.in_ok-set.set c.in_ok-place.is_new c.requires.sets c.if-is_new.true c.in_ok-place.ensures.keys c.in_ok-push.ensures.items c.in_ok-set.ensures.set
 
 pub returns-in_ok-push-clause-read : goal.returns-in_ok-push-clause-read
 returns-in_ok-push-clause-read c =
@@ -47,7 +45,7 @@ returns-in_ok-push-clause-read c =
 pub returns-in_ok-rest-clause-sets : goal.returns-in_ok-rest-clause-sets
 returns-in_ok-rest-clause-sets c =
     let known = comes (goal.at.returns-in_ok-rest-clause-sets c).In_ok-place in
-    sets_go_on c.args.sets (record { keys = c.placed.new.known; list = with_item c.args.sets.list c.in_ok-place.place c.later_use.new.set }) c.args.node (record { owner = c.args.owner; label = c.in-Some.label }) _ c.in_ok-place.place c.index_mut.result.now c.later_use.new.set c.in_ok-place.is_new c.requires.sets c.if-is_new.false c.in_ok-place.ensures.keys (known_within known c.if-is_new.false) c.index_mut.ensures.value refl c.in_ok-rest.ensures.set
+    sets_go_on c.args.sets (record { keys = c.placed.new.known; list = with_item c.args.sets.list c.in_ok-place.place c.later_use.new.set }) c.args.node (record { owner = c.args.owner; label = c.in-Some.label }) _ c.in_ok-place.place c.index_mut.result.now c.later_use.new.set c.in_ok-place.is_new c.requires.sets c.if-is_new.false c.in_ok-place.ensures.keys c.index_mut.ensures.value refl c.in_ok-rest.ensures.set
 
 pub returns-in_ok-rest-clause-read : goal.returns-in_ok-rest-clause-read
 returns-in_ok-rest-clause-read c =

@@ -17,7 +17,10 @@ use Rattle.written_trees.specs.Building.{may_follow, adds_up, may_be_first, repe
 use Rattle.written_trees.specs.Laws.{HasNoProbability, IsActionList}
 use Rattle.written_trees.proofs.InsertedKeys.{eq_self}
 use Rattle.tree_files.specs.TreeReading.{chance_actions_at, own_action, actions_at, closed_at, action_list_at, summed_at, first_list_at, all_repeated_at, later_list_at}
-use Rattle.tree_uses.proofs.ActionSteps.{Summed}
+
+-- a reading of actions and their sum
+abbrev pub Summed : Type 0
+Summed = Option ((List Action × ℚ) × List Token)
 
 -- a reading of actions
 abbrev Listed : Type 0
@@ -99,7 +102,7 @@ unfolding first_list_at action_list_at
 first_without owner tokens l = rw l refl
 
 -- behind its brace a first list is read, closed and tested
-first_list_is : (owner : Option ℕ) (tokens inner : List Token) → left_at tokens ≡ Some inner → first_list_at owner tokens ≡ tested owner (actions_at owner inner >>= closed_list)
+pub first_list_is : (owner : Option ℕ) (tokens inner : List Token) → left_at tokens ≡ Some inner → first_list_at owner tokens ≡ tested owner (actions_at owner inner >>= closed_list)
 unfolding first_list_at action_list_at
 first_list_is owner tokens inner l = rw l refl
 
@@ -116,7 +119,7 @@ own_list_is owner i n tokens inner behind actions closed o l a e c =
     rw (o, ← c, e) rest
 
 -- the list of chance that the code reads: added up as it is read, then closed, then tested
-abbrev closed_sum : (List Action × ℚ) × List Token → Listed
+abbrev pub closed_sum : (List Action × ℚ) × List Token → Listed
 closed_sum x = closed_at (length x.0.0) x.1 >>= λ rest. if eq_ℚ x.0.1 one_ℚ then Some (x.0.0, rest) else None
 
 -- the sum is tested behind the brace

@@ -6,8 +6,7 @@ use Rattle.game_tokens.specs.declared.token.Token.{Token}
 use Rattle.written_trees.specs.Written.{SetUse, OutcomeUse, WrittenNode}
 use Rattle.written_trees.specs.Described.{key_of, kind_of_use}
 use Rattle.written_trees.specs.Building.{Begun, BegunSet, BegunOutcome, Branching, use_some_set, use_some_outcome, set_place, outcome_place, add_at, add_node}
-use Rattle.efg_reader.specs.States.{grown_at, grown}
-use Rattle.tree_files.specs.TreeReading.{choice_at, choice_step_at, outcome_use_at, outcome_step_at, with_outcome, node_at, next_at}
+use Rattle.tree_files.specs.TreeReading.{choice_at, choice_step_at, outcome_use_at, outcome_step_at, with_outcome, node_at, next_at, grown_at, grown}
 
 -- ---- a node in steps
 -- what a step of the choice, and of the outcome, gives

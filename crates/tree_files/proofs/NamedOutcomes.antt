@@ -1,16 +1,16 @@
 -- A use of an outcome with a number, as the code reads it.
 use Rattle.std.proofs.Common.{◌≡◌, ℕ, inl, inr, if◌then◌else◌, List, [], ◌∷◌, ◌++◌, slice_get, slice_set, Option, Some, None, refl, ◌∙◌}
 use Rattle.std.proofs.lemmas.Bool.{cases_Bool}
-use Rattle.std.specs.Option.{option_or}
-use Rattle.lists.specs.Options.{◌>>=◌}
 use Rattle.rational.specs.Rational.{ℚ}
-use Rattle.game_tokens.specs.declared.token.Token.{Token}
-use Rattle.game_tokens.specs.declared.token.Token.TheVariants.{Left}
 use Rattle.file_parts.specs.Reading.{optional_text_at}
 use Rattle.written_trees.specs.Written.{OutcomeUse}
 use Rattle.written_trees.specs.Building.{BegunOutcome, outcome_place, repeats_payoffs, used_outcome}
 use Rattle.tree_files.specs.TreeReading.{optional_at, payoff_list_at, named_outcome_at, later_payoffs_at, with_outcome, named_step_at}
-use Rattle.tree_uses.proofs.OutcomeSteps.{came}
+use Rattle.tree_files.proofs.RepeatedPayoffs.{came}
+use Rattle.std.specs.Option.{option_or}
+use Rattle.lists.specs.Options.{◌>>=◌}
+use Rattle.game_tokens.specs.declared.token.Token.{Token}
+use Rattle.game_tokens.specs.declared.token.Token.TheVariants.{Left}
 
 -- what a step gives
 abbrev Stepped : Type 0
@@ -47,7 +47,7 @@ module _ (outcomes : List BegunOutcome) (label : ℕ) (name : Option (List ℕ))
 
   -- ---- a first use
   -- the outcomes with a new one
-  abbrev begun : List ℚ × List Token → Stepped
+  abbrev pub begun : List ℚ × List Token → Stepped
   begun x = Some ((outcomes ++ record { label = label; name = name; payoffs = x.0 } ∷ [], Some place), x.1)
 
   module _ (none : slice_get outcomes place ≡ None) where
@@ -96,25 +96,9 @@ module _ (players label : ℕ) (outcomes : List BegunOutcome) (name : Option (Li
   own_place = outcome_place outcomes label
 
   -- a first use
-  first_is : slice_get outcomes own_place ≡ None → named_step_at players label outcomes tokens ≡ (payoff_list_at players behind >>= begun outcomes label name)
+  pub first_is : slice_get outcomes own_place ≡ None → named_step_at players label outcomes tokens ≡ (payoff_list_at players behind >>= begun outcomes label name)
   first_is none = step_by_payoffs outcomes label name players tokens behind text ∙ first_step outcomes label name none players behind
 
   -- a later use
-  later_is : (outcome : BegunOutcome) → slice_get outcomes own_place ≡ Some outcome → named_step_at players label outcomes tokens ≡ (later_payoffs_at players outcome.payoffs behind >>= λ rest. Some ((slice_set outcomes own_place (record { label = outcome.label; name = option_or outcome.name name; payoffs = outcome.payoffs }), Some own_place), rest))
+  pub later_is : (outcome : BegunOutcome) → slice_get outcomes own_place ≡ Some outcome → named_step_at players label outcomes tokens ≡ (later_payoffs_at players outcome.payoffs behind >>= λ rest. Some ((slice_set outcomes own_place (record { label = outcome.label; name = option_or outcome.name name; payoffs = outcome.payoffs }), Some own_place), rest))
   later_is outcome known = step_by_payoffs outcomes label name players tokens behind text ∙ later_step outcomes label name outcome known players behind
-
-  -- a first use without its payoffs
-  pub first_fails : slice_get outcomes own_place ≡ None → payoff_list_at players behind ≡ None → named_step_at players label outcomes tokens ≡ None
-  first_fails none h = first_is none ∙ (rw h refl)
-
-  -- a first use with its payoffs
-  pub first_read : (payoffs : List ℚ) (rest : List Token) → slice_get outcomes own_place ≡ None → payoff_list_at players behind ≡ Some (payoffs, rest) → named_step_at players label outcomes tokens ≡ Some ((outcomes ++ record { label = label; name = name; payoffs = payoffs } ∷ [], Some own_place), rest)
-  first_read payoffs rest none h = first_is none ∙ (rw h refl)
-
-  -- a later use with other payoffs
-  pub later_fails : (outcome : BegunOutcome) → slice_get outcomes own_place ≡ Some outcome → later_payoffs_at players outcome.payoffs behind ≡ None → named_step_at players label outcomes tokens ≡ None
-  later_fails outcome known h = later_is outcome known ∙ (rw h refl)
-
-  -- a later use that keeps to the payoffs
-  pub later_read : (outcome : BegunOutcome) (rest : List Token) → slice_get outcomes own_place ≡ Some outcome → later_payoffs_at players outcome.payoffs behind ≡ Some rest → named_step_at players label outcomes tokens ≡ Some ((slice_set outcomes own_place (record { label = outcome.label; name = option_or outcome.name name; payoffs = outcome.payoffs }), Some own_place), rest)
-  later_read outcome rest known h = later_is outcome known ∙ (rw h refl)
