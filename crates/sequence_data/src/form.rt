@@ -51,9 +51,9 @@ impl Side {
     }
 }
 
-/// The sequence form of a game with two players. Each set has an action, and comes after a sequence with a smaller number
-/// than its own; the sequences from 1 on belong to the sets in order. There is a leaf, no chance is negative, and the
-/// cells and the extreme payoffs are those of the leaves.
+/// The sequence form of a game with two players. Each set has an action, and comes after a sequence with a
+/// smaller number than its own; the sequences from 1 on belong to the sets in order. There is a leaf, no chance
+/// is negative, and the cells and the extreme payoffs are those of the leaves.
 #[derive(Debug, Drop)]
 pub struct SeqForm {
     first: Side,

@@ -1,6 +1,7 @@
-//! A sequence form as data: both players' sides, the leaves of a game, the cells that sum them up, and the extreme payoffs.
-//! The leaves go into the cells one after another, step by step in fractions of 128 bits. `specs/Data` says what each form
-//! keeps and which sequence form it stands for, `specs/Cells` what the cells are, and `specs/Steps` has the order of all steps.
+//! A sequence form as data: both players' sides, the leaves of a game, the cells that sum them up, and the
+//! extreme payoffs. The leaves go into the cells one after another, step by step in fractions of 128 bits.
+//! `specs/Data` says what each form keeps and which sequence form it stands for, `specs/Cells` what the cells
+//! are, and `specs/Steps` has the order of all steps.
 #![tactic(auto)]
 
 ghost use Rattle.std.specs.Prelude.{◌≡◌, ℕ, List};

@@ -14,7 +14,8 @@ use crate::sequences::{is_own, own_actions};
 use game_core::{Table, Tree};
 use tree_parts::stands_for_game_tree;
 
-/// The sizes of a sequence form: of both players the numbers of sequences, the empty one included, and of own sets.
+/// The sizes of a sequence form: of both players the numbers of sequences, the empty one included, and of own
+/// sets.
 #[derive(Clone, Copy, Debug, PartialEq, Eq)]
 pub struct Counts {
     /// The sequences of player one.

@@ -1,9 +1,10 @@
-//! The sequence form of a game with two players. `build` makes that of a tree in which the players recall, `build_table` that of
-//! a table, and `counts_tree` and `counts_table` tell its sizes before it is made.
+//! The sequence form of a game with two players. `build` makes that of a tree in which the players recall,
+//! `build_table` that of a table, and `counts_tree` and `counts_table` tell its sizes before it is made.
 //!
-//! The sets' numbers give the sequences' numbers (`sequences`), each node's last sequences, chance and payoffs come from its
-//! parent's (`paths`), and the leaves go into the cells of `sequence_data`. `specs/Forms` says what the form of a tree and of a
-//! table is, and when there is none; `specs/Laws` what it stands for, and what plans pay by it.
+//! The sets' numbers give the sequences' numbers (`sequences`), each node's last sequences, chance and payoffs
+//! come from its parent's (`paths`), and the leaves go into the cells of `sequence_data`. `specs/Forms` says
+//! what the form of a tree and of a table is, and when there is none; `specs/Laws` what it stands for, and what
+//! plans pay by it.
 #![tactic(auto)]
 
 ghost use Rattle.answers.specs.Answers.{IsSingle};

@@ -1,5 +1,6 @@
-//! Tables and trees as they are read, and reduced forms, as tests over the readers and `reduced_form::reduce` on text, and
-//! pure equilibria of small games beside a plain listing of them by the definition. Nothing here is called by the program.
+//! Tables and trees as they are read, and reduced forms and sequence forms, as tests over the readers, `reduced_form::reduce` and
+//! `sequence_form::build` on text, and pure equilibria of small games beside a plain listing of them by the definition. Nothing
+//! here is called by the program.
 #![tactic(auto)]
 
 #[cfg(test)]
@@ -10,5 +11,7 @@ mod reading;
 mod recall;
 #[cfg(test)]
 mod second_body;
+#[cfg(test)]
+mod sequences;
 #[cfg(test)]
 mod tests;

@@ -34,7 +34,7 @@ fn form_text(alloc: Global, reduced: &Reduced) -> Result<Vec<u8>, Memory> {
 }
 
 // Adds payoffs, each behind a space.
-fn push_payoffs(alloc: Global, text: &mut Vec<u8>, payoffs: &[Frac]) -> Result<(), Memory> {
+pub fn push_payoffs(alloc: Global, text: &mut Vec<u8>, payoffs: &[Frac]) -> Result<(), Memory> {
     for payoff in payoffs {
         text.push(b' ')?;
         text.extend_from_slice(&fraction(alloc, *payoff)?)?;
