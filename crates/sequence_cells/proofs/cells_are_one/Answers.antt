@@ -1,5 +1,0 @@
-use Rattle.sequence_cells.proofs.Order.{cells-one}
-use Rattle.sequence_cells.proofs.cells_are_one.Goals as goal
-
-pub returns : goal.returns
-returns c = cells-one

@@ -1,8 +1,0 @@
-use Rattle.sequence_cells.proofs.Order.{unfit-none, unfit-one}
-use Rattle.sequence_cells.proofs.stops_are_exact.Goals as goal
-
-pub returns-clause-one : goal.returns-clause-one
-returns-clause-one c = unfit-one
-
-pub returns-clause-none : goal.returns-clause-none
-returns-clause-none c = unfit-none

@@ -1,4 +1,0 @@
-pub mod Cells
-pub mod Extremes
-pub mod Gathered
-pub mod Steps

@@ -1,0 +1,5 @@
+use Rattle.sequence_data.proofs.Order.{cells-one}
+use Rattle.sequence_data.proofs.cells_are_one.Goals as goal
+
+pub returns : goal.returns
+returns c = cells-one

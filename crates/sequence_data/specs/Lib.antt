@@ -1,0 +1,5 @@
+pub mod Cells
+pub mod Extremes
+pub mod Gathered
+pub mod Steps
+pub mod Data

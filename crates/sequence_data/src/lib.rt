@@ -1,0 +1,42 @@
+//! A sequence form as data: both players' sides, the leaves of a game, the cells that sum them up, and the extreme payoffs.
+//! The leaves go into the cells one after another, step by step in fractions of 128 bits. `specs/Data` says what each form
+//! keeps and which sequence form it stands for, `specs/Cells` what the cells are, and `specs/Steps` has the order of all steps.
+#![tactic(auto)]
+
+ghost use Rattle.std.specs.Prelude.{◌≡◌, ℕ, List};
+ghost use Rattle.rational.specs.Rational.{ℚ};
+ghost use Rattle.pure_payoffs.specs.Steps.{Step};
+ghost use Rattle.sequence_data.specs.declared.types.Cell.{Cell};
+ghost use Rattle.sequence_data.specs.declared.types.Leaf.{Leaf};
+ghost use Rattle.sequence_data.specs.Cells.{AreCells};
+ghost use Rattle.sequence_data.specs.Extremes.{IsGreatest, IsLeast};
+ghost use Rattle.sequence_data.specs.Steps.{AllFit, IsFirstUnfitAt, PlacedStep};
+
+mod cells;
+mod form;
+mod payoffs;
+mod steps;
+mod stop;
+mod types;
+
+pub use form::{SeqForm, Side};
+pub use steps::{product, sum};
+pub use stop::SeqStop;
+pub use types::{Cell, Leaf, SetRow};
+
+/// Leaves have one list of cells.
+pub fn cells_are_one()
+    ensures { (leaves : List Leaf) (one other : List Cell) → AreCells leaves one → AreCells leaves other → one ≡ other }
+{}
+
+/// One step is the first that does not fit, and there is none where all fit.
+pub fn stops_are_exact()
+    ensures one { (steps : List PlacedStep) (k m : ℕ) (step other : Step) → IsFirstUnfitAt steps k step → IsFirstUnfitAt steps m other → (k ≡ m) × (step ≡ other) }
+    ensures none { (steps : List PlacedStep) (k : ℕ) (step : Step) → IsFirstUnfitAt steps k step → AllFit steps → ⊥ }
+{}
+
+/// One number is the greatest, and one the least.
+pub fn extremes_are_one()
+    ensures greatest { (numbers : List ℚ) (v w : ℚ) → IsGreatest numbers v → IsGreatest numbers w → v ≡ w }
+    ensures least { (numbers : List ℚ) (v w : ℚ) → IsLeast numbers v → IsLeast numbers w → v ≡ w }
+{}

@@ -1,0 +1,61 @@
+// The extreme payoffs of leaves.
+ghost use Rattle.std.specs.Prelude.{◌<◌, length, map};
+ghost use Rattle.sequence_data.specs.Extremes.{IsGreater, IsGreatest, IsLeast, IsLesser};
+
+use crate::types::Leaf;
+use frac128::Frac;
+use std::cmp::Ordering;
+
+/// The greatest payoffs of both players, and the least of player one.
+#[derive(Clone, Copy, Debug)]
+pub(crate) struct Extremes {
+    /// The greatest of player one.
+    pub greatest_one: Frac,
+    /// The greatest of player two.
+    pub greatest_two: Frac,
+    /// The least of player one.
+    pub least_one: Frac,
+}
+
+// The greater of two numbers.
+fn greater(left: Frac, right: Frac) -> Frac
+    ensures { IsGreater left right result }
+{
+    match left.cmp(right) {
+        Ordering::Less => right,
+        _ => left,
+    }
+}
+
+// The lesser of two numbers.
+fn lesser(left: Frac, right: Frac) -> Frac
+    ensures { IsLesser left right result }
+{
+    match left.cmp(right) {
+        Ordering::Less => left,
+        _ => right,
+    }
+}
+
+/// The extreme payoffs of these leaves, also of those of chance 0. Takes no memory.
+pub(crate) fn extreme_payoffs(leaves: &[Leaf]) -> Extremes
+    requires { 0 < length leaves.now }
+    ensures greatest_one { IsGreatest (map (λ l. l.one) leaves.now) result.greatest_one }
+    ensures greatest_two { IsGreatest (map (λ l. l.two) leaves.now) result.greatest_two }
+    ensures least_one { IsLeast (map (λ l. l.one) leaves.now) result.least_one }
+{
+    let first = leaves[0];
+    let mut greatest_one = first.one;
+    let mut greatest_two = first.two;
+    let mut least_one = first.one;
+    for leaf in leaves {
+        greatest_one = greater(greatest_one, leaf.one);
+        greatest_two = greater(greatest_two, leaf.two);
+        least_one = lesser(least_one, leaf.one);
+    }
+    Extremes {
+        greatest_one,
+        greatest_two,
+        least_one,
+    }
+}
