@@ -1,0 +1,3 @@
+pub mod FirstUnfits
+pub mod SetEntries
+pub mod WrittenCells

@@ -1,0 +1,2 @@
+pub mod FirstUnfit
+pub mod Matrices

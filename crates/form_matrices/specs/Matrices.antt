@@ -1,0 +1,20 @@
+-- Numbers of cells as a matrix, row by row.
+use Rattle.std.specs.Prelude.{ℕ, ◌<◌, ◌≡◌, ◌+◌, ◌*◌, List, [], ◌∷◌, get_or}
+use Rattle.rational.specs.Rational.{ℚ, zero_ℚ}
+use Rattle.sequence_forms.specs.Lists.{Entry, listed_at}
+use Rattle.sequence_data.specs.declared.types.Cell.{Cell}
+
+-- a cell stands at one of so many rows and columns
+abbrev pub IsInside : ℕ → ℕ → Cell → Type 0
+IsInside rows columns c = (c.row < rows) × (c.column < columns)
+
+-- each cell with its number
+abbrev pub placed : List Cell → List ℚ → List Entry
+placed [] numbers = []
+placed (c ∷ cells) [] = []
+placed (c ∷ cells) (v ∷ numbers) = (c.row, c.column, v) ∷ placed cells numbers
+
+-- a list has, row by row, the numbers that stand at each row and column
+abbrev pub HoldsNumbers : ℕ → ℕ → List Entry → List ℚ → Type 0
+HoldsNumbers rows columns entries matrix =
+    (r q : ℕ) → r < rows → q < columns → get_or matrix (r * columns + q) zero_ℚ ≡ listed_at entries r q

@@ -1,0 +1,13 @@
+pub mod CutLists
+pub mod EnteringColumns
+pub mod FormLaws
+pub mod FormPrograms
+pub mod FormSystems
+pub mod Optima
+pub mod PlanLists
+pub mod PlanReads
+pub mod ProgramSteps
+pub mod Starting
+pub mod Systems
+pub mod Values
+pub mod Walking

@@ -1,0 +1,14 @@
+use Rattle.std.proofs.Common.{◌∙◌, ap, List, length}
+use Rattle.sequence_data.specs.declared.types.SetRow.{SetRow}
+use Rattle.zero_sum_lp.proofs.Starting.{starts_for, shape_is}
+use Rattle.zero_sum_lp.proofs.lp.Lp.new.Goals as goal
+
+pub invariant_of-result : goal.invariant_of-result
+invariant_of-result c = (
+  record {
+    first = c.requires.first_side;
+    second = c.requires.second_side;
+    start = starts_for c.args.first c.args.second c.args.system.now c.in-Ok.work c.requires.program c.in-Ok.ensures.start c.in-Ok.ensures.valid;
+  },
+  shape_is c.args.first c.args.second c.sequences-in-Ok.result c.sequences.result (length c.sets.result.now) (length c.sets-in-Ok.result.now) (c.sequences-in-Ok.ensures ∙ c.requires.first_side.sequences_are) (c.sequences.ensures ∙ c.requires.second_side.sequences_are) (ap (λ (xs : List SetRow). length xs) c.sets.ensures) (ap (λ (xs : List SetRow). length xs) c.sets-in-Ok.ensures) c.requires.few,
+)

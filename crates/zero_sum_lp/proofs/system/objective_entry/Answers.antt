@@ -1,0 +1,7 @@
+use Rattle.std.proofs.Common.{◌∙◌, sym}
+use Rattle.sequence_data.specs.Data.{side_of}
+use Rattle.zero_sum_lp.proofs.Systems.{objective_elsewhere}
+use Rattle.zero_sum_lp.proofs.system.objective_entry.Goals as goal
+
+pub returns-else-col-sequences : goal.returns-else-col-sequences
+returns-else-col-sequences c = c.zero.ensures ∙ objective_elsewhere (side_of c.args.first.now) c.args.col (λ e. c.if-col-sequences.false (e ∙ sym (c.sequences.ensures ∙ c.requires.side.sequences_are)))

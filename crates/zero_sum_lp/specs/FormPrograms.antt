@@ -1,0 +1,111 @@
+-- The program of a sequence form in stages, and why there is none.
+use Rattle.std.specs.Prelude.{ℕ, ◌≡◌, ◌≢◌, ◌<◌, List, [], ◌∷◌, ◌++◌, All, Ok, Err}
+use Rattle.answers.specs.Answers.{Answer, ◌>>◌, refuse_where, refused_by}
+use Rattle.rational.specs.Rational.{ℚ, ◌+ℚ◌, ◌-ℚ◌, ◌*ℚ◌}
+use Rattle.frac128.specs.Steps.{unfit}
+use Rattle.frac128.specs.declared.steps.Op.TheVariants.{Add, Sub, Mul}
+use Rattle.lex_tableau.specs.Rows.{IsTableau}
+use Rattle.lex_tableau.specs.Starts.{Parts, IsStartOf, StartFits}
+use Rattle.lex_tableau.specs.StartStops.{IsStartStop}
+use Rattle.lex_tableau.specs.declared.tableau.StartStop.{StartStop}
+use Rattle.lex_tableau.specs.declared.tableau.StartStop.TheVariants as starts
+use Rattle.game_core.specs.declared.too_large.TooLarge.{TooLarge}
+use Rattle.game_core.specs.declared.too_large.What.TheVariants as what
+use Rattle.pure_payoffs.specs.Steps.{Step}
+use Rattle.sequence_forms.specs.Prices.{gains}
+use Rattle.sequence_data.specs.declared.types.Cell.{Cell}
+use Rattle.sequence_data.specs.declared.types.Leaf.{Leaf}
+use Rattle.sequence_data.specs.Data.{FormData, form, side_of}
+use Rattle.zero_sum_lp.specs.Systems.{IsSystemFor}
+use Rattle.form_matrices.specs.FirstUnfit.{all_fit}
+use Rattle.zero_sum_lp.specs.declared.stop.LpStop.{LpStop}
+use Rattle.zero_sum_lp.specs.declared.stop.LpStop.TheVariants as stops
+use Rattle.zero_sum_lp.specs.declared.stop.NotConstant.{NotConstant}
+use Rattle.zero_sum_lp.specs.Parts.{Program, program_size}
+
+-- ---- the size
+abbrev pub size_of : FormData → ℕ
+size_of f = program_size (side_of f.first) (side_of f.second)
+
+abbrev pub too_many_rows : FormData → TooLarge
+too_many_rows f = record { what = what.Rows; count = size_of f; limit = 512 }
+
+-- ---- the sums of both players' payoffs
+abbrev pub sum_at : Leaf → ℚ
+sum_at l = l.one +ℚ l.two
+
+abbrev pub sum_steps : Leaf → List Step
+sum_steps l = unfit Add l.one l.two ∷ []
+
+-- the sums of all leaves fit; or the first that does not, with its place
+abbrev pub sums_in : List Leaf → Answer LpStop (Unit {0})
+sums_in leaves = refused_by (λ stop. stops.SumRange stop.0.place stop.1) (all_fit sum_steps leaves)
+
+-- the first leaf, and the first of the others whose payoffs sum to another number
+pub record AreFirstApart (leaves : List Leaf) (stop : NotConstant) : Type 0 where
+  pub leaf : Leaf
+  pub same : List Leaf
+  pub other : Leaf
+  pub rest : List Leaf
+  pub are_there : leaves ≡ leaf ∷ same ++ other ∷ rest
+  pub are_same : All (λ l. sum_at l ≡ sum_at leaf) same
+  pub differs : sum_at other ≢ sum_at leaf
+  pub stop_is : stop ≡ record { first = leaf.place; second = other.place; first_sum = sum_at leaf; second_sum = sum_at other }
+
+-- all leaves' payoffs sum to the same number; or the first two that do not
+abbrev pub is_constant : List Leaf → Answer NotConstant (Unit {0})
+is_constant leaves (Ok _) = All (λ l. All (λ k. sum_at k ≡ sum_at l) leaves) leaves
+is_constant leaves (Err stop) = AreFirstApart leaves stop
+
+-- ---- the gains
+-- the payoff of player 0 less the least payoff times the weight, the product first
+abbrev pub gain_at : ℚ → Cell → ℚ
+gain_at least c = c.one -ℚ (least *ℚ c.weight)
+
+abbrev pub gain_steps : ℚ → Cell → List Step
+gain_steps least c = unfit Mul least c.weight ∷ unfit Sub c.one (least *ℚ c.weight) ∷ []
+
+-- the gains of all cells fit; or the first step that does not, with its row and column
+abbrev pub gains_in : ℚ → List Cell → Answer LpStop (Unit {0})
+gains_in least cells =
+    refused_by (λ stop. stops.GainRange stop.0.row stop.0.column stop.1) (all_fit (gain_steps least) cells)
+
+-- ---- the start
+-- the system of the program of a form
+abbrev pub IsSystemOf : FormData → Parts → Type 0
+IsSystemOf f s = IsSystemFor f.first f.second (gains (form f) f.least_one) s
+
+-- a program with these sides, whose start is that of this system
+pub record IsStarted (f : FormData) (s : Parts) (p : Program) : Type 0 where
+  pub first : p.first ≡ f.first
+  pub second : p.second ≡ f.second
+  pub start : IsStartOf s p.tableau
+  pub valid : IsTableau p.tableau
+  pub fits : StartFits s
+
+-- the start of the system, all steps of which fit; or the first step that does not, with its row
+abbrev pub started : FormData → Parts → Answer StartStop Program
+started f s (Ok p) = IsStarted f s p
+started f s (Err (starts.Unfit row unfit)) = IsStartStop s (starts.Unfit row unfit)
+started f s (Err starts.Memory) = ⊥
+
+abbrev pub start_of : FormData → Answer StartStop Program
+start_of f answer = (s : Parts) × (IsSystemOf f s × started f s answer)
+
+-- a stop of the start as one of the program
+abbrev pub told_start : StartStop → LpStop
+told_start (starts.Unfit row unfit) = stops.Start row unfit
+told_start starts.Memory = stops.Memory
+
+abbrev pub start_in : FormData → Answer LpStop Program
+start_in f = refused_by told_start (start_of f)
+
+-- ---- all
+-- The program of a sequence form within the limit, whose payoffs sum to the same number at each leaf
+-- and whose steps all fit; or why there is none.
+abbrev pub program_in : FormData → Answer LpStop Program
+program_in f =
+    refuse_where (512 < size_of f) (stops.TooLarge (too_many_rows f))
+    >> (sums_in f.leaves
+    >> (refused_by stops.NotConstant (is_constant f.leaves)
+    >> (gains_in f.least_one f.cells >> start_in f)))

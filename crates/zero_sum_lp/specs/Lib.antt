@@ -1,0 +1,9 @@
+pub mod Ends
+pub mod FormPrograms
+pub mod Parts
+pub mod PlanPairs
+pub mod PlanSteps
+pub mod PlanStops
+pub mod Steps
+pub mod Systems
+pub mod ValueLaws

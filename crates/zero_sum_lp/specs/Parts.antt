@@ -1,0 +1,59 @@
+-- What contracts see of a program and of its optimum.
+use Rattle.std.specs.Prelude.{ℕ, ◌+◌, ◌<◌, ◌≤◌, ◌≡◌, get_or}
+use Rattle.rational.specs.Rational.{ℚ}
+use Rattle.linear_systems.specs.Rows.{Alike}
+use Rattle.sequence_forms.specs.Sides.{Side}
+use Rattle.sequence_data.specs.Data.{SideData, side_of, IsSideData}
+use Rattle.linear_programs.specs.Programs.{constraints, columns_of, program_of, IsProgramOf}
+use Rattle.lex_tableau.specs.Rows.{Numbers, IsTableau}
+use Rattle.lex_tableau.specs.Starts.{Parts, system_of}
+use Rattle.zero_sum_lp.specs.Steps.{linear_program, EndsPath}
+
+-- both players' sides, and a tableau: of a program the start, and of an optimum the end of the path
+pub record Program : Type 0 where
+  pub first : SideData
+  pub second : SideData
+  pub tableau : Numbers
+
+-- constraints and columns together
+abbrev pub program_size : Side → Side → ℕ
+program_size rows columns = constraints rows columns + columns_of rows columns
+
+-- a system is the program of these sides, for some gains
+pub record IsProgramSystem (first second : SideData) (s : Parts) : Type 0 where
+  pub gain : ℕ → ℕ → ℚ
+  pub start : Alike (program_of (side_of first) (side_of second) gain) (system_of s)
+  pub rated : s.rated ≡ constraints (side_of first) (side_of second)
+
+-- a tableau is the start of the program of these sides, for some gains
+pub record IsStartFor (first second : SideData) (n : Numbers) : Type 0 where
+  pub gain : ℕ → ℕ → ℚ
+  pub basics : (i : ℕ) → i < n.rated → get_or n.starts i 0 ≡ get_or n.basics i 0
+  pub program : IsProgramOf (side_of first) (side_of second) gain (linear_program n)
+  pub valid : IsTableau n
+
+-- a program: both players' sides, and the start
+pub record IsProgram (p : Program) : Type 0 where
+  pub first : IsSideData p.first
+  pub second : IsSideData p.second
+  pub start : IsStartFor p.first p.second p.tableau
+
+-- the optimum of a program: the path leads there from its start
+pub record IsOptimumOf (p o : Program) : Type 0 where
+  pub first : o.first ≡ p.first
+  pub second : o.second ≡ p.second
+  pub path : EndsPath p.tableau o.tableau
+
+-- the constraints' number, which is the objective row's, and that of columns; at most 512 together
+pub record HasShape (first second : SideData) (objective width : ℕ) : Type 0 where
+  pub rows : objective ≡ constraints (side_of first) (side_of second)
+  pub columns : width ≡ columns_of (side_of first) (side_of second)
+  pub few : objective + width ≤ 512
+
+-- an optimum: that of some program
+pub record IsOptimum (o : Program) : Type 0 where
+  pub first : IsSideData o.first
+  pub second : IsSideData o.second
+  pub start : Numbers
+  pub begins : IsStartFor o.first o.second start
+  pub path : EndsPath start o.tableau

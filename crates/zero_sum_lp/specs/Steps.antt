@@ -1,0 +1,75 @@
+-- The path of a program over whole numbers, step by step, and the first step that does not fit.
+use Rattle.std.specs.Prelude.{ℕ, zero, suc, ◌+◌, ◌-◌, ◌^◌, ◌<◌, ◌≤◌, ◌≡◌, length, get_or, Option, MatchOption}
+use Rattle.rational.specs.Rational.{zero_ℚ, ◌≤ℚ◌, ◌<ℚ◌}
+use Rattle.linear_systems.specs.Tableau.{Tableau}
+use Rattle.linear_systems.specs.Rows.{IsLexicographicRow}
+use Rattle.linear_programs.specs.Paths.{LinearProgram, IsLinearProgram, IsEntering, IsOptimal}
+use Rattle.frac128.specs.declared.steps.Unfit.{Unfit}
+use Rattle.lex_tableau.specs.Rows.{Numbers, tableau, IsPivotOf, IsTableau}
+use Rattle.lex_tableau.specs.Ratio.{listed}
+use Rattle.whole_rows.specs.Steps.{AllFit, IsFirstUnfit}
+use Rattle.lex_tableau.specs.Pivots.{steps_of_pivot}
+
+-- the linear program that a tableau is the start of
+abbrev pub linear_program : Numbers → LinearProgram
+linear_program n = record { bound = suc (length n.basics + length n.nonbasics); rated = n.rated; start = tableau n }
+
+-- a tableau that is a start: its rated basic variables are those of the start, and it is a linear program
+pub record IsProgramStart (n : Numbers) : Type 0 where
+  pub basics : (i : ℕ) → i < n.rated → get_or n.starts i 0 ≡ get_or n.basics i 0
+  pub program : IsLinearProgram (linear_program n)
+
+-- one step of the path: the entering column, its lexicographic row, and the pivot, all of whose steps of arithmetic fit
+pub record IsFittingStep (m n : Numbers) : Type 0 where
+  pub column : ℕ
+  pub row : ℕ
+  pub entering : IsEntering m.rated (tableau m) column
+  pub leaving : IsLexicographicRow m.rated m.rated (listed m.starts) (tableau m) column row
+  pub fits : AllFit (steps_of_pivot m row column)
+  pub pivot : IsPivotOf m row column n
+  pub valid : IsTableau n
+
+-- n is the tableau after k steps of the path, each of which fits
+abbrev pub LeadsTo : Numbers → ℕ → Numbers → Type 0
+LeadsTo first zero n = n ≡ first
+LeadsTo first (suc k) n = (m : Numbers) × (LeadsTo first k m × IsFittingStep m n)
+
+-- n ends the path: each step before fits, and no entry of the objective row is negative
+pub record EndsPath (first n : Numbers) : Type 0 where
+  pub count : ℕ
+  pub path : LeadsTo first count n
+  pub optimal : IsOptimal n.rated (tableau n)
+
+-- the number of a step, counted from 1; 2 ^ 64 - 1 stands for every later step too
+pub record IsStepNumber (k number : ℕ) : Type 0 where
+  pub exact : k < 2 ^ 64 → number ≡ k
+  pub later : 2 ^ 64 ≤ k → number ≡ 2 ^ 64 - 1
+
+-- the first step of the path that does not fit: its number, the entering variable, and the first step of its arithmetic that does not fit
+pub record IsUnfitStep (first : Numbers) (number entering : ℕ) (unfit : Unfit) : Type 0 where
+  pub count : ℕ
+  pub before : Numbers
+  pub path : LeadsTo first count before
+  pub column : ℕ
+  pub row : ℕ
+  pub enters : IsEntering before.rated (tableau before) column
+  pub leaves : IsLexicographicRow before.rated before.rated (listed before.starts) (tableau before) column row
+  pub variable : entering ≡ (tableau before).nonbasic column
+  pub is_number : IsStepNumber (suc count) number
+  pub first_unfit : IsFirstUnfit (steps_of_pivot before row column) unfit
+
+-- where a walk along the path is: after `steps` steps from `begun`, before the step of this number
+pub record IsUnderWay (first now : Numbers) (begun steps number : ℕ) : Type 0 where
+  pub count : ℕ
+  pub path : LeadsTo first count now
+  pub counted : steps ≡ count + begun
+  pub is_number : IsStepNumber (suc count) number
+
+-- the least-numbered nonbasic variable with a negative entry in row m among the first n columns, or none
+pub record IsEnteringOf (m n : ℕ) (t : Tableau) (c : ℕ) : Type 0 where
+  pub column : c < n
+  pub negative : t.cell m c <ℚ zero_ℚ
+  pub least : (j : ℕ) → j < n → t.cell m j <ℚ zero_ℚ → t.nonbasic c ≤ t.nonbasic j
+
+abbrev pub EntersFirst : ℕ → ℕ → Tableau → Option ℕ → Type 0
+EntersFirst m n t o = MatchOption o ((j : ℕ) → j < n → zero_ℚ ≤ℚ t.cell m j) (IsEnteringOf m n t)

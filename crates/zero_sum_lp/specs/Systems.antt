@@ -1,0 +1,27 @@
+-- The system of a program, entry by entry.
+use Rattle.std.specs.Prelude.{ℕ, ◌≡◌, ◌+◌, ◌*◌, ◌/◌, ◌%◌, ◌<◌, nat_lt, if◌then◌else◌, List, length, get_or}
+use Rattle.rational.specs.Rational.{ℚ, zero_ℚ}
+use Rattle.linear_systems.specs.Rows.{Alike}
+use Rattle.linear_systems.specs.Tableau.{Tableau}
+use Rattle.linear_programs.specs.Programs.{constraints, program_of}
+use Rattle.lex_tableau.specs.Starts.{Parts, system_of, IsSystem}
+use Rattle.sequence_data.specs.Data.{SideData, side_of}
+
+-- the gain at row r and column q, where each row has so many gains
+abbrev pub gain_of : List ℚ → ℕ → ℕ → ℕ → ℚ
+gain_of gains count r q = get_or gains (r * count + q) zero_ℚ
+
+-- the entry of row i at place j: its cells, and then its right side
+abbrev pub entry_of : Tableau → ℕ → ℕ → ℚ
+entry_of t i j = if nat_lt j t.width then t.cell i j else t.right i
+
+-- the first n entries of a tableau, row by row, each of so many
+pub record AreEntries (t : Tableau) (size n : ℕ) (cells : List ℚ) : Type 0 where
+  pub count : length cells ≡ n
+  pub same : (k : ℕ) → k < n → get_or cells k zero_ℚ ≡ entry_of t (k / size) (k % size)
+
+-- the system of the program of these sides with these gains
+pub record IsSystemFor (first second : SideData) (gain : ℕ → ℕ → ℚ) (s : Parts) : Type 0 where
+  pub valid : IsSystem s
+  pub program : Alike (program_of (side_of first) (side_of second) gain) (system_of s)
+  pub rated : s.rated ≡ constraints (side_of first) (side_of second)

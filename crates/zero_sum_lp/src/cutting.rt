@@ -1,0 +1,72 @@
+// The second player's plan out of raw weights.
+ghost use Rattle.sequence_data.specs.Data.{SideData, side_of, IsSideData};
+ghost use Rattle.std.specs.Prelude.{◌≡◌, ◌+◌, ◌<◌, ◌≤◌, ℕ, length, IfErr, OnOk};
+ghost use Rattle.linear_programs.specs.Plans.{IsLesser};
+ghost use Rattle.sequence_forms.specs.Sides.{sequences};
+ghost use Rattle.zero_sum_lp.specs.PlanSteps.{weight, IsSharedTo, IsUnfitShare, IsCutTo, IsUnfitCut};
+
+use crate::weights::{set_weight, weight_at};
+use form_matrices::set_at;
+use frac128::{Frac, Unfit};
+use sequence_data::Side;
+use std::cmp::Ordering;
+
+// The less of two fractions.
+fn lesser(a: Frac, b: Frac) -> Frac
+    ensures { IsLesser a b result }
+{
+    match a.cmp(b) {
+        Ordering::Greater => b,
+        _ => a,
+    }
+}
+
+// Shares the weight before a set out among its actions.
+fn cut_set(weights: &mut [Frac], before: usize, first: usize, count: usize) -> Result<(), Unfit>
+    requires before_in { before < first }
+    requires actions_in { first + count ≤ length weights.old }
+    ensures length { length weights.new ≡ length weights.old }
+    ensures low { (q : ℕ) → q < first → weight weights.new q ≡ weight weights.old q }
+    ensures high { OnOk result ((q : ℕ) → first + count ≤ q → weight weights.new q ≡ weight weights.old q) }
+    ensures shared { OnOk result (IsSharedTo (weight weights.old before) (λ a. weight weights.old (first + a)) (λ a. weight weights.new (first + a)) count) }
+    ensures unfit { IfErr result (IsUnfitShare (weight weights.old before) (λ a. weight weights.old (first + a)) (λ a. weight weights.new (first + a)) count) }
+{
+    let mut left = weight_at(weights, before);
+    for action in 0..count {
+        let share = lesser(weight_at(weights, first + action), left);
+        set_weight(weights, first + action, share);
+        match left.sub(share) {
+            Ok(less) => left = less,
+            Err(unfit) => return Err(unfit),
+        }
+    }
+    Ok(())
+}
+
+/// Makes the plan in place.
+///
+/// # Errors
+///
+/// The first step that does not fit.
+pub fn cut(weights: &mut [Frac], side: &Side) -> Result<(), Unfit>
+    requires side { IsSideData side.now }
+    requires shape { length weights.old ≡ sequences (side_of side.now) }
+    ensures length { length weights.new ≡ length weights.old }
+    ensures cut { OnOk result (IsCutTo (side_of side.now) (length side.now.sets) (weight weights.old) (weight weights.new)) }
+    ensures unfit { IfErr result (IsUnfitCut (side_of side.now) (weight weights.old)) }
+{
+    set_weight(weights, 0, Frac::one());
+    for j in 0..side.sets().len() {
+        let set = set_at(side, j);
+        match cut_set(
+            weights,
+            set.before as usize,
+            set.first as usize,
+            set.count as usize,
+        ) {
+            Ok(()) => {}
+            Err(unfit) => return Err(unfit),
+        }
+    }
+    Ok(())
+}

@@ -1,0 +1,96 @@
+// The program of a sequence form.
+ghost use Rattle.std.specs.Prelude.{◌≡◌, ◌≤◌, map, IfOk};
+ghost use Rattle.answers.specs.Answers.{Gives};
+ghost use Rattle.zero_sum_lp.specs.declared.stop.LpStop.TheVariants as lp_stops;
+ghost use Rattle.zero_sum_lp.specs.FormPrograms.{IsSystemOf, gain_at, program_in, size_of, start_in};
+
+use crate::gains::gains;
+use crate::lp::Lp;
+use crate::stop::LpStop;
+use crate::sums::{sums, test_constant};
+use crate::system::system;
+use form_matrices::dense;
+use frac128::{Frac, Memory};
+use game_core::{TooLarge, What};
+use lex_tableau::{StartStop, System};
+use sequence_data::{SeqForm, SetRow, Side};
+use std::alloc::Global;
+
+// The most rows and columns together.
+const LIMIT: u64 = 512;
+
+// How many rows and columns the program has.
+fn size(form: &SeqForm) -> u64
+    ensures { result ≡ size_of form.now }
+{
+    let sets = form.first().sets().len() as u64 + form.second().sets().len() as u64;
+    sets + form.first().sequences() as u64 + form.second().sequences() as u64 + 2
+}
+
+// A copy of a side.
+fn copied(alloc: Global, side: &Side) -> Result<Side, Memory>
+    ensures { IfOk result (λ copy. copy ≡ side.now) }
+{
+    let mut sets: Vec<SetRow> = Vec::new(alloc);
+    let rows = side.sets();
+    for set in rows {
+        sets.push(*set)?;
+    }
+    Ok(Side::new(side.sequences(), sets))
+}
+
+// The system with the gains of the cells.
+fn system_of_form(alloc: Global, form: &SeqForm, gains: &[Frac]) -> Result<System, Memory>
+    requires few { size_of form.now ≤ 512 }
+    requires gains { gains.now ≡ map (gain_at form.now.least_one) form.now.cells }
+    ensures { IfOk result (IsSystemOf form.now) }
+{
+    let rows = form.first().sequences() as usize;
+    let columns = form.second().sequences() as usize;
+    let matrix = dense(alloc, rows, columns, form.cells(), gains)?;
+    system(alloc, form.first(), form.second(), &matrix)
+}
+
+// The program of a form with its system, and the room of its path.
+fn started(alloc: Global, form: &SeqForm, system: &System) -> Result<Lp, LpStop>
+    requires few { size_of form.now ≤ 512 }
+    requires system { IsSystemOf form.now system.now }
+    ensures { Gives lp_stops.Memory (start_in form.now) result }
+{
+    let first = copied(alloc, form.first())?;
+    let second = copied(alloc, form.second())?;
+    match Lp::new(alloc, first, second, system) {
+        Ok(lp) => Ok(lp),
+        Err(StartStop::Unfit { row, unfit }) => Err(LpStop::Start { row, unfit }),
+        Err(StartStop::Memory) => Err(LpStop::Memory),
+    }
+}
+
+/// The linear program of a sequence form, with the room of its path.
+///
+/// # Errors
+///
+/// The first of these that applies: `TooLarge` exactly above 512 rows and columns together;
+/// `SumRange` exactly at the first leaf whose payoffs' sum does not fit; `NotConstant` exactly where
+/// not all sums are the same; `GainRange` exactly at the first step of the gains that does not fit;
+/// `Start` exactly at the first step of the start that does not fit. `Memory` where memory ran out.
+pub fn program(alloc: Global, form: &SeqForm) -> Result<Lp, LpStop>
+    ensures { Gives lp_stops.Memory (program_in form.now) result }
+{
+    let count = size(form);
+    if count > LIMIT {
+        return Err(LpStop::TooLarge(TooLarge {
+            what: What::Rows,
+            count,
+            limit: LIMIT,
+        }));
+    }
+    let sums = sums(alloc, form.leaves())?;
+    match test_constant(form.leaves(), &sums) {
+        Ok(()) => {}
+        Err(stop) => return Err(LpStop::NotConstant(stop)),
+    }
+    let gains = gains(alloc, form.least_one(), form.cells())?;
+    let system = system_of_form(alloc, form, &gains)?;
+    started(alloc, form, &system)
+}

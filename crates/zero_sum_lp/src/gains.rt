@@ -1,0 +1,49 @@
+// What player 0's payoffs exceed the least one by.
+ghost use Rattle.std.specs.Prelude.{◌≡◌, map, IfOk, IfErr, OnOk};
+ghost use Rattle.answers.specs.Answers.{Gives, map_ok};
+ghost use Rattle.form_matrices.specs.FirstUnfit.{Fits};
+ghost use Rattle.pure_payoffs.specs.Steps.{IsFirstUnfit};
+ghost use Rattle.zero_sum_lp.specs.declared.stop.LpStop.TheVariants as lp_stops;
+ghost use Rattle.zero_sum_lp.specs.FormPrograms.{gain_at, gain_steps, gains_in};
+
+use crate::stop::LpStop;
+use frac128::{Frac, Unfit};
+use sequence_data::Cell;
+use std::alloc::Global;
+
+// The gain of a cell: its payoff less the least payoff times its weight.
+fn gain(least: Frac, cell: Cell) -> Result<Frac, Unfit>
+    ensures value { IfOk result (λ gain. gain ≡ gain_at least cell) }
+    ensures fits { OnOk result (Fits (gain_steps least) cell) }
+    ensures unfit { IfErr result (IsFirstUnfit (gain_steps least cell)) }
+{
+    match least.mul(cell.weight) {
+        Ok(part) => cell.one.sub(part),
+        Err(unfit) => Err(unfit),
+    }
+}
+
+/// The gain of each cell.
+///
+/// # Errors
+///
+/// `GainRange` exactly at the first step that does not fit. `Memory` where memory ran out.
+pub fn gains(alloc: Global, least: Frac, cells: &[Cell]) -> Result<Vec<Frac>, LpStop>
+    ensures gains { IfOk result (λ gains. gains.items ≡ map (gain_at least) cells.now) }
+    ensures stage { Gives lp_stops.Memory (gains_in least cells.now) (map_ok result (λ _. tt)) }
+{
+    let mut gains = Vec::with_capacity(alloc, cells.len())?;
+    for cell in cells {
+        match gain(least, *cell) {
+            Ok(gain) => gains.push(gain)?,
+            Err(unfit) => {
+                return Err(LpStop::GainRange {
+                    row: cell.row,
+                    column: cell.column,
+                    unfit,
+                });
+            }
+        }
+    }
+    Ok(gains)
+}

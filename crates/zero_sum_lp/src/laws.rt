@@ -1,0 +1,22 @@
+// What the answers prove. The functions do nothing: the contract of each is a law, so that a check proves it.
+ghost use Rattle.zero_sum_lp.specs.ValueLaws.{OptimalPlansProveTheValue, OptimalPlansSolveTrees, OptimalPlansSolveTables, ProgramsAreOfForms};
+
+/// The plans and prices at the optimum prove the value.
+pub fn optimal_plans_prove_the_value()
+    ensures { OptimalPlansProveTheValue }
+{}
+
+/// On a tree they are an equilibrium, with its value and both guarantees.
+pub fn optimal_plans_solve_trees()
+    ensures { OptimalPlansSolveTrees }
+{}
+
+/// And so on a table.
+pub fn optimal_plans_solve_tables()
+    ensures { OptimalPlansSolveTables }
+{}
+
+/// The program of a form is that of its plans and gains.
+pub fn programs_are_of_forms()
+    ensures { ProgramsAreOfForms }
+{}

@@ -1,0 +1,209 @@
+// The optimum of a program.
+ghost use Rattle.sequence_data.specs.Data.{SideData, side_of, IsSideData};
+ghost use Rattle.std.specs.Prelude.{◌≡◌, ◌≢◌, ◌≤◌, ◌<◌, ◌+◌, suc, ℕ, length, IfOk, IfErr};
+ghost use Rattle.sequence_forms.specs.Sides.{sequences};
+ghost use Rattle.answers.specs.Answers.{Gives};
+ghost use Rattle.zero_sum_lp.specs.declared.stop.PlanStop.TheVariants as plan_stops;
+ghost use Rattle.zero_sum_lp.specs.PlanSteps.{weight, IsRaisedTo, IsUnfitRaise, IsCutTo, IsUnfitCut};
+ghost use Rattle.zero_sum_lp.specs.PlanStops.{AreRawOne, AreRawTwo, plans_of};
+ghost use Rattle.linear_systems.specs.Rows.{coefficient, HasDistinctVariables};
+ghost use Rattle.linear_programs.specs.Programs.{price_one as first_price, price_two as second_price};
+ghost use Rattle.lex_tableau.specs.Rows.{tableau};
+ghost use Rattle.zero_sum_lp.specs.Parts.{IsOptimum, HasShape};
+
+use crate::cutting::cut;
+use crate::raising::raise;
+use crate::stop::PlanStop;
+use frac128::{Frac, Memory, Unfit};
+use lex_tableau::{Tableau, Work};
+use sequence_data::Side;
+use std::alloc::Global;
+use std::marker::Model;
+
+/// The optimum of a program: both players' sets, the prices and the raw weights, which stand in the last tableau.
+#[derive(Debug, Drop)]
+pub struct Optimum {
+    first: Side,
+    second: Side,
+    objective: usize,
+    width: usize,
+    work: Work,
+}
+
+impl Model for Optimum {
+    ghost use Rattle.zero_sum_lp.specs.Parts.{Program, IsOptimum, HasShape};
+
+    ghost Value = { Program };
+
+    ghost view = { λ o. record { first = o.first; second = o.second; tableau = o.work } };
+
+    ghost invariant = { λ o. IsOptimum (record { first = o.first; second = o.second; tableau = o.work }) × HasShape o.first o.second o.objective o.width };
+}
+
+/// Both players' plans: a weight for each sequence.
+#[derive(Debug, Drop)]
+pub struct Plans {
+    one: Vec<Frac>,
+    two: Vec<Frac>,
+}
+
+impl Model for Plans {
+    ghost use Rattle.zero_sum_lp.specs.PlanPairs.{PlanPair, code_of_plans};
+
+    ghost Value = { PlanPair };
+
+    ghost coded = { code_of_plans };
+
+    ghost view = { λ p. record { one = p.one.items; two = p.two.items } };
+}
+
+impl Plans {
+    /// The weights of the first player's sequences.
+    pub fn one(&self) -> &[Frac]
+        ensures { result.now ≡ self.now.one }
+    {
+        self.one.as_slice()
+    }
+
+    /// The weights of the second player's sequences.
+    pub fn two(&self) -> &[Frac]
+        ensures { result.now ≡ self.now.two }
+    {
+        self.two.as_slice()
+    }
+}
+
+// The raw weights, raised.
+fn raised(weights: Vec<Frac>, side: &Side) -> Result<Vec<Frac>, Unfit>
+    requires side { IsSideData side.now }
+    requires shape { length weights.items ≡ sequences (side_of side.now) }
+    ensures length { IfOk result (λ plan. length plan.items ≡ length weights.items) }
+    ensures raised { IfOk result (λ plan. IsRaisedTo (side_of side.now) (length side.now.sets) (weight weights.items) (weight plan.items)) }
+    ensures unfit { IfErr result (IsUnfitRaise (side_of side.now) (weight weights.items)) }
+{
+    let mut weights = weights;
+    match raise(weights.as_mut_slice(), side) {
+        Ok(()) => Ok(weights),
+        Err(unfit) => Err(unfit),
+    }
+}
+
+// The raw weights, cut.
+fn lessened(weights: Vec<Frac>, side: &Side) -> Result<Vec<Frac>, Unfit>
+    requires side { IsSideData side.now }
+    requires shape { length weights.items ≡ sequences (side_of side.now) }
+    ensures length { IfOk result (λ plan. length plan.items ≡ length weights.items) }
+    ensures cut { IfOk result (λ plan. IsCutTo (side_of side.now) (length side.now.sets) (weight weights.items) (weight plan.items)) }
+    ensures unfit { IfErr result (IsUnfitCut (side_of side.now) (weight weights.items)) }
+{
+    let mut weights = weights;
+    match cut(weights.as_mut_slice(), side) {
+        Ok(()) => Ok(weights),
+        Err(unfit) => Err(unfit),
+    }
+}
+
+// The entry of the objective row at a variable that is not its own, which counts as 0 where the variable is basic.
+fn entry_at(current: &Tableau, objective: usize, width: usize, variable: u32) -> Frac
+    requires row_in { objective < length current.now.basics }
+    requires width_is { width ≡ length current.now.nonbasics }
+    requires distinct { HasDistinctVariables (tableau current.now) }
+    requires other { (tableau current.now).basic objective ≢ variable }
+    ensures { result ≡ coefficient (tableau current.now) objective variable }
+{
+    for col in 0..width {
+        if current.nonbasic(col) == variable {
+            return current.entry(objective, col);
+        }
+    }
+    Frac::zero()
+}
+
+impl Optimum {
+    // The optimum that the end of a path is.
+    pub(crate) fn new(
+        first: Side,
+        second: Side,
+        objective: usize,
+        width: usize,
+        work: Work,
+    ) -> Optimum
+        requires optimum { IsOptimum (record { first = first; second = second; tableau = work }) }
+        requires shape { HasShape first second objective width }
+        ensures { result ≡ record { first = first; second = second; tableau = work } }
+    {
+        Optimum {
+            first,
+            second,
+            objective,
+            width,
+            work,
+        }
+    }
+
+    /// The price of the whole game (0) or of the first player's set k - 1, counted from 0.
+    pub fn price_one(&self, k: u32) -> Frac
+        requires { k ≤ length self.now.first.sets }
+        ensures { result ≡ first_price (side_of self.now.first) (side_of self.now.second) (tableau self.now.tableau) k }
+    {
+        entry_at(self.work.now(), self.objective, self.width, k + 1)
+    }
+
+    /// The price of the whole game (0) or of the second player's set k - 1, counted from 0.
+    pub fn price_two(&self, k: u32) -> Frac
+        requires { k ≤ length self.now.second.sets }
+        ensures { result ≡ second_price (side_of self.now.first) (side_of self.now.second) (tableau self.now.tableau) k }
+    {
+        let before = self.objective + (self.width - self.second.sets().len() - 1);
+        self.work.now().value((before + k as usize + 1) as u32)
+    }
+
+    // The raw weights of the first player: the values of x.
+    fn raw_one(&self, alloc: Global) -> Result<Vec<Frac>, Memory>
+        ensures { IfOk result (λ raw. AreRawOne self.now raw.items) }
+    {
+        let mut raw = Vec::new(alloc);
+        for q in 0..self.width - self.second.sets().len() - 1 {
+            raw.push(self.work.now().value((self.objective + q + 1) as u32))?;
+        }
+        Ok(raw)
+    }
+
+    // The raw weights of the second player: the entries of the objective row at the slacks of the second player's rows.
+    fn raw_two(&self, alloc: Global) -> Result<Vec<Frac>, Memory>
+        ensures { IfOk result (λ raw. AreRawTwo self.now raw.items) }
+    {
+        let mut raw = Vec::new(alloc);
+        let before = self.first.sets().len() + 1;
+        for q in 0..self.objective - before {
+            raw.push(entry_at(
+                self.work.now(),
+                self.objective,
+                self.width,
+                (before + q + 1) as u32,
+            ))?;
+        }
+        Ok(raw)
+    }
+
+    /// The plans that the raw weights make.
+    ///
+    /// # Errors
+    ///
+    /// `Range` exactly at the first step that does not fit, in the order of the players, their sets
+    /// and the actions. `Memory` where memory ran out.
+    pub fn plans(&self, alloc: Global) -> Result<Plans, PlanStop>
+        ensures { Gives plan_stops.Memory (plans_of self.now) result }
+    {
+        let raw = self.raw_one(alloc)?;
+        let one = match raised(raw, &self.first) {
+            Ok(one) => one,
+            Err(unfit) => return Err(PlanStop::Range { player: 0, unfit }),
+        };
+        let raw = self.raw_two(alloc)?;
+        match lessened(raw, &self.second) {
+            Ok(two) => Ok(Plans { one, two }),
+            Err(unfit) => Err(PlanStop::Range { player: 1, unfit }),
+        }
+    }
+}

@@ -1,0 +1,115 @@
+// The path of a linear program.
+ghost use Rattle.std.specs.Prelude.{◌≡◌, ◌+◌, ◌^◌, ◌<◌, ◌≤◌, ℕ, suc, length, true, false, IfErr, OnOk};
+ghost use Rattle.rational.specs.Rational.{zero_ℚ, ◌≤ℚ◌, ◌<ℚ◌};
+ghost use Rattle.lex_tableau.specs.Rows.{tableau};
+ghost use Rattle.zero_sum_lp.specs.Steps.{linear_program, IsProgramStart, EntersFirst, EndsPath, IsUnfitStep, IsStepNumber};
+
+use frac128::Unfit;
+use lex_tableau::{Steps, Tableau, Work};
+use std::sync::ledger::Ledger;
+
+/// The step of a path that does not fit: its number, counted from 1, the entering variable and the step.
+#[derive(Debug, Drop)]
+pub struct UnfitStep {
+    pub step: u64,
+    pub entering: u32,
+    pub unfit: Unfit,
+}
+
+// Whether the entry of a row in a column is below 0.
+fn is_negative(current: &Tableau, row: usize, col: usize) -> bool
+    requires row_in { row < length current.now.basics }
+    requires col_in { col < length current.now.nonbasics }
+    ensures negative { result ≡ true → (tableau current.now).cell row col <ℚ zero_ℚ }
+    ensures otherwise { result ≡ false → zero_ℚ ≤ℚ (tableau current.now).cell row col }
+{
+    current.entry_sign(row, col) < 0
+}
+
+// The column to enter after one more was looked at.
+fn next_entering(
+    current: &Tableau,
+    objective: usize,
+    col: usize,
+    best: Option<usize>,
+) -> Option<usize>
+    requires row_in { objective < length current.now.basics }
+    requires col_in { col < length current.now.nonbasics }
+    requires best { EntersFirst objective col (tableau current.now) best }
+    ensures { EntersFirst objective (suc col) (tableau current.now) result }
+{
+    if !is_negative(current, objective, col) {
+        return best;
+    }
+    let Some(old) = best else {
+        return Some(col);
+    };
+    if current.nonbasic(col) < current.nonbasic(old) {
+        Some(col)
+    } else {
+        Some(old)
+    }
+}
+
+// The column with a negative entry in the objective row whose variable has the least number.
+fn entering(current: &Tableau, objective: usize, width: usize) -> Option<usize>
+    requires row_in { objective < length current.now.basics }
+    requires width_is { width ≡ length current.now.nonbasics }
+    ensures { EntersFirst objective width (tableau current.now) result }
+{
+    let mut best = None;
+    for col in 0..width {
+        best = next_entering(current, objective, col, best);
+    }
+    best
+}
+
+// The number of the step after this one.
+fn next_number(number: u64) -> u64
+    ensures { (k : ℕ) → IsStepNumber k number → IsStepNumber (suc k) result }
+{
+    if number == u64::MAX {
+        number
+    } else {
+        number + 1
+    }
+}
+
+/// Follows the path to its end.
+///
+/// # Errors
+///
+/// The first step that does not fit.
+pub fn follow<L: Ledger>(
+    work: &mut Work,
+    objective: usize,
+    width: usize,
+    steps: &mut Steps<L>,
+) -> Result<(), UnfitStep>
+    requires start { IsProgramStart work.old }
+    requires objective_is { objective ≡ work.old.rated }
+    requires width_is { width ≡ length work.old.nonbasics }
+    ensures end { OnOk result (EndsPath work.old work.new) }
+    ensures unfit { IfErr result (λ e. IsUnfitStep work.old e.step e.entering e.unfit) }
+    ensures cost { steps.new ≤ steps.old + 2 ^ (linear_program work.old).bound }
+{
+    let mut number: u64 = 1;
+    while let Some(col) = entering(work.now(), objective, width) {
+        let Some(row) = work.now().ratio_row(col) else {
+            unreachable!();
+        };
+        let variable = work.now().nonbasic(col);
+        match work.pivot(row, col, steps) {
+            Ok(()) => {}
+            Err(unfit) => {
+                return Err(UnfitStep {
+                    step: number,
+                    entering: variable,
+                    unfit,
+                });
+            }
+        }
+        number = next_number(number);
+    }
+    Ok(())
+}

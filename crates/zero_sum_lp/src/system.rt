@@ -1,0 +1,131 @@
+// The system of a form's program.
+ghost use Rattle.std.specs.Prelude.{◌≡◌, ◌+◌, ◌*◌, ◌<◌, ◌≤◌, ◌^◌, ℕ, suc, length, get_or, IfOk};
+ghost use Rattle.linear_programs.specs.Programs.{columns_of, constraints, objective_cell, plan_cell, program_of, reply_cell};
+ghost use Rattle.sequence_data.specs.Data.{IsSideData, side_of};
+ghost use Rattle.sequence_forms.specs.Sides.{sequences};
+ghost use Rattle.zero_sum_lp.specs.Parts.{program_size};
+ghost use Rattle.zero_sum_lp.specs.Systems.{AreEntries, entry_of, gain_of, IsSystemFor};
+
+use form_matrices::set_entry;
+use frac128::{Frac, Memory};
+use lex_tableau::System;
+use sequence_data::Side;
+use std::alloc::Global;
+
+// A row of the first player's plans.
+fn plan_entry(first: &Side, row: usize, col: usize) -> Frac
+    requires side { IsSideData first.now }
+    requires row { row ≤ length first.now.sets }
+    ensures { result ≡ plan_cell (side_of first.now) row col }
+{
+    if col < first.sequences() as usize {
+        set_entry(first, row, col)
+    } else {
+        Frac::zero()
+    }
+}
+
+// The row of a sequence of the second player.
+fn reply_entry(first: &Side, second: &Side, gains: &[Frac], sequence: usize, col: usize) -> Frac
+    requires first_side { IsSideData first.now }
+    requires second_side { IsSideData second.now }
+    requires gains { length gains.now ≡ sequences (side_of first.now) * sequences (side_of second.now) }
+    requires sequence { sequence < sequences (side_of second.now) }
+    requires col { col < columns_of (side_of first.now) (side_of second.now) }
+    ensures { result ≡ reply_cell (side_of first.now) (side_of second.now) (gain_of gains.now (sequences (side_of second.now))) sequence col }
+{
+    let columns = first.sequences() as usize;
+    if col < columns {
+        gains[col * second.sequences() as usize + sequence].neg()
+    } else {
+        set_entry(second, col - columns, sequence)
+    }
+}
+
+// The objective row.
+fn objective_entry(first: &Side, col: usize) -> Frac
+    requires side { IsSideData first.now }
+    ensures { result ≡ objective_cell (side_of first.now) col }
+{
+    if col == first.sequences() as usize {
+        Frac::one().neg()
+    } else {
+        Frac::zero()
+    }
+}
+
+// The entry of a row in a column, the right side last.
+fn entry(first: &Side, second: &Side, gains: &[Frac], row: usize, col: usize) -> Frac
+    requires first_side { IsSideData first.now }
+    requires second_side { IsSideData second.now }
+    requires gains { length gains.now ≡ sequences (side_of first.now) * sequences (side_of second.now) }
+    requires row { row ≤ constraints (side_of first.now) (side_of second.now) }
+    requires col { col ≤ columns_of (side_of first.now) (side_of second.now) }
+    ensures { result ≡ entry_of (program_of (side_of first.now) (side_of second.now) (gain_of gains.now (sequences (side_of second.now)))) row col }
+{
+    let plan_rows = first.sets().len() + 1;
+    let width = first.sequences() as usize + second.sets().len() + 1;
+    if col == width {
+        if row == 0 { Frac::one() } else { Frac::zero() }
+    } else if row < plan_rows {
+        plan_entry(first, row, col)
+    } else if row < plan_rows + second.sequences() as usize {
+        reply_entry(first, second, gains, row - plan_rows, col)
+    } else {
+        objective_entry(first, col)
+    }
+}
+
+// So many numbers one after another.
+fn numbered(alloc: Global, first: u32, count: u32) -> Result<Vec<u32>, Memory>
+    requires { first + count < 2 ^ 32 }
+    ensures count { IfOk result (λ v. length v.items ≡ count) }
+    ensures numbers { IfOk result (λ v. (k : ℕ) → k < count → get_or v.items k 0 ≡ first + k) }
+{
+    let mut numbers = Vec::new(alloc);
+    for k in 0..count {
+        numbers.push(first + k)?;
+    }
+    Ok(numbers)
+}
+
+// All entries, row by row.
+fn entries(
+    alloc: Global,
+    first: &Side,
+    second: &Side,
+    gains: &[Frac],
+    size: usize,
+    rows: usize,
+) -> Result<Vec<Frac>, Memory>
+    requires first_side { IsSideData first.now }
+    requires second_side { IsSideData second.now }
+    requires gains { length gains.now ≡ sequences (side_of first.now) * sequences (side_of second.now) }
+    requires few { rows * size < 2 ^ 32 }
+    requires size { size ≡ suc (columns_of (side_of first.now) (side_of second.now)) }
+    requires rows { rows ≡ suc (constraints (side_of first.now) (side_of second.now)) }
+    ensures { IfOk result (λ cells. AreEntries (program_of (side_of first.now) (side_of second.now) (gain_of gains.now (sequences (side_of second.now)))) size (rows * size) cells.items) }
+{
+    let mut cells = Vec::with_capacity(alloc, rows * size)?;
+    for k in 0..rows * size {
+        cells.push(entry(first, second, gains, k / size, k % size))?;
+    }
+    Ok(cells)
+}
+
+/// The system of the program with these gains, row by row.
+pub fn system(alloc: Global, first: &Side, second: &Side, gains: &[Frac]) -> Result<System, Memory>
+    requires first_side { IsSideData first.now }
+    requires second_side { IsSideData second.now }
+    requires gains { length gains.now ≡ sequences (side_of first.now) * sequences (side_of second.now) }
+    requires few { program_size (side_of first.now) (side_of second.now) ≤ 512 }
+    ensures { IfOk result (IsSystemFor first.now second.now (gain_of gains.now (sequences (side_of second.now)))) }
+{
+    let rated = 1 + first.sets().len() + second.sequences() as usize;
+    let width = first.sequences() as usize + second.sets().len() + 1;
+    let mut basics = numbered(alloc, 1, rated as u32)?;
+    basics.push((rated + width + 1) as u32)?;
+    let nonbasics = numbered(alloc, rated as u32 + 1, width as u32)?;
+    let cells = entries(alloc, first, second, gains, width + 1, rated + 1)?;
+    Ok(System::new(basics, nonbasics, cells, rated))
+}
