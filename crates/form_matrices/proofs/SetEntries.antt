@@ -10,36 +10,34 @@ use Rattle.std.proofs.lemmas.List.{get_or-map, length-map}
 use Rattle.std.proofs.lemmas.List.FromFn.{get_or-map-range_with_len}
 use Rattle.sequence_data.specs.declared.types.SetRow.{SetRow}
 use Rattle.sequence_data.specs.Data.{SideData, side_of, IsSideData}
+use Rattle.lists.proofs.Numbers.{unequal}
 
 test_yes : (a b : ℕ) → a ≡ b → (a == b) ≡ true
 test_yes a b e = grind (arith, tests)
-
-test_no : (a b : ℕ) → a ≢ b → (a == b) ≡ false
-test_no a b e = grind (arith, tests)
 
 -- the row of the whole game
 pub whole_at_empty : (d : Side) (q : ℕ) → q ≡ 0 → set_row d 0 q ≡ one_ℚ
 whole_at_empty d q e = ap (λ b. (if b then one_ℚ else zero_ℚ) -ℚ zero_ℚ) (test_yes 0 (place d q) (sym (ap (place d) e ∙ (places d).empty))) ∙ ring rational_ring [] (num 1 :- num 0) (num 1) refl
 
 pub whole_elsewhere : (d : Side) (q : ℕ) → q < sequences d → q ≢ 0 → set_row d 0 q ≡ zero_ℚ
-whole_elsewhere d q h ne = ap (λ b. (if b then one_ℚ else zero_ℚ) -ℚ zero_ℚ) (test_no 0 (place d q) (λ e. ne ((places d).whole_game q h (sym e)))) ∙ ring rational_ring [] (num 0 :- num 0) (num 0) refl
+whole_elsewhere d q h ne = ap (λ b. (if b then one_ℚ else zero_ℚ) -ℚ zero_ℚ) (unequal 0 (place d q) (λ e. ne ((places d).whole_game q h (sym e)))) ∙ ring rational_ring [] (num 0 :- num 0) (num 0) refl
 
 -- the row of set j
 module _ (d : Side) (j q : ℕ) (hj : j < d.sets) (follows : d.before j < first d j) where
   pub set_at_action : first d j ≤ q → q < first d j + d.count j → set_row d (suc j) q ≡ one_ℚ
   set_at_action h l =
-      ap₂ (λ a b. (if a then one_ℚ else zero_ℚ) -ℚ (if b then one_ℚ else zero_ℚ)) (test_yes (suc j) (place d q) (sym (ap (place d) at ∙ (places d).of_set j (q - first d j) hj (omega (arith, h, l))))) (test_no q (d.before j) (λ e. absurd (omega (arith, e, h, follows)))) ∙ ring rational_ring [] (num 1 :- num 0) (num 1) refl
+      ap₂ (λ a b. (if a then one_ℚ else zero_ℚ) -ℚ (if b then one_ℚ else zero_ℚ)) (test_yes (suc j) (place d q) (sym (ap (place d) at ∙ (places d).of_set j (q - first d j) hj (omega (arith, h, l))))) (unequal q (d.before j) (λ e. absurd (omega (arith, e, h, follows)))) ∙ ring rational_ring [] (num 1 :- num 0) (num 1) refl
     where
       at : q ≡ first d j + (q - first d j)
       at = omega (arith, h)
 
   pub set_at_before : q ≡ d.before j → set_row d (suc j) q ≡ neg_ℚ one_ℚ
   set_at_before e =
-      ap₂ (λ a b. (if a then one_ℚ else zero_ℚ) -ℚ (if b then one_ℚ else zero_ℚ)) (test_no (suc j) (place d q) (λ f. let l = (places d).earlier q j hj (omega (arith, e, follows)) in absurd (omega (arith, f, l)))) (test_yes q (d.before j) e) ∙ ring rational_ring [] (num 0 :- num 1) (:neg (num 1)) refl
+      ap₂ (λ a b. (if a then one_ℚ else zero_ℚ) -ℚ (if b then one_ℚ else zero_ℚ)) (unequal (suc j) (place d q) (λ f. let l = (places d).earlier q j hj (omega (arith, e, follows)) in absurd (omega (arith, f, l)))) (test_yes q (d.before j) e) ∙ ring rational_ring [] (num 0 :- num 1) (:neg (num 1)) refl
 
   pub set_elsewhere : q < sequences d → ((first d j ≤ q) → q < first d j + d.count j → ⊥) → q ≢ d.before j → set_row d (suc j) q ≡ zero_ℚ
   set_elsewhere h out ne =
-      ap₂ (λ a b. (if a then one_ℚ else zero_ℚ) -ℚ (if b then one_ℚ else zero_ℚ)) (test_no (suc j) (place d q) (λ f. let w = (places d).action q j h (sym f) in let e = w.2 in let l = w.1 in out (omega (arith, e)) (omega (arith, e, l)))) (test_no q (d.before j) ne) ∙ ring rational_ring [] (num 0 :- num 0) (num 0) refl
+      ap₂ (λ a b. (if a then one_ℚ else zero_ℚ) -ℚ (if b then one_ℚ else zero_ℚ)) (unequal (suc j) (place d q) (λ f. let w = (places d).action q j h (sym f) in let e = w.2 in let l = w.1 in out (omega (arith, e)) (omega (arith, e, l)))) (unequal q (d.before j) ne) ∙ ring rational_ring [] (num 0 :- num 0) (num 0) refl
 
 -- ---- sets as they are read
 -- the first sequence of a set

@@ -7,6 +7,7 @@ use Rattle.std.proofs.lemmas.Bool.{both_ways, false_from_ne_true}
 use Rattle.std.proofs.lemmas.Bool.Decides.{Decides-or, Decides-and, Decides-eqb, leb_tells}
 use Rattle.game_text.specs.Tokens.{IsBlank, IsLetter, IsBare}
 use Rattle.game_text.specs.Reading.{is_blank, is_letter, is_bare}
+use Rattle.lists.proofs.Numbers.{unequal}
 
 -- what each test tells
 tells_le : (a b : ℕ) → Decides (nat_le a b) (a ≤ b)
@@ -30,9 +31,6 @@ tells_sign b =
 pub tells_bare : (b : ℕ) → Decides (is_bare b) (IsBare b)
 tells_bare b =
     Decides-or (is_letter b) (is_ascii_digit b || (b == 43 || (b == 45 || (b == 46 || b == 47)))) (tells_letter b) (Decides-or (is_ascii_digit b) (b == 43 || (b == 45 || (b == 46 || b == 47))) (tells_range 48 57 b) (tells_sign b))
-
-pub unequal : (a b : ℕ) → a ≢ b → (a == b) ≡ false
-unequal a b h = false_from_ne_true (a == b) (λ e. h ((Decides-eqb a b).0 e))
 
 -- a bare byte is no blank
 pub bare_no_blank : (b : ℕ) → IsBare b → IsBlank b → ⊥

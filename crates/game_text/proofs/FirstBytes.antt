@@ -8,7 +8,8 @@ use Rattle.game_text.specs.declared.reading.TextKind.{TextKind}
 use Rattle.game_text.specs.declared.reading.TextKind.TheVariants.{BadChar, OpenText, BadNumber, NumberTooLarge}
 use Rattle.game_text.specs.Tokens.{BeginsWith, BeginsNoToken, IsBlank, IsLetter, IsRun, IsTokenAt, IsFaultAt}
 use Rattle.game_text.specs.Reading.{is_blank, is_letter, is_bare}
-use Rattle.game_text.proofs.Bytes.{tells_blank, tells_letter, tells_bare, unequal, blank_not_bare, not_bare_no_letter}
+use Rattle.game_text.proofs.Bytes.{tells_blank, tells_letter, tells_bare, blank_not_bare, not_bare_no_letter}
+use Rattle.lists.proofs.Numbers.{unequal}
 
 -- 0 to 5 for the kinds of tokens, 6 for a byte that begins none, 7 for a blank, and 8 at the end
 abbrev pub kind_at : List ℕ → ℕ

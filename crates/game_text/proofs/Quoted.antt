@@ -4,7 +4,7 @@ use Rattle.std.proofs.lemmas.Bool.{and_parts, false_from_ne_true}
 use Rattle.std.proofs.lemmas.Bool.Decides.{Decides-eqb}
 use Rattle.game_text.specs.Tokens.{BeginsWith, SpellsText}
 use Rattle.game_text.specs.Reading.{spelled_byte, spelled, behind_text}
-use Rattle.game_text.proofs.Bytes.{unequal}
+use Rattle.lists.proofs.Numbers.{unequal}
 
 -- not a backslash before a quote
 no_escape : (b c : ℕ) → (b ≡ 92 → c ≢ 34) → (b == 92 && c == 34) ≡ false

@@ -10,6 +10,7 @@ use Rattle.rational.proofs.Fractions.{equal_by_parts, StandsFor, StandsFor-self,
 use Rattle.rational.proofs.Order.{le_by, by_le, lt_by, by_lt, eq_by, by_eq}
 use Rattle.rings.proofs.Ring.{ring, num, ◌:+◌, ◌:*◌, A, B, C}
 use Rattle.rational.proofs.Linear.{zero-over, StandsFor-whole}
+use Rattle.std.specs.Int.{int_signum}
 
 -- ---- whole numbers
 gcd-one : (a : ℕ) → gcd a 1 ≡ 1
@@ -156,3 +157,8 @@ frac-mul m n d e p q =
 pub frac-neg : (n : ℤ) (d : ℕ) → 0 < d → neg_ℚ (frac n d) ≡ frac (neg_ℤ n) d
 frac-neg n d p =
     equal_by (neg_ℚ (frac n d)) (frac (neg_ℤ n) d) _ _ d d (StandsFor-neg (frac n d) n d (StandsFor-frac n d p)) (StandsFor-frac _ _ p) refl
+
+-- an integer whose sign is not negative is not negative
+pub sign_nonneg : (z : ℤ) → pos 0 ≤ℤ int_signum z → pos 0 ≤ℤ z
+sign_nonneg (pos n) h = omega (arith, ints)
+sign_nonneg (negsuc n) h = absurd (omega (arith, ints))

@@ -52,11 +52,6 @@ payoff-is t k i a b v w h l left right is = is ∙ ap₂ (λ x y. x +ℚ y) left
 pub same_leaf : (k r q m n : ℕ) (a b c d e f : ℚ) → r ≡ m → q ≡ n → a ≡ b → c ≡ d → e ≡ f → let x : Leaf = record { place = k; row = r; column = q; chance = a; one = c; two = e } in let y : Leaf = record { place = k; row = m; column = n; chance = b; one = d; two = f } in x ≡ y
 same_leaf k r q m n a b c d e f rows columns chance one two = λ i. record { place = k; row = rows i; column = columns i; chance = chance i; one = one i; two = two i }
 
--- what an answer is, where it is one
-pub if_ok-then : {X E : Type 0} (r : Result X E) (P Q : X → Type 0) → IfOk r P → ((x : X) → P x → Q x) → IfOk r Q
-if_ok-then (Ok x) P Q h then = then x h
-if_ok-then (Err e) P Q h then = tt
-
 -- ---- the parent's set
 module _ (t : Tree) (k p : ℕ) (w : IsTree t) (later : 0 < k) (below : k < t.size) (above : p ≡ t.parent k) where
   pub parent-below : p < t.size

@@ -4,7 +4,7 @@ use Rattle.std.proofs.lemmas.Bool.{cases_lt}
 use Rattle.std.proofs.lemmas.List.{length-map, get_or-map}
 use Rattle.std.proofs.lemmas.List.Elements.{All-weaker}
 use Rattle.std.proofs.lemmas.Option.{none-some, same_Some, slice_get_within, slice_get-get_or, get_or_from_slice_get}
-use Rattle.lists.proofs.Elements.{element}
+use Rattle.lists.proofs.Elements.{element, all_at}
 use Rattle.game_trees.specs.Trees.{Tree}
 use Rattle.game_trees.specs.Recall.{own_history}
 use Rattle.reduced_strategies.specs.Choices.{own_sets, choice_at, Agrees, IsReached as is_set_reached, IsReduced, AreReducedStrategies}
@@ -21,10 +21,6 @@ use Rattle.strategy_lists.proofs.OwnNumbers.{own_sets-numbers, own_numbers-at, o
 -- a value of the element at a place
 pub value_at : {X : Type 0} (f : X → ℕ) (xs : List X) (k : ℕ) (x : X) → slice_get xs k ≡ Some x → get_or (map f xs) k 0 ≡ f x
 value_at f xs k x h = get_or-map f xs k x 0 (slice_get_within xs k x h) ∙ ap f (get_or_from_slice_get xs k x x h)
-
--- what holds of each element holds of the element at a place
-all_at : {X : Type 0} (P : X → Type 0) (xs : List X) (k : ℕ) (x : X) → All P xs → slice_get xs k ≡ Some x → P x
-all_at P xs k x all h = subst P (get_or_from_slice_get xs k x x h) (all k x (slice_get_within xs k x h))
 
 -- a choice list gives a set that stands at one place the choice there
 choice_at-place : (sets choices : List ℕ) (place s : ℕ) → ((j l : ℕ) → slice_get sets j ≡ Some s → slice_get sets l ≡ Some s → j ≡ l) → slice_get sets place ≡ Some s → choice_at sets choices s ≡ get_or choices place 0

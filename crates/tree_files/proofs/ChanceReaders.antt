@@ -25,6 +25,7 @@ use Rattle.tree_files.proofs.Completing.{Rest, goes_to_one}
 use Rattle.tree_files.specs.declared.fault.EfgKind.{EfgKind}
 use Rattle.tree_files.specs.declared.fault.EfgKind.TheVariants.{Node, Probability, ProbabilityRange}
 use Rattle.std.proofs.lemmas.Bool.{cases_Bool}
+use Rattle.file_parts.proofs.PartReaders.{no_empty}
 
 -- ---- sums
 -- a sum that was reached
@@ -136,10 +137,6 @@ with_rest : {X : Type 0} (f : List Action → X) (set count : ℕ) (sum : ℚ) (
 with_rest f set count sum r name rest =
     let l = left sum r in
     goes_on f set count sum l.rest one_ℚ name (Right ∷ rest) (comes set sum l.rest l.not_negative l.fits l.is_one) ∙ closes_here (λ actions. f (record { name = name; prob = l.rest } ∷ actions)) set count rest
-
--- no token is left
-no_empty : (t : Token) (r : List Token) → [] ≡ t ∷ r → ⊥
-no_empty t r e = cc
 
 -- what is read stays
 closed_reads : {X : Type 0} (f : List Action → X) (set count : ℕ) (sum : ℚ) (tokens : List Token) (x : X) (rest : List Token) → closed_chances f set count sum tokens ≡ Ok (x, rest) → (front : List Token) × (tokens ≡ front ++ rest) × ReadsAs (closed_chances f set count sum) front x

@@ -23,10 +23,11 @@ use Rattle.tree_files.specs.declared.fault.EfgKind.TheVariants.{Node, UnknownPla
 use Rattle.tree_files.proofs.ChoiceSteps.{no_word, no_name, by_chance, by_player, at_end, no_node}
 use Rattle.tree_files.proofs.NodeSteps.{ChoiceStep, OutcomeStep, with_both, next_in_steps}
 use Rattle.tree_files.proofs.NodesLaws.{parts_added}
-use Rattle.tree_files.proofs.TreeValues.{AreListed, ArePaid, found_has, value_set, value_outcome}
+use Rattle.tree_files.proofs.TreeValues.{AreListed, ArePaid, value_set, value_outcome}
 use Rattle.lists.specs.Options.{◌>>=◌}
 use Rattle.lists.proofs.Options.{bind_some}
 use Rattle.std.proofs.lemmas.Bool.{cases_Bool}
+use Rattle.lists.proofs.Elements.{all_at}
 
 -- ---- a choice
 value_player : (players : ℕ) (tokens : List Token) → value (parse_player players tokens) ≡ player_at players tokens
@@ -87,7 +88,7 @@ sets_keep players k sets more used None f h all e =
 sets_keep players k sets more used (Some set) f h all e =
     let place = set_place sets (key_of used) in
     let s = cond_some (repeats_actions set.actions used.actions) (slice_set sets place (used_set k used set)) more e in
-    let list : IsActionList set.owner set.actions = found_has (λ (s : BegunSet). IsActionList s.owner s.actions) sets place set all f in
+    let list : IsActionList set.owner set.actions = all_at (λ (s : BegunSet). IsActionList s.owner s.actions) sets place set all f in
     subst AreListed s.1 (All-set (λ (set : BegunSet). IsActionList set.owner set.actions) sets place (used_set k used set) list all)
 
 some_set_keeps : (players k : ℕ) (sets more : List BegunSet) (used : Option SetUse) → IfSome used (IsSetUse players) → AreListed sets → use_some_set k sets used ≡ Some more → AreListed more
@@ -103,7 +104,7 @@ outcomes_keep players outcomes more used None f h all e =
 outcomes_keep players outcomes more used (Some outcome) f h all e =
     let place = outcome_place outcomes used.label in
     let s = cond_some (repeats_payoffs outcome.payoffs used.payoffs) (slice_set outcomes place (used_outcome used outcome)) more e in
-    let paid : length outcome.payoffs ≡ players = found_has (λ (o : BegunOutcome). length o.payoffs ≡ players) outcomes place outcome all f in
+    let paid : length outcome.payoffs ≡ players = all_at (λ (o : BegunOutcome). length o.payoffs ≡ players) outcomes place outcome all f in
     subst (ArePaid players) s.1 (All-set (λ (o : BegunOutcome). length o.payoffs ≡ players) outcomes place (used_outcome used outcome) paid all)
 
 some_outcome_keeps : (players : ℕ) (outcomes more : List BegunOutcome) (used : Option OutcomeUse) → IfSome used (IsOutcomeUse players) → ArePaid players outcomes → use_some_outcome outcomes used ≡ Some more → ArePaid players more

@@ -31,6 +31,7 @@ use Rattle.tree_files.proofs.SetSteps.{begun_step, used_step, step_is, first_com
 use Rattle.tree_files.proofs.NamedOutcomes.{begun, first_is, later_is}
 use Rattle.lists.specs.Options.{◌>>=◌}
 use Rattle.std.proofs.lemmas.Bool.{cases_Bool}
+use Rattle.lists.proofs.Elements.{all_at}
 
 -- the tokens behind a mark
 abbrev pub mark : List Token → Option (Unit {0} × List Token)
@@ -143,10 +144,6 @@ found_passes {A} p (y ∷ ys) x e = elim (cases_Bool (p y)) [
 found_key : (sets : List BegunSet) (key : SetKey) (set : BegunSet) → slice_get sets (set_place sets key) ≡ Some set → key ≡ key_of_begun set
 found_key sets key set e = (same_set-Decides key (key_of_begun set)).0 (found_passes (λ s. same_set key (key_of_begun s)) sets set e)
 
--- what all have, one that is found has
-pub found_has : {A : Type 0} (P : A → Type 0) (xs : List A) (i : ℕ) (x : A) → All P xs → slice_get xs i ≡ Some x → P x
-found_has P xs i x all e = subst P (get_or_from_slice_get xs i x x e) (all i x (slice_get_within xs i x e))
-
 -- a use and what follows it
 abbrev placed : ℕ → List BegunSet × List Token → Option ((List BegunSet × ℕ) × List Token)
 placed place x = Some ((x.0, place), x.1)
@@ -158,7 +155,7 @@ value_use k sets owner label name after tokens behind all p n = elim (some_or_no
   | inl found ↦
       let set = found.0 in
       let key = found_key sets (owner, label) set found.1 in
-      let list : IsActionList set.owner set.actions = found_has (λ (s : BegunSet). IsActionList s.owner s.actions) sets (set_place sets (owner, label)) set all found.1 in
+      let list : IsActionList set.owner set.actions = all_at (λ (s : BegunSet). IsActionList s.owner s.actions) sets (set_place sets (owner, label)) set all found.1 in
       let used : List BegunSet = slice_set sets (set_place sets (owner, label)) (used_set k (bare_use owner label name) set) in
       let read : value (parse_use k sets (bare_use owner label name) (Some set) after) ≡ (later_list_at set.owner set.actions after >>= λ rest. Some (used, rest)) =
       value_chain (parse_later_list set.owner set.actions after) (later_list_at set.owner set.actions after >>= mark) _ (λ x. Some (used, x.1)) (value_later_list set.owner set.actions after list) (λ x. refl) ∙ marked_then (later_list_at set.owner set.actions after) (λ rest. Some (used, rest)) in
@@ -244,7 +241,7 @@ value_outcome_use players label outcomes tokens name after all n = elim (some_or
       let outcome = found.0 in
       let place = outcome_place outcomes label in
       let used : List BegunOutcome = slice_set outcomes place (used_outcome (bare_outcome_use label name) outcome) in
-      let paid : length outcome.payoffs ≡ players = found_has (λ (o : BegunOutcome). length o.payoffs ≡ players) outcomes place outcome all found.1 in
+      let paid : length outcome.payoffs ≡ players = all_at (λ (o : BegunOutcome). length o.payoffs ≡ players) outcomes place outcome all found.1 in
       let read : value (parse_outcome_use players outcomes (bare_outcome_use label name) (Some outcome) after) ≡ (later_payoffs_at (length outcome.payoffs) outcome.payoffs after >>= λ rest. Some (used, rest)) =
       value_chain (parse_later_payoffs outcome.payoffs after) (later_payoffs_at (length outcome.payoffs) outcome.payoffs after >>= mark) _ (λ x. Some (used, x.1)) (value_later_payoffs outcome.payoffs after) (λ x. refl) ∙ marked_then (later_payoffs_at (length outcome.payoffs) outcome.payoffs after) (λ rest. Some (used, rest)) in
       rw found.1 (ap (λ o. o >>= placed_outcome place) read ∙ then_placed (later_payoffs_at (length outcome.payoffs) outcome.payoffs after) used place ∙ ap (λ (m : ℕ). later_payoffs_at m outcome.payoffs after >>= λ rest. Some ((used, Some place), rest)) paid ∙ sym (later_is players label outcomes name tokens after n outcome found.1))

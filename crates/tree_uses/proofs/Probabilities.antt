@@ -13,7 +13,7 @@ use Rattle.std.specs.Ordering.{int_cmp, ordering_index}
 use Rattle.rational.specs.Rational.{ℚ, ◌+ℚ◌, zero_ℚ, one_ℚ}
 use Rattle.rational.specs.Tests.{le_test, cmp_ℚ, sign_of}
 use Rattle.rational.proofs.Decide.{le_test-true}
-use Rattle.rational.proofs.Parts.{nonneg-num}
+use Rattle.rational.proofs.Parts.{nonneg-num, sign_nonneg}
 use Rattle.frac128.specs.Steps.{AddFits, unfit}
 use Rattle.frac128.specs.declared.steps.Op.TheVariants.{Add}
 use Rattle.frac128.specs.declared.steps.Unfit.{Unfit}
@@ -26,12 +26,7 @@ use Rattle.written_trees.proofs.Chances.{add_test-Decides}
 test_fails : {P : Type 0} (b : Bool) → Decides b P → ¬ P → b ≡ false
 test_fails b d never = elim (cases_Bool b) [ inl e ↦ absurd (never (d.0 e)) | inr e ↦ e ]
 
--- a number whose sign is not negative is not negative
-sign_nonneg : (z : ℤ) → pos 0 ≤ℤ int_signum z → pos 0 ≤ℤ z
-sign_nonneg (pos n) h = omega (arith, ints)
-sign_nonneg (negsuc n) h = absurd (omega (arith, ints))
-
--- and one whose sign is negative is negative
+-- an integer that is not negative has no negative sign
 nonneg_sign : (z : ℤ) → pos 0 ≤ℤ z → pos 0 ≤ℤ int_signum z
 nonneg_sign (pos n) h = omega (arith, ints)
 nonneg_sign (negsuc n) h = absurd (omega (arith, ints))

@@ -8,7 +8,6 @@ use Rattle.rational.specs.Rational.{ℚ, ◌-ℚ◌, ◌≤ℚ◌, one_ℚ}
 use Rattle.rational.specs.Sum.{sum_to}
 use Rattle.rational.proofs.Sums.{sum_to-same}
 use Rattle.linear_systems.proofs.LexRow.{below_cases}
-use Rattle.frac128.specs.Fraction.{cmp_ℚ}
 use Rattle.frac128.specs.declared.steps.Op.TheVariants.{Sub}
 use Rattle.frac128.specs.Steps.{SubFits, unfit}
 use Rattle.sequence_forms.specs.Sides.{Side, first, IsOrderedSide}
@@ -17,6 +16,7 @@ use Rattle.linear_programs.specs.Plans.{IsLesser}
 use Rattle.pure_payoffs.specs.Steps.{Step, StepFits, IsFirstUnfit}
 use Rattle.zero_sum_lp.specs.PlanSteps.{rest_steps, IsSharedTo, IsUnfitShare, IsCutTo, IsUnfitCut}
 use Rattle.zero_sum_lp.proofs.PlanLists.{rest_next, rest_fits, rest_fails, rest_same, before_next, set_positive, IsSetOf, at_set}
+use Rattle.rational.specs.Tests.{cmp_ℚ}
 
 -- ---- the less of two
 pub not_greater : (r : Ordering) (a b : ℚ) → r ≡ cmp_ℚ a b → (r ≡ Greater → ⊥) → a ≤ℚ b

@@ -2,13 +2,13 @@
 use Rattle.std.proofs.Common.{ℕ, suc, ℤ, pos, negsuc, ◌<◌, ◌≤◌, ◌≡◌, ◌<ℤ◌, ◌≤ℤ◌, sym, subst, arith, inl, inr}
 use Rattle.std.proofs.lemmas.Int.{ints}
 use Rattle.std.specs.Int.{int_signum}
-use Rattle.rational.proofs.Parts.{negative-num, nonneg-num}
-use Rattle.frac128.specs.Fraction.{sign_of}
+use Rattle.rational.proofs.Parts.{negative-num, nonneg-num, sign_nonneg}
 use Rattle.rational.specs.Rational.{ℚ, zero_ℚ, ◌≤ℚ◌, ◌<ℚ◌}
 use Rattle.rational.proofs.Field.{not_lt_of_le}
 use Rattle.linear_systems.specs.Tableau.{Tableau}
 use Rattle.linear_systems.proofs.LexRow.{below_cases}
 use Rattle.zero_sum_lp.specs.Steps.{IsEnteringOf}
+use Rattle.rational.specs.Tests.{sign_of}
 
 module _ (m n : ℕ) (t : Tableau) where
   pub none_more : ((j : ℕ) → j < n → zero_ℚ ≤ℚ t.cell m j) → zero_ℚ ≤ℚ t.cell m n → (j : ℕ) → j < suc n → zero_ℚ ≤ℚ t.cell m j
@@ -51,12 +51,8 @@ sign_below : (n : ℤ) → int_signum n <ℤ pos 0 → n <ℤ pos 0
 sign_below (pos n) h = absurd (omega (arith, ints, h))
 sign_below (negsuc n) h = omega (arith, ints)
 
-sign_above : (n : ℤ) → pos 0 ≤ℤ int_signum n → pos 0 ≤ℤ n
-sign_above (pos n) h = omega (arith, ints)
-sign_above (negsuc n) h = absurd (omega (arith, ints, h))
-
 pub below_by_sign : (q : ℚ) (s : ℤ) → s ≡ sign_of q → s <ℤ pos 0 → q <ℚ zero_ℚ
 below_by_sign q s e h = (negative-num q).1 (sign_below q.num (subst (λ z. z <ℤ pos 0) e h))
 
 pub above_by_sign : (q : ℚ) (s : ℤ) → s ≡ sign_of q → pos 0 ≤ℤ s → zero_ℚ ≤ℚ q
-above_by_sign q s e h = (nonneg-num q).1 (sign_above q.num (subst (λ z. pos 0 ≤ℤ z) e h))
+above_by_sign q s e h = (nonneg-num q).1 (sign_nonneg q.num (subst (λ z. pos 0 ≤ℤ z) e h))

@@ -20,6 +20,7 @@ use Rattle.zero_sum_lp.specs.FormPrograms.{IsSystemOf, gain_at, size_of}
 use Rattle.zero_sum_lp.specs.Parts.{IsProgramSystem}
 use Rattle.zero_sum_lp.specs.Systems.{IsSystemFor, gain_of}
 use Rattle.zero_sum_lp.proofs.Optima.{sets_are}
+use Rattle.lists.proofs.Options.{if_ok-then}
 
 -- ---- gains of cells
 gain_head : (b : Bool) (least one weight x y : ℚ) → (if b then one -ℚ (least *ℚ weight) else zero_ℚ) +ℚ (x -ℚ (least *ℚ y)) ≡ ((if b then one else zero_ℚ) +ℚ x) -ℚ (least *ℚ ((if b then weight else zero_ℚ) +ℚ y))
@@ -90,11 +91,6 @@ module _ (f : FormData) (valid : IsFormData f) where
   size_is a b x y ea eb ex ey =
       let s = sets_are f.first in let t = sets_are f.second in omega (arith, ea, eb, ex, ey, s, t, first_count, second_count)
 
--- what a clause says of a value says more of it
-if_ok_more : {X R : Type 0} (r : Result X R) (P Q : X → Type 0) → IfOk r P → ((x : X) → P x → Q x) → IfOk r Q
-if_ok_more (Ok x) P Q h more = more x h
-if_ok_more (Err e) P Q h more = tt
-
 -- ---- as it was read
 module _ (f : FormData) (valid : IsFormData f) (cells : List Cell) (x y : ℕ) (ec : cells ≡ f.cells) (ex : x ≡ f.first.sequences) (ey : y ≡ f.second.sequences) where
   pub inside_read : All (IsInside x y) cells
@@ -105,7 +101,7 @@ module _ (f : FormData) (valid : IsFormData f) (cells : List Cell) (x y : ℕ) (
   system_read r first second numbers matrix seen e g h n holds w =
       let held : HoldsNumbers f.first.sequences f.second.sequences (placed f.cells numbers) matrix = subst₂ (λ a b. HoldsNumbers a b (placed f.cells numbers) matrix) ex ey (subst (λ xs. HoldsNumbers x y (placed xs numbers) matrix) ec holds) in
       let found : IfOk r (IsSystemFor f.first f.second (gain_of matrix (sequences (side_of f.second)))) = subst₂ (λ a b. IfOk r (IsSystemFor a b (gain_of matrix (sequences (side_of b))))) e g (subst (λ xs. IfOk r (IsSystemFor first second (gain_of xs (sequences (side_of second))))) h w) in
-      if_ok_more r _ (IsSystemOf f) found (λ s k. system_has_gains f valid numbers matrix s n held k)
+      if_ok-then r _ (IsSystemOf f) found (λ s k. system_has_gains f valid numbers matrix s n held k)
 
 -- the system of a form for sides that are its own
 pub for_sides : (f : FormData) (s : Parts) (first second : SideData) → first ≡ f.first → second ≡ f.second → IsSystemOf f s → IsProgramSystem first second s

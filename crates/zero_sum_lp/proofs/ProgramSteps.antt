@@ -5,7 +5,6 @@ use Rattle.std.specs.Bool.{Decides}
 use Rattle.std.specs.Ordering.{int_eq}
 use Rattle.std.proofs.lemmas.Bool.Decides.{Decides-and, Decides-eqb, Decides-int_eq}
 use Rattle.rational.proofs.Fractions.{equal_by_parts}
-use Rattle.frac128.specs.Fraction.{eq_ℚ}
 use Rattle.std.proofs.lemmas.Bool.{cases_eq}
 use Rattle.std.proofs.lemmas.List.{get_or-map, get_or_default, length-map, length-drop, length-take-le, get_or-take}
 use Rattle.std.proofs.lemmas.Grind.{get_or_after_one}
@@ -18,6 +17,8 @@ use Rattle.sequence_data.specs.declared.types.Cell.{Cell}
 use Rattle.sequence_data.specs.declared.types.Leaf.{Leaf}
 use Rattle.form_matrices.proofs.FirstUnfits.{split_here}
 use Rattle.zero_sum_lp.specs.FormPrograms.{gain_steps, sum_at, AreFirstApart, is_constant}
+use Rattle.rational.proofs.Decide.{eq_ℚ-decides}
+use Rattle.rational.specs.Tests.{eq_ℚ}
 
 -- ---- a gain
 pub product_unfit : (least : ℚ) (c : Cell) (e : Step) → (MulFits least c.weight → ⊥) → e ≡ unfit Mul least c.weight → IsFirstUnfit (gain_steps least c) e
@@ -82,17 +83,12 @@ module _ (leaves : List Leaf) (sums : List ℚ) (are : sums ≡ map sum_at leave
           ap sum_at (taken_at k leaves j d inside h) ∙ sym (sum_of (suc j) d (omega arith)) ∙ all (suc j) inside ∙ sum_of 0 leaf (omega arith) ∙ ap sum_at (sym el)
 
 -- ---- tests
-eq_parts : (a b : ℚ) → Decides (eq_ℚ a b) (a ≡ b)
-eq_parts a b =
-    let parts = Decides-and (int_eq a.num b.num) (nat_eq a.den b.den) (Decides-int_eq a.num b.num) (Decides-eqb a.den b.den) in
-    (λ t. let p = parts.0 t in equal_by_parts a b p.0 p.1, λ e. parts.1 (ap (λ (x : ℚ). x.num) e, ap (λ (x : ℚ). x.den) e))
-
 pub differ_by_test : (a b : ℚ) (r : Bool) → r ≡ not (eq_ℚ a b) → r ≡ true → a ≢ b
-differ_by_test a b r is t e = true≢false (sym t ∙ is ∙ ap not ((eq_parts a b).1 e))
+differ_by_test a b r is t e = true≢false (sym t ∙ is ∙ ap not ((eq_ℚ-decides a b).1 e))
 
 pub same_by_test : (a b : ℚ) (r : Bool) → r ≡ not (eq_ℚ a b) → r ≡ false → a ≡ b
 same_by_test a b r is f = go (eq_ℚ a b) refl
   where
     go : (t : Bool) → eq_ℚ a b ≡ t → a ≡ b
-    go true e = (eq_parts a b).0 e
+    go true e = (eq_ℚ-decides a b).0 e
     go false e = absurd (true≢false (ap not (sym e) ∙ sym is ∙ f))

@@ -1,9 +1,9 @@
-use Rattle.linear_systems.proofs.Lex.{pos_not_zero}
 use Rattle.std.proofs.Common.{ℕ, arith, ◌<◌, ◌≡◌, length, subst, sym, ◌∙◌}
 use Rattle.rational.specs.Rational.{zero_ℚ, ◌≤ℚ◌}
 use Rattle.lex_tableau.specs.Rows.{Numbers, tableau}
 use Rattle.zero_sum_lp.proofs.Walking.{objective_in, width_kept, some_leaves, read_enters, read_leaves, read_end, under_way_next, under_way_less, measure_falls, is_unfit}
 use Rattle.zero_sum_lp.proofs.path.follow.Goals as goal
+use Rattle.rational.proofs.Inverse.{ne_zero_of_pos}
 
 pub entering-requires-clause-row_in : goal.entering-requires-clause-row_in
 entering-requires-clause-row_in g c =
@@ -34,7 +34,7 @@ pivot-requires-clause-col_in g c =
 
 pub pivot-requires-clause-entry : goal.pivot-requires-clause-entry
 pivot-requires-clause-entry g c =
-    pos_not_zero ((tableau c.loop-col.work).cell c.in-Some-ratio_row.row c.in-Some.col) (read_leaves c.loop-col.work c.now-in-Some.result.now c.in-Some.col c.in-Some-ratio_row.row c.now-in-Some.ensures.value c.in-Some-ratio_row.ensures.best).positive
+    ne_zero_of_pos ((tableau c.loop-col.work).cell c.in-Some-ratio_row.row c.in-Some.col) (read_leaves c.loop-col.work c.now-in-Some.result.now c.in-Some.col c.in-Some-ratio_row.row c.now-in-Some.ensures.value c.in-Some-ratio_row.ensures.best).positive
 
 pub returns-in-Err-clause-unfit : goal.returns-in-Err-clause-unfit
 returns-in-Err-clause-unfit g c =
