@@ -4,6 +4,7 @@ pub mod FormLaws
 pub mod FormPrograms
 pub mod FormSystems
 pub mod Optima
+pub mod PathEnds
 pub mod PlanLists
 pub mod PlanReads
 pub mod ProgramSteps

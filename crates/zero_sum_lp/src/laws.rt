@@ -1,4 +1,5 @@
 // What the answers prove. The functions do nothing: the contract of each is a law, so that a check proves it.
+ghost use Rattle.zero_sum_lp.specs.Ends.{EndsAreSingle};
 ghost use Rattle.zero_sum_lp.specs.ValueLaws.{OptimalPlansProveTheValue, OptimalPlansSolveTrees, OptimalPlansSolveTables, ProgramsAreOfForms};
 
 /// The plans and prices at the optimum prove the value.
@@ -19,4 +20,9 @@ pub fn optimal_plans_solve_tables()
 /// The program of a form is that of its plans and gains.
 pub fn programs_are_of_forms()
     ensures { ProgramsAreOfForms }
+{}
+
+/// A program's path has one end: the optimum, or the first step that does not fit.
+pub fn ends_are_single()
+    ensures { EndsAreSingle }
 {}

@@ -20,8 +20,8 @@ mod weights;
 
 pub use form_program::program;
 pub use laws::{
-    optimal_plans_prove_the_value, optimal_plans_solve_tables, optimal_plans_solve_trees,
-    programs_are_of_forms,
+    ends_are_single, optimal_plans_prove_the_value, optimal_plans_solve_tables,
+    optimal_plans_solve_trees, programs_are_of_forms,
 };
 pub use lp::{Lp, LpEnd};
 pub use optimum::{Optimum, Plans};

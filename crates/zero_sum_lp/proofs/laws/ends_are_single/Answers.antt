@@ -1,0 +1,5 @@
+use Rattle.zero_sum_lp.proofs.PathEnds.{ends_same}
+use Rattle.zero_sum_lp.proofs.laws.ends_are_single.Goals as goal
+
+pub returns : goal.returns
+returns c = ends_same
