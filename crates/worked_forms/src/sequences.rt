@@ -42,7 +42,7 @@ fn form_text(alloc: Global, form: &SeqForm) -> Result<Vec<u8>, Memory> {
 }
 
 // The sequence form of a tree; nothing where it has none, or where a player forgets.
-fn form_of(alloc: Global, tree: &Tree) -> Option<SeqForm> {
+pub fn form_of(alloc: Global, tree: &Tree) -> Option<SeqForm> {
     let recall = find_recall(alloc, tree).ok()?;
     build(alloc, tree, &recall).ok()
 }
