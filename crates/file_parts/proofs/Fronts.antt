@@ -1,5 +1,5 @@
 -- Two fronts of one list of tokens: one goes on as the other.
-use Rattle.std.proofs.Common.{◌≡◌, List, [], ◌∷◌, ◌++◌, refl, sym}
+use Rattle.std.proofs.Common.{◌≡◌, List, [], ◌∷◌, ◌++◌, refl, sym, append_assoc}
 use Rattle.game_text.specs.declared.token.Token.{Token}
 use Rattle.file_parts.proofs.Readers.{same_first, same_rest, both_cons}
 
@@ -20,3 +20,7 @@ fronts (t ∷ a) r (u ∷ b) s e =
       | first v w f g ↦ first v w (both_cons u t b (a ++ v ∷ w) (sym h) f) g
       | second v w f g ↦ second v w (both_cons t u a (b ++ v ∷ w) h f) g
     ]
+
+-- a token between what stands before and behind it
+pub cut : (before : List Token) (t : Token) (more : List Token) → (before ++ t ∷ []) ++ more ≡ before ++ t ∷ more
+cut before t more = append_assoc before (t ∷ []) more

@@ -17,6 +17,7 @@ use Rattle.game_text.specs.declared.token.Token.{Token}
 use Rattle.game_text.specs.declared.token.Token.TheVariants.{Right, Text, Number}
 use Rattle.file_parts.specs.Parsing.{Parsed, ◌>>=◌}
 use Rattle.file_parts.proofs.Readers.{ReadsAs, IsStuck, IsReader, HasSample, LooksAhead, ok_same, err_same, ok_err, stuck_by, same_first, result_of, same_reader}
+use Rattle.file_parts.proofs.PartReaders.{no_empty}
 use Rattle.file_parts.proofs.TokenReaders.{split}
 use Rattle.file_parts.proofs.TokenLaws.{le_passes}
 use Rattle.written_trees.specs.Building.{add_test}
@@ -137,10 +138,6 @@ with_rest : {X : Type 0} (f : List Action → X) (set count : ℕ) (sum : ℚ) (
 with_rest f set count sum r name rest =
     let l = left sum r in
     goes_on f set count sum l.rest one_ℚ name (Right ∷ rest) (comes set sum l.rest l.not_negative l.fits l.is_one) ∙ closes_here (λ actions. f (record { name = name; prob = l.rest } ∷ actions)) set count rest
-
--- no token is left
-no_empty : (t : Token) (r : List Token) → [] ≡ t ∷ r → ⊥
-no_empty t r e = cc
 
 -- what is read stays
 closed_reads : {X : Type 0} (f : List Action → X) (set count : ℕ) (sum : ℚ) (tokens : List Token) (x : X) (rest : List Token) → closed_chances f set count sum tokens ≡ Ok (x, rest) → (front : List Token) × (tokens ≡ front ++ rest) × ReadsAs (closed_chances f set count sum) front x

@@ -117,8 +117,8 @@ fault_or_file tokens short = elim (result_of (parse_tree tokens)) [
 
 -- ---- one place
 -- what goes on to begin a file begins one with its next token
-goes_to : (a : List Token) (t : Token) (w b : List Token) → b ≡ a ++ t ∷ w → BeginsFile b → BeginsFile (a ++ t ∷ [])
-goes_to a t w b e f =
+begins_next : (a b : List Token) → BeginsFile b → (t : Token) (w : List Token) → b ≡ a ++ t ∷ w → BeginsFile (a ++ t ∷ [])
+begins_next a b f t w e =
     let all : b ++ f.0 ≡ (a ++ t ∷ []) ++ (w ++ f.0) = ap (λ (q : List Token). q ++ f.0) e ∙ append_assoc a (t ∷ w) f.0 ∙ sym (append_assoc a (t ∷ []) (w ++ f.0)) in
     (w ++ f.0, f.1, f.2, subst (λ (q : List Token). IsBegunFile q f.1 f.2) all f.3)
 
@@ -132,14 +132,14 @@ file_is_faultless tokens kind rest f s = by s.before rest s.stops (subst IsFile 
   where
     by : (before rest : List Token) → CannotCome before rest → IsFile (before ++ rest) → ⊥
     by before [] c f = c (subst IsFile (append-nil before) f)
-    by before (t ∷ rest) c f = c (goes_to before t rest (before ++ t ∷ rest) refl (file_begins (before ++ t ∷ rest) f))
+    by before (t ∷ rest) c f = c (begins_next before (before ++ t ∷ rest) (file_begins (before ++ t ∷ rest) f) t rest refl)
 
 -- two faults are at the same token
 one_place : (tokens : List Token) (kind other : EfgKind) (rest place : List Token) → IsFaultFrom tokens kind rest → IsFaultFrom tokens other place → rest ≡ place
 one_place tokens kind other rest place f g = elim (fronts f.before rest g.before place (sym f.are_tokens ∙ g.are_tokens)) [
   | same e ↦ e
-  | first t w b r ↦ absurd (subst (CannotCome f.before) r f.stops (goes_to f.before t w g.before b g.begins))
-  | second t w a s ↦ absurd (subst (CannotCome g.before) s g.stops (goes_to g.before t w f.before a f.begins))
+  | first t w b r ↦ absurd (subst (CannotCome f.before) r f.stops (begins_next f.before g.before g.begins t w b))
+  | second t w a s ↦ absurd (subst (CannotCome g.before) s g.stops (begins_next g.before f.before f.begins t w a))
 ]
 
 -- ---- one kind

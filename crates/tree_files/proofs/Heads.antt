@@ -8,6 +8,7 @@ use Rattle.game_text.specs.declared.token.Token.TheVariants.{Left, Right, Text, 
 use Rattle.file_parts.specs.Parts.{whole_number, braced_texts, IsLetter, IsComment}
 use Rattle.file_parts.specs.Reading.{left_at, right_at, texts_at, behind_text, names_at, title_at}
 use Rattle.file_parts.specs.Parsing.{Parsed, ◌>>=◌, passed, parse_title, parse_names}
+use Rattle.file_parts.proofs.Fronts.{cut}
 use Rattle.file_parts.proofs.HeaderLaws.{title_is, title_again}
 use Rattle.file_parts.proofs.PartReaders.{title_reader, names_reader}
 use Rattle.file_parts.proofs.Readers.{chain, ReadsAs, IsStuck, reads_alone, bind_ok, bind_err, ok_same, err_same, ok_err, result_of, same_front, not_empty}
@@ -114,10 +115,6 @@ begins_by before more x e few none =
     (more, tree_begun x.0.0 x.0.1 nothing_begun, free_places nothing_begun.branchings, subst (λ (all : List Token). IsBegunFile all (tree_begun x.0.0 x.0.1 nothing_begun) (free_places nothing_begun.branchings)) same f.1)
 
 -- ---- where the head stops
--- tokens before what comes, and what comes
-pub cut : (before : List Token) (t : Token) (more : List Token) → (before ++ t ∷ []) ++ more ≡ before ++ t ∷ more
-cut before t more = append_assoc before (t ∷ []) more
-
 -- what comes where the head stops cannot come
 pub head_cannot : (before rest : List Token) (kind : EfgKind) → ((t : Token) (r more : List Token) → rest ≡ t ∷ r → parse_head (before ++ t ∷ more) ≡ Err (kind, t ∷ more)) → (rest ≡ [] → parse_head before ≡ Err (kind, [])) → CannotCome before rest
 head_cannot before [] kind stays ends = λ f.

@@ -8,7 +8,7 @@ use Rattle.game_text.specs.declared.token.Token.TheVariants.{Left, Text}
 use Rattle.file_parts.specs.Reading.{left_at, text_at, optional_text_at, opens}
 use Rattle.file_parts.specs.Parsing.{Parsed, ◌>>=◌, wanted, passed}
 use Rattle.file_parts.proofs.Readers.{chain, ReadsAs, IsReader, bind_reader, pure_reader, choose, choose_reader, same_reader, ok_err, bind_ok}
-use Rattle.file_parts.proofs.TokenReaders.{left_reader, text_reader}
+use Rattle.file_parts.proofs.TokenReaders.{left_reader, text_reader, opens_first}
 use Rattle.written_trees.specs.Written.{SetUse, OutcomeUse}
 use Rattle.written_trees.specs.Building.{BegunSet, BegunOutcome, set_place, outcome_place, new_set, used_set, new_outcome, used_outcome}
 use Rattle.tree_files.specs.TreeParsing.{has_text, parse_optional, parse_list_of, parse_first_list, parse_repeated_list, parse_later_list, parse_use, parse_first_payoffs, parse_repeated_payoffs, parse_later_payoffs, parse_outcome_use}
@@ -27,10 +27,6 @@ pub record ReadsNoBrace {X : Type 0} (p : List Token → Parsed EfgKind X) : Typ
 pub text_first : (t : Token) (r s : List Token) → has_text (t ∷ r) ≡ has_text (t ∷ s)
 text_first (Text text) r s = refl
 text_first _ r s = refl
-
-brace_first : (t : Token) (r s : List Token) → opens (t ∷ r) ≡ opens (t ∷ s)
-brace_first Left r s = refl
-brace_first _ r s = refl
 
 -- ---- a name that may come
 -- what follows a name that may come
@@ -88,7 +84,7 @@ pub listed_reader : {X : Type 0} (p : List Token → Parsed EfgKind (Unit {0})) 
 unfolding with_list
 listed_reader p g only P G N =
     same_reader (listed p g) (choose opens (with_list p g) g) (listed_is p g)
-    (choose_reader opens (with_list p g) g (record { heads = brace_first; only_p = list_only p g only; only_q = no_list_only g N }) (bind_reader p (λ _ tokens. g tokens) P (λ _ _ _. G)) G)
+    (choose_reader opens (with_list p g) g (record { heads = opens_first; only_p = list_only p g only; only_q = no_list_only g N }) (bind_reader p (λ _ tokens. g tokens) P (λ _ _ _. G)) G)
 
 -- a list that is repeated opens
 repeated_opens : (owner : Option ℕ) (actions : List Action) (tokens : List Token) (y : Unit {0} × List Token) → opens tokens ≡ false → parse_repeated_list owner actions tokens ≡ Ok y → ⊥

@@ -182,10 +182,10 @@ same_number_token payoff Right = inr (OutcomeMismatch, λ rest. refl)
 same_number_token payoff _ = inr (Node, λ rest. refl)
 
 -- a payoff is repeated where the same number comes, from where it begins on
-tested : ℚ → List Token → Parsed EfgKind (Unit {0})
-tested payoff start = number_here start >>= λ next. if eq_ℚ next.0 payoff then Ok (tt, next.1) else Err (OutcomeMismatch, start)
+tested : List Token → ℚ → Parsed EfgKind (Unit {0})
+tested start payoff = number_here start >>= λ next. if eq_ℚ next.0 payoff then Ok (tt, next.1) else Err (OutcomeMismatch, start)
 
-tested_is : (payoff : ℚ) (start : List Token) → tested payoff start ≡ same_number payoff start
+tested_is : (payoff : ℚ) (start : List Token) → tested start payoff ≡ same_number payoff start
 unfolding tested same_number
 tested_is payoff (Number value ∷ rest) = refl
 tested_is payoff (Right ∷ rest) = refl

@@ -9,8 +9,9 @@ use Rattle.game_text.specs.declared.token.Token.{Token}
 use Rattle.game_text.specs.declared.token.Token.TheVariants.{Comma}
 use Rattle.file_parts.specs.Reading.{ends}
 use Rattle.file_parts.specs.Parsing.{Parsed, ◌>>=◌}
+use Rattle.file_parts.proofs.Fronts.{cut}
 use Rattle.file_parts.proofs.Options.{some_same}
-use Rattle.file_parts.proofs.Readers.{IsStuck, reads_alone, bind_ok, bind_err, ok_same, err_same, ok_err, result_of, same_test, same_first, same_rest, same_front, both_cons}
+use Rattle.file_parts.proofs.Readers.{IsStuck, reads_alone, bind_ok, bind_err, ok_same, err_same, ok_err, result_of, same_test, same_first, same_rest, same_front, both_cons, not_empty}
 use Rattle.file_parts.proofs.TokenLaws.{end_is}
 use Rattle.written_trees.specs.Written.{WrittenNode}
 use Rattle.written_trees.specs.Building.{Begun, BegunSet, BegunOutcome, nothing_begun, add_nodes, tree_begun, free_places}
@@ -30,7 +31,7 @@ use Rattle.tree_files.proofs.NodeReaders.{text_first}
 use Rattle.tree_files.proofs.NodeValues.{Keeps}
 use Rattle.tree_files.proofs.MarkedNodes.{marked, marked_reader}
 use Rattle.tree_files.proofs.MarkedLaws.{StopsAsMarked, marked_is, marked_again, nodes_same, nodes_too, nodes_stop, nodes_end}
-use Rattle.tree_files.proofs.Heads.{ReadsHead, Stops, cut, head_some, head_front, head_is, head_stops}
+use Rattle.tree_files.proofs.Heads.{ReadsHead, Stops, head_some, head_front, head_is, head_stops}
 
 -- ---- the whole
 -- nothing is begun
@@ -147,10 +148,6 @@ before_last (u ∷ before) t more (v ∷ nodes) last e =
 behind_comma_too : (before : List Token) (t : Token) (more : List Token) → (before ++ t ∷ more) ++ Comma ∷ [] ≡ before ++ t ∷ (more ++ Comma ∷ [])
 behind_comma_too before t more = append_assoc before (t ∷ more) (Comma ∷ [])
 
-some_token : (r : List Token) (t : Token) (more : List Token) → r ++ t ∷ more ≡ [] → ⊥
-some_token [] t more e = cc
-some_token (u ∷ r) t more e = cc
-
 -- where nodes stop, what comes cannot come: with what comes the nodes would be read up to a comma
 cannot_by : (most : ℕ) (tokens : List Token) (x : Head × List Token) (h : ReadsHead tokens x) (before rest : List Token) → most_nodes ≤ most → x.1 ≡ before ++ rest
     → ((t : Token) (r more : List Token) → rest ≡ t ∷ r → ReadsNodes most (length x.0.1) (before ++ t ∷ more) → ⊥) → (rest ≡ [] → ¬ (IsFile tokens)) → CannotCome (h.front ++ before) rest
@@ -199,7 +196,7 @@ comma_stops most tokens x begun rest h few le e =
         before = h.front ++ n.nodes;
         are_tokens = h.is ∙ ap (λ (r : List Token). h.front ++ r) n.is ∙ sym (append_assoc h.front n.nodes (Comma ∷ rest));
         begins = ([], tree_begun x.0.0 x.0.1 begun, free_places begun.branchings, rw (append-nil (h.front ++ n.nodes)) file);
-        stops = cannot_by most tokens x h n.nodes (Comma ∷ rest) le n.is (λ t q more f g. never n.nodes t more (same_first Comma t rest q f) g r n.is) (λ f. absurd (some_token [] Comma rest f));
+        stops = cannot_by most tokens x h n.nodes (Comma ∷ rest) le n.is (λ t q more f g. never n.nodes t more (same_first Comma t rest q f) g r n.is) (λ f. absurd (not_empty [] Comma rest f));
       },
       n.nodes,
       refl,
@@ -211,7 +208,7 @@ comma_stops most tokens x begun rest h few le e =
         let there : marked most (length x.0.1) nothing_begun ((nodes ++ Comma ∷ []) ++ (more ++ Comma ∷ [])) ≡ Ok (begun, more ++ Comma ∷ []) = subst (λ (q : List Token). marked most (length x.0.1) nothing_begun (q ++ (more ++ Comma ∷ [])) ≡ Ok (begun, more ++ Comma ∷ [])) front (r.2 (more ++ Comma ∷ [])) in
         let all : (nodes ++ t ∷ more) ++ Comma ∷ [] ≡ (nodes ++ Comma ∷ []) ++ (more ++ Comma ∷ []) = rw (← c) (behind_comma_too nodes Comma more ∙ sym (append_assoc nodes (Comma ∷ []) (more ++ Comma ∷ []))) in
         let same = ok_same (g.begun, []) (begun, more ++ Comma ∷ []) (sym g.is_read ∙ ap (marked most (length x.0.1) nothing_begun) all ∙ there) in
-        absurd (some_token more Comma [] (sym (ap (λ (z : Begun × List Token). z.1) same)))
+        absurd (not_empty more Comma [] (sym (ap (λ (z : Begun × List Token). z.1) same)))
 
 -- nodes stop
 pub nodes_stops : (most : ℕ) (tokens : List Token) (x : Head × List Token) (kind : EfgKind) (rest : List Token) (h : ReadsHead tokens x) → length x.0.1 < 2 ^ 32 → most_nodes ≤ most → StopsAsMarked (marked most (length x.0.1) nothing_begun x.1) kind rest → (rest ≡ [] → ¬ (IsFile tokens)) → StopsBehind tokens h rest
