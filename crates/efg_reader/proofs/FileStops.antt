@@ -1,5 +1,5 @@
 -- How reading a file ends.
-use Rattle.std.proofs.Common.{◌≡◌, ℕ, zero, suc, ◌<◌, ◌≤◌, ◌^◌, inl, inr, List, [], ◌∷◌, length, map, Result, Ok, Err, ◌⊎◌, refl, sym, ap, ◌∙◌, subst, arith}
+use Rattle.std.proofs.Common.{◌≡◌, ℕ, zero, suc, ◌<◌, ◌^◌, inl, inr, List, [], ◌∷◌, length, map, Result, Ok, Err, ◌⊎◌, refl, sym, ap, ◌∙◌, subst, arith}
 use Rattle.std.proofs.lemmas.List.{length-map}
 use Rattle.std.specs.Prelude.{IfOk, IfErr}
 use Rattle.std.specs.List.{AllByRecursion}
@@ -20,7 +20,6 @@ use Rattle.file_parts.proofs.Readers.{err_same}
 use Rattle.file_parts.proofs.Values.{value}
 use Rattle.written_trees.specs.Building.{Begun, tree_begun}
 use Rattle.tree_files.specs.declared.fault.EfgKind.{EfgKind}
-use Rattle.tree_files.specs.declared.fault.EfgKind.TheVariants.{Unfinished}
 use Rattle.efg_reader.specs.declared.fault.EfgStop.{EfgStop}
 use Rattle.efg_reader.specs.declared.fault.EfgStop.TheVariants as stops
 use Rattle.efg_reader.specs.declared.nodes.Stop.{Stop}
@@ -28,7 +27,7 @@ use Rattle.efg_reader.specs.declared.nodes.Stop.TheVariants.{Refused, Passed}
 use Rattle.efg_reader.specs.States.{RefusesNodes}
 use Rattle.efg_reader.specs.Stops.{IsPassed, IsStopOf, kind_in_nodes, IsNodesStopOf, tree_in, but_for_kind}
 use Rattle.tree_files.specs.TreeFile.{IsTreeFile, PassesLimit}
-use Rattle.tree_files.specs.TreeReading.{Head, front_at, whole_nodes_at}
+use Rattle.tree_files.specs.TreeReading.{Head}
 use Rattle.tree_files.specs.TreeParsing.{parse_head, parse_all_nodes, in_nodes, parse_tree}
 use Rattle.tree_files.specs.TreeFaults.{IsFile}
 use Rattle.tree_files.specs.FaultKinds.{IsFault, part_of_kind}
