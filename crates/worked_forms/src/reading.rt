@@ -130,25 +130,26 @@ fn parts_of_trees_are_read(rt: HostRuntime) -> Result<(), Memory> {
     Ok(())
 }
 
-// Whether these are a player's own sets, in order, and there are no more.
-fn owns(alloc: Global, text: &[u8], player: u32, sets: &[u32]) -> bool {
-    let Some(tree) = tree_of(alloc, text) else {
-        return false;
-    };
-    for place in 0..sets.len() {
-        if tree.own_sets(player, place as u32) != Some(sets[place]) {
-            return false;
-        }
-    }
-    tree.own_sets(player, sets.len() as u32) == None
-}
-
+// The own sets of players by their places, and none behind the last.
 #[test]
 fn own_sets_are_in_order(rt: HostRuntime) {
-    assert!(rt; owns(rt.alloc(), POKER, 0, &[1, 3]));
-    assert!(rt; owns(rt.alloc(), POKER, 1, &[2]));
-    assert!(rt; owns(rt.alloc(), POKER, 2, &[]));
-    assert!(rt; owns(rt.alloc(), ALONE, 0, &[0, 1]));
+    let rows = [
+        (POKER, 0, 0, Some(1)),
+        (POKER, 0, 1, Some(3)),
+        (POKER, 0, 2, None),
+        (POKER, 1, 0, Some(2)),
+        (POKER, 1, 1, None),
+        (POKER, 2, 0, None),
+        (ALONE, 0, 0, Some(0)),
+        (ALONE, 0, 1, Some(1)),
+        (ALONE, 0, 2, None),
+    ];
+    for (text, player, place, set) in rows {
+        let Some(tree) = tree_of(rt.alloc(), text) else {
+            panic!(rt);
+        };
+        assert!(rt; tree.own_sets(player, place) == set);
+    }
 }
 
 // The title and the players, each player's strategies, and the payoffs.

@@ -9,8 +9,7 @@ const DILEMMA: &str = "NFG 1 R \"PD\" { \"A\" \"B\" } { 2 2 } 3 3 5 0 0 5 1 1";
 /// No tool that is built, and words after `enumpure` other than its letters and the name of one file.
 #[test]
 fn words_are_refused(rt: HostRuntime) -> Result<(), Memory> {
-    let rows: [(&[&str], &str); 8] = [
-        (&[], "gambit: no tool\n"),
+    let rows: [(&[&str], &str); 7] = [
         (&["solve"], "gambit: unknown tool\n"),
         (&["lp", "--price"], "gambit: unknown tool\n"),
         (&["enummixed", "-c"], "gambit: unknown tool\n"),
