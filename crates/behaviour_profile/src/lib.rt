@@ -7,11 +7,11 @@ ghost use Rattle.game_theory.specs.Mixed.{sure};
 ghost use Rattle.game_theory.specs.Profiles.{IsProfile};
 ghost use Rattle.game_trees.specs.Behaviour.{pure};
 ghost use Rattle.game_core.specs.TreeGame.{game_of_tree};
-ghost use Rattle.reduced_strategies.specs.Choices.{own_sets};
 ghost use Rattle.reduced_strategies.specs.StrategicForm.{completed};
-ghost use Rattle.reduced_strategies.specs.TreeEntries.{own_entries, tree_entries};
 ghost use Rattle.reduced_form.specs.ReducedForm.{IsReducedForm};
 ghost use Rattle.behaviour_profile.specs.FirstActions.{first_for_none};
+ghost use Rattle.game_trees.specs.OwnSets.{own_sets};
+ghost use Rattle.game_trees.specs.TreeEntries.{own_entries, tree_entries};
 
 use frac128::{Frac, Memory};
 use game_core::Tree;

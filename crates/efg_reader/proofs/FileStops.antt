@@ -1,5 +1,5 @@
 -- How reading a file ends.
-use Rattle.std.proofs.Common.{◌≡◌, ℕ, zero, suc, ◌<◌, ◌≤◌, ◌^◌, inl, inr, List, [], ◌∷◌, length, map, Result, Ok, Err, ◌⊎◌, refl, sym, ap, ◌∙◌, subst, arith}
+use Rattle.std.proofs.Common.{◌≡◌, ℕ, zero, suc, ◌<◌, ◌^◌, inl, inr, List, [], ◌∷◌, length, map, Result, Ok, Err, ◌⊎◌, refl, sym, ap, ◌∙◌, subst, arith}
 use Rattle.std.proofs.lemmas.List.{length-map}
 use Rattle.std.specs.Prelude.{IfOk, IfErr}
 use Rattle.std.specs.List.{AllByRecursion}
@@ -16,7 +16,6 @@ use Rattle.file_parts.proofs.Readers.{err_same}
 use Rattle.file_parts.proofs.Values.{value}
 use Rattle.written_trees.specs.Building.{Begun, tree_begun}
 use Rattle.tree_files.specs.declared.fault.EfgKind.{EfgKind}
-use Rattle.tree_files.specs.declared.fault.EfgKind.TheVariants.{Unfinished}
 use Rattle.efg_reader.specs.declared.fault.EfgStop.{EfgStop}
 use Rattle.efg_reader.specs.declared.fault.EfgStop.TheVariants as stops
 use Rattle.efg_reader.specs.declared.nodes.Stop.{Stop}
@@ -24,7 +23,7 @@ use Rattle.efg_reader.specs.declared.nodes.Stop.TheVariants.{Refused, Passed}
 use Rattle.efg_reader.specs.States.{RefusesNodes}
 use Rattle.efg_reader.specs.Stops.{IsPassed, IsStopOf, kind_in_nodes, IsNodesStopOf, tree_in, but_for_kind}
 use Rattle.tree_files.specs.TreeFile.{IsTreeFile, PassesLimit}
-use Rattle.tree_files.specs.TreeReading.{Head, front_at, whole_nodes_at}
+use Rattle.tree_files.specs.TreeReading.{Head}
 use Rattle.tree_files.specs.TreeParsing.{parse_head, parse_all_nodes, in_nodes, parse_tree}
 use Rattle.tree_files.specs.TreeFaults.{IsFile}
 use Rattle.tree_files.specs.FaultKinds.{IsFault, part_of_kind}
@@ -33,12 +32,9 @@ use Rattle.tree_files.proofs.FileLaws.{read_is_file, met_is_passed, no_front_is_
 use Rattle.tree_files.proofs.Heads.{value_head, head_front}
 use Rattle.tree_files.proofs.Whole.{few_players, whole_same}
 use Rattle.tree_files.proofs.FaultLaws.{stop_is_fault, file_is_faultless, fault_or_file, one_fault}
-use Rattle.std.proofs.lemmas.Option.{same_Some}
-use Rattle.lists.proofs.Options.{bind_some}
 use Rattle.game_tokens.specs.TokenList.{TokenList, bare}
 use Rattle.game_tokens.specs.declared.token.Spanned.{Spanned}
 use Rattle.game_tokens.specs.declared.token.Token.{Token}
-use Rattle.game_tokens.specs.declared.token.Token.TheVariants.{Text, Right}
 use Rattle.game_tokens.specs.InPlace.{AreInPlace, IsShortToken}
 
 -- ---- the tokens

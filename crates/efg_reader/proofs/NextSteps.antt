@@ -1,12 +1,12 @@
 -- A further node as the code reads it.
-use Rattle.std.proofs.Common.{◌≡◌, ◌≢◌, ℕ, suc, ◌+◌, ◌<◌, ◌≤◌, ◌&&◌, nat_eq, true, false, if◌then◌else◌, List, [], ◌∷◌, ◌++◌, length, Option, Some, None, slice_get, slice_set, inl, inr, refl, sym, ap, ◌∙◌, length-append, arith}
+use Rattle.std.proofs.Common.{◌≡◌, ◌≢◌, ℕ, suc, ◌+◌, ◌≤◌, nat_eq, true, false, List, [], ◌∷◌, ◌++◌, length, Option, Some, None, slice_get, slice_set, inl, inr, refl, sym, ap, ◌∙◌, length-append, arith}
 use Rattle.std.proofs.lemmas.List.{length-set}
-use Rattle.std.specs.Prelude.{Result, Ok, Err, codes}
+use Rattle.std.specs.Prelude.{Ok, Err, codes}
 use Rattle.game_core.specs.declared.tree.Kind.TheVariants.{End}
 use Rattle.file_parts.specs.declared.refusal.Refusal.{Refusal}
 use Rattle.file_parts.specs.declared.refusal.Refusal.TheVariants.{Unfit}
 use Rattle.file_parts.specs.Reading.{word_at, text_at, whole_at, optional_text_at}
-use Rattle.file_parts.specs.Parsing.{Parsed, ◌>>=◌, IsRefusal, wanted}
+use Rattle.file_parts.specs.Parsing.{Parsed, IsRefusal, wanted}
 use Rattle.file_parts.proofs.Parses.{refused_first}
 use Rattle.file_parts.proofs.Readers.{bind_ok, ok_same, ok_err}
 use Rattle.written_trees.specs.Written.{SetUse, OutcomeUse}
@@ -14,10 +14,9 @@ use Rattle.written_trees.specs.Building.{Begun, Branching, BegunSet, BegunOutcom
 use Rattle.tree_files.specs.TreeReading.{begins_node, is_word, positive_at, grown_at, grown}
 use Rattle.tree_files.specs.TreeParsing.{Choice, bare_use, parse_first_list, parse_later_list, parse_use, parse_set, parse_player, parse_set_choice, parse_own_choice, parse_behind, parse_choice, bare_outcome_use, parse_first_payoffs, parse_later_payoffs, parse_outcome_use, parse_named, parse_outcome, with_parts, parse_next, parse_at}
 use Rattle.tree_files.specs.declared.fault.EfgKind.{EfgKind}
-use Rattle.tree_files.specs.declared.fault.EfgKind.TheVariants.{Node, UnknownPlayer}
+use Rattle.tree_files.specs.declared.fault.EfgKind.TheVariants.{Node}
 use Rattle.tree_files.proofs.NodeSteps.{with_uses}
 use Rattle.std.proofs.lemmas.Option.{same_Some}
-use Rattle.lists.proofs.Options.{bind_some, chosen}
 use Rattle.game_tokens.specs.declared.token.Token.{Token}
 use Rattle.std.proofs.lemmas.Bool.{cases_Bool}
 

@@ -1,5 +1,5 @@
 -- Nodes as the loop reads them.
-use Rattle.std.proofs.Common.{◌≡◌, ℕ, zero, suc, ◌<◌, ◌≢◌, nat_eq, Bool, true, false, List, [], ◌∷◌, ◌++◌, length, map, Result, Ok, Err, Option, Some, None, inl, inr, refl, sym, ap, ◌∙◌, subst, arith}
+use Rattle.std.proofs.Common.{◌≡◌, ℕ, zero, suc, ◌<◌, ◌≢◌, nat_eq, Bool, true, false, List, [], ◌∷◌, length, map, Result, Ok, Err, Option, Some, None, inl, inr, refl, sym, ap, ◌∙◌, subst, arith}
 use Rattle.std.specs.List.{AllByRecursion}
 use Rattle.game_core.specs.declared.too_large.What.{What}
 use Rattle.game_tokens.specs.InPlace.{IsShortToken}
@@ -8,16 +8,15 @@ use Rattle.std.proofs.lemmas.List.{length-map, length-reverse}
 use Rattle.file_parts.specs.declared.refusal.Refusal.{Refusal}
 use Rattle.file_parts.specs.declared.refusal.Refusal.TheVariants as refusals
 use Rattle.file_parts.specs.Reading.{ends}
-use Rattle.file_parts.specs.Parsing.{Parsed, counted, IsRefusal}
-use Rattle.file_parts.proofs.Parses.{refused_first}
-use Rattle.file_parts.proofs.Readers.{result_of, bind_err, err_same}
+use Rattle.file_parts.specs.Parsing.{counted, IsRefusal}
+use Rattle.file_parts.proofs.Readers.{err_same}
 use Rattle.file_parts.proofs.Values.{value}
 use Rattle.written_trees.specs.Building.{Begun, Branching, nothing_begun, passed}
 use Rattle.efg_reader.specs.declared.builder.Builder.{Builder}
 use Rattle.efg_reader.specs.declared.nodes.Stop.{Stop}
 use Rattle.efg_reader.specs.declared.nodes.Stop.TheVariants.{Refused, Passed}
 use Rattle.efg_reader.specs.States.{begun_of, branching_of, branchings_of, RefusesNode, RefusesNodes}
-use Rattle.tree_files.specs.TreeReading.{Nodes, begins_node, within_limit, next_at, one_more_at, is_whole, nodes_at, whole_nodes_at, and_then}
+use Rattle.tree_files.specs.TreeReading.{begins_node, next_at, one_more_at, is_whole, nodes_at, whole_nodes_at, and_then}
 use Rattle.tree_files.specs.TreeParsing.{parse_next, parse_at, parse_nodes, parse_all_nodes}
 use Rattle.tree_files.specs.declared.fault.EfgKind.{EfgKind}
 use Rattle.tree_files.specs.declared.fault.EfgKind.TheVariants.{Trailing}

@@ -1,13 +1,13 @@
 -- What is left behind a part that was read is short where all tokens are.
-use Rattle.std.proofs.Common.{◌≡◌, ℕ, List, [], ◌∷◌, ◌++◌, Bool, true, false, codes, ◌-◌, ◌&&◌, nat_le, if◌then◌else◌, slice_get, Option, Some, None, inl, inr, refl, sym, ap, ◌∙◌, subst}
-use Rattle.std.specs.Prelude.{Result, Ok, Err}
+use Rattle.std.proofs.Common.{◌≡◌, ℕ, List, [], ◌∷◌, codes, ◌-◌, ◌&&◌, nat_le, slice_get, Option, Some, None, inl, inr, sym, ap, ◌∙◌, subst}
+use Rattle.std.specs.Prelude.{Ok, Err}
 use Rattle.std.specs.List.{AllByRecursion}
 use Rattle.game_core.specs.declared.tree.Kind.TheVariants.{End}
 use Rattle.game_tokens.specs.declared.token.Token.{Token}
 use Rattle.game_tokens.specs.declared.token.Token.TheVariants.{Text, Word}
 use Rattle.game_tokens.specs.InPlace.{IsShortToken}
 use Rattle.file_parts.specs.Reading.{word_at, text_at, whole_at, optional_text_at, opens}
-use Rattle.file_parts.specs.Parsing.{Parsed, ◌>>=◌, wanted}
+use Rattle.file_parts.specs.Parsing.{Parsed, wanted}
 use Rattle.file_parts.proofs.Readers.{chain, IsReader, bind_ok, ok_same, ok_err}
 use Rattle.file_parts.proofs.TokenLaws.{word_is, text_is}
 use Rattle.file_parts.proofs.TokenReaders.{text_reader}

@@ -1,12 +1,10 @@
 -- The best of numbers that stand a stride apart, and the flags that are struck for it, one number more.
-use Rattle.std.proofs.Common.{ℕ, suc, ◌+◌, ◌*◌, ◌<◌, ◌≤◌, ◌≡◌, ◌≢◌, ◌⊎◌, ◌↔◌, inl, inr, Bool, false, IsTrue, List, [], ◌∷◌, length, set, refl, sym, ap, ◌∙◌, subst, arith}
+use Rattle.std.proofs.Common.{ℕ, suc, ◌+◌, ◌*◌, ◌<◌, ◌≤◌, ◌≡◌, ◌≢◌, ◌⊎◌, ◌↔◌, inl, inr, Bool, false, IsTrue, List, length, set, refl, sym, ap, ◌∙◌, subst, arith}
 use Rattle.std.proofs.lemmas.Bool.{cases_eq}
 use Rattle.std.proofs.lemmas.List.{get_or-set_same, get_or-set_other}
 use Rattle.std.proofs.Math.Nat.{mul-le-mul_left}
 use Rattle.rational.specs.Rational.{ℚ, ◌≤ℚ◌, ◌<ℚ◌}
-use Rattle.rational.proofs.Field.{le_refl, le_trans, le_or_lt, lt_irrefl, le_of_lt, le_of_not_lt, not_le_of_lt}
-use Rattle.rational.proofs.Linear.{linear, at, ◌⟨≤⟩◌, ◌⟨<⟩◌}
-use Rattle.std.proofs.lemmas.Int.{ints}
+use Rattle.rational.proofs.Field.{le_refl, le_trans, le_of_lt, le_of_not_lt, not_le_of_lt}
 use Rattle.enumpure.specs.Replies.{flag, IsBest, AreStruck}
 
 -- what holds below n and at n holds below n + 1

@@ -7,6 +7,7 @@ use Rattle.std.proofs.lemmas.List.{append-nil, take_all}
 use Rattle.std.proofs.lemmas.List.Sums.{sum_by-cons}
 use Rattle.std.proofs.Math.Nat.{mul-le-mul, mul-le-mul_left}
 use Rattle.std.specs.Fmt.{digits}
+use Rattle.game_core.proofs.TableCounts.{length-strategy_counts, at_most_product, profile_count-table}
 use Rattle.rational.specs.Gcd.{gcd}
 use Rattle.rational.specs.Rational.{ℚ, is_lowest, frac, zero_ℚ, one_ℚ}
 use Rattle.game_theory.specs.Profiles.{profile_count}
@@ -18,7 +19,7 @@ use Rattle.ne_printer.specs.Entries.{entry_text, entries_text}
 use Rattle.ne_printer.proofs.LineTexts.{line_text-joined}
 use Rattle.enumpure.specs.Ranks.{rank_flag, rank_line, lines_below}
 use Rattle.enumpure.specs.Replies.{flag}
-use Rattle.enumpure.proofs.Strides.{HaveStrategies, HaveStrategies-later, HaveStrategies-table, length-strategy_counts, profile_count-positive, profile_count-table, at_most_product}
+use Rattle.enumpure.proofs.Strides.{HaveStrategies, HaveStrategies-later, HaveStrategies-table, profile_count-positive}
 use Rattle.enumpure.proofs.Totals.{total, one_if, total-ranked, total-flags}
 
 -- the text of 1

@@ -1,7 +1,6 @@
 -- The entries of a profile, as they grow player by player.
-use Rattle.std.proofs.Common.{ℕ, zero, suc, ◌+◌, ◌<◌, ◌≡◌, List, [], ◌∷◌, ◌++◌, length, get_or, take, refl, sym, ap, ap₂, ◌∙◌, arith, append_assoc, add-one}
+use Rattle.std.proofs.Common.{ℕ, zero, suc, ◌+◌, ◌<◌, ◌≡◌, List, [], ◌∷◌, ◌++◌, length, get_or, take, sym, ap, ◌∙◌, arith, append_assoc, add-one}
 use Rattle.std.proofs.lemmas.List.{append-nil}
-use Rattle.game_theory.proofs.Entries.{listed-next}
 use Rattle.rational.specs.Rational.{ℚ}
 use Rattle.game_theory.specs.Mixed.{Mixed, later}
 use Rattle.game_theory.specs.Lines.{listed, entries}

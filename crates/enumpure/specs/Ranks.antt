@@ -1,7 +1,7 @@
 -- The ranks of pure profiles in the order of their lines, from 0, and the lines of flagged profiles.
-use Rattle.std.specs.Prelude.{ℕ, zero, suc, ◌/◌, ◌%◌, Bool, cond, List, [], ◌∷◌, ◌++◌}
+use Rattle.std.specs.Prelude.{ℕ, zero, suc, Bool, cond, List, [], ◌∷◌, ◌++◌}
 use Rattle.rational.specs.Rational.{ℚ}
-use Rattle.game_theory.specs.Profiles.{profile_count, number_of}
+use Rattle.game_theory.specs.Profiles.{number_of}
 use Rattle.game_theory.specs.Ranks.{ranked}
 use Rattle.game_theory.specs.Mixed.{pure}
 use Rattle.game_theory.specs.Lines.{entries}

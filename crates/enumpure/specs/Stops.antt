@@ -1,16 +1,12 @@
 -- The text of a game's pure equilibria, where it is within the limit on texts.
 use Rattle.std.specs.Prelude.{ℕ, ◌<◌, ◌≤◌, ◌≡◌, List, length, Ok, Err}
+use Rattle.game_core.specs.TextLimit.{too_long_text, most_text}
 use Rattle.answers.specs.Answers.{Answer}
 use Rattle.game_theory.specs.Profiles.{Game}
-use Rattle.game_core.specs.declared.too_large.TooLarge.{TooLarge}
 use Rattle.game_core.specs.declared.too_large.What.TheVariants as what
-use Rattle.enumpure.specs.Text.{IsPureEquilibriaText, most_text}
+use Rattle.enumpure.specs.Text.{IsPureEquilibriaText}
 use Rattle.enumpure.specs.declared.listing.ListStop.{ListStop}
 use Rattle.enumpure.specs.declared.listing.ListStop.TheVariants as stops
-
--- the count that is named: it stops at the first number above the limit
-abbrev pub too_long_text : TooLarge
-too_long_text = record { what = what.Text; count = 67108865; limit = 67108864 }
 
 -- the text of which this is said, or the limit where it is longer
 abbrev pub within_text_limit : (List ℕ → Type 0) → Answer ListStop (List ℕ)

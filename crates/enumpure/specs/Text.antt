@@ -9,7 +9,3 @@ pub record IsPureEquilibriaText (game : Game) (text : List ℕ) : Type 0 where
   pub lines : List (List ℚ)
   pub are_pure_equilibria : ArePureEquilibria game lines
   pub is_text : text ≡ lines_text lines
-
--- the most bytes that a text may have
-abbrev pub most_text : ℕ
-most_text = 67108864

@@ -4,7 +4,7 @@ ghost use Rattle.answers.specs.Answers.{Gives, IsSingle, map_ok};
 ghost use Rattle.game_theory.specs.Profiles.{Game, IsProfile, profile_count, number_of};
 ghost use Rattle.game_theory.specs.Mixed.{sure, pure};
 ghost use Rattle.game_theory.specs.Lines.{listed, entries as entries_of, lines_text};
-ghost use Rattle.game_core.specs.Table.{game_of};
+ghost use Rattle.game_core.specs.Table.{game_of, strategy_counts, most_payoffs};
 ghost use Rattle.game_theory.specs.Ranks.{ranked};
 ghost use Rattle.enumpure.specs.Ranks.{lines_below};
 ghost use Rattle.enumpure.specs.Stops.{pure_text};
@@ -13,12 +13,9 @@ ghost use Rattle.enumpure.specs.declared.listing.ListStop.TheVariants as stops;
 use crate::lengths::text_length;
 use crate::replies::{stable_profiles, strategy_counts};
 use frac128::{Frac, Memory};
-use game_core::{Table, TooLarge, What};
+use game_core::{MOST_TEXT, Table, TooLarge, too_long_text};
 use ne_printer::push_line;
 use std::alloc::Global;
-
-// The most bytes that a text may have.
-const MOST_TEXT: usize = 67_108_864;
 
 /// Why the pure equilibria were not listed.
 #[derive(Clone, Copy, Debug, PartialEq, Eq)]
@@ -41,9 +38,10 @@ impl From<Memory> for ListStop {
 }
 
 // Writes the profile with a rank in the order of lines.
-fn set_profile(profile: &mut [usize], counts: &[usize], profiles: usize, rank: usize)
+fn set_ranked(profile: &mut [u32], counts: &[usize], profiles: usize, rank: usize)
     requires players { length profile.old ≡ length counts.now }
     requires profiles { profiles ≡ profile_count counts.now }
+    requires few { profiles ≤ most_payoffs }
     requires rank { rank < profiles }
     ensures { profile.new ≡ ranked counts.now rank }
 {
@@ -51,24 +49,9 @@ fn set_profile(profile: &mut [usize], counts: &[usize], profiles: usize, rank: u
     let mut rest = rank;
     for player in 0..counts.len() {
         later /= counts[player];
-        profile[player] = rest / later;
+        profile[player] = (rest / later) as u32;
         rest %= later;
     }
-}
-
-// The number of a profile.
-fn profile_number(counts: &[usize], profile: &[usize]) -> usize
-    requires profile { IsProfile counts.now profile.now }
-    requires few { profile_count counts.now < 2 ^ 64 }
-    ensures { result ≡ number_of counts.now profile.now }
-{
-    let mut number = 0;
-    let mut stride = 1;
-    for player in 0..counts.len() {
-        number += stride * profile[player];
-        stride *= counts[player];
-    }
-    number
 }
 
 // Adds a player's entries: 1 for the strategy that is played, and 0 for the others.
@@ -87,13 +70,13 @@ fn push_entries(entries: &mut Vec<Frac>, strategies: usize, played: usize) -> Re
 }
 
 // Writes the entries of a pure profile over those that stood there.
-fn set_entries(entries: &mut Vec<Frac>, counts: &[usize], profile: &[usize]) -> Result<(), Memory>
+fn set_entries(entries: &mut Vec<Frac>, counts: &[usize], profile: &[u32]) -> Result<(), Memory>
     requires profile { IsProfile counts.now profile.now }
     ensures { OnOk result (entries.new.items ≡ entries_of counts.now (pure profile.now)) }
 {
     entries.clear();
     for player in 0..counts.len() {
-        push_entries(entries, counts[player], profile[player])?;
+        push_entries(entries, counts[player], profile[player] as usize)?;
     }
     Ok(())
 }
@@ -102,18 +85,21 @@ fn set_entries(entries: &mut Vec<Frac>, counts: &[usize], profile: &[usize]) -> 
 fn push_lines(
     alloc: Global,
     text: &mut Vec<u8>,
+    table: &Table,
     counts: &[usize],
     stable: &[bool],
-    profile: &mut [usize],
+    profile: &mut [u32],
     entries: &mut Vec<Frac>,
 ) -> Result<(), Memory>
+    requires counts { counts.now ≡ strategy_counts table.now }
     requires players { length profile.old ≡ length counts.now }
     requires flags { length stable.now ≡ profile_count counts.now }
+    requires few { length stable.now ≤ most_payoffs }
     ensures { OnOk result (text.new.items ≡ text.old.items ++ lines_text (lines_below counts.now stable.now (length stable.now))) }
 {
     for rank in 0..stable.len() {
-        set_profile(profile, counts, stable.len(), rank);
-        if stable[profile_number(counts, profile)] {
+        set_ranked(profile, counts, stable.len(), rank);
+        if stable[table.profile_number(profile)] {
             set_entries(entries, counts, profile)?;
             push_line(alloc, text, entries)?;
         }
@@ -124,17 +110,28 @@ fn push_lines(
 // The lines of the flagged profiles, in a text that has room for so many bytes from the start.
 fn write_lines(
     alloc: Global,
+    table: &Table,
     counts: &[usize],
     stable: &[bool],
     bytes: usize,
 ) -> Result<Vec<u8>, Memory>
+    requires counts { counts.now ≡ strategy_counts table.now }
+    requires few { length stable.now ≤ most_payoffs }
     requires flags { length stable.now ≡ profile_count counts.now }
     ensures { IfOk result (λ text. text.items ≡ lines_text (lines_below counts.now stable.now (length stable.now))) }
 {
     let mut profile = vec![in alloc; 0; counts.len()]?;
     let mut entries = Vec::new(alloc);
     let mut text = Vec::with_capacity(alloc, bytes)?;
-    push_lines(alloc, &mut text, counts, stable, &mut profile, &mut entries)?;
+    push_lines(
+        alloc,
+        &mut text,
+        table,
+        counts,
+        stable,
+        &mut profile,
+        &mut entries,
+    )?;
     Ok(text)
 }
 
@@ -152,13 +149,9 @@ pub fn list_pure_equilibria(alloc: Global, table: &Table) -> Result<Vec<u8>, Lis
     let stable = stable_profiles(alloc, table)?;
     let bytes = text_length(table, &stable);
     if bytes > MOST_TEXT {
-        return Err(ListStop::TooLarge(TooLarge {
-            what: What::Text,
-            count: MOST_TEXT as u64 + 1,
-            limit: MOST_TEXT as u64,
-        }));
+        return Err(ListStop::TooLarge(too_long_text()));
     }
-    Ok(write_lines(alloc, &counts, &stable, bytes)?)
+    Ok(write_lines(alloc, table, &counts, &stable, bytes)?)
 }
 
 /// A game has one such text, or one that is too long.

@@ -1,12 +1,12 @@
 // The profiles of a table at which each player plays a best reply.
-ghost use Rattle.std.specs.Prelude.{◌≡◌, ℕ, ◌+◌, ◌*◌, ◌<◌, ◌↔◌, IsTrue, IfOk, EachIndex, length, slice_index};
+ghost use Rattle.std.specs.Prelude.{◌≡◌, ℕ, ◌+◌, ◌*◌, ◌<◌, ◌↔◌, IsTrue, IfOk, OnOk, EachIndex, length, slice_index};
 ghost use Rattle.rational.specs.Rational.{◌<ℚ◌};
 ghost use Rattle.game_theory.specs.Profiles.{profile_count, stride as stride_of};
 ghost use Rattle.game_core.specs.Table.{game_of, strategy_counts, IsTable};
 ghost use Rattle.enumpure.specs.Replies.{IsBest, AreStruck, KeepsBestReplies, AreStable, flag};
 
 use frac128::{Frac, Memory};
-use game_core::Table;
+use game_core::{Table, profile_count};
 use std::alloc::Global;
 
 /// How many strategies a player has.
@@ -19,24 +19,14 @@ pub fn strategy_count(table: &Table, player: usize) -> usize
 
 /// How many strategies each player has.
 pub fn strategy_counts(alloc: Global, table: &Table) -> Result<Vec<usize>, Memory>
-    ensures { IfOk result (λ counts. counts.items ≡ strategy_counts table.now) }
+    ensures counts { IfOk result (λ counts. counts.items ≡ strategy_counts table.now) }
+    ensures valid { OnOk result (IsTable table.now) }
 {
     let mut counts = Vec::new(alloc);
     for player in 0..table.players().len() {
         counts.push(strategy_count(table, player))?;
     }
     Ok(counts)
-}
-
-// How many pure profiles there are.
-fn profile_count(table: &Table) -> usize
-    ensures count { result ≡ profile_count (strategy_counts table.now) }
-{
-    let mut count = 1;
-    for player in 0..table.players().len() {
-        count *= strategy_count(table, player);
-    }
-    count
 }
 
 // A player's payoff at the profile with a number.
@@ -130,7 +120,8 @@ fn strike_all(stable: &mut [bool], table: &Table)
 pub fn stable_profiles(alloc: Global, table: &Table) -> Result<Vec<bool>, Memory>
     ensures { IfOk result (λ flags. AreStable (game_of table.now) flags.items) }
 {
-    let mut stable = vec![in alloc; true; profile_count(table)]?;
+    let counts = strategy_counts(alloc, table)?;
+    let mut stable = vec![in alloc; true; profile_count(&counts)]?;
     strike_all(&mut stable, table);
     Ok(stable)
 }

@@ -2,6 +2,7 @@
 use Rattle.std.proofs.Common.{ℕ, ◌<◌, ◌≤◌, ◌≡◌, List, [], length, map, get_or, sym, ap, ◌∙◌, subst, arith}
 use Rattle.std.proofs.Math.ListN.{replicate}
 use Rattle.std.proofs.lemmas.List.{length-map, length-replicate, get_or-replicate}
+use Rattle.game_core.proofs.TableCounts.{profile_count-table}
 use Rattle.game_theory.specs.Profiles.{IsProfile, profile_count}
 use Rattle.game_theory.proofs.ProfileNumbers.{IsProfile-by_index}
 use Rattle.game_trees.specs.Trees.{IsTree}
@@ -12,7 +13,6 @@ use Rattle.reduced_strategies.proofs.StrategyProfiles.{strategies-count}
 use Rattle.reduced_form.specs.ReducedForm.{ReducedForm, IsReducedForm}
 use Rattle.reduced_form.proofs.FormCounts.{counts-positive}
 use Rattle.reduced_form.proofs.FormLaws.{counts-named, few_of_each}
-use Rattle.enumpure.proofs.Strides.{profile_count-table}
 
 -- the table has as many strategies as there are
 pub form-counts : (t : GameTree) (form : ReducedForm) → IsReducedForm t form → map length form.table.strategies ≡ map length form.choices

@@ -2,12 +2,12 @@
 use Rattle.std.proofs.Common.{ℕ, ◌≡◌, ◌≢◌, ◌⊎◌, inl, inr, List, length, map, sym, ap, ◌∙◌}
 use Rattle.std.specs.List.{sum_by}
 use Rattle.std.proofs.lemmas.Bool.{cases_eq}
+use Rattle.game_trees.specs.TreeEntries.{tree_entries}
 use Rattle.game_theory.specs.Profiles.{IsProfile}
 use Rattle.game_theory.specs.Lines.{line_text}
 use Rattle.game_trees.specs.Trees.{Tree, IsTree}
 use Rattle.game_trees.specs.Behaviour.{pure}
 use Rattle.reduced_strategies.specs.StrategicForm.{AreStrategies, completed}
-use Rattle.reduced_strategies.specs.TreeEntries.{tree_entries}
 use Rattle.enumpure.proofs.LineLengths.{length-line_none, length-line_text}
 use Rattle.enumpure.proofs.ProfileParts.{HaveStrategies-profile}
 use Rattle.tree_lines.specs.TreeEquilibria.{profile_line}

@@ -18,13 +18,10 @@ use crate::orders::orders_of_all;
 use behaviour_profile::Behaviour;
 use enumpure::{ListStop, stable_profiles};
 use frac128::Memory;
-use game_core::{TooLarge, Tree, What, trees_are_game_trees};
+use game_core::{MOST_TEXT, Tree, too_long_text, trees_are_game_trees};
 use ne_printer::{line, push_line};
 use reduced_form::Reduced;
 use std::alloc::Global;
-
-// The most bytes that a text may have.
-const MOST_TEXT: usize = 67_108_864;
 
 // What the lines are of: a tree and its reduced form, the order of each player's strategies, and for each profile, by
 // its number, whether it is an equilibrium.
@@ -43,8 +40,8 @@ fn first_profile(alloc: Global, players: usize) -> Result<Vec<u32>, Memory>
     Ok(vec![in alloc; 0; players]?)
 }
 
-// Writes the profile with a rank in the order of lines.
-fn set_profile(profile: &mut [u32], orders: &[Vec<u32>], profiles: usize, rank: usize)
+// Writes the profile with a rank in the order of lines, in which the strategies of each player stand in their order.
+fn set_ordered(profile: &mut [u32], orders: &[Vec<u32>], profiles: usize, rank: usize)
     requires players { length profile.old ≡ length orders.now }
     requires profiles { profiles ≡ profile_count (map length (map (λ v. v.items) orders.now)) }
     requires rank { rank < profiles }
@@ -59,29 +56,14 @@ fn set_profile(profile: &mut [u32], orders: &[Vec<u32>], profiles: usize, rank: 
     }
 }
 
-// The number of a profile.
-fn profile_number(orders: &[Vec<u32>], profile: &[u32]) -> usize
-    requires profile { IsProfile (map length (map (λ v. v.items) orders.now)) profile.now }
-    requires few { profile_count (map length (map (λ v. v.items) orders.now)) < 2 ^ 64 }
-    ensures { result ≡ number_of (map length (map (λ v. v.items) orders.now)) profile.now }
-{
-    let mut number = 0;
-    let mut stride = 1;
-    for player in 0..orders.len() {
-        number += stride * profile[player] as usize;
-        stride *= orders[player].len();
-    }
-    number
-}
-
 // Whether a profile is an equilibrium.
 fn is_stable(lines: &Lines, profile: &[u32]) -> bool
-    requires orders { AreOrders lines.now.reduced.now.choices (map (λ v. v.items) lines.now.orders.now) }
+    requires form { IsReducedForm lines.now.tree.now lines.now.reduced.now }
     requires flags { length lines.now.stable.now ≡ profile_count (map length lines.now.reduced.now.choices) }
     requires profile { IsProfile (map length lines.now.reduced.now.choices) profile.now }
     ensures { result ≡ flag lines.now.stable.now (number_of (map length lines.now.reduced.now.choices) profile.now) }
 {
-    lines.stable[profile_number(lines.orders, profile)]
+    lines.stable[lines.reduced.table().profile_number(profile)]
 }
 
 // How many bytes the line of each profile has: as many as that of the given one.
@@ -115,7 +97,7 @@ fn push_lines(
     ensures { OnOk result (text.new.items ≡ text.old.items ++ lines_text (lines_below (game_of_tree lines.now.tree.now) lines.now.reduced.now.choices (map (λ v. v.items) lines.now.orders.now) (flag lines.now.stable.now) (length lines.now.stable.now))) }
 {
     for rank in 0..lines.stable.len() {
-        set_profile(profile, lines.orders, lines.stable.len(), rank);
+        set_ordered(profile, lines.orders, lines.stable.len(), rank);
         if is_stable(lines, profile) {
             let behaviour = Behaviour::from_reduced(alloc, lines.tree, lines.reduced, profile)?;
             push_line(alloc, text, behaviour.entries())?;
@@ -165,11 +147,7 @@ pub fn list_pure_behaviours(
     let each = line_length(alloc, tree, reduced, &profile)?;
     let count = stable.iter().filter(|stable| **stable).count();
     if count > MOST_TEXT / each {
-        return Err(ListStop::TooLarge(TooLarge {
-            what: What::Text,
-            count: MOST_TEXT as u64 + 1,
-            limit: MOST_TEXT as u64,
-        }));
+        return Err(ListStop::TooLarge(too_long_text()));
     }
     let lines = Lines {
         tree,

@@ -1,5 +1,5 @@
 -- the entries of a side's rows
-use Rattle.std.proofs.Common.{ℕ, suc, ◌<◌, ◌≤◌, ◌≡◌, ◌≢◌, ◌+◌, ◌-◌, ◌==◌, if◌then◌else◌, true, false, List, [], length, get_or, refl, sym, ap, ap₂, ◌∙◌, subst, arith, tests}
+use Rattle.std.proofs.Common.{ℕ, suc, ◌<◌, ◌≤◌, ◌≡◌, ◌≢◌, ◌+◌, ◌-◌, ◌==◌, if◌then◌else◌, true, List, [], length, get_or, refl, sym, ap, ap₂, ◌∙◌, subst, arith, tests}
 use Rattle.rational.specs.Rational.{◌-ℚ◌, neg_ℚ, zero_ℚ, one_ℚ}
 use Rattle.rational.proofs.RationalRing.{rational_ring}
 use Rattle.rings.proofs.Ring.{ring, num, ◌:-◌, :neg}

@@ -1,5 +1,5 @@
 -- the fields of a fraction and the parts of its value
-use Rattle.std.proofs.Common.{◌≤ℤ◌, ◌↔◌, ◌-◌, ℕ, zero, suc, ◌≡◌, ◌<◌, ◌^◌, ℤ, pos, negsuc, neg_ℤ, nat_abs, ◌-ℤ◌, arith, refl, sym, ap, ap₂, ◌∙◌, subst, SFits, to_z, of_z, IsTrue, eqb}
+use Rattle.std.proofs.Common.{◌≤ℤ◌, ◌↔◌, ◌-◌, ℕ, ◌≡◌, ◌<◌, ◌^◌, ℤ, pos, negsuc, neg_ℤ, nat_abs, ◌-ℤ◌, arith, refl, sym, ap, ap₂, ◌∙◌, subst, SFits, to_z, of_z, IsTrue, eqb}
 use mir.Syntax.{w128}
 use Rattle.std.proofs.lemmas.Int.{ints, to_z-of_z, to_z_pos, fits_signed_from_abs}
 use Rattle.std.proofs.lemmas.Bool.Decides.{Decides-eqb}

@@ -1,14 +1,13 @@
 -- the parts of a sum, where common divisors are taken out first
-use Rattle.std.proofs.Common.{ℕ, zero, suc, ◌≡◌, ◌*◌, ◌/◌, ◌<◌, ◌≤◌, ◌^◌, ℤ, pos, negsuc, nat_abs, ◌+ℤ◌, ◌*ℤ◌, int_lt, arith, refl, sym, ap, ap₂, ◌∙◌, subst, mul-pos, [], ◌∷◌, Option, Some, None, MatchOption, inr, SFits}
+use Rattle.std.proofs.Common.{ℕ, ◌≡◌, ◌*◌, ◌/◌, ◌<◌, ◌≤◌, ◌^◌, ℤ, pos, negsuc, nat_abs, ◌+ℤ◌, ◌*ℤ◌, int_lt, arith, refl, sym, ap, ap₂, ◌∙◌, subst, mul-pos, [], ◌∷◌, Option, Some, None, MatchOption, inr, SFits}
 use mir.Syntax.{w128}
 use Rattle.std.proofs.lemmas.Int.{to_z-of_z}
-use native.Mathlib.Nat.{div-mul_cancel, dvd_refl, dvd-mul_right, div-le_self, not-suc-le-zero}
+use native.Mathlib.Nat.{div-mul_cancel, dvd_refl, dvd-mul_right}
 use Rattle.std.specs.Int.{◌∣◌}
 use Rattle.rational.proofs.Parts.{frac_num_size}
 use lib.IntN.{+ℤ_comm}
 use Rattle.rational.specs.Gcd.{gcd}
 use Rattle.rational.specs.GcdLaws.{gcd-is, gcd-parts, gcd_pos}
-use Rattle.rational.specs.LowestTerms.{nat_abs-div_ℤ}
 use Rattle.rational.specs.Rational.{ℚ, ◌+ℚ◌, frac, den_pos, lowest}
 use Rattle.rational.proofs.Fractions.{StandsFor-self, StandsFor-frac, StandsFor-add, equal_by}
 use Rattle.rings.proofs.IntegerRing.{integer_ring}

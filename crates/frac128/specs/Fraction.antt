@@ -1,10 +1,6 @@
 -- what a fraction stands for, which rationals fit one, and their order and sign
-use Rattle.std.specs.Prelude.{ℕ, suc, ◌≡◌, ◌<◌, ◌^◌, nat_abs, pos, negsuc, neg_ℤ, ℤ, ◌<ℤ◌, ◌*ℤ◌, Bool, true, false, nat_eq}
-use Rattle.std.specs.declared.cmp.Ordering.{Ordering}
-use Rattle.std.specs.Ordering.{int_cmp, int_eq, eq_of_both, on}
-use Rattle.std.specs.Int.{int_signum}
-use Rattle.std.proofs.Common.{refl, ap, ◌∙◌, arith}
-use Rattle.std.proofs.lemmas.Int.{ints}
+use Rattle.std.specs.Prelude.{ℕ, suc, ◌≡◌, ◌<◌, ◌^◌, nat_abs, pos, negsuc, neg_ℤ, ℤ, ◌<ℤ◌, Bool, true, false}
+use Rattle.std.proofs.Common.{ap, ◌∙◌}
 use Rattle.rational.proofs.Parts.{pos_abs, pos_nat_abs}
 use Rattle.rational.proofs.Fractions.{frac-lowest}
 use Rattle.rational.specs.Gcd.{gcd}

@@ -17,13 +17,14 @@ const SHORT: u128 = 9223372036854775808;
 /// The number of this size, with a sign.
 pub fn signed(size: u128, negative: bool) -> i128
     requires { size < 2 ^ 127 }
-    ensures { result ≡ with_sign negative size }
+    ensures value { result ≡ with_sign negative size }
+    ensures fits { PartFits result }
 {
     let number = size as i128;
     if negative { -number } else { number }
 }
 
-/// Whether the product with another such part fits.
+/// Whether a part is below 2^63, so that the product with another such part fits.
 pub fn is_short(part: i128) -> bool
     ensures { IsTrue result ↔ (nat_abs part < 2 ^ 63) }
 {

@@ -15,9 +15,7 @@ mod steps;
 mod sums;
 
 pub use euclid::{cmp_signed_quotients, gcd};
+pub use fitting::{is_short, signed};
 pub use frac::Frac;
 pub use memory::Memory;
 pub use steps::{Op, Unfit};
-
-#[cfg(test)]
-mod tests;

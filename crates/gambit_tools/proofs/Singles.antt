@@ -31,7 +31,6 @@ use Rattle.gambit_tools.specs.Commands.{tool_of, answer_of}
 use Rattle.gambit_tools.specs.Origins.{forget}
 use Rattle.gambit_tools.specs.declared.refusal.Refusal.TheVariants as refusal
 use Rattle.game_tokens.specs.TokenList.{TokenList, bare}
-use Rattle.game_tokens.specs.InPlace.{IsShortToken}
 
 -- ---- games
 tokens_in-single : (bytes : List ℕ) → IsSingleAs forget (tokens_in bytes)

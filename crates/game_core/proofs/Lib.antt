@@ -3,5 +3,5 @@ mod Numbers
 mod PlayersSets
 mod PrefixOrder
 pub mod SetNumbers
-mod SmallTree
+pub mod TableCounts
 mod TreeLaws

@@ -2,15 +2,14 @@
 use Rattle.std.proofs.Common.{◌≡◌, ◌<◌, ◌≤◌, ◌∙◌, sym, ap, subst, refl, ℕ, zero, suc, Option, Some, None, List, [], ◌∷◌, All, length, map, get_or, slice_get, arith}
 use Rattle.std.proofs.lemmas.List.{length-map}
 use Rattle.std.proofs.lemmas.List.Elements.{All-get_or, All-map}
-use Rattle.std.proofs.lemmas.Option.{none-some, slice_get_within, slice_get-get_or, get_or_from_slice_get, same_Some}
+use Rattle.std.proofs.lemmas.Option.{slice_get-get_or, get_or_from_slice_get, same_Some}
 use Rattle.lists.proofs.Elements.{element}
 use Rattle.rational.specs.Rational.{◌≤ℚ◌, zero_ℚ, one_ℚ}
 use Rattle.rational.specs.Sum.{sum_to}
 use Rattle.game_trees.specs.FirstNodes.{AreNumberedByFirstNodes}
 use Rattle.game_trees.specs.Trees.{IsTree as is_game_tree, IsChild, IsLottery}
 use Rattle.game_core.specs.declared.tree.Action.{Action}
-use Rattle.game_core.specs.declared.tree.Node.{Node}
-use Rattle.game_core.specs.Tree.{AreInPrefixOrder, GameTree, IsTree, InformationSet, IsWithin, AreChances, ProbabilitiesFit, SetFits, LiesBelowRoot, most_depth, action_count, probability_at}
+use Rattle.game_core.specs.Tree.{GameTree, IsTree, InformationSet, IsWithin, AreChances, ProbabilitiesFit, SetFits, action_count, probability_at}
 use Rattle.game_core.specs.TreeGame.{game_of_tree, or_zero}
 use Rattle.game_core.proofs.PrefixOrder.{child_at, hangs_at, place_at, root, same_node, within}
 
@@ -32,23 +31,6 @@ some_set sets (Some s) a below = (s, refl, below)
 -- probabilities that are an owner's, where chance is the owner
 chances : (owner : Option ℕ) (actions : List Action) → ProbabilitiesFit owner actions → owner ≡ None → AreChances actions
 chances owner actions h is = subst (λ o. ProbabilitiesFit o actions) is h
-
--- in a tree a node lies at most as many edges below the root as its number
-depth_within : (sets : List InformationSet) (nodes : List Node) → AreInPrefixOrder sets 0 nodes ((None, 0) ∷ []) [] → (d k : ℕ) → LiesBelowRoot nodes d k → (d ≤ k) × (k < length nodes)
-depth_within sets nodes ordered zero k h = (omega arith, slice_get_within nodes k h.0 h.1)
-depth_within sets nodes ordered (suc d) zero h =
-    let hangs = sym (part_of (λ node. node.parent) nodes 0 h.0 None h.2) ∙ ap (λ p. p.0) (root sets nodes ordered).1 in
-    absurd (none-some h.1 (sym hangs ∙ h.3))
-depth_within sets nodes ordered (suc d) (suc k) h =
-    let inside = slice_get_within nodes (suc k) h.0 h.2 in
-    let place = hangs_at sets nodes ordered (suc k) (omega arith) inside in
-    let parent = same_Some _ _ (sym place.2 ∙ part_of (λ node. node.parent) nodes (suc k) h.0 None h.2 ∙ h.3) in
-    let above = depth_within sets nodes ordered d h.1 h.4 in
-    (omega arith, inside)
-
--- a tree of few nodes is not too deep
-pub few_edges : (sets : List InformationSet) (nodes : List Node) → AreInPrefixOrder sets 0 nodes ((None, 0) ∷ []) [] → length nodes ≤ most_depth → (d k : ℕ) → LiesBelowRoot nodes d k → d ≤ most_depth
-few_edges sets nodes ordered few d k h = let depth = depth_within sets nodes ordered d k h in omega arith
 
 -- the set at a place fits
 set_fits : (t : GameTree) → IsTree t → (s : ℕ) → s < length t.sets → (set : InformationSet) × (slice_get t.sets s ≡ Some set) × SetFits t s set

@@ -1,5 +1,6 @@
 pub mod OwnSets
 pub mod Table
+pub mod TextLimit
 pub mod Tree
 pub mod TreeCodes
 pub mod TreeGame

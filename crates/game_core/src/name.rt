@@ -1,6 +1,7 @@
 // Names of players, strategies and games.
-ghost use Rattle.std.specs.Prelude.{◌≡◌};
+ghost use Rattle.std.specs.Prelude.{◌≡◌, IfOk};
 
+use std::alloc::{AllocError, Global};
 use std::marker::Model;
 
 /// A name: any bytes, as they stand in a file. Contracts see it as the list of its bytes.
@@ -39,4 +40,15 @@ impl Name {
         let Name { bytes } = self;
         bytes
     }
+}
+
+/// A name of its own with these bytes.
+///
+/// # Errors
+///
+/// Memory ran out.
+pub fn copied(alloc: Global, name: &Name) -> Result<Name, AllocError>
+    ensures { IfOk result (λ copy. copy ≡ name.now) }
+{
+    Ok(Name::new(Vec::from_slice(alloc, name.bytes())?))
 }

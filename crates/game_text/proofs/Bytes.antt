@@ -1,5 +1,5 @@
 -- Tests of bytes and what they tell.
-use Rattle.std.proofs.Common.{◌≡◌, ◌≢◌, ℕ, ◌≤◌, Bool, true, false, ◌||◌, ◌&&◌, ◌==◌, ◌⊎◌, inl, inr, refl, arith}
+use Rattle.std.proofs.Common.{◌≡◌, ◌≢◌, ℕ, ◌≤◌, false, ◌||◌, ◌&&◌, ◌==◌, ◌⊎◌, inl, inr, arith}
 use Rattle.std.specs.Prelude.{nat_le}
 use Rattle.std.specs.Bool.{Decides}
 use Rattle.std.specs.Char.{is_ascii_digit}
@@ -7,7 +7,6 @@ use Rattle.std.proofs.lemmas.Bool.{both_ways, false_from_ne_true}
 use Rattle.std.proofs.lemmas.Bool.Decides.{Decides-or, Decides-and, Decides-eqb, leb_tells}
 use Rattle.game_text.specs.Tokens.{IsBlank, IsLetter, IsBare}
 use Rattle.game_text.specs.Reading.{is_blank, is_letter, is_bare}
-use Rattle.lists.proofs.Numbers.{unequal}
 
 -- what each test tells
 tells_le : (a b : ℕ) → Decides (nat_le a b) (a ≤ b)

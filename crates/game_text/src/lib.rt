@@ -8,6 +8,3 @@ mod text;
 pub use game_tokens::{Spanned, Token, Tokens};
 pub use number_text::{NumberFault, read_number};
 pub use reading::{TextFault, TextKind, TextStop, read_tokens, tokens_are_single};
-
-#[cfg(test)]
-mod tests;

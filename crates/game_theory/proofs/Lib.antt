@@ -3,6 +3,7 @@ pub mod Examples
 pub mod LineOrder
 pub mod LineTexts
 pub mod Payoffs
+pub mod ProfileCounts
 pub mod ProfileLines
 pub mod ProfileNumbers
 pub mod ProfileOrder

@@ -1,9 +1,7 @@
 -- The order of lines: a list in order is determined by its members.
 use Rattle.std.proofs.Common.{zero, suc, ◌≡◌, ◌⊎◌, inl, inr, List, [], ◌∷◌, ◌++◌, length, get_or, All, Contains, refl, sym, ap₂, ◌∙◌, subst, arith}
-use Rattle.std.proofs.lemmas.Int.{ints}
 use Rattle.rational.specs.Rational.{ℚ, ◌<ℚ◌}
 use Rattle.rational.proofs.Field.{le_or_lt, le_antisymm, lt_irrefl, lt_trans}
-use Rattle.rational.proofs.Linear.{linear, at, ◌⟨<⟩◌}
 use Rattle.game_theory.specs.Profiles.{Game}
 use Rattle.game_theory.specs.Lines.{StandsBefore, AreInOrder, ArePureEquilibria, IsPureEquilibriumLine}
 use Rattle.game_theory.specs.Laws.{OneListOfPureEquilibria}

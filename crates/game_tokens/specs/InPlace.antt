@@ -3,7 +3,7 @@ use Rattle.std.specs.Prelude.{ℕ, ◌<◌, ◌≤◌, List, [], ◌∷◌}
 use Rattle.frac128.specs.Short.{IsShort}
 use Rattle.game_tokens.specs.declared.token.Spanned.{Spanned}
 use Rattle.game_tokens.specs.declared.token.Token.{Token}
-use Rattle.game_tokens.specs.declared.token.Token.TheVariants.{Left, Right, Comma, Text, Word, Number}
+use Rattle.game_tokens.specs.declared.token.Token.TheVariants.{Number}
 
 -- a number of a token is short
 abbrev pub IsShortToken : Token → Type 0

@@ -1,5 +1,7 @@
 pub mod Children
 pub mod Entry
+pub mod NamedChildren
+pub mod OwnSets
 pub mod Poker
 pub mod RecallExamples
 pub mod Subtrees

@@ -1,7 +1,10 @@
 pub mod Behaviour
+pub mod Children
 pub mod Equilibrium
 pub mod Examples
 pub mod FirstNodes
 pub mod Laws
+pub mod OwnSets
 pub mod Recall
+pub mod TreeEntries
 pub mod Trees

@@ -106,6 +106,3 @@ fn one_digit(value: Frac) -> Option<u8>
         _ => None,
     }
 }
-
-#[cfg(test)]
-mod tests;

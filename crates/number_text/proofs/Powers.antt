@@ -1,5 +1,5 @@
 -- The values of numbers: signs, powers of ten, and which fractions are short.
-use Rattle.std.proofs.Common.{◌≡◌, ℕ, zero, suc, ◌+◌, ◌*◌, ◌-◌, ◌<◌, ◌≤◌, ◌^◌, ℤ, pos, nat_abs, ◌*ℤ◌, IsTrue, Bool, true, false, [], ◌∷◌, refl, sym, ap, ap₂, ◌∙◌, subst, lit<, arith, mul-pos, not-le_of_lt, le_of_mul-le-mul_right, add-one, mul-one, one-mul, Option, ◌⊎◌, inl, inr}
+use Rattle.std.proofs.Common.{◌≡◌, ℕ, zero, suc, ◌+◌, ◌*◌, ◌-◌, ◌<◌, ◌≤◌, ◌^◌, ℤ, pos, nat_abs, ◌*ℤ◌, IsTrue, Bool, true, false, [], ◌∷◌, refl, sym, ap, ap₂, ◌∙◌, subst, lit<, arith, mul-pos, not-le_of_lt, add-one, mul-one, one-mul, Option, ◌⊎◌, inl, inr}
 use Rattle.std.proofs.Math.Nat.{one-le-pow, mul-le-mul_left}
 use Rattle.std.proofs.lemmas.Int.{ints, unsigned_abs-mul}
 use Rattle.std.proofs.lemmas.Nat.{pow-add}
@@ -8,7 +8,7 @@ use native.Mathlib.Nat.{dvd-mul_left}
 use Rattle.std.specs.Int.{◌∣◌}
 use Rattle.frac128.proofs.ProductSizes.{with_sign-mul}
 use Rattle.rings.proofs.IntegerRing.{integer_ring}
-use Rattle.rings.proofs.Ring.{ring, num, ◌:*◌, :neg, A, B, C, D}
+use Rattle.rings.proofs.Ring.{ring, num, ◌:*◌, A, B, C, D}
 use Rattle.rational.specs.GcdLaws.{gauss}
 use Rattle.rational.specs.Rational.{ℚ, frac, whole, ◌*ℚ◌, den_pos, lowest}
 use Rattle.rational.proofs.Fractions.{StandsFor-frac, equal_by, cancel_pos, frac_self}

@@ -9,6 +9,3 @@ mod sizes;
 mod values;
 
 pub use number::{NumberFault, numbers_have_one_form, numbers_have_one_value, read_number};
-
-#[cfg(test)]
-mod tests;

@@ -5,30 +5,13 @@ ghost use Rattle.frac128.specs.Fraction.{PartFits, with_sign};
 ghost use Rattle.number_text.specs.Numbers.{ten_to};
 ghost use Rattle.number_text.specs.Reading.{GivesShort};
 
-use frac128::Frac;
+use frac128::{Frac, is_short, signed};
 
 // 2^63.
 const LIMIT: u128 = 9223372036854775808;
 
 // The greatest power of ten that one step divides by.
 const STEP: usize = 18;
-
-// The number of this size, with a sign.
-fn signed(negative: bool, size: u128) -> i128
-    requires { size < 2 ^ 127 }
-    ensures value { result ≡ with_sign negative size }
-    ensures fits { PartFits result }
-{
-    let number = size as i128;
-    if negative { -number } else { number }
-}
-
-// Whether a part is short.
-fn is_short(part: i128) -> bool
-    ensures { IsTrue result ↔ (nat_abs part < 2 ^ 63) }
-{
-    part.unsigned_abs() < LIMIT
-}
 
 // The fraction, where it is short.
 fn short(fraction: Frac) -> Option<Frac>
@@ -90,7 +73,7 @@ fn raised(negative: bool, size: u128, power: usize) -> Option<Frac>
         return None;
     }
     let factor = u128::from(10_u64.pow(power as u32));
-    short(over(signed(negative, size * factor), 1))
+    short(over(signed(size * factor, negative), 1))
 }
 
 // A fraction of two sizes, where it is short.
@@ -100,7 +83,7 @@ pub fn fraction(negative: bool, top: u128, bottom: u128) -> Option<Frac>
     requires positive { 0 < bottom }
     ensures { GivesShort (frac (with_sign negative top) bottom) result }
 {
-    short(over(signed(negative, top), bottom))
+    short(over(signed(top, negative), bottom))
 }
 
 // A number with so many digits behind the point, times or over a power of ten, where it is short.
@@ -117,9 +100,9 @@ pub fn decimal(
     ensures { GivesShort (frac (with_sign negative size) (10 ^ places) *ℚ ten_to (with_sign falls exponent)) result }
 {
     if falls {
-        lowered(over(signed(negative, size), 1), places + exponent)
+        lowered(over(signed(size, negative), 1), places + exponent)
     } else if exponent <= places {
-        lowered(over(signed(negative, size), 1), places - exponent)
+        lowered(over(signed(size, negative), 1), places - exponent)
     } else {
         raised(negative, size, exponent - places)
     }

@@ -1,7 +1,7 @@
 -- The members of a set are its nodes, in order.
 use Rattle.std.proofs.Common.{◌≡◌, ◌<◌, ◌+◌, ◌∙◌, sym, ap, subst, refl, ℕ, zero, suc, Bool, true, false, Decides, Option, Some, None, List, [], ◌∷◌, length, map, get_or, slice_get, arith}
-use Rattle.std.specs.Prelude.{◌==◌, if◌then◌else◌}
-use Rattle.std.proofs.lemmas.Bool.Decides.{Decides-eqb, Decides-like, not_from_Decides}
+use Rattle.std.specs.Prelude.{if◌then◌else◌}
+use Rattle.std.proofs.lemmas.Bool.Decides.{not_from_Decides}
 use Rattle.std.proofs.lemmas.Option.{slice_get-get_or}
 use Rattle.game_core.proofs.SetNumbers.{is_set-decides}
 use Rattle.game_trees.specs.Trees.{Tree}

@@ -1,15 +1,11 @@
 -- The steps of one branch of chance, and how they follow those of the earlier ones.
-use Rattle.std.proofs.Common.{ℕ, suc, ◌+◌, ◌<◌, ◌≡◌, ◌≢◌, List, [], ◌∷◌, ◌++◌, All, Result, Ok, sym, ap, ap₂, ◌∙◌, subst, add-one, arith, Decides}
-use Rattle.std.specs.Prelude.{IfOk, IfErr, OnOk, OnErr, nat_eq, if◌then◌else◌}
-use Rattle.std.specs.Ordering.{int_eq}
+use Rattle.std.proofs.Common.{ℕ, suc, ◌+◌, ◌<◌, ◌≡◌, ◌≢◌, List, [], ◌∷◌, ◌++◌, All, Result, Ok, sym, ap, ap₂, ◌∙◌, subst, add-one, arith}
+use Rattle.std.specs.Prelude.{IfOk, IfErr, OnOk, OnErr, if◌then◌else◌}
 use Rattle.std.proofs.lemmas.Bool.{false_from_ne_true}
-use Rattle.std.proofs.lemmas.Bool.Decides.{Decides-and, Decides-eqb, Decides-int_eq}
 use Rattle.std.proofs.lemmas.List.Elements.{All-nil, All-append}
 use Rattle.rational.proofs.Decide.{eq_ℚ-decides}
-use Rattle.rational.specs.Tests.{eq_ℚ}
 use Rattle.rational.specs.Rational.{ℚ, ◌+ℚ◌, ◌*ℚ◌, zero_ℚ}
 use Rattle.rational.specs.Sum.{sum_to}
-use Rattle.rational.proofs.Fractions.{equal_by_parts}
 use Rattle.rational.proofs.RationalRing.{+ℚ-zero}
 use Rattle.rational.proofs.Rules.{zero-*ℚ}
 use Rattle.frac128.specs.Steps.{AddFits, MulFits, unfit}

@@ -1,8 +1,9 @@
 -- What choice lists give the sets, by their places.
 use Rattle.std.proofs.Common.{ℕ, zero, suc, ◌≤◌, ◌≡◌, Some, List, [], ◌∷◌, length, get_or, slice_get, ◌∙◌, arith}
 use Rattle.std.proofs.lemmas.Option.{same_Some}
+use Rattle.game_trees.proofs.OwnSets.{AscendFrom}
 use Rattle.reduced_strategies.specs.Choices.{choice_at}
-use Rattle.reduced_strategies.proofs.Sets.{AscendFrom, choice_at-first, choice_at-later}
+use Rattle.reduced_strategies.proofs.Sets.{choice_at-first, choice_at-later}
 
 -- a set at a place is not before the first number
 place-from : (n : ℕ) (sets : List ℕ) (p s : ℕ) → AscendFrom n sets → slice_get sets p ≡ Some s → n ≤ s

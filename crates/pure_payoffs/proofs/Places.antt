@@ -2,18 +2,18 @@
 use Rattle.std.proofs.Common.{ℕ, ◌-◌, ◌<◌, ◌≡◌, Some, List, [], length, map, get_or, slice_get, sym, ap, ◌∙◌, subst, arith}
 use Rattle.std.proofs.lemmas.List.{length-map, get_or-map, get_or_default}
 use Rattle.std.proofs.lemmas.Option.{slice_get_within, get_or_from_slice_get}
+use Rattle.game_trees.proofs.NamedChildren.{child-is, child-later}
+use Rattle.game_trees.specs.Children.{AreChildren, child}
+use Rattle.game_trees.specs.OwnSets.{own_sets}
+use Rattle.game_trees.proofs.OwnSets.{own_sets-ascend}
 use Rattle.game_theory.proofs.ProfileNumbers.{length-profile}
 use Rattle.game_trees.specs.Trees.{Tree, IsTree}
-use Rattle.reduced_strategies.specs.Choices.{own_sets, IsReduced}
+use Rattle.reduced_strategies.specs.Choices.{IsReduced}
 use Rattle.reduced_strategies.specs.StrategicForm.{list_of, completed}
-use Rattle.reduced_strategies.proofs.Sets.{own_sets-ascend}
 use Rattle.reduced_strategies.proofs.StrategyProfiles.{given_at-own, list_of-reduced, place-below, first_actions-complete}
-use Rattle.pure_payoffs.specs.Children.{AreChildren}
 use Rattle.pure_payoffs.specs.Plays.{IsPlay}
-use Rattle.pure_payoffs.specs.Steps.{child}
 use Rattle.pure_payoffs.proofs.Choices.{choice_at-place}
 use Rattle.pure_payoffs.proofs.Filling.{list-read}
-use Rattle.pure_payoffs.proofs.NodeSteps.{child-is, child-later}
 
 -- the node to which an action leads stands in the list of children
 pub child-read : {V : Type 0} (f : V → List ℕ) (t : Tree) (lists : List V) (k s a : ℕ) (d : V) → IsTree t → AreChildren t (map f lists) → k < t.size → t.set k ≡ Some s → a < t.actions s → (a < length (f (get_or lists k d))) × (get_or (f (get_or lists k d)) a 0 ≡ child t k a)

@@ -1,5 +1,7 @@
 -- Nodes in whose subtrees no player moves give the same whatever the players choose.
 use Rattle.std.proofs.Common.{ℕ, zero, suc, ◌<◌, ◌≡◌, Option, Some, None, [], ◌∷◌, ◌++◌, All, Ok, refl, ap₂, ◌∙◌, subst}
+use Rattle.game_trees.proofs.NamedChildren.{child-is_child}
+use Rattle.game_trees.specs.Children.{child}
 use Rattle.rational.specs.Rational.{ℚ}
 use Rattle.frac128.specs.Steps.{unfit}
 use Rattle.frac128.specs.declared.steps.Op.TheVariants.{Add}
@@ -8,8 +10,8 @@ use Rattle.game_trees.specs.Behaviour.{value, pure}
 use Rattle.game_trees.proofs.Subtrees.{above_parent, value-agree}
 use Rattle.pure_payoffs.specs.Plays.{GiveAt}
 use Rattle.pure_payoffs.specs.Settled.{IsSettled, Settles}
-use Rattle.pure_payoffs.specs.Steps.{StepFits, child, owner_steps, node_steps, steps_to}
-use Rattle.pure_payoffs.proofs.NodeSteps.{child-is_child, chance_steps-same, weighted-same}
+use Rattle.pure_payoffs.specs.Steps.{StepFits, owner_steps, node_steps, steps_to}
+use Rattle.pure_payoffs.proofs.NodeSteps.{chance_steps-same, weighted-same}
 
 -- ---- what they give
 module _ (t : Tree) (w : IsTree t) where

@@ -1,4 +1,3 @@
-pub mod Children
 pub mod Filled
 pub mod Plays
 pub mod Settled

@@ -1,5 +1,6 @@
 -- What the steps of a play are computed from.
 use Rattle.std.specs.Prelude.{ℕ, ◌≡◌, List, [], ◌∷◌, ◌++◌, if◌then◌else◌, map, length, All, Option, Some, None, Result, MatchResult}
+use Rattle.game_trees.specs.Children.{AreChildren, child}
 use Rattle.rational.specs.Tests.{eq_ℚ}
 use Rattle.rational.specs.Rational.{ℚ, ◌*ℚ◌, zero_ℚ}
 use Rattle.rational.specs.Sum.{sum_to}
@@ -13,8 +14,7 @@ use Rattle.game_core.specs.TreeGame.{game_of_tree}
 use Rattle.reduced_strategies.specs.Places.{ArePlaces}
 use Rattle.reduced_strategies.specs.StrategicForm.{AreStrategies, completed}
 use Rattle.pure_payoffs.specs.declared.payoff.Play.{Play}
-use Rattle.pure_payoffs.specs.Children.{AreChildren}
-use Rattle.pure_payoffs.specs.Steps.{Step, StepFits, IsFirstUnfit, child, chance_steps, steps_to}
+use Rattle.pure_payoffs.specs.Steps.{Step, StepFits, IsFirstUnfit, chance_steps, steps_to}
 
 -- a game tree, its nodes' children, its sets' places, and a profile of its reduced strategies
 pub record IsPlay (t : Tree) (children : List (List ℕ)) (places : List ℕ) (strategies : List (List (List ℕ))) (profile : List ℕ) : Type 0 where

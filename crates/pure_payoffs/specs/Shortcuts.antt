@@ -1,5 +1,6 @@
 -- Nodes at which the profile only leads on: what the node behind gives, they give as well.
 use Rattle.std.specs.Prelude.{ℕ, ◌<◌, ◌≤◌, ◌≡◌, length, slice_index, Some, Result, IfOk}
+use Rattle.game_trees.specs.Children.{child}
 use Rattle.rational.specs.Rational.{ℚ, zero_ℚ}
 use Rattle.frac128.specs.Fraction.{Fits}
 use Rattle.frac128.specs.declared.steps.Unfit.{Unfit}
@@ -8,7 +9,6 @@ use Rattle.game_trees.specs.Behaviour.{value, pure}
 use Rattle.pure_payoffs.specs.declared.shortcuts.Shortcuts.{Shortcuts}
 use Rattle.pure_payoffs.specs.Plays.{Give, steps_at}
 use Rattle.pure_payoffs.specs.Settled.{KeepValues}
-use Rattle.pure_payoffs.specs.Steps.{child}
 
 -- at node k a player chooses and nothing is paid, and the choice leads to node c
 pub record OnlyLeadsTo (t : Tree) (choice : ℕ → ℕ) (k c : ℕ) : Type 0 where

@@ -1,5 +1,6 @@
 -- The steps in which a pure profile's payoff on a tree is computed, and whether they fit.
-use Rattle.std.specs.Prelude.{ℕ, zero, suc, ◌≡◌, ◌==◌, ◌&&◌, Bool, if◌then◌else◌, List, [], ◌∷◌, ◌++◌, All, Option, Some, None}
+use Rattle.std.specs.Prelude.{ℕ, zero, suc, ◌≡◌, if◌then◌else◌, List, [], ◌∷◌, ◌++◌, All, Option, Some, None}
+use Rattle.game_trees.specs.Children.{child}
 use Rattle.rational.specs.Tests.{eq_ℚ}
 use Rattle.rational.specs.Rational.{ℚ, ◌*ℚ◌, zero_ℚ}
 use Rattle.rational.specs.Sum.{sum_to}
@@ -8,7 +9,7 @@ use Rattle.frac128.specs.declared.steps.Op.{Op}
 use Rattle.frac128.specs.declared.steps.Op.TheVariants.{Add, Sub, Mul, Div}
 use Rattle.frac128.specs.declared.steps.Unfit.{Unfit}
 use Rattle.game_trees.specs.Trees.{Tree}
-use Rattle.game_trees.specs.Behaviour.{is_parent, value, pure}
+use Rattle.game_trees.specs.Behaviour.{value, pure}
 
 -- a step: an operation on two numbers
 abbrev pub Step : Type 0
@@ -31,15 +32,6 @@ pub record IsFirstUnfit (steps : List Step) (step : Step) : Type 0 where
   pub is_there : steps ≡ before ++ step ∷ behind
   pub earlier_fit : All StepFits before
   pub does_not_fit : StepFits step → ⊥
-
--- the number below n that passes a test which only one does
-abbrev pub the_one_below : ℕ → (ℕ → Bool) → ℕ
-the_one_below zero passes = 0
-the_one_below (suc n) passes = if passes n then n else the_one_below n passes
-
--- the node to which action a of node k leads
-abbrev pub child : Tree → ℕ → ℕ → ℕ
-child t k a = the_one_below t.size (λ c. is_parent t k c && (t.branch c == a))
 
 -- The steps at a chance node, where these are the probabilities of its first actions, the values of its children and the steps of
 -- these: for each action in order whose probability is not 0 the steps of its child, the product of the probability and the

@@ -3,8 +3,8 @@ ghost use Rattle.std.specs.Prelude.{◌≡◌, ◌<◌, ℕ, Some, slice_get, le
 ghost use Rattle.game_trees.specs.Trees.{IsTree};
 ghost use Rattle.game_core.specs.Tree.{GameTree, action_count, IsWithin};
 ghost use Rattle.game_core.specs.TreeGame.{game_of_tree};
-ghost use Rattle.pure_payoffs.specs.Children.{AreChildren};
 ghost use Rattle.pure_payoffs.specs.Filled.{AreFilled, HaveRoom};
+ghost use Rattle.game_trees.specs.Children.{AreChildren};
 
 use game_core::{Tree, trees_are_game_trees};
 use memory::Memory;

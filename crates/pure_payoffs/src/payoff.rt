@@ -3,6 +3,7 @@ ghost use Rattle.std.specs.Prelude.{◌≡◌, ◌<◌, length};
 ghost use Rattle.frac128.specs.Fraction.{Fits};
 ghost use Rattle.game_core.specs.Tree.{IsWithin};
 ghost use Rattle.game_core.specs.TreeGame.{outcome_pays};
+ghost use Rattle.game_trees.specs.Children.{AreChildren};
 
 use crate::children::stands_for_game_tree;
 use crate::shortcuts::Shortcuts;
@@ -52,7 +53,6 @@ impl<'a> Play<'a> {
     ghost use Rattle.game_core.specs.TreeGame.{game_of_tree};
     ghost use Rattle.reduced_strategies.specs.Places.{ArePlaces};
     ghost use Rattle.reduced_strategies.specs.StrategicForm.{AreStrategies, completed};
-    ghost use Rattle.pure_payoffs.specs.Children.{AreChildren};
     ghost use Rattle.pure_payoffs.specs.Plays.{IsPlayed, Give, game_of, choice_of, steps_at, branch_steps, steps_behind, value_behind};
     ghost use Rattle.pure_payoffs.specs.Shortcuts.{KeepShortcuts};
     ghost use Rattle.pure_payoffs.specs.Steps.{StepFits, IsFirstUnfit, payoff_steps};

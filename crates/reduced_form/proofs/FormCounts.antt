@@ -5,10 +5,12 @@ use Rattle.std.proofs.lemmas.List.{length-map, length_push, length-take-le, take
 use Rattle.std.proofs.lemmas.Option.{slice_get-get_or, slice_get-map, slice_get_read}
 use Rattle.std.proofs.Math.Nat.{lt-div-mul-add, mul-div-le, min-le_left, min-eq_left, min-eq_right}
 use Rattle.std.proofs.lemmas.Bool.{cases_lt}
+use Rattle.game_theory.proofs.ProfileCounts.{profile_count-push, profile_count-positive, profile_count-front}
+use Rattle.game_trees.specs.OwnSets.{own_sets}
 use native.Mathlib.Nat as N
 use Rattle.game_theory.specs.Profiles.{profile_count}
 use Rattle.game_trees.specs.Trees.{Tree, IsTree}
-use Rattle.reduced_strategies.specs.Choices.{own_sets, AreReducedStrategies}
+use Rattle.reduced_strategies.specs.Choices.{AreReducedStrategies}
 use Rattle.reduced_strategies.specs.StrategicForm.{AreStrategies}
 use Rattle.reduced_strategies.proofs.ReducedStrategies.{choices-have_reduced}
 use Rattle.reduced_strategies.proofs.StrategyOrder.{strategies-determined}
@@ -20,26 +22,6 @@ use Rattle.reduced_form.specs.Limits.{choice_count, choices_from, most_choices}
 use Rattle.reduced_form.specs.Stops.{HasTooManyPayoffs, HasTooManyChoices}
 
 -- ---- products
--- the number of profiles of two groups of players
-profile_count-append : (ms ns : List ℕ) → profile_count (ms ++ ns) ≡ profile_count ms * profile_count ns
-profile_count-append [] ns = omega arith
-profile_count-append (m ∷ ms) ns = ap (λ x. m * x) (profile_count-append ms ns) ∙ sym (N.mul_assoc m (profile_count ms) (profile_count ns))
-
--- with one more player
-pub profile_count-push : (ns : List ℕ) (n : ℕ) → profile_count (ns ++ n ∷ []) ≡ profile_count ns * n
-profile_count-push ns n = profile_count-append ns (n ∷ []) ∙ ap (λ x. profile_count ns * x) (omega arith)
-
--- where each player has a strategy there is a profile
-pub profile_count-positive : (ns : List ℕ) → All (λ n. 0 < n) ns → 0 < profile_count ns
-profile_count-positive [] h = omega arith
-profile_count-positive (n ∷ ns) h = mul-pos (h 0 0 (omega arith)) (profile_count-positive ns (λ k d l. h (suc k) d (omega arith)))
-
--- and then the first players have no more profiles than all
-pub profile_count-front : (k : ℕ) (ns : List ℕ) → All (λ n. 0 < n) ns → profile_count (take k ns) ≤ profile_count ns
-profile_count-front zero ns h = let p = profile_count-positive ns h in omega arith
-profile_count-front (suc k) [] h = omega arith
-profile_count-front (suc k) (n ∷ ns) h = N.mul-le-mul_left n (profile_count-front k ns (λ j d l. h (suc j) d (omega arith)))
-
 -- and no player has more strategies than there are profiles
 pub profile_count-player : (ns : List ℕ) (i : ℕ) → All (λ n. 0 < n) ns → get_or ns i 0 ≤ profile_count ns
 profile_count-player [] i h = omega arith

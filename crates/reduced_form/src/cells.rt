@@ -3,44 +3,17 @@ ghost use Rattle.std.specs.Prelude.{◌≡◌, ◌<◌, ◌≤◌, ◌*◌, ◌+
 ghost use Rattle.game_theory.specs.Profiles.{profile_count, profile_at};
 ghost use Rattle.game_core.specs.Table.{most_payoffs};
 ghost use Rattle.game_core.specs.TreeGame.{game_of_tree};
-ghost use Rattle.pure_payoffs.specs.Children.{AreChildren};
 ghost use Rattle.pure_payoffs.specs.Shortcuts.{HasRoom, KeepShortcuts};
 ghost use Rattle.reduced_strategies.specs.Places.{ArePlaces};
 ghost use Rattle.reduced_strategies.specs.StrategicForm.{AreStrategies, completed};
 ghost use Rattle.reduced_form.specs.Cells.{AreCells, IsCellStop};
+ghost use Rattle.game_trees.specs.Children.{AreChildren};
 
 use crate::stop::ReduceStop;
 use frac128::Frac;
-use game_core::{Tree, trees_are_game_trees};
+use game_core::{Tree, profile_count, set_profile, trees_are_game_trees};
 use pure_payoffs::{Play, Shortcuts, children_of_all};
 use std::alloc::Global;
-
-// How many profiles there are, where the players have so many strategies.
-fn profile_count(counts: &[usize]) -> usize
-    requires few { profile_count counts.now ≤ most_payoffs }
-    requires some { All (λ n. 0 < n) counts.now }
-    ensures { result ≡ profile_count counts.now }
-{
-    let mut profiles = 1;
-    for count in counts {
-        profiles *= *count;
-    }
-    profiles
-}
-
-// Writes the profile with a number in file order, in which the first player's strategy changes fastest.
-fn set_profile(profile: &mut [u32], counts: &[usize], number: usize)
-    requires players { length profile.old ≡ length counts.now }
-    requires few { All (λ n. n ≤ most_payoffs) counts.now }
-    requires some { All (λ n. 0 < n) counts.now }
-    ensures { profile.new ≡ profile_at counts.now number }
-{
-    let mut rest = number;
-    for player in 0..counts.len() {
-        profile[player] = (rest % counts[player]) as u32;
-        rest /= counts[player];
-    }
-}
 
 // Adds what a profile pays each player.
 fn push_cells(

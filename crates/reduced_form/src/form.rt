@@ -16,7 +16,7 @@ use crate::names::names_of_all;
 use crate::stop::ReduceStop;
 use decision_walk::Decision;
 use frac128::{Frac, Memory};
-use game_core::{Name, Table, Tree, trees_are_game_trees};
+use game_core::{Name, Table, Tree, copied, trees_are_game_trees};
 use std::alloc::Global;
 use std::marker::Model;
 use strategy_lists::{decisions_of_all, list_strategies, set_places};
@@ -72,13 +72,6 @@ fn strategies_of_all(
         strategies.push(list_strategies(alloc, tree, &decisions[player], player as u32)?)?;
     }
     Ok(strategies)
-}
-
-// A name of its own with these bytes.
-fn copied(alloc: Global, name: &Name) -> Result<Name, Memory>
-    ensures { IfOk result (λ copy. copy ≡ name.now) }
-{
-    Ok(Name::new(Vec::from_slice(alloc, name.bytes())?))
 }
 
 // The players' names.

@@ -4,12 +4,12 @@ ghost use Rattle.game_theory.specs.Profiles.{profile_count};
 ghost use Rattle.game_core.specs.Table.{most_payoffs};
 ghost use Rattle.game_core.specs.Tree.{own_sets as tree_sets};
 ghost use Rattle.game_core.specs.TreeGame.{game_of_tree};
-ghost use Rattle.reduced_strategies.specs.Choices.{own_sets};
 ghost use Rattle.strategy_lists.specs.Decisions.{AreDecisionsOfAll};
 ghost use Rattle.reduced_form.specs.declared.stop.ReduceStop.TheVariants as stops;
 ghost use Rattle.reduced_form.specs.Counts.{AreCounted, choices_by};
 ghost use Rattle.reduced_form.specs.Limits.{most_choices};
 ghost use Rattle.reduced_form.specs.Stops.{IsStop, too_many_payoffs, too_many_choices};
+ghost use Rattle.game_trees.specs.OwnSets.{own_sets};
 
 use crate::stop::ReduceStop;
 use decision_walk::Decision;

@@ -1,11 +1,13 @@
 -- The tree of one player: its three reduced strategies, under two numberings of its sets.
 use Rattle.std.proofs.Common.{ℕ, zero, suc, ◌<◌, ◌≤◌, ◌≡◌, ◌⊎◌, ◌↔◌, inl, inr, ⊎_elim, Some, List, [], ◌∷◌, length, All, Contains, refl, sym, subst, arith}
 use Rattle.std.proofs.lemmas.Bool.{cases_lt}
+use Rattle.game_trees.specs.OwnSets.{own_sets}
+use Rattle.game_trees.proofs.OwnSets.{own_sets-tell}
 use Rattle.game_trees.specs.Trees.{Tree, IsTree}
 use Rattle.game_trees.proofs.TreeTests.{tree-tested, even_lottery}
-use Rattle.reduced_strategies.specs.Choices.{own_sets, choice_at, IsReached, IsReduced}
+use Rattle.reduced_strategies.specs.Choices.{choice_at, IsReached, IsReduced}
 use Rattle.reduced_strategies.specs.Examples.{alone, renumbered, ReducedStrategiesOfOnePlayer}
-use Rattle.reduced_strategies.proofs.Sets.{own_sets-tell, choice_at-among}
+use Rattle.reduced_strategies.proofs.Sets.{choice_at-among}
 
 -- ---- a tree that ends or goes on
 -- Player 0 has two sets of two actions. One is always reached, and the other exactly by the second action there.

@@ -1,15 +1,16 @@
 -- Every player has a list of reduced strategies: of all choice lists, in order, those that are the reduced strategy of their completion.
-use Rattle.std.proofs.Common.{ℕ, zero, suc, ◌<◌, ◌≤◌, ◌≡◌, ◌≢◌, ◌⊎◌, ◌+◌, ◌-◌, inl, inr, Bool, true, false, Decides, Some, List, [], ◌∷◌, ◌++◌, length, map, All, Contains, refl, sym, ap, ◌∙◌, subst, arith}
+use Rattle.std.proofs.Common.{ℕ, zero, suc, ◌<◌, ◌≤◌, ◌≡◌, ◌⊎◌, ◌+◌, ◌-◌, inl, inr, Bool, true, false, List, [], ◌∷◌, ◌++◌, length, map, All, Contains, refl, sym, ap, subst, arith}
 use Rattle.std.specs.Prelude.{if◌then◌else◌}
 use Rattle.std.specs.Str.{bytes_eq}
-use Rattle.std.proofs.lemmas.Bool.{cases_lt, cases_eq}
-use Rattle.std.proofs.lemmas.List.{length-map}
+use Rattle.std.proofs.lemmas.Bool.{cases_eq}
 use Rattle.std.proofs.lemmas.Slice.Eq.{bytes_eq-Decides}
+use Rattle.game_trees.specs.OwnSets.{own_sets}
+use Rattle.game_trees.proofs.OwnSets.{AscendFrom, own_sets-ascend}
 use Rattle.lists.specs.Orders.{ComesBefore, AreAscending}
 use Rattle.game_trees.specs.Trees.{Tree, IsTree}
-use Rattle.reduced_strategies.specs.Choices.{own_sets, choice_at, IsReduced}
+use Rattle.reduced_strategies.specs.Choices.{choice_at, IsReduced}
 use Rattle.reduced_strategies.specs.Laws.{StrategiesExist}
-use Rattle.reduced_strategies.proofs.Sets.{AscendFrom, own_sets-ascend, choice_at-first, choice_at-later, choice_at-below}
+use Rattle.reduced_strategies.proofs.Sets.{choice_at-first, choice_at-later, choice_at-below}
 use Rattle.reduced_strategies.proofs.ReducedStrategies.{CompletesList, reduced, reduced-reduced, reduced-completed, reduced-unique}
 
 -- ---- lists in order

@@ -3,11 +3,13 @@ use Rattle.std.proofs.Common.{ℕ, zero, suc, ◌<◌, ◌≤◌, ◌≡◌, ◌
 use Rattle.std.specs.Prelude.{if◌then◌else◌}
 use Rattle.std.proofs.lemmas.List.{length-map}
 use Rattle.std.proofs.lemmas.Bool.{cases_lt}
+use Rattle.game_trees.specs.OwnSets.{own_sets}
+use Rattle.game_trees.proofs.OwnSets.{IsAmong, own_sets-has, own_sets-tell, own_sets-ascend}
 use Rattle.game_trees.specs.Trees.{Tree, IsTree}
 use Rattle.game_trees.specs.Behaviour.{IsChoice}
-use Rattle.reduced_strategies.specs.Choices.{own_sets, choice_at, IsReached, IsReduced}
+use Rattle.reduced_strategies.specs.Choices.{choice_at, IsReached, IsReduced}
 use Rattle.reduced_strategies.specs.Laws.{ChoicesHaveReduced}
-use Rattle.reduced_strategies.proofs.Sets.{IsAmong, own_sets-has, own_sets-tell, own_sets-ascend, choice_at-map, choice_at-among, choice_at-determines}
+use Rattle.reduced_strategies.proofs.Sets.{choice_at-map, choice_at-among, choice_at-determines}
 use Rattle.reduced_strategies.proofs.Reached.{is_reached, is_reached-decides, SameWhereReached, SameWhereReached-sym, IsReached-same}
 
 -- choices complete a list: at each set to which the list gives an action they have that action

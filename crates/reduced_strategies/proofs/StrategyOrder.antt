@@ -1,8 +1,7 @@
 -- A player has one list of reduced strategies.
-use Rattle.std.proofs.Common.{ℕ, zero, suc, ◌<◌, ◌≡◌, ◌⊎◌, inl, inr, List, [], ◌∷◌, length, get_or, All, Contains, refl, sym, ap₂, ◌∙◌, subst, arith}
+use Rattle.std.proofs.Common.{ℕ, List}
 use Rattle.std.proofs.lemmas.List.Elements.{All-contains}
 use Rattle.lists.proofs.Orders.{AreAscending-determined, AreWithin}
-use Rattle.lists.specs.Orders.{ComesBefore, AreAscending}
 use Rattle.game_trees.specs.Trees.{Tree}
 use Rattle.reduced_strategies.specs.Choices.{IsReduced, AreReducedStrategies}
 use Rattle.reduced_strategies.specs.Laws.{OneListOfStrategies}

@@ -3,6 +3,8 @@ use Rattle.std.proofs.Common.{ℕ, suc, ◌-◌, ◌<◌, ◌≡◌, ◌≢◌, 
 use Rattle.std.specs.Prelude.{if◌then◌else◌}
 use Rattle.std.proofs.lemmas.Bool.{cases_eq}
 use Rattle.std.proofs.lemmas.List.{length-map, get_or-set_same, get_or-set_other, get_or_default}
+use Rattle.game_trees.specs.OwnSets.{own_sets}
+use Rattle.game_trees.proofs.OwnSets.{is_own-decides}
 use Rattle.rational.specs.Rational.{◌≤ℚ◌}
 use Rattle.game_theory.specs.Profiles.{IsProfile, number_of}
 use Rattle.game_theory.specs.Mixed.{sure, pure as pure_profile}
@@ -15,10 +17,9 @@ use Rattle.game_trees.specs.Trees.{Tree, IsTree}
 use Rattle.game_trees.specs.Behaviour.{IsValid, IsChoice, is_own, payoff, pure, reply}
 use Rattle.game_trees.specs.Equilibrium.{IsEquilibrium}
 use Rattle.game_trees.proofs.Subtrees.{value-agree}
-use Rattle.reduced_strategies.specs.Choices.{own_sets, choice_at}
+use Rattle.reduced_strategies.specs.Choices.{choice_at}
 use Rattle.reduced_strategies.specs.StrategicForm.{AreStrategies, list_of, given_at, completed, IsCompletion, strategic_form}
 use Rattle.reduced_strategies.specs.Laws.{PureEquilibriaAreThoseOfTheTree}
-use Rattle.reduced_strategies.proofs.Sets.{is_own-decides}
 use Rattle.reduced_strategies.proofs.ReducedStrategies.{CompletesList, choices-have_reduced}
 use Rattle.reduced_strategies.proofs.StrategyProfiles.{strategies-count, strategies-of, given_at-own, first_actions-complete}
 use Rattle.reduced_strategies.proofs.Completions.{completions-pay}

@@ -1,18 +1,9 @@
 -- Reduced strategies of a game tree. Source: von Stengel 1996; Kuhn 1953.
-use Rattle.std.specs.Prelude.{ℕ, zero, suc, ◌<◌, ◌≤◌, ◌≡◌, ◌⊎◌, ◌↔◌, ◌==◌, if◌then◌else◌, List, [], ◌∷◌, length, All, Contains, Some}
-use Rattle.lists.specs.Orders.{ComesBefore, AreAscending}
+use Rattle.std.specs.Prelude.{ℕ, suc, ◌<◌, ◌≤◌, ◌≡◌, ◌↔◌, ◌==◌, if◌then◌else◌, List, [], ◌∷◌, length, All, Contains, Some}
+use Rattle.game_trees.specs.OwnSets.{own_sets}
+use Rattle.lists.specs.Orders.{AreAscending}
 use Rattle.game_trees.specs.Trees.{Tree}
-use Rattle.game_trees.specs.Behaviour.{is_own}
 use Rattle.game_trees.specs.Recall.{own_history}
-
--- the sets below n that are player i's own, in order
-abbrev pub own_below : Tree → ℕ → ℕ → List ℕ → List ℕ
-own_below t i zero later = later
-own_below t i (suc n) later = own_below t i n (if is_own t i n then n ∷ later else later)
-
--- player i's own sets, in order
-abbrev pub own_sets : Tree → ℕ → List ℕ
-own_sets t i = own_below t i t.sets []
 
 -- A choice list gives each own set in order an action, counted from 1, or 0, which is written `*`, for none. This is what a list
 -- gives a set, where the list is of these sets; to any other set it gives none.

@@ -3,4 +3,3 @@ pub mod Examples
 pub mod Laws
 pub mod Places
 pub mod StrategicForm
-pub mod TreeEntries

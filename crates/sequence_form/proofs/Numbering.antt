@@ -9,8 +9,8 @@ use Rattle.game_trees.specs.Behaviour.{is_own}
 use Rattle.game_trees.specs.Recall.{own_history}
 use Rattle.game_core.specs.Tree.{GameTree, IsTree}
 use Rattle.game_core.specs.TreeGame.{game_of_tree}
-use Rattle.reduced_strategies.specs.Choices.{own_sets}
-use Rattle.reduced_strategies.proofs.Sets.{is_own-decides}
+use Rattle.game_trees.specs.OwnSets.{own_sets}
+use Rattle.game_trees.proofs.OwnSets.{is_own-decides}
 use Rattle.strategy_lists.specs.OwnNumbers.{own_numbers}
 use Rattle.strategy_lists.proofs.ActionCounts.{actions-below}
 use Rattle.strategy_lists.proofs.OwnNumbers.{own_numbers-at, own_sets-numbers}

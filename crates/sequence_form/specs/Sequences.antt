@@ -3,7 +3,7 @@ use Rattle.std.specs.Prelude.{ℕ, suc, if◌then◌else◌, List, length, map, 
 use Rattle.std.specs.List.{range_with_len}
 use Rattle.game_trees.specs.Trees.{Tree}
 use Rattle.game_trees.specs.Behaviour.{is_own}
-use Rattle.reduced_strategies.specs.Choices.{own_sets}
+use Rattle.game_trees.specs.OwnSets.{own_sets}
 use Rattle.sequence_forms.specs.Sequences.{sequence, sequence_before, side_of}
 use Rattle.sequence_forms.specs.Sides.{first, sequences}
 use Rattle.strategy_lists.specs.OwnNumbers.{own_numbers}

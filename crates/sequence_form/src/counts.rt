@@ -2,7 +2,7 @@
 ghost use Rattle.std.specs.Prelude.{◌≡◌, ◌<◌, ◌^◌, ℕ, length, slice_index};
 ghost use Rattle.game_core.specs.Table.{strategy_counts};
 ghost use Rattle.game_core.specs.TreeGame.{game_of_tree};
-ghost use Rattle.reduced_strategies.specs.Choices.{own_sets};
+ghost use Rattle.game_trees.specs.OwnSets.{own_sets};
 ghost use Rattle.sequence_data.specs.Data.{FormData};
 ghost use Rattle.sequence_forms.specs.Sequences.{side_of};
 ghost use Rattle.sequence_forms.specs.Sides.{sequences};

@@ -1,5 +1,5 @@
 -- A set has fewer actions than the tree has nodes; and the numbers of actions of a player's own sets, one after another.
-use Rattle.std.proofs.Common.{ℕ, zero, suc, ◌<◌, ◌≤◌, ◌^◌, ◌≡◌, inl, inr, Bool, true, false, Decides, Option, Some, None, List, [], ◌∷◌, ◌++◌, length, map, get_or, slice_get, take, refl, sym, ap, subst, ◌∙◌, arith}
+use Rattle.std.proofs.Common.{ℕ, zero, suc, ◌<◌, ◌≤◌, ◌^◌, ◌≡◌, inl, inr, Bool, true, false, Decides, Some, None, List, [], ◌∷◌, ◌++◌, length, map, get_or, slice_get, take, refl, sym, ap, subst, ◌∙◌, arith}
 use Rattle.std.specs.Prelude.{if◌then◌else◌}
 use Rattle.std.proofs.Math.Seq.{take-suc, take-length}
 use Rattle.std.proofs.lemmas.Bool.{cases_lt}
@@ -9,8 +9,7 @@ use Rattle.game_core.proofs.SetNumbers.{is_set-decides}
 use Rattle.game_core.specs.declared.tree.Node.{Node}
 use Rattle.game_core.specs.Tree.{GameTree, IsTree, InformationSet, Place, AreInPrefixOrder, action_count, places_from, members_from, is_set, own_sets}
 use Rattle.game_core.specs.TreeGame.{game_of_tree}
-use Rattle.reduced_strategies.proofs.Sets.{is_own_of-decides}
-use Rattle.strategy_lists.proofs.OwnNumbers.{is_set-own, own_from-own_sets, own_sets-numbers, own_numbers-length}
+use Rattle.strategy_lists.proofs.OwnNumbers.{own_from-own_sets, own_sets-numbers, own_numbers-length}
 use Rattle.strategy_lists.proofs.WalksAreStrategies.{own_set-tell}
 
 -- a node has a place for each action

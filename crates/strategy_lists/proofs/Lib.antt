@@ -3,5 +3,4 @@ mod Moves
 pub mod OwnNumbers
 mod Parents
 mod PlayersDecisions
-mod SmallTree
 mod WalksAreStrategies

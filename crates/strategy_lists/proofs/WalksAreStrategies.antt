@@ -1,14 +1,16 @@
 -- The walks over a player's decisions are the player's reduced strategies.
-use Rattle.std.proofs.Common.{ℕ, zero, suc, ◌<◌, ◌≤◌, ◌≡◌, ◌≢◌, ◌↔◌, inl, inr, Option, Some, None, List, [], ◌∷◌, length, map, get_or, slice_get, All, refl, sym, ap, subst, ◌∙◌, arith}
+use Rattle.std.proofs.Common.{ℕ, zero, suc, ◌<◌, ◌≤◌, ◌≡◌, ◌≢◌, ◌↔◌, inl, inr, Option, Some, None, List, [], ◌∷◌, length, map, get_or, slice_get, refl, sym, ap, subst, ◌∙◌, arith}
 use Rattle.std.proofs.lemmas.Bool.{cases_lt}
 use Rattle.std.proofs.lemmas.List.{length-map, get_or-map}
 use Rattle.std.proofs.lemmas.List.Elements.{All-weaker}
 use Rattle.std.proofs.lemmas.Option.{none-some, same_Some, slice_get_within, slice_get-get_or, get_or_from_slice_get}
+use Rattle.game_trees.specs.OwnSets.{own_sets}
+use Rattle.game_trees.proofs.OwnSets.{own_sets-tell}
 use Rattle.lists.proofs.Elements.{element, all_at}
 use Rattle.game_trees.specs.Trees.{Tree}
 use Rattle.game_trees.specs.Recall.{own_history}
-use Rattle.reduced_strategies.specs.Choices.{own_sets, choice_at, Agrees, IsReached as is_set_reached, IsReduced, AreReducedStrategies}
-use Rattle.reduced_strategies.proofs.Sets.{own_sets-tell, choice_at-among, choice_at-first, choice_at-later}
+use Rattle.reduced_strategies.specs.Choices.{choice_at, Agrees, IsReached as is_set_reached, IsReduced, AreReducedStrategies}
+use Rattle.reduced_strategies.proofs.Sets.{choice_at-among, choice_at-first, choice_at-later}
 use Rattle.reduced_strategies.proofs.Histories.{Agrees-append}
 use Rattle.decision_walk.specs.declared.decision.Decision.{Decision}
 use Rattle.decision_walk.specs.declared.decision.Step.{Step}

@@ -2,9 +2,9 @@
 ghost use Rattle.std.specs.Prelude.{◌≡◌, ◌<◌, ◌+◌, ◌^◌, ℕ, All, IfOk, IfSome, length, map, slice_index, slice_index_or};
 ghost use Rattle.game_core.specs.Tree.{GameTree, IsWithin, own_sets as tree_sets};
 ghost use Rattle.game_core.specs.TreeGame.{game_of_tree};
-ghost use Rattle.reduced_strategies.specs.Choices.{own_sets};
 ghost use Rattle.reduced_strategies.specs.Places.{ArePlaces};
 ghost use Rattle.strategy_lists.specs.OwnNumbers.{counted, ArePlacesBelow};
+ghost use Rattle.game_trees.specs.OwnSets.{own_sets};
 
 use game_core::{InfoSet, Tree};
 use memory::Memory;

@@ -1,5 +1,5 @@
 -- A first list of actions of chance is read token by token: where its probabilities stop, they can go on to the sum 1.
-use Rattle.std.proofs.Common.{◌≡◌, ℕ, zero, suc, ◌+◌, ◌≤◌, ◌<◌, ◌^◌, nat_le, List, [], ◌∷◌, ◌++◌, length, Bool, true, false, ◌&&◌, if◌then◌else◌, ◌⊎◌, inl, inr, ℤ, pos, lit<, refl, sym, ap, ◌∙◌, subst, arith}
+use Rattle.std.proofs.Common.{◌≡◌, ℕ, suc, ◌+◌, ◌≤◌, ◌<◌, ◌^◌, nat_le, List, [], ◌∷◌, ◌++◌, length, true, if◌then◌else◌, ◌⊎◌, inl, inr, pos, lit<, refl, sym, ap, ◌∙◌, subst, arith}
 use Rattle.std.specs.Prelude.{Result, Ok, Err}
 use Rattle.rational.specs.Rational.{ℚ, ◌+ℚ◌, ◌≤ℚ◌, zero_ℚ, one_ℚ}
 use Rattle.rational.specs.Tests.{le_test, eq_ℚ}
@@ -15,12 +15,12 @@ use Rattle.game_core.specs.declared.tree.Action.{Action}
 use Rattle.game_tokens.specs.declared.token.Token.{Token}
 use Rattle.game_tokens.specs.declared.token.Token.TheVariants.{Right, Text, Number}
 use Rattle.file_parts.specs.Parsing.{Parsed, ◌>>=◌}
-use Rattle.file_parts.proofs.Readers.{ReadsAs, IsStuck, IsReader, HasSample, LooksAhead, ok_same, err_same, ok_err, stuck_by, same_first, result_of, same_reader}
+use Rattle.file_parts.proofs.Readers.{ReadsAs, IsStuck, IsReader, ok_same, ok_err, stuck_by, same_first, result_of, same_reader}
 use Rattle.file_parts.proofs.TokenLaws.{le_passes}
 use Rattle.written_trees.specs.Building.{add_test}
 use Rattle.written_trees.proofs.Chances.{add_test-Decides}
 use Rattle.written_trees.proofs.InsertedKeys.{eq_self}
-use Rattle.tree_files.specs.TreeParsing.{sum_with, at_tokens, parse_chances, parse_closed, parse_chance_list}
+use Rattle.tree_files.specs.TreeParsing.{sum_with, parse_chances, parse_closed, parse_chance_list}
 use Rattle.tree_files.proofs.Completing.{Rest, goes_to_one}
 use Rattle.tree_files.specs.declared.fault.EfgKind.{EfgKind}
 use Rattle.tree_files.specs.declared.fault.EfgKind.TheVariants.{Node, Probability, ProbabilityRange}

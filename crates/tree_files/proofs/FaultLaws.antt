@@ -1,32 +1,27 @@
 -- A list of tokens has one fault at most, a file has none, and a list without a fault is a file.
-use Rattle.std.proofs.Common.{◌≡◌, ◌≢◌, ℕ, zero, suc, ◌<◌, ◌≤◌, ◌^◌, ◌&&◌, if◌then◌else◌, nat_eq, nat_le, slice_get, List, [], ◌∷◌, ◌++◌, length, true, false, codes, Option, Some, None, ◌⊎◌, inl, inr, refl, sym, ap, ◌∙◌, subst, append_assoc}
+use Rattle.std.proofs.Common.{◌≡◌, ◌≢◌, ℕ, ◌<◌, ◌^◌, List, [], ◌∷◌, ◌++◌, length, codes, ◌⊎◌, inl, inr, refl, sym, ap, ◌∙◌, subst, append_assoc}
 use Rattle.std.proofs.lemmas.List.{append-nil}
-use Rattle.std.specs.Prelude.{Result, Ok, Err}
-use Rattle.rational.specs.Rational.{ℚ, ◌+ℚ◌, zero_ℚ, one_ℚ}
-use Rattle.rational.specs.Tests.{le_test, eq_ℚ}
-use Rattle.game_core.specs.declared.tree.Action.{Action}
-use Rattle.game_core.specs.Tree.{GameTree}
+use Rattle.std.specs.Prelude.{Ok, Err}
 use Rattle.game_tokens.specs.declared.token.Token.{Token}
-use Rattle.game_tokens.specs.declared.token.Token.TheVariants.{Text, Word, Number}
+use Rattle.game_tokens.specs.declared.token.Token.TheVariants.{Text, Word}
 use Rattle.file_parts.specs.Parts.{whole_number, braced_texts, IsOpen}
-use Rattle.file_parts.specs.Parsing.{Parsed, ◌>>=◌, parse_title, parse_names}
+use Rattle.file_parts.specs.Parsing.{Parsed, parse_title, parse_names}
 use Rattle.file_parts.proofs.PartReaders.{title_reader, names_reader, title_faults, names_faults}
-use Rattle.file_parts.proofs.Readers.{ReadsAs, reads_alone, result_of, bind_err, bind_ok, err_same, ok_err, ends_early, same_front, same_first, same_rest, both_cons}
+use Rattle.file_parts.proofs.Readers.{ReadsAs, reads_alone, result_of, bind_err, ok_err, ends_early, same_front}
 use Rattle.file_parts.specs.Reading.{behind_text}
-use Rattle.file_parts.proofs.Fronts.{Goes, fronts}
+use Rattle.file_parts.proofs.Fronts.{fronts}
 use Rattle.file_parts.proofs.Fronts.Goes.{same, first, second}
 use Rattle.file_parts.proofs.Values.{value, value_title}
 use Rattle.tree_files.specs.TreeFile.{IsFront, IsBegunFile}
 use Rattle.file_parts.proofs.HeaderLaws.{title_is}
-use Rattle.written_trees.specs.Building.{Begun}
 use Rattle.tree_files.specs.TreeReading.{Head}
 use Rattle.tree_files.specs.TreeParsing.{parse_head, parse_all_nodes, in_nodes, parse_tree}
 use Rattle.tree_files.specs.TreeFaults.{IsFile, BeginsFile, CannotCome, IsTitle, ArePlayers, StopsInPlayers, StopsInNodes}
 use Rattle.tree_files.specs.FaultKinds.{IsKind, part_of_kind, IsFaultFrom}
 use Rattle.tree_files.specs.declared.fault.EfgKind.{EfgKind}
-use Rattle.tree_files.specs.declared.fault.EfgKind.TheVariants.{Header, Players, Node, UnknownPlayer, SetMismatch, Probability, ProbabilityRange, OutcomeMismatch, Unfinished, Trailing}
+use Rattle.tree_files.specs.declared.fault.EfgKind.TheVariants.{Header, Players, Node, Unfinished}
 use Rattle.tree_files.proofs.InnerFaults.{IsInner, all_nodes_faults}
-use Rattle.tree_files.proofs.Heads.{ReadsHead, Stops, title_again_so, names_again_so, GoOn, names_go_on, head_is, head_stops}
+use Rattle.tree_files.proofs.Heads.{title_again_so, names_again_so, names_go_on, head_stops}
 use Rattle.tree_files.proofs.Whole.{read_is_file, file_is_read, inner_fault, body_stops}
 
 -- ---- where reading stops is a fault

@@ -1,23 +1,22 @@
 -- The title and the players are read, and where their reading stops the tokens so far begin a file, and no more of them do.
-use Rattle.std.proofs.Common.{◌≡◌, ℕ, suc, ◌+◌, ◌<◌, ◌≤◌, ◌^◌, nat_eq, if◌then◌else◌, List, [], ◌∷◌, ◌++◌, length, map, true, false, Option, Some, None, ◌⊎◌, inl, inr, refl, sym, ap, ◌∙◌, subst, append_assoc, length-append, arith}
+use Rattle.std.proofs.Common.{◌≡◌, ℕ, suc, ◌+◌, ◌<◌, ◌≤◌, ◌^◌, nat_eq, List, [], ◌∷◌, ◌++◌, length, map, false, Some, inl, inr, refl, sym, ap, ◌∙◌, subst, append_assoc, length-append, arith}
 use Rattle.std.proofs.lemmas.List.{append-nil, length-map, map-append}
-use Rattle.std.specs.Prelude.{Result, Ok, Err, codes}
-use Rattle.game_core.specs.Tree.{GameTree, Place}
+use Rattle.std.specs.Prelude.{Ok, Err, codes}
 use Rattle.game_tokens.specs.declared.token.Token.{Token}
 use Rattle.game_tokens.specs.declared.token.Token.TheVariants.{Left, Right, Text, Word}
 use Rattle.file_parts.specs.Parts.{whole_number, braced_texts, IsLetter, IsComment}
-use Rattle.file_parts.specs.Reading.{left_at, right_at, texts_at, behind_text, names_at, title_at}
+use Rattle.file_parts.specs.Reading.{right_at, texts_at, behind_text, names_at, title_at}
 use Rattle.file_parts.specs.Parsing.{Parsed, ◌>>=◌, passed, parse_title, parse_names}
 use Rattle.file_parts.proofs.HeaderLaws.{title_is, title_again}
 use Rattle.file_parts.proofs.PartReaders.{title_reader, names_reader}
-use Rattle.file_parts.proofs.Readers.{chain, ReadsAs, IsStuck, reads_alone, bind_ok, bind_err, ok_same, err_same, ok_err, result_of, same_front, not_empty, cut}
+use Rattle.file_parts.proofs.Readers.{chain, bind_ok, bind_err, ok_same, err_same, ok_err, same_front, cut}
 use Rattle.file_parts.proofs.TokenLaws.{names_is, names_again, texts_is}
 use Rattle.file_parts.proofs.Values.{value, value_some, value_chain, value_title, value_names}
-use Rattle.written_trees.specs.Building.{Begun, nothing_begun, tree_begun, free_places}
+use Rattle.written_trees.specs.Building.{nothing_begun, tree_begun, free_places}
 use Rattle.tree_files.specs.TreeFile.{IsFront, IsBegunFile}
 use Rattle.tree_files.specs.TreeReading.{Head, front_at}
 use Rattle.tree_files.specs.TreeParsing.{has_text, parse_head}
-use Rattle.tree_files.specs.TreeFaults.{IsFile, BeginsFile, CannotCome}
+use Rattle.tree_files.specs.TreeFaults.{BeginsFile, CannotCome}
 use Rattle.tree_files.specs.declared.fault.EfgKind.{EfgKind}
 use Rattle.tree_files.specs.declared.fault.EfgKind.TheVariants.{Header, Players}
 use Rattle.tree_files.proofs.FileLaws.{begun_is, begun_front, tree_front}

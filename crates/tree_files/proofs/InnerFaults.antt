@@ -1,5 +1,5 @@
 -- The kinds of faults that the reading of nodes names.
-use Rattle.std.proofs.Common.{◌≡◌, ℕ, zero, suc, ◌-◌, ◌&&◌, if◌then◌else◌, nat_eq, nat_le, slice_get, slice_set, List, [], ◌∷◌, ◌++◌, length, map, Bool, true, false, codes, Option, Some, None, inl, inr, refl, sym, ap, subst}
+use Rattle.std.proofs.Common.{◌≡◌, ℕ, zero, suc, ◌-◌, ◌&&◌, if◌then◌else◌, nat_eq, nat_le, slice_get, List, [], ◌∷◌, length, Bool, true, false, codes, Option, Some, None, inl, inr, refl, sym, ap, subst}
 use Rattle.std.specs.Prelude.{Result, Ok, Err}
 use Rattle.rational.specs.Rational.{ℚ, ◌+ℚ◌, zero_ℚ, one_ℚ}
 use Rattle.rational.specs.Tests.{le_test, eq_ℚ}
@@ -15,7 +15,7 @@ use Rattle.file_parts.proofs.Readers.{FaultsAre, bind_faults, pure_faults, each_
 use Rattle.file_parts.proofs.TokenReaders.{wanted_faults, passed_faults}
 use Rattle.written_trees.specs.Written.{SetUse, OutcomeUse}
 use Rattle.written_trees.specs.Building.{Begun, BegunSet, BegunOutcome, Branching, nothing_begun, set_place, outcome_place, passed as limit_passed, add_test}
-use Rattle.tree_files.specs.TreeReading.{positive_at, own_action, closed_at, is_word, begins_node, is_whole}
+use Rattle.tree_files.specs.TreeReading.{positive_at, closed_at, is_word, begins_node, is_whole}
 use Rattle.tree_files.specs.TreeParsing.{closes, has_text, has_number, sum_with, at_tokens, parse_chances, parse_closed, parse_own_list, parse_chance_list, parse_list_of, parse_first_list, parse_same, parse_probability, parse_repeated, parse_all_repeated, parse_repeated_list, parse_later_list, bare_use, parse_use, parse_set, parse_player, parse_payoff, parse_payoffs_end, parse_first_payoffs, parse_same_payoff, parse_same_payoffs, parse_repeated_payoffs, parse_later_payoffs, bare_outcome_use, parse_outcome_use, parse_named, parse_outcome, Choice, parse_set_choice, parse_own_choice, parse_behind, parse_choice, parse_next, has_room, parse_at, parse_nodes, parse_all_nodes}
 use Rattle.tree_files.specs.declared.fault.EfgKind.{EfgKind}
 use Rattle.tree_files.specs.declared.fault.EfgKind.TheVariants.{Header, Players, Node, UnknownPlayer, SetMismatch, Probability, ProbabilityRange, OutcomeMismatch, Unfinished, Trailing}

@@ -1,10 +1,10 @@
 -- What is read up to a comma are nodes; nodes with a comma behind them are read; and nodes stop where they stop up to a comma.
-use Rattle.std.proofs.Common.{◌≡◌, ℕ, zero, suc, ◌<◌, ◌≤◌, ◌&&◌, ◌+◌, if◌then◌else◌, nat_eq, List, [], ◌∷◌, ◌++◌, length, true, false, true≢false, Option, Some, None, ◌⊎◌, inl, inr, refl, sym, ap, ◌∙◌, subst, append_assoc, length-append, arith}
+use Rattle.std.proofs.Common.{◌≡◌, ℕ, zero, suc, ◌<◌, ◌≤◌, ◌+◌, nat_eq, List, [], ◌∷◌, ◌++◌, length, true, false, true≢false, Option, Some, None, ◌⊎◌, inl, inr, refl, sym, ap, ◌∙◌, subst, append_assoc, length-append, arith}
 use Rattle.std.proofs.lemmas.Bool.Decides.{nat_tests}
 use Rattle.std.specs.Prelude.{Result, Ok, Err}
 use Rattle.game_core.specs.declared.too_large.What.{What}
 use Rattle.game_tokens.specs.declared.token.Token.{Token}
-use Rattle.game_tokens.specs.declared.token.Token.TheVariants.{Comma, Word}
+use Rattle.game_tokens.specs.declared.token.Token.TheVariants.{Comma}
 use Rattle.file_parts.specs.Parsing.{Parsed, ◌>>=◌}
 use Rattle.file_parts.proofs.Readers.{bind_ok, bind_err, ok_same, err_same, ok_err}
 use Rattle.file_parts.proofs.Values.{value, value_some}
@@ -19,7 +19,7 @@ use Rattle.tree_files.proofs.SetLaws.{IsBare}
 use Rattle.tree_files.proofs.NodeLaws.{node_written, node_begins}
 use Rattle.tree_files.proofs.NodesLaws.{BeginsWithNext, BeginsWithNodes, one_more_is, one_more_again, none_more, one_before, place_free, nodes_bare, parts_added, and_then_ok}
 use Rattle.tree_files.proofs.NodeValues.{Keeps, value_next, node_keeps}
-use Rattle.tree_files.proofs.PartReaders.{has_comma, comma}
+use Rattle.tree_files.proofs.PartReaders.{has_comma}
 use Rattle.tree_files.proofs.MarkedNodes.{mark_here, marked}
 use Rattle.std.proofs.lemmas.Option.{same_Some}
 use Rattle.std.proofs.lemmas.Bool.{cases_Bool}

@@ -1,16 +1,16 @@
 -- Nodes up to a comma that stands where a node may begin are a reader. No file has a comma there, so it may come behind any nodes,
 -- also where no place is free or a further node would pass a limit.
-use Rattle.std.proofs.Common.{◌≡◌, ℕ, zero, suc, ◌≤◌, ◌&&◌, ◌||◌, if◌then◌else◌, List, [], ◌∷◌, length, Bool, true, false, true≢false, Option, Some, None, ◌⊎◌, inl, inr, codes, refl, sym, ap, ◌∙◌, arith}
-use Rattle.std.specs.Prelude.{Result, Ok, Err}
+use Rattle.std.proofs.Common.{◌≡◌, ℕ, zero, suc, ◌≤◌, ◌&&◌, if◌then◌else◌, List, [], ◌∷◌, length, Bool, true, false, Option, Some, None, ◌⊎◌, inl, inr, codes, refl, sym, ap, ◌∙◌}
+use Rattle.std.specs.Prelude.{Ok, Err}
 use Rattle.game_core.specs.declared.tree.Kind.TheVariants.{End}
 use Rattle.game_core.specs.Tree.{kind_of_owner}
 use Rattle.game_tokens.specs.declared.token.Token.{Token}
 use Rattle.game_tokens.specs.declared.token.Token.TheVariants.{Left, Comma, Text, Word}
-use Rattle.file_parts.specs.Reading.{text_at, word_at, whole_at}
+use Rattle.file_parts.specs.Reading.{text_at, whole_at}
 use Rattle.file_parts.specs.Parsing.{Parsed, ◌>>=◌, wanted}
-use Rattle.file_parts.proofs.Readers.{ReadsAs, IsReader, bind_reader, pure_reader, choose, choose_reader, same_reader, token_reader, ok_err, result_of, chain}
+use Rattle.file_parts.proofs.Readers.{IsReader, bind_reader, pure_reader, choose, choose_reader, same_reader, token_reader, ok_err, result_of, chain}
 use Rattle.file_parts.proofs.TokenReaders.{text_reader, some_or_none}
-use Rattle.written_trees.specs.Building.{Begun, Branching, BegunSet, BegunOutcome, passed}
+use Rattle.written_trees.specs.Building.{Begun, Branching, BegunSet, passed}
 use Rattle.tree_files.specs.TreeReading.{is_word, is_node_word, begins_node}
 use Rattle.tree_files.specs.TreeParsing.{Choice, parse_set, parse_player, parse_outcome, parse_set_choice, parse_own_choice, parse_choice, parse_behind, with_parts, parse_next, has_room, parse_at}
 use Rattle.tree_files.specs.declared.fault.EfgKind.{EfgKind}

@@ -1,18 +1,16 @@
 -- Nodes are read token by token, up to a comma where a node may begin. No file has a comma there, so it may come behind any nodes.
-use Rattle.std.proofs.Common.{◌≡◌, ℕ, zero, suc, ◌-◌, ◌<◌, ◌≤◌, ◌^◌, List, [], ◌∷◌, ◌++◌, length, Bool, true, false, ◌&&◌, if◌then◌else◌, nat_eq, nat_le, nat_lt, slice_get, Option, Some, None, ◌⊎◌, inl, inr, refl, sym, ap, ◌∙◌, arith}
-use Rattle.std.specs.Prelude.{Result, Ok, Err, codes}
-use Rattle.game_core.specs.Tree.{kind_of_owner}
+use Rattle.std.proofs.Common.{◌≡◌, ℕ, ◌-◌, ◌≤◌, List, [], ◌∷◌, ◌&&◌, if◌then◌else◌, nat_eq, nat_le, slice_get, Option, Some, None, ◌⊎◌, inl, inr, refl, arith}
+use Rattle.std.specs.Prelude.{Ok, Err}
 use Rattle.game_tokens.specs.declared.token.Token.{Token}
-use Rattle.game_tokens.specs.declared.token.Token.TheVariants.{Left, Comma, Text, Word}
 use Rattle.file_parts.specs.Parts.{whole_number}
 use Rattle.file_parts.specs.Reading.{whole_at, optional_text_at}
 use Rattle.file_parts.specs.Parsing.{Parsed, ◌>>=◌, wanted}
-use Rattle.file_parts.proofs.Readers.{IsReader, bind_reader, same_reader, token_reader, ok_err, result_of}
+use Rattle.file_parts.proofs.Readers.{IsReader, bind_reader, same_reader, token_reader, result_of}
 use Rattle.file_parts.proofs.TokenReaders.{wanted_reader, tested_head, whole_is_head}
 use Rattle.file_parts.proofs.TokenLaws.{whole_again, le_passes}
 use Rattle.written_trees.specs.Building.{BegunSet, BegunOutcome, set_place, outcome_place}
 use Rattle.tree_files.specs.TreeReading.{positive_at}
-use Rattle.tree_files.specs.TreeParsing.{bare_use, bare_outcome_use, parse_outcome_use, parse_set, parse_named, parse_outcome, parse_player, parse_use, parse_list_of, parse_first_list}
+use Rattle.tree_files.specs.TreeParsing.{bare_use, bare_outcome_use, parse_outcome_use, parse_set, parse_named, parse_outcome, parse_player, parse_use, parse_first_list}
 use Rattle.tree_files.proofs.SetLaws.{positive_again}
 use Rattle.tree_files.proofs.NodeReaders.{ReadsNoText, ReadsNoBrace, named, named_reader, map_then, use_then, use_reader, use_no_text, outcome_then, outcome_reader, outcome_no_text}
 use Rattle.tree_files.specs.declared.fault.EfgKind.{EfgKind}

@@ -1,13 +1,13 @@
 -- What follows the number of a set or of an outcome is read token by token, up to what follows it in turn.
-use Rattle.std.proofs.Common.{◌≡◌, ℕ, List, [], ◌∷◌, ◌++◌, Bool, true, false, if◌then◌else◌, nat_eq, slice_get, slice_set, Option, Some, None, refl, sym, ap, ◌∙◌}
-use Rattle.std.specs.Prelude.{Result, Ok, Err}
+use Rattle.std.proofs.Common.{◌≡◌, ℕ, List, [], ◌∷◌, ◌++◌, true, false, slice_set, Option, Some, None, refl, sym}
+use Rattle.std.specs.Prelude.{Ok, Err}
 use Rattle.rational.specs.Rational.{ℚ}
 use Rattle.game_core.specs.declared.tree.Action.{Action}
 use Rattle.game_tokens.specs.declared.token.Token.{Token}
 use Rattle.game_tokens.specs.declared.token.Token.TheVariants.{Left, Text}
 use Rattle.file_parts.specs.Reading.{left_at, text_at, optional_text_at, opens}
 use Rattle.file_parts.specs.Parsing.{Parsed, ◌>>=◌, wanted, passed}
-use Rattle.file_parts.proofs.Readers.{chain, ReadsAs, IsReader, bind_reader, pure_reader, choose, choose_reader, same_reader, ok_err, bind_ok}
+use Rattle.file_parts.proofs.Readers.{chain, IsReader, bind_reader, choose, choose_reader, same_reader, ok_err, bind_ok}
 use Rattle.file_parts.proofs.TokenReaders.{left_reader, text_reader, opens_first}
 use Rattle.written_trees.specs.Written.{SetUse, OutcomeUse}
 use Rattle.written_trees.specs.Building.{BegunSet, BegunOutcome, set_place, outcome_place, new_set, used_set, new_outcome, used_outcome}

@@ -1,27 +1,24 @@
 -- Reading a node with places of faults gives what reading it without places does, where each set that is known has a list of
 -- actions, and each outcome pays all players. Nodes that are added keep to that.
-use Rattle.std.proofs.Common.{◌≡◌, ℕ, ◌-◌, ◌&&◌, true, false, if◌then◌else◌, nat_le, List, [], ◌∷◌, ◌++◌, length, slice_get, slice_set, codes, Option, Some, None, inl, inr, All, refl, sym, ap, ◌∙◌, subst}
+use Rattle.std.proofs.Common.{◌≡◌, ℕ, ◌-◌, ◌&&◌, nat_le, List, [], ◌∷◌, ◌++◌, length, slice_get, slice_set, codes, Option, Some, None, inl, inr, All, refl, sym, ◌∙◌, subst}
 use Rattle.std.proofs.lemmas.Option.{cond_some, same_Some}
 use Rattle.std.proofs.lemmas.List.Elements.{All-push, All-set, All-head, All-tail}
 use Rattle.std.specs.Prelude.{Ok, Err, IfSome}
 use Rattle.rational.specs.Rational.{ℚ}
 use Rattle.game_core.specs.declared.tree.Action.{Action}
-use Rattle.game_core.specs.declared.tree.Kind.TheVariants.{End}
-use Rattle.game_core.specs.Tree.{kind_of_owner}
 use Rattle.game_tokens.specs.declared.token.Token.{Token}
 use Rattle.file_parts.specs.Reading.{word_at, text_at, whole_at}
-use Rattle.file_parts.specs.Parsing.{wanted}
 use Rattle.file_parts.proofs.TokenReaders.{some_or_none}
-use Rattle.file_parts.proofs.Values.{value, value_chain, value_if, value_wanted}
+use Rattle.file_parts.proofs.Values.{value, value_chain, value_if}
 use Rattle.written_trees.specs.Written.{SetUse, OutcomeUse, WrittenNode}
 use Rattle.written_trees.specs.Described.{key_of}
 use Rattle.written_trees.specs.Building.{Begun, BegunSet, BegunOutcome, Branching, set_place, outcome_place, new_set, used_set, new_outcome, used_outcome, may_be_first, repeats_actions, repeats_payoffs, with_use, use_some_set, with_outcome_use, use_some_outcome, with_node, add_at, add_node, add_nodes}
 use Rattle.written_trees.specs.Laws.{IsActionList, IsSetUse, IsOutcomeUse, IsWrittenNode}
 use Rattle.tree_files.specs.TreeReading.{set_step_at, set_choice_at, player_at, own_choice_at, choice_step_at, outcome_step_at, next_at, is_word}
 use Rattle.tree_files.specs.TreeParsing.{parse_player, parse_set, parse_set_choice, parse_own_choice, parse_choice, parse_outcome, parse_next}
-use Rattle.tree_files.specs.declared.fault.EfgKind.TheVariants.{Node, UnknownPlayer}
+use Rattle.tree_files.specs.declared.fault.EfgKind.TheVariants.{UnknownPlayer}
 use Rattle.tree_files.proofs.ChoiceSteps.{no_word, no_name, by_chance, by_player, at_end, no_node}
-use Rattle.tree_files.proofs.NodeSteps.{ChoiceStep, OutcomeStep, with_both, next_in_steps}
+use Rattle.tree_files.proofs.NodeSteps.{with_both, next_in_steps}
 use Rattle.tree_files.proofs.NodesLaws.{parts_added}
 use Rattle.tree_files.proofs.TreeValues.{AreListed, ArePaid, value_set, value_outcome}
 use Rattle.lists.specs.Options.{◌>>=◌}

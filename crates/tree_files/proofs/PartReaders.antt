@@ -1,19 +1,19 @@
 -- Lists of actions and of payoffs are read token by token.
-use Rattle.std.proofs.Common.{◌≡◌, ℕ, zero, suc, ◌≤◌, nat_le, List, [], ◌∷◌, length, map, Bool, true, false, if◌then◌else◌, Option, Some, None, ◌⊎◌, inl, inr, refl, sym, ap, ◌∙◌, arith}
-use Rattle.std.specs.Prelude.{Result, Ok, Err}
+use Rattle.std.proofs.Common.{◌≡◌, ℕ, zero, suc, List, [], ◌∷◌, length, map, Bool, true, false, if◌then◌else◌, Option, Some, None, ◌⊎◌, inl, inr, refl, sym, arith}
+use Rattle.std.specs.Prelude.{Ok, Err}
 use Rattle.rational.specs.Rational.{ℚ, zero_ℚ}
 use Rattle.game_core.specs.declared.tree.Action.{Action}
 use Rattle.game_tokens.specs.declared.token.Token.{Token}
-use Rattle.game_tokens.specs.declared.token.Token.TheVariants.{Left, Right, Comma, Text, Number}
+use Rattle.game_tokens.specs.declared.token.Token.TheVariants.{Right, Comma, Text, Number}
 use Rattle.file_parts.specs.Reading.{left_at, right_at, text_at, number_at, behind_comma, payoff_start, texts_at}
 use Rattle.file_parts.specs.Parsing.{Parsed, ◌>>=◌, wanted, passed, parse_each}
-use Rattle.file_parts.proofs.Readers.{ReadsAs, IsReader, IsTokenReader, token_reader, bind_reader, pure_reader, each_reader, choose, choose_reader, same_reader, ok_err}
+use Rattle.file_parts.proofs.Readers.{IsReader, token_reader, bind_reader, pure_reader, each_reader, choose, choose_reader, same_reader, ok_err}
 use Rattle.file_parts.proofs.TokenReaders.{left_reader, text_reader}
 use Rattle.file_parts.proofs.TokenLaws.{le_passes}
 use Rattle.file_parts.proofs.PartReaders.{closed_texts, closed_reader}
 use Rattle.tree_files.specs.TreeReading.{own_action, closed_at}
 use Rattle.written_trees.proofs.InsertedKeys.{eq_self}
-use Rattle.tree_files.specs.TreeParsing.{parse_own_list, closes, has_text, has_number, parse_same, parse_probability, parse_repeated, parse_all_repeated, parse_repeated_list, parse_payoff, parse_payoffs_end, parse_first_payoffs, parse_same_payoff, parse_same_payoffs, parse_repeated_payoffs}
+use Rattle.tree_files.specs.TreeParsing.{parse_own_list, closes, has_text, parse_same, parse_probability, parse_repeated, parse_all_repeated, parse_repeated_list, parse_payoff, parse_payoffs_end, parse_first_payoffs, parse_same_payoff, parse_same_payoffs, parse_repeated_payoffs}
 use Rattle.tree_files.specs.declared.fault.EfgKind.{EfgKind}
 use Rattle.tree_files.specs.declared.fault.EfgKind.TheVariants.{Node, SetMismatch, OutcomeMismatch}
 use Rattle.rational.specs.Tests.{eq_ℚ}

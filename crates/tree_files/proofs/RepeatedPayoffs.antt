@@ -1,5 +1,5 @@
 -- Payoffs of a later use are compared with the first when all are read, or one by one.
-use Rattle.std.proofs.Common.{◌≡◌, ℕ, suc, true, false, inl, inr, if◌then◌else◌, List, [], ◌∷◌, length, Option, Some, None, refl, ◌∙◌}
+use Rattle.std.proofs.Common.{◌≡◌, ℕ, suc, inl, inr, if◌then◌else◌, List, [], ◌∷◌, length, Option, Some, None, refl, ◌∙◌}
 use Rattle.std.proofs.lemmas.Bool.{cases_Bool}
 use Rattle.std.specs.Cmp.Lexicographic.{pointwise}
 use Rattle.rational.specs.Rational.{ℚ}

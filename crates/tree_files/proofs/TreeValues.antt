@@ -1,8 +1,7 @@
 -- Reading parts of a tree with places of faults gives what reading them without places does.
-use Rattle.std.proofs.Common.{◌≡◌, ℕ, zero, suc, ◌-◌, ◌<◌, ◌&&◌, Bool, true, false, true≢false, if◌then◌else◌, nat_eq, nat_le, List, [], ◌∷◌, ◌++◌, length, map, slice_get, slice_set, get_or, codes, Option, Some, None, ◌⊎◌, inl, inr, All, refl, sym, ap, ◌∙◌, subst, arith, one-add}
+use Rattle.std.proofs.Common.{◌≡◌, ℕ, suc, ◌-◌, Bool, true, false, if◌then◌else◌, nat_eq, List, [], ◌∷◌, ◌++◌, length, map, slice_get, slice_set, Option, Some, None, ◌⊎◌, inl, inr, All, refl, sym, ap, ◌∙◌, one-add}
 use Rattle.std.proofs.lemmas.List.{length-map}
-use Rattle.std.proofs.lemmas.Option.{slice_get_within, get_or_from_slice_get}
-use Rattle.std.specs.Prelude.{Result, Ok, Err}
+use Rattle.std.specs.Prelude.{Ok, Err}
 use Rattle.std.specs.List.{position_or_len}
 use Rattle.rational.specs.Rational.{ℚ, ◌+ℚ◌, zero_ℚ, one_ℚ}
 use Rattle.rational.specs.Tests.{le_test, eq_ℚ}
@@ -10,25 +9,23 @@ use Rattle.frac128.specs.Steps.{unfit}
 use Rattle.frac128.specs.declared.steps.Op.TheVariants.{Add}
 use Rattle.game_core.specs.declared.tree.Action.{Action}
 use Rattle.game_tokens.specs.declared.token.Token.{Token}
-use Rattle.game_tokens.specs.declared.token.Token.TheVariants.{Left, Right, Text, Word, Number}
-use Rattle.file_parts.specs.Reading.{left_at, right_at, text_at, word_at, number_at, whole_at, optional_text_at, payoff_start, payoff_at, payoffs_at, texts_at, opens}
-use Rattle.file_parts.specs.Parsing.{Parsed, wanted, passed, parse_each}
-use Rattle.file_parts.proofs.Readers.{chain}
+use Rattle.game_tokens.specs.declared.token.Token.TheVariants.{Left, Text, Number}
+use Rattle.file_parts.specs.Reading.{left_at, right_at, number_at, whole_at, optional_text_at, payoff_start, payoff_at, payoffs_at, texts_at}
+use Rattle.file_parts.specs.Parsing.{passed, parse_each}
 use Rattle.file_parts.proofs.TokenReaders.{some_or_none}
 use Rattle.file_parts.proofs.Values.{value, value_wanted, value_passed, value_chain, value_if, value_each}
-use Rattle.written_trees.specs.Written.{SetUse, OutcomeUse}
 use Rattle.written_trees.specs.Described.{SetKey, same_set}
-use Rattle.written_trees.specs.Building.{Begun, BegunSet, BegunOutcome, key_of_begun, set_place, outcome_place, new_set, used_set, new_outcome, used_outcome, add_test, may_follow}
+use Rattle.written_trees.specs.Building.{BegunSet, BegunOutcome, key_of_begun, set_place, outcome_place, new_set, used_set, new_outcome, used_outcome, add_test, may_follow}
 use Rattle.written_trees.specs.Laws.{IsActionList}
 use Rattle.written_trees.proofs.SetUses.{same_set-Decides}
 use Rattle.tree_files.specs.TreeReading.{action_list_at, optional_at, set_use_at, outcome_use_at, closed_at, own_action, summed_at, first_list_at, repeated_at, all_repeated_at, later_list_at, positive_at, set_step_at, payoff_list_at, payoffs_repeated_at, later_payoffs_at, named_step_at, outcome_step_at}
-use Rattle.tree_files.specs.TreeParsing.{closes, has_text, has_number, sum_with, at_tokens, parse_chances, parse_closed, parse_own_list, parse_chance_list, parse_list_of, parse_first_list, parse_same, parse_probability, parse_repeated, parse_all_repeated, parse_repeated_list, parse_later_list, bare_use, parse_use, parse_set, parse_payoff, parse_payoffs_end, parse_first_payoffs, parse_same_payoff, parse_same_payoffs, parse_repeated_payoffs, parse_later_payoffs, bare_outcome_use, parse_outcome_use, parse_named, parse_outcome}
+use Rattle.tree_files.specs.TreeParsing.{closes, has_text, has_number, sum_with, parse_chances, parse_own_list, parse_chance_list, parse_first_list, parse_same, parse_repeated, parse_all_repeated, parse_repeated_list, parse_later_list, bare_use, parse_use, parse_set, parse_payoff, parse_first_payoffs, parse_same_payoff, parse_same_payoffs, parse_repeated_payoffs, parse_later_payoffs, bare_outcome_use, parse_outcome_use, parse_named, parse_outcome}
 use Rattle.tree_files.specs.declared.fault.EfgKind.{EfgKind}
 use Rattle.tree_files.specs.declared.fault.EfgKind.TheVariants.{Node, SetMismatch, OutcomeMismatch, Probability, ProbabilityRange}
-use Rattle.tree_files.proofs.ActionLists.{Summed, closed_sum, first_without, own_list_is, chance_list_is, later_without, later_list_is}
+use Rattle.tree_files.proofs.ActionLists.{closed_sum, first_without, own_list_is, chance_list_is, later_without, later_list_is}
 use Rattle.tree_files.proofs.RepeatedPayoffs.{later_opened}
 use Rattle.tree_files.proofs.SetSteps.{begun_step, used_step, step_is, first_comes, begins, goes_on}
-use Rattle.tree_files.proofs.NamedOutcomes.{begun, first_is, later_is}
+use Rattle.tree_files.proofs.NamedOutcomes.{first_is, later_is}
 use Rattle.lists.specs.Options.{◌>>=◌}
 use Rattle.std.proofs.lemmas.Bool.{cases_Bool}
 use Rattle.lists.proofs.Elements.{all_at}

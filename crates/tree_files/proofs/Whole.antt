@@ -1,5 +1,5 @@
 -- A file of a tree is read whole, and where reading stops the tokens so far begin a file, and no more of them do.
-use Rattle.std.proofs.Common.{◌≡◌, ℕ, suc, ◌+◌, ◌<◌, ◌≤◌, ◌^◌, if◌then◌else◌, List, [], ◌∷◌, ◌++◌, length, true, false, Some, ◌⊎◌, inl, inr, refl, sym, ap, ◌∙◌, subst, append_assoc, arith}
+use Rattle.std.proofs.Common.{◌≡◌, ℕ, suc, ◌+◌, ◌<◌, ◌≤◌, ◌^◌, if◌then◌else◌, List, [], ◌∷◌, ◌++◌, length, Some, ◌⊎◌, inl, inr, refl, sym, ap, ◌∙◌, subst, append_assoc, arith}
 use Rattle.std.proofs.lemmas.List.{append-nil}
 use Rattle.std.proofs.lemmas.List.Elements.{All-nil}
 use Rattle.std.specs.Prelude.{Result, Ok, Err, Option, None}
@@ -8,28 +8,27 @@ use Rattle.game_core.specs.Tree.{GameTree, Place, most_nodes}
 use Rattle.game_tokens.specs.declared.token.Token.{Token}
 use Rattle.game_tokens.specs.declared.token.Token.TheVariants.{Comma}
 use Rattle.file_parts.specs.Reading.{ends}
-use Rattle.file_parts.specs.Parsing.{Parsed, ◌>>=◌}
-use Rattle.file_parts.proofs.Readers.{IsStuck, reads_alone, bind_ok, bind_err, ok_same, err_same, ok_err, result_of, same_test, same_first, same_rest, same_front, both_cons, not_empty, cut}
-use Rattle.file_parts.proofs.TokenLaws.{end_is}
+use Rattle.file_parts.specs.Parsing.{◌>>=◌}
+use Rattle.file_parts.proofs.Readers.{reads_alone, bind_ok, bind_err, ok_same, err_same, ok_err, same_test, same_first, same_rest, same_front, both_cons, not_empty, cut}
 use Rattle.written_trees.specs.Written.{WrittenNode}
 use Rattle.written_trees.specs.Building.{Begun, BegunSet, BegunOutcome, nothing_begun, add_nodes, tree_begun, free_places}
 use Rattle.written_trees.specs.Laws.{IsActionList}
 use Rattle.written_trees.proofs.Built.{built_is_so}
 use Rattle.written_trees.proofs.Rebuilt.{described_is_so}
-use Rattle.written_trees.proofs.Standing.{stand_length}
+use Rattle.written_trees.proofs.Standing.{each_length}
 use Rattle.tree_files.specs.TreeFile.{IsFront, AreNodes, IsBegunFile, IsTreeFile}
-use Rattle.tree_files.specs.TreeReading.{Head, front_at, nodes_at, whole_nodes_at, and_then}
+use Rattle.tree_files.specs.TreeReading.{Head, front_at, nodes_at, whole_nodes_at}
 use Rattle.tree_files.specs.TreeParsing.{has_text, parse_head, parse_nodes, in_nodes, parse_all_nodes, parse_tree}
-use Rattle.tree_files.specs.TreeFaults.{IsFile, BeginsFile, CannotCome}
+use Rattle.tree_files.specs.TreeFaults.{IsFile, CannotCome}
 use Rattle.tree_files.specs.declared.fault.EfgKind.{EfgKind}
 use Rattle.tree_files.specs.declared.fault.EfgKind.TheVariants.{Node, Unfinished, Trailing}
 use Rattle.tree_files.proofs.FileLaws.{begun_front, tree_read, read_is_file as is_file_of}
-use Rattle.tree_files.proofs.NodesLaws.{BeginsWithNodes, all_written, and_then_ok}
+use Rattle.tree_files.proofs.NodesLaws.{all_written, and_then_ok}
 use Rattle.tree_files.proofs.NodeReaders.{text_first}
 use Rattle.tree_files.proofs.NodeValues.{Keeps}
 use Rattle.tree_files.proofs.MarkedNodes.{marked, marked_reader}
 use Rattle.tree_files.proofs.MarkedLaws.{StopsAsMarked, marked_is, marked_again, nodes_same, nodes_too, nodes_stop, nodes_end}
-use Rattle.tree_files.proofs.Heads.{ReadsHead, Stops, head_some, head_front, head_is, head_stops}
+use Rattle.tree_files.proofs.Heads.{ReadsHead, Stops, head_some, head_front, head_is}
 use Rattle.std.proofs.lemmas.Option.{same_Some}
 
 -- ---- the whole
@@ -106,7 +105,7 @@ nodes_begin front nodes x begun written f few n added = record {
 -- a begun file has no more nodes than the limit
 few_written : (tokens : List Token) (tree : GameTree) (free : List Place) (f : IsBegunFile tokens tree free) → length f.written ≤ most_nodes
 few_written tokens tree free f =
-    let same : length tree.nodes ≡ length f.written = stand_length f.written tree.nodes f.written f.describe.nodes_stand in
+    let same : length tree.nodes ≡ length f.written = each_length f.describe.keys f.describe.labels tree.nodes f.written f.describe.nodes_stand in
     subst (λ (n : ℕ). n ≤ most_nodes) same f.describe.begun.few_nodes
 
 -- The nodes of a begun file that begins with this head are read up to a comma.

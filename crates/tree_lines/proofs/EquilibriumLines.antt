@@ -1,6 +1,8 @@
 -- Lines tell profiles, and a tree has one list of equilibria.
 use Rattle.std.proofs.Common.{ℕ, ◌<◌, ◌≡◌, Some, List, length, map, Contains, sym, ap, ◌∙◌, subst}
 use Rattle.std.proofs.lemmas.List.Elements.{All-contains}
+use Rattle.game_trees.specs.TreeEntries.{tree_entries}
+use Rattle.game_trees.proofs.OwnSets.{IsAmong}
 use Rattle.rational.specs.Rational.{ℚ}
 use Rattle.game_theory.specs.Profiles.{IsProfile}
 use Rattle.game_theory.specs.Lines.{lines_text}
@@ -10,8 +12,7 @@ use Rattle.game_trees.specs.Trees.{Tree, IsTree}
 use Rattle.game_trees.specs.Behaviour.{pure}
 use Rattle.reduced_strategies.specs.Choices.{choice_at}
 use Rattle.reduced_strategies.specs.StrategicForm.{AreStrategies, completed}
-use Rattle.reduced_strategies.specs.TreeEntries.{tree_entries}
-use Rattle.reduced_strategies.proofs.Sets.{IsAmong, choice_at-map}
+use Rattle.reduced_strategies.proofs.Sets.{choice_at-map}
 use Rattle.reduced_strategies.proofs.StrategyProfiles.{first_actions-complete, completed-tell}
 use Rattle.tree_lines.specs.Laws.{LinesTellProfiles, OneTextOfEquilibria}
 use Rattle.tree_lines.specs.TreeEquilibria.{IsTreeEquilibriumLine, AreTreeEquilibria}

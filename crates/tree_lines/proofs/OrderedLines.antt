@@ -1,7 +1,10 @@
 -- The lines of profiles stand in the order of their places.
 use Rattle.std.proofs.Common.{ℕ, zero, suc, ◌+◌, ◌-◌, ◌<◌, ◌≤◌, ◌≡◌, inl, inr, List, [], ◌∷◌, ◌++◌, length, map, get_or, refl, sym, ap, ap₂, ◌∙◌, subst, subst₂, arith}
-use Rattle.std.proofs.lemmas.Bool.{cases_lt, cases_eq}
+use Rattle.std.proofs.lemmas.Bool.{cases_eq}
 use Rattle.std.proofs.lemmas.List.{length-map, map-append}
+use Rattle.game_trees.specs.TreeEntries.{tree_entries}
+use Rattle.game_trees.specs.OwnSets.{own_sets}
+use Rattle.game_trees.proofs.OwnSets.{IsAmong, AscendFrom, IsAmong-from, own_sets-tell, own_sets-ascend}
 use Rattle.lists.specs.Orders.{ComesBefore}
 use Rattle.game_theory.specs.Profiles.{IsProfile}
 use Rattle.game_theory.specs.Lines.{StandsBefore}
@@ -9,10 +12,9 @@ use Rattle.game_theory.proofs.ProfileLines.{StandsBefore-entries}
 use Rattle.game_theory.proofs.ProfileNumbers.{length-profile, profile-below}
 use Rattle.game_trees.specs.Trees.{Tree, IsTree}
 use Rattle.game_trees.specs.Behaviour.{pure}
-use Rattle.reduced_strategies.specs.Choices.{own_sets, choice_at}
+use Rattle.reduced_strategies.specs.Choices.{choice_at}
 use Rattle.reduced_strategies.specs.StrategicForm.{AreStrategies, list_of, completed}
-use Rattle.reduced_strategies.specs.TreeEntries.{tree_entries}
-use Rattle.reduced_strategies.proofs.Sets.{IsAmong, AscendFrom, own_sets-tell, own_sets-ascend, choice_at-first, choice_at-later, choice_at-map, choice_at-below, IsAmong-from}
+use Rattle.reduced_strategies.proofs.Sets.{choice_at-first, choice_at-later}
 use Rattle.reduced_strategies.proofs.StrategyProfiles.{given_at-own, list_of-reduced, strategies-count}
 use Rattle.tree_lines.specs.Orders.{completed_list, completed_of, AreOrders, ordered}
 use Rattle.tree_lines.specs.TreeEquilibria.{profile_line}

@@ -3,15 +3,15 @@ use Rattle.std.proofs.Common.{ℕ, zero, suc, ◌+◌, ◌<◌, ◌≤◌, ◌�
 use Rattle.std.specs.List.{flat_map}
 use Rattle.std.proofs.lemmas.Bool.{cases_eq}
 use Rattle.std.proofs.lemmas.List.Concat.{flat_map-append}
+use Rattle.game_trees.specs.TreeEntries.{own_entries, entries_from, tree_entries}
+use Rattle.game_trees.specs.OwnSets.{own_sets}
+use Rattle.game_trees.proofs.OwnSets.{IsAmong, own_sets-has, own_sets-tell}
 use Rattle.rational.specs.Rational.{ℚ}
 use Rattle.game_theory.specs.Profiles.{IsProfile}
 use Rattle.game_theory.specs.Mixed.{sure, pure as pure_profile}
 use Rattle.game_theory.specs.Lines.{listed, entries}
 use Rattle.game_trees.specs.Trees.{Tree}
 use Rattle.game_trees.specs.Behaviour.{pure}
-use Rattle.reduced_strategies.specs.Choices.{own_sets}
-use Rattle.reduced_strategies.specs.TreeEntries.{own_entries, entries_from, tree_entries}
-use Rattle.reduced_strategies.proofs.Sets.{IsAmong, own_sets-has, own_sets-tell}
 
 -- the own sets of n players from player i on
 abbrev pub sets_from : Tree → ℕ → ℕ → List ℕ

@@ -1,5 +1,5 @@
 -- The ranks of pure profiles in the order of their lines, from 0, and the lines of flagged profiles.
-use Rattle.std.specs.Prelude.{ℕ, zero, suc, ◌/◌, ◌%◌, ◌<◌, ◌↔◌, Bool, cond, IsTrue, List, [], ◌∷◌, ◌++◌, length, map}
+use Rattle.std.specs.Prelude.{ℕ, zero, suc, ◌<◌, ◌↔◌, Bool, cond, IsTrue, List, [], ◌∷◌, ◌++◌, length, map}
 use Rattle.rational.specs.Rational.{ℚ}
 use Rattle.game_theory.specs.Profiles.{profile_count, number_of, profile_at}
 use Rattle.game_theory.specs.Ranks.{ranked}

@@ -1,5 +1,6 @@
 -- The lines of the pure equilibria of a tree.
 use Rattle.std.specs.Prelude.{ℕ, ◌≡◌, List, length, map, All, Contains}
+use Rattle.game_trees.specs.TreeEntries.{tree_entries}
 use Rattle.rational.specs.Rational.{ℚ}
 use Rattle.game_theory.specs.Profiles.{IsProfile}
 use Rattle.game_theory.specs.Mixed.{pure as pure_profile}
@@ -9,7 +10,6 @@ use Rattle.game_trees.specs.Trees.{Tree}
 use Rattle.game_trees.specs.Behaviour.{pure}
 use Rattle.game_trees.specs.Equilibrium.{IsEquilibrium}
 use Rattle.reduced_strategies.specs.StrategicForm.{completed, strategic_form}
-use Rattle.reduced_strategies.specs.TreeEntries.{tree_entries}
 
 -- the behaviour of a pure profile of reduced strategies, with the first action at each set to which it gives none
 abbrev pub profile_line : Tree → List (List (List ℕ)) → List ℕ → List ℚ

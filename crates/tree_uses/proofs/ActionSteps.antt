@@ -1,8 +1,8 @@
 -- Lists of actions, as loops read them.
-use Rattle.std.proofs.Common.{◌≡◌, ℕ, suc, ◌+◌, ◌<◌, List, [], ◌∷◌, ◌++◌, length, map, drop, get_or, Option, Some, None, true, false, if◌then◌else◌, refl, sym, ap, ◌∙◌, subst, append_assoc, add-one}
+use Rattle.std.proofs.Common.{◌≡◌, ℕ, suc, ◌+◌, ◌<◌, List, [], ◌∷◌, ◌++◌, length, map, drop, get_or, Option, Some, None, true, false, refl, sym, ap, ◌∙◌, subst, append_assoc, add-one}
 use Rattle.std.proofs.lemmas.List.{append-nil, length-map}
 use Rattle.std.proofs.Math.Seq.{drop-cons}
-use Rattle.std.specs.Prelude.{Result, Ok, Err}
+use Rattle.std.specs.Prelude.{Ok, Err}
 use Rattle.rational.specs.Rational.{ℚ, zero_ℚ, one_ℚ}
 use Rattle.game_core.specs.declared.tree.Action.{Action}
 use Rattle.file_parts.specs.declared.refusal.Refusal.{Refusal}

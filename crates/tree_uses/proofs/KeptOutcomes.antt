@@ -1,12 +1,12 @@
 -- The outcomes that are kept, when one of them is used.
 use Rattle.std.proofs.Common.{◌≡◌, ℕ, ◌<◌, ◌≤◌, Bool, true, false, inl, inr, nat_eq, List, [], ◌∷◌, ◌++◌, length, map, get_or, slice_get, slice_set, Option, Some, None, true≢false, sym, ap, ap₂, ◌∙◌, refl, arith}
-use Rattle.std.specs.Prelude.{Ok, Err}
+use Rattle.std.specs.Prelude.{Ok}
 use Rattle.std.specs.List.{position_or_len, list_any}
 use Rattle.std.proofs.Math.Seq.{map-set_same}
 use Rattle.std.proofs.lemmas.Bool.{cases_Bool}
 use Rattle.std.proofs.lemmas.Bool.Decides.{Decides-eqb}
 use Rattle.std.proofs.lemmas.List.{length-map, map-set, map-append, get_or-map}
-use Rattle.std.proofs.lemmas.Option.{slice_get-get_or, slice_get_past, same_Some}
+use Rattle.std.proofs.lemmas.Option.{slice_get-get_or, slice_get_past}
 use Rattle.indexmap.specs.IndexSet.{insert_key}
 use Rattle.file_parts.specs.declared.refusal.Refusal.{Refusal}
 use Rattle.file_parts.specs.Reading.{optional_text_at}
@@ -21,7 +21,6 @@ use Rattle.tree_uses.specs.Uses.{begun_outcome, begun_outcomes, AreOutcomes}
 use Rattle.tree_files.specs.TreeParsing.{bare_outcome_use, parse_first_payoffs, parse_later_payoffs, parse_outcome_use, parse_named}
 use Rattle.tree_files.specs.declared.fault.EfgKind.{EfgKind}
 use Rattle.std.specs.Option.{option_or}
-use Rattle.lists.proofs.Options.{bind_some}
 use Rattle.game_tokens.specs.declared.token.Token.{Token}
 
 -- the number of an outcome

@@ -1,8 +1,8 @@
 -- A set that a node uses, as the reader finds it among those before it.
 use Rattle.std.proofs.Common.{◌≡◌, ℕ, ◌+◌, Bool, true, false, not, ◌||◌, List, [], ◌∷◌, ◌++◌, length, map, option_map, slice_get, slice_set, get_or, ◌<◌, Option, Some, None, if◌then◌else◌, refl, sym, ap, ap₂, ◌∙◌, arith}
-use Rattle.std.specs.Prelude.{Ok, Err}
+use Rattle.std.specs.Prelude.{Ok}
 use Rattle.std.specs.List.{position_or_len, list_any}
-use Rattle.std.proofs.lemmas.Option.{slice_get-map, slice_get-get_or, same_Some}
+use Rattle.std.proofs.lemmas.Option.{slice_get-map, slice_get-get_or}
 use Rattle.std.proofs.lemmas.List.{map-append, map-set, length-map}
 use Rattle.std.proofs.Math.Seq.{map-set_same}
 use Rattle.file_parts.specs.declared.refusal.Refusal.{Refusal}
@@ -23,10 +23,8 @@ use Rattle.tree_files.specs.TreeReading.{positive_at}
 use Rattle.tree_files.specs.TreeParsing.{bare_use, parse_first_list, parse_later_list, parse_use, parse_set}
 use Rattle.tree_files.specs.declared.fault.EfgKind.{EfgKind}
 use Rattle.tree_files.specs.declared.fault.EfgKind.TheVariants.{Node}
-use Rattle.std.specs.Option.{option_or}
 use Rattle.lists.specs.Options.{◌>>=◌}
 use Rattle.game_tokens.specs.declared.token.Token.{Token}
-use Rattle.game_tokens.specs.declared.token.Token.TheVariants.{Left}
 
 -- ---- places
 -- whether one passes there

@@ -8,7 +8,7 @@ use Rattle.rational.specs.Gcd.{gcd}
 use Rattle.rational.specs.Rational.{ℚ, whole, frac, ◌+ℚ◌, ◌-ℚ◌}
 use Rattle.rings.proofs.IntegerRing.{integer_ring}
 use Rattle.rings.proofs.Ring.{ring, num, ◌:*◌, ◌:-◌, :neg, A}
-use Rattle.rational.proofs.Parts.{whole-num, whole-den, whole-mul, whole-neg, whole-add, abs-neg}
+use Rattle.rational.proofs.Parts.{whole-num, whole-den, whole-mul, whole-neg, whole-add}
 use Rattle.rational.specs.LowestTerms.{nat_abs-div_ℤ}
 use Rattle.frac128.specs.declared.steps.Unfit.{Unfit}
 use Rattle.frac128.specs.Fraction.{PartFits, Fits, quotient}

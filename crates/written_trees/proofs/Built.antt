@@ -1,23 +1,26 @@
 -- What is built is described.
-use Rattle.std.proofs.Common.{◌≡◌, ℕ, ◌<◌, ◌^◌, true, List, [], ◌∷◌, ◌++◌, length, map, slice_get, All, IfSome, Option, Some, None, refl, sym, ap, ◌∙◌, subst, arith}
+use Rattle.std.proofs.Common.{◌≡◌, ℕ, ◌<◌, ◌^◌, true, nat_eq, List, [], ◌∷◌, ◌++◌, length, map, slice_get, All, IfSome, Option, Some, None, refl, sym, ap, ◌∙◌, subst, arith}
+use Rattle.std.proofs.lemmas.Bool.Decides.{Decides-eqb}
 use Rattle.std.proofs.lemmas.List.{length-map}
 use Rattle.std.proofs.lemmas.List.Elements.{All-nil, All-head, All-push, All-set, All-pop, All-map, All-weaker, All-get_or, All-filter, filter_passes}
 use Rattle.std.proofs.lemmas.Option.{slice_get-map, slice_get_within, get_or_from_slice_get, same_Some}
+use Rattle.written_trees.proofs.Numbered.{sets_of, outcomes_of}
 use Rattle.lists.proofs.Options.{bind_some, chosen}
 use Rattle.game_core.specs.declared.tree.Action.{Action}
 use Rattle.game_core.specs.declared.tree.Node.{Node}
 use Rattle.game_core.specs.Tree.{GameTree, InformationSet, IsWithin, ProbabilitiesFit, NodeFits, SetFits}
 use Rattle.written_trees.specs.Written.{SetUse, OutcomeUse, WrittenNode}
-use Rattle.written_trees.specs.Described.{SetKey, key_of, same_set, set_uses, outcome_uses, sets_of, outcomes_of, uses_of_set, uses_of_outcome, described_set, described_outcome, IsBegunTree, IsFirstList, AgreeOnActions}
+use Rattle.written_trees.specs.Described.{SetKey, key_of, same_set, set_uses, outcome_uses, uses_of_set, uses_of_outcome, described_set, described_outcome, IsBegunTree, IsFirstList, AgreeOnActions}
 use Rattle.written_trees.specs.Building.{BegunSet, BegunOutcome, outcome_place, repeats_payoffs, new_outcome, used_outcome, with_outcome_use, use_outcome, use_some_outcome, free_places, Begun, nothing_begun, add_nodes, finished_set, finished_outcome, tree_begun}
 use Rattle.written_trees.specs.Laws.{HasNoProbability, IsActionList, IsSetUse, IsOutcomeUse, IsWrittenNode, BuiltIsDescribed}
 use Rattle.written_trees.proofs.UseSteps.{begun_set, sets_begun, AllAgree, begun_outcome, outcomes_begun, PayoffsAgree}
 use Rattle.written_trees.proofs.Options.{mapped_some}
+use Rattle.written_trees.proofs.KeysInOrder.{inserted}
 use Rattle.written_trees.proofs.Lists.{map-map}
 use Rattle.written_trees.proofs.Depths.{few_edges_of}
 use Rattle.written_trees.proofs.Uses.{sets_more, outcomes_more, all_uses}
 use Rattle.written_trees.proofs.SetUses.{same_set-Decides}
-use Rattle.written_trees.proofs.Standing.{StandsIn, Stand, stand_length, stand-push, stand_longer, stand_all, IsUsedIn, all_used, set_within, outcome_within, kind_there}
+use Rattle.written_trees.proofs.Standing.{StandsIn, Stand, stand_length, stand-push, stand_longer, stand_all, stand_for, IsUsedIn, all_used, set_within, outcome_within, kind_there}
 use Rattle.written_trees.proofs.Steps.{new_node, Step, grown, built_so}
 use Rattle.written_trees.proofs.Sound.{IsSound, sound}
 use Rattle.written_trees.proofs.UseOrder.{sets-in_order, outcomes-in_order}
@@ -204,8 +207,12 @@ pub built_is_so : BuiltIsDescribed
 built_is_so title players written begun few are built =
     let h = from_uses written begun built in
     record {
+      keys = sets_of (set_uses written);
+      labels = outcomes_of (outcome_uses written);
+      keys_are = inserted same_set same_set-Decides (map (λ x. key_of x.1) (set_uses written));
+      labels_are = inserted nat_eq Decides-eqb (map (λ x. x.1.label) (outcome_uses written));
       begun = is_begun_tree title players written begun are built few;
-      nodes_stand = h.nodes_stand;
+      nodes_stand = stand_for written begun.nodes written h.nodes_stand (all_used written);
       sets_are = rw h.sets_are (sets_described (set_uses written));
       outcomes_are = rw h.outcomes_are (outcomes_described (outcome_uses written));
       sets_agree = h.sets_agree;

@@ -1,16 +1,14 @@
 -- The tests of probabilities and payoffs say what the definitions say.
-use Rattle.std.proofs.Common.{◌≡◌, ℕ, zero, suc, ◌<◌, nat_eq, List, [], ◌∷◌, length, map, Option, Some, None, All, Decides, IfSome, refl, sym, ap, ◌∙◌, subst, arith}
-use Rattle.std.specs.Ordering.{int_eq}
+use Rattle.std.proofs.Common.{◌≡◌, ℕ, zero, suc, ◌<◌, List, [], ◌∷◌, length, map, Option, Some, None, All, Decides, IfSome, refl, sym, ap, ◌∙◌, subst, arith}
 use Rattle.std.proofs.lemmas.List.{length-map}
 use Rattle.std.proofs.lemmas.List.Elements.{All-nil, All-cons, All-head, All-tail, All-map}
-use Rattle.std.proofs.lemmas.Bool.Decides.{Decides-eqb, Decides-int_eq, Decides-ltb, Decides-and, Decides-like}
+use Rattle.std.proofs.lemmas.Bool.Decides.{Decides-ltb, Decides-and, Decides-like}
 use Rattle.std.proofs.lemmas.Slice.Eq.{slice_eq-Decides}
 use Rattle.rational.specs.Tests.{eq_ℚ}
 use Rattle.rational.specs.Rational.{ℚ, ◌+ℚ◌, ◌≤ℚ◌, zero_ℚ, one_ℚ}
 use Rattle.rational.specs.Sum.{sum_to}
 use Rattle.rational.proofs.Decide.{le_test-true, eq_ℚ-decides}
 use Rattle.rational.proofs.Field.{le-add_left}
-use Rattle.rational.proofs.Fractions.{equal_by_parts}
 use Rattle.rational.proofs.RationalRing.{+ℚ_assoc, +ℚ-zero}
 use Rattle.rational.proofs.Rules.{zero-+ℚ}
 use Rattle.rational.proofs.Sums.{sum_to-first, sum_to-nonneg}

@@ -4,9 +4,11 @@ pub mod Chances
 pub mod Depths
 pub mod FirstUses
 pub mod InsertedKeys
+pub mod KeysInOrder
 pub mod Limits
 pub mod Lists
 pub mod Members
+pub mod Numbered
 pub mod Options
 pub mod OutcomeUses
 pub mod Places

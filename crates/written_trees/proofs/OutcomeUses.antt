@@ -4,10 +4,11 @@ use Rattle.std.specs.List.{position_or_len}
 use Rattle.std.proofs.lemmas.Bool.Decides.{Decides-eqb}
 use Rattle.std.proofs.lemmas.List.{map-append}
 use Rattle.std.proofs.lemmas.List.Elements.{All-nil, All-push}
+use Rattle.written_trees.proofs.Numbered.{outcomes_of}
 use Rattle.lists.specs.Options.{◌>>=◌}
 use Rattle.rational.specs.Rational.{ℚ}
 use Rattle.written_trees.specs.Written.{OutcomeUse}
-use Rattle.written_trees.specs.Described.{outcomes_of, uses_of_outcome, first_some, or_empty, AgreeOnPayoffs}
+use Rattle.written_trees.specs.Described.{uses_of_outcome, first_some, or_empty, AgreeOnPayoffs}
 use Rattle.written_trees.specs.Building.{BegunOutcome, outcome_place, repeats_payoffs, new_outcome, used_outcome, with_outcome_use, use_outcome}
 use Rattle.written_trees.proofs.Chances.{repeats_payoffs-Decides}
 use Rattle.written_trees.proofs.InsertedKeys.{position-map}

@@ -1,21 +1,25 @@
 -- What is described is built.
-use Rattle.std.proofs.Common.{◌≡◌, ℕ, ◌≤◌, List, [], ◌∷◌, ◌++◌, length, map, Some, refl, sym, ap, ap₂, ◌∙◌, length-append, arith}
+use Rattle.std.proofs.Common.{◌≡◌, ℕ, ◌≤◌, List, [], ◌∷◌, ◌++◌, length, map, Some, nat_eq, refl, sym, ap, ap₂, ◌∙◌, subst₂, length-append, arith}
+use Rattle.std.proofs.lemmas.Bool.Decides.{Decides-eqb}
 use Rattle.std.proofs.lemmas.List.{length-map}
+use Rattle.written_trees.proofs.Numbered.{sets_of, outcomes_of, AreNumberedFor}
 use Rattle.lists.specs.Options.{◌>>=◌}
 use Rattle.game_core.specs.declared.tree.Node.{Node}
 use Rattle.game_core.specs.Tree.{Place, IsWithin, LiesBelowRoot, most_nodes, most_depth}
 use Rattle.written_trees.specs.Written.{WrittenNode}
-use Rattle.written_trees.specs.Described.{set_uses, outcome_uses, sets_of}
+use Rattle.written_trees.specs.Described.{key_of, same_set, set_uses, outcome_uses, uses_of_set, uses_of_outcome, described_set, described_outcome}
 use Rattle.written_trees.specs.Building.{BegunSet, Branching, Begun, nothing_begun, free_places, take_place, add_nodes, finished_set, tree_begun}
 use Rattle.written_trees.specs.Laws.{DescribedIsBuilt}
 use Rattle.written_trees.proofs.UseSteps.{sets_begun, AllAgree, outcomes_begun, PayoffsAgree}
+use Rattle.written_trees.proofs.KeysInOrder.{determined}
 use Rattle.written_trees.proofs.Lists.{at_end}
 use Rattle.written_trees.proofs.Depths.{lies_longer, lies_new}
 use Rattle.written_trees.proofs.Places.{free_places-take, order_less, order_once}
 use Rattle.written_trees.proofs.Members.{NameSets}
 use Rattle.written_trees.proofs.SetGrowth.{used_number, grows}
 use Rattle.written_trees.proofs.Uses.{sets_more, outcomes_more}
-use Rattle.written_trees.proofs.Standing.{StandsIn, Stand, StandBefore, stand_before, stand_length, stand_shorter, stand_all, IsUsedIn, all_used, set_within}
+use Rattle.written_trees.proofs.SetUses.{same_set-Decides}
+use Rattle.written_trees.proofs.Standing.{numbered_for, StandsIn, Stand, StandBefore, stand_before, stand_length, stand_shorter, stand_all, IsUsedIn, all_used, set_within}
 use Rattle.written_trees.proofs.Steps.{new_node, Step, grown, next_node, add_nodes-push, step_again}
 use Rattle.written_trees.proofs.Sound.{AreBranchings, AreInOrder, root_place, order_stayed, IsSound, sound}
 use Rattle.written_trees.proofs.Built.{IsFromUses, from_uses, node_stands, sets_described, outcomes_described}
@@ -170,9 +174,11 @@ built_to = at_end (λ written. (nodes : List Node) (free : List Place) → IsDes
 -- what is described is built
 pub described_is_so : DescribedIsBuilt
 described_is_so written t free h =
-    let sets : t.sets ≡ map finished_set (sets_begun (set_uses written)) = h.sets_are ∙ sym (sets_described (set_uses written)) in
+    let keys : h.keys ≡ sets_of (set_uses written) = determined same_set same_set-Decides (map (λ x. key_of x.1) (set_uses written)) h.keys h.keys_are in
+    let labels : h.labels ≡ outcomes_of (outcome_uses written) = determined nat_eq Decides-eqb (map (λ x. x.1.label) (outcome_uses written)) h.labels h.labels_are in
+    let sets : t.sets ≡ map finished_set (sets_begun (set_uses written)) = h.sets_are ∙ ap (λ keys. map (λ key. described_set key (uses_of_set key (set_uses written))) keys) keys ∙ sym (sets_described (set_uses written)) in
     let described : IsDescribed written t.nodes free = record {
-      nodes_stand = h.nodes_stand;
+      nodes_stand = subst₂ (λ keys labels. AreNumberedFor keys labels t.nodes written) keys labels (numbered_for _ h.keys _ h.labels h.keys_are h.labels_are t.nodes written h.nodes_stand);
       in_order = rw sets at h.begun.in_prefix_order;
       few_nodes = h.begun.few_nodes;
       few_edges = h.begun.few_edges;
@@ -182,7 +188,7 @@ described_is_so written t free h =
     let b = built_to written t.nodes free described in
     let from = from_uses written b.begun b.is_built in
     let order : AreInOrder b.begun.sets b.begun.nodes free = same_order _ b.begun.sets t.nodes b.begun.nodes free from.sets_are b.nodes_are described.in_order in
-    let outcomes = h.outcomes_are ∙ sym (outcomes_described (outcome_uses written)) in
+    let outcomes = h.outcomes_are ∙ ap (λ labels. map (λ label. described_outcome label (uses_of_outcome label (outcome_uses written))) labels) labels ∙ sym (outcomes_described (outcome_uses written)) in
     let tree : record { title = t.title; players = t.players; nodes = t.nodes; sets = t.sets; outcomes = t.outcomes } ≡ tree_begun t.title t.players b.begun = rw (sets, outcomes, from.sets_are, from.outcomes_are, b.nodes_are) refl in
     record {
       begun = b.begun;

@@ -4,10 +4,11 @@ use Rattle.std.specs.List.{position_or_len}
 use Rattle.std.proofs.lemmas.Bool.Decides.{Decides-eqb, Decides-and, Decides-like}
 use Rattle.std.proofs.lemmas.List.{map-append}
 use Rattle.std.proofs.lemmas.List.Elements.{All-nil, All-push}
+use Rattle.written_trees.proofs.Numbered.{sets_of}
 use Rattle.lists.specs.Options.{◌>>=◌}
 use Rattle.game_core.specs.declared.tree.Action.{Action}
 use Rattle.written_trees.specs.Written.{SetUse}
-use Rattle.written_trees.specs.Described.{SetKey, key_of, same_owner, same_set, sets_of, uses_of_set, first_some, or_empty, RepeatsActions, AgreeOnActions}
+use Rattle.written_trees.specs.Described.{SetKey, key_of, same_owner, same_set, uses_of_set, first_some, or_empty, RepeatsActions, AgreeOnActions}
 use Rattle.written_trees.specs.Building.{BegunSet, key_of_begun, set_place, may_be_first, repeats_actions, new_set, used_set, with_use, use_set}
 use Rattle.written_trees.proofs.Chances.{may_be_first-Decides, repeats_actions-Decides}
 use Rattle.written_trees.proofs.InsertedKeys.{position-map}

@@ -1,14 +1,16 @@
 -- The nodes of a tree beside the written nodes that they stand for.
-use Rattle.std.proofs.Common.{◌≡◌, ℕ, suc, nat_eq, List, [], ◌∷◌, ◌++◌, length, map, slice_get, All, IfSome, Option, Some, None, option_map, refl, sym, ap, ◌∙◌}
+use Rattle.std.proofs.Common.{◌≡◌, ℕ, suc, nat_eq, List, [], ◌∷◌, ◌++◌, length, map, slice_get, All, IfSome, Option, Some, None, option_map, refl, sym, ap, ◌∙◌, subst}
 use Rattle.std.specs.List.{position_or_len}
 use Rattle.std.proofs.lemmas.Bool.Decides.{Decides-eqb}
 use Rattle.std.proofs.lemmas.List.Elements.{All-nil, All-cons, All-head, All-tail, All-push, All-weaker}
 use Rattle.std.proofs.lemmas.Option.{slice_get_within, slice_get-map, get_or_from_slice_get}
+use Rattle.written_trees.proofs.Numbered.{sets_of, outcomes_of, set_number, outcome_number, IsNumberedFor, AreNumberedFor}
 use Rattle.game_core.specs.declared.tree.Node.{Node}
 use Rattle.game_core.specs.Tree.{InformationSet, IsWithin, kind_of_owner, kind_at}
 use Rattle.written_trees.specs.Written.{SetUse, OutcomeUse, WrittenNode}
-use Rattle.written_trees.specs.Described.{key_of, same_set, set_uses, outcome_uses, sets_of, outcomes_of, kind_of_use, set_number, outcome_number, StandsFor, StandForEach}
+use Rattle.written_trees.specs.Described.{key_of, same_set, set_uses, outcome_uses, kind_of_use, SetKey, Names, AreFirstUses, StandsFor, StandForEach}
 use Rattle.written_trees.proofs.InsertedKeys.{slice_get-found}
+use Rattle.written_trees.proofs.KeysInOrder.{names_number, number_names}
 use Rattle.written_trees.proofs.Lists.{at_end}
 use Rattle.written_trees.proofs.SetUses.{same_set-Decides}
 use Rattle.written_trees.proofs.Uses.{IsUsedSet, IsUsedOutcome, sets_more, outcomes_more}
@@ -16,11 +18,11 @@ use Rattle.written_trees.proofs.Uses.{IsUsedSet, IsUsedOutcome, sets_more, outco
 -- ---- nodes that stand for each
 -- a node stands for a written one, with the sets and the outcomes that all written nodes use
 abbrev pub StandsIn : List WrittenNode → Node → WrittenNode → Type 0
-StandsIn all node one = StandsFor (sets_of (set_uses all)) (outcomes_of (outcome_uses all)) node one
+StandsIn all node one = IsNumberedFor (sets_of (set_uses all)) (outcomes_of (outcome_uses all)) node one
 
 -- nodes stand for written ones
 abbrev pub Stand : List WrittenNode → List Node → List WrittenNode → Type 0
-Stand all nodes written = StandForEach (sets_of (set_uses all)) (outcomes_of (outcome_uses all)) nodes written
+Stand all nodes written = AreNumberedFor (sets_of (set_uses all)) (outcomes_of (outcome_uses all)) nodes written
 
 -- there are as many
 pub stand_length : (all : List WrittenNode) (nodes : List Node) (written : List WrittenNode) → Stand all nodes written → length nodes ≡ length written
@@ -28,6 +30,12 @@ stand_length all [] [] h = refl
 stand_length all [] (one ∷ written) h = absurd h
 stand_length all (node ∷ nodes) [] h = absurd h
 stand_length all (node ∷ nodes) (one ∷ written) h = ap suc (stand_length all nodes written h.1)
+
+pub each_length : (keys : List SetKey) (labels : List ℕ) (nodes : List Node) (written : List WrittenNode) → StandForEach keys labels nodes written → length nodes ≡ length written
+each_length keys labels [] [] h = refl
+each_length keys labels [] (one ∷ written) h = absurd h
+each_length keys labels (node ∷ nodes) [] h = absurd h
+each_length keys labels (node ∷ nodes) (one ∷ written) h = ap suc (each_length keys labels nodes written h.1)
 
 -- one more stands for one more
 pub stand-push : (all : List WrittenNode) (nodes : List Node) (node : Node) (written : List WrittenNode) (one : WrittenNode) → Stand all nodes written → StandsIn all node one → Stand all (nodes ++ node ∷ []) (written ++ one ∷ [])
@@ -133,3 +141,33 @@ kind_there uses sets (Some u) owners h =
     let at = position_or_len (same_set (key_of u)) (sets_of uses) in
     let there : slice_get (map (λ key. key.0) (sets_of uses)) at ≡ Some u.owner = slice_get-map (λ key. key.0) (sets_of uses) at ∙ ap (option_map (λ key. key.0)) (key_there uses u h) in
     ap kind_of_owner (sym (rw owners (get_or_from_slice_get _ at u.owner None there)))
+
+-- ---- the keys that numbers name
+-- nodes with the numbers of used sets and outcomes stand for the written ones
+pub stand_for : (all : List WrittenNode) (nodes : List Node) (written : List WrittenNode) → Stand all nodes written → All (IsUsedIn all) written → StandForEach (sets_of (set_uses all)) (outcomes_of (outcome_uses all)) nodes written
+stand_for all [] [] h u = tt
+stand_for all [] (one ∷ written) h u = absurd h
+stand_for all (node ∷ nodes) [] h u = absurd h
+stand_for all (node ∷ nodes) (one ∷ written) h u =
+    let used = All-head (IsUsedIn all) one written u in
+    let keys = sets_of (set_uses all) in
+    let labels = outcomes_of (outcome_uses all) in
+    let stands : StandsFor keys labels node one = record {
+      kind_is = h.0.kind_is;
+      set_is = subst (λ n. Names keys n (option_map key_of one.set)) (sym h.0.set_is) (number_names same_set same_set-Decides key_of keys one.set used.set_used);
+      outcome_is = subst (λ n. Names labels n (option_map (λ (u : OutcomeUse). u.label) one.outcome)) (sym h.0.outcome_is) (number_names nat_eq Decides-eqb (λ (u : OutcomeUse). u.label) labels one.outcome used.outcome_used);
+    } in
+    (stands, stand_for all nodes written h.1 (All-tail (IsUsedIn all) one written u))
+
+-- nodes that stand for written ones have those numbers
+pub numbered_for : (used keys : List SetKey) (given labels : List ℕ) → AreFirstUses used keys → AreFirstUses given labels → (nodes : List Node) (written : List WrittenNode) → StandForEach keys labels nodes written → AreNumberedFor keys labels nodes written
+numbered_for used keys given labels k l [] [] h = tt
+numbered_for used keys given labels k l [] (one ∷ written) h = absurd h
+numbered_for used keys given labels k l (node ∷ nodes) [] h = absurd h
+numbered_for used keys given labels k l (node ∷ nodes) (one ∷ written) h =
+    let numbered : IsNumberedFor keys labels node one = record {
+      kind_is = h.0.kind_is;
+      set_is = names_number same_set same_set-Decides key_of used keys node.set one.set k h.0.set_is;
+      outcome_is = names_number nat_eq Decides-eqb (λ (u : OutcomeUse). u.label) given labels node.outcome one.outcome l h.0.outcome_is;
+    } in
+    (numbered, numbered_for used keys given labels k l nodes written h.1)

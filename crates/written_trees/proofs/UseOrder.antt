@@ -5,12 +5,13 @@ use Rattle.std.proofs.lemmas.Bool.{cases_Bool}
 use Rattle.std.proofs.lemmas.Bool.Decides.{Decides-eqb}
 use Rattle.std.proofs.lemmas.List.{length_push}
 use Rattle.std.proofs.lemmas.Option.{slice_get_within}
+use Rattle.written_trees.proofs.Numbered.{sets_of, outcomes_of, AreNumberedFor}
 use Rattle.indexmap.specs.IndexSet.{insert_key, insert_all}
 use Rattle.game_core.specs.declared.tree.Node.{Node}
 use Rattle.game_core.specs.Tree.{AreInOrderOfFirstUse}
 use Rattle.game_core.proofs.FirstUse.{AreNumberedFrom, in_order}
 use Rattle.written_trees.specs.Written.{OutcomeUse, WrittenNode}
-use Rattle.written_trees.specs.Described.{SetKey, key_of, same_set, with_number, uses_from, set_uses, outcome_uses, sets_of, outcomes_of, StandForEach}
+use Rattle.written_trees.specs.Described.{SetKey, key_of, same_set, with_number, uses_from, set_uses, outcome_uses}
 use Rattle.written_trees.proofs.InsertedKeys.{or_true, eq_self, slice_get-found, position-none, position-kept, position-inserted, insert_key-known, insert_key-new, any_inserted}
 use Rattle.written_trees.proofs.SetUses.{same_set-Decides}
 
@@ -79,20 +80,20 @@ number-place eq key keys None = refl
 number-place eq key keys (Some u) = refl
 
 -- the sets that nodes name
-set-places : (keys : List SetKey) (labels : List ℕ) (nodes : List Node) (written : List WrittenNode) → StandForEach keys labels nodes written → map (λ node. node.set) nodes ≡ places same_set same_set-Decides keys (used_keys key_of (λ one. one.set) written)
+set-places : (keys : List SetKey) (labels : List ℕ) (nodes : List Node) (written : List WrittenNode) → AreNumberedFor keys labels nodes written → map (λ node. node.set) nodes ≡ places same_set same_set-Decides keys (used_keys key_of (λ one. one.set) written)
 set-places keys labels [] [] h = refl
 set-places keys labels [] (one ∷ written) h = absurd h
 set-places keys labels (node ∷ nodes) [] h = absurd h
 set-places keys labels (node ∷ nodes) (one ∷ written) h = ap₂ (λ name names. name ∷ names) (h.0.set_is ∙ number-place same_set key_of keys one.set) (set-places keys labels nodes written h.1)
 
 -- the outcomes that nodes name
-outcome-places : (keys : List SetKey) (labels : List ℕ) (nodes : List Node) (written : List WrittenNode) → StandForEach keys labels nodes written → map (λ node. node.outcome) nodes ≡ places nat_eq Decides-eqb labels (used_keys (λ (u : OutcomeUse). u.label) (λ one. one.outcome) written)
+outcome-places : (keys : List SetKey) (labels : List ℕ) (nodes : List Node) (written : List WrittenNode) → AreNumberedFor keys labels nodes written → map (λ node. node.outcome) nodes ≡ places nat_eq Decides-eqb labels (used_keys (λ (u : OutcomeUse). u.label) (λ one. one.outcome) written)
 outcome-places keys labels [] [] h = refl
 outcome-places keys labels [] (one ∷ written) h = absurd h
 outcome-places keys labels (node ∷ nodes) [] h = absurd h
 outcome-places keys labels (node ∷ nodes) (one ∷ written) h = ap₂ (λ name names. name ∷ names) (h.0.outcome_is ∙ number-place nat_eq (λ (u : OutcomeUse). u.label) labels one.outcome) (outcome-places keys labels nodes written h.1)
 
-module _ (written : List WrittenNode) (nodes : List Node) (stand : StandForEach (sets_of (set_uses written)) (outcomes_of (outcome_uses written)) nodes written) where
+module _ (written : List WrittenNode) (nodes : List Node) (stand : AreNumberedFor (sets_of (set_uses written)) (outcomes_of (outcome_uses written)) nodes written) where
   -- nodes that stand for written ones name the sets in order
   pub sets-in_order : AreInOrderOfFirstUse (map (λ node. node.set) nodes)
   sets-in_order =

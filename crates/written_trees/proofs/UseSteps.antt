@@ -2,8 +2,9 @@
 use Rattle.std.proofs.Common.{ℕ, ◌≡◌, true, List, [], ◌∷◌, ◌++◌, map, Some}
 use Rattle.std.specs.List.{position_or_len, list_any}
 use Rattle.std.specs.Prelude.{nat_eq}
+use Rattle.written_trees.proofs.Numbered.{sets_of, outcomes_of}
 use Rattle.written_trees.specs.Written.{SetUse, OutcomeUse}
-use Rattle.written_trees.specs.Described.{SetKey, key_of, same_set, sets_of, outcomes_of, uses_of_set, uses_of_outcome, first_some, first_list, AgreeOnActions, AgreeOnPayoffs}
+use Rattle.written_trees.specs.Described.{SetKey, key_of, same_set, uses_of_set, uses_of_outcome, first_some, first_list, AgreeOnActions, AgreeOnPayoffs}
 use Rattle.written_trees.specs.Building.{BegunSet, BegunOutcome, set_place, outcome_place, use_set, use_outcome}
 
 -- the set that these uses begin

@@ -3,8 +3,9 @@ use Rattle.std.proofs.Common.{◌≡◌, ℕ, suc, ◌+◌, true, List, [], ◌�
 use Rattle.std.specs.List.{list_any}
 use Rattle.std.specs.Prelude.{nat_eq}
 use Rattle.std.proofs.lemmas.List.Elements.{All-nil, All-cons, All-head, All-tail}
+use Rattle.written_trees.proofs.Numbered.{sets_of, outcomes_of, set_number, outcome_number}
 use Rattle.written_trees.specs.Written.{SetUse, OutcomeUse, WrittenNode}
-use Rattle.written_trees.specs.Described.{with_number, uses_from, set_uses, outcome_uses, key_of, same_set, sets_of, outcomes_of, set_number, outcome_number}
+use Rattle.written_trees.specs.Described.{with_number, uses_from, set_uses, outcome_uses, key_of, same_set}
 use Rattle.written_trees.specs.Building.{BegunSet, BegunOutcome, outcome_place, use_some_set, use_some_outcome}
 use Rattle.written_trees.proofs.UseSteps.{sets_begun, AllAgree, SetStep, outcomes_begun, PayoffsAgree, OutcomeStep}
 use Rattle.written_trees.proofs.SetUses.{set_step}

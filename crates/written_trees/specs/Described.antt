@@ -1,7 +1,5 @@
 -- The game tree that written nodes describe. Source: Gambit's description of its `.efg` format, version 2.
-use Rattle.std.specs.Prelude.{ℕ, suc, ◌<◌, ◌≤◌, ◌^◌, ◌≡◌, ◌&&◌, nat_eq, Bool, true, false, List, [], ◌∷◌, length, map, slice_get, filter, All, IfSome, option_map, Option, Some, None}
-use Rattle.std.specs.List.{position_or_len}
-use Rattle.indexmap.specs.IndexSet.{insert_all}
+use Rattle.std.specs.Prelude.{ℕ, suc, ◌<◌, ◌≤◌, ◌^◌, ◌≡◌, ◌↔◌, ◌&&◌, nat_eq, Bool, true, false, List, [], ◌∷◌, length, map, slice_get, filter, All, Contains, IfSome, option_map, Option, Some, None}
 use Rattle.rational.specs.Rational.{ℚ, ◌≤ℚ◌, zero_ℚ, one_ℚ}
 use Rattle.rational.specs.Sum.{sum_to}
 use Rattle.frac128.specs.Steps.{AddFits}
@@ -46,12 +44,23 @@ same_owner (Some i) (Some j) = nat_eq i j
 abbrev pub same_set : SetKey → SetKey → Bool
 same_set one other = same_owner one.0 other.0 && nat_eq one.1 other.1
 
--- the sets and the outcomes, each once, in the order of their first use
-abbrev pub sets_of : List (ℕ × SetUse) → List SetKey
-sets_of uses = insert_all same_set [] (map (λ x. key_of x.1) uses)
+-- a key is used at a place for the first time
+pub record IsFirstUse {K : Type 0} (used : List K) (place : ℕ) (key : K) : Type 0 where
+  pub is_there : slice_get used place ≡ Some key
+  pub none_before : (earlier : ℕ) → earlier < place → slice_get used earlier ≡ Some key → ⊥
 
-abbrev pub outcomes_of : List (ℕ × OutcomeUse) → List ℕ
-outcomes_of uses = insert_all nat_eq [] (map (λ x. x.1.label) uses)
+-- The keys that are used, each once, in the order of their first uses: no key stands there twice, they are the same keys, and of two
+-- keys the one that stands before the other is used before it.
+pub record AreFirstUses {K : Type 0} (used keys : List K) : Type 0 where
+  pub none_twice : (i j : ℕ) (key : K) → slice_get keys i ≡ Some key → slice_get keys j ≡ Some key → i ≡ j
+  pub same_keys : (key : K) → Contains keys key ↔ Contains used key
+  pub ascending : (i j p q : ℕ) (one other : K) → slice_get keys i ≡ Some one → slice_get keys j ≡ Some other → IsFirstUse used p one → IsFirstUse used q other → i < j → p < q
+
+-- a number names a key among these, and there is no number where there is no key
+abbrev pub Names : {K : Type 0} → List K → Option ℕ → Option K → Type 0
+Names keys None None = Unit {0}
+Names keys (Some n) (Some key) = slice_get keys n ≡ Some key
+Names keys _ _ = ⊥
 
 -- the uses of one set, and of one outcome
 abbrev pub uses_of_set : SetKey → List (ℕ × SetUse) → List (ℕ × SetUse)
@@ -126,18 +135,11 @@ abbrev pub kind_of_use : Option SetUse → Kind
 kind_of_use None = End
 kind_of_use (Some used) = kind_of_owner used.owner
 
--- the number of a node's set, and of its outcome
-abbrev pub set_number : List SetKey → Option SetUse → Option ℕ
-set_number keys used = option_map (λ u. position_or_len (same_set (key_of u)) keys) used
-
-abbrev pub outcome_number : List ℕ → Option OutcomeUse → Option ℕ
-outcome_number labels used = option_map (λ u. position_or_len (nat_eq u.label) labels) used
-
 -- a node of the tree stands for a written one, where the sets and the outcomes are these
 pub record StandsFor (keys : List SetKey) (labels : List ℕ) (node : Node) (written : WrittenNode) : Type 0 where
   pub kind_is : node.kind ≡ kind_of_use written.set
-  pub set_is : node.set ≡ set_number keys written.set
-  pub outcome_is : node.outcome ≡ outcome_number labels written.outcome
+  pub set_is : Names keys node.set (option_map key_of written.set)
+  pub outcome_is : Names labels node.outcome (option_map (λ used. used.label) written.outcome)
 
 abbrev pub StandForEach : List SetKey → List ℕ → List Node → List WrittenNode → Type 0
 StandForEach keys labels [] [] = Unit {0}
@@ -158,12 +160,16 @@ pub record IsBegunTree (t : GameTree) (free : List Place) : Type 0 where
   pub few_players : length t.players < 2 ^ 32
 
 -- Written nodes describe a tree, as far as it goes: its nodes hang in prefix order and leave these places free, and its sets and
--- outcomes are those that the nodes use.
+-- outcomes are those that the nodes use, each once, in the order of their first uses.
 pub record Describe (written : List WrittenNode) (t : GameTree) (free : List Place) : Type 0 where
+  pub keys : List SetKey
+  pub labels : List ℕ
+  pub keys_are : AreFirstUses (map (λ x. key_of x.1) (set_uses written)) keys
+  pub labels_are : AreFirstUses (map (λ x. x.1.label) (outcome_uses written)) labels
   pub begun : IsBegunTree t free
-  pub nodes_stand : StandForEach (sets_of (set_uses written)) (outcomes_of (outcome_uses written)) t.nodes written
-  pub sets_are : t.sets ≡ map (λ key. described_set key (uses_of_set key (set_uses written))) (sets_of (set_uses written))
-  pub outcomes_are : t.outcomes ≡ map (λ label. described_outcome label (uses_of_outcome label (outcome_uses written))) (outcomes_of (outcome_uses written))
+  pub nodes_stand : StandForEach keys labels t.nodes written
+  pub sets_are : t.sets ≡ map (λ key. described_set key (uses_of_set key (set_uses written))) keys
+  pub outcomes_are : t.outcomes ≡ map (λ label. described_outcome label (uses_of_outcome label (outcome_uses written))) labels
   pub sets_agree : (key : SetKey) → AgreeOnActions (uses_of_set key (set_uses written))
   pub outcomes_agree : (label : ℕ) → AgreeOnPayoffs (uses_of_outcome label (outcome_uses written))
 

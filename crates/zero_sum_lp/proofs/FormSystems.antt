@@ -1,5 +1,5 @@
 -- The system of a form's program has the form's gains.
-use Rattle.std.proofs.Common.{ℕ, suc, ◌<◌, ◌≤◌, ◌≡◌, ◌+◌, ◌*◌, ◌-◌, ◌^◌, inl, inr, Bool, true, false, List, [], ◌∷◌, All, Result, Ok, Err, length, map, get_or, refl, sym, ap, ◌∙◌, subst, subst₂, arith, tests}
+use Rattle.std.proofs.Common.{ℕ, suc, ◌<◌, ◌≤◌, ◌≡◌, ◌+◌, ◌*◌, ◌-◌, ◌^◌, inl, inr, Bool, true, false, List, [], ◌∷◌, All, Result, length, map, get_or, refl, sym, ap, ◌∙◌, subst, subst₂, arith, tests}
 use Rattle.std.specs.Prelude.{◌==◌, ◌&&◌, if◌then◌else◌, IfOk}
 use Rattle.std.proofs.Math.Nat.{mul-le-mul_right}
 use Rattle.std.proofs.lemmas.Bool.{cases_lt}

@@ -1,6 +1,6 @@
 -- The path has one end.
-use Rattle.std.proofs.Common.{ℕ, zero, suc, ◌<◌, ◌≤◌, ◌≡◌, ◌^◌, ◌-◌, ◌⊎◌, inl, inr, List, [], ◌∷◌, refl, sym, ap, ap₂, ◌∙◌, subst, subst₂, arith}
-use Rattle.std.proofs.lemmas.Bool.{cases_eq, cases_lt}
+use Rattle.std.proofs.Common.{ℕ, zero, suc, ◌<◌, ◌≡◌, ◌^◌, inl, inr, List, [], ◌∷◌, sym, ap, ap₂, ◌∙◌, subst, subst₂, arith}
+use Rattle.std.proofs.lemmas.Bool.{cases_lt}
 use Rattle.rational.specs.Rational.{zero_ℚ}
 use Rattle.rational.proofs.Field.{not_lt_of_le}
 use Rattle.linear_systems.specs.Tableau.{pivot}
@@ -14,10 +14,9 @@ use Rattle.lex_tableau.specs.Pivots.{steps_of_pivot}
 use Rattle.lex_tableau.specs.Ratio.{listed}
 use Rattle.lex_tableau.specs.Rows.{Numbers, tableau, IsPivotOf, IsTableau}
 use Rattle.lex_tableau.proofs.Tableaux.{determined}
-use Rattle.zero_sum_lp.specs.declared.lp.LpEnd.{LpEnd}
 use Rattle.zero_sum_lp.specs.declared.lp.LpEnd.TheVariants.{Optimal, Range}
-use Rattle.zero_sum_lp.specs.Ends.{IsEndOf, EndsAreSingle}
-use Rattle.zero_sum_lp.specs.Parts.{Program, IsProgram, IsOptimumOf}
+use Rattle.zero_sum_lp.specs.Ends.{EndsAreSingle}
+use Rattle.zero_sum_lp.specs.Parts.{Program}
 use Rattle.zero_sum_lp.specs.Steps.{IsFittingStep, LeadsTo, EndsPath, IsStepNumber, IsUnfitStep}
 
 -- ---- steps over whole numbers

@@ -1,10 +1,6 @@
 -- The sums and gains of a form, one after another.
 use Rattle.std.proofs.Common.{ℕ, zero, suc, Bool, true, false, true≢false, ◌<◌, ◌≤◌, ◌≡◌, ◌≢◌, ◌+◌, inl, inr, List, [], ◌∷◌, ◌++◌, Result, Ok, Err, length, map, get_or, take, drop, refl, sym, ap, ap₂, ◌∙◌, subst, arith}
-use Rattle.std.specs.Prelude.{IfErr, OnErr, nat_eq, not}
-use Rattle.std.specs.Bool.{Decides}
-use Rattle.std.specs.Ordering.{int_eq}
-use Rattle.std.proofs.lemmas.Bool.Decides.{Decides-and, Decides-eqb, Decides-int_eq}
-use Rattle.rational.proofs.Fractions.{equal_by_parts}
+use Rattle.std.specs.Prelude.{IfErr, OnErr, not}
 use Rattle.std.proofs.lemmas.Bool.{cases_eq}
 use Rattle.std.proofs.lemmas.List.{get_or-map, get_or_default, length-map, length-drop, length-take-le, get_or-take}
 use Rattle.std.proofs.lemmas.Grind.{get_or_after_one}

@@ -1,9 +1,9 @@
 use Rattle.std.proofs.Common.{◌++◌, ◌<◌, ◌≡◌, ◌∙◌, Some, sym, ap, ap₂, length, slice_get, arith}
+use Rattle.game_trees.specs.OwnSets.{own_sets}
 use Rattle.game_theory.specs.Mixed.{sure}
 use Rattle.game_theory.specs.Lines.{listed}
 use Rattle.game_trees.specs.Behaviour.{pure}
 use Rattle.game_core.specs.TreeGame.{game_of_tree}
-use Rattle.reduced_strategies.specs.Choices.{own_sets}
 use Rattle.behaviour_profile.specs.FirstActions.{first_for_none}
 use Rattle.behaviour_profile.proofs.BehaviourEntries.{place-below_sets, own_set-below, place-found, actions-counted, first_for_none-place, entries_at-push}
 use Rattle.behaviour_profile.proofs.push_player.Goals as goal

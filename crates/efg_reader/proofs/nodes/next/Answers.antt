@@ -1,4 +1,4 @@
-use Rattle.std.proofs.Common.{◌≡◌, suc, ◌≤◌, ◌<◌, List, ℕ, Option, length, sym, subst, Ok, arith}
+use Rattle.std.proofs.Common.{◌≡◌, suc, ◌≤◌, List, ℕ, Option, length, sym, subst, Ok, arith}
 use Rattle.std.proofs.lemmas.List.{length-map}
 use Rattle.game_tokens.specs.declared.token.Token.{Token}
 use Rattle.file_parts.specs.Reading.{kinds}

@@ -1,4 +1,4 @@
-use Rattle.std.proofs.Common.{◌≡◌, ◌<◌, length, ◌∙◌, sym, subst}
+use Rattle.std.proofs.Common.{◌<◌, length, ◌∙◌, sym, subst}
 use Rattle.std.proofs.lemmas.List.{length-map}
 use Rattle.file_parts.specs.Reading.{kinds}
 use Rattle.written_trees.specs.Building.{Begun}

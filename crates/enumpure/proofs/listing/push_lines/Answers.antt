@@ -14,20 +14,21 @@ use Rattle.enumpure.proofs.listing.push_lines.Goals.{then-stable-profile_number+
 pub loop-rank-init : goal.loop-rank-init
 loop-rank-init c = lines_text-none c.args.counts.now c.args.stable.now c.args.text.now.items
 
-pub profile_number-requires-clause-profile : goal.profile_number-requires-clause-profile
-profile_number-requires-clause-profile c =
-    subst (IsProfile c.args.counts.now) (sym c.set_profile.ensures) (IsProfile-ranked c.args.counts.now c.loop-rank.rank (omega (arith, c.requires.flags)))
+pub profile_number-requires : goal.profile_number-requires
+profile_number-requires c =
+    subst (λ ns. IsProfile ns c.set_ranked.new.profile) c.requires.counts (subst (IsProfile c.args.counts.now) (sym c.set_ranked.ensures) (IsProfile-ranked c.args.counts.now c.loop-rank.rank (omega (arith, c.requires.flags))))
 
 pub bounds-stable-profile_number : goal.bounds-stable-profile_number
 bounds-stable-profile_number c =
     let ns = c.args.counts.now in
-    let p : IsProfile ns c.set_profile.new.profile = subst (IsProfile ns) (sym c.set_profile.ensures) (IsProfile-ranked ns c.loop-rank.rank (omega (arith, c.requires.flags))) in
-    omega (arith, number_of-below ns c.set_profile.new.profile p, c.requires.flags)
+    let p : IsProfile ns c.set_ranked.new.profile = subst (IsProfile ns) (sym c.set_ranked.ensures) (IsProfile-ranked ns c.loop-rank.rank (omega (arith, c.requires.flags))) in
+    let same : c.profile_number.result ≡ number_of ns c.set_ranked.new.profile = c.profile_number.ensures.number ∙ ap (λ v. number_of v c.set_ranked.new.profile) (sym c.requires.counts) in
+    omega (arith, same, number_of-below ns c.set_ranked.new.profile p, c.requires.flags)
 
 pub set_entries-requires : goal.set_entries-requires
 set_entries-requires c =
     record {
-      profile = subst (IsProfile c.args.counts.now) (sym c.set_profile.ensures) (IsProfile-ranked c.args.counts.now c.loop-rank.rank (omega (arith, c.requires.flags)));
+      profile = subst (IsProfile c.args.counts.now) (sym c.set_ranked.ensures) (IsProfile-ranked c.args.counts.now c.loop-rank.rank (omega (arith, c.requires.flags)));
     }
 
 pub loop-rank-preserved : goal.loop-rank-preserved
@@ -37,10 +38,10 @@ loop-rank-preserved c =
     let r = c.loop-rank.rank in
     let old = c.args.text.now.items in
     let text = c.loop-rank.text.items in
-    let e : c.profile_number.result ≡ number_of ns (ranked ns r) = c.profile_number.ensures ∙ ap (number_of ns) c.set_profile.ensures in
+    let e : c.profile_number.result ≡ number_of ns (ranked ns r) = c.profile_number.ensures.number ∙ ap (λ v. number_of v c.set_ranked.new.profile) (sym c.requires.counts) ∙ ap (number_of ns) c.set_ranked.ensures in
     elim c.if-stable-profile_number.branch [
       | then-stable-profile_number+in_ok-set_entries+in_ok-push_line w ↦
-          (let line = ap line_text (w.deref.ensures.value ∙ w.in_ok-set_entries.ensures {u = tt} ∙ ap (λ v. entries ns (pure v)) c.set_profile.ensures) in
+          (let line = ap line_text (w.deref.ensures.value ∙ w.in_ok-set_entries.ensures {u = tt} ∙ ap (λ v. entries ns (pure v)) c.set_ranked.ensures) in
           ap (λ v. v.items) w.text-is ∙ w.in_ok-push_line.ensures.line ∙ ap (λ v. text ++ v) line ∙ lines_text-push ns flags r old text c.loop-rank.invariant (sym (ap (flag flags) e) ∙ w.if-stable-profile_number.true))
       | else-stable-profile_number w ↦ ap (λ v. v.items) w.text-is ∙ lines_text-skip ns flags r old text c.loop-rank.invariant (sym (ap (flag flags) e) ∙ w.if-stable-profile_number.false)
     ]

@@ -1,7 +1,7 @@
 use Rattle.std.proofs.Common.{◌<◌, ◌≤◌, ◌≡◌, ◌++◌, ◌∷◌, [], length, take, sym, ap, ap₂, ◌∙◌, arith}
 use Rattle.std.proofs.lemmas.List.{take_more, take_all}
+use Rattle.game_core.proofs.TableCounts.{length-strategy_counts}
 use Rattle.game_core.specs.Table.{strategy_counts}
-use Rattle.enumpure.proofs.Strides.{length-strategy_counts}
 use Rattle.enumpure.proofs.replies.strategy_counts.Goals as goal
 
 pub loop-player-preserved : goal.loop-player-preserved
@@ -16,4 +16,4 @@ returns c =
     let t = c.args.table.now in
     let all : length (strategy_counts t) ≤ c.loop-player.player = omega (arith, length-strategy_counts t c.players-player-end.ensures.valid, ap length c.players-player-end.ensures.players) in
     let is : c.loop-player.counts.items ≡ take c.loop-player.player (strategy_counts t) = c.loop-player.invariant in
-    is ∙ take_all c.loop-player.player (strategy_counts t) all
+    record { counts = is ∙ take_all c.loop-player.player (strategy_counts t) all; valid = c.players-player-end.ensures.valid }

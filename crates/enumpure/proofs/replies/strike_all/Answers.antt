@@ -1,8 +1,9 @@
 use Rattle.std.proofs.Common.{◌*◌, ◌<◌, ◌≡◌, length, get_or, sym, ap, ap₂, ◌∙◌, subst, refl, arith, add-one}
+use Rattle.game_core.proofs.TableCounts.{length-strategy_counts, profile_count-table}
 use Rattle.game_theory.specs.Profiles.{stride}
 use Rattle.game_theory.proofs.ProfileNumbers.{stride-next}
 use Rattle.game_core.specs.Table.{game_of, strategy_counts}
-use Rattle.enumpure.proofs.Strides.{HaveStrategies-table, length-strategy_counts, stride_next-at_most, profile_count-table}
+use Rattle.enumpure.proofs.Strides.{HaveStrategies-table, stride_next-at_most}
 use Rattle.enumpure.proofs.Striking.{AreStableBelow, AreStableBelow-none, AreStableBelow-next, AreStable-all}
 use Rattle.enumpure.proofs.replies.strike_all.Goals as goal
 

@@ -1,8 +1,9 @@
 use Rattle.std.proofs.Common.{◌+◌, ◌<◌, length, get_or, sym, ◌∙◌, subst, arith}
+use Rattle.game_core.proofs.TableCounts.{length-strategy_counts}
 use Rattle.game_core.specs.Table.{game_of, strategy_counts}
 use Rattle.enumpure.specs.Replies.{IsBest, AreStruck}
 use Rattle.enumpure.proofs.Exchanges.{strategy_at-by_stride, strides_away-below}
-use Rattle.enumpure.proofs.Strides.{HaveStrategies-table, length-strategy_counts, stride-positive}
+use Rattle.enumpure.proofs.Strides.{HaveStrategies-table, stride-positive}
 use Rattle.enumpure.proofs.Striking.{AreStruckBelow, AreStruckBelow-none, AreStruckBelow-skip, AreStruckBelow-step, KeepsBestReplies-all}
 use Rattle.enumpure.proofs.replies.strike_player.Goals as goal
 use Rattle.enumpure.proofs.replies.strike_player.Goals.{then-first-stride-eq0, else-first-stride-eq0}

@@ -1,24 +1,28 @@
-use Rattle.std.proofs.Common.{length, map, sym, ap, ◌∙◌, subst, arith}
-use Rattle.game_theory.specs.Profiles.{IsProfile, profile_count, number_of}
+use Rattle.std.proofs.Common.{◌≡◌, map, length, sym, ap, ◌∙◌, subst, arith}
+use Rattle.game_theory.specs.Profiles.{IsProfile, number_of}
 use Rattle.game_theory.proofs.ProfileNumbers.{number_of-below}
+use Rattle.game_core.specs.Table.{GameTable, strategy_counts}
+use Rattle.game_core.specs.Tree.{GameTree}
 use Rattle.enumpure.specs.Replies.{flag}
-use Rattle.enumpure_trees.proofs.SortedOrders.{orders-counts}
+use Rattle.reduced_form.specs.ReducedForm.{ReducedForm, IsReducedForm}
+use Rattle.enumpure_trees.proofs.FormSizes.{form-counts}
 use Rattle.enumpure_trees.proofs.listing.is_stable.Goals as goal
 
-pub profile_number-requires-clause-profile : goal.profile_number-requires-clause-profile
-profile_number-requires-clause-profile c =
-    subst (λ ns. IsProfile ns c.args.profile.now) (sym (orders-counts c.args.lines.now.reduced.now.choices (map (λ v. v.items) c.args.lines.now.orders.now) c.requires.orders)) c.requires.profile
+-- the strategies that the form's table has
+same_counts : (t : GameTree) (form : ReducedForm) (table : GameTable) → table ≡ form.table → IsReducedForm t form → strategy_counts table ≡ map length form.choices
+same_counts t form table e h = ap strategy_counts e ∙ form-counts t form h
 
-pub profile_number-requires-clause-few : goal.profile_number-requires-clause-few
-profile_number-requires-clause-few c =
-    omega (arith, c.requires.flags, ap profile_count (orders-counts c.args.lines.now.reduced.now.choices (map (λ v. v.items) c.args.lines.now.orders.now) c.requires.orders))
+pub profile_number-requires : goal.profile_number-requires
+profile_number-requires c =
+    let same = same_counts c.args.lines.now.tree.now c.args.lines.now.reduced.now c.table.result.now c.table.ensures c.requires.form in
+    subst (λ ns. IsProfile ns c.args.profile.now) (sym same) c.requires.profile
 
 pub bounds-lines-profile_number : goal.bounds-lines-profile_number
 bounds-lines-profile_number c =
-    let same = orders-counts c.args.lines.now.reduced.now.choices (map (λ v. v.items) c.args.lines.now.orders.now) c.requires.orders in
-    omega (arith, c.profile_number.ensures, ap (λ ns. number_of ns c.args.profile.now) same, number_of-below (map length c.args.lines.now.reduced.now.choices) c.args.profile.now c.requires.profile, c.requires.flags)
+    let same = same_counts c.args.lines.now.tree.now c.args.lines.now.reduced.now c.table.result.now c.table.ensures c.requires.form in
+    omega (arith, c.profile_number.ensures.number, ap (λ ns. number_of ns c.args.profile.now) same, number_of-below (map length c.args.lines.now.reduced.now.choices) c.args.profile.now c.requires.profile, c.requires.flags)
 
 pub returns : goal.returns
 returns c =
-    let same = orders-counts c.args.lines.now.reduced.now.choices (map (λ v. v.items) c.args.lines.now.orders.now) c.requires.orders in
-    ap (flag c.args.lines.now.stable.now) (c.profile_number.ensures ∙ ap (λ ns. number_of ns c.args.profile.now) same)
+    let same = same_counts c.args.lines.now.tree.now c.args.lines.now.reduced.now c.table.result.now c.table.ensures c.requires.form in
+    ap (flag c.args.lines.now.stable.now) (c.profile_number.ensures.number ∙ ap (λ ns. number_of ns c.args.profile.now) same)

@@ -1,12 +1,12 @@
 use Rattle.std.proofs.Common.{◌*◌, ◌≡◌, inr, length, map, refl, sym, ap, ap₂, ◌∙◌, subst, arith, rules}
 use Rattle.std.proofs.Math.ListN.{replicate}
 use Rattle.std.specs.List.{count_by}
+use Rattle.game_core.specs.TextLimit.{most_text}
 use Rattle.game_theory.specs.Profiles.{IsProfile}
 use Rattle.game_theory.specs.Lines.{lines_text}
 use Rattle.game_core.specs.Table.{game_of}
 use Rattle.game_core.specs.TreeGame.{game_of_tree}
 use Rattle.enumpure.specs.Replies.{flag, AreStable}
-use Rattle.enumpure.specs.Text.{most_text}
 use Rattle.tree_lines.specs.Orders.{AreOrders}
 use Rattle.tree_lines.specs.Ranks.{lines_below}
 use Rattle.enumpure_trees.proofs.FormSizes.{IsProfile-first}
@@ -42,7 +42,7 @@ returns-then-count-each c =
     let long = length-listed tree form orders flags c.in_ok-each.each listed (c.in_ok-each.ensures {u = tt}).each in
     let above = above_limit most_text c.in_ok-each.each c.count-count.result (c.in_ok-each.ensures {u = tt}).some c.if-count-each.true in
     let same = ap (λ n. n * c.in_ok-each.each) (counted ∙ ap (count_by (λ b. b)) c.deref-2.ensures.value) in
-    inr ((lines_text (lines_below (game_of_tree tree) form.choices orders (flag flags) (length flags)), IsTreeEquilibriaText-listed tree form orders flags _ listed refl, omega (arith, long, above, same)), refl)
+    inr ((lines_text (lines_below (game_of_tree tree) form.choices orders (flag flags) (length flags)), IsTreeEquilibriaText-listed tree form orders flags _ listed refl, omega (arith, long, above, same)), c.too_long_text.ensures)
 
 pub returns : goal.returns
 returns c =

@@ -16,20 +16,20 @@ loop-rank-init c =
     let strategies = c.args.lines.now.reduced.now.choices in
     text-none (rank_line (game_of_tree c.args.lines.now.tree.now) strategies orders) (rank_flag strategies orders (flag c.args.lines.now.stable.now)) c.args.text.now.items
 
-pub set_profile-requires-clause-profiles : goal.set_profile-requires-clause-profiles
-set_profile-requires-clause-profiles c =
+pub set_ordered-requires-clause-profiles : goal.set_ordered-requires-clause-profiles
+set_ordered-requires-clause-profiles c =
     let orders = map (λ v. v.items) c.args.lines.now.orders.now in
     c.requires.flags ∙ ap profile_count (sym (orders-counts c.args.lines.now.reduced.now.choices orders c.requires.orders))
 
 pub is_stable-requires-clause-profile : goal.is_stable-requires-clause-profile
 is_stable-requires-clause-profile c =
     let orders = map (λ v. v.items) c.args.lines.now.orders.now in
-    (IsRanked-ordered c.args.lines.now.reduced.now.choices orders c.loop-rank.rank c.set_profile.new.profile c.requires.orders (omega (arith, c.requires.flags)) c.set_profile.ensures).is_profile
+    (IsRanked-ordered c.args.lines.now.reduced.now.choices orders c.loop-rank.rank c.set_ordered.new.profile c.requires.orders (omega (arith, c.requires.flags)) c.set_ordered.ensures).is_profile
 
 pub from_reduced-requires-clause-profile : goal.from_reduced-requires-clause-profile
 from_reduced-requires-clause-profile c =
     let orders = map (λ v. v.items) c.args.lines.now.orders.now in
-    (IsRanked-ordered c.args.lines.now.reduced.now.choices orders c.loop-rank.rank c.set_profile.new.profile c.requires.orders (omega (arith, c.requires.flags)) c.set_profile.ensures).is_profile
+    (IsRanked-ordered c.args.lines.now.reduced.now.choices orders c.loop-rank.rank c.set_ordered.new.profile c.requires.orders (omega (arith, c.requires.flags)) c.set_ordered.ensures).is_profile
 
 pub loop-rank-preserved : goal.loop-rank-preserved
 loop-rank-preserved c =
@@ -39,7 +39,7 @@ loop-rank-preserved c =
     let flags = c.args.lines.now.stable.now in
     let r = c.loop-rank.rank in
     let text = c.loop-rank.text.items in
-    let is = IsRanked-ordered strategies orders r c.set_profile.new.profile c.requires.orders (omega (arith, c.requires.flags)) c.set_profile.ensures in
+    let is = IsRanked-ordered strategies orders r c.set_ordered.new.profile c.requires.orders (omega (arith, c.requires.flags)) c.set_ordered.ensures in
     let flagged = c.is_stable.ensures ∙ ap (λ p. flag flags (number_of (map length strategies) p)) is.profile_is in
     elim c.if-is_stable.branch [
       | then-is_stable+in_ok-behaviour+in_ok-push_line w ↦

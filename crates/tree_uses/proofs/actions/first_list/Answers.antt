@@ -4,8 +4,6 @@ use Rattle.file_parts.specs.Reading.{kinds}
 use Rattle.tree_uses.proofs.ActionSteps.{own_closed, chance_differs, chance_closed}
 use Rattle.tree_uses.proofs.actions.first_list.Goals as goal
 use Rattle.rational.specs.Tests.{eq_ℚ}
-use Rattle.lists.specs.Options.{◌>>=◌}
-use Rattle.game_tokens.specs.declared.token.Token.{Token}
 
 pub returns-then-ne : goal.returns-then-ne
 returns-then-ne c =

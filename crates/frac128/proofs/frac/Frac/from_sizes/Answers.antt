@@ -10,8 +10,8 @@ returns-then-top-ge-LIMIT c =
 
 pub from_lowest_terms-requires-clause-lowest : goal.from_lowest_terms-requires-clause-lowest
 from_lowest_terms-requires-clause-lowest c =
-    signed_lowest c.args.negative c.args.top c.args.bottom c.signed.result c.requires.lowest (record { sfits = c.signed.type_inv }) c.signed.ensures
+    signed_lowest c.args.negative c.args.top c.args.bottom c.signed.result c.requires.lowest (record { sfits = c.signed.type_inv }) c.signed.ensures.value
 
 pub returns : goal.returns
 returns c =
-    sizes_value c.args.negative c.args.top c.args.bottom c.signed.result c.from_lowest_terms.result c.requires.positive c.requires.lowest c.if-top-ge-LIMIT.false c.if-bottom-ge-LIMIT.false (record { sfits = c.signed.type_inv }) c.signed.ensures c.from_lowest_terms.ensures.num c.from_lowest_terms.ensures.den
+    sizes_value c.args.negative c.args.top c.args.bottom c.signed.result c.from_lowest_terms.result c.requires.positive c.requires.lowest c.if-top-ge-LIMIT.false c.if-bottom-ge-LIMIT.false (record { sfits = c.signed.type_inv }) c.signed.ensures.value c.from_lowest_terms.ensures.num c.from_lowest_terms.ensures.den

@@ -1,10 +1,11 @@
 use Rattle.std.proofs.Common.{◌≡◌, ◌+◌, ◌-◌, ◌*◌, All, length}
+use Rattle.game_trees.specs.Children.{child}
 use Rattle.rational.specs.Rational.{◌*ℚ◌}
 use Rattle.rational.specs.Sum.{sum_to}
 use Rattle.game_trees.specs.Behaviour.{pure, value}
 use Rattle.pure_payoffs.specs.Plays.{choice_of, game_of, steps_at}
 use Rattle.pure_payoffs.specs.Shortcuts.{KeepShortcuts}
-use Rattle.pure_payoffs.specs.Steps.{StepFits, chance_steps, child}
+use Rattle.pure_payoffs.specs.Steps.{StepFits, chance_steps}
 use Rattle.pure_payoffs.proofs.payoff.Play.+values.Given as goal
 
 -- five times the number of nodes from this one on, and more for each call at the node

@@ -1,0 +1,42 @@
+use frac128::{Frac, Memory};
+use ne_printer::{fraction, line};
+use std::alloc::Global;
+
+// The fractions of numerators and denominators.
+fn fractions(alloc: Global, parts: &[(i128, i128)]) -> Result<Vec<Frac>, Memory> {
+    let mut fractions = Vec::new(alloc);
+    for pair in parts {
+        let Some(fraction) = Frac::new(pair.0, pair.1) else {
+            return Err(Memory);
+        };
+        fractions.push(fraction)?;
+    }
+    Ok(fractions)
+}
+
+// Whether the line with these entries is this text.
+fn has_line(alloc: Global, parts: &[(i128, i128)], text: &[u8]) -> Result<bool, Memory> {
+    let entries = fractions(alloc, parts)?;
+    Ok(line(alloc, &entries)?.as_slice() == text)
+}
+
+// Whether the fraction with these parts is written so.
+fn is_written(alloc: Global, num: i128, den: i128, text: &[u8]) -> Result<bool, Memory> {
+    let Some(value) = Frac::new(num, den) else {
+        return Err(Memory);
+    };
+    Ok(fraction(alloc, value)?.as_slice() == text)
+}
+
+#[test]
+fn writes_lines_and_fractions(rt: HostRuntime) -> Result<(), Memory> {
+    let alloc = rt.alloc();
+    assert!(rt; has_line(alloc, &[], b"NE,\n")?);
+    assert!(rt; has_line(alloc, &[(1, 1), (0, 1)], b"NE,1,0\n")?);
+    assert!(rt; has_line(alloc, &[(2, 3), (1, 3)], b"NE,2/3,1/3\n")?);
+    assert!(rt; has_line(alloc, &[(-1, 2), (10, 1), (9, 1)], b"NE,-1/2,10,9\n")?);
+    assert!(rt; is_written(alloc, -7, 1, b"-7")?);
+    assert!(rt; is_written(alloc, 22, 7, b"22/7")?);
+    assert!(rt; is_written(alloc, 0, 1, b"0")?);
+    Ok(())
+}
