@@ -1,3 +1,2 @@
-pub mod FirstUnfits
 pub mod SetEntries
 pub mod WrittenCells

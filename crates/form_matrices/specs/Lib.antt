@@ -1,2 +1,1 @@
-pub mod FirstUnfit
 pub mod Matrices

@@ -1,6 +1,5 @@
 //! The matrices of a sequence form, entry by entry: the rows of a player's plans, and numbers of the
-//! cells row by row. `specs/Matrices` says what is written where, and `specs/FirstUnfit` what is the
-//! first of things whose steps do not all fit.
+//! cells row by row. `specs/Matrices` says what is written where.
 #![tactic(auto)]
 
 mod cells;

@@ -1,6 +1,7 @@
 pub mod BranchSteps
 pub mod Choices
 pub mod Filling
+pub mod FirstUnfits
 pub mod NodeSteps
 pub mod NodeValues
 pub mod Places

@@ -1,4 +1,5 @@
 pub mod Filled
+pub mod FirstUnfit
 pub mod Plays
 pub mod Settled
 pub mod Shortcuts

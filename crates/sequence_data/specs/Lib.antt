@@ -2,4 +2,5 @@ pub mod Cells
 pub mod Extremes
 pub mod Gathered
 pub mod Steps
+pub mod Weights
 pub mod Data

@@ -10,7 +10,8 @@ use Rattle.sequence_forms.specs.Sides.{sequences}
 use Rattle.linear_programs.specs.Programs.{constraints, value_at, raw_one, raw_two}
 use Rattle.sequence_data.specs.Data.{SideData, side_of}
 use Rattle.zero_sum_lp.specs.Parts.{HasShape, Program, IsOptimum}
-use Rattle.zero_sum_lp.specs.PlanSteps.{weight, AreWeights, IsRaisedTo, IsUnfitRaise, IsCutTo, IsUnfitCut}
+use Rattle.sequence_data.specs.Weights.{weight}
+use Rattle.zero_sum_lp.specs.PlanSteps.{AreWeights, IsRaisedTo, IsUnfitRaise, IsCutTo, IsUnfitCut}
 use Rattle.zero_sum_lp.specs.PlanStops.{AreRawOne, AreRawTwo, IsFirstPlan, IsSecondPlan, IsUnfitFirst, IsUnfitSecond}
 use Rattle.zero_sum_lp.proofs.Optima.{sets_are, end_distinct, value_is}
 

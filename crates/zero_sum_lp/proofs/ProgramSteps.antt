@@ -11,7 +11,7 @@ use Rattle.pure_payoffs.specs.Steps.{Step, IsFirstUnfit}
 use Rattle.pure_payoffs.proofs.Runs.{first_unfit-behind, first_unfit-here, one-fits}
 use Rattle.sequence_data.specs.declared.types.Cell.{Cell}
 use Rattle.sequence_data.specs.declared.types.Leaf.{Leaf}
-use Rattle.form_matrices.proofs.FirstUnfits.{split_here}
+use Rattle.pure_payoffs.proofs.FirstUnfits.{split_here}
 use Rattle.zero_sum_lp.specs.FormPrograms.{gain_steps, sum_at, AreFirstApart, is_constant}
 use Rattle.rational.proofs.Decide.{eq_ℚ-decides}
 use Rattle.rational.specs.Tests.{eq_ℚ}

@@ -13,7 +13,8 @@ use Rattle.linear_programs.specs.Programs.{price_one, price_two, raw_one, raw_tw
 use Rattle.linear_programs.proofs.Ends.{value_proved}
 use Rattle.lex_tableau.specs.Rows.{tableau}
 use Rattle.sequence_data.specs.Data.{side_of}
-use Rattle.zero_sum_lp.specs.PlanSteps.{weight, AreWeights, IsRaisedTo, IsCutTo}
+use Rattle.sequence_data.specs.Weights.{weight}
+use Rattle.zero_sum_lp.specs.PlanSteps.{AreWeights, IsRaisedTo, IsCutTo}
 use Rattle.zero_sum_lp.specs.Steps.{linear_program}
 use Rattle.zero_sum_lp.specs.ValueLaws.{OptimalPlansProveTheValue, OptimalPlansSolveTrees, OptimalPlansSolveTables}
 use Rattle.zero_sum_lp.proofs.Optima.{program_starts, sets_are}

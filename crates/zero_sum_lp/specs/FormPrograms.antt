@@ -17,7 +17,7 @@ use Rattle.sequence_data.specs.declared.types.Cell.{Cell}
 use Rattle.sequence_data.specs.declared.types.Leaf.{Leaf}
 use Rattle.sequence_data.specs.Data.{FormData, form, side_of}
 use Rattle.zero_sum_lp.specs.Systems.{IsSystemFor}
-use Rattle.form_matrices.specs.FirstUnfit.{all_fit}
+use Rattle.pure_payoffs.specs.FirstUnfit.{all_fit}
 use Rattle.zero_sum_lp.specs.declared.stop.LpStop.{LpStop}
 use Rattle.zero_sum_lp.specs.declared.stop.LpStop.TheVariants as stops
 use Rattle.zero_sum_lp.specs.declared.stop.NotConstant.{NotConstant}

@@ -1,16 +1,13 @@
 -- Plans made of raw weights step by step, and the first step that does not fit.
-use Rattle.std.specs.Prelude.{ℕ, zero, suc, ◌+◌, ◌<◌, ◌≤◌, ◌≡◌, All, List, [], ◌∷◌, ◌++◌, get_or, length}
-use Rattle.rational.specs.Rational.{ℚ, ◌+ℚ◌, ◌-ℚ◌, zero_ℚ, one_ℚ}
+use Rattle.std.specs.Prelude.{ℕ, zero, suc, ◌+◌, ◌<◌, ◌≤◌, ◌≡◌, All, List, [], ◌∷◌, ◌++◌, length}
+use Rattle.rational.specs.Rational.{ℚ, ◌+ℚ◌, ◌-ℚ◌, one_ℚ}
 use Rattle.rational.specs.Sum.{sum_to}
 use Rattle.frac128.specs.Steps.{unfit}
 use Rattle.pure_payoffs.specs.Steps.{Step, StepFits, IsFirstUnfit}
 use Rattle.frac128.specs.declared.steps.Op.TheVariants.{Add, Sub}
 use Rattle.sequence_forms.specs.Sides.{Side, first}
+use Rattle.sequence_data.specs.Weights.{weight}
 use Rattle.linear_programs.specs.Plans.{IsLesser}
-
--- a sequence's weight in a list
-abbrev pub weight : List ℚ → ℕ → ℚ
-weight weights q = get_or weights q zero_ℚ
 
 -- ---- raised
 -- the weights of n actions are subtracted from w one by one

@@ -11,7 +11,8 @@ use Rattle.lex_tableau.specs.Rows.{tableau}
 use Rattle.zero_sum_lp.specs.declared.stop.PlanStop.{PlanStop}
 use Rattle.zero_sum_lp.specs.declared.stop.PlanStop.TheVariants.{Range, Memory}
 use Rattle.zero_sum_lp.specs.Parts.{Program}
-use Rattle.zero_sum_lp.specs.PlanSteps.{weight, AreWeights, IsRaisedTo, IsUnfitRaise, IsCutTo, IsUnfitCut}
+use Rattle.sequence_data.specs.Weights.{weight}
+use Rattle.zero_sum_lp.specs.PlanSteps.{AreWeights, IsRaisedTo, IsUnfitRaise, IsCutTo, IsUnfitCut}
 
 -- the raw weights of the two players
 abbrev pub AreRawOne : Program → List ℚ → Type 0

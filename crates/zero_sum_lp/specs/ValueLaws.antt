@@ -13,7 +13,7 @@ use Rattle.sequence_forms.specs.TableLaws.{ProvesValueOfTable}
 use Rattle.linear_programs.specs.Programs.{IsProgramOf, price_one, price_two}
 use Rattle.lex_tableau.specs.Rows.{tableau}
 use Rattle.zero_sum_lp.specs.Parts.{Program, IsProgram, IsOptimumOf}
-use Rattle.zero_sum_lp.specs.PlanSteps.{weight}
+use Rattle.sequence_data.specs.Weights.{weight}
 use Rattle.zero_sum_lp.specs.FormPrograms.{program_in}
 use Rattle.zero_sum_lp.specs.PlanStops.{plans_of}
 use Rattle.zero_sum_lp.specs.PlanPairs.{PlanPair}

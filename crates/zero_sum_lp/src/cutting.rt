@@ -3,7 +3,8 @@ ghost use Rattle.sequence_data.specs.Data.{SideData, side_of, IsSideData};
 ghost use Rattle.std.specs.Prelude.{◌≡◌, ◌+◌, ◌<◌, ◌≤◌, ℕ, length, IfErr, OnOk};
 ghost use Rattle.linear_programs.specs.Plans.{IsLesser};
 ghost use Rattle.sequence_forms.specs.Sides.{sequences};
-ghost use Rattle.zero_sum_lp.specs.PlanSteps.{weight, IsSharedTo, IsUnfitShare, IsCutTo, IsUnfitCut};
+ghost use Rattle.sequence_data.specs.Weights.{weight};
+ghost use Rattle.zero_sum_lp.specs.PlanSteps.{IsSharedTo, IsUnfitShare, IsCutTo, IsUnfitCut};
 
 use crate::weights::{set_weight, weight_at};
 use form_matrices::set_at;

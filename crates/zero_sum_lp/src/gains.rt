@@ -1,7 +1,7 @@
 // What player 0's payoffs exceed the least one by.
 ghost use Rattle.std.specs.Prelude.{◌≡◌, map, IfOk, IfErr, OnOk};
 ghost use Rattle.answers.specs.Answers.{Gives, map_ok};
-ghost use Rattle.form_matrices.specs.FirstUnfit.{Fits};
+ghost use Rattle.pure_payoffs.specs.FirstUnfit.{Fits};
 ghost use Rattle.pure_payoffs.specs.Steps.{IsFirstUnfit};
 ghost use Rattle.zero_sum_lp.specs.declared.stop.LpStop.TheVariants as lp_stops;
 ghost use Rattle.zero_sum_lp.specs.FormPrograms.{gain_at, gain_steps, gains_in};

@@ -4,7 +4,8 @@ ghost use Rattle.std.specs.Prelude.{◌≡◌, ◌≢◌, ◌≤◌, ◌<◌, �
 ghost use Rattle.sequence_forms.specs.Sides.{sequences};
 ghost use Rattle.answers.specs.Answers.{Gives};
 ghost use Rattle.zero_sum_lp.specs.declared.stop.PlanStop.TheVariants as plan_stops;
-ghost use Rattle.zero_sum_lp.specs.PlanSteps.{weight, IsRaisedTo, IsUnfitRaise, IsCutTo, IsUnfitCut};
+ghost use Rattle.sequence_data.specs.Weights.{weight};
+ghost use Rattle.zero_sum_lp.specs.PlanSteps.{IsRaisedTo, IsUnfitRaise, IsCutTo, IsUnfitCut};
 ghost use Rattle.zero_sum_lp.specs.PlanStops.{AreRawOne, AreRawTwo, plans_of};
 ghost use Rattle.linear_systems.specs.Rows.{coefficient, HasDistinctVariables};
 ghost use Rattle.linear_programs.specs.Programs.{price_one as first_price, price_two as second_price};

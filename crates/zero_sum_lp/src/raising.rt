@@ -5,7 +5,8 @@ ghost use Rattle.pure_payoffs.specs.Steps.{StepFits, IsFirstUnfit};
 ghost use Rattle.rational.specs.Rational.{◌+ℚ◌, ◌-ℚ◌};
 ghost use Rattle.rational.specs.Sum.{sum_to};
 ghost use Rattle.sequence_forms.specs.Sides.{sequences};
-ghost use Rattle.zero_sum_lp.specs.PlanSteps.{weight, rest_steps, raise_steps, IsRaisedTo, IsUnfitRaise};
+ghost use Rattle.sequence_data.specs.Weights.{weight};
+ghost use Rattle.zero_sum_lp.specs.PlanSteps.{rest_steps, raise_steps, IsRaisedTo, IsUnfitRaise};
 
 use crate::weights::{set_weight, weight_at};
 use form_matrices::set_at;

@@ -1,6 +1,6 @@
 // Reads and writes of weights and sets.
 ghost use Rattle.std.specs.Prelude.{◌≡◌, ◌≢◌, ◌<◌, ℕ, length};
-ghost use Rattle.zero_sum_lp.specs.PlanSteps.{weight};
+ghost use Rattle.sequence_data.specs.Weights.{weight};
 
 use frac128::Frac;
 

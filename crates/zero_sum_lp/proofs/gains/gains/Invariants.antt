@@ -1,5 +1,5 @@
 use Rattle.std.proofs.Common.{◌≡◌, All, map, take}
-use Rattle.form_matrices.specs.FirstUnfit.{Fits}
+use Rattle.pure_payoffs.specs.FirstUnfit.{Fits}
 use Rattle.zero_sum_lp.specs.FormPrograms.{gain_at, gain_steps}
 use Rattle.zero_sum_lp.proofs.gains.gains.Given as goal
 

@@ -1,7 +1,8 @@
 use Rattle.std.proofs.Common.{◌∙◌, ◌<◌, ap, List, length, subst, arith}
 use Rattle.sequence_data.specs.declared.types.SetRow.{SetRow}
 use Rattle.sequence_data.specs.Data.{side_of}
-use Rattle.zero_sum_lp.specs.PlanSteps.{weight, IsRaisedTo}
+use Rattle.sequence_data.specs.Weights.{weight}
+use Rattle.zero_sum_lp.specs.PlanSteps.{IsRaisedTo}
 use Rattle.zero_sum_lp.proofs.PlanLists.{set_read, set_in, raised_from, raised_read, unfit_raise_from, unfit_raise_read}
 use Rattle.zero_sum_lp.proofs.raising.raise.Goals as goal
 

@@ -1,6 +1,7 @@
 use Rattle.std.proofs.Common.{◌≡◌, length}
 use Rattle.sequence_data.specs.Data.{side_of}
-use Rattle.zero_sum_lp.specs.PlanSteps.{weight, IsRaisedTo}
+use Rattle.sequence_data.specs.Weights.{weight}
+use Rattle.zero_sum_lp.specs.PlanSteps.{IsRaisedTo}
 use Rattle.zero_sum_lp.proofs.raising.raise.Given as goal
 
 abbrev pub invariant-loop-j : goal.invariant-loop-j

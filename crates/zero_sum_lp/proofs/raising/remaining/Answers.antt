@@ -1,7 +1,7 @@
 use Rattle.std.proofs.Common.{◌+◌}
 use Rattle.std.proofs.lemmas.List.Elements.{All-nil}
 use Rattle.pure_payoffs.specs.Steps.{StepFits}
-use Rattle.zero_sum_lp.specs.PlanSteps.{weight}
+use Rattle.sequence_data.specs.Weights.{weight}
 use Rattle.zero_sum_lp.proofs.PlanLists.{rest_begins, rest_next, rest_fits, rest_fails}
 use Rattle.zero_sum_lp.proofs.raising.remaining.Goals as goal
 

@@ -1,7 +1,8 @@
 use Rattle.std.proofs.Common.{All, ◌≡◌, ◌+◌}
 use Rattle.rational.specs.Rational.{◌-ℚ◌}
 use Rattle.rational.specs.Sum.{sum_to}
-use Rattle.zero_sum_lp.specs.PlanSteps.{weight, rest_steps}
+use Rattle.sequence_data.specs.Weights.{weight}
+use Rattle.zero_sum_lp.specs.PlanSteps.{rest_steps}
 use Rattle.pure_payoffs.specs.Steps.{StepFits}
 use Rattle.pure_payoffs.specs.Steps.{StepFits}
 use Rattle.zero_sum_lp.proofs.raising.remaining.Given as goal

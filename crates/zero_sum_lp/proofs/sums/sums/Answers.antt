@@ -3,7 +3,7 @@ use Rattle.frac128.specs.Steps.{unfit}
 use Rattle.frac128.specs.declared.steps.Op.TheVariants.{Add}
 use Rattle.pure_payoffs.specs.Steps.{IsFirstUnfit}
 use Rattle.pure_payoffs.proofs.Runs.{first_unfit-here, one-fits}
-use Rattle.form_matrices.proofs.FirstUnfits.{fits_next, first_unfit_here, made_next}
+use Rattle.pure_payoffs.proofs.FirstUnfits.{fits_next, first_unfit_here, made_next}
 use Rattle.zero_sum_lp.specs.FormPrograms.{sum_at, sum_steps}
 use Rattle.zero_sum_lp.proofs.sums.sums.Goals as goal
 

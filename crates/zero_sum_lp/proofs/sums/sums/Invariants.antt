@@ -1,5 +1,5 @@
 use Rattle.std.proofs.Common.{◌≡◌, All, map, take}
-use Rattle.form_matrices.specs.FirstUnfit.{Fits}
+use Rattle.pure_payoffs.specs.FirstUnfit.{Fits}
 use Rattle.zero_sum_lp.specs.FormPrograms.{sum_at, sum_steps}
 use Rattle.zero_sum_lp.proofs.sums.sums.Given as goal
 

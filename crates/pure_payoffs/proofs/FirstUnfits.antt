@@ -6,7 +6,7 @@ use Rattle.std.proofs.lemmas.List.Elements.{All-nil, All-cons, All-append}
 use Rattle.answers.specs.Answers.{IsSingle}
 use Rattle.pure_payoffs.specs.Steps.{Step, StepFits, IsFirstUnfit}
 use Rattle.pure_payoffs.proofs.Runs.{first_unfit-more}
-use Rattle.form_matrices.specs.FirstUnfit.{Fits, IsFirstUnfitOf, all_fit}
+use Rattle.pure_payoffs.specs.FirstUnfit.{Fits, IsFirstUnfitOf, all_fit}
 
 -- what holds of all holds of each
 pub front_has : {X : Type 0} (P : X → Type 0) (before after : List X) (x : X) → All P (before ++ x ∷ after) → P x
