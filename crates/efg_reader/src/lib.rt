@@ -9,5 +9,5 @@ mod reading;
 
 pub use fault::{EfgFault, EfgStop};
 pub use reading::{read, trees_are_single};
-pub use tree_files::files_have_one_tree;
+pub use tree_files::{files_are_read, files_have_one_tree};
 pub use tree_uses::EfgKind;
