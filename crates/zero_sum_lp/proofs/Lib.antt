@@ -5,6 +5,7 @@ pub mod FormPrograms
 pub mod FormSystems
 pub mod Optima
 pub mod PathEnds
+pub mod PlanAnswers
 pub mod PlanLists
 pub mod PlanReads
 pub mod ProgramSteps
