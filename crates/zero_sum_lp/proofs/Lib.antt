@@ -8,6 +8,7 @@ pub mod PathEnds
 pub mod PlanAnswers
 pub mod PlanLists
 pub mod PlanReads
+pub mod ProgramAnswers
 pub mod ProgramSteps
 pub mod Starting
 pub mod Systems
