@@ -1,14 +1,14 @@
 -- An optimum has one pair of plans, or one first step that does not fit.
-use Rattle.std.proofs.Common.{ℕ, zero, suc, ◌<◌, ◌≤◌, ◌≡◌, ◌+◌, ◌-◌, inl, inr, All, List, [], Ok, Err, length, sym, ap, ◌∙◌, subst, arith}
+use Rattle.std.proofs.Common.{ℕ, zero, suc, ◌<◌, ◌≤◌, ◌≡◌, ◌+◌, inl, inr, All, List, [], Ok, Err, length, sym, ap, ◌∙◌, subst, arith}
 use Rattle.std.proofs.lemmas.Bool.{cases_eq, cases_lt}
 use Rattle.std.proofs.lemmas.List.{ext_get_or}
 use Rattle.std.proofs.lemmas.List.Elements.{All-nil, All-append}
 use Rattle.rational.specs.Rational.{ℚ, ◌+ℚ◌, ◌-ℚ◌, zero_ℚ, one_ℚ}
 use Rattle.rational.specs.Sum.{sum_to}
-use Rattle.rational.proofs.Field.{le_antisymm}
 use Rattle.rational.proofs.Sums.{sum_to-same}
 use Rattle.linear_systems.proofs.LexRow.{below_cases}
 use Rattle.linear_programs.specs.Plans.{IsLesser}
+use Rattle.linear_programs.proofs.Plans.{each_sequence, lesser_once}
 use Rattle.pure_payoffs.specs.Steps.{Step, StepFits, IsFirstUnfit}
 use Rattle.pure_payoffs.proofs.FirstUnfits.{unfit_begins, unfit_excludes}
 use Rattle.pure_payoffs.proofs.Runs.{first_unfit-more}
@@ -31,25 +31,28 @@ fits_or_not : (ss : List Step) (e : Step) → All StepFits ss → IsFirstUnfit s
 fits_or_not ss e f h = unfit_excludes ss [] e h (All-append StepFits ss [] f (All-nil StepFits))
 
 -- ---- set by set
--- weights that agree at each set where they agree before it
-agree : (d : Side) (z z' : ℕ → ℚ) (n : ℕ) → z 0 ≡ z' 0 → ((j : ℕ) → j < n → ((q : ℕ) → q < first d j → z q ≡ z' q) → (a : ℕ) → a < d.count j → z (first d j + a) ≡ z' (first d j + a)) → (q : ℕ) → q < first d n → z q ≡ z' q
-agree d z z' zero e f q l = (let at : q ≡ 0 = omega arith in ap z at ∙ e ∙ sym (ap z' at))
-agree d z z' (suc n) e f q l = elim (cases_lt q (first d n)) [
-  | inl h ↦ agree d z z' n e (λ j k. f j (omega (arith, k))) q h
-  | inr h ↦ (let at : q ≡ first d n + (q - first d n) = omega (arith, h) in ap z at ∙ f n (omega arith) (agree d z z' n e (λ j k. f j (omega (arith, k)))) (q - first d n) (omega (arith, h, l)) ∙ sym (ap z' at))
-]
+-- a side with its first n sets
+abbrev front : Side → ℕ → Side
+front d n = record { sets = n; before = d.before; count = d.count }
+
+front_ordered : (d : Side) (n : ℕ) → IsOrderedSide d → n ≤ d.sets → IsOrderedSide (front d n)
+front_ordered d n o h = record { follows = λ j l. o.follows j (omega (arith, h, l)); some_action = λ j l. o.some_action j (omega (arith, h, l)) }
+
+-- weights that agree after each set where they agree before it
+agree : (d : Side) (z z' : ℕ → ℚ) (n : ℕ) → IsOrderedSide d → n ≤ d.sets → z 0 ≡ z' 0 → ((j : ℕ) → j < n → z (d.before j) ≡ z' (d.before j) → (a : ℕ) → a < d.count j → z (first d j + a) ≡ z' (first d j + a)) → (q : ℕ) → q < first d n → z q ≡ z' q
+agree d z z' n o h e f q l = each_sequence (front d n) (λ q. z q ≡ z' q) (front_ordered d n o h) e f n (omega arith) q l
 
 -- ---- raised plans
 module _ (d : Side) (o : IsOrderedSide d) (x : ℕ → ℚ) where
-  raised_action : (n m : ℕ) (z z' : ℕ → ℚ) → IsRaisedTo d n x z → IsRaisedTo d m x z' → (j : ℕ) → j < d.sets → j < n → j < m → ((q : ℕ) → q < first d j → z q ≡ z' q) → (a : ℕ) → a < d.count j → z (first d j + a) ≡ z' (first d j + a)
-  raised_action n m z z' r s j h hn hm before a l = elim (cases_eq a 0) [
-    | inl e ↦ (let at : first d j + a ≡ first d j = omega (arith, e) in ap z at ∙ r.first_action j hn ∙ ap (λ w. x (first d j) +ℚ (w -ℚ sum_to (d.count j) (λ a. x (first d j + a)))) (before (d.before j) (o.follows j h)) ∙ sym (s.first_action j hm) ∙ sym (ap z' at))
+  raised_action : (n m : ℕ) (z z' : ℕ → ℚ) → IsRaisedTo d n x z → IsRaisedTo d m x z' → (j : ℕ) → j < n → j < m → z (d.before j) ≡ z' (d.before j) → (a : ℕ) → a < d.count j → z (first d j + a) ≡ z' (first d j + a)
+  raised_action n m z z' r s j hn hm before a l = elim (cases_eq a 0) [
+    | inl e ↦ (let at : first d j + a ≡ first d j = omega (arith, e) in ap z at ∙ r.first_action j hn ∙ ap (λ w. x (first d j) +ℚ (w -ℚ sum_to (d.count j) (λ a. x (first d j + a)))) before ∙ sym (s.first_action j hm) ∙ sym (ap z' at))
     | inr ne ↦ (let some : 0 < a = omega (arith, ne) in r.others j a hn some l ∙ sym (s.others j a hm some l))
   ]
 
   raised_agree : (n m k : ℕ) (z z' : ℕ → ℚ) → IsRaisedTo d n x z → IsRaisedTo d m x z' → k ≤ d.sets → k ≤ n → k ≤ m → (q : ℕ) → q < first d k → z q ≡ z' q
   raised_agree n m k z z' r s h hn hm =
-      agree d z z' k (r.empty ∙ sym s.empty) (λ j l. raised_action n m z z' r s j (omega (arith, h, l)) (omega (arith, hn, l)) (omega (arith, hm, l)))
+      agree d z z' k o h (r.empty ∙ sym s.empty) (λ j l. raised_action n m z z' r s j (omega (arith, hn, l)) (omega (arith, hm, l)))
 
   abbrev steps_at : (ℕ → ℚ) → ℕ → List Step
   steps_at z j = raise_steps (z (d.before j)) (λ a. x (first d j + a)) (d.count j)
@@ -73,12 +76,6 @@ module _ (d : Side) (o : IsOrderedSide d) (x : ℕ → ℚ) where
   ]
 
 -- ---- shares
-lesser_once : (a b c k : ℚ) → IsLesser a b c → IsLesser a b k → c ≡ k
-lesser_once a b c k (inl h) (inl g) = h.0 ∙ sym g.0
-lesser_once a b c k (inl h) (inr g) = h.0 ∙ le_antisymm a b h.1 g.1 ∙ sym g.0
-lesser_once a b c k (inr h) (inl g) = h.0 ∙ le_antisymm b a h.1 g.1 ∙ sym g.0
-lesser_once a b c k (inr h) (inr g) = h.0 ∙ sym g.0
-
 -- the first n actions took their shares
 abbrev AreShares : ℚ → (ℕ → ℚ) → (ℕ → ℚ) → ℕ → Type 0
 AreShares w x z n = (a : ℕ) → a < n → IsLesser (x a) (w -ℚ sum_to a z) (z a)
@@ -124,9 +121,9 @@ module _ (d : Side) (o : IsOrderedSide d) (x : ℕ → ℚ) where
 
   cut_agree : (n m k : ℕ) (z z' : ℕ → ℚ) → AreCut n z → AreCut m z' → k ≤ d.sets → k ≤ n → k ≤ m → (q : ℕ) → q < first d k → z q ≡ z' q
   cut_agree n m k z z' r s h hn hm =
-      agree d z z' k (r.empty ∙ sym s.empty) (λ j l before.
+      agree d z z' k o h (r.empty ∙ sym s.empty) (λ j l before.
       shares_once (z (d.before j)) (λ a. x (first d j + a)) (λ a. z (first d j + a)) (λ a. z' (first d j + a)) (d.count j) (r.sets j (omega (arith, hn, l))).shares
-      (subst (λ w. IsSharedAt w z' j) (sym (before (d.before j) (o.follows j (omega (arith, h, l))))) (s.sets j (omega (arith, hm, l)))).shares)
+      (subst (λ w. IsSharedAt w z' j) (sym before) (s.sets j (omega (arith, hm, l)))).shares)
 
   -- the weight before a set
   before_agree : (n m j : ℕ) (z z' : ℕ → ℚ) → AreCut n z → AreCut m z' → j < d.sets → j ≤ n → j ≤ m → z (d.before j) ≡ z' (d.before j)
