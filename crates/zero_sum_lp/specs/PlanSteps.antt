@@ -104,11 +104,12 @@ abbrev pub raise_steps_at : List ℚ → ℕ → ℕ → ℕ → List Step
 raise_steps_at weights before first count =
     raise_steps (weight weights before) (λ a. weight weights (first + a)) count
 
--- a set's actions share out the weight before the set; or a step of it is the first that does not fit
+-- a set's actions share out the weight before the set
 abbrev pub SharesOut : List ℚ → List ℚ → ℕ → ℕ → ℕ → Type 0
 SharesOut old new before first count =
     IsSharedTo (weight old before) (λ a. weight old (first + a)) (λ a. weight new (first + a)) count
 
+-- they begin to, and a step is the first that does not fit
 abbrev pub FailsToShare : List ℚ → List ℚ → ℕ → ℕ → ℕ → Step → Type 0
 FailsToShare old new before first count e =
     IsUnfitShare (weight old before) (λ a. weight old (first + a)) (λ a. weight new (first + a))
