@@ -40,7 +40,8 @@ impl<'a> Walk<'a> {
     fn is_reached(&self, number: usize) -> bool
         requires at { IsAt self.now number }
         requires within { number < length self.now.decisions.now }
-        ensures { (d : Decision) → slice_get self.now.decisions.now number ≡ Some d → result ≡ is_led_to self.now.reached.items self.now.choices.items d.before }
+        ensures { (d : Decision) → slice_get self.now.decisions.now number ≡ Some d
+            → result ≡ is_led_to self.now.reached.items self.now.choices.items d.before }
     {
         match self.decisions[number].before {
             None => true,
@@ -70,7 +71,8 @@ impl<'a> Walk<'a> {
     // Goes on to the end over the decisions from a number on.
     fn forward(&mut self, from: usize) -> Result<(), Memory>
         requires { IsAt self.old from }
-        ensures { IfOk result (λ _. ComesTo self.old from self.new (length self.old.decisions.now)) }
+        ensures { IfOk result
+            (λ _. ComesTo self.old from self.new (length self.old.decisions.now)) }
     {
         for number in from..self.decisions.len() {
             self.visit(number)?;
@@ -81,7 +83,8 @@ impl<'a> Walk<'a> {
     // Goes back to the last set that has a further action, and takes that. Answers the decision to go on with.
     fn back(&mut self) -> Option<usize>
         requires { IsAt self.old (length self.old.decisions.now) }
-        ensures { MatchOption result (later_ends self.old ≡ []) (λ next. IsAt self.new next × (ends_from self.new next ≡ later_ends self.old)) }
+        ensures { MatchOption result (later_ends self.old ≡ []) (λ next. IsAt self.new next
+            × (ends_from self.new next ≡ later_ends self.old)) }
     {
         while let Some(last) = self.fixed.last() {
             let number = *last;
@@ -107,8 +110,11 @@ pub fn count_ends(
 ) -> Result<usize, Memory>
     requires linked { AreLinked decisions.now actions.now }
     requires most { most + 1 < 2 ^ 64 }
-    ensures lists { IfOk result (λ count. (lists : List (List ℕ)) × AreWalks decisions.now actions.now lists × (count ≡ min (length lists) (most + 1))) }
-    ensures ends { IfOk result (λ count. count ≡ min (length (ends actions.now decisions.now [] (replicate (length actions.now) 0))) (most + 1)) }
+    ensures lists { IfOk result (λ count. (lists : List (List ℕ))
+        × AreWalks decisions.now actions.now lists × (count ≡ min (length lists) (most + 1))) }
+    ensures ends { IfOk result (λ count. count
+        ≡ min (length (ends actions.now decisions.now [] (replicate (length actions.now) 0)))
+        (most + 1)) }
 {
     let mut walk = Walk::new(alloc, decisions, actions)?;
     let mut count = 0;
@@ -131,7 +137,8 @@ pub fn list_walks(
     actions: &[u32],
 ) -> Result<Vec<Vec<u32>>, Memory>
     requires linked { AreLinked decisions.now actions.now }
-    ensures { IfOk result (λ lists. AreWalks decisions.now actions.now (map (λ v. v.items) lists.items)) }
+    ensures { IfOk result
+        (λ lists. AreWalks decisions.now actions.now (map (λ v. v.items) lists.items)) }
 {
     let mut walk = Walk::new(alloc, decisions, actions)?;
     let mut lists = Vec::new(alloc);

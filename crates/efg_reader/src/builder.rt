@@ -56,7 +56,8 @@ pub struct Builder {
 // Takes the first free place.
 fn take_place(branchings: &mut Vec<Branching>) -> Option<Branching>
     requires next { All (λ b. b.next < 4294967295) branchings.old.items }
-    ensures { HasTaken (branchings_of branchings.old.items) result (branchings_of branchings.new.items) }
+    ensures { HasTaken (branchings_of branchings.old.items) result
+        (branchings_of branchings.new.items) }
 {
     let last = branchings.len().checked_sub(1)?;
     let taken = branchings[last];
@@ -75,7 +76,8 @@ fn add_places(
     count: usize,
     depth: u32,
 ) -> Result<(), AllocError>
-    ensures { OnOk result (branchings_of branchings.new.items ≡ add_places node count depth (branchings_of branchings.old.items)) }
+    ensures { OnOk result (branchings_of branchings.new.items
+        ≡ add_places node count depth (branchings_of branchings.old.items)) }
 {
     if count > 0 {
         branchings.push(Branching {
@@ -145,13 +147,18 @@ impl Builder {
 
     /// Adds a node with this choice and this outcome at the first free place.
     pub fn add(&mut self, choice: Choice, outcome: Option<u32>) -> Result<(), AllocError>
-        requires near { AllByRecursion (IsNear (length self.old.nodes.items)) (branchings_of self.old.branchings.items) }
+        requires near { AllByRecursion (IsNear (length self.old.nodes.items))
+            (branchings_of self.old.branchings.items) }
         requires free { branchings_of self.old.branchings.items ≢ [] }
         requires room { passed (begun_of self.old) ≡ None }
-        ensures grown { OnOk result (grown (begun_of self.old) choice.kind choice.set outcome ≡ Some (begun_of self.new)) }
-        ensures near { OnOk result (AllByRecursion (IsNear (length self.new.nodes.items)) (branchings_of self.new.branchings.items)) }
+        ensures grown { OnOk result (grown (begun_of self.old) choice.kind choice.set outcome
+            ≡ Some (begun_of self.new)) }
+        ensures near { OnOk result
+            (AllByRecursion (IsNear (length self.new.nodes.items))
+            (branchings_of self.new.branchings.items)) }
         ensures few_nodes { OnOk result (length self.new.nodes.items ≤ most_nodes) }
-        ensures longer { OnOk result (length self.new.nodes.items ≡ suc (length self.old.nodes.items)) }
+        ensures longer { OnOk result (length self.new.nodes.items
+            ≡ suc (length self.old.nodes.items)) }
         ensures sets { self.new.sets ≡ self.old.sets }
         ensures outcomes { self.new.outcomes ≡ self.old.outcomes }
     {

@@ -25,7 +25,8 @@ pub fn read_front(
     alloc: Global,
     tokens: &[Spanned],
 ) -> Result<(Front, &[Spanned]), Refusal<EfgKind>>
-    ensures { Parses (λ x. ((x.0.title, x.0.players.items), kinds x.1.now)) result (parse_head (kinds tokens.now)) }
+    ensures { Parses (λ x. ((x.0.title, x.0.players.items), kinds x.1.now)) result
+        (parse_head (kinds tokens.now)) }
 {
     let (title, behind) = title(tokens, b"EFG", 2, EfgKind::Header)?;
     let title = copied(alloc, title)?;

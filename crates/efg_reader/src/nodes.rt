@@ -80,7 +80,8 @@ fn set_choice<'a>(
     requires few { length sets.list.items < 4294967295 }
     requires short { AllByRecursion IsShortToken (kinds tokens.now) }
     ensures sets { IfOk result (λ x. AreSets x.0) }
-    ensures read { Parses (λ x. ((begun_sets x.0, (x.1.kind, x.1.set)), kinds x.2.now)) result (parse_set_choice number (begun_sets sets) owner (kinds tokens.now)) }
+    ensures read { Parses (λ x. ((begun_sets x.0, (x.1.kind, x.1.set)), kinds x.2.now)) result
+        (parse_set_choice number (begun_sets sets) owner (kinds tokens.now)) }
 {
     match read_set(alloc, sets, owner, number, tokens) {
         Ok((sets, set, rest)) => {
@@ -107,7 +108,8 @@ fn own_choice<'a>(
     requires few { length sets.list.items < 4294967295 }
     requires short { AllByRecursion IsShortToken (kinds tokens.now) }
     ensures sets { IfOk result (λ x. AreSets x.0) }
-    ensures read { Parses (λ x. ((begun_sets x.0, (x.1.kind, x.1.set)), kinds x.2.now)) result (parse_own_choice players number (begun_sets sets) (kinds tokens.now)) }
+    ensures read { Parses (λ x. ((begun_sets x.0, (x.1.kind, x.1.set)), kinds x.2.now)) result
+        (parse_own_choice players number (begun_sets sets) (kinds tokens.now)) }
 {
     match player(tokens, players) {
         Ok((player, behind)) => set_choice(alloc, sets, Some(player), number, behind),
@@ -129,7 +131,8 @@ fn choice<'a>(
     requires few { length sets.list.items < 4294967295 }
     requires short { AllByRecursion IsShortToken (kinds tokens.now) }
     ensures sets { IfOk result (λ x. AreSets x.0) }
-    ensures read { Parses (λ x. ((begun_sets x.0, (x.1.kind, x.1.set)), kinds x.2.now)) result (parse_choice players number (begun_sets sets) (kinds tokens.now)) }
+    ensures read { Parses (λ x. ((begun_sets x.0, (x.1.kind, x.1.set)), kinds x.2.now)) result
+        (parse_choice players number (begun_sets sets) (kinds tokens.now)) }
 {
     let Some((word, name_on)) = word(tokens) else {
         return Err(unfit(EfgKind::Node, tokens));
@@ -165,7 +168,8 @@ fn next<'a>(
     requires free { (begun_of builder).branchings ≢ [] }
     requires short { AllByRecursion IsShortToken (kinds tokens.now) }
     ensures valid { IfOk result (λ x. IsBuilder x.0) }
-    ensures read { Parses (λ x. (begun_of x.0, kinds x.1.now)) result (parse_at players (begun_of builder) (begun_of builder).branchings (kinds tokens.now)) }
+    ensures read { Parses (λ x. (begun_of x.0, kinds x.1.now)) result
+        (parse_at players (begun_of builder) (begun_of builder).branchings (kinds tokens.now)) }
 {
     let Builder {
         nodes,
@@ -205,7 +209,8 @@ fn one_more<'a>(
     requires free { (begun_of builder).branchings ≢ [] }
     requires short { AllByRecursion IsShortToken (kinds tokens.now) }
     ensures valid { IfOk result (λ x. IsBuilder x.0) }
-    ensures read { ReadsNode (λ x. (begun_of x.0, kinds x.1.now)) result players (begun_of builder) (kinds tokens.now) }
+    ensures read { ReadsNode (λ x. (begun_of x.0, kinds x.1.now)) result players (begun_of builder)
+        (kinds tokens.now) }
 {
     if !begins_node(tokens) {
         return Err(Stop::Refused(unfit(EfgKind::Node, tokens)));

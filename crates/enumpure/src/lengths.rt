@@ -12,7 +12,8 @@ use game_core::Table;
 // How many bytes the line of each pure profile has: besides `NE` and the line feed a comma and a digit for
 // each strategy, or a comma alone.
 fn line_length(table: &Table) -> usize
-    ensures each { (profile : List ℕ) → length (line_text (entries (strategy_counts table.now) (pure profile))) ≡ result }
+    ensures each { (profile : List ℕ)
+        → length (line_text (entries (strategy_counts table.now) (pure profile))) ≡ result }
     ensures fits { profile_count (strategy_counts table.now) * result < 2 ^ 64 }
 {
     let mut strategies = 0;
@@ -29,7 +30,9 @@ fn line_length(table: &Table) -> usize
 /// How many bytes the lines of the flagged profiles have.
 pub fn text_length(table: &Table, stable: &[bool]) -> usize
     requires flags { length stable.now ≡ profile_count (strategy_counts table.now) }
-    ensures { result ≡ length (lines_text (lines_below (strategy_counts table.now) stable.now (length stable.now))) }
+    ensures { result
+        ≡ length (lines_text (lines_below (strategy_counts table.now) stable.now
+        (length stable.now))) }
 {
     stable.iter().filter(|stable| **stable).count() * line_length(table)
 }

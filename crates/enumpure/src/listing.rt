@@ -56,7 +56,8 @@ fn set_ranked(profile: &mut [u32], counts: &[usize], profiles: usize, rank: usiz
 
 // Adds a player's entries: 1 for the strategy that is played, and 0 for the others.
 fn push_entries(entries: &mut Vec<Frac>, strategies: usize, played: usize) -> Result<(), Memory>
-    ensures { OnOk result (entries.new.items ≡ entries.old.items ++ listed strategies (sure played)) }
+    ensures { OnOk result (entries.new.items
+        ≡ entries.old.items ++ listed strategies (sure played)) }
 {
     for strategy in 0..strategies {
         let entry = if strategy == played {
@@ -95,7 +96,8 @@ fn push_lines(
     requires players { length profile.old ≡ length counts.now }
     requires flags { length stable.now ≡ profile_count counts.now }
     requires few { length stable.now ≤ most_payoffs }
-    ensures { OnOk result (text.new.items ≡ text.old.items ++ lines_text (lines_below counts.now stable.now (length stable.now))) }
+    ensures { OnOk result (text.new.items
+        ≡ text.old.items ++ lines_text (lines_below counts.now stable.now (length stable.now))) }
 {
     for rank in 0..stable.len() {
         set_ranked(profile, counts, stable.len(), rank);
@@ -118,7 +120,8 @@ fn write_lines(
     requires counts { counts.now ≡ strategy_counts table.now }
     requires few { length stable.now ≤ most_payoffs }
     requires flags { length stable.now ≡ profile_count counts.now }
-    ensures { IfOk result (λ text. text.items ≡ lines_text (lines_below counts.now stable.now (length stable.now))) }
+    ensures { IfOk result (λ text. text.items
+        ≡ lines_text (lines_below counts.now stable.now (length stable.now))) }
 {
     let mut profile = vec![in alloc; 0; counts.len()]?;
     let mut entries = Vec::new(alloc);
@@ -143,7 +146,8 @@ fn write_lines(
 /// `TooLarge` exactly where the lines have more than 67,108,864 bytes, which are counted before any line is
 /// written; `Memory` where memory ran out.
 pub fn list_pure_equilibria(alloc: Global, table: &Table) -> Result<Vec<u8>, ListStop>
-    ensures { Gives stops.Memory (pure_text (game_of table.now)) (map_ok result (λ text. text.items)) }
+    ensures { Gives stops.Memory (pure_text (game_of table.now))
+        (map_ok result (λ text. text.items)) }
 {
     let counts = strategy_counts(alloc, table)?;
     let stable = stable_profiles(alloc, table)?;

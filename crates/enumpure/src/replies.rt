@@ -49,9 +49,11 @@ fn is_less(left: Frac, right: Frac) -> bool
 // which the player plays strategy 0. The stride leads to the profile with the player's next strategy.
 fn best_payoff(table: &Table, player: usize, stride: usize, first: usize) -> Frac
     requires player { player < length table.now.players }
-    requires profiles { (s : ℕ) → s < slice_index (strategy_counts table.now) player → first + stride * s < profile_count (strategy_counts table.now) }
+    requires profiles { (s : ℕ) → s < slice_index (strategy_counts table.now) player
+        → first + stride * s < profile_count (strategy_counts table.now) }
     requires valid { IsTable table.now }
-    ensures { IsBest ((game_of table.now).pays player) first stride (slice_index (strategy_counts table.now) player) result }
+    ensures { IsBest ((game_of table.now).pays player) first stride
+        (slice_index (strategy_counts table.now) player) result }
 {
     let mut best = payoff(table, player, first);
     for strategy in 1..strategy_count(table, player) {
@@ -75,8 +77,10 @@ fn strike(
     requires player { player < length table.now.players }
     requires flags { length stable.old ≡ profile_count (strategy_counts table.now) }
     requires stride { 0 < stride }
-    requires profiles { (s : ℕ) → s < slice_index (strategy_counts table.now) player → first + stride * s < profile_count (strategy_counts table.now) }
-    ensures struck { AreStruck ((game_of table.now).pays player) first stride (slice_index (strategy_counts table.now) player) best stable.old stable.new }
+    requires profiles { (s : ℕ) → s < slice_index (strategy_counts table.now) player
+        → first + stride * s < profile_count (strategy_counts table.now) }
+    ensures struck { AreStruck ((game_of table.now).pays player) first stride
+        (slice_index (strategy_counts table.now) player) best stable.old stable.new }
 {
     for strategy in 0..strategy_count(table, player) {
         let profile = first + stride * strategy;

@@ -45,7 +45,9 @@ fn set_ordered(profile: &mut [u32], orders: &[Vec<u32>], profiles: usize, rank: 
     requires players { length profile.old ≡ length orders.now }
     requires profiles { profiles ≡ profile_count (map length (map (λ v. v.items) orders.now)) }
     requires rank { rank < profiles }
-    ensures { profile.new ≡ ordered (map (λ v. v.items) orders.now) (ranked (map length (map (λ v. v.items) orders.now)) rank) }
+    ensures { profile.new
+        ≡ ordered (map (λ v. v.items) orders.now)
+        (ranked (map length (map (λ v. v.items) orders.now)) rank) }
 {
     let mut later = profiles;
     let mut rest = rank;
@@ -59,9 +61,12 @@ fn set_ordered(profile: &mut [u32], orders: &[Vec<u32>], profiles: usize, rank: 
 // Whether a profile is an equilibrium.
 fn is_stable(lines: &Lines, profile: &[u32]) -> bool
     requires form { IsReducedForm lines.now.tree.now lines.now.reduced.now }
-    requires flags { length lines.now.stable.now ≡ profile_count (map length lines.now.reduced.now.choices) }
+    requires flags { length lines.now.stable.now
+        ≡ profile_count (map length lines.now.reduced.now.choices) }
     requires profile { IsProfile (map length lines.now.reduced.now.choices) profile.now }
-    ensures { result ≡ flag lines.now.stable.now (number_of (map length lines.now.reduced.now.choices) profile.now) }
+    ensures { result
+        ≡ flag lines.now.stable.now
+        (number_of (map length lines.now.reduced.now.choices) profile.now) }
 {
     lines.stable[lines.reduced.table().profile_number(profile)]
 }
@@ -77,7 +82,10 @@ fn line_length(
     requires form { IsReducedForm tree.now reduced.now }
     requires profile { IsProfile (map length reduced.now.choices) profile.now }
     ensures some { IfOk result (λ bytes. 0 < bytes) }
-    ensures each { IfOk result (λ bytes. (other : List ℕ) → IsProfile (map length reduced.now.choices) other → length (line_text (profile_line (game_of_tree tree.now) reduced.now.choices other)) ≡ bytes) }
+    ensures each { IfOk result (λ bytes. (other : List ℕ)
+        → IsProfile (map length reduced.now.choices) other
+        → length (line_text (profile_line (game_of_tree tree.now) reduced.now.choices other))
+        ≡ bytes) }
 {
     let behaviour = Behaviour::from_reduced(alloc, tree, reduced, profile)?;
     Ok(line(alloc, behaviour.entries())?.len())
@@ -92,9 +100,16 @@ fn push_lines(
 ) -> Result<(), Memory>
     requires players { length profile.old ≡ length lines.now.orders.now }
     requires form { IsReducedForm lines.now.tree.now lines.now.reduced.now }
-    requires orders { AreOrders lines.now.reduced.now.choices (map (λ v. v.items) lines.now.orders.now) }
-    requires flags { length lines.now.stable.now ≡ profile_count (map length lines.now.reduced.now.choices) }
-    ensures { OnOk result (text.new.items ≡ text.old.items ++ lines_text (lines_below (game_of_tree lines.now.tree.now) lines.now.reduced.now.choices (map (λ v. v.items) lines.now.orders.now) (flag lines.now.stable.now) (length lines.now.stable.now))) }
+    requires orders { AreOrders lines.now.reduced.now.choices
+        (map (λ v. v.items) lines.now.orders.now) }
+    requires flags { length lines.now.stable.now
+        ≡ profile_count (map length lines.now.reduced.now.choices) }
+    ensures { OnOk result (text.new.items
+        ≡ text.old.items
+        ++ lines_text (lines_below
+        (game_of_tree lines.now.tree.now) lines.now.reduced.now.choices
+        (map (λ v. v.items) lines.now.orders.now) (flag lines.now.stable.now)
+        (length lines.now.stable.now))) }
 {
     for rank in 0..lines.stable.len() {
         set_ordered(profile, lines.orders, lines.stable.len(), rank);
@@ -115,9 +130,14 @@ fn write_lines(
 ) -> Result<Vec<u8>, Memory>
     requires players { length profile.old ≡ length lines.now.orders.now }
     requires form { IsReducedForm lines.now.tree.now lines.now.reduced.now }
-    requires orders { AreOrders lines.now.reduced.now.choices (map (λ v. v.items) lines.now.orders.now) }
-    requires flags { length lines.now.stable.now ≡ profile_count (map length lines.now.reduced.now.choices) }
-    ensures { IfOk result (λ text. text.items ≡ lines_text (lines_below (game_of_tree lines.now.tree.now) lines.now.reduced.now.choices (map (λ v. v.items) lines.now.orders.now) (flag lines.now.stable.now) (length lines.now.stable.now))) }
+    requires orders { AreOrders lines.now.reduced.now.choices
+        (map (λ v. v.items) lines.now.orders.now) }
+    requires flags { length lines.now.stable.now
+        ≡ profile_count (map length lines.now.reduced.now.choices) }
+    ensures { IfOk result (λ text. text.items
+        ≡ lines_text (lines_below (game_of_tree lines.now.tree.now) lines.now.reduced.now.choices
+        (map (λ v. v.items) lines.now.orders.now) (flag lines.now.stable.now)
+        (length lines.now.stable.now))) }
 {
     let mut text = Vec::with_capacity(alloc, bytes)?;
     push_lines(alloc, &mut text, lines, profile)?;
@@ -138,7 +158,8 @@ pub fn list_pure_behaviours(
     reduced: &Reduced,
 ) -> Result<Vec<u8>, ListStop>
     requires form { IsReducedForm tree.now reduced.now }
-    ensures { Gives stops.Memory (behaviour_text (game_of_tree tree.now) reduced.now.choices) (map_ok result (λ text. text.items)) }
+    ensures { Gives stops.Memory (behaviour_text (game_of_tree tree.now) reduced.now.choices)
+        (map_ok result (λ text. text.items)) }
 {
     trees_are_game_trees();
     let stable = stable_profiles(alloc, reduced.table())?;
@@ -160,5 +181,6 @@ pub fn list_pure_behaviours(
 
 /// A tree has one such text, or one that is too long.
 pub fn behaviour_texts_are_single()
-    ensures { (t : game_tree) (strategies : List (List (List ℕ))) → IsSingle (behaviour_text t strategies) }
+    ensures { (t : game_tree) (strategies : List (List (List ℕ)))
+        → IsSingle (behaviour_text t strategies) }
 {}

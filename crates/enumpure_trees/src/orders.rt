@@ -24,7 +24,8 @@ fn compare_completed(one: &[u32], other: &[u32]) -> Ordering
 // The strategies with their numbers.
 fn numbered<'a>(alloc: Global, strategies: &'a [Vec<u32>]) -> Result<Vec<(u32, &'a [u32])>, Memory>
     requires few { length strategies.now < 2 ^ 32 }
-    ensures { IfOk result (λ numbered. map (λ p. (p.0, p.1.now)) numbered.items ≡ first_numbered (map (λ v. v.items) strategies.now) (length strategies.now)) }
+    ensures { IfOk result (λ numbered. map (λ p. (p.0, p.1.now)) numbered.items
+        ≡ first_numbered (map (λ v. v.items) strategies.now) (length strategies.now)) }
 {
     let mut numbered = Vec::with_capacity(alloc, strategies.len())?;
     for number in 0..strategies.len() {
@@ -36,7 +37,9 @@ fn numbered<'a>(alloc: Global, strategies: &'a [Vec<u32>]) -> Result<Vec<(u32, &
 // Sorts strategies by their completed lists.
 fn sort_completed(numbered: &mut Vec<(u32, &[u32])>) -> Result<(), Memory>
     ensures same { IsPermutation numbered.old.items numbered.new.items }
-    ensures sorted { OnOk result (IsSorted (λ a b. slice_cmp nat_cmp (completed_list a.1.now) (completed_list b.1.now)) numbered.new.items) }
+    ensures sorted { OnOk result
+        (IsSorted (λ a b. slice_cmp nat_cmp (completed_list a.1.now)
+        (completed_list b.1.now)) numbered.new.items) }
 {
     numbered.sort_by(|one, other| compare_completed(one.1, other.1))?;
     Ok(())
@@ -60,7 +63,8 @@ fn order_of(alloc: Global, strategies: &[Vec<u32>]) -> Result<Vec<u32>, Memory>
 /// For each player the numbers of the strategies in the order of their lines.
 pub fn orders_of_all(alloc: Global, tree: &Tree, reduced: &Reduced) -> Result<Vec<Vec<u32>>, Memory>
     requires form { IsReducedForm tree.now reduced.now }
-    ensures { IfOk result (λ orders. AreSortedOrders reduced.now.choices (map (λ v. v.items) orders.items)) }
+    ensures { IfOk result
+        (λ orders. AreSortedOrders reduced.now.choices (map (λ v. v.items) orders.items)) }
 {
     trees_are_game_trees();
     let mut orders = Vec::with_capacity(alloc, tree.players().len())?;

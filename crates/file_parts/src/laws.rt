@@ -10,8 +10,10 @@ ghost use Rattle.file_parts.specs.Parsing.{parse_names, parse_payoffs, parse_tit
 
 /// A whole number is read exactly where one stands.
 pub fn whole_numbers_are_read()
-    ensures sound { (n : ℕ) (tokens rest : List Token) → whole_at tokens ≡ Some (n, rest) → tokens ≡ whole_number n ∷ rest }
-    ensures complete { (n : ℕ) (rest : List Token) → whole_at (whole_number n ∷ rest) ≡ Some (n, rest) }
+    ensures sound { (n : ℕ) (tokens rest : List Token) → whole_at tokens ≡ Some (n, rest)
+        → tokens ≡ whole_number n ∷ rest }
+    ensures complete { (n : ℕ) (rest : List Token)
+        → whole_at (whole_number n ∷ rest) ≡ Some (n, rest) }
 {}
 
 /// Names are read exactly where one or more texts stand in braces.

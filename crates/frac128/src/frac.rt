@@ -168,7 +168,8 @@ impl Frac {
     pub(crate) fn from_sizes(negative: bool, top: u128, bottom: u128) -> Option<Frac>
         requires positive { 0 < bottom }
         requires lowest { gcd_of top bottom ≡ 1 }
-        ensures { MatchOption result (¬ (Fits (frac (with_sign negative top) bottom))) (λ f. (f ≡ frac (with_sign negative top) bottom) × Fits f) }
+        ensures { MatchOption result (¬ (Fits (frac (with_sign negative top) bottom))) (λ f. (f
+            ≡ frac (with_sign negative top) bottom) × Fits f) }
     {
         if top >= LIMIT || bottom >= LIMIT {
             return None;
@@ -179,7 +180,8 @@ impl Frac {
     // The quotient of two sizes, with a sign, where its parts in lowest terms fit.
     fn reduced(negative: bool, top: u128, bottom: u128) -> Option<Frac>
         requires { 0 < bottom }
-        ensures { MatchOption result (¬ (Fits (frac (with_sign negative top) bottom))) (λ f. (f ≡ frac (with_sign negative top) bottom) × Fits f) }
+        ensures { MatchOption result (¬ (Fits (frac (with_sign negative top) bottom))) (λ f. (f
+            ≡ frac (with_sign negative top) bottom) × Fits f) }
     {
         let common = gcd(top, bottom);
         let lowest_top = divided(top, common);

@@ -12,7 +12,8 @@ use crate::fitting::product;
 impl Frac {
     // The product, where it fits.
     pub(crate) fn product(self, other: Frac) -> Option<Frac>
-        ensures { MatchOption result (¬ (MulFits self other)) (λ f. (f ≡ self *ℚ other) × MulFits self other) }
+        ensures { MatchOption result (¬ (MulFits self other)) (λ f. (f ≡ self *ℚ other)
+            × MulFits self other) }
     {
         let num = self.num();
         let other_num = other.num();
@@ -32,7 +33,8 @@ impl Frac {
     // The quotient, where it fits.
     pub(crate) fn quotient(self, other: Frac) -> Option<Frac>
         requires { other ≢ zero_ℚ }
-        ensures { MatchOption result (¬ (DivFits self other)) (λ f. (f ≡ self *ℚ inv_ℚ other) × DivFits self other) }
+        ensures { MatchOption result (¬ (DivFits self other)) (λ f. (f ≡ self *ℚ inv_ℚ other)
+            × DivFits self other) }
     {
         let num = self.num();
         let divisor_num = other.num();
@@ -56,7 +58,8 @@ fn product_of(negative: bool, a: u128, b: u128, c: u128, d: u128) -> Option<Frac
     requires right_positive { 0 < d }
     requires left_lowest { gcd_of a b ≡ 1 }
     requires right_lowest { gcd_of c d ≡ 1 }
-    ensures { MatchOption result (¬ (Fits (frac (with_sign negative (a * c)) (b * d)))) (λ f. (f ≡ frac (with_sign negative (a * c)) (b * d)) × Fits f) }
+    ensures { MatchOption result (¬ (Fits (frac (with_sign negative (a * c)) (b * d)))) (λ f. (f
+        ≡ frac (with_sign negative (a * c)) (b * d)) × Fits f) }
 {
     if a == 0 || c == 0 {
         return Some(Frac::zero());

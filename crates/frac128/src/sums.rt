@@ -12,7 +12,8 @@ use crate::fitting::{plus, product, times};
 impl Frac {
     // The sum, where it fits.
     pub(crate) fn sum(self, other: Frac) -> Option<Frac>
-        ensures { MatchOption result (¬ (AddFits self other)) (λ f. (f ≡ self +ℚ other) × AddFits self other) }
+        ensures { MatchOption result (¬ (AddFits self other)) (λ f. (f ≡ self +ℚ other)
+            × AddFits self other) }
     {
         let num = self.num();
         let other_num = other.num();
@@ -30,7 +31,8 @@ impl Frac {
     // The sum of fractions over the same denominator, where it fits.
     fn like_sum(self, other: Frac) -> Option<Frac>
         requires { self.den ≡ other.den }
-        ensures { MatchOption result (¬ (AddFits self other)) (λ f. (f ≡ self +ℚ other) × AddFits self other) }
+        ensures { MatchOption result (¬ (AddFits self other)) (λ f. (f ≡ self +ℚ other)
+            × AddFits self other) }
     {
         let top = plus(self.num(), other.num())?;
         over(top, 1, 1, self.den().unsigned_abs())
@@ -39,7 +41,8 @@ impl Frac {
     // The sum, where it fits. Of the divisors of the denominator, the numerator shares only some of
     // those that both denominators share.
     fn unlike_sum(self, other: Frac) -> Option<Frac>
-        ensures { MatchOption result (¬ (AddFits self other)) (λ f. (f ≡ self +ℚ other) × AddFits self other) }
+        ensures { MatchOption result (¬ (AddFits self other)) (λ f. (f ≡ self +ℚ other)
+            × AddFits self other) }
     {
         let den = self.den().unsigned_abs();
         let other_den = other.den().unsigned_abs();
@@ -54,7 +57,8 @@ impl Frac {
 
     // The difference, where it fits.
     pub(crate) fn difference(self, other: Frac) -> Option<Frac>
-        ensures { MatchOption result (¬ (SubFits self other)) (λ f. (f ≡ self -ℚ other) × SubFits self other) }
+        ensures { MatchOption result (¬ (SubFits self other)) (λ f. (f ≡ self -ℚ other)
+            × SubFits self other) }
     {
         self.sum(other.neg())
     }
@@ -68,7 +72,8 @@ fn over(top: i128, own: u128, others: u128, common: u128) -> Option<Frac>
     requires own_apart { gcd_of (nat_abs top) own ≡ 1 }
     requires others_apart { gcd_of (nat_abs top) others ≡ 1 }
     requires other_den_in_range { others * common < 2 ^ 127 }
-    ensures { MatchOption result (¬ (Fits (frac top (own * (others * common))))) (λ f. (f ≡ frac top (own * (others * common))) × Fits f) }
+    ensures { MatchOption result (¬ (Fits (frac top (own * (others * common))))) (λ f. (f
+        ≡ frac top (own * (others * common))) × Fits f) }
 {
     let size = top.unsigned_abs();
     let shared = gcd(size, common);

@@ -97,7 +97,8 @@ impl Table {
     pub fn payoff(&self, profile: &[u32], player: u32) -> Frac
         requires profile { IsProfile (strategy_counts self.now) profile.now }
         requires player { player < length self.now.players }
-        ensures { result ≡ (game_of self.now).pays player (number_of (strategy_counts self.now) profile.now) }
+        ensures { result
+            ≡ (game_of self.now).pays player (number_of (strategy_counts self.now) profile.now) }
     {
         let number = profile_number(self.strategies.as_slice(), profile);
         self.payoffs[number * self.players.len() + player as usize]

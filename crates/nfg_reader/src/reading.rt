@@ -126,18 +126,24 @@ pub fn tables_are_single()
 /// The tokens of a source have one fault at most; they have none where they are a file of a table, and one where they
 /// are none.
 pub fn faults_are_single()
-    ensures one { (tokens : TokenList) (kind other : NfgKind) (at place : ℕ) → IsFault tokens kind at → IsFault tokens other place → (kind ≡ other) × (at ≡ place) }
-    ensures of_no_file { (tokens : TokenList) (kind : NfgKind) (at : ℕ) → IsFile (bare tokens) → IsFault tokens kind at → ⊥ }
-    ensures of_others { (tokens : TokenList) → IsFile (bare tokens) ⊎ ((kind : NfgKind) × (at : ℕ) × IsFault tokens kind at) }
+    ensures one { (tokens : TokenList) (kind other : NfgKind) (at place : ℕ)
+        → IsFault tokens kind at → IsFault tokens other place → (kind ≡ other) × (at ≡ place) }
+    ensures of_no_file { (tokens : TokenList) (kind : NfgKind) (at : ℕ) → IsFile (bare tokens)
+        → IsFault tokens kind at → ⊥ }
+    ensures of_others { (tokens : TokenList)
+        → IsFile (bare tokens) ⊎ ((kind : NfgKind) × (at : ℕ) × IsFault tokens kind at) }
 {}
 
 /// The tokens of a file stand for one table at most.
 pub fn files_have_one_table()
-    ensures { (tokens : List token) (one other : GameTable) → IsTableFile tokens one → IsTableFile tokens other → one ≡ other }
+    ensures { (tokens : List token) (one other : GameTable) → IsTableFile tokens one
+        → IsTableFile tokens other → one ≡ other }
 {}
 
 /// A table is read exactly where the tokens are a file of it.
 pub fn files_are_read()
-    ensures sound { (tokens : List token) (table : GameTable) → parse_table tokens ≡ Ok table → IsTableFile tokens table }
-    ensures complete { (tokens : List token) (table : GameTable) → IsTableFile tokens table → parse_table tokens ≡ Ok table }
+    ensures sound { (tokens : List token) (table : GameTable) → parse_table tokens ≡ Ok table
+        → IsTableFile tokens table }
+    ensures complete { (tokens : List token) (table : GameTable) → IsTableFile tokens table
+        → parse_table tokens ≡ Ok table }
 {}

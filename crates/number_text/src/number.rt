@@ -45,7 +45,8 @@ fn decimal_value(
     requires before { All IsAsciiDigit before.now }
     requires after { All IsAsciiDigit after.now }
     requires power { All IsAsciiDigit power.now }
-    ensures { GivesValue (Decimal negative before.now after.now (with_sign falls (digits_value power.now))) result }
+    ensures { GivesValue (Decimal negative before.now after.now
+        (with_sign falls (digits_value power.now))) result }
 {
     let exponent = exponent_of(power)?;
     let after = without_trailing_zeros(after);
@@ -123,13 +124,16 @@ pub fn read_number(text: &[u8]) -> Result<Frac, NumberFault>
 
 /// A text is written in one form at most.
 pub fn numbers_have_one_form()
-    ensures { (text : List ℕ) (one other : NumberForm) → IsWritten text one → IsWritten text other → one ≡ other }
+    ensures { (text : List ℕ) (one other : NumberForm) → IsWritten text one → IsWritten text other
+        → one ≡ other }
 {}
 
 /// A text is a number of one value, or too large, or no number, and no two of these.
 pub fn numbers_have_one_value()
-    ensures value { (text : List ℕ) (one other : ℚ) → IsNumber text one → IsNumber text other → one ≡ other }
-    ensures not_too_large { (text : List ℕ) (value : ℚ) → IsNumber text value → IsTooLarge text → ⊥ }
+    ensures value { (text : List ℕ) (one other : ℚ) → IsNumber text one → IsNumber text other
+        → one ≡ other }
+    ensures not_too_large { (text : List ℕ) (value : ℚ) → IsNumber text value → IsTooLarge text
+        → ⊥ }
     ensures not_bad { (text : List ℕ) (value : ℚ) → IsNumber text value → IsNoNumber text → ⊥ }
     ensures bad_or_too_large { (text : List ℕ) → IsTooLarge text → IsNoNumber text → ⊥ }
 {}

@@ -13,7 +13,8 @@ fn with_digits(number: u128, digits: &[u8], limit: u128) -> Option<u128>
     requires digits { All IsAsciiDigit digits.now }
     requires limit { limit ≤ 10 ^ 36 }
     requires below { number < limit }
-    ensures { MatchOption result (limit ≤ digits_after number digits.now) (λ n. (n ≡ digits_after number digits.now) × (n < limit)) }
+    ensures { MatchOption result (limit ≤ digits_after number digits.now) (λ n. (n
+        ≡ digits_after number digits.now) × (n < limit)) }
 {
     let mut value = number;
     for digit in digits {
@@ -46,7 +47,8 @@ pub fn size_of_both(before: &[u8], after: &[u8]) -> Option<u128>
 // The size of an exponent, where it is 18 at most.
 pub fn exponent_of(digits: &[u8]) -> Option<usize>
     requires { All IsAsciiDigit digits.now }
-    ensures { MatchOption result (18 < digits_value digits.now) (λ n. (n ≡ digits_value digits.now) × (n ≤ 18)) }
+    ensures { MatchOption result (18 < digits_value digits.now) (λ n. (n ≡ digits_value digits.now)
+        × (n ≤ 18)) }
 {
     let size = with_digits(0, digits, 19)?;
     Some(size as usize)

@@ -97,7 +97,8 @@ pub fn decimal(
     requires size { size < 10 ^ 36 }
     requires places { places < 2 ^ 63 }
     requires exponent { exponent ≤ 18 }
-    ensures { GivesShort (frac (with_sign negative size) (10 ^ places) *ℚ ten_to (with_sign falls exponent)) result }
+    ensures { GivesShort (frac (with_sign negative size) (10 ^ places) *ℚ ten_to
+        (with_sign falls exponent)) result }
 {
     if falls {
         lowered(over(signed(size, negative), 1), places + exponent)

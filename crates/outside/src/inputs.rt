@@ -22,10 +22,13 @@ pub trait Inputs {
     /// Selects an input, of which all bytes are then left. A name is kept and not copied. `OpenFailed` comes
     /// only where `open_faults` rose in this call; then the input is the failed one, and nothing is selected.
     fn select(&mut self, name: Option<String>) -> Result<(), OpenFailed>
-        ensures selects { OnOk result ((seen self.new).selected ≡ Some (option_map string_bytes name)) }
-        ensures all_left { OnOk result ((seen self.new).left ≡ (seen self.old).held (option_map string_bytes name)) }
+        ensures selects { OnOk result ((seen self.new).selected
+            ≡ Some (option_map string_bytes name)) }
+        ensures all_left { OnOk result ((seen self.new).left
+            ≡ (seen self.old).held (option_map string_bytes name)) }
         ensures failed_stays { OnOk result ((seen self.new).failed ≡ (seen self.old).failed) }
-        ensures fails { OnErr result ((seen self.new).failed ≡ Some (option_map string_bytes name)) }
+        ensures fails { OnErr result ((seen self.new).failed
+            ≡ Some (option_map string_bytes name)) }
         ensures selects_nothing { OnErr result ((seen self.new).selected ≡ None) }
         ensures held { (n : InputName) → (seen self.new).held n ≡ (seen self.old).held n }
         ensures selections { (seen self.new).selections ≡ next_count (seen self.old).selections }
@@ -38,7 +41,8 @@ pub trait Inputs {
     /// is then the failed one, and nothing is selected.
     fn read(&mut self, buf: &mut [u8]) -> Result<usize, ReadFailed>
         ensures bound { ReadsAtMost result buf.new }
-        ensures bytes { OnOk result (ReadConsumes (seen self.old).left (seen self.new).left result buf.new) }
+        ensures bytes { OnOk result
+            (ReadConsumes (seen self.old).left (seen self.new).left result buf.new) }
         ensures selected_stays { OnOk result ((seen self.new).selected ≡ (seen self.old).selected) }
         ensures failed_stays { OnOk result ((seen self.new).failed ≡ (seen self.old).failed) }
         ensures idle { (seen self.old).selected ≡ None → result ≡ Ok 0 }

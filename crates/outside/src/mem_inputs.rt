@@ -41,7 +41,9 @@ impl MemInputs {
     /// equal, and these numbers of the calls that fail. Takes no memory.
     pub fn new(plain: Vec<u8>, named: Vec<(String, Vec<u8>)>, failing: Vec<u64>) -> MemInputs
         ensures state { result ≡ record { plain = plain.items; named = map (λ p. (string_bytes p.0, p.1.items)) named.items; failing = failing.items; calls = 0; selected = None; failed = None; position = 0; selections = 0; open_faults = 0; read_faults = 0 } }
-        ensures held { (n : InputName) → (⟦<MemInputs as Inputs>⟧.seen result).held n ≡ bytes_held plain.items (map (λ p. (string_bytes p.0, p.1.items)) named.items) n }
+        ensures held { (n : InputName)
+            → (⟦<MemInputs as Inputs>⟧.seen result).held n
+            ≡ bytes_held plain.items (map (λ p. (string_bytes p.0, p.1.items)) named.items) n }
         ensures left { (⟦<MemInputs as Inputs>⟧.seen result).left ≡ Some [] }
         ensures selected { (⟦<MemInputs as Inputs>⟧.seen result).selected ≡ None }
         ensures failed { (⟦<MemInputs as Inputs>⟧.seen result).failed ≡ None }
@@ -74,7 +76,8 @@ impl MemInputs {
 
     // The bytes of an input, where there is one of that name.
     fn bytes_of(&self, name: &Option<String>) -> Option<&[u8]>
-        ensures { option_copied result ≡ bytes_held self.now.plain self.now.named (option_map string_bytes name.now) }
+        ensures { option_copied result
+            ≡ bytes_held self.now.plain self.now.named (option_map string_bytes name.now) }
     {
         match name {
             None => Some(self.plain.as_slice()),
@@ -101,16 +104,22 @@ impl Inputs for MemInputs {
     /// Fails exactly where the call's number is one that fails or there is no input of that name.
     fn select(&mut self, name: Option<String>) -> Result<(), OpenFailed>
         ensures selects { OnOk result (self.new.selected ≡ Some (option_map string_bytes name)) }
-        ensures all_left { OnOk result (Some (bytes_left self.new) ≡ bytes_held self.old.plain self.old.named (option_map string_bytes name)) }
+        ensures all_left { OnOk result (Some (bytes_left self.new)
+            ≡ bytes_held self.old.plain self.old.named (option_map string_bytes name)) }
         ensures failed_stays { OnOk result (self.new.failed ≡ self.old.failed) }
         ensures fails { OnErr result (self.new.failed ≡ Some (option_map string_bytes name)) }
         ensures selects_nothing { OnErr result (self.new.selected ≡ None) }
-        ensures held { (n : InputName) → bytes_held self.new.plain self.new.named n ≡ bytes_held self.old.plain self.old.named n }
+        ensures held { (n : InputName)
+            → bytes_held self.new.plain self.new.named n
+            ≡ bytes_held self.old.plain self.old.named n }
         ensures selections { self.new.selections ≡ next_count self.old.selections }
         ensures counts { Counts self.old.open_faults self.new.open_faults result }
         ensures other_count { self.new.read_faults ≡ self.old.read_faults }
 
-        ensures when { IsErr result ↔ (Contains self.old.failing (next_count self.old.calls) ⊎ (bytes_held self.old.plain self.old.named (option_map string_bytes name) ≡ None)) }
+        ensures when { IsErr result
+            ↔ (Contains self.old.failing (next_count self.old.calls)
+            ⊎ (bytes_held self.old.plain self.old.named (option_map string_bytes name)
+            ≡ None)) }
         ensures selected { OnOk result (self.new ≡ record self.old { calls = next_count self.old.calls; selected = Some (option_map string_bytes name); position = 0; selections = next_count self.old.selections }) }
         ensures refused { OnErr result (self.new ≡ record self.old { calls = next_count self.old.calls; selected = None; failed = Some (option_map string_bytes name); position = 0; selections = next_count self.old.selections; open_faults = next_count self.old.open_faults }) }
     {
@@ -132,20 +141,26 @@ impl Inputs for MemInputs {
     /// bytes as the buffer has room for and are left.
     fn read(&mut self, buf: &mut [u8]) -> Result<usize, ReadFailed>
         ensures bound { ReadsAtMost result buf.new }
-        ensures bytes { OnOk result (ReadConsumes (Some (bytes_left self.old)) (Some (bytes_left self.new)) result buf.new) }
+        ensures bytes { OnOk result
+            (ReadConsumes (Some (bytes_left self.old))
+            (Some (bytes_left self.new)) result buf.new) }
         ensures selected_stays { OnOk result (self.new.selected ≡ self.old.selected) }
         ensures failed_stays { OnOk result (self.new.failed ≡ self.old.failed) }
         ensures idle { self.old.selected ≡ None → result ≡ Ok 0 }
         ensures fails { OnErr result (self.new.failed ≡ self.old.selected) }
         ensures selects_nothing { OnErr result (self.new.selected ≡ None) }
-        ensures held { (n : InputName) → bytes_held self.new.plain self.new.named n ≡ bytes_held self.old.plain self.old.named n }
+        ensures held { (n : InputName)
+            → bytes_held self.new.plain self.new.named n
+            ≡ bytes_held self.old.plain self.old.named n }
         ensures selections { self.new.selections ≡ self.old.selections }
         ensures counts { Counts self.old.read_faults self.new.read_faults result }
         ensures other_count { self.new.open_faults ≡ self.old.open_faults }
 
-        ensures when { IsErr result ↔ (IsSome self.old.selected × Contains self.old.failing (next_count self.old.calls)) }
+        ensures when { IsErr result
+            ↔ (IsSome self.old.selected × Contains self.old.failing (next_count self.old.calls)) }
         ensures count { IfOk result (λ n. n ≡ min (length (bytes_left self.old)) (length buf.old)) }
-        ensures fills { IfOk result (λ n. buf.new ≡ take n (bytes_left self.old) ++ drop n buf.old) }
+        ensures fills { IfOk result (λ n. buf.new
+            ≡ take n (bytes_left self.old) ++ drop n buf.old) }
         ensures reads { IfOk result (λ n. self.new ≡ record self.old { calls = next_count self.old.calls; position = self.old.position + n }) }
         ensures refused { OnErr result (self.new ≡ record self.old { calls = next_count self.old.calls; selected = None; failed = self.old.selected; read_faults = next_count self.old.read_faults }) }
         ensures unfilled { OnErr result (buf.new ≡ buf.old) }
@@ -169,7 +184,8 @@ impl Inputs for MemInputs {
 
 // The bytes of the first pair with a name.
 fn first_named<'a>(named: &'a [(String, Vec<u8>)], name: &str) -> Option<&'a [u8]>
-    ensures { option_copied result ≡ first_named (map (λ p. (string_bytes p.0, p.1.items)) named.now) name.now }
+    ensures { option_copied result
+        ≡ first_named (map (λ p. (string_bytes p.0, p.1.items)) named.now) name.now }
 {
     for (key, bytes) in named {
         if key.as_str() == name {

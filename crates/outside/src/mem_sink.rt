@@ -72,11 +72,14 @@ impl Sink for MemSink {
     fn write(&mut self, piece: &[u8]) -> Result<usize, WriteFailed>
         ensures bound { IfOk result (λ n. n ≤ length piece.now) }
         ensures some { 0 < length piece.now → IfOk result (λ n. 0 < n) }
-        ensures bytes { MatchResult result (λ n. Takes (Some self.old.taken) (Some self.new.taken) (take n piece.now)) (λ _. Some self.new.taken ≡ Some self.old.taken) }
+        ensures bytes { MatchResult result
+            (λ n. Takes (Some self.old.taken) (Some self.new.taken) (take n piece.now))
+            (λ _. Some self.new.taken ≡ Some self.old.taken) }
         ensures not_flushed { self.new.flushed ≡ false }
         ensures counts { Counts self.old.faults self.new.faults result }
 
-        ensures full { IsErr result ↔ ((0 < length piece.now) × (self.old.limit ≤ length self.old.taken)) }
+        ensures full { IsErr result
+            ↔ ((0 < length piece.now) × (self.old.limit ≤ length self.old.taken)) }
         ensures count { IfOk result (λ n. n ≡ count_taken self.old piece.now) }
         ensures takes { IfOk result (λ n. self.new ≡ record self.old { taken = self.old.taken ++ take n piece.now; flushed = false }) }
         ensures refuses { OnErr result (self.new ≡ record self.old { flushed = false; faults = next_count self.old.faults }) }

@@ -106,9 +106,11 @@ impl<'a, R: Files + Input + Drop> Inputs for RealInputs<'a, R> {
         ensures counts { Counts self.old.read_faults self.new.read_faults result }
         ensures other_count { self.new.open_faults ≡ self.old.open_faults }
 
-        ensures source { OnOk result (IsSome self.old.selected → ReadConsumes (source_left self.old) (source_left self.new) result buf.new) }
+        ensures source { OnOk result (IsSome self.old.selected
+            → ReadConsumes (source_left self.old) (source_left self.new) result buf.new) }
         ensures same_file { OnOk result (is_some self.new.file ≡ is_some self.old.file) }
-        ensures standard { is_named self.old.selected ≡ true → self.new.standard ≡ self.old.standard }
+        ensures standard { is_named self.old.selected ≡ true
+            → self.new.standard ≡ self.old.standard }
         ensures nothing { self.old.selected ≡ None → self.new ≡ self.old }
         ensures refused { OnErr result (self.new ≡ record self.old { standard = self.new.standard; file = None; selected = None; failed = self.old.selected; read_faults = next_count self.old.read_faults }) }
     {

@@ -51,8 +51,11 @@ impl<W: Write + Drop> Sink for RealSink<W> {
         ensures not_flushed { self.new.flushed ≡ false }
         ensures counts { Counts self.old.faults self.new.faults result }
 
-        ensures hands_on { MatchResult result (λ n. Appends self.old.contents self.new.contents (take n piece.now)) (λ _. Keeps self.old.contents self.new.contents) }
-        ensures faults { MatchResult result (λ _. self.new.faults ≡ self.old.faults) (λ _. self.new.faults ≡ next_count self.old.faults) }
+        ensures hands_on { MatchResult result
+            (λ n. Appends self.old.contents self.new.contents (take n piece.now))
+            (λ _. Keeps self.old.contents self.new.contents) }
+        ensures faults { MatchResult result (λ _. self.new.faults
+            ≡ self.old.faults) (λ _. self.new.faults ≡ next_count self.old.faults) }
     {
         self.flushed = false;
         match write_some(&mut self.inner, piece) {
@@ -70,7 +73,8 @@ impl<W: Write + Drop> Sink for RealSink<W> {
         ensures counts { Counts self.old.faults self.new.faults result }
 
         ensures hands_on { Keeps self.old.contents self.new.contents }
-        ensures faults { MatchResult result (λ _. self.new.faults ≡ self.old.faults) (λ _. self.new.faults ≡ next_count self.old.faults) }
+        ensures faults { MatchResult result (λ _. self.new.faults
+            ≡ self.old.faults) (λ _. self.new.faults ≡ next_count self.old.faults) }
     {
         self.flushed = flush_all(&mut self.inner);
         if self.flushed {
@@ -86,7 +90,8 @@ impl<W: Write + Drop> Sink for RealSink<W> {
 fn write_some<W: Write>(inner: &mut W, piece: &[u8]) -> Option<usize>
     ensures bound { IfSome result (λ n. n ≤ length piece.now) }
     ensures some { 0 < length piece.now → IfSome result (λ n. 0 < n) }
-    ensures bytes { MatchOption result (Keeps (W.contents inner.old) (W.contents inner.new)) (λ n. Appends (W.contents inner.old) (W.contents inner.new) (take n piece.now)) }
+    ensures bytes { MatchOption result (Keeps (W.contents inner.old) (W.contents inner.new))
+        (λ n. Appends (W.contents inner.old) (W.contents inner.new) (take n piece.now)) }
 {
     for _ in 0..MOST_TRIES {
         match inner.write(piece) {

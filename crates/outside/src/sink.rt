@@ -18,7 +18,9 @@ pub trait Sink {
     fn write(&mut self, piece: &[u8]) -> Result<usize, WriteFailed>
         ensures bound { IfOk result (λ n. n ≤ length piece.now) }
         ensures some { 0 < length piece.now → IfOk result (λ n. 0 < n) }
-        ensures bytes { MatchResult result (λ n. Takes (seen self.old).taken (seen self.new).taken (take n piece.now)) (λ _. (seen self.new).taken ≡ (seen self.old).taken) }
+        ensures bytes { MatchResult result
+            (λ n. Takes (seen self.old).taken (seen self.new).taken (take n piece.now))
+            (λ _. (seen self.new).taken ≡ (seen self.old).taken) }
         ensures not_flushed { (seen self.new).flushed ≡ false }
         ensures counts { Counts (seen self.old).faults (seen self.new).faults result };
 

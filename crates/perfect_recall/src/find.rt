@@ -32,8 +32,10 @@ fn are_same(step: Option<(u32, u32)>, other: Option<(u32, u32)>) -> bool
 // The first of these nodes with another step before it than before the first node, where there is one.
 fn other_member(members: &[u32], steps: &[Option<(u32, u32)>]) -> Option<u32>
     requires some { 0 < length members.now }
-    requires within { (j : ℕ) → j < length members.now → slice_index members.now j < length steps.now }
-    ensures { MatchOption result (HaveSameStep members.now steps.now (length members.now)) (IsOtherMember members.now steps.now) }
+    requires within { (j : ℕ) → j < length members.now
+        → slice_index members.now j < length steps.now }
+    ensures { MatchOption result (HaveSameStep members.now steps.now (length members.now))
+        (IsOtherMember members.now steps.now) }
 {
     let first = steps[members[0] as usize];
     for member in members {
@@ -56,8 +58,10 @@ fn forgets_at(
     requires set { number < length tree.now.sets }
     requires own { (game_of_tree tree.now).owner number ≡ Some player }
     requires earlier { EarlierAreAlike (game_of_tree tree.now) player number }
-    ensures player { MatchOption result (IsAlike (game_of_tree tree.now) player number) (λ f. f.player ≡ player) }
-    ensures forgets { MatchOption result (IsAlike (game_of_tree tree.now) player number) (ForgetsAt tree.now) }
+    ensures player { MatchOption result (IsAlike (game_of_tree tree.now) player number)
+        (λ f. f.player ≡ player) }
+    ensures forgets { MatchOption result (IsAlike (game_of_tree tree.now) player number)
+        (ForgetsAt tree.now) }
 {
     stands_for_game_tree(tree);
     let set = &tree.sets()[number];
@@ -83,8 +87,10 @@ fn with_set(
     requires length { length steps.now ≡ length tree.now.nodes }
     requires steps { AreSteps (game_of_tree tree.now) steps.now }
     requires set { number < length tree.now.sets }
-    requires found { MatchOption found (NobodyForgetsBelow tree.now number) (IsForgettingBelow tree.now number) }
-    ensures { MatchOption result (NobodyForgetsBelow tree.now (number + 1)) (IsForgettingBelow tree.now (number + 1)) }
+    requires found { MatchOption found (NobodyForgetsBelow tree.now number)
+        (IsForgettingBelow tree.now number) }
+    ensures { MatchOption result (NobodyForgetsBelow tree.now (number + 1))
+        (IsForgettingBelow tree.now (number + 1)) }
 {
     let Some(player) = owner(tree, number) else {
         return found;
@@ -104,7 +110,8 @@ fn with_set(
 fn first_forgetting(tree: &Tree, steps: &[Option<(u32, u32)>]) -> Option<Forgets>
     requires length { length steps.now ≡ length tree.now.nodes }
     requires steps { AreSteps (game_of_tree tree.now) steps.now }
-    ensures { MatchOption result (NobodyForgetsBelow tree.now (length tree.now.sets)) (IsForgettingBelow tree.now (length tree.now.sets)) }
+    ensures { MatchOption result (NobodyForgetsBelow tree.now (length tree.now.sets))
+        (IsForgettingBelow tree.now (length tree.now.sets)) }
 {
     let mut found = None;
     for number in 0..tree.sets().len() {
@@ -119,7 +126,8 @@ fn step_before_set(tree: &Tree, steps: &[Option<(u32, u32)>], number: usize) -> 
     requires steps { AreSteps (game_of_tree tree.now) steps.now }
     requires recall { (i : ℕ) → HasPerfectRecall (game_of_tree tree.now) i }
     requires set { number < length tree.now.sets }
-    ensures { result ≡ step_before (game_of_tree tree.now) number ((game_of_tree tree.now).owner number) }
+    ensures { result
+        ≡ step_before (game_of_tree tree.now) number ((game_of_tree tree.now).owner number) }
 {
     let set = &tree.sets()[number];
     let members = set.members();

@@ -12,7 +12,8 @@ use tree_parts::{branch, owner, parent, set, stands_for_game_tree};
 // The player who chooses at a node, and the node's set; nothing where no player does.
 fn choice_at(tree: &Tree, node: usize) -> Option<(u32, u32)>
     requires { node < length tree.now.nodes }
-    ensures { MatchOption result (NobodyChooses (game_of_tree tree.now) node) (λ it. Chooses (game_of_tree tree.now) node it.0 it.1) }
+    ensures { MatchOption result (NobodyChooses (game_of_tree tree.now) node)
+        (λ it. Chooses (game_of_tree tree.now) node it.0 it.1) }
 {
     stands_for_game_tree(tree);
     let set = set(tree, node)?;

@@ -31,7 +31,9 @@ fn action_count(tree: &Tree, set: Option<u32>) -> usize
 
 // For each node a list of zeros, one for each action of its set.
 fn rooms(alloc: Global, tree: &Tree) -> Result<Vec<Vec<u32>>, Memory>
-    ensures { IfOk result (λ lists. HaveRoom (game_of_tree tree.now) (length tree.now.nodes) (map (λ v. v.items) lists.items)) }
+    ensures { IfOk result
+        (λ lists. HaveRoom (game_of_tree tree.now) (length tree.now.nodes)
+        (map (λ v. v.items) lists.items)) }
 {
     let mut lists = Vec::new(alloc);
     for node in tree.nodes() {
@@ -42,7 +44,8 @@ fn rooms(alloc: Global, tree: &Tree) -> Result<Vec<Vec<u32>>, Memory>
 
 /// For each node its children, one for each action of its set in order.
 pub fn children_of_all(alloc: Global, tree: &Tree) -> Result<Vec<Vec<u32>>, Memory>
-    ensures { IfOk result (λ lists. AreChildren (game_of_tree tree.now) (map (λ v. v.items) lists.items)) }
+    ensures { IfOk result
+        (λ lists. AreChildren (game_of_tree tree.now) (map (λ v. v.items) lists.items)) }
 {
     stands_for_game_tree(tree);
     let mut lists = rooms(alloc, tree)?;

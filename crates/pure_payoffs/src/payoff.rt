@@ -66,12 +66,20 @@ impl<'a> Play<'a> {
     /// The first step that does not fit.
     pub fn payoff(&self, shortcuts: &mut Shortcuts, player: u32) -> Result<Frac, Unfit>
         requires player { player < length self.now.tree.now.players }
-        requires children { AreChildren (game_of_tree self.now.tree.now) (map (λ v. v.items) self.now.children.now) }
+        requires children { AreChildren (game_of_tree self.now.tree.now)
+            (map (λ v. v.items) self.now.children.now) }
         requires places { ArePlaces (game_of_tree self.now.tree.now) self.now.places.now }
-        requires strategies { AreStrategies (game_of_tree self.now.tree.now) (map (λ v. map (λ w. w.items) v.items) self.now.strategies.now) }
-        requires profile { IsProfile (map length (map (λ v. map (λ w. w.items) v.items) self.now.strategies.now)) self.now.profile.now }
-        requires keep { KeepShortcuts (game_of_tree self.now.tree.now) (completed (game_of_tree self.now.tree.now) (map (λ v. map (λ w. w.items) v.items) self.now.strategies.now) self.now.profile.now) shortcuts.old }
-        ensures keep { KeepShortcuts (game_of_tree self.now.tree.now) (completed (game_of_tree self.now.tree.now) (map (λ v. map (λ w. w.items) v.items) self.now.strategies.now) self.now.profile.now) shortcuts.new }
+        requires strategies { AreStrategies (game_of_tree self.now.tree.now)
+            (map (λ v. map (λ w. w.items) v.items) self.now.strategies.now) }
+        requires profile { IsProfile
+            (map length (map (λ v. map
+            (λ w. w.items) v.items) self.now.strategies.now)) self.now.profile.now }
+        requires keep { KeepShortcuts (game_of_tree self.now.tree.now)
+            (completed (game_of_tree self.now.tree.now)
+            (map (λ v. map (λ w. w.items) v.items) self.now.strategies.now) self.now.profile.now) shortcuts.old }
+        ensures keep { KeepShortcuts (game_of_tree self.now.tree.now)
+            (completed (game_of_tree self.now.tree.now)
+            (map (λ v. map (λ w. w.items) v.items) self.now.strategies.now) self.now.profile.now) shortcuts.new }
         ensures gives { let t = game_of_tree self.now.tree.now in
             let choice = completed t (map (λ v. map (λ w. w.items) v.items) self.now.strategies.now) self.now.profile.now in
             MatchResult result

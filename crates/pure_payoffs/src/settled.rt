@@ -24,7 +24,8 @@ pub(crate) struct Settled {
 
 // For each node whether no player moves there.
 fn flags_of_chance(alloc: Global, tree: &Tree) -> Result<Vec<bool>, Memory>
-    ensures { IfOk result (λ flags. TellNoPlayer (game_of_tree tree.now) (length tree.now.nodes) flags.items) }
+    ensures { IfOk result
+        (λ flags. TellNoPlayer (game_of_tree tree.now) (length tree.now.nodes) flags.items) }
 {
     let mut flags = Vec::new(alloc);
     for node in tree.nodes() {

@@ -30,7 +30,8 @@ pub struct Shortcuts {
 fn next(play: &Play, node: u32) -> Option<u32>
     requires play { IsPlayed play.now }
     requires node { node < length play.now.tree.now.nodes }
-    ensures { MatchOption result ⊤ (λ next. OnlyLeadsTo (game_of play.now) (choice_of play.now) node next) }
+    ensures { MatchOption result ⊤
+        (λ next. OnlyLeadsTo (game_of play.now) (choice_of play.now) node next) }
 {
     let here = play.tree.nodes()[node as usize];
     if here.outcome.is_some() {
@@ -74,7 +75,8 @@ impl Shortcuts {
 
     /// Forgets all entries, and keeps what no profile changes.
     pub fn forget(&mut self)
-        ensures { (t : game_tree) (choice : ℕ → ℕ) → HasRoom t self.old → KeepShortcuts t choice self.new }
+        ensures { (t : game_tree) (choice : ℕ → ℕ) → HasRoom t self.old
+            → KeepShortcuts t choice self.new }
     {
         if self.round == u32::MAX {
             self.rounds.fill(0);
@@ -105,7 +107,8 @@ impl Shortcuts {
         requires play { IsPlayed play.now }
         requires node { node < length play.now.tree.now.nodes }
         requires keep { KeepShortcuts (game_of play.now) (choice_of play.now) self.now }
-        ensures { IfSome result (λ v. GiveAt (game_of play.now) (choice_of play.now) player node (Ok v)) }
+        ensures { IfSome result
+            (λ v. GiveAt (game_of play.now) (choice_of play.now) player node (Ok v)) }
     {
         self.settled.value(node, player)
     }

@@ -22,18 +22,31 @@ fn push_cells(
     payoffs: &mut Vec<Frac>,
     number: u32,
 ) -> Result<(), ReduceStop>
-    requires children { AreChildren (game_of_tree play.now.tree.now) (map (λ v. v.items) play.now.children.now) }
+    requires children { AreChildren (game_of_tree play.now.tree.now)
+        (map (λ v. v.items) play.now.children.now) }
     requires places { ArePlaces (game_of_tree play.now.tree.now) play.now.places.now }
-    requires strategies { AreStrategies (game_of_tree play.now.tree.now) (map (λ v. map (λ w. w.items) v.items) play.now.strategies.now) }
-    requires number { number < profile_count (map length (map (λ v. map (λ w. w.items) v.items) play.now.strategies.now)) }
-    requires profile { play.now.profile.now ≡ profile_at (map length (map (λ v. map (λ w. w.items) v.items) play.now.strategies.now)) number }
-    requires keep { KeepShortcuts (game_of_tree play.now.tree.now) (completed (game_of_tree play.now.tree.now) (map (λ v. map (λ w. w.items) v.items) play.now.strategies.now) play.now.profile.now) shortcuts.old }
+    requires strategies { AreStrategies (game_of_tree play.now.tree.now)
+        (map (λ v. map (λ w. w.items) v.items) play.now.strategies.now) }
+    requires number { number < profile_count
+        (map length (map (λ v. map (λ w. w.items) v.items) play.now.strategies.now)) }
+    requires profile { play.now.profile.now
+        ≡ profile_at (map length
+        (map (λ v. map (λ w. w.items) v.items) play.now.strategies.now)) number }
+    requires keep { KeepShortcuts (game_of_tree play.now.tree.now)
+        (completed (game_of_tree play.now.tree.now)
+        (map (λ v. map (λ w. w.items) v.items) play.now.strategies.now) play.now.profile.now) shortcuts.old }
     requires so_many { length payoffs.old.items ≡ number * length play.now.tree.now.players }
-    requires cells { AreCells (game_of_tree play.now.tree.now) (map (λ v. map (λ w. w.items) v.items) play.now.strategies.now) payoffs.old.items }
+    requires cells { AreCells (game_of_tree play.now.tree.now)
+        (map (λ v. map (λ w. w.items) v.items) play.now.strategies.now) payoffs.old.items }
     ensures room { HasRoom (game_of_tree play.now.tree.now) shortcuts.new }
-    ensures so_many { OnOk result (length payoffs.new.items ≡ suc number * length play.now.tree.now.players) }
-    ensures cells { OnOk result (AreCells (game_of_tree play.now.tree.now) (map (λ v. map (λ w. w.items) v.items) play.now.strategies.now) payoffs.new.items) }
-    ensures stop { IfErr result (IsCellStop (game_of_tree play.now.tree.now) (map (λ v. map (λ w. w.items) v.items) play.now.strategies.now)) }
+    ensures so_many { OnOk result (length payoffs.new.items
+        ≡ suc number * length play.now.tree.now.players) }
+    ensures cells { OnOk result
+        (AreCells (game_of_tree play.now.tree.now)
+        (map (λ v. map (λ w. w.items) v.items) play.now.strategies.now) payoffs.new.items) }
+    ensures stop { IfErr result
+        (IsCellStop (game_of_tree play.now.tree.now)
+        (map (λ v. map (λ w. w.items) v.items) play.now.strategies.now)) }
 {
     for player in 0..play.tree.players().len() as u32 {
         match play.payoff(shortcuts, player) {
@@ -60,12 +73,19 @@ pub fn cells(
     counts: &[usize],
 ) -> Result<Vec<Frac>, ReduceStop>
     requires places { ArePlaces (game_of_tree tree.now) places.now }
-    requires strategies { AreStrategies (game_of_tree tree.now) (map (λ v. map (λ w. w.items) v.items) strategies.now) }
-    requires counts { counts.now ≡ map length (map (λ v. map (λ w. w.items) v.items) strategies.now) }
+    requires strategies { AreStrategies (game_of_tree tree.now)
+        (map (λ v. map (λ w. w.items) v.items) strategies.now) }
+    requires counts { counts.now
+        ≡ map length (map (λ v. map (λ w. w.items) v.items) strategies.now) }
     requires few { length tree.now.players * profile_count counts.now ≤ most_payoffs }
-    ensures so_many { IfOk result (λ payoffs. length payoffs.items ≡ length tree.now.players * profile_count counts.now) }
-    ensures cells { IfOk result (λ payoffs. AreCells (game_of_tree tree.now) (map (λ v. map (λ w. w.items) v.items) strategies.now) payoffs.items) }
-    ensures stop { IfErr result (IsCellStop (game_of_tree tree.now) (map (λ v. map (λ w. w.items) v.items) strategies.now)) }
+    ensures so_many { IfOk result (λ payoffs. length payoffs.items
+        ≡ length tree.now.players * profile_count counts.now) }
+    ensures cells { IfOk result
+        (λ payoffs. AreCells (game_of_tree tree.now)
+        (map (λ v. map (λ w. w.items) v.items) strategies.now) payoffs.items) }
+    ensures stop { IfErr result
+        (IsCellStop (game_of_tree tree.now)
+        (map (λ v. map (λ w. w.items) v.items) strategies.now)) }
 {
     trees_are_game_trees();
     let players = tree.players().len();

@@ -64,8 +64,11 @@ fn strategies_of_all(
     tree: &Tree,
     decisions: &[Vec<Decision>],
 ) -> Result<Vec<Vec<Vec<u32>>>, Memory>
-    requires decisions { AreDecisionsOfAll (game_of_tree tree.now) (map (λ v. v.items) decisions.now) }
-    ensures { IfOk result (λ strategies. AreStrategies (game_of_tree tree.now) (map (λ v. map (λ w. w.items) v.items) strategies.items)) }
+    requires decisions { AreDecisionsOfAll (game_of_tree tree.now)
+        (map (λ v. v.items) decisions.now) }
+    ensures { IfOk result
+        (λ strategies. AreStrategies (game_of_tree tree.now)
+        (map (λ v. map (λ w. w.items) v.items) strategies.items)) }
 {
     let mut strategies = Vec::with_capacity(alloc, decisions.len())?;
     for player in 0..tree.players().len() {

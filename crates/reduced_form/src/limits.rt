@@ -50,9 +50,11 @@ pub fn count_all(
     tree: &Tree,
     decisions: &[Vec<Decision>],
 ) -> Result<Vec<usize>, ReduceStop>
-    requires decisions { AreDecisionsOfAll (game_of_tree tree.now) (map (λ v. v.items) decisions.now) }
+    requires decisions { AreDecisionsOfAll (game_of_tree tree.now)
+        (map (λ v. v.items) decisions.now) }
     ensures counted { IfOk result (λ counts. AreCounted (game_of_tree tree.now) counts.items) }
-    ensures few { IfOk result (λ counts. length tree.now.players * profile_count counts.items ≤ most_payoffs) }
+    ensures few { IfOk result
+        (λ counts. length tree.now.players * profile_count counts.items ≤ most_payoffs) }
     ensures stop { IfErr result (IsStop (game_of_tree tree.now)) }
 {
     trees_are_game_trees();

@@ -45,7 +45,8 @@ fn strategy_name(alloc: Global, choices: &[u32]) -> Result<Name, Memory>
 
 // The names of a player's strategies.
 fn names_of_one(alloc: Global, strategies: &[Vec<u32>]) -> Result<Vec<Name>, Memory>
-    ensures { IfOk result (λ names. names.items ≡ map strategy_name (map (λ v. v.items) strategies.now)) }
+    ensures { IfOk result (λ names. names.items
+        ≡ map strategy_name (map (λ v. v.items) strategies.now)) }
 {
     let mut names = Vec::with_capacity(alloc, strategies.len())?;
     for choices in strategies {
@@ -56,7 +57,8 @@ fn names_of_one(alloc: Global, strategies: &[Vec<u32>]) -> Result<Vec<Name>, Mem
 
 /// The names of all players' strategies.
 pub fn names_of_all(alloc: Global, strategies: &[Vec<Vec<u32>>]) -> Result<Vec<Vec<Name>>, Memory>
-    ensures { IfOk result (λ names. map (λ v. v.items) names.items ≡ map (map strategy_name) (map (λ v. map (λ w. w.items) v.items) strategies.now)) }
+    ensures { IfOk result (λ names. map (λ v. v.items) names.items
+        ≡ map (map strategy_name) (map (λ v. map (λ w. w.items) v.items) strategies.now)) }
 {
     let mut names = Vec::with_capacity(alloc, strategies.len())?;
     for list in strategies {

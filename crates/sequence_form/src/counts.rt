@@ -59,8 +59,10 @@ fn set_count(tree: &Tree, player: u32) -> u64
 /// The sizes of the sequence form of a tree of two players, before it is made. Takes no memory.
 pub fn counts_tree(tree: &Tree) -> Counts
     requires { length tree.now.players ≡ 2 }
-    ensures counts { result ≡ counts_of (tree_side (game_of_tree tree.now) 0) (tree_side (game_of_tree tree.now) 1) }
-    ensures form { (f : FormData) → IsTreeForm (game_of_tree tree.now) f → result ≡ counts_of f.first f.second }
+    ensures counts { result
+        ≡ counts_of (tree_side (game_of_tree tree.now) 0) (tree_side (game_of_tree tree.now) 1) }
+    ensures form { (f : FormData) → IsTreeForm (game_of_tree tree.now) f
+        → result ≡ counts_of f.first f.second }
     ensures few { AreFew result }
 {
     Counts {
@@ -74,7 +76,9 @@ pub fn counts_tree(tree: &Tree) -> Counts
 /// The sizes of the sequence form of a table of two players, before it is made. Takes no memory.
 pub fn counts_table(table: &Table) -> Counts
     requires { length table.now.players ≡ 2 }
-    ensures counts { result ≡ counts_of (start_side (slice_index (strategy_counts table.now) 0)) (start_side (slice_index (strategy_counts table.now) 1)) }
+    ensures counts { result
+        ≡ counts_of (start_side (slice_index (strategy_counts table.now) 0))
+        (start_side (slice_index (strategy_counts table.now) 1)) }
     ensures form { (f : FormData) → IsTableForm table.now f → result ≡ counts_of f.first f.second }
     ensures few { AreFew result }
 {

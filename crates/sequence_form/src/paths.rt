@@ -21,7 +21,8 @@ fn last_sequence(tree: &Tree, firsts: &[u32], player: u32, above: u32, node: usi
     requires later { 0 < node }
     requires node { node < length tree.now.nodes }
     requires firsts { AreFirsts (game_of_tree tree.now) player firsts.now }
-    requires above { above ≡ last_sequence (game_of_tree tree.now) player ((game_of_tree tree.now).parent node) }
+    requires above { above
+        ≡ last_sequence (game_of_tree tree.now) player ((game_of_tree tree.now).parent node) }
     ensures { result ≡ last_sequence (game_of_tree tree.now) player node }
 {
     stands_for_game_tree(tree);
@@ -39,10 +40,14 @@ fn last_sequence(tree: &Tree, firsts: &[u32], player: u32, above: u32, node: usi
 fn chance(tree: &Tree, above: Frac, node: usize) -> Result<Frac, SeqStop>
     requires later { 0 < node }
     requires node { node < length tree.now.nodes }
-    requires above { above ≡ chance_of_path (game_of_tree tree.now) ((game_of_tree tree.now).parent node) }
+    requires above { above
+        ≡ chance_of_path (game_of_tree tree.now) ((game_of_tree tree.now).parent node) }
     ensures value { IfOk result (λ v. v ≡ chance_of_path (game_of_tree tree.now) node) }
-    ensures fits { OnOk result (let t = game_of_tree tree.now in AllFit (chance_steps t node (t.set (t.parent node)))) }
-    ensures stop { IfErr result (let t = game_of_tree tree.now in IsUnfitStop (chance_steps t node (t.set (t.parent node)))) }
+    ensures fits { OnOk result
+        (let t = game_of_tree tree.now in AllFit (chance_steps t node (t.set (t.parent node)))) }
+    ensures stop { IfErr result
+        (let t = game_of_tree tree.now in IsUnfitStop
+        (chance_steps t node (t.set (t.parent node)))) }
 {
     stands_for_game_tree(tree);
     paths_add_up();
@@ -117,9 +122,12 @@ pub(crate) fn paths(
     requires two { length tree.now.players ≡ 2 }
     requires firsts_one { AreFirsts (game_of_tree tree.now) 0 firsts_one.now }
     requires firsts_two { AreFirsts (game_of_tree tree.now) 1 firsts_two.now }
-    ensures paths { IfOk result (λ paths. paths.items ≡ map (leaf_at (game_of_tree tree.now)) (range_with_len 0 (length tree.now.nodes))) }
-    ensures fits { OnOk result (AllFit (path_steps (game_of_tree tree.now) (length tree.now.nodes))) }
-    ensures stop { IfErr result (IsUnfitStop (path_steps (game_of_tree tree.now) (length tree.now.nodes))) }
+    ensures paths { IfOk result (λ paths. paths.items
+        ≡ map (leaf_at (game_of_tree tree.now)) (range_with_len 0 (length tree.now.nodes))) }
+    ensures fits { OnOk result
+        (AllFit (path_steps (game_of_tree tree.now) (length tree.now.nodes))) }
+    ensures stop { IfErr result
+        (IsUnfitStop (path_steps (game_of_tree tree.now) (length tree.now.nodes))) }
 {
     stands_for_game_tree(tree);
     let nodes = tree.nodes().len();
@@ -134,7 +142,8 @@ pub(crate) fn paths(
 
 // The leaves among the nodes.
 pub(crate) fn leaves(alloc: Global, tree: &Tree, paths: &[Leaf]) -> Result<Vec<Leaf>, Memory>
-    requires { paths.now ≡ map (leaf_at (game_of_tree tree.now)) (range_with_len 0 (length tree.now.nodes)) }
+    requires { paths.now
+        ≡ map (leaf_at (game_of_tree tree.now)) (range_with_len 0 (length tree.now.nodes)) }
     ensures { IfOk result (λ leaves. leaves.items ≡ tree_leaves (game_of_tree tree.now)) }
 {
     let nodes = tree.nodes().len();

@@ -25,7 +25,8 @@ fn mover(node: &Node) -> Option<u32>
 // The player who moves at a node, and the node's set; nothing where no player does.
 fn move_at(tree: &Tree, number: usize) -> Option<(u32, u32)>
     requires { number < length tree.now.nodes }
-    ensures { MatchOption result (mover (game_of_tree tree.now) number ≡ None) (λ it. IsMove (game_of_tree tree.now) it.0 number it.1) }
+    ensures { MatchOption result (mover (game_of_tree tree.now) number
+        ≡ None) (λ it. IsMove (game_of_tree tree.now) it.0 number it.1) }
 {
     let node = &tree.nodes()[number];
     let player = mover(node)?;
@@ -37,7 +38,8 @@ fn move_at(tree: &Tree, number: usize) -> Option<(u32, u32)>
 // nothing where there is no such node.
 fn last_move(tree: &Tree, number: usize, player: u32) -> Option<(usize, u32)>
     requires { number < length tree.now.nodes }
-    ensures { MatchOption result (own_history (game_of_tree tree.now) player number ≡ []) (λ last. IsLastMove (game_of_tree tree.now) player number last.0 last.1) }
+    ensures { MatchOption result (own_history (game_of_tree tree.now) player number
+        ≡ []) (λ last. IsLastMove (game_of_tree tree.now) player number last.0 last.1) }
 {
     trees_are_game_trees();
     let nodes = tree.nodes();
@@ -56,7 +58,8 @@ fn last_move(tree: &Tree, number: usize, player: u32) -> Option<(usize, u32)>
 fn place_at(tree: &Tree, places: &[u32], number: usize) -> u32
     requires places { ArePlaces (game_of_tree tree.now) places.now }
     requires within { number < length tree.now.nodes }
-    ensures { (i s : ℕ) → IsMove (game_of_tree tree.now) i number s → slice_get (own_sets (game_of_tree tree.now) i) result ≡ Some s }
+    ensures { (i s : ℕ) → IsMove (game_of_tree tree.now) i number s
+        → slice_get (own_sets (game_of_tree tree.now) i) result ≡ Some s }
 {
     match tree.nodes()[number].set {
         Some(set) => places[set as usize],
@@ -89,7 +92,8 @@ fn decision_at(tree: &Tree, places: &[u32], numbers: &[u32], number: usize, play
 
 // An empty list for each player.
 fn no_lists(alloc: Global, players: usize) -> Result<Vec<Vec<Decision>>, Memory>
-    ensures { IfOk result (λ lists. (length lists.items ≡ players) × All (λ list. list.items ≡ []) lists.items) }
+    ensures { IfOk result (λ lists. (length lists.items ≡ players)
+        × All (λ list. list.items ≡ []) lists.items) }
 {
     let mut lists = Vec::new(alloc);
     for _ in 0..players {
@@ -109,7 +113,8 @@ fn take(
     requires few { length list.old.items < 2 ^ 32 }
     ensures list { IfOk result (λ number. HasTaken list.old.items list.new.items decision number) }
     ensures latest { IfOk result (λ number. latest.new ≡ Some number) }
-    ensures shared { IfSome latest.old (λ number. slice_get list.old.items number ≡ Some decision → list.new.items ≡ list.old.items) }
+    ensures shared { IfSome latest.old (λ number. slice_get list.old.items number ≡ Some decision
+        → list.new.items ≡ list.old.items) }
 {
     if let Some(number) = *latest {
         if list[number as usize] == decision {
@@ -130,7 +135,8 @@ pub fn decisions_of_all(
     places: &[u32],
 ) -> Result<Vec<Vec<Decision>>, Memory>
     requires places { ArePlaces (game_of_tree tree.now) places.now }
-    ensures { IfOk result (λ lists. AreDecisionsOfAll (game_of_tree tree.now) (map (λ v. v.items) lists.items)) }
+    ensures { IfOk result
+        (λ lists. AreDecisionsOfAll (game_of_tree tree.now) (map (λ v. v.items) lists.items)) }
 {
     trees_are_game_trees();
     let mut lists = no_lists(alloc, tree.players().len())?;

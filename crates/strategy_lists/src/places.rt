@@ -31,7 +31,9 @@ fn next_place(counts: &mut [u32], owner: Option<u32>) -> u32
 fn places_among(alloc: Global, players: usize, owners: &[Option<u32>]) -> Result<Vec<u32>, Memory>
     requires few { length owners.now < 2 ^ 32 }
     requires within { All (IsWithin players) owners.now }
-    ensures { IfOk result (λ places. ArePlacesBelow (λ k. slice_index_or owners.now k None) (length owners.now) places.items) }
+    ensures { IfOk result
+        (λ places. ArePlacesBelow (λ k. slice_index_or owners.now k None)
+        (length owners.now) places.items) }
 {
     let mut counts = vec![in alloc; 0; players]?;
     let mut places = Vec::new(alloc);

@@ -34,7 +34,8 @@ pub fn count_strategies(
     requires player { player < length tree.now.players }
     requires decisions { AreDecisions (game_of_tree tree.now) player decisions.now }
     requires most { most + 1 < 2 ^ 64 }
-    ensures { IfOk result (λ count. (all : ℕ) × HasCount (game_of_tree tree.now) player all × (count ≡ min all (most + 1))) }
+    ensures { IfOk result (λ count. (all : ℕ) × HasCount (game_of_tree tree.now) player all
+        × (count ≡ min all (most + 1))) }
 {
     let actions = own_action_counts(alloc, tree, player)?;
     count_walks(alloc, decisions, actions.as_slice(), most)
@@ -50,7 +51,9 @@ pub fn list_strategies(
 ) -> Result<Vec<Vec<u32>>, Memory>
     requires player { player < length tree.now.players }
     requires decisions { AreDecisions (game_of_tree tree.now) player decisions.now }
-    ensures { IfOk result (λ strategies. AreReducedStrategies (game_of_tree tree.now) player (map (λ v. v.items) strategies.items)) }
+    ensures { IfOk result
+        (λ strategies. AreReducedStrategies (game_of_tree tree.now) player
+        (map (λ v. v.items) strategies.items)) }
 {
     let actions = own_action_counts(alloc, tree, player)?;
     list_walks(alloc, decisions, actions.as_slice())

@@ -38,7 +38,8 @@ fn chance_actions(
     tokens: &[Spanned],
     set: u64,
 ) -> Result<(Vec<Action>, Frac, &[Spanned]), Refusal<EfgKind>>
-    ensures { Parses (λ x. ((x.0.items, x.1), kinds x.2.now)) result (parse_chances set zero_ℚ (kinds tokens.now)) }
+    ensures { Parses (λ x. ((x.0.items, x.1), kinds x.2.now)) result
+        (parse_chances set zero_ℚ (kinds tokens.now)) }
 {
     let mut actions = Vec::new(alloc);
     let mut sum = Frac::zero();
@@ -64,7 +65,9 @@ fn own_actions(
     alloc: Global,
     tokens: &[Spanned],
 ) -> Result<(Vec<Action>, &[Spanned]), Refusal<EfgKind>>
-    ensures { Parses {Y = List action × List token} (λ x. (x.0.items, kinds x.1.now)) result (Ok (map own_action (texts_at (kinds tokens.now)).0, (texts_at (kinds tokens.now)).1)) }
+    ensures { Parses {Y = List action
+        × List token} (λ x. (x.0.items, kinds x.1.now)) result
+        (Ok (map own_action (texts_at (kinds tokens.now)).0, (texts_at (kinds tokens.now)).1)) }
 {
     let mut actions = Vec::new(alloc);
     let mut rest = tokens;
@@ -95,7 +98,8 @@ pub fn first_list(
     owner: Option<u32>,
     set: u64,
 ) -> Result<(Vec<Action>, &[Spanned]), Refusal<EfgKind>>
-    ensures { Parses (λ x. (x.0.items, kinds x.1.now)) result (parse_first_list owner set (kinds tokens.now)) }
+    ensures { Parses (λ x. (x.0.items, kinds x.1.now)) result
+        (parse_first_list owner set (kinds tokens.now)) }
 {
     let Some(inner) = left(tokens) else {
         return Err(unfit(EfgKind::SetMismatch, tokens));
@@ -135,7 +139,8 @@ fn repeated<'a>(
     owner: Option<u32>,
     action: &Action,
 ) -> Result<&'a [Spanned], Refusal<EfgKind>>
-    ensures { Parses (λ rest. (tt, kinds rest.now)) result (parse_repeated owner action.now (kinds tokens.now)) }
+    ensures { Parses (λ rest. (tt, kinds rest.now)) result
+        (parse_repeated owner action.now (kinds tokens.now)) }
 {
     let Some((_, after)) = text(tokens) else {
         return Err(unfit(mismatch_or_node(right(tokens).is_some()), tokens));
@@ -157,7 +162,8 @@ fn all_repeated<'a>(
     owner: Option<u32>,
     actions: &[Action],
 ) -> Result<&'a [Spanned], Refusal<EfgKind>>
-    ensures { Parses (λ rest. (tt, kinds rest.now)) result (parse_all_repeated owner actions.now (kinds tokens.now)) }
+    ensures { Parses (λ rest. (tt, kinds rest.now)) result
+        (parse_all_repeated owner actions.now (kinds tokens.now)) }
 {
     let mut rest = tokens;
     for action in actions {
@@ -173,7 +179,8 @@ pub fn later_list<'a>(
     owner: Option<u32>,
     actions: &[Action],
 ) -> Result<&'a [Spanned], Refusal<EfgKind>>
-    ensures { Parses (λ rest. (tt, kinds rest.now)) result (parse_later_list owner actions.now (kinds tokens.now)) }
+    ensures { Parses (λ rest. (tt, kinds rest.now)) result
+        (parse_later_list owner actions.now (kinds tokens.now)) }
 {
     let Some(inner) = left(tokens) else {
         return Ok(tokens);

@@ -52,7 +52,9 @@ fn mismatch_or_node(differs: bool) -> EfgKind
 
 // That no payoff comes, of which this many came before.
 fn no_payoff(tokens: &[Spanned], index: usize) -> Refusal<EfgKind>
-    ensures { result ≡ Unfit (if closes (payoff_start index (kinds tokens.now)) then OutcomeMismatch else Node) (length (payoff_start index (kinds tokens.now))) }
+    ensures { result
+        ≡ Unfit (if closes (payoff_start index (kinds tokens.now)) then OutcomeMismatch else Node)
+        (length (payoff_start index (kinds tokens.now))) }
 {
     let start = payoff_start(tokens, index);
     unfit(mismatch_or_node(right(start).is_some()), start)
@@ -75,7 +77,8 @@ fn payoffs(
     tokens: &[Spanned],
     players: usize,
 ) -> Result<(Vec<Frac>, &[Spanned]), Refusal<EfgKind>>
-    ensures { Parses (λ x. (x.0.items, kinds x.1.now)) result (parse_each parse_payoff 0 players (kinds tokens.now)) }
+    ensures { Parses (λ x. (x.0.items, kinds x.1.now)) result
+        (parse_each parse_payoff 0 players (kinds tokens.now)) }
 {
     let mut payoffs = Vec::new(alloc);
     let mut rest = tokens;
@@ -96,7 +99,8 @@ fn first_payoffs(
     tokens: &[Spanned],
     players: usize,
 ) -> Result<(Vec<Frac>, &[Spanned]), Refusal<EfgKind>>
-    ensures { Parses (λ x. (x.0.items, kinds x.1.now)) result (parse_first_payoffs players (kinds tokens.now)) }
+    ensures { Parses (λ x. (x.0.items, kinds x.1.now)) result
+        (parse_first_payoffs players (kinds tokens.now)) }
 {
     let Some(inner) = left(tokens) else {
         return Err(unfit(EfgKind::OutcomeMismatch, tokens));
@@ -109,7 +113,8 @@ fn first_payoffs(
 // The tokens behind payoffs that repeat these.
 #[tactic(auto, using(crate::proofs::OutcomeSteps::repeated_steps))]
 fn repeated<'a>(tokens: &'a [Spanned], payoffs: &[Frac]) -> Result<&'a [Spanned], Refusal<EfgKind>>
-    ensures { Parses (λ rest. (tt, kinds rest.now)) result (parse_same_payoffs 0 payoffs.now (kinds tokens.now)) }
+    ensures { Parses (λ rest. (tt, kinds rest.now)) result
+        (parse_same_payoffs 0 payoffs.now (kinds tokens.now)) }
 {
     let mut rest = tokens;
     for index in 0..payoffs.len() {
@@ -130,7 +135,8 @@ fn later_payoffs<'a>(
     tokens: &'a [Spanned],
     payoffs: &[Frac],
 ) -> Result<&'a [Spanned], Refusal<EfgKind>>
-    ensures { Parses (λ rest. (tt, kinds rest.now)) result (parse_later_payoffs payoffs.now (kinds tokens.now)) }
+    ensures { Parses (λ rest. (tt, kinds rest.now)) result
+        (parse_later_payoffs payoffs.now (kinds tokens.now)) }
 {
     let Some(inner) = left(tokens) else {
         return Ok(tokens);
@@ -149,7 +155,8 @@ fn first_use<'a>(
 ) -> Result<(OutcomeBegun, &'a [Spanned]), Refusal<EfgKind>>
     ensures label { IfOk result (λ x. x.0.label ≡ label) }
     ensures name { IfOk result (λ x. x.0.name ≡ option_map (λ t. t.now) name.entry) }
-    ensures read { Parses (λ x. (x.0.payoffs.items, kinds x.1.now)) result (parse_first_payoffs players (kinds tokens.now)) }
+    ensures read { Parses (λ x. (x.0.payoffs.items, kinds x.1.now)) result
+        (parse_first_payoffs players (kinds tokens.now)) }
 {
     let (payoffs, rest) = first_payoffs(alloc, tokens, players)?;
     let name = optional_name(alloc, name)?;
@@ -169,9 +176,11 @@ fn later_use<'a>(
     tokens: &'a [Spanned],
 ) -> Result<&'a [Spanned], Refusal<EfgKind>>
     ensures label { OnOk result (outcome.new.label ≡ outcome.old.label) }
-    ensures name { OnOk result (outcome.new.name ≡ option_or outcome.old.name (option_map (λ t. t.now) name.entry)) }
+    ensures name { OnOk result (outcome.new.name
+        ≡ option_or outcome.old.name (option_map (λ t. t.now) name.entry)) }
     ensures payoffs { OnOk result (outcome.new.payoffs.items ≡ outcome.old.payoffs.items) }
-    ensures read { Parses (λ rest. (tt, kinds rest.now)) result (parse_later_payoffs outcome.old.payoffs.items (kinds tokens.now)) }
+    ensures read { Parses (λ rest. (tt, kinds rest.now)) result
+        (parse_later_payoffs outcome.old.payoffs.items (kinds tokens.now)) }
 {
     let rest = later_payoffs(tokens, outcome.payoffs.as_slice())?;
     if outcome.name.is_none() {
@@ -191,7 +200,8 @@ fn read_named<'a>(
     requires outcomes { AreOutcomes outcomes }
     requires few { length outcomes.list.items < 4294967295 }
     ensures outcomes { IfOk result (λ x. AreOutcomes x.0) }
-    ensures read { Parses (λ x. ((begun_outcomes x.0, Some x.1), kinds x.2.now)) result (parse_named players label (begun_outcomes outcomes) (kinds tokens.now)) }
+    ensures read { Parses (λ x. ((begun_outcomes x.0, Some x.1), kinds x.2.now)) result
+        (parse_named players label (begun_outcomes outcomes) (kinds tokens.now)) }
 {
     let (name, behind) = optional_text(tokens);
     let (place, is_new) = outcomes.labels.insert_full(label)?;
@@ -217,7 +227,8 @@ pub fn read_outcome<'a>(
     requires few { length outcomes.list.items < 4294967295 }
     requires short { AllByRecursion IsShortToken (kinds tokens.now) }
     ensures outcomes { IfOk result (λ x. AreOutcomes x.0) }
-    ensures read { Parses (λ x. ((begun_outcomes x.0, x.1), kinds x.2.now)) result (parse_outcome players (begun_outcomes outcomes) (kinds tokens.now)) }
+    ensures read { Parses (λ x. ((begun_outcomes x.0, x.1), kinds x.2.now)) result
+        (parse_outcome players (begun_outcomes outcomes) (kinds tokens.now)) }
 {
     let Some((number, rest)) = label(tokens) else {
         return Err(unfit(EfgKind::Node, tokens));

@@ -69,7 +69,8 @@ fn first_use<'a>(
     node: u32,
     tokens: &'a [Spanned],
 ) -> Result<(SetBegun, &'a [Spanned]), Refusal<EfgKind>>
-    ensures read { Parses (λ x. (x.0.actions.items, kinds x.1.now)) result (parse_first_list key.owner key.label (kinds tokens.now)) }
+    ensures read { Parses (λ x. (x.0.actions.items, kinds x.1.now)) result
+        (parse_first_list key.owner key.label (kinds tokens.now)) }
     ensures set { IfOk result (λ x. begun_set x.0 ≡ record { owner = key.owner; label = key.label; name = option_map (λ t. t.now) name.entry; actions = x.0.actions.items; members = node ∷ [] }) }
 {
     let (actions, rest) = first_list(alloc, tokens, key.owner, key.label)?;
@@ -93,7 +94,8 @@ fn later_use<'a>(
     node: u32,
     tokens: &'a [Spanned],
 ) -> Result<&'a [Spanned], Refusal<EfgKind>>
-    ensures read { Parses (λ rest. (tt, kinds rest.now)) result (parse_later_list set.old.owner set.old.actions.items (kinds tokens.now)) }
+    ensures read { Parses (λ rest. (tt, kinds rest.now)) result
+        (parse_later_list set.old.owner set.old.actions.items (kinds tokens.now)) }
     ensures set { OnOk result (begun_set set.new ≡ record { owner = set.old.owner; label = set.old.label; name = option_or set.old.name (option_map (λ t. t.now) name.entry); actions = set.old.actions.items; members = set.old.members.items ++ node ∷ [] }) }
 {
     let rest = later_list(tokens, set.owner, set.actions.as_slice())?;
@@ -106,10 +108,14 @@ fn later_use<'a>(
 
 // The place of this key among those that are known, and whether it is new. It is known afterwards.
 fn placed(known: &mut IndexSet<SetKey>, key: SetKey) -> Result<(usize, bool), AllocFailed<SetKey>>
-    ensures place { IfOk result (λ x. x.0 ≡ position_or_len (λ k. same_set (key.owner, key.label) (k.owner, k.label)) known.old.keys) }
+    ensures place { IfOk result (λ x. x.0
+        ≡ position_or_len (λ k. same_set (key.owner, key.label)
+        (k.owner, k.label)) known.old.keys) }
     ensures within { IfOk result (λ x. x.0 < length known.old.keys + (if x.1 then 1 else 0)) }
-    ensures added { IfOk result (λ x. x.1 ≡ not (list_any (λ k. same_set (key.owner, key.label) (k.owner, k.label)) known.old.keys)) }
-    ensures keys { IfOk result (λ x. known.new.keys ≡ (if x.1 then known.old.keys ++ key ∷ [] else known.old.keys)) }
+    ensures added { IfOk result (λ x. x.1
+        ≡ not (list_any (λ k. same_set (key.owner, key.label) (k.owner, k.label)) known.old.keys)) }
+    ensures keys { IfOk result (λ x. known.new.keys
+        ≡ (if x.1 then known.old.keys ++ key ∷ [] else known.old.keys)) }
 {
     known.insert_full(key)
 }
@@ -126,7 +132,8 @@ pub fn read_set<'a>(
     requires few { length sets.list.items < 4294967295 }
     requires short { AllByRecursion IsShortToken (kinds tokens.now) }
     ensures sets { IfOk result (λ x. AreSets x.0) }
-    ensures read { Parses (λ x. ((begun_sets x.0, x.1), kinds x.2.now)) result (parse_set node (begun_sets sets) owner (kinds tokens.now)) }
+    ensures read { Parses (λ x. ((begun_sets x.0, x.1), kinds x.2.now)) result
+        (parse_set node (begun_sets sets) owner (kinds tokens.now)) }
 {
     let Some((label, behind)) = positive(tokens) else {
         return Err(unfit(EfgKind::Node, tokens));

@@ -30,7 +30,9 @@ fn sum(numbers: &[usize], limit: usize) -> usize
 // For each decision a 1 for each action of its set.
 fn ones(alloc: Global, decisions: &[Decision], actions: &[u32]) -> Result<Vec<Vec<usize>>, Memory>
     requires linked { AreLinked decisions.now actions.now }
-    ensures { IfOk result (λ lists. (limit : ℕ) → 0 < limit → AreBehind decisions.now actions.now (length decisions.now) limit (map (λ v. v.items) lists.items)) }
+    ensures { IfOk result (λ lists. (limit : ℕ) → 0 < limit
+        → AreBehind decisions.now actions.now (length decisions.now) limit
+        (map (λ v. v.items) lists.items)) }
 {
     let mut lists = Vec::with_capacity(alloc, decisions.len())?;
     for decision in decisions {
@@ -41,7 +43,9 @@ fn ones(alloc: Global, decisions: &[Decision], actions: &[u32]) -> Result<Vec<Ve
 
 // Multiplies the number of an action by the ways behind it, where the set has this action.
 fn multiply(products: &mut Vec<usize>, action: usize, ways: usize, limit: usize)
-    ensures { products.new.items ≡ slice_set products.old.items action (min (slice_index products.old.items action * ways) limit) }
+    ensures { products.new.items
+        ≡ slice_set products.old.items action
+        (min (slice_index products.old.items action * ways) limit) }
 {
     if action < products.len() {
         products[action] = product(products[action], ways, limit);
@@ -58,7 +62,9 @@ fn count_apart(
     requires linked { AreLinked decisions.now actions.now }
     requires apart { AreApart decisions.now }
     requires limit { 0 < limit }
-    ensures { IfOk result (λ count. count ≡ min (length (ends actions.now decisions.now [] (replicate (length actions.now) 0))) limit) }
+    ensures { IfOk result (λ count. count
+        ≡ min (length (ends actions.now decisions.now []
+        (replicate (length actions.now) 0))) limit) }
 {
     let mut behind = ones(alloc, decisions, actions)?;
     let mut first = 1;
@@ -87,7 +93,8 @@ pub fn count_walks(
 ) -> Result<usize, Memory>
     requires linked { AreLinked decisions.now actions.now }
     requires most { most + 1 < 2 ^ 64 }
-    ensures { IfOk result (λ count. (lists : List (List ℕ)) × AreWalks decisions.now actions.now lists × (count ≡ min (length lists) (most + 1))) }
+    ensures { IfOk result (λ count. (lists : List (List ℕ))
+        × AreWalks decisions.now actions.now lists × (count ≡ min (length lists) (most + 1))) }
 {
     let shared = shared_sets(alloc, decisions, actions.len())?;
     if !shared.contains(&true) {

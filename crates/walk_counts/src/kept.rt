@@ -59,7 +59,9 @@ fn kept(
 // A decision by the new numbers.
 fn renumbered(decision: Decision, numbers: &[u32]) -> Decision
     requires { IfSome decision.before (λ s. s.decision < length numbers.now) }
-    ensures { (kept : List Bool) → IfSome decision.before (λ s. slice_index numbers.now s.decision ≡ kept_below kept s.decision) → result ≡ renumbered kept decision }
+    ensures { (kept : List Bool)
+        → IfSome decision.before (λ s. slice_index numbers.now s.decision
+        ≡ kept_below kept s.decision) → result ≡ renumbered kept decision }
 {
     let before = match decision.before {
         Some(step) => Some(Step {
@@ -82,7 +84,8 @@ pub fn kept_decisions(
     requires shared { AreShared decisions.now (length actions.now) shared.now }
     requires few { length decisions.now < 2 ^ 32 }
     ensures linked { IfOk result (λ list. AreLinked list.items actions.now) }
-    ensures as_many { IfOk result (λ list. length (all_ends list.items actions.now) ≡ length (all_ends decisions.now actions.now)) }
+    ensures as_many { IfOk result (λ list. length (all_ends list.items actions.now)
+        ≡ length (all_ends decisions.now actions.now)) }
 {
     let kept = kept(alloc, decisions, actions, shared)?;
     let mut numbers = Vec::with_capacity(alloc, decisions.len())?;

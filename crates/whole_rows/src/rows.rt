@@ -100,7 +100,8 @@ pub fn write_divided(
     requires other_factor { IsShort v }
     ensures length { length spare.new ≡ length spare.old }
     ensures kept { AgreeOutside own size spare.new spare.old }
-    ensures divided { IsTrue result → IsWrittenBy by.value numbers.now own first column u v size spare.new }
+    ensures divided { IsTrue result
+        → IsWrittenBy by.value numbers.now own first column u v size spare.new }
     ensures fits { IsTrue result → RowFitsShort numbers.now own first column size }
 {
     for place in 0..size {
@@ -158,7 +159,8 @@ pub fn write_turned(numbers: &[i128], spare: &mut [i128], first: usize, column: 
     requires fit { AllPartsFit numbers.now }
     ensures length { length spare.new ≡ length spare.old }
     ensures kept { AgreeOutside first size spare.new spare.old }
-    ensures written { AreSame size (from_place spare.new first) (turned (from_place numbers.now first) column) }
+    ensures written { AreSame size (from_place spare.new first)
+        (turned (from_place numbers.now first) column) }
     ensures fit { RowFits size (from_place spare.new first) }
 {
     for place in 0..size {

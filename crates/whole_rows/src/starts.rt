@@ -26,7 +26,8 @@ fn added(common: i128, den: i128) -> i128
 fn common_denominator(cells: &[Frac], from: usize, count: usize) -> Result<i128, Unfit>
     requires row_in { from + count ≤ length cells.now }
     ensures value { IfOk result (IsCommonDenominator count (cells_from cells.now from)) }
-    ensures unfit { IfErr result (IsFirstUnfit (denominator_steps (cells_from cells.now from) count)) }
+    ensures unfit { IfErr result
+        (IsFirstUnfit (denominator_steps (cells_from cells.now from) count)) }
 {
     let mut common = 1;
     for k in 0..count {
@@ -84,7 +85,8 @@ fn write_start_row(
     ensures kept { AgreeOutside to (count + 1) numbers.new numbers.old }
     ensures written { OnOk result (IsStartRowAt cells.now from count numbers.new to) }
     ensures fits { OnOk result (AllFit (start_row_steps count (cells_from cells.now from))) }
-    ensures unfit { IfErr result (IsFirstUnfit (start_row_steps count (cells_from cells.now from))) }
+    ensures unfit { IfErr result
+        (IsFirstUnfit (start_row_steps count (cells_from cells.now from))) }
 {
     match common_denominator(cells, from, count) {
         Ok(common) => write_over(cells, numbers, from, to, count, common),
