@@ -20,7 +20,7 @@ use Rattle.sequence_data.specs.declared.types.SetRow.{SetRow}
 use Rattle.sequence_form.specs.Sequences.{set_row, tree_side}
 use Rattle.behaviour_profile.specs.Plans.{OwnAction, actions_at, quotient}
 use Rattle.behaviour_profile.specs.Shares.{actions_of, share_at, share_steps, steps_at}
-use Rattle.behaviour_profile.proofs.UnfitLists.{first_of-map}
+use Rattle.pure_payoffs.proofs.UnfitLists.{first_of-map}
 
 module _ (t : Tree) (i place : ℕ) (rows : List SetRow) (side : SideData) (rows_are : rows ≡ side.sets) (side_is : side ≡ tree_side t i) (l : place < length rows) where
   of_own_sets : rows ≡ map (set_row t i) (own_sets t i)

@@ -16,7 +16,7 @@ use Rattle.game_core.specs.Tree.{GameTree, InformationSet}
 use Rattle.game_core.specs.TreeGame.{game_of_tree}
 use Rattle.pure_payoffs.specs.Steps.{Step}
 use Rattle.pure_payoffs.specs.FirstUnfit.{Fits}
-use Rattle.pure_payoffs.proofs.FirstUnfits.{all_fit-single}
+use Rattle.pure_payoffs.proofs.FirstUnfits.{same_stop, no_stop}
 use Rattle.sequence_data.specs.Weights.{weight}
 use Rattle.sequence_data.specs.declared.types.SetRow.{SetRow}
 use Rattle.sequence_form.specs.Sequences.{set_row}
@@ -27,7 +27,7 @@ use Rattle.behaviour_profile.specs.Plans.{OwnAction, actions_at, own_actions, bo
 use Rattle.behaviour_profile.specs.Shares.{AddsPlan, IsLabelOf, IsPlanStop, IsShareStop, actions_of, share_at, steps_at}
 use Rattle.behaviour_profile.proofs.BehaviourEntries.{entries_at-push}
 use Rattle.behaviour_profile.proofs.PlanShares.{shares_are, quotients_fit, first_quotient}
-use Rattle.behaviour_profile.proofs.UnfitLists.{first_of-more, first_of-behind, parts_fit, first_of-part}
+use Rattle.pure_payoffs.proofs.UnfitLists.{first_of-more, first_of-behind, parts_fit, first_of-part}
 
 -- ---- one player
 -- the entries at the first n own sets of a player stand behind others, and all quotients there fit
@@ -109,37 +109,25 @@ both_made t one two old now new two_players none a b =
     )
 
 -- ---- one answer
-err_same : {X : Type 0} (a b : X) → ◌≡◌ {A = Result (Unit {0}) X} (Err a) (Err b) → a ≡ b
-err_same a b e = cc
-
-ok_no_err : {X : Type 0} (b : X) → ◌≡◌ {A = Result (Unit {0}) X} (Ok tt) (Err b) → ⊥
-ok_no_err b e = cc
-
 -- a first quotient that does not fit is one
 same_quotient : (t : GameTree) (plans : ℕ → ℕ → ℚ) (i j label number : ℕ) (step other : Step) → IsUnfitQuotient t plans i label step → IsUnfitQuotient t plans j number other → (let one : Result (List ℚ) BehaviourStop = Err (stops.Range i label step) in one) ≡ Err (stops.Range j number other)
-same_quotient t plans i j label number step other h g = λ k. Err (stops.Range (player_same k) (label_same k) (step_same k))
+same_quotient t plans i j label number step other h g = λ k. Err (stops.Range (player_same k) (label_same k) (same.1 k))
   where
-    stop_same : ◌≡◌ {A = OwnAction × Step} (h.at, step) (g.at, other)
-    stop_same = err_same _ _ (all_fit-single (quotient (game_of_tree t) plans) (both_actions t) (Err (h.at, step)) (Err (g.at, other)) h.first g.first)
-
-    at_same : h.at ≡ g.at
-    at_same = ap (λ (p : OwnAction × Step). p.0) stop_same
-
-    step_same : step ≡ other
-    step_same = ap (λ (p : OwnAction × Step). p.1) stop_same
+    same : (h.at ≡ g.at) × (step ≡ other)
+    same = same_stop (quotient (game_of_tree t) plans) (both_actions t) h.at g.at step other h.first g.first
 
     player_same : i ≡ j
-    player_same = h.player_is ∙ ap (λ (a : OwnAction). a.player) at_same ∙ sym g.player_is
+    player_same = h.player_is ∙ ap (λ (a : OwnAction). a.player) same.0 ∙ sym g.player_is
 
     set_same : h.set ≡ g.set
-    set_same = same_Some h.set g.set (sym h.stands_at ∙ ap (λ (a : OwnAction). slice_get t.sets a.set) at_same ∙ g.stands_at)
+    set_same = same_Some h.set g.set (sym h.stands_at ∙ ap (λ (a : OwnAction). slice_get t.sets a.set) same.0 ∙ g.stands_at)
 
     label_same : label ≡ number
     label_same = h.label_is ∙ ap (λ (s : InformationSet). s.label) set_same ∙ sym g.label_is
 
 -- there is none where all fit
 no_quotient : (t : GameTree) (plans : ℕ → ℕ → ℚ) (i label : ℕ) (step : Step) → All (Fits (quotient (game_of_tree t) plans)) (both_actions t) → IsUnfitQuotient t plans i label step → ⊥
-no_quotient t plans i label step fit h = ok_no_err (h.at, step) (all_fit-single (quotient (game_of_tree t) plans) (both_actions t) (Ok tt) (Err (h.at, step)) fit h.first)
+no_quotient t plans i label step fit h = no_stop (quotient (game_of_tree t) plans) (both_actions t) h.at step h.first fit
 
 pub plan_behaviour-single : (t : GameTree) (one two : List ℚ) → IsSingle (plan_behaviour t one two)
 plan_behaviour-single t one two (Ok x) (Ok y) h g = ap Ok (h.1 ∙ sym g.1)
