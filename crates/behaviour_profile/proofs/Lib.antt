@@ -1,1 +1,4 @@
 pub mod BehaviourEntries
+pub mod PlanShares
+pub mod PlanStops
+pub mod SharesTaken

@@ -12,6 +12,10 @@ entry_text q = 44 ∷ number_text q
 abbrev pub entries_text : List ℚ → List ℕ
 entries_text qs = flat_map entry_text qs
 
+-- a line: a name, each number behind a comma, and a line feed
+abbrev pub numbers_line : List ℕ → List ℚ → List ℕ
+numbers_line name qs = name ++ entries_text qs ++ 10 ∷ []
+
 -- what stands before the entries of a line where each is behind a comma
 abbrev pub line_start : List ℚ → List ℕ
 line_start [] = codes "NE,"

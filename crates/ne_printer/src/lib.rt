@@ -3,7 +3,7 @@
 
 ghost use Rattle.std.specs.Prelude.{◌≡◌, [], ◌∷◌, ◌++◌, string_bytes, IfOk, OnOk, OnErr, MatchOption};
 ghost use Rattle.game_theory.specs.Lines.{line_text, number_text};
-ghost use Rattle.ne_printer.specs.Entries.{entry_text, entries_text, line_start, BeginsWith, IsOneDigit};
+ghost use Rattle.ne_printer.specs.Entries.{entry_text, entries_text, numbers_line, line_start, BeginsWith, IsOneDigit};
 
 use frac128::{Frac, Memory};
 use std::alloc::Global;
@@ -29,18 +29,31 @@ pub fn fraction(alloc: Global, value: Frac) -> Result<Vec<u8>, Memory>
     Ok(fraction_text(alloc, value)?.into_bytes())
 }
 
+/// Adds a line to a text: a name, each number behind a comma, and a line feed.
+pub fn push_numbers(
+    alloc: Global,
+    text: &mut Vec<u8>,
+    name: &[u8],
+    numbers: &[Frac],
+) -> Result<(), Memory>
+    ensures line { OnOk result (text.new.items ≡ text.old.items ++ numbers_line name.now numbers.now) }
+    ensures memory { OnErr result (text.new.items ≡ text.old.items) }
+{
+    let length = text.len();
+    let pushed = push_parts(alloc, text, name, numbers);
+    if pushed.is_err() {
+        text.truncate(length);
+    }
+    pushed
+}
+
 /// Adds the line of an equilibrium with these entries to a text: `NE,`, the entries with commas between them, and
 /// a line feed.
 pub fn push_line(alloc: Global, text: &mut Vec<u8>, entries: &[Frac]) -> Result<(), Memory>
     ensures line { OnOk result (text.new.items ≡ text.old.items ++ line_text entries.now) }
     ensures memory { OnErr result (text.new.items ≡ text.old.items) }
 {
-    let length = text.len();
-    let pushed = push_parts(alloc, text, entries);
-    if pushed.is_err() {
-        text.truncate(length);
-    }
-    pushed
+    push_numbers(alloc, text, line_start(entries), entries)
 }
 
 /// The line of an equilibrium with these entries: `NE,`, the entries with commas between them, and a line feed.
@@ -53,12 +66,17 @@ pub fn line(alloc: Global, entries: &[Frac]) -> Result<Vec<u8>, Memory>
 }
 
 // Adds a line; where memory runs out, a part of it may stand behind the text.
-fn push_parts(alloc: Global, text: &mut Vec<u8>, entries: &[Frac]) -> Result<(), Memory>
-    ensures line { OnOk result (text.new.items ≡ text.old.items ++ line_text entries.now) }
+fn push_parts(
+    alloc: Global,
+    text: &mut Vec<u8>,
+    name: &[u8],
+    numbers: &[Frac],
+) -> Result<(), Memory>
+    ensures line { OnOk result (text.new.items ≡ text.old.items ++ numbers_line name.now numbers.now) }
     ensures kept { BeginsWith text.old.items text.new.items }
 {
-    text.extend_from_slice(line_start(entries))?;
-    push_entries(alloc, text, entries)?;
+    text.extend_from_slice(name)?;
+    push_entries(alloc, text, numbers)?;
     text.push(b'\n')?;
     Ok(())
 }

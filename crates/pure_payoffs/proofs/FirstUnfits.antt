@@ -36,7 +36,8 @@ append_none : {X : Type 0} (xs : List X) → xs ++ [] ≡ xs
 append_none [] = refl
 append_none (x ∷ xs) = ap (λ ys. x ∷ ys) (append_none xs)
 
-same_stop : {X : Type 0} (steps : X → List Step) (xs : List X) (x y : X) (one other : Step) → IsFirstUnfitOf steps xs x one → IsFirstUnfitOf steps xs y other → (x ≡ y) × (one ≡ other)
+-- the first thing and its step are one
+pub same_stop : {X : Type 0} (steps : X → List Step) (xs : List X) (x y : X) (one other : Step) → IsFirstUnfitOf steps xs x one → IsFirstUnfitOf steps xs y other → (x ≡ y) × (one ≡ other)
 same_stop steps xs x y one other h g = (same, unfit_begins (steps x) [] one other h.first_unfit (subst (λ ss. IsFirstUnfit ss other) (sym (append_none (steps x))) (subst (λ z. IsFirstUnfit (steps z) other) (sym same) g.first_unfit)))
   where
     same : x ≡ y
@@ -45,7 +46,8 @@ same_stop steps xs x y one other h g = (same, unfit_begins (steps x) [] one othe
         (λ fit. unfit_excludes (steps x) [] one h.first_unfit (subst (All StepFits) (sym (append_none (steps x))) fit))
         (λ fit. unfit_excludes (steps y) [] other g.first_unfit (subst (All StepFits) (sym (append_none (steps y))) fit))
 
-no_stop : {X : Type 0} (steps : X → List Step) (xs : List X) (x : X) (one : Step) → IsFirstUnfitOf steps xs x one → All (Fits steps) xs → ⊥
+-- there is none where the steps of all fit
+pub no_stop : {X : Type 0} (steps : X → List Step) (xs : List X) (x : X) (one : Step) → IsFirstUnfitOf steps xs x one → All (Fits steps) xs → ⊥
 no_stop steps xs x one h fit =
     unfit_excludes (steps x) [] one h.first_unfit (subst (All StepFits) (sym (append_none (steps x))) (front_has (Fits steps) h.before h.after x (subst (All (Fits steps)) h.is_there fit)))
 

@@ -11,3 +11,4 @@ pub mod SettledNodes
 pub mod SettledPlaces
 pub mod Standing
 pub mod TreeParts
+pub mod UnfitLists

@@ -1,5 +1,5 @@
 use frac128::{Frac, Memory};
-use ne_printer::{fraction, line};
+use ne_printer::{fraction, line, push_numbers};
 use std::alloc::Global;
 
 // The fractions of numerators and denominators.
@@ -20,6 +20,19 @@ fn has_line(alloc: Global, parts: &[(i128, i128)], text: &[u8]) -> Result<bool, 
     Ok(line(alloc, &entries)?.as_slice() == text)
 }
 
+// Whether this text is the line with a name and these numbers.
+fn has_numbers(
+    alloc: Global,
+    name: &[u8],
+    parts: &[(i128, i128)],
+    text: &[u8],
+) -> Result<bool, Memory> {
+    let numbers = fractions(alloc, parts)?;
+    let mut line = Vec::new(alloc);
+    push_numbers(alloc, &mut line, name, &numbers)?;
+    Ok(line.as_slice() == text)
+}
+
 // Whether the fraction with these parts is written so.
 fn is_written(alloc: Global, num: i128, den: i128, text: &[u8]) -> Result<bool, Memory> {
     let Some(value) = Frac::new(num, den) else {
@@ -35,6 +48,7 @@ fn writes_lines_and_fractions(rt: HostRuntime) -> Result<(), Memory> {
     assert!(rt; has_line(alloc, &[(1, 1), (0, 1)], b"NE,1,0\n")?);
     assert!(rt; has_line(alloc, &[(2, 3), (1, 3)], b"NE,2/3,1/3\n")?);
     assert!(rt; has_line(alloc, &[(-1, 2), (10, 1), (9, 1)], b"NE,-1/2,10,9\n")?);
+    assert!(rt; has_numbers(alloc, b"raw", &[(0, 1), (-5, 3)], b"raw,0,-5/3\n")?);
     assert!(rt; is_written(alloc, -7, 1, b"-7")?);
     assert!(rt; is_written(alloc, 22, 7, b"22/7")?);
     assert!(rt; is_written(alloc, 0, 1, b"0")?);
