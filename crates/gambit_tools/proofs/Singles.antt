@@ -1,7 +1,7 @@
 -- Each stage has at most one answer.
-use Rattle.std.proofs.Common.{ℕ, ◌≡◌, ◌<◌, ◌∙◌, sym, ap, refl, Bool, true, false, List, [], length, slice_index_or}
+use Rattle.std.proofs.Common.{ℕ, ◌<◌, Bool, true, false, List, [], length, slice_index_or}
 use Rattle.answers.specs.Answers.{IsSingle, IsSingleAs, refuse_where, only, refused_by}
-use Rattle.answers.proofs.Answers.{bind-single, by_case-single, only-single, refuse_where-single, refused_by-single, single-as, single-less}
+use Rattle.answers.proofs.Answers.{bind-single, by_case-single, only-single, refuse_where-single, refused_by-single, single-as}
 use Rattle.game_core.specs.Table.{game_of as game_of_table}
 use Rattle.game_core.specs.Tree.{GameTree}
 use Rattle.game_core.specs.TreeGame.{game_of_tree}
@@ -11,9 +11,7 @@ use Rattle.game_text.specs.Stops.{tokens_of}
 use Rattle.game_text.proofs.Single.{tokens_of-single}
 use Rattle.nfg_reader.specs.Stops.{table_in}
 use Rattle.nfg_reader.proofs.Single.{table_in-single}
-use Rattle.efg_reader.specs.Stops.{tree_in, but_for_kind}
-use Rattle.efg_reader.specs.declared.fault.EfgStop.{EfgStop}
-use Rattle.efg_reader.specs.declared.fault.EfgStop.TheVariants as efg_stop
+use Rattle.efg_reader.specs.Stops.{tree_in}
 use Rattle.efg_reader.proofs.FileStops.{tree_in-single}
 use Rattle.reduced_form.specs.ReducedForm.{ReducedForm}
 use Rattle.reduced_form.specs.Stops.{form_of}
@@ -39,12 +37,6 @@ tokens_in-single bytes =
     (refuse_where-single forget (most_bytes < length bytes) refusal.TooLong)
     (λ _ _. refused_by-single forget text_refusal (tokens_of bytes) (single-as (λ stop. forget (text_refusal stop)) (tokens_of bytes) (tokens_of-single bytes)))
 
--- a stop is told as one without the kind of a fault among the nodes
-efg_told : (stop : EfgStop) → forget (efg_refusal stop) ≡ efg_refusal (but_for_kind stop)
-efg_told (efg_stop.Fault fault) = refl
-efg_told (efg_stop.TooLarge limit) = refl
-efg_told efg_stop.Memory = refl
-
 table_game-single : (tokens : TokenList) → IsSingleAs forget (table_game tokens)
 table_game-single tokens =
     bind-single forget (refused_by nfg_refusal (table_in tokens)) (λ table. only (Strategic table))
@@ -54,8 +46,7 @@ table_game-single tokens =
 tree_game-single : (tokens : TokenList) → IsSingleAs forget (tree_game tokens)
 tree_game-single tokens =
     bind-single forget (refused_by efg_refusal (tree_in tokens)) (λ tree. only (Extensive tree))
-    (refused_by-single forget efg_refusal (tree_in tokens) (single-less but_for_kind (λ stop. forget (efg_refusal stop)) (tree_in tokens)
-    (λ one other e. efg_told one ∙ ap efg_refusal e ∙ sym (efg_told other)) (tree_in-single tokens)))
+    (refused_by-single forget efg_refusal (tree_in tokens) (single-as (λ stop. forget (efg_refusal stop)) (tree_in tokens) (tree_in-single tokens)))
     (λ tree _. only-single forget (Extensive tree))
 
 game_in-single : (bytes : List ℕ) → IsSingleAs forget (game_in bytes)
