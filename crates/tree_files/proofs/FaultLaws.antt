@@ -218,14 +218,13 @@ goes_to a t b w e f =
 file_begins : (tokens : List Token) → IsFile tokens → BeginsFile tokens
 file_begins tokens f = ([], f.0, [], subst (λ (q : List Token). IsBegunFile q f.0 []) (sym (append-nil tokens)) f.1)
 
--- what can't come comes in no file
-no_file : (before rest : List Token) → CannotCome before rest → IsFile (before ++ rest) → ⊥
-no_file before [] c f = c (subst IsFile (append-nil before) f)
-no_file before (t ∷ rest) c f = c (goes_to before t (before ++ t ∷ rest) rest refl (file_begins (before ++ t ∷ rest) f))
-
 -- a file has no fault
 pub file_is_faultless : (tokens : List Token) (kind : EfgKind) (rest : List Token) → IsFile tokens → IsFaultFrom tokens kind rest → ⊥
-file_is_faultless tokens kind rest f s = no_file s.before rest s.stops (subst IsFile s.are_tokens f)
+file_is_faultless tokens kind rest f s = by s.before rest s.stops (subst IsFile s.are_tokens f)
+  where
+    by : (before rest : List Token) → CannotCome before rest → IsFile (before ++ rest) → ⊥
+    by before [] c f = c (subst IsFile (append-nil before) f)
+    by before (t ∷ rest) c f = c (goes_to before t (before ++ t ∷ rest) rest refl (file_begins (before ++ t ∷ rest) f))
 
 -- two faults are at the same token
 one_place : (tokens : List Token) (kind other : EfgKind) (rest place : List Token) → IsFaultFrom tokens kind rest → IsFaultFrom tokens other place → rest ≡ place

@@ -86,13 +86,6 @@ IsKind Unfinished before rest = StopsInNodes before × (rest ≡ [])
 IsKind Trailing before rest = IsFile before
 IsKind kind before rest = IsNodeKind kind before rest
 
--- a kind, where those among the nodes are one, but the end's
-abbrev pub part_of_kind : EfgKind → EfgKind
-part_of_kind Header = Header
-part_of_kind Players = Players
-part_of_kind Unfinished = Unfinished
-part_of_kind _ = Node
-
 -- a fault of this kind, from these last tokens on: the tokens before them begin a file, and what comes cannot
 pub record IsFaultFrom (tokens : List Token) (kind : EfgKind) (rest : List Token) : Type 0 where
   pub before : List Token
