@@ -1,4 +1,5 @@
 pub mod CellSums
+pub mod Gains
 mod Gathering
 pub mod Order
 pub mod Placed

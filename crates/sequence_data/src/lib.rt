@@ -5,11 +5,13 @@
 #![tactic(auto)]
 
 ghost use Rattle.std.specs.Prelude.{◌≡◌, ℕ, List};
-ghost use Rattle.rational.specs.Rational.{ℚ};
+ghost use Rattle.rational.specs.Rational.{ℚ, ◌≤ℚ◌, zero_ℚ};
 ghost use Rattle.pure_payoffs.specs.Steps.{Step};
+ghost use Rattle.sequence_forms.specs.Prices.{gains};
 ghost use Rattle.sequence_data.specs.declared.types.Cell.{Cell};
 ghost use Rattle.sequence_data.specs.declared.types.Leaf.{Leaf};
 ghost use Rattle.sequence_data.specs.Cells.{AreCells};
+ghost use Rattle.sequence_data.specs.Data.{FormData, IsFormData, form};
 ghost use Rattle.sequence_data.specs.Extremes.{IsGreatest, IsLeast};
 ghost use Rattle.sequence_data.specs.Steps.{AllFit, IsFirstUnfitAt, PlacedStep};
 
@@ -40,4 +42,9 @@ pub fn stops_are_exact()
 pub fn extremes_are_one()
     ensures greatest { (numbers : List ℚ) (v w : ℚ) → IsGreatest numbers v → IsGreatest numbers w → v ≡ w }
     ensures least { (numbers : List ℚ) (v w : ℚ) → IsLeast numbers v → IsLeast numbers w → v ≡ w }
+{}
+
+/// No gain over the least payoff is negative.
+pub fn gains_are_not_negative()
+    ensures { (f : FormData) (r q : ℕ) → IsFormData f → zero_ℚ ≤ℚ gains (form f) f.least_one r q }
 {}

@@ -1,4 +1,5 @@
 pub mod Determined
+pub mod FirstUnfits
 pub mod Fitting
 pub mod PlaceSteps
 pub mod Quotients

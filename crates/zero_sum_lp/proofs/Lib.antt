@@ -5,8 +5,10 @@ pub mod FormPrograms
 pub mod FormSystems
 pub mod Optima
 pub mod PathEnds
+pub mod PlanAnswers
 pub mod PlanLists
 pub mod PlanReads
+pub mod ProgramAnswers
 pub mod ProgramSteps
 pub mod Starting
 pub mod Systems

@@ -1,5 +1,5 @@
 -- The path has one end.
-use Rattle.std.proofs.Common.{ℕ, zero, suc, ◌<◌, ◌≡◌, ◌^◌, inl, inr, List, [], ◌∷◌, sym, ap, ap₂, ◌∙◌, subst, subst₂, arith}
+use Rattle.std.proofs.Common.{ℕ, zero, suc, ◌<◌, ◌≡◌, ◌^◌, inl, inr, sym, ap, ap₂, ◌∙◌, subst, subst₂, arith}
 use Rattle.std.proofs.lemmas.Bool.{cases_lt}
 use Rattle.rational.specs.Rational.{zero_ℚ}
 use Rattle.rational.proofs.Field.{not_lt_of_le}
@@ -9,7 +9,8 @@ use Rattle.linear_systems.proofs.LexRow.{lex_row_once, below_cases}
 use Rattle.linear_programs.specs.Paths.{IsEntering, IsOptimal}
 use Rattle.linear_programs.proofs.Determined.{alike_sym, alike_trans, entering_once}
 use Rattle.frac128.specs.declared.steps.Unfit.{Unfit}
-use Rattle.whole_rows.specs.Steps.{Step, AllFit, IsFirstUnfit}
+use Rattle.whole_rows.specs.Steps.{AllFit, IsFirstUnfit}
+use Rattle.whole_rows.proofs.FirstUnfits.{no_unfit, one_unfit}
 use Rattle.lex_tableau.specs.Pivots.{steps_of_pivot}
 use Rattle.lex_tableau.specs.Ratio.{listed}
 use Rattle.lex_tableau.specs.Rows.{Numbers, tableau, IsPivotOf, IsTableau}
@@ -18,19 +19,6 @@ use Rattle.zero_sum_lp.specs.declared.lp.LpEnd.TheVariants.{Optimal, Range}
 use Rattle.zero_sum_lp.specs.Ends.{EndsAreSingle}
 use Rattle.zero_sum_lp.specs.Parts.{Program}
 use Rattle.zero_sum_lp.specs.Steps.{IsFittingStep, LeadsTo, EndsPath, IsStepNumber, IsUnfitStep}
-
--- ---- steps over whole numbers
-no_unfit : (ss : List Step) (e : Unfit) → AllFit ss → IsFirstUnfit ss e → ⊥
-no_unfit [] e h f = f
-no_unfit (s ∷ ss) e h (inl f) = f.0 h.0
-no_unfit (s ∷ ss) e h (inr f) = no_unfit ss e h.1 f.1
-
-one_unfit : (ss : List Step) (e f : Unfit) → IsFirstUnfit ss e → IsFirstUnfit ss f → e ≡ f
-one_unfit [] e f h g = absurd h
-one_unfit (s ∷ ss) e f (inl h) (inl g) = h.1 ∙ sym g.1
-one_unfit (s ∷ ss) e f (inl h) (inr g) = absurd (h.0 g.0)
-one_unfit (s ∷ ss) e f (inr h) (inl g) = absurd (g.0 h.0)
-one_unfit (s ∷ ss) e f (inr h) (inr g) = one_unfit ss e f h.1 g.1
 
 -- ---- one step
 -- the pivot of a tableau that is determined
@@ -131,7 +119,8 @@ module _ (first : Numbers) (v : IsTableau first) where
             (u.variable ∙ ap₂ (λ (m : Numbers) (i : ℕ). (tableau m).nonbasic i) e c ∙ sym w.variable, one_unfit (steps_of_pivot w.before w.row w.column) unfit unfit' here w.first_unfit),
           )
 
-program_same : (a b : Program) → a.first ≡ b.first → a.second ≡ b.second → a.tableau ≡ b.tableau → a ≡ b
+-- a program by its parts
+pub program_same : (a b : Program) → a.first ≡ b.first → a.second ≡ b.second → a.tableau ≡ b.tableau → a ≡ b
 program_same a b e f g = λ i. record { first = e i; second = f i; tableau = g i }
 
 pub ends_same : EndsAreSingle

@@ -1,6 +1,6 @@
 -- The program of a sequence form in stages, and why there is none.
 use Rattle.std.specs.Prelude.{ℕ, ◌≡◌, ◌≢◌, ◌<◌, List, [], ◌∷◌, ◌++◌, All, Ok, Err}
-use Rattle.answers.specs.Answers.{Answer, ◌>>◌, refuse_where, refused_by}
+use Rattle.answers.specs.Answers.{Answer, ◌>>◌, IsSingle, refuse_where, refused_by}
 use Rattle.rational.specs.Rational.{ℚ, ◌+ℚ◌, ◌-ℚ◌, ◌*ℚ◌}
 use Rattle.frac128.specs.Steps.{unfit}
 use Rattle.frac128.specs.declared.steps.Op.TheVariants.{Add, Sub, Mul}
@@ -109,3 +109,7 @@ program_in f =
     >> (sums_in f.leaves
     >> (refused_by stops.NotConstant (is_constant f.leaves)
     >> (gains_in f.least_one f.cells >> start_in f)))
+
+-- A form has one program, or one reason why it has none.
+abbrev pub ProgramsAreSingle : Type 0
+ProgramsAreSingle = (f : FormData) → IsSingle (program_in f)

@@ -1,7 +1,7 @@
 -- The plans of an optimum, and why there are none.
-use Rattle.sequence_data.specs.Data.{side_of}
+use Rattle.sequence_data.specs.Data.{IsSideData, side_of}
 use Rattle.std.specs.Prelude.{◌≡◌, ◌⊎◌, List, length, Ok, Err}
-use Rattle.answers.specs.Answers.{Answer}
+use Rattle.answers.specs.Answers.{Answer, IsSingle}
 use Rattle.zero_sum_lp.specs.PlanPairs.{PlanPair}
 use Rattle.rational.specs.Rational.{ℚ}
 use Rattle.pure_payoffs.specs.Steps.{Step}
@@ -55,3 +55,7 @@ plans_of o (Ok plans) = IsFirstPlan o plans.one × IsSecondPlan o plans.two
 plans_of o (Err (Range player unfit)) =
     ((player ≡ 0) × IsUnfitFirst o unfit) ⊎ ((player ≡ 1) × IsUnfitSecond o unfit)
 plans_of o (Err Memory) = ⊥
+
+-- There is one pair of plans, or one first step that does not fit.
+abbrev pub PlansAreSingle : Type 0
+PlansAreSingle = (o : Program) → IsSideData o.first → IsSideData o.second → IsSingle (plans_of o)

@@ -52,5 +52,4 @@ OptimalPlansSolveTables =
 abbrev pub ProgramsAreOfForms : Type 0
 ProgramsAreOfForms =
     (f : FormData) (p : Program) → IsFormData f → program_in f (Ok p)
-    → ((r q : ℕ) → r < sequences (side_of f.first) → q < sequences (side_of f.second) → zero_ℚ ≤ℚ gains (form f) f.least_one r q)
     → IsProgram p × IsProgramOfForm (form f) f.least_one p

@@ -1,5 +1,7 @@
 // What the answers prove. The functions do nothing: the contract of each is a law, so that a check proves it.
 ghost use Rattle.zero_sum_lp.specs.Ends.{EndsAreSingle};
+ghost use Rattle.zero_sum_lp.specs.FormPrograms.{ProgramsAreSingle};
+ghost use Rattle.zero_sum_lp.specs.PlanStops.{PlansAreSingle};
 ghost use Rattle.zero_sum_lp.specs.ValueLaws.{OptimalPlansProveTheValue, OptimalPlansSolveTrees, OptimalPlansSolveTables, ProgramsAreOfForms};
 
 /// The plans and prices at the optimum prove the value.
@@ -22,7 +24,17 @@ pub fn programs_are_of_forms()
     ensures { ProgramsAreOfForms }
 {}
 
+/// A form has one program, or one reason why it has none.
+pub fn programs_are_single()
+    ensures { ProgramsAreSingle }
+{}
+
 /// A program's path has one end: the optimum, or the first step that does not fit.
 pub fn ends_are_single()
     ensures { EndsAreSingle }
+{}
+
+/// An optimum has one pair of plans, or one first step that does not fit.
+pub fn plans_are_single()
+    ensures { PlansAreSingle }
 {}

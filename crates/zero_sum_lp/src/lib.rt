@@ -21,7 +21,7 @@ mod weights;
 pub use form_program::program;
 pub use laws::{
     ends_are_single, optimal_plans_prove_the_value, optimal_plans_solve_tables,
-    optimal_plans_solve_trees, programs_are_of_forms,
+    optimal_plans_solve_trees, plans_are_single, programs_are_of_forms, programs_are_single,
 };
 pub use lp::{Lp, LpEnd};
 pub use optimum::{Optimum, Plans};

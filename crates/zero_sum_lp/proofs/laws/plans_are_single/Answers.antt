@@ -1,0 +1,5 @@
+use Rattle.zero_sum_lp.proofs.PlanAnswers.{plans_single}
+use Rattle.zero_sum_lp.proofs.laws.plans_are_single.Goals as goal
+
+pub returns : goal.returns
+returns c = plans_single
