@@ -1,1 +1,3 @@
 pub mod FirstActions
+pub mod Plans
+pub mod Shares

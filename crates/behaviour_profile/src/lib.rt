@@ -13,8 +13,11 @@ ghost use Rattle.behaviour_profile.specs.FirstActions.{first_for_none};
 ghost use Rattle.game_trees.specs.OwnSets.{own_sets};
 ghost use Rattle.game_trees.specs.TreeEntries.{own_entries, tree_entries};
 
+mod plans;
+
 use frac128::{Frac, Memory};
 use game_core::Tree;
+pub use plans::{BehaviourStop, plan_behaviours_are_single};
 use reduced_form::Reduced;
 use std::alloc::Global;
 use std::marker::Model;

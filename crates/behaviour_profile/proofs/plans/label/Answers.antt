@@ -1,0 +1,30 @@
+use Rattle.std.proofs.Common.{◌<◌, ◌≡◌, ◌∙◌, Some, List, sym, ap, length, slice_get, arith}
+use Rattle.std.proofs.lemmas.Option.{slice_get-get_or, get_or_from_slice_get}
+use Rattle.game_trees.specs.OwnSets.{own_sets}
+use Rattle.game_core.specs.Tree.{InformationSet}
+use Rattle.game_core.specs.TreeGame.{game_of_tree}
+use Rattle.behaviour_profile.proofs.BehaviourEntries.{own_set-below, place-found}
+use Rattle.behaviour_profile.proofs.plans.label.Goals as goal
+
+pub bounds-sets-set : goal.bounds-sets-set
+bounds-sets-set c =
+    let t = game_of_tree c.args.tree.now in
+    let at : slice_get (own_sets t c.args.player) c.args.place ≡ Some c.in-Some.set = sym (c.own_sets.ensures ∙ ap (λ v. slice_get v c.args.place) (c.own_sets_are_those_of_the_tree.ensures c.args.tree.now c.args.player)) ∙ c.in-Some.is in
+    omega (arith, own_set-below t c.args.player c.args.place c.in-Some.set at, ap (λ (v : List InformationSet). length v) c.sets.ensures.sets)
+
+pub returns-in-Some : goal.returns-in-Some
+returns-in-Some c =
+    let t = game_of_tree c.args.tree.now in
+    let s = c.in-Some.set in
+    let at : slice_get (own_sets t c.args.player) c.args.place ≡ Some s = sym (c.own_sets.ensures ∙ ap (λ v. slice_get v c.args.place) (c.own_sets_are_those_of_the_tree.ensures c.args.tree.now c.args.player)) ∙ c.in-Some.is in
+    let below : s < length c.sets.result.now = omega (arith, own_set-below t c.args.player c.args.place s at, ap (λ (v : List InformationSet). length v) c.sets.ensures.sets) in
+    record {
+      set = c.index-sets-set.result;
+      stands_at = ap (slice_get c.args.tree.now.sets) (get_or_from_slice_get (own_sets t c.args.player) c.args.place s 0 at) ∙ ap (λ (v : List InformationSet). slice_get v s) (sym c.sets.ensures.sets) ∙ slice_get-get_or c.sets.result.now s c.index-sets-set.result below ∙ ap Some (sym c.index-sets-set.is);
+      label_is = c.label.ensures;
+    }
+
+pub returns-in-None : goal.returns-in-None
+returns-in-None c =
+    let t = game_of_tree c.args.tree.now in
+    absurd (place-found t c.args.player c.args.place c.requires (sym (c.own_sets.ensures ∙ ap (λ v. slice_get v c.args.place) (c.own_sets_are_those_of_the_tree.ensures c.args.tree.now c.args.player)) ∙ c.in-None.is))

@@ -1,0 +1,29 @@
+use Rattle.std.proofs.Common.{◌+◌, ◌<◌, length, refl, arith}
+use Rattle.behaviour_profile.proofs.SharesTaken.{weight_read, next_share, next_fits, first_share, all_shares}
+use Rattle.behaviour_profile.proofs.plans.push_shares.Goals as goal
+
+pub returns-in-Err-clause-stop : goal.returns-in-Err-clause-stop
+returns-in-Err-clause-stop c =
+    let plan = c.args.plan.now in
+    let row = c.args.row in
+    let action = c.loop-action.action in
+    let here : row.first + action < length plan = omega (arith, c.requires.after, c.loop-action-test.true) in
+    let before = weight_read plan row.before c.index-plan-row.result c.requires.before c.index-plan-row.is in
+    let after = weight_read plan (row.first + action) c.index-plan-first.result here c.index-plan-first.is in
+    (refl, refl, (action, first_share plan row action c.index-plan-row.result c.index-plan-first.result c.loop-action-test.true before after c.in-Err.unfit c.loop-action.invariant.fit c.in-Err.ensures.unfit))
+
+pub loop-action-preserved : goal.loop-action-preserved
+loop-action-preserved c =
+    let plan = c.args.plan.now in
+    let row = c.args.row in
+    let action = c.loop-action.action in
+    let here : row.first + action < length plan = omega (arith, c.requires.after, c.loop-action-test.true) in
+    let before = weight_read plan row.before c.index-plan-row.result c.requires.before c.index-plan-row.is in
+    let after = weight_read plan (row.first + action) c.index-plan-first.result here c.index-plan-first.is in
+    record {
+      shares = next_share plan row action c.index-plan-row.result c.index-plan-first.result c.loop-action-test.true before after c.args.entries.now.items c.loop-action.entries.items c.push.new.self.items c.in-Ok.share c.loop-action.invariant.shares c.in_ok-push-in-Ok.ensures.items c.in-Ok.ensures.value;
+      fit = next_fits plan row action c.index-plan-row.result c.index-plan-first.result c.loop-action-test.true before after c.loop-action.invariant.fit c.in-Ok.ensures.fits;
+    }
+
+pub returns-clause-fits : goal.returns-clause-fits
+returns-clause-fits c = all_shares c.args.plan.now c.args.row c.loop-action.action c.loop-action-test.false c.loop-action.invariant.fit

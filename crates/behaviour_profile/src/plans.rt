@@ -1,0 +1,204 @@
+// The behaviour of two plans.
+ghost use Rattle.std.specs.Prelude.{
+  ◌≡◌,
+  ◌+◌,
+  ◌<◌,
+  ◌≤◌,
+  ◌++◌,
+  ℕ,
+  All,
+  List,
+  length,
+  pos,
+  slice_index,
+  IfOk,
+  IfErr,
+  OnOk,
+};
+ghost use Rattle.answers.specs.Answers.{Gives, IsSingle};
+ghost use Rattle.rational.specs.Rational.{ℚ, frac};
+ghost use Rattle.game_theory.specs.Lines.{listed};
+ghost use Rattle.game_trees.specs.OwnSets.{own_sets};
+ghost use Rattle.sequence_forms.specs.PlanBehaviour.{share};
+ghost use Rattle.game_core.specs.Tree.{GameTree};
+ghost use Rattle.game_core.specs.TreeGame.{game_of_tree};
+ghost use Rattle.pure_payoffs.specs.FirstUnfit.{Fits};
+ghost use Rattle.pure_payoffs.specs.Steps.{StepFits, IsFirstUnfit};
+ghost use Rattle.sequence_data.specs.Weights.{weight};
+ghost use Rattle.sequence_form.specs.Forms.{IsTreeForm};
+ghost use Rattle.sequence_form.specs.Sequences.{tree_side};
+ghost use Rattle.behaviour_profile.specs.declared.plans.BehaviourStop.TheVariants as stops;
+ghost use Rattle.behaviour_profile.specs.Plans.{plan_behaviour};
+ghost use Rattle.behaviour_profile.specs.Shares.{
+  AddsPlan,
+  IsLabelOf,
+  IsPlanStop,
+  IsShareStop,
+  actions_of,
+  share_at,
+  share_steps,
+  steps_at,
+};
+
+use crate::Behaviour;
+use frac128::{Frac, Unfit};
+use game_core::Tree;
+use sequence_data::{SeqForm, SetRow, Side};
+use std::alloc::{AllocFailed, Global};
+use strategy_lists::own_sets_are_those_of_the_tree;
+use tree_parts::stands_for_game_tree;
+
+/// Why there is no behaviour of two plans.
+#[derive(Clone, Copy, Debug, PartialEq, Eq)]
+pub enum BehaviourStop {
+    /// A quotient does not fit: the first.
+    Range {
+        /// The player, from 0.
+        player: u32,
+        /// The number that the file gives the set.
+        set: u64,
+        /// The step.
+        unfit: Unfit,
+    },
+    /// Memory ran out.
+    Memory,
+}
+
+impl<T: Drop> From<AllocFailed<T>> for BehaviourStop {
+    ghost use Rattle.std.specs.Prelude.{◌≡◌};
+    ghost use Rattle.behaviour_profile.specs.declared.plans.BehaviourStop.TheVariants as stops;
+
+    ghost from_gives = { λ _ e. e ≡ stops.Memory };
+
+    fn from(_refused: AllocFailed<T>) -> BehaviourStop {
+        BehaviourStop::Memory
+    }
+}
+
+// 1 divided by a number of actions.
+fn equal_share(count: u32) -> Frac
+    requires { 0 < count }
+    ensures { result ≡ frac (pos 1) count }
+{
+    match Frac::new(1, count as i128) {
+        Some(share) => share,
+        None => Frac::zero(),
+    }
+}
+
+// The weight after an action divided by the weight before its set, and where that is 0, 1 divided by the number of
+// actions.
+fn share(count: u32, before: Frac, after: Frac) -> Result<Frac, Unfit>
+    requires { 0 < count }
+    ensures value { IfOk result (λ v. v ≡ share count before after) }
+    ensures fits { OnOk result (All StepFits (share_steps before after)) }
+    ensures unfit { IfErr result (IsFirstUnfit (share_steps before after)) }
+{
+    if before.is_zero() {
+        Ok(equal_share(count))
+    } else {
+        after.div(before)
+    }
+}
+
+// Adds the shares of the actions of a set, which belongs to a player and has a number in the file.
+fn push_shares(
+    entries: &mut Vec<Frac>,
+    plan: &[Frac],
+    row: SetRow,
+    player: u32,
+    label: u64,
+) -> Result<(), BehaviourStop>
+    requires before { row.before < length plan.now }
+    requires after { row.first + row.count ≤ length plan.now }
+    ensures shares { OnOk result
+        (entries.new.items ≡ entries.old.items ++ listed row.count (share_at plan.now row)) }
+    ensures fits { OnOk result (All (Fits (steps_at plan.now row)) (actions_of row)) }
+    ensures stop { IfErr result (IsShareStop plan.now row player label) }
+{
+    let before = plan[row.before as usize];
+    let first = row.first as usize;
+    for action in 0..row.count as usize {
+        match share(row.count, before, plan[first + action]) {
+            Ok(share) => entries.push(share)?,
+            Err(unfit) => {
+                return Err(BehaviourStop::Range {
+                    player,
+                    set: label,
+                    unfit,
+                });
+            }
+        }
+    }
+    Ok(())
+}
+
+// The number that the file gives the set at a place among a player's own sets.
+fn label(tree: &Tree, player: u32, place: u32) -> u64
+    requires { place < length (own_sets (game_of_tree tree.now) player) }
+    ensures { let sets = own_sets (game_of_tree tree.now) player in
+        IsLabelOf tree.now (slice_index sets place) result }
+{
+    own_sets_are_those_of_the_tree();
+    match tree.own_sets(player, place) {
+        Some(set) => tree.sets()[set as usize].label(),
+        None => 0,
+    }
+}
+
+// Adds the entries of a player's plan.
+fn push_plan(
+    entries: &mut Vec<Frac>,
+    tree: &Tree,
+    player: u32,
+    side: &Side,
+    plan: &[Frac],
+) -> Result<(), BehaviourStop>
+    requires side { side.now ≡ tree_side (game_of_tree tree.now) player }
+    requires plan { length plan.now ≡ side.now.sequences }
+    ensures added { (plans : ℕ → ℕ → ℚ) → plans player ≡ weight plan.now
+        → OnOk result (AddsPlan tree.now player plans entries.old.items entries.new.items) }
+    ensures stop { (plans : ℕ → ℕ → ℚ) → plans player ≡ weight plan.now
+        → IfErr result (IsPlanStop tree.now player plans) }
+{
+    stands_for_game_tree(tree);
+    let sets = side.sets();
+    for place in 0..sets.len() {
+        let label = label(tree, player, place as u32);
+        push_shares(entries, plan, sets[place], player, label)?;
+    }
+    Ok(())
+}
+
+impl Behaviour {
+    /// The behaviour of two plans on a tree: each action's entry is its sequence's weight divided by the weight
+    /// before its set, and where that is 0, 1 divided by the number of actions. `form` is the tree's sequence form;
+    /// `one` and `two` have a weight for each sequence of players one and two. Time in proportion to entries.
+    ///
+    /// # Errors
+    ///
+    /// `Range` exactly at the first quotient that does not fit, in the order of the players, their sets and the
+    /// actions. `Memory` where memory ran out.
+    pub fn from_plans(
+        alloc: Global,
+        tree: &Tree,
+        form: &SeqForm,
+        one: &[Frac],
+        two: &[Frac],
+    ) -> Result<Behaviour, BehaviourStop>
+        requires form { IsTreeForm (game_of_tree tree.now) form.now }
+        requires one { length one.now ≡ form.now.first.sequences }
+        requires two { length two.now ≡ form.now.second.sequences }
+        ensures { Gives stops.Memory (plan_behaviour tree.now one.now two.now) result }
+    {
+        let mut entries = Vec::new(alloc);
+        push_plan(&mut entries, tree, 0, form.first(), one)?;
+        push_plan(&mut entries, tree, 1, form.second(), two)?;
+        Ok(Behaviour { entries })
+    }
+}
+
+/// Two lists of weights have one behaviour, or one first quotient that does not fit.
+pub fn plan_behaviours_are_single()
+    ensures { (t : GameTree) (one two : List ℚ) → IsSingle (plan_behaviour t one two) }
+{}
