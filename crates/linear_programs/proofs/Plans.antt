@@ -7,7 +7,7 @@ use Rattle.rational.specs.Sum.{sum_to}
 use Rattle.rational.proofs.RationalRing.{rational_ring}
 use Rattle.rings.proofs.Ring.{◌times◌is◌, combine, ring, num, ◌:+◌, ◌:-◌, A, B, C, D, E}
 use Rattle.rational.proofs.Linear.{linear, at, lit, ◌⟨+⟩◌, ◌⟨-⟩◌, ◌⟨≤⟩◌, ◌⟨=⟩◌}
-use Rattle.rational.proofs.Field.{le_of_eq, le_trans}
+use Rattle.rational.proofs.Field.{le_antisymm, le_of_eq, le_trans}
 use Rattle.rational.proofs.Sums.{sum_to-first, sum_to-same}
 use Rattle.linear_systems.proofs.LexRow.{below_cases}
 use Rattle.sequence_forms.specs.Sides.{Side, first, sequences, IsOrderedSide, IsRealisationPlan}
@@ -61,6 +61,13 @@ module _ (d : Side) (o : IsOrderedSide d) (x z : ℕ → ℚ) (r : IsRaised d x 
 lesser_le : (a b c : ℚ) → IsLesser a b c → c ≤ℚ a
 lesser_le a b c (inl h) = le_of_eq c a h.0
 lesser_le a b c (inr h) = subst (λ u. u ≤ℚ a) (sym h.0) h.1
+
+-- one number is the less of two
+pub lesser_once : (a b c k : ℚ) → IsLesser a b c → IsLesser a b k → c ≡ k
+lesser_once a b c k (inl h) (inl g) = h.0 ∙ sym g.0
+lesser_once a b c k (inl h) (inr g) = h.0 ∙ le_antisymm a b h.1 g.1 ∙ sym g.0
+lesser_once a b c k (inr h) (inl g) = h.0 ∙ le_antisymm b a h.1 g.1 ∙ sym g.0
+lesser_once a b c k (inr h) (inr g) = h.0 ∙ sym g.0
 
 -- after the first n actions of a set took their weights of w
 record IsShared (w : ℚ) (x z : ℕ → ℚ) (n : ℕ) : Type 0 where

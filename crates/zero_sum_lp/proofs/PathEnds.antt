@@ -4,7 +4,6 @@ use Rattle.std.proofs.lemmas.Bool.{cases_lt}
 use Rattle.rational.specs.Rational.{zero_ℚ}
 use Rattle.rational.proofs.Field.{not_lt_of_le}
 use Rattle.linear_systems.specs.Tableau.{pivot}
-use Rattle.linear_systems.specs.Rows.{IsLexicographicRow}
 use Rattle.linear_systems.proofs.LexRow.{lex_row_once, below_cases}
 use Rattle.linear_programs.specs.Paths.{IsEntering, IsOptimal}
 use Rattle.linear_programs.proofs.Determined.{alike_sym, alike_trans, entering_once}
@@ -18,16 +17,16 @@ use Rattle.lex_tableau.proofs.Tableaux.{determined}
 use Rattle.zero_sum_lp.specs.declared.lp.LpEnd.TheVariants.{Optimal, Range}
 use Rattle.zero_sum_lp.specs.Ends.{EndsAreSingle}
 use Rattle.zero_sum_lp.specs.Parts.{Program}
-use Rattle.zero_sum_lp.specs.Steps.{IsFittingStep, LeadsTo, EndsPath, IsStepNumber, IsUnfitStep}
+use Rattle.zero_sum_lp.specs.Steps.{IsFittingStep, IsLeavingRow, LeadsTo, EndsPath, IsStepNumber, IsUnfitStep}
 
 -- ---- one step
 -- the pivot of a tableau that is determined
-module _ (m : Numbers) (v : IsTableau m) (c d r s : ℕ) (ec : IsEntering m.rated (tableau m) c) (ed : IsEntering m.rated (tableau m) d) (lr : IsLexicographicRow m.rated m.rated (listed m.starts) (tableau m) c r) (ls : IsLexicographicRow m.rated m.rated (listed m.starts) (tableau m) d s) where
+module _ (m : Numbers) (v : IsTableau m) (c d r s : ℕ) (ec : IsEntering m.rated (tableau m) c) (ed : IsEntering m.rated (tableau m) d) (lr : IsLeavingRow m c r) (ls : IsLeavingRow m d s) where
   same_column : c ≡ d
   same_column = entering_once m.rated (tableau m) c d v.reached.reached.proper ec ed
 
   same_row : r ≡ s
-  same_row = lex_row_once m.rated (listed m.starts) (tableau m) d r s (subst (λ x. IsLexicographicRow m.rated m.rated (listed m.starts) (tableau m) x r) same_column lr) ls
+  same_row = lex_row_once m.rated (listed m.starts) (tableau m) d r s (subst (λ x. IsLeavingRow m x r) same_column lr) ls
 
 step_same : (m n o : Numbers) → IsTableau m → IsFittingStep m n → IsFittingStep m o → n ≡ o
 step_same m n o v a b =
@@ -111,7 +110,7 @@ module _ (first : Numbers) (v : IsTableau first) where
           let e : u.before ≡ w.before = path_same first u.before w.before w.count v (subst (λ i. LeadsTo first i u.before) q u.path) w.path in
           let valid = valid_at first w.before w.count v w.path in
           let enters : IsEntering w.before.rated (tableau w.before) u.column = subst (λ m. IsEntering m.rated (tableau m) u.column) e u.enters in
-          let leaves : IsLexicographicRow w.before.rated w.before.rated (listed w.before.starts) (tableau w.before) u.column u.row = subst (λ m. IsLexicographicRow m.rated m.rated (listed m.starts) (tableau m) u.column u.row) e u.leaves in
+          let leaves : IsLeavingRow w.before u.column u.row = subst (λ m. IsLeavingRow m u.column u.row) e u.leaves in
           let c = same_column w.before valid u.column w.column u.row w.row enters w.enters leaves w.leaves in
           let r = same_row w.before valid u.column w.column u.row w.row enters w.enters leaves w.leaves in
           let here : IsFirstUnfit (steps_of_pivot w.before w.row w.column) unfit = subst₂ (λ a b. IsFirstUnfit (steps_of_pivot w.before a b) unfit) r c (subst (λ m. IsFirstUnfit (steps_of_pivot m u.row u.column) unfit) e u.first_unfit) in (

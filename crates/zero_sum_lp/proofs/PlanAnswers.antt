@@ -1,14 +1,14 @@
 -- An optimum has one pair of plans, or one first step that does not fit.
-use Rattle.std.proofs.Common.{ℕ, zero, suc, ◌<◌, ◌≤◌, ◌≡◌, ◌+◌, ◌-◌, inl, inr, All, List, [], Ok, Err, length, sym, ap, ◌∙◌, subst, arith}
+use Rattle.std.proofs.Common.{ℕ, zero, suc, ◌<◌, ◌≤◌, ◌≡◌, ◌+◌, inl, inr, All, List, [], Ok, Err, length, sym, ap, ◌∙◌, subst, arith}
 use Rattle.std.proofs.lemmas.Bool.{cases_eq, cases_lt}
 use Rattle.std.proofs.lemmas.List.{ext_get_or}
 use Rattle.std.proofs.lemmas.List.Elements.{All-nil, All-append}
 use Rattle.rational.specs.Rational.{ℚ, ◌+ℚ◌, ◌-ℚ◌, zero_ℚ, one_ℚ}
 use Rattle.rational.specs.Sum.{sum_to}
-use Rattle.rational.proofs.Field.{le_antisymm}
 use Rattle.rational.proofs.Sums.{sum_to-same}
 use Rattle.linear_systems.proofs.LexRow.{below_cases}
 use Rattle.linear_programs.specs.Plans.{IsLesser}
+use Rattle.linear_programs.proofs.Plans.{each_sequence, lesser_once}
 use Rattle.pure_payoffs.specs.Steps.{Step, StepFits, IsFirstUnfit}
 use Rattle.pure_payoffs.proofs.FirstUnfits.{unfit_begins, unfit_excludes}
 use Rattle.pure_payoffs.proofs.Runs.{first_unfit-more}
@@ -18,7 +18,7 @@ use Rattle.sequence_data.specs.Weights.{weight}
 use Rattle.zero_sum_lp.specs.declared.stop.PlanStop.TheVariants.{Range, Memory}
 use Rattle.zero_sum_lp.specs.Parts.{Program}
 use Rattle.zero_sum_lp.specs.PlanPairs.{PlanPair}
-use Rattle.zero_sum_lp.specs.PlanSteps.{AreWeights, IsRaisedTo, IsUnfitRaise, IsSharedTo, IsUnfitShare, IsCutTo, IsUnfitCut, raise_steps, rest_steps}
+use Rattle.zero_sum_lp.specs.PlanSteps.{AreWeights, IsRaisedTo, IsUnfitRaise, IsSharedAt, IsSharedTo, IsUnfitShare, IsCutTo, IsUnfitCut, raise_steps, rest_steps, set_raise_steps}
 use Rattle.zero_sum_lp.specs.PlanStops.{IsFirstPlan, IsSecondPlan, IsUnfitFirst, IsUnfitSecond, PlansAreSingle}
 use Rattle.zero_sum_lp.proofs.Optima.{sets_are}
 use Rattle.zero_sum_lp.proofs.PlanLists.{rest_same, rest_unfit}
@@ -31,54 +31,48 @@ fits_or_not : (ss : List Step) (e : Step) → All StepFits ss → IsFirstUnfit s
 fits_or_not ss e f h = unfit_excludes ss [] e h (All-append StepFits ss [] f (All-nil StepFits))
 
 -- ---- set by set
--- weights that agree at each set where they agree before it
-agree : (d : Side) (z z' : ℕ → ℚ) (n : ℕ) → z 0 ≡ z' 0 → ((j : ℕ) → j < n → ((q : ℕ) → q < first d j → z q ≡ z' q) → (a : ℕ) → a < d.count j → z (first d j + a) ≡ z' (first d j + a)) → (q : ℕ) → q < first d n → z q ≡ z' q
-agree d z z' zero e f q l = (let at : q ≡ 0 = omega arith in ap z at ∙ e ∙ sym (ap z' at))
-agree d z z' (suc n) e f q l = elim (cases_lt q (first d n)) [
-  | inl h ↦ agree d z z' n e (λ j k. f j (omega (arith, k))) q h
-  | inr h ↦ (let at : q ≡ first d n + (q - first d n) = omega (arith, h) in ap z at ∙ f n (omega arith) (agree d z z' n e (λ j k. f j (omega (arith, k)))) (q - first d n) (omega (arith, h, l)) ∙ sym (ap z' at))
-]
+-- a side with its first n sets
+abbrev front : Side → ℕ → Side
+front d n = record { sets = n; before = d.before; count = d.count }
+
+front_ordered : (d : Side) (n : ℕ) → IsOrderedSide d → n ≤ d.sets → IsOrderedSide (front d n)
+front_ordered d n o h = record { follows = λ j l. o.follows j (omega (arith, h, l)); some_action = λ j l. o.some_action j (omega (arith, h, l)) }
+
+-- weights that agree after each set where they agree before it
+agree : (d : Side) (z z' : ℕ → ℚ) (n : ℕ) → IsOrderedSide d → n ≤ d.sets → z 0 ≡ z' 0 → ((j : ℕ) → j < n → z (d.before j) ≡ z' (d.before j) → (a : ℕ) → a < d.count j → z (first d j + a) ≡ z' (first d j + a)) → (q : ℕ) → q < first d n → z q ≡ z' q
+agree d z z' n o h e f q l = each_sequence (front d n) (λ q. z q ≡ z' q) (front_ordered d n o h) e f n (omega arith) q l
 
 -- ---- raised plans
 module _ (d : Side) (o : IsOrderedSide d) (x : ℕ → ℚ) where
-  raised_action : (n m : ℕ) (z z' : ℕ → ℚ) → IsRaisedTo d n x z → IsRaisedTo d m x z' → (j : ℕ) → j < d.sets → j < n → j < m → ((q : ℕ) → q < first d j → z q ≡ z' q) → (a : ℕ) → a < d.count j → z (first d j + a) ≡ z' (first d j + a)
-  raised_action n m z z' r s j h hn hm before a l = elim (cases_eq a 0) [
-    | inl e ↦ (let at : first d j + a ≡ first d j = omega (arith, e) in ap z at ∙ r.first_action j hn ∙ ap (λ w. x (first d j) +ℚ (w -ℚ sum_to (d.count j) (λ a. x (first d j + a)))) (before (d.before j) (o.follows j h)) ∙ sym (s.first_action j hm) ∙ sym (ap z' at))
+  raised_action : (n m : ℕ) (z z' : ℕ → ℚ) → IsRaisedTo d n x z → IsRaisedTo d m x z' → (j : ℕ) → j < n → j < m → z (d.before j) ≡ z' (d.before j) → (a : ℕ) → a < d.count j → z (first d j + a) ≡ z' (first d j + a)
+  raised_action n m z z' r s j hn hm before a l = elim (cases_eq a 0) [
+    | inl e ↦ (let at : first d j + a ≡ first d j = omega (arith, e) in ap z at ∙ r.first_action j hn ∙ ap (λ w. x (first d j) +ℚ (w -ℚ sum_to (d.count j) (λ a. x (first d j + a)))) before ∙ sym (s.first_action j hm) ∙ sym (ap z' at))
     | inr ne ↦ (let some : 0 < a = omega (arith, ne) in r.others j a hn some l ∙ sym (s.others j a hm some l))
   ]
 
   raised_agree : (n m k : ℕ) (z z' : ℕ → ℚ) → IsRaisedTo d n x z → IsRaisedTo d m x z' → k ≤ d.sets → k ≤ n → k ≤ m → (q : ℕ) → q < first d k → z q ≡ z' q
   raised_agree n m k z z' r s h hn hm =
-      agree d z z' k (r.empty ∙ sym s.empty) (λ j l. raised_action n m z z' r s j (omega (arith, h, l)) (omega (arith, hn, l)) (omega (arith, hm, l)))
+      agree d z z' k o h (r.empty ∙ sym s.empty) (λ j l. raised_action n m z z' r s j (omega (arith, hn, l)) (omega (arith, hm, l)))
 
-  abbrev steps_at : (ℕ → ℚ) → ℕ → List Step
-  steps_at z j = raise_steps (z (d.before j)) (λ a. x (first d j + a)) (d.count j)
-
-  raise_steps_agree : (n m j : ℕ) (z z' : ℕ → ℚ) → IsRaisedTo d n x z → IsRaisedTo d m x z' → j < d.sets → j ≤ n → j ≤ m → steps_at z j ≡ steps_at z' j
+  raise_steps_agree : (n m j : ℕ) (z z' : ℕ → ℚ) → IsRaisedTo d n x z → IsRaisedTo d m x z' → j < d.sets → j ≤ n → j ≤ m → set_raise_steps d x z j ≡ set_raise_steps d x z' j
   raise_steps_agree n m j z z' r s h hn hm =
       ap (λ w. raise_steps w (λ a. x (first d j + a)) (d.count j)) (raised_agree n m j z z' r s (omega (arith, h)) hn hm (d.before j) (o.follows j h))
 
   -- where a plan is raised at a set, the set has no step that does not fit
   raise_goes_on : (n : ℕ) (z : ℕ → ℚ) (e : Step) → IsRaisedTo d n x z → (u : IsUnfitRaise d x e) → u.set < n → ⊥
   raise_goes_on n z e r u l =
-      fits_or_not (steps_at u.plan u.set) e (subst (All StepFits) (raise_steps_agree n u.set u.set z u.plan r u.raised u.within (omega (arith, l)) (omega arith)) (r.fits u.set l)) u.first_unfit
+      fits_or_not (set_raise_steps d x u.plan u.set) e (subst (All StepFits) (raise_steps_agree n u.set u.set z u.plan r u.raised u.within (omega (arith, l)) (omega arith)) (r.fits u.set l)) u.first_unfit
 
   unfit_raise_once : (e f : Step) → IsUnfitRaise d x e → IsUnfitRaise d x f → e ≡ f
   unfit_raise_once e f u w = elim (cases_lt u.set w.set) [
     | inl l ↦ absurd (raise_goes_on w.set w.plan e w.raised u l)
     | inr l ↦ elim (cases_lt w.set u.set) [
       | inl k ↦ absurd (raise_goes_on u.set u.plan f u.raised w k)
-      | inr k ↦ (let same : u.set ≡ w.set = omega (arith, l, k) in unfit_once (steps_at w.plan w.set) e f (subst (λ ss. IsFirstUnfit ss e) (raise_steps_agree u.set w.set u.set u.plan w.plan u.raised w.raised u.within (omega arith) (omega (arith, l, k)) ∙ ap (steps_at w.plan) same) u.first_unfit) w.first_unfit)
+      | inr k ↦ (let same : u.set ≡ w.set = omega (arith, l, k) in unfit_once (set_raise_steps d x w.plan w.set) e f (subst (λ ss. IsFirstUnfit ss e) (raise_steps_agree u.set w.set u.set u.plan w.plan u.raised w.raised u.within (omega arith) (omega (arith, l, k)) ∙ ap (set_raise_steps d x w.plan) same) u.first_unfit) w.first_unfit)
     ]
   ]
 
 -- ---- shares
-lesser_once : (a b c k : ℚ) → IsLesser a b c → IsLesser a b k → c ≡ k
-lesser_once a b c k (inl h) (inl g) = h.0 ∙ sym g.0
-lesser_once a b c k (inl h) (inr g) = h.0 ∙ le_antisymm a b h.1 g.1 ∙ sym g.0
-lesser_once a b c k (inr h) (inl g) = h.0 ∙ le_antisymm b a h.1 g.1 ∙ sym g.0
-lesser_once a b c k (inr h) (inr g) = h.0 ∙ sym g.0
-
 -- the first n actions took their shares
 abbrev AreShares : ℚ → (ℕ → ℚ) → (ℕ → ℚ) → ℕ → Type 0
 AreShares w x z n = (a : ℕ) → a < n → IsLesser (x a) (w -ℚ sum_to a z) (z a)
@@ -113,20 +107,20 @@ unfit_share_once w x z z' n e f u v = elim (cases_lt u.actions v.actions) [
 
 -- ---- cut plans
 module _ (d : Side) (o : IsOrderedSide d) (x : ℕ → ℚ) where
-  -- what set j takes of the weight w
-  abbrev IsSharedAt : ℚ → (ℕ → ℚ) → ℕ → Type 0
-  IsSharedAt w z j = IsSharedTo w (λ a. x (first d j + a)) (λ a. z (first d j + a)) (d.count j)
+  -- set j shares out the weight w
+  abbrev SharesOf : ℚ → (ℕ → ℚ) → ℕ → Type 0
+  SharesOf w z j = IsSharedTo w (λ a. x (first d j + a)) (λ a. z (first d j + a)) (d.count j)
 
   -- the first n sets are cut
   record AreCut (n : ℕ) (z : ℕ → ℚ) : Type 0 where
     empty : z 0 ≡ one_ℚ
-    sets : (j : ℕ) → j < n → IsSharedAt (z (d.before j)) z j
+    sets : (j : ℕ) → j < n → IsSharedAt d x z j
 
   cut_agree : (n m k : ℕ) (z z' : ℕ → ℚ) → AreCut n z → AreCut m z' → k ≤ d.sets → k ≤ n → k ≤ m → (q : ℕ) → q < first d k → z q ≡ z' q
   cut_agree n m k z z' r s h hn hm =
-      agree d z z' k (r.empty ∙ sym s.empty) (λ j l before.
+      agree d z z' k o h (r.empty ∙ sym s.empty) (λ j l before.
       shares_once (z (d.before j)) (λ a. x (first d j + a)) (λ a. z (first d j + a)) (λ a. z' (first d j + a)) (d.count j) (r.sets j (omega (arith, hn, l))).shares
-      (subst (λ w. IsSharedAt w z' j) (sym (before (d.before j) (o.follows j (omega (arith, h, l))))) (s.sets j (omega (arith, hm, l)))).shares)
+      (subst (λ w. SharesOf w z' j) (sym before) (s.sets j (omega (arith, hm, l)))).shares)
 
   -- the weight before a set
   before_agree : (n m j : ℕ) (z z' : ℕ → ℚ) → AreCut n z → AreCut m z' → j < d.sets → j ≤ n → j ≤ m → z (d.before j) ≡ z' (d.before j)
@@ -142,10 +136,11 @@ module _ (d : Side) (o : IsOrderedSide d) (x : ℕ → ℚ) where
   cut_goes_on : (n : ℕ) (z : ℕ → ℚ) (e : Step) → AreCut n z → (u : IsUnfitCut d x e) → u.set < n → ⊥
   cut_goes_on n z e r u l =
       share_goes_on (u.plan (d.before u.set)) (λ a. x (first d u.set + a)) (λ a. z (first d u.set + a)) (λ a. u.plan (first d u.set + a)) (d.count u.set) e
-      (subst (λ w. IsSharedAt w z u.set) (before_agree n u.set u.set z u.plan r (cut_before e u) u.within (omega (arith, l)) (omega arith)) (r.sets u.set l)) u.unfit_share
+      (subst (λ w. SharesOf w z u.set) (before_agree n u.set u.set z u.plan r (cut_before e u) u.within (omega (arith, l)) (omega arith)) (r.sets u.set l)) u.unfit_share
 
-  abbrev IsUnfitAt : ℚ → (ℕ → ℚ) → Step → ℕ → Type 0
-  IsUnfitAt w z e j = IsUnfitShare w (λ a. x (first d j + a)) (λ a. z (first d j + a)) (d.count j) e
+  -- and a step of it is the first that does not fit
+  abbrev FailsOf : ℚ → (ℕ → ℚ) → Step → ℕ → Type 0
+  FailsOf w z e j = IsUnfitShare w (λ a. x (first d j + a)) (λ a. z (first d j + a)) (d.count j) e
 
   unfit_cut_once : (e f : Step) → IsUnfitCut d x e → IsUnfitCut d x f → e ≡ f
   unfit_cut_once e f u v = elim (cases_lt u.set v.set) [
@@ -159,7 +154,7 @@ module _ (d : Side) (o : IsOrderedSide d) (x : ℕ → ℚ) where
       same_here : u.set ≡ v.set → e ≡ f
       same_here same =
           let before = before_agree u.set v.set u.set u.plan v.plan (cut_before e u) (cut_before f v) u.within (omega arith) (omega (arith, same)) in
-          let moved : IsUnfitAt (v.plan (d.before v.set)) u.plan e v.set = subst (λ j. IsUnfitAt (v.plan (d.before j)) u.plan e j) same (subst (λ w. IsUnfitAt w u.plan e u.set) before u.unfit_share) in
+          let moved : FailsOf (v.plan (d.before v.set)) u.plan e v.set = subst (λ j. FailsOf (v.plan (d.before j)) u.plan e j) same (subst (λ w. FailsOf w u.plan e u.set) before u.unfit_share) in
           unfit_share_once (v.plan (d.before v.set)) (λ a. x (first d v.set + a)) (λ a. u.plan (first d v.set + a)) (λ a. v.plan (first d v.set + a)) (d.count v.set) e f moved v.unfit_share
 
 -- ---- lists of weights

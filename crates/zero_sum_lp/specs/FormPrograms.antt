@@ -41,6 +41,15 @@ sum_steps l = unfit Add l.one l.two ∷ []
 abbrev pub sums_in : List Leaf → Answer LpStop (Unit {0})
 sums_in leaves = refused_by (λ stop. stops.SumRange stop.0.place stop.1) (all_fit sum_steps leaves)
 
+-- two leaves whose sums differ
+abbrev pub apart_at : Leaf → Leaf → NotConstant
+apart_at leaf other = record {
+  first = leaf.place;
+  second = other.place;
+  first_sum = sum_at leaf;
+  second_sum = sum_at other;
+}
+
 -- the first leaf, and the first of the others whose payoffs sum to another number
 pub record AreFirstApart (leaves : List Leaf) (stop : NotConstant) : Type 0 where
   pub leaf : Leaf
@@ -50,7 +59,7 @@ pub record AreFirstApart (leaves : List Leaf) (stop : NotConstant) : Type 0 wher
   pub are_there : leaves ≡ leaf ∷ same ++ other ∷ rest
   pub are_same : All (λ l. sum_at l ≡ sum_at leaf) same
   pub differs : sum_at other ≢ sum_at leaf
-  pub stop_is : stop ≡ record { first = leaf.place; second = other.place; first_sum = sum_at leaf; second_sum = sum_at other }
+  pub stop_is : stop ≡ apart_at leaf other
 
 -- all leaves' payoffs sum to the same number; or the first two that do not
 abbrev pub is_constant : List Leaf → Answer NotConstant (Unit {0})
@@ -68,7 +77,8 @@ gain_steps least c = unfit Mul least c.weight ∷ unfit Sub c.one (least *ℚ c.
 -- the gains of all cells fit; or the first step that does not, with its row and column
 abbrev pub gains_in : ℚ → List Cell → Answer LpStop (Unit {0})
 gains_in least cells =
-    refused_by (λ stop. stops.GainRange stop.0.row stop.0.column stop.1) (all_fit (gain_steps least) cells)
+    refused_by (λ stop. stops.GainRange stop.0.row stop.0.column stop.1)
+    (all_fit (gain_steps least) cells)
 
 -- ---- the start
 -- the system of the program of a form
@@ -101,8 +111,8 @@ abbrev pub start_in : FormData → Answer LpStop Program
 start_in f = refused_by told_start (start_of f)
 
 -- ---- all
--- The program of a sequence form within the limit, whose payoffs sum to the same number at each leaf
--- and whose steps all fit; or why there is none.
+-- The program of a sequence form within the limit, whose payoffs sum to the same number at each
+-- leaf and whose steps all fit; or why there is none.
 abbrev pub program_in : FormData → Answer LpStop Program
 program_in f =
     refuse_where (512 < size_of f) (stops.TooLarge (too_many_rows f))

@@ -4,8 +4,8 @@ use Rattle.rational.specs.Rational.{ℚ}
 use Rattle.linear_systems.specs.Rows.{Alike}
 use Rattle.sequence_forms.specs.Sides.{Side}
 use Rattle.sequence_data.specs.Data.{SideData, side_of, IsSideData}
-use Rattle.linear_programs.specs.Programs.{constraints, columns_of, program_of, IsProgramOf}
-use Rattle.lex_tableau.specs.Rows.{Numbers, IsTableau}
+use Rattle.linear_programs.specs.Programs.{constraints, columns_of, program_of, IsProgramOf, price_one, price_two, raw_one, raw_two}
+use Rattle.lex_tableau.specs.Rows.{Numbers, IsTableau, tableau}
 use Rattle.lex_tableau.specs.Starts.{Parts, system_of}
 use Rattle.zero_sum_lp.specs.Steps.{linear_program, EndsPath}
 
@@ -15,6 +15,22 @@ pub record Program : Type 0 where
   pub second : SideData
   pub tableau : Numbers
 
+-- ---- what stands in the tableau
+-- the prices of both players
+abbrev pub first_prices : Program → ℕ → ℚ
+first_prices o = price_one (side_of o.first) (side_of o.second) (tableau o.tableau)
+
+abbrev pub second_prices : Program → ℕ → ℚ
+second_prices o = price_two (side_of o.first) (side_of o.second) (tableau o.tableau)
+
+-- their raw weights
+abbrev pub first_raw : Program → ℕ → ℚ
+first_raw o = raw_one (side_of o.first) (side_of o.second) (tableau o.tableau)
+
+abbrev pub second_raw : Program → ℕ → ℚ
+second_raw o = raw_two (side_of o.first) (side_of o.second) (tableau o.tableau)
+
+-- ---- programs and optima
 -- constraints and columns together
 abbrev pub program_size : Side → Side → ℕ
 program_size rows columns = constraints rows columns + columns_of rows columns

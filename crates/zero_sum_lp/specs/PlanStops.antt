@@ -6,34 +6,32 @@ use Rattle.zero_sum_lp.specs.PlanPairs.{PlanPair}
 use Rattle.rational.specs.Rational.{ℚ}
 use Rattle.pure_payoffs.specs.Steps.{Step}
 use Rattle.sequence_forms.specs.Sides.{sequences}
-use Rattle.linear_programs.specs.Programs.{raw_one, raw_two}
-use Rattle.lex_tableau.specs.Rows.{tableau}
 use Rattle.zero_sum_lp.specs.declared.stop.PlanStop.{PlanStop}
 use Rattle.zero_sum_lp.specs.declared.stop.PlanStop.TheVariants.{Range, Memory}
-use Rattle.zero_sum_lp.specs.Parts.{Program}
+use Rattle.zero_sum_lp.specs.Parts.{Program, first_raw, second_raw}
 use Rattle.sequence_data.specs.Weights.{weight}
-use Rattle.zero_sum_lp.specs.PlanSteps.{AreWeights, IsRaisedTo, IsUnfitRaise, IsCutTo, IsUnfitCut}
+use Rattle.zero_sum_lp.specs.PlanSteps.{AreWeights, IsRaisedPlan, IsUnfitRaise, IsCutPlan, IsUnfitCut}
 
 -- the raw weights of the two players
 abbrev pub AreRawOne : Program → List ℚ → Type 0
-AreRawOne o weights = AreWeights (sequences (side_of o.first)) (raw_one (side_of o.first) (side_of o.second) (tableau o.tableau)) weights
+AreRawOne o weights = AreWeights (sequences (side_of o.first)) (first_raw o) weights
 
 abbrev pub AreRawTwo : Program → List ℚ → Type 0
-AreRawTwo o weights = AreWeights (sequences (side_of o.second)) (raw_two (side_of o.first) (side_of o.second) (tableau o.tableau)) weights
+AreRawTwo o weights = AreWeights (sequences (side_of o.second)) (second_raw o) weights
 
 -- the first player's plan: the raw weights, raised, each step of which fits
 pub record IsFirstPlan (o : Program) (plan : List ℚ) : Type 0 where
   pub raw : List ℚ
   pub raw_is : AreRawOne o raw
   pub count : length plan ≡ length raw
-  pub raised : IsRaisedTo (side_of o.first) (length o.first.sets) (weight raw) (weight plan)
+  pub raised : IsRaisedPlan o.first raw plan
 
 -- the second player's plan: the raw weights, cut, each step of which fits
 pub record IsSecondPlan (o : Program) (plan : List ℚ) : Type 0 where
   pub raw : List ℚ
   pub raw_is : AreRawTwo o raw
   pub count : length plan ≡ length raw
-  pub cut : IsCutTo (side_of o.second) (length o.second.sets) (weight raw) (weight plan)
+  pub cut : IsCutPlan o.second raw plan
 
 -- the first step that does not fit, of the first player's plan
 pub record IsUnfitFirst (o : Program) (e : Step) : Type 0 where

@@ -12,19 +12,30 @@ use Rattle.lex_tableau.specs.Pivots.{steps_of_pivot}
 
 -- the linear program that a tableau is the start of
 abbrev pub linear_program : Numbers → LinearProgram
-linear_program n = record { bound = suc (length n.basics + length n.nonbasics); rated = n.rated; start = tableau n }
+linear_program n = record {
+  bound = suc (length n.basics + length n.nonbasics);
+  rated = n.rated;
+  start = tableau n;
+}
 
--- a tableau that is a start: its rated basic variables are those of the start, and it is a linear program
+-- a tableau that is a start: its rated basic variables are those of the start, and it is a linear
+-- program
 pub record IsProgramStart (n : Numbers) : Type 0 where
   pub basics : (i : ℕ) → i < n.rated → get_or n.starts i 0 ≡ get_or n.basics i 0
   pub program : IsLinearProgram (linear_program n)
 
--- one step of the path: the entering column, its lexicographic row, and the pivot, all of whose steps of arithmetic fit
+-- the row that leaves where a column enters: the lexicographic one
+abbrev pub IsLeavingRow : Numbers → ℕ → ℕ → Type 0
+IsLeavingRow m column row =
+    IsLexicographicRow m.rated m.rated (listed m.starts) (tableau m) column row
+
+-- one step of the path: the entering column, its lexicographic row, and the pivot, all of whose
+-- steps of arithmetic fit
 pub record IsFittingStep (m n : Numbers) : Type 0 where
   pub column : ℕ
   pub row : ℕ
   pub entering : IsEntering m.rated (tableau m) column
-  pub leaving : IsLexicographicRow m.rated m.rated (listed m.starts) (tableau m) column row
+  pub leaving : IsLeavingRow m column row
   pub fits : AllFit (steps_of_pivot m row column)
   pub pivot : IsPivotOf m row column n
   pub valid : IsTableau n
@@ -45,7 +56,8 @@ pub record IsStepNumber (k number : ℕ) : Type 0 where
   pub exact : k < 2 ^ 64 → number ≡ k
   pub later : 2 ^ 64 ≤ k → number ≡ 2 ^ 64 - 1
 
--- the first step of the path that does not fit: its number, the entering variable, and the first step of its arithmetic that does not fit
+-- the first step of the path that does not fit: its number, the entering variable, and the first
+-- step of its arithmetic that does not fit
 pub record IsUnfitStep (first : Numbers) (number entering : ℕ) (unfit : Unfit) : Type 0 where
   pub count : ℕ
   pub before : Numbers
@@ -53,7 +65,7 @@ pub record IsUnfitStep (first : Numbers) (number entering : ℕ) (unfit : Unfit)
   pub column : ℕ
   pub row : ℕ
   pub enters : IsEntering before.rated (tableau before) column
-  pub leaves : IsLexicographicRow before.rated before.rated (listed before.starts) (tableau before) column row
+  pub leaves : IsLeavingRow before column row
   pub variable : entering ≡ (tableau before).nonbasic column
   pub is_number : IsStepNumber (suc count) number
   pub first_unfit : IsFirstUnfit (steps_of_pivot before row column) unfit
@@ -65,7 +77,8 @@ pub record IsUnderWay (first now : Numbers) (begun steps number : ℕ) : Type 0 
   pub counted : steps ≡ count + begun
   pub is_number : IsStepNumber (suc count) number
 
--- the least-numbered nonbasic variable with a negative entry in row m among the first n columns, or none
+-- the least-numbered nonbasic variable with a negative entry in row m among the first n columns, or
+-- none
 pub record IsEnteringOf (m n : ℕ) (t : Tableau) (c : ℕ) : Type 0 where
   pub column : c < n
   pub negative : t.cell m c <ℚ zero_ℚ

@@ -3,13 +3,30 @@ use Rattle.std.specs.Prelude.{ℕ, ◌≡◌, ◌+◌, ◌*◌, ◌/◌, ◌%◌
 use Rattle.rational.specs.Rational.{ℚ, zero_ℚ}
 use Rattle.linear_systems.specs.Rows.{Alike}
 use Rattle.linear_systems.specs.Tableau.{Tableau}
-use Rattle.linear_programs.specs.Programs.{constraints, program_of}
+use Rattle.linear_programs.specs.Programs.{constraints, program_of, reply_cell}
 use Rattle.lex_tableau.specs.Starts.{Parts, system_of, IsSystem}
 use Rattle.sequence_data.specs.Data.{SideData, side_of}
+use Rattle.sequence_forms.specs.Sides.{sequences}
 
 -- the gain at row r and column q, where each row has so many gains
 abbrev pub gain_of : List ℚ → ℕ → ℕ → ℕ → ℚ
 gain_of gains count r q = get_or gains (r * count + q) zero_ℚ
+
+-- the gains of two sides: how many there are, and each by its row and column
+abbrev pub gain_count : SideData → SideData → ℕ
+gain_count first second = sequences (side_of first) * sequences (side_of second)
+
+abbrev pub listed_gain : SideData → List ℚ → ℕ → ℕ → ℚ
+listed_gain second gains = gain_of gains (sequences (side_of second))
+
+-- their program, and its rows of the second player's sequences
+abbrev pub listed_program : SideData → SideData → List ℚ → Tableau
+listed_program first second gains =
+    program_of (side_of first) (side_of second) (gain_of gains (sequences (side_of second)))
+
+abbrev pub listed_reply : SideData → SideData → List ℚ → ℕ → ℕ → ℚ
+listed_reply first second gains =
+    reply_cell (side_of first) (side_of second) (gain_of gains (sequences (side_of second)))
 
 -- the entry of row i at place j: its cells, and then its right side
 abbrev pub entry_of : Tableau → ℕ → ℕ → ℚ

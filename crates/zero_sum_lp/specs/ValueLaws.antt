@@ -10,9 +10,8 @@ use Rattle.sequence_forms.specs.PriceLaws.{ProvesValueOfTree}
 use Rattle.sequence_forms.specs.Prices.{gains, HasConstantSum, IsValueProof}
 use Rattle.sequence_forms.specs.Sides.{sequences}
 use Rattle.sequence_forms.specs.TableLaws.{ProvesValueOfTable}
-use Rattle.linear_programs.specs.Programs.{IsProgramOf, price_one, price_two}
-use Rattle.lex_tableau.specs.Rows.{tableau}
-use Rattle.zero_sum_lp.specs.Parts.{Program, IsProgram, IsOptimumOf}
+use Rattle.linear_programs.specs.Programs.{IsProgramOf}
+use Rattle.zero_sum_lp.specs.Parts.{Program, IsProgram, IsOptimumOf, first_prices, second_prices}
 use Rattle.sequence_data.specs.Weights.{weight}
 use Rattle.zero_sum_lp.specs.FormPrograms.{program_in}
 use Rattle.zero_sum_lp.specs.PlanStops.{plans_of}
@@ -24,29 +23,36 @@ pub record IsProgramOfForm (f : SequenceForm) (least : ℚ) (p : Program) : Type
   pub rows : f.rows ≡ side_of p.first
   pub columns : f.columns ≡ side_of p.second
   pub program : IsProgramOf f.rows f.columns (gains f least) (linear_program p.tableau)
-  pub gains_not_negative : (r q : ℕ) → r < sequences f.rows → q < sequences f.columns → zero_ℚ ≤ℚ gains f least r q
+  pub gains_not_negative :
+      (r q : ℕ) → r < sequences f.rows → q < sequences f.columns → zero_ℚ ≤ℚ gains f least r q
 
--- the plans and prices at the optimum of a form's program prove the value: the second player's first price and the least payoff
+-- the plans and prices at the optimum of a form's program prove the value: the second player's
+-- first price and the least payoff
 abbrev pub OptimalPlansProveTheValue : Type 0
 OptimalPlansProveTheValue =
-    (f : SequenceForm) (least : ℚ) (p o : Program) (plans : PlanPair) → IsProgram p → IsProgramOfForm f least p → IsOptimumOf p o
-    → plans_of o (Ok plans)
-    → IsValueProof f least (weight plans.one) (weight plans.two) (price_one (side_of o.first) (side_of o.second) (tableau o.tableau)) (price_two (side_of o.first) (side_of o.second) (tableau o.tableau)) (price_two (side_of o.first) (side_of o.second) (tableau o.tableau) 0 +ℚ least)
+    (f : SequenceForm) (least : ℚ) (p o : Program) (plans : PlanPair) → IsProgram p
+    → IsProgramOfForm f least p → IsOptimumOf p o → plans_of o (Ok plans)
+    → IsValueProof f least (weight plans.one) (weight plans.two) (first_prices o) (second_prices o)
+    (second_prices o 0 +ℚ least)
 
--- of a tree whose leaves' payoffs sum to the same number: behaviour in equilibrium, its value, and both guarantees
+-- of a tree whose leaves' payoffs sum to the same number: behaviour in equilibrium, its value, and
+-- both guarantees
 abbrev pub OptimalPlansSolveTrees : Type 0
 OptimalPlansSolveTrees =
-    (t : Tree) (f : SequenceForm) (least sum : ℚ) (p o : Program) (plans : PlanPair) → HasTwoWhoRecall t → FormsAlike f (form_of t)
-    → LeavesSumTo t sum → IsProgram p → IsProgramOfForm f least p → IsOptimumOf p o → plans_of o (Ok plans)
-    → ProvesValueOfTree t (weight plans.one) (weight plans.two) (price_two (side_of o.first) (side_of o.second) (tableau o.tableau) 0 +ℚ least)
+    (t : Tree) (f : SequenceForm) (least sum : ℚ) (p o : Program) (plans : PlanPair)
+    → HasTwoWhoRecall t → FormsAlike f (form_of t) → LeavesSumTo t sum → IsProgram p
+    → IsProgramOfForm f least p → IsOptimumOf p o → plans_of o (Ok plans)
+    → ProvesValueOfTree t (weight plans.one) (weight plans.two) (second_prices o 0 +ℚ least)
 
--- of a table whose payoffs sum to the same number: strategies in equilibrium, their value, and both guarantees
+-- of a table whose payoffs sum to the same number: strategies in equilibrium, their value, and both
+-- guarantees
 abbrev pub OptimalPlansSolveTables : Type 0
 OptimalPlansSolveTables =
-    (g : Game) (m n : ℕ) (f : SequenceForm) (least sum : ℚ) (p o : Program) (plans : PlanPair) → g.strategies ≡ m ∷ n ∷ []
-    → FormsAlike f (form_of_table g m n) → HasConstantSum (form_of_table g m n) sum → IsProgram p → IsProgramOfForm f least p
-    → IsOptimumOf p o → plans_of o (Ok plans)
-    → ProvesValueOfTable g (weight plans.one) (weight plans.two) (price_two (side_of o.first) (side_of o.second) (tableau o.tableau) 0 +ℚ least)
+    (g : Game) (m n : ℕ) (f : SequenceForm) (least sum : ℚ) (p o : Program) (plans : PlanPair)
+    → g.strategies ≡ m ∷ n ∷ [] → FormsAlike f (form_of_table g m n)
+    → HasConstantSum (form_of_table g m n) sum → IsProgram p
+    → IsProgramOfForm f least p → IsOptimumOf p o → plans_of o (Ok plans)
+    → ProvesValueOfTable g (weight plans.one) (weight plans.two) (second_prices o 0 +ℚ least)
 
 -- The program that a form has is a program, and that of the form, where no gain is negative.
 abbrev pub ProgramsAreOfForms : Type 0

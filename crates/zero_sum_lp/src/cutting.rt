@@ -1,10 +1,10 @@
 // The second player's plan out of raw weights.
-ghost use Rattle.sequence_data.specs.Data.{SideData, side_of, IsSideData};
+ghost use Rattle.sequence_data.specs.Data.{IsSideData, side_of};
 ghost use Rattle.std.specs.Prelude.{◌≡◌, ◌+◌, ◌<◌, ◌≤◌, ℕ, length, IfErr, OnOk};
 ghost use Rattle.linear_programs.specs.Plans.{IsLesser};
 ghost use Rattle.sequence_forms.specs.Sides.{sequences};
 ghost use Rattle.sequence_data.specs.Weights.{weight};
-ghost use Rattle.zero_sum_lp.specs.PlanSteps.{IsSharedTo, IsUnfitShare, IsCutTo, IsUnfitCut};
+ghost use Rattle.zero_sum_lp.specs.PlanSteps.{FailsToShare, IsCutPlan, IsUnfitCut, SharesOut};
 
 use crate::weights::{set_weight, weight_at};
 use form_matrices::set_at;
@@ -28,9 +28,10 @@ fn cut_set(weights: &mut [Frac], before: usize, first: usize, count: usize) -> R
     requires actions_in { first + count ≤ length weights.old }
     ensures length { length weights.new ≡ length weights.old }
     ensures low { (q : ℕ) → q < first → weight weights.new q ≡ weight weights.old q }
-    ensures high { OnOk result ((q : ℕ) → first + count ≤ q → weight weights.new q ≡ weight weights.old q) }
-    ensures shared { OnOk result (IsSharedTo (weight weights.old before) (λ a. weight weights.old (first + a)) (λ a. weight weights.new (first + a)) count) }
-    ensures unfit { IfErr result (IsUnfitShare (weight weights.old before) (λ a. weight weights.old (first + a)) (λ a. weight weights.new (first + a)) count) }
+    ensures high { OnOk result ((q : ℕ) → first + count ≤ q
+        → weight weights.new q ≡ weight weights.old q) }
+    ensures shared { OnOk result (SharesOut weights.old weights.new before first count) }
+    ensures unfit { IfErr result (FailsToShare weights.old weights.new before first count) }
 {
     let mut left = weight_at(weights, before);
     for action in 0..count {
@@ -53,7 +54,7 @@ pub fn cut(weights: &mut [Frac], side: &Side) -> Result<(), Unfit>
     requires side { IsSideData side.now }
     requires shape { length weights.old ≡ sequences (side_of side.now) }
     ensures length { length weights.new ≡ length weights.old }
-    ensures cut { OnOk result (IsCutTo (side_of side.now) (length side.now.sets) (weight weights.old) (weight weights.new)) }
+    ensures cut { OnOk result (IsCutPlan side.now weights.old weights.new) }
     ensures unfit { IfErr result (IsUnfitCut (side_of side.now) (weight weights.old)) }
 {
     set_weight(weights, 0, Frac::one());

@@ -71,9 +71,10 @@ fn started(alloc: Global, form: &SeqForm, system: &System) -> Result<Lp, LpStop>
 /// # Errors
 ///
 /// The first of these that applies: `TooLarge` exactly above 512 rows and columns together;
-/// `SumRange` exactly at the first leaf whose payoffs' sum does not fit; `NotConstant` exactly where
-/// not all sums are the same; `GainRange` exactly at the first step of the gains that does not fit;
-/// `Start` exactly at the first step of the start that does not fit. `Memory` where memory ran out.
+/// `SumRange` exactly at the first leaf whose payoffs' sum does not fit; `NotConstant` exactly
+/// where not all sums are the same; `GainRange` exactly at the first step of the gains that does
+/// not fit; `Start` exactly at the first step of the start that does not fit. `Memory` where memory
+/// ran out.
 pub fn program(alloc: Global, form: &SeqForm) -> Result<Lp, LpStop>
     ensures { Gives lp_stops.Memory (program_in form.now) result }
 {

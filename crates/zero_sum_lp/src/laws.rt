@@ -1,4 +1,5 @@
-// What the answers prove. The functions do nothing: the contract of each is a law, so that a check proves it.
+// What the answers prove. The functions do nothing: the contract of each is a law, so that a check
+// proves it.
 ghost use Rattle.zero_sum_lp.specs.Ends.{EndsAreSingle};
 ghost use Rattle.zero_sum_lp.specs.FormPrograms.{ProgramsAreSingle};
 ghost use Rattle.zero_sum_lp.specs.PlanStops.{PlansAreSingle};

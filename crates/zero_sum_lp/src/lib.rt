@@ -1,8 +1,9 @@
 //! The equilibrium of a constant-sum game by one linear program.
 //!
-//! [`Lp`] is the program of two players' realisation plans (Koller, Megiddo and von Stengel 1996). `Lp::solve` follows the
-//! path of the simplex method to its end, an [`Optimum`], or to the first step that does not fit. The optimum has prices,
-//! and makes plans of its raw weights; `laws` says that these prove the value of the game.
+//! [`Lp`] is the program of two players' realisation plans (Koller, Megiddo and von Stengel 1996).
+//! `Lp::solve` follows the path of the simplex method to its end, an [`Optimum`], or to the first
+//! step that does not fit. The optimum has prices, and makes plans of its raw weights; `laws` says
+//! that these prove the value of the game.
 #![tactic(auto)]
 
 mod cutting;

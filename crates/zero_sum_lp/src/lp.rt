@@ -1,6 +1,6 @@
 // The program and its path.
-ghost use Rattle.sequence_data.specs.Data.{SideData, side_of, IsSideData};
-ghost use Rattle.std.specs.Prelude.{◌≡◌, ◌+◌, ◌≤◌, ◌^◌, ℕ, suc, IfOk, IfErr, OnOk};
+ghost use Rattle.sequence_data.specs.Data.{IsSideData, side_of};
+ghost use Rattle.std.specs.Prelude.{◌≡◌, ◌+◌, ◌≤◌, ◌^◌, IfOk, IfErr, OnOk};
 ghost use Rattle.lex_tableau.specs.Rows.{IsTableau};
 ghost use Rattle.lex_tableau.specs.Starts.{IsStartOf, StartFits};
 ghost use Rattle.lex_tableau.specs.StartStops.{IsStartStop};
@@ -17,7 +17,8 @@ use std::alloc::Global;
 use std::marker::Model;
 use std::sync::ledger::Ledger;
 
-/// The linear program of two players' plans: their sets, and the start of the path with the room of its pivots.
+/// The linear program of two players' plans: their sets, and the start of the path with the room of
+/// its pivots.
 #[derive(Debug, Drop)]
 pub struct Lp {
     first: Side,
@@ -34,11 +35,13 @@ impl Model for Lp {
 
     ghost view = { λ l. record { first = l.first; second = l.second; tableau = l.work } };
 
-    ghost invariant = { λ l. IsProgram (record { first = l.first; second = l.second; tableau = l.work }) × HasShape l.first l.second l.objective l.width };
+    ghost invariant = { λ l.
+        IsProgram (record { first = l.first; second = l.second; tableau = l.work })
+        × HasShape l.first l.second l.objective l.width };
 }
 
-/// The end of the path: the optimum, or the first step that does not fit, with its number, counted from 1, and the
-/// entering variable. The number 2^64 - 1 also stands for every later step.
+/// The end of the path: the optimum, or the first step that does not fit, with its number, counted
+/// from 1, and the entering variable. The number 2^64 - 1 also stands for every later step.
 #[derive(Debug, Drop)]
 pub enum LpEnd {
     Optimal(Optimum),

@@ -1,16 +1,15 @@
 // The optimum of a program.
-ghost use Rattle.sequence_data.specs.Data.{SideData, side_of, IsSideData};
-ghost use Rattle.std.specs.Prelude.{◌≡◌, ◌≢◌, ◌≤◌, ◌<◌, ◌+◌, suc, ℕ, length, IfOk, IfErr};
+ghost use Rattle.sequence_data.specs.Data.{IsSideData, side_of};
+ghost use Rattle.std.specs.Prelude.{◌≡◌, ◌≢◌, ◌≤◌, ◌<◌, ◌+◌, length, IfOk, IfErr};
 ghost use Rattle.sequence_forms.specs.Sides.{sequences};
 ghost use Rattle.answers.specs.Answers.{Gives};
 ghost use Rattle.zero_sum_lp.specs.declared.stop.PlanStop.TheVariants as plan_stops;
 ghost use Rattle.sequence_data.specs.Weights.{weight};
-ghost use Rattle.zero_sum_lp.specs.PlanSteps.{IsRaisedTo, IsUnfitRaise, IsCutTo, IsUnfitCut};
+ghost use Rattle.zero_sum_lp.specs.PlanSteps.{IsCutPlan, IsRaisedPlan, IsUnfitCut, IsUnfitRaise};
 ghost use Rattle.zero_sum_lp.specs.PlanStops.{AreRawOne, AreRawTwo, plans_of};
 ghost use Rattle.linear_systems.specs.Rows.{coefficient, HasDistinctVariables};
-ghost use Rattle.linear_programs.specs.Programs.{price_one as first_price, price_two as second_price};
 ghost use Rattle.lex_tableau.specs.Rows.{tableau};
-ghost use Rattle.zero_sum_lp.specs.Parts.{IsOptimum, HasShape};
+ghost use Rattle.zero_sum_lp.specs.Parts.{HasShape, IsOptimum, first_prices, second_prices};
 
 use crate::cutting::cut;
 use crate::raising::raise;
@@ -21,7 +20,8 @@ use sequence_data::Side;
 use std::alloc::Global;
 use std::marker::Model;
 
-/// The optimum of a program: both players' sets, the prices and the raw weights, which stand in the last tableau.
+/// The optimum of a program: both players' sets, the prices and the raw weights, which stand in the
+/// last tableau.
 #[derive(Debug, Drop)]
 pub struct Optimum {
     first: Side,
@@ -38,7 +38,9 @@ impl Model for Optimum {
 
     ghost view = { λ o. record { first = o.first; second = o.second; tableau = o.work } };
 
-    ghost invariant = { λ o. IsOptimum (record { first = o.first; second = o.second; tableau = o.work }) × HasShape o.first o.second o.objective o.width };
+    ghost invariant = { λ o.
+        IsOptimum (record { first = o.first; second = o.second; tableau = o.work })
+        × HasShape o.first o.second o.objective o.width };
 }
 
 /// Both players' plans: a weight for each sequence.
@@ -79,7 +81,7 @@ fn raised(weights: Vec<Frac>, side: &Side) -> Result<Vec<Frac>, Unfit>
     requires side { IsSideData side.now }
     requires shape { length weights.items ≡ sequences (side_of side.now) }
     ensures length { IfOk result (λ plan. length plan.items ≡ length weights.items) }
-    ensures raised { IfOk result (λ plan. IsRaisedTo (side_of side.now) (length side.now.sets) (weight weights.items) (weight plan.items)) }
+    ensures raised { IfOk result (λ plan. IsRaisedPlan side.now weights.items plan.items) }
     ensures unfit { IfErr result (IsUnfitRaise (side_of side.now) (weight weights.items)) }
 {
     let mut weights = weights;
@@ -94,7 +96,7 @@ fn lessened(weights: Vec<Frac>, side: &Side) -> Result<Vec<Frac>, Unfit>
     requires side { IsSideData side.now }
     requires shape { length weights.items ≡ sequences (side_of side.now) }
     ensures length { IfOk result (λ plan. length plan.items ≡ length weights.items) }
-    ensures cut { IfOk result (λ plan. IsCutTo (side_of side.now) (length side.now.sets) (weight weights.items) (weight plan.items)) }
+    ensures cut { IfOk result (λ plan. IsCutPlan side.now weights.items plan.items) }
     ensures unfit { IfErr result (IsUnfitCut (side_of side.now) (weight weights.items)) }
 {
     let mut weights = weights;
@@ -104,7 +106,8 @@ fn lessened(weights: Vec<Frac>, side: &Side) -> Result<Vec<Frac>, Unfit>
     }
 }
 
-// The entry of the objective row at a variable that is not its own, which counts as 0 where the variable is basic.
+// The entry of the objective row at a variable that is not its own, which counts as 0 where the
+// variable is basic.
 fn entry_at(current: &Tableau, objective: usize, width: usize, variable: u32) -> Frac
     requires row_in { objective < length current.now.basics }
     requires width_is { width ≡ length current.now.nonbasics }
@@ -145,7 +148,7 @@ impl Optimum {
     /// The price of the whole game (0) or of the first player's set k - 1, counted from 0.
     pub fn price_one(&self, k: u32) -> Frac
         requires { k ≤ length self.now.first.sets }
-        ensures { result ≡ first_price (side_of self.now.first) (side_of self.now.second) (tableau self.now.tableau) k }
+        ensures { result ≡ first_prices self.now k }
     {
         entry_at(self.work.now(), self.objective, self.width, k + 1)
     }
@@ -153,7 +156,7 @@ impl Optimum {
     /// The price of the whole game (0) or of the second player's set k - 1, counted from 0.
     pub fn price_two(&self, k: u32) -> Frac
         requires { k ≤ length self.now.second.sets }
-        ensures { result ≡ second_price (side_of self.now.first) (side_of self.now.second) (tableau self.now.tableau) k }
+        ensures { result ≡ second_prices self.now k }
     {
         let before = self.objective + (self.width - self.second.sets().len() - 1);
         self.work.now().value((before + k as usize + 1) as u32)
@@ -170,7 +173,8 @@ impl Optimum {
         Ok(raw)
     }
 
-    // The raw weights of the second player: the entries of the objective row at the slacks of the second player's rows.
+    // The raw weights of the second player: the entries of the objective row at the slacks of the
+    // second player's rows.
     fn raw_two(&self, alloc: Global) -> Result<Vec<Frac>, Memory>
         ensures { IfOk result (λ raw. AreRawTwo self.now raw.items) }
     {

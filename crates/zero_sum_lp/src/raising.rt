@@ -1,12 +1,10 @@
 // The first player's plan out of raw weights.
-ghost use Rattle.sequence_data.specs.Data.{SideData, side_of, IsSideData};
+ghost use Rattle.sequence_data.specs.Data.{IsSideData, side_of};
 ghost use Rattle.std.specs.Prelude.{All, ◌≡◌, ◌≢◌, ◌+◌, ◌<◌, ◌≤◌, ℕ, length, IfOk, IfErr, OnOk};
 ghost use Rattle.pure_payoffs.specs.Steps.{StepFits, IsFirstUnfit};
-ghost use Rattle.rational.specs.Rational.{◌+ℚ◌, ◌-ℚ◌};
-ghost use Rattle.rational.specs.Sum.{sum_to};
 ghost use Rattle.sequence_forms.specs.Sides.{sequences};
 ghost use Rattle.sequence_data.specs.Weights.{weight};
-ghost use Rattle.zero_sum_lp.specs.PlanSteps.{rest_steps, raise_steps, IsRaisedTo, IsUnfitRaise};
+ghost use Rattle.zero_sum_lp.specs.PlanSteps.{IsRaisedPlan, IsUnfitRaise, raise_steps_at, raised_at, rest_at, rest_steps_at};
 
 use crate::weights::{set_weight, weight_at};
 use form_matrices::set_at;
@@ -17,9 +15,9 @@ use sequence_data::Side;
 fn remaining(weights: &[Frac], before: usize, first: usize, count: usize) -> Result<Frac, Unfit>
     requires before_in { before < length weights.now }
     requires actions_in { first + count ≤ length weights.now }
-    ensures value { IfOk result (λ rest. rest ≡ weight weights.now before -ℚ sum_to count (λ a. weight weights.now (first + a))) }
-    ensures fits { OnOk result (All StepFits (rest_steps (weight weights.now before) (λ a. weight weights.now (first + a)) count)) }
-    ensures unfit { IfErr result (IsFirstUnfit (rest_steps (weight weights.now before) (λ a. weight weights.now (first + a)) count)) }
+    ensures value { IfOk result (λ rest. rest ≡ rest_at weights.now before first count) }
+    ensures fits { OnOk result (All StepFits (rest_steps_at weights.now before first count)) }
+    ensures unfit { IfErr result (IsFirstUnfit (rest_steps_at weights.now before first count)) }
 {
     let mut rest = weight_at(weights, before);
     for action in 0..count {
@@ -37,10 +35,11 @@ fn raise_set(weights: &mut [Frac], before: usize, first: usize, count: usize) ->
     requires some_action { 0 < count }
     requires actions_in { first + count ≤ length weights.old }
     ensures length { length weights.new ≡ length weights.old }
-    ensures raised { OnOk result (weight weights.new first ≡ weight weights.old first +ℚ (weight weights.old before -ℚ sum_to count (λ a. weight weights.old (first + a)))) }
+    ensures raised { OnOk result (weight weights.new first
+        ≡ raised_at weights.old before first count) }
     ensures others { (q : ℕ) → q ≢ first → weight weights.new q ≡ weight weights.old q }
-    ensures fits { OnOk result (All StepFits (raise_steps (weight weights.old before) (λ a. weight weights.old (first + a)) count)) }
-    ensures unfit { IfErr result (IsFirstUnfit (raise_steps (weight weights.old before) (λ a. weight weights.old (first + a)) count)) }
+    ensures fits { OnOk result (All StepFits (raise_steps_at weights.old before first count)) }
+    ensures unfit { IfErr result (IsFirstUnfit (raise_steps_at weights.old before first count)) }
 {
     match remaining(weights, before, first, count) {
         Ok(rest) => match weight_at(weights, first).add(rest) {
@@ -63,7 +62,7 @@ pub fn raise(weights: &mut [Frac], side: &Side) -> Result<(), Unfit>
     requires side { IsSideData side.now }
     requires shape { length weights.old ≡ sequences (side_of side.now) }
     ensures length { length weights.new ≡ length weights.old }
-    ensures raised { OnOk result (IsRaisedTo (side_of side.now) (length side.now.sets) (weight weights.old) (weight weights.new)) }
+    ensures raised { OnOk result (IsRaisedPlan side.now weights.old weights.new) }
     ensures unfit { IfErr result (IsUnfitRaise (side_of side.now) (weight weights.old)) }
 {
     set_weight(weights, 0, Frac::one());

@@ -1,10 +1,10 @@
 // The system of a form's program.
 ghost use Rattle.std.specs.Prelude.{◌≡◌, ◌+◌, ◌*◌, ◌<◌, ◌≤◌, ◌^◌, ℕ, suc, length, get_or, IfOk};
-ghost use Rattle.linear_programs.specs.Programs.{columns_of, constraints, objective_cell, plan_cell, program_of, reply_cell};
+ghost use Rattle.linear_programs.specs.Programs.{columns_of, constraints, objective_cell, plan_cell};
 ghost use Rattle.sequence_data.specs.Data.{IsSideData, side_of};
 ghost use Rattle.sequence_forms.specs.Sides.{sequences};
 ghost use Rattle.zero_sum_lp.specs.Parts.{program_size};
-ghost use Rattle.zero_sum_lp.specs.Systems.{AreEntries, entry_of, gain_of, IsSystemFor};
+ghost use Rattle.zero_sum_lp.specs.Systems.{AreEntries, IsSystemFor, entry_of, gain_count, listed_gain, listed_program, listed_reply};
 
 use form_matrices::set_entry;
 use frac128::{Frac, Memory};
@@ -29,10 +29,10 @@ fn plan_entry(first: &Side, row: usize, col: usize) -> Frac
 fn reply_entry(first: &Side, second: &Side, gains: &[Frac], sequence: usize, col: usize) -> Frac
     requires first_side { IsSideData first.now }
     requires second_side { IsSideData second.now }
-    requires gains { length gains.now ≡ sequences (side_of first.now) * sequences (side_of second.now) }
+    requires gains { length gains.now ≡ gain_count first.now second.now }
     requires sequence { sequence < sequences (side_of second.now) }
     requires col { col < columns_of (side_of first.now) (side_of second.now) }
-    ensures { result ≡ reply_cell (side_of first.now) (side_of second.now) (gain_of gains.now (sequences (side_of second.now))) sequence col }
+    ensures { result ≡ listed_reply first.now second.now gains.now sequence col }
 {
     let columns = first.sequences() as usize;
     if col < columns {
@@ -58,10 +58,10 @@ fn objective_entry(first: &Side, col: usize) -> Frac
 fn entry(first: &Side, second: &Side, gains: &[Frac], row: usize, col: usize) -> Frac
     requires first_side { IsSideData first.now }
     requires second_side { IsSideData second.now }
-    requires gains { length gains.now ≡ sequences (side_of first.now) * sequences (side_of second.now) }
+    requires gains { length gains.now ≡ gain_count first.now second.now }
     requires row { row ≤ constraints (side_of first.now) (side_of second.now) }
     requires col { col ≤ columns_of (side_of first.now) (side_of second.now) }
-    ensures { result ≡ entry_of (program_of (side_of first.now) (side_of second.now) (gain_of gains.now (sequences (side_of second.now)))) row col }
+    ensures { result ≡ entry_of (listed_program first.now second.now gains.now) row col }
 {
     let plan_rows = first.sets().len() + 1;
     let width = first.sequences() as usize + second.sets().len() + 1;
@@ -100,11 +100,12 @@ fn entries(
 ) -> Result<Vec<Frac>, Memory>
     requires first_side { IsSideData first.now }
     requires second_side { IsSideData second.now }
-    requires gains { length gains.now ≡ sequences (side_of first.now) * sequences (side_of second.now) }
+    requires gains { length gains.now ≡ gain_count first.now second.now }
     requires few { rows * size < 2 ^ 32 }
     requires size { size ≡ suc (columns_of (side_of first.now) (side_of second.now)) }
     requires rows { rows ≡ suc (constraints (side_of first.now) (side_of second.now)) }
-    ensures { IfOk result (λ cells. AreEntries (program_of (side_of first.now) (side_of second.now) (gain_of gains.now (sequences (side_of second.now)))) size (rows * size) cells.items) }
+    ensures { IfOk result (λ cells.
+        AreEntries (listed_program first.now second.now gains.now) size (rows * size) cells.items) }
 {
     let mut cells = Vec::with_capacity(alloc, rows * size)?;
     for k in 0..rows * size {
@@ -117,9 +118,9 @@ fn entries(
 pub fn system(alloc: Global, first: &Side, second: &Side, gains: &[Frac]) -> Result<System, Memory>
     requires first_side { IsSideData first.now }
     requires second_side { IsSideData second.now }
-    requires gains { length gains.now ≡ sequences (side_of first.now) * sequences (side_of second.now) }
+    requires gains { length gains.now ≡ gain_count first.now second.now }
     requires few { program_size (side_of first.now) (side_of second.now) ≤ 512 }
-    ensures { IfOk result (IsSystemFor first.now second.now (gain_of gains.now (sequences (side_of second.now)))) }
+    ensures { IfOk result (IsSystemFor first.now second.now (listed_gain second.now gains.now)) }
 {
     let rated = 1 + first.sets().len() + second.sequences() as usize;
     let width = first.sequences() as usize + second.sets().len() + 1;
