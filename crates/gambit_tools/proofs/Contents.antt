@@ -21,7 +21,7 @@ use Rattle.reduced_form.specs.declared.stop.ReduceStop.TheVariants as reduce_sto
 use Rattle.enumpure.specs.Stops.{within_text_limit}
 use Rattle.enumpure.specs.declared.listing.ListStop.{ListStop}
 use Rattle.enumpure.specs.declared.listing.ListStop.TheVariants as list_stop
-use Rattle.words.specs.Words.{Command, Enumpure}
+use Rattle.words.specs.Words.{Command, Enumpure, Lp}
 use Rattle.gambit_tools.specs.Input.{most_bytes}
 use Rattle.gambit_tools.specs.Told.{text_refusal, nfg_refusal, efg_refusal, form_refusal, list_refusal}
 use Rattle.gambit_tools.specs.Games.{game_of, game_in}
@@ -30,6 +30,7 @@ use Rattle.gambit_tools.specs.Commands.{tool_of}
 use Rattle.gambit_tools.specs.Origins.{Contents, origin}
 use Rattle.gambit_tools.specs.declared.refusal.Refusal.{Refusal}
 use Rattle.gambit_tools.specs.declared.refusal.Refusal.TheVariants as refusal
+use Rattle.gambit_tools.proofs.LpContents.{lp-origin}
 
 text_origin : (bytes : List ℕ) (stop : TextStop) → tokens_of bytes (Err stop) → origin (text_refusal stop) ≡ Contents
 text_origin bytes (text_stop.Fault fault) h = refl
@@ -78,13 +79,15 @@ game_in-origin bytes r few (inr h) = game_origin h.0 r h.2
 pub game_in-too_long : (bytes : List ℕ) → most_bytes < length bytes → game_in bytes (Err refusal.TooLong)
 game_in-too_long bytes long = inl (inl (long, refl))
 
--- ---- tools
+-- ---- the tool `enumpure`
 enumpure_origin : (strategic : Bool) (game : Game) (r : Refusal) → enumpure strategic game (Err r) → origin r ≡ Contents
 enumpure_origin strategic (Strategic table) r h = ap origin h.2 ∙ list_origin _ h.0 h.1
 enumpure_origin strategic (Extensive tree) r (inl h) = ap origin h.2 ∙ form_origin tree h.0 h.1
 enumpure_origin strategic (Extensive tree) r (inr h) = ap origin h.2.2 ∙ form_text_origin strategic tree h.0 h.2.0 h.2.1
 
+-- ---- commands
 -- each tool that is built has a line
 pub tool_of-origin : (command : Command) (game : Game) (r : Refusal) → tool_of command game (Err r) → origin r ≡ Contents
 tool_of-origin (Enumpure strategic file) game r h = enumpure_origin strategic game r h
+tool_of-origin (Lp strategic prices file) game r h = lp-origin strategic prices game r h
 tool_of-origin _ game r h = absurd h

@@ -1,5 +1,10 @@
 pub mod Computing
+pub mod ConstantSums
 pub mod Contents
+pub mod Kept
+pub mod LpContents
+pub mod LpSingles
+pub mod LpTexts
 pub mod Running
 pub mod Singles
 pub mod Taking

@@ -1,7 +1,7 @@
 -- Runs: from the computed text to what is told, and that they are exact.
 use Rattle.std.proofs.Common.{ℕ, suc, ◌≡◌, ◌<◌, ◌⊎◌, ◌∙◌, inl, inr, sym, ap, subst, refl, arith, List, [], ◌∷◌, Contains, Option, None, Some, Result, Ok, Err}
 use Rattle.std.specs.Result.{result_err}
-use Rattle.answers.specs.Answers.{map_ok}
+use Rattle.answers.specs.Answers.{IsSingle, map_ok}
 use Rattle.outside.specs.Inputs.{InputName, InputsSeen}
 use Rattle.words.specs.Words.{Command, command_from}
 use Rattle.words.specs.declared.Usage.{Usage}
@@ -13,7 +13,6 @@ use Rattle.gambit_tools.specs.Outcome.{RunAnswer, AreContents, AreToldContents, 
 use Rattle.gambit_tools.specs.Refusals.{status_of, run_status, NamesNumbers, IsToldAs}
 use Rattle.gambit_tools.specs.declared.refusal.Refusal.{Refusal}
 use Rattle.gambit_tools.specs.declared.refusal.Refusal.TheVariants as refusal
-use Rattle.gambit_tools.proofs.Singles.{answer_of-single}
 
 -- ---- what is told
 -- a refusal that names numbers comes from the contents
@@ -21,6 +20,9 @@ names_contents : (r : Refusal) → NamesNumbers r → origin r ≡ OfContents
 names_contents (refusal.Text fault) names = refl
 names_contents (refusal.Nfg fault) names = refl
 names_contents (refusal.Efg fault) names = refl
+names_contents (refusal.NotTwoPlayers count) names = refl
+names_contents (refusal.Forgets player set first_node second_node) names = refl
+names_contents (refusal.NotConstant first second first_sum second_sum) names = refl
 names_contents (refusal.TooLarge counted count limit) names = refl
 names_contents (refusal.Range place step) names = refl
 names_contents _ names = elim names [ ]
@@ -103,11 +105,15 @@ told_answer : (command : Command) (before after : Outside) (contents : List (Lis
 told_answer command before after contents (Ok text) h told none = inr (by_told command before.inputs contents (Ok text) told h.ends.0)
 told_answer command before after contents (Err r) h told none = told_refusal command before after contents r (origin r) refl h.ends told none
 
-run-exact : (words : List (List ℕ)) (before after : Outside) (answer : RunAnswer) → IsRunOf (command_from words) before after answer → IsExact words before after answer
-run-exact words before after answer h command e contents told none =
+-- contents have one answer
+abbrev pub AnswersAreSingle : Type 0
+AnswersAreSingle = (command : Command) (contents : List (List ℕ)) → IsSingle (answer_of command contents)
+
+run-exact : AnswersAreSingle → (words : List (List ℕ)) (before after : Outside) (answer : RunAnswer) → IsRunOf (command_from words) before after answer → IsExact words before after answer
+run-exact single words before after answer h command e contents told none =
     elim (told_answer command before after contents answer (subst (λ w. IsRunOf w before after answer) e h) told none) [
       | inl m ↦ inl m
-      | inr g ↦ inr (g, λ other k. answer_of-single command contents answer other g k)
+      | inr g ↦ inr (g, λ other k. single command contents answer other g k)
     ]
 
 -- ---- outcomes
@@ -115,35 +121,35 @@ none_some : (r : Refusal) → None ≡ Some r → ⊥
 none_some r e = cc
 
 -- a run that answers the text
-pub outcome-text : {X : Type 0} (words : List (List ℕ)) (before after : Seen) (answered : Result X Refusal) (view : X → List ℕ) → None ≡ result_err answered
+pub outcome-text : {X : Type 0} → AnswersAreSingle → (words : List (List ℕ)) (before after : Seen) (answered : Result X Refusal) (view : X → List ℕ) → None ≡ result_err answered
     → IsRunOf (command_from words) (but_for_err before) (but_for_err after) (map_ok answered view) → CountsTell before.inputs after.inputs (result_err answered)
     → (before.out.faults < after.out.faults → result_err answered ≡ Some refusal.WriteFault)
     → ((name : InputName) → after.inputs.held name ≡ before.inputs.held name) → after.err.taken ≡ before.err.taken → IsOutcome words before after 0 (map_ok answered view)
-outcome-text words before after (Ok x) view e h counts faults stay untold = record {
+outcome-text single words before after (Ok x) view e h counts faults stay untold = record {
   status_is = refl;
   is_run = h;
-  is_exact = run-exact words (but_for_err before) (but_for_err after) (Ok (view x)) h;
+  is_exact = run-exact single words (but_for_err before) (but_for_err after) (Ok (view x)) h;
   tells = untold;
   input_faults = λ rose. absurd (elim rose [ inl l ↦ none_some _ (counts.opening l) | inr l ↦ none_some _ (counts.reading l) ]);
   output_faults = λ rose. absurd (none_some _ (faults rose));
   inputs_stay = stay;
 }
-outcome-text words before after (Err r) view e h counts faults stay untold = absurd (none_some r e)
+outcome-text single words before after (Err r) view e h counts faults stay untold = absurd (none_some r e)
 
 -- a run that is refused
-pub outcome-told : {X : Type 0} (words : List (List ℕ)) (before after : Seen) (answered : Result X Refusal) (view : X → List ℕ) (r told : Refusal) (status : ℕ) → Some r ≡ result_err answered
+pub outcome-told : {X : Type 0} → AnswersAreSingle → (words : List (List ℕ)) (before after : Seen) (answered : Result X Refusal) (view : X → List ℕ) (r told : Refusal) (status : ℕ) → Some r ≡ result_err answered
     → IsRunOf (command_from words) (but_for_err before) (but_for_err after) (map_ok answered view) → CountsTell before.inputs after.inputs (result_err answered)
     → (before.out.faults < after.out.faults → result_err answered ≡ Some refusal.WriteFault)
     → ((name : InputName) → after.inputs.held name ≡ before.inputs.held name) → IsToldAs r told → status ≡ status_of told → Tells before.err after.err (Some told)
     → IsOutcome words before after status (Err told)
-outcome-told words before after (Ok x) view r told status e h counts faults stay is status_is tells = absurd (none_some r (sym e))
-outcome-told words before after (Err q) view r told status e h counts faults stay is status_is tells =
+outcome-told single words before after (Ok x) view r told status e h counts faults stay is status_is tells = absurd (none_some r (sym e))
+outcome-told single words before after (Err q) view r told status e h counts faults stay is status_is tells =
     (let same : IsToldAs q told = subst (λ x. IsToldAs x told) (some_same r q e) is in
     let run : IsRunOf (command_from words) (but_for_err before) (but_for_err after) (Err told) = told-run (command_from words) (but_for_err before) (but_for_err after) q told same h in
     record {
       status_is = status_is;
       is_run = run;
-      is_exact = run-exact words (but_for_err before) (but_for_err after) (Err told) run;
+      is_exact = run-exact single words (but_for_err before) (but_for_err after) (Err told) run;
       tells = tells;
       input_faults = status-input_faults before.inputs after.inputs q told status same status_is counts;
       output_faults = λ rose. status-output_faults q told status same status_is (faults rose);

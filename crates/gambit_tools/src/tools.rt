@@ -11,10 +11,13 @@ ghost use Rattle.gambit_tools.specs.Commands.{answer_of};
 ghost use Rattle.gambit_tools.specs.Outcome.{RunAnswer, Tells, TakesLine, IsComputed, IsRunOf, IsOutcome, IsComplete};
 ghost use Rattle.gambit_tools.specs.declared.refusal.Refusal.{Refusal};
 
+use crate::lp::lp;
 use crate::output::write_text;
 use crate::pure::enumpure;
 use crate::refusal::Refusal;
+use game_core::{sets_are_numbered_by_first_nodes, trees_are_game_trees};
 use outside::{Gate, Inputs, Sink};
+use perfect_recall::recalls_are_single;
 use std::alloc::Global;
 use std::thread::Threads;
 use words::{Settings, SettingsStop, read_settings};
@@ -29,6 +32,11 @@ fn compute<I: Inputs>(alloc: Global, settings: Settings, inputs: &mut I) -> Resu
 {
     match settings {
         Settings::Enumpure { strategic, file } => enumpure(alloc, strategic, file, inputs),
+        Settings::Lp {
+            strategic,
+            prices,
+            file,
+        } => lp(alloc, strategic, prices, file, inputs),
         _ => unreachable!(),
     }
 }
@@ -130,6 +138,7 @@ pub fn run<R: Threads + Sync, I: Inputs, K: Sink, E: Sink, G: Gate>(
         (outside (I.seen inputs.new) (K.seen out.new))
         result }
 {
+    answers_are_single();
     match answer(alloc, words, inputs, out).err() {
         None => 0,
         Some(refusal) => refuse(alloc, err, refusal),
@@ -139,4 +148,8 @@ pub fn run<R: Threads + Sync, I: Inputs, K: Sink, E: Sink, G: Gate>(
 /// The contents of a command's inputs have at most one answer.
 pub fn answers_are_single()
     ensures { (command : Command) (contents : List (List ℕ)) → IsSingle (answer_of command contents) }
-{}
+{
+    trees_are_game_trees();
+    sets_are_numbered_by_first_nodes();
+    recalls_are_single();
+}

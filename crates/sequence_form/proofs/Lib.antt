@@ -1,7 +1,8 @@
 mod Built
-mod Forms
-mod Laws
+pub mod Forms
+pub mod Kept
+pub mod Laws
 mod Numbering
 mod PathSteps
 mod Sides
-mod TableLeaves
+pub mod TableLeaves

@@ -11,7 +11,7 @@ returns-in-None g c =
     let after = seen (g.I.Inputs.seen c.answer.new.inputs) (g.K.Sink.seen c.answer.new.out) (g.E.Sink.seen c.args.err.now) in
     let a = c.answer.ensures in
     let answer = map_ok c.answer.result (λ text. text.items) in
-    let told = outcome-text words before after c.answer.result (λ text. text.items) c.in-None.ensures.value a.run a.counts a.output_faults a.held refl in
+    let told = outcome-text c.answers_are_single.ensures words before after c.answer.result (λ text. text.items) c.in-None.ensures.value a.run a.counts a.output_faults a.held refl in
     record { outcome = (answer, told); complete = outcome-complete words before after 0 answer told }
 
 pub returns-in-Some : goal.returns-in-Some
@@ -21,5 +21,5 @@ returns-in-Some g c =
     let after = seen (g.I.Inputs.seen c.answer.new.inputs) (g.K.Sink.seen c.answer.new.out) (g.E.Sink.seen c.refuse.new.err) in
     let a = c.answer.ensures in
     let t = c.refuse.ensures in
-    let told = outcome-told words before after c.answer.result (λ text. text.items) c.in-Some.refusal t.0 c.refuse.result c.in-Some.ensures.value a.run a.counts a.output_faults a.held t.1 t.2 t.3 in
+    let told = outcome-told c.answers_are_single.ensures words before after c.answer.result (λ text. text.items) c.in-Some.refusal t.0 c.refuse.result c.in-Some.ensures.value a.run a.counts a.output_faults a.held t.1 t.2 t.3 in
     record { outcome = (Err t.0, told); complete = outcome-complete words before after c.refuse.result (Err t.0) told }
