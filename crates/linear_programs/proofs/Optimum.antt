@@ -15,12 +15,12 @@ use Rattle.linear_systems.specs.Lex.{IsLexPositive}
 use Rattle.linear_systems.specs.Rows.{unit_at, coefficient, key, row, HasDistinctVariables}
 use Rattle.linear_systems.specs.Reached.{IsReached, IsStart}
 use Rattle.linear_systems.proofs.LastRow.{last_row}
-use Rattle.linear_systems.proofs.Rows.{unit_self, unit_other, sum_single, times_zero, coefficient_row, coefficient_cell, left_zero}
+use Rattle.linear_systems.proofs.Rows.{unit_self, unit_other, unit_nonneg, sum_single, times_zero, coefficient_row, coefficient_cell, left_zero}
 use Rattle.linear_programs.specs.Programs.{value_at}
 use Rattle.linear_programs.proofs.Growth.{IsLexicographicallyFeasible}
 use Rattle.linear_programs.proofs.Programs.{IsProgram, program_one, program_two, program_goal}
 use Rattle.linear_programs.proofs.Ray.{solves_start}
-use Rattle.linear_programs.proofs.Units.{unit_nonneg, sum_unit}
+use Rattle.linear_programs.proofs.Units.{sum_unit}
 
 -- at the end of the path no entry of the objective row is negative
 pub record IsEnd (N m : ℕ) (s t : Tableau) : Type 0 where

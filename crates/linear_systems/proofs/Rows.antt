@@ -1,7 +1,10 @@
 -- The rows of a tableau as functions of all variables, and what a pivot makes of them
 use Rattle.std.proofs.Common.{ℕ, suc, zero, ◌<◌, ◌≡◌, ◌≢◌, refl, sym, ap, ap₂, ◌∙◌, [], ◌∷◌, arith, inl, inr, eq-or-lt_of_le, le_of_suc-le-suc}
+use Rattle.std.proofs.lemmas.Bool.{cases_eq}
+use Rattle.rational.proofs.Field.{le_of_lt, le_refl}
+use Rattle.rational.proofs.Inverse.{one_pos}
 use Rattle.rational.proofs.Rules.{times_one}
-use Rattle.rational.specs.Rational.{ℚ, ◌+ℚ◌, ◌*ℚ◌, ◌-ℚ◌, inv_ℚ, zero_ℚ, one_ℚ}
+use Rattle.rational.specs.Rational.{ℚ, ◌+ℚ◌, ◌*ℚ◌, ◌-ℚ◌, inv_ℚ, zero_ℚ, one_ℚ, ◌≤ℚ◌}
 use Rattle.rational.specs.Sum.{sum_to}
 use Rattle.linear_systems.specs.Tableau.{Tableau, left, pivot}
 use Rattle.rational.proofs.RationalRing.{rational_ring}
@@ -30,6 +33,10 @@ unit_self v = rw (eqb_same v)
 
 pub unit_other : (v w : ℕ) → w ≢ v → unit_at v w ≡ zero_ℚ
 unit_other v w h = rw (eqb_apart w v h)
+
+-- a unit has no negative entry
+pub unit_nonneg : (v w : ℕ) → zero_ℚ ≤ℚ unit_at v w
+unit_nonneg v w = elim (cases_eq w v) [ inl e ↦ rw (e, unit_self v) (le_of_lt zero_ℚ one_ℚ one_pos) | inr n ↦ rw (unit_other v w n) (le_refl zero_ℚ) ]
 
 pub sum_single : (n : ℕ) (f : ℕ → ℚ) (c : ℕ) → c < n → ((j : ℕ) → j < n → j ≢ c → f j ≡ zero_ℚ) → sum_to n f ≡ f c
 sum_single zero f c h z = absurd (omega arith)

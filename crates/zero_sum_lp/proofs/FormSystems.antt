@@ -8,7 +8,7 @@ use Rattle.rational.proofs.RationalRing.{rational_ring}
 use Rattle.rings.proofs.Ring.{ring, num, ◌:+◌, ◌:-◌, ◌:*◌, A, B, C, D, E}
 use Rattle.linear_systems.specs.Rows.{Alike}
 use Rattle.linear_programs.specs.Programs.{constraints, program_of, reply_cell}
-use Rattle.linear_programs.proofs.Determined.{alike_trans}
+use Rattle.linear_systems.proofs.Agreement.{alike_trans}
 use Rattle.lex_tableau.specs.Starts.{Parts, system_of}
 use Rattle.sequence_forms.specs.Lists.{listed_at}
 use Rattle.sequence_forms.specs.Prices.{gains}

@@ -3,7 +3,7 @@ use Rattle.std.proofs.Common.{◌≡◌, ◌∙◌, ◌<◌, List, [], ◌∷◌
 use Rattle.answers.specs.Answers.{Answer, ◌>>◌, IsSingle, IsSingleAs, refuse_where, refused_by}
 use Rattle.answers.proofs.Answers.{bind-single, refuse_where-single, refused_by-single, single-as}
 use Rattle.linear_programs.specs.Programs.{program_of}
-use Rattle.linear_programs.proofs.Determined.{alike_sym, alike_trans}
+use Rattle.linear_systems.proofs.Agreement.{alike_sym, alike_trans}
 use Rattle.lex_tableau.specs.Starts.{Parts, system_of}
 use Rattle.lex_tableau.specs.declared.tableau.StartStop.TheVariants as starts
 use Rattle.lex_tableau.proofs.Systems.{systems_determined, starts_same}

@@ -5,7 +5,7 @@ use Rattle.rational.specs.Rational.{ℚ}
 use Rattle.linear_systems.specs.Rows.{Alike}
 use Rattle.linear_programs.specs.Programs.{constraints, program_of, IsProgramOf}
 use Rattle.zero_sum_lp.specs.Steps.{linear_program}
-use Rattle.linear_programs.proofs.Determined.{alike_trans}
+use Rattle.linear_systems.proofs.Agreement.{alike_trans}
 use Rattle.lex_tableau.specs.Rows.{Numbers, tableau, IsTableau}
 use Rattle.lex_tableau.specs.Starts.{Parts, system_of, IsStartOf}
 use Rattle.sequence_data.specs.Data.{SideData, side_of}
