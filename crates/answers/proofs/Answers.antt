@@ -1,7 +1,7 @@
 -- Laws of answers.
 use Rattle.std.proofs.Common.{◌≡◌, ◌∙◌, inl, inr, ap, sym, subst, refl, Result, Ok, Err}
 use Rattle.std.specs.Result.{IsErrAnd}
-use Rattle.answers.specs.Answers.{Answer, only, refuse_where, by_case, ◌>>=◌, refused_by, map_err, map_ok, IsSingle, IsSingleAs, Gives}
+use Rattle.answers.specs.Answers.{Answer, only, refuse_where, by_case, ◌>>=◌, refused_by, map_err, map_ok, IsSingle, Gives}
 
 -- two values of one answer
 ok_same : {E Y : Type 0} (a b : Y) → ◌≡◌ {A = Result Y E} (Ok a) (Ok b) → a ≡ b
@@ -17,65 +17,53 @@ ok_no_err a r e = cc
 
 -- ---- at most one answer
 -- the values of a single stage are the same
-pub single-value : {E F Y : Type 0} (seen : E → F) (p : Answer E Y) (a b : Y) → IsSingleAs seen p → p (Ok a) → p (Ok b) → a ≡ b
-single-value seen p a b s h k = ok_same _ _ (s (Ok a) (Ok b) h k)
+pub single-value : {E Y : Type 0} (p : Answer E Y) (a b : Y) → IsSingle p → p (Ok a) → p (Ok b) → a ≡ b
+single-value p a b s h k = ok_same _ _ (s (Ok a) (Ok b) h k)
 
 -- a single stage with a value is not refused
-pub single-exclude : {E F Y : Type 0} (seen : E → F) (p : Answer E Y) (a : Y) (r : E) → IsSingleAs seen p → p (Ok a) → p (Err r) → ⊥
-single-exclude seen p a r s h k = ok_no_err _ _ (s (Ok a) (Err r) h k)
+pub single-exclude : {E Y : Type 0} (p : Answer E Y) (a : Y) (r : E) → IsSingle p → p (Ok a) → p (Err r) → ⊥
+single-exclude p a r s h k = ok_no_err _ _ (s (Ok a) (Err r) h k)
 
 -- stages one after another are single, if each is
-pub bind-single : {E F Y Z : Type 0} (seen : E → F) (p : Answer E Y) (f : Y → Answer E Z) → IsSingleAs seen p → ((y : Y) → p (Ok y) → IsSingleAs seen (f y)) → IsSingleAs seen (p >>= f)
-bind-single seen p f s t (Ok a) (Ok b) h k =
-    t k.0 k.1 (Ok a) (Ok b) (subst (λ y. f y (Ok a)) (single-value seen p h.0 k.0 s h.1 k.1) h.2) k.2
-bind-single seen p f s t (Ok a) (Err r) h (inl k) = absurd (single-exclude seen p h.0 r s h.1 k)
-bind-single seen p f s t (Ok a) (Err r) h (inr k) =
-    t k.0 k.1 (Ok a) (Err r) (subst (λ y. f y (Ok a)) (single-value seen p h.0 k.0 s h.1 k.1) h.2) k.2
-bind-single seen p f s t (Err r) (Ok b) (inl h) k = absurd (single-exclude seen p k.0 r s k.1 h)
-bind-single seen p f s t (Err r) (Ok b) (inr h) k =
-    t k.0 k.1 (Err r) (Ok b) (subst (λ y. f y (Err r)) (single-value seen p h.0 k.0 s h.1 k.1) h.2) k.2
-bind-single seen p f s t (Err r) (Err q) (inl h) (inl k) = ap Err (err_same _ _ (s (Err r) (Err q) h k))
-bind-single seen p f s t (Err r) (Err q) (inl h) (inr k) = absurd (single-exclude seen p k.0 r s k.1 h)
-bind-single seen p f s t (Err r) (Err q) (inr h) (inl k) = absurd (single-exclude seen p h.0 q s h.1 k)
-bind-single seen p f s t (Err r) (Err q) (inr h) (inr k) =
-    t k.0 k.1 (Err r) (Err q) (subst (λ y. f y (Err r)) (single-value seen p h.0 k.0 s h.1 k.1) h.2) k.2
+pub bind-single : {E Y Z : Type 0} (p : Answer E Y) (f : Y → Answer E Z) → IsSingle p → ((y : Y) → p (Ok y) → IsSingle (f y)) → IsSingle (p >>= f)
+bind-single p f s t (Ok a) (Ok b) h k =
+    t k.0 k.1 (Ok a) (Ok b) (subst (λ y. f y (Ok a)) (single-value p h.0 k.0 s h.1 k.1) h.2) k.2
+bind-single p f s t (Ok a) (Err r) h (inl k) = absurd (single-exclude p h.0 r s h.1 k)
+bind-single p f s t (Ok a) (Err r) h (inr k) =
+    t k.0 k.1 (Ok a) (Err r) (subst (λ y. f y (Ok a)) (single-value p h.0 k.0 s h.1 k.1) h.2) k.2
+bind-single p f s t (Err r) (Ok b) (inl h) k = absurd (single-exclude p k.0 r s k.1 h)
+bind-single p f s t (Err r) (Ok b) (inr h) k =
+    t k.0 k.1 (Err r) (Ok b) (subst (λ y. f y (Err r)) (single-value p h.0 k.0 s h.1 k.1) h.2) k.2
+bind-single p f s t (Err r) (Err q) (inl h) (inl k) = ap Err (err_same _ _ (s (Err r) (Err q) h k))
+bind-single p f s t (Err r) (Err q) (inl h) (inr k) = absurd (single-exclude p k.0 r s k.1 h)
+bind-single p f s t (Err r) (Err q) (inr h) (inl k) = absurd (single-exclude p h.0 q s h.1 k)
+bind-single p f s t (Err r) (Err q) (inr h) (inr k) =
+    t k.0 k.1 (Err r) (Err q) (subst (λ y. f y (Err r)) (single-value p h.0 k.0 s h.1 k.1) h.2) k.2
 
 -- a value and nothing else is single
-pub only-single : {E F Y : Type 0} (seen : E → F) (y : Y) → IsSingleAs seen (only {E = E} y)
-only-single seen y one other h k = ap (map_err seen) (h ∙ sym k)
+pub only-single : {E Y : Type 0} (y : Y) → IsSingle (only {E = E} y)
+only-single y one other h k = h ∙ sym k
 
 -- so is a refusal where P holds
-pub refuse_where-single : {E F : Type 0} (seen : E → F) (P : Type 0) (refusal : E) → IsSingleAs seen (refuse_where P refusal)
-refuse_where-single seen P refusal (Ok _) (Ok _) h k = refl
-refuse_where-single seen P refusal (Ok _) (Err r) h k = absurd (h k.0)
-refuse_where-single seen P refusal (Err r) (Ok _) h k = absurd (k h.0)
-refuse_where-single seen P refusal (Err r) (Err q) h k = ap (λ x. Err (seen x)) (h.1 ∙ sym k.1)
+pub refuse_where-single : {E : Type 0} (P : Type 0) (refusal : E) → IsSingle (refuse_where P refusal)
+refuse_where-single P refusal (Ok _) (Ok _) h k = refl
+refuse_where-single P refusal (Ok _) (Err r) h k = absurd (h k.0)
+refuse_where-single P refusal (Err r) (Ok _) h k = absurd (k h.0)
+refuse_where-single P refusal (Err r) (Err q) h k = ap Err (h.1 ∙ sym k.1)
 
 -- one of two stages is single, if each is where it is taken
-pub by_case-single : {E F Y : Type 0} (seen : E → F) (P : Type 0) (p q : Answer E Y) → (P → IsSingleAs seen p) → (¬ P → IsSingleAs seen q) → IsSingleAs seen (by_case P p q)
-by_case-single seen P p q s t one other (inl h) (inl k) = s h.0 one other h.1 k.1
-by_case-single seen P p q s t one other (inl h) (inr k) = absurd (k.0 h.0)
-by_case-single seen P p q s t one other (inr h) (inl k) = absurd (h.0 k.0)
-by_case-single seen P p q s t one other (inr h) (inr k) = t h.0 one other h.1 k.1
+pub by_case-single : {E Y : Type 0} (P : Type 0) (p q : Answer E Y) → (P → IsSingle p) → (¬ P → IsSingle q) → IsSingle (by_case P p q)
+by_case-single P p q s t one other (inl h) (inl k) = s h.0 one other h.1 k.1
+by_case-single P p q s t one other (inl h) (inr k) = absurd (k.0 h.0)
+by_case-single P p q s t one other (inr h) (inl k) = absurd (h.0 k.0)
+by_case-single P p q s t one other (inr h) (inr k) = t h.0 one other h.1 k.1
 
 -- telling a stage's reasons to stop by refusals keeps it single
-pub refused_by-single : {S E G Y : Type 0} (seen : E → G) (told : S → E) (p : Answer S Y) → ((one other : Result Y S) → p one → p other → map_err (λ stop. seen (told stop)) one ≡ map_err (λ stop. seen (told stop)) other) → IsSingleAs seen (refused_by told p)
-refused_by-single seen told p s (Ok a) (Ok b) h k = ap Ok (single-value (λ stop. seen (told stop)) p a b s h k)
-refused_by-single seen told p s (Ok a) (Err r) h k = absurd (single-exclude (λ stop. seen (told stop)) p a k.0 s h k.1)
-refused_by-single seen told p s (Err r) (Ok b) h k = absurd (single-exclude (λ stop. seen (told stop)) p b h.0 s k h.1)
-refused_by-single seen told p s (Err r) (Err q) h k =
-    ap Err (ap seen h.2 ∙ err_same _ _ (s (Err h.0) (Err k.0) h.1 k.1) ∙ sym (ap seen k.2))
-
--- a stage that is single is so where less of its refusals is seen
-pub single-less : {E F G Y : Type 0} (seen : E → F) (less : E → G) (p : Answer E Y) → ((one other : E) → seen one ≡ seen other → less one ≡ less other) → IsSingleAs seen p → IsSingleAs less p
-single-less seen less p l s (Ok a) (Ok b) h k = ap Ok (single-value seen p a b s h k)
-single-less seen less p l s (Ok a) (Err r) h k = absurd (single-exclude seen p a r s h k)
-single-less seen less p l s (Err r) (Ok b) h k = absurd (single-exclude seen p b r s k h)
-single-less seen less p l s (Err r) (Err q) h k = ap Err (l r q (err_same _ _ (s (Err r) (Err q) h k)))
-
--- a stage with at most one answer has so however its refusals are seen
-pub single-as : {E F Y : Type 0} (seen : E → F) (p : Answer E Y) → IsSingle p → IsSingleAs seen p
-single-as seen p s one other h k = ap (map_err seen) (s one other h k)
+pub refused_by-single : {S E Y : Type 0} (told : S → E) (p : Answer S Y) → IsSingle p → IsSingle (refused_by told p)
+refused_by-single told p s (Ok a) (Ok b) h k = ap Ok (single-value p a b s h k)
+refused_by-single told p s (Ok a) (Err r) h k = absurd (single-exclude p a k.0 s h k.1)
+refused_by-single told p s (Err r) (Ok b) h k = absurd (single-exclude p b h.0 s k h.1)
+refused_by-single told p s (Err r) (Err q) h k = ap Err (h.2 ∙ ap told (err_same _ _ (s (Err h.0) (Err k.0) h.1 k.1)) ∙ sym k.2)
 
 -- ---- what calls give
 -- the answer of the second of two stages is that of both

@@ -43,18 +43,14 @@ abbrev pub map_ok : {E X Y : Type 0} → Result X E → (X → Y) → Result Y E
 map_ok (Ok x) view = Ok (view x)
 map_ok (Err r) view = Err r
 
--- an answer with its refusal seen in this way
-abbrev pub map_err : {E F Y : Type 0} → (E → F) → Result Y E → Result Y F
-map_err seen (Ok y) = Ok y
-map_err seen (Err r) = Err (seen r)
+-- an answer whose reason to stop is told by a refusal
+abbrev pub map_err : {S E Y : Type 0} → (S → E) → Result Y S → Result Y E
+map_err told (Ok y) = Ok y
+map_err told (Err stop) = Err (told stop)
 
 -- at most one answer
 abbrev pub IsSingle : {E Y : Type 0} → Answer E Y → Type 0
 IsSingle {E} {Y} p = (one other : Result Y E) → p one → p other → one ≡ other
-
--- at most one answer, where refusals are compared as they are seen
-abbrev pub IsSingleAs : {E F Y : Type 0} → (E → F) → Answer E Y → Type 0
-IsSingleAs {E} {F} {Y} seen p = (one other : Result Y E) → p one → p other → map_err seen one ≡ map_err seen other
 
 -- what a call ensures that computes a stage: its answer, or want of memory
 abbrev pub Gives : {E Y : Type 0} → E → Answer E Y → Result Y E → Type 0

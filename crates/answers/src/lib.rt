@@ -2,13 +2,10 @@
 #![tactic(auto)]
 
 ghost use Rattle.std.specs.Prelude.{◌≡◌, Ok, Err, Result};
-ghost use Rattle.answers.specs.Answers.{Answer, IsSingle, IsSingleAs, Gives, then, refused_by, map_err};
+ghost use Rattle.answers.specs.Answers.{Answer, IsSingle, Gives, then, refused_by, map_err};
 
 /// Two stages, of which the second may speak of what the first gives.
-pub trait Stages<E, F, Y, Z> {
-    /// How refusals are compared.
-    ghost seen: { E → F };
-
+pub trait Stages<E, Y, Z> {
     /// The refusal for want of memory.
     ghost memory: { E };
 
@@ -20,21 +17,21 @@ pub trait Stages<E, F, Y, Z> {
 }
 
 /// Stages one after another have at most one answer, if each has.
-pub fn stages_are_single<E, F, Y, Z, S: Stages<E, F, Y, Z>>()
-    ensures { IsSingleAs S.seen S.first → ((y : Y) → S.first (Ok y) → IsSingleAs S.seen (S.second y)) → IsSingleAs S.seen (then S.first S.second) }
+pub fn stages_are_single<E, Y, Z, S: Stages<E, Y, Z>>()
+    ensures { IsSingle S.first → ((y : Y) → S.first (Ok y) → IsSingle (S.second y))
+        → IsSingle (then S.first S.second) }
 {}
 
 /// The answer of the second of two stages is that of both, and so is a refusal of the first.
-pub fn stages_give<E, F, Y, Z, S: Stages<E, F, Y, Z>>()
-    ensures second { (y : Y) (answer : Result Z E) → S.first (Ok y) → Gives S.memory (S.second y) answer → Gives S.memory (then S.first S.second) answer }
-    ensures first { (r : E) → Gives S.memory S.first (Err r) → Gives S.memory (then S.first S.second) (Err r) }
+pub fn stages_give<E, Y, Z, S: Stages<E, Y, Z>>()
+    ensures second { (y : Y) (answer : Result Z E) → S.first (Ok y) → Gives S.memory (S.second y) answer
+        → Gives S.memory (then S.first S.second) answer }
+    ensures first { (r : E) → Gives S.memory S.first (Err r)
+        → Gives S.memory (then S.first S.second) (Err r) }
 {}
 
 /// A stage whose reasons to stop are told by refusals.
-pub trait Reasons<R, E, G, Y> {
-    /// How refusals are compared.
-    ghost seen: { E → G };
-
+pub trait Reasons<R, E, Y> {
     /// The reason for want of memory.
     ghost memory: { R };
 
@@ -46,7 +43,8 @@ pub trait Reasons<R, E, G, Y> {
 }
 
 /// A stage with at most one answer has so when its reasons are told by refusals, and its call gives it.
-pub fn reasons_are_told<R, E, G, Y, S: Reasons<R, E, G, Y>>()
-    ensures single { IsSingle S.stage → IsSingleAs S.seen (refused_by S.told S.stage) }
-    ensures given { (answer : Result Y R) → Gives S.memory S.stage answer → Gives (S.told S.memory) (refused_by S.told S.stage) (map_err S.told answer) }
+pub fn reasons_are_told<R, E, Y, S: Reasons<R, E, Y>>()
+    ensures single { IsSingle S.stage → IsSingle (refused_by S.told S.stage) }
+    ensures given { (answer : Result Y R) → Gives S.memory S.stage answer
+        → Gives (S.told S.memory) (refused_by S.told S.stage) (map_err S.told answer) }
 {}

@@ -3,7 +3,7 @@ use Rattle.std.proofs.Common.{◌≡◌, ℕ, zero, suc, ◌<◌, ◌^◌, inl, 
 use Rattle.std.proofs.lemmas.List.{length-map}
 use Rattle.std.specs.Prelude.{IfOk, IfErr}
 use Rattle.std.specs.List.{AllByRecursion}
-use Rattle.answers.specs.Answers.{Gives, IsSingleAs}
+use Rattle.answers.specs.Answers.{Gives, IsSingle}
 use Rattle.game_core.specs.declared.too_large.TooLarge.{TooLarge}
 use Rattle.game_core.specs.declared.too_large.What.{What}
 use Rattle.game_core.specs.declared.too_large.What.TheVariants as what
@@ -21,12 +21,12 @@ use Rattle.efg_reader.specs.declared.fault.EfgStop.TheVariants as stops
 use Rattle.efg_reader.specs.declared.nodes.Stop.{Stop}
 use Rattle.efg_reader.specs.declared.nodes.Stop.TheVariants.{Refused, Passed}
 use Rattle.efg_reader.specs.States.{RefusesNodes}
-use Rattle.efg_reader.specs.Stops.{IsPassed, IsStopOf, kind_in_nodes, IsNodesStopOf, tree_in, but_for_kind}
+use Rattle.efg_reader.specs.Stops.{IsPassed, IsStopOf, kind_in_nodes, IsNodesStopOf, tree_in}
 use Rattle.tree_files.specs.TreeFile.{IsTreeFile, PassesLimit}
 use Rattle.tree_files.specs.TreeReading.{Head}
 use Rattle.tree_files.specs.TreeParsing.{parse_head, parse_all_nodes, in_nodes, parse_tree}
 use Rattle.tree_files.specs.TreeFaults.{IsFile}
-use Rattle.tree_files.specs.FaultKinds.{IsFault, part_of_kind}
+use Rattle.tree_files.specs.FaultKinds.{IsFault}
 use Rattle.written_trees.proofs.BegunTrees.{whole_is_tree}
 use Rattle.tree_files.proofs.FileLaws.{read_is_file, met_is_passed, no_front_is_nothing, no_nodes_are_nothing, one_tree, not_passed, one_limit}
 use Rattle.tree_files.proofs.Heads.{value_head, head_front}
@@ -119,7 +119,7 @@ made_tree (Err stop) tokens tree e m f = inl m
 
 -- ---- faults of a source
 -- at most one
-pub one_fault_at : (tokens : TokenList) (kind other : EfgKind) (at place : ℕ) → IsFault tokens kind at → IsFault tokens other place → (part_of_kind kind ≡ part_of_kind other) × (at ≡ place)
+pub one_fault_at : (tokens : TokenList) (kind other : EfgKind) (at place : ℕ) → IsFault tokens kind at → IsFault tokens other place → (kind ≡ other) × (at ≡ place)
 one_fault_at tokens kind other at place f g =
     let same = one_fault (bare tokens) kind other f.0 g.0 f.1 g.1 in
     (same.0, f.2 ∙ ap (λ (q : List Token). place_of tokens (length q)) same.1 ∙ sym g.2)
@@ -156,14 +156,14 @@ passed-same tokens one other (inr h) (inl k) = let same = one_limit tokens what.
 same_stop : (at place : ℕ) (kind other : EfgKind) → at ≡ place → kind ≡ other → stops.Fault (record { at = at; kind = kind }) ≡ stops.Fault (record { at = place; kind = other })
 same_stop at place kind other a k = ap (λ at. stops.Fault (record { at = at; kind = kind })) a ∙ ap (λ kind. stops.Fault (record { at = place; kind = kind })) k
 
-pub tree_in-single : (tokens : TokenList) → IsSingleAs but_for_kind (tree_in tokens)
+pub tree_in-single : (tokens : TokenList) → IsSingle (tree_in tokens)
 tree_in-single tokens (Ok one) (Ok other) h k = ap Ok (one_tree (bare tokens) one other h k)
 tree_in-single tokens (Ok one) (Err (stops.Fault fault)) h k = absurd (no_fault_of_file tokens fault.kind fault.at (one, h) k.0)
 tree_in-single tokens (Ok one) (Err (stops.TooLarge limit)) h k = absurd (no_limit (bare tokens) one limit h k)
 tree_in-single tokens (Err (stops.Fault fault)) (Ok other) h k = absurd (no_fault_of_file tokens fault.kind fault.at (other, k) h.0)
 tree_in-single tokens (Err (stops.Fault fault)) (Err (stops.Fault next)) h k =
     let same = one_fault_at tokens fault.kind next.kind fault.at next.at h.0 k.0 in
-    ap Err (same_stop fault.at next.at (part_of_kind fault.kind) (part_of_kind next.kind) same.1 same.0)
+    ap Err (same_stop fault.at next.at fault.kind next.kind same.1 same.0)
 tree_in-single tokens (Err (stops.Fault fault)) (Err (stops.TooLarge limit)) h k = (let some = some_limit (bare tokens) limit k in absurd (h.1 some.0 some.1))
 tree_in-single tokens (Err (stops.TooLarge limit)) (Ok other) h k = absurd (no_limit (bare tokens) other limit k h)
 tree_in-single tokens (Err (stops.TooLarge limit)) (Err (stops.Fault fault)) h k = (let some = some_limit (bare tokens) limit h in absurd (k.1 some.0 some.1))

@@ -8,7 +8,7 @@ use Rattle.game_core.specs.declared.too_large.What.TheVariants.{Nodes, Depth}
 use Rattle.game_tokens.specs.TokenList.{TokenList, bare}
 use Rattle.game_tokens.specs.declared.token.Token.{Token}
 use Rattle.tree_files.specs.TreeFile.{IsTreeFile, PassesLimit}
-use Rattle.tree_files.specs.FaultKinds.{IsFault, part_of_kind}
+use Rattle.tree_files.specs.FaultKinds.{IsFault}
 use Rattle.tree_files.specs.declared.fault.EfgKind.{EfgKind}
 use Rattle.tree_files.specs.declared.fault.EfgKind.TheVariants.{Unfinished}
 use Rattle.file_parts.specs.Reading.{place_of}
@@ -30,18 +30,13 @@ too_deep = record { what = Depth; count = 1025; limit = 1024 }
 abbrev pub IsPassed : List Token → TooLarge → Type 0
 IsPassed tokens limit = ((limit ≡ too_many_nodes) × PassesLimit tokens Nodes) ⊎ ((limit ≡ too_deep) × PassesLimit tokens Depth)
 
--- The tree of a file, within the limits of trees. A fault comes with its place, and with its kind as far as the definition says it,
--- where the tokens have one and pass no limit; a limit comes where it is passed.
+-- The tree of a file, within the limits of trees. A fault comes with its place and its kind, where the tokens have one and pass no
+-- limit; a limit comes where it is passed.
 abbrev pub tree_in : TokenList → Answer EfgStop GameTree
 tree_in tokens (Ok tree) = IsTreeFile (bare tokens) tree
 tree_in tokens (Err (stops.Fault fault)) = IsFault tokens fault.kind fault.at × ((what : What) → PassesLimit (bare tokens) what → ⊥)
 tree_in tokens (Err (stops.TooLarge limit)) = IsPassed (bare tokens) limit
 tree_in tokens (Err stops.Memory) = ⊥
-
--- a stop, where the kinds among the nodes are one, but the end's
-abbrev pub but_for_kind : EfgStop → EfgStop
-but_for_kind (stops.Fault fault) = stops.Fault (record { at = fault.at; kind = part_of_kind fault.kind })
-but_for_kind stop = stop
 
 -- the stop that a refusal of a part becomes
 abbrev pub IsStopOf : Refusal EfgKind → TokenList → EfgStop → Type 0

@@ -1,15 +1,15 @@
 // Reads a tree from the tokens of a file.
 ghost use Rattle.std.specs.Prelude.{ℕ, ◌≡◌, ◌⊎◌, ◌<◌, ◌^◌, length, map, IfOk, IfErr};
-ghost use Rattle.answers.specs.Answers.{Gives, IsSingleAs};
+ghost use Rattle.answers.specs.Answers.{Gives, IsSingle};
 ghost use Rattle.game_core.specs.Tree.{IsTree};
 ghost use Rattle.written_trees.specs.Described.{or_empty};
 ghost use Rattle.written_trees.specs.Building.{finished_set, finished_outcome, tree_begun};
 ghost use Rattle.tree_uses.specs.Uses.{begun_set, begun_outcome};
 ghost use Rattle.efg_reader.specs.States.{begun_of};
 ghost use Rattle.tree_files.specs.TreeFaults.{IsFile};
-ghost use Rattle.tree_files.specs.FaultKinds.{IsFault, part_of_kind};
+ghost use Rattle.tree_files.specs.FaultKinds.{IsFault};
 ghost use Rattle.tree_files.specs.declared.fault.EfgKind.{EfgKind};
-ghost use Rattle.efg_reader.specs.Stops.{IsStopOf, IsNodesStopOf, tree_in, but_for_kind};
+ghost use Rattle.efg_reader.specs.Stops.{IsStopOf, IsNodesStopOf, tree_in};
 ghost use Rattle.efg_reader.specs.declared.fault.EfgStop.TheVariants.{Memory};
 ghost use Rattle.game_tokens.specs.TokenList.{TokenList, bare};
 ghost use Rattle.game_tokens.specs.InPlace.{IsShortToken};
@@ -127,15 +127,18 @@ pub fn read(alloc: Global, tokens: &Tokens) -> Result<Tree, EfgStop>
     }
 }
 
-/// The tokens of a source have one answer at most, with the place of a fault, but for its kind among the nodes.
+/// The tokens of a source have one answer at most.
 pub fn trees_are_single()
-    ensures { (tokens : TokenList) → IsSingleAs but_for_kind (tree_in tokens) }
+    ensures { (tokens : TokenList) → IsSingle (tree_in tokens) }
 {}
 
-/// The tokens of a source have one fault at most, but for its kind among the nodes; they have none where they are a file
-/// of a tree, and one where they are none. (There are fewer than 2^32 of them.)
+/// The tokens of a source have one fault at most; they have none where they are a file of a tree, and one where they are
+/// none. (There are fewer than 2^32 of them.)
 pub fn faults_are_single()
-    ensures one { (tokens : TokenList) (kind other : EfgKind) (at place : ℕ) → IsFault tokens kind at → IsFault tokens other place → (part_of_kind kind ≡ part_of_kind other) × (at ≡ place) }
-    ensures of_no_file { (tokens : TokenList) (kind : EfgKind) (at : ℕ) → IsFile (bare tokens) → IsFault tokens kind at → ⊥ }
-    ensures of_others { (tokens : TokenList) → length tokens.list < 2 ^ 32 → IsFile (bare tokens) ⊎ ((kind : EfgKind) × (at : ℕ) × IsFault tokens kind at) }
+    ensures one { (tokens : TokenList) (kind other : EfgKind) (at place : ℕ) → IsFault tokens kind at
+        → IsFault tokens other place → (kind ≡ other) × (at ≡ place) }
+    ensures of_no_file { (tokens : TokenList) (kind : EfgKind) (at : ℕ) → IsFile (bare tokens)
+        → IsFault tokens kind at → ⊥ }
+    ensures of_others { (tokens : TokenList) → length tokens.list < 2 ^ 32
+        → IsFile (bare tokens) ⊎ ((kind : EfgKind) × (at : ℕ) × IsFault tokens kind at) }
 {}

@@ -1,7 +1,7 @@
 -- Each stage has at most one answer.
-use Rattle.std.proofs.Common.{ℕ, ◌≡◌, ◌<◌, ◌∙◌, sym, ap, refl, Bool, true, false, List, [], length, slice_index_or}
-use Rattle.answers.specs.Answers.{IsSingle, IsSingleAs, refuse_where, only, refused_by}
-use Rattle.answers.proofs.Answers.{bind-single, by_case-single, only-single, refuse_where-single, refused_by-single, single-as, single-less}
+use Rattle.std.proofs.Common.{ℕ, ◌<◌, Bool, true, false, List, [], length, slice_index_or}
+use Rattle.answers.specs.Answers.{IsSingle, refuse_where, only, refused_by}
+use Rattle.answers.proofs.Answers.{bind-single, by_case-single, only-single, refuse_where-single, refused_by-single}
 use Rattle.game_core.specs.Table.{game_of as game_of_table}
 use Rattle.game_core.specs.Tree.{GameTree}
 use Rattle.game_core.specs.TreeGame.{game_of_tree}
@@ -11,9 +11,7 @@ use Rattle.game_text.specs.Stops.{tokens_of}
 use Rattle.game_text.proofs.Single.{tokens_of-single}
 use Rattle.nfg_reader.specs.Stops.{table_in}
 use Rattle.nfg_reader.proofs.Single.{table_in-single}
-use Rattle.efg_reader.specs.Stops.{tree_in, but_for_kind}
-use Rattle.efg_reader.specs.declared.fault.EfgStop.{EfgStop}
-use Rattle.efg_reader.specs.declared.fault.EfgStop.TheVariants as efg_stop
+use Rattle.efg_reader.specs.Stops.{tree_in}
 use Rattle.efg_reader.proofs.FileStops.{tree_in-single}
 use Rattle.reduced_form.specs.ReducedForm.{ReducedForm}
 use Rattle.reduced_form.specs.Stops.{form_of}
@@ -28,61 +26,52 @@ use Rattle.gambit_tools.specs.Told.{text_refusal, nfg_refusal, efg_refusal, form
 use Rattle.gambit_tools.specs.Games.{BeginsAsTree, tokens_in, tree_game, table_game, game_of, game_in}
 use Rattle.gambit_tools.specs.Enumpure.{form_text, enumpure}
 use Rattle.gambit_tools.specs.Commands.{tool_of, answer_of}
-use Rattle.gambit_tools.specs.Origins.{forget}
 use Rattle.gambit_tools.specs.declared.refusal.Refusal.TheVariants as refusal
 use Rattle.game_tokens.specs.TokenList.{TokenList, bare}
 
 -- ---- games
-tokens_in-single : (bytes : List ℕ) → IsSingleAs forget (tokens_in bytes)
+tokens_in-single : (bytes : List ℕ) → IsSingle (tokens_in bytes)
 tokens_in-single bytes =
-    bind-single forget (refuse_where (most_bytes < length bytes) refusal.TooLong) (λ _. refused_by text_refusal (tokens_of bytes))
-    (refuse_where-single forget (most_bytes < length bytes) refusal.TooLong)
-    (λ _ _. refused_by-single forget text_refusal (tokens_of bytes) (single-as (λ stop. forget (text_refusal stop)) (tokens_of bytes) (tokens_of-single bytes)))
+    bind-single (refuse_where (most_bytes < length bytes) refusal.TooLong) (λ _. refused_by text_refusal (tokens_of bytes))
+    (refuse_where-single (most_bytes < length bytes) refusal.TooLong)
+    (λ _ _. refused_by-single text_refusal (tokens_of bytes) (tokens_of-single bytes))
 
--- a stop is told as one without the kind of a fault among the nodes
-efg_told : (stop : EfgStop) → forget (efg_refusal stop) ≡ efg_refusal (but_for_kind stop)
-efg_told (efg_stop.Fault fault) = refl
-efg_told (efg_stop.TooLarge limit) = refl
-efg_told efg_stop.Memory = refl
-
-table_game-single : (tokens : TokenList) → IsSingleAs forget (table_game tokens)
+table_game-single : (tokens : TokenList) → IsSingle (table_game tokens)
 table_game-single tokens =
-    bind-single forget (refused_by nfg_refusal (table_in tokens)) (λ table. only (Strategic table))
-    (refused_by-single forget nfg_refusal (table_in tokens) (single-as (λ stop. forget (nfg_refusal stop)) (table_in tokens) (table_in-single tokens)))
-    (λ table _. only-single forget (Strategic table))
+    bind-single (refused_by nfg_refusal (table_in tokens)) (λ table. only (Strategic table))
+    (refused_by-single nfg_refusal (table_in tokens) (table_in-single tokens))
+    (λ table _. only-single (Strategic table))
 
-tree_game-single : (tokens : TokenList) → IsSingleAs forget (tree_game tokens)
+tree_game-single : (tokens : TokenList) → IsSingle (tree_game tokens)
 tree_game-single tokens =
-    bind-single forget (refused_by efg_refusal (tree_in tokens)) (λ tree. only (Extensive tree))
-    (refused_by-single forget efg_refusal (tree_in tokens) (single-less but_for_kind (λ stop. forget (efg_refusal stop)) (tree_in tokens)
-    (λ one other e. efg_told one ∙ ap efg_refusal e ∙ sym (efg_told other)) (tree_in-single tokens)))
-    (λ tree _. only-single forget (Extensive tree))
+    bind-single (refused_by efg_refusal (tree_in tokens)) (λ tree. only (Extensive tree))
+    (refused_by-single efg_refusal (tree_in tokens) (tree_in-single tokens))
+    (λ tree _. only-single (Extensive tree))
 
-game_in-single : (bytes : List ℕ) → IsSingleAs forget (game_in bytes)
+game_in-single : (bytes : List ℕ) → IsSingle (game_in bytes)
 game_in-single bytes =
-    bind-single forget (tokens_in bytes) game_of (tokens_in-single bytes)
-    (λ tokens _. by_case-single forget (BeginsAsTree (bare tokens)) (tree_game tokens) (table_game tokens) (λ _. tree_game-single tokens) (λ _. table_game-single tokens))
+    bind-single (tokens_in bytes) game_of (tokens_in-single bytes)
+    (λ tokens _. by_case-single (BeginsAsTree (bare tokens)) (tree_game tokens) (table_game tokens) (λ _. tree_game-single tokens) (λ _. table_game-single tokens))
 
 -- ---- the tool `enumpure`
 form_text-single : (strategic : Bool) (tree : GameTree) (form : ReducedForm) → IsSingle (form_text strategic tree form)
 form_text-single true tree form = pure_text-single (game_of_table form.table)
 form_text-single false tree form = within_text_limit-single (IsTreeEquilibriaText (game_of_tree tree) form.choices) (text-determined (game_of_tree tree) form.choices)
 
-enumpure-single : (strategic : Bool) (game : Game) → IsSingleAs forget (enumpure strategic game)
-enumpure-single strategic (Strategic table) =
-    refused_by-single forget list_refusal (pure_text (game_of_table table)) (single-as (λ stop. forget (list_refusal stop)) (pure_text (game_of_table table)) (pure_text-single (game_of_table table)))
+enumpure-single : (strategic : Bool) (game : Game) → IsSingle (enumpure strategic game)
+enumpure-single strategic (Strategic table) = refused_by-single list_refusal (pure_text (game_of_table table)) (pure_text-single (game_of_table table))
 enumpure-single strategic (Extensive tree) =
-    bind-single forget (refused_by form_refusal (form_of tree)) (λ form. refused_by list_refusal (form_text strategic tree form))
-    (refused_by-single forget form_refusal (form_of tree) (single-as (λ stop. forget (form_refusal stop)) (form_of tree) (form_of-single tree)))
-    (λ form _. refused_by-single forget list_refusal (form_text strategic tree form) (single-as (λ stop. forget (list_refusal stop)) (form_text strategic tree form) (form_text-single strategic tree form)))
+    bind-single (refused_by form_refusal (form_of tree)) (λ form. refused_by list_refusal (form_text strategic tree form))
+    (refused_by-single form_refusal (form_of tree) (form_of-single tree))
+    (λ form _. refused_by-single list_refusal (form_text strategic tree form) (form_text-single strategic tree form))
 
 -- ---- commands
 -- each tool that is built has a line
-tool_of-single : (command : Command) (game : Game) → IsSingleAs forget (tool_of command game)
+tool_of-single : (command : Command) (game : Game) → IsSingle (tool_of command game)
 tool_of-single (Enumpure strategic file) game = enumpure-single strategic game
 tool_of-single _ game = λ one other h k. absurd h
 
-pub answer_of-single : (command : Command) (contents : List (List ℕ)) → IsSingleAs forget (answer_of command contents)
+pub answer_of-single : (command : Command) (contents : List (List ℕ)) → IsSingle (answer_of command contents)
 answer_of-single command contents =
     let bytes = slice_index_or contents 0 [] in
-    bind-single forget (game_in bytes) (tool_of command) (game_in-single bytes) (λ game _. tool_of-single command game)
+    bind-single (game_in bytes) (tool_of command) (game_in-single bytes) (λ game _. tool_of-single command game)

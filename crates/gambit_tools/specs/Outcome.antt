@@ -1,7 +1,6 @@
 -- What a run does: what it answers and why, what it reads and writes, and what it tells on standard error.
 use Rattle.std.specs.Prelude.{ℕ, ◌+◌, ◌<◌, ◌≤◌, ◌≡◌, ◌⊎◌, true, List, [], ◌∷◌, length, take, Contains, Option, None, Some, Ok, Err, Result}
 use Rattle.std.specs.Result.{result_err}
-use Rattle.answers.specs.Answers.{map_err}
 use Rattle.outside.specs.Counts.{Rose}
 use Rattle.outside.specs.Inputs.{InputName, InputsSeen}
 use Rattle.outside.specs.Sink.{SinkSeen, Takes}
@@ -10,7 +9,7 @@ use Rattle.words.specs.declared.Usage.{Usage}
 use Rattle.gambit_tools.specs.Seen.{Outside, Seen, but_for_err}
 use Rattle.gambit_tools.specs.Input.{AreBytesOf, IsOpenFault, IsReadFault, IsReadToEnd, IsReadTooFar, CountsTell}
 use Rattle.gambit_tools.specs.Commands.{inputs_of, answer_of}
-use Rattle.gambit_tools.specs.Origins.{Origin, Words, Outside as OfOutside, Length, Contents, Memory, Fault, Opening, Reading, Writing, origin, forget}
+use Rattle.gambit_tools.specs.Origins.{Origin, Words, Outside as OfOutside, Length, Contents, Memory, Fault, Opening, Reading, Writing, origin}
 use Rattle.gambit_tools.specs.Refusals.{run_status, refusal_line}
 use Rattle.gambit_tools.specs.declared.refusal.Refusal.{Refusal}
 use Rattle.gambit_tools.specs.declared.refusal.Refusal.TheVariants as refusal
@@ -147,7 +146,7 @@ IsExact words before after answer =
     (command : Command) → command_from words ≡ Ok command
     → (contents : List (List ℕ)) → AreToldContents before.inputs.held (inputs_of command) contents → NoFault before after
     → (answer ≡ Err refusal.Memory)
-    ⊎ (answer_of command contents answer × ((other : RunAnswer) → answer_of command contents other → map_err forget answer ≡ map_err forget other))
+    ⊎ (answer_of command contents answer × ((other : RunAnswer) → answer_of command contents other → answer ≡ other))
 
 -- Where then the contents are not refused, the text is written whole, unless memory runs out.
 abbrev pub IsComplete : List (List ℕ) → Outside → Outside → ℕ → Type 0

@@ -1,14 +1,13 @@
 // The top call.
 ghost use Rattle.std.specs.Prelude.{option_map, ◌≡◌, ℕ, ◌<◌, ◌≤◌, ◌⊎◌, List, [], ◌∷◌, Option, None, Some, length, map, string_bytes, IfOk, IfErr};
 ghost use Rattle.std.specs.Result.{result_err};
-ghost use Rattle.answers.specs.Answers.{map_ok, IsSingleAs};
+ghost use Rattle.answers.specs.Answers.{map_ok, IsSingle};
 ghost use Rattle.outside.specs.Inputs.{InputName};
 ghost use Rattle.words.specs.Words.{Command, command_of, command_from, IsBuilt};
 ghost use Rattle.gambit_tools.specs.Seen.{outside, seen};
 ghost use Rattle.gambit_tools.specs.Input.{CountsTell};
 ghost use Rattle.gambit_tools.specs.Refusals.{status_of, IsToldAs, NamesNumbers};
 ghost use Rattle.gambit_tools.specs.Commands.{answer_of};
-ghost use Rattle.gambit_tools.specs.Origins.{forget};
 ghost use Rattle.gambit_tools.specs.Outcome.{RunAnswer, Tells, TakesLine, IsComputed, IsRunOf, IsOutcome, IsComplete};
 ghost use Rattle.gambit_tools.specs.declared.refusal.Refusal.{Refusal};
 
@@ -137,8 +136,7 @@ pub fn run<R: Threads + Sync, I: Inputs, K: Sink, E: Sink, G: Gate>(
     }
 }
 
-/// The contents of a command's inputs have at most one answer, but for the kind that a fault in a file of a tree has
-/// among the nodes.
+/// The contents of a command's inputs have at most one answer.
 pub fn answers_are_single()
-    ensures { (command : Command) (contents : List (List ℕ)) → IsSingleAs forget (answer_of command contents) }
+    ensures { (command : Command) (contents : List (List ℕ)) → IsSingle (answer_of command contents) }
 {}

@@ -1,5 +1,5 @@
 -- A first list of actions of chance is read token by token: where its probabilities stop, they can go on to the sum 1.
-use Rattle.std.proofs.Common.{◌≡◌, ℕ, suc, ◌+◌, ◌≤◌, ◌<◌, ◌^◌, nat_le, List, [], ◌∷◌, ◌++◌, length, true, if◌then◌else◌, ◌⊎◌, inl, inr, pos, lit<, refl, sym, ap, ◌∙◌, subst, arith}
+use Rattle.std.proofs.Common.{◌≡◌, ℕ, suc, ◌+◌, ◌<◌, ◌^◌, nat_le, List, [], ◌∷◌, ◌++◌, length, true, if◌then◌else◌, ◌⊎◌, inl, inr, pos, lit<, refl, sym, ap, ◌∙◌, subst, arith}
 use Rattle.std.specs.Prelude.{Result, Ok, Err}
 use Rattle.rational.specs.Rational.{ℚ, ◌+ℚ◌, ◌≤ℚ◌, zero_ℚ, one_ℚ}
 use Rattle.rational.specs.Tests.{le_test, eq_ℚ}
@@ -35,14 +35,14 @@ record IsReached (sum : ℚ) : Type 0 where
   pub fits : sum.den < 2 ^ 127
 
 -- what a probability that may come is
-record MayCome (sum prob next : ℚ) : Type 0 where
+pub record MayCome (sum prob next : ℚ) : Type 0 where
   pub not_negative : zero_ℚ ≤ℚ prob
   pub fits : AddFits sum prob
   pub is : next ≡ sum +ℚ prob
   pub within : next ≤ℚ one_ℚ
 
 -- the sum with it
-may_come : (set : ℕ) (sum prob next : ℚ) → sum_with set sum prob ≡ Ok next → MayCome sum prob next
+pub may_come : (set : ℕ) (sum prob next : ℚ) → sum_with set sum prob ≡ Ok next → MayCome sum prob next
 unfolding sum_with
 may_come set sum prob next e = elim (cases_Bool (add_test sum prob)) [
   | inl a ↦ elim (cases_Bool (le_test zero_ℚ prob)) [

@@ -95,7 +95,7 @@ set_part_reader k sets owner g F G N T =
     (bind_reader (λ tokens. wanted Node tokens (positive_at tokens)) (λ label tokens. behind_set k sets owner g label tokens) positive_reader (λ _ label _. behind_set_reader k sets owner g F G N T label))
 
 -- ---- players
-player_token : (players : ℕ) (t : Token) → ((x : ℕ) × ((rest : List Token) → parse_player players (t ∷ rest) ≡ Ok (x, rest))) ⊎ ((k : EfgKind) × ((rest : List Token) → parse_player players (t ∷ rest) ≡ Err (k, t ∷ rest)))
+pub player_token : (players : ℕ) (t : Token) → ((x : ℕ) × ((rest : List Token) → parse_player players (t ∷ rest) ≡ Ok (x, rest))) ⊎ ((k : EfgKind) × ((rest : List Token) → parse_player players (t ∷ rest) ≡ Err (k, t ∷ rest)))
 unfolding parse_player
 player_token players t = elim (whole_is_head.by_token t) [
   | inl y ↦ elim (cases_Bool (nat_le 1 y.0 && nat_le y.0 players)) [

@@ -27,7 +27,7 @@ use Rattle.std.proofs.lemmas.Bool.{cases_Bool}
 use Rattle.lists.proofs.Elements.{all_at}
 
 -- ---- a choice
-value_player : (players : ℕ) (tokens : List Token) → value (parse_player players tokens) ≡ player_at players tokens
+pub value_player : (players : ℕ) (tokens : List Token) → value (parse_player players tokens) ≡ player_at players tokens
 unfolding parse_player player_at
 value_player players tokens = elim (some_or_none (whole_at tokens)) [
   | inl p ↦ rw p.1 (value_if (nat_le 1 p.0.0 && nat_le p.0.0 players) (Ok (p.0.0 - 1, p.0.1)) (Err (UnknownPlayer, tokens)) (Some (p.0.0 - 1, p.0.1)) None refl refl)

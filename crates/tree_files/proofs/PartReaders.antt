@@ -51,22 +51,22 @@ same_prob_reader prob = token_reader (parse_same prob) (record {
   by_token = same_token prob;
 })
 
-probability_reader : (owner : Option ℕ) (prob : ℚ) → IsReader (parse_probability owner prob)
+pub probability_reader : (owner : Option ℕ) (prob : ℚ) → IsReader (parse_probability owner prob)
 probability_reader None prob = same_prob_reader prob
 probability_reader (Some i) prob = pure_reader tt
 
 -- an action that is repeated
-repeated_reader : (owner : Option ℕ) (action : Action) → IsReader (parse_repeated owner action)
+pub repeated_reader : (owner : Option ℕ) (action : Action) → IsReader (parse_repeated owner action)
 unfolding parse_repeated
 repeated_reader owner action = bind_reader name_again (λ _ tokens. parse_probability owner action.prob tokens) name_reader (λ _ _ _. probability_reader owner action.prob)
 
 -- actions that are repeated
-all_repeated_reader : (owner : Option ℕ) (actions : List Action) → IsReader (parse_all_repeated owner actions)
+pub all_repeated_reader : (owner : Option ℕ) (actions : List Action) → IsReader (parse_all_repeated owner actions)
 all_repeated_reader owner [] = pure_reader tt
 all_repeated_reader owner (action ∷ actions) = bind_reader (parse_repeated owner action) (λ _ tokens. parse_all_repeated owner actions tokens) (repeated_reader owner action) (λ _ _ _. all_repeated_reader owner actions)
 
 -- the brace behind them
-abbrev list_end : List Token → Parsed EfgKind (Unit {0})
+abbrev pub list_end : List Token → Parsed EfgKind (Unit {0})
 list_end tokens = passed (if has_text tokens then SetMismatch else Node) tokens (right_at tokens)
 
 list_end_token : (t : Token) → ((x : Unit {0}) × ((rest : List Token) → list_end (t ∷ rest) ≡ Ok (x, rest))) ⊎ ((k : EfgKind) × ((rest : List Token) → list_end (t ∷ rest) ≡ Err (k, t ∷ rest)))
@@ -74,7 +74,7 @@ list_end_token Right = inl (tt, λ rest. refl)
 list_end_token (Text text) = inr (SetMismatch, λ rest. refl)
 list_end_token _ = inr (Node, λ rest. refl)
 
-list_end_reader : IsReader list_end
+pub list_end_reader : IsReader list_end
 list_end_reader = token_reader list_end (record { token = Right; value = tt; is_read = λ rest. refl; kind = Node; at_end = refl; by_token = list_end_token })
 
 -- a later list
@@ -146,7 +146,7 @@ number_token (Number value) = inl (value, λ rest. refl)
 number_token Right = inr (OutcomeMismatch, λ rest. refl)
 number_token _ = inr (Node, λ rest. refl)
 
-payoff_reader : (i : ℕ) → IsReader (parse_payoff i)
+pub payoff_reader : (i : ℕ) → IsReader (parse_payoff i)
 payoff_reader i =
     started number_here (token_reader number_here (record { token = Number zero_ℚ; value = zero_ℚ; is_read = λ rest. refl; kind = Node; at_end = refl; by_token = number_token })) (λ rest y e. ok_err y (Node, Comma ∷ rest) (sym e)) i
 
@@ -156,7 +156,7 @@ end_token Right = inl (tt, λ rest. refl)
 end_token (Number value) = inr (OutcomeMismatch, λ rest. refl)
 end_token _ = inr (Node, λ rest. refl)
 
-payoffs_end_reader : IsReader parse_payoffs_end
+pub payoffs_end_reader : IsReader parse_payoffs_end
 payoffs_end_reader = token_reader parse_payoffs_end (record { token = Right; value = tt; is_read = λ rest. refl; kind = Node; at_end = refl; by_token = end_token })
 
 -- payoffs of a first use
@@ -205,7 +205,7 @@ unfolding parse_same_payoff tested
 same_payoff_reader i payoff = same_reader (parse_same_payoff i payoff) (λ tokens. same_number payoff (payoff_start i tokens)) (λ tokens. tested_is payoff (payoff_start i tokens)) (started (same_number payoff) (same_number_reader payoff) (no_comma_number payoff) i)
 
 -- payoffs that are repeated
-same_payoffs_reader : (i : ℕ) (payoffs : List ℚ) → IsReader (parse_same_payoffs i payoffs)
+pub same_payoffs_reader : (i : ℕ) (payoffs : List ℚ) → IsReader (parse_same_payoffs i payoffs)
 same_payoffs_reader i [] = pure_reader tt
 same_payoffs_reader i (payoff ∷ payoffs) = bind_reader (parse_same_payoff i payoff) (λ _ tokens. parse_same_payoffs (suc i) payoffs tokens) (same_payoff_reader i payoff) (λ _ _ _. same_payoffs_reader (suc i) payoffs)
 

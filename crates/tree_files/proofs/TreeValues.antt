@@ -1,5 +1,5 @@
 -- Reading parts of a tree with places of faults gives what reading them without places does.
-use Rattle.std.proofs.Common.{◌≡◌, ℕ, suc, ◌-◌, Bool, true, false, if◌then◌else◌, nat_eq, List, [], ◌∷◌, ◌++◌, length, map, slice_get, slice_set, Option, Some, None, ◌⊎◌, inl, inr, All, refl, sym, ap, ◌∙◌, one-add}
+use Rattle.std.proofs.Common.{◌≡◌, ℕ, suc, Bool, true, false, if◌then◌else◌, nat_eq, List, [], ◌∷◌, ◌++◌, length, map, slice_get, slice_set, Option, Some, None, ◌⊎◌, inl, inr, All, refl, sym, ap, ◌∙◌, one-add}
 use Rattle.std.proofs.lemmas.List.{length-map}
 use Rattle.std.specs.Prelude.{Ok, Err}
 use Rattle.std.specs.List.{position_or_len}
@@ -138,7 +138,7 @@ found_passes {A} p (y ∷ ys) x e = elim (cases_Bool (p y)) [
 ]
 
 -- a set that is found by a key has it
-found_key : (sets : List BegunSet) (key : SetKey) (set : BegunSet) → slice_get sets (set_place sets key) ≡ Some set → key ≡ key_of_begun set
+pub found_key : (sets : List BegunSet) (key : SetKey) (set : BegunSet) → slice_get sets (set_place sets key) ≡ Some set → key ≡ key_of_begun set
 found_key sets key set e = (same_set-Decides key (key_of_begun set)).0 (found_passes (λ s. same_set key (key_of_begun s)) sets set e)
 
 -- a use and what follows it
@@ -212,7 +212,7 @@ value_same_payoffs i (payoff ∷ payoffs) tokens = elim (some_or_none (number_at
   | inr none ↦ rw none refl
 ]
 
-value_repeated_payoffs : (payoffs : List ℚ) (inner : List Token) → value (parse_repeated_payoffs payoffs (Left ∷ inner)) ≡ ((payoffs_repeated_at 0 payoffs inner >>= right_at) >>= mark)
+pub value_repeated_payoffs : (payoffs : List ℚ) (inner : List Token) → value (parse_repeated_payoffs payoffs (Left ∷ inner)) ≡ ((payoffs_repeated_at 0 payoffs inner >>= right_at) >>= mark)
 unfolding parse_repeated_payoffs
 value_repeated_payoffs payoffs inner =
     value_chain (parse_same_payoffs 0 payoffs inner) (payoffs_repeated_at 0 payoffs inner >>= mark) _ (λ x. right_at x.1 >>= mark) (value_same_payoffs 0 payoffs inner) (λ x. value_mark (if has_number x.1 then OutcomeMismatch else Node) x.1 (right_at x.1))

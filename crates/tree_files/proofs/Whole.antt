@@ -8,7 +8,6 @@ use Rattle.game_core.specs.Tree.{GameTree, Place, most_nodes}
 use Rattle.game_tokens.specs.declared.token.Token.{Token}
 use Rattle.game_tokens.specs.declared.token.Token.TheVariants.{Comma}
 use Rattle.file_parts.specs.Reading.{ends}
-use Rattle.file_parts.specs.Parsing.{◌>>=◌}
 use Rattle.file_parts.proofs.Readers.{reads_alone, bind_ok, bind_err, ok_same, err_same, ok_err, same_test, same_first, same_rest, same_front, both_cons, not_empty, cut}
 use Rattle.written_trees.specs.Written.{WrittenNode}
 use Rattle.written_trees.specs.Building.{Begun, BegunSet, BegunOutcome, nothing_begun, add_nodes, tree_begun, free_places}
@@ -44,7 +43,7 @@ ended : (x : Begun × List Token) (begun : Begun) → at_end x ≡ Ok begun → 
 ended (one, []) begun e = ap (λ (b : Begun). (b, [])) (ok_same one begun e)
 ended (one, t ∷ rest) begun e = absurd (ok_err begun (Trailing, t ∷ rest) (sym e))
 
-no_fault : {X : Type 0} (o : Result X (EfgKind × List Token)) (x : X) → in_nodes o ≡ Ok x → o ≡ Ok x
+pub no_fault : {X : Type 0} (o : Result X (EfgKind × List Token)) (x : X) → in_nodes o ≡ Ok x → o ≡ Ok x
 no_fault (Ok y) x e = e
 no_fault {X} (Err (kind, [])) x e = absurd (ok_err {A = X} x (Unfinished, []) (sym e))
 no_fault {X} (Err (kind, t ∷ rest)) x e = absurd (ok_err {A = X} x (kind, t ∷ rest) (sym e))
@@ -80,13 +79,17 @@ file_is_read tokens tree f =
 pub few_players : (tokens : List Token) (x : Head × List Token) → length tokens < 2 ^ 32 → parse_head tokens ≡ Ok x → length x.0.1 < 2 ^ 32
 few_players tokens x short e = let h = head_is tokens x e in omega (arith, h.few, short)
 
--- what is read is a file
-pub read_is_file : (tokens : List Token) (tree : GameTree) → length tokens < 2 ^ 32 → parse_tree tokens ≡ Ok tree → IsTreeFile tokens tree
+-- what is read is a file, where there are few players
+pub few_is_file : (tokens : List Token) (tree : GameTree) → ((x : Head × List Token) → parse_head tokens ≡ Ok x → length x.0.1 < 2 ^ 32) → parse_tree tokens ≡ Ok tree → IsTreeFile tokens tree
 unfolding parse_tree
-read_is_file tokens tree short e =
+few_is_file tokens tree few e =
     let a = bind_ok (parse_head tokens) _ tree e in
     let b = bind_ok (in_nodes (parse_all_nodes (length a.0.0.1) a.0.1)) _ tree a.2 in
-    subst (IsTreeFile tokens) (ok_same _ _ b.2) (is_file_of tokens a.0 b.0 (few_players tokens a.0 short a.1) (head_front tokens a.0 a.1) (whole_same (length a.0.0.1) a.0.1 b.0 (no_fault (parse_all_nodes (length a.0.0.1) a.0.1) b.0 b.1)))
+    subst (IsTreeFile tokens) (ok_same _ _ b.2) (is_file_of tokens a.0 b.0 (few a.0 a.1) (head_front tokens a.0 a.1) (whole_same (length a.0.0.1) a.0.1 b.0 (no_fault (parse_all_nodes (length a.0.0.1) a.0.1) b.0 b.1)))
+
+-- what is read is a file
+pub read_is_file : (tokens : List Token) (tree : GameTree) → length tokens < 2 ^ 32 → parse_tree tokens ≡ Ok tree → IsTreeFile tokens tree
+read_is_file tokens tree short e = few_is_file tokens tree (λ x h. few_players tokens x short h) e
 
 -- ---- begun files
 -- a head and nodes are a begun file
@@ -238,12 +241,12 @@ inner_fault {X} (Err (other, t ∷ r)) kind rest e =
     (other, ap (λ (q : List Token). Err (other, q)) (sym all), inr (sym (ap (λ (z : EfgKind × List Token). z.0) same), t, r, all))
 
 -- where nodes stop behind a head
-pub body_stops : (tokens : List Token) (x : Head × List Token) (kind : EfgKind) (rest : List Token) → length tokens < 2 ^ 32 → parse_head tokens ≡ Ok x → parse_all_nodes (length x.0.1) x.1 ≡ Err (kind, rest) → (¬ (IsFile tokens)) → (h : ReadsHead tokens x) × (s : Stops tokens rest) × (inner : List Token) × (s.before ≡ h.front ++ inner)
-body_stops tokens x kind rest short e f none = by (suc (length x.1) + most_nodes) (omega arith) (omega arith)
+pub body_stops : (tokens : List Token) (x : Head × List Token) (kind : EfgKind) (rest : List Token) → length x.0.1 < 2 ^ 32 → parse_head tokens ≡ Ok x → parse_all_nodes (length x.0.1) x.1 ≡ Err (kind, rest) → (¬ (IsFile tokens)) → (h : ReadsHead tokens x) × (s : Stops tokens rest) × (inner : List Token) × (s.before ≡ h.front ++ inner)
+body_stops tokens x kind rest few e f none = by (suc (length x.1) + most_nodes) (omega arith) (omega arith)
   where
     by : (most : ℕ) → suc (length x.1) ≤ most → most_nodes ≤ most → (h : ReadsHead tokens x) × (s : Stops tokens rest) × (inner : List Token) × (s.before ≡ h.front ++ inner)
     by most steps limit =
         let h = head_is tokens x e in
         let m = all_nodes_stop most (length x.0.1) x.1 kind rest steps f in
-        let s = nodes_stops most tokens x m.0 rest h (few_players tokens x short e) limit m.1 (λ _. none) in
+        let s = nodes_stops most tokens x m.0 rest h few limit m.1 (λ _. none) in
         (h, s.0, s.1, s.2)

@@ -23,7 +23,6 @@ use Rattle.tree_files.specs.TreeReading.{positive_at}
 use Rattle.tree_files.specs.TreeParsing.{bare_use, parse_first_list, parse_later_list, parse_use, parse_set}
 use Rattle.tree_files.specs.declared.fault.EfgKind.{EfgKind}
 use Rattle.tree_files.specs.declared.fault.EfgKind.TheVariants.{Node}
-use Rattle.lists.specs.Options.{◌>>=◌}
 use Rattle.game_tokens.specs.declared.token.Token.{Token}
 
 -- ---- places

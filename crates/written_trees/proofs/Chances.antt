@@ -40,7 +40,7 @@ record EndWithOne (sum : ℚ) (actions : List Action) : Type 0 where
   sum_is_one : sum +ℚ sum_to (length actions) (probability_at actions) ≡ one_ℚ
 
 -- a first probability goes to the sum of those before it
-sum_onward : (sum : ℚ) (n : ℕ) (f : ℕ → ℚ) → sum +ℚ sum_to (suc n) f ≡ (sum +ℚ f 0) +ℚ sum_to n (λ i. f (suc i))
+pub sum_onward : (sum : ℚ) (n : ℕ) (f : ℕ → ℚ) → sum +ℚ sum_to (suc n) f ≡ (sum +ℚ f 0) +ℚ sum_to n (λ i. f (suc i))
 sum_onward sum n f = ap (λ x. sum +ℚ x) (sum_to-first n f) ∙ sym (+ℚ_assoc sum (f 0) (sum_to n (λ i. f (suc i))))
 
 -- probabilities that are not negative make no sum less
