@@ -1,7 +1,7 @@
 -- A form has one program, or one reason why it has none.
 use Rattle.std.proofs.Common.{◌≡◌, ◌∙◌, ◌<◌, List, [], ◌∷◌, ◌++◌, All, Ok, Err, refl, sym, ap, ap₂, subst}
-use Rattle.answers.specs.Answers.{Answer, ◌>>◌, IsSingle, IsSingleAs, refuse_where, refused_by}
-use Rattle.answers.proofs.Answers.{bind-single, refuse_where-single, refused_by-single, single-as}
+use Rattle.answers.specs.Answers.{◌>>◌, IsSingle, refuse_where, refused_by}
+use Rattle.answers.proofs.Answers.{bind-single, refuse_where-single, refused_by-single}
 use Rattle.linear_programs.specs.Programs.{program_of}
 use Rattle.linear_systems.proofs.Agreement.{alike_sym, alike_trans}
 use Rattle.lex_tableau.specs.Starts.{Parts, system_of}
@@ -12,7 +12,6 @@ use Rattle.pure_payoffs.proofs.FirstUnfits.{all_fit-single, front_has, front_one
 use Rattle.sequence_forms.specs.Prices.{gains}
 use Rattle.sequence_data.specs.declared.types.Leaf.{Leaf}
 use Rattle.sequence_data.specs.Data.{FormData, form, side_of}
-use Rattle.zero_sum_lp.specs.declared.stop.LpStop.{LpStop}
 use Rattle.zero_sum_lp.specs.declared.stop.LpStop.TheVariants as stops
 use Rattle.zero_sum_lp.specs.declared.stop.NotConstant.{NotConstant}
 use Rattle.zero_sum_lp.specs.FormPrograms.{AreFirstApart, IsSystemOf, ProgramsAreSingle, gain_steps, gains_in, is_constant, size_of, start_in, start_of, started, sum_at, sum_steps, sums_in, told_start, too_many_rows}
@@ -66,25 +65,13 @@ module _ (f : FormData) where
       started-single g.0 one other (subst (λ s. started f s one) (one_system h.0 g.0 h.1.0 g.1.0) h.1.1) g.1.1
 
 -- ---- all stages
--- a stage is single where its refusals are seen whole
-seen_whole : {Y : Type 0} (p : Answer LpStop Y) → IsSingleAs (λ r. r) p → IsSingle p
-seen_whole p s (Ok a) (Ok b) h k = s (Ok a) (Ok b) h k
-seen_whole p s (Ok a) (Err r) h k = s (Ok a) (Err r) h k
-seen_whole p s (Err r) (Ok b) h k = s (Err r) (Ok b) h k
-seen_whole p s (Err r) (Err q) h k = s (Err r) (Err q) h k
-
-module _ {S Y : Type 0} (told : S → LpStop) (p : Answer S Y) where
-  told-single : IsSingle p → IsSingleAs (λ r. r) (refused_by told p)
-  told-single s = refused_by-single (λ r. r) told p (single-as told p s)
-
 pub programs_single : ProgramsAreSingle
 programs_single f =
     let constant = refused_by stops.NotConstant (is_constant f.leaves) in
     let numbers = gains_in f.least_one f.cells in
     let size = refuse_where (512 < size_of f) (stops.TooLarge (too_many_rows f)) in
-    seen_whole (size >> (sums_in f.leaves >> (constant >> (numbers >> start_in f))))
-    (bind-single (λ r. r) size (λ _. sums_in f.leaves >> (constant >> (numbers >> start_in f))) (refuse_where-single (λ r. r) (512 < size_of f) (stops.TooLarge (too_many_rows f)))
-    (λ _ _. bind-single (λ r. r) (sums_in f.leaves) (λ _. constant >> (numbers >> start_in f)) (told-single (λ stop. stops.SumRange stop.0.place stop.1) _ (all_fit-single sum_steps f.leaves))
-    (λ _ _. bind-single (λ r. r) constant (λ _. numbers >> start_in f) (told-single stops.NotConstant _ (is_constant-single f.leaves))
-    (λ _ _. bind-single (λ r. r) numbers (λ _. start_in f) (told-single (λ stop. stops.GainRange stop.0.row stop.0.column stop.1) _ (all_fit-single (gain_steps f.least_one) f.cells))
-    (λ _ _. told-single told_start _ (start_of-single f))))))
+    bind-single size (λ _. sums_in f.leaves >> (constant >> (numbers >> start_in f))) (refuse_where-single (512 < size_of f) (stops.TooLarge (too_many_rows f)))
+    (λ _ _. bind-single (sums_in f.leaves) (λ _. constant >> (numbers >> start_in f)) (refused_by-single (λ stop. stops.SumRange stop.0.place stop.1) _ (all_fit-single sum_steps f.leaves))
+    (λ _ _. bind-single constant (λ _. numbers >> start_in f) (refused_by-single stops.NotConstant _ (is_constant-single f.leaves))
+    (λ _ _. bind-single numbers (λ _. start_in f) (refused_by-single (λ stop. stops.GainRange stop.0.row stop.0.column stop.1) _ (all_fit-single (gain_steps f.least_one) f.cells))
+    (λ _ _. refused_by-single told_start _ (start_of-single f)))))
