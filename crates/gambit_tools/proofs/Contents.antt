@@ -15,22 +15,19 @@ use Rattle.efg_reader.specs.Stops.{tree_in}
 use Rattle.efg_reader.specs.declared.fault.EfgStop.{EfgStop}
 use Rattle.efg_reader.specs.declared.fault.EfgStop.TheVariants as efg_stop
 use Rattle.reduced_form.specs.ReducedForm.{ReducedForm}
-use Rattle.reduced_form.specs.Stops.{form_of}
-use Rattle.reduced_form.specs.declared.stop.ReduceStop.{ReduceStop}
-use Rattle.reduced_form.specs.declared.stop.ReduceStop.TheVariants as reduce_stop
 use Rattle.enumpure.specs.Stops.{within_text_limit}
 use Rattle.enumpure.specs.declared.listing.ListStop.{ListStop}
 use Rattle.enumpure.specs.declared.listing.ListStop.TheVariants as list_stop
 use Rattle.words.specs.Words.{Command, Enumpure, Lp}
 use Rattle.gambit_tools.specs.Input.{most_bytes}
-use Rattle.gambit_tools.specs.Told.{text_refusal, nfg_refusal, efg_refusal, form_refusal, list_refusal}
+use Rattle.gambit_tools.specs.Told.{text_refusal, nfg_refusal, efg_refusal, list_refusal}
 use Rattle.gambit_tools.specs.Games.{game_of, game_in}
 use Rattle.gambit_tools.specs.Enumpure.{form_text, enumpure}
 use Rattle.gambit_tools.specs.Commands.{tool_of}
 use Rattle.gambit_tools.specs.Origins.{Contents, origin}
 use Rattle.gambit_tools.specs.declared.refusal.Refusal.{Refusal}
 use Rattle.gambit_tools.specs.declared.refusal.Refusal.TheVariants as refusal
-use Rattle.gambit_tools.proofs.LpContents.{lp-origin}
+use Rattle.gambit_tools.proofs.LpContents.{form_origin, lp-origin}
 
 text_origin : (bytes : List ℕ) (stop : TextStop) → tokens_of bytes (Err stop) → origin (text_refusal stop) ≡ Contents
 text_origin bytes (text_stop.Fault fault) h = refl
@@ -45,11 +42,6 @@ tree_origin : (tokens : TokenList) (stop : EfgStop) → tree_in tokens (Err stop
 tree_origin tokens (efg_stop.Fault fault) h = refl
 tree_origin tokens (efg_stop.TooLarge limit) h = refl
 tree_origin tokens efg_stop.Memory h = absurd h
-
-form_origin : (tree : GameTree) (stop : ReduceStop) → form_of tree (Err stop) → origin (form_refusal stop) ≡ Contents
-form_origin tree (reduce_stop.TooLarge limit) h = refl
-form_origin tree (reduce_stop.Range profile player step) h = refl
-form_origin tree reduce_stop.Memory h = absurd h
 
 list_origin : (P : List ℕ → Type 0) (stop : ListStop) → within_text_limit P (Err stop) → origin (list_refusal stop) ≡ Contents
 list_origin P (list_stop.TooLarge limit) h = refl

@@ -62,10 +62,10 @@ recall-contents : (t : GameTree) (stop : RecallStop) → recall_of t (Err stop) 
 recall-contents t (recall_stop.Forgets f) h = refl
 recall-contents t recall_stop.Memory h = absurd h
 
-reduced-contents : (t : GameTree) (stop : ReduceStop) → form_of t (Err stop) → origin (form_refusal stop) ≡ Contents
-reduced-contents t (reduce_stop.TooLarge limit) h = refl
-reduced-contents t (reduce_stop.Range profile player step) h = refl
-reduced-contents t reduce_stop.Memory h = absurd h
+pub form_origin : (tree : GameTree) (stop : ReduceStop) → form_of tree (Err stop) → origin (form_refusal stop) ≡ Contents
+form_origin tree (reduce_stop.TooLarge limit) h = refl
+form_origin tree (reduce_stop.Range profile player step) h = refl
+form_origin tree reduce_stop.Memory h = absurd h
 
 tree_form-contents : (t : GameTree) (stop : SeqStop) → tree_form t (Err stop) → origin (sequence_refusal stop) ≡ Contents
 tree_form-contents t (sequence_stop.NotTwoPlayers count) h = refl
@@ -115,7 +115,7 @@ form_in-contents true (Strategic t) = form_of_table-contents t
 form_in-contents false (Strategic t) = form_of_table-contents t
 form_in-contents true (Extensive t) =
     then-contents (refused_by form_refusal (form_of t)) (λ form. form_of_table size_of_program form.table)
-    (told-contents form_refusal (form_of t) (reduced-contents t)) (λ form. form_of_table-contents form.table)
+    (told-contents form_refusal (form_of t) (form_origin t)) (λ form. form_of_table-contents form.table)
 form_in-contents false (Extensive t) = form_of_tree-contents t
 
 -- ---- the solution

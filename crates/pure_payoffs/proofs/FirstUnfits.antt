@@ -21,6 +21,15 @@ front_one P (x ∷ xs) [] r q one other e f g h k = (let same : x ≡ other = cc
 front_one P (x ∷ xs) (y ∷ ys) r q one other e f g h k =
     (let rest : xs ++ one ∷ r ≡ ys ++ other ∷ q = cc in front_one P xs ys r q one other rest (λ j d l. f (suc j) d (omega arith)) (λ j d l. g (suc j) d (omega arith)) h k)
 
+-- steps have one first step that does not fit
+pub unfit_once : (steps : List Step) (one other : Step) → IsFirstUnfit steps one → IsFirstUnfit steps other → one ≡ other
+unfit_once steps one other h g =
+    front_one StepFits h.before g.before h.behind g.behind one other (sym h.is_there ∙ g.is_there) h.earlier_fit g.earlier_fit h.does_not_fit g.does_not_fit
+
+-- there is none among steps that fit
+pub unfit_among : (steps : List Step) (step : Step) → IsFirstUnfit steps step → All StepFits steps → ⊥
+unfit_among steps step h fit = h.does_not_fit (front_has StepFits h.before h.behind step (subst (All StepFits) h.is_there fit))
+
 -- of two lists of steps that begin in the same way
 pub unfit_begins : (steps more : List Step) (one other : Step) → IsFirstUnfit steps one → IsFirstUnfit (steps ++ more) other → one ≡ other
 unfit_begins steps more one other h g =

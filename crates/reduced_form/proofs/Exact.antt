@@ -1,5 +1,5 @@
 -- A tree has one reduced form, or one reason at most why it has none.
-use Rattle.std.proofs.Common.{ℕ, suc, ◌+◌, ◌*◌, ◌/◌, ◌%◌, ◌<◌, ◌≤◌, ◌≡◌, ◌⊎◌, inl, inr, Ok, Err, List, [], ◌∷◌, ◌++◌, length, map, get_or, All, sym, ap, ap₂, ◌∙◌, subst, arith}
+use Rattle.std.proofs.Common.{ℕ, ◌+◌, ◌*◌, ◌/◌, ◌%◌, ◌<◌, ◌≤◌, ◌≡◌, ◌⊎◌, inl, inr, Ok, Err, List, [], length, map, get_or, sym, ap, ap₂, ◌∙◌, subst, arith}
 use Rattle.std.proofs.Math.Nat.{mod-lt, mul_comm}
 use Rattle.std.proofs.lemmas.Nat.{div_below, div-add-mod'}
 use Rattle.std.proofs.lemmas.Bool.{cases_lt}
@@ -15,7 +15,8 @@ use Rattle.reduced_strategies.proofs.StrategyOrder.{strategies-determined}
 use Rattle.game_core.specs.Table.{GameTable, most_payoffs}
 use Rattle.game_core.specs.Tree.{GameTree}
 use Rattle.game_core.specs.TreeGame.{game_of_tree}
-use Rattle.pure_payoffs.specs.Steps.{Step, StepFits, IsFirstUnfit}
+use Rattle.pure_payoffs.specs.Steps.{Step, IsFirstUnfit}
+use Rattle.pure_payoffs.proofs.FirstUnfits.{unfit_among, unfit_once}
 use Rattle.reduced_form.specs.Limits.{payoff_count, choice_count, most_choices, cell_steps, AreFew, AllFit, IsFirstUnfitAt}
 use Rattle.reduced_form.specs.ReducedForm.{ReducedForm, IsReducedForm, strategy_name}
 use Rattle.reduced_form.specs.Stops.{HasTooManyPayoffs, HasTooManyChoices, IsReason, form_of}
@@ -28,28 +29,6 @@ pub strategies-same : (t : Tree) (one other : List (List (List ℕ))) → AreStr
 strategies-same t one other a b = ext_get_or [] one other (a.one_for_each ∙ sym b.one_for_each) (λ i l.
     strategies-determined t i (get_or one i []) (get_or other i []) (a.are_reduced i (get_or one i []) (slice_get-get_or one i [] l))
     (b.are_reduced i (get_or other i []) (slice_get-get_or other i [] (omega (arith, a.one_for_each, b.one_for_each)))))
-
--- ---- steps
--- of all steps each fits
-all-has : (before behind : List Step) (step : Step) → All StepFits (before ++ step ∷ behind) → StepFits step
-all-has [] behind step h = h 0 step (omega arith)
-all-has (x ∷ before) behind step h = all-has before behind step (λ k d l. h (suc k) d (omega arith))
-
--- a first unfit step is not among steps that fit
-unfit-among : (steps : List Step) (step : Step) → IsFirstUnfit steps step → All StepFits steps → ⊥
-unfit-among steps step h fit = h.does_not_fit (all-has h.before h.behind step (subst (All StepFits) h.is_there fit))
-
--- the first unfit steps of two fronts of one list are the same
-fronts-same : (xs ys r q : List Step) (one other : Step) → xs ++ one ∷ r ≡ ys ++ other ∷ q → All StepFits xs → All StepFits ys → (StepFits one → ⊥) → (StepFits other → ⊥) → one ≡ other
-fronts-same [] [] r q one other e f g h k = cc
-fronts-same [] (y ∷ ys) r q one other e f g h k = (let same : one ≡ y = cc in absurd (h (subst StepFits (sym same) (g 0 y (omega arith)))))
-fronts-same (x ∷ xs) [] r q one other e f g h k = (let same : x ≡ other = cc in absurd (k (subst StepFits same (f 0 x (omega arith)))))
-fronts-same (x ∷ xs) (y ∷ ys) r q one other e f g h k =
-    (let rest : xs ++ one ∷ r ≡ ys ++ other ∷ q = cc in fronts-same xs ys r q one other rest (λ j d l. f (suc j) d (omega arith)) (λ j d l. g (suc j) d (omega arith)) h k)
-
--- steps have one first unfit step
-first_unfit-same : (steps : List Step) (one other : Step) → IsFirstUnfit steps one → IsFirstUnfit steps other → one ≡ other
-first_unfit-same steps one other h g = fronts-same h.before g.before h.behind g.behind one other (sym h.is_there ∙ g.is_there) h.earlier_fit g.earlier_fit h.does_not_fit g.does_not_fit
 
 -- ---- cells
 -- two cells: one before the other, or the same
@@ -71,10 +50,10 @@ cells_compare k i m j = elim (cases_lt k m) [
 -- a form has one first unfit step
 first_unfit_at-same : (t : Tree) (strategies : List (List (List ℕ))) (k i m j : ℕ) (one other : Step) → IsFirstUnfitAt t strategies k i one → IsFirstUnfitAt t strategies m j other → (k ≡ m) × (i ≡ j) × (one ≡ other)
 first_unfit_at-same t strategies k i m j one other h g = elim (cells_compare k i m j) [
-  | inl before ↦ absurd (unfit-among (cell_steps t strategies k i) one h.is_first (g.earlier_fit k i h.is_profile h.is_player before))
+  | inl before ↦ absurd (unfit_among (cell_steps t strategies k i) one h.is_first (g.earlier_fit k i h.is_profile h.is_player before))
   | inr rest ↦ elim rest [
-    | inl after ↦ absurd (unfit-among (cell_steps t strategies m j) other g.is_first (h.earlier_fit m j g.is_profile g.is_player after))
-    | inr same ↦ (same.0, same.1, first_unfit-same (cell_steps t strategies m j) one other (subst (λ x. IsFirstUnfit (cell_steps t strategies x j) one) same.0 (subst (λ x. IsFirstUnfit (cell_steps t strategies k x) one) same.1 h.is_first)) g.is_first)
+    | inl after ↦ absurd (unfit_among (cell_steps t strategies m j) other g.is_first (h.earlier_fit m j g.is_profile g.is_player after))
+    | inr same ↦ (same.0, same.1, unfit_once (cell_steps t strategies m j) one other (subst (λ x. IsFirstUnfit (cell_steps t strategies x j) one) same.0 (subst (λ x. IsFirstUnfit (cell_steps t strategies k x) one) same.1 h.is_first)) g.is_first)
   ]
 ]
 
@@ -111,7 +90,7 @@ reason-no_form t strategies (stops.TooLarge l) (inl h) a few fit = many-few t st
 reason-no_form t strategies (stops.TooLarge l) (inr h) a few fit = choices-few t strategies h.0 a few.few_choices
 reason-no_form t strategies (stops.Range k i s) h a few fit =
     (let moved = subst (λ x. IsFirstUnfitAt t x k i s) (strategies-same t h.strategies strategies h.are_strategies a) h.is_first in
-    unfit-among (cell_steps t strategies k i) s moved.is_first (fit k i moved.is_profile moved.is_player))
+    unfit_among (cell_steps t strategies k i) s moved.is_first (fit k i moved.is_profile moved.is_player))
 
 -- ---- forms
 -- payoffs are told by profile and player

@@ -2,7 +2,6 @@
 use Rattle.std.proofs.Common.{ℕ, zero, suc, ◌<◌, ◌≤◌, ◌≡◌, ◌+◌, inl, inr, All, List, [], Ok, Err, length, sym, ap, ◌∙◌, subst, arith}
 use Rattle.std.proofs.lemmas.Bool.{cases_eq, cases_lt}
 use Rattle.std.proofs.lemmas.List.{ext_get_or}
-use Rattle.std.proofs.lemmas.List.Elements.{All-nil, All-append}
 use Rattle.rational.specs.Rational.{ℚ, ◌+ℚ◌, ◌-ℚ◌, zero_ℚ, one_ℚ}
 use Rattle.rational.specs.Sum.{sum_to}
 use Rattle.rational.proofs.Sums.{sum_to-same}
@@ -10,8 +9,7 @@ use Rattle.linear_systems.proofs.LexRow.{below_cases}
 use Rattle.linear_programs.specs.Plans.{IsLesser}
 use Rattle.linear_programs.proofs.Plans.{each_sequence, lesser_once}
 use Rattle.pure_payoffs.specs.Steps.{Step, StepFits, IsFirstUnfit}
-use Rattle.pure_payoffs.proofs.FirstUnfits.{unfit_begins, unfit_excludes}
-use Rattle.pure_payoffs.proofs.Runs.{first_unfit-more}
+use Rattle.pure_payoffs.proofs.FirstUnfits.{unfit_among, unfit_once}
 use Rattle.sequence_forms.specs.Sides.{Side, first, sequences, IsOrderedSide}
 use Rattle.sequence_data.specs.Data.{IsSideData, side_of}
 use Rattle.sequence_data.specs.Weights.{weight}
@@ -22,13 +20,6 @@ use Rattle.zero_sum_lp.specs.PlanSteps.{AreWeights, IsRaisedTo, IsUnfitRaise, Is
 use Rattle.zero_sum_lp.specs.PlanStops.{IsFirstPlan, IsSecondPlan, IsUnfitFirst, IsUnfitSecond, PlansAreSingle}
 use Rattle.zero_sum_lp.proofs.Optima.{sets_are}
 use Rattle.zero_sum_lp.proofs.PlanLists.{rest_same, rest_unfit}
-
--- ---- steps
-unfit_once : (ss : List Step) (e u : Step) → IsFirstUnfit ss e → IsFirstUnfit ss u → e ≡ u
-unfit_once ss e u h g = unfit_begins ss [] e u h (first_unfit-more ss [] u g)
-
-fits_or_not : (ss : List Step) (e : Step) → All StepFits ss → IsFirstUnfit ss e → ⊥
-fits_or_not ss e f h = unfit_excludes ss [] e h (All-append StepFits ss [] f (All-nil StepFits))
 
 -- ---- set by set
 -- a side with its first n sets
@@ -61,7 +52,7 @@ module _ (d : Side) (o : IsOrderedSide d) (x : ℕ → ℚ) where
   -- where a plan is raised at a set, the set has no step that does not fit
   raise_goes_on : (n : ℕ) (z : ℕ → ℚ) (e : Step) → IsRaisedTo d n x z → (u : IsUnfitRaise d x e) → u.set < n → ⊥
   raise_goes_on n z e r u l =
-      fits_or_not (set_raise_steps d x u.plan u.set) e (subst (All StepFits) (raise_steps_agree n u.set u.set z u.plan r u.raised u.within (omega (arith, l)) (omega arith)) (r.fits u.set l)) u.first_unfit
+      unfit_among (set_raise_steps d x u.plan u.set) e u.first_unfit (subst (All StepFits) (raise_steps_agree n u.set u.set z u.plan r u.raised u.within (omega (arith, l)) (omega arith)) (r.fits u.set l))
 
   unfit_raise_once : (e f : Step) → IsUnfitRaise d x e → IsUnfitRaise d x f → e ≡ f
   unfit_raise_once e f u w = elim (cases_lt u.set w.set) [
@@ -93,7 +84,7 @@ module _ (w : ℚ) (x z z' : ℕ → ℚ) where
   -- shares whose steps all fit have no step that does not
   share_goes_on : (n : ℕ) (e : Step) → IsSharedTo w x z n → IsUnfitShare w x z' n e → ⊥
   share_goes_on n e s u =
-      fits_or_not (rest_steps w z n) e s.fits (rest_unfit w z u.actions n e u.within (subst (λ ss. IsFirstUnfit ss e) (sym (share_steps u.actions (λ a l. s.shares a (let m : u.actions ≤ n = u.within in omega (arith, l))) u.shares)) u.first_unfit))
+      unfit_among (rest_steps w z n) e (rest_unfit w z u.actions n e u.within (subst (λ ss. IsFirstUnfit ss e) (sym (share_steps u.actions (λ a l. s.shares a (let m : u.actions ≤ n = u.within in omega (arith, l))) u.shares)) u.first_unfit)) s.fits
 
   share_before : (n : ℕ) (e f : Step) (u : IsUnfitShare w x z n e) (v : IsUnfitShare w x z' n f) → u.actions ≤ v.actions → e ≡ f
   share_before n e f u v l =
