@@ -30,7 +30,8 @@ use zero_sum_lp::Plans;
 
 // The weights of all sequences but the empty one, which are those of the strategies.
 fn strategies(alloc: Global, plans: &Plans) -> Result<Vec<Frac>, Memory>
-    ensures { IfOk result (λ entries. entries.items ≡ drop 1 plans.now.one ++ drop 1 plans.now.two) }
+    ensures { IfOk result (λ entries.
+        entries.items ≡ drop 1 plans.now.one ++ drop 1 plans.now.two) }
 {
     let mut entries = Vec::new(alloc);
     if let Some((_, weights)) = plans.one().split_first() {
@@ -44,7 +45,8 @@ fn strategies(alloc: Global, plans: &Plans) -> Result<Vec<Frac>, Memory>
 
 // The line of the strategies' weights.
 fn strategies_line(alloc: Global, plans: &Plans) -> Result<Vec<u8>, Memory>
-    ensures { IfOk result (λ text. text.items ≡ line_text (drop 1 plans.now.one ++ drop 1 plans.now.two)) }
+    ensures { IfOk result (λ text.
+        text.items ≡ line_text (drop 1 plans.now.one ++ drop 1 plans.now.two)) }
 {
     let entries = strategies(alloc, plans)?;
     line(alloc, &entries)
@@ -59,7 +61,9 @@ fn behaviour_line(
 ) -> Result<Vec<u8>, Refusal>
     requires form { IsTreeForm (game_of_tree tree.now) form.now }
     requires sizes { HasSizesOf form.now solved.now }
-    ensures { Gives Refusal.Memory (line_in false (Extensive tree.now) (solution_of form.now solved.now)) (map_ok result (λ text. text.items)) }
+    ensures { Gives Refusal.Memory
+        (line_in false (Extensive tree.now) (solution_of form.now solved.now))
+        (map_ok result (λ text. text.items)) }
 {
     let plans = &solved.plans;
     let behaviour = Behaviour::from_plans(alloc, tree, form, plans.one(), plans.two())?;
@@ -76,7 +80,9 @@ fn solution_line(
 ) -> Result<Vec<u8>, Refusal>
     requires form { form_in size_of_program strategic game.now (Ok form.now) }
     requires sizes { HasSizesOf form.now solved.now }
-    ensures { Gives Refusal.Memory (line_in strategic game.now (solution_of form.now solved.now)) (map_ok result (λ text. text.items)) }
+    ensures { Gives Refusal.Memory
+        (line_in strategic game.now (solution_of form.now solved.now))
+        (map_ok result (λ text. text.items)) }
 {
     match game {
         Game::Extensive(tree) if !strategic => behaviour_line(alloc, tree, form, solved),
@@ -95,7 +101,9 @@ fn solution_text(
 ) -> Result<Vec<u8>, Refusal>
     requires form { form_in size_of_program strategic game.now (Ok form.now) }
     requires sizes { HasSizesOf form.now solved.now }
-    ensures { Gives Refusal.Memory (solution_text strategic asked game.now form.now (solution_of form.now solved.now)) (map_ok result (λ text. text.items)) }
+    ensures { Gives Refusal.Memory
+        (solution_text strategic asked game.now form.now (solution_of form.now solved.now))
+        (map_ok result (λ text. text.items)) }
 {
     let mut text = solution_line(alloc, strategic, game, form, solved)?;
     let lines = price_lines(alloc, asked, form, solved)?;
@@ -103,14 +111,15 @@ fn solution_text(
     Ok(text)
 }
 
-// The text of an equilibrium of a game, with the value and prices where they are asked for.
+// The text of an equilibrium of a game, with its value and prices where they are asked for.
 fn equilibrium_text(
     alloc: Global,
     strategic: bool,
     asked: bool,
     game: &Game,
 ) -> Result<Vec<u8>, Refusal>
-    ensures { Gives Refusal.Memory (lp strategic asked game.now) (map_ok result (λ text. text.items)) }
+    ensures { Gives Refusal.Memory (lp strategic asked game.now)
+        (map_ok result (λ text. text.items)) }
 {
     two_players(game)?;
     let form = form_in(alloc, strategic, game)?;
@@ -118,8 +127,8 @@ fn equilibrium_text(
     solution_text(alloc, strategic, asked, game, &form, &solved)
 }
 
-/// Reads the game in a file, or on standard input where no file is named, and prints an equilibrium of it, with the
-/// value and the prices where they are asked for.
+/// Reads the game in a file, or on standard input where no file is named, and prints an equilibrium
+/// of it, with the value and the prices where they are asked for.
 pub fn lp<I: Inputs>(
     alloc: Global,
     strategic: bool,
@@ -135,8 +144,8 @@ pub fn lp<I: Inputs>(
     equilibrium_text(alloc, strategic, prices, &game)
 }
 
-/// Each text of `lp` prints an equilibrium of the game, which the plans of a solution have, with the value and the prices
-/// that prove it where they are asked for.
+/// Each text of `lp` is that of an equilibrium of the game, whose value the plans and prices of the
+/// same solution prove. The prices are printed where they are asked for.
 pub fn lp_texts_are_solutions()
     ensures { LpTextsAreSolutions }
 {

@@ -69,7 +69,8 @@ fn form_of_tree(alloc: Global, tree: &Tree) -> Result<SeqForm, Refusal>
     Ok(build(alloc, tree, &recall)?)
 }
 
-/// The sequence form of a game, for its linear program: of a tree by its own sequences, or by its reduced strategies.
+/// The sequence form of a game, for its linear program: of a tree by its own sequences, or by its
+/// reduced strategies.
 pub fn form_in(alloc: Global, strategic: bool, game: &Game) -> Result<SeqForm, Refusal>
     requires { players_of game.now ≡ 2 }
     ensures { Gives Refusal.Memory (form_in size_of_program strategic game.now) result }
