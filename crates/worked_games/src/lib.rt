@@ -4,11 +4,11 @@
 #[cfg(test)]
 mod case;
 #[cfg(test)]
+mod constant_sums;
+#[cfg(test)]
 mod cuts;
 #[cfg(test)]
 mod faults;
-#[cfg(test)]
-mod linear_programs;
 #[cfg(test)]
 mod pure_equilibria;
 #[cfg(test)]
