@@ -27,7 +27,8 @@ use Rattle.gambit_tools.specs.Commands.{tool_of}
 use Rattle.gambit_tools.specs.Origins.{Contents, origin}
 use Rattle.gambit_tools.specs.declared.refusal.Refusal.{Refusal}
 use Rattle.gambit_tools.specs.declared.refusal.Refusal.TheVariants as refusal
-use Rattle.gambit_tools.proofs.LpContents.{form_origin, lp-origin}
+use Rattle.gambit_tools.proofs.FormContents.{form_origin}
+use Rattle.gambit_tools.proofs.LpContents.{lp-origin}
 
 text_origin : (bytes : List ℕ) (stop : TextStop) → tokens_of bytes (Err stop) → origin (text_refusal stop) ≡ Contents
 text_origin bytes (text_stop.Fault fault) h = refl

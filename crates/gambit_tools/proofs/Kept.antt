@@ -9,7 +9,7 @@ use Rattle.game_core.specs.declared.game.Game.TheVariants.{Strategic, Extensive}
 use Rattle.game_tokens.specs.TokenList.{TokenList}
 use Rattle.written_trees.proofs.BegunTrees.{whole_is_tree}
 use Rattle.sequence_data.specs.Data.{FormData, IsFormData, IsSideData}
-use Rattle.sequence_form.specs.Counts.{size_of_program}
+use Rattle.sequence_form.specs.declared.counts.Counts.{Counts}
 use Rattle.sequence_form.proofs.Kept.{table_form-valid, tree_form-valid}
 use Rattle.zero_sum_lp.specs.FormPrograms.{program_in}
 use Rattle.zero_sum_lp.specs.Parts.{IsOptimumOf, IsProgram, Program}
@@ -38,11 +38,11 @@ game_in-valid bytes game h = game_of-valid h.0 game h.2
 
 -- ---- forms
 -- the form of a game
-pub form_in-valid : (strategic : Bool) (game : Game) (f : FormData) → TreesAreGames → IsGame game → form_in size_of_program strategic game (Ok f) → IsFormData f
-form_in-valid true (Strategic t) f laws w h = table_form-valid t f w h.2
-form_in-valid false (Strategic t) f laws w h = table_form-valid t f w h.2
-form_in-valid true (Extensive t) f laws w h = table_form-valid h.0.table f h.1.0.is_table h.2.2
-form_in-valid false (Extensive t) f laws w h = tree_form-valid (game_of_tree t) f (laws.game_tree t w) (laws.numbered t w) h.1.all_recall h.2.2
+pub form_in-valid : (rows : Counts → ℕ) (strategic : Bool) (game : Game) (f : FormData) → TreesAreGames → IsGame game → form_in rows strategic game (Ok f) → IsFormData f
+form_in-valid rows true (Strategic t) f laws w h = table_form-valid t f w h.2
+form_in-valid rows false (Strategic t) f laws w h = table_form-valid t f w h.2
+form_in-valid rows true (Extensive t) f laws w h = table_form-valid h.0.table f h.1.0.is_table h.2.2
+form_in-valid rows false (Extensive t) f laws w h = tree_form-valid (game_of_tree t) f (laws.game_tree t w) (laws.numbered t w) h.1.all_recall h.2.2
 
 -- ---- programs and optima
 -- how a form is solved: its program, the program's optimum and the plans

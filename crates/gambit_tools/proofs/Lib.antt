@@ -1,6 +1,8 @@
 pub mod Computing
 pub mod ConstantSums
 pub mod Contents
+pub mod FormContents
+pub mod FormSingles
 pub mod Kept
 pub mod LpContents
 pub mod LpSingles

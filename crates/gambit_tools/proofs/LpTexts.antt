@@ -97,5 +97,5 @@ solved_text strategic asked game text f p o plans s laws w k h same (entries, ar
 
 pub lp_texts : TreesAreGames → LpTextsAreSolutions
 lp_texts laws strategic asked game text w (_, _, (f, k, (s, (p, program, (o, optimum, (plans, planned, same))), h))) =
-    let valid : IsFormData f = form_in-valid strategic game f laws w k in
+    let valid : IsFormData f = form_in-valid size_of_program strategic game f laws w k in
     solved_text strategic asked game text f p o plans s laws w k (record { valid = valid; program = program; optimum = optimum; planned = planned }) (ok_same s (solution f o plans) same) h

@@ -27,8 +27,9 @@ use Rattle.gambit_tools.specs.Games.{BeginsAsTree, IsGame, tokens_in, tree_game,
 use Rattle.gambit_tools.specs.Enumpure.{form_text, enumpure}
 use Rattle.gambit_tools.specs.Commands.{tool_of, answer_of}
 use Rattle.gambit_tools.specs.declared.refusal.Refusal.TheVariants as refusal
+use Rattle.gambit_tools.proofs.FormSingles.{RecallsAreSingle}
 use Rattle.gambit_tools.proofs.Kept.{TreesAreGames, game_in-valid}
-use Rattle.gambit_tools.proofs.LpSingles.{RecallsAreSingle, lp-single}
+use Rattle.gambit_tools.proofs.LpSingles.{lp-single}
 use Rattle.game_tokens.specs.TokenList.{TokenList, bare}
 
 -- ---- games
