@@ -1,0 +1,3 @@
+pub mod PathEnds
+pub mod Solve
+pub mod Walk

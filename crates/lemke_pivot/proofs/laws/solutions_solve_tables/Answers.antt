@@ -1,0 +1,5 @@
+use Rattle.lemke_pivot.proofs.Solve.{solves_tables}
+use Rattle.lemke_pivot.proofs.laws.solutions_solve_tables.Goals as goal
+
+pub returns : goal.returns
+returns c = solves_tables

@@ -1,0 +1,32 @@
+use Rattle.std.proofs.Common.{refl, sym, subst}
+use Rattle.lex_tableau.specs.Rows.{Numbers, tableau}
+use Rattle.sequence_data.specs.Data.{side_of}
+use Rattle.lemke_pivot.specs.Parts.{Problem, IsLeastRow, problem_size}
+use Rattle.lemke_pivot.specs.Paths.{IsPathStart, EndsSolved, EndsUnfit}
+use Rattle.lemke_pivot.specs.Ends.{IsSolutionOf, IsUnfitStep}
+use Rattle.lemke_pivot.proofs.Solve.{path_start}
+use Rattle.lemke_pivot.proofs.lcp.Lcp.solve.Goals as goal
+
+pub walk-requires : goal.walk-requires
+walk-requires g c =
+    let i = c.self.inside in let p : Problem = record { first = i.first; second = i.second; tableau = i.work } in
+    let l : IsLeastRow (problem_size (side_of i.first) (side_of i.second)) (tableau i.work).right c.least_row-row.result =
+    subst (λ k. IsLeastRow k (tableau i.work).right c.least_row-row.result) c.self.invariant.1 (subst (λ (m : Numbers). IsLeastRow i.size (tableau m).right c.least_row-row.result) c.now.ensures.value c.least_row-row.ensures.least) in
+    record { start = subst (λ k. IsPathStart k c.least_row-row.result i.work) (sym c.self.invariant.1) (path_start p c.self.invariant.0 c.least_row-row.result l) }
+
+pub returns-in-Ok : goal.returns-in-Ok
+returns-in-Ok g c =
+    let i = c.self.inside in
+    let l : IsLeastRow (problem_size (side_of i.first) (side_of i.second)) (tableau i.work).right c.least_row-row.result =
+    subst (λ k. IsLeastRow k (tableau i.work).right c.least_row-row.result) c.self.invariant.1 (subst (λ (m : Numbers). IsLeastRow i.size (tableau m).right c.least_row-row.result) c.now.ensures.value c.least_row-row.ensures.least) in
+    let e : EndsSolved i.work (problem_size (side_of i.first) (side_of i.second)) c.least_row-row.result c.walk.new.work = subst (λ k. EndsSolved i.work k c.least_row-row.result c.walk.new.work) c.self.invariant.1 c.in-Ok.ensures.solved in
+    subst (λ (q : Problem). IsSolutionOf q (record { first = i.first; second = i.second; tableau = c.walk.new.work })) c.self.view_is (record { first = refl; second = refl; row = c.least_row-row.result; begins = l; path = e })
+
+pub returns-in-Err : goal.returns-in-Err
+returns-in-Err g c =
+    let i = c.self.inside in
+    let l : IsLeastRow (problem_size (side_of i.first) (side_of i.second)) (tableau i.work).right c.least_row-row.result =
+    subst (λ k. IsLeastRow k (tableau i.work).right c.least_row-row.result) c.self.invariant.1 (subst (λ (m : Numbers). IsLeastRow i.size (tableau m).right c.least_row-row.result) c.now.ensures.value c.least_row-row.ensures.least) in
+    let e : EndsUnfit i.work (problem_size (side_of i.first) (side_of i.second)) c.least_row-row.result c.in-Err.stop.step c.in-Err.stop.entering c.in-Err.stop.unfit =
+    subst (λ k. EndsUnfit i.work k c.least_row-row.result c.in-Err.stop.step c.in-Err.stop.entering c.in-Err.stop.unfit) c.self.invariant.1 c.in-Err.ensures.unfit in
+    subst (λ (q : Problem). IsUnfitStep q c.in-Err.stop.step c.in-Err.stop.entering c.in-Err.stop.unfit) c.self.view_is (record { row = c.least_row-row.result; begins = l; path = e })

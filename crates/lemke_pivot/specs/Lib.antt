@@ -1,0 +1,4 @@
+pub mod Ends
+pub mod Parts
+pub mod Paths
+pub mod SolutionLaws

@@ -1,0 +1,88 @@
+-- What contracts see of a problem and of its solution.
+use Rattle.std.specs.Prelude.{ℕ, suc, ◌+◌, ◌<◌, ◌≤◌, ◌≡◌, get_or}
+use Rattle.rational.specs.Rational.{ℚ, ◌≤ℚ◌, ◌<ℚ◌}
+use Rattle.linear_systems.specs.Tableau.{Tableau}
+use Rattle.linear_systems.specs.Rows.{Alike}
+use Rattle.sequence_forms.specs.Forms.{SequenceForm}
+use Rattle.sequence_forms.specs.Prices.{costs}
+use Rattle.sequence_forms.specs.Sides.{Side, sequences}
+use Rattle.complementarity.specs.Laws.{CostsAreNotNegative}
+use Rattle.complementarity.specs.Paths.{start, w_of, z_of}
+use Rattle.complementarity.specs.Problems.{costs_of, matrix, right_sides, size}
+use Rattle.complementarity.specs.Values.{value}
+use Rattle.lex_tableau.specs.Rows.{Numbers, IsTableau, tableau}
+use Rattle.lex_tableau.specs.Starts.{Parts, system_of}
+use Rattle.sequence_data.specs.Data.{SideData, IsSideData, side_of}
+
+-- both players' sides, and a tableau: of a problem the start, and of a solution the end of the path
+pub record Problem : Type 0 where
+  pub first : SideData
+  pub second : SideData
+  pub tableau : Numbers
+
+-- how many rows the problem of two sides has
+abbrev pub problem_size : Side → Side → ℕ
+problem_size rows columns =
+    sequences rows
+    + (sequences columns
+    + (suc rows.sets + (suc rows.sets + (suc columns.sets + suc columns.sets))))
+
+abbrev pub size_of : Problem → ℕ
+size_of p = problem_size (side_of p.first) (side_of p.second)
+
+-- the start of the problem of two sides with these costs
+abbrev pub start_of : Side → Side → (ℕ → ℕ → ℚ) → (ℕ → ℕ → ℚ) → Tableau
+start_of rows columns one two =
+    let s = costs_of rows columns one two in start (size s) (matrix s) (right_sides s)
+
+-- ---- what stands in the tableau
+-- the values of z: both plans, and then the prices
+abbrev pub z_values : Problem → ℕ → ℚ
+z_values p i = value (tableau p.tableau) (z_of (size_of p) i)
+
+abbrev pub plan_one : Problem → ℕ → ℚ
+plan_one p q = z_values p q
+
+abbrev pub plan_two : Problem → ℕ → ℚ
+plan_two p q = z_values p (sequences (side_of p.first) + q)
+
+-- ---- problems
+-- a system is the start of the problem of these sides, for some costs that are not negative
+pub record IsProblemSystem (first second : SideData) (s : Parts) : Type 0 where
+  pub one : ℕ → ℕ → ℚ
+  pub two : ℕ → ℕ → ℚ
+  pub costs : CostsAreNotNegative (costs_of (side_of first) (side_of second) one two)
+  pub begins : Alike (start_of (side_of first) (side_of second) one two) (system_of s)
+  pub rated : s.rated ≡ problem_size (side_of first) (side_of second)
+
+-- a tableau is the start of the problem of these sides, for some costs that are not negative
+pub record IsStartFor (first second : SideData) (n : Numbers) : Type 0 where
+  pub one : ℕ → ℕ → ℚ
+  pub two : ℕ → ℕ → ℚ
+  pub costs : CostsAreNotNegative (costs_of (side_of first) (side_of second) one two)
+  pub begins : Alike (start_of (side_of first) (side_of second) one two) (tableau n)
+  pub starts : (i : ℕ) → i < problem_size (side_of first) (side_of second)
+      → get_or n.starts i 0 ≡ w_of i
+  pub rated : n.rated ≡ problem_size (side_of first) (side_of second)
+  pub valid : IsTableau n
+
+-- a problem: both players' sides, and the start; at most 512 rows
+pub record IsProblem (p : Problem) : Type 0 where
+  pub first : IsSideData p.first
+  pub second : IsSideData p.second
+  pub few : size_of p ≤ 512
+  pub start : IsStartFor p.first p.second p.tableau
+
+-- a problem is that of a sequence form with these greatest payoffs
+pub record IsProblemOfForm (f : SequenceForm) (most_one most_two : ℚ) (p : Problem) : Type 0 where
+  pub rows : f.rows ≡ side_of p.first
+  pub columns : f.columns ≡ side_of p.second
+  pub begins :
+      Alike (start_of f.rows f.columns (costs f 0 most_one) (costs f 1 most_two))
+      (tableau p.tableau)
+
+-- the last of the rows with the least right side
+pub record IsLeastRow (n : ℕ) (b : ℕ → ℚ) (r : ℕ) : Type 0 where
+  pub within : r < n
+  pub least : (i : ℕ) → i < n → b r ≤ℚ b i
+  pub last : (i : ℕ) → r < i → i < n → b r <ℚ b i

@@ -1,0 +1,81 @@
+-- The path over whole numbers: each pivot's steps fit, and it ends where z0 is 0 or at the first
+-- step that does not fit.
+use Rattle.std.specs.Prelude.{ℕ, suc, ◌<◌, ◌≤◌, ◌≡◌, ◌≢◌, ◌-◌, ◌^◌, ◌⊎◌, ltb, cond, List, [], ◌∷◌, length, get_or}
+use Rattle.rational.specs.Rational.{ℚ, zero_ℚ}
+use Rattle.linear_systems.specs.Rows.{IsLexicographicRow, Alike}
+use Rattle.frac128.specs.declared.steps.Unfit.{Unfit}
+use Rattle.lex_tableau.specs.Rows.{Numbers, tableau, IsTableau, IsPivotOf}
+use Rattle.whole_rows.specs.Steps.{AllFit, IsFirstUnfit}
+use Rattle.lex_tableau.specs.Pivots.{steps_of_pivot}
+use Rattle.complementarity.specs.Values.{value}
+use Rattle.complementarity.specs.Problems.{IsCopositive}
+use Rattle.complementarity.specs.Paths.{w_of, z_of, z0_of, complement, start, IsFirstRow, Replaces}
+
+-- a tableau and its pivot, whose steps all fit
+pub record IsExactPivot (s : Numbers) (row col : ℕ) (t : Numbers) : Type 0 where
+  pub valid : IsTableau s
+  pub pivot : IsPivotOf s row col t
+  pub fits : AllFit (steps_of_pivot s row col)
+
+-- c enters s on its lexicographic row and l leaves; the steps of the pivot fit, and t is what it
+-- makes
+pub record ReplacesExactly (n : ℕ) (s : Numbers) (c l : ℕ) (t : Numbers) : Type 0 where
+  pub valid : IsTableau s
+  pub replaces : Replaces n (tableau s) c l (tableau t)
+  pub pivot : IsPivotOf s replaces.row replaces.col t
+  pub fits : AllFit (steps_of_pivot s replaces.row replaces.col)
+
+-- The path from m has come to t, and c is next. The list has the tableaux after the first pivot and
+-- before t, the last one first. z0 enters at row r; as long as the value of z0 is not 0, the
+-- variable that is next enters, and the complement of the one that leaves is next.
+abbrev pub ExactPathTo : Numbers → ℕ → ℕ → List Numbers → Numbers → ℕ → Type 0
+ExactPathTo m n r [] t c = IsExactPivot m r n t × (c ≡ z_of n r)
+ExactPathTo m n r (s ∷ ss) t c = (d : ℕ) × (l : ℕ) × ExactPathTo m n r ss s d
+    × (value (tableau s) (z0_of n) ≢ zero_ℚ) × ReplacesExactly n s d l t × (c ≡ complement n l)
+
+-- the path ends at t, where the value of z0 is 0
+abbrev pub EndsSolved : Numbers → ℕ → ℕ → Numbers → Type 0
+EndsSolved m n r t =
+    (earlier : List Numbers) × (c : ℕ) × ExactPathTo m n r earlier t c
+    × (value (tableau t) (z0_of n) ≡ zero_ℚ) × IsTableau t
+
+-- the greatest number of steps stands for all greater ones too
+abbrev pub saturated : ℕ → ℕ
+saturated k = cond (ltb k (2 ^ 64)) k (2 ^ 64 - 1)
+
+-- the path has come to t, where the next pivot has a step that does not fit, and e is the first
+pub record StopsAt (m : Numbers) (n r step entering : ℕ) (e : Unfit)
+    (earlier : List Numbers) (t : Numbers) : Type 0 where
+  pub path : ExactPathTo m n r earlier t entering
+  pub goes_on : value (tableau t) (z0_of n) ≢ zero_ℚ
+  pub valid : IsTableau t
+  pub col : ℕ
+  pub row : ℕ
+  pub col_in : col < (tableau t).width
+  pub entering_is : (tableau t).nonbasic col ≡ entering
+  pub chosen : IsLexicographicRow n n w_of (tableau t) col row
+  pub unfit : IsFirstUnfit (steps_of_pivot t row col) e
+  pub number : step ≡ saturated (suc (suc (length earlier)))
+
+-- A step that does not fit ends the path: in the first pivot, by which z0 enters, or in a later
+-- one. Pivots count from 1.
+abbrev pub EndsUnfit : Numbers → ℕ → ℕ → ℕ → ℕ → Unfit → Type 0
+EndsUnfit m n r step entering e =
+    ((step ≡ 1) × (entering ≡ z0_of n) × IsTableau m × IsFirstUnfit (steps_of_pivot m r n) e)
+    ⊎ ((earlier : List Numbers) × (t : Numbers) × StopsAt m n r step entering e earlier t)
+
+-- m is the start of a copositive problem with n rows, and z0 enters at row r
+pub record IsPathStart (n r : ℕ) (m : Numbers) : Type 0 where
+  pub few : n ≤ 512
+  pub matrix : ℕ → ℕ → ℚ
+  pub right : ℕ → ℚ
+  pub alike : Alike (start n matrix right) (tableau m)
+  pub copositive : IsCopositive n matrix right
+  pub first : IsFirstRow n right r
+  pub starts : (i : ℕ) → i < n → get_or m.starts i 0 ≡ w_of i
+  pub rated : m.rated ≡ n
+  pub valid : IsTableau m
+
+-- variable v is nonbasic in one of the first k columns
+abbrev pub IsNonbasic : Numbers → ℕ → ℕ → Type 0
+IsNonbasic m k v = (j : ℕ) × (j < k) × ((tableau m).nonbasic j ≡ v)

@@ -1,0 +1,24 @@
+// What the answers prove. The functions do nothing: the contract of each is a law, so that a check
+// proves it.
+ghost use Rattle.lemke_pivot.specs.Ends.{EndsAreSingle};
+ghost use Rattle.lemke_pivot.specs.SolutionLaws.{SolutionsSolveTables, SolutionsSolveTheForm, SolutionsSolveTrees};
+
+/// The plans and prices of a solution solve the form's complementarity problem.
+pub fn solutions_solve_the_form()
+    ensures { SolutionsSolveTheForm }
+{}
+
+/// On a tree the plans are an equilibrium.
+pub fn solutions_solve_trees()
+    ensures { SolutionsSolveTrees }
+{}
+
+/// And so on a table.
+pub fn solutions_solve_tables()
+    ensures { SolutionsSolveTables }
+{}
+
+/// A problem's path has one end: the solution, or the first step that does not fit.
+pub fn ends_are_single()
+    ensures { EndsAreSingle }
+{}

@@ -1,0 +1,201 @@
+// The problem and its path.
+ghost use Rattle.std.specs.Prelude.{◌≡◌, ◌+◌, ◌<◌, ◌≤◌, ◌^◌, length, true, false, IfOk, IfErr, OnOk};
+ghost use Rattle.rational.specs.Rational.{◌<ℚ◌, ◌≤ℚ◌};
+ghost use Rattle.sequence_data.specs.Data.{IsSideData, side_of};
+ghost use Rattle.sequence_forms.specs.Sides.{sequences};
+ghost use Rattle.lex_tableau.specs.Rows.{IsTableau, tableau};
+ghost use Rattle.lex_tableau.specs.Starts.{IsStartOf, StartFits};
+ghost use Rattle.lex_tableau.specs.StartStops.{IsStartStop};
+ghost use Rattle.lemke_pivot.specs.Ends.{IsEndOf};
+ghost use Rattle.lemke_pivot.specs.Parts.{IsLeastRow, IsProblemSystem, plan_one, plan_two, problem_size};
+
+use crate::path::walk;
+use frac128::{Frac, Unfit};
+use lex_tableau::{StartStop, Steps, System, Tableau, Work};
+use sequence_data::Side;
+use std::alloc::Global;
+use std::marker::Model;
+use std::sync::ledger::Ledger;
+
+/// The complementarity problem of two players' plans: their sets, and the start of the path with
+/// the room of its pivots.
+#[derive(Debug, Drop)]
+pub struct Lcp {
+    first: Side,
+    second: Side,
+    size: usize,
+    work: Work,
+}
+
+impl Model for Lcp {
+    ghost use Rattle.std.specs.Prelude.{◌≡◌};
+    ghost use Rattle.sequence_data.specs.Data.{side_of};
+    ghost use Rattle.lemke_pivot.specs.Parts.{IsProblem, Problem, problem_size};
+
+    ghost Value = { Problem };
+
+    ghost view = { λ l. record { first = l.first; second = l.second; tableau = l.work } };
+
+    ghost invariant = { λ l.
+        IsProblem (record { first = l.first; second = l.second; tableau = l.work })
+        × (l.size ≡ problem_size (side_of l.first) (side_of l.second)) };
+}
+
+/// A solution: both players' sets, and the end of the path, where the plans stand.
+#[derive(Debug, Drop)]
+pub struct Solution {
+    first: Side,
+    second: Side,
+    size: usize,
+    work: Work,
+}
+
+impl Model for Solution {
+    ghost use Rattle.std.specs.Prelude.{◌≡◌, ◌≤◌};
+    ghost use Rattle.sequence_data.specs.Data.{IsSideData, side_of};
+    ghost use Rattle.lemke_pivot.specs.Parts.{Problem, problem_size};
+
+    ghost Value = { Problem };
+
+    ghost view = { λ s. record { first = s.first; second = s.second; tableau = s.work } };
+
+    ghost invariant = { λ s.
+        IsSideData s.first × (s.size ≤ 512)
+        × (s.size ≡ problem_size (side_of s.first) (side_of s.second)) };
+}
+
+/// The end of the path: the solution, or the first step that does not fit, with the number of its
+/// pivot, counted from 1, and the entering variable. The number 2^64 - 1 also stands for every
+/// later pivot.
+#[derive(Debug, Drop)]
+pub enum LemkeEnd {
+    Solved(Solution),
+    Range {
+        step: u64,
+        entering: u32,
+        unfit: Unfit,
+    },
+}
+
+// Whether the first fraction is less.
+fn is_less(left: Frac, right: Frac) -> bool
+    ensures less { result ≡ true → left <ℚ right }
+    ensures otherwise { result ≡ false → right ≤ℚ left }
+{
+    left.cmp(right).is_lt()
+}
+
+// The last of the rows with the least right side.
+fn least_row(table: &Tableau, size: usize) -> usize
+    requires some { 0 < size }
+    requires rows { length table.now.basics ≡ size }
+    ensures least { IsLeastRow size (tableau table.now).right result }
+    ensures valid { IsTableau table.now }
+{
+    let mut best = 0;
+    let mut least = table.right(0);
+    for row in 1..size {
+        let right = table.right(row);
+        if is_less(least, right) {
+            continue;
+        }
+        best = row;
+        least = right;
+    }
+    best
+}
+
+/// How many rows the problem of two players has.
+pub(crate) fn row_count(first: &Side, second: &Side) -> u64
+    requires first_side { IsSideData first.now }
+    requires second_side { IsSideData second.now }
+    ensures { result ≡ problem_size (side_of first.now) (side_of second.now) }
+{
+    let sets = first.sets().len() as u64 + second.sets().len() as u64;
+    first.sequences() as u64 + second.sequences() as u64 + 2 * (sets + 2)
+}
+
+impl Lcp {
+    /// The problem of two players' sets with a system, and the room of its path.
+    ///
+    /// # Errors
+    ///
+    /// Those of `Work::new`.
+    pub(crate) fn new(
+        alloc: Global,
+        first: Side,
+        second: Side,
+        system: &System,
+    ) -> Result<Lcp, StartStop>
+        requires first_side { IsSideData first }
+        requires second_side { IsSideData second }
+        requires few { problem_size (side_of first) (side_of second) ≤ 512 }
+        requires problem { IsProblemSystem first second system.now }
+        ensures first { IfOk result (λ lcp. lcp.first ≡ first) }
+        ensures second { IfOk result (λ lcp. lcp.second ≡ second) }
+        ensures start { IfOk result (λ lcp. IsStartOf system.now lcp.tableau) }
+        ensures valid { IfOk result (λ lcp. IsTableau lcp.tableau) }
+        ensures fits { OnOk result (StartFits system.now) }
+        ensures unfit { IfErr result (IsStartStop system.now) }
+    {
+        match Work::new(alloc, system) {
+            Ok(work) => {
+                let size = row_count(&first, &second) as usize;
+                Ok(Lcp {
+                    first,
+                    second,
+                    size,
+                    work,
+                })
+            }
+            Err(stop) => Err(stop),
+        }
+    }
+
+    /// Follows the path to its end. Takes no memory. There is never a ray.
+    pub fn solve<L: Ledger>(self, steps: &mut Steps<L>) -> LemkeEnd
+        ensures { IsEndOf self result }
+    {
+        let Lcp {
+            first,
+            second,
+            size,
+            mut work,
+        } = self;
+        let row = least_row(work.now(), size);
+        match walk(&mut work, size, row, steps) {
+            Ok(()) => LemkeEnd::Solved(Solution {
+                first,
+                second,
+                size,
+                work,
+            }),
+            Err(stop) => LemkeEnd::Range {
+                step: stop.step,
+                entering: stop.entering,
+                unfit: stop.unfit,
+            },
+        }
+    }
+}
+
+impl Solution {
+    /// The weight of a sequence in the first player's plan.
+    pub fn one(&self, sequence: u32) -> Frac
+        requires { sequence < sequences (side_of self.now.first) }
+        ensures { result ≡ plan_one self.now sequence }
+    {
+        let variable = self.size + 1 + sequence as usize;
+        self.work.now().value(variable as u32)
+    }
+
+    /// The weight of a sequence in the second player's plan.
+    pub fn two(&self, sequence: u32) -> Frac
+        requires { sequence < sequences (side_of self.now.second) }
+        ensures { result ≡ plan_two self.now sequence }
+    {
+        let place = self.first.sequences() as usize + sequence as usize;
+        let variable = self.size + 1 + place;
+        self.work.now().value(variable as u32)
+    }
+}
