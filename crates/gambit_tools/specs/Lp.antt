@@ -39,8 +39,8 @@ optimum_of p (Ok o) = IsOptimumOf p o
 optimum_of p (Err r) = IsStepRefusal p r
 
 -- ---- the solution
--- the weights of both players' sequences, their prices, of which the first is that of the whole game and the others those of the
--- player's own sets in order, and the value for the first player
+-- the weights of both players' sequences, their prices, of which the first is that of the whole game
+-- and the others those of the player's own sets in order, and the value for the first player
 pub record Solution : Type 0 where
   pub one : List ℚ
   pub two : List ℚ
@@ -81,11 +81,15 @@ prices_text f s =
 abbrev pub first_price : Solution → ℚ
 first_price s = slice_index_or s.prices_two 0 zero_ℚ
 
+-- why there is no value
+abbrev pub value_refusal : FormData → Solution → Refusal
+value_refusal f s = refusal.Range site.Value (unfit Add (first_price s) f.least_one)
+
 -- these lines, where they are asked for and the value can be added
 abbrev pub prices_in : Bool → FormData → Solution → Answer Refusal (List ℕ)
 prices_in false f s = only []
 prices_in true f s = do
-  refuse_where (¬ AddFits (first_price s) f.least_one) (refusal.Range site.Value (unfit Add (first_price s) f.least_one))
+  refuse_where (¬ AddFits (first_price s) f.least_one) (value_refusal f s)
   only (prices_text f s)
 
 -- the text of a form's solution

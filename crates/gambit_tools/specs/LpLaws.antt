@@ -19,11 +19,14 @@ use Rattle.gambit_tools.specs.Games.{IsGame}
 use Rattle.gambit_tools.specs.Lp.{Solution, listed_prices, lp, prices_text}
 use Rattle.gambit_tools.specs.TwoPlayers.{form_in}
 
--- plans and value of a solution hold on the file's own game: on a tree by its behaviour, else on the strategic form
+-- plans and value of a solution hold on the file's own game: on a tree by its behaviour, else on the
+-- strategic form
 abbrev pub HoldsOn : Bool → Game → Solution → Type 0
-HoldsOn false (Extensive t) s = ProvesValueOfTree (game_of_tree t) (weight s.one) (weight s.two) s.value
+HoldsOn false (Extensive t) s =
+    ProvesValueOfTree (game_of_tree t) (weight s.one) (weight s.two) s.value
 HoldsOn true (Extensive t) s =
-    (form : ReducedForm) × form_of t (Ok form) × ProvesValueOfTable (game_of form.table) (weight s.one) (weight s.two) s.value
+    (form : ReducedForm) × form_of t (Ok form)
+    × ProvesValueOfTable (game_of form.table) (weight s.one) (weight s.two) s.value
 HoldsOn _ (Strategic t) s = ProvesValueOfTable (game_of t) (weight s.one) (weight s.two) s.value
 
 -- prices and plans prove the value by the form
@@ -47,5 +50,5 @@ pub record IsSolved (strategic asked : Bool) (game : Game) (text : List ℕ) : T
 
 abbrev pub LpTextsAreSolutions : Type 0
 LpTextsAreSolutions =
-    (strategic asked : Bool) (game : Game) (text : List ℕ) → IsGame game → lp strategic asked game (Ok text)
-    → IsSolved strategic asked game text
+    (strategic asked : Bool) (game : Game) (text : List ℕ) → IsGame game
+    → lp strategic asked game (Ok text) → IsSolved strategic asked game text

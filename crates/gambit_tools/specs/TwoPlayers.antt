@@ -1,7 +1,8 @@
--- What the tools for two players need of a game: two players, and a sequence form whose problem is within the limit.
-use Rattle.std.specs.Prelude.{ℕ, ◌<◌, ◌≢◌, Bool, true, false, length, slice_index, Ok}
+-- What the tools for two players need of a game: two players, and a sequence form whose problem is
+-- within the limit.
+use Rattle.std.specs.Prelude.{ℕ, ◌<◌, ◌≢◌, Bool, true, false, length, Ok}
 use Rattle.answers.specs.Answers.{Answer, refuse_where, ◌>>=◌, ◌>>◌, refused_by}
-use Rattle.game_core.specs.Table.{GameTable, strategy_counts}
+use Rattle.game_core.specs.Table.{GameTable}
 use Rattle.game_core.specs.Tree.{GameTree}
 use Rattle.game_core.specs.TreeGame.{game_of_tree}
 use Rattle.game_core.specs.declared.game.Game.{Game}
@@ -12,6 +13,7 @@ use Rattle.reduced_form.specs.Stops.{form_of}
 use Rattle.sequence_data.specs.Data.{FormData}
 use Rattle.sequence_form.specs.Counts.{counts_of, problem_rows, size_of_program}
 use Rattle.sequence_form.specs.Forms.{tree_form, table_form}
+use Rattle.sequence_form.specs.Laws.{rows_of, columns_of}
 use Rattle.sequence_form.specs.Sequences.{tree_side, start_side}
 use Rattle.sequence_form.specs.declared.counts.Counts.{Counts}
 use Rattle.gambit_tools.specs.Told.{form_refusal, recall_refusal, sequence_refusal}
@@ -40,7 +42,7 @@ within_rows rows = refuse_where (512 < rows) (refusal.TooLarge what.Rows rows 51
 
 -- the sizes of the sequence forms of a table and of a tree
 abbrev pub table_counts : GameTable → Counts
-table_counts t = counts_of (start_side (slice_index (strategy_counts t) 0)) (start_side (slice_index (strategy_counts t) 1))
+table_counts t = counts_of (start_side (rows_of t)) (start_side (columns_of t))
 
 abbrev pub tree_counts : GameTree → Counts
 tree_counts t = counts_of (tree_side (game_of_tree t) 0) (tree_side (game_of_tree t) 1)
@@ -58,7 +60,8 @@ form_of_tree rows t = do
   within_rows (rows (tree_counts t))
   refused_by sequence_refusal (tree_form t)
 
--- The sequence form on which a tool works: of a table; of a tree; or, by strategies, of the tree's reduced strategic form.
+-- The sequence form on which a tool works: of a table; of a tree; or, by strategies, of the tree's
+-- reduced strategic form.
 abbrev pub form_in : (Counts → ℕ) → Bool → Game → Answer Refusal FormData
 form_in rows strategic (Strategic t) = form_of_table rows t
 form_in rows true (Extensive t) = do

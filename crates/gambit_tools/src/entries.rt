@@ -49,7 +49,8 @@ fn behaviour_line(
     requires form { IsTreeForm (game_of_tree tree.now) form.now }
     requires one { length one.now ≡ form.now.first.sequences }
     requires two { length two.now ≡ form.now.second.sequences }
-    ensures { Gives Refusal.Memory (line_in false (Extensive tree.now) one.now two.now) (map_ok result (λ text. text.items)) }
+    ensures { Gives Refusal.Memory (line_in false (Extensive tree.now) one.now two.now)
+        (map_ok result (λ text. text.items)) }
 {
     let behaviour = Behaviour::from_plans(alloc, tree, form, one, two)?;
     Ok(line(alloc, behaviour.entries())?)
@@ -67,7 +68,8 @@ pub fn plans_line(
     requires form { IsFormOf strategic game.now form.now }
     requires one { length one.now ≡ form.now.first.sequences }
     requires two { length two.now ≡ form.now.second.sequences }
-    ensures { Gives Refusal.Memory (line_in strategic game.now one.now two.now) (map_ok result (λ text. text.items)) }
+    ensures { Gives Refusal.Memory (line_in strategic game.now one.now two.now)
+        (map_ok result (λ text. text.items)) }
 {
     match game {
         Game::Extensive(tree) if !strategic => behaviour_line(alloc, tree, form, one, two),

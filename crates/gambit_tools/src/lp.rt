@@ -31,7 +31,9 @@ fn solution_line(
 ) -> Result<Vec<u8>, Refusal>
     requires form { IsFormOf strategic game.now form.now }
     requires sizes { HasSizesOf form.now solved.now }
-    ensures { Gives Refusal.Memory (line_in strategic game.now solved.now.plans.one solved.now.plans.two) (map_ok result (λ text. text.items)) }
+    ensures { Gives Refusal.Memory
+        (line_in strategic game.now solved.now.plans.one solved.now.plans.two)
+        (map_ok result (λ text. text.items)) }
 {
     let plans = &solved.plans;
     plans_line(alloc, strategic, game, form, plans.one(), plans.two())
@@ -48,7 +50,9 @@ fn solution_text(
 ) -> Result<Vec<u8>, Refusal>
     requires form { IsFormOf strategic game.now form.now }
     requires sizes { HasSizesOf form.now solved.now }
-    ensures { Gives Refusal.Memory (solution_text strategic asked game.now form.now (solution_of form.now solved.now)) (map_ok result (λ text. text.items)) }
+    ensures { Gives Refusal.Memory
+        (solution_text strategic asked game.now form.now (solution_of form.now solved.now))
+        (map_ok result (λ text. text.items)) }
 {
     let mut text = solution_line(alloc, strategic, game, form, solved)?;
     let lines = price_lines(alloc, asked, form, solved)?;
@@ -56,14 +60,15 @@ fn solution_text(
     Ok(text)
 }
 
-// The text of an equilibrium of a game, with the value and prices where they are asked for.
+// The text of an equilibrium of a game, with its value and prices where they are asked for.
 fn equilibrium_text(
     alloc: Global,
     strategic: bool,
     asked: bool,
     game: &Game,
 ) -> Result<Vec<u8>, Refusal>
-    ensures { Gives Refusal.Memory (lp strategic asked game.now) (map_ok result (λ text. text.items)) }
+    ensures { Gives Refusal.Memory (lp strategic asked game.now)
+        (map_ok result (λ text. text.items)) }
 {
     two_players(game)?;
     let form = form_in(alloc, Method::LinearProgram, strategic, game)?;
@@ -71,8 +76,8 @@ fn equilibrium_text(
     solution_text(alloc, strategic, asked, game, &form, &solved)
 }
 
-/// Reads the game in a file, or on standard input where no file is named, and prints an equilibrium of it, with the
-/// value and the prices where they are asked for.
+/// Reads the game in a file, or on standard input where no file is named, and prints an equilibrium
+/// of it, with the value and the prices where they are asked for.
 pub fn lp<I: Inputs>(
     alloc: Global,
     strategic: bool,
@@ -88,8 +93,8 @@ pub fn lp<I: Inputs>(
     equilibrium_text(alloc, strategic, prices, &game)
 }
 
-/// Each text of `lp` prints an equilibrium of the game, which the plans of a solution have, with the value and the prices
-/// that prove it where they are asked for.
+/// Each text of `lp` is that of an equilibrium of the game, whose value the plans and prices of the
+/// same solution prove. The prices are printed where they are asked for.
 pub fn lp_texts_are_solutions()
     ensures { LpTextsAreSolutions }
 {

@@ -18,7 +18,8 @@ use zero_sum_lp::Optimum;
 // The value: the price of the whole game and the least payoff together.
 fn value(price: Frac, least: Frac) -> Result<Frac, Refusal>
     ensures value { IfOk result (λ value. value ≡ price +ℚ least) }
-    ensures stage { refuse_where (¬ (AddFits price least)) (Refusal.Range Site.Value (unfit Op.Add price least)) (map_ok result (λ _. tt)) }
+    ensures stage { refuse_where (¬ (AddFits price least))
+        (Refusal.Range Site.Value (unfit Op.Add price least)) (map_ok result (λ _. tt)) }
 {
     match price.add(least) {
         Ok(value) => Ok(value),
@@ -29,11 +30,13 @@ fn value(price: Frac, least: Frac) -> Result<Frac, Refusal>
     }
 }
 
-// The prices of player one: that of the whole game, and then those of the player's sets, which are so many.
+// The prices of player one: that of the whole game, and then those of the player's sets, which are
+// so many.
 fn first_prices(alloc: Global, optimum: &Optimum, sets: u32) -> Result<Vec<Frac>, Memory>
     requires sets { sets ≡ length optimum.now.first.sets }
     requires few { sets ≤ 512 }
-    ensures { IfOk result (λ prices. prices.items ≡ listed_prices (suc sets) (first_prices optimum.now)) }
+    ensures { IfOk result (λ prices.
+        prices.items ≡ listed_prices (suc sets) (first_prices optimum.now)) }
 {
     let mut prices = Vec::new(alloc);
     for set in 0..sets + 1 {
@@ -46,7 +49,8 @@ fn first_prices(alloc: Global, optimum: &Optimum, sets: u32) -> Result<Vec<Frac>
 fn second_prices(alloc: Global, optimum: &Optimum, sets: u32) -> Result<Vec<Frac>, Memory>
     requires sets { sets ≡ length optimum.now.second.sets }
     requires few { sets ≤ 512 }
-    ensures { IfOk result (λ prices. prices.items ≡ listed_prices (suc sets) (second_prices optimum.now)) }
+    ensures { IfOk result (λ prices.
+        prices.items ≡ listed_prices (suc sets) (second_prices optimum.now)) }
 {
     let mut prices = Vec::new(alloc);
     for set in 0..sets + 1 {
@@ -64,7 +68,8 @@ fn prices_text(
 ) -> Result<Vec<u8>, Memory>
     requires sizes { HasSizesOf form.now solved.now }
     requires value { value ≡ (solution_of form.now solved.now).value }
-    ensures { IfOk result (λ text. text.items ≡ prices_text form.now (solution_of form.now solved.now)) }
+    ensures { IfOk result (λ text.
+        text.items ≡ prices_text form.now (solution_of form.now solved.now)) }
 {
     let one = first_prices(alloc, &solved.optimum, form.first().sets().len() as u32)?;
     let two = second_prices(alloc, &solved.optimum, form.second().sets().len() as u32)?;
@@ -84,7 +89,9 @@ pub fn price_lines(
     solved: &Solved,
 ) -> Result<Vec<u8>, Refusal>
     requires { HasSizesOf form.now solved.now }
-    ensures { Gives Refusal.Memory (prices_in asked form.now (solution_of form.now solved.now)) (map_ok result (λ lines. lines.items)) }
+    ensures { Gives Refusal.Memory
+        (prices_in asked form.now (solution_of form.now solved.now))
+        (map_ok result (λ lines. lines.items)) }
 {
     if !asked {
         return Ok(Vec::new(alloc));

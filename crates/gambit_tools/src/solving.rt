@@ -47,7 +47,8 @@ fn optimum_of(lp: Lp) -> Result<Optimum, Refusal>
 
 /// The solution of a form.
 pub fn solve(alloc: Global, form: &SeqForm) -> Result<Solved, Refusal>
-    ensures answer { Gives Refusal.Memory (solution_in form.now) (map_ok result (solution_of form.now)) }
+    ensures answer { Gives Refusal.Memory (solution_in form.now)
+        (map_ok result (solution_of form.now)) }
     ensures sizes { IfOk result (HasSizesOf form.now) }
 {
     let _side = form.first();

@@ -179,7 +179,7 @@ set_passes k sets used part more rest kind all h bare less g =
     ((r.0, set_place sets (key_of used)), same ∙ ap (λ (o : Parsed EfgKind (List BegunSet)). chain o (λ x. Ok ((x.0, set_place sets (key_of used)), x.1))) r.1)
 
 -- so is a choice
-pub choice_passes : (players k : ℕ) (sets : List BegunSet) (front more rest : List Token) (set : Option SetUse) (kind : EfgKind) → AreListed sets → IsChoicePart players front set → IsBare more → length rest < length more → GoesTo (parse_choice players k sets (front ++ more)) kind rest
+choice_passes : (players k : ℕ) (sets : List BegunSet) (front more rest : List Token) (set : Option SetUse) (kind : EfgKind) → AreListed sets → IsChoicePart players front set → IsBare more → length rest < length more → GoesTo (parse_choice players k sets (front ++ more)) kind rest
     → (x : Choice) × (parse_choice players k sets (front ++ more) ≡ Ok (x, more))
 unfolding parse_choice
 choice_passes players k sets front more rest None kind all h bare less g = ((sets, (End, None)), rw h.1 refl)

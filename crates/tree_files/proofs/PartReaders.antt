@@ -56,7 +56,7 @@ probability_reader None prob = same_prob_reader prob
 probability_reader (Some i) prob = pure_reader tt
 
 -- an action that is repeated
-pub repeated_reader : (owner : Option ℕ) (action : Action) → IsReader (parse_repeated owner action)
+repeated_reader : (owner : Option ℕ) (action : Action) → IsReader (parse_repeated owner action)
 unfolding parse_repeated
 repeated_reader owner action = bind_reader name_again (λ _ tokens. parse_probability owner action.prob tokens) name_reader (λ _ _ _. probability_reader owner action.prob)
 

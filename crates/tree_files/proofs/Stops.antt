@@ -12,7 +12,7 @@ abbrev pub GoesTo : {X : Type 0} → Parsed EfgKind X → EfgKind → List Token
 GoesTo {X} reading kind rest = (reading ≡ Err (kind, rest)) ⊎ ((x : X × List Token) × (reading ≡ Ok x) × (length rest ≤ length x.1))
 
 -- the part before one that goes there
-pub goes_first : {X Y : Type 0} (o : Parsed EfgKind X) (q : X × List Token → Parsed EfgKind Y) (kind : EfgKind) (rest : List Token) → ((x : X × List Token) (f : EfgKind × List Token) → q x ≡ Err f → length f.1 ≤ length x.1) → ((x : X × List Token) (y : Y × List Token) → q x ≡ Ok y → length y.1 ≤ length x.1)
+goes_first : {X Y : Type 0} (o : Parsed EfgKind X) (q : X × List Token → Parsed EfgKind Y) (kind : EfgKind) (rest : List Token) → ((x : X × List Token) (f : EfgKind × List Token) → q x ≡ Err f → length f.1 ≤ length x.1) → ((x : X × List Token) (y : Y × List Token) → q x ≡ Ok y → length y.1 ≤ length x.1)
     → GoesTo (chain o q) kind rest → GoesTo o kind rest
 goes_first {X} {Y} o q kind rest e f (inl g) = elim (bind_err o q (kind, rest) g) [
   | inl h ↦ inl h

@@ -212,7 +212,7 @@ value_same_payoffs i (payoff ∷ payoffs) tokens = elim (some_or_none (number_at
   | inr none ↦ rw none refl
 ]
 
-pub value_repeated_payoffs : (payoffs : List ℚ) (inner : List Token) → value (parse_repeated_payoffs payoffs (Left ∷ inner)) ≡ ((payoffs_repeated_at 0 payoffs inner >>= right_at) >>= mark)
+value_repeated_payoffs : (payoffs : List ℚ) (inner : List Token) → value (parse_repeated_payoffs payoffs (Left ∷ inner)) ≡ ((payoffs_repeated_at 0 payoffs inner >>= right_at) >>= mark)
 unfolding parse_repeated_payoffs
 value_repeated_payoffs payoffs inner =
     value_chain (parse_same_payoffs 0 payoffs inner) (payoffs_repeated_at 0 payoffs inner >>= mark) _ (λ x. right_at x.1 >>= mark) (value_same_payoffs 0 payoffs inner) (λ x. value_mark (if has_number x.1 then OutcomeMismatch else Node) x.1 (right_at x.1))

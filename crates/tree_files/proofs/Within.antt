@@ -57,7 +57,7 @@ pure_within {X} x = record {
 }
 
 -- behind a text that may come
-pub text_ends : (tokens : List Token) → Ends (optional_text_at tokens).1 tokens
+text_ends : (tokens : List Token) → Ends (optional_text_at tokens).1 tokens
 text_ends (Text text ∷ rest) = (Text text ∷ [], refl)
 text_ends [] = ([], refl)
 text_ends (t ∷ rest) = ([], refl)
@@ -69,7 +69,7 @@ named_within f F = record {
 }
 
 -- a list that may come
-pub optional_within : (p : List Token → Parsed EfgKind (Unit {0})) → Within p → Within (λ tokens. if opens tokens then p tokens else Ok (tt, tokens))
+optional_within : (p : List Token → Parsed EfgKind (Unit {0})) → Within p → Within (λ tokens. if opens tokens then p tokens else Ok (tt, tokens))
 optional_within p P = record {
   ok = λ tokens x e. elim (cases_Bool (opens tokens)) [
     | inl o ↦ let f : p tokens ≡ Ok x = rw o at e in P.ok tokens x f
@@ -92,7 +92,7 @@ behind_number_within k sets owner label =
     bind_within (λ tokens. parse_use k sets (bare_use owner label (optional_text_at tokens).0) (slice_get sets (set_place sets (owner, label))) (optional_text_at tokens).1) (λ more tokens. Ok ((more, set_place sets (owner, label)), tokens))
     (named_within (λ name. parse_use k sets (bare_use owner label name) (slice_get sets (set_place sets (owner, label)))) (λ name. use_within k sets (bare_use owner label name) (slice_get sets (set_place sets (owner, label))))) (λ more. pure_within _)
 
-pub set_within : (k : ℕ) (sets : List BegunSet) (owner : Option ℕ) → Within (parse_set k sets owner)
+set_within : (k : ℕ) (sets : List BegunSet) (owner : Option ℕ) → Within (parse_set k sets owner)
 unfolding parse_set
 set_within k sets owner =
     bind_within (λ tokens. wanted Node tokens (positive_at tokens)) (λ label tokens. parse_use k sets (bare_use owner label (optional_text_at tokens).0) (slice_get sets (set_place sets (owner, label))) (optional_text_at tokens).1 >>= λ more. Ok ((more.0, set_place sets (owner, label)), more.1))
@@ -103,7 +103,7 @@ pub outcome_use_within : (players : ℕ) (outcomes : List BegunOutcome) (used : 
 outcome_use_within players outcomes used None = bind_within (parse_first_payoffs players) _ (reader_within (parse_first_payoffs players) (first_payoffs_reader players)) (λ payoffs. pure_within _)
 outcome_use_within players outcomes used (Some outcome) = bind_within (parse_later_payoffs outcome.payoffs) _ (optional_within (parse_repeated_payoffs outcome.payoffs) (reader_within (parse_repeated_payoffs outcome.payoffs) (repeated_payoffs_reader outcome.payoffs))) (λ _. pure_within _)
 
-pub named_outcome_within : (players label : ℕ) (outcomes : List BegunOutcome) → Within (parse_named players label outcomes)
+named_outcome_within : (players label : ℕ) (outcomes : List BegunOutcome) → Within (parse_named players label outcomes)
 unfolding parse_named
 named_outcome_within players label outcomes = bind_within (λ tokens. parse_outcome_use players outcomes (bare_outcome_use label (optional_text_at tokens).0) (slice_get outcomes (outcome_place outcomes label)) (optional_text_at tokens).1) (λ more tokens. Ok ((more, Some (outcome_place outcomes label)), tokens))
     (named_within (λ name. parse_outcome_use players outcomes (bare_outcome_use label name) (slice_get outcomes (outcome_place outcomes label))) (λ name. outcome_use_within players outcomes (bare_outcome_use label name) (slice_get outcomes (outcome_place outcomes label)))) (λ more. pure_within _)
@@ -168,7 +168,7 @@ behind_within players k sets word start = by (is_word word (codes "c")) (is_word
     }
 
 -- a word
-pub word_ends : (tokens : List Token) (x : List ℕ × List Token) → wanted Node tokens (word_at tokens) ≡ Ok x → Ends x.1 tokens
+word_ends : (tokens : List Token) (x : List ℕ × List Token) → wanted Node tokens (word_at tokens) ≡ Ok x → Ends x.1 tokens
 word_ends (Word word ∷ rest) x e = (Word word ∷ [], ap (λ (z : List ℕ × List Token). Word word ∷ z.1) (ok_same (word, rest) x e))
 word_ends tokens x e = absurd (ok_err x (Node, tokens) (sym e))
 
@@ -199,7 +199,7 @@ pub next_within : (players : ℕ) (begun : Begun) (b : Branching) (rest : List B
 unfolding parse_next
 next_within players begun b rest = bind_within (parse_choice players (length begun.nodes) begun.sets) _ (choice_within players (length begun.nodes) begun.sets) (λ choice. bind_within (parse_outcome players begun.outcomes) _ (outcome_within players begun.outcomes) (λ outcome. pure_within _))
 
-pub at_within : (players : ℕ) (begun : Begun) (branchings : List Branching) → Within (parse_at players begun branchings)
+at_within : (players : ℕ) (begun : Begun) (branchings : List Branching) → Within (parse_at players begun branchings)
 at_within players begun [] = record { ok = λ tokens x e. absurd (ok_err x (Node, tokens) (sym e)); err = λ tokens f e. ([], ap (λ (z : EfgKind × List Token). z.1) (err_same {A = Begun × List Token} (Node, tokens) f e)) }
 at_within players begun (b ∷ rest) = record {
   ok = λ tokens x e. elim (cases_Bool (begins_node tokens && has_room (passed begun))) [

@@ -1,14 +1,10 @@
 //! Tables and trees as they are read, and reduced forms and sequence forms, as tests over the readers, `reduced_form::reduce` and
-//! `sequence_form::build` on text, linear programs, the behaviour of plans, and pure equilibria of small games beside a plain
-//! listing of them by the definition. Nothing here is called by the program.
+//! `sequence_form::build` on text, and pure equilibria of small games beside a plain listing of them by the definition.
+//! Nothing here is called by the program.
 #![tactic(auto)]
 
 #[cfg(test)]
 mod games;
-#[cfg(test)]
-mod plans;
-#[cfg(test)]
-mod programs;
 #[cfg(test)]
 mod reading;
 #[cfg(test)]

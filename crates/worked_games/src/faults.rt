@@ -6,12 +6,13 @@ use std::thread::Threads;
 
 const DILEMMA: &str = "NFG 1 R \"PD\" { \"A\" \"B\" } { 2 2 } 3 3 5 0 0 5 1 1";
 
-/// No tool that is built, and words after `enumpure` other than its letters and the name of one file.
+/// No tool that is built, and words after a tool that is, other than its options and the name of one file.
 #[test]
 fn words_are_refused(rt: HostRuntime) -> Result<(), Memory> {
-    let rows: [(&[&str], &str); 7] = [
+    let rows: [(&[&str], &str); 8] = [
         (&["solve"], "gambit: unknown tool\n"),
-        (&["lp", "--price"], "gambit: unknown tool\n"),
+        (&["lcp"], "gambit: unknown tool\n"),
+        (&["lp", "--price"], "gambit: words not understood\n"),
         (&["enummixed", "-c"], "gambit: unknown tool\n"),
         (&["enumpure", "-s"], "gambit: words not understood\n"),
         (&["enumpure", "-P"], "gambit: words not understood\n"),

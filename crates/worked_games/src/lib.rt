@@ -8,6 +8,8 @@ mod cuts;
 #[cfg(test)]
 mod faults;
 #[cfg(test)]
+mod linear_programs;
+#[cfg(test)]
 mod pure_equilibria;
 #[cfg(test)]
 mod tables;
