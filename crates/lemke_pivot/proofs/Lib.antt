@@ -1,3 +1,9 @@
+pub mod Blocks
+pub mod CostSteps
+pub mod FormProblems
+pub mod FormSystems
 pub mod PathEnds
+pub mod ProblemAnswers
 pub mod Solve
+pub mod Systems
 pub mod Walk

@@ -1,5 +1,5 @@
 -- the least row, what is read off at the end, and the start of a problem's path
-use Rattle.std.proofs.Common.{ℕ, ◌<◌, ◌≡◌, ◌+◌, ◌*◌, inl, inr, length, get_or, map, sym, ap, ap₂, ◌∙◌, subst, subst₂, arith}
+use Rattle.std.proofs.Common.{ℕ, suc, ◌<◌, ◌≡◌, ◌+◌, ◌*◌, inl, inr, List, length, get_or, map, sym, ap, ap₂, ◌∙◌, subst, subst₂, arith}
 use Rattle.std.proofs.lemmas.Bool.{cases_eq}
 use Rattle.std.proofs.lemmas.List.{length-map}
 use Rattle.rational.specs.Rational.{ℚ, ◌≤ℚ◌, ◌<ℚ◌}
@@ -19,6 +19,7 @@ use Rattle.complementarity.proofs.Solutions.{solutions_have_plans}
 use Rattle.complementarity.proofs.Paths.{least_is_negative, solved}
 use Rattle.lex_tableau.specs.Rows.{Numbers, tableau, IsTableau, IsValueOf}
 use Rattle.lex_tableau.specs.Starts.{Parts, system_of, IsStartOf}
+use Rattle.sequence_data.specs.declared.types.SetRow.{SetRow}
 use Rattle.sequence_data.specs.Data.{SideData, side_of}
 use Rattle.lemke_pivot.specs.Parts.{Problem, size_of, problem_size, start_of, IsProblem, IsProblemSystem, IsStartFor, IsLeastRow}
 use Rattle.lemke_pivot.specs.Paths.{IsPathStart}
@@ -126,3 +127,7 @@ sets_are side = length-map side.sets (λ s. s.before)
 
 pub rows_are : (first second : SideData) (x y a b : ℕ) → x ≡ sequences (side_of first) → y ≡ sequences (side_of second) → a ≡ length first.sets → b ≡ length second.sets → x + y + 2 * (a + b + 2) ≡ problem_size (side_of first) (side_of second)
 rows_are first second x y a b ex ey ea eb = let f = sets_are first in let s = sets_are second in omega (arith, ex, ey, ea, eb, f, s)
+
+-- how many prices a player has
+pub prices_are : (side : SideData) (rows : List SetRow) → rows ≡ side.sets → length rows + 1 ≡ suc (side_of side).sets
+prices_are side rows e = let a : length rows ≡ length side.sets = ap (λ (xs : List SetRow). length xs) e in let b = sets_are side in omega (arith, a, b)

@@ -1,7 +1,18 @@
 // What the answers prove. The functions do nothing: the contract of each is a law, so that a check
 // proves it.
 ghost use Rattle.lemke_pivot.specs.Ends.{EndsAreSingle};
+ghost use Rattle.lemke_pivot.specs.FormProblems.{ProblemsAreOfForms, ProblemsAreSingle};
 ghost use Rattle.lemke_pivot.specs.SolutionLaws.{SolutionsSolveTables, SolutionsSolveTheForm, SolutionsSolveTrees};
+
+/// The problem of a form is that of its plans and costs.
+pub fn problems_are_of_forms()
+    ensures { ProblemsAreOfForms }
+{}
+
+/// A form has one problem, or one reason why it has none.
+pub fn problems_are_single()
+    ensures { ProblemsAreSingle }
+{}
 
 /// The plans and prices of a solution solve the form's complementarity problem.
 pub fn solutions_solve_the_form()

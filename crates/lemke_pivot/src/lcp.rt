@@ -60,7 +60,7 @@ impl Model for Solution {
     ghost view = { λ s. record { first = s.first; second = s.second; tableau = s.work } };
 
     ghost invariant = { λ s.
-        IsSideData s.first × (s.size ≤ 512)
+        IsSideData s.first × IsSideData s.second × (s.size ≤ 512)
         × (s.size ≡ problem_size (side_of s.first) (side_of s.second)) };
 }
 
@@ -180,6 +180,22 @@ impl Lcp {
 }
 
 impl Solution {
+    /// The first player's side.
+    pub fn first(&self) -> &Side
+        ensures side { result.now ≡ self.now.first }
+        ensures valid { IsSideData self.now.first }
+    {
+        &self.first
+    }
+
+    /// The second player's side.
+    pub fn second(&self) -> &Side
+        ensures side { result.now ≡ self.now.second }
+        ensures valid { IsSideData self.now.second }
+    {
+        &self.second
+    }
+
     /// The weight of a sequence in the first player's plan.
     pub fn one(&self, sequence: u32) -> Frac
         requires { sequence < sequences (side_of self.now.first) }

@@ -6,11 +6,19 @@
 //! both plans; `laws` says that these are an equilibrium of the game.
 #![tactic(auto)]
 
+mod costs;
+mod form_problem;
 mod laws;
 mod lcp;
+mod matrix;
 mod path;
+mod stop;
+mod system;
 
+pub use form_problem::problem;
 pub use laws::{
-    ends_are_single, solutions_solve_tables, solutions_solve_the_form, solutions_solve_trees,
+    ends_are_single, problems_are_of_forms, problems_are_single, solutions_solve_tables,
+    solutions_solve_the_form, solutions_solve_trees,
 };
 pub use lcp::{Lcp, LemkeEnd, Solution};
+pub use stop::LcpStop;

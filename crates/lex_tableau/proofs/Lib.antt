@@ -1,3 +1,4 @@
+pub mod Entries
 pub mod RatioRows
 pub mod Signs
 pub mod Starts

@@ -14,7 +14,7 @@ mod tableau;
 mod work;
 
 pub use steps::Steps;
-pub use system::System;
+pub use system::{System, numbered};
 pub use tableau::{PivotStop, StartStop, Tableau};
 pub use work::Work;
 

@@ -1,8 +1,10 @@
 // Systems of linear equations over fractions.
-ghost use Rattle.std.specs.Prelude.{◌≡◌};
+ghost use Rattle.std.specs.Prelude.{◌≡◌, ◌+◌, ◌<◌, ◌^◌, IfOk};
+ghost use Rattle.lex_tableau.specs.Entries.{AreNumbered};
 ghost use Rattle.lex_tableau.specs.Starts.{IsSystem, parts_of};
 
-use frac128::Frac;
+use frac128::{Frac, Memory};
+use std::alloc::Global;
 use std::marker::Model;
 
 /// A system of linear equations. Row i says that its basic variable plus the sum of its cells times
@@ -61,4 +63,16 @@ impl System {
     {
         self.nonbasics.as_slice()
     }
+}
+
+/// So many variables that are numbered one after another.
+pub fn numbered(alloc: Global, first: u32, count: u32) -> Result<Vec<u32>, Memory>
+    requires { first + count < 2 ^ 32 }
+    ensures { IfOk result (λ numbers. AreNumbered first count numbers.items) }
+{
+    let mut numbers = Vec::new(alloc);
+    for k in 0..count {
+        numbers.push(first + k)?;
+    }
+    Ok(numbers)
 }

@@ -3,7 +3,7 @@ use Rattle.std.proofs.Common.{ℕ, ◌<◌, ◌≤◌, ◌≡◌, eqb, cond, tru
 use Rattle.rational.specs.Rational.{◌*ℚ◌, ◌-ℚ◌, neg_ℚ, inv_ℚ, zero_ℚ, ◌<ℚ◌}
 use Rattle.rational.specs.Sum.{change}
 use Rattle.linear_systems.specs.Tableau.{Tableau, pivot}
-use Rattle.linear_systems.specs.Rows.{Alike, IsLexicographicRow}
+use Rattle.linear_systems.specs.Rows.{Alike, HasDistinctVariables, IsLexicographicRow}
 use Rattle.linear_systems.proofs.Lex.{lex_same}
 use Rattle.linear_systems.proofs.Rows.{key_alike}
 
@@ -55,3 +55,17 @@ alike_lex_row k m b t u c r hk hc a l =
       positive = subst (λ x. zero_ℚ <ℚ x) (a.cell r c (omega arith) hc) l.positive;
       least = λ i hi ne p. record { by = lex_same (suc m) _ _ (λ j _. ap₂ (λ x y. x -ℚ y) (ap₂ (λ x y. x *ℚ inv_ℚ y) (key_alike b t u i j a (omega arith)) (a.cell i c (omega arith) hc)) (ap₂ (λ x y. x *ℚ inv_ℚ y) (key_alike b t u r j a (omega arith)) (a.cell r c (omega arith) hc))) (l.least i hi ne (subst (λ x. zero_ℚ <ℚ x) (sym (a.cell i c (omega arith) hc)) p)).by };
     }
+
+pub alike_distinct : (s t : Tableau) → Alike s t → HasDistinctVariables s → HasDistinctVariables t
+alike_distinct s t a p =
+    record {
+      basic_once = λ i k hi hk e. p.basic_once i k (back i hi) (back k hk) (a.basic i (back i hi) ∙ e ∙ sym (a.basic k (back k hk)));
+      nonbasic_once = λ i k hi hk e. p.nonbasic_once i k (across i hi) (across k hk) (a.nonbasic i (across i hi) ∙ e ∙ sym (a.nonbasic k (across k hk)));
+      apart = λ i j hi hj e. p.apart i j (back i hi) (across j hj) (a.basic i (back i hi) ∙ e ∙ sym (a.nonbasic j (across j hj)));
+    }
+  where
+    back : (i : ℕ) → i < t.rows → i < s.rows
+    back i h = subst (λ n. i < n) (sym a.rows) h
+
+    across : (j : ℕ) → j < t.width → j < s.width
+    across j h = subst (λ n. j < n) (sym a.width) h

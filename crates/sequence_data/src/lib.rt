@@ -7,7 +7,7 @@
 ghost use Rattle.std.specs.Prelude.{◌≡◌, ℕ, List};
 ghost use Rattle.rational.specs.Rational.{ℚ, ◌≤ℚ◌, zero_ℚ};
 ghost use Rattle.pure_payoffs.specs.Steps.{Step};
-ghost use Rattle.sequence_forms.specs.Prices.{gains};
+ghost use Rattle.sequence_forms.specs.Prices.{costs, gains};
 ghost use Rattle.sequence_data.specs.declared.types.Cell.{Cell};
 ghost use Rattle.sequence_data.specs.declared.types.Leaf.{Leaf};
 ghost use Rattle.sequence_data.specs.Cells.{AreCells};
@@ -47,4 +47,12 @@ pub fn extremes_are_one()
 /// No gain over the least payoff is negative.
 pub fn gains_are_not_negative()
     ensures { (f : FormData) (r q : ℕ) → IsFormData f → zero_ℚ ≤ℚ gains (form f) f.least_one r q }
+{}
+
+/// No cost under the greatest payoff is negative.
+pub fn costs_are_not_negative()
+    ensures one { (f : FormData) (r q : ℕ) → IsFormData f
+        → zero_ℚ ≤ℚ costs (form f) 0 f.greatest_one r q }
+    ensures two { (f : FormData) (r q : ℕ) → IsFormData f
+        → zero_ℚ ≤ℚ costs (form f) 1 f.greatest_two r q }
 {}

@@ -1,5 +1,5 @@
 -- The system of a program, entry by entry.
-use Rattle.std.specs.Prelude.{ℕ, ◌≡◌, ◌+◌, ◌*◌, ◌/◌, ◌%◌, ◌<◌, nat_lt, if◌then◌else◌, List, length, get_or}
+use Rattle.std.specs.Prelude.{ℕ, ◌≡◌, ◌+◌, ◌*◌, List, get_or}
 use Rattle.rational.specs.Rational.{ℚ, zero_ℚ}
 use Rattle.linear_systems.specs.Rows.{Alike}
 use Rattle.linear_systems.specs.Tableau.{Tableau}
@@ -27,15 +27,6 @@ listed_program first second gains =
 abbrev pub listed_reply : SideData → SideData → List ℚ → ℕ → ℕ → ℚ
 listed_reply first second gains =
     reply_cell (side_of first) (side_of second) (gain_of gains (sequences (side_of second)))
-
--- the entry of row i at place j: its cells, and then its right side
-abbrev pub entry_of : Tableau → ℕ → ℕ → ℚ
-entry_of t i j = if nat_lt j t.width then t.cell i j else t.right i
-
--- the first n entries of a tableau, row by row, each of so many
-pub record AreEntries (t : Tableau) (size n : ℕ) (cells : List ℚ) : Type 0 where
-  pub count : length cells ≡ n
-  pub same : (k : ℕ) → k < n → get_or cells k zero_ℚ ≡ entry_of t (k / size) (k % size)
 
 -- the system of the program of these sides with these gains
 pub record IsSystemFor (first second : SideData) (gain : ℕ → ℕ → ℚ) (s : Parts) : Type 0 where

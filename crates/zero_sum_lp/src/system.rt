@@ -4,11 +4,12 @@ ghost use Rattle.linear_programs.specs.Programs.{columns_of, constraints, object
 ghost use Rattle.sequence_data.specs.Data.{IsSideData, side_of};
 ghost use Rattle.sequence_forms.specs.Sides.{sequences};
 ghost use Rattle.zero_sum_lp.specs.Parts.{program_size};
-ghost use Rattle.zero_sum_lp.specs.Systems.{AreEntries, IsSystemFor, entry_of, gain_count, listed_gain, listed_program, listed_reply};
+ghost use Rattle.lex_tableau.specs.Entries.{AreEntries, entry_of};
+ghost use Rattle.zero_sum_lp.specs.Systems.{IsSystemFor, gain_count, listed_gain, listed_program, listed_reply};
 
 use form_matrices::set_entry;
 use frac128::{Frac, Memory};
-use lex_tableau::System;
+use lex_tableau::{System, numbered};
 use sequence_data::Side;
 use std::alloc::Global;
 
@@ -74,19 +75,6 @@ fn entry(first: &Side, second: &Side, gains: &[Frac], row: usize, col: usize) ->
     } else {
         objective_entry(first, col)
     }
-}
-
-// So many numbers one after another.
-fn numbered(alloc: Global, first: u32, count: u32) -> Result<Vec<u32>, Memory>
-    requires { first + count < 2 ^ 32 }
-    ensures count { IfOk result (λ v. length v.items ≡ count) }
-    ensures numbers { IfOk result (λ v. (k : ℕ) → k < count → get_or v.items k 0 ≡ first + k) }
-{
-    let mut numbers = Vec::new(alloc);
-    for k in 0..count {
-        numbers.push(first + k)?;
-    }
-    Ok(numbers)
 }
 
 // All entries, row by row.

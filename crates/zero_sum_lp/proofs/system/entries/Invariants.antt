@@ -1,7 +1,8 @@
 use Rattle.linear_programs.specs.Programs.{program_of}
 use Rattle.sequence_data.specs.Data.{side_of}
 use Rattle.sequence_forms.specs.Sides.{sequences}
-use Rattle.zero_sum_lp.specs.Systems.{AreEntries, gain_of}
+use Rattle.lex_tableau.specs.Entries.{AreEntries}
+use Rattle.zero_sum_lp.specs.Systems.{gain_of}
 use Rattle.zero_sum_lp.proofs.system.entries.Given as goal
 
 abbrev pub invariant-loop-k : goal.invariant-loop-k

@@ -22,4 +22,4 @@ returns c =
     let n_is : n ≡ columns_of (side_of first) (side_of second) = omega (arith, b, x) in
     subst (IsSystemFor first second (gain_of c.args.gains.now (sequences (side_of second)))) (sym c.new.ensures.value)
     (system_for first second (gain_of c.args.gains.now (sequences (side_of second))) m n c.push.new.self.items c.in_ok-basics.basics.items c.in_ok-nonbasics.nonbasics.items c.in_ok-cells.cells.items m_is n_is (omega (arith, c.requires.few, m_is, n_is))
-    (record { length_is = c.in_ok-basics.ensures.count; number_is = c.in_ok-basics.ensures.numbers }) c.in_ok-push.ensures.items (record { length_is = c.in_ok-nonbasics.ensures.count; number_is = c.in_ok-nonbasics.ensures.numbers }) c.in_ok-cells.ensures)
+    c.in_ok-basics.ensures c.in_ok-push.ensures.items c.in_ok-nonbasics.ensures c.in_ok-cells.ensures)

@@ -1,0 +1,5 @@
+use Rattle.lemke_pivot.proofs.ProblemAnswers.{problems_single}
+use Rattle.lemke_pivot.proofs.laws.problems_are_single.Goals as goal
+
+pub returns : goal.returns
+returns c = problems_single

@@ -1,0 +1,17 @@
+use Rattle.std.proofs.Common.{◌∙◌, ◌+◌, length}
+use Rattle.lemke_pivot.specs.Systems.{listed_costs}
+use Rattle.lemke_pivot.proofs.Blocks.{less_p, less_q}
+use Rattle.lemke_pivot.proofs.Solve.{prices_are}
+use Rattle.lemke_pivot.proofs.matrix.matrix_entry.Goals as goal
+
+pub returns-then-row-prices-2 : goal.returns-then-row-prices-2
+returns-then-row-prices-2 c =
+    less_p (listed_costs c.args.first.now c.args.second.now c.args.one.now c.args.two.now) c.sequences-rows.result c.sequences-columns.result (length c.sets.result.now + 1) (length c.sets-2.result.now + 1) c.args.row c.args.col
+    (c.sequences-rows.ensures ∙ c.requires.first_side.sequences_are) (c.sequences-columns.ensures ∙ c.requires.second_side.sequences_are) (prices_are c.args.first.now c.sets.result.now c.sets.ensures) (prices_are c.args.second.now c.sets-2.result.now c.sets-2.ensures)
+    c.if-row-rows.false c.if-row-columns.false c.if-row-prices.false c.neg.result c.entry_p-then-row-prices-2.result c.neg.ensures c.if-row-prices-2.true c.entry_p-then-row-prices-2.ensures
+
+pub returns : goal.returns
+returns c =
+    less_q (listed_costs c.args.first.now c.args.second.now c.args.one.now c.args.two.now) c.sequences-rows.result c.sequences-columns.result (length c.sets.result.now + 1) (length c.sets-2.result.now + 1) c.args.row c.args.col
+    (c.sequences-rows.ensures ∙ c.requires.first_side.sequences_are) (c.sequences-columns.ensures ∙ c.requires.second_side.sequences_are) (prices_are c.args.first.now c.sets.result.now c.sets.ensures) (prices_are c.args.second.now c.sets-2.result.now c.sets-2.ensures)
+    c.if-row-rows.false c.if-row-columns.false c.if-row-prices.false c.neg-2.result c.entry_q-2.result c.neg-2.ensures c.if-row-prices-2.false c.if-row-others.false c.entry_q-2.ensures

@@ -1,0 +1,118 @@
+-- The problem of a sequence form in stages, and why there is none.
+use Rattle.std.specs.Prelude.{ℕ, ◌≡◌, ◌<◌, List, [], ◌∷◌, Ok, Err}
+use Rattle.answers.specs.Answers.{Answer, ◌>>◌, IsSingle, refuse_where, refused_by}
+use Rattle.rational.specs.Rational.{ℚ, ◌-ℚ◌, ◌*ℚ◌}
+use Rattle.frac128.specs.Steps.{unfit}
+use Rattle.frac128.specs.declared.steps.Op.TheVariants.{Sub, Mul}
+use Rattle.lex_tableau.specs.Rows.{IsTableau}
+use Rattle.lex_tableau.specs.Starts.{Parts, IsStartOf, StartFits}
+use Rattle.lex_tableau.specs.StartStops.{IsStartStop}
+use Rattle.lex_tableau.specs.declared.tableau.StartStop.{StartStop}
+use Rattle.lex_tableau.specs.declared.tableau.StartStop.TheVariants as starts
+use Rattle.game_core.specs.declared.too_large.TooLarge.{TooLarge}
+use Rattle.game_core.specs.declared.too_large.What.TheVariants as what
+use Rattle.pure_payoffs.specs.Steps.{Step}
+use Rattle.pure_payoffs.specs.FirstUnfit.{all_fit}
+use Rattle.sequence_forms.specs.Prices.{costs}
+use Rattle.sequence_data.specs.declared.types.Cell.{Cell}
+use Rattle.sequence_data.specs.Data.{FormData, IsFormData, form, of_player, side_of}
+use Rattle.lemke_pivot.specs.Parts.{Problem, IsProblem, IsProblemOfForm, problem_size}
+use Rattle.lemke_pivot.specs.Systems.{IsSystemFor}
+use Rattle.lemke_pivot.specs.declared.stop.LcpStop.{LcpStop}
+use Rattle.lemke_pivot.specs.declared.stop.LcpStop.TheVariants as stops
+
+-- ---- the size
+abbrev pub form_size : FormData → ℕ
+form_size f = problem_size (side_of f.first) (side_of f.second)
+
+abbrev pub too_many_rows : FormData → TooLarge
+too_many_rows f = record { what = what.Rows; count = form_size f; limit = 512 }
+
+-- ---- the costs
+-- the cost of a payoff: the greatest payoff times the weight, less the payoff; the product first
+abbrev pub cost_at : ℚ → ℚ → ℚ → ℚ
+cost_at most weight payoff = (most *ℚ weight) -ℚ payoff
+
+abbrev pub cost_steps : ℚ → ℚ → ℚ → List Step
+cost_steps most weight payoff = unfit Mul most weight ∷ unfit Sub (most *ℚ weight) payoff ∷ []
+
+-- the cost of each player at a cell
+abbrev pub cost_one : ℚ → Cell → ℚ
+cost_one most c = cost_at most c.weight c.one
+
+abbrev pub cost_two : ℚ → Cell → ℚ
+cost_two most c = cost_at most c.weight c.two
+
+-- a cell, and the player whose cost there is meant
+pub record PlayersCell : Type 0 where
+  pub player : ℕ
+  pub cell : Cell
+
+-- cell by cell, player 0's cost and then player 1's
+abbrev pub both_costs : List Cell → List PlayersCell
+both_costs [] = []
+both_costs (c ∷ cells) =
+    record { player = 0; cell = c } ∷ record { player = 1; cell = c } ∷ both_costs cells
+
+abbrev pub steps_at : ℚ → ℚ → PlayersCell → List Step
+steps_at most_one most_two c =
+    cost_steps (of_player c.player most_one most_two) c.cell.weight
+    (of_player c.player c.cell.one c.cell.two)
+
+-- a cell and its step as a refusal tells them
+abbrev pub told_cost : PlayersCell × Step → LcpStop
+told_cost stop = stops.Range stop.0.player stop.0.cell.row stop.0.cell.column stop.1
+
+-- the costs of all cells fit; or the first step that does not, with its player, row and column
+abbrev pub costs_in : ℚ → ℚ → List Cell → Answer LcpStop (Unit {0})
+costs_in most_one most_two cells =
+    refused_by told_cost (all_fit (steps_at most_one most_two) (both_costs cells))
+
+-- ---- the start
+-- the system of the problem of a form
+abbrev pub IsSystemOf : FormData → Parts → Type 0
+IsSystemOf f s =
+    IsSystemFor f.first f.second (costs (form f) 0 f.greatest_one) (costs (form f) 1 f.greatest_two)
+    s
+
+-- a problem with these sides, whose start is that of this system
+pub record IsStarted (f : FormData) (s : Parts) (p : Problem) : Type 0 where
+  pub first : p.first ≡ f.first
+  pub second : p.second ≡ f.second
+  pub start : IsStartOf s p.tableau
+  pub valid : IsTableau p.tableau
+  pub fits : StartFits s
+
+-- the start of the system, all steps of which fit; or the first step that does not, with its row
+abbrev pub started : FormData → Parts → Answer StartStop Problem
+started f s (Ok p) = IsStarted f s p
+started f s (Err (starts.Unfit row unfit)) = IsStartStop s (starts.Unfit row unfit)
+started f s (Err starts.Memory) = ⊥
+
+abbrev pub start_at : FormData → Answer StartStop Problem
+start_at f answer = (s : Parts) × (IsSystemOf f s × started f s answer)
+
+-- a stop of the start as one of the problem
+abbrev pub told_start : StartStop → LcpStop
+told_start (starts.Unfit row unfit) = stops.Start row unfit
+told_start starts.Memory = stops.Memory
+
+abbrev pub start_in : FormData → Answer LcpStop Problem
+start_in f = refused_by told_start (start_at f)
+
+-- ---- all
+-- The problem of a sequence form within the limit, whose steps all fit; or why there is none.
+abbrev pub problem_in : FormData → Answer LcpStop Problem
+problem_in f =
+    refuse_where (512 < form_size f) (stops.TooLarge (too_many_rows f))
+    >> (costs_in f.greatest_one f.greatest_two f.cells >> start_in f)
+
+-- A form has one problem, or one reason why it has none.
+abbrev pub ProblemsAreSingle : Type 0
+ProblemsAreSingle = (f : FormData) → IsSingle (problem_in f)
+
+-- The problem that a form has is a problem, and that of the form.
+abbrev pub ProblemsAreOfForms : Type 0
+ProblemsAreOfForms =
+    (f : FormData) (p : Problem) → IsFormData f → problem_in f (Ok p)
+    → IsProblem p × IsProblemOfForm (form f) f.greatest_one f.greatest_two p

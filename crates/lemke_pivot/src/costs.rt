@@ -1,0 +1,73 @@
+// What both players' payoffs lack of the greatest ones.
+ghost use Rattle.std.specs.Prelude.{◌≡◌, All, map, IfOk, IfErr, OnOk};
+ghost use Rattle.answers.specs.Answers.{Gives, map_ok};
+ghost use Rattle.pure_payoffs.specs.Steps.{StepFits, IsFirstUnfit};
+ghost use Rattle.lemke_pivot.specs.declared.stop.LcpStop.TheVariants as stops;
+ghost use Rattle.lemke_pivot.specs.FormProblems.{cost_at, cost_one, cost_steps, cost_two, costs_in};
+
+use crate::stop::LcpStop;
+use frac128::{Frac, Unfit};
+use sequence_data::Cell;
+use std::alloc::Global;
+
+/// The costs of both players, cell by cell.
+#[derive(Debug, Drop)]
+pub(crate) struct CellCosts {
+    pub(crate) one: Vec<Frac>,
+    pub(crate) two: Vec<Frac>,
+}
+
+// The cost of a payoff: the greatest payoff times the weight, less the payoff.
+fn cost(most: Frac, weight: Frac, payoff: Frac) -> Result<Frac, Unfit>
+    ensures value { IfOk result (λ cost. cost ≡ cost_at most weight payoff) }
+    ensures fits { OnOk result (All StepFits (cost_steps most weight payoff)) }
+    ensures unfit { IfErr result (IsFirstUnfit (cost_steps most weight payoff)) }
+{
+    match most.mul(weight) {
+        Ok(part) => part.sub(payoff),
+        Err(unfit) => Err(unfit),
+    }
+}
+
+// The refusal of a player's cost at a cell.
+fn refused(player: u32, cell: Cell, unfit: Unfit) -> LcpStop
+    ensures { result ≡ stops.Range player cell.row cell.column unfit }
+{
+    LcpStop::Range {
+        player,
+        row: cell.row,
+        column: cell.column,
+        unfit,
+    }
+}
+
+/// The costs of both players at each cell.
+///
+/// # Errors
+///
+/// `Range` exactly at the first step that does not fit. `Memory` where memory ran out.
+pub(crate) fn costs(
+    alloc: Global,
+    most_one: Frac,
+    most_two: Frac,
+    cells: &[Cell],
+) -> Result<CellCosts, LcpStop>
+    ensures one { IfOk result (λ costs. costs.one.items ≡ map (cost_one most_one) cells.now) }
+    ensures two { IfOk result (λ costs. costs.two.items ≡ map (cost_two most_two) cells.now) }
+    ensures stage { Gives stops.Memory (costs_in most_one most_two cells.now)
+        (map_ok result (λ _. tt)) }
+{
+    let mut one = Vec::with_capacity(alloc, cells.len())?;
+    let mut two = Vec::with_capacity(alloc, cells.len())?;
+    for cell in cells {
+        match cost(most_one, cell.weight, cell.one) {
+            Ok(value) => one.push(value)?,
+            Err(unfit) => return Err(refused(0, *cell, unfit)),
+        }
+        match cost(most_two, cell.weight, cell.two) {
+            Ok(value) => two.push(value)?,
+            Err(unfit) => return Err(refused(1, *cell, unfit)),
+        }
+    }
+    Ok(CellCosts { one, two })
+}

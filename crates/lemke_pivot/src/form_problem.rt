@@ -1,0 +1,93 @@
+// The problem of a sequence form.
+ghost use Rattle.std.specs.Prelude.{◌≡◌, ◌≤◌, map, IfOk};
+ghost use Rattle.answers.specs.Answers.{Gives};
+ghost use Rattle.lemke_pivot.specs.declared.stop.LcpStop.TheVariants as stops;
+ghost use Rattle.lemke_pivot.specs.FormProblems.{IsSystemOf, cost_one, cost_two, form_size, problem_in, start_in};
+
+use crate::costs::costs;
+use crate::lcp::{Lcp, row_count};
+use crate::stop::LcpStop;
+use crate::system::system;
+use form_matrices::dense;
+use frac128::{Frac, Memory};
+use game_core::{TooLarge, What};
+use lex_tableau::{StartStop, System};
+use sequence_data::{SeqForm, SetRow, Side};
+use std::alloc::Global;
+
+// The most rows.
+const LIMIT: u64 = 512;
+
+// A copy of a side.
+fn copied(alloc: Global, side: &Side) -> Result<Side, Memory>
+    ensures { IfOk result (λ copy. copy ≡ side.now) }
+{
+    let mut sets: Vec<SetRow> = Vec::new(alloc);
+    let rows = side.sets();
+    for set in rows {
+        sets.push(*set)?;
+    }
+    Ok(Side::new(side.sequences(), sets))
+}
+
+// The system with the costs of the cells.
+fn system_of_form(
+    alloc: Global,
+    form: &SeqForm,
+    one: &[Frac],
+    two: &[Frac],
+) -> Result<System, Memory>
+    requires few { form_size form.now ≤ 512 }
+    requires one { one.now ≡ map (cost_one form.now.greatest_one) form.now.cells }
+    requires two { two.now ≡ map (cost_two form.now.greatest_two) form.now.cells }
+    ensures { IfOk result (IsSystemOf form.now) }
+{
+    let rows = form.first().sequences() as usize;
+    let columns = form.second().sequences() as usize;
+    let first = dense(alloc, rows, columns, form.cells(), one)?;
+    let second = dense(alloc, rows, columns, form.cells(), two)?;
+    system(alloc, form.first(), form.second(), &first, &second)
+}
+
+// The problem of a form with its system, and the room of its path.
+fn started(alloc: Global, form: &SeqForm, system: &System) -> Result<Lcp, LcpStop>
+    requires few { form_size form.now ≤ 512 }
+    requires system { IsSystemOf form.now system.now }
+    ensures { Gives stops.Memory (start_in form.now) result }
+{
+    let first = copied(alloc, form.first())?;
+    let second = copied(alloc, form.second())?;
+    match Lcp::new(alloc, first, second, system) {
+        Ok(lcp) => Ok(lcp),
+        Err(StartStop::Unfit { row, unfit }) => Err(LcpStop::Start { row, unfit }),
+        Err(StartStop::Memory) => Err(LcpStop::Memory),
+    }
+}
+
+/// The linear complementarity problem of a sequence form, with the room of its path.
+///
+/// # Errors
+///
+/// The first of these that applies: `TooLarge` exactly above 512 rows; `Range` exactly at the first
+/// step of the costs that does not fit; `Start` exactly at the first step of the start that does
+/// not fit. `Memory` where memory ran out.
+pub fn problem(alloc: Global, form: &SeqForm) -> Result<Lcp, LcpStop>
+    ensures { Gives stops.Memory (problem_in form.now) result }
+{
+    let count = row_count(form.first(), form.second());
+    if count > LIMIT {
+        return Err(LcpStop::TooLarge(TooLarge {
+            what: What::Rows,
+            count,
+            limit: LIMIT,
+        }));
+    }
+    let costs = costs(
+        alloc,
+        form.greatest_one(),
+        form.greatest_two(),
+        form.cells(),
+    )?;
+    let system = system_of_form(alloc, form, &costs.one, &costs.two)?;
+    started(alloc, form, &system)
+}

@@ -1,0 +1,64 @@
+// Why there is no problem.
+use frac128::{Memory, Unfit};
+use game_core::TooLarge;
+use std::alloc::{AllocError, AllocFailed};
+
+/// Why a sequence form has no problem here.
+#[derive(Clone, Copy, Debug)]
+pub enum LcpStop {
+    /// There are too many rows.
+    TooLarge(TooLarge),
+    /// A step of the costs does not fit: the first.
+    Range {
+        /// The player, 0 or 1, whose cost it is.
+        player: u32,
+        /// The sequence of player one.
+        row: u32,
+        /// The sequence of player two.
+        column: u32,
+        /// The step.
+        unfit: Unfit,
+    },
+    /// A step of the start does not fit: the first.
+    Start {
+        /// The row, counted from 0.
+        row: u32,
+        /// The step.
+        unfit: Unfit,
+    },
+    /// Memory ran out.
+    Memory,
+}
+
+impl From<Memory> for LcpStop {
+    ghost use Rattle.std.specs.Prelude.{◌≡◌};
+    ghost use Rattle.lemke_pivot.specs.declared.stop.LcpStop.TheVariants as stops;
+
+    ghost from_gives = { λ _ e. e ≡ stops.Memory };
+
+    fn from(_memory: Memory) -> LcpStop {
+        LcpStop::Memory
+    }
+}
+
+impl From<AllocError> for LcpStop {
+    ghost use Rattle.std.specs.Prelude.{◌≡◌};
+    ghost use Rattle.lemke_pivot.specs.declared.stop.LcpStop.TheVariants as stops;
+
+    ghost from_gives = { λ _ e. e ≡ stops.Memory };
+
+    fn from(_error: AllocError) -> LcpStop {
+        LcpStop::Memory
+    }
+}
+
+impl<T: Drop> From<AllocFailed<T>> for LcpStop {
+    ghost use Rattle.std.specs.Prelude.{◌≡◌};
+    ghost use Rattle.lemke_pivot.specs.declared.stop.LcpStop.TheVariants as stops;
+
+    ghost from_gives = { λ _ e. e ≡ stops.Memory };
+
+    fn from(_refused: AllocFailed<T>) -> LcpStop {
+        LcpStop::Memory
+    }
+}
