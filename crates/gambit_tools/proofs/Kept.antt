@@ -1,5 +1,5 @@
 -- What the stages before keep of a game, a sequence form and an optimum.
-use Rattle.std.proofs.Common.{ℕ, ◌≡◌, ◌∙◌, inl, inr, sym, subst, Bool, true, false, List, Result, Ok}
+use Rattle.std.proofs.Common.{ℕ, ◌≡◌, ◌∙◌, inl, inr, sym, subst, arith, Bool, true, false, Option, List, Result, Ok}
 use Rattle.game_trees.specs.FirstNodes.{AreNumberedByFirstNodes}
 use Rattle.game_trees.specs.Trees.{IsTree as is_game_tree}
 use Rattle.game_core.specs.Tree.{GameTree, IsTree}
@@ -7,9 +7,12 @@ use Rattle.game_core.specs.TreeGame.{game_of_tree}
 use Rattle.game_core.specs.declared.game.Game.{Game}
 use Rattle.game_core.specs.declared.game.Game.TheVariants.{Strategic, Extensive}
 use Rattle.game_tokens.specs.TokenList.{TokenList}
+use Rattle.perfect_recall.specs.Found.{IsRecallOf}
+use Rattle.sequence_forms.specs.Forms.{HasTwoWhoRecall}
 use Rattle.written_trees.proofs.BegunTrees.{whole_is_tree}
 use Rattle.sequence_data.specs.Data.{FormData, IsFormData, IsSideData}
-use Rattle.sequence_form.specs.Counts.{size_of_program}
+use Rattle.sequence_form.specs.Forms.{IsTreeForm}
+use Rattle.sequence_form.specs.declared.counts.Counts.{Counts}
 use Rattle.sequence_form.proofs.Kept.{table_form-valid, tree_form-valid}
 use Rattle.zero_sum_lp.specs.FormPrograms.{program_in}
 use Rattle.zero_sum_lp.specs.Parts.{IsOptimumOf, IsProgram, Program}
@@ -38,11 +41,20 @@ game_in-valid bytes game h = game_of-valid h.0 game h.2
 
 -- ---- forms
 -- the form of a game
-pub form_in-valid : (strategic : Bool) (game : Game) (f : FormData) → TreesAreGames → IsGame game → form_in size_of_program strategic game (Ok f) → IsFormData f
-form_in-valid true (Strategic t) f laws w h = table_form-valid t f w h.2
-form_in-valid false (Strategic t) f laws w h = table_form-valid t f w h.2
-form_in-valid true (Extensive t) f laws w h = table_form-valid h.0.table f h.1.0.is_table h.2.2
-form_in-valid false (Extensive t) f laws w h = tree_form-valid (game_of_tree t) f (laws.game_tree t w) (laws.numbered t w) h.1.all_recall h.2.2
+pub form_in-valid : (rows : Counts → ℕ) (strategic : Bool) (game : Game) (f : FormData) → TreesAreGames → IsGame game → form_in rows strategic game (Ok f) → IsFormData f
+form_in-valid rows true (Strategic t) f laws w h = table_form-valid t f w h.2
+form_in-valid rows false (Strategic t) f laws w h = table_form-valid t f w h.2
+form_in-valid rows true (Extensive t) f laws w h = table_form-valid h.0.table f h.1.0.is_table h.2.2
+form_in-valid rows false (Extensive t) f laws w h = tree_form-valid (game_of_tree t) f (laws.game_tree t w) (laws.numbered t w) h.1.all_recall h.2.2
+
+-- a tree with a form has two players, who recall
+pub two_who_recall : (t : GameTree) (f : FormData) (before : List (Option (ℕ × ℕ))) → TreesAreGames → IsTree t → IsRecallOf (game_of_tree t) before → IsTreeForm (game_of_tree t) f → HasTwoWhoRecall (game_of_tree t)
+two_who_recall t f before laws w recall h = record {
+  is_tree = laws.game_tree t w;
+  two_players = h.two_players;
+  first_recalls = recall.all_recall 0 (omega (arith, h.two_players));
+  second_recalls = recall.all_recall 1 (omega (arith, h.two_players));
+}
 
 -- ---- programs and optima
 -- how a form is solved: its program, the program's optimum and the plans

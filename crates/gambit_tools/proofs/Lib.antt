@@ -1,7 +1,13 @@
 pub mod Computing
 pub mod ConstantSums
 pub mod Contents
+pub mod FormContents
+pub mod FormSingles
 pub mod Kept
+pub mod LcpContents
+pub mod LcpPlans
+pub mod LcpSingles
+pub mod LcpTexts
 pub mod LpContents
 pub mod LpSingles
 pub mod LpTexts

@@ -1,25 +1,14 @@
 -- The tool `lp` has at most one answer.
-use Rattle.std.proofs.Common.{ℕ, ◌≡◌, ◌<◌, ◌≢◌, ◌∙◌, ap, sym, Bool, true, false, [], ◌++◌, Ok, Err}
-use Rattle.answers.specs.Answers.{IsSingle, ◌>>=◌, ◌>>◌, only, refuse_where, refused_by}
+use Rattle.std.proofs.Common.{ℕ, ◌≡◌, ◌∙◌, ap, sym, Bool, true, false, [], ◌++◌, Ok, Err}
+use Rattle.answers.specs.Answers.{IsSingle, ◌>>=◌, only, refuse_where, refused_by}
 use Rattle.answers.proofs.Answers.{bind-single, only-single, refuse_where-single, refused_by-single}
 use Rattle.frac128.specs.Steps.{AddFits, unfit}
 use Rattle.frac128.specs.declared.steps.Op.TheVariants.{Add}
 use Rattle.frac128.specs.declared.steps.Unfit.{Unfit}
 use Rattle.game_theory.specs.Lines.{line_text}
-use Rattle.game_core.specs.Table.{GameTable}
-use Rattle.game_core.specs.Tree.{GameTree, IsTree}
 use Rattle.game_core.specs.declared.game.Game.{Game}
-use Rattle.game_core.specs.declared.game.Game.TheVariants.{Strategic, Extensive}
-use Rattle.game_core.specs.declared.too_large.What.TheVariants as what
-use Rattle.behaviour_profile.specs.Plans.{plan_behaviour}
-use Rattle.behaviour_profile.proofs.PlanStops.{plan_behaviour-single}
-use Rattle.perfect_recall.specs.Found.{recall_of}
-use Rattle.reduced_form.specs.Stops.{form_of}
-use Rattle.reduced_form.proofs.Exact.{form_of-single}
 use Rattle.sequence_data.specs.Data.{FormData, IsFormData}
 use Rattle.sequence_form.specs.Counts.{size_of_program}
-use Rattle.sequence_form.specs.Forms.{tree_form, table_form}
-use Rattle.sequence_form.proofs.Forms.{table_form-single, tree_form-single}
 use Rattle.zero_sum_lp.specs.FormPrograms.{program_in}
 use Rattle.zero_sum_lp.specs.Parts.{IsProgram, Program}
 use Rattle.zero_sum_lp.specs.PlanStops.{plans_of}
@@ -29,43 +18,16 @@ use Rattle.zero_sum_lp.proofs.FormLaws.{programs_of_forms}
 use Rattle.zero_sum_lp.proofs.PathEnds.{ends_same}
 use Rattle.zero_sum_lp.proofs.PlanAnswers.{plans_single}
 use Rattle.zero_sum_lp.proofs.ProgramAnswers.{programs_single}
+use Rattle.gambit_tools.specs.Entries.{entries_in}
 use Rattle.gambit_tools.specs.Games.{IsGame}
-use Rattle.gambit_tools.specs.Lp.{IsStepRefusal, Solution, entries_in, first_price, lp, optimum_of, prices_in, prices_text, solution, solution_in, solution_text}
-use Rattle.gambit_tools.specs.Told.{behaviour_refusal, form_refusal, plan_refusal, program_refusal, recall_refusal, sequence_refusal}
-use Rattle.gambit_tools.specs.TwoPlayers.{form_in, form_of_table, form_of_tree, players_of, table_counts, tree_counts, two_players, within_rows}
+use Rattle.gambit_tools.specs.Lp.{IsStepRefusal, Solution, first_price, lp, optimum_of, prices_in, prices_text, solution, solution_in, solution_text}
+use Rattle.gambit_tools.specs.Told.{plan_refusal, program_refusal}
+use Rattle.gambit_tools.specs.TwoPlayers.{form_in, two_players}
 use Rattle.gambit_tools.specs.declared.refusal.Refusal.{Refusal}
 use Rattle.gambit_tools.specs.declared.refusal.Refusal.TheVariants as refusal
 use Rattle.gambit_tools.specs.declared.refusal.Site.TheVariants as site
+use Rattle.gambit_tools.proofs.FormSingles.{RecallsAreSingle, entries_in-single, form_in-single, two_players-single}
 use Rattle.gambit_tools.proofs.Kept.{TreesAreGames, form_in-valid, optimum-first, optimum-second}
-
--- a tree has one recall
-abbrev pub RecallsAreSingle : Type 0
-RecallsAreSingle = (t : GameTree) → IsTree t → IsSingle (recall_of t)
-
--- ---- the form
-within_rows-single : (rows : ℕ) → IsSingle (within_rows rows)
-within_rows-single rows = refuse_where-single (512 < rows) (refusal.TooLarge what.Rows rows 512)
-
-form_of_table-single : (t : GameTable) → IsSingle (form_of_table size_of_program t)
-form_of_table-single t =
-    bind-single (within_rows (size_of_program (table_counts t))) (λ _. refused_by sequence_refusal (table_form t)) (within_rows-single (size_of_program (table_counts t)))
-    (λ _ _. refused_by-single sequence_refusal (table_form t) (table_form-single t))
-
-form_of_tree-single : (t : GameTree) → IsSingle (recall_of t) → IsSingle (form_of_tree size_of_program t)
-form_of_tree-single t single =
-    bind-single (refused_by recall_refusal (recall_of t)) (λ _. within_rows (size_of_program (tree_counts t)) >> refused_by sequence_refusal (tree_form t))
-    (refused_by-single recall_refusal (recall_of t) single)
-    (λ _ _. bind-single (within_rows (size_of_program (tree_counts t))) (λ _. refused_by sequence_refusal (tree_form t)) (within_rows-single (size_of_program (tree_counts t)))
-    (λ _ _. refused_by-single sequence_refusal (tree_form t) (tree_form-single t)))
-
-form_in-single : (strategic : Bool) (game : Game) → RecallsAreSingle → IsGame game → IsSingle (form_in size_of_program strategic game)
-form_in-single true (Strategic t) recalls w = form_of_table-single t
-form_in-single false (Strategic t) recalls w = form_of_table-single t
-form_in-single true (Extensive t) recalls w =
-    bind-single (refused_by form_refusal (form_of t)) (λ form. form_of_table size_of_program form.table)
-    (refused_by-single form_refusal (form_of t) (form_of-single t))
-    (λ form _. form_of_table-single form.table)
-form_in-single false (Extensive t) recalls w = form_of_tree-single t (recalls t w)
 
 -- ---- the solution
 -- the optima at the end of a path
@@ -105,12 +67,6 @@ solution_in-single f w =
     bind-single (optimum_of p) (λ o. refused_by plan_refusal (plans_of o) >>= λ plans. only (solution f o plans)) (optimum_of-single p h) (λ o l. plans-single f p o h l))
 
 -- ---- the text
-entries_in-single : (strategic : Bool) (game : Game) (s : Solution) → IsSingle (entries_in strategic game s)
-entries_in-single true (Strategic t) s = only-single _
-entries_in-single false (Strategic t) s = only-single _
-entries_in-single true (Extensive t) s = only-single _
-entries_in-single false (Extensive t) s = refused_by-single behaviour_refusal (plan_behaviour t s.one s.two) (plan_behaviour-single t s.one s.two)
-
 prices_in-single : (asked : Bool) (f : FormData) (s : Solution) → IsSingle (prices_in asked f s)
 prices_in-single false f s = only-single []
 prices_in-single true f s =
@@ -119,12 +75,12 @@ prices_in-single true f s =
 
 solution_text-single : (strategic asked : Bool) (game : Game) (f : FormData) (s : Solution) → IsSingle (solution_text strategic asked game f s)
 solution_text-single strategic asked game f s =
-    bind-single (entries_in strategic game s) (λ entries. prices_in asked f s >>= λ lines. only (line_text entries ++ lines)) (entries_in-single strategic game s)
+    bind-single (entries_in strategic game s.one s.two) (λ entries. prices_in asked f s >>= λ lines. only (line_text entries ++ lines)) (entries_in-single strategic game s.one s.two)
     (λ entries _. bind-single (prices_in asked f s) (λ lines. only (line_text entries ++ lines)) (prices_in-single asked f s) (λ lines _. only-single (line_text entries ++ lines)))
 
 pub lp-single : (strategic asked : Bool) (game : Game) → TreesAreGames → RecallsAreSingle → IsGame game → IsSingle (lp strategic asked game)
 lp-single strategic asked game laws recalls w =
     bind-single (two_players game) (λ _. form_in size_of_program strategic game >>= λ f. (solution_in f >>= λ s. solution_text strategic asked game f s))
-    (refuse_where-single (players_of game ≢ 2) (refusal.NotTwoPlayers (players_of game)))
-    (λ _ _. bind-single (form_in size_of_program strategic game) (λ f. solution_in f >>= λ s. solution_text strategic asked game f s) (form_in-single strategic game recalls w)
-    (λ f k. bind-single (solution_in f) (λ s. solution_text strategic asked game f s) (solution_in-single f (form_in-valid strategic game f laws w k)) (λ s _. solution_text-single strategic asked game f s)))
+    (two_players-single game)
+    (λ _ _. bind-single (form_in size_of_program strategic game) (λ f. solution_in f >>= λ s. solution_text strategic asked game f s) (form_in-single size_of_program strategic game recalls w)
+    (λ f k. bind-single (solution_in f) (λ s. solution_text strategic asked game f s) (solution_in-single f (form_in-valid size_of_program strategic game f laws w k)) (λ s _. solution_text-single strategic asked game f s)))

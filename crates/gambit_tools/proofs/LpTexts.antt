@@ -1,5 +1,5 @@
 -- The texts of `lp` are those of solutions.
-use Rattle.std.proofs.Common.{ℕ, suc, ◌≡◌, ◌∙◌, sym, ap, subst, Bool, true, false, if◌then◌else◌, arith, Option, List, [], ◌++◌, length, Result, Ok}
+use Rattle.std.proofs.Common.{ℕ, suc, ◌≡◌, ◌∙◌, sym, ap, subst, Bool, true, false, if◌then◌else◌, Option, List, [], ◌++◌, length, Result, Ok}
 use Rattle.game_theory.specs.Lines.{line_text}
 use Rattle.game_core.specs.Table.{GameTable, IsTable, game_of}
 use Rattle.game_core.specs.Tree.{GameTree, IsTree}
@@ -7,7 +7,6 @@ use Rattle.game_core.specs.TreeGame.{game_of_tree}
 use Rattle.game_core.specs.declared.game.Game.{Game}
 use Rattle.game_core.specs.declared.game.Game.TheVariants.{Strategic, Extensive}
 use Rattle.perfect_recall.specs.Found.{IsRecallOf}
-use Rattle.sequence_forms.specs.Forms.{HasTwoWhoRecall}
 use Rattle.sequence_forms.specs.PriceLaws.{ProvesValueOfTree}
 use Rattle.sequence_forms.specs.TableLaws.{ProvesValueOfTable}
 use Rattle.sequence_data.specs.Data.{FormData, IsFormData, SideData, form}
@@ -29,7 +28,7 @@ use Rattle.gambit_tools.specs.LpLaws.{HoldsOn, IsSolved, LpTextsAreSolutions, Pr
 use Rattle.gambit_tools.specs.TwoPlayers.{form_in}
 use Rattle.gambit_tools.specs.declared.refusal.Refusal.{Refusal}
 use Rattle.gambit_tools.proofs.ConstantSums.{constant_of, sums_to, table_sums, tree_sums}
-use Rattle.gambit_tools.proofs.Kept.{IsSolving, TreesAreGames, first-same, form_in-valid, second-same}
+use Rattle.gambit_tools.proofs.Kept.{IsSolving, TreesAreGames, first-same, form_in-valid, second-same, two_who_recall}
 
 -- two values of one answer
 ok_same : {Y : Type 0} (a b : Y) → ◌≡◌ {A = Result Y Refusal} (Ok a) (Ok b) → a ≡ b
@@ -62,12 +61,7 @@ module _ (f : FormData) (p o : Program) (plans : PlanPair) (h : IsSolving f p o 
   on_tree : (t : GameTree) (before : List (Option (ℕ × ℕ))) → TreesAreGames → IsTree t → IsRecallOf (game_of_tree t) before → IsTreeForm (game_of_tree t) f → ProvesValueOfTree (game_of_tree t) (weight plans.one) (weight plans.two) (solution f o plans).value
   on_tree t before laws w recall k =
       let none : Leaf = leaf_at (game_of_tree t) 0 in
-      let two : HasTwoWhoRecall (game_of_tree t) = record {
-        is_tree = laws.game_tree t w;
-        two_players = k.two_players;
-        first_recalls = recall.all_recall 0 (omega (arith, k.two_players));
-        second_recalls = recall.all_recall 1 (omega (arith, k.two_players));
-      } in
+      let two = two_who_recall t f before laws w recall k in
       let sums = tree_sums (game_of_tree t) f (constant_of f none) k (sums_to f none h.valid h.program.2.2.1) in
       plans_solve_trees (game_of_tree t) (form f) f.least_one (constant_of f none) p o plans two (tree_stands (game_of_tree t) f k).alike sums is_program is_of_form h.optimum h.planned
 
@@ -97,5 +91,5 @@ solved_text strategic asked game text f p o plans s laws w k h same (entries, ar
 
 pub lp_texts : TreesAreGames → LpTextsAreSolutions
 lp_texts laws strategic asked game text w (_, _, (f, k, (s, (p, program, (o, optimum, (plans, planned, same))), h))) =
-    let valid : IsFormData f = form_in-valid strategic game f laws w k in
+    let valid : IsFormData f = form_in-valid size_of_program strategic game f laws w k in
     solved_text strategic asked game text f p o plans s laws w k (record { valid = valid; program = program; optimum = optimum; planned = planned }) (ok_same s (solution f o plans) same) h

@@ -1,6 +1,6 @@
 -- The tool `lp`: an equilibrium of a game of two players with constant sum, and the prices that prove its value.
 -- Source: Koller, Megiddo and von Stengel 1996.
-use Rattle.std.specs.Prelude.{ℕ, suc, ◌≡◌, Bool, true, false, List, [], ◌∷◌, ◌++◌, length, map, drop, slice_index_or, codes, Ok, Err}
+use Rattle.std.specs.Prelude.{ℕ, suc, ◌≡◌, Bool, true, false, List, [], ◌∷◌, ◌++◌, length, map, slice_index_or, codes, Ok, Err}
 use Rattle.std.specs.List.{range_with_len}
 use Rattle.answers.specs.Answers.{Answer, only, refuse_where, ◌>>=◌, ◌>>◌, refused_by}
 use Rattle.rational.specs.Rational.{ℚ, ◌+ℚ◌, zero_ℚ}
@@ -9,8 +9,6 @@ use Rattle.frac128.specs.declared.steps.Op.TheVariants.{Add}
 use Rattle.frac128.specs.declared.steps.Unfit.{Unfit}
 use Rattle.game_theory.specs.Lines.{line_text}
 use Rattle.game_core.specs.declared.game.Game.{Game}
-use Rattle.game_core.specs.declared.game.Game.TheVariants.{Extensive}
-use Rattle.behaviour_profile.specs.Plans.{plan_behaviour}
 use Rattle.ne_printer.specs.Entries.{numbers_line}
 use Rattle.sequence_data.specs.Data.{FormData}
 use Rattle.sequence_form.specs.Counts.{size_of_program}
@@ -19,7 +17,8 @@ use Rattle.zero_sum_lp.specs.Parts.{Program, IsOptimumOf, first_prices, second_p
 use Rattle.zero_sum_lp.specs.PlanPairs.{PlanPair}
 use Rattle.zero_sum_lp.specs.PlanStops.{plans_of}
 use Rattle.zero_sum_lp.specs.Steps.{IsUnfitStep}
-use Rattle.gambit_tools.specs.Told.{program_refusal, plan_refusal, behaviour_refusal}
+use Rattle.gambit_tools.specs.Entries.{entries_in}
+use Rattle.gambit_tools.specs.Told.{program_refusal, plan_refusal}
 use Rattle.gambit_tools.specs.TwoPlayers.{two_players, form_in}
 use Rattle.gambit_tools.specs.declared.refusal.Refusal.{Refusal}
 use Rattle.gambit_tools.specs.declared.refusal.Refusal.TheVariants as refusal
@@ -72,12 +71,6 @@ solution_in f = do
   only (solution f optimum plans)
 
 -- ---- what is printed
--- The entries of a solution: of a tree its behaviour, else the weights of the strategies, which are
--- those of all sequences but the empty one.
-abbrev pub entries_in : Bool → Game → Solution → Answer Refusal (List ℚ)
-entries_in false (Extensive t) s = refused_by behaviour_refusal (plan_behaviour t s.one s.two)
-entries_in _ _ s = only (drop 1 s.one ++ drop 1 s.two)
-
 -- the value, the least payoff, and both players' prices
 abbrev pub prices_text : FormData → Solution → List ℕ
 prices_text f s =
@@ -102,7 +95,7 @@ prices_in true f s = do
 -- the text of a form's solution
 abbrev pub solution_text : Bool → Bool → Game → FormData → Solution → Answer Refusal (List ℕ)
 solution_text strategic asked game f s = do
-  entries ← entries_in strategic game s
+  entries ← entries_in strategic game s.one s.two
   lines ← prices_in asked f s
   only (line_text entries ++ lines)
 

@@ -14,8 +14,9 @@ use Rattle.sequence_forms.specs.TableLaws.{ProvesValueOfTable}
 use Rattle.sequence_data.specs.Data.{FormData, form}
 use Rattle.sequence_data.specs.Weights.{weight}
 use Rattle.sequence_form.specs.Counts.{size_of_program}
+use Rattle.gambit_tools.specs.Entries.{entries_in}
 use Rattle.gambit_tools.specs.Games.{IsGame}
-use Rattle.gambit_tools.specs.Lp.{Solution, entries_in, listed_prices, lp, prices_text}
+use Rattle.gambit_tools.specs.Lp.{Solution, listed_prices, lp, prices_text}
 use Rattle.gambit_tools.specs.TwoPlayers.{form_in}
 
 -- plans and value of a solution hold on the file's own game: on a tree by its behaviour, else on the
@@ -44,7 +45,7 @@ pub record IsSolved (strategic asked : Bool) (game : Game) (text : List ℕ) : T
   pub proves : ProvesValue form solution
   pub holds : HoldsOn strategic game solution
   pub entries : List ℚ
-  pub are_entries : entries_in strategic game solution (Ok entries)
+  pub are_entries : entries_in strategic game solution.one solution.two (Ok entries)
   pub text_is : text ≡ line_text entries ++ (if asked then prices_text form solution else [])
 
 abbrev pub LpTextsAreSolutions : Type 0

@@ -1,11 +1,7 @@
 -- What is kept between the stages of a form's solution.
-use Rattle.std.specs.Prelude.{ℕ, ◌≡◌, ◌≤◌, Bool, List, length}
-use Rattle.answers.specs.Answers.{Answer, only, ◌>>=◌}
-use Rattle.game_theory.specs.Lines.{line_text}
-use Rattle.game_core.specs.declared.game.Game.{Game}
+use Rattle.std.specs.Prelude.{◌≡◌, ◌≤◌, length}
 use Rattle.sequence_data.specs.Data.{FormData}
-use Rattle.gambit_tools.specs.Lp.{Solution, solution, entries_in}
-use Rattle.gambit_tools.specs.declared.refusal.Refusal.{Refusal}
+use Rattle.gambit_tools.specs.Lp.{Solution, solution}
 use Rattle.gambit_tools.specs.declared.solving.Solved.{Solved}
 
 -- the solution with an optimum and plans
@@ -20,9 +16,3 @@ pub record HasSizesOf (f : FormData) (s : Solved) : Type 0 where
   pub few_second : length f.second.sets ≤ 512
   pub one : length s.plans.one ≡ f.first.sequences
   pub two : length s.plans.two ≡ f.second.sequences
-
--- the line of a solution
-abbrev pub line_in : Bool → Game → Solution → Answer Refusal (List ℕ)
-line_in strategic game s = do
-  entries ← entries_in strategic game s
-  only (line_text entries)

@@ -1,6 +1,6 @@
 -- What the tools for two players need of a game: two players, and a sequence form whose problem is
 -- within the limit.
-use Rattle.std.specs.Prelude.{ℕ, ◌<◌, ◌≢◌, Bool, true, false, length}
+use Rattle.std.specs.Prelude.{ℕ, ◌<◌, ◌≢◌, Bool, true, false, length, Ok}
 use Rattle.answers.specs.Answers.{Answer, refuse_where, ◌>>=◌, ◌>>◌, refused_by}
 use Rattle.game_core.specs.Table.{GameTable}
 use Rattle.game_core.specs.Tree.{GameTree}
@@ -11,7 +11,7 @@ use Rattle.game_core.specs.declared.too_large.What.TheVariants as what
 use Rattle.perfect_recall.specs.Found.{recall_of}
 use Rattle.reduced_form.specs.Stops.{form_of}
 use Rattle.sequence_data.specs.Data.{FormData}
-use Rattle.sequence_form.specs.Counts.{counts_of}
+use Rattle.sequence_form.specs.Counts.{counts_of, problem_rows, size_of_program}
 use Rattle.sequence_form.specs.Forms.{tree_form, table_form}
 use Rattle.sequence_form.specs.Laws.{rows_of, columns_of}
 use Rattle.sequence_form.specs.Sequences.{tree_side, start_side}
@@ -19,6 +19,8 @@ use Rattle.sequence_form.specs.declared.counts.Counts.{Counts}
 use Rattle.gambit_tools.specs.Told.{form_refusal, recall_refusal, sequence_refusal}
 use Rattle.gambit_tools.specs.declared.refusal.Refusal.{Refusal}
 use Rattle.gambit_tools.specs.declared.refusal.Refusal.TheVariants as refusal
+use Rattle.gambit_tools.specs.declared.two_players.Method.{Method}
+use Rattle.gambit_tools.specs.declared.two_players.Method.TheVariants.{LinearProgram, Complementarity}
 
 -- how many players a game has
 abbrev pub players_of : Game → ℕ
@@ -28,6 +30,11 @@ players_of (Extensive tree) = length tree.players
 -- nothing, but of a game with two players
 abbrev pub two_players : Game → Answer Refusal (Unit {0})
 two_players game = refuse_where (players_of game ≢ 2) (refusal.NotTwoPlayers (players_of game))
+
+-- how many rows a form has by its sizes: of its linear program with the columns, or of its complementarity problem
+abbrev pub rows_by : Method → Counts → ℕ
+rows_by LinearProgram = size_of_program
+rows_by Complementarity = problem_rows
 
 -- nothing, but of a problem with at most 512 rows
 abbrev pub within_rows : ℕ → Answer Refusal (Unit {0})
@@ -61,3 +68,7 @@ form_in rows true (Extensive t) = do
   form ← refused_by form_refusal (form_of t)
   form_of_table rows form.table
 form_in rows false (Extensive t) = form_of_tree rows t
+
+-- a form that a game has, whatever rows are counted
+abbrev pub IsFormOf : Bool → Game → FormData → Type 0
+IsFormOf strategic game form = (rows : Counts → ℕ) × form_in rows strategic game (Ok form)

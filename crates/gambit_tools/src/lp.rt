@@ -1,76 +1,27 @@
 // The tool `lp`.
-ghost use Rattle.std.specs.Prelude.{◌≡◌, ◌++◌, false, drop, option_map, string_bytes, Ok, IfOk};
+ghost use Rattle.std.specs.Prelude.{option_map, string_bytes};
 ghost use Rattle.answers.specs.Answers.{Gives, map_ok};
-ghost use Rattle.game_theory.specs.Lines.{line_text};
-ghost use Rattle.game_core.specs.TreeGame.{game_of_tree};
-ghost use Rattle.game_core.specs.declared.game.Game.TheVariants.{Extensive};
-ghost use Rattle.sequence_form.specs.Counts.{size_of_program};
-ghost use Rattle.sequence_form.specs.Forms.{IsTreeForm};
 ghost use Rattle.words.specs.Words.{Lp as LpCommand};
+ghost use Rattle.gambit_tools.specs.Entries.{line_in};
 ghost use Rattle.gambit_tools.specs.Lp.{lp, solution_text};
 ghost use Rattle.gambit_tools.specs.LpLaws.{LpTextsAreSolutions};
 ghost use Rattle.gambit_tools.specs.Outcome.{IsComputed};
-ghost use Rattle.gambit_tools.specs.Solved.{HasSizesOf, line_in, solution_of};
-ghost use Rattle.gambit_tools.specs.TwoPlayers.{form_in};
+ghost use Rattle.gambit_tools.specs.Solved.{HasSizesOf, solution_of};
+ghost use Rattle.gambit_tools.specs.TwoPlayers.{IsFormOf};
 
+use crate::entries::plans_line;
 use crate::games::game_in;
 use crate::input::read_input;
 use crate::prices::price_lines;
 use crate::refusal::Refusal;
 use crate::solving::{Solved, solve};
-use crate::two_players::{form_in, two_players};
-use behaviour_profile::Behaviour;
-use frac128::{Frac, Memory};
-use game_core::{Game, Tree, sets_are_numbered_by_first_nodes, trees_are_game_trees};
-use ne_printer::line;
+use crate::two_players::{Method, form_in, two_players};
+use game_core::{Game, sets_are_numbered_by_first_nodes, trees_are_game_trees};
 use outside::Inputs;
 use sequence_form::SeqForm;
 use std::alloc::Global;
-use zero_sum_lp::Plans;
 
-// The weights of all sequences but the empty one, which are those of the strategies.
-fn strategies(alloc: Global, plans: &Plans) -> Result<Vec<Frac>, Memory>
-    ensures { IfOk result (λ entries.
-        entries.items ≡ drop 1 plans.now.one ++ drop 1 plans.now.two) }
-{
-    let mut entries = Vec::new(alloc);
-    if let Some((_, weights)) = plans.one().split_first() {
-        entries.extend_from_slice(weights)?;
-    }
-    if let Some((_, weights)) = plans.two().split_first() {
-        entries.extend_from_slice(weights)?;
-    }
-    Ok(entries)
-}
-
-// The line of the strategies' weights.
-fn strategies_line(alloc: Global, plans: &Plans) -> Result<Vec<u8>, Memory>
-    ensures { IfOk result (λ text.
-        text.items ≡ line_text (drop 1 plans.now.one ++ drop 1 plans.now.two)) }
-{
-    let entries = strategies(alloc, plans)?;
-    line(alloc, &entries)
-}
-
-// The line of the behaviour of two plans on a tree.
-fn behaviour_line(
-    alloc: Global,
-    tree: &Tree,
-    form: &SeqForm,
-    solved: &Solved,
-) -> Result<Vec<u8>, Refusal>
-    requires form { IsTreeForm (game_of_tree tree.now) form.now }
-    requires sizes { HasSizesOf form.now solved.now }
-    ensures { Gives Refusal.Memory
-        (line_in false (Extensive tree.now) (solution_of form.now solved.now))
-        (map_ok result (λ text. text.items)) }
-{
-    let plans = &solved.plans;
-    let behaviour = Behaviour::from_plans(alloc, tree, form, plans.one(), plans.two())?;
-    Ok(line(alloc, behaviour.entries())?)
-}
-
-// The line of a solution: the strategies' weights, or on a tree its behaviour.
+// The line of a solution.
 fn solution_line(
     alloc: Global,
     strategic: bool,
@@ -78,16 +29,14 @@ fn solution_line(
     form: &SeqForm,
     solved: &Solved,
 ) -> Result<Vec<u8>, Refusal>
-    requires form { form_in size_of_program strategic game.now (Ok form.now) }
+    requires form { IsFormOf strategic game.now form.now }
     requires sizes { HasSizesOf form.now solved.now }
     ensures { Gives Refusal.Memory
-        (line_in strategic game.now (solution_of form.now solved.now))
+        (line_in strategic game.now solved.now.plans.one solved.now.plans.two)
         (map_ok result (λ text. text.items)) }
 {
-    match game {
-        Game::Extensive(tree) if !strategic => behaviour_line(alloc, tree, form, solved),
-        _ => Ok(strategies_line(alloc, &solved.plans)?),
-    }
+    let plans = &solved.plans;
+    plans_line(alloc, strategic, game, form, plans.one(), plans.two())
 }
 
 // The text of a solution: its line, and where they are asked for its value and prices.
@@ -99,7 +48,7 @@ fn solution_text(
     form: &SeqForm,
     solved: &Solved,
 ) -> Result<Vec<u8>, Refusal>
-    requires form { form_in size_of_program strategic game.now (Ok form.now) }
+    requires form { IsFormOf strategic game.now form.now }
     requires sizes { HasSizesOf form.now solved.now }
     ensures { Gives Refusal.Memory
         (solution_text strategic asked game.now form.now (solution_of form.now solved.now))
@@ -122,7 +71,7 @@ fn equilibrium_text(
         (map_ok result (λ text. text.items)) }
 {
     two_players(game)?;
-    let form = form_in(alloc, strategic, game)?;
+    let form = form_in(alloc, Method::LinearProgram, strategic, game)?;
     let solved = solve(alloc, &form)?;
     solution_text(alloc, strategic, asked, game, &form, &solved)
 }

@@ -11,6 +11,7 @@ ghost use Rattle.gambit_tools.specs.Commands.{answer_of};
 ghost use Rattle.gambit_tools.specs.Outcome.{RunAnswer, Tells, TakesLine, IsComputed, IsRunOf, IsOutcome, IsComplete};
 ghost use Rattle.gambit_tools.specs.declared.refusal.Refusal.{Refusal};
 
+use crate::lcp::lcp;
 use crate::lp::lp;
 use crate::output::write_text;
 use crate::pure::enumpure;
@@ -32,6 +33,7 @@ fn compute<I: Inputs>(alloc: Global, settings: Settings, inputs: &mut I) -> Resu
 {
     match settings {
         Settings::Enumpure { strategic, file } => enumpure(alloc, strategic, file, inputs),
+        Settings::Lcp { strategic, file } => lcp(alloc, strategic, file, inputs),
         Settings::Lp {
             strategic,
             prices,

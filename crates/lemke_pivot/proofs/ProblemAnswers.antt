@@ -1,7 +1,7 @@
 -- A form has one problem, or one reason why it has none.
 use Rattle.std.proofs.Common.{◌≡◌, ◌∙◌, ◌<◌, Ok, Err, sym, ap, subst}
-use Rattle.answers.specs.Answers.{Answer, ◌>>◌, IsSingle, IsSingleAs, refuse_where, refused_by}
-use Rattle.answers.proofs.Answers.{bind-single, refuse_where-single, refused_by-single, single-as}
+use Rattle.answers.specs.Answers.{◌>>◌, IsSingle, refuse_where, refused_by}
+use Rattle.answers.proofs.Answers.{bind-single, refuse_where-single, refused_by-single}
 use Rattle.linear_systems.proofs.Agreement.{alike_sym, alike_trans}
 use Rattle.lex_tableau.specs.Starts.{Parts, system_of}
 use Rattle.lex_tableau.specs.declared.tableau.StartStop.TheVariants as starts
@@ -10,7 +10,6 @@ use Rattle.whole_rows.proofs.FirstUnfits.{no_unfit_row, one_unfit_row}
 use Rattle.pure_payoffs.proofs.FirstUnfits.{all_fit-single}
 use Rattle.sequence_forms.specs.Prices.{costs}
 use Rattle.sequence_data.specs.Data.{FormData, form, side_of}
-use Rattle.lemke_pivot.specs.declared.stop.LcpStop.{LcpStop}
 use Rattle.lemke_pivot.specs.declared.stop.LcpStop.TheVariants as stops
 use Rattle.lemke_pivot.specs.FormProblems.{IsSystemOf, ProblemsAreSingle, both_costs, costs_in, form_size, start_at, start_in, started, steps_at, told_cost, told_start, too_many_rows}
 use Rattle.lemke_pivot.specs.Parts.{start_of}
@@ -38,21 +37,10 @@ module _ (f : FormData) where
       started-single g.0 one other (subst (λ s. started f s one) (one_system h.0 g.0 h.1.0 g.1.0) h.1.1) g.1.1
 
 -- ---- all stages
-seen_whole : {Y : Type 0} (p : Answer LcpStop Y) → IsSingleAs (λ r. r) p → IsSingle p
-seen_whole p s (Ok a) (Ok b) h k = s (Ok a) (Ok b) h k
-seen_whole p s (Ok a) (Err r) h k = s (Ok a) (Err r) h k
-seen_whole p s (Err r) (Ok b) h k = s (Err r) (Ok b) h k
-seen_whole p s (Err r) (Err q) h k = s (Err r) (Err q) h k
-
-module _ {S Y : Type 0} (told : S → LcpStop) (p : Answer S Y) where
-  told-single : IsSingle p → IsSingleAs (λ r. r) (refused_by told p)
-  told-single s = refused_by-single (λ r. r) told p (single-as told p s)
-
 pub problems_single : ProblemsAreSingle
 problems_single f =
     let numbers = costs_in f.greatest_one f.greatest_two f.cells in
     let size = refuse_where (512 < form_size f) (stops.TooLarge (too_many_rows f)) in
-    seen_whole (size >> (numbers >> start_in f))
-    (bind-single (λ r. r) size (λ _. numbers >> start_in f) (refuse_where-single (λ r. r) (512 < form_size f) (stops.TooLarge (too_many_rows f)))
-    (λ _ _. bind-single (λ r. r) numbers (λ _. start_in f) (told-single told_cost _ (all_fit-single (steps_at f.greatest_one f.greatest_two) (both_costs f.cells)))
-    (λ _ _. told-single told_start _ (start_at-single f))))
+    bind-single size (λ _. numbers >> start_in f) (refuse_where-single (512 < form_size f) (stops.TooLarge (too_many_rows f)))
+    (λ _ _. bind-single numbers (λ _. start_in f) (refused_by-single told_cost _ (all_fit-single (steps_at f.greatest_one f.greatest_two) (both_costs f.cells)))
+    (λ _ _. refused_by-single told_start _ (start_at-single f)))

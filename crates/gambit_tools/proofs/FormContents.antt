@@ -1,0 +1,106 @@
+-- Refusals of what the tools for two players make of a game, and print of two plans, come from the contents of the input.
+use Rattle.std.proofs.Common.{ℕ, ◌≡◌, ◌∙◌, inl, inr, ap, refl, Bool, true, false, List, Err}
+use Rattle.answers.specs.Answers.{Answer, only, refuse_where, ◌>>=◌, ◌>>◌, refused_by}
+use Rattle.rational.specs.Rational.{ℚ}
+use Rattle.game_theory.specs.Lines.{line_text}
+use Rattle.game_core.specs.declared.game.Game.{Game}
+use Rattle.game_core.specs.declared.game.Game.TheVariants.{Strategic, Extensive}
+use Rattle.game_core.specs.Table.{GameTable}
+use Rattle.game_core.specs.Tree.{GameTree}
+use Rattle.behaviour_profile.specs.Plans.{plan_behaviour}
+use Rattle.behaviour_profile.specs.declared.plans.BehaviourStop.{BehaviourStop}
+use Rattle.behaviour_profile.specs.declared.plans.BehaviourStop.TheVariants as behaviour_stop
+use Rattle.perfect_recall.specs.Found.{recall_of}
+use Rattle.perfect_recall.specs.declared.recall.RecallStop.{RecallStop}
+use Rattle.perfect_recall.specs.declared.recall.RecallStop.TheVariants as recall_stop
+use Rattle.reduced_form.specs.Stops.{form_of}
+use Rattle.reduced_form.specs.declared.stop.ReduceStop.{ReduceStop}
+use Rattle.reduced_form.specs.declared.stop.ReduceStop.TheVariants as reduce_stop
+use Rattle.sequence_data.specs.declared.stop.SeqStop.{SeqStop}
+use Rattle.sequence_data.specs.declared.stop.SeqStop.TheVariants as sequence_stop
+use Rattle.sequence_form.specs.Forms.{tree_form, table_form}
+use Rattle.sequence_form.specs.declared.counts.Counts.{Counts}
+use Rattle.gambit_tools.specs.Entries.{entries_in, line_in}
+use Rattle.gambit_tools.specs.Origins.{Contents, origin}
+use Rattle.gambit_tools.specs.TwoPlayers.{form_in, form_of_table, form_of_tree, table_counts, tree_counts, two_players, within_rows}
+use Rattle.gambit_tools.specs.Told.{behaviour_refusal, form_refusal, recall_refusal, sequence_refusal}
+use Rattle.gambit_tools.specs.declared.refusal.Refusal.{Refusal}
+
+-- all refusals of a stage come from the contents
+abbrev pub AreContents : {Y : Type 0} → Answer Refusal Y → Type 0
+AreContents p = (r : Refusal) → p (Err r) → origin r ≡ Contents
+
+-- ---- stages
+pub then-contents : {Y Z : Type 0} (p : Answer Refusal Y) (f : Y → Answer Refusal Z) → AreContents p → ((y : Y) → AreContents (f y)) → AreContents (p >>= f)
+then-contents p f first later r (inl h) = first r h
+then-contents p f first later r (inr h) = later h.0 r h.2
+
+pub told-contents : {S Y : Type 0} (told : S → Refusal) (p : Answer S Y) → ((stop : S) → p (Err stop) → origin (told stop) ≡ Contents) → AreContents (refused_by told p)
+told-contents told p each r h = ap origin h.2 ∙ each h.0 h.1
+
+pub where-contents : (P : Type 0) (refusal : Refusal) → origin refusal ≡ Contents → AreContents (refuse_where P refusal)
+where-contents P refusal e r h = ap origin h.1 ∙ e
+
+pub only-contents : {Y : Type 0} (y : Y) → AreContents (only y)
+only-contents y r e = cc
+
+-- ---- reasons to stop
+recall-contents : (t : GameTree) (stop : RecallStop) → recall_of t (Err stop) → origin (recall_refusal stop) ≡ Contents
+recall-contents t (recall_stop.Forgets f) h = refl
+recall-contents t recall_stop.Memory h = absurd h
+
+pub form_origin : (tree : GameTree) (stop : ReduceStop) → form_of tree (Err stop) → origin (form_refusal stop) ≡ Contents
+form_origin tree (reduce_stop.TooLarge limit) h = refl
+form_origin tree (reduce_stop.Range profile player step) h = refl
+form_origin tree reduce_stop.Memory h = absurd h
+
+tree_form-contents : (t : GameTree) (stop : SeqStop) → tree_form t (Err stop) → origin (sequence_refusal stop) ≡ Contents
+tree_form-contents t (sequence_stop.NotTwoPlayers count) h = refl
+tree_form-contents t (sequence_stop.Range place step) h = refl
+tree_form-contents t sequence_stop.Memory h = absurd h
+
+table_form-contents : (t : GameTable) (stop : SeqStop) → table_form t (Err stop) → origin (sequence_refusal stop) ≡ Contents
+table_form-contents t (sequence_stop.NotTwoPlayers count) h = refl
+table_form-contents t (sequence_stop.Range place step) h = refl
+table_form-contents t sequence_stop.Memory h = absurd h
+
+behaviour-contents : (t : GameTree) (one two : List ℚ) (stop : BehaviourStop) → plan_behaviour t one two (Err stop) → origin (behaviour_refusal stop) ≡ Contents
+behaviour-contents t one two (behaviour_stop.Range player set step) h = refl
+behaviour-contents t one two behaviour_stop.Memory h = absurd h
+
+-- ---- the number of players
+pub two_players-contents : (game : Game) → AreContents (two_players game)
+two_players-contents game = where-contents _ _ refl
+
+-- ---- the form
+form_of_table-contents : (rows : Counts → ℕ) (t : GameTable) → AreContents (form_of_table rows t)
+form_of_table-contents rows t =
+    then-contents (within_rows (rows (table_counts t))) (λ _. refused_by sequence_refusal (table_form t))
+    (where-contents _ _ refl) (λ _. told-contents sequence_refusal (table_form t) (table_form-contents t))
+
+form_of_tree-contents : (rows : Counts → ℕ) (t : GameTree) → AreContents (form_of_tree rows t)
+form_of_tree-contents rows t =
+    then-contents (refused_by recall_refusal (recall_of t)) (λ _. within_rows (rows (tree_counts t)) >> refused_by sequence_refusal (tree_form t))
+    (told-contents recall_refusal (recall_of t) (recall-contents t))
+    (λ _. then-contents (within_rows (rows (tree_counts t))) (λ _. refused_by sequence_refusal (tree_form t))
+    (where-contents _ _ refl) (λ _. told-contents sequence_refusal (tree_form t) (tree_form-contents t)))
+
+pub form_in-contents : (rows : Counts → ℕ) (strategic : Bool) (game : Game) → AreContents (form_in rows strategic game)
+form_in-contents rows true (Strategic t) = form_of_table-contents rows t
+form_in-contents rows false (Strategic t) = form_of_table-contents rows t
+form_in-contents rows true (Extensive t) =
+    then-contents (refused_by form_refusal (form_of t)) (λ form. form_of_table rows form.table)
+    (told-contents form_refusal (form_of t) (form_origin t)) (λ form. form_of_table-contents rows form.table)
+form_in-contents rows false (Extensive t) = form_of_tree-contents rows t
+
+-- ---- the line
+pub entries-contents : (strategic : Bool) (game : Game) (one two : List ℚ) → AreContents (entries_in strategic game one two)
+entries-contents true (Strategic t) one two = only-contents _
+entries-contents false (Strategic t) one two = only-contents _
+entries-contents true (Extensive t) one two = only-contents _
+entries-contents false (Extensive t) one two = told-contents behaviour_refusal (plan_behaviour t one two) (behaviour-contents t one two)
+
+pub line_in-contents : (strategic : Bool) (game : Game) (one two : List ℚ) → AreContents (line_in strategic game one two)
+line_in-contents strategic game one two =
+    then-contents (entries_in strategic game one two) (λ entries. only (line_text entries)) (entries-contents strategic game one two)
+    (λ entries. only-contents (line_text entries))
