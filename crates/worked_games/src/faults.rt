@@ -11,7 +11,7 @@ const DILEMMA: &str = "NFG 1 R \"PD\" { \"A\" \"B\" } { 2 2 } 3 3 5 0 0 5 1 1";
 fn words_are_refused(rt: HostRuntime) -> Result<(), Memory> {
     let rows: [(&[&str], &str); 8] = [
         (&["solve"], "gambit: unknown tool\n"),
-        (&["lcp"], "gambit: unknown tool\n"),
+        (&["check"], "gambit: unknown tool\n"),
         (&["lp", "--price"], "gambit: words not understood\n"),
         (&["enummixed", "-c"], "gambit: unknown tool\n"),
         (&["enumpure", "-s"], "gambit: words not understood\n"),

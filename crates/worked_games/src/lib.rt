@@ -15,3 +15,5 @@ mod pure_equilibria;
 mod tables;
 #[cfg(test)]
 mod trees;
+#[cfg(test)]
+mod two_player_games;

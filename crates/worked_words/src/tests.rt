@@ -10,7 +10,7 @@ fn text_of(alloc: Global, read: Result<Settings, SettingsStop>) -> Result<String
     }
 }
 
-// Whether the words say this to the tool that they name, and the same in the program, where `enumpure` and `lp` are known.
+// Whether the words say this to the tool that they name, and the same in the program, where `enumpure`, `lcp` and `lp` are known.
 fn says(alloc: Global, words: &[&str], wanted: &str) -> Result<bool, AllocError> {
     let mut owned = Vec::new(alloc);
     for word in words {
@@ -19,7 +19,7 @@ fn says(alloc: Global, words: &[&str], wanted: &str) -> Result<bool, AllocError>
     let any = text_of(alloc, read_any_settings(alloc, &owned))?;
     let known = text_of(alloc, read_settings(alloc, &owned))?;
     let wanted_known = match words.first() {
-        Some(tool) if *tool != "enumpure" && *tool != "lp" => "UnknownTool",
+        Some(tool) if *tool != "enumpure" && *tool != "lcp" && *tool != "lp" => "UnknownTool",
         _ => wanted,
     };
     Ok(any.as_str() == wanted && known.as_str() == wanted_known)
