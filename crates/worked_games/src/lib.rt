@@ -10,6 +10,8 @@ mod cuts;
 #[cfg(test)]
 mod faults;
 #[cfg(test)]
+mod games;
+#[cfg(test)]
 mod pure_equilibria;
 #[cfg(test)]
 mod tables;

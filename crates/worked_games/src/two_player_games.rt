@@ -1,22 +1,15 @@
 // Equilibria of games of two players, by complementary pivots.
 use crate::case::Case;
+use crate::games::{ALONE, FORGETFUL, POKER};
 use memory::Memory;
-
-// One-card poker.
-const POKER: &str =
-    "EFG 2 R \"A simple Poker game\" { \"Fred\" \"Alice\" }\n\"\"\n\nc \"\" 1 \"\" { \"Red\" 1/2 \"Black\" 1/2 } 0\np \"\" 1 1 \"\" { \"Raise\" \"Fold\" } 0\np \"\" 2 1 \"\" { \"Meet\" \"Pass\" } 0\nt \"\" 1 \"Win Big\" { 2, -2 }\nt \"\" 2 \"Win\" { 1, -1 }\nt \"\" 2 \"Win\" { 1, -1 }\np \"\" 1 2 \"\" { \"Raise\" \"Fold\" } 0\np \"\" 2 1 \"\" { \"Meet\" \"Pass\" } 0\nt \"\" 3 \"Lose Big\" { -2, 2 }\nt \"\" 2 \"Win\" { 1, -1 }\nt \"\" 4 \"Lose\" { -1, 1 }\n";
-
-// Player one forgets the first action.
-const FORGETFUL: &str =
-    "EFG 2 R \"Forget\" { \"One\" \"Two\" }\np \"\" 1 1 \"\" { \"A\" \"B\" } 0\np \"\" 1 2 \"\" { \"C\" \"D\" } 0\nt \"\" 1 \"\" { 1, 0 }\nt \"\" 2 \"\" { 0, 0 }\np \"\" 1 2 \"\" { \"C\" \"D\" } 0\nt \"\" 2 \"\"\nt \"\" 3 \"\" { 2, 0 }\n";
-
-// Player one ends the game or goes on to a set of no worth. Player two has no set.
-const ALONE: &str =
-    "EFG 2 R \"\" { \"A\" \"B\" } p \"\" 1 1 \"\" { \"L\" \"R\" } 0 t \"\" 1 \"\" { 1 -1 } p \"\" 1 2 \"\" { \"U\" \"D\" } 0 t \"\" 2 \"\" { 0 0 } t \"\" 2";
 
 // Player one has one action, and then player two chooses.
 const ONE_ACTION: &str =
     "EFG 2 R \"\" { \"A\" \"B\" } p \"\" 1 1 \"\" { \"Go\" } 0 p \"\" 2 1 \"\" { \"L\" \"R\" } 0 t \"\" 1 \"\" { 1 2 } t \"\" 2 \"\" { 3 1 }";
+
+// Chance deals one of two games of matching pennies, which both players see.
+const TWO_PENNIES: &str =
+    "EFG 2 R \"\" { \"A\" \"B\" } c \"\" 1 \"\" { \"u\" 1/2 \"l\" 1/2 } 0 p \"\" 1 1 \"\" { \"H\" \"T\" } 0 p \"\" 2 1 \"\" { \"H\" \"T\" } 0 t \"\" 1 \"\" { 1 -1 } t \"\" 2 \"\" { -1 1 } p \"\" 2 1 \"\" 0 t \"\" 2 t \"\" 1 p \"\" 1 2 \"\" { \"H\" \"T\" } 0 p \"\" 2 2 \"\" { \"H\" \"T\" } 0 t \"\" 1 t \"\" 2 p \"\" 2 2 \"\" 0 t \"\" 2 t \"\" 1";
 
 // Chance reaches player one's set with a probability of 10 to the power of -30. The greatest payoff is 1/1000000007.
 const UNLIKELY: &str =
@@ -52,13 +45,18 @@ fn equilibria_of_tables(rt: HostRuntime) -> Result<(), Memory> {
 }
 
 /// One-card poker by behaviour and by strategies; a set that the plan does not reach, and a player with no set; a set
-/// of one action; a player who forgets, by strategies.
+/// of one action; two sets of each player where only mixed behaviour is in equilibrium; a player who forgets, by strategies.
 #[test]
 fn equilibria_of_trees(rt: HostRuntime) -> Result<(), Memory> {
-    let rows: [(&[&str], &str, &str); 5] = [
+    let rows: [(&[&str], &str, &str); 6] = [
         (&["lcp"], POKER, "NE,1,0,1/3,2/3,2/3,1/3\n"),
         (&["lcp", "-qS"], POKER, "NE,1/3,2/3,0,0,2/3,1/3\n"),
         (&["lcp"], ALONE, "NE,1,0,1/2,1/2\n"),
+        (
+            &["lcp"],
+            TWO_PENNIES,
+            "NE,1/2,1/2,1/2,1/2,1/2,1/2,1/2,1/2\n",
+        ),
         (&["lcp", "-e", "1"], ONE_ACTION, "NE,1,1,0\n"),
         (&["lcp", "-S"], FORGETFUL, "NE,0,0,0,1,1\n"),
     ];
