@@ -155,10 +155,9 @@ fn many_rows_are_solved(rt: HostRuntime) -> Result<(), Memory> {
         words: &["lp"],
         out_most: 2000,
         out_limit: 2000,
-        out: out.as_str(),
         ..Case::of(input.as_str())
     };
-    assert!(rt; case.holds(&rt, alloc)?);
+    assert!(rt; case.takes(&rt, alloc, out.as_bytes())?);
     Ok(())
 }
 

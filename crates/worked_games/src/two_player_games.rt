@@ -20,26 +20,36 @@ const UNLIKELY: &str =
 #[test]
 fn equilibria_of_tables(rt: HostRuntime) -> Result<(), Memory> {
     let rows = [
-        ("{ 1 1 } 7 7", "NE,1,1\n"),
-        ("{ 2 1 } 0 0 0 0", "NE,0,1,1\n"),
+        ("NFG 1 R \"\" { \"A\" \"B\" } { 1 1 } 7 7", "NE,1,1\n"),
+        ("NFG 1 R \"\" { \"A\" \"B\" } { 2 1 } 0 0 0 0", "NE,0,1,1\n"),
         (
-            "{ 3 3 } 0 0 0 0 0 0 0 0 0 0 0 0 0 0 0 0 0 0",
+            "NFG 1 R \"\" { \"A\" \"B\" } { 3 3 } 0 0 0 0 0 0 0 0 0 0 0 0 0 0 0 0 0 0",
             "NE,0,0,1,0,0,1\n",
         ),
-        ("{ 2 2 } 2 1 0 0 0 0 1 2", "NE,0,1,0,1\n"),
-        ("{ 2 2 } 1 -1 -1 1 -1 1 1 -1", "NE,1/2,1/2,1/2,1/2\n"),
-        ("{ 2 2 } 3 3 5 0 0 5 1 1", "NE,0,1,0,1\n"),
-        ("{ 2 2 } 1 0 1 0 0 1 0 1", "NE,0,1,0,1\n"),
+        (
+            "NFG 1 R \"\" { \"A\" \"B\" } { 2 2 } 2 1 0 0 0 0 1 2",
+            "NE,0,1,0,1\n",
+        ),
+        (
+            "NFG 1 R \"\" { \"A\" \"B\" } { 2 2 } 1 -1 -1 1 -1 1 1 -1",
+            "NE,1/2,1/2,1/2,1/2\n",
+        ),
+        (
+            "NFG 1 R \"\" { \"A\" \"B\" } { 2 2 } 3 3 5 0 0 5 1 1",
+            "NE,0,1,0,1\n",
+        ),
+        (
+            "NFG 1 R \"\" { \"A\" \"B\" } { 2 2 } 1 0 1 0 0 1 0 1",
+            "NE,0,1,0,1\n",
+        ),
     ];
-    let alloc = rt.alloc();
-    for (game, out) in rows {
-        let input = format!(in alloc; "NFG 1 R \"\" {{ \"A\" \"B\" }} {game}")?;
+    for (input, out) in rows {
         let case = Case {
             words: &["lcp"],
             out,
-            ..Case::of(input.as_str())
+            ..Case::of(input)
         };
-        assert!(rt; case.holds(&rt, alloc)?);
+        assert!(rt; case.holds(&rt, rt.alloc())?);
     }
     Ok(())
 }
