@@ -1,4 +1,5 @@
--- The tool `lcp`: an equilibrium of a game of two players, at the end of a path of complementary pivots.
+-- The tool `lcp`: an equilibrium of a game of two players, at the end of a path of complementary
+-- pivots.
 -- Source: Lemke 1965; Koller, Megiddo and von Stengel 1996.
 use Rattle.std.specs.Prelude.{ℕ, ◌≡◌, Bool, List, Ok, Err}
 use Rattle.answers.specs.Answers.{Answer, only, ◌>>=◌, ◌>>◌, refused_by}

@@ -25,12 +25,16 @@ use Rattle.gambit_tools.specs.TwoPlayers.{form_in}
 abbrev pub weights_of : PlanPair → ℕ → ℕ → ℚ
 weights_of plans = of_two (weight plans.one) (weight plans.two)
 
--- two plans are in equilibrium on the file's own game: on a tree by their behaviour, else on the strategic form
+-- two plans are in equilibrium on the file's own game: on a tree by their behaviour, else on the
+-- strategic form
 abbrev pub AreInEquilibrium : Bool → Game → PlanPair → Type 0
-AreInEquilibrium false (Extensive t) plans = IsEquilibrium (game_of_tree t) (behaviour_of (game_of_tree t) (weights_of plans))
+AreInEquilibrium false (Extensive t) plans =
+    IsEquilibrium (game_of_tree t) (behaviour_of (game_of_tree t) (weights_of plans))
 AreInEquilibrium true (Extensive t) plans =
-    (form : ReducedForm) × form_of t (Ok form) × is_table_equilibrium (game_of form.table) (mixed_of (weights_of plans))
-AreInEquilibrium _ (Strategic t) plans = is_table_equilibrium (game_of t) (mixed_of (weights_of plans))
+    (form : ReducedForm) × form_of t (Ok form)
+    × is_table_equilibrium (game_of form.table) (mixed_of (weights_of plans))
+AreInEquilibrium _ (Strategic t) plans =
+    is_table_equilibrium (game_of t) (mixed_of (weights_of plans))
 
 -- a text is the line of plans in equilibrium, which have a weight for each sequence
 pub record IsEquilibriumText (strategic : Bool) (game : Game) (text : List ℕ) : Type 0 where

@@ -31,7 +31,8 @@ players_of (Extensive tree) = length tree.players
 abbrev pub two_players : Game → Answer Refusal (Unit {0})
 two_players game = refuse_where (players_of game ≢ 2) (refusal.NotTwoPlayers (players_of game))
 
--- how many rows a form has by its sizes: of its linear program with the columns, or of its complementarity problem
+-- how many rows a form has by its sizes: of its linear program with the columns, or of its
+-- complementarity problem
 abbrev pub rows_by : Method → Counts → ℕ
 rows_by LinearProgram = size_of_program
 rows_by Complementarity = problem_rows

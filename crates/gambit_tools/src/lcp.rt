@@ -26,7 +26,8 @@ fn equilibrium_text(alloc: Global, strategic: bool, game: &Game) -> Result<Vec<u
     plans_line(alloc, strategic, game, &form, &plans.one, &plans.two)
 }
 
-/// Reads the game in a file, or on standard input where no file is named, and prints an equilibrium of it.
+/// Reads the game in a file, or on standard input where no file is named, and prints an equilibrium
+/// of it.
 pub fn lcp<I: Inputs>(
     alloc: Global,
     strategic: bool,

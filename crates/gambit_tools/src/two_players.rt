@@ -45,7 +45,8 @@ pub fn two_players(game: &Game) -> Result<(), Refusal>
     }
 }
 
-/// How many rows a form of these sizes has: of its linear program with the columns, or of its complementarity problem.
+/// How many rows a form of these sizes has: of its linear program with the columns, or of its
+/// complementarity problem.
 fn row_count(method: Method, sizes: &Counts) -> u64
     requires { AreFew sizes.now }
     ensures { result ≡ rows_by method sizes.now }
@@ -89,8 +90,8 @@ fn form_of_tree(alloc: Global, method: Method, tree: &Tree) -> Result<SeqForm, R
     Ok(build(alloc, tree, &recall)?)
 }
 
-/// The sequence form of a game, where the rows that the method counts are within the limit: of a tree by its own
-/// sequences, or by its reduced strategies.
+/// The sequence form of a game, where the rows that the method counts are within the limit: of a
+/// tree by its own sequences, or by its reduced strategies.
 pub fn form_in(
     alloc: Global,
     method: Method,
