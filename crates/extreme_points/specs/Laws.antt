@@ -1,11 +1,12 @@
 -- The laws of extreme points, as statements. Each is proved by a function of src/lib.rt.
-use Rattle.std.specs.Prelude.{ℕ, ◌<◌, ◌≡◌}
+use Rattle.std.specs.Prelude.{ℕ, ◌<◌, ◌≡◌, List}
 use Rattle.rational.specs.Rational.{ℚ, zero_ℚ}
 use Rattle.linear_systems.specs.Tableau.{Tableau, pivot}
 use Rattle.linear_systems.specs.Rows.{IsLexicographicRow, Alike}
 use Rattle.linear_systems.specs.Reached.{IsVariableOf}
 use Rattle.extreme_points.specs.Points.{IsExtremePoint, AreEqualAt, basic_solution}
 use Rattle.extreme_points.specs.Reach.{IsFeasibleStart, IsLexReached, IsClosed}
+use Rattle.extreme_points.specs.Vertices.{MarkedPoint, AreVertices}
 
 -- The start is reached, and so is what a pivot on a lexicographic row makes of a reached tableau.
 pub record LexicographicPivotsReach : Type 0 where
@@ -41,3 +42,14 @@ abbrev pub ZerosDetermine : Type 0
 ZerosDetermine =
     (s : Tableau) (p q : ℕ → ℚ) → IsExtremePoint s p → IsExtremePoint s q
     → ((v : ℕ) → IsVariableOf s v → p v ≡ zero_ℚ → q v ≡ zero_ℚ) → AreEqualAt s p q
+
+-- A system has one list of vertices.
+abbrev pub OneListOfVertices : Type 0
+OneListOfVertices =
+    (n : ℕ) (s : Tableau) (a b : List MarkedPoint) → AreVertices n s a → AreVertices n s b → a ≡ b
+
+-- Systems that are alike have the same lists of vertices.
+abbrev pub AlikeSystemsHaveTheSameVertices : Type 0
+AlikeSystemsHaveTheSameVertices =
+    (n : ℕ) (s t : Tableau) (list : List MarkedPoint) → Alike s t → AreVertices n t list
+    → AreVertices n s list

@@ -1,0 +1,14 @@
+pub mod Examples
+pub mod ExtremeLists
+pub mod Labels
+pub mod Masks
+pub mod Means
+pub mod PairLines
+pub mod PositiveNumbers
+pub mod Scaling
+pub mod Shifts
+pub mod Systems
+pub mod Tables
+pub mod Theorems
+pub mod TwoPlayers
+pub mod Vertices
