@@ -1,0 +1,13 @@
+pub mod Ascending
+pub mod BasicValues
+pub mod Firsts
+pub mod FoundMoves
+pub mod LevelMoves
+pub mod Masks
+pub mod Merged
+pub mod NextLevel
+pub mod Orders
+pub mod Search
+pub mod Single
+pub mod VertexMarks
+pub mod Walks

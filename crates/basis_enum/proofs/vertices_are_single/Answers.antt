@@ -1,0 +1,5 @@
+use Rattle.basis_enum.proofs.Single.{one_answer}
+use Rattle.basis_enum.proofs.vertices_are_single.Goals as goal
+
+pub returns : goal.returns
+returns c = one_answer

@@ -1,0 +1,97 @@
+-- The pivots that are found from a level, to bases that are not known
+use Rattle.std.specs.Prelude.{ℕ, ◌^◌, ◌<◌, ◌≡◌, ◌++◌, List, length, get_or}
+use Rattle.std.specs.List.{Contains}
+use Rattle.lex_tableau.specs.Rows.{Numbers, IsTableau}
+use Rattle.basis_levels.specs.Bases.{neighbour_of, HaveDigits}
+use Rattle.basis_levels.specs.Levels.{Levels, IsLexRowOf, no_tableau, bases_of}
+use Rattle.basis_enum.specs.declared.moves.Move.{Move}
+
+-- all rows are rated, and rows and columns have numbers of 32 bits
+pub record IsWhole (t : Numbers) : Type 0 where
+  pub rated : t.rated ≡ length t.basics
+  pub rows : length t.basics < 2 ^ 32
+  pub columns : length t.nonbasics < 2 ^ 32
+
+-- the pivot from t on the lexicographic row of the column, to a basis that is not known
+pub record IsFound (t : Numbers) (place : ℕ) (known : List ℕ) (col : ℕ) (m : Move) : Type 0 where
+  pub parent : m.parent ≡ place
+  pub column : m.column ≡ col
+  pub row : IsLexRowOf t col m.row
+  pub entering : m.entering ≡ get_or t.nonbasics col 0
+  pub target : m.target ≡ neighbour_of t m.row col
+  pub new : ¬ (Contains known m.target)
+
+-- the pivot in this column, where there is one, leads to a known basis
+pub record HasNone (t : Numbers) (known : List ℕ) (column : ℕ) : Type 0 where
+  pub leads_back : (r : ℕ) → IsLexRowOf t column r → Contains known (neighbour_of t r column)
+
+-- among the moves is the pivot in this column
+abbrev pub HasFound : Numbers → ℕ → List ℕ → List Move → ℕ → Type 0
+HasFound t place known moves column =
+    (m : Move) × Contains moves m × IsFound t place known column m
+
+-- a column below the bound, with such a pivot
+pub record IsFoundBelow (t : Numbers) (place : ℕ) (known : List ℕ) (bound : ℕ) (m : Move)
+    : Type 0 where
+  pub column : ℕ
+  pub within : column < bound
+  pub found : IsFound t place known column m
+
+-- of each column below the bound the pivot is there, or leads to a known basis
+pub record AreFound (t : Numbers) (place : ℕ) (known : List ℕ) (bound : ℕ) (moves : List Move)
+    : Type 0 where
+  pub each : (m : Move) → Contains moves m → IsFoundBelow t place known bound m
+  pub all : (column r : ℕ) → column < bound → IsLexRowOf t column r
+      → ¬ (Contains known (neighbour_of t r column)) → HasFound t place known moves column
+
+-- new has these pivots behind the old ones
+pub record AddsFound (t : Numbers) (place : ℕ) (known : List ℕ) (bound : ℕ) (old new : List Move)
+    : Type 0 where
+  pub more : List Move
+  pub added : new ≡ old ++ more
+  pub found : AreFound t place known bound more
+
+-- those from a tableau of the level, in all its columns
+abbrev pub AddsFoundAt : List Numbers → ℕ → List ℕ → List Move → List Move → Type 0
+AddsFoundAt level place known old new =
+    AddsFound (get_or level place no_tableau) place known
+    (length (get_or level place no_tableau).nonbasics) old new
+
+-- a tableau of the level and a column, with such a pivot
+pub record IsFoundIn (level : List Numbers) (known : List ℕ) (bound : ℕ) (m : Move) : Type 0 where
+  pub place : ℕ
+  pub within : place < bound
+  pub column : ℕ
+  pub column_in : column < length (get_or level place no_tableau).nonbasics
+  pub found : IsFound (get_or level place no_tableau) place known column m
+
+-- the pivots from the first tableaux of the level that lead to new bases
+pub record AreFoundIn (level : List Numbers) (known : List ℕ) (bound : ℕ) (moves : List Move)
+    : Type 0 where
+  pub each : (m : Move) → Contains moves m → IsFoundIn level known bound m
+  pub all : (place column r : ℕ) → place < bound
+      → column < length (get_or level place no_tableau).nonbasics
+      → IsLexRowOf (get_or level place no_tableau) column r
+      → ¬ (Contains known (neighbour_of (get_or level place no_tableau) r column))
+      → HasFound (get_or level place no_tableau) place known moves column
+
+-- a tableau whose pivots can be found
+pub record IsReady (t : Numbers) : Type 0 where
+  pub is_tableau : IsTableau t
+  pub digits : HaveDigits t
+  pub whole : IsWhole t
+
+-- each of these can be
+abbrev pub AreReady : List Numbers → Type 0
+AreReady level = (i : ℕ) → i < length level → IsReady (get_or level i no_tableau)
+
+-- a level and the bases of its tableaux
+pub record IsLevelOf (level : List Numbers) (numbers : List ℕ) : Type 0 where
+  pub ready : AreReady level
+  pub bases : numbers ≡ bases_of level
+  pub few : length level < 2 ^ 32
+
+-- the bases that are known are those of the levels
+pub record AreKnown (l : Levels) (known : List ℕ) : Type 0 where
+  pub all : (b : ℕ) → Contains (bases_of (l.before ++ l.level)) b → Contains known b
+  pub only : (b : ℕ) → Contains known b → Contains (bases_of (l.before ++ l.level)) b

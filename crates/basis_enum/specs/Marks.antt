@@ -1,0 +1,48 @@
+-- The marks of the basic solutions of tableaux, as they are noted one after another
+use Rattle.std.specs.Prelude.{ℕ, ◌<◌, ◌≤◌, ◌≡◌, List, [], ◌∷◌, ◌++◌, length, get_or, map}
+use Rattle.std.specs.List.{All, Contains}
+use Rattle.rational.specs.Rational.{ℚ}
+use Rattle.lex_tableau.specs.Rows.{Numbers, tableau}
+use Rattle.lex_tableau.specs.Starts.{Parts, system_of}
+use Rattle.extreme_points.specs.Points.{IsNonzero, basic_solution}
+use Rattle.extreme_points.specs.Vertices.{MarkedPoint, IsMarkOf, mask_of}
+use Rattle.basis_levels.specs.Systems.{variable_count}
+
+-- each of the variables is one of 1 to n
+abbrev pub AreUpTo : ℕ → List ℕ → Type 0
+AreUpTo n variables = All (λ v. (0 < v) × (v ≤ n)) variables
+
+-- the values of variables in the basic solution
+abbrev pub values_of : Numbers → List ℕ → List ℚ
+values_of t variables = map (basic_solution (tableau t)) variables
+
+-- the basic solution of t is noted: its mark is added, unless it is zero at the system's nonbasic
+-- variables
+pub data IsNoted (s : Parts) (t : Numbers) (old new : List MarkedPoint) : Type 0 where
+  left_out : (IsNonzero (system_of s) (basic_solution (tableau t)) → ⊥) → new ≡ old
+      → IsNoted s t old new
+  added : (mark : MarkedPoint) → IsNonzero (system_of s) (basic_solution (tableau t))
+      → IsMarkOf (variable_count s) (system_of s) (basic_solution (tableau t)) mark
+      → new ≡ old ++ mark ∷ [] → IsNoted s t old new
+
+-- the mark is that of the basic solution of one of the tableaux, which is not zero
+pub record IsMarkIn (s : Parts) (ts : List Numbers) (mark : MarkedPoint) : Type 0 where
+  pub of : Numbers
+  pub among : Contains ts of
+  pub nonzero : IsNonzero (system_of s) (basic_solution (tableau of))
+  pub marked : IsMarkOf (variable_count s) (system_of s) (basic_solution (tableau of)) mark
+
+-- the marks of all basic solutions of these tableaux that are not zero
+pub record AreMarksOf (s : Parts) (ts : List Numbers) (marks : List MarkedPoint) : Type 0 where
+  pub each : (mark : MarkedPoint) → Contains marks mark → IsMarkIn s ts mark
+  pub all : (t : Numbers) → Contains ts t → IsNonzero (system_of s) (basic_solution (tableau t))
+      → (mark : MarkedPoint) × Contains marks mark
+      × IsMarkOf (variable_count s) (system_of s) (basic_solution (tableau t)) mark
+
+-- the same marks in ascending order of their masks, one of each mask
+pub record AreInOrder (old new : List MarkedPoint) : Type 0 where
+  pub kept : (mark : MarkedPoint) → Contains new mark → Contains old mark
+  pub all : (mark : MarkedPoint) → Contains old mark
+      → (other : MarkedPoint) × Contains new other × (mask_of other ≡ mask_of mark)
+  pub ascending : (i j : ℕ) (d : MarkedPoint) → i < j → j < length new
+      → mask_of (get_or new i d) < mask_of (get_or new j d)

@@ -1,0 +1,29 @@
+-- Two ascending lists as one
+use Rattle.std.specs.Prelude.{ℕ, ◌+◌, ◌<◌, ◌≤◌, ◌≡◌, ◌⊎◌, List, length, get_or}
+use Rattle.std.specs.List.{Contains}
+use Rattle.std.specs.List.Sorted.{IsStrictlyIncreasing}
+
+-- all has the numbers of both lists, in ascending order
+pub record IsMerged (xs ys all : List ℕ) : Type 0 where
+  pub ascending : IsStrictlyIncreasing all
+  pub size : length all ≡ length xs + length ys
+  pub first : (v : ℕ) → Contains xs v → Contains all v
+  pub second : (v : ℕ) → Contains ys v → Contains all v
+  pub only : (v : ℕ) → Contains all v → Contains xs v ⊎ Contains ys v
+
+-- after i numbers of xs and k of ys a number of xs is next: it is not above the next of ys
+pub record TakesFirst (xs ys : List ℕ) (i k : ℕ) : Type 0 where
+  pub within : i < length xs
+  pub least : k < length ys → get_or xs i 0 ≤ get_or ys k 0
+
+-- all has the first i numbers of xs and the first k of ys, which are below the others
+pub record AreMerged (xs ys : List ℕ) (i k : ℕ) (all : List ℕ) : Type 0 where
+  pub first_in : i ≤ length xs
+  pub second_in : k ≤ length ys
+  pub ascending : IsStrictlyIncreasing all
+  pub size : length all ≡ i + k
+  pub first : (n : ℕ) → n < i → Contains all (get_or xs n 0)
+  pub second : (n : ℕ) → n < k → Contains all (get_or ys n 0)
+  pub only : (v : ℕ) → Contains all v → Contains xs v ⊎ Contains ys v
+  pub first_above : i < length xs → (v : ℕ) → Contains all v → v < get_or xs i 0
+  pub second_above : k < length ys → (v : ℕ) → Contains all v → v < get_or ys k 0

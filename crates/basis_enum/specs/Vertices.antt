@@ -1,0 +1,20 @@
+-- What vertices stand for
+use Rattle.std.specs.Prelude.{ℕ, List, get_or, map}
+use Rattle.extreme_points.specs.Vertices.{MarkedPoint}
+use Rattle.basis_enum.specs.declared.vertex.Vertex.{Vertex}
+use Rattle.basis_enum.specs.declared.vertex.Vertices.{Vertices}
+
+-- the number of reached bases, and the vertices
+pub record VertexList : Type 0 where
+  pub bases : ℕ
+  pub list : List MarkedPoint
+
+-- what a vertex stands for
+abbrev pub mark_of : Vertex → MarkedPoint
+mark_of v = record { low = get_or v.mask 0 0; high = get_or v.mask 1 0; point = v.point.items }
+
+abbrev pub marks_of : List Vertex → List MarkedPoint
+marks_of vertices = map mark_of vertices
+
+abbrev pub list_of : Vertices → VertexList
+list_of v = record { bases = v.bases; list = marks_of v.list.items }

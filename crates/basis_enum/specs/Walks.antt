@@ -1,0 +1,88 @@
+-- The enumeration on its way, level after level
+use Rattle.std.specs.Prelude.{ℕ, ◌<◌, ◌≡◌, List, [], ◌++◌, length, get_or, map}
+use Rattle.std.specs.List.{Contains}
+use Rattle.std.specs.List.Sorted.{IsStrictlyIncreasing}
+use Rattle.frac128.specs.declared.steps.Unfit.{Unfit}
+use Rattle.extreme_points.specs.Vertices.{MarkedPoint}
+use Rattle.lex_tableau.specs.Rows.{Numbers, IsTableau}
+use Rattle.lex_tableau.specs.Starts.{Parts, IsSystem, IsStartOf, StartFits}
+use Rattle.basis_levels.specs.Systems.{variable_count}
+use Rattle.basis_levels.specs.Levels as L
+use Rattle.basis_levels.specs.Levels.{Levels, IsLevel, bases_of, most, no_tableau, parent_of}
+use Rattle.basis_levels.specs.Ends.{IsAscendingListOf, IsFirstUnfitMove}
+use Rattle.basis_enum.specs.declared.moves.Move.{Move}
+use Rattle.basis_enum.specs.declared.stop.EnumStop.{EnumStop}
+use Rattle.basis_enum.specs.declared.stop.EnumStop.TheVariants.{Start, Range, TooLarge, Memory}
+use Rattle.basis_enum.specs.declared.walk.Walk.{Walk}
+use Rattle.basis_enum.specs.Enumeration.{limit_of}
+use Rattle.basis_enum.specs.Found.{AreKnown}
+use Rattle.basis_enum.specs.Marks.{AreMarksOf, AreUpTo}
+use Rattle.basis_enum.specs.Next.{AreNewMoves, move_of}
+use Rattle.basis_enum.specs.Vertices.{marks_of}
+
+-- the start of a system
+pub record IsFirst (s : Parts) (t : Numbers) : Type 0 where
+  pub is_tableau : IsTableau t
+  pub is_start : IsStartOf s t
+  pub fits : StartFits s
+
+-- a level, and those before it
+abbrev pub levels_of : List Numbers → List Numbers → Levels
+levels_of before level = record { before = before; level = level }
+
+-- at level k of the system: its tableaux with their bases, the bases of all levels so far in
+-- ascending order, and the marks of their tableaux
+pub record IsWalkAt (s : Parts) (k : ℕ) (w : Walk) : Type 0 where
+  pub valid : IsSystem s
+  pub before : List Numbers
+  pub is_level : IsLevel s k (levels_of before w.level.items)
+  pub bases : w.bases.items ≡ bases_of w.level.items
+  pub known : AreKnown (levels_of before w.level.items) w.known.items
+  pub ascending : IsStrictlyIncreasing w.known.items
+  pub count : length w.known.items ≡ length (before ++ w.level.items)
+  pub marks : AreMarksOf s (before ++ w.level.items) (marks_of w.vertices.items)
+
+-- at the last level
+pub record IsWalkToEnd (s : Parts) (w : Walk) : Type 0 where
+  pub number : ℕ
+  pub walk : IsWalkAt s number w
+  pub none : AreNewMoves w.level.items w.known.items []
+
+-- the entering variables are those of the columns
+abbrev pub HaveEntering : List Numbers → List Move → Type 0
+HaveEntering level moves =
+    (m : Move) → Contains moves m → m.entering ≡ L.entering level (move_of m)
+
+-- the first of these pivots that does not fit goes from this basis, with this variable entering it
+pub record IsUnfitMove (level : List Numbers) (moves : List Move) (basis : List ℕ) (variable : ℕ)
+    (unfit : Unfit) : Type 0 where
+  pub place : ℕ
+  pub first : IsFirstUnfitMove level (map move_of moves) place unfit
+  pub basis_is : IsAscendingListOf
+      (parent_of level (get_or (map move_of moves) place L.no_move)).basics basis
+  pub variable_is : variable ≡ L.entering level (get_or (map move_of moves) place L.no_move)
+
+-- why there is no next level after level k: that pivot, or no memory, of which nothing is said
+abbrev pub IsMoveStop : List Numbers → List Move → ℕ → EnumStop → Type 0
+IsMoveStop level moves k (Start row unfit) = ⊥
+IsMoveStop level moves k (Range number basis variable unfit) =
+    (number ≡ k) × IsUnfitMove level moves basis variable unfit
+IsMoveStop level moves k (TooLarge limit) = ⊥
+IsMoveStop level moves k Memory = Unit {0}
+
+-- so many bases are too many
+abbrev pub IsLimitStop : ℕ → EnumStop → Type 0
+IsLimitStop count (TooLarge limit) = (most < count) × (limit ≡ limit_of count)
+IsLimitStop count (Start row unfit) = ⊥
+IsLimitStop count (Range number basis variable unfit) = ⊥
+IsLimitStop count Memory = ⊥
+
+-- the basic variables of these tableaux are numbers from 1 on
+abbrev pub AreNumbered : Parts → List Numbers → Type 0
+AreNumbered s level =
+    (i : ℕ) → i < length level → AreUpTo (variable_count s) (get_or level i no_tableau).basics
+
+-- the marks of these tableaux come to those of any others
+abbrev pub AddsMarks : Parts → List Numbers → List MarkedPoint → List MarkedPoint → Type 0
+AddsMarks s level old new =
+    (ts : List Numbers) → AreMarksOf s ts old → AreMarksOf s (ts ++ level) new

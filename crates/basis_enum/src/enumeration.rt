@@ -1,0 +1,48 @@
+// The vertices of a system.
+ghost use Rattle.std.specs.Prelude.{◌≡◌, ◌≤◌, ◌+◌, IfOk};
+ghost use Rattle.answers.specs.Answers.{Gives, map_ok};
+ghost use Rattle.basis_levels.specs.Systems.{IsEnumerable};
+ghost use Rattle.basis_enum.specs.declared.stop.EnumStop.TheVariants as stops;
+ghost use Rattle.basis_enum.specs.Enumeration.{vertices_in};
+ghost use Rattle.basis_enum.specs.Vertices.{list_of};
+
+use crate::marking::in_order;
+use crate::stop::EnumStop;
+use crate::vertex::Vertices;
+use crate::walk::reach;
+use lex_tableau::{Steps, System};
+use outside::Gate;
+use std::alloc::Global;
+use std::sync::ledger::Ledger;
+
+/// The vertices of a system whose rows are all rated, whose variables are the numbers from 1 to at
+/// most 128, and whose right sides are not negative: its extreme points, but for the one in which
+/// all nonbasic variables are zero. Each is there once, in ascending order of the masks. The gate
+/// is passed before each piece of work. Each pivot counts one step.
+///
+/// # Errors
+///
+/// `Start` exactly where a step of the start does not fit: the first. Else the bases are enumerated
+/// level by level, up to the first level after which it stops: `TooLarge` exactly where with the
+/// next level there are more than 20,000 bases, and else `Range` exactly where a pivot to the next
+/// level does not fit: the first, in the order of the bases to which they lead. Or no memory.
+pub fn enumerate<G: Gate, L: Ledger>(
+    alloc: Global,
+    system: &System,
+    gate: &G,
+    steps: &mut Steps<L>,
+) -> Result<Vertices, EnumStop>
+    requires { IsEnumerable system.now }
+    ensures vertices { Gives stops.Memory (vertices_in system.now) (map_ok result list_of) }
+    ensures counted { IfOk result (λ v. steps.new + 1 ≡ steps.old + v.bases) }
+    ensures few { IfOk result (λ v. v.bases ≤ 20000) }
+    ensures bounded { steps.new ≤ steps.old + 19999 }
+{
+    match reach(alloc, system, gate, steps) {
+        Ok(walk) => Ok(Vertices {
+            bases: walk.known.len() as u64,
+            list: in_order(walk.vertices),
+        }),
+        Err(stop) => Err(stop),
+    }
+}

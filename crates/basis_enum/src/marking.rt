@@ -1,0 +1,110 @@
+// The vertices of tableaux' basic solutions.
+ghost use Rattle.std.specs.Prelude.{◌≡◌, ◌+◌, ◌*◌, ◌/◌, ◌%◌, ◌-◌, ◌^◌, ◌≤◌, suc, get_or, ◌≢◌, IfOk, MatchBool, OnOk};
+ghost use Rattle.std.specs.List.{All, Any};
+ghost use Rattle.rational.specs.Rational.{zero_ℚ};
+ghost use Rattle.lex_tableau.specs.Rows.{tableau as fractions_of};
+ghost use Rattle.extreme_points.specs.Points.{basic_solution};
+ghost use Rattle.extreme_points.specs.Vertices.{IsZeroWord, mask_of};
+ghost use Rattle.basis_enum.specs.Marks.{AreInOrder, AreUpTo, IsNoted, values_of};
+ghost use Rattle.basis_levels.specs.Systems.{variable_count};
+ghost use Rattle.basis_enum.specs.Vertices.{mark_of, marks_of};
+
+use crate::vertex::Vertex;
+use frac128::{Frac, Memory};
+use lex_tableau::{System, Tableau};
+use std::alloc::Global;
+
+// How many masks a word has.
+const WORD: u128 = 1 << 64;
+
+// The number with so many bits, all set.
+fn ones(count: usize) -> u128
+    requires { count ≤ 128 }
+    ensures { result ≡ 2 ^ count - 1 }
+{
+    if count == 0 {
+        return 0;
+    }
+    u128::MAX >> (128 - count)
+}
+
+// The mask of a basic solution: bit v - 1 is set exactly where variable v is zero.
+fn mask(tableau: &Tableau, count: usize) -> u128
+    requires few { count ≤ 128 }
+    requires numbered { AreUpTo count tableau.now.basics }
+    ensures { IsZeroWord count (λ l. basic_solution (fractions_of tableau.now) (suc l)) result }
+{
+    let mut mask = ones(count);
+    for row in 0..tableau.basics().len() {
+        if !tableau.right(row).is_zero() {
+            mask &= !(1 << (tableau.basic(row) - 1));
+        }
+    }
+    mask
+}
+
+// The two words of a mask, the low one first.
+fn words(mask: u128) -> [u64; 2]
+    ensures low { get_or result 0 0 ≡ mask % 2 ^ 64 }
+    ensures high { get_or result 1 0 ≡ mask / 2 ^ 64 }
+{
+    [(mask % WORD) as u64, (mask / WORD) as u64]
+}
+
+// The mask of a vertex as a number.
+fn number(vertex: &Vertex) -> u128
+    ensures { result ≡ mask_of (mark_of vertex.now) }
+{
+    u128::from(vertex.mask[0]) + WORD * u128::from(vertex.mask[1])
+}
+
+// The values of variables in a basic solution.
+fn values(alloc: Global, tableau: &Tableau, variables: &[u32]) -> Result<Vec<Frac>, Memory>
+    ensures { IfOk result (λ v. v.items ≡ values_of tableau.now variables.now) }
+{
+    let mut values = Vec::new(alloc);
+    for variable in variables {
+        values.push(tableau.value(*variable))?;
+    }
+    Ok(values)
+}
+
+// Whether some value is not zero.
+fn is_nonzero(values: &[Frac]) -> bool
+    ensures { MatchBool result
+        (Any (λ q. q ≢ zero_ℚ) values.now) (All (λ q. q ≡ zero_ℚ) values.now) }
+{
+    values.iter().any(|value| !value.is_zero())
+}
+
+/// Adds the vertex that is the basic solution of a tableau of the system, unless it is zero at all
+/// nonbasic variables of the system.
+pub(crate) fn note_vertex(
+    alloc: Global,
+    vertices: &mut Vec<Vertex>,
+    system: &System,
+    tableau: &Tableau,
+) -> Result<(), Memory>
+    requires few { variable_count system.now ≤ 128 }
+    requires numbered { AreUpTo (variable_count system.now) tableau.now.basics }
+    ensures { let old = marks_of vertices.old.items in
+        OnOk result (IsNoted system.now tableau.now old (marks_of vertices.new.items)) }
+{
+    let point = values(alloc, tableau, system.nonbasics())?;
+    if is_nonzero(point.as_slice()) {
+        let count = system.basics().len() + system.nonbasics().len();
+        let mask = words(mask(tableau, count));
+        vertices.push(Vertex { mask, point })?;
+    }
+    Ok(())
+}
+
+/// The vertices in ascending order of their masks, one of each mask.
+pub(crate) fn in_order(vertices: Vec<Vertex>) -> Vec<Vertex>
+    ensures { AreInOrder (marks_of vertices.items) (marks_of result.items) }
+{
+    let mut vertices = vertices;
+    vertices.sort_unstable_by_key(|vertex: &Vertex| number(vertex));
+    vertices.dedup_by_key(|vertex: &mut Vertex| number(vertex));
+    vertices
+}

@@ -1,0 +1,96 @@
+// Why an enumeration has no vertices.
+ghost use Rattle.std.specs.Prelude.{◌≡◌};
+
+use frac128::{Memory, Unfit};
+use game_core::TooLarge;
+use std::alloc::{AllocError, AllocFailed};
+use std::marker::Model;
+
+/// The variables of a basis, in ascending order.
+#[derive(Debug, Drop)]
+pub struct Basis {
+    variables: Vec<u32>,
+}
+
+impl Model for Basis {
+    ghost use Rattle.std.specs.Prelude.{ℕ, List};
+
+    ghost Value = { List ℕ };
+
+    ghost view = { λ b. b.variables.items };
+}
+
+impl Basis {
+    pub(crate) fn new(variables: Vec<u32>) -> Basis
+        ensures { result ≡ variables.items }
+    {
+        Basis { variables }
+    }
+
+    /// The variables, in ascending order.
+    pub fn variables(&self) -> &[u32]
+        ensures { result.now ≡ self.now }
+    {
+        self.variables.as_slice()
+    }
+}
+
+/// Why a system's vertices are not listed.
+#[derive(Debug, Drop)]
+pub enum EnumStop {
+    /// A step of the start does not fit: the first.
+    Start {
+        /// The row, counted from 0.
+        row: u32,
+        /// The step.
+        unfit: Unfit,
+    },
+    /// A step of a pivot to a new basis does not fit: the first.
+    Range {
+        /// The level of the basis from which the pivot goes, counted from 0.
+        level: u32,
+        /// That basis.
+        basis: Basis,
+        /// The variable that enters it.
+        entering: u32,
+        /// The step.
+        unfit: Unfit,
+    },
+    /// There are too many bases: those of the levels so far and of the next one.
+    TooLarge(TooLarge),
+    /// Memory ran out.
+    Memory,
+}
+
+impl From<Memory> for EnumStop {
+    ghost use Rattle.std.specs.Prelude.{◌≡◌};
+    ghost use Rattle.basis_enum.specs.declared.stop.EnumStop.TheVariants as stops;
+
+    ghost from_gives = { λ _ e. e ≡ stops.Memory };
+
+    fn from(_memory: Memory) -> EnumStop {
+        EnumStop::Memory
+    }
+}
+
+impl From<AllocError> for EnumStop {
+    ghost use Rattle.std.specs.Prelude.{◌≡◌};
+    ghost use Rattle.basis_enum.specs.declared.stop.EnumStop.TheVariants as stops;
+
+    ghost from_gives = { λ _ e. e ≡ stops.Memory };
+
+    fn from(_error: AllocError) -> EnumStop {
+        EnumStop::Memory
+    }
+}
+
+impl<T: Drop> From<AllocFailed<T>> for EnumStop {
+    ghost use Rattle.std.specs.Prelude.{◌≡◌};
+    ghost use Rattle.basis_enum.specs.declared.stop.EnumStop.TheVariants as stops;
+
+    ghost from_gives = { λ _ e. e ≡ stops.Memory };
+
+    fn from(_refused: AllocFailed<T>) -> EnumStop {
+        EnumStop::Memory
+    }
+}

@@ -1,0 +1,243 @@
+// The enumeration on its way, level after level.
+ghost use Rattle.std.specs.Prelude.{◌≡◌, ◌<◌, ◌≤◌, ◌+◌, [], length, IfErr, IfOk, OnOk};
+ghost use Rattle.std.specs.List.{Contains};
+ghost use Rattle.lex_tableau.specs.Starts.{IsSystem};
+ghost use Rattle.basis_levels.specs.Ends.{IsAscendingListOf};
+ghost use Rattle.basis_levels.specs.Systems.{IsEnumerable, variable_count};
+ghost use Rattle.basis_enum.specs.Children.{AreChildren, AreMoves, IsChildStop};
+ghost use Rattle.basis_enum.specs.Enumeration.{IsStopIn};
+ghost use Rattle.basis_enum.specs.Found.{AreReady};
+ghost use Rattle.basis_enum.specs.Next.{AreNewMoves};
+ghost use Rattle.basis_enum.specs.Vertices.{marks_of};
+ghost use Rattle.basis_enum.specs.Walks.{AddsMarks, AreNumbered, HaveEntering, IsFirst, IsLimitStop, IsMoveStop, IsWalkAt, IsWalkToEnd};
+
+use crate::bases::{basis, merged};
+use crate::children::{ChildStop, children};
+use crate::marking::note_vertex;
+use crate::moves::{Move, new_moves, targets};
+use crate::stop::{Basis, EnumStop};
+use crate::vertex::Vertex;
+use game_core::{TooLarge, What};
+use lex_tableau::{StartStop, Steps, System, Tableau};
+use memory::Memory;
+use outside::Gate;
+use std::alloc::Global;
+use std::sync::ledger::Ledger;
+
+// How many bases may be reached.
+const MOST_BASES: usize = 20_000;
+
+// A level: its tableaux, with their bases. Beside it the bases of all levels so far, in ascending
+// order, and the vertices of their tableaux as they were reached.
+#[derive(Debug, Drop)]
+pub(crate) struct Walk {
+    pub level: Vec<Tableau>,
+    pub bases: Vec<u128>,
+    pub known: Vec<u128>,
+    pub vertices: Vec<Vertex>,
+}
+
+// The start of the system.
+fn first(alloc: Global, system: &System) -> Result<Tableau, EnumStop>
+    ensures first { IfOk result (IsFirst system.now) }
+    ensures stop { IfErr result (IsStopIn system.now) }
+{
+    match Tableau::start(alloc, system) {
+        Ok(tableau) => Ok(tableau),
+        Err(StartStop::Unfit { row, unfit }) => Err(EnumStop::Start { row, unfit }),
+        Err(StartStop::Memory) => Err(EnumStop::Memory),
+    }
+}
+
+// Level 0.
+fn start(alloc: Global, system: &System) -> Result<Walk, EnumStop>
+    requires { IsEnumerable system.now }
+    ensures walk { IfOk result (IsWalkAt system.now 0) }
+    ensures one { IfOk result (λ w. length w.known.items ≡ 1) }
+    ensures stop { IfErr result (IsStopIn system.now) }
+{
+    let tableau = first(alloc, system)?;
+    let basis = basis(system.nonbasics());
+    let mut vertices = Vec::new(alloc);
+    note_vertex(alloc, &mut vertices, system, &tableau)?;
+    let mut walk = Walk {
+        level: Vec::new(alloc),
+        bases: Vec::new(alloc),
+        known: Vec::new(alloc),
+        vertices,
+    };
+    walk.level.push(tableau)?;
+    walk.bases.push(basis)?;
+    walk.known.push(basis)?;
+    Ok(walk)
+}
+
+// These variables, in ascending order.
+fn ascending(alloc: Global, variables: &[u32]) -> Result<Vec<u32>, Memory>
+    ensures { IfOk result (λ v. IsAscendingListOf variables.now v.items) }
+{
+    let mut list = Vec::new(alloc);
+    for variable in variables {
+        list.push(*variable)?;
+    }
+    list.sort_unstable();
+    list.dedup();
+    Ok(list)
+}
+
+// The refusal of the next level.
+fn refusal(
+    alloc: Global,
+    level: &[Tableau],
+    moves: &[Move],
+    number: u32,
+    stop: ChildStop,
+) -> EnumStop
+    requires moves { AreMoves level.now moves.now }
+    requires entering { HaveEntering level.now moves.now }
+    requires stop { IsChildStop level.now moves.now stop }
+    ensures { IsMoveStop level.now moves.now number result }
+{
+    match stop {
+        ChildStop::Unfit { place, unfit } => {
+            let next = moves[place];
+            match ascending(alloc, level[next.parent as usize].basics()) {
+                Ok(variables) => EnumStop::Range {
+                    level: number,
+                    basis: Basis::new(variables),
+                    entering: next.entering,
+                    unfit,
+                },
+                Err(_) => EnumStop::Memory,
+            }
+        }
+        ChildStop::Memory => EnumStop::Memory,
+    }
+}
+
+// The tableaux of the level after this one.
+fn next_level<G: Gate, L: Ledger>(
+    alloc: Global,
+    level: &[Tableau],
+    moves: &[Move],
+    number: u32,
+    gate: &G,
+    steps: &mut Steps<L>,
+) -> Result<Vec<Tableau>, EnumStop>
+    requires level { AreReady level.now }
+    requires moves { AreMoves level.now moves.now }
+    requires entering { HaveEntering level.now moves.now }
+    ensures children { IfOk result
+        (λ v. AreChildren level.now moves.now (length moves.now) v.items) }
+    ensures stop { IfErr result (IsMoveStop level.now moves.now number) }
+    ensures counted { OnOk result (steps.new ≡ steps.old + length moves.now) }
+    ensures bounded { steps.new ≤ steps.old + length moves.now }
+{
+    match children(alloc, level, moves, gate, steps) {
+        Ok(next) => Ok(next),
+        Err(stop) => Err(refusal(alloc, level, moves, number, stop)),
+    }
+}
+
+// Refuses too many bases.
+fn check_count(bases: usize, moves: &[Move]) -> Result<(), EnumStop>
+    requires { bases ≤ 20000 }
+    ensures few { OnOk result (bases + length moves.now ≤ 20000) }
+    ensures stop { IfErr result (IsLimitStop (bases + length moves.now)) }
+{
+    let count = bases + moves.len();
+    if count > MOST_BASES {
+        return Err(EnumStop::TooLarge(TooLarge {
+            what: What::Bases,
+            count: count as u64,
+            limit: MOST_BASES as u64,
+        }));
+    }
+    Ok(())
+}
+
+// Adds the vertices of the tableaux of a level.
+fn note_level(
+    alloc: Global,
+    vertices: &mut Vec<Vertex>,
+    system: &System,
+    level: &[Tableau],
+) -> Result<(), Memory>
+    requires few { variable_count system.now ≤ 128 }
+    requires numbered { AreNumbered system.now level.now }
+    ensures { OnOk result (AddsMarks system.now level.now
+        (marks_of vertices.old.items) (marks_of vertices.new.items)) }
+{
+    for place in 0..level.len() {
+        note_vertex(alloc, vertices, system, &level[place])?;
+    }
+    Ok(())
+}
+
+// Goes on to the next level.
+fn advance<G: Gate, L: Ledger>(
+    alloc: Global,
+    system: &System,
+    walk: &mut Walk,
+    moves: &[Move],
+    number: u32,
+    gate: &G,
+    steps: &mut Steps<L>,
+) -> Result<(), EnumStop>
+    requires enumerable { IsEnumerable system.now }
+    requires walk { IsWalkAt system.now number walk.old }
+    requires moves { AreNewMoves walk.old.level.items walk.old.known.items moves.now }
+    requires some { 0 < length moves.now }
+    ensures walk { OnOk result (IsWalkAt system.now (number + 1) walk.new) }
+    ensures stop { IfErr result (IsStopIn system.now) }
+    ensures counted { OnOk result (steps.new + length walk.old.known.items
+        ≡ steps.old + length walk.new.known.items) }
+    ensures bounded { steps.new + length walk.old.known.items ≤ steps.old + 20000 }
+{
+    check_count(walk.known.len(), moves)?;
+    let level = next_level(alloc, walk.level.as_slice(), moves, number, gate, steps)?;
+    let bases = targets(alloc, moves)?;
+    walk.known = merged(alloc, walk.known.as_slice(), bases.as_slice())?;
+    note_level(alloc, &mut walk.vertices, system, level.as_slice())?;
+    walk.level = level;
+    walk.bases = bases;
+    Ok(())
+}
+
+// Goes from level to level, to the last one.
+pub(crate) fn reach<G: Gate, L: Ledger>(
+    alloc: Global,
+    system: &System,
+    gate: &G,
+    steps: &mut Steps<L>,
+) -> Result<Walk, EnumStop>
+    requires { IsEnumerable system.now }
+    ensures walk { IfOk result (IsWalkToEnd system.now) }
+    ensures stop { IfErr result (IsStopIn system.now) }
+    ensures counted { IfOk result (λ w. steps.new + 1 ≡ steps.old + length w.known.items) }
+    ensures bounded { steps.new ≤ steps.old + 19999 }
+{
+    let mut walk = start(alloc, system)?;
+    for number in 0..MOST_BASES as u32 {
+        let moves = new_moves(
+            alloc,
+            walk.level.as_slice(),
+            walk.bases.as_slice(),
+            walk.known.as_slice(),
+            gate,
+        )?;
+        if moves.is_empty() {
+            return Ok(walk);
+        }
+        advance(
+            alloc,
+            system,
+            &mut walk,
+            moves.as_slice(),
+            number,
+            gate,
+            steps,
+        )?;
+    }
+    unreachable!()
+}
