@@ -1,0 +1,5 @@
+pub mod Enumerable
+pub mod Leasts
+pub mod Singles
+pub mod SlackSystems
+pub mod Tables

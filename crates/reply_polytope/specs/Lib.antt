@@ -1,0 +1,4 @@
+pub mod Polytopes
+pub mod Shapes
+pub mod Shifts
+pub mod Stops

@@ -1,0 +1,88 @@
+// The shift of a player's payoffs.
+ghost use Rattle.std.specs.Prelude.{◌≡◌, ◌<◌, ◌↔◌, IsTrue, length};
+ghost use Rattle.answers.specs.Answers.{Gives, map_ok};
+ghost use Rattle.rational.specs.Rational.{◌<ℚ◌};
+ghost use Rattle.game_theory.specs.Profiles.{profile_count};
+ghost use Rattle.game_core.specs.Table.{game_of, strategy_counts, IsTable};
+ghost use Rattle.reply_polytope.specs.declared.stop.PolyStop.TheVariants as stops;
+ghost use Rattle.reply_polytope.specs.Shifts.{IsLeast};
+ghost use Rattle.reply_polytope.specs.Stops.{shifted_in};
+
+use crate::stop::PolyStop;
+use frac128::Frac;
+use game_core::Table;
+use std::alloc::Global;
+
+// A player's payoff at the profile with a number.
+fn payoff(table: &Table, player: usize, profile: usize) -> Frac
+    requires player { player < length table.now.players }
+    requires profile { profile < profile_count (strategy_counts table.now) }
+    ensures { result ≡ (game_of table.now).pays player profile }
+{
+    table.payoffs()[profile * table.players().len() + player]
+}
+
+// Whether the first fraction is less.
+fn is_less(left: Frac, right: Frac) -> bool
+    ensures { IsTrue result ↔ (left <ℚ right) }
+{
+    left.cmp(right).is_lt()
+}
+
+// The least of a player's payoffs.
+fn least_payoff(table: &Table, player: usize, profiles: usize) -> Frac
+    requires player { player < length table.now.players }
+    requires profiles { profiles ≡ profile_count (strategy_counts table.now) }
+    requires some { 0 < profiles }
+    ensures { IsLeast profiles ((game_of table.now).pays player) result }
+{
+    let mut least = payoff(table, player, 0);
+    for profile in 1..profiles {
+        let other = payoff(table, player, profile);
+        if is_less(other, least) {
+            least = other;
+        }
+    }
+    least
+}
+
+/// A player's payoffs, each with 1 less the least of them added.
+pub(crate) fn shifted_payoffs(
+    alloc: Global,
+    table: &Table,
+    player: u32,
+    profiles: usize,
+) -> Result<Vec<Frac>, PolyStop>
+    requires player { player < length table.now.players }
+    requires profiles { profiles ≡ profile_count (strategy_counts table.now) }
+    requires some { 0 < profiles }
+    requires valid { IsTable table.now }
+    ensures { Gives stops.Memory (shifted_in (game_of table.now) player)
+        (map_ok result (λ shifted. shifted.items)) }
+{
+    let least = least_payoff(table, player as usize, profiles);
+    let shift = match Frac::one().sub(least) {
+        Ok(shift) => shift,
+        Err(unfit) => {
+            return Err(PolyStop::Range {
+                player,
+                profile: 0,
+                unfit,
+            });
+        }
+    };
+    let mut shifted = Vec::with_capacity(alloc, profiles)?;
+    for profile in 0..profiles {
+        match payoff(table, player as usize, profile).add(shift) {
+            Ok(sum) => shifted.push(sum)?,
+            Err(unfit) => {
+                return Err(PolyStop::Range {
+                    player,
+                    profile: profile as u32,
+                    unfit,
+                });
+            }
+        }
+    }
+    Ok(shifted)
+}

@@ -1,0 +1,61 @@
+// The systems of best replies of a table.
+ghost use Rattle.std.specs.Prelude.{◌≡◌, ◌<◌, length, slice_index};
+ghost use Rattle.answers.specs.Answers.{Gives};
+ghost use Rattle.game_core.specs.Table.{game_of, strategy_counts};
+ghost use Rattle.reply_polytope.specs.declared.stop.PolyStop.TheVariants as stops;
+ghost use Rattle.reply_polytope.specs.Stops.{polytopes_in};
+
+use crate::shifts::shifted_payoffs;
+use crate::stop::PolyStop;
+use crate::systems::{first_reply_system, second_reply_system};
+use game_core::{Table, TooLarge, What};
+use lex_tableau::System;
+use std::alloc::Global;
+
+// The most labels.
+const MOST_LABELS: usize = 128;
+
+// How many strategies a player has.
+fn strategy_count(table: &Table, player: usize) -> usize
+    requires { player < length table.now.players }
+    ensures { result ≡ slice_index (strategy_counts table.now) player }
+{
+    table.strategies(player).len()
+}
+
+/// The systems of the polytopes of both players' best replies. Variables are labels, numbered from
+/// 1: first the first player's strategies and then the second's.
+///
+/// `NotTwoPlayers` exactly where there is another number of players; `TooLarge` exactly where two
+/// have more than 128 strategies together; `Range` exactly where neither holds and a step of the
+/// shift of a player's payoffs does not fit, with the first such step.
+pub fn polytopes(alloc: Global, table: &Table) -> Result<(System, System), PolyStop>
+    ensures { Gives stops.Memory (polytopes_in (game_of table.now)) result }
+{
+    let players = table.players().len();
+    if players != 2 {
+        return Err(PolyStop::NotTwoPlayers {
+            count: players as u32,
+        });
+    }
+    let rows = strategy_count(table, 0);
+    let columns = strategy_count(table, 1);
+    if rows + columns > MOST_LABELS {
+        return Err(PolyStop::TooLarge(TooLarge {
+            what: What::Labels,
+            count: (rows + columns) as u64,
+            limit: MOST_LABELS as u64,
+        }));
+    }
+    let first = match shifted_payoffs(alloc, table, 0, rows * columns) {
+        Ok(first) => first,
+        Err(stop) => return Err(stop),
+    };
+    let second = match shifted_payoffs(alloc, table, 1, rows * columns) {
+        Ok(second) => second,
+        Err(stop) => return Err(stop),
+    };
+    let one = first_reply_system(alloc, rows, columns, &second)?;
+    let two = second_reply_system(alloc, rows, columns, &first)?;
+    Ok((one, two))
+}
