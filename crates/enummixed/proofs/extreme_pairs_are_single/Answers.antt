@@ -1,0 +1,5 @@
+use Rattle.enummixed.proofs.VertexPairs.{pairs-single}
+use Rattle.enummixed.proofs.extreme_pairs_are_single.Goals as goal
+
+pub returns : goal.returns
+returns c = pairs-single

@@ -1,0 +1,51 @@
+-- The text of `gambit enummixed`, and why there is none (Avis et al. 2010)
+use Rattle.std.specs.Prelude.{ℕ, ◌≡◌, List, map}
+use Rattle.answers.specs.Answers.{Answer, only, ◌>>=◌, ◌>>◌, refused_by}
+use Rattle.rational.specs.Rational.{ℚ}
+use Rattle.game_theory.specs.Profiles.{Game}
+use Rattle.game_theory.specs.Lines.{lines_text}
+use Rattle.extreme_equilibria.specs.ExtremeEquilibria.{AreExtremeEquilibria}
+use Rattle.enumpure.specs.Stops.{within_text_limit}
+use Rattle.reply_polytope.specs.Stops.{polytopes_in}
+use Rattle.basis_levels.specs.Systems.{variable_count}
+use Rattle.basis_enum.specs.Vertices.{VertexList}
+use Rattle.basis_enum.specs.Enumeration.{vertices_in}
+use Rattle.label_pairing.specs.Stops.{pairs_in}
+use Rattle.label_pairing.specs.declared.pairing.PairStop.{PairStop}
+use Rattle.enummixed.specs.Used.{all_labels, occurs, used_points, scaling_in}
+use Rattle.enummixed.specs.Told.{polytopes_stop, enumeration_stop, pairs_stop, scale_stop, text_stop}
+use Rattle.enummixed.specs.declared.stop.MixedStop.{MixedStop}
+
+-- the lines of the game's extreme equilibria, one after another
+pub record IsExtremeEquilibriaText (game : Game) (text : List ℕ) : Type 0 where
+  pub lines : List (List ℚ)
+  pub are_extreme_equilibria : AreExtremeEquilibria game lines
+  pub is_text : text ≡ lines_text lines
+
+-- the vertices of both polytopes, and the places of those that together have all labels
+pub record VertexPairs : Type 0 where
+  pub first : VertexList
+  pub second : VertexList
+  pub pairs : List (ℕ × ℕ)
+
+-- the places of the vertices that together have all of n labels
+abbrev pub pairs_of_labels : ℕ → VertexList → VertexList → Answer PairStop (List (ℕ × ℕ))
+pairs_of_labels n first second = pairs_in (all_labels n) first.list second.list
+
+-- The pairs of a game: the polytopes are numbered 0 and 1. The points of the vertices that stand in
+-- a pair are scaled.
+abbrev pub extreme_pairs : Game → Answer MixedStop VertexPairs
+extreme_pairs game = do
+  systems ← refused_by polytopes_stop (polytopes_in game)
+  first ← refused_by (enumeration_stop 0) (vertices_in systems.0)
+  second ← refused_by (enumeration_stop 1) (vertices_in systems.1)
+  pairs ← refused_by pairs_stop (pairs_of_labels (variable_count systems.0) first second)
+  refused_by (scale_stop 0) (scaling_in (used_points first.list (occurs (map (λ p. p.0) pairs))))
+  refused_by (scale_stop 1) (scaling_in (used_points second.list (occurs (map (λ p. p.1) pairs))))
+  only (record { first = first; second = second; pairs = pairs })
+
+-- the text of a game's extreme equilibria, where the pairs can be made and scaled
+abbrev pub extreme_text : Game → Answer MixedStop (List ℕ)
+extreme_text game = do
+  extreme_pairs game
+  refused_by text_stop (within_text_limit (IsExtremeEquilibriaText game))

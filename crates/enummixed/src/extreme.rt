@@ -1,0 +1,155 @@
+// The pairs of vertices that make the extreme equilibria of a table.
+ghost use Rattle.std.specs.Prelude.{◌≡◌, ◌<◌, ◌≤◌, ℕ, All, length, map, IfOk};
+ghost use Rattle.answers.specs.Answers.{Gives, refused_by, map_ok};
+ghost use Rattle.game_core.specs.Table.{game_of};
+ghost use Rattle.basis_levels.specs.Systems.{IsEnumerable};
+ghost use Rattle.basis_enum.specs.Enumeration.{vertices_in};
+ghost use Rattle.basis_enum.specs.Vertices.{marks_of, list_of};
+ghost use Rattle.label_pairing.specs.Pairs.{mark_at};
+ghost use Rattle.label_pairing.specs.Scaling.{IsScalable};
+ghost use Rattle.enummixed.specs.ExtremeText.{extreme_pairs};
+ghost use Rattle.enummixed.specs.Pairs.{pairs_of, AreScaled};
+ghost use Rattle.enummixed.specs.Told.{enumeration_stop, scale_stop};
+ghost use Rattle.enummixed.specs.Used.{occurs, used_points, scaled_used, scaling_in};
+ghost use Rattle.basis_enum.specs.declared.stop.EnumStop.TheVariants as enum_stops;
+ghost use Rattle.enummixed.specs.declared.stop.MixedStop.TheVariants as stops;
+
+use crate::points::{all_labels, scaled_points, used_places};
+use crate::stop::MixedStop;
+use basis_enum::{EnumStop, Vertex, Vertices, enumerate};
+use frac128::{Frac, Memory};
+use game_core::Table;
+use label_pairing::pairs;
+use lex_tableau::System;
+use outside::Gate;
+use reply_polytope::polytopes;
+use std::alloc::Global;
+use std::marker::Brand;
+use std::sync::ledger::{Blank, Ledger};
+use steps::Steps;
+
+/// The vertices of both polytopes of a table, and the pairs of them that make its extreme
+/// equilibria.
+#[derive(Debug, Drop)]
+pub struct ExtremePairs {
+    /// The vertices of the first polytope.
+    pub first: Vertices,
+    /// The vertices of the second polytope.
+    pub second: Vertices,
+    /// The places of the vertices that together have all labels, in ascending order.
+    pub pairs: Vec<(u32, u32)>,
+    /// The first player's probabilities at each vertex of the first polytope that stands in a pair;
+    /// at other places an empty list.
+    pub firsts: Vec<Vec<Frac>>,
+    /// The second player's probabilities likewise.
+    pub seconds: Vec<Vec<Frac>>,
+}
+
+// The vertices of a system. The steps are counted on a blank, and the count is not used.
+fn enumerated<G: Gate, L: Ledger>(
+    alloc: Global,
+    system: &System,
+    gate: &G,
+    blank: Blank,
+) -> Result<Vertices, EnumStop>
+    requires enumerable { IsEnumerable system.now }
+    requires blank { (L.parts ≡ blank.parts) × (L.name ≡ blank.name) × (0 < blank.parts) }
+    ensures vertices { Gives enum_stops.Memory (vertices_in system.now) (map_ok result list_of) }
+    ensures few { IfOk result (λ v. v.bases ≤ 20000) }
+{
+    let mut steps = Steps::<L>::new(blank);
+    enumerate(alloc, system, gate, &mut steps)
+}
+
+// The vertices of a polytope, by its system.
+fn vertices_of<G: Gate>(
+    alloc: Global,
+    polytope: u32,
+    system: &System,
+    gate: &G,
+) -> Result<Vertices, MixedStop>
+    requires { IsEnumerable system.now }
+    ensures vertices { Gives stops.Memory
+        (refused_by (enumeration_stop polytope) (vertices_in system.now))
+        (map_ok result list_of) }
+    ensures few { IfOk result (λ v. v.bases ≤ 20000) }
+{
+    match enumerated::<G, Brand>(alloc, system, gate, Blank::new(1)) {
+        Ok(vertices) => Ok(vertices),
+        Err(stop) => Err(MixedStop::of_enumeration(polytope, stop)),
+    }
+}
+
+// The first place of each pair.
+fn first_places(alloc: Global, pairs: &[(u32, u32)]) -> Result<Vec<u32>, Memory>
+    ensures { IfOk result (λ places. places.items ≡ map (λ p. p.0) pairs.now) }
+{
+    Ok(pairs.iter().map(|pair| pair.0).collect(alloc)?)
+}
+
+// The second place of each pair.
+fn second_places(alloc: Global, pairs: &[(u32, u32)]) -> Result<Vec<u32>, Memory>
+    ensures { IfOk result (λ places. places.items ≡ map (λ p. p.1) pairs.now) }
+{
+    Ok(pairs.iter().map(|pair| pair.1).collect(alloc)?)
+}
+
+// The scaled points of a polytope's vertices at these places.
+fn scaled(
+    alloc: Global,
+    polytope: u32,
+    vertices: &[Vertex],
+    places: &[u32],
+) -> Result<Vec<Vec<Frac>>, MixedStop>
+    requires places { All (λ place. place < length vertices.now) places.now }
+    requires scalable { (i : ℕ) → i < length vertices.now
+        → IsScalable (mark_at (marks_of vertices.now) i).point }
+    ensures fit { Gives stops.Memory
+        (refused_by (scale_stop polytope)
+        (scaling_in (used_points (marks_of vertices.now) (occurs places.now))))
+        (map_ok result (λ points. tt)) }
+    ensures scaled { IfOk result (λ points. map (λ v. v.items) points.items
+        ≡ scaled_used (marks_of vertices.now) (occurs places.now)) }
+{
+    let used = used_places(alloc, places, vertices.len())?;
+    match scaled_points(alloc, vertices, &used) {
+        Ok(points) => Ok(points),
+        Err(stop) => Err(MixedStop::of_scaling(polytope, stop)),
+    }
+}
+
+/// The vertices of both polytopes of a table, and the pairs of them that together have all labels,
+/// with the points of these vertices scaled. The pairs are as many as the extreme equilibria.
+///
+/// # Errors
+///
+/// The first reason in the order in which the parts are computed: `NotTwoPlayers`, `TooLarge` (of
+/// strategies) or `Shift` where there are no two systems; `Start`, `Range` or `TooLarge` (of bases)
+/// of the first polytope, and then of the second; `TooLarge` where there are more than 1,048,576
+/// pairs; `Scale` of the first polytope, and then of the second. `Memory` where memory ran out.
+pub fn extreme_pairs<G: Gate>(
+    alloc: Global,
+    table: &Table,
+    gate: &G,
+) -> Result<ExtremePairs, MixedStop>
+    ensures answer { Gives stops.Memory (extreme_pairs (game_of table.now))
+        (map_ok result pairs_of) }
+    ensures scaled { IfOk result AreScaled }
+{
+    let (one, two) = polytopes(alloc, table)?;
+    let first = vertices_of(alloc, 0, &one, gate)?;
+    let second = vertices_of(alloc, 1, &two, gate)?;
+    let labels = all_labels(one.basics().len() + one.nonbasics().len());
+    let pairs = pairs(alloc, &first.list, &second.list, labels)?;
+    let first_used = first_places(alloc, &pairs)?;
+    let firsts = scaled(alloc, 0, &first.list, &first_used)?;
+    let second_used = second_places(alloc, &pairs)?;
+    let seconds = scaled(alloc, 1, &second.list, &second_used)?;
+    Ok(ExtremePairs {
+        first,
+        second,
+        pairs,
+        firsts,
+        seconds,
+    })
+}

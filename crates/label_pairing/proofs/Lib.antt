@@ -1,0 +1,3 @@
+pub mod AllPairs
+pub mod Rows
+pub mod StepLists

@@ -1,0 +1,122 @@
+-- The pairs with the first marks of a list
+use Rattle.std.proofs.Common.{ℕ, zero, suc, ◌+◌, ◌<◌, ◌≤◌, ◌≡◌, Bool, false, cond, nat_eq, ◌&&◌, List, [], ◌∷◌, ◌++◌, length, length-append, map, get_or, refl, sym, ap, ap₂, ◌∙◌, arith, add-one, append_assoc}
+use Rattle.std.specs.Prelude.{count_by, bit_or}
+use Rattle.std.specs.List.{filter, flat_map, range_with_len}
+use Rattle.std.proofs.lemmas.List.{append-nil, get_or-map, length-map}
+use Rattle.std.proofs.lemmas.Grind.{flat_map-append}
+use Rattle.std.proofs.lemmas.List.Elements.{filter-append}
+use Rattle.std.proofs.lemmas.List.FromFn.{filter_of_map_range_with_len_more, sum_by-map-range_with_len_more, fill_by_all}
+use Rattle.std.proofs.lemmas.List.Sums.{length-filter}
+use Rattle.extreme_points.specs.Vertices.{MarkedPoint}
+use Rattle.basis_enum.specs.Vertices.{mark_of, marks_of}
+use Rattle.basis_enum.specs.declared.vertex.Vertex.{Vertex}
+use Rattle.label_pairing.specs.Matches.{completes, AreMatches, AreWords, flagged_pairs}
+use Rattle.label_pairing.specs.Pairs.{are_together, mark_at, places}
+
+-- the pairs of place i with the first n marks
+abbrev pub row : List ℕ → List MarkedPoint → List MarkedPoint → ℕ → ℕ → List (ℕ × ℕ)
+row all first second i n = filter (λ p. are_together all (mark_at first p.0) (mark_at second p.1)) (map (λ j. (i, j)) (range_with_len 0 n))
+
+-- the pairs of the first m places
+abbrev pub rows : List ℕ → List MarkedPoint → List MarkedPoint → ℕ → List (ℕ × ℕ)
+rows all first second m = filter (λ p. are_together all (mark_at first p.0) (mark_at second p.1)) (places m (length second))
+
+-- one more number
+pub range_more : (a n : ℕ) → range_with_len a (suc n) ≡ range_with_len a n ++ (a + n) ∷ []
+range_more a zero = ap (λ k. k ∷ []) (omega arith)
+range_more a (suc n) = ap (λ xs. a ∷ xs) (range_more (a + 1) n ∙ ap (λ k. range_with_len (a + 1) n ++ k ∷ []) (omega arith))
+
+-- one more place
+pub places-next : (m n : ℕ) → places (suc m) n ≡ places m n ++ map (λ j. (m, j)) (range_with_len 0 n)
+places-next m n =
+    let f : ℕ → List (ℕ × ℕ) = λ i. map (λ j. (i, j)) (range_with_len 0 n) in
+    ap (flat_map f) (range_more 0 m) ∙ flat_map-append f (range_with_len 0 m) ((0 + m) ∷ [])
+    ∙ ap (λ xs. places m n ++ xs) (append-nil (f (0 + m)) ∙ ap f (omega arith))
+
+pub rows-next : (all : List ℕ) (first second : List MarkedPoint) (m : ℕ) → rows all first second (m + 1) ≡ rows all first second m ++ row all first second m (length second)
+rows-next all first second m =
+    let p : ℕ × ℕ → Bool = λ p. are_together all (mark_at first p.0) (mark_at second p.1) in
+    ap (λ k. filter p (places k (length second))) (add-one m) ∙ ap (filter p) (places-next m (length second)) ∙ filter-append p (places m (length second)) _
+
+-- what is read outside a list
+abbrev none : MarkedPoint
+none = record { low = 0; high = 0; point = [] }
+
+module _ (all : List ℕ) (first second : List MarkedPoint) (m : ℕ) (mask low high : List ℕ) (found : List Bool) where
+  -- the flags tell the pairs of one place
+  told : AreWords second low high → AreMatches mask all low high found → get_or mask 0 0 ≡ (mark_at first m).low → get_or mask 1 0 ≡ (mark_at first m).high → (j : ℕ) → j < length second → get_or found j false ≡ are_together all (mark_at first m) (mark_at second j)
+  told w h e f j l =
+      let so_many : length low ≡ length second = ap length w.lows ∙ length-map second (λ mark. mark.low) in
+      h.are_matches j false (omega arith)
+      ∙ ap₂ (λ a b. completes mask all a b) (ap (λ xs. get_or xs j 0) w.lows ∙ get_or-map (λ (mark : MarkedPoint). mark.low) second j none 0 l) (ap (λ xs. get_or xs j 0) w.highs ∙ get_or-map (λ (mark : MarkedPoint). mark.high) second j none 0 l)
+      ∙ ap₂ (λ a b. nat_eq (bit_or a (mark_at second j).low) (get_or all 0 0) && nat_eq (bit_or b (mark_at second j).high) (get_or all 1 0)) e f
+
+  row_told : ((j : ℕ) → j < length second → get_or found j false ≡ are_together all (mark_at first m) (mark_at second j)) → (n : ℕ) → n ≤ length second → filter (λ p. get_or found p.1 false) (map (λ j. (m, j)) (range_with_len 0 n)) ≡ row all first second m n
+  row_told t zero h = refl
+  row_told t (suc n) h =
+      ap (λ k. filter (λ p. get_or found p.1 false) (map (λ j. (m, j)) (range_with_len 0 k))) (sym (add-one n))
+      ∙ filter_of_map_range_with_len_more (λ (p : ℕ × ℕ). get_or found p.1 false) (λ j. (m, j)) 0 n n (omega arith)
+      ∙ ap₂ (λ xs b. xs ++ cond b ((m, n) ∷ []) []) (row_told t n (omega arith)) (t n (omega arith))
+      ∙ sym (filter_of_map_range_with_len_more (λ (p : ℕ × ℕ). are_together all (mark_at first p.0) (mark_at second p.1)) (λ j. (m, j)) 0 n n (omega arith))
+      ∙ ap (λ k. row all first second m k) (add-one n)
+
+  pub row-found : AreWords second low high → AreMatches mask all low high found → get_or mask 0 0 ≡ (mark_at first m).low → get_or mask 1 0 ≡ (mark_at first m).high → flagged_pairs m found ≡ row all first second m (length second)
+  row-found w h e f =
+      let so_many : length found ≡ length second = h.so_many ∙ ap length w.lows ∙ length-map second (λ mark. mark.low) in
+      ap (λ n. filter (λ p. get_or found p.1 false) (map (λ j. (m, j)) (range_with_len 0 n))) so_many
+      ∙ row_told (told w h e f) (length second) (omega arith)
+
+-- the flags of a vertex that is read tell its row
+pub vertex-row : (all : List ℕ) (first : List Vertex) (second : List MarkedPoint) (i : ℕ) (d : Vertex) (low high : List ℕ) (found : List Bool) → i < length first → AreWords second low high → AreMatches (get_or first i d).mask all low high found → flagged_pairs i found ≡ row all (marks_of first) second i (length second)
+vertex-row all first second i d low high found h w m =
+    let e = sym (get_or-map mark_of first i d none h) in
+    row-found all (marks_of first) second i (get_or first i d).mask low high found w m (ap (λ (mark : MarkedPoint). mark.low) e) (ap (λ (mark : MarkedPoint). mark.high) e)
+
+-- so many flags are set
+flags-counted : (f : ℕ → Bool) (m n : ℕ) → count_by (λ b. b) (map f (range_with_len 0 n)) ≡ count_by (λ (p : ℕ × ℕ). f p.1) (map (λ j. (m, j)) (range_with_len 0 n))
+flags-counted f m zero = refl
+flags-counted f m (suc n) =
+    ap (λ k. count_by (λ b. b) (map f (range_with_len 0 k))) (sym (add-one n))
+    ∙ sum_by-map-range_with_len_more (λ b. cond b 1 0) f 0 n n (omega arith)
+    ∙ ap (λ k. k + cond (f n) 1 0) (flags-counted f m n)
+    ∙ sym (sum_by-map-range_with_len_more (λ (p : ℕ × ℕ). cond (f p.1) 1 0) (λ j. (m, j)) 0 n n (omega arith))
+    ∙ ap (λ k. count_by (λ (p : ℕ × ℕ). f p.1) (map (λ j. (m, j)) (range_with_len 0 k))) (add-one n)
+
+pub count-found : (m : ℕ) (found : List Bool) → count_by (λ b. b) found ≡ length (flagged_pairs m found)
+count-found m found =
+    let f : ℕ → Bool = λ j. get_or found j false in
+    ap (count_by (λ b. b)) (fill_by_all f found (length found) false refl (λ k h. refl))
+    ∙ flags-counted f m (length found)
+    ∙ sym (length-filter (λ (p : ℕ × ℕ). f p.1) (map (λ j. (m, j)) (range_with_len 0 (length found))))
+
+-- one more place
+pub found-next : (found : List Bool) (i j : ℕ) (old loop new : List (ℕ × ℕ)) (b : Bool) → get_or found j false ≡ b → loop ≡ old ++ filter (λ p. get_or found p.1 false) (map (λ j. (i, j)) (range_with_len 0 j)) → new ≡ loop ++ cond b ((i, j) ∷ []) [] → new ≡ old ++ filter (λ p. get_or found p.1 false) (map (λ j. (i, j)) (range_with_len 0 (j + 1)))
+found-next found i j old loop new b is before push =
+    push ∙ ap₂ (λ xs b. xs ++ cond b ((i, j) ∷ []) []) before (sym is) ∙ append_assoc old _ _
+    ∙ ap (λ xs. old ++ xs) (sym (filter_of_map_range_with_len_more (λ (p : ℕ × ℕ). get_or found p.1 false) (λ j. (i, j)) 0 j j (omega arith)))
+
+-- nothing is added
+pub found-same : (xs ys : List (ℕ × ℕ)) → ys ≡ xs → ys ≡ xs ++ []
+found-same xs ys e = e ∙ sym (append-nil xs)
+
+-- the words of vertices are those of their marks
+pub words_of : (vertices : List Vertex) (low high : List ℕ) → low ≡ map (λ v. get_or v.mask 0 0) vertices → high ≡ map (λ v. get_or v.mask 1 0) vertices → AreWords (marks_of vertices) low high
+words_of vertices low high e f = record { lows = e ∙ same (λ mark. mark.low) (λ v. get_or v.mask 0 0) (λ v. refl) vertices; highs = f ∙ same (λ mark. mark.high) (λ v. get_or v.mask 1 0) (λ v. refl) vertices }
+  where
+    same : (f : MarkedPoint → ℕ) (g : Vertex → ℕ) → ((v : Vertex) → g v ≡ f (mark_of v)) → (vertices : List Vertex) → map g vertices ≡ map f (marks_of vertices)
+    same f g h [] = refl
+    same f g h (v ∷ vs) = ap₂ (λ x xs. x ∷ xs) (h v) (same f g h vs)
+
+module _ (all : List ℕ) (first : List Vertex) (second : List MarkedPoint) (i : ℕ) (d : Vertex) (low high : List ℕ) (found : List Bool) where
+  -- one more vertex's pairs are counted
+  pub count-next : (count more : ℕ) → i < length first → AreWords second low high → AreMatches (get_or first i d).mask all low high found → more ≡ count_by (λ b. b) found → count ≡ length (rows all (marks_of first) second i) → count + more ≡ length (rows all (marks_of first) second (i + 1))
+  count-next count more h w m so_many before =
+      ap₂ (λ a b. a + b) before (so_many ∙ count-found i found ∙ ap length (vertex-row all first second i d low high found h w m))
+      ∙ sym (length-append (rows all (marks_of first) second i) (row all (marks_of first) second i (length second)))
+      ∙ ap length (sym (rows-next all (marks_of first) second i))
+
+  -- one more vertex's pairs are listed
+  pub pairs-next : (pairs new : List (ℕ × ℕ)) → i < length first → AreWords second low high → AreMatches (get_or first i d).mask all low high found → new ≡ pairs ++ flagged_pairs i found → pairs ≡ rows all (marks_of first) second i → new ≡ rows all (marks_of first) second (i + 1)
+  pairs-next pairs new h w m push before =
+      push ∙ ap₂ (λ xs ys. xs ++ ys) before (vertex-row all first second i d low high found h w m)
+      ∙ sym (rows-next all (marks_of first) second i)

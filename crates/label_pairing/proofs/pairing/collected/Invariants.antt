@@ -1,0 +1,12 @@
+use Rattle.std.proofs.Common.{◌≡◌, List, length}
+use Rattle.extreme_points.specs.Vertices.{MarkedPoint}
+use Rattle.basis_enum.specs.Vertices.{marks_of}
+use Rattle.label_pairing.specs.Matches.{AreWords}
+use Rattle.label_pairing.proofs.Rows.{rows}
+use Rattle.label_pairing.proofs.pairing.collected.Given as goal
+
+abbrev pub invariant-loop-i : goal.invariant-loop-i
+invariant-loop-i l = record {
+  pairs : (second : List MarkedPoint) → AreWords second l.low l.high → l.pairs.items ≡ rows l.all (marks_of l.first) second l.i;
+  room : length l.found ≡ length l.low;
+}

@@ -1,0 +1,5 @@
+use Rattle.label_pairing.proofs.AllPairs.{pairs_single}
+use Rattle.label_pairing.proofs.pairs_are_single.Goals as goal
+
+pub returns : goal.returns
+returns c = pairs_single

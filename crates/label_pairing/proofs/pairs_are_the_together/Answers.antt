@@ -1,0 +1,5 @@
+use Rattle.label_pairing.proofs.AllPairs.{pairs_together}
+use Rattle.label_pairing.proofs.pairs_are_the_together.Goals as goal
+
+pub returns : goal.returns
+returns c = pairs_together

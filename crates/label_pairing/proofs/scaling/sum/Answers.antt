@@ -1,0 +1,31 @@
+use Rattle.std.proofs.Common.{◌∙◌, ◌≡◌, sym, ap, ap₂, subst₂, arith, add-one}
+use Rattle.std.proofs.lemmas.List.{get_or_default}
+use Rattle.rational.specs.Rational.{◌+ℚ◌, zero_ℚ}
+use Rattle.rational.specs.Sum.{sum_to}
+use Rattle.frac128.specs.Steps.{AddFits, unfit}
+use Rattle.frac128.specs.declared.steps.Op.TheVariants.{Add}
+use Rattle.label_pairing.specs.Scaling.{entry_of, addition}
+use Rattle.label_pairing.proofs.StepLists.{fits-next, unfit-first, fits-all}
+use Rattle.label_pairing.proofs.scaling.sum.Goals as goal
+use Rattle.std.proofs.Common.{length}
+
+pub loop-i-preserved : goal.loop-i-preserved
+loop-i-preserved c =
+    let p = c.args.point.now in
+    let read : c.index-point-i.result ≡ entry_of p c.loop-i.i = c.index-point-i.is ∙ get_or_default p c.loop-i.i c.index-point-i.result zero_ℚ c.loop-i-test.true in
+    record {
+      value = c.in-Ok.ensures.value ∙ ap₂ (λ x y. x +ℚ y) c.loop-i.invariant.value read ∙ ap (λ n. sum_to n (entry_of p)) (sym (add-one c.loop-i.i));
+      fits = fits-next (addition p) (length p) c.loop-i.i c.loop-i-test.true c.loop-i.invariant.fits (subst₂ AddFits c.loop-i.invariant.value read c.in-Ok.ensures.fits);
+    }
+
+pub returns-in-Err : goal.returns-in-Err
+returns-in-Err c =
+    let p = c.args.point.now in
+    let read : c.index-point-i.result ≡ entry_of p c.loop-i.i = c.index-point-i.is ∙ get_or_default p c.loop-i.i c.index-point-i.result zero_ℚ c.loop-i-test.true in
+    unfit-first (addition p) (length p) c.loop-i.i c.loop-i-test.true c.in-Err.unfit c.loop-i.invariant.fits (λ f. c.in-Err.ensures.unfit (subst₂ AddFits (sym c.loop-i.invariant.value) (sym read) f)) (c.in-Err.ensures.step ∙ ap₂ (λ x y. unfit Add x y) c.loop-i.invariant.value read)
+
+pub returns : goal.returns
+returns c =
+    let p = c.args.point.now in
+    let end : c.loop-i.i ≡ length p = omega arith in
+    (c.loop-i.invariant.value ∙ ap (λ n. sum_to n (entry_of p)) end, fits-all (addition p) (length p) c.loop-i.i c.loop-i-test.false c.loop-i.invariant.fits)

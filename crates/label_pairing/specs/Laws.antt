@@ -1,0 +1,25 @@
+-- The laws of pairs, as statements. Each is proved by a function of src/lib.rt.
+use Rattle.std.specs.Prelude.{ℕ, ◌<◌, ◌≡◌, ◌≢◌, ◌↔◌, List, Contains, length, true}
+use Rattle.std.specs.List.{AllPairs}
+use Rattle.answers.specs.Answers.{IsSingle}
+use Rattle.extreme_points.specs.Vertices.{MarkedPoint}
+use Rattle.label_pairing.specs.Pairs.{mark_at, are_together, all_pairs}
+use Rattle.label_pairing.specs.Stops.{pairs_in}
+
+-- these are places of the two lists, and the marks there together have all bits
+pub record IsPair (all : List ℕ) (first second : List MarkedPoint) (i j : ℕ) : Type 0 where
+  pub in_first : i < length first
+  pub in_second : j < length second
+  pub together : are_together all (mark_at first i) (mark_at second j) ≡ true
+
+-- All pairs are exactly the pairs, and none stands twice.
+pub record PairsAreTheTogether : Type 0 where
+  pub exactly : (all : List ℕ) (first second : List MarkedPoint) (i j : ℕ)
+      → Contains (all_pairs all first second) (i, j) ↔ IsPair all first second i j
+  pub once : (all : List ℕ) (first second : List MarkedPoint)
+      → AllPairs (λ p q. p ≢ q) (all_pairs all first second)
+
+-- Two lists have one list of pairs, or too many.
+abbrev pub PairsAreSingle : Type 0
+PairsAreSingle =
+    (all : List ℕ) (first second : List MarkedPoint) → IsSingle (pairs_in all first second)

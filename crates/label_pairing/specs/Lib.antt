@@ -1,0 +1,5 @@
+pub mod Laws
+pub mod Matches
+pub mod Pairs
+pub mod Scaling
+pub mod Stops

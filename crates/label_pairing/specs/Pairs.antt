@@ -1,0 +1,29 @@
+-- The pairs of marked points that together have all labels: each variable is 0 at one of the two
+-- (von Stengel 2002)
+use Rattle.std.specs.Prelude.{ℕ, ◌&&◌, Bool, List, [], length, map, get_or, nat_eq, bit_or}
+use Rattle.std.specs.List.{filter, flat_map, range_with_len}
+use Rattle.extreme_points.specs.Vertices.{MarkedPoint}
+
+-- the masks of two marks together have exactly the bits of all
+abbrev pub are_together : List ℕ → MarkedPoint → MarkedPoint → Bool
+are_together all one two =
+    nat_eq (bit_or one.low two.low) (get_or all 0 0)
+    && nat_eq (bit_or one.high two.high) (get_or all 1 0)
+
+-- the mark at a place
+abbrev pub mark_at : List MarkedPoint → ℕ → MarkedPoint
+mark_at marks i = get_or marks i (record { low = 0; high = 0; point = [] })
+
+-- all places in two lists with so many elements, in ascending order
+abbrev pub places : ℕ → ℕ → List (ℕ × ℕ)
+places m n = flat_map (λ i. map (λ j. (i, j)) (range_with_len 0 n)) (range_with_len 0 m)
+
+-- the places at which the two marks together have all bits, in ascending order
+abbrev pub all_pairs : List ℕ → List MarkedPoint → List MarkedPoint → List (ℕ × ℕ)
+all_pairs all first second =
+    filter (λ p. are_together all (mark_at first p.0) (mark_at second p.1))
+    (places (length first) (length second))
+
+-- the most pairs
+abbrev pub most_pairs : ℕ
+most_pairs = 1048576

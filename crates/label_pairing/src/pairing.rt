@@ -1,0 +1,163 @@
+// The pairs of vertices that together have all labels.
+ghost use Rattle.std.specs.Prelude.{◌≡◌, ◌<◌, ◌≤◌, ◌++◌, ◌^◌, List, length, map, get_or, count_by, IfOk, OnOk};
+ghost use Rattle.answers.specs.Answers.{Gives, map_ok};
+ghost use Rattle.basis_enum.specs.Vertices.{marks_of};
+ghost use Rattle.extreme_points.specs.Vertices.{MarkedPoint};
+ghost use Rattle.label_pairing.specs.Matches.{AreWords, flagged_pairs};
+ghost use Rattle.label_pairing.specs.Pairs.{all_pairs};
+ghost use Rattle.label_pairing.specs.Stops.{pairs_in};
+ghost use Rattle.label_pairing.specs.declared.pairing.PairStop.TheVariants as stops;
+
+use crate::matching::matches;
+use basis_enum::Vertex;
+use frac128::Memory;
+use game_core::{TooLarge, What};
+use std::alloc::{AllocError, Global};
+
+// The most pairs.
+const MOST_PAIRS: usize = 1_048_576;
+
+/// Why the pairs were not listed.
+#[derive(Clone, Copy, Debug, PartialEq, Eq)]
+pub enum PairStop {
+    /// There are more than 1,048,576 pairs.
+    TooLarge(TooLarge),
+    /// Memory ran out.
+    Memory,
+}
+
+impl From<Memory> for PairStop {
+    ghost use Rattle.std.specs.Prelude.{◌≡◌};
+    ghost use Rattle.label_pairing.specs.declared.pairing.PairStop.TheVariants as stops;
+
+    ghost from_gives = { λ _ e. e ≡ stops.Memory };
+
+    fn from(_memory: Memory) -> PairStop {
+        PairStop::Memory
+    }
+}
+
+impl From<AllocError> for PairStop {
+    ghost use Rattle.std.specs.Prelude.{◌≡◌};
+    ghost use Rattle.label_pairing.specs.declared.pairing.PairStop.TheVariants as stops;
+
+    ghost from_gives = { λ _ e. e ≡ stops.Memory };
+
+    fn from(_error: AllocError) -> PairStop {
+        PairStop::Memory
+    }
+}
+
+// A word of each vertex's mask.
+fn words(alloc: Global, vertices: &[Vertex], word: usize) -> Result<Vec<u64>, Memory>
+    requires { word < 2 }
+    ensures { IfOk result (λ words. words.items
+        ≡ map (λ vertex. get_or vertex.mask word 0) vertices.now) }
+{
+    let mut words = Vec::with_capacity(alloc, vertices.len())?;
+    for i in 0..vertices.len() {
+        words.push(vertices[i].mask[word])?;
+    }
+    Ok(words)
+}
+
+// How many places are found.
+fn found_count(found: &[bool]) -> usize
+    ensures count { result ≡ count_by (λ found. found) found.now }
+    ensures few { result ≤ length found.now }
+{
+    found.iter().filter(|found| **found).count()
+}
+
+// How many pairs there are with masks whose words these are. Writes over `found`.
+fn pair_count(
+    first: &[Vertex],
+    all: [u64; 2],
+    low: &[u64],
+    high: &[u64],
+    found: &mut [bool],
+) -> usize
+    requires few_first { length first.now < 2 ^ 32 }
+    requires few_second { length low.now < 2 ^ 32 }
+    requires high { length high.now ≡ length low.now }
+    requires found { length found.old ≡ length low.now }
+    ensures { (second : List MarkedPoint) → AreWords second low.now high.now
+        → result ≡ length (all_pairs all (marks_of first.now) second) }
+{
+    let mut count = 0;
+    for i in 0..first.len() {
+        matches(first[i].mask, all, low, high, found);
+        count += found_count(found);
+    }
+    count
+}
+
+// Adds the pairs of place i with the places that are found.
+fn push_found(pairs: &mut Vec<(u32, u32)>, i: u32, found: &[bool]) -> Result<(), Memory>
+    requires { length found.now < 2 ^ 32 }
+    ensures { OnOk result (pairs.new.items ≡ pairs.old.items ++ flagged_pairs i found.now) }
+{
+    for j in 0..found.len() {
+        if found[j] {
+            pairs.push((i, j as u32))?;
+        }
+    }
+    Ok(())
+}
+
+// The pairs with masks whose words these are, in room for so many. Writes over `found`.
+fn collected(
+    alloc: Global,
+    first: &[Vertex],
+    all: [u64; 2],
+    low: &[u64],
+    high: &[u64],
+    found: &mut [bool],
+    count: usize,
+) -> Result<Vec<(u32, u32)>, Memory>
+    requires few_first { length first.now < 2 ^ 32 }
+    requires few_second { length low.now < 2 ^ 32 }
+    requires high { length high.now ≡ length low.now }
+    requires found { length found.old ≡ length low.now }
+    ensures { IfOk result (λ pairs. (second : List MarkedPoint) → AreWords second low.now high.now
+        → pairs.items ≡ all_pairs all (marks_of first.now) second) }
+{
+    let mut pairs = Vec::with_capacity(alloc, count)?;
+    for i in 0..first.len() {
+        matches(first[i].mask, all, low, high, found);
+        push_found(&mut pairs, i as u32, found)?;
+    }
+    Ok(pairs)
+}
+
+/// The pairs of vertices whose masks together have all these bits, by their places in the two lists,
+/// in ascending order. Places are numbered from 0.
+///
+/// # Errors
+///
+/// `TooLarge` exactly where there are more than 1,048,576 pairs, which are counted before any is
+/// listed; `Memory` where memory ran out.
+pub fn pairs(
+    alloc: Global,
+    first: &[Vertex],
+    second: &[Vertex],
+    all: [u64; 2],
+) -> Result<Vec<(u32, u32)>, PairStop>
+    requires few_first { length first.now < 2 ^ 32 }
+    requires few_second { length second.now < 2 ^ 32 }
+    ensures { Gives stops.Memory (pairs_in all (marks_of first.now) (marks_of second.now))
+        (map_ok result (λ pairs. pairs.items)) }
+{
+    let low = words(alloc, second, 0)?;
+    let high = words(alloc, second, 1)?;
+    let mut found = vec![in alloc; false; second.len()]?;
+    let count = pair_count(first, all, &low, &high, &mut found);
+    if count > MOST_PAIRS {
+        return Err(PairStop::TooLarge(TooLarge {
+            what: What::Pairs,
+            count: count as u64,
+            limit: MOST_PAIRS as u64,
+        }));
+    }
+    Ok(collected(alloc, first, all, &low, &high, &mut found, count)?)
+}

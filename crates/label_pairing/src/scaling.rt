@@ -1,0 +1,93 @@
+// Points divided by the sums of their entries.
+ghost use Rattle.std.specs.Prelude.{length};
+ghost use Rattle.rational.specs.Sum.{sum_to};
+ghost use Rattle.answers.specs.Answers.{Gives, map_ok};
+ghost use Rattle.pure_payoffs.specs.Plays.{Give};
+ghost use Rattle.label_pairing.specs.Scaling.{entry_of, IsScalable, sum_steps};
+ghost use Rattle.label_pairing.specs.Stops.{scaled_in};
+ghost use Rattle.label_pairing.specs.declared.scaling.ScaleStop.TheVariants as stops;
+
+use basis_enum::Vertex;
+use frac128::{Frac, Memory, Unfit};
+use std::alloc::{AllocError, AllocFailed, Global};
+
+/// Why a point was not scaled.
+#[derive(Clone, Copy, Debug, PartialEq, Eq)]
+pub enum ScaleStop {
+    /// A step does not fit: the first.
+    Range {
+        /// The step.
+        unfit: Unfit,
+    },
+    /// Memory ran out.
+    Memory,
+}
+
+impl From<AllocError> for ScaleStop {
+    ghost use Rattle.std.specs.Prelude.{◌≡◌};
+    ghost use Rattle.label_pairing.specs.declared.scaling.ScaleStop.TheVariants as stops;
+
+    ghost from_gives = { λ _ e. e ≡ stops.Memory };
+
+    fn from(_error: AllocError) -> ScaleStop {
+        ScaleStop::Memory
+    }
+}
+
+impl<T: Drop> From<AllocFailed<T>> for ScaleStop {
+    ghost use Rattle.std.specs.Prelude.{◌≡◌};
+    ghost use Rattle.label_pairing.specs.declared.scaling.ScaleStop.TheVariants as stops;
+
+    ghost from_gives = { λ _ e. e ≡ stops.Memory };
+
+    fn from(_refused: AllocFailed<T>) -> ScaleStop {
+        ScaleStop::Memory
+    }
+}
+
+// The sum of the entries of a point.
+fn sum(point: &[Frac]) -> Result<Frac, Unfit>
+    ensures { Give (sum_steps point.now) (sum_to (length point.now) (entry_of point.now)) result }
+{
+    let mut sum = Frac::zero();
+    for i in 0..point.len() {
+        match sum.add(point[i]) {
+            Ok(next) => sum = next,
+            Err(unfit) => return Err(unfit),
+        }
+    }
+    Ok(sum)
+}
+
+// The entries of a point divided by their sum.
+fn scaled(alloc: Global, point: &[Frac]) -> Result<Vec<Frac>, ScaleStop>
+    requires { IsScalable point.now }
+    ensures { Gives stops.Memory (scaled_in point.now) (map_ok result (λ scaled. scaled.items)) }
+{
+    let sum = match sum(point) {
+        Ok(sum) => sum,
+        Err(unfit) => return Err(ScaleStop::Range { unfit }),
+    };
+    let mut scaled = Vec::with_capacity(alloc, point.len())?;
+    for i in 0..point.len() {
+        match point[i].div(sum) {
+            Ok(entry) => scaled.push(entry)?,
+            Err(unfit) => return Err(ScaleStop::Range { unfit }),
+        }
+    }
+    Ok(scaled)
+}
+
+/// The values of a vertex, each divided by the sum of all.
+///
+/// # Errors
+///
+/// `Range` exactly where a step does not fit, with the first: the values are added in order to a sum
+/// that begins at 0, and then each value is divided by the sum. `Memory` where memory ran out.
+pub fn scale(alloc: Global, vertex: &Vertex) -> Result<Vec<Frac>, ScaleStop>
+    requires { IsScalable vertex.now.point.items }
+    ensures { Gives stops.Memory (scaled_in vertex.now.point.items)
+        (map_ok result (λ scaled. scaled.items)) }
+{
+    scaled(alloc, vertex.point.as_slice())
+}
