@@ -10,8 +10,8 @@ use Rattle.gambit_tools.specs.Games.{game_in}
 use Rattle.gambit_tools.specs.Commands.{inputs_of, tool_of, answer_of}
 use Rattle.gambit_tools.specs.Origins.{Contents as of_contents, origin}
 use Rattle.gambit_tools.specs.Outcome.{AreContents, AreRead, HasAnswer, HasReadBefore, IsComputed, IsRefusedIn, SelectsFew}
-use Rattle.gambit_tools.specs.declared.refusal.Refusal.{Refusal}
-use Rattle.gambit_tools.specs.declared.refusal.Refusal.TheVariants as refusal
+use Rattle.refusals.specs.declared.refusal.Refusal.{Refusal}
+use Rattle.refusals.specs.declared.refusal.Refusal.TheVariants as refusal
 use Rattle.gambit_tools.proofs.Contents.{game_in-origin, game_in-too_long, tool_of-origin}
 
 -- the one input that a command names

@@ -18,18 +18,19 @@ use Rattle.reduced_form.specs.ReducedForm.{ReducedForm}
 use Rattle.enumpure.specs.Stops.{within_text_limit}
 use Rattle.enumpure.specs.declared.listing.ListStop.{ListStop}
 use Rattle.enumpure.specs.declared.listing.ListStop.TheVariants as list_stop
-use Rattle.words.specs.Words.{Command, Enumpure, Lcp, Lp}
+use Rattle.words.specs.Words.{Command, Enumpure, Enummixed, Lcp, Lp}
 use Rattle.gambit_tools.specs.Input.{most_bytes}
-use Rattle.gambit_tools.specs.Told.{text_refusal, nfg_refusal, efg_refusal, list_refusal}
+use Rattle.refusals.specs.Told.{text_refusal, nfg_refusal, efg_refusal, list_refusal}
 use Rattle.gambit_tools.specs.Games.{game_of, game_in}
 use Rattle.gambit_tools.specs.Enumpure.{form_text, enumpure}
 use Rattle.gambit_tools.specs.Commands.{tool_of}
 use Rattle.gambit_tools.specs.Origins.{Contents, origin}
-use Rattle.gambit_tools.specs.declared.refusal.Refusal.{Refusal}
-use Rattle.gambit_tools.specs.declared.refusal.Refusal.TheVariants as refusal
+use Rattle.refusals.specs.declared.refusal.Refusal.{Refusal}
+use Rattle.refusals.specs.declared.refusal.Refusal.TheVariants as refusal
 use Rattle.gambit_tools.proofs.FormContents.{form_origin}
 use Rattle.gambit_tools.proofs.LcpContents.{lcp-origin}
 use Rattle.gambit_tools.proofs.LpContents.{lp-origin}
+use Rattle.gambit_tools.proofs.MixedContents.{enummixed-origin}
 
 text_origin : (bytes : List ℕ) (stop : TextStop) → tokens_of bytes (Err stop) → origin (text_refusal stop) ≡ Contents
 text_origin bytes (text_stop.Fault fault) h = refl
@@ -83,6 +84,7 @@ enumpure_origin strategic (Extensive tree) r (inr h) = ap origin h.2.2 ∙ form_
 -- each tool that is built has a line
 pub tool_of-origin : (command : Command) (game : Game) (r : Refusal) → tool_of command game (Err r) → origin r ≡ Contents
 tool_of-origin (Enumpure strategic file) game r h = enumpure_origin strategic game r h
+tool_of-origin (Enummixed undominated workers file) game r h = enummixed-origin game r h
 tool_of-origin (Lcp strategic file) game r h = lcp-origin strategic game r h
 tool_of-origin (Lp strategic prices file) game r h = lp-origin strategic prices game r h
 tool_of-origin _ game r h = absurd h

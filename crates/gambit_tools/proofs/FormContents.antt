@@ -23,8 +23,8 @@ use Rattle.sequence_form.specs.declared.counts.Counts.{Counts}
 use Rattle.gambit_tools.specs.Entries.{entries_in, line_in}
 use Rattle.gambit_tools.specs.Origins.{Contents, origin}
 use Rattle.gambit_tools.specs.TwoPlayers.{form_in, form_of_table, form_of_tree, table_counts, tree_counts, two_players, within_rows}
-use Rattle.gambit_tools.specs.Told.{behaviour_refusal, form_refusal, recall_refusal, sequence_refusal}
-use Rattle.gambit_tools.specs.declared.refusal.Refusal.{Refusal}
+use Rattle.refusals.specs.Told.{behaviour_refusal, form_refusal, recall_refusal, sequence_refusal}
+use Rattle.refusals.specs.declared.refusal.Refusal.{Refusal}
 
 -- all refusals of a stage come from the contents
 abbrev pub AreContents : {Y : Type 0} → Answer Refusal Y → Type 0

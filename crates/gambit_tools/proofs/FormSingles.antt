@@ -19,9 +19,9 @@ use Rattle.sequence_form.specs.declared.counts.Counts.{Counts}
 use Rattle.sequence_form.proofs.Forms.{table_form-single, tree_form-single}
 use Rattle.gambit_tools.specs.Entries.{entries_in, line_in}
 use Rattle.gambit_tools.specs.Games.{IsGame}
-use Rattle.gambit_tools.specs.Told.{behaviour_refusal, form_refusal, recall_refusal, sequence_refusal}
+use Rattle.refusals.specs.Told.{behaviour_refusal, form_refusal, recall_refusal, sequence_refusal}
 use Rattle.gambit_tools.specs.TwoPlayers.{form_in, form_of_table, form_of_tree, players_of, table_counts, tree_counts, two_players, within_rows}
-use Rattle.gambit_tools.specs.declared.refusal.Refusal.TheVariants as refusal
+use Rattle.refusals.specs.declared.refusal.Refusal.TheVariants as refusal
 
 -- a tree has one recall
 abbrev pub RecallsAreSingle : Type 0

@@ -20,7 +20,7 @@ use Rattle.zero_sum_lp.specs.PlanPairs.{PlanPair}
 use Rattle.zero_sum_lp.specs.PlanStops.{plans_of}
 use Rattle.gambit_tools.specs.Games.{IsGame, game_in, game_of}
 use Rattle.gambit_tools.specs.TwoPlayers.{form_in}
-use Rattle.gambit_tools.specs.declared.refusal.Refusal.{Refusal}
+use Rattle.refusals.specs.declared.refusal.Refusal.{Refusal}
 
 -- what trees stand for
 pub record TreesAreGames : Type 0 where

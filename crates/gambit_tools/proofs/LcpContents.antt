@@ -13,9 +13,9 @@ use Rattle.lemke_pivot.specs.declared.stop.LcpStop.{LcpStop}
 use Rattle.gambit_tools.specs.Entries.{line_in}
 use Rattle.gambit_tools.specs.Lcp.{end_of, equilibrium_in, lcp, plans_at}
 use Rattle.gambit_tools.specs.Origins.{Contents, origin}
-use Rattle.gambit_tools.specs.Told.{problem_refusal}
+use Rattle.refusals.specs.Told.{problem_refusal}
 use Rattle.gambit_tools.specs.TwoPlayers.{form_in, two_players}
-use Rattle.gambit_tools.specs.declared.refusal.Refusal.{Refusal}
+use Rattle.refusals.specs.declared.refusal.Refusal.{Refusal}
 use Rattle.gambit_tools.proofs.FormContents.{AreContents, form_in-contents, line_in-contents, only-contents, then-contents, told-contents, two_players-contents}
 
 start-contents : (f : FormData) (stop : StartStop) → start_at f (Err stop) → origin (problem_refusal (told_start stop)) ≡ Contents

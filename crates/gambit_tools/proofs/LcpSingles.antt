@@ -17,11 +17,11 @@ use Rattle.lemke_pivot.proofs.ProblemAnswers.{problems_single}
 use Rattle.gambit_tools.specs.Entries.{line_in}
 use Rattle.gambit_tools.specs.Games.{IsGame}
 use Rattle.gambit_tools.specs.Lcp.{IsPathRefusal, end_of, equilibrium_in, lcp, plans_at}
-use Rattle.gambit_tools.specs.Told.{problem_refusal}
+use Rattle.refusals.specs.Told.{problem_refusal}
 use Rattle.gambit_tools.specs.TwoPlayers.{form_in, two_players}
-use Rattle.gambit_tools.specs.declared.refusal.Refusal.{Refusal}
-use Rattle.gambit_tools.specs.declared.refusal.Refusal.TheVariants as refusal
-use Rattle.gambit_tools.specs.declared.refusal.Site.TheVariants as site
+use Rattle.refusals.specs.declared.refusal.Refusal.{Refusal}
+use Rattle.refusals.specs.declared.refusal.Refusal.TheVariants as refusal
+use Rattle.refusals.specs.declared.refusal.Site.TheVariants as site
 use Rattle.gambit_tools.proofs.FormSingles.{RecallsAreSingle, form_in-single, line_in-single, two_players-single}
 use Rattle.gambit_tools.proofs.Kept.{TreesAreGames, form_in-valid}
 

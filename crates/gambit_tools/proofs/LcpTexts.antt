@@ -30,7 +30,7 @@ use Rattle.gambit_tools.specs.Games.{IsGame}
 use Rattle.gambit_tools.specs.Lcp.{plans_at}
 use Rattle.gambit_tools.specs.LcpLaws.{AreInEquilibrium, LcpTextsAreEquilibria, weights_of}
 use Rattle.gambit_tools.specs.TwoPlayers.{form_in}
-use Rattle.gambit_tools.specs.declared.refusal.Refusal.{Refusal}
+use Rattle.refusals.specs.declared.refusal.Refusal.{Refusal}
 use Rattle.gambit_tools.proofs.Kept.{TreesAreGames, form_in-valid, two_who_recall}
 use Rattle.gambit_tools.proofs.LcpPlans.{HavePrices, have_prices}
 

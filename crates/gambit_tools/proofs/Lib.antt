@@ -11,6 +11,8 @@ pub mod LcpTexts
 pub mod LpContents
 pub mod LpSingles
 pub mod LpTexts
+pub mod MixedContents
+pub mod MixedSingles
 pub mod Running
 pub mod Singles
 pub mod Taking

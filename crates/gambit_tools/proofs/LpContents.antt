@@ -19,10 +19,10 @@ use Rattle.gambit_tools.specs.Entries.{entries_in}
 use Rattle.gambit_tools.specs.Lp.{Solution, first_price, lp, optimum_of, prices_in, prices_text, solution, solution_in, solution_text}
 use Rattle.gambit_tools.specs.Origins.{Contents, origin}
 use Rattle.gambit_tools.specs.TwoPlayers.{form_in, two_players}
-use Rattle.gambit_tools.specs.Told.{plan_refusal, program_refusal}
-use Rattle.gambit_tools.specs.declared.refusal.Refusal.{Refusal}
-use Rattle.gambit_tools.specs.declared.refusal.Refusal.TheVariants as refusal
-use Rattle.gambit_tools.specs.declared.refusal.Site.TheVariants as site
+use Rattle.refusals.specs.Told.{plan_refusal, program_refusal}
+use Rattle.refusals.specs.declared.refusal.Refusal.{Refusal}
+use Rattle.refusals.specs.declared.refusal.Refusal.TheVariants as refusal
+use Rattle.refusals.specs.declared.refusal.Site.TheVariants as site
 use Rattle.gambit_tools.proofs.FormContents.{AreContents, entries-contents, form_in-contents, only-contents, then-contents, told-contents, two_players-contents, where-contents}
 
 -- ---- reasons to stop

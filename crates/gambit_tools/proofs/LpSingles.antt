@@ -21,11 +21,11 @@ use Rattle.zero_sum_lp.proofs.ProgramAnswers.{programs_single}
 use Rattle.gambit_tools.specs.Entries.{entries_in}
 use Rattle.gambit_tools.specs.Games.{IsGame}
 use Rattle.gambit_tools.specs.Lp.{IsStepRefusal, Solution, first_price, lp, optimum_of, prices_in, prices_text, solution, solution_in, solution_text}
-use Rattle.gambit_tools.specs.Told.{plan_refusal, program_refusal}
+use Rattle.refusals.specs.Told.{plan_refusal, program_refusal}
 use Rattle.gambit_tools.specs.TwoPlayers.{form_in, two_players}
-use Rattle.gambit_tools.specs.declared.refusal.Refusal.{Refusal}
-use Rattle.gambit_tools.specs.declared.refusal.Refusal.TheVariants as refusal
-use Rattle.gambit_tools.specs.declared.refusal.Site.TheVariants as site
+use Rattle.refusals.specs.declared.refusal.Refusal.{Refusal}
+use Rattle.refusals.specs.declared.refusal.Refusal.TheVariants as refusal
+use Rattle.refusals.specs.declared.refusal.Site.TheVariants as site
 use Rattle.gambit_tools.proofs.FormSingles.{RecallsAreSingle, entries_in-single, form_in-single, two_players-single}
 use Rattle.gambit_tools.proofs.Kept.{TreesAreGames, form_in-valid, optimum-first, optimum-second}
 

@@ -26,7 +26,7 @@ use Rattle.gambit_tools.specs.Games.{IsGame}
 use Rattle.gambit_tools.specs.Lp.{Solution, listed_prices, prices_in, prices_text, solution, solution_text}
 use Rattle.gambit_tools.specs.LpLaws.{HoldsOn, IsSolved, LpTextsAreSolutions, ProvesValue}
 use Rattle.gambit_tools.specs.TwoPlayers.{form_in}
-use Rattle.gambit_tools.specs.declared.refusal.Refusal.{Refusal}
+use Rattle.refusals.specs.declared.refusal.Refusal.{Refusal}
 use Rattle.gambit_tools.proofs.ConstantSums.{constant_of, sums_to, table_sums, tree_sums}
 use Rattle.gambit_tools.proofs.Kept.{IsSolving, TreesAreGames, first-same, form_in-valid, second-same, two_who_recall}
 

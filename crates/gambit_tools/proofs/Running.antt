@@ -10,9 +10,9 @@ use Rattle.gambit_tools.specs.Input.{AreBytesOf, CountsTell}
 use Rattle.gambit_tools.specs.Commands.{inputs_of, answer_of}
 use Rattle.gambit_tools.specs.Origins.{Origin, Words, Outside as OfOutside, Length, Contents as OfContents, Memory, Opening, Reading, Writing, origin}
 use Rattle.gambit_tools.specs.Outcome.{RunAnswer, AreContents, AreToldContents, HasAnswer, AreRead, HasReadBefore, IsStoppedIn, IsCommandRun, IsRunOf, IsExact, IsComplete, NoFault, Tells, IsOutcome}
-use Rattle.gambit_tools.specs.Refusals.{status_of, run_status, NamesNumbers, IsToldAs}
-use Rattle.gambit_tools.specs.declared.refusal.Refusal.{Refusal}
-use Rattle.gambit_tools.specs.declared.refusal.Refusal.TheVariants as refusal
+use Rattle.refusals.specs.Refusals.{status_of, run_status, NamesNumbers, IsToldAs}
+use Rattle.refusals.specs.declared.refusal.Refusal.{Refusal}
+use Rattle.refusals.specs.declared.refusal.Refusal.TheVariants as refusal
 
 -- ---- what is told
 -- a refusal that names numbers comes from the contents

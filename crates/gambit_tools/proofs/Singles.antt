@@ -20,17 +20,18 @@ use Rattle.tree_lines.specs.TreeEquilibria.{IsTreeEquilibriaText}
 use Rattle.tree_lines.proofs.EquilibriumLines.{text-determined}
 use Rattle.enumpure.specs.Stops.{pure_text}
 use Rattle.enumpure.proofs.Texts.{pure_text-single, within_text_limit-single}
-use Rattle.words.specs.Words.{Command, Enumpure, Lcp, Lp}
+use Rattle.words.specs.Words.{Command, Enumpure, Enummixed, Lcp, Lp}
 use Rattle.gambit_tools.specs.Input.{most_bytes}
-use Rattle.gambit_tools.specs.Told.{text_refusal, nfg_refusal, efg_refusal, form_refusal, list_refusal}
+use Rattle.refusals.specs.Told.{text_refusal, nfg_refusal, efg_refusal, form_refusal, list_refusal}
 use Rattle.gambit_tools.specs.Games.{BeginsAsTree, IsGame, tokens_in, tree_game, table_game, game_of, game_in}
 use Rattle.gambit_tools.specs.Enumpure.{form_text, enumpure}
 use Rattle.gambit_tools.specs.Commands.{tool_of, answer_of}
-use Rattle.gambit_tools.specs.declared.refusal.Refusal.TheVariants as refusal
+use Rattle.refusals.specs.declared.refusal.Refusal.TheVariants as refusal
 use Rattle.gambit_tools.proofs.FormSingles.{RecallsAreSingle}
 use Rattle.gambit_tools.proofs.Kept.{TreesAreGames, game_in-valid}
 use Rattle.gambit_tools.proofs.LcpSingles.{lcp-single}
 use Rattle.gambit_tools.proofs.LpSingles.{lp-single}
+use Rattle.gambit_tools.proofs.MixedSingles.{enummixed-single}
 use Rattle.game_tokens.specs.TokenList.{TokenList, bare}
 
 -- ---- games
@@ -73,6 +74,7 @@ enumpure-single strategic (Extensive tree) =
 -- each tool that is built has a line
 tool_of-single : (command : Command) (game : Game) → TreesAreGames → RecallsAreSingle → IsGame game → IsSingle (tool_of command game)
 tool_of-single (Enumpure strategic file) game laws recalls w = enumpure-single strategic game
+tool_of-single (Enummixed undominated workers file) game laws recalls w = enummixed-single game
 tool_of-single (Lcp strategic file) game laws recalls w = lcp-single strategic game laws recalls w
 tool_of-single (Lp strategic prices file) game laws recalls w = lp-single strategic prices game laws recalls w
 tool_of-single _ game laws recalls w = λ one other h k. absurd h

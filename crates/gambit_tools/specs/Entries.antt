@@ -6,8 +6,8 @@ use Rattle.game_theory.specs.Lines.{line_text}
 use Rattle.game_core.specs.declared.game.Game.{Game}
 use Rattle.game_core.specs.declared.game.Game.TheVariants.{Extensive}
 use Rattle.behaviour_profile.specs.Plans.{plan_behaviour}
-use Rattle.gambit_tools.specs.Told.{behaviour_refusal}
-use Rattle.gambit_tools.specs.declared.refusal.Refusal.{Refusal}
+use Rattle.refusals.specs.Told.{behaviour_refusal}
+use Rattle.refusals.specs.declared.refusal.Refusal.{Refusal}
 
 -- The entries of two plans: of a tree its behaviour, else the weights of the strategies, which are
 -- those of all sequences but the empty one.

@@ -11,8 +11,8 @@ use Rattle.reduced_form.specs.Stops.{form_of}
 use Rattle.enumpure.specs.Stops.{pure_text}
 use Rattle.enumpure.specs.declared.listing.ListStop.{ListStop}
 use Rattle.enumpure_trees.specs.Stops.{behaviour_text}
-use Rattle.gambit_tools.specs.Told.{form_refusal, list_refusal}
-use Rattle.gambit_tools.specs.declared.refusal.Refusal.{Refusal}
+use Rattle.refusals.specs.Told.{form_refusal, list_refusal}
+use Rattle.refusals.specs.declared.refusal.Refusal.{Refusal}
 
 -- The text of a tree's pure equilibria, which are those of its reduced strategic form: by strategies, or as behaviour.
 abbrev pub form_text : Bool → GameTree → ReducedForm → Answer ListStop (List ℕ)

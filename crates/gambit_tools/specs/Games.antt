@@ -12,9 +12,9 @@ use Rattle.game_tokens.specs.declared.token.Token.TheVariants.{Word}
 use Rattle.nfg_reader.specs.Stops.{table_in}
 use Rattle.efg_reader.specs.Stops.{tree_in}
 use Rattle.gambit_tools.specs.Input.{most_bytes}
-use Rattle.gambit_tools.specs.Told.{text_refusal, nfg_refusal, efg_refusal}
-use Rattle.gambit_tools.specs.declared.refusal.Refusal.{Refusal}
-use Rattle.gambit_tools.specs.declared.refusal.Refusal.TheVariants as refusal
+use Rattle.refusals.specs.Told.{text_refusal, nfg_refusal, efg_refusal}
+use Rattle.refusals.specs.declared.refusal.Refusal.{Refusal}
+use Rattle.refusals.specs.declared.refusal.Refusal.TheVariants as refusal
 
 -- what the types of tables and trees keep of a game
 abbrev pub IsGame : Game → Type 0

@@ -14,11 +14,11 @@ use Rattle.lemke_pivot.specs.Ends.{IsSolutionOf, IsUnfitStep}
 use Rattle.lemke_pivot.specs.FormProblems.{problem_in}
 use Rattle.lemke_pivot.specs.Parts.{Problem, plan_one, plan_two}
 use Rattle.gambit_tools.specs.Entries.{entries_in}
-use Rattle.gambit_tools.specs.Told.{problem_refusal}
+use Rattle.refusals.specs.Told.{problem_refusal}
 use Rattle.gambit_tools.specs.TwoPlayers.{two_players, form_in}
-use Rattle.gambit_tools.specs.declared.refusal.Refusal.{Refusal}
-use Rattle.gambit_tools.specs.declared.refusal.Refusal.TheVariants as refusal
-use Rattle.gambit_tools.specs.declared.refusal.Site.TheVariants as site
+use Rattle.refusals.specs.declared.refusal.Refusal.{Refusal}
+use Rattle.refusals.specs.declared.refusal.Refusal.TheVariants as refusal
+use Rattle.refusals.specs.declared.refusal.Site.TheVariants as site
 
 -- the step of a path of complementary pivots that does not fit
 pub record IsPathRefusal (p : Problem) (r : Refusal) : Type 0 where

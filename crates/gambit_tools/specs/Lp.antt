@@ -18,11 +18,11 @@ use Rattle.zero_sum_lp.specs.PlanPairs.{PlanPair}
 use Rattle.zero_sum_lp.specs.PlanStops.{plans_of}
 use Rattle.zero_sum_lp.specs.Steps.{IsUnfitStep}
 use Rattle.gambit_tools.specs.Entries.{entries_in}
-use Rattle.gambit_tools.specs.Told.{program_refusal, plan_refusal}
+use Rattle.refusals.specs.Told.{program_refusal, plan_refusal}
 use Rattle.gambit_tools.specs.TwoPlayers.{two_players, form_in}
-use Rattle.gambit_tools.specs.declared.refusal.Refusal.{Refusal}
-use Rattle.gambit_tools.specs.declared.refusal.Refusal.TheVariants as refusal
-use Rattle.gambit_tools.specs.declared.refusal.Site.TheVariants as site
+use Rattle.refusals.specs.declared.refusal.Refusal.{Refusal}
+use Rattle.refusals.specs.declared.refusal.Refusal.TheVariants as refusal
+use Rattle.refusals.specs.declared.refusal.Site.TheVariants as site
 
 -- ---- the path
 -- the step of a path that does not fit

@@ -10,9 +10,9 @@ use Rattle.gambit_tools.specs.Seen.{Outside, Seen, but_for_err}
 use Rattle.gambit_tools.specs.Input.{AreBytesOf, IsOpenFault, IsReadFault, IsReadToEnd, IsReadTooFar, CountsTell}
 use Rattle.gambit_tools.specs.Commands.{inputs_of, answer_of}
 use Rattle.gambit_tools.specs.Origins.{Origin, Words, Outside as OfOutside, Length, Contents, Memory, Fault, Opening, Reading, Writing, origin}
-use Rattle.gambit_tools.specs.Refusals.{run_status, refusal_line}
-use Rattle.gambit_tools.specs.declared.refusal.Refusal.{Refusal}
-use Rattle.gambit_tools.specs.declared.refusal.Refusal.TheVariants as refusal
+use Rattle.refusals.specs.Refusals.{run_status, refusal_line}
+use Rattle.refusals.specs.declared.refusal.Refusal.{Refusal}
+use Rattle.refusals.specs.declared.refusal.Refusal.TheVariants as refusal
 
 -- what a run answers: the text, or why it is refused
 abbrev pub RunAnswer : Type 0

@@ -16,9 +16,9 @@ use Rattle.sequence_form.specs.Forms.{tree_form, table_form}
 use Rattle.sequence_form.specs.Laws.{rows_of, columns_of}
 use Rattle.sequence_form.specs.Sequences.{tree_side, start_side}
 use Rattle.sequence_form.specs.declared.counts.Counts.{Counts}
-use Rattle.gambit_tools.specs.Told.{form_refusal, recall_refusal, sequence_refusal}
-use Rattle.gambit_tools.specs.declared.refusal.Refusal.{Refusal}
-use Rattle.gambit_tools.specs.declared.refusal.Refusal.TheVariants as refusal
+use Rattle.refusals.specs.Told.{form_refusal, recall_refusal, sequence_refusal}
+use Rattle.refusals.specs.declared.refusal.Refusal.{Refusal}
+use Rattle.refusals.specs.declared.refusal.Refusal.TheVariants as refusal
 use Rattle.gambit_tools.specs.declared.two_players.Method.{Method}
 use Rattle.gambit_tools.specs.declared.two_players.Method.TheVariants.{LinearProgram, Complementarity}
 

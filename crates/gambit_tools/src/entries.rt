@@ -8,11 +8,11 @@ ghost use Rattle.sequence_form.specs.Forms.{IsTreeForm};
 ghost use Rattle.gambit_tools.specs.Entries.{line_in};
 ghost use Rattle.gambit_tools.specs.TwoPlayers.{IsFormOf};
 
-use crate::refusal::Refusal;
 use behaviour_profile::Behaviour;
 use frac128::{Frac, Memory};
 use game_core::{Game, Tree};
 use ne_printer::line;
+use refusals::Refusal;
 use sequence_form::SeqForm;
 use std::alloc::Global;
 

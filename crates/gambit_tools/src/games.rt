@@ -6,9 +6,9 @@ ghost use Rattle.game_tokens.specs.declared.token.Token.TheVariants as token_kin
 ghost use Rattle.gambit_tools.specs.Input.{most_bytes};
 ghost use Rattle.gambit_tools.specs.Games.{BeginsAsTree, tree_game, table_game, game_of, game_in};
 
-use crate::refusal::Refusal;
 use game_core::Game;
 use game_text::{Token, Tokens, read_tokens};
+use refusals::Refusal;
 use std::alloc::Global;
 
 /// Whether a token is the word with which a file of a tree begins.

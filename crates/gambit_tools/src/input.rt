@@ -5,8 +5,8 @@ ghost use Rattle.std.specs.Io.KnownBytes.{Consumes, IsAtEnd};
 ghost use Rattle.outside.specs.Inputs.{InputName};
 ghost use Rattle.gambit_tools.specs.Input.{most_bytes, AreBytesOf, IsInputRefusal, IsPieceRefusal, IsReadingRefusal, IsReadToEnd, CountsTell};
 
-use crate::refusal::Refusal;
 use outside::Inputs;
+use refusals::Refusal;
 use std::alloc::{AllocError, Global};
 
 /// The most bytes that an input may have.

@@ -10,10 +10,10 @@ use crate::entries::plans_line;
 use crate::games::game_in;
 use crate::input::read_input;
 use crate::pivoting::equilibrium_in;
-use crate::refusal::Refusal;
 use crate::two_players::{Method, form_in, two_players};
 use game_core::{Game, sets_are_numbered_by_first_nodes, trees_are_game_trees};
 use outside::Inputs;
+use refusals::Refusal;
 use std::alloc::Global;
 
 // The line of an equilibrium of a game.

@@ -13,11 +13,11 @@ use crate::entries::plans_line;
 use crate::games::game_in;
 use crate::input::read_input;
 use crate::prices::price_lines;
-use crate::refusal::Refusal;
 use crate::solving::{Solved, solve};
 use crate::two_players::{Method, form_in, two_players};
 use game_core::{Game, sets_are_numbered_by_first_nodes, trees_are_game_trees};
 use outside::Inputs;
+use refusals::Refusal;
 use sequence_form::SeqForm;
 use std::alloc::Global;
 

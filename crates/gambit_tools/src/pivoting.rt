@@ -8,9 +8,9 @@ ghost use Rattle.lemke_pivot.specs.Parts.{plan_one, plan_two};
 ghost use Rattle.gambit_tools.specs.Lcp.{end_of, equilibrium_in};
 ghost use Rattle.gambit_tools.specs.PlanWeights.{plans_of};
 
-use crate::refusal::{Refusal, Site};
 use frac128::{Frac, Memory};
 use lemke_pivot::{Lcp, LemkeEnd, Solution, problem};
+use refusals::{Refusal, Site};
 use sequence_form::SeqForm;
 use std::alloc::Global;
 use std::marker::Brand;

@@ -7,10 +7,10 @@ ghost use Rattle.zero_sum_lp.specs.Parts.{first_prices, second_prices};
 ghost use Rattle.gambit_tools.specs.Lp.{listed_prices, prices_in, prices_text};
 ghost use Rattle.gambit_tools.specs.Solved.{HasSizesOf, solution_of};
 
-use crate::refusal::{Refusal, Site};
 use crate::solving::Solved;
 use frac128::{Frac, Memory, Op};
 use ne_printer::push_numbers;
+use refusals::{Refusal, Site};
 use sequence_form::SeqForm;
 use std::alloc::Global;
 use zero_sum_lp::Optimum;

@@ -9,12 +9,12 @@ ghost use Rattle.gambit_tools.specs.Outcome.{IsComputed};
 
 use crate::games::game_in;
 use crate::input::read_input;
-use crate::refusal::Refusal;
 use enumpure::{ListStop, list_pure_equilibria};
 use enumpure_trees::list_pure_behaviours;
 use game_core::{Game, Tree};
 use outside::Inputs;
 use reduced_form::{Reduced, reduce};
+use refusals::Refusal;
 use std::alloc::Global;
 
 /// The text of the pure equilibria of a tree with this reduced form, by strategies or as behaviour.

@@ -4,7 +4,7 @@ ghost use Rattle.answers.specs.Answers.{Gives, map_ok};
 ghost use Rattle.gambit_tools.specs.Lp.{optimum_of, solution_in};
 ghost use Rattle.gambit_tools.specs.Solved.{HasSizesOf, solution_of};
 
-use crate::refusal::{Refusal, Site};
+use refusals::{Refusal, Site};
 use sequence_form::SeqForm;
 use std::alloc::Global;
 use std::marker::Brand;

@@ -6,25 +6,31 @@ ghost use Rattle.outside.specs.Inputs.{InputName};
 ghost use Rattle.words.specs.Words.{Command, command_of, command_from, IsBuilt};
 ghost use Rattle.gambit_tools.specs.Seen.{outside, seen};
 ghost use Rattle.gambit_tools.specs.Input.{CountsTell};
-ghost use Rattle.gambit_tools.specs.Refusals.{status_of, IsToldAs, NamesNumbers};
+ghost use Rattle.refusals.specs.Refusals.{status_of, IsToldAs, NamesNumbers};
 ghost use Rattle.gambit_tools.specs.Commands.{answer_of};
 ghost use Rattle.gambit_tools.specs.Outcome.{RunAnswer, Tells, TakesLine, IsComputed, IsRunOf, IsOutcome, IsComplete};
-ghost use Rattle.gambit_tools.specs.declared.refusal.Refusal.{Refusal};
+ghost use Rattle.refusals.specs.declared.refusal.Refusal.{Refusal};
 
 use crate::lcp::lcp;
 use crate::lp::lp;
+use crate::mixed::enummixed;
 use crate::output::write_text;
 use crate::pure::enumpure;
-use crate::refusal::Refusal;
 use game_core::{sets_are_numbered_by_first_nodes, trees_are_game_trees};
 use outside::{Gate, Inputs, Sink};
 use perfect_recall::recalls_are_single;
+use refusals::Refusal;
 use std::alloc::Global;
 use std::thread::Threads;
 use words::{Settings, SettingsStop, read_settings};
 
 /// Reads the inputs that the settings name, and computes the text. Each tool that is built has an arm.
-fn compute<I: Inputs>(alloc: Global, settings: Settings, inputs: &mut I) -> Result<Vec<u8>, Refusal>
+fn compute<I: Inputs, G: Gate>(
+    alloc: Global,
+    settings: Settings,
+    inputs: &mut I,
+    gate: &G,
+) -> Result<Vec<u8>, Refusal>
     requires { IsBuilt (command_of settings) }
     ensures { IsComputed (command_of settings)
         (I.seen inputs.old)
@@ -33,6 +39,11 @@ fn compute<I: Inputs>(alloc: Global, settings: Settings, inputs: &mut I) -> Resu
 {
     match settings {
         Settings::Enumpure { strategic, file } => enumpure(alloc, strategic, file, inputs),
+        Settings::Enummixed {
+            undominated,
+            workers,
+            file,
+        } => enummixed(alloc, undominated, workers, file, inputs, gate),
         Settings::Lcp { strategic, file } => lcp(alloc, strategic, file, inputs),
         Settings::Lp {
             strategic,
@@ -44,11 +55,12 @@ fn compute<I: Inputs>(alloc: Global, settings: Settings, inputs: &mut I) -> Resu
 }
 
 /// Reads the words and the inputs, computes the whole text, and only then writes it.
-fn answer<I: Inputs, K: Sink>(
+fn answer<I: Inputs, K: Sink, G: Gate>(
     alloc: Global,
     words: &[String],
     inputs: &mut I,
     out: &mut K,
+    gate: &G,
 ) -> Result<Vec<u8>, Refusal>
     ensures run { IsRunOf (command_from (map string_bytes words.now))
         (outside (I.seen inputs.old) (K.seen out.old))
@@ -65,7 +77,7 @@ fn answer<I: Inputs, K: Sink>(
         Err(SettingsStop::Usage(usage)) => return Err(Refusal::Usage(usage)),
         Err(SettingsStop::Memory) => return Err(Refusal::Memory),
     };
-    let text = compute(alloc, settings, inputs)?;
+    let text = compute(alloc, settings, inputs, gate)?;
     match write_text(out, &text) {
         Ok(()) => Ok(text),
         Err(_) => Err(Refusal::WriteFault),
@@ -125,7 +137,7 @@ pub fn run<R: Threads + Sync, I: Inputs, K: Sink, E: Sink, G: Gate>(
     inputs: &mut I,
     out: &mut K,
     err: &mut E,
-    _gate: &G,
+    gate: &G,
 ) -> u8
     // What is answered, read, written and told, and why; and that the contents decide it.
     ensures outcome { (answer : RunAnswer) × IsOutcome (map string_bytes words.now)
@@ -141,7 +153,7 @@ pub fn run<R: Threads + Sync, I: Inputs, K: Sink, E: Sink, G: Gate>(
         result }
 {
     answers_are_single();
-    match answer(alloc, words, inputs, out).err() {
+    match answer(alloc, words, inputs, out, gate).err() {
         None => 0,
         Some(refusal) => refuse(alloc, err, refusal),
     }

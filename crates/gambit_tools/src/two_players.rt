@@ -4,10 +4,10 @@ ghost use Rattle.answers.specs.Answers.{Gives};
 ghost use Rattle.sequence_form.specs.Counts.{AreFew};
 ghost use Rattle.gambit_tools.specs.TwoPlayers.{players_of, two_players, rows_by, within_rows, form_of_table, form_of_tree, form_in};
 
-use crate::refusal::Refusal;
 use game_core::{Game, Table, Tree, What};
 use perfect_recall::find_recall;
 use reduced_form::reduce;
+use refusals::Refusal;
 use sequence_form::{
     Counts, SeqForm, build, build_table, counts_table, counts_tree, program_size, rows,
 };

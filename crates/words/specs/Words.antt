@@ -164,7 +164,7 @@ any_command_from (tool ∷ words) = if is_word tool (codes "enumpure") then unde
 
 -- the names of the tools that are built
 abbrev pub built_tools : List (List ℕ)
-built_tools = codes "enumpure" ∷ codes "lcp" ∷ codes "lp" ∷ []
+built_tools = codes "enumpure" ∷ codes "enummixed" ∷ codes "lcp" ∷ codes "lp" ∷ []
 
 abbrev pub is_built : List ℕ → Bool
 is_built tool = list_any (is_word tool) built_tools

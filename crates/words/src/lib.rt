@@ -83,7 +83,7 @@ pub enum SettingsStop {
 fn is_built(tool: &str) -> bool
     ensures { result ≡ is_built tool.now }
 {
-    tool == "enumpure" || tool == "lcp" || tool == "lp"
+    tool == "enumpure" || tool == "enummixed" || tool == "lcp" || tool == "lp"
 }
 
 /// Reads words that name any of the seven tools, built or not.

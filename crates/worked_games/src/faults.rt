@@ -13,7 +13,7 @@ fn words_are_refused(rt: HostRuntime) -> Result<(), Memory> {
         (&["solve"], "gambit: unknown tool\n"),
         (&["check"], "gambit: unknown tool\n"),
         (&["lp", "--price"], "gambit: words not understood\n"),
-        (&["enummixed", "-c"], "gambit: unknown tool\n"),
+        (&["enummixed", "-c"], "gambit: words not understood\n"),
         (&["enumpure", "-s"], "gambit: words not understood\n"),
         (&["enumpure", "-P"], "gambit: words not understood\n"),
         (&["enumpure", "a", "b"], "gambit: words not understood\n"),

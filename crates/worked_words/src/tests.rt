@@ -19,8 +19,11 @@ fn says(alloc: Global, words: &[&str], wanted: &str) -> Result<bool, AllocError>
     let any = text_of(alloc, read_any_settings(alloc, &owned))?;
     let known = text_of(alloc, read_settings(alloc, &owned))?;
     let wanted_known = match words.first() {
-        Some(tool) if *tool != "enumpure" && *tool != "lcp" && *tool != "lp" => "UnknownTool",
-        _ => wanted,
+        Some(tool) => match *tool {
+            "enumpure" | "enummixed" | "lcp" | "lp" => wanted,
+            _ => "UnknownTool",
+        },
+        None => wanted,
     };
     Ok(any.as_str() == wanted && known.as_str() == wanted_known)
 }

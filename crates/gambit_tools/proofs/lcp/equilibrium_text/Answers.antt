@@ -7,7 +7,7 @@ use Rattle.gambit_tools.specs.Entries.{line_in}
 use Rattle.gambit_tools.specs.Lcp.{equilibrium_in}
 use Rattle.gambit_tools.specs.PlanWeights.{plans_of}
 use Rattle.gambit_tools.specs.TwoPlayers.{form_in, two_players}
-use Rattle.gambit_tools.specs.declared.refusal.Refusal.TheVariants as refusal
+use Rattle.refusals.specs.declared.refusal.Refusal.TheVariants as refusal
 use Rattle.gambit_tools.proofs.lcp.equilibrium_text.Goals as goal
 
 pub returns-in_err-plans : goal.returns-in_err-plans

@@ -4,7 +4,7 @@ use Rattle.sequence_form.specs.Counts.{size_of_program}
 use Rattle.gambit_tools.specs.Lp.{solution_in, solution_text}
 use Rattle.gambit_tools.specs.Solved.{solution_of}
 use Rattle.gambit_tools.specs.TwoPlayers.{form_in, two_players}
-use Rattle.gambit_tools.specs.declared.refusal.Refusal.TheVariants as refusal
+use Rattle.refusals.specs.declared.refusal.Refusal.TheVariants as refusal
 use Rattle.gambit_tools.proofs.lp.equilibrium_text.Goals as goal
 
 pub returns-in_err-solved : goal.returns-in_err-solved

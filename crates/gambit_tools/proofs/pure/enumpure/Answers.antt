@@ -3,7 +3,7 @@ use Rattle.std.proofs.lemmas.Result.{err_from_is_err_and}
 use Rattle.answers.specs.Answers.{Gives}
 use Rattle.words.specs.Words.{Enumpure}
 use Rattle.gambit_tools.specs.Games.{game_in}
-use Rattle.gambit_tools.specs.declared.refusal.Refusal.TheVariants as refusal
+use Rattle.refusals.specs.declared.refusal.Refusal.TheVariants as refusal
 use Rattle.gambit_tools.proofs.Computing.{IsRead, refused-computed, game-computed, text-computed}
 use Rattle.gambit_tools.proofs.pure.enumpure.Goals as goal
 

@@ -5,8 +5,8 @@ use Rattle.zero_sum_lp.specs.PlanStops.{plans_of}
 use Rattle.zero_sum_lp.specs.declared.stop.PlanStop.TheVariants as plan_stop
 use Rattle.gambit_tools.specs.Lp.{optimum_of, solution}
 use Rattle.gambit_tools.specs.Solved.{solution_of}
-use Rattle.gambit_tools.specs.Told.{plan_refusal, program_refusal}
-use Rattle.gambit_tools.specs.declared.refusal.Refusal.TheVariants as refusal
+use Rattle.refusals.specs.Told.{plan_refusal, program_refusal}
+use Rattle.refusals.specs.declared.refusal.Refusal.TheVariants as refusal
 use Rattle.gambit_tools.proofs.solving.solve.Goals as goal
 
 pub returns-in_err-plans-clause-answer : goal.returns-in_err-plans-clause-answer

@@ -1,0 +1,17 @@
+use Rattle.std.proofs.Common.{sym, subst}
+use Rattle.answers.specs.Answers.{Gives, map_ok, refused_by}
+use Rattle.answers.proofs.Answers.{gives_bind_as}
+use Rattle.reduced_form.specs.Stops.{form_of}
+use Rattle.refusals.specs.Told.{form_refusal}
+use Rattle.refusals.specs.declared.refusal.Refusal.TheVariants as refusal
+use Rattle.gambit_tools.specs.Enummixed.{strategic_text, table_text}
+use Rattle.gambit_tools.proofs.mixed.strategic_text.Goals as goal
+
+pub returns-in_ok-reduced-in-Extensive : goal.returns-in_ok-reduced-in-Extensive
+returns-in_ok-reduced-in-Extensive g c =
+    let form = c.in_ok-reduced-in-Extensive.reduced in
+    let tree = c.in-Extensive.tree in
+    let r = c.table_text-in-Extensive.result in
+    subst (λ game. Gives refusal.Memory (strategic_text game) (map_ok r (λ text. text.items))) (sym c.in-Extensive.is)
+    (gives_bind_as refusal.Memory (refused_by form_refusal (form_of tree)) (λ f. table_text f.table) form r (λ text. text.items) c.in_ok-reduced-in-Extensive.ensures.answer
+    (subst (λ t. Gives refusal.Memory (table_text t) (map_ok r (λ text. text.items))) c.table.ensures c.table_text-in-Extensive.ensures))

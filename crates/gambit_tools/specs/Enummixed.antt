@@ -1,0 +1,48 @@
+-- The tool `enummixed`: the text of the extreme equilibria of a game of two players, by strategies.
+-- Source: Avis, Rosenberg, Savani and von Stengel 2010.
+use Rattle.std.specs.Prelude.{ℕ, ◌≡◌, List, Ok}
+use Rattle.answers.specs.Answers.{Answer, ◌>>=◌, ◌>>◌, refused_by}
+use Rattle.game_core.specs.Table.{GameTable, game_of}
+use Rattle.game_core.specs.declared.game.Game.{Game}
+use Rattle.game_core.specs.declared.game.Game.TheVariants.{Strategic, Extensive}
+use Rattle.reduced_form.specs.ReducedForm.{ReducedForm}
+use Rattle.reduced_form.specs.Stops.{form_of}
+use Rattle.enummixed.specs.ExtremeText.{IsExtremeEquilibriaText, extreme_text}
+use Rattle.gambit_tools.specs.TwoPlayers.{two_players}
+use Rattle.refusals.specs.Told.{form_refusal, mixed_refusal}
+use Rattle.refusals.specs.declared.refusal.Refusal.{Refusal}
+
+-- the text of the extreme equilibria of a table
+abbrev pub table_text : GameTable → Answer Refusal (List ℕ)
+table_text table = refused_by mixed_refusal (extreme_text (game_of table))
+
+-- the text of the extreme equilibria of a game's strategic form: that of a table is the table itself
+abbrev pub strategic_text : Game → Answer Refusal (List ℕ)
+strategic_text (Strategic table) = table_text table
+strategic_text (Extensive tree) = do
+  form ← refused_by form_refusal (form_of tree)
+  table_text form.table
+
+-- the answer of `enummixed`
+abbrev pub enummixed : Game → Answer Refusal (List ℕ)
+enummixed game = do
+  two_players game
+  strategic_text game
+
+-- ---- what each text is
+-- the table is the strategic form of the game: a table itself, and the reduced form of a tree
+abbrev pub IsStrategicForm : Game → GameTable → Type 0
+IsStrategicForm (Strategic t) table = table ≡ t
+IsStrategicForm (Extensive tree) table =
+    (form : ReducedForm) × form_of tree (Ok form) × (table ≡ form.table)
+
+-- a text has the lines of exactly the extreme equilibria of the game's strategic form, in order
+pub record IsExtremeText (game : Game) (text : List ℕ) : Type 0 where
+  pub table : GameTable
+  pub is_form : IsStrategicForm game table
+  pub is_text : IsExtremeEquilibriaText (game_of table) text
+
+-- Each text of `enummixed` is so.
+abbrev pub EnummixedTextsAreExtreme : Type 0
+EnummixedTextsAreExtreme =
+    (game : Game) (text : List ℕ) → enummixed game (Ok text) → IsExtremeText game text

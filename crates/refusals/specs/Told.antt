@@ -1,0 +1,102 @@
+-- The refusals by which the layers' reasons to stop are told.
+use Rattle.game_text.specs.declared.reading.TextStop.{TextStop}
+use Rattle.game_text.specs.declared.reading.TextStop.TheVariants as text_stop
+use Rattle.nfg_reader.specs.declared.reading.NfgStop.{NfgStop}
+use Rattle.nfg_reader.specs.declared.reading.NfgStop.TheVariants as nfg_stop
+use Rattle.efg_reader.specs.declared.fault.EfgStop.{EfgStop}
+use Rattle.efg_reader.specs.declared.fault.EfgStop.TheVariants as efg_stop
+use Rattle.reduced_form.specs.declared.stop.ReduceStop.{ReduceStop}
+use Rattle.reduced_form.specs.declared.stop.ReduceStop.TheVariants as reduce_stop
+use Rattle.enumpure.specs.declared.listing.ListStop.{ListStop}
+use Rattle.enumpure.specs.declared.listing.ListStop.TheVariants as list_stop
+use Rattle.enummixed.specs.declared.stop.MixedStop.{MixedStop}
+use Rattle.enummixed.specs.declared.stop.MixedStop.TheVariants as mixed_stop
+use Rattle.perfect_recall.specs.declared.recall.RecallStop.{RecallStop}
+use Rattle.perfect_recall.specs.declared.recall.RecallStop.TheVariants as recall_stop
+use Rattle.sequence_data.specs.declared.stop.SeqStop.{SeqStop}
+use Rattle.sequence_data.specs.declared.stop.SeqStop.TheVariants as sequence_stop
+use Rattle.zero_sum_lp.specs.declared.stop.LpStop.{LpStop}
+use Rattle.zero_sum_lp.specs.declared.stop.LpStop.TheVariants as lp_stop
+use Rattle.zero_sum_lp.specs.declared.stop.PlanStop.{PlanStop}
+use Rattle.zero_sum_lp.specs.declared.stop.PlanStop.TheVariants as plan_stop
+use Rattle.lemke_pivot.specs.declared.stop.LcpStop.{LcpStop}
+use Rattle.lemke_pivot.specs.declared.stop.LcpStop.TheVariants as lcp_stop
+use Rattle.behaviour_profile.specs.declared.plans.BehaviourStop.{BehaviourStop}
+use Rattle.behaviour_profile.specs.declared.plans.BehaviourStop.TheVariants as behaviour_stop
+use Rattle.game_core.specs.declared.too_large.TooLarge.{TooLarge}
+use Rattle.refusals.specs.declared.refusal.Site.TheVariants as site
+use Rattle.refusals.specs.declared.refusal.Refusal.{Refusal}
+use Rattle.refusals.specs.declared.refusal.Refusal.TheVariants as refusal
+
+abbrev pub limit_refusal : TooLarge → Refusal
+limit_refusal limit = refusal.TooLarge limit.what limit.count limit.limit
+
+abbrev pub text_refusal : TextStop → Refusal
+text_refusal (text_stop.Fault fault) = refusal.Text fault
+text_refusal text_stop.Memory = refusal.Memory
+
+abbrev pub nfg_refusal : NfgStop → Refusal
+nfg_refusal (nfg_stop.Fault fault) = refusal.Nfg fault
+nfg_refusal (nfg_stop.TooLarge limit) = limit_refusal limit
+nfg_refusal nfg_stop.Memory = refusal.Memory
+
+abbrev pub efg_refusal : EfgStop → Refusal
+efg_refusal (efg_stop.Fault fault) = refusal.Efg fault
+efg_refusal (efg_stop.TooLarge limit) = limit_refusal limit
+efg_refusal efg_stop.Memory = refusal.Memory
+
+abbrev pub form_refusal : ReduceStop → Refusal
+form_refusal (reduce_stop.TooLarge limit) = limit_refusal limit
+form_refusal (reduce_stop.Range profile player step) = refusal.Range (site.Cell profile player) step
+form_refusal reduce_stop.Memory = refusal.Memory
+
+abbrev pub list_refusal : ListStop → Refusal
+list_refusal (list_stop.TooLarge limit) = limit_refusal limit
+list_refusal list_stop.Memory = refusal.Memory
+
+-- ---- tools for two players
+abbrev pub recall_refusal : RecallStop → Refusal
+recall_refusal (recall_stop.Forgets f) = refusal.Forgets f.player f.set f.first_node f.second_node
+recall_refusal recall_stop.Memory = refusal.Memory
+
+abbrev pub sequence_refusal : SeqStop → Refusal
+sequence_refusal (sequence_stop.NotTwoPlayers count) = refusal.NotTwoPlayers count
+sequence_refusal (sequence_stop.Range place step) = refusal.Range (site.Place place) step
+sequence_refusal sequence_stop.Memory = refusal.Memory
+
+abbrev pub program_refusal : LpStop → Refusal
+program_refusal (lp_stop.TooLarge limit) = limit_refusal limit
+program_refusal (lp_stop.SumRange place step) = refusal.Range (site.Sum place) step
+program_refusal (lp_stop.NotConstant n) =
+    refusal.NotConstant n.first n.second n.first_sum n.second_sum
+program_refusal (lp_stop.GainRange row column step) = refusal.Range (site.Gain row column) step
+program_refusal (lp_stop.Start row step) = refusal.Range (site.Start row) step
+program_refusal lp_stop.Memory = refusal.Memory
+
+abbrev pub plan_refusal : PlanStop → Refusal
+plan_refusal (plan_stop.Range player step) = refusal.Range (site.Plan player) step
+plan_refusal plan_stop.Memory = refusal.Memory
+
+abbrev pub problem_refusal : LcpStop → Refusal
+problem_refusal (lcp_stop.TooLarge limit) = limit_refusal limit
+problem_refusal (lcp_stop.Range player row column step) =
+    refusal.Range (site.Cost player row column) step
+problem_refusal (lcp_stop.Start row step) = refusal.Range (site.Start row) step
+problem_refusal lcp_stop.Memory = refusal.Memory
+
+abbrev pub behaviour_refusal : BehaviourStop → Refusal
+behaviour_refusal (behaviour_stop.Range player set step) =
+    refusal.Range (site.Behaviour player set) step
+behaviour_refusal behaviour_stop.Memory = refusal.Memory
+
+abbrev pub mixed_refusal : MixedStop → Refusal
+mixed_refusal (mixed_stop.NotTwoPlayers count) = refusal.NotTwoPlayers count
+mixed_refusal (mixed_stop.TooLarge limit) = limit_refusal limit
+mixed_refusal (mixed_stop.Shift player profile step) =
+    refusal.Range (site.Shift player profile) step
+mixed_refusal (mixed_stop.Start polytope row step) =
+    refusal.Range (site.PolytopeStart polytope row) step
+mixed_refusal (mixed_stop.Range polytope level basis entering step) =
+    refusal.Range (site.Level polytope level basis entering) step
+mixed_refusal (mixed_stop.Scale polytope step) = refusal.Range (site.Scaling polytope) step
+mixed_refusal mixed_stop.Memory = refusal.Memory

@@ -1,0 +1,312 @@
+// The texts of refusals.
+ghost use Rattle.std.specs.Prelude.{◌≡◌, ◌++◌, IfOk, codes, string_bytes};
+ghost use Rattle.std.specs.Fmt.{decimal};
+ghost use Rattle.game_theory.specs.Lines.{number_text};
+ghost use Rattle.tree_files.specs.declared.fault.EfgKind.TheVariants.{Probability, ProbabilityRange};
+ghost use Rattle.refusals.specs.Refusals.{text_kind_text, nfg_kind_text, efg_kind_text, op_text, site_text, spaced, what_text, refusal_line};
+ghost use Rattle.refusals.specs.declared.refusal.Refusal.TheVariants as refusal;
+ghost use Rattle.refusals.specs.declared.refusal.Site.TheVariants as site;
+
+use crate::refusal::Site;
+use basis_enum::Basis;
+use efg_reader::{EfgFault, EfgKind};
+use frac128::{Frac, Op, Unfit};
+use game_core::{TooLarge, What};
+use game_text::{TextFault, TextKind};
+use memory::Memory;
+use ne_printer::fraction_text;
+use nfg_reader::{NfgFault, NfgKind};
+use std::alloc::Global;
+
+// The words for a kind of fault in a text.
+fn text_kind_text(kind: TextKind) -> &'static str
+    ensures { result.now ≡ text_kind_text kind }
+{
+    match kind {
+        TextKind::BadChar => "bad character",
+        TextKind::OpenText => "unclosed text",
+        TextKind::BadNumber => "bad number",
+        TextKind::NumberTooLarge => "number too large",
+    }
+}
+
+// The words for a kind of fault in a file of a table.
+fn nfg_kind_text(kind: NfgKind) -> &'static str
+    ensures { result.now ≡ nfg_kind_text kind }
+{
+    match kind {
+        NfgKind::Header => "header",
+        NfgKind::Players => "players",
+        NfgKind::Strategies => "strategies",
+        NfgKind::Outcome => "outcome",
+        NfgKind::PayoffCount => "payoff count",
+        NfgKind::Trailing => "trailing",
+    }
+}
+
+// The words for a step.
+fn op_text(op: Op) -> &'static str
+    ensures { result.now ≡ op_text op }
+{
+    match op {
+        Op::Add => "add",
+        Op::Sub => "sub",
+        Op::Mul => "mul",
+        Op::Div => "div",
+    }
+}
+
+// The words for a kind of fault in a file of a tree.
+fn efg_kind_text(alloc: Global, kind: EfgKind) -> Result<String, Memory>
+    ensures { IfOk result (λ text. string_bytes text ≡ efg_kind_text kind) }
+{
+    let text = match kind {
+        EfgKind::Header => "header",
+        EfgKind::Players => "players",
+        EfgKind::Node => "node",
+        EfgKind::UnknownPlayer => "unknown player",
+        EfgKind::SetMismatch => "set mismatch",
+        EfgKind::OutcomeMismatch => "outcome mismatch",
+        EfgKind::Unfinished => "unfinished",
+        EfgKind::Trailing => "trailing",
+        EfgKind::Probability { set, sum } => return probability_text(alloc, set, sum),
+        EfgKind::ProbabilityRange { set, unfit } => return range_text(alloc, set, unfit),
+    };
+    Ok(String::from_str(alloc, text)?)
+}
+
+// The words for probabilities with this sum.
+fn probability_text(alloc: Global, set: u64, sum: Frac) -> Result<String, Memory>
+    ensures { IfOk result (λ text. string_bytes text ≡ efg_kind_text (Probability set sum)) }
+{
+    let sum = fraction_text(alloc, sum)?;
+    Ok(format!(in alloc; "probability of set {set} sums to {sum}")?)
+}
+
+// The words for a probability that can't be added.
+fn range_text(alloc: Global, set: u64, unfit: Unfit) -> Result<String, Memory>
+    ensures { IfOk result (λ text. string_bytes text ≡ efg_kind_text (ProbabilityRange set unfit)) }
+{
+    let op = op_text(unfit.op);
+    let left = fraction_text(alloc, unfit.left)?;
+    let right = fraction_text(alloc, unfit.right)?;
+    Ok(format!(in alloc; "probability of set {set} out of range: {op} {left} {right}")?)
+}
+
+// The words for what is counted against a limit.
+fn what_text(what: What) -> &'static str
+    ensures { result.now ≡ what_text what }
+{
+    match what {
+        What::Payoffs => "payoffs",
+        What::Choices => "choices",
+        What::Nodes => "nodes",
+        What::Depth => "depth",
+        What::Labels => "labels",
+        What::Bases => "bases",
+        What::Pairs => "pairs",
+        What::Rows => "rows",
+        What::Text => "bytes of text",
+    }
+}
+
+pub fn text_line(alloc: Global, fault: TextFault) -> Result<String, Memory>
+    ensures { IfOk result (λ line. string_bytes line ≡ refusal_line (refusal.Text fault)) }
+{
+    let at = fault.at;
+    let kind = text_kind_text(fault.kind);
+    Ok(format!(in alloc; "gambit: text fault at {at}: {kind}\n")?)
+}
+
+pub fn nfg_line(alloc: Global, fault: NfgFault) -> Result<String, Memory>
+    ensures { IfOk result (λ line. string_bytes line ≡ refusal_line (refusal.Nfg fault)) }
+{
+    let at = fault.at;
+    let kind = nfg_kind_text(fault.kind);
+    Ok(format!(in alloc; "gambit: nfg fault at {at}: {kind}\n")?)
+}
+
+pub fn efg_line(alloc: Global, fault: EfgFault) -> Result<String, Memory>
+    ensures { IfOk result (λ line. string_bytes line ≡ refusal_line (refusal.Efg fault)) }
+{
+    let at = fault.at;
+    let kind = efg_kind_text(alloc, fault.kind)?;
+    Ok(format!(in alloc; "gambit: efg fault at {at}: {kind}\n")?)
+}
+
+pub fn limit_line(alloc: Global, passed: TooLarge) -> Result<String, Memory>
+    ensures { IfOk result (λ line. string_bytes line ≡ refusal_line (refusal.TooLarge passed.what passed.count passed.limit)) }
+{
+    let what = what_text(passed.what);
+    let count = passed.count;
+    let limit = passed.limit;
+    Ok(format!(in alloc; "gambit: too large: {count} {what}, limit {limit}\n")?)
+}
+
+pub fn players_line(alloc: Global, count: u32) -> Result<String, Memory>
+    ensures { IfOk result (λ line. string_bytes line ≡ refusal_line (refusal.NotTwoPlayers count)) }
+{
+    Ok(format!(in alloc; "gambit: {count} players, not two\n")?)
+}
+
+pub fn forgets_line(
+    alloc: Global,
+    player: u32,
+    set: u64,
+    first_node: u32,
+    second_node: u32,
+) -> Result<String, Memory>
+    ensures { IfOk result (λ line.
+        string_bytes line ≡ refusal_line (refusal.Forgets player set first_node second_node)) }
+{
+    let number = player as u64 + 1;
+    let first = first_node as u64 + 1;
+    let second = second_node as u64 + 1;
+    Ok(format!(in alloc;
+        "gambit: player {number} forgets at set {set}, nodes {first} and {second}\n"
+    )?)
+}
+
+pub fn sums_line(
+    alloc: Global,
+    first: u32,
+    second: u32,
+    first_sum: Frac,
+    second_sum: Frac,
+) -> Result<String, Memory>
+    ensures { IfOk result (λ line.
+        string_bytes line ≡ refusal_line (refusal.NotConstant first second first_sum second_sum)) }
+{
+    let one = first as u64 + 1;
+    let other = second as u64 + 1;
+    let one_sum = fraction_text(alloc, first_sum)?;
+    let other_sum = fraction_text(alloc, second_sum)?;
+    Ok(format!(in alloc;
+        "gambit: not constant sum: {one} has {one_sum}, {other} has {other_sum}\n"
+    )?)
+}
+
+// A word and a number behind it.
+fn numbered(alloc: Global, word: &str, number: u64) -> Result<String, Memory>
+    ensures { IfOk result (λ text. string_bytes text ≡ word.now ++ decimal number) }
+{
+    Ok(format!(in alloc; "{word}{number}")?)
+}
+
+// Two words, each with a number behind it.
+fn numbered_pair(
+    alloc: Global,
+    word: &str,
+    number: u64,
+    other: &str,
+    other_number: u64,
+) -> Result<String, Memory>
+    ensures { IfOk result (λ text.
+        string_bytes text ≡ word.now ++ decimal number ++ other.now ++ decimal other_number) }
+{
+    Ok(format!(in alloc; "{word}{number}{other}{other_number}")?)
+}
+
+// The words for the cost of a cell.
+fn cost_text(alloc: Global, player: u32, row: u32, column: u32) -> Result<String, Memory>
+    ensures { IfOk result (λ text. string_bytes text ≡ site_text (site.Cost player row column)) }
+{
+    let number = player as u64 + 1;
+    Ok(format!(in alloc; "cost player {number} row {row} column {column}")?)
+}
+
+// The words for a basis: its variables, each behind a space.
+fn spaced(alloc: Global, variables: &[u32]) -> Result<String, Memory>
+    ensures { IfOk result (λ text. string_bytes text ≡ spaced variables.now) }
+{
+    let mut text = String::new(alloc);
+    for variable in variables {
+        let word = format!(in alloc; " {variable}")?;
+        text.push_str(word.as_str())?;
+    }
+    Ok(text)
+}
+
+// The words for a pivot from a level of the enumeration of a polytope.
+fn level_text(
+    alloc: Global,
+    polytope: u32,
+    level: u32,
+    basis: &Basis,
+    entering: u32,
+) -> Result<String, Memory>
+    ensures { IfOk result (λ text.
+        string_bytes text ≡ site_text (site.Level polytope level basis.now entering)) }
+{
+    let number = polytope as u64 + 1;
+    let variables = spaced(alloc, basis.variables())?;
+    Ok(format!(in alloc; "polytope {number} level {level} basis{variables} entering {entering}")?)
+}
+
+// The words for a site.
+fn site_text(alloc: Global, site: &Site) -> Result<String, Memory>
+    ensures { IfOk result (λ text. string_bytes text ≡ site_text site.now) }
+{
+    match site {
+        Site::Cell { profile, player } => {
+            let number = *profile as u64 + 1;
+            numbered_pair(alloc, "profile ", number, " player ", *player as u64 + 1)
+        }
+        Site::Place { place } => numbered(alloc, "place ", *place as u64 + 1),
+        Site::Sum { place } => numbered(alloc, "sum ", *place as u64 + 1),
+        Site::Gain { row, column } => {
+            numbered_pair(alloc, "gain row ", *row as u64, " column ", *column as u64)
+        }
+        Site::Cost {
+            player,
+            row,
+            column,
+        } => cost_text(alloc, *player, *row, *column),
+        Site::Start { row } => numbered(alloc, "path start row ", *row as u64 + 1),
+        Site::Step { step, entering } => {
+            numbered_pair(alloc, "path step ", *step, " entering ", *entering as u64)
+        }
+        Site::Plan { player } => numbered(alloc, "plan player ", *player as u64 + 1),
+        Site::Behaviour { player, set } => {
+            numbered_pair(
+                alloc,
+                "behaviour player ",
+                *player as u64 + 1,
+                " set ",
+                *set,
+            )
+        }
+        Site::Value => Ok(String::from_str(alloc, "value")?),
+        Site::Shift { player, profile } => {
+            let number = *player as u64 + 1;
+            numbered_pair(
+                alloc,
+                "shift player ",
+                number,
+                " profile ",
+                *profile as u64 + 1,
+            )
+        }
+        Site::PolytopeStart { polytope, row } => {
+            let number = *polytope as u64 + 1;
+            numbered_pair(alloc, "polytope ", number, " start row ", *row as u64 + 1)
+        }
+        Site::Level {
+            polytope,
+            level,
+            basis,
+            entering,
+        } => level_text(alloc, *polytope, *level, basis, *entering),
+        Site::Scaling { polytope } => numbered(alloc, "scale polytope ", *polytope as u64 + 1),
+    }
+}
+
+pub fn range_line(alloc: Global, site: &Site, unfit: Unfit) -> Result<String, Memory>
+    ensures { IfOk result (λ line. string_bytes line ≡ refusal_line (refusal.Range site.now unfit)) }
+{
+    let site = site_text(alloc, site)?;
+    let op = op_text(unfit.op);
+    let left = fraction_text(alloc, unfit.left)?;
+    let right = fraction_text(alloc, unfit.right)?;
+    Ok(format!(in alloc; "gambit: range in {site}: {op} {left} {right}\n")?)
+}

@@ -1,0 +1,266 @@
+// Why a run is refused.
+use crate::lines::{
+    efg_line, forgets_line, limit_line, nfg_line, players_line, range_line, sums_line, text_line,
+};
+use basis_enum::Basis;
+use efg_reader::EfgFault;
+use frac128::{Frac, Unfit};
+use game_core::{TooLarge, What};
+use game_text::TextFault;
+use memory::Memory;
+use nfg_reader::NfgFault;
+use std::alloc::Global;
+use thiserror::Error;
+use words::Usage;
+
+/// Where a step of the arithmetic stands. Profiles, nodes, players, sequences, rows, polytopes and
+/// levels are numbered from 0, variables and the steps of a path from 1. Sequence 0 is the empty one.
+#[derive(Debug, Drop)]
+pub enum Site {
+    /// In the payoff of a player at a profile of a reduced form.
+    Cell {
+        /// The profile.
+        profile: u32,
+        /// The player.
+        player: u32,
+    },
+    /// In a sequence form.
+    Place {
+        /// The node, or the profile.
+        place: u32,
+    },
+    /// In the sum of both players' payoffs at a leaf.
+    Sum {
+        /// The node, or the profile.
+        place: u32,
+    },
+    /// In what a cell of a sequence form pays player one above the least payoff.
+    Gain {
+        /// The sequence of player one.
+        row: u32,
+        /// The sequence of player two.
+        column: u32,
+    },
+    /// In what a cell of a sequence form costs a player below the player's greatest payoff.
+    Cost {
+        /// The player.
+        player: u32,
+        /// The sequence of player one.
+        row: u32,
+        /// The sequence of player two.
+        column: u32,
+    },
+    /// In the start of a path.
+    Start {
+        /// The row.
+        row: u32,
+    },
+    /// In a step of a path.
+    Step {
+        /// The step.
+        step: u64,
+        /// The entering variable.
+        entering: u32,
+    },
+    /// In a player's plan.
+    Plan {
+        /// The player.
+        player: u32,
+    },
+    /// In a player's behaviour at a set.
+    Behaviour {
+        /// The player.
+        player: u32,
+        /// The number that a file gives the set.
+        set: u64,
+    },
+    /// In the value of a game.
+    Value,
+    /// In the shift of a player's payoffs.
+    Shift {
+        /// The player.
+        player: u32,
+        /// The profile.
+        profile: u32,
+    },
+    /// In the start of the enumeration of a polytope.
+    PolytopeStart {
+        /// The polytope.
+        polytope: u32,
+        /// The row.
+        row: u32,
+    },
+    /// In a pivot from a level of the enumeration of a polytope.
+    Level {
+        /// The polytope.
+        polytope: u32,
+        /// The level.
+        level: u32,
+        /// The basis from which the pivot goes.
+        basis: Basis,
+        /// The entering variable.
+        entering: u32,
+    },
+    /// In the scaling of a vertex of a polytope.
+    Scaling {
+        /// The polytope.
+        polytope: u32,
+    },
+}
+
+/// Why a run is refused. The line on standard error is that of [`Refusal::line`]; the derived text is for
+/// debugging.
+#[derive(Debug, Drop, Error)]
+pub enum Refusal {
+    /// The words are refused.
+    #[error("usage")]
+    Usage(Usage),
+    /// An input could not be opened.
+    #[error("cannot open")]
+    OpenFault,
+    /// An input could not be read.
+    #[error("read failed")]
+    ReadFault,
+    /// The text could not be written or flushed.
+    #[error("write failed")]
+    WriteFault,
+    /// An input has more than 16,777,216 bytes.
+    #[error("input too long")]
+    TooLong,
+    /// The bytes are no list of tokens: the first fault.
+    #[error("text fault")]
+    Text(TextFault),
+    /// The tokens are no file of a table.
+    #[error("nfg fault")]
+    Nfg(NfgFault),
+    /// The tokens are no file of a tree.
+    #[error("efg fault")]
+    Efg(EfgFault),
+    /// The game has another number of players than two.
+    #[error("not two players")]
+    NotTwoPlayers {
+        count: u32,
+    },
+    /// A player forgets: the first one, at that player's first such set, which is numbered as a
+    /// file numbers it. Nodes and players are numbered from 0.
+    #[error("a player forgets")]
+    Forgets {
+        player: u32,
+        set: u64,
+        first_node: u32,
+        second_node: u32,
+    },
+    /// The payoffs do not sum to the same number at two leaves, which are nodes of a tree or
+    /// profiles of a table, from 0.
+    #[error("not constant sum")]
+    NotConstant {
+        first: u32,
+        second: u32,
+        first_sum: Frac,
+        second_sum: Frac,
+    },
+    /// A count passed its limit.
+    #[error("too large")]
+    TooLarge {
+        what: What,
+        count: u64,
+        limit: u64,
+    },
+    /// A step of the arithmetic does not fit 128 bits.
+    #[error("range")]
+    Range {
+        site: Site,
+        unfit: Unfit,
+    },
+    /// Memory ran out.
+    #[error("out of memory")]
+    Memory,
+}
+
+impl Refusal {
+    ghost use Rattle.std.specs.Prelude.{◌≡◌, IfOk, MatchOption, string_bytes};
+    ghost use Rattle.refusals.specs.Refusals.{status_of, refusal_line, NamesNumbers};
+
+    /// The status with which the program ends: 1 for the game, 2 for the words, 3 for an input, 4 for the
+    /// output, 5 for want of memory.
+    pub fn status(&self) -> u8
+        ensures { result ≡ status_of self.now }
+    {
+        match self {
+            Refusal::Usage(_) => 2,
+            Refusal::OpenFault | Refusal::ReadFault => 3,
+            Refusal::WriteFault => 4,
+            Refusal::TooLong
+            | Refusal::Text(_)
+            | Refusal::Nfg(_)
+            | Refusal::Efg(_)
+            | Refusal::NotTwoPlayers { .. }
+            | Refusal::Forgets { .. }
+            | Refusal::NotConstant { .. }
+            | Refusal::TooLarge { .. }
+            | Refusal::Range { .. } => 1,
+            Refusal::Memory => 5,
+        }
+    }
+
+    /// The line on standard error, with its line feed, where it names no numbers. Takes no memory.
+    pub fn fixed_line(&self) -> Option<&'static str>
+        ensures { MatchOption result (NamesNumbers self.now) (λ line. line.now ≡ refusal_line self.now) }
+    {
+        match self {
+            Refusal::Usage(Usage::NoTool) => Some("gambit: no tool\n"),
+            Refusal::Usage(Usage::UnknownTool) => Some("gambit: unknown tool\n"),
+            Refusal::Usage(Usage::Words) => Some("gambit: words not understood\n"),
+            Refusal::OpenFault => Some("gambit: cannot open\n"),
+            Refusal::ReadFault => Some("gambit: read failed\n"),
+            Refusal::WriteFault => Some("gambit: write failed\n"),
+            Refusal::TooLong => Some("gambit: file longer than 16777216 bytes\n"),
+            Refusal::Memory => Some("gambit: out of memory\n"),
+            Refusal::Text(_)
+            | Refusal::Nfg(_)
+            | Refusal::Efg(_)
+            | Refusal::NotTwoPlayers { .. }
+            | Refusal::Forgets { .. }
+            | Refusal::NotConstant { .. }
+            | Refusal::TooLarge { .. }
+            | Refusal::Range { .. } => None,
+        }
+    }
+
+    /// The line on standard error, with its line feed.
+    pub fn line(&self, alloc: Global) -> Result<String, Memory>
+        ensures { IfOk result (λ line. string_bytes line ≡ refusal_line self.now) }
+    {
+        match self {
+            Refusal::Text(fault) => text_line(alloc, *fault),
+            Refusal::Nfg(fault) => nfg_line(alloc, *fault),
+            Refusal::Efg(fault) => efg_line(alloc, *fault),
+            Refusal::NotTwoPlayers { count } => players_line(alloc, *count),
+            Refusal::Forgets {
+                player,
+                set,
+                first_node,
+                second_node,
+            } => forgets_line(alloc, *player, *set, *first_node, *second_node),
+            Refusal::NotConstant {
+                first,
+                second,
+                first_sum,
+                second_sum,
+            } => sums_line(alloc, *first, *second, *first_sum, *second_sum),
+            Refusal::TooLarge { what, count, limit } => {
+                let passed = TooLarge {
+                    what: *what,
+                    count: *count,
+                    limit: *limit,
+                };
+                limit_line(alloc, passed)
+            }
+            Refusal::Range { site, unfit } => range_line(alloc, site, *unfit),
+            _ => match self.fixed_line() {
+                Some(line) => Ok(String::from_str(alloc, line)?),
+                None => Err(Memory),
+            },
+        }
+    }
+}
