@@ -1,0 +1,24 @@
+//! Extreme equilibria of small games of two players, found a second time by their definition, beside those that the tool lists;
+//! its refusals and limits; and the limits of bases and pairs, as tests. Nothing here is called by the program.
+#![tactic(auto)]
+
+#[cfg(test)]
+mod by_definition;
+#[cfg(test)]
+mod by_the_tool;
+#[cfg(test)]
+mod case;
+#[cfg(test)]
+mod cubes;
+#[cfg(test)]
+mod elimination;
+#[cfg(test)]
+mod pairings;
+#[cfg(test)]
+mod rows;
+#[cfg(test)]
+mod small_games;
+#[cfg(test)]
+mod stop;
+#[cfg(test)]
+mod zeros;
