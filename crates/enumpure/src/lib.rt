@@ -9,4 +9,4 @@ mod listing;
 mod replies;
 
 pub use listing::{ListStop, list_pure_equilibria, pure_texts_are_single};
-pub use replies::stable_profiles;
+pub use replies::{stable_profiles, strategy_count, strategy_counts};

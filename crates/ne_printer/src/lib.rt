@@ -1,11 +1,14 @@
-//! The text of equilibria: lines and fractions.
+//! The text of equilibria: lines and fractions, and lines read back.
 #![tactic(auto)]
+
+mod reading;
 
 ghost use Rattle.std.specs.Prelude.{◌≡◌, [], ◌∷◌, ◌++◌, string_bytes, IfOk, OnOk, OnErr, MatchOption};
 ghost use Rattle.game_theory.specs.Lines.{line_text, number_text};
 ghost use Rattle.ne_printer.specs.Entries.{entry_text, entries_text, numbers_line, line_start, BeginsWith, IsOneDigit};
 
 use frac128::{Frac, Memory};
+pub use reading::{LineStop, lines_are_single, lines_read_back, read_line};
 use std::alloc::Global;
 
 /// The text of a fraction: the numerator, with a `-` first where it is negative, and behind `/` the denominator

@@ -1,5 +1,5 @@
 use frac128::{Frac, Memory};
-use ne_printer::{fraction, line, push_numbers};
+use ne_printer::{LineStop, fraction, line, push_numbers, read_line};
 use std::alloc::Global;
 
 // The fractions of numerators and denominators.
@@ -41,6 +41,13 @@ fn is_written(alloc: Global, num: i128, den: i128, text: &[u8]) -> Result<bool, 
     Ok(fraction(alloc, value)?.as_slice() == text)
 }
 
+// Whether this line is read as the fractions with these parts.
+fn is_read(alloc: Global, text: &[u8], parts: &[(i128, i128)]) -> Result<bool, LineStop> {
+    let entries = fractions(alloc, parts).map_err(|_| LineStop::Memory)?;
+    let read = read_line(alloc, text)?;
+    Ok(read.as_slice() == entries.as_slice())
+}
+
 #[test]
 fn writes_lines_and_fractions(rt: HostRuntime) -> Result<(), Memory> {
     let alloc = rt.alloc();
@@ -52,5 +59,44 @@ fn writes_lines_and_fractions(rt: HostRuntime) -> Result<(), Memory> {
     assert!(rt; is_written(alloc, -7, 1, b"-7")?);
     assert!(rt; is_written(alloc, 22, 7, b"22/7")?);
     assert!(rt; is_written(alloc, 0, 1, b"0")?);
+    Ok(())
+}
+
+#[test]
+fn reads_lines(rt: HostRuntime) -> Result<(), LineStop> {
+    let alloc = rt.alloc();
+    let most = 170141183460469231731687303715884105727;
+    assert!(rt; is_read(alloc, b"NE,", &[])?);
+    assert!(rt; is_read(alloc, b"NE,1,0", &[(1, 1), (0, 1)])?);
+    assert!(rt; is_read(alloc, b"NE,2/4,007", &[(1, 2), (7, 1)])?);
+    assert!(rt;
+        is_read(
+            alloc,
+            b"NE,170141183460469231731687303715884105727",
+            &[(most, 1)]
+        )?
+    );
+    for line in [
+        "",
+        "NE",
+        "ne,1",
+        "NE,1,",
+        "NE,,1",
+        "NE, 1",
+        "NE,1\n",
+        "NE,1/0",
+        "NE,1/2/3",
+        "NE,/2",
+        "NE,1/",
+        "NE,-1",
+        "NE,0.5",
+        "NE,170141183460469231731687303715884105728",
+        "NE,0000000000000000000000000000000000000001",
+    ] {
+        assert!(rt;
+            matches!(read_line(alloc, line.as_bytes()), Err(LineStop::Bad)),
+            "{line}"
+        );
+    }
     Ok(())
 }

@@ -1,0 +1,4 @@
+pub mod CellPlaces
+pub mod Each
+pub mod LaidOut
+pub mod PlanAxes

@@ -1,0 +1,8 @@
+use Rattle.std.proofs.Common.{◌≡◌, ◌++◌}
+use Rattle.std.specs.List.{flat_map, range_with_len}
+use Rattle.convert_tables.specs.Layouts.{row_text}
+use Rattle.convert_tables.proofs.cells.push_rows.Given as goal
+
+abbrev pub invariant-loop-strategy : goal.invariant-loop-strategy
+invariant-loop-strategy l =
+    l.text.items ≡ l.initial.text.items ++ flat_map (row_text l.plan.style l.plan.table.now l.plan.row l.plan.column l.choice) (range_with_len 0 l.strategy)

@@ -1,0 +1,8 @@
+use Rattle.convert_tables.proofs.CellPlaces.{IsChoice-profile}
+use Rattle.convert_tables.proofs.PlanAxes.{axes}
+use Rattle.convert_tables.proofs.choices.push_table.Goals as goal
+
+pub push_heading-requires : goal.push_heading-requires
+push_heading-requires c =
+    let l = c.args.plan.now in
+    (IsChoice-profile l.table.now l.row l.column c.args.choice.now (axes l) c.requires.choice).profile

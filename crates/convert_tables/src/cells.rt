@@ -1,0 +1,166 @@
+// A table, row by row.
+ghost use Rattle.std.specs.Prelude.{◌≡◌, ◌≢◌, ◌+◌, ◌*◌, ◌<◌, ◌++◌, ℕ, length, OnOk, All};
+ghost use Rattle.std.specs.List.{flat_map, range_with_len};
+ghost use Rattle.std.specs.Result.{IsErrOf};
+ghost use Rattle.game_theory.specs.Profiles.{IsProfile, profile_count, stride};
+ghost use Rattle.game_core.specs.Table.{IsTable, strategy_counts};
+ghost use Rattle.game_core.specs.TextLimit.{most_text};
+ghost use Rattle.convert_tables.specs.Layouts.{other_players, others_counts, payoff_text, later_payoff_text, cell_text, cells_text, row_end, row_text, rows_text, strategy_count};
+
+use crate::marks::{Mark, Style, mark_text};
+use crate::names::push_marked;
+use crate::stops::TextStop;
+use frac128::Memory;
+use game_core::{MOST_TEXT, Table};
+use ne_printer::fraction;
+use std::alloc::Global;
+
+/// A table, and the players whose strategies are its rows and its columns, counted from 0.
+#[derive(Drop)]
+pub struct Plan<'a> {
+    pub style: Style,
+    pub table: &'a Table,
+    pub row: usize,
+    pub column: usize,
+    /// The other players, in order.
+    pub others: &'a [usize],
+    /// How much a profile's number grows from a row to the next.
+    pub row_stride: usize,
+    /// How much it grows from a column to the next.
+    pub column_stride: usize,
+    ghost valid: { IsTable table.now },
+    ghost row_in: { row < length table.now.players },
+    ghost column_in: { column < length table.now.players },
+    ghost apart: { row ≢ column },
+    ghost others_are: { others.now ≡ other_players (length table.now.players) row column },
+    ghost row_stride_is: { row_stride ≡ stride (strategy_counts table.now) row },
+    ghost column_stride_is: { column_stride ≡ stride (strategy_counts table.now) column },
+}
+
+// Adds a player's payoff at the profile with a number.
+fn push_payoff(
+    alloc: Global,
+    text: &mut Vec<u8>,
+    table: &Table,
+    number: usize,
+    player: usize,
+) -> Result<(), Memory>
+    requires number { number < profile_count (strategy_counts table.now) }
+    requires player { player < length table.now.players }
+    ensures { OnOk result (text.new.items
+        ≡ text.old.items ++ payoff_text table.now number player) }
+{
+    let payoff = table.payoffs()[number * table.players().len() + player];
+    text.extend_from_slice(&fraction(alloc, payoff)?)?;
+    Ok(())
+}
+
+// Adds the payoffs of some players, each behind a comma.
+fn push_later_payoffs(
+    alloc: Global,
+    text: &mut Vec<u8>,
+    table: &Table,
+    number: usize,
+    players: &[usize],
+) -> Result<(), Memory>
+    requires number { number < profile_count (strategy_counts table.now) }
+    requires players { All (λ i. i < length table.now.players) players.now }
+    ensures { OnOk result (text.new.items
+        ≡ text.old.items ++ flat_map (later_payoff_text table.now number) players.now) }
+{
+    for player in players {
+        text.push(b',')?;
+        push_payoff(alloc, text, table, number, *player)?;
+    }
+    Ok(())
+}
+
+// Adds the cell of the profile with a number.
+fn push_cell(alloc: Global, text: &mut Vec<u8>, plan: &Plan, number: usize) -> Result<(), Memory>
+    requires { number < profile_count (strategy_counts plan.now.table.now) }
+    ensures { OnOk result (text.new.items ≡ text.old.items
+        ++ cell_text plan.now.style plan.now.table.now plan.now.row plan.now.column number) }
+{
+    let table = plan.table;
+    text.extend_from_slice(mark_text(plan.style, Mark::CellStart))?;
+    push_payoff(alloc, text, table, number, plan.row)?;
+    push_later_payoffs(alloc, text, table, number, &[plan.column])?;
+    push_later_payoffs(alloc, text, table, number, plan.others)?;
+    text.extend_from_slice(mark_text(plan.style, Mark::CellEnd))?;
+    Ok(())
+}
+
+// Adds the cells of a row, in which the profile of the first has this number.
+fn push_cells(alloc: Global, text: &mut Vec<u8>, plan: &Plan, first: usize) -> Result<(), Memory>
+    requires { (c : ℕ) → c < strategy_count plan.now.table.now plan.now.column
+        → first + plan.now.column_stride * c < profile_count (strategy_counts plan.now.table.now) }
+    ensures { OnOk result (text.new.items ≡ text.old.items
+        ++ flat_map (λ c. cell_text plan.now.style plan.now.table.now plan.now.row plan.now.column
+        (first + plan.now.column_stride * c))
+        (range_with_len 0 (strategy_count plan.now.table.now plan.now.column))) }
+{
+    for column in 0..plan.table.strategies(plan.column).len() {
+        push_cell(alloc, text, plan, first + plan.column_stride * column)?;
+    }
+    Ok(())
+}
+
+// What stands behind the row of a strategy.
+fn row_end(style: Style, rows: usize, strategy: usize) -> &'static [u8]
+    requires { strategy < rows }
+    ensures { result.now ≡ row_end style rows strategy }
+{
+    if strategy + 1 == rows {
+        mark_text(style, Mark::LastRowEnd)
+    } else {
+        mark_text(style, Mark::RowEnd)
+    }
+}
+
+// Adds the row of a strategy, where the others play a choice.
+fn push_row(
+    alloc: Global,
+    text: &mut Vec<u8>,
+    plan: &Plan,
+    choice: &[u32],
+    strategy: usize,
+) -> Result<(), Memory>
+    requires choice { IsProfile (others_counts plan.now.table.now plan.now.row plan.now.column)
+        choice.now }
+    requires strategy { strategy < strategy_count plan.now.table.now plan.now.row }
+    ensures { OnOk result (text.new.items ≡ text.old.items
+        ++ row_text plan.now.style plan.now.table.now plan.now.row plan.now.column choice.now
+        strategy) }
+{
+    let names = plan.table.strategies(plan.row);
+    let first = plan.table.profile_number(choice) + plan.row_stride * strategy;
+    let name = names[strategy].bytes();
+    push_marked(text, plan.style, Mark::RowStart, name, Mark::RowNameEnd)?;
+    push_cells(alloc, text, plan, first)?;
+    text.extend_from_slice(row_end(plan.style, names.len(), strategy))?;
+    Ok(())
+}
+
+/// Adds the rows of the table in which the others play a choice, and stops behind the first row at
+/// which the text has too many bytes.
+pub fn push_rows(
+    alloc: Global,
+    text: &mut Vec<u8>,
+    plan: &Plan,
+    choice: &[u32],
+) -> Result<(), TextStop>
+    requires choice { IsProfile (others_counts plan.now.table.now plan.now.row plan.now.column)
+        choice.now }
+    ensures rows { OnOk result (text.new.items ≡ text.old.items
+        ++ rows_text plan.now.style plan.now.table.now plan.now.row plan.now.column choice.now) }
+    ensures long { IsErrOf result TextStop.TooLong → most_text < length (text.old.items
+        ++ rows_text plan.now.style plan.now.table.now plan.now.row plan.now.column choice.now) }
+{
+    for strategy in 0..plan.table.strategies(plan.row).len() {
+        push_row(alloc, text, plan, choice, strategy)?;
+        if text.len() > MOST_TEXT {
+            return Err(TextStop::TooLong);
+        }
+    }
+    Ok(())
+}

@@ -1,0 +1,55 @@
+// Why a table is not laid out.
+ghost use Rattle.std.specs.Prelude.{◌≡◌};
+
+use frac128::Memory;
+use game_core::TooLarge;
+
+/// Why a table was not laid out. Players count from 1.
+#[derive(Clone, Copy, Debug, PartialEq, Eq)]
+pub enum ConvertStop {
+    /// The row player or the column player is none of the game's players.
+    NoSuchPlayer {
+        /// The number that was asked for.
+        number: u32,
+    },
+    /// The row player is the column player.
+    SamePlayer {
+        /// The number of both.
+        number: u32,
+    },
+    /// The layout would have more than 67,108,864 bytes.
+    TooLarge(TooLarge),
+    /// Memory ran out.
+    Memory,
+}
+
+impl From<Memory> for ConvertStop {
+    ghost use Rattle.std.specs.Prelude.{◌≡◌};
+    ghost use Rattle.convert_tables.specs.declared.stops.ConvertStop.TheVariants as stops;
+
+    ghost from_gives = { λ _ e. e ≡ stops.Memory };
+
+    fn from(_memory: Memory) -> ConvertStop {
+        ConvertStop::Memory
+    }
+}
+
+/// Why a layout was not written to its end.
+#[derive(Clone, Copy, Debug, PartialEq, Eq)]
+pub enum TextStop {
+    /// It has more bytes than a text may have.
+    TooLong,
+    /// Memory ran out.
+    Memory,
+}
+
+impl From<Memory> for TextStop {
+    ghost use Rattle.std.specs.Prelude.{◌≡◌};
+    ghost use Rattle.convert_tables.specs.declared.stops.TextStop.TheVariants as text_stops;
+
+    ghost from_gives = { λ _ e. e ≡ text_stops.Memory };
+
+    fn from(_memory: Memory) -> TextStop {
+        TextStop::Memory
+    }
+}

@@ -1,0 +1,5 @@
+use Rattle.ne_printer.proofs.LinesRead.{line_told}
+use Rattle.ne_printer.proofs.reading.lines_are_single.Goals as goal
+
+pub returns : goal.returns
+returns c = line_told

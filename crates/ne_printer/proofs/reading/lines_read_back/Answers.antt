@@ -1,0 +1,5 @@
+use Rattle.ne_printer.proofs.ReadBack.{line_reads}
+use Rattle.ne_printer.proofs.reading.lines_read_back.Goals as goal
+
+pub returns : goal.returns
+returns c = line_reads
