@@ -46,7 +46,7 @@ own_entries-profile t strategies profile i =
     entries_at-same t _ _ (own_sets t i) (λ s h. ap (λ x. sure (x - 1)) (sym (given_at-own t strategies profile s i (own_sets-tell t i s h).1)))
 
 -- the entries of one player more
-entries_from-next : (t : Tree) (b : Behaviour) (i n : ℕ) → entries_from t b i (suc n) ≡ entries_from t b i n ++ own_entries t b (i + n)
+pub entries_from-next : (t : Tree) (b : Behaviour) (i n : ℕ) → entries_from t b i (suc n) ≡ entries_from t b i n ++ own_entries t b (i + n)
 entries_from-next t b i zero = append-nil (own_entries t b i) ∙ ap (own_entries t b) (sym (add-zero i))
 entries_from-next t b i (suc n) =
     ap (λ v. own_entries t b i ++ v) (entries_from-next t b (suc i) n ∙ ap (λ v. entries_from t b (suc i) n ++ own_entries t b v) (omega arith))

@@ -13,8 +13,13 @@ ghost use Rattle.behaviour_profile.specs.FirstActions.{first_for_none};
 ghost use Rattle.game_trees.specs.OwnSets.{own_sets};
 ghost use Rattle.game_trees.specs.TreeEntries.{own_entries, tree_entries};
 
+mod entries;
 mod plans;
 
+pub use entries::{
+    ProfileFault, profiles_are_single, test_group, tested_entries_are_behaviours,
+    tested_entries_are_profiles,
+};
 use frac128::{Frac, Memory};
 use game_core::Tree;
 pub use plans::{BehaviourStop, plan_behaviours_are_single};

@@ -1,5 +1,5 @@
 mod Answers
 mod LastSteps
-mod Members
+pub mod Members
 mod PrefixOrder
 pub mod Histories

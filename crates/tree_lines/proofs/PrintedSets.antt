@@ -23,18 +23,18 @@ abbrev pub printed_sets : Tree → List ℕ
 printed_sets t = sets_from t 0 t.players
 
 -- one of the first sets is one of all
-IsAmong-left : (xs ys : List ℕ) (s : ℕ) → IsAmong xs s → IsAmong (xs ++ ys) s
+pub IsAmong-left : (xs ys : List ℕ) (s : ℕ) → IsAmong xs s → IsAmong (xs ++ ys) s
 IsAmong-left [] ys s m = absurd m
 IsAmong-left (x ∷ xs) ys s (inl e) = inl e
 IsAmong-left (x ∷ xs) ys s (inr m) = inr (IsAmong-left xs ys s m)
 
 -- so is one of the last
-IsAmong-right : (xs ys : List ℕ) (s : ℕ) → IsAmong ys s → IsAmong (xs ++ ys) s
+pub IsAmong-right : (xs ys : List ℕ) (s : ℕ) → IsAmong ys s → IsAmong (xs ++ ys) s
 IsAmong-right [] ys s m = m
 IsAmong-right (x ∷ xs) ys s m = inr (IsAmong-right xs ys s m)
 
 -- one of all is one of the first or of the last
-IsAmong-parts : (xs ys : List ℕ) (s : ℕ) → IsAmong (xs ++ ys) s → IsAmong xs s ⊎ IsAmong ys s
+pub IsAmong-parts : (xs ys : List ℕ) (s : ℕ) → IsAmong (xs ++ ys) s → IsAmong xs s ⊎ IsAmong ys s
 IsAmong-parts [] ys s m = inr m
 IsAmong-parts (x ∷ xs) ys s (inl e) = inl (inl e)
 IsAmong-parts (x ∷ xs) ys s (inr m) = elim (IsAmong-parts xs ys s m) [ inl a ↦ inl (inr a) | inr b ↦ inr b ]

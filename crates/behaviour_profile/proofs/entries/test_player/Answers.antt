@@ -1,0 +1,85 @@
+use Rattle.std.proofs.Common.{ℕ, ◌≡◌, ◌<◌, ◌≤◌, ◌+◌, ◌∙◌, List, All, Some, ap, sym, subst, length, slice_get, take, refl, arith}
+use Rattle.std.specs.Prelude.{sum}
+use Rattle.std.proofs.lemmas.List.{length-take-le}
+use Rattle.game_core.specs.Tree.{InformationSet}
+use Rattle.game_core.specs.TreeGame.{game_of_tree}
+use Rattle.behaviour_profile.specs.EntryTests.{Passes, own_counts, tests_from}
+use Rattle.behaviour_profile.proofs.GroupLists.{sum-next, end-within, number-within, next_passes, next_fault}
+use Rattle.behaviour_profile.proofs.TreeGroups.{none-left, set-below, count-at, count-is, count-few}
+use Rattle.behaviour_profile.proofs.entries.test_player.Goals as goal
+use Rattle.behaviour_profile.proofs.entries.test_player.Goals.{After-actions, In_default}
+
+counted : (c : After-actions) → length c.actions.result.now ≡ (game_of_tree c.args.tree.now).actions c.in-Some.set
+counted c =
+    ap length c.actions.ensures
+    ∙ count-is c.args.tree.now c.args.player c.loop-set.number c.own_sets.result c.own_sets.ensures (c.own_sets_are_those_of_the_tree.ensures c.args.tree.now c.args.player) c.in-Some.set c.in-Some.is c.sets.result.now c.index-sets-set.result c.sets.ensures.sets c.index-sets-set.is
+
+at : (c : After-actions) → slice_get (own_counts (game_of_tree c.args.tree.now) c.args.player) c.loop-set.number ≡ Some (length c.actions.result.now)
+at c =
+    count-at c.args.tree.now c.args.player c.loop-set.number c.own_sets.result c.own_sets.ensures (c.own_sets_are_those_of_the_tree.ensures c.args.tree.now c.args.player) c.in-Some.set c.in-Some.is
+    ∙ ap Some (sym (counted c))
+
+within : (c : After-actions) → c.loop-set.number < length (own_counts (game_of_tree c.args.tree.now) c.args.player)
+within c = number-within (own_counts (game_of_tree c.args.tree.now) c.args.player) c.loop-set.number _ (at c)
+
+end : (c : After-actions) → sum (take c.loop-set.number (own_counts (game_of_tree c.args.tree.now) c.args.player)) + length c.actions.result.now ≤ sum (own_counts (game_of_tree c.args.tree.now) c.args.player)
+end c = end-within (own_counts (game_of_tree c.args.tree.now) c.args.player) c.loop-set.number _ (at c)
+
+all : (c : In_default) → take c.loop-set.number (own_counts (game_of_tree c.args.tree.now) c.args.player) ≡ own_counts (game_of_tree c.args.tree.now) c.args.player
+all c = none-left c.args.tree.now c.args.player c.loop-set.number c.own_sets.result c.own_sets.ensures (c.own_sets_are_those_of_the_tree.ensures c.args.tree.now c.args.player) c.in_default.is
+
+pub bounds-sets-set : goal.bounds-sets-set
+bounds-sets-set c =
+    let below = set-below c.args.tree.now c.args.player c.loop-set.number c.own_sets.result c.own_sets.ensures (c.own_sets_are_those_of_the_tree.ensures c.args.tree.now c.args.player) c.in-Some.set c.in-Some.is in
+    omega (arith, below, ap (λ (sets : List InformationSet). length sets) c.sets.ensures.sets)
+
+pub overflow_cast-count : goal.overflow_cast-count
+overflow_cast-count c =
+    let few = count-few c.args.tree.now c.args.player c.loop-set.number c.own_sets.result c.own_sets.ensures (c.own_sets_are_those_of_the_tree.ensures c.args.tree.now c.args.player) c.in-Some.set c.in-Some.is (length c.actions.result.now) c.sets.ensures.valid (counted (goal.at.overflow_cast-count c).After-actions) in
+    omega (arith, few)
+
+pub test_group-requires-clause-within : goal.test_group-requires-clause-within
+test_group-requires-clause-within c =
+    omega (arith, c.requires.within, c.loop-set.invariant.place, end (goal.at.test_group-requires-clause-within c).After-actions)
+
+pub test_group-requires-clause-few : goal.test_group-requires-clause-few
+test_group-requires-clause-few c =
+    omega (arith, c.requires.few, c.loop-set.invariant.place, end (goal.at.test_group-requires-clause-few c).After-actions)
+
+pub overflow_add-here : goal.overflow_add-here
+overflow_add-here c =
+    omega (arith, c.requires.few, c.loop-set.invariant.place, end (goal.at.overflow_add-here c).After-actions)
+
+pub returns-in-Err-clause-fault : goal.returns-in-Err-clause-fault
+returns-in-Err-clause-fault c =
+    next_fault (own_counts (game_of_tree c.args.tree.now) c.args.player) c.loop-set.number _ (at (goal.at.returns-in-Err-clause-fault c).After-actions)
+    c.args.entries.now c.args.place c.args.group c.loop-set.here (c.args.group + c.loop-set.number) c.loop-set.invariant.place refl c.loop-set.invariant.passed c.in-Err.fault c.in-Err.ensures.fault
+
+pub overflow_add-number : goal.overflow_add-number
+overflow_add-number c = omega (arith, c.requires.groups, within (goal.at.overflow_add-number c).After-actions)
+
+pub loop-set-smaller : goal.loop-set-smaller
+loop-set-smaller c = omega (arith, within (goal.at.loop-set-smaller c).After-actions)
+
+pub loop-set-preserved : goal.loop-set-preserved
+loop-set-preserved c =
+    let a = (goal.at.loop-set-preserved c).After-actions in
+    let counts : List ℕ = own_counts (game_of_tree c.args.tree.now) c.args.player in
+    let next = sum-next counts c.loop-set.number _ (at a) in
+    record {
+      within = omega (arith, within a);
+      place = omega (arith, c.loop-set.invariant.place, next);
+      passed = next_passes counts c.loop-set.number _ (at a) c.args.entries.now c.args.place c.args.group c.loop-set.here (c.args.group + c.loop-set.number) c.loop-set.invariant.place refl c.loop-set.invariant.passed c.in-Ok.ensures.passed;
+    }
+
+pub returns-clause-place : goal.returns-clause-place
+returns-clause-place c =
+    omega (arith, c.loop-set.invariant.place, ap sum (all (goal.at.returns-clause-place c).In_default))
+
+pub returns-clause-group : goal.returns-clause-group
+returns-clause-group c =
+    omega (arith, c.loop-set.invariant.within, ap length (all (goal.at.returns-clause-group c).In_default), length-take-le c.loop-set.number (own_counts (game_of_tree c.args.tree.now) c.args.player) c.loop-set.invariant.within)
+
+pub returns-clause-passed : goal.returns-clause-passed
+returns-clause-passed c =
+    subst (λ v. All Passes (tests_from c.args.entries.now c.args.place c.args.group v)) (all (goal.at.returns-clause-passed c).In_default) c.loop-set.invariant.passed

@@ -1,0 +1,17 @@
+use Rattle.std.proofs.Common.{◌≡◌, ◌+◌, ◌-◌, ◌≤◌, All, length, take}
+use Rattle.std.specs.Prelude.{sum}
+use Rattle.game_core.specs.TreeGame.{game_of_tree}
+use Rattle.behaviour_profile.specs.EntryTests.{Passes, own_counts, tests_from}
+use Rattle.behaviour_profile.proofs.entries.test_player.Given as goal
+
+abbrev pub invariant-loop-set : goal.invariant-loop-set
+invariant-loop-set l =
+    let own = own_counts (game_of_tree l.tree) l.player in
+    record {
+      within : l.number ≤ length own;
+      place : l.here ≡ l.place + sum (take l.number own);
+      passed : All Passes (tests_from l.entries l.place l.group (take l.number own));
+    }
+
+abbrev pub decreases-loop-set : goal.decreases-loop-set
+decreases-loop-set l = length (own_counts (game_of_tree l.tree) l.player) - l.number

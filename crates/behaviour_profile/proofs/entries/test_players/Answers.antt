@@ -1,0 +1,44 @@
+use Rattle.std.proofs.Common.{ap, length, ◌<◌, ◌≤◌, ◌+◌, ◌^◌, arith}
+use Rattle.std.specs.Prelude.{sum}
+use Rattle.game_core.specs.TreeGame.{game_of_tree}
+use Rattle.behaviour_profile.specs.EntryTests.{own_counts}
+use Rattle.behaviour_profile.proofs.ActionTotals.{actions-few}
+use Rattle.behaviour_profile.proofs.TreeGroups.{total-next, groups-next, total-within, groups-within, player_passes, player_fault}
+use Rattle.behaviour_profile.proofs.entries.test_players.Goals as goal
+use Rattle.behaviour_profile.proofs.entries.test_players.Goals.{In-loop-player}
+
+is_player : (c : In-loop-player) → c.loop-player.player < length c.args.tree.now.players
+is_player c = omega (arith, c.loop-player-test.true, ap length c.players-player-end.ensures.players)
+
+total : (c : In-loop-player) → c.loop-player.position.place + sum (own_counts (game_of_tree c.args.tree.now) c.loop-player.player) ≤ length c.args.entries.now
+total c = omega (arith, c.requires, total-within (game_of_tree c.args.tree.now) c.loop-player.player (is_player c), c.loop-player.invariant.place)
+
+few : (c : In-loop-player) → length c.args.entries.now < 2 ^ 32
+few c = omega (arith, c.requires, actions-few c.args.tree.now c.stands_for_game_tree.ensures.valid)
+
+groups : (c : In-loop-player) → c.loop-player.position.group + length (own_counts (game_of_tree c.args.tree.now) c.loop-player.player) < 2 ^ 32
+groups c =
+    omega (arith, few c, c.requires, groups-within (game_of_tree c.args.tree.now) c.loop-player.player c.stands_for_game_tree.ensures.game (is_player c), c.loop-player.invariant.group)
+
+pub test_player-tested-requires-clause-within : goal.test_player-tested-requires-clause-within
+test_player-tested-requires-clause-within c = total c
+
+pub test_player-tested-requires-clause-few : goal.test_player-tested-requires-clause-few
+test_player-tested-requires-clause-few c = omega (arith, total c, few c)
+
+pub test_player-tested-requires-clause-groups : goal.test_player-tested-requires-clause-groups
+test_player-tested-requires-clause-groups c = groups c
+
+pub returns-in-Err-clause-fault : goal.returns-in-Err-clause-fault
+returns-in-Err-clause-fault c =
+    player_fault (game_of_tree c.args.tree.now) c.args.entries.now c.loop-player.player c.loop-player.position.place c.loop-player.position.group c.loop-player.invariant.place c.loop-player.invariant.group c.loop-player.invariant.passed
+    c.in-Err.fault (is_player (goal.at.returns-in-Err-clause-fault c).In-loop-player) c.in-Err.ensures.fault
+
+pub loop-player-preserved : goal.loop-player-preserved
+loop-player-preserved c =
+    let t = game_of_tree c.args.tree.now in
+    record {
+      place = omega (arith, c.in-Ok.ensures.place, c.loop-player.invariant.place, total-next t c.loop-player.player);
+      group = omega (arith, c.in-Ok.ensures.group, c.loop-player.invariant.group, groups-next t c.loop-player.player);
+      passed = player_passes t c.args.entries.now c.loop-player.player c.loop-player.position.place c.loop-player.position.group c.loop-player.invariant.place c.loop-player.invariant.group c.loop-player.invariant.passed c.in-Ok.ensures.passed;
+    }

@@ -1,0 +1,102 @@
+-- Entries in groups, and what is tested of them: a group is one player's strategies, or the actions
+-- of one set.
+use Rattle.std.specs.Prelude.{ℕ, suc, ◌+◌, ◌≡◌, ◌≢◌, ◌⊎◌, List, [], ◌∷◌, ◌++◌, length, map, slice_index_or, sum, take, All, Ok, Err}
+use Rattle.std.specs.List.{range_with_len, flat_map}
+use Rattle.answers.specs.Answers.{Answer}
+use Rattle.rational.specs.Rational.{ℚ, ◌≤ℚ◌, zero_ℚ, one_ℚ}
+use Rattle.rational.specs.Sum.{sum_to}
+use Rattle.frac128.specs.Steps.{unfit}
+use Rattle.frac128.specs.declared.steps.Op.TheVariants.{Add}
+use Rattle.game_theory.specs.Mixed.{Mixed}
+use Rattle.game_trees.specs.Trees.{Tree}
+use Rattle.game_trees.specs.OwnSets.{own_sets}
+use Rattle.pure_payoffs.specs.Steps.{Step, StepFits}
+use Rattle.behaviour_profile.specs.declared.entries.ProfileFault.{ProfileFault}
+use Rattle.behaviour_profile.specs.declared.entries.ProfileFault.TheVariants as faults
+
+-- ---- tests
+-- a test of an entry, of its addition to those before it in its group, or of a group's sum
+pub data Test : Type 0 where
+  IsNotNegative : (place : ℕ) → (entry : ℚ) → Test
+  CanBeAdded : (step : Step) → Test
+  SumsToOne : (group : ℕ) → (sum : ℚ) → Test
+
+-- a test is passed
+abbrev pub Passes : Test → Type 0
+Passes (IsNotNegative place entry) = zero_ℚ ≤ℚ entry
+Passes (CanBeAdded step) = StepFits step
+Passes (SumsToOne group sum) = sum ≡ one_ℚ
+
+-- what is wrong where it is not
+abbrev pub fault_of : Test → ProfileFault
+fault_of (IsNotNegative place entry) = faults.Negative place
+fault_of (CanBeAdded step) = faults.Unfit step
+fault_of (SumsToOne group sum) = faults.Sum group
+
+-- the entry at a place
+abbrev pub entry_at : List ℚ → ℕ → ℚ
+entry_at entries place = slice_index_or entries place zero_ℚ
+
+-- the tests of entry k of a group that stands from a place on: it is not negative, and it can be
+-- added to those before it
+abbrev pub entry_tests : List ℚ → ℕ → ℕ → List Test
+entry_tests entries place k =
+    let sum_before : ℚ = sum_to k (λ j. entry_at entries (place + j)) in
+    IsNotNegative (place + k) (entry_at entries (place + k))
+    ∷ CanBeAdded (unfit Add sum_before (entry_at entries (place + k)))
+    ∷ []
+
+-- the tests of a group whose n entries stand from a place on: those of each entry in order, and
+-- of the sum
+abbrev pub group_tests : List ℚ → ℕ → ℕ → ℕ → List Test
+group_tests entries place group n =
+    flat_map (entry_tests entries place) (range_with_len 0 n)
+    ++ SumsToOne group (sum_to n (λ j. entry_at entries (place + j))) ∷ []
+
+-- the tests of groups of these sizes, from a place and a group's number on
+abbrev pub tests_from : List ℚ → ℕ → ℕ → List ℕ → List Test
+tests_from entries place group [] = []
+tests_from entries place group (n ∷ sizes) =
+    group_tests entries place group n ++ tests_from entries (place + n) (suc group) sizes
+
+-- the first of these tests that is not passed
+pub record IsFirstFailed (tests : List Test) (test : Test) : Type 0 where
+  pub before : List Test
+  pub behind : List Test
+  pub is_there : tests ≡ before ++ test ∷ behind
+  pub earlier_pass : All Passes before
+  pub fails : Passes test → ⊥
+
+-- what is wrong at the first of these tests that is not passed
+pub record IsFirstFault (tests : List Test) (fault : ProfileFault) : Type 0 where
+  pub test : Test
+  pub is_first : IsFirstFailed tests test
+  pub fault_is : fault ≡ fault_of test
+
+-- ---- profiles
+-- The first thing that is wrong with entries in groups of these sizes: their count, and else the
+-- first test that is not passed.
+abbrev pub IsProfileFault : List ℕ → List ℚ → ProfileFault → Type 0
+IsProfileFault sizes entries fault =
+    ((length entries ≢ sum sizes) × (fault ≡ faults.Count))
+    ⊎ ((length entries ≡ sum sizes) × IsFirstFault (tests_from entries 0 0 sizes) fault)
+
+-- Entries in groups of these sizes, whose count is right and whose tests are all passed; or what
+-- is wrong first.
+abbrev pub profile_in : List ℕ → List ℚ → Answer ProfileFault (List ℚ)
+profile_in sizes entries (Ok tested) =
+    (length entries ≡ sum sizes) × All Passes (tests_from entries 0 0 sizes) × (tested ≡ entries)
+profile_in sizes entries (Err fault) = IsProfileFault sizes entries fault
+
+-- the mixed profile with these entries, where the players have so many strategies
+abbrev pub mixed_of : List ℕ → List ℚ → Mixed
+mixed_of sizes entries i s = entry_at entries (sum (take i sizes) + s)
+
+-- ---- trees
+-- how many actions each own set of player i has
+abbrev pub own_counts : Tree → ℕ → List ℕ
+own_counts t i = map t.actions (own_sets t i)
+
+-- how many actions each player's set has, player by player
+abbrev pub action_counts : Tree → List ℕ
+action_counts t = flat_map (own_counts t) (range_with_len 0 t.players)

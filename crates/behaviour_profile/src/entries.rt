@@ -1,0 +1,216 @@
+// Entries in groups, tested.
+ghost use Rattle.std.specs.Prelude.{
+  ◌≡◌,
+  ◌+◌,
+  ◌<◌,
+  ◌≤◌,
+  ◌↔◌,
+  ◌^◌,
+  ℕ,
+  All,
+  List,
+  length,
+  sum,
+  IfOk,
+  IfErr,
+  IsTrue,
+  MatchOption,
+  OnOk,
+};
+ghost use Rattle.answers.specs.Answers.{IsSingle};
+ghost use Rattle.rational.specs.Rational.{ℚ};
+ghost use Rattle.game_core.specs.TreeGame.{game_of_tree};
+ghost use Rattle.behaviour_profile.specs.EntryLaws.{
+  TestedEntriesAreBehaviours,
+  TestedEntriesAreProfiles,
+};
+ghost use Rattle.behaviour_profile.specs.EntryTests.{
+  IsFirstFault,
+  Passes,
+  action_counts,
+  group_tests,
+  own_counts,
+  profile_in,
+  tests_from,
+};
+
+use crate::Behaviour;
+use frac128::{Frac, Unfit};
+use game_core::Tree;
+use strategy_lists::own_sets_are_those_of_the_tree;
+use tree_parts::stands_for_game_tree;
+
+/// What is wrong with the entries of a profile. A group is one player's strategies, or the actions
+/// of one set; places and groups count from 0.
+#[derive(Clone, Copy, Debug, PartialEq, Eq)]
+pub enum ProfileFault {
+    /// There are too few entries, or too many.
+    Count,
+    /// The entry at a place is negative.
+    Negative { place: u32 },
+    /// The entries of a group do not sum to 1.
+    Sum { group: u32 },
+    /// An entry cannot be added to those before it in its group.
+    Unfit(Unfit),
+}
+
+// A place among the entries, and the group that begins there.
+#[derive(Clone, Copy)]
+struct Position {
+    place: u32,
+    group: u32,
+}
+
+/// Tests a group of so many entries, which stand from a place on: none is negative, each can be
+/// added to those before it, and their sum is 1. Takes no memory.
+///
+/// # Errors
+///
+/// What is wrong first: at an entry `Negative`, and else `Unfit`, and behind all entries `Sum`.
+pub fn test_group(entries: &[Frac], place: u32, group: u32, count: u32) -> Result<(), ProfileFault>
+    requires within { place + count ≤ length entries.now }
+    requires few { place + count < 2 ^ 32 }
+    ensures passed { OnOk result (All Passes (group_tests entries.now place group count)) }
+    ensures fault { IfErr result (IsFirstFault (group_tests entries.now place group count)) }
+{
+    let mut sum = Frac::zero();
+    for k in 0..count {
+        let entry = entries[(place + k) as usize];
+        if entry.signum() < 0 {
+            return Err(ProfileFault::Negative { place: place + k });
+        }
+        match sum.add(entry) {
+            Ok(more) => sum = more,
+            Err(unfit) => return Err(ProfileFault::Unfit(unfit)),
+        }
+    }
+    if sum == Frac::one() {
+        Ok(())
+    } else {
+        Err(ProfileFault::Sum { group })
+    }
+}
+
+// How many of these entries are left behind those of a player; nothing where the player's are more.
+fn left_by(tree: &Tree, player: u32, count: usize) -> Option<usize>
+    ensures { let own = sum (own_counts (game_of_tree tree.now) player) in
+        MatchOption result (count < own) (λ left. left + own ≡ count) }
+{
+    own_sets_are_those_of_the_tree();
+    let mut left = count;
+    let mut number = 0;
+    while let Some(set) = tree.own_sets(player, number) {
+        left = left.checked_sub(tree.sets()[set as usize].actions().len())?;
+        number += 1;
+    }
+    Some(left)
+}
+
+// Whether behaviour on a tree has so many entries.
+fn is_count(tree: &Tree, count: usize) -> bool
+    ensures { IsTrue result ↔ (count ≡ sum (action_counts (game_of_tree tree.now))) }
+{
+    let mut left = count;
+    for player in 0..tree.players().len() {
+        match left_by(tree, player as u32, left) {
+            Some(rest) => left = rest,
+            None => return false,
+        }
+    }
+    left == 0
+}
+
+// Tests the entries of a player, which stand from a place and a group on, and gives the position
+// behind them.
+fn test_player(
+    tree: &Tree,
+    player: u32,
+    entries: &[Frac],
+    place: u32,
+    group: u32,
+) -> Result<Position, ProfileFault>
+    requires within { place + sum (own_counts (game_of_tree tree.now) player) ≤ length entries.now }
+    requires few { place + sum (own_counts (game_of_tree tree.now) player) < 2 ^ 32 }
+    requires groups { group + length (own_counts (game_of_tree tree.now) player) < 2 ^ 32 }
+    ensures place { let own = own_counts (game_of_tree tree.now) player in
+        IfOk result (λ behind. behind.place ≡ place + sum own) }
+    ensures group { let own = own_counts (game_of_tree tree.now) player in
+        IfOk result (λ behind. behind.group ≡ group + length own) }
+    ensures passed { let own = own_counts (game_of_tree tree.now) player in
+        OnOk result (All Passes (tests_from entries.now place group own)) }
+    ensures fault { let own = own_counts (game_of_tree tree.now) player in
+        IfErr result (IsFirstFault (tests_from entries.now place group own)) }
+{
+    own_sets_are_those_of_the_tree();
+    let mut here = place;
+    let mut number = 0;
+    while let Some(set) = tree.own_sets(player, number) {
+        let count = tree.sets()[set as usize].actions().len() as u32;
+        match test_group(entries, here, group + number, count) {
+            Ok(()) => here += count,
+            Err(fault) => return Err(fault),
+        }
+        number += 1;
+    }
+    Ok(Position {
+        place: here,
+        group: group + number,
+    })
+}
+
+// Tests the entries of all players.
+fn test_players(tree: &Tree, entries: &[Frac]) -> Result<(), ProfileFault>
+    requires { length entries.now ≡ sum (action_counts (game_of_tree tree.now)) }
+    ensures passed { let counts = action_counts (game_of_tree tree.now) in
+        OnOk result (All Passes (tests_from entries.now 0 0 counts)) }
+    ensures fault { let counts = action_counts (game_of_tree tree.now) in
+        IfErr result (IsFirstFault (tests_from entries.now 0 0 counts)) }
+{
+    stands_for_game_tree(tree);
+    let mut position = Position { place: 0, group: 0 };
+    for player in 0..tree.players().len() {
+        let tested = test_player(tree, player as u32, entries, position.place, position.group);
+        match tested {
+            Ok(behind) => position = behind,
+            Err(fault) => return Err(fault),
+        }
+    }
+    Ok(())
+}
+
+impl Behaviour {
+    /// The behaviour on a tree with these entries: player by player, each player's own sets in
+    /// order, and the probability of each action in order. Takes no memory.
+    ///
+    /// # Errors
+    ///
+    /// What is wrong first. `Count` where the entries are not as many as the players' actions. Else
+    /// set by set and entry by entry `Negative`, or `Unfit` where it cannot be added to those before
+    /// it at its set, and behind each set's entries `Sum` where they do not sum to 1.
+    pub fn try_new(tree: &Tree, entries: Vec<Frac>) -> Result<Behaviour, ProfileFault>
+        ensures { profile_in (action_counts (game_of_tree tree.now)) entries.items result }
+    {
+        if !is_count(tree, entries.len()) {
+            return Err(ProfileFault::Count);
+        }
+        match test_players(tree, entries.as_slice()) {
+            Ok(()) => Ok(Behaviour { entries }),
+            Err(fault) => Err(fault),
+        }
+    }
+}
+
+/// Entries are all right in one way, or one thing is wrong with them first.
+pub fn profiles_are_single()
+    ensures { (sizes : List ℕ) (entries : List ℚ) → IsSingle (profile_in sizes entries) }
+{}
+
+/// Entries that are all right are those of a valid mixed profile.
+pub fn tested_entries_are_profiles()
+    ensures { TestedEntriesAreProfiles }
+{}
+
+/// Entries that are all right are those of valid behaviour on a tree.
+pub fn tested_entries_are_behaviours()
+    ensures { TestedEntriesAreBehaviours }
+{}

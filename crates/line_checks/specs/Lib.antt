@@ -1,0 +1,3 @@
+pub mod LineChecks
+pub mod Lines
+pub mod Texts

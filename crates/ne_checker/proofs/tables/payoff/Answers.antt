@@ -1,0 +1,73 @@
+use Rattle.std.proofs.Common.{ℕ, ◌≡◌, ◌<◌, ◌+◌, ◌∙◌, List, All, get_or, length, sym, ap, subst, add-one, arith}
+use Rattle.std.proofs.lemmas.List.{get_or_read}
+use Rattle.rational.specs.Rational.{◌+ℚ◌, ◌*ℚ◌, zero_ℚ}
+use Rattle.game_theory.specs.Mixed.{Mixed}
+use Rattle.game_core.specs.Table.{game_of, strategy_counts}
+use Rattle.pure_payoffs.specs.Steps.{Step, StepFits, IsFirstUnfit}
+use Rattle.pure_payoffs.proofs.FirstUnfits.{unfit_among}
+use Rattle.best_replies.specs.Strategies.{strategy_value}
+use Rattle.best_replies.proofs.Strategies.{payoff-strategies}
+use Rattle.behaviour_profile.specs.EntryTests.{mixed_of}
+use Rattle.ne_checker.specs.TableChecks.{payoff_below, strategy_steps, weighed_steps}
+use Rattle.ne_checker.proofs.TableParts.{entries-within, player-within}
+use Rattle.ne_checker.proofs.TableRuns.{fits-at, fits-next, steps_of, unfit-next}
+use Rattle.ne_checker.proofs.tables.payoff.Goals as goal
+use Rattle.ne_checker.proofs.tables.payoff.Goals.{In-loop-strategy, After-index-entries-first, In-Ok}
+
+place : (c : In-loop-strategy) → c.first_entry-first.result + c.loop-strategy.strategy < length c.args.mixed.now
+place c =
+    let within = entries-within c.args.table.now c.strategy_count-strategy-end.ensures.valid c.args.player c.requires.player in
+    omega (arith, within, c.first_entry-first.ensures, c.loop-strategy-test.true, c.strategy_count-strategy-end.ensures.count, c.requires.entries)
+
+-- the steps that add what one strategy is worth
+abbrev steps : (c : In-Ok) → ℕ → List Step
+steps c s =
+    weighed_steps (mixed_of (strategy_counts c.args.table.now) c.args.mixed.now c.args.player s) (strategy_value (game_of c.args.table.now) (mixed_of (strategy_counts c.args.table.now) c.args.mixed.now) c.args.player s)
+    (payoff_below (game_of c.args.table.now) (mixed_of (strategy_counts c.args.table.now) c.args.mixed.now) c.args.player s)
+
+entry : (c : In-Ok) → c.first_entry-first.result + c.loop-strategy.strategy < length c.args.mixed.now
+    → c.index-entries-first.result ≡ mixed_of (strategy_counts c.args.table.now) c.args.mixed.now c.args.player c.loop-strategy.strategy
+entry c within =
+    get_or_read c.args.mixed.now (c.first_entry-first.result + c.loop-strategy.strategy) c.index-entries-first.result within
+    (c.index-entries-first.is ∙ ap (λ v. get_or v (c.first_entry-first.result + c.loop-strategy.strategy) c.index-entries-first.result) c.entries.ensures) zero_ℚ
+    ∙ ap (λ x. get_or c.args.mixed.now (x + c.loop-strategy.strategy) zero_ℚ) c.first_entry-first.ensures
+
+step_is : (c : In-Ok) → c.first_entry-first.result + c.loop-strategy.strategy < length c.args.mixed.now → weighed_steps c.index-entries-first.result c.in-Ok.value c.loop-strategy.payoff ≡ steps c (0 + c.loop-strategy.strategy)
+step_is c within =
+    (λ j. weighed_steps (entry c within j) (c.in-Ok.ensures.0 j) (c.loop-strategy.invariant.payoff j)) ∙ ap (steps c) (let e : c.loop-strategy.strategy ≡ 0 + c.loop-strategy.strategy = omega arith in e)
+
+pub returns-in-Err : goal.returns-in-Err
+returns-in-Err c =
+    let g = game_of c.args.table.now in
+    let m = mixed_of (strategy_counts c.args.table.now) c.args.mixed.now in
+    absurd (unfit_among (strategy_steps g m c.args.player c.loop-strategy.strategy) c.in-Err.unfit c.in-Err.ensures
+    (fits-at (strategy_steps g m c.args.player) (get_or (strategy_counts c.args.table.now) c.args.player 0) c.loop-strategy.strategy (omega (arith, c.loop-strategy-test.true, c.strategy_count-strategy-end.ensures.count)) c.requires.fit))
+
+pub returns-in-Err-add_weighed : goal.returns-in-Err-add_weighed
+returns-in-Err-add_weighed c =
+    let a = (goal.at.returns-in-Err-add_weighed c).In-Ok in
+    let within = place (goal.at.returns-in-Err-add_weighed c).In-loop-strategy in
+    unfit-next (steps a) 0 c.loop-strategy.strategy (get_or (strategy_counts c.args.table.now) c.args.player 0) c.in-Err-add_weighed.unfit
+    (omega (arith, c.loop-strategy-test.true, c.strategy_count-strategy-end.ensures.count)) c.loop-strategy.invariant.fit
+    (subst (λ ss. IsFirstUnfit ss c.in-Err-add_weighed.unfit) (step_is a within) c.in-Err-add_weighed.ensures)
+
+pub loop-strategy-preserved : goal.loop-strategy-preserved
+loop-strategy-preserved c =
+    let a = (goal.at.loop-strategy-preserved c).In-Ok in
+    let within = place (goal.at.loop-strategy-preserved c).In-loop-strategy in
+    let g = game_of c.args.table.now in
+    let m : Mixed = mixed_of (strategy_counts c.args.table.now) c.args.mixed.now in
+    record {
+      payoff = c.in-Ok-add_weighed.ensures.0 ∙ (λ j. c.loop-strategy.invariant.payoff j +ℚ (entry a within j *ℚ c.in-Ok.ensures.0 j)) ∙ ap (payoff_below g m c.args.player) (sym (add-one c.loop-strategy.strategy));
+      fit = subst (λ n. All StepFits (steps_of (steps a) 0 n)) (sym (add-one c.loop-strategy.strategy))
+          (fits-next (steps a) 0 c.loop-strategy.strategy c.loop-strategy.invariant.fit (subst (All StepFits) (step_is a within) c.in-Ok-add_weighed.ensures.1));
+    }
+
+pub returns : goal.returns
+returns c =
+    let g = game_of c.args.table.now in
+    let m : Mixed = mixed_of (strategy_counts c.args.table.now) c.args.mixed.now in
+    let end : c.loop-strategy.strategy ≡ get_or (strategy_counts c.args.table.now) c.args.player 0 = omega (arith, c.loop-strategy-test.false, c.loop-strategy.auto.strategy-end, c.strategy_count-strategy-end.ensures.count) in (
+      c.loop-strategy.invariant.payoff ∙ ap (payoff_below g m c.args.player) end ∙ sym (payoff-strategies g m c.args.player (player-within c.args.table.now c.strategy_count-strategy-end.ensures.valid c.args.player c.requires.player)),
+      subst (λ n. All StepFits (steps_of (λ s. weighed_steps (m c.args.player s) (strategy_value g m c.args.player s) (payoff_below g m c.args.player s)) 0 n)) end c.loop-strategy.invariant.fit,
+    )

@@ -1,0 +1,5 @@
+use Rattle.ne_checker.proofs.TableSingle.{verdict_once}
+use Rattle.ne_checker.proofs.tables.table_verdicts_are_single.Goals as goal
+
+pub returns : goal.returns
+returns c = verdict_once

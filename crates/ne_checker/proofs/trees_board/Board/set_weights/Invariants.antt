@@ -1,0 +1,13 @@
+use Rattle.std.proofs.Common.{◌≡◌, All, length}
+use Rattle.std.specs.List.{flat_map, range_with_len}
+use Rattle.game_trees.specs.Behaviour.{Behaviour}
+use Rattle.pure_payoffs.specs.Steps.{StepFits}
+use Rattle.ne_checker.specs.TreeBoards.{Reads, game_of}
+use Rattle.ne_checker.specs.TreeSteps.{weight_step}
+use Rattle.ne_checker.specs.TreeWeights.{AreWeights}
+use Rattle.ne_checker.proofs.trees_board.Board.set_weights.Given as goal
+
+-- the nodes so far have their weights, and their steps fit
+abbrev pub invariant-loop-node : goal.invariant-loop-node
+invariant-loop-node l = (length l.weights ≡ length l.initial.weights) × ((b : Behaviour) → Reads l.self b →
+    AreWeights (game_of l.self) b l.player l.weights l.node × All StepFits (flat_map (weight_step (game_of l.self) b l.player) (range_with_len 0 l.node)))

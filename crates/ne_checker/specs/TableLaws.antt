@@ -1,0 +1,36 @@
+-- What the verdicts of tables say.
+use Rattle.std.specs.Prelude.{ℕ, ◌<◌, ◌≡◌, ◌↔◌, List, All, length, slice_index}
+use Rattle.rational.specs.Rational.{ℚ, ◌≤ℚ◌}
+use Rattle.game_theory.specs.Profiles.{Game}
+use Rattle.game_theory.specs.Mixed.{Mixed, IsValid, payoff as payoff_of, reply as with_reply}
+use Rattle.game_theory.specs.Equilibrium.{IsEquilibrium}
+use Rattle.game_core.specs.Table.{GameTable}
+use Rattle.pure_payoffs.specs.Steps.{StepFits}
+use Rattle.best_replies.specs.Strategies.{HasBetterStrategy}
+use Rattle.ne_checker.specs.TableChecks.{IsTableVerdict, player_steps, table_verdict}
+use Rattle.ne_checker.specs.declared.tables.TableVerdict.{TableVerdict}
+use Rattle.ne_checker.specs.declared.tables.TableVerdict.TheVariants.{Equilibrium, Better}
+
+-- a table and entries have at most one verdict
+abbrev pub TableVerdictsAreSingle : Type 0
+TableVerdictsAreSingle =
+    (table : GameTable) (list : List ℚ) (one other : TableVerdict) → table_verdict table list one
+    → table_verdict table list other → one ≡ other
+
+-- A valid profile with the first verdict is an equilibrium. With the second a player has a better
+-- strategy, no earlier one has, and no strategy of that player pays more than the best. Where all
+-- steps fit, the first verdict comes exactly at equilibria.
+pub record TableVerdictsTellEquilibria : Type 0 where
+  pub equilibrium : (g : Game) (m : Mixed) → IsValid g.strategies m → IsTableVerdict g m Equilibrium
+      → IsEquilibrium g m
+  pub better : (g : Game) (m : Mixed) (player reply : ℕ) (payoff best : ℚ)
+      → IsTableVerdict g m (Better player payoff best reply) → HasBetterStrategy g m player
+  pub first : (g : Game) (m : Mixed) (player reply i : ℕ) (payoff best : ℚ)
+      → IsTableVerdict g m (Better player payoff best reply) → i < player
+      → ¬ (HasBetterStrategy g m i)
+  pub most : (g : Game) (m : Mixed) (player reply s : ℕ) (payoff best : ℚ)
+      → IsTableVerdict g m (Better player payoff best reply) → s < slice_index g.strategies player
+      → payoff_of g (with_reply m player s) player ≤ℚ best
+  pub exactly : (g : Game) (m : Mixed) → IsValid g.strategies m
+      → ((i : ℕ) → i < length g.strategies → All StepFits (player_steps g m i))
+      → IsTableVerdict g m Equilibrium ↔ IsEquilibrium g m

@@ -1,0 +1,150 @@
+-- The steps in which it is checked that no reply of a player pays more than a behaviour on a tree.
+use Rattle.std.specs.Prelude.{ℕ, zero, suc, ◌&&◌, nat_lt, Bool, true, false, if◌then◌else◌, List, [], ◌∷◌, ◌++◌, length, slice_index, reverse, filter, Option, Some, None}
+use Rattle.std.specs.List.{flat_map, range_with_len}
+use Rattle.rational.specs.Rational.{ℚ, ◌*ℚ◌, zero_ℚ}
+use Rattle.rational.specs.Sum.{sum_to}
+use Rattle.frac128.specs.Steps.{unfit}
+use Rattle.frac128.specs.declared.steps.Op.TheVariants.{Add, Mul}
+use Rattle.game_trees.specs.Trees.{Tree}
+use Rattle.game_trees.specs.Behaviour.{Behaviour, action_probability, branch_probability, is_own, value}
+use Rattle.game_trees.specs.Children.{child}
+use Rattle.game_trees.specs.OwnSets.{own_sets}
+use Rattle.pure_payoffs.specs.Steps.{Step, chance_steps}
+use Rattle.best_replies.specs.Reaching.{weight}
+use Rattle.best_replies.specs.Replies.{reply_value, is_member}
+
+-- ---- what the behaviour pays
+-- the steps at a node by its set: none at an end, and else those of the sum over the actions, and
+-- last the addition of this to what the outcome pays
+abbrev pub now_node_steps : Tree → Behaviour → ℕ → (ℕ → List Step) → ℕ → Option ℕ → List Step
+now_node_steps t b i later k None = []
+now_node_steps t b i later k (Some s) =
+    chance_steps (t.actions s) (action_probability t b s) (λ a. value t b i (child t k a))
+    (λ a. later (child t k a))
+    ++ unfit Add (t.pays k i)
+    (sum_to (t.actions s) (λ a. action_probability t b s a *ℚ value t b i (child t k a))) ∷ []
+
+-- the steps of node k's value, where what lies more than d edges below has none
+abbrev pub now_steps_to : Tree → Behaviour → ℕ → ℕ → ℕ → List Step
+now_steps_to t b i zero k = []
+now_steps_to t b i (suc d) k = now_node_steps t b i (now_steps_to t b i d) k (t.set k)
+
+-- the steps of node k's value
+abbrev pub now_steps_at : Tree → Behaviour → ℕ → ℕ → List Step
+now_steps_at t b i k = now_steps_to t b i t.size k
+
+-- the steps of what comes behind a node of set s, and its value
+abbrev pub now_steps_behind : Tree → Behaviour → ℕ → ℕ → ℕ → List Step
+now_steps_behind t b i k s =
+    chance_steps (t.actions s) (action_probability t b s) (λ a. value t b i (child t k a))
+    (λ a. now_steps_at t b i (child t k a))
+
+abbrev pub now_value_behind : Tree → Behaviour → ℕ → ℕ → ℕ → ℚ
+now_value_behind t b i k s =
+    sum_to (t.actions s) (λ a. action_probability t b s a *ℚ value t b i (child t k a))
+
+-- ---- weights
+-- whether a node's weight has a factor more than its parent's: no player i's own action leads there
+abbrev pub has_factor : Tree → ℕ → Option ℕ → Bool
+has_factor t i None = false
+has_factor t i (Some s) = if is_own t i s then false else true
+
+-- the step of node c's weight: the product of the parent's weight and the action's probability
+abbrev pub weight_step : Tree → Behaviour → ℕ → ℕ → List Step
+weight_step t b i c =
+    if nat_lt 0 c && has_factor t i (t.set (t.parent c))
+    then unfit Mul (weight t b i (t.parent c)) (branch_probability t b c) ∷ [] else []
+
+-- the steps of all weights, in the order of the nodes
+abbrev pub weight_steps : Tree → Behaviour → ℕ → List Step
+weight_steps t b i = flat_map (weight_step t b i) (range_with_len 0 t.size)
+
+-- ---- reply values
+-- a sum from 0 over the first n numbers in order, each added as soon as it is computed
+abbrev pub sum_steps : ℕ → (ℕ → ℚ) → (ℕ → List Step) → List Step
+sum_steps zero v later = []
+sum_steps (suc n) v later = sum_steps n v later ++ later n ++ unfit Add (sum_to n v) (v n) ∷ []
+
+-- the reply value of the node to which an action leads
+abbrev pub child_value : Tree → Behaviour → ℕ → (ℕ → ℕ) → ℕ → ℕ → ℚ
+child_value t b i choice k a = reply_value t b i choice (child t k a)
+
+-- The steps of the sum of the reply values behind a node, by its set. At an own node only the
+-- chosen child counts, and its reply value was computed when the set was decided.
+abbrev pub behind_steps : Tree → Behaviour → ℕ → (ℕ → ℕ) → (ℕ → List Step) → ℕ → Option ℕ
+    → List Step
+behind_steps t b i choice later k None = []
+behind_steps t b i choice later k (Some s) =
+    if is_own t i s then sum_steps 1 (λ _. child_value t b i choice k (choice s)) (λ _. [])
+    else sum_steps (t.actions s) (child_value t b i choice k) (λ a. later (child t k a))
+
+-- that sum
+abbrev pub behind_sum : Tree → Behaviour → ℕ → (ℕ → ℕ) → ℕ → Option ℕ → ℚ
+behind_sum t b i choice k None = zero_ℚ
+behind_sum t b i choice k (Some s) =
+    if is_own t i s then sum_to 1 (λ _. child_value t b i choice k (choice s))
+    else sum_to (t.actions s) (child_value t b i choice k)
+
+-- a node's own two steps: what its outcome pays by its weight, and the addition of this to the sum
+abbrev pub own_steps : Tree → Behaviour → ℕ → ℕ → ℚ → List Step
+own_steps t b i k sum =
+    unfit Mul (weight t b i k) (t.pays k i) ∷ unfit Add (weight t b i k *ℚ t.pays k i) sum ∷ []
+
+-- the steps of node k's reply value, where what lies more than d edges below has none
+abbrev pub reply_steps_to : Tree → Behaviour → ℕ → (ℕ → ℕ) → ℕ → ℕ → List Step
+reply_steps_to t b i choice zero k = []
+reply_steps_to t b i choice (suc d) k =
+    behind_steps t b i choice (reply_steps_to t b i choice d) k (t.set k)
+    ++ own_steps t b i k (behind_sum t b i choice k (t.set k))
+
+-- the steps of node k's reply value
+abbrev pub reply_steps : Tree → Behaviour → ℕ → (ℕ → ℕ) → ℕ → List Step
+reply_steps t b i choice k = reply_steps_to t b i choice t.size k
+
+-- the steps behind a node, and the sum
+abbrev pub behind_steps_at : Tree → Behaviour → ℕ → (ℕ → ℕ) → ℕ → List Step
+behind_steps_at t b i choice k = behind_steps t b i choice (reply_steps t b i choice) k (t.set k)
+
+abbrev pub behind_sum_at : Tree → Behaviour → ℕ → (ℕ → ℕ) → ℕ → ℚ
+behind_sum_at t b i choice k = behind_sum t b i choice k (t.set k)
+
+-- the steps of the sum of the reply values of all children of a node of set s, and the sum
+abbrev pub children_steps : Tree → Behaviour → ℕ → (ℕ → ℕ) → ℕ → ℕ → List Step
+children_steps t b i choice k s =
+    sum_steps (t.actions s) (child_value t b i choice k)
+    (λ a. reply_steps t b i choice (child t k a))
+
+abbrev pub children_sum : Tree → Behaviour → ℕ → (ℕ → ℕ) → ℕ → ℕ → ℚ
+children_sum t b i choice k s = sum_to (t.actions s) (child_value t b i choice k)
+
+-- ---- decisions
+-- the nodes of set s in order
+abbrev pub members : Tree → ℕ → List ℕ
+members t s = filter (is_member t s) (range_with_len 0 t.size)
+
+-- the node to which action a of the set's node j leads
+abbrev pub member_child : Tree → ℕ → ℕ → ℕ → ℕ
+member_child t s a j = child t (slice_index (members t s) j) a
+
+-- the steps of what action a at set s is worth: the sum over the set's nodes of the reply values
+-- behind that action
+abbrev pub action_steps : Tree → Behaviour → ℕ → (ℕ → ℕ) → ℕ → ℕ → List Step
+action_steps t b i choice s a =
+    sum_steps (length (members t s)) (λ j. reply_value t b i choice (member_child t s a j))
+    (λ j. reply_steps t b i choice (member_child t s a j))
+
+-- the steps of a decision at set s: those of each action in order
+abbrev pub decision_steps : Tree → Behaviour → ℕ → (ℕ → ℕ) → ℕ → List Step
+decision_steps t b i choice s =
+    flat_map (action_steps t b i choice s) (range_with_len 0 (t.actions s))
+
+-- the steps of all decisions, from the last own set to the first
+abbrev pub decisions : Tree → Behaviour → ℕ → (ℕ → ℕ) → List Step
+decisions t b i choice = flat_map (decision_steps t b i choice) (reverse (own_sets t i))
+
+-- ---- all steps of player i: the payoff, the weights, the own sets from the last to the first, and
+-- what the reply pays
+abbrev pub player_steps : Tree → Behaviour → ℕ → (ℕ → ℕ) → List Step
+player_steps t b i choice =
+    now_steps_at t b i 0 ++ weight_steps t b i ++ decisions t b i choice
+    ++ reply_steps t b i choice 0

@@ -1,0 +1,65 @@
+-- What a verdict on behaviour on a tree says, each law carried by the contract of a function of
+-- this crate.
+use Rattle.std.specs.Prelude.{ℕ, ◌<◌, ◌≡◌, ◌↔◌, List, length, map, All}
+use Rattle.rational.specs.Rational.{ℚ, ◌≤ℚ◌}
+use Rattle.game_trees.specs.Trees.{Tree}
+use Rattle.game_trees.specs.Behaviour.{Behaviour, IsValid, IsChoice, payoff, reply}
+use Rattle.game_trees.specs.Equilibrium.{IsEquilibrium}
+use Rattle.game_trees.specs.OwnSets.{own_sets}
+use Rattle.game_trees.specs.Recall.{HasPerfectRecall}
+use Rattle.game_core.specs.Tree.{GameTree, IsTree}
+use Rattle.game_core.specs.TreeGame.{game_of_tree}
+use Rattle.best_replies.specs.Replies.{AreBestChoices, HasBetterReply}
+use Rattle.pure_payoffs.specs.Steps.{StepFits}
+use Rattle.ne_checker.specs.declared.trees.TreeVerdict.{TreeVerdict}
+use Rattle.ne_checker.specs.declared.trees.TreeVerdict.TheVariants.{Equilibrium, Better}
+use Rattle.ne_checker.specs.TreeSteps.{player_steps}
+use Rattle.ne_checker.specs.TreeVerdicts.{AreEntries, IsTreeVerdict, tree_verdict}
+
+-- all players of a tree recall
+abbrev pub AllRecall : GameTree → Type 0
+AllRecall tree = (i : ℕ) → i < length tree.players → HasPerfectRecall (game_of_tree tree) i
+
+-- a tree and entries have one verdict and one reply
+abbrev pub TreeVerdictsAreSingle : Type 0
+TreeVerdictsAreSingle =
+    (tree : GameTree) (entries : List ℚ) (verdict other : TreeVerdict) (reply reply' : List ℕ)
+    → IsTree tree → AllRecall tree → AreEntries tree entries
+    → tree_verdict tree entries verdict reply → tree_verdict tree entries other reply'
+    → (verdict ≡ other) × (reply ≡ reply')
+
+-- the steps of all players fit, for each player's best choices
+abbrev pub AllFit : Tree → Behaviour → Type 0
+AllFit t b =
+    (i : ℕ) (choice : ℕ → ℕ) → i < t.players → AreBestChoices t b i choice
+    → All StepFits (player_steps t b i choice)
+
+-- A player has a better reply, no earlier player has one, and the reply's actions pay the most that
+-- any pure reply pays, which is this.
+pub record TellsBetterReply (t : Tree) (b : Behaviour) (player : ℕ) (now best : ℚ)
+    (actions : List ℕ) : Type 0 where
+  pub has_better : HasBetterReply t b player
+  pub earlier_have_none : (j : ℕ) → j < player → HasBetterReply t b j → ⊥
+  pub now_is : now ≡ payoff t b player
+  pub choice : ℕ → ℕ
+  pub is_choice : IsChoice t player choice
+  pub actions_are : actions ≡ map choice (own_sets t player)
+  pub pays_best : payoff t (reply t b player choice) player ≡ best
+  pub none_pays_more : (other : ℕ → ℕ) → IsChoice t player other
+      → payoff t (reply t b player other) player ≤ℚ best
+
+-- A verdict of equilibrium on valid behaviour is right, and so is a better reply; where all steps
+-- fit, the verdict of equilibrium comes exactly at equilibria.
+pub record TreeVerdictsTellEquilibria : Type 0 where
+  pub equilibrium : (tree : GameTree) (b : Behaviour) (actions : List ℕ) → IsTree tree
+      → AllRecall tree → IsValid (game_of_tree tree) b
+      → IsTreeVerdict (game_of_tree tree) b Equilibrium actions
+      → IsEquilibrium (game_of_tree tree) b
+  pub better : (tree : GameTree) (b : Behaviour) (player : ℕ) (now best : ℚ)
+      (actions : List ℕ) → IsTree tree → AllRecall tree
+      → IsTreeVerdict (game_of_tree tree) b (Better player now best) actions
+      → TellsBetterReply (game_of_tree tree) b player now best actions
+  pub exactly : (tree : GameTree) (b : Behaviour) (verdict : TreeVerdict)
+      (actions : List ℕ) → IsTree tree → AllRecall tree → IsValid (game_of_tree tree) b
+      → AllFit (game_of_tree tree) b → IsTreeVerdict (game_of_tree tree) b verdict actions
+      → IsEquilibrium (game_of_tree tree) b ↔ (verdict ≡ Equilibrium)

@@ -1,0 +1,109 @@
+// Mixed profiles of tables, by their entries.
+ghost use Rattle.std.specs.Prelude.{◌≡◌, ◌<◌, ◌^◌, All, length, sum, slice_index, IfErr, OnOk};
+ghost use Rattle.game_core.specs.Table.{IsTable, strategy_counts};
+ghost use Rattle.behaviour_profile.specs.EntryTests.{
+  IsFirstFault,
+  Passes,
+  profile_in,
+  tests_from,
+};
+
+use behaviour_profile::{ProfileFault, test_group};
+use frac128::Frac;
+use game_core::Table;
+use std::marker::Model;
+
+/// A mixed profile of a table. Contracts see it as the list of its entries: player by player, the
+/// probability of each strategy in order.
+#[derive(Debug, Drop)]
+pub struct Mixed {
+    entries: Vec<Frac>,
+}
+
+impl Model for Mixed {
+    ghost use Rattle.std.specs.Prelude.{List};
+    ghost use Rattle.std.specs.Coded.{coded_list};
+    ghost use Rattle.rational.specs.Rational.{ℚ};
+    ghost use Rattle.rational.proofs.Codes.{code_ℚ};
+
+    ghost Value = { List ℚ };
+
+    ghost coded = { coded_list code_ℚ };
+
+    ghost view = { λ m. m.entries.items };
+}
+
+/// How many strategies a player has.
+pub(crate) fn strategy_count(table: &Table, player: usize) -> usize
+    requires { player < length table.now.players }
+    ensures count { result ≡ slice_index (strategy_counts table.now) player }
+    ensures valid { IsTable table.now }
+{
+    table.strategies(player).len()
+}
+
+// How many entries a mixed profile has.
+fn entry_count(table: &Table) -> usize
+    ensures value { result ≡ sum (strategy_counts table.now) }
+    ensures few { result < 2 ^ 32 }
+{
+    let mut count = 0;
+    for player in 0..table.players().len() {
+        count += strategy_count(table, player);
+    }
+    count
+}
+
+// Tests the entries of all players.
+fn test_players(table: &Table, entries: &[Frac]) -> Result<(), ProfileFault>
+    requires entries { length entries.now ≡ sum (strategy_counts table.now) }
+    requires few { length entries.now < 2 ^ 32 }
+    ensures passed { let counts = strategy_counts table.now in
+        OnOk result (All Passes (tests_from entries.now 0 0 counts)) }
+    ensures fault { let counts = strategy_counts table.now in
+        IfErr result (IsFirstFault (tests_from entries.now 0 0 counts)) }
+{
+    let mut place = 0;
+    for player in 0..table.players().len() {
+        let count = strategy_count(table, player) as u32;
+        match test_group(entries, place, player as u32, count) {
+            Ok(()) => place += count,
+            Err(fault) => return Err(fault),
+        }
+    }
+    Ok(())
+}
+
+impl Mixed {
+    ghost use Rattle.std.specs.Prelude.{◌≡◌};
+    ghost use Rattle.game_core.specs.Table.{strategy_counts};
+    ghost use Rattle.behaviour_profile.specs.EntryTests.{profile_in};
+
+    /// The mixed profile of a table with these entries: player by player, the probability of each
+    /// strategy in order. Takes no memory.
+    ///
+    /// # Errors
+    ///
+    /// What is wrong first. `Count` where the entries are not as many as the players' strategies.
+    /// Else player by player and entry by entry `Negative`, or `Unfit` where it cannot be added to
+    /// the player's entries before it, and behind each player's entries `Sum` where they do not sum
+    /// to 1.
+    pub fn try_new(table: &Table, entries: Vec<Frac>) -> Result<Mixed, ProfileFault>
+        ensures { profile_in (strategy_counts table.now) entries.items result }
+    {
+        if entries.len() != entry_count(table) {
+            return Err(ProfileFault::Count);
+        }
+        match test_players(table, entries.as_slice()) {
+            Ok(()) => Ok(Mixed { entries }),
+            Err(fault) => Err(fault),
+        }
+    }
+
+    /// All entries.
+    pub fn entries(&self) -> &[Frac]
+        ensures { result.now ≡ self.now }
+    {
+        self.entries.as_slice()
+    }
+}
