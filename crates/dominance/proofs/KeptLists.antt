@@ -6,8 +6,9 @@ use Rattle.std.proofs.lemmas.Bool.{cases_lt, cases_eq}
 use Rattle.std.proofs.lemmas.List.{get_or_default, get_or_push, get_or_append_left, same_lists, length_push}
 use Rattle.std.proofs.lemmas.List.Elements.{Contains-get_or, Contains-append_left, Contains-push, Contains-push_cases}
 use Rattle.std.proofs.lemmas.List.Kept.{AllPairs-from_increasing}
+use Rattle.game_theory.specs.Profiles.{Game}
 use Rattle.extreme_equilibria.specs.TwoPlayers.{other}
-use Rattle.dominance.specs.Elimination.{IsKeptAfter, IsKept, AreListed, AreKeptAfter, AreKept}
+use Rattle.dominance.specs.Elimination.{IsDominated, IsKeptAfter, IsKept, AreListed, AreKeptAfter, AreKept}
 use Rattle.dominance.specs.Laws.{RemovesNone, RoundsByLists, LastListsAreKept, KeptStrategiesExist, OneListOfKeptStrategies}
 use Rattle.dominance.proofs.Rounds.{kept-within, IsDominated-more, last_round, search_below, is_kept_or_not}
 
@@ -83,6 +84,30 @@ one_list g i xs ys a b =
     let up = no_greater ys xs b.ascending a.ascending ba k (omega (arith, l)) in
     get_or_default xs k d 0 l ∙ (omega (arith, down, up)) ∙ get_or_default ys k 0 d (omega (arith, l)))
 
+-- ---- more that pass
+module _ (P Q : ℕ → Type 0) (xs : List ℕ) (h : AreListed P xs) (more : (s : ℕ) → P s → Q s) where
+  -- the same strategies pass
+  pub listed-same : ((s : ℕ) → Q s → P s) → AreListed Q xs
+  listed-same back = record { ascending = h.ascending; sound = λ s c. more s (h.sound s c); complete = λ s q. h.complete s (back s q) }
+
+  -- one more does, after them
+  pub listed-push : (x : ℕ) → ((s : ℕ) → P s → s < x) → Q x → ((s : ℕ) → Q s → P s ⊎ (x ≡ s)) → AreListed Q (xs ++ x ∷ [])
+  listed-push x after here back =
+      record {
+        ascending = up;
+        sound = λ s c. elim (Contains-push_cases xs x s c) [ inl before ↦ more s (h.sound s before) | inr last ↦ subst Q last here ];
+        complete = λ s q. elim (back s q) [ inl before ↦ Contains-append_left xs (x ∷ []) s (h.complete s before) | inr last ↦ subst (Contains (xs ++ x ∷ [])) last (Contains-push xs x) ];
+      }
+    where
+      up : IsStrictlyIncreasing (xs ++ x ∷ [])
+      up k l = elim (cases_lt (k + 1) (length xs)) [
+        | inl inside ↦ omega (arith, h.ascending k inside, get_or_append_left xs (x ∷ []) 0 k (omega arith), get_or_append_left xs (x ∷ []) 0 (k + 1) inside)
+        | inr last ↦ let long = length_push xs x in
+            let before : k < length xs = omega arith in
+            let below = after (get_or xs k 0) (h.sound (get_or xs k 0) (Contains-get_or xs k 0 before)) in
+            omega (arith, below, get_or_append_left xs (x ∷ []) 0 k before, get_or_push xs x 0 (k + 1) (omega (arith, long)))
+      ]
+
 -- ---- some list
 -- the numbers below n that pass
 abbrev PassBelow : (ℕ → Type 0) → ℕ → ℕ → Type 0
@@ -91,20 +116,8 @@ PassBelow P n s = (s < n) × P s
 -- one more that passes
 push_passing : (P : ℕ → Type 0) (n : ℕ) (xs : List ℕ) → P n → AreListed (PassBelow P n) xs → AreListed (PassBelow P (suc n)) (xs ++ n ∷ [])
 push_passing P n xs p h =
-    record {
-      ascending = up;
-      sound = λ s c. elim (Contains-push_cases xs n s c) [ inl before ↦ let g = h.sound s before in (omega (arith, g.0), g.1) | inr last ↦ (omega arith, subst P last p) ];
-      complete = λ s q. elim (cases_eq n s) [ inl same ↦ subst (Contains (xs ++ n ∷ [])) same (Contains-push xs n) | inr apart ↦ Contains-append_left xs (n ∷ []) s (h.complete s (omega (arith, q.0), q.1)) ];
-    }
-  where
-    up : IsStrictlyIncreasing (xs ++ n ∷ [])
-    up k l = elim (cases_lt (k + 1) (length xs)) [
-      | inl inside ↦ omega (arith, h.ascending k inside, get_or_append_left xs (n ∷ []) 0 k (omega arith), get_or_append_left xs (n ∷ []) 0 (k + 1) inside)
-      | inr last ↦ let long = length_push xs n in
-          let before : k < length xs = omega arith in
-          let below = (h.sound (get_or xs k 0) (Contains-get_or xs k 0 before)).0 in
-          omega (arith, below, get_or_append_left xs (n ∷ []) 0 k before, get_or_push xs n 0 (k + 1) (omega (arith, long)))
-    ]
+    listed-push (PassBelow P n) (PassBelow P (suc n)) xs h (λ s q. (omega (arith, q.0), q.1)) n (λ s q. q.0) (omega arith, p)
+    (λ s q. elim (cases_eq n s) [ inl same ↦ inr same | inr apart ↦ inl (omega (arith, q.0), q.1) ])
 
 -- one more that does not
 skip_passing : (P : ℕ → Type 0) (n : ℕ) (xs : List ℕ) → (P n → ⊥) → AreListed (PassBelow P n) xs → AreListed (PassBelow P (suc n)) xs
@@ -147,3 +160,23 @@ last-lists g n first second a b stays_first stays_second = (all 0 first (omega a
 
     all : (i : ℕ) (xs : List ℕ) → i < 2 → AreKeptAfter g n i xs → AreKept g i xs
     all i xs l h = record { ascending = h.ascending; sound = λ s c. last_round g n none i s l (h.sound s c); complete = λ s k. h.complete s (k n) }
+
+-- ---- a round's lists
+-- a round's lists
+pub next-round : (g : Game) (n i : ℕ) (own others next : List ℕ) → AreKeptAfter g n i own → AreKeptAfter g n (other i) others
+    → AreListed (λ s. Contains own s × (IsDominated g i (Contains own) (Contains others) s → ⊥)) next → AreKeptAfter g (suc n) i next
+next-round g n i own others next a b h =
+    listed-same _ (IsKeptAfter g (suc n) i) next h (λ s. (rounds-by_lists g n i own others s a b).1) (λ s. (rounds-by_lists g n i own others s a b).0)
+
+-- an ascending list of numbers below n has no more than n
+pub ascending-short : (xs : List ℕ) (n : ℕ) → IsStrictlyIncreasing xs → ((j : ℕ) → j < length xs → get_or xs j 0 < n) → length xs ≤ n
+ascending-short xs n up within = go (length xs) refl
+  where
+    -- no number is below its place
+    reaches : (k : ℕ) → k < length xs → k ≤ get_or xs k 0
+    reaches zero l = omega arith
+    reaches (suc k) l = omega (arith, reaches k (omega arith), AllPairs-from_increasing xs up k (suc k) 0 (omega arith) l)
+
+    go : (m : ℕ) → length xs ≡ m → length xs ≤ n
+    go zero e = omega arith
+    go (suc m) e = let l : m < length xs = omega arith in omega (arith, reaches m l, within m l)

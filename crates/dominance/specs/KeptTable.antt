@@ -1,6 +1,6 @@
 -- The game that is left when strategies are removed.
-use Rattle.std.specs.Prelude.{ℕ, ◌<◌, ◌≡◌, List, [], ◌∷◌, length, map, slice_index, slice_index_or}
-use Rattle.rational.specs.Rational.{zero_ℚ}
+use Rattle.std.specs.Prelude.{ℕ, ◌<◌, ◌≡◌, List, [], ◌∷◌, length, map, slice_index, slice_index_or, Contains}
+use Rattle.rational.specs.Rational.{ℚ, zero_ℚ}
 use Rattle.game_theory.specs.Profiles.{Game, profile_count, number_of, profile_at}
 use Rattle.game_theory.specs.Mixed.{Mixed}
 use Rattle.dominance.specs.Elimination.{IsKept, AreKept}
@@ -32,6 +32,13 @@ abbrev pub IsZeroAtRemoved : Game → Mixed → Type 0
 IsZeroAtRemoved g m =
     (i s : ℕ) → i < length g.strategies → s < slice_index g.strategies i → ¬ IsKept g i s
     → m i s ≡ zero_ℚ
+
+-- the entries of a point at a player's kept strategies among n, and 0 at the others
+pub record IsSpreadPoint (n : ℕ) (places : List ℕ) (point wide : List ℚ) : Type 0 where
+  pub size : length wide ≡ n
+  pub at_places : (k : ℕ) → k < length places
+      → slice_index_or wide (slice_index places k) zero_ℚ ≡ slice_index_or point k zero_ℚ
+  pub elsewhere : (s : ℕ) → (Contains places s → ⊥) → slice_index_or wide s zero_ℚ ≡ zero_ℚ
 
 -- two games with the same numbers of strategies and the same payoffs at each profile
 pub record HaveSameCells (g h : Game) : Type 0 where

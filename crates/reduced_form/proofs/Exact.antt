@@ -94,7 +94,7 @@ reason-no_form t strategies (stops.Range k i s) h a few fit =
 
 -- ---- forms
 -- payoffs are told by profile and player
-payoffs-same : (players profiles : ℕ) (one other : List ℚ) → length one ≡ players * profiles → length other ≡ players * profiles
+pub payoffs-same : (players profiles : ℕ) (one other : List ℚ) → length one ≡ players * profiles → length other ≡ players * profiles
     → ((i k : ℕ) → i < players → k < profiles → get_or one (k * players + i) zero_ℚ ≡ get_or other (k * players + i) zero_ℚ) → one ≡ other
 payoffs-same players profiles one other long short same = ext_get_or zero_ℚ one other (long ∙ sym short) (λ j l.
     let inside : j < players * profiles = omega (arith, long) in
@@ -107,7 +107,7 @@ payoffs-same players profiles one other long short same = ext_get_or zero_ℚ on
 abbrev table_of : List ℕ → List (List ℕ) → List (List (List ℕ)) → List ℚ → GameTable
 table_of title players strategies payoffs = record { title = title; players = players; strategies = strategies; payoffs = payoffs }
 
-tables-same : (one other : GameTable) → one.title ≡ other.title → one.players ≡ other.players → one.strategies ≡ other.strategies → one.payoffs ≡ other.payoffs → one ≡ other
+pub tables-same : (one other : GameTable) → one.title ≡ other.title → one.players ≡ other.players → one.strategies ≡ other.strategies → one.payoffs ≡ other.payoffs → one ≡ other
 tables-same one other a b c d =
     ap (λ x. table_of x one.players one.strategies one.payoffs) a ∙ ap (λ x. table_of other.title x one.strategies one.payoffs) b
     ∙ ap (λ x. table_of other.title other.players x one.payoffs) c ∙ ap (table_of other.title other.players other.strategies) d

@@ -1,6 +1,11 @@
 mod ActionTexts
-mod SetCounts
-pub mod FormCounts
 mod CellRows
-pub mod FormLaws
+pub mod Eliminations
 pub mod Exact
+pub mod FormCounts
+pub mod FormLaws
+pub mod KeptCells
+pub mod KeptForms
+pub mod KeptSingles
+mod SetCounts
+pub mod TableSizes

@@ -1,5 +1,6 @@
 pub mod Cells
 pub mod Counts
+pub mod Kept
 pub mod Limits
 pub mod ReducedForm
 pub mod Stops

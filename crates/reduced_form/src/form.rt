@@ -12,11 +12,11 @@ ghost use Rattle.reduced_form.specs.Stops.{form_of};
 
 use crate::cells::cells;
 use crate::limits::{check_choices, count_all};
-use crate::names::names_of_all;
+use crate::names::{copied_names, names_of_all};
 use crate::stop::ReduceStop;
 use decision_walk::Decision;
 use frac128::{Frac, Memory};
-use game_core::{Name, Table, Tree, copied, trees_are_game_trees};
+use game_core::{Table, Tree, copied, trees_are_game_trees};
 use std::alloc::Global;
 use std::marker::Model;
 use strategy_lists::{decisions_of_all, list_strategies, set_places};
@@ -77,17 +77,6 @@ fn strategies_of_all(
     Ok(strategies)
 }
 
-// The players' names.
-fn player_names(alloc: Global, tree: &Tree) -> Result<Vec<Name>, Memory>
-    ensures { IfOk result (λ names. names.items ≡ tree.now.players) }
-{
-    let mut names = Vec::with_capacity(alloc, tree.players().len())?;
-    for name in tree.players() {
-        names.push(copied(alloc, name)?)?;
-    }
-    Ok(names)
-}
-
 // The table of these strategies with these payoffs.
 fn table_of(
     alloc: Global,
@@ -99,7 +88,7 @@ fn table_of(
     ensures { IfOk result (λ table. table ≡ record { title = tree.now.title; players = tree.now.players; strategies = map (map strategy_name) (map (λ v. map (λ w. w.items) v.items) strategies.now); payoffs = payoffs.items }) }
 {
     let title = copied(alloc, tree.title())?;
-    let players = player_names(alloc, tree)?;
+    let players = copied_names(alloc, tree.players())?;
     let names = names_of_all(alloc, strategies)?;
     Ok(Table::new(title, players, names, payoffs))
 }

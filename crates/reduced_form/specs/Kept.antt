@@ -1,0 +1,73 @@
+-- The table over the strategies that are kept where strictly dominated ones are removed, and why
+-- there is none. Source: Luce and Raiffa 1957. Players, strategies and profiles count from 0.
+use Rattle.std.specs.Prelude.{ℕ, ◌+◌, ◌<◌, ◌≤◌, ◌≡◌, ◌≢◌, List, [], ◌∷◌, length, map, get_or, Ok, Err, refl}
+use Rattle.std.specs.Coded.{Coded, code_by, coded×, coded_ℕ, coded_list}
+use Rattle.answers.specs.Answers.{Answer}
+use Rattle.dominance.specs.KeptTable.{AreKeptLists, kept_table, HaveSameCells}
+use Rattle.game_core.specs.Table.{GameTable, IsTable, code_of_table, game_of, strategy_counts}
+use Rattle.game_core.specs.declared.too_large.TooLarge.{TooLarge}
+use Rattle.game_core.specs.declared.too_large.What.TheVariants as what
+use Rattle.reduced_form.specs.declared.kept_stop.KeptStop.{KeptStop}
+use Rattle.reduced_form.specs.declared.kept_stop.KeptStop.TheVariants as stops
+
+-- the strategies of both players that are kept, and the table over them
+pub record KeptForm : Type 0 where
+  pub first : List ℕ
+  pub second : List ℕ
+  pub table : GameTable
+
+-- kept strategies are stored with their table
+abbrev pub code_of_kept : Coded KeptForm
+code_of_kept =
+    code_by (List ℕ × (List ℕ × GameTable))
+    (coded× (coded_list coded_ℕ) (coded× (coded_list coded_ℕ) code_of_table))
+    (λ k. (k.first, (k.second, k.table)))
+    (λ p. record { first = p.0; second = p.1.0; table = p.1.1 }) (λ _. refl)
+
+-- both players' kept strategies
+abbrev pub kept_lists : KeptForm → List (List ℕ)
+kept_lists kept = kept.first ∷ kept.second ∷ []
+
+-- the players' names at these places
+abbrev pub names_at : List (List (List ℕ)) → List (List ℕ) → List (List (List ℕ))
+names_at (names ∷ players) (places ∷ lists) =
+    map (λ place. get_or names place []) places ∷ names_at players lists
+names_at _ _ = []
+
+-- The table over the kept strategies: they have their names, and each profile pays what it pays in
+-- the whole table.
+pub record IsKeptForm (table : GameTable) (kept : KeptForm) : Type 0 where
+  pub are_kept : AreKeptLists (game_of table) (kept_lists kept)
+  pub is_table : IsTable kept.table
+  pub title_is : kept.table.title ≡ table.title
+  pub players_are : kept.table.players ≡ table.players
+  pub names_are : kept.table.strategies ≡ names_at table.strategies (kept_lists kept)
+  pub same_cells : HaveSameCells (game_of kept.table) (kept_table (game_of table) (kept_lists kept))
+
+-- the most strategies of both players together
+abbrev pub most_strategies : ℕ
+most_strategies = 512
+
+-- two players have few enough strategies together
+pub record HasFewStrategies (table : GameTable) : Type 0 where
+  pub m : ℕ
+  pub n : ℕ
+  pub strategies : strategy_counts table ≡ m ∷ n ∷ []
+  pub few : m + n ≤ most_strategies
+
+-- two players have too many
+pub record HasTooManyStrategies (table : GameTable) (limit : TooLarge) : Type 0 where
+  pub m : ℕ
+  pub n : ℕ
+  pub strategies : strategy_counts table ≡ m ∷ n ∷ []
+  pub many : most_strategies < m + n
+  pub is_limit : limit ≡ record { what = what.Labels; count = m + n; limit = most_strategies }
+
+-- The kept strategies of a table of two players with few enough strategies, or why they are not
+-- looked for.
+abbrev pub kept_of : GameTable → Answer KeptStop KeptForm
+kept_of table (Ok kept) = HasFewStrategies table × IsKeptForm table kept
+kept_of table (Err (stops.NotTwoPlayers count)) =
+    (length table.players ≢ 2) × (count ≡ length table.players)
+kept_of table (Err (stops.TooLarge limit)) = HasTooManyStrategies table limit
+kept_of table (Err stops.Memory) = ⊥
