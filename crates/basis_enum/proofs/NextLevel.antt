@@ -6,16 +6,14 @@ use Rattle.std.proofs.lemmas.List.{length-append, length-map, get_or_append_left
 use Rattle.frac128.specs.declared.steps.Unfit.{Unfit}
 use Rattle.lex_tableau.specs.Rows.{Numbers}
 use Rattle.whole_rows.specs.Steps.{AllFit, IsFirstUnfit}
-use Rattle.lex_tableau.specs.Pivots.{steps_of_pivot}
-use Rattle.lex_tableau.specs.PivotStops.{IsPivotStop}
-use Rattle.lex_tableau.specs.declared.tableau.PivotStop.{PivotStop}
-use Rattle.lex_tableau.specs.declared.tableau.PivotStop.TheVariants as P
 use Rattle.basis_levels.specs.Levels as L
 use Rattle.basis_levels.specs.Levels.{Levels, no_tableau, IsChild, AreNextMoves, IsNextLevel, count, most, steps_of}
 use Rattle.basis_levels.specs.Ends.{IsFirstUnfitMove}
+use Rattle.basis_enum.specs.declared.children.ChildStop.{ChildStop}
+use Rattle.basis_enum.specs.declared.children.ChildStop.TheVariants as stops
 use Rattle.basis_enum.specs.declared.moves.Move.{Move}
 use Rattle.basis_enum.specs.Next.{no_move, move_of}
-use Rattle.basis_enum.specs.Children.{AreChildren}
+use Rattle.basis_enum.specs.Children.{AreChildren, IsChildStop, IsStopAt}
 
 pub children_start : (level : List Numbers) (moves : List Move) → AreChildren level moves 0 []
 children_start level moves = record { within = omega arith; size = refl; each = λ i h. absurd (omega arith) }
@@ -35,7 +33,7 @@ children_push level moves n next t w c h =
 moved_at : (moves : List Move) (i : ℕ) → get_or (map move_of moves) i L.no_move ≡ move_of (get_or moves i no_move)
 moved_at moves i = get_or-map move_of moves i no_move
 
-pub first_unfit : (level : List Numbers) (moves : List Move) (n : ℕ) (next : List Numbers) (unfit : Unfit) → n < length moves → AreChildren level moves n next → IsFirstUnfit (steps_of level (move_of (get_or moves n no_move))) unfit → IsFirstUnfitMove level (map move_of moves) n unfit
+first_unfit : (level : List Numbers) (moves : List Move) (n : ℕ) (next : List Numbers) (unfit : Unfit) → n < length moves → AreChildren level moves n next → IsFirstUnfit (steps_of level (move_of (get_or moves n no_move))) unfit → IsFirstUnfitMove level (map move_of moves) n unfit
 first_unfit level moves n next unfit w c h =
     record {
       within = (let e : length (map move_of moves) ≡ length moves = length-map moves move_of in omega arith);
@@ -43,9 +41,10 @@ first_unfit level moves n next unfit w c h =
       here = subst (λ m. IsFirstUnfit (steps_of level m) unfit) (sym (moved_at moves n)) h;
     }
 
--- a stop with a step names the first that does not fit
-pub unfit_of : (t : Numbers) (r c : ℕ) (stop : PivotStop) (unfit : Unfit) → stop ≡ P.Unfit unfit → IsPivotStop t r c stop → IsFirstUnfit (steps_of_pivot t r c) unfit
-unfit_of t r c stop unfit e p = subst (IsPivotStop t r c) e p
+-- the stop of a pivot whose children before it are there
+pub stop_at : (level : List Numbers) (moves : List Move) (n : ℕ) (next : List Numbers) (stop : ChildStop) → n < length moves → AreChildren level moves n next → IsStopAt level moves n stop → IsChildStop level moves stop
+stop_at level moves n next (stops.Unfit place unfit) w c h = subst (λ p. IsFirstUnfitMove level (map move_of moves) p unfit) (sym h.0) (first_unfit level moves n next unfit w c h.1)
+stop_at level moves n next stops.Memory w c h = tt
 
 -- the children of all next pivots are the next level
 pub next_level : (p : Levels) (moves : List Move) (next : List Numbers) → AreNextMoves p (map move_of moves) → 0 < length moves → count p (map move_of moves) ≤ most → AreChildren p.level moves (length moves) next → IsNextLevel p (record { before = p.before ++ p.level; level = next })

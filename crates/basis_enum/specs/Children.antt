@@ -2,7 +2,8 @@
 use Rattle.std.specs.Prelude.{ℕ, ◌<◌, ◌≤◌, ◌≡◌, List, length, get_or, map}
 use Rattle.std.specs.List.{Contains}
 use Rattle.lex_tableau.specs.Rows.{Numbers}
-use Rattle.basis_levels.specs.Levels.{no_tableau, IsMove, IsChild}
+use Rattle.whole_rows.specs.Steps.{IsFirstUnfit}
+use Rattle.basis_levels.specs.Levels.{no_tableau, IsMove, IsChild, steps_of}
 use Rattle.basis_levels.specs.Ends.{IsFirstUnfitMove}
 use Rattle.basis_enum.specs.declared.moves.Move.{Move}
 use Rattle.basis_enum.specs.declared.children.ChildStop.{ChildStop}
@@ -20,6 +21,12 @@ pub record AreChildren (level : List Numbers) (moves : List Move) (n : ℕ) (nex
   pub size : length next ≡ n
   pub each : (i : ℕ) → i < n
       → IsChild level (move_of (get_or moves i no_move)) (get_or next i no_tableau)
+
+-- the first step of this pivot that does not fit, or no memory, of which nothing is said
+abbrev pub IsStopAt : List Numbers → List Move → ℕ → ChildStop → Type 0
+IsStopAt level moves n (Unfit place unfit) =
+    (place ≡ n) × IsFirstUnfit (steps_of level (move_of (get_or moves n no_move))) unfit
+IsStopAt level moves n Memory = Unit {0}
 
 -- the first pivot with a step that does not fit, or no memory, of which nothing is said
 abbrev pub IsChildStop : List Numbers → List Move → ChildStop → Type 0

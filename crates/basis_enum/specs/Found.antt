@@ -44,6 +44,12 @@ pub record AreFound (t : Numbers) (place : ℕ) (known : List ℕ) (bound : ℕ)
   pub all : (column r : ℕ) → column < bound → IsLexRowOf t column r
       → ¬ (Contains known (neighbour_of t r column)) → HasFound t place known moves column
 
+-- those of a tableau of the level, in all its columns
+abbrev pub AreFoundAt : List Numbers → ℕ → List ℕ → List Move → Type 0
+AreFoundAt level place known moves =
+    AreFound (get_or level place no_tableau) place known
+    (length (get_or level place no_tableau).nonbasics) moves
+
 -- new has these pivots behind the old ones
 pub record AddsFound (t : Numbers) (place : ℕ) (known : List ℕ) (bound : ℕ) (old new : List Move)
     : Type 0 where

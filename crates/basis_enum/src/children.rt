@@ -1,20 +1,55 @@
 // The tableaux of the next level.
-ghost use Rattle.std.specs.Prelude.{◌≡◌, ◌<◌, ◌≤◌, ◌+◌, ℕ, length, IfOk, IfErr, OnOk};
+ghost use Rattle.std.specs.Prelude.{◌≡◌, ◌<◌, ◌≤◌, ◌+◌, ◌^◌, ℕ, length, get_or, IfOk, IfErr, OnOk};
 ghost use Rattle.lex_tableau.specs.PivotStops.{IsPivotStop};
 ghost use Rattle.basis_levels.specs.Levels.{IsChild, IsMove, parent_of};
-ghost use Rattle.basis_enum.specs.Children.{AreChildren, AreMoves, IsChildStop};
+ghost use Rattle.basis_enum.specs.Children.{AreChildren, AreMoves, IsChildStop, IsStopAt};
 ghost use Rattle.basis_enum.specs.Found.{AreReady};
-ghost use Rattle.basis_enum.specs.Next.{move_of};
+ghost use Rattle.basis_enum.specs.Next.{move_of, no_move};
 
 use crate::moves::Move;
+use crate::work::sharers;
+use claims::{Claims, shared_map};
 use frac128::Unfit;
 use lex_tableau::{PivotStop, Steps, Tableau};
+use memory::Memory;
 use outside::Gate;
-use std::alloc::Global;
-use std::sync::ledger::Ledger;
+use std::alloc::{AllocFailed, Global};
+use std::marker::{Brand, Sync};
+use std::sync::ledger::{Blank, Ledger};
+use std::thread::Threads;
 
-// The tableau of a new basis: one piece of work.
-pub(crate) fn child<L: Ledger>(
+// Why the next level has no tableaux: the place of a pivot with its first step that does not fit,
+// or no memory.
+#[derive(Debug, Drop)]
+pub(crate) enum ChildStop {
+    Unfit { place: usize, unfit: Unfit },
+    Memory,
+}
+
+impl From<Memory> for ChildStop {
+    ghost use Rattle.std.specs.Prelude.{◌≡◌};
+    ghost use Rattle.basis_enum.specs.declared.children.ChildStop.TheVariants as stops;
+
+    ghost from_gives = { λ _ e. e ≡ stops.Memory };
+
+    fn from(_memory: Memory) -> ChildStop {
+        ChildStop::Memory
+    }
+}
+
+impl<T: Drop> From<AllocFailed<T>> for ChildStop {
+    ghost use Rattle.std.specs.Prelude.{◌≡◌};
+    ghost use Rattle.basis_enum.specs.declared.children.ChildStop.TheVariants as stops;
+
+    ghost from_gives = { λ _ e. e ≡ stops.Memory };
+
+    fn from(_refused: AllocFailed<T>) -> ChildStop {
+        ChildStop::Memory
+    }
+}
+
+// The tableau after a pivot.
+fn pivoted<L: Ledger>(
     alloc: Global,
     level: &[Tableau],
     next: &Move,
@@ -30,45 +65,66 @@ pub(crate) fn child<L: Ledger>(
     level[next.parent as usize].pivoted(alloc, next.row as usize, next.column as usize, steps)
 }
 
-// Why the next level has no tableaux: the place of a pivot with its first step that does not fit,
-// or no memory.
-#[derive(Debug, Drop)]
-pub(crate) enum ChildStop {
-    Unfit { place: usize, unfit: Unfit },
-    Memory,
-}
-
-// Adds the next tableau.
-#[tactic(auto, using(crate::proofs::NextLevel::children_push, crate::proofs::NextLevel::first_unfit))]
-fn add_child<L: Ledger>(
+// The tableau of a new basis.
+fn child<L: Ledger>(
     alloc: Global,
     level: &[Tableau],
     moves: &[Move],
     place: usize,
-    next: &mut Vec<Tableau>,
     steps: &mut Steps<L>,
-) -> Result<(), ChildStop>
+) -> Result<Tableau, ChildStop>
     requires level { AreReady level.now }
     requires moves { AreMoves level.now moves.now }
     requires place_in { place < length moves.now }
-    requires children { AreChildren level.now moves.now place next.old.items }
-    ensures children { OnOk result (AreChildren level.now moves.now (place + 1) next.new.items) }
-    ensures stop { IfErr result (IsChildStop level.now moves.now) }
+    ensures child { IfOk result (IsChild level.now (move_of (get_or moves.now place no_move))) }
+    ensures stop { IfErr result (IsStopAt level.now moves.now place) }
     ensures counted { steps.new ≡ steps.old + 1 }
 {
-    match child(alloc, level, &moves[place], steps) {
-        Ok(tableau) => match next.push(tableau) {
-            Ok(()) => Ok(()),
-            Err(_) => Err(ChildStop::Memory),
-        },
+    match pivoted(alloc, level, &moves[place], steps) {
+        Ok(tableau) => Ok(tableau),
         Err(PivotStop::Unfit(unfit)) => Err(ChildStop::Unfit { place, unfit }),
         Err(PivotStop::Memory) => Err(ChildStop::Memory),
     }
 }
 
-// The tableaux of the next level, piece by piece.
-#[tactic(auto, using(crate::proofs::NextLevel::children_start))]
-pub(crate) fn children<G: Gate, L: Ledger>(
+// The tableau of a new basis, with a count of its own.
+fn counted_alone<L: Ledger>(
+    alloc: Global,
+    level: &[Tableau],
+    moves: &[Move],
+    place: usize,
+    blank: Blank,
+) -> Result<Tableau, ChildStop>
+    requires level { AreReady level.now }
+    requires moves { AreMoves level.now moves.now }
+    requires place_in { place < length moves.now }
+    requires blank { (L.parts ≡ blank.parts) × (L.name ≡ blank.name) × (0 < blank.parts) }
+    ensures child { IfOk result (IsChild level.now (move_of (get_or moves.now place no_move))) }
+    ensures stop { IfErr result (IsStopAt level.now moves.now place) }
+{
+    let mut steps = Steps::<L>::new(blank);
+    child(alloc, level, moves, place, &mut steps)
+}
+
+// The tableau of a new basis, whose step is not counted: one piece of work.
+fn piece(
+    alloc: Global,
+    level: &[Tableau],
+    moves: &[Move],
+    place: usize,
+) -> Result<Tableau, ChildStop>
+    requires level { AreReady level.now }
+    requires moves { AreMoves level.now moves.now }
+    requires place_in { place < length moves.now }
+    ensures child { IfOk result (IsChild level.now (move_of (get_or moves.now place no_move))) }
+    ensures stop { IfErr result (IsStopAt level.now moves.now place) }
+{
+    counted_alone::<Brand>(alloc, level, moves, place, Blank::new(1))
+}
+
+// The tableaux of the next level, piece by piece on this thread.
+#[tactic(auto, using(crate::proofs::NextLevel::children_start, crate::proofs::NextLevel::children_push, crate::proofs::NextLevel::stop_at))]
+fn make_children<G: Gate, L: Ledger>(
     alloc: Global,
     level: &[Tableau],
     moves: &[Move],
@@ -86,7 +142,81 @@ pub(crate) fn children<G: Gate, L: Ledger>(
     let mut next = Vec::new(alloc);
     for place in 0..moves.len() {
         gate.pass(place);
-        add_child(alloc, level, moves, place, &mut next, steps)?;
+        next.push(child(alloc, level, moves, place, steps)?)?;
     }
     Ok(next)
+}
+
+// The tableaux of the next level, whose pieces so many workers share.
+#[tactic(auto, using(crate::proofs::NextLevel::children_start, crate::proofs::NextLevel::children_push, crate::proofs::NextLevel::stop_at))]
+fn share_children<R: Threads + Sync, G: Gate, L: Ledger>(
+    rt: &R,
+    alloc: Global,
+    level: &[Tableau],
+    moves: &[Move],
+    workers: u32,
+    gate: &G,
+    steps: &mut Steps<L>,
+) -> Result<Vec<Tableau>, ChildStop>
+    requires level { AreReady level.now }
+    requires moves { AreMoves level.now moves.now }
+    requires few { length moves.now < 2 ^ 32 }
+    requires workers { (1 ≤ workers) × (workers ≤ 64) }
+    ensures children { IfOk result
+        (λ v. AreChildren level.now moves.now (length moves.now) v.items) }
+    ensures stop { IfErr result (IsChildStop level.now moves.now) }
+    ensures counted { OnOk result (steps.new ≡ steps.old + length moves.now) }
+    ensures bounded { steps.new ≤ steps.old + length moves.now }
+{
+    let (claims, mut pass) = Claims::new(alloc)?;
+    let work = |place: usize| -> Result<Tableau, ChildStop>
+        requires level { AreReady level.now }
+        requires moves { AreMoves level.now moves.now }
+        requires place_in { place < length moves.now }
+        ensures child { IfOk result
+            (IsChild level.entry.now (move_of (get_or moves.entry.now place no_move))) }
+        ensures stop { IfErr result (IsStopAt level.entry.now moves.entry.now place) }
+    { piece(alloc, level, moves, place) };
+    let pieces = shared_map(
+        rt,
+        alloc,
+        &claims,
+        &mut pass,
+        moves.len(),
+        workers,
+        gate,
+        &work,
+    )?;
+    let mut next = Vec::new(alloc);
+    for tableau in pieces {
+        steps.tick();
+        next.push(tableau?)?;
+    }
+    Ok(next)
+}
+
+// The tableaux of the next level, by so many workers.
+pub(crate) fn children<R: Threads + Sync, G: Gate, L: Ledger>(
+    rt: &R,
+    alloc: Global,
+    level: &[Tableau],
+    moves: &[Move],
+    workers: u32,
+    gate: &G,
+    steps: &mut Steps<L>,
+) -> Result<Vec<Tableau>, ChildStop>
+    requires level { AreReady level.now }
+    requires moves { AreMoves level.now moves.now }
+    requires few { length moves.now < 2 ^ 32 }
+    requires workers { (1 ≤ workers) × (workers ≤ 64) }
+    ensures children { IfOk result
+        (λ v. AreChildren level.now moves.now (length moves.now) v.items) }
+    ensures stop { IfErr result (IsChildStop level.now moves.now) }
+    ensures counted { OnOk result (steps.new ≡ steps.old + length moves.now) }
+    ensures bounded { steps.new ≤ steps.old + length moves.now }
+{
+    match sharers(moves.len(), workers) {
+        1 => make_children(alloc, level, moves, gate, steps),
+        sharers => share_children(rt, alloc, level, moves, sharers, gate, steps),
+    }
 }

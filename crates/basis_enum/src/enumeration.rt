@@ -13,12 +13,16 @@ use crate::walk::reach;
 use lex_tableau::{Steps, System};
 use outside::Gate;
 use std::alloc::Global;
+use std::marker::Sync;
 use std::sync::ledger::Ledger;
+use std::thread::Threads;
 
 /// The vertices of a system whose rows are all rated, whose variables are the numbers from 1 to at
 /// most 128, and whose right sides are not negative: its extreme points, but for the one in which
-/// all nonbasic variables are zero. Each is there once, in ascending order of the masks. The gate
-/// is passed before each piece of work. Each pivot counts one step.
+/// all nonbasic variables are zero. Each is there once, in ascending order of the masks. So many
+/// workers share the pieces of work of a level that has many, each in a thread of its own where one
+/// can be made, and the answer is the same for any number of them. The gate is passed before each
+/// piece. Each pivot counts one step.
 ///
 /// # Errors
 ///
@@ -26,19 +30,22 @@ use std::sync::ledger::Ledger;
 /// level by level, up to the first level after which it stops: `TooLarge` exactly where with the
 /// next level there are more than 20,000 bases, and else `Range` exactly where a pivot to the next
 /// level does not fit: the first, in the order of the bases to which they lead. Or no memory.
-pub fn enumerate<G: Gate, L: Ledger>(
+pub fn enumerate<R: Threads + Sync, G: Gate, L: Ledger>(
+    rt: &R,
     alloc: Global,
     system: &System,
+    workers: u32,
     gate: &G,
     steps: &mut Steps<L>,
 ) -> Result<Vertices, EnumStop>
-    requires { IsEnumerable system.now }
+    requires enumerable { IsEnumerable system.now }
+    requires workers { (1 ≤ workers) × (workers ≤ 64) }
     ensures vertices { Gives stops.Memory (vertices_in system.now) (map_ok result list_of) }
     ensures counted { IfOk result (λ v. steps.new + 1 ≡ steps.old + v.bases) }
     ensures few { IfOk result (λ v. v.bases ≤ 20000) }
     ensures bounded { steps.new ≤ steps.old + 19999 }
 {
-    match reach(alloc, system, gate, steps) {
+    match reach(rt, alloc, system, workers, gate, steps) {
         Ok(walk) => Ok(Vertices {
             bases: walk.known.len() as u64,
             list: in_order(walk.vertices),

@@ -15,6 +15,7 @@ mod moves;
 mod stop;
 mod vertex;
 mod walk;
+mod work;
 
 pub use enumeration::enumerate;
 pub use stop::{Basis, EnumStop};

@@ -5,15 +5,19 @@ ghost use Rattle.std.specs.Ordering.{nat_cmp};
 ghost use Rattle.lex_tableau.specs.Rows.{IsTableau};
 ghost use Rattle.basis_levels.specs.Bases.{HaveDigits, basis_of, neighbour_of};
 ghost use Rattle.basis_levels.specs.Levels.{no_tableau};
-ghost use Rattle.basis_enum.specs.Found.{AddsFound, AddsFoundAt, AreFoundIn, HasNone, IsFound, IsLevelOf, IsWhole};
+ghost use Rattle.basis_enum.specs.Found.{AddsFound, AddsFoundAt, AreFoundAt, AreFoundIn, HasNone, IsFound, IsLevelOf, IsWhole};
 ghost use Rattle.basis_enum.specs.Next.{AreFirsts, AreNewMoves, AreSmall, IsNextOf, LeadsAgain, LeadsFurther, rank, rank_of, target_of};
 
 use crate::bases::{exchanged, is_known};
+use crate::work::sharers;
+use claims::{Claims, shared_map};
 use lex_tableau::Tableau;
 use memory::Memory;
 use outside::Gate;
 use std::alloc::Global;
 use std::cmp::Ordering;
+use std::marker::Sync;
+use std::thread::Threads;
 
 // A pivot on a lexicographic row: the basis to which it leads, the place of its tableau in the
 // level, the variable that enters, the row and the column.
@@ -95,9 +99,9 @@ fn add_moves(
     Ok(())
 }
 
-// Adds the pivots from a tableau of the level to new bases: one piece of work.
+// Adds the pivots from a tableau of the level to new bases.
 #[tactic(auto, using(crate::proofs::LevelMoves::basis_at))]
-fn piece(
+fn add_moves_at(
     level: &[Tableau],
     bases: &[u128],
     known: &[u128],
@@ -113,7 +117,25 @@ fn piece(
     add_moves(&level[place], place as u32, bases[place], known, found)
 }
 
-// The pivots from the level to new bases, piece by piece.
+// The pivots from a tableau of the level to new bases: one piece of work.
+fn piece(
+    alloc: Global,
+    level: &[Tableau],
+    bases: &[u128],
+    known: &[u128],
+    place: usize,
+) -> Result<Vec<Move>, Memory>
+    requires level { IsLevelOf level.now bases.now }
+    requires known { IsStrictlyIncreasing known.now }
+    requires place_in { place < length level.now }
+    ensures { IfOk result (λ v. AreFoundAt level.now place known.now v.items) }
+{
+    let mut found = Vec::new(alloc);
+    add_moves_at(level, bases, known, place, &mut found)?;
+    Ok(found)
+}
+
+// The pivots from the level to new bases, piece by piece on this thread.
 #[tactic(auto, using(crate::proofs::LevelMoves::found_in_start, crate::proofs::LevelMoves::found_in_next))]
 fn find_moves<G: Gate>(
     alloc: Global,
@@ -129,7 +151,47 @@ fn find_moves<G: Gate>(
     let mut found = Vec::new(alloc);
     for place in 0..level.len() {
         gate.pass(place);
-        piece(level, bases, known, place, &mut found)?;
+        add_moves_at(level, bases, known, place, &mut found)?;
+    }
+    Ok(found)
+}
+
+// The pivots from the level to new bases, whose pieces so many workers share.
+#[tactic(auto, using(crate::proofs::LevelMoves::found_in_start, crate::proofs::LevelMoves::found_in_more))]
+fn share_moves<R: Threads + Sync, G: Gate>(
+    rt: &R,
+    alloc: Global,
+    level: &[Tableau],
+    bases: &[u128],
+    known: &[u128],
+    workers: u32,
+    gate: &G,
+) -> Result<Vec<Move>, Memory>
+    requires level { IsLevelOf level.now bases.now }
+    requires known { IsStrictlyIncreasing known.now }
+    requires workers { (1 ≤ workers) × (workers ≤ 64) }
+    ensures { IfOk result (λ v. AreFoundIn level.now known.now (length level.now) v.items) }
+{
+    let (claims, mut pass) = Claims::new(alloc)?;
+    let work = |place: usize| -> Result<Vec<Move>, Memory>
+        requires level { IsLevelOf level.now bases.now }
+        requires known { IsStrictlyIncreasing known.now }
+        requires place_in { place < length level.now }
+        ensures { IfOk result (λ v. AreFoundAt level.entry.now place known.entry.now v.items) }
+    { piece(alloc, level, bases, known, place) };
+    let pieces = shared_map(
+        rt,
+        alloc,
+        &claims,
+        &mut pass,
+        level.len(),
+        workers,
+        gate,
+        &work,
+    )?;
+    let mut found = Vec::new(alloc);
+    for moves in pieces {
+        found.append(&mut moves?)?;
     }
     Ok(found)
 }
@@ -222,20 +284,47 @@ fn firsts(alloc: Global, found: &[Move]) -> Result<Vec<Move>, Memory>
     Ok(next)
 }
 
-// The pivots to the next level: one to each new basis, in ascending order.
-#[tactic(auto, using(crate::proofs::LevelMoves::found_small, crate::proofs::LevelMoves::new_moves_are))]
-pub(crate) fn new_moves<G: Gate>(
+// The pivots from the level to new bases, by so many workers.
+fn found_moves<R: Threads + Sync, G: Gate>(
+    rt: &R,
     alloc: Global,
     level: &[Tableau],
     bases: &[u128],
     known: &[u128],
+    workers: u32,
     gate: &G,
 ) -> Result<Vec<Move>, Memory>
     requires level { IsLevelOf level.now bases.now }
     requires known { IsStrictlyIncreasing known.now }
+    requires workers { (1 ≤ workers) × (workers ≤ 64) }
+    ensures { IfOk result (λ v. AreFoundIn level.now known.now (length level.now) v.items) }
+{
+    match sharers(level.len(), workers) {
+        1 => find_moves(alloc, level, bases, known, gate),
+        sharers => share_moves(rt, alloc, level, bases, known, sharers, gate),
+    }
+}
+
+// The pivots to the next level: one to each new basis, in ascending order.
+#[tactic(auto, using(crate::proofs::LevelMoves::found_small, crate::proofs::LevelMoves::new_moves_are))]
+pub(crate) fn new_moves<R: Threads + Sync, G: Gate>(
+    rt: &R,
+    alloc: Global,
+    level: &[Tableau],
+    bases: &[u128],
+    known: &[u128],
+    workers: u32,
+    gate: &G,
+) -> Result<Vec<Move>, Memory>
+    requires level { IsLevelOf level.now bases.now }
+    requires known { IsStrictlyIncreasing known.now }
+    requires workers { (1 ≤ workers) × (workers ≤ 64) }
     ensures { IfOk result (λ v. AreNewMoves level.now known.now v.items) }
 {
-    next_moves(alloc, find_moves(alloc, level, bases, known, gate)?)
+    next_moves(
+        alloc,
+        found_moves(rt, alloc, level, bases, known, workers, gate)?,
+    )
 }
 
 // The bases to which pivots lead.

@@ -1,5 +1,5 @@
 // The enumeration on its way, level after level.
-ghost use Rattle.std.specs.Prelude.{◌≡◌, ◌<◌, ◌≤◌, ◌+◌, [], length, IfErr, IfOk, OnOk};
+ghost use Rattle.std.specs.Prelude.{◌≡◌, ◌<◌, ◌≤◌, ◌+◌, ◌^◌, [], length, IfErr, IfOk, OnOk};
 ghost use Rattle.std.specs.List.{Contains};
 ghost use Rattle.lex_tableau.specs.Starts.{IsSystem};
 ghost use Rattle.basis_levels.specs.Ends.{IsAscendingListOf};
@@ -22,7 +22,9 @@ use lex_tableau::{StartStop, Steps, System, Tableau};
 use memory::Memory;
 use outside::Gate;
 use std::alloc::Global;
+use std::marker::Sync;
 use std::sync::ledger::Ledger;
+use std::thread::Threads;
 
 // How many bases may be reached.
 const MOST_BASES: usize = 20_000;
@@ -116,24 +118,28 @@ fn refusal(
 }
 
 // The tableaux of the level after this one.
-fn next_level<G: Gate, L: Ledger>(
+fn next_level<R: Threads + Sync, G: Gate, L: Ledger>(
+    rt: &R,
     alloc: Global,
     level: &[Tableau],
     moves: &[Move],
     number: u32,
+    workers: u32,
     gate: &G,
     steps: &mut Steps<L>,
 ) -> Result<Vec<Tableau>, EnumStop>
     requires level { AreReady level.now }
     requires moves { AreMoves level.now moves.now }
     requires entering { HaveEntering level.now moves.now }
+    requires few { length moves.now < 2 ^ 32 }
+    requires workers { (1 ≤ workers) × (workers ≤ 64) }
     ensures children { IfOk result
         (λ v. AreChildren level.now moves.now (length moves.now) v.items) }
     ensures stop { IfErr result (IsMoveStop level.now moves.now number) }
     ensures counted { OnOk result (steps.new ≡ steps.old + length moves.now) }
     ensures bounded { steps.new ≤ steps.old + length moves.now }
 {
-    match children(alloc, level, moves, gate, steps) {
+    match children(rt, alloc, level, moves, workers, gate, steps) {
         Ok(next) => Ok(next),
         Err(stop) => Err(refusal(alloc, level, moves, number, stop)),
     }
@@ -175,12 +181,14 @@ fn note_level(
 }
 
 // Goes on to the next level.
-fn advance<G: Gate, L: Ledger>(
+fn advance<R: Threads + Sync, G: Gate, L: Ledger>(
+    rt: &R,
     alloc: Global,
     system: &System,
     walk: &mut Walk,
     moves: &[Move],
     number: u32,
+    workers: u32,
     gate: &G,
     steps: &mut Steps<L>,
 ) -> Result<(), EnumStop>
@@ -188,6 +196,7 @@ fn advance<G: Gate, L: Ledger>(
     requires walk { IsWalkAt system.now number walk.old }
     requires moves { AreNewMoves walk.old.level.items walk.old.known.items moves.now }
     requires some { 0 < length moves.now }
+    requires workers { (1 ≤ workers) × (workers ≤ 64) }
     ensures walk { OnOk result (IsWalkAt system.now (number + 1) walk.new) }
     ensures stop { IfErr result (IsStopIn system.now) }
     ensures counted { OnOk result (steps.new + length walk.old.known.items
@@ -195,7 +204,16 @@ fn advance<G: Gate, L: Ledger>(
     ensures bounded { steps.new + length walk.old.known.items ≤ steps.old + 20000 }
 {
     check_count(walk.known.len(), moves)?;
-    let level = next_level(alloc, walk.level.as_slice(), moves, number, gate, steps)?;
+    let level = next_level(
+        rt,
+        alloc,
+        walk.level.as_slice(),
+        moves,
+        number,
+        workers,
+        gate,
+        steps,
+    )?;
     let bases = targets(alloc, moves)?;
     walk.known = merged(alloc, walk.known.as_slice(), bases.as_slice())?;
     note_level(alloc, &mut walk.vertices, system, level.as_slice())?;
@@ -205,13 +223,16 @@ fn advance<G: Gate, L: Ledger>(
 }
 
 // Goes from level to level, to the last one.
-pub(crate) fn reach<G: Gate, L: Ledger>(
+pub(crate) fn reach<R: Threads + Sync, G: Gate, L: Ledger>(
+    rt: &R,
     alloc: Global,
     system: &System,
+    workers: u32,
     gate: &G,
     steps: &mut Steps<L>,
 ) -> Result<Walk, EnumStop>
-    requires { IsEnumerable system.now }
+    requires enumerable { IsEnumerable system.now }
+    requires workers { (1 ≤ workers) × (workers ≤ 64) }
     ensures walk { IfOk result (IsWalkToEnd system.now) }
     ensures stop { IfErr result (IsStopIn system.now) }
     ensures counted { IfOk result (λ w. steps.new + 1 ≡ steps.old + length w.known.items) }
@@ -220,21 +241,25 @@ pub(crate) fn reach<G: Gate, L: Ledger>(
     let mut walk = start(alloc, system)?;
     for number in 0..MOST_BASES as u32 {
         let moves = new_moves(
+            rt,
             alloc,
             walk.level.as_slice(),
             walk.bases.as_slice(),
             walk.known.as_slice(),
+            workers,
             gate,
         )?;
         if moves.is_empty() {
             return Ok(walk);
         }
         advance(
+            rt,
             alloc,
             system,
             &mut walk,
             moves.as_slice(),
             number,
+            workers,
             gate,
             steps,
         )?;

@@ -1,5 +1,5 @@
 -- The lines of the pairs of the vertices of a game's two systems, in order, are those of its extreme equilibria
-use Rattle.std.proofs.Common.{ℕ, zero, suc, ◌+◌, ◌<◌, ◌≡◌, ◌≢◌, inl, inr, Bool, true, false, cond, nat_eq, ◌&&◌, List, [], ◌∷◌, ◌++◌, length, length-append, map, get_or, refl, sym, ap, ap₂, ◌∙◌, subst, arith, tests}
+use Rattle.std.proofs.Common.{ℕ, suc, ◌+◌, ◌<◌, ◌≡◌, ◌≢◌, inl, inr, Bool, true, false, cond, nat_eq, ◌&&◌, List, [], ◌∷◌, ◌++◌, length, length-append, map, get_or, refl, sym, ap, ap₂, ◌∙◌, subst, arith, tests}
 use Rattle.std.specs.Prelude.{Contains, IsPermutation, IsSortedBy}
 use Rattle.std.specs.List.{AllPairs}
 use Rattle.std.specs.Ordering.{is_lt}
@@ -8,7 +8,7 @@ use Rattle.std.specs.declared.cmp.Ordering.{Ordering}
 use Rattle.std.proofs.lemmas.List.{length-map, get_or-map, get_or_default}
 use Rattle.std.proofs.lemmas.List.Elements.{Contains-get_or}
 use Rattle.std.proofs.lemmas.List.Folds.{list_any_at}
-use Rattle.std.proofs.lemmas.List.FromFn.{get_or-map-range_with_len}
+use Rattle.std.proofs.lemmas.List.FromFn.{get_or-map-range_with_len, length-map-range_with_len}
 use Rattle.std.proofs.lemmas.List.Sorted.{Contains-permutation, IsPermutation-sym}
 use Rattle.rational.specs.Rational.{ℚ, ◌≤ℚ◌, zero_ℚ}
 use Rattle.linear_systems.specs.Tableau.{Tableau}
@@ -25,6 +25,7 @@ use Rattle.extreme_equilibria.specs.TwoPlayers.{pays_against}
 use Rattle.extreme_equilibria.specs.Bimatrix.{shifted, shift_of, IsBelowAll}
 use Rattle.extreme_equilibria.specs.Systems.{first_system, second_system}
 use Rattle.extreme_equilibria.specs.PairLines.{scaled_point, HaveAllLabels, pair_line, IsPairLine, ArePairLines}
+use Rattle.dominance.proofs.MappedLists.{from-map, into-map}
 use Rattle.extreme_equilibria.proofs.PairLines.{pair_lines_are_extreme_equilibria, listed_vertices_scale_differently}
 use Rattle.lex_tableau.specs.Starts.{Parts, system_of}
 use Rattle.reply_polytope.specs.Polytopes.{ArePolytopes}
@@ -123,25 +124,11 @@ in-order line (x ∷ y ∷ xs) h = (h 0 x (omega arith), in-order line (y ∷ xs
     plus : (k : ℕ) → suc k + 1 ≡ suc (k + 1)
     plus k = omega arith
 
--- the elements of a map
-from-map : {X : Type 0} (line : X → List ℚ) (xs : List X) (z : List ℚ) → Contains (map line xs) z → (x : X) × Contains xs x × (z ≡ line x)
-from-map line [] z (k, l, e) = absurd (omega arith)
-from-map line (x ∷ xs) z (zero, l, e) = (x, (0, omega arith, refl), sym e)
-from-map line (x ∷ xs) z (suc k, l, e) = let r = from-map line xs z (k, omega arith, e) in (r.0, (suc r.1.0, omega (arith, r.1.1), r.1.2), r.2)
-
-into-map : {X : Type 0} (line : X → List ℚ) (xs : List X) (x : X) → Contains xs x → Contains (map line xs) (line x)
-into-map line [] x (k, l, e) = absurd (omega arith)
-into-map line (y ∷ xs) x (zero, l, e) = (0, omega arith, ap line e)
-into-map line (y ∷ xs) x (suc k, l, e) = let r = into-map line xs x (k, omega arith, e) in (suc r.0, omega (arith, r.1), r.2)
-
--- ---- the lines of all pairs, sorted
+-- ---- the lines of all pairs
 module _ (n : ℕ) (t u : Tableau) (first second : List MarkedPoint) (vf : AreVertices n t first) (vs : AreVertices n u second)
-    (differ : (i j : ℕ) (d : MarkedPoint) → i < length first → j < length first → scaled_point (get_or first i d).point ≡ scaled_point (get_or first j d).point → i ≡ j)
-    (differ' : (i j : ℕ) (d : MarkedPoint) → i < length second → j < length second → scaled_point (get_or second i d).point ≡ scaled_point (get_or second j d).point → i ≡ j)
-    (firsts seconds : List (List ℚ)) (pairs sorted : List (ℕ × ℕ))
+    (firsts seconds : List (List ℚ)) (pairs : List (ℕ × ℕ))
     (all : pairs ≡ all_pairs (all_labels n) first second)
-    (are_firsts : firsts ≡ scaled_used first (occurs (map (λ p. p.0) pairs))) (are_seconds : seconds ≡ scaled_used second (occurs (map (λ p. p.1) pairs)))
-    (permuted : IsPermutation pairs sorted) (ordered : IsSortedBy (λ p q. is_lt (pair_order firsts seconds p q)) sorted) where
+    (are_firsts : firsts ≡ scaled_used first (occurs (map (λ p. p.0) pairs))) (are_seconds : seconds ≡ scaled_used second (occurs (map (λ p. p.1) pairs))) where
   line : ℕ × ℕ → List ℚ
   line p = line_of firsts seconds p
 
@@ -165,64 +152,75 @@ module _ (n : ℕ) (t u : Tableau) (first second : List MarkedPoint) (vf : AreVe
   second-length : (p : ℕ × ℕ) → Contains pairs p → length (get_or seconds p.1 []) ≡ u.width
   second-length p c = ap length (second-is p c) ∙ length-scaled (mark_at second p.1).point ∙ point-length n u second vs p.1 (pair-is p c).in_second
 
-  -- different pairs have different lines
-  lines-differ : (p q : ℕ × ℕ) → Contains pairs p → Contains pairs q → line p ≡ line q → p ≡ q
-  unfolding line
-  lines-differ p q c d e =
-      let s = split (get_or firsts p.0 []) (get_or seconds p.1 []) (get_or firsts q.0 []) (get_or seconds q.1 []) (first-length p c ∙ sym (first-length q d)) e in
-      ap₂ (λ i j. (i, j)) (differ p.0 q.0 none (pair-is p c).in_first (pair-is q d).in_first (sym (first-is p c) ∙ s.0 ∙ first-is q d)) (differ' p.1 q.1 none (pair-is p c).in_second (pair-is q d).in_second (sym (second-is p c) ∙ s.1 ∙ second-is q d))
+  -- sorted
+  module _ (differ : (i j : ℕ) (d : MarkedPoint) → i < length first → j < length first → scaled_point (get_or first i d).point ≡ scaled_point (get_or first j d).point → i ≡ j)
+      (differ' : (i j : ℕ) (d : MarkedPoint) → i < length second → j < length second → scaled_point (get_or second i d).point ≡ scaled_point (get_or second j d).point → i ≡ j)
+      (sorted : List (ℕ × ℕ)) (permuted : IsPermutation pairs sorted) (ordered : IsSortedBy (λ p q. is_lt (pair_order firsts seconds p q)) sorted) where
+    -- different pairs have different lines
+    lines-differ : (p q : ℕ × ℕ) → Contains pairs p → Contains pairs q → line p ≡ line q → p ≡ q
+    unfolding line
+    lines-differ p q c d e =
+        let s = split (get_or firsts p.0 []) (get_or seconds p.1 []) (get_or firsts q.0 []) (get_or seconds q.1 []) (first-length p c ∙ sym (first-length q d)) e in
+        ap₂ (λ i j. (i, j)) (differ p.0 q.0 none (pair-is p c).in_first (pair-is q d).in_first (sym (first-is p c) ∙ s.0 ∙ first-is q d)) (differ' p.1 q.1 none (pair-is p c).in_second (pair-is q d).in_second (sym (second-is p c) ∙ s.1 ∙ second-is q d))
 
-  sorted-in : (p : ℕ × ℕ) → Contains sorted p → Contains pairs p
-  sorted-in p c = Contains-permutation sorted pairs p (IsPermutation-sym pairs sorted permuted) c
+    sorted-in : (p : ℕ × ℕ) → Contains sorted p → Contains pairs p
+    sorted-in p c = Contains-permutation sorted pairs p (IsPermutation-sym pairs sorted permuted) c
 
-  once : AllPairs (λ p q. p ≢ q) pairs
-  once = subst (AllPairs (λ p q. p ≢ q)) (sym all) (pairs_together.once (all_labels n) first second)
+    once : AllPairs (λ p q. p ≢ q) pairs
+    once = subst (AllPairs (λ p q. p ≢ q)) (sym all) (pairs_together.once (all_labels n) first second)
 
-  -- neighbours are in order
-  neighbours : (j : ℕ) (d : ℕ × ℕ) → j + 1 < length sorted → StandsBefore (line (get_or sorted j d)) (line (get_or sorted (j + 1) d))
-  unfolding line
-  neighbours j d l =
-      let p = get_or sorted j d in
-      let q = get_or sorted (j + 1) d in
-      let c = sorted-in p (Contains-get_or sorted j d (omega arith)) in
-      let e = sorted-in q (Contains-get_or sorted (j + 1) d l) in
-      let lengths : length (get_or firsts p.0 []) ≡ length (get_or firsts q.0 []) = first-length p c ∙ sym (first-length q e) in
-      let long : length (get_or firsts p.0 [] ++ get_or seconds p.1 []) ≡ length (get_or firsts q.0 [] ++ get_or seconds q.1 []) = length-append (get_or firsts p.0 []) (get_or seconds p.1 []) ∙ ap₂ (λ a b. a + b) lengths (second-length p c ∙ sym (second-length q e)) ∙ sym (length-append (get_or firsts q.0 []) (get_or seconds q.1 [])) in
-      elim (StandsBefore-cases (line_of firsts seconds p) (line_of firsts seconds q) long) [
-        | inl same ↦ absurd (neighbours-differ pairs sorted once permuted j d l (lines-differ p q c e same))
-        | inr (inl b) ↦ b
-        | inr (inr b) ↦ absurd (not_less (pair_order firsts seconds q p) (before-ordered (get_or firsts q.0 []) (get_or seconds q.1 []) (get_or firsts p.0 []) (get_or seconds p.1 []) (sym lengths) b) (ordered j d (omega arith) l))
-      ]
+    -- neighbours are in order
+    neighbours : (j : ℕ) (d : ℕ × ℕ) → j + 1 < length sorted → StandsBefore (line (get_or sorted j d)) (line (get_or sorted (j + 1) d))
+    unfolding line
+    neighbours j d l =
+        let p = get_or sorted j d in
+        let q = get_or sorted (j + 1) d in
+        let c = sorted-in p (Contains-get_or sorted j d (omega arith)) in
+        let e = sorted-in q (Contains-get_or sorted (j + 1) d l) in
+        let lengths : length (get_or firsts p.0 []) ≡ length (get_or firsts q.0 []) = first-length p c ∙ sym (first-length q e) in
+        let long : length (get_or firsts p.0 [] ++ get_or seconds p.1 []) ≡ length (get_or firsts q.0 [] ++ get_or seconds q.1 []) = length-append (get_or firsts p.0 []) (get_or seconds p.1 []) ∙ ap₂ (λ a b. a + b) lengths (second-length p c ∙ sym (second-length q e)) ∙ sym (length-append (get_or firsts q.0 []) (get_or seconds q.1 [])) in
+        elim (StandsBefore-cases (line_of firsts seconds p) (line_of firsts seconds q) long) [
+          | inl same ↦ absurd (neighbours-differ pairs sorted once permuted j d l (lines-differ p q c e same))
+          | inr (inl b) ↦ b
+          | inr (inr b) ↦ absurd (not_less (pair_order firsts seconds q p) (before-ordered (get_or firsts q.0 []) (get_or seconds q.1 []) (get_or firsts p.0 []) (get_or seconds p.1 []) (sym lengths) b) (ordered j d (omega arith) l))
+        ]
 
-  sound-at : (z : List ℚ) → (p : ℕ × ℕ) × Contains sorted p × (z ≡ line p) → IsPairLine n first second z
-  sound-at z r =
-      let c = sorted-in r.0 r.1 in
-      let h = pair-is r.0 c in
-      record {
-        one = mark_at first r.0.0;
-        two = mark_at second r.0.1;
-        is_first = Contains-get_or first r.0.0 none h.in_first;
-        is_second = Contains-get_or second r.0.1 none h.in_second;
-        labels = labels_out n (mark_at first r.0.0) (mark_at second r.0.1) h.together;
-        is_line = r.2 ∙ line-is r.0 c;
-      }
+    sound-at : (z : List ℚ) → (p : ℕ × ℕ) × Contains sorted p × (z ≡ line p) → IsPairLine n first second z
+    sound-at z r =
+        let c = sorted-in r.0 r.1 in
+        let h = pair-is r.0 c in
+        record {
+          one = mark_at first r.0.0;
+          two = mark_at second r.0.1;
+          is_first = Contains-get_or first r.0.0 none h.in_first;
+          is_second = Contains-get_or second r.0.1 none h.in_second;
+          labels = labels_out n (mark_at first r.0.0) (mark_at second r.0.1) h.together;
+          is_line = r.2 ∙ line-is r.0 c;
+        }
 
-  complete-at : (one two : MarkedPoint) → Contains first one → Contains second two → HaveAllLabels n one two → Contains (map line sorted) (pair_line one two)
-  complete-at one two (i, h, e) (j, l, f) labels =
-      let at : mark_at first i ≡ one = get_or_default first i none one h ∙ e in
-      let at' : mark_at second j ≡ two = get_or_default second j none two l ∙ f in
-      let marks : HaveAllLabels n (mark_at first i) (mark_at second j) = subst (λ x. HaveAllLabels n x (mark_at second j)) (sym at) (subst (λ y. HaveAllLabels n one y) (sym at') labels) in
-      let c : Contains {X = ℕ × ℕ} pairs (i, j) = subst (λ ps. Contains {X = ℕ × ℕ} ps (i, j)) (sym all) ((pairs_together.exactly (all_labels n) first second i j).1 (record { in_first = h; in_second = l; together = labels_in n (mark_at first i) (mark_at second j) marks })) in
-      subst (λ z. Contains (map line sorted) z) (line-is (i, j) c ∙ ap₂ pair_line at at') (into-map line sorted (i, j) (Contains-permutation pairs sorted (i, j) permuted c))
+    complete-at : (one two : MarkedPoint) → Contains first one → Contains second two → HaveAllLabels n one two → Contains (map line sorted) (pair_line one two)
+    complete-at one two (i, h, e) (j, l, f) labels =
+        let at : mark_at first i ≡ one = get_or_default first i none one h ∙ e in
+        let at' : mark_at second j ≡ two = get_or_default second j none two l ∙ f in
+        let marks : HaveAllLabels n (mark_at first i) (mark_at second j) = subst (λ x. HaveAllLabels n x (mark_at second j)) (sym at) (subst (λ y. HaveAllLabels n one y) (sym at') labels) in
+        let c : Contains {X = ℕ × ℕ} pairs (i, j) = subst (λ ps. Contains {X = ℕ × ℕ} ps (i, j)) (sym all) ((pairs_together.exactly (all_labels n) first second i j).1 (record { in_first = h; in_second = l; together = labels_in n (mark_at first i) (mark_at second j) marks })) in
+        subst (λ z. Contains (map line sorted) z) (line-is (i, j) c ∙ ap₂ pair_line at at') (into-map line sorted (i, j) (Contains-permutation pairs sorted (i, j) permuted c))
 
-  -- the lines
-  pub pair-lines : ArePairLines n first second (map (line_of firsts seconds) sorted)
-  unfolding line
-  pair-lines = record {
-    in_order = in-order line sorted neighbours;
-    sound = λ j d l. sound-at (get_or (map line sorted) j d) (from-map line sorted (get_or (map line sorted) j d) (Contains-get_or (map line sorted) j d l));
-    complete = complete-at;
-  }
+    -- the lines
+    pub pair-lines : ArePairLines n first second (map (line_of firsts seconds) sorted)
+    unfolding line
+    pair-lines = record {
+      in_order = in-order line sorted neighbours;
+      sound = λ j d l. sound-at (get_or (map line sorted) j d) (from-map line sorted (get_or (map line sorted) j d) (Contains-get_or (map line sorted) j d l));
+      complete = complete-at;
+    }
+
+-- both places of a pair have points with so many entries
+pub record ArePointsOf (m n : ℕ) (firsts seconds : List (List ℚ)) (q : ℕ × ℕ) : Type 0 where
+  pub in_firsts : q.0 < length firsts
+  pub in_seconds : q.1 < length seconds
+  pub first : length (get_or firsts q.0 []) ≡ m
+  pub second : length (get_or seconds q.1 []) ≡ n
 
 -- of the two systems of a game
 module _ (g : Game) (one two : Parts) (p : ArePolytopes g one two) (first second : List MarkedPoint)
@@ -239,7 +237,22 @@ module _ (g : Game) (one two : Parts) (p : ArePolytopes g one two) (first second
   vs : AreVertices (p.m + p.n) u second
   vs = vertices_alike (p.m + p.n) u (system_of two) second p.is_second.alike (subst (λ n. AreVertices n (system_of two) second) (second_count g one two p) hs)
 
+  -- the pairs by the number of labels
+  labelled : (pairs : List (ℕ × ℕ)) → pairs ≡ all_pairs (all_labels (variable_count one)) first second → pairs ≡ all_pairs (all_labels (p.m + p.n)) first second
+  labelled pairs all = subst (λ n. pairs ≡ all_pairs (all_labels n) first second) (first_count g one two p) all
+
+  -- the points of a pair have an entry for each strategy
+  pub point-lengths : (firsts seconds : List (List ℚ)) (pairs : List (ℕ × ℕ)) → pairs ≡ all_pairs (all_labels (variable_count one)) first second → firsts ≡ scaled_used first (occurs (map (λ p. p.0) pairs)) → seconds ≡ scaled_used second (occurs (map (λ p. p.1) pairs)) → (q : ℕ × ℕ) → Contains pairs q → ArePointsOf p.m p.n firsts seconds q
+  point-lengths firsts seconds pairs all f s q c =
+      let is = pair-is (p.m + p.n) t u first second vf vs firsts seconds pairs (labelled pairs all) f s q c in
+      record {
+        in_firsts = subst (λ n. q.0 < n) (sym (ap length f ∙ length-map-range_with_len (λ i. cond (occurs (map (λ p. p.0) pairs) i) (scaled_point (mark_at first i).point) []) 0 (length first))) is.in_first;
+        in_seconds = subst (λ n. q.1 < n) (sym (ap length s ∙ length-map-range_with_len (λ i. cond (occurs (map (λ p. p.1) pairs) i) (scaled_point (mark_at second i).point) []) 0 (length second))) is.in_second;
+        first = first-length (p.m + p.n) t u first second vf vs firsts seconds pairs (labelled pairs all) f s q c;
+        second = second-length (p.m + p.n) t u first second vf vs firsts seconds pairs (labelled pairs all) f s q c;
+      }
+
   pub extreme-lines : (firsts seconds : List (List ℚ)) (pairs sorted : List (ℕ × ℕ)) → pairs ≡ all_pairs (all_labels (variable_count one)) first second → firsts ≡ scaled_used first (occurs (map (λ p. p.0) pairs)) → seconds ≡ scaled_used second (occurs (map (λ p. p.1) pairs)) → IsPermutation pairs sorted → IsSortedBy (λ p q. is_lt (pair_order firsts seconds p q)) sorted → AreExtremeEquilibria g (map (line_of firsts seconds) sorted)
   extreme-lines firsts seconds pairs sorted all f s permuted ordered =
       pair_lines_are_extreme_equilibria g p.m p.n p.least p.least' first second (map (line_of firsts seconds) sorted) p.strategies (first-below g one two p) (second-below g one two p) vf vs
-      (pair-lines (p.m + p.n) t u first second vf vs (listed_vertices_scale_differently.first p.m p.n (shifted (shift_of p.least') (pays_against g 1)) first vf) (listed_vertices_scale_differently.second p.m p.n (shifted (shift_of p.least) (pays_against g 0)) second vs) firsts seconds pairs sorted (subst (λ n. pairs ≡ all_pairs (all_labels n) first second) (first_count g one two p) all) f s permuted ordered)
+      (pair-lines (p.m + p.n) t u first second vf vs firsts seconds pairs (labelled pairs all) f s (listed_vertices_scale_differently.first p.m p.n (shifted (shift_of p.least') (pays_against g 1)) first vf) (listed_vertices_scale_differently.second p.m p.n (shifted (shift_of p.least) (pays_against g 0)) second vs) sorted permuted ordered)

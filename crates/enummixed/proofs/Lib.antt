@@ -1,7 +1,9 @@
 pub mod Distinct
 pub mod ExtremeLines
+pub mod KeptLines
 pub mod LineOrders
 pub mod LineTexts
+pub mod SpreadPoints
 pub mod Stages
 pub mod UsedPoints
 pub mod VertexCounts

@@ -38,7 +38,7 @@ written-over new old n e f =
     take-append-le n new (drop (length new) old) l ∙ take_all n new k
 
 -- the parts of a value
-parts_same : (e f : VertexPairs) → ◌≡◌ {A = Result VertexPairs MixedStop} (Ok e) (Ok f) → e ≡ f
+pub parts_same : (e f : VertexPairs) → ◌≡◌ {A = Result VertexPairs MixedStop} (Ok e) (Ok f) → e ≡ f
 parts_same e f h = cc
 
 -- the text of the sorted pairs
@@ -77,5 +77,5 @@ pairs-single game =
     only-single (let e : VertexPairs = record { first = first; second = second; pairs = pairs } in e)))))))
 
 pub texts-single : ExtremeTextsAreSingle
-texts-single game =
-    bind-single _ _ (pairs-single game) (λ _ _. refused_by-single text_stop _ (within_text_limit-single (IsExtremeEquilibriaText game) (text-same game)))
+texts-single game kept =
+    bind-single _ _ (pairs-single kept) (λ _ _. refused_by-single text_stop _ (within_text_limit-single (IsExtremeEquilibriaText game) (text-same game)))

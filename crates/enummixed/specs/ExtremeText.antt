@@ -44,8 +44,13 @@ extreme_pairs game = do
   refused_by (scale_stop 1) (scaling_in (used_points second.list (occurs (map (λ p. p.1) pairs))))
   only (record { first = first; second = second; pairs = pairs })
 
+-- The text of a game's extreme equilibria, found by the pairs of another: of the game over the kept
+-- strategies, or of the game itself.
+abbrev pub kept_text : Game → Game → Answer MixedStop (List ℕ)
+kept_text game kept = do
+  extreme_pairs kept
+  refused_by text_stop (within_text_limit (IsExtremeEquilibriaText game))
+
 -- the text of a game's extreme equilibria, where the pairs can be made and scaled
 abbrev pub extreme_text : Game → Answer MixedStop (List ℕ)
-extreme_text game = do
-  extreme_pairs game
-  refused_by text_stop (within_text_limit (IsExtremeEquilibriaText game))
+extreme_text game = kept_text game game

@@ -2,5 +2,6 @@ pub mod ExtremeText
 pub mod Laws
 pub mod Order
 pub mod Pairs
+pub mod Spread
 pub mod Told
 pub mod Used

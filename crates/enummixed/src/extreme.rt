@@ -24,8 +24,9 @@ use lex_tableau::System;
 use outside::Gate;
 use reply_polytope::polytopes;
 use std::alloc::Global;
-use std::marker::Brand;
+use std::marker::{Brand, Sync};
 use std::sync::ledger::{Blank, Ledger};
+use std::thread::Threads;
 use steps::Steps;
 
 /// The vertices of both polytopes of a table, and the pairs of them that make its extreme
@@ -46,35 +47,41 @@ pub struct ExtremePairs {
 }
 
 // The vertices of a system. The steps are counted on a blank, and the count is not used.
-fn enumerated<G: Gate, L: Ledger>(
+fn enumerated<R: Threads + Sync, G: Gate, L: Ledger>(
+    rt: &R,
     alloc: Global,
     system: &System,
+    workers: u32,
     gate: &G,
     blank: Blank,
 ) -> Result<Vertices, EnumStop>
     requires enumerable { IsEnumerable system.now }
+    requires workers { (1 ≤ workers) × (workers ≤ 64) }
     requires blank { (L.parts ≡ blank.parts) × (L.name ≡ blank.name) × (0 < blank.parts) }
     ensures vertices { Gives enum_stops.Memory (vertices_in system.now) (map_ok result list_of) }
     ensures few { IfOk result (λ v. v.bases ≤ 20000) }
 {
     let mut steps = Steps::<L>::new(blank);
-    enumerate(alloc, system, gate, &mut steps)
+    enumerate(rt, alloc, system, workers, gate, &mut steps)
 }
 
 // The vertices of a polytope, by its system.
-fn vertices_of<G: Gate>(
+fn vertices_of<R: Threads + Sync, G: Gate>(
+    rt: &R,
     alloc: Global,
     polytope: u32,
     system: &System,
+    workers: u32,
     gate: &G,
 ) -> Result<Vertices, MixedStop>
-    requires { IsEnumerable system.now }
+    requires enumerable { IsEnumerable system.now }
+    requires workers { (1 ≤ workers) × (workers ≤ 64) }
     ensures vertices { Gives stops.Memory
         (refused_by (enumeration_stop polytope) (vertices_in system.now))
         (map_ok result list_of) }
     ensures few { IfOk result (λ v. v.bases ≤ 20000) }
 {
-    match enumerated::<G, Brand>(alloc, system, gate, Blank::new(1)) {
+    match enumerated::<R, G, Brand>(rt, alloc, system, workers, gate, Blank::new(1)) {
         Ok(vertices) => Ok(vertices),
         Err(stop) => Err(MixedStop::of_enumeration(polytope, stop)),
     }
@@ -119,7 +126,8 @@ fn scaled(
 }
 
 /// The vertices of both polytopes of a table, and the pairs of them that together have all labels,
-/// with the points of these vertices scaled. The pairs are as many as the extreme equilibria.
+/// with the points of these vertices scaled. The pairs are as many as the extreme equilibria. So
+/// many workers enumerate the vertices, and the answer is the same for any number of them.
 ///
 /// # Errors
 ///
@@ -127,20 +135,23 @@ fn scaled(
 /// strategies) or `Shift` where there are no two systems; `Start`, `Range` or `TooLarge` (of bases)
 /// of the first polytope, and then of the second; `TooLarge` where there are more than 1,048,576
 /// pairs; `Scale` of the first polytope, and then of the second. `Memory` where memory ran out.
-pub fn extreme_pairs<G: Gate>(
+pub fn extreme_pairs<R: Threads + Sync, G: Gate>(
+    rt: &R,
     alloc: Global,
     table: &Table,
+    workers: u32,
     gate: &G,
 ) -> Result<ExtremePairs, MixedStop>
+    requires { (1 ≤ workers) × (workers ≤ 64) }
     ensures answer { Gives stops.Memory (extreme_pairs (game_of table.now))
         (map_ok result pairs_of) }
     ensures scaled { IfOk result AreScaled }
 {
     let (one, two) = polytopes(alloc, table)?;
-    let first = vertices_of(alloc, 0, &one, gate)?;
-    let second = vertices_of(alloc, 1, &two, gate)?;
+    let first = vertices_of(rt, alloc, 0, &one, workers, gate)?;
+    let second = vertices_of(rt, alloc, 1, &two, workers, gate)?;
     let labels = all_labels(one.basics().len() + one.nonbasics().len());
-    let pairs = pairs(alloc, &first.list, &second.list, labels)?;
+    let pairs = pairs(rt, alloc, &first.list, &second.list, labels)?;
     let first_used = first_places(alloc, &pairs)?;
     let firsts = scaled(alloc, 0, &first.list, &first_used)?;
     let second_used = second_places(alloc, &pairs)?;

@@ -2,7 +2,7 @@
 //!
 //! `extreme` pairs the vertices of the two polytopes of best replies, with the points that `points`
 //! scales; `order` sorts the pairs by their lines, and `writing` writes the lines within the limit.
-//! `listing` is the whole.
+//! `spread` spreads points of the kept strategies over all. `listing` is the whole.
 #![tactic(auto)]
 
 ghost use Rattle.enummixed.specs.Laws.{ExtremePairsAreSingle, ExtremeTextsAreSingle};
@@ -11,11 +11,12 @@ mod extreme;
 mod listing;
 mod order;
 mod points;
+mod spread;
 mod stop;
 mod writing;
 
 pub use extreme::{ExtremePairs, extreme_pairs};
-pub use listing::list_extreme_equilibria;
+pub use listing::{list_equilibria_of_kept, list_extreme_equilibria};
 pub use stop::MixedStop;
 
 /// A game has one list of pairs, or one reason why it has none.

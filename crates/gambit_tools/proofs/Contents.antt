@@ -18,7 +18,7 @@ use Rattle.reduced_form.specs.ReducedForm.{ReducedForm}
 use Rattle.enumpure.specs.Stops.{within_text_limit}
 use Rattle.enumpure.specs.declared.listing.ListStop.{ListStop}
 use Rattle.enumpure.specs.declared.listing.ListStop.TheVariants as list_stop
-use Rattle.words.specs.Words.{Command, Enumpure, Enummixed, Lcp, Lp}
+use Rattle.words.specs.Words.{Command, Enumpure, Enummixed, Lcp, Lp, Convert}
 use Rattle.gambit_tools.specs.Input.{most_bytes}
 use Rattle.refusals.specs.Told.{text_refusal, nfg_refusal, efg_refusal, list_refusal}
 use Rattle.gambit_tools.specs.Games.{game_of, game_in}
@@ -27,6 +27,7 @@ use Rattle.gambit_tools.specs.Commands.{tool_of}
 use Rattle.gambit_tools.specs.Origins.{Contents, origin}
 use Rattle.refusals.specs.declared.refusal.Refusal.{Refusal}
 use Rattle.refusals.specs.declared.refusal.Refusal.TheVariants as refusal
+use Rattle.gambit_tools.proofs.Converting.{convert-origin}
 use Rattle.gambit_tools.proofs.FormContents.{form_origin}
 use Rattle.gambit_tools.proofs.LcpContents.{lcp-origin}
 use Rattle.gambit_tools.proofs.LpContents.{lp-origin}
@@ -84,7 +85,8 @@ enumpure_origin strategic (Extensive tree) r (inr h) = ap origin h.2.2 ∙ form_
 -- each tool that is built has a line
 pub tool_of-origin : (command : Command) (game : Game) (r : Refusal) → tool_of command game (Err r) → origin r ≡ Contents
 tool_of-origin (Enumpure strategic file) game r h = enumpure_origin strategic game r h
-tool_of-origin (Enummixed undominated workers file) game r h = enummixed-origin game r h
+tool_of-origin (Enummixed undominated workers file) game r h = enummixed-origin undominated game r h
 tool_of-origin (Lcp strategic file) game r h = lcp-origin strategic game r h
 tool_of-origin (Lp strategic prices file) game r h = lp-origin strategic prices game r h
+tool_of-origin (Convert html row column file) game r h = convert-origin html row column game r h
 tool_of-origin _ game r h = absurd h

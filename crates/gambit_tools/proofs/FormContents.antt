@@ -44,8 +44,26 @@ where-contents P refusal e r h = ap origin h.1 ∙ e
 pub only-contents : {Y : Type 0} (y : Y) → AreContents (only y)
 only-contents y r e = cc
 
+-- ---- stages whose reasons to stop are told by refusals
+-- all refusals that tell a stage's reasons come from the contents
+abbrev pub AreReasons : {S Y : Type 0} → (S → Refusal) → Answer S Y → Type 0
+AreReasons {S} told p = (stop : S) → p (Err stop) → origin (told stop) ≡ Contents
+
+pub then-reasons : {S Y Z : Type 0} (told : S → Refusal) (p : Answer S Y) (f : Y → Answer S Z) → AreReasons told p → ((y : Y) → AreReasons told (f y)) → AreReasons told (p >>= f)
+then-reasons told p f first later stop (inl h) = first stop h
+then-reasons told p f first later stop (inr h) = later h.0 stop h.2
+
+pub inner-reasons : {R S Y : Type 0} (told : S → Refusal) (inner : R → S) (p : Answer R Y) → ((stop : R) → p (Err stop) → origin (told (inner stop)) ≡ Contents) → AreReasons told (refused_by inner p)
+inner-reasons told inner p each stop h = ap (λ s. origin (told s)) h.2 ∙ each h.0 h.1
+
+pub where-reasons : {S : Type 0} (told : S → Refusal) (P : Type 0) (reason : S) → origin (told reason) ≡ Contents → AreReasons told (refuse_where P reason)
+where-reasons told P reason e stop h = ap (λ s. origin (told s)) h.1 ∙ e
+
+pub only-reasons : {S Y : Type 0} (told : S → Refusal) (y : Y) → AreReasons told (only y)
+only-reasons told y stop e = cc
+
 -- ---- reasons to stop
-recall-contents : (t : GameTree) (stop : RecallStop) → recall_of t (Err stop) → origin (recall_refusal stop) ≡ Contents
+pub recall-contents : (t : GameTree) (stop : RecallStop) → recall_of t (Err stop) → origin (recall_refusal stop) ≡ Contents
 recall-contents t (recall_stop.Forgets f) h = refl
 recall-contents t recall_stop.Memory h = absurd h
 

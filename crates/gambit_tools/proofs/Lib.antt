@@ -1,8 +1,12 @@
+pub mod CheckContents
+pub mod Checking
 pub mod Computing
 pub mod ConstantSums
 pub mod Contents
+pub mod Converting
 pub mod FormContents
 pub mod FormSingles
+pub mod GameSingles
 pub mod Kept
 pub mod LcpContents
 pub mod LcpPlans
@@ -11,6 +15,7 @@ pub mod LcpTexts
 pub mod LpContents
 pub mod LpSingles
 pub mod LpTexts
+pub mod Making
 pub mod MixedContents
 pub mod MixedSingles
 pub mod Running

@@ -25,6 +25,9 @@ names_contents (refusal.Forgets player set first_node second_node) names = refl
 names_contents (refusal.NotConstant first second first_sum second_sum) names = refl
 names_contents (refusal.TooLarge counted count limit) names = refl
 names_contents (refusal.Range place step) names = refl
+names_contents (refusal.BadLine line) names = refl
+names_contents (refusal.NoSuchPlayer number) names = refl
+names_contents (refusal.SamePlayer number) names = refl
 names_contents _ names = elim names [ ]
 
 -- of inputs that were read one is selected, or nothing was read

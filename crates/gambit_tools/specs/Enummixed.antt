@@ -1,33 +1,38 @@
 -- The tool `enummixed`: the text of the extreme equilibria of a game of two players, by strategies.
--- Source: Avis, Rosenberg, Savani and von Stengel 2010.
-use Rattle.std.specs.Prelude.{ℕ, ◌≡◌, List, Ok}
+-- Source: Avis, Rosenberg, Savani and von Stengel 2010; Luce and Raiffa 1957.
+use Rattle.std.specs.Prelude.{ℕ, ◌≡◌, Bool, true, false, List, Ok}
 use Rattle.answers.specs.Answers.{Answer, ◌>>=◌, ◌>>◌, refused_by}
 use Rattle.game_core.specs.Table.{GameTable, game_of}
 use Rattle.game_core.specs.declared.game.Game.{Game}
 use Rattle.game_core.specs.declared.game.Game.TheVariants.{Strategic, Extensive}
+use Rattle.reduced_form.specs.Kept.{kept_of}
 use Rattle.reduced_form.specs.ReducedForm.{ReducedForm}
 use Rattle.reduced_form.specs.Stops.{form_of}
-use Rattle.enummixed.specs.ExtremeText.{IsExtremeEquilibriaText, extreme_text}
+use Rattle.enummixed.specs.ExtremeText.{IsExtremeEquilibriaText, extreme_text, kept_text}
 use Rattle.gambit_tools.specs.TwoPlayers.{two_players}
-use Rattle.refusals.specs.Told.{form_refusal, mixed_refusal}
+use Rattle.refusals.specs.Told.{form_refusal, kept_refusal, mixed_refusal}
 use Rattle.refusals.specs.declared.refusal.Refusal.{Refusal}
 
--- the text of the extreme equilibria of a table
-abbrev pub table_text : GameTable → Answer Refusal (List ℕ)
-table_text table = refused_by mixed_refusal (extreme_text (game_of table))
+-- The text of the extreme equilibria of a table. They are looked for among all strategies where these
+-- are asked for, and else among those that are kept where strictly dominated ones are removed.
+abbrev pub table_text : Bool → GameTable → Answer Refusal (List ℕ)
+table_text true table = refused_by mixed_refusal (extreme_text (game_of table))
+table_text false table = do
+  kept ← refused_by kept_refusal (kept_of table)
+  refused_by mixed_refusal (kept_text (game_of table) (game_of kept.table))
 
 -- the text of the extreme equilibria of a game's strategic form: that of a table is the table itself
-abbrev pub strategic_text : Game → Answer Refusal (List ℕ)
-strategic_text (Strategic table) = table_text table
-strategic_text (Extensive tree) = do
+abbrev pub strategic_text : Bool → Game → Answer Refusal (List ℕ)
+strategic_text all (Strategic table) = table_text all table
+strategic_text all (Extensive tree) = do
   form ← refused_by form_refusal (form_of tree)
-  table_text form.table
+  table_text all form.table
 
 -- the answer of `enummixed`
-abbrev pub enummixed : Game → Answer Refusal (List ℕ)
-enummixed game = do
+abbrev pub enummixed : Bool → Game → Answer Refusal (List ℕ)
+enummixed all game = do
   two_players game
-  strategic_text game
+  strategic_text all game
 
 -- ---- what each text is
 -- the table is the strategic form of the game: a table itself, and the reduced form of a tree
@@ -45,4 +50,4 @@ pub record IsExtremeText (game : Game) (text : List ℕ) : Type 0 where
 -- Each text of `enummixed` is so.
 abbrev pub EnummixedTextsAreExtreme : Type 0
 EnummixedTextsAreExtreme =
-    (game : Game) (text : List ℕ) → enummixed game (Ok text) → IsExtremeText game text
+    (all : Bool) (game : Game) (text : List ℕ) → enummixed all game (Ok text) → IsExtremeText game text

@@ -1,13 +1,16 @@
-// The game that bytes stand for.
-ghost use Rattle.std.specs.Prelude.{◌<◌, ◌≤◌, ◌≡◌, ◌^◌, ◌↔◌, length, codes, IsTrue};
+// The game that bytes stand for, and that an input holds.
+ghost use Rattle.std.specs.Prelude.{option_map, string_bytes, ◌<◌, ◌≤◌, ◌≡◌, ◌^◌, ◌↔◌, length, codes, IsTrue};
 ghost use Rattle.answers.specs.Answers.{Gives};
 ghost use Rattle.game_tokens.specs.TokenList.{bare};
 ghost use Rattle.game_tokens.specs.declared.token.Token.TheVariants as token_kind;
 ghost use Rattle.gambit_tools.specs.Input.{most_bytes};
 ghost use Rattle.gambit_tools.specs.Games.{BeginsAsTree, tree_game, table_game, game_of, game_in};
+ghost use Rattle.gambit_tools.specs.Reading.{ReadsGame};
 
+use crate::input::read_input;
 use game_core::Game;
 use game_text::{Token, Tokens, read_tokens};
+use outside::Inputs;
 use refusals::Refusal;
 use std::alloc::Global;
 
@@ -68,4 +71,17 @@ pub fn game_in(alloc: Global, bytes: &[u8]) -> Result<Game, Refusal>
 {
     let tokens = read_tokens(alloc, bytes)?;
     game_of(alloc, &tokens)
+}
+
+/// Reads the game in a file, or on standard input where no file is named.
+pub fn read_game<I: Inputs>(
+    alloc: Global,
+    inputs: &mut I,
+    file: Option<String>,
+) -> Result<Game, Refusal>
+    ensures { ReadsGame (option_map string_bytes file)
+        (I.seen inputs.old) (I.seen inputs.new) result }
+{
+    let bytes = read_input(alloc, inputs, file)?;
+    game_in(alloc, &bytes)
 }

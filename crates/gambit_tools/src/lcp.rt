@@ -7,8 +7,7 @@ ghost use Rattle.gambit_tools.specs.LcpLaws.{LcpTextsAreEquilibria};
 ghost use Rattle.gambit_tools.specs.Outcome.{IsComputed};
 
 use crate::entries::plans_line;
-use crate::games::game_in;
-use crate::input::read_input;
+use crate::games::read_game;
 use crate::pivoting::equilibrium_in;
 use crate::two_players::{Method, form_in, two_players};
 use game_core::{Game, sets_are_numbered_by_first_nodes, trees_are_game_trees};
@@ -37,8 +36,7 @@ pub fn lcp<I: Inputs>(
     ensures { IsComputed (LcpCommand strategic (option_map string_bytes file))
         (I.seen inputs.old) (I.seen inputs.new) (map_ok result (λ text. text.items)) }
 {
-    let bytes = read_input(alloc, inputs, file)?;
-    let game = game_in(alloc, &bytes)?;
+    let game = read_game(alloc, inputs, file)?;
     equilibrium_text(alloc, strategic, &game)
 }
 

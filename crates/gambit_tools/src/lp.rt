@@ -10,8 +10,7 @@ ghost use Rattle.gambit_tools.specs.Solved.{HasSizesOf, solution_of};
 ghost use Rattle.gambit_tools.specs.TwoPlayers.{IsFormOf};
 
 use crate::entries::plans_line;
-use crate::games::game_in;
-use crate::input::read_input;
+use crate::games::read_game;
 use crate::prices::price_lines;
 use crate::solving::{Solved, solve};
 use crate::two_players::{Method, form_in, two_players};
@@ -88,8 +87,7 @@ pub fn lp<I: Inputs>(
     ensures { IsComputed (LpCommand strategic prices (option_map string_bytes file))
         (I.seen inputs.old) (I.seen inputs.new) (map_ok result (λ text. text.items)) }
 {
-    let bytes = read_input(alloc, inputs, file)?;
-    let game = game_in(alloc, &bytes)?;
+    let game = read_game(alloc, inputs, file)?;
     equilibrium_text(alloc, strategic, prices, &game)
 }
 

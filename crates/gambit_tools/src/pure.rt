@@ -7,8 +7,7 @@ ghost use Rattle.words.specs.Words.{Enumpure};
 ghost use Rattle.gambit_tools.specs.Enumpure.{form_text, enumpure};
 ghost use Rattle.gambit_tools.specs.Outcome.{IsComputed};
 
-use crate::games::game_in;
-use crate::input::read_input;
+use crate::games::read_game;
 use enumpure::{ListStop, list_pure_equilibria};
 use enumpure_trees::list_pure_behaviours;
 use game_core::{Game, Tree};
@@ -57,7 +56,6 @@ pub fn enumpure<I: Inputs>(
     ensures { IsComputed (Enumpure strategic (option_map string_bytes file))
         (I.seen inputs.old) (I.seen inputs.new) (map_ok result (λ text. text.items)) }
 {
-    let bytes = read_input(alloc, inputs, file)?;
-    let game = game_in(alloc, &bytes)?;
+    let game = read_game(alloc, inputs, file)?;
     pure_equilibria(alloc, strategic, &game)
 }

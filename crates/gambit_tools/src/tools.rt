@@ -3,7 +3,7 @@ ghost use Rattle.std.specs.Prelude.{option_map, ◌≡◌, ℕ, ◌<◌, ◌≤�
 ghost use Rattle.std.specs.Result.{result_err};
 ghost use Rattle.answers.specs.Answers.{map_ok, IsSingle};
 ghost use Rattle.outside.specs.Inputs.{InputName};
-ghost use Rattle.words.specs.Words.{Command, command_of, command_from, IsBuilt};
+ghost use Rattle.words.specs.Words.{Command, command_of, command_from, IsWithinRanges};
 ghost use Rattle.gambit_tools.specs.Seen.{outside, seen};
 ghost use Rattle.gambit_tools.specs.Input.{CountsTell};
 ghost use Rattle.refusals.specs.Refusals.{status_of, IsToldAs, NamesNumbers};
@@ -11,27 +11,34 @@ ghost use Rattle.gambit_tools.specs.Commands.{answer_of};
 ghost use Rattle.gambit_tools.specs.Outcome.{RunAnswer, Tells, TakesLine, IsComputed, IsRunOf, IsOutcome, IsComplete};
 ghost use Rattle.refusals.specs.declared.refusal.Refusal.{Refusal};
 
+use crate::check::check;
+use crate::convert::convert;
 use crate::lcp::lcp;
 use crate::lp::lp;
+use crate::make::make;
 use crate::mixed::enummixed;
 use crate::output::write_text;
 use crate::pure::enumpure;
 use game_core::{sets_are_numbered_by_first_nodes, trees_are_game_trees};
+use line_checks::{table_checks_are_single, tree_checks_are_single};
 use outside::{Gate, Inputs, Sink};
 use perfect_recall::recalls_are_single;
 use refusals::Refusal;
 use std::alloc::Global;
+use std::marker::Sync;
 use std::thread::Threads;
 use words::{Settings, SettingsStop, read_settings};
 
-/// Reads the inputs that the settings name, and computes the text. Each tool that is built has an arm.
-fn compute<I: Inputs, G: Gate>(
+/// Reads the inputs that the settings name, and computes the text. Each tool has an arm.
+#[tactic(auto, using(crate::proofs::Making::make_computed))]
+fn compute<R: Threads + Sync, I: Inputs, G: Gate>(
+    rt: &R,
     alloc: Global,
     settings: Settings,
     inputs: &mut I,
     gate: &G,
 ) -> Result<Vec<u8>, Refusal>
-    requires { IsBuilt (command_of settings) }
+    requires ranges { IsWithinRanges (command_of settings) }
     ensures { IsComputed (command_of settings)
         (I.seen inputs.old)
         (I.seen inputs.new)
@@ -43,19 +50,36 @@ fn compute<I: Inputs, G: Gate>(
             undominated,
             workers,
             file,
-        } => enummixed(alloc, undominated, workers, file, inputs, gate),
+        } => enummixed(rt, alloc, undominated, workers, file, inputs, gate),
         Settings::Lcp { strategic, file } => lcp(alloc, strategic, file, inputs),
         Settings::Lp {
             strategic,
             prices,
             file,
         } => lp(alloc, strategic, prices, file, inputs),
-        _ => unreachable!(),
+        Settings::Make {
+            number,
+            rows,
+            columns,
+            workers,
+        } => make(rt, alloc, number, rows, columns, workers, gate),
+        Settings::Convert {
+            html,
+            row,
+            column,
+            file,
+        } => convert(alloc, html, row, column, file, inputs),
+        Settings::Check {
+            strategic,
+            game,
+            lines,
+        } => check(alloc, strategic, game, lines, inputs),
     }
 }
 
 /// Reads the words and the inputs, computes the whole text, and only then writes it.
-fn answer<I: Inputs, K: Sink, G: Gate>(
+fn answer<R: Threads + Sync, I: Inputs, K: Sink, G: Gate>(
+    rt: &R,
     alloc: Global,
     words: &[String],
     inputs: &mut I,
@@ -77,7 +101,7 @@ fn answer<I: Inputs, K: Sink, G: Gate>(
         Err(SettingsStop::Usage(usage)) => return Err(Refusal::Usage(usage)),
         Err(SettingsStop::Memory) => return Err(Refusal::Memory),
     };
-    let text = compute(alloc, settings, inputs, gate)?;
+    let text = compute(rt, alloc, settings, inputs, gate)?;
     match write_text(out, &text) {
         Ok(()) => Ok(text),
         Err(_) => Err(Refusal::WriteFault),
@@ -131,7 +155,7 @@ pub fn refuse<E: Sink>(alloc: Global, err: &mut E, refusal: Refusal) -> u8
 /// refusal before that writes nothing to `out`, and each refusal writes one line to `err`. A fault of `err`
 /// ends the writing to `err` and changes no status.
 pub fn run<R: Threads + Sync, I: Inputs, K: Sink, E: Sink, G: Gate>(
-    _rt: &R,
+    rt: &R,
     alloc: Global,
     words: &[String],
     inputs: &mut I,
@@ -153,7 +177,7 @@ pub fn run<R: Threads + Sync, I: Inputs, K: Sink, E: Sink, G: Gate>(
         result }
 {
     answers_are_single();
-    match answer(alloc, words, inputs, out, gate).err() {
+    match answer(rt, alloc, words, inputs, out, gate).err() {
         None => 0,
         Some(refusal) => refuse(alloc, err, refusal),
     }
@@ -166,4 +190,6 @@ pub fn answers_are_single()
     trees_are_game_trees();
     sets_are_numbered_by_first_nodes();
     recalls_are_single();
+    table_checks_are_single();
+    tree_checks_are_single();
 }

@@ -1,3 +1,5 @@
 pub mod AllPairs
+pub mod Blocks
+pub mod Partners
 pub mod Rows
 pub mod StepLists

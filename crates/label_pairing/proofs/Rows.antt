@@ -1,12 +1,11 @@
 -- The pairs with the first marks of a list
-use Rattle.std.proofs.Common.{ℕ, zero, suc, ◌+◌, ◌<◌, ◌≤◌, ◌≡◌, Bool, false, cond, nat_eq, ◌&&◌, List, [], ◌∷◌, ◌++◌, length, length-append, map, get_or, refl, sym, ap, ap₂, ◌∙◌, arith, add-one, append_assoc}
-use Rattle.std.specs.Prelude.{count_by, bit_or}
+use Rattle.std.proofs.Common.{ℕ, zero, suc, ◌+◌, ◌<◌, ◌≤◌, ◌≡◌, Bool, false, cond, nat_eq, ◌&&◌, List, [], ◌∷◌, ◌++◌, length, map, get_or, refl, sym, ap, ap₂, ◌∙◌, arith, add-one, append_assoc}
+use Rattle.std.specs.Prelude.{bit_or}
 use Rattle.std.specs.List.{filter, flat_map, range_with_len}
 use Rattle.std.proofs.lemmas.List.{append-nil, get_or-map, length-map}
 use Rattle.std.proofs.lemmas.Grind.{flat_map-append}
 use Rattle.std.proofs.lemmas.List.Elements.{filter-append}
-use Rattle.std.proofs.lemmas.List.FromFn.{filter_of_map_range_with_len_more, sum_by-map-range_with_len_more, fill_by_all}
-use Rattle.std.proofs.lemmas.List.Sums.{length-filter}
+use Rattle.std.proofs.lemmas.List.FromFn.{filter_of_map_range_with_len_more}
 use Rattle.extreme_points.specs.Vertices.{MarkedPoint}
 use Rattle.basis_enum.specs.Vertices.{mark_of, marks_of}
 use Rattle.basis_enum.specs.declared.vertex.Vertex.{Vertex}
@@ -42,14 +41,20 @@ rows-next all first second m =
 abbrev none : MarkedPoint
 none = record { low = 0; high = 0; point = [] }
 
+module _ (all : List ℕ) (first second : List MarkedPoint) (m : ℕ) (mask low high : List ℕ) (w : AreWords second low high) (e : get_or mask 0 0 ≡ (mark_at first m).low) (f : get_or mask 1 0 ≡ (mark_at first m).high) where
+  -- the words tell which pairs are together
+  pub completes-together : (j : ℕ) → j < length second → completes mask all (get_or low j 0) (get_or high j 0) ≡ are_together all (mark_at first m) (mark_at second j)
+  completes-together j l =
+      ap₂ (λ a b. completes mask all a b) (ap (λ xs. get_or xs j 0) w.lows ∙ get_or-map (λ (mark : MarkedPoint). mark.low) second j none 0 l) (ap (λ xs. get_or xs j 0) w.highs ∙ get_or-map (λ (mark : MarkedPoint). mark.high) second j none 0 l)
+      ∙ ap₂ (λ a b. nat_eq (bit_or a (mark_at second j).low) (get_or all 0 0) && nat_eq (bit_or b (mark_at second j).high) (get_or all 1 0)) e f
+
 module _ (all : List ℕ) (first second : List MarkedPoint) (m : ℕ) (mask low high : List ℕ) (found : List Bool) where
   -- the flags tell the pairs of one place
   told : AreWords second low high → AreMatches mask all low high found → get_or mask 0 0 ≡ (mark_at first m).low → get_or mask 1 0 ≡ (mark_at first m).high → (j : ℕ) → j < length second → get_or found j false ≡ are_together all (mark_at first m) (mark_at second j)
   told w h e f j l =
       let so_many : length low ≡ length second = ap length w.lows ∙ length-map second (λ mark. mark.low) in
       h.are_matches j false (omega arith)
-      ∙ ap₂ (λ a b. completes mask all a b) (ap (λ xs. get_or xs j 0) w.lows ∙ get_or-map (λ (mark : MarkedPoint). mark.low) second j none 0 l) (ap (λ xs. get_or xs j 0) w.highs ∙ get_or-map (λ (mark : MarkedPoint). mark.high) second j none 0 l)
-      ∙ ap₂ (λ a b. nat_eq (bit_or a (mark_at second j).low) (get_or all 0 0) && nat_eq (bit_or b (mark_at second j).high) (get_or all 1 0)) e f
+      ∙ completes-together all first second m mask low high w e f j l
 
   row_told : ((j : ℕ) → j < length second → get_or found j false ≡ are_together all (mark_at first m) (mark_at second j)) → (n : ℕ) → n ≤ length second → filter (λ p. get_or found p.1 false) (map (λ j. (m, j)) (range_with_len 0 n)) ≡ row all first second m n
   row_told t zero h = refl
@@ -66,28 +71,17 @@ module _ (all : List ℕ) (first second : List MarkedPoint) (m : ℕ) (mask low 
       ap (λ n. filter (λ p. get_or found p.1 false) (map (λ j. (m, j)) (range_with_len 0 n))) so_many
       ∙ row_told (told w h e f) (length second) (omega arith)
 
+-- the words of a vertex that is read tell its pairs
+pub vertex-together : (all : List ℕ) (first : List Vertex) (second : List MarkedPoint) (i : ℕ) (d : Vertex) (low high : List ℕ) → i < length first → AreWords second low high → (j : ℕ) → j < length second → completes (get_or first i d).mask all (get_or low j 0) (get_or high j 0) ≡ are_together all (mark_at (marks_of first) i) (mark_at second j)
+vertex-together all first second i d low high h w =
+    let e = sym (get_or-map mark_of first i d none h) in
+    completes-together all (marks_of first) second i (get_or first i d).mask low high w (ap (λ (mark : MarkedPoint). mark.low) e) (ap (λ (mark : MarkedPoint). mark.high) e)
+
 -- the flags of a vertex that is read tell its row
 pub vertex-row : (all : List ℕ) (first : List Vertex) (second : List MarkedPoint) (i : ℕ) (d : Vertex) (low high : List ℕ) (found : List Bool) → i < length first → AreWords second low high → AreMatches (get_or first i d).mask all low high found → flagged_pairs i found ≡ row all (marks_of first) second i (length second)
 vertex-row all first second i d low high found h w m =
     let e = sym (get_or-map mark_of first i d none h) in
     row-found all (marks_of first) second i (get_or first i d).mask low high found w m (ap (λ (mark : MarkedPoint). mark.low) e) (ap (λ (mark : MarkedPoint). mark.high) e)
-
--- so many flags are set
-flags-counted : (f : ℕ → Bool) (m n : ℕ) → count_by (λ b. b) (map f (range_with_len 0 n)) ≡ count_by (λ (p : ℕ × ℕ). f p.1) (map (λ j. (m, j)) (range_with_len 0 n))
-flags-counted f m zero = refl
-flags-counted f m (suc n) =
-    ap (λ k. count_by (λ b. b) (map f (range_with_len 0 k))) (sym (add-one n))
-    ∙ sum_by-map-range_with_len_more (λ b. cond b 1 0) f 0 n n (omega arith)
-    ∙ ap (λ k. k + cond (f n) 1 0) (flags-counted f m n)
-    ∙ sym (sum_by-map-range_with_len_more (λ (p : ℕ × ℕ). cond (f p.1) 1 0) (λ j. (m, j)) 0 n n (omega arith))
-    ∙ ap (λ k. count_by (λ (p : ℕ × ℕ). f p.1) (map (λ j. (m, j)) (range_with_len 0 k))) (add-one n)
-
-pub count-found : (m : ℕ) (found : List Bool) → count_by (λ b. b) found ≡ length (flagged_pairs m found)
-count-found m found =
-    let f : ℕ → Bool = λ j. get_or found j false in
-    ap (count_by (λ b. b)) (fill_by_all f found (length found) false refl (λ k h. refl))
-    ∙ flags-counted f m (length found)
-    ∙ sym (length-filter (λ (p : ℕ × ℕ). f p.1) (map (λ j. (m, j)) (range_with_len 0 (length found))))
 
 -- one more place
 pub found-next : (found : List Bool) (i j : ℕ) (old loop new : List (ℕ × ℕ)) (b : Bool) → get_or found j false ≡ b → loop ≡ old ++ filter (λ p. get_or found p.1 false) (map (λ j. (i, j)) (range_with_len 0 j)) → new ≡ loop ++ cond b ((i, j) ∷ []) [] → new ≡ old ++ filter (λ p. get_or found p.1 false) (map (λ j. (i, j)) (range_with_len 0 (j + 1)))
@@ -108,13 +102,6 @@ words_of vertices low high e f = record { lows = e ∙ same (λ mark. mark.low) 
     same f g h (v ∷ vs) = ap₂ (λ x xs. x ∷ xs) (h v) (same f g h vs)
 
 module _ (all : List ℕ) (first : List Vertex) (second : List MarkedPoint) (i : ℕ) (d : Vertex) (low high : List ℕ) (found : List Bool) where
-  -- one more vertex's pairs are counted
-  pub count-next : (count more : ℕ) → i < length first → AreWords second low high → AreMatches (get_or first i d).mask all low high found → more ≡ count_by (λ b. b) found → count ≡ length (rows all (marks_of first) second i) → count + more ≡ length (rows all (marks_of first) second (i + 1))
-  count-next count more h w m so_many before =
-      ap₂ (λ a b. a + b) before (so_many ∙ count-found i found ∙ ap length (vertex-row all first second i d low high found h w m))
-      ∙ sym (length-append (rows all (marks_of first) second i) (row all (marks_of first) second i (length second)))
-      ∙ ap length (sym (rows-next all (marks_of first) second i))
-
   -- one more vertex's pairs are listed
   pub pairs-next : (pairs new : List (ℕ × ℕ)) → i < length first → AreWords second low high → AreMatches (get_or first i d).mask all low high found → new ≡ pairs ++ flagged_pairs i found → pairs ≡ rows all (marks_of first) second i → new ≡ rows all (marks_of first) second (i + 1)
   pairs-next pairs new h w m push before =

@@ -1,6 +1,6 @@
 -- Which masks of a list complete a mask. The list is given by the low and the high words of its
 -- masks.
-use Rattle.std.specs.Prelude.{ℕ, ◌<◌, ◌≡◌, ◌&&◌, Bool, false, List, length, map, get_or, nat_eq, bit_or}
+use Rattle.std.specs.Prelude.{ℕ, ◌<◌, ◌≡◌, ◌&&◌, Bool, false, List, length, map, get_or, count_by, nat_eq, bit_or}
 use Rattle.std.specs.List.{filter, range_with_len}
 use Rattle.extreme_points.specs.Vertices.{MarkedPoint}
 
@@ -15,6 +15,12 @@ pub record AreMatches (mask all low high : List ℕ) (found : List Bool) : Type 
   pub so_many : length found ≡ length low
   pub are_matches : (i : ℕ) (d : Bool) → i < length low
       → get_or found i d ≡ completes mask all (get_or low i 0) (get_or high i 0)
+
+-- how many masks complete a mask
+abbrev pub partner_count : List ℕ → List ℕ → List ℕ → List ℕ → ℕ
+partner_count mask all low high =
+    count_by (λ i. completes mask all (get_or low i 0) (get_or high i 0))
+    (range_with_len 0 (length low))
 
 -- these are the words of the marks
 pub record AreWords (marks : List MarkedPoint) (low high : List ℕ) : Type 0 where

@@ -1,11 +1,12 @@
 //! Pairs of vertices that together have all labels, and the scaling of their points.
 //!
-//! `matching` tells which masks of a list complete a mask, `pairing` lists all pairs, and `scaling`
-//! divides a vertex's point by the sum of its entries.
+//! `matching` tells which masks of a list complete a mask, `counting` counts all pairs, `pairing`
+//! lists them, and `scaling` divides a vertex's point by the sum of its entries.
 #![tactic(auto)]
 
 ghost use Rattle.label_pairing.specs.Laws.{PairsAreTheTogether, PairsAreSingle};
 
+mod counting;
 mod matching;
 mod pairing;
 mod scaling;

@@ -1,5 +1,5 @@
 // The pairs of vertices that together have all labels.
-ghost use Rattle.std.specs.Prelude.{◌≡◌, ◌<◌, ◌≤◌, ◌++◌, ◌^◌, List, length, map, get_or, count_by, IfOk, OnOk};
+ghost use Rattle.std.specs.Prelude.{◌≡◌, ◌<◌, ◌≤◌, ◌++◌, ◌^◌, List, length, map, get_or, IfOk, OnOk};
 ghost use Rattle.answers.specs.Answers.{Gives, map_ok};
 ghost use Rattle.basis_enum.specs.Vertices.{marks_of};
 ghost use Rattle.extreme_points.specs.Vertices.{MarkedPoint};
@@ -8,11 +8,13 @@ ghost use Rattle.label_pairing.specs.Pairs.{all_pairs};
 ghost use Rattle.label_pairing.specs.Stops.{pairs_in};
 ghost use Rattle.label_pairing.specs.declared.pairing.PairStop.TheVariants as stops;
 
+use crate::counting::pair_count;
 use crate::matching::matches;
 use basis_enum::Vertex;
 use frac128::Memory;
 use game_core::{TooLarge, What};
 use std::alloc::{AllocError, Global};
+use std::thread::Threads;
 
 // The most pairs.
 const MOST_PAIRS: usize = 1_048_576;
@@ -61,37 +63,6 @@ fn words(alloc: Global, vertices: &[Vertex], word: usize) -> Result<Vec<u64>, Me
     Ok(words)
 }
 
-// How many places are found.
-fn found_count(found: &[bool]) -> usize
-    ensures count { result ≡ count_by (λ found. found) found.now }
-    ensures few { result ≤ length found.now }
-{
-    found.iter().filter(|found| **found).count()
-}
-
-// How many pairs there are with masks whose words these are. Writes over `found`.
-fn pair_count(
-    first: &[Vertex],
-    all: [u64; 2],
-    low: &[u64],
-    high: &[u64],
-    found: &mut [bool],
-) -> usize
-    requires few_first { length first.now < 2 ^ 32 }
-    requires few_second { length low.now < 2 ^ 32 }
-    requires high { length high.now ≡ length low.now }
-    requires found { length found.old ≡ length low.now }
-    ensures { (second : List MarkedPoint) → AreWords second low.now high.now
-        → result ≡ length (all_pairs all (marks_of first.now) second) }
-{
-    let mut count = 0;
-    for i in 0..first.len() {
-        matches(first[i].mask, all, low, high, found);
-        count += found_count(found);
-    }
-    count
-}
-
 // Adds the pairs of place i with the places that are found.
 fn push_found(pairs: &mut Vec<(u32, u32)>, i: u32, found: &[bool]) -> Result<(), Memory>
     requires { length found.now < 2 ^ 32 }
@@ -105,39 +76,40 @@ fn push_found(pairs: &mut Vec<(u32, u32)>, i: u32, found: &[bool]) -> Result<(),
     Ok(())
 }
 
-// The pairs with masks whose words these are, in room for so many. Writes over `found`.
+// The pairs with masks whose words these are, in room for so many.
 fn collected(
     alloc: Global,
     first: &[Vertex],
     all: [u64; 2],
     low: &[u64],
     high: &[u64],
-    found: &mut [bool],
     count: usize,
 ) -> Result<Vec<(u32, u32)>, Memory>
     requires few_first { length first.now < 2 ^ 32 }
     requires few_second { length low.now < 2 ^ 32 }
     requires high { length high.now ≡ length low.now }
-    requires found { length found.old ≡ length low.now }
     ensures { IfOk result (λ pairs. (second : List MarkedPoint) → AreWords second low.now high.now
         → pairs.items ≡ all_pairs all (marks_of first.now) second) }
 {
+    let mut found = vec![in alloc; false; low.len()]?;
     let mut pairs = Vec::with_capacity(alloc, count)?;
     for i in 0..first.len() {
-        matches(first[i].mask, all, low, high, found);
-        push_found(&mut pairs, i as u32, found)?;
+        matches(first[i].mask, all, low, high, &mut found);
+        push_found(&mut pairs, i as u32, &found)?;
     }
     Ok(pairs)
 }
 
 /// The pairs of vertices whose masks together have all these bits, by their places in the two lists,
-/// in ascending order. Places are numbered from 0.
+/// in ascending order. Places are numbered from 0. The pairs are counted in several threads where
+/// there are many vertices.
 ///
 /// # Errors
 ///
 /// `TooLarge` exactly where there are more than 1,048,576 pairs, which are counted before any is
 /// listed; `Memory` where memory ran out.
-pub fn pairs(
+pub fn pairs<R: Threads + Sync>(
+    rt: &R,
     alloc: Global,
     first: &[Vertex],
     second: &[Vertex],
@@ -150,8 +122,7 @@ pub fn pairs(
 {
     let low = words(alloc, second, 0)?;
     let high = words(alloc, second, 1)?;
-    let mut found = vec![in alloc; false; second.len()]?;
-    let count = pair_count(first, all, &low, &high, &mut found);
+    let count = pair_count(rt, first, all, &low, &high);
     if count > MOST_PAIRS {
         return Err(PairStop::TooLarge(TooLarge {
             what: What::Pairs,
@@ -159,5 +130,5 @@ pub fn pairs(
             limit: MOST_PAIRS as u64,
         }));
     }
-    Ok(collected(alloc, first, all, &low, &high, &mut found, count)?)
+    Ok(collected(alloc, first, all, &low, &high, count)?)
 }

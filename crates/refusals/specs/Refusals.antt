@@ -35,6 +35,9 @@ status_of (refusal.Forgets player set first_node second_node) = 1
 status_of (refusal.NotConstant first second first_sum second_sum) = 1
 status_of (refusal.TooLarge counted count limit) = 1
 status_of (refusal.Range place step) = 1
+status_of (refusal.BadLine line) = 1
+status_of (refusal.NoSuchPlayer number) = 1
+status_of (refusal.SamePlayer number) = 1
 status_of refusal.Memory = 5
 
 -- the status of a run, which is 0 where nothing is refused
@@ -96,7 +99,7 @@ abbrev pub spaced : List ℕ → List ℕ
 spaced numbers = flat_map (λ n. codes " " ++ decimal n) numbers
 
 -- where a step stands; profiles, nodes, players, rows of a start and polytopes are counted from 1,
--- levels and sequences from 0: sequence 0 is the empty one
+-- as lines are everywhere, levels and sequences from 0: sequence 0 is the empty one
 abbrev pub site_text : Site → List ℕ
 site_text (site.Cell profile player) = codes "profile " ++ decimal (profile + 1) ++ codes " player " ++ decimal (player + 1)
 site_text (site.Place place) = codes "place " ++ decimal (place + 1)
@@ -121,6 +124,7 @@ site_text (site.Level polytope level basis entering) =
     codes "polytope " ++ decimal (polytope + 1) ++ codes " level " ++ decimal level
     ++ codes " basis" ++ spaced basis ++ codes " entering " ++ decimal entering
 site_text (site.Scaling polytope) = codes "scale polytope " ++ decimal (polytope + 1)
+site_text (site.Line line) = codes "line " ++ decimal line
 
 -- the text of a refusal; players, nodes and profiles are counted from 1
 abbrev pub refusal_text : Refusal → List ℕ
@@ -141,6 +145,10 @@ refusal_text (refusal.NotConstant first second first_sum second_sum) =
     ++ codes ", " ++ decimal (second + 1) ++ codes " has " ++ number_text second_sum
 refusal_text (refusal.TooLarge counted count limit) = codes "too large: " ++ decimal count ++ codes " " ++ what_text counted ++ codes ", limit " ++ decimal limit
 refusal_text (refusal.Range place step) = codes "range in " ++ site_text place ++ codes ": " ++ op_text step.op ++ codes " " ++ number_text step.left ++ codes " " ++ number_text step.right
+refusal_text (refusal.BadLine line) = codes "line " ++ decimal line ++ codes " is not a profile"
+refusal_text (refusal.NoSuchPlayer number) = codes "no player " ++ decimal number
+refusal_text (refusal.SamePlayer number) =
+    codes "player " ++ decimal number ++ codes " is both row and column"
 refusal_text refusal.Memory = codes "out of memory"
 
 -- the line of a refusal on standard error
@@ -157,6 +165,9 @@ NamesNumbers (refusal.Forgets player set first_node second_node) = Unit {0}
 NamesNumbers (refusal.NotConstant first second first_sum second_sum) = Unit {0}
 NamesNumbers (refusal.TooLarge counted count limit) = Unit {0}
 NamesNumbers (refusal.Range place step) = Unit {0}
+NamesNumbers (refusal.BadLine line) = Unit {0}
+NamesNumbers (refusal.NoSuchPlayer number) = Unit {0}
+NamesNumbers (refusal.SamePlayer number) = Unit {0}
 NamesNumbers _ = ⊥
 
 -- the refusal that is told: itself, or want of memory where its line could not be formed

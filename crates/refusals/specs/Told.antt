@@ -23,6 +23,12 @@ use Rattle.lemke_pivot.specs.declared.stop.LcpStop.{LcpStop}
 use Rattle.lemke_pivot.specs.declared.stop.LcpStop.TheVariants as lcp_stop
 use Rattle.behaviour_profile.specs.declared.plans.BehaviourStop.{BehaviourStop}
 use Rattle.behaviour_profile.specs.declared.plans.BehaviourStop.TheVariants as behaviour_stop
+use Rattle.convert_tables.specs.declared.stops.ConvertStop.{ConvertStop}
+use Rattle.convert_tables.specs.declared.stops.ConvertStop.TheVariants as convert_stop
+use Rattle.line_checks.specs.declared.stops.CheckStop.{CheckStop}
+use Rattle.line_checks.specs.declared.stops.CheckStop.TheVariants as check_stop
+use Rattle.reduced_form.specs.declared.kept_stop.KeptStop.{KeptStop}
+use Rattle.reduced_form.specs.declared.kept_stop.KeptStop.TheVariants as kept_stop
 use Rattle.game_core.specs.declared.too_large.TooLarge.{TooLarge}
 use Rattle.refusals.specs.declared.refusal.Site.TheVariants as site
 use Rattle.refusals.specs.declared.refusal.Refusal.{Refusal}
@@ -100,3 +106,21 @@ mixed_refusal (mixed_stop.Range polytope level basis entering step) =
     refusal.Range (site.Level polytope level basis entering) step
 mixed_refusal (mixed_stop.Scale polytope step) = refusal.Range (site.Scaling polytope) step
 mixed_refusal mixed_stop.Memory = refusal.Memory
+
+abbrev pub convert_refusal : ConvertStop → Refusal
+convert_refusal (convert_stop.NoSuchPlayer number) = refusal.NoSuchPlayer number
+convert_refusal (convert_stop.SamePlayer number) = refusal.SamePlayer number
+convert_refusal (convert_stop.TooLarge limit) = limit_refusal limit
+convert_refusal convert_stop.Memory = refusal.Memory
+
+abbrev pub check_refusal : CheckStop → Refusal
+check_refusal (check_stop.BadLine line) = refusal.BadLine line
+check_refusal (check_stop.Range line step) = refusal.Range (site.Line line) step
+check_refusal (check_stop.TooLarge limit) = limit_refusal limit
+check_refusal check_stop.Memory = refusal.Memory
+
+-- dominated strategies are not set aside
+abbrev pub kept_refusal : KeptStop → Refusal
+kept_refusal (kept_stop.NotTwoPlayers count) = refusal.NotTwoPlayers count
+kept_refusal (kept_stop.TooLarge limit) = limit_refusal limit
+kept_refusal kept_stop.Memory = refusal.Memory

@@ -135,7 +135,9 @@ pub fn efg_line(alloc: Global, fault: EfgFault) -> Result<String, Memory>
 }
 
 pub fn limit_line(alloc: Global, passed: TooLarge) -> Result<String, Memory>
-    ensures { IfOk result (λ line. string_bytes line ≡ refusal_line (refusal.TooLarge passed.what passed.count passed.limit)) }
+    ensures { IfOk result (λ line.
+        string_bytes line
+        ≡ refusal_line (refusal.TooLarge passed.what passed.count passed.limit)) }
 {
     let what = what_text(passed.what);
     let count = passed.count;
@@ -298,11 +300,31 @@ fn site_text(alloc: Global, site: &Site) -> Result<String, Memory>
             entering,
         } => level_text(alloc, *polytope, *level, basis, *entering),
         Site::Scaling { polytope } => numbered(alloc, "scale polytope ", *polytope as u64 + 1),
+        Site::Line { line } => numbered(alloc, "line ", *line),
     }
 }
 
+pub fn profile_line(alloc: Global, number: u64) -> Result<String, Memory>
+    ensures { IfOk result (λ line. string_bytes line ≡ refusal_line (refusal.BadLine number)) }
+{
+    Ok(format!(in alloc; "gambit: line {number} is not a profile\n")?)
+}
+
+pub fn absent_line(alloc: Global, number: u32) -> Result<String, Memory>
+    ensures { IfOk result (λ line. string_bytes line ≡ refusal_line (refusal.NoSuchPlayer number)) }
+{
+    Ok(format!(in alloc; "gambit: no player {number}\n")?)
+}
+
+pub fn twice_line(alloc: Global, number: u32) -> Result<String, Memory>
+    ensures { IfOk result (λ line. string_bytes line ≡ refusal_line (refusal.SamePlayer number)) }
+{
+    Ok(format!(in alloc; "gambit: player {number} is both row and column\n")?)
+}
+
 pub fn range_line(alloc: Global, site: &Site, unfit: Unfit) -> Result<String, Memory>
-    ensures { IfOk result (λ line. string_bytes line ≡ refusal_line (refusal.Range site.now unfit)) }
+    ensures { IfOk result (λ line.
+        string_bytes line ≡ refusal_line (refusal.Range site.now unfit)) }
 {
     let site = site_text(alloc, site)?;
     let op = op_text(unfit.op);

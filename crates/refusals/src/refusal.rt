@@ -1,6 +1,7 @@
 // Why a run is refused.
 use crate::lines::{
-    efg_line, forgets_line, limit_line, nfg_line, players_line, range_line, sums_line, text_line,
+    absent_line, efg_line, forgets_line, limit_line, nfg_line, players_line, profile_line,
+    range_line, sums_line, text_line, twice_line,
 };
 use basis_enum::Basis;
 use efg_reader::EfgFault;
@@ -106,6 +107,11 @@ pub enum Site {
         /// The polytope.
         polytope: u32,
     },
+    /// In the profile on a line, or in its check.
+    Line {
+        /// The line, from 1.
+        line: u64,
+    },
 }
 
 /// Why a run is refused. The line on standard error is that of [`Refusal::line`]; the derived text is for
@@ -172,6 +178,21 @@ pub enum Refusal {
         site: Site,
         unfit: Unfit,
     },
+    /// A line is not one of a profile of the game. Lines count from 1.
+    #[error("no profile")]
+    BadLine {
+        line: u64,
+    },
+    /// The game has no player with this number, from 1.
+    #[error("no such player")]
+    NoSuchPlayer {
+        number: u32,
+    },
+    /// The row player, with this number from 1, is the column player too.
+    #[error("one player twice")]
+    SamePlayer {
+        number: u32,
+    },
     /// Memory ran out.
     #[error("out of memory")]
     Memory,
@@ -198,7 +219,10 @@ impl Refusal {
             | Refusal::Forgets { .. }
             | Refusal::NotConstant { .. }
             | Refusal::TooLarge { .. }
-            | Refusal::Range { .. } => 1,
+            | Refusal::Range { .. }
+            | Refusal::BadLine { .. }
+            | Refusal::NoSuchPlayer { .. }
+            | Refusal::SamePlayer { .. } => 1,
             Refusal::Memory => 5,
         }
     }
@@ -223,7 +247,10 @@ impl Refusal {
             | Refusal::Forgets { .. }
             | Refusal::NotConstant { .. }
             | Refusal::TooLarge { .. }
-            | Refusal::Range { .. } => None,
+            | Refusal::Range { .. }
+            | Refusal::BadLine { .. }
+            | Refusal::NoSuchPlayer { .. }
+            | Refusal::SamePlayer { .. } => None,
         }
     }
 
@@ -257,6 +284,9 @@ impl Refusal {
                 limit_line(alloc, passed)
             }
             Refusal::Range { site, unfit } => range_line(alloc, site, *unfit),
+            Refusal::BadLine { line } => profile_line(alloc, *line),
+            Refusal::NoSuchPlayer { number } => absent_line(alloc, *number),
+            Refusal::SamePlayer { number } => twice_line(alloc, *number),
             _ => match self.fixed_line() {
                 Some(line) => Ok(String::from_str(alloc, line)?),
                 None => Err(Memory),

@@ -1,16 +1,18 @@
 // Refusals for the layers' reasons to stop.
 use crate::refusal::{Refusal, Site};
 use behaviour_profile::BehaviourStop;
+use convert_tables::ConvertStop;
 use efg_reader::EfgStop;
 use enummixed::MixedStop;
 use enumpure::ListStop;
 use game_core::TooLarge;
 use game_text::TextStop;
 use lemke_pivot::LcpStop;
+use line_checks::CheckStop;
 use memory::Memory;
 use nfg_reader::NfgStop;
 use perfect_recall::RecallStop;
-use reduced_form::ReduceStop;
+use reduced_form::{KeptStop, ReduceStop};
 use sequence_form::SeqStop;
 use std::alloc::AllocError;
 use zero_sum_lp::{LpStop, PlanStop};
@@ -312,6 +314,56 @@ impl From<MixedStop> for Refusal {
                 unfit,
             },
             MixedStop::Memory => Refusal::Memory,
+        }
+    }
+}
+
+impl From<ConvertStop> for Refusal {
+    ghost use Rattle.std.specs.Prelude.{◌≡◌};
+    ghost use Rattle.refusals.specs.Told.{convert_refusal};
+
+    ghost from_gives = { λ stop r. r ≡ convert_refusal stop };
+
+    fn from(stop: ConvertStop) -> Refusal {
+        match stop {
+            ConvertStop::NoSuchPlayer { number } => Refusal::NoSuchPlayer { number },
+            ConvertStop::SamePlayer { number } => Refusal::SamePlayer { number },
+            ConvertStop::TooLarge(passed) => Refusal::from(passed),
+            ConvertStop::Memory => Refusal::Memory,
+        }
+    }
+}
+
+impl From<CheckStop> for Refusal {
+    ghost use Rattle.std.specs.Prelude.{◌≡◌};
+    ghost use Rattle.refusals.specs.Told.{check_refusal};
+
+    ghost from_gives = { λ stop r. r ≡ check_refusal stop };
+
+    fn from(stop: CheckStop) -> Refusal {
+        match stop {
+            CheckStop::BadLine { line } => Refusal::BadLine { line },
+            CheckStop::Range { line, unfit } => Refusal::Range {
+                site: Site::Line { line },
+                unfit,
+            },
+            CheckStop::TooLarge(passed) => Refusal::from(passed),
+            CheckStop::Memory => Refusal::Memory,
+        }
+    }
+}
+
+impl From<KeptStop> for Refusal {
+    ghost use Rattle.std.specs.Prelude.{◌≡◌};
+    ghost use Rattle.refusals.specs.Told.{kept_refusal};
+
+    ghost from_gives = { λ stop r. r ≡ kept_refusal stop };
+
+    fn from(stop: KeptStop) -> Refusal {
+        match stop {
+            KeptStop::NotTwoPlayers { count } => Refusal::NotTwoPlayers { count },
+            KeptStop::TooLarge(passed) => Refusal::from(passed),
+            KeptStop::Memory => Refusal::Memory,
         }
     }
 }

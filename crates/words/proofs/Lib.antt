@@ -8,3 +8,4 @@ pub mod Told
 pub mod Numbers
 pub mod Answered
 pub mod Named
+pub mod Ranges

@@ -3,10 +3,18 @@ use Rattle.std.proofs.Common.{◌≡◌, ◌∙◌, ap, sym, subst, refl, ℕ, B
 use Rattle.std.specs.Prelude.{option_and_then, option_map}
 use Rattle.std.proofs.lemmas.Slice.Eq.{bytes_eq-Decides}
 use Rattle.words.specs.Grammar.{has_flag, has_prices, is_word, parts_of, plain_of, values_of}
-use Rattle.words.specs.Words.{Command, Enumpure, Enummixed, Lcp, Lp, Convert, Check, Make, answer, any_command_from, at_most_one, check_of, check_options, check_settings, command_of, convert_of, convert_options, enummixed_of, enummixed_options, enumpure_of, enumpure_options, is_built, is_one_or_none, layout_of, lcp_of, lcp_options, lp_of, lp_options, make_of, make_options, number_of, player_from, table_settings, tool_name, understood, workers_from, IsBuilt}
-use Rattle.words.specs.declared.Settings.{Settings}
-use Rattle.words.specs.declared.SettingsStop.{SettingsStop}
+use Rattle.words.specs.Words.{Command, Enumpure, Enummixed, Lcp, Lp, Convert, Check, Make, answer, command_from, at_most_one, check_of, check_options, check_settings, convert_of, convert_options, enummixed_of, enummixed_options, enumpure_of, enumpure_options, is_one_or_none, layout_of, lcp_of, lcp_options, lp_of, lp_options, make_of, make_options, number_of, player_from, table_settings, understood, workers_from}
 use Rattle.words.specs.declared.Usage.{Usage}
+
+-- the name of a command's tool
+abbrev pub tool_name : Command → List ℕ
+tool_name (Enumpure strategic file) = codes "enumpure"
+tool_name (Enummixed undominated workers file) = codes "enummixed"
+tool_name (Lcp strategic file) = codes "lcp"
+tool_name (Lp strategic prices file) = codes "lp"
+tool_name (Convert html row column file) = codes "convert"
+tool_name (Check strategic game lines) = codes "check"
+tool_name (Make number rows columns workers) = codes "make"
 
 -- a command, if there is one, is of the tool with this name
 abbrev Named : List ℕ → Option Command → Type 0
@@ -61,7 +69,7 @@ make_named words = then_named _ make_of (λ ps. then_named _ (λ n. table_settin
 
 -- ---- the whole line
 -- the first word names the tool of the line's command
-abbrev NamedFirst : List ℕ → Result Command Usage → Type 0
+abbrev pub NamedFirst : List ℕ → Result Command Usage → Type 0
 NamedFirst tool line = IfOk line (λ command. tool_name command ≡ tool)
 
 understood_named : (tool : List ℕ) (o : Option Command) → Named tool o → NamedFirst tool (understood o)
@@ -75,16 +83,8 @@ either_named tool name o other is rest = go (is_word tool name) refl
     go true e = understood_named tool o (subst (λ n. Named n o) (sym ((bytes_eq-Decides tool name).0 e)) is)
     go false e = rest
 
-any_named : (tool : List ℕ) (words : List (List ℕ)) → NamedFirst tool (any_command_from (tool ∷ words))
+pub any_named : (tool : List ℕ) (words : List (List ℕ)) → NamedFirst tool (command_from (tool ∷ words))
 any_named tool words =
     either_named tool (codes "enumpure") _ _ (enumpure_named words) (either_named tool (codes "enummixed") _ _ (enummixed_named words) (either_named tool (codes "lcp") _ _ (lcp_named words)
     (either_named tool (codes "lp") _ _ (lp_named words) (either_named tool (codes "convert") _ _ (convert_named words) (either_named tool (codes "check") _ _ (check_named words)
     (either_named tool (codes "make") _ _ (make_named words) tt))))))
-
--- where the first word is the name of a tool that is built, so is the command's tool
-pub built : (words : List (List ℕ)) (tool : List ℕ) (rest : List (List ℕ)) → words ≡ tool ∷ rest → is_built tool ≡ true
-    → (answer : Result Settings SettingsStop) → IfOk answer (λ s. any_command_from words ≡ Ok (command_of s)) → IfOk answer (λ s. IsBuilt (command_of s))
-built words tool rest e is (Ok s) h =
-    let named : tool_name (command_of s) ≡ tool = subst (NamedFirst tool) (ap any_command_from (sym e) ∙ h) (any_named tool rest) in
-    ap is_built named ∙ is
-built words tool rest e is (Err stop) h = tt

@@ -1,7 +1,6 @@
 -- What a command line asks for.
-use Rattle.std.specs.Prelude.{ℕ, Bool, true, false, if◌then◌else◌, ◌&&◌, ◌≡◌, List, [], ◌∷◌, length, Option, None, Some, option_map, option_and_then, string_bytes, Result, Ok, Err, codes, nat_le, nat_lt, slice_index}
+use Rattle.std.specs.Prelude.{ℕ, Bool, true, false, if◌then◌else◌, ◌&&◌, ◌≡◌, ◌≤◌, List, [], ◌∷◌, length, Option, None, Some, option_map, option_and_then, string_bytes, Result, Ok, Err, codes, nat_le, nat_lt, slice_index}
 use Prim.Native.String.{String}
-use Rattle.std.specs.List.{list_any}
 use Rattle.std.specs.Str.{all_ascii_digits}
 use Rattle.std.specs.Str.Parse.{digits_value}
 use Rattle.words.specs.declared.Settings.{Settings}
@@ -150,10 +149,10 @@ abbrev pub understood : Option Command → Result Command Usage
 understood (Some command) = Ok command
 understood None = Err Words
 
--- The command that words give to one of the seven tools, built or not, or how they are refused: the first word names the tool.
-abbrev pub any_command_from : List (List ℕ) → Result Command Usage
-any_command_from [] = Err NoTool
-any_command_from (tool ∷ words) = if is_word tool (codes "enumpure") then understood (answer enumpure_options enumpure_of words)
+-- The command that the words after the program's name give, or how they are refused: the first word names the tool.
+abbrev pub command_from : List (List ℕ) → Result Command Usage
+command_from [] = Err NoTool
+command_from (tool ∷ words) = if is_word tool (codes "enumpure") then understood (answer enumpure_options enumpure_of words)
     else if is_word tool (codes "enummixed") then understood (answer enummixed_options enummixed_of words)
     else if is_word tool (codes "lcp") then understood (answer lcp_options lcp_of words)
     else if is_word tool (codes "lp") then understood (answer lp_options lp_of words)
@@ -162,31 +161,15 @@ any_command_from (tool ∷ words) = if is_word tool (codes "enumpure") then unde
     else if is_word tool (codes "make") then understood (answer make_options make_of words)
     else Err UnknownTool
 
--- the names of the tools that are built
-abbrev pub built_tools : List (List ℕ)
-built_tools = codes "enumpure" ∷ codes "enummixed" ∷ codes "lcp" ∷ codes "lp" ∷ []
+-- a number from the least to the most
+abbrev pub IsFrom : (least most n : ℕ) → Type 0
+IsFrom least most n = (least ≤ n) × (n ≤ most)
 
-abbrev pub is_built : List ℕ → Bool
-is_built tool = list_any (is_word tool) built_tools
-
--- The command that the words after the program's name give, or how they are refused: a tool that is not built is an unknown one.
-abbrev pub command_from : List (List ℕ) → Result Command Usage
-command_from [] = Err NoTool
-command_from (tool ∷ words) = if is_built tool then any_command_from (tool ∷ words) else Err UnknownTool
-
--- the name of a command's tool
-abbrev pub tool_name : Command → List ℕ
-tool_name (Enumpure strategic file) = codes "enumpure"
-tool_name (Enummixed undominated workers file) = codes "enummixed"
-tool_name (Lcp strategic file) = codes "lcp"
-tool_name (Lp strategic prices file) = codes "lp"
-tool_name (Convert html row column file) = codes "convert"
-tool_name (Check strategic game lines) = codes "check"
-tool_name (Make number rows columns workers) = codes "make"
-
--- the command's tool is built
-abbrev pub IsBuilt : Command → Type 0
-IsBuilt command = is_built (tool_name command) ≡ true
+-- the numbers of workers and of strategies that a command names are within their ranges
+abbrev pub IsWithinRanges : Command → Type 0
+IsWithinRanges (Enummixed undominated workers file) = IsFrom 1 64 workers
+IsWithinRanges (Make number rows columns workers) = IsFrom 1 32 rows × IsFrom 1 32 columns × IsFrom 1 64 workers
+IsWithinRanges _ = Unit {0}
 
 -- ---- the code's answers
 

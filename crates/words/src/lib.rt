@@ -2,8 +2,7 @@
 #![tactic(auto)]
 
 ghost use Rattle.std.specs.Prelude.{◌≡◌, Ok, map, string_bytes, IfOk, IfErr};
-ghost use Rattle.words.specs.Words.{any_command_from, command_from, command_of, is_built};
-ghost use Rattle.words.specs.Words.{IsBuilt, IsStop};
+ghost use Rattle.words.specs.Words.{command_from, command_of, IsStop};
 
 mod commands;
 mod texts;
@@ -64,7 +63,7 @@ pub enum Settings {
 pub enum Usage {
     /// There is no word.
     NoTool,
-    /// The first word names no tool, or one that is not built.
+    /// The first word names no tool.
     UnknownTool,
     /// The words after the tool's are not understood.
     Words,
@@ -79,18 +78,11 @@ pub enum SettingsStop {
     Memory,
 }
 
-// Whether a tool of this name is built.
-fn is_built(tool: &str) -> bool
-    ensures { result ≡ is_built tool.now }
-{
-    tool == "enumpure" || tool == "enummixed" || tool == "lcp" || tool == "lp"
-}
-
-/// Reads words that name any of the seven tools, built or not.
-pub fn read_any_settings(alloc: Global, words: &[String]) -> Result<Settings, SettingsStop>
-    ensures settings { IfOk result (λ s. any_command_from (map string_bytes words.now)
+/// Reads the words that stand after the program's own name.
+pub fn read_settings(alloc: Global, words: &[String]) -> Result<Settings, SettingsStop>
+    ensures settings { IfOk result (λ s. command_from (map string_bytes words.now)
         ≡ Ok (command_of s)) }
-    ensures stop { IfErr result (IsStop (any_command_from (map string_bytes words.now))) }
+    ensures stop { IfErr result (IsStop (command_from (map string_bytes words.now))) }
 {
     let Some((tool, rest)) = words.split_first() else {
         return Err(SettingsStop::Usage(Usage::NoTool));
@@ -105,20 +97,4 @@ pub fn read_any_settings(alloc: Global, words: &[String]) -> Result<Settings, Se
         "make" => tools::read_make(alloc, rest),
         _ => Err(SettingsStop::Usage(Usage::UnknownTool)),
     }
-}
-
-/// Reads the words that stand after the program's own name.
-pub fn read_settings(alloc: Global, words: &[String]) -> Result<Settings, SettingsStop>
-    ensures settings { IfOk result (λ s. command_from (map string_bytes words.now)
-        ≡ Ok (command_of s)) }
-    ensures stop { IfErr result (IsStop (command_from (map string_bytes words.now))) }
-    ensures built { IfOk result (λ s. IsBuilt (command_of s)) }
-{
-    let Some((tool, _)) = words.split_first() else {
-        return Err(SettingsStop::Usage(Usage::NoTool));
-    };
-    if !is_built(tool.as_str()) {
-        return Err(SettingsStop::Usage(Usage::UnknownTool));
-    }
-    read_any_settings(alloc, words)
 }

@@ -6,7 +6,7 @@ use Rattle.basis_enum.proofs.walk.reach.Goals as goal
 
 pub new_moves-requires-clause-level : goal.new_moves-requires-clause-level
 new_moves-requires-clause-level g c = λ _ _.
-    subst₂ IsLevelOf (sym c.as_slice.ensures.value) (sym c.as_slice-in-loop-number.ensures.value) (walk_level c.args.system.now c.loop-number.number c.loop-number.walk c.requires c.loop-number.invariant.0)
+    subst₂ IsLevelOf (sym c.as_slice.ensures.value) (sym c.as_slice-in-loop-number.ensures.value) (walk_level c.args.system.now c.loop-number.number c.loop-number.walk c.requires.enumerable c.loop-number.invariant.0)
 
 pub returns-in_err-moves-clause-bounded : goal.returns-in_err-moves-clause-bounded
 returns-in_err-moves-clause-bounded g c =

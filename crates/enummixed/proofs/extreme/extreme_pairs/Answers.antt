@@ -21,8 +21,8 @@ use Rattle.enummixed.proofs.Stages.{one-enumerable, two-enumerable, first-places
 use Rattle.enummixed.proofs.VertexCounts.{vertices-few}
 use Rattle.enummixed.proofs.extreme.extreme_pairs.Goals as goal
 
-pub vertices_of-requires-after_bounds : goal.vertices_of-requires-after_bounds
-vertices_of-requires-after_bounds g c κs within = one-enumerable (game_of c.args.table.now) c.in_ok-one.one c.in_ok-one.two c.in_ok-one.ensures
+pub vertices_of-requires-clause-enumerable : goal.vertices_of-requires-clause-enumerable
+vertices_of-requires-clause-enumerable g c = λ _ _. one-enumerable (game_of c.args.table.now) c.in_ok-one.one c.in_ok-one.two c.in_ok-one.ensures
 
 pub returns-in_err-first-clause-answer : goal.returns-in_err-first-clause-answer
 returns-in_err-first-clause-answer g c =
@@ -32,8 +32,8 @@ returns-in_err-first-clause-answer g c =
     up-systems (game_of c.args.table.now) one two c.in_ok-one.ensures r pairs_of
     (gives_exit stops.Memory (refused_by (enumeration_stop 0) (vertices_in one)) (after-one one two) c.in_err-first.field-0.0 r pairs_of c.in_err-first.ensures.vertices c.from_residual-in_err-first.ensures.1)
 
-pub vertices_of-requires-2-after_bounds : goal.vertices_of-requires-2-after_bounds
-vertices_of-requires-2-after_bounds g c κs within = two-enumerable (game_of c.args.table.now) c.in_ok-one.one c.in_ok-one.two c.in_ok-one.ensures
+pub vertices_of-requires-2-clause-enumerable : goal.vertices_of-requires-2-clause-enumerable
+vertices_of-requires-2-clause-enumerable g c = λ _ _. two-enumerable (game_of c.args.table.now) c.in_ok-one.one c.in_ok-one.two c.in_ok-one.ensures
 
 pub returns-in_err-second-clause-answer : goal.returns-in_err-second-clause-answer
 returns-in_err-second-clause-answer g c =

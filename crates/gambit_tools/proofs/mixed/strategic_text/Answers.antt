@@ -12,6 +12,6 @@ returns-in_ok-reduced-in-Extensive g c =
     let form = c.in_ok-reduced-in-Extensive.reduced in
     let tree = c.in-Extensive.tree in
     let r = c.table_text-in-Extensive.result in
-    subst (λ game. Gives refusal.Memory (strategic_text game) (map_ok r (λ text. text.items))) (sym c.in-Extensive.is)
-    (gives_bind_as refusal.Memory (refused_by form_refusal (form_of tree)) (λ f. table_text f.table) form r (λ text. text.items) c.in_ok-reduced-in-Extensive.ensures.answer
-    (subst (λ t. Gives refusal.Memory (table_text t) (map_ok r (λ text. text.items))) c.table.ensures c.table_text-in-Extensive.ensures))
+    subst (λ game. Gives refusal.Memory (strategic_text c.args.all game) (map_ok r (λ text. text.items))) (sym c.in-Extensive.is)
+    (gives_bind_as refusal.Memory (refused_by form_refusal (form_of tree)) (λ f. table_text c.args.all f.table) form r (λ text. text.items) c.in_ok-reduced-in-Extensive.ensures.answer
+    (subst (λ t. Gives refusal.Memory (table_text c.args.all t) (map_ok r (λ text. text.items))) c.table.ensures c.table_text-in-Extensive.ensures))

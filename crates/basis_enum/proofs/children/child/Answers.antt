@@ -1,0 +1,6 @@
+use Rattle.std.proofs.lemmas.List.Elements.{Contains-get_or}
+use Rattle.basis_enum.specs.Next.{no_move}
+use Rattle.basis_enum.proofs.children.child.Goals as goal
+
+pub pivoted-requires-clause-next : goal.pivoted-requires-clause-next
+pivoted-requires-clause-next g c = c.requires.moves _ (Contains-get_or c.args.moves.now c.args.place no_move c.requires.place_in)

@@ -1,0 +1,9 @@
+use Rattle.std.proofs.Common.{◌≡◌, ◌*◌, ◌≤◌}
+use Rattle.label_pairing.proofs.Partners.{partners_below}
+use Rattle.label_pairing.proofs.counting.partner_count.Given as goal
+
+abbrev pub invariant-loop-block : goal.invariant-loop-block
+invariant-loop-block l = record {
+  count : l.count ≡ partners_below l.mask l.all l.low l.high (64 * l.block);
+  few : l.count ≤ 64 * l.block;
+}
