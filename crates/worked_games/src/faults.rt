@@ -6,12 +6,13 @@ use std::thread::Threads;
 
 const DILEMMA: &str = "NFG 1 R \"PD\" { \"A\" \"B\" } { 2 2 } 3 3 5 0 0 5 1 1";
 
-/// No tool that is built, and words after a tool that is, other than its options and the name of one file.
+/// No tool, and words after a tool other than its options and the names of its files.
 #[test]
 fn words_are_refused(rt: HostRuntime) -> Result<(), Memory> {
-    let rows: [(&[&str], &str); 8] = [
+    let rows: [(&[&str], &str); 9] = [
         (&["solve"], "gambit: unknown tool\n"),
-        (&["check"], "gambit: unknown tool\n"),
+        (&["checks"], "gambit: unknown tool\n"),
+        (&["check"], "gambit: words not understood\n"),
         (&["lp", "--price"], "gambit: words not understood\n"),
         (&["enummixed", "-c"], "gambit: words not understood\n"),
         (&["enumpure", "-s"], "gambit: words not understood\n"),

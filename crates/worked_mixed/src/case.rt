@@ -1,7 +1,7 @@
 // One run of the tool over memory, and what it must do.
 use crate::stop::Stop;
 use gambit_tools::run;
-use game_core::{MemInputs, MemSink, OpenGate};
+use game_core::{Gate, MemInputs, MemSink, OpenGate};
 use std::alloc::Global;
 use std::thread::Threads;
 
@@ -44,22 +44,42 @@ impl<'a> Case<'a> {
         alloc: Global,
         taken: &[u8],
     ) -> Result<bool, Stop> {
+        self.passes(rt, alloc, taken, &OpenGate)
+    }
+
+    /// The same, through a gate.
+    pub fn passes<R: Threads + Sync, G: Gate>(
+        &self,
+        rt: &R,
+        alloc: Global,
+        taken: &[u8],
+        gate: &G,
+    ) -> Result<bool, Stop> {
+        let (status, out, err) = self.ends(rt, alloc, gate)?;
+        Ok(status == self.status && out.taken() == taken && err.taken() == self.err.as_bytes())
+    }
+
+    /// The text of the run.
+    pub fn text<R: Threads + Sync>(&self, rt: &R, alloc: Global) -> Result<Vec<u8>, Stop> {
+        let (_, out, _) = self.ends(rt, alloc, &OpenGate)?;
+        Ok(Vec::from_slice(alloc, out.taken())?)
+    }
+
+    // How the run ends: its status and both sinks.
+    fn ends<R: Threads + Sync, G: Gate>(
+        &self,
+        rt: &R,
+        alloc: Global,
+        gate: &G,
+    ) -> Result<(u8, MemSink, MemSink), Stop> {
         let input = Vec::from_slice(alloc, self.input.as_bytes())?;
         let failing = Vec::from_slice(alloc, self.failing)?;
         let mut inputs = MemInputs::new(input, Vec::new(alloc), failing);
         let mut out = MemSink::new(alloc, 1000, self.room, false)?;
         let mut err = MemSink::new(alloc, 1000, 1000, false)?;
         let words = owned(alloc, self.words)?;
-        let status = run(
-            rt,
-            alloc,
-            &words,
-            &mut inputs,
-            &mut out,
-            &mut err,
-            &OpenGate,
-        );
-        Ok(status == self.status && out.taken() == taken && err.taken() == self.err.as_bytes())
+        let status = run(rt, alloc, &words, &mut inputs, &mut out, &mut err, gate);
+        Ok((status, out, err))
     }
 }
 

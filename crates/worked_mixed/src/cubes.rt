@@ -7,11 +7,12 @@ ghost use Rattle.basis_levels.specs.Systems.{IsEnumerable};
 use crate::stop::Stop;
 use basis_enum::{EnumStop, enumerate};
 use frac128::Frac;
-use game_core::{OpenGate, TooLarge, What};
+use game_core::{Gate, OpenGate, TooLarge, What};
 use lex_tableau::{System, numbered};
 use std::alloc::Global;
-use std::marker::Brand;
+use std::marker::{Brand, Sync};
 use std::sync::ledger::{Blank, Ledger};
+use std::thread::Threads;
 use steps::Steps;
 
 // A cell of the cube of so many variables, the right side last in each row.
@@ -53,42 +54,55 @@ fn cube(alloc: Global, size: u32) -> Result<System, Stop>
 }
 
 // How many bases and vertices a cube has, or the limit that it passes.
-fn counts<L: Ledger>(
+fn counts<R: Threads + Sync, G: Gate, L: Ledger>(
+    rt: &R,
     alloc: Global,
     size: u32,
+    workers: u32,
+    gate: &G,
     blank: Blank,
 ) -> Result<Result<(u64, usize), TooLarge>, Stop>
     requires few { size ≤ 64 }
+    requires workers { (1 ≤ workers) × (workers ≤ 64) }
     requires blank { (L.parts ≡ blank.parts) × (L.name ≡ blank.name) × (0 < blank.parts) }
 {
     let system = cube(alloc, size)?;
     let mut steps = Steps::<L>::new(blank);
-    match enumerate(alloc, &system, &OpenGate, &mut steps) {
+    match enumerate(rt, alloc, &system, workers, gate, &mut steps) {
         Ok(vertices) => Ok(Ok((vertices.bases, vertices.list.len()))),
         Err(EnumStop::TooLarge(limit)) => Ok(Err(limit)),
         Err(_) => Err(Stop::Unfit),
     }
 }
 
-// The same, with steps counted on a blank of their own.
-fn counted(alloc: Global, size: u32) -> Result<Result<(u64, usize), TooLarge>, Stop>
-    requires { size ≤ 64 }
+/// The same, with steps counted on a blank of their own.
+pub fn counted<R: Threads + Sync, G: Gate>(
+    rt: &R,
+    alloc: Global,
+    size: u32,
+    workers: u32,
+    gate: &G,
+) -> Result<Result<(u64, usize), TooLarge>, Stop>
+    requires few { size ≤ 64 }
+    requires workers { (1 ≤ workers) × (workers ≤ 64) }
 {
-    counts::<Brand>(alloc, size, Blank::new(1))
+    counts::<R, G, Brand>(rt, alloc, size, workers, gate, Blank::new(1))
 }
 
-/// Cubes with few bases, with nearly as many as may be, and with too many.
+/// Cubes with few bases, with nearly as many as may be, and with too many, by one worker and by seven.
 #[test]
 fn bases_of_cubes(rt: HostRuntime) -> Result<(), Stop> {
     let alloc = rt.alloc();
-    assert!(rt; counted(alloc, 1)? == Ok((2, 1)));
-    assert!(rt; counted(alloc, 3)? == Ok((8, 7)));
-    assert!(rt; counted(alloc, 14)? == Ok((16384, 16383)));
     let limit = TooLarge {
         what: What::Bases,
         count: 22819,
         limit: 20000,
     };
-    assert!(rt; counted(alloc, 15)? == Err(limit));
+    for workers in [1, 7] {
+        assert!(rt; counted(&rt, alloc, 1, workers, &OpenGate)? == Ok((2, 1)));
+        assert!(rt; counted(&rt, alloc, 3, workers, &OpenGate)? == Ok((8, 7)));
+        assert!(rt; counted(&rt, alloc, 14, workers, &OpenGate)? == Ok((16384, 16383)));
+        assert!(rt; counted(&rt, alloc, 15, workers, &OpenGate)? == Err(limit));
+    }
     Ok(())
 }

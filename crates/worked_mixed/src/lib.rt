@@ -13,6 +13,8 @@ mod cubes;
 #[cfg(test)]
 mod elimination;
 #[cfg(test)]
+mod gates;
+#[cfg(test)]
 mod pairings;
 #[cfg(test)]
 mod rows;

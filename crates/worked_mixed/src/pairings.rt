@@ -6,6 +6,8 @@ use basis_enum::Vertex;
 use game_core::{TooLarge, What};
 use label_pairing::{PairStop, matches, pairs};
 use std::alloc::Global;
+use std::marker::Sync;
+use std::thread::Threads;
 
 // Whether the places of these words at which the bits together with those of a mask are all are exactly these, whatever stood
 // there before. The mask has bit 0 of its low word and bit 1 of its high word; all are bits 0 to 2 and bits 1 and 2.
@@ -22,89 +24,44 @@ fn are_found(alloc: Global, low: &[u64], high: &[u64], wanted: &[bool]) -> Resul
     Ok(true)
 }
 
-/// No place, one, seven, eight, nine and seventeen places. A place is found where both words are complete, not where one of
-/// them lacks a bit or has one too many.
+/// Both words count: a place is found where each is complete, not where one of them lacks a bit or has one too many.
 #[test]
-fn masks_that_complete_a_mask(rt: HostRuntime) -> Result<(), Stop> {
+fn masks_of_two_words(rt: HostRuntime) -> Result<(), Stop> {
     let alloc = rt.alloc();
-    assert!(rt; are_found(alloc, &[], &[], &[])?);
-    assert!(rt; are_found(alloc, &[6], &[4], &[true])?);
-    assert!(rt; are_found(alloc, &[6], &[0], &[false])?);
-    let seven = [true, true, false, false, false, false, true];
-    assert!(rt;
-        are_found(
-            alloc,
-            &[6, 7, 2, 6, 14, 6, 6],
-            &[4, 6, 4, 2, 4, 5, 4],
-            &seven
-        )?
-    );
-    let eight = [false, true, true, false, false, false, false, true];
-    assert!(rt;
-        are_found(
-            alloc,
-            &[4, 6, 7, 2, 6, 14, 6, 6],
-            &[6, 4, 6, 4, 2, 4, 5, 4],
-            &eight
-        )?
-    );
-    let nine = [false, true, true, false, false, false, false, true, false];
-    assert!(rt;
-        are_found(
-            alloc,
-            &[4, 6, 7, 2, 6, 14, 6, 6, 0],
-            &[6, 4, 6, 4, 2, 4, 5, 4, 0],
-            &nine
-        )?
-    );
-    let seventeen = [
-        false, true, true, false, false, false, false, true, false, true, false, true, false, true,
-        false, false, true,
+    let low = [4, 6, 7, 2, 6, 14, 6, 6, 0, 7];
+    let high = [6, 4, 6, 4, 2, 4, 5, 4, 0, 4];
+    let wanted = [
+        false, true, true, false, false, false, false, true, false, true,
     ];
-    assert!(rt;
-        are_found(
-            alloc,
-            &[
-                4,
-                6,
-                7,
-                2,
-                6,
-                14,
-                6,
-                6,
-                0,
-                7,
-                5,
-                6,
-                3,
-                7,
-                0xffff_ffff_ffff_ffff,
-                6,
-                7
-            ],
-            &[
-                6,
-                4,
-                6,
-                4,
-                2,
-                4,
-                5,
-                4,
-                0,
-                4,
-                4,
-                6,
-                6,
-                6,
-                4,
-                0xffff_ffff_ffff_ffff,
-                6
-            ],
-            &seventeen
-        )?
-    );
+    assert!(rt; are_found(alloc, &low, &high, &wanted)?);
+    Ok(())
+}
+
+// The remainders of so many places modulo 8, and whether 5 together with each is 7.
+fn remainders(alloc: Global, count: u64) -> Result<(Vec<u64>, Vec<bool>), Stop> {
+    let mut masks = Vec::new(alloc);
+    let mut complete = Vec::new(alloc);
+    for place in 0..count {
+        let rest = place % 8;
+        masks.push(rest)?;
+        complete.push(rest == 2 || rest == 3 || rest == 6 || rest == 7)?;
+    }
+    Ok((masks, complete))
+}
+
+/// Every number of places from 0 to 130.
+#[test]
+fn masks_of_each_length(rt: HostRuntime) -> Result<(), Stop> {
+    let alloc = rt.alloc();
+    for count in 0..131 {
+        let (masks, complete) = remainders(alloc, count)?;
+        let high = vec![in alloc; 0; masks.len()]?;
+        let mut found = vec![in alloc; true; masks.len()]?;
+        if masks.len() == high.len() && masks.len() == found.len() {
+            matches([5, 0], [7, 0], &masks, &high, &mut found);
+        }
+        assert!(rt; found.as_slice() == complete.as_slice());
+    }
     Ok(())
 }
 
@@ -123,28 +80,29 @@ fn vertices(alloc: Global, count: u32) -> Result<Vec<Vertex>, Stop>
 }
 
 // The pairs of so many vertices with so many others, all of which have all bits.
-fn paired(
+fn paired<R: Threads + Sync>(
+    rt: &R,
     alloc: Global,
     first: u32,
     second: u32,
 ) -> Result<Result<Vec<(u32, u32)>, PairStop>, Stop> {
     let first = vertices(alloc, first)?;
     let second = vertices(alloc, second)?;
-    Ok(pairs(alloc, first.as_slice(), second.as_slice(), [1, 0]))
+    Ok(pairs(rt, alloc, first.as_slice(), second.as_slice(), [1, 0]))
 }
 
 /// As many pairs as may be, and 1,024 more.
 #[test]
 fn limit_of_pairs(rt: HostRuntime) -> Result<(), Stop> {
     let alloc = rt.alloc();
-    let Ok(most) = paired(alloc, 1024, 1024)? else {
+    let Ok(most) = paired(&rt, alloc, 1024, 1024)? else {
         return Err(Stop::Memory);
     };
     assert_eq!(rt; most.len(), 1_048_576);
     assert!(rt; most.first() == Some(&(0, 0)));
     assert!(rt; most.get(1024) == Some(&(1, 0)));
     assert!(rt; most.last() == Some(&(1023, 1023)));
-    let Err(stop) = paired(alloc, 1025, 1024)? else {
+    let Err(stop) = paired(&rt, alloc, 1025, 1024)? else {
         return Err(Stop::Unfit);
     };
     let limit = TooLarge {

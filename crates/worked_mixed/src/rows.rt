@@ -9,6 +9,44 @@ const PENNIES: &str = "NFG 1 R \"\" { \"A\" \"B\" } { 2 2 } 1 -1 -1 1 -1 1 1 -1"
 const STEEP: &str =
     "NFG 1 R \"\" { \"A\" \"B\" } { 2 2 } 1 0 4611686018427387904 0 18/17 0 4611686018427387905/4611686018427387904 0";
 
+// A step of the shift does not fit, unless the dominated strategy is set aside.
+const UNEQUAL: &str =
+    "NFG 1 R \"\" { \"A\" \"B\" } { 2 1 } 9223372036854775807/9223372036854775805 0 -9223372036854775807/9223372036854775806 0";
+
+// The second row is dominated, and without it the second column; a step of the second player's shift does not fit in one row.
+const TWO_ROUNDS: &str =
+    "NFG 1 R \"\" { \"A\" \"B\" } { 2 2 } 1 9223372036854775807/9223372036854775805 0 0 1 -9223372036854775807/9223372036854775806 0 1";
+
+/// Dominated strategies are set aside, in two rounds where these are needed, and have probability 0 on the lines: all but one of
+/// each player, too. One that is not strictly dominated stays.
+#[test]
+fn dominated_strategies(rt: HostRuntime) -> Result<(), Stop> {
+    let rows = [
+        (UNEQUAL, "NE,1,0,1\n"),
+        (TWO_ROUNDS, "NE,1,0,1,0\n"),
+        (
+            "NFG 1 R \"PD\" { \"A\" \"B\" } { 2 2 } 3 3 5 0 0 5 1 1",
+            "NE,0,1,0,1\n",
+        ),
+        (
+            "NFG 1 R \"\" { \"A\" \"B\" } { 3 2 } 1 1 0 2 0 2 1 1 0 3 2 0",
+            "NE,1,0,0,1,0\nNE,1,0,0,1/2,1/2\n",
+        ),
+        (
+            "NFG 1 R \"\" { \"A\" \"B\" } { 3 3 } 2 1 0 0 -1 0 0 0 1 2 -1 1 0 -1 1 -1 -1 -1",
+            "NE,1,0,0,1,0,0\nNE,2/3,1/3,0,1/3,2/3,0\nNE,0,1,0,0,1,0\n",
+        ),
+    ];
+    for (input, out) in rows {
+        let case = Case {
+            out,
+            ..Case::of(input)
+        };
+        assert!(rt; case.holds(&rt, rt.alloc())?);
+    }
+    Ok(())
+}
+
 /// One-card poker, and a player who forgets, by reduced strategies; a table of outcomes, whose continuum has two ends.
 #[test]
 fn trees_and_outcomes(rt: HostRuntime) -> Result<(), Stop> {
@@ -36,6 +74,37 @@ fn trees_and_outcomes(rt: HostRuntime) -> Result<(), Stop> {
     Ok(())
 }
 
+/// Made tables: two by two, and one by one; a table with more than 32 rows is refused.
+#[test]
+fn made_tables(rt: HostRuntime) -> Result<(), Stop> {
+    let rows = [
+        (
+            "make 1 2 2",
+            0,
+            "bases 4 3\nvertices 3 2\nequilibria 1\n",
+            "",
+        ),
+        (
+            "make 0 1 1",
+            0,
+            "bases 2 2\nvertices 1 1\nequilibria 1\n",
+            "",
+        ),
+        ("make 1 33 2", 2, "", "gambit: words not understood\n"),
+    ];
+    for (words, status, out, err) in rows {
+        let case = Case {
+            words,
+            status,
+            out,
+            err,
+            ..Case::of("")
+        };
+        assert!(rt; case.holds(&rt, rt.alloc())?);
+    }
+    Ok(())
+}
+
 /// Three players; steps that do not fit: on the way to a new basis, for any number of workers, in the first basis, and in the
 /// shift of the payoffs.
 #[test]
@@ -56,8 +125,8 @@ fn refused_games(rt: HostRuntime) -> Result<(), Stop> {
             "gambit: range in polytope 2 start row 1: mul 21267647932558653971072598982912901120 4611686018427387903\n",
         ),
         (
-            "enummixed",
-            "NFG 1 R \"\" { \"A\" \"B\" } { 2 1 } 9223372036854775807/9223372036854775805 0 -9223372036854775807/9223372036854775806 0",
+            "enummixed -D",
+            UNEQUAL,
             "gambit: range in shift player 1 profile 1: add 9223372036854775807/9223372036854775805 18446744073709551613/9223372036854775806\n",
         ),
     ];

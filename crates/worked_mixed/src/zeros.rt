@@ -4,12 +4,16 @@ use crate::stop::Stop;
 use std::alloc::Global;
 use std::thread::Threads;
 
-// The file of such a table.
-fn file(alloc: Global, height: usize, width: usize) -> Result<String, Stop> {
-    let mut text = format!(in alloc; "NFG 1 R \"\" {{ \"A\" \"B\" }} {{ {height} {width} }}")?;
-    for _ in 0..height {
-        for _ in 0..width {
-            text.push_str(" 0 0")?;
+// The file of a table with these payoffs at its first profile, and zeros at all others.
+fn file(alloc: Global, height: usize, width: usize, first: &str) -> Result<String, Stop> {
+    let mut text = format!(in alloc;
+        "NFG 1 R \"\" {{ \"A\" \"B\" }} {{ {height} {width} }} {first}"
+    )?;
+    for row in 0..height {
+        for column in 0..width {
+            if row > 0 || column > 0 {
+                text.push_str(" 0 0")?;
+            }
         }
     }
     Ok(text)
@@ -44,7 +48,7 @@ fn are_listed<R: Threads + Sync>(
     height: usize,
     width: usize,
 ) -> Result<bool, Stop> {
-    let input = file(alloc, height, width)?;
+    let input = file(alloc, height, width, "0 0")?;
     let text = lines(alloc, height, width)?;
     let case = Case {
         room: text.len(),
@@ -62,13 +66,45 @@ fn pure_equilibria_of_zeros(rt: HostRuntime) -> Result<(), Stop> {
     Ok(())
 }
 
-/// A strategy too many.
+/// Too many strategies: more than the enumeration takes, whether dominated ones are set aside or not, or more than are looked
+/// through for dominated ones; and many strategies that one of them dominates, which only count where none is set aside.
 #[test]
 fn too_many_strategies(rt: HostRuntime) -> Result<(), Stop> {
-    let input = file(rt.alloc(), 128, 1)?;
+    let few = "gambit: too large: 129 labels, limit 128\n";
+    let rows = [
+        ("enummixed", 128, "0 0", few),
+        ("enummixed -D", 128, "0 0", few),
+        ("enummixed -D", 128, "1 0", few),
+        (
+            "enummixed",
+            512,
+            "0 0",
+            "gambit: too large: 513 labels, limit 512\n",
+        ),
+    ];
+    for (words, height, first, err) in rows {
+        let input = file(rt.alloc(), height, 1, first)?;
+        let case = Case {
+            words,
+            status: 1,
+            err,
+            ..Case::of(input.as_str())
+        };
+        assert!(rt; case.holds(&rt, rt.alloc())?);
+    }
+    Ok(())
+}
+
+/// One strategy that dominates 127 others.
+#[test]
+fn one_strategy_stays(rt: HostRuntime) -> Result<(), Stop> {
+    let input = file(rt.alloc(), 128, 1, "1 0")?;
+    let mut text = String::from_str(rt.alloc(), "NE")?;
+    push_pure(&mut text, 128, 0)?;
+    push_pure(&mut text, 1, 0)?;
+    text.push_str("\n")?;
     let case = Case {
-        status: 1,
-        err: "gambit: too large: 129 labels, limit 128\n",
+        out: text.as_str(),
         ..Case::of(input.as_str())
     };
     assert!(rt; case.holds(&rt, rt.alloc())?);
