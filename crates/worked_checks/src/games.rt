@@ -12,6 +12,14 @@ pub const PENNIES: &str = "NFG 1 R \"\" { \"A\" \"B\" } { 2 2 } 1 -1 -1 1 -1 1 1
 /// Three strategies against two, with a continuum of equilibria.
 pub const THREE_BY_TWO: &str = "NFG 1 R \"\" { \"A\" \"B\" } { 3 2 } 1 1 0 2 0 2 1 1 0 3 2 0";
 
+/// The same game by its outcomes.
+pub const OUTCOMES: &str =
+    "NFG 1 R \"Selten\" { \"Player 1\" \"Player 2\" }\n\n{ { \"1\" \"2\" \"3\" }\n{ \"1\" \"2\" }\n}\n\"\"\n\n{\n{ \"\" 1, 1 }\n{ \"\" 0, 2 }\n{ \"\" 0, 2 }\n{ \"\" 1, 1 }\n{ \"\" 0, 3 }\n{ \"\" 2, 0 }\n}\n1 2 3 4 5 6\n";
+
+/// Decimals and fractions.
+pub const DECIMALS: &str =
+    "NFG 1 R \"\" { \"Row\" \"Column\" } { 2 2 }\n\n0.5 1/3, 1/2 .25, 1e-1 0.3, 0.2 1/5\n";
+
 /// Three hunters.
 pub const STAG_HUNT: &str =
     "NFG 1 R \"\" { \"Ann\" \"Ben\" \"Cleo\" } { 2 2 2 } 2 2 2 1 0 0 0 1 0 1 1 0 0 0 1 1 0 1 0 1 1 1 1 1";

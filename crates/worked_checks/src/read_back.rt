@@ -1,7 +1,8 @@
 // What the other tools print, read back by `check`.
 use crate::case::Case;
 use crate::games::{
-    ALONE, BATTLE, ENTRY, FORGET, PENNIES, POKER, PRISONERS, STAG_HUNT, THREE_BY_TWO,
+    ALONE, BATTLE, DECIMALS, ENTRY, FORGET, OUTCOMES, PENNIES, POKER, PRISONERS, STAG_HUNT,
+    THREE_BY_TWO,
 };
 use memory::Memory;
 use std::alloc::Global;
@@ -30,26 +31,43 @@ fn reads_back<R: Threads + Sync>(
 fn lines_are_equilibria(rt: HostRuntime) -> Result<(), Memory> {
     let rows = [
         ("enumpure game", "check game", PRISONERS, 1),
+        ("enummixed game", "check game", PRISONERS, 1),
+        ("lcp game", "check game", PRISONERS, 1),
         ("enumpure game", "check game", BATTLE, 2),
-        ("enumpure game", "check game", PENNIES, 0),
-        ("enumpure game", "check game", STAG_HUNT, 2),
-        ("enumpure game", "check game", ENTRY, 2),
-        ("enumpure -S game", "check -S game", ENTRY, 2),
-        ("enumpure game", "check game", ALONE, 1),
-        ("enumpure -S game", "check -S game", FORGET, 1),
         ("enummixed game", "check game", BATTLE, 3),
-        ("enummixed game", "check game", PENNIES, 1),
-        ("enummixed -D game", "check game", THREE_BY_TWO, 2),
-        ("enummixed game", "check -S game", POKER, 1),
-        ("enummixed game", "check -S game", ENTRY, 3),
-        ("enummixed game", "check -S game", FORGET, 1),
         ("lcp game", "check game", BATTLE, 1),
+        ("enumpure game", "check game", PENNIES, 0),
+        ("enummixed game", "check game", PENNIES, 1),
+        ("lcp game", "check game", PENNIES, 1),
+        ("lp game", "check game", PENNIES, 1),
+        ("enumpure game", "check game", THREE_BY_TWO, 1),
+        ("enummixed game", "check game", THREE_BY_TWO, 2),
+        ("enummixed -D game", "check game", THREE_BY_TWO, 2),
+        ("lcp game", "check game", THREE_BY_TWO, 1),
+        ("enumpure game", "check game", OUTCOMES, 1),
+        ("enummixed game", "check game", OUTCOMES, 2),
+        ("lcp game", "check game", OUTCOMES, 1),
+        ("enumpure game", "check game", DECIMALS, 2),
+        ("enummixed game", "check game", DECIMALS, 2),
+        ("lcp game", "check game", DECIMALS, 1),
+        ("enumpure game", "check game", STAG_HUNT, 2),
+        ("enumpure game", "check game", POKER, 0),
+        ("enumpure -S game", "check -S game", POKER, 0),
+        ("enummixed game", "check -S game", POKER, 1),
         ("lcp game", "check game", POKER, 1),
         ("lcp -S game", "check -S game", POKER, 1),
-        ("lcp game", "check game", ENTRY, 1),
-        ("lp game", "check game", PENNIES, 1),
         ("lp game", "check game", POKER, 1),
         ("lp -S game", "check -S game", POKER, 1),
+        ("enumpure game", "check game", ENTRY, 2),
+        ("enumpure -S game", "check -S game", ENTRY, 2),
+        ("enummixed game", "check -S game", ENTRY, 3),
+        ("lcp game", "check game", ENTRY, 1),
+        ("lcp -S game", "check -S game", ENTRY, 1),
+        ("enumpure -S game", "check -S game", FORGET, 1),
+        ("enummixed game", "check -S game", FORGET, 1),
+        ("lcp -S game", "check -S game", FORGET, 1),
+        ("enumpure game", "check game", ALONE, 1),
+        ("enumpure -S game", "check -S game", ALONE, 1),
     ];
     for (tool, check, game, lines) in rows {
         assert!(rt; reads_back(&rt, rt.alloc(), tool, check, game, lines)?);
