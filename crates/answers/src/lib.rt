@@ -1,8 +1,13 @@
-//! What a computation in stages may answer, and its laws.
+//! What a computation in stages may answer, and its laws; and want of memory, the one answer of which
+//! no contract says when it comes.
 #![tactic(auto)]
 
 ghost use Rattle.std.specs.Prelude.{◌≡◌, Ok, Err, Result};
 ghost use Rattle.answers.specs.Answers.{Answer, IsSingle, Gives, then, refused_by, map_err};
+
+mod memory;
+
+pub use memory::Memory;
 
 /// Two stages, of which the second may speak of what the first gives.
 pub trait Stages<E, Y, Z> {

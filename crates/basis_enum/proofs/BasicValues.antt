@@ -3,9 +3,9 @@ use Rattle.std.proofs.Common.{ℕ, List, [], ◌∷◌, ◌++◌, ◌+◌, lengt
 use Rattle.std.proofs.lemmas.List.{map_more}
 use Rattle.rational.specs.Rational.{ℚ}
 use Rattle.lex_tableau.specs.Rows.{Numbers, tableau, IsTableau, IsValueOf}
-use Rattle.extreme_points.specs.Points.{basic_solution}
+use Rattle.linear_systems.specs.Points.{basic_solution}
 use Rattle.basis_enum.specs.Marks.{values_of}
-use Rattle.extreme_points.proofs.Solutions.{Place, in_basis, outside, absent, place, solution_basic, solution_elsewhere}
+use Rattle.linear_systems.proofs.Solutions.{Place, in_basis, outside, absent, place, solution_basic, solution_elsewhere}
 
 pub value_is : (t : Numbers) (v : ℕ) (q : ℚ) → IsTableau t → IsValueOf (tableau t) v q
     → q ≡ basic_solution (tableau t) v

@@ -5,7 +5,7 @@ use Rattle.std.specs.List.Sorted.{IsStrictlyIncreasing, IsNonDecreasingBy, IsPer
 use Rattle.std.proofs.lemmas.List.Sorted.{Contains-permutation, IsPermutation-sym}
 use Rattle.std.proofs.lemmas.List.Elements.{Contains-append_left, Contains-append_right, Contains-append_cases, Contains-get_or}
 use Rattle.std.proofs.lemmas.List.{get_or_default, map-append}
-use Rattle.basis_levels.proofs.Lists.{first_in, in_cases, unmapped, increasing_push}
+use Rattle.basis_enum.proofs.Lists.{first_in, in_cases, unmapped, increasing_push}
 use Rattle.basis_enum.specs.declared.moves.Move.{Move}
 use Rattle.basis_enum.specs.Next.{target_of, order_of, rank_of, no_move, AreSmall, LeadsFurther, LeadsAgain, AreFirsts, IsNextOf}
 

@@ -4,14 +4,14 @@ use Rattle.std.specs.List.{Contains}
 use Rattle.std.proofs.lemmas.List.Sums.{sum_by-cons}
 use Rattle.linear_systems.specs.Reached.{in_row, in_column}
 use Rattle.lex_tableau.specs.Rows.{Numbers, tableau, IsTableau}
-use Rattle.basis_levels.specs.Bases.{digit, basis_of, neighbour_of, HaveDigits}
-use Rattle.basis_levels.specs.Levels.{IsLexRowOf}
-use Rattle.basis_levels.proofs.Neighbours.{neighbour_is, neighbour_below}
+use Rattle.basis_enum.specs.Bases.{digit, basis_of, neighbour_of, HaveDigits}
+use Rattle.basis_enum.specs.Levels.{IsLexRowOf}
+use Rattle.basis_enum.proofs.Neighbours.{neighbour_is, neighbour_below}
 use Rattle.rational.specs.Rational.{zero_ℚ, ◌≤ℚ◌}
 use Rattle.rational.proofs.Field.{not_lt_of_le}
 use Rattle.linear_systems.proofs.LexRow.{lex_row_once}
 use Rattle.lex_tableau.specs.Ratio.{listed}
-use Rattle.basis_levels.proofs.Lists.{first_in, in_cases}
+use Rattle.basis_enum.proofs.Lists.{first_in, in_cases}
 use Rattle.std.proofs.lemmas.List.Elements.{Contains-append_left, Contains-append_right, Contains-append_cases}
 use Rattle.basis_enum.specs.declared.moves.Move.{Move}
 use Rattle.basis_enum.specs.Found.{IsFound, HasNone, AreFound, AddsFound}

@@ -5,10 +5,10 @@ use Rattle.std.specs.List.Sorted.{IsStrictlyIncreasing}
 use Rattle.std.proofs.lemmas.List.{get_or_default}
 use Rattle.std.proofs.lemmas.List.Elements.{Contains-append_left, Contains-append_right, Contains-append_cases}
 use Rattle.lex_tableau.specs.Rows.{Numbers}
-use Rattle.basis_levels.specs.Bases.{basis_of, neighbour_of}
-use Rattle.basis_levels.specs.Levels as L
-use Rattle.basis_levels.specs.Levels.{Levels, no_tableau, bases_of, IsLexRowOf, IsMove, AreNextMoves, IsNew, ComesBefore}
-use Rattle.basis_levels.proofs.Lists.{mapped, once_in, first_in, rest_in, in_cases}
+use Rattle.basis_enum.specs.Bases.{basis_of, neighbour_of}
+use Rattle.basis_enum.specs.Levels as L
+use Rattle.basis_enum.specs.Levels.{Levels, no_tableau, bases_of, IsLexRowOf, IsMove, AreNextMoves, IsNew, ComesBefore}
+use Rattle.basis_enum.proofs.Lists.{mapped, once_in, first_in, rest_in, in_cases}
 use Rattle.basis_enum.specs.declared.moves.Move.{Move}
 use Rattle.basis_enum.specs.Found.{IsFound, AreFound, IsFoundIn, AreFoundIn, AddsFoundAt, IsReady, IsLevelOf, AreKnown}
 use Rattle.basis_enum.proofs.FoundMoves.{entering_bounds}

@@ -1,11 +1,17 @@
 pub mod Ascending
 pub mod BasicValues
+pub mod Complete
+pub mod Digits
 pub mod Firsts
 pub mod FoundMoves
 pub mod LevelMoves
+pub mod Lists
 pub mod Masks
 pub mod Merged
+pub mod Neighbours
 pub mod NextLevel
+pub mod NextPivots
+pub mod Once
 pub mod Orders
 pub mod Search
 pub mod Single

@@ -9,11 +9,11 @@ use Rattle.rational.specs.Rational.{ℚ, ◌+ℚ◌, ◌*ℚ◌, zero_ℚ}
 use Rattle.rational.specs.Sum.{sum_to}
 use Rattle.rational.proofs.RationalRing.{rational_ring}
 use Rattle.rational.proofs.Sums.{sum_to-zeros}
-use Rattle.rings.proofs.Ring.{ring, num, ◌:+◌, ◌:*◌, A, B}
+use Rattle.rational.proofs.Ring.{ring, num, ◌:+◌, ◌:*◌, A, B}
 use Rattle.linear_systems.specs.Tableau.{Tableau}
 use Rattle.linear_systems.specs.Rows.{unit_at, HasDistinctVariables}
 use Rattle.linear_systems.proofs.Rows.{unit_self, unit_other, times_zero}
-use Rattle.extreme_points.specs.Vertices.{IsZeroWord}
+use Rattle.linear_systems.specs.Vertices.{IsZeroWord}
 
 -- the basic solution by the first rows alone
 abbrev pub solution_to : Tableau → ℕ → ℕ → ℚ

@@ -4,8 +4,8 @@ use Rattle.std.specs.List.{Contains}
 use Rattle.std.specs.List.Sorted.{IsStrictlyIncreasing}
 use Rattle.std.proofs.lemmas.List.{length-append}
 use Rattle.std.proofs.lemmas.List.Elements.{Contains-append_left, Contains-append_right, Contains-append_cases, Contains-get_or}
-use Rattle.basis_levels.proofs.Lists.{first_in, in_cases, increasing_push}
-use Rattle.basis_levels.proofs.Neighbours.{place_of}
+use Rattle.basis_enum.proofs.Lists.{first_in, in_cases, increasing_push}
+use Rattle.basis_enum.proofs.Neighbours.{place_of}
 use Rattle.basis_enum.specs.Merged.{IsMerged, TakesFirst, AreMerged}
 
 pub merged_start : (xs ys : List ℕ) → AreMerged xs ys 0 0 []

@@ -6,9 +6,9 @@ use Rattle.std.proofs.lemmas.List.{length-append, length-map, get_or_append_left
 use Rattle.frac128.specs.declared.steps.Unfit.{Unfit}
 use Rattle.lex_tableau.specs.Rows.{Numbers}
 use Rattle.whole_rows.specs.Steps.{AllFit, IsFirstUnfit}
-use Rattle.basis_levels.specs.Levels as L
-use Rattle.basis_levels.specs.Levels.{Levels, no_tableau, IsChild, AreNextMoves, IsNextLevel, count, most, steps_of}
-use Rattle.basis_levels.specs.Ends.{IsFirstUnfitMove}
+use Rattle.basis_enum.specs.Levels as L
+use Rattle.basis_enum.specs.Levels.{Levels, no_tableau, IsChild, AreNextMoves, IsNextLevel, count, most, steps_of}
+use Rattle.basis_enum.specs.Ends.{IsFirstUnfitMove}
 use Rattle.basis_enum.specs.declared.children.ChildStop.{ChildStop}
 use Rattle.basis_enum.specs.declared.children.ChildStop.TheVariants as stops
 use Rattle.basis_enum.specs.declared.moves.Move.{Move}

@@ -1,11 +1,11 @@
 -- A system has one answer
 use Rattle.std.proofs.Common.{ℕ, ◌≡◌, refl, sym, ap, ap₂, ◌∙◌, arith, List, [], length, Ok, Err}
-use Rattle.extreme_points.proofs.VertexLists.{vertices_determined}
+use Rattle.linear_systems.proofs.VertexLists.{vertices_determined}
 use Rattle.lex_tableau.specs.Rows.{Numbers}
 use Rattle.lex_tableau.specs.Starts.{Parts, system_of}
-use Rattle.basis_levels.specs.Systems.{variable_count}
-use Rattle.basis_levels.specs.Ends.{End, complete, start, range, too_many, IsEnd}
-use Rattle.basis_levels.proofs.Once.{ends_once}
+use Rattle.basis_enum.specs.Systems.{variable_count}
+use Rattle.basis_enum.specs.Ends.{End, complete, start, range, too_many, IsEnd}
+use Rattle.basis_enum.proofs.Once.{ends_once}
 use Rattle.basis_enum.specs.declared.stop.EnumStop.{EnumStop}
 use Rattle.basis_enum.specs.declared.stop.EnumStop.TheVariants as stops
 use Rattle.basis_enum.specs.Enumeration.{AreVerticesOf, IsRefusal, limit_of, VerticesAreSingle}

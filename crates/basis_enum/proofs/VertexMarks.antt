@@ -14,14 +14,14 @@ use Rattle.linear_systems.specs.Tableau.{Tableau}
 use Rattle.linear_systems.specs.Reached.{IsVariableOf, in_row, in_column}
 use Rattle.lex_tableau.specs.Rows.{Numbers, tableau}
 use Rattle.lex_tableau.specs.Starts.{Parts, system_of, IsSystem}
-use Rattle.extreme_points.specs.Points.{IsExtremePoint, IsNonzero, AreEqualAt, basic_solution}
-use Rattle.extreme_points.specs.Reach.{IsLexReached}
-use Rattle.extreme_points.specs.Vertices.{MarkedPoint, IsZeroWord, IsMarkOf, IsVertexMark, AreVertices, mask_of}
-use Rattle.extreme_points.proofs.Small.{extreme_alone}
-use Rattle.basis_levels.specs.Levels.{no_tableau}
-use Rattle.basis_levels.specs.Systems.{IsEnumerable, variable_count}
-use Rattle.basis_levels.specs.Ends.{complete, IsEnd}
-use Rattle.basis_levels.proofs.Complete.{complete_cover, complete_extreme}
+use Rattle.linear_systems.specs.Points.{IsExtremePoint, IsNonzero, AreEqualAt, basic_solution}
+use Rattle.linear_systems.specs.Reach.{IsLexReached}
+use Rattle.linear_systems.specs.Vertices.{MarkedPoint, IsZeroWord, IsMarkOf, IsVertexMark, AreVertices, mask_of}
+use Rattle.linear_systems.proofs.Small.{extreme_alone}
+use Rattle.basis_enum.specs.Levels.{no_tableau}
+use Rattle.basis_enum.specs.Systems.{IsEnumerable, variable_count}
+use Rattle.basis_enum.specs.Ends.{complete, IsEnd}
+use Rattle.basis_enum.proofs.Complete.{complete_cover, complete_extreme}
 use Rattle.basis_enum.specs.declared.vertex.Vertex.{Vertex}
 use Rattle.basis_enum.specs.Marks.{AreUpTo, IsNoted, left_out, added, IsMarkIn, AreMarksOf, AreInOrder}
 use Rattle.basis_enum.specs.Vertices.{mark_of, marks_of}

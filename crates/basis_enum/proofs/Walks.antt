@@ -8,16 +8,16 @@ use Rattle.std.proofs.lemmas.List.Elements.{Contains-append_left, Contains-appen
 use Rattle.std.proofs.Math.ListN.{get_or-map}
 use Rattle.frac128.specs.declared.steps.Unfit.{Unfit}
 use Rattle.linear_systems.specs.Reached.{in_column}
-use Rattle.extreme_points.specs.Vertices.{MarkedPoint}
+use Rattle.linear_systems.specs.Vertices.{MarkedPoint}
 use Rattle.lex_tableau.specs.Rows.{Numbers}
 use Rattle.lex_tableau.specs.Starts.{Parts, IsSystem}
-use Rattle.basis_levels.specs.Bases.{basis_of, AreVariables}
-use Rattle.basis_levels.specs.Levels.{Levels, IsLevel, IsNextLevel, AreNextMoves, bases_of, most, no_tableau, parent_of}
-use Rattle.basis_levels.specs.Systems.{IsEnumerable, variable_count}
-use Rattle.basis_levels.specs.Ends.{complete, IsEnd, IsStoppedAt}
-use Rattle.basis_levels.proofs.Complete.{Held, held_start, held_digits, level_held, pivoted_nonbasics}
-use Rattle.basis_levels.proofs.Lists.{unmapped}
-use Rattle.basis_levels.proofs.Once.{level_few}
+use Rattle.basis_enum.specs.Bases.{basis_of, AreVariables}
+use Rattle.basis_enum.specs.Levels.{Levels, IsLevel, IsNextLevel, AreNextMoves, bases_of, most, no_tableau, parent_of}
+use Rattle.basis_enum.specs.Systems.{IsEnumerable, variable_count}
+use Rattle.basis_enum.specs.Ends.{complete, IsEnd, IsStoppedAt}
+use Rattle.basis_enum.proofs.Complete.{Held, held_start, held_digits, level_held, pivoted_nonbasics}
+use Rattle.basis_enum.proofs.Lists.{unmapped}
+use Rattle.basis_enum.proofs.Once.{level_few}
 use Rattle.basis_enum.specs.declared.moves.Move.{Move}
 use Rattle.basis_enum.specs.declared.stop.EnumStop.{EnumStop}
 use Rattle.basis_enum.specs.declared.stop.EnumStop.TheVariants as stops

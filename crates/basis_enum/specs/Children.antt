@@ -3,8 +3,8 @@ use Rattle.std.specs.Prelude.{ℕ, ◌<◌, ◌≤◌, ◌≡◌, List, length, 
 use Rattle.std.specs.List.{Contains}
 use Rattle.lex_tableau.specs.Rows.{Numbers}
 use Rattle.whole_rows.specs.Steps.{IsFirstUnfit}
-use Rattle.basis_levels.specs.Levels.{no_tableau, IsMove, IsChild, steps_of}
-use Rattle.basis_levels.specs.Ends.{IsFirstUnfitMove}
+use Rattle.basis_enum.specs.Levels.{no_tableau, IsMove, IsChild, steps_of}
+use Rattle.basis_enum.specs.Ends.{IsFirstUnfitMove}
 use Rattle.basis_enum.specs.declared.moves.Move.{Move}
 use Rattle.basis_enum.specs.declared.children.ChildStop.{ChildStop}
 use Rattle.basis_enum.specs.declared.children.ChildStop.TheVariants.{Unfit, Memory}

@@ -3,12 +3,12 @@ use Rattle.std.specs.Prelude.{ℕ, ◌≡◌, ◌⊎◌, List, length, Ok, Err}
 use Rattle.answers.specs.Answers.{Answer, IsSingle}
 use Rattle.game_core.specs.declared.too_large.TooLarge.{TooLarge}
 use Rattle.game_core.specs.declared.too_large.What.TheVariants as what
-use Rattle.extreme_points.specs.Vertices.{AreVertices}
+use Rattle.linear_systems.specs.Vertices.{AreVertices}
 use Rattle.lex_tableau.specs.Rows.{Numbers}
 use Rattle.lex_tableau.specs.Starts.{Parts, system_of}
-use Rattle.basis_levels.specs.Systems.{variable_count}
-use Rattle.basis_levels.specs.Levels.{most}
-use Rattle.basis_levels.specs.Ends.{complete, start, range, too_many, IsEnd}
+use Rattle.basis_enum.specs.Systems.{variable_count}
+use Rattle.basis_enum.specs.Levels.{most}
+use Rattle.basis_enum.specs.Ends.{complete, start, range, too_many, IsEnd}
 use Rattle.basis_enum.specs.declared.stop.EnumStop.{EnumStop}
 use Rattle.basis_enum.specs.declared.stop.EnumStop.TheVariants.{Start, Range, TooLarge as AboveLimit, Memory}
 use Rattle.basis_enum.specs.Vertices.{VertexList}

@@ -2,8 +2,8 @@
 use Rattle.std.specs.Prelude.{ℕ, ◌^◌, ◌<◌, ◌≡◌, ◌++◌, List, length, get_or}
 use Rattle.std.specs.List.{Contains}
 use Rattle.lex_tableau.specs.Rows.{Numbers, IsTableau}
-use Rattle.basis_levels.specs.Bases.{neighbour_of, HaveDigits}
-use Rattle.basis_levels.specs.Levels.{Levels, IsLexRowOf, no_tableau, bases_of}
+use Rattle.basis_enum.specs.Bases.{neighbour_of, HaveDigits}
+use Rattle.basis_enum.specs.Levels.{Levels, IsLexRowOf, no_tableau, bases_of}
 use Rattle.basis_enum.specs.declared.moves.Move.{Move}
 
 -- all rows are rated, and rows and columns have numbers of 32 bits

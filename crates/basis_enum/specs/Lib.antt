@@ -1,8 +1,13 @@
+pub mod Bases
 pub mod Children
+pub mod Ends
 pub mod Enumeration
 pub mod Found
+pub mod Laws
+pub mod Levels
 pub mod Marks
 pub mod Merged
 pub mod Next
+pub mod Systems
 pub mod Vertices
 pub mod Walks

@@ -4,9 +4,9 @@ use Rattle.std.specs.List.{All, Contains}
 use Rattle.rational.specs.Rational.{ℚ}
 use Rattle.lex_tableau.specs.Rows.{Numbers, tableau}
 use Rattle.lex_tableau.specs.Starts.{Parts, system_of}
-use Rattle.extreme_points.specs.Points.{IsNonzero, basic_solution}
-use Rattle.extreme_points.specs.Vertices.{MarkedPoint, IsMarkOf, mask_of}
-use Rattle.basis_levels.specs.Systems.{variable_count}
+use Rattle.linear_systems.specs.Points.{IsNonzero, basic_solution}
+use Rattle.linear_systems.specs.Vertices.{MarkedPoint, IsMarkOf, mask_of}
+use Rattle.basis_enum.specs.Systems.{variable_count}
 
 -- each of the variables is one of 1 to n
 abbrev pub AreUpTo : ℕ → List ℕ → Type 0

@@ -1,6 +1,6 @@
 -- What vertices stand for
 use Rattle.std.specs.Prelude.{ℕ, List, get_or, map}
-use Rattle.extreme_points.specs.Vertices.{MarkedPoint}
+use Rattle.linear_systems.specs.Vertices.{MarkedPoint}
 use Rattle.basis_enum.specs.declared.vertex.Vertex.{Vertex}
 use Rattle.basis_enum.specs.declared.vertex.Vertices.{Vertices}
 

@@ -3,13 +3,13 @@ use Rattle.std.specs.Prelude.{ℕ, ◌<◌, ◌≡◌, List, [], ◌++◌, lengt
 use Rattle.std.specs.List.{Contains}
 use Rattle.std.specs.List.Sorted.{IsStrictlyIncreasing}
 use Rattle.frac128.specs.declared.steps.Unfit.{Unfit}
-use Rattle.extreme_points.specs.Vertices.{MarkedPoint}
+use Rattle.linear_systems.specs.Vertices.{MarkedPoint}
 use Rattle.lex_tableau.specs.Rows.{Numbers, IsTableau}
 use Rattle.lex_tableau.specs.Starts.{Parts, IsSystem, IsStartOf, StartFits}
-use Rattle.basis_levels.specs.Systems.{variable_count}
-use Rattle.basis_levels.specs.Levels as L
-use Rattle.basis_levels.specs.Levels.{Levels, IsLevel, bases_of, most, no_tableau, parent_of}
-use Rattle.basis_levels.specs.Ends.{IsAscendingListOf, IsFirstUnfitMove}
+use Rattle.basis_enum.specs.Systems.{variable_count}
+use Rattle.basis_enum.specs.Levels as L
+use Rattle.basis_enum.specs.Levels.{Levels, IsLevel, bases_of, most, no_tableau, parent_of}
+use Rattle.basis_enum.specs.Ends.{IsAscendingListOf, IsFirstUnfitMove}
 use Rattle.basis_enum.specs.declared.moves.Move.{Move}
 use Rattle.basis_enum.specs.declared.stop.EnumStop.{EnumStop}
 use Rattle.basis_enum.specs.declared.stop.EnumStop.TheVariants.{Start, Range, TooLarge, Memory}

@@ -3,10 +3,10 @@
 ghost use Rattle.std.specs.Prelude.{◌≡◌, ◌+◌, ◌<◌, ◌≤◌, ◌^◌, ℕ, true, false, length, IfOk};
 ghost use Rattle.std.specs.List.{Contains};
 ghost use Rattle.std.specs.List.Sorted.{IsStrictlyIncreasing};
-ghost use Rattle.basis_levels.specs.Bases.{AreVariables, basis_of, digit as digit_of};
+ghost use Rattle.basis_enum.specs.Bases.{AreVariables, basis_of, digit as digit_of};
 ghost use Rattle.basis_enum.specs.Merged.{IsMerged, TakesFirst};
 
-use memory::Memory;
+use answers::Memory;
 use std::alloc::Global;
 
 // What the digit of a variable counts.

@@ -1,17 +1,17 @@
 // The tableaux of the next level.
 ghost use Rattle.std.specs.Prelude.{◌≡◌, ◌<◌, ◌≤◌, ◌+◌, ◌^◌, ℕ, length, get_or, IfOk, IfErr, OnOk};
 ghost use Rattle.lex_tableau.specs.PivotStops.{IsPivotStop};
-ghost use Rattle.basis_levels.specs.Levels.{IsChild, IsMove, parent_of};
+ghost use Rattle.basis_enum.specs.Levels.{IsChild, IsMove, parent_of};
 ghost use Rattle.basis_enum.specs.Children.{AreChildren, AreMoves, IsChildStop, IsStopAt};
 ghost use Rattle.basis_enum.specs.Found.{AreReady};
 ghost use Rattle.basis_enum.specs.Next.{move_of, no_move};
 
 use crate::moves::Move;
 use crate::work::sharers;
+use answers::Memory;
 use claims::{Claims, shared_map};
 use frac128::Unfit;
 use lex_tableau::{PivotStop, Steps, Tableau};
-use memory::Memory;
 use outside::Gate;
 use std::alloc::{AllocFailed, Global};
 use std::marker::{Brand, Sync};

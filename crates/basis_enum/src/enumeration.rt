@@ -1,7 +1,7 @@
 // The vertices of a system.
 ghost use Rattle.std.specs.Prelude.{◌≡◌, ◌≤◌, ◌+◌, IfOk};
 ghost use Rattle.answers.specs.Answers.{Gives, map_ok};
-ghost use Rattle.basis_levels.specs.Systems.{IsEnumerable};
+ghost use Rattle.basis_enum.specs.Systems.{IsEnumerable};
 ghost use Rattle.basis_enum.specs.declared.stop.EnumStop.TheVariants as stops;
 ghost use Rattle.basis_enum.specs.Enumeration.{vertices_in};
 ghost use Rattle.basis_enum.specs.Vertices.{list_of};

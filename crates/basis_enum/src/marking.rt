@@ -3,10 +3,10 @@ ghost use Rattle.std.specs.Prelude.{◌≡◌, ◌+◌, ◌*◌, ◌/◌, ◌%�
 ghost use Rattle.std.specs.List.{All, Any};
 ghost use Rattle.rational.specs.Rational.{zero_ℚ};
 ghost use Rattle.lex_tableau.specs.Rows.{tableau as fractions_of};
-ghost use Rattle.extreme_points.specs.Points.{basic_solution};
-ghost use Rattle.extreme_points.specs.Vertices.{IsZeroWord, mask_of};
+ghost use Rattle.linear_systems.specs.Points.{basic_solution};
+ghost use Rattle.linear_systems.specs.Vertices.{IsZeroWord, mask_of};
 ghost use Rattle.basis_enum.specs.Marks.{AreInOrder, AreUpTo, IsNoted, values_of};
-ghost use Rattle.basis_levels.specs.Systems.{variable_count};
+ghost use Rattle.basis_enum.specs.Systems.{variable_count};
 ghost use Rattle.basis_enum.specs.Vertices.{mark_of, marks_of};
 
 use crate::vertex::Vertex;

@@ -3,16 +3,16 @@ ghost use Rattle.std.specs.Prelude.{◌≡◌, ◌<◌, ◌≤◌, ◌+◌, ℕ,
 ghost use Rattle.std.specs.List.Sorted.{IsNonDecreasingBy, IsStrictlyIncreasing};
 ghost use Rattle.std.specs.Ordering.{nat_cmp};
 ghost use Rattle.lex_tableau.specs.Rows.{IsTableau};
-ghost use Rattle.basis_levels.specs.Bases.{HaveDigits, basis_of, neighbour_of};
-ghost use Rattle.basis_levels.specs.Levels.{no_tableau};
+ghost use Rattle.basis_enum.specs.Bases.{HaveDigits, basis_of, neighbour_of};
+ghost use Rattle.basis_enum.specs.Levels.{no_tableau};
 ghost use Rattle.basis_enum.specs.Found.{AddsFound, AddsFoundAt, AreFoundAt, AreFoundIn, HasNone, IsFound, IsLevelOf, IsWhole};
 ghost use Rattle.basis_enum.specs.Next.{AreFirsts, AreNewMoves, AreSmall, IsNextOf, LeadsAgain, LeadsFurther, rank, rank_of, target_of};
 
 use crate::bases::{exchanged, is_known};
 use crate::work::sharers;
+use answers::Memory;
 use claims::{Claims, shared_map};
 use lex_tableau::Tableau;
-use memory::Memory;
 use outside::Gate;
 use std::alloc::Global;
 use std::cmp::Ordering;

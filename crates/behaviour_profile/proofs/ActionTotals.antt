@@ -4,8 +4,8 @@ use Rattle.std.specs.Prelude.{◌==◌, if◌then◌else◌, sum}
 use Rattle.std.specs.List.{range_with_len, flat_map}
 use Rattle.std.proofs.lemmas.Bool.Decides.{Decides-eqb}
 use Rattle.std.proofs.lemmas.List.{map-append}
-use Rattle.game_trees.specs.Trees.{Tree}
-use Rattle.game_trees.specs.Behaviour.{is_own_of}
+use Rattle.game_theory.specs.Trees.{Tree}
+use Rattle.game_theory.specs.Behaviour.{is_own_of}
 use Rattle.game_core.specs.Tree.{GameTree, IsTree}
 use Rattle.game_core.specs.TreeGame.{game_of_tree}
 use Rattle.strategy_lists.specs.OwnNumbers.{own_numbers}

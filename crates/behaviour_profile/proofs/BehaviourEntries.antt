@@ -3,15 +3,15 @@ use Rattle.std.proofs.Common.{ℕ, zero, suc, ◌+◌, ◌-◌, ◌<◌, ◌≤�
 use Rattle.std.proofs.lemmas.Grind.{flat_map-append}
 use Rattle.std.proofs.lemmas.List.{append-nil, take_more, get_or-map, length-map}
 use Rattle.std.proofs.lemmas.Option.{none-some, same_Some, slice_get-get_or, slice_get_within, get_or_from_slice_get}
-use Rattle.game_trees.specs.TreeEntries.{own_entries, entries_from}
-use Rattle.game_trees.specs.OwnSets.{own_sets}
-use Rattle.game_trees.proofs.OwnSets.{IsAmong, AscendFrom, own_sets-tell, own_sets-ascend}
+use Rattle.game_theory.specs.TreeEntries.{own_entries, entries_from}
+use Rattle.game_theory.specs.OwnSets.{own_sets}
+use Rattle.game_theory.proofs.OwnSets.{IsAmong, AscendFrom, own_sets-tell, own_sets-ascend}
 use Rattle.rational.specs.Rational.{ℚ}
 use Rattle.game_theory.specs.Lines.{listed}
 use Rattle.game_theory.specs.Mixed.{sure}
 use Rattle.game_theory.specs.Profiles.{IsProfile}
-use Rattle.game_trees.specs.Trees.{Tree}
-use Rattle.game_trees.specs.Behaviour.{Behaviour, pure}
+use Rattle.game_theory.specs.Trees.{Tree}
+use Rattle.game_theory.specs.Behaviour.{Behaviour, pure}
 use Rattle.game_core.specs.Tree.{GameTree, InformationSet}
 use Rattle.game_core.specs.TreeGame.{game_of_tree}
 use Rattle.reduced_strategies.specs.StrategicForm.{AreStrategies, list_of, completed}

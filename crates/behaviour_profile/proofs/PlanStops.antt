@@ -7,9 +7,9 @@ use Rattle.std.proofs.lemmas.Option.{same_Some, slice_get-get_or}
 use Rattle.answers.specs.Answers.{Gives, IsSingle}
 use Rattle.rational.specs.Rational.{ℚ}
 use Rattle.game_theory.specs.Lines.{listed}
-use Rattle.game_trees.specs.Trees.{Tree}
-use Rattle.game_trees.specs.OwnSets.{own_sets}
-use Rattle.game_trees.specs.TreeEntries.{own_entries, entries_from}
+use Rattle.game_theory.specs.Trees.{Tree}
+use Rattle.game_theory.specs.OwnSets.{own_sets}
+use Rattle.game_theory.specs.TreeEntries.{own_entries, entries_from}
 use Rattle.sequence_forms.specs.PlanBehaviour.{behaviour_of}
 use Rattle.sequence_forms.proofs.Sequences.{own_set-is}
 use Rattle.game_core.specs.Tree.{GameTree, InformationSet}

@@ -10,12 +10,11 @@ use Rattle.rational.specs.Sum.{sum_to}
 use Rattle.game_theory.specs.Lines.{listed, entries}
 use Rattle.game_theory.specs.Mixed.{Mixed, IsValid as is_valid_profile, later}
 use Rattle.game_theory.proofs.ProfileLines.{entries-same}
-use Rattle.game_trees.specs.Trees.{Tree, IsTree}
-use Rattle.game_trees.specs.Behaviour.{Behaviour, IsValid}
-use Rattle.game_trees.specs.OwnSets.{own_sets}
-use Rattle.game_trees.specs.TreeEntries.{tree_entries, entries_from}
-use Rattle.game_trees.proofs.OwnSets.{IsAmong, AscendFrom, IsAmong-from, own_sets-has, own_sets-tell, own_sets-ascend}
-use Rattle.tree_lines.proofs.PrintedSets.{IsAmong-left, IsAmong-parts, IsAmong-right}
+use Rattle.game_theory.specs.Trees.{Tree, IsTree}
+use Rattle.game_theory.specs.Behaviour.{Behaviour, IsValid}
+use Rattle.game_theory.specs.OwnSets.{own_sets}
+use Rattle.game_theory.specs.TreeEntries.{tree_entries, entries_from}
+use Rattle.game_theory.proofs.OwnSets.{AscendFrom, IsAmong, IsAmong-from, IsAmong-left, IsAmong-parts, IsAmong-right, own_sets-ascend, own_sets-has, own_sets-tell}
 use Rattle.behaviour_profile.specs.EntryTests.{own_counts, action_counts, profile_in}
 use Rattle.behaviour_profile.specs.EntryLaws.{AdditionsFit, TestedEntriesAreBehaviours}
 use Rattle.behaviour_profile.specs.FirstActions.{entries_at}

@@ -6,9 +6,9 @@ use Rattle.std.proofs.lemmas.Bool.{cases_lt}
 use Rattle.std.proofs.lemmas.List.{take_all, length-map}
 use Rattle.std.proofs.lemmas.Option.{slice_get-map}
 use Rattle.rational.specs.Rational.{ℚ}
-use Rattle.game_trees.specs.OwnSets.{own_sets}
-use Rattle.game_trees.specs.Trees.{Tree, IsTree as is_game_tree}
-use Rattle.game_trees.proofs.OwnSets.{IsAmong, own_sets-tell}
+use Rattle.game_theory.specs.OwnSets.{own_sets}
+use Rattle.game_theory.specs.Trees.{Tree, IsTree as is_game_tree}
+use Rattle.game_theory.proofs.OwnSets.{IsAmong, own_sets-tell}
 use Rattle.game_core.specs.Tree.{GameTree, IsTree, InformationSet, own_sets as own_sets_of}
 use Rattle.game_core.specs.TreeGame.{game_of_tree}
 use Rattle.strategy_lists.proofs.ActionCounts.{actions-below}

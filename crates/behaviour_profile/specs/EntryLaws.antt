@@ -3,9 +3,9 @@ use Rattle.std.specs.Prelude.{ℕ, ◌≡◌, List, All, Ok}
 use Rattle.rational.specs.Rational.{ℚ}
 use Rattle.game_theory.specs.Lines.{entries}
 use Rattle.game_theory.specs.Mixed.{Mixed, IsValid as is_valid_profile}
-use Rattle.game_trees.specs.Behaviour.{Behaviour, IsValid}
-use Rattle.game_trees.specs.TreeEntries.{tree_entries}
-use Rattle.game_trees.specs.Trees.{Tree, IsTree}
+use Rattle.game_theory.specs.Behaviour.{Behaviour, IsValid}
+use Rattle.game_theory.specs.TreeEntries.{tree_entries}
+use Rattle.game_theory.specs.Trees.{Tree, IsTree}
 use Rattle.pure_payoffs.specs.Steps.{StepFits}
 use Rattle.behaviour_profile.specs.EntryTests.{Test, IsNotNegative, CanBeAdded, SumsToOne, action_counts, profile_in, tests_from}
 

@@ -8,8 +8,8 @@ use Rattle.rational.specs.Sum.{sum_to}
 use Rattle.frac128.specs.Steps.{unfit}
 use Rattle.frac128.specs.declared.steps.Op.TheVariants.{Add}
 use Rattle.game_theory.specs.Mixed.{Mixed}
-use Rattle.game_trees.specs.Trees.{Tree}
-use Rattle.game_trees.specs.OwnSets.{own_sets}
+use Rattle.game_theory.specs.Trees.{Tree}
+use Rattle.game_theory.specs.OwnSets.{own_sets}
 use Rattle.pure_payoffs.specs.Steps.{Step, StepFits}
 use Rattle.behaviour_profile.specs.declared.entries.ProfileFault.{ProfileFault}
 use Rattle.behaviour_profile.specs.declared.entries.ProfileFault.TheVariants as faults

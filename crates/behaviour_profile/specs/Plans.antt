@@ -6,9 +6,9 @@ use Rattle.rational.specs.Rational.{ℚ, zero_ℚ}
 use Rattle.rational.specs.Tests.{eq_test}
 use Rattle.frac128.specs.Steps.{unfit}
 use Rattle.frac128.specs.declared.steps.Op.TheVariants.{Div}
-use Rattle.game_trees.specs.Trees.{Tree}
-use Rattle.game_trees.specs.OwnSets.{own_sets}
-use Rattle.game_trees.specs.TreeEntries.{tree_entries}
+use Rattle.game_theory.specs.Trees.{Tree}
+use Rattle.game_theory.specs.OwnSets.{own_sets}
+use Rattle.game_theory.specs.TreeEntries.{tree_entries}
 use Rattle.sequence_forms.specs.PlanBehaviour.{of_two, behaviour_of}
 use Rattle.sequence_forms.specs.Sequences.{sequence, sequence_before}
 use Rattle.game_core.specs.Tree.{GameTree, InformationSet}

@@ -5,7 +5,7 @@ use Rattle.rational.specs.Rational.{ℚ, zero_ℚ}
 use Rattle.rational.specs.Tests.{eq_test}
 use Rattle.frac128.specs.Steps.{unfit}
 use Rattle.frac128.specs.declared.steps.Op.TheVariants.{Div}
-use Rattle.game_trees.specs.TreeEntries.{own_entries}
+use Rattle.game_theory.specs.TreeEntries.{own_entries}
 use Rattle.sequence_forms.specs.PlanBehaviour.{behaviour_of, share}
 use Rattle.game_core.specs.Tree.{GameTree, InformationSet}
 use Rattle.game_core.specs.TreeGame.{game_of_tree}

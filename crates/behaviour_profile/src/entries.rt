@@ -37,8 +37,8 @@ ghost use Rattle.behaviour_profile.specs.EntryTests.{
 use crate::Behaviour;
 use frac128::{Frac, Unfit};
 use game_core::Tree;
+use game_core::tree_parts::stands_for_game_tree;
 use strategy_lists::own_sets_are_those_of_the_tree;
-use tree_parts::stands_for_game_tree;
 
 /// What is wrong with the entries of a profile. A group is one player's strategies, or the actions
 /// of one set; places and groups count from 0.

@@ -5,13 +5,13 @@ ghost use Rattle.std.specs.Prelude.{◌≡◌, ◌++◌, length, map, IfOk, OnOk
 ghost use Rattle.game_theory.specs.Lines.{listed};
 ghost use Rattle.game_theory.specs.Mixed.{sure};
 ghost use Rattle.game_theory.specs.Profiles.{IsProfile};
-ghost use Rattle.game_trees.specs.Behaviour.{pure};
+ghost use Rattle.game_theory.specs.Behaviour.{pure};
 ghost use Rattle.game_core.specs.TreeGame.{game_of_tree};
 ghost use Rattle.reduced_strategies.specs.StrategicForm.{completed};
 ghost use Rattle.reduced_form.specs.ReducedForm.{IsReducedForm};
 ghost use Rattle.behaviour_profile.specs.FirstActions.{first_for_none};
-ghost use Rattle.game_trees.specs.OwnSets.{own_sets};
-ghost use Rattle.game_trees.specs.TreeEntries.{own_entries, tree_entries};
+ghost use Rattle.game_theory.specs.OwnSets.{own_sets};
+ghost use Rattle.game_theory.specs.TreeEntries.{own_entries, tree_entries};
 
 mod entries;
 mod plans;

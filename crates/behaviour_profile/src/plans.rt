@@ -18,7 +18,7 @@ ghost use Rattle.std.specs.Prelude.{
 ghost use Rattle.answers.specs.Answers.{Gives, IsSingle};
 ghost use Rattle.rational.specs.Rational.{ℚ, frac};
 ghost use Rattle.game_theory.specs.Lines.{listed};
-ghost use Rattle.game_trees.specs.OwnSets.{own_sets};
+ghost use Rattle.game_theory.specs.OwnSets.{own_sets};
 ghost use Rattle.sequence_forms.specs.PlanBehaviour.{share};
 ghost use Rattle.game_core.specs.Tree.{GameTree};
 ghost use Rattle.game_core.specs.TreeGame.{game_of_tree};
@@ -43,10 +43,10 @@ ghost use Rattle.behaviour_profile.specs.Shares.{
 use crate::Behaviour;
 use frac128::{Frac, Unfit};
 use game_core::Tree;
+use game_core::tree_parts::stands_for_game_tree;
 use sequence_data::{SeqForm, SetRow, Side};
 use std::alloc::{AllocFailed, Global};
 use strategy_lists::own_sets_are_those_of_the_tree;
-use tree_parts::stands_for_game_tree;
 
 /// Why there is no behaviour of two plans.
 #[derive(Clone, Copy, Debug, PartialEq, Eq)]

@@ -10,10 +10,10 @@ use Rattle.rational.proofs.Rules.{zero-+ℚ, one-*ℚ, zero-*ℚ}
 use Rattle.rational.proofs.Sums.{sum_to-same, sum_to-zeros, sum_to-add, sum_to-single}
 use Rattle.game_theory.specs.Mixed.{sure}
 use Rattle.game_theory.proofs.SureStrategies.{sure-at, sure-other}
-use Rattle.game_trees.specs.Trees.{Tree, IsTree}
-use Rattle.game_trees.specs.Behaviour.{Behaviour, branch_probability, is_parent, value}
-use Rattle.game_trees.proofs.Children.{where_true}
-use Rattle.game_trees.proofs.Values.{value-recurs}
+use Rattle.game_theory.specs.Trees.{Tree, IsTree}
+use Rattle.game_theory.specs.Behaviour.{Behaviour, branch_probability, is_parent, value}
+use Rattle.game_theory.proofs.Children.{where_true}
+use Rattle.game_theory.proofs.Values.{value-recurs}
 use Rattle.best_replies.specs.BackwardPass.{value_from}
 use Rattle.best_replies.specs.Laws.{ValuesFromTheLastNode}
 use Rattle.best_replies.proofs.NodeSums.{where_true-yes, where_true-no, child-decides}

@@ -9,14 +9,14 @@ use Rattle.rational.proofs.Field.{nonneg-mul, le_of_eq, le-sub}
 use Rattle.rational.proofs.Linear.{linear, at, lit, minus, ◌⟨-⟩◌, ◌⟨≤⟩◌, ◌⟨=⟩◌}
 use Rattle.rational.proofs.Sums.{sum_to-same, sum_to-zeros, sum_to-zero, sum_to-scale, sum_to-sub, sum_to-le, sum_to-single}
 use Rattle.rational.proofs.Means.{mean_le}
-use Rattle.rings.proofs.Ring.{ring, num, ◌:*◌, ◌:-◌, :neg, A, B, C, D, E}
+use Rattle.rational.proofs.Ring.{ring, num, ◌:*◌, ◌:-◌, :neg, A, B, C, D, E}
 use Rattle.game_theory.specs.Mixed.{sure}
 use Rattle.game_theory.proofs.SureStrategies.{zero_le_one, sure-not_negative, sum_to-sure}
-use Rattle.game_trees.specs.Trees.{Tree, IsTree}
-use Rattle.game_trees.specs.Behaviour.{Behaviour, branch_probability, value, payoff, IsChoice, reply}
-use Rattle.game_trees.specs.Recall.{own_history, HasPerfectRecall}
-use Rattle.game_trees.proofs.Children.{where_true}
-use Rattle.game_trees.proofs.OwnSets.{is_own_of-decides}
+use Rattle.game_theory.specs.Trees.{Tree, IsTree}
+use Rattle.game_theory.specs.Behaviour.{Behaviour, branch_probability, value, payoff, IsChoice, reply}
+use Rattle.game_theory.specs.Recall.{own_history, HasPerfectRecall}
+use Rattle.game_theory.proofs.Children.{where_true}
+use Rattle.game_theory.proofs.OwnSets.{is_own_of-decides}
 use Rattle.reduced_strategies.proofs.Histories.{along_paths}
 use Rattle.best_replies.specs.Reaching.{reach, weight}
 use Rattle.best_replies.specs.Replies.{reply_value, is_member, follows, action_value, AreBestChoices, OthersBehaveAlike}

@@ -5,11 +5,11 @@ use Rattle.rational.specs.Sum.{sum_to}
 use Rattle.rational.proofs.RationalRing.{rational_ring, *ℚ_assoc, *ℚ-add}
 use Rattle.rational.proofs.Rules.{one-*ℚ, +ℚ_cancel}
 use Rattle.rational.proofs.Sums.{sum_to-same, sum_to-add}
-use Rattle.rings.proofs.Ring.{ring, combine, ◌times◌is◌, num, ◌:+◌, ◌:*◌, ◌:-◌, A, B, C, D, E, F, G}
-use Rattle.game_trees.specs.Trees.{Tree, IsTree}
-use Rattle.game_trees.specs.Behaviour.{Behaviour, branch_probability, is_parent, value, payoff}
-use Rattle.game_trees.proofs.Children.{over_children, over_children-same}
-use Rattle.game_trees.proofs.Values.{value-recurs}
+use Rattle.rational.proofs.Ring.{ring, combine, ◌times◌is◌, num, ◌:+◌, ◌:*◌, ◌:-◌, A, B, C, D, E, F, G}
+use Rattle.game_theory.specs.Trees.{Tree, IsTree}
+use Rattle.game_theory.specs.Behaviour.{Behaviour, branch_probability, is_parent, value, payoff}
+use Rattle.game_theory.proofs.Children.{over_children, over_children-same}
+use Rattle.game_theory.proofs.Values.{value-recurs}
 use Rattle.best_replies.specs.Reaching.{reach}
 use Rattle.best_replies.specs.Laws.{PayoffsOverNodes}
 use Rattle.best_replies.proofs.Reaching.{reach-step}

@@ -5,10 +5,10 @@ use Rattle.rational.specs.Gcd.{gcd}
 use Rattle.rational.specs.Rational.{ℚ, is_lowest, frac, ◌+ℚ◌, ◌*ℚ◌, ◌≤ℚ◌, ◌<ℚ◌}
 use Rattle.rational.specs.Tests.{le_test, lt_test}
 use Rattle.rational.proofs.Decide.{le_test-true, lt_test-true}
-use Rattle.game_trees.specs.Behaviour.{pure}
-use Rattle.game_trees.specs.Examples.{entry_game, both}
+use Rattle.game_theory.specs.Behaviour.{pure}
+use Rattle.game_theory.specs.TreeExamples.{entry_game, both}
 use Rattle.best_replies.specs.Greatest.{IsFirstGreatest}
-use Rattle.game_trees.specs.FirstNodes.{AreNumberedByFirstNodes}
+use Rattle.game_theory.specs.FirstNodes.{AreNumberedByFirstNodes}
 use Rattle.best_replies.specs.Replies.{action_value, AreBestChoices}
 use Rattle.best_replies.specs.Examples.{BestRepliesInTheEntryGame}
 

@@ -7,11 +7,11 @@ use Rattle.rational.specs.Sum.{sum_to}
 use Rattle.rational.proofs.RationalRing.{rational_ring, +ℚ-zero}
 use Rattle.rational.proofs.Rules.{one-*ℚ, zero-*ℚ, *ℚ-zero}
 use Rattle.rational.proofs.Sums.{sum_to-same, sum_to-zeros, sum_to-single, sum_to-exchange, sum_to-scale, sum_to-add}
-use Rattle.rings.proofs.Ring.{ring, num, ◌:+◌, A, B, C}
-use Rattle.game_trees.specs.Trees.{Tree, IsTree}
-use Rattle.game_trees.specs.Behaviour.{is_parent}
-use Rattle.game_trees.proofs.Children.{where_true, over_children}
-use Rattle.game_trees.proofs.OwnSets.{is_own_of-decides}
+use Rattle.rational.proofs.Ring.{ring, num, ◌:+◌, A, B, C}
+use Rattle.game_theory.specs.Trees.{Tree, IsTree}
+use Rattle.game_theory.specs.Behaviour.{is_parent}
+use Rattle.game_theory.proofs.Children.{where_true, over_children}
+use Rattle.game_theory.proofs.OwnSets.{is_own_of-decides}
 use Rattle.best_replies.specs.Replies.{is_member, follows}
 
 -- ---- numbers where a test holds

@@ -7,15 +7,15 @@ use Rattle.rational.specs.Sum.{sum_to}
 use Rattle.rational.proofs.RationalRing.{rational_ring, *ℚ-add}
 use Rattle.rational.proofs.Rules.{one-*ℚ, zero-*ℚ}
 use Rattle.rational.proofs.Sums.{sum_to-same, sum_to-zero, sum_to-zeros, sum_to-exchange, sum_to-scale, sum_to-single}
-use Rattle.rings.proofs.Ring.{ring, ◌:*◌, A, B, C}
+use Rattle.rational.proofs.Ring.{ring, ◌:*◌, A, B, C}
 use Rattle.game_theory.specs.Mixed.{sure}
 use Rattle.game_theory.proofs.SureStrategies.{sure-at, sure-other}
-use Rattle.game_trees.specs.Trees.{Tree, IsTree, IsChild}
-use Rattle.game_trees.specs.Behaviour.{Behaviour, branch_probability, value, reply}
-use Rattle.game_trees.proofs.Children.{where_true, over_children-by_actions}
-use Rattle.game_trees.proofs.Values.{value-recurs, value-end}
-use Rattle.game_trees.proofs.Subtrees.{value-agree}
-use Rattle.game_trees.proofs.OwnSets.{is_own_of-decides}
+use Rattle.game_theory.specs.Trees.{Tree, IsTree, IsChild}
+use Rattle.game_theory.specs.Behaviour.{Behaviour, branch_probability, value, reply}
+use Rattle.game_theory.proofs.Children.{where_true, over_children-by_actions}
+use Rattle.game_theory.proofs.Values.{value-recurs, value-end}
+use Rattle.game_theory.proofs.Subtrees.{value-agree}
+use Rattle.game_theory.proofs.OwnSets.{is_own_of-decides}
 use Rattle.best_replies.specs.Reaching.{weight}
 use Rattle.best_replies.specs.Replies.{reply_value, is_member, follows}
 use Rattle.best_replies.specs.Laws.{ReplyValuesRecur, RootReplyValueIsPayoff, ActionValuesByMembers, ReplyValuesDependOnSubtrees}

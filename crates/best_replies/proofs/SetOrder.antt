@@ -2,11 +2,11 @@
 use Rattle.std.proofs.Common.{ℕ, zero, suc, ◌<◌, ◌≤◌, ◌≡◌, ◌⊎◌, inl, inr, Bool, true, false, Some, List, [], ◌∷◌, ◌++◌, refl, sym, ap, ◌∙◌, subst, arith}
 use Rattle.std.specs.Prelude.{if◌then◌else◌}
 use Rattle.std.proofs.lemmas.Bool.{cases_lt, cases_eq}
-use Rattle.game_trees.specs.Trees.{Tree, IsTree, IsAbove, IsWithin}
-use Rattle.game_trees.specs.Behaviour.{is_own}
-use Rattle.game_trees.specs.Recall.{own_step, own_history, HasPerfectRecall}
+use Rattle.game_theory.specs.Trees.{Tree, IsTree, IsAbove, IsWithin}
+use Rattle.game_theory.specs.Behaviour.{is_own}
+use Rattle.game_theory.specs.Recall.{own_step, own_history, HasPerfectRecall}
 use Rattle.reduced_strategies.proofs.Histories.{along_paths, own_history-step}
-use Rattle.game_trees.specs.FirstNodes.{AreNumberedByFirstNodes}
+use Rattle.game_theory.specs.FirstNodes.{AreNumberedByFirstNodes}
 use Rattle.best_replies.specs.Laws.{SetsAscendOnPaths}
 use Rattle.best_replies.proofs.Weights.{if_own}
 

@@ -6,12 +6,12 @@ use Rattle.rational.proofs.RationalRing.{rational_ring}
 use Rattle.rational.proofs.Rules.{one-*ℚ, zero-*ℚ}
 use Rattle.rational.proofs.Field.{lt_of_lt_of_le, le_trans}
 use Rattle.rational.proofs.Sums.{sum_to-same}
-use Rattle.rings.proofs.Ring.{ring, ◌:*◌, A, B, C}
+use Rattle.rational.proofs.Ring.{ring, ◌:*◌, A, B, C}
 use Rattle.game_theory.specs.Profiles.{Game, profile_count, profile_at}
 use Rattle.game_theory.specs.Mixed.{Mixed, later, probability, sure, payoff, reply}
 use Rattle.game_theory.proofs.ProfileNumbers.{length-profile, IsProfile-profile_at}
 use Rattle.game_theory.proofs.Replies.{payoff-replies, reply-other}
-use Rattle.game_trees.proofs.Children.{where_true}
+use Rattle.game_theory.proofs.Children.{where_true}
 use Rattle.best_replies.specs.Strategies.{own_as_one, weight, strategy_value, IsBestStrategy}
 use Rattle.best_replies.specs.Laws.{StrategyValuesArePayoffs, PayoffIsMeanOfStrategies, BestStrategiesTellBetterReplies, EquilibriaByBestStrategies}
 

@@ -5,12 +5,12 @@ use Rattle.std.proofs.lemmas.Bool.Decides.{not_from_Decides}
 use Rattle.rational.specs.Rational.{ℚ, ◌*ℚ◌, one_ℚ}
 use Rattle.rational.proofs.RationalRing.{rational_ring, *ℚ_assoc, *ℚ-one}
 use Rattle.rational.proofs.Rules.{one-*ℚ}
-use Rattle.rings.proofs.Ring.{ring, ◌:*◌, A, B, C}
+use Rattle.rational.proofs.Ring.{ring, ◌:*◌, A, B, C}
 use Rattle.game_theory.specs.Mixed.{sure}
-use Rattle.game_trees.specs.Trees.{Tree, IsTree}
-use Rattle.game_trees.specs.Behaviour.{Behaviour, of_owner, action_probability, at_set, branch_probability, is_own, reply}
-use Rattle.game_trees.specs.Recall.{own_step, own_history}
-use Rattle.game_trees.proofs.OwnSets.{is_own-decides}
+use Rattle.game_theory.specs.Trees.{Tree, IsTree}
+use Rattle.game_theory.specs.Behaviour.{Behaviour, of_owner, action_probability, at_set, branch_probability, is_own, reply}
+use Rattle.game_theory.specs.Recall.{own_step, own_history}
+use Rattle.game_theory.proofs.OwnSets.{is_own-decides}
 use Rattle.reduced_strategies.proofs.Histories.{along_paths, own_history-step}
 use Rattle.best_replies.specs.Reaching.{reach, own_as_one, weight}
 use Rattle.best_replies.specs.Replies.{OthersBehaveAlike}

@@ -1,7 +1,7 @@
 -- A player's sets decided one after another, from the last to the first.
 use Rattle.std.specs.Prelude.{ℕ, ◌<◌, ◌≤◌, ◌≡◌, ◌==◌, if◌then◌else◌, Some}
-use Rattle.game_trees.specs.Trees.{Tree}
-use Rattle.game_trees.specs.Behaviour.{Behaviour}
+use Rattle.game_theory.specs.Trees.{Tree}
+use Rattle.game_theory.specs.Behaviour.{Behaviour}
 use Rattle.best_replies.specs.Greatest.{IsFirstGreatest}
 use Rattle.best_replies.specs.Replies.{action_value}
 

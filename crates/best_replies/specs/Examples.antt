@@ -1,7 +1,7 @@
 -- Best replies in the entry game.
-use Rattle.game_trees.specs.Behaviour.{pure}
-use Rattle.game_trees.specs.Examples.{entry_game, both}
-use Rattle.game_trees.specs.FirstNodes.{AreNumberedByFirstNodes}
+use Rattle.game_theory.specs.Behaviour.{pure}
+use Rattle.game_theory.specs.TreeExamples.{entry_game, both}
+use Rattle.game_theory.specs.FirstNodes.{AreNumberedByFirstNodes}
 use Rattle.best_replies.specs.Replies.{AreBestChoices}
 
 -- To stay out is best against a fight, and to enter a market that will be shared; after an entry it

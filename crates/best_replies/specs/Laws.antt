@@ -5,11 +5,11 @@ use Rattle.rational.specs.Sum.{sum_to}
 use Rattle.game_theory.specs.Profiles.{Game}
 use Rattle.game_theory.specs.Mixed.{Mixed, IsValid as is_valid_profile, payoff as table_payoff, reply as table_reply}
 use Rattle.game_theory.specs.Equilibrium.{IsEquilibrium as is_table_equilibrium}
-use Rattle.game_trees.specs.Trees.{Tree, IsTree, IsChild, IsWithin}
-use Rattle.game_trees.specs.Behaviour.{Behaviour, IsValid, branch_probability, value, payoff, IsChoice, reply}
-use Rattle.game_trees.specs.Equilibrium.{IsEquilibrium}
-use Rattle.game_trees.specs.FirstNodes.{AreNumberedByFirstNodes}
-use Rattle.game_trees.specs.Recall.{HasPerfectRecall}
+use Rattle.game_theory.specs.Trees.{Tree, IsTree, IsChild, IsWithin}
+use Rattle.game_theory.specs.Behaviour.{Behaviour, IsValid, branch_probability, value, payoff, IsChoice, reply}
+use Rattle.game_theory.specs.TreeEquilibrium.{IsEquilibrium}
+use Rattle.game_theory.specs.FirstNodes.{AreNumberedByFirstNodes}
+use Rattle.game_theory.specs.Recall.{HasPerfectRecall}
 use Rattle.best_replies.specs.BackwardPass.{value_from}
 use Rattle.best_replies.specs.Deciding.{AreDecidedFrom, with_choice}
 use Rattle.best_replies.specs.Greatest.{IsFirstGreatest, HasFirstGreatest}

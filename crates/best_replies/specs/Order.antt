@@ -1,6 +1,6 @@
 -- The order in which a player's sets can be decided.
 use Rattle.std.specs.Prelude.{ℕ, ◌<◌, ◌≤◌, ◌≡◌, ◌≢◌, Some}
-use Rattle.game_trees.specs.Trees.{Tree, IsWithin}
+use Rattle.game_theory.specs.Trees.{Tree, IsWithin}
 
 -- on each path player i's own sets come in ascending order, none twice
 abbrev pub AscendOnPaths : Tree → ℕ → Type 0

@@ -2,8 +2,8 @@
 -- Source: Kuhn 1953; von Stengel 1996.
 use Rattle.std.specs.Prelude.{ℕ, zero, suc, if◌then◌else◌}
 use Rattle.rational.specs.Rational.{ℚ, ◌*ℚ◌, one_ℚ}
-use Rattle.game_trees.specs.Trees.{Tree}
-use Rattle.game_trees.specs.Behaviour.{Behaviour, branch_probability, is_own}
+use Rattle.game_theory.specs.Trees.{Tree}
+use Rattle.game_theory.specs.Behaviour.{Behaviour, branch_probability, is_own}
 
 -- the product of the probabilities on the last n edges of the path to node k
 abbrev pub reach_to : Tree → Behaviour → ℕ → ℕ → ℚ

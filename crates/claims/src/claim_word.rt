@@ -2,8 +2,8 @@
 ghost use Rattle.std.specs.Prelude.{◌≡◌, ◌<◌, ◌≤◌, ◌+◌, ◌-◌, ◌^◌, ◌++◌, ℕ, [], ◌∷◌, length, IfOk};
 ghost use Rattle.claims.specs.ClaimWord.{KnowsWhole, pass_state};
 
+use answers::Memory;
 use atomic_table::{Join, Play, Seat, Split, Table, TableRule};
-use memory::Memory;
 use std::alloc::Global;
 use std::collections::LinkedList;
 use std::marker::{Brand, Model, PhantomData};

@@ -8,7 +8,7 @@ ghost use Rattle.claims.specs.ClaimWord.{HasEachBelow, KnowsWhole, pass_state};
 ghost use Rattle.claims.specs.Pieces.{AreDone, IsNewFor, IsUsedBy, numbers};
 
 use crate::claim_word::{Claims, Pass};
-use memory::Memory;
+use answers::Memory;
 use outside::Gate;
 use std::alloc::Global;
 use std::marker::{Send, Sync};

@@ -4,7 +4,7 @@ ghost use Rattle.std.specs.List.{range_with_len};
 
 use crate::claim_word::Claims;
 use crate::sharing::shared_map;
-use memory::Memory;
+use answers::Memory;
 use outside::{Gate, OpenGate};
 use std::alloc::Global;
 use std::sync::atomic::{AtomicBool, AtomicU64, Ordering};

@@ -15,27 +15,27 @@ use Rattle.file_parts.specs.declared.refusal.Refusal.TheVariants as refusals
 use Rattle.file_parts.proofs.Readers.{err_same}
 use Rattle.file_parts.proofs.Values.{value}
 use Rattle.written_trees.specs.Building.{Begun, tree_begun}
-use Rattle.tree_files.specs.declared.fault.EfgKind.{EfgKind}
+use Rattle.efg_reader.specs.declared.kinds.EfgKind.{EfgKind}
 use Rattle.efg_reader.specs.declared.fault.EfgStop.{EfgStop}
 use Rattle.efg_reader.specs.declared.fault.EfgStop.TheVariants as stops
 use Rattle.efg_reader.specs.declared.nodes.Stop.{Stop}
 use Rattle.efg_reader.specs.declared.nodes.Stop.TheVariants.{Refused, Passed}
 use Rattle.efg_reader.specs.States.{RefusesNodes}
 use Rattle.efg_reader.specs.Stops.{IsPassed, IsStopOf, kind_in_nodes, IsNodesStopOf, tree_in}
-use Rattle.tree_files.specs.TreeFile.{IsTreeFile, PassesLimit}
-use Rattle.tree_files.specs.TreeReading.{Head}
-use Rattle.tree_files.specs.TreeParsing.{parse_head, parse_all_nodes, in_nodes, parse_tree}
-use Rattle.tree_files.specs.TreeFaults.{IsFile}
-use Rattle.tree_files.specs.FaultKinds.{IsFault}
+use Rattle.efg_reader.specs.TreeFile.{IsTreeFile, PassesLimit}
+use Rattle.efg_reader.specs.TreeReading.{Head}
+use Rattle.efg_reader.specs.TreeParsing.{parse_head, parse_all_nodes, in_nodes, parse_tree}
+use Rattle.efg_reader.specs.TreeFaults.{IsFile}
+use Rattle.efg_reader.specs.FaultKinds.{IsFault}
 use Rattle.written_trees.proofs.BegunTrees.{whole_is_tree}
-use Rattle.tree_files.proofs.FileLaws.{read_is_file, met_is_passed, no_front_is_nothing, no_nodes_are_nothing, one_tree, not_passed, one_limit}
-use Rattle.tree_files.proofs.Heads.{value_head, head_front}
-use Rattle.tree_files.proofs.Whole.{few_players, whole_same}
-use Rattle.tree_files.proofs.FaultLaws.{stop_is_fault, file_is_faultless, fault_or_file, one_fault}
-use Rattle.game_tokens.specs.TokenList.{TokenList, bare}
-use Rattle.game_tokens.specs.declared.token.Spanned.{Spanned}
-use Rattle.game_tokens.specs.declared.token.Token.{Token}
-use Rattle.game_tokens.specs.InPlace.{AreInPlace, IsShortToken}
+use Rattle.efg_reader.proofs.FileLaws.{read_is_file, met_is_passed, no_front_is_nothing, no_nodes_are_nothing, one_tree, not_passed, one_limit}
+use Rattle.efg_reader.proofs.Heads.{value_head, head_front}
+use Rattle.efg_reader.proofs.Whole.{few_players, whole_same}
+use Rattle.efg_reader.proofs.FaultLaws.{stop_is_fault, file_is_faultless, fault_or_file, one_fault}
+use Rattle.game_core.specs.TokenList.{TokenList, bare}
+use Rattle.game_core.specs.declared.token.Spanned.{Spanned}
+use Rattle.game_core.specs.declared.token.Token.{Token}
+use Rattle.game_core.specs.InPlace.{AreInPlace, IsShortToken}
 
 -- ---- the tokens
 -- numbers of tokens in place are short

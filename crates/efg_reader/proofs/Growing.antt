@@ -12,8 +12,8 @@ use Rattle.game_core.specs.declared.tree.Node.{Node}
 use Rattle.game_core.specs.Tree.{most_nodes, most_depth}
 use Rattle.written_trees.specs.Building.{Begun, BegunSet, Branching, take_place, add_places, passed_at}
 use Rattle.efg_reader.specs.declared.builder.Branching.{Branching as Kept}
-use Rattle.tree_uses.specs.declared.sets.SetBegun.{SetBegun}
-use Rattle.tree_uses.specs.Uses.{begun_set}
+use Rattle.efg_reader.specs.declared.sets.SetBegun.{SetBegun}
+use Rattle.efg_reader.specs.Uses.{begun_set}
 use Rattle.efg_reader.specs.States.{branching_of, branchings_of, IsNear, HasTaken}
 
 -- ---- a list kept in reverse

@@ -2,7 +2,7 @@
 use Rattle.std.proofs.Common.{◌≡◌, ℕ, zero, suc, ◌<◌, ◌≢◌, nat_eq, Bool, true, false, List, [], ◌∷◌, length, map, Result, Ok, Err, Option, Some, None, inl, inr, refl, sym, ap, ◌∙◌, subst, arith}
 use Rattle.std.specs.List.{AllByRecursion}
 use Rattle.game_core.specs.declared.too_large.What.{What}
-use Rattle.game_tokens.specs.InPlace.{IsShortToken}
+use Rattle.game_core.specs.InPlace.{IsShortToken}
 use Rattle.std.specs.Prelude.{vec_len}
 use Rattle.std.proofs.lemmas.List.{length-map, length-reverse}
 use Rattle.file_parts.specs.declared.refusal.Refusal.{Refusal}
@@ -16,15 +16,15 @@ use Rattle.efg_reader.specs.declared.builder.Builder.{Builder}
 use Rattle.efg_reader.specs.declared.nodes.Stop.{Stop}
 use Rattle.efg_reader.specs.declared.nodes.Stop.TheVariants.{Refused, Passed}
 use Rattle.efg_reader.specs.States.{begun_of, branching_of, branchings_of, RefusesNode, RefusesNodes}
-use Rattle.tree_files.specs.TreeReading.{begins_node, next_at, one_more_at, is_whole, nodes_at, whole_nodes_at, and_then}
-use Rattle.tree_files.specs.TreeParsing.{parse_next, parse_at, parse_nodes, parse_all_nodes}
-use Rattle.tree_files.specs.declared.fault.EfgKind.{EfgKind}
-use Rattle.tree_files.specs.declared.fault.EfgKind.TheVariants.{Trailing}
-use Rattle.tree_files.proofs.NodeLaws.{of_back}
-use Rattle.tree_files.proofs.NodeValues.{Keeps, value_next}
-use Rattle.tree_files.proofs.MarkedLaws.{read_by, next_is, next_keeps, next_takes}
-use Rattle.tree_files.proofs.Whole.{nothing_keeps}
-use Rattle.game_tokens.specs.declared.token.Token.{Token}
+use Rattle.efg_reader.specs.TreeReading.{begins_node, next_at, one_more_at, is_whole, nodes_at, whole_nodes_at, and_then}
+use Rattle.efg_reader.specs.TreeParsing.{parse_next, parse_at, parse_nodes, parse_all_nodes}
+use Rattle.efg_reader.specs.declared.kinds.EfgKind.{EfgKind}
+use Rattle.efg_reader.specs.declared.kinds.EfgKind.TheVariants.{Trailing}
+use Rattle.efg_reader.proofs.NodeLaws.{of_back}
+use Rattle.efg_reader.proofs.NodeValues.{Keeps, value_next}
+use Rattle.efg_reader.proofs.MarkedLaws.{read_by, next_is, next_keeps, next_takes}
+use Rattle.efg_reader.proofs.Whole.{nothing_keeps}
+use Rattle.game_core.specs.declared.token.Token.{Token}
 use Rattle.std.proofs.lemmas.Bool.{cases_Bool}
 
 -- what is still to be read gives the whole, with the limits and with the places

@@ -2,17 +2,17 @@
 use Rattle.std.proofs.Common.{◌≡◌, ℕ, List, ◌∷◌, Some, ap, ◌∙◌, subst}
 use Rattle.std.specs.Prelude.{Ok}
 use Rattle.std.specs.List.{AllByRecursion}
-use Rattle.game_tokens.specs.declared.token.Token.{Token}
-use Rattle.game_tokens.specs.declared.token.Token.TheVariants.{Text, Word}
-use Rattle.game_tokens.specs.InPlace.{IsShortToken}
+use Rattle.game_core.specs.declared.token.Token.{Token}
+use Rattle.game_core.specs.declared.token.Token.TheVariants.{Text, Word}
+use Rattle.game_core.specs.InPlace.{IsShortToken}
 use Rattle.file_parts.specs.Reading.{word_at, text_at}
 use Rattle.file_parts.proofs.TokenLaws.{word_is, text_is}
 use Rattle.written_trees.specs.Building.{BegunSet}
-use Rattle.tree_files.specs.TreeReading.{Head}
-use Rattle.tree_files.specs.TreeParsing.{Choice, parse_head, parse_player, parse_choice}
-use Rattle.tree_files.proofs.Heads.{head_is}
-use Rattle.tree_files.proofs.NodeLaws.{of_back}
-use Rattle.tree_files.proofs.Within.{Ends, player_within, choice_within}
+use Rattle.efg_reader.specs.TreeReading.{Head}
+use Rattle.efg_reader.specs.TreeParsing.{Choice, parse_head, parse_player, parse_choice}
+use Rattle.efg_reader.proofs.Heads.{head_is}
+use Rattle.efg_reader.proofs.NodeLaws.{of_back}
+use Rattle.efg_reader.proofs.Within.{Ends, player_within, choice_within}
 
 -- all are short
 abbrev pub AreShort : List Token → Type 0

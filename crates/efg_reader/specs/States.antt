@@ -2,13 +2,13 @@
 use Rattle.std.specs.Prelude.{ℕ, suc, ◌≤◌, ◌≡◌, List, [], ◌∷◌, length, map, reverse, true, Option, None, Some, Result, Ok, Err}
 use Rattle.std.specs.List.{AllByRecursion}
 use Rattle.game_core.specs.Tree.{most_nodes, most_depth}
-use Rattle.game_tokens.specs.declared.token.Token.{Token}
+use Rattle.game_core.specs.declared.token.Token.{Token}
 use Rattle.file_parts.specs.declared.refusal.Refusal.TheVariants as refusals
 use Rattle.file_parts.specs.Parsing.{counted, IsRefusal}
 use Rattle.written_trees.specs.Building.{Begun, Branching, take_place, passed}
-use Rattle.tree_uses.specs.Uses.{begun_sets, begun_outcomes, AreSets, AreOutcomes}
-use Rattle.tree_files.specs.TreeReading.{begins_node, whole_nodes_at}
-use Rattle.tree_files.specs.TreeParsing.{parse_at, parse_all_nodes}
+use Rattle.efg_reader.specs.Uses.{begun_sets, begun_outcomes, AreSets, AreOutcomes}
+use Rattle.efg_reader.specs.TreeReading.{begins_node, whole_nodes_at}
+use Rattle.efg_reader.specs.TreeParsing.{parse_at, parse_all_nodes}
 use Rattle.efg_reader.specs.declared.builder.Branching.{Branching as Kept}
 use Rattle.efg_reader.specs.declared.builder.Builder.{Builder}
 use Rattle.efg_reader.specs.declared.nodes.Stop.{Stop}

@@ -5,12 +5,12 @@ use Rattle.game_core.specs.Tree.{GameTree}
 use Rattle.game_core.specs.declared.too_large.TooLarge.{TooLarge}
 use Rattle.game_core.specs.declared.too_large.What.{What}
 use Rattle.game_core.specs.declared.too_large.What.TheVariants.{Nodes, Depth}
-use Rattle.game_tokens.specs.TokenList.{TokenList, bare}
-use Rattle.game_tokens.specs.declared.token.Token.{Token}
-use Rattle.tree_files.specs.TreeFile.{IsTreeFile, PassesLimit}
-use Rattle.tree_files.specs.FaultKinds.{IsFault}
-use Rattle.tree_files.specs.declared.fault.EfgKind.{EfgKind}
-use Rattle.tree_files.specs.declared.fault.EfgKind.TheVariants.{Unfinished}
+use Rattle.game_core.specs.TokenList.{TokenList, bare}
+use Rattle.game_core.specs.declared.token.Token.{Token}
+use Rattle.efg_reader.specs.TreeFile.{IsTreeFile, PassesLimit}
+use Rattle.efg_reader.specs.FaultKinds.{IsFault}
+use Rattle.efg_reader.specs.declared.kinds.EfgKind.{EfgKind}
+use Rattle.efg_reader.specs.declared.kinds.EfgKind.TheVariants.{Unfinished}
 use Rattle.file_parts.specs.Reading.{place_of}
 use Rattle.file_parts.specs.declared.refusal.Refusal.{Refusal}
 use Rattle.file_parts.specs.declared.refusal.Refusal.TheVariants as refusals

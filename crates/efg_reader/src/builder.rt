@@ -3,14 +3,15 @@ ghost use Rattle.std.specs.Prelude.{◌≡◌, ◌≢◌, ◌<◌, ◌≤◌, su
 ghost use Rattle.std.specs.List.{AllByRecursion};
 ghost use Rattle.game_core.specs.Tree.{most_nodes};
 ghost use Rattle.written_trees.specs.Building.{passed, nothing_begun, begun_count, add_places};
-ghost use Rattle.tree_uses.specs.Uses.{begun_sets};
-ghost use Rattle.tree_files.specs.TreeReading.{grown};
+ghost use Rattle.efg_reader.specs.Uses.{begun_sets};
+ghost use Rattle.efg_reader.specs.TreeReading.{grown};
 ghost use Rattle.efg_reader.specs.States.{begun_of, branchings_of, IsNear, IsBuilder, HasTaken};
 
+use crate::outcomes::Outcomes;
+use crate::sets::Sets;
 use game_core::{Kind, Node, What};
 use indexmap::IndexSet;
 use std::alloc::{AllocError, Global};
-use tree_uses::{Outcomes, Sets};
 
 /// The most nodes of a tree.
 const MOST_NODES: usize = 65536;

@@ -2,13 +2,12 @@
 ghost use Rattle.std.specs.Prelude.{◌≡◌};
 ghost use Rattle.file_parts.specs.Reading.{kinds};
 ghost use Rattle.file_parts.specs.Parsing.{Parses};
-ghost use Rattle.tree_files.specs.TreeParsing.{parse_head};
+ghost use Rattle.efg_reader.specs.TreeParsing.{parse_head};
 
+use crate::kinds::EfgKind;
 use file_parts::{Refusal, behind_text, copied, names, title};
-use game_core::Name;
-use game_tokens::Spanned;
+use game_core::{Name, Spanned};
 use std::alloc::Global;
-use tree_uses::EfgKind;
 
 /// The title and the players.
 #[derive(Drop)]
@@ -20,7 +19,7 @@ pub struct Front {
 }
 
 /// The title, the players, and the tokens behind them and the comment that may come.
-#[tactic(auto, using(file_parts::proofs::Parses::refused_first), unfolding(tree_files::specs::TreeParsing::parse_head))]
+#[tactic(auto, using(file_parts::proofs::Parses::refused_first), unfolding(crate::specs::TreeParsing::parse_head))]
 pub fn read_front(
     alloc: Global,
     tokens: &[Spanned],

@@ -1,13 +1,45 @@
-//! Reads files of games as trees.
+//! Files of game trees: which tokens stand for which tree, and how they are read.
+//!
+//! `specs/TreeFile` has the grammar, `TreeReading` what is read of the tokens, part by part, and
+//! `FaultKinds` the faults of tokens that are no file. The lemmas in `proofs/FileLaws` say that what
+//! is read is what the grammar describes, and nothing else; those in `proofs/FaultLaws` that where
+//! reading stops is the only fault.
+//!
+//! `sets` and `outcomes` read the information sets and the outcomes that the nodes of a file use,
+//! and number them by their first use; `nodes` reads the nodes, and `builder` holds the tree as it
+//! grows.
 #![tactic(auto)]
 
+ghost use Rattle.std.specs.Prelude.{◌≡◌, ◌<◌, ◌^◌, List, length, Ok};
+ghost use Rattle.game_core.specs.Tree.{GameTree};
+ghost use Rattle.game_core.specs.declared.token.Token.{Token as token};
+ghost use Rattle.efg_reader.specs.TreeFile.{IsTreeFile};
+ghost use Rattle.efg_reader.specs.TreeParsing.{parse_tree};
+
+mod actions;
 mod builder;
 mod fault;
 mod front;
+mod kinds;
 mod nodes;
+mod outcomes;
+mod pieces;
 mod reading;
+mod sets;
 
 pub use fault::{EfgFault, EfgStop};
+pub use kinds::EfgKind;
 pub use reading::{read, trees_are_single};
-pub use tree_files::{files_are_read, files_have_one_tree};
-pub use tree_uses::EfgKind;
+
+/// The tokens of a file stand for one tree at most.
+pub fn files_have_one_tree()
+    ensures { (tokens : List token) (one other : GameTree) → IsTreeFile tokens one → IsTreeFile tokens other → one ≡ other }
+{}
+
+/// A tree is read exactly where the tokens are a file of it.
+pub fn files_are_read()
+    ensures sound { (tokens : List token) (tree : GameTree) → length tokens < 2 ^ 32
+        → parse_tree tokens ≡ Ok tree → IsTreeFile tokens tree }
+    ensures complete { (tokens : List token) (tree : GameTree) → IsTreeFile tokens tree
+        → parse_tree tokens ≡ Ok tree }
+{}

@@ -1,22 +1,24 @@
 // The nodes of a file.
 ghost use Rattle.std.specs.Prelude.{◌≡◌, ◌<◌, ◌≢◌, [], true, None, length, IfOk};
 ghost use Rattle.std.specs.List.{AllByRecursion};
-ghost use Rattle.game_tokens.specs.InPlace.{IsShortToken};
+ghost use Rattle.game_core.specs.InPlace.{IsShortToken};
 ghost use Rattle.file_parts.specs.Reading.{kinds};
 ghost use Rattle.file_parts.specs.Parsing.{Parses};
 ghost use Rattle.game_core.specs.Tree.{kind_of_owner};
-ghost use Rattle.tree_uses.specs.Uses.{begun_sets, AreSets};
+ghost use Rattle.efg_reader.specs.Uses.{begun_sets, AreSets};
 ghost use Rattle.efg_reader.specs.States.{begun_of, IsBuilder, ReadsNode, ReadsNodes};
-ghost use Rattle.tree_files.specs.TreeReading.{is_word, begins_node};
-ghost use Rattle.tree_files.specs.TreeParsing.{parse_set_choice, parse_own_choice, parse_choice, parse_at};
+ghost use Rattle.efg_reader.specs.TreeReading.{is_word, begins_node};
+ghost use Rattle.efg_reader.specs.TreeParsing.{parse_set_choice, parse_own_choice, parse_choice, parse_at};
 ghost use Rattle.written_trees.specs.Building.{passed};
 
 use crate::builder::{Builder, Choice};
+use crate::kinds::EfgKind;
+use crate::outcomes::read_outcome;
+use crate::pieces::{begins_node, player};
+use crate::sets::{Sets, read_set};
 use file_parts::{Refusal, ends, text, unfit, word};
-use game_core::{Kind, Name, What};
-use game_tokens::Spanned;
+use game_core::{Kind, Name, Spanned, What};
 use std::alloc::{AllocError, Global};
-use tree_uses::{EfgKind, Sets, begins_node, player, read_outcome, read_set};
 
 /// Why nodes are not read.
 #[derive(Clone, Copy, Debug, PartialEq, Eq)]
@@ -68,7 +70,7 @@ fn kind_of(owner: Option<u32>) -> Kind
 }
 
 // The sets with one of this owner, the choice at it, and the tokens behind it.
-#[tactic(auto, using(file_parts::proofs::Parses::refused_first), unfolding(tree_files::specs::TreeParsing::parse_set_choice))]
+#[tactic(auto, using(file_parts::proofs::Parses::refused_first), unfolding(crate::specs::TreeParsing::parse_set_choice))]
 fn set_choice<'a>(
     alloc: Global,
     sets: Sets,
@@ -96,7 +98,7 @@ fn set_choice<'a>(
 }
 
 // The sets with one of the player whose number comes, the choice at it, and the tokens behind it.
-#[tactic(auto, using(file_parts::proofs::Parses::refused_first, crate::proofs::ShortRests::player_leaves), unfolding(tree_files::specs::TreeParsing::parse_own_choice))]
+#[tactic(auto, using(file_parts::proofs::Parses::refused_first, crate::proofs::ShortRests::player_leaves), unfolding(crate::specs::TreeParsing::parse_own_choice))]
 fn own_choice<'a>(
     alloc: Global,
     sets: Sets,
@@ -119,7 +121,7 @@ fn own_choice<'a>(
 
 // A node with this number up to its outcome: the sets with the one that it uses, the choice that is made there, and
 // the tokens behind it.
-#[tactic(auto, using(crate::proofs::ShortRests::short_behind), unfolding(tree_files::specs::TreeParsing::parse_choice))]
+#[tactic(auto, using(crate::proofs::ShortRests::short_behind), unfolding(crate::specs::TreeParsing::parse_choice))]
 fn choice<'a>(
     alloc: Global,
     sets: Sets,

@@ -4,25 +4,26 @@ ghost use Rattle.answers.specs.Answers.{Gives, IsSingle};
 ghost use Rattle.game_core.specs.Tree.{IsTree};
 ghost use Rattle.written_trees.specs.Described.{or_empty};
 ghost use Rattle.written_trees.specs.Building.{finished_set, finished_outcome, tree_begun};
-ghost use Rattle.tree_uses.specs.Uses.{begun_set, begun_outcome};
+ghost use Rattle.efg_reader.specs.Uses.{begun_set, begun_outcome};
 ghost use Rattle.efg_reader.specs.States.{begun_of};
-ghost use Rattle.tree_files.specs.TreeFaults.{IsFile};
-ghost use Rattle.tree_files.specs.FaultKinds.{IsFault};
-ghost use Rattle.tree_files.specs.declared.fault.EfgKind.{EfgKind};
+ghost use Rattle.efg_reader.specs.TreeFaults.{IsFile};
+ghost use Rattle.efg_reader.specs.FaultKinds.{IsFault};
+ghost use Rattle.efg_reader.specs.declared.kinds.EfgKind.{EfgKind};
 ghost use Rattle.efg_reader.specs.Stops.{IsStopOf, IsNodesStopOf, tree_in};
 ghost use Rattle.efg_reader.specs.declared.fault.EfgStop.TheVariants.{Memory};
-ghost use Rattle.game_tokens.specs.TokenList.{TokenList, bare};
-ghost use Rattle.game_tokens.specs.InPlace.{IsShortToken};
+ghost use Rattle.game_core.specs.TokenList.{TokenList, bare};
+ghost use Rattle.game_core.specs.InPlace.{IsShortToken};
 
 use crate::builder::Builder;
 use crate::fault::{EfgFault, EfgStop};
 use crate::front::{Front, read_front};
+use crate::kinds::EfgKind;
 use crate::nodes::{Stop, read_nodes};
+use crate::outcomes::OutcomeBegun;
+use crate::sets::SetBegun;
 use file_parts::{Refusal, place};
-use game_core::{InfoSet, Name, Outcome, TooLarge, Tree, What};
-use game_tokens::Tokens;
+use game_core::{InfoSet, Name, Outcome, Tokens, TooLarge, Tree, What};
 use std::alloc::{AllocError, Global};
-use tree_uses::{EfgKind, OutcomeBegun, SetBegun};
 
 // The stop for a refusal.
 fn stop(refusal: Refusal<EfgKind>, tokens: &Tokens) -> EfgStop

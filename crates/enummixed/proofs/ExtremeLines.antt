@@ -18,8 +18,8 @@ use Rattle.game_theory.specs.Lines.{StandsBefore, AreInOrder}
 use Rattle.game_theory.proofs.ProfileLines.{length-listed}
 use Rattle.game_theory.proofs.ProfileNumbers.{number_of-below}
 use Rattle.game_theory.proofs.LineOrder.{StandsBefore-cases}
-use Rattle.extreme_points.specs.Vertices.{MarkedPoint, IsVertexMark, AreVertices}
-use Rattle.extreme_points.proofs.AlikeVertices.{vertices_alike}
+use Rattle.linear_systems.specs.Vertices.{MarkedPoint, IsVertexMark, AreVertices}
+use Rattle.linear_systems.proofs.AlikeVertices.{vertices_alike}
 use Rattle.extreme_equilibria.specs.ExtremeEquilibria.{AreExtremeEquilibria}
 use Rattle.extreme_equilibria.specs.TwoPlayers.{pays_against}
 use Rattle.extreme_equilibria.specs.Bimatrix.{shifted, shift_of, IsBelowAll}
@@ -30,7 +30,7 @@ use Rattle.extreme_equilibria.proofs.PairLines.{pair_lines_are_extreme_equilibri
 use Rattle.lex_tableau.specs.Starts.{Parts, system_of}
 use Rattle.reply_polytope.specs.Polytopes.{ArePolytopes}
 use Rattle.reply_polytope.proofs.Enumerable.{first_count, second_count}
-use Rattle.basis_levels.specs.Systems.{variable_count}
+use Rattle.basis_enum.specs.Systems.{variable_count}
 use Rattle.label_pairing.specs.Laws.{IsPair}
 use Rattle.label_pairing.specs.Pairs.{mark_at, are_together, all_pairs}
 use Rattle.label_pairing.specs.Scaling.{IsScalable}

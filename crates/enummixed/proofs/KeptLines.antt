@@ -13,7 +13,8 @@ use Rattle.dominance.proofs.SameCells.{same_cells-same_equilibria}
 use Rattle.dominance.proofs.SpreadLines.{AreSpread, spread-lines}
 use Rattle.dominance.proofs.SpreadPoints.{points-spread}
 use Rattle.game_core.specs.Table.{GameTable, strategy_counts}
-use Rattle.reduced_form.proofs.TableSizes.{counts-two, names-counted}
+use Rattle.lists.proofs.Elements.{two-elements}
+use Rattle.game_core.proofs.TableCounts.{strategy_count-names}
 use Rattle.reduced_form.specs.Kept.{KeptForm, IsKeptForm}
 use Rattle.enummixed.specs.ExtremeText.{VertexPairs, IsExtremeEquilibriaText, extreme_pairs}
 use Rattle.enummixed.specs.Order.{line_of, pair_order}
@@ -43,7 +44,7 @@ two-same a b c d xs e f = (cc, cc)
 
 -- the numbers of strategies of both players
 pub two-counts : (t : GameTable) (k : KeptForm) → IsKeptForm t k → (a b : List (List ℕ)) → slice_get t.strategies 0 ≡ Some a → slice_get t.strategies 1 ≡ Some b → strategy_counts t ≡ length a ∷ length b ∷ []
-two-counts t k h a b e f = counts-two t (sym h.are_kept.one_for_each) ∙ ap₂ (λ x y. x ∷ y ∷ []) (sym (names-counted t 0 a e)) (sym (names-counted t 1 b f))
+two-counts t k h a b e f = two-elements (strategy_counts t) (sym h.are_kept.one_for_each) ∙ ap₂ (λ x y. x ∷ y ∷ []) (strategy_count-names t 0 a e) (strategy_count-names t 1 b f)
 
 module _ (g h : Game) (first second : List ℕ) (m n : ℕ) (are : g.strategies ≡ m ∷ n ∷ []) (lists : AreKeptLists g (first ∷ second ∷ []))
     (cells : HaveSameCells h (kept_table g (first ∷ second ∷ []))) (firsts seconds wide wide' : List (List ℚ))

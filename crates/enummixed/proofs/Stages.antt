@@ -6,12 +6,12 @@ use Rattle.std.proofs.lemmas.List.Elements.{All-map, Contains-get_or}
 use Rattle.answers.specs.Answers.{Answer, Gives, only, ◌>>=◌, refused_by, map_ok}
 use Rattle.answers.proofs.Answers.{gives_bind_as, gives_refused}
 use Rattle.game_theory.specs.Profiles.{Game}
-use Rattle.extreme_points.specs.Vertices.{MarkedPoint}
+use Rattle.linear_systems.specs.Vertices.{MarkedPoint}
 use Rattle.lex_tableau.specs.Starts.{Parts}
 use Rattle.reply_polytope.specs.Polytopes.{ArePolytopes}
 use Rattle.reply_polytope.specs.Stops.{polytopes_in}
 use Rattle.reply_polytope.proofs.Enumerable.{first_enumerable, second_enumerable}
-use Rattle.basis_levels.specs.Systems.{variable_count, IsEnumerable}
+use Rattle.basis_enum.specs.Systems.{variable_count, IsEnumerable}
 use Rattle.basis_enum.specs.Vertices.{VertexList}
 use Rattle.basis_enum.specs.Enumeration.{vertices_in}
 use Rattle.label_pairing.specs.Pairs.{all_pairs}

@@ -5,7 +5,7 @@ use Rattle.std.proofs.lemmas.List.{append-nil, get_or-map, map-append}
 use Rattle.std.proofs.lemmas.List.Elements.{filter-append, All-append, All-cons, All-nil}
 use Rattle.std.proofs.lemmas.List.FromFn.{map-range_with_len_more, length-range_with_len, get_or-range_with_len, get_or-map-range_with_len}
 use Rattle.rational.specs.Rational.{ℚ}
-use Rattle.extreme_points.specs.Vertices.{MarkedPoint}
+use Rattle.linear_systems.specs.Vertices.{MarkedPoint}
 use Rattle.basis_enum.specs.Vertices.{mark_of, marks_of}
 use Rattle.basis_enum.specs.declared.vertex.Vertex.{Vertex}
 use Rattle.extreme_equilibria.specs.PairLines.{scaled_point}

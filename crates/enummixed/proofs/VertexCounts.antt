@@ -7,15 +7,15 @@ use Rattle.std.proofs.lemmas.List.{get_or_default}
 use Rattle.std.proofs.lemmas.List.Folds.{Any-from_list_any}
 use Rattle.std.proofs.lemmas.Map.Keys.{IsDistinct-from_apart}
 use Rattle.std.proofs.lemmas.Map.Steps.{length-le_from_distinct_below}
-use Rattle.extreme_points.specs.Points.{basic_solution}
-use Rattle.extreme_points.specs.Laws.{HasPoint}
-use Rattle.extreme_points.specs.Vertices.{MarkedPoint, IsVertexMark}
-use Rattle.extreme_points.proofs.VertexLists.{same_mask, place_once}
+use Rattle.linear_systems.specs.Points.{basic_solution}
+use Rattle.linear_systems.specs.ExtremePointLaws.{HasPoint}
+use Rattle.linear_systems.specs.Vertices.{MarkedPoint, IsVertexMark}
+use Rattle.linear_systems.proofs.VertexLists.{same_mask, place_once}
 use Rattle.lex_tableau.specs.Rows.{tableau}
 use Rattle.lex_tableau.specs.Starts.{Parts, system_of, IsSystem}
-use Rattle.basis_levels.specs.Systems.{variable_count, IsEnumerable}
-use Rattle.basis_levels.specs.Levels.{no_tableau}
-use Rattle.basis_levels.proofs.Complete.{complete_cover}
+use Rattle.basis_enum.specs.Systems.{variable_count, IsEnumerable}
+use Rattle.basis_enum.specs.Levels.{no_tableau}
+use Rattle.basis_enum.proofs.Complete.{complete_cover}
 use Rattle.basis_enum.specs.Vertices.{VertexList}
 use Rattle.basis_enum.specs.Enumeration.{AreVerticesOf}
 

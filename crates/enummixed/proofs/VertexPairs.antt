@@ -19,7 +19,7 @@ use Rattle.enumpure.specs.declared.listing.ListStop.{ListStop}
 use Rattle.enumpure.specs.declared.listing.ListStop.TheVariants as list_stops
 use Rattle.enumpure.proofs.Texts.{within_text_limit-single}
 use Rattle.reply_polytope.proofs.Singles.{polytopes_single}
-use Rattle.basis_levels.specs.Systems.{variable_count}
+use Rattle.basis_enum.specs.Systems.{variable_count}
 use Rattle.label_pairing.specs.Scaling.{scale_steps}
 use Rattle.label_pairing.proofs.AllPairs.{pairs_single}
 use Rattle.enummixed.specs.Laws.{ExtremePairsAreSingle, ExtremeTextsAreSingle}

@@ -7,7 +7,7 @@ use Rattle.game_theory.specs.Lines.{lines_text}
 use Rattle.extreme_equilibria.specs.ExtremeEquilibria.{AreExtremeEquilibria}
 use Rattle.enumpure.specs.Stops.{within_text_limit}
 use Rattle.reply_polytope.specs.Stops.{polytopes_in}
-use Rattle.basis_levels.specs.Systems.{variable_count}
+use Rattle.basis_enum.specs.Systems.{variable_count}
 use Rattle.basis_enum.specs.Vertices.{VertexList}
 use Rattle.basis_enum.specs.Enumeration.{vertices_in}
 use Rattle.label_pairing.specs.Stops.{pairs_in}

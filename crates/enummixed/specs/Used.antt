@@ -3,7 +3,7 @@ use Rattle.std.specs.Prelude.{ℕ, ◌-◌, ◌^◌, ◌==◌, min, Bool, false,
 use Rattle.std.specs.List.{filter, list_any, range_with_len}
 use Rattle.answers.specs.Answers.{Answer, refused_by}
 use Rattle.rational.specs.Rational.{ℚ}
-use Rattle.extreme_points.specs.Vertices.{MarkedPoint}
+use Rattle.linear_systems.specs.Vertices.{MarkedPoint}
 use Rattle.extreme_equilibria.specs.PairLines.{scaled_point}
 use Rattle.pure_payoffs.specs.FirstUnfit.{all_fit}
 use Rattle.label_pairing.specs.Pairs.{mark_at}

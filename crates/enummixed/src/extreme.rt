@@ -2,7 +2,7 @@
 ghost use Rattle.std.specs.Prelude.{◌≡◌, ◌<◌, ◌≤◌, ℕ, All, length, map, IfOk};
 ghost use Rattle.answers.specs.Answers.{Gives, refused_by, map_ok};
 ghost use Rattle.game_core.specs.Table.{game_of};
-ghost use Rattle.basis_levels.specs.Systems.{IsEnumerable};
+ghost use Rattle.basis_enum.specs.Systems.{IsEnumerable};
 ghost use Rattle.basis_enum.specs.Enumeration.{vertices_in};
 ghost use Rattle.basis_enum.specs.Vertices.{marks_of, list_of};
 ghost use Rattle.label_pairing.specs.Pairs.{mark_at};
@@ -20,14 +20,13 @@ use basis_enum::{EnumStop, Vertex, Vertices, enumerate};
 use frac128::{Frac, Memory};
 use game_core::Table;
 use label_pairing::pairs;
-use lex_tableau::System;
+use lex_tableau::{Steps, System};
 use outside::Gate;
 use reply_polytope::polytopes;
 use std::alloc::Global;
 use std::marker::{Brand, Sync};
 use std::sync::ledger::{Blank, Ledger};
 use std::thread::Threads;
-use steps::Steps;
 
 /// The vertices of both polytopes of a table, and the pairs of them that make its extreme
 /// equilibria.

@@ -6,13 +6,13 @@ use Rattle.std.proofs.lemmas.List.{append-nil}
 use Rattle.rational.specs.Rational.{ℚ}
 use Rattle.game_theory.specs.Profiles.{profile_count, number_of}
 use Rattle.game_theory.specs.Lines.{line_text, lines_text}
-use Rattle.game_trees.specs.Trees.{Tree}
+use Rattle.game_theory.specs.Trees.{Tree}
 use Rattle.enumpure.specs.Replies.{flag}
 use Rattle.enumpure.proofs.Totals.{total, one_if, total-flags}
-use Rattle.tree_lines.specs.Orders.{ordered}
+use Rattle.enumpure_trees.specs.Orders.{ordered}
 use Rattle.game_theory.specs.Ranks.{ranked}
-use Rattle.tree_lines.specs.Ranks.{rank_line, rank_flag, flagged_below, lines_below}
-use Rattle.tree_lines.proofs.Listed.{flagged_below-none, flagged_below-push, flagged_below-skip}
+use Rattle.enumpure_trees.specs.Ranks.{rank_line, rank_flag, flagged_below, lines_below}
+use Rattle.enumpure_trees.proofs.Listed.{flagged_below-none, flagged_below-push, flagged_below-skip}
 use Rattle.enumpure_trees.proofs.RankSums.{AllHaveNumbers, total-ordered}
 
 -- ---- the text, a line after another

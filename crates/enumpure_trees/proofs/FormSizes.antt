@@ -5,7 +5,7 @@ use Rattle.std.proofs.lemmas.List.{length-map, length-replicate, get_or-replicat
 use Rattle.game_core.proofs.TableCounts.{profile_count-table}
 use Rattle.game_theory.specs.Profiles.{IsProfile, profile_count}
 use Rattle.game_theory.proofs.ProfileNumbers.{IsProfile-by_index}
-use Rattle.game_trees.specs.Trees.{IsTree}
+use Rattle.game_theory.specs.Trees.{IsTree}
 use Rattle.game_core.specs.Table.{IsTable, most_payoffs}
 use Rattle.game_core.specs.Tree.{GameTree}
 use Rattle.game_core.specs.TreeGame.{game_of_tree}

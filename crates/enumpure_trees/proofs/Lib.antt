@@ -1,5 +1,4 @@
 mod FlagCounts
-pub mod FormSizes
 mod LineLengths
 mod RankSums
 mod RankedProfiles
@@ -8,3 +7,9 @@ mod SortedOrders
 mod Stability
 mod Texts
 mod Told
+pub mod EquilibriumLines
+pub mod FormSizes
+pub mod Listed
+pub mod OrderedLines
+pub mod OrderedProfiles
+pub mod PrintedSets

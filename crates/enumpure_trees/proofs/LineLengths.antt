@@ -2,17 +2,17 @@
 use Rattle.std.proofs.Common.{ℕ, ◌≡◌, ◌≢◌, ◌⊎◌, inl, inr, List, length, map, sym, ap, ◌∙◌}
 use Rattle.std.specs.List.{sum_by}
 use Rattle.std.proofs.lemmas.Bool.{cases_eq}
-use Rattle.game_trees.specs.TreeEntries.{tree_entries}
+use Rattle.game_theory.specs.TreeEntries.{tree_entries}
 use Rattle.game_theory.specs.Profiles.{IsProfile}
 use Rattle.game_theory.specs.Lines.{line_text}
-use Rattle.game_trees.specs.Trees.{Tree, IsTree}
-use Rattle.game_trees.specs.Behaviour.{pure}
+use Rattle.game_theory.specs.Trees.{Tree, IsTree}
+use Rattle.game_theory.specs.Behaviour.{pure}
 use Rattle.reduced_strategies.specs.StrategicForm.{AreStrategies, completed}
 use Rattle.enumpure.proofs.LineLengths.{length-line_none, length-line_text}
 use Rattle.enumpure.proofs.ProfileParts.{HaveStrategies-profile}
-use Rattle.tree_lines.specs.TreeEquilibria.{profile_line}
-use Rattle.tree_lines.proofs.EquilibriumLines.{AreActions, completed-actions}
-use Rattle.tree_lines.proofs.PrintedSets.{printed_sets, tree_entries-profile, IsProfile-printed}
+use Rattle.enumpure_trees.specs.TreeEquilibria.{profile_line}
+use Rattle.enumpure_trees.proofs.EquilibriumLines.{AreActions, completed-actions}
+use Rattle.enumpure_trees.proofs.PrintedSets.{printed_sets, tree_entries-profile, IsProfile-printed}
 
 -- the lines of two choices of actions are of one length
 lengths-same : (t : Tree) (f g : ℕ → ℕ) → AreActions t f → AreActions t g → length (line_text (tree_entries t (pure f))) ≡ length (line_text (tree_entries t (pure g)))

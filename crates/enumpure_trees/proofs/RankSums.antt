@@ -8,7 +8,7 @@ use Rattle.std.proofs.lemmas.List.Sums.{sum_by-cons}
 use Rattle.std.proofs.lemmas.Nat.{div-mul-add, mod-mul-add}
 use Rattle.game_theory.specs.Profiles.{profile_count, number_of}
 use Rattle.enumpure.proofs.Totals.{total, total-same, total-parts, total-exchange}
-use Rattle.tree_lines.specs.Orders.{ordered}
+use Rattle.enumpure_trees.specs.Orders.{ordered}
 use Rattle.game_theory.specs.Ranks.{ranked}
 
 -- the first term and the others

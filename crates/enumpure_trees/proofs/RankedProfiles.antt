@@ -6,7 +6,7 @@ use Rattle.game_theory.proofs.ProfileNumbers.{profile-below}
 use Rattle.game_theory.specs.Ranks.{ranked}
 use Rattle.enumpure.proofs.ProfileParts.{IsSetBelow, next_part, length-ranked}
 use Rattle.game_theory.proofs.Ranks.{IsProfile-ranked}
-use Rattle.tree_lines.specs.Orders.{ordered}
+use Rattle.enumpure_trees.specs.Orders.{ordered}
 
 -- there is a strategy for each place
 length-ordered : (orders : List (List ℕ)) (places : List ℕ) → length places ≡ length orders → length (ordered orders places) ≡ length orders

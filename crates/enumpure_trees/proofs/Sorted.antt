@@ -11,9 +11,9 @@ use Rattle.std.proofs.lemmas.List.FromFn.{length-range_with_len, get_or-range_wi
 use Rattle.std.proofs.lemmas.List.Sorted.{IsPermutation-map, All-permutation, Contains-permutation, length_permutation, ranks_by, sorted_far}
 use Rattle.std.proofs.lemmas.Simd.{map-map}
 use Rattle.lists.specs.Orders.{ComesBefore}
-use Rattle.decision_walk.proofs.Ascending.{AllPairs-permutation, before_from_cmp}
-use Rattle.decision_walk.proofs.EndLists.{Differ}
-use Rattle.tree_lines.specs.Orders.{completed_list, completed_of}
+use Rattle.strategy_lists.proofs.Ascending.{AllPairs-permutation, before_from_cmp}
+use Rattle.strategy_lists.proofs.EndLists.{Differ}
+use Rattle.enumpure_trees.specs.Orders.{completed_list, completed_of}
 use Rattle.enumpure_trees.specs.StrategyOrders.{AreTold, first_numbered, IsSortedOrder}
 
 -- the list at a place, completed, is as long as all

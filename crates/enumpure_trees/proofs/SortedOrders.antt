@@ -5,10 +5,10 @@ use Rattle.std.specs.List.Sorted.{IsPermutation}
 use Rattle.std.proofs.lemmas.List.{length-map, get_or-map, get_or_append_left, get_or_push, ext_get_or}
 use Rattle.std.proofs.lemmas.Option.{get_or_from_slice_get, slice_get_within}
 use Rattle.game_theory.specs.Profiles.{IsProfile, profile_count}
-use Rattle.tree_lines.specs.Orders.{IsOrder, AreOrders, ordered}
+use Rattle.enumpure_trees.specs.Orders.{IsOrder, AreOrders, ordered}
 use Rattle.game_theory.specs.Ranks.{ranked}
-use Rattle.tree_lines.specs.Ranks.{ranked_profile}
-use Rattle.tree_lines.proofs.OrderedProfiles.{order-of, IsProfile-ordered}
+use Rattle.enumpure_trees.specs.Ranks.{ranked_profile}
+use Rattle.enumpure_trees.proofs.OrderedProfiles.{order-of, IsProfile-ordered}
 use Rattle.game_theory.proofs.Ranks.{IsProfile-ranked}
 use Rattle.enumpure_trees.specs.StrategyOrders.{IsSortedOrder, AreSortedOrders}
 use Rattle.enumpure_trees.proofs.RankSums.{AllHaveNumbers}

@@ -13,7 +13,7 @@ use Rattle.reduced_form.specs.ReducedForm.{ReducedForm, IsReducedForm}
 use Rattle.enumpure.specs.Replies.{exchanged, PlaysBestReply, flag, AreStable}
 use Rattle.enumpure.proofs.Exchanges.{exchanged-below}
 use Rattle.enumpure.proofs.Listed.{IsEquilibrium-flag, flag-equilibrium}
-use Rattle.tree_lines.specs.Ranks.{TellsEquilibria}
+use Rattle.enumpure_trees.specs.Ranks.{TellsEquilibria}
 use Rattle.enumpure_trees.proofs.FormSizes.{form-counts, form-players}
 
 -- a game with these numbers of strategies and payoffs

@@ -4,17 +4,17 @@ use Rattle.std.specs.List.{count_by}
 use Rattle.std.proofs.Math.Nat.{mul-le-mul_right}
 use Rattle.game_theory.specs.Profiles.{IsProfile, profile_count}
 use Rattle.game_theory.specs.Lines.{line_text, lines_text}
-use Rattle.game_trees.specs.Trees.{IsTree}
+use Rattle.game_theory.specs.Trees.{IsTree}
 use Rattle.game_core.specs.Table.{GameTable, game_of}
 use Rattle.game_core.specs.Tree.{GameTree}
 use Rattle.game_core.specs.TreeGame.{game_of_tree}
 use Rattle.reduced_form.specs.ReducedForm.{ReducedForm, IsReducedForm}
 use Rattle.enumpure.specs.Replies.{flag, AreStable}
 use Rattle.game_theory.specs.Ranks.{ranked}
-use Rattle.tree_lines.specs.Ranks.{lines_below}
-use Rattle.tree_lines.specs.TreeEquilibria.{profile_line, IsTreeEquilibriaText}
-use Rattle.tree_lines.proofs.Listed.{AreTreeEquilibria-lines_below}
-use Rattle.tree_lines.proofs.OrderedProfiles.{IsProfile-ordered}
+use Rattle.enumpure_trees.specs.Ranks.{lines_below}
+use Rattle.enumpure_trees.specs.TreeEquilibria.{profile_line, IsTreeEquilibriaText}
+use Rattle.enumpure_trees.proofs.Listed.{AreTreeEquilibria-lines_below}
+use Rattle.enumpure_trees.proofs.OrderedProfiles.{IsProfile-ordered}
 use Rattle.game_theory.proofs.Ranks.{IsProfile-ranked}
 use Rattle.enumpure_trees.specs.StrategyOrders.{AreSortedOrders}
 use Rattle.enumpure_trees.proofs.FlagCounts.{length-lines_below}

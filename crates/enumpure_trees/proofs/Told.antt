@@ -1,15 +1,15 @@
 -- Completed lists tell a player's strategies.
 use Rattle.std.proofs.Common.{ℕ, ◌-◌, ◌<◌, ◌≡◌, inl, inr, List, [], ◌∷◌, length, get_or, refl, sym, ap, ◌∙◌, arith}
 use Rattle.std.proofs.lemmas.Bool.{cases_eq}
-use Rattle.game_trees.specs.OwnSets.{own_sets}
+use Rattle.game_theory.specs.OwnSets.{own_sets}
 use Rattle.lists.proofs.Orders.{AreAscending-place}
-use Rattle.game_trees.specs.Trees.{Tree, IsTree}
+use Rattle.game_theory.specs.Trees.{Tree, IsTree}
 use Rattle.reduced_strategies.specs.Choices.{choice_at}
 use Rattle.reduced_strategies.specs.StrategicForm.{AreStrategies}
 use Rattle.reduced_strategies.proofs.ReducedStrategies.{CompletesList, reduced-unique}
 use Rattle.reduced_strategies.proofs.Sets.{choice_at-first, choice_at-later}
 use Rattle.reduced_strategies.proofs.StrategyProfiles.{strategies-of}
-use Rattle.tree_lines.specs.Orders.{completed_list, completed_of}
+use Rattle.enumpure_trees.specs.Orders.{completed_list, completed_of}
 use Rattle.enumpure_trees.specs.StrategyOrders.{AreTold}
 
 -- what a completed list gives a set

@@ -2,7 +2,7 @@
 use Rattle.std.specs.Prelude.{ℕ, ◌<◌, ◌≡◌, List, [], length, map, slice_index_or}
 use Rattle.std.specs.List.{range_with_len}
 use Rattle.std.specs.List.Sorted.{IsPermutation}
-use Rattle.tree_lines.specs.Orders.{completed_of, IsOrder}
+use Rattle.enumpure_trees.specs.Orders.{completed_of, IsOrder}
 
 -- Lists of one length, which differ also when they are completed.
 pub record AreTold (strategies : List (List ℕ)) : Type 0 where

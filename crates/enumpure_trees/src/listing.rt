@@ -3,13 +3,13 @@ ghost use Rattle.std.specs.Prelude.{◌≡◌, ◌<◌, ◌≤◌, ◌^◌, ◌+
 ghost use Rattle.answers.specs.Answers.{Gives, IsSingle, map_ok};
 ghost use Rattle.game_theory.specs.Profiles.{IsProfile, profile_count, number_of};
 ghost use Rattle.game_theory.specs.Lines.{line_text, lines_text};
-ghost use Rattle.game_trees.specs.Trees.{IsTree, Tree as game_tree};
+ghost use Rattle.game_theory.specs.Trees.{IsTree, Tree as game_tree};
 ghost use Rattle.game_core.specs.TreeGame.{game_of_tree};
 ghost use Rattle.reduced_form.specs.ReducedForm.{IsReducedForm};
-ghost use Rattle.tree_lines.specs.Orders.{AreOrders, ordered};
+ghost use Rattle.enumpure_trees.specs.Orders.{AreOrders, ordered};
 ghost use Rattle.game_theory.specs.Ranks.{ranked};
-ghost use Rattle.tree_lines.specs.Ranks.{lines_below};
-ghost use Rattle.tree_lines.specs.TreeEquilibria.{profile_line};
+ghost use Rattle.enumpure_trees.specs.Ranks.{lines_below};
+ghost use Rattle.enumpure_trees.specs.TreeEquilibria.{profile_line};
 ghost use Rattle.enumpure.specs.Replies.{flag};
 ghost use Rattle.enumpure.specs.declared.listing.ListStop.TheVariants as stops;
 ghost use Rattle.enumpure_trees.specs.Stops.{behaviour_text};

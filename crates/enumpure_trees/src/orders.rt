@@ -4,7 +4,7 @@ ghost use Rattle.std.specs.Cmp.Lexicographic.{slice_cmp};
 ghost use Rattle.std.specs.List.Sorted.{IsPermutation, IsSorted};
 ghost use Rattle.std.specs.Ordering.{nat_cmp};
 ghost use Rattle.reduced_form.specs.ReducedForm.{IsReducedForm};
-ghost use Rattle.tree_lines.specs.Orders.{completed_list};
+ghost use Rattle.enumpure_trees.specs.Orders.{completed_list};
 ghost use Rattle.enumpure_trees.specs.StrategyOrders.{AreTold, first_numbered, IsSortedOrder, AreSortedOrders};
 
 use frac128::Memory;

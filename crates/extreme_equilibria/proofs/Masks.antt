@@ -4,7 +4,7 @@ use Rattle.std.specs.Int.{bit_at}
 use Rattle.std.proofs.lemmas.Bool.{cases_lt, cases_eq}
 use Rattle.std.proofs.lemmas.Nat.Bits.{bit_at_or, bit_at_ones, bit_at_ones_above, bit_at_above, bit_at-lt, same_from_bits}
 use Rattle.rational.specs.Rational.{ℚ, zero_ℚ}
-use Rattle.extreme_points.specs.Vertices.{IsZeroWord}
+use Rattle.linear_systems.specs.Vertices.{IsZeroWord}
 use Rattle.extreme_equilibria.specs.PairLines.{HaveAllLabels}
 use Rattle.extreme_equilibria.specs.Laws.{MasksTellLabels}
 

@@ -5,7 +5,7 @@ use Rattle.std.proofs.lemmas.List.Elements.{All-contains}
 use Rattle.rational.specs.Rational.{ℚ, ◌*ℚ◌, ◌-ℚ◌, zero_ℚ, ◌<ℚ◌}
 use Rattle.rational.specs.Sum.{sum_to}
 use Rattle.rational.proofs.RationalRing.{rational_ring}
-use Rattle.rings.proofs.Ring.{ring, num, ◌:+◌, ◌:*◌, ◌:-◌, A, B, C}
+use Rattle.rational.proofs.Ring.{ring, num, ◌:+◌, ◌:*◌, ◌:-◌, A, B, C}
 use Rattle.rational.proofs.Field.{trichotomy, lt-sub}
 use Rattle.rational.proofs.Inverse.{ne_zero_of_pos}
 use Rattle.linear_systems.specs.Tableau.{Tableau}
@@ -18,8 +18,8 @@ use Rattle.extreme_equilibria.specs.TwoPlayers.{pays_against}
 use Rattle.game_theory.proofs.ProfileLines.{length-listed, get_or-listed, listed-same}
 use Rattle.extreme_equilibria.specs.Bimatrix.{IsPositive, shifted, shift_of}
 use Rattle.extreme_equilibria.specs.Polytopes.{IsNonzero, IsInPolytope, IsVertex, first_variable, second_variable, IsCompletelyLabelled, IsVertexPair, scaled}
-use Rattle.extreme_points.specs.Points.{IsExtremePoint}
-use Rattle.extreme_points.specs.Vertices.{MarkedPoint, IsMarkOf, IsVertexMark, AreVertices}
+use Rattle.linear_systems.specs.Points.{IsExtremePoint}
+use Rattle.linear_systems.specs.Vertices.{MarkedPoint, IsMarkOf, IsVertexMark, AreVertices}
 use Rattle.extreme_equilibria.specs.Systems.{first_system, second_system}
 use Rattle.extreme_equilibria.specs.PairLines.{scaled_point, HaveAllLabels, pair_line, IsPairLine, ArePairLines}
 use Rattle.extreme_equilibria.specs.Laws.{VerticesScaleDifferently, PairLinesAreExtremeEquilibria, ListedVerticesScaleDifferently}
@@ -29,7 +29,7 @@ use Rattle.extreme_equilibria.proofs.Scaling.{unscaled}
 use Rattle.extreme_equilibria.proofs.Vertices.{extreme_points, of_points, zero_extreme, scaled_same}
 use Rattle.extreme_equilibria.proofs.Tables.{extreme_to_tables, extreme_from_tables}
 use Rattle.extreme_equilibria.proofs.Shifts.{shift_extreme, lifted_positive}
-use Rattle.extreme_points.proofs.VertexLists.{same_mask, place_once}
+use Rattle.linear_systems.proofs.VertexLists.{same_mask, place_once}
 use Rattle.extreme_equilibria.proofs.Masks.{masks_tell_labels}
 use Rattle.extreme_equilibria.proofs.Systems.{system, Fills, vertex_of, vertex_filled, determined, fill_same, before, first_fill, second_fill, first_fills, second_fills, first_variables, second_variables}
 

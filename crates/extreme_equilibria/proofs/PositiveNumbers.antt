@@ -3,7 +3,7 @@ use Rattle.std.proofs.Common.{ℕ, zero, suc, ◌<◌, ◌≡◌, ◌≢◌, inl
 use Rattle.rational.specs.Rational.{ℚ, ◌+ℚ◌, ◌*ℚ◌, inv_ℚ, zero_ℚ, ◌≤ℚ◌, ◌<ℚ◌}
 use Rattle.rational.specs.Sum.{sum_to}
 use Rattle.rational.proofs.RationalRing.{rational_ring}
-use Rattle.rings.proofs.Ring.{ring, num, ◌:+◌, ◌:*◌, A, B}
+use Rattle.rational.proofs.Ring.{ring, num, ◌:+◌, ◌:*◌, A, B}
 use Rattle.rational.proofs.Decide.{is_zero}
 use Rattle.rational.proofs.Field.{lt-le, lt-add, le_of_lt, nonneg-mul}
 use Rattle.rational.proofs.Inverse.{ne_zero_of_pos, inv_ℚ-inv, *ℚ_cancel}

@@ -3,7 +3,7 @@ use Rattle.std.proofs.Common.{ℕ, ◌<◌, ◌≡◌, ◌≢◌, inl, inr, [], 
 use Rattle.rational.specs.Rational.{ℚ, ◌*ℚ◌, inv_ℚ, zero_ℚ, one_ℚ, ◌≤ℚ◌, ◌<ℚ◌}
 use Rattle.rational.specs.Sum.{sum_to}
 use Rattle.rational.proofs.RationalRing.{rational_ring, *ℚ_comm}
-use Rattle.rings.proofs.Ring.{ring, combine, ◌times◌is◌, num, ◌:*◌, A, B, C}
+use Rattle.rational.proofs.Ring.{ring, combine, ◌times◌is◌, num, ◌:*◌, A, B, C}
 use Rattle.rational.proofs.Field.{nonneg-mul, le-mul_right, *ℚ-inv}
 use Rattle.rational.proofs.Rules.{zero-*ℚ}
 use Rattle.rational.proofs.Sums.{sum_to-scale_right, sum_to-same}

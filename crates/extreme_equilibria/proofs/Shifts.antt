@@ -4,7 +4,7 @@ use Rattle.std.proofs.lemmas.Int.{ints}
 use Rattle.rational.specs.Rational.{ℚ, ◌+ℚ◌, ◌*ℚ◌, one_ℚ, ◌≤ℚ◌}
 use Rattle.rational.specs.Sum.{sum_to}
 use Rattle.rational.proofs.RationalRing.{rational_ring}
-use Rattle.rings.proofs.Ring.{ring, num, ◌:+◌, ◌:*◌, A, B, C}
+use Rattle.rational.proofs.Ring.{ring, num, ◌:+◌, ◌:*◌, A, B, C}
 use Rattle.rational.proofs.Linear.{linear, at, lit, ◌⟨+⟩◌, ◌⟨-⟩◌, ◌⟨≤⟩◌, ◌⟨<⟩◌}
 use Rattle.rational.proofs.Sums.{sum_to-same, sum_to-add, sum_to-scale}
 use Rattle.extreme_equilibria.specs.Bimatrix.{gain, mean_gain, IsBestReply, IsBimatrixEquilibrium, IsExtremeBimatrixEquilibrium, IsPositive, shifted, IsBelowAll, shift_of}

@@ -4,7 +4,7 @@ use Rattle.std.proofs.lemmas.Int.{ints}
 use Rattle.std.proofs.lemmas.Bool.{cases_lt}
 use Rattle.rational.specs.Rational.{ℚ, ◌+ℚ◌, ◌*ℚ◌, ◌-ℚ◌, zero_ℚ, one_ℚ, ◌≤ℚ◌}
 use Rattle.rational.proofs.RationalRing.{rational_ring}
-use Rattle.rings.proofs.Ring.{ring, combine, ◌times◌is◌, num, ◌:+◌, ◌:-◌, :neg, A, B, C}
+use Rattle.rational.proofs.Ring.{ring, combine, ◌times◌is◌, num, ◌:+◌, ◌:-◌, :neg, A, B, C}
 use Rattle.rational.proofs.Linear.{linear, at, lit, ◌⟨+⟩◌, ◌⟨-⟩◌, ◌⟨≤⟩◌, ◌⟨=⟩◌}
 use Rattle.rational.proofs.Sums.{sum_to-same}
 use Rattle.linear_systems.specs.Tableau.{Tableau, Solves, left}
@@ -12,7 +12,7 @@ use Rattle.linear_systems.specs.Reached.{IsVariableOf, in_row, in_column}
 use Rattle.extreme_equilibria.specs.ExtremeEquilibria.{AreSame, IsMidpoint}
 use Rattle.extreme_equilibria.specs.Bimatrix.{gain}
 use Rattle.extreme_equilibria.specs.Polytopes.{IsInPolytope, IsVertex, first_variable, second_variable}
-use Rattle.extreme_points.specs.Points.{IsPoint, IsExtremePoint}
+use Rattle.linear_systems.specs.Points.{IsPoint, IsExtremePoint}
 use Rattle.extreme_equilibria.specs.Systems.{first_system, second_system}
 use Rattle.extreme_equilibria.specs.Laws.{SolutionsAreThePolytopes}
 use Rattle.extreme_equilibria.proofs.Means.{dot-midpoint}

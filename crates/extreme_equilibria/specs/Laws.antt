@@ -6,8 +6,8 @@ use Rattle.linear_systems.specs.Tableau.{Tableau}
 use Rattle.game_theory.specs.Profiles.{Game}
 use Rattle.game_theory.specs.Mixed.{Mixed}
 use Rattle.game_theory.specs.Equilibrium.{IsEquilibrium}
-use Rattle.extreme_points.specs.Points.{IsPoint}
-use Rattle.extreme_points.specs.Vertices.{MarkedPoint, IsMarkOf, AreVertices}
+use Rattle.linear_systems.specs.Points.{IsPoint}
+use Rattle.linear_systems.specs.Vertices.{MarkedPoint, IsMarkOf, AreVertices}
 use Rattle.extreme_equilibria.specs.ExtremeEquilibria.{AreSame, IsExtremeEquilibrium, AreExtremeEquilibria}
 use Rattle.extreme_equilibria.specs.TwoPlayers.{pays_against}
 use Rattle.extreme_equilibria.specs.Bimatrix.{mean_gain, IsBimatrixEquilibrium, IsExtremeBimatrixEquilibrium, IsPositive, shifted, IsBelowAll, shift_of}

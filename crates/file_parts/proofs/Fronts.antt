@@ -1,6 +1,6 @@
 -- Two fronts of one list of tokens: one goes on as the other.
 use Rattle.std.proofs.Common.{◌≡◌, List, [], ◌∷◌, ◌++◌, refl, sym}
-use Rattle.game_tokens.specs.declared.token.Token.{Token}
+use Rattle.game_core.specs.declared.token.Token.{Token}
 use Rattle.file_parts.proofs.Readers.{same_first, same_rest, both_cons}
 
 -- of two fronts of a list one goes on as the other

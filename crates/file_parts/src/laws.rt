@@ -2,8 +2,8 @@
 // stands there is read, whatever follows.
 ghost use Rattle.std.specs.Prelude.{ℕ, ◌≤◌, ◌≡◌, List, [], ◌∷◌, ◌++◌, length, Ok, Some};
 ghost use Rattle.rational.specs.Rational.{ℚ};
-ghost use Rattle.game_tokens.specs.declared.token.Token.{Token};
-ghost use Rattle.game_tokens.specs.declared.token.Token.TheVariants.{Text};
+ghost use Rattle.game_core.specs.declared.token.Token.{Token};
+ghost use Rattle.game_core.specs.declared.token.Token.TheVariants.{Text};
 ghost use Rattle.file_parts.specs.Parts.{whole_number, IsHeader, braced_texts, AreNumbers};
 ghost use Rattle.file_parts.specs.Reading.{whole_at};
 ghost use Rattle.file_parts.specs.Parsing.{parse_names, parse_payoffs, parse_title};

@@ -2,7 +2,7 @@
 use Rattle.std.proofs.Common.{ℕ, suc, ◌<◌, ◌≤◌, ◌≡◌, ◌≢◌, ◌+◌, ◌-◌, ◌==◌, if◌then◌else◌, true, List, [], length, get_or, refl, sym, ap, ap₂, ◌∙◌, subst, arith, tests}
 use Rattle.rational.specs.Rational.{◌-ℚ◌, neg_ℚ, zero_ℚ, one_ℚ}
 use Rattle.rational.proofs.RationalRing.{rational_ring}
-use Rattle.rings.proofs.Ring.{ring, num, ◌:-◌, :neg}
+use Rattle.rational.proofs.Ring.{ring, num, ◌:-◌, :neg}
 use Rattle.sequence_forms.specs.Sides.{Side, sequences, first, place}
 use Rattle.sequence_forms.specs.Matrices.{set_row}
 use Rattle.sequence_forms.proofs.Places.{places}

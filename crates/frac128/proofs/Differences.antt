@@ -3,8 +3,8 @@ use Rattle.std.proofs.Common.{ℕ, ◌≡◌, ◌/◌, ◌<◌, ◌^◌, ℤ, po
 use Rattle.rational.proofs.Parts.{abs-neg, neg-parts}
 use Rattle.rational.specs.Gcd.{gcd}
 use Rattle.rational.specs.Rational.{ℚ, ◌+ℚ◌, ◌-ℚ◌, neg_ℚ}
-use Rattle.rings.proofs.IntegerRing.{integer_ring}
-use Rattle.rings.proofs.Ring.{ring, ◌:*◌, :neg, A, B}
+use Rattle.rational.proofs.IntegerRing.{integer_ring}
+use Rattle.rational.proofs.Ring.{ring, ◌:*◌, :neg, A, B}
 use Rattle.frac128.specs.Fraction.{PartFits}
 use Rattle.frac128.specs.Steps.{AddFits, SubFits, num_beside}
 

@@ -5,9 +5,9 @@ use lib.IntN.{+ℤ_comm}
 use native.Mathlib.Nat.{div_self}
 use Rattle.rational.specs.Gcd.{gcd}
 use Rattle.rational.specs.Rational.{ℚ, ◌+ℚ◌, zero_ℚ, den_pos}
-use Rattle.rings.proofs.IntegerRing.{integer_ring}
+use Rattle.rational.proofs.IntegerRing.{integer_ring}
 use Rattle.rational.proofs.RationalRing.{+ℚ_comm, +ℚ-zero}
-use Rattle.rings.proofs.Ring.{ring, ◌:*◌, ◌:+◌, num, A}
+use Rattle.rational.proofs.Ring.{ring, ◌:*◌, ◌:+◌, num, A}
 use Rattle.frac128.specs.Fraction.{Fits, PartFits}
 use Rattle.frac128.specs.Steps.{AddFits, num_beside}
 use Rattle.frac128.proofs.Parts.{kept, kept-part, zero-num, zero-den}

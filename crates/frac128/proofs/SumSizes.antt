@@ -10,8 +10,8 @@ use Rattle.rational.specs.Gcd.{gcd}
 use Rattle.rational.specs.GcdLaws.{gcd-is, gcd-parts, gcd_pos}
 use Rattle.rational.specs.Rational.{ℚ, ◌+ℚ◌, frac, den_pos, lowest}
 use Rattle.rational.proofs.Fractions.{StandsFor-self, StandsFor-frac, StandsFor-add, equal_by}
-use Rattle.rings.proofs.IntegerRing.{integer_ring}
-use Rattle.rings.proofs.Ring.{ring, ◌:*◌, ◌:+◌, A, B, C, D, E}
+use Rattle.rational.proofs.IntegerRing.{integer_ring}
+use Rattle.rational.proofs.Ring.{ring, ◌:*◌, ◌:+◌, A, B, C, D, E}
 use Rattle.frac128.specs.Fraction.{Fits, PartFits, with_sign}
 use Rattle.frac128.specs.Steps.{AddFits, num_beside}
 use Rattle.frac128.proofs.Parts.{kept, kept-part}

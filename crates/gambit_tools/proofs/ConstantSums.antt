@@ -6,7 +6,7 @@ use Rattle.std.proofs.lemmas.Bool.{cases_lt}
 use Rattle.rational.specs.Rational.{ℚ}
 use Rattle.game_theory.specs.Profiles.{profile_count, number_of}
 use Rattle.game_theory.proofs.ProfileNumbers.{number_of-below}
-use Rattle.game_trees.specs.Trees.{Tree}
+use Rattle.game_theory.specs.Trees.{Tree}
 use Rattle.game_core.specs.Table.{GameTable, IsTable, game_of, strategy_counts}
 use Rattle.sequence_forms.specs.Forms.{LeavesSumTo, form_of_table}
 use Rattle.sequence_forms.specs.Lists.{leaf_first, leaves_below}

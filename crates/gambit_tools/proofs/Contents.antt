@@ -4,7 +4,7 @@ use Rattle.answers.specs.Answers.{only}
 use Rattle.game_core.specs.declared.game.Game.{Game}
 use Rattle.game_core.specs.declared.game.Game.TheVariants.{Strategic, Extensive}
 use Rattle.game_core.specs.Tree.{GameTree}
-use Rattle.game_tokens.specs.TokenList.{TokenList}
+use Rattle.game_core.specs.TokenList.{TokenList}
 use Rattle.game_text.specs.Stops.{tokens_of}
 use Rattle.game_text.specs.declared.reading.TextStop.{TextStop}
 use Rattle.game_text.specs.declared.reading.TextStop.TheVariants as text_stop

@@ -5,7 +5,7 @@ use Rattle.answers.proofs.Answers.{bind-single, by_case-single, only-single, ref
 use Rattle.game_core.specs.declared.game.Game.TheVariants.{Strategic, Extensive}
 use Rattle.game_text.specs.Stops.{tokens_of}
 use Rattle.game_text.proofs.Single.{tokens_of-single}
-use Rattle.game_tokens.specs.TokenList.{TokenList, bare}
+use Rattle.game_core.specs.TokenList.{TokenList, bare}
 use Rattle.nfg_reader.specs.Stops.{table_in}
 use Rattle.nfg_reader.proofs.Single.{table_in-single}
 use Rattle.efg_reader.specs.Stops.{tree_in}

@@ -1,12 +1,12 @@
 -- What the stages before keep of a game, a sequence form and an optimum.
 use Rattle.std.proofs.Common.{ℕ, ◌≡◌, ◌∙◌, inl, inr, sym, subst, arith, Bool, true, false, Option, List, Result, Ok}
-use Rattle.game_trees.specs.FirstNodes.{AreNumberedByFirstNodes}
-use Rattle.game_trees.specs.Trees.{IsTree as is_game_tree}
+use Rattle.game_theory.specs.FirstNodes.{AreNumberedByFirstNodes}
+use Rattle.game_theory.specs.Trees.{IsTree as is_game_tree}
 use Rattle.game_core.specs.Tree.{GameTree, IsTree}
 use Rattle.game_core.specs.TreeGame.{game_of_tree}
 use Rattle.game_core.specs.declared.game.Game.{Game}
 use Rattle.game_core.specs.declared.game.Game.TheVariants.{Strategic, Extensive}
-use Rattle.game_tokens.specs.TokenList.{TokenList}
+use Rattle.game_core.specs.TokenList.{TokenList}
 use Rattle.perfect_recall.specs.Found.{IsRecallOf}
 use Rattle.sequence_forms.specs.Forms.{HasTwoWhoRecall}
 use Rattle.written_trees.proofs.BegunTrees.{whole_is_tree}

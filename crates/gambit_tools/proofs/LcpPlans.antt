@@ -8,7 +8,7 @@ use Rattle.sequence_forms.specs.Forms.{SequenceForm}
 use Rattle.sequence_forms.specs.Matrices.{SolvesProblem, column_slack, column_total, right_side, row_slack, row_total, set_row}
 use Rattle.sequence_forms.specs.Prices.{costs}
 use Rattle.sequence_forms.specs.Sides.{sequences}
-use Rattle.complementarity.specs.Problems.{Costs, costs_of, at_p, at_p', at_q, at_q'}
+use Rattle.lemke_pivot.specs.Problems.{Costs, costs_of, at_p, at_p', at_q, at_q'}
 use Rattle.sequence_data.specs.Data.{side_of}
 use Rattle.sequence_data.specs.Weights.{weight}
 use Rattle.zero_sum_lp.specs.PlanPairs.{PlanPair}

@@ -3,7 +3,7 @@ use Rattle.std.proofs.Common.{ℕ, ◌≡◌, ◌∙◌, sym, ap, subst, Bool, t
 use Rattle.game_theory.specs.Equilibrium.{IsEquilibrium as is_table_equilibrium}
 use Rattle.game_theory.specs.Lines.{line_text}
 use Rattle.game_theory.proofs.ProfileLines.{length-listed}
-use Rattle.game_trees.specs.Equilibrium.{IsEquilibrium}
+use Rattle.game_theory.specs.TreeEquilibrium.{IsEquilibrium}
 use Rattle.game_core.specs.Table.{GameTable, IsTable, game_of}
 use Rattle.game_core.specs.Tree.{GameTree, IsTree}
 use Rattle.game_core.specs.TreeGame.{game_of_tree}

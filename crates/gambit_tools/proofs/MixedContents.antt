@@ -6,7 +6,7 @@ use Rattle.game_theory.specs.Profiles.{Game as TableGame}
 use Rattle.game_core.specs.Table.{GameTable, game_of}
 use Rattle.game_core.specs.declared.game.Game.{Game}
 use Rattle.game_core.specs.declared.game.Game.TheVariants.{Strategic, Extensive}
-use Rattle.extreme_points.specs.Vertices.{MarkedPoint}
+use Rattle.linear_systems.specs.Vertices.{MarkedPoint}
 use Rattle.lex_tableau.specs.Starts.{Parts}
 use Rattle.reduced_form.specs.Kept.{kept_of}
 use Rattle.reduced_form.specs.Stops.{form_of}
@@ -21,7 +21,7 @@ use Rattle.reply_polytope.specs.declared.stop.PolyStop.TheVariants as poly_stop
 use Rattle.basis_enum.specs.Enumeration.{vertices_in}
 use Rattle.basis_enum.specs.declared.stop.EnumStop.{EnumStop}
 use Rattle.basis_enum.specs.declared.stop.EnumStop.TheVariants as enum_stop
-use Rattle.basis_levels.specs.Systems.{variable_count}
+use Rattle.basis_enum.specs.Systems.{variable_count}
 use Rattle.label_pairing.specs.Stops.{pairs_in}
 use Rattle.label_pairing.specs.declared.pairing.PairStop.{PairStop}
 use Rattle.label_pairing.specs.declared.pairing.PairStop.TheVariants as pair_stop

@@ -10,8 +10,8 @@ use Rattle.game_core.specs.declared.game.Game.TheVariants.{Strategic, Extensive}
 use Rattle.reduced_form.specs.ReducedForm.{ReducedForm}
 use Rattle.reduced_form.specs.Stops.{form_of}
 use Rattle.reduced_form.proofs.Exact.{form_of-single}
-use Rattle.tree_lines.specs.TreeEquilibria.{IsTreeEquilibriaText}
-use Rattle.tree_lines.proofs.EquilibriumLines.{text-determined}
+use Rattle.enumpure_trees.specs.TreeEquilibria.{IsTreeEquilibriaText}
+use Rattle.enumpure_trees.proofs.EquilibriumLines.{text-determined}
 use Rattle.enumpure.specs.Stops.{pure_text}
 use Rattle.enumpure.proofs.Texts.{pure_text-single, within_text_limit-single}
 use Rattle.words.specs.Words.{Command, Enumpure, Enummixed, Lcp, Lp, Convert, Check, Make}

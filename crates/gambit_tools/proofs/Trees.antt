@@ -3,11 +3,11 @@ use Rattle.std.proofs.Common.{ℕ, ◌≡◌, ◌+◌, ◌≤◌, ◌∙◌, sym
 use lib.Pointwise.{pointwise}
 use Rattle.std.proofs.lemmas.Bool.Decides.{Decides-eqb}
 use Rattle.std.proofs.lemmas.Slice.Eq.{slice_eq-Decides}
-use Rattle.game_tokens.specs.TokenList.{TokenList, bare}
-use Rattle.game_tokens.specs.InPlace.{AreInPlace}
-use Rattle.game_tokens.specs.declared.token.Spanned.{Spanned}
-use Rattle.game_tokens.specs.declared.token.Token.{Token}
-use Rattle.game_tokens.specs.declared.token.Token.TheVariants.{Word}
+use Rattle.game_core.specs.TokenList.{TokenList, bare}
+use Rattle.game_core.specs.InPlace.{AreInPlace}
+use Rattle.game_core.specs.declared.token.Spanned.{Spanned}
+use Rattle.game_core.specs.declared.token.Token.{Token}
+use Rattle.game_core.specs.declared.token.Token.TheVariants.{Word}
 use Rattle.gambit_tools.specs.Games.{BeginsAsTree}
 
 -- a comparison of a word's bytes tells whether the word is the token

@@ -5,10 +5,10 @@ use Rattle.game_core.specs.Table.{IsTable}
 use Rattle.game_core.specs.Tree.{IsTree}
 use Rattle.game_core.specs.declared.game.Game.{Game}
 use Rattle.game_core.specs.declared.game.Game.TheVariants.{Strategic, Extensive}
-use Rattle.game_tokens.specs.TokenList.{TokenList, bare}
+use Rattle.game_core.specs.TokenList.{TokenList, bare}
 use Rattle.game_text.specs.Stops.{tokens_of}
-use Rattle.game_tokens.specs.declared.token.Token.{Token}
-use Rattle.game_tokens.specs.declared.token.Token.TheVariants.{Word}
+use Rattle.game_core.specs.declared.token.Token.{Token}
+use Rattle.game_core.specs.declared.token.Token.TheVariants.{Word}
 use Rattle.nfg_reader.specs.Stops.{table_in}
 use Rattle.efg_reader.specs.Stops.{tree_in}
 use Rattle.gambit_tools.specs.Input.{most_bytes}

@@ -3,7 +3,7 @@ use Rattle.std.specs.Prelude.{ℕ, ◌≡◌, Bool, true, false, List, length, O
 use Rattle.rational.specs.Rational.{ℚ}
 use Rattle.game_theory.specs.Equilibrium.{IsEquilibrium as is_table_equilibrium}
 use Rattle.game_theory.specs.Lines.{line_text}
-use Rattle.game_trees.specs.Equilibrium.{IsEquilibrium}
+use Rattle.game_theory.specs.TreeEquilibrium.{IsEquilibrium}
 use Rattle.game_core.specs.Table.{game_of}
 use Rattle.game_core.specs.TreeGame.{game_of_tree}
 use Rattle.game_core.specs.declared.game.Game.{Game}

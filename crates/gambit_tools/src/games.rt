@@ -1,8 +1,8 @@
 // The game that bytes stand for, and that an input holds.
 ghost use Rattle.std.specs.Prelude.{option_map, string_bytes, ◌<◌, ◌≤◌, ◌≡◌, ◌^◌, ◌↔◌, length, codes, IsTrue};
 ghost use Rattle.answers.specs.Answers.{Gives};
-ghost use Rattle.game_tokens.specs.TokenList.{bare};
-ghost use Rattle.game_tokens.specs.declared.token.Token.TheVariants as token_kind;
+ghost use Rattle.game_core.specs.TokenList.{bare};
+ghost use Rattle.game_core.specs.declared.token.Token.TheVariants as token_kind;
 ghost use Rattle.gambit_tools.specs.Input.{most_bytes};
 ghost use Rattle.gambit_tools.specs.Games.{BeginsAsTree, tree_game, table_game, game_of, game_in};
 ghost use Rattle.gambit_tools.specs.Reading.{ReadsGame};

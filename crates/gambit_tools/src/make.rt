@@ -5,9 +5,9 @@ ghost use Rattle.words.specs.Words.{IsFrom};
 ghost use Rattle.enummixed.specs.Pairs.{pairs_of};
 ghost use Rattle.gambit_tools.specs.Make.{count_lines, counts_text, make};
 
+use answers::Memory;
 use enummixed::{ExtremePairs, extreme_pairs};
 use made_tables::make_table;
-use memory::Memory;
 use outside::Gate;
 use refusals::Refusal;
 use std::alloc::Global;

@@ -10,12 +10,12 @@ ghost use Rattle.gambit_tools.specs.PlanWeights.{plans_of};
 
 use frac128::{Frac, Memory};
 use lemke_pivot::{Lcp, LemkeEnd, Solution, problem};
+use lex_tableau::Steps;
 use refusals::{Refusal, Site};
 use sequence_form::SeqForm;
 use std::alloc::Global;
 use std::marker::Brand;
 use std::sync::ledger::{Blank, Ledger};
-use steps::Steps;
 
 /// The weights of both players' sequences.
 #[derive(Debug, Drop)]

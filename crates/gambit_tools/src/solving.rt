@@ -4,12 +4,12 @@ ghost use Rattle.answers.specs.Answers.{Gives, map_ok};
 ghost use Rattle.gambit_tools.specs.Lp.{optimum_of, solution_in};
 ghost use Rattle.gambit_tools.specs.Solved.{HasSizesOf, solution_of};
 
+use lex_tableau::Steps;
 use refusals::{Refusal, Site};
 use sequence_form::SeqForm;
 use std::alloc::Global;
 use std::marker::Brand;
 use std::sync::ledger::{Blank, Ledger};
-use steps::Steps;
 use zero_sum_lp::{Lp, LpEnd, Optimum, Plans, program};
 
 /// A form's solution: the optimum of its program, which has the prices, and both players' plans.

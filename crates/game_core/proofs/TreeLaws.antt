@@ -6,8 +6,8 @@ use Rattle.std.proofs.lemmas.Option.{slice_get-get_or, get_or_from_slice_get, sa
 use Rattle.lists.proofs.Elements.{element}
 use Rattle.rational.specs.Rational.{◌≤ℚ◌, zero_ℚ, one_ℚ}
 use Rattle.rational.specs.Sum.{sum_to}
-use Rattle.game_trees.specs.FirstNodes.{AreNumberedByFirstNodes}
-use Rattle.game_trees.specs.Trees.{IsTree as is_game_tree, IsChild, IsLottery}
+use Rattle.game_theory.specs.FirstNodes.{AreNumberedByFirstNodes}
+use Rattle.game_theory.specs.Trees.{IsTree as is_game_tree, IsChild, IsLottery}
 use Rattle.game_core.specs.declared.tree.Action.{Action}
 use Rattle.game_core.specs.Tree.{GameTree, IsTree, InformationSet, IsWithin, AreChances, ProbabilitiesFit, SetFits, action_count, probability_at}
 use Rattle.game_core.specs.TreeGame.{game_of_tree, or_zero}

@@ -1,7 +1,7 @@
 -- The game that a tree stands for.
 use Rattle.std.specs.Prelude.{ℕ, List, [], length, map, slice_index_or, Option, Some, None}
 use Rattle.rational.specs.Rational.{ℚ, zero_ℚ}
-use Rattle.game_trees.specs.Trees.{Tree}
+use Rattle.game_theory.specs.Trees.{Tree}
 use Rattle.game_core.specs.Tree.{GameTree, TreeOutcome, action_count, probability_at}
 
 -- a number where there is one, and else 0

@@ -1,7 +1,7 @@
 // Games as trees.
 ghost use Rattle.std.specs.Prelude.{◌≡◌, ◌<◌, ◌^◌, [], All, length, map, slice_get, IfOk};
-ghost use Rattle.game_trees.specs.FirstNodes.{AreNumberedByFirstNodes};
-ghost use Rattle.game_trees.specs.Trees.{IsTree as is_game_tree};
+ghost use Rattle.game_theory.specs.FirstNodes.{AreNumberedByFirstNodes};
+ghost use Rattle.game_theory.specs.Trees.{IsTree as is_game_tree};
 ghost use Rattle.game_core.specs.OwnSets.{AreOwnLists};
 ghost use Rattle.game_core.specs.Tree.{IsTree, IsWithin, GameTree, own_sets};
 ghost use Rattle.game_core.specs.TreeGame.{game_of_tree};

@@ -2,7 +2,7 @@
 use Rattle.std.proofs.Common.{◌≡◌, ℕ, Bool, true, List, ◌++◌, take, drop, ◌∙◌}
 use Rattle.std.specs.List.{prefix_len, AllByRecursion}
 use Rattle.std.proofs.lemmas.List.Sums.{prefix_len-le-length}
-use Rattle.number_text.proofs.Spans.{Stops, take-prefix_len, drop-prefix_len, leading-passes, behind-stops, behind-is}
+use Rattle.game_text.proofs.Prefixes.{Stops, take-prefix_len, drop-prefix_len, leading-passes, behind-stops, behind-is}
 
 pub ruleset prefix_lengths = (prefix_len-le-length)
 

@@ -1,8 +1,13 @@
 pub mod Bytes
+pub mod Digits
 pub mod FirstBytes
+pub mod Forms
 pub mod Fronts
+pub mod Limits
 pub mod Next
 pub mod Passes
+pub mod Powers
+pub mod Prefixes
 pub mod Quoted
 pub mod Runs
 pub mod Single

@@ -4,8 +4,8 @@ use Rattle.std.proofs.lemmas.List.{take-append-drop, take_all}
 use Rattle.std.proofs.lemmas.Bool.{both_ways}
 use Rattle.std.specs.List.{prefix_len}
 use Rattle.rational.specs.Rational.{ℚ}
-use Rattle.number_text.specs.Numbers.{IsNumber}
-use Rattle.game_tokens.specs.declared.token.Token.TheVariants.{Text, Word, Number}
+use Rattle.game_text.specs.Numbers.{IsNumber}
+use Rattle.game_core.specs.declared.token.Token.TheVariants.{Text, Word, Number}
 use Rattle.game_text.specs.declared.reading.TextKind.{TextKind}
 use Rattle.game_text.specs.declared.reading.TextKind.TheVariants.{BadChar, OpenText, BadNumber, NumberTooLarge}
 use Rattle.game_text.specs.Tokens.{BeginsWith, IsLetter, IsRun, IsFaultAt}

@@ -2,14 +2,14 @@
 use Rattle.std.proofs.Common.{◌≡◌, ℕ, ◌+◌, ◌<◌, ◌≤◌, List, [], ◌∷◌, ◌++◌, length, map, sym, ap, ◌∙◌, append_assoc, length-append, arith}
 use Rattle.std.specs.List.{AllByRecursion}
 use Rattle.frac128.specs.Short.{IsShort}
-use Rattle.number_text.specs.Numbers.{IsNumber, NumberForm, Fraction, Decimal, value_of, IsWithinLimits}
+use Rattle.game_text.specs.Numbers.{IsNumber, NumberForm, Fraction, Decimal, value_of, IsWithinLimits}
 use Rattle.rational.specs.Rational.{ℚ}
-use Rattle.game_tokens.specs.TokenList.{TokenList, bare}
-use Rattle.game_tokens.specs.declared.token.Spanned.{Spanned}
-use Rattle.game_tokens.specs.declared.token.Token.{Token}
-use Rattle.game_tokens.specs.declared.token.Token.TheVariants.{Left, Right, Comma, Text, Word, Number}
+use Rattle.game_core.specs.TokenList.{TokenList, bare}
+use Rattle.game_core.specs.declared.token.Spanned.{Spanned}
+use Rattle.game_core.specs.declared.token.Token.{Token}
+use Rattle.game_core.specs.declared.token.Token.TheVariants.{Left, Right, Comma, Text, Word, Number}
 use Rattle.game_text.specs.Tokens.{IsBlank, IsTokenAt, AreTokens, AreTokensBefore}
-use Rattle.game_tokens.specs.InPlace.{AreInPlace, IsShortToken}
+use Rattle.game_core.specs.InPlace.{AreInPlace, IsShortToken}
 
 -- bytes that begin with blanks
 abbrev pub BlanksBefore : List ℕ → List ℕ → Type 0

@@ -6,7 +6,7 @@ use Rattle.game_text.specs.Tokens.{BeginsWith, IsBlank, IsBare, IsRun}
 use Rattle.game_text.specs.Reading.{is_bare, is_blank}
 use Rattle.game_text.proofs.Bytes.{tells_bare, tells_blank}
 use Rattle.game_text.proofs.Fronts.{take_passes, drop_stops, drop-front}
-use Rattle.number_text.proofs.Spans.{Stops}
+use Rattle.game_text.proofs.Prefixes.{Stops}
 
 -- bare bytes, by test and by fact
 passes_bare : (run : List ℕ) → AllByRecursion (λ b. is_bare b ≡ true) run → AllByRecursion IsBare run

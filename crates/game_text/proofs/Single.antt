@@ -4,11 +4,11 @@ use Rattle.std.proofs.lemmas.List.{append_cancel_right}
 use Rattle.std.specs.List.{AllByRecursion, prefix_len}
 use Rattle.answers.specs.Answers.{IsSingle}
 use Rattle.rational.specs.Rational.{ℚ}
-use Rattle.number_text.specs.Numbers.{NumberForm, IsNumber, IsTooLarge, value_of, IsWithinLimits}
-use Rattle.game_tokens.specs.TokenList.{TokenList, token_parts}
-use Rattle.game_tokens.specs.declared.token.Spanned.{Spanned}
-use Rattle.game_tokens.specs.declared.token.Token.{Token}
-use Rattle.game_tokens.specs.declared.token.Token.TheVariants.{Left, Right, Comma, Text, Word, Number}
+use Rattle.game_text.specs.Numbers.{NumberForm, IsNumber, IsTooLarge, value_of, IsWithinLimits}
+use Rattle.game_core.specs.TokenList.{TokenList, token_parts}
+use Rattle.game_core.specs.declared.token.Spanned.{Spanned}
+use Rattle.game_core.specs.declared.token.Token.{Token}
+use Rattle.game_core.specs.declared.token.Token.TheVariants.{Left, Right, Comma, Text, Word, Number}
 use Rattle.game_text.specs.declared.reading.TextKind.{TextKind}
 use Rattle.game_text.specs.declared.reading.TextKind.TheVariants.{BadChar, OpenText, BadNumber, NumberTooLarge}
 use Rattle.game_text.specs.Tokens.{BeginsWith, IsBlank, IsRun, IsTokenAt, IsFaultAt, AreTokens, AreTokensBefore, IsFirstFault}
@@ -19,7 +19,7 @@ use Rattle.game_text.specs.Stops.{tokens_of}
 use Rattle.game_text.proofs.FirstBytes.{kind_at, kind_of_fault, kind_at-token, kind_at-fault, kind_no_blank}
 use Rattle.game_text.proofs.Quoted.{spelled-text}
 use Rattle.game_text.proofs.Runs.{drop-run}
-use Rattle.number_text.proofs.Forms.{one_form}
+use Rattle.game_text.proofs.Forms.{one_form}
 
 -- ---- numbers
 -- a number has one value

@@ -2,9 +2,9 @@
 use Rattle.std.proofs.Common.{◌≡◌, ℕ, ◌+◌, ◌-◌, ◌<◌, ◌≤◌, List, [], ◌∷◌, ◌++◌, length, take, drop, sym, ap, ◌∙◌, length-append, length-drop, arith}
 use Rattle.std.proofs.lemmas.List.{take-append-drop}
 use Rattle.std.specs.List.{prefix_len}
-use Rattle.game_tokens.specs.declared.token.Spanned.{Spanned}
+use Rattle.game_core.specs.declared.token.Spanned.{Spanned}
 use Rattle.game_text.specs.Tokens.{AreTokensBefore}
-use Rattle.game_tokens.specs.InPlace.{AreInPlace}
+use Rattle.game_core.specs.InPlace.{AreInPlace}
 use Rattle.game_text.specs.Reading.{IsNext, is_blank}
 use Rattle.game_text.proofs.Passes.{BlanksBefore, tokens_push, token_is_short, in_place_push}
 use Rattle.game_text.proofs.Runs.{take_blanks}

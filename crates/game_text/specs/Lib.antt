@@ -1,3 +1,6 @@
+pub mod Digits
+pub mod NumberReading
+pub mod Numbers
 pub mod Reading
 pub mod Stops
 pub mod Tokens

@@ -1,9 +1,9 @@
 -- Reading one token, in terms of the bytes from its first on.
 use Rattle.std.specs.Prelude.{ℕ, ◌<◌, ◌≡◌, ◌≢◌, Bool, if◌then◌else◌, ◌&&◌, ◌||◌, ◌==◌, nat_le, List, [], ◌∷◌, ◌++◌, length, Option, Some, None}
 use Rattle.std.specs.Char.{is_ascii_digit}
-use Rattle.number_text.specs.Numbers.{IsTooLarge, IsNoNumber}
+use Rattle.game_text.specs.Numbers.{IsTooLarge, IsNoNumber}
 use Rattle.game_text.specs.Tokens.{IsTokenAt, IsFaultAt, IsBlank}
-use Rattle.game_tokens.specs.declared.token.Token.{Token}
+use Rattle.game_core.specs.declared.token.Token.{Token}
 use Rattle.game_text.specs.declared.reading.TextKind.{TextKind}
 use Rattle.game_text.specs.declared.reading.TextKind.TheVariants.{BadChar, OpenText, BadNumber, NumberTooLarge}
 use Rattle.game_text.specs.declared.reading.TextStop.{TextStop}

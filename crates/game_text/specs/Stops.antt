@@ -1,7 +1,7 @@
 -- What the bytes of a source answer: their tokens, or the first fault.
 use Rattle.std.specs.Prelude.{ℕ, List, Ok, Err}
 use Rattle.answers.specs.Answers.{Answer}
-use Rattle.game_tokens.specs.TokenList.{TokenList}
+use Rattle.game_core.specs.TokenList.{TokenList}
 use Rattle.game_text.specs.Tokens.{AreTokens, IsFirstFault}
 use Rattle.game_text.specs.declared.reading.TextStop.{TextStop}
 use Rattle.game_text.specs.declared.reading.TextStop.TheVariants.{Fault, Memory}

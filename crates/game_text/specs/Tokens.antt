@@ -2,11 +2,11 @@
 use Rattle.std.specs.Prelude.{ℕ, ◌+◌, ◌<◌, ◌≤◌, ◌≡◌, ◌≢◌, ◌⊎◌, List, [], ◌∷◌, ◌++◌, length}
 use Rattle.std.specs.Char.{IsAsciiDigit}
 use Rattle.std.specs.List.{AllByRecursion}
-use Rattle.number_text.specs.Numbers.{IsNumber, IsTooLarge, IsNoNumber}
-use Rattle.game_tokens.specs.TokenList.{TokenList}
-use Rattle.game_tokens.specs.declared.token.Spanned.{Spanned}
-use Rattle.game_tokens.specs.declared.token.Token.{Token}
-use Rattle.game_tokens.specs.declared.token.Token.TheVariants.{Left, Right, Comma, Text, Word, Number}
+use Rattle.game_text.specs.Numbers.{IsNumber, IsTooLarge, IsNoNumber}
+use Rattle.game_core.specs.TokenList.{TokenList}
+use Rattle.game_core.specs.declared.token.Spanned.{Spanned}
+use Rattle.game_core.specs.declared.token.Token.{Token}
+use Rattle.game_core.specs.declared.token.Token.TheVariants.{Left, Right, Comma, Text, Word, Number}
 use Rattle.game_text.specs.declared.reading.TextKind.{TextKind}
 use Rattle.game_text.specs.declared.reading.TextKind.TheVariants.{BadChar, OpenText, BadNumber, NumberTooLarge}
 

@@ -1,18 +1,17 @@
 // Reads the tokens of a source.
 ghost use Rattle.std.specs.Prelude.{◌≡◌, ℕ, List, ◌∷◌, IfOk, IfErr};
 ghost use Rattle.answers.specs.Answers.{Gives, IsSingle};
-ghost use Rattle.number_text.specs.Numbers.{IsNumber};
+ghost use Rattle.game_text.specs.Numbers.{IsNumber};
 ghost use Rattle.game_text.specs.Tokens.{BeginsWith, IsBlank};
 ghost use Rattle.game_text.specs.Reading.{IsNext, IsNoMark, RefusesNumber, StopsAt};
 ghost use Rattle.game_text.specs.Stops.{tokens_of};
 ghost use Rattle.game_text.specs.declared.reading.TextStop.TheVariants.{Fault, Memory};
 
+use crate::number::{NumberFault, read_number};
 use crate::spans::{bare_length, is_letter, without_blanks};
 use crate::text::{closing, text};
 use frac128::Frac;
-use game_core::Name;
-use game_tokens::{Spanned, Token, Tokens};
-use number_text::{NumberFault, read_number};
+use game_core::{Name, Spanned, Token, Tokens};
 use std::alloc::{AllocError, AllocFailed, Global};
 
 /// The kind of a fault in a text.

@@ -1,7 +1,17 @@
+pub mod Behaviour
+pub mod Children
 pub mod Equilibrium
 pub mod Examples
+pub mod FirstNodes
 pub mod Laws
 pub mod Lines
 pub mod Mixed
+pub mod OwnSets
 pub mod Profiles
 pub mod Ranks
+pub mod Recall
+pub mod TreeEntries
+pub mod TreeEquilibrium
+pub mod TreeExamples
+pub mod TreeLaws
+pub mod Trees

@@ -7,7 +7,7 @@ use Rattle.std.proofs.lemmas.List.Edits.{length-between, get_or-between}
 use Rattle.std.proofs.lemmas.List.FromFn.{length-range_with_len, sum_by-map-range_with_len_more}
 use Rattle.std.proofs.lemmas.List.Sums.{sum_by-append, sum_by-cons, sum_by-le, sum_by_push, sum_by_more, sum-map, length-filter, count_by-le-length}
 use Rattle.rayon.specs.Shown.{run-append}
-use Rattle.extreme_points.specs.Vertices.{MarkedPoint}
+use Rattle.linear_systems.specs.Vertices.{MarkedPoint}
 use Rattle.basis_enum.specs.Vertices.{mark_of, marks_of}
 use Rattle.basis_enum.specs.declared.vertex.Vertex.{Vertex}
 use Rattle.label_pairing.specs.Matches.{completes, AreMatches, AreWords, partner_count}

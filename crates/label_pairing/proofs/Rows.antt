@@ -6,7 +6,7 @@ use Rattle.std.proofs.lemmas.List.{append-nil, get_or-map, length-map}
 use Rattle.std.proofs.lemmas.Grind.{flat_map-append}
 use Rattle.std.proofs.lemmas.List.Elements.{filter-append}
 use Rattle.std.proofs.lemmas.List.FromFn.{filter_of_map_range_with_len_more}
-use Rattle.extreme_points.specs.Vertices.{MarkedPoint}
+use Rattle.linear_systems.specs.Vertices.{MarkedPoint}
 use Rattle.basis_enum.specs.Vertices.{mark_of, marks_of}
 use Rattle.basis_enum.specs.declared.vertex.Vertex.{Vertex}
 use Rattle.label_pairing.specs.Matches.{completes, AreMatches, AreWords, flagged_pairs}

@@ -2,7 +2,7 @@
 use Rattle.std.specs.Prelude.{ℕ, ◌<◌, ◌≡◌, ◌≢◌, ◌↔◌, List, Contains, length, true}
 use Rattle.std.specs.List.{AllPairs}
 use Rattle.answers.specs.Answers.{IsSingle}
-use Rattle.extreme_points.specs.Vertices.{MarkedPoint}
+use Rattle.linear_systems.specs.Vertices.{MarkedPoint}
 use Rattle.label_pairing.specs.Pairs.{mark_at, are_together, all_pairs}
 use Rattle.label_pairing.specs.Stops.{pairs_in}
 

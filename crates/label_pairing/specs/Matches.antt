@@ -2,7 +2,7 @@
 -- masks.
 use Rattle.std.specs.Prelude.{ℕ, ◌<◌, ◌≡◌, ◌&&◌, Bool, false, List, length, map, get_or, count_by, nat_eq, bit_or}
 use Rattle.std.specs.List.{filter, range_with_len}
-use Rattle.extreme_points.specs.Vertices.{MarkedPoint}
+use Rattle.linear_systems.specs.Vertices.{MarkedPoint}
 
 -- a mask's two words together with two further words have exactly the bits of all
 abbrev pub completes : List ℕ → List ℕ → ℕ → ℕ → Bool

@@ -2,7 +2,7 @@
 -- (von Stengel 2002)
 use Rattle.std.specs.Prelude.{ℕ, ◌&&◌, Bool, List, [], length, map, get_or, nat_eq, bit_or}
 use Rattle.std.specs.List.{filter, flat_map, range_with_len}
-use Rattle.extreme_points.specs.Vertices.{MarkedPoint}
+use Rattle.linear_systems.specs.Vertices.{MarkedPoint}
 
 -- the masks of two marks together have exactly the bits of all
 abbrev pub are_together : List ℕ → MarkedPoint → MarkedPoint → Bool

@@ -2,7 +2,7 @@
 use Rattle.std.specs.Prelude.{ℕ, ◌<◌, ◌≤◌, ◌≡◌, List, All, length, Ok, Err}
 use Rattle.answers.specs.Answers.{Answer}
 use Rattle.rational.specs.Rational.{ℚ}
-use Rattle.extreme_points.specs.Vertices.{MarkedPoint}
+use Rattle.linear_systems.specs.Vertices.{MarkedPoint}
 use Rattle.extreme_equilibria.specs.PairLines.{scaled_point}
 use Rattle.game_core.specs.declared.too_large.TooLarge.{TooLarge}
 use Rattle.game_core.specs.declared.too_large.What.TheVariants as what

@@ -1,7 +1,7 @@
 // How many pairs there are.
 ghost use Rattle.std.specs.Prelude.{◌≡◌, ◌<◌, ◌≤◌, ◌^◌, List, length, count_by};
 ghost use Rattle.basis_enum.specs.Vertices.{marks_of};
-ghost use Rattle.extreme_points.specs.Vertices.{MarkedPoint};
+ghost use Rattle.linear_systems.specs.Vertices.{MarkedPoint};
 ghost use Rattle.label_pairing.specs.Matches.{AreWords, partner_count};
 ghost use Rattle.label_pairing.specs.Pairs.{all_pairs};
 

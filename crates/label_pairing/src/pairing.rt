@@ -2,7 +2,7 @@
 ghost use Rattle.std.specs.Prelude.{◌≡◌, ◌<◌, ◌≤◌, ◌++◌, ◌^◌, List, length, map, get_or, IfOk, OnOk};
 ghost use Rattle.answers.specs.Answers.{Gives, map_ok};
 ghost use Rattle.basis_enum.specs.Vertices.{marks_of};
-ghost use Rattle.extreme_points.specs.Vertices.{MarkedPoint};
+ghost use Rattle.linear_systems.specs.Vertices.{MarkedPoint};
 ghost use Rattle.label_pairing.specs.Matches.{AreWords, flagged_pairs};
 ghost use Rattle.label_pairing.specs.Pairs.{all_pairs};
 ghost use Rattle.label_pairing.specs.Stops.{pairs_in};

@@ -1,10 +1,10 @@
 -- The rows of a problem's matrix that stand against their sign.
 use Rattle.std.proofs.Common.{ℕ, ◌<◌, ◌≤◌, ◌≡◌, ◌-◌, ltb, cond, false, sym, ap, ◌∙◌, arith, tests}
 use Rattle.rational.specs.Rational.{ℚ, neg_ℚ}
-use Rattle.complementarity.specs.Problems.{Costs, matrix, rows_p, rows_p', rows_q, rows_q', rows_x, rows_y}
-use Rattle.complementarity.specs.Vectors.{joined}
-use Rattle.complementarity.proofs.Blocks.{neg-rows_p, neg-rows_q}
-use Rattle.complementarity.proofs.Vectors.{joined_low}
+use Rattle.lemke_pivot.specs.Problems.{Costs, matrix, rows_p, rows_p', rows_q, rows_q', rows_x, rows_y}
+use Rattle.lemke_pivot.specs.Vectors.{joined}
+use Rattle.lemke_pivot.proofs.ProblemBlocks.{neg-rows_p, neg-rows_q}
+use Rattle.lemke_pivot.proofs.Vectors.{joined_low}
 
 not_below : (i a : ℕ) → (i < a → ⊥) → ltb i a ≡ false
 not_below i a h = grind (arith, tests)

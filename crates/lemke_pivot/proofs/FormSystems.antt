@@ -7,13 +7,13 @@ use Rattle.lists.proofs.Options.{if_ok-then}
 use Rattle.rational.specs.Rational.{ℚ, ◌+ℚ◌, ◌-ℚ◌, ◌*ℚ◌, neg_ℚ, one_ℚ, zero_ℚ}
 use Rattle.rational.proofs.Field.{nonneg-add}
 use Rattle.rational.proofs.RationalRing.{rational_ring}
-use Rattle.rings.proofs.Ring.{ring, num, ◌:+◌, ◌:-◌, ◌:*◌, A, B, C, D, E}
+use Rattle.rational.proofs.Ring.{ring, num, ◌:+◌, ◌:-◌, ◌:*◌, A, B, C, D, E}
 use Rattle.linear_systems.specs.Rows.{Alike}
 use Rattle.linear_systems.proofs.Agreement.{alike_trans}
 use Rattle.sequence_forms.specs.Lists.{listed_at}
 use Rattle.sequence_forms.specs.Prices.{costs}
 use Rattle.sequence_forms.specs.Sides.{Side, sequences}
-use Rattle.complementarity.specs.Problems.{Costs, costs_of, matrix, right_sides, rows_x, rows_y, size}
+use Rattle.lemke_pivot.specs.Problems.{Costs, costs_of, matrix, right_sides, rows_x, rows_y, size}
 use Rattle.lex_tableau.specs.Starts.{Parts, system_of}
 use Rattle.sequence_data.specs.declared.types.Cell.{Cell}
 use Rattle.sequence_data.specs.Data.{FormData, IsFormData, LeafFits, SideData, form, side_of}

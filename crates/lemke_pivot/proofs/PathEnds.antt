@@ -13,8 +13,8 @@ use Rattle.whole_rows.proofs.FirstUnfits.{no_unfit, one_unfit}
 use Rattle.lex_tableau.specs.Pivots.{steps_of_pivot}
 use Rattle.lex_tableau.specs.Rows.{Numbers, tableau, IsPivotOf, IsTableau}
 use Rattle.lex_tableau.proofs.Tableaux.{determined}
-use Rattle.complementarity.specs.Paths.{complement, w_of, z0_of}
-use Rattle.complementarity.specs.Values.{value}
+use Rattle.lemke_pivot.specs.ProblemPaths.{complement, w_of, z0_of}
+use Rattle.lemke_pivot.specs.Values.{value}
 use Rattle.lemke_pivot.specs.declared.lcp.LemkeEnd.TheVariants.{Solved, Range}
 use Rattle.lemke_pivot.specs.Ends.{EndsAreSingle}
 use Rattle.lemke_pivot.specs.Parts.{Problem, IsLeastRow, size_of}

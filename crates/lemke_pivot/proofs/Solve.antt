@@ -11,12 +11,12 @@ use Rattle.sequence_forms.specs.Prices.{costs}
 use Rattle.sequence_forms.specs.Sides.{sequences}
 use Rattle.sequence_forms.proofs.Ends.{solutions_on_trees, solutions_on_tables}
 use Rattle.sequence_forms.proofs.Flow.{ordered_flow}
-use Rattle.complementarity.specs.Values.{value}
-use Rattle.complementarity.specs.Problems.{Costs, costs_of, matrix, right_sides}
-use Rattle.complementarity.specs.Paths.{IsFirstRow}
-use Rattle.complementarity.proofs.Copositive.{sides_copositive}
-use Rattle.complementarity.proofs.Solutions.{solutions_have_plans}
-use Rattle.complementarity.proofs.Paths.{least_is_negative, solved}
+use Rattle.lemke_pivot.specs.Values.{value}
+use Rattle.lemke_pivot.specs.Problems.{Costs, costs_of, matrix, right_sides}
+use Rattle.lemke_pivot.specs.ProblemPaths.{IsFirstRow}
+use Rattle.lemke_pivot.proofs.Copositive.{sides_copositive}
+use Rattle.lemke_pivot.proofs.Solutions.{solutions_have_plans}
+use Rattle.lemke_pivot.proofs.ProblemPaths.{least_is_negative, solved}
 use Rattle.lex_tableau.specs.Rows.{Numbers, tableau, IsTableau, IsValueOf}
 use Rattle.lex_tableau.specs.Starts.{Parts, system_of, IsStartOf}
 use Rattle.sequence_data.specs.declared.types.SetRow.{SetRow}

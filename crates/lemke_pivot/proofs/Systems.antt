@@ -6,8 +6,8 @@ use Rattle.rational.specs.Rational.{ℚ, zero_ℚ}
 use Rattle.linear_systems.specs.Rows.{Alike}
 use Rattle.linear_systems.specs.Tableau.{Tableau}
 use Rattle.linear_systems.proofs.Agreement.{alike_distinct}
-use Rattle.complementarity.specs.Problems.{costs_of, matrix, right_sides}
-use Rattle.complementarity.proofs.Keys.{is_start}
+use Rattle.lemke_pivot.specs.Problems.{costs_of, matrix, right_sides}
+use Rattle.lemke_pivot.proofs.Keys.{is_start}
 use Rattle.lex_tableau.specs.Entries.{AreEntries, AreNumbered}
 use Rattle.lex_tableau.specs.Starts.{parts_of, system_of, IsSystem}
 use Rattle.lex_tableau.proofs.Entries.{cell_at, right_at}

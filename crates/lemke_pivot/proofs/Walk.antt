@@ -11,13 +11,13 @@ use Rattle.lex_tableau.specs.Rows.{Numbers, tableau, IsTableau, IsValueOf, IsPiv
 use Rattle.lex_tableau.specs.Ratio.{listed, IsBest}
 use Rattle.whole_rows.specs.Steps.{AllFit, IsFirstUnfit}
 use Rattle.lex_tableau.specs.Pivots.{steps_of_pivot}
-use Rattle.complementarity.specs.Values.{value, is_basic}
-use Rattle.complementarity.specs.Paths.{w_of, z_of, z0_of, complement, start, HasPositiveKeys, PathTo}
+use Rattle.lemke_pivot.specs.Values.{value, is_basic}
+use Rattle.lemke_pivot.specs.ProblemPaths.{w_of, z_of, z0_of, complement, start, HasPositiveKeys, PathTo}
 use Rattle.linear_systems.proofs.Agreement.{alike_trans, alike_pivot}
-use Rattle.complementarity.proofs.Values.{row_of, basic_yes, basic_which, value_basic, value_out}
-use Rattle.complementarity.proofs.Keys.{nonbasic_which}
-use Rattle.complementarity.proofs.FirstBasis.{entry_not}
-use Rattle.complementarity.proofs.Paths.{keys, short, leaving_row, next_is_out, basic_is_variable}
+use Rattle.lemke_pivot.proofs.Values.{row_of, basic_yes, basic_which, value_basic, value_out}
+use Rattle.lemke_pivot.proofs.Keys.{nonbasic_which}
+use Rattle.lemke_pivot.proofs.FirstBasis.{entry_not}
+use Rattle.lemke_pivot.proofs.ProblemPaths.{keys, short, leaving_row, next_is_out, basic_is_variable}
 use Rattle.lemke_pivot.specs.Paths.{ExactPathTo, EndsSolved, EndsUnfit, IsPathStart, IsNonbasic, saturated}
 
 -- the value that a tableau reads off is the sum's

@@ -1,6 +1,13 @@
+pub mod Bases
 pub mod Ends
 pub mod FormProblems
 pub mod Parts
 pub mod Paths
+pub mod ProblemLaws
+pub mod ProblemPaths
+pub mod Problems
 pub mod SolutionLaws
 pub mod Systems
+pub mod Values
+pub mod Vectors
+pub mod Walks

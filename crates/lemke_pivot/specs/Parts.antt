@@ -6,10 +6,10 @@ use Rattle.linear_systems.specs.Rows.{Alike}
 use Rattle.sequence_forms.specs.Forms.{SequenceForm}
 use Rattle.sequence_forms.specs.Prices.{costs}
 use Rattle.sequence_forms.specs.Sides.{Side, sequences}
-use Rattle.complementarity.specs.Laws.{CostsAreNotNegative}
-use Rattle.complementarity.specs.Paths.{start, w_of, z_of}
-use Rattle.complementarity.specs.Problems.{costs_of, matrix, right_sides, size}
-use Rattle.complementarity.specs.Values.{value}
+use Rattle.lemke_pivot.specs.ProblemLaws.{CostsAreNotNegative}
+use Rattle.lemke_pivot.specs.ProblemPaths.{start, w_of, z_of}
+use Rattle.lemke_pivot.specs.Problems.{costs_of, matrix, right_sides, size}
+use Rattle.lemke_pivot.specs.Values.{value}
 use Rattle.lex_tableau.specs.Rows.{Numbers, IsTableau, tableau}
 use Rattle.lex_tableau.specs.Starts.{Parts, system_of}
 use Rattle.sequence_data.specs.Data.{SideData, IsSideData, side_of}

@@ -7,9 +7,9 @@ use Rattle.frac128.specs.declared.steps.Unfit.{Unfit}
 use Rattle.lex_tableau.specs.Rows.{Numbers, tableau, IsTableau, IsPivotOf}
 use Rattle.whole_rows.specs.Steps.{AllFit, IsFirstUnfit}
 use Rattle.lex_tableau.specs.Pivots.{steps_of_pivot}
-use Rattle.complementarity.specs.Values.{value}
-use Rattle.complementarity.specs.Problems.{IsCopositive}
-use Rattle.complementarity.specs.Paths.{w_of, z_of, z0_of, complement, start, IsFirstRow, Replaces}
+use Rattle.lemke_pivot.specs.Values.{value}
+use Rattle.lemke_pivot.specs.Problems.{IsCopositive}
+use Rattle.lemke_pivot.specs.ProblemPaths.{w_of, z_of, z0_of, complement, start, IsFirstRow, Replaces}
 
 -- a tableau and its pivot, whose steps all fit
 pub record IsExactPivot (s : Numbers) (row col : ℕ) (t : Numbers) : Type 0 where

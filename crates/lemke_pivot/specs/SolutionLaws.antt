@@ -3,14 +3,14 @@ use Rattle.std.specs.Prelude.{ℕ, ◌≡◌, [], ◌∷◌}
 use Rattle.rational.specs.Rational.{ℚ}
 use Rattle.game_theory.specs.Equilibrium.{IsEquilibrium as is_table_equilibrium}
 use Rattle.game_theory.specs.Profiles.{Game}
-use Rattle.game_trees.specs.Equilibrium.{IsEquilibrium}
-use Rattle.game_trees.specs.Trees.{Tree}
+use Rattle.game_theory.specs.TreeEquilibrium.{IsEquilibrium}
+use Rattle.game_theory.specs.Trees.{Tree}
 use Rattle.sequence_forms.specs.Alike.{FormsAlike}
 use Rattle.sequence_forms.specs.Forms.{SequenceForm, HasTwoWhoRecall, form_of, form_of_table, mixed_of}
 use Rattle.sequence_forms.specs.Matrices.{SolvesProblem}
 use Rattle.sequence_forms.specs.PlanBehaviour.{behaviour_of, of_two}
 use Rattle.sequence_forms.specs.Prices.{costs}
-use Rattle.complementarity.specs.Problems.{costs_of, at_p, at_p', at_q, at_q'}
+use Rattle.lemke_pivot.specs.Problems.{costs_of, at_p, at_p', at_q, at_q'}
 use Rattle.lemke_pivot.specs.Ends.{IsSolutionOf}
 use Rattle.lemke_pivot.specs.Parts.{Problem, IsProblem, IsProblemOfForm, plan_one, plan_two, z_values}
 

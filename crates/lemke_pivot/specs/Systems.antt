@@ -4,7 +4,7 @@ use Rattle.rational.specs.Rational.{ℚ, zero_ℚ}
 use Rattle.linear_systems.specs.Rows.{Alike}
 use Rattle.linear_systems.specs.Tableau.{Tableau}
 use Rattle.sequence_forms.specs.Sides.{sequences}
-use Rattle.complementarity.specs.Problems.{Costs, costs_of}
+use Rattle.lemke_pivot.specs.Problems.{Costs, costs_of}
 use Rattle.lex_tableau.specs.Starts.{Parts, IsSystem, system_of}
 use Rattle.sequence_data.specs.Data.{SideData, side_of}
 use Rattle.lemke_pivot.specs.Parts.{problem_size, start_of}

@@ -4,7 +4,13 @@
 //! and von Stengel 1996). `Lcp::solve` follows the path of complementary pivots (Lemke 1965) to its
 //! end, a [`Solution`], or to the first step that does not fit. There is no ray. The solution has
 //! both plans; `laws` says that these are an equilibrium of the game.
+//!
+//! `specs::Problems` has linear complementarity problems w = b + M z, their rays, and the problem of
+//! two players' sides and costs; `specs::ProblemPaths` the path of complementary pivots. The
+//! functions without a body have no other meaning than the laws that they promise.
 #![tactic(auto)]
+
+ghost use Rattle.lemke_pivot.specs.ProblemLaws.{NoBasisOccursTwice, PathsAreShort, PathsAreUnique, PathsEndSolved, PathsEndInRays, FirstRowsExist, NoRay, AlwaysALeavingRow, LeastIsNegative, SolutionsHavePlans};
 
 mod costs;
 mod form_problem;
@@ -22,3 +28,53 @@ pub use laws::{
 };
 pub use lcp::{Lcp, LemkeEnd, Solution};
 pub use stop::LcpStop;
+
+/// No basis of the path occurs twice.
+pub fn no_basis_occurs_twice()
+    ensures { NoBasisOccursTwice }
+{}
+
+/// A path has no more tableaux than its variables have sets.
+pub fn paths_are_short()
+    ensures { PathsAreShort }
+{}
+
+/// The path has one course.
+pub fn paths_are_unique()
+    ensures { PathsAreUnique }
+{}
+
+/// Where z0 is 0 or leaves, the problem is solved.
+pub fn paths_end_solved()
+    ensures { PathsEndSolved }
+{}
+
+/// Where no row leaves, there is a ray.
+pub fn paths_end_in_rays()
+    ensures { PathsEndInRays }
+{}
+
+/// z0 has a row to enter at, where a right side is negative.
+pub fn first_rows_exist()
+    ensures { FirstRowsExist }
+{}
+
+/// The problem of two sides with plans, whose costs are not negative, has no ray.
+pub fn there_is_no_ray()
+    ensures { NoRay }
+{}
+
+/// On the path of such a problem each variable that enters has a leaving row.
+pub fn always_a_leaving_row()
+    ensures { AlwaysALeavingRow }
+{}
+
+/// The least right side of two sides is negative.
+pub fn least_is_negative()
+    ensures { LeastIsNegative }
+{}
+
+/// A solution of two sides has plans and prices.
+pub fn solutions_have_plans()
+    ensures { SolutionsHavePlans }
+{}

@@ -1,7 +1,7 @@
 // The entries of the problem's matrix, block by block: the rows and columns of both plans, x and y,
 // and of the prices of both players, which stand twice: once with their sign, and once against it.
 ghost use Rattle.std.specs.Prelude.{◌≡◌, ◌<◌, ◌≤◌, length};
-ghost use Rattle.complementarity.specs.Problems.{matrix, right_sides, rows_p, rows_q, rows_x, rows_y};
+ghost use Rattle.lemke_pivot.specs.Problems.{matrix, right_sides, rows_p, rows_q, rows_x, rows_y};
 ghost use Rattle.sequence_data.specs.Data.{IsSideData, side_of};
 ghost use Rattle.sequence_forms.specs.Matrices.{right_side};
 ghost use Rattle.sequence_forms.specs.Sides.{sequences};
@@ -97,7 +97,7 @@ fn entry_q(first: &Side, second: &Side, one: &[Frac], two: &[Frac], row: usize, 
 }
 
 /// The entry of the matrix at a row and a column.
-#[tactic(auto, unfolding(complementarity::specs::Problems::matrix))]
+#[tactic(auto, unfolding(crate::specs::Problems::matrix))]
 pub(crate) fn matrix_entry(
     first: &Side,
     second: &Side,
@@ -148,7 +148,7 @@ fn plan_right(row: usize) -> Frac
 }
 
 /// The right side of a row.
-#[tactic(auto, unfolding(complementarity::specs::Problems::right_sides))]
+#[tactic(auto, unfolding(crate::specs::Problems::right_sides))]
 pub(crate) fn right_entry(
     first: &Side,
     second: &Side,

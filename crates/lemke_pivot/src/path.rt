@@ -1,7 +1,7 @@
 // The path over a tableau that is pivoted in place.
 ghost use Rattle.std.specs.Prelude.{◌≡◌, ◌≢◌, ◌+◌, ◌<◌, ◌≤◌, ℕ, suc, length, IfErr, OnOk};
 ghost use Rattle.lex_tableau.specs.Rows.{tableau};
-ghost use Rattle.complementarity.specs.Paths.{complement};
+ghost use Rattle.lemke_pivot.specs.ProblemPaths.{complement};
 ghost use Rattle.lemke_pivot.specs.Paths.{EndsSolved, EndsUnfit, IsPathStart, IsNonbasic, saturated};
 
 use frac128::Unfit;

@@ -11,8 +11,8 @@ use Rattle.rational.proofs.RationalRing.{rational_ring}
 use Rattle.rational.proofs.Field.{not_lt_of_le, *ℚ-inv}
 use Rattle.rational.proofs.Linear.{linear, at, lit, ◌⟨-⟩◌, ◌⟨<⟩◌}
 use Rattle.rational.proofs.Parts.{frac-lt, frac-eq, frac-le, pos_abs}
-use Rattle.rings.proofs.IntegerRing.{integer_ring}
-use Rattle.rings.proofs.Ring.{ring, combine, ◌times◌is◌, num, var, ◌:-◌, ◌:*◌, A}
+use Rattle.rational.proofs.IntegerRing.{integer_ring}
+use Rattle.rational.proofs.Ring.{ring, combine, ◌times◌is◌, num, var, ◌:-◌, ◌:*◌, A}
 use Rattle.linear_systems.specs.Tableau.{Tableau}
 use Rattle.linear_systems.specs.Lex.{IsLexLess}
 use Rattle.linear_systems.specs.Rows.{coefficient, key, HasDistinctVariables}

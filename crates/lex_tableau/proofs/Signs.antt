@@ -6,8 +6,8 @@ use Rattle.std.proofs.Math.IntN.{zero-*ℤ}
 use Rattle.rational.specs.Tests.{sign_of}
 use Rattle.rational.specs.Rational.{frac}
 use Rattle.rational.proofs.Parts.{frac-eq, frac-lt}
-use Rattle.rings.proofs.IntegerRing.{integer_ring}
-use Rattle.rings.proofs.Ring.{ring, num, ◌:*◌, A}
+use Rattle.rational.proofs.IntegerRing.{integer_ring}
+use Rattle.rational.proofs.Ring.{ring, num, ◌:*◌, A}
 use Rattle.frac128.proofs.Signs.{sign_of-positive, sign_of-zero, sign_of-negative}
 
 by_one : (n : ℤ) → n *ℤ pos 1 ≡ n

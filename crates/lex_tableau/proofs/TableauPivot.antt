@@ -6,8 +6,8 @@ use Rattle.std.specs.declared.result.Result.{Result}
 use Rattle.std.proofs.lemmas.List.{get_or_default, get_or-set_same, get_or-set_other, length-set}
 use Rattle.rational.specs.Rational.{whole, zero_ℚ, ◌*ℚ◌, ◌-ℚ◌, neg_ℚ, inv_ℚ}
 use Rattle.rational.proofs.RationalRing.{rational_ring}
-use Rattle.rings.proofs.Ring.{ring, num, ◌:*◌}
-use Rattle.rings.proofs.Ring as R
+use Rattle.rational.proofs.Ring.{ring, num, ◌:*◌}
+use Rattle.rational.proofs.Ring as R
 use Rattle.frac128.specs.Fraction.{PartFits}
 use Rattle.linear_systems.specs.Tableau.{Tableau, pivot}
 use Rattle.linear_systems.specs.Rows.{Alike}

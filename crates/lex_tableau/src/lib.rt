@@ -3,12 +3,13 @@
 //!
 //! `specs::Rows` has what contracts see of a tableau and the tableau of fractions that it stands
 //! for, `specs::Starts` systems and their starts, and `specs::Pivots` the steps of a pivot in their
-//! order.
+//! order. `Steps` counts pivots for contracts alone: it takes no bytes.
 #![tactic(auto)]
 
 ghost use Rattle.lex_tableau.specs.Laws.{TableauxAreDetermined};
 
 mod ratio;
+mod steps;
 mod system;
 mod tableau;
 mod work;

@@ -13,13 +13,13 @@ ghost use Rattle.whole_rows.specs.Steps.{AllFit, IsFirstUnfit};
 ghost use Rattle.rational.specs.Tests.{sign_of};
 
 use crate::ratio::ratio_row;
+use crate::steps::Steps;
 use crate::system::System;
 use frac128::{Frac, Memory, Unfit};
 use std::alloc::Global;
 use std::marker::Model;
 use std::mem;
 use std::sync::ledger::Ledger;
-use steps::Steps;
 use whole_rows::{fraction, write_pivot, write_starts};
 
 /// A system of linear equations after pivots. Row i says that its basic variable plus the sum of

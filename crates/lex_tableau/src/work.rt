@@ -8,13 +8,13 @@ ghost use Rattle.lex_tableau.specs.StartStops.{IsStartStop};
 ghost use Rattle.lex_tableau.specs.Starts.{IsStartOf, StartFits};
 ghost use Rattle.whole_rows.specs.Steps.{AllFit, IsFirstUnfit};
 
+use crate::steps::Steps;
 use crate::system::System;
 use crate::tableau::{StartStop, Tableau};
 use frac128::Unfit;
 use std::alloc::Global;
 use std::marker::Model;
 use std::sync::ledger::Ledger;
-use steps::Steps;
 
 /// A tableau, with the room of a second one: its pivots take no memory. Contracts see the tableau.
 #[derive(Debug, Drop)]

@@ -3,7 +3,7 @@ use Rattle.std.proofs.Common.{ℕ, ◌+◌, ◌≡◌, ◌∙◌, List, [], ◌�
 use Rattle.answers.specs.Answers.{Answer, IsSingle, ◌>>=◌, only, refused_by}
 use Rattle.answers.proofs.Answers.{bind-single, only-single, refused_by-single}
 use Rattle.rational.specs.Rational.{ℚ}
-use Rattle.game_trees.specs.Trees.{IsTree as is_game_tree}
+use Rattle.game_theory.specs.Trees.{IsTree as is_game_tree}
 use Rattle.game_core.specs.Table.{GameTable, strategy_counts}
 use Rattle.game_core.specs.Tree.{GameTree, IsTree}
 use Rattle.game_core.specs.TreeGame.{game_of_tree}

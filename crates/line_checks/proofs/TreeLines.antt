@@ -2,7 +2,7 @@
 use Rattle.std.proofs.Common.{ℕ, ◌∙◌, List, inr, refl, subst, Ok, Err}
 use Rattle.rational.specs.Rational.{ℚ}
 use Rattle.frac128.specs.declared.steps.Unfit.{Unfit}
-use Rattle.game_trees.specs.Trees.{IsTree as is_game_tree}
+use Rattle.game_theory.specs.Trees.{IsTree as is_game_tree}
 use Rattle.game_core.specs.Tree.{GameTree}
 use Rattle.game_core.specs.TreeGame.{game_of_tree}
 use Rattle.behaviour_profile.specs.EntryLaws.{TestedEntriesAreBehaviours}

@@ -10,12 +10,12 @@ use crate::parts::{first_line, keep, within_limit};
 use crate::stops::{CheckStop, faulty, unread};
 use crate::texts::{better_reply, equilibrium};
 use behaviour_profile::{Behaviour, profiles_are_single, tested_entries_are_behaviours};
+use game_core::tree_parts::stands_for_game_tree;
 use game_core::{Tree, trees_are_game_trees};
 use ne_checker::{Scratch, TreeVerdict, check_tree, tree_verdicts_are_single};
 use ne_printer::read_line;
 use perfect_recall::Recall;
 use std::alloc::Global;
-use tree_parts::stands_for_game_tree;
 
 // The text of the verdict on a line.
 fn tree_line(

@@ -4,8 +4,8 @@ use Rattle.rational.specs.Rational.{ℚ, ◌+ℚ◌, ◌*ℚ◌, ◌-ℚ◌}
 use Rattle.rational.specs.Sum.{sum_to}
 use Rattle.linear_systems.specs.Tableau.{Tableau}
 use Rattle.rational.proofs.RationalRing.{rational_ring}
-use Rattle.rings.proofs.Ring.{◌times◌is◌, combine, ring, num, ◌:+◌, ◌:-◌}
-use Rattle.rings.proofs.Ring as R
+use Rattle.rational.proofs.Ring.{◌times◌is◌, combine, ring, num, ◌:+◌, ◌:-◌}
+use Rattle.rational.proofs.Ring as R
 use Rattle.rational.proofs.Sums.{sum_to-same}
 use Rattle.linear_systems.specs.Rows.{coefficient, row}
 use Rattle.linear_systems.specs.Reached.{IsReached, IsStart}

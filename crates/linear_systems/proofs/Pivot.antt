@@ -6,7 +6,7 @@ use Rattle.rational.specs.Sum.{sum_to, change}
 use Rattle.linear_systems.specs.Rows.{Alike}
 use Rattle.linear_systems.specs.Tableau.{Tableau, left, Solves, pivot}
 use Rattle.rational.proofs.RationalRing.{rational_ring}
-use Rattle.rings.proofs.Ring.{var, ◌times◌is◌, combine, ring, num, ◌:+◌, ◌:*◌, ◌:-◌, :neg, A, B, C, D, E, F, G, H}
+use Rattle.rational.proofs.Ring.{var, ◌times◌is◌, combine, ring, num, ◌:+◌, ◌:*◌, ◌:-◌, :neg, A, B, C, D, E, F, G, H}
 use Rattle.rational.proofs.Field.{*ℚ-inv}
 use Rattle.rational.proofs.Sums.{sum_to-same, sum_to-add, sum_to-scale, sum_to-change}
 

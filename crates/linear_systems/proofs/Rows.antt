@@ -8,7 +8,7 @@ use Rattle.rational.specs.Rational.{ℚ, ◌+ℚ◌, ◌*ℚ◌, ◌-ℚ◌, inv
 use Rattle.rational.specs.Sum.{sum_to}
 use Rattle.linear_systems.specs.Tableau.{Tableau, left, pivot}
 use Rattle.rational.proofs.RationalRing.{rational_ring}
-use Rattle.rings.proofs.Ring.{ring, num, ◌:+◌, ◌:*◌, ◌:-◌, A, B, C, D, E, F, G}
+use Rattle.rational.proofs.Ring.{ring, num, ◌:+◌, ◌:*◌, ◌:-◌, A, B, C, D, E, F, G}
 use Rattle.rational.proofs.Sums.{sum_to-same, sum_to-zeros}
 use Rattle.linear_systems.proofs.Pivot.{eqb_same, eqb_apart, pivot_row, other_row, right_same, right_other}
 use Rattle.linear_systems.specs.Rows.{unit_at, coefficient, key, row, HasDistinctVariables, Alike}

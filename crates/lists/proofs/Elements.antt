@@ -16,6 +16,13 @@ pub slice_get-end : {A : Type 0} (xs : List A) (x : A) → slice_get (xs ++ x �
 slice_get-end [] x = refl
 slice_get-end (z ∷ xs) x = slice_get-end xs x
 
+-- a list of two
+pub two-elements : (xs : List ℕ) → length xs ≡ 2 → xs ≡ get_or xs 0 0 ∷ get_or xs 1 0 ∷ []
+two-elements [] h = absurd (omega (arith, h))
+two-elements (a ∷ []) h = absurd (omega (arith, h))
+two-elements (a ∷ b ∷ []) h = refl
+two-elements (a ∷ b ∷ c ∷ xs) h = absurd (omega (arith, h))
+
 -- each element of copies of one value is the value, and so is what stands past the end
 pub get_or-copies : {A : Type 0} (n k : ℕ) (x : A) → get_or (replicate n x) k x ≡ x
 get_or-copies n k x = elim (cases_lt k n) [

@@ -8,12 +8,12 @@ use Rattle.rational.specs.Rational.{ℚ}
 use Rattle.rational.proofs.Sums.{sum_to-same}
 use Rattle.frac128.specs.Steps.{unfit}
 use Rattle.frac128.specs.declared.steps.Op.TheVariants.{Add}
-use Rattle.game_trees.specs.Trees.{Tree, IsTree}
-use Rattle.game_trees.specs.Behaviour.{Behaviour}
-use Rattle.game_trees.specs.Children.{child}
-use Rattle.game_trees.specs.OwnSets.{own_sets}
-use Rattle.game_trees.proofs.NamedChildren.{child-later}
-use Rattle.game_trees.proofs.OwnSets.{IsAmong, is_own_of-decides}
+use Rattle.game_theory.specs.Trees.{Tree, IsTree}
+use Rattle.game_theory.specs.Behaviour.{Behaviour}
+use Rattle.game_theory.specs.Children.{child}
+use Rattle.game_theory.specs.OwnSets.{own_sets}
+use Rattle.game_theory.proofs.NamedChildren.{child-later}
+use Rattle.game_theory.proofs.OwnSets.{IsAmong, is_own_of-decides}
 use Rattle.best_replies.specs.Replies.{reply_value, is_member}
 use Rattle.best_replies.proofs.ReplyValues.{reply_value-agree}
 use Rattle.best_replies.proofs.Weights.{own_or_not, if_own, if_other}

@@ -2,10 +2,10 @@
 use Rattle.std.proofs.Common.{ℕ, ◌<◌, ◌≡◌, inl, inr, List, [], ◌∷◌, All, map, get_or, refl, ap₂, ◌∙◌, subst}
 use Rattle.rational.specs.Rational.{ℚ, ◌≤ℚ◌, ◌<ℚ◌}
 use Rattle.rational.proofs.Field.{le_or_lt}
-use Rattle.game_trees.specs.Trees.{Tree}
-use Rattle.game_trees.specs.Behaviour.{Behaviour, payoff}
-use Rattle.game_trees.specs.OwnSets.{own_sets}
-use Rattle.game_trees.proofs.OwnSets.{IsAmong, own_sets-tell}
+use Rattle.game_theory.specs.Trees.{Tree}
+use Rattle.game_theory.specs.Behaviour.{Behaviour, payoff}
+use Rattle.game_theory.specs.OwnSets.{own_sets}
+use Rattle.game_theory.proofs.OwnSets.{IsAmong, own_sets-tell}
 use Rattle.best_replies.specs.Replies.{reply_value, AreBestChoices}
 use Rattle.pure_payoffs.specs.Steps.{StepFits}
 use Rattle.ne_checker.specs.TreeSides.{AreChosen}

@@ -11,11 +11,11 @@ use Rattle.rational.specs.Sum.{sum_to}
 use Rattle.rational.proofs.RationalRing.{+ℚ-zero}
 use Rattle.rational.proofs.Sums.{sum_to-same}
 use Rattle.frac128.specs.Steps.{AddFits}
-use Rattle.game_trees.specs.Trees.{Tree, IsTree}
-use Rattle.game_trees.specs.Behaviour.{Behaviour, is_own_of}
-use Rattle.game_trees.specs.Children.{child}
-use Rattle.game_trees.proofs.Children.{where_true}
-use Rattle.game_trees.proofs.NamedChildren.{child-is, child-is_child, child-later}
+use Rattle.game_theory.specs.Trees.{Tree, IsTree}
+use Rattle.game_theory.specs.Behaviour.{Behaviour, is_own_of}
+use Rattle.game_theory.specs.Children.{child}
+use Rattle.game_theory.proofs.Children.{where_true}
+use Rattle.game_theory.proofs.NamedChildren.{child-is, child-is_child, child-later}
 use Rattle.game_core.specs.declared.tree.Node.{Node}
 use Rattle.game_core.specs.Tree.{GameTree, InformationSet, IsTree as is_valid, is_set, members_from}
 use Rattle.game_core.specs.TreeGame.{game_of_tree}

@@ -6,11 +6,11 @@ use Rattle.rational.specs.Rational.{ℚ, ◌+ℚ◌}
 use Rattle.frac128.specs.Steps.{AddFits, unfit}
 use Rattle.frac128.specs.declared.steps.Op.TheVariants.{Add}
 use Rattle.frac128.specs.declared.steps.Unfit.{Unfit}
-use Rattle.game_trees.specs.Children.{child}
-use Rattle.game_trees.specs.Trees.{Tree, IsTree}
-use Rattle.game_trees.specs.Behaviour.{Behaviour, action_probability, value}
-use Rattle.game_trees.proofs.NamedChildren.{child-is_child, child-later}
-use Rattle.game_trees.proofs.Values.{value-by_actions, value-end}
+use Rattle.game_theory.specs.Children.{child}
+use Rattle.game_theory.specs.Trees.{Tree, IsTree}
+use Rattle.game_theory.specs.Behaviour.{Behaviour, action_probability, value}
+use Rattle.game_theory.proofs.NamedChildren.{child-is_child, child-later}
+use Rattle.game_theory.proofs.Values.{value-by_actions, value-end}
 use Rattle.pure_payoffs.specs.Plays.{Give}
 use Rattle.pure_payoffs.specs.Steps.{Step, StepFits, IsFirstUnfit}
 use Rattle.pure_payoffs.proofs.NodeSteps.{chance_steps-same}

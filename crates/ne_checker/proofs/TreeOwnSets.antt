@@ -7,9 +7,9 @@ use Rattle.std.proofs.lemmas.Grind.{flat_map-append}
 use Rattle.std.proofs.lemmas.List.{append-nil, reverse-append}
 use Rattle.std.proofs.lemmas.List.Elements.{All-nil, All-append}
 use Rattle.rational.specs.Rational.{ℚ}
-use Rattle.game_trees.specs.Trees.{Tree}
-use Rattle.game_trees.specs.Behaviour.{Behaviour, is_own}
-use Rattle.game_trees.specs.OwnSets.{own_below, own_sets}
+use Rattle.game_theory.specs.Trees.{Tree}
+use Rattle.game_theory.specs.Behaviour.{Behaviour, is_own}
+use Rattle.game_theory.specs.OwnSets.{own_below, own_sets}
 use Rattle.best_replies.proofs.Weights.{if_own, if_other}
 use Rattle.pure_payoffs.specs.Steps.{Step, StepFits, IsFirstUnfit}
 use Rattle.pure_payoffs.proofs.Runs.{first_unfit-more, first_unfit-behind}

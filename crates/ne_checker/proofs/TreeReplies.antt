@@ -2,9 +2,9 @@
 use Rattle.std.proofs.Common.{ℕ, ◌+◌, ◌<◌, ◌≡◌, ◌≢◌, inl, inr, Some, List, [], ◌∷◌, ◌++◌, length, map, set, take, sym, ap, ◌∙◌, add-one, arith}
 use Rattle.std.proofs.lemmas.List.{take_more_set, map-append}
 use Rattle.rational.specs.Rational.{ℚ}
-use Rattle.game_trees.specs.Trees.{Tree, IsTree}
-use Rattle.game_trees.specs.Behaviour.{Behaviour}
-use Rattle.game_trees.specs.OwnSets.{own_below}
+use Rattle.game_theory.specs.Trees.{Tree, IsTree}
+use Rattle.game_theory.specs.Behaviour.{Behaviour}
+use Rattle.game_theory.specs.OwnSets.{own_below}
 use Rattle.best_replies.specs.Order.{AscendOnPaths}
 use Rattle.best_replies.specs.Replies.{AreBestChoices}
 use Rattle.best_replies.proofs.Weights.{step-to}

@@ -8,10 +8,10 @@ use Rattle.rational.proofs.Rules.{zero-+ℚ}
 use Rattle.frac128.specs.Steps.{AddFits, MulFits, unfit}
 use Rattle.frac128.specs.declared.steps.Op.TheVariants.{Add, Mul}
 use Rattle.frac128.specs.declared.steps.Unfit.{Unfit}
-use Rattle.game_trees.specs.Children.{child}
-use Rattle.game_trees.specs.Trees.{Tree, IsTree}
-use Rattle.game_trees.specs.Behaviour.{Behaviour, is_own}
-use Rattle.game_trees.proofs.NamedChildren.{child-is_child, child-later}
+use Rattle.game_theory.specs.Children.{child}
+use Rattle.game_theory.specs.Trees.{Tree, IsTree}
+use Rattle.game_theory.specs.Behaviour.{Behaviour, is_own}
+use Rattle.game_theory.proofs.NamedChildren.{child-is_child, child-later}
 use Rattle.best_replies.specs.Reaching.{weight}
 use Rattle.best_replies.specs.Replies.{reply_value}
 use Rattle.best_replies.proofs.ReplyValues.{reply_values-recur}

@@ -1,10 +1,10 @@
 -- Where the parts of a side stand.
 use Rattle.std.proofs.Common.{ℕ, ◌<◌, ◌≡◌, inl, Some, List, get_or, refl, sym, ap, ◌∙◌}
 use Rattle.rational.specs.Rational.{ℚ, zero_ℚ}
-use Rattle.game_trees.specs.Trees.{Tree, IsTree}
-use Rattle.game_trees.specs.Behaviour.{Behaviour}
-use Rattle.game_trees.specs.Children.{child}
-use Rattle.game_trees.proofs.NamedChildren.{child-is_child}
+use Rattle.game_theory.specs.Trees.{Tree, IsTree}
+use Rattle.game_theory.specs.Behaviour.{Behaviour}
+use Rattle.game_theory.specs.Children.{child}
+use Rattle.game_theory.proofs.NamedChildren.{child-is_child}
 use Rattle.best_replies.proofs.SetOrder.{within-trans}
 use Rattle.ne_checker.specs.TreeSides.{AreDecided, OwnSetsFrom}
 use Rattle.ne_checker.specs.TreeSteps.{child_value}

@@ -3,12 +3,12 @@ use Rattle.std.proofs.Common.{ℕ, ◌<◌, ◌≡◌, inl, inr, Some, List, All
 use Rattle.std.proofs.lemmas.Bool.{cases_lt}
 use Rattle.rational.specs.Rational.{ℚ, ◌≤ℚ◌, ◌<ℚ◌}
 use Rattle.rational.proofs.Field.{not_le_of_lt}
-use Rattle.game_trees.specs.Trees.{Tree, IsTree}
-use Rattle.game_trees.specs.Behaviour.{Behaviour, payoff}
-use Rattle.game_trees.specs.FirstNodes.{AreNumberedByFirstNodes}
-use Rattle.game_trees.specs.OwnSets.{own_sets}
-use Rattle.game_trees.specs.Recall.{HasPerfectRecall}
-use Rattle.game_trees.proofs.OwnSets.{own_sets-tell}
+use Rattle.game_theory.specs.Trees.{Tree, IsTree}
+use Rattle.game_theory.specs.Behaviour.{Behaviour, payoff}
+use Rattle.game_theory.specs.FirstNodes.{AreNumberedByFirstNodes}
+use Rattle.game_theory.specs.OwnSets.{own_sets}
+use Rattle.game_theory.specs.Recall.{HasPerfectRecall}
+use Rattle.game_theory.proofs.OwnSets.{own_sets-tell}
 use Rattle.game_core.specs.Tree.{GameTree, IsTree as is_valid_tree}
 use Rattle.game_core.specs.TreeGame.{game_of_tree}
 use Rattle.best_replies.specs.Replies.{reply_value, AreBestChoices}

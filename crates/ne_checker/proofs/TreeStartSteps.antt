@@ -8,10 +8,10 @@ use Rattle.std.proofs.lemmas.Option.{slice_get-get_or, slice_get_within, get_or_
 use Rattle.rational.specs.Rational.{ℚ, zero_ℚ}
 use Rattle.game_theory.specs.Lines.{listed}
 use Rattle.game_theory.proofs.ProfileLines.{length-listed, get_or-listed}
-use Rattle.game_trees.specs.Trees.{Tree, IsTree}
-use Rattle.game_trees.specs.Behaviour.{Behaviour}
-use Rattle.game_trees.specs.OwnSets.{own_below}
-use Rattle.game_trees.specs.TreeEntries.{entries_from, tree_entries}
+use Rattle.game_theory.specs.Trees.{Tree, IsTree}
+use Rattle.game_theory.specs.Behaviour.{Behaviour}
+use Rattle.game_theory.specs.OwnSets.{own_below}
+use Rattle.game_theory.specs.TreeEntries.{entries_from, tree_entries}
 use Rattle.behaviour_profile.proofs.BehaviourEntries.{entries_from-next}
 use Rattle.ne_checker.specs.TreeStarts.{AreStarts, AreStartsTo, ComesTo, entries_to}
 use Rattle.ne_checker.proofs.TreeOwnSets.{own_below-before, own_below-own, own_below-other}

@@ -2,10 +2,10 @@
 use Rattle.std.proofs.Common.{ℕ, ◌<◌, ◌≡◌, List, refl, sym, ◌∙◌, subst, arith}
 use Rattle.rational.specs.Rational.{ℚ, ◌≤ℚ◌, ◌<ℚ◌}
 use Rattle.rational.proofs.Field.{le_trans, not_le_of_lt}
-use Rattle.game_trees.specs.Trees.{Tree, IsTree}
-use Rattle.game_trees.specs.Behaviour.{Behaviour, IsValid, payoff, reply}
-use Rattle.game_trees.specs.Equilibrium.{IsEquilibrium}
-use Rattle.game_trees.specs.Recall.{HasPerfectRecall}
+use Rattle.game_theory.specs.Trees.{Tree, IsTree}
+use Rattle.game_theory.specs.Behaviour.{Behaviour, IsValid, payoff, reply}
+use Rattle.game_theory.specs.TreeEquilibrium.{IsEquilibrium}
+use Rattle.game_theory.specs.Recall.{HasPerfectRecall}
 use Rattle.game_core.specs.Tree.{GameTree, IsTree as is_valid_tree}
 use Rattle.game_core.specs.TreeGame.{game_of_tree}
 use Rattle.best_replies.specs.Replies.{reply_value}

@@ -9,8 +9,8 @@ use Rattle.rational.specs.Rational.{ℚ, ◌*ℚ◌, zero_ℚ}
 use Rattle.frac128.specs.Steps.{MulFits, unfit}
 use Rattle.frac128.specs.declared.steps.Op.TheVariants.{Mul}
 use Rattle.frac128.specs.declared.steps.Unfit.{Unfit}
-use Rattle.game_trees.specs.Trees.{Tree, IsTree}
-use Rattle.game_trees.specs.Behaviour.{Behaviour, action_probability, branch_probability}
+use Rattle.game_theory.specs.Trees.{Tree, IsTree}
+use Rattle.game_theory.specs.Behaviour.{Behaviour, action_probability, branch_probability}
 use Rattle.best_replies.specs.Reaching.{weight}
 use Rattle.best_replies.proofs.Weights.{branch-at, weight-own, weight-other, if_own, if_other}
 use Rattle.pure_payoffs.specs.Plays.{Give}

@@ -1,9 +1,9 @@
 -- What the check of a behaviour on a tree reads.
 use Rattle.std.specs.Prelude.{ℕ, ◌+◌, ◌<◌, ◌≤◌, ◌≡◌, List, length, map, slice_index, slice_index_or, Some}
 use Rattle.rational.specs.Rational.{ℚ, zero_ℚ}
-use Rattle.game_trees.specs.Trees.{Tree, IsTree}
-use Rattle.game_trees.specs.Behaviour.{Behaviour}
-use Rattle.game_trees.specs.Children.{AreChildren}
+use Rattle.game_theory.specs.Trees.{Tree, IsTree}
+use Rattle.game_theory.specs.Behaviour.{Behaviour}
+use Rattle.game_theory.specs.Children.{AreChildren}
 use Rattle.game_core.specs.TreeGame.{game_of_tree}
 use Rattle.ne_checker.specs.declared.trees_board.Board.{Board}
 

@@ -1,6 +1,6 @@
 -- Room for the check of a behaviour on a tree.
 use Rattle.std.specs.Prelude.{ℕ, ◌≤◌, ◌≡◌, List, length, map, take}
-use Rattle.game_trees.specs.Children.{AreChildren}
+use Rattle.game_theory.specs.Children.{AreChildren}
 use Rattle.game_core.specs.Tree.{GameTree}
 use Rattle.game_core.specs.TreeGame.{game_of_tree}
 use Rattle.ne_checker.specs.TreeStarts.{AreStarts}

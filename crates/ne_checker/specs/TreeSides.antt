@@ -1,9 +1,9 @@
 -- A player's side while its sets are decided from the last to the first.
 use Rattle.std.specs.Prelude.{ℕ, suc, ◌<◌, ◌≤◌, ◌≡◌, ◌⊎◌, List, length, map, slice_index, slice_index_or, Some}
 use Rattle.rational.specs.Rational.{ℚ, zero_ℚ}
-use Rattle.game_trees.specs.Trees.{Tree, IsTree, IsWithin}
-use Rattle.game_trees.specs.Behaviour.{Behaviour}
-use Rattle.game_trees.specs.Children.{AreChildren}
+use Rattle.game_theory.specs.Trees.{Tree, IsTree, IsWithin}
+use Rattle.game_theory.specs.Behaviour.{Behaviour}
+use Rattle.game_theory.specs.Children.{AreChildren}
 use Rattle.game_core.specs.TreeGame.{game_of_tree}
 use Rattle.best_replies.specs.Order.{AscendOnPaths}
 use Rattle.best_replies.specs.Reaching.{weight}

@@ -3,10 +3,10 @@ use Rattle.std.specs.Prelude.{ℕ, ◌+◌, ◌<◌, ◌≡◌, ◌⊎◌, List,
 use Rattle.std.specs.List.{flat_map}
 use Rattle.rational.specs.Rational.{ℚ}
 use Rattle.game_theory.specs.Lines.{listed}
-use Rattle.game_trees.specs.Trees.{Tree}
-use Rattle.game_trees.specs.Behaviour.{Behaviour}
-use Rattle.game_trees.specs.OwnSets.{own_below}
-use Rattle.game_trees.specs.TreeEntries.{entries_from, tree_entries}
+use Rattle.game_theory.specs.Trees.{Tree}
+use Rattle.game_theory.specs.Behaviour.{Behaviour}
+use Rattle.game_theory.specs.OwnSets.{own_below}
+use Rattle.game_theory.specs.TreeEntries.{entries_from, tree_entries}
 
 -- at each player's set the place of the set's first entry among those of any behaviour
 pub record AreStarts (t : Tree) (starts : List ℕ) : Type 0 where

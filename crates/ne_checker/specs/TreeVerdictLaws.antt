@@ -2,11 +2,11 @@
 -- this crate.
 use Rattle.std.specs.Prelude.{ℕ, ◌<◌, ◌≡◌, ◌↔◌, List, length, map, All}
 use Rattle.rational.specs.Rational.{ℚ, ◌≤ℚ◌}
-use Rattle.game_trees.specs.Trees.{Tree}
-use Rattle.game_trees.specs.Behaviour.{Behaviour, IsValid, IsChoice, payoff, reply}
-use Rattle.game_trees.specs.Equilibrium.{IsEquilibrium}
-use Rattle.game_trees.specs.OwnSets.{own_sets}
-use Rattle.game_trees.specs.Recall.{HasPerfectRecall}
+use Rattle.game_theory.specs.Trees.{Tree}
+use Rattle.game_theory.specs.Behaviour.{Behaviour, IsValid, IsChoice, payoff, reply}
+use Rattle.game_theory.specs.TreeEquilibrium.{IsEquilibrium}
+use Rattle.game_theory.specs.OwnSets.{own_sets}
+use Rattle.game_theory.specs.Recall.{HasPerfectRecall}
 use Rattle.game_core.specs.Tree.{GameTree, IsTree}
 use Rattle.game_core.specs.TreeGame.{game_of_tree}
 use Rattle.best_replies.specs.Replies.{AreBestChoices, HasBetterReply}

@@ -2,10 +2,10 @@
 -- Source: Nash 1951; Kuhn 1953.
 use Rattle.std.specs.Prelude.{ℕ, ◌<◌, ◌≡◌, List, [], map, All}
 use Rattle.rational.specs.Rational.{ℚ, ◌≤ℚ◌, ◌<ℚ◌}
-use Rattle.game_trees.specs.Trees.{Tree}
-use Rattle.game_trees.specs.Behaviour.{Behaviour, payoff}
-use Rattle.game_trees.specs.OwnSets.{own_sets}
-use Rattle.game_trees.specs.TreeEntries.{tree_entries}
+use Rattle.game_theory.specs.Trees.{Tree}
+use Rattle.game_theory.specs.Behaviour.{Behaviour, payoff}
+use Rattle.game_theory.specs.OwnSets.{own_sets}
+use Rattle.game_theory.specs.TreeEntries.{tree_entries}
 use Rattle.game_core.specs.Tree.{GameTree}
 use Rattle.game_core.specs.TreeGame.{game_of_tree}
 use Rattle.best_replies.specs.Replies.{reply_value, AreBestChoices}

@@ -1,8 +1,8 @@
 -- The weights of the nodes as they are computed.
 use Rattle.std.specs.Prelude.{ℕ, ◌<◌, ◌≡◌, List, slice_index_or}
 use Rattle.rational.specs.Rational.{ℚ, zero_ℚ}
-use Rattle.game_trees.specs.Trees.{Tree}
-use Rattle.game_trees.specs.Behaviour.{Behaviour}
+use Rattle.game_theory.specs.Trees.{Tree}
+use Rattle.game_theory.specs.Behaviour.{Behaviour}
 use Rattle.best_replies.specs.Reaching.{weight}
 
 -- these are the weights of the first n nodes for player i

@@ -8,9 +8,9 @@ use crate::trees_player::{check_player, write_reply};
 use crate::trees_side::is_own;
 use frac128::{Frac, Memory, Unfit};
 use game_core::Tree;
+use game_core::tree_parts::{action_count, stands_for_game_tree};
 use pure_payoffs::children_of_all;
 use std::alloc::Global;
-use tree_parts::{action_count, stands_for_game_tree};
 
 /// Room for the check of a behaviour on one tree, which takes no more memory, and the reply that
 /// the last check found. Nodes, sets and actions are numbered from 0.
@@ -80,9 +80,9 @@ impl Scratch {
       slice_get,
       slice_index,
     };
-    ghost use Rattle.game_trees.specs.Behaviour.{Behaviour, payoff};
-    ghost use Rattle.game_trees.specs.OwnSets.{own_sets};
-    ghost use Rattle.game_trees.specs.TreeEntries.{tree_entries};
+    ghost use Rattle.game_theory.specs.Behaviour.{Behaviour, payoff};
+    ghost use Rattle.game_theory.specs.OwnSets.{own_sets};
+    ghost use Rattle.game_theory.specs.TreeEntries.{tree_entries};
     ghost use Rattle.game_core.specs.Tree.{GameTree};
     ghost use Rattle.game_core.specs.TreeGame.{game_of_tree};
     ghost use Rattle.best_replies.specs.Order.{AscendOnPaths};

@@ -12,9 +12,9 @@ use crate::scratch::Scratch;
 use crate::trees_player::is_less;
 use behaviour_profile::Behaviour;
 use frac128::{Frac, Unfit};
+use game_core::tree_parts::stands_for_game_tree;
 use game_core::{Tree, sets_are_numbered_by_first_nodes, trees_are_game_trees};
 use perfect_recall::Recall;
-use tree_parts::stands_for_game_tree;
 
 /// What a check of a behaviour on a tree finds. Players are numbered from 0.
 #[derive(Clone, Copy, Debug)]

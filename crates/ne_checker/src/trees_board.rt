@@ -1,11 +1,11 @@
 // A behaviour on a tree: what it pays, and the weights of the nodes.
 ghost use Rattle.std.specs.Prelude.{◌≡◌, ◌<◌, length};
-ghost use Rattle.game_trees.specs.Behaviour.{Behaviour};
+ghost use Rattle.game_theory.specs.Behaviour.{Behaviour};
 
 use crate::trees_side::is_own;
 use frac128::{Frac, Unfit};
 use game_core::Tree;
-use tree_parts::{action_count, branch, owner, parent, pays, probability, set};
+use game_core::tree_parts::{action_count, branch, owner, parent, pays, probability, set};
 
 /// A behaviour on a tree, as a check reads it. Players, nodes, sets and actions are numbered
 /// from 0.
@@ -24,7 +24,7 @@ pub(crate) struct Board<'a> {
 impl<'a> Board<'a> {
     ghost use Rattle.std.specs.Prelude.{◌≡◌, ◌<◌, length, All, MatchResult, Some};
     ghost use Rattle.rational.specs.Rational.{◌+ℚ◌, ◌*ℚ◌};
-    ghost use Rattle.game_trees.specs.Behaviour.{Behaviour, action_probability, value};
+    ghost use Rattle.game_theory.specs.Behaviour.{Behaviour, action_probability, value};
     ghost use Rattle.pure_payoffs.specs.Plays.{Give, branch_steps};
     ghost use Rattle.pure_payoffs.specs.Steps.{StepFits, IsFirstUnfit};
     ghost use Rattle.best_replies.specs.Reaching.{weight};

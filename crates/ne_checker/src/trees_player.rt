@@ -14,8 +14,8 @@ ghost use Rattle.std.specs.Prelude.{
   take,
 };
 ghost use Rattle.rational.specs.Rational.{◌<ℚ◌};
-ghost use Rattle.game_trees.specs.Behaviour.{Behaviour, payoff};
-ghost use Rattle.game_trees.specs.OwnSets.{own_sets};
+ghost use Rattle.game_theory.specs.Behaviour.{Behaviour, payoff};
+ghost use Rattle.game_theory.specs.OwnSets.{own_sets};
 ghost use Rattle.game_core.specs.TreeGame.{game_of_tree};
 ghost use Rattle.best_replies.specs.Order.{AscendOnPaths};
 ghost use Rattle.best_replies.specs.Replies.{reply_value, AreBestChoices};

@@ -5,7 +5,7 @@ ghost use Rattle.game_core.specs.TreeGame.{game_of_tree};
 
 use frac128::{Frac, Unfit};
 use game_core::Tree;
-use tree_parts::{action_count, owner, pays, set, stands_for_game_tree};
+use game_core::tree_parts::{action_count, owner, pays, set, stands_for_game_tree};
 
 /// A player to whom a behaviour of the others leaves a reply. Players, nodes, sets and actions are
 /// numbered from 0.
@@ -44,7 +44,7 @@ fn is_greater(action: usize, most: Frac, value: Frac) -> bool
 
 impl<'a> Side<'a> {
     ghost use Rattle.std.specs.Prelude.{◌≡◌, ◌<◌, ℕ, suc, length, All, MatchResult, Some};
-    ghost use Rattle.game_trees.specs.Behaviour.{Behaviour};
+    ghost use Rattle.game_theory.specs.Behaviour.{Behaviour};
     ghost use Rattle.pure_payoffs.specs.Plays.{Give};
     ghost use Rattle.pure_payoffs.specs.Steps.{StepFits, IsFirstUnfit};
     ghost use Rattle.best_replies.specs.Replies.{action_value, reply_value};

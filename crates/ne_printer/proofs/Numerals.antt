@@ -4,7 +4,7 @@ use Rattle.std.specs.Char.{IsAsciiDigit, is_ascii_digit}
 use Rattle.std.specs.List.{list_all}
 use Rattle.std.specs.Str.{all_ascii_digits}
 use Rattle.std.proofs.lemmas.List.Elements.{All-from_recursion}
-use Rattle.number_text.proofs.Digits.{passes_digits}
+use Rattle.game_text.proofs.Digits.{passes_digits}
 
 -- whether all are digits, in both words
 pub all_same : (text : List ℕ) → list_all is_ascii_digit text ≡ all_ascii_digits text

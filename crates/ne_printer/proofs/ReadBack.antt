@@ -13,7 +13,7 @@ use Rattle.std.proofs.lemmas.Str.Parse.{digit_from_value}
 use Rattle.rational.specs.Rational.{ℚ, frac, whole, den_pos}
 use Rattle.rational.proofs.Fractions.{frac_self}
 use Rattle.rational.proofs.Parts.{whole-own_num}
-use Rattle.number_text.proofs.Digits.{digits_pass}
+use Rattle.game_text.proofs.Digits.{digits_pass}
 use Rattle.game_theory.specs.Lines.{number_text, line_text}
 use Rattle.ne_printer.specs.ReadLines.{IsNumber, IsFraction, IsEntry, IsLine}
 use Rattle.ne_printer.proofs.Numerals.{all_same}

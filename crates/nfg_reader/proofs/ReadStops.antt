@@ -4,8 +4,8 @@ use Rattle.std.specs.Prelude.{Result, Ok, Err}
 use Rattle.answers.specs.Answers.{Gives}
 use Rattle.rational.specs.Rational.{ℚ}
 use Rattle.game_core.specs.Table.{most_payoffs}
-use Rattle.game_tokens.specs.TokenList.{TokenList}
-use Rattle.game_tokens.specs.declared.token.Token.{Token}
+use Rattle.game_core.specs.TokenList.{TokenList}
+use Rattle.game_core.specs.declared.token.Token.{Token}
 use Rattle.file_parts.specs.declared.refusal.Refusal.{Refusal}
 use Rattle.file_parts.specs.declared.refusal.Refusal.TheVariants as refusals
 use Rattle.file_parts.specs.Reading.{kinds, place_of}

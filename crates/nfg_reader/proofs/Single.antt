@@ -1,8 +1,8 @@
 -- The tokens of a source have one answer: a table, a limit that is passed, or a fault with its kind and place.
 use Rattle.std.proofs.Common.{◌≡◌, ℕ, List, length, ◌⊎◌, inl, inr, Ok, Err, refl, sym, ap, ◌∙◌}
 use Rattle.answers.specs.Answers.{IsSingle}
-use Rattle.game_tokens.specs.TokenList.{TokenList, bare}
-use Rattle.game_tokens.specs.declared.token.Token.{Token}
+use Rattle.game_core.specs.TokenList.{TokenList, bare}
+use Rattle.game_core.specs.declared.token.Token.{Token}
 use Rattle.file_parts.specs.Reading.{place_of}
 use Rattle.nfg_reader.specs.Faults.{IsFile, IsFault}
 use Rattle.nfg_reader.specs.Stops.{table_in}

@@ -6,9 +6,9 @@ use Rattle.std.specs.List.{AllByRecursion}
 use Rattle.rational.specs.Rational.{ℚ}
 use Rattle.game_theory.specs.Profiles.{profile_count}
 use Rattle.game_core.specs.Table.{GameTable}
-use Rattle.game_tokens.specs.TokenList.{TokenList, bare}
-use Rattle.game_tokens.specs.declared.token.Token.{Token}
-use Rattle.game_tokens.specs.declared.token.Token.TheVariants.{Left, Right, Text}
+use Rattle.game_core.specs.TokenList.{TokenList, bare}
+use Rattle.game_core.specs.declared.token.Token.{Token}
+use Rattle.game_core.specs.declared.token.Token.TheVariants.{Left, Right, Text}
 use Rattle.file_parts.specs.Parts.{whole_number, IsHeader, braced_texts, IsComment, AreNumbers, IsOpen}
 use Rattle.file_parts.specs.Reading.{place_of}
 use Rattle.nfg_reader.specs.TableFile.{AreStrategies, AreOutcomes, IsFront, IsTableFile}

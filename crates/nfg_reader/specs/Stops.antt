@@ -4,7 +4,7 @@ use Rattle.answers.specs.Answers.{Answer}
 use Rattle.game_core.specs.Table.{GameTable, IsTable}
 use Rattle.game_core.specs.declared.too_large.TooLarge.{TooLarge}
 use Rattle.game_core.specs.declared.too_large.What.TheVariants.{Payoffs}
-use Rattle.game_tokens.specs.TokenList.{TokenList, bare}
+use Rattle.game_core.specs.TokenList.{TokenList, bare}
 use Rattle.file_parts.specs.Reading.{place_of}
 use Rattle.file_parts.specs.declared.refusal.Refusal.{Refusal}
 use Rattle.file_parts.specs.declared.refusal.Refusal.TheVariants as refusals

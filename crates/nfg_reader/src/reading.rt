@@ -2,8 +2,8 @@
 ghost use Rattle.std.specs.Prelude.{ℕ, ◌≡◌, ◌⊎◌, List, Ok, IfOk};
 ghost use Rattle.answers.specs.Answers.{Gives, IsSingle};
 ghost use Rattle.game_core.specs.Table.{GameTable, IsTable};
-ghost use Rattle.game_tokens.specs.TokenList.{TokenList, bare};
-ghost use Rattle.game_tokens.specs.declared.token.Token.{Token as token};
+ghost use Rattle.game_core.specs.TokenList.{TokenList, bare};
+ghost use Rattle.game_core.specs.declared.token.Token.{Token as token};
 ghost use Rattle.nfg_reader.specs.TableFile.{IsTableFile};
 ghost use Rattle.nfg_reader.specs.Faults.{IsFile, IsFault};
 ghost use Rattle.nfg_reader.specs.TableParsing.{parse_table};
@@ -16,8 +16,7 @@ use crate::outcomes::last_payoffs;
 use crate::strategies::{profile_count, strategy_names};
 use file_parts::{Refusal, place};
 use frac128::Frac;
-use game_core::{Table, TooLarge, What};
-use game_tokens::Tokens;
+use game_core::{Table, Tokens, TooLarge, What};
 use std::alloc::{AllocError, Global};
 
 /// The kind of a fault in a file of a table.

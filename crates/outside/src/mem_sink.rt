@@ -5,7 +5,7 @@ ghost use Rattle.outside.specs.MemSink.{count_taken};
 ghost use Rattle.outside.specs.Sink.{Takes};
 
 use crate::sink::{Sink, WriteFailed};
-use memory::Memory;
+use answers::Memory;
 use std::alloc::Global;
 use std::marker::Model;
 

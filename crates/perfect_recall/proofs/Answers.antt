@@ -4,8 +4,8 @@ use Rattle.std.proofs.lemmas.Bool.{cases_order}
 use Rattle.std.proofs.lemmas.List.{get_or-map}
 use Rattle.std.proofs.lemmas.Option.{same_Some, slice_get_within, get_or_from_slice_get}
 use Rattle.answers.specs.Answers.{IsSingle}
-use Rattle.game_trees.specs.Trees.{Tree, IsTree as is_game_tree}
-use Rattle.game_trees.specs.Recall.{HasPerfectRecall}
+use Rattle.game_theory.specs.Trees.{Tree, IsTree as is_game_tree}
+use Rattle.game_theory.specs.Recall.{HasPerfectRecall}
 use Rattle.game_core.specs.Tree.{GameTree, InformationSet}
 use Rattle.game_core.specs.TreeGame.{game_of_tree}
 use Rattle.perfect_recall.specs.declared.recall.Forgets.{Forgets}

@@ -3,11 +3,11 @@ use Rattle.std.proofs.Common.{◌≡◌, ◌<◌, ◌≤◌, ◌∙◌, sym, ap,
 use Rattle.std.proofs.lemmas.Bool.{cases_lt, cases_eq}
 use Rattle.std.proofs.lemmas.Bool.Decides.{not_from_Decides}
 use Rattle.std.proofs.lemmas.Option.{none-some, same_Some}
-use Rattle.game_trees.proofs.OwnSets.{is_own-decides}
-use Rattle.game_trees.specs.FirstNodes.{AreNumberedByFirstNodes}
-use Rattle.game_trees.specs.Trees.{Tree, IsTree}
-use Rattle.game_trees.specs.Behaviour.{is_own}
-use Rattle.game_trees.specs.Recall.{own_history, HasPerfectRecall}
+use Rattle.game_theory.proofs.OwnSets.{is_own-decides}
+use Rattle.game_theory.specs.FirstNodes.{AreNumberedByFirstNodes}
+use Rattle.game_theory.specs.Trees.{Tree, IsTree}
+use Rattle.game_theory.specs.Behaviour.{is_own}
+use Rattle.game_theory.specs.Recall.{own_history, HasPerfectRecall}
 use Rattle.reduced_strategies.proofs.Histories.{along_paths}
 use Rattle.sequence_forms.specs.Sequences.{last_step}
 use Rattle.sequence_forms.proofs.Sequences.{history-own, history-other, last_step-append, history_before-is}

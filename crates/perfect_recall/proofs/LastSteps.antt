@@ -4,8 +4,8 @@ use Rattle.std.proofs.lemmas.Bool.{cases_eq, cases_lt}
 use Rattle.std.proofs.lemmas.List.{get_or-set_same, get_or-set_other, get_or_append_left, get_or_push, length_push}
 use Rattle.std.proofs.Math.ListN.{length-set}
 use Rattle.std.proofs.lemmas.Option.{same_Some}
-use Rattle.game_trees.specs.Trees.{Tree, IsTree, IsAbove, IsWithin}
-use Rattle.game_trees.specs.Recall.{own_history}
+use Rattle.game_theory.specs.Trees.{Tree, IsTree, IsAbove, IsWithin}
+use Rattle.game_theory.specs.Recall.{own_history}
 use Rattle.sequence_forms.specs.Sequences.{last_step}
 use Rattle.sequence_forms.proofs.Sequences.{history-own, history-other, last_step-append}
 use Rattle.perfect_recall.specs.LastSteps.{Chooses, NobodyChooses, AreLast, AreSteps, IsStepBefore}

@@ -1,6 +1,6 @@
 -- In prefix order a node's parent is the node before it, or stands above that.
 use Rattle.std.proofs.Common.{◌≡◌, ◌<◌, ◌+◌, ◌-◌, ◌∙◌, sym, ap, subst, refl, ℕ, zero, suc, Some, None, List, [], ◌∷◌, ◌++◌, length, map, get_or, arith}
-use Rattle.game_trees.specs.Trees.{Tree, IsAbove, IsWithin}
+use Rattle.game_theory.specs.Trees.{Tree, IsAbove, IsWithin}
 use Rattle.game_core.specs.declared.tree.Node.{Node}
 use Rattle.game_core.specs.Tree.{GameTree, IsTree, InformationSet, Place, AreInPrefixOrder, action_count, places_from}
 use Rattle.game_core.specs.TreeGame.{game_of_tree, or_zero}

@@ -1,7 +1,7 @@
 -- The players' last own steps on the paths of a tree, while they are computed.
 use Rattle.std.specs.Prelude.{ℕ, ◌<◌, ◌≡◌, List, length, slice_index_or, Option, Some, None}
-use Rattle.game_trees.specs.Trees.{Tree}
-use Rattle.game_trees.specs.Recall.{own_history}
+use Rattle.game_theory.specs.Trees.{Tree}
+use Rattle.game_theory.specs.Recall.{own_history}
 use Rattle.sequence_forms.specs.Sequences.{last_step}
 
 -- player i chooses at node k, which is in set s

@@ -1,7 +1,7 @@
 // Whether the players recall.
 ghost use Rattle.std.specs.Prelude.{◌≡◌, ◌↔◌, ◌<◌, ◌+◌, ℕ, length, slice_index, IsTrue, IfOk, MatchOption, None, Some};
 ghost use Rattle.answers.specs.Answers.{Gives, IsSingle};
-ghost use Rattle.game_trees.specs.Recall.{HasPerfectRecall};
+ghost use Rattle.game_theory.specs.Recall.{HasPerfectRecall};
 ghost use Rattle.game_core.specs.Tree.{GameTree, IsTree};
 ghost use Rattle.game_core.specs.TreeGame.{game_of_tree};
 ghost use Rattle.perfect_recall.specs.declared.recall.RecallStop.TheVariants as stops;
@@ -11,10 +11,10 @@ ghost use Rattle.perfect_recall.specs.Found.{EarlierAreAlike, ForgetsAt, IsAlike
 
 use crate::paths::last_steps;
 use crate::recall::{Forgets, Recall, RecallStop};
+use answers::Memory;
+use game_core::tree_parts::{owner, stands_for_game_tree};
 use game_core::{Tree, trees_are_game_trees};
-use memory::Memory;
 use std::alloc::Global;
-use tree_parts::{owner, stands_for_game_tree};
 
 // Whether two steps are the same.
 fn are_same(step: Option<(u32, u32)>, other: Option<(u32, u32)>) -> bool

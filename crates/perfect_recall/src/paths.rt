@@ -1,13 +1,13 @@
 // The players' last own steps on the paths of a tree.
 ghost use Rattle.std.specs.Prelude.{◌≡◌, ◌<◌, ◌≤◌, ◌+◌, None, Some, length, IfOk, MatchOption};
-ghost use Rattle.game_trees.specs.Trees.{IsWithin};
+ghost use Rattle.game_theory.specs.Trees.{IsWithin};
 ghost use Rattle.game_core.specs.TreeGame.{game_of_tree};
 ghost use Rattle.perfect_recall.specs.LastSteps.{AreLast, AreSteps, Chooses, IsStepBefore, NobodyChooses};
 
+use answers::Memory;
 use game_core::Tree;
-use memory::Memory;
+use game_core::tree_parts::{branch, owner, parent, set, stands_for_game_tree};
 use std::alloc::Global;
-use tree_parts::{branch, owner, parent, set, stands_for_game_tree};
 
 // The player who chooses at a node, and the node's set; nothing where no player does.
 fn choice_at(tree: &Tree, node: usize) -> Option<(u32, u32)>

@@ -1,7 +1,7 @@
 // What is found of perfect recall.
 ghost use Rattle.std.specs.Prelude.{◌≡◌, Err};
 
-use memory::Memory;
+use answers::Memory;
 use std::marker::Model;
 
 /// A player who forgets: the first one, in the first of that player's sets in which two nodes have different own

@@ -1,7 +1,7 @@
 -- What choice lists give the sets, by their places.
 use Rattle.std.proofs.Common.{ℕ, zero, suc, ◌≤◌, ◌≡◌, Some, List, [], ◌∷◌, length, get_or, slice_get, ◌∙◌, arith}
 use Rattle.std.proofs.lemmas.Option.{same_Some}
-use Rattle.game_trees.proofs.OwnSets.{AscendFrom}
+use Rattle.game_theory.proofs.OwnSets.{AscendFrom}
 use Rattle.reduced_strategies.specs.Choices.{choice_at}
 use Rattle.reduced_strategies.proofs.Sets.{choice_at-first, choice_at-later}
 

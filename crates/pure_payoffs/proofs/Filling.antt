@@ -3,8 +3,8 @@ use Rattle.std.proofs.Common.{ℕ, ◌+◌, ◌<◌, ◌≤◌, ◌≡◌, ◌�
 use Rattle.std.proofs.lemmas.Bool.{cases_eq}
 use Rattle.std.proofs.lemmas.List.{length-set, length-map, get_or-map, get_or-set_same, get_or-set_other, map-set}
 use Rattle.std.proofs.lemmas.Option.{slice_get-get_or}
-use Rattle.game_trees.specs.Children.{AreChildren}
-use Rattle.game_trees.specs.Trees.{Tree, IsTree}
+use Rattle.game_theory.specs.Children.{AreChildren}
+use Rattle.game_theory.specs.Trees.{Tree, IsTree}
 use Rattle.pure_payoffs.specs.Filled.{HaveRoom, AreFilled}
 
 -- at first no list has a child

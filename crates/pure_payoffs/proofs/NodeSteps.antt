@@ -1,16 +1,16 @@
 -- The steps and the value of a node, by those of its children.
 use Rattle.std.proofs.Common.{ℕ, zero, suc, ◌+◌, ◌<◌, ◌≤◌, ◌≡◌, Option, Some, None, List, [], ◌∷◌, ◌++◌, refl, ap, ap₂, ◌∙◌, arith}
-use Rattle.game_trees.proofs.NamedChildren.{child-is_child, child-later}
-use Rattle.game_trees.specs.Children.{child}
+use Rattle.game_theory.proofs.NamedChildren.{child-is_child, child-later}
+use Rattle.game_theory.specs.Children.{child}
 use Rattle.rational.specs.Rational.{ℚ, ◌+ℚ◌, ◌*ℚ◌}
 use Rattle.rational.specs.Sum.{sum_to}
 use Rattle.rational.proofs.Sums.{sum_to-same, sum_to-single}
 use Rattle.frac128.specs.Steps.{unfit}
 use Rattle.frac128.specs.declared.steps.Op.TheVariants.{Add}
 use Rattle.game_theory.specs.Mixed.{sure}
-use Rattle.game_trees.specs.Trees.{Tree, IsTree}
-use Rattle.game_trees.specs.Behaviour.{of_owner, action_probability, value, pure}
-use Rattle.game_trees.proofs.Values.{value-by_actions, value-end}
+use Rattle.game_theory.specs.Trees.{Tree, IsTree}
+use Rattle.game_theory.specs.Behaviour.{of_owner, action_probability, value, pure}
+use Rattle.game_theory.proofs.Values.{value-by_actions, value-end}
 use Rattle.pure_payoffs.specs.Plays.{steps_at, branch_steps, steps_behind, value_behind}
 use Rattle.pure_payoffs.specs.Steps.{Step, chance_steps, owner_steps, node_steps, steps_to}
 

@@ -2,12 +2,12 @@
 use Rattle.std.proofs.Common.{ℕ, ◌-◌, ◌<◌, ◌≡◌, Some, List, [], length, map, get_or, slice_get, sym, ap, ◌∙◌, subst, arith}
 use Rattle.std.proofs.lemmas.List.{length-map, get_or-map, get_or_default}
 use Rattle.std.proofs.lemmas.Option.{slice_get_within, get_or_from_slice_get}
-use Rattle.game_trees.proofs.NamedChildren.{child-is, child-later}
-use Rattle.game_trees.specs.Children.{AreChildren, child}
-use Rattle.game_trees.specs.OwnSets.{own_sets}
-use Rattle.game_trees.proofs.OwnSets.{own_sets-ascend}
+use Rattle.game_theory.proofs.NamedChildren.{child-is, child-later}
+use Rattle.game_theory.specs.Children.{AreChildren, child}
+use Rattle.game_theory.specs.OwnSets.{own_sets}
+use Rattle.game_theory.proofs.OwnSets.{own_sets-ascend}
 use Rattle.game_theory.proofs.ProfileNumbers.{length-profile}
-use Rattle.game_trees.specs.Trees.{Tree, IsTree}
+use Rattle.game_theory.specs.Trees.{Tree, IsTree}
 use Rattle.reduced_strategies.specs.Choices.{IsReduced}
 use Rattle.reduced_strategies.specs.StrategicForm.{list_of, completed}
 use Rattle.reduced_strategies.proofs.StrategyProfiles.{given_at-own, list_of-reduced, place-below, first_actions-complete}

@@ -1,6 +1,6 @@
 -- Flags of nodes that are passed up to the parents.
 use Rattle.std.proofs.Common.{ℕ, zero, suc, ◌<◌, ◌≤◌, ◌≡◌, Bool, true, false, List, get_or, sym, ap, ◌∙◌, arith}
-use Rattle.game_trees.specs.Trees.{Tree, IsTree, IsAbove}
+use Rattle.game_theory.specs.Trees.{Tree, IsTree, IsAbove}
 use Rattle.pure_payoffs.specs.Settled.{ArePassedUp, AreSettledFlags}
 
 module _ (t : Tree) (n : ℕ) (flags : List Bool) (w : IsTree t) (few : n ≤ 1) (h : ArePassedUp t n flags) where

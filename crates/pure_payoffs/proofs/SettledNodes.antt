@@ -1,13 +1,13 @@
 -- Nodes in whose subtrees no player moves give the same whatever the players choose.
 use Rattle.std.proofs.Common.{ℕ, zero, suc, ◌<◌, ◌≡◌, Option, Some, None, [], ◌∷◌, ◌++◌, All, Ok, refl, ap₂, ◌∙◌, subst}
-use Rattle.game_trees.proofs.NamedChildren.{child-is_child}
-use Rattle.game_trees.specs.Children.{child}
+use Rattle.game_theory.proofs.NamedChildren.{child-is_child}
+use Rattle.game_theory.specs.Children.{child}
 use Rattle.rational.specs.Rational.{ℚ}
 use Rattle.frac128.specs.Steps.{unfit}
 use Rattle.frac128.specs.declared.steps.Op.TheVariants.{Add}
-use Rattle.game_trees.specs.Trees.{Tree, IsTree, IsChild}
-use Rattle.game_trees.specs.Behaviour.{value, pure}
-use Rattle.game_trees.proofs.Subtrees.{above_parent, value-agree}
+use Rattle.game_theory.specs.Trees.{Tree, IsTree, IsChild}
+use Rattle.game_theory.specs.Behaviour.{value, pure}
+use Rattle.game_theory.proofs.Subtrees.{above_parent, value-agree}
 use Rattle.pure_payoffs.specs.Plays.{GiveAt}
 use Rattle.pure_payoffs.specs.Settled.{IsSettled, Settles}
 use Rattle.pure_payoffs.specs.Steps.{StepFits, owner_steps, node_steps, steps_to}

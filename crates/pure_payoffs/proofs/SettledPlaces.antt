@@ -4,7 +4,7 @@ use Rattle.std.specs.Prelude.{IfSome}
 use Rattle.std.proofs.lemmas.Bool.{cases_eq}
 use Rattle.std.proofs.lemmas.List.{length-map, length-set, length_push, map-append, map-set, get_or_append_left, get_or_push, get_or-set_same, get_or-set_other}
 use Rattle.rational.specs.Rational.{ℚ}
-use Rattle.game_trees.specs.Trees.{Tree}
+use Rattle.game_theory.specs.Trees.{Tree}
 use Rattle.pure_payoffs.specs.Settled.{IsSettled, Settles, IsPlace, HavePlaces}
 use Rattle.pure_payoffs.proofs.Filling.{list-read}
 

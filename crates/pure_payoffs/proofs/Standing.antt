@@ -5,8 +5,8 @@ use Rattle.rational.specs.Rational.{ℚ, zero_ℚ}
 use Rattle.frac128.specs.Fraction.{Fits}
 use Rattle.frac128.proofs.LikeSums.{left_zero}
 use Rattle.frac128.specs.declared.steps.Unfit.{Unfit}
-use Rattle.game_trees.specs.Trees.{Tree, IsTree}
-use Rattle.game_trees.specs.Behaviour.{value, pure}
+use Rattle.game_theory.specs.Trees.{Tree, IsTree}
+use Rattle.game_theory.specs.Behaviour.{value, pure}
 use Rattle.pure_payoffs.specs.Plays.{Give, steps_at}
 use Rattle.pure_payoffs.specs.Shortcuts.{OnlyLeadsTo, StandsFor}
 use Rattle.pure_payoffs.proofs.NodeValues.{owned-gives, behind-refused, node-added}

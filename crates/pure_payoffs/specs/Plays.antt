@@ -1,6 +1,6 @@
 -- What the steps of a play are computed from.
 use Rattle.std.specs.Prelude.{ℕ, ◌≡◌, List, [], ◌∷◌, ◌++◌, if◌then◌else◌, map, length, All, Option, Some, None, Result, MatchResult}
-use Rattle.game_trees.specs.Children.{AreChildren, child}
+use Rattle.game_theory.specs.Children.{AreChildren, child}
 use Rattle.rational.specs.Tests.{eq_ℚ}
 use Rattle.rational.specs.Rational.{ℚ, ◌*ℚ◌, zero_ℚ}
 use Rattle.rational.specs.Sum.{sum_to}
@@ -8,8 +8,8 @@ use Rattle.frac128.specs.Steps.{unfit}
 use Rattle.frac128.specs.declared.steps.Op.TheVariants.{Add, Mul}
 use Rattle.frac128.specs.declared.steps.Unfit.{Unfit}
 use Rattle.game_theory.specs.Profiles.{IsProfile}
-use Rattle.game_trees.specs.Trees.{Tree, IsTree}
-use Rattle.game_trees.specs.Behaviour.{value, pure}
+use Rattle.game_theory.specs.Trees.{Tree, IsTree}
+use Rattle.game_theory.specs.Behaviour.{value, pure}
 use Rattle.game_core.specs.TreeGame.{game_of_tree}
 use Rattle.reduced_strategies.specs.Places.{ArePlaces}
 use Rattle.reduced_strategies.specs.StrategicForm.{AreStrategies, completed}

@@ -1,7 +1,7 @@
 -- Nodes in whose subtrees no player moves: what they give is the same for every profile.
 use Rattle.std.specs.Prelude.{ℕ, ◌<◌, ◌≤◌, ◌≡◌, Bool, true, false, List, [], length, map, slice_index_or, Option, Some, None, IfSome, Ok}
 use Rattle.rational.specs.Rational.{ℚ}
-use Rattle.game_trees.specs.Trees.{Tree, IsWithin}
+use Rattle.game_theory.specs.Trees.{Tree, IsWithin}
 use Rattle.pure_payoffs.specs.declared.settled.Settled.{Settled}
 use Rattle.pure_payoffs.specs.Plays.{GiveAt}
 

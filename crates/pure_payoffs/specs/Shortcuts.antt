@@ -1,11 +1,11 @@
 -- Nodes at which the profile only leads on: what the node behind gives, they give as well.
 use Rattle.std.specs.Prelude.{ℕ, ◌<◌, ◌≤◌, ◌≡◌, length, slice_index, Some, Result, IfOk}
-use Rattle.game_trees.specs.Children.{child}
+use Rattle.game_theory.specs.Children.{child}
 use Rattle.rational.specs.Rational.{ℚ, zero_ℚ}
 use Rattle.frac128.specs.Fraction.{Fits}
 use Rattle.frac128.specs.declared.steps.Unfit.{Unfit}
-use Rattle.game_trees.specs.Trees.{Tree}
-use Rattle.game_trees.specs.Behaviour.{value, pure}
+use Rattle.game_theory.specs.Trees.{Tree}
+use Rattle.game_theory.specs.Behaviour.{value, pure}
 use Rattle.pure_payoffs.specs.declared.shortcuts.Shortcuts.{Shortcuts}
 use Rattle.pure_payoffs.specs.Plays.{Give, steps_at}
 use Rattle.pure_payoffs.specs.Settled.{KeepValues}

@@ -1,6 +1,6 @@
 -- The steps in which a pure profile's payoff on a tree is computed, and whether they fit.
 use Rattle.std.specs.Prelude.{ℕ, zero, suc, ◌≡◌, if◌then◌else◌, List, [], ◌∷◌, ◌++◌, All, Option, Some, None}
-use Rattle.game_trees.specs.Children.{child}
+use Rattle.game_theory.specs.Children.{child}
 use Rattle.rational.specs.Tests.{eq_ℚ}
 use Rattle.rational.specs.Rational.{ℚ, ◌*ℚ◌, zero_ℚ}
 use Rattle.rational.specs.Sum.{sum_to}
@@ -8,8 +8,8 @@ use Rattle.frac128.specs.Steps.{AddFits, SubFits, MulFits, DivFits, unfit}
 use Rattle.frac128.specs.declared.steps.Op.{Op}
 use Rattle.frac128.specs.declared.steps.Op.TheVariants.{Add, Sub, Mul, Div}
 use Rattle.frac128.specs.declared.steps.Unfit.{Unfit}
-use Rattle.game_trees.specs.Trees.{Tree}
-use Rattle.game_trees.specs.Behaviour.{value, pure}
+use Rattle.game_theory.specs.Trees.{Tree}
+use Rattle.game_theory.specs.Behaviour.{value, pure}
 
 -- a step: an operation on two numbers
 abbrev pub Step : Type 0

@@ -1,13 +1,13 @@
 // The children of nodes.
 ghost use Rattle.std.specs.Prelude.{◌≡◌, ◌<◌, ℕ, Some, slice_get, length, map, IfOk};
-ghost use Rattle.game_trees.specs.Trees.{IsTree};
+ghost use Rattle.game_theory.specs.Trees.{IsTree};
 ghost use Rattle.game_core.specs.Tree.{GameTree, action_count, IsWithin};
 ghost use Rattle.game_core.specs.TreeGame.{game_of_tree};
 ghost use Rattle.pure_payoffs.specs.Filled.{AreFilled, HaveRoom};
-ghost use Rattle.game_trees.specs.Children.{AreChildren};
+ghost use Rattle.game_theory.specs.Children.{AreChildren};
 
+use answers::Memory;
 use game_core::{Tree, trees_are_game_trees};
-use memory::Memory;
 use std::alloc::Global;
 
 // What the tree stands for is a game tree. Does nothing.

@@ -3,7 +3,7 @@ ghost use Rattle.std.specs.Prelude.{◌≡◌, ◌<◌, length};
 ghost use Rattle.frac128.specs.Fraction.{Fits};
 ghost use Rattle.game_core.specs.Tree.{IsWithin};
 ghost use Rattle.game_core.specs.TreeGame.{outcome_pays};
-ghost use Rattle.game_trees.specs.Children.{AreChildren};
+ghost use Rattle.game_theory.specs.Children.{AreChildren};
 
 use crate::children::stands_for_game_tree;
 use crate::shortcuts::Shortcuts;
@@ -48,7 +48,7 @@ impl<'a> Play<'a> {
     ghost use Rattle.std.specs.Prelude.{◌≡◌, ◌<◌, length, map, All, MatchResult, Some, None};
     ghost use Rattle.rational.specs.Rational.{◌+ℚ◌, ◌*ℚ◌};
     ghost use Rattle.game_theory.specs.Profiles.{IsProfile};
-    ghost use Rattle.game_trees.specs.Behaviour.{payoff, pure, value};
+    ghost use Rattle.game_theory.specs.Behaviour.{payoff, pure, value};
     ghost use Rattle.game_core.specs.Tree.{kind_of_owner};
     ghost use Rattle.game_core.specs.TreeGame.{game_of_tree};
     ghost use Rattle.reduced_strategies.specs.Places.{ArePlaces};

@@ -1,14 +1,14 @@
 // Values of nodes in whose subtrees no player moves.
 ghost use Rattle.std.specs.Prelude.{◌≡◌, ◌<◌, ℕ, length, All, IfOk, IfSome, IsTrue, None, Ok, slice_index_or, false, true};
-ghost use Rattle.game_trees.specs.Trees.{Tree as game_tree, IsTree};
+ghost use Rattle.game_theory.specs.Trees.{Tree as game_tree, IsTree};
 ghost use Rattle.game_core.specs.TreeGame.{game_of_tree};
 ghost use Rattle.pure_payoffs.specs.Plays.{GiveAt};
 ghost use Rattle.pure_payoffs.specs.Settled.{TellNoPlayer, AreSettledFlags, KeepValues, Settles};
 
 use crate::children::stands_for_game_tree;
+use answers::Memory;
 use frac128::Frac;
 use game_core::{Kind, Node, Tree};
-use memory::Memory;
 use std::alloc::Global;
 
 /// The most values that are kept: as many as a table may have payoffs.

@@ -1,15 +1,15 @@
 // Shortcuts past nodes at which a profile only leads on.
 ghost use Rattle.std.specs.Prelude.{◌≡◌, ◌<◌, ℕ, length, MatchOption, ⊤, IfOk, IfSome, Ok};
-ghost use Rattle.game_trees.specs.Trees.{Tree as game_tree};
+ghost use Rattle.game_theory.specs.Trees.{Tree as game_tree};
 ghost use Rattle.game_core.specs.TreeGame.{game_of_tree};
 ghost use Rattle.pure_payoffs.specs.Plays.{IsPlayed, GiveAt, game_of, choice_of};
 ghost use Rattle.pure_payoffs.specs.Shortcuts.{HasRoom, KeepShortcuts, OnlyLeadsTo, StandsFor};
 
 use crate::payoff::Play;
 use crate::settled::Settled;
+use answers::Memory;
 use frac128::Frac;
 use game_core::{Kind, Tree};
-use memory::Memory;
 use std::alloc::Global;
 
 /// For nodes of a tree the first node from there on, along the choices of a profile, at which something is paid or

@@ -7,7 +7,7 @@ use Rattle.rational.proofs.RationalRing.{rational_ring}
 use Rattle.rational.specs.Tests.{le_test, lt_test, eq_test}
 use Rattle.rational.proofs.Decide.{lt_test-true}
 use Rattle.rational.proofs.Rules.{ring_laws, ring_cancels}
-use Rattle.rings.proofs.Ring.{ring, combine, ◌times◌is◌, num, ◌:+◌, ◌:*◌, ◌:-◌, A, B, C, D}
+use Rattle.rational.proofs.Ring.{ring, combine, ◌times◌is◌, num, ◌:+◌, ◌:*◌, ◌:-◌, A, B, C, D}
 use Rattle.rational.proofs.Linear.{linear, linear_contradiction, at, lit, ◌⟨+⟩◌, ◌⟨*⟩◌, ◌⟨≤⟩◌, ◌⟨<⟩◌, ◌⟨=⟩◌}
 use Rattle.rational.proofs.Field.{*ℚ-inv}
 

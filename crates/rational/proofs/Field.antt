@@ -4,11 +4,11 @@ use Rattle.std.proofs.lemmas.Int.{ints, by_lt_z}
 use Rattle.rational.specs.Gcd.{gcd}
 use Rattle.rational.specs.Rational.{ℚ, is_lowest, den_pos, frac, ◌+ℚ◌, ◌*ℚ◌, ◌-ℚ◌, neg_ℚ, inv_ℚ, zero_ℚ, one_ℚ, ◌≤ℚ◌, ◌<ℚ◌}
 pub use Rattle.rational.specs.Midpoint.{half}
-use Rattle.rings.proofs.IntegerRing.{integer_ring}
+use Rattle.rational.proofs.IntegerRing.{integer_ring}
 use Rattle.rational.proofs.RationalRing.{rational_ring, *ℚ_comm}
 use Rattle.rational.proofs.Fractions.{StandsFor, equal_by, StandsFor-self, StandsFor-frac, StandsFor-mul}
 use Rattle.rational.proofs.Order.{le_by, lt_by}
-use Rattle.rings.proofs.Ring.{ring, num, ◌:+◌, ◌:*◌, ◌:-◌, :neg, A, B, C}
+use Rattle.rational.proofs.Ring.{ring, num, ◌:+◌, ◌:*◌, ◌:-◌, :neg, A, B, C}
 use Rattle.rational.proofs.Parts.{nonneg-num, pos-num}
 use Rattle.rational.proofs.Linear.{linear, at, lit, minus, ◌⟨+⟩◌, ◌⟨-⟩◌, ◌⟨≤⟩◌, ◌⟨<⟩◌, ◌⟨=⟩◌, zero-over}
 

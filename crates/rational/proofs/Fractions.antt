@@ -12,8 +12,8 @@ use Rattle.rational.specs.Gcd.{gcd, div_ℤ}
 use Rattle.rational.specs.GcdLaws.{gcd-is, lowest_unique}
 use Rattle.rational.specs.LowestTerms.{div_ℤ-mul}
 use Rattle.rational.specs.Rational.{ℚ, is_lowest, lowest-in, den_pos, lowest, frac, ◌+ℚ◌, ◌*ℚ◌, neg_ℚ}
-use Rattle.rings.proofs.IntegerRing.{integer_ring, up-mul, down-mul}
-use Rattle.rings.proofs.Ring.{ring, ◌:+◌, ◌:*◌, :neg, A, B, C, D, E, F}
+use Rattle.rational.proofs.IntegerRing.{integer_ring, up-mul, down-mul}
+use Rattle.rational.proofs.Ring.{ring, ◌:+◌, ◌:*◌, :neg, A, B, C, D, E, F}
 
 ℕ_set : IsSet ℕ
 ℕ_set = hedberg ℕ_discrete

@@ -4,10 +4,10 @@ use Rattle.std.proofs.lemmas.Int.{ints}
 use Rattle.rational.specs.Gcd.{gcd}
 use Rattle.rational.specs.Rational.{ℚ, frac, is_lowest, ◌*ℚ◌, inv_ℚ, zero_ℚ, one_ℚ, ◌≤ℚ◌, ◌<ℚ◌}
 use Rattle.rational.proofs.RationalRing.{rational_ring}
-use Rattle.rings.proofs.IntegerRing.{integer_ring}
+use Rattle.rational.proofs.IntegerRing.{integer_ring}
 use Rattle.rational.proofs.Parts.{frac-eq, frac-mul}
 use Rattle.rational.proofs.Rules.{*ℚ-zero}
-use Rattle.rings.proofs.Ring.{ring, combine, ◌times◌is◌, num, ◌:*◌, ◌:-◌, :neg, A, B, C, D}
+use Rattle.rational.proofs.Ring.{ring, combine, ◌times◌is◌, num, ◌:*◌, ◌:-◌, :neg, A, B, C, D}
 use Rattle.rational.proofs.Linear.{linear, lit, ◌⟨<⟩◌}
 use Rattle.rational.proofs.Field.{*ℚ-inv, ne_of_lt, lt_of_not_le, le_of_lt, le-mul_left, not_lt_of_le}
 use Rattle.rational.proofs.Decide.{is_zero}

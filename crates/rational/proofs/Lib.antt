@@ -1,8 +1,10 @@
 pub mod Codes
+pub mod CommutativeRing
 pub mod Decide
 pub mod Examples
 pub mod Field
 pub mod Fractions
+pub mod IntegerRing
 pub mod Inverse
 pub mod Linear
 pub mod Means
@@ -10,5 +12,6 @@ pub mod Midpoints
 pub mod Order
 pub mod Parts
 pub mod RationalRing
+pub mod Ring
 pub mod Rules
 pub mod Sums

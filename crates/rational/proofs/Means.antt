@@ -4,7 +4,7 @@ use Rattle.rational.specs.Rational.{ℚ, ◌*ℚ◌, ◌-ℚ◌, zero_ℚ, one_�
 use Rattle.rational.specs.Sum.{sum_to}
 use Rattle.rational.proofs.RationalRing.{rational_ring}
 use Rattle.rational.proofs.Rules.{zero-*ℚ, one-*ℚ}
-use Rattle.rings.proofs.Ring.{ring, ◌:*◌, ◌:-◌, A, B, C}
+use Rattle.rational.proofs.Ring.{ring, ◌:*◌, ◌:-◌, A, B, C}
 use Rattle.rational.proofs.Field.{nonneg-mul, le-mul_left, le-sub, eq-sub}
 use Rattle.rational.proofs.Inverse.{no_divisors}
 use Rattle.rational.proofs.Sums.{sum_to-same, sum_to-sub, sum_to-scale_right, sum_to-le, each_zero}

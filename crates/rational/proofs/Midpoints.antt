@@ -4,7 +4,7 @@ use Rattle.std.proofs.lemmas.Int.{ints}
 use Rattle.rational.specs.Rational.{ℚ, ◌+ℚ◌, ◌*ℚ◌, zero_ℚ, ◌<ℚ◌}
 use Rattle.rational.specs.Midpoint.{half, midpoint}
 use Rattle.rational.proofs.RationalRing.{rational_ring}
-use Rattle.rings.proofs.Ring.{ring, ◌:+◌, ◌:*◌, A, B, C}
+use Rattle.rational.proofs.Ring.{ring, ◌:+◌, ◌:*◌, A, B, C}
 use Rattle.rational.proofs.Linear.{linear, at, lit, ◌⟨+⟩◌, ◌⟨<⟩◌, ◌⟨=⟩◌}
 use Rattle.rational.proofs.Field.{two_halves, half_twice, pos-mul}
 

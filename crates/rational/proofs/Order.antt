@@ -2,9 +2,9 @@
 use Rattle.std.proofs.Common.{ℕ, ◌*◌, ◌+◌, ◌<◌, ◌≡◌, ℤ, pos, ◌*ℤ◌, ◌≤ℤ◌, ◌<ℤ◌, refl, sym, ap, ◌∙◌, [], ◌∷◌, arith, mul-le-mul_right, le_of_mul-le-mul_right, lt_of_mul-lt-mul_right, mul-lt-mul_of_pos_right, subst₂, mul-pos}
 use borrow.Author.Differences.{up, down, at_most_in, below_in, le_out, lt_out}
 use Rattle.rational.specs.Rational.{ℚ, den_pos, ◌≤ℚ◌, ◌<ℚ◌}
-use Rattle.rings.proofs.IntegerRing.{integer_ring, up-mul, down-mul}
+use Rattle.rational.proofs.IntegerRing.{integer_ring, up-mul, down-mul}
 use Rattle.rational.proofs.Fractions.{cancel_pos, StandsFor, equal_by}
-use Rattle.rings.proofs.Ring.{ring, ◌:*◌, A, B, C}
+use Rattle.rational.proofs.Ring.{ring, ◌:*◌, A, B, C}
 
 -- x times k, by the parts of x
 up_times : (x : ℤ) (k : ℕ) → up (x *ℤ pos k) ≡ up x * k

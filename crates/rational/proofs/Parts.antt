@@ -5,10 +5,10 @@ use Rattle.std.proofs.Math.Nat.{not-suc-le-zero, div-le_self}
 use Rattle.rational.specs.LowestTerms.{nat_abs-div_ℤ}
 use Rattle.rational.specs.Gcd.{gcd}
 use Rattle.rational.specs.Rational.{ℚ, frac, den_pos, lowest, whole, ◌+ℚ◌, ◌*ℚ◌, neg_ℚ, zero_ℚ, ◌≤ℚ◌, ◌<ℚ◌}
-use Rattle.rings.proofs.IntegerRing.{integer_ring}
+use Rattle.rational.proofs.IntegerRing.{integer_ring}
 use Rattle.rational.proofs.Fractions.{equal_by_parts, StandsFor, StandsFor-self, StandsFor-also, StandsFor-frac, StandsFor-add, StandsFor-mul, StandsFor-neg, equal_by, equal_by_cross, frac-lowest}
 use Rattle.rational.proofs.Order.{le_by, by_le, lt_by, by_lt, eq_by, by_eq}
-use Rattle.rings.proofs.Ring.{ring, num, ◌:+◌, ◌:*◌, A, B, C}
+use Rattle.rational.proofs.Ring.{ring, num, ◌:+◌, ◌:*◌, A, B, C}
 use Rattle.rational.proofs.Linear.{zero-over, StandsFor-whole}
 use Rattle.std.specs.Int.{int_signum}
 

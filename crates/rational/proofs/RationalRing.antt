@@ -1,10 +1,10 @@
 -- The rationals are a commutative ring.
 use Rattle.std.proofs.Common.{ℕ, ◌*◌, ◌≡◌, ℤ, pos, neg_ℤ, ◌*ℤ◌, ◌+ℤ◌, refl, List, [], ◌∷◌, lit<}
 use Rattle.rational.specs.Rational.{ℚ, ◌+ℚ◌, ◌*ℚ◌, neg_ℚ, zero_ℚ, one_ℚ}
-use Rattle.rings.proofs.CommutativeRing.{CommutativeRing}
-use Rattle.rings.proofs.IntegerRing.{integer_ring}
+use Rattle.rational.proofs.CommutativeRing.{CommutativeRing}
+use Rattle.rational.proofs.IntegerRing.{integer_ring}
 use Rattle.rational.proofs.Fractions.{StandsFor, equal_by, StandsFor-self, StandsFor-frac, StandsFor-add, StandsFor-mul, StandsFor-neg}
-use Rattle.rings.proofs.Ring.{num, ring, ◌:+◌, ◌:*◌, :neg, A, B, C, D, E, F}
+use Rattle.rational.proofs.Ring.{num, ring, ◌:+◌, ◌:*◌, :neg, A, B, C, D, E, F}
 
 zero-is : StandsFor zero_ℚ (pos 0) 1
 zero-is = StandsFor-frac (pos 0) 1 (lit< tt)

@@ -2,7 +2,7 @@
 use Rattle.std.proofs.Common.{◌≡◌, sym, ap, ◌∙◌}
 use Rattle.rational.specs.Rational.{ℚ, ◌+ℚ◌, ◌*ℚ◌, neg_ℚ, zero_ℚ, one_ℚ}
 use Rattle.rational.proofs.RationalRing.{rational_ring, +ℚ_assoc, +ℚ_comm, +ℚ-zero, +ℚ-neg, *ℚ_assoc, *ℚ_comm, *ℚ-one, *ℚ-add}
-use Rattle.rings.proofs.CommutativeRing as L
+use Rattle.rational.proofs.CommutativeRing as L
 
 -- the first two of three summands change places
 pub +ℚ_left_comm : (a b c : ℚ) → a +ℚ (b +ℚ c) ≡ b +ℚ (a +ℚ c)

@@ -6,7 +6,7 @@ use Rattle.rational.specs.Sum.{sum_to, change}
 use Rattle.rational.proofs.RationalRing.{rational_ring, *ℚ_comm}
 use Rattle.rational.proofs.Rules.{zero-*ℚ}
 use Rattle.rational.proofs.Parts.{whole-add}
-use Rattle.rings.proofs.Ring.{ring, combine, ◌times◌is◌, num, ◌:+◌, ◌:*◌, :neg, A, B, C, D}
+use Rattle.rational.proofs.Ring.{ring, combine, ◌times◌is◌, num, ◌:+◌, ◌:*◌, :neg, A, B, C, D}
 use Rattle.rational.proofs.Linear.{linear, at, lit, ◌⟨+⟩◌, ◌⟨-⟩◌, ◌⟨≤⟩◌, ◌⟨<⟩◌, ◌⟨=⟩◌}
 use Rattle.rational.proofs.Field.{le_refl, le_antisymm, lt_of_lt_of_le, le-sub}
 use native.Mathlib.Nat as N

@@ -4,5 +4,6 @@ pub mod Laws
 pub mod LowestTerms
 pub mod Midpoint
 pub mod Rational
+pub mod RingLaws
 pub mod Sum
 pub mod Tests

@@ -4,7 +4,7 @@
 //! that equal numbers are one record and `≡` is equality. `frac n d` is n over d, and 0 where d is 0;
 //! `whole n` is n over 1. `specs::Sum` has sums over the numbers below a bound, `specs::Midpoint`
 //! midpoints, and `specs::Tests` tests of order and equality that compute at literals. `specs::Laws`
-//! states what is proved of them, and the functions below have no other meaning than these laws.
+//! states what is proved of them (`specs::RingLaws` of the whole numbers), and the functions below have no other meaning than these laws.
 //!
 //! What to reach for in a proof, the simplest first (`proofs::Examples` uses each once):
 //!
@@ -12,8 +12,9 @@
 //!   `unfolding frac ◌+ℚ◌ ◌*ℚ◌ gcd is_lowest` that names what is to compute.
 //! - `simp ring_laws` of `proofs::Rules`, for an identity without hypotheses, and
 //!   `simp ring_cancels` where terms cancel. Up to about 30 products of variables.
-//! - `ring` of the crate `rings` (`proofs::Ring`), for an identity that these leave. The identity is written once more
-//!   over `A`, `B`, .. for the atoms.
+//! - `ring` of `proofs::Ring`, for an identity that these leave, over any commutative ring. The
+//!   identity is written once more over `A`, `B`, .. for the atoms, and brought to a normal form by
+//!   computing.
 //! - `combine`, beside it, for an equation from known equations. Each known equation comes
 //!   with its multiplier, as on paper; `*ℚ-inv`, by which a number times its inverse is 1, is one.
 //! - `linear` of `proofs::Linear`, for an inequality from inequalities and equations that are linear
@@ -24,6 +25,7 @@
 //!
 //! | Module of `proofs` | Laws of |
 //! |---|---|
+//! | `CommutativeRing`, `IntegerRing` | commutative rings, and the whole numbers as one |
 //! | `RationalRing`, `Rules` | sums, products and negation |
 //! | `Field`, `Inverse` | the order, its behaviour under sums and products; inverses, products that are 0 |
 //! | `Decide`, `Midpoints` | decidable order and equality, and their tests; midpoints and halves |
@@ -33,6 +35,7 @@
 #![tactic(auto)]
 
 ghost use Rattle.rational.specs.Laws.{GcdIsGreatest, FractionsStandForNumbers, IsCommutativeRing, IsOrderedField, OrderIsDecidable, MidpointsLieBetween, SumsAddUp, MeansStayBelow};
+ghost use Rattle.rational.specs.RingLaws.{WholeNumbersAreARing};
 
 /// The greatest common divisor of two numbers divides both, and each common divisor divides it.
 pub fn gcd_is_greatest()
@@ -74,4 +77,9 @@ pub fn sums_add_up()
 /// alone.
 pub fn means_stay_below()
     ensures { MeansStayBelow }
+{}
+
+/// Sums and products of whole numbers obey the laws of a commutative ring.
+pub fn whole_numbers_are_a_ring()
+    ensures { WholeNumbersAreARing }
 {}

@@ -5,7 +5,7 @@ use Rattle.std.proofs.lemmas.List.{length_push, get_or_append_left, get_or_push}
 use Rattle.std.proofs.lemmas.Nat.{div-mul-add, mod-mul-add}
 use native.Mathlib.Nat as N
 use Rattle.rational.specs.Rational.{ℚ, zero_ℚ}
-use Rattle.game_trees.specs.Trees.{Tree}
+use Rattle.game_theory.specs.Trees.{Tree}
 use Rattle.reduced_form.specs.Cells.{IsCell, AreCells}
 use Rattle.reduced_form.specs.Limits.{EarlierFit}
 

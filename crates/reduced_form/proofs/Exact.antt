@@ -9,7 +9,7 @@ use Rattle.lists.proofs.Numbers.{positive_factor}
 use Rattle.answers.specs.Answers.{IsSingle}
 use Rattle.rational.specs.Rational.{ℚ, zero_ℚ}
 use Rattle.game_theory.specs.Profiles.{profile_count}
-use Rattle.game_trees.specs.Trees.{Tree}
+use Rattle.game_theory.specs.Trees.{Tree}
 use Rattle.reduced_strategies.specs.StrategicForm.{AreStrategies, strategic_form}
 use Rattle.reduced_strategies.proofs.StrategyOrder.{strategies-determined}
 use Rattle.game_core.specs.Table.{GameTable, most_payoffs}

@@ -6,10 +6,10 @@ use Rattle.std.proofs.lemmas.Option.{slice_get-get_or, slice_get-map, slice_get_
 use Rattle.std.proofs.Math.Nat.{lt-div-mul-add, mul-div-le, min-le_left, min-eq_left, min-eq_right}
 use Rattle.std.proofs.lemmas.Bool.{cases_lt}
 use Rattle.game_theory.proofs.ProfileCounts.{profile_count-push, profile_count-positive, profile_count-front}
-use Rattle.game_trees.specs.OwnSets.{own_sets}
+use Rattle.game_theory.specs.OwnSets.{own_sets}
 use native.Mathlib.Nat as N
 use Rattle.game_theory.specs.Profiles.{profile_count}
-use Rattle.game_trees.specs.Trees.{Tree, IsTree}
+use Rattle.game_theory.specs.Trees.{Tree, IsTree}
 use Rattle.reduced_strategies.specs.Choices.{AreReducedStrategies}
 use Rattle.reduced_strategies.specs.StrategicForm.{AreStrategies}
 use Rattle.reduced_strategies.proofs.ReducedStrategies.{choices-have_reduced}

@@ -5,8 +5,8 @@ use native.Mathlib.Nat as N
 use Rattle.rational.specs.Rational.{ℚ}
 use Rattle.game_theory.specs.Profiles.{profile_count, number_of}
 use Rattle.game_theory.proofs.ProfileNumbers.{number_of-below, profile_at-number_of}
-use Rattle.game_trees.specs.Trees.{Tree, IsTree as is_game_tree}
-use Rattle.game_trees.specs.Behaviour.{payoff, pure}
+use Rattle.game_theory.specs.Trees.{Tree, IsTree as is_game_tree}
+use Rattle.game_theory.specs.Behaviour.{payoff, pure}
 use Rattle.reduced_strategies.specs.StrategicForm.{AreStrategies, completed}
 use Rattle.reduced_strategies.proofs.Completions.{completions-pay}
 use Rattle.game_core.specs.Table.{GameTable, IsTable, most_payoffs}

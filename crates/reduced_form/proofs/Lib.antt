@@ -8,4 +8,3 @@ pub mod KeptCells
 pub mod KeptForms
 pub mod KeptSingles
 mod SetCounts
-pub mod TableSizes

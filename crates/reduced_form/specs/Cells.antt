@@ -2,8 +2,8 @@
 use Rattle.std.specs.Prelude.{ℕ, ◌+◌, ◌*◌, ◌<◌, ◌≡◌, ⊤, List, length, map, slice_index_or, All}
 use Rattle.rational.specs.Rational.{ℚ, zero_ℚ}
 use Rattle.game_theory.specs.Profiles.{profile_at}
-use Rattle.game_trees.specs.Trees.{Tree}
-use Rattle.game_trees.specs.Behaviour.{payoff, pure}
+use Rattle.game_theory.specs.Trees.{Tree}
+use Rattle.game_theory.specs.Behaviour.{payoff, pure}
 use Rattle.reduced_strategies.specs.StrategicForm.{completed}
 use Rattle.pure_payoffs.specs.Steps.{StepFits}
 use Rattle.reduced_form.specs.declared.stop.ReduceStop.{ReduceStop}

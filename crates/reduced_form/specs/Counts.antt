@@ -1,7 +1,7 @@
 -- The numbers of the players' reduced strategies, and the sizes of the form by them.
 use Rattle.std.specs.Prelude.{ℕ, suc, ◌+◌, ◌*◌, ◌<◌, ◌≡◌, List, [], ◌∷◌, length, map, slice_index}
-use Rattle.game_trees.specs.OwnSets.{own_sets}
-use Rattle.game_trees.specs.Trees.{Tree}
+use Rattle.game_theory.specs.OwnSets.{own_sets}
+use Rattle.game_theory.specs.Trees.{Tree}
 use Rattle.reduced_strategies.specs.StrategicForm.{AreStrategies}
 use Rattle.strategy_lists.specs.Decisions.{HasCount}
 

@@ -1,8 +1,8 @@
 -- The sizes of a tree's reduced form and their limits, and the steps of its cells.
 use Rattle.std.specs.Prelude.{ℕ, suc, ◌+◌, ◌*◌, ◌<◌, ◌≤◌, ◌≡◌, ◌⊎◌, List, [], ◌∷◌, length, map, All}
-use Rattle.game_trees.specs.OwnSets.{own_sets}
+use Rattle.game_theory.specs.OwnSets.{own_sets}
 use Rattle.game_theory.specs.Profiles.{profile_count, profile_at}
-use Rattle.game_trees.specs.Trees.{Tree}
+use Rattle.game_theory.specs.Trees.{Tree}
 use Rattle.reduced_strategies.specs.StrategicForm.{completed}
 use Rattle.game_core.specs.Table.{most_payoffs}
 use Rattle.pure_payoffs.specs.Steps.{Step, StepFits, payoff_steps, IsFirstUnfit}

@@ -4,7 +4,7 @@ use Rattle.std.specs.Coded.{Coded, code_by, coded×, coded_ℕ, coded_list}
 use Rattle.std.specs.List.{flat_map}
 use Rattle.std.specs.Fmt.{decimal}
 use Rattle.game_theory.specs.Profiles.{IsProfile, profile_count, number_of}
-use Rattle.game_trees.specs.Behaviour.{payoff, pure}
+use Rattle.game_theory.specs.Behaviour.{payoff, pure}
 use Rattle.reduced_strategies.specs.StrategicForm.{AreStrategies, IsCompletion, strategic_form}
 use Rattle.game_core.specs.Table.{GameTable, IsTable, code_of_table, game_of}
 use Rattle.game_core.specs.Tree.{GameTree}

@@ -1,7 +1,7 @@
 -- Why a tree has no reduced form within the limits.
 use Rattle.std.specs.Prelude.{ℕ, ◌<◌, ◌≤◌, ◌≡◌, ◌⊎◌, List, Ok, Err}
 use Rattle.answers.specs.Answers.{Answer}
-use Rattle.game_trees.specs.Trees.{Tree}
+use Rattle.game_theory.specs.Trees.{Tree}
 use Rattle.reduced_strategies.specs.StrategicForm.{AreStrategies}
 use Rattle.game_core.specs.Table.{most_payoffs}
 use Rattle.game_core.specs.Tree.{GameTree}

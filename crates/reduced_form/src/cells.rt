@@ -7,7 +7,7 @@ ghost use Rattle.pure_payoffs.specs.Shortcuts.{HasRoom, KeepShortcuts};
 ghost use Rattle.reduced_strategies.specs.Places.{ArePlaces};
 ghost use Rattle.reduced_strategies.specs.StrategicForm.{AreStrategies, completed};
 ghost use Rattle.reduced_form.specs.Cells.{AreCells, IsCellStop};
-ghost use Rattle.game_trees.specs.Children.{AreChildren};
+ghost use Rattle.game_theory.specs.Children.{AreChildren};
 
 use crate::stop::ReduceStop;
 use frac128::Frac;

@@ -1,10 +1,10 @@
 -- The tree of one player: its three reduced strategies, under two numberings of its sets.
 use Rattle.std.proofs.Common.{ℕ, zero, suc, ◌<◌, ◌≤◌, ◌≡◌, ◌⊎◌, ◌↔◌, inl, inr, ⊎_elim, Some, List, [], ◌∷◌, length, All, Contains, refl, sym, subst, arith}
 use Rattle.std.proofs.lemmas.Bool.{cases_lt}
-use Rattle.game_trees.specs.OwnSets.{own_sets}
-use Rattle.game_trees.proofs.OwnSets.{own_sets-tell}
-use Rattle.game_trees.specs.Trees.{Tree, IsTree}
-use Rattle.game_trees.proofs.TreeTests.{tree-tested, even_lottery}
+use Rattle.game_theory.specs.OwnSets.{own_sets}
+use Rattle.game_theory.proofs.OwnSets.{own_sets-tell}
+use Rattle.game_theory.specs.Trees.{Tree, IsTree}
+use Rattle.game_theory.proofs.TreeTests.{tree-tested, even_lottery}
 use Rattle.reduced_strategies.specs.Choices.{choice_at, IsReached, IsReduced}
 use Rattle.reduced_strategies.specs.Examples.{alone, renumbered, ReducedStrategiesOfOnePlayer}
 use Rattle.reduced_strategies.proofs.Sets.{choice_at-among}

@@ -1,16 +1,16 @@
 -- Every completion of a profile pays the same, since only nodes on the profile's way count.
 use Rattle.std.proofs.Common.{ℕ, zero, suc, ◌<◌, ◌≡◌, ◌≢◌, ◌⊎◌, inl, inr, ⊎_elim, Option, Some, None, List, length, map, refl, sym, ap, ap₂, ◌∙◌, subst, arith}
 use Rattle.std.proofs.lemmas.Bool.{cases_eq}
-use Rattle.game_trees.specs.OwnSets.{own_sets}
+use Rattle.game_theory.specs.OwnSets.{own_sets}
 use Rattle.rational.specs.Rational.{ℚ, ◌+ℚ◌, ◌*ℚ◌, zero_ℚ}
 use Rattle.rational.proofs.Rules.{zero-*ℚ}
 use Rattle.game_theory.specs.Profiles.{IsProfile}
 use Rattle.game_theory.specs.Mixed.{sure}
 use Rattle.game_theory.proofs.SureStrategies.{sure-other}
-use Rattle.game_trees.specs.Trees.{Tree, IsTree}
-use Rattle.game_trees.specs.Behaviour.{of_owner, at_set, action_probability, branch_probability, value_to, pure}
-use Rattle.game_trees.specs.Recall.{own_history}
-use Rattle.game_trees.proofs.Children.{over_children-same}
+use Rattle.game_theory.specs.Trees.{Tree, IsTree}
+use Rattle.game_theory.specs.Behaviour.{of_owner, at_set, action_probability, branch_probability, value_to, pure}
+use Rattle.game_theory.specs.Recall.{own_history}
+use Rattle.game_theory.proofs.Children.{over_children-same}
 use Rattle.reduced_strategies.specs.Choices.{choice_at, Agrees}
 use Rattle.reduced_strategies.specs.StrategicForm.{AreStrategies, list_of, given_at, completed, IsCompletion}
 use Rattle.reduced_strategies.specs.Laws.{CompletionsPayTheCell}

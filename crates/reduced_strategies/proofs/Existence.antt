@@ -4,10 +4,10 @@ use Rattle.std.specs.Prelude.{if◌then◌else◌}
 use Rattle.std.specs.Str.{bytes_eq}
 use Rattle.std.proofs.lemmas.Bool.{cases_eq}
 use Rattle.std.proofs.lemmas.Slice.Eq.{bytes_eq-Decides}
-use Rattle.game_trees.specs.OwnSets.{own_sets}
-use Rattle.game_trees.proofs.OwnSets.{AscendFrom, own_sets-ascend}
+use Rattle.game_theory.specs.OwnSets.{own_sets}
+use Rattle.game_theory.proofs.OwnSets.{AscendFrom, own_sets-ascend}
 use Rattle.lists.specs.Orders.{ComesBefore, AreAscending}
-use Rattle.game_trees.specs.Trees.{Tree, IsTree}
+use Rattle.game_theory.specs.Trees.{Tree, IsTree}
 use Rattle.reduced_strategies.specs.Choices.{choice_at, IsReduced}
 use Rattle.reduced_strategies.specs.Laws.{StrategiesExist}
 use Rattle.reduced_strategies.proofs.Sets.{choice_at-first, choice_at-later, choice_at-below}

@@ -2,10 +2,10 @@
 use Rattle.std.proofs.Common.{ℕ, zero, suc, ◌<◌, ◌≤◌, ◌≡◌, ◌↔◌, Bool, true, false, Decides, Some, List, [], ◌∷◌, ◌++◌, refl, sym, ap, ◌∙◌, subst, arith}
 use Rattle.std.specs.Prelude.{if◌then◌else◌}
 use Rattle.std.proofs.lemmas.Bool.Decides.{not_from_Decides}
-use Rattle.game_trees.proofs.OwnSets.{is_own-decides}
-use Rattle.game_trees.specs.Trees.{Tree, IsTree}
-use Rattle.game_trees.specs.Behaviour.{is_own}
-use Rattle.game_trees.specs.Recall.{own_step, history_to, own_history}
+use Rattle.game_theory.proofs.OwnSets.{is_own-decides}
+use Rattle.game_theory.specs.Trees.{Tree, IsTree}
+use Rattle.game_theory.specs.Behaviour.{is_own}
+use Rattle.game_theory.specs.Recall.{own_step, history_to, own_history}
 use Rattle.reduced_strategies.specs.Choices.{Agrees}
 
 -- ---- paths

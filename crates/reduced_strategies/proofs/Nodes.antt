@@ -1,10 +1,10 @@
 -- The nodes that can be reached under a reduced strategy determine it.
 use Rattle.std.proofs.Common.{ℕ, suc, ◌-◌, ◌<◌, ◌≤◌, ◌≡◌, inl, inr, Some, List, sym, ap, ◌∙◌, subst, arith}
 use Rattle.std.proofs.lemmas.Bool.{cases_lt}
-use Rattle.game_trees.specs.OwnSets.{own_sets}
-use Rattle.game_trees.proofs.OwnSets.{own_sets-tell, own_sets-ascend}
-use Rattle.game_trees.specs.Trees.{Tree, IsTree}
-use Rattle.game_trees.specs.Recall.{own_history}
+use Rattle.game_theory.specs.OwnSets.{own_sets}
+use Rattle.game_theory.proofs.OwnSets.{own_sets-tell, own_sets-ascend}
+use Rattle.game_theory.specs.Trees.{Tree, IsTree}
+use Rattle.game_theory.specs.Recall.{own_history}
 use Rattle.reduced_strategies.specs.Choices.{Agrees, choice_at, IsReduced}
 use Rattle.reduced_strategies.specs.Laws.{NodesTellStrategies}
 use Rattle.reduced_strategies.proofs.Sets.{choice_at-among, choice_at-determines}

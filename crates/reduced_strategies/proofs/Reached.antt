@@ -2,10 +2,10 @@
 use Rattle.std.proofs.Common.{ℕ, zero, suc, ◌<◌, ◌≡◌, Bool, true, false, Decides, Some, List, [], ◌∷◌, refl, sym, ◌∙◌, arith}
 use Rattle.std.specs.Prelude.{◌==◌, ◌&&◌, ◌||◌}
 use Rattle.std.proofs.lemmas.Bool.Decides.{Decides-and, Decides-eqb, Decides-like, Decides-below_or}
-use Rattle.game_trees.proofs.OwnSets.{is_own_of-decides}
-use Rattle.game_trees.specs.Trees.{Tree, IsTree}
-use Rattle.game_trees.specs.Behaviour.{is_own_of}
-use Rattle.game_trees.specs.Recall.{own_history}
+use Rattle.game_theory.proofs.OwnSets.{is_own_of-decides}
+use Rattle.game_theory.specs.Trees.{Tree, IsTree}
+use Rattle.game_theory.specs.Behaviour.{is_own_of}
+use Rattle.game_theory.specs.Recall.{own_history}
 use Rattle.reduced_strategies.specs.Choices.{Agrees, IsReached}
 use Rattle.reduced_strategies.proofs.Histories.{along_paths, agrees_at_child}
 

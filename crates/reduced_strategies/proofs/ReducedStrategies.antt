@@ -3,10 +3,10 @@ use Rattle.std.proofs.Common.{ℕ, zero, suc, ◌<◌, ◌≤◌, ◌≡◌, ◌
 use Rattle.std.specs.Prelude.{if◌then◌else◌}
 use Rattle.std.proofs.lemmas.List.{length-map}
 use Rattle.std.proofs.lemmas.Bool.{cases_lt}
-use Rattle.game_trees.specs.OwnSets.{own_sets}
-use Rattle.game_trees.proofs.OwnSets.{IsAmong, own_sets-has, own_sets-tell, own_sets-ascend}
-use Rattle.game_trees.specs.Trees.{Tree, IsTree}
-use Rattle.game_trees.specs.Behaviour.{IsChoice}
+use Rattle.game_theory.specs.OwnSets.{own_sets}
+use Rattle.game_theory.proofs.OwnSets.{IsAmong, own_sets-has, own_sets-tell, own_sets-ascend}
+use Rattle.game_theory.specs.Trees.{Tree, IsTree}
+use Rattle.game_theory.specs.Behaviour.{IsChoice}
 use Rattle.reduced_strategies.specs.Choices.{choice_at, IsReached, IsReduced}
 use Rattle.reduced_strategies.specs.Laws.{ChoicesHaveReduced}
 use Rattle.reduced_strategies.proofs.Sets.{choice_at-map, choice_at-among, choice_at-determines}

@@ -3,7 +3,7 @@ use Rattle.std.proofs.Common.{ℕ, suc, ◌<◌, ◌≡◌, ◌≢◌, ◌⊎◌
 use Rattle.std.specs.Prelude.{◌==◌, if◌then◌else◌}
 use Rattle.std.proofs.lemmas.Bool.{cases_lt}
 use Rattle.std.proofs.lemmas.Bool.Decides.{Decides-eqb, not_from_Decides}
-use Rattle.game_trees.proofs.OwnSets.{IsAmong, AscendFrom, IsAmong-from}
+use Rattle.game_theory.proofs.OwnSets.{IsAmong, AscendFrom, IsAmong-from}
 use Rattle.reduced_strategies.specs.Choices.{choice_at}
 
 -- the choice at the first set

@@ -2,7 +2,7 @@
 use Rattle.std.proofs.Common.{ℕ, List}
 use Rattle.std.proofs.lemmas.List.Elements.{All-contains}
 use Rattle.lists.proofs.Orders.{AreAscending-determined, AreWithin}
-use Rattle.game_trees.specs.Trees.{Tree}
+use Rattle.game_theory.specs.Trees.{Tree}
 use Rattle.reduced_strategies.specs.Choices.{IsReduced, AreReducedStrategies}
 use Rattle.reduced_strategies.specs.Laws.{OneListOfStrategies}
 

@@ -3,12 +3,12 @@ use Rattle.std.proofs.Common.{ℕ, suc, ◌<◌, ◌≡◌, Some, List, [], leng
 use Rattle.std.proofs.Math.ListN as lists
 use Rattle.std.proofs.lemmas.List.{length-map, ext_get_or}
 use Rattle.std.proofs.lemmas.Option.{slice_get-get_or}
-use Rattle.game_trees.specs.OwnSets.{own_sets}
-use Rattle.game_trees.proofs.OwnSets.{own_sets-tell}
+use Rattle.game_theory.specs.OwnSets.{own_sets}
+use Rattle.game_theory.proofs.OwnSets.{own_sets-tell}
 use Rattle.lists.proofs.Orders.{AreAscending-place}
 use Rattle.game_theory.specs.Profiles.{IsProfile}
 use Rattle.game_theory.proofs.ProfileNumbers.{length-profile, profile-below}
-use Rattle.game_trees.specs.Trees.{Tree, IsTree}
+use Rattle.game_theory.specs.Trees.{Tree, IsTree}
 use Rattle.reduced_strategies.specs.Choices.{choice_at, IsReduced, AreReducedStrategies}
 use Rattle.reduced_strategies.specs.StrategicForm.{AreStrategies, list_of, given_by, given_at, completed}
 use Rattle.reduced_strategies.specs.Laws.{FirstActionsComplete, CompletedChoicesTellStrategies}

@@ -3,8 +3,8 @@ use Rattle.std.proofs.Common.{ℕ, suc, ◌-◌, ◌<◌, ◌≡◌, ◌≢◌, 
 use Rattle.std.specs.Prelude.{if◌then◌else◌}
 use Rattle.std.proofs.lemmas.Bool.{cases_eq}
 use Rattle.std.proofs.lemmas.List.{length-map, get_or-set_same, get_or-set_other, get_or_default}
-use Rattle.game_trees.specs.OwnSets.{own_sets}
-use Rattle.game_trees.proofs.OwnSets.{is_own-decides}
+use Rattle.game_theory.specs.OwnSets.{own_sets}
+use Rattle.game_theory.proofs.OwnSets.{is_own-decides}
 use Rattle.rational.specs.Rational.{◌≤ℚ◌}
 use Rattle.game_theory.specs.Profiles.{IsProfile, number_of}
 use Rattle.game_theory.specs.Mixed.{sure, pure as pure_profile}
@@ -13,10 +13,10 @@ use Rattle.game_theory.specs.Laws.{NoGreaterCell}
 use Rattle.game_theory.proofs.SureStrategies.{sure-not_negative, sum_to-sure}
 use Rattle.game_theory.proofs.ProfileNumbers.{length-profile, profile_at-number_of, IsProfile-exchange}
 use Rattle.game_theory.proofs.PureProfiles.{NoGreaterCell-equilibrium, IsEquilibrium-by_cells}
-use Rattle.game_trees.specs.Trees.{Tree, IsTree}
-use Rattle.game_trees.specs.Behaviour.{IsValid, IsChoice, is_own, payoff, pure, reply}
-use Rattle.game_trees.specs.Equilibrium.{IsEquilibrium}
-use Rattle.game_trees.proofs.Subtrees.{value-agree}
+use Rattle.game_theory.specs.Trees.{Tree, IsTree}
+use Rattle.game_theory.specs.Behaviour.{IsValid, IsChoice, is_own, payoff, pure, reply}
+use Rattle.game_theory.specs.TreeEquilibrium.{IsEquilibrium}
+use Rattle.game_theory.proofs.Subtrees.{value-agree}
 use Rattle.reduced_strategies.specs.Choices.{choice_at}
 use Rattle.reduced_strategies.specs.StrategicForm.{AreStrategies, list_of, given_at, completed, IsCompletion, strategic_form}
 use Rattle.reduced_strategies.specs.Laws.{PureEquilibriaAreThoseOfTheTree}

@@ -1,9 +1,9 @@
 -- Reduced strategies of a game tree. Source: von Stengel 1996; Kuhn 1953.
 use Rattle.std.specs.Prelude.{ℕ, suc, ◌<◌, ◌≤◌, ◌≡◌, ◌↔◌, ◌==◌, if◌then◌else◌, List, [], ◌∷◌, length, All, Contains, Some}
-use Rattle.game_trees.specs.OwnSets.{own_sets}
+use Rattle.game_theory.specs.OwnSets.{own_sets}
 use Rattle.lists.specs.Orders.{AreAscending}
-use Rattle.game_trees.specs.Trees.{Tree}
-use Rattle.game_trees.specs.Recall.{own_history}
+use Rattle.game_theory.specs.Trees.{Tree}
+use Rattle.game_theory.specs.Recall.{own_history}
 
 -- A choice list gives each own set in order an action, counted from 1, or 0, which is written `*`, for none. This is what a list
 -- gives a set, where the list is of these sets; to any other set it gives none.

@@ -1,7 +1,7 @@
 -- A tree of one player worked out, under two numberings of its sets.
 use Rattle.std.specs.Prelude.{[], ◌∷◌, Some, pos}
-use Rattle.game_trees.specs.Trees.{Tree, IsTree}
-use Rattle.game_trees.specs.Examples.{tree_of, inner, end}
+use Rattle.game_theory.specs.Trees.{Tree, IsTree}
+use Rattle.game_theory.specs.TreeExamples.{tree_of, inner, end}
 use Rattle.reduced_strategies.specs.Choices.{AreReducedStrategies}
 
 -- A player ends the game (action 0) or goes on (action 1) at set 0, and then has two actions at set 1.

@@ -1,13 +1,13 @@
 -- The laws of reduced strategies, each carried by the contract of a function of this crate. None wants perfect recall.
 use Rattle.std.specs.Prelude.{ℕ, suc, ◌<◌, ◌≡◌, ◌↔◌, List, map, length, Some}
-use Rattle.game_trees.specs.OwnSets.{own_sets}
+use Rattle.game_theory.specs.OwnSets.{own_sets}
 use Rattle.game_theory.specs.Profiles.{IsProfile}
 use Rattle.game_theory.specs.Mixed.{pure as pure_profile}
 use Rattle.game_theory.specs.Equilibrium.{IsEquilibrium as is_table_equilibrium}
-use Rattle.game_trees.specs.Trees.{Tree, IsTree}
-use Rattle.game_trees.specs.Behaviour.{IsChoice, payoff, pure}
-use Rattle.game_trees.specs.Equilibrium.{IsEquilibrium}
-use Rattle.game_trees.specs.Recall.{own_history}
+use Rattle.game_theory.specs.Trees.{Tree, IsTree}
+use Rattle.game_theory.specs.Behaviour.{IsChoice, payoff, pure}
+use Rattle.game_theory.specs.TreeEquilibrium.{IsEquilibrium}
+use Rattle.game_theory.specs.Recall.{own_history}
 use Rattle.reduced_strategies.specs.Choices.{IsReduced, Agrees, choice_at, AreReducedStrategies}
 use Rattle.reduced_strategies.specs.StrategicForm.{AreStrategies, IsCompletion, completed, strategic_form}
 

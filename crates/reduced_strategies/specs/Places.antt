@@ -1,7 +1,7 @@
 -- Where a set stands among its owner's own sets.
 use Rattle.std.specs.Prelude.{ℕ, ◌<◌, ◌≡◌, List, length, slice_index, slice_get, Some}
-use Rattle.game_trees.specs.OwnSets.{own_sets}
-use Rattle.game_trees.specs.Trees.{Tree}
+use Rattle.game_theory.specs.OwnSets.{own_sets}
+use Rattle.game_theory.specs.Trees.{Tree}
 
 -- each player's set has its place in the list of its owner's own sets
 pub record ArePlaces (t : Tree) (places : List ℕ) : Type 0 where

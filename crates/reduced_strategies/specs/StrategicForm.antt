@@ -1,9 +1,9 @@
 -- The strategic form of a game tree. Source: von Stengel 1996.
 use Rattle.std.specs.Prelude.{ℕ, suc, ◌-◌, ◌<◌, ◌≡◌, List, [], length, map, slice_index_or, slice_get, Option, None, Some}
-use Rattle.game_trees.specs.OwnSets.{own_sets}
+use Rattle.game_theory.specs.OwnSets.{own_sets}
 use Rattle.game_theory.specs.Profiles.{Game, profile_at}
-use Rattle.game_trees.specs.Trees.{Tree}
-use Rattle.game_trees.specs.Behaviour.{payoff, pure}
+use Rattle.game_theory.specs.Trees.{Tree}
+use Rattle.game_theory.specs.Behaviour.{payoff, pure}
 use Rattle.reduced_strategies.specs.Choices.{choice_at, AreReducedStrategies}
 
 -- the reduced strategies of each player

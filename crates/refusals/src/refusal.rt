@@ -3,12 +3,12 @@ use crate::lines::{
     absent_line, efg_line, forgets_line, limit_line, nfg_line, players_line, profile_line,
     range_line, sums_line, text_line, twice_line,
 };
+use answers::Memory;
 use basis_enum::Basis;
 use efg_reader::EfgFault;
 use frac128::{Frac, Unfit};
 use game_core::{TooLarge, What};
 use game_text::TextFault;
-use memory::Memory;
 use nfg_reader::NfgFault;
 use std::alloc::Global;
 use thiserror::Error;

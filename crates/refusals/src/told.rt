@@ -1,5 +1,6 @@
 // Refusals for the layers' reasons to stop.
 use crate::refusal::{Refusal, Site};
+use answers::Memory;
 use behaviour_profile::BehaviourStop;
 use convert_tables::ConvertStop;
 use efg_reader::EfgStop;
@@ -9,7 +10,6 @@ use game_core::TooLarge;
 use game_text::TextStop;
 use lemke_pivot::LcpStop;
 use line_checks::CheckStop;
-use memory::Memory;
 use nfg_reader::NfgStop;
 use perfect_recall::RecallStop;
 use reduced_form::{KeptStop, ReduceStop};

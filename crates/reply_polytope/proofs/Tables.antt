@@ -21,20 +21,6 @@ use Rattle.reply_polytope.specs.declared.stop.PolyStop.TheVariants as stops
 use Rattle.reply_polytope.specs.Polytopes.{IsRatedSystem, ArePolytopes, most_labels}
 use native.Mathlib.Nat as N
 
--- each player of a table has some strategy, so there is a profile
-pub some_profile : (t : GameTable) → IsTable t → 0 < profile_count (strategy_counts t)
-some_profile t h = profile_count-positive (strategy_counts t) each
-  where
-    each : All (λ n. 0 < n) (strategy_counts t)
-    each k d l =
-        let b : k < length t.strategies = omega (arith, length-map t.strategies length) in
-        subst (λ v. 0 < v) (sym (get_or-map length t.strategies k [] d b)) (h.some_strategy k [] b)
-
--- and there are not more players than payoffs
-pub few-players : (t : GameTable) → IsTable t → length t.players ≤ most_payoffs
-few-players t h =
-    omega (arith, at_most_product (profile_count (strategy_counts t)) (length t.players) (some_profile t h), N.mul_comm (profile_count (strategy_counts t)) (length t.players), h.payoffs_of_each, h.few_payoffs)
-
 -- ---- places
 -- a place of a row of m among n rows
 pub in_rows : (m n i j : ℕ) → i < n → j < m → i * m + j * 1 < m * n

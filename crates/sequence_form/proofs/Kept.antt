@@ -1,8 +1,8 @@
 -- The forms of trees and tables keep what each form as data keeps.
 use Rattle.std.proofs.Common.{ℕ, suc, ◌<◌, ◌≡◌, sym, ap, subst, arith, All, List, length}
-use Rattle.game_trees.specs.FirstNodes.{AreNumberedByFirstNodes}
-use Rattle.game_trees.specs.Recall.{HasPerfectRecall}
-use Rattle.game_trees.specs.Trees.{Tree, IsTree}
+use Rattle.game_theory.specs.FirstNodes.{AreNumberedByFirstNodes}
+use Rattle.game_theory.specs.Recall.{HasPerfectRecall}
+use Rattle.game_theory.specs.Trees.{Tree, IsTree}
 use Rattle.game_core.specs.Table.{GameTable, IsTable}
 use Rattle.sequence_forms.specs.Sequences.{side_of}
 use Rattle.sequence_forms.specs.Sides.{sequences}

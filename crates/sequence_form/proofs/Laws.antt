@@ -5,7 +5,7 @@ use Rattle.std.proofs.lemmas.Simd.{map-map}
 use Rattle.rational.specs.Rational.{ℚ, ◌*ℚ◌}
 use Rattle.rational.proofs.Rules.{one-*ℚ}
 use Rattle.game_theory.specs.Profiles.{profile_count, profile_at}
-use Rattle.game_trees.specs.Trees.{Tree}
+use Rattle.game_theory.specs.Trees.{Tree}
 use Rattle.game_core.specs.Table.{GameTable, IsTable, game_of, strategy_counts}
 use Rattle.sequence_forms.specs.Forms.{SequenceForm, form_of, form_of_table, chance_of_path, payoff_of_path}
 use Rattle.sequence_forms.specs.Lists.{Entry, listed_at, leaf_entries, leaves, AreListsOf, profile_entries, AreListsOfTable}

@@ -4,13 +4,13 @@ use Rattle.std.specs.Prelude.{if◌then◌else◌}
 use Rattle.std.proofs.lemmas.List.{length_push, map-append}
 use Rattle.std.proofs.lemmas.List.FromFn.{get_or-map-range_with_len, length-map-range_with_len}
 use Rattle.std.proofs.lemmas.Option.{none-some, same_Some, slice_get_within, get_or_from_slice_get}
-use Rattle.game_trees.specs.Trees.{Tree, IsTree as is_game_tree}
-use Rattle.game_trees.specs.Behaviour.{is_own}
-use Rattle.game_trees.specs.Recall.{own_history}
+use Rattle.game_theory.specs.Trees.{Tree, IsTree as is_game_tree}
+use Rattle.game_theory.specs.Behaviour.{is_own}
+use Rattle.game_theory.specs.Recall.{own_history}
 use Rattle.game_core.specs.Tree.{GameTree, IsTree}
 use Rattle.game_core.specs.TreeGame.{game_of_tree}
-use Rattle.game_trees.specs.OwnSets.{own_sets}
-use Rattle.game_trees.proofs.OwnSets.{is_own-decides}
+use Rattle.game_theory.specs.OwnSets.{own_sets}
+use Rattle.game_theory.proofs.OwnSets.{is_own-decides}
 use Rattle.strategy_lists.specs.OwnNumbers.{own_numbers}
 use Rattle.strategy_lists.proofs.ActionCounts.{actions-below}
 use Rattle.strategy_lists.proofs.OwnNumbers.{own_numbers-at, own_sets-numbers}

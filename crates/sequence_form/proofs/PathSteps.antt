@@ -8,7 +8,7 @@ use Rattle.std.proofs.lemmas.Option.{none-some, same_Some}
 use Rattle.rational.specs.Rational.{ℚ, ◌+ℚ◌}
 use Rattle.frac128.specs.Steps.{unfit}
 use Rattle.frac128.specs.declared.steps.Op.TheVariants.{Add}
-use Rattle.game_trees.specs.Trees.{Tree, IsTree}
+use Rattle.game_theory.specs.Trees.{Tree, IsTree}
 use Rattle.sequence_forms.specs.Forms.{payoff_of_path}
 use Rattle.sequence_forms.specs.Lists.{leaf_first, leaves_below, leaves}
 use Rattle.sequence_forms.specs.Sequences.{side_of}

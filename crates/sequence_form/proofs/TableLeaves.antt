@@ -9,6 +9,7 @@ use Rattle.std.proofs.lemmas.Nat.{div_below, mod_below}
 use Rattle.game_theory.proofs.SureStrategies.{zero_le_one}
 use Rattle.rational.specs.Rational.{ℚ, zero_ℚ}
 use Rattle.game_theory.specs.Profiles.{profile_count, profile_at}
+use Rattle.lists.proofs.Elements.{two-elements}
 use Rattle.game_core.specs.Table.{GameTable, IsTable, game_of, strategy_counts}
 use Rattle.sequence_forms.specs.Sides.{first}
 use Rattle.sequence_data.specs.Data.{LeafFits, IsSideData, side_of}
@@ -18,16 +19,9 @@ use Rattle.sequence_form.specs.Forms.{profile_leaf, table_leaves}
 use Rattle.sequence_form.specs.Laws.{rows_of, columns_of}
 use Rattle.sequence_form.specs.Sequences.{start_side}
 
--- a list of two
-two-list : (xs : List ℕ) → length xs ≡ 2 → xs ≡ get_or xs 0 0 ∷ get_or xs 1 0 ∷ []
-two-list [] h = absurd (omega (arith, h))
-two-list (a ∷ []) h = absurd (omega (arith, h))
-two-list (a ∷ b ∷ []) h = refl
-two-list (a ∷ b ∷ c ∷ xs) h = absurd (omega (arith, h))
-
 module _ (t : GameTable) (valid : IsTable t) (two : length t.players ≡ 2) where
   pub two-strategies : strategy_counts t ≡ rows_of t ∷ columns_of t ∷ []
-  two-strategies = two-list (strategy_counts t) (length-map t.strategies length ∙ valid.strategies_of_each ∙ two)
+  two-strategies = two-elements (strategy_counts t) (length-map t.strategies length ∙ valid.strategies_of_each ∙ two)
 
   some-at : (i : ℕ) → i < 2 → 0 < get_or (strategy_counts t) i 0
   some-at i h =
@@ -114,9 +108,6 @@ start-is_side n some = record {
 }
 
 -- ---- the parts of a profile as the table has them
-pub count-at : (t : GameTable) (i : ℕ) (names : List (List ℕ)) → slice_get t.strategies i ≡ Some names → get_or (strategy_counts t) i 0 ≡ length names
-count-at t i names is = get_or-map length t.strategies i names 0 (slice_get_within t.strategies i names is) ∙ ap length (get_or_from_slice_get t.strategies i names names is)
-
 pub pays-at : (t : GameTable) (k i n : ℕ) (payoffs : List ℚ) (v : ℚ) → IsTable t → length t.players ≡ 2 → k < profile_count (strategy_counts t) → i < 2 → n ≡ 2 * k + i → payoffs ≡ t.payoffs → v ≡ get_or payoffs n v → v ≡ (game_of t).pays i k
 pays-at t k i n payoffs v valid two below player is same at =
     let within : n < length t.payoffs = omega (arith, payoffs-are t valid two, below, player, is) in
@@ -126,20 +117,3 @@ pays-at t k i n payoffs v valid two below player is same at =
 -- the number of profiles by the payoffs
 pub profiles-by_payoffs : (t : GameTable) (n : ℕ) → IsTable t → length t.players ≡ 2 → n ≡ length t.payoffs → n / 2 ≡ profile_count (strategy_counts t)
 profiles-by_payoffs t n valid two is = omega (arith, is, payoffs-are t valid two)
-
--- there is a profile, so that there are few players
-some-profiles : (strategies : List (List (List ℕ))) → All (λ names. 0 < length names) strategies → 0 < profile_count (map length strategies)
-some-profiles [] h = omega arith
-some-profiles (names ∷ strategies) h = positive (length names) (profile_count (map length strategies)) (All-head (λ xs. 0 < length xs) names strategies h) (some-profiles strategies (All-tail (λ xs. 0 < length xs) names strategies h))
-  where
-    positive : (m n : ℕ) → 0 < m → 0 < n → 0 < m * n
-    positive (suc m) (suc n) h l = omega arith
-    positive zero n h l = absurd (omega arith)
-    positive (suc m) zero h l = absurd (omega arith)
-
-pub players-few : (t : GameTable) → IsTable t → length t.players ≤ 1048576
-players-few t valid = go (length t.players) (profile_count (strategy_counts t)) (some-profiles t.strategies valid.some_strategy) (omega (arith, valid.payoffs_of_each, valid.few_payoffs))
-  where
-    go : (m n : ℕ) → 0 < n → m * n ≤ 1048576 → m ≤ 1048576
-    go m zero h l = absurd (omega arith)
-    go m (suc n) h l = omega (arith, l)

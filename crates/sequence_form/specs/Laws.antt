@@ -2,8 +2,8 @@
 use Rattle.std.specs.Prelude.{ℕ, ◌<◌, ◌≡◌, [], ◌∷◌, slice_index}
 use Rattle.rational.specs.Rational.{ℚ}
 use Rattle.game_theory.specs.Mixed.{payoff as table_payoff}
-use Rattle.game_trees.specs.Behaviour.{payoff}
-use Rattle.game_trees.specs.Trees.{Tree}
+use Rattle.game_theory.specs.Behaviour.{payoff}
+use Rattle.game_theory.specs.Trees.{Tree}
 use Rattle.game_core.specs.Table.{GameTable, IsTable, game_of, strategy_counts}
 use Rattle.sequence_forms.specs.Alike.{FormsAlike}
 use Rattle.sequence_forms.specs.Forms.{HasTwoWhoRecall, WeighsOne, cell_sum, form_of, form_of_table, mixed_of}

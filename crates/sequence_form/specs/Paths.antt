@@ -2,7 +2,7 @@
 use Rattle.std.specs.Prelude.{ℕ, zero, suc, List, [], ◌∷◌, ◌++◌, map, Option, Some, None}
 use Rattle.frac128.specs.Steps.{unfit}
 use Rattle.frac128.specs.declared.steps.Op.TheVariants.{Add, Mul}
-use Rattle.game_trees.specs.Trees.{Tree}
+use Rattle.game_theory.specs.Trees.{Tree}
 use Rattle.sequence_forms.specs.Forms.{chance_of_path, payoff_of_path, row, column}
 use Rattle.sequence_forms.specs.Lists.{leaves}
 use Rattle.sequence_data.specs.Steps.{PlacedStep, at_place}

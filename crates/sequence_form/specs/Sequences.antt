@@ -1,9 +1,9 @@
 -- The sequences of a player of a tree by the numbers of the sets, and the player's side as data. Source: von Stengel 1996.
 use Rattle.std.specs.Prelude.{ℕ, suc, if◌then◌else◌, List, length, map, ◌≡◌, ◌∷◌, [], Some}
 use Rattle.std.specs.List.{range_with_len}
-use Rattle.game_trees.specs.Trees.{Tree}
-use Rattle.game_trees.specs.Behaviour.{is_own}
-use Rattle.game_trees.specs.OwnSets.{own_sets}
+use Rattle.game_theory.specs.Trees.{Tree}
+use Rattle.game_theory.specs.Behaviour.{is_own}
+use Rattle.game_theory.specs.OwnSets.{own_sets}
 use Rattle.sequence_forms.specs.Sequences.{sequence, sequence_before, side_of}
 use Rattle.sequence_forms.specs.Sides.{first, sequences}
 use Rattle.strategy_lists.specs.OwnNumbers.{own_numbers}

@@ -2,7 +2,7 @@
 ghost use Rattle.std.specs.Prelude.{◌≡◌, ◌<◌, ◌^◌, ℕ, length, slice_index};
 ghost use Rattle.game_core.specs.Table.{strategy_counts};
 ghost use Rattle.game_core.specs.TreeGame.{game_of_tree};
-ghost use Rattle.game_trees.specs.OwnSets.{own_sets};
+ghost use Rattle.game_theory.specs.OwnSets.{own_sets};
 ghost use Rattle.sequence_data.specs.Data.{FormData};
 ghost use Rattle.sequence_forms.specs.Sequences.{side_of};
 ghost use Rattle.sequence_forms.specs.Sides.{sequences};
@@ -11,8 +11,8 @@ ghost use Rattle.sequence_form.specs.Forms.{IsTableForm, IsTreeForm};
 ghost use Rattle.sequence_form.specs.Sequences.{start_side, tree_side};
 
 use crate::sequences::{is_own, own_actions};
+use game_core::tree_parts::stands_for_game_tree;
 use game_core::{Table, Tree};
-use tree_parts::stands_for_game_tree;
 
 /// The sizes of a sequence form: of both players the numbers of sequences, the empty one included, and of own
 /// sets.

@@ -8,13 +8,13 @@ ghost use Rattle.sequence_data.specs.Steps.{AllFit, IsUnfitStop};
 ghost use Rattle.sequence_form.specs.Paths.{chance_steps, child_steps, leaf_at, path_steps, tree_leaves};
 ghost use Rattle.sequence_form.specs.Sequences.{AreFirsts};
 
+use answers::Memory;
 use frac128::Frac;
 use game_core::Tree;
-use memory::Memory;
+use game_core::tree_parts::{branch, owner, parent, pays, probability, set, stands_for_game_tree};
 use sequence_data::{Leaf, SeqStop, product, sum};
 use sequence_forms::{last_sequences_recur, paths_add_up};
 use std::alloc::Global;
-use tree_parts::{branch, owner, parent, pays, probability, set, stands_for_game_tree};
 
 // The last sequence of a player at a node, from that at its parent.
 fn last_sequence(tree: &Tree, firsts: &[u32], player: u32, above: u32, node: usize) -> u32

@@ -1,17 +1,17 @@
 // The sequences of a player of a tree, and the player's side.
 ghost use Rattle.std.specs.Prelude.{◌≡◌, ◌<◌, IsTrue, Some, length, IfOk};
-ghost use Rattle.game_trees.specs.Behaviour.{is_own};
+ghost use Rattle.game_theory.specs.Behaviour.{is_own};
 ghost use Rattle.game_core.specs.TreeGame.{game_of_tree};
 ghost use Rattle.perfect_recall.specs.Found.{IsRecallOf};
 ghost use Rattle.sequence_forms.specs.Sequences.{sequence_before};
 ghost use Rattle.sequence_form.specs.Sequences.{AreFirsts, own_actions, set_row, tree_side};
 
+use answers::Memory;
 use game_core::Tree;
-use memory::Memory;
+use game_core::tree_parts::{action_count, owner, stands_for_game_tree};
 use perfect_recall::Recall;
 use sequence_data::{SetRow, Side};
 use std::alloc::Global;
-use tree_parts::{action_count, owner, stands_for_game_tree};
 
 // Whether a player owns a set.
 pub(crate) fn is_own(tree: &Tree, set: usize, player: u32) -> bool

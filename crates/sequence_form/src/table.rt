@@ -7,9 +7,9 @@ ghost use Rattle.sequence_data.specs.declared.stop.SeqStop.TheVariants as stops;
 ghost use Rattle.sequence_form.specs.Forms.{profile_leaf, table_form, table_leaves};
 ghost use Rattle.sequence_form.specs.Sequences.{start_side};
 
+use answers::Memory;
 use frac128::Frac;
 use game_core::Table;
-use memory::Memory;
 use sequence_data::{Leaf, SeqForm, SeqStop, SetRow, Side};
 use std::alloc::Global;
 

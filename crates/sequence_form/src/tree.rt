@@ -8,10 +8,10 @@ ghost use Rattle.sequence_form.specs.Forms.{tree_form};
 use crate::paths::{leaves, paths};
 use crate::sequences::{first_sequences, side};
 use game_core::Tree;
+use game_core::tree_parts::stands_for_game_tree;
 use perfect_recall::Recall;
 use sequence_data::{SeqForm, SeqStop};
 use std::alloc::Global;
-use tree_parts::stands_for_game_tree;
 
 /// The sequence form of a tree of two players, which `recall` is of. Time and room in proportion to nodes and
 /// sets, but for the sorting of the leaves.

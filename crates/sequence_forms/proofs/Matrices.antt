@@ -9,7 +9,7 @@ use Rattle.rational.proofs.Rules.{zero-*ℚ}
 use Rattle.rational.proofs.Field.{eq-sub, le-sub, le_antisymm}
 use Rattle.rational.proofs.Linear.{linear, at, lit, ◌⟨+⟩◌, ◌⟨-⟩◌, ◌⟨≤⟩◌, ◌⟨=⟩◌}
 use Rattle.rational.proofs.Sums.{sum_to-first, sum_to-same, sum_to-sub, sum_to-single, sum_to-scale, sum_to-zeros}
-use Rattle.rings.proofs.Ring.{ring, num, ◌:+◌, ◌:*◌, ◌:-◌, A, B, C}
+use Rattle.rational.proofs.Ring.{ring, num, ◌:+◌, ◌:*◌, ◌:-◌, A, B, C}
 use Rattle.game_theory.specs.Mixed.{sure}
 use Rattle.game_theory.proofs.SureStrategies.{sure-other}
 use Rattle.sequence_forms.specs.Sides.{Side, first_after, first, sequences, place_to, place, IsSide, IsRealisationPlan}

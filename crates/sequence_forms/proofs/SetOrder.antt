@@ -3,12 +3,12 @@ use Rattle.std.proofs.Common.{ℕ, zero, suc, ◌<◌, ◌≤◌, ◌≡◌, ◌
 use Rattle.std.specs.Prelude.{◌==◌, if◌then◌else◌, slice_index}
 use Rattle.std.proofs.lemmas.Bool.{cases_lt}
 use Rattle.std.proofs.lemmas.Bool.Decides.{Decides-eqb, not_from_Decides}
-use Rattle.game_trees.specs.OwnSets.{own_sets}
-use Rattle.game_trees.proofs.OwnSets.{is_own-decides, IsAmong, AscendFrom, IsAmong-from, own_sets-has, own_sets-ascend}
-use Rattle.game_trees.specs.FirstNodes.{AreNumberedByFirstNodes}
-use Rattle.game_trees.specs.Trees.{Tree, IsTree}
-use Rattle.game_trees.specs.Behaviour.{is_own}
-use Rattle.game_trees.specs.Recall.{HasPerfectRecall}
+use Rattle.game_theory.specs.OwnSets.{own_sets}
+use Rattle.game_theory.proofs.OwnSets.{is_own-decides, IsAmong, AscendFrom, IsAmong-from, own_sets-has, own_sets-ascend}
+use Rattle.game_theory.specs.FirstNodes.{AreNumberedByFirstNodes}
+use Rattle.game_theory.specs.Trees.{Tree, IsTree}
+use Rattle.game_theory.specs.Behaviour.{is_own}
+use Rattle.game_theory.specs.Recall.{HasPerfectRecall}
 use Rattle.reduced_strategies.proofs.Histories.{along_paths}
 use Rattle.sequence_forms.specs.Sides.{first_after, first}
 use Rattle.sequence_forms.specs.Sequences.{last_step, place_in, action_count, sequence, last_sequence, sequence_before, side_of}

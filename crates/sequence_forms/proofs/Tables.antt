@@ -6,7 +6,7 @@ use Rattle.rational.specs.Sum.{sum_to}
 use Rattle.rational.proofs.RationalRing.{rational_ring}
 use Rattle.rational.proofs.Means.{mean-constant}
 use Rattle.rational.proofs.Sums.{sum_to-first, sum_to-same, sum_to-scale, sum_to-exchange}
-use Rattle.rings.proofs.Ring.{ring, num, ◌:+◌, ◌:*◌, A, B, C, D}
+use Rattle.rational.proofs.Ring.{ring, num, ◌:+◌, ◌:*◌, A, B, C, D}
 use Rattle.game_theory.specs.Profiles.{Game, number_of}
 use Rattle.game_theory.specs.Mixed.{Mixed, later, mean, payoff, IsValid, sure, reply}
 use Rattle.game_theory.proofs.Payoffs.{mean-first}

@@ -3,9 +3,9 @@ use Rattle.std.proofs.Common.{ℕ, ◌<◌, ◌≡◌, Option, Some, None, List,
 use Rattle.std.proofs.lemmas.Bool.{false_from_ne_true}
 use Rattle.std.proofs.lemmas.List.{append-nil, get_or-map}
 use Rattle.std.proofs.lemmas.Option.{none-some}
-use Rattle.game_trees.proofs.OwnSets.{is_own-decides}
-use Rattle.game_trees.specs.Trees.{Tree, IsTree}
-use Rattle.game_trees.specs.Recall.{own_step, own_history}
+use Rattle.game_theory.proofs.OwnSets.{is_own-decides}
+use Rattle.game_theory.specs.Trees.{Tree, IsTree}
+use Rattle.game_theory.specs.Recall.{own_step, own_history}
 use Rattle.game_core.specs.declared.tree.Node.{Node}
 use Rattle.game_core.specs.Tree.{GameTree, IsTree as is_game, kind_at, kind_of_owner}
 use Rattle.game_core.specs.TreeGame.{game_of_tree}

@@ -8,11 +8,11 @@ use Rattle.std.proofs.lemmas.Bool.{cases_lt, cases_eq, false_from_ne_true}
 use Rattle.std.proofs.lemmas.List.{append-nil, append_assoc, length_push, length-map, length-set, get_or-set_same, get_or-set_other, get_or_append_left, get_or_push}
 use Rattle.std.proofs.lemmas.List.Elements.{All-map}
 use Rattle.std.proofs.lemmas.Option.{none-some, same_Some, slice_get-get_or}
-use Rattle.game_trees.specs.OwnSets.{own_below, own_sets}
-use Rattle.game_trees.proofs.OwnSets.{is_own_of-decides}
+use Rattle.game_theory.specs.OwnSets.{own_below, own_sets}
+use Rattle.game_theory.proofs.OwnSets.{is_own_of-decides}
 use Rattle.lists.proofs.Elements.{slice_get-end}
-use Rattle.game_trees.specs.Trees.{Tree}
-use Rattle.game_trees.specs.Behaviour.{is_own_of}
+use Rattle.game_theory.specs.Trees.{Tree}
+use Rattle.game_theory.specs.Behaviour.{is_own_of}
 use Rattle.game_core.specs.Tree.{GameTree, IsTree, InformationSet, IsWithin, is_set, own_from}
 use Rattle.game_core.specs.TreeGame.{game_of_tree}
 use Rattle.reduced_strategies.specs.Places.{ArePlaces}

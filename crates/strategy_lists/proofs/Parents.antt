@@ -3,7 +3,7 @@ use Rattle.std.proofs.Common.{ℕ, zero, suc, ◌<◌, ◌≡◌, Option, Some, 
 use Rattle.std.specs.Prelude.{IsSome, MatchOption}
 use Rattle.std.proofs.lemmas.List.{get_or-map}
 use Rattle.std.proofs.lemmas.Option.{MatchOption-at_none, MatchOption-at_some}
-use Rattle.game_trees.specs.Trees.{IsTree}
+use Rattle.game_theory.specs.Trees.{IsTree}
 use Rattle.game_core.specs.declared.tree.Node.{Node}
 use Rattle.game_core.specs.Tree.{GameTree, IsTree as is_game, InformationSet, Place, AreInPrefixOrder, action_count, places_from}
 use Rattle.game_core.specs.TreeGame.{game_of_tree, or_zero}

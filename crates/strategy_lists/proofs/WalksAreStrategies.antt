@@ -4,17 +4,17 @@ use Rattle.std.proofs.lemmas.Bool.{cases_lt}
 use Rattle.std.proofs.lemmas.List.{length-map, get_or-map}
 use Rattle.std.proofs.lemmas.List.Elements.{All-weaker}
 use Rattle.std.proofs.lemmas.Option.{none-some, same_Some, slice_get_within, slice_get-get_or, get_or_from_slice_get}
-use Rattle.game_trees.specs.OwnSets.{own_sets}
-use Rattle.game_trees.proofs.OwnSets.{own_sets-tell}
+use Rattle.game_theory.specs.OwnSets.{own_sets}
+use Rattle.game_theory.proofs.OwnSets.{own_sets-tell}
 use Rattle.lists.proofs.Elements.{element, all_at}
-use Rattle.game_trees.specs.Trees.{Tree}
-use Rattle.game_trees.specs.Recall.{own_history}
+use Rattle.game_theory.specs.Trees.{Tree}
+use Rattle.game_theory.specs.Recall.{own_history}
 use Rattle.reduced_strategies.specs.Choices.{choice_at, Agrees, IsReached as is_set_reached, IsReduced, AreReducedStrategies}
 use Rattle.reduced_strategies.proofs.Sets.{choice_at-among, choice_at-first, choice_at-later}
 use Rattle.reduced_strategies.proofs.Histories.{Agrees-append}
-use Rattle.decision_walk.specs.declared.decision.Decision.{Decision}
-use Rattle.decision_walk.specs.declared.decision.Step.{Step}
-use Rattle.decision_walk.specs.Walks.{ComesFrom, IsLedTo, IsReachedWithin, IsPlaceReached, IsWalk, AreWalks}
+use Rattle.strategy_lists.specs.declared.decision.Decision.{Decision}
+use Rattle.strategy_lists.specs.declared.decision.Step.{Step}
+use Rattle.strategy_lists.specs.Walks.{ComesFrom, IsLedTo, IsReachedWithin, IsPlaceReached, IsWalk, AreWalks}
 use Rattle.strategy_lists.specs.Decisions.{action_counts, history_by, IsDecisionAt, AreDecisions}
 use Rattle.strategy_lists.specs.OwnNumbers.{own_numbers}
 use Rattle.strategy_lists.proofs.OwnNumbers.{own_sets-numbers, own_numbers-at, own_numbers-tell, own_numbers-place}

@@ -1,12 +1,12 @@
 -- A player's decisions on a game tree, each after those before it. Nodes of one set with the same own history can share one.
 use Rattle.std.specs.Prelude.{ℕ, ◌<◌, ◌≡◌, List, [], ◌∷◌, ◌++◌, length, map, slice_index, slice_get, Option, Some, None}
-use Rattle.game_trees.specs.OwnSets.{own_sets}
-use Rattle.game_trees.specs.Trees.{Tree}
-use Rattle.game_trees.specs.Recall.{own_history}
+use Rattle.game_theory.specs.OwnSets.{own_sets}
+use Rattle.game_theory.specs.Trees.{Tree}
+use Rattle.game_theory.specs.Recall.{own_history}
 use Rattle.reduced_strategies.specs.Choices.{AreReducedStrategies}
-use Rattle.decision_walk.specs.declared.decision.Decision.{Decision}
-use Rattle.decision_walk.specs.declared.decision.Step.{Step}
-use Rattle.decision_walk.specs.Walks.{AreLinked}
+use Rattle.strategy_lists.specs.declared.decision.Decision.{Decision}
+use Rattle.strategy_lists.specs.declared.decision.Step.{Step}
+use Rattle.strategy_lists.specs.Walks.{AreLinked}
 
 -- how many actions each of player i's own sets has
 abbrev pub action_counts : Tree → ℕ → List ℕ

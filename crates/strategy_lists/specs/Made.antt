@@ -1,13 +1,13 @@
 -- The decisions of the players, one node of a game tree after another.
 use Rattle.std.specs.Prelude.{ℕ, ◌<◌, ◌≤◌, ◌≡◌, ◌⊎◌, List, [], ◌∷◌, ◌++◌, length, slice_index, slice_index_or, slice_get, Option, Some, None}
-use Rattle.game_trees.specs.OwnSets.{own_sets}
-use Rattle.game_trees.specs.Trees.{Tree}
-use Rattle.game_trees.specs.Recall.{own_history}
+use Rattle.game_theory.specs.OwnSets.{own_sets}
+use Rattle.game_theory.specs.Trees.{Tree}
+use Rattle.game_theory.specs.Recall.{own_history}
 use Rattle.game_core.specs.declared.tree.Kind.{Kind}
 use Rattle.game_core.specs.declared.tree.Kind.TheVariants.{Chance, Move, End}
-use Rattle.decision_walk.specs.declared.decision.Decision.{Decision}
-use Rattle.decision_walk.specs.declared.decision.Step.{Step}
-use Rattle.decision_walk.specs.Walks.{ComesFrom}
+use Rattle.strategy_lists.specs.declared.decision.Decision.{Decision}
+use Rattle.strategy_lists.specs.declared.decision.Step.{Step}
+use Rattle.strategy_lists.specs.Walks.{ComesFrom}
 use Rattle.strategy_lists.specs.Decisions.{IsDecisionAt}
 
 -- the player who moves at a node of this kind

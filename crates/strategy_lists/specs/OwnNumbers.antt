@@ -1,6 +1,6 @@
 -- The numbers that are a player's own, where each number has an owner or none.
 use Rattle.std.specs.Prelude.{ℕ, zero, suc, ◌+◌, ◌<◌, ◌≡◌, if◌then◌else◌, List, [], ◌∷◌, ◌++◌, length, slice_index, slice_set, Option, Some, None}
-use Rattle.game_trees.specs.Behaviour.{is_own_of}
+use Rattle.game_theory.specs.Behaviour.{is_own_of}
 
 -- the numbers below n that are player i's own, in order
 abbrev pub own_numbers : (ℕ → Option ℕ) → ℕ → ℕ → List ℕ

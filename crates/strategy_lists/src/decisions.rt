@@ -1,15 +1,15 @@
 // The players' decisions.
 ghost use Rattle.std.specs.Prelude.{◌≡◌, ◌<◌, ◌≤◌, ◌^◌, ℕ, All, length, map, IfOk, IfSome, MatchOption, slice_get, Some, None, []};
-ghost use Rattle.game_trees.specs.Recall.{own_history};
+ghost use Rattle.game_theory.specs.Recall.{own_history};
 ghost use Rattle.game_core.specs.TreeGame.{game_of_tree};
 ghost use Rattle.reduced_strategies.specs.Places.{ArePlaces};
 ghost use Rattle.strategy_lists.specs.Decisions.{AreDecisionsOfAll};
 ghost use Rattle.strategy_lists.specs.Made.{HasTaken, IsLastMove, IsMadeAt, IsMove, mover, mover_of};
-ghost use Rattle.game_trees.specs.OwnSets.{own_sets};
+ghost use Rattle.game_theory.specs.OwnSets.{own_sets};
 
-use decision_walk::{Decision, Step};
+use crate::decision::{Decision, Step};
+use answers::Memory;
 use game_core::{Kind, Node, Tree, trees_are_game_trees};
-use memory::Memory;
 use std::alloc::Global;
 
 // The player who moves at a node, where one does.

@@ -4,10 +4,10 @@ ghost use Rattle.game_core.specs.Tree.{GameTree, IsWithin, own_sets as tree_sets
 ghost use Rattle.game_core.specs.TreeGame.{game_of_tree};
 ghost use Rattle.reduced_strategies.specs.Places.{ArePlaces};
 ghost use Rattle.strategy_lists.specs.OwnNumbers.{counted, ArePlacesBelow};
-ghost use Rattle.game_trees.specs.OwnSets.{own_sets};
+ghost use Rattle.game_theory.specs.OwnSets.{own_sets};
 
+use answers::Memory;
 use game_core::{InfoSet, Tree};
-use memory::Memory;
 use std::alloc::Global;
 
 // The place of what comes next behind all that was counted, where it has this owner.

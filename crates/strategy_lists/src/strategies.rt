@@ -4,11 +4,12 @@ ghost use Rattle.game_core.specs.TreeGame.{game_of_tree};
 ghost use Rattle.reduced_strategies.specs.Choices.{AreReducedStrategies};
 ghost use Rattle.strategy_lists.specs.Decisions.{action_counts, AreDecisions, HasCount};
 
-use decision_walk::{Decision, list_walks};
+use crate::count::count_walks;
+use crate::decision::Decision;
+use crate::walk::list_walks;
+use answers::Memory;
 use game_core::Tree;
-use memory::Memory;
 use std::alloc::Global;
-use walk_counts::count_walks;
 
 // How many actions each of a player's own sets has.
 fn own_action_counts(alloc: Global, tree: &Tree, player: u32) -> Result<Vec<u32>, Memory>

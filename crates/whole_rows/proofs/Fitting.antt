@@ -6,8 +6,8 @@ use Rattle.std.proofs.lemmas.Int.{ints, to_z-of_z, fits_signed_from_abs}
 use Rattle.frac128.proofs.Differences.{neg_fits}
 use Rattle.rational.specs.Gcd.{gcd}
 use Rattle.rational.specs.Rational.{ℚ, whole, frac, ◌+ℚ◌, ◌-ℚ◌}
-use Rattle.rings.proofs.IntegerRing.{integer_ring}
-use Rattle.rings.proofs.Ring.{ring, num, ◌:*◌, ◌:-◌, :neg, A}
+use Rattle.rational.proofs.IntegerRing.{integer_ring}
+use Rattle.rational.proofs.Ring.{ring, num, ◌:*◌, ◌:-◌, :neg, A}
 use Rattle.rational.proofs.Parts.{whole-num, whole-den, whole-mul, whole-neg, whole-add}
 use Rattle.rational.specs.LowestTerms.{nat_abs-div_ℤ}
 use Rattle.frac128.specs.declared.steps.Unfit.{Unfit}

@@ -15,9 +15,9 @@ use Rattle.rational.proofs.Inverse.{frac-inv, inv_ℚ-mul, inv_ℚ-inv, inv_ne_z
 use Rattle.rational.proofs.Parts.{whole-mul, whole-neg, whole-eq, frac-mul, frac-scale, abs-neg, pos_abs}
 use Rattle.rational.proofs.Fractions.{cancel_pos}
 use Rattle.rational.proofs.Order.{lt_of_times}
-use Rattle.rings.proofs.IntegerRing.{integer_ring}
-use Rattle.rings.proofs.Ring.{◌times◌is◌, combine, ring, num, var, ◌:*◌, ◌:-◌, :neg}
-use Rattle.rings.proofs.Ring as R
+use Rattle.rational.proofs.IntegerRing.{integer_ring}
+use Rattle.rational.proofs.Ring.{◌times◌is◌, combine, ring, num, var, ◌:*◌, ◌:-◌, :neg}
+use Rattle.rational.proofs.Ring as R
 use Rattle.linear_systems.proofs.Pivot.{eqb_same, eqb_apart}
 use Rattle.frac128.specs.Fraction.{PartFits}
 use Rattle.whole_rows.specs.Rows.{fraction, IsRow, IsCommonDivisor}

@@ -5,6 +5,7 @@ use Rattle.std.specs.Str.{all_ascii_digits}
 use Rattle.std.specs.Str.Parse.{digits_value}
 use Rattle.std.proofs.lemmas.Bool.{and_parts}
 use Rattle.std.proofs.lemmas.Option.{option_and_then_some}
+use Rattle.lists.proofs.Options.{mapped_some}
 use Rattle.words.specs.Grammar.{parts_of, plain_of, values_of, has_flag}
 use Rattle.words.specs.Words.{Command, Enummixed, Make, answer, at_most_one, command_from, enummixed_of, enummixed_options, enummixed_settings, make_of, make_options, number_of, number_or, table_settings, understood, workers_from, IsFrom, IsWithinRanges}
 use Rattle.words.proofs.Named.{NamedFirst, any_named}
@@ -32,15 +33,11 @@ workers_given (Some text) n e = number_range 1 64 text n e
 worker_count : (texts : List (List ℕ)) (n : ℕ) → workers_from texts ≡ Some n → IsFrom 1 64 n
 worker_count texts n e = option_and_then_some (number_or 1 1 64) (at_most_one texts) n e (λ text _ f. workers_given text n f)
 
-mapped : {X : Type 0} (f : X → Command) (o : Option X) (command : Command) → option_map f o ≡ Some command → (x : X) × (o ≡ Some x) × (f x ≡ command)
-mapped f None command e = absurd cc
-mapped f (Some x) command e = (x, refl, cc)
-
 table_ranges : (workers : ℕ) (plain : List (List ℕ)) (command : Command) → IsFrom 1 64 workers → table_settings workers plain ≡ Some command → IsWithinRanges command
 table_ranges workers (number ∷ rows ∷ columns ∷ []) command w e =
     option_and_then_some (λ n. option_and_then (λ r. option_map (λ c. Make n r c workers) (number_of 1 32 columns)) (number_of 1 32 rows)) (number_of 0 2147483647 number) command e
     (λ n _ f. option_and_then_some (λ r. option_map (λ c. Make n r c workers) (number_of 1 32 columns)) (number_of 1 32 rows) command f
-    (λ r is g. (let h = mapped (λ c. Make n r c workers) (number_of 1 32 columns) command g in
+    (λ r is g. (let h = mapped_some (λ c. Make n r c workers) (number_of 1 32 columns) command g in
     subst IsWithinRanges h.2 (number_range 1 32 rows r is, number_range 1 32 columns h.0 h.1, w))))
 table_ranges workers _ command w e = absurd cc
 
@@ -65,7 +62,7 @@ enummixed_ranges words command e = go (answer enummixed_options enummixed_of wor
         option_and_then_some enummixed_of (parts_of enummixed_options words None) other is (λ ps _ f.
         let flag : Bool = has_flag 68 ps in
         option_and_then_some (λ n. option_map (Enummixed flag n) (at_most_one (plain_of ps))) (workers_from (values_of 106 ps)) other f (λ n w g.
-        let h = mapped (Enummixed flag n) (at_most_one (plain_of ps)) other g in
+        let h = mapped_some (Enummixed flag n) (at_most_one (plain_of ps)) other g in
         subst IsWithinRanges same (subst IsWithinRanges h.2 (worker_count (values_of 106 ps) n w))))
 
 -- the ranges of a line of words

@@ -1,7 +1,7 @@
 // One run over memory, and what it must do.
+use answers::Memory;
 use gambit_tools::run;
 use game_core::{MemInputs, MemSink, OpenGate};
-use memory::Memory;
 use std::alloc::Global;
 use std::thread::Threads;
 

@@ -1,7 +1,7 @@
 // Inputs and outputs of `check` and `convert` that fail.
 use crate::case::Case;
 use crate::games::{BATTLE, PRISONERS};
-use memory::Memory;
+use answers::Memory;
 
 /// Each selection and each read of both inputs of `check` fails in turn: the game is selected and read in two calls, and then the
 /// lines. Nothing is written.

@@ -1,7 +1,7 @@
 // Layouts of `convert`, and its refusals.
 use crate::case::Case;
 use crate::games::{ALONE, ENTRY, PRISONERS};
-use memory::Memory;
+use answers::Memory;
 
 // Names in which each byte that is escaped stands, and a name of two lines.
 const ESCAPED: &str =

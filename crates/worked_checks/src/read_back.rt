@@ -4,7 +4,7 @@ use crate::games::{
     ALONE, BATTLE, DECIMALS, ENTRY, FORGET, OUTCOMES, PENNIES, POKER, PRISONERS, STAG_HUNT,
     THREE_BY_TWO,
 };
-use memory::Memory;
+use answers::Memory;
 use std::alloc::Global;
 use std::thread::Threads;
 

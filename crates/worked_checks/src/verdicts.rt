@@ -1,7 +1,7 @@
 // Verdicts of `check`, and its refusals.
 use crate::case::Case;
 use crate::games::{ALONE, BATTLE, ENTRY, FORGET, POKER, STAG_HUNT};
-use memory::Memory;
+use answers::Memory;
 
 // A tree that ends at its root.
 const ENDED: &str = "EFG 2 R \"\" { \"A\" } t \"\" 1 \"\" { 1 }";

@@ -1,7 +1,7 @@
 // Equilibria of games of two players with constant sum, by linear programs.
 use crate::case::Case;
 use crate::games::{ALONE, FORGETFUL, POKER};
-use memory::Memory;
+use answers::Memory;
 use std::alloc::Global;
 
 const PENNIES: &str = "NFG 1 R \"\" { \"A\" \"B\" } { 2 2 } 1 -1 -1 1 -1 1 1 -1";

@@ -1,8 +1,8 @@
 // Games that are cut off.
 use crate::case::owned;
+use answers::Memory;
 use gambit_tools::run;
 use game_core::{MemInputs, MemSink, OpenGate};
-use memory::Memory;
 use std::alloc::Global;
 use std::thread::Threads;
 

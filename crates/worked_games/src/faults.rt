@@ -1,6 +1,6 @@
 // Words that are refused, inputs that are refused, and calls of the outside that fail.
 use crate::case::{Case, Large, are_refused, is_refused};
-use memory::Memory;
+use answers::Memory;
 use std::alloc::Global;
 use std::thread::Threads;
 

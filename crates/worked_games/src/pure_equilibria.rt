@@ -1,6 +1,6 @@
 // Games whose pure equilibria are known.
 use crate::case::Case;
-use memory::Memory;
+use answers::Memory;
 
 /// Games with their pure equilibria, worked out by hand.
 #[test]

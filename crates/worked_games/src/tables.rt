@@ -1,6 +1,6 @@
 // Files of tables that are refused, production by production.
 use crate::case::{Case, are_refused, is_refused};
-use memory::Memory;
+use answers::Memory;
 
 // The header and the players of a table with two players.
 const BIMATRIX: &str = "NFG 1 R \"\" { \"A\" \"B\" } ";

@@ -1,6 +1,6 @@
 // Files of game trees: which are read, and how the others are refused.
 use crate::case::{Case, Large, are_refused, is_refused};
-use memory::Memory;
+use answers::Memory;
 use std::alloc::Global;
 
 // The header and the players of a tree with one player, and of one with two.

@@ -1,7 +1,7 @@
 // Equilibria of games of two players, by complementary pivots.
 use crate::case::Case;
 use crate::games::{ALONE, FORGETFUL, POKER};
-use memory::Memory;
+use answers::Memory;
 
 // Player one has one action, and then player two chooses.
 const ONE_ACTION: &str =

@@ -8,8 +8,8 @@ use Rattle.rational.proofs.Field.{le_refl, le_of_lt}
 use Rattle.linear_systems.specs.Reached.{IsVariableOf, in_row, in_column}
 use Rattle.lex_tableau.specs.Entries.{AreNumbered}
 use Rattle.lex_tableau.specs.Starts.{IsSystem, parts_of, system_of}
-use Rattle.extreme_points.proofs.Solutions.{one_positive}
-use Rattle.basis_levels.specs.Systems.{IsEnumerable}
+use Rattle.linear_systems.proofs.Solutions.{one_positive}
+use Rattle.basis_enum.specs.Systems.{IsEnumerable}
 
 pub one_above : zero_ℚ ≤ℚ one_ℚ
 one_above = le_of_lt zero_ℚ one_ℚ one_positive

@@ -2,18 +2,17 @@
 ghost use Rattle.std.specs.Prelude.{◌≡◌, ◌+◌, ◌*◌, ◌<◌, ◌≤◌, length, IfOk};
 ghost use Rattle.std.specs.List.{All};
 ghost use Rattle.rational.specs.Rational.{zero_ℚ, ◌≤ℚ◌};
-ghost use Rattle.basis_levels.specs.Systems.{IsEnumerable};
+ghost use Rattle.basis_enum.specs.Systems.{IsEnumerable};
 
 use crate::stop::Stop;
 use basis_enum::{EnumStop, enumerate};
 use frac128::Frac;
 use game_core::{Gate, OpenGate, TooLarge, What};
-use lex_tableau::{System, numbered};
+use lex_tableau::{Steps, System, numbered};
 use std::alloc::Global;
 use std::marker::{Brand, Sync};
 use std::sync::ledger::{Blank, Ledger};
 use std::thread::Threads;
-use steps::Steps;
 
 // A cell of the cube of so many variables, the right side last in each row.
 #[tactic(auto, using(crate::proofs::CubeSystems::one_above))]

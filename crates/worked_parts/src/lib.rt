@@ -1,6 +1,9 @@
-//! Fractions, numbers, tokens, lines and small tables, as tests over their crates. Nothing here is called by the program.
+//! Fractions, numbers, tokens, lines, small tables and command lines, as tests over their crates.
+//! Nothing here is called by the program.
 #![tactic(auto)]
 
+#[cfg(test)]
+mod command_lines;
 #[cfg(test)]
 mod fractions;
 #[cfg(test)]

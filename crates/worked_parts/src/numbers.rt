@@ -1,4 +1,4 @@
-use number_text::{NumberFault, read_number};
+use game_text::{NumberFault, read_number};
 
 #[test]
 fn reads_numbers(rt: HostRuntime) {

@@ -5,7 +5,7 @@ use Rattle.std.proofs.lemmas.List.{length-map}
 use Rattle.std.proofs.lemmas.List.Elements.{All-nil, All-head, All-push, All-set, All-pop, All-map, All-weaker, All-get_or, All-filter, filter_passes}
 use Rattle.std.proofs.lemmas.Option.{slice_get-map, slice_get_within, get_or_from_slice_get, same_Some}
 use Rattle.written_trees.proofs.Numbered.{sets_of, outcomes_of}
-use Rattle.lists.proofs.Options.{bind_some, chosen}
+use Rattle.lists.proofs.Options.{bind_some, chosen, mapped_some}
 use Rattle.game_core.specs.declared.tree.Action.{Action}
 use Rattle.game_core.specs.declared.tree.Node.{Node}
 use Rattle.game_core.specs.Tree.{GameTree, InformationSet, IsWithin, ProbabilitiesFit, NodeFits, SetFits}
@@ -14,7 +14,6 @@ use Rattle.written_trees.specs.Described.{SetKey, key_of, same_set, set_uses, ou
 use Rattle.written_trees.specs.Building.{BegunSet, BegunOutcome, outcome_place, repeats_payoffs, new_outcome, used_outcome, with_outcome_use, use_outcome, use_some_outcome, free_places, Begun, nothing_begun, add_nodes, finished_set, finished_outcome, tree_begun}
 use Rattle.written_trees.specs.Laws.{HasNoProbability, IsActionList, IsSetUse, IsOutcomeUse, IsWrittenNode, BuiltIsDescribed}
 use Rattle.written_trees.proofs.UseSteps.{begun_set, sets_begun, AllAgree, begun_outcome, outcomes_begun, PayoffsAgree}
-use Rattle.written_trees.proofs.Options.{mapped_some}
 use Rattle.written_trees.proofs.KeysInOrder.{inserted}
 use Rattle.written_trees.proofs.Lists.{map-map}
 use Rattle.written_trees.proofs.Depths.{few_edges_of}

@@ -9,7 +9,6 @@ pub mod Limits
 pub mod Lists
 pub mod Members
 pub mod Numbered
-pub mod Options
 pub mod OutcomeUses
 pub mod Places
 pub mod Rebuilt

@@ -12,7 +12,7 @@ use Rattle.frac128.specs.declared.steps.Op.TheVariants.{Sub}
 use Rattle.frac128.specs.Steps.{SubFits, unfit}
 use Rattle.sequence_forms.specs.Sides.{Side, first, IsOrderedSide}
 use Rattle.sequence_forms.proofs.Sides.{first_pos}
-use Rattle.linear_programs.specs.Plans.{IsLesser}
+use Rattle.zero_sum_lp.specs.Plans.{IsLesser}
 use Rattle.pure_payoffs.specs.Steps.{Step, StepFits, IsFirstUnfit}
 use Rattle.zero_sum_lp.specs.PlanSteps.{rest_steps, IsSharedTo, IsUnfitShare, IsCutTo, IsUnfitCut}
 use Rattle.zero_sum_lp.proofs.PlanLists.{rest_next, rest_fits, rest_fails, rest_same, before_next, set_positive, IsSetOf, at_set}

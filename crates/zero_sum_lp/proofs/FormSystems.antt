@@ -5,9 +5,9 @@ use Rattle.std.proofs.Math.Nat.{mul-le-mul_right}
 use Rattle.std.proofs.lemmas.Bool.{cases_lt}
 use Rattle.rational.specs.Rational.{ℚ, ◌+ℚ◌, ◌-ℚ◌, ◌*ℚ◌, zero_ℚ}
 use Rattle.rational.proofs.RationalRing.{rational_ring}
-use Rattle.rings.proofs.Ring.{ring, num, ◌:+◌, ◌:-◌, ◌:*◌, A, B, C, D, E}
+use Rattle.rational.proofs.Ring.{ring, num, ◌:+◌, ◌:-◌, ◌:*◌, A, B, C, D, E}
 use Rattle.linear_systems.specs.Rows.{Alike}
-use Rattle.linear_programs.specs.Programs.{constraints, program_of, reply_cell}
+use Rattle.zero_sum_lp.specs.Programs.{constraints, program_of, reply_cell}
 use Rattle.linear_systems.proofs.Agreement.{alike_trans}
 use Rattle.lex_tableau.specs.Starts.{Parts, system_of}
 use Rattle.sequence_forms.specs.Lists.{listed_at}

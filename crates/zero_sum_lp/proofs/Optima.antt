@@ -9,12 +9,12 @@ use Rattle.linear_systems.specs.Rows.{coefficient, HasDistinctVariables}
 use Rattle.linear_systems.proofs.Rows.{unit_other, times_zero}
 use Rattle.linear_systems.proofs.LexRow.{below_cases}
 use Rattle.sequence_forms.specs.Sides.{sequences}
-use Rattle.linear_programs.specs.Programs.{constraints, value_at, price_one, price_two}
-use Rattle.linear_programs.proofs.Bounded.{programs_linear}
-use Rattle.linear_programs.proofs.Determined.{after_on_path}
-use Rattle.linear_programs.proofs.Growth.{IsLexicographicallyFeasible}
-use Rattle.linear_programs.proofs.Optimum.{value_basic}
-use Rattle.linear_programs.proofs.Programs.{basic_last}
+use Rattle.zero_sum_lp.specs.Programs.{constraints, value_at, price_one, price_two}
+use Rattle.zero_sum_lp.proofs.Bounded.{programs_linear}
+use Rattle.zero_sum_lp.proofs.Determined.{after_on_path}
+use Rattle.zero_sum_lp.proofs.Growth.{IsLexicographicallyFeasible}
+use Rattle.zero_sum_lp.proofs.OptimalRows.{value_basic}
+use Rattle.zero_sum_lp.proofs.Programs.{basic_last}
 use Rattle.lex_tableau.specs.Rows.{Numbers, tableau, IsValueOf}
 use Rattle.sequence_data.specs.Data.{SideData, side_of}
 use Rattle.zero_sum_lp.specs.Parts.{HasShape, Program, IsProgram, IsOptimum}

@@ -5,9 +5,9 @@ use Rattle.rational.specs.Rational.{zero_ℚ}
 use Rattle.rational.proofs.Field.{not_lt_of_le}
 use Rattle.linear_systems.specs.Tableau.{pivot}
 use Rattle.linear_systems.proofs.LexRow.{lex_row_once, below_cases}
-use Rattle.linear_programs.specs.Paths.{IsEntering, IsOptimal}
+use Rattle.zero_sum_lp.specs.Paths.{IsEntering, IsOptimal}
 use Rattle.linear_systems.proofs.Agreement.{alike_sym, alike_trans}
-use Rattle.linear_programs.proofs.Determined.{entering_once}
+use Rattle.zero_sum_lp.proofs.Determined.{entering_once}
 use Rattle.frac128.specs.declared.steps.Unfit.{Unfit}
 use Rattle.whole_rows.specs.Steps.{AllFit, IsFirstUnfit}
 use Rattle.whole_rows.proofs.FirstUnfits.{no_unfit, one_unfit}

@@ -6,8 +6,8 @@ use Rattle.rational.specs.Rational.{ℚ, ◌+ℚ◌, ◌-ℚ◌, zero_ℚ, one_�
 use Rattle.rational.specs.Sum.{sum_to}
 use Rattle.rational.proofs.Sums.{sum_to-same}
 use Rattle.linear_systems.proofs.LexRow.{below_cases}
-use Rattle.linear_programs.specs.Plans.{IsLesser}
-use Rattle.linear_programs.proofs.Plans.{each_sequence, lesser_once}
+use Rattle.zero_sum_lp.specs.Plans.{IsLesser}
+use Rattle.zero_sum_lp.proofs.PlanWeights.{each_sequence, lesser_once}
 use Rattle.pure_payoffs.specs.Steps.{Step, StepFits, IsFirstUnfit}
 use Rattle.pure_payoffs.proofs.FirstUnfits.{unfit_among, unfit_once}
 use Rattle.sequence_forms.specs.Sides.{Side, first, sequences, IsOrderedSide}

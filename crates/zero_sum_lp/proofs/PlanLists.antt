@@ -7,7 +7,7 @@ use Rattle.rational.specs.Rational.{ℚ, ◌+ℚ◌, ◌-ℚ◌, zero_ℚ, one_�
 use Rattle.rational.specs.Sum.{sum_to}
 use Rattle.rational.proofs.RationalRing.{rational_ring}
 use Rattle.rational.proofs.Sums.{sum_to-same}
-use Rattle.rings.proofs.Ring.{ring, num, ◌:+◌, ◌:-◌, A, B, C}
+use Rattle.rational.proofs.Ring.{ring, num, ◌:+◌, ◌:-◌, A, B, C}
 use Rattle.linear_systems.proofs.LexRow.{below_cases}
 use Rattle.frac128.specs.declared.steps.Op.TheVariants.{Add, Sub}
 use Rattle.frac128.specs.Steps.{AddFits, SubFits, unfit}

@@ -7,7 +7,7 @@ use Rattle.linear_systems.proofs.LexRow.{below_cases}
 use Rattle.pure_payoffs.specs.Steps.{Step}
 use Rattle.lex_tableau.specs.Rows.{Numbers, tableau, IsValueOf}
 use Rattle.sequence_forms.specs.Sides.{sequences}
-use Rattle.linear_programs.specs.Programs.{constraints, value_at, raw_one, raw_two}
+use Rattle.zero_sum_lp.specs.Programs.{constraints, value_at, raw_one, raw_two}
 use Rattle.sequence_data.specs.Data.{SideData, side_of}
 use Rattle.zero_sum_lp.specs.Parts.{HasShape, Program, IsOptimum}
 use Rattle.sequence_data.specs.Weights.{weight}

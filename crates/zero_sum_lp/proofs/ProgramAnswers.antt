@@ -2,7 +2,7 @@
 use Rattle.std.proofs.Common.{◌≡◌, ◌∙◌, ◌<◌, List, [], ◌∷◌, ◌++◌, All, Ok, Err, refl, sym, ap, ap₂, subst}
 use Rattle.answers.specs.Answers.{◌>>◌, IsSingle, refuse_where, refused_by}
 use Rattle.answers.proofs.Answers.{bind-single, refuse_where-single, refused_by-single}
-use Rattle.linear_programs.specs.Programs.{program_of}
+use Rattle.zero_sum_lp.specs.Programs.{program_of}
 use Rattle.linear_systems.proofs.Agreement.{alike_sym, alike_trans}
 use Rattle.lex_tableau.specs.Starts.{Parts, system_of}
 use Rattle.lex_tableau.specs.declared.tableau.StartStop.TheVariants as starts

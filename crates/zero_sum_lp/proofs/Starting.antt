@@ -3,7 +3,7 @@ use Rattle.std.proofs.Common.{ℕ, suc, ◌<◌, ◌≤◌, ◌≡◌, ◌+◌, 
 use Rattle.sequence_forms.specs.Sides.{sequences}
 use Rattle.rational.specs.Rational.{ℚ}
 use Rattle.linear_systems.specs.Rows.{Alike}
-use Rattle.linear_programs.specs.Programs.{constraints, program_of, IsProgramOf}
+use Rattle.zero_sum_lp.specs.Programs.{constraints, program_of, IsProgramOf}
 use Rattle.zero_sum_lp.specs.Steps.{linear_program}
 use Rattle.linear_systems.proofs.Agreement.{alike_trans}
 use Rattle.lex_tableau.specs.Rows.{Numbers, tableau, IsTableau}

@@ -6,15 +6,15 @@ use Rattle.std.proofs.lemmas.Nat.{div-mul-add, mod-mul-add}
 use Rattle.std.proofs.Math.Nat.{mul-le-mul_right}
 use Rattle.rational.specs.Rational.{ℚ, neg_ℚ, zero_ℚ}
 use Rattle.rational.proofs.RationalRing.{rational_ring}
-use Rattle.rings.proofs.Ring.{ring, num, :neg}
+use Rattle.rational.proofs.Ring.{ring, num, :neg}
 use Rattle.linear_systems.specs.Tableau.{Tableau}
 use Rattle.linear_systems.specs.Rows.{Alike}
 use Rattle.linear_systems.proofs.LexRow.{below_cases}
 use Rattle.sequence_forms.specs.Matrices.{right_side}
 use Rattle.sequence_forms.specs.Sides.{Side, sequences}
-use Rattle.linear_programs.specs.Programs.{columns_of, constraints, objective_cell, program_of}
+use Rattle.zero_sum_lp.specs.Programs.{columns_of, constraints, objective_cell, program_of}
 use Rattle.linear_systems.proofs.Agreement.{alike_distinct}
-use Rattle.linear_programs.proofs.Programs.{basic_is, basic_last, distinct}
+use Rattle.zero_sum_lp.proofs.Programs.{basic_is, basic_last, distinct}
 use Rattle.lex_tableau.specs.Starts.{parts_of, system_of, IsSystem}
 use Rattle.sequence_data.specs.Data.{SideData, side_of}
 use Rattle.lex_tableau.specs.Entries.{AreEntries, AreNumbered}

@@ -7,10 +7,10 @@ use Rattle.sequence_forms.specs.Sides.{Side, first, sequences, IsOrderedSide}
 use Rattle.sequence_forms.specs.Prices.{IsValueProof}
 use Rattle.sequence_forms.proofs.Ends.{values_on_trees, values_on_tables}
 use Rattle.sequence_forms.proofs.Sides.{sequence_below}
-use Rattle.linear_programs.specs.Paths.{IsAfter, IsOptimal}
-use Rattle.linear_programs.specs.Plans.{IsLesser, IsRaised, IsCut}
-use Rattle.linear_programs.specs.Programs.{price_one, price_two, raw_one, raw_two}
-use Rattle.linear_programs.proofs.Ends.{value_proved}
+use Rattle.zero_sum_lp.specs.Paths.{IsAfter, IsOptimal}
+use Rattle.zero_sum_lp.specs.Plans.{IsLesser, IsRaised, IsCut}
+use Rattle.zero_sum_lp.specs.Programs.{price_one, price_two, raw_one, raw_two}
+use Rattle.zero_sum_lp.proofs.Ends.{value_proved}
 use Rattle.lex_tableau.specs.Rows.{tableau}
 use Rattle.sequence_data.specs.Data.{side_of}
 use Rattle.sequence_data.specs.Weights.{weight}

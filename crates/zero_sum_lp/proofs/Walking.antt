@@ -5,8 +5,8 @@ use Rattle.rational.proofs.Field.{not_lt_of_le}
 use Rattle.linear_systems.specs.Tableau.{Tableau}
 use Rattle.linear_systems.specs.Rows.{coefficient, key, IsLexicographicRow}
 use Rattle.linear_systems.proofs.Lex.{lex_same}
-use Rattle.linear_programs.specs.Paths.{IsEntering, IsOptimal, IsAfter}
-use Rattle.linear_programs.proofs.Determined.{after_on_path, after_leaves, path_is_short}
+use Rattle.zero_sum_lp.specs.Paths.{IsEntering, IsOptimal, IsAfter}
+use Rattle.zero_sum_lp.proofs.Determined.{after_on_path, after_leaves, path_is_short}
 use Rattle.frac128.specs.declared.steps.Unfit.{Unfit}
 use Rattle.lex_tableau.specs.Rows.{Numbers, tableau}
 use Rattle.lex_tableau.specs.Ratio.{listed}

@@ -1,9 +1,14 @@
 pub mod Ends
 pub mod FormPrograms
 pub mod Parts
+pub mod PathLaws
+pub mod Paths
 pub mod PlanPairs
 pub mod PlanSteps
 pub mod PlanStops
+pub mod Plans
+pub mod ProgramLaws
+pub mod Programs
 pub mod Steps
 pub mod Systems
 pub mod ValueLaws

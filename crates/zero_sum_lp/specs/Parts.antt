@@ -4,7 +4,7 @@ use Rattle.rational.specs.Rational.{ℚ}
 use Rattle.linear_systems.specs.Rows.{Alike}
 use Rattle.sequence_forms.specs.Sides.{Side}
 use Rattle.sequence_data.specs.Data.{SideData, side_of, IsSideData}
-use Rattle.linear_programs.specs.Programs.{constraints, columns_of, program_of, IsProgramOf, price_one, price_two, raw_one, raw_two}
+use Rattle.zero_sum_lp.specs.Programs.{constraints, columns_of, program_of, IsProgramOf, price_one, price_two, raw_one, raw_two}
 use Rattle.lex_tableau.specs.Rows.{Numbers, IsTableau, tableau}
 use Rattle.lex_tableau.specs.Starts.{Parts, system_of}
 use Rattle.zero_sum_lp.specs.Steps.{linear_program, EndsPath}

@@ -8,7 +8,7 @@ use Rattle.frac128.specs.declared.steps.Op.TheVariants.{Add, Sub}
 use Rattle.sequence_forms.specs.Sides.{Side, first}
 use Rattle.sequence_data.specs.Data.{SideData, side_of}
 use Rattle.sequence_data.specs.Weights.{weight}
-use Rattle.linear_programs.specs.Plans.{IsLesser}
+use Rattle.zero_sum_lp.specs.Plans.{IsLesser}
 
 -- ---- sets
 -- what the raw weights x of set j's actions leave of the weight that the plan z has before it

@@ -3,7 +3,7 @@ use Rattle.std.specs.Prelude.{ℕ, ◌≡◌, ◌+◌, ◌*◌, List, get_or}
 use Rattle.rational.specs.Rational.{ℚ, zero_ℚ}
 use Rattle.linear_systems.specs.Rows.{Alike}
 use Rattle.linear_systems.specs.Tableau.{Tableau}
-use Rattle.linear_programs.specs.Programs.{constraints, program_of, reply_cell}
+use Rattle.zero_sum_lp.specs.Programs.{constraints, program_of, reply_cell}
 use Rattle.lex_tableau.specs.Starts.{Parts, system_of, IsSystem}
 use Rattle.sequence_data.specs.Data.{SideData, side_of}
 use Rattle.sequence_forms.specs.Sides.{sequences}

@@ -3,14 +3,14 @@ use Rattle.sequence_data.specs.Data.{FormData, IsFormData, form, side_of}
 use Rattle.std.specs.Prelude.{ℕ, ◌<◌, ◌≡◌, [], ◌∷◌, Ok}
 use Rattle.rational.specs.Rational.{ℚ, ◌+ℚ◌, zero_ℚ, ◌≤ℚ◌}
 use Rattle.game_theory.specs.Profiles.{Game}
-use Rattle.game_trees.specs.Trees.{Tree}
+use Rattle.game_theory.specs.Trees.{Tree}
 use Rattle.sequence_forms.specs.Alike.{FormsAlike}
 use Rattle.sequence_forms.specs.Forms.{SequenceForm, form_of, form_of_table, HasTwoWhoRecall, LeavesSumTo}
 use Rattle.sequence_forms.specs.PriceLaws.{ProvesValueOfTree}
 use Rattle.sequence_forms.specs.Prices.{gains, HasConstantSum, IsValueProof}
 use Rattle.sequence_forms.specs.Sides.{sequences}
 use Rattle.sequence_forms.specs.TableLaws.{ProvesValueOfTable}
-use Rattle.linear_programs.specs.Programs.{IsProgramOf}
+use Rattle.zero_sum_lp.specs.Programs.{IsProgramOf}
 use Rattle.zero_sum_lp.specs.Parts.{Program, IsProgram, IsOptimumOf, first_prices, second_prices}
 use Rattle.sequence_data.specs.Weights.{weight}
 use Rattle.zero_sum_lp.specs.FormPrograms.{program_in}

@@ -1,7 +1,7 @@
 // The second player's plan out of raw weights.
 ghost use Rattle.sequence_data.specs.Data.{IsSideData, side_of};
 ghost use Rattle.std.specs.Prelude.{◌≡◌, ◌+◌, ◌<◌, ◌≤◌, ℕ, length, IfErr, OnOk};
-ghost use Rattle.linear_programs.specs.Plans.{IsLesser};
+ghost use Rattle.zero_sum_lp.specs.Plans.{IsLesser};
 ghost use Rattle.sequence_forms.specs.Sides.{sequences};
 ghost use Rattle.sequence_data.specs.Weights.{weight};
 ghost use Rattle.zero_sum_lp.specs.PlanSteps.{FailsToShare, IsCutPlan, IsUnfitCut, SharesOut};

@@ -1,6 +1,6 @@
 // The system of a form's program.
 ghost use Rattle.std.specs.Prelude.{◌≡◌, ◌+◌, ◌*◌, ◌<◌, ◌≤◌, ◌^◌, ℕ, suc, length, get_or, IfOk};
-ghost use Rattle.linear_programs.specs.Programs.{columns_of, constraints, objective_cell, plan_cell};
+ghost use Rattle.zero_sum_lp.specs.Programs.{columns_of, constraints, objective_cell, plan_cell};
 ghost use Rattle.sequence_data.specs.Data.{IsSideData, side_of};
 ghost use Rattle.sequence_forms.specs.Sides.{sequences};
 ghost use Rattle.zero_sum_lp.specs.Parts.{program_size};

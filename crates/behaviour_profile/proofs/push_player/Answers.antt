@@ -1,8 +1,8 @@
 use Rattle.std.proofs.Common.{◌++◌, ◌<◌, ◌≡◌, ◌∙◌, Some, sym, ap, ap₂, length, slice_get, arith}
-use Rattle.game_trees.specs.OwnSets.{own_sets}
+use Rattle.game_theory.specs.OwnSets.{own_sets}
 use Rattle.game_theory.specs.Mixed.{sure}
 use Rattle.game_theory.specs.Lines.{listed}
-use Rattle.game_trees.specs.Behaviour.{pure}
+use Rattle.game_theory.specs.Behaviour.{pure}
 use Rattle.game_core.specs.TreeGame.{game_of_tree}
 use Rattle.behaviour_profile.specs.FirstActions.{first_for_none}
 use Rattle.behaviour_profile.proofs.BehaviourEntries.{place-below_sets, own_set-below, place-found, actions-counted, first_for_none-place, entries_at-push}

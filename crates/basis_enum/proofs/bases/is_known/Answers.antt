@@ -1,4 +1,4 @@
-use Rattle.basis_levels.proofs.Neighbours.{place_of}
+use Rattle.basis_enum.proofs.Neighbours.{place_of}
 use Rattle.basis_enum.proofs.Search.{missed_at}
 use Rattle.basis_enum.proofs.bases.is_known.Goals as goal
 

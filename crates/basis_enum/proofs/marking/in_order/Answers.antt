@@ -1,7 +1,7 @@
 use Rattle.std.proofs.Common.{rules}
 use Rattle.std.proofs.lemmas.Fn.{dedup_same}
 use Rattle.std.proofs.lemmas.List.Sorted.{IsNonDecreasingBy-from_sort_by_key}
-use Rattle.extreme_points.specs.Vertices.{mask_of}
+use Rattle.linear_systems.specs.Vertices.{mask_of}
 use Rattle.basis_enum.specs.Vertices.{mark_of}
 use Rattle.basis_enum.proofs.Orders.{is_tie}
 use Rattle.basis_enum.proofs.VertexMarks.{marks_in_order}

@@ -2,7 +2,7 @@ use Rattle.std.proofs.Common.{◌<◌, ◌≢◌, suc, ◌^◌, ◌-◌, ◌+◌
 use Rattle.std.specs.Int.{bit_not, w128}
 use Rattle.rational.specs.Rational.{zero_ℚ}
 use Rattle.lex_tableau.specs.Rows.{tableau as fractions_of}
-use Rattle.extreme_points.specs.Vertices.{IsZeroWord}
+use Rattle.linear_systems.specs.Vertices.{IsZeroWord}
 use Rattle.basis_enum.proofs.Masks.{solution_to, zeros_of_none, zeros_kept, zeros_cleared}
 use Rattle.basis_enum.proofs.marking.mask.Goals as goal
 use Rattle.basis_enum.proofs.marking.mask.Goals.{then-not-is_zero, else-not-is_zero}

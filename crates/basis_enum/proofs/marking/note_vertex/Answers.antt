@@ -2,8 +2,8 @@ use Rattle.std.proofs.Common.{suc, ◌≡◌, ◌+◌, length, List, ℕ, ◌≢
 use Rattle.std.specs.List.{All, Any}
 use Rattle.rational.specs.Rational.{zero_ℚ}
 use Rattle.lex_tableau.specs.Rows.{tableau as fractions_of}
-use Rattle.extreme_points.specs.Points.{basic_solution}
-use Rattle.extreme_points.specs.Vertices.{IsZeroWord}
+use Rattle.linear_systems.specs.Points.{basic_solution}
+use Rattle.linear_systems.specs.Vertices.{IsZeroWord}
 use Rattle.basis_enum.specs.Marks.{IsNoted}
 use Rattle.basis_enum.specs.Vertices.{marks_of}
 use Rattle.basis_enum.proofs.VertexMarks.{mark_added, mark_left_out}

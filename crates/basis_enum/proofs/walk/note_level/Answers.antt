@@ -1,7 +1,7 @@
 use Rattle.std.proofs.Common.{◌∙◌, sym, subst}
 use Rattle.std.proofs.lemmas.List.{get_or_default}
-use Rattle.basis_levels.specs.Levels.{no_tableau}
-use Rattle.basis_levels.specs.Systems.{variable_count}
+use Rattle.basis_enum.specs.Levels.{no_tableau}
+use Rattle.basis_enum.specs.Systems.{variable_count}
 use Rattle.basis_enum.specs.Marks.{AreUpTo}
 use Rattle.basis_enum.specs.Vertices.{marks_of}
 use Rattle.basis_enum.proofs.Walks.{marks_next}

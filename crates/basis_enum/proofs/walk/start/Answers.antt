@@ -1,5 +1,5 @@
 use Rattle.std.proofs.Common.{◌∙◌, ◌++◌, ◌∷◌, [], ap, sym, subst}
-use Rattle.basis_levels.specs.Bases.{AreVariables, basis_of}
+use Rattle.basis_enum.specs.Bases.{AreVariables, basis_of}
 use Rattle.basis_enum.specs.Marks.{IsNoted}
 use Rattle.basis_enum.specs.Vertices.{marks_of}
 use Rattle.basis_enum.proofs.VertexMarks.{no_marks, marks_more}

@@ -1,6 +1,6 @@
 use Rattle.std.proofs.Common.{◌≡◌}
-use Rattle.game_trees.specs.TreeEntries.{entries_from}
-use Rattle.game_trees.specs.Behaviour.{pure}
+use Rattle.game_theory.specs.TreeEntries.{entries_from}
+use Rattle.game_theory.specs.Behaviour.{pure}
 use Rattle.game_core.specs.TreeGame.{game_of_tree}
 use Rattle.reduced_strategies.specs.StrategicForm.{completed}
 use Rattle.behaviour_profile.proofs.Behaviour.from_reduced.Given as goal

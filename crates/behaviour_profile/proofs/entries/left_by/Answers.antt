@@ -3,7 +3,7 @@ use Rattle.std.specs.Prelude.{sum}
 use Rattle.std.proofs.lemmas.List.{length-map}
 use Rattle.game_core.specs.Tree.{InformationSet}
 use Rattle.game_core.specs.TreeGame.{game_of_tree}
-use Rattle.game_trees.specs.OwnSets.{own_sets}
+use Rattle.game_theory.specs.OwnSets.{own_sets}
 use Rattle.behaviour_profile.specs.EntryTests.{own_counts}
 use Rattle.behaviour_profile.proofs.BehaviourEntries.{place-below_sets}
 use Rattle.behaviour_profile.proofs.GroupLists.{sum-next, end-within, number-within}

@@ -2,7 +2,7 @@ use Rattle.std.proofs.Common.{◌∙◌, List, length, arith, ap}
 use Rattle.std.proofs.lemmas.List.{length-map}
 use Rattle.std.proofs.lemmas.Result.{err_from_is_err_and}
 use Rattle.game_core.specs.TreeGame.{game_of_tree}
-use Rattle.game_trees.specs.OwnSets.{own_sets}
+use Rattle.game_theory.specs.OwnSets.{own_sets}
 use Rattle.sequence_data.specs.Data.{SideData}
 use Rattle.sequence_data.specs.declared.types.SetRow.{SetRow}
 use Rattle.sequence_form.specs.Sequences.{set_row}

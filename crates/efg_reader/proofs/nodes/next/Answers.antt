@@ -1,11 +1,11 @@
 use Rattle.std.proofs.Common.{◌≡◌, suc, ◌≤◌, List, ℕ, Option, length, sym, subst, Ok, arith}
 use Rattle.std.proofs.lemmas.List.{length-map}
-use Rattle.game_tokens.specs.declared.token.Token.{Token}
+use Rattle.game_core.specs.declared.token.Token.{Token}
 use Rattle.file_parts.specs.Reading.{kinds}
 use Rattle.written_trees.specs.Building.{BegunOutcome}
-use Rattle.tree_uses.specs.Uses.{begun_sets, begun_outcomes, AreSets, AreOutcomes}
+use Rattle.efg_reader.specs.Uses.{begun_sets, begun_outcomes, AreSets, AreOutcomes}
 use Rattle.efg_reader.specs.States.{begun_of}
-use Rattle.tree_files.specs.TreeParsing.{Choice, parse_choice}
+use Rattle.efg_reader.specs.TreeParsing.{Choice, parse_choice}
 use Rattle.efg_reader.proofs.NextSteps.{may_come, choice_refused, outcome_refused, node_added, few_sets_more, few_outcomes_more}
 use Rattle.efg_reader.proofs.ShortRests.{choice_leaves}
 use Rattle.efg_reader.proofs.nodes.next.Goals as goal

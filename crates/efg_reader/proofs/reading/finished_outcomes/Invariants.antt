@@ -1,6 +1,6 @@
 use Rattle.std.proofs.Common.{◌≡◌, map}
 use Rattle.written_trees.specs.Building.{finished_outcome}
-use Rattle.tree_uses.specs.Uses.{begun_outcome}
+use Rattle.efg_reader.specs.Uses.{begun_outcome}
 use Rattle.efg_reader.proofs.reading.finished_outcomes.Given as goal
 
 abbrev pub invariant-loop-outcome : goal.invariant-loop-outcome

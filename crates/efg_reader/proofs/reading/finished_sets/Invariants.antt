@@ -1,6 +1,6 @@
 use Rattle.std.proofs.Common.{◌≡◌, map}
 use Rattle.written_trees.specs.Building.{finished_set}
-use Rattle.tree_uses.specs.Uses.{begun_set}
+use Rattle.efg_reader.specs.Uses.{begun_set}
 use Rattle.efg_reader.proofs.reading.finished_sets.Given as goal
 
 abbrev pub invariant-loop-set : goal.invariant-loop-set

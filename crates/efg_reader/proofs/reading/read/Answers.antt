@@ -1,12 +1,12 @@
 use Rattle.std.proofs.Common.{◌≡◌, ◌<◌, ◌^◌, List, length, ◌∙◌, Ok, arith}
 use Rattle.file_parts.specs.Reading.{kinds}
 use Rattle.efg_reader.specs.States.{begun_of}
-use Rattle.tree_files.specs.TreeReading.{Head}
-use Rattle.tree_files.specs.TreeParsing.{parse_head}
+use Rattle.efg_reader.specs.TreeReading.{Head}
+use Rattle.efg_reader.specs.TreeParsing.{parse_head}
 use Rattle.efg_reader.proofs.FileStops.{all_short, few_of, front_stop, made_tree, nodes_stop, read_file, read_tree}
 use Rattle.efg_reader.proofs.ShortRests.{head_leaves}
 use Rattle.efg_reader.proofs.reading.read.Goals as goal
-use Rattle.game_tokens.specs.declared.token.Token.{Token}
+use Rattle.game_core.specs.declared.token.Token.{Token}
 
 pub returns-in-Err : goal.returns-in-Err
 returns-in-Err c =

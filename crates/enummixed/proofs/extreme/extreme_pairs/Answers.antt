@@ -4,7 +4,7 @@ use Rattle.answers.specs.Answers.{Gives, only, refused_by}
 use Rattle.answers.proofs.Answers.{gives_exit, gives_told_exit}
 use Rattle.game_core.specs.Table.{game_of}
 use Rattle.pure_payoffs.specs.FirstUnfit.{Fits}
-use Rattle.basis_levels.specs.Systems.{variable_count}
+use Rattle.basis_enum.specs.Systems.{variable_count}
 use Rattle.basis_enum.specs.Vertices.{mark_of, marks_of, list_of}
 use Rattle.basis_enum.specs.Enumeration.{vertices_in}
 use Rattle.lex_tableau.specs.Starts.{system_of}

@@ -5,7 +5,7 @@ use Rattle.std.proofs.lemmas.List.Sorted.{length_permutation}
 use Rattle.std.specs.Ordering.{is_lt}
 use Rattle.rational.specs.Rational.{ℚ}
 use Rattle.game_core.specs.Table.{game_of}
-use Rattle.reduced_form.proofs.TableSizes.{names-counted}
+use Rattle.game_core.proofs.TableCounts.{strategy_count-names}
 use Rattle.reduced_form.proofs.Eliminations.{kept-all}
 use Rattle.enummixed.specs.Order.{pair_order}
 use Rattle.enummixed.specs.ExtremeText.{IsExtremeEquilibriaText}
@@ -17,7 +17,7 @@ use Rattle.enummixed.proofs.listing.spread_text.Goals as goal
 
 pub spread_points-requires-clause-within : goal.spread_points-requires-clause-within
 spread_points-requires-clause-within c =
-    subst (λ n. All (λ s. s < n) c.first.result.now) (sym (names-counted c.args.table.now 0 c.strategies.result.now c.strategies.ensures.strategies))
+    subst (λ n. All (λ s. s < n) c.first.result.now) (strategy_count-names c.args.table.now 0 c.strategies.result.now c.strategies.ensures.strategies)
     (kept-all c.args.table.now 0 c.args.kept.now.first c.first.result.now (c.requires.kept.are_kept.are_kept 0 (omega arith)) c.first.ensures)
 
 pub spread_points-requires-2-clause-ascending : goal.spread_points-requires-2-clause-ascending
@@ -26,7 +26,7 @@ spread_points-requires-2-clause-ascending c =
 
 pub spread_points-requires-2-clause-within : goal.spread_points-requires-2-clause-within
 spread_points-requires-2-clause-within c =
-    subst (λ n. All (λ s. s < n) c.second.result.now) (sym (names-counted c.args.table.now 1 c.strategies-2.result.now c.strategies-2.ensures.strategies))
+    subst (λ n. All (λ s. s < n) c.second.result.now) (strategy_count-names c.args.table.now 1 c.strategies-2.result.now c.strategies-2.ensures.strategies)
     (kept-all c.args.table.now 1 c.args.kept.now.second c.second.result.now (c.requires.kept.are_kept.are_kept 1 (omega arith)) c.second.ensures)
 
 pub returns : goal.returns

@@ -1,5 +1,5 @@
-use Rattle.tree_lines.specs.TreeEquilibria.{IsTreeEquilibriaText}
-use Rattle.tree_lines.proofs.EquilibriumLines.{text-determined}
+use Rattle.enumpure_trees.specs.TreeEquilibria.{IsTreeEquilibriaText}
+use Rattle.enumpure_trees.proofs.EquilibriumLines.{text-determined}
 use Rattle.enumpure.proofs.Texts.{within_text_limit-single}
 use Rattle.enumpure_trees.proofs.listing.behaviour_texts_are_single.Goals as goal
 

@@ -7,8 +7,8 @@ use Rattle.game_theory.specs.Lines.{lines_text}
 use Rattle.game_core.specs.Table.{game_of}
 use Rattle.game_core.specs.TreeGame.{game_of_tree}
 use Rattle.enumpure.specs.Replies.{flag, AreStable}
-use Rattle.tree_lines.specs.Orders.{AreOrders}
-use Rattle.tree_lines.specs.Ranks.{lines_below}
+use Rattle.enumpure_trees.specs.Orders.{AreOrders}
+use Rattle.enumpure_trees.specs.Ranks.{lines_below}
 use Rattle.enumpure_trees.proofs.FormSizes.{IsProfile-first}
 use Rattle.enumpure_trees.proofs.SortedOrders.{AreOrders-sorted}
 use Rattle.enumpure_trees.proofs.Texts.{AreListed-made, length-flags, IsTreeEquilibriaText-listed, length-listed, above_limit, below_limit}

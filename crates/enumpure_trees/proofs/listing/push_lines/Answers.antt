@@ -3,8 +3,8 @@ use Rattle.game_theory.specs.Profiles.{profile_count, number_of}
 use Rattle.game_theory.specs.Lines.{line_text}
 use Rattle.game_core.specs.TreeGame.{game_of_tree}
 use Rattle.enumpure.specs.Replies.{flag}
-use Rattle.tree_lines.specs.Ranks.{rank_line, rank_flag}
-use Rattle.tree_lines.specs.TreeEquilibria.{profile_line}
+use Rattle.enumpure_trees.specs.Ranks.{rank_line, rank_flag}
+use Rattle.enumpure_trees.specs.TreeEquilibria.{profile_line}
 use Rattle.enumpure_trees.proofs.FlagCounts.{text-none, text-push, text-skip}
 use Rattle.enumpure_trees.proofs.SortedOrders.{orders-counts, IsRanked-ordered}
 use Rattle.enumpure_trees.proofs.listing.push_lines.Goals as goal

@@ -2,7 +2,7 @@ use Rattle.std.proofs.Common.{◌≡◌, ◌++◌, map}
 use Rattle.game_theory.specs.Lines.{lines_text}
 use Rattle.game_core.specs.TreeGame.{game_of_tree}
 use Rattle.enumpure.specs.Replies.{flag}
-use Rattle.tree_lines.specs.Ranks.{lines_below}
+use Rattle.enumpure_trees.specs.Ranks.{lines_below}
 use Rattle.enumpure_trees.proofs.listing.push_lines.Given as goal
 
 abbrev pub invariant-loop-rank : goal.invariant-loop-rank

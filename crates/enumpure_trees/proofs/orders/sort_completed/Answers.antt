@@ -4,7 +4,7 @@ use Rattle.std.specs.Ordering.{nat_cmp}
 use Rattle.std.proofs.lemmas.Cmp.{nat_list_cmp_total}
 use Rattle.std.proofs.lemmas.Fn.{always_returns_same}
 use Rattle.std.proofs.lemmas.List.Sorted.{ranks_by}
-use Rattle.tree_lines.specs.Orders.{completed_list}
+use Rattle.enumpure_trees.specs.Orders.{completed_list}
 use Rattle.enumpure_trees.proofs.orders.sort_completed.Goals as goal
 
 pub returns-clause-sorted : goal.returns-clause-sorted

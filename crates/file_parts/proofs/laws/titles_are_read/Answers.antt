@@ -1,7 +1,7 @@
 use Rattle.std.proofs.Common.{sym, ◌∙◌, ap, subst, refl, List, [], ◌∷◌, ◌++◌, ◌≡◌}
 use Rattle.std.specs.Prelude.{Ok}
-use Rattle.game_tokens.specs.declared.token.Token.{Token}
-use Rattle.game_tokens.specs.declared.token.Token.TheVariants.{Text, Word}
+use Rattle.game_core.specs.declared.token.Token.{Token}
+use Rattle.game_core.specs.declared.token.Token.TheVariants.{Text, Word}
 use Rattle.file_parts.specs.Parts.{whole_number}
 use Rattle.file_parts.specs.Parsing.{parse_title}
 use Rattle.file_parts.proofs.HeaderLaws.{title_is, title_again}

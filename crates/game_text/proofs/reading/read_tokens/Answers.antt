@@ -1,5 +1,5 @@
 use Rattle.std.proofs.Common.{◌≡◌, ◌-◌, ◌∷◌, [], ◌++◌, length, refl, arith}
-use Rattle.game_tokens.specs.declared.token.Spanned.{Spanned}
+use Rattle.game_core.specs.declared.token.Spanned.{Spanned}
 use Rattle.game_text.proofs.Runs.{drop_blanks}
 use Rattle.game_text.proofs.Steps.{IsRead, blanks_before, blanks_shorten, shorter, read_tokens, read_places}
 use Rattle.game_text.proofs.reading.read_tokens.Goals as goal

@@ -1,6 +1,6 @@
 use Rattle.std.proofs.Common.{◌-◌, ◌≤◌, length}
 use Rattle.game_text.specs.Tokens.{AreTokensBefore, BeginsWith, IsBlank}
-use Rattle.game_tokens.specs.InPlace.{AreInPlace}
+use Rattle.game_core.specs.InPlace.{AreInPlace}
 use Rattle.game_text.proofs.reading.read_tokens.Given as goal
 
 abbrev pub invariant-loop-rest : goal.invariant-loop-rest

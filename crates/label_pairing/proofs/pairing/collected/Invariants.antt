@@ -1,5 +1,5 @@
 use Rattle.std.proofs.Common.{◌≡◌, List, length}
-use Rattle.extreme_points.specs.Vertices.{MarkedPoint}
+use Rattle.linear_systems.specs.Vertices.{MarkedPoint}
 use Rattle.basis_enum.specs.Vertices.{marks_of}
 use Rattle.label_pairing.specs.Matches.{AreWords}
 use Rattle.label_pairing.proofs.Rows.{rows}

@@ -1,6 +1,6 @@
 use Rattle.std.proofs.Common.{◌≡◌, ◌<◌, ℕ, []}
-use Rattle.game_trees.specs.Behaviour.{Behaviour}
-use Rattle.game_trees.specs.TreeEntries.{tree_entries}
+use Rattle.game_theory.specs.Behaviour.{Behaviour}
+use Rattle.game_theory.specs.TreeEntries.{tree_entries}
 use Rattle.game_core.specs.TreeGame.{game_of_tree}
 use Rattle.ne_checker.specs.TreeScratches.{IsScratchOf, reply_of}
 use Rattle.ne_checker.specs.TreeVerdicts.{HasNoBetter}

@@ -1,5 +1,5 @@
 use Rattle.std.proofs.Common.{◌≡◌, ◌≤◌, [], length, map, get_or, take}
-use Rattle.game_trees.specs.OwnSets.{own_below}
+use Rattle.game_theory.specs.OwnSets.{own_below}
 use Rattle.game_core.specs.TreeGame.{game_of_tree}
 use Rattle.ne_checker.proofs.trees_player.write_reply.Given as goal
 

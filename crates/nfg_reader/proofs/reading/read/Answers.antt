@@ -1,6 +1,6 @@
 use Rattle.std.proofs.Common.{inr, ◌≡◌, ◌*◌, ◌<◌, ◌≤◌, Ok, List, length, refl, arith}
 use Rattle.game_core.specs.Table.{most_payoffs}
-use Rattle.game_tokens.specs.declared.token.Token.{Token}
+use Rattle.game_core.specs.declared.token.Token.{Token}
 use Rattle.file_parts.specs.Reading.{kinds}
 use Rattle.nfg_reader.specs.TableReading.{FrontPart, front_of, profiles}
 use Rattle.nfg_reader.specs.TableParsing.{parse_front}

@@ -1,5 +1,5 @@
 use Rattle.std.proofs.Common.{◌<◌, length}
-use Rattle.game_trees.specs.Trees.{IsWithin}
+use Rattle.game_theory.specs.Trees.{IsWithin}
 use Rattle.game_core.specs.TreeGame.{game_of_tree}
 use Rattle.perfect_recall.specs.LastSteps.{AreLast}
 use Rattle.perfect_recall.proofs.paths.go_up.Given as goal

@@ -1,6 +1,6 @@
 use Rattle.std.proofs.Common.{◌≡◌, ◌+◌, ◌-◌, ap, subst, sym, length, arith}
 use Rattle.std.proofs.lemmas.List.{length_push}
-use Rattle.game_trees.specs.Trees.{IsWithin}
+use Rattle.game_theory.specs.Trees.{IsWithin}
 use Rattle.game_core.specs.TreeGame.{game_of_tree}
 use Rattle.perfect_recall.specs.LastSteps.{AreLast, AreSteps, IsStepBefore}
 use Rattle.perfect_recall.proofs.LastSteps.{AreSteps-push}

@@ -1,7 +1,7 @@
 use Rattle.std.proofs.Common.{ℕ, ◌*◌, ◌<◌, ◌≤◌, ◌≡◌, List, length, map, All, sym, ap, ◌∙◌, subst, arith}
 use Rattle.std.proofs.lemmas.List.{length-map}
 use Rattle.game_theory.specs.Profiles.{profile_count}
-use Rattle.game_trees.specs.Trees.{Tree, IsTree}
+use Rattle.game_theory.specs.Trees.{Tree, IsTree}
 use Rattle.reduced_strategies.specs.StrategicForm.{AreStrategies}
 use Rattle.game_core.specs.Table.{most_payoffs}
 use Rattle.game_core.specs.TreeGame.{game_of_tree}

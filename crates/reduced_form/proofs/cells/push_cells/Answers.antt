@@ -2,7 +2,7 @@ use Rattle.std.proofs.Common.{ℕ, ◌<◌, List, length, map, All, sym, ap, ◌
 use Rattle.std.proofs.lemmas.List.{length_push}
 use Rattle.game_theory.specs.Profiles.{IsProfile}
 use Rattle.game_theory.proofs.ProfileNumbers.{IsProfile-profile_at}
-use Rattle.game_trees.specs.Behaviour.{payoff, pure}
+use Rattle.game_theory.specs.Behaviour.{payoff, pure}
 use Rattle.game_core.specs.TreeGame.{game_of_tree}
 use Rattle.reduced_strategies.specs.StrategicForm.{completed}
 use Rattle.pure_payoffs.specs.Steps.{StepFits, IsFirstUnfit, payoff_steps}

@@ -3,7 +3,7 @@ use Rattle.std.proofs.lemmas.Bool.{cases_eq}
 use Rattle.dominance.specs.Elimination.{AreListed, IsKeptAfter}
 use Rattle.game_core.specs.Table.{game_of}
 use Rattle.dominance.proofs.KeptLists.{listed-push, listed-same}
-use Rattle.reduced_form.proofs.TableSizes.{names-counted}
+use Rattle.game_core.proofs.TableCounts.{strategy_count-names}
 use Rattle.reduced_form.proofs.Eliminations.{none-listed}
 use Rattle.reduced_form.proofs.elimination.all_strategies.Goals as goal
 
@@ -12,7 +12,7 @@ loop-strategy-init c = none-listed c.in_ok-all.all.items (c.in_ok-all.ensures {u
 
 pub overflow_cast-strategy : goal.overflow_cast-strategy
 overflow_cast-strategy c =
-    omega (arith, c.requires.few, names-counted c.args.table.now c.args.player c.strategies-count.result.now c.strategies-count.ensures.strategies)
+    omega (arith, c.requires.few, strategy_count-names c.args.table.now c.args.player c.strategies-count.result.now c.strategies-count.ensures.strategies)
 
 pub loop-strategy-preserved : goal.loop-strategy-preserved
 loop-strategy-preserved c =
@@ -23,5 +23,5 @@ loop-strategy-preserved c =
 pub returns : goal.returns
 returns c =
     let n = c.loop-strategy.strategy in
-    let e = sym (names-counted c.args.table.now c.args.player c.strategies-count.result.now c.strategies-count.ensures.strategies) in
+    let e = strategy_count-names c.args.table.now c.args.player c.strategies-count.result.now c.strategies-count.ensures.strategies in
     listed-same (λ s. s < n) (IsKeptAfter (game_of c.args.table.now) 0 c.args.player) c.loop-strategy.all.items c.loop-strategy.invariant (λ s l. omega arith) (λ s l. omega arith)

@@ -4,7 +4,7 @@ use Rattle.rational.specs.Rational.{zero_ℚ}
 use Rattle.dominance.specs.KeptTable.{kept_table}
 use Rattle.game_core.specs.Table.{GameTable, IsTable, game_of}
 use Rattle.reduced_form.specs.Kept.{IsKeptForm}
-use Rattle.reduced_form.proofs.TableSizes.{names-counted}
+use Rattle.game_core.proofs.TableCounts.{strategy_count-names}
 use Rattle.reduced_form.proofs.Exact.{tables-same}
 use Rattle.reduced_form.proofs.Eliminations.{kept-all}
 use Rattle.reduced_form.proofs.KeptForms.{made_table, made-is_table, made-is_form, names-two, few-kept, two-of_players}
@@ -13,11 +13,11 @@ use Rattle.reduced_form.proofs.kept.kept_form.Goals.{In_ok-push-2}
 
 pub names_at-requires : goal.names_at-requires
 names_at-requires c =
-    subst (λ n. All (λ s. s < n) c.deref.result.now) (sym (names-counted c.args.table.now 0 c.strategies.result.now c.strategies.ensures.strategies)) (kept-all c.args.table.now 0 c.args.first.items c.deref.result.now (c.requires.kept.are_kept 0 (omega arith)) c.deref.ensures.value)
+    subst (λ n. All (λ s. s < n) c.deref.result.now) (strategy_count-names c.args.table.now 0 c.strategies.result.now c.strategies.ensures.strategies) (kept-all c.args.table.now 0 c.args.first.items c.deref.result.now (c.requires.kept.are_kept 0 (omega arith)) c.deref.ensures.value)
 
 pub names_at-requires-2 : goal.names_at-requires-2
 names_at-requires-2 c =
-    subst (λ n. All (λ s. s < n) c.deref-2.result.now) (sym (names-counted c.args.table.now 1 c.strategies-2.result.now c.strategies-2.ensures.strategies)) (kept-all c.args.table.now 1 c.args.second.items c.deref-2.result.now (c.requires.kept.are_kept 1 (omega arith)) c.deref-2.ensures.value)
+    subst (λ n. All (λ s. s < n) c.deref-2.result.now) (strategy_count-names c.args.table.now 1 c.strategies-2.result.now c.strategies-2.ensures.strategies) (kept-all c.args.table.now 1 c.args.second.items c.deref-2.result.now (c.requires.kept.are_kept 1 (omega arith)) c.deref-2.ensures.value)
 
 pub payoffs_at-requires-clause-first : goal.payoffs_at-requires-clause-first
 payoffs_at-requires-clause-first c =

@@ -1,14 +1,15 @@
 use Rattle.std.proofs.Common.{◌≡◌, ◌∙◌, ◌∷◌, [], length, ap, ap₂, sym, arith}
 use Rattle.game_core.specs.Table.{strategy_counts}
 use Rattle.game_core.proofs.TableCounts.{length-strategy_counts}
-use Rattle.reduced_form.proofs.TableSizes.{counts-two, names-counted, profiles-players}
+use Rattle.lists.proofs.Elements.{two-elements}
+use Rattle.game_core.proofs.TableCounts.{few_players, some_profile, strategy_count-names}
 use Rattle.reduced_form.specs.Kept.{HasFewStrategies}
 use Rattle.reduced_form.proofs.kept.undominated.Goals as goal
 use Rattle.reduced_form.proofs.kept.undominated.Goals.{Else-strategies-gt-MOST_STRATEGIES}
 
 pub overflow_cast-result : goal.overflow_cast-result
 overflow_cast-result c =
-    omega (arith, (profiles-players c.args.table.now c.players-players.ensures.valid).1, ap length c.players-players.ensures.players)
+    omega (arith, few_players c.args.table.now c.players-players.ensures.valid, ap length c.players-players.ensures.players)
 
 -- two players have so many strategies
 few : (c : Else-strategies-gt-MOST_STRATEGIES) → HasFewStrategies c.args.table.now
@@ -18,7 +19,7 @@ few c =
     record {
       m = length c.strategies.result.now;
       n = length c.strategies-2.result.now;
-      strategies = counts-two t two ∙ ap₂ (λ m n. m ∷ n ∷ []) (sym (names-counted t 0 c.strategies.result.now c.strategies.ensures.strategies)) (sym (names-counted t 1 c.strategies-2.result.now c.strategies-2.ensures.strategies));
+      strategies = two-elements (strategy_counts t) two ∙ ap₂ (λ m n. m ∷ n ∷ []) (strategy_count-names t 0 c.strategies.result.now c.strategies.ensures.strategies) (strategy_count-names t 1 c.strategies-2.result.now c.strategies-2.ensures.strategies);
       few = omega (arith, c.if-strategies-gt-MOST_STRATEGIES.false);
     }
 

@@ -2,12 +2,13 @@ use Rattle.std.proofs.Common.{◌≡◌, ◌∙◌, ◌<◌, inl, inr, length, a
 use Rattle.extreme_equilibria.specs.Systems.{first_system, second_system}
 use Rattle.reply_polytope.specs.Polytopes.{IsRatedSystem}
 use Rattle.reply_polytope.specs.Shapes.{cell_in}
-use Rattle.reply_polytope.proofs.Tables.{few-players, some_profile, profiles-are, polytopes-are, second_stop}
+use Rattle.game_core.proofs.TableCounts.{few_players, some_profile}
+use Rattle.reply_polytope.proofs.Tables.{profiles-are, polytopes-are, second_stop}
 use Rattle.reply_polytope.proofs.table_systems.polytopes.Goals as goal
 
 pub overflow_cast-result : goal.overflow_cast-result
 overflow_cast-result c =
-    omega (arith, few-players c.args.table.now c.players-players.ensures.valid, ap length c.players-players.ensures.players)
+    omega (arith, few_players c.args.table.now c.players-players.ensures.valid, ap length c.players-players.ensures.players)
 
 pub shifted_payoffs-requires-clause-some : goal.shifted_payoffs-requires-clause-some
 shifted_payoffs-requires-clause-some c =

@@ -1,13 +1,14 @@
 use Rattle.std.proofs.Common.{◌%◌, ◌/◌, ◌∙◌, ap, arith}
 use Rattle.sequence_form.proofs.PathSteps.{same_leaf}
-use Rattle.sequence_form.proofs.TableLeaves.{column-is, count-at, pays-at, row-is}
+use Rattle.game_core.proofs.TableCounts.{strategy_count-names}
+use Rattle.sequence_form.proofs.TableLeaves.{column-is, pays-at, row-is}
 use Rattle.sequence_form.proofs.table.profile_leaf.Goals as goal
 
 pub returns : goal.returns
 returns c =
     let t = c.args.table.now in
     let valid = c.strategies-rows.ensures.valid in
-    let rows = count-at t 0 c.strategies-rows.result.now c.strategies-rows.ensures.strategies in
+    let rows = strategy_count-names t 0 c.strategies-rows.result.now c.strategies-rows.ensures.strategies in
     let row = row-is t valid c.requires.two c.args.number ∙ ap (λ m. c.args.number % m) rows in
     let column = column-is t valid c.requires.two c.args.number c.requires.number ∙ ap (λ m. c.args.number / m) rows in
     let one = pays-at t c.args.number 0 _ c.payoffs-payoffs.result.now c.index-payoffs-number.result valid c.requires.two c.requires.number (omega arith) (omega arith) c.payoffs-payoffs.ensures.payoffs c.index-payoffs-number.is in

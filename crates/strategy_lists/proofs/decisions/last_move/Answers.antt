@@ -1,6 +1,6 @@
 use Rattle.std.proofs.Common.{◌≡◌, ◌<◌, ◌∙◌, Some, sym, ap, length, arith}
 use Rattle.std.proofs.lemmas.Bool.{both_ways}
-use Rattle.game_trees.specs.Recall.{own_history}
+use Rattle.game_theory.specs.Recall.{own_history}
 use Rattle.game_core.specs.TreeGame.{game_of_tree}
 use Rattle.strategy_lists.specs.Made.{mover}
 use Rattle.strategy_lists.proofs.Moves.{mover-is, branch-is, history-past, last-move}

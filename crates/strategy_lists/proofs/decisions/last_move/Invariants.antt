@@ -1,5 +1,5 @@
 use Rattle.std.proofs.Common.{◌≡◌, ◌≤◌}
-use Rattle.game_trees.specs.Recall.{own_history}
+use Rattle.game_theory.specs.Recall.{own_history}
 use Rattle.game_core.specs.TreeGame.{game_of_tree}
 use Rattle.strategy_lists.proofs.decisions.last_move.Given as goal
 

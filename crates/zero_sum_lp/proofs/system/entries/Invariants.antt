@@ -1,4 +1,4 @@
-use Rattle.linear_programs.specs.Programs.{program_of}
+use Rattle.zero_sum_lp.specs.Programs.{program_of}
 use Rattle.sequence_data.specs.Data.{side_of}
 use Rattle.sequence_forms.specs.Sides.{sequences}
 use Rattle.lex_tableau.specs.Entries.{AreEntries}

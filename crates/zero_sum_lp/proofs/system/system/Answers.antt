@@ -2,7 +2,7 @@ use Rattle.std.proofs.Common.{◌≡◌, ◌+◌, ◌∙◌, ap, List, length, s
 use Rattle.sequence_data.specs.Data.{side_of}
 use Rattle.sequence_data.specs.declared.types.SetRow.{SetRow}
 use Rattle.sequence_forms.specs.Sides.{sequences}
-use Rattle.linear_programs.specs.Programs.{columns_of, constraints}
+use Rattle.zero_sum_lp.specs.Programs.{columns_of, constraints}
 use Rattle.zero_sum_lp.specs.Systems.{gain_of, IsSystemFor}
 use Rattle.zero_sum_lp.proofs.Optima.{sets_are}
 use Rattle.zero_sum_lp.proofs.Systems.{system_for}

@@ -1,13 +1,13 @@
 use Rattle.std.proofs.Common.{◌≡◌, All, length, sym, subst, map, arith}
 use Rattle.std.proofs.Math.Seq.{take-append_seam}
 use Rattle.std.specs.Prelude.{MatchResult}
-use Rattle.game_trees.specs.Behaviour.{payoff}
+use Rattle.game_theory.specs.Behaviour.{payoff}
 use Rattle.best_replies.specs.Replies.{reply_value}
 use Rattle.pure_payoffs.specs.Steps.{StepFits, IsFirstUnfit}
 use Rattle.ne_checker.specs.TreeSides.{AreChosen}
 use Rattle.ne_checker.specs.TreeSteps.{player_steps}
 use Rattle.game_core.specs.TreeGame.{game_of_tree}
-use Rattle.game_trees.specs.Children.{AreChildren}
+use Rattle.game_theory.specs.Children.{AreChildren}
 use Rattle.ne_checker.specs.TreeStarts.{AreStarts}
 use Rattle.ne_checker.proofs.TreeStartSteps.{starts-within, starts-read}
 use Rattle.ne_checker.proofs.scratch.Scratch.check.Goals as goal

@@ -1,8 +1,8 @@
 use Rattle.std.proofs.Common.{◌≡◌, ◌+◌, ◌-◌, ◌*◌, All, length}
-use Rattle.game_trees.specs.Children.{child}
+use Rattle.game_theory.specs.Children.{child}
 use Rattle.rational.specs.Rational.{◌*ℚ◌}
 use Rattle.rational.specs.Sum.{sum_to}
-use Rattle.game_trees.specs.Behaviour.{Behaviour, action_probability, value}
+use Rattle.game_theory.specs.Behaviour.{Behaviour, action_probability, value}
 use Rattle.pure_payoffs.specs.Steps.{StepFits, chance_steps}
 use Rattle.ne_checker.specs.TreeBoards.{Reads, game_of}
 use Rattle.ne_checker.specs.TreeSteps.{now_steps_at}

@@ -1,5 +1,5 @@
 use Rattle.std.proofs.Common.{◌≡◌, ◌<◌, ◌∙◌, ap, sym, subst, arith}
-use Rattle.game_trees.specs.Behaviour.{action_probability}
+use Rattle.game_theory.specs.Behaviour.{action_probability}
 use Rattle.ne_checker.specs.TreeBoards.{game_of}
 use Rattle.ne_checker.proofs.TreeWeightSteps.{weight-kept, weight-more, weight-read}
 use Rattle.ne_checker.proofs.trees_board.Board.next_weight.Goals as goal

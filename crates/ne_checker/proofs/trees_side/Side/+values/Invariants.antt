@@ -1,7 +1,7 @@
 use Rattle.std.proofs.Common.{◌≡◌, ◌+◌, ◌-◌, ◌*◌, ℕ, All, length}
 use Rattle.rational.specs.Sum.{sum_to}
-use Rattle.game_trees.specs.Behaviour.{Behaviour}
-use Rattle.game_trees.specs.Children.{child}
+use Rattle.game_theory.specs.Behaviour.{Behaviour}
+use Rattle.game_theory.specs.Children.{child}
 use Rattle.pure_payoffs.specs.Steps.{StepFits}
 use Rattle.ne_checker.specs.TreeSides.{AreDecided, OwnSetsFrom, game_at}
 use Rattle.ne_checker.specs.TreeSteps.{child_value, reply_steps, sum_steps}

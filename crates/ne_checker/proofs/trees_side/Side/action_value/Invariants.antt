@@ -1,5 +1,5 @@
 use Rattle.std.proofs.Common.{◌≡◌, ℕ, suc, length}
-use Rattle.game_trees.specs.Behaviour.{Behaviour}
+use Rattle.game_theory.specs.Behaviour.{Behaviour}
 use Rattle.ne_checker.specs.TreeSides.{AreDecided, game_at}
 use Rattle.ne_checker.proofs.TreeMembers.{AreSummed}
 use Rattle.ne_checker.proofs.trees_side.Side.action_value.Given as goal

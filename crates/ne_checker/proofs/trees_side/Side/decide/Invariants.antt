@@ -1,5 +1,5 @@
 use Rattle.std.proofs.Common.{◌≡◌, ◌<◌, ℕ, suc, length}
-use Rattle.game_trees.specs.Behaviour.{Behaviour}
+use Rattle.game_theory.specs.Behaviour.{Behaviour}
 use Rattle.ne_checker.specs.TreeSides.{AreDecided, game_at}
 use Rattle.ne_checker.proofs.TreeDecisions.{AreWeighed}
 use Rattle.ne_checker.proofs.trees_side.Side.decide.Given as goal

@@ -1,8 +1,8 @@
 use Rattle.std.proofs.Common.{◌≡◌, ◌+◌, ◌-◌, ◌*◌, All, length}
-use Rattle.game_trees.specs.Children.{child}
+use Rattle.game_theory.specs.Children.{child}
 use Rattle.rational.specs.Rational.{◌*ℚ◌}
 use Rattle.rational.specs.Sum.{sum_to}
-use Rattle.game_trees.specs.Behaviour.{pure, value}
+use Rattle.game_theory.specs.Behaviour.{pure, value}
 use Rattle.pure_payoffs.specs.Plays.{choice_of, game_of, steps_at}
 use Rattle.pure_payoffs.specs.Shortcuts.{KeepShortcuts}
 use Rattle.pure_payoffs.specs.Steps.{StepFits, chance_steps}

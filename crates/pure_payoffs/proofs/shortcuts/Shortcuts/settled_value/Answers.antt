@@ -1,7 +1,7 @@
 use Rattle.std.proofs.Common.{ℕ, Option, Some, None, Ok}
 use Rattle.std.specs.Prelude.{IfSome}
 use Rattle.rational.specs.Rational.{ℚ}
-use Rattle.game_trees.specs.Trees.{Tree}
+use Rattle.game_theory.specs.Trees.{Tree}
 use Rattle.pure_payoffs.specs.Plays.{GiveAt, choice_of, game_of}
 use Rattle.pure_payoffs.specs.Settled.{Settles}
 use Rattle.pure_payoffs.proofs.shortcuts.Shortcuts.settled_value.Goals as goal

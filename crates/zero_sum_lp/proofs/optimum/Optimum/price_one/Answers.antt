@@ -1,6 +1,6 @@
 use Rattle.sequence_data.specs.Data.{side_of}
 use Rattle.std.proofs.Common.{sym, ◌≤◌, ◌≡◌, ◌+◌, length, subst}
-use Rattle.linear_programs.specs.Programs.{price_one as first_price}
+use Rattle.zero_sum_lp.specs.Programs.{price_one as first_price}
 use Rattle.lex_tableau.specs.Rows.{tableau}
 use Rattle.zero_sum_lp.specs.Parts.{Program}
 use Rattle.zero_sum_lp.proofs.Optima.{read_row, read_width, read_distinct, read_other, first_price_is, few_sets}

@@ -1,7 +1,7 @@
 use Rattle.sequence_data.specs.Data.{side_of}
 use Rattle.std.proofs.Common.{◌≡◌, subst, ap, List, length}
 use Rattle.sequence_data.specs.declared.types.SetRow.{SetRow}
-use Rattle.linear_programs.specs.Programs.{price_two as second_price}
+use Rattle.zero_sum_lp.specs.Programs.{price_two as second_price}
 use Rattle.lex_tableau.specs.Rows.{tableau}
 use Rattle.zero_sum_lp.specs.Parts.{Program}
 use Rattle.zero_sum_lp.proofs.Optima.{second_price_is, second_variable}

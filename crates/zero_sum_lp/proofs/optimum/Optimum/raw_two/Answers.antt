@@ -1,6 +1,6 @@
 use Rattle.std.proofs.Common.{◌+◌, ap, List, length}
 use Rattle.sequence_data.specs.declared.types.SetRow.{SetRow}
-use Rattle.linear_programs.specs.Programs.{raw_two}
+use Rattle.zero_sum_lp.specs.Programs.{raw_two}
 use Rattle.lex_tableau.specs.Rows.{tableau}
 use Rattle.sequence_data.specs.Data.{side_of}
 use Rattle.zero_sum_lp.proofs.Optima.{read_row, read_width, read_distinct, read_other}

@@ -1,4 +1,4 @@
-use Rattle.linear_programs.specs.Programs.{raw_two}
+use Rattle.zero_sum_lp.specs.Programs.{raw_two}
 use Rattle.lex_tableau.specs.Rows.{tableau}
 use Rattle.sequence_data.specs.Data.{side_of}
 use Rattle.zero_sum_lp.specs.PlanSteps.{AreWeights}

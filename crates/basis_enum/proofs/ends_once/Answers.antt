@@ -1,0 +1,5 @@
+use Rattle.basis_enum.proofs.Once.{ends_once}
+use Rattle.basis_enum.proofs.ends_once.Goals as goal
+
+pub returns : goal.returns
+returns c = ends_once

@@ -1,0 +1,116 @@
+-- The levels of bases: level 0 is the start's basis, and a level's new neighbours are the next
+-- level
+use Rattle.std.specs.Prelude.{ℕ, zero, suc, ◌+◌, ◌<◌, ◌≤◌, ◌≡◌, ◌⊎◌, List, [], ◌∷◌, ◌++◌, length, get_or, map}
+use Rattle.std.specs.List.{Contains}
+use Rattle.std.specs.List.Sorted.{IsStrictlyIncreasing}
+use Rattle.linear_systems.specs.Rows.{IsLexicographicRow}
+use Rattle.whole_rows.specs.Steps.{Step, AllFit}
+use Rattle.lex_tableau.specs.Ratio.{listed}
+use Rattle.lex_tableau.specs.Rows.{Numbers, tableau, IsTableau, IsPivotOf}
+use Rattle.lex_tableau.specs.Starts.{Parts, IsStartOf, StartFits}
+use Rattle.lex_tableau.specs.Pivots.{steps_of_pivot}
+use Rattle.basis_enum.specs.Bases.{basis_of, neighbour_of}
+
+-- a pivot from a level: the place of the tableau in the level, a row and a column
+pub record Move : Type 0 where
+  pub parent : ℕ
+  pub row : ℕ
+  pub column : ℕ
+
+abbrev pub no_move : Move
+no_move = record { parent = 0; row = 0; column = 0 }
+
+abbrev pub no_tableau : Numbers
+no_tableau = record { starts = []; basics = []; nonbasics = []; rated = 0; numbers = [] }
+
+-- the tableau from which it goes, the variable that enters, and the basis to which it leads
+abbrev pub parent_of : List Numbers → Move → Numbers
+parent_of level m = get_or level m.parent no_tableau
+
+abbrev pub entering : List Numbers → Move → ℕ
+entering level m = get_or (parent_of level m).nonbasics m.column 0
+
+abbrev pub target : List Numbers → Move → ℕ
+target level m = neighbour_of (parent_of level m) m.row m.column
+
+-- r is the lexicographic row of column c
+abbrev pub IsLexRowOf : Numbers → ℕ → ℕ → Type 0
+IsLexRowOf t c r = IsLexicographicRow t.rated t.rated (listed t.starts) (tableau t) c r
+
+-- a pivot of a tableau of the level on the lexicographic row of a column
+pub record IsMove (level : List Numbers) (m : Move) : Type 0 where
+  pub parent : m.parent < length level
+  pub column : m.column < length (parent_of level m).nonbasics
+  pub row : IsLexRowOf (parent_of level m) m.column m.row
+
+-- by the parent's place in the level, and then by the entering variable
+abbrev pub ComesBefore : List Numbers → Move → Move → Type 0
+ComesBefore level m k =
+    (m.parent < k.parent) ⊎ ((m.parent ≡ k.parent) × (entering level m < entering level k))
+
+-- a level, and those before it
+pub record Levels : Type 0 where
+  pub before : List Numbers
+  pub level : List Numbers
+
+-- the bases of these tableaux
+abbrev pub bases_of : List Numbers → List ℕ
+bases_of ts = map (λ t. basis_of t.nonbasics) ts
+
+-- a basis that no level has so far
+abbrev pub IsNew : Levels → ℕ → Type 0
+IsNew l b = ¬ (Contains (bases_of (l.before ++ l.level)) b)
+
+-- the pivots to the next level: one to each new neighbour, in ascending order of bases, and of
+-- those that lead there the first
+pub record AreNextMoves (l : Levels) (moves : List Move) : Type 0 where
+  pub each : (m : Move) → Contains moves m → IsMove l.level m
+  pub new : (m : Move) → Contains moves m → IsNew l (target l.level m)
+  pub ascending : IsStrictlyIncreasing (map (target l.level) moves)
+  pub all : (m : Move) → IsMove l.level m → IsNew l (target l.level m)
+      → Contains (map (target l.level) moves) (target l.level m)
+  pub first : (m k : Move) → Contains moves m → IsMove l.level k
+      → target l.level k ≡ target l.level m → ¬ (ComesBefore l.level k m)
+
+-- the steps of a pivot
+abbrev pub steps_of : List Numbers → Move → List Step
+steps_of level m = steps_of_pivot (parent_of level m) m.row m.column
+
+-- new is the tableau after the pivot, all of whose steps fit
+pub record IsChild (level : List Numbers) (m : Move) (new : Numbers) : Type 0 where
+  pub is_tableau : IsTableau new
+  pub pivot : IsPivotOf (parent_of level m) m.row m.column new
+  pub fits : AllFit (steps_of level m)
+
+-- how many bases the levels and these pivots have
+abbrev pub count : Levels → List Move → ℕ
+count l moves = length (l.before ++ l.level) + length moves
+
+-- the greatest number of bases
+abbrev pub most : ℕ
+most = 20000
+
+-- level 0
+pub record IsFirstLevel (s : Parts) (l : Levels) : Type 0 where
+  pub start : Numbers
+  pub is_tableau : IsTableau start
+  pub is_start : IsStartOf s start
+  pub fits : StartFits s
+  pub before : l.before ≡ []
+  pub level : l.level ≡ start ∷ []
+
+-- l has the next level
+pub record IsNextLevel (p l : Levels) : Type 0 where
+  pub moves : List Move
+  pub are : AreNextMoves p moves
+  pub some : 0 < length moves
+  pub few : count p moves ≤ most
+  pub before : l.before ≡ p.before ++ p.level
+  pub size : length l.level ≡ length moves
+  pub children : (i : ℕ) → i < length moves
+      → IsChild p.level (get_or moves i no_move) (get_or l.level i no_tableau)
+
+-- l has level k of the system
+abbrev pub IsLevel : Parts → ℕ → Levels → Type 0
+IsLevel s zero l = IsFirstLevel s l
+IsLevel s (suc k) l = (p : Levels) × IsLevel s k p × IsNextLevel p l

@@ -1,0 +1,151 @@
+// The information sets, numbered by their first use.
+ghost use Rattle.std.specs.Prelude.{◌≡◌, ◌+◌, ◌<◌, [], ◌∷◌, ◌++◌, not, if◌then◌else◌, length, option_map, IfOk, OnOk};
+ghost use Rattle.std.specs.List.{position_or_len, list_any, AllByRecursion};
+ghost use Rattle.game_core.specs.InPlace.{IsShortToken};
+ghost use Rattle.file_parts.specs.Reading.{kinds};
+ghost use Rattle.file_parts.specs.Parsing.{Parses};
+ghost use Rattle.written_trees.specs.Described.{same_set};
+ghost use Rattle.efg_reader.specs.Uses.{begun_set, begun_sets, AreSets};
+ghost use Rattle.efg_reader.specs.TreeParsing.{parse_first_list, parse_later_list, parse_set};
+ghost use Rattle.std.specs.Option.{option_or};
+
+use crate::actions::{first_list, later_list};
+use crate::kinds::EfgKind;
+use crate::pieces::positive;
+use file_parts::{Refusal, copied, optional_text, unfit};
+use game_core::{Action, Name, Spanned};
+use indexmap::IndexSet;
+use std::alloc::{AllocError, AllocFailed, Global};
+
+/// What tells a set from others: chance and each player number their sets separately.
+#[derive(Clone, Copy, Debug, PartialEq, Eq, Hash)]
+pub struct SetKey {
+    /// The owner, and nothing for chance.
+    pub owner: Option<u32>,
+    /// The number that the file gives it.
+    pub label: u64,
+}
+
+/// A set as far as it was used.
+#[derive(Drop)]
+pub struct SetBegun {
+    /// The owner, and nothing for chance.
+    pub owner: Option<u32>,
+    /// The number that the file gives it.
+    pub label: u64,
+    /// Its first name, where one came.
+    pub name: Option<Name>,
+    /// The actions of its first use.
+    pub actions: Vec<Action>,
+    /// The nodes that use it.
+    pub members: Vec<u32>,
+}
+
+/// The sets in the order of their first use.
+#[derive(Drop)]
+pub struct Sets {
+    /// What tells them apart.
+    pub keys: IndexSet<SetKey>,
+    /// The sets.
+    pub list: Vec<SetBegun>,
+}
+
+/// A name of its own, where one came.
+pub fn optional_name(alloc: Global, name: Option<&Name>) -> Result<Option<Name>, AllocError>
+    ensures { IfOk result (λ copy. copy ≡ option_map (λ t. t.now) name.entry) }
+{
+    match name {
+        Some(name) => Ok(Some(copied(alloc, name)?)),
+        None => Ok(None),
+    }
+}
+
+// A set of a first use by this node, with the actions that come; and the tokens behind them.
+fn first_use<'a>(
+    alloc: Global,
+    key: SetKey,
+    name: Option<&Name>,
+    node: u32,
+    tokens: &'a [Spanned],
+) -> Result<(SetBegun, &'a [Spanned]), Refusal<EfgKind>>
+    ensures read { Parses (λ x. (x.0.actions.items, kinds x.1.now)) result
+        (parse_first_list key.owner key.label (kinds tokens.now)) }
+    ensures set { IfOk result (λ x. begun_set x.0 ≡ record { owner = key.owner; label = key.label; name = option_map (λ t. t.now) name.entry; actions = x.0.actions.items; members = node ∷ [] }) }
+{
+    let (actions, rest) = first_list(alloc, tokens, key.owner, key.label)?;
+    let name = optional_name(alloc, name)?;
+    let members = Vec::from_slice(alloc, &[node])?;
+    let set = SetBegun {
+        owner: key.owner,
+        label: key.label,
+        name,
+        actions,
+        members,
+    };
+    Ok((set, rest))
+}
+
+// The tokens behind a later use of a set by this node, which is noted.
+fn later_use<'a>(
+    alloc: Global,
+    set: &mut SetBegun,
+    name: Option<&Name>,
+    node: u32,
+    tokens: &'a [Spanned],
+) -> Result<&'a [Spanned], Refusal<EfgKind>>
+    ensures read { Parses (λ rest. (tt, kinds rest.now)) result
+        (parse_later_list set.old.owner set.old.actions.items (kinds tokens.now)) }
+    ensures set { OnOk result (begun_set set.new ≡ record { owner = set.old.owner; label = set.old.label; name = option_or set.old.name (option_map (λ t. t.now) name.entry); actions = set.old.actions.items; members = set.old.members.items ++ node ∷ [] }) }
+{
+    let rest = later_list(tokens, set.owner, set.actions.as_slice())?;
+    if set.name.is_none() {
+        set.name = optional_name(alloc, name)?;
+    }
+    set.members.push(node)?;
+    Ok(rest)
+}
+
+// The place of this key among those that are known, and whether it is new. It is known afterwards.
+fn placed(known: &mut IndexSet<SetKey>, key: SetKey) -> Result<(usize, bool), AllocFailed<SetKey>>
+    ensures place { IfOk result (λ x. x.0
+        ≡ position_or_len (λ k. same_set (key.owner, key.label)
+        (k.owner, k.label)) known.old.keys) }
+    ensures within { IfOk result (λ x. x.0 < length known.old.keys + (if x.1 then 1 else 0)) }
+    ensures added { IfOk result (λ x. x.1
+        ≡ not (list_any (λ k. same_set (key.owner, key.label) (k.owner, k.label)) known.old.keys)) }
+    ensures keys { IfOk result (λ x. known.new.keys
+        ≡ (if x.1 then known.old.keys ++ key ∷ [] else known.old.keys)) }
+{
+    known.insert_full(key)
+}
+
+/// The sets with the one that this node of this owner uses, its number, and the tokens behind it.
+pub fn read_set<'a>(
+    alloc: Global,
+    mut sets: Sets,
+    owner: Option<u32>,
+    node: u32,
+    tokens: &'a [Spanned],
+) -> Result<(Sets, u32, &'a [Spanned]), Refusal<EfgKind>>
+    requires sets { AreSets sets }
+    requires few { length sets.list.items < 4294967295 }
+    requires short { AllByRecursion IsShortToken (kinds tokens.now) }
+    ensures sets { IfOk result (λ x. AreSets x.0) }
+    ensures read { Parses (λ x. ((begun_sets x.0, x.1), kinds x.2.now)) result
+        (parse_set node (begun_sets sets) owner (kinds tokens.now)) }
+{
+    let Some((label, behind)) = positive(tokens) else {
+        return Err(unfit(EfgKind::Node, tokens));
+    };
+    let (name, behind) = optional_text(behind);
+    let key = SetKey { owner, label };
+    let (place, is_new) = placed(&mut sets.keys, key)?;
+    if is_new {
+        let (set, rest) = first_use(alloc, key, name, node, behind)?;
+        sets.list.push(set)?;
+        Ok((sets, place as u32, rest))
+    } else {
+        let rest = later_use(alloc, &mut sets.list[place], name, node, behind)?;
+        Ok((sets, place as u32, rest))
+    }
+}

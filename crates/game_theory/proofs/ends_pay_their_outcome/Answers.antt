@@ -1,0 +1,5 @@
+use Rattle.game_theory.proofs.Values.{value-end}
+use Rattle.game_theory.proofs.ends_pay_their_outcome.Goals as goal
+
+pub returns : goal.returns
+returns c = value-end

@@ -1,0 +1,5 @@
+use Rattle.game_theory.proofs.Entry.{entry-equilibria}
+use Rattle.game_theory.proofs.entry_has_two_pure_equilibria.Goals as goal
+
+pub returns : goal.returns
+returns c = entry-equilibria

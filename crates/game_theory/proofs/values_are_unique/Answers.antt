@@ -1,0 +1,5 @@
+use Rattle.game_theory.proofs.Values.{value-unique}
+use Rattle.game_theory.proofs.values_are_unique.Goals as goal
+
+pub returns : goal.returns
+returns c = value-unique

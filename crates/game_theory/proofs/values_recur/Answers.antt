@@ -1,0 +1,5 @@
+use Rattle.game_theory.proofs.Values.{value-recurs}
+use Rattle.game_theory.proofs.values_recur.Goals as goal
+
+pub returns : goal.returns
+returns c = value-recurs

@@ -1,0 +1,26 @@
+-- Perfect recall. Source: Kuhn 1953; von Stengel 1996.
+use Rattle.std.specs.Prelude.{ℕ, zero, suc, ◌<◌, ◌≡◌, if◌then◌else◌, List, [], ◌∷◌, ◌++◌, Option, Some, None}
+use Rattle.game_theory.specs.Trees.{Tree}
+use Rattle.game_theory.specs.Behaviour.{is_own}
+
+-- the set and the action of one step of a path, where the set is player i's own
+abbrev pub own_step : Tree → ℕ → Option ℕ → ℕ → List (ℕ × ℕ)
+own_step t i None a = []
+own_step t i (Some s) a = if is_own t i s then (s, a) ∷ [] else []
+
+-- player i's sets and actions on the last n edges of the path to node k
+abbrev pub history_to : Tree → ℕ → ℕ → ℕ → List (ℕ × ℕ)
+history_to t i zero k = []
+history_to t i (suc n) zero = []
+history_to t i (suc n) (suc k) = history_to t i n (t.parent (suc k)) ++ own_step t i (t.set (t.parent (suc k))) (t.branch (suc k))
+
+-- The own history of node k for player i: that player's sets and actions on the path to it, the choice at the node itself
+-- not included. The path has at most k edges, since each node stands after its parent.
+abbrev pub own_history : Tree → ℕ → ℕ → List (ℕ × ℕ)
+own_history t i k = history_to t i k k
+
+-- the nodes of each own set of player i have the same own history
+abbrev pub HasPerfectRecall : Tree → ℕ → Type 0
+HasPerfectRecall t i =
+    (s k l : ℕ) → t.owner s ≡ Some i → k < t.size → l < t.size → t.set k ≡ Some s → t.set l ≡ Some s
+    → own_history t i k ≡ own_history t i l

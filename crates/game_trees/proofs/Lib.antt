@@ -1,9 +1,0 @@
-pub mod Children
-pub mod Entry
-pub mod NamedChildren
-pub mod OwnSets
-pub mod Poker
-pub mod RecallExamples
-pub mod Subtrees
-pub mod TreeTests
-pub mod Values

@@ -1,5 +1,0 @@
-use Rattle.game_trees.proofs.Poker.{poker-worth}
-use Rattle.game_trees.proofs.poker_is_worth_a_third.Goals as goal
-
-pub returns : goal.returns
-returns c = poker-worth

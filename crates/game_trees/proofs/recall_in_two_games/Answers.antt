@@ -1,5 +1,0 @@
-use Rattle.game_trees.proofs.RecallExamples.{recall-in_two_games}
-use Rattle.game_trees.proofs.recall_in_two_games.Goals as goal
-
-pub returns : goal.returns
-returns c = recall-in_two_games

@@ -1,5 +1,0 @@
-use Rattle.game_trees.proofs.Subtrees.{value-agree}
-use Rattle.game_trees.proofs.values_depend_on_subtrees.Goals as goal
-
-pub returns : goal.returns
-returns c = value-agree

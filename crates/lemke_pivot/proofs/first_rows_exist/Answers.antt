@@ -1,0 +1,5 @@
+use Rattle.lemke_pivot.proofs.ProblemPaths as Paths
+use Rattle.lemke_pivot.proofs.first_rows_exist.Goals as goal
+
+pub returns : goal.returns
+returns c = Paths.first_rows_exist

@@ -1,0 +1,5 @@
+use Rattle.lemke_pivot.proofs.ProblemPaths as Paths
+use Rattle.lemke_pivot.proofs.least_is_negative.Goals as goal
+
+pub returns : goal.returns
+returns c = Paths.least_is_negative

@@ -1,0 +1,5 @@
+use Rattle.lemke_pivot.proofs.Solutions as Solutions
+use Rattle.lemke_pivot.proofs.solutions_have_plans.Goals as goal
+
+pub returns : goal.returns
+returns c = Solutions.solutions_have_plans

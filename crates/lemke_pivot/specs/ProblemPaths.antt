@@ -1,0 +1,86 @@
+-- The path of complementary pivots. Source: Lemke 1965; Koller, Megiddo and von Stengel 1996. Row i
+-- of a problem with n rows has the variables w_of i and z_of n i, which are complements; z0 comes
+-- last. Variables count from 1.
+use Rattle.std.specs.Prelude.{ℕ, suc, ◌<◌, ◌≡◌, ◌≢◌, ◌+◌, ◌-◌, eqb, leb, cond, Bool, false, List, [], ◌∷◌}
+use Rattle.rational.specs.Rational.{ℚ, neg_ℚ, zero_ℚ, one_ℚ, ◌≤ℚ◌, ◌<ℚ◌}
+use Rattle.linear_systems.specs.Tableau.{Tableau, pivot}
+use Rattle.linear_systems.specs.Lex.{IsLexPositive}
+use Rattle.linear_systems.specs.Rows.{key, IsLexicographicRow, Alike}
+use Rattle.linear_systems.specs.Reached.{IsReached}
+use Rattle.lemke_pivot.specs.Bases.{swap}
+use Rattle.lemke_pivot.specs.Values.{value, direction}
+use Rattle.lemke_pivot.specs.Problems.{IsSolution, IsRay}
+
+abbrev pub w_of : ℕ → ℕ
+w_of i = suc i
+
+abbrev pub z_of : ℕ → ℕ → ℕ
+z_of n i = suc (n + i)
+
+abbrev pub z0_of : ℕ → ℕ
+z0_of n = suc (n + n)
+
+-- v is a w
+abbrev pub is_w : ℕ → ℕ → Bool
+is_w n v = cond (eqb v 0) false (leb v n)
+
+-- w and z of a row are complements; any other number is its own
+abbrev pub complement : ℕ → ℕ → ℕ
+complement n v = cond (is_w n v) (v + n) (cond (eqb v 0) v (cond (leb v (n + n)) (v - n) v))
+
+-- The tableau of w = b + M z + d z0, where d is all ones: each w is basic.
+abbrev pub start : ℕ → (ℕ → ℕ → ℚ) → (ℕ → ℚ) → Tableau
+start n M b =
+    record {
+      rows = n;
+      width = suc n;
+      basic = w_of;
+      nonbasic = z_of n;
+      cell = λ i j. cond (eqb j n) (neg_ℚ one_ℚ) (neg_ℚ (M i j));
+      right = b;
+    }
+
+-- a tableau of this system, with positive keys
+pub record HasPositiveKeys (n : ℕ) (M : ℕ → ℕ → ℚ) (b : ℕ → ℚ) (t : Tableau) : Type 0 where
+  pub reached : IsReached (suc (suc (n + n))) n (start n M b) t
+  pub positive : (i : ℕ) → i < n → IsLexPositive (suc n) (key w_of t i)
+
+-- the row at which z0 enters: the last of those with the least right side, which is negative
+pub record IsFirstRow (n : ℕ) (b : ℕ → ℚ) (r : ℕ) : Type 0 where
+  pub within : r < n
+  pub negative : b r <ℚ zero_ℚ
+  pub least : (i : ℕ) → i < n → b r ≤ℚ b i
+  pub last : (i : ℕ) → r < i → i < n → b r <ℚ b i
+
+-- t' is the pivot of t by which c enters on its lexicographic row and l leaves
+pub record Replaces (n : ℕ) (t : Tableau) (c l : ℕ) (t' : Tableau) : Type 0 where
+  pub col : ℕ
+  pub row : ℕ
+  pub col_in : col < t.width
+  pub c_is : t.nonbasic col ≡ c
+  pub l_is : t.basic row ≡ l
+  pub chosen : IsLexicographicRow n n w_of t col row
+  pub to : Alike (pivot t row col) t'
+
+-- The path has come to t, and c is next. The list has the tableaux before t, the last one first.
+-- The path begins with z0, which enters at row r; as long as the value of z0 is not 0, the variable
+-- that is next enters, and the complement of the one that leaves is next.
+abbrev pub PathTo : ℕ → (ℕ → ℕ → ℚ) → (ℕ → ℚ) → ℕ → List Tableau → Tableau → ℕ → Type 0
+PathTo n M b r [] t c = Alike (pivot (start n M b) r n) t × (c ≡ z_of n r)
+PathTo n M b r (s ∷ ss) t c = (d : ℕ) × (l : ℕ) × PathTo n M b r ss s d
+    × (value s (z0_of n) ≢ zero_ℚ) × Replaces n s d l t × (c ≡ complement n l)
+
+-- the tableau's own solution solves the problem
+abbrev pub SolvesAt : ℕ → (ℕ → ℕ → ℚ) → (ℕ → ℚ) → Tableau → Type 0
+SolvesAt n M b t = IsSolution n M b (λ i. value t (w_of i)) (λ i. value t (z_of n i))
+
+-- the point of a tableau and the direction of a column are a ray
+abbrev pub IsRayAt : ℕ → (ℕ → ℕ → ℚ) → (ℕ → ℚ) → Tableau → ℕ → Type 0
+IsRayAt n M b t col =
+    IsRay n M b (λ i. value t (w_of i)) (λ i. value t (z_of n i))
+    (λ i. direction t col (w_of i)) (λ i. direction t col (z_of n i))
+    (value t (z0_of n)) (direction t col (z0_of n))
+
+-- all w but that of row s, and z0
+abbrev pub basis_without : ℕ → ℕ → ℕ → Bool
+basis_without n s = swap (is_w n) (z0_of n) (w_of s)

@@ -1,0 +1,5 @@
+use Rattle.linear_systems.proofs.Cover.{covers}
+use Rattle.linear_systems.proofs.closed_sets_cover.Goals as goal
+
+pub returns : goal.returns
+returns c = covers

@@ -1,5 +1,0 @@
-use Rattle.number_text.proofs.Forms.{one_form}
-use Rattle.number_text.proofs.number.numbers_have_one_form.Goals as goal
-
-pub returns : goal.returns
-returns c = one_form

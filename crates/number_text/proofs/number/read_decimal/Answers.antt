@@ -1,7 +1,0 @@
-use Rattle.std.proofs.Common.{sym}
-use Rattle.number_text.proofs.Forms.{power_digits}
-use Rattle.number_text.proofs.number.read_decimal.Goals as goal
-
-pub decimal_value-requires-clause-power : goal.decimal_value-requires-clause-power
-decimal_value-requires-clause-power c =
-    power_digits c.args.power.now (c.in-Some.falls, c.in-Some.power.now) (sym c.in-Some.ensures)

@@ -1,5 +1,0 @@
-use Rattle.number_text.proofs.Digits.{size_answer}
-use Rattle.number_text.proofs.sizes.size_of.Goals as goal
-
-pub returns : goal.returns
-returns c = size_answer c.args.digits.now c.with_digits.result c.requires c.with_digits.ensures

@@ -1,7 +1,0 @@
-use Rattle.std.proofs.Common.{◌*◌, ◌^◌}
-use Rattle.number_text.proofs.Powers.{long_whole, raised_long}
-use Rattle.number_text.proofs.values.raised.Goals as goal
-
-pub returns-then-size-ge-LIMIT : goal.returns-then-size-ge-LIMIT
-returns-then-size-ge-LIMIT c =
-    long_whole c.args.negative (c.args.size * 10 ^ c.args.power) (raised_long c.args.size c.args.power c.if-size-ge-LIMIT.true)

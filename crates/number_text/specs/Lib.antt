@@ -1,3 +1,0 @@
-pub mod Digits
-pub mod Numbers
-pub mod Reading

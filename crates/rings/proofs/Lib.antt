@@ -1,3 +1,0 @@
-pub mod CommutativeRing
-pub mod IntegerRing
-pub mod Ring

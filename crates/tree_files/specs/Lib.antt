@@ -1,5 +1,0 @@
-pub mod FaultKinds
-pub mod TreeFaults
-pub mod TreeFile
-pub mod TreeParsing
-pub mod TreeReading

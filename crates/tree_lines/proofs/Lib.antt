@@ -1,5 +1,0 @@
-pub mod EquilibriumLines
-pub mod Listed
-pub mod OrderedLines
-pub mod OrderedProfiles
-pub mod PrintedSets

@@ -1,4 +1,0 @@
-pub mod Laws
-pub mod Orders
-pub mod Ranks
-pub mod TreeEquilibria

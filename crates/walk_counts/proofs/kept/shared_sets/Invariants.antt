@@ -1,5 +1,0 @@
-use Rattle.walk_counts.proofs.LeftOut.{AreSeen}
-use Rattle.walk_counts.proofs.kept.shared_sets.Given as goal
-
-abbrev pub invariant-loop-decision : goal.invariant-loop-decision
-invariant-loop-decision l = AreSeen l.decisions l.sets l.decision-index l.seen.items l.shared.items
