@@ -5,7 +5,7 @@ use Rattle.std.specs.List.{All, Any, Contains, dedup}
 use Rattle.std.specs.List.Sorted.{IsNonDecreasingBy, IsPermutation}
 use Rattle.std.proofs.Math.Nat.{pow-le-pow_right}
 use Rattle.std.proofs.lemmas.Bool.{cases_lt}
-use Rattle.std.proofs.lemmas.List.{map-append, get_or-map, get_or_default, length-map}
+use Rattle.std.proofs.lemmas.List.{append-nil, map-append, get_or-map, get_or_default, length-map}
 use Rattle.std.proofs.lemmas.List.Elements.{Contains-append_left, Contains-get_or, Contains-push, Contains-push_cases}
 use Rattle.std.proofs.lemmas.List.Kept.{Contains-from_dedup}
 use Rattle.std.proofs.lemmas.List.Sorted.{IsPermutation-map, IsPermutation-sym, Contains-permutation}
@@ -78,6 +78,14 @@ mark_left_out s t marks values e all =
     left_out
     (λ p. p.other (sym (ap (λ xs. get_or xs p.column zero_ℚ) e ∙ get_or-map (basic_solution (tableau t)) s.nonbasics p.column 0 zero_ℚ p.within)
     ∙ all p.column zero_ℚ (let size : length values ≡ length s.nonbasics = ap length e ∙ length-map s.nonbasics (basic_solution (tableau t)) in let w : p.column < length s.nonbasics = p.within in omega arith))) refl
+
+-- what is noted of a tableau is noted behind other marks
+pub noted_behind : (s : Parts) (t : Numbers) (old new : List MarkedPoint) → IsNoted s t [] new
+    → IsNoted s t old (old ++ new)
+noted_behind s t old new (left_out none same) =
+    left_out none (ap (λ xs. old ++ xs) same ∙ append-nil old)
+noted_behind s t old new (added mark nonzero marked more) =
+    added mark nonzero marked (ap (λ xs. old ++ xs) more)
 
 -- ---- all tableaux are noted, one after another
 pub no_marks : (s : Parts) → AreMarksOf s [] []

@@ -3,7 +3,7 @@ use Rattle.std.proofs.Common.{ℕ, suc, zero, ◌<◌, ◌≤◌, ◌≡◌, ◌
 use Rattle.std.specs.List.{Contains}
 use Rattle.std.specs.List.Sorted.{IsStrictlyIncreasing}
 use Rattle.std.proofs.lemmas.Grind.{same_number_lists}
-use Rattle.std.proofs.lemmas.List.{length-append, length-map, map-append, get_or_default, take_more}
+use Rattle.std.proofs.lemmas.List.{append-nil, length-append, length-map, map-append, get_or_default, take_all, take_more}
 use Rattle.std.proofs.lemmas.List.Elements.{Contains-append_left, Contains-append_right, Contains-append_cases, Contains-get_or}
 use Rattle.std.proofs.Math.ListN.{get_or-map}
 use Rattle.frac128.specs.declared.steps.Unfit.{Unfit}
@@ -21,6 +21,7 @@ use Rattle.basis_enum.proofs.Once.{level_few}
 use Rattle.basis_enum.specs.declared.moves.Move.{Move}
 use Rattle.basis_enum.specs.declared.stop.EnumStop.{EnumStop}
 use Rattle.basis_enum.specs.declared.stop.EnumStop.TheVariants as stops
+use Rattle.basis_enum.specs.declared.vertex.Vertex.{Vertex}
 use Rattle.basis_enum.specs.declared.walk.Walk.{Walk}
 use Rattle.basis_enum.specs.Children.{AreMoves, AreChildren}
 use Rattle.basis_enum.specs.Enumeration.{AreVerticesOf, IsStopIn}
@@ -28,11 +29,11 @@ use Rattle.basis_enum.specs.Found.{IsReady, IsLevelOf, AreKnown}
 use Rattle.basis_enum.specs.Marks.{AreInOrder, AreMarksOf, AreUpTo, IsNoted}
 use Rattle.basis_enum.specs.Merged.{IsMerged}
 use Rattle.basis_enum.specs.Next.{AreNewMoves, move_of, no_move, target_of}
-use Rattle.basis_enum.specs.Vertices.{VertexList, marks_of}
-use Rattle.basis_enum.specs.Walks.{levels_of, IsFirst, IsWalkAt, IsWalkToEnd, HaveEntering, IsMoveStop, IsLimitStop, IsUnfitMove, AreNumbered}
+use Rattle.basis_enum.specs.Vertices.{VertexList, mark_of, marks_of}
+use Rattle.basis_enum.specs.Walks.{levels_of, IsFirst, IsWalkAt, IsWalkToEnd, HaveEntering, IsMoveStop, IsLimitStop, IsUnfitMove, AddsVertices, AreNumbered, IsVertexAt}
 use Rattle.basis_enum.proofs.LevelMoves.{basis_at, move_is, target_is_there, entering_is, next_are}
 use Rattle.basis_enum.proofs.NextLevel.{next_level}
-use Rattle.basis_enum.proofs.VertexMarks.{reached_numbered, marks_more, are_vertices}
+use Rattle.basis_enum.proofs.VertexMarks.{reached_numbered, noted_behind, marks_more, are_vertices}
 
 -- ---- the tableaux of a level
 ready : (s : Parts) (t : Numbers) → IsEnumerable s → Held s t → IsReady t
@@ -99,11 +100,27 @@ children_bases level next known moves n c =
         ∙ ap basis_of (sym (pivoted_nonbasics (parent_of level (move_of m)) (get_or next i no_tableau) m.row m.column (move_is level known m f).column (c.each i hi).pivot))
         ∙ sym (basis_at next (bases_of next) i refl (let w : i < length next = omega arith in w))
 
--- ---- the marks of a level
-pub marks_next : (s : Parts) (level : List Numbers) (place : ℕ) (t : Numbers) (first old new : List MarkedPoint) → place < length level → t ≡ get_or level place t → ((ts : List Numbers) → AreMarksOf s ts first → AreMarksOf s (ts ++ take place level) old) → IsNoted s t old new → (ts : List Numbers) → AreMarksOf s ts first → AreMarksOf s (ts ++ take (place + 1) level) new
-marks_next s level place t first old new h e before noted ts m =
-    subst (λ xs. AreMarksOf s xs new) (append_assoc ts (take place level) (t ∷ []) ∙ ap (λ xs. ts ++ xs) (ap (λ u. take place level ++ u ∷ []) e ∙ sym (take_more level place t h)))
-    (marks_more s (ts ++ take place level) t old new (before ts m) noted)
+-- ---- the vertices of a level
+pub vertices_start : (s : Parts) (level : List Numbers) (vertices : List Vertex) → AddsVertices s level 0 vertices vertices
+vertices_start s level vertices = record { adds = λ ts m. subst (λ xs. AreMarksOf s xs (marks_of vertices)) (sym (append-nil ts)) m }
+
+pub vertices_next : (s : Parts) (level : List Numbers) (n : ℕ) (first vertices new : List Vertex) → n < length level → AddsVertices s level n first vertices → IsNoted s (get_or level n no_tableau) (marks_of vertices) (marks_of new) → AddsVertices s level (n + 1) first new
+vertices_next s level n first vertices new h before noted =
+    record {
+      adds = λ ts m.
+          let t = get_or level n no_tableau in
+          subst (λ xs. AreMarksOf s xs (marks_of new)) (append_assoc ts (take n level) (t ∷ []) ∙ ap (λ xs. ts ++ xs) (sym (take_more level n no_tableau h)))
+          (marks_more s (ts ++ take n level) t (marks_of vertices) (marks_of new) (before.adds ts m) noted);
+    }
+
+pub vertices_more : (s : Parts) (level : List Numbers) (n : ℕ) (first vertices more : List Vertex) → AddsVertices s level n first vertices → IsVertexAt s level n more → AddsVertices s level (n + 1) first (vertices ++ more)
+vertices_more s level n first vertices more before at =
+    vertices_next s level n first vertices (vertices ++ more) at.within before
+    (subst (IsNoted s (get_or level n no_tableau) (marks_of vertices)) (sym (map-append mark_of vertices more)) (noted_behind s (get_or level n no_tableau) (marks_of vertices) (marks_of more) at.noted))
+
+pub vertices_all : (s : Parts) (level : List Numbers) (old new : List Vertex) → AddsVertices s level (length level) old new → (ts : List Numbers) → AreMarksOf s ts (marks_of old) → AreMarksOf s (ts ++ level) (marks_of new)
+vertices_all s level old new h ts m =
+    subst (λ xs. AreMarksOf s (ts ++ xs) (marks_of new)) (take_all (length level) level (omega arith)) (h.adds ts m)
 
 -- ---- the next level
 known_next : (before level next : List Numbers) (known all : List ℕ) → AreKnown (levels_of before level) known → IsMerged known (bases_of next) all → AreKnown (levels_of (before ++ level) next) all

@@ -1,5 +1,5 @@
 -- The enumeration on its way, level after level
-use Rattle.std.specs.Prelude.{ℕ, ◌<◌, ◌≡◌, List, [], ◌++◌, length, get_or, map}
+use Rattle.std.specs.Prelude.{ℕ, ◌<◌, ◌≡◌, List, [], ◌++◌, length, get_or, map, take}
 use Rattle.std.specs.List.{Contains}
 use Rattle.std.specs.List.Sorted.{IsStrictlyIncreasing}
 use Rattle.frac128.specs.declared.steps.Unfit.{Unfit}
@@ -13,10 +13,11 @@ use Rattle.basis_enum.specs.Ends.{IsAscendingListOf, IsFirstUnfitMove}
 use Rattle.basis_enum.specs.declared.moves.Move.{Move}
 use Rattle.basis_enum.specs.declared.stop.EnumStop.{EnumStop}
 use Rattle.basis_enum.specs.declared.stop.EnumStop.TheVariants.{Start, Range, TooLarge, Memory}
+use Rattle.basis_enum.specs.declared.vertex.Vertex.{Vertex}
 use Rattle.basis_enum.specs.declared.walk.Walk.{Walk}
 use Rattle.basis_enum.specs.Enumeration.{limit_of}
 use Rattle.basis_enum.specs.Found.{AreKnown}
-use Rattle.basis_enum.specs.Marks.{AreMarksOf, AreUpTo}
+use Rattle.basis_enum.specs.Marks.{AreMarksOf, AreUpTo, IsNoted}
 use Rattle.basis_enum.specs.Next.{AreNewMoves, move_of}
 use Rattle.basis_enum.specs.Vertices.{marks_of}
 
@@ -82,7 +83,14 @@ abbrev pub AreNumbered : Parts → List Numbers → Type 0
 AreNumbered s level =
     (i : ℕ) → i < length level → AreUpTo (variable_count s) (get_or level i no_tableau).basics
 
--- the marks of these tableaux come to those of any others
-abbrev pub AddsMarks : Parts → List Numbers → List MarkedPoint → List MarkedPoint → Type 0
-AddsMarks s level old new =
-    (ts : List Numbers) → AreMarksOf s ts old → AreMarksOf s (ts ++ level) new
+-- the vertex of one of these tableaux, or none
+pub record IsVertexAt (s : Parts) (level : List Numbers) (n : ℕ) (vertices : List Vertex)
+    : Type 0 where
+  pub within : n < length level
+  pub noted : IsNoted s (get_or level n no_tableau) [] (marks_of vertices)
+
+-- the vertices of the first n of these tableaux come to those of any others
+pub record AddsVertices (s : Parts) (level : List Numbers) (n : ℕ) (old new : List Vertex)
+    : Type 0 where
+  pub adds : (ts : List Numbers) → AreMarksOf s ts (marks_of old)
+      → AreMarksOf s (ts ++ take n level) (marks_of new)

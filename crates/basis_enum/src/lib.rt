@@ -15,6 +15,7 @@ mod children;
 mod enumeration;
 mod marking;
 mod moves;
+mod noting;
 mod stop;
 mod vertex;
 mod walk;

@@ -9,12 +9,13 @@ ghost use Rattle.basis_enum.specs.Enumeration.{IsStopIn};
 ghost use Rattle.basis_enum.specs.Found.{AreReady};
 ghost use Rattle.basis_enum.specs.Next.{AreNewMoves};
 ghost use Rattle.basis_enum.specs.Vertices.{marks_of};
-ghost use Rattle.basis_enum.specs.Walks.{AddsMarks, AreNumbered, HaveEntering, IsFirst, IsLimitStop, IsMoveStop, IsWalkAt, IsWalkToEnd};
+ghost use Rattle.basis_enum.specs.Walks.{AreNumbered, HaveEntering, IsFirst, IsLimitStop, IsMoveStop, IsWalkAt, IsWalkToEnd};
 
 use crate::bases::{basis, merged};
 use crate::children::{ChildStop, children};
 use crate::marking::note_vertex;
 use crate::moves::{Move, new_moves, targets};
+use crate::noting::note_level;
 use crate::stop::{Basis, EnumStop};
 use crate::vertex::Vertex;
 use answers::Memory;
@@ -162,24 +163,6 @@ fn check_count(bases: usize, moves: &[Move]) -> Result<(), EnumStop>
     Ok(())
 }
 
-// Adds the vertices of the tableaux of a level.
-fn note_level(
-    alloc: Global,
-    vertices: &mut Vec<Vertex>,
-    system: &System,
-    level: &[Tableau],
-) -> Result<(), Memory>
-    requires few { variable_count system.now ≤ 128 }
-    requires numbered { AreNumbered system.now level.now }
-    ensures { OnOk result (AddsMarks system.now level.now
-        (marks_of vertices.old.items) (marks_of vertices.new.items)) }
-{
-    for place in 0..level.len() {
-        note_vertex(alloc, vertices, system, &level[place])?;
-    }
-    Ok(())
-}
-
 // Goes on to the next level.
 fn advance<R: Threads + Sync, G: Gate, L: Ledger>(
     rt: &R,
@@ -216,7 +199,14 @@ fn advance<R: Threads + Sync, G: Gate, L: Ledger>(
     )?;
     let bases = targets(alloc, moves)?;
     walk.known = merged(alloc, walk.known.as_slice(), bases.as_slice())?;
-    note_level(alloc, &mut walk.vertices, system, level.as_slice())?;
+    note_level(
+        rt,
+        alloc,
+        &mut walk.vertices,
+        system,
+        level.as_slice(),
+        workers,
+    )?;
     walk.level = level;
     walk.bases = bases;
     Ok(())

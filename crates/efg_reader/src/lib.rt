@@ -29,7 +29,7 @@ mod sets;
 
 pub use fault::{EfgFault, EfgStop};
 pub use kinds::EfgKind;
-pub use reading::{read, trees_are_single};
+pub use reading::{faults_are_single, read, trees_are_single};
 
 /// The tokens of a file stand for one tree at most.
 pub fn files_have_one_tree()

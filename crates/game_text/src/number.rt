@@ -55,7 +55,7 @@ fn decimal_value(
 }
 
 // A fraction with these digits above, and what is to be digits below.
-#[tactic(auto, unfolding(crate::specs::Reading::fraction_of))]
+#[tactic(auto, unfolding(crate::specs::NumberReading::fraction_of))]
 fn read_fraction(negative: bool, top: &[u8], bottom: &[u8]) -> Result<Frac, NumberFault>
     requires { All IsAsciiDigit top.now }
     ensures { Answers (fraction_of negative top.now bottom.now) result }
@@ -68,7 +68,7 @@ fn read_fraction(negative: bool, top: &[u8], bottom: &[u8]) -> Result<Frac, Numb
 }
 
 // A decimal with these digits before and after the point, and what is to be an exponent.
-#[tactic(auto, unfolding(crate::specs::Reading::decimal_of))]
+#[tactic(auto, unfolding(crate::specs::NumberReading::decimal_of))]
 fn read_decimal(
     negative: bool,
     before: &[u8],
@@ -89,7 +89,7 @@ fn read_decimal(
 }
 
 // The number with these first digits and what comes behind them.
-#[tactic(auto, unfolding(crate::specs::Reading::form_with))]
+#[tactic(auto, unfolding(crate::specs::NumberReading::form_with))]
 fn read_rest(negative: bool, before: &[u8], rest: &[u8]) -> Result<Frac, NumberFault>
     requires { All IsAsciiDigit before.now }
     ensures { Answers (form_with negative before.now rest.now) result }

@@ -41,7 +41,7 @@ fn all_digits(text: &[u8]) -> bool
 }
 
 // Whether the text is one or more digits.
-#[tactic(auto, unfolding(crate::specs::Reading::are_digits))]
+#[tactic(auto, unfolding(crate::specs::NumberReading::are_digits))]
 pub fn are_digits(text: &[u8]) -> bool
     ensures { result ≡ are_digits text.now }
 {
@@ -50,7 +50,7 @@ pub fn are_digits(text: &[u8]) -> bool
 
 // The digits of an exponent, and whether a minus comes before them. No text is the exponent 0, which has
 // no digits.
-#[tactic(auto, unfolding(crate::specs::Reading::power_of))]
+#[tactic(auto, unfolding(crate::specs::NumberReading::power_of))]
 pub fn split_power(text: &[u8]) -> Option<(bool, &[u8])>
     ensures { option_map (λ power. (power.0, power.1.now)) result ≡ power_of text.now }
 {

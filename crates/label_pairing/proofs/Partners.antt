@@ -2,7 +2,7 @@
 use Rattle.std.proofs.Common.{ℕ, zero, suc, ◌+◌, ◌-◌, ◌*◌, mul-le-mul, ◌<◌, ◌≤◌, ◌^◌, ◌≡◌, Bool, cond, List, [], ◌∷◌, length, map, get_or, take, refl, sym, ap, ap₂, subst, ◌∙◌, arith, add-one}
 use Rattle.std.specs.Prelude.{count_by, sum, sum_by}
 use Rattle.std.specs.List.{between, range_with_len}
-use Rattle.std.proofs.lemmas.List.{length-map, length-append, take_all}
+use Rattle.std.proofs.lemmas.List.{length-map, length-append, nil_from_length, take_all}
 use Rattle.std.proofs.lemmas.List.Edits.{length-between, get_or-between}
 use Rattle.std.proofs.lemmas.List.FromFn.{length-range_with_len, sum_by-map-range_with_len_more}
 use Rattle.std.proofs.lemmas.List.Sums.{sum_by-append, sum_by-cons, sum_by-le, sum_by_push, sum_by_more, sum-map, length-filter, count_by-le-length}
@@ -10,7 +10,7 @@ use Rattle.rayon.specs.Shown.{run-append}
 use Rattle.linear_systems.specs.Vertices.{MarkedPoint}
 use Rattle.basis_enum.specs.Vertices.{mark_of, marks_of}
 use Rattle.basis_enum.specs.declared.vertex.Vertex.{Vertex}
-use Rattle.label_pairing.specs.Matches.{completes, AreMatches, AreWords, partner_count}
+use Rattle.label_pairing.specs.Matches.{completes, AreMatches, AreWords, partner_count, partner_pairs}
 use Rattle.label_pairing.specs.Pairs.{are_together, mark_at, all_pairs}
 use Rattle.label_pairing.proofs.Rows.{row, rows, range_more, rows-next, vertex-together}
 
@@ -60,6 +60,13 @@ row_count f p m (suc n) h =
     ∙ ap₂ (λ a b. a + cond b 1 0) (row_count f p m n (λ j l. h j (omega arith))) (ap f last ∙ h n (omega arith))
     ∙ sym (sum_by-map-range_with_len_more (λ (q : ℕ × ℕ). cond (p q) 1 0) (λ j. (m, j)) 0 n n (omega arith))
     ∙ ap (λ k. count_by p (map (λ j. (m, j)) (range_with_len 0 k))) (add-one n)
+
+-- a vertex without partners has no pairs
+pub no-partners : (i : ℕ) (mask all low high : List ℕ) → partner_count mask all low high ≡ 0 → partner_pairs i mask all low high ≡ []
+no-partners i mask all low high none =
+    let p : ℕ × ℕ → Bool = λ p. completes mask all (get_or low p.1 0) (get_or high p.1 0) in
+    nil_from_length (partner_pairs i mask all low high)
+    (length-filter p (map (λ j. (i, j)) (range_with_len 0 (length low))) ∙ sym (row_count (test mask all low high) p i (length low) (λ j l. refl)) ∙ none)
 
 module _ (all low high : List ℕ) where
   -- the partners of a vertex

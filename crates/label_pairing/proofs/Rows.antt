@@ -9,7 +9,7 @@ use Rattle.std.proofs.lemmas.List.FromFn.{filter_of_map_range_with_len_more}
 use Rattle.linear_systems.specs.Vertices.{MarkedPoint}
 use Rattle.basis_enum.specs.Vertices.{mark_of, marks_of}
 use Rattle.basis_enum.specs.declared.vertex.Vertex.{Vertex}
-use Rattle.label_pairing.specs.Matches.{completes, AreMatches, AreWords, flagged_pairs}
+use Rattle.label_pairing.specs.Matches.{completes, AreMatches, AreWords, flagged_pairs, partner_pairs}
 use Rattle.label_pairing.specs.Pairs.{are_together, mark_at, places}
 
 -- the pairs of place i with the first n marks
@@ -48,28 +48,21 @@ module _ (all : List ℕ) (first second : List MarkedPoint) (m : ℕ) (mask low 
       ap₂ (λ a b. completes mask all a b) (ap (λ xs. get_or xs j 0) w.lows ∙ get_or-map (λ (mark : MarkedPoint). mark.low) second j none 0 l) (ap (λ xs. get_or xs j 0) w.highs ∙ get_or-map (λ (mark : MarkedPoint). mark.high) second j none 0 l)
       ∙ ap₂ (λ a b. nat_eq (bit_or a (mark_at second j).low) (get_or all 0 0) && nat_eq (bit_or b (mark_at second j).high) (get_or all 1 0)) e f
 
-module _ (all : List ℕ) (first second : List MarkedPoint) (m : ℕ) (mask low high : List ℕ) (found : List Bool) where
-  -- the flags tell the pairs of one place
-  told : AreWords second low high → AreMatches mask all low high found → get_or mask 0 0 ≡ (mark_at first m).low → get_or mask 1 0 ≡ (mark_at first m).high → (j : ℕ) → j < length second → get_or found j false ≡ are_together all (mark_at first m) (mark_at second j)
-  told w h e f j l =
-      let so_many : length low ≡ length second = ap length w.lows ∙ length-map second (λ mark. mark.low) in
-      h.are_matches j false (omega arith)
-      ∙ completes-together all first second m mask low high w e f j l
+-- tests that agree on a row keep the same of it
+filter-row : (p q : ℕ × ℕ → Bool) (m n : ℕ) → ((j : ℕ) → j < n → p (m, j) ≡ q (m, j)) → filter p (map (λ j. (m, j)) (range_with_len 0 n)) ≡ filter q (map (λ j. (m, j)) (range_with_len 0 n))
+filter-row p q m zero h = refl
+filter-row p q m (suc n) h =
+    ap (λ k. filter p (map (λ j. (m, j)) (range_with_len 0 k))) (sym (add-one n))
+    ∙ filter_of_map_range_with_len_more p (λ j. (m, j)) 0 n n (omega arith)
+    ∙ ap₂ (λ xs b. xs ++ cond b ((m, n) ∷ []) []) (filter-row p q m n (λ j l. h j (omega arith))) (h n (omega arith))
+    ∙ sym (filter_of_map_range_with_len_more q (λ j. (m, j)) 0 n n (omega arith))
+    ∙ ap (λ k. filter q (map (λ j. (m, j)) (range_with_len 0 k))) (add-one n)
 
-  row_told : ((j : ℕ) → j < length second → get_or found j false ≡ are_together all (mark_at first m) (mark_at second j)) → (n : ℕ) → n ≤ length second → filter (λ p. get_or found p.1 false) (map (λ j. (m, j)) (range_with_len 0 n)) ≡ row all first second m n
-  row_told t zero h = refl
-  row_told t (suc n) h =
-      ap (λ k. filter (λ p. get_or found p.1 false) (map (λ j. (m, j)) (range_with_len 0 k))) (sym (add-one n))
-      ∙ filter_of_map_range_with_len_more (λ (p : ℕ × ℕ). get_or found p.1 false) (λ j. (m, j)) 0 n n (omega arith)
-      ∙ ap₂ (λ xs b. xs ++ cond b ((m, n) ∷ []) []) (row_told t n (omega arith)) (t n (omega arith))
-      ∙ sym (filter_of_map_range_with_len_more (λ (p : ℕ × ℕ). are_together all (mark_at first p.0) (mark_at second p.1)) (λ j. (m, j)) 0 n n (omega arith))
-      ∙ ap (λ k. row all first second m k) (add-one n)
-
-  pub row-found : AreWords second low high → AreMatches mask all low high found → get_or mask 0 0 ≡ (mark_at first m).low → get_or mask 1 0 ≡ (mark_at first m).high → flagged_pairs m found ≡ row all first second m (length second)
-  row-found w h e f =
-      let so_many : length found ≡ length second = h.so_many ∙ ap length w.lows ∙ length-map second (λ mark. mark.low) in
-      ap (λ n. filter (λ p. get_or found p.1 false) (map (λ j. (m, j)) (range_with_len 0 n))) so_many
-      ∙ row_told (told w h e f) (length second) (omega arith)
+-- the flags tell the partners
+pub found-partners : (i : ℕ) (mask all low high : List ℕ) (found : List Bool) → AreMatches mask all low high found → flagged_pairs i found ≡ partner_pairs i mask all low high
+found-partners i mask all low high found h =
+    ap (λ n. filter (λ p. get_or found p.1 false) (map (λ j. (i, j)) (range_with_len 0 n))) h.so_many
+    ∙ filter-row (λ p. get_or found p.1 false) (λ p. completes mask all (get_or low p.1 0) (get_or high p.1 0)) i (length low) (λ j l. h.are_matches j false l)
 
 -- the words of a vertex that is read tell its pairs
 pub vertex-together : (all : List ℕ) (first : List Vertex) (second : List MarkedPoint) (i : ℕ) (d : Vertex) (low high : List ℕ) → i < length first → AreWords second low high → (j : ℕ) → j < length second → completes (get_or first i d).mask all (get_or low j 0) (get_or high j 0) ≡ are_together all (mark_at (marks_of first) i) (mark_at second j)
@@ -77,11 +70,12 @@ vertex-together all first second i d low high h w =
     let e = sym (get_or-map mark_of first i d none h) in
     completes-together all (marks_of first) second i (get_or first i d).mask low high w (ap (λ (mark : MarkedPoint). mark.low) e) (ap (λ (mark : MarkedPoint). mark.high) e)
 
--- the flags of a vertex that is read tell its row
-pub vertex-row : (all : List ℕ) (first : List Vertex) (second : List MarkedPoint) (i : ℕ) (d : Vertex) (low high : List ℕ) (found : List Bool) → i < length first → AreWords second low high → AreMatches (get_or first i d).mask all low high found → flagged_pairs i found ≡ row all (marks_of first) second i (length second)
-vertex-row all first second i d low high found h w m =
-    let e = sym (get_or-map mark_of first i d none h) in
-    row-found all (marks_of first) second i (get_or first i d).mask low high found w m (ap (λ (mark : MarkedPoint). mark.low) e) (ap (λ (mark : MarkedPoint). mark.high) e)
+-- the partners of a vertex that is read make its row
+pub vertex-row : (all : List ℕ) (first : List Vertex) (second : List MarkedPoint) (i : ℕ) (d : Vertex) (low high : List ℕ) → i < length first → AreWords second low high → partner_pairs i (get_or first i d).mask all low high ≡ row all (marks_of first) second i (length second)
+vertex-row all first second i d low high h w =
+    let so_many : length low ≡ length second = ap length w.lows ∙ length-map second (λ mark. mark.low) in
+    ap (λ n. filter (λ p. completes (get_or first i d).mask all (get_or low p.1 0) (get_or high p.1 0)) (map (λ j. (i, j)) (range_with_len 0 n))) so_many
+    ∙ filter-row (λ p. completes (get_or first i d).mask all (get_or low p.1 0) (get_or high p.1 0)) (λ p. are_together all (mark_at (marks_of first) p.0) (mark_at second p.1)) i (length second) (vertex-together all first second i d low high h w)
 
 -- one more place
 pub found-next : (found : List Bool) (i j : ℕ) (old loop new : List (ℕ × ℕ)) (b : Bool) → get_or found j false ≡ b → loop ≡ old ++ filter (λ p. get_or found p.1 false) (map (λ j. (i, j)) (range_with_len 0 j)) → new ≡ loop ++ cond b ((i, j) ∷ []) [] → new ≡ old ++ filter (λ p. get_or found p.1 false) (map (λ j. (i, j)) (range_with_len 0 (j + 1)))
@@ -101,9 +95,8 @@ words_of vertices low high e f = record { lows = e ∙ same (λ mark. mark.low) 
     same f g h [] = refl
     same f g h (v ∷ vs) = ap₂ (λ x xs. x ∷ xs) (h v) (same f g h vs)
 
-module _ (all : List ℕ) (first : List Vertex) (second : List MarkedPoint) (i : ℕ) (d : Vertex) (low high : List ℕ) (found : List Bool) where
-  -- one more vertex's pairs are listed
-  pub pairs-next : (pairs new : List (ℕ × ℕ)) → i < length first → AreWords second low high → AreMatches (get_or first i d).mask all low high found → new ≡ pairs ++ flagged_pairs i found → pairs ≡ rows all (marks_of first) second i → new ≡ rows all (marks_of first) second (i + 1)
-  pairs-next pairs new h w m push before =
-      push ∙ ap₂ (λ xs ys. xs ++ ys) before (vertex-row all first second i d low high found h w m)
-      ∙ sym (rows-next all (marks_of first) second i)
+-- one more vertex's pairs are listed
+pub pairs-next : (all : List ℕ) (first : List Vertex) (second : List MarkedPoint) (i : ℕ) (d : Vertex) (low high : List ℕ) (pairs new : List (ℕ × ℕ)) → i < length first → AreWords second low high → new ≡ pairs ++ partner_pairs i (get_or first i d).mask all low high → pairs ≡ rows all (marks_of first) second i → new ≡ rows all (marks_of first) second (i + 1)
+pairs-next all first second i d low high pairs new h w push before =
+    push ∙ ap₂ (λ xs ys. xs ++ ys) before (vertex-row all first second i d low high h w)
+    ∙ sym (rows-next all (marks_of first) second i)

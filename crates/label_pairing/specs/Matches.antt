@@ -31,3 +31,9 @@ pub record AreWords (marks : List MarkedPoint) (low high : List ℕ) : Type 0 wh
 abbrev pub flagged_pairs : ℕ → List Bool → List (ℕ × ℕ)
 flagged_pairs i found =
     filter (λ p. get_or found p.1 false) (map (λ j. (i, j)) (range_with_len 0 (length found)))
+
+-- place i with each place whose mask completes the mask
+abbrev pub partner_pairs : ℕ → List ℕ → List ℕ → List ℕ → List ℕ → List (ℕ × ℕ)
+partner_pairs i mask all low high =
+    filter (λ p. completes mask all (get_or low p.1 0) (get_or high p.1 0))
+    (map (λ j. (i, j)) (range_with_len 0 (length low)))

@@ -1,13 +1,11 @@
-// How many pairs there are.
-ghost use Rattle.std.specs.Prelude.{◌≡◌, ◌<◌, ◌≤◌, ◌^◌, List, length, count_by};
-ghost use Rattle.basis_enum.specs.Vertices.{marks_of};
-ghost use Rattle.linear_systems.specs.Vertices.{MarkedPoint};
-ghost use Rattle.label_pairing.specs.Matches.{AreWords, partner_count};
-ghost use Rattle.label_pairing.specs.Pairs.{all_pairs};
+// How many partners vertices have.
+ghost use Rattle.std.specs.Prelude.{◌≡◌, ◌<◌, ◌≤◌, ◌^◌, length, map, count_by, sum, IfOk};
+ghost use Rattle.label_pairing.specs.Matches.{partner_count};
 
 use crate::matching::matches;
 use basis_enum::Vertex;
 use rayon::prelude::*;
+use std::alloc::{AllocError, Global};
 use std::thread::Threads;
 
 // The places whose partners are counted at once.
@@ -44,20 +42,20 @@ fn partner_count(mask: [u64; 2], all: [u64; 2], low: &[u64], high: &[u64]) -> us
     count + found_count(rest_found)
 }
 
-/// How many pairs there are of a vertex with a mask of a list, whose low and high words are given
-/// apart, so that both masks together have exactly the bits of `all`.
-pub fn pair_count<R: Threads + Sync>(
+/// How many partners each vertex has: masks of a list, whose low and high words are given apart,
+/// that together with the vertex's mask have exactly the bits of `all`. Many vertices are shared
+/// among threads.
+pub fn partner_counts<R: Threads + Sync>(
     rt: &R,
+    alloc: Global,
     first: &[Vertex],
     all: [u64; 2],
     low: &[u64],
     high: &[u64],
-) -> usize
-    requires few_first { length first.now < 2 ^ 32 }
-    requires few_second { length low.now < 2 ^ 32 }
-    requires high { length high.now ≡ length low.now }
-    ensures { (second : List MarkedPoint) → AreWords second low.now high.now
-        → result ≡ length (all_pairs all (marks_of first.now) second) }
+) -> Result<Vec<usize>, AllocError>
+    requires { length high.now ≡ length low.now }
+    ensures { IfOk result (λ counts. counts.items
+        ≡ map (λ vertex. partner_count vertex.mask all low.now high.now) first.now) }
 {
     first
         .par_iter()
@@ -69,5 +67,13 @@ pub fn pair_count<R: Threads + Sync>(
                     ≡ partner_count vertex.now.mask all low.entry.now high.entry.now }
             { partner_count(vertex.mask, all, low, high) },
         )
-        .sum(rt)
+        .collect(rt, alloc)
+}
+
+/// How many pairs there are: the partners of all vertices together.
+pub fn pair_count(counts: &[usize]) -> usize
+    requires { sum counts.now < 2 ^ 64 }
+    ensures { result ≡ sum counts.now }
+{
+    counts.iter().sum()
 }

@@ -3,12 +3,12 @@ ghost use Rattle.std.specs.Prelude.{◌≡◌, ◌<◌, ◌≤◌, ◌++◌, ◌
 ghost use Rattle.answers.specs.Answers.{Gives, map_ok};
 ghost use Rattle.basis_enum.specs.Vertices.{marks_of};
 ghost use Rattle.linear_systems.specs.Vertices.{MarkedPoint};
-ghost use Rattle.label_pairing.specs.Matches.{AreWords, flagged_pairs};
+ghost use Rattle.label_pairing.specs.Matches.{AreWords, flagged_pairs, partner_count, partner_pairs};
 ghost use Rattle.label_pairing.specs.Pairs.{all_pairs};
 ghost use Rattle.label_pairing.specs.Stops.{pairs_in};
 ghost use Rattle.label_pairing.specs.declared.pairing.PairStop.TheVariants as stops;
 
-use crate::counting::pair_count;
+use crate::counting::{pair_count, partner_counts};
 use crate::matching::matches;
 use basis_enum::Vertex;
 use frac128::Memory;
@@ -76,33 +76,72 @@ fn push_found(pairs: &mut Vec<(u32, u32)>, i: u32, found: &[bool]) -> Result<(),
     Ok(())
 }
 
-// The pairs with masks whose words these are, in room for so many.
+// Adds the pairs of place i, whose vertex has this mask and so many partners.
+fn push_partners(
+    pairs: &mut Vec<(u32, u32)>,
+    i: u32,
+    mask: [u64; 2],
+    all: [u64; 2],
+    low: &[u64],
+    high: &[u64],
+    count: usize,
+    found: &mut [bool],
+) -> Result<(), Memory>
+    requires few { length low.now < 2 ^ 32 }
+    requires high { length high.now ≡ length low.now }
+    requires found { length found.old ≡ length low.now }
+    requires count { count ≡ partner_count mask all low.now high.now }
+    ensures room { length found.new ≡ length low.now }
+    ensures pairs { OnOk result (pairs.new.items
+        ≡ pairs.old.items ++ partner_pairs i mask all low.now high.now) }
+{
+    if count == 0 {
+        return Ok(());
+    }
+    matches(mask, all, low, high, found);
+    push_found(pairs, i, found)
+}
+
+// The pairs of vertices, which have so many partners, with masks whose words these are, in room for
+// so many pairs.
 fn collected(
     alloc: Global,
     first: &[Vertex],
     all: [u64; 2],
     low: &[u64],
     high: &[u64],
-    count: usize,
+    counts: &[usize],
+    room: usize,
 ) -> Result<Vec<(u32, u32)>, Memory>
     requires few_first { length first.now < 2 ^ 32 }
     requires few_second { length low.now < 2 ^ 32 }
     requires high { length high.now ≡ length low.now }
+    requires counts { counts.now
+        ≡ map (λ vertex. partner_count vertex.mask all low.now high.now) first.now }
     ensures { IfOk result (λ pairs. (second : List MarkedPoint) → AreWords second low.now high.now
         → pairs.items ≡ all_pairs all (marks_of first.now) second) }
 {
     let mut found = vec![in alloc; false; low.len()]?;
-    let mut pairs = Vec::with_capacity(alloc, count)?;
+    let mut pairs = Vec::with_capacity(alloc, room)?;
     for i in 0..first.len() {
-        matches(first[i].mask, all, low, high, &mut found);
-        push_found(&mut pairs, i as u32, &found)?;
+        let count = counts[i];
+        push_partners(
+            &mut pairs,
+            i as u32,
+            first[i].mask,
+            all,
+            low,
+            high,
+            count,
+            &mut found,
+        )?;
     }
     Ok(pairs)
 }
 
 /// The pairs of vertices whose masks together have all these bits, by their places in the two lists,
-/// in ascending order. Places are numbered from 0. The pairs are counted in several threads where
-/// there are many vertices.
+/// in ascending order. Places are numbered from 0. Each vertex's partners are counted first, in several
+/// threads where there are many vertices, and only vertices that have some are looked at again.
 ///
 /// # Errors
 ///
@@ -122,7 +161,8 @@ pub fn pairs<R: Threads + Sync>(
 {
     let low = words(alloc, second, 0)?;
     let high = words(alloc, second, 1)?;
-    let count = pair_count(rt, first, all, &low, &high);
+    let counts = partner_counts(rt, alloc, first, all, &low, &high)?;
+    let count = pair_count(&counts);
     if count > MOST_PAIRS {
         return Err(PairStop::TooLarge(TooLarge {
             what: What::Pairs,
@@ -130,5 +170,5 @@ pub fn pairs<R: Threads + Sync>(
             limit: MOST_PAIRS as u64,
         }));
     }
-    Ok(collected(alloc, first, all, &low, &high, count)?)
+    Ok(collected(alloc, first, all, &low, &high, &counts, count)?)
 }

@@ -1,8 +1,9 @@
 -- Tables of two players with payoffs that a linear congruential generator draws.
 -- Source: the example generator of the C standard.
-use Rattle.std.specs.Prelude.{ℕ, zero, suc, ◌+◌, ◌*◌, ◌/◌, ◌%◌, pos, List, [], ◌∷◌, map, slice_index_or}
+use Rattle.std.specs.Prelude.{ℕ, zero, suc, ◌+◌, ◌*◌, ◌/◌, ◌%◌, pos, List, [], ◌∷◌, map, replicate, slice_index_or}
 use Rattle.std.specs.List.{range_with_len}
 use Rattle.rational.specs.Rational.{ℚ, whole, zero_ℚ}
+use Rattle.game_core.specs.Table.{GameTable}
 use Rattle.game_theory.specs.Profiles.{Game}
 
 -- the state that follows a state
@@ -32,4 +33,13 @@ abbrev pub made_game : (seed rows columns : ℕ) → Game
 made_game seed rows columns = record {
   strategies = rows ∷ columns ∷ [];
   pays = λ i k. slice_index_or (made_payoffs seed (2 * (rows * columns))) (k * 2 + i) zero_ℚ;
+}
+
+-- The table of that game whose names are all empty.
+abbrev pub made_table : (seed rows columns : ℕ) → GameTable
+made_table seed rows columns = record {
+  title = [];
+  players = replicate 2 [];
+  strategies = replicate rows [] ∷ replicate columns [] ∷ [];
+  payoffs = made_payoffs seed (2 * (rows * columns));
 }

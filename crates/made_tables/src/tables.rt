@@ -1,7 +1,7 @@
 // The tables.
-ghost use Rattle.std.specs.Prelude.{◌≡◌, ◌*◌, ◌<◌, ◌≤◌, length, IfOk};
+ghost use Rattle.std.specs.Prelude.{◌≡◌, ◌*◌, ◌<◌, ◌≤◌, [], replicate, IfOk};
 ghost use Rattle.game_core.specs.Table.{game_of, most_payoffs};
-ghost use Rattle.made_tables.specs.MadeTables.{made_game};
+ghost use Rattle.made_tables.specs.MadeTables.{made_game, made_table};
 ghost use Rattle.made_tables.specs.Laws.{MadeGamesPayDraws};
 
 use crate::draws::made_payoffs;
@@ -11,7 +11,7 @@ use std::alloc::Global;
 
 // So many empty names.
 fn empty_names(alloc: Global, count: usize) -> Result<Vec<Name>, Memory>
-    ensures { IfOk result (λ names. length names.items ≡ count) }
+    ensures { IfOk result (λ names. names.items ≡ replicate count []) }
 {
     let mut names = Vec::with_capacity(alloc, count)?;
     for _ in 0..count {
@@ -30,7 +30,8 @@ pub fn make_table(alloc: Global, seed: u32, rows: u32, columns: u32) -> Result<T
     requires rows { 0 < rows }
     requires columns { 0 < columns }
     requires few { 2 * (rows * columns) ≤ most_payoffs }
-    ensures { IfOk result (λ table. game_of table ≡ made_game seed rows columns) }
+    ensures table { IfOk result (λ table. table ≡ made_table seed rows columns) }
+    ensures game { IfOk result (λ table. game_of table ≡ made_game seed rows columns) }
 {
     let payoffs = made_payoffs(alloc, seed, 2 * (rows as usize * columns as usize))?;
     let players = empty_names(alloc, 2)?;

@@ -14,11 +14,12 @@ use crate::cells::cells;
 use crate::limits::{check_choices, count_all};
 use crate::names::{copied_names, names_of_all};
 use crate::stop::ReduceStop;
+use choice_lists::Decision;
 use frac128::{Frac, Memory};
 use game_core::{Table, Tree, copied, trees_are_game_trees};
 use std::alloc::Global;
 use std::marker::Model;
-use strategy_lists::{Decision, decisions_of_all, list_strategies, set_places};
+use strategy_lists::{decisions_of_all, list_strategies, set_places};
 
 /// The reduced strategic form of a tree. Players and strategies are numbered from 0.
 #[derive(Debug, Drop)]

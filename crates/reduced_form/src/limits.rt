@@ -12,9 +12,10 @@ ghost use Rattle.reduced_form.specs.Stops.{IsStop, too_many_payoffs, too_many_ch
 ghost use Rattle.game_theory.specs.OwnSets.{own_sets};
 
 use crate::stop::ReduceStop;
+use choice_lists::Decision;
 use game_core::{TooLarge, Tree, What, trees_are_game_trees};
 use std::alloc::Global;
-use strategy_lists::{Decision, count_strategies, own_sets_are_those_of_the_tree};
+use strategy_lists::{count_strategies, own_sets_are_those_of_the_tree};
 
 // The most payoffs of a reduced form.
 const MOST_PAYOFFS: usize = 1_048_576;

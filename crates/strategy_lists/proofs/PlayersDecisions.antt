@@ -9,9 +9,9 @@ use Rattle.game_theory.specs.OwnSets.{own_sets}
 use Rattle.lists.proofs.Elements.{element}
 use Rattle.game_theory.specs.Trees.{Tree, IsTree}
 use Rattle.game_theory.specs.Recall.{own_history}
-use Rattle.strategy_lists.specs.declared.decision.Decision.{Decision}
-use Rattle.strategy_lists.specs.declared.decision.Step.{Step}
-use Rattle.strategy_lists.specs.Walks.{AreLinked, ComesFrom}
+use Rattle.choice_lists.specs.declared.decision.Decision.{Decision}
+use Rattle.choice_lists.specs.declared.decision.Step.{Step}
+use Rattle.choice_lists.specs.Walks.{AreLinked, ComesFrom}
 use Rattle.strategy_lists.specs.Decisions.{action_counts, history_by, IsDecisionAt, AreDecisions, AreDecisionsOfAll}
 use Rattle.strategy_lists.specs.Made.{mover, IsMove, IsStepTo, LeadsTo, IsMadeAt, HasTaken, AreMade, AreMadeByAll}
 use Rattle.strategy_lists.proofs.OwnNumbers.{slice_get-push, slice_get-push_cases}

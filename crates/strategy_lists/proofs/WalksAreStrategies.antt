@@ -12,9 +12,9 @@ use Rattle.game_theory.specs.Recall.{own_history}
 use Rattle.reduced_strategies.specs.Choices.{choice_at, Agrees, IsReached as is_set_reached, IsReduced, AreReducedStrategies}
 use Rattle.reduced_strategies.proofs.Sets.{choice_at-among, choice_at-first, choice_at-later}
 use Rattle.reduced_strategies.proofs.Histories.{Agrees-append}
-use Rattle.strategy_lists.specs.declared.decision.Decision.{Decision}
-use Rattle.strategy_lists.specs.declared.decision.Step.{Step}
-use Rattle.strategy_lists.specs.Walks.{ComesFrom, IsLedTo, IsReachedWithin, IsPlaceReached, IsWalk, AreWalks}
+use Rattle.choice_lists.specs.declared.decision.Decision.{Decision}
+use Rattle.choice_lists.specs.declared.decision.Step.{Step}
+use Rattle.choice_lists.specs.Walks.{ComesFrom, IsLedTo, IsReachedWithin, IsPlaceReached, IsWalk, AreWalks}
 use Rattle.strategy_lists.specs.Decisions.{action_counts, history_by, IsDecisionAt, AreDecisions}
 use Rattle.strategy_lists.specs.OwnNumbers.{own_numbers}
 use Rattle.strategy_lists.proofs.OwnNumbers.{own_sets-numbers, own_numbers-at, own_numbers-tell, own_numbers-place}

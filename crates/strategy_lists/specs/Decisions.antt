@@ -4,9 +4,9 @@ use Rattle.game_theory.specs.OwnSets.{own_sets}
 use Rattle.game_theory.specs.Trees.{Tree}
 use Rattle.game_theory.specs.Recall.{own_history}
 use Rattle.reduced_strategies.specs.Choices.{AreReducedStrategies}
-use Rattle.strategy_lists.specs.declared.decision.Decision.{Decision}
-use Rattle.strategy_lists.specs.declared.decision.Step.{Step}
-use Rattle.strategy_lists.specs.Walks.{AreLinked}
+use Rattle.choice_lists.specs.declared.decision.Decision.{Decision}
+use Rattle.choice_lists.specs.declared.decision.Step.{Step}
+use Rattle.choice_lists.specs.Walks.{AreLinked}
 
 -- how many actions each of player i's own sets has
 abbrev pub action_counts : Tree → ℕ → List ℕ

@@ -1,8 +1,3 @@
 pub mod Decisions
-pub mod Ends
-pub mod LeftOut
 pub mod Made
 pub mod OwnNumbers
-pub mod Tested
-pub mod Walks
-pub mod Ways

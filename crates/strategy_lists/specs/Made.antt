@@ -5,9 +5,9 @@ use Rattle.game_theory.specs.Trees.{Tree}
 use Rattle.game_theory.specs.Recall.{own_history}
 use Rattle.game_core.specs.declared.tree.Kind.{Kind}
 use Rattle.game_core.specs.declared.tree.Kind.TheVariants.{Chance, Move, End}
-use Rattle.strategy_lists.specs.declared.decision.Decision.{Decision}
-use Rattle.strategy_lists.specs.declared.decision.Step.{Step}
-use Rattle.strategy_lists.specs.Walks.{ComesFrom}
+use Rattle.choice_lists.specs.declared.decision.Decision.{Decision}
+use Rattle.choice_lists.specs.declared.decision.Step.{Step}
+use Rattle.choice_lists.specs.Walks.{ComesFrom}
 use Rattle.strategy_lists.specs.Decisions.{IsDecisionAt}
 
 -- the player who moves at a node of this kind

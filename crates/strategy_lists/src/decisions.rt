@@ -7,8 +7,8 @@ ghost use Rattle.strategy_lists.specs.Decisions.{AreDecisionsOfAll};
 ghost use Rattle.strategy_lists.specs.Made.{HasTaken, IsLastMove, IsMadeAt, IsMove, mover, mover_of};
 ghost use Rattle.game_theory.specs.OwnSets.{own_sets};
 
-use crate::decision::{Decision, Step};
 use answers::Memory;
+use choice_lists::{Decision, Step};
 use game_core::{Kind, Node, Tree, trees_are_game_trees};
 use std::alloc::Global;
 

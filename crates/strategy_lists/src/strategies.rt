@@ -4,10 +4,8 @@ ghost use Rattle.game_core.specs.TreeGame.{game_of_tree};
 ghost use Rattle.reduced_strategies.specs.Choices.{AreReducedStrategies};
 ghost use Rattle.strategy_lists.specs.Decisions.{action_counts, AreDecisions, HasCount};
 
-use crate::count::count_walks;
-use crate::decision::Decision;
-use crate::walk::list_walks;
 use answers::Memory;
+use choice_lists::{Decision, count_walks, list_walks};
 use game_core::Tree;
 use std::alloc::Global;
 

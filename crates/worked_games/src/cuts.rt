@@ -33,7 +33,7 @@ fn with_answer<R: Threads + Sync>(
     Ok(folded(digest, err.taken()))
 }
 
-/// Each game of `examples/` cut off before each of its bytes, and whole, with the digest of all that these runs answer. The
+/// Eleven games of `examples/`, cut off before each of their bytes, and whole, with the digest of all that these runs answer. The
 /// digests were computed by a reader of its own, written from `docs/FORMAT.md`.
 #[test]
 fn cut_games_are_told(rt: HostRuntime) -> Result<(), Memory> {

@@ -13,10 +13,10 @@ pub returns-in_err-found : goal.returns-in_err-found
 returns-in_err-found g c =
     let stop = c.in_err-found.field-0.0 in
     gives_told_exit mixed_stop.Memory mixed_refusal (extreme_pairs (made_game c.args.number c.args.rows c.args.columns)) (λ pairs. only (counts_text pairs)) stop c.from_residual-in_err-found.result (λ text. text.items)
-    (subst (λ game. Gives mixed_stop.Memory (extreme_pairs game) (Err stop)) c.in_ok-table.ensures c.in_err-found.ensures.answer) c.from_residual-in_err-found.ensures.1
+    (subst (λ game. Gives mixed_stop.Memory (extreme_pairs game) (Err stop)) c.in_ok-table.ensures.game c.in_err-found.ensures.answer) c.from_residual-in_err-found.ensures.1
 
 pub returns : goal.returns
 returns g c =
     let pairs = pairs_of c.in_ok-found.found in
     let text : c.into_bytes.result.items ≡ counts_text pairs = search (rules, c.into_bytes.ensures.value, c.in_ok-counts_text.ensures) in
-    (pairs, subst (λ game. extreme_pairs game (Ok pairs)) c.in_ok-table.ensures c.in_ok-found.ensures.answer, ap Ok text)
+    (pairs, subst (λ game. extreme_pairs game (Ok pairs)) c.in_ok-table.ensures.game c.in_ok-found.ensures.answer, ap Ok text)

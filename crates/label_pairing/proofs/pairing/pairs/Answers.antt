@@ -1,18 +1,34 @@
-use Rattle.std.proofs.Common.{◌≡◌, ◌≤◌, ◌<◌, ◌∙◌, inr, length, sym, ap, subst}
+use Rattle.std.proofs.Common.{◌≡◌, ◌≤◌, ◌<◌, ◌^◌, ◌∙◌, inr, length, map, get_or, sym, ap, ap₂, subst, arith}
+use Rattle.std.specs.Prelude.{sum}
+use Rattle.std.proofs.lemmas.List.{length-map}
 use Rattle.basis_enum.specs.Vertices.{marks_of}
+use Rattle.basis_enum.specs.declared.vertex.Vertex.{Vertex}
+use Rattle.label_pairing.specs.Matches.{partner_count}
 use Rattle.label_pairing.specs.Pairs.{all_pairs, most_pairs}
 use Rattle.label_pairing.specs.Stops.{pair_limit}
+use Rattle.label_pairing.proofs.Partners.{partners_fit, pairs-counted}
 use Rattle.label_pairing.proofs.Rows.{words_of}
 use Rattle.label_pairing.proofs.pairing.pairs.Goals as goal
 
+pub pair_count-count-requires : goal.pair_count-count-requires
+pair_count-count-requires g c =
+    let few : length c.deref.result.now < 2 ^ 32 = omega (arith, ap length (c.deref.ensures.value ∙ c.in_ok-low.ensures), length-map c.args.second.now (λ (vertex : Vertex). get_or vertex.mask 0 0), c.requires.few_second) in
+    subst (λ counts. sum counts < 2 ^ 64) (sym (c.deref-3.ensures.value ∙ c.in_ok-counts.ensures)) (partners_fit c.args.all c.deref.result.now c.deref-2.result.now c.args.first.now c.requires.few_first few)
+
+pub collected-requires-clause-counts : goal.collected-requires-clause-counts
+collected-requires-clause-counts g c =
+    c.deref-6.ensures.value ∙ c.in_ok-counts.ensures
+    ∙ ap₂ (λ low high. map (λ (vertex : Vertex). partner_count vertex.mask c.args.all low high) c.args.first.now) (c.deref.ensures.value ∙ sym c.deref-4.ensures.value) (c.deref-2.ensures.value ∙ sym c.deref-5.ensures.value)
+
 pub returns-then-count-gt-MOST_PAIRS : goal.returns-then-count-gt-MOST_PAIRS
 returns-then-count-gt-MOST_PAIRS g c =
-    let so_many : c.pair_count-count.result ≡ length (all_pairs c.args.all (marks_of c.args.first.now) (marks_of c.args.second.now)) = c.pair_count-count.ensures (marks_of c.args.second.now) (words_of c.args.second.now c.deref.result.now c.deref-2.result.now (c.deref.ensures.value ∙ c.in_ok-low.ensures) (c.deref-2.ensures.value ∙ c.in_ok-high.ensures)) in
+    let marks = marks_of c.args.second.now in
+    let so_many : c.pair_count-count.result ≡ length (all_pairs c.args.all (marks_of c.args.first.now) marks) = c.pair_count-count.ensures ∙ ap sum (c.deref-3.ensures.value ∙ c.in_ok-counts.ensures) ∙ pairs-counted c.args.all c.deref.result.now c.deref-2.result.now marks (words_of c.args.second.now c.deref.result.now c.deref-2.result.now (c.deref.ensures.value ∙ c.in_ok-low.ensures) (c.deref-2.ensures.value ∙ c.in_ok-high.ensures)) c.args.first.now in
     inr (subst (λ n. most_pairs < n) so_many c.if-count-gt-MOST_PAIRS.true, ap pair_limit so_many)
 
 pub returns : goal.returns
 returns g c =
     let marks = marks_of c.args.second.now in
-    let so_many : c.pair_count-count.result ≡ length (all_pairs c.args.all (marks_of c.args.first.now) marks) = c.pair_count-count.ensures marks (words_of c.args.second.now c.deref.result.now c.deref-2.result.now (c.deref.ensures.value ∙ c.in_ok-low.ensures) (c.deref-2.ensures.value ∙ c.in_ok-high.ensures)) in
-    let are_all : c.in_ok-collected.field-0.items ≡ all_pairs c.args.all (marks_of c.args.first.now) marks = c.in_ok-collected.ensures marks (words_of c.args.second.now c.deref-3.result.now c.deref-4.result.now (c.deref-3.ensures.value ∙ c.in_ok-low.ensures) (c.deref-4.ensures.value ∙ c.in_ok-high.ensures)) in
+    let so_many : c.pair_count-count.result ≡ length (all_pairs c.args.all (marks_of c.args.first.now) marks) = c.pair_count-count.ensures ∙ ap sum (c.deref-3.ensures.value ∙ c.in_ok-counts.ensures) ∙ pairs-counted c.args.all c.deref.result.now c.deref-2.result.now marks (words_of c.args.second.now c.deref.result.now c.deref-2.result.now (c.deref.ensures.value ∙ c.in_ok-low.ensures) (c.deref-2.ensures.value ∙ c.in_ok-high.ensures)) c.args.first.now in
+    let are_all : c.in_ok-collected.field-0.items ≡ all_pairs c.args.all (marks_of c.args.first.now) marks = c.in_ok-collected.ensures marks (words_of c.args.second.now c.deref-4.result.now c.deref-5.result.now (c.deref-4.ensures.value ∙ c.in_ok-low.ensures) (c.deref-5.ensures.value ∙ c.in_ok-high.ensures)) in
     (are_all, subst (λ n. n ≤ most_pairs) (so_many ∙ ap length (sym are_all)) c.if-count-gt-MOST_PAIRS.false)

@@ -1,7 +1,7 @@
 use Rattle.std.proofs.Common.{◌∙◌, refl, subst, length}
 use Rattle.std.proofs.lemmas.Result.{IfOk-weaker}
 use Rattle.game_core.specs.TreeGame.{game_of_tree}
-use Rattle.strategy_lists.specs.Walks.{AreWalks}
+use Rattle.choice_lists.specs.Walks.{AreWalks}
 use Rattle.strategy_lists.proofs.WalksAreStrategies.{walks-strategies}
 use Rattle.strategy_lists.proofs.strategies.count_strategies.Goals as goal
 

@@ -1,0 +1,10 @@
+pub mod Ascending
+pub mod Behind
+pub mod EndLists
+pub mod Flags
+pub mod LeftOut
+pub mod Linked
+pub mod Steps
+pub mod Turns
+pub mod WalkSteps
+pub mod Ways

@@ -1,8 +1,0 @@
-use Rattle.strategy_lists.proofs.Linked.{linked-tested}
-use Rattle.strategy_lists.proofs.walk_tests.has_lists.Goals as goal
-
-pub list_walks-requires : goal.list_walks-requires
-list_walks-requires c = record { linked = linked-tested c.args.decisions.now c.args.actions.now c.requires }
-
-pub count_ends-requires-clause-linked : goal.count_ends-requires-clause-linked
-count_ends-requires-clause-linked c = linked-tested c.args.decisions.now c.args.actions.now c.requires
