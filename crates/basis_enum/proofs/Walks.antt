@@ -8,7 +8,6 @@ use Rattle.std.proofs.lemmas.List.Elements.{Contains-append_left, Contains-appen
 use Rattle.std.proofs.Math.ListN.{get_or-map}
 use Rattle.frac128.specs.declared.steps.Unfit.{Unfit}
 use Rattle.linear_systems.specs.Reached.{in_column}
-use Rattle.linear_systems.specs.Vertices.{MarkedPoint}
 use Rattle.lex_tableau.specs.Rows.{Numbers}
 use Rattle.lex_tableau.specs.Starts.{Parts, IsSystem}
 use Rattle.basis_enum.specs.Bases.{basis_of, AreVariables}
@@ -165,6 +164,15 @@ pub children_numbered : (s : Parts) (k : ℕ) (w : Walk) (moves : List Move) (ne
 children_numbered s k w moves next e h n some few c i hi =
     reached_numbered s (get_or next i no_tableau) e (level_held s (suc k) (levels_of (h.before ++ w.level.items) next) h.valid e (levels_of h.before w.level.items, h.is_level, walk_next_level s k w moves next h n some few c) _ (Contains-append_right (h.before ++ w.level.items) next _ (Contains-get_or next i no_tableau hi))).reached
 
+-- the new level, with the bases to which the pivots lead
+pub children_level : (s : Parts) (k : ℕ) (w : Walk) (moves : List Move) (next : List Numbers) (bases : List ℕ) → IsEnumerable s → (h : IsWalkAt s k w) → AreNewMoves w.level.items w.known.items moves → 0 < length moves → length w.known.items + length moves ≤ 20000 → AreChildren w.level.items moves (length moves) next → bases ≡ map target_of moves → IsLevelOf next bases
+children_level s k w moves next bases e h n some few c is =
+    record {
+      ready = λ i hi. ready s _ e (level_held s (suc k) (levels_of (h.before ++ w.level.items) next) h.valid e (levels_of h.before w.level.items, h.is_level, walk_next_level s k w moves next h n some few c) _ (Contains-append_right (h.before ++ w.level.items) next _ (Contains-get_or next i no_tableau hi)));
+      bases = is ∙ children_bases w.level.items next w.known.items moves n c;
+      few = let size : length next ≡ length moves = c.size in omega arith;
+    }
+
 -- ---- the ends
 pub limit_stop : (s : Parts) (k : ℕ) (w : Walk) (moves : List Move) (e : EnumStop) → IsWalkAt s k w → AreNewMoves w.level.items w.known.items moves → IsLimitStop (length w.known.items + length moves) e → IsStopIn s e
 limit_stop s k w moves (stops.TooLarge limit) h n p =
@@ -226,8 +234,18 @@ system_variables s h e =
 first_nonbasics : (s : Parts) (t : Numbers) → IsFirst s t → s.nonbasics ≡ t.nonbasics
 first_nonbasics s t f = same_number_lists s.nonbasics t.nonbasics f.is_start.fractions.width (λ j h. f.is_start.fractions.nonbasic j h)
 
-pub first_numbered : (s : Parts) (t : Numbers) → IsSystem s → IsEnumerable s → IsFirst s t → AreUpTo (variable_count s) t.basics
-first_numbered s t h e f = reached_numbered s t e (held_start s t h e f.is_tableau f.is_start).reached
+pub first_level : (s : Parts) (t : Numbers) (basis : ℕ) → IsSystem s → IsEnumerable s → IsFirst s t → basis ≡ basis_of s.nonbasics → IsLevelOf (t ∷ []) (basis ∷ [])
+first_level s t basis h e f is =
+    record {
+      ready = λ i hi. let first : i ≡ 0 = omega arith in subst (λ i. IsReady (get_or (t ∷ []) i no_tableau)) (sym first) (ready s t e (held_start s t h e f.is_tableau f.is_start));
+      bases = ap (λ b. b ∷ []) (is ∙ ap basis_of (first_nonbasics s t f));
+      few = omega arith;
+    }
+
+pub first_numbers : (s : Parts) (t : Numbers) → IsSystem s → IsEnumerable s → IsFirst s t → AreNumbered s (t ∷ [])
+first_numbers s t h e f i hi =
+    let first : i ≡ 0 = omega arith in
+    subst (λ i. AreUpTo (variable_count s) (get_or (t ∷ []) i no_tableau).basics) (sym first) (reached_numbered s t e (held_start s t h e f.is_tableau f.is_start).reached)
 
 pub walk_start : (s : Parts) (t : Numbers) (basis : ℕ) (w : Walk) → IsSystem s → IsFirst s t → basis ≡ basis_of s.nonbasics → w.level.items ≡ t ∷ [] → w.bases.items ≡ basis ∷ [] → w.known.items ≡ basis ∷ [] → AreMarksOf s (t ∷ []) (marks_of w.vertices.items) → IsWalkAt s 0 w
 walk_start s t basis w valid f e level bases known marks =

@@ -3,7 +3,6 @@ use Rattle.std.specs.Prelude.{ℕ, ◌<◌, ◌≡◌, List, [], ◌++◌, lengt
 use Rattle.std.specs.List.{Contains}
 use Rattle.std.specs.List.Sorted.{IsStrictlyIncreasing}
 use Rattle.frac128.specs.declared.steps.Unfit.{Unfit}
-use Rattle.linear_systems.specs.Vertices.{MarkedPoint}
 use Rattle.lex_tableau.specs.Rows.{Numbers, IsTableau}
 use Rattle.lex_tableau.specs.Starts.{Parts, IsSystem, IsStartOf, StartFits}
 use Rattle.basis_enum.specs.Systems.{variable_count}

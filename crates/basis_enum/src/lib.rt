@@ -15,7 +15,6 @@ mod children;
 mod enumeration;
 mod marking;
 mod moves;
-mod noting;
 mod stop;
 mod vertex;
 mod walk;

@@ -6,13 +6,17 @@ ghost use Rattle.lex_tableau.specs.Rows.{IsTableau};
 ghost use Rattle.basis_enum.specs.Bases.{HaveDigits, basis_of, neighbour_of};
 ghost use Rattle.basis_enum.specs.Levels.{no_tableau};
 ghost use Rattle.basis_enum.specs.Found.{AddsFound, AddsFoundAt, AreFoundAt, AreFoundIn, HasNone, IsFound, IsLevelOf, IsWhole};
+ghost use Rattle.basis_enum.specs.Systems.{variable_count};
+ghost use Rattle.basis_enum.specs.Walks.{AddsVertices, AreNumbered, IsVertexAt};
 ghost use Rattle.basis_enum.specs.Next.{AreFirsts, AreNewMoves, AreSmall, IsNextOf, LeadsAgain, LeadsFurther, rank, rank_of, target_of};
 
 use crate::bases::{exchanged, is_known};
+use crate::marking::note_vertex;
+use crate::vertex::Vertex;
 use crate::work::sharers;
 use answers::Memory;
 use claims::{Claims, shared_map};
-use lex_tableau::Tableau;
+use lex_tableau::{System, Tableau};
 use outside::Gate;
 use std::alloc::Global;
 use std::cmp::Ordering;
@@ -28,6 +32,13 @@ pub(crate) struct Move {
     pub entering: u32,
     pub row: u32,
     pub column: u32,
+}
+
+// What a tableau of a level gives: its pivots to new bases, and its vertex, where it has one.
+#[derive(Debug, Drop)]
+struct Found {
+    moves: Vec<Move>,
+    vertices: Vec<Vertex>,
 }
 
 // The basis to which the pivot on the lexicographic row of a column leads.
@@ -117,68 +128,94 @@ fn add_moves_at(
     add_moves(&level[place], place as u32, bases[place], known, found)
 }
 
-// The pivots from a tableau of the level to new bases: one piece of work.
+// What a tableau of the level gives: one piece of work.
 fn piece(
     alloc: Global,
+    system: &System,
     level: &[Tableau],
     bases: &[u128],
     known: &[u128],
     place: usize,
-) -> Result<Vec<Move>, Memory>
+) -> Result<Found, Memory>
+    requires few { variable_count system.now ≤ 128 }
+    requires numbered { AreNumbered system.now level.now }
     requires level { IsLevelOf level.now bases.now }
     requires known { IsStrictlyIncreasing known.now }
     requires place_in { place < length level.now }
-    ensures { IfOk result (λ v. AreFoundAt level.now place known.now v.items) }
+    ensures moves { IfOk result (λ f. AreFoundAt level.now place known.now f.moves.items) }
+    ensures vertices { IfOk result (λ f. IsVertexAt system.now level.now place f.vertices.items) }
 {
-    let mut found = Vec::new(alloc);
-    add_moves_at(level, bases, known, place, &mut found)?;
-    Ok(found)
+    let mut moves = Vec::with_capacity(alloc, level[place].nonbasics().len())?;
+    add_moves_at(level, bases, known, place, &mut moves)?;
+    let mut vertices = Vec::new(alloc);
+    note_vertex(alloc, &mut vertices, system, &level[place])?;
+    Ok(Found { moves, vertices })
 }
 
-// The pivots from the level to new bases, piece by piece on this thread.
-#[tactic(auto, using(crate::proofs::LevelMoves::found_in_start, crate::proofs::LevelMoves::found_in_next))]
+// The pivots from the level to new bases, piece by piece on this thread. The vertices of the level
+// are added.
+#[tactic(auto, using(crate::proofs::LevelMoves::found_in_start, crate::proofs::Walks::vertices_start))]
 fn find_moves<G: Gate>(
     alloc: Global,
+    system: &System,
     level: &[Tableau],
     bases: &[u128],
     known: &[u128],
     gate: &G,
+    vertices: &mut Vec<Vertex>,
 ) -> Result<Vec<Move>, Memory>
+    requires few { variable_count system.now ≤ 128 }
+    requires numbered { AreNumbered system.now level.now }
     requires level { IsLevelOf level.now bases.now }
     requires known { IsStrictlyIncreasing known.now }
-    ensures { IfOk result (λ v. AreFoundIn level.now known.now (length level.now) v.items) }
+    ensures moves { IfOk result (λ v. AreFoundIn level.now known.now (length level.now) v.items) }
+    ensures vertices { OnOk result (AddsVertices system.now level.now (length level.now)
+        vertices.old.items vertices.new.items) }
 {
-    let mut found = Vec::new(alloc);
+    let mut moves = Vec::new(alloc);
     for place in 0..level.len() {
         gate.pass(place);
-        add_moves_at(level, bases, known, place, &mut found)?;
+        add_moves_at(level, bases, known, place, &mut moves)?;
+        note_vertex(alloc, vertices, system, &level[place])?;
     }
-    Ok(found)
+    Ok(moves)
 }
 
-// The pivots from the level to new bases, whose pieces so many workers share.
-#[tactic(auto, using(crate::proofs::LevelMoves::found_in_start, crate::proofs::LevelMoves::found_in_more))]
+// The pivots from the level to new bases, whose pieces so many workers share. The vertices of the
+// level are added.
+#[tactic(auto, using(crate::proofs::LevelMoves::found_in_start, crate::proofs::Walks::vertices_start))]
 fn share_moves<R: Threads + Sync, G: Gate>(
     rt: &R,
     alloc: Global,
+    system: &System,
     level: &[Tableau],
     bases: &[u128],
     known: &[u128],
     workers: u32,
     gate: &G,
+    vertices: &mut Vec<Vertex>,
 ) -> Result<Vec<Move>, Memory>
+    requires few { variable_count system.now ≤ 128 }
+    requires numbered { AreNumbered system.now level.now }
     requires level { IsLevelOf level.now bases.now }
     requires known { IsStrictlyIncreasing known.now }
     requires workers { (1 ≤ workers) × (workers ≤ 64) }
-    ensures { IfOk result (λ v. AreFoundIn level.now known.now (length level.now) v.items) }
+    ensures moves { IfOk result (λ v. AreFoundIn level.now known.now (length level.now) v.items) }
+    ensures vertices { OnOk result (AddsVertices system.now level.now (length level.now)
+        vertices.old.items vertices.new.items) }
 {
     let (claims, mut pass) = Claims::new(alloc)?;
-    let work = |place: usize| -> Result<Vec<Move>, Memory>
+    let work = |place: usize| -> Result<Found, Memory>
+        requires few { variable_count system.now ≤ 128 }
+        requires numbered { AreNumbered system.now level.now }
         requires level { IsLevelOf level.now bases.now }
         requires known { IsStrictlyIncreasing known.now }
         requires place_in { place < length level.now }
-        ensures { IfOk result (λ v. AreFoundAt level.entry.now place known.entry.now v.items) }
-    { piece(alloc, level, bases, known, place) };
+        ensures moves { IfOk result
+            (λ f. AreFoundAt level.entry.now place known.entry.now f.moves.items) }
+        ensures vertices { IfOk result
+            (λ f. IsVertexAt system.entry.now level.entry.now place f.vertices.items) }
+    { piece(alloc, system, level, bases, known, place) };
     let pieces = shared_map(
         rt,
         alloc,
@@ -189,11 +226,13 @@ fn share_moves<R: Threads + Sync, G: Gate>(
         gate,
         &work,
     )?;
-    let mut found = Vec::new(alloc);
-    for moves in pieces {
-        found.append(&mut moves?)?;
+    let mut moves = Vec::new(alloc);
+    for piece in pieces {
+        let mut found = piece?;
+        moves.append(&mut found.moves)?;
+        vertices.append(&mut found.vertices)?;
     }
-    Ok(found)
+    Ok(moves)
 }
 
 // The order of two pivots, by what they are.
@@ -284,47 +323,62 @@ fn firsts(alloc: Global, found: &[Move]) -> Result<Vec<Move>, Memory>
     Ok(next)
 }
 
-// The pivots from the level to new bases, by so many workers.
+// The pivots from the level to new bases, by so many workers. The vertices of the level are added.
 fn found_moves<R: Threads + Sync, G: Gate>(
     rt: &R,
     alloc: Global,
+    system: &System,
     level: &[Tableau],
     bases: &[u128],
     known: &[u128],
     workers: u32,
     gate: &G,
+    vertices: &mut Vec<Vertex>,
 ) -> Result<Vec<Move>, Memory>
+    requires few { variable_count system.now ≤ 128 }
+    requires numbered { AreNumbered system.now level.now }
     requires level { IsLevelOf level.now bases.now }
     requires known { IsStrictlyIncreasing known.now }
     requires workers { (1 ≤ workers) × (workers ≤ 64) }
-    ensures { IfOk result (λ v. AreFoundIn level.now known.now (length level.now) v.items) }
+    ensures moves { IfOk result (λ v. AreFoundIn level.now known.now (length level.now) v.items) }
+    ensures vertices { OnOk result (AddsVertices system.now level.now (length level.now)
+        vertices.old.items vertices.new.items) }
 {
     match sharers(level.len(), workers) {
-        1 => find_moves(alloc, level, bases, known, gate),
-        sharers => share_moves(rt, alloc, level, bases, known, sharers, gate),
+        1 => find_moves(alloc, system, level, bases, known, gate, vertices),
+        sharers => share_moves(
+            rt, alloc, system, level, bases, known, sharers, gate, vertices,
+        ),
     }
 }
 
-// The pivots to the next level: one to each new basis, in ascending order.
-#[tactic(auto, using(crate::proofs::LevelMoves::found_small, crate::proofs::LevelMoves::new_moves_are))]
+// The pivots to the next level: one to each new basis, in ascending order. The vertices of the
+// level are added.
 pub(crate) fn new_moves<R: Threads + Sync, G: Gate>(
     rt: &R,
     alloc: Global,
+    system: &System,
     level: &[Tableau],
     bases: &[u128],
     known: &[u128],
     workers: u32,
     gate: &G,
+    vertices: &mut Vec<Vertex>,
 ) -> Result<Vec<Move>, Memory>
+    requires few { variable_count system.now ≤ 128 }
+    requires numbered { AreNumbered system.now level.now }
     requires level { IsLevelOf level.now bases.now }
     requires known { IsStrictlyIncreasing known.now }
     requires workers { (1 ≤ workers) × (workers ≤ 64) }
-    ensures { IfOk result (λ v. AreNewMoves level.now known.now v.items) }
+    ensures moves { IfOk result (λ v. AreNewMoves level.now known.now v.items) }
+    ensures vertices { OnOk result (AddsVertices system.now level.now (length level.now)
+        vertices.old.items vertices.new.items) }
 {
-    next_moves(
-        alloc,
-        found_moves(rt, alloc, level, bases, known, workers, gate)?,
-    )
+    let found = found_moves(
+        rt, alloc, system, level, bases, known, workers, gate, vertices,
+    )?;
+    let next = next_moves(alloc, found)?;
+    Ok(next)
 }
 
 // The bases to which pivots lead.

@@ -13,9 +13,7 @@ ghost use Rattle.basis_enum.specs.Walks.{AreNumbered, HaveEntering, IsFirst, IsL
 
 use crate::bases::{basis, merged};
 use crate::children::{ChildStop, children};
-use crate::marking::note_vertex;
 use crate::moves::{Move, new_moves, targets};
-use crate::noting::note_level;
 use crate::stop::{Basis, EnumStop};
 use crate::vertex::Vertex;
 use answers::Memory;
@@ -52,27 +50,48 @@ fn first(alloc: Global, system: &System) -> Result<Tableau, EnumStop>
     }
 }
 
-// Level 0.
-fn start(alloc: Global, system: &System) -> Result<Walk, EnumStop>
-    requires { IsEnumerable system.now }
-    ensures walk { IfOk result (IsWalkAt system.now 0) }
-    ensures one { IfOk result (λ w. length w.known.items ≡ 1) }
+// Level 0, and the pivots to the next one.
+fn start<R: Threads + Sync, G: Gate>(
+    rt: &R,
+    alloc: Global,
+    system: &System,
+    workers: u32,
+    gate: &G,
+) -> Result<(Walk, Vec<Move>), EnumStop>
+    requires enumerable { IsEnumerable system.now }
+    requires workers { (1 ≤ workers) × (workers ≤ 64) }
+    ensures walk { IfOk result (λ p. IsWalkAt system.now 0 p.0) }
+    ensures moves { IfOk result (λ p. AreNewMoves p.0.level.items p.0.known.items p.1.items) }
+    ensures one { IfOk result (λ p. length p.0.known.items ≡ 1) }
     ensures stop { IfErr result (IsStopIn system.now) }
 {
     let tableau = first(alloc, system)?;
     let basis = basis(system.nonbasics());
+    let mut level = Vec::new(alloc);
+    let mut bases = Vec::new(alloc);
+    let mut known = Vec::new(alloc);
     let mut vertices = Vec::new(alloc);
-    note_vertex(alloc, &mut vertices, system, &tableau)?;
-    let mut walk = Walk {
-        level: Vec::new(alloc),
-        bases: Vec::new(alloc),
-        known: Vec::new(alloc),
+    level.push(tableau)?;
+    bases.push(basis)?;
+    known.push(basis)?;
+    let moves = new_moves(
+        rt,
+        alloc,
+        system,
+        level.as_slice(),
+        bases.as_slice(),
+        known.as_slice(),
+        workers,
+        gate,
+        &mut vertices,
+    )?;
+    let walk = Walk {
+        level,
+        bases,
+        known,
         vertices,
     };
-    walk.level.push(tableau)?;
-    walk.bases.push(basis)?;
-    walk.known.push(basis)?;
-    Ok(walk)
+    Ok((walk, moves))
 }
 
 // These variables, in ascending order.
@@ -163,7 +182,7 @@ fn check_count(bases: usize, moves: &[Move]) -> Result<(), EnumStop>
     Ok(())
 }
 
-// Goes on to the next level.
+// Goes on to the next level, and finds the pivots from there.
 fn advance<R: Threads + Sync, G: Gate, L: Ledger>(
     rt: &R,
     alloc: Global,
@@ -174,13 +193,15 @@ fn advance<R: Threads + Sync, G: Gate, L: Ledger>(
     workers: u32,
     gate: &G,
     steps: &mut Steps<L>,
-) -> Result<(), EnumStop>
+) -> Result<Vec<Move>, EnumStop>
     requires enumerable { IsEnumerable system.now }
     requires walk { IsWalkAt system.now number walk.old }
     requires moves { AreNewMoves walk.old.level.items walk.old.known.items moves.now }
     requires some { 0 < length moves.now }
     requires workers { (1 ≤ workers) × (workers ≤ 64) }
     ensures walk { OnOk result (IsWalkAt system.now (number + 1) walk.new) }
+    ensures moves { IfOk result
+        (λ v. AreNewMoves walk.new.level.items walk.new.known.items v.items) }
     ensures stop { IfErr result (IsStopIn system.now) }
     ensures counted { OnOk result (steps.new + length walk.old.known.items
         ≡ steps.old + length walk.new.known.items) }
@@ -199,17 +220,20 @@ fn advance<R: Threads + Sync, G: Gate, L: Ledger>(
     )?;
     let bases = targets(alloc, moves)?;
     walk.known = merged(alloc, walk.known.as_slice(), bases.as_slice())?;
-    note_level(
+    let next = new_moves(
         rt,
         alloc,
-        &mut walk.vertices,
         system,
         level.as_slice(),
+        bases.as_slice(),
+        walk.known.as_slice(),
         workers,
+        gate,
+        &mut walk.vertices,
     )?;
     walk.level = level;
     walk.bases = bases;
-    Ok(())
+    Ok(next)
 }
 
 // Goes from level to level, to the last one.
@@ -228,21 +252,12 @@ pub(crate) fn reach<R: Threads + Sync, G: Gate, L: Ledger>(
     ensures counted { IfOk result (λ w. steps.new + 1 ≡ steps.old + length w.known.items) }
     ensures bounded { steps.new ≤ steps.old + 19999 }
 {
-    let mut walk = start(alloc, system)?;
+    let (mut walk, mut moves) = start(rt, alloc, system, workers, gate)?;
     for number in 0..MOST_BASES as u32 {
-        let moves = new_moves(
-            rt,
-            alloc,
-            walk.level.as_slice(),
-            walk.bases.as_slice(),
-            walk.known.as_slice(),
-            workers,
-            gate,
-        )?;
         if moves.is_empty() {
             return Ok(walk);
         }
-        advance(
+        let next = advance(
             rt,
             alloc,
             system,
@@ -253,6 +268,7 @@ pub(crate) fn reach<R: Threads + Sync, G: Gate, L: Ledger>(
             gate,
             steps,
         )?;
+        moves = next;
     }
     unreachable!()
 }

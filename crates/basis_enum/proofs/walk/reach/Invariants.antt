@@ -1,7 +1,11 @@
 use Rattle.std.proofs.Common.{◌≡◌, ◌+◌, length}
+use Rattle.basis_enum.specs.Next.{AreNewMoves}
 use Rattle.basis_enum.specs.Walks.{IsWalkAt}
 use Rattle.basis_enum.proofs.walk.reach.Given as goal
 
 abbrev pub invariant-loop-number : goal.invariant-loop-number
-invariant-loop-number g l =
-    IsWalkAt l.system l.number l.walk × (l.steps + 1 ≡ l.initial.steps + length l.walk.known.items)
+invariant-loop-number g l = record {
+  walk : IsWalkAt l.system l.number l.walk;
+  count : l.steps + 1 ≡ l.initial.steps + length l.walk.known.items;
+  moves : AreNewMoves l.walk.level.items l.walk.known.items l.moves.items;
+}
