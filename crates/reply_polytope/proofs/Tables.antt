@@ -1,14 +1,13 @@
 -- What a table of two players says of its systems.
-use Rattle.std.proofs.Common.{ℕ, ◌+◌, ◌*◌, ◌<◌, ◌≤◌, ◌≡◌, Err, List, [], ◌∷◌, All, length, get_or, refl, sym, ap, ◌∙◌, subst, arith, mul-le-mul_right, suc-mul, suc}
-use Rattle.std.proofs.lemmas.List.{length-map, get_or-map, ext_get_or}
+use Rattle.std.proofs.Common.{ℕ, ◌+◌, ◌*◌, ◌<◌, ◌≤◌, ◌≡◌, Err, List, [], ◌∷◌, length, get_or, refl, sym, ap, ◌∙◌, subst, arith, mul-le-mul_right, suc-mul, suc}
+use Rattle.std.proofs.lemmas.List.{ext_get_or}
 use Rattle.lists.proofs.Numbers.{below_two}
 use Rattle.rational.specs.Rational.{ℚ, ◌+ℚ◌, zero_ℚ}
 use Rattle.linear_systems.specs.Rows.{Alike}
 use Rattle.linear_systems.proofs.Agreement.{alike_trans}
 use Rattle.game_theory.specs.Profiles.{profile_count, number_of}
-use Rattle.game_theory.proofs.ProfileCounts.{profile_count-positive}
-use Rattle.game_core.specs.Table.{GameTable, game_of, strategy_counts, IsTable, most_payoffs}
-use Rattle.game_core.proofs.TableCounts.{length-strategy_counts, at_most_product}
+use Rattle.game_core.specs.Table.{GameTable, game_of, strategy_counts, IsTable}
+use Rattle.game_core.proofs.TableCounts.{length-strategy_counts}
 use Rattle.extreme_equilibria.specs.TwoPlayers.{pays_against}
 use Rattle.extreme_equilibria.specs.Bimatrix.{shifted, shift_of}
 use Rattle.extreme_equilibria.specs.Systems.{first_system, second_system}

@@ -1,5 +1,5 @@
 -- The forms of trees and tables keep what each form as data keeps.
-use Rattle.std.proofs.Common.{ℕ, suc, ◌<◌, ◌≡◌, sym, ap, subst, arith, All, List, length}
+use Rattle.std.proofs.Common.{ℕ, suc, ◌<◌, sym, ap, subst, arith, All, List, length}
 use Rattle.game_theory.specs.FirstNodes.{AreNumberedByFirstNodes}
 use Rattle.game_theory.specs.Recall.{HasPerfectRecall}
 use Rattle.game_theory.specs.Trees.{Tree, IsTree}
