@@ -102,8 +102,10 @@ pub fn read_input<I: Inputs>(
         (I.seen inputs.old)
         (I.seen inputs.new)) }
     ensures counts { CountsTell (I.seen inputs.old) (I.seen inputs.new) (result_err result) }
-    ensures open_faults { OnOk result ((I.seen inputs.new).open_faults ≡ (I.seen inputs.old).open_faults) }
-    ensures read_faults { OnOk result ((I.seen inputs.new).read_faults ≡ (I.seen inputs.old).read_faults) }
+    ensures open_faults { OnOk result
+        ((I.seen inputs.new).open_faults ≡ (I.seen inputs.old).open_faults) }
+    ensures read_faults { OnOk result
+        ((I.seen inputs.new).read_faults ≡ (I.seen inputs.old).read_faults) }
     ensures selections { (I.seen inputs.new).selections ≤ (I.seen inputs.old).selections + 1 }
     ensures held { (n : InputName) → (I.seen inputs.new).held n ≡ (I.seen inputs.old).held n }
 {

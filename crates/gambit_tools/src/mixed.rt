@@ -43,7 +43,8 @@ fn table_text<R: Threads + Sync, G: Gate>(
     gate: &G,
 ) -> Result<Vec<u8>, Refusal>
     requires { IsFrom 1 64 workers }
-    ensures { Gives Refusal.Memory (table_text all table.now) (map_ok result (λ text. text.items)) }
+    ensures { Gives Refusal.Memory (table_text all table.now)
+        (map_ok result (λ text. text.items)) }
 {
     if all {
         Ok(list_extreme_equilibria(rt, alloc, table, workers, gate)?)
@@ -62,7 +63,8 @@ fn strategic_text<R: Threads + Sync, G: Gate>(
     gate: &G,
 ) -> Result<Vec<u8>, Refusal>
     requires { IsFrom 1 64 workers }
-    ensures { Gives Refusal.Memory (strategic_text all game.now) (map_ok result (λ text. text.items)) }
+    ensures { Gives Refusal.Memory (strategic_text all game.now)
+        (map_ok result (λ text. text.items)) }
 {
     match game {
         Game::Strategic(table) => table_text(rt, alloc, all, table, workers, gate),
