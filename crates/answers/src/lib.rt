@@ -1,5 +1,14 @@
-//! What a computation in stages may answer, and its laws; and want of memory, the one answer of which
-//! no contract says when it comes.
+//! What a computation in stages may answer, and its laws; and want of memory, the one answer of
+//! which no contract says when it comes.
+//!
+//! Callers may rely on: `stages_are_single`, that stages have at most one answer if each has;
+//! `stages_give` and `reasons_are_told`, what a call gives that computes them.
+//! Definitions: `specs::Answers` has `Answer`, `IsSingle`, `Gives`, and how stages are put
+//! together.
+//! Lemmas for callers: `proofs::Answers`, by which a relation made of stages is single and a call
+//! gives what it says.
+//! A change here touches: the contract of nearly every call that can be refused, up to that of
+//! `run`.
 #![tactic(auto)]
 
 ghost use Rattle.std.specs.Prelude.{◌≡◌, Ok, Err, Result};

@@ -5,7 +5,7 @@ use Rattle.rational.specs.Rational.{ℚ}
 use Rattle.lex_tableau.specs.Rows.{Numbers, tableau, IsTableau, IsValueOf}
 use Rattle.linear_systems.specs.Points.{basic_solution}
 use Rattle.basis_enum.specs.Marks.{values_of}
-use Rattle.linear_systems.proofs.Solutions.{Place, in_basis, outside, absent, place, solution_basic, solution_elsewhere}
+use Rattle.linear_systems.proofs.Solutions.{Standing, in_basis, outside, absent, place, solution_basic, solution_elsewhere}
 
 pub value_is : (t : Numbers) (v : ℕ) (q : ℚ) → IsTableau t → IsValueOf (tableau t) v q
     → q ≡ basic_solution (tableau t) v
@@ -15,7 +15,7 @@ value_is t v q h k = go (place (tableau t) v)
         → q ≡ basic_solution (tableau t) v
     away f = k.nonbasic f ∙ sym (solution_elsewhere (tableau t) v f)
 
-    go : Place (tableau t) v → q ≡ basic_solution (tableau t) v
+    go : Standing (tableau t) v → q ≡ basic_solution (tableau t) v
     go (in_basis i w e) =
         k.basic i w e
         ∙ sym (solution_basic h.reached.bound t.rated h.reached.start (tableau t) i h.reached.reached w)

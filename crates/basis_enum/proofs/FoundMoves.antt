@@ -73,7 +73,7 @@ found_push t place known n moves m f h =
       ];
     }
 
--- ---- behind those that were there
+-- ---- after those that were there
 pub adds_start : (t : Numbers) (place : ℕ) (known : List ℕ) (old : List Move) → AddsFound t place known 0 old old
 adds_start t place known old = record { more = []; added = sym (append-nil old); found = found_start t place known }
 

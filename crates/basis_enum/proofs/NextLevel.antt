@@ -13,7 +13,7 @@ use Rattle.basis_enum.specs.declared.children.ChildStop.{ChildStop}
 use Rattle.basis_enum.specs.declared.children.ChildStop.TheVariants as stops
 use Rattle.basis_enum.specs.declared.moves.Move.{Move}
 use Rattle.basis_enum.specs.Next.{no_move, move_of}
-use Rattle.basis_enum.specs.Children.{AreChildren, IsChildStop, IsStopAt}
+use Rattle.basis_enum.specs.Children.{AreChildren, IsChildStop, IsChildStopAt}
 
 pub children_start : (level : List Numbers) (moves : List Move) → AreChildren level moves 0 []
 children_start level moves = record { within = omega arith; size = refl; each = λ i h. absurd (omega arith) }
@@ -42,7 +42,7 @@ first_unfit level moves n next unfit w c h =
     }
 
 -- the stop of a pivot whose children before it are there
-pub stop_at : (level : List Numbers) (moves : List Move) (n : ℕ) (next : List Numbers) (stop : ChildStop) → n < length moves → AreChildren level moves n next → IsStopAt level moves n stop → IsChildStop level moves stop
+pub stop_at : (level : List Numbers) (moves : List Move) (n : ℕ) (next : List Numbers) (stop : ChildStop) → n < length moves → AreChildren level moves n next → IsChildStopAt level moves n stop → IsChildStop level moves stop
 stop_at level moves n next (stops.Unfit place unfit) w c h = subst (λ p. IsFirstUnfitMove level (map move_of moves) p unfit) (sym h.0) (first_unfit level moves n next unfit w c h.1)
 stop_at level moves n next stops.Memory w c h = tt
 

@@ -10,7 +10,7 @@ use Rattle.lex_tableau.specs.Starts.{Parts, StartFits}
 use Rattle.whole_rows.specs.StartRows.{IsFirstUnfitRow}
 use Rattle.whole_rows.specs.Steps.{AllFit, IsFirstUnfit}
 use Rattle.basis_enum.specs.Levels.{Levels, Move, no_move, no_tableau, parent_of, entering, IsChild, IsNextLevel, IsLevel, steps_of, count, most}
-use Rattle.basis_enum.specs.Ends.{End, complete, start, range, too_many, IsAscendingListOf, IsFirstUnfitMove, IsClosedAt, IsPassedAt, IsStoppedAt, EndsAt, EndsAtLevel, IsEnd}
+use Rattle.basis_enum.specs.Ends.{End, complete, start, range, too_many, IsAscendingListOf, IsFirstUnfitMove, IsClosedAt, IsPassedAt, IsUnfitChild, EndsAt, EndsAtLevel, IsEnd}
 use Rattle.basis_enum.proofs.Lists.{increasing_same, in_cases}
 use Rattle.lex_tableau.proofs.Tableaux.{determined, alike_both}
 use Rattle.whole_rows.proofs.FirstUnfits.{no_unfit, one_unfit, no_unfit_row, one_unfit_row}
@@ -87,8 +87,8 @@ first_once level moves i j e f p q = elim (cases_order i j) [
   | inr (inr l) ↦ absurd (no_unfit _ f (p.before j l) q.here)
 ]
 
-stopped_once : (k : ℕ) (l : Levels) (b c : List ℕ) (v w : ℕ) (e f : Unfit) → ((t : Numbers) → Contains l.level t → IsTableau t) → IsStoppedAt l b v e → IsStoppedAt l c w f → range k b v e ≡ range k c w f
-stopped_once k l b c v w e f valid p q = ap₂ (λ b v. range k b v e) lists variables ∙ ap (range k c w) steps
+stopped_once : (k : ℕ) (l : Levels) (b c : List ℕ) (v w : ℕ) (e f : Unfit) → ((t : Numbers) → Contains l.level t → IsTableau t) → IsUnfitChild l b v e → IsUnfitChild l c w f → range k b v e ≡ range k c w f
+stopped_once k l b c v w e f valid p q = ap₂ (λ b v. range k b v e) lists variables ∙ ap (range k c w) pivots
   where
     same : p.moves ≡ q.moves
     same = moves_once l p.moves q.moves valid p.are q.are
@@ -99,8 +99,8 @@ stopped_once k l b c v w e f valid p q = ap₂ (λ b v. range k b v e) lists var
     place : p.place ≡ q.place
     place = first_once l.level q.moves p.place q.place e f moved q.first
 
-    steps : e ≡ f
-    steps = one_unfit (steps_of l.level (get_or q.moves q.place no_move)) e f (subst (λ i. IsFirstUnfit (steps_of l.level (get_or q.moves i no_move)) e) place moved.here) q.first.here
+    pivots : e ≡ f
+    pivots = one_unfit (steps_of l.level (get_or q.moves q.place no_move)) e f (subst (λ i. IsFirstUnfit (steps_of l.level (get_or q.moves i no_move)) e) place moved.here) q.first.here
 
     pivot : get_or p.moves p.place no_move ≡ get_or q.moves q.place no_move
     pivot = ap₂ (λ ms i. get_or ms i no_move) same place
@@ -118,13 +118,13 @@ not_closed_passed l reached total few valid p q =
     let over : most < length (l.before ++ l.level) + length q.moves = q.over in
     omega arith
 
-not_closed_stopped : (l : Levels) (reached : List Numbers) (b : List ℕ) (v : ℕ) (e : Unfit) → ((t : Numbers) → Contains l.level t → IsTableau t) → IsClosedAt l reached → IsStoppedAt l b v e → ⊥
+not_closed_stopped : (l : Levels) (reached : List Numbers) (b : List ℕ) (v : ℕ) (e : Unfit) → ((t : Numbers) → Contains l.level t → IsTableau t) → IsClosedAt l reached → IsUnfitChild l b v e → ⊥
 not_closed_stopped l reached b v e valid p q =
     let c : 0 ≡ length q.moves = ap length (moves_once l [] q.moves valid p.none q.are) in
     let w : q.place < length q.moves = q.first.within in
     omega arith
 
-not_passed_stopped : (l : Levels) (total : ℕ) (b : List ℕ) (v : ℕ) (e : Unfit) → ((t : Numbers) → Contains l.level t → IsTableau t) → IsPassedAt l total → IsStoppedAt l b v e → ⊥
+not_passed_stopped : (l : Levels) (total : ℕ) (b : List ℕ) (v : ℕ) (e : Unfit) → ((t : Numbers) → Contains l.level t → IsTableau t) → IsPassedAt l total → IsUnfitChild l b v e → ⊥
 not_passed_stopped l total b v e valid p q =
     let c : count l p.moves ≡ count l q.moves = ap (count l) (moves_once l p.moves q.moves valid p.are q.are) in
     let over : most < count l p.moves = p.over in

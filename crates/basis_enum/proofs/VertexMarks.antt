@@ -79,12 +79,12 @@ mark_left_out s t marks values e all =
     (λ p. p.other (sym (ap (λ xs. get_or xs p.column zero_ℚ) e ∙ get_or-map (basic_solution (tableau t)) s.nonbasics p.column 0 zero_ℚ p.within)
     ∙ all p.column zero_ℚ (let size : length values ≡ length s.nonbasics = ap length e ∙ length-map s.nonbasics (basic_solution (tableau t)) in let w : p.column < length s.nonbasics = p.within in omega arith))) refl
 
--- what is noted of a tableau is noted behind other marks
-pub noted_behind : (s : Parts) (t : Numbers) (old new : List MarkedPoint) → IsNoted s t [] new
+-- what is noted of a tableau is noted after other marks
+pub noted_after : (s : Parts) (t : Numbers) (old new : List MarkedPoint) → IsNoted s t [] new
     → IsNoted s t old (old ++ new)
-noted_behind s t old new (left_out none same) =
+noted_after s t old new (left_out none same) =
     left_out none (ap (λ xs. old ++ xs) same ∙ append-nil old)
-noted_behind s t old new (added mark nonzero marked more) =
+noted_after s t old new (added mark nonzero marked more) =
     added mark nonzero marked (ap (λ xs. old ++ xs) more)
 
 -- ---- all tableaux are noted, one after another

@@ -13,7 +13,7 @@ use Rattle.lex_tableau.specs.Starts.{Parts, IsSystem}
 use Rattle.basis_enum.specs.Bases.{basis_of, AreVariables}
 use Rattle.basis_enum.specs.Levels.{Levels, IsLevel, IsNextLevel, AreNextMoves, bases_of, most, no_tableau, parent_of}
 use Rattle.basis_enum.specs.Systems.{IsEnumerable, variable_count}
-use Rattle.basis_enum.specs.Ends.{complete, IsEnd, IsStoppedAt}
+use Rattle.basis_enum.specs.Ends.{complete, IsEnd, IsUnfitChild}
 use Rattle.basis_enum.proofs.Complete.{Held, held_start, held_digits, level_held, pivoted_nonbasics}
 use Rattle.basis_enum.proofs.Lists.{unmapped}
 use Rattle.basis_enum.proofs.Once.{level_few}
@@ -23,7 +23,7 @@ use Rattle.basis_enum.specs.declared.stop.EnumStop.TheVariants as stops
 use Rattle.basis_enum.specs.declared.vertex.Vertex.{Vertex}
 use Rattle.basis_enum.specs.declared.walk.Walk.{Walk}
 use Rattle.basis_enum.specs.Children.{AreMoves, AreChildren}
-use Rattle.basis_enum.specs.Enumeration.{AreVerticesOf, IsStopIn}
+use Rattle.basis_enum.specs.Enumeration.{AreVerticesOf, IsEnumStop}
 use Rattle.basis_enum.specs.Found.{IsReady, IsLevelOf, AreKnown}
 use Rattle.basis_enum.specs.Marks.{AreInOrder, AreMarksOf, AreUpTo, IsNoted}
 use Rattle.basis_enum.specs.Merged.{IsMerged}
@@ -32,7 +32,7 @@ use Rattle.basis_enum.specs.Vertices.{VertexList, mark_of, marks_of}
 use Rattle.basis_enum.specs.Walks.{levels_of, IsFirst, IsWalkAt, IsWalkToEnd, HaveEntering, IsMoveStop, IsLimitStop, IsUnfitMove, AddsVertices, AreNumbered, IsVertexAt}
 use Rattle.basis_enum.proofs.LevelMoves.{basis_at, move_is, target_is_there, entering_is, next_are}
 use Rattle.basis_enum.proofs.NextLevel.{next_level}
-use Rattle.basis_enum.proofs.VertexMarks.{reached_numbered, noted_behind, marks_more, are_vertices}
+use Rattle.basis_enum.proofs.VertexMarks.{reached_numbered, noted_after, marks_more, are_vertices}
 
 -- ---- the tableaux of a level
 ready : (s : Parts) (t : Numbers) → IsEnumerable s → Held s t → IsReady t
@@ -115,7 +115,7 @@ vertices_next s level n first vertices new h before noted =
 pub vertices_more : (s : Parts) (level : List Numbers) (n : ℕ) (first vertices more : List Vertex) → AddsVertices s level n first vertices → IsVertexAt s level n more → AddsVertices s level (n + 1) first (vertices ++ more)
 vertices_more s level n first vertices more before at =
     vertices_next s level n first vertices (vertices ++ more) at.within before
-    (subst (IsNoted s (get_or level n no_tableau) (marks_of vertices)) (sym (map-append mark_of vertices more)) (noted_behind s (get_or level n no_tableau) (marks_of vertices) (marks_of more) at.noted))
+    (subst (IsNoted s (get_or level n no_tableau) (marks_of vertices)) (sym (map-append mark_of vertices more)) (noted_after s (get_or level n no_tableau) (marks_of vertices) (marks_of more) at.noted))
 
 pub vertices_all : (s : Parts) (level : List Numbers) (old new : List Vertex) → AddsVertices s level (length level) old new → (ts : List Numbers) → AreMarksOf s ts (marks_of old) → AreMarksOf s (ts ++ level) (marks_of new)
 vertices_all s level old new h ts m =
@@ -174,7 +174,7 @@ children_level s k w moves next bases e h n some few c is =
     }
 
 -- ---- the ends
-pub limit_stop : (s : Parts) (k : ℕ) (w : Walk) (moves : List Move) (e : EnumStop) → IsWalkAt s k w → AreNewMoves w.level.items w.known.items moves → IsLimitStop (length w.known.items + length moves) e → IsStopIn s e
+pub limit_stop : (s : Parts) (k : ℕ) (w : Walk) (moves : List Move) (e : EnumStop) → IsWalkAt s k w → AreNewMoves w.level.items w.known.items moves → IsLimitStop (length w.known.items + length moves) e → IsEnumStop s e
 limit_stop s k w moves (stops.TooLarge limit) h n p =
     let counts : length w.known.items ≡ length (h.before ++ w.level.items) = h.count in
     let sizes : length (map move_of moves) ≡ length moves = length-map moves move_of in
@@ -188,13 +188,13 @@ limit_stop s k w moves (stops.Start row unfit) h n p = absurd p
 limit_stop s k w moves (stops.Range number basis variable unfit) h n p = absurd p
 limit_stop s k w moves stops.Memory h n p = absurd p
 
-stopped : (s : Parts) (k : ℕ) (w : Walk) (moves : List Move) (basis : List ℕ) (variable : ℕ) (unfit : Unfit) → (h : IsWalkAt s k w) → AreNewMoves w.level.items w.known.items moves → length w.known.items + length moves ≤ 20000 → IsUnfitMove w.level.items moves basis variable unfit → IsStoppedAt (levels_of h.before w.level.items) basis variable unfit
+stopped : (s : Parts) (k : ℕ) (w : Walk) (moves : List Move) (basis : List ℕ) (variable : ℕ) (unfit : Unfit) → (h : IsWalkAt s k w) → AreNewMoves w.level.items w.known.items moves → length w.known.items + length moves ≤ 20000 → IsUnfitMove w.level.items moves basis variable unfit → IsUnfitChild (levels_of h.before w.level.items) basis variable unfit
 stopped s k w moves basis variable unfit h n few u =
     let counts : length w.known.items ≡ length (h.before ++ w.level.items) = h.count in
     let sizes : length (map move_of moves) ≡ length moves = length-map moves move_of in
     record { moves = map move_of moves; are = walk_moves s k w moves h n; few = omega arith; place = u.place; first = u.first; basis_is = u.basis_is; variable_is = u.variable_is }
 
-pub move_stop : (s : Parts) (k : ℕ) (w : Walk) (moves : List Move) (e : EnumStop) → IsWalkAt s k w → AreNewMoves w.level.items w.known.items moves → length w.known.items + length moves ≤ 20000 → IsMoveStop w.level.items moves k e → IsStopIn s e
+pub move_stop : (s : Parts) (k : ℕ) (w : Walk) (moves : List Move) (e : EnumStop) → IsWalkAt s k w → AreNewMoves w.level.items w.known.items moves → length w.known.items + length moves ≤ 20000 → IsMoveStop w.level.items moves k e → IsEnumStop s e
 move_stop s k w moves (stops.Range number basis variable unfit) h n few p =
     inr (record { number = k; levels = levels_of h.before w.level.items; is_level = h.is_level; ends = (p.0, stopped s k w moves basis variable unfit h n few p.1) })
 move_stop s k w moves stops.Memory h n few p = inl refl

@@ -23,10 +23,10 @@ pub record AreChildren (level : List Numbers) (moves : List Move) (n : ℕ) (nex
       → IsChild level (move_of (get_or moves i no_move)) (get_or next i no_tableau)
 
 -- the first step of this pivot that does not fit, or no memory, of which nothing is said
-abbrev pub IsStopAt : List Numbers → List Move → ℕ → ChildStop → Type 0
-IsStopAt level moves n (Unfit place unfit) =
+abbrev pub IsChildStopAt : List Numbers → List Move → ℕ → ChildStop → Type 0
+IsChildStopAt level moves n (Unfit place unfit) =
     (place ≡ n) × IsFirstUnfit (steps_of level (move_of (get_or moves n no_move))) unfit
-IsStopAt level moves n Memory = Unit {0}
+IsChildStopAt level moves n Memory = Unit {0}
 
 -- the first pivot with a step that does not fit, or no memory, of which nothing is said
 abbrev pub IsChildStop : List Numbers → List Move → ChildStop → Type 0

@@ -45,7 +45,7 @@ pub record IsPassedAt (l : Levels) (total : ℕ) : Type 0 where
 
 -- of the pivots to the next bases the first that does not fit goes from this basis, with this
 -- variable entering it
-pub record IsStoppedAt (l : Levels) (basis : List ℕ) (variable : ℕ) (unfit : Unfit) : Type 0 where
+pub record IsUnfitChild (l : Levels) (basis : List ℕ) (variable : ℕ) (unfit : Unfit) : Type 0 where
   pub moves : List Move
   pub are : AreNextMoves l moves
   pub few : count l moves ≤ most
@@ -58,7 +58,7 @@ pub record IsStoppedAt (l : Levels) (basis : List ℕ) (variable : ℕ) (unfit :
 abbrev pub EndsAt : ℕ → Levels → End → Type 0
 EndsAt k l (complete reached) = IsClosedAt l reached
 EndsAt k l (start row unfit) = ⊥
-EndsAt k l (range level basis variable unfit) = (level ≡ k) × IsStoppedAt l basis variable unfit
+EndsAt k l (range level basis variable unfit) = (level ≡ k) × IsUnfitChild l basis variable unfit
 EndsAt k l (too_many total) = IsPassedAt l total
 
 -- it ends so at some level

@@ -38,8 +38,8 @@ IsRefusal s (AboveLimit limit) = IsPastLimit s limit
 IsRefusal s Memory = ⊥
 
 -- that, or no memory, of which nothing is said
-abbrev pub IsStopIn : Parts → EnumStop → Type 0
-IsStopIn s e = (e ≡ Memory) ⊎ IsRefusal s e
+abbrev pub IsEnumStop : Parts → EnumStop → Type 0
+IsEnumStop s e = (e ≡ Memory) ⊎ IsRefusal s e
 
 -- the vertices of a system, or why they are not listed
 abbrev pub vertices_in : Parts → Answer EnumStop VertexList

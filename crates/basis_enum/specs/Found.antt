@@ -50,7 +50,7 @@ AreFoundAt level place known moves =
     AreFound (get_or level place no_tableau) place known
     (length (get_or level place no_tableau).nonbasics) moves
 
--- new has these pivots behind the old ones
+-- new has these pivots after the old ones
 pub record AddsFound (t : Numbers) (place : ℕ) (known : List ℕ) (bound : ℕ) (old new : List Move)
     : Type 0 where
   pub more : List Move

@@ -2,7 +2,7 @@
 ghost use Rattle.std.specs.Prelude.{◌≡◌, ◌<◌, ◌≤◌, ◌+◌, ◌^◌, ℕ, length, get_or, IfOk, IfErr, OnOk};
 ghost use Rattle.lex_tableau.specs.PivotStops.{IsPivotStop};
 ghost use Rattle.basis_enum.specs.Levels.{IsChild, IsMove, parent_of};
-ghost use Rattle.basis_enum.specs.Children.{AreChildren, AreMoves, IsChildStop, IsStopAt};
+ghost use Rattle.basis_enum.specs.Children.{AreChildren, AreMoves, IsChildStop, IsChildStopAt};
 ghost use Rattle.basis_enum.specs.Found.{AreReady};
 ghost use Rattle.basis_enum.specs.Next.{move_of, no_move};
 
@@ -11,7 +11,7 @@ use crate::work::sharers;
 use answers::Memory;
 use claims::{Claims, shared_map};
 use frac128::Unfit;
-use lex_tableau::{PivotStop, Steps, Tableau};
+use lex_tableau::{PivotCount, PivotStop, Tableau};
 use outside::Gate;
 use std::alloc::{AllocFailed, Global};
 use std::marker::{Brand, Sync};
@@ -53,16 +53,16 @@ fn pivoted<L: Ledger>(
     alloc: Global,
     level: &[Tableau],
     next: &Move,
-    steps: &mut Steps<L>,
+    pivots: &mut PivotCount<L>,
 ) -> Result<Tableau, PivotStop>
     requires level { AreReady level.now }
     requires next { IsMove level.now (move_of next.now) }
     ensures child { IfOk result (IsChild level.now (move_of next.now)) }
     ensures stop { IfErr result
         (IsPivotStop (parent_of level.now (move_of next.now)) next.now.row next.now.column) }
-    ensures counted { steps.new ≡ steps.old + 1 }
+    ensures counted { pivots.new ≡ pivots.old + 1 }
 {
-    level[next.parent as usize].pivoted(alloc, next.row as usize, next.column as usize, steps)
+    level[next.parent as usize].pivoted(alloc, next.row as usize, next.column as usize, pivots)
 }
 
 // The tableau of a new basis.
@@ -71,16 +71,16 @@ fn child<L: Ledger>(
     level: &[Tableau],
     moves: &[Move],
     place: usize,
-    steps: &mut Steps<L>,
+    pivots: &mut PivotCount<L>,
 ) -> Result<Tableau, ChildStop>
     requires level { AreReady level.now }
     requires moves { AreMoves level.now moves.now }
     requires place_in { place < length moves.now }
     ensures child { IfOk result (IsChild level.now (move_of (get_or moves.now place no_move))) }
-    ensures stop { IfErr result (IsStopAt level.now moves.now place) }
-    ensures counted { steps.new ≡ steps.old + 1 }
+    ensures stop { IfErr result (IsChildStopAt level.now moves.now place) }
+    ensures counted { pivots.new ≡ pivots.old + 1 }
 {
-    match pivoted(alloc, level, &moves[place], steps) {
+    match pivoted(alloc, level, &moves[place], pivots) {
         Ok(tableau) => Ok(tableau),
         Err(PivotStop::Unfit(unfit)) => Err(ChildStop::Unfit { place, unfit }),
         Err(PivotStop::Memory) => Err(ChildStop::Memory),
@@ -100,10 +100,10 @@ fn counted_alone<L: Ledger>(
     requires place_in { place < length moves.now }
     requires blank { (L.parts ≡ blank.parts) × (L.name ≡ blank.name) × (0 < blank.parts) }
     ensures child { IfOk result (IsChild level.now (move_of (get_or moves.now place no_move))) }
-    ensures stop { IfErr result (IsStopAt level.now moves.now place) }
+    ensures stop { IfErr result (IsChildStopAt level.now moves.now place) }
 {
-    let mut steps = Steps::<L>::new(blank);
-    child(alloc, level, moves, place, &mut steps)
+    let mut pivots = PivotCount::<L>::new(blank);
+    child(alloc, level, moves, place, &mut pivots)
 }
 
 // The tableau of a new basis, whose step is not counted: one piece of work.
@@ -117,7 +117,7 @@ fn piece(
     requires moves { AreMoves level.now moves.now }
     requires place_in { place < length moves.now }
     ensures child { IfOk result (IsChild level.now (move_of (get_or moves.now place no_move))) }
-    ensures stop { IfErr result (IsStopAt level.now moves.now place) }
+    ensures stop { IfErr result (IsChildStopAt level.now moves.now place) }
 {
     counted_alone::<Brand>(alloc, level, moves, place, Blank::new(1))
 }
@@ -129,20 +129,20 @@ fn make_children<G: Gate, L: Ledger>(
     level: &[Tableau],
     moves: &[Move],
     gate: &G,
-    steps: &mut Steps<L>,
+    pivots: &mut PivotCount<L>,
 ) -> Result<Vec<Tableau>, ChildStop>
     requires level { AreReady level.now }
     requires moves { AreMoves level.now moves.now }
     ensures children { IfOk result
         (λ v. AreChildren level.now moves.now (length moves.now) v.items) }
     ensures stop { IfErr result (IsChildStop level.now moves.now) }
-    ensures counted { OnOk result (steps.new ≡ steps.old + length moves.now) }
-    ensures bounded { steps.new ≤ steps.old + length moves.now }
+    ensures counted { OnOk result (pivots.new ≡ pivots.old + length moves.now) }
+    ensures bounded { pivots.new ≤ pivots.old + length moves.now }
 {
     let mut next = Vec::new(alloc);
     for place in 0..moves.len() {
         gate.pass(place);
-        next.push(child(alloc, level, moves, place, steps)?)?;
+        next.push(child(alloc, level, moves, place, pivots)?)?;
     }
     Ok(next)
 }
@@ -156,7 +156,7 @@ fn share_children<R: Threads + Sync, G: Gate, L: Ledger>(
     moves: &[Move],
     workers: u32,
     gate: &G,
-    steps: &mut Steps<L>,
+    pivots: &mut PivotCount<L>,
 ) -> Result<Vec<Tableau>, ChildStop>
     requires level { AreReady level.now }
     requires moves { AreMoves level.now moves.now }
@@ -165,8 +165,8 @@ fn share_children<R: Threads + Sync, G: Gate, L: Ledger>(
     ensures children { IfOk result
         (λ v. AreChildren level.now moves.now (length moves.now) v.items) }
     ensures stop { IfErr result (IsChildStop level.now moves.now) }
-    ensures counted { OnOk result (steps.new ≡ steps.old + length moves.now) }
-    ensures bounded { steps.new ≤ steps.old + length moves.now }
+    ensures counted { OnOk result (pivots.new ≡ pivots.old + length moves.now) }
+    ensures bounded { pivots.new ≤ pivots.old + length moves.now }
 {
     let (claims, mut pass) = Claims::new(alloc)?;
     let work = |place: usize| -> Result<Tableau, ChildStop>
@@ -175,7 +175,7 @@ fn share_children<R: Threads + Sync, G: Gate, L: Ledger>(
         requires place_in { place < length moves.now }
         ensures child { IfOk result
             (IsChild level.entry.now (move_of (get_or moves.entry.now place no_move))) }
-        ensures stop { IfErr result (IsStopAt level.entry.now moves.entry.now place) }
+        ensures stop { IfErr result (IsChildStopAt level.entry.now moves.entry.now place) }
     { piece(alloc, level, moves, place) };
     let pieces = shared_map(
         rt,
@@ -189,7 +189,7 @@ fn share_children<R: Threads + Sync, G: Gate, L: Ledger>(
     )?;
     let mut next = Vec::new(alloc);
     for tableau in pieces {
-        steps.tick();
+        pivots.tick();
         next.push(tableau?)?;
     }
     Ok(next)
@@ -203,7 +203,7 @@ pub(crate) fn children<R: Threads + Sync, G: Gate, L: Ledger>(
     moves: &[Move],
     workers: u32,
     gate: &G,
-    steps: &mut Steps<L>,
+    pivots: &mut PivotCount<L>,
 ) -> Result<Vec<Tableau>, ChildStop>
     requires level { AreReady level.now }
     requires moves { AreMoves level.now moves.now }
@@ -212,11 +212,11 @@ pub(crate) fn children<R: Threads + Sync, G: Gate, L: Ledger>(
     ensures children { IfOk result
         (λ v. AreChildren level.now moves.now (length moves.now) v.items) }
     ensures stop { IfErr result (IsChildStop level.now moves.now) }
-    ensures counted { OnOk result (steps.new ≡ steps.old + length moves.now) }
-    ensures bounded { steps.new ≤ steps.old + length moves.now }
+    ensures counted { OnOk result (pivots.new ≡ pivots.old + length moves.now) }
+    ensures bounded { pivots.new ≤ pivots.old + length moves.now }
 {
     match sharers(moves.len(), workers) {
-        1 => make_children(alloc, level, moves, gate, steps),
-        sharers => share_children(rt, alloc, level, moves, sharers, gate, steps),
+        1 => make_children(alloc, level, moves, gate, pivots),
+        sharers => share_children(rt, alloc, level, moves, sharers, gate, pivots),
     }
 }

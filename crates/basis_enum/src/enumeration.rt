@@ -10,7 +10,7 @@ use crate::marking::in_order;
 use crate::stop::EnumStop;
 use crate::vertex::Vertices;
 use crate::walk::reach;
-use lex_tableau::{Steps, System};
+use lex_tableau::{PivotCount, System};
 use outside::Gate;
 use std::alloc::Global;
 use std::marker::Sync;
@@ -36,16 +36,16 @@ pub fn enumerate<R: Threads + Sync, G: Gate, L: Ledger>(
     system: &System,
     workers: u32,
     gate: &G,
-    steps: &mut Steps<L>,
+    pivots: &mut PivotCount<L>,
 ) -> Result<Vertices, EnumStop>
     requires enumerable { IsEnumerable system.now }
     requires workers { (1 ≤ workers) × (workers ≤ 64) }
     ensures vertices { Gives stops.Memory (vertices_in system.now) (map_ok result list_of) }
-    ensures counted { IfOk result (λ v. steps.new + 1 ≡ steps.old + v.bases) }
+    ensures counted { IfOk result (λ v. pivots.new + 1 ≡ pivots.old + v.bases) }
     ensures few { IfOk result (λ v. v.bases ≤ 20000) }
-    ensures bounded { steps.new ≤ steps.old + 19999 }
+    ensures bounded { pivots.new ≤ pivots.old + 19999 }
 {
-    match reach(rt, alloc, system, workers, gate, steps) {
+    match reach(rt, alloc, system, workers, gate, pivots) {
         Ok(walk) => Ok(Vertices {
             bases: walk.known.len() as u64,
             list: in_order(walk.vertices),

@@ -1,10 +1,13 @@
 //! The vertices of a polytope, found level by level among the bases that lexicographic pivots
 //! reach.
 //!
-//! `specs::Bases` has bases as numbers, `specs::Levels` the levels that lexicographic pivots reach
-//! from the start of a system, and `specs::Ends` how the enumeration of a system ends.
-//! `specs::Enumeration` has what it answers; `linear_systems` says what vertices are. The functions
-//! without a body have no other meaning than the laws that they promise.
+//! Callers may rely on: `enumerate` gives each vertex once, in the order of masks, with the number
+//! of bases, or the first step that does not fit, or the limit; pivots are one fewer than bases.
+//! Definitions: `specs::Levels` has the levels of bases, `Bases` bases as numbers, `Ends` how an
+//! enumeration ends, `Enumeration` what a system answers; `linear_systems` says what vertices are.
+//! Private words: `specs::Children`, `Found`, `Marks`, `Merged`, `Next` and `Walks`.
+//! Lemmas for callers: `proofs::Single`, that there is one answer; `Complete` on reached bases.
+//! A change here touches: `label_pairing`, `enummixed`, and the counts of `make`.
 #![tactic(auto)]
 
 ghost use Rattle.basis_enum.specs.Enumeration.{VerticesAreSingle};

@@ -5,7 +5,7 @@ ghost use Rattle.lex_tableau.specs.Starts.{IsSystem};
 ghost use Rattle.basis_enum.specs.Ends.{IsAscendingListOf};
 ghost use Rattle.basis_enum.specs.Systems.{IsEnumerable, variable_count};
 ghost use Rattle.basis_enum.specs.Children.{AreChildren, AreMoves, IsChildStop};
-ghost use Rattle.basis_enum.specs.Enumeration.{IsStopIn};
+ghost use Rattle.basis_enum.specs.Enumeration.{IsEnumStop};
 ghost use Rattle.basis_enum.specs.Found.{AreReady};
 ghost use Rattle.basis_enum.specs.Next.{AreNewMoves};
 ghost use Rattle.basis_enum.specs.Vertices.{marks_of};
@@ -18,7 +18,7 @@ use crate::stop::{Basis, EnumStop};
 use crate::vertex::Vertex;
 use answers::Memory;
 use game_core::{TooLarge, What};
-use lex_tableau::{StartStop, Steps, System, Tableau};
+use lex_tableau::{PivotCount, StartStop, System, Tableau};
 use outside::Gate;
 use std::alloc::Global;
 use std::marker::Sync;
@@ -41,7 +41,7 @@ pub(crate) struct Walk {
 // The start of the system.
 fn first(alloc: Global, system: &System) -> Result<Tableau, EnumStop>
     ensures first { IfOk result (IsFirst system.now) }
-    ensures stop { IfErr result (IsStopIn system.now) }
+    ensures stop { IfErr result (IsEnumStop system.now) }
 {
     match Tableau::start(alloc, system) {
         Ok(tableau) => Ok(tableau),
@@ -63,7 +63,7 @@ fn start<R: Threads + Sync, G: Gate>(
     ensures walk { IfOk result (λ p. IsWalkAt system.now 0 p.0) }
     ensures moves { IfOk result (λ p. AreNewMoves p.0.level.items p.0.known.items p.1.items) }
     ensures one { IfOk result (λ p. length p.0.known.items ≡ 1) }
-    ensures stop { IfErr result (IsStopIn system.now) }
+    ensures stop { IfErr result (IsEnumStop system.now) }
 {
     let tableau = first(alloc, system)?;
     let basis = basis(system.nonbasics());
@@ -146,7 +146,7 @@ fn next_level<R: Threads + Sync, G: Gate, L: Ledger>(
     number: u32,
     workers: u32,
     gate: &G,
-    steps: &mut Steps<L>,
+    pivots: &mut PivotCount<L>,
 ) -> Result<Vec<Tableau>, EnumStop>
     requires level { AreReady level.now }
     requires moves { AreMoves level.now moves.now }
@@ -156,10 +156,10 @@ fn next_level<R: Threads + Sync, G: Gate, L: Ledger>(
     ensures children { IfOk result
         (λ v. AreChildren level.now moves.now (length moves.now) v.items) }
     ensures stop { IfErr result (IsMoveStop level.now moves.now number) }
-    ensures counted { OnOk result (steps.new ≡ steps.old + length moves.now) }
-    ensures bounded { steps.new ≤ steps.old + length moves.now }
+    ensures counted { OnOk result (pivots.new ≡ pivots.old + length moves.now) }
+    ensures bounded { pivots.new ≤ pivots.old + length moves.now }
 {
-    match children(rt, alloc, level, moves, workers, gate, steps) {
+    match children(rt, alloc, level, moves, workers, gate, pivots) {
         Ok(next) => Ok(next),
         Err(stop) => Err(refusal(alloc, level, moves, number, stop)),
     }
@@ -192,7 +192,7 @@ fn advance<R: Threads + Sync, G: Gate, L: Ledger>(
     number: u32,
     workers: u32,
     gate: &G,
-    steps: &mut Steps<L>,
+    pivots: &mut PivotCount<L>,
 ) -> Result<Vec<Move>, EnumStop>
     requires enumerable { IsEnumerable system.now }
     requires walk { IsWalkAt system.now number walk.old }
@@ -202,10 +202,10 @@ fn advance<R: Threads + Sync, G: Gate, L: Ledger>(
     ensures walk { OnOk result (IsWalkAt system.now (number + 1) walk.new) }
     ensures moves { IfOk result
         (λ v. AreNewMoves walk.new.level.items walk.new.known.items v.items) }
-    ensures stop { IfErr result (IsStopIn system.now) }
-    ensures counted { OnOk result (steps.new + length walk.old.known.items
-        ≡ steps.old + length walk.new.known.items) }
-    ensures bounded { steps.new + length walk.old.known.items ≤ steps.old + 20000 }
+    ensures stop { IfErr result (IsEnumStop system.now) }
+    ensures counted { OnOk result (pivots.new + length walk.old.known.items
+        ≡ pivots.old + length walk.new.known.items) }
+    ensures bounded { pivots.new + length walk.old.known.items ≤ pivots.old + 20000 }
 {
     check_count(walk.known.len(), moves)?;
     let level = next_level(
@@ -216,7 +216,7 @@ fn advance<R: Threads + Sync, G: Gate, L: Ledger>(
         number,
         workers,
         gate,
-        steps,
+        pivots,
     )?;
     let bases = targets(alloc, moves)?;
     walk.known = merged(alloc, walk.known.as_slice(), bases.as_slice())?;
@@ -243,14 +243,14 @@ pub(crate) fn reach<R: Threads + Sync, G: Gate, L: Ledger>(
     system: &System,
     workers: u32,
     gate: &G,
-    steps: &mut Steps<L>,
+    pivots: &mut PivotCount<L>,
 ) -> Result<Walk, EnumStop>
     requires enumerable { IsEnumerable system.now }
     requires workers { (1 ≤ workers) × (workers ≤ 64) }
     ensures walk { IfOk result (IsWalkToEnd system.now) }
-    ensures stop { IfErr result (IsStopIn system.now) }
-    ensures counted { IfOk result (λ w. steps.new + 1 ≡ steps.old + length w.known.items) }
-    ensures bounded { steps.new ≤ steps.old + 19999 }
+    ensures stop { IfErr result (IsEnumStop system.now) }
+    ensures counted { IfOk result (λ w. pivots.new + 1 ≡ pivots.old + length w.known.items) }
+    ensures bounded { pivots.new ≤ pivots.old + 19999 }
 {
     let (mut walk, mut moves) = start(rt, alloc, system, workers, gate)?;
     for number in 0..MOST_BASES as u32 {
@@ -266,7 +266,7 @@ pub(crate) fn reach<R: Threads + Sync, G: Gate, L: Ledger>(
             number,
             workers,
             gate,
-            steps,
+            pivots,
         )?;
         moves = next;
     }

@@ -9,7 +9,7 @@ use Rattle.std.proofs.lemmas.Option.{slice_get_within, get_or_from_slice_get}
 use Rattle.rational.specs.Rational.{ℚ}
 use Rattle.behaviour_profile.specs.declared.entries.ProfileFault.{ProfileFault}
 use Rattle.behaviour_profile.specs.EntryTests.{Passes, IsFirstFault, group_tests, tests_from}
-use Rattle.behaviour_profile.proofs.FirstFaults.{fault-more, fault-behind}
+use Rattle.behaviour_profile.proofs.FirstFaults.{fault-more, fault-following}
 
 pub sum-nil : sum [] ≡ 0
 sum-nil = refl
@@ -36,9 +36,9 @@ module _ (entries : List ℚ) where
     pub groups_pass : All Passes (tests_from entries (place + sum xs) (group + length xs) ys) → All Passes (tests_from entries place group (xs ++ ys))
     groups_pass h = subst (All Passes) (sym (tests-append place group xs ys)) (All-append Passes _ _ passed h)
 
-    -- and the first fault behind groups that pass is the first of all
+    -- and the first fault after groups that pass is the first of all
     pub groups_fault : (fault : ProfileFault) → IsFirstFault (tests_from entries (place + sum xs) (group + length xs) ys) fault → IsFirstFault (tests_from entries place group (xs ++ ys)) fault
-    groups_fault fault h = subst (λ tests. IsFirstFault tests fault) (sym (tests-append place group xs ys)) (fault-behind _ _ fault passed h)
+    groups_fault fault h = subst (λ tests. IsFirstFault tests fault) (sym (tests-append place group xs ys)) (fault-following _ _ fault passed h)
 
   -- it stays the first before further groups
   pub fault-longer : (place group : ℕ) (xs ys : List ℕ) (fault : ProfileFault) → IsFirstFault (tests_from entries place group xs) fault → IsFirstFault (tests_from entries place group (xs ++ ys)) fault
@@ -49,7 +49,7 @@ module _ (sizes : List ℕ) (k n : ℕ) (at : slice_get sizes k ≡ Some n) wher
   taken : take (k + 1) sizes ≡ take k sizes ++ n ∷ []
   taken = take_more sizes k 0 (slice_get_within sizes k n at) ∙ ap (λ v. take k sizes ++ v ∷ []) (get_or_from_slice_get sizes k n 0 at)
 
-  -- with it, and those behind
+  -- with it, and those after
   split : sizes ≡ (take k sizes ++ n ∷ []) ++ drop (k + 1) sizes
   split = sym (take-append-drop (k + 1) sizes) ∙ ap (λ v. v ++ drop (k + 1) sizes) taken
 

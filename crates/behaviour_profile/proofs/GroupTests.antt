@@ -15,7 +15,7 @@ use Rattle.pure_payoffs.specs.Steps.{Step}
 use Rattle.behaviour_profile.specs.declared.entries.ProfileFault.{ProfileFault}
 use Rattle.behaviour_profile.specs.declared.entries.ProfileFault.TheVariants as faults
 use Rattle.behaviour_profile.specs.EntryTests.{Test, IsNotNegative, CanBeAdded, SumsToOne, Passes, IsFirstFault, entry_at, entry_tests, group_tests}
-use Rattle.behaviour_profile.proofs.FirstFaults.{fault-more, fault-behind, fault-here}
+use Rattle.behaviour_profile.proofs.FirstFaults.{fault-more, fault-following, fault-here}
 
 -- a number with a negative sign is negative
 pub negative_by_sign : (q : ℚ) (sign : ℤ) → sign ≡ sign_of q → sign <ℤ pos 0 → zero_ℚ ≤ℚ q → ⊥
@@ -62,7 +62,7 @@ module _ (entries : List ℚ) (place : ℕ) where
     at-entry : (group n : ℕ) (fault : ProfileFault) → k < n → IsFirstFault (entry_tests entries place k) fault → IsFirstFault (group_tests entries place group n) fault
     at-entry group n fault l h =
         fault-more (tests_below n) (SumsToOne group (sum_below n) ∷ []) fault
-        (longer (suc k) n fault (omega arith) (subst (λ tests. IsFirstFault tests fault) (sym (made-next (entry_tests entries place) k)) (fault-behind (tests_below k) (entry_tests entries place k) fault passed h)))
+        (longer (suc k) n fault (omega arith) (subst (λ tests. IsFirstFault tests fault) (sym (made-next (entry_tests entries place) k)) (fault-following (tests_below k) (entry_tests entries place k) fault passed h)))
 
     pub negative_here : (group n at : ℕ) → k < n → at ≡ place + k → (zero_ℚ ≤ℚ entry → ⊥) → IsFirstFault (group_tests entries place group n) (faults.Negative at)
     negative_here group n at l at_is fails =
@@ -74,7 +74,7 @@ module _ (entries : List ℚ) (place : ℕ) where
     pub unfit_here : (group n : ℕ) (step : Step) → k < n → zero_ℚ ≤ℚ entry → step ≡ unfit Add sum entry → (AddFits sum entry → ⊥) → IsFirstFault (group_tests entries place group n) (faults.Unfit step)
     unfit_here group n step l positive step_was fails =
         at-entry group n (faults.Unfit step) l
-        (fault-behind (sign_at k ∷ []) (addition_at k ∷ []) (faults.Unfit step)
+        (fault-following (sign_at k ∷ []) (addition_at k ∷ []) (faults.Unfit step)
         (All-cons Passes (sign_at k) [] (subst (λ x. zero_ℚ ≤ℚ x) is positive) (All-nil Passes))
         (fault-here (addition_at k) [] (faults.Unfit step)
         (λ fits. fails (let back : AddFits (sum_below k) (entry_at entries (place + k)) = fits in subst (λ x. AddFits x entry) (sym so_far) (subst (λ x. AddFits (sum_below k) x) (sym is) back)))
@@ -99,5 +99,5 @@ module _ (entries : List ℚ) (place : ℕ) where
 
   pub sum_here : (group n : ℕ) (sum : ℚ) → sum ≡ sum_below n → All Passes (tests_below n) → (sum ≡ one_ℚ → ⊥) → IsFirstFault (group_tests entries place group n) (faults.Sum group)
   sum_here group n sum so_far passed fails =
-      fault-behind (tests_below n) (SumsToOne group (sum_below n) ∷ []) (faults.Sum group) passed
+      fault-following (tests_below n) (SumsToOne group (sum_below n) ∷ []) (faults.Sum group) passed
       (fault-here (SumsToOne group (sum_below n)) [] (faults.Sum group) (λ e. fails (so_far ∙ e)) refl)

@@ -27,10 +27,10 @@ use Rattle.behaviour_profile.specs.Plans.{OwnAction, actions_at, own_actions, bo
 use Rattle.behaviour_profile.specs.Shares.{AddsPlan, IsLabelOf, IsPlanStop, IsShareStop, actions_of, share_at, steps_at}
 use Rattle.behaviour_profile.proofs.BehaviourEntries.{entries_at-push}
 use Rattle.behaviour_profile.proofs.PlanShares.{shares_are, quotients_fit, first_quotient}
-use Rattle.pure_payoffs.proofs.UnfitLists.{first_of-more, first_of-behind, parts_fit, first_of-part}
+use Rattle.pure_payoffs.proofs.UnfitLists.{first_of-more, first_of-following, parts_fit, first_of-part}
 
 -- ---- one player
--- the entries at the first n own sets of a player stand behind others, and all quotients there fit
+-- the entries at the first n own sets of a player stand after others, and all quotients there fit
 pub record AddsSets (t : Tree) (i : ℕ) (plans : ℕ → ℕ → ℚ) (n : ℕ) (old new : List ℚ) : Type 0 where
   pub entries_are : new ≡ old ++ entries_at t (behaviour_of t plans) (take n (own_sets t i))
   pub all_fit : All (Fits (quotient t plans)) (flat_map (actions_at t i) (take n (own_sets t i)))
@@ -90,7 +90,7 @@ first_stop t one two stops.Memory h = inl refl
 pub second_stop : (t : GameTree) (one two old new : List ℚ) (stop : BehaviourStop) → AddsPlan t 0 (plans_of one two) old new → IsPlanStop t 1 (plans_of one two) stop → Gives stops.Memory (plan_behaviour t one two) (Err stop)
 second_stop t one two old new (stops.Range player label step) a h = inr (record {
   at = h.at;
-  first = first_of-behind (quotient (game_of_tree t) (plans_of one two)) (own_actions (game_of_tree t) 0) (own_actions (game_of_tree t) 1) h.at step a.all_fit h.first;
+  first = first_of-following (quotient (game_of_tree t) (plans_of one two)) (own_actions (game_of_tree t) 0) (own_actions (game_of_tree t) 1) h.at step a.all_fit h.first;
   player_is = h.player_is;
   set = h.label_is.set;
   stands_at = h.label_is.stands_at;

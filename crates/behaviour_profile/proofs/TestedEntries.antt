@@ -25,7 +25,7 @@ All-right P (x ∷ xs) ys h = All-right P xs ys (All-tail P x (xs ++ ys) h)
 
 -- ---- a group
 -- the numbers below n are not negative, and sum to 1
-pub record IsLottery (n : ℕ) (f : ℕ → ℚ) : Type 0 where
+pub record IsChanceDistribution (n : ℕ) (f : ℕ → ℚ) : Type 0 where
   pub not_negative : (k : ℕ) → k < n → zero_ℚ ≤ℚ f k
   pub sum_is_one : sum_to n f ≡ one_ℚ
 
@@ -47,7 +47,7 @@ module _ (list : List ℚ) (place : ℕ) where
       last = All-right Passes (tests_below list place n) (entry_tests list place n) all
 
   -- a group that passes is a lottery
-  lottery : (group n : ℕ) → All Passes (group_tests list place group n) → IsLottery n at
+  lottery : (group n : ℕ) → All Passes (group_tests list place group n) → IsChanceDistribution n at
   lottery group n h =
       record {
         not_negative = below-positive n (All-left Passes (tests_below list place n) (SumsToOne group (sum_below list place n) ∷ []) h);
@@ -70,30 +70,30 @@ module _ (list : List ℚ) (place : ℕ) where
       last = All-right AdditionFits (tests_below list place n) (entry_tests list place n) all
 
   -- and a lottery that can be added passes
-  lottery-passes : (group n : ℕ) → IsLottery n at → All AdditionFits (group_tests list place group n) → All Passes (group_tests list place group n)
+  lottery-passes : (group n : ℕ) → IsChanceDistribution n at → All AdditionFits (group_tests list place group n) → All Passes (group_tests list place group n)
   lottery-passes group n h fit =
       All-append Passes (tests_below list place n) (SumsToOne group (sum_below list place n) ∷ [])
       (below-passes n h.not_negative (All-left AdditionFits (tests_below list place n) (SumsToOne group (sum_below list place n) ∷ []) fit))
       (All-cons Passes (SumsToOne group (sum_below list place n)) [] h.sum_is_one (All-nil Passes))
 
-lottery-same : (n : ℕ) (f g : ℕ → ℚ) → ((k : ℕ) → k < n → f k ≡ g k) → IsLottery n f → IsLottery n g
+lottery-same : (n : ℕ) (f g : ℕ → ℚ) → ((k : ℕ) → k < n → f k ≡ g k) → IsChanceDistribution n f → IsChanceDistribution n g
 lottery-same n f g same h =
     record { not_negative = λ k l. subst (λ q. zero_ℚ ≤ℚ q) (same k l) (h.not_negative k l); sum_is_one = sym (sum_to-same n f g same) ∙ h.sum_is_one }
 
 -- ---- groups one after another
--- the first group behind some entries
-first_group : (before behind : List ℚ) (n : ℕ) (f : ℕ → ℚ) (k : ℕ) → k < n → entry_at (before ++ (listed n f ++ behind)) (length before + k) ≡ f k
-first_group before behind n f k l =
-    get_or-append-add before (listed n f ++ behind) k zero_ℚ ∙ get_or_append_left (listed n f) behind zero_ℚ k (omega (arith, l, length-listed n f)) ∙ get_or-listed n f k zero_ℚ l
+-- the first group after some entries
+first_group : (before following : List ℚ) (n : ℕ) (f : ℕ → ℚ) (k : ℕ) → k < n → entry_at (before ++ (listed n f ++ following)) (length before + k) ≡ f k
+first_group before following n f k l =
+    get_or-append-add before (listed n f ++ following) k zero_ℚ ∙ get_or_append_left (listed n f) following zero_ℚ k (omega (arith, l, length-listed n f)) ∙ get_or-listed n f k zero_ℚ l
 
 module _ (n : ℕ) (sizes : List ℕ) (m : Mixed) where
-  pub valid-first : IsValid (n ∷ sizes) m → IsLottery n (m 0)
+  pub valid-first : IsValid (n ∷ sizes) m → IsChanceDistribution n (m 0)
   valid-first v = record { not_negative = λ k l. v.not_negative 0 k (omega arith) l; sum_is_one = v.sum_is_one 0 (omega arith) }
 
   pub valid-later : IsValid (n ∷ sizes) m → IsValid sizes (later m)
   valid-later v = record { not_negative = λ i s l h. v.not_negative (suc i) s (omega (arith, l)) h; sum_is_one = λ i l. v.sum_is_one (suc i) (omega (arith, l)) }
 
-  pub valid-both : IsLottery n (m 0) → IsValid sizes (later m) → IsValid (n ∷ sizes) m
+  pub valid-both : IsChanceDistribution n (m 0) → IsValid sizes (later m) → IsValid (n ∷ sizes) m
   valid-both h v = record { not_negative = positive; sum_is_one = total }
     where
       positive : (i s : ℕ) → i < length (n ∷ sizes) → s < get_or (n ∷ sizes) i 0 → zero_ℚ ≤ℚ m i s
@@ -104,15 +104,15 @@ module _ (n : ℕ) (sizes : List ℕ) (m : Mixed) where
       total zero l = h.sum_is_one
       total (suc i) l = v.sum_is_one i (omega (arith, l))
 
-moved : (before behind : List ℚ) (n : ℕ) (f : ℕ → ℚ) → before ++ (listed n f ++ behind) ≡ (before ++ listed n f) ++ behind
-moved before behind n f = sym (append_assoc before (listed n f) behind)
+moved : (before following : List ℚ) (n : ℕ) (f : ℕ → ℚ) → before ++ (listed n f ++ following) ≡ (before ++ listed n f) ++ following
+moved before following n f = sym (append_assoc before (listed n f) following)
 
 place-moved : (before : List ℚ) (n : ℕ) (f : ℕ → ℚ) → length before + n ≡ length (before ++ listed n f)
 place-moved before n f = omega (arith, length-append before (listed n f), length-listed n f)
 
-tests-moved : (before behind : List ℚ) (n group : ℕ) (f : ℕ → ℚ) (sizes : List ℕ)
-    → tests_from (before ++ (listed n f ++ behind)) (length before + n) group sizes ≡ tests_from ((before ++ listed n f) ++ behind) (length (before ++ listed n f)) group sizes
-tests-moved before behind n group f sizes = ap₂ (λ l p. tests_from l p group sizes) (moved before behind n f) (place-moved before n f)
+tests-moved : (before following : List ℚ) (n group : ℕ) (f : ℕ → ℚ) (sizes : List ℕ)
+    → tests_from (before ++ (listed n f ++ following)) (length before + n) group sizes ≡ tests_from ((before ++ listed n f) ++ following) (length (before ++ listed n f)) group sizes
+tests-moved before following n group f sizes = ap₂ (λ l p. tests_from l p group sizes) (moved before following n f) (place-moved before n f)
 
 passed-valid : (sizes : List ℕ) (before : List ℚ) (group : ℕ) (m : Mixed) → All Passes (tests_from (before ++ entries sizes m) (length before) group sizes) → IsValid sizes m
 passed-valid [] before group m h = record { not_negative = λ i s l k. absurd (omega (arith, l)); sum_is_one = λ i l. absurd (omega (arith, l)) }
@@ -159,7 +159,7 @@ entries-profile_of (n ∷ sizes) list e =
     let rest : length (drop n list) ≡ sum sizes = omega (arith, e, all, length-drop n list) in
     ap₂ (λ v w. v ++ w) (listed-front n list few) (entries-profile_of sizes (drop n list) rest) ∙ take-append-drop n list)
 
--- each entry stands behind those of the players before
+-- each entry stands after those of the players before
 profile_of-at : (sizes : List ℕ) (list : List ℚ) (i s : ℕ) → i < length sizes → profile_of sizes list i s ≡ mixed_of sizes list i s
 profile_of-at [] list i s l = absurd (omega (arith, l))
 profile_of-at (n ∷ sizes) list zero s l = ap (entry_at list) (omega (arith, sum-nil))

@@ -62,8 +62,8 @@ tests_from entries place group (n ∷ sizes) =
 -- the first of these tests that is not passed
 pub record IsFirstFailed (tests : List Test) (test : Test) : Type 0 where
   pub before : List Test
-  pub behind : List Test
-  pub is_there : tests ≡ before ++ test ∷ behind
+  pub following : List Test
+  pub is_there : tests ≡ before ++ test ∷ following
   pub earlier_pass : All Passes before
   pub fails : Passes test → ⊥
 

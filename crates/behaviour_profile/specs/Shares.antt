@@ -46,7 +46,7 @@ IsShareStop weights row i label (stops.Range player set step) = (player ≡ i) �
 IsShareStop weights row i label stops.Memory = Unit {0}
 
 -- ---- a player
--- the entries of player i's plan stand behind others, and all its quotients fit
+-- the entries of player i's plan stand after others, and all its quotients fit
 pub record AddsPlan (t : GameTree) (i : ℕ) (plans : ℕ → ℕ → ℚ) (old new : List ℚ) : Type 0 where
   pub entries_are : new ≡ old ++ own_entries (game_of_tree t) (behaviour_of (game_of_tree t) plans) i
   pub all_fit : All (Fits (quotient (game_of_tree t) plans)) (own_actions (game_of_tree t) i)

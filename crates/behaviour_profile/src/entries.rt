@@ -66,7 +66,7 @@ struct Position {
 ///
 /// # Errors
 ///
-/// What is wrong first: at an entry `Negative`, and else `Unfit`, and behind all entries `Sum`.
+/// What is wrong first: at an entry `Negative`, and else `Unfit`, and after all entries `Sum`.
 pub fn test_group(entries: &[Frac], place: u32, group: u32, count: u32) -> Result<(), ProfileFault>
     requires within { place + count ≤ length entries.now }
     requires few { place + count < 2 ^ 32 }
@@ -91,7 +91,7 @@ pub fn test_group(entries: &[Frac], place: u32, group: u32, count: u32) -> Resul
     }
 }
 
-// How many of these entries are left behind those of a player; nothing where the player's are more.
+// How many of these entries are left after those of a player; nothing where the player's are more.
 fn left_by(tree: &Tree, player: u32, count: usize) -> Option<usize>
     ensures { let own = sum (own_counts (game_of_tree tree.now) player) in
         MatchOption result (count < own) (λ left. left + own ≡ count) }
@@ -121,7 +121,7 @@ fn is_count(tree: &Tree, count: usize) -> bool
 }
 
 // Tests the entries of a player, which stand from a place and a group on, and gives the position
-// behind them.
+// after them.
 fn test_player(
     tree: &Tree,
     player: u32,
@@ -133,9 +133,9 @@ fn test_player(
     requires few { place + sum (own_counts (game_of_tree tree.now) player) < 2 ^ 32 }
     requires groups { group + length (own_counts (game_of_tree tree.now) player) < 2 ^ 32 }
     ensures place { let own = own_counts (game_of_tree tree.now) player in
-        IfOk result (λ behind. behind.place ≡ place + sum own) }
+        IfOk result (λ following. following.place ≡ place + sum own) }
     ensures group { let own = own_counts (game_of_tree tree.now) player in
-        IfOk result (λ behind. behind.group ≡ group + length own) }
+        IfOk result (λ following. following.group ≡ group + length own) }
     ensures passed { let own = own_counts (game_of_tree tree.now) player in
         OnOk result (All Passes (tests_from entries.now place group own)) }
     ensures fault { let own = own_counts (game_of_tree tree.now) player in
@@ -171,7 +171,7 @@ fn test_players(tree: &Tree, entries: &[Frac]) -> Result<(), ProfileFault>
     for player in 0..tree.players().len() {
         let tested = test_player(tree, player as u32, entries, position.place, position.group);
         match tested {
-            Ok(behind) => position = behind,
+            Ok(following) => position = following,
             Err(fault) => return Err(fault),
         }
     }
@@ -186,7 +186,7 @@ impl Behaviour {
     ///
     /// What is wrong first. `Count` where the entries are not as many as the players' actions. Else
     /// set by set and entry by entry `Negative`, or `Unfit` where it cannot be added to those before
-    /// it at its set, and behind each set's entries `Sum` where they do not sum to 1.
+    /// it at its set, and after each set's entries `Sum` where they do not sum to 1.
     pub fn try_new(tree: &Tree, entries: Vec<Frac>) -> Result<Behaviour, ProfileFault>
         ensures { profile_in (action_counts (game_of_tree tree.now)) entries.items result }
     {

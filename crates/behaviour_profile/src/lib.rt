@@ -1,4 +1,12 @@
 //! Behaviour on a tree: the probability of each action at each player's information set.
+//!
+//! Callers may rely on: `Behaviour::from_reduced` and `from_plans` give the behaviour of a profile
+//! and of plans; `try_new` takes the entries that pass all tests; `tested_entries_are_behaviours`.
+//! Definitions: `specs::EntryTests` has groups of entries and their tests, `EntryLaws` what holds
+//! of tested entries, `Plans` the behaviour of two plans and its steps.
+//! Private words: `specs::FirstActions` and `specs::Shares`, how entries are made.
+//! Lemmas for callers: `proofs::GroupTests` and `TestedEntries` on entries, `PlanStops` on plans.
+//! A change here touches: `enumpure_trees`, `ne_checker`, `line_checks`, `lp` and `lcp`.
 #![tactic(auto)]
 
 ghost use Rattle.std.specs.Prelude.{◌≡◌, ◌++◌, length, map, IfOk, OnOk};

@@ -62,7 +62,7 @@ module _ (t : Tree) (b other : Behaviour) (i : ℕ) (choice : ℕ → ℕ) (w : 
   abbrev adds : ℕ → ℚ
   adds c = reach t other (t.parent c) *ℚ change t (reply t b i choice) other i w c
 
-  -- and at the nodes behind a set
+  -- and at the nodes after a set
   abbrev set_adds : ℕ → ℚ
   set_adds s = sum_to (t.actions s) (λ a. sum_to t.size (λ c. where_true (follows t s a c) (adds c)))
 
@@ -70,7 +70,7 @@ module _ (t : Tree) (b other : Behaviour) (i : ℕ) (choice : ℕ → ℕ) (w : 
   abbrev more : ℕ → ℕ → ℚ
   more s a = other s a -ℚ sure (choice s) a
 
-  -- behind another player's set nothing changes
+  -- after another player's set nothing changes
   adds-other : (s a c : ℕ) → t.owner s ≢ Some i → c < t.size → (0 < c) × ((t.set (t.parent c) ≡ Some s) × (t.branch c ≡ a)) → adds c ≡ zero_ℚ
   adds-other s a c apart l leads =
       let step = step-to t c s w leads.0 l leads.1.0 in
@@ -79,7 +79,7 @@ module _ (t : Tree) (b other : Behaviour) (i : ℕ) (choice : ℕ → ℕ) (w : 
       ap (λ x. reach t other (t.parent c) *ℚ ((x -ℚ branch_probability t (reply t b i choice) c) *ℚ value t (reply t b i choice) i c)) same
       ∙ ring rational_ring (reach t other (t.parent c) ∷ branch_probability t (reply t b i choice) c ∷ value t (reply t b i choice) i c ∷ []) (A :* ((B :- B) :* C)) (num 0) refl
 
-  -- behind an own set the reply values count, by the player's part in how its nodes are reached, which by perfect recall is one for all
+  -- after an own set the reply values count, by the player's part in how its nodes are reached, which by perfect recall is one for all
   adds-own : (s a c m : ℕ) → t.owner s ≡ Some i → m < t.size → t.set m ≡ Some s → c < t.size → (0 < c) × ((t.set (t.parent c) ≡ Some s) × (t.branch c ≡ a))
       → adds c ≡ (own_probability other (own_history t i m) *ℚ more s a) *ℚ reply_value t b i choice c
   adds-own s a c m o n e l leads =

@@ -15,7 +15,7 @@ use Rattle.best_replies.proofs.ReplyValues.{reply_value-agree}
 use Rattle.best_replies.proofs.SetOrder.{within-trans, above-le}
 use Rattle.best_replies.proofs.Weights.{own_or_not}
 
--- behind an own set reply values depend only on the choices at later sets
+-- after an own set reply values depend only on the choices at later sets
 pub reply_value-later_sets : ReplyValuesDependOnLaterSets
 reply_value-later_sets t b i choice other s k c w ascend o e l inside apart agree =
     reply_value-agree t b i choice other c w l (λ x r within below at own.

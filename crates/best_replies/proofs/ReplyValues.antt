@@ -110,7 +110,7 @@ action_value-by_members t b i choice s a child w h =
         go true d = sum_to-single t.size (child k) v (h k l (d.0 refl)).1
         go false d = sum_to-zero t.size
 
-    -- a node behind the action is the child of one member
+    -- a node after the action is the child of one member
     one_member : (c : ℕ) → c < t.size → sum_to t.size (λ k. where_true (is_member t s k) (sure (child k) c *ℚ v c)) ≡ where_true (follows t s a c) (v c)
     one_member c l = go (follows t s a c) (follows-decides t s a c)
       where

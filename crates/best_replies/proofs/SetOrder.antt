@@ -4,7 +4,7 @@ use Rattle.std.specs.Prelude.{if◌then◌else◌}
 use Rattle.std.proofs.lemmas.Bool.{cases_lt, cases_eq}
 use Rattle.game_theory.specs.Trees.{Tree, IsTree, IsAbove, IsWithin}
 use Rattle.game_theory.specs.Behaviour.{is_own}
-use Rattle.game_theory.specs.Recall.{own_step, own_history, HasPerfectRecall}
+use Rattle.game_theory.specs.Recall.{own_edge, own_history, HasPerfectRecall}
 use Rattle.reduced_strategies.proofs.Histories.{along_paths, own_history-step}
 use Rattle.game_theory.specs.FirstNodes.{AreNumberedByFirstNodes}
 use Rattle.best_replies.specs.Laws.{SetsAscendOnPaths}
@@ -47,11 +47,11 @@ HasSet-parts r (x ∷ xs) ys (inl e) = inl (inl e)
 HasSet-parts r (x ∷ xs) ys (inr h) = elim (HasSet-parts r xs ys h) [ inl g ↦ inl (inr g) | inr g ↦ inr g ]
 
 -- the step from a node of an own set
-step-has_set : (t : Tree) (i r a : ℕ) → t.owner r ≡ Some i → HasSet r (own_step t i (Some r) a)
+step-has_set : (t : Tree) (i r a : ℕ) → t.owner r ≡ Some i → HasSet r (own_edge t i (Some r) a)
 step-has_set t i r a o = subst (HasSet r) (sym (if_own t i r ((r, a) ∷ []) [] o)) (inl refl)
 
 -- a step at a set is from a node of that set
-step-set : (t : Tree) (i r s a : ℕ) → HasSet r (own_step t i (Some s) a) → s ≡ r
+step-set : (t : Tree) (i r s a : ℕ) → HasSet r (own_edge t i (Some s) a) → s ≡ r
 step-set t i r s a h = go (is_own t i s) h
   where
     go : (b : Bool) → HasSet r (if b then (s, a) ∷ [] else []) → s ≡ r
@@ -62,7 +62,7 @@ step-set t i r s a h = go (is_own t i s) h
 -- the own set of a node further up is in the history
 above-has_set : (t : Tree) (i r k : ℕ) → IsTree t → t.set k ≡ Some r → t.owner r ≡ Some i → (n c : ℕ) → c < t.size → IsAbove t (suc n) k c → HasSet r (own_history t i c)
 above-has_set t i r k w e o zero c l h =
-    let step : own_step t i (t.set (t.parent c)) (t.branch c) ≡ own_step t i (Some r) (t.branch c) = ap (λ x. own_step t i x (t.branch c)) (ap t.set (sym h.1) ∙ e) in
+    let step : own_edge t i (t.set (t.parent c)) (t.branch c) ≡ own_edge t i (Some r) (t.branch c) = ap (λ x. own_edge t i x (t.branch c)) (ap t.set (sym h.1) ∙ e) in
     subst (HasSet r) (sym (own_history-step t i c w h.0 l)) (HasSet-append r (own_history t i (t.parent c)) _ (inr (subst (HasSet r) (sym step) (step-has_set t i r (t.branch c) o))))
 above-has_set t i r k w e o (suc n) c l h =
     let after : t.parent c < c = w.after_parent c h.0 l in
@@ -76,7 +76,7 @@ has_set-above t i r w = along_paths t (λ c. HasSet r (own_history t i c) → (k
     next c p l before h = elim (HasSet-parts r (own_history t i (t.parent c)) _ (subst (HasSet r) (own_history-step t i c w p l) h)) [
       | inl g ↦ let k = before g in let after : t.parent c < c = w.after_parent c p l in (k.0, omega (arith, k.1), k.2)
       | inr g ↦ let led = w.led_to c p l in
-          (t.parent c, w.after_parent c p l, led.1 ∙ ap Some (step-set t i r led.0 (t.branch c) (subst (λ x. HasSet r (own_step t i x (t.branch c))) led.1 g)))
+          (t.parent c, w.after_parent c p l, led.1 ∙ ap Some (step-set t i r led.0 (t.branch c) (subst (λ x. HasSet r (own_edge t i x (t.branch c))) led.1 g)))
     ]
 
 -- ---- the order

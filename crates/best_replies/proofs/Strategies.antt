@@ -13,7 +13,7 @@ use Rattle.game_theory.proofs.ProfileNumbers.{length-profile, IsProfile-profile_
 use Rattle.game_theory.proofs.Replies.{payoff-replies, reply-other}
 use Rattle.game_theory.proofs.Children.{where_true}
 use Rattle.best_replies.specs.Strategies.{own_as_one, weight, strategy_value, IsBestStrategy}
-use Rattle.best_replies.specs.Laws.{StrategyValuesArePayoffs, PayoffIsMeanOfStrategies, BestStrategiesTellBetterReplies, EquilibriaByBestStrategies}
+use Rattle.best_replies.specs.Laws.{StrategyValuesArePayoffs, PayoffIsMeanOfStrategies, BestStrategiesShowBetterReplies, EquilibriaByBestStrategies}
 
 -- equal probabilities of all strategies
 probability-equal : (ss : List ℕ) (m n : Mixed) → ((i t : ℕ) → m i t ≡ n i t) → probability m ss ≡ probability n ss
@@ -70,7 +70,7 @@ reply-below : (g : Game) (m : Mixed) (i s t : ℕ) → i < length g.strategies �
 reply-below g m i s t h best l = subst (λ x. x ≤ℚ strategy_value g m i s) (strategy_value-payoff g m i t h l) (best.greatest t l)
 
 -- a better pure reply exists exactly where the best strategy is worth more
-pub best_strategies-tell : BestStrategiesTellBetterReplies
+pub best_strategies-tell : BestStrategiesShowBetterReplies
 best_strategies-tell g m i s h best = (
   λ l. record { strategy = s; within = best.within; pays_more = subst (λ x. payoff g m i <ℚ x) (strategy_value-payoff g m i s h best.within) l },
   λ r. lt_of_lt_of_le _ _ _ r.pays_more (reply-below g m i s r.strategy h best r.within),

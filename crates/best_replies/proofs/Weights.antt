@@ -9,7 +9,7 @@ use Rattle.rational.proofs.Ring.{ring, ◌:*◌, A, B, C}
 use Rattle.game_theory.specs.Mixed.{sure}
 use Rattle.game_theory.specs.Trees.{Tree, IsTree}
 use Rattle.game_theory.specs.Behaviour.{Behaviour, of_owner, action_probability, at_set, branch_probability, is_own, reply}
-use Rattle.game_theory.specs.Recall.{own_step, own_history}
+use Rattle.game_theory.specs.Recall.{own_edge, own_history}
 use Rattle.game_theory.proofs.OwnSets.{is_own-decides}
 use Rattle.reduced_strategies.proofs.Histories.{along_paths, own_history-step}
 use Rattle.best_replies.specs.Reaching.{reach, own_as_one, weight}
@@ -127,8 +127,8 @@ own_probability-append b (x ∷ xs) ys =
 -- of the step to a child
 pub own_probability-step : (t : Tree) (i : ℕ) (b : Behaviour) (c s : ℕ) → IsTree t → 0 < c → c < t.size → t.set (t.parent c) ≡ Some s → own_probability b (own_history t i c) ≡ own_probability b (own_history t i (t.parent c)) *ℚ (if is_own t i s then b s (t.branch c) else one_ℚ)
 own_probability-step t i b c s w p l e =
-    ap (own_probability b) (own_history-step t i c w p l ∙ ap (λ x. own_history t i (t.parent c) ++ own_step t i x (t.branch c)) e)
-    ∙ own_probability-append b (own_history t i (t.parent c)) (own_step t i (Some s) (t.branch c))
+    ap (own_probability b) (own_history-step t i c w p l ∙ ap (λ x. own_history t i (t.parent c) ++ own_edge t i x (t.branch c)) e)
+    ∙ own_probability-append b (own_history t i (t.parent c)) (own_edge t i (Some s) (t.branch c))
     ∙ ap (λ x. own_probability b (own_history t i (t.parent c)) *ℚ x) (go (is_own t i s))
   where
     go : (own : Bool) → own_probability b (if own then (s, t.branch c) ∷ [] else []) ≡ (if own then b s (t.branch c) else one_ℚ)

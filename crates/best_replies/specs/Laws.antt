@@ -92,8 +92,8 @@ NoBehaviourPaysMore =
     → payoff t other i ≤ℚ payoff t (reply t b i choice) i
 
 -- so a better pure reply exists exactly where the best choices pay more
-abbrev pub BestChoicesTellBetterReplies : Type 0
-BestChoicesTellBetterReplies =
+abbrev pub BestChoicesShowBetterReplies : Type 0
+BestChoicesShowBetterReplies =
     (t : Tree) (b : Behaviour) (i : ℕ) (choice : ℕ → ℕ) → IsTree t → HasPerfectRecall t i
     → AreBestChoices t b i choice
     → (payoff t b i <ℚ reply_value t b i choice 0) ↔ HasBetterReply t b i
@@ -119,7 +119,7 @@ ReplyValuesDependOnSubtrees =
     (t : Tree) (b : Behaviour) (i : ℕ) (choice other : ℕ → ℕ) (k : ℕ) → IsTree t → k < t.size
     → AgreeWithin t i choice other k → reply_value t b i choice k ≡ reply_value t b i other k
 
--- and behind an own set only on the choices at later sets
+-- and after an own set only on the choices at later sets
 abbrev pub ReplyValuesDependOnLaterSets : Type 0
 ReplyValuesDependOnLaterSets =
     (t : Tree) (b : Behaviour) (i : ℕ) (choice other : ℕ → ℕ) (s k c : ℕ) → IsTree t
@@ -136,7 +136,7 @@ ActionValuesDependOnLaterSets =
 
 -- Set by set: before the last set nothing is decided, a decision at an own set leaves those from
 -- later sets on as they are, other sets want none, and at the first set all is decided. What a node
--- behind a decided set is worth stays.
+-- after a decided set is worth stays.
 pub record SetsAreDecidedOneByOne : Type 0 where
   pub start : (t : Tree) (b : Behaviour) (i : ℕ) (choice : ℕ → ℕ)
       → AreDecidedFrom t b i t.sets choice
@@ -198,8 +198,8 @@ PayoffIsMeanOfStrategies =
     ≡ sum_to (slice_index g.strategies i) (λ s. m i s *ℚ strategy_value g m i s)
 
 -- a better pure reply exists exactly where the best strategy is worth more
-abbrev pub BestStrategiesTellBetterReplies : Type 0
-BestStrategiesTellBetterReplies =
+abbrev pub BestStrategiesShowBetterReplies : Type 0
+BestStrategiesShowBetterReplies =
     (g : Game) (m : Mixed) (i s : ℕ) → i < length g.strategies → IsBestStrategy g m i s
     → (table_payoff g m i <ℚ strategy_value g m i s) ↔ HasBetterStrategy g m i
 

@@ -1,13 +1,12 @@
 //! Best replies in game trees and in games in strategic form, for contracts and proofs.
 //!
-//! The definitions stand in `specs/`. `Reaching` says how probable a node is and what its weight
-//! for a player is, `Replies` what reply values and best choices are, and `Greatest` which of the
-//! greatest is the first. `Order` says in which order sets can be decided, `Deciding` how they are
-//! decided one by one, and `BackwardPass` how values are added up from the last node to the first.
-//! `Strategies` has best strategies of a table. `Laws` states what holds of them, and `Examples`
-//! works out one game.
-//!
-//! The functions below do nothing: the contract of each is a law, so that a check proves it.
+//! Callers may rely on: `equilibria_by_best_choices` and `equilibria_by_best_strategies`;
+//! `best_choices_show_better_replies`; sets are decided one by one, from the last to the first.
+//! Definitions: `specs::Reaching` has the weights of nodes, `Replies` reply values and best
+//! choices, `Order` the order of sets, `Strategies` best strategies of a table.
+//! Lemmas for callers: `proofs::Weights`, `ReplyValues`, `Deciding`, `BestChoices`, `SetOrder`,
+//! `Verdicts`, `Greatest` and `Strategies`, all for `ne_checker`.
+//! A change here touches: `ne_checker` alone, and through it the verdicts of `check`.
 #![tactic(auto)]
 
 ghost use Rattle.best_replies.specs.Examples.{BestRepliesInTheEntryGame};
@@ -16,8 +15,8 @@ ghost use Rattle.best_replies.specs.Laws.{
   ActionValuesDependOnLaterSets,
   BestChoicesExist,
   BestChoicesPayMost,
-  BestChoicesTellBetterReplies,
-  BestStrategiesTellBetterReplies,
+  BestChoicesShowBetterReplies,
+  BestStrategiesShowBetterReplies,
   EquilibriaByBestChoices,
   EquilibriaByBestStrategies,
   FirstGreatestExists,
@@ -79,8 +78,8 @@ pub fn no_behaviour_pays_more()
 {}
 
 /// A better pure reply exists exactly where the best choices pay more.
-pub fn best_choices_tell_better_replies()
-    ensures { BestChoicesTellBetterReplies }
+pub fn best_choices_show_better_replies()
+    ensures { BestChoicesShowBetterReplies }
 {}
 
 /// A valid behaviour is an equilibrium exactly where no player's best choices pay more.
@@ -98,7 +97,7 @@ pub fn reply_values_depend_on_subtrees()
     ensures { ReplyValuesDependOnSubtrees }
 {}
 
-/// Behind an own set it depends only on the choices at later sets.
+/// After an own set it depends only on the choices at later sets.
 pub fn reply_values_depend_on_later_sets()
     ensures { ReplyValuesDependOnLaterSets }
 {}
@@ -108,7 +107,7 @@ pub fn action_values_depend_on_later_sets()
     ensures { ActionValuesDependOnLaterSets }
 {}
 
-/// Sets are decided one by one from the last to the first, and what is known of nodes behind
+/// Sets are decided one by one from the last to the first, and what is known of nodes after
 /// decided sets stays.
 pub fn sets_are_decided_one_by_one()
     ensures { SetsAreDecidedOneByOne }
@@ -146,8 +145,8 @@ pub fn payoff_is_the_mean_of_strategies()
 {}
 
 /// On a table a better pure reply exists exactly where the best strategy is worth more.
-pub fn best_strategies_tell_better_replies()
-    ensures { BestStrategiesTellBetterReplies }
+pub fn best_strategies_show_better_replies()
+    ensures { BestStrategiesShowBetterReplies }
 {}
 
 /// A valid profile is an equilibrium exactly where no player's best strategy is worth more.

@@ -39,7 +39,7 @@ record IsPut (x : List ℕ) (ys zs : List (List ℕ)) : Type 0 where
   permutation : IsPermutation (x ∷ ys) zs
   front : (w : List ℕ) → ComesBefore w x → AreAscending (w ∷ ys) → AreAscending (w ∷ zs)
 
--- the same behind a list that comes before
+-- the same after a list that comes before
 IsPut-after : (x y : List ℕ) (ys zs : List (List ℕ)) → ComesBefore y x → AreAscending (y ∷ ys) → IsPut x ys zs → IsPut x (y ∷ ys) (y ∷ zs)
 IsPut-after x y ys zs b a p =
     record {

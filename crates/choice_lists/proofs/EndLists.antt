@@ -11,7 +11,7 @@ use Rattle.std.proofs.lemmas.List.Kept.{AllPairs-cons}
 use Rattle.choice_lists.specs.declared.decision.Decision.{Decision}
 use Rattle.choice_lists.specs.Walks.{AreLinked, IsWalk}
 use Rattle.choice_lists.specs.Ends.{is_led_to, branches, ends}
-use Rattle.choice_lists.proofs.Flags.{Extends, IsOnWay, IsOnWay-start, IsOnWay-branch, IsOnWay-pass, AreBelow, IsWalk-end, told-reached, told-extends, led-extends, led-reached, place-within}
+use Rattle.choice_lists.proofs.Reach.{Extends, IsOnWay, IsOnWay-start, IsOnWay-branch, IsOnWay-pass, AreBelow, IsWalk-end, told-reached, told-extends, led-extends, led-reached, place-within}
 
 -- ---- branches
 -- what holds in each branch holds in all
@@ -52,11 +52,11 @@ AllPairs-branches tag each a (suc n) p t =
 -- ---- a decision
 -- the walk branches at a decision: it is reached, and its set has no action
 abbrev pub Branches : List Bool → List ℕ → Decision → Type 0
-Branches flags choices d = (is_led_to flags choices d.before ≡ true) × (get_or choices d.place 0 ≡ 0)
+Branches reach choices d = (is_led_to reach choices d.before ≡ true) × (get_or choices d.place 0 ≡ 0)
 
 -- or it passes
 abbrev pub Passes : List Bool → List ℕ → Decision → Type 0
-Passes flags choices d = is_led_to flags choices d.before ≡ true → 0 < get_or choices d.place 0
+Passes reach choices d = is_led_to reach choices d.before ≡ true → 0 < get_or choices d.place 0
 
 -- one of both, by the test and the choice
 test_cases : (b : Bool) (c : ℕ) → ((b ≡ true) × (c ≡ 0)) ⊎ (b ≡ true → 0 < c)
@@ -65,8 +65,8 @@ test_cases true (suc c) = inr (λ h. omega arith)
 test_cases false c = inr (λ h. cc)
 
 -- the walk branches or passes
-pub branches_or_passes : (flags : List Bool) (choices : List ℕ) (d : Decision) → Branches flags choices d ⊎ Passes flags choices d
-branches_or_passes flags choices d = test_cases (is_led_to flags choices d.before) (get_or choices d.place 0)
+pub branches_or_passes : (reach : List Bool) (choices : List ℕ) (d : Decision) → Branches reach choices d ⊎ Passes reach choices d
+branches_or_passes reach choices d = test_cases (is_led_to reach choices d.before) (get_or choices d.place 0)
 
 -- the test where it branches
 test_true : (b : Bool) (c : ℕ) → b ≡ true → c ≡ 0 → (b && (c == 0)) ≡ true
@@ -79,25 +79,25 @@ test_false true zero h = absurd (omega (arith, h refl))
 test_false true (suc c) h = elim (eqb_tells (suc c) 0) [ inl p ↦ absurd (omega (arith, p.1)) | inr q ↦ q.0 ]
 
 -- the end
-pub ends-nil : (actions : List ℕ) (flags : List Bool) (choices : List ℕ) → ends actions [] flags choices ≡ choices ∷ []
+pub ends-nil : (actions : List ℕ) (reach : List Bool) (choices : List ℕ) → ends actions [] reach choices ≡ choices ∷ []
 unfolding ends
-ends-nil actions flags choices = refl
+ends-nil actions reach choices = refl
 
 -- the ends with an action at the first decision
 abbrev pub ends_with : List ℕ → Decision → List Decision → List Bool → List ℕ → ℕ → List (List ℕ)
-ends_with actions d ds flags choices a = ends actions ds (flags ++ true ∷ []) (set choices d.place a)
+ends_with actions d ds reach choices a = ends actions ds (reach ++ true ∷ []) (set choices d.place a)
 
 -- the ends where the walk branches
-pub ends-branch : (actions : List ℕ) (d : Decision) (ds : List Decision) (flags : List Bool) (choices : List ℕ) → Branches flags choices d → ends actions (d ∷ ds) flags choices ≡ branches (ends_with actions d ds flags choices) 1 (get_or actions d.place 0)
+pub ends-branch : (actions : List ℕ) (d : Decision) (ds : List Decision) (reach : List Bool) (choices : List ℕ) → Branches reach choices d → ends actions (d ∷ ds) reach choices ≡ branches (ends_with actions d ds reach choices) 1 (get_or actions d.place 0)
 unfolding ends
-ends-branch actions d ds flags choices b =
-    ap (λ t. if t then branches (ends_with actions d ds flags choices) 1 (get_or actions d.place 0) else ends actions ds (flags ++ is_led_to flags choices d.before ∷ []) choices) (test_true (is_led_to flags choices d.before) (get_or choices d.place 0) b.0 b.1)
+ends-branch actions d ds reach choices b =
+    ap (λ t. if t then branches (ends_with actions d ds reach choices) 1 (get_or actions d.place 0) else ends actions ds (reach ++ is_led_to reach choices d.before ∷ []) choices) (test_true (is_led_to reach choices d.before) (get_or choices d.place 0) b.0 b.1)
 
 -- the ends where it passes
-pub ends-pass : (actions : List ℕ) (d : Decision) (ds : List Decision) (flags : List Bool) (choices : List ℕ) → Passes flags choices d → ends actions (d ∷ ds) flags choices ≡ ends actions ds (flags ++ is_led_to flags choices d.before ∷ []) choices
+pub ends-pass : (actions : List ℕ) (d : Decision) (ds : List Decision) (reach : List Bool) (choices : List ℕ) → Passes reach choices d → ends actions (d ∷ ds) reach choices ≡ ends actions ds (reach ++ is_led_to reach choices d.before ∷ []) choices
 unfolding ends
-ends-pass actions d ds flags choices p =
-    ap (λ t. if t then branches (ends_with actions d ds flags choices) 1 (get_or actions d.place 0) else ends actions ds (flags ++ is_led_to flags choices d.before ∷ []) choices) (test_false (is_led_to flags choices d.before) (get_or choices d.place 0) p)
+ends-pass actions d ds reach choices p =
+    ap (λ t. if t then branches (ends_with actions d ds reach choices) 1 (get_or actions d.place 0) else ends actions ds (reach ++ is_led_to reach choices d.before ∷ []) choices) (test_false (is_led_to reach choices d.before) (get_or choices d.place 0) p)
 
 -- ---- the decisions that are left
 -- the decisions from number n on
@@ -124,35 +124,35 @@ pub AreRest-all : (decisions : List Decision) → AreRest decisions 0 decisions
 AreRest-all decisions k = let e : k ≡ 0 + k = omega arith in ap (slice_get decisions) e
 
 -- ---- each end is a choice list
-ends-sound : (decisions : List Decision) (actions : List ℕ) (ds : List Decision) (flags : List Bool) (choices : List ℕ) (n : ℕ) → AreLinked decisions actions → AreRest decisions n ds → IsOnWay decisions actions flags choices n
-    → All (IsWalk decisions actions) (ends actions ds flags choices)
-ends-sound decisions actions [] flags choices n w r o =
-    subst (All (IsWalk decisions actions)) (sym (ends-nil actions flags choices))
-    (All-cons (IsWalk decisions actions) choices [] (IsWalk-end decisions actions flags choices n w o (AreRest-none decisions n r)) (All-nil (IsWalk decisions actions)))
-ends-sound decisions actions (d ∷ ds) flags choices n w r o =
+ends-sound : (decisions : List Decision) (actions : List ℕ) (ds : List Decision) (reach : List Bool) (choices : List ℕ) (n : ℕ) → AreLinked decisions actions → AreRest decisions n ds → IsOnWay decisions actions reach choices n
+    → All (IsWalk decisions actions) (ends actions ds reach choices)
+ends-sound decisions actions [] reach choices n w r o =
+    subst (All (IsWalk decisions actions)) (sym (ends-nil actions reach choices))
+    (All-cons (IsWalk decisions actions) choices [] (IsWalk-end decisions actions reach choices n w o (AreRest-none decisions n r)) (All-nil (IsWalk decisions actions)))
+ends-sound decisions actions (d ∷ ds) reach choices n w r o =
     let at = AreRest-first decisions n d ds r in
     let rest = AreRest-later decisions n d ds r in
-    elim (branches_or_passes flags choices d) [
-      | inl b ↦ subst (All (IsWalk decisions actions)) (sym (ends-branch actions d ds flags choices b))
-          (All-branches (IsWalk decisions actions) (ends_with actions d ds flags choices) 1 (get_or actions d.place 0)
-          (λ a low high. ends-sound decisions actions ds (flags ++ true ∷ []) (set choices d.place a) (suc n) w rest (IsOnWay-branch decisions actions flags choices n d a w o at b.0 b.1 (omega arith) (omega arith))))
-      | inr p ↦ subst (All (IsWalk decisions actions)) (sym (ends-pass actions d ds flags choices p))
-          (ends-sound decisions actions ds (flags ++ is_led_to flags choices d.before ∷ []) choices (suc n) w rest (IsOnWay-pass decisions actions flags choices n d w o at p))
+    elim (branches_or_passes reach choices d) [
+      | inl b ↦ subst (All (IsWalk decisions actions)) (sym (ends-branch actions d ds reach choices b))
+          (All-branches (IsWalk decisions actions) (ends_with actions d ds reach choices) 1 (get_or actions d.place 0)
+          (λ a low high. ends-sound decisions actions ds (reach ++ true ∷ []) (set choices d.place a) (suc n) w rest (IsOnWay-branch decisions actions reach choices n d a w o at b.0 b.1 (omega arith) (omega arith))))
+      | inr p ↦ subst (All (IsWalk decisions actions)) (sym (ends-pass actions d ds reach choices p))
+          (ends-sound decisions actions ds (reach ++ is_led_to reach choices d.before ∷ []) choices (suc n) w rest (IsOnWay-pass decisions actions reach choices n d w o at p))
     ]
 
 -- ---- each choice list is an end
 -- choices that go on from those at the end are these
-extended_end : (decisions : List Decision) (actions : List ℕ) (flags : List Bool) (choices other : List ℕ) (n : ℕ) → AreLinked decisions actions → AreBelow decisions n → IsOnWay decisions actions flags choices n → IsWalk decisions actions other → Extends choices other
+extended_end : (decisions : List Decision) (actions : List ℕ) (reach : List Bool) (choices other : List ℕ) (n : ℕ) → AreLinked decisions actions → AreBelow decisions n → IsOnWay decisions actions reach choices n → IsWalk decisions actions other → Extends choices other
     → (p : ℕ) → p < length actions → get_or choices p 0 ≡ get_or other p 0
-extended_end decisions actions flags choices other n w all o is x p l = elim (cases_lt 0 (get_or choices p 0)) [
+extended_end decisions actions reach choices other n w all o is x p l = elim (cases_lt 0 (get_or choices p 0)) [
   | inl h ↦ sym (x p h)
   | inr z ↦ elim (cases_lt 0 (get_or other p 0)) [
     | inr also ↦ omega arith
     | inl h ↦
         let reached = (is.fixed_where_reached p l).0 h in
         let below = all reached.0 reached.1 reached.2 in
-        let flag = (told-reached decisions actions flags other n (suc reached.0) reached.0 reached.1 w (told-extends decisions actions flags choices other n w o x) below (omega arith) reached.2).1 reached.4 in
-        let positive : 0 < get_or choices p 0 = subst (λ v. 0 < get_or choices v 0) reached.3 (o.have_actions reached.0 reached.1 below reached.2 flag) in
+        let entry = (told-reached decisions actions reach other n (suc reached.0) reached.0 reached.1 w (told-extends decisions actions reach choices other n w o x) below (omega arith) reached.2).1 reached.4 in
+        let positive : 0 < get_or choices p 0 = subst (λ v. 0 < get_or choices v 0) reached.3 (o.have_actions reached.0 reached.1 below reached.2 entry) in
         absurd (omega arith)
   ]
 ]
@@ -165,33 +165,33 @@ Extends-set choices other place x l p h = elim (cases_eq p place) [
 ]
 
 -- a choice list that goes on from the choices has an action where the walk branches
-branch-action : (decisions : List Decision) (actions : List ℕ) (flags : List Bool) (choices other : List ℕ) (n : ℕ) (d : Decision) → AreLinked decisions actions → IsOnWay decisions actions flags choices n → slice_get decisions n ≡ Some d
-    → is_led_to flags choices d.before ≡ true → IsWalk decisions actions other → Extends choices other → 0 < get_or other d.place 0
-branch-action decisions actions flags choices other n d w o at led is x =
-    let also : is_led_to flags other d.before ≡ true = led-extends decisions flags choices other n n d.before (w.come_from n d at) (omega arith) o.have_actions x ∙ led in
-    let reached = led-reached decisions actions flags other n d w (told-extends decisions actions flags choices other n w o x) at also in
+branch-action : (decisions : List Decision) (actions : List ℕ) (reach : List Bool) (choices other : List ℕ) (n : ℕ) (d : Decision) → AreLinked decisions actions → IsOnWay decisions actions reach choices n → slice_get decisions n ≡ Some d
+    → is_led_to reach choices d.before ≡ true → IsWalk decisions actions other → Extends choices other → 0 < get_or other d.place 0
+branch-action decisions actions reach choices other n d w o at led is x =
+    let also : is_led_to reach other d.before ≡ true = led-extends decisions reach choices other n n d.before (w.come_from n d at) (omega arith) o.have_actions x ∙ led in
+    let reached = led-reached decisions actions reach other n d w (told-extends decisions actions reach choices other n w o x) at also in
     (is.fixed_where_reached d.place (place-within decisions actions n d w at)).1 (n, d, at, refl, reached)
 
 -- each choice list that goes on from the choices is an end
-ends-complete : (decisions : List Decision) (actions : List ℕ) (ds : List Decision) (flags : List Bool) (choices other : List ℕ) (n : ℕ) → AreLinked decisions actions → AreRest decisions n ds → IsOnWay decisions actions flags choices n → IsWalk decisions actions other → Extends choices other
-    → Contains (ends actions ds flags choices) other
-ends-complete decisions actions [] flags choices other n w r o is x =
-    let same : choices ≡ other = ext_get_or 0 choices other (o.one_for_each ∙ sym is.one_for_each) (λ p l. extended_end decisions actions flags choices other n w (AreRest-none decisions n r) o is x p (omega (arith, o.one_for_each))) in
-    subst (λ v. Contains v other) (sym (ends-nil actions flags choices)) (0, omega arith, same)
-ends-complete decisions actions (d ∷ ds) flags choices other n w r o is x =
+ends-complete : (decisions : List Decision) (actions : List ℕ) (ds : List Decision) (reach : List Bool) (choices other : List ℕ) (n : ℕ) → AreLinked decisions actions → AreRest decisions n ds → IsOnWay decisions actions reach choices n → IsWalk decisions actions other → Extends choices other
+    → Contains (ends actions ds reach choices) other
+ends-complete decisions actions [] reach choices other n w r o is x =
+    let same : choices ≡ other = ext_get_or 0 choices other (o.one_for_each ∙ sym is.one_for_each) (λ p l. extended_end decisions actions reach choices other n w (AreRest-none decisions n r) o is x p (omega (arith, o.one_for_each))) in
+    subst (λ v. Contains v other) (sym (ends-nil actions reach choices)) (0, omega arith, same)
+ends-complete decisions actions (d ∷ ds) reach choices other n w r o is x =
     let at = AreRest-first decisions n d ds r in
     let rest = AreRest-later decisions n d ds r in
     let within : d.place < length actions = place-within decisions actions n d w at in
     let most : get_or other d.place 0 ≤ get_or actions d.place 0 = is.are_actions d.place within in
-    elim (branches_or_passes flags choices d) [
+    elim (branches_or_passes reach choices d) [
       | inl b ↦
-          let positive : 0 < get_or other d.place 0 = branch-action decisions actions flags choices other n d w o at b.0 is x in
-          subst (λ v. Contains v other) (sym (ends-branch actions d ds flags choices b))
-          (Contains-branches (ends_with actions d ds flags choices) 1 (get_or actions d.place 0) (get_or other d.place 0) other (omega arith) (omega arith)
-          (ends-complete decisions actions ds (flags ++ true ∷ []) (set choices d.place (get_or other d.place 0)) other (suc n) w rest (IsOnWay-branch decisions actions flags choices n d (get_or other d.place 0) w o at b.0 b.1 positive most) is
+          let positive : 0 < get_or other d.place 0 = branch-action decisions actions reach choices other n d w o at b.0 is x in
+          subst (λ v. Contains v other) (sym (ends-branch actions d ds reach choices b))
+          (Contains-branches (ends_with actions d ds reach choices) 1 (get_or actions d.place 0) (get_or other d.place 0) other (omega arith) (omega arith)
+          (ends-complete decisions actions ds (reach ++ true ∷ []) (set choices d.place (get_or other d.place 0)) other (suc n) w rest (IsOnWay-branch decisions actions reach choices n d (get_or other d.place 0) w o at b.0 b.1 positive most) is
           (Extends-set choices other d.place x (omega (arith, o.one_for_each)))))
-      | inr p ↦ subst (λ v. Contains v other) (sym (ends-pass actions d ds flags choices p))
-          (ends-complete decisions actions ds (flags ++ is_led_to flags choices d.before ∷ []) choices other (suc n) w rest (IsOnWay-pass decisions actions flags choices n d w o at p) is x)
+      | inr p ↦ subst (λ v. Contains v other) (sym (ends-pass actions d ds reach choices p))
+          (ends-complete decisions actions ds (reach ++ is_led_to reach choices d.before ∷ []) choices other (suc n) w rest (IsOnWay-pass decisions actions reach choices n d w o at p) is x)
     ]
 
 -- ---- no end stands twice
@@ -203,33 +203,33 @@ Extends-unset choices other place a none x p h =
     x p (subst (λ v. 0 < v) (sym same) h) ∙ same
 
 -- each end goes on from the choices
-ends-extend : (actions : List ℕ) (ds : List Decision) (flags : List Bool) (choices : List ℕ) → All (Extends choices) (ends actions ds flags choices)
-ends-extend actions [] flags choices = subst (All (Extends choices)) (sym (ends-nil actions flags choices)) (All-cons (Extends choices) choices [] (λ p h. refl) (All-nil (Extends choices)))
-ends-extend actions (d ∷ ds) flags choices = elim (branches_or_passes flags choices d) [
-  | inl b ↦ subst (All (Extends choices)) (sym (ends-branch actions d ds flags choices b))
-      (All-branches (Extends choices) (ends_with actions d ds flags choices) 1 (get_or actions d.place 0)
-      (λ a low high k e l. Extends-unset choices (get_or (ends_with actions d ds flags choices a) k e) d.place a b.1 (ends-extend actions ds (flags ++ true ∷ []) (set choices d.place a) k e l)))
-  | inr p ↦ subst (All (Extends choices)) (sym (ends-pass actions d ds flags choices p)) (ends-extend actions ds (flags ++ is_led_to flags choices d.before ∷ []) choices)
+ends-extend : (actions : List ℕ) (ds : List Decision) (reach : List Bool) (choices : List ℕ) → All (Extends choices) (ends actions ds reach choices)
+ends-extend actions [] reach choices = subst (All (Extends choices)) (sym (ends-nil actions reach choices)) (All-cons (Extends choices) choices [] (λ p h. refl) (All-nil (Extends choices)))
+ends-extend actions (d ∷ ds) reach choices = elim (branches_or_passes reach choices d) [
+  | inl b ↦ subst (All (Extends choices)) (sym (ends-branch actions d ds reach choices b))
+      (All-branches (Extends choices) (ends_with actions d ds reach choices) 1 (get_or actions d.place 0)
+      (λ a low high k e l. Extends-unset choices (get_or (ends_with actions d ds reach choices a) k e) d.place a b.1 (ends-extend actions ds (reach ++ true ∷ []) (set choices d.place a) k e l)))
+  | inr p ↦ subst (All (Extends choices)) (sym (ends-pass actions d ds reach choices p)) (ends-extend actions ds (reach ++ is_led_to reach choices d.before ∷ []) choices)
 ]
 
 -- each end with an action has it
-ends_with-action : (actions : List ℕ) (d : Decision) (ds : List Decision) (flags : List Bool) (choices : List ℕ) (a : ℕ) → d.place < length choices → 0 < a → All (λ x. get_or x d.place 0 ≡ a) (ends_with actions d ds flags choices a)
-ends_with-action actions d ds flags choices a l positive k e m =
+ends_with-action : (actions : List ℕ) (d : Decision) (ds : List Decision) (reach : List Bool) (choices : List ℕ) (a : ℕ) → d.place < length choices → 0 < a → All (λ x. get_or x d.place 0 ≡ a) (ends_with actions d ds reach choices a)
+ends_with-action actions d ds reach choices a l positive k e m =
     let here : get_or (set choices d.place a) d.place 0 ≡ a = get_or-set_same choices d.place a 0 l in
-    ends-extend actions ds (flags ++ true ∷ []) (set choices d.place a) k e m d.place (omega arith) ∙ here
+    ends-extend actions ds (reach ++ true ∷ []) (set choices d.place a) k e m d.place (omega arith) ∙ here
 
 -- no end stands twice
-ends-differ : (actions : List ℕ) (ds : List Decision) (flags : List Bool) (choices : List ℕ) (n : ℕ) → length choices ≡ n → All (λ d. d.place < n) ds → AllPairs Differ (ends actions ds flags choices)
-ends-differ actions [] flags choices n long within = subst (AllPairs Differ) (sym (ends-nil actions flags choices)) (λ i j d l m. absurd (omega arith))
-ends-differ actions (d ∷ ds) flags choices n long within =
+ends-differ : (actions : List ℕ) (ds : List Decision) (reach : List Bool) (choices : List ℕ) (n : ℕ) → length choices ≡ n → All (λ d. d.place < n) ds → AllPairs Differ (ends actions ds reach choices)
+ends-differ actions [] reach choices n long within = subst (AllPairs Differ) (sym (ends-nil actions reach choices)) (λ i j d l m. absurd (omega arith))
+ends-differ actions (d ∷ ds) reach choices n long within =
     let here : d.place < n = within 0 d (omega arith) in
     let rest : All (λ d. d.place < n) ds = λ k e l. within (suc k) e (omega arith) in
-    elim (branches_or_passes flags choices d) [
-      | inl b ↦ subst (AllPairs Differ) (sym (ends-branch actions d ds flags choices b))
-          (AllPairs-branches (λ x. get_or x d.place 0) (ends_with actions d ds flags choices) 1 (get_or actions d.place 0)
-          (λ a low high. ends-differ actions ds (flags ++ true ∷ []) (set choices d.place a) n (lists.length-set choices d.place a ∙ long) rest)
-          (λ a low high. ends_with-action actions d ds flags choices a (omega arith) (omega arith)))
-      | inr p ↦ subst (AllPairs Differ) (sym (ends-pass actions d ds flags choices p)) (ends-differ actions ds (flags ++ is_led_to flags choices d.before ∷ []) choices n long rest)
+    elim (branches_or_passes reach choices d) [
+      | inl b ↦ subst (AllPairs Differ) (sym (ends-branch actions d ds reach choices b))
+          (AllPairs-branches (λ x. get_or x d.place 0) (ends_with actions d ds reach choices) 1 (get_or actions d.place 0)
+          (λ a low high. ends-differ actions ds (reach ++ true ∷ []) (set choices d.place a) n (lists.length-set choices d.place a ∙ long) rest)
+          (λ a low high. ends_with-action actions d ds reach choices a (omega arith) (omega arith)))
+      | inr p ↦ subst (AllPairs Differ) (sym (ends-pass actions d ds reach choices p)) (ends-differ actions ds (reach ++ is_led_to reach choices d.before ∷ []) choices n long rest)
     ]
 
 -- ---- the whole walk

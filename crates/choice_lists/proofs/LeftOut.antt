@@ -7,13 +7,13 @@ use Rattle.std.proofs.lemmas.Bool.{cases_eq, cases_lt, cases_Bool}
 use Rattle.std.proofs.lemmas.List.{append-nil, get_or_default, get_or_append_left, get_or_push, length_push, get_or-set_same, get_or-set_other, length-replicate, get_or-replicate}
 use Rattle.std.proofs.lemmas.Option.{same_Some, slice_get_within, slice_get-get_or}
 use Rattle.choice_lists.specs.declared.decision.Decision.{Decision}
-use Rattle.choice_lists.specs.declared.decision.Step.{Step}
+use Rattle.choice_lists.specs.declared.decision.Edge.{Edge}
 use Rattle.choice_lists.specs.Walks.{ComesFrom, AreLinked}
 use Rattle.choice_lists.specs.Ends.{is_led_to, branches, ends}
-use Rattle.choice_lists.proofs.Flags.{below_or_last, last_flag, one_decision, place-within}
+use Rattle.choice_lists.proofs.Reach.{below_or_last, last_entry, one_decision, place-within}
 use Rattle.choice_lists.proofs.EndLists.{AreRest, AreRest-first, AreRest-later, AreRest-all, branches_or_passes, ends-nil, ends-branch, ends-pass, ends_with, all_ends}
 use Rattle.choice_lists.proofs.Steps.{drop-first}
-use Rattle.choice_lists.specs.LeftOut.{is_kept, kept_below, renumbered_step, renumbered, kept_from, marked, AreEnough, AreShared}
+use Rattle.choice_lists.specs.LeftOut.{is_kept, kept_below, renumbered_edge, renumbered, kept_from, marked, AreEnough, AreShared}
 use Rattle.choice_lists.specs.Ways.{AreApart}
 use Rattle.choice_lists.proofs.Ways.{length-branches, sum-same}
 
@@ -49,7 +49,7 @@ module _ (kept : List Bool) where
       let more : kept_below kept (suc k) ≤ kept_below kept n = subst (λ v. kept_below kept (suc k) ≤ kept_below kept v) e (below-more (suc k) (n - suc k)) in
       omega (arith, below-kept k held, more)
 
-  -- the list begins with a kept decision, and goes on behind another
+  -- the list begins with a kept decision, and goes on after another
   from-kept : (n : ℕ) (d : Decision) (ds : List Decision) → is_kept kept n ≡ true → kept_from kept n (d ∷ ds) ≡ renumbered kept d ∷ kept_from kept (suc n) ds
   from-kept n d ds held = ap (λ b. if b then renumbered kept d ∷ kept_from kept (suc n) ds else kept_from kept (suc n) ds) held
 
@@ -104,7 +104,7 @@ module _ (kept : List Bool) where
   kept-tell : (ds : List Decision) (n m : ℕ) (e : Decision) → slice_get (kept_from kept n ds) m ≡ Some e → IsKeptAt ds n m e
   kept-tell [] n m e at = cc
   kept-tell (c ∷ ds) n m e at = elim (cases_Bool (is_kept kept n)) [
-    | inl here ↦ first m (sym (ap (λ xs. slice_get xs m) (from-kept n c ds here)) ∙ at) here (λ l behind. kept-tell ds (suc n) l e behind)
+    | inl here ↦ first m (sym (ap (λ xs. slice_get xs m) (from-kept n c ds here)) ∙ at) here (λ l following. kept-tell ds (suc n) l e following)
     | inr out ↦ IsKeptAt-later c ds n m m e (omega (arith, below-left_out n out)) (kept-tell ds (suc n) m e (sym (ap (λ xs. slice_get xs m) (from-left_out n c ds out)) ∙ at))
   ]
     where
@@ -116,14 +116,14 @@ module _ (kept : List Bool) where
 
 -- ---- what is kept is linked
 module _ (decisions : List Decision) (actions : List ℕ) (kept : List Bool) (linked : AreLinked decisions actions) (enough : AreEnough decisions actions kept) where
-  -- a renumbered step comes from an earlier kept decision
-  comes-kept : (k m : ℕ) (d : Decision) (before : Option Step) → slice_get decisions k ≡ Some d → is_kept kept k ≡ true → m ≡ kept_below kept k → d.before ≡ before → ComesFrom decisions k before → ComesFrom (kept_from kept 0 decisions) m (renumbered_step kept before)
+  -- a renumbered edge comes from an earlier kept decision
+  comes-kept : (k m : ℕ) (d : Decision) (before : Option Edge) → slice_get decisions k ≡ Some d → is_kept kept k ≡ true → m ≡ kept_below kept k → d.before ≡ before → ComesFrom decisions k before → ComesFrom (kept_from kept 0 decisions) m (renumbered_edge kept before)
   comes-kept k m d None at held e is c = tt
-  comes-kept k m d (Some step) at held e is c =
-      let also : is_kept kept step.decision ≡ true = enough.before_kept k d step at held is in
-      let less = below-less kept step.decision k c.0 also in
-      let same : step.decision ≡ 0 + step.decision = omega arith in
-      (omega (arith, less, e), renumbered kept c.1, kept-at kept decisions 0 step.decision (kept_below kept step.decision) c.1 c.2 (ap (is_kept kept) (sym same) ∙ also) (omega (arith, ap (kept_below kept) same)), c.3)
+  comes-kept k m d (Some edge) at held e is c =
+      let also : is_kept kept edge.decision ≡ true = enough.before_kept k d edge at held is in
+      let less = below-less kept edge.decision k c.0 also in
+      let same : edge.decision ≡ 0 + edge.decision = omega arith in
+      (omega (arith, less, e), renumbered kept c.1, kept-at kept decisions 0 edge.decision (kept_below kept edge.decision) c.1 c.2 (ap (is_kept kept) (sym same) ∙ also) (omega (arith, ap (kept_below kept) same)), c.3)
 
   pub linked-kept : AreLinked (kept_from kept 0 decisions) actions
   linked-kept = record {
@@ -141,55 +141,55 @@ module _ (decisions : List Decision) (actions : List ℕ) (kept : List Bool) (li
 
   -- ---- the walks
   -- the walks over all decisions and over the kept ones, before decision n
-  record AreAlike (n : ℕ) (flags : List Bool) (choices : List ℕ) (marks : List Bool) (picks : List ℕ) : Type 0 where
-    flag_for_each : length flags ≡ n
+  record AreAlike (n : ℕ) (reach : List Bool) (choices : List ℕ) (marks : List Bool) (picks : List ℕ) : Type 0 where
+    entry_for_each : length reach ≡ n
     mark_for_each : length marks ≡ kept_below kept n
     choices_long : length choices ≡ length actions
     picks_long : length picks ≡ length actions
-    same_flags : (k : ℕ) → k < n → is_kept kept k ≡ true → get_or marks (kept_below kept k) false ≡ get_or flags k false
+    same_reach : (k : ℕ) → k < n → is_kept kept k ≡ true → get_or marks (kept_below kept k) false ≡ get_or reach k false
     same_choices : (j : ℕ) (d : Decision) → slice_get decisions j ≡ Some d → is_kept kept j ≡ true → get_or picks d.place 0 ≡ get_or choices d.place 0
     none_later : (j : ℕ) (d : Decision) → n ≤ j → slice_get decisions j ≡ Some d → is_kept kept j ≡ false → get_or choices d.place 0 ≡ 0
 
   -- a kept decision is led to in both or in none
-  led-alike : (n : ℕ) (flags : List Bool) (choices : List ℕ) (marks : List Bool) (picks : List ℕ) (d : Decision) (before : Option Step) → AreAlike n flags choices marks picks → slice_get decisions n ≡ Some d → is_kept kept n ≡ true → d.before ≡ before → ComesFrom decisions n before
-      → is_led_to marks picks (renumbered_step kept before) ≡ is_led_to flags choices before
-  led-alike n flags choices marks picks d None a at held is c = refl
-  led-alike n flags choices marks picks d (Some step) a at held is c =
-      let also : is_kept kept step.decision ≡ true = enough.before_kept n d step at held is in
-      ap₂ (λ b v. b && (v == suc step.action)) (a.same_flags step.decision c.0 also)
-      (ap (λ v. get_or picks v 0) c.3 ∙ a.same_choices step.decision c.1 c.2 also ∙ ap (λ v. get_or choices v 0) (sym c.3))
+  led-alike : (n : ℕ) (reach : List Bool) (choices : List ℕ) (marks : List Bool) (picks : List ℕ) (d : Decision) (before : Option Edge) → AreAlike n reach choices marks picks → slice_get decisions n ≡ Some d → is_kept kept n ≡ true → d.before ≡ before → ComesFrom decisions n before
+      → is_led_to marks picks (renumbered_edge kept before) ≡ is_led_to reach choices before
+  led-alike n reach choices marks picks d None a at held is c = refl
+  led-alike n reach choices marks picks d (Some edge) a at held is c =
+      let also : is_kept kept edge.decision ≡ true = enough.before_kept n d edge at held is in
+      ap₂ (λ b v. b && (v == suc edge.action)) (a.same_reach edge.decision c.0 also)
+      (ap (λ v. get_or picks v 0) c.3 ∙ a.same_choices edge.decision c.1 c.2 also ∙ ap (λ v. get_or choices v 0) (sym c.3))
 
   -- the set of a decision that is left out is of no other
   other-place : (n j : ℕ) (d e : Decision) → slice_get decisions n ≡ Some d → slice_get decisions j ≡ Some e → is_kept kept n ≡ false → (n ≡ j → ⊥) → e.place ≡ d.place → ⊥
   other-place n j d e at there out ne same = ne (enough.alone n j d e at there out (sym same))
 
-  -- one more decision that is kept: both have one more flag, and the same action or none
-  alike-flags : (n : ℕ) (flags marks : List Bool) (r : Bool) (choices picks : List ℕ) → AreAlike n flags choices marks picks → is_kept kept n ≡ true → (k : ℕ) → k < suc n → is_kept kept k ≡ true → get_or (marks ++ r ∷ []) (kept_below kept k) false ≡ get_or (flags ++ r ∷ []) k false
-  alike-flags n flags marks r choices picks a held k l also = elim (below_or_last k n l) [
-    | inl b ↦ lists.get_or-append marks (r ∷ []) false (kept_below kept k) (omega (arith, below-less kept k n b also, a.mark_for_each)) ∙ a.same_flags k b also ∙ sym (lists.get_or-append flags (r ∷ []) false k (omega (arith, a.flag_for_each)))
-    | inr b ↦ last_flag marks r (kept_below kept k) (a.mark_for_each ∙ ap (kept_below kept) (sym b)) ∙ sym (last_flag flags r k (a.flag_for_each ∙ sym b))
+  -- one more decision that is kept: both have one more entry, and the same action or none
+  alike-reach : (n : ℕ) (reach marks : List Bool) (r : Bool) (choices picks : List ℕ) → AreAlike n reach choices marks picks → is_kept kept n ≡ true → (k : ℕ) → k < suc n → is_kept kept k ≡ true → get_or (marks ++ r ∷ []) (kept_below kept k) false ≡ get_or (reach ++ r ∷ []) k false
+  alike-reach n reach marks r choices picks a held k l also = elim (below_or_last k n l) [
+    | inl b ↦ lists.get_or-append marks (r ∷ []) false (kept_below kept k) (omega (arith, below-less kept k n b also, a.mark_for_each)) ∙ a.same_reach k b also ∙ sym (lists.get_or-append reach (r ∷ []) false k (omega (arith, a.entry_for_each)))
+    | inr b ↦ last_entry marks r (kept_below kept k) (a.mark_for_each ∙ ap (kept_below kept) (sym b)) ∙ sym (last_entry reach r k (a.entry_for_each ∙ sym b))
   ]
 
-  alike-pass : (n : ℕ) (flags marks : List Bool) (r : Bool) (choices picks : List ℕ) → AreAlike n flags choices marks picks → is_kept kept n ≡ true → AreAlike (suc n) (flags ++ r ∷ []) choices (marks ++ r ∷ []) picks
-  alike-pass n flags marks r choices picks a held = record {
-    flag_for_each = omega (arith, lists.length-append flags (r ∷ []), a.flag_for_each);
+  alike-pass : (n : ℕ) (reach marks : List Bool) (r : Bool) (choices picks : List ℕ) → AreAlike n reach choices marks picks → is_kept kept n ≡ true → AreAlike (suc n) (reach ++ r ∷ []) choices (marks ++ r ∷ []) picks
+  alike-pass n reach marks r choices picks a held = record {
+    entry_for_each = omega (arith, lists.length-append reach (r ∷ []), a.entry_for_each);
     mark_for_each = omega (arith, lists.length-append marks (r ∷ []), a.mark_for_each, below-kept kept n held);
     choices_long = a.choices_long;
     picks_long = a.picks_long;
-    same_flags = alike-flags n flags marks r choices picks a held;
+    same_reach = alike-reach n reach marks r choices picks a held;
     same_choices = a.same_choices;
     none_later = λ j e l there out. a.none_later j e (omega arith) there out;
   }
 
-  alike-branch : (n : ℕ) (flags marks : List Bool) (choices picks : List ℕ) (d : Decision) (action : ℕ) → AreAlike n flags choices marks picks → slice_get decisions n ≡ Some d → is_kept kept n ≡ true → AreAlike (suc n) (flags ++ true ∷ []) (set choices d.place action) (marks ++ true ∷ []) (set picks d.place action)
-  alike-branch n flags marks choices picks d action a at held =
+  alike-branch : (n : ℕ) (reach marks : List Bool) (choices picks : List ℕ) (d : Decision) (action : ℕ) → AreAlike n reach choices marks picks → slice_get decisions n ≡ Some d → is_kept kept n ≡ true → AreAlike (suc n) (reach ++ true ∷ []) (set choices d.place action) (marks ++ true ∷ []) (set picks d.place action)
+  alike-branch n reach marks choices picks d action a at held =
       let within = place-within decisions actions n d linked at in
       record {
-        flag_for_each = omega (arith, lists.length-append flags (true ∷ []), a.flag_for_each);
+        entry_for_each = omega (arith, lists.length-append reach (true ∷ []), a.entry_for_each);
         mark_for_each = omega (arith, lists.length-append marks (true ∷ []), a.mark_for_each, below-kept kept n held);
         choices_long = lists.length-set choices d.place action ∙ a.choices_long;
         picks_long = lists.length-set picks d.place action ∙ a.picks_long;
-        same_flags = alike-flags n flags marks true choices picks a held;
+        same_reach = alike-reach n reach marks true choices picks a held;
         same_choices = λ j e there also. elim (cases_eq e.place d.place) [
           | inl same ↦
               ap (λ v. get_or (set picks d.place action) v 0) same ∙ get_or-set_same picks d.place action 0 (omega (arith, within, a.picks_long))
@@ -202,14 +202,14 @@ module _ (decisions : List Decision) (actions : List ℕ) (kept : List Bool) (li
       }
 
   -- one more decision that is left out: the walk over the kept ones stays
-  alike-left_out : (n : ℕ) (flags marks : List Bool) (r : Bool) (choices picks : List ℕ) (d : Decision) → AreAlike n flags choices marks picks → slice_get decisions n ≡ Some d → is_kept kept n ≡ false → AreAlike (suc n) (flags ++ r ∷ []) choices marks picks
-  alike-left_out n flags marks r choices picks d a at out = record {
-    flag_for_each = omega (arith, lists.length-append flags (r ∷ []), a.flag_for_each);
+  alike-left_out : (n : ℕ) (reach marks : List Bool) (r : Bool) (choices picks : List ℕ) (d : Decision) → AreAlike n reach choices marks picks → slice_get decisions n ≡ Some d → is_kept kept n ≡ false → AreAlike (suc n) (reach ++ r ∷ []) choices marks picks
+  alike-left_out n reach marks r choices picks d a at out = record {
+    entry_for_each = omega (arith, lists.length-append reach (r ∷ []), a.entry_for_each);
     mark_for_each = a.mark_for_each ∙ sym (below-left_out kept n out);
     choices_long = a.choices_long;
     picks_long = a.picks_long;
-    same_flags = λ k l also. elim (below_or_last k n l) [
-      | inl b ↦ a.same_flags k b also ∙ sym (lists.get_or-append flags (r ∷ []) false k (omega (arith, a.flag_for_each)))
+    same_reach = λ k l also. elim (below_or_last k n l) [
+      | inl b ↦ a.same_reach k b also ∙ sym (lists.get_or-append reach (r ∷ []) false k (omega (arith, a.entry_for_each)))
       | inr b ↦ absurd (not_both (is_kept kept k) also (ap (is_kept kept) b ∙ out))
     ];
     same_choices = a.same_choices;
@@ -217,23 +217,23 @@ module _ (decisions : List Decision) (actions : List ℕ) (kept : List Bool) (li
   }
 
   -- the same where its set takes its action
-  alike-alone : (n : ℕ) (flags marks : List Bool) (choices picks : List ℕ) (d : Decision) (action : ℕ) → AreAlike n flags choices marks picks → slice_get decisions n ≡ Some d → is_kept kept n ≡ false → AreAlike (suc n) (flags ++ true ∷ []) (set choices d.place action) marks picks
-  alike-alone n flags marks choices picks d action a at out =
-      let before = alike-left_out n flags marks true choices picks d a at out in
+  alike-alone : (n : ℕ) (reach marks : List Bool) (choices picks : List ℕ) (d : Decision) (action : ℕ) → AreAlike n reach choices marks picks → slice_get decisions n ≡ Some d → is_kept kept n ≡ false → AreAlike (suc n) (reach ++ true ∷ []) (set choices d.place action) marks picks
+  alike-alone n reach marks choices picks d action a at out =
+      let before = alike-left_out n reach marks true choices picks d a at out in
       record {
-        flag_for_each = before.flag_for_each;
+        entry_for_each = before.entry_for_each;
         mark_for_each = before.mark_for_each;
         choices_long = lists.length-set choices d.place action ∙ a.choices_long;
         picks_long = a.picks_long;
-        same_flags = before.same_flags;
+        same_reach = before.same_reach;
         same_choices = λ j e there also. a.same_choices j e there also ∙ sym (get_or-set_other choices d.place e.place action 0 (other-place n j d e at there out (λ one. not_both (is_kept kept n) (ap (is_kept kept) one ∙ also) out)));
         none_later = λ j e l there no_more. get_or-set_other choices d.place e.place action 0 (other-place n j d e at there out (λ one. omega (arith, one))) ∙ before.none_later j e l there no_more;
       }
 
   -- the walk over the kept decisions has as many ends
-  ends-kept : (ds : List Decision) (flags marks : List Bool) (choices picks : List ℕ) (n : ℕ) → AreRest decisions n ds → AreAlike n flags choices marks picks → length (ends actions ds flags choices) ≡ length (ends actions (kept_from kept n ds) marks picks)
-  ends-kept [] flags marks choices picks n rest a = ap length (ends-nil actions flags choices) ∙ sym (ap length (ends-nil actions marks picks))
-  ends-kept (d ∷ ds) flags marks choices picks n rest a =
+  ends-kept : (ds : List Decision) (reach marks : List Bool) (choices picks : List ℕ) (n : ℕ) → AreRest decisions n ds → AreAlike n reach choices marks picks → length (ends actions ds reach choices) ≡ length (ends actions (kept_from kept n ds) marks picks)
+  ends-kept [] reach marks choices picks n rest a = ap length (ends-nil actions reach choices) ∙ sym (ap length (ends-nil actions marks picks))
+  ends-kept (d ∷ ds) reach marks choices picks n rest a =
       let at = AreRest-first decisions n d ds rest in
       let later = AreRest-later decisions n d ds rest in
       let m = get_or actions d.place 0 in
@@ -241,30 +241,30 @@ module _ (decisions : List Decision) (actions : List ℕ) (kept : List Bool) (li
       elim (cases_Bool (is_kept kept n)) [
         | inl held ↦
             let whole : length (ends actions (kept_from kept n (d ∷ ds)) marks picks) ≡ length (ends actions (renumbered kept d ∷ more) marks picks) = ap (λ v. length (ends actions v marks picks)) (from-kept kept n d ds held) in
-            let led = led-alike n flags choices marks picks d d.before a at held refl (linked.come_from n d at) in
+            let led = led-alike n reach choices marks picks d d.before a at held refl (linked.come_from n d at) in
             let pick = a.same_choices n d at held in
-            elim (branches_or_passes flags choices d) [
+            elim (branches_or_passes reach choices d) [
               | inl b ↦
-                  ap length (ends-branch actions d ds flags choices b) ∙ length-branches (ends_with actions d ds flags choices) 1 m
-                  ∙ sum-same (λ v. length (ends_with actions d ds flags choices v)) (λ v. length (ends_with actions (renumbered kept d) more marks picks v)) 1 m
-                  (λ v. ends-kept ds (flags ++ true ∷ []) (marks ++ true ∷ []) (set choices d.place v) (set picks d.place v) (suc n) later (alike-branch n flags marks choices picks d v a at held))
+                  ap length (ends-branch actions d ds reach choices b) ∙ length-branches (ends_with actions d ds reach choices) 1 m
+                  ∙ sum-same (λ v. length (ends_with actions d ds reach choices v)) (λ v. length (ends_with actions (renumbered kept d) more marks picks v)) 1 m
+                  (λ v. ends-kept ds (reach ++ true ∷ []) (marks ++ true ∷ []) (set choices d.place v) (set picks d.place v) (suc n) later (alike-branch n reach marks choices picks d v a at held))
                   ∙ sym (whole ∙ ap length (ends-branch actions (renumbered kept d) more marks picks (led ∙ b.0, pick ∙ b.1)) ∙ length-branches (ends_with actions (renumbered kept d) more marks picks) 1 m)
               | inr p ↦
-                  ap length (ends-pass actions d ds flags choices p)
-                  ∙ ends-kept ds (flags ++ is_led_to flags choices d.before ∷ []) (marks ++ is_led_to flags choices d.before ∷ []) choices picks (suc n) later (alike-pass n flags marks (is_led_to flags choices d.before) choices picks a held)
+                  ap length (ends-pass actions d ds reach choices p)
+                  ∙ ends-kept ds (reach ++ is_led_to reach choices d.before ∷ []) (marks ++ is_led_to reach choices d.before ∷ []) choices picks (suc n) later (alike-pass n reach marks (is_led_to reach choices d.before) choices picks a held)
                   ∙ ap (λ r. length (ends actions more (marks ++ r ∷ []) picks)) (sym led)
                   ∙ sym (whole ∙ ap length (ends-pass actions (renumbered kept d) more marks picks (λ h. subst (λ v. 0 < v) (sym pick) (p (sym led ∙ h)))))
             ]
         | inr out ↦
             let whole : length (ends actions (kept_from kept n (d ∷ ds)) marks picks) ≡ length (ends actions more marks picks) = ap (λ v. length (ends actions v marks picks)) (from-left_out kept n d ds out) in
-            elim (branches_or_passes flags choices d) [
+            elim (branches_or_passes reach choices d) [
               | inl b ↦
-                  ap length (ends-branch actions d ds flags choices b ∙ ap (branches (ends_with actions d ds flags choices) 1) (enough.one_action n d at out) ∙ append-nil (ends_with actions d ds flags choices 1))
-                  ∙ ends-kept ds (flags ++ true ∷ []) marks (set choices d.place 1) picks (suc n) later (alike-alone n flags marks choices picks d 1 a at out)
+                  ap length (ends-branch actions d ds reach choices b ∙ ap (branches (ends_with actions d ds reach choices) 1) (enough.one_action n d at out) ∙ append-nil (ends_with actions d ds reach choices 1))
+                  ∙ ends-kept ds (reach ++ true ∷ []) marks (set choices d.place 1) picks (suc n) later (alike-alone n reach marks choices picks d 1 a at out)
                   ∙ sym whole
               | inr p ↦
-                  ap length (ends-pass actions d ds flags choices p)
-                  ∙ ends-kept ds (flags ++ is_led_to flags choices d.before ∷ []) marks choices picks (suc n) later (alike-left_out n flags marks (is_led_to flags choices d.before) choices picks d a at out)
+                  ap length (ends-pass actions d ds reach choices p)
+                  ∙ ends-kept ds (reach ++ is_led_to reach choices d.before ∷ []) marks choices picks (suc n) later (alike-left_out n reach marks (is_led_to reach choices d.before) choices picks d a at out)
                   ∙ sym whole
             ]
       ]
@@ -274,45 +274,45 @@ module _ (decisions : List Decision) (actions : List ℕ) (kept : List Bool) (li
   all_ends-kept =
       let zeros = replicate (length actions) 0 in
       ends-kept decisions [] [] zeros zeros 0 (AreRest-all decisions) (record {
-        flag_for_each = refl;
+        entry_for_each = refl;
         mark_for_each = refl;
         choices_long = length-replicate (length actions) 0;
         picks_long = length-replicate (length actions) 0;
-        same_flags = λ k l also. absurd (omega arith);
+        same_reach = λ k l also. absurd (omega arith);
         same_choices = λ j d at also. refl;
         none_later = λ j d l at out. get_or-replicate (length actions) d.place 0 0 (place-within decisions actions j d linked at);
       })
 
 -- ---- which are kept
 -- a mark stays, and marks before n leave the others as they are
-marked-keeps : (kept : List Bool) (step : Option Step) (j : ℕ) → is_kept kept j ≡ true → is_kept (marked kept step) j ≡ true
+marked-keeps : (kept : List Bool) (edge : Option Edge) (j : ℕ) → is_kept kept j ≡ true → is_kept (marked kept edge) j ≡ true
 marked-keeps kept None j held = held
-marked-keeps kept (Some step) j held = elim (cases_lt j (length kept)) [
-  | inl l ↦ elim (cases_eq j step.decision) [
-    | inl same ↦ ap (λ v. get_or (set kept step.decision true) v false) same ∙ get_or-set_same kept step.decision true false (omega (arith, same))
-    | inr other ↦ get_or-set_other kept step.decision j true false other ∙ held
+marked-keeps kept (Some edge) j held = elim (cases_lt j (length kept)) [
+  | inl l ↦ elim (cases_eq j edge.decision) [
+    | inl same ↦ ap (λ v. get_or (set kept edge.decision true) v false) same ∙ get_or-set_same kept edge.decision true false (omega (arith, same))
+    | inr other ↦ get_or-set_other kept edge.decision j true false other ∙ held
   ]
   | inr beyond ↦ absurd (not_both (is_kept kept j) held (lists.get_or-eq_default kept false beyond))
 ]
 
-marked-other : (kept : List Bool) (step : Option Step) (n j : ℕ) → IfSome step (λ s. s.decision < n) → n ≤ j → is_kept (marked kept step) j ≡ is_kept kept j
+marked-other : (kept : List Bool) (edge : Option Edge) (n j : ℕ) → IfSome edge (λ s. s.decision < n) → n ≤ j → is_kept (marked kept edge) j ≡ is_kept kept j
 marked-other kept None n j low l = refl
-marked-other kept (Some step) n j low l = get_or-set_other kept step.decision j true false (λ same. omega (arith, same, low))
+marked-other kept (Some edge) n j low l = get_or-set_other kept edge.decision j true false (λ same. omega (arith, same, low))
 
 -- the marked decision is kept
-marked-there : (kept : List Bool) (before : Option Step) (step : Step) → before ≡ Some step → step.decision < length kept → is_kept (marked kept before) step.decision ≡ true
-marked-there kept before step e l = subst (λ b. is_kept (marked kept b) step.decision ≡ true) (sym e) (get_or-set_same kept step.decision true false l)
+marked-there : (kept : List Bool) (before : Option Edge) (edge : Edge) → before ≡ Some edge → edge.decision < length kept → is_kept (marked kept before) edge.decision ≡ true
+marked-there kept before edge e l = subst (λ b. is_kept (marked kept b) edge.decision ≡ true) (sym e) (get_or-set_same kept edge.decision true false l)
 
-length-marked : (kept : List Bool) (step : Option Step) → length (marked kept step) ≡ length kept
+length-marked : (kept : List Bool) (edge : Option Edge) → length (marked kept edge) ≡ length kept
 length-marked kept None = refl
-length-marked kept (Some step) = lists.length-set kept step.decision true
+length-marked kept (Some edge) = lists.length-set kept edge.decision true
 
 -- what is kept from number n on is enough
 pub record IsEnoughFrom (decisions : List Decision) (actions : List ℕ) (n : ℕ) (kept : List Bool) : Type 0 where
   pub one_for_each : length kept ≡ length decisions
   pub one_action : (j : ℕ) (d : Decision) → n ≤ j → slice_get decisions j ≡ Some d → is_kept kept j ≡ false → get_or actions d.place 0 ≡ 1
   pub alone : (j k : ℕ) (d e : Decision) → n ≤ j → slice_get decisions j ≡ Some d → slice_get decisions k ≡ Some e → is_kept kept j ≡ false → d.place ≡ e.place → j ≡ k
-  pub before_kept : (j : ℕ) (d : Decision) (step : Step) → n ≤ j → slice_get decisions j ≡ Some d → is_kept kept j ≡ true → d.before ≡ Some step → is_kept kept step.decision ≡ true
+  pub before_kept : (j : ℕ) (d : Decision) (edge : Edge) → n ≤ j → slice_get decisions j ≡ Some d → is_kept kept j ≡ true → d.before ≡ Some edge → is_kept kept edge.decision ≡ true
 
 -- at the end nothing is asked
 pub IsEnoughFrom-end : (decisions : List Decision) (actions : List ℕ) (kept : List Bool) → length kept ≡ length decisions → IsEnoughFrom decisions actions (length decisions) kept
@@ -320,7 +320,7 @@ IsEnoughFrom-end decisions actions kept long = record {
   one_for_each = long;
   one_action = λ j d l at out. absurd (omega (arith, slice_get_within decisions j d at));
   alone = λ j k d e l at there out same. absurd (omega (arith, slice_get_within decisions j d at));
-  before_kept = λ j d step l at held before. absurd (omega (arith, slice_get_within decisions j d at));
+  before_kept = λ j d edge l at held before. absurd (omega (arith, slice_get_within decisions j d at));
 }
 
 -- from the start it is enough
@@ -329,15 +329,15 @@ AreEnough-start decisions actions n kept start h = record {
   one_for_each = h.one_for_each;
   one_action = λ j d at out. h.one_action j d (omega arith) at out;
   alone = λ j k d e at there out same. h.alone j k d e (omega arith) at there out same;
-  before_kept = λ j d step at held before. h.before_kept j d step (omega arith) at held before;
+  before_kept = λ j d edge at held before. h.before_kept j d edge (omega arith) at held before;
 }
 
 -- one decision more: it is kept where it was marked, or its set has more actions or another decision; and then the one before it is
 module _ (decisions : List Decision) (actions : List ℕ) (linked : AreLinked decisions actions) (shared : List Bool) (are : AreShared decisions (length actions) shared) (n : ℕ) (kept : List Bool) (d : Decision) (at : slice_get decisions n ≡ Some d) (h : IsEnoughFrom decisions actions (suc n) kept) where
-  -- the steps come from decisions before
-  step-before : (before : Option Step) → ComesFrom decisions n before → IfSome before (λ s. s.decision < n)
-  step-before None c = tt
-  step-before (Some step) c = c.0
+  -- the edges come from decisions before
+  edge-before : (before : Option Edge) → ComesFrom decisions n before → IfSome before (λ s. s.decision < n)
+  edge-before None c = tt
+  edge-before (Some edge) c = c.0
 
   inside : n < length kept
   inside = omega (arith, slice_get_within decisions n d at, h.one_for_each)
@@ -345,7 +345,7 @@ module _ (decisions : List Decision) (actions : List ℕ) (linked : AreLinked de
   -- it is kept
   pub IsEnoughFrom-kept : IsEnoughFrom decisions actions n (marked (set kept n true) d.before)
   IsEnoughFrom-kept =
-      let low = step-before d.before (linked.come_from n d at) in
+      let low = edge-before d.before (linked.come_from n d at) in
       let new = marked (set kept n true) d.before in
       let here : is_kept new n ≡ true = marked-keeps (set kept n true) d.before n (get_or-set_same kept n true false inside) in
       let later : (j : ℕ) → n < j → is_kept new j ≡ is_kept kept j = λ j l. marked-other (set kept n true) d.before n j low (omega arith) ∙ get_or-set_other kept n j true false (λ same. omega (arith, same)) in
@@ -360,12 +360,12 @@ module _ (decisions : List Decision) (actions : List ℕ) (linked : AreLinked de
           | inl b ↦ h.alone j k e f b there other (sym (later j b) ∙ out) place
           | inr b ↦ let same : n ≡ j = omega arith in absurd (not_both (is_kept new n) here (ap (is_kept new) same ∙ out))
         ];
-        before_kept = λ j e step l there was before. elim (cases_lt n j) [
-          | inl b ↦ held step.decision (h.before_kept j e step b there (sym (later j b) ∙ was) before)
+        before_kept = λ j e edge l there was before. elim (cases_lt n j) [
+          | inl b ↦ held edge.decision (h.before_kept j e edge b there (sym (later j b) ∙ was) before)
           | inr b ↦
               let same : j ≡ n = omega arith in
-              let one : d.before ≡ Some step = ap (λ (v : Decision). v.before) (one_decision decisions j n d e same at there) ∙ before in
-              marked-there (set kept n true) d.before step one (omega (arith, lists.length-set kept n true, inside, subst (λ o. IfSome o (λ s. s.decision < n)) one low))
+              let one : d.before ≡ Some edge = ap (λ (v : Decision). v.before) (one_decision decisions j n d e same at there) ∙ before in
+              marked-there (set kept n true) d.before edge one (omega (arith, lists.length-set kept n true, inside, subst (λ o. IfSome o (λ s. s.decision < n)) one low))
         ];
       }
 
@@ -386,8 +386,8 @@ module _ (decisions : List Decision) (actions : List ℕ) (linked : AreLinked de
           let same : j ≡ n = omega arith in
           are.alone j k e f there other (subst (λ (v : Decision). get_or shared v.place false ≡ false) (one_decision decisions j n d e same at there) alone) place
     ];
-    before_kept = λ j e step l there was before. elim (cases_lt n j) [
-      | inl b ↦ h.before_kept j e step b there was before
+    before_kept = λ j e edge l there was before. elim (cases_lt n j) [
+      | inl b ↦ h.before_kept j e edge b there was before
       | inr b ↦ let same : j ≡ n = omega arith in absurd (not_both (is_kept kept n) (ap (is_kept kept) (sym same) ∙ was) out)
     ];
   }
@@ -517,10 +517,10 @@ AreNumbered-all decisions kept n numbers list all a =
     sym (append-nil list) ∙ ap (λ v. list ++ kept_from kept n v) (sym (ap (λ m. drop m decisions) all ∙ drop-length decisions)) ∙ a.list_is
 
 -- the number of the decision before a kept one
-pub step-numbered : (decisions : List Decision) (actions : List ℕ) (kept : List Bool) (n : ℕ) (numbers more : List ℕ) (d : Decision) → AreLinked decisions actions → slice_get decisions n ≡ Some d → length numbers ≡ n → ((k : ℕ) → k < n → get_or numbers k 0 ≡ kept_below kept k) → (number : ℕ) → more ≡ numbers ++ number ∷ []
+pub edge-numbered : (decisions : List Decision) (actions : List ℕ) (kept : List Bool) (n : ℕ) (numbers more : List ℕ) (d : Decision) → AreLinked decisions actions → slice_get decisions n ≡ Some d → length numbers ≡ n → ((k : ℕ) → k < n → get_or numbers k 0 ≡ kept_below kept k) → (number : ℕ) → more ≡ numbers ++ number ∷ []
     → IfSome d.before (λ s. s.decision < length more) × IfSome d.before (λ s. get_or more s.decision 0 ≡ kept_below kept s.decision)
-step-numbered decisions actions kept n numbers more d linked at long are number push = go d.before (linked.come_from n d at)
+edge-numbered decisions actions kept n numbers more d linked at long are number push = go d.before (linked.come_from n d at)
   where
-    go : (before : Option Step) → ComesFrom decisions n before → IfSome before (λ s. s.decision < length more) × IfSome before (λ s. get_or more s.decision 0 ≡ kept_below kept s.decision)
+    go : (before : Option Edge) → ComesFrom decisions n before → IfSome before (λ s. s.decision < length more) × IfSome before (λ s. get_or more s.decision 0 ≡ kept_below kept s.decision)
     go None c = (tt, tt)
-    go (Some step) c = (omega (arith, c.0, ap length push, length_push numbers number, long), ap (λ v. get_or v step.decision 0) push ∙ get_or_append_left numbers (number ∷ []) 0 step.decision (omega (arith, c.0, long)) ∙ are step.decision c.0)
+    go (Some edge) c = (omega (arith, c.0, ap length push, length_push numbers number, long), ap (λ v. get_or v edge.decision 0) push ∙ get_or_append_left numbers (number ∷ []) 0 edge.decision (omega (arith, c.0, long)) ∙ are edge.decision c.0)

@@ -1,7 +1,7 @@
 pub mod Ascending
-pub mod Behind
+pub mod After
 pub mod EndLists
-pub mod Flags
+pub mod Reach
 pub mod LeftOut
 pub mod Linked
 pub mod Steps

@@ -7,10 +7,10 @@ use Rattle.std.proofs.lemmas.Bool.{ltb-true, eqb-true, and_parts}
 use Rattle.std.proofs.lemmas.List.Elements.{All-nil, All-cons, All-append}
 use Rattle.std.proofs.lemmas.Option.{slice_get_within}
 use Rattle.choice_lists.specs.declared.decision.Decision.{Decision}
-use Rattle.choice_lists.specs.declared.decision.Step.{Step}
+use Rattle.choice_lists.specs.declared.decision.Edge.{Edge}
 use Rattle.choice_lists.specs.Walks.{ComesFrom, AreLinked}
 use Rattle.choice_lists.specs.Tested.{has_place, comes_from, are_linked_from, are_linked}
-use Rattle.choice_lists.proofs.Flags.{below_or_last}
+use Rattle.choice_lists.proofs.Reach.{below_or_last}
 
 -- ---- by the test
 -- numbers that all pass are positive
@@ -25,13 +25,13 @@ has_place-true : (found : Option Decision) (place : ℕ) → has_place found pla
 has_place-true None place h = cc
 has_place-true (Some d) place h = (d, refl, eqb-true place d.place h)
 
--- a step that passes comes from an earlier decision
-comes_from-true : (decisions : List Decision) (j : ℕ) (before : Option Step) → comes_from decisions j before ≡ true → ComesFrom decisions j before
+-- an edge that passes comes from an earlier decision
+comes_from-true : (decisions : List Decision) (j : ℕ) (before : Option Edge) → comes_from decisions j before ≡ true → ComesFrom decisions j before
 comes_from-true decisions j None h = tt
-comes_from-true decisions j (Some step) h =
-    let both = and_parts (nat_lt step.decision j) (has_place (slice_get decisions step.decision) step.place) h in
-    let found = has_place-true (slice_get decisions step.decision) step.place both.1 in
-    (ltb-true step.decision j both.0, found.0, found.1, found.2)
+comes_from-true decisions j (Some edge) h =
+    let both = and_parts (nat_lt edge.decision j) (has_place (slice_get decisions edge.decision) edge.place) h in
+    let found = has_place-true (slice_get decisions edge.decision) edge.place both.1 in
+    (ltb-true edge.decision j both.0, found.0, found.1, found.2)
 
 -- what the test of decision j says
 linked_from-parts : (decisions : List Decision) (n j : ℕ) (d : Decision) (ds : List Decision) → are_linked_from decisions n j (d ∷ ds) ≡ true → (d.place < n) × ComesFrom decisions j d.before × (are_linked_from decisions n (suc j) ds ≡ true)
@@ -80,13 +80,13 @@ slice_get-last : (ds : List Decision) (d : Decision) → slice_get (ds ++ d ∷ 
 slice_get-last [] d = refl
 slice_get-last (e ∷ ds) d = slice_get-last ds d
 
--- a step from an earlier decision is still one
-ComesFrom-more : (ds : List Decision) (d : Decision) (j : ℕ) (before : Option Step) → j ≤ length ds → ComesFrom ds j before → ComesFrom (ds ++ d ∷ []) j before
+-- an edge from an earlier decision is still one
+ComesFrom-more : (ds : List Decision) (d : Decision) (j : ℕ) (before : Option Edge) → j ≤ length ds → ComesFrom ds j before → ComesFrom (ds ++ d ∷ []) j before
 ComesFrom-more ds d j None l c = tt
-ComesFrom-more ds d j (Some step) l c = (c.0, c.1, slice_get-more ds d step.decision (omega (arith, c.0)) ∙ c.2, c.3)
+ComesFrom-more ds d j (Some edge) l c = (c.0, c.1, slice_get-more ds d edge.decision (omega (arith, c.0)) ∙ c.2, c.3)
 
 -- a decision with nothing before it comes from anywhere
-ComesFrom-none : (decisions : List Decision) (j : ℕ) (before : Option Step) → before ≡ None → ComesFrom decisions j before
+ComesFrom-none : (decisions : List Decision) (j : ℕ) (before : Option Edge) → before ≡ None → ComesFrom decisions j before
 ComesFrom-none decisions j before e = subst (ComesFrom decisions j) (sym e) tt
 
 -- one more decision, in a set of its own, with nothing before it

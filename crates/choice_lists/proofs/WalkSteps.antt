@@ -1,4 +1,4 @@
--- The steps of the walk, of its state.
+-- The edges of the walk, of its state.
 use Rattle.std.proofs.Common.{ℕ, suc, ◌+◌, ◌-◌, ◌<◌, ◌≤◌, ◌≡◌, Bool, true, Some, None, List, [], ◌∷◌, ◌++◌, length, get_or, set, take, drop, reverse, refl, sym, ap, ap₂, ◌∙◌, subst, subst₂, arith, replicate}
 use Rattle.std.specs.Prelude.{slice_get}
 use Rattle.std.proofs.Math.ListN as lists
@@ -10,7 +10,7 @@ use Rattle.choice_lists.specs.declared.decision.Decision.{Decision}
 use Rattle.choice_lists.specs.declared.walk.Walk.{Walk}
 use Rattle.choice_lists.specs.Walks.{AreLinked}
 use Rattle.choice_lists.specs.Ends.{is_led_to, ends, later, FallBelow, IsAt, IsStart, IsSameGame, ComesTo, later_ends, ends_from}
-use Rattle.choice_lists.proofs.Flags.{place-within}
+use Rattle.choice_lists.proofs.Reach.{place-within}
 use Rattle.choice_lists.proofs.EndLists.{ends-nil}
 use Rattle.choice_lists.proofs.Steps.{pass-forward, branch-forward, later-further, later-last, place_of-at, later-nil}
 
@@ -19,7 +19,7 @@ FallBelow-more : (n m : ℕ) (fixed : List ℕ) → FallBelow n fixed → n ≤ 
 FallBelow-more n m [] f l = tt
 FallBelow-more n m (j ∷ fixed) f l = (omega (arith, f.0), f.1)
 
--- the state after a step, by its parts
+-- the state after an edge, by its parts
 IsAt-parts : (old new : Walk) (n m : ℕ) → IsAt old n → IsSameGame old new → length new.choices.items ≡ length old.choices.items → length new.reached.items ≡ length old.reached.items → m ≤ length old.decisions.now → FallBelow m (reverse new.fixed.items) → IsAt new m
 IsAt-parts old new n m a s choices reached within fall =
     let decisions : new.decisions.now ≡ old.decisions.now = ap (λ b. b.now) s.decisions in
@@ -84,7 +84,7 @@ ends_from-end walk =
     ap (λ v. ends walk.actions.now v (take (length walk.decisions.now) walk.reached.items) walk.choices.items ++ later_ends walk) (drop-length walk.decisions.now)
     ∙ ap (λ v. v ++ later_ends walk) (ends-nil walk.actions.now (take (length walk.decisions.now) walk.reached.items) walk.choices.items)
 
--- ---- a step back
+-- ---- an edge back
 -- a list before its last number, and that number
 last-split : (xs : List ℕ) (j : ℕ) → slice_get xs (length xs - 1) ≡ Some j → xs ≡ take (length xs - 1) xs ++ j ∷ []
 last-split xs j e =
@@ -131,8 +131,8 @@ pub walk-further_next : (old new : Walk) (n j m : ℕ) (d : Decision) (before : 
     → IsSameGame old new → new.reached.items ≡ old.reached.items → new.choices.items ≡ set old.choices.items d.place (suc (get_or old.choices.items d.place 0)) → new.fixed.items ≡ old.fixed.items → m ≡ suc j → later_ends old ≡ before
     → IsAt new m × (ends_from new m ≡ before)
 walk-further_next old new n j m d before a last at more s reached choices fixed next same =
-    let step = walk-further old new n j d a last at more s reached choices fixed in
-    subst (λ v. IsAt new v × (ends_from new v ≡ before)) (sym next) (step.0, step.1 ∙ same)
+    let edge = walk-further old new n j d a last at more s reached choices fixed in
+    subst (λ v. IsAt new v × (ends_from new v ≡ before)) (sym next) (edge.0, edge.1 ∙ same)
 
 -- the last set has no further action
 pub walk-unfixes : (old new : Walk) (n j : ℕ) (d : Decision) → IsAt old n → slice_get old.fixed.items (length old.fixed.items - 1) ≡ Some j → slice_get old.decisions.now j ≡ Some d → get_or old.actions.now d.place 0 ≤ get_or old.choices.items d.place 0
@@ -144,7 +144,7 @@ walk-unfixes old new n j d a last at most s reached choices fixed =
     let front = take (length old.fixed.items - 1) old.fixed.items in
     let backward : reverse old.fixed.items ≡ j ∷ reverse front = ap reverse (last-split old.fixed.items j last) ∙ reverse-append front (j ∷ []) in
     let fall : FallBelow n (j ∷ reverse front) = subst (FallBelow n) backward a.fixed in
-    let step = later-last old.decisions.now old.actions.now old.reached.items j (reverse front) old.choices.items d.place (place_of-at old.decisions.now j d at) most in
+    let edge = later-last old.decisions.now old.actions.now old.reached.items j (reverse front) old.choices.items d.place (place_of-at old.decisions.now j d at) most in
     let backward_new : reverse new.fixed.items ≡ reverse front = ap reverse fixed in (
       IsAt-parts old new n n a s (ap length choices ∙ lists.length-set old.choices.items d.place 0) (ap length reached) a.within
           (FallBelow-more j n (reverse new.fixed.items) (subst (λ v. FallBelow j (reverse v)) (sym fixed) fall.1) (omega (arith, fall.0))),

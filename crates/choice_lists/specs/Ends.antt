@@ -1,14 +1,14 @@
 -- The ends of the walk in the order in which it comes to them.
 use Rattle.std.specs.Prelude.{ℕ, zero, suc, ◌<◌, ◌≤◌, ◌-◌, ◌≡◌, ◌==◌, ◌&&◌, Bool, true, false, if◌then◌else◌, List, [], ◌∷◌, ◌++◌, length, map, reverse, take, drop, slice_index, slice_index_or, slice_set, replicate, Option, Some, None}
 use Rattle.choice_lists.specs.declared.decision.Decision.{Decision}
-use Rattle.choice_lists.specs.declared.decision.Step.{Step}
+use Rattle.choice_lists.specs.declared.decision.Edge.{Edge}
 use Rattle.choice_lists.specs.declared.walk.Walk.{Walk}
 use Rattle.choice_lists.specs.Walks.{AreLinked}
 
--- whether a step leads on, by the flags of the earlier decisions that are reached
-abbrev pub is_led_to : List Bool → List ℕ → Option Step → Bool
-is_led_to flags choices None = true
-is_led_to flags choices (Some step) = slice_index_or flags step.decision false && (slice_index choices step.place == suc step.action)
+-- whether an edge leads on, by which of the earlier decisions are reached
+abbrev pub is_led_to : List Bool → List ℕ → Option Edge → Bool
+is_led_to reach choices None = true
+is_led_to reach choices (Some edge) = slice_index_or reach edge.decision false && (slice_index choices edge.place == suc edge.action)
 
 -- the lists for an action and for the n - 1 after it
 abbrev pub branches : (ℕ → List (List ℕ)) → ℕ → ℕ → List (List ℕ)
@@ -17,11 +17,11 @@ branches lists action (suc n) = lists action ++ branches lists (suc action) n
 
 -- the choice lists at the ends of the walk over the decisions that are left
 unfoldable pub ends : List ℕ → List Decision → List Bool → List ℕ → List (List ℕ)
-ends actions [] flags choices = choices ∷ []
-ends actions (d ∷ ds) flags choices =
-    if is_led_to flags choices d.before && (slice_index choices d.place == 0)
-    then branches (λ a. ends actions ds (flags ++ true ∷ []) (slice_set choices d.place a)) 1 (slice_index actions d.place)
-    else ends actions ds (flags ++ is_led_to flags choices d.before ∷ []) choices
+ends actions [] reach choices = choices ∷ []
+ends actions (d ∷ ds) reach choices =
+    if is_led_to reach choices d.before && (slice_index choices d.place == 0)
+    then branches (λ a. ends actions ds (reach ++ true ∷ []) (slice_set choices d.place a)) 1 (slice_index actions d.place)
+    else ends actions ds (reach ++ is_led_to reach choices d.before ∷ []) choices
 
 -- the place of a decision's set
 abbrev pub place_of : List Decision → ℕ → ℕ
@@ -29,14 +29,14 @@ place_of decisions j = slice_index (map (λ d. d.place) decisions) j
 
 -- the ends with an action at decision j
 abbrev pub ends_at : List Decision → List ℕ → List Bool → List ℕ → ℕ → ℕ → List (List ℕ)
-ends_at decisions actions flags choices j a = ends actions (drop (suc j) decisions) (take (suc j) flags) (slice_set choices (place_of decisions j) a)
+ends_at decisions actions reach choices j a = ends actions (drop (suc j) decisions) (take (suc j) reach) (slice_set choices (place_of decisions j) a)
 
 -- the ends with the further actions of the decisions that gave their set its action, the last one first
 unfoldable pub later : List Decision → List ℕ → List Bool → List ℕ → List ℕ → List (List ℕ)
-later decisions actions flags [] choices = []
-later decisions actions flags (j ∷ fixed) choices =
-    branches (ends_at decisions actions flags choices j) (suc (slice_index choices (place_of decisions j))) (slice_index actions (place_of decisions j) - slice_index choices (place_of decisions j))
-    ++ later decisions actions flags fixed (slice_set choices (place_of decisions j) 0)
+later decisions actions reach [] choices = []
+later decisions actions reach (j ∷ fixed) choices =
+    branches (ends_at decisions actions reach choices j) (suc (slice_index choices (place_of decisions j))) (slice_index actions (place_of decisions j) - slice_index choices (place_of decisions j))
+    ++ later decisions actions reach fixed (slice_set choices (place_of decisions j) 0)
 
 -- numbers below n that fall
 abbrev pub FallBelow : ℕ → List ℕ → Type 0

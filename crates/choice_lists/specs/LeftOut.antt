@@ -1,7 +1,7 @@
 -- Decisions that add no end to the walk are left out.
 use Rattle.std.specs.Prelude.{ℕ, zero, suc, ◌≡◌, Bool, true, false, if◌then◌else◌, List, [], ◌∷◌, length, slice_get, slice_index, slice_index_or, slice_set, replicate, Option, Some, None}
 use Rattle.choice_lists.specs.declared.decision.Decision.{Decision}
-use Rattle.choice_lists.specs.declared.decision.Step.{Step}
+use Rattle.choice_lists.specs.declared.decision.Edge.{Edge}
 use Rattle.choice_lists.specs.Ends.{ends}
 
 -- the ends of the whole walk
@@ -17,31 +17,31 @@ abbrev pub kept_below : List Bool → ℕ → ℕ
 kept_below kept zero = 0
 kept_below kept (suc n) = if is_kept kept n then suc (kept_below kept n) else kept_below kept n
 
--- a step and a decision by the new numbers
-abbrev pub renumbered_step : List Bool → Option Step → Option Step
-renumbered_step kept None = None
-renumbered_step kept (Some step) = Some (record { decision = kept_below kept step.decision; place = step.place; action = step.action })
+-- an edge and a decision by the new numbers
+abbrev pub renumbered_edge : List Bool → Option Edge → Option Edge
+renumbered_edge kept None = None
+renumbered_edge kept (Some edge) = Some (record { decision = kept_below kept edge.decision; place = edge.place; action = edge.action })
 
 abbrev pub renumbered : List Bool → Decision → Decision
-renumbered kept d = record { place = d.place; before = renumbered_step kept d.before }
+renumbered kept d = record { place = d.place; before = renumbered_edge kept d.before }
 
 -- the kept ones of these decisions, which are numbered from n
 abbrev pub kept_from : List Bool → ℕ → List Decision → List Decision
 kept_from kept n [] = []
 kept_from kept n (d ∷ ds) = if is_kept kept n then renumbered kept d ∷ kept_from kept (suc n) ds else kept_from kept (suc n) ds
 
--- A decision is left out only where its set has one action and no other decision; and a decision behind which another is kept is
+-- A decision is left out only where its set has one action and no other decision; and a decision after which another is kept is
 -- kept.
 pub record AreEnough (decisions : List Decision) (actions : List ℕ) (kept : List Bool) : Type 0 where
   pub one_for_each : length kept ≡ length decisions
   pub one_action : (j : ℕ) (d : Decision) → slice_get decisions j ≡ Some d → is_kept kept j ≡ false → slice_index actions d.place ≡ 1
   pub alone : (j k : ℕ) (d e : Decision) → slice_get decisions j ≡ Some d → slice_get decisions k ≡ Some e → is_kept kept j ≡ false → d.place ≡ e.place → j ≡ k
-  pub before_kept : (j : ℕ) (d : Decision) (step : Step) → slice_get decisions j ≡ Some d → is_kept kept j ≡ true → d.before ≡ Some step → is_kept kept step.decision ≡ true
+  pub before_kept : (j : ℕ) (d : Decision) (edge : Edge) → slice_get decisions j ≡ Some d → is_kept kept j ≡ true → d.before ≡ Some edge → is_kept kept edge.decision ≡ true
 
--- with the decision of a step
-abbrev pub marked : List Bool → Option Step → List Bool
+-- with the decision of an edge
+abbrev pub marked : List Bool → Option Edge → List Bool
 marked kept None = kept
-marked kept (Some step) = slice_set kept step.decision true
+marked kept (Some edge) = slice_set kept edge.decision true
 
 -- each set that has two decisions is marked
 pub record AreShared (decisions : List Decision) (sets : ℕ) (shared : List Bool) : Type 0 where

@@ -2,17 +2,17 @@
 use Rattle.std.specs.Prelude.{ℕ, suc, ◌==◌, ◌&&◌, Bool, true, false, nat_lt, List, [], ◌∷◌, length, slice_get, Option, Some, None}
 use Rattle.std.specs.List.{list_all}
 use Rattle.choice_lists.specs.declared.decision.Decision.{Decision}
-use Rattle.choice_lists.specs.declared.decision.Step.{Step}
+use Rattle.choice_lists.specs.declared.decision.Edge.{Edge}
 
 -- whether a decision has this place
 abbrev pub has_place : Option Decision → ℕ → Bool
 has_place None place = false
 has_place (Some d) place = place == d.place
 
--- whether a step comes from a decision before number j, and has that decision's place
-abbrev pub comes_from : List Decision → ℕ → Option Step → Bool
+-- whether an edge comes from a decision before number j, and has that decision's place
+abbrev pub comes_from : List Decision → ℕ → Option Edge → Bool
 comes_from decisions j None = true
-comes_from decisions j (Some step) = nat_lt step.decision j && has_place (slice_get decisions step.decision) step.place
+comes_from decisions j (Some edge) = nat_lt edge.decision j && has_place (slice_get decisions edge.decision) edge.place
 
 -- whether the decisions of the last list, which are numbered from j, have one of n places and come from earlier ones
 abbrev pub are_linked_from : List Decision → ℕ → ℕ → List Decision → Bool

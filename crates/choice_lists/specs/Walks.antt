@@ -2,12 +2,12 @@
 use Rattle.std.specs.Prelude.{ℕ, zero, suc, ◌<◌, ◌≤◌, ◌≡◌, ◌↔◌, List, length, slice_index, slice_get, All, Contains, Option, Some, None}
 use Rattle.lists.specs.Orders.{AreAscending}
 use Rattle.choice_lists.specs.declared.decision.Decision.{Decision}
-use Rattle.choice_lists.specs.declared.decision.Step.{Step}
+use Rattle.choice_lists.specs.declared.decision.Edge.{Edge}
 
--- a step comes from a decision before number j, and has that decision's place
-abbrev pub ComesFrom : List Decision → ℕ → Option Step → Type 0
+-- an edge comes from a decision before number j, and has that decision's place
+abbrev pub ComesFrom : List Decision → ℕ → Option Edge → Type 0
 ComesFrom decisions j None = Unit {0}
-ComesFrom decisions j (Some step) = (step.decision < j) × (earlier : Decision) × (slice_get decisions step.decision ≡ Some earlier) × (step.place ≡ earlier.place)
+ComesFrom decisions j (Some edge) = (edge.decision < j) × (earlier : Decision) × (slice_get decisions edge.decision ≡ Some earlier) × (edge.place ≡ earlier.place)
 
 -- the decisions of a player whose sets have these numbers of actions
 pub record AreLinked (decisions : List Decision) (actions : List ℕ) : Type 0 where
@@ -16,9 +16,9 @@ pub record AreLinked (decisions : List Decision) (actions : List ℕ) : Type 0 w
   pub come_from : (j : ℕ) (d : Decision) → slice_get decisions j ≡ Some d → ComesFrom decisions j d.before
 
 -- a decision is reached where the one before it is, and the action that leads to it is chosen there
-abbrev pub IsLedTo : (ℕ → Type 0) → List ℕ → Option Step → Type 0
+abbrev pub IsLedTo : (ℕ → Type 0) → List ℕ → Option Edge → Type 0
 IsLedTo reached choices None = Unit {0}
-IsLedTo reached choices (Some step) = reached step.decision × (slice_index choices step.place ≡ suc step.action)
+IsLedTo reached choices (Some edge) = reached edge.decision × (slice_index choices edge.place ≡ suc edge.action)
 
 -- decision j is reached under these choices, where at most n decisions lie on its path
 abbrev pub IsReachedWithin : List Decision → List ℕ → ℕ → ℕ → Type 0

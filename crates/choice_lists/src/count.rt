@@ -2,7 +2,7 @@
 ghost use Rattle.std.specs.Prelude.{◌≡◌, ◌<◌, ◌+◌, ◌*◌, ◌^◌, List, ℕ, true, length, map, min, replicate, slice_index, slice_set, All, IfOk, IsTrue, []};
 ghost use Rattle.choice_lists.specs.Ends.{ends};
 ghost use Rattle.choice_lists.specs.Walks.{AreLinked, AreWalks};
-ghost use Rattle.choice_lists.specs.Ways.{AreApart, AreBehind, sum_branches, ways_from};
+ghost use Rattle.choice_lists.specs.Ways.{AreApart, AreAfter, sum_branches, ways_from};
 
 use crate::decision::Decision;
 use crate::kept::{kept_decisions, shared_sets};
@@ -32,7 +32,7 @@ fn sum(numbers: &[usize], limit: usize) -> usize
 fn ones(alloc: Global, decisions: &[Decision], actions: &[u32]) -> Result<Vec<Vec<usize>>, Memory>
     requires linked { AreLinked decisions.now actions.now }
     ensures { IfOk result (λ lists. (limit : ℕ) → 0 < limit
-        → AreBehind decisions.now actions.now (length decisions.now) limit
+        → AreAfter decisions.now actions.now (length decisions.now) limit
         (map (λ v. v.items) lists.items)) }
 {
     let mut lists = Vec::with_capacity(alloc, decisions.len())?;
@@ -42,7 +42,7 @@ fn ones(alloc: Global, decisions: &[Decision], actions: &[u32]) -> Result<Vec<Ve
     Ok(lists)
 }
 
-// Multiplies the number of an action by the ways behind it, where the set has this action.
+// Multiplies the number of an action by the ways after it, where the set has this action.
 fn multiply(products: &mut Vec<usize>, action: usize, ways: usize, limit: usize)
     ensures { products.new.items
         ≡ slice_set products.old.items action
@@ -67,17 +67,17 @@ fn count_apart(
         ≡ min (length (ends actions.now decisions.now []
         (replicate (length actions.now) 0))) limit) }
 {
-    let mut behind = ones(alloc, decisions, actions)?;
+    let mut following = ones(alloc, decisions, actions)?;
     let mut first = 1;
     let mut left = decisions.len();
     while left > 0 {
         left -= 1;
-        let ways = sum(&behind[left], limit);
+        let ways = sum(&following[left], limit);
         match decisions[left].before {
             None => first = product(first, ways, limit),
-            Some(step) => {
-                let products = &mut behind[step.decision as usize];
-                multiply(products, step.action as usize, ways, limit);
+            Some(edge) => {
+                let products = &mut following[edge.decision as usize];
+                multiply(products, edge.action as usize, ways, limit);
             }
         }
     }

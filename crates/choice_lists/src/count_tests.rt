@@ -2,7 +2,7 @@ ghost use Rattle.std.specs.Prelude.{◌≡◌, ◌<◌, ◌+◌, ◌^◌, None, 
 ghost use Rattle.choice_lists.specs.Tested.{are_linked};
 
 use crate::count::count_walks;
-use crate::decision::{Decision, Step};
+use crate::decision::{Decision, Edge};
 use answers::Memory;
 use std::alloc::Global;
 
@@ -16,11 +16,11 @@ fn first(place: u32) -> Decision
     }
 }
 
-// A decision at a place behind an action, counted from 0, of the first decision, whose place is 0.
-fn behind(place: u32, action: u32) -> Decision
+// A decision at a place after an action, counted from 0, of the first decision, whose place is 0.
+fn following(place: u32, action: u32) -> Decision
     ensures { result ≡ record { place = place; before = Some (record { decision = 0; place = 0; action = action }) } }
 {
-    let before = Step {
+    let before = Edge {
         decision: 0,
         place: 0,
         action,
@@ -50,13 +50,19 @@ fn counts_lists(rt: HostRuntime) -> Result<(), Memory> {
     let alloc = rt.alloc();
     assert!(rt; counts(alloc, &[], &[], 9, 1)?);
     // The second action leads to one set of two actions, and the third to two: 1 and 2 and 4 lists.
-    let branching = [first(0), behind(1, 1), behind(2, 2), behind(3, 2)];
+    let branching = [first(0), following(1, 1), following(2, 2), following(3, 2)];
     let wide = [first(0), first(1), first(2)];
     // The second set has two decisions: four lists.
-    let forgetful = [first(0), behind(1, 0), behind(1, 1)];
+    let forgetful = [first(0), following(1, 0), following(1, 1)];
     // The same with sets of one action, which add no list.
     let single = [first(2), first(0), first(3)];
-    let between = [first(0), first(2), behind(1, 0), first(3), behind(1, 1)];
+    let between = [
+        first(0),
+        first(2),
+        following(1, 0),
+        first(3),
+        following(1, 1),
+    ];
     assert!(rt; counts(alloc, &single, &[2, 2, 1, 1], 9, 2)?);
     for (most, seven, thousand, four) in [
         (0, 1, 1, 1),

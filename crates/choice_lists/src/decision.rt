@@ -7,12 +7,12 @@ pub struct Decision {
     /// The place of its information set among the player's own sets, from 0.
     pub place: u32,
     /// The player's decision just before it on its path and the action that leads here, where there is one.
-    pub before: Option<Step>,
+    pub before: Option<Edge>,
 }
 
 /// An action at a decision.
 #[derive(Clone, Copy, Debug, PartialEq, Eq)]
-pub struct Step {
+pub struct Edge {
     /// The decision.
     pub decision: u32,
     /// The place of the decision's set.

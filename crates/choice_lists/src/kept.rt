@@ -3,7 +3,7 @@ ghost use Rattle.std.specs.Prelude.{◌≡◌, ◌<◌, ◌^◌, Bool, List, All
 ghost use Rattle.choice_lists.specs.Walks.{AreLinked};
 ghost use Rattle.choice_lists.specs.LeftOut.{all_ends, marked, kept_below, renumbered, AreEnough, AreShared};
 
-use crate::decision::{Decision, Step};
+use crate::decision::{Decision, Edge};
 use answers::Memory;
 use std::alloc::Global;
 
@@ -22,17 +22,17 @@ pub fn shared_sets(alloc: Global, decisions: &[Decision], sets: usize) -> Result
     Ok(shared)
 }
 
-// Marks the decision of a step.
-fn mark(kept: &mut Vec<bool>, step: Option<Step>)
-    requires { IfSome step (λ s. s.decision < length kept.old.items) }
-    ensures { kept.new.items ≡ marked kept.old.items step }
+// Marks the decision of an edge.
+fn mark(kept: &mut Vec<bool>, edge: Option<Edge>)
+    requires { IfSome edge (λ s. s.decision < length kept.old.items) }
+    ensures { kept.new.items ≡ marked kept.old.items edge }
 {
-    if let Some(step) = step {
-        kept[step.decision as usize] = true;
+    if let Some(edge) = edge {
+        kept[edge.decision as usize] = true;
     }
 }
 
-// Which decisions are kept: all but those of sets of one action with no other decision, behind which none is kept.
+// Which decisions are kept: all but those of sets of one action with no other decision, after which none is kept.
 fn kept(
     alloc: Global,
     decisions: &[Decision],
@@ -64,9 +64,9 @@ fn renumbered(decision: Decision, numbers: &[u32]) -> Decision
         ≡ kept_below kept s.decision) → result ≡ renumbered kept decision }
 {
     let before = match decision.before {
-        Some(step) => Some(Step {
-            decision: numbers[step.decision as usize],
-            ..step
+        Some(edge) => Some(Edge {
+            decision: numbers[edge.decision as usize],
+            ..edge
         }),
         None => None,
     };

@@ -1,16 +1,13 @@
-//! Choice lists: the lists that give an information set an action exactly where one of its decisions
-//! is reached.
+//! Choice lists: the lists that give an information set an action exactly where one of its
+//! decisions is reached.
 //!
-//! `walk` goes over one player's decisions to all of them. It takes the decisions in order. At one
-//! that is reached, and whose set has no action yet, it takes each action in turn. So it ends once
-//! for each choice list, and goes on to the next from the last set that has a further action. A set
-//! can be reached by one of its decisions while an earlier one is not, so the lists are sorted in the
-//! end.
-//!
-//! `count` counts the choice lists. Where no set has two decisions, as with perfect recall, that
-//! takes no walk: for each decision the ways to go on from it are added over its actions, and
-//! multiplied over the decisions behind an action. Else the walk is gone to the end of each list,
-//! over fewer decisions: those that add no list are left out (`kept`).
+//! Callers may rely on: `list_walks` gives all of them, each once, in order; `count_walks` and
+//! `count_ends` their number up to a limit, the first without a walk if no set has two decisions.
+//! Definitions: `specs::Walks` has decisions that are linked (`AreLinked`) and their choice lists
+//! (`AreWalks`).
+//! Private words: `specs::Ends`, `Ways` and `LeftOut`, how the code walks and counts; `Tested`.
+//! Lemmas for callers: `proofs::EndLists` on the ends of a walk, `Ascending` on lists in order.
+//! A change here touches: `strategy_lists`, `reduced_form` and `enumpure_trees`.
 #![tactic(auto)]
 
 mod count;
@@ -23,5 +20,5 @@ mod walk;
 mod walk_tests;
 
 pub use count::count_walks;
-pub use decision::{Decision, Step};
+pub use decision::{Decision, Edge};
 pub use walk::{count_ends, list_walks};

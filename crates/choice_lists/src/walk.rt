@@ -45,9 +45,9 @@ impl<'a> Walk<'a> {
     {
         match self.decisions[number].before {
             None => true,
-            Some(step) => {
-                let choice = self.choices[step.place as usize];
-                self.reached[step.decision as usize] && choice > 0 && choice - 1 == step.action
+            Some(edge) => {
+                let choice = self.choices[edge.place as usize];
+                self.reached[edge.decision as usize] && choice > 0 && choice - 1 == edge.action
             }
         }
     }

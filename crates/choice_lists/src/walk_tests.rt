@@ -2,7 +2,7 @@ ghost use Rattle.std.specs.Prelude.{◌≡◌, ◌<◌, ◌+◌, ◌^◌, None, 
 ghost use Rattle.choice_lists.specs.Tested.{are_linked};
 ghost use Rattle.choice_lists.specs.Walks.{AreLinked};
 
-use crate::decision::{Decision, Step};
+use crate::decision::{Decision, Edge};
 use crate::walk::{count_ends, list_walks};
 use answers::Memory;
 use std::alloc::Global;
@@ -23,7 +23,7 @@ fn after(place: u32, decision: u32, earlier: u32, action: u32) -> Decision
 {
     Decision {
         place,
-        before: Some(Step {
+        before: Some(Edge {
             decision,
             place: earlier,
             action,

@@ -1,9 +1,12 @@
 //! Numbers that threads claim from one word, each once; and work that is shared among threads by
 //! such claims.
 //!
-//! A pass is the right to claim from a claim word. It has some of 64 parts, and contracts see the
-//! numbers that it claimed. Passes are split and joined; the pass with all the parts knows that
-//! each number below the count of all claims was claimed once. No call waits for anybody.
+//! Callers may rely on: `shared_map`, whose list has at each index what the function gives there,
+//! however many workers; a pass with all parts knows each number below its count claimed once.
+//! Definitions: `specs::ClaimWord` has `PassState`, what contracts see of a `Pass`, with
+//! `HasEachBelow` and `KnowsWhole`.
+//! Private words: `specs::Pieces`, and `KeepsClaims`, the rule of the claim word.
+//! A change here touches: `basis_enum` alone, which computes its levels by `shared_map`.
 #![tactic(auto)]
 
 mod claim_word;

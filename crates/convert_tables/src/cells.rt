@@ -55,7 +55,7 @@ fn push_payoff(
     Ok(())
 }
 
-// Adds the payoffs of some players, each behind a comma.
+// Adds the payoffs of some players, each after a comma.
 fn push_later_payoffs(
     alloc: Global,
     text: &mut Vec<u8>,
@@ -105,7 +105,7 @@ fn push_cells(alloc: Global, text: &mut Vec<u8>, plan: &Plan, first: usize) -> R
     Ok(())
 }
 
-// What stands behind the row of a strategy.
+// What stands after the row of a strategy.
 fn row_end(style: Style, rows: usize, strategy: usize) -> &'static [u8]
     requires { strategy < rows }
     ensures { result.now ≡ row_end style rows strategy }
@@ -141,7 +141,7 @@ fn push_row(
     Ok(())
 }
 
-/// Adds the rows of the table in which the others play a choice, and stops behind the first row at
+/// Adds the rows of the table in which the others play a choice, and stops after the first row at
 /// which the text has too many bytes.
 pub fn push_rows(
     alloc: Global,

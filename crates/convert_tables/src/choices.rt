@@ -58,7 +58,7 @@ fn push_chosen(text: &mut Vec<u8>, plan: &Plan, choice: &[u32], player: usize) -
     push_strategy(text, plan.style, plan.table, player, strategy)
 }
 
-// Adds some players and the strategies that are chosen, each behind a comma and a space.
+// Adds some players and the strategies that are chosen, each after a comma and a space.
 fn push_later_chosen(
     text: &mut Vec<u8>,
     plan: &Plan,
@@ -195,7 +195,7 @@ fn push_table_end(text: &mut Vec<u8>, style: Style) -> Result<(), Memory>
     Ok(())
 }
 
-/// Adds a table for each choice of the others, the first of whom changes fastest, and stops behind
+/// Adds a table for each choice of the others, the first of whom changes fastest, and stops after
 /// the first row at which the text has too many bytes. `counts` are the players' numbers of
 /// strategies, with 1 in the place of the row player and the column player. Writes over `choice`,
 /// which has a place for each player.

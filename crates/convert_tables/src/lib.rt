@@ -1,7 +1,11 @@
 //! Tables as text that others lay out: web pages, and the games of the LaTeX package sgame.
 //!
-//! `marks` and `names` are the pieces of text, `cells` writes a table row by row, `choices` a table
-//! for each choice of the other players, and `convert` begins with the players that are asked for.
+//! Callers may rely on: `html` and `sgame` give exactly the text of the layout, or which player is
+//! wrong, or that the text is too long; `layouts_are_single`.
+//! Definitions: `specs::Layouts` has the layouts, made of `Marks` and `Names`; `specs::Converted`
+//! what is answered; `specs::Examples` the prisoners' dilemma laid out.
+//! Lemmas for callers: `proofs::LaidOut`, that a table is answered in one way.
+//! A change here touches: the text of `convert`, byte for byte, and its refusals.
 #![tactic(auto)]
 
 mod cells;

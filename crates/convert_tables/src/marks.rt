@@ -16,27 +16,27 @@ pub enum Style {
 pub enum Mark {
     /// Before the other players' choice.
     HeadingStart,
-    /// Behind it.
+    /// After it.
     HeadingEnd,
     /// Before the name of a column.
     ColumnStart,
-    /// Behind it.
+    /// After it.
     ColumnEnd,
-    /// Behind the columns' names.
+    /// After the columns' names.
     ColumnsEnd,
     /// Before the name of a row.
     RowStart,
-    /// Behind it.
+    /// After it.
     RowNameEnd,
     /// Before the payoffs of a cell.
     CellStart,
-    /// Behind them.
+    /// After them.
     CellEnd,
-    /// Behind a row that another follows.
+    /// After a row that another follows.
     RowEnd,
-    /// Behind the last row.
+    /// After the last row.
     LastRowEnd,
-    /// Behind the rows.
+    /// After the rows.
     TableEnd,
 }
 

@@ -31,7 +31,7 @@ abbrev more_actions : Action → List Action × List Token → Listed
 more_actions action x = Some (action ∷ x.0, x.1)
 
 -- ---- the sum of a list
--- the sum behind one, where each probability may follow
+-- the sum after one, where each probability may follow
 abbrev sum_after : ℚ → List Action → Option ℚ
 sum_after sum [] = Some sum
 sum_after sum (action ∷ actions) = if may_follow sum action.prob then sum_after (sum +ℚ action.prob) actions else None
@@ -44,7 +44,7 @@ with_sum sum x = sum_after sum x.0 >>= λ total. Some ((x.0, total), x.1)
 abbrev more_summed : Action → Summed → Summed
 more_summed action reading = reading >>= λ more. Some ((action ∷ more.0.0, more.0.1), more.1)
 
--- actions and what is behind them, with their sum
+-- actions and what is after them, with their sum
 abbrev summed : List Action → List Token → Option ℚ → Summed
 summed actions rest total = total >>= λ t. Some ((actions, t), rest)
 
@@ -101,7 +101,7 @@ pub first_without : (owner : Option ℕ) (tokens : List Token) → left_at token
 unfolding first_list_at action_list_at
 first_without owner tokens l = rw l refl
 
--- behind its brace a first list is read, closed and tested
+-- after its brace a first list is read, closed and tested
 pub first_list_is : (owner : Option ℕ) (tokens inner : List Token) → left_at tokens ≡ Some inner → first_list_at owner tokens ≡ tested owner (actions_at owner inner >>= closed_list)
 unfolding first_list_at action_list_at
 first_list_is owner tokens inner l = rw l refl
@@ -112,23 +112,23 @@ own_tested i None = refl
 own_tested i (Some x) = refl
 
 -- a player's list is read and closed
-pub own_list_is : (owner : Option ℕ) (i n : ℕ) (tokens inner behind : List Token) (actions : List Action) (closed : Option (List Token)) → owner ≡ Some i → left_at tokens ≡ Some inner → actions_at (Some 0) inner ≡ Some (actions, behind) → n ≡ length actions → closed_at n behind ≡ closed
+pub own_list_is : (owner : Option ℕ) (i n : ℕ) (tokens inner following : List Token) (actions : List Action) (closed : Option (List Token)) → owner ≡ Some i → left_at tokens ≡ Some inner → actions_at (Some 0) inner ≡ Some (actions, following) → n ≡ length actions → closed_at n following ≡ closed
     → first_list_at owner tokens ≡ (closed >>= λ rest. Some (actions, rest))
-own_list_is owner i n tokens inner behind actions closed o l a e c =
-    let rest : first_list_at (Some i) tokens ≡ (closed_at (length actions) behind >>= λ rest. Some (actions, rest)) = first_list_is (Some i) tokens inner l ∙ ap (λ (r : Listed). tested (Some i) (r >>= closed_list)) a ∙ own_tested i (closed_list (actions, behind)) in
+own_list_is owner i n tokens inner following actions closed o l a e c =
+    let rest : first_list_at (Some i) tokens ≡ (closed_at (length actions) following >>= λ rest. Some (actions, rest)) = first_list_is (Some i) tokens inner l ∙ ap (λ (r : Listed). tested (Some i) (r >>= closed_list)) a ∙ own_tested i (closed_list (actions, following)) in
     rw (o, ← c, e) rest
 
 -- the list of chance that the code reads: added up as it is read, then closed, then tested
 abbrev pub closed_sum : (List Action × ℚ) × List Token → Listed
 closed_sum x = closed_at (length x.0.0) x.1 >>= λ rest. if eq_ℚ x.0.1 one_ℚ then Some (x.0.0, rest) else None
 
--- the sum is tested behind the brace
-sum_tested : (actions : List Action) (behind : List Token) (total : Option ℚ) (closed : Option (List Token)) → closed_at (length actions) behind ≡ closed → adds_up zero_ℚ actions ≡ is_one total
-    → tested None (closed >>= λ rest. Some (actions, rest)) ≡ (summed actions behind total >>= closed_sum)
-sum_tested actions behind None None e a = refl
-sum_tested actions behind None (Some rest) e a = rw a refl
-sum_tested actions behind (Some t) None e a = rw e refl
-sum_tested actions behind (Some t) (Some rest) e a = rw (e, a) refl
+-- the sum is tested after the brace
+sum_tested : (actions : List Action) (following : List Token) (total : Option ℚ) (closed : Option (List Token)) → closed_at (length actions) following ≡ closed → adds_up zero_ℚ actions ≡ is_one total
+    → tested None (closed >>= λ rest. Some (actions, rest)) ≡ (summed actions following total >>= closed_sum)
+sum_tested actions following None None e a = refl
+sum_tested actions following None (Some rest) e a = rw a refl
+sum_tested actions following (Some t) None e a = rw e refl
+sum_tested actions following (Some t) (Some rest) e a = rw (e, a) refl
 
 -- a list of chance is added up
 sums_tested : (reading : Listed) → tested None (reading >>= closed_list) ≡ ((reading >>= with_sum zero_ℚ) >>= closed_sum)
@@ -142,28 +142,28 @@ chance_list_is owner tokens inner sums o l s =
     rw (o, ← s) all
 
 -- with what closes it and what the test says
-pub chance_list_by : (owner : Option ℕ) (n : ℕ) (tokens inner behind : List Token) (actions : List Action) (sum : ℚ) (closed : Option (List Token)) (is : Bool) → owner ≡ None → left_at tokens ≡ Some inner → summed_at zero_ℚ inner ≡ Some ((actions, sum), behind)
-    → n ≡ length actions → closed_at n behind ≡ closed → eq_ℚ sum one_ℚ ≡ is → first_list_at owner tokens ≡ (closed >>= λ rest. if is then Some (actions, rest) else None)
-chance_list_by owner n tokens inner behind actions sum closed is o l s e c t = rw (← c, ← t, e) (chance_list_is owner tokens inner (Some ((actions, sum), behind)) o l s)
+pub chance_list_by : (owner : Option ℕ) (n : ℕ) (tokens inner following : List Token) (actions : List Action) (sum : ℚ) (closed : Option (List Token)) (is : Bool) → owner ≡ None → left_at tokens ≡ Some inner → summed_at zero_ℚ inner ≡ Some ((actions, sum), following)
+    → n ≡ length actions → closed_at n following ≡ closed → eq_ℚ sum one_ℚ ≡ is → first_list_at owner tokens ≡ (closed >>= λ rest. if is then Some (actions, rest) else None)
+chance_list_by owner n tokens inner following actions sum closed is o l s e c t = rw (← c, ← t, e) (chance_list_is owner tokens inner (Some ((actions, sum), following)) o l s)
 
 -- a player's actions have no probabilities
-pub own_list_so : (owner : Option ℕ) (i n : ℕ) (inner behind rest : List Token) (actions : List Action) → owner ≡ Some i → actions_at (Some 0) inner ≡ Some (actions, behind) → n ≡ length actions → closed_at n behind ≡ Some rest → IsActionList owner actions
-own_list_so owner i n inner behind rest actions o a e c =
+pub own_list_so : (owner : Option ℕ) (i n : ℕ) (inner following rest : List Token) (actions : List Action) → owner ≡ Some i → actions_at (Some 0) inner ≡ Some (actions, following) → n ≡ length actions → closed_at n following ≡ Some rest → IsActionList owner actions
+own_list_so owner i n inner following rest actions o a e c =
     let none : All (HasNoProbability (Some i)) (map own_action (texts_at inner).0) = All-map (HasNoProbability (Some i)) own_action (texts_at inner).0 (λ k d lt. refl) in
     let all : All (HasNoProbability (Some i)) actions = subst (λ (x : List Action × List Token). All (HasNoProbability (Some i)) x.0) (same_Some _ _ a) none in
     record { some_action = some; no_probabilities = subst (λ (who : Option ℕ). All (HasNoProbability who) actions) (sym o) all }
   where
     some : 0 < length actions
     some =
-        let b = bind_some (right_at behind) _ rest c in
+        let b = bind_some (right_at following) _ rest c in
         let p = cond_some (nat_le 1 n) b.0 rest b.2 in
         let le = passes_le 1 n p.0 in
         omega arith
 
 -- ---- a later list
 -- the brace that closes actions, and whether they repeat others
-abbrev repeated_behind : List Action → List Action × List Token → Option (List Token)
-repeated_behind actions x = right_at x.1 >>= λ rest. if repeats_actions actions (Some x.0) then Some rest else None
+abbrev repeated_after : List Action → List Action × List Token → Option (List Token)
+repeated_after actions x = right_at x.1 >>= λ rest. if repeats_actions actions (Some x.0) then Some rest else None
 
 -- nothing comes of a test that fails
 never : (closed : Option (List Token)) → (let none : List Token → Option (List Token) = λ rest. None in closed >>= none) ≡ None
@@ -176,7 +176,7 @@ closed_as_it_is None = refl
 closed_as_it_is (Some rest) = refl
 
 -- no action is repeated by one
-too_long : (action : Action) (reading : Listed) → ((reading >>= more_actions action) >>= repeated_behind []) ≡ None
+too_long : (action : Action) (reading : Listed) → ((reading >>= more_actions action) >>= repeated_after []) ≡ None
 too_long action None = refl
 too_long action (Some x) = never (right_at x.1)
 
@@ -185,35 +185,35 @@ compared : (same : Bool) (closed : Option (List Token)) (others : Bool) → (clo
 compared true closed others = refl
 compared false closed others = never closed
 
-repeats_on : (one action : Action) (actions : List Action) (reading : Listed) → ((reading >>= more_actions one) >>= repeated_behind (action ∷ actions)) ≡ (if eq_ℚ one.prob action.prob then (reading >>= repeated_behind actions) else None)
+repeats_on : (one action : Action) (actions : List Action) (reading : Listed) → ((reading >>= more_actions one) >>= repeated_after (action ∷ actions)) ≡ (if eq_ℚ one.prob action.prob then (reading >>= repeated_after actions) else None)
 repeats_on one action actions None = sym (nothing_follows (eq_ℚ one.prob action.prob))
 repeats_on one action actions (Some x) = compared (eq_ℚ one.prob action.prob) (right_at x.1) (repeats_actions actions (Some x.0))
 
 -- what follows a test that passes
-behind_test : (same : Bool) (tokens : List Token) (f : List Token → Option (List Token)) → (if same then (f tokens >>= right_at) else None) ≡ (((if same then Some tokens else None) >>= f) >>= right_at)
-behind_test true tokens f = refl
-behind_test false tokens f = refl
+after_test : (same : Bool) (tokens : List Token) (f : List Token → Option (List Token)) → (if same then (f tokens >>= right_at) else None) ≡ (((if same then Some tokens else None) >>= f) >>= right_at)
+after_test true tokens f = refl
+after_test false tokens f = refl
 
 -- chance's actions repeat these, and are closed
-chance_repeats : (actions : List Action) (tokens : List Token) → (chance_actions_at tokens >>= repeated_behind actions) ≡ (all_repeated_at None actions tokens >>= right_at)
+chance_repeats : (actions : List Action) (tokens : List Token) → (chance_actions_at tokens >>= repeated_after actions) ≡ (all_repeated_at None actions tokens >>= right_at)
 chance_repeats [] (Text name ∷ Number prob ∷ tokens) = too_long (record { name = name; prob = prob }) (chance_actions_at tokens)
 chance_repeats [] (Text name ∷ tokens) = refl
 chance_repeats [] tokens = closed_as_it_is (right_at tokens)
 chance_repeats (action ∷ actions) (Text name ∷ Number prob ∷ tokens) =
     let one : Action = record { name = name; prob = prob } in
-    repeats_on one action actions (chance_actions_at tokens) ∙ ap (λ (r : Option (List Token)). if eq_ℚ prob action.prob then r else None) (chance_repeats actions tokens) ∙ behind_test (eq_ℚ prob action.prob) tokens (all_repeated_at None actions)
+    repeats_on one action actions (chance_actions_at tokens) ∙ ap (λ (r : Option (List Token)). if eq_ℚ prob action.prob then r else None) (chance_repeats actions tokens) ∙ after_test (eq_ℚ prob action.prob) tokens (all_repeated_at None actions)
 chance_repeats (action ∷ actions) (Text name ∷ tokens) = refl
 chance_repeats (action ∷ actions) tokens = never (right_at tokens)
 
 -- a player's actions repeat these, and are closed
-own_repeats : (i : ℕ) (actions : List Action) (tokens : List Token) → AllByRecursion (HasNoProbability (Some i)) actions → (actions_at (Some i) tokens >>= repeated_behind actions) ≡ (all_repeated_at (Some i) actions tokens >>= right_at)
+own_repeats : (i : ℕ) (actions : List Action) (tokens : List Token) → AllByRecursion (HasNoProbability (Some i)) actions → (actions_at (Some i) tokens >>= repeated_after actions) ≡ (all_repeated_at (Some i) actions tokens >>= right_at)
 own_repeats i [] (Text name ∷ tokens) h = never (right_at (texts_at tokens).1)
 own_repeats i [] tokens h = closed_as_it_is (right_at tokens)
 own_repeats i (action ∷ actions) (Text name ∷ tokens) h = rw (h.0, eq_self eq_ℚ eq_ℚ-decides zero_ℚ) (own_repeats i actions tokens h.1)
 own_repeats i (action ∷ actions) tokens h = never (right_at tokens)
 
 -- actions repeat these, and are closed
-actions_repeat : (owner : Option ℕ) (actions : List Action) (tokens : List Token) → All (HasNoProbability owner) actions → (actions_at owner tokens >>= repeated_behind actions) ≡ (all_repeated_at owner actions tokens >>= right_at)
+actions_repeat : (owner : Option ℕ) (actions : List Action) (tokens : List Token) → All (HasNoProbability owner) actions → (actions_at owner tokens >>= repeated_after actions) ≡ (all_repeated_at owner actions tokens >>= right_at)
 actions_repeat None actions tokens h = chance_repeats actions tokens
 actions_repeat (Some i) actions tokens h = own_repeats i actions tokens (recursion_from_All (HasNoProbability (Some i)) actions h)
 
@@ -247,7 +247,7 @@ compared_closed : (actions list : List Action) (closed : Option (List Token)) �
 compared_closed actions list None = refl
 compared_closed actions list (Some rest) = refl
 
-list_repeats : (actions : List Action) (reading : Listed) → 0 < length actions → compared_list actions (reading >>= closed_list) ≡ (reading >>= repeated_behind actions)
+list_repeats : (actions : List Action) (reading : Listed) → 0 < length actions → compared_list actions (reading >>= closed_list) ≡ (reading >>= repeated_after actions)
 list_repeats actions None some = refl
 list_repeats actions (Some x) some = compared_closed actions x.0 (closed_at (length x.0) x.1) ∙ counted (right_at x.1) (length x.0) (repeats_actions actions (Some x.0)) (repeats_some actions x.0 some)
 

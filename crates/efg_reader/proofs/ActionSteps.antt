@@ -26,27 +26,27 @@ abbrev pub Summed : Type 0
 Summed = Parsed EfgKind (List Action × ℚ)
 
 -- what was read before, and what is still read
-abbrev pub behind_actions : List Action → Summed → Summed
-behind_actions front reading = reading >>= λ x. Ok ((front ++ x.0.0, x.0.1), x.1)
+abbrev pub after_actions : List Action → Summed → Summed
+after_actions front reading = reading >>= λ x. Ok ((front ++ x.0.0, x.0.1), x.1)
 
 -- one more in front
-behind_one : (front : List Action) (one : Action) (reading : Summed) → behind_actions front (chain {B = (List Action × ℚ) × List Token} reading (λ x. Ok ((one ∷ x.0.0, x.0.1), x.1))) ≡ behind_actions (front ++ one ∷ []) reading
-behind_one front one (Ok x) = ap (λ (xs : List Action). Ok ((xs, x.0.1), x.1)) (simp append_assoc)
-behind_one front one (Err fault) = refl
+after_one : (front : List Action) (one : Action) (reading : Summed) → after_actions front (chain {B = (List Action × ℚ) × List Token} reading (λ x. Ok ((one ∷ x.0.0, x.0.1), x.1))) ≡ after_actions (front ++ one ∷ []) reading
+after_one front one (Ok x) = ap (λ (xs : List Action). Ok ((xs, x.0.1), x.1)) (simp append_assoc)
+after_one front one (Err fault) = refl
 
 -- an action was read
 pub summed_goes_on : (set : ℕ) (front : List Action) (sum next prob : ℚ) (name : List ℕ) (tokens after rest : List Token) (total : Summed) → text_at tokens ≡ Some (name, after) → number_at after ≡ Some (prob, rest) → Ok next ≡ sum_with set sum prob
-    → behind_actions front (parse_chances set sum tokens) ≡ total → behind_actions (front ++ (record { name = name; prob = prob }) ∷ []) (parse_chances set next rest) ≡ total
+    → after_actions front (parse_chances set sum tokens) ≡ total → after_actions (front ++ (record { name = name; prob = prob }) ∷ []) (parse_chances set next rest) ≡ total
 summed_goes_on set front sum next prob name tokens after rest total t n may so_far =
     let one : Action = record { name = name; prob = prob } in
-    let step : behind_actions front (parse_chances set sum tokens) ≡ behind_actions (front ++ one ∷ []) (parse_chances set next rest) = rw (text_is tokens (name, after) t, number_is after (prob, rest) n, ← may) (behind_one front one (parse_chances set next rest)) in
+    let step : after_actions front (parse_chances set sum tokens) ≡ after_actions (front ++ one ∷ []) (parse_chances set next rest) = rw (text_is tokens (name, after) t, number_is after (prob, rest) n, ← may) (after_one front one (parse_chances set next rest)) in
     sym step ∙ so_far
 
 -- its probability may not follow
 pub summed_stops : (set : ℕ) (front : List Action) (sum prob : ℚ) (kind : EfgKind) (name : List ℕ) (tokens after rest : List Token) (refusal : Refusal EfgKind) (total : Summed) → text_at tokens ≡ Some (name, after) → number_at after ≡ Some (prob, rest) → Err kind ≡ sum_with set sum prob
-    → refusal ≡ refusals.Unfit kind (length after) → behind_actions front (parse_chances set sum tokens) ≡ total → IsRefusal refusal total
+    → refusal ≡ refusals.Unexpected kind (length after) → after_actions front (parse_chances set sum tokens) ≡ total → IsRefusal refusal total
 summed_stops set front sum prob kind name tokens after rest refusal total t n may u so_far =
-    let step : behind_actions front (parse_chances set sum tokens) ≡ Err (kind, after) = rw (text_is tokens (name, after) t, number_is after (prob, rest) n, ← may) refl in
+    let step : after_actions front (parse_chances set sum tokens) ≡ Err (kind, after) = rw (text_is tokens (name, after) t, number_is after (prob, rest) n, ← may) refl in
     rw (u, ← so_far, step) refl
 
 -- a name without a probability
@@ -55,10 +55,10 @@ no_number set sum name (Number prob ∷ rest) e = cc
 no_number set sum name _ e = refl
 
 -- no probability comes
-pub summed_lacks : (set : ℕ) (front : List Action) (sum : ℚ) (name : List ℕ) (tokens after : List Token) (refusal : Refusal EfgKind) (total : Summed) → text_at tokens ≡ Some (name, after) → number_at after ≡ None → refusal ≡ refusals.Unfit Node (length after)
-    → behind_actions front (parse_chances set sum tokens) ≡ total → IsRefusal refusal total
+pub summed_lacks : (set : ℕ) (front : List Action) (sum : ℚ) (name : List ℕ) (tokens after : List Token) (refusal : Refusal EfgKind) (total : Summed) → text_at tokens ≡ Some (name, after) → number_at after ≡ None → refusal ≡ refusals.Unexpected Node (length after)
+    → after_actions front (parse_chances set sum tokens) ≡ total → IsRefusal refusal total
 summed_lacks set front sum name tokens after refusal total t n u so_far =
-    let step : behind_actions front (parse_chances set sum tokens) ≡ Err (Node, after) = rw (text_is tokens (name, after) t, no_number set sum name after n) refl in
+    let step : after_actions front (parse_chances set sum tokens) ≡ Err (Node, after) = rw (text_is tokens (name, after) t, no_number set sum name after n) refl in
     rw (u, ← so_far, step) refl
 
 -- no action comes
@@ -67,9 +67,9 @@ no_text set sum (Text name ∷ rest) e = cc
 no_text set sum _ e = refl
 
 -- all were read
-pub summed_done : (set : ℕ) (front : List Action) (sum : ℚ) (tokens : List Token) (total : Summed) → text_at tokens ≡ None → behind_actions front (parse_chances set sum tokens) ≡ total → total ≡ Ok ((front, sum), tokens)
+pub summed_done : (set : ℕ) (front : List Action) (sum : ℚ) (tokens : List Token) (total : Summed) → text_at tokens ≡ None → after_actions front (parse_chances set sum tokens) ≡ total → total ≡ Ok ((front, sum), tokens)
 summed_done set front sum tokens total t so_far =
-    let step : behind_actions front (parse_chances set sum tokens) ≡ Ok ((front, sum), tokens) = rw (no_text set sum tokens t) (ap (λ (xs : List Action). Ok ((xs, sum), tokens)) (append-nil front)) in
+    let step : after_actions front (parse_chances set sum tokens) ≡ Ok ((front, sum), tokens) = rw (no_text set sum tokens t) (ap (λ (xs : List Action). Ok ((xs, sum), tokens)) (append-nil front)) in
     sym so_far ∙ step
 
 pub ruleset summed_steps = (summed_goes_on, summed_stops, summed_lacks, summed_done)
@@ -105,11 +105,11 @@ pub ruleset repeat_steps = (repeats_go_on, repeats_stop)
 
 -- ---- first lists
 -- no list comes
-pub first_lacks : (owner : Option ℕ) (set : ℕ) (tokens : List Token) (refusal : Refusal EfgKind) → left_at tokens ≡ None → refusal ≡ refusals.Unfit SetMismatch (length tokens) → IsRefusal refusal (parse_first_list owner set tokens)
+pub first_lacks : (owner : Option ℕ) (set : ℕ) (tokens : List Token) (refusal : Refusal EfgKind) → left_at tokens ≡ None → refusal ≡ refusals.Unexpected SetMismatch (length tokens) → IsRefusal refusal (parse_first_list owner set tokens)
 unfolding parse_first_list
 first_lacks owner set tokens refusal none u = rw (none, u) refl
 
--- the list of a player, and of chance, behind its brace
+-- the list of a player, and of chance, after its brace
 pub first_own : (owner : Option ℕ) (i set : ℕ) (tokens inner : List Token) → owner ≡ Some i → left_at tokens ≡ Some inner → parse_first_list owner set tokens ≡ parse_own_list inner
 unfolding parse_first_list
 first_own owner i set tokens inner o l = rw (o, l) refl
@@ -119,18 +119,18 @@ unfolding parse_first_list
 first_chance owner set tokens inner o l = rw (o, l) refl
 
 -- a player's list that is not closed, and one that is
-pub own_open : (owner : Option ℕ) (i set n : ℕ) (tokens inner behind : List Token) (actions : List Action) (refusal : Refusal EfgKind) → owner ≡ Some i → left_at tokens ≡ Some inner → ◌≡◌ {A = Parsed EfgKind (List Action)} (Ok (map own_action (texts_at inner).0, (texts_at inner).1)) (Ok (actions, behind)) → n ≡ length actions
-    → IsRefusal refusal (parse_closed n behind) → IsRefusal refusal (parse_first_list owner set tokens)
-own_open owner i set n tokens inner behind actions refusal o l a e r =
-    let same : (map own_action (texts_at inner).0, (texts_at inner).1) ≡ (actions, behind) = ok_same (map own_action (texts_at inner).0, (texts_at inner).1) (actions, behind) a in
+pub own_open : (owner : Option ℕ) (i set n : ℕ) (tokens inner following : List Token) (actions : List Action) (refusal : Refusal EfgKind) → owner ≡ Some i → left_at tokens ≡ Some inner → ◌≡◌ {A = Parsed EfgKind (List Action)} (Ok (map own_action (texts_at inner).0, (texts_at inner).1)) (Ok (actions, following)) → n ≡ length actions
+    → IsRefusal refusal (parse_closed n following) → IsRefusal refusal (parse_first_list owner set tokens)
+own_open owner i set n tokens inner following actions refusal o l a e r =
+    let same : (map own_action (texts_at inner).0, (texts_at inner).1) ≡ (actions, following) = ok_same (map own_action (texts_at inner).0, (texts_at inner).1) (actions, following) a in
     let size : n ≡ length (map own_action (texts_at inner).0) = e ∙ sym (ap (λ (x : List Action × List Token). length x.0) same) in
-    let rest : behind ≡ (texts_at inner).1 = sym (ap (λ (x : List Action × List Token). x.1) same) in
+    let rest : following ≡ (texts_at inner).1 = sym (ap (λ (x : List Action × List Token). x.1) same) in
     rw (first_own owner i set tokens inner o l, own_list_by n inner size) (refused_first refusal (parse_closed n (texts_at inner).1) _ (subst (λ (q : List Token). IsRefusal refusal (parse_closed n q)) rest r))
 
-pub own_closed : (owner : Option ℕ) (i set n : ℕ) (tokens inner behind rest : List Token) (actions : List Action) → owner ≡ Some i → left_at tokens ≡ Some inner → ◌≡◌ {A = Parsed EfgKind (List Action)} (Ok (map own_action (texts_at inner).0, (texts_at inner).1)) (Ok (actions, behind)) → n ≡ length actions
-    → parse_closed n behind ≡ Ok (tt, rest) → parse_first_list owner set tokens ≡ Ok (actions, rest)
-own_closed owner i set n tokens inner behind rest actions o l a e c =
-    let same : (map own_action (texts_at inner).0, (texts_at inner).1) ≡ (actions, behind) = ok_same (map own_action (texts_at inner).0, (texts_at inner).1) (actions, behind) a in
+pub own_closed : (owner : Option ℕ) (i set n : ℕ) (tokens inner following rest : List Token) (actions : List Action) → owner ≡ Some i → left_at tokens ≡ Some inner → ◌≡◌ {A = Parsed EfgKind (List Action)} (Ok (map own_action (texts_at inner).0, (texts_at inner).1)) (Ok (actions, following)) → n ≡ length actions
+    → parse_closed n following ≡ Ok (tt, rest) → parse_first_list owner set tokens ≡ Ok (actions, rest)
+own_closed owner i set n tokens inner following rest actions o l a e c =
+    let same : (map own_action (texts_at inner).0, (texts_at inner).1) ≡ (actions, following) = ok_same (map own_action (texts_at inner).0, (texts_at inner).1) (actions, following) a in
     let size : n ≡ length (map own_action (texts_at inner).0) = e ∙ sym (ap (λ (x : List Action × List Token). length x.0) same) in
     let closed : parse_closed n (texts_at inner).1 ≡ Ok (tt, rest) = subst (λ (q : List Token). parse_closed n q ≡ Ok (tt, rest)) (sym (ap (λ (x : List Action × List Token). x.1) same)) c in
     rw (first_own owner i set tokens inner o l, own_list_by n inner size, closed) (ap (λ (x : List Action × List Token). Ok (x.0, rest)) same)
@@ -140,24 +140,24 @@ pub chance_stops : (owner : Option ℕ) (set : ℕ) (tokens inner : List Token) 
 unfolding parse_chance_list
 chance_stops owner set tokens inner refusal o l r = rw (first_chance owner set tokens inner o l) (refused_first refusal (parse_chances set zero_ℚ inner) _ r)
 
-pub chance_open : (owner : Option ℕ) (set n : ℕ) (tokens inner behind : List Token) (actions : List Action) (sum : ℚ) (refusal : Refusal EfgKind) → owner ≡ None → left_at tokens ≡ Some inner → parse_chances set zero_ℚ inner ≡ Ok ((actions, sum), behind) → n ≡ length actions
-    → IsRefusal refusal (parse_closed n behind) → IsRefusal refusal (parse_first_list owner set tokens)
+pub chance_open : (owner : Option ℕ) (set n : ℕ) (tokens inner following : List Token) (actions : List Action) (sum : ℚ) (refusal : Refusal EfgKind) → owner ≡ None → left_at tokens ≡ Some inner → parse_chances set zero_ℚ inner ≡ Ok ((actions, sum), following) → n ≡ length actions
+    → IsRefusal refusal (parse_closed n following) → IsRefusal refusal (parse_first_list owner set tokens)
 unfolding parse_chance_list
-chance_open owner set n tokens inner behind actions sum refusal o l a e r =
-    rw (first_chance owner set tokens inner o l, a) (refused_first refusal (parse_closed (length actions) behind) _ (subst (λ (m : ℕ). IsRefusal refusal (parse_closed m behind)) e r))
+chance_open owner set n tokens inner following actions sum refusal o l a e r =
+    rw (first_chance owner set tokens inner o l, a) (refused_first refusal (parse_closed (length actions) following) _ (subst (λ (m : ℕ). IsRefusal refusal (parse_closed m following)) e r))
 
-pub chance_differs : (owner : Option ℕ) (set n : ℕ) (tokens inner behind rest : List Token) (actions : List Action) (sum : ℚ) (refusal : Refusal EfgKind) → owner ≡ None → left_at tokens ≡ Some inner → parse_chances set zero_ℚ inner ≡ Ok ((actions, sum), behind) → n ≡ length actions
-    → parse_closed n behind ≡ Ok (tt, rest) → eq_ℚ sum one_ℚ ≡ false → refusal ≡ refusals.Unfit (Probability set sum) (length behind) → IsRefusal refusal (parse_first_list owner set tokens)
+pub chance_differs : (owner : Option ℕ) (set n : ℕ) (tokens inner following rest : List Token) (actions : List Action) (sum : ℚ) (refusal : Refusal EfgKind) → owner ≡ None → left_at tokens ≡ Some inner → parse_chances set zero_ℚ inner ≡ Ok ((actions, sum), following) → n ≡ length actions
+    → parse_closed n following ≡ Ok (tt, rest) → eq_ℚ sum one_ℚ ≡ false → refusal ≡ refusals.Unexpected (Probability set sum) (length following) → IsRefusal refusal (parse_first_list owner set tokens)
 unfolding parse_chance_list
-chance_differs owner set n tokens inner behind rest actions sum refusal o l a e c t u =
-    let closed : parse_closed (length actions) behind ≡ Ok (tt, rest) = subst (λ (m : ℕ). parse_closed m behind ≡ Ok (tt, rest)) e c in
+chance_differs owner set n tokens inner following rest actions sum refusal o l a e c t u =
+    let closed : parse_closed (length actions) following ≡ Ok (tt, rest) = subst (λ (m : ℕ). parse_closed m following ≡ Ok (tt, rest)) e c in
     rw (first_chance owner set tokens inner o l, a, closed, t, u) refl
 
-pub chance_closed : (owner : Option ℕ) (set n : ℕ) (tokens inner behind rest : List Token) (actions : List Action) (sum : ℚ) → owner ≡ None → left_at tokens ≡ Some inner → parse_chances set zero_ℚ inner ≡ Ok ((actions, sum), behind) → n ≡ length actions
-    → parse_closed n behind ≡ Ok (tt, rest) → eq_ℚ sum one_ℚ ≡ true → parse_first_list owner set tokens ≡ Ok (actions, rest)
+pub chance_closed : (owner : Option ℕ) (set n : ℕ) (tokens inner following rest : List Token) (actions : List Action) (sum : ℚ) → owner ≡ None → left_at tokens ≡ Some inner → parse_chances set zero_ℚ inner ≡ Ok ((actions, sum), following) → n ≡ length actions
+    → parse_closed n following ≡ Ok (tt, rest) → eq_ℚ sum one_ℚ ≡ true → parse_first_list owner set tokens ≡ Ok (actions, rest)
 unfolding parse_chance_list
-chance_closed owner set n tokens inner behind rest actions sum o l a e c t =
-    let closed : parse_closed (length actions) behind ≡ Ok (tt, rest) = subst (λ (m : ℕ). parse_closed m behind ≡ Ok (tt, rest)) e c in
+chance_closed owner set n tokens inner following rest actions sum o l a e c t =
+    let closed : parse_closed (length actions) following ≡ Ok (tt, rest) = subst (λ (m : ℕ). parse_closed m following ≡ Ok (tt, rest)) e c in
     rw (first_chance owner set tokens inner o l, a, closed, t) refl
 
 pub ruleset list_steps = (first_lacks, own_open, own_closed, chance_stops, chance_open, chance_differs, chance_closed)

@@ -28,7 +28,7 @@ use Rattle.efg_reader.specs.declared.kinds.EfgKind.TheVariants.{Node, Probabilit
 use Rattle.efg_reader.proofs.SetLaws.{closed_is}
 use Rattle.efg_reader.proofs.ChanceReaders.{may_come}
 use Rattle.efg_reader.proofs.Within.{Within, bind_within, pure_within}
-use Rattle.efg_reader.proofs.Stops.{GoesTo, stop_kind, not_earlier, not_behind}
+use Rattle.efg_reader.proofs.Stops.{GoesTo, stop_kind, not_earlier, not_after}
 
 -- ---- sums
 -- a first probability goes to the sum before it
@@ -83,7 +83,7 @@ chances_read set sum (Text name ∷ rest) x e = absurd (ok_err x (Node, rest) (s
 chances_read set sum tokens x e = subst (AreRead sum tokens) (ok_same (([], sum), tokens) x e) (refl, sym (+ℚ-zero sum))
 
 -- ---- where the actions stop
--- a name comes behind whole actions, and what follows it is no number, or one that may not come
+-- a name comes after whole actions, and what follows it is no number, or one that may not come
 record ChancesStop (set : ℕ) (sum : ℚ) (tokens : List Token) (kind : EfgKind) (rest : List Token) : Type 0 where
   pub actions : List Action
   pub name : List ℕ
@@ -124,7 +124,7 @@ chances_within set sum = record {
       (flat_map (action_tokens None) s.actions ++ Text s.name ∷ [], s.are ∙ sym (append_assoc (flat_map (action_tokens None) s.actions) (Text s.name ∷ []) f.1));
 }
 
--- ---- the brace behind them
+-- ---- the brace after them
 -- what follows actions with their sum
 abbrev closing : ℕ → List Action × ℚ → List Token → Parsed EfgKind (List Action)
 closing set x tokens = parse_closed (length x.0) tokens >>= λ rest. if eq_ℚ x.1 one_ℚ then Ok (x.0, rest.1) else Err (Probability set x.1, tokens)
@@ -170,7 +170,7 @@ closing_within set x = record {
     by false tokens rest y c e = absurd (ok_err y (Probability set x.1, tokens) (sym e))
 
 -- ---- where the list stops
--- inside a list of chance: a probability comes that may not, or the brace behind actions whose sum is another
+-- inside a list of chance: a probability comes that may not, or the brace after actions whose sum is another
 abbrev pub ChanceListStops : ℕ → List Token → EfgKind → List Token → Type 0
 ChanceListStops set tokens kind rest = (actions : List Action) × (list : List Token) × (tokens ≡ list ++ rest)
     × ((WantsProbability actions list × (v : ℚ) × NumberComes v rest × (sum_with set (sum_of actions) v ≡ Err kind))
@@ -180,7 +180,7 @@ pub chance_list_stops : (set : ℕ) (inner : List Token) (kind : EfgKind) (rest 
 unfolding parse_chance_list
 chance_list_stops set inner kind rest e = elim (bind_err (parse_chances set zero_ℚ inner) (λ x. closing set x.0 x.1) (kind, rest) e) [
   | inl f ↦ in_actions (chances_stop set zero_ℚ inner (kind, rest) f)
-  | inr a ↦ behind a.0 (chances_read set zero_ℚ inner a.0 a.1) (closing_stop set a.0.0 a.0.1 (kind, rest) a.2)
+  | inr a ↦ following a.0 (chances_read set zero_ℚ inner a.0 a.1) (closing_stop set a.0.0 a.0.1 (kind, rest) a.2)
 ]
   where
     in_actions : ChancesStop set zero_ℚ inner kind rest → (kind ≡ Node) ⊎ ChanceListStops set (Left ∷ inner) kind rest
@@ -196,15 +196,15 @@ chance_list_stops set inner kind rest e = elim (bind_err (parse_chances set zero
         by (inl n) = inl n
         by (inr w) = inr (s.actions, list, all, inl ((s.name, refl), w.0, w.1, ap (λ (q : ℚ). sum_with set q w.0) (sym (zero-+ℚ (sum_of s.actions))) ∙ w.2))
 
-    behind : (x : (List Action × ℚ) × List Token) → AreRead zero_ℚ inner x → (x.1 ≡ rest) × ((kind ≡ Node) ⊎ ((1 ≤ length x.0.0) × BraceComes x.1 × (kind ≡ Probability set x.0.1))) → (kind ≡ Node) ⊎ ChanceListStops set (Left ∷ inner) kind rest
-    behind x r (place, inl n) = inl n
-    behind x r (place, inr w) =
+    following : (x : (List Action × ℚ) × List Token) → AreRead zero_ℚ inner x → (x.1 ≡ rest) × ((kind ≡ Node) ⊎ ((1 ≤ length x.0.0) × BraceComes x.1 × (kind ≡ Probability set x.0.1))) → (kind ≡ Node) ⊎ ChanceListStops set (Left ∷ inner) kind rest
+    following x r (place, inl n) = inl n
+    following x r (place, inr w) =
         let total : x.0.1 ≡ sum_of x.0.0 = r.1 ∙ zero-+ℚ (sum_of x.0.0) in
         let all : Left ∷ inner ≡ (Left ∷ flat_map (action_tokens None) x.0.0) ++ rest = ap (λ (q : List Token). Left ∷ q) (r.0 ∙ ap (λ (q : List Token). flat_map (action_tokens None) x.0.0 ++ q) place) in
         inr (x.0.0, Left ∷ flat_map (action_tokens None) x.0.0, all, inr (refl, w.0, (w.1.0, sym place ∙ w.1.1), w.2 ∙ ap (λ (q : ℚ). Probability set q) total))
 
 -- ---- which kind it is
--- behind whole actions
+-- after whole actions
 abbrev with_actions : List Action → (List Action × ℚ) × List Token → Parsed EfgKind (List Action × ℚ)
 with_actions actions more = Ok ((actions ++ more.0.0, more.0.1), more.1)
 
@@ -248,7 +248,7 @@ probability_kind set actions name v r kind g = elim (list_pass set actions (Text
   | inr e ↦ elim (result_of (sum_with set (sum_of actions) v)) [
     | inl n ↦
         let same : parse_chance_list set (flat_map (action_tokens None) actions ++ Text name ∷ Number v ∷ r) ≡ onward n.0 r = e ∙ rw n.1 refl in
-        absurd (not_behind (onward n.0) (onward_within n.0) kind (Number v) r (subst (λ (o : Parsed EfgKind (List Action)). GoesTo o kind (Number v ∷ r)) same g))
+        absurd (not_after (onward n.0) (onward_within n.0) kind (Number v) r (subst (λ (o : Parsed EfgKind (List Action)). GoesTo o kind (Number v ∷ r)) same g))
     | inr k ↦
         let same : parse_chance_list set (flat_map (action_tokens None) actions ++ Text name ∷ Number v ∷ r) ≡ Err (k.0, Number v ∷ r) = e ∙ rw k.1 refl in
         k.1 ∙ ap (λ (z : EfgKind). Err z) (sym (stop_kind (parse_chance_list set (flat_map (action_tokens None) actions ++ Text name ∷ Number v ∷ r)) kind k.0 (Number v ∷ r) (Number v ∷ r) same g))
@@ -281,7 +281,7 @@ brace_kind set actions r kind some g = elim (list_pass set actions (Right ∷ r)
     by h = elim (cases_Bool (eq_ℚ (sum_of actions) one_ℚ)) [
       | inl e ↦
           let same : closing set (actions, sum_of actions) (Right ∷ r) ≡ Ok (actions, r) = rw (le_passes 1 (length actions) some, e) refl in
-          absurd (not_behind (λ q. Ok (actions, q)) (pure_within actions) kind Right r (subst (λ (o : Parsed EfgKind (List Action)). GoesTo o kind (Right ∷ r)) same h))
+          absurd (not_after (λ q. Ok (actions, q)) (pure_within actions) kind Right r (subst (λ (o : Parsed EfgKind (List Action)). GoesTo o kind (Right ∷ r)) same h))
       | inr e ↦
           let same : closing set (actions, sum_of actions) (Right ∷ r) ≡ Err (Probability set (sum_of actions), Right ∷ r) = rw (le_passes 1 (length actions) some, e) refl in
           stop_kind (closing set (actions, sum_of actions) (Right ∷ r)) kind (Probability set (sum_of actions)) (Right ∷ r) (Right ∷ r) same h

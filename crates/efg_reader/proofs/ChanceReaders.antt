@@ -86,12 +86,12 @@ left : (sum : ℚ) → IsReached sum → Rest sum
 left sum r = goes_to_one sum r.not_negative r.within r.fits
 
 -- ---- the list
--- the brace that closes actions with their sum, which come behind so many
+-- the brace that closes actions with their sum, which come after so many
 abbrev finish : {X : Type 0} → (List Action → X) → ℕ → ℕ → Parsed EfgKind (List Action × ℚ) → Parsed EfgKind X
 finish f set count o =
     o >>= λ a. parse_closed (count + length a.0.0) a.1 >>= λ rest. if eq_ℚ a.0.1 one_ℚ then Ok (f a.0.0, rest.1) else Err (Probability set a.0.1, a.1)
 
--- actions of chance up to the brace that closes them, behind so many with this sum
+-- actions of chance up to the brace that closes them, after so many with this sum
 closed_chances : {X : Type 0} → (List Action → X) → ℕ → ℕ → ℚ → List Token → Parsed EfgKind X
 closed_chances f set count sum tokens = finish f set count (parse_chances set sum tokens)
 
@@ -113,7 +113,7 @@ stops_there : {X : Type 0} (f : List Action → X) (set count : ℕ) (sum prob :
 unfolding closed_chances
 stops_there f set count sum prob kind name rest e = rw e refl
 
--- the brace behind so many actions whose sum is 1
+-- the brace after so many actions whose sum is 1
 closes_here : {X : Type 0} (f : List Action → X) (set count : ℕ) (rest : List Token) → closed_chances f set (suc count) one_ℚ (Right ∷ rest) ≡ Ok (f [], rest)
 unfolding closed_chances
 closes_here f set count rest =
@@ -168,7 +168,7 @@ stuck_first f set count sum r t rest kind h = record {
   goes_on = with_rest f set count sum r [];
 }
 
--- where reading stops behind a name
+-- where reading stops after a name
 stuck_second : {X : Type 0} (f : List Action → X) (set count : ℕ) (sum : ℚ) (r : IsReached sum) (name : List ℕ) (t : Token) (rest : List Token) (kind : EfgKind) → ((more : List Token) → closed_chances f set count sum (Text name ∷ t ∷ more) ≡ Err (kind, t ∷ more)) → IsStuck (closed_chances f set count sum) (Text name ∷ t ∷ rest) kind (t ∷ rest)
 stuck_second f set count sum r name t rest kind h = record {
   before = Text name ∷ [];

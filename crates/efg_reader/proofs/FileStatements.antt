@@ -2,7 +2,7 @@
 use Rattle.std.proofs.Common.{◌<◌, ◌^◌, ◌≡◌, List, length, Some, None, Ok, Err}
 use Rattle.game_core.specs.declared.too_large.What.{What}
 use Rattle.game_core.specs.Tree.{GameTree}
-use Rattle.written_trees.specs.Building.{Begun, tree_begun}
+use Rattle.written_trees.specs.Building.{PartialTree, tree_so_far}
 use Rattle.efg_reader.specs.TreeFile.{IsTreeFile, PassesLimit}
 use Rattle.efg_reader.specs.TreeReading.{Head, front_at, whole_nodes_at}
 use Rattle.game_core.specs.declared.token.Token.{Token}
@@ -15,8 +15,8 @@ pub record StandForNothing (tokens : List Token) : Type 0 where
 -- what is read is a file of the tree
 abbrev pub ReadIsFile : Type 0
 ReadIsFile =
-    (tokens : List Token) (x : Head × List Token) (begun : Begun) → length x.0.1 < 2 ^ 32 → front_at tokens ≡ Some x → whole_nodes_at (length x.0.1) x.1 ≡ Ok begun
-    → IsTreeFile tokens (tree_begun x.0.0 x.0.1 begun)
+    (tokens : List Token) (x : Head × List Token) (partial : PartialTree) → length x.0.1 < 2 ^ 32 → front_at tokens ≡ Some x → whole_nodes_at (length x.0.1) x.1 ≡ Ok partial
+    → IsTreeFile tokens (tree_so_far x.0.0 x.0.1 partial)
 
 -- a limit that is met is passed
 abbrev pub MetIsPassed : Type 0

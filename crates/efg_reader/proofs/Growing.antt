@@ -1,4 +1,4 @@
--- The nodes with free places as the code keeps them, and as the tree grows.
+-- The nodes with open branches as the code keeps them, and as the tree grows.
 use Rattle.std.proofs.Common.{◌≡◌, ℕ, zero, suc, ◌+◌, ◌<◌, ◌≤◌, nat_lt, nat_le, Bool, true, false, cond, List, [], ◌∷◌, ◌++◌, length, map, reverse, slice_get, slice_set, slice_index_or, option_map, Option, Some, None, refl, sym, ap, ◌∙◌, subst, arith}
 use Rattle.std.proofs.lemmas.Bool.Decides.{nat_tests}
 use Rattle.std.proofs.lemmas.List.{reverse-append, map-append}
@@ -10,10 +10,10 @@ use Rattle.game_core.specs.declared.too_large.What.{What}
 use Rattle.game_core.specs.declared.too_large.What.TheVariants.{Nodes, Depth}
 use Rattle.game_core.specs.declared.tree.Node.{Node}
 use Rattle.game_core.specs.Tree.{most_nodes, most_depth}
-use Rattle.written_trees.specs.Building.{Begun, BegunSet, Branching, take_place, add_places, passed_at}
+use Rattle.written_trees.specs.Building.{PartialTree, PartialSet, Branching, take_branch, add_branches, passed_at}
 use Rattle.efg_reader.specs.declared.builder.Branching.{Branching as Kept}
-use Rattle.efg_reader.specs.declared.sets.SetBegun.{SetBegun}
-use Rattle.efg_reader.specs.Uses.{begun_set}
+use Rattle.efg_reader.specs.declared.sets.KeptSet.{KeptSet}
+use Rattle.efg_reader.specs.Uses.{partial_set}
 use Rattle.efg_reader.specs.States.{branching_of, branchings_of, IsNear, HasTaken}
 
 -- ---- a list kept in reverse
@@ -38,11 +38,11 @@ ends_with (x ∷ y ∷ list) (suc last) e =
     let more = ends_with (y ∷ list) last (omega arith) in
     record { front = x ∷ more.front; one = more.one; is = ap (λ rest. x ∷ rest) more.is; read = more.read; written = λ value. ap (λ rest. x ∷ rest) (more.written value) }
 
--- a branching that has further free places
+-- a branching that has further open branches
 abbrev pub with_next : Kept → Kept
 with_next b = record { node = b.node; next = b.next + 1; count = b.count; depth = b.depth }
 
-next_is : (b : Branching) (rest : List Branching) → b.next + 1 < b.count → take_place b rest ≡ record { node = b.node; next = b.next + 1; count = b.count; depth = b.depth } ∷ rest
+next_is : (b : Branching) (rest : List Branching) → b.next + 1 < b.count → take_branch b rest ≡ record { node = b.node; next = b.next + 1; count = b.count; depth = b.depth } ∷ rest
 next_is b rest lt =
     let plus : b.next + 1 ≡ suc b.next = omega arith in
     let test : nat_lt (suc b.next) b.count ≡ true = grind (arith, nat_tests) in
@@ -68,10 +68,10 @@ found_at list i x h =
     slice_get-get_or list i x lt ∙ ap Some (sym h.1)
 
 -- the action count of a set that is there
-pub count_found : (sets : List SetBegun) (s : ℕ) (set : SetBegun) → slice_get sets s ≡ Some set → slice_index_or (map (λ set. length set.actions) (map begun_set sets)) s 0 ≡ length set.actions.items
+pub count_found : (sets : List KeptSet) (s : ℕ) (set : KeptSet) → slice_get sets s ≡ Some set → slice_index_or (map (λ set. length set.actions) (map partial_set sets)) s 0 ≡ length set.actions.items
 count_found sets s set e =
-    get_or_from_slice_get (map (λ set. length set.actions) (map begun_set sets)) s (length set.actions.items) 0
-    (slice_get-map (λ (set : BegunSet). length set.actions) (map begun_set sets) s ∙ ap (option_map (λ (set : BegunSet). length set.actions)) (slice_get-map begun_set sets s ∙ ap (option_map begun_set) e))
+    get_or_from_slice_get (map (λ set. length set.actions) (map partial_set sets)) s (length set.actions.items) 0
+    (slice_get-map (λ (set : PartialSet). length set.actions) (map partial_set sets) s ∙ ap (option_map (λ (set : PartialSet). length set.actions)) (slice_get-map partial_set sets s ∙ ap (option_map partial_set) e))
 
 -- what holds of each of two lists in turn
 both_lists : (P : Branching → Type 0) (xs ys : List Branching) → AllByRecursion P (xs ++ ys) → AllByRecursion P xs × AllByRecursion P ys
@@ -93,7 +93,7 @@ near-longer nodes [] h = tt
 near-longer nodes (b ∷ rest) h = (record { next_within = omega (arith, h.0.next_within); depth_within = h.0.depth_within }, near-longer nodes rest h.1)
 
 -- when the first place is taken
-near-take : (nodes : ℕ) (b : Branching) (rest : List Branching) → AllByRecursion (IsNear nodes) (b ∷ rest) → AllByRecursion (IsNear (suc nodes)) (take_place b rest)
+near-take : (nodes : ℕ) (b : Branching) (rest : List Branching) → AllByRecursion (IsNear nodes) (b ∷ rest) → AllByRecursion (IsNear (suc nodes)) (take_branch b rest)
 near-take nodes b rest h = go (nat_lt (suc b.next) b.count)
   where
     go : (v : Bool) → AllByRecursion (IsNear (suc nodes)) (cond v (record { node = b.node; next = suc b.next; count = b.count; depth = b.depth } ∷ rest) rest)
@@ -101,7 +101,7 @@ near-take nodes b rest h = go (nat_lt (suc b.next) b.count)
     go false = near-longer nodes rest h.1
 
 -- when a node with places comes
-near-add : (nodes k count depth : ℕ) (rest : List Branching) → depth ≤ suc most_depth → AllByRecursion (IsNear nodes) rest → AllByRecursion (IsNear nodes) (add_places k count depth rest)
+near-add : (nodes k count depth : ℕ) (rest : List Branching) → depth ≤ suc most_depth → AllByRecursion (IsNear nodes) rest → AllByRecursion (IsNear nodes) (add_branches k count depth rest)
 near-add nodes k count depth rest le h = go (nat_lt 0 count)
   where
     go : (v : Bool) → AllByRecursion (IsNear nodes) (cond v (record { node = Some k; next = 0; count = count; depth = depth } ∷ rest) rest)
@@ -109,43 +109,43 @@ near-add nodes k count depth rest le h = go (nat_lt 0 count)
     go false = h
 
 -- no limit is passed
-pub has_room : (begun : Begun) (b : Branching) (rest : List Branching) → passed_at begun (b ∷ rest) ≡ None → (length begun.nodes < most_nodes) × (b.depth ≤ most_depth)
-has_room begun b rest e = first (nat_le most_nodes (length begun.nodes)) refl e
+pub has_room : (partial : PartialTree) (b : Branching) (rest : List Branching) → passed_at partial (b ∷ rest) ≡ None → (length partial.nodes < most_nodes) × (b.depth ≤ most_depth)
+has_room partial b rest e = first (nat_le most_nodes (length partial.nodes)) refl e
   where
     second : (w : Bool) → nat_lt most_depth b.depth ≡ w → ◌≡◌ {A = Option What} (cond w (Some Depth) None) None → b.depth ≤ most_depth
     second true f e = cc
     second false f e = grind (arith, nat_tests)
 
-    first : (v : Bool) → nat_le most_nodes (length begun.nodes) ≡ v → ◌≡◌ {A = Option What} (cond v (Some Nodes) (cond (nat_lt most_depth b.depth) (Some Depth) None)) None → (length begun.nodes < most_nodes) × (b.depth ≤ most_depth)
+    first : (v : Bool) → nat_le most_nodes (length partial.nodes) ≡ v → ◌≡◌ {A = Option What} (cond v (Some Nodes) (cond (nat_lt most_depth b.depth) (Some Depth) None)) None → (length partial.nodes < most_nodes) × (b.depth ≤ most_depth)
     first true f e = cc
     first false f e = (grind (arith, nat_tests), second (nat_lt most_depth b.depth) refl e)
 
 -- the branchings stay near as a node is added within the limits
-pub near_grown : (begun : Begun) (b : Branching) (rest : List Branching) (k count : ℕ) → passed_at begun (b ∷ rest) ≡ None → AllByRecursion (IsNear (length begun.nodes)) (b ∷ rest)
-    → AllByRecursion (IsNear (suc (length begun.nodes))) (add_places k count (suc b.depth) (take_place b rest))
-near_grown begun b rest k count room h = near-add _ k count (suc b.depth) (take_place b rest) (omega (arith, (has_room begun b rest room).1)) (near-take (length begun.nodes) b rest h)
+pub near_grown : (partial : PartialTree) (b : Branching) (rest : List Branching) (k count : ℕ) → passed_at partial (b ∷ rest) ≡ None → AllByRecursion (IsNear (length partial.nodes)) (b ∷ rest)
+    → AllByRecursion (IsNear (suc (length partial.nodes))) (add_branches k count (suc b.depth) (take_branch b rest))
+near_grown partial b rest k count room h = near-add _ k count (suc b.depth) (take_branch b rest) (omega (arith, (has_room partial b rest room).1)) (near-take (length partial.nodes) b rest h)
 
 -- the next action of each branching that is kept is a small number
-pub few_next : (begun : Begun) (kept : List Kept) → passed_at begun (branchings_of kept) ≡ None → AllByRecursion (IsNear (length begun.nodes)) (branchings_of kept) → All (λ b. b.next < 4294967295) kept
-few_next begun kept room near = each_kept (λ b. b.next < 4294967295) kept (go (branchings_of kept) room near)
+pub few_next : (partial : PartialTree) (kept : List Kept) → passed_at partial (branchings_of kept) ≡ None → AllByRecursion (IsNear (length partial.nodes)) (branchings_of kept) → All (λ b. b.next < 4294967295) kept
+few_next partial kept room near = each_kept (λ b. b.next < 4294967295) kept (go (branchings_of kept) room near)
   where
     small : (nodes : ℕ) (branchings : List Branching) → nodes < most_nodes → AllByRecursion (IsNear nodes) branchings → AllByRecursion (λ b. b.next < 4294967295) branchings
     small nodes [] lt h = tt
     small nodes (b ∷ rest) lt h = (omega (arith, h.0.next_within), small nodes rest lt h.1)
 
-    go : (branchings : List Branching) → passed_at begun branchings ≡ None → AllByRecursion (IsNear (length begun.nodes)) branchings → AllByRecursion (λ b. b.next < 4294967295) branchings
+    go : (branchings : List Branching) → passed_at partial branchings ≡ None → AllByRecursion (IsNear (length partial.nodes)) branchings → AllByRecursion (λ b. b.next < 4294967295) branchings
     go [] room near = tt
-    go (b ∷ rest) room near = small (length begun.nodes) (b ∷ rest) (has_room begun b rest room).0 near
+    go (b ∷ rest) room near = small (length partial.nodes) (b ∷ rest) (has_room partial b rest room).0 near
 
 -- the branchings after a node is added, as the code keeps them
-pub near_after : (begun : Begun) (place : Kept) (taken added : List Kept) (k count : ℕ) (nodes : List Node) → length nodes ≡ suc (length begun.nodes) → passed_at begun begun.branchings ≡ None
-    → AllByRecursion (IsNear (length begun.nodes)) begun.branchings → HasTaken begun.branchings (Some place) (branchings_of taken) → branchings_of added ≡ add_places k count (place.depth + 1) (branchings_of taken)
+pub near_after : (partial : PartialTree) (place : Kept) (taken added : List Kept) (k count : ℕ) (nodes : List Node) → length nodes ≡ suc (length partial.nodes) → passed_at partial partial.branchings ≡ None
+    → AllByRecursion (IsNear (length partial.nodes)) partial.branchings → HasTaken partial.branchings (Some place) (branchings_of taken) → branchings_of added ≡ add_branches k count (place.depth + 1) (branchings_of taken)
     → AllByRecursion (IsNear (length nodes)) (branchings_of added)
-near_after begun place taken added k count nodes longer room near was is = go begun.branchings room near was
+near_after partial place taken added k count nodes longer room near was is = go partial.branchings room near was
   where
-    go : (branchings : List Branching) → passed_at begun branchings ≡ None → AllByRecursion (IsNear (length begun.nodes)) branchings → HasTaken branchings (Some place) (branchings_of taken) → AllByRecursion (IsNear (length nodes)) (branchings_of added)
+    go : (branchings : List Branching) → passed_at partial branchings ≡ None → AllByRecursion (IsNear (length partial.nodes)) branchings → HasTaken branchings (Some place) (branchings_of taken) → AllByRecursion (IsNear (length nodes)) (branchings_of added)
     go [] room near was = cc
     go (b ∷ rest) room near was =
         let deep : place.depth + 1 ≡ suc b.depth = omega (arith, ap (λ (b : Branching). b.depth) was.0) in
-        let all : branchings_of added ≡ add_places k count (suc b.depth) (take_place b rest) = is ∙ rw (deep, was.1) refl in
-        rw (longer, all) (near_grown begun b rest k count room near)
+        let all : branchings_of added ≡ add_branches k count (suc b.depth) (take_branch b rest) = is ∙ rw (deep, was.1) refl in
+        rw (longer, all) (near_grown partial b rest k count room near)

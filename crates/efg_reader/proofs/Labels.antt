@@ -4,15 +4,15 @@ use Rattle.std.proofs.lemmas.Bool.Decides.{nat_tests}
 use Rattle.std.specs.Prelude.{Ok}
 use Rattle.std.specs.List.{AllByRecursion}
 use Rattle.game_core.specs.declared.token.Token.{Token}
-use Rattle.game_core.specs.InPlace.{IsShortToken}
+use Rattle.game_core.specs.Spacing.{IsShortToken}
 use Rattle.file_parts.specs.declared.refusal.Refusal.{Refusal}
-use Rattle.file_parts.specs.declared.refusal.Refusal.TheVariants.{Unfit}
+use Rattle.file_parts.specs.declared.refusal.Refusal.TheVariants.{Unexpected}
 use Rattle.file_parts.specs.Parts.{whole_number}
 use Rattle.file_parts.specs.Reading.{whole_at, label_at}
 use Rattle.file_parts.specs.Parsing.{IsRefusal}
 use Rattle.file_parts.proofs.TokenLaws.{whole_is, label_again, le_passes}
 use Rattle.file_parts.proofs.TokenReaders.{some_or_none}
-use Rattle.written_trees.specs.Building.{BegunOutcome}
+use Rattle.written_trees.specs.Building.{PartialOutcome}
 use Rattle.efg_reader.specs.TreeReading.{positive_at}
 use Rattle.efg_reader.specs.TreeParsing.{parse_named, parse_outcome}
 use Rattle.efg_reader.specs.declared.kinds.EfgKind.{EfgKind}
@@ -45,15 +45,15 @@ positive_zero tokens rest n short e h = let no : nat_le 1 n ≡ false = grind (a
 pub ruleset positives = (positive_lacks, positive_so, positive_zero)
 
 -- ---- the number of an outcome
-pub outcome_lacks : (players : ℕ) (outcomes : List BegunOutcome) (tokens : List Token) (refusal : Refusal EfgKind) → AllByRecursion IsShortToken tokens → label_at tokens ≡ None → refusal ≡ Unfit Node (length tokens) → IsRefusal refusal (parse_outcome players outcomes tokens)
+pub outcome_lacks : (players : ℕ) (outcomes : List PartialOutcome) (tokens : List Token) (refusal : Refusal EfgKind) → AllByRecursion IsShortToken tokens → label_at tokens ≡ None → refusal ≡ Unexpected Node (length tokens) → IsRefusal refusal (parse_outcome players outcomes tokens)
 unfolding parse_outcome
 outcome_lacks players outcomes tokens refusal short e u = rw (← label_fits tokens short, e, u) refl
 
-pub outcome_zero : (players : ℕ) (outcomes : List BegunOutcome) (tokens rest : List Token) (n : ℕ) → AllByRecursion IsShortToken tokens → label_at tokens ≡ Some (n, rest) → n ≡ 0 → parse_outcome players outcomes tokens ≡ Ok ((outcomes, None), rest)
+pub outcome_zero : (players : ℕ) (outcomes : List PartialOutcome) (tokens rest : List Token) (n : ℕ) → AllByRecursion IsShortToken tokens → label_at tokens ≡ Some (n, rest) → n ≡ 0 → parse_outcome players outcomes tokens ≡ Ok ((outcomes, None), rest)
 unfolding parse_outcome
 outcome_zero players outcomes tokens rest n short e z = rw (← label_fits tokens short, e, z) refl
 
-pub outcome_named : (players : ℕ) (outcomes : List BegunOutcome) (tokens rest : List Token) (n : ℕ) → AllByRecursion IsShortToken tokens → label_at tokens ≡ Some (n, rest) → nat_eq n 0 ≡ false → parse_outcome players outcomes tokens ≡ parse_named players n outcomes rest
+pub outcome_named : (players : ℕ) (outcomes : List PartialOutcome) (tokens rest : List Token) (n : ℕ) → AllByRecursion IsShortToken tokens → label_at tokens ≡ Some (n, rest) → nat_eq n 0 ≡ false → parse_outcome players outcomes tokens ≡ parse_named players n outcomes rest
 unfolding parse_outcome
 outcome_named players outcomes tokens rest n short e z = rw (← label_fits tokens short, e, z) refl
 

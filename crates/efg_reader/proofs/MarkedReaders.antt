@@ -1,4 +1,4 @@
--- Nodes are read token by token, up to a comma where a node may begin. No file has a comma there, so it may come behind any nodes.
+-- Nodes are read token by token, up to a comma where a node may begin. No file has a comma there, so it may come after any nodes.
 use Rattle.std.proofs.Common.{◌≡◌, ℕ, ◌-◌, ◌≤◌, List, [], ◌∷◌, ◌&&◌, if◌then◌else◌, nat_eq, nat_le, slice_get, Option, Some, None, ◌⊎◌, inl, inr, refl, arith}
 use Rattle.std.specs.Prelude.{Ok, Err}
 use Rattle.game_core.specs.declared.token.Token.{Token}
@@ -8,7 +8,7 @@ use Rattle.file_parts.specs.Parsing.{Parsed, ◌>>=◌, wanted}
 use Rattle.file_parts.proofs.Readers.{IsReader, bind_reader, same_reader, token_reader, result_of}
 use Rattle.file_parts.proofs.TokenReaders.{wanted_reader, tested_head, whole_is_head}
 use Rattle.file_parts.proofs.TokenLaws.{whole_again, le_passes}
-use Rattle.written_trees.specs.Building.{BegunSet, BegunOutcome, set_place, outcome_place}
+use Rattle.written_trees.specs.Building.{PartialSet, PartialOutcome, set_place, outcome_place}
 use Rattle.efg_reader.specs.TreeReading.{positive_at}
 use Rattle.efg_reader.specs.TreeParsing.{bare_use, bare_outcome_use, parse_outcome_use, parse_set, parse_named, parse_outcome, parse_player, parse_use, parse_first_list}
 use Rattle.efg_reader.proofs.SetLaws.{positive_again}
@@ -26,8 +26,8 @@ unfolding positive_at
 positive_reader = wanted_reader Node positive_at (tested_head whole_at whole_is_head (λ n. nat_le 1 n)) (whole_number 1) 1 (λ rest. positive_again 1 rest (omega arith))
 
 -- ---- outcomes
--- what follows an outcome behind its number
-named_then : {X : Type 0} (players label : ℕ) (outcomes : List BegunOutcome) (g : List BegunOutcome × Option ℕ → List Token → Parsed EfgKind X) (tokens : List Token)
+-- what follows an outcome after its number
+named_then : {X : Type 0} (players label : ℕ) (outcomes : List PartialOutcome) (g : List PartialOutcome × Option ℕ → List Token → Parsed EfgKind X) (tokens : List Token)
     → (parse_named players label outcomes tokens >>= λ x. g x.0 x.1) ≡ named (λ name. outcome_then players outcomes (bare_outcome_use label name) (slice_get outcomes (outcome_place outcomes label)) (λ more. g (more, Some (outcome_place outcomes label)))) tokens
 unfolding parse_named
 named_then players label outcomes g tokens =
@@ -39,48 +39,48 @@ chain_three (Ok x) f g = refl
 chain_three (Err fault) f g = refl
 
 -- what follows the number of an outcome
-behind_label : {X : Type 0} → ℕ → List BegunOutcome → (List BegunOutcome × Option ℕ → List Token → Parsed EfgKind X) → ℕ → List Token → Parsed EfgKind X
-behind_label players outcomes g label tokens = (if nat_eq label 0 then Ok ((outcomes, None), tokens) else parse_named players label outcomes tokens) >>= λ x. g x.0 x.1
+after_label : {X : Type 0} → ℕ → List PartialOutcome → (List PartialOutcome × Option ℕ → List Token → Parsed EfgKind X) → ℕ → List Token → Parsed EfgKind X
+after_label players outcomes g label tokens = (if nat_eq label 0 then Ok ((outcomes, None), tokens) else parse_named players label outcomes tokens) >>= λ x. g x.0 x.1
 
-behind_reader : {X : Type 0} (players : ℕ) (outcomes : List BegunOutcome) (g : List BegunOutcome × Option ℕ → List Token → Parsed EfgKind X) → ((x : List BegunOutcome × Option ℕ) → IsReader (g x))
-    → ((x : List BegunOutcome × Option ℕ) → ReadsNoBrace (g x)) → ((x : List BegunOutcome × Option ℕ) → ReadsNoText (g x)) → (label : ℕ) → IsReader (behind_label players outcomes g label)
-unfolding behind_label
-behind_reader {X} players outcomes g G N T label = elim (cases_Bool (nat_eq label 0)) [
-  | inl is ↦ same_reader (behind_label players outcomes g label) (g (outcomes, None)) (λ tokens. rw is refl) (G (outcomes, None))
+after_reader : {X : Type 0} (players : ℕ) (outcomes : List PartialOutcome) (g : List PartialOutcome × Option ℕ → List Token → Parsed EfgKind X) → ((x : List PartialOutcome × Option ℕ) → IsReader (g x))
+    → ((x : List PartialOutcome × Option ℕ) → ReadsNoBrace (g x)) → ((x : List PartialOutcome × Option ℕ) → ReadsNoText (g x)) → (label : ℕ) → IsReader (after_label players outcomes g label)
+unfolding after_label
+after_reader {X} players outcomes g G N T label = elim (cases_Bool (nat_eq label 0)) [
+  | inl is ↦ same_reader (after_label players outcomes g label) (g (outcomes, None)) (λ tokens. rw is refl) (G (outcomes, None))
   | inr is ↦
       let f : Option (List ℕ) → List Token → Parsed EfgKind X = λ name. outcome_then players outcomes (bare_outcome_use label name) (slice_get outcomes (outcome_place outcomes label)) (λ more. g (more, Some (outcome_place outcomes label))) in
-      same_reader (behind_label players outcomes g label) (named f) (λ tokens. rw is (named_then players label outcomes g tokens))
+      same_reader (after_label players outcomes g label) (named f) (λ tokens. rw is (named_then players label outcomes g tokens))
       (named_reader f (λ name. outcome_reader players outcomes (bare_outcome_use label name) (slice_get outcomes (outcome_place outcomes label)) (λ more. g (more, Some (outcome_place outcomes label))) (λ more. G (more, Some (outcome_place outcomes label))) (λ more. N (more, Some (outcome_place outcomes label))))
       (outcome_no_text players outcomes (bare_outcome_use label None) (slice_get outcomes (outcome_place outcomes label)) (λ more. g (more, Some (outcome_place outcomes label))) (λ more. T (more, Some (outcome_place outcomes label)))))
 ]
 
 -- what follows an outcome
-pub outcome_part_reader : {X : Type 0} (players : ℕ) (outcomes : List BegunOutcome) (g : List BegunOutcome × Option ℕ → List Token → Parsed EfgKind X)
-    → ((x : List BegunOutcome × Option ℕ) → IsReader (g x)) → ((x : List BegunOutcome × Option ℕ) → ReadsNoBrace (g x)) → ((x : List BegunOutcome × Option ℕ) → ReadsNoText (g x))
+pub outcome_part_reader : {X : Type 0} (players : ℕ) (outcomes : List PartialOutcome) (g : List PartialOutcome × Option ℕ → List Token → Parsed EfgKind X)
+    → ((x : List PartialOutcome × Option ℕ) → IsReader (g x)) → ((x : List PartialOutcome × Option ℕ) → ReadsNoBrace (g x)) → ((x : List PartialOutcome × Option ℕ) → ReadsNoText (g x))
     → IsReader (λ tokens. parse_outcome players outcomes tokens >>= λ x. g x.0 x.1)
-unfolding parse_outcome behind_label
+unfolding parse_outcome after_label
 outcome_part_reader players outcomes g G N T =
-    same_reader (λ tokens. parse_outcome players outcomes tokens >>= λ x. g x.0 x.1) (λ tokens. wanted Node tokens (whole_at tokens) >>= λ label. behind_label players outcomes g label.0 label.1)
+    same_reader (λ tokens. parse_outcome players outcomes tokens >>= λ x. g x.0 x.1) (λ tokens. wanted Node tokens (whole_at tokens) >>= λ label. after_label players outcomes g label.0 label.1)
     (λ tokens. chain_three (wanted Node tokens (whole_at tokens)) _ (λ x. g x.0 x.1))
-    (bind_reader (λ tokens. wanted Node tokens (whole_at tokens)) (λ label tokens. behind_label players outcomes g label tokens) label_reader (λ _ label _. behind_reader players outcomes g G N T label))
+    (bind_reader (λ tokens. wanted Node tokens (whole_at tokens)) (λ label tokens. after_label players outcomes g label tokens) label_reader (λ _ label _. after_reader players outcomes g G N T label))
 
 -- ---- sets
 -- what follows the number of a set
-behind_set : {X : Type 0} → ℕ → List BegunSet → Option ℕ → (List BegunSet × ℕ → List Token → Parsed EfgKind X) → ℕ → List Token → Parsed EfgKind X
-behind_set k sets owner g label =
+after_set : {X : Type 0} → ℕ → List PartialSet → Option ℕ → (List PartialSet × ℕ → List Token → Parsed EfgKind X) → ℕ → List Token → Parsed EfgKind X
+after_set k sets owner g label =
     named (λ name. use_then k sets (bare_use owner label name) (slice_get sets (set_place sets (owner, label))) (λ more. g (more, set_place sets (owner, label))))
 
-behind_set_reader : {X : Type 0} (k : ℕ) (sets : List BegunSet) (owner : Option ℕ) (g : List BegunSet × ℕ → List Token → Parsed EfgKind X) → ((label : ℕ) → IsReader (parse_first_list owner label)) → ((x : List BegunSet × ℕ) → IsReader (g x))
-    → ((x : List BegunSet × ℕ) → ReadsNoBrace (g x)) → ((x : List BegunSet × ℕ) → ReadsNoText (g x)) → (label : ℕ) → IsReader (behind_set k sets owner g label)
-unfolding behind_set
-behind_set_reader k sets owner g F G N T label =
+after_set_reader : {X : Type 0} (k : ℕ) (sets : List PartialSet) (owner : Option ℕ) (g : List PartialSet × ℕ → List Token → Parsed EfgKind X) → ((label : ℕ) → IsReader (parse_first_list owner label)) → ((x : List PartialSet × ℕ) → IsReader (g x))
+    → ((x : List PartialSet × ℕ) → ReadsNoBrace (g x)) → ((x : List PartialSet × ℕ) → ReadsNoText (g x)) → (label : ℕ) → IsReader (after_set k sets owner g label)
+unfolding after_set
+after_set_reader k sets owner g F G N T label =
     named_reader (λ name. use_then k sets (bare_use owner label name) (slice_get sets (set_place sets (owner, label))) (λ more. g (more, set_place sets (owner, label))))
     (λ name. use_reader k sets (bare_use owner label name) (slice_get sets (set_place sets (owner, label))) (λ more. g (more, set_place sets (owner, label))) (F label) (λ more. G (more, set_place sets (owner, label))) (λ more. N (more, set_place sets (owner, label))))
     (use_no_text k sets (bare_use owner label None) (slice_get sets (set_place sets (owner, label))) (λ more. g (more, set_place sets (owner, label))) (λ more. T (more, set_place sets (owner, label))))
 
-set_is : {X : Type 0} (k : ℕ) (sets : List BegunSet) (owner : Option ℕ) (g : List BegunSet × ℕ → List Token → Parsed EfgKind X) (tokens : List Token)
-    → (parse_set k sets owner tokens >>= λ x. g x.0 x.1) ≡ (wanted Node tokens (positive_at tokens) >>= λ label. behind_set k sets owner g label.0 label.1)
-unfolding parse_set behind_set
+set_is : {X : Type 0} (k : ℕ) (sets : List PartialSet) (owner : Option ℕ) (g : List PartialSet × ℕ → List Token → Parsed EfgKind X) (tokens : List Token)
+    → (parse_set k sets owner tokens >>= λ x. g x.0 x.1) ≡ (wanted Node tokens (positive_at tokens) >>= λ label. after_set k sets owner g label.0 label.1)
+unfolding parse_set after_set
 set_is k sets owner g tokens = elim (result_of (wanted Node tokens (positive_at tokens))) [
   | inl y ↦
       rw y.1 (map_then (parse_use k sets (bare_use owner y.0.0 (optional_text_at y.0.1).0) (slice_get sets (set_place sets (owner, y.0.0))) (optional_text_at y.0.1).1) (λ more. (more, set_place sets (owner, y.0.0))) g)
@@ -88,11 +88,11 @@ set_is k sets owner g tokens = elim (result_of (wanted Node tokens (positive_at 
 ]
 
 -- what follows a set
-pub set_part_reader : {X : Type 0} (k : ℕ) (sets : List BegunSet) (owner : Option ℕ) (g : List BegunSet × ℕ → List Token → Parsed EfgKind X) → ((label : ℕ) → IsReader (parse_first_list owner label)) → ((x : List BegunSet × ℕ) → IsReader (g x))
-    → ((x : List BegunSet × ℕ) → ReadsNoBrace (g x)) → ((x : List BegunSet × ℕ) → ReadsNoText (g x)) → IsReader (λ tokens. parse_set k sets owner tokens >>= λ x. g x.0 x.1)
+pub set_part_reader : {X : Type 0} (k : ℕ) (sets : List PartialSet) (owner : Option ℕ) (g : List PartialSet × ℕ → List Token → Parsed EfgKind X) → ((label : ℕ) → IsReader (parse_first_list owner label)) → ((x : List PartialSet × ℕ) → IsReader (g x))
+    → ((x : List PartialSet × ℕ) → ReadsNoBrace (g x)) → ((x : List PartialSet × ℕ) → ReadsNoText (g x)) → IsReader (λ tokens. parse_set k sets owner tokens >>= λ x. g x.0 x.1)
 set_part_reader k sets owner g F G N T =
-    same_reader (λ tokens. parse_set k sets owner tokens >>= λ x. g x.0 x.1) (λ tokens. wanted Node tokens (positive_at tokens) >>= λ label. behind_set k sets owner g label.0 label.1) (set_is k sets owner g)
-    (bind_reader (λ tokens. wanted Node tokens (positive_at tokens)) (λ label tokens. behind_set k sets owner g label tokens) positive_reader (λ _ label _. behind_set_reader k sets owner g F G N T label))
+    same_reader (λ tokens. parse_set k sets owner tokens >>= λ x. g x.0 x.1) (λ tokens. wanted Node tokens (positive_at tokens) >>= λ label. after_set k sets owner g label.0 label.1) (set_is k sets owner g)
+    (bind_reader (λ tokens. wanted Node tokens (positive_at tokens)) (λ label tokens. after_set k sets owner g label tokens) positive_reader (λ _ label _. after_set_reader k sets owner g F G N T label))
 
 -- ---- players
 pub player_token : (players : ℕ) (t : Token) → ((x : ℕ) × ((rest : List Token) → parse_player players (t ∷ rest) ≡ Ok (x, rest))) ⊎ ((k : EfgKind) × ((rest : List Token) → parse_player players (t ∷ rest) ≡ Err (k, t ∷ rest)))

@@ -4,8 +4,8 @@ use Rattle.std.proofs.lemmas.Bool.{cases_Bool}
 use Rattle.rational.specs.Rational.{ℚ}
 use Rattle.file_parts.specs.Reading.{optional_text_at}
 use Rattle.written_trees.specs.Written.{OutcomeUse}
-use Rattle.written_trees.specs.Building.{BegunOutcome, outcome_place, repeats_payoffs, used_outcome}
-use Rattle.efg_reader.specs.TreeReading.{optional_at, payoff_list_at, named_outcome_at, later_payoffs_at, with_outcome, named_step_at}
+use Rattle.written_trees.specs.Building.{PartialOutcome, outcome_place, repeats_payoffs, used_outcome}
+use Rattle.efg_reader.specs.TreeReading.{optional_at, payoff_list_at, named_outcome_at, later_payoffs_at, with_outcome, named_part_at}
 use Rattle.efg_reader.proofs.RepeatedPayoffs.{came}
 use Rattle.std.specs.Option.{option_or}
 use Rattle.lists.specs.Options.{◌>>=◌}
@@ -14,9 +14,9 @@ use Rattle.game_core.specs.declared.token.Token.TheVariants.{Left}
 
 -- what a step gives
 abbrev Stepped : Type 0
-Stepped = Option ((List BegunOutcome × Option ℕ) × List Token)
+Stepped = Option ((List PartialOutcome × Option ℕ) × List Token)
 
-module _ (outcomes : List BegunOutcome) (label : ℕ) (name : Option (List ℕ)) where
+module _ (outcomes : List PartialOutcome) (label : ℕ) (name : Option (List ℕ)) where
   -- the outcome's place
   abbrev place : ℕ
   place = outcome_place outcomes label
@@ -37,9 +37,9 @@ module _ (outcomes : List BegunOutcome) (label : ℕ) (name : Option (List ℕ))
   stepped x = taken (Some (used x.0), x.1)
 
   -- a step by the payoffs that may come
-  step_by_payoffs : (players : ℕ) (tokens behind : List Token) → (name, behind) ≡ optional_text_at tokens → named_step_at players label outcomes tokens ≡ (optional_at (payoff_list_at players) behind >>= stepped)
-  unfolding named_step_at named_outcome_at
-  step_by_payoffs players tokens behind e = rw (← e) (through (optional_at (payoff_list_at players) behind))
+  step_by_payoffs : (players : ℕ) (tokens following : List Token) → (name, following) ≡ optional_text_at tokens → named_part_at players label outcomes tokens ≡ (optional_at (payoff_list_at players) following >>= stepped)
+  unfolding named_part_at named_outcome_at
+  step_by_payoffs players tokens following e = rw (← e) (through (optional_at (payoff_list_at players) following))
     where
       through : (o : Option (Option (List ℚ) × List Token)) → ((o >>= named) >>= taken) ≡ (o >>= stepped)
       through None = refl
@@ -47,8 +47,8 @@ module _ (outcomes : List BegunOutcome) (label : ℕ) (name : Option (List ℕ))
 
   -- ---- a first use
   -- the outcomes with a new one
-  abbrev pub begun : List ℚ × List Token → Stepped
-  begun x = Some ((outcomes ++ record { label = label; name = name; payoffs = x.0 } ∷ [], Some place), x.1)
+  abbrev pub partial : List ℚ × List Token → Stepped
+  partial x = Some ((outcomes ++ record { label = label; name = name; payoffs = x.0 } ∷ [], Some place), x.1)
 
   module _ (none : slice_get outcomes place ≡ None) where
     -- a first use has payoffs
@@ -56,18 +56,18 @@ module _ (outcomes : List BegunOutcome) (label : ℕ) (name : Option (List ℕ))
     first_bare rest = rw none refl
 
     -- with payoffs it begins an outcome
-    first_begun : (o : Option (List ℚ × List Token)) → ((o >>= came) >>= stepped) ≡ (o >>= begun)
-    first_begun None = refl
-    first_begun (Some x) = rw none refl
+    first_partial : (o : Option (List ℚ × List Token)) → ((o >>= came) >>= stepped) ≡ (o >>= partial)
+    first_partial None = refl
+    first_partial (Some x) = rw none refl
 
     -- payoffs in braces come, or nothing is read
-    first_step : (players : ℕ) (tokens : List Token) → (optional_at (payoff_list_at players) tokens >>= stepped) ≡ (payoff_list_at players tokens >>= begun)
+    first_step : (players : ℕ) (tokens : List Token) → (optional_at (payoff_list_at players) tokens >>= stepped) ≡ (payoff_list_at players tokens >>= partial)
     unfolding payoff_list_at
-    first_step players (Left ∷ tokens) = first_begun (payoff_list_at players (Left ∷ tokens))
+    first_step players (Left ∷ tokens) = first_partial (payoff_list_at players (Left ∷ tokens))
     first_step players tokens = first_bare tokens
 
   -- ---- a later use
-  module _ (outcome : BegunOutcome) (known : slice_get outcomes place ≡ Some outcome) where
+  module _ (outcome : PartialOutcome) (known : slice_get outcomes place ≡ Some outcome) where
     -- the outcomes with the one that goes on
     abbrev gone_on : List Token → Stepped
     gone_on rest = Some ((slice_set outcomes place (used_outcome (used None) outcome), Some place), rest)
@@ -90,15 +90,15 @@ module _ (outcomes : List BegunOutcome) (label : ℕ) (name : Option (List ℕ))
         by (Some x) = later_taken x
 
 -- ---- what is read
-module _ (players label : ℕ) (outcomes : List BegunOutcome) (name : Option (List ℕ)) (tokens behind : List Token) (text : (name, behind) ≡ optional_text_at tokens) where
+module _ (players label : ℕ) (outcomes : List PartialOutcome) (name : Option (List ℕ)) (tokens following : List Token) (text : (name, following) ≡ optional_text_at tokens) where
   -- the place of the outcome
   abbrev own_place : ℕ
   own_place = outcome_place outcomes label
 
   -- a first use
-  pub first_is : slice_get outcomes own_place ≡ None → named_step_at players label outcomes tokens ≡ (payoff_list_at players behind >>= begun outcomes label name)
-  first_is none = step_by_payoffs outcomes label name players tokens behind text ∙ first_step outcomes label name none players behind
+  pub first_is : slice_get outcomes own_place ≡ None → named_part_at players label outcomes tokens ≡ (payoff_list_at players following >>= partial outcomes label name)
+  first_is none = step_by_payoffs outcomes label name players tokens following text ∙ first_step outcomes label name none players following
 
   -- a later use
-  pub later_is : (outcome : BegunOutcome) → slice_get outcomes own_place ≡ Some outcome → named_step_at players label outcomes tokens ≡ (later_payoffs_at players outcome.payoffs behind >>= λ rest. Some ((slice_set outcomes own_place (record { label = outcome.label; name = option_or outcome.name name; payoffs = outcome.payoffs }), Some own_place), rest))
-  later_is outcome known = step_by_payoffs outcomes label name players tokens behind text ∙ later_step outcomes label name outcome known players behind
+  pub later_is : (outcome : PartialOutcome) → slice_get outcomes own_place ≡ Some outcome → named_part_at players label outcomes tokens ≡ (later_payoffs_at players outcome.payoffs following >>= λ rest. Some ((slice_set outcomes own_place (record { label = outcome.label; name = option_or outcome.name name; payoffs = outcome.payoffs }), Some own_place), rest))
+  later_is outcome known = step_by_payoffs outcomes label name players tokens following text ∙ later_step outcomes label name outcome known players following

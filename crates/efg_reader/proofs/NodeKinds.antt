@@ -15,8 +15,8 @@ use Rattle.file_parts.specs.Parts.{whole_number}
 use Rattle.file_parts.proofs.TokenLaws.{whole_again}
 use Rattle.written_trees.specs.Written.{SetUse, OutcomeUse}
 use Rattle.written_trees.specs.Described.{key_of, set_uses, outcome_uses, uses_of_set, uses_of_outcome}
-use Rattle.written_trees.specs.Building.{BegunSet, BegunOutcome, nothing_begun, set_place, outcome_place, new_set, used_set, new_outcome, used_outcome}
-use Rattle.written_trees.proofs.UseSteps.{begun_set, sets_begun, begun_outcome, outcomes_begun}
+use Rattle.written_trees.specs.Building.{PartialSet, PartialOutcome, root_alone, set_place, outcome_place, new_set, used_set, new_outcome, used_outcome}
+use Rattle.written_trees.proofs.UseSteps.{partial_set, sets_so_far, partial_outcome, outcomes_so_far}
 use Rattle.written_trees.proofs.FirstUses.{new_place, known_place}
 use Rattle.written_trees.proofs.OutcomeUses.{outcome_step}
 use Rattle.written_trees.proofs.Built.{from_uses}
@@ -36,61 +36,61 @@ use Rattle.efg_reader.proofs.ChanceReaders.{chance_list_reader}
 use Rattle.efg_reader.proofs.NodeReaders.{first_list_reader}
 use Rattle.efg_reader.proofs.Whole.{nothing_keeps}
 use Rattle.efg_reader.proofs.Within.{Within, reader_within, pure_within, set_choice_within}
-use Rattle.efg_reader.proofs.Stops.{GoesTo, goes_before, stop_kind, not_behind}
+use Rattle.efg_reader.proofs.Stops.{GoesTo, goes_before, stop_kind, not_after}
 use Rattle.efg_reader.proofs.Runs.{found_none, found_some, run_to}
 use Rattle.efg_reader.proofs.ChanceLists.{sum_stops, probability_kind, brace_kind}
 use Rattle.efg_reader.proofs.RepeatedLists.{later_kind, later_number_kind}
 use Rattle.efg_reader.proofs.PayoffLists.{PayoffComes, first_payoffs_kind, later_payoffs_kind, lacks_payoffs}
-use Rattle.efg_reader.proofs.NodeRuns.{behind_label, goes_by, choice_goes, next_goes, outcome_comes, outcome_goes}
+use Rattle.efg_reader.proofs.NodeRuns.{after_label, goes_by, choice_goes, next_goes, outcome_comes, outcome_goes}
 
 -- ---- what is found
 -- of a set with these uses
-abbrev pub found_of : SetUse → List (ℕ × SetUse) → Option BegunSet
+abbrev pub found_of : SetUse → List (ℕ × SetUse) → Option PartialSet
 found_of used [] = None
-found_of used (first ∷ later) = Some (begun_set (key_of used) (first ∷ later))
+found_of used (first ∷ later) = Some (partial_set (key_of used) (first ∷ later))
 
-pub found_is : (uses : List (ℕ × SetUse)) (used : SetUse) (earlier : List (ℕ × SetUse)) → earlier ≡ uses_of_set (key_of used) uses → slice_get (sets_begun uses) (set_place (sets_begun uses) (key_of used)) ≡ found_of used earlier
+pub found_is : (uses : List (ℕ × SetUse)) (used : SetUse) (earlier : List (ℕ × SetUse)) → earlier ≡ uses_of_set (key_of used) uses → slice_get (sets_so_far uses) (set_place (sets_so_far uses) (key_of used)) ≡ found_of used earlier
 found_is uses used [] e = found_none uses used (sym e)
 found_is uses used (first ∷ later) e = found_some uses used first later (sym e)
 
 -- of an outcome with these uses
-abbrev pub outcome_of : OutcomeUse → List (ℕ × OutcomeUse) → Option BegunOutcome
+abbrev pub outcome_of : OutcomeUse → List (ℕ × OutcomeUse) → Option PartialOutcome
 outcome_of used [] = None
-outcome_of used (first ∷ later) = Some (begun_outcome used.label (first ∷ later))
+outcome_of used (first ∷ later) = Some (partial_outcome used.label (first ∷ later))
 
-pub outcome_found : (uses : List (ℕ × OutcomeUse)) (used : OutcomeUse) (earlier : List (ℕ × OutcomeUse)) → earlier ≡ uses_of_outcome used.label uses → slice_get (outcomes_begun uses) (outcome_place (outcomes_begun uses) used.label) ≡ outcome_of used earlier
-outcome_found uses used [] e = ap (slice_get (outcomes_begun uses)) (outcome_step uses 0 used).place_is ∙ new_place nat_eq (λ (u : OutcomeUse). u.label) Decides-eqb begun_outcome uses 0 used (sym e)
-outcome_found uses used (first ∷ later) e = ap (slice_get (outcomes_begun uses)) (outcome_step uses 0 used).place_is ∙ known_place nat_eq (λ (u : OutcomeUse). u.label) Decides-eqb begun_outcome uses 0 used first later (sym e)
+pub outcome_found : (uses : List (ℕ × OutcomeUse)) (used : OutcomeUse) (earlier : List (ℕ × OutcomeUse)) → earlier ≡ uses_of_outcome used.label uses → slice_get (outcomes_so_far uses) (outcome_place (outcomes_so_far uses) used.label) ≡ outcome_of used earlier
+outcome_found uses used [] e = ap (slice_get (outcomes_so_far uses)) (outcome_step uses 0 used).place_is ∙ new_place nat_eq (λ (u : OutcomeUse). u.label) Decides-eqb partial_outcome uses 0 used (sym e)
+outcome_found uses used (first ∷ later) e = ap (slice_get (outcomes_so_far uses)) (outcome_step uses 0 used).place_is ∙ known_place nat_eq (λ (u : OutcomeUse). u.label) Decides-eqb partial_outcome uses 0 used first later (sym e)
 
 -- ---- at a set
 -- reading goes on to the list of the set
 abbrev SetIsRead : SetUse → List (ℕ × SetUse) → List Token → EfgKind → List Token → Type 0
-SetIsRead used earlier more kind rest = (k : ℕ) × (sets : List BegunSet) × GoesTo (parse_use k sets (bare_use used.owner used.label (behind_label used.name more).0) (found_of used earlier) (behind_label used.name more).1) kind rest
+SetIsRead used earlier more kind rest = (k : ℕ) × (sets : List PartialSet) × GoesTo (parse_use k sets (bare_use used.owner used.label (after_label used.name more).0) (found_of used earlier) (after_label used.name more).1) kind rest
 
 set_point : (before : List Token) (used : SetUse) (earlier : List (ℕ × SetUse)) (list : List Token) → StopsAtSet before used earlier list → (kind : EfgKind) (t : Token) (r : List Token) → parse_tree (before ++ t ∷ r) ≡ Err (kind, t ∷ r) → SetIsRead used earlier (list ++ t ∷ r) kind (t ∷ r)
 set_point before used earlier list s kind t r e =
     let players = length s.tree.players in
     let tail : List Token = list ++ t ∷ r in
-    let tokens : before ++ t ∷ r ≡ s.begun ++ (s.front ++ tail) = ap (λ (q : List Token). q ++ t ∷ r) s.are_tokens ∙ append_assoc (s.begun ++ s.front) list (t ∷ r) ∙ append_assoc s.begun s.front tail in
+    let tokens : before ++ t ∷ r ≡ s.partial ++ (s.front ++ tail) = ap (λ (q : List Token). q ++ t ∷ r) s.are_tokens ∙ append_assoc (s.partial ++ s.front) list (t ∷ r) ∙ append_assoc s.partial s.front tail in
     let word = inner_begins players used.owner s.front used s.is_front in
     let bare : IsBare (s.front ++ tail) = rw word.is (record { no_text = refl; no_list = refl }) in
     let size : length s.front ≡ suc (length word.tail) = ap length word.is in
-    let n = run_to s.begun (s.front ++ tail) s.tree s.free s.is_begun kind t r bare (omega (arith, size, length-append s.front tail, length-append list (t ∷ r))) (ap parse_tree (sym tokens) ∙ e) in
-    let from = from_uses s.is_begun.written n.more n.added in
-    let found : slice_get n.more.sets (set_place n.more.sets (key_of used)) ≡ found_of used earlier = ap (λ (sets : List BegunSet). slice_get sets (set_place sets (key_of used))) from.sets_are ∙ found_is (set_uses s.is_begun.written) used earlier s.earlier_are in
+    let n = run_to s.partial (s.front ++ tail) s.tree s.free s.is_partial kind t r bare (omega (arith, size, length-append s.front tail, length-append list (t ∷ r))) (ap parse_tree (sym tokens) ∙ e) in
+    let from = from_uses s.is_partial.written n.more n.added in
+    let found : slice_get n.more.sets (set_place n.more.sets (key_of used)) ≡ found_of used earlier = ap (λ (sets : List PartialSet). slice_get sets (set_place sets (key_of used))) from.sets_are ∙ found_is (set_uses s.is_partial.written) used earlier s.earlier_are in
     let goes = choice_goes players (length n.more.nodes) n.more.sets used s.front tail (t ∷ r) kind s.is_front s.no_list (next_goes players n.more n.first n.others (s.front ++ tail) (t ∷ r) kind n.goes) in
-    (length n.more.nodes, n.more.sets, subst (λ (o : Option BegunSet). GoesTo (parse_use (length n.more.nodes) n.more.sets (bare_use used.owner used.label (behind_label used.name tail).0) o (behind_label used.name tail).1) kind (t ∷ r)) found goes)
+    (length n.more.nodes, n.more.sets, subst (λ (o : Option PartialSet). GoesTo (parse_use (length n.more.nodes) n.more.sets (bare_use used.owner used.label (after_label used.name tail).0) o (after_label used.name tail).1) kind (t ∷ r)) found goes)
 
 -- the first list, or a later one
-first_goes : (used : SetUse) (more rest : List Token) (kind : EfgKind) → SetIsRead used [] more kind rest → GoesTo (parse_first_list used.owner used.label (behind_label used.name more).1) kind rest
-first_goes used more rest kind p = goes_before (parse_first_list used.owner used.label (behind_label used.name more).1) (λ actions tokens. Ok (p.1 ++ new_set p.0 (bare_use used.owner used.label (behind_label used.name more).0) actions ∷ [], tokens)) kind rest (λ _. pure_within _) p.2
+first_goes : (used : SetUse) (more rest : List Token) (kind : EfgKind) → SetIsRead used [] more kind rest → GoesTo (parse_first_list used.owner used.label (after_label used.name more).1) kind rest
+first_goes used more rest kind p = goes_before (parse_first_list used.owner used.label (after_label used.name more).1) (λ actions tokens. Ok (p.1 ++ new_set p.0 (bare_use used.owner used.label (after_label used.name more).0) actions ∷ [], tokens)) kind rest (λ _. pure_within _) p.2
 
-later_goes : (used : SetUse) (first : ℕ × SetUse) (later : List (ℕ × SetUse)) (more rest : List Token) (kind : EfgKind) → SetIsRead used (first ∷ later) more kind rest → GoesTo (parse_later_list used.owner (begun_set (key_of used) (first ∷ later)).actions (behind_label used.name more).1) kind rest
-later_goes used first later more rest kind p = goes_before (parse_later_list used.owner (begun_set (key_of used) (first ∷ later)).actions (behind_label used.name more).1) (λ _ tokens. Ok (slice_set p.1 (set_place p.1 (key_of used)) (used_set p.0 (bare_use used.owner used.label (behind_label used.name more).0) (begun_set (key_of used) (first ∷ later))), tokens)) kind rest (λ _. pure_within _) p.2
+later_goes : (used : SetUse) (first : ℕ × SetUse) (later : List (ℕ × SetUse)) (more rest : List Token) (kind : EfgKind) → SetIsRead used (first ∷ later) more kind rest → GoesTo (parse_later_list used.owner (partial_set (key_of used) (first ∷ later)).actions (after_label used.name more).1) kind rest
+later_goes used first later more rest kind p = goes_before (parse_later_list used.owner (partial_set (key_of used) (first ∷ later)).actions (after_label used.name more).1) (λ _ tokens. Ok (slice_set p.1 (set_place p.1 (key_of used)) (used_set p.0 (bare_use used.owner used.label (after_label used.name more).0) (partial_set (key_of used) (first ∷ later))), tokens)) kind rest (λ _. pure_within _) p.2
 
--- behind a name no text is a second one
-opened_label : (name : Option (List ℕ)) (inner rest list : List Token) → list ≡ Left ∷ inner → (behind_label name (list ++ rest)).1 ≡ Left ∷ (inner ++ rest)
-opened_label name inner rest list e = ap (λ (q : List Token). (behind_label name (q ++ rest)).1) e ∙ ap (λ (z : Option (List ℕ) × List Token). z.1) (optional_text_again name (Left ∷ (inner ++ rest)) refl)
+-- after a name no text is a second one
+opened_label : (name : Option (List ℕ)) (inner rest list : List Token) → list ≡ Left ∷ inner → (after_label name (list ++ rest)).1 ≡ Left ∷ (inner ++ rest)
+opened_label name inner rest list e = ap (λ (q : List Token). (after_label name (q ++ rest)).1) e ∙ ap (λ (z : Option (List ℕ) × List Token). z.1) (optional_text_again name (Left ∷ (inner ++ rest)) refl)
 
 -- the first list is wanted
 list_within : (owner : Option ℕ) (set : ℕ) → Within (parse_list_of owner set)
@@ -99,13 +99,13 @@ list_within (Some i) set = reader_within (parse_list_of (Some i) set) own_list_r
 
 lacks_list : (owner : Option ℕ) (set : ℕ) (t : Token) (r : List Token) (kind : EfgKind) → GoesTo (parse_first_list owner set (t ∷ r)) kind (t ∷ r) → kind ≡ SetMismatch
 unfolding parse_first_list
-lacks_list owner set Left r kind g = absurd (not_behind (parse_list_of owner set) (list_within owner set) kind Left r g)
+lacks_list owner set Left r kind g = absurd (not_after (parse_list_of owner set) (list_within owner set) kind Left r g)
 lacks_list owner set t r kind g = stop_kind (parse_first_list owner set (t ∷ r)) kind SetMismatch (t ∷ r) (t ∷ r) refl g
 
-lacks_behind : (owner : Option ℕ) (set : ℕ) (name : Option (List ℕ)) (t : Token) (r : List Token) (kind : EfgKind) → GoesTo (parse_first_list owner set (behind_label name (t ∷ r)).1) kind (t ∷ r) → kind ≡ SetMismatch
-lacks_behind owner set (Some text) t r kind g = lacks_list owner set t r kind g
-lacks_behind owner set None (Text text) r kind g = absurd (not_behind (parse_first_list owner set) (reader_within (parse_first_list owner set) (first_list_reader owner set chance_list_reader (λ _ _. own_list_reader))) kind (Text text) r g)
-lacks_behind owner set None t r kind g = lacks_list owner set t r kind g
+lacks_after : (owner : Option ℕ) (set : ℕ) (name : Option (List ℕ)) (t : Token) (r : List Token) (kind : EfgKind) → GoesTo (parse_first_list owner set (after_label name (t ∷ r)).1) kind (t ∷ r) → kind ≡ SetMismatch
+lacks_after owner set (Some text) t r kind g = lacks_list owner set t r kind g
+lacks_after owner set None (Text text) r kind g = absurd (not_after (parse_first_list owner set) (reader_within (parse_first_list owner set) (first_list_reader owner set chance_list_reader (λ _ _. own_list_reader))) kind (Text text) r g)
+lacks_after owner set None t r kind g = lacks_list owner set t r kind g
 
 -- a later list differs
 differs : (before : List Token) (t : Token) (r : List Token) (kind : EfgKind) → DiffersFromFirst before (t ∷ r) → parse_tree (before ++ t ∷ r) ≡ Err (kind, t ∷ r) → kind ≡ SetMismatch
@@ -115,9 +115,9 @@ differs before t r kind d e = by d.6
     used = d.0
 
     own : List Action
-    own = (begun_set (key_of used) (d.1 ∷ d.2)).actions
+    own = (partial_set (key_of used) (d.1 ∷ d.2)).actions
 
-    goes : GoesTo (parse_later_list used.owner own (behind_label used.name (d.4 ++ t ∷ r)).1) kind (t ∷ r)
+    goes : GoesTo (parse_later_list used.owner own (after_label used.name (d.4 ++ t ∷ r)).1) kind (t ∷ r)
     goes = later_goes d.0 d.1 d.2 (d.4 ++ t ∷ r) (t ∷ r) kind (set_point before d.0 (d.1 ∷ d.2) d.4 d.5 kind t r e)
 
     by : ((HasActions used.owner d.3 d.4 × (TextComes (t ∷ r) ⊎ BraceComes (t ∷ r))) ⊎ ((used.owner ≡ None) × WantsProbability d.3 d.4 × (v : ℚ) × NumberComes v (t ∷ r))) → kind ≡ SetMismatch
@@ -172,55 +172,55 @@ sums before t r kind set sum h e = elim h.1 [
 -- ---- at an outcome
 -- reading goes on to the outcome's payoffs
 abbrev OutcomeIsRead : ℕ → OutcomeUse → List (ℕ × OutcomeUse) → List Token → EfgKind → List Token → Type 0
-OutcomeIsRead players used earlier more kind rest = (outcomes : List BegunOutcome)
-    × GoesTo (parse_outcome_use players outcomes (bare_outcome_use used.label (behind_label used.name more).0) (outcome_of used earlier) (behind_label used.name more).1) kind rest
-    × ((outcome : BegunOutcome) → outcome_of used earlier ≡ Some outcome → length outcome.payoffs ≡ players)
+OutcomeIsRead players used earlier more kind rest = (outcomes : List PartialOutcome)
+    × GoesTo (parse_outcome_use players outcomes (bare_outcome_use used.label (after_label used.name more).0) (outcome_of used earlier) (after_label used.name more).1) kind rest
+    × ((outcome : PartialOutcome) → outcome_of used earlier ≡ Some outcome → length outcome.payoffs ≡ players)
 
 outcome_point : (before : List Token) (used : OutcomeUse) (earlier : List (ℕ × OutcomeUse)) (list : List Token) (s : StopsAtOutcome before used earlier list) (kind : EfgKind) (t : Token) (r : List Token) → parse_tree (before ++ t ∷ r) ≡ Err (kind, t ∷ r) → OutcomeIsRead (length s.tree.players) used earlier (list ++ t ∷ r) kind (t ∷ r)
 outcome_point before used earlier list s kind t r e =
     let players = length s.tree.players in
     let tail : List Token = list ++ t ∷ r in
     let more : List Token = s.front ++ tail in
-    let tokens : before ++ t ∷ r ≡ s.begun ++ (s.choice ++ more) =
-    ap (λ (q : List Token). q ++ t ∷ r) s.are_tokens ∙ append_assoc (s.begun ++ s.choice ++ s.front) list (t ∷ r) ∙ append_assoc (s.begun ++ s.choice) s.front tail ∙ append_assoc s.begun s.choice more in
+    let tokens : before ++ t ∷ r ≡ s.partial ++ (s.choice ++ more) =
+    ap (λ (q : List Token). q ++ t ∷ r) s.are_tokens ∙ append_assoc (s.partial ++ s.choice ++ s.front) list (t ∷ r) ∙ append_assoc (s.partial ++ s.choice) s.front tail ∙ append_assoc s.partial s.choice more in
     let word = choice_begins players s.choice s.set s.is_choice in
     let bare : IsBare (s.choice ++ more) = rw word.is (record { no_text = refl; no_list = refl }) in
     let size : length s.choice ≡ suc (length word.tail) = ap length word.is in
     let front : 1 ≤ length s.front = subst (λ (q : List Token). 1 ≤ length q) (sym s.is_front.2) (omega arith) in
     let less : length (t ∷ r) < length more = omega (arith, front, length-append s.front tail, length-append list (t ∷ r)) in
-    let n = run_to s.begun (s.choice ++ more) s.tree s.free s.is_begun kind t r bare (omega (arith, size, less, length-append s.choice more)) (ap parse_tree (sym tokens) ∙ e) in
-    let from = from_uses s.is_begun.written n.more n.added in
-    let kept = nodes_keep players s.is_begun.written nothing_begun n.more (all_written players s.is_begun.nodes s.is_begun.written s.is_begun.are_nodes) (nothing_keeps players) n.added in
-    let found : slice_get n.more.outcomes (outcome_place n.more.outcomes used.label) ≡ outcome_of used earlier = ap (λ (outcomes : List BegunOutcome). slice_get outcomes (outcome_place outcomes used.label)) from.outcomes_are ∙ outcome_found (outcome_uses s.is_begun.written) used earlier s.earlier_are in
+    let n = run_to s.partial (s.choice ++ more) s.tree s.free s.is_partial kind t r bare (omega (arith, size, less, length-append s.choice more)) (ap parse_tree (sym tokens) ∙ e) in
+    let from = from_uses s.is_partial.written n.more n.added in
+    let kept = nodes_keep players s.is_partial.written root_alone n.more (all_written players s.is_partial.nodes s.is_partial.written s.is_partial.are_nodes) (nothing_keeps players) n.added in
+    let found : slice_get n.more.outcomes (outcome_place n.more.outcomes used.label) ≡ outcome_of used earlier = ap (λ (outcomes : List PartialOutcome). slice_get outcomes (outcome_place outcomes used.label)) from.outcomes_are ∙ outcome_found (outcome_uses s.is_partial.written) used earlier s.earlier_are in
     let comes = outcome_comes players n.more n.first n.others s.choice more (t ∷ r) s.set kind kept.listed s.is_choice (outcome_bare players s.front tail (Some used) s.is_front) less n.goes in
     let goes = outcome_goes players n.more.outcomes used s.front tail (t ∷ r) kind s.is_front s.no_list comes in (
       n.more.outcomes,
-      subst (λ (o : Option BegunOutcome). GoesTo (parse_outcome_use players n.more.outcomes (bare_outcome_use used.label (behind_label used.name tail).0) o (behind_label used.name tail).1) kind (t ∷ r)) found goes,
-      λ outcome f. all_at (λ (o : BegunOutcome). length o.payoffs ≡ players) n.more.outcomes (outcome_place n.more.outcomes used.label) outcome kept.paid (found ∙ f),
+      subst (λ (o : Option PartialOutcome). GoesTo (parse_outcome_use players n.more.outcomes (bare_outcome_use used.label (after_label used.name tail).0) o (after_label used.name tail).1) kind (t ∷ r)) found goes,
+      λ outcome f. all_at (λ (o : PartialOutcome). length o.payoffs ≡ players) n.more.outcomes (outcome_place n.more.outcomes used.label) outcome kept.paid (found ∙ f),
     )
 
 -- the first payoffs, or later ones
-first_paid : (players : ℕ) (used : OutcomeUse) (more rest : List Token) (kind : EfgKind) → OutcomeIsRead players used [] more kind rest → GoesTo (parse_first_payoffs players (behind_label used.name more).1) kind rest
-first_paid players used more rest kind p = goes_before (parse_first_payoffs players (behind_label used.name more).1) (λ payoffs tokens. Ok (p.0 ++ new_outcome (bare_outcome_use used.label (behind_label used.name more).0) payoffs ∷ [], tokens)) kind rest (λ _. pure_within _) p.1
+first_paid : (players : ℕ) (used : OutcomeUse) (more rest : List Token) (kind : EfgKind) → OutcomeIsRead players used [] more kind rest → GoesTo (parse_first_payoffs players (after_label used.name more).1) kind rest
+first_paid players used more rest kind p = goes_before (parse_first_payoffs players (after_label used.name more).1) (λ payoffs tokens. Ok (p.0 ++ new_outcome (bare_outcome_use used.label (after_label used.name more).0) payoffs ∷ [], tokens)) kind rest (λ _. pure_within _) p.1
 
-later_paid : (players : ℕ) (used : OutcomeUse) (first : ℕ × OutcomeUse) (later : List (ℕ × OutcomeUse)) (more rest : List Token) (kind : EfgKind) → OutcomeIsRead players used (first ∷ later) more kind rest → GoesTo (parse_later_payoffs (begun_outcome used.label (first ∷ later)).payoffs (behind_label used.name more).1) kind rest
-later_paid players used first later more rest kind p = goes_before (parse_later_payoffs (begun_outcome used.label (first ∷ later)).payoffs (behind_label used.name more).1) (λ _ tokens. Ok (slice_set p.0 (outcome_place p.0 used.label) (used_outcome (bare_outcome_use used.label (behind_label used.name more).0) (begun_outcome used.label (first ∷ later))), tokens)) kind rest (λ _. pure_within _) p.1
+later_paid : (players : ℕ) (used : OutcomeUse) (first : ℕ × OutcomeUse) (later : List (ℕ × OutcomeUse)) (more rest : List Token) (kind : EfgKind) → OutcomeIsRead players used (first ∷ later) more kind rest → GoesTo (parse_later_payoffs (partial_outcome used.label (first ∷ later)).payoffs (after_label used.name more).1) kind rest
+later_paid players used first later more rest kind p = goes_before (parse_later_payoffs (partial_outcome used.label (first ∷ later)).payoffs (after_label used.name more).1) (λ _ tokens. Ok (slice_set p.0 (outcome_place p.0 used.label) (used_outcome (bare_outcome_use used.label (after_label used.name more).0) (partial_outcome used.label (first ∷ later))), tokens)) kind rest (λ _. pure_within _) p.1
 
 -- the first payoffs are wanted
-lacks_paid : (players : ℕ) (name : Option (List ℕ)) (t : Token) (r : List Token) (kind : EfgKind) → GoesTo (parse_first_payoffs players (behind_label name (t ∷ r)).1) kind (t ∷ r) → kind ≡ OutcomeMismatch
+lacks_paid : (players : ℕ) (name : Option (List ℕ)) (t : Token) (r : List Token) (kind : EfgKind) → GoesTo (parse_first_payoffs players (after_label name (t ∷ r)).1) kind (t ∷ r) → kind ≡ OutcomeMismatch
 lacks_paid players (Some text) t r kind g = lacks_payoffs players t r kind g
-lacks_paid players None (Text text) r kind g = absurd (not_behind (parse_first_payoffs players) (reader_within (parse_first_payoffs players) (first_payoffs_reader players)) kind (Text text) r g)
+lacks_paid players None (Text text) r kind g = absurd (not_after (parse_first_payoffs players) (reader_within (parse_first_payoffs players) (first_payoffs_reader players)) kind (Text text) r g)
 lacks_paid players None t r kind g = lacks_payoffs players t r kind g
 
--- payoffs are begun
+-- payoffs are partial
 open_paid : (players : ℕ) (used : OutcomeUse) (earlier : List (ℕ × OutcomeUse)) (list rest : List Token) (kind : EfgKind) → OutcomeIsRead players used earlier (list ++ rest) kind rest → HasPayoffs players list → PayoffComes rest → kind ≡ OutcomeMismatch
 open_paid players used [] list rest kind p h c =
     let label = opened_label used.name h.0 rest list h.1 ∙ ap (λ (q : List Token). q ++ rest) (sym h.1) in
     first_payoffs_kind players list rest kind h c (subst (λ (q : List Token). GoesTo (parse_first_payoffs players q) kind rest) label (first_paid players used (list ++ rest) rest kind p))
 open_paid players used (first ∷ later) list rest kind p h c =
     let label = opened_label used.name h.0 rest list h.1 ∙ ap (λ (q : List Token). q ++ rest) (sym h.1) in
-    let payoffs = (begun_outcome used.label (first ∷ later)).payoffs in
-    let paid : length payoffs ≡ players = p.2 (begun_outcome used.label (first ∷ later)) refl in
+    let payoffs = (partial_outcome used.label (first ∷ later)).payoffs in
+    let paid : length payoffs ≡ players = p.2 (partial_outcome used.label (first ∷ later)) refl in
     later_payoffs_kind payoffs list rest kind (subst (λ (n : ℕ). HasPayoffs n list) (sym paid) h) c (subst (λ (q : List Token). GoesTo (parse_later_payoffs payoffs q) kind rest) label (later_paid players used first later (list ++ rest) rest kind p))
 
 pays_otherwise : (before : List Token) (t : Token) (r : List Token) (kind : EfgKind) → PaysOtherwise before (t ∷ r) → parse_tree (before ++ t ∷ r) ≡ Err (kind, t ∷ r) → kind ≡ OutcomeMismatch
@@ -237,7 +237,7 @@ unfolding parse_player
 player_kind players n more kind g = elim (cases_Bool (nat_le 1 n && nat_le n players)) [
   | inl e ↦
       let same : parse_player players (whole_number n ∷ more) ≡ Ok (n - 1, more) = rw (whole_again n more, e) refl in
-      absurd (not_behind (λ tokens. Ok (n - 1, tokens)) (pure_within (n - 1)) kind (whole_number n) more (goes_by (parse_player players (whole_number n ∷ more)) (Ok (n - 1, more)) kind (whole_number n ∷ more) same g))
+      absurd (not_after (λ tokens. Ok (n - 1, tokens)) (pure_within (n - 1)) kind (whole_number n) more (goes_by (parse_player players (whole_number n ∷ more)) (Ok (n - 1, more)) kind (whole_number n ∷ more) same g))
   | inr e ↦
       let same : parse_player players (whole_number n ∷ more) ≡ Err (UnknownPlayer, whole_number n ∷ more) = rw (whole_again n more, e) refl in
       stop_kind (parse_player players (whole_number n ∷ more)) kind UnknownPlayer (whole_number n ∷ more) (whole_number n ∷ more) same g
@@ -259,7 +259,7 @@ unknown_player before t r kind s w e =
 pub node_kind_told : (kind other : EfgKind) (before : List Token) (t : Token) (r : List Token) → IsNodeKind kind before (t ∷ r) → parse_tree (before ++ t ∷ r) ≡ Err (other, t ∷ r) → other ≡ kind
 node_kind_told UnknownPlayer other before t r h e = unknown_player before t r other h.0 h.1 e
 node_kind_told SetMismatch other before t r h e = elim h [
-  | inl l ↦ lacks_behind l.0.owner l.0.label l.0.name t r other (first_goes l.0 (t ∷ r) (t ∷ r) other (set_point before l.0 [] [] l.1 other t r e))
+  | inl l ↦ lacks_after l.0.owner l.0.label l.0.name t r other (first_goes l.0 (t ∷ r) (t ∷ r) other (set_point before l.0 [] [] l.1 other t r e))
   | inr d ↦ differs before t r other d e
 ]
 node_kind_told (Probability set sum) other before t r h e = sums before t r other set sum h e

@@ -13,7 +13,7 @@ use Rattle.file_parts.proofs.TokenLaws.{text_is, word_is, whole_is, whole_again}
 use Rattle.written_trees.specs.Written.{SetUse, OutcomeUse, WrittenNode}
 use Rattle.written_trees.specs.Laws.{IsActionList, IsSetUse, IsOutcomeUse, IsWrittenNode}
 use Rattle.efg_reader.specs.TreeFile.{AreActions, IsSetPart, ArePayoffs, IsOutcomePart, IsInnerPart, IsChoicePart, IsNode, IsNodeWord}
-use Rattle.efg_reader.specs.TreeReading.{set_use_at, outcome_use_at, player_at, chance_use_at, own_use_at, is_word, choice_behind, choice_at, node_at, is_node_word, begins_node}
+use Rattle.efg_reader.specs.TreeReading.{set_use_at, outcome_use_at, player_at, chance_use_at, own_use_at, is_word, choice_after, choice_at, node_at, is_node_word, begins_node}
 use Rattle.efg_reader.proofs.SetLaws.{IsBare, set_is, set_again}
 use Rattle.efg_reader.proofs.OutcomeLaws.{outcome_is, outcome_again, outcome_bare}
 use Rattle.std.proofs.lemmas.Bool.{or_cases}
@@ -67,7 +67,7 @@ pub word_passes : (word expected : List ℕ) → is_word word expected ≡ true 
 word_passes word expected e = (slice_eq-Decides Decides-eqb word expected _ refl).0 e
 
 -- ---- a choice
--- a choice comes first, behind a word and a name
+-- a choice comes first, after a word and a name
 abbrev pub BeginsWithChoice : ℕ → List Token → Option SetUse × List Token → Type 0
 BeginsWithChoice players tokens x = (part : List Token) × IsChoicePart players part x.0 × (tokens ≡ part ++ x.1)
 
@@ -75,7 +75,7 @@ BeginsWithChoice players tokens x = (part : List Token) × IsChoicePart players 
 choice_of : (players : ℕ) (owner : Option ℕ) (part : List Token) (used : SetUse) → used.owner ≡ owner → IsInnerPart players owner part used → IsChoicePart players part (Some used)
 choice_of players owner part used e h = subst (λ (o : Option ℕ). IsInnerPart players o part used) (sym e) h
 
--- what is read behind `c` is a choice of chance
+-- what is read after `c` is a choice of chance
 chance_is : (players : ℕ) (name : List ℕ) (tokens : List Token) (x : Option SetUse × List Token) → chance_use_at tokens ≡ Some x → BeginsWithChoice players (Word (codes "c") ∷ Text name ∷ tokens) x
 unfolding chance_use_at
 chance_is players name tokens x e =
@@ -85,7 +85,7 @@ chance_is players name tokens x e =
     let is = choice_of players None (front ++ s.part) a.0.0 s.is_owner (name, s.part, refl, s.is_set) in
     subst (BeginsWithChoice players (front ++ tokens)) (same_Some _ _ a.2) (front ++ s.part, is, ap (λ (r : List Token). front ++ r) s.is)
 
--- what is read behind `p` is a choice of a player
+-- what is read after `p` is a choice of a player
 own_is : (players : ℕ) (name : List ℕ) (tokens : List Token) (x : Option SetUse × List Token) → own_use_at players tokens ≡ Some x → BeginsWithChoice players (Word (codes "p") ∷ Text name ∷ tokens) x
 unfolding own_use_at
 own_is players name tokens x e =
@@ -102,9 +102,9 @@ own_is players name tokens x e =
 with_word : (players : ℕ) (word expected name : List ℕ) (tokens : List Token) (x : Option SetUse × List Token) → is_word word expected ≡ true → BeginsWithChoice players (Word expected ∷ Text name ∷ tokens) x → BeginsWithChoice players (Word word ∷ Text name ∷ tokens) x
 with_word players word expected name tokens x e h = rw (word_passes word expected e) h
 
--- what is read behind a word and a name is a choice
-choice_behind_is : (players : ℕ) (word name : List ℕ) (tokens : List Token) (x : Option SetUse × List Token) → choice_behind players word tokens ≡ Some x → BeginsWithChoice players (Word word ∷ Text name ∷ tokens) x
-choice_behind_is players word name tokens x e =
+-- what is read after a word and a name is a choice
+choice_after_is : (players : ℕ) (word name : List ℕ) (tokens : List Token) (x : Option SetUse × List Token) → choice_after players word tokens ≡ Some x → BeginsWithChoice players (Word word ∷ Text name ∷ tokens) x
+choice_after_is players word name tokens x e =
     let at_end : Option (Option SetUse × List Token) = cond (is_word word (codes "t")) (Some (None, tokens)) None in
     let not_chance : Option (Option SetUse × List Token) = cond (is_word word (codes "p")) (own_use_at players tokens) at_end in
     elim (either (is_word word (codes "c")) (chance_use_at tokens) not_chance (Some x) e) [
@@ -124,7 +124,7 @@ choice_is players tokens x e =
     let a = bind_some (word_at tokens) _ x e in
     let b = bind_some (text_at a.0.1) _ x a.2 in
     let all : tokens ≡ Word a.0.0 ∷ Text b.0.0 ∷ b.0.1 = word_is tokens a.0 a.1 ∙ ap (λ (r : List Token). Word a.0.0 ∷ r) (text_is a.0.1 b.0 b.1) in
-    rw all (choice_behind_is players a.0.0 b.0.0 b.0.1 x b.2)
+    rw all (choice_after_is players a.0.0 b.0.0 b.0.1 x b.2)
 
 -- a choice of this owner is read
 inner_again : (players : ℕ) (owner : Option ℕ) (part rest : List Token) (used : SetUse) → used.owner ≡ owner → IsInnerPart players owner part used → IsBare rest → choice_at players (part ++ rest) ≡ Some (Some used, rest)

@@ -10,7 +10,7 @@ use Rattle.file_parts.specs.Parsing.{Parsed, ◌>>=◌, wanted, passed}
 use Rattle.file_parts.proofs.Readers.{chain, IsReader, bind_reader, choose, choose_reader, same_reader, ok_err, bind_ok}
 use Rattle.file_parts.proofs.TokenReaders.{left_reader, text_reader, opens_first}
 use Rattle.written_trees.specs.Written.{SetUse, OutcomeUse}
-use Rattle.written_trees.specs.Building.{BegunSet, BegunOutcome, set_place, outcome_place, new_set, used_set, new_outcome, used_outcome}
+use Rattle.written_trees.specs.Building.{PartialSet, PartialOutcome, set_place, outcome_place, new_set, used_set, new_outcome, used_outcome}
 use Rattle.efg_reader.specs.TreeParsing.{has_text, parse_optional, parse_list_of, parse_first_list, parse_repeated_list, parse_later_list, parse_use, parse_first_payoffs, parse_repeated_payoffs, parse_later_payoffs, parse_outcome_use}
 use Rattle.efg_reader.proofs.PartReaders.{repeated_list_reader, first_payoffs_reader, repeated_payoffs_reader}
 use Rattle.efg_reader.specs.declared.kinds.EfgKind.{EfgKind}
@@ -111,45 +111,45 @@ first_list_reader None set C O = bind_reader (λ tokens. passed SetMismatch toke
 first_list_reader (Some i) set C O = bind_reader (λ tokens. passed SetMismatch tokens (left_at tokens)) (λ _ tokens. parse_list_of (Some i) set tokens) (left_reader SetMismatch) (λ _ _ _. O i set)
 
 -- what follows a use of a set
-abbrev pub use_then : {X : Type 0} → ℕ → List BegunSet → SetUse → Option BegunSet → (List BegunSet → List Token → Parsed EfgKind X) → List Token → Parsed EfgKind X
+abbrev pub use_then : {X : Type 0} → ℕ → List PartialSet → SetUse → Option PartialSet → (List PartialSet → List Token → Parsed EfgKind X) → List Token → Parsed EfgKind X
 use_then k sets used found g tokens = parse_use k sets used found tokens >>= λ x. g x.0 x.1
 
-pub use_reader : {X : Type 0} (k : ℕ) (sets : List BegunSet) (used : SetUse) (found : Option BegunSet) (g : List BegunSet → List Token → Parsed EfgKind X) → IsReader (parse_first_list used.owner used.label)
-    → ((more : List BegunSet) → IsReader (g more)) → ((more : List BegunSet) → ReadsNoBrace (g more)) → IsReader (use_then k sets used found g)
+pub use_reader : {X : Type 0} (k : ℕ) (sets : List PartialSet) (used : SetUse) (found : Option PartialSet) (g : List PartialSet → List Token → Parsed EfgKind X) → IsReader (parse_first_list used.owner used.label)
+    → ((more : List PartialSet) → IsReader (g more)) → ((more : List PartialSet) → ReadsNoBrace (g more)) → IsReader (use_then k sets used found g)
 use_reader k sets used None g F G N =
     same_reader (use_then k sets used None g) (λ tokens. parse_first_list used.owner used.label tokens >>= λ x. g (sets ++ new_set k used x.0 ∷ []) x.1)
     (λ tokens. map_then (parse_first_list used.owner used.label tokens) (λ actions. sets ++ new_set k used actions ∷ []) g)
     (bind_reader (parse_first_list used.owner used.label) (λ actions tokens. g (sets ++ new_set k used actions ∷ []) tokens) F (λ _ actions _. G (sets ++ new_set k used actions ∷ [])))
 use_reader k sets used (Some set) g F G N =
-    let more : List BegunSet = slice_set sets (set_place sets (used.owner, used.label)) (used_set k used set) in
+    let more : List PartialSet = slice_set sets (set_place sets (used.owner, used.label)) (used_set k used set) in
     same_reader (use_then k sets used (Some set) g) (listed (parse_repeated_list set.owner set.actions) (g more))
     (λ tokens. map_then (parse_later_list set.owner set.actions tokens) (λ _. more) g)
     (listed_reader (parse_repeated_list set.owner set.actions) (g more) (repeated_opens set.owner set.actions) (repeated_list_reader set.owner set.actions) (G more) (N more))
 
 -- ---- outcomes
-abbrev pub outcome_then : {X : Type 0} → ℕ → List BegunOutcome → OutcomeUse → Option BegunOutcome → (List BegunOutcome → List Token → Parsed EfgKind X) → List Token → Parsed EfgKind X
+abbrev pub outcome_then : {X : Type 0} → ℕ → List PartialOutcome → OutcomeUse → Option PartialOutcome → (List PartialOutcome → List Token → Parsed EfgKind X) → List Token → Parsed EfgKind X
 outcome_then players outcomes used found g tokens = parse_outcome_use players outcomes used found tokens >>= λ x. g x.0 x.1
 
-pub outcome_reader : {X : Type 0} (players : ℕ) (outcomes : List BegunOutcome) (used : OutcomeUse) (found : Option BegunOutcome) (g : List BegunOutcome → List Token → Parsed EfgKind X)
-    → ((more : List BegunOutcome) → IsReader (g more)) → ((more : List BegunOutcome) → ReadsNoBrace (g more)) → IsReader (outcome_then players outcomes used found g)
+pub outcome_reader : {X : Type 0} (players : ℕ) (outcomes : List PartialOutcome) (used : OutcomeUse) (found : Option PartialOutcome) (g : List PartialOutcome → List Token → Parsed EfgKind X)
+    → ((more : List PartialOutcome) → IsReader (g more)) → ((more : List PartialOutcome) → ReadsNoBrace (g more)) → IsReader (outcome_then players outcomes used found g)
 outcome_reader players outcomes used None g G N =
     same_reader (outcome_then players outcomes used None g) (λ tokens. parse_first_payoffs players tokens >>= λ x. g (outcomes ++ new_outcome used x.0 ∷ []) x.1)
     (λ tokens. map_then (parse_first_payoffs players tokens) (λ payoffs. outcomes ++ new_outcome used payoffs ∷ []) g)
     (bind_reader (parse_first_payoffs players) (λ payoffs tokens. g (outcomes ++ new_outcome used payoffs ∷ []) tokens) (first_payoffs_reader players) (λ _ payoffs _. G (outcomes ++ new_outcome used payoffs ∷ [])))
 outcome_reader players outcomes used (Some outcome) g G N =
-    let more : List BegunOutcome = slice_set outcomes (outcome_place outcomes used.label) (used_outcome used outcome) in
+    let more : List PartialOutcome = slice_set outcomes (outcome_place outcomes used.label) (used_outcome used outcome) in
     same_reader (outcome_then players outcomes used (Some outcome) g) (listed (parse_repeated_payoffs outcome.payoffs) (g more))
     (λ tokens. map_then (parse_later_payoffs outcome.payoffs tokens) (λ _. more) g)
     (listed_reader (parse_repeated_payoffs outcome.payoffs) (g more) (payoffs_open outcome.payoffs) (repeated_payoffs_reader outcome.payoffs) (G more) (N more))
 
--- ---- no text comes behind a name
+-- ---- no text comes after a name
 -- a list of a first use opens
-pub outcome_no_text : {X : Type 0} (players : ℕ) (outcomes : List BegunOutcome) (used : OutcomeUse) (found : Option BegunOutcome) (g : List BegunOutcome → List Token → Parsed EfgKind X) → ((more : List BegunOutcome) → ReadsNoText (g more)) → ReadsNoText (outcome_then players outcomes used found g)
+pub outcome_no_text : {X : Type 0} (players : ℕ) (outcomes : List PartialOutcome) (used : OutcomeUse) (found : Option PartialOutcome) (g : List PartialOutcome → List Token → Parsed EfgKind X) → ((more : List PartialOutcome) → ReadsNoText (g more)) → ReadsNoText (outcome_then players outcomes used found g)
 unfolding parse_first_payoffs
 outcome_no_text players outcomes used None g T = record { no_text = λ text rest y e. ok_err y (OutcomeMismatch, Text text ∷ rest) (sym e) }
 outcome_no_text players outcomes used (Some outcome) g T = record { no_text = λ text rest y e. (T (slice_set outcomes (outcome_place outcomes used.label) (used_outcome used outcome))).no_text text rest y e }
 
-pub use_no_text : {X : Type 0} (k : ℕ) (sets : List BegunSet) (used : SetUse) (found : Option BegunSet) (g : List BegunSet → List Token → Parsed EfgKind X) → ((more : List BegunSet) → ReadsNoText (g more)) → ReadsNoText (use_then k sets used found g)
+pub use_no_text : {X : Type 0} (k : ℕ) (sets : List PartialSet) (used : SetUse) (found : Option PartialSet) (g : List PartialSet → List Token → Parsed EfgKind X) → ((more : List PartialSet) → ReadsNoText (g more)) → ReadsNoText (use_then k sets used found g)
 unfolding parse_first_list
 use_no_text k sets used None g T = record { no_text = λ text rest y e. ok_err y (SetMismatch, Text text ∷ rest) (sym e) }
 use_no_text k sets used (Some set) g T = record { no_text = λ text rest y e. (T (slice_set sets (set_place sets (used.owner, used.label)) (used_set k used set))).no_text text rest y e }

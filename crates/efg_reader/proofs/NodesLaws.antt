@@ -8,7 +8,7 @@ use Rattle.game_core.specs.declared.tree.Node.{Node}
 use Rattle.file_parts.specs.Reading.{ends}
 use Rattle.file_parts.proofs.TokenLaws.{end_is}
 use Rattle.written_trees.specs.Written.{WrittenNode}
-use Rattle.written_trees.specs.Building.{Begun, Branching, nothing_begun, free_places, add_at, add_node, add_nodes, passed_at, passed, within_limits}
+use Rattle.written_trees.specs.Building.{PartialTree, Branching, root_alone, open_branches, add_at, add_node, add_nodes, passed_at, passed, within_limits}
 use Rattle.written_trees.specs.Laws.{IsWrittenNode}
 use Rattle.written_trees.proofs.Sound.{AreBranchings}
 use Rattle.efg_reader.specs.TreeFile.{IsNode, AreNodes, IsNodeWord}
@@ -50,63 +50,63 @@ within_met (Some other) reading what e = cc
 
 -- ---- one node more
 -- a node comes first, and the tree grows by it
-pub record BeginsWithNext (players : ℕ) (begun : Begun) (tokens : List Token) (x : Begun × List Token) : Type 0 where
-  pub limit : passed begun ≡ None
+pub record BeginsWithNext (players : ℕ) (partial : PartialTree) (tokens : List Token) (x : PartialTree × List Token) : Type 0 where
+  pub limit : passed partial ≡ None
   pub node : WrittenNode
   pub part : List Token
   pub is_node : IsNode players part node
-  pub added : add_node begun node ≡ Some x.0
+  pub added : add_node partial node ≡ Some x.0
   pub is : tokens ≡ part ++ x.1
 
 -- what is read as a further node is one
-pub one_more_is : (players : ℕ) (begun : Begun) (tokens : List Token) (x : Begun × List Token) → one_more_at players begun tokens ≡ Ok x → BeginsWithNext players begun tokens x
+pub one_more_is : (players : ℕ) (partial : PartialTree) (tokens : List Token) (x : PartialTree × List Token) → one_more_at players partial tokens ≡ Ok x → BeginsWithNext players partial tokens x
 unfolding one_more_at next_at
-one_more_is players begun tokens x e =
-    elim (either (begins_node tokens) (within_limit (passed begun) (next_at players begun tokens)) (Err None) (Ok x) e) [
+one_more_is players partial tokens x e =
+    elim (either (begins_node tokens) (within_limit (passed partial) (next_at players partial tokens)) (Err None) (Ok x) e) [
       | inl p ↦
-          let w = within_is (passed begun) (next_at players begun tokens) x p.1 in
+          let w = within_is (passed partial) (next_at players partial tokens) x p.1 in
           let a = bind_some (node_at players tokens) _ x w.1 in
-          let b = bind_some (add_node begun a.0.0) _ x a.2 in
+          let b = bind_some (add_node partial a.0.0) _ x a.2 in
           let n = node_is players tokens a.0 a.1 in
-          let here : BeginsWithNext players begun tokens (b.0, a.0.1) = record { limit = w.0; node = a.0.0; part = n.0; is_node = n.1; added = b.1; is = n.2 } in
-          subst (BeginsWithNext players begun tokens) (same_Some _ _ b.2) here
+          let here : BeginsWithNext players partial tokens (b.0, a.0.1) = record { limit = w.0; node = a.0.0; part = n.0; is_node = n.1; added = b.1; is = n.2 } in
+          subst (BeginsWithNext players partial tokens) (same_Some _ _ b.2) here
       | inr p ↦ let no = p.1 in cc
     ]
 
 -- a node that passes a limit begins
-one_more_met : (players : ℕ) (begun : Begun) (tokens : List Token) (what : What) → one_more_at players begun tokens ≡ Err (Some what) → (begins_node tokens ≡ true) × (passed begun ≡ Some what)
+one_more_met : (players : ℕ) (partial : PartialTree) (tokens : List Token) (what : What) → one_more_at players partial tokens ≡ Err (Some what) → (begins_node tokens ≡ true) × (passed partial ≡ Some what)
 unfolding one_more_at
-one_more_met players begun tokens what e =
-    elim (either (begins_node tokens) (within_limit (passed begun) (next_at players begun tokens)) (Err None) (Err (Some what)) e) [
-      | inl p ↦ (p.0, within_met (passed begun) (next_at players begun tokens) what p.1)
+one_more_met players partial tokens what e =
+    elim (either (begins_node tokens) (within_limit (passed partial) (next_at players partial tokens)) (Err None) (Err (Some what)) e) [
+      | inl p ↦ (p.0, within_met (passed partial) (next_at players partial tokens) what p.1)
       | inr p ↦ let no = p.1 in cc
     ]
 
 -- a further node is read
-pub one_more_again : (players : ℕ) (begun next : Begun) (part rest : List Token) (node : WrittenNode) → IsNode players part node → IsBare rest → passed begun ≡ None → add_node begun node ≡ Some next
-    → one_more_at players begun (part ++ rest) ≡ Ok (next, rest)
+pub one_more_again : (players : ℕ) (partial next : PartialTree) (part rest : List Token) (node : WrittenNode) → IsNode players part node → IsBare rest → passed partial ≡ None → add_node partial node ≡ Some next
+    → one_more_at players partial (part ++ rest) ≡ Ok (next, rest)
 unfolding one_more_at next_at
-one_more_again players begun next part rest node h bare limit added =
+one_more_again players partial next part rest node h bare limit added =
     let word = node_begins players part node h in
     let begins : begins_node (part ++ rest) ≡ true = rw word.is (node_word_passes word.word word.is_word) in
     rw (begins, limit, node_again players part rest node h bare, added) refl
 
 -- ---- nodes
 -- nodes come first, and the tree grows by them
-pub record BeginsWithNodes (players : ℕ) (begun : Begun) (tokens : List Token) (x : Begun × List Token) : Type 0 where
+pub record BeginsWithNodes (players : ℕ) (partial : PartialTree) (tokens : List Token) (x : PartialTree × List Token) : Type 0 where
   pub written : List WrittenNode
   pub nodes : List Token
   pub are_nodes : AreNodes players nodes written
-  pub added : add_nodes begun written ≡ Some x.0
+  pub added : add_nodes partial written ≡ Some x.0
   pub is : tokens ≡ nodes ++ x.1
 
 -- no node
-pub none_more : (players : ℕ) (begun : Begun) (tokens : List Token) → BeginsWithNodes players begun tokens (begun, tokens)
-none_more players begun tokens = record { written = []; nodes = []; are_nodes = refl; added = refl; is = refl }
+pub none_more : (players : ℕ) (partial : PartialTree) (tokens : List Token) → BeginsWithNodes players partial tokens (partial, tokens)
+none_more players partial tokens = record { written = []; nodes = []; are_nodes = refl; added = refl; is = refl }
 
 -- one more node in front
-pub one_before : (players : ℕ) (begun : Begun) (tokens : List Token) (one x : Begun × List Token) → BeginsWithNext players begun tokens one → BeginsWithNodes players one.0 one.1 x → BeginsWithNodes players begun tokens x
-one_before players begun tokens one x o m = record {
+pub one_before : (players : ℕ) (partial : PartialTree) (tokens : List Token) (one x : PartialTree × List Token) → BeginsWithNext players partial tokens one → BeginsWithNodes players one.0 one.1 x → BeginsWithNodes players partial tokens x
+one_before players partial tokens one x o m = record {
   written = o.node ∷ m.written;
   nodes = o.part ++ m.nodes;
   are_nodes = (o.part, m.nodes, refl, o.is_node, m.are_nodes);
@@ -114,64 +114,64 @@ one_before players begun tokens one x o m = record {
   is = o.is ∙ ap (λ (r : List Token). o.part ++ r) m.is ∙ sym (append_assoc o.part m.nodes x.1);
 }
 
--- what is read as nodes are nodes, and no place is left free
-pub nodes_are : (most players : ℕ) (begun : Begun) (tokens : List Token) (x : Begun × List Token) → nodes_at most players begun tokens ≡ Ok x → BeginsWithNodes players begun tokens x × (is_whole x.0 ≡ true)
-nodes_are zero players begun tokens x e = cc
-nodes_are (suc most) players begun tokens x e =
-    elim (either (is_whole begun) (Ok (begun, tokens)) (and_then (one_more_at players begun tokens) (λ y. nodes_at most players y.0 y.1)) (Ok x) e) [
-      | inl p ↦ subst (λ (y : Begun × List Token). BeginsWithNodes players begun tokens y × (is_whole y.0 ≡ true)) (ok_same _ _ p.1) (none_more players begun tokens, p.0)
+-- what is read as nodes are nodes, and no branch is left open
+pub nodes_are : (most players : ℕ) (partial : PartialTree) (tokens : List Token) (x : PartialTree × List Token) → nodes_at most players partial tokens ≡ Ok x → BeginsWithNodes players partial tokens x × (is_whole x.0 ≡ true)
+nodes_are zero players partial tokens x e = cc
+nodes_are (suc most) players partial tokens x e =
+    elim (either (is_whole partial) (Ok (partial, tokens)) (and_then (one_more_at players partial tokens) (λ y. nodes_at most players y.0 y.1)) (Ok x) e) [
+      | inl p ↦ subst (λ (y : PartialTree × List Token). BeginsWithNodes players partial tokens y × (is_whole y.0 ≡ true)) (ok_same _ _ p.1) (none_more players partial tokens, p.0)
       | inr p ↦
-          let a = and_then_ok (one_more_at players begun tokens) _ x p.1 in
+          let a = and_then_ok (one_more_at players partial tokens) _ x p.1 in
           let more = nodes_are most players a.0.0 a.0.1 x a.2 in
-          (one_before players begun tokens a.0 x (one_more_is players begun tokens a.0 a.1) more.0, more.1)
+          (one_before players partial tokens a.0 x (one_more_is players partial tokens a.0 a.1) more.0, more.1)
     ]
 
 -- nodes come first, and then one begins that passes a limit
-pub record BeginsBeyond (players : ℕ) (begun : Begun) (tokens : List Token) (what : What) : Type 0 where
-  pub x : Begun × List Token
-  pub nodes : BeginsWithNodes players begun tokens x
+pub record BeginsBeyond (players : ℕ) (partial : PartialTree) (tokens : List Token) (what : What) : Type 0 where
+  pub x : PartialTree × List Token
+  pub nodes : BeginsWithNodes players partial tokens x
   pub begins : begins_node x.1 ≡ true
   pub limit : passed x.0 ≡ Some what
 
 -- a limit that is met is passed by a node
-nodes_met : (most players : ℕ) (begun : Begun) (tokens : List Token) (what : What) → nodes_at most players begun tokens ≡ Err (Some what) → BeginsBeyond players begun tokens what
-nodes_met zero players begun tokens what e = cc
-nodes_met (suc most) players begun tokens what e =
-    elim (either (is_whole begun) (Ok (begun, tokens)) (and_then (one_more_at players begun tokens) (λ y. nodes_at most players y.0 y.1)) (Err (Some what)) e) [
+nodes_met : (most players : ℕ) (partial : PartialTree) (tokens : List Token) (what : What) → nodes_at most players partial tokens ≡ Err (Some what) → BeginsBeyond players partial tokens what
+nodes_met zero players partial tokens what e = cc
+nodes_met (suc most) players partial tokens what e =
+    elim (either (is_whole partial) (Ok (partial, tokens)) (and_then (one_more_at players partial tokens) (λ y. nodes_at most players y.0 y.1)) (Err (Some what)) e) [
       | inl p ↦ let no = p.1 in cc
-      | inr p ↦ elim (and_then_met (one_more_at players begun tokens) _ what p.1) [
+      | inr p ↦ elim (and_then_met (one_more_at players partial tokens) _ what p.1) [
         | inl m ↦
-            let here = one_more_met players begun tokens what m in
-            record { x = (begun, tokens); nodes = none_more players begun tokens; begins = here.0; limit = here.1 }
+            let here = one_more_met players partial tokens what m in
+            record { x = (partial, tokens); nodes = none_more players partial tokens; begins = here.0; limit = here.1 }
         | inr a ↦
             let more = nodes_met most players a.0.0 a.0.1 what a.2 in
-            record { x = more.x; nodes = one_before players begun tokens a.0 more.x (one_more_is players begun tokens a.0 a.1) more.nodes; begins = more.begins; limit = more.limit }
+            record { x = more.x; nodes = one_before players partial tokens a.0 more.x (one_more_is players partial tokens a.0 a.1) more.nodes; begins = more.begins; limit = more.limit }
       ]
     ]
 
 -- where a node is added, a place is free
-pub place_free : (begun next : Begun) (node : WrittenNode) (branchings : List Branching) → add_at begun node branchings ≡ Some next → nat_eq (length branchings) 0 ≡ false
-place_free begun next node [] e = cc
-place_free begun next node (b ∷ branchings) e = grind (arith, nat_tests)
+pub place_free : (partial next : PartialTree) (node : WrittenNode) (branchings : List Branching) → add_at partial node branchings ≡ Some next → nat_eq (length branchings) 0 ≡ false
+place_free partial next node [] e = cc
+place_free partial next node (b ∷ branchings) e = grind (arith, nat_tests)
 
 -- a node is read, and what follows it is read next
-step_again : (most players : ℕ) (begun next : Begun) (part rest : List Token) (node : WrittenNode) → IsNode players part node → IsBare rest → passed begun ≡ None → add_node begun node ≡ Some next
-    → nodes_at (suc most) players begun (part ++ rest) ≡ nodes_at most players next rest
-step_again most players begun next part rest node h bare limit added =
-    rw (place_free begun next node begun.branchings added, one_more_again players begun next part rest node h bare limit added) refl
+step_again : (most players : ℕ) (partial next : PartialTree) (part rest : List Token) (node : WrittenNode) → IsNode players part node → IsBare rest → passed partial ≡ None → add_node partial node ≡ Some next
+    → nodes_at (suc most) players partial (part ++ rest) ≡ nodes_at most players next rest
+step_again most players partial next part rest node h bare limit added =
+    rw (place_free partial next node partial.branchings added, one_more_again players partial next part rest node h bare limit added) refl
 
 -- one node is added, and then the others
-pub record AreAdded (begun more : Begun) (one : WrittenNode) (written : List WrittenNode) : Type 0 where
-  pub limit : passed begun ≡ None
-  pub next : Begun
-  pub added : add_node begun one ≡ Some next
+pub record AreAdded (partial more : PartialTree) (one : WrittenNode) (written : List WrittenNode) : Type 0 where
+  pub limit : passed partial ≡ None
+  pub next : PartialTree
+  pub added : add_node partial one ≡ Some next
   pub others : add_nodes next written ≡ Some more
 
 -- the parts of adding nodes
-pub parts_added : (begun more : Begun) (one : WrittenNode) (written : List WrittenNode) → add_nodes begun (one ∷ written) ≡ Some more → AreAdded begun more one written
-parts_added begun more one written e =
-    let a = bind_some (within_limits (passed begun) (add_node begun one)) (λ next. add_nodes next written) more e in
-    let w = allowed (passed begun) (add_node begun one) a.0 a.1 in
+pub parts_added : (partial more : PartialTree) (one : WrittenNode) (written : List WrittenNode) → add_nodes partial (one ∷ written) ≡ Some more → AreAdded partial more one written
+parts_added partial more one written e =
+    let a = bind_some (within_limits (passed partial) (add_node partial one)) (λ next. add_nodes next written) more e in
+    let w = allowed (passed partial) (add_node partial one) a.0 a.1 in
     record { limit = w.0; next = a.0; added = w.1; others = a.2 }
 
 -- nodes before what is bare are bare
@@ -182,18 +182,18 @@ nodes_bare players nodes rest (one ∷ written) h bare =
     rw (h.2, word.is) (record { no_text = refl; no_list = refl })
 
 -- nodes are read, and what follows them is read next
-nodes_again : (most left players : ℕ) (begun more : Begun) (nodes rest : List Token) (written : List WrittenNode) → AreNodes players nodes written → IsBare rest → add_nodes begun written ≡ Some more
-    → most ≡ length written + left → nodes_at most players begun (nodes ++ rest) ≡ nodes_at left players more rest
-nodes_again most left players begun more nodes rest [] h bare added n =
+nodes_again : (most left players : ℕ) (partial more : PartialTree) (nodes rest : List Token) (written : List WrittenNode) → AreNodes players nodes written → IsBare rest → add_nodes partial written ≡ Some more
+    → most ≡ length written + left → nodes_at most players partial (nodes ++ rest) ≡ nodes_at left players more rest
+nodes_again most left players partial more nodes rest [] h bare added n =
     let steps : most ≡ left = omega arith in
     rw (h, steps, same_Some _ _ added) refl
-nodes_again zero left players begun more nodes rest (one ∷ written) h bare added n = absurd (omega arith)
-nodes_again (suc most) left players begun more nodes rest (one ∷ written) h bare added n =
+nodes_again zero left players partial more nodes rest (one ∷ written) h bare added n = absurd (omega arith)
+nodes_again (suc most) left players partial more nodes rest (one ∷ written) h bare added n =
     let front = h.0 in
     let back = h.1 in
     let tokens : nodes ++ rest ≡ front ++ (back ++ rest) = rw h.2 (append_assoc front back rest) in
-    let a = parts_added begun more one written added in
-    let step = step_again most players begun a.next front (back ++ rest) one h.3 (nodes_bare players back rest written h.4 bare) a.limit a.added in
+    let a = parts_added partial more one written added in
+    let step = step_again most players partial a.next front (back ++ rest) one h.3 (nodes_bare players back rest written h.4 bare) a.limit a.added in
     let others = nodes_again most left players a.next more back rest written h.4 bare a.others (omega arith) in
     rw tokens (step ∙ others)
 
@@ -208,29 +208,29 @@ nodes_take players nodes (one ∷ written) h =
     omega arith
 
 -- as many steps as there are tokens, and one, are enough
-enough_steps : (players : ℕ) (more : Begun) (nodes rest : List Token) (written : List WrittenNode) → AreNodes players nodes written → IsBare rest → add_nodes nothing_begun written ≡ Some more
-    → (left : ℕ) × (nodes_at (suc (length (nodes ++ rest))) players nothing_begun (nodes ++ rest) ≡ nodes_at (suc left) players more rest)
+enough_steps : (players : ℕ) (more : PartialTree) (nodes rest : List Token) (written : List WrittenNode) → AreNodes players nodes written → IsBare rest → add_nodes root_alone written ≡ Some more
+    → (left : ℕ) × (nodes_at (suc (length (nodes ++ rest))) players root_alone (nodes ++ rest) ≡ nodes_at (suc left) players more rest)
 enough_steps players more nodes rest written h bare added =
     let tokens : List Token = nodes ++ rest in
     let few = nodes_take players nodes written h in
     let size = length-append nodes rest in
-    (length tokens - length written, nodes_again (suc (length tokens)) (suc (length tokens - length written)) players nothing_begun more nodes rest written h bare added (omega arith))
+    (length tokens - length written, nodes_again (suc (length tokens)) (suc (length tokens - length written)) players root_alone more nodes rest written h bare added (omega arith))
 
 -- ---- the places
--- where each branching has a free place and none is free, nothing branches
-nothing_left : (nodes : List Node) (branchings : List Branching) → AreBranchings nodes branchings → free_places branchings ≡ [] → branchings ≡ []
+-- where each branching has an open branch and none is free, nothing branches
+nothing_left : (nodes : List Node) (branchings : List Branching) → AreBranchings nodes branchings → open_branches branchings ≡ [] → branchings ≡ []
 nothing_left nodes [] h e = refl
 nothing_left nodes (b ∷ branchings) h e =
-    let left : b.count - b.next ≡ suc (b.count - suc b.next) = omega (arith, h.0.some_place) in
+    let left : b.count - b.next ≡ suc (b.count - suc b.next) = omega (arith, h.0.some_branch) in
     let no = rw left at e in
     cc
 
--- a tree with no free place is whole
-pub whole_again : (begun : Begun) → AreBranchings begun.nodes begun.branchings → free_places begun.branchings ≡ [] → is_whole begun ≡ true
-whole_again begun h e = rw (nothing_left begun.nodes begun.branchings h e) refl
+-- a tree with no open branch is whole
+pub whole_again : (partial : PartialTree) → AreBranchings partial.nodes partial.branchings → open_branches partial.branchings ≡ [] → is_whole partial ≡ true
+whole_again partial h e = rw (nothing_left partial.nodes partial.branchings h e) refl
 
--- where nothing branches, no place is free
-pub no_branching : (branchings : List Branching) → nat_eq (length branchings) 0 ≡ true → free_places branchings ≡ []
+-- where nothing branches, no branch is open
+pub no_branching : (branchings : List Branching) → nat_eq (length branchings) 0 ≡ true → open_branches branchings ≡ []
 no_branching [] e = refl
 no_branching (b ∷ branchings) e = absurd (grind (arith, nat_tests))
 
@@ -240,50 +240,50 @@ pub all_written : (players : ℕ) (nodes : List Token) (written : List WrittenNo
 all_written players nodes [] h = All-nil (IsWrittenNode players)
 all_written players nodes (one ∷ written) h = All-cons (IsWrittenNode players) one written (node_written players h.0 one h.3) (all_written players h.1 written h.4)
 
--- what is read as the nodes of a file are nodes that leave no place free, and end it
-pub whole_nodes_are : (players : ℕ) (tokens : List Token) (begun : Begun) → whole_nodes_at players tokens ≡ Ok begun → BeginsWithNodes players nothing_begun tokens (begun, []) × (free_places begun.branchings ≡ [])
+-- what is read as the nodes of a file are nodes that leave no branch open, and end it
+pub whole_nodes_are : (players : ℕ) (tokens : List Token) (partial : PartialTree) → whole_nodes_at players tokens ≡ Ok partial → BeginsWithNodes players root_alone tokens (partial, []) × (open_branches partial.branchings ≡ [])
 unfolding whole_nodes_at
-whole_nodes_are players tokens begun e =
-    let a = and_then_ok (nodes_at (suc (length tokens)) players nothing_begun tokens) _ begun e in
-    let n = nodes_are (suc (length tokens)) players nothing_begun tokens a.0 a.1 in
-    elim (either (ends a.0.1) (Ok a.0.0) (Err None) (Ok begun) a.2) [
+whole_nodes_are players tokens partial e =
+    let a = and_then_ok (nodes_at (suc (length tokens)) players root_alone tokens) _ partial e in
+    let n = nodes_are (suc (length tokens)) players root_alone tokens a.0 a.1 in
+    elim (either (ends a.0.1) (Ok a.0.0) (Err None) (Ok partial) a.2) [
       | inl p ↦
-          let same : a.0.0 ≡ begun = ok_same _ _ p.1 in
-          let both : a.0 ≡ (begun, []) = ap₂ (λ (b : Begun) (r : List Token). (b, r)) same (end_is a.0.1 p.0) in
-          (subst (BeginsWithNodes players nothing_begun tokens) both n.0, subst (λ (b : Begun). free_places b.branchings ≡ []) same (no_branching a.0.0.branchings n.1))
+          let same : a.0.0 ≡ partial = ok_same _ _ p.1 in
+          let both : a.0 ≡ (partial, []) = ap₂ (λ (b : PartialTree) (r : List Token). (b, r)) same (end_is a.0.1 p.0) in
+          (subst (BeginsWithNodes players root_alone tokens) both n.0, subst (λ (b : PartialTree). open_branches b.branchings ≡ []) same (no_branching a.0.0.branchings n.1))
       | inr p ↦ let no = p.1 in cc
     ]
 
 -- a limit that is met is passed by a node of the file
-pub whole_nodes_met : (players : ℕ) (tokens : List Token) (what : What) → whole_nodes_at players tokens ≡ Err (Some what) → BeginsBeyond players nothing_begun tokens what
+pub whole_nodes_met : (players : ℕ) (tokens : List Token) (what : What) → whole_nodes_at players tokens ≡ Err (Some what) → BeginsBeyond players root_alone tokens what
 unfolding whole_nodes_at
 whole_nodes_met players tokens what e =
-    elim (and_then_met (nodes_at (suc (length tokens)) players nothing_begun tokens) _ what e) [
-      | inl m ↦ nodes_met (suc (length tokens)) players nothing_begun tokens what m
+    elim (and_then_met (nodes_at (suc (length tokens)) players root_alone tokens) _ what e) [
+      | inl m ↦ nodes_met (suc (length tokens)) players root_alone tokens what m
       | inr a ↦ elim (either (ends a.0.1) (Ok a.0.0) (Err None) (Err (Some what)) a.2) [ inl p ↦ let no = p.1 in cc | inr p ↦ let no = p.1 in cc ]
     ]
 
--- nodes that leave no place free are read
-pub whole_nodes_again : (players : ℕ) (begun : Begun) (nodes : List Token) (written : List WrittenNode) → AreNodes players nodes written → add_nodes nothing_begun written ≡ Some begun → is_whole begun ≡ true
-    → whole_nodes_at players (nodes ++ []) ≡ Ok begun
+-- nodes that leave no branch open are read
+pub whole_nodes_again : (players : ℕ) (partial : PartialTree) (nodes : List Token) (written : List WrittenNode) → AreNodes players nodes written → add_nodes root_alone written ≡ Some partial → is_whole partial ≡ true
+    → whole_nodes_at players (nodes ++ []) ≡ Ok partial
 unfolding whole_nodes_at
-whole_nodes_again players begun nodes written h added whole =
-    let steps = enough_steps players begun nodes [] written h (record { no_text = refl; no_list = refl }) added in
-    let read : nodes_at (suc (length (nodes ++ []))) players nothing_begun (nodes ++ []) ≡ Ok (begun, []) = steps.1 ∙ rw whole refl in
+whole_nodes_again players partial nodes written h added whole =
+    let steps = enough_steps players partial nodes [] written h (record { no_text = refl; no_list = refl }) added in
+    let read : nodes_at (suc (length (nodes ++ []))) players root_alone (nodes ++ []) ≡ Ok (partial, []) = steps.1 ∙ rw whole refl in
     rw read refl
 
 -- where a node would pass a limit, a place is free
-limit_free : (begun : Begun) (what : What) (branchings : List Branching) → passed_at begun branchings ≡ Some what → nat_eq (length branchings) 0 ≡ false
-limit_free begun what [] e = cc
-limit_free begun what (b ∷ branchings) e = grind (arith, nat_tests)
+limit_free : (partial : PartialTree) (what : What) (branchings : List Branching) → passed_at partial branchings ≡ Some what → nat_eq (length branchings) 0 ≡ false
+limit_free partial what [] e = cc
+limit_free partial what (b ∷ branchings) e = grind (arith, nat_tests)
 
 -- a limit that a node passes is met
-pub whole_nodes_stop : (players : ℕ) (begun : Begun) (nodes : List Token) (written : List WrittenNode) (word : List ℕ) (rest : List Token) (what : What) → AreNodes players nodes written
-    → add_nodes nothing_begun written ≡ Some begun → IsNodeWord word → passed begun ≡ Some what → whole_nodes_at players (nodes ++ (Word word ∷ rest)) ≡ Err (Some what)
+pub whole_nodes_stop : (players : ℕ) (partial : PartialTree) (nodes : List Token) (written : List WrittenNode) (word : List ℕ) (rest : List Token) (what : What) → AreNodes players nodes written
+    → add_nodes root_alone written ≡ Some partial → IsNodeWord word → passed partial ≡ Some what → whole_nodes_at players (nodes ++ (Word word ∷ rest)) ≡ Err (Some what)
 unfolding whole_nodes_at one_more_at
-whole_nodes_stop players begun nodes written word rest what h added is_word limit =
+whole_nodes_stop players partial nodes written word rest what h added is_word limit =
     let tokens : List Token = nodes ++ (Word word ∷ rest) in
-    let steps = enough_steps players begun nodes (Word word ∷ rest) written h (record { no_text = refl; no_list = refl }) added in
-    let next : one_more_at players begun (Word word ∷ rest) ≡ Err (Some what) = rw (node_word_passes word is_word, limit) refl in
-    let read : nodes_at (suc (length tokens)) players nothing_begun tokens ≡ Err (Some what) = steps.1 ∙ rw (limit_free begun what begun.branchings limit, next) refl in
+    let steps = enough_steps players partial nodes (Word word ∷ rest) written h (record { no_text = refl; no_list = refl }) added in
+    let next : one_more_at players partial (Word word ∷ rest) ≡ Err (Some what) = rw (node_word_passes word is_word, limit) refl in
+    let read : nodes_at (suc (length tokens)) players root_alone tokens ≡ Err (Some what) = steps.1 ∙ rw (limit_free partial what partial.branchings limit, next) refl in
     rw read refl

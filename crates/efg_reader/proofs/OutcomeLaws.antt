@@ -63,13 +63,13 @@ payoffs_bare players list rest (Some payoffs) h e = rw h.1 refl
 abbrev pub BeginsWithOutcome : ℕ → List Token → Option OutcomeUse × List Token → Type 0
 BeginsWithOutcome players tokens x = (part : List Token) × IsOutcomePart players part x.0 × (tokens ≡ part ++ x.1)
 
--- what is read behind a positive number is an outcome
+-- what is read after a positive number is an outcome
 named_outcome_is : (players label : ℕ) (tokens : List Token) (x : Option OutcomeUse × List Token) → 1 ≤ label → named_outcome_at players label tokens ≡ Some x → BeginsWithOutcome players (whole_number label ∷ tokens) x
 unfolding named_outcome_at
 named_outcome_is players label tokens x some e =
-    let behind : List Token = (optional_text_at tokens).1 in
-    let a = bind_some (optional_at (payoff_list_at players) behind) _ x e in
-    let p = optional_payoffs_are players behind a.0 a.1 in
+    let following : List Token = (optional_text_at tokens).1 in
+    let a = bind_some (optional_at (payoff_list_at players) following) _ x e in
+    let p = optional_payoffs_are players following a.0 a.1 in
     let name : List Token = optional_text (optional_text_at tokens).0 in
     let after : tokens ≡ (name ++ p.0) ++ a.0.1 = optional_text_is tokens ∙ ap (λ (r : List Token). name ++ r) p.2 ∙ sym (append_assoc name p.0 a.0.1) in
     let part : List Token = whole_number label ∷ (name ++ p.0) in
@@ -89,7 +89,7 @@ outcome_is players tokens x e =
       | inr p ↦ let o = named_outcome_is players a.0.0 a.0.1 x (positive a.0.0 p.0) p.1 in (o.0, o.1, first ∙ o.2)
     ]
 
--- what stands behind a positive number is read
+-- what stands after a positive number is read
 named_outcome_again : (players : ℕ) (list rest : List Token) (used : OutcomeUse) → ArePayoffs players list used.payoffs → IsBare rest → named_outcome_at players used.label (optional_text used.name ++ (list ++ rest)) ≡ Some (Some used, rest)
 unfolding named_outcome_at
 named_outcome_again players list rest used h bare =

@@ -33,7 +33,7 @@ repeated_goes_on payoffs i tokens own one after total lt h same so_far =
     sym next ∙ so_far
 
 -- none comes next
-pub repeated_ends : (payoffs : List ℚ) (i : ℕ) (tokens : List Token) (refusal : Refusal EfgKind) (total : Passed) → i < length payoffs → payoff_at i tokens ≡ None → refusal ≡ refusals.Unfit (if closes (payoff_start i tokens) then OutcomeMismatch else Node) (length (payoff_start i tokens))
+pub repeated_ends : (payoffs : List ℚ) (i : ℕ) (tokens : List Token) (refusal : Refusal EfgKind) (total : Passed) → i < length payoffs → payoff_at i tokens ≡ None → refusal ≡ refusals.Unexpected (if closes (payoff_start i tokens) then OutcomeMismatch else Node) (length (payoff_start i tokens))
     → parse_same_payoffs i (drop i payoffs) tokens ≡ total → IsRefusal refusal total
 unfolding parse_same_payoff
 repeated_ends payoffs i tokens refusal total lt h u so_far =
@@ -42,7 +42,7 @@ repeated_ends payoffs i tokens refusal total lt h u so_far =
 
 -- another one comes next
 pub repeated_differs : (payoffs : List ℚ) (i : ℕ) (tokens : List Token) (own one : ℚ) (after : List Token) (refusal : Refusal EfgKind) (total : Passed) → i < length payoffs → payoff_at i tokens ≡ Some (one, after) → eq_ℚ one (get_or payoffs i own) ≡ false
-    → refusal ≡ refusals.Unfit OutcomeMismatch (length (payoff_start i tokens)) → parse_same_payoffs i (drop i payoffs) tokens ≡ total → IsRefusal refusal total
+    → refusal ≡ refusals.Unexpected OutcomeMismatch (length (payoff_start i tokens)) → parse_same_payoffs i (drop i payoffs) tokens ≡ total → IsRefusal refusal total
 unfolding parse_same_payoff
 repeated_differs payoffs i tokens own one after refusal total lt h other u so_far =
     let next : parse_same_payoffs i (drop i payoffs) tokens ≡ Err (OutcomeMismatch, payoff_start i tokens) = rw (one_repeated payoffs i tokens own lt, h, other) refl in

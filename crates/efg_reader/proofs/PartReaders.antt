@@ -5,7 +5,7 @@ use Rattle.rational.specs.Rational.{ℚ, zero_ℚ}
 use Rattle.game_core.specs.declared.tree.Action.{Action}
 use Rattle.game_core.specs.declared.token.Token.{Token}
 use Rattle.game_core.specs.declared.token.Token.TheVariants.{Right, Comma, Text, Number}
-use Rattle.file_parts.specs.Reading.{left_at, right_at, text_at, number_at, behind_comma, payoff_start, texts_at}
+use Rattle.file_parts.specs.Reading.{left_at, right_at, text_at, number_at, after_comma, payoff_start, texts_at}
 use Rattle.file_parts.specs.Parsing.{Parsed, ◌>>=◌, wanted, passed, parse_each}
 use Rattle.file_parts.proofs.Readers.{IsReader, token_reader, bind_reader, pure_reader, each_reader, choose, choose_reader, same_reader, ok_err}
 use Rattle.file_parts.proofs.TokenReaders.{left_reader, text_reader}
@@ -65,7 +65,7 @@ pub all_repeated_reader : (owner : Option ℕ) (actions : List Action) → IsRea
 all_repeated_reader owner [] = pure_reader tt
 all_repeated_reader owner (action ∷ actions) = bind_reader (parse_repeated owner action) (λ _ tokens. parse_all_repeated owner actions tokens) (repeated_reader owner action) (λ _ _ _. all_repeated_reader owner actions)
 
--- the brace behind them
+-- the brace after them
 abbrev pub list_end : List Token → Parsed EfgKind (Unit {0})
 list_end tokens = passed (if has_text tokens then SetMismatch else Node) tokens (right_at tokens)
 
@@ -81,7 +81,7 @@ list_end_reader = token_reader list_end (record { token = Right; value = tt; is_
 pub repeated_list_reader : (owner : Option ℕ) (actions : List Action) → IsReader (parse_repeated_list owner actions)
 unfolding parse_repeated_list
 repeated_list_reader owner actions =
-    bind_reader (λ tokens. passed Node tokens (left_at tokens)) (λ _ tokens. parse_all_repeated owner actions tokens >>= λ behind. list_end behind.1) (left_reader Node)
+    bind_reader (λ tokens. passed Node tokens (left_at tokens)) (λ _ tokens. parse_all_repeated owner actions tokens >>= λ following. list_end following.1) (left_reader Node)
     (λ _ _ _. bind_reader (parse_all_repeated owner actions) (λ _ tokens. list_end tokens) (all_repeated_reader owner actions) (λ _ _ _. list_end_reader))
 
 -- ---- payoffs
@@ -106,17 +106,17 @@ comma_token _ = inr (Node, λ rest. refl)
 pub comma_reader : IsReader comma
 comma_reader = token_reader comma (record { token = Comma; value = tt; is_read = λ rest. refl; kind = Node; at_end = refl; by_token = comma_token })
 
--- behind a comma, where one comes
-behind_a_comma : {X : Type 0} → (List Token → Parsed EfgKind X) → List Token → Parsed EfgKind X
-behind_a_comma p tokens = comma tokens >>= λ x. p x.1
+-- after a comma, where one comes
+after_a_comma : {X : Type 0} → (List Token → Parsed EfgKind X) → List Token → Parsed EfgKind X
+after_a_comma p tokens = comma tokens >>= λ x. p x.1
 
-comma_or_not : {X : Type 0} (p : List Token → Parsed EfgKind X) (tokens : List Token) → p (behind_comma tokens) ≡ choose has_comma (behind_a_comma p) p tokens
-unfolding behind_a_comma
+comma_or_not : {X : Type 0} (p : List Token → Parsed EfgKind X) (tokens : List Token) → p (after_comma tokens) ≡ choose has_comma (after_a_comma p) p tokens
+unfolding after_a_comma
 comma_or_not p (Comma ∷ rest) = refl
 comma_or_not p tokens = refl
 
-no_comma : {X : Type 0} (p : List Token → Parsed EfgKind X) (tokens : List Token) (y : X × List Token) → has_comma tokens ≡ false → behind_a_comma p tokens ≡ Ok y → ⊥
-unfolding behind_a_comma
+no_comma : {X : Type 0} (p : List Token → Parsed EfgKind X) (tokens : List Token) (y : X × List Token) → has_comma tokens ≡ false → after_a_comma p tokens ≡ Ok y → ⊥
+unfolding after_a_comma
 no_comma p (Comma ∷ rest) y h e = cc
 no_comma p tokens y h e = ok_err y (Node, tokens) (sym e)
 
@@ -126,16 +126,16 @@ not_comma p never (Comma ∷ rest) y h e = never rest y e
 not_comma p never _ y h e = cc
 
 -- what reads one token but a comma, with a comma before it or not
-comma_behind : {X : Type 0} (p : List Token → Parsed EfgKind X) → IsReader p → ((rest : List Token) (y : X × List Token) → p (Comma ∷ rest) ≡ Ok y → ⊥) → IsReader (λ tokens. p (behind_comma tokens))
-unfolding behind_a_comma
-comma_behind {X} p P never =
-    same_reader _ (choose has_comma (behind_a_comma p) p) (comma_or_not p)
-    (choose_reader has_comma (behind_a_comma p) p (record { heads = comma_first; only_p = no_comma p; only_q = not_comma p never }) (bind_reader comma (λ _ tokens. p tokens) comma_reader (λ _ _ _. P)) P)
+comma_after : {X : Type 0} (p : List Token → Parsed EfgKind X) → IsReader p → ((rest : List Token) (y : X × List Token) → p (Comma ∷ rest) ≡ Ok y → ⊥) → IsReader (λ tokens. p (after_comma tokens))
+unfolding after_a_comma
+comma_after {X} p P never =
+    same_reader _ (choose has_comma (after_a_comma p) p) (comma_or_not p)
+    (choose_reader has_comma (after_a_comma p) p (record { heads = comma_first; only_p = no_comma p; only_q = not_comma p never }) (bind_reader comma (λ _ tokens. p tokens) comma_reader (λ _ _ _. P)) P)
 
 -- a reader with a comma before it, where it is not the first
 started : {X : Type 0} (p : List Token → Parsed EfgKind X) → IsReader p → ((rest : List Token) (y : X × List Token) → p (Comma ∷ rest) ≡ Ok y → ⊥) → (i : ℕ) → IsReader (λ tokens. p (payoff_start i tokens))
 started p P never zero = P
-started p P never (suc i) = comma_behind p P never
+started p P never (suc i) = comma_after p P never
 
 -- a payoff
 abbrev number_here : List Token → Parsed EfgKind ℚ
@@ -150,7 +150,7 @@ pub payoff_reader : (i : ℕ) → IsReader (parse_payoff i)
 payoff_reader i =
     started number_here (token_reader number_here (record { token = Number zero_ℚ; value = zero_ℚ; is_read = λ rest. refl; kind = Node; at_end = refl; by_token = number_token })) (λ rest y e. ok_err y (Node, Comma ∷ rest) (sym e)) i
 
--- the brace behind payoffs
+-- the brace after payoffs
 end_token : (t : Token) → ((x : Unit {0}) × ((rest : List Token) → parse_payoffs_end (t ∷ rest) ≡ Ok (x, rest))) ⊎ ((k : EfgKind) × ((rest : List Token) → parse_payoffs_end (t ∷ rest) ≡ Err (k, t ∷ rest)))
 end_token Right = inl (tt, λ rest. refl)
 end_token (Number value) = inr (OutcomeMismatch, λ rest. refl)
@@ -213,7 +213,7 @@ same_payoffs_reader i (payoff ∷ payoffs) = bind_reader (parse_same_payoff i pa
 pub repeated_payoffs_reader : (payoffs : List ℚ) → IsReader (parse_repeated_payoffs payoffs)
 unfolding parse_repeated_payoffs
 repeated_payoffs_reader payoffs =
-    bind_reader (λ tokens. passed Node tokens (left_at tokens)) (λ _ tokens. parse_same_payoffs 0 payoffs tokens >>= λ behind. parse_payoffs_end behind.1) (left_reader Node)
+    bind_reader (λ tokens. passed Node tokens (left_at tokens)) (λ _ tokens. parse_same_payoffs 0 payoffs tokens >>= λ following. parse_payoffs_end following.1) (left_reader Node)
     (λ _ _ _. bind_reader (parse_same_payoffs 0 payoffs) (λ _ tokens. parse_payoffs_end tokens) (same_payoffs_reader 0 payoffs) (λ _ _ _. payoffs_end_reader))
 
 -- ---- a player's list
@@ -221,7 +221,7 @@ repeated_payoffs_reader payoffs =
 own_texts : List Token → Parsed EfgKind (List Action)
 own_texts tokens = wanted Node tokens (text_at tokens) >>= λ x. closed_texts Node (λ names. map own_action (x.0 ∷ names)) x.1
 
--- the brace behind an action
+-- the brace after an action
 closed_some : (n : ℕ) (tokens : List Token) → closed_at (suc n) tokens ≡ right_at tokens
 closed_some n (Right ∷ rest) = rw (le_passes 1 (suc n) (omega arith)) refl
 closed_some n tokens = refl

@@ -27,7 +27,7 @@ use Rattle.efg_reader.proofs.OutcomeLaws.{payoff_list_is, payoff_list_again}
 use Rattle.efg_reader.proofs.TreeValues.{mark, value_first_payoffs, value_later_payoffs}
 use Rattle.efg_reader.proofs.PartReaders.{payoff_reader, payoffs_end_reader, first_payoffs_reader, repeated_payoffs_reader}
 use Rattle.efg_reader.proofs.Within.{Within, reader_within, bind_within, pure_within}
-use Rattle.efg_reader.proofs.Stops.{GoesTo, stop_kind, not_behind}
+use Rattle.efg_reader.proofs.Stops.{GoesTo, stop_kind, not_after}
 
 -- ---- kinds inside a list
 -- a number or the closing brace comes
@@ -83,7 +83,7 @@ all_fault : (i : ℕ) (payoffs : List ℚ) → FaultsAre PayoffFault (parse_same
 all_fault i [] = pure_faults PayoffFault tt
 all_fault i (payoff ∷ payoffs) = bind_faults PayoffFault (parse_same_payoff i payoff) (λ _ tokens. parse_same_payoffs (suc i) payoffs tokens) (same_fault i payoff) (λ _. all_fault (suc i) payoffs)
 
--- behind the opening brace
+-- after the opening brace
 first_fault : (players : ℕ) (inner : List Token) (f : EfgKind × List Token) → parse_first_payoffs players (Left ∷ inner) ≡ Err f → PayoffFault f.0 f.1
 unfolding parse_first_payoffs
 first_fault players inner f e =
@@ -125,10 +125,10 @@ not_finished players list rest y open_list e long =
       | second t w a s ↦ read_early l.0 (t ∷ w) l.1 a
     ]
   where
-    read_early : (front behind : List Token) → ArePayoffs players front (Some y.0) → list ≡ front ++ behind → ⊥
-    read_early front behind h is =
+    read_early : (front following : List Token) → ArePayoffs players front (Some y.0) → list ≡ front ++ following → ⊥
+    read_early front following h is =
         let f = ends_early (parse_first_payoffs players) (first_payoffs_reader players) list open_list.0 open_list.1 open_list.2.0 (list_again players (list ++ open_list.0 ∷ open_list.1) open_list.2.0 open_list.2.1) in
-        absurd (ok_err (y.0, behind) (f.0, []) (sym (list_again players front y.0 h behind) ∙ ap (parse_first_payoffs players) (sym is) ∙ f.1))
+        absurd (ok_err (y.0, following) (f.0, []) (sym (list_again players front y.0 h following) ∙ ap (parse_first_payoffs players) (sym is) ∙ f.1))
 
 -- ---- which kind it is
 -- what a kind of payoffs is where one comes
@@ -152,7 +152,7 @@ later_payoffs_kind payoffs list rest kind h c (inr y) =
 -- the payoffs of a first use are wanted
 pub lacks_payoffs : (players : ℕ) (t : Token) (r : List Token) (kind : EfgKind) → GoesTo (parse_first_payoffs players (t ∷ r)) kind (t ∷ r) → kind ≡ OutcomeMismatch
 unfolding parse_first_payoffs
-lacks_payoffs players Left r kind g = absurd (not_behind inner inner_within kind Left r g)
+lacks_payoffs players Left r kind g = absurd (not_after inner inner_within kind Left r g)
   where
     inner : List Token → Parsed EfgKind (List ℚ)
     inner tokens = chain (parse_each parse_payoff 0 players tokens) (λ payoffs. chain (parse_payoffs_end payoffs.1) (λ rest. Ok (payoffs.0, rest.1)))

@@ -1,4 +1,4 @@
--- What a part reads it reads with more tokens behind it, where it goes on to a stop before them: so behind a file a token is trailing.
+-- What a part reads it reads with more tokens after it, where it goes on to a stop before them: so after a file a token is trailing.
 use Rattle.std.proofs.Common.{◌≡◌, ℕ, zero, suc, ◌≤◌, ◌&&◌, if◌then◌else◌, nat_eq, slice_get, List, [], ◌∷◌, ◌++◌, length, length-append, Bool, true, false, true≢false, Option, Some, None, inl, inr, refl, sym, ap, ◌∙◌, append_assoc, arith}
 use Rattle.std.specs.Prelude.{Ok, Err, codes}
 use Rattle.std.proofs.lemmas.Bool.{cases_Bool}
@@ -11,9 +11,9 @@ use Rattle.file_parts.specs.Reading.{whole_at, optional_text_at, opens}
 use Rattle.file_parts.specs.Parsing.{Parsed, ◌>>=◌, wanted}
 use Rattle.file_parts.proofs.Readers.{chain, IsReader, bind_ok, ok_same, err_same, ok_err}
 use Rattle.written_trees.specs.Written.{SetUse, OutcomeUse}
-use Rattle.written_trees.specs.Building.{Begun, BegunSet, BegunOutcome, Branching, nothing_begun, set_place, outcome_place, passed}
+use Rattle.written_trees.specs.Building.{PartialTree, PartialSet, PartialOutcome, Branching, root_alone, set_place, outcome_place, passed}
 use Rattle.efg_reader.specs.TreeReading.{positive_at, is_word, begins_node, is_whole}
-use Rattle.efg_reader.specs.TreeParsing.{has_text, Choice, parse_first_list, parse_repeated_list, parse_later_list, bare_use, parse_use, parse_set, parse_player, parse_set_choice, parse_own_choice, parse_behind, parse_choice, parse_payoffs_end, parse_first_payoffs, parse_same_payoffs, parse_repeated_payoffs, parse_later_payoffs, bare_outcome_use, parse_outcome_use, parse_named, parse_outcome, parse_next, has_room, parse_at, parse_nodes, parse_head, parse_all_nodes, in_nodes, parse_tree}
+use Rattle.efg_reader.specs.TreeParsing.{has_text, Choice, parse_first_list, parse_repeated_list, parse_later_list, bare_use, parse_use, parse_set, parse_player, parse_set_choice, parse_own_choice, parse_after, parse_choice, parse_payoffs_end, parse_first_payoffs, parse_same_payoffs, parse_repeated_payoffs, parse_later_payoffs, bare_outcome_use, parse_outcome_use, parse_named, parse_outcome, parse_next, has_room, parse_at, parse_nodes, parse_head, parse_all_nodes, in_nodes, parse_tree}
 use Rattle.efg_reader.specs.TreeFaults.{IsFile}
 use Rattle.efg_reader.specs.declared.kinds.EfgKind.{EfgKind}
 use Rattle.efg_reader.specs.declared.kinds.EfgKind.TheVariants.{Node, Trailing}
@@ -23,13 +23,13 @@ use Rattle.efg_reader.proofs.NodeReaders.{first_list_reader, text_first}
 use Rattle.efg_reader.proofs.MarkedReaders.{label_reader, positive_reader, player_token}
 use Rattle.efg_reader.proofs.Heads.{head_is}
 use Rattle.efg_reader.proofs.Whole.{file_is_read, no_fault, at_end}
-use Rattle.efg_reader.proofs.Within.{Within, reader_within, bind_within, pure_within, use_within, behind_number_within, outcome_use_within, behind_label_within, set_choice_within, outcome_within, nodes_within}
-use Rattle.efg_reader.proofs.Stops.{GoesTo, goes_before, not_behind}
+use Rattle.efg_reader.proofs.Within.{Within, reader_within, bind_within, pure_within, use_within, after_number_within, outcome_use_within, after_label_within, set_choice_within, outcome_within, nodes_within}
+use Rattle.efg_reader.proofs.Stops.{GoesTo, goes_before, not_after}
 use Rattle.efg_reader.proofs.RepeatedLists.{repeating, repeating_within}
 use Rattle.efg_reader.proofs.NodeRuns.{goes_by}
 use Rattle.efg_reader.proofs.Runs.{tree_err}
 
--- what is read of some tokens is read of them with more behind, where reading goes on to a stop before these
+-- what is read of some tokens is read of them with more after, where reading goes on to a stop before these
 record ReadsOn {X : Type 0} (p : List Token → Parsed EfgKind X) : Type 0 where
   pub on : (a : List Token) (x : X × List Token) (kind : EfgKind) (t : Token) (r : List Token) → p a ≡ Ok x → GoesTo (p (a ++ t ∷ r)) kind (t ∷ r) → p (a ++ t ∷ r) ≡ Ok (x.0, x.1 ++ t ∷ r)
 
@@ -54,7 +54,7 @@ named_on : {X : Type 0} (f : Option (List ℕ) → List Token → Parsed EfgKind
 named_on {X} f F W = record { on = by }
   where
     by : (a : List Token) (x : X × List Token) (kind : EfgKind) (t : Token) (r : List Token) → f (optional_text_at a).0 (optional_text_at a).1 ≡ Ok x → GoesTo (f (optional_text_at (a ++ t ∷ r)).0 (optional_text_at (a ++ t ∷ r)).1) kind (t ∷ r) → f (optional_text_at (a ++ t ∷ r)).0 (optional_text_at (a ++ t ∷ r)).1 ≡ Ok (x.0, x.1 ++ t ∷ r)
-    by [] x kind (Text text) r e g = absurd (not_behind (f (Some text)) (W (Some text)) kind (Text text) r g)
+    by [] x kind (Text text) r e g = absurd (not_after (f (Some text)) (W (Some text)) kind (Text text) r g)
     by [] x kind t r e g = (F None).on [] x kind t r e g
     by (Text text ∷ a) x kind t r e g = (F (Some text)).on a x kind t r e g
     by (u ∷ a) x kind t r e g = (F None).on (u ∷ a) x kind t r e g
@@ -69,55 +69,55 @@ optional_on p P B = record { on = by }
     by (Left ∷ a) x kind t r e g = P.on (Left ∷ a) x kind t r e g
     by (u ∷ a) x kind t r e g = (pure_on tt).on (u ∷ a) x kind t r e g
 
--- behind the brace of a list nothing stops before it
+-- after the brace of a list nothing stops before it
 no_list_brace : (owner : Option ℕ) (own : List Action) (kind : EfgKind) (r : List Token) → GoesTo (parse_repeated_list owner own (Left ∷ r)) kind (Left ∷ r) → ⊥
 unfolding parse_repeated_list
-no_list_brace owner own kind r g = not_behind (repeating owner own) (repeating_within owner own) kind Left r g
+no_list_brace owner own kind r g = not_after (repeating owner own) (repeating_within owner own) kind Left r g
 
 no_payoffs_brace : (payoffs : List ℚ) (kind : EfgKind) (r : List Token) → GoesTo (parse_repeated_payoffs payoffs (Left ∷ r)) kind (Left ∷ r) → ⊥
 unfolding parse_repeated_payoffs
 no_payoffs_brace payoffs kind r g =
-    not_behind (λ tokens. chain (parse_same_payoffs 0 payoffs tokens) (λ behind. parse_payoffs_end behind.1))
+    not_after (λ tokens. chain (parse_same_payoffs 0 payoffs tokens) (λ following. parse_payoffs_end following.1))
     (bind_within (parse_same_payoffs 0 payoffs) (λ _ tokens. parse_payoffs_end tokens) (reader_within (parse_same_payoffs 0 payoffs) (same_payoffs_reader 0 payoffs)) (λ _. reader_within parse_payoffs_end payoffs_end_reader)) kind Left r g
 
 -- ---- sets
-use_on : (k : ℕ) (sets : List BegunSet) (used : SetUse) (found : Option BegunSet) → ReadsOn (parse_use k sets used found)
+use_on : (k : ℕ) (sets : List PartialSet) (used : SetUse) (found : Option PartialSet) → ReadsOn (parse_use k sets used found)
 use_on k sets used None = bind_on (parse_first_list used.owner used.label) _ (reader_on (parse_first_list used.owner used.label) (first_list_reader used.owner used.label chance_list_reader (λ _ _. own_list_reader))) (λ actions. pure_on _) (λ actions. pure_within _)
 use_on k sets used (Some set) = bind_on (parse_later_list set.owner set.actions) _ (optional_on (parse_repeated_list set.owner set.actions) (reader_on (parse_repeated_list set.owner set.actions) (repeated_list_reader set.owner set.actions)) (no_list_brace set.owner set.actions)) (λ _. pure_on _) (λ _. pure_within _)
 
-set_on : (k : ℕ) (sets : List BegunSet) (owner : Option ℕ) → ReadsOn (parse_set k sets owner)
+set_on : (k : ℕ) (sets : List PartialSet) (owner : Option ℕ) → ReadsOn (parse_set k sets owner)
 unfolding parse_set
 set_on k sets owner =
     bind_on (λ tokens. wanted Node tokens (positive_at tokens)) (λ label tokens. parse_use k sets (bare_use owner label (optional_text_at tokens).0) (slice_get sets (set_place sets (owner, label))) (optional_text_at tokens).1 >>= λ more. Ok ((more.0, set_place sets (owner, label)), more.1))
     (reader_on _ positive_reader)
     (λ label. bind_on (λ tokens. parse_use k sets (bare_use owner label (optional_text_at tokens).0) (slice_get sets (set_place sets (owner, label))) (optional_text_at tokens).1) (λ more tokens. Ok ((more, set_place sets (owner, label)), tokens))
     (named_on (λ name. parse_use k sets (bare_use owner label name) (slice_get sets (set_place sets (owner, label)))) (λ name. use_on k sets (bare_use owner label name) (slice_get sets (set_place sets (owner, label)))) (λ name. use_within k sets (bare_use owner label name) (slice_get sets (set_place sets (owner, label))))) (λ more. pure_on _) (λ more. pure_within _))
-    (behind_number_within k sets owner)
+    (after_number_within k sets owner)
 
 -- ---- outcomes
-outcome_use_on : (players : ℕ) (outcomes : List BegunOutcome) (used : OutcomeUse) (found : Option BegunOutcome) → ReadsOn (parse_outcome_use players outcomes used found)
+outcome_use_on : (players : ℕ) (outcomes : List PartialOutcome) (used : OutcomeUse) (found : Option PartialOutcome) → ReadsOn (parse_outcome_use players outcomes used found)
 outcome_use_on players outcomes used None = bind_on (parse_first_payoffs players) _ (reader_on (parse_first_payoffs players) (first_payoffs_reader players)) (λ payoffs. pure_on _) (λ payoffs. pure_within _)
 outcome_use_on players outcomes used (Some outcome) = bind_on (parse_later_payoffs outcome.payoffs) _ (optional_on (parse_repeated_payoffs outcome.payoffs) (reader_on (parse_repeated_payoffs outcome.payoffs) (repeated_payoffs_reader outcome.payoffs)) (no_payoffs_brace outcome.payoffs)) (λ _. pure_on _) (λ _. pure_within _)
 
-named_outcome_on : (players label : ℕ) (outcomes : List BegunOutcome) → ReadsOn (parse_named players label outcomes)
+named_outcome_on : (players label : ℕ) (outcomes : List PartialOutcome) → ReadsOn (parse_named players label outcomes)
 unfolding parse_named
 named_outcome_on players label outcomes =
     bind_on (λ tokens. parse_outcome_use players outcomes (bare_outcome_use label (optional_text_at tokens).0) (slice_get outcomes (outcome_place outcomes label)) (optional_text_at tokens).1) (λ more tokens. Ok ((more, Some (outcome_place outcomes label)), tokens))
     (named_on (λ name. parse_outcome_use players outcomes (bare_outcome_use label name) (slice_get outcomes (outcome_place outcomes label))) (λ name. outcome_use_on players outcomes (bare_outcome_use label name) (slice_get outcomes (outcome_place outcomes label))) (λ name. outcome_use_within players outcomes (bare_outcome_use label name) (slice_get outcomes (outcome_place outcomes label)))) (λ more. pure_on _) (λ more. pure_within _)
 
-behind_label_on : (players : ℕ) (outcomes : List BegunOutcome) (label : ℕ) → ReadsOn (λ tokens. if nat_eq label 0 then Ok ((outcomes, None), tokens) else parse_named players label outcomes tokens)
-behind_label_on players outcomes label = by (nat_eq label 0)
+after_label_on : (players : ℕ) (outcomes : List PartialOutcome) (label : ℕ) → ReadsOn (λ tokens. if nat_eq label 0 then Ok ((outcomes, None), tokens) else parse_named players label outcomes tokens)
+after_label_on players outcomes label = by (nat_eq label 0)
   where
     by : (zero : Bool) → ReadsOn (λ tokens. if zero then Ok ((outcomes, None), tokens) else parse_named players label outcomes tokens)
     by true = pure_on (outcomes, None)
     by false = named_outcome_on players label outcomes
 
-outcome_on : (players : ℕ) (outcomes : List BegunOutcome) → ReadsOn (parse_outcome players outcomes)
+outcome_on : (players : ℕ) (outcomes : List PartialOutcome) → ReadsOn (parse_outcome players outcomes)
 unfolding parse_outcome
-outcome_on players outcomes = bind_on (λ tokens. wanted Node tokens (whole_at tokens)) (λ label tokens. if nat_eq label 0 then Ok ((outcomes, None), tokens) else parse_named players label outcomes tokens) (reader_on _ label_reader) (behind_label_on players outcomes) (behind_label_within players outcomes)
+outcome_on players outcomes = bind_on (λ tokens. wanted Node tokens (whole_at tokens)) (λ label tokens. if nat_eq label 0 then Ok ((outcomes, None), tokens) else parse_named players label outcomes tokens) (reader_on _ label_reader) (after_label_on players outcomes) (after_label_within players outcomes)
 
 -- ---- nodes
-set_choice_on : (k : ℕ) (sets : List BegunSet) (owner : Option ℕ) → ReadsOn (parse_set_choice k sets owner)
+set_choice_on : (k : ℕ) (sets : List PartialSet) (owner : Option ℕ) → ReadsOn (parse_set_choice k sets owner)
 unfolding parse_set_choice
 set_choice_on k sets owner = bind_on (parse_set k sets owner) _ (set_on k sets owner) (λ used. pure_on _) (λ used. pure_within _)
 
@@ -132,14 +132,14 @@ player_on players = record { on = by }
       | inr h ↦ absurd (ok_err x (h.0, u ∷ a) (sym e ∙ h.1 a))
     ]
 
-own_choice_on : (players k : ℕ) (sets : List BegunSet) → ReadsOn (parse_own_choice players k sets)
+own_choice_on : (players k : ℕ) (sets : List PartialSet) → ReadsOn (parse_own_choice players k sets)
 unfolding parse_own_choice
 own_choice_on players k sets = bind_on (parse_player players) (λ player tokens. parse_set_choice k sets (Some player) tokens) (player_on players) (λ player. set_choice_on k sets (Some player)) (λ player. set_choice_within k sets (Some player))
 
 -- what follows the word and the name of a node, which may begin at another place
-behind_on : (players k : ℕ) (sets : List BegunSet) (word : List ℕ) (start other a : List Token) (x : Choice × List Token) (kind : EfgKind) (t : Token) (r : List Token) → parse_behind players k sets word start a ≡ Ok x → GoesTo (parse_behind players k sets word other (a ++ t ∷ r)) kind (t ∷ r)
-    → parse_behind players k sets word other (a ++ t ∷ r) ≡ Ok (x.0, x.1 ++ t ∷ r)
-behind_on players k sets word start other a x kind t r = by (is_word word (codes "c")) (is_word word (codes "p")) (is_word word (codes "t"))
+after_on : (players k : ℕ) (sets : List PartialSet) (word : List ℕ) (start other a : List Token) (x : Choice × List Token) (kind : EfgKind) (t : Token) (r : List Token) → parse_after players k sets word start a ≡ Ok x → GoesTo (parse_after players k sets word other (a ++ t ∷ r)) kind (t ∷ r)
+    → parse_after players k sets word other (a ++ t ∷ r) ≡ Ok (x.0, x.1 ++ t ∷ r)
+after_on players k sets word start other a x kind t r = by (is_word word (codes "c")) (is_word word (codes "p")) (is_word word (codes "t"))
   where
     reading : (c p t : Bool) → List Token → List Token → Parsed EfgKind Choice
     reading c p t from tokens = if c then parse_set_choice k sets None tokens else if p then parse_own_choice players k sets tokens else if t then Ok ((sets, (End, None)), tokens) else Err (Node, from)
@@ -150,86 +150,86 @@ behind_on players k sets word start other a x kind t r = by (is_word word (codes
     by false false true e g = (pure_on (sets, (End, None))).on a x kind t r e g
     by false false false e g = absurd (ok_err x (Node, start) (sym e))
 
-choice_on : (players k : ℕ) (sets : List BegunSet) → ReadsOn (parse_choice players k sets)
+choice_on : (players k : ℕ) (sets : List PartialSet) → ReadsOn (parse_choice players k sets)
 unfolding parse_choice
 choice_on players k sets = record { on = by }
   where
     by : (a : List Token) (x : Choice × List Token) (kind : EfgKind) (t : Token) (r : List Token) → parse_choice players k sets a ≡ Ok x → GoesTo (parse_choice players k sets (a ++ t ∷ r)) kind (t ∷ r) → parse_choice players k sets (a ++ t ∷ r) ≡ Ok (x.0, x.1 ++ t ∷ r)
-    by (Word word ∷ Text name ∷ a) x kind t r e g = behind_on players k sets word (Word word ∷ Text name ∷ a) (Word word ∷ Text name ∷ (a ++ t ∷ r)) a x kind t r e g
+    by (Word word ∷ Text name ∷ a) x kind t r e g = after_on players k sets word (Word word ∷ Text name ∷ a) (Word word ∷ Text name ∷ (a ++ t ∷ r)) a x kind t r e g
     by a x kind t r e g = absurd (ok_err x _ (sym e))
 
-next_on : (players : ℕ) (begun : Begun) (b : Branching) (others : List Branching) → ReadsOn (parse_next players begun b others)
+next_on : (players : ℕ) (partial : PartialTree) (b : Branching) (others : List Branching) → ReadsOn (parse_next players partial b others)
 unfolding parse_next
-next_on players begun b others =
-    bind_on (parse_choice players (length begun.nodes) begun.sets) _ (choice_on players (length begun.nodes) begun.sets) (λ choice. bind_on (parse_outcome players begun.outcomes) _ (outcome_on players begun.outcomes) (λ outcome. pure_on _) (λ outcome. pure_within _))
-    (λ choice. bind_within (parse_outcome players begun.outcomes) _ (outcome_within players begun.outcomes) (λ outcome. pure_within _))
+next_on players partial b others =
+    bind_on (parse_choice players (length partial.nodes) partial.sets) _ (choice_on players (length partial.nodes) partial.sets) (λ choice. bind_on (parse_outcome players partial.outcomes) _ (outcome_on players partial.outcomes) (λ outcome. pure_on _) (λ outcome. pure_within _))
+    (λ choice. bind_within (parse_outcome players partial.outcomes) _ (outcome_within players partial.outcomes) (λ outcome. pure_within _))
 
 -- the word of a node comes as it came
 begins_on : (room : Bool) (a : List Token) (t : Token) (r : List Token) → (begins_node a && room) ≡ true → (begins_node (a ++ t ∷ r) && room) ≡ true
 begins_on room (Word word ∷ a) t r n = n
 begins_on room a t r n = absurd (true≢false (sym n))
 
-at_on : (players : ℕ) (begun : Begun) (branchings : List Branching) → ReadsOn (parse_at players begun branchings)
-at_on players begun [] = record { on = λ a x kind t r e g. absurd (ok_err x (Node, a) (sym e)) }
-at_on players begun (b ∷ others) = record {
-  on = λ a x kind t r e g. elim (cases_Bool (begins_node a && has_room (passed begun))) [
+at_on : (players : ℕ) (partial : PartialTree) (branchings : List Branching) → ReadsOn (parse_at players partial branchings)
+at_on players partial [] = record { on = λ a x kind t r e g. absurd (ok_err x (Node, a) (sym e)) }
+at_on players partial (b ∷ others) = record {
+  on = λ a x kind t r e g. elim (cases_Bool (begins_node a && has_room (passed partial))) [
     | inl n ↦
-        let m = begins_on (has_room (passed begun)) a t r n in
-        let f : parse_next players begun b others a ≡ Ok x = rw n at e in
-        let h : GoesTo (parse_next players begun b others (a ++ t ∷ r)) kind (t ∷ r) = rw m at g in
-        rw m ((next_on players begun b others).on a x kind t r f h)
-    | inr n ↦ let f : ◌≡◌ {A = Parsed EfgKind Begun} (Err (Node, a)) (Ok x) = rw n at e in absurd (ok_err x (Node, a) (sym f))
+        let m = begins_on (has_room (passed partial)) a t r n in
+        let f : parse_next players partial b others a ≡ Ok x = rw n at e in
+        let h : GoesTo (parse_next players partial b others (a ++ t ∷ r)) kind (t ∷ r) = rw m at g in
+        rw m ((next_on players partial b others).on a x kind t r f h)
+    | inr n ↦ let f : ◌≡◌ {A = Parsed EfgKind PartialTree} (Err (Node, a)) (Ok x) = rw n at e in absurd (ok_err x (Node, a) (sym f))
   ];
 }
 
-nodes_on : (most other players : ℕ) (begun : Begun) (a : List Token) (x : Begun × List Token) (kind : EfgKind) (t : Token) (r : List Token) → most ≤ other → parse_nodes most players begun a ≡ Ok x → GoesTo (parse_nodes other players begun (a ++ t ∷ r)) kind (t ∷ r)
-    → parse_nodes other players begun (a ++ t ∷ r) ≡ Ok (x.0, x.1 ++ t ∷ r)
-nodes_on zero other players begun a x kind t r le e g = absurd (ok_err x (Node, a) (sym e))
-nodes_on (suc most) zero players begun a x kind t r le e g = absurd (omega arith)
-nodes_on (suc most) (suc other) players begun a x kind t r le e g = elim (cases_Bool (is_whole begun)) [
-  | inl w ↦ let f : ◌≡◌ {A = Parsed EfgKind Begun} (Ok (begun, a)) (Ok x) = rw w at e in rw w (ap (λ (z : Begun × List Token). Ok (z.0, z.1 ++ t ∷ r)) (ok_same (begun, a) x f))
+nodes_on : (most other players : ℕ) (partial : PartialTree) (a : List Token) (x : PartialTree × List Token) (kind : EfgKind) (t : Token) (r : List Token) → most ≤ other → parse_nodes most players partial a ≡ Ok x → GoesTo (parse_nodes other players partial (a ++ t ∷ r)) kind (t ∷ r)
+    → parse_nodes other players partial (a ++ t ∷ r) ≡ Ok (x.0, x.1 ++ t ∷ r)
+nodes_on zero other players partial a x kind t r le e g = absurd (ok_err x (Node, a) (sym e))
+nodes_on (suc most) zero players partial a x kind t r le e g = absurd (omega arith)
+nodes_on (suc most) (suc other) players partial a x kind t r le e g = elim (cases_Bool (is_whole partial)) [
+  | inl w ↦ let f : ◌≡◌ {A = Parsed EfgKind PartialTree} (Ok (partial, a)) (Ok x) = rw w at e in rw w (ap (λ (z : PartialTree × List Token). Ok (z.0, z.1 ++ t ∷ r)) (ok_same (partial, a) x f))
   | inr w ↦
-      let f : chain (parse_at players begun begun.branchings a) (λ z. parse_nodes most players z.0 z.1) ≡ Ok x = rw w at e in
-      let h : GoesTo (chain (parse_at players begun begun.branchings (a ++ t ∷ r)) (λ z. parse_nodes other players z.0 z.1)) kind (t ∷ r) = rw w at g in
-      let m = bind_ok (parse_at players begun begun.branchings a) (λ z. parse_nodes most players z.0 z.1) x f in
-      let one = (at_on players begun begun.branchings).on a m.0 kind t r m.1 (goes_before (parse_at players begun begun.branchings (a ++ t ∷ r)) (λ z tokens. parse_nodes other players z tokens) kind (t ∷ r) (nodes_within other players) h) in
-      let same = ap (λ (o : Parsed EfgKind Begun). chain o (λ z. parse_nodes other players z.0 z.1)) one in
-      let more = nodes_on most other players m.0.0 m.0.1 x kind t r (omega arith) m.2 (goes_by (chain (parse_at players begun begun.branchings (a ++ t ∷ r)) (λ z. parse_nodes other players z.0 z.1)) (parse_nodes other players m.0.0 (m.0.1 ++ t ∷ r)) kind (t ∷ r) same h) in
+      let f : chain (parse_at players partial partial.branchings a) (λ z. parse_nodes most players z.0 z.1) ≡ Ok x = rw w at e in
+      let h : GoesTo (chain (parse_at players partial partial.branchings (a ++ t ∷ r)) (λ z. parse_nodes other players z.0 z.1)) kind (t ∷ r) = rw w at g in
+      let m = bind_ok (parse_at players partial partial.branchings a) (λ z. parse_nodes most players z.0 z.1) x f in
+      let one = (at_on players partial partial.branchings).on a m.0 kind t r m.1 (goes_before (parse_at players partial partial.branchings (a ++ t ∷ r)) (λ z tokens. parse_nodes other players z tokens) kind (t ∷ r) (nodes_within other players) h) in
+      let same = ap (λ (o : Parsed EfgKind PartialTree). chain o (λ z. parse_nodes other players z.0 z.1)) one in
+      let more = nodes_on most other players m.0.0 m.0.1 x kind t r (omega arith) m.2 (goes_by (chain (parse_at players partial partial.branchings (a ++ t ∷ r)) (λ z. parse_nodes other players z.0 z.1)) (parse_nodes other players m.0.0 (m.0.1 ++ t ∷ r)) kind (t ∷ r) same h) in
       rw w (same ∙ more)
 ]
 
--- ---- behind a file
+-- ---- after a file
 -- all nodes are read
-all_on : (players : ℕ) (a : List Token) (begun : Begun) (kind : EfgKind) (t : Token) (r : List Token) → parse_all_nodes players a ≡ Ok begun → parse_all_nodes players (a ++ t ∷ r) ≡ Err (kind, t ∷ r) → kind ≡ Trailing
+all_on : (players : ℕ) (a : List Token) (partial : PartialTree) (kind : EfgKind) (t : Token) (r : List Token) → parse_all_nodes players a ≡ Ok partial → parse_all_nodes players (a ++ t ∷ r) ≡ Err (kind, t ∷ r) → kind ≡ Trailing
 unfolding parse_all_nodes
-all_on players a begun kind t r e f =
+all_on players a partial kind t r e f =
     let steps = suc (length (a ++ t ∷ r)) in
-    let m = bind_ok (parse_nodes (suc (length a)) players nothing_begun a) at_end begun e in
-    let nodes = parse_nodes steps players nothing_begun (a ++ t ∷ r) in
+    let m = bind_ok (parse_nodes (suc (length a)) players root_alone a) at_end partial e in
+    let nodes = parse_nodes steps players root_alone (a ++ t ∷ r) in
     let g = stops_before nodes f in
-    let one = nodes_on (suc (length a)) steps players nothing_begun a m.0 kind t r (omega (arith, length-append a (t ∷ r))) m.1 g in
-    let same : at_end (m.0.0, m.0.1 ++ t ∷ r) ≡ Err (kind, t ∷ r) = ap (λ (o : Parsed EfgKind Begun). chain o at_end) (sym one) ∙ f in
+    let one = nodes_on (suc (length a)) steps players root_alone a m.0 kind t r (omega (arith, length-append a (t ∷ r))) m.1 g in
+    let same : at_end (m.0.0, m.0.1 ++ t ∷ r) ≡ Err (kind, t ∷ r) = ap (λ (o : Parsed EfgKind PartialTree). chain o at_end) (sym one) ∙ f in
     trailing m.0.0 m.0.1 same
   where
-    stops_before : (o : Parsed EfgKind Begun) → chain o at_end ≡ Err (kind, t ∷ r) → GoesTo o kind (t ∷ r)
-    stops_before (Err f) e = inl (ap (λ (z : EfgKind × List Token). Err z) (err_same {A = Begun} f (kind, t ∷ r) e))
+    stops_before : (o : Parsed EfgKind PartialTree) → chain o at_end ≡ Err (kind, t ∷ r) → GoesTo o kind (t ∷ r)
+    stops_before (Err f) e = inl (ap (λ (z : EfgKind × List Token). Err z) (err_same {A = PartialTree} f (kind, t ∷ r) e))
     stops_before (Ok (one, [])) e = absurd (ok_err one (kind, t ∷ r) e)
     stops_before (Ok (one, u ∷ s)) e =
-        let same : u ∷ s ≡ t ∷ r = ap (λ (z : EfgKind × List Token). z.1) (err_same {A = Begun} (Trailing, u ∷ s) (kind, t ∷ r) e) in
+        let same : u ∷ s ≡ t ∷ r = ap (λ (z : EfgKind × List Token). z.1) (err_same {A = PartialTree} (Trailing, u ∷ s) (kind, t ∷ r) e) in
         let n : length (u ∷ s) ≡ length (t ∷ r) = ap length same in
         inr ((one, u ∷ s), refl, omega (arith, n))
 
-    trailing : (one : Begun) (left : List Token) → at_end (one, left ++ t ∷ r) ≡ Err (kind, t ∷ r) → kind ≡ Trailing
-    trailing one [] e = sym (ap (λ (z : EfgKind × List Token). z.0) (err_same {A = Begun} (Trailing, t ∷ r) (kind, t ∷ r) e))
-    trailing one (u ∷ left) e = sym (ap (λ (z : EfgKind × List Token). z.0) (err_same {A = Begun} (Trailing, (u ∷ left) ++ t ∷ r) (kind, t ∷ r) e))
+    trailing : (one : PartialTree) (left : List Token) → at_end (one, left ++ t ∷ r) ≡ Err (kind, t ∷ r) → kind ≡ Trailing
+    trailing one [] e = sym (ap (λ (z : EfgKind × List Token). z.0) (err_same {A = PartialTree} (Trailing, t ∷ r) (kind, t ∷ r) e))
+    trailing one (u ∷ left) e = sym (ap (λ (z : EfgKind × List Token). z.0) (err_same {A = PartialTree} (Trailing, (u ∷ left) ++ t ∷ r) (kind, t ∷ r) e))
 
 -- without tokens there are no nodes
-some_body : (players : ℕ) (body : List Token) (begun : Begun) → parse_all_nodes players body ≡ Ok begun → (u : Token) × (more : List Token) × (body ≡ u ∷ more)
+some_body : (players : ℕ) (body : List Token) (partial : PartialTree) → parse_all_nodes players body ≡ Ok partial → (u : Token) × (more : List Token) × (body ≡ u ∷ more)
 unfolding parse_all_nodes
-some_body players [] begun e = absurd (ok_err begun (Node, []) (sym e))
-some_body players (u ∷ more) begun e = (u, more, refl)
+some_body players [] partial e = absurd (ok_err partial (Node, []) (sym e))
+some_body players (u ∷ more) partial e = (u, more, refl)
 
--- a token behind a file is trailing
+-- a token after a file is trailing
 pub file_trails : (before : List Token) (t : Token) (r : List Token) (kind : EfgKind) → IsFile before → parse_tree (before ++ t ∷ r) ≡ Err (kind, t ∷ r) → kind ≡ Trailing
 unfolding parse_tree
 file_trails before t r kind file e =

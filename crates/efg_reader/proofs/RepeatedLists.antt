@@ -18,7 +18,7 @@ use Rattle.efg_reader.specs.declared.kinds.EfgKind.{EfgKind}
 use Rattle.efg_reader.specs.declared.kinds.EfgKind.TheVariants.{Node, SetMismatch}
 use Rattle.efg_reader.proofs.PartReaders.{probability_reader, all_repeated_reader, list_end, list_end_reader}
 use Rattle.efg_reader.proofs.Within.{Within, reader_within, bind_within, pure_within}
-use Rattle.efg_reader.proofs.Stops.{GoesTo, stop_kind, not_behind}
+use Rattle.efg_reader.proofs.Stops.{GoesTo, stop_kind, not_after}
 
 -- ---- what is read
 -- an action comes first
@@ -75,7 +75,7 @@ one_stop (Some i) action (Text name ∷ rest) f e = absurd (ok_err (tt, rest) f 
 one_stop owner action (Right ∷ rest) f e = brace_named owner rest f e
 one_stop owner action tokens f e = node_named tokens f e
 
--- behind whole actions
+-- after whole actions
 abbrev ActionsStop : Option ℕ → List Token → List Token → Type 0
 ActionsStop owner tokens rest = (actions : List Action) × (((tokens ≡ flat_map (action_tokens owner) actions ++ rest) × BraceComes rest) ⊎ ((owner ≡ None) × (name : List ℕ) × (tokens ≡ flat_map (action_tokens owner) actions ++ Text name ∷ rest) × (v : ℚ) × NumberComes v rest))
 
@@ -111,14 +111,14 @@ end_stop (Text text ∷ rest) f e =
     inr (sym (ap (λ (z : EfgKind × List Token). z.0) same), place, (text, rest, sym place))
 end_stop tokens f e = node_named tokens f e
 
--- Behind whole actions a text or the closing brace is too early or too late, or a probability is another.
+-- After whole actions a text or the closing brace is too early or too late, or a probability is another.
 abbrev pub LaterListStops : Option ℕ → List Token → List Token → Type 0
 LaterListStops owner tokens rest = (actions : List Action) × (list : List Token) × (tokens ≡ list ++ rest)
     × ((HasActions owner actions list × (TextComes rest ⊎ BraceComes rest)) ⊎ ((owner ≡ None) × WantsProbability actions list × (v : ℚ) × NumberComes v rest))
 
 inner_stops : (owner : Option ℕ) (own : List Action) (inner : List Token) (f : EfgKind × List Token) → parse_repeated_list owner own (Left ∷ inner) ≡ Err f → (f.0 ≡ Node) ⊎ ((f.0 ≡ SetMismatch) × LaterListStops owner (Left ∷ inner) f.1)
 unfolding parse_repeated_list
-inner_stops owner own inner f e = elim (bind_err (parse_all_repeated owner own inner) (λ behind. list_end behind.1) f e) [
+inner_stops owner own inner f e = elim (bind_err (parse_all_repeated owner own inner) (λ following. list_end following.1) f e) [
   | inl g ↦ elim (all_stop owner own inner f g) [
     | inl n ↦ inl n
     | inr s ↦ inr (s.0, in_actions s.1.0 s.1.1)
@@ -145,7 +145,7 @@ later_list_stops owner own tokens f e = absurd (ok_err (tt, tokens) f e)
 -- ---- which kind it is
 -- actions that repeat these, and the brace
 abbrev pub repeating : Option ℕ → List Action → List Token → Parsed EfgKind (Unit {0})
-repeating owner own tokens = chain (parse_all_repeated owner own tokens) (λ behind. list_end behind.1)
+repeating owner own tokens = chain (parse_all_repeated owner own tokens) (λ following. list_end following.1)
 
 -- whole actions are passed, or one of them differs
 abbrev RepeatsTo : Option ℕ → List Action → List Token → List Token → Type 0
@@ -169,7 +169,7 @@ repeats_to (Some i) (one ∷ own) (action ∷ actions) tail = repeats_to (Some i
 pub repeating_within : (owner : Option ℕ) (own : List Action) → Within (repeating owner own)
 repeating_within owner own = bind_within (parse_all_repeated owner own) (λ _ tokens. list_end tokens) (reader_within (parse_all_repeated owner own) (all_repeated_reader owner own)) (λ _. reader_within list_end list_end_reader)
 
-named_within : (owner : Option ℕ) (one : Action) (own : List Action) → Within (λ tokens. chain (chain (parse_probability owner one.prob tokens) (λ rest. parse_all_repeated owner own rest.1)) (λ behind. list_end behind.1))
+named_within : (owner : Option ℕ) (one : Action) (own : List Action) → Within (λ tokens. chain (chain (parse_probability owner one.prob tokens) (λ rest. parse_all_repeated owner own rest.1)) (λ following. list_end following.1))
 named_within owner one own =
     bind_within (λ tokens. chain (parse_probability owner one.prob tokens) (λ rest. parse_all_repeated owner own rest.1)) (λ _ tokens. list_end tokens)
     (bind_within (parse_probability owner one.prob) (λ _ tokens. parse_all_repeated owner own tokens) (reader_within (parse_probability owner one.prob) (probability_reader owner one.prob)) (λ _. reader_within (parse_all_repeated owner own) (all_repeated_reader owner own)))
@@ -179,28 +179,28 @@ named_within owner one own =
 text_kind : (owner : Option ℕ) (own : List Action) (text : List ℕ) (r : List Token) (kind : EfgKind) → GoesTo (repeating owner own (Text text ∷ r)) kind (Text text ∷ r) → kind ≡ SetMismatch
 unfolding parse_repeated
 text_kind owner [] text r kind g = stop_kind (repeating owner [] (Text text ∷ r)) kind SetMismatch (Text text ∷ r) (Text text ∷ r) refl g
-text_kind owner (one ∷ own) text r kind g = absurd (not_behind (λ tokens. chain (chain (parse_probability owner one.prob tokens) (λ rest. parse_all_repeated owner own rest.1)) (λ behind. list_end behind.1)) (named_within owner one own) kind (Text text) r g)
+text_kind owner (one ∷ own) text r kind g = absurd (not_after (λ tokens. chain (chain (parse_probability owner one.prob tokens) (λ rest. parse_all_repeated owner own rest.1)) (λ following. list_end following.1)) (named_within owner one own) kind (Text text) r g)
 
 -- the brace comes
 brace_kind : (owner : Option ℕ) (own : List Action) (r : List Token) (kind : EfgKind) → GoesTo (repeating owner own (Right ∷ r)) kind (Right ∷ r) → kind ≡ SetMismatch
 unfolding parse_repeated
-brace_kind owner [] r kind g = absurd (not_behind (λ tokens. Ok (tt, tokens)) (pure_within tt) kind Right r g)
+brace_kind owner [] r kind g = absurd (not_after (λ tokens. Ok (tt, tokens)) (pure_within tt) kind Right r g)
 brace_kind owner (one ∷ own) r kind g = stop_kind (repeating owner (one ∷ own) (Right ∷ r)) kind SetMismatch (Right ∷ r) (Right ∷ r) refl g
 
--- a number comes behind a name
+-- a number comes after a name
 number_kind : (own : List Action) (name : List ℕ) (v : ℚ) (r : List Token) (kind : EfgKind) → GoesTo (repeating None own (Text name ∷ Number v ∷ r)) kind (Number v ∷ r) → kind ≡ SetMismatch
 unfolding parse_repeated
 number_kind [] name v r kind g = stop_kind (repeating None [] (Text name ∷ Number v ∷ r)) kind SetMismatch (Number v ∷ r) (Text name ∷ Number v ∷ r) refl g
 number_kind (one ∷ own) name v r kind g = elim (cases_Bool (eq_ℚ v one.prob)) [
   | inl e ↦
       let same : repeating None (one ∷ own) (Text name ∷ Number v ∷ r) ≡ repeating None own r = rw e refl in
-      absurd (not_behind (repeating None own) (repeating_within None own) kind (Number v) r (subst (λ (o : Parsed EfgKind (Unit {0})). GoesTo o kind (Number v ∷ r)) same g))
+      absurd (not_after (repeating None own) (repeating_within None own) kind (Number v) r (subst (λ (o : Parsed EfgKind (Unit {0})). GoesTo o kind (Number v ∷ r)) same g))
   | inr e ↦
       let same : repeating None (one ∷ own) (Text name ∷ Number v ∷ r) ≡ Err (SetMismatch, Number v ∷ r) = rw e refl in
       stop_kind (repeating None (one ∷ own) (Text name ∷ Number v ∷ r)) kind SetMismatch (Number v ∷ r) (Number v ∷ r) same g
 ]
 
--- behind whole actions
+-- after whole actions
 pub later_kind : (owner : Option ℕ) (own actions : List Action) (rest : List Token) (kind : EfgKind) → TextComes rest ⊎ BraceComes rest → GoesTo (parse_later_list owner own (Left ∷ (flat_map (action_tokens owner) actions ++ rest))) kind rest → kind ≡ SetMismatch
 unfolding parse_repeated_list
 later_kind owner own actions rest kind comes g = elim (repeats_to owner own actions rest) [

@@ -12,7 +12,7 @@ use Rattle.efg_reader.specs.TreeReading.{payoff_list_at, payoffs_repeated_at, la
 use Rattle.lists.specs.Options.{◌>>=◌}
 use Rattle.rational.specs.Tests.{eq_ℚ}
 
--- the tokens behind the brace that closes these payoffs, where they repeat the others
+-- the tokens after the brace that closes these payoffs, where they repeat the others
 abbrev closed_repeating : List ℚ → List ℚ × List Token → Option (List Token)
 closed_repeating payoffs x = right_at x.1 >>= λ rest. if pointwise eq_ℚ x.0 payoffs then Some rest else None
 
@@ -45,24 +45,24 @@ compared i (own ∷ payoffs) tokens = by (payoff_at i tokens) (compared (suc i) 
     by None h = refl
     by (Some x) h = one_compared x.0 own payoffs (repeat_at payoff_at (suc i) (length payoffs) x.1) (payoffs_repeated_at (suc i) payoffs x.1) (h x.1)
 
--- payoffs in braces that came, and what is left behind them
+-- payoffs in braces that came, and what is left after them
 abbrev pub came : List ℚ × List Token → Option (Option (List ℚ) × List Token)
 came x = Some (Some x.0, x.1)
 
-abbrev behind_brace : List ℚ → List Token → Option (List ℚ × List Token)
-behind_brace list rest = Some (list, rest)
+abbrev after_brace : List ℚ → List Token → Option (List ℚ × List Token)
+after_brace list rest = Some (list, rest)
 
 -- payoffs that are compared after the brace, or at once
-list_compared : (payoffs list : List ℚ) (o : Option (List Token)) → (((o >>= behind_brace list) >>= came) >>= λ x. if repeats_payoffs payoffs x.0 then Some x.1 else None) ≡ (o >>= λ rest. if pointwise eq_ℚ list payoffs then Some rest else None)
+list_compared : (payoffs list : List ℚ) (o : Option (List Token)) → (((o >>= after_brace list) >>= came) >>= λ x. if repeats_payoffs payoffs x.0 then Some x.1 else None) ≡ (o >>= λ rest. if pointwise eq_ℚ list payoffs then Some rest else None)
 list_compared payoffs list None = refl
 list_compared payoffs list (Some rest) = refl
 
--- the same behind the opening brace
+-- the same after the opening brace
 opened_compared : (payoffs : List ℚ) (tokens : List Token) → later_payoffs_at (length payoffs) payoffs (Left ∷ tokens) ≡ (payoffs_at (length payoffs) tokens >>= closed_repeating payoffs)
 unfolding later_payoffs_at payoff_list_at
 opened_compared payoffs tokens = by (payoffs_at (length payoffs) tokens)
   where
-    by : (reading : Option (List ℚ × List Token)) → (((reading >>= λ p. right_at p.1 >>= behind_brace p.0) >>= came) >>= λ x. if repeats_payoffs payoffs x.0 then Some x.1 else None) ≡ (reading >>= closed_repeating payoffs)
+    by : (reading : Option (List ℚ × List Token)) → (((reading >>= λ p. right_at p.1 >>= after_brace p.0) >>= came) >>= λ x. if repeats_payoffs payoffs x.0 then Some x.1 else None) ≡ (reading >>= closed_repeating payoffs)
     by None = refl
     by (Some p) = list_compared payoffs p.0 (right_at p.1)
 

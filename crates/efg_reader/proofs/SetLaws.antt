@@ -18,7 +18,7 @@ use Rattle.lists.specs.Options.{◌>>=◌}
 use Rattle.lists.proofs.Options.{bind_some, either}
 use Rattle.game_core.specs.declared.token.Token.{Token}
 use Rattle.game_core.specs.declared.token.Token.TheVariants.{Left, Right, Text, Number}
-use Rattle.game_core.specs.InPlace.{IsShortToken}
+use Rattle.game_core.specs.Spacing.{IsShortToken}
 
 -- ---- what may follow
 -- neither a text nor a list begins here
@@ -104,7 +104,7 @@ actions_again None actions rest h = chance_actions_again actions rest
 actions_again (Some i) actions rest h = own_actions_again i actions rest (recursion_from_All (HasNoProbability (Some i)) actions h)
 
 -- ---- a list of actions
--- what closes a list stands behind at least one action
+-- what closes a list stands after at least one action
 pub closed_is : (count : ℕ) (tokens rest : List Token) → closed_at count tokens ≡ Some rest → (1 ≤ count) × (tokens ≡ Right ∷ rest)
 closed_is count tokens rest e =
     let a = bind_some (right_at tokens) _ rest e in
@@ -192,10 +192,10 @@ pub set_is : (owner : Option ℕ) (tokens : List Token) (x : SetUse × List Toke
 unfolding set_use_at
 set_is owner tokens x e =
     let a = bind_some (positive_at tokens) _ x e in
-    let behind : List Token = (optional_text_at a.0.1).1 in
-    let b = bind_some (optional_at (action_list_at owner) behind) _ x a.2 in
+    let following : List Token = (optional_text_at a.0.1).1 in
+    let b = bind_some (optional_at (action_list_at owner) following) _ x a.2 in
     let p = positive_is tokens a.0 a.1 in
-    let l = optional_list_is owner behind b.0 b.1 in
+    let l = optional_list_is owner following b.0 b.1 in
     let name : List Token = optional_text (optional_text_at a.0.1).0 in
     let after : a.0.1 ≡ (name ++ l.0) ++ b.0.1 = optional_text_is a.0.1 ∙ ap (λ (r : List Token). name ++ r) l.2 ∙ sym (append_assoc name l.0 b.0.1) in
     let used : SetUse = record { owner = owner; label = a.0.0; name = (optional_text_at a.0.1).0; actions = b.0.0 } in

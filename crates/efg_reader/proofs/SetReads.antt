@@ -6,28 +6,28 @@ use Rattle.game_core.specs.declared.token.Token.TheVariants.{Left}
 use Rattle.file_parts.specs.Reading.{optional_text_at}
 use Rattle.written_trees.specs.Described.{SetKey, key_of}
 use Rattle.written_trees.specs.Written.{SetUse}
-use Rattle.written_trees.specs.Building.{BegunSet, set_place, use_set, may_be_first, repeats_actions}
-use Rattle.efg_reader.specs.TreeReading.{action_list_at, optional_at, positive_at, set_use_at, first_list_at, set_step_at}
+use Rattle.written_trees.specs.Building.{PartialSet, set_place, use_set, may_be_first, repeats_actions}
+use Rattle.efg_reader.specs.TreeReading.{action_list_at, optional_at, positive_at, set_use_at, first_list_at, set_part_at}
 use Rattle.efg_reader.proofs.ActionLists.{first_without, that_comes}
 use Rattle.lists.specs.Options.{◌>>=◌}
 use Rattle.std.specs.Option.{option_or}
 
 -- a set of a first use, and a set that is used again
-abbrev pub begun_by : ℕ → SetKey → Option (List ℕ) → List Action → BegunSet
-begun_by k key name actions = record { owner = key.0; label = key.1; name = name; actions = actions; members = k ∷ [] }
+abbrev pub partial_by : ℕ → SetKey → Option (List ℕ) → List Action → PartialSet
+partial_by k key name actions = record { owner = key.0; label = key.1; name = name; actions = actions; members = k ∷ [] }
 
-abbrev pub used_by : ℕ → Option (List ℕ) → BegunSet → BegunSet
+abbrev pub used_by : ℕ → Option (List ℕ) → PartialSet → PartialSet
 used_by k name set = record { owner = set.owner; label = set.label; name = option_or set.name name; actions = set.actions; members = set.members ++ k ∷ [] }
 
 -- what a step gives
 abbrev pub Step : Type 0
-Step = Option ((List BegunSet × ℕ) × List Token)
+Step = Option ((List PartialSet × ℕ) × List Token)
 
 -- the step that begins a set, and the one that goes on with a set
-abbrev pub begun_step : ℕ → List BegunSet → ℕ → SetKey → Option (List ℕ) → List Action × List Token → Step
-begun_step k sets place key name x = Some ((sets ++ begun_by k key name x.0 ∷ [], place), x.1)
+abbrev pub partial_step : ℕ → List PartialSet → ℕ → SetKey → Option (List ℕ) → List Action × List Token → Step
+partial_step k sets place key name x = Some ((sets ++ partial_by k key name x.0 ∷ [], place), x.1)
 
-abbrev pub used_step : ℕ → List BegunSet → ℕ → Option (List ℕ) → BegunSet → List Token → Step
+abbrev pub used_step : ℕ → List PartialSet → ℕ → Option (List ℕ) → PartialSet → List Token → Step
 used_step k sets place name set rest = Some ((slice_set sets place (used_by k name set), place), rest)
 
 -- a use of a set with this key
@@ -35,18 +35,18 @@ abbrev pub use_of : SetKey → Option (List ℕ) → Option (List Action) → Se
 use_of key name actions = record { owner = key.0; label = key.1; name = name; actions = actions }
 
 -- what follows a use that was read
-abbrev pub step_behind : ℕ → List BegunSet → SetUse × List Token → Step
-step_behind k sets used = use_set k sets used.0 >>= λ more. Some ((more, set_place sets (key_of used.0)), used.1)
+abbrev pub step_after : ℕ → List PartialSet → SetUse × List Token → Step
+step_after k sets used = use_set k sets used.0 >>= λ more. Some ((more, set_place sets (key_of used.0)), used.1)
 
 -- a list that may come, as the use of a set has it
 abbrev pub with_list : SetKey → Option (List ℕ) → Option (List Action) × List Token → Option (SetUse × List Token)
 with_list key name list = Some (use_of key name list.0, list.1)
 
 -- the number and the name come first
-pub step_is : (k : ℕ) (sets : List BegunSet) (owner : Option ℕ) (label : ℕ) (name : Option (List ℕ)) (tokens behind after : List Token) → positive_at tokens ≡ Some (label, behind) → (name, after) ≡ optional_text_at behind
-    → set_step_at k sets owner tokens ≡ ((optional_at (action_list_at owner) after >>= with_list (owner, label) name) >>= step_behind k sets)
-unfolding set_step_at set_use_at
-step_is k sets owner label name tokens behind after l n = rw (l, ← n) refl
+pub step_is : (k : ℕ) (sets : List PartialSet) (owner : Option ℕ) (label : ℕ) (name : Option (List ℕ)) (tokens following after : List Token) → positive_at tokens ≡ Some (label, following) → (name, after) ≡ optional_text_at following
+    → set_part_at k sets owner tokens ≡ ((optional_at (action_list_at owner) after >>= with_list (owner, label) name) >>= step_after k sets)
+unfolding set_part_at set_use_at
+step_is k sets owner label name tokens following after l n = rw (l, ← n) refl
 
 -- a test stands before what follows it
 test_first : {A B : Type 0} (test : Bool) (x : A) (f : A → Option B) → (if test then f x else None) ≡ ((if test then Some x else None) >>= f)
@@ -68,21 +68,21 @@ unfolding first_list_at
 first_comes owner f (Left ∷ inner) = first_tested owner f (action_list_at owner (Left ∷ inner))
 first_comes owner f tokens = sym (ap (λ (r : Option (List Action × List Token)). r >>= f) (first_without owner tokens refl))
 
--- the set is begun
-pub begins : (k : ℕ) (sets : List BegunSet) (key : SetKey) (name : Option (List ℕ)) (reading : Option (Option (List Action) × List Token)) → slice_get sets (set_place sets key) ≡ None
-    → ((reading >>= with_list key name) >>= step_behind k sets) ≡ (reading >>= first_then key.0 (begun_step k sets (set_place sets key) key name))
+-- the set is partial
+pub begins : (k : ℕ) (sets : List PartialSet) (key : SetKey) (name : Option (List ℕ)) (reading : Option (Option (List Action) × List Token)) → slice_get sets (set_place sets key) ≡ None
+    → ((reading >>= with_list key name) >>= step_after k sets) ≡ (reading >>= first_then key.0 (partial_step k sets (set_place sets key) key name))
 begins k sets key name None none = refl
 begins k sets key name (Some list) none = by list.0 list.1
   where
-    by : (actions : Option (List Action)) (rest : List Token) → step_behind k sets (use_of key name actions, rest) ≡ first_then key.0 (begun_step k sets (set_place sets key) key name) (actions, rest)
+    by : (actions : Option (List Action)) (rest : List Token) → step_after k sets (use_of key name actions, rest) ≡ first_then key.0 (partial_step k sets (set_place sets key) key name) (actions, rest)
     by None rest = rw none refl
     by (Some actions) rest =
-        rw none (sym (test_first (may_be_first key.0 actions) (sets ++ begun_by k key name actions ∷ []) (λ more. Some ((more, set_place sets key), rest))))
+        rw none (sym (test_first (may_be_first key.0 actions) (sets ++ partial_by k key name actions ∷ []) (λ more. Some ((more, set_place sets key), rest))))
 
 -- ---- a later use
 -- the set goes on
-pub goes_on : (k : ℕ) (sets : List BegunSet) (key : SetKey) (name : Option (List ℕ)) (set : BegunSet) (reading : Option (Option (List Action) × List Token)) → slice_get sets (set_place sets key) ≡ Some set
-    → ((reading >>= with_list key name) >>= step_behind k sets) ≡ ((reading >>= λ list. if repeats_actions set.actions list.0 then Some list.1 else None) >>= used_step k sets (set_place sets key) name set)
+pub goes_on : (k : ℕ) (sets : List PartialSet) (key : SetKey) (name : Option (List ℕ)) (set : PartialSet) (reading : Option (Option (List Action) × List Token)) → slice_get sets (set_place sets key) ≡ Some set
+    → ((reading >>= with_list key name) >>= step_after k sets) ≡ ((reading >>= λ list. if repeats_actions set.actions list.0 then Some list.1 else None) >>= used_step k sets (set_place sets key) name set)
 goes_on k sets key name set None at = refl
 goes_on k sets key name set (Some list) at =
     let test : Bool = repeats_actions set.actions list.0 in

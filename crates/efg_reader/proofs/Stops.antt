@@ -37,7 +37,7 @@ pub not_earlier : {X : Type 0} (reading : Parsed EfgKind X) (kind : EfgKind) (re
 not_earlier {X} reading kind rest f e less (inl g) = let n : length f.1 ≡ length rest = ap (λ (z : EfgKind × List Token). length z.1) (err_same {A = X × List Token} f (kind, rest) (sym e ∙ g)) in absurd (omega (arith, n, less))
 not_earlier reading kind rest f e less (inr y) = absurd (ok_err y.0 f (sym y.1 ∙ e))
 
--- and nothing is read behind it
-pub not_behind : {X : Type 0} (q : List Token → Parsed EfgKind X) → Within q → (kind : EfgKind) (t : Token) (r : List Token) → GoesTo (q r) kind (t ∷ r) → ⊥
-not_behind q W kind t r (inl g) = let n = ends_shorter (t ∷ r) r (W.err r (kind, t ∷ r) g) in absurd (omega (arith, n))
-not_behind q W kind t r (inr y) = let n = ends_shorter y.0.1 r (W.ok r y.0 y.1) in absurd (omega (arith, n, y.2))
+-- and nothing is read after it
+pub not_after : {X : Type 0} (q : List Token → Parsed EfgKind X) → Within q → (kind : EfgKind) (t : Token) (r : List Token) → GoesTo (q r) kind (t ∷ r) → ⊥
+not_after q W kind t r (inl g) = let n = ends_shorter (t ∷ r) r (W.err r (kind, t ∷ r) g) in absurd (omega (arith, n))
+not_after q W kind t r (inr y) = let n = ends_shorter y.0.1 r (W.ok r y.0 y.1) in absurd (omega (arith, n, y.2))

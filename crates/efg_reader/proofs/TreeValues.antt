@@ -15,22 +15,22 @@ use Rattle.file_parts.specs.Parsing.{passed, parse_each}
 use Rattle.file_parts.proofs.TokenReaders.{some_or_none}
 use Rattle.file_parts.proofs.Values.{value, value_wanted, value_passed, value_chain, value_if, value_each}
 use Rattle.written_trees.specs.Described.{SetKey, same_set}
-use Rattle.written_trees.specs.Building.{BegunSet, BegunOutcome, key_of_begun, set_place, outcome_place, new_set, used_set, new_outcome, used_outcome, add_test, may_follow}
+use Rattle.written_trees.specs.Building.{PartialSet, PartialOutcome, key_of_partial, set_place, outcome_place, new_set, used_set, new_outcome, used_outcome, add_test, may_follow}
 use Rattle.written_trees.specs.Laws.{IsActionList}
 use Rattle.written_trees.proofs.SetUses.{same_set-Decides}
-use Rattle.efg_reader.specs.TreeReading.{action_list_at, optional_at, set_use_at, outcome_use_at, closed_at, own_action, summed_at, first_list_at, repeated_at, all_repeated_at, later_list_at, positive_at, set_step_at, payoff_list_at, payoffs_repeated_at, later_payoffs_at, named_step_at, outcome_step_at}
+use Rattle.efg_reader.specs.TreeReading.{action_list_at, optional_at, set_use_at, outcome_use_at, closed_at, own_action, summed_at, first_list_at, repeated_at, all_repeated_at, later_list_at, positive_at, set_part_at, payoff_list_at, payoffs_repeated_at, later_payoffs_at, named_part_at, outcome_part_at}
 use Rattle.efg_reader.specs.TreeParsing.{closes, has_text, has_number, sum_with, parse_chances, parse_own_list, parse_chance_list, parse_first_list, parse_same, parse_repeated, parse_all_repeated, parse_repeated_list, parse_later_list, bare_use, parse_use, parse_set, parse_payoff, parse_first_payoffs, parse_same_payoff, parse_same_payoffs, parse_repeated_payoffs, parse_later_payoffs, bare_outcome_use, parse_outcome_use, parse_named, parse_outcome}
 use Rattle.efg_reader.specs.declared.kinds.EfgKind.{EfgKind}
 use Rattle.efg_reader.specs.declared.kinds.EfgKind.TheVariants.{Node, SetMismatch, OutcomeMismatch, Probability, ProbabilityRange}
 use Rattle.efg_reader.proofs.ActionLists.{closed_sum, first_without, own_list_is, chance_list_is, later_without, later_list_is}
 use Rattle.efg_reader.proofs.RepeatedPayoffs.{later_opened}
-use Rattle.efg_reader.proofs.SetReads.{begun_step, used_step, step_is, first_comes, begins, goes_on}
+use Rattle.efg_reader.proofs.SetReads.{partial_step, used_step, step_is, first_comes, begins, goes_on}
 use Rattle.efg_reader.proofs.NamedOutcomes.{first_is, later_is}
 use Rattle.lists.specs.Options.{◌>>=◌}
 use Rattle.std.proofs.lemmas.Bool.{cases_Bool}
 use Rattle.lists.proofs.Elements.{all_at}
 
--- the tokens behind a mark
+-- the tokens after a mark
 abbrev pub mark : List Token → Option (Unit {0} × List Token)
 mark rest = Some (tt, rest)
 
@@ -85,10 +85,10 @@ value_own_list : (i : ℕ) (inner : List Token) → value (parse_own_list inner)
 unfolding parse_own_list
 value_own_list i inner =
     let actions : List Action = map own_action (texts_at inner).0 in
-    let behind : List Token = (texts_at inner).1 in
+    let following : List Token = (texts_at inner).1 in
     let n : length (texts_at inner).0 ≡ length actions = sym (length-map (texts_at inner).0 own_action) in
-    let read = own_list_is (Some i) i (length (texts_at inner).0) (Left ∷ inner) inner behind actions (closed_at (length (texts_at inner).0) behind) refl refl refl n refl in
-    value_passed Node behind (closed_at (length (texts_at inner).0) behind) _ (λ rest. Some (actions, rest)) (λ rest. refl) ∙ sym read
+    let read = own_list_is (Some i) i (length (texts_at inner).0) (Left ∷ inner) inner following actions (closed_at (length (texts_at inner).0) following) refl refl refl n refl in
+    value_passed Node following (closed_at (length (texts_at inner).0) following) _ (λ rest. Some (actions, rest)) (λ rest. refl) ∙ sym read
 
 pub value_first_list : (owner : Option ℕ) (set : ℕ) (tokens : List Token) → value (parse_first_list owner set tokens) ≡ first_list_at owner tokens
 unfolding parse_first_list
@@ -126,7 +126,7 @@ value_later_list owner actions tokens h = ap (λ (o : Option (List Token)). o >>
 
 -- ---- sets
 -- each set has a list of actions
-abbrev pub AreListed : List BegunSet → Type 0
+abbrev pub AreListed : List PartialSet → Type 0
 AreListed sets = All (λ set. IsActionList set.owner set.actions) sets
 
 -- what stands at a place passes the test by which it was found
@@ -138,56 +138,56 @@ found_passes {A} p (y ∷ ys) x e = elim (cases_Bool (p y)) [
 ]
 
 -- a set that is found by a key has it
-pub found_key : (sets : List BegunSet) (key : SetKey) (set : BegunSet) → slice_get sets (set_place sets key) ≡ Some set → key ≡ key_of_begun set
-found_key sets key set e = (same_set-Decides key (key_of_begun set)).0 (found_passes (λ s. same_set key (key_of_begun s)) sets set e)
+pub found_key : (sets : List PartialSet) (key : SetKey) (set : PartialSet) → slice_get sets (set_place sets key) ≡ Some set → key ≡ key_of_partial set
+found_key sets key set e = (same_set-Decides key (key_of_partial set)).0 (found_passes (λ s. same_set key (key_of_partial s)) sets set e)
 
 -- a use and what follows it
-abbrev placed : ℕ → List BegunSet × List Token → Option ((List BegunSet × ℕ) × List Token)
+abbrev placed : ℕ → List PartialSet × List Token → Option ((List PartialSet × ℕ) × List Token)
 placed place x = Some ((x.0, place), x.1)
 
-value_use : (k : ℕ) (sets : List BegunSet) (owner : Option ℕ) (label : ℕ) (name : Option (List ℕ)) (after tokens behind : List Token) → AreListed sets → positive_at tokens ≡ Some (label, behind) → (name, after) ≡ optional_text_at behind
-    → (value (parse_use k sets (bare_use owner label name) (slice_get sets (set_place sets (owner, label))) after) >>= placed (set_place sets (owner, label))) ≡ set_step_at k sets owner tokens
+value_use : (k : ℕ) (sets : List PartialSet) (owner : Option ℕ) (label : ℕ) (name : Option (List ℕ)) (after tokens following : List Token) → AreListed sets → positive_at tokens ≡ Some (label, following) → (name, after) ≡ optional_text_at following
+    → (value (parse_use k sets (bare_use owner label name) (slice_get sets (set_place sets (owner, label))) after) >>= placed (set_place sets (owner, label))) ≡ set_part_at k sets owner tokens
 unfolding later_list_at
-value_use k sets owner label name after tokens behind all p n = elim (some_or_none (slice_get sets (set_place sets (owner, label)))) [
+value_use k sets owner label name after tokens following all p n = elim (some_or_none (slice_get sets (set_place sets (owner, label)))) [
   | inl found ↦
       let set = found.0 in
       let key = found_key sets (owner, label) set found.1 in
-      let list : IsActionList set.owner set.actions = all_at (λ (s : BegunSet). IsActionList s.owner s.actions) sets (set_place sets (owner, label)) set all found.1 in
-      let used : List BegunSet = slice_set sets (set_place sets (owner, label)) (used_set k (bare_use owner label name) set) in
+      let list : IsActionList set.owner set.actions = all_at (λ (s : PartialSet). IsActionList s.owner s.actions) sets (set_place sets (owner, label)) set all found.1 in
+      let used : List PartialSet = slice_set sets (set_place sets (owner, label)) (used_set k (bare_use owner label name) set) in
       let read : value (parse_use k sets (bare_use owner label name) (Some set) after) ≡ (later_list_at set.owner set.actions after >>= λ rest. Some (used, rest)) =
       value_chain (parse_later_list set.owner set.actions after) (later_list_at set.owner set.actions after >>= mark) _ (λ x. Some (used, x.1)) (value_later_list set.owner set.actions after list) (λ x. refl) ∙ marked_then (later_list_at set.owner set.actions after) (λ rest. Some (used, rest)) in
-      let step = step_is k sets owner label name tokens behind after p n ∙ goes_on k sets (owner, label) name set (optional_at (action_list_at owner) after) found.1 in
+      let step = step_is k sets owner label name tokens following after p n ∙ goes_on k sets (owner, label) name set (optional_at (action_list_at owner) after) found.1 in
       let same : set.owner ≡ owner = ap (λ (key : SetKey). key.0) (sym key) in
       rw found.1 (ap (λ o. o >>= placed (set_place sets (owner, label))) read ∙ then_placed (later_list_at set.owner set.actions after) used (set_place sets (owner, label)) ∙ ap (λ (who : Option ℕ). later_list_at who set.actions after >>= used_step k sets (set_place sets (owner, label)) name set) same ∙ sym step)
   | inr none ↦
       let read : value (parse_use k sets (bare_use owner label name) None after) ≡ (first_list_at owner after >>= λ x. Some (sets ++ new_set k (bare_use owner label name) x.0 ∷ [], x.1)) =
       value_chain (parse_first_list owner label after) (first_list_at owner after) _ _ (value_first_list owner label after) (λ x. refl) in
-      let step = step_is k sets owner label name tokens behind after p n ∙ begins k sets (owner, label) name (optional_at (action_list_at owner) after) none ∙ first_comes owner (begun_step k sets (set_place sets (owner, label)) (owner, label) name) after in
-      rw none (ap (λ o. o >>= placed (set_place sets (owner, label))) read ∙ begun_placed (first_list_at owner after) (λ actions. sets ++ new_set k (bare_use owner label name) actions ∷ []) (set_place sets (owner, label)) ∙ sym step)
+      let step = step_is k sets owner label name tokens following after p n ∙ begins k sets (owner, label) name (optional_at (action_list_at owner) after) none ∙ first_comes owner (partial_step k sets (set_place sets (owner, label)) (owner, label) name) after in
+      rw none (ap (λ o. o >>= placed (set_place sets (owner, label))) read ∙ partial_placed (first_list_at owner after) (λ actions. sets ++ new_set k (bare_use owner label name) actions ∷ []) (set_place sets (owner, label)) ∙ sym step)
 ]
   where
-    then_placed : (o : Option (List Token)) (used : List BegunSet) (place : ℕ) → ((o >>= λ rest. Some (used, rest)) >>= placed place) ≡ (o >>= λ rest. Some ((used, place), rest))
+    then_placed : (o : Option (List Token)) (used : List PartialSet) (place : ℕ) → ((o >>= λ rest. Some (used, rest)) >>= placed place) ≡ (o >>= λ rest. Some ((used, place), rest))
     then_placed None used place = refl
     then_placed (Some rest) used place = refl
 
-    begun_placed : (o : Option (List Action × List Token)) (f : List Action → List BegunSet) (place : ℕ) → ((o >>= λ x. Some (f x.0, x.1)) >>= placed place) ≡ (o >>= λ x. Some ((f x.0, place), x.1))
-    begun_placed None f place = refl
-    begun_placed (Some x) f place = refl
+    partial_placed : (o : Option (List Action × List Token)) (f : List Action → List PartialSet) (place : ℕ) → ((o >>= λ x. Some (f x.0, x.1)) >>= placed place) ≡ (o >>= λ x. Some ((f x.0, place), x.1))
+    partial_placed None f place = refl
+    partial_placed (Some x) f place = refl
 
 -- a set without its number
-set_without : (k : ℕ) (sets : List BegunSet) (owner : Option ℕ) (tokens : List Token) → positive_at tokens ≡ None → value (parse_set k sets owner tokens) ≡ set_step_at k sets owner tokens
-unfolding parse_set set_step_at set_use_at
+set_without : (k : ℕ) (sets : List PartialSet) (owner : Option ℕ) (tokens : List Token) → positive_at tokens ≡ None → value (parse_set k sets owner tokens) ≡ set_part_at k sets owner tokens
+unfolding parse_set set_part_at set_use_at
 set_without k sets owner tokens none = rw none refl
 
 -- what follows its number
-set_numbered : (k : ℕ) (sets : List BegunSet) (owner : Option ℕ) (tokens : List Token) (p : ℕ × List Token) → positive_at tokens ≡ Some p
+set_numbered : (k : ℕ) (sets : List PartialSet) (owner : Option ℕ) (tokens : List Token) (p : ℕ × List Token) → positive_at tokens ≡ Some p
     → value (parse_set k sets owner tokens) ≡ (value (parse_use k sets (bare_use owner p.0 (optional_text_at p.1).0) (slice_get sets (set_place sets (owner, p.0))) (optional_text_at p.1).1) >>= placed (set_place sets (owner, p.0)))
 unfolding parse_set
 set_numbered k sets owner tokens p e =
     let o = parse_use k sets (bare_use owner p.0 (optional_text_at p.1).0) (slice_get sets (set_place sets (owner, p.0))) (optional_text_at p.1).1 in
     rw e (value_chain o (value o) _ (placed (set_place sets (owner, p.0))) refl (λ x. refl))
 
-pub value_set : (k : ℕ) (sets : List BegunSet) (owner : Option ℕ) (tokens : List Token) → AreListed sets → value (parse_set k sets owner tokens) ≡ set_step_at k sets owner tokens
+pub value_set : (k : ℕ) (sets : List PartialSet) (owner : Option ℕ) (tokens : List Token) → AreListed sets → value (parse_set k sets owner tokens) ≡ set_part_at k sets owner tokens
 value_set k sets owner tokens all = elim (some_or_none (positive_at tokens)) [
   | inl p ↦ set_numbered k sets owner tokens p.0 p.1 ∙ value_use k sets owner p.0.0 (optional_text_at p.0.1).0 (optional_text_at p.0.1).1 tokens p.0.1 all p.1 refl
   | inr none ↦ set_without k sets owner tokens none
@@ -224,21 +224,21 @@ value_later_payoffs payoffs (Left ∷ inner) = value_repeated_payoffs payoffs in
 value_later_payoffs payoffs tokens = refl
 
 -- each outcome pays so many players
-abbrev pub ArePaid : ℕ → List BegunOutcome → Type 0
+abbrev pub ArePaid : ℕ → List PartialOutcome → Type 0
 ArePaid players outcomes = All (λ outcome. length outcome.payoffs ≡ players) outcomes
 
 -- the place of an outcome beside the outcomes
-abbrev placed_outcome : ℕ → List BegunOutcome × List Token → Option ((List BegunOutcome × Option ℕ) × List Token)
+abbrev placed_outcome : ℕ → List PartialOutcome × List Token → Option ((List PartialOutcome × Option ℕ) × List Token)
 placed_outcome place x = Some ((x.0, Some place), x.1)
 
-value_outcome_use : (players label : ℕ) (outcomes : List BegunOutcome) (tokens : List Token) (name : Option (List ℕ)) (after : List Token) → ArePaid players outcomes → (name, after) ≡ optional_text_at tokens
-    → (value (parse_outcome_use players outcomes (bare_outcome_use label name) (slice_get outcomes (outcome_place outcomes label)) after) >>= placed_outcome (outcome_place outcomes label)) ≡ named_step_at players label outcomes tokens
+value_outcome_use : (players label : ℕ) (outcomes : List PartialOutcome) (tokens : List Token) (name : Option (List ℕ)) (after : List Token) → ArePaid players outcomes → (name, after) ≡ optional_text_at tokens
+    → (value (parse_outcome_use players outcomes (bare_outcome_use label name) (slice_get outcomes (outcome_place outcomes label)) after) >>= placed_outcome (outcome_place outcomes label)) ≡ named_part_at players label outcomes tokens
 value_outcome_use players label outcomes tokens name after all n = elim (some_or_none (slice_get outcomes (outcome_place outcomes label))) [
   | inl found ↦
       let outcome = found.0 in
       let place = outcome_place outcomes label in
-      let used : List BegunOutcome = slice_set outcomes place (used_outcome (bare_outcome_use label name) outcome) in
-      let paid : length outcome.payoffs ≡ players = all_at (λ (o : BegunOutcome). length o.payoffs ≡ players) outcomes place outcome all found.1 in
+      let used : List PartialOutcome = slice_set outcomes place (used_outcome (bare_outcome_use label name) outcome) in
+      let paid : length outcome.payoffs ≡ players = all_at (λ (o : PartialOutcome). length o.payoffs ≡ players) outcomes place outcome all found.1 in
       let read : value (parse_outcome_use players outcomes (bare_outcome_use label name) (Some outcome) after) ≡ (later_payoffs_at (length outcome.payoffs) outcome.payoffs after >>= λ rest. Some (used, rest)) =
       value_chain (parse_later_payoffs outcome.payoffs after) (later_payoffs_at (length outcome.payoffs) outcome.payoffs after >>= mark) _ (λ x. Some (used, x.1)) (value_later_payoffs outcome.payoffs after) (λ x. refl) ∙ marked_then (later_payoffs_at (length outcome.payoffs) outcome.payoffs after) (λ rest. Some (used, rest)) in
       rw found.1 (ap (λ o. o >>= placed_outcome place) read ∙ then_placed (later_payoffs_at (length outcome.payoffs) outcome.payoffs after) used place ∙ ap (λ (m : ℕ). later_payoffs_at m outcome.payoffs after >>= λ rest. Some ((used, Some place), rest)) paid ∙ sym (later_is players label outcomes name tokens after n outcome found.1))
@@ -246,18 +246,18 @@ value_outcome_use players label outcomes tokens name after all n = elim (some_or
       let place = outcome_place outcomes label in
       let read : value (parse_outcome_use players outcomes (bare_outcome_use label name) None after) ≡ (payoff_list_at players after >>= λ x. Some (outcomes ++ new_outcome (bare_outcome_use label name) x.0 ∷ [], x.1)) =
       value_chain (parse_first_payoffs players after) (payoff_list_at players after) _ _ (value_first_payoffs players after) (λ x. refl) in
-      rw none (ap (λ o. o >>= placed_outcome place) read ∙ begun_placed (payoff_list_at players after) (λ payoffs. outcomes ++ new_outcome (bare_outcome_use label name) payoffs ∷ []) place ∙ sym (first_is players label outcomes name tokens after n none))
+      rw none (ap (λ o. o >>= placed_outcome place) read ∙ partial_placed (payoff_list_at players after) (λ payoffs. outcomes ++ new_outcome (bare_outcome_use label name) payoffs ∷ []) place ∙ sym (first_is players label outcomes name tokens after n none))
 ]
   where
-    then_placed : (o : Option (List Token)) (used : List BegunOutcome) (place : ℕ) → ((o >>= λ rest. Some (used, rest)) >>= placed_outcome place) ≡ (o >>= λ rest. Some ((used, Some place), rest))
+    then_placed : (o : Option (List Token)) (used : List PartialOutcome) (place : ℕ) → ((o >>= λ rest. Some (used, rest)) >>= placed_outcome place) ≡ (o >>= λ rest. Some ((used, Some place), rest))
     then_placed None used place = refl
     then_placed (Some rest) used place = refl
 
-    begun_placed : (o : Option (List ℚ × List Token)) (f : List ℚ → List BegunOutcome) (place : ℕ) → ((o >>= λ x. Some (f x.0, x.1)) >>= placed_outcome place) ≡ (o >>= λ x. Some ((f x.0, Some place), x.1))
-    begun_placed None f place = refl
-    begun_placed (Some x) f place = refl
+    partial_placed : (o : Option (List ℚ × List Token)) (f : List ℚ → List PartialOutcome) (place : ℕ) → ((o >>= λ x. Some (f x.0, x.1)) >>= placed_outcome place) ≡ (o >>= λ x. Some ((f x.0, Some place), x.1))
+    partial_placed None f place = refl
+    partial_placed (Some x) f place = refl
 
-value_named : (players label : ℕ) (outcomes : List BegunOutcome) (tokens : List Token) → ArePaid players outcomes → value (parse_named players label outcomes tokens) ≡ named_step_at players label outcomes tokens
+value_named : (players label : ℕ) (outcomes : List PartialOutcome) (tokens : List Token) → ArePaid players outcomes → value (parse_named players label outcomes tokens) ≡ named_part_at players label outcomes tokens
 unfolding parse_named
 value_named players label outcomes tokens all =
     let name = (optional_text_at tokens).0 in
@@ -266,8 +266,8 @@ value_named players label outcomes tokens all =
     let o = parse_outcome_use players outcomes (bare_outcome_use label name) (slice_get outcomes place) after in
     value_chain o (value o) _ (placed_outcome place) refl (λ x. refl) ∙ value_outcome_use players label outcomes tokens name after all refl
 
-pub value_outcome : (players : ℕ) (outcomes : List BegunOutcome) (tokens : List Token) → ArePaid players outcomes → value (parse_outcome players outcomes tokens) ≡ outcome_step_at players outcomes tokens
-unfolding parse_outcome outcome_step_at outcome_use_at named_step_at
+pub value_outcome : (players : ℕ) (outcomes : List PartialOutcome) (tokens : List Token) → ArePaid players outcomes → value (parse_outcome players outcomes tokens) ≡ outcome_part_at players outcomes tokens
+unfolding parse_outcome outcome_part_at outcome_use_at named_part_at
 value_outcome players outcomes tokens all = elim (some_or_none (whole_at tokens)) [
   | inl p ↦ elim (cases_Bool (nat_eq p.0.0 0)) [
     | inl e ↦ rw (p.1, e) refl

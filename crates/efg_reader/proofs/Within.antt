@@ -10,9 +10,9 @@ use Rattle.file_parts.specs.Parsing.{Parsed, ◌>>=◌, wanted}
 use Rattle.file_parts.proofs.Readers.{chain, IsReader, bind_ok, bind_err, ok_same, err_same, ok_err}
 use Rattle.file_parts.proofs.TokenReaders.{text_reader}
 use Rattle.written_trees.specs.Written.{SetUse, OutcomeUse}
-use Rattle.written_trees.specs.Building.{Begun, BegunSet, BegunOutcome, Branching, set_place, outcome_place, passed}
+use Rattle.written_trees.specs.Building.{PartialTree, PartialSet, PartialOutcome, Branching, set_place, outcome_place, passed}
 use Rattle.efg_reader.specs.TreeReading.{positive_at, is_word, begins_node, is_whole}
-use Rattle.efg_reader.specs.TreeParsing.{Choice, parse_first_list, parse_repeated_list, parse_later_list, bare_use, parse_use, parse_set, parse_player, parse_set_choice, parse_own_choice, parse_behind, parse_choice, parse_first_payoffs, parse_repeated_payoffs, parse_later_payoffs, bare_outcome_use, parse_outcome_use, parse_named, parse_outcome, parse_next, has_room, parse_at, parse_nodes}
+use Rattle.efg_reader.specs.TreeParsing.{Choice, parse_first_list, parse_repeated_list, parse_later_list, bare_use, parse_use, parse_set, parse_player, parse_set_choice, parse_own_choice, parse_after, parse_choice, parse_first_payoffs, parse_repeated_payoffs, parse_later_payoffs, bare_outcome_use, parse_outcome_use, parse_named, parse_outcome, parse_next, has_room, parse_at, parse_nodes}
 use Rattle.efg_reader.specs.declared.kinds.EfgKind.{EfgKind}
 use Rattle.efg_reader.specs.declared.kinds.EfgKind.TheVariants.{Node, UnknownPlayer}
 use Rattle.efg_reader.proofs.PartReaders.{own_list_reader, repeated_list_reader, first_payoffs_reader, repeated_payoffs_reader}
@@ -56,7 +56,7 @@ pure_within {X} x = record {
   err = λ tokens f e. absurd (ok_err (x, tokens) f e);
 }
 
--- behind a text that may come
+-- after a text that may come
 text_ends : (tokens : List Token) → Ends (optional_text_at tokens).1 tokens
 text_ends (Text text ∷ rest) = (Text text ∷ [], refl)
 text_ends [] = ([], refl)
@@ -82,45 +82,45 @@ optional_within p P = record {
 }
 
 -- ---- sets
-pub use_within : (k : ℕ) (sets : List BegunSet) (used : SetUse) (found : Option BegunSet) → Within (parse_use k sets used found)
+pub use_within : (k : ℕ) (sets : List PartialSet) (used : SetUse) (found : Option PartialSet) → Within (parse_use k sets used found)
 use_within k sets used None = bind_within (parse_first_list used.owner used.label) _ (reader_within (parse_first_list used.owner used.label) (first_list_reader used.owner used.label chance_list_reader (λ _ _. own_list_reader))) (λ actions. pure_within _)
 use_within k sets used (Some set) = bind_within (parse_later_list set.owner set.actions) _ (optional_within (parse_repeated_list set.owner set.actions) (reader_within (parse_repeated_list set.owner set.actions) (repeated_list_reader set.owner set.actions))) (λ _. pure_within _)
 
 -- what follows a set's number
-pub behind_number_within : (k : ℕ) (sets : List BegunSet) (owner : Option ℕ) (label : ℕ) → Within {X = List BegunSet × ℕ} (λ tokens. parse_use k sets (bare_use owner label (optional_text_at tokens).0) (slice_get sets (set_place sets (owner, label))) (optional_text_at tokens).1 >>= λ more. Ok ((more.0, set_place sets (owner, label)), more.1))
-behind_number_within k sets owner label =
+pub after_number_within : (k : ℕ) (sets : List PartialSet) (owner : Option ℕ) (label : ℕ) → Within {X = List PartialSet × ℕ} (λ tokens. parse_use k sets (bare_use owner label (optional_text_at tokens).0) (slice_get sets (set_place sets (owner, label))) (optional_text_at tokens).1 >>= λ more. Ok ((more.0, set_place sets (owner, label)), more.1))
+after_number_within k sets owner label =
     bind_within (λ tokens. parse_use k sets (bare_use owner label (optional_text_at tokens).0) (slice_get sets (set_place sets (owner, label))) (optional_text_at tokens).1) (λ more tokens. Ok ((more, set_place sets (owner, label)), tokens))
     (named_within (λ name. parse_use k sets (bare_use owner label name) (slice_get sets (set_place sets (owner, label)))) (λ name. use_within k sets (bare_use owner label name) (slice_get sets (set_place sets (owner, label))))) (λ more. pure_within _)
 
-set_within : (k : ℕ) (sets : List BegunSet) (owner : Option ℕ) → Within (parse_set k sets owner)
+set_within : (k : ℕ) (sets : List PartialSet) (owner : Option ℕ) → Within (parse_set k sets owner)
 unfolding parse_set
 set_within k sets owner =
     bind_within (λ tokens. wanted Node tokens (positive_at tokens)) (λ label tokens. parse_use k sets (bare_use owner label (optional_text_at tokens).0) (slice_get sets (set_place sets (owner, label))) (optional_text_at tokens).1 >>= λ more. Ok ((more.0, set_place sets (owner, label)), more.1))
-    (reader_within _ positive_reader) (behind_number_within k sets owner)
+    (reader_within _ positive_reader) (after_number_within k sets owner)
 
 -- ---- outcomes
-pub outcome_use_within : (players : ℕ) (outcomes : List BegunOutcome) (used : OutcomeUse) (found : Option BegunOutcome) → Within (parse_outcome_use players outcomes used found)
+pub outcome_use_within : (players : ℕ) (outcomes : List PartialOutcome) (used : OutcomeUse) (found : Option PartialOutcome) → Within (parse_outcome_use players outcomes used found)
 outcome_use_within players outcomes used None = bind_within (parse_first_payoffs players) _ (reader_within (parse_first_payoffs players) (first_payoffs_reader players)) (λ payoffs. pure_within _)
 outcome_use_within players outcomes used (Some outcome) = bind_within (parse_later_payoffs outcome.payoffs) _ (optional_within (parse_repeated_payoffs outcome.payoffs) (reader_within (parse_repeated_payoffs outcome.payoffs) (repeated_payoffs_reader outcome.payoffs))) (λ _. pure_within _)
 
-named_outcome_within : (players label : ℕ) (outcomes : List BegunOutcome) → Within (parse_named players label outcomes)
+named_outcome_within : (players label : ℕ) (outcomes : List PartialOutcome) → Within (parse_named players label outcomes)
 unfolding parse_named
 named_outcome_within players label outcomes = bind_within (λ tokens. parse_outcome_use players outcomes (bare_outcome_use label (optional_text_at tokens).0) (slice_get outcomes (outcome_place outcomes label)) (optional_text_at tokens).1) (λ more tokens. Ok ((more, Some (outcome_place outcomes label)), tokens))
     (named_within (λ name. parse_outcome_use players outcomes (bare_outcome_use label name) (slice_get outcomes (outcome_place outcomes label))) (λ name. outcome_use_within players outcomes (bare_outcome_use label name) (slice_get outcomes (outcome_place outcomes label)))) (λ more. pure_within _)
 
-pub behind_label_within : (players : ℕ) (outcomes : List BegunOutcome) (label : ℕ) → Within (λ tokens. if nat_eq label 0 then Ok ((outcomes, None), tokens) else parse_named players label outcomes tokens)
-behind_label_within players outcomes label = by (nat_eq label 0)
+pub after_label_within : (players : ℕ) (outcomes : List PartialOutcome) (label : ℕ) → Within (λ tokens. if nat_eq label 0 then Ok ((outcomes, None), tokens) else parse_named players label outcomes tokens)
+after_label_within players outcomes label = by (nat_eq label 0)
   where
     by : (zero : Bool) → Within (λ tokens. if zero then Ok ((outcomes, None), tokens) else parse_named players label outcomes tokens)
     by true = pure_within (outcomes, None)
     by false = named_outcome_within players label outcomes
 
-pub outcome_within : (players : ℕ) (outcomes : List BegunOutcome) → Within (parse_outcome players outcomes)
+pub outcome_within : (players : ℕ) (outcomes : List PartialOutcome) → Within (parse_outcome players outcomes)
 unfolding parse_outcome
-outcome_within players outcomes = bind_within (λ tokens. wanted Node tokens (whole_at tokens)) (λ label tokens. if nat_eq label 0 then Ok ((outcomes, None), tokens) else parse_named players label outcomes tokens) (reader_within _ label_reader) (behind_label_within players outcomes)
+outcome_within players outcomes = bind_within (λ tokens. wanted Node tokens (whole_at tokens)) (λ label tokens. if nat_eq label 0 then Ok ((outcomes, None), tokens) else parse_named players label outcomes tokens) (reader_within _ label_reader) (after_label_within players outcomes)
 
 -- ---- nodes
-pub set_choice_within : (k : ℕ) (sets : List BegunSet) (owner : Option ℕ) → Within (parse_set_choice k sets owner)
+pub set_choice_within : (k : ℕ) (sets : List PartialSet) (owner : Option ℕ) → Within (parse_set_choice k sets owner)
 unfolding parse_set_choice
 set_choice_within k sets owner = bind_within (parse_set k sets owner) _ (set_within k sets owner) (λ used. pure_within _)
 
@@ -143,7 +143,7 @@ player_within players = record {
     by_err true tokens y f e = absurd (ok_err y f e)
     by_err false tokens y f e = ([], ap (λ (z : EfgKind × List Token). z.1) (err_same (UnknownPlayer, tokens) f e))
 
-own_choice_within : (players k : ℕ) (sets : List BegunSet) → Within (parse_own_choice players k sets)
+own_choice_within : (players k : ℕ) (sets : List PartialSet) → Within (parse_own_choice players k sets)
 unfolding parse_own_choice
 own_choice_within players k sets = bind_within (parse_player players) (λ player tokens. parse_set_choice k sets (Some player) tokens) (player_within players) (λ player. set_choice_within k sets (Some player))
 
@@ -152,8 +152,8 @@ pub record WithinFrom {X : Type 0} (start : List Token) (p : List Token → Pars
   pub ok : (tokens : List Token) (x : X × List Token) → p tokens ≡ Ok x → Ends x.1 tokens
   pub err : (tokens : List Token) (f : EfgKind × List Token) → Ends tokens start → p tokens ≡ Err f → Ends f.1 start
 
-behind_within : (players k : ℕ) (sets : List BegunSet) (word : List ℕ) (start : List Token) → WithinFrom start (parse_behind players k sets word start)
-behind_within players k sets word start = by (is_word word (codes "c")) (is_word word (codes "p")) (is_word word (codes "t"))
+after_within : (players k : ℕ) (sets : List PartialSet) (word : List ℕ) (start : List Token) → WithinFrom start (parse_after players k sets word start)
+after_within players k sets word start = by (is_word word (codes "c")) (is_word word (codes "p")) (is_word word (codes "t"))
   where
     from : {X : Type 0} (p : List Token → Parsed EfgKind X) → Within p → WithinFrom start p
     from p P = record { ok = P.ok; err = λ tokens f h e. ends_through f.1 tokens start (P.err tokens f e) h }
@@ -176,46 +176,46 @@ word_named : (tokens : List Token) (f : EfgKind × List Token) → wanted Node t
 word_named (Word word ∷ rest) f e = absurd (ok_err (word, rest) f e)
 word_named tokens f e = ([], ap (λ (z : EfgKind × List Token). z.1) (err_same {A = List ℕ × List Token} (Node, tokens) f e))
 
-pub choice_within : (players k : ℕ) (sets : List BegunSet) → Within (parse_choice players k sets)
+pub choice_within : (players k : ℕ) (sets : List PartialSet) → Within (parse_choice players k sets)
 unfolding parse_choice
 choice_within players k sets = record {
   ok = λ tokens x e.
       let w = bind_ok (wanted Node tokens (word_at tokens)) _ x e in
       let n = bind_ok (wanted Node w.0.1 (text_at w.0.1)) _ x w.2 in
       let one = (reader_within (λ tokens. wanted Node tokens (text_at tokens)) (text_reader Node)).ok w.0.1 n.0 n.1 in
-      ends_through x.1 n.0.1 tokens ((behind_within players k sets w.0.0 tokens).ok n.0.1 x n.2) (ends_through n.0.1 w.0.1 tokens one (word_ends tokens w.0 w.1));
+      ends_through x.1 n.0.1 tokens ((after_within players k sets w.0.0 tokens).ok n.0.1 x n.2) (ends_through n.0.1 w.0.1 tokens one (word_ends tokens w.0 w.1));
   err = λ tokens f e. elim (bind_err (wanted Node tokens (word_at tokens)) _ f e) [
     | inl g ↦ word_named tokens f g
     | inr w ↦ elim (bind_err (wanted Node w.0.1 (text_at w.0.1)) _ f w.2) [
       | inl g ↦ ends_through f.1 w.0.1 tokens ((reader_within (λ tokens. wanted Node tokens (text_at tokens)) (text_reader Node)).err w.0.1 f g) (word_ends tokens w.0 w.1)
       | inr n ↦
           let one = (reader_within (λ tokens. wanted Node tokens (text_at tokens)) (text_reader Node)).ok w.0.1 n.0 n.1 in
-          (behind_within players k sets w.0.0 tokens).err n.0.1 f (ends_through n.0.1 w.0.1 tokens one (word_ends tokens w.0 w.1)) n.2
+          (after_within players k sets w.0.0 tokens).err n.0.1 f (ends_through n.0.1 w.0.1 tokens one (word_ends tokens w.0 w.1)) n.2
     ]
   ];
 }
 
-pub next_within : (players : ℕ) (begun : Begun) (b : Branching) (rest : List Branching) → Within (parse_next players begun b rest)
+pub next_within : (players : ℕ) (partial : PartialTree) (b : Branching) (rest : List Branching) → Within (parse_next players partial b rest)
 unfolding parse_next
-next_within players begun b rest = bind_within (parse_choice players (length begun.nodes) begun.sets) _ (choice_within players (length begun.nodes) begun.sets) (λ choice. bind_within (parse_outcome players begun.outcomes) _ (outcome_within players begun.outcomes) (λ outcome. pure_within _))
+next_within players partial b rest = bind_within (parse_choice players (length partial.nodes) partial.sets) _ (choice_within players (length partial.nodes) partial.sets) (λ choice. bind_within (parse_outcome players partial.outcomes) _ (outcome_within players partial.outcomes) (λ outcome. pure_within _))
 
-at_within : (players : ℕ) (begun : Begun) (branchings : List Branching) → Within (parse_at players begun branchings)
-at_within players begun [] = record { ok = λ tokens x e. absurd (ok_err x (Node, tokens) (sym e)); err = λ tokens f e. ([], ap (λ (z : EfgKind × List Token). z.1) (err_same {A = Begun × List Token} (Node, tokens) f e)) }
-at_within players begun (b ∷ rest) = record {
-  ok = λ tokens x e. elim (cases_Bool (begins_node tokens && has_room (passed begun))) [
-    | inl n ↦ let f : parse_next players begun b rest tokens ≡ Ok x = rw n at e in (next_within players begun b rest).ok tokens x f
-    | inr n ↦ let f : ◌≡◌ {A = Parsed EfgKind Begun} (Err (Node, tokens)) (Ok x) = rw n at e in absurd (ok_err x (Node, tokens) (sym f))
+at_within : (players : ℕ) (partial : PartialTree) (branchings : List Branching) → Within (parse_at players partial branchings)
+at_within players partial [] = record { ok = λ tokens x e. absurd (ok_err x (Node, tokens) (sym e)); err = λ tokens f e. ([], ap (λ (z : EfgKind × List Token). z.1) (err_same {A = PartialTree × List Token} (Node, tokens) f e)) }
+at_within players partial (b ∷ rest) = record {
+  ok = λ tokens x e. elim (cases_Bool (begins_node tokens && has_room (passed partial))) [
+    | inl n ↦ let f : parse_next players partial b rest tokens ≡ Ok x = rw n at e in (next_within players partial b rest).ok tokens x f
+    | inr n ↦ let f : ◌≡◌ {A = Parsed EfgKind PartialTree} (Err (Node, tokens)) (Ok x) = rw n at e in absurd (ok_err x (Node, tokens) (sym f))
   ];
-  err = λ tokens g e. elim (cases_Bool (begins_node tokens && has_room (passed begun))) [
-    | inl n ↦ let f : parse_next players begun b rest tokens ≡ Err g = rw n at e in (next_within players begun b rest).err tokens g f
-    | inr n ↦ let f : ◌≡◌ {A = Parsed EfgKind Begun} (Err (Node, tokens)) (Err g) = rw n at e in ([], ap (λ (z : EfgKind × List Token). z.1) (err_same {A = Begun × List Token} (Node, tokens) g f))
+  err = λ tokens g e. elim (cases_Bool (begins_node tokens && has_room (passed partial))) [
+    | inl n ↦ let f : parse_next players partial b rest tokens ≡ Err g = rw n at e in (next_within players partial b rest).err tokens g f
+    | inr n ↦ let f : ◌≡◌ {A = Parsed EfgKind PartialTree} (Err (Node, tokens)) (Err g) = rw n at e in ([], ap (λ (z : EfgKind × List Token). z.1) (err_same {A = PartialTree × List Token} (Node, tokens) g f))
   ];
 }
 
-pub nodes_within : (most players : ℕ) (begun : Begun) → Within (parse_nodes most players begun)
-nodes_within zero players begun = record { ok = λ tokens x e. absurd (ok_err x (Node, tokens) (sym e)); err = λ tokens f e. ([], ap (λ (z : EfgKind × List Token). z.1) (err_same {A = Begun × List Token} (Node, tokens) f e)) }
-nodes_within (suc most) players begun = by (is_whole begun) (nodes_within most players)
+pub nodes_within : (most players : ℕ) (partial : PartialTree) → Within (parse_nodes most players partial)
+nodes_within zero players partial = record { ok = λ tokens x e. absurd (ok_err x (Node, tokens) (sym e)); err = λ tokens f e. ([], ap (λ (z : EfgKind × List Token). z.1) (err_same {A = PartialTree × List Token} (Node, tokens) f e)) }
+nodes_within (suc most) players partial = by (is_whole partial) (nodes_within most players)
   where
-    by : (whole : Bool) → ((next : Begun) → Within (parse_nodes most players next)) → Within (λ tokens. if whole then Ok (begun, tokens) else (parse_at players begun begun.branchings tokens >>= λ x. parse_nodes most players x.0 x.1))
-    by true more = pure_within begun
-    by false more = bind_within (parse_at players begun begun.branchings) (λ x tokens. parse_nodes most players x tokens) (at_within players begun begun.branchings) more
+    by : (whole : Bool) → ((next : PartialTree) → Within (parse_nodes most players next)) → Within (λ tokens. if whole then Ok (partial, tokens) else (parse_at players partial partial.branchings tokens >>= λ x. parse_nodes most players x.0 x.1))
+    by true more = pure_within partial
+    by false more = bind_within (parse_at players partial partial.branchings) (λ x tokens. parse_nodes most players x tokens) (at_within players partial partial.branchings) more

@@ -1,4 +1,4 @@
--- Faults in files of trees. The place is the first token with which no file can begin any more, or the source's length where the
+-- Faults in files of trees. The offset is that of the first token with which no file can begin any more, or the source's length where the
 -- tokens end too early; the kind is told by the point of the file at which the tokens before it stop, and by what comes.
 use Rattle.std.specs.Prelude.{ℕ, ◌≤◌, ◌≡◌, ◌≢◌, ◌⊎◌, List, [], ◌∷◌, ◌++◌, length, None}
 use Rattle.rational.specs.Rational.{ℚ, ◌+ℚ◌}
@@ -11,7 +11,7 @@ use Rattle.game_core.specs.TokenList.{TokenList, bare}
 use Rattle.game_core.specs.declared.token.Token.{Token}
 use Rattle.game_core.specs.declared.token.Token.TheVariants.{Right, Text, Number}
 use Rattle.file_parts.specs.Parts.{whole_number, IsOpen}
-use Rattle.file_parts.specs.Reading.{place_of}
+use Rattle.file_parts.specs.Reading.{offset_of}
 use Rattle.written_trees.specs.Written.{SetUse, OutcomeUse}
 use Rattle.efg_reader.specs.TreeFaults.{IsFile, BeginsFile, CannotCome, IsTitle, StopsInPlayers, StopsInNodes, StopsAtPlayer, StopsAtSet, StopsAtOutcome, HasActions, WantsProbability, HasPayoffs}
 use Rattle.efg_reader.specs.declared.kinds.EfgKind.{EfgKind}
@@ -35,7 +35,7 @@ BraceComes rest = (more : List Token) × (rest ≡ Right ∷ more)
 abbrev pub LacksList : List Token → List Token → Type 0
 LacksList before rest = (used : SetUse) × StopsAtSet before used [] [] × (rest ≢ [])
 
--- In a later list of a set's actions a text or the closing brace comes behind a whole action, and is too early or too late; or the
+-- In a later list of a set's actions a text or the closing brace comes after a whole action, and is too early or too late; or the
 -- number of a probability comes, and is another one.
 abbrev pub DiffersFromFirst : List Token → List Token → Type 0
 DiffersFromFirst before rest =
@@ -46,7 +46,7 @@ DiffersFromFirst before rest =
 abbrev pub sum_of : List Action → ℚ
 sum_of actions = sum_to (length actions) (probability_at actions)
 
--- in the first list of a set of chance with this number, behind these whole actions
+-- in the first list of a set of chance with this number, after these whole actions
 abbrev pub StopsInChances : List Token → ℕ → List Action → (List Token → Type 0) → Type 0
 StopsInChances before label actions IsList = (used : SetUse) × (list : List Token) × StopsAtSet before used [] list × (used.owner ≡ None) × (used.label ≡ label) × IsList list
 
@@ -76,7 +76,7 @@ IsNodeKind (ProbabilityRange label step) before rest = (actions : List Action) �
 IsNodeKind OutcomeMismatch before rest = PaysOtherwise before rest
 IsNodeKind _ before rest = ⊥
 
--- The kind of the fault that these tokens have behind those before. Inside the nodes a fault without a name of its own is one of the
+-- The kind of the fault that these tokens have after those before. Inside the nodes a fault without a name of its own is one of the
 -- node's form, and the end is one that comes too early.
 abbrev pub IsKind : EfgKind → List Token → List Token → Type 0
 IsKind Header before rest = IsOpen IsTitle before
@@ -96,4 +96,4 @@ pub record IsFaultFrom (tokens : List Token) (kind : EfgKind) (rest : List Token
 
 -- a fault of this kind at this offset: that of the token named, or the source's length where the tokens end too early
 abbrev pub IsFault : TokenList → EfgKind → ℕ → Type 0
-IsFault tokens kind at = (rest : List Token) × IsFaultFrom (bare tokens) kind rest × (at ≡ place_of tokens (length rest))
+IsFault tokens kind at = (rest : List Token) × IsFaultFrom (bare tokens) kind rest × (at ≡ offset_of tokens (length rest))

@@ -1,12 +1,12 @@
--- What the reader keeps while it reads, in the words of the tree that is begun.
+-- What the reader keeps while it reads, in the words of the tree that is partial.
 use Rattle.std.specs.Prelude.{ℕ, suc, ◌≤◌, ◌≡◌, List, [], ◌∷◌, length, map, reverse, true, Option, None, Some, Result, Ok, Err}
 use Rattle.std.specs.List.{AllByRecursion}
 use Rattle.game_core.specs.Tree.{most_nodes, most_depth}
 use Rattle.game_core.specs.declared.token.Token.{Token}
 use Rattle.file_parts.specs.declared.refusal.Refusal.TheVariants as refusals
 use Rattle.file_parts.specs.Parsing.{counted, IsRefusal}
-use Rattle.written_trees.specs.Building.{Begun, Branching, take_place, passed}
-use Rattle.efg_reader.specs.Uses.{begun_sets, begun_outcomes, AreSets, AreOutcomes}
+use Rattle.written_trees.specs.Building.{PartialTree, Branching, take_branch, passed}
+use Rattle.efg_reader.specs.Uses.{partial_sets, partial_outcomes, AreSets, AreOutcomes}
 use Rattle.efg_reader.specs.TreeReading.{begins_node, whole_nodes_at}
 use Rattle.efg_reader.specs.TreeParsing.{parse_at, parse_all_nodes}
 use Rattle.efg_reader.specs.declared.builder.Branching.{Branching as Kept}
@@ -14,20 +14,20 @@ use Rattle.efg_reader.specs.declared.builder.Builder.{Builder}
 use Rattle.efg_reader.specs.declared.nodes.Stop.{Stop}
 use Rattle.efg_reader.specs.declared.nodes.Stop.TheVariants.{Refused, Passed}
 
--- a node with free places
+-- a node with open branches
 abbrev pub branching_of : Kept → Branching
 branching_of b = record { node = b.node; next = b.next; count = b.count; depth = b.depth }
 
--- the nodes with free places, the last one first
+-- the nodes with open branches, the last one first
 abbrev pub branchings_of : List Kept → List Branching
 branchings_of kept = reverse (map branching_of kept)
 
--- the tree as far as it is begun
-abbrev pub begun_of : Builder → Begun
-begun_of builder = record {
+-- the tree as far as it is partial
+abbrev pub partial_of : Builder → PartialTree
+partial_of builder = record {
   nodes = builder.nodes.items;
-  sets = begun_sets builder.sets;
-  outcomes = begun_outcomes builder.outcomes;
+  sets = partial_sets builder.sets;
+  outcomes = partial_outcomes builder.outcomes;
   branchings = branchings_of builder.branchings.items;
 }
 
@@ -45,29 +45,29 @@ pub record IsBuilder (builder : Builder) : Type 0 where
   pub few_outcomes : length builder.outcomes.list.items ≤ length builder.nodes.items
   pub near : AllByRecursion (IsNear (length builder.nodes.items)) (branchings_of builder.branchings.items)
 
--- the first free place was taken, where there was one
+-- the first open branch was taken, where there was one
 abbrev pub HasTaken : List Branching → Option Kept → List Branching → Type 0
 HasTaken [] taken after = (taken ≡ None) × (after ≡ [])
 HasTaken (b ∷ rest) None after = ⊥
-HasTaken (b ∷ rest) (Some taken) after = (branching_of taken ≡ b) × (after ≡ take_place b rest)
+HasTaken (b ∷ rest) (Some taken) after = (branching_of taken ≡ b) × (after ≡ take_branch b rest)
 
 -- why a further node is not read: it does not fit, or memory ran out, or it would pass a limit
-abbrev pub RefusesNode : Stop → ℕ → Begun → List Token → Type 0
-RefusesNode (Refused refusal) players begun tokens = IsRefusal refusal (parse_at players begun begun.branchings tokens) × (begins_node tokens ≡ true → passed begun ≡ None)
-RefusesNode (Passed what) players begun tokens = (begins_node tokens ≡ true) × (passed begun ≡ Some what)
+abbrev pub RefusesNode : Stop → ℕ → PartialTree → List Token → Type 0
+RefusesNode (Refused refusal) players partial tokens = IsRefusal refusal (parse_at players partial partial.branchings tokens) × (begins_node tokens ≡ true → passed partial ≡ None)
+RefusesNode (Passed what) players partial tokens = (begins_node tokens ≡ true) × (passed partial ≡ Some what)
 
 -- what a function of the code answered, seen by view, is the reading of a further node, unless memory ran out
-abbrev pub ReadsNode : {X : Type 0} → (X → Begun × List Token) → Result X Stop → ℕ → Begun → List Token → Type 0
-ReadsNode view (Ok x) players begun tokens = parse_at players begun begun.branchings tokens ≡ Ok (view x)
-ReadsNode view (Err stop) players begun tokens = RefusesNode stop players begun tokens
+abbrev pub ReadsNode : {X : Type 0} → (X → PartialTree × List Token) → Result X Stop → ℕ → PartialTree → List Token → Type 0
+ReadsNode view (Ok x) players partial tokens = parse_at players partial partial.branchings tokens ≡ Ok (view x)
+ReadsNode view (Err stop) players partial tokens = RefusesNode stop players partial tokens
 
--- why nodes are not read: a token does not fit, with its kind and place, or memory ran out, or a limit is passed
+-- why nodes are not read: a token does not fit, with its kind and offset, or memory ran out, or a limit is passed
 abbrev pub RefusesNodes : Stop → ℕ → List Token → Type 0
-RefusesNodes (Refused (refusals.Unfit kind left)) players tokens = (counted (parse_all_nodes players tokens) ≡ Err (kind, left)) × (whole_nodes_at players tokens ≡ Err None)
+RefusesNodes (Refused (refusals.Unexpected kind left)) players tokens = (counted (parse_all_nodes players tokens) ≡ Err (kind, left)) × (whole_nodes_at players tokens ≡ Err None)
 RefusesNodes (Refused refusals.Memory) players tokens = Unit {0}
 RefusesNodes (Passed what) players tokens = whole_nodes_at players tokens ≡ Err (Some what)
 
 -- what a function of the code answered, seen by view, is the reading of all nodes, unless memory ran out
-abbrev pub ReadsNodes : {X : Type 0} → (X → Begun) → Result X Stop → ℕ → List Token → Type 0
+abbrev pub ReadsNodes : {X : Type 0} → (X → PartialTree) → Result X Stop → ℕ → List Token → Type 0
 ReadsNodes view (Ok x) players tokens = parse_all_nodes players tokens ≡ Ok (view x)
 ReadsNodes view (Err stop) players tokens = RefusesNodes stop players tokens

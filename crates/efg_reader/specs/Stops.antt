@@ -11,7 +11,7 @@ use Rattle.efg_reader.specs.TreeFile.{IsTreeFile, PassesLimit}
 use Rattle.efg_reader.specs.FaultKinds.{IsFault}
 use Rattle.efg_reader.specs.declared.kinds.EfgKind.{EfgKind}
 use Rattle.efg_reader.specs.declared.kinds.EfgKind.TheVariants.{Unfinished}
-use Rattle.file_parts.specs.Reading.{place_of}
+use Rattle.file_parts.specs.Reading.{offset_of}
 use Rattle.file_parts.specs.declared.refusal.Refusal.{Refusal}
 use Rattle.file_parts.specs.declared.refusal.Refusal.TheVariants as refusals
 use Rattle.efg_reader.specs.declared.fault.EfgStop.{EfgStop}
@@ -30,7 +30,7 @@ too_deep = record { what = Depth; count = 1025; limit = 1024 }
 abbrev pub IsPassed : List Token → TooLarge → Type 0
 IsPassed tokens limit = ((limit ≡ too_many_nodes) × PassesLimit tokens Nodes) ⊎ ((limit ≡ too_deep) × PassesLimit tokens Depth)
 
--- The tree of a file, within the limits of trees. A fault comes with its place and its kind, where the tokens have one and pass no
+-- The tree of a file, within the limits of trees. A fault comes with its offset and its kind, where the tokens have one and pass no
 -- limit; a limit comes where it is passed.
 abbrev pub tree_in : TokenList → Answer EfgStop GameTree
 tree_in tokens (Ok tree) = IsTreeFile (bare tokens) tree
@@ -39,9 +39,9 @@ tree_in tokens (Err (stops.TooLarge limit)) = IsPassed (bare tokens) limit
 tree_in tokens (Err stops.Memory) = ⊥
 
 -- the stop that a refusal of a part becomes
-abbrev pub IsStopOf : Refusal EfgKind → TokenList → EfgStop → Type 0
-IsStopOf (refusals.Unfit kind left) tokens stop = stop ≡ stops.Fault (record { at = place_of tokens left; kind = kind })
-IsStopOf refusals.Memory tokens stop = stop ≡ stops.Memory
+abbrev pub IsEfgStop : Refusal EfgKind → TokenList → EfgStop → Type 0
+IsEfgStop (refusals.Unexpected kind left) tokens stop = stop ≡ stops.Fault (record { at = offset_of tokens left; kind = kind })
+IsEfgStop refusals.Memory tokens stop = stop ≡ stops.Memory
 
 -- the kind inside the nodes: where no token is left, they end too early
 abbrev pub kind_in_nodes : EfgKind → ℕ → EfgKind
@@ -49,8 +49,8 @@ kind_in_nodes kind zero = Unfinished
 kind_in_nodes kind (suc left) = kind
 
 -- the stop that nodes become that are not read
-abbrev pub IsNodesStopOf : Stop → TokenList → EfgStop → Type 0
-IsNodesStopOf (Refused (refusals.Unfit kind left)) tokens stop = stop ≡ stops.Fault (record { at = place_of tokens left; kind = kind_in_nodes kind left })
-IsNodesStopOf (Refused refusals.Memory) tokens stop = stop ≡ stops.Memory
-IsNodesStopOf (Passed Nodes) tokens stop = stop ≡ stops.TooLarge too_many_nodes
-IsNodesStopOf (Passed _) tokens stop = stop ≡ stops.TooLarge too_deep
+abbrev pub IsNodesStop : Stop → TokenList → EfgStop → Type 0
+IsNodesStop (Refused (refusals.Unexpected kind left)) tokens stop = stop ≡ stops.Fault (record { at = offset_of tokens left; kind = kind_in_nodes kind left })
+IsNodesStop (Refused refusals.Memory) tokens stop = stop ≡ stops.Memory
+IsNodesStop (Passed Nodes) tokens stop = stop ≡ stops.TooLarge too_many_nodes
+IsNodesStop (Passed _) tokens stop = stop ≡ stops.TooLarge too_deep

@@ -4,7 +4,7 @@ use Rattle.std.specs.List.{flat_map}
 use Rattle.rational.specs.Rational.{ℚ}
 use Rattle.game_core.specs.declared.tree.Action.{Action}
 use Rattle.game_core.specs.declared.too_large.What.{What}
-use Rattle.game_core.specs.Tree.{GameTree, Place}
+use Rattle.game_core.specs.Tree.{GameTree, OpenBranch}
 use Rattle.game_core.specs.declared.token.Token.{Token}
 use Rattle.game_core.specs.declared.token.Token.TheVariants.{Left, Right, Text, Word, Number}
 use Rattle.file_parts.specs.Parts.{whole_number, optional_text, IsHeader, braced_texts, IsComment, AreNumbers}
@@ -12,7 +12,7 @@ use Rattle.written_trees.specs.Written.{SetUse, OutcomeUse, WrittenNode}
 use Rattle.written_trees.specs.Described.{Describe}
 use Rattle.written_trees.specs.Laws.{IsActionList, PassesAt}
 
--- an action: a text, and behind it a number where chance chooses
+-- an action: a text, and after it a number where chance chooses
 abbrev pub action_tokens : Option ℕ → Action → List Token
 action_tokens None action = Text action.name ∷ Number action.prob ∷ []
 action_tokens (Some i) action = Text action.name ∷ []
@@ -69,8 +69,8 @@ pub record IsFront (tokens : List Token) (title : List ℕ) (players : List (Lis
   pub is_comment : IsComment comment
   pub is_front : tokens ≡ header ++ Text title ∷ braced_texts players ++ comment
 
--- The tokens begin as a file whose nodes describe this tree, as far as it goes, and leave these places free.
-pub record IsBegunFile (tokens : List Token) (t : GameTree) (free : List Place) : Type 0 where
+-- The tokens begin as a file whose nodes describe this tree, as far as it goes, and leave these branches open.
+pub record IsPartialFile (tokens : List Token) (t : GameTree) (free : List OpenBranch) : Type 0 where
   pub front : List Token
   pub is_front : IsFront front t.title t.players
   pub written : List WrittenNode
@@ -79,9 +79,9 @@ pub record IsBegunFile (tokens : List Token) (t : GameTree) (free : List Place) 
   pub describe : Describe written t free
   pub are_tokens : tokens ≡ front ++ nodes
 
--- the tokens are a file of this tree: no place is left free
+-- the tokens are a file of this tree: no branch is left open
 abbrev pub IsTreeFile : List Token → GameTree → Type 0
-IsTreeFile tokens t = IsBegunFile tokens t []
+IsTreeFile tokens t = IsPartialFile tokens t []
 
 -- the word with which a node begins
 abbrev pub IsNodeWord : List ℕ → Type 0
@@ -90,11 +90,11 @@ IsNodeWord word = (word ≡ codes "c") ⊎ (word ≡ codes "p") ⊎ (word ≡ co
 -- The tokens begin as a file, and then a further node begins that passes a limit.
 pub record PassesLimit (tokens : List Token) (what : What) : Type 0 where
   pub tree : GameTree
-  pub free : List Place
-  pub begun : List Token
-  pub is_begun : IsBegunFile begun tree free
+  pub free : List OpenBranch
+  pub partial : List Token
+  pub is_partial : IsPartialFile partial tree free
   pub passes : PassesAt tree free what
   pub word : List ℕ
   pub is_word : IsNodeWord word
   pub rest : List Token
-  pub are_tokens : tokens ≡ begun ++ Word word ∷ rest
+  pub are_tokens : tokens ≡ partial ++ Word word ∷ rest

@@ -7,10 +7,10 @@ use Rattle.game_core.specs.declared.tree.Action.{Action}
 use Rattle.game_core.specs.declared.too_large.What.{What}
 use Rattle.game_core.specs.declared.tree.Kind.{Kind}
 use Rattle.game_core.specs.Tree.{kind_of_owner}
-use Rattle.file_parts.specs.Reading.{left_at, right_at, text_at, word_at, number_at, whole_at, optional_text_at, behind_text, names_at, texts_at, payoff_at, payoffs_at, title_at, opens, ends}
+use Rattle.file_parts.specs.Reading.{left_at, right_at, text_at, word_at, number_at, whole_at, optional_text_at, after_text, names_at, texts_at, payoff_at, payoffs_at, title_at, opens, ends}
 use Rattle.written_trees.specs.Written.{SetUse, OutcomeUse, WrittenNode}
 use Rattle.written_trees.specs.Described.{key_of, kind_of_use}
-use Rattle.written_trees.specs.Building.{Begun, use_some_set, use_some_outcome, may_be_first, repeats_actions, repeats_payoffs, BegunSet, BegunOutcome, add_node, use_set, set_place, outcome_place, may_follow, passed, nothing_begun, Branching, begun_count, take_place, add_places}
+use Rattle.written_trees.specs.Building.{PartialTree, use_some_set, use_some_outcome, may_be_first, repeats_actions, repeats_payoffs, PartialSet, PartialOutcome, add_node, use_set, set_place, outcome_place, may_follow, passed, root_alone, Branching, partial_count, take_branch, add_branches}
 use Rattle.rational.specs.Tests.{eq_ℚ}
 use Rattle.lists.specs.Options.{◌>>=◌}
 use Rattle.game_core.specs.declared.token.Token.{Token}
@@ -30,7 +30,7 @@ abbrev pub actions_at : Option ℕ → List Token → Option (List Action × Lis
 actions_at None tokens = chance_actions_at tokens
 actions_at (Some i) tokens = Some (map own_action (texts_at tokens).0, (texts_at tokens).1)
 
--- the tokens behind the brace that closes so many actions, which are at least one
+-- the tokens after the brace that closes so many actions, which are at least one
 abbrev pub closed_at : ℕ → List Token → Option (List Token)
 closed_at count tokens = right_at tokens >>= λ rest. if nat_le 1 count then Some rest else None
 
@@ -102,8 +102,8 @@ abbrev pub is_word : List ℕ → List ℕ → Bool
 is_word word expected = pointwise nat_eq word expected
 
 -- what follows the word with which a node begins, and its name
-abbrev pub choice_behind : ℕ → List ℕ → List Token → Option (Option SetUse × List Token)
-choice_behind players word tokens =
+abbrev pub choice_after : ℕ → List ℕ → List Token → Option (Option SetUse × List Token)
+choice_after players word tokens =
     if is_word word (codes "c") then chance_use_at tokens else if is_word word (codes "p") then own_use_at players tokens else if is_word word (codes "t") then Some (None, tokens) else None
 
 -- a node up to its outcome
@@ -111,7 +111,7 @@ unfoldable pub choice_at : ℕ → List Token → Option (Option SetUse × List 
 choice_at players tokens = do
   word ← word_at tokens
   name ← text_at word.1
-  choice_behind players word.0 name.1
+  choice_after players word.0 name.1
 
 -- a node
 unfoldable pub node_at : ℕ → List Token → Option (WrittenNode × List Token)
@@ -122,10 +122,10 @@ node_at players tokens = do
 
 -- ---- a node beside those before it
 -- a further node, and the tree with it
-unfoldable pub next_at : ℕ → Begun → List Token → Option (Begun × List Token)
-next_at players begun tokens = do
+unfoldable pub next_at : ℕ → PartialTree → List Token → Option (PartialTree × List Token)
+next_at players partial tokens = do
   node ← node_at players tokens
-  more ← add_node begun node.0
+  more ← add_node partial node.0
   Some (more, node.1)
 
 -- whether the word of a node comes
@@ -138,7 +138,7 @@ begins_node _ = false
 
 -- Why nodes are not read: for the limit that they pass, or else because they are none.
 abbrev pub Nodes : Type 0
-Nodes = Result (Begun × List Token) (Option What)
+Nodes = Result (PartialTree × List Token) (Option What)
 
 -- a further node, unless it passes a limit
 abbrev pub within_limit : {X : Type 0} → Option What → Option X → Result X (Option What)
@@ -152,17 +152,17 @@ and_then (Ok x) f = f x
 and_then (Err e) f = Err e
 
 -- a further node
-unfoldable pub one_more_at : ℕ → Begun → List Token → Nodes
-one_more_at players begun tokens = if begins_node tokens then within_limit (passed begun) (next_at players begun tokens) else Err None
+unfoldable pub one_more_at : ℕ → PartialTree → List Token → Nodes
+one_more_at players partial tokens = if begins_node tokens then within_limit (passed partial) (next_at players partial tokens) else Err None
 
--- whether no place is free
-abbrev pub is_whole : Begun → Bool
-is_whole begun = nat_eq (length begun.branchings) 0
+-- whether no branch is open
+abbrev pub is_whole : PartialTree → Bool
+is_whole partial = nat_eq (length partial.branchings) 0
 
--- nodes until no place is free, and at most so many
-abbrev pub nodes_at : ℕ → ℕ → Begun → List Token → Nodes
-nodes_at zero players begun tokens = Err None
-nodes_at (suc most) players begun tokens = if is_whole begun then Ok (begun, tokens) else and_then (one_more_at players begun tokens) (λ x. nodes_at most players x.0 x.1)
+-- nodes until no branch is open, and at most so many
+abbrev pub nodes_at : ℕ → ℕ → PartialTree → List Token → Nodes
+nodes_at zero players partial tokens = Err None
+nodes_at (suc most) players partial tokens = if is_whole partial then Ok (partial, tokens) else and_then (one_more_at players partial tokens) (λ x. nodes_at most players x.0 x.1)
 
 -- ---- the file
 -- the title and the players
@@ -173,14 +173,14 @@ unfoldable pub front_at : List Token → Option (Head × List Token)
 front_at tokens = do
   title ← title_at (codes "EFG") 2 tokens
   players ← names_at title.1
-  Some ((title.0, players.0), behind_text players.1)
+  Some ((title.0, players.0), after_text players.1)
 
 -- the nodes, with which the file ends
-unfoldable pub whole_nodes_at : ℕ → List Token → Result Begun (Option What)
-whole_nodes_at players tokens = and_then (nodes_at (suc (length tokens)) players nothing_begun tokens) (λ x. if ends x.1 then Ok x.0 else Err None)
+unfoldable pub whole_nodes_at : ℕ → List Token → Result PartialTree (Option What)
+whole_nodes_at players tokens = and_then (nodes_at (suc (length tokens)) players root_alone tokens) (λ x. if ends x.1 then Ok x.0 else Err None)
 
 -- ---- lists beside those before them
--- as many actions of chance as come, with their sum behind this one
+-- as many actions of chance as come, with their sum after this one
 abbrev pub summed_at : ℚ → List Token → Option ((List Action × ℚ) × List Token)
 summed_at sum (Text name ∷ Number prob ∷ rest) =
     if may_follow sum prob then (summed_at (sum +ℚ prob) rest >>= λ more. Some ((record { name = name; prob = prob } ∷ more.0.0, more.0.1), more.1)) else None
@@ -193,7 +193,7 @@ first_list_at owner tokens = do
   actions ← action_list_at owner tokens
   if may_be_first owner actions.0 then Some actions else None
 
--- the tokens behind an action that repeats this one
+-- the tokens after an action that repeats this one
 abbrev pub repeated_at : Option ℕ → Action → List Token → Option (List Token)
 repeated_at None action tokens = do
   name ← text_at tokens
@@ -201,81 +201,81 @@ repeated_at None action tokens = do
   if eq_ℚ prob.0 action.prob then Some prob.1 else None
 repeated_at (Some i) action tokens = text_at tokens >>= λ name. Some name.1
 
--- the tokens behind actions that repeat these
+-- the tokens after actions that repeat these
 abbrev pub all_repeated_at : Option ℕ → List Action → List Token → Option (List Token)
 all_repeated_at owner [] tokens = Some tokens
 all_repeated_at owner (action ∷ actions) tokens = repeated_at owner action tokens >>= λ rest. all_repeated_at owner actions rest
 
--- the tokens behind a later list of actions, which may come, and repeats these
+-- the tokens after a later list of actions, which may come, and repeats these
 unfoldable pub later_list_at : Option ℕ → List Action → List Token → Option (List Token)
 later_list_at owner actions tokens = do
   list ← optional_at (action_list_at owner) tokens
   if repeats_actions actions list.0 then Some list.1 else None
 
 -- a set that node k uses: the sets with it, and its place
-unfoldable pub set_step_at : ℕ → List BegunSet → Option ℕ → List Token → Option ((List BegunSet × ℕ) × List Token)
-set_step_at k sets owner tokens = do
+unfoldable pub set_part_at : ℕ → List PartialSet → Option ℕ → List Token → Option ((List PartialSet × ℕ) × List Token)
+set_part_at k sets owner tokens = do
   used ← set_use_at owner tokens
   more ← use_set k sets used.0
   Some ((more, set_place sets (key_of used.0)), used.1)
 
--- the tokens behind payoffs that repeat these, where so many were read before
+-- the tokens after payoffs that repeat these, where so many were read before
 abbrev pub payoffs_repeated_at : ℕ → List ℚ → List Token → Option (List Token)
 payoffs_repeated_at index [] tokens = Some tokens
 payoffs_repeated_at index (payoff ∷ payoffs) tokens = do
   next ← payoff_at index tokens
   if eq_ℚ next.0 payoff then payoffs_repeated_at (suc index) payoffs next.1 else None
 
--- the tokens behind later payoffs, which may come, and repeat these
+-- the tokens after later payoffs, which may come, and repeat these
 unfoldable pub later_payoffs_at : ℕ → List ℚ → List Token → Option (List Token)
 later_payoffs_at players payoffs tokens = do
   list ← optional_at (payoff_list_at players) tokens
   if repeats_payoffs payoffs list.0 then Some list.1 else None
 
 -- the outcomes with those that a node uses, and the place of its outcome
-abbrev pub with_outcome : List BegunOutcome → Option OutcomeUse → Option (List BegunOutcome × Option ℕ)
+abbrev pub with_outcome : List PartialOutcome → Option OutcomeUse → Option (List PartialOutcome × Option ℕ)
 with_outcome outcomes used = use_some_outcome outcomes used >>= λ more. Some (more, option_map (λ u. outcome_place outcomes u.label) used)
 
--- an outcome that a node uses, behind its number
-unfoldable pub named_step_at : ℕ → ℕ → List BegunOutcome → List Token → Option ((List BegunOutcome × Option ℕ) × List Token)
-named_step_at players label outcomes tokens = do
+-- an outcome that a node uses, after its number
+unfoldable pub named_part_at : ℕ → ℕ → List PartialOutcome → List Token → Option ((List PartialOutcome × Option ℕ) × List Token)
+named_part_at players label outcomes tokens = do
   used ← named_outcome_at players label tokens
   more ← with_outcome outcomes used.0
   Some (more, used.1)
 
 -- an outcome that a node uses, or none
-unfoldable pub outcome_step_at : ℕ → List BegunOutcome → List Token → Option ((List BegunOutcome × Option ℕ) × List Token)
-outcome_step_at players outcomes tokens = do
+unfoldable pub outcome_part_at : ℕ → List PartialOutcome → List Token → Option ((List PartialOutcome × Option ℕ) × List Token)
+outcome_part_at players outcomes tokens = do
   used ← outcome_use_at players tokens
   more ← with_outcome outcomes used.0
   Some (more, used.1)
 
 -- ---- a node beside those before it, as it is read
 -- who chooses at node k, and the sets with the one that it uses
-unfoldable pub choice_step_at : ℕ → ℕ → List BegunSet → List Token → Option ((List BegunSet × (Kind × Option ℕ)) × List Token)
-choice_step_at players k sets tokens = do
+unfoldable pub choice_part_at : ℕ → ℕ → List PartialSet → List Token → Option ((List PartialSet × (Kind × Option ℕ)) × List Token)
+choice_part_at players k sets tokens = do
   used ← choice_at players tokens
   more ← use_some_set k sets used.0
   Some ((more, (kind_of_use used.0, option_map (λ u. set_place sets (key_of u)) used.0)), used.1)
 
 -- the choice at a set of this owner
-abbrev pub set_choice_at : ℕ → List BegunSet → Option ℕ → List Token → Option ((List BegunSet × (Kind × Option ℕ)) × List Token)
-set_choice_at k sets owner tokens = set_step_at k sets owner tokens >>= λ x. Some ((x.0.0, (kind_of_owner owner, Some x.0.1)), x.1)
+abbrev pub set_choice_at : ℕ → List PartialSet → Option ℕ → List Token → Option ((List PartialSet × (Kind × Option ℕ)) × List Token)
+set_choice_at k sets owner tokens = set_part_at k sets owner tokens >>= λ x. Some ((x.0.0, (kind_of_owner owner, Some x.0.1)), x.1)
 
 -- the choice of the player whose number comes
-abbrev pub own_choice_at : ℕ → ℕ → List BegunSet → List Token → Option ((List BegunSet × (Kind × Option ℕ)) × List Token)
+abbrev pub own_choice_at : ℕ → ℕ → List PartialSet → List Token → Option ((List PartialSet × (Kind × Option ℕ)) × List Token)
 own_choice_at players k sets tokens = player_at players tokens >>= λ player. set_choice_at k sets (Some player.0) player.1
 
--- the tree with a node of this kind, with this set and this outcome, at the first free place
-abbrev pub grown_at : Begun → Kind → Option ℕ → Option ℕ → List Branching → Option Begun
-grown_at begun kind set outcome [] = None
-grown_at begun kind set outcome (b ∷ rest) =
+-- the tree with a node of this kind, with this set and this outcome, at the first open branch
+abbrev pub grown_at : PartialTree → Kind → Option ℕ → Option ℕ → List Branching → Option PartialTree
+grown_at partial kind set outcome [] = None
+grown_at partial kind set outcome (b ∷ rest) =
     Some (record {
-      nodes = begun.nodes ++ record { kind = kind; parent = b.node; branch = b.next; set = set; outcome = outcome } ∷ [];
-      sets = begun.sets;
-      outcomes = begun.outcomes;
-      branchings = add_places (length begun.nodes) (begun_count begun.sets set) (suc b.depth) (take_place b rest);
+      nodes = partial.nodes ++ record { kind = kind; parent = b.node; branch = b.next; set = set; outcome = outcome } ∷ [];
+      sets = partial.sets;
+      outcomes = partial.outcomes;
+      branchings = add_branches (length partial.nodes) (partial_count partial.sets set) (suc b.depth) (take_branch b rest);
     })
 
-abbrev pub grown : Begun → Kind → Option ℕ → Option ℕ → Option Begun
-grown begun kind set outcome = grown_at begun kind set outcome begun.branchings
+abbrev pub grown : PartialTree → Kind → Option ℕ → Option ℕ → Option PartialTree
+grown partial kind set outcome = grown_at partial kind set outcome partial.branchings

@@ -1,29 +1,29 @@
--- What the reader keeps of sets and outcomes, in the words of the tree that is begun.
+-- What the reader keeps of sets and outcomes, in the words of the tree that is partial.
 use Rattle.std.specs.Prelude.{◌≡◌, List, map}
 use Rattle.written_trees.specs.Described.{SetKey}
-use Rattle.written_trees.specs.Building.{BegunSet, BegunOutcome}
-use Rattle.efg_reader.specs.declared.sets.SetBegun.{SetBegun}
+use Rattle.written_trees.specs.Building.{PartialSet, PartialOutcome}
+use Rattle.efg_reader.specs.declared.sets.KeptSet.{KeptSet}
 use Rattle.efg_reader.specs.declared.sets.Sets.{Sets}
-use Rattle.efg_reader.specs.declared.outcomes.OutcomeBegun.{OutcomeBegun}
+use Rattle.efg_reader.specs.declared.outcomes.KeptOutcome.{KeptOutcome}
 use Rattle.efg_reader.specs.declared.outcomes.Outcomes.{Outcomes}
 
 -- a set, as far as it was used
-abbrev pub begun_set : SetBegun → BegunSet
-begun_set set = record { owner = set.owner; label = set.label; name = set.name; actions = set.actions.items; members = set.members.items }
+abbrev pub partial_set : KeptSet → PartialSet
+partial_set set = record { owner = set.owner; label = set.label; name = set.name; actions = set.actions.items; members = set.members.items }
 
-abbrev pub begun_sets : Sets → List BegunSet
-begun_sets sets = map begun_set sets.list.items
+abbrev pub partial_sets : Sets → List PartialSet
+partial_sets sets = map partial_set sets.list.items
 
 -- the keys are those of the sets in order
 pub record AreSets (sets : Sets) : Type 0 where
   pub keys_are : map {B = SetKey} (λ key. (key.owner, key.label)) sets.keys.keys ≡ map {B = SetKey} (λ set. (set.owner, set.label)) sets.list.items
 
 -- an outcome, as far as it was used
-abbrev pub begun_outcome : OutcomeBegun → BegunOutcome
-begun_outcome outcome = record { label = outcome.label; name = outcome.name; payoffs = outcome.payoffs.items }
+abbrev pub partial_outcome : KeptOutcome → PartialOutcome
+partial_outcome outcome = record { label = outcome.label; name = outcome.name; payoffs = outcome.payoffs.items }
 
-abbrev pub begun_outcomes : Outcomes → List BegunOutcome
-begun_outcomes outcomes = map begun_outcome outcomes.list.items
+abbrev pub partial_outcomes : Outcomes → List PartialOutcome
+partial_outcomes outcomes = map partial_outcome outcomes.list.items
 
 -- the labels are those of the outcomes in order
 pub record AreOutcomes (outcomes : Outcomes) : Type 0 where

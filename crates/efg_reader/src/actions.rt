@@ -10,7 +10,7 @@ ghost use Rattle.efg_reader.specs.TreeParsing.{sum_with, parse_chances, parse_cl
 ghost use Rattle.efg_reader.specs.declared.kinds.EfgKind.TheVariants.{Node, SetMismatch};
 
 use crate::kinds::EfgKind;
-use file_parts::{Refusal, copied, left, number, right, text, unfit};
+use file_parts::{Refusal, copied, left, number, right, text, unexpected};
 use frac128::Frac;
 use game_core::{Action, Spanned};
 use std::alloc::Global;
@@ -30,7 +30,7 @@ fn next_sum(sum: Frac, prob: Frac, set: u64) -> Result<Frac, EfgKind>
     Ok(next)
 }
 
-// As many actions of chance as come, their sum, and the tokens behind them. The set has this number.
+// As many actions of chance as come, their sum, and the tokens after them. The set has this number.
 #[tactic(auto, using(crate::proofs::ActionSteps::summed_steps))]
 fn chance_actions(
     alloc: Global,
@@ -45,12 +45,12 @@ fn chance_actions(
     let mut rest = tokens;
     while let Some((name, after)) = text(rest) {
         let Some(next) = number(after) else {
-            return Err(unfit(EfgKind::Node, after));
+            return Err(unexpected(EfgKind::Node, after));
         };
         let prob = next.0;
         sum = match next_sum(sum, prob, set) {
             Ok(more) => more,
-            Err(kind) => return Err(unfit(kind, after)),
+            Err(kind) => return Err(unexpected(kind, after)),
         };
         let name = copied(alloc, name)?;
         actions.push(Action { name, prob })?;
@@ -59,7 +59,7 @@ fn chance_actions(
     Ok((actions, sum, rest))
 }
 
-// As many actions of a player as come, and the tokens behind them.
+// As many actions of a player as come, and the tokens after them.
 fn own_actions(
     alloc: Global,
     tokens: &[Spanned],
@@ -70,26 +70,26 @@ fn own_actions(
 {
     let mut actions = Vec::new(alloc);
     let mut rest = tokens;
-    while let Some((name, behind)) = text(rest) {
+    while let Some((name, following)) = text(rest) {
         let name = copied(alloc, name)?;
         let prob = Frac::zero();
         actions.push(Action { name, prob })?;
-        rest = behind;
+        rest = following;
     }
     Ok((actions, rest))
 }
 
-// The tokens behind the brace that closes this many actions, which is at least one.
+// The tokens after the brace that closes this many actions, which is at least one.
 fn closed(tokens: &[Spanned], count: usize) -> Result<&[Spanned], Refusal<EfgKind>>
     ensures { Parses (λ rest. (tt, kinds rest.now)) result (parse_closed count (kinds tokens.now)) }
 {
     match right(tokens) {
         Some(rest) if count >= 1 => Ok(rest),
-        _ => Err(unfit(EfgKind::Node, tokens)),
+        _ => Err(unexpected(EfgKind::Node, tokens)),
     }
 }
 
-/// The actions of a set at its first use, and the tokens behind them. The set has this number.
+/// The actions of a set at its first use, and the tokens after them. The set has this number.
 #[tactic(auto, using(crate::proofs::ActionSteps::list_steps))]
 pub fn first_list(
     alloc: Global,
@@ -101,19 +101,19 @@ pub fn first_list(
         (parse_first_list owner set (kinds tokens.now)) }
 {
     let Some(inner) = left(tokens) else {
-        return Err(unfit(EfgKind::SetMismatch, tokens));
+        return Err(unexpected(EfgKind::SetMismatch, tokens));
     };
     match owner {
         Some(_) => {
-            let (actions, behind) = own_actions(alloc, inner)?;
-            let rest = closed(behind, actions.len())?;
+            let (actions, following) = own_actions(alloc, inner)?;
+            let rest = closed(following, actions.len())?;
             Ok((actions, rest))
         }
         None => {
-            let (actions, sum, behind) = chance_actions(alloc, inner, set)?;
-            let rest = closed(behind, actions.len())?;
+            let (actions, sum, following) = chance_actions(alloc, inner, set)?;
+            let rest = closed(following, actions.len())?;
             if sum != Frac::one() {
-                return Err(unfit(EfgKind::Probability { set, sum }, behind));
+                return Err(unexpected(EfgKind::Probability { set, sum }, following));
             }
             Ok((actions, rest))
         }
@@ -131,7 +131,7 @@ fn mismatch_or_node(differs: bool) -> EfgKind
     }
 }
 
-// The tokens behind an action that repeats this one.
+// The tokens after an action that repeats this one.
 #[tactic(auto, unfolding(crate::specs::TreeParsing::parse_repeated))]
 fn repeated<'a>(
     tokens: &'a [Spanned],
@@ -142,19 +142,19 @@ fn repeated<'a>(
         (parse_repeated owner action.now (kinds tokens.now)) }
 {
     let Some((_, after)) = text(tokens) else {
-        return Err(unfit(mismatch_or_node(right(tokens).is_some()), tokens));
+        return Err(unexpected(mismatch_or_node(right(tokens).is_some()), tokens));
     };
     if owner.is_some() {
         return Ok(after);
     }
     match number(after) {
         Some((prob, rest)) if prob == action.prob => Ok(rest),
-        Some(_) => Err(unfit(EfgKind::SetMismatch, after)),
-        None => Err(unfit(EfgKind::Node, after)),
+        Some(_) => Err(unexpected(EfgKind::SetMismatch, after)),
+        None => Err(unexpected(EfgKind::Node, after)),
     }
 }
 
-// The tokens behind actions that repeat these.
+// The tokens after actions that repeat these.
 #[tactic(auto, using(crate::proofs::ActionSteps::repeat_steps))]
 fn all_repeated<'a>(
     tokens: &'a [Spanned],
@@ -171,7 +171,7 @@ fn all_repeated<'a>(
     Ok(rest)
 }
 
-/// The tokens behind the actions of a later use, which may come, and repeat these.
+/// The tokens after the actions of a later use, which may come, and repeat these.
 #[tactic(auto, using(file_parts::proofs::Parses::refused_first), unfolding(crate::specs::TreeParsing::parse_repeated_list))]
 pub fn later_list<'a>(
     tokens: &'a [Spanned],
@@ -184,9 +184,9 @@ pub fn later_list<'a>(
     let Some(inner) = left(tokens) else {
         return Ok(tokens);
     };
-    let behind = all_repeated(inner, owner, actions)?;
-    match right(behind) {
+    let following = all_repeated(inner, owner, actions)?;
+    match right(following) {
         Some(rest) => Ok(rest),
-        None => Err(unfit(mismatch_or_node(text(behind).is_some()), behind)),
+        None => Err(unexpected(mismatch_or_node(text(following).is_some()), following)),
     }
 }

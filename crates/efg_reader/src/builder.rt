@@ -1,11 +1,11 @@
-// The tree as far as it is begun.
+// The tree as far as it is partial.
 ghost use Rattle.std.specs.Prelude.{◌≡◌, ◌≢◌, ◌<◌, ◌≤◌, suc, [], None, Some, All, length, IfOk, OnOk};
 ghost use Rattle.std.specs.List.{AllByRecursion};
 ghost use Rattle.game_core.specs.Tree.{most_nodes};
-ghost use Rattle.written_trees.specs.Building.{passed, nothing_begun, begun_count, add_places};
-ghost use Rattle.efg_reader.specs.Uses.{begun_sets};
+ghost use Rattle.written_trees.specs.Building.{passed, root_alone, partial_count, add_branches};
+ghost use Rattle.efg_reader.specs.Uses.{partial_sets};
 ghost use Rattle.efg_reader.specs.TreeReading.{grown};
-ghost use Rattle.efg_reader.specs.States.{begun_of, branchings_of, IsNear, IsBuilder, HasTaken};
+ghost use Rattle.efg_reader.specs.States.{partial_of, branchings_of, IsNear, IsBuilder, HasTaken};
 
 use crate::outcomes::Outcomes;
 use crate::sets::Sets;
@@ -41,7 +41,7 @@ pub struct Choice {
     pub set: Option<u32>,
 }
 
-/// The tree as far as it is begun.
+/// The tree as far as it is partial.
 #[derive(Drop)]
 pub struct Builder {
     /// The nodes in prefix order.
@@ -50,12 +50,12 @@ pub struct Builder {
     pub sets: Sets,
     /// The outcomes.
     pub outcomes: Outcomes,
-    /// The nodes with free places; the last one has the first of them.
+    /// The nodes with open branches; the last one has the first of them.
     pub branchings: Vec<Branching>,
 }
 
-// Takes the first free place.
-fn take_place(branchings: &mut Vec<Branching>) -> Option<Branching>
+// Takes the first open branch.
+fn take_branch(branchings: &mut Vec<Branching>) -> Option<Branching>
     requires next { All (λ b. b.next < 4294967295) branchings.old.items }
     ensures { HasTaken (branchings_of branchings.old.items) result
         (branchings_of branchings.new.items) }
@@ -70,15 +70,15 @@ fn take_place(branchings: &mut Vec<Branching>) -> Option<Branching>
     Some(taken)
 }
 
-// Adds the free places of this node with so many actions, whose children lie at this depth.
-fn add_places(
+// Adds the open branches of this node with so many actions, whose children lie at this depth.
+fn add_branches(
     branchings: &mut Vec<Branching>,
     node: u32,
     count: usize,
     depth: u32,
 ) -> Result<(), AllocError>
     ensures { OnOk result (branchings_of branchings.new.items
-        ≡ add_places node count depth (branchings_of branchings.old.items)) }
+        ≡ add_branches node count depth (branchings_of branchings.old.items)) }
 {
     if count > 0 {
         branchings.push(Branching {
@@ -92,9 +92,9 @@ fn add_places(
 }
 
 impl Builder {
-    /// Nothing but the place of the root.
+    /// Nothing but the branch of the root.
     pub fn new(alloc: Global) -> Result<Builder, AllocError>
-        ensures nothing { IfOk result (λ builder. begun_of builder ≡ nothing_begun) }
+        ensures nothing { IfOk result (λ builder. partial_of builder ≡ root_alone) }
         ensures valid { IfOk result IsBuilder }
     {
         let root = Branching {
@@ -121,7 +121,7 @@ impl Builder {
 
     /// The limit that a further node would pass.
     pub fn passed(&self) -> Option<What>
-        ensures { result ≡ passed (begun_of self.now) }
+        ensures { result ≡ passed (partial_of self.now) }
     {
         let branching = self.branchings.last()?;
         if self.nodes.len() >= MOST_NODES {
@@ -135,7 +135,7 @@ impl Builder {
 
     // How many actions a set has, and none at an end.
     fn count(&self, set: Option<u32>) -> usize
-        ensures { result ≡ begun_count (begun_sets self.now.sets) set }
+        ensures { result ≡ partial_count (partial_sets self.now.sets) set }
     {
         match set {
             None => 0,
@@ -146,14 +146,14 @@ impl Builder {
         }
     }
 
-    /// Adds a node with this choice and this outcome at the first free place.
+    /// Adds a node with this choice and this outcome at the first open branch.
     pub fn add(&mut self, choice: Choice, outcome: Option<u32>) -> Result<(), AllocError>
         requires near { AllByRecursion (IsNear (length self.old.nodes.items))
             (branchings_of self.old.branchings.items) }
         requires free { branchings_of self.old.branchings.items ≢ [] }
-        requires room { passed (begun_of self.old) ≡ None }
-        ensures grown { OnOk result (grown (begun_of self.old) choice.kind choice.set outcome
-            ≡ Some (begun_of self.new)) }
+        requires room { passed (partial_of self.old) ≡ None }
+        ensures grown { OnOk result (grown (partial_of self.old) choice.kind choice.set outcome
+            ≡ Some (partial_of self.new)) }
         ensures near { OnOk result
             (AllByRecursion (IsNear (length self.new.nodes.items))
             (branchings_of self.new.branchings.items)) }
@@ -163,16 +163,16 @@ impl Builder {
         ensures sets { self.new.sets ≡ self.old.sets }
         ensures outcomes { self.new.outcomes ≡ self.old.outcomes }
     {
-        let Some(place) = take_place(&mut self.branchings) else {
+        let Some(branching) = take_branch(&mut self.branchings) else {
             return Ok(());
         };
         let number = self.nodes.len() as u32;
         let count = self.count(choice.set);
-        add_places(&mut self.branchings, number, count, place.depth + 1)?;
+        add_branches(&mut self.branchings, number, count, branching.depth + 1)?;
         self.nodes.push(Node {
             kind: choice.kind,
-            parent: place.node,
-            branch: place.next,
+            parent: branching.node,
+            branch: branching.next,
             set: choice.set,
             outcome,
         })?;

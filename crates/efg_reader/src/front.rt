@@ -5,7 +5,7 @@ ghost use Rattle.file_parts.specs.Parsing.{Parses};
 ghost use Rattle.efg_reader.specs.TreeParsing.{parse_head};
 
 use crate::kinds::EfgKind;
-use file_parts::{Refusal, behind_text, copied, names, title};
+use file_parts::{Refusal, after_text, copied, names, title};
 use game_core::{Name, Spanned};
 use std::alloc::Global;
 
@@ -18,7 +18,7 @@ pub struct Front {
     pub players: Vec<Name>,
 }
 
-/// The title, the players, and the tokens behind them and the comment that may come.
+/// The title, the players, and the tokens after them and the comment that may come.
 #[tactic(auto, using(file_parts::proofs::Parses::refused_first), unfolding(crate::specs::TreeParsing::parse_head))]
 pub fn read_front(
     alloc: Global,
@@ -27,8 +27,8 @@ pub fn read_front(
     ensures { Parses (λ x. ((x.0.title, x.0.players.items), kinds x.1.now)) result
         (parse_head (kinds tokens.now)) }
 {
-    let (title, behind) = title(tokens, b"EFG", 2, EfgKind::Header)?;
+    let (title, following) = title(tokens, b"EFG", 2, EfgKind::Header)?;
     let title = copied(alloc, title)?;
-    let (players, behind) = names(alloc, behind, EfgKind::Players)?;
-    Ok((Front { title, players }, behind_text(behind)))
+    let (players, following) = names(alloc, following, EfgKind::Players)?;
+    Ok((Front { title, players }, after_text(following)))
 }

@@ -33,6 +33,6 @@ pub enum EfgKind {
     OutcomeMismatch,
     /// The tokens end inside the nodes.
     Unfinished,
-    /// A token behind the end.
+    /// A token after the end.
     Trailing,
 }

@@ -1,13 +1,12 @@
 //! Files of game trees: which tokens stand for which tree, and how they are read.
 //!
-//! `specs/TreeFile` has the grammar, `TreeReading` what is read of the tokens, part by part, and
-//! `FaultKinds` the faults of tokens that are no file. The lemmas in `proofs/FileLaws` say that what
-//! is read is what the grammar describes, and nothing else; those in `proofs/FaultLaws` that where
-//! reading stops is the only fault.
-//!
-//! `sets` and `outcomes` read the information sets and the outcomes that the nodes of a file use,
-//! and number them by their first use; `nodes` reads the nodes, and `builder` holds the tree as it
-//! grows.
+//! Callers may rely on: `read` gives the tree of a file, or where there is none a fault or a limit;
+//! `files_have_one_tree`; `files_are_read`, in both directions; answers are single.
+//! Definitions: `specs::TreeFile` has the grammar, `FaultKinds` the faults of tokens that are no
+//! file, `Stops` what tokens answer.
+//! Private words: `specs::TreeReading`, `States` and `Uses`, what is kept while tokens are read.
+//! Lemmas for callers: `proofs::FileStops`.
+//! A change here touches: the trees of docs/FORMAT.md, `gambit_tools` and `refusals`.
 #![tactic(auto)]
 
 ghost use Rattle.std.specs.Prelude.{◌≡◌, ◌<◌, ◌^◌, List, length, Ok};

@@ -1,12 +1,12 @@
 // The nodes of a file.
 ghost use Rattle.std.specs.Prelude.{◌≡◌, ◌<◌, ◌≢◌, [], true, None, length, IfOk};
 ghost use Rattle.std.specs.List.{AllByRecursion};
-ghost use Rattle.game_core.specs.InPlace.{IsShortToken};
+ghost use Rattle.game_core.specs.Spacing.{IsShortToken};
 ghost use Rattle.file_parts.specs.Reading.{kinds};
 ghost use Rattle.file_parts.specs.Parsing.{Parses};
 ghost use Rattle.game_core.specs.Tree.{kind_of_owner};
-ghost use Rattle.efg_reader.specs.Uses.{begun_sets, AreSets};
-ghost use Rattle.efg_reader.specs.States.{begun_of, IsBuilder, ReadsNode, ReadsNodes};
+ghost use Rattle.efg_reader.specs.Uses.{partial_sets, AreSets};
+ghost use Rattle.efg_reader.specs.States.{partial_of, IsBuilder, ReadsNode, ReadsNodes};
 ghost use Rattle.efg_reader.specs.TreeReading.{is_word, begins_node};
 ghost use Rattle.efg_reader.specs.TreeParsing.{parse_set_choice, parse_own_choice, parse_choice, parse_at};
 ghost use Rattle.written_trees.specs.Building.{passed};
@@ -16,7 +16,7 @@ use crate::kinds::EfgKind;
 use crate::outcomes::read_outcome;
 use crate::pieces::{begins_node, player};
 use crate::sets::{Sets, read_set};
-use file_parts::{Refusal, ends, text, unfit, word};
+use file_parts::{Refusal, ends, text, unexpected, word};
 use game_core::{Kind, Name, Spanned, What};
 use std::alloc::{AllocError, Global};
 
@@ -69,7 +69,7 @@ fn kind_of(owner: Option<u32>) -> Kind
     }
 }
 
-// The sets with one of this owner, the choice at it, and the tokens behind it.
+// The sets with one of this owner, the choice at it, and the tokens after it.
 #[tactic(auto, using(file_parts::proofs::Parses::refused_first), unfolding(crate::specs::TreeParsing::parse_set_choice))]
 fn set_choice<'a>(
     alloc: Global,
@@ -82,8 +82,8 @@ fn set_choice<'a>(
     requires few { length sets.list.items < 4294967295 }
     requires short { AllByRecursion IsShortToken (kinds tokens.now) }
     ensures sets { IfOk result (λ x. AreSets x.0) }
-    ensures read { Parses (λ x. ((begun_sets x.0, (x.1.kind, x.1.set)), kinds x.2.now)) result
-        (parse_set_choice number (begun_sets sets) owner (kinds tokens.now)) }
+    ensures read { Parses (λ x. ((partial_sets x.0, (x.1.kind, x.1.set)), kinds x.2.now)) result
+        (parse_set_choice number (partial_sets sets) owner (kinds tokens.now)) }
 {
     match read_set(alloc, sets, owner, number, tokens) {
         Ok((sets, set, rest)) => {
@@ -97,7 +97,7 @@ fn set_choice<'a>(
     }
 }
 
-// The sets with one of the player whose number comes, the choice at it, and the tokens behind it.
+// The sets with one of the player whose number comes, the choice at it, and the tokens after it.
 #[tactic(auto, using(file_parts::proofs::Parses::refused_first, crate::proofs::ShortRests::player_leaves), unfolding(crate::specs::TreeParsing::parse_own_choice))]
 fn own_choice<'a>(
     alloc: Global,
@@ -110,18 +110,18 @@ fn own_choice<'a>(
     requires few { length sets.list.items < 4294967295 }
     requires short { AllByRecursion IsShortToken (kinds tokens.now) }
     ensures sets { IfOk result (λ x. AreSets x.0) }
-    ensures read { Parses (λ x. ((begun_sets x.0, (x.1.kind, x.1.set)), kinds x.2.now)) result
-        (parse_own_choice players number (begun_sets sets) (kinds tokens.now)) }
+    ensures read { Parses (λ x. ((partial_sets x.0, (x.1.kind, x.1.set)), kinds x.2.now)) result
+        (parse_own_choice players number (partial_sets sets) (kinds tokens.now)) }
 {
     match player(tokens, players) {
-        Ok((player, behind)) => set_choice(alloc, sets, Some(player), number, behind),
+        Ok((player, following)) => set_choice(alloc, sets, Some(player), number, following),
         Err(refusal) => Err(refusal),
     }
 }
 
 // A node with this number up to its outcome: the sets with the one that it uses, the choice that is made there, and
-// the tokens behind it.
-#[tactic(auto, using(crate::proofs::ShortRests::short_behind), unfolding(crate::specs::TreeParsing::parse_choice))]
+// the tokens after it.
+#[tactic(auto, using(crate::proofs::ShortRests::short_after), unfolding(crate::specs::TreeParsing::parse_choice))]
 fn choice<'a>(
     alloc: Global,
     sets: Sets,
@@ -133,31 +133,31 @@ fn choice<'a>(
     requires few { length sets.list.items < 4294967295 }
     requires short { AllByRecursion IsShortToken (kinds tokens.now) }
     ensures sets { IfOk result (λ x. AreSets x.0) }
-    ensures read { Parses (λ x. ((begun_sets x.0, (x.1.kind, x.1.set)), kinds x.2.now)) result
-        (parse_choice players number (begun_sets sets) (kinds tokens.now)) }
+    ensures read { Parses (λ x. ((partial_sets x.0, (x.1.kind, x.1.set)), kinds x.2.now)) result
+        (parse_choice players number (partial_sets sets) (kinds tokens.now)) }
 {
     let Some((word, name_on)) = word(tokens) else {
-        return Err(unfit(EfgKind::Node, tokens));
+        return Err(unexpected(EfgKind::Node, tokens));
     };
-    let Some((_, behind)) = text(name_on) else {
-        return Err(unfit(EfgKind::Node, name_on));
+    let Some((_, following)) = text(name_on) else {
+        return Err(unexpected(EfgKind::Node, name_on));
     };
     if is_word(word, b"c") {
-        set_choice(alloc, sets, None, number, behind)
+        set_choice(alloc, sets, None, number, following)
     } else if is_word(word, b"p") {
-        own_choice(alloc, sets, players, number, behind)
+        own_choice(alloc, sets, players, number, following)
     } else if is_word(word, b"t") {
         let choice = Choice {
             kind: Kind::End,
             set: None,
         };
-        Ok((sets, choice, behind))
+        Ok((sets, choice, following))
     } else {
-        Err(unfit(EfgKind::Node, tokens))
+        Err(unexpected(EfgKind::Node, tokens))
     }
 }
 
-// The tree with a further node, which passes no limit, and the tokens behind it.
+// The tree with a further node, which passes no limit, and the tokens after it.
 fn next<'a>(
     alloc: Global,
     builder: Builder,
@@ -166,12 +166,12 @@ fn next<'a>(
 ) -> Result<(Builder, &'a [Spanned]), Refusal<EfgKind>>
     requires valid { IsBuilder builder }
     requires begins { begins_node (kinds tokens.now) ≡ true }
-    requires room { passed (begun_of builder) ≡ None }
-    requires free { (begun_of builder).branchings ≢ [] }
+    requires room { passed (partial_of builder) ≡ None }
+    requires free { (partial_of builder).branchings ≢ [] }
     requires short { AllByRecursion IsShortToken (kinds tokens.now) }
     ensures valid { IfOk result (λ x. IsBuilder x.0) }
-    ensures read { Parses (λ x. (begun_of x.0, kinds x.1.now)) result
-        (parse_at players (begun_of builder) (begun_of builder).branchings (kinds tokens.now)) }
+    ensures read { Parses (λ x. (partial_of x.0, kinds x.1.now)) result
+        (parse_at players (partial_of builder) (partial_of builder).branchings (kinds tokens.now)) }
 {
     let Builder {
         nodes,
@@ -179,11 +179,16 @@ fn next<'a>(
         outcomes,
         branchings,
     } = builder;
-    let (sets, choice, behind) = match choice(alloc, sets, players, nodes.len() as u32, tokens) {
+    let (sets, choice, following) = match choice(alloc, sets, players, nodes.len() as u32, tokens) {
         Ok(read) => read,
         Err(refusal) => return Err(refusal),
     };
-    let (outcomes, outcome, rest) = match read_outcome(alloc, outcomes, players as usize, behind) {
+    let (outcomes, outcome, rest) = match read_outcome(
+        alloc,
+        outcomes,
+        players as usize,
+        following,
+    ) {
         Ok(read) => read,
         Err(refusal) => return Err(refusal),
     };
@@ -199,7 +204,7 @@ fn next<'a>(
     }
 }
 
-// The tree with a further node, and the tokens behind it.
+// The tree with a further node, and the tokens after it.
 #[tactic(auto, using(crate::proofs::NextSteps::no_word))]
 fn one_more<'a>(
     alloc: Global,
@@ -208,14 +213,15 @@ fn one_more<'a>(
     tokens: &'a [Spanned],
 ) -> Result<(Builder, &'a [Spanned]), Stop>
     requires valid { IsBuilder builder }
-    requires free { (begun_of builder).branchings ≢ [] }
+    requires free { (partial_of builder).branchings ≢ [] }
     requires short { AllByRecursion IsShortToken (kinds tokens.now) }
     ensures valid { IfOk result (λ x. IsBuilder x.0) }
-    ensures read { ReadsNode (λ x. (begun_of x.0, kinds x.1.now)) result players (begun_of builder)
+    ensures read { ReadsNode (λ x. (partial_of x.0, kinds x.1.now)) result players
+        (partial_of builder)
         (kinds tokens.now) }
 {
     if !begins_node(tokens) {
-        return Err(Stop::Refused(unfit(EfgKind::Node, tokens)));
+        return Err(Stop::Refused(unexpected(EfgKind::Node, tokens)));
     }
     if let Some(what) = builder.passed() {
         return Err(Stop::Passed(what));
@@ -226,10 +232,10 @@ fn one_more<'a>(
     }
 }
 
-/// The tree of all nodes of a file, behind which it ends.
+/// The tree of all nodes of a file, after which it ends.
 pub fn read_nodes(alloc: Global, players: u32, tokens: &[Spanned]) -> Result<Builder, Stop>
     requires short { AllByRecursion IsShortToken (kinds tokens.now) }
-    ensures { ReadsNodes (λ builder. begun_of builder) result players (kinds tokens.now) }
+    ensures { ReadsNodes (λ builder. partial_of builder) result players (kinds tokens.now) }
 {
     let mut builder = Builder::new(alloc)?;
     let mut rest = tokens;
@@ -242,6 +248,6 @@ pub fn read_nodes(alloc: Global, players: u32, tokens: &[Spanned]) -> Result<Bui
     if ends(rest) {
         Ok(builder)
     } else {
-        Err(Stop::Refused(unfit(EfgKind::Trailing, rest)))
+        Err(Stop::Refused(unexpected(EfgKind::Trailing, rest)))
     }
 }

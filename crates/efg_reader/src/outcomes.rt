@@ -1,18 +1,20 @@
 // The outcomes, numbered by their first use.
 ghost use Rattle.std.specs.Prelude.{◌≡◌, ◌<◌, Some, if◌then◌else◌, length, option_map, IfOk, OnOk};
 ghost use Rattle.std.specs.List.{AllByRecursion};
-ghost use Rattle.game_core.specs.InPlace.{IsShortToken};
-ghost use Rattle.file_parts.specs.declared.refusal.Refusal.TheVariants.{Unfit};
+ghost use Rattle.game_core.specs.Spacing.{IsShortToken};
+ghost use Rattle.file_parts.specs.declared.refusal.Refusal.TheVariants.{Unexpected};
 ghost use Rattle.file_parts.specs.Reading.{kinds, payoff_start};
 ghost use Rattle.file_parts.specs.Parsing.{Parses, parse_each};
-ghost use Rattle.efg_reader.specs.Uses.{begun_outcomes, AreOutcomes};
+ghost use Rattle.efg_reader.specs.Uses.{partial_outcomes, AreOutcomes};
 ghost use Rattle.efg_reader.specs.TreeParsing.{closes, parse_payoff, parse_payoffs_end, parse_first_payoffs, parse_same_payoffs, parse_later_payoffs, parse_named, parse_outcome};
 ghost use Rattle.efg_reader.specs.declared.kinds.EfgKind.TheVariants.{Node, OutcomeMismatch};
 ghost use Rattle.std.specs.Option.{option_or};
 
 use crate::kinds::EfgKind;
 use crate::sets::optional_name;
-use file_parts::{Refusal, label, left, number, optional_text, payoff, payoff_start, right, unfit};
+use file_parts::{
+    Refusal, label, left, number, optional_text, payoff, payoff_start, right, unexpected,
+};
 use frac128::Frac;
 use game_core::{Name, Spanned};
 use indexmap::IndexSet;
@@ -20,7 +22,7 @@ use std::alloc::Global;
 
 /// An outcome as far as it was used.
 #[derive(Drop)]
-pub struct OutcomeBegun {
+pub struct KeptOutcome {
     /// The number that the file gives it.
     pub label: u64,
     /// Its first name, where one came.
@@ -35,7 +37,7 @@ pub struct Outcomes {
     /// The numbers that the file gives them.
     pub labels: IndexSet<u64>,
     /// The outcomes.
-    pub list: Vec<OutcomeBegun>,
+    pub list: Vec<KeptOutcome>,
 }
 
 // The kind of the fault at a token: whether the payoffs are too few or too many there, or the token fits no list.
@@ -52,24 +54,24 @@ fn mismatch_or_node(differs: bool) -> EfgKind
 // That no payoff comes, of which this many came before.
 fn no_payoff(tokens: &[Spanned], index: usize) -> Refusal<EfgKind>
     ensures { result
-        ≡ Unfit (if closes (payoff_start index (kinds tokens.now)) then OutcomeMismatch else Node)
+        ≡ Unexpected (if closes (payoff_start index (kinds tokens.now)) then OutcomeMismatch else Node)
         (length (payoff_start index (kinds tokens.now))) }
 {
     let start = payoff_start(tokens, index);
-    unfit(mismatch_or_node(right(start).is_some()), start)
+    unexpected(mismatch_or_node(right(start).is_some()), start)
 }
 
-// The tokens behind the brace that closes payoffs.
+// The tokens after the brace that closes payoffs.
 fn closed(tokens: &[Spanned]) -> Result<&[Spanned], Refusal<EfgKind>>
     ensures { Parses (λ rest. (tt, kinds rest.now)) result (parse_payoffs_end (kinds tokens.now)) }
 {
     match right(tokens) {
         Some(rest) => Ok(rest),
-        None => Err(unfit(mismatch_or_node(number(tokens).is_some()), tokens)),
+        None => Err(unexpected(mismatch_or_node(number(tokens).is_some()), tokens)),
     }
 }
 
-// The payoffs of this many players, and the tokens behind them.
+// The payoffs of this many players, and the tokens after them.
 #[tactic(auto, using(file_parts::proofs::Parses::parses))]
 fn payoffs(
     alloc: Global,
@@ -91,7 +93,7 @@ fn payoffs(
     Ok((payoffs, rest))
 }
 
-// The payoffs of an outcome at its first use, and the tokens behind them.
+// The payoffs of an outcome at its first use, and the tokens after them.
 #[tactic(auto, using(file_parts::proofs::Parses::refused_first), unfolding(crate::specs::TreeParsing::parse_first_payoffs))]
 fn first_payoffs(
     alloc: Global,
@@ -102,14 +104,14 @@ fn first_payoffs(
         (parse_first_payoffs players (kinds tokens.now)) }
 {
     let Some(inner) = left(tokens) else {
-        return Err(unfit(EfgKind::OutcomeMismatch, tokens));
+        return Err(unexpected(EfgKind::OutcomeMismatch, tokens));
     };
-    let (payoffs, behind) = payoffs(alloc, inner, players)?;
-    let rest = closed(behind)?;
+    let (payoffs, following) = payoffs(alloc, inner, players)?;
+    let rest = closed(following)?;
     Ok((payoffs, rest))
 }
 
-// The tokens behind payoffs that repeat these.
+// The tokens after payoffs that repeat these.
 #[tactic(auto, using(crate::proofs::OutcomeSteps::repeated_steps))]
 fn repeated<'a>(tokens: &'a [Spanned], payoffs: &[Frac]) -> Result<&'a [Spanned], Refusal<EfgKind>>
     ensures { Parses (λ rest. (tt, kinds rest.now)) result
@@ -121,14 +123,14 @@ fn repeated<'a>(tokens: &'a [Spanned], payoffs: &[Frac]) -> Result<&'a [Spanned]
             return Err(no_payoff(rest, index));
         };
         if next.0 != payoffs[index] {
-            return Err(unfit(EfgKind::OutcomeMismatch, payoff_start(rest, index)));
+            return Err(unexpected(EfgKind::OutcomeMismatch, payoff_start(rest, index)));
         }
         rest = next.1;
     }
     Ok(rest)
 }
 
-// The tokens behind the payoffs of a later use, which may come, and repeat these.
+// The tokens after the payoffs of a later use, which may come, and repeat these.
 #[tactic(auto, using(file_parts::proofs::Parses::refused_first), unfolding(crate::specs::TreeParsing::parse_repeated_payoffs))]
 fn later_payoffs<'a>(
     tokens: &'a [Spanned],
@@ -140,18 +142,18 @@ fn later_payoffs<'a>(
     let Some(inner) = left(tokens) else {
         return Ok(tokens);
     };
-    let behind = repeated(inner, payoffs)?;
-    closed(behind)
+    let following = repeated(inner, payoffs)?;
+    closed(following)
 }
 
-// An outcome of a first use, with the payoffs that come, and the tokens behind them.
+// An outcome of a first use, with the payoffs that come, and the tokens after them.
 fn first_use<'a>(
     alloc: Global,
     label: u64,
     name: Option<&Name>,
     players: usize,
     tokens: &'a [Spanned],
-) -> Result<(OutcomeBegun, &'a [Spanned]), Refusal<EfgKind>>
+) -> Result<(KeptOutcome, &'a [Spanned]), Refusal<EfgKind>>
     ensures label { IfOk result (λ x. x.0.label ≡ label) }
     ensures name { IfOk result (λ x. x.0.name ≡ option_map (λ t. t.now) name.entry) }
     ensures read { Parses (λ x. (x.0.payoffs.items, kinds x.1.now)) result
@@ -159,7 +161,7 @@ fn first_use<'a>(
 {
     let (payoffs, rest) = first_payoffs(alloc, tokens, players)?;
     let name = optional_name(alloc, name)?;
-    let outcome = OutcomeBegun {
+    let outcome = KeptOutcome {
         label,
         name,
         payoffs,
@@ -167,10 +169,10 @@ fn first_use<'a>(
     Ok((outcome, rest))
 }
 
-// The tokens behind a later use of an outcome.
+// The tokens after a later use of an outcome.
 fn later_use<'a>(
     alloc: Global,
-    outcome: &mut OutcomeBegun,
+    outcome: &mut KeptOutcome,
     name: Option<&Name>,
     tokens: &'a [Spanned],
 ) -> Result<&'a [Spanned], Refusal<EfgKind>>
@@ -188,7 +190,7 @@ fn later_use<'a>(
     Ok(rest)
 }
 
-// The outcomes with the one of this label, which a node uses, its number, and the tokens behind it.
+// The outcomes with the one of this label, which a node uses, its number, and the tokens after it.
 fn read_named<'a>(
     alloc: Global,
     mut outcomes: Outcomes,
@@ -199,22 +201,22 @@ fn read_named<'a>(
     requires outcomes { AreOutcomes outcomes }
     requires few { length outcomes.list.items < 4294967295 }
     ensures outcomes { IfOk result (λ x. AreOutcomes x.0) }
-    ensures read { Parses (λ x. ((begun_outcomes x.0, Some x.1), kinds x.2.now)) result
-        (parse_named players label (begun_outcomes outcomes) (kinds tokens.now)) }
+    ensures read { Parses (λ x. ((partial_outcomes x.0, Some x.1), kinds x.2.now)) result
+        (parse_named players label (partial_outcomes outcomes) (kinds tokens.now)) }
 {
-    let (name, behind) = optional_text(tokens);
+    let (name, following) = optional_text(tokens);
     let (place, is_new) = outcomes.labels.insert_full(label)?;
     if is_new {
-        let (outcome, rest) = first_use(alloc, label, name, players, behind)?;
+        let (outcome, rest) = first_use(alloc, label, name, players, following)?;
         outcomes.list.push(outcome)?;
         Ok((outcomes, place as u32, rest))
     } else {
-        let rest = later_use(alloc, &mut outcomes.list[place], name, behind)?;
+        let rest = later_use(alloc, &mut outcomes.list[place], name, following)?;
         Ok((outcomes, place as u32, rest))
     }
 }
 
-/// The outcomes with the one that a node uses, where it uses one, its number, and the tokens behind it.
+/// The outcomes with the one that a node uses, where it uses one, its number, and the tokens after it.
 #[tactic(auto, using(crate::proofs::Labels::outcome_steps))]
 pub fn read_outcome<'a>(
     alloc: Global,
@@ -226,11 +228,11 @@ pub fn read_outcome<'a>(
     requires few { length outcomes.list.items < 4294967295 }
     requires short { AllByRecursion IsShortToken (kinds tokens.now) }
     ensures outcomes { IfOk result (λ x. AreOutcomes x.0) }
-    ensures read { Parses (λ x. ((begun_outcomes x.0, x.1), kinds x.2.now)) result
-        (parse_outcome players (begun_outcomes outcomes) (kinds tokens.now)) }
+    ensures read { Parses (λ x. ((partial_outcomes x.0, x.1), kinds x.2.now)) result
+        (parse_outcome players (partial_outcomes outcomes) (kinds tokens.now)) }
 {
     let Some((number, rest)) = label(tokens) else {
-        return Err(unfit(EfgKind::Node, tokens));
+        return Err(unexpected(EfgKind::Node, tokens));
     };
     if number == 0 {
         return Ok((outcomes, None, rest));

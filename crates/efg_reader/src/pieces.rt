@@ -1,17 +1,17 @@
 // Numbers and players at the front of a list of tokens.
 ghost use Rattle.std.specs.Prelude.{◌≡◌, ◌<◌};
 ghost use Rattle.std.specs.List.{AllByRecursion};
-ghost use Rattle.game_core.specs.InPlace.{IsShortToken};
+ghost use Rattle.game_core.specs.Spacing.{IsShortToken};
 ghost use Rattle.file_parts.specs.Reading.{Gives, kinds};
 ghost use Rattle.file_parts.specs.Parsing.{Parses};
 ghost use Rattle.efg_reader.specs.TreeReading.{positive_at, begins_node, is_node_word};
 ghost use Rattle.efg_reader.specs.TreeParsing.{parse_player};
 
 use crate::kinds::EfgKind;
-use file_parts::{Refusal, label, unfit, whole, word};
+use file_parts::{Refusal, label, unexpected, whole, word};
 use game_core::Spanned;
 
-/// A number of at least 1, and the tokens behind it.
+/// A number of at least 1, and the tokens after it.
 #[tactic(auto, using(crate::proofs::Labels::positives))]
 pub fn positive(tokens: &[Spanned]) -> Option<(u64, &[Spanned])>
     requires short { AllByRecursion IsShortToken (kinds tokens.now) }
@@ -25,18 +25,18 @@ pub fn positive(tokens: &[Spanned]) -> Option<(u64, &[Spanned])>
     }
 }
 
-/// A player, counted from 0, by the number of 1 to the number of players that comes, and the tokens behind it.
+/// A player, counted from 0, by the number of 1 to the number of players that comes, and the tokens after it.
 #[tactic(auto, unfolding(crate::specs::TreeParsing::parse_player))]
 pub fn player(tokens: &[Spanned], players: u32) -> Result<(u32, &[Spanned]), Refusal<EfgKind>>
     ensures { Parses (λ x. (x.0, kinds x.1.now)) result (parse_player players (kinds tokens.now)) }
 {
     let Some((number, rest)) = whole(tokens) else {
-        return Err(unfit(EfgKind::Node, tokens));
+        return Err(unexpected(EfgKind::Node, tokens));
     };
     if number >= 1 && number <= players as u128 {
         Ok((number as u32 - 1, rest))
     } else {
-        Err(unfit(EfgKind::UnknownPlayer, tokens))
+        Err(unexpected(EfgKind::UnknownPlayer, tokens))
     }
 }
 

@@ -3,35 +3,35 @@ ghost use Rattle.std.specs.Prelude.{ℕ, ◌≡◌, ◌⊎◌, ◌<◌, ◌^◌,
 ghost use Rattle.answers.specs.Answers.{Gives, IsSingle};
 ghost use Rattle.game_core.specs.Tree.{IsTree};
 ghost use Rattle.written_trees.specs.Described.{or_empty};
-ghost use Rattle.written_trees.specs.Building.{finished_set, finished_outcome, tree_begun};
-ghost use Rattle.efg_reader.specs.Uses.{begun_set, begun_outcome};
-ghost use Rattle.efg_reader.specs.States.{begun_of};
+ghost use Rattle.written_trees.specs.Building.{finished_set, finished_outcome, tree_so_far};
+ghost use Rattle.efg_reader.specs.Uses.{partial_set, partial_outcome};
+ghost use Rattle.efg_reader.specs.States.{partial_of};
 ghost use Rattle.efg_reader.specs.TreeFaults.{IsFile};
 ghost use Rattle.efg_reader.specs.FaultKinds.{IsFault};
 ghost use Rattle.efg_reader.specs.declared.kinds.EfgKind.{EfgKind};
-ghost use Rattle.efg_reader.specs.Stops.{IsStopOf, IsNodesStopOf, tree_in};
+ghost use Rattle.efg_reader.specs.Stops.{IsEfgStop, IsNodesStop, tree_in};
 ghost use Rattle.efg_reader.specs.declared.fault.EfgStop.TheVariants.{Memory};
 ghost use Rattle.game_core.specs.TokenList.{TokenList, bare};
-ghost use Rattle.game_core.specs.InPlace.{IsShortToken};
+ghost use Rattle.game_core.specs.Spacing.{IsShortToken};
 
 use crate::builder::Builder;
 use crate::fault::{EfgFault, EfgStop};
 use crate::front::{Front, read_front};
 use crate::kinds::EfgKind;
 use crate::nodes::{Stop, read_nodes};
-use crate::outcomes::OutcomeBegun;
-use crate::sets::SetBegun;
-use file_parts::{Refusal, place};
+use crate::outcomes::KeptOutcome;
+use crate::sets::KeptSet;
+use file_parts::{Refusal, offset};
 use game_core::{InfoSet, Name, Outcome, Tokens, TooLarge, Tree, What};
 use std::alloc::{AllocError, Global};
 
 // The stop for a refusal.
 fn stop(refusal: Refusal<EfgKind>, tokens: &Tokens) -> EfgStop
-    ensures { IsStopOf refusal tokens.now result }
+    ensures { IsEfgStop refusal tokens.now result }
 {
     match refusal {
-        Refusal::Unfit(kind, left) => EfgStop::Fault(EfgFault {
-            at: place(tokens, left),
+        Refusal::Unexpected(kind, left) => EfgStop::Fault(EfgFault {
+            at: offset(tokens, left),
             kind,
         }),
         Refusal::Memory => EfgStop::Memory,
@@ -40,10 +40,13 @@ fn stop(refusal: Refusal<EfgKind>, tokens: &Tokens) -> EfgStop
 
 // The stop for nodes that are not read: where the tokens end inside the nodes, that is the fault.
 fn nodes_stop(stopped: Stop, tokens: &Tokens) -> EfgStop
-    ensures { IsNodesStopOf stopped tokens.now result }
+    ensures { IsNodesStop stopped tokens.now result }
 {
     match stopped {
-        Stop::Refused(Refusal::Unfit(_, 0)) => stop(Refusal::Unfit(EfgKind::Unfinished, 0), tokens),
+        Stop::Refused(Refusal::Unexpected(_, 0)) => stop(
+            Refusal::Unexpected(EfgKind::Unfinished, 0),
+            tokens,
+        ),
         Stop::Refused(refusal) => stop(refusal, tokens),
         Stop::Passed(What::Nodes) => EfgStop::TooLarge(TooLarge {
             what: What::Nodes,
@@ -69,8 +72,8 @@ fn or_empty(alloc: Global, name: Option<Name>) -> Name
 }
 
 // The sets with their names.
-fn finished_sets(alloc: Global, sets: Vec<SetBegun>) -> Result<Vec<InfoSet>, AllocError>
-    ensures { IfOk result (λ v. v.items ≡ map finished_set (map begun_set sets.items)) }
+fn finished_sets(alloc: Global, sets: Vec<KeptSet>) -> Result<Vec<InfoSet>, AllocError>
+    ensures { IfOk result (λ v. v.items ≡ map finished_set (map partial_set sets.items)) }
 {
     let mut finished = Vec::new(alloc);
     for set in sets {
@@ -81,8 +84,8 @@ fn finished_sets(alloc: Global, sets: Vec<SetBegun>) -> Result<Vec<InfoSet>, All
 }
 
 // The outcomes with their names.
-fn finished_outcomes(alloc: Global, outcomes: Vec<OutcomeBegun>) -> Result<Vec<Outcome>, AllocError>
-    ensures { IfOk result (λ v. v.items ≡ map finished_outcome (map begun_outcome outcomes.items)) }
+fn finished_outcomes(alloc: Global, outcomes: Vec<KeptOutcome>) -> Result<Vec<Outcome>, AllocError>
+    ensures { IfOk result (λ v. v.items ≡ map finished_outcome (map partial_outcome outcomes.items)) }
 {
     let mut finished = Vec::new(alloc);
     for outcome in outcomes {
@@ -94,8 +97,8 @@ fn finished_outcomes(alloc: Global, outcomes: Vec<OutcomeBegun>) -> Result<Vec<O
 
 // The tree with these parts.
 fn tree(alloc: Global, front: Front, builder: Builder) -> Result<Tree, EfgStop>
-    requires { IsTree (tree_begun front.title front.players.items (begun_of builder)) }
-    ensures tree { IfOk result (λ t. t ≡ tree_begun front.title front.players.items (begun_of builder)) }
+    requires { IsTree (tree_so_far front.title front.players.items (partial_of builder)) }
+    ensures tree { IfOk result (λ t. t ≡ tree_so_far front.title front.players.items (partial_of builder)) }
     ensures memory { IfErr result (λ stop. stop ≡ Memory) }
 {
     let Front { title, players } = front;
@@ -136,8 +139,8 @@ pub fn trees_are_single()
 /// The tokens of a source have one fault at most; they have none where they are a file of a tree, and one where they are
 /// none. (There are fewer than 2^32 of them.)
 pub fn faults_are_single()
-    ensures one { (tokens : TokenList) (kind other : EfgKind) (at place : ℕ) → IsFault tokens kind at
-        → IsFault tokens other place → (kind ≡ other) × (at ≡ place) }
+    ensures one { (tokens : TokenList) (kind other : EfgKind) (at offset : ℕ) → IsFault tokens kind at
+        → IsFault tokens other offset → (kind ≡ other) × (at ≡ offset) }
     ensures of_no_file { (tokens : TokenList) (kind : EfgKind) (at : ℕ) → IsFile (bare tokens)
         → IsFault tokens kind at → ⊥ }
     ensures of_others { (tokens : TokenList) → length tokens.list < 2 ^ 32

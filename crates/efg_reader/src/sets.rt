@@ -1,18 +1,18 @@
 // The information sets, numbered by their first use.
 ghost use Rattle.std.specs.Prelude.{◌≡◌, ◌+◌, ◌<◌, [], ◌∷◌, ◌++◌, not, if◌then◌else◌, length, option_map, IfOk, OnOk};
 ghost use Rattle.std.specs.List.{position_or_len, list_any, AllByRecursion};
-ghost use Rattle.game_core.specs.InPlace.{IsShortToken};
+ghost use Rattle.game_core.specs.Spacing.{IsShortToken};
 ghost use Rattle.file_parts.specs.Reading.{kinds};
 ghost use Rattle.file_parts.specs.Parsing.{Parses};
 ghost use Rattle.written_trees.specs.Described.{same_set};
-ghost use Rattle.efg_reader.specs.Uses.{begun_set, begun_sets, AreSets};
+ghost use Rattle.efg_reader.specs.Uses.{partial_set, partial_sets, AreSets};
 ghost use Rattle.efg_reader.specs.TreeParsing.{parse_first_list, parse_later_list, parse_set};
 ghost use Rattle.std.specs.Option.{option_or};
 
 use crate::actions::{first_list, later_list};
 use crate::kinds::EfgKind;
 use crate::pieces::positive;
-use file_parts::{Refusal, copied, optional_text, unfit};
+use file_parts::{Refusal, copied, optional_text, unexpected};
 use game_core::{Action, Name, Spanned};
 use indexmap::IndexSet;
 use std::alloc::{AllocError, AllocFailed, Global};
@@ -28,7 +28,7 @@ pub struct SetKey {
 
 /// A set as far as it was used.
 #[derive(Drop)]
-pub struct SetBegun {
+pub struct KeptSet {
     /// The owner, and nothing for chance.
     pub owner: Option<u32>,
     /// The number that the file gives it.
@@ -47,7 +47,7 @@ pub struct Sets {
     /// What tells them apart.
     pub keys: IndexSet<SetKey>,
     /// The sets.
-    pub list: Vec<SetBegun>,
+    pub list: Vec<KeptSet>,
 }
 
 /// A name of its own, where one came.
@@ -60,22 +60,22 @@ pub fn optional_name(alloc: Global, name: Option<&Name>) -> Result<Option<Name>,
     }
 }
 
-// A set of a first use by this node, with the actions that come; and the tokens behind them.
+// A set of a first use by this node, with the actions that come; and the tokens after them.
 fn first_use<'a>(
     alloc: Global,
     key: SetKey,
     name: Option<&Name>,
     node: u32,
     tokens: &'a [Spanned],
-) -> Result<(SetBegun, &'a [Spanned]), Refusal<EfgKind>>
+) -> Result<(KeptSet, &'a [Spanned]), Refusal<EfgKind>>
     ensures read { Parses (λ x. (x.0.actions.items, kinds x.1.now)) result
         (parse_first_list key.owner key.label (kinds tokens.now)) }
-    ensures set { IfOk result (λ x. begun_set x.0 ≡ record { owner = key.owner; label = key.label; name = option_map (λ t. t.now) name.entry; actions = x.0.actions.items; members = node ∷ [] }) }
+    ensures set { IfOk result (λ x. partial_set x.0 ≡ record { owner = key.owner; label = key.label; name = option_map (λ t. t.now) name.entry; actions = x.0.actions.items; members = node ∷ [] }) }
 {
     let (actions, rest) = first_list(alloc, tokens, key.owner, key.label)?;
     let name = optional_name(alloc, name)?;
     let members = Vec::from_slice(alloc, &[node])?;
-    let set = SetBegun {
+    let set = KeptSet {
         owner: key.owner,
         label: key.label,
         name,
@@ -85,17 +85,17 @@ fn first_use<'a>(
     Ok((set, rest))
 }
 
-// The tokens behind a later use of a set by this node, which is noted.
+// The tokens after a later use of a set by this node, which is noted.
 fn later_use<'a>(
     alloc: Global,
-    set: &mut SetBegun,
+    set: &mut KeptSet,
     name: Option<&Name>,
     node: u32,
     tokens: &'a [Spanned],
 ) -> Result<&'a [Spanned], Refusal<EfgKind>>
     ensures read { Parses (λ rest. (tt, kinds rest.now)) result
         (parse_later_list set.old.owner set.old.actions.items (kinds tokens.now)) }
-    ensures set { OnOk result (begun_set set.new ≡ record { owner = set.old.owner; label = set.old.label; name = option_or set.old.name (option_map (λ t. t.now) name.entry); actions = set.old.actions.items; members = set.old.members.items ++ node ∷ [] }) }
+    ensures set { OnOk result (partial_set set.new ≡ record { owner = set.old.owner; label = set.old.label; name = option_or set.old.name (option_map (λ t. t.now) name.entry); actions = set.old.actions.items; members = set.old.members.items ++ node ∷ [] }) }
 {
     let rest = later_list(tokens, set.owner, set.actions.as_slice())?;
     if set.name.is_none() {
@@ -119,7 +119,7 @@ fn placed(known: &mut IndexSet<SetKey>, key: SetKey) -> Result<(usize, bool), Al
     known.insert_full(key)
 }
 
-/// The sets with the one that this node of this owner uses, its number, and the tokens behind it.
+/// The sets with the one that this node of this owner uses, its number, and the tokens after it.
 pub fn read_set<'a>(
     alloc: Global,
     mut sets: Sets,
@@ -131,21 +131,21 @@ pub fn read_set<'a>(
     requires few { length sets.list.items < 4294967295 }
     requires short { AllByRecursion IsShortToken (kinds tokens.now) }
     ensures sets { IfOk result (λ x. AreSets x.0) }
-    ensures read { Parses (λ x. ((begun_sets x.0, x.1), kinds x.2.now)) result
-        (parse_set node (begun_sets sets) owner (kinds tokens.now)) }
+    ensures read { Parses (λ x. ((partial_sets x.0, x.1), kinds x.2.now)) result
+        (parse_set node (partial_sets sets) owner (kinds tokens.now)) }
 {
-    let Some((label, behind)) = positive(tokens) else {
-        return Err(unfit(EfgKind::Node, tokens));
+    let Some((label, following)) = positive(tokens) else {
+        return Err(unexpected(EfgKind::Node, tokens));
     };
-    let (name, behind) = optional_text(behind);
+    let (name, following) = optional_text(following);
     let key = SetKey { owner, label };
     let (place, is_new) = placed(&mut sets.keys, key)?;
     if is_new {
-        let (set, rest) = first_use(alloc, key, name, node, behind)?;
+        let (set, rest) = first_use(alloc, key, name, node, following)?;
         sets.list.push(set)?;
         Ok((sets, place as u32, rest))
     } else {
-        let rest = later_use(alloc, &mut sets.list[place], name, node, behind)?;
+        let rest = later_use(alloc, &mut sets.list[place], name, node, following)?;
         Ok((sets, place as u32, rest))
     }
 }

@@ -25,7 +25,7 @@ use Rattle.extreme_equilibria.specs.TwoPlayers.{pays_against}
 use Rattle.extreme_equilibria.specs.Bimatrix.{shifted, shift_of, IsBelowAll}
 use Rattle.extreme_equilibria.specs.Systems.{first_system, second_system}
 use Rattle.extreme_equilibria.specs.PairLines.{scaled_point, HaveAllLabels, pair_line, IsPairLine, ArePairLines}
-use Rattle.dominance.proofs.MappedLists.{from-map, into-map}
+use Rattle.extreme_equilibria.proofs.MappedLists.{from-map, into-map}
 use Rattle.extreme_equilibria.proofs.PairLines.{pair_lines_are_extreme_equilibria, listed_vertices_scale_differently}
 use Rattle.lex_tableau.specs.Starts.{Parts, system_of}
 use Rattle.reply_polytope.specs.Polytopes.{ArePolytopes}

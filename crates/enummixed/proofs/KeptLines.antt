@@ -8,10 +8,10 @@ use Rattle.rational.specs.Rational.{ℚ}
 use Rattle.game_theory.specs.Profiles.{Game}
 use Rattle.game_theory.specs.Lines.{entries, lines_text}
 use Rattle.extreme_equilibria.specs.ExtremeEquilibria.{IsExtremeEquilibriumLine, AreExtremeEquilibria}
-use Rattle.dominance.specs.KeptTable.{AreKeptLists, kept_table, HaveSameCells}
-use Rattle.dominance.proofs.SameCells.{same_cells-same_equilibria}
-use Rattle.dominance.proofs.SpreadLines.{AreSpread, spread-lines}
-use Rattle.dominance.proofs.SpreadPoints.{points-spread}
+use Rattle.extreme_equilibria.specs.KeptTable.{AreKeptLists, kept_table, HaveSameCells}
+use Rattle.extreme_equilibria.proofs.SameCells.{same_cells-same_equilibria}
+use Rattle.extreme_equilibria.proofs.SpreadLines.{AreSpread, spread-lines}
+use Rattle.extreme_equilibria.proofs.SpreadPoints.{points-spread}
 use Rattle.game_core.specs.Table.{GameTable, strategy_counts}
 use Rattle.lists.proofs.Elements.{two-elements}
 use Rattle.game_core.proofs.TableCounts.{strategy_count-names}

@@ -1,7 +1,7 @@
 -- Points over the kept strategies of a player, over all strategies
 use Rattle.std.specs.Prelude.{ℕ, ◌<◌, ◌≡◌, ◌≢◌, List, [], length, get_or}
 use Rattle.rational.specs.Rational.{ℚ}
-use Rattle.dominance.specs.KeptTable.{IsSpreadPoint}
+use Rattle.extreme_equilibria.specs.KeptTable.{IsSpreadPoint}
 
 -- a point with one entry for each of the kept strategies is spread over n, and another is left out
 pub record IsSpreadOrEmpty (n : ℕ) (places : List ℕ) (point wide : List ℚ) : Type 0 where

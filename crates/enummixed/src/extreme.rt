@@ -20,7 +20,7 @@ use basis_enum::{EnumStop, Vertex, Vertices, enumerate};
 use frac128::{Frac, Memory};
 use game_core::Table;
 use label_pairing::pairs;
-use lex_tableau::{Steps, System};
+use lex_tableau::{PivotCount, System};
 use outside::Gate;
 use reply_polytope::polytopes;
 use std::alloc::Global;
@@ -60,8 +60,8 @@ fn enumerated<R: Threads + Sync, G: Gate, L: Ledger>(
     ensures vertices { Gives enum_stops.Memory (vertices_in system.now) (map_ok result list_of) }
     ensures few { IfOk result (λ v. v.bases ≤ 20000) }
 {
-    let mut steps = Steps::<L>::new(blank);
-    enumerate(rt, alloc, system, workers, gate, &mut steps)
+    let mut pivots = PivotCount::<L>::new(blank);
+    enumerate(rt, alloc, system, workers, gate, &mut pivots)
 }
 
 // The vertices of a polytope, by its system.

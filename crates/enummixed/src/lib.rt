@@ -1,8 +1,12 @@
 //! The tool `enummixed`: the extreme equilibria of a game of two players, a line each.
 //!
-//! `extreme` pairs the vertices of the two polytopes of best replies, with the points that `points`
-//! scales; `order` sorts the pairs by their lines, and `writing` writes the lines within the limit.
-//! `spread` spreads points of the kept strategies over all. `listing` is the whole.
+//! Callers may rely on: `list_extreme_equilibria` gives the text, or the first reason why there is
+//! none; `list_equilibria_of_kept` the same by the kept strategies, with 0 at the others.
+//! Definitions: `specs::ExtremeText` says what the text is and what a game answers, `Used` which
+//! points are scaled, `Told` how the reasons of the parts are named.
+//! Private words: `specs::Order` and `specs::Spread`, how lines are sorted and points spread.
+//! Lemmas for callers: `proofs::VertexPairs`, what the stages of a game's pairs give together.
+//! A change here touches: what `enummixed` and `make` answer, and `enummixed_texts_are_extreme`.
 #![tactic(auto)]
 
 ghost use Rattle.enummixed.specs.Laws.{ExtremePairsAreSingle, ExtremeTextsAreSingle};

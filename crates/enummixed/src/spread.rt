@@ -1,7 +1,7 @@
 // Points over the kept strategies of a player, over all strategies.
 ghost use Rattle.std.specs.Prelude.{◌≡◌, ◌<◌, All, IfOk, length, map};
 ghost use Rattle.std.specs.List.Sorted.{IsStrictlyIncreasing};
-ghost use Rattle.dominance.specs.KeptTable.{IsSpreadPoint};
+ghost use Rattle.extreme_equilibria.specs.KeptTable.{IsSpreadPoint};
 ghost use Rattle.enummixed.specs.Spread.{AreSpreadPoints};
 
 use frac128::{Frac, Memory};

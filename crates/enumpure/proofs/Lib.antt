@@ -5,6 +5,6 @@ pub mod Listed
 pub mod ProfileEntries
 pub mod ProfileParts
 pub mod Strides
-pub mod Striking
+pub mod KeptReplies
 pub mod Texts
 pub mod Totals

@@ -17,10 +17,10 @@ use Rattle.game_theory.proofs.SureStrategies.{sure-at, sure-other}
 use Rattle.game_core.specs.Table.{GameTable, IsTable, strategy_counts, most_payoffs}
 use Rattle.ne_printer.specs.Entries.{entry_text, entries_text}
 use Rattle.ne_printer.proofs.LineTexts.{line_text-joined}
-use Rattle.enumpure.specs.Ranks.{rank_flag, rank_line, lines_below}
-use Rattle.enumpure.specs.Replies.{flag}
+use Rattle.enumpure.specs.Ranks.{ranked_plays_best, rank_line, lines_below}
+use Rattle.enumpure.specs.Replies.{plays_best}
 use Rattle.enumpure.proofs.Strides.{HaveStrategies, HaveStrategies-later, HaveStrategies-table, profile_count-positive}
-use Rattle.enumpure.proofs.Totals.{total, one_if, total-ranked, total-flags}
+use Rattle.enumpure.proofs.Totals.{total, one_if, total-ranked, total-best_replies}
 
 -- the text of 1
 number_text-one : number_text one_ℚ ≡ 49 ∷ []
@@ -93,16 +93,16 @@ pub few_bytes : (t : GameTable) (n : ℕ) → IsTable t → n ≤ 3 + 2 * most_p
 few_bytes t n h l = omega (arith, mul-le-mul (profile_count-table t h) l)
 
 -- lines of equal lengths
-length-lines_below : (ns : List ℕ) (flags : List Bool) (n r : ℕ) → ((q : ℕ) → length (line_text (rank_line ns q)) ≡ n) → length (lines_text (lines_below ns flags r)) ≡ total r (λ q. one_if (rank_flag ns flags q)) * n
+length-lines_below : (ns : List ℕ) (best_replies : List Bool) (n r : ℕ) → ((q : ℕ) → length (line_text (rank_line ns q)) ≡ n) → length (lines_text (lines_below ns best_replies r)) ≡ total r (λ q. one_if (ranked_plays_best ns best_replies q)) * n
 unfolding lines_below
-length-lines_below ns flags n zero h = omega arith
-length-lines_below ns flags n (suc r) h = go (length-lines_below ns flags n r h) (rank_flag ns flags r) refl
+length-lines_below ns best_replies n zero h = omega arith
+length-lines_below ns best_replies n (suc r) h = go (length-lines_below ns best_replies n r h) (ranked_plays_best ns best_replies r) refl
   where
-    go : length (lines_text (lines_below ns flags r)) ≡ total r (λ q. one_if (rank_flag ns flags q)) * n → (b : Bool) → rank_flag ns flags r ≡ b → length (lines_text (lines_below ns flags r ++ cond b (rank_line ns r ∷ []) [])) ≡ (total r (λ q. one_if (rank_flag ns flags q)) + one_if b) * n
-    go e true f = ap length (flat_map-append line_text (lines_below ns flags r) (rank_line ns r ∷ [])) ∙ length-append (lines_text (lines_below ns flags r)) (line_text (rank_line ns r) ++ []) ∙ ap₂ (λ x y. x + y) e (ap length (append-nil (line_text (rank_line ns r))) ∙ h r) ∙ omega arith
-    go e false f = ap (λ v. length (lines_text v)) (append-nil (lines_below ns flags r)) ∙ e ∙ omega arith
+    go : length (lines_text (lines_below ns best_replies r)) ≡ total r (λ q. one_if (ranked_plays_best ns best_replies q)) * n → (b : Bool) → ranked_plays_best ns best_replies r ≡ b → length (lines_text (lines_below ns best_replies r ++ cond b (rank_line ns r ∷ []) [])) ≡ (total r (λ q. one_if (ranked_plays_best ns best_replies q)) + one_if b) * n
+    go e true f = ap length (flat_map-append line_text (lines_below ns best_replies r) (rank_line ns r ∷ [])) ∙ length-append (lines_text (lines_below ns best_replies r)) (line_text (rank_line ns r) ++ []) ∙ ap₂ (λ x y. x + y) e (ap length (append-nil (line_text (rank_line ns r))) ∙ h r) ∙ omega arith
+    go e false f = ap (λ v. length (lines_text v)) (append-nil (lines_below ns best_replies r)) ∙ e ∙ omega arith
 
--- the length of the text is that of a line for each flag
-pub length-lines_text : (ns : List ℕ) (flags : List Bool) (n : ℕ) → length flags ≡ profile_count ns → ((profile : List ℕ) → length (line_text (entries ns (pure profile))) ≡ n) → length (lines_text (lines_below ns flags (length flags))) ≡ count_by (λ b. b) flags * n
-length-lines_text ns flags n e h =
-    length-lines_below ns flags n (length flags) (λ q. h _) ∙ ap (λ v. v * n) (ap (λ v. total v (λ q. one_if (rank_flag ns flags q))) e ∙ total-ranked ns (λ k. one_if (flag flags k)) ∙ ap (λ v. total v (λ k. one_if (flag flags k))) (sym e) ∙ total-flags flags)
+-- the length of the text is that of a line for each entry
+pub length-lines_text : (ns : List ℕ) (best_replies : List Bool) (n : ℕ) → length best_replies ≡ profile_count ns → ((profile : List ℕ) → length (line_text (entries ns (pure profile))) ≡ n) → length (lines_text (lines_below ns best_replies (length best_replies))) ≡ count_by (λ b. b) best_replies * n
+length-lines_text ns best_replies n e h =
+    length-lines_below ns best_replies n (length best_replies) (λ q. h _) ∙ ap (λ v. v * n) (ap (λ v. total v (λ q. one_if (ranked_plays_best ns best_replies q))) e ∙ total-ranked ns (λ k. one_if (plays_best best_replies k)) ∙ ap (λ v. total v (λ k. one_if (plays_best best_replies k))) (sym e) ∙ total-best_replies best_replies)

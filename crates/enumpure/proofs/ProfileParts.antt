@@ -17,7 +17,7 @@ pub record IsSetBelow (ns target profile : List ℕ) (i later rest : ℕ) : Type
   pub rest_below : rest < later
   pub ahead : ranked (drop i ns) rest ≡ drop i target
 
--- what the next player's strategy and the players behind have
+-- what the next player's strategy and the players after have
 pub record IsNextPart (ns target : List ℕ) (i later rest : ℕ) : Type 0 where
   pub some_strategy : 0 < get_or ns i 0
   pub next_later : later / get_or ns i 0 ≡ profile_count (drop (i + 1) ns)

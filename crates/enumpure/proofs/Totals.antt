@@ -1,4 +1,4 @@
--- Sums of natural numbers, and the flags that are counted in another order.
+-- Sums of natural numbers, and the best replies that are counted in another order.
 use Rattle.std.proofs.Common.{ℕ, zero, suc, ◌+◌, ◌*◌, ◌/◌, ◌%◌, ◌<◌, ◌≤◌, ◌≡◌, Bool, true, false, cond, List, [], ◌∷◌, length, take, refl, sym, ap, ap₂, ◌∙◌, arith, add-one, add-zero, add-suc, add_assoc, zero-mul}
 use Rattle.std.specs.List.{count_by}
 use Rattle.std.proofs.lemmas.List.{take_all}
@@ -6,7 +6,7 @@ use Rattle.std.proofs.lemmas.List.Sums.{count_by_more_yes, count_by_more_no}
 use Rattle.std.proofs.lemmas.Nat.{div-mul-add, mod-mul-add}
 use Rattle.game_theory.specs.Profiles.{profile_count, number_of}
 use Rattle.game_theory.specs.Ranks.{ranked}
-use Rattle.enumpure.specs.Replies.{flag}
+use Rattle.enumpure.specs.Replies.{plays_best}
 
 -- f 0 + .. + f (n - 1)
 abbrev pub total : ℕ → (ℕ → ℕ) → ℕ
@@ -60,19 +60,19 @@ total-ranked (n ∷ ns) f =
     part : (a : ℕ) → total p (λ q. f (a + n * number_of ns (ranked ns q))) ≡ total p (λ q. f (a + n * q)) → total p (λ q. f ((a * p + q) / p + n * number_of ns (ranked ns ((a * p + q) % p)))) ≡ total p (λ q. f (a + n * q))
     part a e = total-same p _ _ (λ q l. place a q l) ∙ e
 
--- a flag counts 1
+-- a entry counts 1
 abbrev pub one_if : Bool → ℕ
 one_if b = cond b 1 0
 
--- the flags that are counted so far
-total-flags_so_far : (flags : List Bool) (i : ℕ) → i ≤ length flags → total i (λ k. one_if (flag flags k)) ≡ count_by (λ b. b) (take i flags)
-total-flags_so_far flags zero h = refl
-total-flags_so_far flags (suc i) h = go (total-flags_so_far flags i (omega arith)) (flag flags i) refl
+-- the best replies that are counted so far
+total-best_replies_so_far : (best_replies : List Bool) (i : ℕ) → i ≤ length best_replies → total i (λ k. one_if (plays_best best_replies k)) ≡ count_by (λ b. b) (take i best_replies)
+total-best_replies_so_far best_replies zero h = refl
+total-best_replies_so_far best_replies (suc i) h = go (total-best_replies_so_far best_replies i (omega arith)) (plays_best best_replies i) refl
   where
-    go : total i (λ k. one_if (flag flags k)) ≡ count_by (λ b. b) (take i flags) → (b : Bool) → flag flags i ≡ b → total (suc i) (λ k. one_if (flag flags k)) ≡ count_by (λ b. b) (take (suc i) flags)
-    go e true f = ap₂ (λ x y. x + one_if y) e f ∙ sym (count_by_more_yes (λ b. b) flags i false (omega arith) f) ∙ ap (λ v. count_by (λ b. b) (take v flags)) (add-one i)
-    go e false f = ap₂ (λ x y. x + one_if y) e f ∙ add-zero (count_by (λ b. b) (take i flags)) ∙ sym (count_by_more_no (λ b. b) flags i false (omega arith) f) ∙ ap (λ v. count_by (λ b. b) (take v flags)) (add-one i)
+    go : total i (λ k. one_if (plays_best best_replies k)) ≡ count_by (λ b. b) (take i best_replies) → (b : Bool) → plays_best best_replies i ≡ b → total (suc i) (λ k. one_if (plays_best best_replies k)) ≡ count_by (λ b. b) (take (suc i) best_replies)
+    go e true f = ap₂ (λ x y. x + one_if y) e f ∙ sym (count_by_more_yes (λ b. b) best_replies i false (omega arith) f) ∙ ap (λ v. count_by (λ b. b) (take v best_replies)) (add-one i)
+    go e false f = ap₂ (λ x y. x + one_if y) e f ∙ add-zero (count_by (λ b. b) (take i best_replies)) ∙ sym (count_by_more_no (λ b. b) best_replies i false (omega arith) f) ∙ ap (λ v. count_by (λ b. b) (take v best_replies)) (add-one i)
 
--- all flags are counted
-pub total-flags : (flags : List Bool) → total (length flags) (λ k. one_if (flag flags k)) ≡ count_by (λ b. b) flags
-total-flags flags = total-flags_so_far flags (length flags) (omega arith) ∙ ap (count_by (λ b. b)) (take_all (length flags) flags (omega arith))
+-- all best replies are counted
+pub total-best_replies : (best_replies : List Bool) → total (length best_replies) (λ k. one_if (plays_best best_replies k)) ≡ count_by (λ b. b) best_replies
+total-best_replies best_replies = total-best_replies_so_far best_replies (length best_replies) (omega arith) ∙ ap (count_by (λ b. b)) (take_all (length best_replies) best_replies (omega arith))

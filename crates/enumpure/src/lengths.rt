@@ -27,12 +27,12 @@ fn line_length(table: &Table) -> usize
     }
 }
 
-/// How many bytes the lines of the flagged profiles have.
-pub fn text_length(table: &Table, stable: &[bool]) -> usize
-    requires flags { length stable.now ≡ profile_count (strategy_counts table.now) }
+/// How many bytes the lines of the profiles of best replies have.
+pub fn text_length(table: &Table, all_best: &[bool]) -> usize
+    requires best_replies { length all_best.now ≡ profile_count (strategy_counts table.now) }
     ensures { result
-        ≡ length (lines_text (lines_below (strategy_counts table.now) stable.now
-        (length stable.now))) }
+        ≡ length (lines_text (lines_below (strategy_counts table.now) all_best.now
+        (length all_best.now))) }
 {
-    stable.iter().filter(|stable| **stable).count() * line_length(table)
+    all_best.iter().filter(|all_best| **all_best).count() * line_length(table)
 }

@@ -1,7 +1,13 @@
 //! The tool `enumpure`: the pure equilibria of a game, a line each.
 //!
-//! `replies` finds the profiles at which each player plays a best reply, `lengths` counts the bytes of
-//! their lines, and `listing` writes the lines in order, where they are not too long.
+//! Callers may rely on: `list_pure_equilibria` gives the text of all pure equilibria, refused
+//! exactly where it is too long; `mutual_best_replies` finds where all play best replies.
+//! Definitions: `specs::Text` says what the text is, `Stops` what a table answers within the limit
+//! on texts, `Replies` best replies by the numbers of profiles.
+//! Private words: `specs::Ranks`, and `lengths`, which counts bytes before lines are written.
+//! Lemmas for callers: `proofs::Texts` on texts within the limit; `Strides`, `Listed`.
+//! A change here touches: `enumpure_trees`, `convert_tables`, `ne_checker`, `line_checks`,
+//! `enummixed` and what `enumpure` prints.
 #![tactic(auto)]
 
 mod lengths;
@@ -9,4 +15,4 @@ mod listing;
 mod replies;
 
 pub use listing::{ListStop, list_pure_equilibria, pure_texts_are_single};
-pub use replies::{stable_profiles, strategy_count, strategy_counts};
+pub use replies::{mutual_best_replies, strategy_count, strategy_counts};

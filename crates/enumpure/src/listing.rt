@@ -11,7 +11,7 @@ ghost use Rattle.enumpure.specs.Stops.{pure_text};
 ghost use Rattle.enumpure.specs.declared.listing.ListStop.TheVariants as stops;
 
 use crate::lengths::text_length;
-use crate::replies::{stable_profiles, strategy_counts};
+use crate::replies::{mutual_best_replies, strategy_counts};
 use frac128::{Frac, Memory};
 use game_core::{MOST_TEXT, Table, TooLarge, too_long_text};
 use ne_printer::push_line;
@@ -82,26 +82,26 @@ fn set_entries(entries: &mut Vec<Frac>, counts: &[usize], profile: &[u32]) -> Re
     Ok(())
 }
 
-// Adds the lines of the flagged profiles in the order of their ranks. Writes over `profile` and `entries`.
+// Adds the lines of the profiles of best replies in the order of their ranks. Writes over `profile` and `entries`.
 fn push_lines(
     alloc: Global,
     text: &mut Vec<u8>,
     table: &Table,
     counts: &[usize],
-    stable: &[bool],
+    all_best: &[bool],
     profile: &mut [u32],
     entries: &mut Vec<Frac>,
 ) -> Result<(), Memory>
     requires counts { counts.now ≡ strategy_counts table.now }
     requires players { length profile.old ≡ length counts.now }
-    requires flags { length stable.now ≡ profile_count counts.now }
-    requires few { length stable.now ≤ most_payoffs }
+    requires best_replies { length all_best.now ≡ profile_count counts.now }
+    requires few { length all_best.now ≤ most_payoffs }
     ensures { OnOk result (text.new.items
-        ≡ text.old.items ++ lines_text (lines_below counts.now stable.now (length stable.now))) }
+        ≡ text.old.items ++ lines_text (lines_below counts.now all_best.now (length all_best.now))) }
 {
-    for rank in 0..stable.len() {
-        set_ranked(profile, counts, stable.len(), rank);
-        if stable[table.profile_number(profile)] {
+    for rank in 0..all_best.len() {
+        set_ranked(profile, counts, all_best.len(), rank);
+        if all_best[table.profile_number(profile)] {
             set_entries(entries, counts, profile)?;
             push_line(alloc, text, entries)?;
         }
@@ -109,19 +109,19 @@ fn push_lines(
     Ok(())
 }
 
-// The lines of the flagged profiles, in a text that has room for so many bytes from the start.
+// The lines of the profiles of best replies, in a text that has room for so many bytes from the start.
 fn write_lines(
     alloc: Global,
     table: &Table,
     counts: &[usize],
-    stable: &[bool],
+    all_best: &[bool],
     bytes: usize,
 ) -> Result<Vec<u8>, Memory>
     requires counts { counts.now ≡ strategy_counts table.now }
-    requires few { length stable.now ≤ most_payoffs }
-    requires flags { length stable.now ≡ profile_count counts.now }
+    requires few { length all_best.now ≤ most_payoffs }
+    requires best_replies { length all_best.now ≡ profile_count counts.now }
     ensures { IfOk result (λ text. text.items
-        ≡ lines_text (lines_below counts.now stable.now (length stable.now))) }
+        ≡ lines_text (lines_below counts.now all_best.now (length all_best.now))) }
 {
     let mut profile = vec![in alloc; 0; counts.len()]?;
     let mut entries = Vec::new(alloc);
@@ -131,7 +131,7 @@ fn write_lines(
         &mut text,
         table,
         counts,
-        stable,
+        all_best,
         &mut profile,
         &mut entries,
     )?;
@@ -150,12 +150,12 @@ pub fn list_pure_equilibria(alloc: Global, table: &Table) -> Result<Vec<u8>, Lis
         (map_ok result (λ text. text.items)) }
 {
     let counts = strategy_counts(alloc, table)?;
-    let stable = stable_profiles(alloc, table)?;
-    let bytes = text_length(table, &stable);
+    let all_best = mutual_best_replies(alloc, table)?;
+    let bytes = text_length(table, &all_best);
     if bytes > MOST_TEXT {
         return Err(ListStop::TooLarge(too_long_text()));
     }
-    Ok(write_lines(alloc, table, &counts, &stable, bytes)?)
+    Ok(write_lines(alloc, table, &counts, &all_best, bytes)?)
 }
 
 /// A game has one such text, or one that is too long.

@@ -3,7 +3,7 @@ ghost use Rattle.std.specs.Prelude.{◌≡◌, ℕ, ◌+◌, ◌*◌, ◌<◌, �
 ghost use Rattle.rational.specs.Rational.{◌<ℚ◌};
 ghost use Rattle.game_theory.specs.Profiles.{profile_count, stride as stride_of};
 ghost use Rattle.game_core.specs.Table.{game_of, strategy_counts, IsTable};
-ghost use Rattle.enumpure.specs.Replies.{IsBest, AreStruck, KeepsBestReplies, AreStable, flag};
+ghost use Rattle.enumpure.specs.Replies.{IsBest, KeepsBestInLine, KeepsBestReplies, AreMutualBestReplies, plays_best};
 
 use frac128::{Frac, Memory};
 use game_core::{Table, profile_count};
@@ -65,9 +65,9 @@ fn best_payoff(table: &Table, player: usize, stride: usize, first: usize) -> Fra
     best
 }
 
-// Takes the flags from those of the same profiles whose payoff is less than the best.
-fn strike(
-    stable: &mut [bool],
+// Keeps of these profiles those whose payoff reaches the best.
+fn keep_best(
+    all_best: &mut [bool],
     table: &Table,
     player: usize,
     stride: usize,
@@ -75,57 +75,58 @@ fn strike(
     best: Frac,
 )
     requires player { player < length table.now.players }
-    requires flags { length stable.old ≡ profile_count (strategy_counts table.now) }
+    requires best_replies { length all_best.old ≡ profile_count (strategy_counts table.now) }
     requires stride { 0 < stride }
     requires profiles { (s : ℕ) → s < slice_index (strategy_counts table.now) player
         → first + stride * s < profile_count (strategy_counts table.now) }
-    ensures struck { AreStruck ((game_of table.now).pays player) first stride
-        (slice_index (strategy_counts table.now) player) best stable.old stable.new }
+    ensures in_line { KeepsBestInLine ((game_of table.now).pays player) first stride
+        (slice_index (strategy_counts table.now) player) best all_best.old all_best.new }
 {
     for strategy in 0..strategy_count(table, player) {
         let profile = first + stride * strategy;
         if is_less(payoff(table, player, profile), best) {
-            stable[profile] = false;
+            all_best[profile] = false;
         }
     }
 }
 
-// Takes the flags from the profiles at which the player has a strategy with a greater payoff.
-fn strike_player(stable: &mut [bool], table: &Table, player: usize, stride: usize)
+// Leaves out the profiles at which the player has a strategy with a greater payoff.
+fn keep_best_of_player(all_best: &mut [bool], table: &Table, player: usize, stride: usize)
     requires player { player < length table.now.players }
-    requires flags { length stable.old ≡ profile_count (strategy_counts table.now) }
+    requires best_replies { length all_best.old ≡ profile_count (strategy_counts table.now) }
     requires stride { stride ≡ stride_of (strategy_counts table.now) player }
     requires valid { IsTable table.now }
-    ensures { KeepsBestReplies (game_of table.now) player stable.old stable.new }
+    ensures { KeepsBestReplies (game_of table.now) player all_best.old all_best.new }
 {
     let strategies = strategy_count(table, player);
-    for first in 0..stable.len() {
+    for first in 0..all_best.len() {
         if first / stride % strategies == 0 {
             let best = best_payoff(table, player, stride, first);
-            strike(stable, table, player, stride, first, best);
+            keep_best(all_best, table, player, stride, first, best);
         }
     }
 }
 
-// Takes the flags from the profiles at which some player has a strategy with a greater payoff.
-fn strike_all(stable: &mut [bool], table: &Table)
-    requires flags { length stable.old ≡ profile_count (strategy_counts table.now) }
-    requires all { EachIndex stable.old (λ k. IsTrue (flag stable.old k)) }
-    ensures { AreStable (game_of table.now) stable.new }
+// Leaves out the profiles at which some player has a strategy with a greater payoff.
+fn keep_mutual(all_best: &mut [bool], table: &Table)
+    requires best_replies { length all_best.old ≡ profile_count (strategy_counts table.now) }
+    requires all { EachIndex all_best.old (λ k. IsTrue (plays_best all_best.old k)) }
+    ensures { AreMutualBestReplies (game_of table.now) all_best.new }
 {
     let mut stride = 1;
     for player in 0..table.players().len() {
-        strike_player(stable, table, player, stride);
+        keep_best_of_player(all_best, table, player, stride);
         stride *= strategy_count(table, player);
     }
 }
 
 /// For each profile, by its number, whether each player plays a best reply.
-pub fn stable_profiles(alloc: Global, table: &Table) -> Result<Vec<bool>, Memory>
-    ensures { IfOk result (λ flags. AreStable (game_of table.now) flags.items) }
+pub fn mutual_best_replies(alloc: Global, table: &Table) -> Result<Vec<bool>, Memory>
+    ensures { IfOk result
+        (λ replies. AreMutualBestReplies (game_of table.now) replies.items) }
 {
     let counts = strategy_counts(alloc, table)?;
-    let mut stable = vec![in alloc; true; profile_count(&counts)]?;
-    strike_all(&mut stable, table);
-    Ok(stable)
+    let mut all_best = vec![in alloc; true; profile_count(&counts)]?;
+    keep_mutual(&mut all_best, table);
+    Ok(all_best)
 }

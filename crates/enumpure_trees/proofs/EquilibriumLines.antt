@@ -14,7 +14,7 @@ use Rattle.reduced_strategies.specs.Choices.{choice_at}
 use Rattle.reduced_strategies.specs.StrategicForm.{AreStrategies, completed}
 use Rattle.reduced_strategies.proofs.Sets.{choice_at-map}
 use Rattle.reduced_strategies.proofs.StrategyProfiles.{first_actions-complete, completed-tell}
-use Rattle.enumpure_trees.specs.Laws.{LinesTellProfiles, OneTextOfEquilibria}
+use Rattle.enumpure_trees.specs.Laws.{LinesDetermineProfiles, OneTextOfEquilibria}
 use Rattle.enumpure_trees.specs.TreeEquilibria.{IsTreeEquilibriumLine, AreTreeEquilibria}
 use Rattle.enumpure_trees.proofs.PrintedSets.{printed_sets, printed_sets-has, tree_entries-profile, IsProfile-printed}
 
@@ -39,7 +39,7 @@ pub completed-actions : (t : Tree) (strategies : List (List (List ℕ))) (profil
 completed-actions t strategies profile w a f s i l o = (first_actions-complete t strategies profile w a f s i l o).0
 
 -- two profiles never have the same line
-pub lines-tell : LinesTellProfiles
+pub lines-tell : LinesDetermineProfiles
 lines-tell t strategies one other w a f g e =
     completed-tell t strategies one other w a f g (λ s i l o. entries-tell t (completed t strategies one) (completed t strategies other) s i w (completed-actions t strategies one w a f) (completed-actions t strategies other w a g) e l o)
 

@@ -1,10 +1,10 @@
-mod FlagCounts
+mod ListedCounts
 mod LineLengths
 mod RankSums
 mod RankedProfiles
 mod Sorted
 mod SortedOrders
-mod Stability
+mod MutualReplies
 mod Texts
 mod Told
 pub mod EquilibriumLines

@@ -23,12 +23,12 @@ use Rattle.enumpure_trees.proofs.OrderedProfiles.{order-of, IsProfile-ordered, g
 use Rattle.enumpure_trees.proofs.PrintedSets.{sets_from, printed_sets, tree_entries-profile, IsProfile-printed}
 
 -- ---- the order of lists of actions
--- lists behind equal ones
-ComesBefore-behind : (zs xs ys : List ℕ) → ComesBefore xs ys → ComesBefore (zs ++ xs) (zs ++ ys)
-ComesBefore-behind [] xs ys c = c
-ComesBefore-behind (z ∷ zs) xs ys c = inr (refl, ComesBefore-behind zs xs ys c)
+-- lists after equal ones
+ComesBefore-following : (zs xs ys : List ℕ) → ComesBefore xs ys → ComesBefore (zs ++ xs) (zs ++ ys)
+ComesBefore-following [] xs ys c = c
+ComesBefore-following (z ∷ zs) xs ys c = inr (refl, ComesBefore-following zs xs ys c)
 
--- lists with more behind them
+-- lists with more after them
 ComesBefore-longer : (xs ys us vs : List ℕ) → ComesBefore xs ys → ComesBefore (xs ++ us) (ys ++ vs)
 ComesBefore-longer [] ys us vs c = absurd c
 ComesBefore-longer (x ∷ xs) [] us vs c = absurd c
@@ -60,15 +60,15 @@ first_difference (x ∷ one) (y ∷ other) (inr p) = FirstDifference-cons x y on
 -- ---- the order of lines
 -- actions that are the same at the players before k, and come before at player k
 module _ (t : Tree) (f g : ℕ → ℕ) (k : ℕ) (same : (j : ℕ) → j < k → map f (own_sets t j) ≡ map g (own_sets t j)) (before : ComesBefore (map f (own_sets t k)) (map g (own_sets t k))) where
-  -- come before at player k's sets and any behind them
+  -- come before at player k's sets and any after them
   first-before : (i : ℕ) (xs ys : List ℕ) → i ≡ k → ComesBefore (map f (own_sets t i) ++ xs) (map g (own_sets t i) ++ ys)
   first-before i xs ys e =
       ComesBefore-longer (map f (own_sets t i)) (map g (own_sets t i)) xs ys (subst (λ x. ComesBefore (map f (own_sets t x)) (map g (own_sets t x))) (sym e) before)
 
-  -- and behind the sets of an earlier player
+  -- and after the sets of an earlier player
   later-before : (i : ℕ) (xs ys : List ℕ) → i < k → ComesBefore xs ys → ComesBefore (map f (own_sets t i) ++ xs) (map g (own_sets t i) ++ ys)
   later-before i xs ys l c =
-      subst (λ x. ComesBefore (map f (own_sets t i) ++ xs) (x ++ ys)) (same i l) (ComesBefore-behind (map f (own_sets t i)) xs ys c)
+      subst (λ x. ComesBefore (map f (own_sets t i) ++ xs) (x ++ ys)) (same i l) (ComesBefore-following (map f (own_sets t i)) xs ys c)
 
   -- and at the sets of players in a row
   sets_from-before : (i n : ℕ) → i ≤ k → k < i + n → ComesBefore (map f (sets_from t i n)) (map g (sets_from t i n))

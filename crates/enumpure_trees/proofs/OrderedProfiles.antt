@@ -9,7 +9,7 @@ use Rattle.enumpure_trees.specs.Orders.{IsOrder, AreOrders, ordered}
 pub order-of : (strategies : List (List (List ℕ))) (orders : List (List ℕ)) (i : ℕ) → AreOrders strategies orders → i < length strategies → IsOrder (get_or strategies i []) (get_or orders i [])
 order-of strategies orders i h l = h.are_orders i (get_or orders i []) (slice_get-get_or orders i [] (omega (arith, h.one_for_each)))
 
--- the orders of the players behind the first
+-- the orders of the players after the first
 AreOrders-rest : (list : List (List ℕ)) (strategies : List (List (List ℕ))) (order : List ℕ) (orders : List (List ℕ)) → AreOrders (list ∷ strategies) (order ∷ orders) → AreOrders strategies orders
 AreOrders-rest list strategies order orders h = record { one_for_each = omega (arith, h.one_for_each); are_orders = λ i o e. h.are_orders (suc i) o e }
 

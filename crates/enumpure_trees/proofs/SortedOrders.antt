@@ -20,7 +20,7 @@ AreOrders-sorted strategies orders h = record {
   are_orders = λ i order e. subst (IsOrder (get_or strategies i [])) (get_or_from_slice_get orders i order [] e) (h.are_sorted i (omega (arith, slice_get_within orders i order e, h.one_for_each))).is_order;
 }
 
--- the orders of the players behind the first
+-- the orders of the players after the first
 AreSortedOrders-rest : (list : List (List ℕ)) (strategies : List (List (List ℕ))) (order : List ℕ) (orders : List (List ℕ)) → AreSortedOrders (list ∷ strategies) (order ∷ orders) → AreSortedOrders strategies orders
 AreSortedOrders-rest list strategies order orders h = record { one_for_each = omega (arith, h.one_for_each); are_sorted = λ i l. h.are_sorted (suc i) (omega arith) }
 

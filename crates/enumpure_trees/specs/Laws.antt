@@ -6,8 +6,8 @@ use Rattle.reduced_strategies.specs.StrategicForm.{AreStrategies}
 use Rattle.enumpure_trees.specs.TreeEquilibria.{profile_line, IsTreeEquilibriaText}
 
 -- two profiles never have the same line
-abbrev pub LinesTellProfiles : Type 0
-LinesTellProfiles =
+abbrev pub LinesDetermineProfiles : Type 0
+LinesDetermineProfiles =
     (t : Tree) (strategies : List (List (List ℕ))) (one other : List ℕ) → IsTree t → AreStrategies t strategies
     → IsProfile (map length strategies) one → IsProfile (map length strategies) other
     → profile_line t strategies one ≡ profile_line t strategies other → one ≡ other

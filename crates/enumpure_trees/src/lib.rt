@@ -1,14 +1,15 @@
 //! The tool `enumpure` on trees: the pure equilibria of a tree, a line of behaviour each.
 //!
-//! They are the pure equilibria of the tree's reduced strategic form. `orders` puts each player's strategies in the
-//! order of their lines, and `listing` writes the lines in order, where they are not too long.
-//!
-//! `specs/TreeEquilibria` says which lines a tree's pure equilibria have and in which order, and
-//! `Laws` what holds of them. `Orders` has the order of a player's strategies in which the lines
-//! stand. The functions without a body have no other meaning than the laws that they promise.
+//! Callers may rely on: `list_pure_behaviours` gives the text, refused exactly where it is too
+//! long; `one_text_of_equilibria`; two profiles never have the same line.
+//! Definitions: `specs::TreeEquilibria` says which lines there are and in which order, `Orders` the
+//! order of a player's strategies, `Stops` what a tree answers.
+//! Private words: `specs::Ranks` and `specs::StrategyOrders`, how the code sorts and lists.
+//! Lemmas for callers: `proofs::EquilibriumLines`, that a tree has one list of lines; `FormSizes`.
+//! A change here touches: what `enumpure` prints of a tree without `-S`.
 #![tactic(auto)]
 
-ghost use Rattle.enumpure_trees.specs.Laws.{LinesTellProfiles, OneTextOfEquilibria};
+ghost use Rattle.enumpure_trees.specs.Laws.{LinesDetermineProfiles, OneTextOfEquilibria};
 
 mod listing;
 mod orders;
@@ -16,8 +17,8 @@ mod orders;
 pub use listing::{behaviour_texts_are_single, list_pure_behaviours};
 
 /// Two profiles never have the same line.
-pub fn lines_tell_profiles()
-    ensures { LinesTellProfiles }
+pub fn lines_determine_profiles()
+    ensures { LinesDetermineProfiles }
 {}
 
 /// A tree has one text of equilibria.

@@ -10,13 +10,13 @@ ghost use Rattle.enumpure_trees.specs.Orders.{AreOrders, ordered};
 ghost use Rattle.game_theory.specs.Ranks.{ranked};
 ghost use Rattle.enumpure_trees.specs.Ranks.{lines_below};
 ghost use Rattle.enumpure_trees.specs.TreeEquilibria.{profile_line};
-ghost use Rattle.enumpure.specs.Replies.{flag};
+ghost use Rattle.enumpure.specs.Replies.{plays_best};
 ghost use Rattle.enumpure.specs.declared.listing.ListStop.TheVariants as stops;
 ghost use Rattle.enumpure_trees.specs.Stops.{behaviour_text};
 
 use crate::orders::orders_of_all;
 use behaviour_profile::Behaviour;
-use enumpure::{ListStop, stable_profiles};
+use enumpure::{ListStop, mutual_best_replies};
 use frac128::Memory;
 use game_core::{MOST_TEXT, Tree, too_long_text, trees_are_game_trees};
 use ne_printer::{line, push_line};
@@ -30,7 +30,7 @@ struct Lines<'a> {
     tree: &'a Tree,
     reduced: &'a Reduced,
     orders: &'a [Vec<u32>],
-    stable: &'a [bool],
+    all_best: &'a [bool],
 }
 
 // The profile in which each player plays the first strategy.
@@ -59,16 +59,16 @@ fn set_ordered(profile: &mut [u32], orders: &[Vec<u32>], profiles: usize, rank: 
 }
 
 // Whether a profile is an equilibrium.
-fn is_stable(lines: &Lines, profile: &[u32]) -> bool
+fn is_mutual(lines: &Lines, profile: &[u32]) -> bool
     requires form { IsReducedForm lines.now.tree.now lines.now.reduced.now }
-    requires flags { length lines.now.stable.now
+    requires best_replies { length lines.now.all_best.now
         ≡ profile_count (map length lines.now.reduced.now.choices) }
     requires profile { IsProfile (map length lines.now.reduced.now.choices) profile.now }
     ensures { result
-        ≡ flag lines.now.stable.now
+        ≡ plays_best lines.now.all_best.now
         (number_of (map length lines.now.reduced.now.choices) profile.now) }
 {
-    lines.stable[lines.reduced.table().profile_number(profile)]
+    lines.all_best[lines.reduced.table().profile_number(profile)]
 }
 
 // How many bytes the line of each profile has: as many as that of the given one.
@@ -91,7 +91,7 @@ fn line_length(
     Ok(line(alloc, behaviour.entries())?.len())
 }
 
-// Adds the lines of the flagged profiles in the order of their ranks. Writes over `profile`.
+// Adds the lines of the profiles of best replies in the order of their ranks. Writes over `profile`.
 fn push_lines(
     alloc: Global,
     text: &mut Vec<u8>,
@@ -102,18 +102,18 @@ fn push_lines(
     requires form { IsReducedForm lines.now.tree.now lines.now.reduced.now }
     requires orders { AreOrders lines.now.reduced.now.choices
         (map (λ v. v.items) lines.now.orders.now) }
-    requires flags { length lines.now.stable.now
+    requires best_replies { length lines.now.all_best.now
         ≡ profile_count (map length lines.now.reduced.now.choices) }
     ensures { OnOk result (text.new.items
         ≡ text.old.items
         ++ lines_text (lines_below
         (game_of_tree lines.now.tree.now) lines.now.reduced.now.choices
-        (map (λ v. v.items) lines.now.orders.now) (flag lines.now.stable.now)
-        (length lines.now.stable.now))) }
+        (map (λ v. v.items) lines.now.orders.now) (plays_best lines.now.all_best.now)
+        (length lines.now.all_best.now))) }
 {
-    for rank in 0..lines.stable.len() {
-        set_ordered(profile, lines.orders, lines.stable.len(), rank);
-        if is_stable(lines, profile) {
+    for rank in 0..lines.all_best.len() {
+        set_ordered(profile, lines.orders, lines.all_best.len(), rank);
+        if is_mutual(lines, profile) {
             let behaviour = Behaviour::from_reduced(alloc, lines.tree, lines.reduced, profile)?;
             push_line(alloc, text, behaviour.entries())?;
         }
@@ -121,7 +121,7 @@ fn push_lines(
     Ok(())
 }
 
-// The lines of the flagged profiles, in a text that has room for so many bytes from the start. Writes over `profile`.
+// The lines of the profiles of best replies, in a text that has room for so many bytes from the start. Writes over `profile`.
 fn write_lines(
     alloc: Global,
     lines: &Lines,
@@ -132,12 +132,12 @@ fn write_lines(
     requires form { IsReducedForm lines.now.tree.now lines.now.reduced.now }
     requires orders { AreOrders lines.now.reduced.now.choices
         (map (λ v. v.items) lines.now.orders.now) }
-    requires flags { length lines.now.stable.now
+    requires best_replies { length lines.now.all_best.now
         ≡ profile_count (map length lines.now.reduced.now.choices) }
     ensures { IfOk result (λ text. text.items
         ≡ lines_text (lines_below (game_of_tree lines.now.tree.now) lines.now.reduced.now.choices
-        (map (λ v. v.items) lines.now.orders.now) (flag lines.now.stable.now)
-        (length lines.now.stable.now))) }
+        (map (λ v. v.items) lines.now.orders.now) (plays_best lines.now.all_best.now)
+        (length lines.now.all_best.now))) }
 {
     let mut text = Vec::with_capacity(alloc, bytes)?;
     push_lines(alloc, &mut text, lines, profile)?;
@@ -162,11 +162,11 @@ pub fn list_pure_behaviours(
         (map_ok result (λ text. text.items)) }
 {
     trees_are_game_trees();
-    let stable = stable_profiles(alloc, reduced.table())?;
+    let all_best = mutual_best_replies(alloc, reduced.table())?;
     let orders = orders_of_all(alloc, tree, reduced)?;
     let mut profile = first_profile(alloc, tree.players().len())?;
     let each = line_length(alloc, tree, reduced, &profile)?;
-    let count = stable.iter().filter(|stable| **stable).count();
+    let count = all_best.iter().filter(|all_best| **all_best).count();
     if count > MOST_TEXT / each {
         return Err(ListStop::TooLarge(too_long_text()));
     }
@@ -174,7 +174,7 @@ pub fn list_pure_behaviours(
         tree,
         reduced,
         orders: &orders,
-        stable: &stable,
+        all_best: &all_best,
     };
     Ok(write_lines(alloc, &lines, &mut profile, count * each)?)
 }

@@ -6,7 +6,7 @@ use Rattle.std.proofs.lemmas.Nat.Bits.{bit_at_or, bit_at_ones, bit_at_ones_above
 use Rattle.rational.specs.Rational.{ℚ, zero_ℚ}
 use Rattle.linear_systems.specs.Vertices.{IsZeroWord}
 use Rattle.extreme_equilibria.specs.PairLines.{HaveAllLabels}
-use Rattle.extreme_equilibria.specs.Laws.{MasksTellLabels}
+use Rattle.extreme_equilibria.specs.Laws.{MasksDetermineLabels}
 
 max_out : (a b : ℕ) → a < 2 → b < 2 → max a b ≡ 1 → (a ≡ 1) ⊎ (b ≡ 1)
 max_out a b h g e = elim (cases_eq a 1) [ inl f ↦ inl f | inr f ↦ inr (omega arith) ]
@@ -40,8 +40,8 @@ covers count v w p q r s = (to, from)
     ])
 
 -- ---- both words
-pub masks_tell_labels : MasksTellLabels
-masks_tell_labels n t u x y one two r s = (to, from)
+pub masks_determine_labels : MasksDetermineLabels
+masks_determine_labels n t u x y one two r s = (to, from)
   where
     low : (bit_or one.low two.low ≡ 2 ^ min n 64 - 1) ↔ ((l : ℕ) → l < min n 64 → (x (suc l) ≡ zero_ℚ) ⊎ (y (suc l) ≡ zero_ℚ))
     low = covers (min n 64) (λ l. x (suc l)) (λ l. y (suc l)) one.low two.low r.low s.low

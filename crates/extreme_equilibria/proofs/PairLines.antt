@@ -30,7 +30,7 @@ use Rattle.extreme_equilibria.proofs.Vertices.{extreme_points, of_points, zero_e
 use Rattle.extreme_equilibria.proofs.Tables.{extreme_to_tables, extreme_from_tables}
 use Rattle.extreme_equilibria.proofs.Shifts.{shift_extreme, lifted_positive}
 use Rattle.linear_systems.proofs.VertexLists.{same_mask, place_once}
-use Rattle.extreme_equilibria.proofs.Masks.{masks_tell_labels}
+use Rattle.extreme_equilibria.proofs.Masks.{masks_determine_labels}
 use Rattle.extreme_equilibria.proofs.Systems.{system, Fills, vertex_of, vertex_filled, determined, fill_same, before, first_fill, second_fill, first_fills, second_fills, first_variables, second_variables}
 
 -- ---- scaled points as lists
@@ -74,7 +74,7 @@ module _ (m n : ℕ) (a c : ℕ → ℕ → ℚ) where
       record {
         first_vertex = vertex_of m n c (λ i. suc i) (λ j. m + suc j) (first_fill m c) (first_fills m n c) f.solution f.extreme;
         second_vertex = vertex_of n m a (λ j. m + suc j) (λ i. suc i) (second_fill m n a) (second_fills m n a) s.solution s.extreme;
-        labelled = labels_of f.solution s.solution f.extreme s.extreme ((masks_tell_labels (m + n) (first_system m n c) (second_system m n a) f.solution s.solution one two f.marked s.marked).0 h);
+        labelled = labels_of f.solution s.solution f.extreme s.extreme ((masks_determine_labels (m + n) (first_system m n c) (second_system m n a) f.solution s.solution one two f.marked s.marked).0 h);
         first_nonzero = record { place = f.nonzero.column; within = f.nonzero.within; differs = f.nonzero.other };
         second_nonzero = record { place = s.nonzero.column; within = s.nonzero.within; differs = s.nonzero.other };
       }
@@ -107,7 +107,7 @@ module _ (g : Game) (m n : ℕ) (e : g.strategies ≡ m ∷ n ∷ []) (d d' : �
         let s = (extreme_points m n a c (k 0) (k 1) pa pc).0 ((shift_extreme m n (pays_against g 0) (pays_against g 1) d d' (k 0) (k 1)).0 (extreme_to_tables g m n e k x)) in
         let one = hf.complete (first_fill m c s.first) (vertex_filled m n c (λ i. suc i) (λ j. m + suc j) (first_fill m c) (first_fills m n c) s.first s.pair.first_vertex) (record { column = s.pair.first_nonzero.place; within = s.pair.first_nonzero.within; other = λ z. s.pair.first_nonzero.differs (sym ((first_fills m n c).entry s.first s.pair.first_nonzero.place s.pair.first_nonzero.within) ∙ z) }) in
         let two = hs.complete (second_fill m n a s.second) (vertex_filled n m a (λ j. m + suc j) (λ i. suc i) (second_fill m n a) (second_fills m n a) s.second s.pair.second_vertex) (record { column = s.pair.second_nonzero.place; within = s.pair.second_nonzero.within; other = λ z. s.pair.second_nonzero.differs (sym ((second_fills m n a).entry s.second s.pair.second_nonzero.place s.pair.second_nonzero.within) ∙ z) }) in
-        let labels : HaveAllLabels (m + n) one.0 two.0 = (masks_tell_labels (m + n) (first_system m n c) (second_system m n a) _ _ one.0 two.0 one.2 two.2).1 (λ v b. elim (s.pair.labelled v b) [ inl z ↦ inl (ap (λ l. first_variable m c s.first l) (before v) ∙ z) | inr z ↦ inr (ap (λ l. second_variable m n a s.second l) (before v) ∙ z) ]) in
+        let labels : HaveAllLabels (m + n) one.0 two.0 = (masks_determine_labels (m + n) (first_system m n c) (second_system m n a) _ _ one.0 two.0 one.2 two.2).1 (λ v b. elim (s.pair.labelled v b) [ inl z ↦ inl (ap (λ l. first_variable m c s.first l) (before v) ∙ z) | inr z ↦ inr (ap (λ l. second_variable m n a s.second l) (before v) ∙ z) ]) in
         let first_is : scaled_point one.0.point ≡ listed m (k 0) = ap scaled_point (mark_point _ _ _ _ one.2) ∙ scaled-listed m _ ∙ listed-same m _ (k 0) (λ i b. scaled_same m _ s.first ((first_fills m n c).entry s.first) i b ∙ sym (s.first_is i b)) in
         let second_is : scaled_point two.0.point ≡ listed n (k 1) = ap scaled_point (mark_point _ _ _ _ two.2) ∙ scaled-listed n _ ∙ listed-same n _ (k 1) (λ j b. scaled_same n _ s.second ((second_fills m n a).entry s.second) j b ∙ sym (s.second_is j b)) in
         subst (λ line. Contains lines line) (ap₂ (λ xs ys. xs ++ ys) first_is second_is ∙ sym (two-entries g m n k e)) (h.complete one.0 two.0 one.1 two.1 labels)

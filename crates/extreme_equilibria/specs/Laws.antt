@@ -115,8 +115,8 @@ pub record SolutionsAreThePolytopes : Type 0 where
       → (x : ℕ → ℚ) × IsPoint (second_system m n a) x × AreSame n (λ j. x (m + suc j)) q
 
 -- two masks together have all labels exactly where each variable is 0 at one of the two solutions
-abbrev pub MasksTellLabels : Type 0
-MasksTellLabels =
+abbrev pub MasksDetermineLabels : Type 0
+MasksDetermineLabels =
     (n : ℕ) (t u : Tableau) (x y : ℕ → ℚ) (one two : MarkedPoint) → IsMarkOf n t x one
     → IsMarkOf n u y two
     → HaveAllLabels n one two

@@ -1,6 +1,10 @@
 pub mod Bimatrix
+pub mod Elimination
 pub mod Examples
 pub mod ExtremeEquilibria
+pub mod KeptExamples
+pub mod KeptLaws
+pub mod KeptTable
 pub mod Laws
 pub mod PairLines
 pub mod Polytopes

@@ -1,16 +1,15 @@
-//! Extreme equilibria of games of two players, for contracts and proofs.
+//! Extreme equilibria of games of two players, and what is kept of a game where strictly dominated
+//! strategies are removed round by round: definitions and laws.
 //!
-//! The definitions stand in `specs/`. Begin with `ExtremeEquilibria`: the extreme equilibria of a
-//! game and the list of their lines. `TwoPlayers` and `Bimatrix` have the two tables of a game,
-//! `Polytopes` the polytopes of best replies with their vertices and labels, `Systems` the two
-//! systems of best replies, and `PairLines` the lines of the pairs of vertices that together have
-//! all labels. `Laws` states what holds of them, and `Examples` works out two games.
-//!
-//! The functions below do nothing: the contract of each is a law, so that a check proves it.
-//!
-//! The lemmas in `proofs/` are for the crates above: `TwoPlayers` on the payoffs of games of two
-//! players, `Means` on convex sets, `Scaling` on points divided by their sums, `Systems` on the
-//! points of the two systems, and `PairLines` on the lines of pairs.
+//! Callers may rely on: `pair_lines_are_extreme_equilibria`, from pairs of listed vertices to
+//! lines; `shifts_keep_equilibria`; `one_list_of_extreme_equilibria`; and that elimination loses
+//! no equilibrium: `equilibria_of_the_kept_table`, `extreme_equilibria_of_the_kept_table`.
+//! Definitions: `specs::ExtremeEquilibria` says what they are, `Bimatrix` has the two tables,
+//! `Polytopes` best replies and labels, `Systems` the two systems, `PairLines` the lines;
+//! `Elimination` says which strategies are kept, `KeptTable` has the game over them.
+//! Lemmas for callers: `proofs::Systems` on the points of the systems, `TwoPlayers` on payoffs,
+//! `ExtremeLists` and `PairLines` on lists of lines, `KeptLists` and `Rounds` on what is kept.
+//! A change here touches: `reduced_form`, `reply_polytope`, `label_pairing`, `enummixed`.
 #![tactic(auto)]
 
 ghost use Rattle.extreme_equilibria.specs.Examples.{
@@ -25,7 +24,7 @@ ghost use Rattle.extreme_equilibria.specs.Laws.{
   ExtremeWhereVertices,
   LabelledPairsAreEquilibria,
   ListedVerticesScaleDifferently,
-  MasksTellLabels,
+  MasksDetermineLabels,
   OneListOfExtremeEquilibria,
   PairLinesAreExtremeEquilibria,
   PairsScaleDifferently,
@@ -35,6 +34,20 @@ ghost use Rattle.extreme_equilibria.specs.Laws.{
   VerticesScaleDifferently,
   ZeroPairsWithZero,
   ZerosAreLabelled,
+};
+ghost use Rattle.extreme_equilibria.specs.KeptExamples.{EliminationInTwoGames};
+ghost use Rattle.extreme_equilibria.specs.KeptLaws.{
+  EquilibriaAreZeroAtRemoved,
+  EquilibriaOfTheKeptTable,
+  ExtremeEquilibriaOfTheKeptTable,
+  KeptStrategiesExist,
+  LastListsAreKept,
+  OneListOfKeptStrategies,
+  ProfilesAreSpread,
+  RoundThatRemovesNoneIsLast,
+  RoundsByLists,
+  RoundsEnd,
+  SameCellsHaveSameEquilibria,
 };
 
 /// A game has only one list of its extreme equilibria.
@@ -86,8 +99,8 @@ pub fn solutions_are_the_polytopes()
 {}
 
 /// Two masks together have all bits exactly where the two points together have all labels.
-pub fn masks_tell_labels()
-    ensures { MasksTellLabels }
+pub fn masks_determine_labels()
+    ensures { MasksDetermineLabels }
 {}
 
 /// The lines of the pairs of vertices that together have all labels are those of the extreme
@@ -105,4 +118,65 @@ pub fn indifference()
 /// The one profile of the smallest game is its one extreme equilibrium.
 pub fn one_profile()
     ensures { OneProfileIsExtreme }
+{}
+
+/// What is kept after a round that removes none is kept for good.
+pub fn round_that_removes_none_is_last()
+    ensures { RoundThatRemovesNoneIsLast }
+{}
+
+/// Some round removes none.
+pub fn rounds_end()
+    ensures { RoundsEnd }
+{}
+
+/// A round keeps of the lists what is not strictly dominated among them.
+pub fn rounds_by_lists()
+    ensures { RoundsByLists }
+{}
+
+/// Lists from which a round removes nothing are those of the kept strategies.
+pub fn last_lists_are_kept()
+    ensures { LastListsAreKept }
+{}
+
+/// A player has a list of kept strategies.
+pub fn kept_strategies_exist()
+    ensures { KeptStrategiesExist }
+{}
+
+/// A player has only one list of kept strategies.
+pub fn one_list_of_kept_strategies()
+    ensures { OneListOfKeptStrategies }
+{}
+
+/// Every equilibrium gives each removed strategy the probability 0.
+pub fn equilibria_are_zero_at_removed()
+    ensures { EquilibriaAreZeroAtRemoved }
+{}
+
+/// The equilibria are those of the kept table, with 0 at removed strategies.
+pub fn equilibria_of_the_kept_table()
+    ensures { EquilibriaOfTheKeptTable }
+{}
+
+/// The extreme equilibria are those of the kept table, with 0 at removed strategies.
+pub fn extreme_equilibria_of_the_kept_table()
+    ensures { ExtremeEquilibriaOfTheKeptTable }
+{}
+
+/// Games with the same payoffs at each profile have the same equilibria.
+pub fn same_cells_have_same_equilibria()
+    ensures { SameCellsHaveSameEquilibria }
+{}
+
+/// Each profile of the kept table is one of the game, with 0 at removed strategies.
+pub fn profiles_are_spread()
+    ensures { ProfilesAreSpread }
+{}
+
+/// In the prisoners' dilemma to confess is all that is kept, and what is dominated, but not
+/// strictly, is kept.
+pub fn elimination_in_two_games()
+    ensures { EliminationInTwoGames }
 {}

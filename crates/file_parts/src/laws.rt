@@ -32,7 +32,7 @@ pub fn payoffs_are_read<K>()
         → parse_payoffs kind (length payoffs) (front ++ rest) ≡ Ok (payoffs, rest) }
 {}
 
-/// A title is read exactly where one stands behind the header of its format.
+/// A title is read exactly where one stands after the header of its format.
 pub fn titles_are_read<K>()
     ensures sound { (kind : K) (word : List ℕ) (version : ℕ) (tokens rest : List Token) (title : List ℕ) → parse_title kind word version tokens ≡ Ok (title, rest)
         → (header : List Token) × IsHeader word version header × (tokens ≡ header ++ Text title ∷ rest) }

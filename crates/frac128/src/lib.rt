@@ -1,10 +1,12 @@
 //! Exact fractions in lowest terms, whose parts fit 128 bits.
 //!
-//! A [`Frac`] is a rational number: clauses see it as its value, a `ℚ`. Its numerator and its
-//! denominator in lowest terms lie from -(2^127 - 1) to 2^127 - 1, and the denominator is positive.
-//! A step gives the exact value, or an [`Unfit`] with its operation and operands where it does not fit;
-//! the words `AddFits`, `SubFits`, `MulFits` and `DivFits` say when it does.
-//! Nothing here takes memory. [`Memory`] is the error of the crates above, which do.
+//! Callers may rely on: `Frac::add`, `sub`, `mul` and `div` give the exact value, or `Unfit` with
+//! the operation and both operands exactly where the step does not fit; nothing here takes memory.
+//! Definitions: a `Frac` is a `ℚ` to contracts; `specs::Fraction` says which fit (parts up to 2^127
+//! - 1 in size), `specs::Steps` when a step fits, `specs::Short` which are short.
+//! Private words: what `euclid`, `fitting`, `products` and `sums` do not hand on.
+//! Lemmas for callers: `proofs::Parts` and `Reduced` on parts, `Compared` and `Signs`.
+//! A change here touches: which steps fit, and so every refusal `Range`.
 #![tactic(auto)]
 
 mod euclid;

@@ -7,7 +7,7 @@ use Rattle.outside.specs.Inputs.{InputName, InputsSeen}
 use Rattle.words.specs.Words.{Command, Check}
 use Rattle.game_core.specs.declared.game.Game.{Game}
 use Rattle.gambit_tools.specs.Check.{check, verdicts}
-use Rattle.gambit_tools.specs.Input.{most_bytes, AreBytesOf, IsInputRefusal, IsReadToEnd, CountsTell}
+use Rattle.gambit_tools.specs.Input.{most_bytes, AreBytesOf, IsInputRefusal, IsReadToEnd, CountsDetermine}
 use Rattle.gambit_tools.specs.Games.{game_in}
 use Rattle.gambit_tools.specs.Origins.{Contents as of_contents, origin}
 use Rattle.gambit_tools.specs.Outcome.{HasAnswer, HasReadBefore, IsComputed, IsRefusedIn, RunAnswer}
@@ -29,7 +29,7 @@ pub record IsAfterOne (before between : InputsSeen) : Type 0 where
   pub once : between.selections ≤ before.selections + 1
   pub stay : (n : InputName) → between.held n ≡ before.held n
 
-counts_after : (before between after : InputsSeen) (r : Option Refusal) → IsAfterOne before between → CountsTell between after r → CountsTell before after r
+counts_after : (before between after : InputsSeen) (r : Option Refusal) → IsAfterOne before between → CountsDetermine between after r → CountsDetermine before after r
 counts_after before between after r s h = record {
   opening = λ less. h.opening (subst (λ n. n < after.open_faults) (sym s.opening) less);
   reading = λ less. h.reading (subst (λ n. n < after.read_faults) (sym s.reading) less);
@@ -46,7 +46,7 @@ module _ (strategic : Bool) (bytes_name : List ℕ) (lines_name : InputName) whe
   game_name = Some bytes_name
 
   -- ---- the first input is not read
-  pub first-refused : (before after : InputsSeen) (r : Refusal) → IsInputRefusal game_name before after r → CountsTell before after (Some r) → after.selections ≤ before.selections + 1
+  pub first-refused : (before after : InputsSeen) (r : Refusal) → IsInputRefusal game_name before after r → CountsDetermine before after (Some r) → after.selections ≤ before.selections + 1
       → ((n : InputName) → after.held n ≡ before.held n) → IsComputed command before after (Err r)
   first-refused before after refusal.OpenFault h counts few stay = record { answers = (game_name, (0, omega arith, refl), h); has_read = h.none_selected; selects_few = omega (arith, few); counts = counts; inputs_stay = stay }
   first-refused before after refusal.ReadFault h counts few stay = record { answers = (game_name, (0, omega arith, refl), h); has_read = h.none_selected; selects_few = omega (arith, few); counts = counts; inputs_stay = stay }
@@ -65,7 +65,7 @@ module _ (strategic : Bool) (bytes_name : List ℕ) (lines_name : InputName) whe
 
   -- ---- the second input is not read
   pub second-refused : (before between after : InputsSeen) (bytes : List ℕ) (r : Refusal) → IsAfterOne before between → AreBytesOf (before.held game_name) bytes → length bytes ≤ most_bytes
-      → IsInputRefusal lines_name between after r → CountsTell between after (Some r) → after.selections ≤ between.selections + 1
+      → IsInputRefusal lines_name between after r → CountsDetermine between after (Some r) → after.selections ≤ between.selections + 1
       → ((n : InputName) → after.held n ≡ between.held n) → IsComputed command before after (Err r)
   second-refused before between after bytes refusal.OpenFault s are short h counts few stay = record {
     answers = (lines_name, (1, omega arith, refl), record { rose = subst (λ n. Rose n after.open_faults) s.opening h.rose; failed = h.failed; none_selected = h.none_selected });
@@ -107,13 +107,13 @@ module _ (strategic : Bool) (bytes_name : List ℕ) (lines_name : InputName) whe
     pub few_bytes : length bytes ≤ most_bytes
     pub few_lines : length lines ≤ most_bytes
     pub read : IsReadToEnd lines_name after
-    pub counts : CountsTell before after None
+    pub counts : CountsDetermine before after None
     pub twice : after.selections ≤ before.selections + 2
     pub stay : (n : InputName) → after.held n ≡ before.held n
 
   -- one input after the other
   pub both-read : (before between after : InputsSeen) (bytes lines : List ℕ) → IsAfterOne before between → AreBytesOf (before.held game_name) bytes → AreBytesOf (between.held lines_name) lines
-      → length bytes ≤ most_bytes → length lines ≤ most_bytes → IsReadToEnd lines_name after → CountsTell between after None → after.selections ≤ between.selections + 1
+      → length bytes ≤ most_bytes → length lines ≤ most_bytes → IsReadToEnd lines_name after → CountsDetermine between after None → after.selections ≤ between.selections + 1
       → ((n : InputName) → after.held n ≡ between.held n) → AreBothRead before after bytes lines
   both-read before between after bytes lines s are_bytes are_lines few_bytes few_lines read counts few stay = record {
     are_bytes = are_bytes;

@@ -5,7 +5,7 @@ use Rattle.answers.specs.Answers.{Gives}
 use Rattle.outside.specs.Inputs.{InputName, InputsSeen}
 use Rattle.words.specs.Words.{Command, Check, Make}
 use Rattle.game_core.specs.declared.game.Game.{Game}
-use Rattle.gambit_tools.specs.Input.{most_bytes, AreBytesOf, IsInputRefusal, IsReadToEnd, CountsTell}
+use Rattle.gambit_tools.specs.Input.{most_bytes, AreBytesOf, IsInputRefusal, IsReadToEnd, CountsDetermine}
 use Rattle.gambit_tools.specs.Games.{game_in}
 use Rattle.gambit_tools.specs.Commands.{inputs_of, tool_of, game_answer, answer_of}
 use Rattle.gambit_tools.specs.Origins.{Contents as of_contents, origin}
@@ -38,12 +38,12 @@ too_long None left taken e c = (taken, tt, omega (arith, e))
 too_long (Some known) None taken e c = absurd c
 too_long (Some known) (Some rest) taken e c = (known, refl, (let n = ap length c ∙ length-append taken rest in omega (arith, e, n)))
 
--- where no count rose, each tells any refusal
-pub counts_none : (before after : InputsSeen) (r : Refusal) → CountsTell before after None → CountsTell before after (Some r)
+-- where no count rose, each err_is any refusal
+pub counts_none : (before after : InputsSeen) (r : Refusal) → CountsDetermine before after None → CountsDetermine before after (Some r)
 counts_none before after r h = record { opening = λ l. (let e = h.opening l in absurd cc); reading = λ l. (let e = h.reading l in absurd cc) }
 
 -- an input that is not read
-pub refused-computed : (command : Command) (name : InputName) (before after : InputsSeen) (r : Refusal) → inputs_of command ≡ name ∷ [] → IsInputRefusal name before after r → CountsTell before after (Some r)
+pub refused-computed : (command : Command) (name : InputName) (before after : InputsSeen) (r : Refusal) → inputs_of command ≡ name ∷ [] → IsInputRefusal name before after r → CountsDetermine before after (Some r)
     → after.selections ≤ before.selections + 1 → ((n : InputName) → after.held n ≡ before.held n) → IsComputed command before after (Err r)
 refused-computed command name before after refusal.OpenFault one h counts few stay = record { answers = (name, the_input command name one, h); has_read = h.none_selected; selects_few = one_selection command name before after one few; counts = counts; inputs_stay = stay }
 refused-computed command name before after refusal.ReadFault one h counts few stay = record { answers = (name, the_input command name one, h); has_read = h.none_selected; selects_few = one_selection command name before after one few; counts = counts; inputs_stay = stay }
@@ -66,7 +66,7 @@ pub record IsRead (command : Command) (name : InputName) (before after : InputsS
   pub are : AreBytesOf (before.held name) bytes
   pub few : length bytes ≤ most_bytes
   pub read : IsReadToEnd name after
-  pub counts : CountsTell before after None
+  pub counts : CountsDetermine before after None
   pub once : after.selections ≤ before.selections + 1
   pub stay : (n : InputName) → after.held n ≡ before.held n
 

@@ -9,7 +9,7 @@ use Rattle.game_core.specs.declared.game.Game.TheVariants.{Strategic, Extensive}
 use Rattle.game_core.specs.TokenList.{TokenList}
 use Rattle.perfect_recall.specs.Found.{IsRecallOf}
 use Rattle.sequence_forms.specs.Forms.{HasTwoWhoRecall}
-use Rattle.written_trees.proofs.BegunTrees.{whole_is_tree}
+use Rattle.written_trees.proofs.PartialTrees.{whole_is_tree}
 use Rattle.sequence_data.specs.Data.{FormData, IsFormData, IsSideData}
 use Rattle.sequence_form.specs.Forms.{IsTreeForm}
 use Rattle.sequence_form.specs.declared.counts.Counts.{Counts}
@@ -32,7 +32,7 @@ game_same : (a b : Game) → ◌≡◌ {A = Result Game Refusal} (Ok a) (Ok b) �
 game_same a b e = cc
 
 game_of-valid : (tokens : TokenList) (game : Game) → game_of tokens (Ok game) → IsGame game
-game_of-valid tokens game (inl (begins, h)) = subst IsGame (sym (game_same game (Extensive h.0) h.2)) (whole_is_tree h.0 h.1.describe.begun)
+game_of-valid tokens game (inl (begins, h)) = subst IsGame (sym (game_same game (Extensive h.0) h.2)) (whole_is_tree h.0 h.1.describe.partial)
 game_of-valid tokens game (inr (begins, h)) = subst IsGame (sym (game_same game (Strategic h.0) h.2)) h.1.1
 
 -- what is read is a game

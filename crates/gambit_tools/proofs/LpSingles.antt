@@ -20,7 +20,7 @@ use Rattle.zero_sum_lp.proofs.PlanAnswers.{plans_single}
 use Rattle.zero_sum_lp.proofs.ProgramAnswers.{programs_single}
 use Rattle.gambit_tools.specs.Entries.{entries_in}
 use Rattle.gambit_tools.specs.Games.{IsGame}
-use Rattle.gambit_tools.specs.Lp.{IsStepRefusal, Solution, first_price, lp, optimum_of, prices_in, prices_text, solution, solution_in, solution_text}
+use Rattle.gambit_tools.specs.Lp.{IsPathRefusal, Solution, first_price, lp, optimum_of, prices_in, prices_text, solution, solution_in, solution_text}
 use Rattle.refusals.specs.Told.{plan_refusal, program_refusal}
 use Rattle.gambit_tools.specs.TwoPlayers.{form_in, two_players}
 use Rattle.refusals.specs.declared.refusal.Refusal.{Refusal}
@@ -35,7 +35,7 @@ optima_same : (a b : Program) → Optimal a ≡ Optimal b → a ≡ b
 optima_same a b e = cc
 
 -- an optimum is no step that does not fit
-never_both : (p a : Program) (r : Refusal) → IsProgram p → optimum_of p (Ok a) → IsStepRefusal p r → ⊥
+never_both : (p a : Program) (r : Refusal) → IsProgram p → optimum_of p (Ok a) → IsPathRefusal p r → ⊥
 never_both p a r h one other = let e = ends_same p (Optimal a) (Range other.step other.entering other.unfit) h one other.is_unfit in apart a other.step other.entering other.unfit e
   where
     apart : (a : Program) (step entering : ℕ) (unfit : Unfit) → Optimal a ≡ Range step entering unfit → ⊥

@@ -4,13 +4,13 @@ use Rattle.answers.specs.Answers.{Gives, IsSingle, map_ok, only, refused_by}
 use Rattle.answers.proofs.Answers.{bind-single, only-single, refused_by-single}
 use Rattle.outside.specs.Inputs.{InputsSeen}
 use Rattle.words.specs.Words.{Make}
-use Rattle.made_tables.specs.MadeTables.{made_game}
+use Rattle.game_core.specs.MadeTables.{made_game}
 use Rattle.enummixed.specs.ExtremeText.{extreme_pairs}
 use Rattle.enummixed.proofs.VertexPairs.{pairs-single}
 use Rattle.refusals.specs.Told.{mixed_refusal}
 use Rattle.refusals.specs.declared.refusal.Refusal.{Refusal}
 use Rattle.refusals.specs.declared.refusal.Refusal.TheVariants as refusal
-use Rattle.gambit_tools.specs.Input.{CountsTell}
+use Rattle.gambit_tools.specs.Input.{CountsDetermine}
 use Rattle.gambit_tools.specs.Make.{counts_text, make}
 use Rattle.gambit_tools.specs.Outcome.{HasAnswer, HasReadBefore, IsComputed, IsRefusedIn}
 use Rattle.gambit_tools.proofs.FormContents.{AreContents, only-contents, then-contents, told-contents}
@@ -29,7 +29,7 @@ make-origin number rows columns =
     (told-contents mixed_refusal (extreme_pairs g) (pairs-contents g)) (λ pairs. only-contents (counts_text pairs))
 
 -- no count rises where nothing happens
-no_counts : (seen : InputsSeen) (refused : Option Refusal) → CountsTell seen seen refused
+no_counts : (seen : InputsSeen) (refused : Option Refusal) → CountsDetermine seen seen refused
 no_counts seen refused = record {
   opening = λ less. absurd (omega (arith, less));
   reading = λ less. absurd (omega (arith, less));

@@ -6,10 +6,10 @@ use Rattle.outside.specs.Inputs.{InputName, InputsSeen}
 use Rattle.words.specs.Words.{Command, command_from}
 use Rattle.words.specs.declared.Usage.{Usage}
 use Rattle.gambit_tools.specs.Seen.{Outside, Seen, but_for_err}
-use Rattle.gambit_tools.specs.Input.{AreBytesOf, CountsTell}
+use Rattle.gambit_tools.specs.Input.{AreBytesOf, CountsDetermine}
 use Rattle.gambit_tools.specs.Commands.{inputs_of, answer_of}
 use Rattle.gambit_tools.specs.Origins.{Origin, Words, Outside as OfOutside, Length, Contents as OfContents, Memory, Opening, Reading, Writing, origin}
-use Rattle.gambit_tools.specs.Outcome.{RunAnswer, AreContents, AreToldContents, HasAnswer, AreRead, HasReadBefore, IsStoppedIn, IsCommandRun, IsRunOf, IsExact, IsComplete, NoFault, Tells, IsOutcome}
+use Rattle.gambit_tools.specs.Outcome.{RunAnswer, AreContents, AreToldContents, HasAnswer, AreRead, HasReadBefore, IsRunStop, IsCommandRun, IsRunOf, IsExact, IsComplete, NoFault, IsTold, IsOutcome}
 use Rattle.refusals.specs.Refusals.{status_of, run_status, NamesNumbers, IsToldAs}
 use Rattle.refusals.specs.declared.refusal.Refusal.{Refusal}
 use Rattle.refusals.specs.declared.refusal.Refusal.TheVariants as refusal
@@ -42,7 +42,7 @@ some_read (name ∷ other ∷ names) before after h = elim (some_read (other ∷
 -- want of memory that is told in place of a refusal by the contents
 memory_told : (command : Command) (before after : Outside) (r : Refusal) → origin r ≡ OfContents → IsCommandRun command before after (Err r) → IsCommandRun command before after (Err refusal.Memory)
 memory_told command before after r o h =
-    let stopped = subst (IsStoppedIn command before after r) o h.ends in
+    let stopped = subst (IsRunStop command before after r) o h.ends in
     record { ends = (tt, stopped.1); has_read = some_read (inputs_of command) before.inputs after.inputs (subst (HasReadBefore (inputs_of command) before.inputs after.inputs) o h.has_read); selects_few = h.selects_few }
 
 err_same : (a b : Refusal) → ◌≡◌ {A = RunAnswer} (Err a) (Err b) → a ≡ b
@@ -60,7 +60,7 @@ some_same : (a b : Refusal) → Some a ≡ Some b → a ≡ b
 some_same a b e = cc
 
 -- a counted fault of an input shows in the status that is told
-pub status-input_faults : (before after : InputsSeen) (r told : Refusal) (status : ℕ) → IsToldAs r told → status ≡ status_of told → CountsTell before after (Some r) → (before.open_faults < after.open_faults) ⊎ (before.read_faults < after.read_faults) → (status ≡ 3) ⊎ (status ≡ 5)
+pub status-input_faults : (before after : InputsSeen) (r told : Refusal) (status : ℕ) → IsToldAs r told → status ≡ status_of told → CountsDetermine before after (Some r) → (before.open_faults < after.open_faults) ⊎ (before.read_faults < after.read_faults) → (status ≡ 3) ⊎ (status ≡ 5)
 status-input_faults before after r told status (inl t) e tell (inl h) = inl (e ∙ ap status_of (t ∙ some_same r refusal.OpenFault (tell.opening h)))
 status-input_faults before after r told status (inl t) e tell (inr h) = inl (e ∙ ap status_of (t ∙ some_same r refusal.ReadFault (tell.reading h)))
 status-input_faults before after r told status (inr p) e tell h = inr (e ∙ ap status_of p.1)
@@ -92,7 +92,7 @@ of_memory refusal.Memory e = refl
 of_memory _ e = absurd cc
 
 -- a refusal is by what the inputs tell, where no fault was counted and memory did not run out
-told_refusal : (command : Command) (before after : Outside) (contents : List (List ℕ)) (r : Refusal) (o : Origin) → origin r ≡ o → IsStoppedIn command before after r o
+told_refusal : (command : Command) (before after : Outside) (contents : List (List ℕ)) (r : Refusal) (o : Origin) → origin r ≡ o → IsRunStop command before after r o
     → AreToldContents before.inputs.held (inputs_of command) contents → NoFault before after → (◌≡◌ {A = RunAnswer} (Err r) (Err refusal.Memory)) ⊎ answer_of command contents (Err r)
 told_refusal command before after contents r (Words usage) e h told none = absurd h.0
 told_refusal command before after contents r (OfOutside Opening) e h told none = absurd (none.opening h.0.2.rose)
@@ -125,14 +125,14 @@ none_some r e = cc
 
 -- a run that answers the text
 pub outcome-text : {X : Type 0} → AnswersAreSingle → (words : List (List ℕ)) (before after : Seen) (answered : Result X Refusal) (view : X → List ℕ) → None ≡ result_err answered
-    → IsRunOf (command_from words) (but_for_err before) (but_for_err after) (map_ok answered view) → CountsTell before.inputs after.inputs (result_err answered)
+    → IsRunOf (command_from words) (but_for_err before) (but_for_err after) (map_ok answered view) → CountsDetermine before.inputs after.inputs (result_err answered)
     → (before.out.faults < after.out.faults → result_err answered ≡ Some refusal.WriteFault)
     → ((name : InputName) → after.inputs.held name ≡ before.inputs.held name) → after.err.taken ≡ before.err.taken → IsOutcome words before after 0 (map_ok answered view)
 outcome-text single words before after (Ok x) view e h counts faults stay untold = record {
   status_is = refl;
   is_run = h;
   is_exact = run-exact single words (but_for_err before) (but_for_err after) (Ok (view x)) h;
-  tells = untold;
+  err_is = untold;
   input_faults = λ rose. absurd (elim rose [ inl l ↦ none_some _ (counts.opening l) | inr l ↦ none_some _ (counts.reading l) ]);
   output_faults = λ rose. absurd (none_some _ (faults rose));
   inputs_stay = stay;
@@ -141,19 +141,19 @@ outcome-text single words before after (Err r) view e h counts faults stay untol
 
 -- a run that is refused
 pub outcome-told : {X : Type 0} → AnswersAreSingle → (words : List (List ℕ)) (before after : Seen) (answered : Result X Refusal) (view : X → List ℕ) (r told : Refusal) (status : ℕ) → Some r ≡ result_err answered
-    → IsRunOf (command_from words) (but_for_err before) (but_for_err after) (map_ok answered view) → CountsTell before.inputs after.inputs (result_err answered)
+    → IsRunOf (command_from words) (but_for_err before) (but_for_err after) (map_ok answered view) → CountsDetermine before.inputs after.inputs (result_err answered)
     → (before.out.faults < after.out.faults → result_err answered ≡ Some refusal.WriteFault)
-    → ((name : InputName) → after.inputs.held name ≡ before.inputs.held name) → IsToldAs r told → status ≡ status_of told → Tells before.err after.err (Some told)
+    → ((name : InputName) → after.inputs.held name ≡ before.inputs.held name) → IsToldAs r told → status ≡ status_of told → IsTold before.err after.err (Some told)
     → IsOutcome words before after status (Err told)
-outcome-told single words before after (Ok x) view r told status e h counts faults stay is status_is tells = absurd (none_some r (sym e))
-outcome-told single words before after (Err q) view r told status e h counts faults stay is status_is tells =
+outcome-told single words before after (Ok x) view r told status e h counts faults stay is status_is err_is = absurd (none_some r (sym e))
+outcome-told single words before after (Err q) view r told status e h counts faults stay is status_is err_is =
     (let same : IsToldAs q told = subst (λ x. IsToldAs x told) (some_same r q e) is in
     let run : IsRunOf (command_from words) (but_for_err before) (but_for_err after) (Err told) = told-run (command_from words) (but_for_err before) (but_for_err after) q told same h in
     record {
       status_is = status_is;
       is_run = run;
       is_exact = run-exact single words (but_for_err before) (but_for_err after) (Err told) run;
-      tells = tells;
+      err_is = err_is;
       input_faults = status-input_faults before.inputs after.inputs q told status same status_is counts;
       output_faults = λ rose. status-output_faults q told status same status_is (faults rose);
       inputs_stay = stay;

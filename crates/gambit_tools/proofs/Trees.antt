@@ -4,13 +4,13 @@ use lib.Pointwise.{pointwise}
 use Rattle.std.proofs.lemmas.Bool.Decides.{Decides-eqb}
 use Rattle.std.proofs.lemmas.Slice.Eq.{slice_eq-Decides}
 use Rattle.game_core.specs.TokenList.{TokenList, bare}
-use Rattle.game_core.specs.InPlace.{AreInPlace}
+use Rattle.game_core.specs.Spacing.{AreSpaced}
 use Rattle.game_core.specs.declared.token.Spanned.{Spanned}
 use Rattle.game_core.specs.declared.token.Token.{Token}
 use Rattle.game_core.specs.declared.token.Token.TheVariants.{Word}
 use Rattle.gambit_tools.specs.Games.{BeginsAsTree}
 
--- a comparison of a word's bytes tells whether the word is the token
+-- a comparison of a word's bytes err_is whether the word is the token
 pub word_is : (token : Token) (word bytes name : List ℕ) (b : Bool) → token ≡ Word word → bytes ≡ word → b ≡ pointwise eqb bytes name → (IsTrue b → token ≡ Word name) × (token ≡ Word name → IsTrue b)
 word_is token word bytes name b t w e =
     let d = slice_eq-Decides Decides-eqb bytes name b e in
@@ -29,6 +29,6 @@ begins_by_first tokens s rest b e is =
     heads x y xs ys e = cc
 
 -- tokens in place are no more than the bytes among which they lie
-pub are_few : (from to : ℕ) (tokens : List Spanned) → AreInPlace from to tokens → from + length tokens ≤ to
+pub are_few : (from to : ℕ) (tokens : List Spanned) → AreSpaced from to tokens → from + length tokens ≤ to
 are_few from to [] h = omega arith
 are_few from to (s ∷ tokens) h = omega (arith, h.0, h.1, are_few s.end to tokens h.3)

@@ -60,6 +60,6 @@ IsReadingRefusal left before after refusal.TooLong =
 IsReadingRefusal left before after r = IsPieceRefusal before after r
 
 -- a count rose only with its own refusal
-pub record CountsTell (before after : InputsSeen) (refused : Option Refusal) : Type 0 where
+pub record CountsDetermine (before after : InputsSeen) (refused : Option Refusal) : Type 0 where
   pub opening : before.open_faults < after.open_faults → refused ≡ Some refusal.OpenFault
   pub reading : before.read_faults < after.read_faults → refused ≡ Some refusal.ReadFault

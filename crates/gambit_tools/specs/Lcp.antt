@@ -10,7 +10,7 @@ use Rattle.sequence_forms.specs.Sides.{sequences}
 use Rattle.sequence_data.specs.Data.{FormData, side_of}
 use Rattle.sequence_form.specs.Counts.{problem_rows}
 use Rattle.zero_sum_lp.specs.PlanPairs.{PlanPair}
-use Rattle.lemke_pivot.specs.Ends.{IsSolutionOf, IsUnfitStep}
+use Rattle.lemke_pivot.specs.Ends.{IsSolutionOf, IsUnfitPivot}
 use Rattle.lemke_pivot.specs.FormProblems.{problem_in}
 use Rattle.lemke_pivot.specs.Parts.{Problem, plan_one, plan_two}
 use Rattle.gambit_tools.specs.Entries.{entries_in}
@@ -25,7 +25,7 @@ pub record IsPathRefusal (p : Problem) (r : Refusal) : Type 0 where
   pub step : ℕ
   pub entering : ℕ
   pub unfit : Unfit
-  pub is_unfit : IsUnfitStep p step entering unfit
+  pub is_unfit : IsUnfitPivot p step entering unfit
   pub is : r ≡ refusal.Range (site.Step step entering) unfit
 
 -- the solution at the end of a problem's path, or the first step of the path that does not fit

@@ -16,7 +16,7 @@ use Rattle.zero_sum_lp.specs.FormPrograms.{program_in}
 use Rattle.zero_sum_lp.specs.Parts.{Program, IsOptimumOf, first_prices, second_prices}
 use Rattle.zero_sum_lp.specs.PlanPairs.{PlanPair}
 use Rattle.zero_sum_lp.specs.PlanStops.{plans_of}
-use Rattle.zero_sum_lp.specs.Steps.{IsUnfitStep}
+use Rattle.zero_sum_lp.specs.Steps.{IsUnfitPivot}
 use Rattle.gambit_tools.specs.Entries.{entries_in}
 use Rattle.refusals.specs.Told.{program_refusal, plan_refusal}
 use Rattle.gambit_tools.specs.TwoPlayers.{two_players, form_in}
@@ -26,17 +26,17 @@ use Rattle.refusals.specs.declared.refusal.Site.TheVariants as site
 
 -- ---- the path
 -- the step of a path that does not fit
-pub record IsStepRefusal (p : Program) (r : Refusal) : Type 0 where
+pub record IsPathRefusal (p : Program) (r : Refusal) : Type 0 where
   pub step : ℕ
   pub entering : ℕ
   pub unfit : Unfit
-  pub is_unfit : IsUnfitStep p.tableau step entering unfit
+  pub is_unfit : IsUnfitPivot p.tableau step entering unfit
   pub is : r ≡ refusal.Range (site.Step step entering) unfit
 
 -- the optimum of a program, or the first step of its path that does not fit
 abbrev pub optimum_of : Program → Answer Refusal Program
 optimum_of p (Ok o) = IsOptimumOf p o
-optimum_of p (Err r) = IsStepRefusal p r
+optimum_of p (Err r) = IsPathRefusal p r
 
 -- ---- the solution
 -- the weights of both players' sequences, their prices, of which the first is that of the whole game

@@ -3,7 +3,7 @@
 use Rattle.std.specs.Prelude.{ℕ, List, ◌++◌, length, codes}
 use Rattle.std.specs.Fmt.{decimal}
 use Rattle.answers.specs.Answers.{Answer, only, ◌>>=◌, refused_by}
-use Rattle.made_tables.specs.MadeTables.{made_game}
+use Rattle.game_core.specs.MadeTables.{made_game}
 use Rattle.enummixed.specs.ExtremeText.{VertexPairs, extreme_pairs}
 use Rattle.refusals.specs.Told.{mixed_refusal}
 use Rattle.refusals.specs.declared.refusal.Refusal.{Refusal}

@@ -1,4 +1,4 @@
--- What a run does: what it answers and why, what it reads and writes, and what it tells on standard error.
+-- What a run does: what it answers and why, what it reads and writes, and what it err_is on standard error.
 use Rattle.std.specs.Prelude.{ℕ, ◌+◌, ◌<◌, ◌≤◌, ◌≡◌, ◌⊎◌, true, List, [], ◌∷◌, length, take, Contains, Option, None, Some, Ok, Err, Result}
 use Rattle.std.specs.Result.{result_err}
 use Rattle.outside.specs.Counts.{Rose}
@@ -7,7 +7,7 @@ use Rattle.outside.specs.Sink.{SinkSeen, Takes}
 use Rattle.words.specs.Words.{Command, command_from}
 use Rattle.words.specs.declared.Usage.{Usage}
 use Rattle.gambit_tools.specs.Seen.{Outside, Seen, but_for_err}
-use Rattle.gambit_tools.specs.Input.{AreBytesOf, IsOpenFault, IsReadFault, IsReadToEnd, IsReadTooFar, CountsTell}
+use Rattle.gambit_tools.specs.Input.{AreBytesOf, IsOpenFault, IsReadFault, IsReadToEnd, IsReadTooFar, CountsDetermine}
 use Rattle.gambit_tools.specs.Commands.{inputs_of, answer_of}
 use Rattle.gambit_tools.specs.Origins.{Origin, Words, Outside as OfOutside, Length, Contents, Memory, Fault, Opening, Reading, Writing, origin}
 use Rattle.refusals.specs.Refusals.{run_status, refusal_line}
@@ -59,7 +59,7 @@ HasRead names before after (Ok text) = AreRead names before after
 HasRead names before after (Err r) = HasReadBefore names before after (origin r)
 
 -- ---- what is answered
--- a fault of an input with one of these names, of which its count tells
+-- a fault of an input with one of these names, of which its count err_is
 abbrev pub IsFault : List InputName → InputsSeen → InputsSeen → Fault → Type 0
 IsFault names before after Opening = (name : InputName) × Contains names name × IsOpenFault name before after
 IsFault names before after Reading = (name : InputName) × Contains names name × IsReadFault name before after
@@ -88,21 +88,21 @@ pub record IsComputed (command : Command) (before after : InputsSeen) (answer : 
   pub has_read : HasRead (inputs_of command) before after answer
   pub selects_few : SelectsFew (inputs_of command) before after
   -- a count rose only with its own refusal, and no input is changed
-  pub counts : CountsTell before after (result_err answer)
+  pub counts : CountsDetermine before after (result_err answer)
   pub inputs_stay : (name : InputName) → after.held name ≡ before.held name
 
 -- ---- what is written
 -- why a run with this command does not end well: its text is not computed, and nothing is written, or not written, and a front of it is
-abbrev pub IsStoppedIn : Command → Outside → Outside → Refusal → Origin → Type 0
-IsStoppedIn command before after r (OfOutside Writing) =
+abbrev pub IsRunStop : Command → Outside → Outside → Refusal → Origin → Type 0
+IsRunStop command before after r (OfOutside Writing) =
     Rose before.out.faults after.out.faults × (text : List ℕ) × HasAnswer command before.inputs (Ok text)
     × (count : ℕ) × Takes before.out.taken after.out.taken (take count text)
-IsStoppedIn command before after r o = IsRefusedIn command before.inputs after.inputs r o × (after.out.taken ≡ before.out.taken)
+IsRunStop command before after r o = IsRefusedIn command before.inputs after.inputs r o × (after.out.taken ≡ before.out.taken)
 
 -- what a run with this command writes, and why: the whole text, which is flushed, or what it has written before a refusal
 abbrev pub Ends : Command → Outside → Outside → RunAnswer → Type 0
 Ends command before after (Ok text) = HasAnswer command before.inputs (Ok text) × Takes before.out.taken after.out.taken text × (after.out.flushed ≡ true)
-Ends command before after (Err r) = IsStoppedIn command before after r (origin r)
+Ends command before after (Err r) = IsRunStop command before after r (origin r)
 
 -- a run with this command
 pub record IsCommandRun (command : Command) (before after : Outside) (answer : RunAnswer) : Type 0 where
@@ -128,9 +128,9 @@ TakesLine before after line =
     (count : ℕ) × Takes before.taken after.taken (take count line) × ((length line ≤ count) ⊎ Rose before.faults after.faults)
 
 -- what standard error took: nothing where nothing is refused, else the line of the refusal
-abbrev pub Tells : SinkSeen → SinkSeen → Option Refusal → Type 0
-Tells before after None = after.taken ≡ before.taken
-Tells before after (Some r) = TakesLine before after (refusal_line r)
+abbrev pub IsTold : SinkSeen → SinkSeen → Option Refusal → Type 0
+IsTold before after None = after.taken ≡ before.taken
+IsTold before after (Some r) = TakesLine before after (refusal_line r)
 
 -- ---- runs
 -- no count of faults rose
@@ -160,7 +160,7 @@ pub record IsOutcome (words : List (List ℕ)) (before after : Seen) (status : �
   pub status_is : status ≡ run_status (result_err answer)
   pub is_run : IsRunOf (command_from words) (but_for_err before) (but_for_err after) answer
   pub is_exact : IsExact words (but_for_err before) (but_for_err after) answer
-  pub tells : Tells before.err after.err (result_err answer)
+  pub err_is : IsTold before.err after.err (result_err answer)
   -- a fault that was counted is told by the status
   pub input_faults : (before.inputs.open_faults < after.inputs.open_faults) ⊎ (before.inputs.read_faults < after.inputs.read_faults) → (status ≡ 3) ⊎ (status ≡ 5)
   pub output_faults : before.out.faults < after.out.faults → status ≡ 4

@@ -3,7 +3,7 @@ ghost use Rattle.std.specs.Prelude.{◌≡◌, ◌+◌, ◌<◌, ◌≤◌, Opti
 ghost use Rattle.std.specs.Result.{result_err};
 ghost use Rattle.std.specs.Io.KnownBytes.{Consumes, IsAtEnd};
 ghost use Rattle.outside.specs.Inputs.{InputName};
-ghost use Rattle.gambit_tools.specs.Input.{most_bytes, AreBytesOf, IsInputRefusal, IsPieceRefusal, IsReadingRefusal, IsReadToEnd, CountsTell};
+ghost use Rattle.gambit_tools.specs.Input.{most_bytes, AreBytesOf, IsInputRefusal, IsPieceRefusal, IsReadingRefusal, IsReadToEnd, CountsDetermine};
 
 use outside::Inputs;
 use refusals::Refusal;
@@ -101,7 +101,7 @@ pub fn read_input<I: Inputs>(
     ensures refused { IfErr result (IsInputRefusal (option_map string_bytes name)
         (I.seen inputs.old)
         (I.seen inputs.new)) }
-    ensures counts { CountsTell (I.seen inputs.old) (I.seen inputs.new) (result_err result) }
+    ensures counts { CountsDetermine (I.seen inputs.old) (I.seen inputs.new) (result_err result) }
     ensures open_faults { OnOk result
         ((I.seen inputs.new).open_faults ≡ (I.seen inputs.old).open_faults) }
     ensures read_faults { OnOk result

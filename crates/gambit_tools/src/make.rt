@@ -7,7 +7,7 @@ ghost use Rattle.gambit_tools.specs.Make.{count_lines, counts_text, make};
 
 use answers::Memory;
 use enummixed::{ExtremePairs, extreme_pairs};
-use made_tables::make_table;
+use game_core::make_table;
 use outside::Gate;
 use refusals::Refusal;
 use std::alloc::Global;

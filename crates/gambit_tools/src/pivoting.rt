@@ -10,7 +10,7 @@ ghost use Rattle.gambit_tools.specs.PlanWeights.{plans_of};
 
 use frac128::{Frac, Memory};
 use lemke_pivot::{Lcp, LemkeEnd, Solution, problem};
-use lex_tableau::Steps;
+use lex_tableau::PivotCount;
 use refusals::{Refusal, Site};
 use sequence_form::SeqForm;
 use std::alloc::Global;
@@ -29,8 +29,8 @@ fn follow<L: Ledger>(lcp: Lcp, blank: Blank) -> Result<Solution, Refusal>
     requires { (L.parts ≡ blank.parts) × (L.name ≡ blank.name) × (0 < blank.parts) }
     ensures { end_of lcp result }
 {
-    let mut steps = Steps::<L>::new(blank);
-    match lcp.solve(&mut steps) {
+    let mut pivots = PivotCount::<L>::new(blank);
+    match lcp.solve(&mut pivots) {
         LemkeEnd::Solved(solution) => Ok(solution),
         LemkeEnd::Range {
             step,

@@ -4,7 +4,7 @@ ghost use Rattle.answers.specs.Answers.{Gives, map_ok};
 ghost use Rattle.gambit_tools.specs.Lp.{optimum_of, solution_in};
 ghost use Rattle.gambit_tools.specs.Solved.{HasSizesOf, solution_of};
 
-use lex_tableau::Steps;
+use lex_tableau::PivotCount;
 use refusals::{Refusal, Site};
 use sequence_form::SeqForm;
 use std::alloc::Global;
@@ -24,8 +24,8 @@ fn follow<L: Ledger>(lp: Lp, blank: Blank) -> Result<Optimum, Refusal>
     requires { (L.parts ≡ blank.parts) × (L.name ≡ blank.name) × (0 < blank.parts) }
     ensures { optimum_of lp result }
 {
-    let mut steps = Steps::<L>::new(blank);
-    match lp.solve(&mut steps) {
+    let mut pivots = PivotCount::<L>::new(blank);
+    match lp.solve(&mut pivots) {
         LpEnd::Optimal(optimum) => Ok(optimum),
         LpEnd::Range {
             step,

@@ -5,10 +5,10 @@ ghost use Rattle.answers.specs.Answers.{map_ok, IsSingle};
 ghost use Rattle.outside.specs.Inputs.{InputName};
 ghost use Rattle.words.specs.Words.{Command, command_of, command_from, IsWithinRanges};
 ghost use Rattle.gambit_tools.specs.Seen.{outside, seen};
-ghost use Rattle.gambit_tools.specs.Input.{CountsTell};
+ghost use Rattle.gambit_tools.specs.Input.{CountsDetermine};
 ghost use Rattle.refusals.specs.Refusals.{status_of, IsToldAs, NamesNumbers};
 ghost use Rattle.gambit_tools.specs.Commands.{answer_of};
-ghost use Rattle.gambit_tools.specs.Outcome.{RunAnswer, Tells, TakesLine, IsComputed, IsRunOf, IsOutcome, IsComplete};
+ghost use Rattle.gambit_tools.specs.Outcome.{RunAnswer, IsTold, TakesLine, IsComputed, IsRunOf, IsOutcome, IsComplete};
 ghost use Rattle.refusals.specs.declared.refusal.Refusal.{Refusal};
 
 use crate::check::check;
@@ -90,7 +90,7 @@ fn answer<R: Threads + Sync, I: Inputs, K: Sink, G: Gate>(
         (outside (I.seen inputs.old) (K.seen out.old))
         (outside (I.seen inputs.new) (K.seen out.new))
         (map_ok result (λ text. text.items)) }
-    ensures counts { CountsTell
+    ensures counts { CountsDetermine
         (I.seen inputs.old)
         (I.seen inputs.new) (result_err result) }
     ensures output_faults { (K.seen out.old).faults < (K.seen out.new).faults → result_err result ≡ Some Refusal.WriteFault }
@@ -119,7 +119,7 @@ fn write_line<E: Sink>(err: &mut E, line: &str)
 fn refuse_with_numbers<E: Sink>(alloc: Global, err: &mut E, refusal: Refusal) -> u8
     requires { NamesNumbers refusal }
     ensures { (told : Refusal) × IsToldAs refusal told × (result ≡ status_of told)
-        × Tells (E.seen err.old) (E.seen err.new) (Some told) }
+        × IsTold (E.seen err.old) (E.seen err.new) (Some told) }
 {
     match refusal.line(alloc) {
         Ok(line) => {
@@ -137,7 +137,7 @@ fn refuse_with_numbers<E: Sink>(alloc: Global, err: &mut E, refusal: Refusal) ->
 /// form it, want of memory is told in its place. A fault of the sink ends the writing and changes no status.
 pub fn refuse<E: Sink>(alloc: Global, err: &mut E, refusal: Refusal) -> u8
     ensures { (told : Refusal) × IsToldAs refusal told × (result ≡ status_of told)
-        × Tells (E.seen err.old) (E.seen err.new) (Some told) }
+        × IsTold (E.seen err.old) (E.seen err.new) (Some told) }
 {
     match refusal.fixed_line() {
         Some(line) => {

@@ -1,7 +1,9 @@
-pub mod FirstUse
 mod Numbers
 mod PlayersSets
 mod PrefixOrder
+mod TreeLaws
+pub mod Drawing
+pub mod FirstUse
+pub mod Games
 pub mod SetNumbers
 pub mod TableCounts
-mod TreeLaws

@@ -7,11 +7,11 @@ use Rattle.lists.proofs.Elements.{element}
 use Rattle.rational.specs.Rational.{◌≤ℚ◌, zero_ℚ, one_ℚ}
 use Rattle.rational.specs.Sum.{sum_to}
 use Rattle.game_theory.specs.FirstNodes.{AreNumberedByFirstNodes}
-use Rattle.game_theory.specs.Trees.{IsTree as is_game_tree, IsChild, IsLottery}
+use Rattle.game_theory.specs.Trees.{IsTree as is_game_tree, IsChild, IsChanceDistribution}
 use Rattle.game_core.specs.declared.tree.Action.{Action}
 use Rattle.game_core.specs.Tree.{GameTree, IsTree, InformationSet, IsWithin, AreChances, ProbabilitiesFit, SetFits, action_count, probability_at}
 use Rattle.game_core.specs.TreeGame.{game_of_tree, or_zero}
-use Rattle.game_core.proofs.PrefixOrder.{child_at, hangs_at, place_at, root, same_node, within}
+use Rattle.game_core.proofs.PrefixOrder.{child_at, hangs_at, branch_at, root, same_node, within}
 
 -- a part of the element at a place
 part_of : {X Y : Type 0} (f : X → Y) (xs : List X) (k : ℕ) (x : X) (d : Y) → slice_get xs k ≡ Some x → get_or (map f xs) k d ≡ f x
@@ -37,14 +37,14 @@ set_fits : (t : GameTree) → IsTree t → (s : ℕ) → s < length t.sets → (
 set_fits t valid s below = let found = element t.sets s below in (found.0, found.1, valid.sets_fit s found.0 found.1)
 
 -- a child hangs at its parent's action
-child_place : (t : GameTree) → IsTree t → (k a c : ℕ) → IsChild (game_of_tree t) k a c → place_at t.nodes c ≡ (Some k, a)
+child_place : (t : GameTree) → IsTree t → (k a c : ℕ) → IsChild (game_of_tree t) k a c → branch_at t.nodes c ≡ (Some k, a)
 child_place t valid k a c h =
     let at_node = (hangs_at t.sets t.nodes valid.in_prefix_order c h.0 h.1).2 in
     let parent = ap Some (sym (ap or_zero at_node) ∙ h.2) in
     rw (at_node ∙ parent, h.3) refl
 
 -- the probabilities of chance at a set
-lottery : (t : GameTree) → IsTree t → (s : ℕ) → s < length t.sets → (game_of_tree t).owner s ≡ None → IsLottery (game_of_tree t) s
+lottery : (t : GameTree) → IsTree t → (s : ℕ) → s < length t.sets → (game_of_tree t).owner s ≡ None → IsChanceDistribution (game_of_tree t) s
 lottery t valid s below chance =
     let set = set_fits t valid s below in
     let fits = chances _ _ set.2.probabilities (sym (part_of (λ set. set.owner) t.sets s set.0 None set.1) ∙ chance) in
@@ -69,7 +69,7 @@ game_tree t valid =
       led_to = λ c later inside. let place = hangs_at t.sets t.nodes order c later inside in rw place.2 (some_set t.sets _ _ place.3);
       some_child = λ k s a inside is action. let c = child_at t.sets t.nodes order k a inside (rw is action) in (c.0, (omega arith, c.2, ap (λ p. or_zero p.0) c.3, ap (λ p. p.1) c.3));
       one_child = λ k a c d first second. same_node t.sets t.nodes order c d first.1 second.1 (child_place t valid k a c first ∙ sym (child_place t valid k a d second));
-      lotteries = lottery t valid;
+      chance_distributions = lottery t valid;
     }
 
 -- and its sets are numbered by their first nodes

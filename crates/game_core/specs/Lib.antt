@@ -1,4 +1,6 @@
-pub mod InPlace
+pub mod Spacing
+pub mod MadeTableLaws
+pub mod MadeTables
 pub mod OwnSets
 pub mod Table
 pub mod TextLimit

@@ -12,7 +12,7 @@ pub record TokenList : Type 0 where
   pub list : List Spanned
   pub length : ℕ
 
--- the tokens without their places
+-- the tokens without their offsets
 abbrev pub bare : TokenList → List Token
 bare tokens = map (λ s. s.token) tokens.list
 

@@ -43,21 +43,21 @@ action_count sets None = 0
 action_count sets (Some s) = slice_index_or (map (λ set. length set.actions) sets) s 0
 
 -- where a node hangs: the node and the action that lead to it; nothing and 0 for the root
-abbrev pub Place : Type 0
-Place = Option ℕ × ℕ
+abbrev pub OpenBranch : Type 0
+OpenBranch = Option ℕ × ℕ
 
--- the places of a node's actions, from action a on
-abbrev pub places_from : ℕ → ℕ → ℕ → List Place
-places_from node a zero = []
-places_from node a (suc n) = (Some node, a) ∷ places_from node (suc a) n
+-- the branches of a node's actions, from action a on
+abbrev pub branches_from : ℕ → ℕ → ℕ → List OpenBranch
+branches_from node a zero = []
+branches_from node a (suc n) = (Some node, a) ∷ branches_from node (suc a) n
 
--- Nodes in prefix order, numbered from k on: each hangs at the first place that is free, and the places of its own actions come
--- before the others. The rest stays free behind the last node.
-abbrev pub AreInPrefixOrder : List InformationSet → ℕ → List Node → List Place → List Place → Type 0
+-- Nodes in prefix order, numbered from k on: each hangs at the first open branch, and the branches of its own actions come
+-- before the others. The rest stays open after the last node.
+abbrev pub AreInPrefixOrder : List InformationSet → ℕ → List Node → List OpenBranch → List OpenBranch → Type 0
 AreInPrefixOrder sets k [] free rest = free ≡ rest
 AreInPrefixOrder sets k (node ∷ nodes) [] rest = ⊥
-AreInPrefixOrder sets k (node ∷ nodes) (place ∷ free) rest =
-    ((node.parent, node.branch) ≡ place) × AreInPrefixOrder sets (suc k) nodes (places_from k 0 (action_count sets node.set) ++ free) rest
+AreInPrefixOrder sets k (node ∷ nodes) (branch ∷ free) rest =
+    ((node.parent, node.branch) ≡ branch) × AreInPrefixOrder sets (suc k) nodes (branches_from k 0 (action_count sets node.set) ++ free) rest
 
 -- node k lies d edges below the root
 abbrev pub LiesBelowRoot : List Node → ℕ → ℕ → Type 0
@@ -121,7 +121,7 @@ pub record SetFits (t : GameTree) (s : ℕ) (set : InformationSet) : Type 0 wher
 abbrev pub AreInOrderOfFirstUse : List (Option ℕ) → Type 0
 AreInOrderOfFirstUse names = (k s r : ℕ) → slice_get names k ≡ Some (Some s) → r < s → (l : ℕ) × (l < k) × (slice_get names l ≡ Some (Some r))
 
--- A game tree within the limits: its nodes stand in prefix order and leave no place free, and its sets and outcomes in the order in
+-- A game tree within the limits: its nodes stand in prefix order and leave no branch open, and its sets and outcomes in the order in
 -- which the nodes first name them.
 pub record IsTree (t : GameTree) : Type 0 where
   pub in_prefix_order : AreInPrefixOrder t.sets 0 t.nodes ((None, 0) ∷ []) []

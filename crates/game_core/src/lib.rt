@@ -1,13 +1,18 @@
-//! Games as the readers hand them on: names, tables, trees and the limits on their sizes; the tokens
-//! of game files with their places, whatever the text that they were read from; and what lies
-//! outside of a run.
+//! Games as the readers hand them on: names, tables, trees and the limits on their sizes; the
+//! tokens of their files with their offsets; and tables whose payoffs are drawn from a seed.
 //!
-//! `tree_parts` has the parts of a tree's nodes and sets as the game has them that it stands for.
-//! `Tokens` are the tokens of one source in order: no span passes the source's end, and numbers are
-//! short.
+//! Callers may rely on: a `Table` and a `Tree` keep their invariants; `trees_are_game_trees`;
+//! `tree_parts` has the parts of its game; `made_games_pay_draws`, of `make_table`.
+//! Definitions: `specs::Table` and `TreeGame` say what a table and a tree stand for (`game_of`,
+//! `game_of_tree`), `Tree` what makes one, `Spacing` what tokens keep.
+//! Private words: `specs::OwnSets` and `TreeCodes`, how a tree keeps its parts.
+//! Lemmas for callers: `proofs::TableCounts` on counts of strategies, `SetNumbers`.
+//! A change here touches: all contracts that name a game, from the readers to `run`.
 #![tactic(auto)]
 
+mod draws;
 mod game;
+mod made_table;
 mod name;
 mod profiles;
 mod table;
@@ -18,6 +23,7 @@ mod tree;
 pub mod tree_parts;
 
 pub use game::Game;
+pub use made_table::{made_games_pay_draws, make_table};
 pub use name::{Name, copied};
 pub use outside::{
     Gate, Inputs, MemInputs, MemSink, OpenFailed, OpenGate, ReadFailed, RealInputs, RealSink, Sink,

@@ -1,4 +1,4 @@
-// Tokens and their places.
+// Tokens and their offsets.
 use crate::Name;
 use frac128::Frac;
 use std::marker::Model;
@@ -20,14 +20,14 @@ pub enum Token {
     Number(Frac),
 }
 
-/// A token with its span in the source: the byte offsets, from 0, of its first byte and of the byte behind it.
+/// A token with its span in the source: the byte offsets, from 0, of its first byte and of the byte after it.
 #[derive(Debug, Drop)]
 pub struct Spanned {
     /// The token.
     pub token: Token,
     /// The offset of its first byte.
     pub start: usize,
-    /// The offset of the byte behind it.
+    /// The offset of the byte after it.
     pub end: usize,
 }
 
@@ -46,20 +46,20 @@ impl Model for Tokens {
 
     ghost coded = { code_of_tokens };
 
-    ghost use Rattle.game_core.specs.InPlace.{AreInPlace};
+    ghost use Rattle.game_core.specs.Spacing.{AreSpaced};
 
     ghost view = { λ t. record { list = t.list.items; length = t.source_length } };
 
-    ghost invariant = { λ t. AreInPlace 0 t.source_length t.list.items };
+    ghost invariant = { λ t. AreSpaced 0 t.source_length t.list.items };
 }
 
 impl Tokens {
     ghost use Rattle.std.specs.Prelude.{◌≡◌};
-    ghost use Rattle.game_core.specs.InPlace.{AreInPlace};
+    ghost use Rattle.game_core.specs.Spacing.{AreSpaced};
 
     /// These tokens of a source of this length. Takes no memory.
     pub fn new(list: Vec<Spanned>, source_length: usize) -> Tokens
-        requires { AreInPlace 0 source_length list.items }
+        requires { AreSpaced 0 source_length list.items }
         ensures { result ≡ record { list = list.items; length = source_length } }
     {
         Tokens {
@@ -71,7 +71,7 @@ impl Tokens {
     /// The tokens in order.
     pub fn list(&self) -> &[Spanned]
         ensures list { result.now ≡ self.now.list }
-        ensures in_place { AreInPlace 0 self.now.length self.now.list }
+        ensures are_spaced { AreSpaced 0 self.now.length self.now.list }
     {
         self.list.as_slice()
     }

@@ -1,4 +1,4 @@
--- Digits, the numbers that they stand for, and the zeros before and behind them.
+-- Digits, the numbers that they stand for, and the zeros before and after them.
 use Rattle.std.proofs.Common.{◌≡◌, ℕ, suc, ◌+◌, ◌*◌, ◌-◌, ◌<◌, ◌≤◌, ◌^◌, Bool, true, false, cond, ◌&&◌, ◌==◌, List, [], ◌∷◌, ◌++◌, length, reverse, take, drop, refl, sym, ap, ◌∙◌, subst, mul_comm, lit<, arith, rules, Option, Some, None, MatchOption}
 use Rattle.std.proofs.Math.Nat.{pow-suc, pow-le-pow_right}
 use Rattle.std.proofs.lemmas.Bool.{and_parts, and_from}
@@ -10,8 +10,8 @@ use Rattle.std.proofs.lemmas.Str.Parse.{IsNumeralModel, numerals_by_fold, digits
 use Rattle.std.specs.Char.{IsAsciiDigit, is_ascii_digit}
 use Rattle.std.specs.List.{All, AllByRecursion, list_all}
 use Rattle.game_text.specs.Digits.{digits_value, without_leading_zeros, without_trailing_zeros}
-use Rattle.game_text.specs.NumberReading.{GivesSize, digits_after, is_zero, leading, behind}
-use Rattle.game_text.proofs.Prefixes.{Stops, leading-behind, leading-passes, behind-stops}
+use Rattle.game_text.specs.NumberReading.{GivesSize, digits_after, is_zero, leading, following}
+use Rattle.game_text.proofs.Prefixes.{Stops, leading-following, leading-passes, following-stops}
 
 -- ---- tests of digits
 -- a digit passes the test
@@ -83,11 +83,11 @@ digits_front n i digits =
     let e : digits_after n digits ≡ digits_after (digits_after n (take i digits)) (drop i digits) = ap (digits_after n) (sym (take-append-drop i digits)) ∙ digits_parts n (take i digits) (drop i digits) in
     omega (arith, e, digits_grow (digits_after n (take i digits)) (drop i digits))
 
--- digits behind others make the number no smaller
+-- digits after others make the number no smaller
 pub before_grows : (xs ys : List ℕ) → digits_value xs ≤ digits_value (xs ++ ys)
 before_grows xs ys = omega (arith, digits_parts 0 xs ys, digits_grow (digits_value xs) ys)
 
--- a number with digits behind it is at least itself times a power of ten
+-- a number with digits after it is at least itself times a power of ten
 digits_above : (n : ℕ) (digits : List ℕ) → n * 10 ^ length digits ≤ digits_after n digits
 digits_above n [] = omega arith
 digits_above n (d ∷ digits) =
@@ -96,18 +96,18 @@ digits_above n (d ∷ digits) =
     rw e (omega (arith, ih))
 
 -- ---- zeros
--- zeros behind a number multiply it
-pub zeros_behind : (n : ℕ) (zeros : List ℕ) → AllByRecursion (λ b. is_zero b ≡ true) zeros → digits_after n zeros ≡ n * 10 ^ length zeros
-zeros_behind n [] h = omega arith
-zeros_behind n (z ∷ zeros) h =
+-- zeros after a number multiply it
+pub zeros_after : (n : ℕ) (zeros : List ℕ) → AllByRecursion (λ b. is_zero b ≡ true) zeros → digits_after n zeros ≡ n * 10 ^ length zeros
+zeros_after n [] h = omega arith
+zeros_after n (z ∷ zeros) h =
     let z-is : z ≡ 48 = (Decides-eqb z 48).0 h.0 in
     let first : 10 * n + (z - 48) ≡ 10 * n = omega arith in
     let e : 10 ^ suc (length zeros) ≡ 10 ^ length zeros * 10 = pow-suc 10 (length zeros) in
-    ap (λ m. digits_after m zeros) first ∙ zeros_behind (10 * n) zeros h.1 ∙ rw e (omega arith)
+    ap (λ m. digits_after m zeros) first ∙ zeros_after (10 * n) zeros h.1 ∙ rw e (omega arith)
 
 -- zeros alone stand for 0
 zeros_are_zero : (zeros : List ℕ) → AllByRecursion (λ b. is_zero b ≡ true) zeros → digits_value zeros ≡ 0
-zeros_are_zero zeros h = zeros_behind 0 zeros h ∙ omega arith
+zeros_are_zero zeros h = zeros_after 0 zeros h ∙ omega arith
 
 -- where the test passes, each byte is a zero
 all_zeros : (digits : List ℕ) → list_all is_zero digits ≡ true → AllByRecursion (λ b. is_zero b ≡ true) digits
@@ -136,24 +136,24 @@ others_value (d ∷ digits) all e =
     let by : (v : Bool) → E v = λ v. elim v as E [ true ↦ λ z f. subst (λ n. 0 < n) (sym (first_zero d digits z)) (others_value digits all.1 f) | false ↦ λ z f. first_counts d digits all.0 z ] in
     by (is_zero d) refl e
 
--- striking the leading zeros leaves what is behind them
-struck : (digits : List ℕ) → without_leading_zeros digits ≡ behind is_zero digits
+-- striking the leading zeros leaves what is after them
+struck : (digits : List ℕ) → without_leading_zeros digits ≡ following is_zero digits
 struck [] = refl
 struck (d ∷ digits) = ap (λ t. cond (d == 48) t (d ∷ digits)) (struck digits)
 
 -- striking leading zeros keeps the number
 struck-value : (digits : List ℕ) → digits_value digits ≡ digits_value (without_leading_zeros digits)
 struck-value digits =
-    ap digits_value (leading-behind is_zero digits) ∙ digits_parts 0 (leading is_zero digits) (behind is_zero digits) ∙ ap (λ n. digits_after n (behind is_zero digits)) (zeros_are_zero _ (leading-passes is_zero digits)) ∙ ap digits_value (sym (struck digits))
+    ap digits_value (leading-following is_zero digits) ∙ digits_parts 0 (leading is_zero digits) (following is_zero digits) ∙ ap (λ n. digits_after n (following is_zero digits)) (zeros_are_zero _ (leading-passes is_zero digits)) ∙ ap digits_value (sym (struck digits))
 
 -- what is left are digits
 struck-digits : (digits : List ℕ) → AllByRecursion IsAsciiDigit digits → AllByRecursion IsAsciiDigit (without_leading_zeros digits)
 struck-digits digits h =
-    subst (AllByRecursion IsAsciiDigit) (sym (struck digits)) (split_all IsAsciiDigit (leading is_zero digits) (behind is_zero digits) (subst (AllByRecursion IsAsciiDigit) (leading-behind is_zero digits) h)).1
+    subst (AllByRecursion IsAsciiDigit) (sym (struck digits)) (split_all IsAsciiDigit (leading is_zero digits) (following is_zero digits) (subst (AllByRecursion IsAsciiDigit) (leading-following is_zero digits) h)).1
 
 -- what is left begins with no zero
 struck-stops : (digits : List ℕ) → Stops is_zero (without_leading_zeros digits)
-struck-stops digits = subst (Stops is_zero) (sym (struck digits)) (behind-stops is_zero digits)
+struck-stops digits = subst (Stops is_zero) (sym (struck digits)) (following-stops is_zero digits)
 
 -- digits and their number are those of the standard library
 numerals : IsNumeralModel (AllByRecursion IsAsciiDigit) digits_value
@@ -185,10 +185,10 @@ pub record Struck (digits kept : List ℕ) : Type 0 where
   pub is : digits ≡ kept ++ zeros
 
 -- striking trailing zeros takes zeros away
-pub struck_behind : (digits : List ℕ) → Struck digits (without_trailing_zeros digits)
-struck_behind digits =
+pub struck_after : (digits : List ℕ) → Struck digits (without_trailing_zeros digits)
+struck_after digits =
     let r = reverse digits in
-    let split : r ≡ leading is_zero r ++ without_leading_zeros r = leading-behind is_zero r ∙ ap (λ t. leading is_zero r ++ t) (sym (struck r)) in
+    let split : r ≡ leading is_zero r ++ without_leading_zeros r = leading-following is_zero r ∙ ap (λ t. leading is_zero r ++ t) (sym (struck r)) in
     record {
       zeros = reverse (leading is_zero r);
       are_zeros = all_reversed _ _ (leading-passes is_zero r);

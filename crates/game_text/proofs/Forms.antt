@@ -11,9 +11,9 @@ use Rattle.lists.proofs.Options.{either}
 use Rattle.frac128.specs.Fraction.{with_sign}
 use Rattle.game_text.specs.Digits.{AreDigits, digits_value}
 use Rattle.game_text.specs.Numbers.{NumberForm, Fraction, Decimal, IsSign, IsMantissa, IsExponent, IsWritten}
-use Rattle.game_text.specs.NumberReading.{is_minus, behind_sign, leading, behind, is_zero, are_digits, power_of, with_power, decimal_of, fraction_of, form_with, form_of}
+use Rattle.game_text.specs.NumberReading.{is_minus, after_sign, leading, following, is_zero, are_digits, power_of, with_power, decimal_of, fraction_of, form_with, form_of}
 use Rattle.game_text.proofs.Digits.{passes_digits, digits_pass, each_passes, front_digits, zeros_value, others_value}
-use Rattle.game_text.proofs.Prefixes.{Stops, leading-behind, leading-is, behind-is}
+use Rattle.game_text.proofs.Prefixes.{Stops, leading-following, leading-is, following-is}
 
 -- no answer is no value
 none_some : {A B : Type 0} (x : A) → None ≡ Some x → B
@@ -37,7 +37,7 @@ Unsigned (b ∷ bytes) = ((b == 43) ≡ false) × ((b == 45) ≡ false)
 record Signed (text : List ℕ) : Type 0 where
   sign : List ℕ
   is_sign : IsSign sign (is_minus text)
-  is : text ≡ sign ++ behind_sign text
+  is : text ≡ sign ++ after_sign text
 
 -- a plus is a sign
 plus_found : (b : ℕ) (bytes : List ℕ) → b ≡ 43 → Signed (b ∷ bytes)
@@ -52,10 +52,10 @@ minus_found b bytes e =
 -- where neither comes first, there is no sign
 none_found : (b : ℕ) (bytes : List ℕ) → (b == 43) ≡ false → (b == 45) ≡ false → Signed (b ∷ bytes)
 none_found b bytes e f =
-    let rest : behind_sign (b ∷ bytes) ≡ b ∷ bytes = rw (e, f) refl in
+    let rest : after_sign (b ∷ bytes) ≡ b ∷ bytes = rw (e, f) refl in
     record { sign = []; is_sign = inl (refl, f); is = sym rest }
 
--- a text is its sign and what comes behind it
+-- a text is its sign and what comes after it
 sign_found : (text : List ℕ) → Signed text
 sign_found [] = record { sign = []; is_sign = inl (refl, refl); is = refl }
 sign_found (b ∷ bytes) = plus (b == 43) refl (minus (b == 45) refl)
@@ -69,19 +69,19 @@ sign_found (b ∷ bytes) = plus (b == 43) refl (minus (b == 45) refl)
     plus false e other = other e
 
 -- where there is no sign, nothing is split off
-unsigned_again : (rest : List ℕ) → Unsigned rest → (is_minus rest ≡ false) × (behind_sign rest ≡ rest)
+unsigned_again : (rest : List ℕ) → Unsigned rest → (is_minus rest ≡ false) × (after_sign rest ≡ rest)
 unsigned_again [] h = (refl, refl)
 unsigned_again (b ∷ bytes) h = (h.1, rw (h.0, h.1) refl)
 
 -- a sign is split off again
-sign_again : (sign rest : List ℕ) (negative : Bool) → IsSign sign negative → Unsigned rest → (is_minus (sign ++ rest) ≡ negative) × (behind_sign (sign ++ rest) ≡ rest)
+sign_again : (sign rest : List ℕ) (negative : Bool) → IsSign sign negative → Unsigned rest → (is_minus (sign ++ rest) ≡ negative) × (after_sign (sign ++ rest) ≡ rest)
 sign_again sign rest negative (inl h) u =
     let r = unsigned_again rest u in
-    (ap (λ t. is_minus (t ++ rest)) h.0 ∙ r.0 ∙ sym h.1, ap (λ t. behind_sign (t ++ rest)) h.0 ∙ r.1)
+    (ap (λ t. is_minus (t ++ rest)) h.0 ∙ r.0 ∙ sym h.1, ap (λ t. after_sign (t ++ rest)) h.0 ∙ r.1)
 sign_again sign rest negative (inr (inl h)) u =
-    (ap (λ t. is_minus (t ++ rest)) h.0 ∙ sym h.1, ap (λ t. behind_sign (t ++ rest)) h.0)
+    (ap (λ t. is_minus (t ++ rest)) h.0 ∙ sym h.1, ap (λ t. after_sign (t ++ rest)) h.0)
 sign_again sign rest negative (inr (inr h)) u =
-    (ap (λ t. is_minus (t ++ rest)) h.0 ∙ sym h.1, ap (λ t. behind_sign (t ++ rest)) h.0)
+    (ap (λ t. is_minus (t ++ rest)) h.0 ∙ sym h.1, ap (λ t. after_sign (t ++ rest)) h.0)
 
 -- a digit is no sign
 digit_unsigned : (b : ℕ) → IsAsciiDigit b → ((b == 43) ≡ false) × ((b == 45) ≡ false)
@@ -134,13 +134,13 @@ power_found [] power e =
     let p : (false, []) ≡ power = same_Some _ power e in
     subst (λ (x : Bool × List ℕ). IsExponent [] (with_sign x.0 (digits_value x.1)) × AllByRecursion IsAsciiDigit x.1) p (inl (refl, no_digits), tt)
 power_found (b ∷ bytes) power e =
-    let p = cond_some ((b == 101 || b == 69) && are_digits (behind_sign bytes)) (is_minus bytes, behind_sign bytes) power e in
-    let q = and_parts (b == 101 || b == 69) (are_digits (behind_sign bytes)) p.0 in
+    let p = cond_some ((b == 101 || b == 69) && are_digits (after_sign bytes)) (is_minus bytes, after_sign bytes) power e in
+    let q = and_parts (b == 101 || b == 69) (are_digits (after_sign bytes)) p.0 in
     let letter : (b ≡ 101) ⊎ (b ≡ 69) = elim (or_cases (b == 101) (b == 69) q.0) [ inl f ↦ inl (same_byte b 101 f) | inr f ↦ inr (same_byte b 69 f) ] in
     let s = sign_found bytes in
-    let d = digits_tested (behind_sign bytes) q.1 in
+    let d = digits_tested (after_sign bytes) q.1 in
     subst (λ (x : Bool × List ℕ). IsExponent (b ∷ bytes) (with_sign x.0 (digits_value x.1)) × AllByRecursion IsAsciiDigit x.1) p.1
-    (inr (b, letter, s.sign, behind_sign bytes, is_minus bytes, s.is_sign, d, ap (λ t. b ∷ t) s.is, refl), d.digits)
+    (inr (b, letter, s.sign, after_sign bytes, is_minus bytes, s.is_sign, d, ap (λ t. b ∷ t) s.is, refl), d.digits)
 
 -- so the digits of an exponent are digits
 pub power_digits : (text : List ℕ) (power : Bool × List ℕ) → power_of text ≡ Some power → All IsAsciiDigit power.1
@@ -163,7 +163,7 @@ unfolding power_of
 read_again letter sign digits negative l s d =
     let u : Unsigned digits = subst Unsigned (append-nil digits) (some_unsigned digits [] d) in
     let r = sign_again sign digits negative s u in
-    let t : are_digits (behind_sign (sign ++ digits)) ≡ true = ap are_digits r.1 ∙ digits_again digits d in
+    let t : are_digits (after_sign (sign ++ digits)) ≡ true = ap are_digits r.1 ∙ digits_again digits d in
     rw (letter_test letter l, t) (ap₂ (λ (v : Bool) (t : List ℕ). Some (v, t)) r.0 r.1)
 
 -- any exponent is read again
@@ -187,17 +187,17 @@ exponent_stops text exponent (inl h) = subst (Stops is_ascii_digit) (sym h.0) tt
 exponent_stops text exponent (inr h) = subst (Stops is_ascii_digit) (sym h.7) (letter_stops h.0 h.1)
 
 -- digits and the letter of an exponent are a decimal without a point
-letter_behind : (negative : Bool) (before bytes : List ℕ) (letter : ℕ) → (letter ≡ 101) ⊎ (letter ≡ 69) → form_with negative before (letter ∷ bytes) ≡ decimal_of negative before [] (letter ∷ bytes)
+letter_after : (negative : Bool) (before bytes : List ℕ) (letter : ℕ) → (letter ≡ 101) ⊎ (letter ≡ 69) → form_with negative before (letter ∷ bytes) ≡ decimal_of negative before [] (letter ∷ bytes)
 unfolding form_with
-letter_behind negative before bytes letter (inl e) = rw e refl
-letter_behind negative before bytes letter (inr e) = rw e refl
+letter_after negative before bytes letter (inl e) = rw e refl
+letter_after negative before bytes letter (inr e) = rw e refl
 
 -- digits and an exponent are a decimal without a point
-exponent_behind : (negative : Bool) (before text : List ℕ) (exponent : ℤ) → IsExponent text exponent → form_with negative before text ≡ decimal_of negative before [] text
+exponent_after : (negative : Bool) (before text : List ℕ) (exponent : ℤ) → IsExponent text exponent → form_with negative before text ≡ decimal_of negative before [] text
 unfolding form_with
-exponent_behind negative before text exponent (inl h) = rw h.0 refl
-exponent_behind negative before text exponent (inr h) =
-    ap (form_with negative before) h.7 ∙ letter_behind negative before (h.2 ++ h.3) h.0 h.1 ∙ ap (decimal_of negative before []) (sym h.7)
+exponent_after negative before text exponent (inl h) = rw h.0 refl
+exponent_after negative before text exponent (inr h) =
+    ap (form_with negative before) h.7 ∙ letter_after negative before (h.2 ++ h.3) h.0 h.1 ∙ ap (decimal_of negative before []) (sym h.7)
 
 -- ---- decimals
 -- there are digits where the test passes
@@ -274,20 +274,20 @@ with_point before after p q some = inr (p, q, some, refl)
 without_point : (before : List ℕ) → AllByRecursion IsAsciiDigit before → 0 < length before + 0 → IsMantissa before before []
 without_point before p some = inl (record { digits = p; some = omega (arith, some) }, refl, refl)
 
--- what is read of the first digits and what comes behind them is written so
+-- what is read of the first digits and what comes after them is written so
 rest_found : (sign before rest text : List ℕ) (negative : Bool) (form : NumberForm) → IsSign sign negative → AllByRecursion IsAsciiDigit before → text ≡ sign ++ before ++ rest → form_with negative before rest ≡ Some form → IsWritten text form
 unfolding form_with
 rest_found sign before [] text negative form s all is e =
     decimal_found sign before before [] [] text negative form s (without_point before all) is e
 rest_found sign before (b ∷ bytes) text negative form s all is e =
-    elim (either (b == 47) (fraction_of negative before bytes) (cond (b == 46) (decimal_of negative before (leading is_ascii_digit bytes) (behind is_ascii_digit bytes)) (decimal_of negative before [] (b ∷ bytes))) (Some form) e) [
+    elim (either (b == 47) (fraction_of negative before bytes) (cond (b == 46) (decimal_of negative before (leading is_ascii_digit bytes) (following is_ascii_digit bytes)) (decimal_of negative before [] (b ∷ bytes))) (Some form) e) [
       | inl h ↦ fraction_found sign before bytes text negative form s all (is ∙ ap (λ a. sign ++ before ++ (a ∷ bytes)) (same_byte b 47 h.0)) h.1
       | inr h ↦
-          elim (either (b == 46) (decimal_of negative before (leading is_ascii_digit bytes) (behind is_ascii_digit bytes)) (decimal_of negative before [] (b ∷ bytes)) (Some form) h.1) [
+          elim (either (b == 46) (decimal_of negative before (leading is_ascii_digit bytes) (following is_ascii_digit bytes)) (decimal_of negative before [] (b ∷ bytes)) (Some form) h.1) [
             | inl k ↦
                 let after = leading is_ascii_digit bytes in
-                let power = behind is_ascii_digit bytes in
-                let split : b ∷ bytes ≡ (46 ∷ after) ++ power = ap₂ (λ (a : ℕ) (t : List ℕ). a ∷ t) (same_byte b 46 k.0) (leading-behind is_ascii_digit bytes) in
+                let power = following is_ascii_digit bytes in
+                let split : b ∷ bytes ≡ (46 ∷ after) ++ power = ap₂ (λ (a : ℕ) (t : List ℕ). a ∷ t) (same_byte b 46 k.0) (leading-following is_ascii_digit bytes) in
                 let regroup : sign ++ before ++ ((46 ∷ after) ++ power) ≡ sign ++ (before ++ 46 ∷ after) ++ power = simp append_assoc in
                 decimal_found sign (before ++ 46 ∷ after) before after power text negative form s (with_point before after all (front_digits bytes)) (is ∙ ap (λ t. sign ++ before ++ t) split ∙ regroup) k.1
             | inr k ↦ decimal_found sign before before [] (b ∷ bytes) text negative form s (without_point before all) is k.1
@@ -299,9 +299,9 @@ pub form_found : (text : List ℕ) (form : NumberForm) → form_of text ≡ Some
 unfolding form_of
 form_found text form e =
     let s = sign_found text in
-    let bytes = behind_sign text in
-    let split : text ≡ s.sign ++ leading is_ascii_digit bytes ++ behind is_ascii_digit bytes = s.is ∙ ap (λ t. s.sign ++ t) (leading-behind is_ascii_digit bytes) ∙ sym (append_assoc s.sign (leading is_ascii_digit bytes) (behind is_ascii_digit bytes)) in
-    rest_found s.sign (leading is_ascii_digit bytes) (behind is_ascii_digit bytes) text (is_minus text) form s.is_sign (front_digits bytes) split e
+    let bytes = after_sign text in
+    let split : text ≡ s.sign ++ leading is_ascii_digit bytes ++ following is_ascii_digit bytes = s.is ∙ ap (λ t. s.sign ++ t) (leading-following is_ascii_digit bytes) ∙ sym (append_assoc s.sign (leading is_ascii_digit bytes) (following is_ascii_digit bytes)) in
+    rest_found s.sign (leading is_ascii_digit bytes) (following is_ascii_digit bytes) text (is_minus text) form s.is_sign (front_digits bytes) split e
 
 -- the sign and the first digits are read again
 front_again : (sign before rest text : List ℕ) (negative : Bool) → IsSign sign negative → AllByRecursion IsAsciiDigit before → Stops is_ascii_digit rest → Unsigned (before ++ rest) → text ≡ sign ++ (before ++ rest) → form_of text ≡ form_with negative before rest
@@ -309,34 +309,34 @@ unfolding form_of
 front_again sign before rest text negative s all stops u is =
     let r = sign_again sign (before ++ rest) negative s u in
     let minus : is_minus text ≡ negative = ap is_minus is ∙ r.0 in
-    let bytes : behind_sign text ≡ before ++ rest = ap behind_sign is ∙ r.1 in
-    rw (minus, bytes, leading-is is_ascii_digit before rest (each_passes before all) stops, behind-is is_ascii_digit before rest (each_passes before all) stops) refl
+    let bytes : after_sign text ≡ before ++ rest = ap after_sign is ∙ r.1 in
+    rw (minus, bytes, leading-is is_ascii_digit before rest (each_passes before all) stops, following-is is_ascii_digit before rest (each_passes before all) stops) refl
 
 -- a decimal without a point is read again
 plain_again : (sign before power text : List ℕ) (negative : Bool) (exponent : ℤ) → IsSign sign negative → AreDigits before → IsExponent power exponent → text ≡ sign ++ (before ++ power) → form_of text ≡ Some (Decimal negative before [] exponent)
 plain_again sign before power text negative exponent s d p is =
-    front_again sign before power text negative s d.digits (exponent_stops power exponent p) (some_unsigned before power d) is ∙ exponent_behind negative before power exponent p ∙ decimal_again before [] power negative exponent (omega (arith, d.some)) p
+    front_again sign before power text negative s d.digits (exponent_stops power exponent p) (some_unsigned before power d) is ∙ exponent_after negative before power exponent p ∙ decimal_again before [] power negative exponent (omega (arith, d.some)) p
 
--- what comes behind a point is read as digits and an exponent
-point_behind : (before after power : List ℕ) (negative : Bool) → AllByRecursion IsAsciiDigit after → Stops is_ascii_digit power → form_with negative before (46 ∷ (after ++ power)) ≡ decimal_of negative before after power
+-- what comes after a point is read as digits and an exponent
+point_after : (before after power : List ℕ) (negative : Bool) → AllByRecursion IsAsciiDigit after → Stops is_ascii_digit power → form_with negative before (46 ∷ (after ++ power)) ≡ decimal_of negative before after power
 unfolding form_with
-point_behind before after power negative all stops =
-    ap₂ (decimal_of negative before) (leading-is is_ascii_digit after power (each_passes after all) stops) (behind-is is_ascii_digit after power (each_passes after all) stops)
+point_after before after power negative all stops =
+    ap₂ (decimal_of negative before) (leading-is is_ascii_digit after power (each_passes after all) stops) (following-is is_ascii_digit after power (each_passes after all) stops)
 
 -- a decimal with a point is read again
 point_again : (sign before after power text : List ℕ) (negative : Bool) (exponent : ℤ) → IsSign sign negative → AllByRecursion IsAsciiDigit before → AllByRecursion IsAsciiDigit after → 0 < length before + length after → IsExponent power exponent → text ≡ sign ++ (before ++ (46 ∷ (after ++ power))) → form_of text ≡ Some (Decimal negative before after exponent)
 point_again sign before after power text negative exponent s b a some p is =
-    front_again sign before (46 ∷ (after ++ power)) text negative s b refl (digits_unsigned before (46 ∷ (after ++ power)) b (refl, refl)) is ∙ point_behind before after power negative a (exponent_stops power exponent p) ∙ decimal_again before after power negative exponent some p
+    front_again sign before (46 ∷ (after ++ power)) text negative s b refl (digits_unsigned before (46 ∷ (after ++ power)) b (refl, refl)) is ∙ point_after before after power negative a (exponent_stops power exponent p) ∙ decimal_again before after power negative exponent some p
 
 -- a slash is read as that of a fraction
-slash_behind : (top bottom : List ℕ) (negative : Bool) → form_with negative top (47 ∷ bottom) ≡ fraction_of negative top bottom
+slash_after : (top bottom : List ℕ) (negative : Bool) → form_with negative top (47 ∷ bottom) ≡ fraction_of negative top bottom
 unfolding form_with
-slash_behind top bottom negative = refl
+slash_after top bottom negative = refl
 
 -- what is written so is read so
 pub form_again : (text : List ℕ) (form : NumberForm) → IsWritten text form → form_of text ≡ Some form
 form_again text (Fraction negative top bottom) w =
-    front_again w.0 top (47 ∷ bottom) text negative w.1 w.2.digits refl (some_unsigned top (47 ∷ bottom) w.2) (w.5 ∙ append_assoc w.0 top (47 ∷ bottom)) ∙ slash_behind top bottom negative ∙ fraction_again top bottom negative w.2 w.3 w.4
+    front_again w.0 top (47 ∷ bottom) text negative w.1 w.2.digits refl (some_unsigned top (47 ∷ bottom) w.2) (w.5 ∙ append_assoc w.0 top (47 ∷ bottom)) ∙ slash_after top bottom negative ∙ fraction_again top bottom negative w.2 w.3 w.4
 form_again text (Decimal negative before after exponent) w =
     elim w.4 [
       | inl m ↦

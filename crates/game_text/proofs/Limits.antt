@@ -8,13 +8,13 @@ use Rattle.game_text.specs.Digits.{digits_value, without_leading_zeros, without_
 use Rattle.frac128.specs.Short.{IsShort}
 use Rattle.game_text.specs.Numbers.{Decimal, ten_to, value_of}
 use Rattle.game_text.specs.NumberReading.{GivesShort, GivesValue}
-use Rattle.game_text.proofs.Digits.{Struck, struck_behind, digits_parts, zeros_behind}
+use Rattle.game_text.proofs.Digits.{Struck, struck_after, digits_parts, zeros_after}
 use Rattle.game_text.proofs.Powers.{common_factor, ten_pos}
 
--- trailing zeros behind the point do not change the value
+-- trailing zeros after the point do not change the value
 struck_value : (s : Bool) (before after kept : List ℕ) → Struck after kept → frac (with_sign s (digits_value (before ++ kept))) (10 ^ length kept) ≡ frac (with_sign s (digits_value (before ++ after))) (10 ^ length after)
 struck_value s before after kept z =
-    let digits : digits_value (before ++ after) ≡ digits_value (before ++ kept) * 10 ^ length z.zeros = ap (λ t. digits_value (before ++ t)) z.is ∙ ap digits_value (sym (append_assoc before kept z.zeros)) ∙ digits_parts 0 (before ++ kept) z.zeros ∙ zeros_behind _ z.zeros z.are_zeros in
+    let digits : digits_value (before ++ after) ≡ digits_value (before ++ kept) * 10 ^ length z.zeros = ap (λ t. digits_value (before ++ t)) z.is ∙ ap digits_value (sym (append_assoc before kept z.zeros)) ∙ digits_parts 0 (before ++ kept) z.zeros ∙ zeros_after _ z.zeros z.are_zeros in
     let places : 10 ^ length after ≡ 10 ^ length kept * 10 ^ length z.zeros = ap (λ t. 10 ^ length t) z.is ∙ ap (λ k. 10 ^ k) (length-append kept z.zeros) ∙ pow-add 10 (length kept) (length z.zeros) in
     sym (ap₂ (λ n d. frac (with_sign s n) d) digits places ∙ common_factor s (digits_value (before ++ kept)) (10 ^ length kept) (10 ^ length z.zeros) (ten_pos (length kept)) (ten_pos (length z.zeros)))
 
@@ -24,7 +24,7 @@ decimal_answer s f before after kept power n e answer k m few p small h = by ans
   where
     value : frac (with_sign s n) (10 ^ length kept) *ℚ ten_to (with_sign f e) ≡ value_of (Decimal s before after (with_sign f (digits_value power)))
     value =
-        ap₂ (λ x y. frac (with_sign s x) (10 ^ length kept) *ℚ ten_to (with_sign f y)) m p ∙ ap (λ x. x *ℚ ten_to (with_sign f (digits_value power))) (struck_value s before after kept (subst (Struck after) (sym k) (struck_behind after)))
+        ap₂ (λ x y. frac (with_sign s x) (10 ^ length kept) *ℚ ten_to (with_sign f y)) m p ∙ ap (λ x. x *ℚ ten_to (with_sign f (digits_value power))) (struck_value s before after kept (subst (Struck after) (sym k) (struck_after after)))
 
     by : (o : Option ℚ) → GivesShort (frac (with_sign s n) (10 ^ length kept) *ℚ ten_to (with_sign f e)) o → GivesValue (Decimal s before after (with_sign f (digits_value power))) o
     by None long = λ w. long (subst IsShort (sym value) w.2)

@@ -9,14 +9,14 @@ use Rattle.game_core.specs.declared.token.Token.TheVariants.{Text, Word, Number}
 use Rattle.game_text.specs.declared.reading.TextKind.{TextKind}
 use Rattle.game_text.specs.declared.reading.TextKind.TheVariants.{BadChar, OpenText, BadNumber, NumberTooLarge}
 use Rattle.game_text.specs.Tokens.{BeginsWith, IsLetter, IsRun, IsFaultAt}
-use Rattle.game_text.specs.Reading.{IsNext, RefusesNumber, is_letter, is_bare, spelled, behind_text}
+use Rattle.game_text.specs.Reading.{IsNext, RefusesNumber, is_letter, is_bare, spelled, after_text}
 use Rattle.game_text.proofs.Bytes.{tells_letter}
 use Rattle.game_text.proofs.Quoted.{text_closes, text_is_open}
 use Rattle.game_text.proofs.Runs.{run_is}
 
 -- ---- texts
 -- a text that a quote closes
-closed_next : (bytes rest : List ℕ) (c : ℕ) → behind_text bytes ≡ c ∷ rest → IsNext (34 ∷ bytes) rest (Text (spelled bytes))
+closed_next : (bytes rest : List ℕ) (c : ℕ) → after_text bytes ≡ c ∷ rest → IsNext (34 ∷ bytes) rest (Text (spelled bytes))
 closed_next bytes rest c e =
     let h = text_closes bytes rest c e in record {
       front = 34 ∷ (h.inner ++ 34 ∷ []);
@@ -26,14 +26,14 @@ closed_next bytes rest c e =
     }
 
 -- the text that comes next, where a quote closes it
-pub text_next : (bytes closing text : List ℕ) → text ≡ spelled bytes → closing ≡ behind_text bytes → 1 ≤ length closing → IsNext (34 ∷ bytes) (take (length closing - 1) (drop 1 closing)) (Text text)
+pub text_next : (bytes closing text : List ℕ) → text ≡ spelled bytes → closing ≡ after_text bytes → 1 ≤ length closing → IsNext (34 ∷ bytes) (take (length closing - 1) (drop 1 closing)) (Text text)
 text_next bytes [] text t e h = absurd (omega arith)
 text_next bytes (c ∷ rest) text t e h =
     let size : length rest ≤ length (c ∷ rest) - 1 = omega arith in
     rw (t, take_all (length (c ∷ rest) - 1) rest size) (closed_next bytes rest c (sym e))
 
 -- no text comes, where no quote closes it
-pub open_text : (bytes closing : List ℕ) → closing ≡ behind_text bytes → length closing < 1 → IsFaultAt (34 ∷ bytes) OpenText
+pub open_text : (bytes closing : List ℕ) → closing ≡ after_text bytes → length closing < 1 → IsFaultAt (34 ∷ bytes) OpenText
 open_text bytes [] e h = (refl, λ inner text rest p s. text_is_open bytes inner text rest (sym e) (ap (λ t. drop 1 t) p) s)
 open_text bytes (c ∷ closing) e h = absurd (omega arith)
 

@@ -1,4 +1,4 @@
--- One more token behind those that were read.
+-- One more token after those that were read.
 use Rattle.std.proofs.Common.{◌≡◌, ℕ, ◌+◌, ◌<◌, ◌≤◌, List, [], ◌∷◌, ◌++◌, length, map, sym, ap, ◌∙◌, append_assoc, length-append, arith}
 use Rattle.std.specs.List.{AllByRecursion}
 use Rattle.frac128.specs.Short.{IsShort}
@@ -9,7 +9,7 @@ use Rattle.game_core.specs.declared.token.Spanned.{Spanned}
 use Rattle.game_core.specs.declared.token.Token.{Token}
 use Rattle.game_core.specs.declared.token.Token.TheVariants.{Left, Right, Comma, Text, Word, Number}
 use Rattle.game_text.specs.Tokens.{IsBlank, IsTokenAt, AreTokens, AreTokensBefore}
-use Rattle.game_core.specs.InPlace.{AreInPlace, IsShortToken}
+use Rattle.game_core.specs.Spacing.{AreSpaced, IsShortToken}
 
 -- bytes that begin with blanks
 abbrev pub BlanksBefore : List ℕ → List ℕ → Type 0
@@ -52,6 +52,6 @@ pub tokens_are_short : (bytes : List ℕ) (tokens : TokenList) → AreTokens byt
 tokens_are_short bytes tokens h = short_before 0 bytes tokens.list [] h.in_order
 
 -- one more span
-pub in_place_push : (from to end : ℕ) (tokens : List Spanned) (one : Spanned) → AreInPlace from to tokens → to ≤ one.start → one.start < one.end → IsShortToken one.token → one.end ≤ end → AreInPlace from end (tokens ++ one ∷ [])
-in_place_push from to end [] one h a b c d = (omega arith, b, c, d)
-in_place_push from to end (first ∷ tokens) one h a b c d = (h.0, h.1, h.2, in_place_push first.end to end tokens one h.3 a b c d)
+pub are_spaced_push : (from to end : ℕ) (tokens : List Spanned) (one : Spanned) → AreSpaced from to tokens → to ≤ one.start → one.start < one.end → IsShortToken one.token → one.end ≤ end → AreSpaced from end (tokens ++ one ∷ [])
+are_spaced_push from to end [] one h a b c d = (omega arith, b, c, d)
+are_spaced_push from to end (first ∷ tokens) one h a b c d = (h.0, h.1, h.2, are_spaced_push first.end to end tokens one h.3 a b c d)

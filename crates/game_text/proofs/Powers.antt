@@ -118,7 +118,7 @@ ten_down : (e : ℕ) → ten_to (with_sign true e) ≡ frac (pos 1) (10 ^ e)
 ten_down zero = refl
 ten_down (suc e) = ap (λ k. frac (pos 1) (10 ^ k)) (add-one e)
 
--- a number with digits behind the point over a power of ten
+-- a number with digits after the point over a power of ten
 pub falls-is : (s : Bool) (n l e : ℕ) → frac (whole (with_sign s n)).num ((whole (with_sign s n)).den * 10 ^ (l + e)) ≡ frac (with_sign s n) (10 ^ l) *ℚ ten_to (with_sign true e)
 falls-is s n l e =
     over_again (with_sign s n) 1 (10 ^ (l + e)) (lit< tt) (ten_pos (l + e))
@@ -126,7 +126,7 @@ falls-is s n l e =
     ∙ sym (frac-mul (with_sign s n) (pos 1) (10 ^ l) (10 ^ e) (ten_pos l) (ten_pos e))
     ∙ ap (λ x. frac (with_sign s n) (10 ^ l) *ℚ x) (sym (ten_down e))
 
--- a number with digits behind the point times a power of ten
+-- a number with digits after the point times a power of ten
 rises : (s : Bool) (n l e : ℕ) → frac (with_sign s n) (10 ^ l) *ℚ ten_to (with_sign false e) ≡ frac (with_sign s (n * 10 ^ e)) (10 ^ l)
 rises s n l e =
     frac-mul (with_sign s n) (pos (10 ^ e)) (10 ^ l) 1 (ten_pos l) (lit< tt) ∙ ap₂ frac (with_sign-mul s n (10 ^ e)) (mul-one (10 ^ l))

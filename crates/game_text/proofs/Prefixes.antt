@@ -1,8 +1,8 @@
--- The longest front of a list whose bytes pass a test, and what comes behind it.
+-- The longest front of a list whose bytes pass a test, and what comes after it.
 use Rattle.std.proofs.Common.{◌≡◌, ℕ, ◌+◌, Bool, true, false, cond, List, [], ◌∷◌, ◌++◌, take, drop, refl, ap, one-add}
 use Rattle.std.specs.List.{prefix_len, AllByRecursion}
 use Rattle.std.proofs.lemmas.List.Sums.{prefix_len-le-length}
-use Rattle.game_text.specs.NumberReading.{leading, behind}
+use Rattle.game_text.specs.NumberReading.{leading, following}
 
 -- the first byte, if there is one, fails the test
 abbrev pub Stops : (ℕ → Bool) → List ℕ → Type 0
@@ -15,19 +15,19 @@ take-prefix_len p [] = refl
 take-prefix_len p (b ∷ bytes) =
     elim (p b) as (λ v. take (cond v (1 + prefix_len p bytes) 0) (b ∷ bytes) ≡ cond v (b ∷ leading p bytes) []) [ true ↦ rw one-add (ap (λ t. b ∷ t) (take-prefix_len p bytes)) | false ↦ refl ]
 
--- what comes behind it by its length
-pub drop-prefix_len : (p : ℕ → Bool) (bytes : List ℕ) → drop (prefix_len p bytes) bytes ≡ behind p bytes
+-- what comes after it by its length
+pub drop-prefix_len : (p : ℕ → Bool) (bytes : List ℕ) → drop (prefix_len p bytes) bytes ≡ following p bytes
 drop-prefix_len p [] = refl
 drop-prefix_len p (b ∷ bytes) =
-    elim (p b) as (λ v. drop (cond v (1 + prefix_len p bytes) 0) (b ∷ bytes) ≡ cond v (behind p bytes) (b ∷ bytes)) [ true ↦ rw one-add (drop-prefix_len p bytes) | false ↦ refl ]
+    elim (p b) as (λ v. drop (cond v (1 + prefix_len p bytes) 0) (b ∷ bytes) ≡ cond v (following p bytes) (b ∷ bytes)) [ true ↦ rw one-add (drop-prefix_len p bytes) | false ↦ refl ]
 
 pub ruleset spans = (take-prefix_len, drop-prefix_len, prefix_len-le-length)
 
--- the front and what comes behind it make the list
-pub leading-behind : (p : ℕ → Bool) (bytes : List ℕ) → bytes ≡ leading p bytes ++ behind p bytes
-leading-behind p [] = refl
-leading-behind p (b ∷ bytes) =
-    elim (p b) as (λ v. b ∷ bytes ≡ cond v (b ∷ leading p bytes) [] ++ cond v (behind p bytes) (b ∷ bytes)) [ true ↦ ap (λ t. b ∷ t) (leading-behind p bytes) | false ↦ refl ]
+-- the front and what comes after it make the list
+pub leading-following : (p : ℕ → Bool) (bytes : List ℕ) → bytes ≡ leading p bytes ++ following p bytes
+leading-following p [] = refl
+leading-following p (b ∷ bytes) =
+    elim (p b) as (λ v. b ∷ bytes ≡ cond v (b ∷ leading p bytes) [] ++ cond v (following p bytes) (b ∷ bytes)) [ true ↦ ap (λ t. b ∷ t) (leading-following p bytes) | false ↦ refl ]
 
 -- each byte of the front passes
 pub leading-passes : (p : ℕ → Bool) (bytes : List ℕ) → AllByRecursion (λ b. p b ≡ true) (leading p bytes)
@@ -37,12 +37,12 @@ leading-passes p (b ∷ bytes) =
     let by : (v : Bool) → E v = λ v. elim v as E [ true ↦ λ e. (e, leading-passes p bytes) | false ↦ λ _. tt ] in
     by (p b) refl
 
--- what comes behind does not begin with a byte that passes
-pub behind-stops : (p : ℕ → Bool) (bytes : List ℕ) → Stops p (behind p bytes)
-behind-stops p [] = tt
-behind-stops p (b ∷ bytes) =
-    let E : Bool → Type 0 = λ v. p b ≡ v → Stops p (cond v (behind p bytes) (b ∷ bytes)) in
-    let by : (v : Bool) → E v = λ v. elim v as E [ true ↦ λ _. behind-stops p bytes | false ↦ λ e. e ] in
+-- what comes after does not begin with a byte that passes
+pub following-stops : (p : ℕ → Bool) (bytes : List ℕ) → Stops p (following p bytes)
+following-stops p [] = tt
+following-stops p (b ∷ bytes) =
+    let E : Bool → Type 0 = λ v. p b ≡ v → Stops p (cond v (following p bytes) (b ∷ bytes)) in
+    let by : (v : Bool) → E v = λ v. elim v as E [ true ↦ λ _. following-stops p bytes | false ↦ λ e. e ] in
     by (p b) refl
 
 -- no other front is the longest
@@ -51,8 +51,8 @@ leading-is p [] [] h s = refl
 leading-is p [] (b ∷ rest) h s = rw s refl
 leading-is p (b ∷ front) rest h s = rw h.0 (ap (λ t. b ∷ t) (leading-is p front rest h.1 s))
 
--- nor does anything else come behind it
-pub behind-is : (p : ℕ → Bool) (front rest : List ℕ) → AllByRecursion (λ b. p b ≡ true) front → Stops p rest → behind p (front ++ rest) ≡ rest
-behind-is p [] [] h s = refl
-behind-is p [] (b ∷ rest) h s = rw s refl
-behind-is p (b ∷ front) rest h s = rw h.0 (behind-is p front rest h.1 s)
+-- nor does anything else come after it
+pub following-is : (p : ℕ → Bool) (front rest : List ℕ) → AllByRecursion (λ b. p b ≡ true) front → Stops p rest → following p (front ++ rest) ≡ rest
+following-is p [] [] h s = refl
+following-is p [] (b ∷ rest) h s = rw s refl
+following-is p (b ∷ front) rest h s = rw h.0 (following-is p front rest h.1 s)

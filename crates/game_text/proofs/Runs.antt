@@ -34,7 +34,7 @@ run_is bytes run rest e f h = record {
   longest = rw f (bare_stops (drop (prefix_len is_bare bytes) bytes) (drop_stops is_bare bytes));
 }
 
--- what comes behind a run
+-- what comes after a run
 pub drop-run : (run rest : List ℕ) → IsRun run rest → drop (prefix_len is_bare (run ++ rest)) (run ++ rest) ≡ rest
 drop-run run rest h = drop-front is_bare run rest (bare_passes run h.bare) (stops_bare rest h.longest)
 
@@ -50,6 +50,6 @@ blank_stops : (rest : List ℕ) → Stops is_blank rest → ¬ (BeginsWith IsBla
 blank_stops [] s h = h
 blank_stops (b ∷ rest) s h = let e : is_blank b ≡ true = (tells_blank b).1 h in cc
 
--- no blank comes behind the blanks
+-- no blank comes after the blanks
 pub drop_blanks : (bytes : List ℕ) → ¬ (BeginsWith IsBlank (drop (prefix_len is_blank bytes) bytes))
 drop_blanks bytes = blank_stops (drop (prefix_len is_blank bytes) bytes) (drop_stops is_blank bytes)

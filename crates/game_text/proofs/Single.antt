@@ -14,7 +14,7 @@ use Rattle.game_text.specs.declared.reading.TextKind.TheVariants.{BadChar, OpenT
 use Rattle.game_text.specs.Tokens.{BeginsWith, IsBlank, IsRun, IsTokenAt, IsFaultAt, AreTokens, AreTokensBefore, IsFirstFault}
 use Rattle.game_text.specs.declared.reading.TextFault.{TextFault}
 use Rattle.game_text.specs.declared.reading.TextStop.TheVariants as text_stop
-use Rattle.game_text.specs.Reading.{is_bare, spelled, behind_text}
+use Rattle.game_text.specs.Reading.{is_bare, spelled, after_text}
 use Rattle.game_text.specs.Stops.{tokens_of}
 use Rattle.game_text.proofs.FirstBytes.{kind_at, kind_of_fault, kind_at-token, kind_at-fault, kind_no_blank}
 use Rattle.game_text.proofs.Quoted.{spelled-text}
@@ -42,46 +42,46 @@ run_once run rest front back h k e =
     (append_cancel_right run front back (let f : run ++ back ≡ run ++ rest = rw same refl in f ∙ e), same)
 
 -- one quoted text comes
-text_once : (front back again behind text other : List ℕ) → IsTokenAt front back (Text text) → IsTokenAt again behind (Text other) → front ++ back ≡ again ++ behind → (front ≡ again) × (back ≡ behind) × (text ≡ other)
-text_once front back again behind text other h k e =
+text_once : (front back again following text other : List ℕ) → IsTokenAt front back (Text text) → IsTokenAt again following (Text other) → front ++ back ≡ again ++ following → (front ≡ again) × (back ≡ following) × (text ≡ other)
+text_once front back again following text other h k e =
     let whole : (inner rest : List ℕ) → (34 ∷ inner ++ 34 ∷ []) ++ rest ≡ 34 ∷ (inner ++ 34 ∷ rest) = λ inner rest. ap (λ t. 34 ∷ t) (append_assoc inner (34 ∷ []) rest) in
     let one : front ++ back ≡ 34 ∷ (h.0 ++ 34 ∷ back) = ap (λ t. t ++ back) h.1 ∙ whole h.0 back in
-    let two : again ++ behind ≡ 34 ∷ (k.0 ++ 34 ∷ behind) = ap (λ t. t ++ behind) k.1 ∙ whole k.0 behind in
-    let inside : h.0 ++ 34 ∷ back ≡ k.0 ++ 34 ∷ behind = ap (λ t. drop 1 t) (sym one ∙ e ∙ two) in
+    let two : again ++ following ≡ 34 ∷ (k.0 ++ 34 ∷ following) = ap (λ t. t ++ following) k.1 ∙ whole k.0 following in
+    let inside : h.0 ++ 34 ∷ back ≡ k.0 ++ 34 ∷ following = ap (λ t. drop 1 t) (sym one ∙ e ∙ two) in
     let first = spelled-text h.0 text back h.2 in
-    let second = spelled-text k.0 other behind k.2 in
-    let same : back ≡ behind = ap (λ t. drop 1 t) (sym first.1 ∙ ap behind_text inside ∙ second.1) in
-    let fronts : front ≡ again = append_cancel_right front again behind (let f : front ++ behind ≡ front ++ back = rw same refl in f ∙ e) in
+    let second = spelled-text k.0 other following k.2 in
+    let same : back ≡ following = ap (λ t. drop 1 t) (sym first.1 ∙ ap after_text inside ∙ second.1) in
+    let fronts : front ≡ again = append_cancel_right front again following (let f : front ++ following ≡ front ++ back = rw same refl in f ∙ e) in
     (fronts, same, sym first.0 ∙ ap spelled inside ∙ second.0)
 
 -- one brace or comma comes
-mark_once : (b : ℕ) (front back again behind : List ℕ) → front ≡ b ∷ [] → again ≡ b ∷ [] → front ++ back ≡ again ++ behind → (front ≡ again) × (back ≡ behind)
-mark_once b front back again behind h k e =
-    let one : b ∷ back ≡ b ∷ behind = sym (ap (λ t. t ++ back) h) ∙ e ∙ ap (λ t. t ++ behind) k in
+mark_once : (b : ℕ) (front back again following : List ℕ) → front ≡ b ∷ [] → again ≡ b ∷ [] → front ++ back ≡ again ++ following → (front ≡ again) × (back ≡ following)
+mark_once b front back again following h k e =
+    let one : b ∷ back ≡ b ∷ following = sym (ap (λ t. t ++ back) h) ∙ e ∙ ap (λ t. t ++ following) k in
     (h ∙ sym k, ap (λ t. drop 1 t) one)
 
 -- two tokens at one place, which have one kind
-same_kind : (front back again behind : List ℕ) (one other : Token) → (token_parts one).0 ≡ (token_parts other).0 → IsTokenAt front back one → IsTokenAt again behind other → front ++ back ≡ again ++ behind
-    → (front ≡ again) × (back ≡ behind) × (one ≡ other)
-same_kind front back again behind Left Left i h k e = let m = mark_once 123 front back again behind h k e in (m.0, m.1, refl)
-same_kind front back again behind Right Right i h k e = let m = mark_once 125 front back again behind h k e in (m.0, m.1, refl)
-same_kind front back again behind Comma Comma i h k e = let m = mark_once 44 front back again behind h k e in (m.0, m.1, refl)
-same_kind front back again behind (Text text) (Text other) i h k e =
-    let m = text_once front back again behind text other h k e in
+same_kind : (front back again following : List ℕ) (one other : Token) → (token_parts one).0 ≡ (token_parts other).0 → IsTokenAt front back one → IsTokenAt again following other → front ++ back ≡ again ++ following
+    → (front ≡ again) × (back ≡ following) × (one ≡ other)
+same_kind front back again following Left Left i h k e = let m = mark_once 123 front back again following h k e in (m.0, m.1, refl)
+same_kind front back again following Right Right i h k e = let m = mark_once 125 front back again following h k e in (m.0, m.1, refl)
+same_kind front back again following Comma Comma i h k e = let m = mark_once 44 front back again following h k e in (m.0, m.1, refl)
+same_kind front back again following (Text text) (Text other) i h k e =
+    let m = text_once front back again following text other h k e in
     (m.0, m.1, ap Text m.2)
-same_kind front back again behind (Word word) (Word other) i h k e =
-    let m = run_once front back again behind h.0 k.0 e in
+same_kind front back again following (Word word) (Word other) i h k e =
+    let m = run_once front back again following h.0 k.0 e in
     (m.0, m.1, ap Word (h.2 ∙ m.0 ∙ sym k.2))
-same_kind front back again behind (Number value) (Number other) i h k e =
-    let m = run_once front back again behind h.0 k.0 e in
+same_kind front back again following (Number value) (Number other) i h k e =
+    let m = run_once front back again following h.0 k.0 e in
     let moved : IsNumber again value = rw (sym m.0) h.2 in
     (m.0, m.1, ap Number (one_value again value other moved k.2))
-same_kind front back again behind _ _ i h k e = cc
+same_kind front back again following _ _ i h k e = cc
 
 -- one token comes
-token_once : (front back again behind : List ℕ) (one other : Token) → IsTokenAt front back one → IsTokenAt again behind other → front ++ back ≡ again ++ behind → (front ≡ again) × (back ≡ behind) × (one ≡ other)
-token_once front back again behind one other h k e =
-    same_kind front back again behind one other (sym (kind_at-token front back one h) ∙ ap kind_at e ∙ kind_at-token again behind other k) h k e
+token_once : (front back again following : List ℕ) (one other : Token) → IsTokenAt front back one → IsTokenAt again following other → front ++ back ≡ again ++ following → (front ≡ again) × (back ≡ following) × (one ≡ other)
+token_once front back again following one other h k e =
+    same_kind front back again following one other (sym (kind_at-token front back one h) ∙ ap kind_at e ∙ kind_at-token again following other k) h k e
 
 -- ---- where tokens end
 -- neither a blank nor a token comes
@@ -159,14 +159,14 @@ fault_once rest kind other h k =
 
 -- ---- all tokens
 -- the blanks at the front are one list
-blanks_once : (one other rest behind : List ℕ) → AllByRecursion IsBlank one → AllByRecursion IsBlank other → one ++ rest ≡ other ++ behind → ¬ (BeginsWith IsBlank rest) → ¬ (BeginsWith IsBlank behind) → (one ≡ other) × (rest ≡ behind)
-blanks_once [] [] rest behind h k e n m = (refl, e)
-blanks_once [] (b ∷ other) rest behind h k e n m = absurd (n (rw e k.0))
-blanks_once (b ∷ one) [] rest behind h k e n m = absurd (m (rw (sym e) h.0))
-blanks_once (b ∷ one) (c ∷ other) rest behind h k e n m =
-    let tails : one ++ rest ≡ other ++ behind = cc in
+blanks_once : (one other rest following : List ℕ) → AllByRecursion IsBlank one → AllByRecursion IsBlank other → one ++ rest ≡ other ++ following → ¬ (BeginsWith IsBlank rest) → ¬ (BeginsWith IsBlank following) → (one ≡ other) × (rest ≡ following)
+blanks_once [] [] rest following h k e n m = (refl, e)
+blanks_once [] (b ∷ other) rest following h k e n m = absurd (n (rw e k.0))
+blanks_once (b ∷ one) [] rest following h k e n m = absurd (m (rw (sym e) h.0))
+blanks_once (b ∷ one) (c ∷ other) rest following h k e n m =
+    let tails : one ++ rest ≡ other ++ following = cc in
     let heads : b ≡ c = cc in
-    let more = blanks_once one other rest behind h.1 k.1 tails n m in
+    let more = blanks_once one other rest following h.1 k.1 tails n m in
     (rw (heads, more.0) refl, more.1)
 
 -- no token begins with a blank
@@ -181,24 +181,24 @@ same_spanned one other t s e =
     ap (λ t. P t one.start one.end) t ∙ ap (λ s. P other.token s one.end) s ∙ ap (λ e. P other.token other.start e) e
 
 -- the same tokens up to the same rest
-pub tokens_once : (from : ℕ) (bytes : List ℕ) (one other : List Spanned) (rest behind : List ℕ) → AreTokensBefore from bytes one rest → AreTokensBefore from bytes other behind → ComesNoToken rest → ComesNoToken behind
-    → (one ≡ other) × (rest ≡ behind)
-tokens_once from bytes [] [] rest behind h k n m =
-    (refl, (blanks_once h.0 k.0 rest behind h.1 k.1 (sym h.2 ∙ k.2) n.no_blank m.no_blank).1)
-tokens_once from bytes [] (other ∷ others) rest behind h k n m =
+pub tokens_once : (from : ℕ) (bytes : List ℕ) (one other : List Spanned) (rest following : List ℕ) → AreTokensBefore from bytes one rest → AreTokensBefore from bytes other following → ComesNoToken rest → ComesNoToken following
+    → (one ≡ other) × (rest ≡ following)
+tokens_once from bytes [] [] rest following h k n m =
+    (refl, (blanks_once h.0 k.0 rest following h.1 k.1 (sym h.2 ∙ k.2) n.no_blank m.no_blank).1)
+tokens_once from bytes [] (other ∷ others) rest following h k n m =
     let b = blanks_once h.0 k.0 rest (k.1 ++ k.2) h.1 k.3 (sym h.2 ∙ k.4 ∙ append_assoc k.0 k.1 k.2) n.no_blank (token_no_blank k.1 k.2 other.token k.5) in
     absurd (n.no_token k.1 k.2 other.token b.1 k.5)
-tokens_once from bytes (one ∷ ones) [] rest behind h k n m =
-    let b = blanks_once h.0 k.0 (h.1 ++ h.2) behind h.3 k.1 (sym (append_assoc h.0 h.1 h.2) ∙ sym h.4 ∙ k.2) (token_no_blank h.1 h.2 one.token h.5) m.no_blank in
+tokens_once from bytes (one ∷ ones) [] rest following h k n m =
+    let b = blanks_once h.0 k.0 (h.1 ++ h.2) following h.3 k.1 (sym (append_assoc h.0 h.1 h.2) ∙ sym h.4 ∙ k.2) (token_no_blank h.1 h.2 one.token h.5) m.no_blank in
     absurd (m.no_token h.1 h.2 one.token (sym b.1) h.5)
-tokens_once from bytes (one ∷ ones) (other ∷ others) rest behind h k n m =
+tokens_once from bytes (one ∷ ones) (other ∷ others) rest following h k n m =
     let b = blanks_once h.0 k.0 (h.1 ++ h.2) (k.1 ++ k.2) h.3 k.3 (sym (append_assoc h.0 h.1 h.2) ∙ sym h.4 ∙ k.4 ∙ append_assoc k.0 k.1 k.2) (token_no_blank h.1 h.2 one.token h.5) (token_no_blank k.1 k.2 other.token k.5) in
     let t = token_once h.1 h.2 k.1 k.2 one.token other.token h.5 k.5 b.1 in
     let starts : one.start ≡ other.start = h.6 ∙ ap (λ x. from + length x) b.0 ∙ sym k.6 in
     let ends : one.end ≡ other.end = h.7 ∙ ap (λ x. one.start + length x) t.0 ∙ ap (λ s. s + length k.1) starts ∙ sym k.7 in
-    let P : ℕ → List ℕ → Type 0 = λ end back. AreTokensBefore end back others behind in
-    let moved : AreTokensBefore one.end h.2 others behind = subst (λ end. P end h.2) (sym ends) (subst (λ back. P other.end back) (sym t.1) k.8) in
-    let more = tokens_once one.end h.2 ones others rest behind h.8 moved n m in
+    let P : ℕ → List ℕ → Type 0 = λ end back. AreTokensBefore end back others following in
+    let moved : AreTokensBefore one.end h.2 others following = subst (λ end. P end h.2) (sym ends) (subst (λ back. P other.end back) (sym t.1) k.8) in
+    let more = tokens_once one.end h.2 ones others rest following h.8 moved n m in
     let heads : one ≡ other = same_spanned one other t.2 starts ends in
     (rw (heads, more.0) refl, more.1)
 

@@ -4,9 +4,9 @@ use Rattle.std.proofs.lemmas.List.{take-append-drop}
 use Rattle.std.specs.List.{prefix_len}
 use Rattle.game_core.specs.declared.token.Spanned.{Spanned}
 use Rattle.game_text.specs.Tokens.{AreTokensBefore}
-use Rattle.game_core.specs.InPlace.{AreInPlace}
+use Rattle.game_core.specs.Spacing.{AreSpaced}
 use Rattle.game_text.specs.Reading.{IsNext, is_blank}
-use Rattle.game_text.proofs.Passes.{BlanksBefore, tokens_push, token_is_short, in_place_push}
+use Rattle.game_text.proofs.Passes.{BlanksBefore, tokens_push, token_is_short, are_spaced_push}
 use Rattle.game_text.proofs.Runs.{take_blanks}
 
 -- the blanks that are left out
@@ -41,8 +41,8 @@ read_tokens bytes rest after next list one h t e =
     tokens_push 0 bytes list rest h.next.front after next one t h.next.parts h.next.is_token start end (blanks_before after next e)
 
 -- one more span is in place
-pub read_places : (bytes rest after next : List ℕ) (list : List Spanned) (one : Spanned) → IsRead bytes rest after one → AreInPlace 0 (length bytes - length rest) list → next ≡ drop (prefix_len is_blank after) after → AreInPlace 0 (length bytes - length next) (list ++ one ∷ [])
+pub read_places : (bytes rest after next : List ℕ) (list : List Spanned) (one : Spanned) → IsRead bytes rest after one → AreSpaced 0 (length bytes - length rest) list → next ≡ drop (prefix_len is_blank after) after → AreSpaced 0 (length bytes - length next) (list ++ one ∷ [])
 read_places bytes rest after next list one h p e =
     let less = shorter bytes rest after one h in
     let ends = blanks_shorten after next e in
-    in_place_push 0 (length bytes - length rest) (length bytes - length next) list one p (omega (arith, h.start)) (omega (arith, h.start, h.end, h.within)) (token_is_short h.next.front after one.token h.next.is_token) (omega (arith, h.end))
+    are_spaced_push 0 (length bytes - length rest) (length bytes - length next) list one p (omega (arith, h.start)) (omega (arith, h.start, h.end, h.within)) (token_is_short h.next.front after one.token h.next.is_token) (omega (arith, h.end))

@@ -16,10 +16,10 @@ abbrev pub is_minus : List ℕ → Bool
 is_minus [] = false
 is_minus (b ∷ bytes) = b == 45
 
--- the bytes behind an optional sign
-abbrev pub behind_sign : List ℕ → List ℕ
-behind_sign [] = []
-behind_sign (b ∷ bytes) = if b == 43 || b == 45 then bytes else b ∷ bytes
+-- the bytes after an optional sign
+abbrev pub after_sign : List ℕ → List ℕ
+after_sign [] = []
+after_sign (b ∷ bytes) = if b == 43 || b == 45 then bytes else b ∷ bytes
 
 -- the bytes before the first that fails the test
 abbrev pub leading : (ℕ → Bool) → List ℕ → List ℕ
@@ -27,9 +27,9 @@ leading p [] = []
 leading p (b ∷ bytes) = if p b then b ∷ leading p bytes else []
 
 -- the bytes from the first that fails the test
-abbrev pub behind : (ℕ → Bool) → List ℕ → List ℕ
-behind p [] = []
-behind p (b ∷ bytes) = if p b then behind p bytes else b ∷ bytes
+abbrev pub following : (ℕ → Bool) → List ℕ → List ℕ
+following p [] = []
+following p (b ∷ bytes) = if p b then following p bytes else b ∷ bytes
 
 -- the number that digits stand for when they follow those of n
 abbrev pub digits_after : ℕ → List ℕ → ℕ
@@ -47,7 +47,7 @@ are_digits text = list_all is_ascii_digit text && nat_lt 0 (length text)
 unfoldable pub power_of : List ℕ → Option (Bool × List ℕ)
 power_of [] = Some (false, [])
 power_of (b ∷ bytes) =
-    if (b == 101 || b == 69) && are_digits (behind_sign bytes) then Some (is_minus bytes, behind_sign bytes) else None
+    if (b == 101 || b == 69) && are_digits (after_sign bytes) then Some (is_minus bytes, after_sign bytes) else None
 
 -- a decimal with this exponent, where it has one
 abbrev pub with_power : Bool → List ℕ → List ℕ → Option (Bool × List ℕ) → Option NumberForm
@@ -64,16 +64,16 @@ unfoldable pub fraction_of : Bool → List ℕ → List ℕ → Option NumberFor
 fraction_of negative top bottom =
     if nat_lt 0 (length top) && are_digits bottom && not (list_all is_zero bottom) then Some (Fraction negative top bottom) else None
 
--- the form of first digits and what comes behind them
+-- the form of first digits and what comes after them
 unfoldable pub form_with : Bool → List ℕ → List ℕ → Option NumberForm
 form_with negative before [] = decimal_of negative before [] []
 form_with negative before (b ∷ bytes) =
     if b == 47 then fraction_of negative before bytes
-    else (if b == 46 then decimal_of negative before (leading is_ascii_digit bytes) (behind is_ascii_digit bytes) else decimal_of negative before [] (b ∷ bytes))
+    else (if b == 46 then decimal_of negative before (leading is_ascii_digit bytes) (following is_ascii_digit bytes) else decimal_of negative before [] (b ∷ bytes))
 
 -- the form of a text, where it has one
 unfoldable pub form_of : List ℕ → Option NumberForm
-form_of text = form_with (is_minus text) (leading is_ascii_digit (behind_sign text)) (behind is_ascii_digit (behind_sign text))
+form_of text = form_with (is_minus text) (leading is_ascii_digit (after_sign text)) (following is_ascii_digit (after_sign text))
 
 -- ---- answers
 -- the number that digits stand for, exactly where no more than 36 of them count

@@ -53,7 +53,7 @@ value_of (Decimal negative before after exponent) =
     frac (with_sign negative (digits_value (before ++ after))) (10 ^ length after) *ℚ ten_to exponent
 
 -- The form is within the limits: an exponent from -18 to 18, at most 36 digits when the leading zeros, and the trailing
--- zeros behind the point, are struck, and parts of the value below 2^63.
+-- zeros after the point, are struck, and parts of the value below 2^63.
 abbrev pub IsWithinLimits : NumberForm → Type 0
 IsWithinLimits (Fraction negative top bottom) =
     (length (without_leading_zeros top) ≤ 36) × (length (without_leading_zeros bottom) ≤ 36) × IsShort (value_of (Fraction negative top bottom))

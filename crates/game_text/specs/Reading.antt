@@ -31,10 +31,10 @@ spelled (b ∷ []) = if b == 34 then [] else b ∷ []
 spelled (b ∷ c ∷ bytes) = if b == 34 then [] else if b == 92 && c == 34 then 34 ∷ spelled bytes else b ∷ spelled (c ∷ bytes)
 
 -- the bytes from the closing quote on
-abbrev pub behind_text : List ℕ → List ℕ
-behind_text [] = []
-behind_text (b ∷ []) = if b == 34 then b ∷ [] else []
-behind_text (b ∷ c ∷ bytes) = if b == 34 then b ∷ c ∷ bytes else if b == 92 && c == 34 then behind_text bytes else behind_text (c ∷ bytes)
+abbrev pub after_text : List ℕ → List ℕ
+after_text [] = []
+after_text (b ∷ []) = if b == 34 then b ∷ [] else []
+after_text (b ∷ c ∷ bytes) = if b == 34 then b ∷ c ∷ bytes else if b == 92 && c == 34 then after_text bytes else after_text (c ∷ bytes)
 
 -- the bytes begin with this token, and the rest comes after it
 pub record IsNext (bytes rest : List ℕ) (token : Token) : Type 0 where
@@ -43,7 +43,7 @@ pub record IsNext (bytes rest : List ℕ) (token : Token) : Type 0 where
   pub some : 0 < length front
   pub is_token : IsTokenAt front rest token
 
--- reading stops at this place: the bytes begin with the fault, unless memory ran out
+-- reading stops at this offset: the bytes begin with the fault, unless memory ran out
 abbrev pub StopsAt : List ℕ → ℕ → TextStop → Type 0
 StopsAt bytes at (Fault fault) = (fault.at ≡ at) × IsFaultAt bytes fault.kind
 StopsAt bytes at Memory = Unit {0}

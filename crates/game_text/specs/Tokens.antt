@@ -80,7 +80,7 @@ IsFaultAt bytes OpenText =
 IsFaultAt bytes BadNumber = (run rest : List ℕ) × (bytes ≡ run ++ rest) × IsRun run rest × ¬ (BeginsWith IsLetter run) × IsNoNumber run
 IsFaultAt bytes NumberTooLarge = (run rest : List ℕ) × (bytes ≡ run ++ rest) × IsRun run rest × ¬ (BeginsWith IsLetter run) × IsTooLarge run
 
--- the first fault: up to its place the bytes are tokens and blanks
+-- the first fault: up to its offset the bytes are tokens and blanks
 pub record IsFirstFault (bytes : List ℕ) (at : ℕ) (kind : TextKind) : Type 0 where
   pub tokens : List Spanned
   pub rest : List ℕ

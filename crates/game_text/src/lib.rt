@@ -1,7 +1,12 @@
-//! The text of game files: its tokens with their places, and the numbers among them.
+//! The text of game files: its tokens with their offsets, and the numbers among them.
 //!
-//! [`read_tokens`] reads the tokens of a text, or its first fault, and [`read_number`] the text of a
-//! number as an exact fraction, which takes no memory.
+//! Callers may rely on: `read_tokens` gives the one answer of a text, its tokens or its first
+//! fault; `read_number` a number's exact value, or what is wrong, without memory.
+//! Definitions: `specs::Tokens` has tokens and faults, `specs::Numbers` the texts, values and
+//! limits of numbers, `specs::Stops` what bytes answer (`tokens_of`).
+//! Private words: `specs::Reading` and `specs::NumberReading`, which say how the code reads.
+//! Lemmas for callers: `proofs::Digits`, `Powers`, and `Single`, that there is one answer.
+//! A change here touches: the tokens of docs/FORMAT.md, `ne_printer`, `gambit_tools`.
 #![tactic(auto)]
 
 mod number;

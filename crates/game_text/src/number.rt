@@ -88,7 +88,7 @@ fn read_decimal(
     decimal_value(negative, before, after, falls, power).ok_or(NumberFault::TooLarge)
 }
 
-// The number with these first digits and what comes behind them.
+// The number with these first digits and what comes after them.
 #[tactic(auto, unfolding(crate::specs::NumberReading::form_with))]
 fn read_rest(negative: bool, before: &[u8], rest: &[u8]) -> Result<Frac, NumberFault>
     requires { All IsAsciiDigit before.now }

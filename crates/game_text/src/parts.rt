@@ -3,12 +3,12 @@ ghost use Rattle.std.specs.Prelude.{◌≡◌};
 ghost use Rattle.std.specs.Char.{IsAsciiDigit, is_ascii_digit};
 ghost use Rattle.std.specs.List.{All, list_all, prefix_len};
 ghost use Rattle.std.specs.Option.{option_map};
-ghost use Rattle.game_text.specs.NumberReading.{are_digits, behind, behind_sign, is_minus, leading, power_of};
+ghost use Rattle.game_text.specs.NumberReading.{are_digits, following, after_sign, is_minus, leading, power_of};
 
-// Whether the text begins with a minus, and what comes behind its sign, if it has one.
+// Whether the text begins with a minus, and what comes after its sign, if it has one.
 pub fn split_sign(text: &[u8]) -> (bool, &[u8])
     ensures negative { result.0 ≡ is_minus text.now }
-    ensures rest { result.1.now ≡ behind_sign text.now }
+    ensures rest { result.1.now ≡ after_sign text.now }
 {
     match text {
         [b'+', rest @ ..] => (false, rest),
@@ -24,12 +24,12 @@ fn digits_count(text: &[u8]) -> usize
     text.iter().take_while(|b| b.is_ascii_digit()).count()
 }
 
-// The digits at the front, and what comes behind them.
+// The digits at the front, and what comes after them.
 #[tactic(auto, using(crate::proofs::Prefixes::spans))]
 pub fn split_digits(text: &[u8]) -> (&[u8], &[u8])
     ensures front { result.0.now ≡ leading is_ascii_digit text.now }
     ensures digits { All IsAsciiDigit result.0.now }
-    ensures rest { result.1.now ≡ behind is_ascii_digit text.now }
+    ensures rest { result.1.now ≡ following is_ascii_digit text.now }
 {
     text.split_at(digits_count(text))
 }

@@ -19,11 +19,11 @@ use std::alloc::{AllocError, AllocFailed, Global};
 pub enum TextKind {
     /// A byte that begins no token.
     BadChar,
-    /// A quoted text that is not closed; the place is its opening quote.
+    /// A quoted text that is not closed; the offset is that of its opening quote.
     OpenText,
-    /// A run that is no number; the place is its first byte.
+    /// A run that is no number; the offset is that of its first byte.
     BadNumber,
-    /// A number that passes a limit; the place is its first byte.
+    /// A number that passes a limit; the offset is that of its first byte.
     NumberTooLarge,
 }
 

@@ -8,7 +8,7 @@ ghost use Rattle.game_text.specs.NumberReading.{GivesSize, digits_after, is_zero
 // The first number of 37 digits.
 const LONG: u128 = 1000000000000000000000000000000000000;
 
-// The number that the digits stand for behind those of a number, where it is below the limit.
+// The number that the digits stand for after those of a number, where it is below the limit.
 fn with_digits(number: u128, digits: &[u8], limit: u128) -> Option<u128>
     requires digits { All IsAsciiDigit digits.now }
     requires limit { limit ≤ 10 ^ 36 }

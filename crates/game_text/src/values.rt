@@ -11,7 +11,7 @@ use frac128::{Frac, is_short, signed};
 const LIMIT: u128 = 9223372036854775808;
 
 // The greatest power of ten that one step divides by.
-const STEP: usize = 18;
+const DIGITS_AT_ONCE: usize = 18;
 
 // The fraction, where it is short.
 fn short(fraction: Frac) -> Option<Frac>
@@ -57,7 +57,7 @@ fn lowered(fraction: Frac, power: usize) -> Option<Frac>
         if !is_short(lowest.den()) {
             return None;
         }
-        let step = left.min(STEP);
+        let step = left.min(DIGITS_AT_ONCE);
         lowest = divided(lowest, step);
         left -= step;
     }
@@ -86,7 +86,7 @@ pub fn fraction(negative: bool, top: u128, bottom: u128) -> Option<Frac>
     short(over(signed(top, negative), bottom))
 }
 
-// A number with so many digits behind the point, times or over a power of ten, where it is short.
+// A number with so many digits after the point, times or over a power of ten, where it is short.
 pub fn decimal(
     negative: bool,
     size: u128,

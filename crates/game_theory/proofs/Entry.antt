@@ -14,12 +14,12 @@ use Rattle.game_theory.specs.Trees.{IsTree}
 use Rattle.game_theory.specs.Behaviour.{IsChoice, payoff, pure, reply}
 use Rattle.game_theory.specs.TreeEquilibrium.{IsEquilibrium}
 use Rattle.game_theory.specs.TreeExamples.{entry_game, both, EntryHasTwoPureEquilibria}
-use Rattle.game_theory.proofs.TreeTests.{tree-tested, even_lottery}
+use Rattle.game_theory.proofs.TreeTests.{tree-tested, coin_toss}
 
 -- the entry game is a tree
 entry-tree : IsTree entry_game
 entry-tree =
-    tree-tested entry_game (record { some_node = refl; nodes = refl; edges = refl; sets = refl }) (λ s l e. even_lottery entry_game s refl (λ a. refl))
+    tree-tested entry_game (record { some_node = refl; nodes = refl; edges = refl; sets = refl }) (λ s l e. coin_toss entry_game s refl (λ a. refl))
 
 -- what player i gets where the firms choose these actions
 abbrev gets : ℕ → ℕ → ℕ → ℚ

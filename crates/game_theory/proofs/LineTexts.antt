@@ -7,7 +7,7 @@ use Rattle.rational.specs.Gcd.{gcd}
 use Rattle.rational.specs.Rational.{ℚ, frac, is_lowest, zero_ℚ, one_ℚ}
 use Rattle.game_theory.specs.Mixed.{Mixed, later, sure, pure}
 use Rattle.game_theory.specs.Lines.{listed, entries, number_text}
-use Rattle.game_theory.specs.Laws.{LinesTellProfiles}
+use Rattle.game_theory.specs.Laws.{LinesDetermineProfiles}
 use Rattle.game_theory.proofs.ProfileLines.{length-entries, entries_pure-injective}
 
 -- each number is 0 or 1
@@ -67,7 +67,7 @@ bits-told (p ∷ o ∷ ps) (q ∷ r ∷ qs) a b l h =
     ap₂ (λ x xs. x ∷ xs) told.0 (bits-told (o ∷ ps) (r ∷ qs) a.1 b.1 (omega arith) rest)
 
 -- two pure profiles never have the same line
-pub lines-tell : LinesTellProfiles
+pub lines-tell : LinesDetermineProfiles
 lines-tell ns one other f g h =
     let line : (s : List ℕ) → AreBits (entries ns (pure s)) = λ s. bits-entries ns (pure s) (λ i t. sure-bit _ t) in
     let same : join_with_byte 44 (map number_text (entries ns (pure one))) ≡ join_with_byte 44 (map number_text (entries ns (pure other))) =

@@ -30,7 +30,7 @@ child-is t k a c w h =
 pub child-is_child : (t : Tree) (k s a : ℕ) → IsTree t → k < t.size → t.set k ≡ Some s → a < t.actions s → IsChild t k a (child t k a)
 child-is_child t k s a w l e m = let c = w.some_child k s a l e m in subst (IsChild t k a) (sym (child-is t k a c.0 w c.1)) c.1
 
--- that node stands behind
+-- that node stands after
 pub child-later : (t : Tree) (k s a : ℕ) → IsTree t → k < t.size → t.set k ≡ Some s → a < t.actions s → (k < child t k a) × (child t k a < t.size)
 child-later t k s a w l e m =
     let c = child-is_child t k s a w l e m in

@@ -8,14 +8,14 @@ use Rattle.rational.proofs.Field.{le_refl}
 use Rattle.game_theory.specs.Trees.{IsTree}
 use Rattle.game_theory.specs.Behaviour.{payoff}
 use Rattle.game_theory.specs.TreeExamples.{one_card_poker, bluffs, PokerIsWorthAThird}
-use Rattle.game_theory.proofs.TreeTests.{tree-tested, even_lottery}
+use Rattle.game_theory.proofs.TreeTests.{tree-tested, coin_toss}
 
 -- one-card poker is a tree
 poker-tree : IsTree one_card_poker
 poker-tree =
-    tree-tested one_card_poker (record { some_node = refl; nodes = refl; edges = refl; sets = refl }) (λ s l e. even_lottery one_card_poker s refl (λ a. refl))
+    tree-tested one_card_poker (record { some_node = refl; nodes = refl; edges = refl; sets = refl }) (λ s l e. coin_toss one_card_poker s refl (λ a. refl))
 
--- two numbers that are not negative, and 0 behind them
+-- two numbers that are not negative, and 0 after them
 pair-not_negative : (x y : ℚ) → zero_ℚ ≤ℚ x → zero_ℚ ≤ℚ y → (a : ℕ) → zero_ℚ ≤ℚ slice_index_or (x ∷ y ∷ []) a zero_ℚ
 pair-not_negative x y p q zero = p
 pair-not_negative x y p q (suc zero) = q

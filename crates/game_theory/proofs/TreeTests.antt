@@ -6,7 +6,7 @@ use Rattle.std.proofs.lemmas.Bool.{and_parts}
 use Rattle.rational.specs.Gcd.{gcd}
 use Rattle.rational.specs.Rational.{is_lowest, frac, ◌+ℚ◌, ◌≤ℚ◌, zero_ℚ, one_ℚ}
 use Rattle.rational.specs.Sum.{sum_to}
-use Rattle.game_theory.specs.Trees.{Tree, IsTree, IsChild, IsLottery}
+use Rattle.game_theory.specs.Trees.{Tree, IsTree, IsChild, IsChanceDistribution}
 
 -- ---- tests of many numbers
 -- whether a test holds at each number below n
@@ -111,7 +111,7 @@ node-tells : (t : Tree) → PassesTests t → (k s : ℕ) → k < t.size → t.s
 node-tells t w k s l e =
     and_parts (nat_lt s t.sets) (actions_lead t k s) (if_any-tells (t.set k) (λ s. nat_lt s t.sets && actions_lead t k s) s (each_below-tells (node_fits t) t.size w.nodes k l) e)
 
--- the child behind an action
+-- the child after an action
 child-tells : (t : Tree) → PassesTests t → (k s a : ℕ) → k < t.size → t.set k ≡ Some s → a < t.actions s → (c : ℕ) × IsChild t k a c
 child-tells t w k s a l e m =
     let o = some_below-tells (is_child t k a) t.size (each_below-tells (λ a. some_below (is_child t k a) t.size) (t.actions s) (node-tells t w k s l e).1 a m) in
@@ -128,7 +128,7 @@ action-tells t w c p l =
     let o = is_one-tells (t.set (t.parent c)) (λ s. nat_lt (t.branch c) (t.actions s)) (and_parts (is_led_to t c) (is_alone t c) (edge-tells t w c p l).1).0 in
     (o.0, o.1, (Decides-ltb (t.branch c) (t.actions o.0)).0 o.2)
 
--- no other node is behind that action
+-- no other node is after that action
 alone-tells : (t : Tree) → PassesTests t → (c d : ℕ) → 0 < c → c < t.size → IsChild t (t.parent c) (t.branch c) d → c ≡ d
 alone-tells t w c d p l h =
     let alone = each_below-tells (λ d. implies (is_child t (t.parent c) (t.branch c) d) (c == d)) t.size (and_parts (is_led_to t c) (is_alone t c) (edge-tells t w c p l).1).1 d h.1 in
@@ -138,9 +138,9 @@ alone-tells t w c d p l h =
 set-tells : (t : Tree) → PassesTests t → (s : ℕ) → s < t.sets → (if_any (t.owner s) (λ i. nat_lt i t.players) ≡ true) × (nat_lt 0 (t.actions s) ≡ true)
 set-tells t w s l = and_parts (if_any (t.owner s) (λ i. nat_lt i t.players)) (nat_lt 0 (t.actions s)) (each_below-tells (set_fits t) t.sets w.sets s l)
 
--- what passes the tests, with lotteries for chance, is a tree
-pub tree-tested : (t : Tree) → PassesTests t → ((s : ℕ) → s < t.sets → t.owner s ≡ None → IsLottery t s) → IsTree t
-tree-tested t w lotteries =
+-- what passes the tests, with chance_distributions for chance, is a tree
+pub tree-tested : (t : Tree) → PassesTests t → ((s : ℕ) → s < t.sets → t.owner s ≡ None → IsChanceDistribution t s) → IsTree t
+tree-tested t w chance_distributions =
     record {
       some_node = (Decides-ltb 0 t.size).0 w.some_node;
       sets_within = λ k s l e. (Decides-ltb s t.sets).0 (node-tells t w k s l e).0;
@@ -150,10 +150,10 @@ tree-tested t w lotteries =
       led_to = action-tells t w;
       some_child = child-tells t w;
       one_child = λ k a c d p q. alone-tells t w c d p.0 p.1 (q.0, q.1, q.2 ∙ sym p.2, q.3 ∙ sym p.3);
-      lotteries = lotteries;
+      chance_distributions = chance_distributions;
     }
 
--- ---- lotteries
+-- ---- chance_distributions
 -- one half is not negative
 half_not_negative : zero_ℚ ≤ℚ frac (pos 1) 2
 unfolding frac gcd is_lowest
@@ -165,5 +165,5 @@ unfolding frac ◌+ℚ◌ gcd is_lowest
 halves_sum = refl
 
 -- two even chances are a lottery
-pub even_lottery : (t : Tree) (s : ℕ) → t.actions s ≡ 2 → ((a : ℕ) → t.chance s a ≡ frac (pos 1) 2) → IsLottery t s
-even_lottery t s e h = record { not_negative = λ a l. rw (h a) half_not_negative; sum_is_one = rw (e, h 0, h 1) halves_sum }
+pub coin_toss : (t : Tree) (s : ℕ) → t.actions s ≡ 2 → ((a : ℕ) → t.chance s a ≡ frac (pos 1) 2) → IsChanceDistribution t s
+coin_toss t s e h = record { not_negative = λ a l. rw (h a) half_not_negative; sum_is_one = rw (e, h 0, h 1) halves_sum }

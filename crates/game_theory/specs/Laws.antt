@@ -48,7 +48,7 @@ OneListOfPureEquilibria =
     (g : Game) (a b : List (List ℚ)) → ArePureEquilibria g a → ArePureEquilibria g b → a ≡ b
 
 -- two pure profiles never have the same line
-abbrev pub LinesTellProfiles : Type 0
-LinesTellProfiles =
+abbrev pub LinesDetermineProfiles : Type 0
+LinesDetermineProfiles =
     (ns one other : List ℕ) → IsProfile ns one → IsProfile ns other
     → line_text (entries ns (pure one)) ≡ line_text (entries ns (pure other)) → one ≡ other

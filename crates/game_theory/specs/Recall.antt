@@ -4,15 +4,15 @@ use Rattle.game_theory.specs.Trees.{Tree}
 use Rattle.game_theory.specs.Behaviour.{is_own}
 
 -- the set and the action of one step of a path, where the set is player i's own
-abbrev pub own_step : Tree → ℕ → Option ℕ → ℕ → List (ℕ × ℕ)
-own_step t i None a = []
-own_step t i (Some s) a = if is_own t i s then (s, a) ∷ [] else []
+abbrev pub own_edge : Tree → ℕ → Option ℕ → ℕ → List (ℕ × ℕ)
+own_edge t i None a = []
+own_edge t i (Some s) a = if is_own t i s then (s, a) ∷ [] else []
 
 -- player i's sets and actions on the last n edges of the path to node k
 abbrev pub history_to : Tree → ℕ → ℕ → ℕ → List (ℕ × ℕ)
 history_to t i zero k = []
 history_to t i (suc n) zero = []
-history_to t i (suc n) (suc k) = history_to t i n (t.parent (suc k)) ++ own_step t i (t.set (t.parent (suc k))) (t.branch (suc k))
+history_to t i (suc n) (suc k) = history_to t i n (t.parent (suc k)) ++ own_edge t i (t.set (t.parent (suc k))) (t.branch (suc k))
 
 -- The own history of node k for player i: that player's sets and actions on the path to it, the choice at the node itself
 -- not included. The path has at most k edges, since each node stands after its parent.

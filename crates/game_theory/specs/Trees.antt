@@ -33,7 +33,7 @@ abbrev pub IsWithin : Tree → ℕ → ℕ → Type 0
 IsWithin t k c = (n : ℕ) × IsAbove t n k c
 
 -- the probabilities of chance at a set are not negative and sum to 1
-pub record IsLottery (t : Tree) (s : ℕ) : Type 0 where
+pub record IsChanceDistribution (t : Tree) (s : ℕ) : Type 0 where
   pub not_negative : (a : ℕ) → a < t.actions s → zero_ℚ ≤ℚ t.chance s a
   pub sum_is_one : sum_to (t.actions s) (t.chance s) ≡ one_ℚ
 
@@ -48,4 +48,4 @@ pub record IsTree (t : Tree) : Type 0 where
   pub led_to : (c : ℕ) → 0 < c → c < t.size → (s : ℕ) × (t.set (t.parent c) ≡ Some s) × (t.branch c < t.actions s)
   pub some_child : (k s a : ℕ) → k < t.size → t.set k ≡ Some s → a < t.actions s → (c : ℕ) × IsChild t k a c
   pub one_child : (k a c d : ℕ) → IsChild t k a c → IsChild t k a d → c ≡ d
-  pub lotteries : (s : ℕ) → s < t.sets → t.owner s ≡ None → IsLottery t s
+  pub chance_distributions : (s : ℕ) → s < t.sets → t.owner s ≡ None → IsChanceDistribution t s

@@ -1,24 +1,13 @@
 //! Games in strategic and in extensive form and their equilibria, for contracts and proofs.
 //!
-//! The definitions stand in `specs/`. Begin with `Profiles`: a game in strategic form, its pure
-//! profiles and their numbers. `Mixed` has mixed profiles, their payoffs and pure replies,
-//! `Equilibrium` says what an equilibrium is, and `Lines` how equilibria are listed: the entries of
-//! a line, the order of the lines and their text. `Laws` states what holds of all games, and
-//! `Examples` works out three.
-//!
-//! Then `Trees`: a game tree and what makes it one. `Behaviour` has behaviour, the values of nodes,
-//! payoffs and pure replies, `TreeEquilibrium` says what an equilibrium is, and `Recall` what
-//! perfect recall is. `TreeLaws` states what holds of all trees, and `TreeExamples` works out three.
-//!
-//! The functions below do nothing: the contract of each is a law, so that a check proves it.
-//!
-//! The lemmas in `proofs/` are for the crates above: `ProfileNumbers` on profiles, their numbers
-//! and strides, `ProfileOrder` on which profile comes first, `SureStrategies` on the probabilities
-//! of one strategy, `Payoffs` on means over the profiles, `Replies` on pure replies and on profiles
-//! with equal probabilities, `PureProfiles` on the payoffs and equilibria of pure profiles,
-//! `LineOrder` on lists of lines, `ProfileLines` on the entries of profiles and their order, and
-//! `LineTexts` on the texts of the lines of pure profiles; of trees `Children`, `Subtrees`, `Values`
-//! and `OwnSets`.
+//! Callers may rely on: the functions without a body, each a law: on profiles and their cells,
+//! payoffs as means, lists and lines of equilibria, values of nodes, and worked examples.
+//! Definitions: strategic form: `specs::Profiles`, then `Mixed`, `Equilibrium`, `Lines`. Extensive
+//! form: `Trees`, then `Behaviour`, `TreeEquilibrium`, `Recall`, `OwnSets`.
+//! Lemmas for callers: `proofs::ProfileNumbers`, `SureStrategies`, `Replies`, `PureProfiles`,
+//! `LineOrder` and `ProfileLines`; of trees `Children`, `Subtrees`, `Values` and `OwnSets`.
+//! A change here touches: what an equilibrium is and how its line is written, and so the contract
+//! of `run`, what each text of a tool is, and the proofs of all crates that name games.
 #![tactic(auto)]
 
 ghost use Rattle.game_theory.specs.Examples.{
@@ -27,7 +16,7 @@ ghost use Rattle.game_theory.specs.Examples.{
   PrisonersDilemmaHasOnePureEquilibrium,
 };
 ghost use Rattle.game_theory.specs.Laws.{
-  LinesTellProfiles,
+  LinesDetermineProfiles,
   OneListOfPureEquilibria,
   PayoffIsMeanOfReplies,
   ProfilesAreNumbered,
@@ -76,8 +65,8 @@ pub fn one_list_of_pure_equilibria()
 {}
 
 /// Two pure profiles never have the same line.
-pub fn lines_tell_profiles()
-    ensures { LinesTellProfiles }
+pub fn lines_determine_profiles()
+    ensures { LinesDetermineProfiles }
 {}
 
 /// In the prisoners' dilemma both confess: that is its only pure equilibrium.
@@ -110,7 +99,7 @@ pub fn ends_pay_their_outcome()
     ensures { EndsPayTheirOutcome }
 {}
 
-/// The value of any other node is what its outcome pays and the weighted values behind its actions.
+/// The value of any other node is what its outcome pays and the weighted values after its actions.
 pub fn values_by_actions()
     ensures { ValuesByActions }
 {}

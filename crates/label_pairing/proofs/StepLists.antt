@@ -22,7 +22,7 @@ module _ (step : ℕ → Step) (n i : ℕ) (l : i < n) where
   pub unfit-first : (u : Step) → All StepFits (take i (map step (range_with_len 0 n))) → (StepFits (step i) → ⊥) → u ≡ step i → IsFirstUnfit (map step (range_with_len 0 n)) u
   unfit-first u h f is = record {
     before = take i (map step (range_with_len 0 n));
-    behind = drop (suc i) (map step (range_with_len 0 n));
+    following = drop (suc i) (map step (range_with_len 0 n));
     is_there = split_here (λ s. s ∷ []) (map step (range_with_len 0 n)) i u within (is ∙ sym (read u));
     earlier_fit = h;
     does_not_fit = λ g. f (subst StepFits is g);

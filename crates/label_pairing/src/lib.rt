@@ -1,7 +1,12 @@
 //! Pairs of vertices that together have all labels, and the scaling of their points.
 //!
-//! `matching` tells which masks of a list complete a mask, `counting` counts all pairs, `pairing`
-//! lists them, and `scaling` divides a vertex's point by the sum of its entries.
+//! Callers may rely on: `pairs` gives all pairs in order, or the limit with their count exactly
+//! where they pass it; `scale` divides a point by the sum of its entries.
+//! Definitions: `specs::Pairs` has the pairs of marked points, `Matches` the masks that complete a
+//! mask, `Scaling` the steps of scaling, `Stops` what is answered.
+//! Private words: the module `counting`, which counts the pairs before they are listed.
+//! Lemmas for callers: `proofs::AllPairs` and `Rows` on the list of pairs.
+//! A change here touches: `enummixed`, the limit on pairs and the counts of `make`.
 #![tactic(auto)]
 
 ghost use Rattle.label_pairing.specs.Laws.{PairsAreTheTogether, PairsAreSingle};

@@ -9,7 +9,7 @@ use Rattle.frac128.specs.declared.steps.Op.TheVariants.{Sub, Mul}
 use Rattle.pure_payoffs.specs.FirstUnfit.{Fits, IsFirstUnfitOf}
 use Rattle.pure_payoffs.specs.Steps.{Step, IsFirstUnfit}
 use Rattle.pure_payoffs.proofs.FirstUnfits.{split_here}
-use Rattle.pure_payoffs.proofs.Runs.{first_unfit-behind, first_unfit-here, one-fits}
+use Rattle.pure_payoffs.proofs.Runs.{first_unfit-following, first_unfit-here, one-fits}
 use Rattle.sequence_data.specs.declared.types.Cell.{Cell}
 use Rattle.lemke_pivot.specs.FormProblems.{PlayersCell, both_costs, cost_steps, steps_at}
 
@@ -21,7 +21,7 @@ pub difference_unfit : (most weight payoff part : ℚ) (r : Result ℚ Step) →
 difference_unfit most weight payoff part (Ok v) is fits step refused = tt
 difference_unfit most weight payoff part (Err e) is fits step refused =
     subst (IsFirstUnfit (cost_steps most weight payoff)) (sym (step ∙ ap (λ p. unfit Sub p payoff) is))
-    (first_unfit-behind (unfit Mul most weight ∷ []) (unfit Sub (most *ℚ weight) payoff ∷ []) _ (one-fits (unfit Mul most weight) fits) (first_unfit-here _ [] (λ f. refused (subst (λ p. SubFits p payoff) (sym is) f))))
+    (first_unfit-following (unfit Mul most weight ∷ []) (unfit Sub (most *ℚ weight) payoff ∷ []) _ (one-fits (unfit Mul most weight) fits) (first_unfit-here _ [] (λ f. refused (subst (λ p. SubFits p payoff) (sym is) f))))
 
 -- ---- both players' costs
 both_append : (xs ys : List Cell) → both_costs (xs ++ ys) ≡ both_costs xs ++ both_costs ys

@@ -21,7 +21,7 @@ pub record IsSolutionOf (p s : Problem) : Type 0 where
 
 -- the first step of the path that does not fit: the number of its pivot, the entering variable, and
 -- the step
-pub record IsUnfitStep (p : Problem) (step entering : ℕ) (unfit : Unfit) : Type 0 where
+pub record IsUnfitPivot (p : Problem) (step entering : ℕ) (unfit : Unfit) : Type 0 where
   pub row : ℕ
   pub begins : BeginsAt p row
   pub path : EndsUnfit p.tableau (size_of p) row step entering unfit
@@ -29,7 +29,7 @@ pub record IsUnfitStep (p : Problem) (step entering : ℕ) (unfit : Unfit) : Typ
 -- the solution, where each step fits; and else the first step of the path that does not
 abbrev pub IsEndOf : Problem → LemkeEnd → Type 0
 IsEndOf p (Solved s) = IsSolutionOf p s
-IsEndOf p (Range step entering unfit) = IsUnfitStep p step entering unfit
+IsEndOf p (Range step entering unfit) = IsUnfitPivot p step entering unfit
 
 -- A problem's path has one end.
 abbrev pub EndsAreSingle : Type 0

@@ -11,7 +11,7 @@ ghost use Rattle.lemke_pivot.specs.Parts.{IsLeastRow, IsProblemSystem, plan_one,
 
 use crate::path::walk;
 use frac128::{Frac, Unfit};
-use lex_tableau::{StartStop, Steps, System, Tableau, Work};
+use lex_tableau::{PivotCount, StartStop, System, Tableau, Work};
 use sequence_data::Side;
 use std::alloc::Global;
 use std::marker::Model;
@@ -153,7 +153,7 @@ impl Lcp {
     }
 
     /// Follows the path to its end. Takes no memory. There is never a ray.
-    pub fn solve<L: Ledger>(self, steps: &mut Steps<L>) -> LemkeEnd
+    pub fn solve<L: Ledger>(self, pivots: &mut PivotCount<L>) -> LemkeEnd
         ensures { IsEndOf self result }
     {
         let Lcp {
@@ -163,7 +163,7 @@ impl Lcp {
             mut work,
         } = self;
         let row = least_row(work.now(), size);
-        match walk(&mut work, size, row, steps) {
+        match walk(&mut work, size, row, pivots) {
             Ok(()) => LemkeEnd::Solved(Solution {
                 first,
                 second,

@@ -1,13 +1,12 @@
 //! An equilibrium of a game with two players by complementary pivots.
 //!
-//! [`Lcp`] is the linear complementarity problem of two players' realisation plans (Koller, Megiddo
-//! and von Stengel 1996). `Lcp::solve` follows the path of complementary pivots (Lemke 1965) to its
-//! end, a [`Solution`], or to the first step that does not fit. There is no ray. The solution has
-//! both plans; `laws` says that these are an equilibrium of the game.
-//!
-//! `specs::Problems` has linear complementarity problems w = b + M z, their rays, and the problem of
-//! two players' sides and costs; `specs::ProblemPaths` the path of complementary pivots. The
-//! functions without a body have no other meaning than the laws that they promise.
+//! Callers may rely on: `problem` and `Lcp::solve` give the one problem and the one end of its
+//! path: a solution or the first step that does not fit, and no ray; `solutions_solve_trees`.
+//! Definitions: `specs::Problems` has problems w = b + M z and that of two sides, `ProblemPaths`
+//! the path of complementary pivots, `FormProblems` what a form answers, `Ends` the ends of a path.
+//! Private words: `specs::Walks`, `Vectors`, `Values`, `Bases` and `Systems`.
+//! Lemmas for callers: `proofs::ProblemAnswers` and `PathEnds`, that each is one; `Solve`.
+//! A change here touches: what `lcp` answers and refuses, and `lcp_texts_are_equilibria`.
 #![tactic(auto)]
 
 ghost use Rattle.lemke_pivot.specs.ProblemLaws.{NoBasisOccursTwice, PathsAreShort, PathsAreUnique, PathsEndSolved, PathsEndInRays, FirstRowsExist, NoRay, AlwaysALeavingRow, LeastIsNegative, SolutionsHavePlans};

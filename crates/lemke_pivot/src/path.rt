@@ -5,7 +5,7 @@ ghost use Rattle.lemke_pivot.specs.ProblemPaths.{complement};
 ghost use Rattle.lemke_pivot.specs.Paths.{EndsSolved, EndsUnfit, IsPathStart, IsNonbasic, saturated};
 
 use frac128::Unfit;
-use lex_tableau::{Steps, Tableau, Work};
+use lex_tableau::{PivotCount, Tableau, Work};
 use std::sync::ledger::Ledger;
 
 /// The pivot with the first step that does not fit, and the variable that was to enter.
@@ -63,7 +63,7 @@ pub(crate) fn walk<L: Ledger>(
     work: &mut Work,
     size: usize,
     first: usize,
-    steps: &mut Steps<L>,
+    pivots: &mut PivotCount<L>,
 ) -> Result<(), PathStop>
     requires start { IsPathStart size first work.old }
     ensures solved { OnOk result (EndsSolved work.old size first work.new) }
@@ -71,7 +71,7 @@ pub(crate) fn walk<L: Ledger>(
         EndsUnfit work.old size first stop.step stop.entering stop.unfit) }
 {
     let z0 = (size + size + 1) as u32;
-    if let Err(unfit) = work.pivot(first, size, steps) {
+    if let Err(unfit) = work.pivot(first, size, pivots) {
         return Err(PathStop {
             step: 1,
             entering: z0,
@@ -90,7 +90,7 @@ pub(crate) fn walk<L: Ledger>(
         };
         let leaving = work.now().basic(row);
         step = next_step(step);
-        if let Err(unfit) = work.pivot(row, col, steps) {
+        if let Err(unfit) = work.pivot(row, col, pivots) {
             return Err(PathStop {
                 step,
                 entering,

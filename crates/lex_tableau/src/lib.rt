@@ -1,20 +1,27 @@
-//! Tableaux of linear systems, with the pivot and the lexicographic row. Rows are kept as whole
-//! numbers.
+//! Tableaux of linear systems in whole numbers, with the pivot and the lexicographic row; worked
+//! rows of them stand as tests.
 //!
-//! `specs::Rows` has what contracts see of a tableau and the tableau of fractions that it stands
-//! for, `specs::Starts` systems and their starts, and `specs::Pivots` the steps of a pivot in their
-//! order. `Steps` counts pivots for contracts alone: it takes no bytes.
+//! Callers may rely on: `Work::pivot` pivots, or gives `Unfit` exactly at the first step that does
+//! not fit and changes nothing; `Tableau::ratio_row`; `PivotCount` counts pivots at no cost.
+//! Definitions: `specs::Rows` has tableaux and the fractions that they stand for, `Starts` systems
+//! and their starts, `Pivots` the steps of a pivot in order, `Ratio` the lexicographic row.
+//! Private words: the module `ratio`, which compares rows by their keys.
+//! Lemmas for callers: `proofs::Systems` and `Tableaux`, determined by their fractions.
+//! A change here touches: `zero_sum_lp`, `lemke_pivot`, `reply_polytope`, `basis_enum` and
+//! `enummixed`.
 #![tactic(auto)]
 
 ghost use Rattle.lex_tableau.specs.Laws.{TableauxAreDetermined};
 
+mod pivot_count;
 mod ratio;
-mod steps;
 mod system;
 mod tableau;
+#[cfg(test)]
+mod tests;
 mod work;
 
-pub use steps::Steps;
+pub use pivot_count::PivotCount;
 pub use system::{System, numbered};
 pub use tableau::{PivotStop, StartStop, Tableau};
 pub use work::Work;

@@ -12,8 +12,8 @@ ghost use Rattle.whole_rows.specs.Rows.{fraction as fraction_of, from_place};
 ghost use Rattle.whole_rows.specs.Steps.{AllFit, IsFirstUnfit};
 ghost use Rattle.rational.specs.Tests.{sign_of};
 
+use crate::pivot_count::PivotCount;
 use crate::ratio::ratio_row;
-use crate::steps::Steps;
 use crate::system::System;
 use frac128::{Frac, Memory, Unfit};
 use std::alloc::Global;
@@ -304,7 +304,7 @@ impl Tableau {
         alloc: Global,
         row: usize,
         col: usize,
-        steps: &mut Steps<L>,
+        pivots: &mut PivotCount<L>,
     ) -> Result<Tableau, PivotStop>
         requires row_in { row < self.now.rated }
         requires col_in { col < length self.now.nonbasics }
@@ -315,9 +315,9 @@ impl Tableau {
         ensures valid { IfOk result IsTableau }
         ensures fits { OnOk result (AllFit (steps_of_pivot self.now row col)) }
         ensures unfit { IfErr result (IsPivotStop self.now row col) }
-        ensures counted { steps.new ≡ steps.old + 1 }
+        ensures counted { pivots.new ≡ pivots.old + 1 }
     {
-        steps.tick();
+        pivots.tick();
         let mut numbers = self.room(alloc)?;
         self.write_numbers(numbers.as_mut_slice(), row, col)?;
         Ok(self.with_numbers(alloc, numbers, row, col)?)

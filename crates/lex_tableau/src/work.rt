@@ -8,7 +8,7 @@ ghost use Rattle.lex_tableau.specs.StartStops.{IsStartStop};
 ghost use Rattle.lex_tableau.specs.Starts.{IsStartOf, StartFits};
 ghost use Rattle.whole_rows.specs.Steps.{AllFit, IsFirstUnfit};
 
-use crate::steps::Steps;
+use crate::pivot_count::PivotCount;
 use crate::system::System;
 use crate::tableau::{StartStop, Tableau};
 use frac128::Unfit;
@@ -69,7 +69,7 @@ impl Work {
         &mut self,
         row: usize,
         col: usize,
-        steps: &mut Steps<L>,
+        pivots: &mut PivotCount<L>,
     ) -> Result<(), Unfit>
         requires row_in { row < self.old.rated }
         requires col_in { col < length self.old.nonbasics }
@@ -81,9 +81,9 @@ impl Work {
         ensures fits { OnOk result (AllFit (steps_of_pivot self.old row col)) }
         ensures unfit { IfErr result (IsFirstUnfit (steps_of_pivot self.old row col)) }
         ensures unchanged { OnErr result (self.new ≡ self.old) }
-        ensures counted { steps.new ≡ steps.old + 1 }
+        ensures counted { pivots.new ≡ pivots.old + 1 }
     {
-        steps.tick();
+        pivots.tick();
         self.tableau
             .write_numbers(self.spare.as_mut_slice(), row, col)?;
         self.tableau.take_numbers(&mut self.spare, row, col);

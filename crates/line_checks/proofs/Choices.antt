@@ -6,7 +6,7 @@ use Rattle.std.proofs.lemmas.Grind.{flat_map-append}
 use Rattle.std.proofs.lemmas.List.{take_more}
 use Rattle.std.proofs.lemmas.Option.{get_or_from_slice_get, slice_get_cases, slice_get_within}
 
--- one more element behind those that were written
+-- one more element after those that were written
 pub one_more : (f : ℕ → List ℕ) (xs : List ℕ) (place x : ℕ) (old text next : List ℕ) → Some x ≡ slice_get xs place → text ≡ old ++ flat_map f (take place xs) → next ≡ text ++ f x → next ≡ old ++ flat_map f (take (place + 1) xs)
 one_more f xs place x old text next e h k =
     let within = slice_get_within xs place x (sym e) in

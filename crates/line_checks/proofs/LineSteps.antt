@@ -9,10 +9,10 @@ use Rattle.line_checks.specs.Lines.{IsKept, lines_answer, lines_of}
 use Rattle.line_checks.specs.declared.stops.CheckStop.{CheckStop}
 use Rattle.line_checks.specs.declared.stops.CheckStop.TheVariants as stops
 
--- what is told of the lines behind, of which the first has this number, is told of all lines, with this text before it
-pub record AreJudged (judge : ℕ → List ℕ → Answer CheckStop (List ℕ)) (lines : List (List ℕ)) (number : ℕ) (behind : List (List ℕ)) (text : List ℕ) : Type 0 where
-  pub goes_on : (more : List ℕ) → lines_answer judge number behind (Ok more) → lines_answer judge 1 lines (Ok (text ++ more))
-  pub stops : (r : CheckStop) → lines_answer judge number behind (Err r) → lines_answer judge 1 lines (Err r)
+-- what is told of the lines after, of which the first has this number, is told of all lines, with this text before it
+pub record AreJudged (judge : ℕ → List ℕ → Answer CheckStop (List ℕ)) (lines : List (List ℕ)) (number : ℕ) (following : List (List ℕ)) (text : List ℕ) : Type 0 where
+  pub goes_on : (more : List ℕ) → lines_answer judge number following (Ok more) → lines_answer judge 1 lines (Ok (text ++ more))
+  pub stops : (r : CheckStop) → lines_answer judge number following (Err r) → lines_answer judge 1 lines (Err r)
 
 -- all lines before the rest of a text are judged, and as much of their texts is kept as is asked for
 pub record IsOnWay (judge : ℕ → List ℕ → Answer CheckStop (List ℕ)) (text : List ℕ) (number : ℕ) (rest kept : List ℕ) : Type 0 where
@@ -27,25 +27,25 @@ at_start judge text kept e =
     record { whole = []; judged = record { goes_on = λ more h. h; stops = λ r h. h }; is_kept = inl e; few = omega arith }
 
 -- one more line is
-one_judged : (judge : ℕ → List ℕ → Answer CheckStop (List ℕ)) (lines : List (List ℕ)) (number : ℕ) (line : List ℕ) (behind : List (List ℕ)) (text piece : List ℕ) → judge number line (Ok piece) → AreJudged judge lines number (line ∷ behind) text → AreJudged judge lines (number + 1) behind (text ++ piece)
-one_judged judge lines number line behind text piece h j = record {
+one_judged : (judge : ℕ → List ℕ → Answer CheckStop (List ℕ)) (lines : List (List ℕ)) (number : ℕ) (line : List ℕ) (following : List (List ℕ)) (text piece : List ℕ) → judge number line (Ok piece) → AreJudged judge lines number (line ∷ following) text → AreJudged judge lines (number + 1) following (text ++ piece)
+one_judged judge lines number line following text piece h j = record {
   goes_on = λ more k. subst (λ all. lines_answer judge 1 lines (Ok all)) (sym (append_assoc text piece more)) (j.goes_on (piece ++ more) (piece, h, (more, k, refl)));
   stops = λ r k. j.stops r (inr (piece, h, inl k));
 }
 
-pub at_next : (judge : ℕ → List ℕ → Answer CheckStop (List ℕ)) (text : List ℕ) (number : ℕ) (rest kept line behind piece next : List ℕ) → IsOnWay judge text number rest kept → lines_of rest ≡ line ∷ lines_of behind → length behind < length rest → judge number line (Ok piece) → ((whole : List ℕ) → IsKept whole kept → IsKept (whole ++ piece) next) → IsOnWay judge text (number + 1) behind next
-at_next judge text number rest kept line behind piece next w e shorter h k = record {
+pub at_next : (judge : ℕ → List ℕ → Answer CheckStop (List ℕ)) (text : List ℕ) (number : ℕ) (rest kept line following piece next : List ℕ) → IsOnWay judge text number rest kept → lines_of rest ≡ line ∷ lines_of following → length following < length rest → judge number line (Ok piece) → ((whole : List ℕ) → IsKept whole kept → IsKept (whole ++ piece) next) → IsOnWay judge text (number + 1) following next
+at_next judge text number rest kept line following piece next w e shorter h k = record {
   whole = w.whole ++ piece;
-  judged = one_judged judge (lines_of text) number line (lines_of behind) w.whole piece h (subst (λ lines. AreJudged judge (lines_of text) number lines w.whole) e w.judged);
+  judged = one_judged judge (lines_of text) number line (lines_of following) w.whole piece h (subst (λ lines. AreJudged judge (lines_of text) number lines w.whole) e w.judged);
   is_kept = k w.whole w.is_kept;
   few = omega (arith, w.few);
 }
 
 -- a refused line
-pub at_stop : (judge : ℕ → List ℕ → Answer CheckStop (List ℕ)) (text : List ℕ) (number : ℕ) (rest kept line behind : List ℕ) (r : CheckStop) {X : Type 0} (answer : Result X CheckStop) (view : X → List ℕ) → IsOnWay judge text number rest kept → lines_of rest ≡ line ∷ lines_of behind → Gives stops.Memory (judge number line) (Err r) → IsErrAnd answer (λ q. q ≡ r) → Gives stops.Memory (lines_answer judge 1 (lines_of text) >>= limited) (map_ok answer view)
-at_stop judge text number rest kept line behind r answer view w e (inl m) is =
+pub at_stop : (judge : ℕ → List ℕ → Answer CheckStop (List ℕ)) (text : List ℕ) (number : ℕ) (rest kept line following : List ℕ) (r : CheckStop) {X : Type 0} (answer : Result X CheckStop) (view : X → List ℕ) → IsOnWay judge text number rest kept → lines_of rest ≡ line ∷ lines_of following → Gives stops.Memory (judge number line) (Err r) → IsErrAnd answer (λ q. q ≡ r) → Gives stops.Memory (lines_answer judge 1 (lines_of text) >>= limited) (map_ok answer view)
+at_stop judge text number rest kept line following r answer view w e (inl m) is =
     gives_exit stops.Memory (lines_answer judge 1 (lines_of text)) limited r answer view (inl m) is
-at_stop judge text number rest kept line behind r answer view w e (inr h) is =
+at_stop judge text number rest kept line following r answer view w e (inr h) is =
     gives_exit stops.Memory (lines_answer judge 1 (lines_of text)) limited r answer view (inr (w.judged.stops r (subst (λ lines. lines_answer judge number lines (Err r)) (sym e) (inl h)))) is
 
 -- all lines are judged

@@ -13,7 +13,7 @@ use Rattle.ne_checker.specs.declared.trees.TreeVerdict.TheVariants as tree_verdi
 abbrev pub equilibrium_text : List ℕ
 equilibrium_text = codes "equilibrium\n"
 
--- a strategy or an action, behind a comma
+-- a strategy or an action, after a comma
 abbrev pub choice_text : ℕ → List ℕ
 choice_text n = codes "," ++ decimal (n + 1)
 

@@ -22,7 +22,7 @@ use crate::stops::CheckStop;
 use frac128::Memory;
 use game_core::{MOST_TEXT, too_long_text};
 
-// What stands before the first line feed, and what behind it, where there is one.
+// What stands before the first line feed, and what after it, where there is one.
 fn cut(text: &[u8]) -> Option<(&[u8], &[u8])>
     ensures { MatchOption result (All (λ b. b ≢ 10) text.now)
         (λ cut. All (λ b. b ≢ 10) cut.0.now × (text.now ≡ cut.0.now ++ 10 ∷ cut.1.now)) }
@@ -31,7 +31,7 @@ fn cut(text: &[u8]) -> Option<(&[u8], &[u8])>
     Some((&text[..place], &text[place + 1..]))
 }
 
-/// The first line of a text, without its line feed, and what stands behind that; nothing where the
+/// The first line of a text, without its line feed, and what stands after that; nothing where the
 /// text is empty.
 pub(crate) fn first_line(text: &[u8]) -> Option<(&[u8], &[u8])>
     ensures lines { MatchOption result (text.now ≡ [])
@@ -42,10 +42,10 @@ pub(crate) fn first_line(text: &[u8]) -> Option<(&[u8], &[u8])>
     if text.is_empty() {
         return None;
     }
-    let Some((line, behind)) = cut(text) else {
+    let Some((line, following)) = cut(text) else {
         return Some((text, &[]));
     };
-    Some((line, behind))
+    Some((line, following))
 }
 
 /// Adds to a text, where that is not above the limit yet.

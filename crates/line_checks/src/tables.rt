@@ -57,10 +57,10 @@ pub fn check_table_lines(alloc: Global, table: &Table, text: &[u8]) -> Result<Ve
     let mut verdicts = Vec::new(alloc);
     let mut rest = text;
     let mut number = 1;
-    while let Some((line, behind)) = first_line(rest) {
+    while let Some((line, following)) = first_line(rest) {
         let verdict = table_line(alloc, table, number, line)?;
         keep(&mut verdicts, &verdict)?;
-        rest = behind;
+        rest = following;
         number += 1;
     }
     within_limit(verdicts)

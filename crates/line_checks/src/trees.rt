@@ -80,10 +80,10 @@ pub fn check_tree_lines(
     let mut verdicts = Vec::new(alloc);
     let mut rest = text;
     let mut number = 1;
-    while let Some((line, behind)) = first_line(rest) {
+    while let Some((line, following)) = first_line(rest) {
         let verdict = tree_line(alloc, tree, recall, &mut scratch, number, line)?;
         keep(&mut verdicts, &verdict)?;
-        rest = behind;
+        rest = following;
         number += 1;
     }
     within_limit(verdicts)

@@ -19,7 +19,7 @@ use Rattle.linear_systems.specs.Points.{IsPoint, IsExtremePoint, AreEqualAt, bas
 use Rattle.linear_systems.specs.Reach.{IsFeasibleStart, IsLexReached, IsClosed, HasNeighbour}
 use Rattle.linear_systems.specs.ExtremePointLaws.{HasPoint}
 use Rattle.linear_systems.proofs.Small.{extreme_alone}
-use Rattle.linear_systems.proofs.Solutions.{one_positive, rights_nonnegative, solution_basic, solution_nonbasic, solution_point, solves_reached, Place, in_basis, outside, absent, place}
+use Rattle.linear_systems.proofs.Solutions.{one_positive, rights_nonnegative, solution_basic, solution_nonbasic, solution_point, solves_reached, Standing, in_basis, outside, absent, place}
 use Rattle.linear_systems.proofs.Weights.{reduced, reduced_at, reduced_basic, reduced_key, improves, costs_sum}
 
 -- ---- among finitely many sequences one is lexicographically greatest
@@ -91,7 +91,7 @@ no_weight N s t w p q hp m best = each_zero t.rows (λ i. w (t.basic i) *ℚ t.r
     term : (v : ℕ) → v < N → zero_ℚ ≤ℚ (p v *ℚ reduced N w t (unit_at v) zero_ℚ)
     term v hv = go (place t v)
       where
-        go : Place t v → zero_ℚ ≤ℚ (p v *ℚ reduced N w t (unit_at v) zero_ℚ)
+        go : Standing t v → zero_ℚ ≤ℚ (p v *ℚ reduced N w t (unit_at v) zero_ℚ)
         go (in_basis i hi e) = subst (λ v. zero_ℚ ≤ℚ (p v *ℚ reduced N w t (unit_at v) zero_ℚ)) e (subst (λ a. zero_ℚ ≤ℚ a) (sym (times_zero (p (t.basic i)) _ (reduced_basic N w s t i q.reached hi))) (le_refl zero_ℚ))
         go (outside j hj e) = subst (λ v. zero_ℚ ≤ℚ (p v *ℚ reduced N w t (unit_at v) zero_ℚ)) e (nonneg-mul (p (t.nonbasic j)) _ (hp.nonnegative _ (q.variables _ (in_column j hj refl))) (best j hj))
         go (absent h g) = subst (λ a. zero_ℚ ≤ℚ a) (sym (ap (λ a. p v *ℚ a) (reduced_at N w t v hv ∙ ap (λ a. w v -ℚ a) (sum_to-zeros t.rows _ (λ i hi. times_zero (w (t.basic i)) _ (coefficient_absent t i v (h i hi) g)))) ∙ ring rational_ring (p v ∷ w v ∷ []) (A :* (B :- num 0)) (B :* A) refl ∙ m.none v)) (le_refl zero_ℚ)

@@ -69,10 +69,10 @@ rights_nonnegative N s t i p hi = first_nonnegative s.rows (key s.basic t i) (p.
 
 -- ---- it is a point, and an extreme one
 -- a variable is basic, nonbasic, or not in the tableau
-pub data Place (t : Tableau) (v : ℕ) : Type 0 where
-  in_basis : (i : ℕ) → i < t.rows → t.basic i ≡ v → Place t v
-  outside : (j : ℕ) → j < t.width → t.nonbasic j ≡ v → Place t v
-  absent : ((i : ℕ) → i < t.rows → t.basic i ≢ v) → ((j : ℕ) → j < t.width → t.nonbasic j ≢ v) → Place t v
+pub data Standing (t : Tableau) (v : ℕ) : Type 0 where
+  in_basis : (i : ℕ) → i < t.rows → t.basic i ≡ v → Standing t v
+  outside : (j : ℕ) → j < t.width → t.nonbasic j ≡ v → Standing t v
+  absent : ((i : ℕ) → i < t.rows → t.basic i ≢ v) → ((j : ℕ) → j < t.width → t.nonbasic j ≢ v) → Standing t v
 
 found_or : (n : ℕ) (f : ℕ → ℕ) (v : ℕ) → ((i : ℕ) → i < n → f i ≢ v) ⊎ ((i : ℕ) × (i < n) × (f i ≡ v))
 found_or zero f v = inl (λ i h. absurd (omega arith))
@@ -81,7 +81,7 @@ found_or (suc n) f v = elim (found_or n f v) [
   | inl h ↦ elim (cases_eq (f n) v) [ inl e ↦ inr (n, omega arith, e) | inr ne ↦ inl (λ i hi. elim (eq-or-lt_of_le (le_of_suc-le-suc hi)) [ inl e ↦ subst (λ k. f k ≢ v) (sym e) ne | inr l ↦ h i l ]) ]
 ]
 
-pub place : (t : Tableau) (v : ℕ) → Place t v
+pub place : (t : Tableau) (v : ℕ) → Standing t v
 place t v = elim (found_or t.rows t.basic v) [ inr x ↦ in_basis x.0 x.1 x.2 | inl h ↦ elim (found_or t.width t.nonbasic v) [ inr x ↦ outside x.0 x.1 x.2 | inl g ↦ absent h g ] ]
 
 solution_nonnegative : (N : ℕ) (s t : Tableau) (v : ℕ) → IsLexReached N s t → zero_ℚ ≤ℚ basic_solution t v
@@ -90,7 +90,7 @@ solution_nonnegative N s t v p = go (place t v)
     rows : t.rows ≡ s.rows
     rows = p.reached.rows
 
-    go : Place t v → zero_ℚ ≤ℚ basic_solution t v
+    go : Standing t v → zero_ℚ ≤ℚ basic_solution t v
     go (in_basis i hi e) = subst (λ v. zero_ℚ ≤ℚ basic_solution t v) e (subst (λ a. zero_ℚ ≤ℚ a) (sym (solution_basic N s.rows s t i p.reached hi)) (rights_nonnegative N s t i p (omega (arith, rows))))
     go (outside j hj e) = subst (λ v. zero_ℚ ≤ℚ basic_solution t v) e (subst (λ a. zero_ℚ ≤ℚ a) (sym (solution_nonbasic N s.rows s t j p.reached hj)) (le_refl zero_ℚ))
     go (absent h g) = subst (λ a. zero_ℚ ≤ℚ a) (sym (solution_elsewhere t v h)) (le_refl zero_ℚ)

@@ -79,7 +79,7 @@ rest_member x xs y ys z o e c (inl f) = absurd (ComesBefore-irrefl x (subst (λ 
 abbrev pub AreWithin : List (List ℕ) → List (List ℕ) → Type 0
 AreWithin xs ys = (z : List ℕ) → Contains xs z → Contains ys z
 
--- the same behind equal firsts
+-- the same after equal firsts
 AreWithin-rest : (x : List ℕ) (xs : List (List ℕ)) (y : List ℕ) (ys : List (List ℕ)) → AreAscending (x ∷ xs) → x ≡ y → AreWithin (x ∷ xs) (y ∷ ys) → AreWithin xs ys
 AreWithin-rest x xs y ys o e f z c = rest_member x xs y ys z o e c (Contains-cases y ys z (f z (Contains-later x xs z c)))
 

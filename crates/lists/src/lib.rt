@@ -1,9 +1,14 @@
-//! Lists, options and tests, for contracts and proofs: what the library of the toolchain leaves out.
+//! Lists, options and tests, for contracts and proofs: what the library of the toolchain leaves
+//! out.
 //!
-//! `specs::Options` has `>>=`, by which a definition goes on with what it found; `specs::Orders` the
-//! strict order of lists of numbers. `proofs` has lemmas on these words and on the library's own:
-//! `Options`, `Elements` (lists and their elements), `Numbers`, and `Orders`. A lemma that names a word
-//! of another crate stands in that crate.
+//! Callers may rely on: `lists_are_ordered`: the order of lists of numbers is strict, and lists in
+//! order are determined by their members.
+//! Definitions: `specs::Options` has `>>=`, by which a definition goes on with what it found;
+//! `specs::Orders` the order of lists.
+//! Lemmas for callers: `proofs::Options`, `Elements` (lists and their elements), `Numbers` and
+//! `Orders`. A lemma that names a word of another crate stands in that crate.
+//! A change here touches: the order of reduced strategies and of choice lists, and what the readers
+//! of files take off their tokens.
 #![tactic(auto)]
 
 ghost use Rattle.lists.specs.Laws.{ListsAreOrdered};

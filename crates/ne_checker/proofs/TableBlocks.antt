@@ -11,7 +11,7 @@ use Rattle.game_theory.specs.Profiles.{Game, profile_at, profile_count, stride}
 use Rattle.game_theory.specs.Mixed.{Mixed}
 use Rattle.game_theory.proofs.ProfileNumbers.{quotient-of, remainder-of, strategy-profile_at}
 use Rattle.pure_payoffs.specs.Steps.{Step, StepFits, IsFirstUnfit}
-use Rattle.pure_payoffs.proofs.Runs.{first_unfit-more, first_unfit-behind}
+use Rattle.pure_payoffs.proofs.Runs.{first_unfit-more, first_unfit-following}
 use Rattle.best_replies.specs.Strategies.{strategy_value, weight}
 use Rattle.ne_checker.specs.TableChecks.{others_probabilities, product_steps, profile_steps, steps_at, strategy_steps, value_below, weighed_steps}
 use Rattle.ne_checker.proofs.TableRuns.{fits-joined, none-more, steps_of, unfit-joined}
@@ -106,7 +106,7 @@ module _ (g : Game) (m : Mixed) (i s k : ℕ) where
 
   pub sum-unfit : (w pay sum : ℚ) (u : Step) → strategy_of ≡ s → w ≡ weight m i (profile_at g.strategies k) → pay ≡ g.pays i k → sum ≡ value_below g m i s k → All StepFits weight_steps → IsFirstUnfit (weighed_steps w pay sum) u → IsFirstUnfit (steps_at g m i s k) u
   sum-unfit w pay sum u e a b c h f =
-      subst (λ ss. IsFirstUnfit ss u) (sym (played-steps e)) (first_unfit-behind weight_steps _ u h (subst (λ ss. IsFirstUnfit ss u) (λ j. weighed_steps (a j) (b j) (c j)) f))
+      subst (λ ss. IsFirstUnfit ss u) (sym (played-steps e)) (first_unfit-following weight_steps _ u h (subst (λ ss. IsFirstUnfit ss u) (λ j. weighed_steps (a j) (b j) (c j)) f))
 
   pub profile-value : (w pay sum next : ℚ) → strategy_of ≡ s → w ≡ weight m i (profile_at g.strategies k) → pay ≡ g.pays i k → sum ≡ value_below g m i s k → next ≡ sum +ℚ (w *ℚ pay) → next ≡ value_below g m i s (suc k)
   profile-value w pay sum next e a b c n = n ∙ (λ j. c j +ℚ (a j *ℚ b j)) ∙ sym (played-value e)
@@ -130,7 +130,7 @@ module _ (g : Game) (m : Mixed) (i s : ℕ) (is_player : i < length g.strategies
   pub record IsReached (value : ℚ) (first : ℕ) : Type 0 where
     pub reached : ℕ
     pub within : reached ≤ profile_count g.strategies
-    pub behind : reached ≤ first
+    pub following : reached ≤ first
     pub value_is : value ≡ value_below g m i s reached
     pub fit : All StepFits (steps_of (steps_at g m i s) 0 reached)
     pub gap : (k : ℕ) → reached ≤ k → k < first → get_or (profile_at g.strategies k) i 0 ≢ s
@@ -141,7 +141,7 @@ module _ (g : Game) (m : Mixed) (i s : ℕ) (is_player : i < length g.strategies
       record {
         reached = 0;
         within = omega arith;
-        behind = omega arith;
+        following = omega arith;
         value_is = refl;
         fit = All-nil StepFits;
         gap = λ k l b p. before_all d n s k some_stride is_strategy (omega (arith, b, e)) (sym (strategy-profile_at g.strategies k i is_player) ∙ p);
@@ -160,10 +160,10 @@ module _ (g : Game) (m : Mixed) (i s : ℕ) (is_player : i < length g.strategies
         ))
 
     pub at_first : value ≡ value_below g m i s first
-    at_first = (kept first h.behind (omega arith)).0
+    at_first = (kept first h.following (omega arith)).0
 
     pub fits_at_first : All StepFits (steps_of (steps_at g m i s) 0 first)
-    fits_at_first = (kept first h.behind (omega arith)).1
+    fits_at_first = (kept first h.following (omega arith)).1
 
     pub block-within : first < profile_count g.strategies → first + d ≤ profile_count g.strategies
     block-within l =
@@ -184,7 +184,7 @@ module _ (g : Game) (m : Mixed) (i s : ℕ) (is_player : i < length g.strategies
         record {
           reached = first + d;
           within = block-within l;
-          behind = (let t : d * 1 ≤ d * n = mul-le-mul_left d (let some : 1 ≤ n = omega (arith, is_strategy) in some) in omega (arith, t));
+          following = (let t : d * 1 ≤ d * n = mul-le-mul_left d (let some : 1 ≤ n = omega (arith, is_strategy) in some) in omega (arith, t));
           value_is = e;
           fit = fits-joined (steps_at g m i s) first d fits_at_first f;
           gap = λ k a z p. (let at = h.block.1 in between d n h.block.0 s k some_stride (omega (arith, is_strategy)) (omega (arith, a, at)) (omega (arith, z, at)) (sym (strategy-profile_at g.strategies k i is_player) ∙ p));
@@ -195,6 +195,6 @@ module _ (g : Game) (m : Mixed) (i s : ℕ) (is_player : i < length g.strategies
     pub block-unfit : (u : Step) → first < profile_count g.strategies → IsFirstUnfit (steps_of (steps_at g m i s) first d) u → IsFirstUnfit (strategy_steps g m i s) u
     block-unfit u l f = unfit-joined (steps_at g m i s) first d (profile_count g.strategies) u (block-within l) fits_at_first f
 
-    -- behind the last block all is summed
+    -- after the last block all is summed
     pub done : profile_count g.strategies ≤ first → (value ≡ strategy_value g m i s) × All StepFits (strategy_steps g m i s)
     done l = kept (profile_count g.strategies) h.within l

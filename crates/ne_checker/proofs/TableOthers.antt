@@ -12,7 +12,7 @@ use Rattle.game_theory.specs.Profiles.{profile_at}
 use Rattle.game_theory.specs.Mixed.{Mixed, later, probability}
 use Rattle.pure_payoffs.specs.Plays.{Give}
 use Rattle.pure_payoffs.specs.Steps.{Step, IsFirstUnfit}
-use Rattle.pure_payoffs.proofs.Runs.{behind-gives, first_unfit-here, one-fits}
+use Rattle.pure_payoffs.proofs.Runs.{following-gives, first_unfit-here, one-fits}
 use Rattle.best_replies.specs.Strategies.{own_as_one, weight}
 use Rattle.ne_checker.specs.TableChecks.{others_from, others_probabilities, product_steps}
 
@@ -31,7 +31,7 @@ module _ (m : Mixed) (i : ℕ) where
       (let start : from (own_as_one m i) 0 ≡ own_as_one m i = λ d k s. own_as_one m i ((let e : 0 + k ≡ k = omega arith in e) d) s in
       subst (λ v. Give (product_steps one_ℚ (others_probabilities m i strategies)) v r) (one-*ℚ _ ∙ ap (λ x. probability x strategies) start) h)
 
-  -- behind the last player there are none
+  -- after the last player there are none
   pub none-left : (j : ℕ) (product : ℚ) → GiveFrom j [] product (Ok product)
   none-left j product = (sym (*ℚ-one product), λ k d l. absurd (omega (arith, l)))
 
@@ -65,7 +65,7 @@ module _ (m : Mixed) (i : ℕ) where
             → Give (product_steps product ((if b then [] else m j s ∷ []) ++ others_from m i (suc j) strategies)) (product *ℚ probability (from (own_as_one m i) j) (s ∷ strategies)) r
         go true d v = absurd (ne (d.0 refl))
         go false d v =
-            behind-gives (unfit Mul product (m j s) ∷ []) (product_steps (product *ℚ m j s) (others_from m i (suc j) strategies)) (product *ℚ probability (from (own_as_one m i) j) (s ∷ strategies)) r
+            following-gives (unfit Mul product (m j s) ∷ []) (product_steps (product *ℚ m j s) (others_from m i (suc j) strategies)) (product *ℚ probability (from (own_as_one m i) j) (s ∷ strategies)) r
             (one-fits (unfit Mul product (m j s)) (subst (MulFits product) is fits))
             (subst (λ x. Give (product_steps (product *ℚ m j s) (others_from m i (suc j) strategies)) x r) (*ℚ_assoc product (m j s) _ ∙ ap (λ x. product *ℚ x) (sym v)) there)
 

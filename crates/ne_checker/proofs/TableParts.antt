@@ -35,7 +35,7 @@ module _ (t : GameTable) (valid : IsTable t) where
     pub some_strategy : 0 < get_or (strategy_counts t) i 0
     some_strategy = (HaveStrategies-table t valid).some i player-within
 
-    -- a player's strategies stand behind those of the players before
+    -- a player's strategies stand after those of the players before
     pub entries-next : sum (take (i + 1) (strategy_counts t)) ≡ sum (take i (strategy_counts t)) + get_or (strategy_counts t) i 0
     entries-next = sum-next (strategy_counts t) i (get_or (strategy_counts t) i 0) (slice_get-get_or (strategy_counts t) i 0 player-within)
 

@@ -4,7 +4,7 @@ use Rattle.std.specs.List.{range_with_len, flat_map}
 use Rattle.std.proofs.lemmas.List.{append-nil}
 use Rattle.std.proofs.lemmas.List.Elements.{All-append}
 use Rattle.pure_payoffs.specs.Steps.{Step, StepFits, IsFirstUnfit}
-use Rattle.pure_payoffs.proofs.Runs.{first_unfit-more, first_unfit-behind}
+use Rattle.pure_payoffs.proofs.Runs.{first_unfit-more, first_unfit-following}
 use Rattle.behaviour_profile.proofs.GroupTests.{made-more}
 use Rattle.behaviour_profile.proofs.TestedEntries.{All-left, All-right}
 
@@ -39,11 +39,11 @@ module _ (f : ℕ → List Step) where
 
   pub unfit-next : (a k n : ℕ) (u : Step) → k < n → All StepFits (steps_of a k) → IsFirstUnfit (f (a + k)) u → IsFirstUnfit (steps_of a n) u
   unfit-next a k n u l h g =
-      unfit-longer a (suc k) n u (omega (arith, l)) (subst (λ ss. IsFirstUnfit ss u) (sym (steps-next a k)) (first_unfit-behind (steps_of a k) (f (a + k)) u h g))
+      unfit-longer a (suc k) n u (omega (arith, l)) (subst (λ ss. IsFirstUnfit ss u) (sym (steps-next a k)) (first_unfit-following (steps_of a k) (f (a + k)) u h g))
 
-  -- and behind those that fit
+  -- and after those that fit
   pub unfit-joined : (a k n : ℕ) (u : Step) → a + k ≤ n → All StepFits (steps_of 0 a) → IsFirstUnfit (steps_of a k) u → IsFirstUnfit (steps_of 0 n) u
-  unfit-joined a k n u l h g = unfit-longer 0 (a + k) n u l (subst (λ ss. IsFirstUnfit ss u) (sym (steps-joined a k)) (first_unfit-behind (steps_of 0 a) (steps_of a k) u h g))
+  unfit-joined a k n u l h g = unfit-longer 0 (a + k) n u l (subst (λ ss. IsFirstUnfit ss u) (sym (steps-joined a k)) (first_unfit-following (steps_of 0 a) (steps_of a k) u h g))
 
   -- numbers without steps change nothing
   pub none-more : (a n : ℕ) → ((k : ℕ) → a ≤ k → k < a + n → f k ≡ []) → steps_of 0 (a + n) ≡ steps_of 0 a

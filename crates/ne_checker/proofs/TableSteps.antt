@@ -12,7 +12,7 @@ use Rattle.frac128.specs.declared.steps.Op.TheVariants.{Add, Mul}
 use Rattle.frac128.specs.declared.steps.Unfit.{Unfit}
 use Rattle.pure_payoffs.specs.Plays.{Give}
 use Rattle.pure_payoffs.specs.Steps.{Step, StepFits, IsFirstUnfit}
-use Rattle.pure_payoffs.proofs.Runs.{added-gives, behind-gives, first_unfit-here, one-fits}
+use Rattle.pure_payoffs.proofs.Runs.{added-gives, following-gives, first_unfit-here, one-fits}
 use Rattle.ne_checker.specs.TableChecks.{weighed_steps}
 
 not_true : (b : Bool) → (b ≡ true → ⊥) → b ≡ false
@@ -45,5 +45,5 @@ module _ (sum weight number : ℚ) where
       → Give (weighed_steps weight number sum) (sum +ℚ (weight *ℚ number)) r
   product-added product r ne is fits value added step refused =
       subst (λ s. Give s (sum +ℚ (weight *ℚ number)) r) (sym (weighed-some ne))
-      (behind-gives (unfit Mul weight number ∷ []) (unfit Add sum (weight *ℚ number) ∷ []) (sum +ℚ (weight *ℚ number)) r (one-fits (unfit Mul weight number) fits)
+      (following-gives (unfit Mul weight number ∷ []) (unfit Add sum (weight *ℚ number) ∷ []) (sum +ℚ (weight *ℚ number)) r (one-fits (unfit Mul weight number) fits)
       (subst (λ p. Give (unfit Add sum p ∷ []) (sum +ℚ p) r) is (added-gives sum product r value added step refused)))

@@ -12,7 +12,7 @@ use Rattle.best_replies.specs.Strategies.{HasBetterStrategy, strategy_value}
 use Rattle.best_replies.proofs.Greatest.{first_greatest-exists}
 use Rattle.best_replies.proofs.Strategies.{best_strategies-tell, strategy_value-payoff}
 use Rattle.ne_checker.specs.TableChecks.{HasNoBetter, IsFirstBetter, player_steps}
-use Rattle.ne_checker.specs.TableLaws.{TableVerdictsTellEquilibria}
+use Rattle.ne_checker.specs.TableLaws.{TableVerdictsFindEquilibria}
 
 -- no strategy of a player who has no better one pays more than the profile
 no_reply : (g : Game) (m : Mixed) (i s : ℕ) → i < length g.strategies → s < get_or g.strategies i 0 → HasNoBetter g m i → payoff_of g (with_reply m i s) i ≤ℚ payoff_of g m i
@@ -50,7 +50,7 @@ module _ (g : Game) (m : Mixed) (player reply : ℕ) (payoff best : ℚ) (h : Is
   pays_most s b =
       subst (λ x. x ≤ℚ best) (strategy_value-payoff g m player s h.is_player b) (subst (λ x. strategy_value g m player s ≤ℚ x) (sym h.better.best_is) (h.better.is_best.greatest s b))
 
-pub verdicts-tell : TableVerdictsTellEquilibria
+pub verdicts-tell : TableVerdictsFindEquilibria
 verdicts-tell =
     record {
       equilibrium = λ g m valid v. record { valid = valid; no_better_reply = λ i s l b. no_reply g m i s l b (v i l) };

@@ -18,7 +18,7 @@ use Rattle.best_replies.specs.Replies.{reply_value, is_member}
 use Rattle.best_replies.proofs.ReplyValues.{reply_value-agree}
 use Rattle.best_replies.proofs.Weights.{own_or_not, if_own, if_other}
 use Rattle.pure_payoffs.specs.Steps.{Step}
-use Rattle.ne_checker.specs.TreeSteps.{sum_steps, child_value, behind_steps, behind_sum, own_steps, reply_steps_to, reply_steps, members, member_child, action_steps, player_steps, now_steps_at, weight_steps}
+use Rattle.ne_checker.specs.TreeSteps.{sum_steps, child_value, after_steps, after_sum, own_steps, reply_steps_to, reply_steps, members, member_child, action_steps, player_steps, now_steps_at, weight_steps}
 use Rattle.ne_checker.proofs.TreeOwnSets.{turned}
 use Rattle.ne_checker.proofs.TreeParts.{parts-suc}
 
@@ -59,21 +59,21 @@ module _ (t : Tree) (b : Behaviour) (i : ℕ) (choice other : ℕ → ℕ) (w : 
     chosen-alike : t.owner s ≡ Some i → child_value t b i choice k (choice s) ≡ child_value t b i other k (other s)
     chosen-alike o = let n = w.sets_within k s l e in child-alike (choice s) (chosen s n o) ∙ ap (child_value t b i other k) (same s n o)
 
-  -- what stands behind a node
-  behind-alike : (f g : ℕ → List Step) (k : ℕ) → k < t.size → ((c : ℕ) → c < t.size → f c ≡ g c) → behind_steps t b i choice f k (t.set k) ≡ behind_steps t b i other g k (t.set k)
-  behind-alike f g k l h = go (t.set k) refl
+  -- what stands after a node
+  following-alike : (f g : ℕ → List Step) (k : ℕ) → k < t.size → ((c : ℕ) → c < t.size → f c ≡ g c) → after_steps t b i choice f k (t.set k) ≡ after_steps t b i other g k (t.set k)
+  following-alike f g k l h = go (t.set k) refl
     where
-      go : (o : Option ℕ) → t.set k ≡ o → behind_steps t b i choice f k o ≡ behind_steps t b i other g k o
+      go : (o : Option ℕ) → t.set k ≡ o → after_steps t b i choice f k o ≡ after_steps t b i other g k o
       go None e = refl
       go (Some s) e = elim (own_or_not t i s) [
         | inl o ↦ if_own t i s _ _ o ∙ sum_steps-alike 1 _ _ (λ _. []) (λ _. []) (λ a m. chosen-alike k s l e o) (λ a m. refl) ∙ sym (if_own t i s _ _ o)
         | inr apart ↦ if_other t i s _ _ apart ∙ sum_steps-alike (t.actions s) _ _ (λ a. f (child t k a)) (λ a. g (child t k a)) (λ a m. child-alike k s l e a m) (λ a m. h (child t k a) (child-later t k s a w l e m).1) ∙ sym (if_other t i s _ _ apart)
       ]
 
-  sum-alike : (k : ℕ) → k < t.size → behind_sum t b i choice k (t.set k) ≡ behind_sum t b i other k (t.set k)
+  sum-alike : (k : ℕ) → k < t.size → after_sum t b i choice k (t.set k) ≡ after_sum t b i other k (t.set k)
   sum-alike k l = go (t.set k) refl
     where
-      go : (o : Option ℕ) → t.set k ≡ o → behind_sum t b i choice k o ≡ behind_sum t b i other k o
+      go : (o : Option ℕ) → t.set k ≡ o → after_sum t b i choice k o ≡ after_sum t b i other k o
       go None e = refl
       go (Some s) e = elim (own_or_not t i s) [
         | inl o ↦ if_own t i s _ _ o ∙ sum_to-same 1 _ _ (λ a m. chosen-alike k s l e o) ∙ sym (if_own t i s _ _ o)
@@ -83,7 +83,7 @@ module _ (t : Tree) (b : Behaviour) (i : ℕ) (choice other : ℕ → ℕ) (w : 
   -- the steps of a node
   reply-alike : (d k : ℕ) → k < t.size → reply_steps_to t b i choice d k ≡ reply_steps_to t b i other d k
   reply-alike zero k l = refl
-  reply-alike (suc d) k l = ap₂ (λ x y. x ++ own_steps t b i k y) (behind-alike (reply_steps_to t b i choice d) (reply_steps_to t b i other d) k l (λ c m. reply-alike d c m)) (sum-alike k l)
+  reply-alike (suc d) k l = ap₂ (λ x y. x ++ own_steps t b i k y) (following-alike (reply_steps_to t b i choice d) (reply_steps_to t b i other d) k l (λ c m. reply-alike d c m)) (sum-alike k l)
 
   -- the steps of a decision
   action-alike : (s a : ℕ) → a < t.actions s → action_steps t b i choice s a ≡ action_steps t b i other s a

@@ -107,7 +107,7 @@ module _ (t : Tree) (b : Behaviour) (i : ℕ) (choice : ℕ → ℕ) (weights : 
     values_are = λ x s p m e o computed. h.values_are x s p m e o (elim computed [ inl late ↦ inl late | inr now ↦ absurd (omega (arith, now.1)) ]);
   }
 
-  -- the values behind an action are known at the first j members of its set, and summed
+  -- the values after an action are known at the first j members of its set, and summed
   pub record AreSummed (values : List ℚ) (s a j : ℕ) (sum : ℚ) : Type 0 where
     pub decided : AreDecided t b i choice weights choices values (suc s) a
     pub known : (n : ℕ) → n < j → get_or values (member_child t s a n) zero_ℚ ≡ reply_value t b i choice (member_child t s a n)
@@ -115,7 +115,7 @@ module _ (t : Tree) (b : Behaviour) (i : ℕ) (choice : ℕ → ℕ) (weights : 
     pub fit : All StepFits (sum_steps j (λ n. reply_value t b i choice (member_child t s a n)) (λ n. reply_steps t b i choice (member_child t s a n)))
 
   module _ (w : IsTree t) (s a : ℕ) (o : t.owner s ≡ Some i) (m : a < t.actions s) where
-    -- own sets behind the set's nodes are later ones
+    -- own sets after the set's nodes are later ones
     pub later-sets : (values : List ℚ) (n k : ℕ) → AreDecided t b i choice weights choices values (suc s) n → k < t.size → t.set k ≡ Some s → OwnSetsFrom t i (child t k a) (suc s)
     later-sets values n k h l e = λ x r inside below at own.
         let is = child-is_child t k s a w l e m in

@@ -14,8 +14,8 @@ use Rattle.game_theory.proofs.Values.{value-by_actions, value-end}
 use Rattle.pure_payoffs.specs.Plays.{Give}
 use Rattle.pure_payoffs.specs.Steps.{Step, StepFits, IsFirstUnfit}
 use Rattle.pure_payoffs.proofs.NodeSteps.{chance_steps-same}
-use Rattle.pure_payoffs.proofs.Runs.{first_unfit-more, added-gives, behind-gives}
-use Rattle.ne_checker.specs.TreeSteps.{now_node_steps, now_steps_to, now_steps_at, now_steps_behind, now_value_behind}
+use Rattle.pure_payoffs.proofs.Runs.{first_unfit-more, added-gives, following-gives}
+use Rattle.ne_checker.specs.TreeSteps.{now_node_steps, now_steps_to, now_steps_at, now_steps_after, now_value_after}
 use Rattle.ne_checker.proofs.TreeDepths.{told-recurs}
 
 module _ (t : Tree) (b : Behaviour) (i : ℕ) (w : IsTree t) where
@@ -26,7 +26,7 @@ module _ (t : Tree) (b : Behaviour) (i : ℕ) (w : IsTree t) where
       go : (o : Option ℕ) → t.set k ≡ o → now_node_steps t b i f k o ≡ now_node_steps t b i g k o
       go None e = refl
       go (Some s) e =
-          ap (λ x. x ++ unfit Add (t.pays k i) (now_value_behind t b i k s) ∷ [])
+          ap (λ x. x ++ unfit Add (t.pays k i) (now_value_after t b i k s) ∷ [])
           (chance_steps-same (t.actions s) (action_probability t b s) _ _ (λ a. f (child t k a)) (λ a. g (child t k a)) (λ a m. refl) (λ a m. let c = child-later t k s a w l e m in h (child t k a) c.0 c.1))
 
   -- the steps of a node, by those of its children
@@ -40,20 +40,20 @@ module _ (t : Tree) (b : Behaviour) (i : ℕ) (w : IsTree t) where
         (is ∙ sym (value-end t b i k w l e), subst (All StepFits) (sym (steps-recur k l ∙ ap (now_node_steps t b i (now_steps_at t b i) k) e)) (All-nil StepFits))
 
     module _ (s : ℕ) (e : t.set k ≡ Some s) where
-      -- at any other node the last step adds what comes behind it
-      steps-inner : now_steps_at t b i k ≡ now_steps_behind t b i k s ++ unfit Add (t.pays k i) (now_value_behind t b i k s) ∷ []
+      -- at any other node the last step adds what comes after it
+      steps-inner : now_steps_at t b i k ≡ now_steps_after t b i k s ++ unfit Add (t.pays k i) (now_value_after t b i k s) ∷ []
       steps-inner = steps-recur k l ∙ ap (now_node_steps t b i (now_steps_at t b i) k) e
 
-      value-inner : value t b i k ≡ t.pays k i +ℚ now_value_behind t b i k s
+      value-inner : value t b i k ≡ t.pays k i +ℚ now_value_after t b i k s
       value-inner = value-by_actions t b i k s (child t k) w l e (λ a m. child-is_child t k s a w l e m)
 
-      -- the first step behind a node that does not fit is the node's
-      pub now-refused : (u : Step) → IsFirstUnfit (now_steps_behind t b i k s) u → IsFirstUnfit (now_steps_at t b i k) u
-      now-refused u h = subst (λ steps. IsFirstUnfit steps u) (sym steps-inner) (first_unfit-more (now_steps_behind t b i k s) _ u h)
+      -- the first step after a node that does not fit is the node's
+      pub now-refused : (u : Step) → IsFirstUnfit (now_steps_after t b i k s) u → IsFirstUnfit (now_steps_at t b i k) u
+      now-refused u h = subst (λ steps. IsFirstUnfit steps u) (sym steps-inner) (first_unfit-more (now_steps_after t b i k s) _ u h)
 
       -- what the addition to the outcome's payoff gives is what the node gives
-      pub now-added : (p x : ℚ) (r : Result ℚ Unfit) → p ≡ t.pays k i → x ≡ now_value_behind t b i k s → All StepFits (now_steps_behind t b i k s)
+      pub now-added : (p x : ℚ) (r : Result ℚ Unfit) → p ≡ t.pays k i → x ≡ now_value_after t b i k s → All StepFits (now_steps_after t b i k s)
           → IfOk r (λ f. f ≡ p +ℚ x) → OnOk r (AddFits p x) → IfErr r (λ u. u ≡ unfit Add p x) → OnErr r (AddFits p x → ⊥) → Give (now_steps_at t b i k) (value t b i k) r
       now-added p x r pays is fit sum fits step refused =
-          let whole = behind-gives (now_steps_behind t b i k s) (unfit Add p x ∷ []) (p +ℚ x) r fit (added-gives p x r sum fits step refused) in
+          let whole = following-gives (now_steps_after t b i k s) (unfit Add p x ∷ []) (p +ℚ x) r fit (added-gives p x r sum fits step refused) in
           rw (steps-inner, value-inner, ← is, ← pays) whole

@@ -12,7 +12,7 @@ use Rattle.game_theory.specs.Behaviour.{Behaviour, is_own}
 use Rattle.game_theory.specs.OwnSets.{own_below, own_sets}
 use Rattle.best_replies.proofs.Weights.{if_own, if_other}
 use Rattle.pure_payoffs.specs.Steps.{Step, StepFits, IsFirstUnfit}
-use Rattle.pure_payoffs.proofs.Runs.{first_unfit-more, first_unfit-behind}
+use Rattle.pure_payoffs.proofs.Runs.{first_unfit-more, first_unfit-following}
 use Rattle.ne_checker.specs.TreeSides.{AreDecided}
 use Rattle.ne_checker.specs.TreeSteps.{decision_steps, decisions}
 
@@ -33,7 +33,7 @@ own_below-own t i n later o = ap (own_below t i n) (if_own t i n (n ∷ later) l
 pub own_below-other : (t : Tree) (i n : ℕ) (later : List ℕ) → t.owner n ≢ Some i → own_below t i (suc n) later ≡ own_below t i n later
 own_below-other t i n later o = ap (own_below t i n) (if_other t i n (n ∷ later) later o)
 
--- the steps of one more set behind those of later sets
+-- the steps of one more set after those of later sets
 pub turned : (f : ℕ → List Step) (n : ℕ) (later : List ℕ) → flat_map f (reverse (n ∷ later)) ≡ flat_map f (reverse later) ++ f n
 turned f n later = ap (flat_map f) (reverse-append (n ∷ []) later) ∙ flat_map-append f (reverse later) (n ∷ []) ∙ ap (λ x. flat_map f (reverse later) ++ x) (append-nil (f n))
 
@@ -90,4 +90,4 @@ module _ (t : Tree) (b : Behaviour) (i : ℕ) (choice : ℕ → ℕ) (weights : 
         let whole : decisions t b i choice ≡ (flat_map f (reverse h.later) ++ f n) ++ flat_map f (reverse before) =
         ap (λ xs. flat_map f (reverse xs)) sets ∙ ap (flat_map f) (reverse-append before (n ∷ h.later)) ∙ flat_map-append f (reverse (n ∷ h.later)) (reverse before)
         ∙ ap (λ x. x ++ flat_map f (reverse before)) (turned f n h.later) in
-        subst (λ s. IsFirstUnfit s u) (sym whole) (first_unfit-more (flat_map f (reverse h.later) ++ f n) _ u (first_unfit-behind (flat_map f (reverse h.later)) (f n) u h.fit refused))
+        subst (λ s. IsFirstUnfit s u) (sym whole) (first_unfit-more (flat_map f (reverse h.later) ++ f n) _ u (first_unfit-following (flat_map f (reverse h.later)) (f n) u h.fit refused))

@@ -5,7 +5,7 @@ use Rattle.std.proofs.lemmas.Grind.{flat_map-append}
 use Rattle.std.proofs.lemmas.List.{append-nil}
 use Rattle.std.proofs.lemmas.List.Elements.{All-append}
 use Rattle.pure_payoffs.specs.Steps.{Step, StepFits, IsFirstUnfit}
-use Rattle.pure_payoffs.proofs.Runs.{first_unfit-more, first_unfit-behind}
+use Rattle.pure_payoffs.proofs.Runs.{first_unfit-more, first_unfit-following}
 use Rattle.ne_checker.proofs.TreeMembers.{range-last}
 
 module _ (f : ℕ → List Step) where
@@ -26,26 +26,26 @@ module _ (f : ℕ → List Step) where
     | inr l ↦ subst (λ s. IsFirstUnfit s u) (sym (parts-suc n)) (first_unfit-more (flat_map f (range_with_len 0 n)) (f n) u (parts-first m n u (le_of_suc-le-suc l) first))
   ]
 
-  -- and behind numbers whose steps fit it is the number's own
+  -- and after numbers whose steps fit it is the number's own
   pub part-refused : (a n : ℕ) (u : Step) → a < n → All StepFits (flat_map f (range_with_len 0 a)) → IsFirstUnfit (f a) u → IsFirstUnfit (flat_map f (range_with_len 0 n)) u
   part-refused a n u l h first =
-      parts-first (suc a) n u (omega arith) (subst (λ s. IsFirstUnfit s u) (sym (parts-suc a)) (first_unfit-behind (flat_map f (range_with_len 0 a)) (f a) u h first))
+      parts-first (suc a) n u (omega arith) (subst (λ s. IsFirstUnfit s u) (sym (parts-suc a)) (first_unfit-following (flat_map f (range_with_len 0 a)) (f a) u h first))
 
 -- ---- four parts, one after another
 module _ (first second third fourth : List Step) (fit : All StepFits first) where
   -- the second part's first step that does not fit
   pub second-refused : (u : Step) → IsFirstUnfit second u → IsFirstUnfit (first ++ second ++ third ++ fourth) u
-  second-refused u h = first_unfit-more (first ++ second ++ third) fourth u (first_unfit-more (first ++ second) third u (first_unfit-behind first second u fit h))
+  second-refused u h = first_unfit-more (first ++ second ++ third) fourth u (first_unfit-more (first ++ second) third u (first_unfit-following first second u fit h))
 
   module _ (more : All StepFits second) where
     -- the third's
     pub third-refused : (u : Step) → IsFirstUnfit third u → IsFirstUnfit (first ++ second ++ third ++ fourth) u
-    third-refused u h = first_unfit-more (first ++ second ++ third) fourth u (first_unfit-behind (first ++ second) third u (All-append StepFits first second fit more) h)
+    third-refused u h = first_unfit-more (first ++ second ++ third) fourth u (first_unfit-following (first ++ second) third u (All-append StepFits first second fit more) h)
 
     module _ (most : All StepFits third) where
       -- the fourth's
       pub fourth-refused : (u : Step) → IsFirstUnfit fourth u → IsFirstUnfit (first ++ second ++ third ++ fourth) u
-      fourth-refused u h = first_unfit-behind (first ++ second ++ third) fourth u (All-append StepFits (first ++ second) third (All-append StepFits first second fit more) most) h
+      fourth-refused u h = first_unfit-following (first ++ second ++ third) fourth u (All-append StepFits (first ++ second) third (All-append StepFits first second fit more) most) h
 
       -- all parts fit
       pub four-fit : All StepFits fourth → All StepFits (first ++ second ++ third ++ fourth)

@@ -20,7 +20,7 @@ module _ (t : Tree) (b : Behaviour) (i : ℕ) (choice : ℕ → ℕ) (weights va
   pub chosen-within : (s : ℕ) → s < t.sets → t.owner s ≡ Some i → choice s < t.actions s
   chosen-within s l o = (h.best s l o).within
 
-  -- the value behind the chosen action of an own node is known
+  -- the value after the chosen action of an own node is known
   pub chosen-known : (k s c : ℕ) → IsTree t → k < t.size → t.set k ≡ Some s → t.owner s ≡ Some i → OwnSetsFrom t i k first → c ≡ child t k (get_or choices s 0) → get_or values c zero_ℚ ≡ child_value t b i choice k (choice s)
   chosen-known k s c w l e o from is =
       let within = w.sets_within k s l e in

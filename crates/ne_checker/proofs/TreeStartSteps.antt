@@ -22,7 +22,7 @@ found-left xs ys k v at =
     let l = slice_get_within xs k v at in
     slice_get-get_or (xs ++ ys) k zero_ℚ (omega (arith, length-append xs ys)) ∙ ap Some (get_or_append_left xs ys zero_ℚ k l ∙ get_or_from_slice_get xs k v zero_ℚ at)
 
--- and behind a list, one further
+-- and after a list, one further
 found-right : (xs : List ℚ) (n : ℕ) (f : ℕ → ℚ) (a : ℕ) → a < n → slice_get (xs ++ listed n f) (length xs + a) ≡ Some (f a)
 found-right xs n f a l =
     slice_get-get_or (xs ++ listed n f) (length xs + a) zero_ℚ (omega (arith, length-append xs (listed n f), length-listed n f)) ∙ ap Some (get_or-append-add xs (listed n f) a zero_ℚ ∙ get_or-listed n f a zero_ℚ l)

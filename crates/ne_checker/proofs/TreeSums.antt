@@ -6,7 +6,7 @@ use Rattle.rational.specs.Sum.{sum_to}
 use Rattle.frac128.specs.Steps.{AddFits, unfit}
 use Rattle.frac128.specs.declared.steps.Op.TheVariants.{Add}
 use Rattle.pure_payoffs.specs.Steps.{Step, StepFits, IsFirstUnfit}
-use Rattle.pure_payoffs.proofs.Runs.{first_unfit-more, first_unfit-behind, first_unfit-here, one-fits}
+use Rattle.pure_payoffs.proofs.Runs.{first_unfit-more, first_unfit-following, first_unfit-here, one-fits}
 use Rattle.ne_checker.specs.TreeSteps.{sum_steps}
 
 -- the steps are the same where those of the numbers are
@@ -35,11 +35,11 @@ module _ (v : ℕ → ℚ) (later : ℕ → List Step) (a : ℕ) (sum x : ℚ) (
     -- the first step of its computation that does not fit is that of the sum
     pub number-refused : IsFirstUnfit (later a) u → IsFirstUnfit (sum_steps n v later) u
     number-refused h =
-        first_unfit-sum (suc a) n v later u (omega arith) (first_unfit-more (sum_steps a v later ++ later a) _ u (first_unfit-behind (sum_steps a v later) (later a) u fit h))
+        first_unfit-sum (suc a) n v later u (omega arith) (first_unfit-more (sum_steps a v later ++ later a) _ u (first_unfit-following (sum_steps a v later) (later a) u fit h))
 
     -- an addition that does not fit is the sum's first such step
     pub addition-refused : x ≡ v a → All StepFits (later a) → u ≡ unfit Add sum x → (AddFits sum x → ⊥) → IsFirstUnfit (sum_steps n v later) u
     addition-refused is fits step refused =
         let here : IsFirstUnfit (unfit Add sum x ∷ []) (unfit Add sum x) = first_unfit-here (unfit Add sum x) [] refused in
         let there : IsFirstUnfit (unfit Add (sum_to a v) (v a) ∷ []) u = rw (← sum_is, ← is, step) here in
-        first_unfit-sum (suc a) n v later u (omega arith) (first_unfit-behind (sum_steps a v later ++ later a) _ u (All-append StepFits (sum_steps a v later) (later a) fit fits) there)
+        first_unfit-sum (suc a) n v later u (omega arith) (first_unfit-following (sum_steps a v later ++ later a) _ u (All-append StepFits (sum_steps a v later) (later a) fit fits) there)

@@ -16,7 +16,7 @@ use Rattle.pure_payoffs.proofs.FirstUnfits.{unfit_among}
 use Rattle.ne_checker.specs.declared.trees.TreeVerdict.{TreeVerdict}
 use Rattle.ne_checker.specs.declared.trees.TreeVerdict.TheVariants.{Equilibrium, Better, Range}
 use Rattle.ne_checker.specs.TreeVerdicts.{HasNoBetter, IsBetter, IsTreeVerdict}
-use Rattle.ne_checker.specs.TreeVerdictLaws.{AllFit, TellsBetterReply, TreeVerdictsTellEquilibria}
+use Rattle.ne_checker.specs.TreeVerdictLaws.{AllFit, ShowsBetterReply, TreeVerdictsFindEquilibria}
 
 module _ (t : Tree) (b : Behaviour) (w : IsTree t) (recall : (i : ℕ) → i < t.players → HasPerfectRecall t i) where
   -- where no player has better choices there is an equilibrium
@@ -28,7 +28,7 @@ module _ (t : Tree) (b : Behaviour) (w : IsTree t) (recall : (i : ℕ) → i < t
   }
 
   -- better choices are a better reply, the first and the best
-  one-tells : (player : ℕ) (now best : ℚ) (actions : List ℕ) → IsBetter t b player now best actions → TellsBetterReply t b player now best actions
+  one-tells : (player : ℕ) (now best : ℚ) (actions : List ℕ) → IsBetter t b player now best actions → ShowsBetterReply t b player now best actions
   one-tells player now best actions h = record {
     has_better = (best_choices-tell t b player h.choice w (recall player h.within) h.is_best).0 more;
     earlier_have_none = λ j l better. let none = h.earlier j l in
@@ -54,7 +54,7 @@ module _ (t : Tree) (b : Behaviour) (w : IsTree t) (recall : (i : ℕ) → i < t
   only-equilibrium fit e (Range step) actions h = absurd (unfit_among _ step h.0.first (fit h.0.player h.0.choice h.0.within h.0.is_best))
 
 -- the law of verdicts, where trees stand for game trees
-pub verdicts-tell : ((tree : GameTree) → is_valid_tree tree → IsTree (game_of_tree tree)) → TreeVerdictsTellEquilibria
+pub verdicts-tell : ((tree : GameTree) → is_valid_tree tree → IsTree (game_of_tree tree)) → TreeVerdictsFindEquilibria
 verdicts-tell game = record {
   equilibrium = λ tree b actions valid recall valid_b h. none-equilibrium (game_of_tree tree) b (game tree valid) recall valid_b h.0;
   better = λ tree b player now best actions valid recall h. one-tells (game_of_tree tree) b (game tree valid) recall player now best actions h;

@@ -32,11 +32,11 @@ module _ (t : Tree) (b : Behaviour) (i c s : ℕ) (w : IsTree t) (p : 0 < c) (l 
   step-is : (x : Bool) → has_factor t i (Some s) ≡ x → weight_step t b i c ≡ step_if x
   step-is x h = ap step_if (ap₂ (λ y z. y && z) ((Decides-ltb 0 c).1 p) (ap (has_factor t i) e ∙ h))
 
-  -- behind an own node the weight stays
+  -- after an own node the weight stays
   pub weight-kept : (x : ℚ) → t.owner s ≡ Some i → x ≡ weight t b i (t.parent c) → Give (weight_step t b i c) (weight t b i c) (Ok x)
   weight-kept x o is = (is ∙ sym (weight-own t b i c s w p l e o), subst (All StepFits) (sym (step-is false (if_own t i s false true o))) (All-nil StepFits))
 
-  -- behind any other it has the factor
+  -- after any other it has the factor
   pub weight-more : (wt prob : ℚ) (r : Result ℚ Unfit) → t.owner s ≢ Some i → wt ≡ weight t b i (t.parent c) → prob ≡ action_probability t b s (t.branch c)
       → IfOk r (λ f. f ≡ wt *ℚ prob) → OnOk r (MulFits wt prob) → IfErr r (λ u. u ≡ unfit Mul wt prob) → OnErr r (MulFits wt prob → ⊥) → Give (weight_step t b i c) (weight t b i c) r
   weight-more wt prob r o weight_is prob_is value fits step refused =

@@ -20,7 +20,7 @@ TableVerdictsAreSingle =
 -- A valid profile with the first verdict is an equilibrium. With the second a player has a better
 -- strategy, no earlier one has, and no strategy of that player pays more than the best. Where all
 -- steps fit, the first verdict comes exactly at equilibria.
-pub record TableVerdictsTellEquilibria : Type 0 where
+pub record TableVerdictsFindEquilibria : Type 0 where
   pub equilibrium : (g : Game) (m : Mixed) → IsValid g.strategies m → IsTableVerdict g m Equilibrium
       → IsEquilibrium g m
   pub better : (g : Game) (m : Mixed) (player reply : ℕ) (payoff best : ℚ)

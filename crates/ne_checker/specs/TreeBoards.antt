@@ -7,7 +7,7 @@ use Rattle.game_theory.specs.Children.{AreChildren}
 use Rattle.game_core.specs.TreeGame.{game_of_tree}
 use Rattle.ne_checker.specs.declared.trees_board.Board.{Board}
 
--- a game tree, its nodes' children, and at each player's set the place of its first entry, behind
+-- a game tree, its nodes' children, and at each player's set the place of its first entry, after
 -- which there are as many entries as the set has actions
 pub record IsBoard (t : Tree) (children : List (List ℕ)) (starts : List ℕ)
     (entries : List ℚ) : Type 0 where

@@ -42,7 +42,7 @@ abbrev pub IsComputed : ℕ → ℕ → ℕ → ℕ → Type 0
 IsComputed first n s a = (first ≤ s) ⊎ ((suc s ≡ first) × (a < n))
 
 -- The best choices of player i's own sets from this first one on are made, and the reply values
--- behind them are known, as well as those behind the first n actions of the set before.
+-- after them are known, as well as those after the first n actions of the set before.
 pub record AreDecided (t : Tree) (b : Behaviour) (i : ℕ) (choice : ℕ → ℕ) (weights : List ℚ)
     (choices : List ℕ) (values : List ℚ) (first n : ℕ) : Type 0 where
   pub best : AreBestChoices t b i choice

@@ -33,14 +33,14 @@ now_steps_to t b i (suc d) k = now_node_steps t b i (now_steps_to t b i d) k (t.
 abbrev pub now_steps_at : Tree → Behaviour → ℕ → ℕ → List Step
 now_steps_at t b i k = now_steps_to t b i t.size k
 
--- the steps of what comes behind a node of set s, and its value
-abbrev pub now_steps_behind : Tree → Behaviour → ℕ → ℕ → ℕ → List Step
-now_steps_behind t b i k s =
+-- the steps of what comes after a node of set s, and its value
+abbrev pub now_steps_after : Tree → Behaviour → ℕ → ℕ → ℕ → List Step
+now_steps_after t b i k s =
     chance_steps (t.actions s) (action_probability t b s) (λ a. value t b i (child t k a))
     (λ a. now_steps_at t b i (child t k a))
 
-abbrev pub now_value_behind : Tree → Behaviour → ℕ → ℕ → ℕ → ℚ
-now_value_behind t b i k s =
+abbrev pub now_value_after : Tree → Behaviour → ℕ → ℕ → ℕ → ℚ
+now_value_after t b i k s =
     sum_to (t.actions s) (λ a. action_probability t b s a *ℚ value t b i (child t k a))
 
 -- ---- weights
@@ -69,19 +69,19 @@ sum_steps (suc n) v later = sum_steps n v later ++ later n ++ unfit Add (sum_to 
 abbrev pub child_value : Tree → Behaviour → ℕ → (ℕ → ℕ) → ℕ → ℕ → ℚ
 child_value t b i choice k a = reply_value t b i choice (child t k a)
 
--- The steps of the sum of the reply values behind a node, by its set. At an own node only the
+-- The steps of the sum of the reply values after a node, by its set. At an own node only the
 -- chosen child counts, and its reply value was computed when the set was decided.
-abbrev pub behind_steps : Tree → Behaviour → ℕ → (ℕ → ℕ) → (ℕ → List Step) → ℕ → Option ℕ
+abbrev pub after_steps : Tree → Behaviour → ℕ → (ℕ → ℕ) → (ℕ → List Step) → ℕ → Option ℕ
     → List Step
-behind_steps t b i choice later k None = []
-behind_steps t b i choice later k (Some s) =
+after_steps t b i choice later k None = []
+after_steps t b i choice later k (Some s) =
     if is_own t i s then sum_steps 1 (λ _. child_value t b i choice k (choice s)) (λ _. [])
     else sum_steps (t.actions s) (child_value t b i choice k) (λ a. later (child t k a))
 
 -- that sum
-abbrev pub behind_sum : Tree → Behaviour → ℕ → (ℕ → ℕ) → ℕ → Option ℕ → ℚ
-behind_sum t b i choice k None = zero_ℚ
-behind_sum t b i choice k (Some s) =
+abbrev pub after_sum : Tree → Behaviour → ℕ → (ℕ → ℕ) → ℕ → Option ℕ → ℚ
+after_sum t b i choice k None = zero_ℚ
+after_sum t b i choice k (Some s) =
     if is_own t i s then sum_to 1 (λ _. child_value t b i choice k (choice s))
     else sum_to (t.actions s) (child_value t b i choice k)
 
@@ -94,19 +94,19 @@ own_steps t b i k sum =
 abbrev pub reply_steps_to : Tree → Behaviour → ℕ → (ℕ → ℕ) → ℕ → ℕ → List Step
 reply_steps_to t b i choice zero k = []
 reply_steps_to t b i choice (suc d) k =
-    behind_steps t b i choice (reply_steps_to t b i choice d) k (t.set k)
-    ++ own_steps t b i k (behind_sum t b i choice k (t.set k))
+    after_steps t b i choice (reply_steps_to t b i choice d) k (t.set k)
+    ++ own_steps t b i k (after_sum t b i choice k (t.set k))
 
 -- the steps of node k's reply value
 abbrev pub reply_steps : Tree → Behaviour → ℕ → (ℕ → ℕ) → ℕ → List Step
 reply_steps t b i choice k = reply_steps_to t b i choice t.size k
 
--- the steps behind a node, and the sum
-abbrev pub behind_steps_at : Tree → Behaviour → ℕ → (ℕ → ℕ) → ℕ → List Step
-behind_steps_at t b i choice k = behind_steps t b i choice (reply_steps t b i choice) k (t.set k)
+-- the steps after a node, and the sum
+abbrev pub after_steps_at : Tree → Behaviour → ℕ → (ℕ → ℕ) → ℕ → List Step
+after_steps_at t b i choice k = after_steps t b i choice (reply_steps t b i choice) k (t.set k)
 
-abbrev pub behind_sum_at : Tree → Behaviour → ℕ → (ℕ → ℕ) → ℕ → ℚ
-behind_sum_at t b i choice k = behind_sum t b i choice k (t.set k)
+abbrev pub after_sum_at : Tree → Behaviour → ℕ → (ℕ → ℕ) → ℕ → ℚ
+after_sum_at t b i choice k = after_sum t b i choice k (t.set k)
 
 -- the steps of the sum of the reply values of all children of a node of set s, and the sum
 abbrev pub children_steps : Tree → Behaviour → ℕ → (ℕ → ℕ) → ℕ → ℕ → List Step
@@ -127,7 +127,7 @@ abbrev pub member_child : Tree → ℕ → ℕ → ℕ → ℕ
 member_child t s a j = child t (slice_index (members t s) j) a
 
 -- the steps of what action a at set s is worth: the sum over the set's nodes of the reply values
--- behind that action
+-- after that action
 abbrev pub action_steps : Tree → Behaviour → ℕ → (ℕ → ℕ) → ℕ → ℕ → List Step
 action_steps t b i choice s a =
     sum_steps (length (members t s)) (λ j. reply_value t b i choice (member_child t s a j))

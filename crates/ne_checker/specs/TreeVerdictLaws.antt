@@ -36,7 +36,7 @@ AllFit t b =
 
 -- A player has a better reply, no earlier player has one, and the reply's actions pay the most that
 -- any pure reply pays, which is this.
-pub record TellsBetterReply (t : Tree) (b : Behaviour) (player : ℕ) (now best : ℚ)
+pub record ShowsBetterReply (t : Tree) (b : Behaviour) (player : ℕ) (now best : ℚ)
     (actions : List ℕ) : Type 0 where
   pub has_better : HasBetterReply t b player
   pub earlier_have_none : (j : ℕ) → j < player → HasBetterReply t b j → ⊥
@@ -50,7 +50,7 @@ pub record TellsBetterReply (t : Tree) (b : Behaviour) (player : ℕ) (now best 
 
 -- A verdict of equilibrium on valid behaviour is right, and so is a better reply; where all steps
 -- fit, the verdict of equilibrium comes exactly at equilibria.
-pub record TreeVerdictsTellEquilibria : Type 0 where
+pub record TreeVerdictsFindEquilibria : Type 0 where
   pub equilibrium : (tree : GameTree) (b : Behaviour) (actions : List ℕ) → IsTree tree
       → AllRecall tree → IsValid (game_of_tree tree) b
       → IsTreeVerdict (game_of_tree tree) b Equilibrium actions
@@ -58,7 +58,7 @@ pub record TreeVerdictsTellEquilibria : Type 0 where
   pub better : (tree : GameTree) (b : Behaviour) (player : ℕ) (now best : ℚ)
       (actions : List ℕ) → IsTree tree → AllRecall tree
       → IsTreeVerdict (game_of_tree tree) b (Better player now best) actions
-      → TellsBetterReply (game_of_tree tree) b player now best actions
+      → ShowsBetterReply (game_of_tree tree) b player now best actions
   pub exactly : (tree : GameTree) (b : Behaviour) (verdict : TreeVerdict)
       (actions : List ℕ) → IsTree tree → AllRecall tree → IsValid (game_of_tree tree) b
       → AllFit (game_of_tree tree) b → IsTreeVerdict (game_of_tree tree) b verdict actions

@@ -86,7 +86,7 @@ impl Mixed {
     ///
     /// What is wrong first. `Count` where the entries are not as many as the players' strategies.
     /// Else player by player and entry by entry `Negative`, or `Unfit` where it cannot be added to
-    /// the player's entries before it, and behind each player's entries `Sum` where they do not sum
+    /// the player's entries before it, and after each player's entries `Sum` where they do not sum
     /// to 1.
     pub fn try_new(table: &Table, entries: Vec<Frac>) -> Result<Mixed, ProfileFault>
         ensures { profile_in (strategy_counts table.now) entries.items result }

@@ -22,11 +22,11 @@ pub struct Scratch {
     starts: Vec<usize>,
     // For each node its weight for the player.
     weights: Vec<Frac>,
-    // For each node behind a decided set its reply value.
+    // For each node after a decided set its reply value.
     values: Vec<Frac>,
     // For each decided set its action.
     choices: Vec<u32>,
-    // The reply, and behind it free places.
+    // The reply, and after it open branches.
     reply: Vec<u32>,
     // How many sets the reply has.
     replied: usize,

@@ -33,7 +33,7 @@ ghost use Rattle.best_replies.specs.Strategies.{
   weight,
 };
 ghost use Rattle.behaviour_profile.specs.EntryTests.{mixed_of};
-ghost use Rattle.ne_checker.specs.TableLaws.{TableVerdictsAreSingle, TableVerdictsTellEquilibria};
+ghost use Rattle.ne_checker.specs.TableLaws.{TableVerdictsAreSingle, TableVerdictsFindEquilibria};
 ghost use Rattle.ne_checker.specs.TableChecks.{
   IsFound,
   block_steps,
@@ -351,6 +351,6 @@ pub fn table_verdicts_are_single()
 {}
 
 /// Verdicts of tables tell equilibria.
-pub fn table_verdicts_tell_equilibria()
-    ensures { TableVerdictsTellEquilibria }
+pub fn table_verdicts_find_equilibria()
+    ensures { TableVerdictsFindEquilibria }
 {}

@@ -5,7 +5,7 @@ ghost use Rattle.ne_checker.specs.TreeScratches.{IsScratchOf, reply_of};
 ghost use Rattle.ne_checker.specs.TreeVerdicts.{AreEntries, tree_verdict};
 ghost use Rattle.ne_checker.specs.TreeVerdictLaws.{
   TreeVerdictsAreSingle,
-  TreeVerdictsTellEquilibria,
+  TreeVerdictsFindEquilibria,
 };
 
 use crate::scratch::Scratch;
@@ -85,8 +85,8 @@ pub fn tree_verdicts_are_single()
 /// A verdict of equilibrium on valid behaviour is right, a better reply is the first player's that
 /// has one and the best, and where all steps fit the verdict of equilibrium comes exactly at
 /// equilibria.
-pub fn tree_verdicts_tell_equilibria()
-    ensures { TreeVerdictsTellEquilibria }
+pub fn tree_verdicts_find_equilibria()
+    ensures { TreeVerdictsFindEquilibria }
 {
     trees_are_game_trees();
 }

@@ -31,8 +31,8 @@ impl<'a> Board<'a> {
     ghost use Rattle.ne_checker.specs.TreeBoards.{IsOnBoard, Reads, game_of};
     ghost use Rattle.ne_checker.specs.TreeSteps.{
       now_steps_at,
-      now_steps_behind,
-      now_value_behind,
+      now_steps_after,
+      now_value_after,
       weight_step,
       weight_steps,
     };
@@ -67,20 +67,20 @@ impl<'a> Board<'a> {
     {
         let pays = pays(self.tree, node, player as usize);
         match set(self.tree, node) {
-            Some(set) => pays.add(self.value_behind(player, node, set as usize)?),
+            Some(set) => pays.add(self.value_after(player, node, set as usize)?),
             None => Ok(pays),
         }
     }
 
     // The sum of the products of probability and value of each child of a node with this set.
     #[cycle(values)]
-    fn value_behind(&self, player: u32, node: usize, set: usize) -> Result<Frac, Unfit>
+    fn value_after(&self, player: u32, node: usize, set: usize) -> Result<Frac, Unfit>
         requires board { IsOnBoard self.now }
         requires node { node < length self.now.tree.now.nodes }
         requires player { player < length self.now.tree.now.players }
         requires set { (game_of self.now).set node ≡ Some set }
         ensures { (b : Behaviour) → Reads self.now b → let t = game_of self.now in
-            Give (now_steps_behind t b player node set) (now_value_behind t b player node set)
+            Give (now_steps_after t b player node set) (now_value_after t b player node set)
             result }
     {
         let mut sum = Frac::zero();

@@ -57,8 +57,8 @@ impl<'a> Side<'a> {
     };
     ghost use Rattle.ne_checker.specs.TreeSteps.{
       action_steps,
-      behind_steps_at,
-      behind_sum_at,
+      after_steps_at,
+      after_sum_at,
       children_steps,
       children_sum,
       decision_steps,
@@ -66,7 +66,7 @@ impl<'a> Side<'a> {
       reply_steps,
     };
 
-    /// The reply value of a node, where the values behind the player's own nodes from there on are
+    /// The reply value of a node, where the values after the player's own nodes from there on are
     /// known.
     ///
     /// # Errors
@@ -84,14 +84,14 @@ impl<'a> Side<'a> {
             → OwnSetsFrom t i node first
             → Give (reply_steps t b i choice node) (reply_value t b i choice node) result }
     {
-        let behind = self.value_behind(choices, values, node)?;
+        let following = self.value_after(choices, values, node)?;
         let worth = self.weights[node].mul(pays(self.tree, node, self.player as usize))?;
-        worth.add(behind)
+        worth.add(following)
     }
 
-    // The sum of the reply values behind a node.
+    // The sum of the reply values after a node.
     #[cycle(values)]
-    fn value_behind(&self, choices: &[u32], values: &[Frac], node: usize) -> Result<Frac, Unfit>
+    fn value_after(&self, choices: &[u32], values: &[Frac], node: usize) -> Result<Frac, Unfit>
         requires side { IsOnSide self.now }
         requires choices { AreChoices (game_at self.now) self.now.player choices.now }
         requires values { length values.now ≡ length self.now.tree.now.nodes }
@@ -100,7 +100,7 @@ impl<'a> Side<'a> {
             let i = self.now.player in
             AreDecided t b i choice self.now.weights.now choices.now values.now first 0
             → OwnSetsFrom t i node first
-            → Give (behind_steps_at t b i choice node) (behind_sum_at t b i choice node) result }
+            → Give (after_steps_at t b i choice node) (after_sum_at t b i choice node) result }
     {
         let Some(set) = set(self.tree, node) else {
             return Ok(Frac::zero());

@@ -50,9 +50,9 @@ nothing_told [] [] none h = refl
 nothing_told [] (q ∷ entries) none h = absurd h
 nothing_told (part ∷ parts) entries none h = absurd (joined_some part parts entries h none)
 
--- what stands behind the start of a line
-pub behind_start : (line text : List ℕ) → bytes_eq (take 3 line) (codes "NE,") ≡ true → text ≡ drop 3 line → line ≡ codes "NE," ++ text
-behind_start line text same rest =
+-- what stands after the start of a line
+pub after_start : (line text : List ℕ) → bytes_eq (take 3 line) (codes "NE,") ≡ true → text ≡ drop 3 line → line ≡ codes "NE," ++ text
+after_start line text same rest =
     sym (take-append-drop 3 line) ∙ ap₂ (λ a b. a ++ b) ((bytes_eq-Decides (take 3 line) (codes "NE,")).0 same) (sym rest)
 
 -- a line, from its entries
@@ -63,7 +63,7 @@ line_from line text entries e h = record {
   are_fractions = h;
 }
 
--- the entries, from a line that goes on behind its start
+-- the entries, from a line that goes on after its start
 line_to : (line text : List ℕ) (entries : List ℚ) → line ≡ codes "NE," ++ text → 0 < length text → (parts : List (List ℕ)) → line ≡ codes "NE," ++ join_with_byte 44 parts → AllZip IsFraction parts entries → AreEntries text entries
 line_to line text entries e some [] joined h =
     let empty : text ≡ [] = cc in
@@ -72,7 +72,7 @@ line_to line text entries e some (part ∷ parts) joined h =
     let same : text ≡ join_with_byte 44 (part ∷ parts) = cc in
     subst (λ ps. AllZip IsFraction ps entries) (sym (ap (slice_split (λ b. b == 44)) same ∙ split_joined part parts entries h)) h
 
--- what is read of a line that goes on behind its start
+-- what is read of a line that goes on after its start
 pub line_gives : (line text : List ℕ) → line ≡ codes "NE," ++ text → 0 < length text → (answer : Result (List ℚ) LineStop) → Gives stops.Memory (entries_in text) answer → Gives stops.Memory (line_in line) answer
 line_gives line text e some (Ok entries) h = line_from line text entries e h
 line_gives line text e some (Err stops.Bad) (inl h) = inl h

@@ -4,19 +4,19 @@ use Rattle.std.specs.List.{flat_map}
 use Rattle.rational.specs.Rational.{ℚ}
 use Rattle.game_theory.specs.Lines.{number_text}
 
--- an entry behind a comma
+-- an entry after a comma
 abbrev pub entry_text : ℚ → List ℕ
 entry_text q = 44 ∷ number_text q
 
--- each entry behind a comma
+-- each entry after a comma
 abbrev pub entries_text : List ℚ → List ℕ
 entries_text qs = flat_map entry_text qs
 
--- a line: a name, each number behind a comma, and a line feed
+-- a line: a name, each number after a comma, and a line feed
 abbrev pub numbers_line : List ℕ → List ℚ → List ℕ
 numbers_line name qs = name ++ entries_text qs ++ 10 ∷ []
 
--- what stands before the entries of a line where each is behind a comma
+-- what stands before the entries of a line where each is after a comma
 abbrev pub line_start : List ℚ → List ℕ
 line_start [] = codes "NE,"
 line_start (q ∷ qs) = codes "NE"

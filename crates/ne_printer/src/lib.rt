@@ -1,4 +1,11 @@
 //! The text of equilibria: lines and fractions, and lines read back.
+//!
+//! Callers may rely on: `line`, `push_line`, `push_numbers` and `fraction` write the defined bytes;
+//! `read_line` gives a line's entries, or `Bad`; `lines_read_back`.
+//! Definitions: `game_theory` has the text of a line; `specs::Entries` that of numbers after a
+//! name, `specs::ReadLines` what a line reads as (`line_in`).
+//! Lemmas for callers: `proofs::LineTexts` and `LinesRead`, on lines written and read.
+//! A change here touches: the lines that the tools print, and those that `check` reads.
 #![tactic(auto)]
 
 mod reading;
@@ -11,7 +18,7 @@ use frac128::{Frac, Memory};
 pub use reading::{LineStop, lines_are_single, lines_read_back, read_line};
 use std::alloc::Global;
 
-/// The text of a fraction: the numerator, with a `-` first where it is negative, and behind `/` the denominator
+/// The text of a fraction: the numerator, with a `-` first where it is negative, and after `/` the denominator
 /// where that is not 1.
 pub fn fraction_text(alloc: Global, value: Frac) -> Result<String, Memory>
     ensures { IfOk result (λ text. string_bytes text ≡ number_text value) }
@@ -32,7 +39,7 @@ pub fn fraction(alloc: Global, value: Frac) -> Result<Vec<u8>, Memory>
     Ok(fraction_text(alloc, value)?.into_bytes())
 }
 
-/// Adds a line to a text: a name, each number behind a comma, and a line feed.
+/// Adds a line to a text: a name, each number after a comma, and a line feed.
 pub fn push_numbers(
     alloc: Global,
     text: &mut Vec<u8>,
@@ -68,7 +75,7 @@ pub fn line(alloc: Global, entries: &[Frac]) -> Result<Vec<u8>, Memory>
     Ok(line)
 }
 
-// Adds a line; where memory runs out, a part of it may stand behind the text.
+// Adds a line; where memory runs out, a part of it may stand after the text.
 fn push_parts(
     alloc: Global,
     text: &mut Vec<u8>,
@@ -84,14 +91,14 @@ fn push_parts(
     Ok(())
 }
 
-// What stands before the entries where each is behind a comma.
+// What stands before the entries where each is after a comma.
 fn line_start(entries: &[Frac]) -> &'static [u8]
     ensures { result.now ≡ line_start entries.now }
 {
     if entries.is_empty() { b"NE," } else { b"NE" }
 }
 
-// Adds the entries, each behind a comma.
+// Adds the entries, each after a comma.
 fn push_entries(alloc: Global, text: &mut Vec<u8>, entries: &[Frac]) -> Result<(), Memory>
     ensures entries { OnOk result (text.new.items ≡ text.old.items ++ entries_text entries.now) }
     ensures kept { BeginsWith text.old.items text.new.items }
@@ -102,7 +109,7 @@ fn push_entries(alloc: Global, text: &mut Vec<u8>, entries: &[Frac]) -> Result<(
     Ok(())
 }
 
-// Adds an entry behind a comma.
+// Adds an entry after a comma.
 fn push_entry(alloc: Global, text: &mut Vec<u8>, entry: Frac) -> Result<(), Memory>
     ensures entry { OnOk result (text.new.items ≡ text.old.items ++ entry_text entry) }
     ensures kept { BeginsWith text.old.items text.new.items }

@@ -86,7 +86,7 @@ fn number(text: &[u8]) -> Option<u128>
     value(text)
 }
 
-// What stands before the first such byte, and what behind it, where there is one.
+// What stands before the first such byte, and what after it, where there is one.
 fn cut(text: &[u8], byte: u8) -> Option<(&[u8], &[u8])>
     ensures { MatchOption result (All (λ b. b ≢ byte) text.now)
         (λ cut. All (λ b. b ≢ byte) cut.0.now × (text.now ≡ cut.0.now ++ byte ∷ cut.1.now)) }
@@ -138,7 +138,7 @@ fn entries_in(alloc: Global, text: &[u8]) -> Result<Vec<Frac>, LineStop>
 }
 
 /// The entries of a line without its line feed, as `NE,1/2,1/2,1,0`. `Bad` where the line is not
-/// `NE,` and behind it nothing, or fractions with single commas between them. A fraction is 1 to 39
+/// `NE,` and after it nothing, or fractions with single commas between them. A fraction is 1 to 39
 /// digits, or two such numbers with `/` between them, each at most 2^127 - 1 and the second not 0.
 pub fn read_line(alloc: Global, line: &[u8]) -> Result<Vec<Frac>, LineStop>
     ensures { Gives stops.Memory (line_in line.now) (map_ok result (λ entries. entries.items)) }

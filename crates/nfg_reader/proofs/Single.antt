@@ -1,9 +1,9 @@
--- The tokens of a source have one answer: a table, a limit that is passed, or a fault with its kind and place.
+-- The tokens of a source have one answer: a table, a limit that is passed, or a fault with its kind and offset.
 use Rattle.std.proofs.Common.{◌≡◌, ℕ, List, length, ◌⊎◌, inl, inr, Ok, Err, refl, sym, ap, ◌∙◌}
 use Rattle.answers.specs.Answers.{IsSingle}
 use Rattle.game_core.specs.TokenList.{TokenList, bare}
 use Rattle.game_core.specs.declared.token.Token.{Token}
-use Rattle.file_parts.specs.Reading.{place_of}
+use Rattle.file_parts.specs.Reading.{offset_of}
 use Rattle.nfg_reader.specs.Faults.{IsFile, IsFault}
 use Rattle.nfg_reader.specs.Stops.{table_in}
 use Rattle.nfg_reader.specs.declared.reading.NfgKind.{NfgKind}
@@ -16,7 +16,7 @@ use Rattle.nfg_reader.proofs.FaultLaws.{one_fault, file_is_faultless, fault_or_f
 pub one_fault_at : (tokens : TokenList) (kind other : NfgKind) (at place : ℕ) → IsFault tokens kind at → IsFault tokens other place → (kind ≡ other) × (at ≡ place)
 one_fault_at tokens kind other at place f g =
     let same = one_fault (bare tokens) kind other f.0 g.0 f.1 g.1 in
-    (same.0, f.2 ∙ ap (λ (q : List Token). place_of tokens (length q)) same.1 ∙ sym g.2)
+    (same.0, f.2 ∙ ap (λ (q : List Token). offset_of tokens (length q)) same.1 ∙ sym g.2)
 
 -- none of a file
 pub no_fault_of_file : (tokens : TokenList) (kind : NfgKind) (at : ℕ) → IsFile (bare tokens) → IsFault tokens kind at → ⊥
@@ -26,7 +26,7 @@ no_fault_of_file tokens kind at file f = file_is_faultless (bare tokens) kind f.
 pub fault_of_others : (tokens : TokenList) → IsFile (bare tokens) ⊎ ((kind : NfgKind) × (at : ℕ) × IsFault tokens kind at)
 fault_of_others tokens = elim (fault_or_file (bare tokens)) [
   | inl f ↦ inl f
-  | inr f ↦ inr (f.0, place_of tokens (length f.1), (f.1, f.2, refl))
+  | inr f ↦ inr (f.0, offset_of tokens (length f.1), (f.1, f.2, refl))
 ]
 
 -- ---- one answer

@@ -1,6 +1,6 @@
--- Faults in files of tables. The place is the first token with which no file can begin any more, or the source's length where the
+-- Faults in files of tables. The offset is that of the first token with which no file can begin any more, or the source's length where the
 -- tokens end too early; the kind is the part of a file in which the tokens before it stop.
--- Source of the place: the viable-prefix property of Aho, Lam, Sethi and Ullman 2007, "Compilers", section 4.1.3.
+-- Source of the offset: the viable-prefix property of Aho, Lam, Sethi and Ullman 2007, "Compilers", section 4.1.3.
 use Rattle.std.specs.Prelude.{ℕ, ◌*◌, ◌≤◌, ◌≡◌, ◌⊎◌, List, [], ◌∷◌, ◌++◌, length, map, codes}
 use Rattle.std.specs.List.{AllByRecursion}
 use Rattle.rational.specs.Rational.{ℚ}
@@ -10,7 +10,7 @@ use Rattle.game_core.specs.TokenList.{TokenList, bare}
 use Rattle.game_core.specs.declared.token.Token.{Token}
 use Rattle.game_core.specs.declared.token.Token.TheVariants.{Left, Right, Text}
 use Rattle.file_parts.specs.Parts.{whole_number, IsHeader, braced_texts, IsComment, AreNumbers, IsOpen}
-use Rattle.file_parts.specs.Reading.{place_of}
+use Rattle.file_parts.specs.Reading.{offset_of}
 use Rattle.nfg_reader.specs.TableFile.{AreStrategies, AreOutcomes, IsFront, IsTableFile}
 use Rattle.nfg_reader.specs.declared.reading.NfgKind.{NfgKind}
 use Rattle.nfg_reader.specs.declared.reading.NfgKind.TheVariants.{Header, Players, Strategies, Outcome, PayoffCount, Trailing}
@@ -55,7 +55,7 @@ StopsInStrategies tokens =
     (title names part : List Token) × (players : List (List ℕ)) × (tokens ≡ title ++ names ++ part)
     × IsTitle title × ArePlayers players names × IsOpen (AreStrategiesOf (length players)) part
 
--- the strategies are whole, and behind them and a comment or none the body begins so
+-- the strategies are whole, and after them and a comment or none the body begins so
 pub record HasBody (Begins : ℕ → ℕ → List Token → Type 0) (tokens : List Token) : Type 0 where
   pub title : List ℕ
   pub players : List (List ℕ)
@@ -68,7 +68,7 @@ pub record HasBody (Begins : ℕ → ℕ → List Token → Type 0) (tokens : Li
   pub begins : Begins (length players) (profile_count (map length strategies)) body
   pub are_tokens : tokens ≡ front ++ comment ++ body
 
--- the outcomes' list is begun and not closed
+-- the outcomes' list is opened and not closed
 abbrev pub StopsInOutcomes : ℕ → ℕ → List Token → Type 0
 StopsInOutcomes players profiles body = (part : List Token) × (body ≡ Left ∷ part) × IsOpen (λ tokens. (outcomes : List (List ℚ)) × AreClosedOutcomes players outcomes tokens) part
 
@@ -85,7 +85,7 @@ StopsInPayoffs players profiles body = IsOpen (ArePayoffsOf (players * profiles)
 abbrev pub WholeComes : List Token → Type 0
 WholeComes tokens = (n : ℕ) × (rest : List Token) × (tokens ≡ whole_number n ∷ rest)
 
--- The kind of the fault that these tokens have behind those before: the part in which the file stops. Where the number of an outcome
+-- The kind of the fault that these tokens have after those before: the part in which the file stops. Where the number of an outcome
 -- is wanted, a whole number can only be one that no outcome has, and that is a fault of the outcomes.
 abbrev pub IsKind : NfgKind → List Token → List Token → Type 0
 IsKind Header before rest = IsOpen IsTitle before
@@ -110,4 +110,4 @@ pub record IsFaultFrom (tokens : List Token) (kind : NfgKind) (rest : List Token
 
 -- a fault of this kind at this offset: that of the token named, or the source's length where the tokens end too early
 abbrev pub IsFault : TokenList → NfgKind → ℕ → Type 0
-IsFault tokens kind at = (rest : List Token) × IsFaultFrom (bare tokens) kind rest × (at ≡ place_of tokens (length rest))
+IsFault tokens kind at = (rest : List Token) × IsFaultFrom (bare tokens) kind rest × (at ≡ offset_of tokens (length rest))

@@ -5,7 +5,7 @@ use Rattle.game_core.specs.Table.{GameTable, IsTable}
 use Rattle.game_core.specs.declared.too_large.TooLarge.{TooLarge}
 use Rattle.game_core.specs.declared.too_large.What.TheVariants.{Payoffs}
 use Rattle.game_core.specs.TokenList.{TokenList, bare}
-use Rattle.file_parts.specs.Reading.{place_of}
+use Rattle.file_parts.specs.Reading.{offset_of}
 use Rattle.file_parts.specs.declared.refusal.Refusal.{Refusal}
 use Rattle.file_parts.specs.declared.refusal.Refusal.TheVariants as refusals
 use Rattle.nfg_reader.specs.TableFile.{IsTableFile, HasTooManyPayoffs}
@@ -18,7 +18,7 @@ use Rattle.nfg_reader.specs.declared.reading.NfgStop.TheVariants as stops
 abbrev pub too_many_payoffs : TooLarge
 too_many_payoffs = record { what = Payoffs; count = 1048577; limit = 1048576 }
 
--- The table of a file, within the limit on payoffs. A fault comes with its kind and place where the tokens have one and do not
+-- The table of a file, within the limit on payoffs. A fault comes with its kind and offset where the tokens have one and do not
 -- pass the limit; the limit comes where it is passed.
 abbrev pub table_in : TokenList → Answer NfgStop GameTable
 table_in tokens (Ok table) = IsTableFile (bare tokens) table × IsTable table
@@ -27,6 +27,6 @@ table_in tokens (Err (stops.TooLarge limit)) = HasTooManyPayoffs (bare tokens) �
 table_in tokens (Err stops.Memory) = ⊥
 
 -- the stop that a refusal of a part becomes
-abbrev pub IsStopOf : Refusal NfgKind → TokenList → NfgStop → Type 0
-IsStopOf (refusals.Unfit kind left) tokens stop = stop ≡ stops.Fault (record { at = place_of tokens left; kind = kind })
-IsStopOf refusals.Memory tokens stop = stop ≡ stops.Memory
+abbrev pub IsNfgStop : Refusal NfgKind → TokenList → NfgStop → Type 0
+IsNfgStop (refusals.Unexpected kind left) tokens stop = stop ≡ stops.Fault (record { at = offset_of tokens left; kind = kind })
+IsNfgStop refusals.Memory tokens stop = stop ≡ stops.Memory

@@ -1,4 +1,12 @@
-//! Reads files of games in table form.
+//! Files of games in table form, read from their tokens.
+//!
+//! Callers may rely on: `read` gives the table of a file; a fault with its kind and offset, or the
+//! limit on payoffs, comes exactly where the tokens are no file; tokens have one answer.
+//! Definitions: `specs::TableFile` has the grammar, `specs::Faults` the faults of tokens that are
+//! no file, `specs::Stops` what tokens answer (`table_in`).
+//! Private words: `specs::TableReading`, what is taken off the tokens.
+//! Lemmas for callers: `proofs::Single`, that tokens have one answer.
+//! A change here touches: the tables of docs/FORMAT.md, `gambit_tools` and `refusals`.
 #![tactic(auto)]
 
 mod front;

@@ -8,13 +8,13 @@ ghost use Rattle.nfg_reader.specs.TableFile.{IsTableFile};
 ghost use Rattle.nfg_reader.specs.Faults.{IsFile, IsFault};
 ghost use Rattle.nfg_reader.specs.TableParsing.{parse_table};
 ghost use Rattle.nfg_reader.specs.TableReading.{front_of, table_of};
-ghost use Rattle.nfg_reader.specs.Stops.{IsStopOf, table_in};
+ghost use Rattle.nfg_reader.specs.Stops.{IsNfgStop, table_in};
 ghost use Rattle.nfg_reader.specs.declared.reading.NfgStop.TheVariants.{Memory};
 
 use crate::front::{Front, read_front};
 use crate::outcomes::last_payoffs;
 use crate::strategies::{profile_count, strategy_names};
-use file_parts::{Refusal, place};
+use file_parts::{Refusal, offset};
 use frac128::Frac;
 use game_core::{Table, Tokens, TooLarge, What};
 use std::alloc::{AllocError, Global};
@@ -32,7 +32,7 @@ pub enum NfgKind {
     Outcome,
     /// The payoffs, or the outcome numbers.
     PayoffCount,
-    /// A token behind the end.
+    /// A token after the end.
     Trailing,
 }
 
@@ -70,11 +70,11 @@ impl From<AllocError> for NfgStop {
 
 // The stop for a refusal.
 fn stop(refusal: Refusal<NfgKind>, tokens: &Tokens) -> NfgStop
-    ensures { IsStopOf refusal tokens.now result }
+    ensures { IsNfgStop refusal tokens.now result }
 {
     match refusal {
-        Refusal::Unfit(kind, left) => NfgStop::Fault(NfgFault {
-            at: place(tokens, left),
+        Refusal::Unexpected(kind, left) => NfgStop::Fault(NfgFault {
+            at: offset(tokens, left),
             kind,
         }),
         Refusal::Memory => NfgStop::Memory,
@@ -117,7 +117,7 @@ pub fn read(alloc: Global, tokens: &Tokens) -> Result<Table, NfgStop>
     }
 }
 
-/// The tokens of a source have one answer at most, with the kind and the place of a fault.
+/// The tokens of a source have one answer at most, with the kind and the offset of a fault.
 pub fn tables_are_single()
     ensures { (tokens : TokenList) → IsSingle (table_in tokens) }
 {}
@@ -125,8 +125,8 @@ pub fn tables_are_single()
 /// The tokens of a source have one fault at most; they have none where they are a file of a table, and one where they
 /// are none.
 pub fn faults_are_single()
-    ensures one { (tokens : TokenList) (kind other : NfgKind) (at place : ℕ)
-        → IsFault tokens kind at → IsFault tokens other place → (kind ≡ other) × (at ≡ place) }
+    ensures one { (tokens : TokenList) (kind other : NfgKind) (at offset : ℕ)
+        → IsFault tokens kind at → IsFault tokens other offset → (kind ≡ other) × (at ≡ offset) }
     ensures of_no_file { (tokens : TokenList) (kind : NfgKind) (at : ℕ) → IsFile (bare tokens)
         → IsFault tokens kind at → ⊥ }
     ensures of_others { (tokens : TokenList)

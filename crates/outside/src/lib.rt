@@ -1,6 +1,13 @@
-//! What lies outside of a run: the inputs that it reads, the sinks that it writes to, and the gate that its
-//! workers pass. The traits say what every implementation keeps. `MemInputs` and `MemSink` hold bytes in
-//! memory and tell them; `RealInputs` and `RealSink` stand over files and the standard streams.
+//! What lies outside of a run: the inputs that it reads, the sinks that it writes to, and the gate
+//! that its workers pass.
+//!
+//! Callers may rely on: the clauses of `Inputs` and `Sink`, which every implementation keeps;
+//! `MemInputs` and `MemSink` do exactly what their states say; a `Gate` changes no answer.
+//! Definitions: `specs::Inputs` and `specs::Sink` say what contracts see of both, `specs::Counts`
+//! how failed calls are counted.
+//! Private words: `specs::RealInputs` and `specs::RealSink`, and the module `tries`.
+//! A change here touches: the contract of `run`, and `claims`, `basis_enum` and `enummixed`, which
+//! pass the gate.
 #![tactic(auto)]
 
 mod gate;

@@ -1,5 +1,5 @@
 mod Answers
-mod LastSteps
+mod LastEdges
 pub mod Members
 mod PrefixOrder
 pub mod Histories

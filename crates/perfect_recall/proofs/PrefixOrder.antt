@@ -2,34 +2,34 @@
 use Rattle.std.proofs.Common.{◌≡◌, ◌<◌, ◌+◌, ◌-◌, ◌∙◌, sym, ap, subst, refl, ℕ, zero, suc, Some, None, List, [], ◌∷◌, ◌++◌, length, map, get_or, arith}
 use Rattle.game_theory.specs.Trees.{Tree, IsAbove, IsWithin}
 use Rattle.game_core.specs.declared.tree.Node.{Node}
-use Rattle.game_core.specs.Tree.{GameTree, IsTree, InformationSet, Place, AreInPrefixOrder, action_count, places_from}
+use Rattle.game_core.specs.Tree.{GameTree, IsTree, InformationSet, OpenBranch, AreInPrefixOrder, action_count, branches_from}
 use Rattle.game_core.specs.TreeGame.{game_of_tree, or_zero}
 
--- Free places behind node m: the first is one of a node on the path to m, and each further one of a node on the path to the node of
+-- Free places after node m: the first is one of a node on the path to m, and each further one of a node on the path to the node of
 -- the place before it.
-abbrev AreAbove : Tree → ℕ → List Place → Type 0
+abbrev AreAbove : Tree → ℕ → List OpenBranch → Type 0
 AreAbove t m [] = Unit {0}
 AreAbove t m (place ∷ free) = (q : ℕ) × (place.0 ≡ Some q) × IsWithin t q m × AreAbove t q free
 
--- so are they behind a child of the node
-above-child : (t : Tree) (m k : ℕ) (free : List Place) → 0 < k → t.parent k ≡ m → AreAbove t m free → AreAbove t k free
+-- so are they after a child of the node
+above-child : (t : Tree) (m k : ℕ) (free : List OpenBranch) → 0 < k → t.parent k ≡ m → AreAbove t m free → AreAbove t k free
 above-child t m k [] later is h = tt
 above-child t m k (place ∷ free) later is h = (h.0, h.1, (suc h.2.0, (later, subst (IsAbove t h.2.0 h.0) (sym is) h.2.1)), h.3)
 
--- and behind places of the node's own
-above-own : (t : Tree) (k a n : ℕ) (free : List Place) → AreAbove t k free → AreAbove t k (places_from k a n ++ free)
+-- and after places of the node's own
+above-own : (t : Tree) (k a n : ℕ) (free : List OpenBranch) → AreAbove t k free → AreAbove t k (branches_from k a n ++ free)
 above-own t k a zero free h = h
 above-own t k a (suc n) free h = (k, refl, (0, refl), above-own t k (suc a) n free h)
 
 -- nodes in prefix order, numbered from suc m on
 parent-above :
-    (t : Tree) (sets : List InformationSet) (m : ℕ) (nodes : List Node) (free : List Place) → AreInPrefixOrder sets (suc m) nodes free [] → AreAbove t m free
+    (t : Tree) (sets : List InformationSet) (m : ℕ) (nodes : List Node) (free : List OpenBranch) → AreInPrefixOrder sets (suc m) nodes free [] → AreAbove t m free
     → ((j : ℕ) → j < length nodes → t.parent (suc m + j) ≡ or_zero (get_or (map (λ node. node.parent) nodes) j None)) → (j : ℕ) → j < length nodes → IsWithin t (t.parent (suc m + j)) (m + j)
 parent-above t sets m [] free order above reads j below = absurd (omega arith)
 parent-above t sets m (node ∷ nodes) [] order above reads j below = absurd order
 parent-above t sets m (node ∷ nodes) (place ∷ free) order above reads j below =
     let here : suc m ≡ suc m + 0 = omega arith in
-    let is : t.parent (suc m) ≡ above.0 = ap t.parent here ∙ reads 0 (omega arith) ∙ ap or_zero (ap (λ (p : Place). p.0) order.0 ∙ above.1) in
+    let is : t.parent (suc m) ≡ above.0 = ap t.parent here ∙ reads 0 (omega arith) ∙ ap or_zero (ap (λ (p : OpenBranch). p.0) order.0 ∙ above.1) in
     let next = above-own t (suc m) 0 (action_count sets node.set) free (above-child t above.0 (suc m) free (omega arith) is above.3) in
     go is (parent-above t sets (suc m) nodes _ order.1 next (λ i l. let same : suc (suc m) + i ≡ suc m + suc i = omega arith in ap t.parent same ∙ reads (suc i) (omega arith))) j below
   where
@@ -43,12 +43,12 @@ parent-above t sets m (node ∷ nodes) (place ∷ free) order above reads j belo
         let two : suc m + i ≡ m + suc i = omega arith in
         subst (λ x. IsWithin t (t.parent x) (m + suc i)) one (subst (λ x. IsWithin t (t.parent (suc (suc m) + i)) x) two (later i (omega arith)))
 
--- the same behind the root
-behind_root :
+-- the same after the root
+after_root :
     (t : Tree) (sets : List InformationSet) (nodes : List Node) → AreInPrefixOrder sets 0 nodes ((None, 0) ∷ []) []
     → ((j : ℕ) → j < length nodes → t.parent j ≡ or_zero (get_or (map (λ node. node.parent) nodes) j None)) → (j : ℕ) → suc j < length nodes → IsWithin t (t.parent (suc j)) j
-behind_root t sets [] order reads j below = absurd (omega arith)
-behind_root t sets (node ∷ nodes) order reads j below =
+after_root t sets [] order reads j below = absurd (omega arith)
+after_root t sets (node ∷ nodes) order reads j below =
     let one : 1 + j ≡ suc j = omega arith in
     let none : 0 + j ≡ j = omega arith in
     let found = parent-above t sets 0 nodes _ order.1 (above-own t 0 0 (action_count sets node.set) [] tt) (λ i l. let same : 1 + i ≡ suc i = omega arith in ap t.parent same ∙ reads (suc i) (omega arith)) j (omega arith) in
@@ -59,4 +59,4 @@ pub parent-on_path : (t : GameTree) (k : ℕ) → IsTree t → 0 < k → k < len
 parent-on_path t zero valid later below = absurd (omega arith)
 parent-on_path t (suc j) valid later below =
     let one : j ≡ suc j - 1 = omega arith in
-    subst (IsWithin (game_of_tree t) ((game_of_tree t).parent (suc j))) one (behind_root (game_of_tree t) t.sets t.nodes valid.in_prefix_order (λ i l. refl) j below)
+    subst (IsWithin (game_of_tree t) ((game_of_tree t).parent (suc j))) one (after_root (game_of_tree t) t.sets t.nodes valid.in_prefix_order (λ i l. refl) j below)

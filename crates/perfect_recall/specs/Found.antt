@@ -4,7 +4,7 @@ use Rattle.std.specs.List.{range_with_len}
 use Rattle.answers.specs.Answers.{Answer}
 use Rattle.game_theory.specs.Trees.{Tree}
 use Rattle.game_theory.specs.Recall.{own_history, HasPerfectRecall}
-use Rattle.sequence_forms.specs.Sequences.{last_step, history_before}
+use Rattle.sequence_forms.specs.Sequences.{last_edge, history_before}
 use Rattle.game_core.specs.Tree.{GameTree, InformationSet}
 use Rattle.game_core.specs.TreeGame.{game_of_tree}
 use Rattle.perfect_recall.specs.declared.recall.Forgets.{Forgets}
@@ -13,14 +13,14 @@ use Rattle.perfect_recall.specs.declared.recall.RecallStop.TheVariants as stops
 
 -- ---- a tree in which the players recall
 -- the last own set and action before set s, by its owner; none at a set of chance
-abbrev pub step_before : Tree → ℕ → Option ℕ → Option (ℕ × ℕ)
-step_before t s None = None
-step_before t s (Some i) = last_step (history_before t i s)
+abbrev pub edge_before : Tree → ℕ → Option ℕ → Option (ℕ × ℕ)
+edge_before t s None = None
+edge_before t s (Some i) = last_edge (history_before t i s)
 
--- each player has perfect recall, and these are the steps before the sets
+-- each player has perfect recall, and these are the edges before the sets
 pub record IsRecallOf (t : Tree) (before : List (Option (ℕ × ℕ))) : Type 0 where
   pub all_recall : (i : ℕ) → i < t.players → HasPerfectRecall t i
-  pub before_is : before ≡ map (λ s. step_before t s (t.owner s)) (range_with_len 0 t.sets)
+  pub before_is : before ≡ map (λ s. edge_before t s (t.owner s)) (range_with_len 0 t.sets)
 
 -- ---- a player who forgets
 -- the nodes of set s have the same own history for player i
@@ -62,7 +62,7 @@ pub record IsForgetting (t : GameTree) (f : Forgets) : Type 0 where
   pub forgets : ForgetsAt t f
 
 -- ---- the answer
--- what a tree has: the steps before its sets, where all recall, or who forgets first, and where
+-- what a tree has: the edges before its sets, where all recall, or who forgets first, and where
 abbrev pub recall_of : GameTree → Answer RecallStop (List (Option (ℕ × ℕ)))
 recall_of t (Ok before) = IsRecallOf (game_of_tree t) before
 recall_of t (Err (stops.Forgets forgets)) = IsForgetting t forgets

@@ -1,3 +1,3 @@
-pub mod LastSteps
+pub mod LastEdges
 pub mod Members
 pub mod Found

@@ -5,22 +5,22 @@ ghost use Rattle.game_theory.specs.Recall.{HasPerfectRecall};
 ghost use Rattle.game_core.specs.Tree.{GameTree, IsTree};
 ghost use Rattle.game_core.specs.TreeGame.{game_of_tree};
 ghost use Rattle.perfect_recall.specs.declared.recall.RecallStop.TheVariants as stops;
-ghost use Rattle.perfect_recall.specs.LastSteps.{AreSteps};
-ghost use Rattle.perfect_recall.specs.Members.{HaveSameStep, IsForgettingBelow, IsOtherMember, NobodyForgetsBelow};
-ghost use Rattle.perfect_recall.specs.Found.{EarlierAreAlike, ForgetsAt, IsAlike, IsRecallOf, recall_of, step_before};
+ghost use Rattle.perfect_recall.specs.LastEdges.{AreLastEdges};
+ghost use Rattle.perfect_recall.specs.Members.{HaveSameEdge, IsForgettingBelow, IsOtherMember, NobodyForgetsBelow};
+ghost use Rattle.perfect_recall.specs.Found.{EarlierAreAlike, ForgetsAt, IsAlike, IsRecallOf, recall_of, edge_before};
 
-use crate::paths::last_steps;
+use crate::paths::last_edges;
 use crate::recall::{Forgets, Recall, RecallStop};
 use answers::Memory;
 use game_core::tree_parts::{owner, stands_for_game_tree};
 use game_core::{Tree, trees_are_game_trees};
 use std::alloc::Global;
 
-// Whether two steps are the same.
-fn are_same(step: Option<(u32, u32)>, other: Option<(u32, u32)>) -> bool
-    ensures { IsTrue result ↔ (step ≡ other) }
+// Whether two edges are the same.
+fn are_same(edge: Option<(u32, u32)>, other: Option<(u32, u32)>) -> bool
+    ensures { IsTrue result ↔ (edge ≡ other) }
 {
-    match (step, other) {
+    match (edge, other) {
         (None, None) => true,
         (Some((set, action)), Some((other_set, other_action))) => {
             set == other_set && action == other_action
@@ -29,17 +29,17 @@ fn are_same(step: Option<(u32, u32)>, other: Option<(u32, u32)>) -> bool
     }
 }
 
-// The first of these nodes with another step before it than before the first node, where there is one.
-fn other_member(members: &[u32], steps: &[Option<(u32, u32)>]) -> Option<u32>
+// The first of these nodes with another edge before it than before the first node, where there is one.
+fn other_member(members: &[u32], edges: &[Option<(u32, u32)>]) -> Option<u32>
     requires some { 0 < length members.now }
     requires within { (j : ℕ) → j < length members.now
-        → slice_index members.now j < length steps.now }
-    ensures { MatchOption result (HaveSameStep members.now steps.now (length members.now))
-        (IsOtherMember members.now steps.now) }
+        → slice_index members.now j < length edges.now }
+    ensures { MatchOption result (HaveSameEdge members.now edges.now (length members.now))
+        (IsOtherMember members.now edges.now) }
 {
-    let first = steps[members[0] as usize];
+    let first = edges[members[0] as usize];
     for member in members {
-        if !are_same(steps[*member as usize], first) {
+        if !are_same(edges[*member as usize], first) {
             return Some(*member);
         }
     }
@@ -49,12 +49,12 @@ fn other_member(members: &[u32], steps: &[Option<(u32, u32)>]) -> Option<u32>
 // Where the owner of a set forgets at this set, but at none before it.
 fn forgets_at(
     tree: &Tree,
-    steps: &[Option<(u32, u32)>],
+    edges: &[Option<(u32, u32)>],
     player: u32,
     number: usize,
 ) -> Option<Forgets>
-    requires length { length steps.now ≡ length tree.now.nodes }
-    requires steps { AreSteps (game_of_tree tree.now) steps.now }
+    requires length { length edges.now ≡ length tree.now.nodes }
+    requires edges { AreLastEdges (game_of_tree tree.now) edges.now }
     requires set { number < length tree.now.sets }
     requires own { (game_of_tree tree.now).owner number ≡ Some player }
     requires earlier { EarlierAreAlike (game_of_tree tree.now) player number }
@@ -66,7 +66,7 @@ fn forgets_at(
     stands_for_game_tree(tree);
     let set = &tree.sets()[number];
     let members = set.members();
-    let Some(second_node) = other_member(members, steps) else {
+    let Some(second_node) = other_member(members, edges) else {
         return None;
     };
     Some(Forgets {
@@ -80,12 +80,12 @@ fn forgets_at(
 // Who forgets first at the sets up to this one, where this is found at the sets before it.
 fn with_set(
     tree: &Tree,
-    steps: &[Option<(u32, u32)>],
+    edges: &[Option<(u32, u32)>],
     number: usize,
     found: Option<Forgets>,
 ) -> Option<Forgets>
-    requires length { length steps.now ≡ length tree.now.nodes }
-    requires steps { AreSteps (game_of_tree tree.now) steps.now }
+    requires length { length edges.now ≡ length tree.now.nodes }
+    requires edges { AreLastEdges (game_of_tree tree.now) edges.now }
     requires set { number < length tree.now.sets }
     requires found { MatchOption found (NobodyForgetsBelow tree.now number)
         (IsForgettingBelow tree.now number) }
@@ -100,55 +100,55 @@ fn with_set(
             return found;
         }
     }
-    match forgets_at(tree, steps, player, number) {
+    match forgets_at(tree, edges, player, number) {
         Some(forgets) => Some(forgets),
         None => found,
     }
 }
 
 // The first player who forgets, and where; nothing where no player does.
-fn first_forgetting(tree: &Tree, steps: &[Option<(u32, u32)>]) -> Option<Forgets>
-    requires length { length steps.now ≡ length tree.now.nodes }
-    requires steps { AreSteps (game_of_tree tree.now) steps.now }
+fn first_forgetting(tree: &Tree, edges: &[Option<(u32, u32)>]) -> Option<Forgets>
+    requires length { length edges.now ≡ length tree.now.nodes }
+    requires edges { AreLastEdges (game_of_tree tree.now) edges.now }
     ensures { MatchOption result (NobodyForgetsBelow tree.now (length tree.now.sets))
         (IsForgettingBelow tree.now (length tree.now.sets)) }
 {
     let mut found = None;
     for number in 0..tree.sets().len() {
-        found = with_set(tree, steps, number, found);
+        found = with_set(tree, edges, number, found);
     }
     found
 }
 
-// The step before a set, where all players recall.
-fn step_before_set(tree: &Tree, steps: &[Option<(u32, u32)>], number: usize) -> Option<(u32, u32)>
-    requires length { length steps.now ≡ length tree.now.nodes }
-    requires steps { AreSteps (game_of_tree tree.now) steps.now }
+// The edge before a set, where all players recall.
+fn edge_before_set(tree: &Tree, edges: &[Option<(u32, u32)>], number: usize) -> Option<(u32, u32)>
+    requires length { length edges.now ≡ length tree.now.nodes }
+    requires edges { AreLastEdges (game_of_tree tree.now) edges.now }
     requires recall { (i : ℕ) → HasPerfectRecall (game_of_tree tree.now) i }
     requires set { number < length tree.now.sets }
     ensures { result
-        ≡ step_before (game_of_tree tree.now) number ((game_of_tree tree.now).owner number) }
+        ≡ edge_before (game_of_tree tree.now) number ((game_of_tree tree.now).owner number) }
 {
     let set = &tree.sets()[number];
     let members = set.members();
-    steps[members[0] as usize]
+    edges[members[0] as usize]
 }
 
-// The steps before the sets, where all players recall.
-fn steps_before_sets(
+// The edges before the sets, where all players recall.
+fn edges_before_sets(
     alloc: Global,
     tree: &Tree,
-    steps: &[Option<(u32, u32)>],
+    edges: &[Option<(u32, u32)>],
 ) -> Result<Vec<Option<(u32, u32)>>, Memory>
-    requires length { length steps.now ≡ length tree.now.nodes }
-    requires steps { AreSteps (game_of_tree tree.now) steps.now }
+    requires length { length edges.now ≡ length tree.now.nodes }
+    requires edges { AreLastEdges (game_of_tree tree.now) edges.now }
     requires recall { (i : ℕ) → HasPerfectRecall (game_of_tree tree.now) i }
     ensures { IfOk result (λ before. IsRecallOf (game_of_tree tree.now) before.items) }
 {
     let sets = tree.sets().len();
     let mut before = Vec::with_capacity(alloc, sets)?;
     for number in 0..sets {
-        before.push(step_before_set(tree, steps, number))?;
+        before.push(edge_before_set(tree, edges, number))?;
     }
     Ok(before)
 }
@@ -164,11 +164,11 @@ fn steps_before_sets(
 pub fn find_recall(alloc: Global, tree: &Tree) -> Result<Recall, RecallStop>
     ensures { Gives stops.Memory (recall_of tree.now) result }
 {
-    let steps = last_steps(alloc, tree)?;
-    if let Some(forgets) = first_forgetting(tree, &steps) {
+    let edges = last_edges(alloc, tree)?;
+    if let Some(forgets) = first_forgetting(tree, &edges) {
         return Err(RecallStop::Forgets(forgets));
     }
-    let before = steps_before_sets(alloc, tree, &steps)?;
+    let before = edges_before_sets(alloc, tree, &edges)?;
     Ok(Recall::new(before))
 }
 

@@ -1,8 +1,13 @@
-//! Perfect recall: whether each player of a tree, at each of the player's information sets, knows all of the player's
-//! own earlier sets and actions.
+//! Perfect recall: whether each player of a tree, at each of the player's information sets, knows
+//! all of the player's own earlier sets and actions.
 //!
-//! All nodes are passed once, in order. Own histories are compared by their last steps alone: where the player's
-//! earlier sets have one history each, histories with the same last step are equal.
+//! Callers may rely on: `find_recall` gives the last own set and action before each set, or the
+//! first player who forgets, with the set and two nodes; `recalls_are_single`.
+//! Definitions: `specs::Found` says what is found of a tree (`recall_of`); `game_theory` says what
+//! perfect recall is.
+//! Private words: `specs::LastEdges` and `specs::Members`: histories are compared by their ends.
+//! Lemmas for callers: `proofs::Histories` on own histories; `Members` on a set's nodes.
+//! A change here touches: the refusal `Forgets`, `sequence_form`, `ne_checker`, `line_checks`.
 #![tactic(auto)]
 
 mod find;

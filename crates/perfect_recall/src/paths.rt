@@ -1,8 +1,8 @@
-// The players' last own steps on the paths of a tree.
+// The players' last own edges on the paths of a tree.
 ghost use Rattle.std.specs.Prelude.{◌≡◌, ◌<◌, ◌≤◌, ◌+◌, None, Some, length, IfOk, MatchOption};
 ghost use Rattle.game_theory.specs.Trees.{IsWithin};
 ghost use Rattle.game_core.specs.TreeGame.{game_of_tree};
-ghost use Rattle.perfect_recall.specs.LastSteps.{AreLast, AreSteps, Chooses, IsStepBefore, NobodyChooses};
+ghost use Rattle.perfect_recall.specs.LastEdges.{AreLast, AreLastEdges, Chooses, IsEdgeBefore, NobodyChooses};
 
 use answers::Memory;
 use game_core::Tree;
@@ -21,19 +21,19 @@ fn choice_at(tree: &Tree, node: usize) -> Option<(u32, u32)>
     Some((player, set))
 }
 
-// The players' last steps at a node are those at a node above it again. `steps` has the steps before the nodes that
+// The players' last edges at a node are those at a node above it again. `edges` has the edges before the nodes that
 // come before it.
 fn go_up(
     tree: &Tree,
-    steps: &[Option<(u32, u32)>],
+    edges: &[Option<(u32, u32)>],
     last: &mut [Option<(u32, u32)>],
     from: usize,
     to: usize,
 )
     requires node { from < length tree.now.nodes }
     requires above { IsWithin (game_of_tree tree.now) to from }
-    requires reach { from < length steps.now }
-    requires steps { AreSteps (game_of_tree tree.now) steps.now }
+    requires reach { from < length edges.now }
+    requires edges { AreLastEdges (game_of_tree tree.now) edges.now }
     requires last { AreLast (game_of_tree tree.now) from last.old }
     ensures { AreLast (game_of_tree tree.now) to last.new }
 {
@@ -42,12 +42,12 @@ fn go_up(
     while here != to {
         here = parent(tree, here);
         if let Some((player, _)) = choice_at(tree, here) {
-            last[player as usize] = steps[here];
+            last[player as usize] = edges[here];
         }
     }
 }
 
-// The players' last steps at a node's parent are those at the node.
+// The players' last edges at a node's parent are those at the node.
 fn go_down(tree: &Tree, last: &mut [Option<(u32, u32)>], node: usize)
     requires node { node < length tree.now.nodes }
     requires later { 0 < node }
@@ -61,11 +61,11 @@ fn go_down(tree: &Tree, last: &mut [Option<(u32, u32)>], node: usize)
     }
 }
 
-// The step before a node of the player who chooses there.
-fn step_at(tree: &Tree, last: &[Option<(u32, u32)>], node: usize) -> Option<(u32, u32)>
+// The edge before a node of the player who chooses there.
+fn edge_at(tree: &Tree, last: &[Option<(u32, u32)>], node: usize) -> Option<(u32, u32)>
     requires node { node < length tree.now.nodes }
     requires last { AreLast (game_of_tree tree.now) node last.now }
-    ensures { IsStepBefore (game_of_tree tree.now) node result }
+    ensures { IsEdgeBefore (game_of_tree tree.now) node result }
 {
     stands_for_game_tree(tree);
     let (player, _) = choice_at(tree, node)?;
@@ -74,21 +74,21 @@ fn step_at(tree: &Tree, last: &[Option<(u32, u32)>], node: usize) -> Option<(u32
 
 // For each node the last own set and action before it of the player who chooses there; nothing where there is none,
 // and where nobody does.
-pub(crate) fn last_steps(alloc: Global, tree: &Tree) -> Result<Vec<Option<(u32, u32)>>, Memory>
-    ensures length { IfOk result (λ steps. length steps.items ≡ length tree.now.nodes) }
-    ensures steps { IfOk result (λ steps. AreSteps (game_of_tree tree.now) steps.items) }
+pub(crate) fn last_edges(alloc: Global, tree: &Tree) -> Result<Vec<Option<(u32, u32)>>, Memory>
+    ensures length { IfOk result (λ edges. length edges.items ≡ length tree.now.nodes) }
+    ensures edges { IfOk result (λ edges. AreLastEdges (game_of_tree tree.now) edges.items) }
 {
     stands_for_game_tree(tree);
     let nodes = tree.nodes().len();
     let mut room = vec![in alloc; None; tree.players().len()]?;
     let last = room.as_mut_slice();
-    let mut steps = Vec::with_capacity(alloc, nodes)?;
-    steps.push(step_at(tree, last, 0))?;
+    let mut edges = Vec::with_capacity(alloc, nodes)?;
+    edges.push(edge_at(tree, last, 0))?;
     for node in 1..nodes {
         let above = parent(tree, node);
-        go_up(tree, steps.as_slice(), last, node - 1, above);
+        go_up(tree, edges.as_slice(), last, node - 1, above);
         go_down(tree, last, node);
-        steps.push(step_at(tree, last, node))?;
+        edges.push(edge_at(tree, last, node))?;
     }
-    Ok(steps)
+    Ok(edges)
 }

@@ -52,7 +52,7 @@ impl Model for Recall {
 }
 
 impl Recall {
-    // The steps before the sets in order.
+    // The edges before the sets in order.
     pub(crate) fn new(before: Vec<Option<(u32, u32)>>) -> Recall
         ensures { result ≡ before.items }
     {

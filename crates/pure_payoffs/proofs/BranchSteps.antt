@@ -13,7 +13,7 @@ use Rattle.frac128.specs.declared.steps.Op.TheVariants.{Add, Mul}
 use Rattle.frac128.specs.declared.steps.Unfit.{Unfit}
 use Rattle.pure_payoffs.specs.Plays.{Give, branch_steps}
 use Rattle.pure_payoffs.specs.Steps.{Step, StepFits, IsFirstUnfit, chance_steps}
-use Rattle.pure_payoffs.proofs.Runs.{first_unfit-behind, first_unfit-here, first_unfit-more, first_unfit-chance, one-fits, added-gives, behind-gives}
+use Rattle.pure_payoffs.proofs.Runs.{first_unfit-following, first_unfit-here, first_unfit-more, first_unfit-chance, one-fits, added-gives, following-gives}
 
 -- a branch with the probability 0 adds nothing
 pub skipped-gives : (prob sum v : ℚ) (steps : List Step) → prob ≡ zero_ℚ → Give (branch_steps prob sum v steps) (sum +ℚ prob *ℚ v) (Ok sum)
@@ -32,15 +32,15 @@ child-refused prob sum v steps u other h = rw (taken-steps prob sum v steps othe
 -- a product that does not fit is the branch's first such step
 pub product-refused : (prob sum v x : ℚ) (steps : List Step) (u : Step) → prob ≢ zero_ℚ → x ≡ v → All StepFits steps → u ≡ unfit Mul prob x → (MulFits prob x → ⊥) → IsFirstUnfit (branch_steps prob sum v steps) u
 product-refused prob sum v x steps u other e fit step refused =
-    rw (taken-steps prob sum v steps other, step, ← e) (first_unfit-behind steps _ (unfit Mul prob x) fit (first_unfit-here (unfit Mul prob x) _ refused))
+    rw (taken-steps prob sum v steps other, step, ← e) (first_unfit-following steps _ (unfit Mul prob x) fit (first_unfit-here (unfit Mul prob x) _ refused))
 
 -- what the addition of a product gives is what the branch gives
 pub product-added : (prob sum v x y : ℚ) (steps : List Step) (r : Result ℚ Unfit) → prob ≢ zero_ℚ → x ≡ v → y ≡ prob *ℚ x → All StepFits steps → MulFits prob x
     → IfOk r (λ f. f ≡ sum +ℚ y) → OnOk r (AddFits sum y) → IfErr r (λ e. e ≡ unfit Add sum y) → OnErr r (AddFits sum y → ⊥) → Give (branch_steps prob sum v steps) (sum +ℚ prob *ℚ v) r
 product-added prob sum v x y steps r other e product fit fits value sum_fits step refused =
     let last : Give (unfit Add sum y ∷ []) (sum +ℚ y) r = added-gives sum y r value sum_fits step refused in
-    let both = behind-gives (unfit Mul prob x ∷ []) (unfit Add sum y ∷ []) (sum +ℚ y) r (one-fits (unfit Mul prob x) fits) last in
-    let whole = behind-gives steps (unfit Mul prob x ∷ unfit Add sum y ∷ []) (sum +ℚ y) r fit both in
+    let both = following-gives (unfit Mul prob x ∷ []) (unfit Add sum y ∷ []) (sum +ℚ y) r (one-fits (unfit Mul prob x) fits) last in
+    let whole = following-gives steps (unfit Mul prob x ∷ unfit Add sum y ∷ []) (sum +ℚ y) r fit both in
     rw (taken-steps prob sum v steps other, ← e, ← product) whole
 
 module _ (chances values : ℕ → ℚ) (later : ℕ → List Step) (a : ℕ) (sum prob : ℚ) (sum_is : sum ≡ sum_to a (λ b. chances b *ℚ values b)) (prob_is : prob ≡ chances a) (fit : All StepFits (chance_steps a chances values later)) where
@@ -54,4 +54,4 @@ module _ (chances values : ℕ → ℚ) (later : ℕ → List Step) (a : ℕ) (s
   pub branch-refused : (n : ℕ) (u : Step) → a < n → IsFirstUnfit (branch_steps prob sum (values a) (later a)) u → IsFirstUnfit (chance_steps n chances values later) u
   branch-refused n u l h =
       let step : IsFirstUnfit (branch_steps (chances a) (sum_to a (λ b. chances b *ℚ values b)) (values a) (later a)) u = rw (← sum_is, ← prob_is) h in
-      first_unfit-chance (suc a) n chances values later u (omega arith) (first_unfit-behind (chance_steps a chances values later) _ u fit step)
+      first_unfit-chance (suc a) n chances values later u (omega arith) (first_unfit-following (chance_steps a chances values later) _ u fit step)

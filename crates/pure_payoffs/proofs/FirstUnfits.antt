@@ -24,22 +24,22 @@ front_one P (x ∷ xs) (y ∷ ys) r q one other e f g h k =
 -- steps have one first step that does not fit
 pub unfit_once : (steps : List Step) (one other : Step) → IsFirstUnfit steps one → IsFirstUnfit steps other → one ≡ other
 unfit_once steps one other h g =
-    front_one StepFits h.before g.before h.behind g.behind one other (sym h.is_there ∙ g.is_there) h.earlier_fit g.earlier_fit h.does_not_fit g.does_not_fit
+    front_one StepFits h.before g.before h.following g.following one other (sym h.is_there ∙ g.is_there) h.earlier_fit g.earlier_fit h.does_not_fit g.does_not_fit
 
 -- there is none among steps that fit
 pub unfit_among : (steps : List Step) (step : Step) → IsFirstUnfit steps step → All StepFits steps → ⊥
-unfit_among steps step h fit = h.does_not_fit (front_has StepFits h.before h.behind step (subst (All StepFits) h.is_there fit))
+unfit_among steps step h fit = h.does_not_fit (front_has StepFits h.before h.following step (subst (All StepFits) h.is_there fit))
 
 -- of two lists of steps that begin in the same way
 pub unfit_begins : (steps more : List Step) (one other : Step) → IsFirstUnfit steps one → IsFirstUnfit (steps ++ more) other → one ≡ other
 unfit_begins steps more one other h g =
     let f = first_unfit-more steps more one h in
-    front_one StepFits f.before g.before f.behind g.behind one other (sym f.is_there ∙ g.is_there) f.earlier_fit g.earlier_fit f.does_not_fit g.does_not_fit
+    front_one StepFits f.before g.before f.following g.following one other (sym f.is_there ∙ g.is_there) f.earlier_fit g.earlier_fit f.does_not_fit g.does_not_fit
 
 pub unfit_excludes : (steps more : List Step) (one : Step) → IsFirstUnfit steps one → All StepFits (steps ++ more) → ⊥
 unfit_excludes steps more one h fit =
     let f = first_unfit-more steps more one h in
-    f.does_not_fit (front_has StepFits f.before f.behind one (subst (All StepFits) f.is_there fit))
+    f.does_not_fit (front_has StepFits f.before f.following one (subst (All StepFits) f.is_there fit))
 
 append_none : {X : Type 0} (xs : List X) → xs ++ [] ≡ xs
 append_none [] = refl

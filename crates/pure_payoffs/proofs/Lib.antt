@@ -6,7 +6,7 @@ pub mod NodeSteps
 pub mod NodeValues
 pub mod Places
 pub mod Runs
-pub mod SettledFlags
+pub mod IdleNodes
 pub mod SettledNodes
 pub mod SettledPlaces
 pub mod Standing

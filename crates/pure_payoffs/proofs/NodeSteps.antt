@@ -11,7 +11,7 @@ use Rattle.game_theory.specs.Mixed.{sure}
 use Rattle.game_theory.specs.Trees.{Tree, IsTree}
 use Rattle.game_theory.specs.Behaviour.{of_owner, action_probability, value, pure}
 use Rattle.game_theory.proofs.Values.{value-by_actions, value-end}
-use Rattle.pure_payoffs.specs.Plays.{steps_at, branch_steps, steps_behind, value_behind}
+use Rattle.pure_payoffs.specs.Plays.{steps_at, branch_steps, steps_after, value_after}
 use Rattle.pure_payoffs.specs.Steps.{Step, chance_steps, owner_steps, node_steps, steps_to}
 
 -- the sums of products of probabilities and values, where the values are the same
@@ -56,27 +56,27 @@ module _ (t : Tree) (choice : ℕ → ℕ) (i : ℕ) (w : IsTree t) (chosen : (s
   pub steps_at-end : (k : ℕ) → k < t.size → t.set k ≡ None → steps_at t choice i k ≡ []
   steps_at-end k l e = steps_at-recur k l ∙ ap (node_steps t choice i (steps_at t choice i) k) e
 
-  -- at any other node the last step adds what comes behind it
-  pub steps_at-inner : (k s : ℕ) → k < t.size → t.set k ≡ Some s → steps_at t choice i k ≡ steps_behind t choice i k s (t.owner s) ++ unfit Add (t.pays k i) (value_behind t choice i k s (t.owner s)) ∷ []
+  -- at any other node the last step adds what comes after it
+  pub steps_at-inner : (k s : ℕ) → k < t.size → t.set k ≡ Some s → steps_at t choice i k ≡ steps_after t choice i k s (t.owner s) ++ unfit Add (t.pays k i) (value_after t choice i k s (t.owner s)) ∷ []
   steps_at-inner k s l e = steps_at-recur k l ∙ ap (node_steps t choice i (steps_at t choice i) k) e ∙ by_owner (t.owner s)
     where
-      by_owner : (o : Option ℕ) → owner_steps t choice i (steps_at t choice i) k s o ≡ steps_behind t choice i k s o ++ unfit Add (t.pays k i) (value_behind t choice i k s o) ∷ []
+      by_owner : (o : Option ℕ) → owner_steps t choice i (steps_at t choice i) k s o ≡ steps_after t choice i k s o ++ unfit Add (t.pays k i) (value_after t choice i k s o) ∷ []
       by_owner None = refl
       by_owner (Some j) = refl
 
-  -- the weighted values of a node's children sum to the value of what comes behind it
-  weighted-behind : (k s : ℕ) → s < t.sets → sum_to (t.actions s) (λ a. action_probability t (pure choice) s a *ℚ value t (pure choice) i (child t k a)) ≡ value_behind t choice i k s (t.owner s)
-  weighted-behind k s l = go (t.owner s) refl
+  -- the weighted values of a node's children sum to the value of what comes after it
+  weighted-following : (k s : ℕ) → s < t.sets → sum_to (t.actions s) (λ a. action_probability t (pure choice) s a *ℚ value t (pure choice) i (child t k a)) ≡ value_after t choice i k s (t.owner s)
+  weighted-following k s l = go (t.owner s) refl
     where
-      go : (o : Option ℕ) → t.owner s ≡ o → sum_to (t.actions s) (λ a. of_owner o (t.chance s a) (sure (choice s) a) *ℚ value t (pure choice) i (child t k a)) ≡ value_behind t choice i k s o
+      go : (o : Option ℕ) → t.owner s ≡ o → sum_to (t.actions s) (λ a. of_owner o (t.chance s a) (sure (choice s) a) *ℚ value t (pure choice) i (child t k a)) ≡ value_after t choice i k s o
       go None p = refl
       go (Some j) p = sum_to-single (t.actions s) (choice s) (λ a. value t (pure choice) i (child t k a)) (chosen s j l p)
 
-  -- the value of such a node is what its outcome pays and the value of what comes behind it
-  pub value-inner : (k s : ℕ) → k < t.size → t.set k ≡ Some s → value t (pure choice) i k ≡ t.pays k i +ℚ value_behind t choice i k s (t.owner s)
+  -- the value of such a node is what its outcome pays and the value of what comes after it
+  pub value-inner : (k s : ℕ) → k < t.size → t.set k ≡ Some s → value t (pure choice) i k ≡ t.pays k i +ℚ value_after t choice i k s (t.owner s)
   value-inner k s l e =
       value-by_actions t (pure choice) i k s (child t k) w l e (λ a m. child-is_child t k s a w l e m)
-      ∙ ap (λ x. t.pays k i +ℚ x) (weighted-behind k s (w.sets_within k s l e))
+      ∙ ap (λ x. t.pays k i +ℚ x) (weighted-following k s (w.sets_within k s l e))
 
   -- the value of an end is what its outcome pays
   pub value-last : (k : ℕ) → k < t.size → t.set k ≡ None → value t (pure choice) i k ≡ t.pays k i

@@ -24,7 +24,7 @@ child-read f t lists k s a d w h l e m =
     let found = subst (λ x. slice_get x a ≡ Some c.0) same c.1 in
     (slice_get_within (f (get_or lists k d)) a c.0 found, get_or_from_slice_get (f (get_or lists k d)) a c.0 0 found ∙ sym (child-is t k a c.0 w c.2))
 
--- a node that is read there is the child, and stands behind
+-- a node that is read there is the child, and stands after
 pub child-found : {V : Type 0} (f : V → List ℕ) (t : Tree) (lists : List V) (k s a : ℕ) (d : V) (c : ℕ) → IsTree t → AreChildren t (map f lists) → k < t.size → t.set k ≡ Some s → a < t.actions s → c ≡ get_or (f (get_or lists k d)) a c → (c ≡ child t k a) × (k < c) × (c < t.size)
 child-found f t lists k s a d c w h l e m is =
     let read = child-read f t lists k s a d w h l e m in

@@ -12,16 +12,16 @@ use Rattle.pure_payoffs.specs.Steps.{Step, StepFits, IsFirstUnfit, chance_steps}
 -- the first step that does not fit stays the first before further steps
 pub first_unfit-more : (steps rest : List Step) (u : Step) → IsFirstUnfit steps u → IsFirstUnfit (steps ++ rest) u
 first_unfit-more steps rest u h =
-    record { before = h.before; behind = h.behind ++ rest; is_there = ap (λ s. s ++ rest) h.is_there ∙ append_assoc h.before (u ∷ h.behind) rest; earlier_fit = h.earlier_fit; does_not_fit = h.does_not_fit }
+    record { before = h.before; following = h.following ++ rest; is_there = ap (λ s. s ++ rest) h.is_there ∙ append_assoc h.before (u ∷ h.following) rest; earlier_fit = h.earlier_fit; does_not_fit = h.does_not_fit }
 
--- it stays the first behind steps that fit
-pub first_unfit-behind : (steps rest : List Step) (u : Step) → All StepFits steps → IsFirstUnfit rest u → IsFirstUnfit (steps ++ rest) u
-first_unfit-behind steps rest u fit h =
-    record { before = steps ++ h.before; behind = h.behind; is_there = ap (λ s. steps ++ s) h.is_there ∙ sym (append_assoc steps h.before (u ∷ h.behind)); earlier_fit = All-append StepFits steps h.before fit h.earlier_fit; does_not_fit = h.does_not_fit }
+-- it stays the first after steps that fit
+pub first_unfit-following : (steps rest : List Step) (u : Step) → All StepFits steps → IsFirstUnfit rest u → IsFirstUnfit (steps ++ rest) u
+first_unfit-following steps rest u fit h =
+    record { before = steps ++ h.before; following = h.following; is_there = ap (λ s. steps ++ s) h.is_there ∙ sym (append_assoc steps h.before (u ∷ h.following)); earlier_fit = All-append StepFits steps h.before fit h.earlier_fit; does_not_fit = h.does_not_fit }
 
 -- a step that does not fit is the first from itself on
-pub first_unfit-here : (u : Step) (behind : List Step) → (StepFits u → ⊥) → IsFirstUnfit (u ∷ behind) u
-first_unfit-here u behind refused = record { before = []; behind = behind; is_there = refl; earlier_fit = All-nil StepFits; does_not_fit = refused }
+pub first_unfit-here : (u : Step) (following : List Step) → (StepFits u → ⊥) → IsFirstUnfit (u ∷ following) u
+first_unfit-here u following refused = record { before = []; following = following; is_there = refl; earlier_fit = All-nil StepFits; does_not_fit = refused }
 
 -- a step that fits stands alone
 pub one-fits : (step : Step) → StepFits step → All StepFits (step ∷ [])
@@ -32,10 +32,10 @@ pub added-gives : (a b : ℚ) (r : Result ℚ Unfit) → IfOk r (λ f. f ≡ a +
 added-gives a b (Ok v) value fits step refused = (value, one-fits (unfit Add a b) fits)
 added-gives a b (Err u) value fits step refused = subst (IsFirstUnfit (unfit Add a b ∷ [])) (sym step) (first_unfit-here (unfit Add a b) [] refused)
 
--- steps that fit change nothing in what those behind them give
-pub behind-gives : (steps rest : List Step) (v : ℚ) (r : Result ℚ Unfit) → All StepFits steps → Give rest v r → Give (steps ++ rest) v r
-behind-gives steps rest v (Ok x) fit g = (g.0, All-append StepFits steps rest fit g.1)
-behind-gives steps rest v (Err u) fit g = first_unfit-behind steps rest u fit g
+-- steps that fit change nothing in what those after them give
+pub following-gives : (steps rest : List Step) (v : ℚ) (r : Result ℚ Unfit) → All StepFits steps → Give rest v r → Give (steps ++ rest) v r
+following-gives steps rest v (Ok x) fit g = (g.0, All-append StepFits steps rest fit g.1)
+following-gives steps rest v (Err u) fit g = first_unfit-following steps rest u fit g
 
 -- the first step of chance that does not fit is the same where there are more actions
 pub first_unfit-chance : (m n : ℕ) (chances values : ℕ → ℚ) (later : ℕ → List Step) (u : Step) → m ≤ n → IsFirstUnfit (chance_steps m chances values later) u → IsFirstUnfit (chance_steps n chances values later) u

@@ -24,7 +24,7 @@ module _ (t : Tree) (w : IsTree t) where
     settled-value : (k : ℕ) → k < t.size → IsSettled t k → value t (pure one) i k ≡ value t (pure other) i k
     settled-value k l h = value-agree t (pure one) (pure other) i k w l (λ c s j a n m e o b. absurd (h c m n s j e o))
 
-    -- what comes behind a node of chance is, where the steps of the children are
+    -- what comes after a node of chance is, where the steps of the children are
     module _ (d k s : ℕ) (l : k < t.size) (h : IsSettled t k) (e : t.set k ≡ Some s) (later : (c : ℕ) → c < t.size → IsSettled t c → steps_to t one i d c ≡ steps_to t other i d c) where
       values : (a : ℕ) → a < t.actions s → value t (pure one) i (child t k a) ≡ value t (pure other) i (child t k a)
       values a m = let c = child-is_child t k s a w l e m in settled-value (child t k a) c.1 (IsSettled-child k a (child t k a) h c)

@@ -9,7 +9,7 @@ use Rattle.game_theory.specs.Trees.{Tree, IsTree}
 use Rattle.game_theory.specs.Behaviour.{value, pure}
 use Rattle.pure_payoffs.specs.Plays.{Give, steps_at}
 use Rattle.pure_payoffs.specs.Shortcuts.{OnlyLeadsTo, StandsFor}
-use Rattle.pure_payoffs.proofs.NodeValues.{owned-gives, behind-refused, node-added}
+use Rattle.pure_payoffs.proofs.NodeValues.{owned-gives, following-refused, node-added}
 
 -- ---- nodes that stand for others
 module _ (t : Tree) (choice : ℕ → ℕ) (w : IsTree t) (chosen : (s j : ℕ) → s < t.sets → t.owner s ≡ Some j → choice s < t.actions s) where
@@ -17,14 +17,14 @@ module _ (t : Tree) (choice : ℕ → ℕ) (w : IsTree t) (chosen : (s j : ℕ) 
   pub StandsFor-self : (k : ℕ) → k < t.size → StandsFor t choice k k
   StandsFor-self k l = record { not_before = omega arith; within = l; gives = λ i r fits g. g }
 
-  -- what the node behind gives
+  -- what the node after gives
   only-gives : (k c : ℕ) → k < t.size → OnlyLeadsTo t choice k c → (i : ℕ) (r : Result ℚ Unfit) → IfOk r Fits → Give (steps_at t choice i c) (value t (pure choice) i c) r → Give (steps_at t choice i k) (value t (pure choice) i k) r
   only-gives k c l o i (Ok x) fits g =
-      let behind = owned-gives t choice i k o.set o.owner c (t.owner o.set) (Ok x) o.own o.leads g in
-      node-added t choice i w chosen k l o.set o.at_set zero_ℚ x (Ok x) (sym (o.pays_nothing i)) behind.0 behind.1 (left_zero zero_ℚ x refl fits).0 (left_zero zero_ℚ x refl fits).1 tt tt
-  only-gives k c l o i (Err u) fits g = behind-refused t choice i w chosen k l o.set o.at_set u (owned-gives t choice i k o.set o.owner c (t.owner o.set) (Err u) o.own o.leads g)
+      let following = owned-gives t choice i k o.set o.owner c (t.owner o.set) (Ok x) o.own o.leads g in
+      node-added t choice i w chosen k l o.set o.at_set zero_ℚ x (Ok x) (sym (o.pays_nothing i)) following.0 following.1 (left_zero zero_ℚ x refl fits).0 (left_zero zero_ℚ x refl fits).1 tt tt
+  only-gives k c l o i (Err u) fits g = following-refused t choice i w chosen k l o.set o.at_set u (owned-gives t choice i k o.set o.owner c (t.owner o.set) (Err u) o.own o.leads g)
 
-  -- what stands for the node behind stands for the node
+  -- what stands for the node after stands for the node
   pub StandsFor-before : (k c s : ℕ) → k < t.size → OnlyLeadsTo t choice k c → StandsFor t choice c s → StandsFor t choice k s
   StandsFor-before k c s l o h = record {
     not_before = omega (arith, o.later, h.not_before);

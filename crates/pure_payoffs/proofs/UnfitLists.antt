@@ -14,9 +14,9 @@ module _ {X : Type 0} (steps : X → List Step) where
   first_of-more xs ys x step h =
       record { before = h.before; after = h.after ++ ys; is_there = ap (λ zs. zs ++ ys) h.is_there ∙ append_assoc h.before (x ∷ h.after) ys; earlier_fit = h.earlier_fit; first_unfit = h.first_unfit }
 
-  -- and behind things whose steps fit
-  pub first_of-behind : (xs ys : List X) (x : X) (step : Step) → All (Fits steps) xs → IsFirstUnfitOf steps ys x step → IsFirstUnfitOf steps (xs ++ ys) x step
-  first_of-behind xs ys x step fit h =
+  -- and after things whose steps fit
+  pub first_of-following : (xs ys : List X) (x : X) (step : Step) → All (Fits steps) xs → IsFirstUnfitOf steps ys x step → IsFirstUnfitOf steps (xs ++ ys) x step
+  first_of-following xs ys x step fit h =
       record { before = xs ++ h.before; after = h.after; is_there = ap (λ zs. xs ++ zs) h.is_there ∙ sym (append_assoc xs h.before (x ∷ h.after)); earlier_fit = All-append (Fits steps) xs h.before fit h.earlier_fit; first_unfit = h.first_unfit }
 
   -- and of what is made of each
@@ -40,4 +40,4 @@ module _ {X : Type 0} (steps : X → List Step) where
     pub first_of-part : (x : X) (step : Step) → All (Fits steps) (flat_map f (take k ns)) → IsFirstUnfitOf steps (f n) x step → IsFirstUnfitOf steps (flat_map f ns) x step
     first_of-part x step h g =
         subst (λ xs. IsFirstUnfitOf steps xs x step) (sym (flat_map-append f (take (k + 1) ns) (drop (k + 1) ns)) ∙ ap (λ v. flat_map f v) (take-append-drop (k + 1) ns))
-        (first_of-more (flat_map f (take (k + 1) ns)) (flat_map f (drop (k + 1) ns)) x step (subst (λ xs. IsFirstUnfitOf steps xs x step) (sym part-more) (first_of-behind (flat_map f (take k ns)) (f n) x step h g)))
+        (first_of-more (flat_map f (take (k + 1) ns)) (flat_map f (drop (k + 1) ns)) x step (subst (λ xs. IsFirstUnfitOf steps xs x step) (sym part-more) (first_of-following (flat_map f (take k ns)) (f n) x step h g)))

@@ -57,12 +57,12 @@ GiveAt t choice i k result = Give (steps_at t choice i k) (value t (pure choice)
 abbrev pub branch_steps : ℚ → ℚ → ℚ → List Step → List Step
 branch_steps prob sum v steps = if eq_ℚ prob zero_ℚ then [] else steps ++ unfit Mul prob v ∷ unfit Add sum (prob *ℚ v) ∷ []
 
--- the steps of what comes behind a node, by the owner of its set
-abbrev pub steps_behind : Tree → (ℕ → ℕ) → ℕ → ℕ → ℕ → Option ℕ → List Step
-steps_behind t choice i k s None = chance_steps (t.actions s) (t.chance s) (λ a. value t (pure choice) i (child t k a)) (λ a. steps_at t choice i (child t k a))
-steps_behind t choice i k s (Some j) = steps_at t choice i (child t k (choice s))
+-- the steps of what comes after a node, by the owner of its set
+abbrev pub steps_after : Tree → (ℕ → ℕ) → ℕ → ℕ → ℕ → Option ℕ → List Step
+steps_after t choice i k s None = chance_steps (t.actions s) (t.chance s) (λ a. value t (pure choice) i (child t k a)) (λ a. steps_at t choice i (child t k a))
+steps_after t choice i k s (Some j) = steps_at t choice i (child t k (choice s))
 
--- the value of what comes behind a node, by the owner of its set
-abbrev pub value_behind : Tree → (ℕ → ℕ) → ℕ → ℕ → ℕ → Option ℕ → ℚ
-value_behind t choice i k s None = sum_to (t.actions s) (λ a. t.chance s a *ℚ value t (pure choice) i (child t k a))
-value_behind t choice i k s (Some j) = value t (pure choice) i (child t k (choice s))
+-- the value of what comes after a node, by the owner of its set
+abbrev pub value_after : Tree → (ℕ → ℕ) → ℕ → ℕ → ℕ → Option ℕ → ℚ
+value_after t choice i k s None = sum_to (t.actions s) (λ a. t.chance s a *ℚ value t (pure choice) i (child t k a))
+value_after t choice i k s (Some j) = value t (pure choice) i (child t k (choice s))

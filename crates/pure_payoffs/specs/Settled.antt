@@ -17,20 +17,20 @@ IsSettled t k = (c : ℕ) → c < t.size → IsWithin t k c → NoPlayerAt t c
 abbrev pub Settles : Tree → ℕ → ℕ → ℚ → Type 0
 Settles t i k v = (choice : ℕ → ℕ) → GiveAt t choice i k (Ok v)
 
--- a flag for each of the first n nodes; at those that are flagged no player moves
-pub record TellNoPlayer (t : Tree) (n : ℕ) (flags : List Bool) : Type 0 where
-  pub one_for_each : length flags ≡ n
-  pub no_player : (k : ℕ) → k < n → slice_index_or flags k false ≡ true → NoPlayerAt t k
+-- for each of the first n nodes whether it is idle: at idle nodes no player moves
+pub record AreWithoutPlayers (t : Tree) (n : ℕ) (idle : List Bool) : Type 0 where
+  pub one_for_each : length idle ≡ n
+  pub no_player : (k : ℕ) → k < n → slice_index_or idle k false ≡ true → NoPlayerAt t k
 
--- a flag for each node as before, and from node n on those whose parent is flagged are flagged
-pub record ArePassedUp (t : Tree) (n : ℕ) (flags : List Bool) : Type 0 where
-  pub tell : TellNoPlayer t t.size flags
-  pub pass : (c : ℕ) → n ≤ c → 0 < c → c < t.size → slice_index_or flags (t.parent c) false ≡ true → slice_index_or flags c false ≡ true
+-- for each node as before, and from node n on the children of idle nodes are idle
+pub record ArePassedUp (t : Tree) (n : ℕ) (idle : List Bool) : Type 0 where
+  pub tell : AreWithoutPlayers t t.size idle
+  pub pass : (c : ℕ) → n ≤ c → 0 < c → c < t.size → slice_index_or idle (t.parent c) false ≡ true → slice_index_or idle c false ≡ true
 
--- a flag for each node; in the subtrees of those that are flagged no player moves
-pub record AreSettledFlags (t : Tree) (flags : List Bool) : Type 0 where
-  pub one_for_each : length flags ≡ t.size
-  pub settled : (k : ℕ) → k < t.size → slice_index_or flags k false ≡ true → IsSettled t k
+-- for each node whether it is idle; in the subtrees of idle nodes no player moves
+pub record AreSettledNodes (t : Tree) (idle : List Bool) : Type 0 where
+  pub one_for_each : length idle ≡ t.size
+  pub settled : (k : ℕ) → k < t.size → slice_index_or idle k false ≡ true → IsSettled t k
 
 -- a place for what node k is worth to player i, where that is the same for every profile
 pub record IsPlace (t : Tree) (k i : ℕ) (place : Option ℚ) : Type 0 where

@@ -1,4 +1,4 @@
--- Nodes at which the profile only leads on: what the node behind gives, they give as well.
+-- Nodes at which the profile only leads on: what the node after gives, they give as well.
 use Rattle.std.specs.Prelude.{ℕ, ◌<◌, ◌≤◌, ◌≡◌, length, slice_index, Some, Result, IfOk}
 use Rattle.game_theory.specs.Children.{child}
 use Rattle.rational.specs.Rational.{ℚ, zero_ℚ}

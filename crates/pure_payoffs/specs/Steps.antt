@@ -28,8 +28,8 @@ StepFits s = OperationFits s.op s.left s.right
 -- the first of these steps that does not fit
 pub record IsFirstUnfit (steps : List Step) (step : Step) : Type 0 where
   pub before : List Step
-  pub behind : List Step
-  pub is_there : steps ≡ before ++ step ∷ behind
+  pub following : List Step
+  pub is_there : steps ≡ before ++ step ∷ following
   pub earlier_fit : All StepFits before
   pub does_not_fit : StepFits step → ⊥
 
@@ -42,7 +42,7 @@ chance_steps (suc a) chances values later =
     chance_steps a chances values later
     ++ (if eq_ℚ (chances a) zero_ℚ then [] else later a ++ unfit Mul (chances a) (values a) ∷ unfit Add (sum_to a (λ b. chances b *ℚ values b)) (chances a *ℚ values a) ∷ [])
 
--- The steps at a node by the owner of its set: those of what comes behind it, and last the addition of this to what the outcome pays.
+-- The steps at a node by the owner of its set: those of what comes after it, and last the addition of this to what the outcome pays.
 abbrev pub owner_steps : Tree → (ℕ → ℕ) → ℕ → (ℕ → List Step) → ℕ → ℕ → Option ℕ → List Step
 owner_steps t choice i later k s None =
     chance_steps (t.actions s) (t.chance s) (λ a. value t (pure choice) i (child t k a)) (λ a. later (child t k a))

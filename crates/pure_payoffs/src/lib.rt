@@ -1,10 +1,14 @@
-//! What pure profiles of reduced strategies pay on a tree, computed step by step in fractions of 128 bits.
+//! What pure profiles of reduced strategies pay on a tree, computed step by step in fractions of
+//! 128 bits.
 //!
-//! The value of a node is what its outcome pays plus what comes behind it: the value of the child that the
-//! profile chooses, or at a chance node the sum of the products of probability and value of each child in
-//! order whose probability is not 0. `specs/Steps` has the order of all steps. Nodes at which a player chooses and
-//! nothing is paid add 0, which always fits; `Shortcuts` leads past them for all players. Where no player moves in a
-//! node's subtree, the node's value is the same for every profile; `Shortcuts` keeps it (`settled`).
+//! Callers may rely on: `Play::payoff` gives what a profile pays, or the first step in the order of
+//! `specs::Steps` that does not fit; `children_of_all`, the children of each node.
+//! Definitions: `specs::Steps` has the steps of a payoff in order, `Plays` what they start from,
+//! `Shortcuts` what is kept between payoffs, `FirstUnfit` the first thing with an unfit step.
+//! Private words: `specs::Settled`, nodes whose value no profile changes, and `specs::Filled`.
+//! Lemmas for callers: `proofs::FirstUnfits` and `Runs` on steps, `NodeSteps` on a node.
+//! A change here touches: `reduced_form`; `Step` also `sequence_data`, `behaviour_profile`,
+//! `ne_checker`, `label_pairing`, `zero_sum_lp` and `lemke_pivot`.
 #![tactic(auto)]
 
 mod children;

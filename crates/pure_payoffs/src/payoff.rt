@@ -53,7 +53,7 @@ impl<'a> Play<'a> {
     ghost use Rattle.game_core.specs.TreeGame.{game_of_tree};
     ghost use Rattle.reduced_strategies.specs.Places.{ArePlaces};
     ghost use Rattle.reduced_strategies.specs.StrategicForm.{AreStrategies, completed};
-    ghost use Rattle.pure_payoffs.specs.Plays.{IsPlayed, Give, game_of, choice_of, steps_at, branch_steps, steps_behind, value_behind};
+    ghost use Rattle.pure_payoffs.specs.Plays.{IsPlayed, Give, game_of, choice_of, steps_at, branch_steps, steps_after, value_after};
     ghost use Rattle.pure_payoffs.specs.Shortcuts.{KeepShortcuts};
     ghost use Rattle.pure_payoffs.specs.Steps.{StepFits, IsFirstUnfit, payoff_steps};
 
@@ -128,14 +128,14 @@ impl<'a> Play<'a> {
         let here = self.tree.nodes()[node as usize];
         let pays = outcome_payoff(self.tree, here.outcome, player);
         match here.set {
-            Some(set) => pays.add(self.value_behind(shortcuts, node, set, here.kind, player)?),
+            Some(set) => pays.add(self.value_after(shortcuts, node, set, here.kind, player)?),
             None => Ok(pays),
         }
     }
 
-    // What the profile pays a player behind a node with this set.
+    // What the profile pays a player after a node with this set.
     #[cycle(values)]
-    fn value_behind(
+    fn value_after(
         &self,
         shortcuts: &mut Shortcuts,
         node: u32,
@@ -152,7 +152,7 @@ impl<'a> Play<'a> {
         ensures keep { KeepShortcuts (game_of self.now) (choice_of self.now) shortcuts.new }
         ensures gives { let t = game_of self.now in
             let choice = choice_of self.now in
-            Give (steps_behind t choice player node set (t.owner set)) (value_behind t choice player node set (t.owner set)) result }
+            Give (steps_after t choice player node set (t.owner set)) (value_after t choice player node set (t.owner set)) result }
     {
         match kind {
             Kind::Move { player: owner } => {
@@ -180,7 +180,7 @@ impl<'a> Play<'a> {
         ensures keep { KeepShortcuts (game_of self.now) (choice_of self.now) shortcuts.new }
         ensures gives { let t = game_of self.now in
             let choice = choice_of self.now in
-            Give (steps_behind t choice player node set None) (value_behind t choice player node set None) result }
+            Give (steps_after t choice player node set None) (value_after t choice player node set None) result }
     {
         let actions = self.tree.sets()[set as usize].actions();
         let children = &self.children[node as usize];

@@ -3,7 +3,7 @@ ghost use Rattle.std.specs.Prelude.{◌≡◌, ◌<◌, ℕ, length, All, IfOk, 
 ghost use Rattle.game_theory.specs.Trees.{Tree as game_tree, IsTree};
 ghost use Rattle.game_core.specs.TreeGame.{game_of_tree};
 ghost use Rattle.pure_payoffs.specs.Plays.{GiveAt};
-ghost use Rattle.pure_payoffs.specs.Settled.{TellNoPlayer, AreSettledFlags, KeepValues, Settles};
+ghost use Rattle.pure_payoffs.specs.Settled.{AreWithoutPlayers, AreSettledNodes, KeepValues, Settles};
 
 use crate::children::stands_for_game_tree;
 use answers::Memory;
@@ -23,40 +23,40 @@ pub(crate) struct Settled {
 }
 
 // For each node whether no player moves there.
-fn flags_of_chance(alloc: Global, tree: &Tree) -> Result<Vec<bool>, Memory>
+fn nodes_of_chance(alloc: Global, tree: &Tree) -> Result<Vec<bool>, Memory>
     ensures { IfOk result
-        (λ flags. TellNoPlayer (game_of_tree tree.now) (length tree.now.nodes) flags.items) }
+        (λ idle. AreWithoutPlayers (game_of_tree tree.now) (length tree.now.nodes) idle.items) }
 {
-    let mut flags = Vec::new(alloc);
+    let mut idle = Vec::new(alloc);
     for node in tree.nodes() {
-        flags.push(!matches!(node.kind, Kind::Move { .. }))?;
+        idle.push(!matches!(node.kind, Kind::Move { .. }))?;
     }
-    Ok(flags)
+    Ok(idle)
 }
 
 // For each node whether no player moves in its subtree.
-fn settled_flags(alloc: Global, tree: &Tree) -> Result<Vec<bool>, Memory>
-    ensures { IfOk result (λ flags. AreSettledFlags (game_of_tree tree.now) flags.items) }
+fn settled_nodes(alloc: Global, tree: &Tree) -> Result<Vec<bool>, Memory>
+    ensures { IfOk result (λ idle. AreSettledNodes (game_of_tree tree.now) idle.items) }
 {
     stands_for_game_tree(tree);
-    let mut flags = flags_of_chance(alloc, tree)?;
+    let mut idle = nodes_of_chance(alloc, tree)?;
     let nodes = tree.nodes();
     for number in (1..nodes.len()).rev() {
         let parent = nodes[number].parent.unwrap_or(0);
-        if !flags[number] {
-            flags[parent as usize] = false;
+        if !idle[number] {
+            idle[parent as usize] = false;
         }
     }
-    Ok(flags)
+    Ok(idle)
 }
 
 // Whether no player moves in the subtree of a node of chance, and one moves in that of its parent.
-fn is_topmost(flags: &[bool], number: usize, node: &Node) -> bool
-    requires { number < length flags.now }
-    ensures { IsTrue result → slice_index_or flags.now number false ≡ true }
+fn is_topmost(idle: &[bool], number: usize, node: &Node) -> bool
+    requires { number < length idle.now }
+    ensures { IsTrue result → slice_index_or idle.now number false ≡ true }
 {
     let parent = node.parent.unwrap_or(0) as usize;
-    flags[number] && node.set.is_some() && matches!(flags.get(parent), Some(false))
+    idle[number] && node.set.is_some() && matches!(idle.get(parent), Some(false))
 }
 
 // A place for each of so many players, all free.
@@ -75,13 +75,13 @@ impl Settled {
     pub(crate) fn new(alloc: Global, tree: &Tree) -> Result<Settled, Memory>
         ensures { IfOk result (KeepValues (game_of_tree tree.now)) }
     {
-        let flags = settled_flags(alloc, tree)?;
+        let idle = settled_nodes(alloc, tree)?;
         let players = tree.players().len();
         let mut room = MOST_VALUES;
         let mut places = Vec::new(alloc);
         for (number, node) in tree.nodes().iter().enumerate() {
             let mut of_players = Vec::new(alloc);
-            if players <= room && is_topmost(&flags, number, node) {
+            if players <= room && is_topmost(&idle, number, node) {
                 room -= players;
                 of_players = free_places(alloc, players)?;
             }

@@ -7,9 +7,9 @@ use Rattle.std.proofs.lemmas.List.Elements.{Contains-get_or, Contains-append_lef
 use Rattle.std.proofs.lemmas.List.Kept.{AllPairs-from_increasing}
 use Rattle.game_core.specs.Table.{GameTable, game_of, strategy_counts}
 use Rattle.game_theory.specs.Profiles.{Game}
-use Rattle.dominance.specs.Elimination.{AreListed, IsDominated, AreKept, AreKeptAfter}
-use Rattle.dominance.proofs.Rounds.{kept-within}
-use Rattle.dominance.proofs.KeptLists.{place, listed-push, listed-same}
+use Rattle.extreme_equilibria.specs.Elimination.{AreListed, IsDominated, AreKept, AreKeptAfter}
+use Rattle.extreme_equilibria.proofs.Rounds.{kept-within}
+use Rattle.extreme_equilibria.proofs.KeptLists.{place, listed-push, listed-same}
 
 -- at first there is none
 pub none-listed : (xs : List ℕ) → xs ≡ [] → AreListed (λ s. s < 0) xs

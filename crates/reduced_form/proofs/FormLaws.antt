@@ -16,7 +16,7 @@ use Rattle.reduced_form.specs.Cells.{AreCells, IsCellStop}
 use Rattle.reduced_form.specs.Counts.{AreCounted, choices_by}
 use Rattle.reduced_form.specs.Limits.{AreFew, AllFit, most_choices}
 use Rattle.reduced_form.specs.ReducedForm.{ReducedForm, IsReducedForm, PaysCompletions, strategy_name}
-use Rattle.reduced_form.specs.Stops.{IsStop}
+use Rattle.reduced_form.specs.Stops.{IsReduceStop}
 use Rattle.reduced_form.specs.declared.stop.ReduceStop.{ReduceStop}
 use Rattle.reduced_form.specs.declared.stop.ReduceStop.TheVariants as stops
 use Rattle.reduced_form.proofs.FormCounts.{profile_count-player, counts-positive, counted-same, choice_count-by}
@@ -92,7 +92,7 @@ form-few t counts strategies h a payoffs choices =
     record { few_payoffs = subst (λ ns. t.players * profile_count ns ≤ most_payoffs) same payoffs; few_choices = omega (arith, choice_count-by t strategies counts same) }
 
 -- a stop of the cells is one of the form
-pub cell_stop-is_stop : (t : Tree) (strategies : List (List (List ℕ))) (stop : ReduceStop) → AreStrategies t strategies → AreFew t strategies → IsCellStop t strategies stop → IsStop t stop
+pub cell_stop-is_stop : (t : Tree) (strategies : List (List (List ℕ))) (stop : ReduceStop) → AreStrategies t strategies → AreFew t strategies → IsCellStop t strategies stop → IsReduceStop t stop
 cell_stop-is_stop t strategies (stops.TooLarge limit) a few h = absurd h
 cell_stop-is_stop t strategies (stops.Range profile player step) a few h = inr (record { strategies = strategies; are_strategies = a; are_few = few; is_first = h })
 cell_stop-is_stop t strategies stops.Memory a few h = inl refl

@@ -9,7 +9,7 @@ use Rattle.lists.proofs.Numbers.{below_two, positive_factor}
 use Rattle.rational.specs.Rational.{ℚ, zero_ℚ}
 use Rattle.game_theory.specs.Profiles.{Game, number_of, profile_at}
 use Rattle.game_theory.proofs.ProfileNumbers.{profile_at-number_of}
-use Rattle.dominance.specs.KeptTable.{kept_table, strategies_at}
+use Rattle.extreme_equilibria.specs.KeptTable.{kept_table, strategies_at}
 
 -- the payoffs of one more profile
 pub cells-next : (u : ℕ → ℕ → ℚ) (n : ℕ) (xs new : List ℚ) (a b : ℚ) → length xs ≡ n * 2 → ((i k : ℕ) → i < 2 → k < n → get_or xs (k * 2 + i) zero_ℚ ≡ u i k)

@@ -8,9 +8,9 @@ use Rattle.rational.specs.Rational.{ℚ, zero_ℚ}
 use Rattle.game_theory.specs.Profiles.{profile_count}
 use Rattle.game_core.specs.Table.{GameTable, IsTable, game_of, strategy_counts}
 use Rattle.game_core.proofs.TableCounts.{length-strategy_counts}
-use Rattle.dominance.specs.KeptTable.{AreKeptLists, kept_table}
-use Rattle.dominance.proofs.KeptLists.{ascending-short}
-use Rattle.dominance.proofs.SomeKept.{some-kept}
+use Rattle.extreme_equilibria.specs.KeptTable.{AreKeptLists, kept_table}
+use Rattle.extreme_equilibria.proofs.KeptLists.{ascending-short}
+use Rattle.extreme_equilibria.proofs.SomeKept.{some-kept}
 use Rattle.reduced_form.specs.Kept.{IsKeptForm, HasFewStrategies, most_strategies, names_at}
 use Rattle.reduced_form.proofs.Eliminations.{kept-all}
 

@@ -7,8 +7,8 @@ use Rattle.game_core.specs.Table.{GameTable, IsTable, game_of, strategy_counts}
 use Rattle.game_core.specs.declared.too_large.TooLarge.{TooLarge}
 use Rattle.game_core.specs.declared.too_large.What.TheVariants as what
 use Rattle.game_core.proofs.TableCounts.{length-strategy_counts}
-use Rattle.dominance.specs.KeptTable.{kept_table}
-use Rattle.dominance.proofs.KeptLists.{one_list}
+use Rattle.extreme_equilibria.specs.KeptTable.{kept_table}
+use Rattle.extreme_equilibria.proofs.KeptLists.{one_list}
 use Rattle.reduced_form.specs.Kept.{KeptForm, IsKeptForm, HasFewStrategies, HasTooManyStrategies, most_strategies, kept_lists, kept_of, names_at}
 use Rattle.reduced_form.specs.declared.kept_stop.KeptStop.{KeptStop}
 use Rattle.reduced_form.specs.declared.kept_stop.KeptStop.TheVariants as stops

@@ -3,7 +3,7 @@
 use Rattle.std.specs.Prelude.{ℕ, ◌+◌, ◌<◌, ◌≤◌, ◌≡◌, ◌≢◌, List, [], ◌∷◌, length, map, get_or, Ok, Err, refl}
 use Rattle.std.specs.Coded.{Coded, code_by, coded×, coded_ℕ, coded_list}
 use Rattle.answers.specs.Answers.{Answer}
-use Rattle.dominance.specs.KeptTable.{AreKeptLists, kept_table, HaveSameCells}
+use Rattle.extreme_equilibria.specs.KeptTable.{AreKeptLists, kept_table, HaveSameCells}
 use Rattle.game_core.specs.Table.{GameTable, IsTable, code_of_table, game_of, strategy_counts}
 use Rattle.game_core.specs.declared.too_large.TooLarge.{TooLarge}
 use Rattle.game_core.specs.declared.too_large.What.TheVariants as what

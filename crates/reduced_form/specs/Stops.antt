@@ -48,8 +48,8 @@ IsReason t (stops.Range profile player unfit) = HasUnfitStep t profile player un
 IsReason t stops.Memory = ⊥
 
 -- a reason, or want of memory
-abbrev pub IsStop : Tree → ReduceStop → Type 0
-IsStop t stop = (stop ≡ stops.Memory) ⊎ IsReason t stop
+abbrev pub IsReduceStop : Tree → ReduceStop → Type 0
+IsReduceStop t stop = (stop ≡ stops.Memory) ⊎ IsReason t stop
 
 -- The reduced form of a tree, whose counts are within their limits and whose payoffs are computed in steps that all fit; or why it
 -- has none.

@@ -3,8 +3,8 @@
 ghost use Rattle.std.specs.Prelude.{◌≡◌, ◌<◌, ◌≤◌, ◌⊎◌, ◌↔◌, ℕ, [], ◌∷◌, All, Contains, IfOk, IsTrue, length, slice_index};
 ghost use Rattle.std.specs.List.Sorted.{IsStrictlyIncreasing};
 ghost use Rattle.rational.specs.Rational.{◌<ℚ◌};
-ghost use Rattle.dominance.specs.Elimination.{AreListed, IsDominated, AreKeptAfter};
-ghost use Rattle.dominance.specs.KeptTable.{AreKeptLists};
+ghost use Rattle.extreme_equilibria.specs.Elimination.{AreListed, IsDominated, AreKeptAfter};
+ghost use Rattle.extreme_equilibria.specs.KeptTable.{AreKeptLists};
 ghost use Rattle.extreme_equilibria.specs.TwoPlayers.{other, pays_against};
 ghost use Rattle.game_core.specs.Table.{game_of, strategy_counts, IsTable};
 ghost use Rattle.reduced_form.specs.Kept.{HasFewStrategies, most_strategies};

@@ -2,7 +2,7 @@
 ghost use Rattle.std.specs.Prelude.{◌≡◌, ◌+◌, ◌*◌, ◌<◌, ◌≤◌, ℕ, [], ◌∷◌, All, IfOk, length, map, get_or, slice_index, slice_index_or};
 ghost use Rattle.answers.specs.Answers.{Gives, IsSingle};
 ghost use Rattle.rational.specs.Rational.{zero_ℚ};
-ghost use Rattle.dominance.specs.KeptTable.{AreKeptLists, kept_table};
+ghost use Rattle.extreme_equilibria.specs.KeptTable.{AreKeptLists, kept_table};
 ghost use Rattle.game_core.specs.Table.{GameTable, IsTable, game_of, strategy_counts};
 ghost use Rattle.reduced_form.specs.declared.kept_stop.KeptStop.TheVariants as stops;
 ghost use Rattle.reduced_form.specs.Kept.{HasFewStrategies, IsKeptForm, kept_of, most_strategies};

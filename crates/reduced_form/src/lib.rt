@@ -1,10 +1,12 @@
-//! The reduced strategic form of a tree: each player's reduced strategies and the table of their profiles.
+//! The reduced strategic form of a tree, and the table over the strategies that elimination keeps.
 //!
-//! `limits` counts the form's payoffs and choices before anything is built, `strategies` lists the strategies and
-//! names them, and `cells` computes the payoffs. `reduce` puts them together.
-//!
-//! `elimination` removes strictly dominated strategies of a table of two players, and `kept` makes
-//! the table over those that are kept.
+//! Callers may rely on: `reduce` gives the form, whose cells are what every completion pays, or the
+//! first reason why there is none; `undominated` the kept strategies and their table.
+//! Definitions: `specs::ReducedForm` has the form and the names of strategies, `Stops` what a tree
+//! answers (`form_of`), `Kept` what a table answers (`kept_of`).
+//! Private words: `specs::Counts`, `Limits` and `Cells`, how the code counts and fills tables.
+//! Lemmas for callers: `proofs::FormLaws` and `FormCounts` on the table, `Exact` and `KeptSingles`.
+//! A change here touches: `behaviour_profile`, `enumpure_trees`, `enummixed`, `gambit_tools`.
 #![tactic(auto)]
 
 mod cells;

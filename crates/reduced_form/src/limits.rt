@@ -8,7 +8,7 @@ ghost use Rattle.strategy_lists.specs.Decisions.{AreDecisionsOfAll};
 ghost use Rattle.reduced_form.specs.declared.stop.ReduceStop.TheVariants as stops;
 ghost use Rattle.reduced_form.specs.Counts.{AreCounted, choices_by};
 ghost use Rattle.reduced_form.specs.Limits.{most_choices};
-ghost use Rattle.reduced_form.specs.Stops.{IsStop, too_many_payoffs, too_many_choices};
+ghost use Rattle.reduced_form.specs.Stops.{IsReduceStop, too_many_payoffs, too_many_choices};
 ghost use Rattle.game_theory.specs.OwnSets.{own_sets};
 
 use crate::stop::ReduceStop;
@@ -55,7 +55,7 @@ pub fn count_all(
     ensures counted { IfOk result (λ counts. AreCounted (game_of_tree tree.now) counts.items) }
     ensures few { IfOk result
         (λ counts. length tree.now.players * profile_count counts.items ≤ most_payoffs) }
-    ensures stop { IfErr result (IsStop (game_of_tree tree.now)) }
+    ensures stop { IfErr result (IsReduceStop (game_of_tree tree.now)) }
 {
     trees_are_game_trees();
     let players = tree.players().len();
@@ -94,7 +94,7 @@ pub fn check_choices(tree: &Tree, counts: &[usize]) -> Result<(), ReduceStop>
     requires counted { AreCounted (game_of_tree tree.now) counts.now }
     requires few { length tree.now.players * profile_count counts.now ≤ most_payoffs }
     ensures few { OnOk result (choices_by (game_of_tree tree.now) 0 counts.now ≤ most_choices) }
-    ensures stop { IfErr result (IsStop (game_of_tree tree.now)) }
+    ensures stop { IfErr result (IsReduceStop (game_of_tree tree.now)) }
 {
     trees_are_game_trees();
     own_sets_are_those_of_the_tree();

@@ -4,7 +4,7 @@ use Rattle.std.proofs.lemmas.Bool.{cases_lt}
 use Rattle.game_theory.specs.OwnSets.{own_sets}
 use Rattle.game_theory.proofs.OwnSets.{own_sets-tell}
 use Rattle.game_theory.specs.Trees.{Tree, IsTree}
-use Rattle.game_theory.proofs.TreeTests.{tree-tested, even_lottery}
+use Rattle.game_theory.proofs.TreeTests.{tree-tested, coin_toss}
 use Rattle.reduced_strategies.specs.Choices.{choice_at, IsReached, IsReduced}
 use Rattle.reduced_strategies.specs.Examples.{alone, renumbered, ReducedStrategiesOfOnePlayer}
 use Rattle.reduced_strategies.proofs.Sets.{choice_at-among}
@@ -96,7 +96,7 @@ below_two (suc (suc s)) l = absurd (omega arith)
 -- it is a tree
 alone-tree : IsTree alone
 alone-tree =
-    tree-tested alone (record { some_node = refl; nodes = refl; edges = refl; sets = refl }) (λ s l e. even_lottery alone s refl (λ a. refl))
+    tree-tested alone (record { some_node = refl; nodes = refl; edges = refl; sets = refl }) (λ s l e. coin_toss alone s refl (λ a. refl))
 
 -- the second set is reached by the second action at the first alone
 alone-second : (choice : ℕ → ℕ) → IsReached alone 0 choice 1 → choice 0 ≡ 2
@@ -146,7 +146,7 @@ alone-complete (x ∷ y ∷ []) r = elim (one-cases x y (reduced-one alone 0 1 (
 -- it is a tree
 renumbered-tree : IsTree renumbered
 renumbered-tree =
-    tree-tested renumbered (record { some_node = refl; nodes = refl; edges = refl; sets = refl }) (λ s l e. even_lottery renumbered s refl (λ a. refl))
+    tree-tested renumbered (record { some_node = refl; nodes = refl; edges = refl; sets = refl }) (λ s l e. coin_toss renumbered s refl (λ a. refl))
 
 -- set 0 is reached by the second action at set 1 alone
 renumbered-second : (choice : ℕ → ℕ) → IsReached renumbered 0 choice 0 → choice 1 ≡ 2

@@ -5,7 +5,7 @@ use Rattle.std.proofs.lemmas.Bool.Decides.{not_from_Decides}
 use Rattle.game_theory.proofs.OwnSets.{is_own-decides}
 use Rattle.game_theory.specs.Trees.{Tree, IsTree}
 use Rattle.game_theory.specs.Behaviour.{is_own}
-use Rattle.game_theory.specs.Recall.{own_step, history_to, own_history}
+use Rattle.game_theory.specs.Recall.{own_edge, history_to, own_history}
 use Rattle.reduced_strategies.specs.Choices.{Agrees}
 
 -- ---- paths
@@ -31,14 +31,14 @@ history_to-enough t i w zero n (suc k) g h l = absurd (omega arith)
 history_to-enough t i w (suc m) zero (suc k) g h l = absurd (omega arith)
 history_to-enough t i w (suc m) (suc n) (suc k) g h l =
     let after : t.parent (suc k) < suc k = w.after_parent (suc k) (omega arith) l in
-    ap (λ x. x ++ own_step t i (t.set (t.parent (suc k))) (t.branch (suc k))) (history_to-enough t i w m n (t.parent (suc k)) (omega arith) (omega arith) (omega arith))
+    ap (λ x. x ++ own_edge t i (t.set (t.parent (suc k))) (t.branch (suc k))) (history_to-enough t i w m n (t.parent (suc k)) (omega arith) (omega arith) (omega arith))
 
 -- the history of a node is its parent's, and then the step to the node
-pub own_history-step : (t : Tree) (i c : ℕ) → IsTree t → 0 < c → c < t.size → own_history t i c ≡ own_history t i (t.parent c) ++ own_step t i (t.set (t.parent c)) (t.branch c)
+pub own_history-step : (t : Tree) (i c : ℕ) → IsTree t → 0 < c → c < t.size → own_history t i c ≡ own_history t i (t.parent c) ++ own_edge t i (t.set (t.parent c)) (t.branch c)
 own_history-step t i zero w p l = absurd (omega arith)
 own_history-step t i (suc k) w p l =
     let after : t.parent (suc k) < suc k = w.after_parent (suc k) p l in
-    ap (λ x. x ++ own_step t i (t.set (t.parent (suc k))) (t.branch (suc k))) (history_to-enough t i w k (t.parent (suc k)) (t.parent (suc k)) (omega arith) (omega arith) (omega arith))
+    ap (λ x. x ++ own_edge t i (t.set (t.parent (suc k))) (t.branch (suc k))) (history_to-enough t i w k (t.parent (suc k)) (t.parent (suc k)) (omega arith) (omega arith) (omega arith))
 
 -- ---- agreement
 -- a history in two parts agrees where both parts do
@@ -49,8 +49,8 @@ Agrees-append choice (x ∷ xs) ys =
     (λ h. let p = later.0 h.1 in ((h.0, p.0), p.1), λ h. (h.0.0, later.1 (h.0.1, h.1)))
 
 -- the step by action a at set s agrees where an own set is given that action
-own_step-agrees : (t : Tree) (i s a : ℕ) (choice : ℕ → ℕ) → Agrees choice (own_step t i (Some s) a) ↔ (t.owner s ≡ Some i → choice s ≡ suc a)
-own_step-agrees t i s a choice = go (is_own t i s) (is_own-decides t i s)
+own_edge-agrees : (t : Tree) (i s a : ℕ) (choice : ℕ → ℕ) → Agrees choice (own_edge t i (Some s) a) ↔ (t.owner s ≡ Some i → choice s ≡ suc a)
+own_edge-agrees t i s a choice = go (is_own t i s) (is_own-decides t i s)
   where
     go : (b : Bool) → Decides b (t.owner s ≡ Some i) → Agrees choice (if b then (s, a) ∷ [] else []) ↔ (t.owner s ≡ Some i → choice s ≡ suc a)
     go true d = (λ h o. h.0, λ h. (h (d.0 refl), tt))
@@ -60,8 +60,8 @@ own_step-agrees t i s a choice = go (is_own t i s) (is_own-decides t i s)
 pub agrees_at_child : (t : Tree) (i c s : ℕ) (choice : ℕ → ℕ) → IsTree t → 0 < c → c < t.size → t.set (t.parent c) ≡ Some s
     → Agrees choice (own_history t i c) ↔ (Agrees choice (own_history t i (t.parent c)) × (t.owner s ≡ Some i → choice s ≡ suc (t.branch c)))
 agrees_at_child t i c s choice w p l q =
-    let e : own_history t i c ≡ own_history t i (t.parent c) ++ own_step t i (Some s) (t.branch c) =
-    own_history-step t i c w p l ∙ ap (λ x. own_history t i (t.parent c) ++ own_step t i x (t.branch c)) q in
-    let parts = Agrees-append choice (own_history t i (t.parent c)) (own_step t i (Some s) (t.branch c)) in
-    let step = own_step-agrees t i s (t.branch c) choice in
+    let e : own_history t i c ≡ own_history t i (t.parent c) ++ own_edge t i (Some s) (t.branch c) =
+    own_history-step t i c w p l ∙ ap (λ x. own_history t i (t.parent c) ++ own_edge t i x (t.branch c)) q in
+    let parts = Agrees-append choice (own_history t i (t.parent c)) (own_edge t i (Some s) (t.branch c)) in
+    let step = own_edge-agrees t i s (t.branch c) choice in
     (λ h. let both = parts.0 (subst (Agrees choice) e h) in (both.0, step.0 both.1), λ h. subst (Agrees choice) (sym e) (parts.1 (h.0, step.1 h.1)))

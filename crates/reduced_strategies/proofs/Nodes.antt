@@ -6,7 +6,7 @@ use Rattle.game_theory.proofs.OwnSets.{own_sets-tell, own_sets-ascend}
 use Rattle.game_theory.specs.Trees.{Tree, IsTree}
 use Rattle.game_theory.specs.Recall.{own_history}
 use Rattle.reduced_strategies.specs.Choices.{Agrees, choice_at, IsReduced}
-use Rattle.reduced_strategies.specs.Laws.{NodesTellStrategies}
+use Rattle.reduced_strategies.specs.Laws.{NodesDetermineStrategies}
 use Rattle.reduced_strategies.proofs.Sets.{choice_at-among, choice_at-determines}
 use Rattle.reduced_strategies.proofs.Histories.{agrees_at_child}
 
@@ -60,6 +60,6 @@ equal_where_positive : (x y : ℕ) → (0 < x → y ≡ x) → (0 < y → x ≡ 
 equal_where_positive x y f g = elim (cases_lt 0 x) [ inl p ↦ sym (f p) | inr p ↦ elim (cases_lt 0 y) [ inl q ↦ g q | inr q ↦ omega arith ] ]
 
 -- two reduced strategies under which the same nodes can be reached are one
-pub nodes-tell : NodesTellStrategies
+pub nodes-tell : NodesDetermineStrategies
 nodes-tell t i one other w p q h =
     choice_at-determines 0 (own_sets t i) one other (own_sets-ascend t i) p.one_for_each q.one_for_each (λ s. equal_where_positive _ _ (same-where_given t i one (choice_at (own_sets t i) other) s w p (λ k l. (h k l).0)) (same-where_given t i other (choice_at (own_sets t i) one) s w q (λ k l. (h k l).1)))

@@ -13,13 +13,13 @@ use Rattle.reduced_strategies.proofs.Histories.{along_paths, agrees_at_child}
 -- whether a history agrees with choices
 abbrev agrees : (ℕ → ℕ) → List (ℕ × ℕ) → Bool
 agrees choice [] = true
-agrees choice (step ∷ history) = (choice step.0 == suc step.1) && agrees choice history
+agrees choice (edge ∷ history) = (choice edge.0 == suc edge.1) && agrees choice history
 
 -- what the test of a history tells
 agrees-decides : (choice : ℕ → ℕ) (history : List (ℕ × ℕ)) → Decides (agrees choice history) (Agrees choice history)
 agrees-decides choice [] = (λ e. tt, λ h. refl)
-agrees-decides choice (step ∷ history) =
-    Decides-and (choice step.0 == suc step.1) (agrees choice history) (Decides-eqb (choice step.0) (suc step.1)) (agrees-decides choice history)
+agrees-decides choice (edge ∷ history) =
+    Decides-and (choice edge.0 == suc edge.1) (agrees choice history) (Decides-eqb (choice edge.0) (suc edge.1)) (agrees-decides choice history)
 
 -- whether a test holds at some number below n
 abbrev some_below : (ℕ → Bool) → ℕ → Bool
@@ -68,8 +68,8 @@ agrees-same t i choice other w same k l = along_paths t (λ x. Agrees choice (ow
         let after : t.parent c < c = w.after_parent c p m in
         let led = w.led_to c p m in
         let front = (agrees_at_child t i c led.0 choice w p m led.1).0 h in
-        let behind : Agrees other (own_history t i (t.parent c)) = before front.0 in
-        (agrees_at_child t i c led.0 other w p m led.1).1 (behind, λ o. sym (same led.0 (t.parent c) (omega arith) led.1 o front.0 behind) ∙ front.1 o)
+        let following : Agrees other (own_history t i (t.parent c)) = before front.0 in
+        (agrees_at_child t i c led.0 other w p m led.1).1 (following, λ o. sym (same led.0 (t.parent c) (omega arith) led.1 o front.0 following) ∙ front.1 o)
 
 -- and reach each set that the first reach
 pub IsReached-same : (t : Tree) (i : ℕ) (choice other : ℕ → ℕ) → IsTree t → SameWhereReached t i choice other → (s : ℕ) → IsReached t i choice s → IsReached t i other s

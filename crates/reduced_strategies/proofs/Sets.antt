@@ -39,7 +39,7 @@ pub choice_at-below : (n : ℕ) (sets choices : List ℕ) (s : ℕ) → AscendFr
 choice_at-below n sets choices s o l =
     elim (cases_lt 0 (choice_at sets choices s)) [ inl p ↦ absurd (omega (arith, IsAmong-from n sets s o (choice_at-among sets choices s p))) | inr p ↦ omega arith ]
 
--- lists that give the same behind the first set
+-- lists that give the same after the first set
 choice_at-rest : (set : ℕ) (sets : List ℕ) (x y : ℕ) (xs ys : List ℕ) → AscendFrom (suc set) sets → ((s : ℕ) → choice_at (set ∷ sets) (x ∷ xs) s ≡ choice_at (set ∷ sets) (y ∷ ys) s) → (s : ℕ) → choice_at sets xs s ≡ choice_at sets ys s
 choice_at-rest set sets x y xs ys o h s = elim (cases_lt set s) [ inl l ↦ later (omega arith) | inr l ↦ choice_at-below (suc set) sets xs s o (omega arith) ∙ sym (choice_at-below (suc set) sets ys s o (omega arith)) ]
   where

@@ -11,7 +11,7 @@ use Rattle.game_theory.proofs.ProfileNumbers.{length-profile, profile-below}
 use Rattle.game_theory.specs.Trees.{Tree, IsTree}
 use Rattle.reduced_strategies.specs.Choices.{choice_at, IsReduced, AreReducedStrategies}
 use Rattle.reduced_strategies.specs.StrategicForm.{AreStrategies, list_of, given_by, given_at, completed}
-use Rattle.reduced_strategies.specs.Laws.{FirstActionsComplete, CompletedChoicesTellStrategies}
+use Rattle.reduced_strategies.specs.Laws.{FirstActionsComplete, CompletedChoicesDetermineStrategies}
 use Rattle.reduced_strategies.proofs.Sets.{choice_at-among}
 use Rattle.reduced_strategies.proofs.ReducedStrategies.{CompletesList, reduced-unique}
 
@@ -74,7 +74,7 @@ places-same t strategies one other i a f g l e =
     AreAscending-place (get_or strategies i []) (get_or one i 0) (get_or other i 0) [] (strategies-of t strategies i a l).ascending (place-below t strategies one i a f l) (place-below t strategies other i a g l) e
 
 -- completed choices tell the reduced strategies
-pub completed-tell : CompletedChoicesTellStrategies
+pub completed-tell : CompletedChoicesDetermineStrategies
 completed-tell t strategies one other w a f g same =
     let count : length (map (length {A = List ℕ}) strategies) ≡ t.players = length-map strategies (length {A = List ℕ}) ∙ a.one_for_each in
     let long = length-profile (map length strategies) one f in

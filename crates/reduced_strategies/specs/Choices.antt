@@ -14,7 +14,7 @@ choice_at _ _ s = 0
 -- a history agrees with choices: each action in it is chosen at its set
 abbrev pub Agrees : (ℕ → ℕ) → List (ℕ × ℕ) → Type 0
 Agrees choice [] = Unit {0}
-Agrees choice (step ∷ history) = (choice step.0 ≡ suc step.1) × Agrees choice history
+Agrees choice (edge ∷ history) = (choice edge.0 ≡ suc edge.1) × Agrees choice history
 
 -- a set is reached under choices of player i: some member's own history agrees with them
 abbrev pub IsReached : Tree → ℕ → (ℕ → ℕ) → ℕ → Type 0

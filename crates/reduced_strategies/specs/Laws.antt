@@ -42,8 +42,8 @@ PureEquilibriaAreThoseOfTheTree =
     → is_table_equilibrium (strategic_form t strategies) (pure_profile profile) ↔ IsEquilibrium t (pure (completed t strategies profile))
 
 -- completed choices tell the reduced strategies
-abbrev pub CompletedChoicesTellStrategies : Type 0
-CompletedChoicesTellStrategies =
+abbrev pub CompletedChoicesDetermineStrategies : Type 0
+CompletedChoicesDetermineStrategies =
     (t : Tree) (strategies : List (List (List ℕ))) (one other : List ℕ) → IsTree t → AreStrategies t strategies
     → IsProfile (map length strategies) one → IsProfile (map length strategies) other
     → ((s i : ℕ) → s < t.sets → t.owner s ≡ Some i → completed t strategies one s ≡ completed t strategies other s)
@@ -58,8 +58,8 @@ abbrev pub OneListOfStrategies : Type 0
 OneListOfStrategies = (t : Tree) (i : ℕ) (one other : List (List ℕ)) → AreReducedStrategies t i one → AreReducedStrategies t i other → one ≡ other
 
 -- two reduced strategies under which the same nodes can be reached are one
-abbrev pub NodesTellStrategies : Type 0
-NodesTellStrategies =
+abbrev pub NodesDetermineStrategies : Type 0
+NodesDetermineStrategies =
     (t : Tree) (i : ℕ) (one other : List ℕ) → IsTree t → IsReduced t i one → IsReduced t i other
     → ((k : ℕ) → k < t.size → Agrees (choice_at (own_sets t i) one) (own_history t i k) ↔ Agrees (choice_at (own_sets t i) other) (own_history t i k))
     → one ≡ other

@@ -1,18 +1,22 @@
 //! Reduced strategies of game trees, and the strategic form over them, for contracts and proofs.
 //!
-//! The definitions stand in `specs/`: `Choices` says what a reduced strategy is and in which order they stand,
-//! `StrategicForm` what their profiles pay, and `Laws` what holds of them. `Examples` works out one tree.
-//!
-//! The functions below do nothing: the contract of each is a law, so that a check proves it.
+//! Callers may rely on: `completions_pay_the_cell`, `pure_equilibria_are_those_of_the_tree`,
+//! `choices_have_reduced` and `one_list_of_strategies`; none of these laws asks for perfect recall.
+//! Definitions: `specs::Choices` says what a reduced strategy is and in which order they stand,
+//! `StrategicForm` what their profiles pay.
+//! Lemmas for callers: `proofs::Histories` on own histories, `Sets` and `StrategyProfiles` on what
+//! choice lists give the sets, `ReducedStrategies` and `TreeEquilibria` on completions.
+//! A change here touches: `strategy_lists`, `pure_payoffs`, `reduced_form` and what the tools print
+//! of trees; the laws of `best_replies` and `sequence_forms`.
 #![tactic(auto)]
 
 ghost use Rattle.reduced_strategies.specs.Examples.{ReducedStrategiesOfOnePlayer};
 ghost use Rattle.reduced_strategies.specs.Laws.{
   ChoicesHaveReduced,
-  CompletedChoicesTellStrategies,
+  CompletedChoicesDetermineStrategies,
   CompletionsPayTheCell,
   FirstActionsComplete,
-  NodesTellStrategies,
+  NodesDetermineStrategies,
   OneListOfStrategies,
   PureEquilibriaAreThoseOfTheTree,
   StrategiesExist,
@@ -39,8 +43,8 @@ pub fn pure_equilibria_are_those_of_the_tree()
 {}
 
 /// Two profiles with the same completed choices are one.
-pub fn completed_choices_tell_strategies()
-    ensures { CompletedChoicesTellStrategies }
+pub fn completed_choices_determine_strategies()
+    ensures { CompletedChoicesDetermineStrategies }
 {}
 
 /// A player has a list of reduced strategies.
@@ -54,8 +58,8 @@ pub fn one_list_of_strategies()
 {}
 
 /// Two reduced strategies under which the same nodes can be reached are one.
-pub fn nodes_tell_strategies()
-    ensures { NodesTellStrategies }
+pub fn nodes_determine_strategies()
+    ensures { NodesDetermineStrategies }
 {}
 
 /// A player who ends the game or chooses once more has three reduced strategies.

@@ -94,7 +94,7 @@ what_text what.Pairs = codes "pairs"
 what_text what.Rows = codes "rows"
 what_text what.Text = codes "bytes of text"
 
--- numbers, each behind a space
+-- numbers, each after a space
 abbrev pub spaced : List ℕ → List ℕ
 spaced numbers = flat_map (λ n. codes " " ++ decimal n) numbers
 

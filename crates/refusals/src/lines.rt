@@ -188,14 +188,14 @@ pub fn sums_line(
     )?)
 }
 
-// A word and a number behind it.
+// A word and a number after it.
 fn numbered(alloc: Global, word: &str, number: u64) -> Result<String, Memory>
     ensures { IfOk result (λ text. string_bytes text ≡ word.now ++ decimal number) }
 {
     Ok(format!(in alloc; "{word}{number}")?)
 }
 
-// Two words, each with a number behind it.
+// Two words, each with a number after it.
 fn numbered_pair(
     alloc: Global,
     word: &str,
@@ -217,7 +217,7 @@ fn cost_text(alloc: Global, player: u32, row: u32, column: u32) -> Result<String
     Ok(format!(in alloc; "cost player {number} row {row} column {column}")?)
 }
 
-// The words for a basis: its variables, each behind a space.
+// The words for a basis: its variables, each after a space.
 fn spaced(alloc: Global, variables: &[u32]) -> Result<String, Memory>
     ensures { IfOk result (λ text. string_bytes text ≡ spaced variables.now) }
 {

@@ -1,10 +1,12 @@
-//! The systems of best replies of a game of two players.
+//! The two systems of best replies of a game of two players.
 //!
-//! `specs::Shifts` has the shift that makes a player's payoffs positive, `specs::Polytopes` the two
-//! systems, and `specs::Stops` why a game has none. The points of the systems are those of the
-//! polytopes of best replies, by a law of `extreme_equilibria`.
-//!
-//! `proofs::Enumerable` has what an enumeration of bases asks of both systems.
+//! Callers may rely on: `polytopes` gives both systems, or the first reason why there are none; by
+//! a law of `extreme_equilibria` their points are those of the polytopes.
+//! Definitions: `specs::Shifts` has the shift that makes a player's payoffs positive, `Polytopes`
+//! the two systems, `Stops` what a game answers (`polytopes_in`).
+//! Private words: `specs::Shapes`, systems of slacks whose cells stand in a list.
+//! Lemmas for callers: `proofs::Enumerable`, what `basis_enum` asks of both systems; `Singles`.
+//! A change here touches: `enummixed`, and what it and `make` answer and refuse.
 #![tactic(auto)]
 
 mod laws;

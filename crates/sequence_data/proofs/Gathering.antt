@@ -13,9 +13,9 @@ use Rattle.sequence_data.specs.declared.types.Leaf.{Leaf}
 use Rattle.sequence_data.specs.declared.types.Cell.{Cell}
 use Rattle.sequence_data.specs.Cells.{total, chance_one, chance_two, cell_at, IsBefore, AreInOrder, IsAt, AreCells}
 use Rattle.sequence_data.specs.Gathered.{cell_place, cell_in, ArePlaces, added_cell}
-use Rattle.sequence_data.specs.Steps.{AllFit, added_steps, cell_steps_behind, cell_steps, IsUnfitStop}
+use Rattle.sequence_data.specs.Steps.{AllFit, added_steps, cell_steps_after, cell_steps, IsUnfitStop}
 use Rattle.sequence_data.specs.declared.stop.SeqStop.{SeqStop}
-use Rattle.sequence_data.proofs.Placed.{fit-append, stop-more, stop-behind}
+use Rattle.sequence_data.proofs.Placed.{fit-append, stop-more, stop-following}
 use Rattle.sequence_data.proofs.Places.{any_at, all-of_each, get_or-inside, rises, number-one, row-of_place, column-of_place, before-by_place}
 
 -- ---- sums with one more leaf
@@ -96,21 +96,21 @@ module _ (columns : ℕ) (places : List ℕ) (some : 0 < columns) (up : IsStrict
       map_changed (cell_in columns xs) (cell_in columns (xs ++ x ∷ [])) places i cell 0 inside (cell-own ∙ sym (made ∙ ap (λ c. added_cell c x) old)) cell-kept ∙ ap (λ c. set c i cell) (sym are)
 
 -- ---- the steps with one more leaf
-steps-push : (earlier xs : List Leaf) (x : Leaf) → cell_steps_behind earlier (xs ++ x ∷ []) ≡ cell_steps_behind earlier xs ++ added_steps (cell_at (earlier ++ xs) x.row x.column) x
+steps-push : (earlier xs : List Leaf) (x : Leaf) → cell_steps_after earlier (xs ++ x ∷ []) ≡ cell_steps_after earlier xs ++ added_steps (cell_at (earlier ++ xs) x.row x.column) x
 steps-push earlier [] x = append-nil (added_steps (cell_at earlier x.row x.column) x) ∙ ap (λ e. added_steps (cell_at e x.row x.column) x) (sym (append-nil earlier))
 steps-push earlier (y ∷ xs) x =
-    ap (λ s. added_steps (cell_at earlier y.row y.column) y ++ s) (steps-push (earlier ++ y ∷ []) xs x ∙ ap (λ e. cell_steps_behind (earlier ++ y ∷ []) xs ++ added_steps (cell_at e x.row x.column) x) (append_assoc earlier (y ∷ []) xs))
-    ∙ sym (append_assoc (added_steps (cell_at earlier y.row y.column) y) (cell_steps_behind (earlier ++ y ∷ []) xs) (added_steps (cell_at (earlier ++ y ∷ xs) x.row x.column) x))
+    ap (λ s. added_steps (cell_at earlier y.row y.column) y ++ s) (steps-push (earlier ++ y ∷ []) xs x ∙ ap (λ e. cell_steps_after (earlier ++ y ∷ []) xs ++ added_steps (cell_at e x.row x.column) x) (append_assoc earlier (y ∷ []) xs))
+    ∙ sym (append_assoc (added_steps (cell_at earlier y.row y.column) y) (cell_steps_after (earlier ++ y ∷ []) xs) (added_steps (cell_at (earlier ++ y ∷ xs) x.row x.column) x))
 
 pub cell_steps-push : (xs : List Leaf) (x : Leaf) → cell_steps (xs ++ x ∷ []) ≡ cell_steps xs ++ added_steps (cell_at xs x.row x.column) x
 cell_steps-push xs x = steps-push [] xs x
 
 -- and with more leaves
-pub steps-split : (earlier xs ys : List Leaf) → cell_steps_behind earlier (xs ++ ys) ≡ cell_steps_behind earlier xs ++ cell_steps_behind (earlier ++ xs) ys
-steps-split earlier [] ys = ap (λ e. cell_steps_behind e ys) (sym (append-nil earlier))
+pub steps-split : (earlier xs ys : List Leaf) → cell_steps_after earlier (xs ++ ys) ≡ cell_steps_after earlier xs ++ cell_steps_after (earlier ++ xs) ys
+steps-split earlier [] ys = ap (λ e. cell_steps_after e ys) (sym (append-nil earlier))
 steps-split earlier (x ∷ xs) ys =
-    ap (λ s. added_steps (cell_at earlier x.row x.column) x ++ s) (steps-split (earlier ++ x ∷ []) xs ys ∙ ap (λ e. cell_steps_behind (earlier ++ x ∷ []) xs ++ cell_steps_behind e ys) (append_assoc earlier (x ∷ []) xs))
-    ∙ sym (append_assoc (added_steps (cell_at earlier x.row x.column) x) (cell_steps_behind (earlier ++ x ∷ []) xs) (cell_steps_behind (earlier ++ x ∷ xs) ys))
+    ap (λ s. added_steps (cell_at earlier x.row x.column) x ++ s) (steps-split (earlier ++ x ∷ []) xs ys ∙ ap (λ e. cell_steps_after (earlier ++ x ∷ []) xs ++ cell_steps_after e ys) (append_assoc earlier (x ∷ []) xs))
+    ∙ sym (append_assoc (added_steps (cell_at earlier x.row x.column) x) (cell_steps_after (earlier ++ x ∷ []) xs) (cell_steps_after (earlier ++ x ∷ xs) ys))
 
 -- the first leaves, one more, and the rest
 split_at : (leaves : List Leaf) (i : ℕ) (x : Leaf) → i < length leaves → x ≡ get_or leaves i x → leaves ≡ take i leaves ++ x ∷ drop (suc i) leaves
@@ -132,8 +132,8 @@ pub gather-stop : (leaves : List Leaf) (i : ℕ) (x : Leaf) (cell : Cell) (stop 
 gather-stop leaves i x cell stop l is at fit h =
     let front = take i leaves in
     let rest = drop (suc i) leaves in
-    let later = stop-more (added_steps (cell_at front x.row x.column) x) (cell_steps_behind (front ++ x ∷ []) rest) stop (subst (λ c. IsUnfitStop (added_steps c x) stop) at h) in
-    let all = stop-behind (cell_steps front) (cell_steps_behind front (x ∷ rest)) stop fit later in
+    let later = stop-more (added_steps (cell_at front x.row x.column) x) (cell_steps_after (front ++ x ∷ []) rest) stop (subst (λ c. IsUnfitStop (added_steps c x) stop) at h) in
+    let all = stop-following (cell_steps front) (cell_steps_after front (x ∷ rest)) stop fit later in
     subst (λ s. IsUnfitStop s stop) (sym (ap cell_steps (split_at leaves i x l is) ∙ steps-split [] front (x ∷ rest))) all
 
 -- the steps with one more leaf fit

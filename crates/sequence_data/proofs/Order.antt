@@ -28,7 +28,7 @@ before-once c d (inr a) (inr b) = omega (arith, a.1, b.1)
 abbrev AreAmong : List Cell → List Cell → Type 0
 AreAmong xs ys = (i : ℕ) (c : Cell) → slice_get xs i ≡ Some c → (j : ℕ) × (slice_get ys j ≡ Some c)
 
--- the cells behind the first are in order
+-- the cells after the first are in order
 pub order-tail : (x : Cell) (xs : List Cell) → AreInOrder (x ∷ xs) → AreInOrder xs
 order-tail x xs h i j c d l at_i at_j = h (suc i) (suc j) c d (omega arith) at_i at_j
 
@@ -41,7 +41,7 @@ same_first x y xs ys p q h g = go (h 0 x refl) (g 0 y refl)
     go (suc j, a) (zero, b) = same_Some x y b
     go (suc j, a) (suc i, b) = absurd (before-once x y (p 0 (suc i) x y (omega arith) refl b) (q 0 (suc j) y x (omega arith) refl a))
 
--- the cells behind the first are among the others behind the first
+-- the cells after the first are among the others after the first
 among-tail : (x y : Cell) (xs ys : List Cell) → x ≡ y → AreInOrder (x ∷ xs) → AreAmong (x ∷ xs) (y ∷ ys) → AreAmong xs ys
 among-tail x y xs ys e p h i c at = go (h (suc i) c at)
   where
@@ -89,14 +89,14 @@ first-one (x ∷ b) (y ∷ d) s r xs ys e h g p q =
 
 pub unfit-one : (steps : List PlacedStep) (k m : ℕ) (step other : Step) → IsFirstUnfitAt steps k step → IsFirstUnfitAt steps m other → (k ≡ m) × (step ≡ other)
 unfit-one steps k m step other h g =
-    let same = first-one h.before g.before (at_place k step) (at_place m other) h.behind g.behind (sym h.is_there ∙ g.is_there) h.earlier_fit g.earlier_fit h.does_not_fit g.does_not_fit in
+    let same = first-one h.before g.before (at_place k step) (at_place m other) h.following g.following (sym h.is_there ∙ g.is_there) h.earlier_fit g.earlier_fit h.does_not_fit g.does_not_fit in
     (ap (λ (s : PlacedStep). s.place) same, ap (λ (s : PlacedStep). s.step) same)
 
 pub unfit-none : (steps : List PlacedStep) (k : ℕ) (step : Step) → IsFirstUnfitAt steps k step → AllFit steps → ⊥
 unfit-none steps k step h fit =
     let whole = subst AllFit h.is_there fit in
-    let inside : length h.before < length (h.before ++ at_place k step ∷ h.behind) = omega (arith, length-append h.before (at_place k step ∷ h.behind)) in
-    h.does_not_fit (subst PlacedFits (get_or-append_seam h.before (at_place k step) h.behind (at_place k step)) (All-get_or PlacedFits (h.before ++ at_place k step ∷ h.behind) (length h.before) (at_place k step) inside whole))
+    let inside : length h.before < length (h.before ++ at_place k step ∷ h.following) = omega (arith, length-append h.before (at_place k step ∷ h.following)) in
+    h.does_not_fit (subst PlacedFits (get_or-append_seam h.before (at_place k step) h.following (at_place k step)) (All-get_or PlacedFits (h.before ++ at_place k step ∷ h.following) (length h.before) (at_place k step) inside whole))
 
 -- ---- extremes
 -- what holds of each number holds of one of them

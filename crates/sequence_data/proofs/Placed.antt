@@ -21,8 +21,8 @@ pub one-fits : (k : ℕ) (step : Step) → StepFits step → AllFit (at_place k 
 one-fits k step fits = All-cons PlacedFits (at_place k step) [] fits (All-nil PlacedFits)
 
 -- a step that does not fit is the first of those from itself on
-pub here-first : (k : ℕ) (step : Step) (behind : List PlacedStep) → (StepFits step → ⊥) → IsFirstUnfitAt (at_place k step ∷ behind) k step
-here-first k step behind refused = record { before = []; behind = behind; is_there = refl; earlier_fit = All-nil PlacedFits; does_not_fit = refused }
+pub here-first : (k : ℕ) (step : Step) (following : List PlacedStep) → (StepFits step → ⊥) → IsFirstUnfitAt (at_place k step ∷ following) k step
+here-first k step following refused = record { before = []; following = following; is_there = refl; earlier_fit = All-nil PlacedFits; does_not_fit = refused }
 
 -- steps that fit, and then others
 pub fit-append : (xs ys : List PlacedStep) → AllFit xs → AllFit ys → AllFit (xs ++ ys)
@@ -32,15 +32,15 @@ fit-append xs ys h g = All-append PlacedFits xs ys h g
 pub stop-more : (xs ys : List PlacedStep) (stop : SeqStop) → IsUnfitStop xs stop → IsUnfitStop (xs ++ ys) stop
 stop-more xs ys (stops.NotTwoPlayers count) h = h
 stop-more xs ys (stops.Range place unfit) h =
-    record { before = h.before; behind = h.behind ++ ys; is_there = ap (λ s. s ++ ys) h.is_there ∙ append_assoc h.before (at_place place unfit ∷ h.behind) ys; earlier_fit = h.earlier_fit; does_not_fit = h.does_not_fit }
+    record { before = h.before; following = h.following ++ ys; is_there = ap (λ s. s ++ ys) h.is_there ∙ append_assoc h.before (at_place place unfit ∷ h.following) ys; earlier_fit = h.earlier_fit; does_not_fit = h.does_not_fit }
 stop-more xs ys stops.Memory h = tt
 
--- and behind steps that fit
-pub stop-behind : (xs ys : List PlacedStep) (stop : SeqStop) → AllFit xs → IsUnfitStop ys stop → IsUnfitStop (xs ++ ys) stop
-stop-behind xs ys (stops.NotTwoPlayers count) fit h = h
-stop-behind xs ys (stops.Range place unfit) fit h =
-    record { before = xs ++ h.before; behind = h.behind; is_there = ap (λ s. xs ++ s) h.is_there ∙ sym (append_assoc xs h.before (at_place place unfit ∷ h.behind)); earlier_fit = All-append PlacedFits xs h.before fit h.earlier_fit; does_not_fit = h.does_not_fit }
-stop-behind xs ys stops.Memory fit h = tt
+-- and after steps that fit
+pub stop-following : (xs ys : List PlacedStep) (stop : SeqStop) → AllFit xs → IsUnfitStop ys stop → IsUnfitStop (xs ++ ys) stop
+stop-following xs ys (stops.NotTwoPlayers count) fit h = h
+stop-following xs ys (stops.Range place unfit) fit h =
+    record { before = xs ++ h.before; following = h.following; is_there = ap (λ s. xs ++ s) h.is_there ∙ sym (append_assoc xs h.before (at_place place unfit ∷ h.following)); earlier_fit = All-append PlacedFits xs h.before fit h.earlier_fit; does_not_fit = h.does_not_fit }
+stop-following xs ys stops.Memory fit h = tt
 
 -- what a clause says of an error says less of it
 pub if_err-then : {X : Type 0} (r : Result X SeqStop) (P Q : SeqStop → Type 0) → IfErr r P → ((stop : SeqStop) → P stop → Q stop) → IfErr r Q
@@ -53,7 +53,7 @@ product-stop k before chance payoff stop h = stop-more (at_place k (unfit Mul ch
 
 pub product-sum-stop : (k : ℕ) (before chance payoff part : ℚ) → part ≡ chance *ℚ payoff → AllFit (at_place k (unfit Mul chance payoff) ∷ []) → (stop : SeqStop) → IsUnfitStop (at_place k (unfit Add before part) ∷ []) stop → IsUnfitStop (product_steps k before chance payoff) stop
 product-sum-stop k before chance payoff part is fit stop h =
-    stop-behind (at_place k (unfit Mul chance payoff) ∷ []) (at_place k (unfit Add before (chance *ℚ payoff)) ∷ []) stop fit (subst (λ v. IsUnfitStop (at_place k (unfit Add before v) ∷ []) stop) is h)
+    stop-following (at_place k (unfit Mul chance payoff) ∷ []) (at_place k (unfit Add before (chance *ℚ payoff)) ∷ []) stop fit (subst (λ v. IsUnfitStop (at_place k (unfit Add before v) ∷ []) stop) is h)
 
 -- a leaf into its cell: chance, then the first payoff, then the second
 module _ (c : Cell) (l : Leaf) where
@@ -62,13 +62,13 @@ module _ (c : Cell) (l : Leaf) where
 
   pub one-stop : (stop : SeqStop) → AllFit (at_place l.place (unfit Add c.weight l.chance) ∷ []) → IsUnfitStop (product_steps l.place c.one l.chance l.one) stop → IsUnfitStop (added_steps c l) stop
   one-stop stop fit h =
-      stop-behind (at_place l.place (unfit Add c.weight l.chance) ∷ []) (product_steps l.place c.one l.chance l.one ++ product_steps l.place c.two l.chance l.two) stop fit
+      stop-following (at_place l.place (unfit Add c.weight l.chance) ∷ []) (product_steps l.place c.one l.chance l.one ++ product_steps l.place c.two l.chance l.two) stop fit
       (stop-more (product_steps l.place c.one l.chance l.one) (product_steps l.place c.two l.chance l.two) stop h)
 
   pub two-stop : (stop : SeqStop) → AllFit (at_place l.place (unfit Add c.weight l.chance) ∷ []) → AllFit (product_steps l.place c.one l.chance l.one) → IsUnfitStop (product_steps l.place c.two l.chance l.two) stop → IsUnfitStop (added_steps c l) stop
   two-stop stop fit one h =
-      stop-behind (at_place l.place (unfit Add c.weight l.chance) ∷ []) (product_steps l.place c.one l.chance l.one ++ product_steps l.place c.two l.chance l.two) stop fit
-      (stop-behind (product_steps l.place c.one l.chance l.one) (product_steps l.place c.two l.chance l.two) stop one h)
+      stop-following (at_place l.place (unfit Add c.weight l.chance) ∷ []) (product_steps l.place c.one l.chance l.one ++ product_steps l.place c.two l.chance l.two) stop fit
+      (stop-following (product_steps l.place c.one l.chance l.one) (product_steps l.place c.two l.chance l.two) stop one h)
 
   pub all-added : AllFit (at_place l.place (unfit Add c.weight l.chance) ∷ []) → AllFit (product_steps l.place c.one l.chance l.one) → AllFit (product_steps l.place c.two l.chance l.two) → AllFit (added_steps c l)
   all-added fit one two =

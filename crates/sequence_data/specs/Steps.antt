@@ -24,8 +24,8 @@ AllFit steps = All (λ s. StepFits s.step) steps
 -- the first of these steps that does not fit
 pub record IsFirstUnfitAt (steps : List PlacedStep) (place : ℕ) (step : Step) : Type 0 where
   pub before : List PlacedStep
-  pub behind : List PlacedStep
-  pub is_there : steps ≡ before ++ at_place place step ∷ behind
+  pub following : List PlacedStep
+  pub is_there : steps ≡ before ++ at_place place step ∷ following
   pub earlier_fit : AllFit before
   pub does_not_fit : StepFits step → ⊥
 
@@ -39,13 +39,13 @@ abbrev pub added_steps : Cell → Leaf → List PlacedStep
 added_steps c l =
     at_place l.place (unfit Add c.weight l.chance) ∷ product_steps l.place c.one l.chance l.one ++ product_steps l.place c.two l.chance l.two
 
--- leaves go into their cells one after another, behind these
-abbrev pub cell_steps_behind : List Leaf → List Leaf → List PlacedStep
-cell_steps_behind earlier [] = []
-cell_steps_behind earlier (l ∷ leaves) = added_steps (cell_at earlier l.row l.column) l ++ cell_steps_behind (earlier ++ l ∷ []) leaves
+-- leaves go into their cells one after another, after these
+abbrev pub cell_steps_after : List Leaf → List Leaf → List PlacedStep
+cell_steps_after earlier [] = []
+cell_steps_after earlier (l ∷ leaves) = added_steps (cell_at earlier l.row l.column) l ++ cell_steps_after (earlier ++ l ∷ []) leaves
 
 abbrev pub cell_steps : List Leaf → List PlacedStep
-cell_steps leaves = cell_steps_behind [] leaves
+cell_steps leaves = cell_steps_after [] leaves
 
 -- ---- what stops a computation
 -- the first of these steps that does not fit, or want of memory

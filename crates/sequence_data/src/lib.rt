@@ -1,7 +1,14 @@
-//! A sequence form as data: both players' sides, the leaves of a game, the cells that sum them up, and the
-//! extreme payoffs. The leaves go into the cells one after another, step by step in fractions of 128 bits.
-//! `specs/Data` says what each form keeps and which sequence form it stands for, `specs/Cells` what the cells
-//! are, and `specs/Steps` has the order of all steps.
+//! A sequence form as data: both players' sides, the leaves of a game, the cells that sum them up,
+//! and the extreme payoffs.
+//!
+//! Callers may rely on: `SeqForm::of_leaves` gives the cells that are the sums of the leaves, or
+//! the first step that does not fit; `gains_are_not_negative` and `costs_are_not_negative`.
+//! Definitions: `specs::Data` says what each form keeps and which sequence form it stands for,
+//! `Cells` what the cells are, `Steps` the order of all steps, `Weights` a plan as a list.
+//! Private words: `specs::Gathered`, cells while they are summed up.
+//! Lemmas for callers: `proofs::Gains` on gains and costs, `CellSums` and `Order` on cells.
+//! A change here touches: `sequence_form`, `form_matrices`, `zero_sum_lp`, `lemke_pivot` and
+//! `behaviour_profile`.
 #![tactic(auto)]
 
 ghost use Rattle.std.specs.Prelude.{◌≡◌, ℕ, List};

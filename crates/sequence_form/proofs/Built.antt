@@ -10,7 +10,7 @@ use Rattle.sequence_data.specs.Steps.{AllFit, IsUnfitStop, cell_steps}
 use Rattle.sequence_data.specs.declared.stop.SeqStop.{SeqStop}
 use Rattle.sequence_data.specs.declared.stop.SeqStop.TheVariants as stops
 use Rattle.sequence_data.specs.declared.types.Leaf.{Leaf}
-use Rattle.sequence_data.proofs.Placed.{fit-append, stop-more, stop-behind}
+use Rattle.sequence_data.proofs.Placed.{fit-append, stop-more, stop-following}
 use Rattle.sequence_form.specs.Forms.{tree_steps, tree_form, table_leaves, table_form}
 use Rattle.sequence_form.specs.Laws.{rows_of, columns_of}
 use Rattle.sequence_form.specs.Paths.{path_steps, tree_leaves}
@@ -38,7 +38,7 @@ tree-gives t first second ls (Ok f) two one_is two_is leaves_are fit made fits s
   of_leaves = made.valid.of_leaves;
 }
 tree-gives t first second ls (Err stop) two one_is two_is leaves_are fit made fits h =
-    tree-stop t stop two (stop-behind (path_steps (game_of_tree t) (length t.nodes)) (cell_steps (tree_leaves (game_of_tree t))) stop fit (subst (λ (xs : List Leaf). IsUnfitStop (cell_steps xs) stop) leaves_are h))
+    tree-stop t stop two (stop-following (path_steps (game_of_tree t) (length t.nodes)) (cell_steps (tree_leaves (game_of_tree t))) stop fit (subst (λ (xs : List Leaf). IsUnfitStop (cell_steps xs) stop) leaves_are h))
 
 -- ---- tables
 table-stop : (t : GameTable) (stop : SeqStop) → length t.players ≡ 2 → IsUnfitStop (cell_steps (table_leaves t)) stop → Gives stops.Memory (table_form t) (Err stop)

@@ -14,12 +14,12 @@ use Rattle.game_theory.proofs.OwnSets.{is_own-decides}
 use Rattle.strategy_lists.specs.OwnNumbers.{own_numbers}
 use Rattle.strategy_lists.proofs.ActionCounts.{actions-below}
 use Rattle.strategy_lists.proofs.OwnNumbers.{own_numbers-at, own_sets-numbers}
-use Rattle.sequence_forms.specs.Sequences.{last_step, history_before, sequence, sequence_before, side_of}
+use Rattle.sequence_forms.specs.Sequences.{last_edge, history_before, sequence, sequence_before, side_of}
 use Rattle.sequence_forms.specs.Sides.{first, sequences}
 use Rattle.sequence_forms.proofs.Sequences.{history_before-cases, side_of-is}
 use Rattle.sequence_forms.proofs.Signs.{last_sequences}
-use Rattle.perfect_recall.specs.Found.{IsRecallOf, step_before}
-use Rattle.perfect_recall.proofs.Histories.{HasHistory, has_history, step-none, step-some}
+use Rattle.perfect_recall.specs.Found.{IsRecallOf, edge_before}
+use Rattle.perfect_recall.proofs.Histories.{HasHistory, has_history, edge-none, edge-some}
 use Rattle.sequence_data.specs.Data.{SideData}
 use Rattle.sequence_data.specs.declared.types.SetRow.{SetRow}
 use Rattle.sequence_form.specs.Sequences.{next_sequence, own_actions, AreFirsts, set_row, tree_side}
@@ -46,7 +46,7 @@ module _ (t : Tree) (i : ℕ) where
           ap (first (side_of t i)) long ∙ ap (λ s. next_sequence t i n + t.actions s) (own-is n below (d.0 refl))
       go false d = omega arith
 
-  -- behind all sets
+  -- after all sets
   pub next-all : next_sequence t i t.sets ≡ sequences (side_of t i)
   next-all = ap (λ xs. first (side_of t i) (length xs)) (sym (own_sets-numbers t i))
 
@@ -66,24 +66,24 @@ module _ (t : Tree) (i : ℕ) where
   first-at firsts s are below = ap (λ xs. get_or xs s 0) are ∙ get_or-map-range_with_len (next_sequence t i) 0 (suc t.sets) s s 0 below (omega arith)
 
   -- ---- the step before an own set
-  pub own-step : (s r a : ℕ) → is_game_tree t → last_step (history_before t i s) ≡ Some (r, a) → (r < t.sets) × (t.owner r ≡ Some i)
+  pub own-step : (s r a : ℕ) → is_game_tree t → last_edge (history_before t i s) ≡ Some (r, a) → (r < t.sets) × (t.owner r ≡ Some i)
   own-step s r a w h = elim (history_before-cases t i s t.size) [
-    | inl found ↦ go found.0 found.1 (has_history t i found.0 w found.1) (sym (ap last_step found.3) ∙ h)
-    | inr none ↦ absurd (none-some (r, a) (sym (ap last_step none.0) ∙ h))
+    | inl found ↦ go found.0 found.1 (has_history t i found.0 w found.1) (sym (ap last_edge found.3) ∙ h)
+    | inr none ↦ absurd (none-some (r, a) (sym (ap last_edge none.0) ∙ h))
   ]
     where
-      go : (k : ℕ) → k < t.size → HasHistory t i k → last_step (own_history t i k) ≡ Some (r, a) → (r < t.sets) × (t.owner r ≡ Some i)
-      go k below (inl empty) e = absurd (none-some (r, a) (sym (step-none t i k empty) ∙ e))
+      go : (k : ℕ) → k < t.size → HasHistory t i k → last_edge (own_history t i k) ≡ Some (r, a) → (r < t.sets) × (t.owner r ≡ Some i)
+      go k below (inl empty) e = absurd (none-some (r, a) (sym (edge-none t i k empty) ∙ e))
       go k below (inr has) e =
-          let same : has.set ≡ r = ap (λ (x : ℕ × ℕ). x.0) (same_Some (has.set, has.action) (r, a) (sym (step-some t i k has) ∙ e)) in
+          let same : has.set ≡ r = ap (λ (x : ℕ × ℕ). x.0) (same_Some (has.set, has.action) (r, a) (sym (edge-some t i k has) ∙ e)) in
           (subst (λ x. x < t.sets) same (w.sets_within has.node has.set (omega (arith, has.before)) has.chooses.at_set), subst (λ x. t.owner x ≡ Some i) same has.chooses.own)
 
   -- the recall of a tree has it
   pub recall-length : (before : List (Option (ℕ × ℕ))) → IsRecallOf t before → length before ≡ t.sets
-  recall-length before h = ap length h.before_is ∙ length-map-range_with_len (λ s. step_before t s (t.owner s)) 0 t.sets
+  recall-length before h = ap length h.before_is ∙ length-map-range_with_len (λ s. edge_before t s (t.owner s)) 0 t.sets
 
-  pub recall-at : (before : List (Option (ℕ × ℕ))) (s : ℕ) → IsRecallOf t before → s < t.sets → t.owner s ≡ Some i → get_or before s None ≡ last_step (history_before t i s)
-  recall-at before s h below own = ap (λ xs. get_or xs s None) h.before_is ∙ get_or-map-range_with_len (λ r. step_before t r (t.owner r)) 0 t.sets s s None below (omega arith) ∙ ap (step_before t s) own
+  pub recall-at : (before : List (Option (ℕ × ℕ))) (s : ℕ) → IsRecallOf t before → s < t.sets → t.owner s ≡ Some i → get_or before s None ≡ last_edge (history_before t i s)
+  recall-at before s h below own = ap (λ xs. get_or xs s None) h.before_is ∙ get_or-map-range_with_len (λ r. edge_before t r (t.owner r)) 0 t.sets s s None below (omega arith) ∙ ap (edge_before t s) own
 
   -- ---- with one more set
   pub next-push : (n : ℕ) → n < t.sets → next_sequence t i (n + 1) ≡ next_sequence t i n + own_actions t i n
@@ -122,13 +122,13 @@ pub sequences-few : (t : GameTree) (i : ℕ) → IsTree t → sequences (side_of
 sequences-few t i valid = subst (λ n. n < 4294967296) (next-all (game_of_tree t) i) (next-few t i (length t.sets) valid (omega arith))
 
 -- ---- the sequence before an own set as it is computed
-pub before-none : (t : Tree) (i s : ℕ) → last_step (history_before t i s) ≡ None → sequence_before t i s ≡ 0
+pub before-none : (t : Tree) (i s : ℕ) → last_edge (history_before t i s) ≡ None → sequence_before t i s ≡ 0
 before-none t i s none = ap (sequence t i) none
 
-pub before-some : (t : Tree) (i s r a : ℕ) → is_game_tree t → last_step (history_before t i s) ≡ Some (r, a) → sequence_before t i s ≡ next_sequence t i r + a
+pub before-some : (t : Tree) (i s r a : ℕ) → is_game_tree t → last_edge (history_before t i s) ≡ Some (r, a) → sequence_before t i s ≡ next_sequence t i r + a
 before-some t i s r a w some = let own = own-step t i s r a w some in ap (sequence t i) some ∙ sequence-is t i r a w own.0 own.1
 
-pub before-by_firsts : (t : Tree) (i s r a : ℕ) (firsts : List ℕ) → is_game_tree t → AreFirsts t i firsts → last_step (history_before t i s) ≡ Some (r, a) → get_or firsts r 0 + a ≡ sequence_before t i s
+pub before-by_firsts : (t : Tree) (i s r a : ℕ) (firsts : List ℕ) → is_game_tree t → AreFirsts t i firsts → last_edge (history_before t i s) ≡ Some (r, a) → get_or firsts r 0 + a ≡ sequence_before t i s
 before-by_firsts t i s r a firsts w are some = let own = own-step t i s r a w some in ap (λ n. n + a) (first-at t i firsts r are (omega (arith, own.0))) ∙ sym (before-some t i s r a w some)
 
 -- how many actions a set has fits

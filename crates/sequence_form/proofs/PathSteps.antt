@@ -19,7 +19,7 @@ use Rattle.sequence_data.specs.Data.{LeafFits}
 use Rattle.sequence_data.specs.Steps.{at_place, AllFit, IsUnfitStop}
 use Rattle.sequence_data.specs.declared.stop.SeqStop.{SeqStop}
 use Rattle.sequence_data.specs.declared.types.Leaf.{Leaf}
-use Rattle.sequence_data.proofs.Placed.{fit-append, stop-more, stop-behind}
+use Rattle.sequence_data.proofs.Placed.{fit-append, stop-more, stop-following}
 use Rattle.sequence_form.specs.Paths.{leaf_at, tree_leaves, chance_steps, payoff_step, child_steps, node_steps, path_steps}
 
 -- ---- a node
@@ -30,11 +30,11 @@ module _ (t : Tree) (k : ℕ) where
 
   -- then the payoff of player 0
   pub one-stop : (stop : SeqStop) → AllFit (chance_steps t k (t.set (t.parent k))) → IsUnfitStop (payoff_step t k 0 ∷ []) stop → IsUnfitStop (child_steps t k) stop
-  one-stop stop fit h = stop-behind (chance_steps t k (t.set (t.parent k))) (payoff_step t k 0 ∷ payoff_step t k 1 ∷ []) stop fit (stop-more (payoff_step t k 0 ∷ []) (payoff_step t k 1 ∷ []) stop h)
+  one-stop stop fit h = stop-following (chance_steps t k (t.set (t.parent k))) (payoff_step t k 0 ∷ payoff_step t k 1 ∷ []) stop fit (stop-more (payoff_step t k 0 ∷ []) (payoff_step t k 1 ∷ []) stop h)
 
   -- and that of player 1
   pub two-stop : (stop : SeqStop) → AllFit (chance_steps t k (t.set (t.parent k))) → AllFit (payoff_step t k 0 ∷ []) → IsUnfitStop (payoff_step t k 1 ∷ []) stop → IsUnfitStop (child_steps t k) stop
-  two-stop stop fit one h = stop-behind (chance_steps t k (t.set (t.parent k))) (payoff_step t k 0 ∷ payoff_step t k 1 ∷ []) stop fit (stop-behind (payoff_step t k 0 ∷ []) (payoff_step t k 1 ∷ []) stop one h)
+  two-stop stop fit one h = stop-following (chance_steps t k (t.set (t.parent k))) (payoff_step t k 0 ∷ payoff_step t k 1 ∷ []) stop fit (stop-following (payoff_step t k 0 ∷ []) (payoff_step t k 1 ∷ []) stop one h)
 
   pub all-fit : AllFit (chance_steps t k (t.set (t.parent k))) → AllFit (payoff_step t k 0 ∷ []) → AllFit (payoff_step t k 1 ∷ []) → AllFit (child_steps t k)
   all-fit fit one two = fit-append (chance_steps t k (t.set (t.parent k))) (payoff_step t k 0 ∷ payoff_step t k 1 ∷ []) fit (fit-append (payoff_step t k 0 ∷ []) (payoff_step t k 1 ∷ []) one two)
@@ -72,7 +72,7 @@ module _ (t : Tree) (k p : ℕ) (w : IsTree t) (later : 0 < k) (below : k < t.si
       subst (λ x. b < t.actions x) same (subst (λ x. x < t.actions led.0) (sym branch) led.2)
 
 -- ---- all nodes
--- the steps at a node behind the root
+-- the steps at a node after the root
 pub node-child : (t : Tree) (k : ℕ) → 0 < k → node_steps t k ≡ child_steps t k
 node-child t zero h = absurd (omega arith)
 node-child t (suc k) h = refl
@@ -93,7 +93,7 @@ path-stop_more t k (suc n) stop h few = elim (cases_lt k (suc n)) [
 
 pub path-stop : (t : Tree) (k n : ℕ) (stop : SeqStop) → 0 < k → k < n → AllFit (path_steps t k) → IsUnfitStop (child_steps t k) stop → IsUnfitStop (path_steps t n) stop
 path-stop t k n stop h below fit here =
-    path-stop_more t (k + 1) n stop (subst (λ s. IsUnfitStop s stop) (sym (path-more t k h)) (stop-behind (path_steps t k) (child_steps t k) stop fit here)) (omega arith)
+    path-stop_more t (k + 1) n stop (subst (λ s. IsUnfitStop s stop) (sym (path-more t k h)) (stop-following (path_steps t k) (child_steps t k) stop fit here)) (omega arith)
 
 -- ---- the leaves
 -- the leaves below n, and then others

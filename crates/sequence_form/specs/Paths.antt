@@ -17,7 +17,7 @@ abbrev pub tree_leaves : Tree → List Leaf
 tree_leaves t = map (leaf_at t) (leaves t)
 
 -- ---- steps
--- the chance of a node behind set s with this owner: the parent's times the probability, where chance plays there
+-- the chance of a node after set s with this owner: the parent's times the probability, where chance plays there
 abbrev pub chance_step : Tree → ℕ → ℕ → Option ℕ → List PlacedStep
 chance_step t k s None = at_place k (unfit Mul (chance_of_path t (t.parent k)) (t.chance s (t.branch k))) ∷ []
 chance_step t k s (Some i) = []
@@ -30,7 +30,7 @@ chance_steps t k (Some s) = chance_step t k s (t.owner s)
 abbrev pub payoff_step : Tree → ℕ → ℕ → PlacedStep
 payoff_step t k i = at_place k (unfit Add (payoff_of_path t i (t.parent k)) (t.pays k i))
 
--- the steps at a node behind the root
+-- the steps at a node after the root
 abbrev pub child_steps : Tree → ℕ → List PlacedStep
 child_steps t k = chance_steps t k (t.set (t.parent k)) ++ payoff_step t k 0 ∷ payoff_step t k 1 ∷ []
 

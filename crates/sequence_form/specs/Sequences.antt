@@ -11,7 +11,7 @@ use Rattle.sequence_data.specs.Data.{SideData}
 use Rattle.sequence_data.specs.declared.types.SetRow.{SetRow}
 
 -- ---- the numbering
--- the sequence that comes next behind those of player i's own sets below n
+-- the sequence that comes next after those of player i's own sets below n
 abbrev pub next_sequence : Tree → ℕ → ℕ → ℕ
 next_sequence t i n = first (side_of t i) (length (own_numbers t.owner i n))
 
@@ -19,7 +19,7 @@ next_sequence t i n = first (side_of t i) (length (own_numbers t.owner i n))
 abbrev pub own_actions : Tree → ℕ → ℕ → ℕ
 own_actions t i s = if is_own t i s then t.actions s else 0
 
--- for each set, and behind the last one, the sequence that comes next
+-- for each set, and after the last one, the sequence that comes next
 abbrev pub AreFirsts : Tree → ℕ → List ℕ → Type 0
 AreFirsts t i firsts = firsts ≡ map (next_sequence t i) (range_with_len 0 (suc t.sets))
 

@@ -1,10 +1,12 @@
-//! The sequence form of a game with two players. `build` makes that of a tree in which the players recall,
-//! `build_table` that of a table, and `counts_tree` and `counts_table` tell its sizes before it is made.
+//! The sequence form of a game with two players: of a tree in which the players recall, and of a
+//! table.
 //!
-//! The sets' numbers give the sequences' numbers (`sequences`), each node's last sequences, chance and payoffs
-//! come from its parent's (`paths`), and the leaves go into the cells of `sequence_data`. `specs/Forms` says
-//! what the form of a tree and of a table is, and when there is none; `specs/Laws` what it stands for, and what
-//! plans pay by it.
+//! Callers may rely on: `build` and `build_table` give the form, or the first reason why there is
+//! none; by law it stands for the game, and two plans pay by it what they pay in the game.
+//! Definitions: `specs::Forms` says what a tree and a table answer, `Laws` what a form stands for,
+//! `Sequences` the sides of a tree, `Paths` its leaves and their steps, `Counts` the sizes.
+//! Lemmas for callers: `proofs::Forms`, `Kept`, `Laws` and `TableLeaves` on built forms.
+//! A change here touches: `behaviour_profile`, and the stages and laws of `lp` and `lcp`.
 #![tactic(auto)]
 
 ghost use Rattle.answers.specs.Answers.{IsSingle};

@@ -1,4 +1,4 @@
-// What the paths of a tree lead to, node by node, each behind its parent.
+// What the paths of a tree lead to, node by node, each after its parent.
 ghost use Rattle.std.specs.Prelude.{◌≡◌, ◌<◌, length, map, IfOk, IfErr, OnOk};
 ghost use Rattle.std.specs.List.{range_with_len};
 ghost use Rattle.game_core.specs.TreeGame.{game_of_tree};

@@ -38,7 +38,7 @@ pub(crate) fn own_actions(tree: &Tree, set: usize, player: u32) -> u32
     }
 }
 
-// For each set, and behind the last one, the sequence that comes next behind those of the player's sets before it.
+// For each set, and after the last one, the sequence that comes next after those of the player's sets before it.
 pub(crate) fn first_sequences(alloc: Global, tree: &Tree, player: u32) -> Result<Vec<u32>, Memory>
     ensures { IfOk result (λ firsts. AreFirsts (game_of_tree tree.now) player firsts.items) }
 {

@@ -11,7 +11,7 @@ use Rattle.game_theory.specs.Behaviour.{is_own}
 use Rattle.game_theory.specs.Recall.{HasPerfectRecall}
 use Rattle.reduced_strategies.proofs.Histories.{along_paths}
 use Rattle.sequence_forms.specs.Sides.{first_after, first}
-use Rattle.sequence_forms.specs.Sequences.{last_step, place_in, action_count, sequence, last_sequence, sequence_before, side_of}
+use Rattle.sequence_forms.specs.Sequences.{last_edge, place_in, action_count, sequence, last_sequence, sequence_before, side_of}
 use Rattle.sequence_forms.specs.TreeLaws.{TreesHaveOrderedSides}
 use Rattle.sequence_forms.proofs.Sides.{first_pos, first_up}
 use Rattle.sequence_forms.proofs.Sequences.{place-own, among_at, own_set-is, last-own, last-other, history_before-cases}
@@ -94,7 +94,7 @@ last-before t i w r f (suc n) k s h l q e = elim (last_choice t i w k l) [
     later : ((j : ℕ) → j < n → j < t.size → t.set j ≡ Some s → last_sequence t i j < first_after (action_count t i) (place_in (own_sets t i) s)) → (o : LastChoice t i k) → s ≤ o.set → last_sequence t i k < first_after (action_count t i) (place_in (own_sets t i) s)
     later earlier o m =
         let a = above o m in
-        subst (λ h. sequence t i (last_step h) < first_after (action_count t i) (place_in (own_sets t i) s)) (r s a.0 k e (omega (arith, a.1)) l a.2 q) (earlier a.0 (omega (arith, a.1)) (omega (arith, a.1)) a.2)
+        subst (λ h. sequence t i (last_edge h) < first_after (action_count t i) (place_in (own_sets t i) s)) (r s a.0 k e (omega (arith, a.1)) l a.2 q) (earlier a.0 (omega (arith, a.1)) (omega (arith, a.1)) a.2)
 
 -- the place of the set that stands at a place
 pub place_at : (n : ℕ) (sets : List ℕ) (j : ℕ) → AscendFrom n sets → j < length sets → place_in sets (slice_index sets j) ≡ j
@@ -116,8 +116,8 @@ follows t i w r f j h =
   where
     go : (s : ℕ) → t.owner s ≡ Some i → sequence_before t i s < first_after (action_count t i) (place_in (own_sets t i) s)
     go s e = elim (history_before-cases t i s t.size) [
-      | inl o ↦ subst (λ x. sequence t i (last_step x) < first_after (action_count t i) (place_in (own_sets t i) s)) (sym o.3) (last-before t i w r f (suc o.0) o.0 s (omega arith) o.1 o.2 e)
-      | inr o ↦ subst (λ x. sequence t i (last_step x) < first_after (action_count t i) (place_in (own_sets t i) s)) (sym o.0) (first_pos (action_count t i) (place_in (own_sets t i) s))
+      | inl o ↦ subst (λ x. sequence t i (last_edge x) < first_after (action_count t i) (place_in (own_sets t i) s)) (sym o.3) (last-before t i w r f (suc o.0) o.0 s (omega arith) o.1 o.2 e)
+      | inr o ↦ subst (λ x. sequence t i (last_edge x) < first_after (action_count t i) (place_in (own_sets t i) s)) (sym o.0) (first_pos (action_count t i) (place_in (own_sets t i) s))
     ]
 
 -- a player's sets are in order

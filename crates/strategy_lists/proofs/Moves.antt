@@ -5,7 +5,7 @@ use Rattle.std.proofs.lemmas.List.{append-nil, get_or-map}
 use Rattle.std.proofs.lemmas.Option.{none-some}
 use Rattle.game_theory.proofs.OwnSets.{is_own-decides}
 use Rattle.game_theory.specs.Trees.{Tree, IsTree}
-use Rattle.game_theory.specs.Recall.{own_step, own_history}
+use Rattle.game_theory.specs.Recall.{own_edge, own_history}
 use Rattle.game_core.specs.declared.tree.Node.{Node}
 use Rattle.game_core.specs.Tree.{GameTree, IsTree as is_game, kind_at, kind_of_owner}
 use Rattle.game_core.specs.TreeGame.{game_of_tree}
@@ -46,30 +46,30 @@ move_at t i k is = go (t.set k) refl is
 pub mover-move : (t : Tree) (i k s : ℕ) → IsMove t i k s → mover t k ≡ Some i
 mover-move t i k s h = ap (owner_of t) h.at_set ∙ h.own
 
--- the step from a node at which the player moves
-step-own : (t : Tree) (i k s a : ℕ) → IsMove t i k s → own_step t i (t.set k) a ≡ (s, a) ∷ []
-step-own t i k s a h = rw (h.at_set, (is_own-decides t i s).1 h.own) refl
+-- the edge from a node at which the player moves
+edge-own : (t : Tree) (i k s a : ℕ) → IsMove t i k s → own_edge t i (t.set k) a ≡ (s, a) ∷ []
+edge-own t i k s a h = rw (h.at_set, (is_own-decides t i s).1 h.own) refl
 
--- the step from another node
-step-other : (t : Tree) (i a : ℕ) (set : Option ℕ) → (owner_of t set ≡ Some i → ⊥) → own_step t i set a ≡ []
-step-other t i a None other = refl
-step-other t i a (Some s) other = rw (false_from_ne_true _ (λ e. other ((is_own-decides t i s).0 e))) refl
+-- the edge from another node
+edge-other : (t : Tree) (i a : ℕ) (set : Option ℕ) → (owner_of t set ≡ Some i → ⊥) → own_edge t i set a ≡ []
+edge-other t i a None other = refl
+edge-other t i a (Some s) other = rw (false_from_ne_true _ (λ e. other ((is_own-decides t i s).0 e))) refl
 
 -- past another node the own history stays
 pub history-past : (t : Tree) (i k : ℕ) → IsTree t → 0 < k → k < t.size → (mover t (t.parent k) ≡ Some i → ⊥) → own_history t i (t.parent k) ≡ own_history t i k
 history-past t i k valid later below other =
-    sym (own_history-step t i k valid later below ∙ ap (λ x. own_history t i (t.parent k) ++ x) (step-other t i (t.branch k) (t.set (t.parent k)) other) ∙ append-nil _)
+    sym (own_history-step t i k valid later below ∙ ap (λ x. own_history t i (t.parent k) ++ x) (edge-other t i (t.branch k) (t.set (t.parent k)) other) ∙ append-nil _)
 
--- past a node at which the player moves the own history has one more step
+-- past a node at which the player moves the own history has one more edge
 pub last-move : (t : Tree) (i n k above action : ℕ) → IsTree t → 0 < k → k < t.size → above ≡ t.parent k → action ≡ t.branch k → above < n → own_history t i k ≡ own_history t i n → mover t above ≡ Some i → IsLastMove t i n above action
 last-move t i n k above action valid later below parent branch before same own =
     let move = move_at t i above own in
-    let step : own_step t i (t.set (t.parent k)) (t.branch k) ≡ (move.0, action) ∷ [] = rw (← parent, ← branch) (step-own t i above move.0 action move.1) in
+    let edge : own_edge t i (t.set (t.parent k)) (t.branch k) ≡ (move.0, action) ∷ [] = rw (← parent, ← branch) (edge-own t i above move.0 action move.1) in
     record {
       above = before;
       set = move.0;
       is_move = move.1;
-      history_is = sym same ∙ own_history-step t i k valid later below ∙ ap (λ x. own_history t i (t.parent k) ++ x) step ∙ ap (λ x. own_history t i x ++ (move.0, action) ∷ []) (sym parent);
+      history_is = sym same ∙ own_history-step t i k valid later below ∙ ap (λ x. own_history t i (t.parent k) ++ x) edge ∙ ap (λ x. own_history t i x ++ (move.0, action) ∷ []) (sym parent);
     }
 
 -- the same by a list that is the tree's

@@ -99,7 +99,7 @@ pub is_set-own : (o : Option ℕ) (i : ℕ) → is_set i o ≡ is_own_of o i
 is_set-own None i = refl
 is_set-own (Some j) i = refl
 
--- the own sets of a list behind those before it
+-- the own sets of a list after those before it
 own_from-numbers : (owner : ℕ → Option ℕ) (i s : ℕ) (sets : List InformationSet) → ((k : ℕ) → owner (s + k) ≡ get_or (map (λ set. set.owner) sets) k None) → own_numbers owner i (s + length sets) ≡ own_numbers owner i s ++ own_from s i sets
 own_from-numbers owner i s [] h = rw add-zero (sym (append-nil _))
 own_from-numbers owner i s (x ∷ sets) h =

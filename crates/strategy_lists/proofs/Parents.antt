@@ -5,21 +5,21 @@ use Rattle.std.proofs.lemmas.List.{get_or-map}
 use Rattle.std.proofs.lemmas.Option.{MatchOption-at_none, MatchOption-at_some}
 use Rattle.game_theory.specs.Trees.{IsTree}
 use Rattle.game_core.specs.declared.tree.Node.{Node}
-use Rattle.game_core.specs.Tree.{GameTree, IsTree as is_game, InformationSet, Place, AreInPrefixOrder, action_count, places_from}
+use Rattle.game_core.specs.Tree.{GameTree, IsTree as is_game, InformationSet, OpenBranch, AreInPrefixOrder, action_count, branches_from}
 use Rattle.game_core.specs.TreeGame.{game_of_tree, or_zero}
 
 -- places at nodes
-abbrev AreAtNodes : List Place → Type 0
+abbrev AreAtNodes : List OpenBranch → Type 0
 AreAtNodes [] = Unit {0}
 AreAtNodes (place ∷ places) = IsSome place.0 × AreAtNodes places
 
 -- the places of a node's actions are at a node
-AreAtNodes-more : (node a n : ℕ) (free : List Place) → AreAtNodes free → AreAtNodes (places_from node a n ++ free)
+AreAtNodes-more : (node a n : ℕ) (free : List OpenBranch) → AreAtNodes free → AreAtNodes (branches_from node a n ++ free)
 AreAtNodes-more node a zero free h = h
 AreAtNodes-more node a (suc n) free h = (refl, AreAtNodes-more node (suc a) n free h)
 
 -- nodes that hang at nodes have parents
-parent-later : (sets : List InformationSet) (k : ℕ) (nodes : List Node) (free rest : List Place) (j : ℕ) (past : Node) → AreInPrefixOrder sets k nodes free rest → AreAtNodes free → j < length nodes → IsSome (get_or nodes j past).parent
+parent-later : (sets : List InformationSet) (k : ℕ) (nodes : List Node) (free rest : List OpenBranch) (j : ℕ) (past : Node) → AreInPrefixOrder sets k nodes free rest → AreAtNodes free → j < length nodes → IsSome (get_or nodes j past).parent
 parent-later sets k [] free rest j past h at below = absurd (omega arith)
 parent-later sets k (node ∷ nodes) [] rest j past h at below = absurd h
 parent-later sets k (node ∷ nodes) (place ∷ free) rest zero past h at below = subst IsSome (sym (ap (λ p. p.0) h.0)) at.0
@@ -44,7 +44,7 @@ module _ (t : GameTree) (valid : is_game t) (nodes : List Node) (k : ℕ) (past 
   pub root-is : (get_or nodes k past).parent ≡ None → k ≡ 0
   root-is none = MatchOption-at_none _ _ (sym (ap (λ xs. (get_or xs k past).parent) same) ∙ none) (root-alone t.sets t.nodes k past valid.in_prefix_order below)
 
-  -- a node with a parent stands behind it, and it is the parent by the game
+  -- a node with a parent stands after it, and it is the parent by the game
   pub parent-before : (above : ℕ) → IsTree (game_of_tree t) → (get_or nodes k past).parent ≡ Some above → (0 < k) × (above ≡ (game_of_tree t).parent k) × (above < k)
   parent-before above law is =
       let is_parent = sym (ap (λ xs. (get_or xs k past).parent) same) ∙ is in

@@ -10,10 +10,10 @@ use Rattle.lists.proofs.Elements.{element}
 use Rattle.game_theory.specs.Trees.{Tree, IsTree}
 use Rattle.game_theory.specs.Recall.{own_history}
 use Rattle.choice_lists.specs.declared.decision.Decision.{Decision}
-use Rattle.choice_lists.specs.declared.decision.Step.{Step}
+use Rattle.choice_lists.specs.declared.decision.Edge.{Edge}
 use Rattle.choice_lists.specs.Walks.{AreLinked, ComesFrom}
 use Rattle.strategy_lists.specs.Decisions.{action_counts, history_by, IsDecisionAt, AreDecisions, AreDecisionsOfAll}
-use Rattle.strategy_lists.specs.Made.{mover, IsMove, IsStepTo, LeadsTo, IsMadeAt, HasTaken, AreMade, AreMadeByAll}
+use Rattle.strategy_lists.specs.Made.{mover, IsMove, IsEdgeTo, LeadsTo, IsMadeAt, HasTaken, AreMade, AreMadeByAll}
 use Rattle.strategy_lists.proofs.OwnNumbers.{slice_get-push, slice_get-push_cases}
 use Rattle.strategy_lists.proofs.Moves.{mover-move, mover-within}
 use Rattle.strategy_lists.proofs.WalksAreStrategies.{own_set-place, own_set-tell}
@@ -56,25 +56,25 @@ module _ (t : Tree) (n i : ℕ) (numbers : List ℕ) (latest : List (Option ℕ)
       }
 
   -- the decision of the last node above node n at which the player moves
-  earlier-step : (step : Step) → (s : IsStepTo t i numbers n step) → HasEarlier s.node
-  earlier-step step s = earlier_at s.node s.last.above (mover-move t i s.node s.last.set s.last.is_move)
+  earlier-edge : (edge : Edge) → (s : IsEdgeTo t i numbers n edge) → HasEarlier s.node
+  earlier-edge edge s = earlier_at s.node s.last.above (mover-move t i s.node s.last.set s.last.is_move)
 
-  -- the history by the step before a decision
-  history-by : (before : Option Step) → LeadsTo t i numbers n before → own_history t i n ≡ history_by t i h.nodes before
+  -- the history by the edge before a decision
+  history-by : (before : Option Edge) → LeadsTo t i numbers n before → own_history t i n ≡ history_by t i h.nodes before
   history-by None led = led
-  history-by (Some step) led =
-      let found = earlier-step step led in
-      let set : get_or (own_sets t i) step.place 0 ≡ led.last.set = get_or_from_slice_get (own_sets t i) step.place led.last.set 0 led.place_is in
+  history-by (Some edge) led =
+      let found = earlier-edge edge led in
+      let set : get_or (own_sets t i) edge.place 0 ≡ led.last.set = get_or_from_slice_get (own_sets t i) edge.place led.last.set 0 led.place_is in
       led.last.history_is ∙ rw (found.history_is, led.number_is, set) refl
 
-  -- the step before a decision comes from an earlier one
-  comes-from : (before : Option Step) → LeadsTo t i numbers n before → ComesFrom decisions (length decisions) before
+  -- the edge before a decision comes from an earlier one
+  comes-from : (before : Option Edge) → LeadsTo t i numbers n before → ComesFrom decisions (length decisions) before
   comes-from None led = tt
-  comes-from (Some step) led =
-      let found = earlier-step step led in
-      let stands_at : slice_get decisions step.decision ≡ Some found.decision = ap (slice_get decisions) led.number_is ∙ found.stands_at in
+  comes-from (Some edge) led =
+      let found = earlier-edge edge led in
+      let stands_at : slice_get decisions edge.decision ≡ Some found.decision = ap (slice_get decisions) led.number_is ∙ found.stands_at in
       let set : found.is_at_node.set ≡ led.last.set = same_Some _ _ (sym found.is_at_node.at_set ∙ led.last.is_move.at_set) in
-      (slice_get_within decisions step.decision found.decision stands_at, found.decision, stands_at, own_set-place t i led.last.set step.place found.decision.place led.place_is (found.is_at_node.place_is ∙ ap Some set))
+      (slice_get_within decisions edge.decision found.decision stands_at, found.decision, stands_at, own_set-place t i led.last.set edge.place found.decision.place led.place_is (found.is_at_node.place_is ∙ ap Some set))
 
   -- what is made at node n is the decision there
   made-decision : (last : Decision) → n < t.size → IsMadeAt t i numbers n last → IsDecisionAt t i h.nodes last n
@@ -89,16 +89,16 @@ module _ (t : Tree) (n i : ℕ) (numbers : List ℕ) (latest : List (Option ℕ)
 
 -- ---- one more decision
 -- an earlier one comes from the same as before
-ComesFrom-push : (decisions : List Decision) (last : Decision) (j : ℕ) (before : Option Step) → ComesFrom decisions j before → ComesFrom (decisions ++ last ∷ []) j before
+ComesFrom-push : (decisions : List Decision) (last : Decision) (j : ℕ) (before : Option Edge) → ComesFrom decisions j before → ComesFrom (decisions ++ last ∷ []) j before
 ComesFrom-push decisions last j None comes = tt
-ComesFrom-push decisions last j (Some step) comes = (comes.0, comes.1, slice_get-push decisions last comes.1 step.decision comes.2, comes.3)
+ComesFrom-push decisions last j (Some edge) comes = (comes.0, comes.1, slice_get-push decisions last comes.1 edge.decision comes.2, comes.3)
 
--- the history by a step from a decision stays
-history_by-push : (t : Tree) (i : ℕ) (nodes : List ℕ) (node : ℕ) (decisions : List Decision) (j : ℕ) (before : Option Step) → ComesFrom decisions j before → length nodes ≡ length decisions → history_by t i (nodes ++ node ∷ []) before ≡ history_by t i nodes before
+-- the history by an edge from a decision stays
+history_by-push : (t : Tree) (i : ℕ) (nodes : List ℕ) (node : ℕ) (decisions : List Decision) (j : ℕ) (before : Option Edge) → ComesFrom decisions j before → length nodes ≡ length decisions → history_by t i (nodes ++ node ∷ []) before ≡ history_by t i nodes before
 history_by-push t i nodes node decisions j None comes long = refl
-history_by-push t i nodes node decisions j (Some step) comes long =
-    let within = slice_get_within decisions step.decision comes.1 comes.2 in
-    rw (get_or_append_left nodes (node ∷ []) 0 step.decision (omega arith)) refl
+history_by-push t i nodes node decisions j (Some edge) comes long =
+    let within = slice_get_within decisions edge.decision comes.1 comes.2 in
+    rw (get_or_append_left nodes (node ∷ []) 0 edge.decision (omega arith)) refl
 
 -- a decision stays that of its node
 IsDecisionAt-push : (t : Tree) (i : ℕ) (nodes : List ℕ) (node : ℕ) (decisions : List Decision) (j k : ℕ) (d : Decision) → ComesFrom decisions j d.before → length nodes ≡ length decisions → IsDecisionAt t i nodes d k → IsDecisionAt t i (nodes ++ node ∷ []) d k
@@ -111,7 +111,7 @@ IsDecisionAt-push t i nodes node decisions j k d comes long h = record {
   history_is = h.history_is ∙ sym (history_by-push t i nodes node decisions j d.before comes long);
 }
 
--- the decision at node n comes behind the others
+-- the decision at node n comes after the others
 AreMade-more : (t : Tree) (n i : ℕ) (numbers : List ℕ) (latest : List (Option ℕ)) (decisions : List Decision) (last : Decision) → n < t.size → IsMadeAt t i numbers n last → AreMade t n i numbers latest decisions → AreMade t n i numbers latest (decisions ++ last ∷ [])
 AreMade-more t n i numbers latest decisions last below made h = record {
   nodes = h.nodes ++ n ∷ [];

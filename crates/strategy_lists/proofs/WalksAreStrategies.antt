@@ -13,7 +13,7 @@ use Rattle.reduced_strategies.specs.Choices.{choice_at, Agrees, IsReached as is_
 use Rattle.reduced_strategies.proofs.Sets.{choice_at-among, choice_at-first, choice_at-later}
 use Rattle.reduced_strategies.proofs.Histories.{Agrees-append}
 use Rattle.choice_lists.specs.declared.decision.Decision.{Decision}
-use Rattle.choice_lists.specs.declared.decision.Step.{Step}
+use Rattle.choice_lists.specs.declared.decision.Edge.{Edge}
 use Rattle.choice_lists.specs.Walks.{ComesFrom, IsLedTo, IsReachedWithin, IsPlaceReached, IsWalk, AreWalks}
 use Rattle.strategy_lists.specs.Decisions.{action_counts, history_by, IsDecisionAt, AreDecisions}
 use Rattle.strategy_lists.specs.OwnNumbers.{own_numbers}
@@ -79,19 +79,19 @@ module _ (t : Tree) (i : ℕ) (decisions : List Decision) (are : AreDecisions t 
     abbrev IsReachedByHistory : ℕ → ℕ → Type 0
     IsReachedByHistory n j = (k : ℕ) → slice_get are.nodes j ≡ Some k → IsReachedWithin decisions choices n j ↔ Agrees chosen (own_history t i k)
 
-    -- a step is taken exactly where the choices agree with the history that it makes
-    step_taken : (n j : ℕ) (before : Option Step) → j < suc n → j < length are.nodes → ComesFrom decisions j before → ((l : ℕ) → l < n → IsReachedByHistory n l) → IsLedTo (IsReachedWithin decisions choices n) choices before ↔ Agrees chosen (history_by t i are.nodes before)
-    step_taken n j None below inside comes earlier = (λ h. tt, λ h. tt)
-    step_taken n j (Some step) below inside comes earlier =
-        let less : step.decision < j = comes.0 in
-        let k = get_or are.nodes step.decision 0 in
-        let at_k : slice_get are.nodes step.decision ≡ Some k = slice_get-get_or are.nodes step.decision 0 (omega arith) in
-        let within = all_at (λ d. d.place < length (action_counts t i)) decisions step.decision comes.1 are.linked.places_within comes.2 in
-        let place_inside : step.place < length (own_sets t i) = omega (arith, comes.3, length-map (own_sets t i) t.actions) in
-        let s = get_or (own_sets t i) step.place 0 in
-        let choice : chosen s ≡ get_or choices step.place 0 = choice-at_set t i choices step.place s (slice_get-get_or (own_sets t i) step.place 0 place_inside) in
-        let reached = earlier step.decision (omega arith) k at_k in
-        let parts = Agrees-append chosen (own_history t i k) ((s, step.action) ∷ []) in
+    -- an edge is taken exactly where the choices agree with the history that it makes
+    edge_taken : (n j : ℕ) (before : Option Edge) → j < suc n → j < length are.nodes → ComesFrom decisions j before → ((l : ℕ) → l < n → IsReachedByHistory n l) → IsLedTo (IsReachedWithin decisions choices n) choices before ↔ Agrees chosen (history_by t i are.nodes before)
+    edge_taken n j None below inside comes earlier = (λ h. tt, λ h. tt)
+    edge_taken n j (Some edge) below inside comes earlier =
+        let less : edge.decision < j = comes.0 in
+        let k = get_or are.nodes edge.decision 0 in
+        let at_k : slice_get are.nodes edge.decision ≡ Some k = slice_get-get_or are.nodes edge.decision 0 (omega arith) in
+        let within = all_at (λ d. d.place < length (action_counts t i)) decisions edge.decision comes.1 are.linked.places_within comes.2 in
+        let place_inside : edge.place < length (own_sets t i) = omega (arith, comes.3, length-map (own_sets t i) t.actions) in
+        let s = get_or (own_sets t i) edge.place 0 in
+        let choice : chosen s ≡ get_or choices edge.place 0 = choice-at_set t i choices edge.place s (slice_get-get_or (own_sets t i) edge.place 0 place_inside) in
+        let reached = earlier edge.decision (omega arith) k at_k in
+        let parts = Agrees-append chosen (own_history t i k) ((s, edge.action) ∷ []) in
         (λ h. parts.1 (reached.0 h.0, (choice ∙ h.1, tt)), λ h. let both = parts.0 h in (reached.1 both.0, sym choice ∙ both.1.0))
 
     -- the same for each decision, where as many decisions as come before it are looked at
@@ -99,8 +99,8 @@ module _ (t : Tree) (i : ℕ) (decisions : List Decision) (are : AreDecisions t 
     reached_by_history zero j below k at_k = absurd (omega arith)
     reached_by_history (suc n) j below k at_k =
         let d = decision_of j k at_k in
-        let step = step_taken n j d.0.before below (slice_get_within are.nodes j k at_k) (are.linked.come_from j d.0 d.1) (reached_by_history n) in
-        (λ h. let same : h.0 ≡ d.0 = same_Some h.0 d.0 (sym h.1 ∙ d.1) in subst (Agrees chosen) (sym d.2.history_is) (step.0 (subst (λ x. IsLedTo (IsReachedWithin decisions choices n) choices x.before) same h.2)), λ h. (d.0, d.1, step.1 (subst (Agrees chosen) d.2.history_is h)))
+        let edge = edge_taken n j d.0.before below (slice_get_within are.nodes j k at_k) (are.linked.come_from j d.0 d.1) (reached_by_history n) in
+        (λ h. let same : h.0 ≡ d.0 = same_Some h.0 d.0 (sym h.1 ∙ d.1) in subst (Agrees chosen) (sym d.2.history_is) (edge.0 (subst (λ x. IsLedTo (IsReachedWithin decisions choices n) choices x.before) same h.2)), λ h. (d.0, d.1, edge.1 (subst (Agrees chosen) d.2.history_is h)))
 
     -- the set at a place is reached exactly where a decision of the place is
     place_reached : (place s : ℕ) → slice_get (own_sets t i) place ≡ Some s → IsPlaceReached decisions choices place ↔ is_set_reached t i chosen s

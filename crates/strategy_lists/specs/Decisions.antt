@@ -5,19 +5,19 @@ use Rattle.game_theory.specs.Trees.{Tree}
 use Rattle.game_theory.specs.Recall.{own_history}
 use Rattle.reduced_strategies.specs.Choices.{AreReducedStrategies}
 use Rattle.choice_lists.specs.declared.decision.Decision.{Decision}
-use Rattle.choice_lists.specs.declared.decision.Step.{Step}
+use Rattle.choice_lists.specs.declared.decision.Edge.{Edge}
 use Rattle.choice_lists.specs.Walks.{AreLinked}
 
 -- how many actions each of player i's own sets has
 abbrev pub action_counts : Tree → ℕ → List ℕ
 action_counts t i = map t.actions (own_sets t i)
 
--- the own history of the decision to which a step leads, where these nodes are the decisions'
-abbrev pub history_by : Tree → ℕ → List ℕ → Option Step → List (ℕ × ℕ)
+-- the own history of the decision to which an edge leads, where these nodes are the decisions'
+abbrev pub history_by : Tree → ℕ → List ℕ → Option Edge → List (ℕ × ℕ)
 history_by t i nodes None = []
-history_by t i nodes (Some step) = own_history t i (slice_index nodes step.decision) ++ (slice_index (own_sets t i) step.place, step.action) ∷ []
+history_by t i nodes (Some edge) = own_history t i (slice_index nodes edge.decision) ++ (slice_index (own_sets t i) edge.place, edge.action) ∷ []
 
--- a decision is the choice at node k: it has the place of the node's set, and the step before it leads there
+-- a decision is the choice at node k: it has the place of the node's set, and the edge before it leads there
 pub record IsDecisionAt (t : Tree) (i : ℕ) (nodes : List ℕ) (decision : Decision) (k : ℕ) : Type 0 where
   pub within : k < t.size
   pub set : ℕ

@@ -6,7 +6,7 @@ use Rattle.game_theory.specs.Recall.{own_history}
 use Rattle.game_core.specs.declared.tree.Kind.{Kind}
 use Rattle.game_core.specs.declared.tree.Kind.TheVariants.{Chance, Move, End}
 use Rattle.choice_lists.specs.declared.decision.Decision.{Decision}
-use Rattle.choice_lists.specs.declared.decision.Step.{Step}
+use Rattle.choice_lists.specs.declared.decision.Edge.{Edge}
 use Rattle.choice_lists.specs.Walks.{ComesFrom}
 use Rattle.strategy_lists.specs.Decisions.{IsDecisionAt}
 
@@ -37,17 +37,17 @@ pub record IsLastMove (t : Tree) (i k a action : ℕ) : Type 0 where
   pub is_move : IsMove t i a set
   pub history_is : own_history t i k ≡ own_history t i a ++ (set, action) ∷ []
 
--- a step is that by the last move above node k, where these are the numbers of the decisions at the nodes
-pub record IsStepTo (t : Tree) (i : ℕ) (numbers : List ℕ) (k : ℕ) (step : Step) : Type 0 where
+-- an edge is that by the last move above node k, where these are the numbers of the decisions at the nodes
+pub record IsEdgeTo (t : Tree) (i : ℕ) (numbers : List ℕ) (k : ℕ) (edge : Edge) : Type 0 where
   pub node : ℕ
-  pub last : IsLastMove t i k node step.action
-  pub number_is : step.decision ≡ slice_index numbers node
-  pub place_is : slice_get (own_sets t i) step.place ≡ Some last.set
+  pub last : IsLastMove t i k node edge.action
+  pub number_is : edge.decision ≡ slice_index numbers node
+  pub place_is : slice_get (own_sets t i) edge.place ≡ Some last.set
 
--- the step before the decision at node k, where there is one
-abbrev pub LeadsTo : Tree → ℕ → List ℕ → ℕ → Option Step → Type 0
+-- the edge before the decision at node k, where there is one
+abbrev pub LeadsTo : Tree → ℕ → List ℕ → ℕ → Option Edge → Type 0
 LeadsTo t i numbers k None = own_history t i k ≡ []
-LeadsTo t i numbers k (Some step) = IsStepTo t i numbers k step
+LeadsTo t i numbers k (Some edge) = IsEdgeTo t i numbers k edge
 
 -- the decision is that of player i at node k
 pub record IsMadeAt (t : Tree) (i : ℕ) (numbers : List ℕ) (k : ℕ) (decision : Decision) : Type 0 where
@@ -56,7 +56,7 @@ pub record IsMadeAt (t : Tree) (i : ℕ) (numbers : List ℕ) (k : ℕ) (decisio
   pub place_is : slice_get (own_sets t i) decision.place ≡ Some set
   pub led_to : LeadsTo t i numbers k decision.before
 
--- a list has a decision at this number, which it had before or which came behind the others
+-- a list has a decision at this number, which it had before or which came after the others
 abbrev pub HasTaken : List Decision → List Decision → Decision → ℕ → Type 0
 HasTaken old new decision number = (slice_get new number ≡ Some decision) × ((new ≡ old) ⊎ (new ≡ old ++ decision ∷ []))
 

@@ -8,7 +8,7 @@ ghost use Rattle.strategy_lists.specs.Made.{HasTaken, IsLastMove, IsMadeAt, IsMo
 ghost use Rattle.game_theory.specs.OwnSets.{own_sets};
 
 use answers::Memory;
-use choice_lists::{Decision, Step};
+use choice_lists::{Decision, Edge};
 use game_core::{Kind, Node, Tree, trees_are_game_trees};
 use std::alloc::Global;
 
@@ -77,7 +77,7 @@ fn decision_at(tree: &Tree, places: &[u32], numbers: &[u32], number: usize, play
     ensures { IsMadeAt (game_of_tree tree.now) player numbers.now number result }
 {
     let before = match last_move(tree, number, player) {
-        Some((node, action)) => Some(Step {
+        Some((node, action)) => Some(Edge {
             decision: numbers[node],
             place: place_at(tree, places, node),
             action,

@@ -10,7 +10,7 @@ use answers::Memory;
 use game_core::{InfoSet, Tree};
 use std::alloc::Global;
 
-// The place of what comes next behind all that was counted, where it has this owner.
+// The place of what comes next after all that was counted, where it has this owner.
 fn next_place(counts: &mut [u32], owner: Option<u32>) -> u32
     requires within { IsWithin (length counts.old) owner }
     requires few { IfSome owner (λ i. slice_index counts.old i + 1 < 2 ^ 32) }

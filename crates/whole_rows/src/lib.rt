@@ -1,9 +1,13 @@
-//! Rows of whole numbers that stand for fractions, and what a start and a pivot make of them, step
-//! by step.
+//! Rows of whole numbers that stand for fractions, and what a start and a pivot make of them.
 //!
-//! `specs::Rows` has rows and their fractions, `specs::Steps` the steps and the first that does not
-//! fit, `specs::StartRows` and `specs::Pivots` the steps of a start and of a pivot in their order,
-//! and `specs::PivotedRows` what a pivot makes of a row.
+//! Callers may rely on: `write_starts` and `write_pivot` write the defined rows, or give the first
+//! step in order that does not fit; `rows_are_determined` by their fractions.
+//! Definitions: `specs::Rows` has rows and their fractions, `Steps` the steps, `StartRows` and
+//! `Pivots` their order, and `PivotedRows` what a pivot makes of a row.
+//! Private words: `specs::Shorts`, and the modules `divisors`, `places` and `rows`.
+//! Lemmas for callers: `proofs::FirstUnfits`, that one step is the first unfit; `RowValues`.
+//! A change here touches: `lex_tableau`; the order of steps also touches `basis_enum`,
+//! `zero_sum_lp` and `lemke_pivot`.
 #![tactic(auto)]
 
 ghost use Rattle.whole_rows.specs.Laws.{RowsAreDetermined};

@@ -194,6 +194,6 @@ IsAnswer answer (Ok s) = answer ≡ Some (command_of s)
 IsAnswer answer (Err stop) = IsRefused answer stop
 
 -- why reading gives no settings: the words are refused so, or memory ran out
-abbrev pub IsStop : Result Command Usage → SettingsStop → Type 0
-IsStop line (stops.Usage usage) = line ≡ Err usage
-IsStop line stops.Memory = Unit {0}
+abbrev pub IsSettingsStop : Result Command Usage → SettingsStop → Type 0
+IsSettingsStop line (stops.Usage usage) = line ≡ Err usage
+IsSettingsStop line stops.Memory = Unit {0}

@@ -1,8 +1,16 @@
 //! The words of a command line, and what they say.
+//!
+//! Callers may rely on: `read_settings`: the settings are those that the rules give for any words,
+//! and a `Usage` fault comes exactly where they give it.
+//! Definitions: `specs::Grammar` says how words are read from left to right, `specs::Words` what
+//! they ask for (`Command`, `command_from`).
+//! Private words: `specs::Commands`, the command of `clap` for a tool's options.
+//! Lemmas for callers: `proofs::Ranges`, that the numbers among the words are within their ranges.
+//! A change here touches: the contract of `run`, `refusals`, and the words of docs/FORMAT.md.
 #![tactic(auto)]
 
 ghost use Rattle.std.specs.Prelude.{◌≡◌, Ok, map, string_bytes, IfOk, IfErr};
-ghost use Rattle.words.specs.Words.{command_from, command_of, IsStop};
+ghost use Rattle.words.specs.Words.{command_from, command_of, IsSettingsStop};
 
 mod commands;
 mod texts;
@@ -82,7 +90,7 @@ pub enum SettingsStop {
 pub fn read_settings(alloc: Global, words: &[String]) -> Result<Settings, SettingsStop>
     ensures settings { IfOk result (λ s. command_from (map string_bytes words.now)
         ≡ Ok (command_of s)) }
-    ensures stop { IfErr result (IsStop (command_from (map string_bytes words.now))) }
+    ensures stop { IfErr result (IsSettingsStop (command_from (map string_bytes words.now))) }
 {
     let Some((tool, rest)) = words.split_first() else {
         return Err(SettingsStop::Usage(Usage::NoTool));

@@ -1,5 +1,5 @@
-//! Worked rows of `check` and `convert`, as tests over `gambit_tools::run`: verdicts, layouts, refusals, failing inputs and
-//! outputs, and what the other tools print, read back. Nothing here is called by the program.
+//! Worked rows of `check` and `convert`, as tests over `gambit_tools::run`, and what the other
+//! tools print, read back. Nothing here is called by the program.
 #![tactic(auto)]
 
 #[cfg(test)]

@@ -74,8 +74,8 @@ p "" 1 1 "" { "only" } 0
 t "" 4 ""
 t "" 0"#;
 
-// Behind two actions only chance moves: once at a node with an outcome of its own, above another such node.
-pub const CHANCE_BEHIND: &[u8] = br#"EFG 2 R "" { "A" "B" }
+// After two actions only chance moves: once at a node with an outcome of its own, above another such node.
+pub const CHANCE_AFTER: &[u8] = br#"EFG 2 R "" { "A" "B" }
 p "" 1 1 "" { "x" "y" } 0
 c "" 1 "" { "" 1/2 "" 1/2 "" 0 } 1 "" { 1, 2 }
 c "" 2 "" { "" 1/3 "" 2/3 } 2 "" { 3, 0 }
@@ -97,7 +97,7 @@ p "" 2 1 "" { "Fight" "Accommodate" } 0
 t "" 2 "Fight" { -1, -1 }
 t "" 3 "Share" { 1, 1 }"#;
 
-// The way of `TWO_WAYS`, and another player's set behind it; no end pays anything.
+// The way of `TWO_WAYS`, and another player's set after it; no end pays anything.
 pub const ALL_ZERO: &[u8] = br#"EFG 2 R "" { "A" "B" }
 p "" 1 1 "" { "L" "R" } 0
 p "" 1 2 "" { "a" "b" } 0

@@ -1,6 +1,5 @@
-//! Tables and trees as they are read, and reduced forms and sequence forms, as tests over the readers, `reduced_form::reduce` and
-//! `sequence_form::build` on text, and pure equilibria of small games beside a plain listing of them by the definition.
-//! Nothing here is called by the program.
+//! Games as they are read, reduced forms, recall and sequence forms, as tests over their crates,
+//! and pure equilibria beside a plain listing by the definition. The program calls nothing here.
 #![tactic(auto)]
 
 #[cfg(test)]

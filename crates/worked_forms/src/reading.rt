@@ -5,14 +5,14 @@ use game_core::{InfoSet, Kind, Name, Node, Outcome, Table, Tree};
 use ne_printer::fraction;
 use std::alloc::Global;
 
-// Adds a name behind a space.
+// Adds a name after a space.
 fn push_name(text: &mut Vec<u8>, name: &Name) -> Result<(), Memory> {
     text.push(b' ')?;
     text.extend_from_slice(name.bytes())?;
     Ok(())
 }
 
-// Adds a number behind a space, or a stroke where there is none.
+// Adds a number after a space, or a stroke where there is none.
 fn push_number(alloc: Global, text: &mut Vec<u8>, number: Option<u32>) -> Result<(), Memory> {
     match number {
         Some(number) => text.extend_from_slice(format!(in alloc; " {number}")?.as_bytes())?,
@@ -130,7 +130,7 @@ fn parts_of_trees_are_read(rt: HostRuntime) -> Result<(), Memory> {
     Ok(())
 }
 
-// The own sets of players by their places, and none behind the last.
+// The own sets of players by their places, and none after the last.
 #[test]
 fn own_sets_are_in_order(rt: HostRuntime) {
     let rows = [

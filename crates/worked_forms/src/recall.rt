@@ -38,7 +38,7 @@ fn players_recall(rt: HostRuntime) {
     assert!(rt; recalls(rt.alloc(), ALONE, &[None, Some((0, 1))]));
 }
 
-/// The set is named as the file numbers it, with its first node and its first node behind another choice.
+/// The set is named as the file numbers it, with its first node and its first node after another choice.
 #[test]
 fn players_forget(rt: HostRuntime) {
     for (text, player, set) in [(FORGET, 0, 2), (SECOND_FORGETS, 1, 7)] {

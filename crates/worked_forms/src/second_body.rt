@@ -1,6 +1,6 @@
 // The pure equilibria of small games by the definition, every reply of every player tried, beside the real listings.
 use crate::games::{
-    ALL_ZERO, ALONE, CHANCE_BEHIND, ENTRY, FORGET, PAID_ON_THE_WAY, POKER, TWO_WAYS, table_of,
+    ALL_ZERO, ALONE, CHANCE_AFTER, ENTRY, FORGET, PAID_ON_THE_WAY, POKER, TWO_WAYS, table_of,
     tree_of,
 };
 use enumpure::list_pure_equilibria;
@@ -77,7 +77,7 @@ fn gains(table: &Table, counts: &[usize], profile: usize, player: usize) -> bool
 }
 
 // Whether no player has a reply that pays more.
-fn is_stable(table: &Table, counts: &[usize], profile: usize) -> bool {
+fn is_equilibrium(table: &Table, counts: &[usize], profile: usize) -> bool {
     for player in 0..counts.len() {
         if gains(table, counts, profile, player) {
             return false;
@@ -87,14 +87,18 @@ fn is_stable(table: &Table, counts: &[usize], profile: usize) -> bool {
 }
 
 // The numbers of the profiles at which no player has a reply that pays more.
-fn stable_profiles(alloc: Global, table: &Table, counts: &[usize]) -> Result<Vec<usize>, Memory> {
-    let mut stable = Vec::new(alloc);
+fn equilibrium_profiles(
+    alloc: Global,
+    table: &Table,
+    counts: &[usize],
+) -> Result<Vec<usize>, Memory> {
+    let mut equilibria = Vec::new(alloc);
     for profile in 0..stride(counts, counts.len()) {
-        if is_stable(table, counts, profile) {
-            stable.push(profile)?;
+        if is_equilibrium(table, counts, profile) {
+            equilibria.push(profile)?;
         }
     }
-    Ok(stable)
+    Ok(equilibria)
 }
 
 // Adds so many entries: one at the chosen place, and zeros.
@@ -156,7 +160,7 @@ fn behaviour_line(
     line(alloc, &entries)
 }
 
-// Lines in descending order, one behind the other.
+// Lines in descending order, one after the other.
 fn joined(alloc: Global, mut lines: Vec<Vec<u8>>) -> Result<Vec<u8>, Memory> {
     lines.sort()?;
     lines.reverse();
@@ -171,7 +175,7 @@ fn joined(alloc: Global, mut lines: Vec<Vec<u8>>) -> Result<Vec<u8>, Memory> {
 fn strategies_text(alloc: Global, table: &Table) -> Result<Vec<u8>, Memory> {
     let counts = counts_of(alloc, table)?;
     let mut lines = Vec::new(alloc);
-    for profile in &stable_profiles(alloc, table, &counts)? {
+    for profile in &equilibrium_profiles(alloc, table, &counts)? {
         lines.push(strategies_line(alloc, &counts, *profile)?)?;
     }
     joined(alloc, lines)
@@ -181,7 +185,7 @@ fn strategies_text(alloc: Global, table: &Table) -> Result<Vec<u8>, Memory> {
 fn behaviour_text(alloc: Global, tree: &Tree, reduced: &Reduced) -> Result<Vec<u8>, Memory> {
     let counts = counts_of(alloc, reduced.table())?;
     let mut lines = Vec::new(alloc);
-    for profile in &stable_profiles(alloc, reduced.table(), &counts)? {
+    for profile in &equilibrium_profiles(alloc, reduced.table(), &counts)? {
         lines.push(behaviour_line(alloc, tree, reduced, &counts, *profile)?)?;
     }
     joined(alloc, lines)
@@ -260,7 +264,7 @@ fn agrees_on_trees(rt: HostRuntime) -> Result<(), Memory> {
         (FORGET, 1),
         (TWO_WAYS, 1),
         (PAID_ON_THE_WAY, 1),
-        (CHANCE_BEHIND, 2),
+        (CHANCE_AFTER, 2),
         (ENTRY, 2),
         (ALL_ZERO, 15),
     ];

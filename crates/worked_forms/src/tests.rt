@@ -1,8 +1,6 @@
 ghost use Rattle.std.specs.Prelude.{◌<◌};
 
-use crate::games::{
-    ALONE, CHANCE_BEHIND, ENTRY, FORGET, PAID_ON_THE_WAY, POKER, TWO_WAYS, tree_of,
-};
+use crate::games::{ALONE, CHANCE_AFTER, ENTRY, FORGET, PAID_ON_THE_WAY, POKER, TWO_WAYS, tree_of};
 use behaviour_profile::Behaviour;
 use frac128::{Frac, Memory, Op, Unfit};
 use game_core::{TooLarge, What, trees_are_game_trees};
@@ -10,7 +8,7 @@ use ne_printer::fraction;
 use reduced_form::{ReduceStop, Reduced, reduce};
 use std::alloc::Global;
 
-// Adds the names of a player's strategies, each behind a space.
+// Adds the names of a player's strategies, each after a space.
 fn push_names(text: &mut Vec<u8>, reduced: &Reduced, player: usize) -> Result<(), Memory> {
     if player < reduced.table().players().len() {
         for name in reduced.table().strategies(player) {
@@ -21,7 +19,7 @@ fn push_names(text: &mut Vec<u8>, reduced: &Reduced, player: usize) -> Result<()
     Ok(())
 }
 
-// The strategies' names of each player behind a comma, and then the payoffs behind a semicolon, profile by profile.
+// The strategies' names of each player after a comma, and then the payoffs after a semicolon, profile by profile.
 fn form_text(alloc: Global, reduced: &Reduced) -> Result<Vec<u8>, Memory> {
     let mut text = Vec::new(alloc);
     for player in 0..reduced.table().players().len() {
@@ -33,7 +31,7 @@ fn form_text(alloc: Global, reduced: &Reduced) -> Result<Vec<u8>, Memory> {
     Ok(text)
 }
 
-// Adds payoffs, each behind a space.
+// Adds payoffs, each after a space.
 pub fn push_payoffs(alloc: Global, text: &mut Vec<u8>, payoffs: &[Frac]) -> Result<(), Memory> {
     for payoff in payoffs {
         text.push(b' ')?;
@@ -98,14 +96,14 @@ fn reduces_trees(rt: HostRuntime) -> Result<(), Memory> {
     assert!(rt; has_form(alloc, TWO_WAYS, two_ways)?);
     let paid = ", 1, 1 2; 34/3 5/2 10 0";
     assert!(rt; has_form(alloc, PAID_ON_THE_WAY, paid)?);
-    let behind = ", 1 2, 1 2; 9/2 7/2 2 -2 9/2 7/2 10/3 5/3";
-    assert!(rt; has_form(alloc, CHANCE_BEHIND, behind)?);
+    let following = ", 1 2, 1 2; 9/2 7/2 2 -2 9/2 7/2 10/3 5/3";
+    assert!(rt; has_form(alloc, CHANCE_AFTER, following)?);
     assert!(rt; has_form(alloc, b"EFG 2 R \"\" { \"A\" } t \"\" 0", ", *; 0")?);
     Ok(())
 }
 
 // A chain of sets of one node, whose first action ends the game and whose second goes on. The sets' numbers begin
-// behind `first`.
+// after `first`.
 fn push_chain(alloc: Global, text: &mut Vec<u8>, first: u32, sets: u32) -> Result<(), Memory>
     requires first { first < 1000 }
     requires sets { sets < 1000 }
@@ -247,7 +245,7 @@ fn first_behaviour(alloc: Global, text: &[u8]) -> Result<Option<Behaviour>, Memo
     Ok(Some(behaviour))
 }
 
-// Each game with the entries of the players' first strategies, by hand; behind them there is none.
+// Each game with the entries of the players' first strategies, by hand; after them there is none.
 #[test]
 fn entries_end(rt: HostRuntime) -> Result<(), Memory> {
     let alloc = rt.alloc();

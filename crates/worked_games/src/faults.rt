@@ -312,7 +312,7 @@ fn limits_are_kept(rt: HostRuntime) -> Result<(), Memory> {
 /// An input is read to the first byte above the limit and no further: after its selection and 257 reads of 65,536 bytes
 /// at most, the next call would fail.
 #[test]
-fn nothing_is_read_behind_the_limit(rt: HostRuntime) -> Result<(), Memory> {
+fn nothing_is_read_after_the_limit(rt: HostRuntime) -> Result<(), Memory> {
     let large = Large {
         pieces: &[(" ", 16_777_218)],
         failing: &[259],

@@ -1,4 +1,5 @@
-//! Worked games and failing inputs and outputs, as tests over `gambit_tools::run`. Nothing here is called by the program.
+//! Worked games and failing inputs and outputs, as tests over `gambit_tools::run`. Nothing here is
+//! called by the program.
 #![tactic(auto)]
 
 #[cfg(test)]

@@ -78,7 +78,7 @@ efg fault at 17: players | EFG 2 R "" { "A" 1 } t "" 0"#;
     Ok(())
 }
 
-/// Tokens that end inside the nodes, and tokens behind the last node.
+/// Tokens that end inside the nodes, and tokens after the last node.
 #[test]
 fn ends_of_trees_are_refused(rt: HostRuntime) -> Result<(), Memory> {
     let one = r#"efg fault at 37: unfinished | p "" 1 1 { "x" } 0
@@ -359,7 +359,7 @@ fn limits_on_depth_are_kept(rt: HostRuntime) -> Result<(), Memory> {
 }
 
 /// Adds a chain of this many sets of one node, whose first action ends the game and whose second goes on. The sets'
-/// numbers begin behind `first`.
+/// numbers begin after `first`.
 fn push_chain(alloc: Global, input: &mut String, first: u32, sets: u32) -> Result<(), Memory> {
     for set in 0..sets {
         let number = first.saturating_add(set).saturating_add(1);

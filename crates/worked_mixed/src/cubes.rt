@@ -8,7 +8,7 @@ use crate::stop::Stop;
 use basis_enum::{EnumStop, enumerate};
 use frac128::Frac;
 use game_core::{Gate, OpenGate, TooLarge, What};
-use lex_tableau::{Steps, System, numbered};
+use lex_tableau::{PivotCount, System, numbered};
 use std::alloc::Global;
 use std::marker::{Brand, Sync};
 use std::sync::ledger::{Blank, Ledger};
@@ -66,8 +66,8 @@ fn counts<R: Threads + Sync, G: Gate, L: Ledger>(
     requires blank { (L.parts ≡ blank.parts) × (L.name ≡ blank.name) × (0 < blank.parts) }
 {
     let system = cube(alloc, size)?;
-    let mut steps = Steps::<L>::new(blank);
-    match enumerate(rt, alloc, &system, workers, gate, &mut steps) {
+    let mut pivots = PivotCount::<L>::new(blank);
+    match enumerate(rt, alloc, &system, workers, gate, &mut pivots) {
         Ok(vertices) => Ok(Ok((vertices.bases, vertices.list.len()))),
         Err(EnumStop::TooLarge(limit)) => Ok(Err(limit)),
         Err(_) => Err(Stop::Unfit),

@@ -1,5 +1,5 @@
-//! Extreme equilibria of small games of two players, found a second time by their definition, beside those that the tool lists;
-//! its refusals and limits; and the limits of bases and pairs, as tests. Nothing here is called by the program.
+//! Extreme equilibria of small games by their definition, beside those that the tool lists, its
+//! refusals and limits, and those of bases and pairs, as tests. The program calls nothing here.
 #![tactic(auto)]
 
 #[cfg(test)]

@@ -1,7 +1,7 @@
 use game_text::{Spanned, TextFault, TextKind, TextStop, Token, Tokens, read_tokens};
 use std::alloc::{AllocError, Global};
 
-// Each token with its span: a text in quotes, a word behind `=`, a number as a fraction.
+// Each token with its span: a text in quotes, a word after `=`, a number as a fraction.
 fn shown(alloc: Global, tokens: &Tokens) -> Result<Vec<u8>, AllocError> {
     let mut text = Vec::new(alloc);
     for spanned in tokens.list() {

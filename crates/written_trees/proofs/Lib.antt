@@ -1,4 +1,3 @@
-pub mod BegunTrees
 pub mod Built
 pub mod Chances
 pub mod Depths
@@ -10,6 +9,7 @@ pub mod Lists
 pub mod Members
 pub mod Numbered
 pub mod OutcomeUses
+pub mod PartialTrees
 pub mod Places
 pub mod Rebuilt
 pub mod Said

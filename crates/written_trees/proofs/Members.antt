@@ -6,7 +6,7 @@ use Rattle.std.proofs.lemmas.Option.{slice_get_within}
 use Rattle.lists.proofs.Elements.{test_in_front}
 use Rattle.game_core.specs.declared.tree.Node.{Node}
 use Rattle.game_core.specs.Tree.{IsWithin, is_set, members_from}
-use Rattle.written_trees.specs.Building.{BegunSet}
+use Rattle.written_trees.specs.Building.{PartialSet}
 use Rattle.written_trees.proofs.Lists.{slice_get-push_cases, slice_get-set_cases}
 
 -- each node names one of so many sets, if it names one
@@ -43,34 +43,34 @@ no_members k s (node ∷ nodes) h =
     rw (past s node.set (All-head P node nodes h)) (no_members (suc k) s nodes (All-tail P node nodes h))
 
 -- the sets have the nodes that name them, and some
-pub record HasMembers (nodes : List Node) (s : ℕ) (set : BegunSet) : Type 0 where
+pub record HasMembers (nodes : List Node) (s : ℕ) (set : PartialSet) : Type 0 where
   pub are : set.members ≡ members_from 0 s nodes
   pub some : 0 < length set.members
 
 -- each set does
-abbrev pub HaveMembers : List Node → List BegunSet → Type 0
-HaveMembers nodes sets = (s : ℕ) (set : BegunSet) → slice_get sets s ≡ Some set → HasMembers nodes s set
+abbrev pub HaveMembers : List Node → List PartialSet → Type 0
+HaveMembers nodes sets = (s : ℕ) (set : PartialSet) → slice_get sets s ≡ Some set → HasMembers nodes s set
 
 -- a node that does not name a set
-unnamed : (nodes : List Node) (node : Node) (s : ℕ) (set : BegunSet) → is_set s node.set ≡ false → HasMembers nodes s set → HasMembers (nodes ++ node ∷ []) s set
+unnamed : (nodes : List Node) (node : Node) (s : ℕ) (set : PartialSet) → is_set s node.set ≡ false → HasMembers nodes s set → HasMembers (nodes ++ node ∷ []) s set
 unnamed nodes node s set e h = record {
   are = h.are ∙ sym (append-nil (members_from 0 s nodes)) ∙ sym (members_from-push 0 s nodes node ∙ rw e refl);
   some = h.some;
 }
 
 -- a node that names a set comes last among its members
-named : (nodes : List Node) (node : Node) (s : ℕ) (set : BegunSet) → is_set s node.set ≡ true → set.members ≡ members_from 0 s nodes ++ length nodes ∷ [] → HasMembers (nodes ++ node ∷ []) s set
+named : (nodes : List Node) (node : Node) (s : ℕ) (set : PartialSet) → is_set s node.set ≡ true → set.members ≡ members_from 0 s nodes ++ length nodes ∷ [] → HasMembers (nodes ++ node ∷ []) s set
 named nodes node s set e h = record {
   are = h ∙ sym (members_from-push 0 s nodes node ∙ rw e (ap (λ k. members_from 0 s nodes ++ k ∷ []) (omega arith)));
   some = rw (h, length-append (members_from 0 s nodes) (length nodes ∷ [])) (omega arith);
 }
 
 -- a node that names no set
-pub have_members-none : (nodes : List Node) (node : Node) (sets : List BegunSet) → node.set ≡ None → HaveMembers nodes sets → HaveMembers (nodes ++ node ∷ []) sets
+pub have_members-none : (nodes : List Node) (node : Node) (sets : List PartialSet) → node.set ≡ None → HaveMembers nodes sets → HaveMembers (nodes ++ node ∷ []) sets
 have_members-none nodes node sets none h s set e = unnamed nodes node s set (rw none refl) (h s set e)
 
 -- a node that names a new set
-pub have_members-new : (nodes : List Node) (node : Node) (sets : List BegunSet) (new : BegunSet) → node.set ≡ Some (length sets) → new.members ≡ length nodes ∷ [] → NameSets (length sets) nodes → HaveMembers nodes sets → HaveMembers (nodes ++ node ∷ []) (sets ++ new ∷ [])
+pub have_members-new : (nodes : List Node) (node : Node) (sets : List PartialSet) (new : PartialSet) → node.set ≡ Some (length sets) → new.members ≡ length nodes ∷ [] → NameSets (length sets) nodes → HaveMembers nodes sets → HaveMembers (nodes ++ node ∷ []) (sets ++ new ∷ [])
 have_members-new nodes node sets new is one within h s set e = elim (slice_get-push_cases sets new s set e) [
   | inl old ↦
       let less = slice_get_within sets s set old in
@@ -81,7 +81,7 @@ have_members-new nodes node sets new is one within h s set e = elim (slice_get-p
 ]
 
 -- a node that names a set again
-pub have_members-again : (nodes : List Node) (node : Node) (sets : List BegunSet) (p : ℕ) (old new : BegunSet) → node.set ≡ Some p → slice_get sets p ≡ Some old → new.members ≡ old.members ++ length nodes ∷ [] → HaveMembers nodes sets → HaveMembers (nodes ++ node ∷ []) (slice_set sets p new)
+pub have_members-again : (nodes : List Node) (node : Node) (sets : List PartialSet) (p : ℕ) (old new : PartialSet) → node.set ≡ Some p → slice_get sets p ≡ Some old → new.members ≡ old.members ++ length nodes ∷ [] → HaveMembers nodes sets → HaveMembers (nodes ++ node ∷ []) (slice_set sets p new)
 have_members-again nodes node sets p old new is there one h s at e = elim (slice_get-set_cases sets p new s at e) [
   | inl other ↦ unnamed nodes node s at (rw is (is_set-other s p other.0)) (h s at other.1)
   | inr here ↦

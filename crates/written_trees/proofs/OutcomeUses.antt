@@ -9,12 +9,12 @@ use Rattle.lists.specs.Options.{◌>>=◌}
 use Rattle.rational.specs.Rational.{ℚ}
 use Rattle.written_trees.specs.Written.{OutcomeUse}
 use Rattle.written_trees.specs.Described.{uses_of_outcome, first_some, or_empty, AgreeOnPayoffs}
-use Rattle.written_trees.specs.Building.{BegunOutcome, outcome_place, repeats_payoffs, new_outcome, used_outcome, with_outcome_use, use_outcome}
+use Rattle.written_trees.specs.Building.{PartialOutcome, outcome_place, repeats_payoffs, new_outcome, used_outcome, with_outcome_use, use_outcome}
 use Rattle.written_trees.proofs.Chances.{repeats_payoffs-Decides}
 use Rattle.written_trees.proofs.InsertedKeys.{position-map}
 use Rattle.written_trees.proofs.FirstUses as first_uses
 use Rattle.written_trees.proofs.Said.{first_some-push, All-front, tested_so, tested_if}
-use Rattle.written_trees.proofs.UseSteps.{begun_outcome, outcomes_begun, PayoffsAgree, OutcomeStep}
+use Rattle.written_trees.proofs.UseSteps.{partial_outcome, outcomes_so_far, PayoffsAgree, OutcomeStep}
 
 -- the number of a use's outcome
 abbrev label_of : OutcomeUse → ℕ
@@ -43,11 +43,11 @@ AgreeOnPayoffs-before (first ∷ later) x h = (AgreeOnPayoffs-front first x late
 
 -- ---- the outcome
 -- a first use begins the outcome
-new_outcome_is : (k : ℕ) (u : OutcomeUse) (payoffs : List ℚ) → u.payoffs ≡ Some payoffs → new_outcome u payoffs ≡ begun_outcome u.label ((k, u) ∷ [])
+new_outcome_is : (k : ℕ) (u : OutcomeUse) (payoffs : List ℚ) → u.payoffs ≡ Some payoffs → new_outcome u payoffs ≡ partial_outcome u.label ((k, u) ∷ [])
 new_outcome_is k u payoffs e = λ i. record { label = u.label; name = sym (first_some-push [] u.name) i; payoffs = sym (ap or_empty e) i }
 
 -- a later use goes on with it
-used_outcome_is : (label : ℕ) (first : ℕ × OutcomeUse) (later : List (ℕ × OutcomeUse)) (k : ℕ) (u : OutcomeUse) → used_outcome u (begun_outcome label (first ∷ later)) ≡ begun_outcome label (first ∷ (later ++ (k, u) ∷ []))
+used_outcome_is : (label : ℕ) (first : ℕ × OutcomeUse) (later : List (ℕ × OutcomeUse)) (k : ℕ) (u : OutcomeUse) → used_outcome u (partial_outcome label (first ∷ later)) ≡ partial_outcome label (first ∷ (later ++ (k, u) ∷ []))
 used_outcome_is label first later k u =
     λ i. record {
       label = label;
@@ -58,66 +58,66 @@ used_outcome_is label first later k u =
 -- ---- one more use
 module _ (uses : List (ℕ × OutcomeUse)) (k : ℕ) (u : OutcomeUse) where
   -- the outcome's place
-  place_is : outcome_place (outcomes_begun uses) u.label ≡ position_or_len (nat_eq u.label) (outcomes_of uses)
-  place_is = position-map (λ outcome. nat_eq u.label outcome.label) (λ label. begun_outcome label (uses_of_outcome label uses)) (outcomes_of uses)
+  place_is : outcome_place (outcomes_so_far uses) u.label ≡ position_or_len (nat_eq u.label) (outcomes_of uses)
+  place_is = position-map (λ outcome. nat_eq u.label outcome.label) (λ label. partial_outcome label (uses_of_outcome label uses)) (outcomes_of uses)
 
   -- the first use of its outcome
   module _ (new : uses_of_outcome u.label uses ≡ []) where
     -- nothing stands at its place
-    new_use : use_outcome (outcomes_begun uses) u ≡ with_outcome_use (outcomes_begun uses) u None
-    new_use = ap (with_outcome_use (outcomes_begun uses) u) (ap (slice_get (outcomes_begun uses)) place_is ∙ first_uses.new_place nat_eq label_of Decides-eqb begun_outcome uses k u new)
+    new_use : use_outcome (outcomes_so_far uses) u ≡ with_outcome_use (outcomes_so_far uses) u None
+    new_use = ap (with_outcome_use (outcomes_so_far uses) u) (ap (slice_get (outcomes_so_far uses)) place_is ∙ first_uses.new_place nat_eq label_of Decides-eqb partial_outcome uses k u new)
 
     -- the outcomes with the new one
-    new_outcomes : (payoffs : List ℚ) → u.payoffs ≡ Some payoffs → outcomes_begun uses ++ new_outcome u payoffs ∷ [] ≡ outcomes_begun (uses ++ (k, u) ∷ [])
-    new_outcomes payoffs e = ap (λ outcome. outcomes_begun uses ++ outcome ∷ []) (new_outcome_is k u payoffs e) ∙ sym (first_uses.new_numbered nat_eq label_of Decides-eqb begun_outcome uses k u new)
+    new_outcomes : (payoffs : List ℚ) → u.payoffs ≡ Some payoffs → outcomes_so_far uses ++ new_outcome u payoffs ∷ [] ≡ outcomes_so_far (uses ++ (k, u) ∷ [])
+    new_outcomes payoffs e = ap (λ outcome. outcomes_so_far uses ++ outcome ∷ []) (new_outcome_is k u payoffs e) ∙ sym (first_uses.new_numbered nat_eq label_of Decides-eqb partial_outcome uses k u new)
 
-    -- where it is begun, it agrees
-    new_so : (outcomes : List BegunOutcome) → with_outcome_use (outcomes_begun uses) u None ≡ Some outcomes → AgreeOnPayoffs ((k, u) ∷ []) × (outcomes ≡ outcomes_begun (uses ++ (k, u) ∷ []))
+    -- where it is partial, it agrees
+    new_so : (outcomes : List PartialOutcome) → with_outcome_use (outcomes_so_far uses) u None ≡ Some outcomes → AgreeOnPayoffs ((k, u) ∷ []) × (outcomes ≡ outcomes_so_far (uses ++ (k, u) ∷ []))
     new_so outcomes h = by u.payoffs refl h
       where
-        by : (list : Option (List ℚ)) → u.payoffs ≡ list → (list >>= λ payoffs. Some (outcomes_begun uses ++ new_outcome u payoffs ∷ [])) ≡ Some outcomes → AgreeOnPayoffs ((k, u) ∷ []) × (outcomes ≡ outcomes_begun (uses ++ (k, u) ∷ []))
+        by : (list : Option (List ℚ)) → u.payoffs ≡ list → (list >>= λ payoffs. Some (outcomes_so_far uses ++ new_outcome u payoffs ∷ [])) ≡ Some outcomes → AgreeOnPayoffs ((k, u) ∷ []) × (outcomes ≡ outcomes_so_far (uses ++ (k, u) ∷ []))
         by None e h = absurd (cc)
         by (Some payoffs) e h =
-            let is : outcomes ≡ outcomes_begun uses ++ new_outcome u payoffs ∷ [] = cc in
+            let is : outcomes ≡ outcomes_so_far uses ++ new_outcome u payoffs ∷ [] = cc in
             ((payoffs, e, All-nil (RepeatsPayoffs payoffs)), is ∙ new_outcomes payoffs e)
 
-    -- where it agrees, it is begun
-    new_if : AgreeOnPayoffs ((k, u) ∷ []) → with_outcome_use (outcomes_begun uses) u None ≡ Some (outcomes_begun (uses ++ (k, u) ∷ []))
-    new_if h = ap (λ list. list >>= λ payoffs. Some (outcomes_begun uses ++ new_outcome u payoffs ∷ [])) h.1 ∙ ap Some (new_outcomes h.0 h.1)
+    -- where it agrees, it is partial
+    new_if : AgreeOnPayoffs ((k, u) ∷ []) → with_outcome_use (outcomes_so_far uses) u None ≡ Some (outcomes_so_far (uses ++ (k, u) ∷ []))
+    new_if h = ap (λ list. list >>= λ payoffs. Some (outcomes_so_far uses ++ new_outcome u payoffs ∷ [])) h.1 ∙ ap Some (new_outcomes h.0 h.1)
 
   -- a later use of its outcome
   module _ (first : ℕ × OutcomeUse) (later : List (ℕ × OutcomeUse)) (known : uses_of_outcome u.label uses ≡ first ∷ later) where
     -- the outcomes with the one that goes on
-    known_outcomes : slice_set (outcomes_begun uses) (outcome_place (outcomes_begun uses) u.label) (used_outcome u (begun_outcome u.label (first ∷ later))) ≡ outcomes_begun (uses ++ (k, u) ∷ [])
-    known_outcomes = ap₂ (slice_set (outcomes_begun uses)) place_is (used_outcome_is u.label first later k u) ∙ sym (first_uses.known_numbered nat_eq label_of Decides-eqb begun_outcome uses k u first later known)
+    known_outcomes : slice_set (outcomes_so_far uses) (outcome_place (outcomes_so_far uses) u.label) (used_outcome u (partial_outcome u.label (first ∷ later))) ≡ outcomes_so_far (uses ++ (k, u) ∷ [])
+    known_outcomes = ap₂ (slice_set (outcomes_so_far uses)) place_is (used_outcome_is u.label first later k u) ∙ sym (first_uses.known_numbered nat_eq label_of Decides-eqb partial_outcome uses k u first later known)
 
     -- it goes on where the payoffs repeat the first
-    known_use : use_outcome (outcomes_begun uses) u ≡ (if repeats_payoffs (or_empty first.1.payoffs) u.payoffs then Some (outcomes_begun (uses ++ (k, u) ∷ [])) else None)
+    known_use : use_outcome (outcomes_so_far uses) u ≡ (if repeats_payoffs (or_empty first.1.payoffs) u.payoffs then Some (outcomes_so_far (uses ++ (k, u) ∷ [])) else None)
     known_use =
-        ap (with_outcome_use (outcomes_begun uses) u) (ap (slice_get (outcomes_begun uses)) place_is ∙ first_uses.known_place nat_eq label_of Decides-eqb begun_outcome uses k u first later known)
+        ap (with_outcome_use (outcomes_so_far uses) u) (ap (slice_get (outcomes_so_far uses)) place_is ∙ first_uses.known_place nat_eq label_of Decides-eqb partial_outcome uses k u first later known)
         ∙ ap (λ outcomes. if repeats_payoffs (or_empty first.1.payoffs) u.payoffs then Some outcomes else None) known_outcomes
 
   -- a use that is taken agrees with the others, and gives the outcomes
-  used_so : (own : List (ℕ × OutcomeUse)) (outcomes : List BegunOutcome) → uses_of_outcome u.label uses ≡ own → AgreeOnPayoffs own → use_outcome (outcomes_begun uses) u ≡ Some outcomes → AgreeOnPayoffs (own ++ (k, u) ∷ []) × (outcomes ≡ outcomes_begun (uses ++ (k, u) ∷ []))
+  used_so : (own : List (ℕ × OutcomeUse)) (outcomes : List PartialOutcome) → uses_of_outcome u.label uses ≡ own → AgreeOnPayoffs own → use_outcome (outcomes_so_far uses) u ≡ Some outcomes → AgreeOnPayoffs (own ++ (k, u) ∷ []) × (outcomes ≡ outcomes_so_far (uses ++ (k, u) ∷ []))
   used_so [] outcomes is agree h = new_so is outcomes (sym (new_use is) ∙ h)
   used_so (first ∷ later) outcomes is agree h =
-      let t = tested_so (repeats_payoffs (or_empty first.1.payoffs) u.payoffs) (outcomes_begun (uses ++ (k, u) ∷ [])) outcomes (repeats_payoffs-Decides (or_empty first.1.payoffs) u.payoffs) (sym (known_use first later is) ∙ h) in
+      let t = tested_so (repeats_payoffs (or_empty first.1.payoffs) u.payoffs) (outcomes_so_far (uses ++ (k, u) ∷ [])) outcomes (repeats_payoffs-Decides (or_empty first.1.payoffs) u.payoffs) (sym (known_use first later is) ∙ h) in
       (AgreeOnPayoffs-push first (k, u) later agree t.0, t.1)
 
   -- a use that agrees is taken
-  used_if : (own : List (ℕ × OutcomeUse)) → uses_of_outcome u.label uses ≡ own → AgreeOnPayoffs (own ++ (k, u) ∷ []) → use_outcome (outcomes_begun uses) u ≡ Some (outcomes_begun (uses ++ (k, u) ∷ []))
+  used_if : (own : List (ℕ × OutcomeUse)) → uses_of_outcome u.label uses ≡ own → AgreeOnPayoffs (own ++ (k, u) ∷ []) → use_outcome (outcomes_so_far uses) u ≡ Some (outcomes_so_far (uses ++ (k, u) ∷ []))
   used_if [] is agree = new_use is ∙ new_if is agree
   used_if (first ∷ later) is agree =
-      known_use first later is ∙ tested_if (repeats_payoffs (or_empty first.1.payoffs) u.payoffs) (outcomes_begun (uses ++ (k, u) ∷ [])) (repeats_payoffs-Decides (or_empty first.1.payoffs) u.payoffs) (AgreeOnPayoffs-front first (k, u) later agree).1
+      known_use first later is ∙ tested_if (repeats_payoffs (or_empty first.1.payoffs) u.payoffs) (outcomes_so_far (uses ++ (k, u) ∷ [])) (repeats_payoffs-Decides (or_empty first.1.payoffs) u.payoffs) (AgreeOnPayoffs-front first (k, u) later agree).1
 
   -- the same, of the uses of each outcome
-  built : (outcomes : List BegunOutcome) → PayoffsAgree uses → use_outcome (outcomes_begun uses) u ≡ Some outcomes → PayoffsAgree (uses ++ (k, u) ∷ []) × (outcomes ≡ outcomes_begun (uses ++ (k, u) ∷ []))
+  built : (outcomes : List PartialOutcome) → PayoffsAgree uses → use_outcome (outcomes_so_far uses) u ≡ Some outcomes → PayoffsAgree (uses ++ (k, u) ∷ []) × (outcomes ≡ outcomes_so_far (uses ++ (k, u) ∷ []))
   built outcomes agree h =
       let t = used_so (uses_of_outcome u.label uses) outcomes refl (agree u.label) h in
       (first_uses.holds_after nat_eq label_of Decides-eqb uses k u AgreeOnPayoffs agree t.0, t.1)
 
   -- and back
-  agreed : PayoffsAgree (uses ++ (k, u) ∷ []) → PayoffsAgree uses × (use_outcome (outcomes_begun uses) u ≡ Some (outcomes_begun (uses ++ (k, u) ∷ [])))
+  agreed : PayoffsAgree (uses ++ (k, u) ∷ []) → PayoffsAgree uses × (use_outcome (outcomes_so_far uses) u ≡ Some (outcomes_so_far (uses ++ (k, u) ∷ [])))
   agreed agree =
       (first_uses.holds_before nat_eq label_of Decides-eqb uses k u AgreeOnPayoffs agree (AgreeOnPayoffs-before (uses_of_outcome u.label uses) (k, u)), used_if (uses_of_outcome u.label uses) refl (subst AgreeOnPayoffs (first_uses.uses_of-own nat_eq label_of Decides-eqb uses k u) (agree u.label)))
 

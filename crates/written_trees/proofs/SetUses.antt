@@ -9,12 +9,12 @@ use Rattle.lists.specs.Options.{◌>>=◌}
 use Rattle.game_core.specs.declared.tree.Action.{Action}
 use Rattle.written_trees.specs.Written.{SetUse}
 use Rattle.written_trees.specs.Described.{SetKey, key_of, same_owner, same_set, uses_of_set, first_some, or_empty, RepeatsActions, AgreeOnActions}
-use Rattle.written_trees.specs.Building.{BegunSet, key_of_begun, set_place, may_be_first, repeats_actions, new_set, used_set, with_use, use_set}
+use Rattle.written_trees.specs.Building.{PartialSet, key_of_partial, set_place, may_be_first, repeats_actions, new_set, used_set, with_use, use_set}
 use Rattle.written_trees.proofs.Chances.{may_be_first-Decides, repeats_actions-Decides}
 use Rattle.written_trees.proofs.InsertedKeys.{position-map}
 use Rattle.written_trees.proofs.FirstUses as first_uses
 use Rattle.written_trees.proofs.Said.{first_some-push, All-front, tested_so, tested_if}
-use Rattle.written_trees.proofs.UseSteps.{begun_set, sets_begun, AllAgree, SetStep}
+use Rattle.written_trees.proofs.UseSteps.{partial_set, sets_so_far, AllAgree, SetStep}
 
 -- ---- keys
 -- the test of owners says whether they are one
@@ -48,7 +48,7 @@ AgreeOnActions-before (first ∷ later) x h = (AgreeOnActions-front first x late
 
 -- ---- the set
 -- a first use begins the set
-new_set_is : (k : ℕ) (u : SetUse) (actions : List Action) → u.actions ≡ Some actions → new_set k u actions ≡ begun_set (key_of u) ((k, u) ∷ [])
+new_set_is : (k : ℕ) (u : SetUse) (actions : List Action) → u.actions ≡ Some actions → new_set k u actions ≡ partial_set (key_of u) ((k, u) ∷ [])
 new_set_is k u actions e =
     λ i. record {
       owner = u.owner;
@@ -59,7 +59,7 @@ new_set_is k u actions e =
     }
 
 -- a later use goes on with it
-used_set_is : (key : SetKey) (first : ℕ × SetUse) (later : List (ℕ × SetUse)) (k : ℕ) (u : SetUse) → used_set k u (begun_set key (first ∷ later)) ≡ begun_set key (first ∷ (later ++ (k, u) ∷ []))
+used_set_is : (key : SetKey) (first : ℕ × SetUse) (later : List (ℕ × SetUse)) (k : ℕ) (u : SetUse) → used_set k u (partial_set key (first ∷ later)) ≡ partial_set key (first ∷ (later ++ (k, u) ∷ []))
 used_set_is key first later k u =
     λ i. record {
       owner = key.0;
@@ -72,69 +72,69 @@ used_set_is key first later k u =
 -- ---- one more use
 module _ (uses : List (ℕ × SetUse)) (k : ℕ) (u : SetUse) where
   -- the set's place
-  place_is : set_place (sets_begun uses) (key_of u) ≡ position_or_len (same_set (key_of u)) (sets_of uses)
-  place_is = position-map (λ set. same_set (key_of u) (key_of_begun set)) (λ key. begun_set key (uses_of_set key uses)) (sets_of uses)
+  place_is : set_place (sets_so_far uses) (key_of u) ≡ position_or_len (same_set (key_of u)) (sets_of uses)
+  place_is = position-map (λ set. same_set (key_of u) (key_of_partial set)) (λ key. partial_set key (uses_of_set key uses)) (sets_of uses)
 
   -- the first use of its set
   module _ (new : uses_of_set (key_of u) uses ≡ []) where
     -- nothing stands at its place
-    new_use : use_set k (sets_begun uses) u ≡ with_use k (sets_begun uses) u None
-    new_use = ap (with_use k (sets_begun uses) u) (ap (slice_get (sets_begun uses)) place_is ∙ first_uses.new_place same_set key_of same_set-Decides begun_set uses k u new)
+    new_use : use_set k (sets_so_far uses) u ≡ with_use k (sets_so_far uses) u None
+    new_use = ap (with_use k (sets_so_far uses) u) (ap (slice_get (sets_so_far uses)) place_is ∙ first_uses.new_place same_set key_of same_set-Decides partial_set uses k u new)
 
     -- the sets with the new one
-    new_sets : (actions : List Action) → u.actions ≡ Some actions → sets_begun uses ++ new_set k u actions ∷ [] ≡ sets_begun (uses ++ (k, u) ∷ [])
-    new_sets actions e = ap (λ set. sets_begun uses ++ set ∷ []) (new_set_is k u actions e) ∙ sym (first_uses.new_numbered same_set key_of same_set-Decides begun_set uses k u new)
+    new_sets : (actions : List Action) → u.actions ≡ Some actions → sets_so_far uses ++ new_set k u actions ∷ [] ≡ sets_so_far (uses ++ (k, u) ∷ [])
+    new_sets actions e = ap (λ set. sets_so_far uses ++ set ∷ []) (new_set_is k u actions e) ∙ sym (first_uses.new_numbered same_set key_of same_set-Decides partial_set uses k u new)
 
-    -- where it is begun, it agrees
-    new_so : (sets : List BegunSet) → with_use k (sets_begun uses) u None ≡ Some sets → AgreeOnActions ((k, u) ∷ []) × (sets ≡ sets_begun (uses ++ (k, u) ∷ []))
+    -- where it is partial, it agrees
+    new_so : (sets : List PartialSet) → with_use k (sets_so_far uses) u None ≡ Some sets → AgreeOnActions ((k, u) ∷ []) × (sets ≡ sets_so_far (uses ++ (k, u) ∷ []))
     new_so sets h = by u.actions refl h
       where
-        by : (list : Option (List Action)) → u.actions ≡ list → (list >>= λ actions. if may_be_first u.owner actions then Some (sets_begun uses ++ new_set k u actions ∷ []) else None) ≡ Some sets → AgreeOnActions ((k, u) ∷ []) × (sets ≡ sets_begun (uses ++ (k, u) ∷ []))
+        by : (list : Option (List Action)) → u.actions ≡ list → (list >>= λ actions. if may_be_first u.owner actions then Some (sets_so_far uses ++ new_set k u actions ∷ []) else None) ≡ Some sets → AgreeOnActions ((k, u) ∷ []) × (sets ≡ sets_so_far (uses ++ (k, u) ∷ []))
         by None e h = absurd (cc)
         by (Some actions) e h =
-            let t = tested_so (may_be_first u.owner actions) (sets_begun uses ++ new_set k u actions ∷ []) sets (may_be_first-Decides u.owner actions) h in
+            let t = tested_so (may_be_first u.owner actions) (sets_so_far uses ++ new_set k u actions ∷ []) sets (may_be_first-Decides u.owner actions) h in
             ((actions, e, t.0, All-nil (RepeatsActions actions)), t.1 ∙ new_sets actions e)
 
-    -- where it agrees, it is begun
-    new_if : AgreeOnActions ((k, u) ∷ []) → with_use k (sets_begun uses) u None ≡ Some (sets_begun (uses ++ (k, u) ∷ []))
+    -- where it agrees, it is partial
+    new_if : AgreeOnActions ((k, u) ∷ []) → with_use k (sets_so_far uses) u None ≡ Some (sets_so_far (uses ++ (k, u) ∷ []))
     new_if h =
-        ap (λ list. list >>= λ actions. if may_be_first u.owner actions then Some (sets_begun uses ++ new_set k u actions ∷ []) else None) h.1
-        ∙ tested_if (may_be_first u.owner h.0) (sets_begun uses ++ new_set k u h.0 ∷ []) (may_be_first-Decides u.owner h.0) h.2
+        ap (λ list. list >>= λ actions. if may_be_first u.owner actions then Some (sets_so_far uses ++ new_set k u actions ∷ []) else None) h.1
+        ∙ tested_if (may_be_first u.owner h.0) (sets_so_far uses ++ new_set k u h.0 ∷ []) (may_be_first-Decides u.owner h.0) h.2
         ∙ ap Some (new_sets h.0 h.1)
 
   -- a later use of its set
   module _ (first : ℕ × SetUse) (later : List (ℕ × SetUse)) (known : uses_of_set (key_of u) uses ≡ first ∷ later) where
     -- the sets with the one that goes on
-    known_sets : slice_set (sets_begun uses) (set_place (sets_begun uses) (key_of u)) (used_set k u (begun_set (key_of u) (first ∷ later))) ≡ sets_begun (uses ++ (k, u) ∷ [])
-    known_sets = ap₂ (slice_set (sets_begun uses)) place_is (used_set_is (key_of u) first later k u) ∙ sym (first_uses.known_numbered same_set key_of same_set-Decides begun_set uses k u first later known)
+    known_sets : slice_set (sets_so_far uses) (set_place (sets_so_far uses) (key_of u)) (used_set k u (partial_set (key_of u) (first ∷ later))) ≡ sets_so_far (uses ++ (k, u) ∷ [])
+    known_sets = ap₂ (slice_set (sets_so_far uses)) place_is (used_set_is (key_of u) first later k u) ∙ sym (first_uses.known_numbered same_set key_of same_set-Decides partial_set uses k u first later known)
 
     -- it goes on where the list repeats the first
-    known_use : use_set k (sets_begun uses) u ≡ (if repeats_actions (or_empty first.1.actions) u.actions then Some (sets_begun (uses ++ (k, u) ∷ [])) else None)
+    known_use : use_set k (sets_so_far uses) u ≡ (if repeats_actions (or_empty first.1.actions) u.actions then Some (sets_so_far (uses ++ (k, u) ∷ [])) else None)
     known_use =
-        ap (with_use k (sets_begun uses) u) (ap (slice_get (sets_begun uses)) place_is ∙ first_uses.known_place same_set key_of same_set-Decides begun_set uses k u first later known)
+        ap (with_use k (sets_so_far uses) u) (ap (slice_get (sets_so_far uses)) place_is ∙ first_uses.known_place same_set key_of same_set-Decides partial_set uses k u first later known)
         ∙ ap (λ sets. if repeats_actions (or_empty first.1.actions) u.actions then Some sets else None) known_sets
 
   -- a use that is taken agrees with the others, and gives the sets
-  used_so : (own : List (ℕ × SetUse)) (sets : List BegunSet) → uses_of_set (key_of u) uses ≡ own → AgreeOnActions own → use_set k (sets_begun uses) u ≡ Some sets → AgreeOnActions (own ++ (k, u) ∷ []) × (sets ≡ sets_begun (uses ++ (k, u) ∷ []))
+  used_so : (own : List (ℕ × SetUse)) (sets : List PartialSet) → uses_of_set (key_of u) uses ≡ own → AgreeOnActions own → use_set k (sets_so_far uses) u ≡ Some sets → AgreeOnActions (own ++ (k, u) ∷ []) × (sets ≡ sets_so_far (uses ++ (k, u) ∷ []))
   used_so [] sets is agree h = new_so is sets (sym (new_use is) ∙ h)
   used_so (first ∷ later) sets is agree h =
-      let t = tested_so (repeats_actions (or_empty first.1.actions) u.actions) (sets_begun (uses ++ (k, u) ∷ [])) sets (repeats_actions-Decides (or_empty first.1.actions) u.actions) (sym (known_use first later is) ∙ h) in
+      let t = tested_so (repeats_actions (or_empty first.1.actions) u.actions) (sets_so_far (uses ++ (k, u) ∷ [])) sets (repeats_actions-Decides (or_empty first.1.actions) u.actions) (sym (known_use first later is) ∙ h) in
       (AgreeOnActions-push first (k, u) later agree t.0, t.1)
 
   -- a use that agrees is taken
-  used_if : (own : List (ℕ × SetUse)) → uses_of_set (key_of u) uses ≡ own → AgreeOnActions (own ++ (k, u) ∷ []) → use_set k (sets_begun uses) u ≡ Some (sets_begun (uses ++ (k, u) ∷ []))
+  used_if : (own : List (ℕ × SetUse)) → uses_of_set (key_of u) uses ≡ own → AgreeOnActions (own ++ (k, u) ∷ []) → use_set k (sets_so_far uses) u ≡ Some (sets_so_far (uses ++ (k, u) ∷ []))
   used_if [] is agree = new_use is ∙ new_if is agree
   used_if (first ∷ later) is agree =
-      known_use first later is ∙ tested_if (repeats_actions (or_empty first.1.actions) u.actions) (sets_begun (uses ++ (k, u) ∷ [])) (repeats_actions-Decides (or_empty first.1.actions) u.actions) (AgreeOnActions-front first (k, u) later agree).1
+      known_use first later is ∙ tested_if (repeats_actions (or_empty first.1.actions) u.actions) (sets_so_far (uses ++ (k, u) ∷ [])) (repeats_actions-Decides (or_empty first.1.actions) u.actions) (AgreeOnActions-front first (k, u) later agree).1
 
   -- the same, of the uses of each set
-  built : (sets : List BegunSet) → AllAgree uses → use_set k (sets_begun uses) u ≡ Some sets → AllAgree (uses ++ (k, u) ∷ []) × (sets ≡ sets_begun (uses ++ (k, u) ∷ []))
+  built : (sets : List PartialSet) → AllAgree uses → use_set k (sets_so_far uses) u ≡ Some sets → AllAgree (uses ++ (k, u) ∷ []) × (sets ≡ sets_so_far (uses ++ (k, u) ∷ []))
   built sets agree h =
       let t = used_so (uses_of_set (key_of u) uses) sets refl (agree (key_of u)) h in
       (first_uses.holds_after same_set key_of same_set-Decides uses k u AgreeOnActions agree t.0, t.1)
 
   -- and back
-  agreed : AllAgree (uses ++ (k, u) ∷ []) → AllAgree uses × (use_set k (sets_begun uses) u ≡ Some (sets_begun (uses ++ (k, u) ∷ [])))
+  agreed : AllAgree (uses ++ (k, u) ∷ []) → AllAgree uses × (use_set k (sets_so_far uses) u ≡ Some (sets_so_far (uses ++ (k, u) ∷ [])))
   agreed agree =
       (first_uses.holds_before same_set key_of same_set-Decides uses k u AgreeOnActions agree (AgreeOnActions-before (uses_of_set (key_of u) uses) (k, u)), used_if (uses_of_set (key_of u) uses) refl (subst AgreeOnActions (first_uses.uses_of-own same_set key_of same_set-Decides uses k u) (agree (key_of u))))
 

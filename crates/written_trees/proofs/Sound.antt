@@ -4,19 +4,19 @@ use Rattle.std.specs.List.{AllByRecursion}
 use Rattle.std.proofs.lemmas.Bool.Decides.{nat_tests}
 use Rattle.std.proofs.lemmas.List.Elements.{All-nil, All-weaker}
 use Rattle.game_core.specs.declared.tree.Node.{Node}
-use Rattle.game_core.specs.Tree.{IsWithin, Place, action_count, AreInPrefixOrder, most_nodes}
+use Rattle.game_core.specs.Tree.{IsWithin, OpenBranch, action_count, AreInPrefixOrder, most_nodes}
 use Rattle.written_trees.specs.Written.{WrittenNode}
-use Rattle.written_trees.specs.Building.{BegunSet, Branching, Begun, nothing_begun, free_places, take_place, add_places, begun_count, finished_set, add_nodes}
+use Rattle.written_trees.specs.Building.{PartialSet, Branching, PartialTree, root_alone, open_branches, take_branch, add_branches, partial_count, finished_set, add_nodes}
 use Rattle.written_trees.proofs.Depths.{HangsAt, AllLie, hangs_longer, lies_new, all_lie_more}
 use Rattle.written_trees.proofs.Members.{NameSets, HaveMembers}
-use Rattle.written_trees.proofs.Places.{free_places-take, free_places-add, order_more, order_same}
+use Rattle.written_trees.proofs.Places.{open_branches-take, open_branches-add, order_more, order_same}
 use Rattle.written_trees.proofs.SetGrowth.{used_number, GrowsTo, grows, same_count, count_is, name_sets_more}
 use Rattle.written_trees.proofs.Steps.{new_node, Step, grown, built_so}
 
 -- ---- branchings
--- a branching has a free place, and its node lies one edge above it
+-- a branching has an open branch, and its node lies one edge above it
 pub record IsBranching (nodes : List Node) (b : Branching) : Type 0 where
-  pub some_place : b.next < b.count
+  pub some_branch : b.next < b.count
   pub hangs : HangsAt nodes b.node b.depth
 
 -- each is one
@@ -27,112 +27,112 @@ AreBranchings nodes branchings = AllByRecursion (IsBranching nodes) branchings
 branchings_longer : (nodes : List Node) (node : Node) (branchings : List Branching) → AreBranchings nodes branchings → AreBranchings (nodes ++ node ∷ []) branchings
 branchings_longer nodes node [] h = tt
 branchings_longer nodes node (b ∷ rest) h =
-    (record { some_place = h.0.some_place; hangs = hangs_longer nodes (node ∷ []) b.node b.depth h.0.hangs }, branchings_longer nodes node rest h.1)
+    (record { some_branch = h.0.some_branch; hangs = hangs_longer nodes (node ∷ []) b.node b.depth h.0.hangs }, branchings_longer nodes node rest h.1)
 
 -- when the first place is taken
-branchings-take : (nodes : List Node) (b : Branching) (rest : List Branching) → AreBranchings nodes (b ∷ rest) → AreBranchings nodes (take_place b rest)
+branchings-take : (nodes : List Node) (b : Branching) (rest : List Branching) → AreBranchings nodes (b ∷ rest) → AreBranchings nodes (take_branch b rest)
 branchings-take nodes b rest h = go (nat_lt (suc b.next) b.count) refl
   where
     go : (v : Bool) → nat_lt (suc b.next) b.count ≡ v → AreBranchings nodes (cond v (record { node = b.node; next = suc b.next; count = b.count; depth = b.depth } ∷ rest) rest)
-    go true e = (record { some_place = grind (arith, nat_tests); hangs = h.0.hangs }, h.1)
+    go true e = (record { some_branch = grind (arith, nat_tests); hangs = h.0.hangs }, h.1)
     go false e = h.1
 
 -- when a node with places comes
-branchings-add : (nodes : List Node) (k count depth : ℕ) (rest : List Branching) → HangsAt nodes (Some k) depth → AreBranchings nodes rest → AreBranchings nodes (add_places k count depth rest)
+branchings-add : (nodes : List Node) (k count depth : ℕ) (rest : List Branching) → HangsAt nodes (Some k) depth → AreBranchings nodes rest → AreBranchings nodes (add_branches k count depth rest)
 branchings-add nodes k count depth rest hangs h = go (nat_lt 0 count) refl
   where
     go : (v : Bool) → nat_lt 0 count ≡ v → AreBranchings nodes (cond v (record { node = Some k; next = 0; count = count; depth = depth } ∷ rest) rest)
-    go true e = (record { some_place = grind (arith, nat_tests); hangs = hangs }, h)
+    go true e = (record { some_branch = grind (arith, nat_tests); hangs = hangs }, h)
     go false e = h
 
 -- a further node takes the first place, and brings its own
-branchings_more : (nodes : List Node) (node : Node) (b : Branching) (rest : List Branching) (count : ℕ) → node.parent ≡ b.node → AreBranchings nodes (b ∷ rest) → AreBranchings (nodes ++ node ∷ []) (add_places (length nodes) count (suc b.depth) (take_place b rest))
+branchings_more : (nodes : List Node) (node : Node) (b : Branching) (rest : List Branching) (count : ℕ) → node.parent ≡ b.node → AreBranchings nodes (b ∷ rest) → AreBranchings (nodes ++ node ∷ []) (add_branches (length nodes) count (suc b.depth) (take_branch b rest))
 branchings_more nodes node b rest count is h =
-    branchings-add (nodes ++ node ∷ []) (length nodes) count (suc b.depth) (take_place b rest) (b.depth, lies_new nodes node b.node b.depth is h.0.hangs, refl) (branchings-take (nodes ++ node ∷ []) b rest (branchings_longer nodes node (b ∷ rest) h))
+    branchings-add (nodes ++ node ∷ []) (length nodes) count (suc b.depth) (take_branch b rest) (b.depth, lies_new nodes node b.node b.depth is h.0.hangs, refl) (branchings-take (nodes ++ node ∷ []) b rest (branchings_longer nodes node (b ∷ rest) h))
 
 -- ---- prefix order
--- the root's place
-abbrev pub root_place : List Place
-root_place = (None, 0) ∷ []
+-- the root's branch
+abbrev pub root_branch : List OpenBranch
+root_branch = (None, 0) ∷ []
 
--- nodes are in prefix order, with sets that are begun
-abbrev pub AreInOrder : List BegunSet → List Node → List Place → Type 0
-AreInOrder sets nodes free = AreInPrefixOrder (map finished_set sets) 0 nodes root_place free
+-- nodes are in prefix order, with sets that are partial
+abbrev pub AreInOrder : List PartialSet → List Node → List OpenBranch → Type 0
+AreInOrder sets nodes free = AreInPrefixOrder (map finished_set sets) 0 nodes root_branch free
 
 -- a node keeps its actions when another makes more of the sets
-same_actions : (k : ℕ) (sets others : List BegunSet) (number : Option ℕ) → GrowsTo k sets number others → (node : Node) → IsWithin (length sets) node.set → action_count (map finished_set sets) node.set ≡ action_count (map finished_set others) node.set
+same_actions : (k : ℕ) (sets others : List PartialSet) (number : Option ℕ) → GrowsTo k sets number others → (node : Node) → IsWithin (length sets) node.set → action_count (map finished_set sets) node.set ≡ action_count (map finished_set others) node.set
 same_actions k sets others number g node h = count_is sets node.set ∙ same_count k sets others number g node.set h ∙ sym (count_is others node.set)
 
 -- so they stay in order
-pub order_stays : (k : ℕ) (sets others : List BegunSet) (number : Option ℕ) (nodes : List Node) (free : List Place) → GrowsTo k sets number others → NameSets (length sets) nodes → AreInOrder sets nodes free → AreInOrder others nodes free
+pub order_stays : (k : ℕ) (sets others : List PartialSet) (number : Option ℕ) (nodes : List Node) (free : List OpenBranch) → GrowsTo k sets number others → NameSets (length sets) nodes → AreInOrder sets nodes free → AreInOrder others nodes free
 order_stays k sets others number nodes free g within h =
     let P = λ (node : Node). action_count (map finished_set sets) node.set ≡ action_count (map finished_set others) node.set in
-    order_same (map finished_set sets) (map finished_set others) 0 nodes root_place free (All-weaker (λ node. IsWithin (length sets) node.set) P (same_actions k sets others number g) nodes within) h
+    order_same (map finished_set sets) (map finished_set others) 0 nodes root_branch free (All-weaker (λ node. IsWithin (length sets) node.set) P (same_actions k sets others number g) nodes within) h
 
 -- and were in order before
-pub order_stayed : (k : ℕ) (sets others : List BegunSet) (number : Option ℕ) (nodes : List Node) (free : List Place) → GrowsTo k sets number others → NameSets (length sets) nodes → AreInOrder others nodes free → AreInOrder sets nodes free
+pub order_stayed : (k : ℕ) (sets others : List PartialSet) (number : Option ℕ) (nodes : List Node) (free : List OpenBranch) → GrowsTo k sets number others → NameSets (length sets) nodes → AreInOrder others nodes free → AreInOrder sets nodes free
 order_stayed k sets others number nodes free g within h =
     let P = λ (node : Node). action_count (map finished_set others) node.set ≡ action_count (map finished_set sets) node.set in
-    order_same (map finished_set others) (map finished_set sets) 0 nodes root_place free (All-weaker (λ node. IsWithin (length sets) node.set) P (λ node w. sym (same_actions k sets others number g node w)) nodes within) h
+    order_same (map finished_set others) (map finished_set sets) 0 nodes root_branch free (All-weaker (λ node. IsWithin (length sets) node.set) P (λ node w. sym (same_actions k sets others number g node w)) nodes within) h
 
 -- the nodes with one more leave its actions' places free
-order_grows : (sets : List BegunSet) (nodes : List Node) (node : Node) (b : Branching) (rest : List Branching) → b.next < b.count → node.parent ≡ b.node → node.branch ≡ b.next → AreInOrder sets nodes (free_places (b ∷ rest))
-    → AreInOrder sets (nodes ++ node ∷ []) (free_places (add_places (length nodes) (begun_count sets node.set) (suc b.depth) (take_place b rest)))
+order_grows : (sets : List PartialSet) (nodes : List Node) (node : Node) (b : Branching) (rest : List Branching) → b.next < b.count → node.parent ≡ b.node → node.branch ≡ b.next → AreInOrder sets nodes (open_branches (b ∷ rest))
+    → AreInOrder sets (nodes ++ node ∷ []) (open_branches (add_branches (length nodes) (partial_count sets node.set) (suc b.depth) (take_branch b rest)))
 order_grows sets nodes node b rest lt parent branch h =
-    let before : AreInOrder sets nodes ((node.parent, node.branch) ∷ free_places (take_place b rest)) = rw (parent, branch, ← free_places-take b rest lt) h in
-    let after = order_more (map finished_set sets) 0 nodes node root_place (free_places (take_place b rest)) before in
+    let before : AreInOrder sets nodes ((node.parent, node.branch) ∷ open_branches (take_branch b rest)) = rw (parent, branch, ← open_branches-take b rest lt) h in
+    let after = order_more (map finished_set sets) 0 nodes node root_branch (open_branches (take_branch b rest)) before in
     let k : 0 + length nodes ≡ length nodes = omega arith in
-    rw free_places-add (rw (k, count_is sets node.set) at after)
+    rw open_branches-add (rw (k, count_is sets node.set) at after)
 
 -- ---- all of it
-pub record IsSound (begun : Begun) : Type 0 where
-  pub few_nodes : length begun.nodes ≤ most_nodes
-  pub few_sets : length begun.sets ≤ length begun.nodes
-  pub name_sets : NameSets (length begun.sets) begun.nodes
-  pub have_members : HaveMembers begun.nodes begun.sets
-  pub in_order : AreInOrder begun.sets begun.nodes (free_places begun.branchings)
-  pub are_branchings : AreBranchings begun.nodes begun.branchings
-  pub lie : AllLie begun.nodes
+pub record IsSound (partial : PartialTree) : Type 0 where
+  pub few_nodes : length partial.nodes ≤ most_nodes
+  pub few_sets : length partial.sets ≤ length partial.nodes
+  pub name_sets : NameSets (length partial.sets) partial.nodes
+  pub have_members : HaveMembers partial.nodes partial.sets
+  pub in_order : AreInOrder partial.sets partial.nodes (open_branches partial.branchings)
+  pub are_branchings : AreBranchings partial.nodes partial.branchings
+  pub lie : AllLie partial.nodes
 
--- nothing but the root's place
-sound-nothing : IsSound nothing_begun
+-- nothing but the root's branch
+sound-nothing : IsSound root_alone
 sound-nothing = record {
   few_nodes = omega arith;
   few_sets = omega arith;
   name_sets = All-nil (λ node. IsWithin 0 node.set);
   have_members = λ s set e. absurd (cc);
   in_order = refl;
-  are_branchings = (record { some_place = omega arith; hangs = refl }, tt);
+  are_branchings = (record { some_branch = omega arith; hangs = refl }, tt);
   lie = λ k lt. absurd (omega arith);
 }
 
 -- a further node
-sound-more : (begun : Begun) (one : WrittenNode) (s : Step begun one) → IsSound begun → IsSound (grown begun one s)
-sound-more begun one s h = record {
-  few_nodes = omega (arith, length-append begun.nodes (node ∷ []), s.more_nodes);
-  few_sets = omega (arith, length-append begun.nodes (node ∷ []), g.few, h.few_sets);
-  name_sets = name_sets_more k begun.sets s.sets begun.nodes node g h.name_sets;
-  have_members = g.have_members begun.nodes node refl refl h.name_sets h.have_members;
-  in_order = order_grows s.sets begun.nodes node s.first s.rest branchings.0.some_place refl refl (rw s.branchings_are at (order_stays k begun.sets s.sets number begun.nodes _ g h.name_sets h.in_order));
-  are_branchings = branchings_more begun.nodes node s.first s.rest (begun_count s.sets number) refl branchings;
-  lie = all_lie_more begun.nodes node s.first.depth h.lie branchings.0.hangs s.few_edges;
+sound-more : (partial : PartialTree) (one : WrittenNode) (s : Step partial one) → IsSound partial → IsSound (grown partial one s)
+sound-more partial one s h = record {
+  few_nodes = omega (arith, length-append partial.nodes (node ∷ []), s.more_nodes);
+  few_sets = omega (arith, length-append partial.nodes (node ∷ []), g.few, h.few_sets);
+  name_sets = name_sets_more k partial.sets s.sets partial.nodes node g h.name_sets;
+  have_members = g.have_members partial.nodes node refl refl h.name_sets h.have_members;
+  in_order = order_grows s.sets partial.nodes node s.first s.rest branchings.0.some_branch refl refl (rw s.branchings_are at (order_stays k partial.sets s.sets number partial.nodes _ g h.name_sets h.in_order));
+  are_branchings = branchings_more partial.nodes node s.first s.rest (partial_count s.sets number) refl branchings;
+  lie = all_lie_more partial.nodes node s.first.depth h.lie branchings.0.hangs s.few_edges;
 }
   where
     k : ℕ
-    k = length begun.nodes
+    k = length partial.nodes
 
     number : Option ℕ
-    number = used_number begun.sets one.set
+    number = used_number partial.sets one.set
 
     node : Node
-    node = new_node begun one s.first
+    node = new_node partial one s.first
 
-    g : GrowsTo k begun.sets number s.sets
-    g = grows k begun.sets s.sets one.set s.sets_are
+    g : GrowsTo k partial.sets number s.sets
+    g = grows k partial.sets s.sets one.set s.sets_are
 
-    branchings : AreBranchings begun.nodes (s.first ∷ s.rest)
+    branchings : AreBranchings partial.nodes (s.first ∷ s.rest)
     branchings = rw s.branchings_are at h.are_branchings
 
 -- what is built is sound
-pub sound : (written : List WrittenNode) (begun : Begun) → add_nodes nothing_begun written ≡ Some begun → IsSound begun
-sound = built_so (λ written begun. IsSound begun) sound-nothing (λ written begun one s h. sound-more begun one s h)
+pub sound : (written : List WrittenNode) (partial : PartialTree) → add_nodes root_alone written ≡ Some partial → IsSound partial
+sound = built_so (λ written partial. IsSound partial) sound-nothing (λ written partial one s h. sound-more partial one s h)

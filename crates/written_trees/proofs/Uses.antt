@@ -6,8 +6,8 @@ use Rattle.std.proofs.lemmas.List.Elements.{All-nil, All-cons, All-head, All-tai
 use Rattle.written_trees.proofs.Numbered.{sets_of, outcomes_of, set_number, outcome_number}
 use Rattle.written_trees.specs.Written.{SetUse, OutcomeUse, WrittenNode}
 use Rattle.written_trees.specs.Described.{with_number, uses_from, set_uses, outcome_uses, key_of, same_set}
-use Rattle.written_trees.specs.Building.{BegunSet, BegunOutcome, outcome_place, use_some_set, use_some_outcome}
-use Rattle.written_trees.proofs.UseSteps.{sets_begun, AllAgree, SetStep, outcomes_begun, PayoffsAgree, OutcomeStep}
+use Rattle.written_trees.specs.Building.{PartialSet, PartialOutcome, outcome_place, use_some_set, use_some_outcome}
+use Rattle.written_trees.proofs.UseSteps.{sets_so_far, AllAgree, SetStep, outcomes_so_far, PayoffsAgree, OutcomeStep}
 use Rattle.written_trees.proofs.SetUses.{set_step}
 use Rattle.written_trees.proofs.OutcomeUses.{outcome_step}
 use Rattle.written_trees.proofs.SetGrowth.{used_number}
@@ -44,9 +44,9 @@ IsUsedSet uses u = list_any (same_set (key_of u)) (sets_of uses) ≡ true
 
 -- what may be one more use of a set makes of the sets
 pub record SetMore (uses : List (ℕ × SetUse)) (k : ℕ) (o : Option SetUse) (longer : List (ℕ × SetUse)) : Type 0 where
-  pub built : (sets : List BegunSet) → AllAgree uses → use_some_set k (sets_begun uses) o ≡ Some sets → AllAgree longer × (sets ≡ sets_begun longer)
-  pub agreed : AllAgree longer → AllAgree uses × (use_some_set k (sets_begun uses) o ≡ Some (sets_begun longer))
-  pub number_is : used_number (sets_begun uses) o ≡ set_number (sets_of longer) o
+  pub built : (sets : List PartialSet) → AllAgree uses → use_some_set k (sets_so_far uses) o ≡ Some sets → AllAgree longer × (sets ≡ sets_so_far longer)
+  pub agreed : AllAgree longer → AllAgree uses × (use_some_set k (sets_so_far uses) o ≡ Some (sets_so_far longer))
+  pub number_is : used_number (sets_so_far uses) o ≡ set_number (sets_of longer) o
   pub numbers_stay : (other : Option SetUse) → IfSome other (IsUsedSet uses) → set_number (sets_of longer) other ≡ set_number (sets_of uses) other
   pub is_used : IfSome o (IsUsedSet longer)
   pub stay_used : (u : SetUse) → IsUsedSet uses u → IsUsedSet longer u
@@ -98,9 +98,9 @@ IsUsedOutcome uses u = list_any (nat_eq u.label) (outcomes_of uses) ≡ true
 
 -- what may be one more use of an outcome makes of the outcomes
 pub record OutcomeMore (uses : List (ℕ × OutcomeUse)) (o : Option OutcomeUse) (longer : List (ℕ × OutcomeUse)) : Type 0 where
-  pub built : (outcomes : List BegunOutcome) → PayoffsAgree uses → use_some_outcome (outcomes_begun uses) o ≡ Some outcomes → PayoffsAgree longer × (outcomes ≡ outcomes_begun longer)
-  pub agreed : PayoffsAgree longer → PayoffsAgree uses × (use_some_outcome (outcomes_begun uses) o ≡ Some (outcomes_begun longer))
-  pub number_is : option_map (λ u. outcome_place (outcomes_begun uses) u.label) o ≡ outcome_number (outcomes_of longer) o
+  pub built : (outcomes : List PartialOutcome) → PayoffsAgree uses → use_some_outcome (outcomes_so_far uses) o ≡ Some outcomes → PayoffsAgree longer × (outcomes ≡ outcomes_so_far longer)
+  pub agreed : PayoffsAgree longer → PayoffsAgree uses × (use_some_outcome (outcomes_so_far uses) o ≡ Some (outcomes_so_far longer))
+  pub number_is : option_map (λ u. outcome_place (outcomes_so_far uses) u.label) o ≡ outcome_number (outcomes_of longer) o
   pub numbers_stay : (other : Option OutcomeUse) → IfSome other (IsUsedOutcome uses) → outcome_number (outcomes_of longer) other ≡ outcome_number (outcomes_of uses) other
   pub is_used : IfSome o (IsUsedOutcome longer)
   pub stay_used : (u : OutcomeUse) → IsUsedOutcome uses u → IsUsedOutcome longer u

@@ -1,4 +1,4 @@
--- How a tree grows, node by node, as functions: what is begun so far, and what a further node makes of it.
+-- How a tree grows, node by node, as functions: what is partial so far, and what a further node makes of it.
 use Rattle.std.specs.Prelude.{ℕ, zero, suc, ◌-◌, ◌^◌, ◌&&◌, if◌then◌else◌, nat_abs, nat_eq, nat_lt, nat_le, Bool, true, List, [], ◌∷◌, ◌++◌, length, map, slice_get, slice_set, slice_index_or, option_map, ◌+ℤ◌, Option, Some, None}
 use Rattle.std.specs.List.{position_or_len, flat_map}
 use Rattle.std.specs.Cmp.Lexicographic.{pointwise}
@@ -11,25 +11,25 @@ use Rattle.game_core.specs.declared.tree.Action.{Action}
 use Rattle.game_core.specs.declared.tree.Node.{Node}
 use Rattle.game_core.specs.declared.too_large.What.{What}
 use Rattle.game_core.specs.declared.too_large.What.TheVariants.{Nodes, Depth}
-use Rattle.game_core.specs.Tree.{GameTree, InformationSet, TreeOutcome, Place, most_nodes, most_depth}
+use Rattle.game_core.specs.Tree.{GameTree, InformationSet, TreeOutcome, OpenBranch, most_nodes, most_depth}
 use Rattle.written_trees.specs.Written.{SetUse, OutcomeUse, WrittenNode}
 use Rattle.written_trees.specs.Described.{SetKey, key_of, same_set, or_empty, kind_of_use}
 
 -- ---- sets
 -- a set as far as it was used: its name may still come
-pub record BegunSet : Type 0 where
+pub record PartialSet : Type 0 where
   pub owner : Option ℕ
   pub label : ℕ
   pub name : Option (List ℕ)
   pub actions : List Action
   pub members : List ℕ
 
-abbrev pub key_of_begun : BegunSet → SetKey
-key_of_begun set = (set.owner, set.label)
+abbrev pub key_of_partial : PartialSet → SetKey
+key_of_partial set = (set.owner, set.label)
 
 -- the place of the set with this key, or where it will stand
-abbrev pub set_place : List BegunSet → SetKey → ℕ
-set_place sets key = position_or_len (λ set. same_set key (key_of_begun set)) sets
+abbrev pub set_place : List PartialSet → SetKey → ℕ
+set_place sets key = position_or_len (λ set. same_set key (key_of_partial set)) sets
 
 -- whether a sum fits
 abbrev pub add_test : ℚ → ℚ → Bool
@@ -57,30 +57,30 @@ repeats_actions actions None = true
 repeats_actions actions (Some list) = pointwise eq_ℚ (map (λ action. action.prob) list) (map (λ action. action.prob) actions)
 
 -- the set of a first use by node k, and a set that is used again
-abbrev pub new_set : ℕ → SetUse → List Action → BegunSet
+abbrev pub new_set : ℕ → SetUse → List Action → PartialSet
 new_set k used actions = record { owner = used.owner; label = used.label; name = used.name; actions = actions; members = k ∷ [] }
 
-abbrev pub used_set : ℕ → SetUse → BegunSet → BegunSet
+abbrev pub used_set : ℕ → SetUse → PartialSet → PartialSet
 used_set k used set = record { owner = set.owner; label = set.label; name = option_or set.name used.name; actions = set.actions; members = set.members ++ k ∷ [] }
 
 -- the sets after the set with this place is used again, or a new one is made where there is none
-abbrev pub with_use : ℕ → List BegunSet → SetUse → Option BegunSet → Option (List BegunSet)
+abbrev pub with_use : ℕ → List PartialSet → SetUse → Option PartialSet → Option (List PartialSet)
 with_use k sets used None = used.actions >>= λ actions. if may_be_first used.owner actions then Some (sets ++ new_set k used actions ∷ []) else None
 with_use k sets used (Some set) = if repeats_actions set.actions used.actions then Some (slice_set sets (set_place sets (key_of used)) (used_set k used set)) else None
 
 -- the sets after node k uses one of them
-abbrev pub use_set : ℕ → List BegunSet → SetUse → Option (List BegunSet)
+abbrev pub use_set : ℕ → List PartialSet → SetUse → Option (List PartialSet)
 use_set k sets used = with_use k sets used (slice_get sets (set_place sets (key_of used)))
 
 -- ---- outcomes
 -- an outcome as far as it was used: its name may still come
-pub record BegunOutcome : Type 0 where
+pub record PartialOutcome : Type 0 where
   pub label : ℕ
   pub name : Option (List ℕ)
   pub payoffs : List ℚ
 
 -- the place of the outcome with this number, or where it will stand
-abbrev pub outcome_place : List BegunOutcome → ℕ → ℕ
+abbrev pub outcome_place : List PartialOutcome → ℕ → ℕ
 outcome_place outcomes label = position_or_len (λ outcome. nat_eq label outcome.label) outcomes
 
 -- whether later payoffs repeat the first
@@ -89,21 +89,21 @@ repeats_payoffs payoffs None = true
 repeats_payoffs payoffs (Some list) = pointwise eq_ℚ list payoffs
 
 -- the outcome of a first use, and an outcome that is used again
-abbrev pub new_outcome : OutcomeUse → List ℚ → BegunOutcome
+abbrev pub new_outcome : OutcomeUse → List ℚ → PartialOutcome
 new_outcome used payoffs = record { label = used.label; name = used.name; payoffs = payoffs }
 
-abbrev pub used_outcome : OutcomeUse → BegunOutcome → BegunOutcome
+abbrev pub used_outcome : OutcomeUse → PartialOutcome → PartialOutcome
 used_outcome used outcome = record { label = outcome.label; name = option_or outcome.name used.name; payoffs = outcome.payoffs }
 
-abbrev pub with_outcome_use : List BegunOutcome → OutcomeUse → Option BegunOutcome → Option (List BegunOutcome)
+abbrev pub with_outcome_use : List PartialOutcome → OutcomeUse → Option PartialOutcome → Option (List PartialOutcome)
 with_outcome_use outcomes used None = used.payoffs >>= λ payoffs. Some (outcomes ++ new_outcome used payoffs ∷ [])
 with_outcome_use outcomes used (Some outcome) = if repeats_payoffs outcome.payoffs used.payoffs then Some (slice_set outcomes (outcome_place outcomes used.label) (used_outcome used outcome)) else None
 
 -- the outcomes after a node uses one of them
-abbrev pub use_outcome : List BegunOutcome → OutcomeUse → Option (List BegunOutcome)
+abbrev pub use_outcome : List PartialOutcome → OutcomeUse → Option (List PartialOutcome)
 use_outcome outcomes used = with_outcome_use outcomes used (slice_get outcomes (outcome_place outcomes used.label))
 
--- ---- places
+-- ---- open branches
 -- A node some of whose actions lead nowhere yet: the node (nothing before the root), the first such action, how many actions it
 -- has, and how many edges below the root what follows lies.
 pub record Branching : Type 0 where
@@ -112,77 +112,77 @@ pub record Branching : Type 0 where
   pub count : ℕ
   pub depth : ℕ
 
--- the free places of so many actions from one on
-abbrev pub places_after : Option ℕ → ℕ → ℕ → List Place
-places_after from next zero = []
-places_after from next (suc n) = (from, next) ∷ places_after from (suc next) n
+-- the open branches of so many actions from one on
+abbrev pub branches_after : Option ℕ → ℕ → ℕ → List OpenBranch
+branches_after from next zero = []
+branches_after from next (suc n) = (from, next) ∷ branches_after from (suc next) n
 
-abbrev pub free_places : List Branching → List Place
-free_places branchings = flat_map (λ b. places_after b.node b.next (b.count - b.next)) branchings
+abbrev pub open_branches : List Branching → List OpenBranch
+open_branches branchings = flat_map (λ b. branches_after b.node b.next (b.count - b.next)) branchings
 
--- the branchings after the first free place is taken
-abbrev pub take_place : Branching → List Branching → List Branching
-take_place b rest = if nat_lt (suc b.next) b.count then record { node = b.node; next = suc b.next; count = b.count; depth = b.depth } ∷ rest else rest
+-- the branchings after the first open branch is taken
+abbrev pub take_branch : Branching → List Branching → List Branching
+take_branch b rest = if nat_lt (suc b.next) b.count then record { node = b.node; next = suc b.next; count = b.count; depth = b.depth } ∷ rest else rest
 
 -- the branchings after node k with so many actions, whose children lie at this depth, is added
-abbrev pub add_places : ℕ → ℕ → ℕ → List Branching → List Branching
-add_places k count depth rest = if nat_lt 0 count then record { node = Some k; next = 0; count = count; depth = depth } ∷ rest else rest
+abbrev pub add_branches : ℕ → ℕ → ℕ → List Branching → List Branching
+add_branches k count depth rest = if nat_lt 0 count then record { node = Some k; next = 0; count = count; depth = depth } ∷ rest else rest
 
 -- ---- the tree
-pub record Begun : Type 0 where
+pub record PartialTree : Type 0 where
   pub nodes : List Node
-  pub sets : List BegunSet
-  pub outcomes : List BegunOutcome
+  pub sets : List PartialSet
+  pub outcomes : List PartialOutcome
   pub branchings : List Branching
 
--- nothing but the root's place
-abbrev pub nothing_begun : Begun
-nothing_begun = record { nodes = []; sets = []; outcomes = []; branchings = record { node = None; next = 0; count = 1; depth = 0 } ∷ [] }
+-- nothing but the root's branch
+abbrev pub root_alone : PartialTree
+root_alone = record { nodes = []; sets = []; outcomes = []; branchings = record { node = None; next = 0; count = 1; depth = 0 } ∷ [] }
 
 -- the sets after a node that may use one
-abbrev pub use_some_set : ℕ → List BegunSet → Option SetUse → Option (List BegunSet)
+abbrev pub use_some_set : ℕ → List PartialSet → Option SetUse → Option (List PartialSet)
 use_some_set k sets None = Some sets
 use_some_set k sets (Some used) = use_set k sets used
 
-abbrev pub use_some_outcome : List BegunOutcome → Option OutcomeUse → Option (List BegunOutcome)
+abbrev pub use_some_outcome : List PartialOutcome → Option OutcomeUse → Option (List PartialOutcome)
 use_some_outcome outcomes None = Some outcomes
 use_some_outcome outcomes (Some used) = use_outcome outcomes used
 
 -- how many actions a set has, and none at an end
-abbrev pub begun_count : List BegunSet → Option ℕ → ℕ
-begun_count sets None = 0
-begun_count sets (Some s) = slice_index_or (map (λ set. length set.actions) sets) s 0
+abbrev pub partial_count : List PartialSet → Option ℕ → ℕ
+partial_count sets None = 0
+partial_count sets (Some s) = slice_index_or (map (λ set. length set.actions) sets) s 0
 
--- the tree with one more node, at the first free place
-abbrev pub with_node : Begun → WrittenNode → Branching → List Branching → List BegunSet → List BegunOutcome → Begun
-with_node begun written b rest sets outcomes =
-    let set = option_map (λ used. set_place begun.sets (key_of used)) written.set in
-    let outcome = option_map (λ used. outcome_place begun.outcomes used.label) written.outcome in
+-- the tree with one more node, at the first open branch
+abbrev pub with_node : PartialTree → WrittenNode → Branching → List Branching → List PartialSet → List PartialOutcome → PartialTree
+with_node partial written b rest sets outcomes =
+    let set = option_map (λ used. set_place partial.sets (key_of used)) written.set in
+    let outcome = option_map (λ used. outcome_place partial.outcomes used.label) written.outcome in
     record {
-      nodes = begun.nodes ++ record { kind = kind_of_use written.set; parent = b.node; branch = b.next; set = set; outcome = outcome } ∷ [];
+      nodes = partial.nodes ++ record { kind = kind_of_use written.set; parent = b.node; branch = b.next; set = set; outcome = outcome } ∷ [];
       sets = sets;
       outcomes = outcomes;
-      branchings = add_places (length begun.nodes) (begun_count sets set) (suc b.depth) (take_place b rest);
+      branchings = add_branches (length partial.nodes) (partial_count sets set) (suc b.depth) (take_branch b rest);
     }
 
--- a further node, where a place is free and what it says agrees with the others
-abbrev pub add_at : Begun → WrittenNode → List Branching → Option Begun
-add_at begun written [] = None
-add_at begun written (b ∷ rest) =
-    use_some_set (length begun.nodes) begun.sets written.set
-    >>= λ sets. use_some_outcome begun.outcomes written.outcome
-    >>= λ outcomes. Some (with_node begun written b rest sets outcomes)
+-- a further node, where a branch is open and what it says agrees with the others
+abbrev pub add_at : PartialTree → WrittenNode → List Branching → Option PartialTree
+add_at partial written [] = None
+add_at partial written (b ∷ rest) =
+    use_some_set (length partial.nodes) partial.sets written.set
+    >>= λ sets. use_some_outcome partial.outcomes written.outcome
+    >>= λ outcomes. Some (with_node partial written b rest sets outcomes)
 
-abbrev pub add_node : Begun → WrittenNode → Option Begun
-add_node begun written = add_at begun written begun.branchings
+abbrev pub add_node : PartialTree → WrittenNode → Option PartialTree
+add_node partial written = add_at partial written partial.branchings
 
 -- the limit that a further node would pass
-abbrev pub passed_at : Begun → List Branching → Option What
-passed_at begun [] = None
-passed_at begun (b ∷ rest) = if nat_le most_nodes (length begun.nodes) then Some Nodes else if nat_lt most_depth b.depth then Some Depth else None
+abbrev pub passed_at : PartialTree → List Branching → Option What
+passed_at partial [] = None
+passed_at partial (b ∷ rest) = if nat_le most_nodes (length partial.nodes) then Some Nodes else if nat_lt most_depth b.depth then Some Depth else None
 
-abbrev pub passed : Begun → Option What
-passed begun = passed_at begun begun.branchings
+abbrev pub passed : PartialTree → Option What
+passed partial = passed_at partial partial.branchings
 
 -- a further node within the limits
 abbrev pub within_limits : {A : Type 0} → Option What → Option A → Option A
@@ -190,23 +190,23 @@ within_limits None reading = reading
 within_limits (Some what) reading = None
 
 -- further nodes, one after another
-abbrev pub add_nodes : Begun → List WrittenNode → Option Begun
-add_nodes begun [] = Some begun
-add_nodes begun (one ∷ written) = within_limits (passed begun) (add_node begun one) >>= λ next. add_nodes next written
+abbrev pub add_nodes : PartialTree → List WrittenNode → Option PartialTree
+add_nodes partial [] = Some partial
+add_nodes partial (one ∷ written) = within_limits (passed partial) (add_node partial one) >>= λ next. add_nodes next written
 
 -- the name that came, and else the empty one
-abbrev pub finished_set : BegunSet → InformationSet
+abbrev pub finished_set : PartialSet → InformationSet
 finished_set set = record { owner = set.owner; label = set.label; name = or_empty set.name; actions = set.actions; members = set.members }
 
-abbrev pub finished_outcome : BegunOutcome → TreeOutcome
+abbrev pub finished_outcome : PartialOutcome → TreeOutcome
 finished_outcome outcome = record { label = outcome.label; name = or_empty outcome.name; payoffs = outcome.payoffs }
 
--- the tree as far as it is begun
-abbrev pub tree_begun : List ℕ → List (List ℕ) → Begun → GameTree
-tree_begun title players begun = record {
+-- the tree as far as it is partial
+abbrev pub tree_so_far : List ℕ → List (List ℕ) → PartialTree → GameTree
+tree_so_far title players partial = record {
   title = title;
   players = players;
-  nodes = begun.nodes;
-  sets = map finished_set begun.sets;
-  outcomes = map finished_outcome begun.outcomes;
+  nodes = partial.nodes;
+  sets = map finished_set partial.sets;
+  outcomes = map finished_outcome partial.outcomes;
 }

@@ -7,7 +7,7 @@ use Rattle.game_core.specs.declared.tree.Action.{Action}
 use Rattle.game_core.specs.declared.tree.Kind.{Kind}
 use Rattle.game_core.specs.declared.tree.Kind.TheVariants.{End}
 use Rattle.game_core.specs.declared.tree.Node.{Node}
-use Rattle.game_core.specs.Tree.{GameTree, InformationSet, TreeOutcome, Place, AreInPrefixOrder, NodeFits, SetFits, AreInOrderOfFirstUse, LiesBelowRoot, most_nodes, most_depth, kind_of_owner, probability_at}
+use Rattle.game_core.specs.Tree.{GameTree, InformationSet, TreeOutcome, OpenBranch, AreInPrefixOrder, NodeFits, SetFits, AreInOrderOfFirstUse, LiesBelowRoot, most_nodes, most_depth, kind_of_owner, probability_at}
 use Rattle.written_trees.specs.Written.{SetUse, OutcomeUse, WrittenNode}
 
 -- ---- uses
@@ -146,8 +146,8 @@ StandForEach keys labels [] [] = Unit {0}
 StandForEach keys labels (node ∷ nodes) (one ∷ written) = StandsFor keys labels node one × StandForEach keys labels nodes written
 StandForEach keys labels _ _ = ⊥
 
--- A game tree within the limits, as far as it goes: its nodes leave these places free. Where none is left, it is a tree.
-pub record IsBegunTree (t : GameTree) (free : List Place) : Type 0 where
+-- A game tree within the limits, as far as it goes: its nodes leave these branches open. Where none is left, it is a tree.
+pub record IsPartialTree (t : GameTree) (free : List OpenBranch) : Type 0 where
   pub in_prefix_order : AreInPrefixOrder t.sets 0 t.nodes ((None, 0) ∷ []) free
   pub nodes_fit : All (NodeFits t) t.nodes
   pub sets_fit : (s : ℕ) (set : InformationSet) → slice_get t.sets s ≡ Some set → SetFits t s set
@@ -159,22 +159,22 @@ pub record IsBegunTree (t : GameTree) (free : List Place) : Type 0 where
   pub few_edges : (d k : ℕ) → LiesBelowRoot t.nodes d k → d ≤ most_depth
   pub few_players : length t.players < 2 ^ 32
 
--- Written nodes describe a tree, as far as it goes: its nodes hang in prefix order and leave these places free, and its sets and
+-- Written nodes describe a tree, as far as it goes: its nodes hang in prefix order and leave these branches open, and its sets and
 -- outcomes are those that the nodes use, each once, in the order of their first uses.
-pub record Describe (written : List WrittenNode) (t : GameTree) (free : List Place) : Type 0 where
+pub record Describe (written : List WrittenNode) (t : GameTree) (free : List OpenBranch) : Type 0 where
   pub keys : List SetKey
   pub labels : List ℕ
   pub keys_are : AreFirstUses (map (λ x. key_of x.1) (set_uses written)) keys
   pub labels_are : AreFirstUses (map (λ x. x.1.label) (outcome_uses written)) labels
-  pub begun : IsBegunTree t free
+  pub partial : IsPartialTree t free
   pub nodes_stand : StandForEach keys labels t.nodes written
   pub sets_are : t.sets ≡ map (λ key. described_set key (uses_of_set key (set_uses written))) keys
   pub outcomes_are : t.outcomes ≡ map (λ label. described_outcome label (uses_of_outcome label (outcome_uses written))) labels
   pub sets_agree : (key : SetKey) → AgreeOnActions (uses_of_set key (set_uses written))
   pub outcomes_agree : (label : ℕ) → AgreeOnPayoffs (uses_of_outcome label (outcome_uses written))
 
--- how many edges below the root the first of some free places lies
-abbrev pub LiesAt : GameTree → List Place → ℕ → Type 0
+-- how many edges below the root the first of some open branches lies
+abbrev pub LiesAt : GameTree → List OpenBranch → ℕ → Type 0
 LiesAt t [] d = ⊥
 LiesAt t ((None, a) ∷ free) d = d ≡ 0
 LiesAt t ((Some k, a) ∷ free) d = (e : ℕ) × LiesBelowRoot t.nodes e k × (d ≡ suc e)

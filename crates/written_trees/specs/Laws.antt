@@ -4,10 +4,10 @@ use Rattle.rational.specs.Rational.{zero_ℚ}
 use Rattle.game_core.specs.declared.tree.Action.{Action}
 use Rattle.game_core.specs.declared.too_large.What.{What}
 use Rattle.game_core.specs.declared.too_large.What.TheVariants.{Nodes, Depth}
-use Rattle.game_core.specs.Tree.{GameTree, Place, IsTree, most_nodes, most_depth}
+use Rattle.game_core.specs.Tree.{GameTree, OpenBranch, IsTree, most_nodes, most_depth}
 use Rattle.written_trees.specs.Written.{SetUse, OutcomeUse, WrittenNode}
-use Rattle.written_trees.specs.Described.{Describe, IsBegunTree, LiesAt}
-use Rattle.written_trees.specs.Building.{Begun, nothing_begun, add_nodes, passed, tree_begun, free_places}
+use Rattle.written_trees.specs.Described.{Describe, IsPartialTree, LiesAt}
+use Rattle.written_trees.specs.Building.{PartialTree, root_alone, add_nodes, passed, tree_so_far, open_branches}
 
 -- a list of actions has at least one, and a player's have no probabilities
 abbrev pub HasNoProbability : Option ℕ → Action → Type 0
@@ -32,38 +32,38 @@ pub record IsWrittenNode (players : ℕ) (node : WrittenNode) : Type 0 where
   pub set_is : IfSome node.set (IsSetUse players)
   pub outcome_is : IfSome node.outcome (IsOutcomeUse players)
 
--- a begun tree that leaves no place free is a tree, and each tree is one
+-- a partial tree that leaves no branch open is a tree, and each tree is one
 abbrev pub WholeTreesAreTrees : Type 0
-WholeTreesAreTrees = (t : GameTree) → IsBegunTree t [] ↔ IsTree t
+WholeTreesAreTrees = (t : GameTree) → IsPartialTree t [] ↔ IsTree t
 
 -- what is built is described
 abbrev pub BuiltIsDescribed : Type 0
 BuiltIsDescribed =
-    (title : List ℕ) (players : List (List ℕ)) (written : List WrittenNode) (begun : Begun) → length players < 2 ^ 32
-    → All (IsWrittenNode (length players)) written → add_nodes nothing_begun written ≡ Some begun
-    → Describe written (tree_begun title players begun) (free_places begun.branchings)
+    (title : List ℕ) (players : List (List ℕ)) (written : List WrittenNode) (partial : PartialTree) → length players < 2 ^ 32
+    → All (IsWrittenNode (length players)) written → add_nodes root_alone written ≡ Some partial
+    → Describe written (tree_so_far title players partial) (open_branches partial.branchings)
 
 -- what is described is built
-pub record IsBuilt (written : List WrittenNode) (t : GameTree) (free : List Place) : Type 0 where
-  pub begun : Begun
-  pub is_built : add_nodes nothing_begun written ≡ Some begun
-  pub tree_is : t ≡ tree_begun t.title t.players begun
-  pub free_is : free ≡ free_places begun.branchings
+pub record IsBuilt (written : List WrittenNode) (t : GameTree) (free : List OpenBranch) : Type 0 where
+  pub partial : PartialTree
+  pub is_built : add_nodes root_alone written ≡ Some partial
+  pub tree_is : t ≡ tree_so_far t.title t.players partial
+  pub free_is : free ≡ open_branches partial.branchings
 
 abbrev pub DescribedIsBuilt : Type 0
-DescribedIsBuilt = (written : List WrittenNode) (t : GameTree) (free : List Place) → Describe written t free → IsBuilt written t free
+DescribedIsBuilt = (written : List WrittenNode) (t : GameTree) (free : List OpenBranch) → Describe written t free → IsBuilt written t free
 
 -- a limit is passed where a further node would be one too many, or else one edge too far below the root
-abbrev pub PassesAt : GameTree → List Place → What → Type 0
+abbrev pub PassesAt : GameTree → List OpenBranch → What → Type 0
 PassesAt t free Nodes = (length t.nodes ≡ most_nodes) × (d : ℕ) × LiesAt t free d
 PassesAt t free Depth = (length t.nodes < most_nodes) × LiesAt t free (suc most_depth)
 PassesAt t free _ = ⊥
 
-pub record LimitsAreSeen (written : List WrittenNode) (title : List ℕ) (players : List (List ℕ)) (begun : Begun) : Type 0 where
-  pub passes : (what : What) → passed begun ≡ Some what → PassesAt (tree_begun title players begun) (free_places begun.branchings) what
-  pub passed_so : (what : What) → PassesAt (tree_begun title players begun) (free_places begun.branchings) what → passed begun ≡ Some what
+pub record LimitsAreSeen (written : List WrittenNode) (title : List ℕ) (players : List (List ℕ)) (partial : PartialTree) : Type 0 where
+  pub passes : (what : What) → passed partial ≡ Some what → PassesAt (tree_so_far title players partial) (open_branches partial.branchings) what
+  pub passed_so : (what : What) → PassesAt (tree_so_far title players partial) (open_branches partial.branchings) what → passed partial ≡ Some what
 
 abbrev pub LimitsAreExact : Type 0
 LimitsAreExact =
-    (written : List WrittenNode) (title : List ℕ) (players : List (List ℕ)) (begun : Begun)
-    → add_nodes nothing_begun written ≡ Some begun → LimitsAreSeen written title players begun
+    (written : List WrittenNode) (title : List ℕ) (players : List (List ℕ)) (partial : PartialTree)
+    → add_nodes root_alone written ≡ Some partial → LimitsAreSeen written title players partial

@@ -1,15 +1,17 @@
-//! The nodes of a game tree as files write them, and the tree that they describe, for contracts and proofs.
+//! The nodes of a game tree as files write them, and the tree that they describe: definitions and
+//! laws.
 //!
-//! The definitions stand in `specs/`: `Written` has the nodes as they are written, and `Described` the tree
-//! that they describe. `Building` says how a tree grows node by node, and `Laws` that this gives what is
-//! described, and nothing else.
-//!
-//! The functions below do nothing: the contract of each is a law, so that a check proves it.
+//! Callers may rely on: the four laws below, that what is built from written nodes is what they
+//! describe.
+//! Definitions: `specs::Written` has the nodes as they are written, `Described` the tree that they
+//! describe, `Building` how a tree grows node by node.
+//! Lemmas for callers: `proofs::PartialTrees`, a partial tree without open branches is a tree.
+//! A change here touches: `efg_reader`, which reads such nodes, and what `run` says of trees.
 #![tactic(auto)]
 
 ghost use Rattle.written_trees.specs.Laws.{WholeTreesAreTrees, BuiltIsDescribed, DescribedIsBuilt, LimitsAreExact};
 
-/// A begun tree that leaves no place free is a tree, and each tree is one.
+/// A partial tree that leaves no branch open is a tree, and each tree is one.
 pub fn whole_trees_are_trees()
     ensures { WholeTreesAreTrees }
 {}

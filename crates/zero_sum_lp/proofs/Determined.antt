@@ -8,7 +8,7 @@ use Rattle.linear_systems.specs.Tableau.{Tableau, pivot}
 use Rattle.rational.proofs.Linear.{linear, at, lit, ◌⟨≤⟩◌, ◌⟨<⟩◌}
 use Rattle.rational.proofs.Field.{lt_irrefl, le_or_lt, not_lt_of_le}
 use Rattle.linear_systems.specs.Rows.{key, HasDistinctVariables, Alike, IsLexicographicRow}
-use Rattle.zero_sum_lp.specs.Paths.{LinearProgram, IsLinearProgram, IsEntering, IsOptimal, IsStep, IsAfter}
+use Rattle.zero_sum_lp.specs.Paths.{LinearProgram, IsLinearProgram, IsEntering, IsOptimal, IsPathPivot, IsAfter}
 use Rattle.linear_systems.proofs.Lex.{lex_same}
 use Rattle.linear_systems.proofs.Rows.{key_alike}
 use Rattle.linear_systems.proofs.Agreement.{alike_sym, alike_trans, alike_pivot, alike_lex_row}
@@ -50,7 +50,7 @@ after_on_path g (suc n) u p f =
     path_step g.bound g.rated g.rated g.start f.0 u st.column st.row p.begins (after_on_path g n f.0 p f.1.0) (record { column = st.entering.column; negative = st.entering.negative; lex_row = st.leaving }) st.turned
 
 -- two steps from tableaux that agree lead to tableaux that agree
-pub step_once : (g : LinearProgram) (t t' u u' : Tableau) → IsLinearProgram g → IsLexicographicallyFeasible g.bound g.rated g.start t → IsLexicographicallyFeasible g.bound g.rated g.start t' → Alike t t' → IsStep g t u → IsStep g t' u' → Alike u u'
+pub step_once : (g : LinearProgram) (t t' u u' : Tableau) → IsLinearProgram g → IsLexicographicallyFeasible g.bound g.rated g.start t → IsLexicographicallyFeasible g.bound g.rated g.start t' → Alike t t' → IsPathPivot g t u → IsPathPivot g t' u' → Alike u u'
 step_once g t t' u u' p x y w a b =
     let rows : t.rows ≡ g.start.rows = x.reached.rows in
     let hm : g.rated < g.start.rows = p.objective in
@@ -84,7 +84,7 @@ pub path_is_short : (g : LinearProgram) (n : ℕ) (t : Tableau) → IsLinearProg
 path_is_short g n t p f = let h = underway_less g t 0 n p (after_chain g n t p f) in omega arith
 
 -- the objective row grows
-pub after_grows : (g : LinearProgram) (n : ℕ) (t u : Tableau) → IsLinearProgram g → IsAfter g n t → IsStep g t u → IsLexLess (suc g.rated) (key g.start.basic t g.rated) (key g.start.basic u g.rated)
+pub after_grows : (g : LinearProgram) (n : ℕ) (t u : Tableau) → IsLinearProgram g → IsAfter g n t → IsPathPivot g t u → IsLexLess (suc g.rated) (key g.start.basic t g.rated) (key g.start.basic u g.rated)
 after_grows g n t u p a st =
     step_grows g.bound g.rated g.rated g.start t u st.column st.row p.begins (omega arith) p.objective (after_on_path g n t p a) (record { column = st.entering.column; negative = st.entering.negative; lex_row = st.leaving }) st.turned
 

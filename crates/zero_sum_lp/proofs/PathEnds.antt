@@ -18,7 +18,7 @@ use Rattle.lex_tableau.proofs.Tableaux.{determined}
 use Rattle.zero_sum_lp.specs.declared.lp.LpEnd.TheVariants.{Optimal, Range}
 use Rattle.zero_sum_lp.specs.Ends.{EndsAreSingle}
 use Rattle.zero_sum_lp.specs.Parts.{Program}
-use Rattle.zero_sum_lp.specs.Steps.{IsFittingStep, IsLeavingRow, LeadsTo, EndsPath, IsStepNumber, IsUnfitStep}
+use Rattle.zero_sum_lp.specs.Steps.{IsFittingPivot, IsLeavingRow, LeadsTo, EndsPath, IsPivotNumber, IsUnfitPivot}
 
 -- ---- one step
 -- the pivot of a tableau that is determined
@@ -29,7 +29,7 @@ module _ (m : Numbers) (v : IsTableau m) (c d r s : ℕ) (ec : IsEntering m.rate
   same_row : r ≡ s
   same_row = lex_row_once m.rated (listed m.starts) (tableau m) d r s (subst (λ x. IsLeavingRow m x r) same_column lr) ls
 
-step_same : (m n o : Numbers) → IsTableau m → IsFittingStep m n → IsFittingStep m o → n ≡ o
+step_same : (m n o : Numbers) → IsTableau m → IsFittingPivot m n → IsFittingPivot m o → n ≡ o
 step_same m n o v a b =
     let c = same_column m v a.column b.column a.row b.row a.entering b.entering a.leaving b.leaving in
     let r = same_row m v a.column b.column a.row b.row a.entering b.entering a.leaving b.leaving in
@@ -45,10 +45,10 @@ valid_at first n (suc k) v w = w.1.1.valid
 path_same : (first n o : Numbers) (k : ℕ) → IsTableau first → LeadsTo first k n → LeadsTo first k o → n ≡ o
 path_same first n o zero v e f = e ∙ sym f
 path_same first n o (suc k) v w x =
-    let e = path_same first w.0 x.0 k v w.1.0 x.1.0 in step_same x.0 n o (valid_at first x.0 k v x.1.0) (subst (λ m. IsFittingStep m n) e w.1.1) x.1.1
+    let e = path_same first w.0 x.0 k v w.1.0 x.1.0 in step_same x.0 n o (valid_at first x.0 k v x.1.0) (subst (λ m. IsFittingPivot m n) e w.1.1) x.1.1
 
 -- a longer path takes a step from each tableau before its end
-step_at : (first n : Numbers) (j k : ℕ) → k < j → LeadsTo first j n → (m : Numbers) × ((o : Numbers) × (LeadsTo first k m × IsFittingStep m o))
+step_at : (first n : Numbers) (j k : ℕ) → k < j → LeadsTo first j n → (m : Numbers) × ((o : Numbers) × (LeadsTo first k m × IsFittingPivot m o))
 step_at first n zero k l w = absurd (omega arith)
 step_at first n (suc j) k l w = elim (below_cases k j l) [
   | inl e ↦ (w.0, (n, (subst (λ i. LeadsTo first i w.0) (sym e) w.1.0, w.1.1)))
@@ -60,15 +60,15 @@ not_optimal n c o e = not_lt_of_le zero_ℚ ((tableau n).cell n.rated c) (o c e.
 
 module _ (first : Numbers) (v : IsTableau first) where
   -- from where a path takes a step there is another end neither of the path nor of its arithmetic
-  step_from : (n o : Numbers) (k j : ℕ) → k < j → LeadsTo first k n → LeadsTo first j o → (p : Numbers) × IsFittingStep n p
+  step_from : (n o : Numbers) (k j : ℕ) → k < j → LeadsTo first k n → LeadsTo first j o → (p : Numbers) × IsFittingPivot n p
   step_from n o k j l w x =
       let s = step_at first o j k l x in
-      (s.1.0, subst (λ m. IsFittingStep m s.1.0) (path_same first s.0 n k v s.1.1.0 w) s.1.1.1)
+      (s.1.0, subst (λ m. IsFittingPivot m s.1.0) (path_same first s.0 n k v s.1.1.0 w) s.1.1.1)
 
   ended_goes_on : (n o : Numbers) (k j : ℕ) → k < j → LeadsTo first k n → IsOptimal n.rated (tableau n) → LeadsTo first j o → ⊥
   ended_goes_on n o k j l w opt x = let s = step_from n o k j l w x in not_optimal n s.1.column opt s.1.entering
 
-  unfit_goes_on : (number entering : ℕ) (unfit : Unfit) (u : IsUnfitStep first number entering unfit) (o : Numbers) (j : ℕ) → u.count < j → LeadsTo first j o → ⊥
+  unfit_goes_on : (number entering : ℕ) (unfit : Unfit) (u : IsUnfitPivot first number entering unfit) (o : Numbers) (j : ℕ) → u.count < j → LeadsTo first j o → ⊥
   unfit_goes_on number entering unfit u o j l x =
       let s = step_from u.before o u.count j l u.path x in
       let w = valid_at first u.before u.count v u.path in
@@ -85,7 +85,7 @@ module _ (first : Numbers) (v : IsTableau first) where
     ]
   ]
 
-  not_both : (n : Numbers) (number entering : ℕ) (unfit : Unfit) → EndsPath first n → IsUnfitStep first number entering unfit → ⊥
+  not_both : (n : Numbers) (number entering : ℕ) (unfit : Unfit) → EndsPath first n → IsUnfitPivot first number entering unfit → ⊥
   not_both n number entering unfit a u = elim (cases_lt a.count u.count) [
     | inl l ↦ ended_goes_on n u.before a.count u.count l a.path a.optimal u.path
     | inr l ↦ elim (cases_lt u.count a.count) [
@@ -94,10 +94,10 @@ module _ (first : Numbers) (v : IsTableau first) where
     ]
   ]
 
-  number_same : (k a b : ℕ) → IsStepNumber k a → IsStepNumber k b → a ≡ b
+  number_same : (k a b : ℕ) → IsPivotNumber k a → IsPivotNumber k b → a ≡ b
   number_same k a b h g = elim (cases_lt k (2 ^ 64)) [ inl l ↦ h.exact l ∙ sym (g.exact l) | inr l ↦ h.later l ∙ sym (g.later l) ]
 
-  unfit_same : (number entering number' entering' : ℕ) (unfit unfit' : Unfit) → (u : IsUnfitStep first number entering unfit) → (w : IsUnfitStep first number' entering' unfit') → (number ≡ number') × ((entering ≡ entering') × (unfit ≡ unfit'))
+  unfit_same : (number entering number' entering' : ℕ) (unfit unfit' : Unfit) → (u : IsUnfitPivot first number entering unfit) → (w : IsUnfitPivot first number' entering' unfit') → (number ≡ number') × ((entering ≡ entering') × (unfit ≡ unfit'))
   unfit_same number entering number' entering' unfit unfit' u w = elim (cases_lt u.count w.count) [
     | inl l ↦ absurd (unfit_goes_on number entering unfit u w.before w.count l w.path)
     | inr l ↦ elim (cases_lt w.count u.count) [
@@ -115,7 +115,7 @@ module _ (first : Numbers) (v : IsTableau first) where
           let c = same_column w.before valid u.column w.column u.row w.row enters w.enters leaves w.leaves in
           let r = same_row w.before valid u.column w.column u.row w.row enters w.enters leaves w.leaves in
           let here : IsFirstUnfit (steps_of_pivot w.before w.row w.column) unfit = subst₂ (λ a b. IsFirstUnfit (steps_of_pivot w.before a b) unfit) r c (subst (λ m. IsFirstUnfit (steps_of_pivot m u.row u.column) unfit) e u.first_unfit) in (
-            number_same (suc w.count) number number' (subst (λ i. IsStepNumber (suc i) number) q u.is_number) w.is_number,
+            number_same (suc w.count) number number' (subst (λ i. IsPivotNumber (suc i) number) q u.is_number) w.is_number,
             (u.variable ∙ ap₂ (λ (m : Numbers) (i : ℕ). (tableau m).nonbasic i) e c ∙ sym w.variable, one_unfit (steps_of_pivot w.before w.row w.column) unfit unfit' here w.first_unfit),
           )
 

@@ -16,7 +16,7 @@ use Rattle.sequence_forms.proofs.Sides.{first_up, first_pos}
 use Rattle.sequence_data.specs.Data.{SideData, side_of}
 use Rattle.sequence_data.specs.Data.{side_of}
 use Rattle.pure_payoffs.specs.Steps.{Step, StepFits, IsFirstUnfit}
-use Rattle.pure_payoffs.proofs.Runs.{first_unfit-more, first_unfit-behind, first_unfit-here, one-fits}
+use Rattle.pure_payoffs.proofs.Runs.{first_unfit-more, first_unfit-following, first_unfit-here, one-fits}
 use Rattle.zero_sum_lp.specs.PlanSteps.{rest_steps, raise_steps, IsRaisedTo, IsUnfitRaise}
 
 -- ---- steps
@@ -26,7 +26,7 @@ fits_more ss s h f = All-append StepFits ss (s ∷ []) h (one-fits s f)
 
 -- one more step that does not fit
 pub unfit_more : (ss : List Step) (s e : Step) → All StepFits ss → ¬ (StepFits s) → e ≡ s → IsFirstUnfit (ss ++ s ∷ []) e
-unfit_more ss s e h f q = subst (IsFirstUnfit (ss ++ s ∷ [])) (sym q) (first_unfit-behind ss (s ∷ []) s h (first_unfit-here s [] f))
+unfit_more ss s e h f q = subst (IsFirstUnfit (ss ++ s ∷ [])) (sym q) (first_unfit-following ss (s ∷ []) s h (first_unfit-here s [] f))
 
 pub rest_unfit : (w : ℚ) (x : ℕ → ℚ) (m n : ℕ) (e : Step) → m ≤ n → IsFirstUnfit (rest_steps w x m) e → IsFirstUnfit (rest_steps w x n) e
 rest_unfit w x m zero e l h = subst (λ k. IsFirstUnfit (rest_steps w x k) e) (let q : m ≡ 0 = omega arith in q) h

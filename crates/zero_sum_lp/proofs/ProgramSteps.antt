@@ -8,7 +8,7 @@ use Rattle.rational.specs.Rational.{ℚ, ◌*ℚ◌, zero_ℚ}
 use Rattle.frac128.specs.Steps.{MulFits, SubFits, unfit}
 use Rattle.frac128.specs.declared.steps.Op.TheVariants.{Sub, Mul}
 use Rattle.pure_payoffs.specs.Steps.{Step, IsFirstUnfit}
-use Rattle.pure_payoffs.proofs.Runs.{first_unfit-behind, first_unfit-here, one-fits}
+use Rattle.pure_payoffs.proofs.Runs.{first_unfit-following, first_unfit-here, one-fits}
 use Rattle.sequence_data.specs.declared.types.Cell.{Cell}
 use Rattle.sequence_data.specs.declared.types.Leaf.{Leaf}
 use Rattle.pure_payoffs.proofs.FirstUnfits.{split_here}
@@ -24,7 +24,7 @@ pub difference_unfit : (least : ℚ) (c : Cell) (part : ℚ) (r : Result ℚ Ste
 difference_unfit least c part (Ok v) is fits step refused = tt
 difference_unfit least c part (Err e) is fits step refused =
     subst (IsFirstUnfit (gain_steps least c)) (sym (step ∙ ap (unfit Sub c.one) is))
-    (first_unfit-behind (unfit Mul least c.weight ∷ []) (unfit Sub c.one (least *ℚ c.weight) ∷ []) _ (one-fits (unfit Mul least c.weight) fits) (first_unfit-here _ [] (λ f. refused (subst (SubFits c.one) (sym is) f))))
+    (first_unfit-following (unfit Mul least c.weight ∷ []) (unfit Sub c.one (least *ℚ c.weight) ∷ []) _ (one-fits (unfit Mul least c.weight) fits) (first_unfit-here _ [] (λ f. refused (subst (SubFits c.one) (sym is) f))))
 
 -- ---- the sums
 module _ (leaves : List Leaf) (sums : List ℚ) (are : sums ≡ map sum_at leaves) where

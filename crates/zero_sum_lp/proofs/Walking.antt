@@ -12,7 +12,7 @@ use Rattle.lex_tableau.specs.Rows.{Numbers, tableau}
 use Rattle.lex_tableau.specs.Ratio.{listed}
 use Rattle.whole_rows.specs.Steps.{IsFirstUnfit}
 use Rattle.lex_tableau.specs.Pivots.{steps_of_pivot}
-use Rattle.zero_sum_lp.specs.Steps.{linear_program, IsProgramStart, IsFittingStep, LeadsTo, EndsPath, IsStepNumber, IsUnfitStep, IsUnderWay, IsEnteringOf}
+use Rattle.zero_sum_lp.specs.Steps.{linear_program, IsProgramStart, IsFittingPivot, LeadsTo, EndsPath, IsPivotNumber, IsUnfitPivot, IsUnderWay, IsEnteringOf}
 
 -- keys by the same variables
 key_by : (m : ℕ) (b d : ℕ → ℕ) (t : Tableau) (i p : ℕ) → ((q : ℕ) → q < m → b q ≡ d q) → p < suc m → key b t i p ≡ key d t i p
@@ -84,28 +84,28 @@ module _ (first now : Numbers) (k : ℕ) (s : IsProgramStart first) (w : LeadsTo
 
 -- ---- for the loop
 -- what a scan of the tableau as it was read found enters
-pub read_enters : (first now seen : Numbers) (begun steps number m n c : ℕ) → IsProgramStart first → IsUnderWay first now begun steps number → m ≡ first.rated → n ≡ length first.nonbasics → seen ≡ now → IsEnteringOf m n (tableau seen) c → IsEntering now.rated (tableau now) c
-read_enters first now seen begun steps number m n c s u em en e f = found_enters first now u.count s u.path m n c em en (subst (λ x. IsEnteringOf m n (tableau x) c) e f)
+pub read_enters : (first now seen : Numbers) (past pivots number m n c : ℕ) → IsProgramStart first → IsUnderWay first now past pivots number → m ≡ first.rated → n ≡ length first.nonbasics → seen ≡ now → IsEnteringOf m n (tableau seen) c → IsEntering now.rated (tableau now) c
+read_enters first now seen past pivots number m n c s u em en e f = found_enters first now u.count s u.path m n c em en (subst (λ x. IsEnteringOf m n (tableau x) c) e f)
 
 -- and the tableau that was read has its lexicographic row
 pub read_leaves : (now seen : Numbers) (c r : ℕ) → seen ≡ now → IsLexicographicRow seen.rated seen.rated (listed seen.starts) (tableau seen) c r → IsLexicographicRow now.rated now.rated (listed now.starts) (tableau now) c r
 read_leaves now seen c r e l = subst (λ x. IsLexicographicRow x.rated x.rated (listed x.starts) (tableau x) c r) e l
 
-pub read_end : (first now seen : Numbers) (begun steps number m n : ℕ) → IsProgramStart first → IsUnderWay first now begun steps number → m ≡ first.rated → n ≡ length first.nonbasics → seen ≡ now → ((j : ℕ) → j < n → zero_ℚ ≤ℚ (tableau seen).cell m j) → EndsPath first now
-read_end first now seen begun steps number m n s u em en e f =
+pub read_end : (first now seen : Numbers) (past pivots number m n : ℕ) → IsProgramStart first → IsUnderWay first now past pivots number → m ≡ first.rated → n ≡ length first.nonbasics → seen ≡ now → ((j : ℕ) → j < n → zero_ℚ ≤ℚ (tableau seen).cell m j) → EndsPath first now
+read_end first now seen past pivots number m n s u em en e f =
     record { count = u.count; path = u.path; optimal = none_optimal first now u.count s u.path m n em en (subst (λ x. (j : ℕ) → j < n → zero_ℚ ≤ℚ (tableau x).cell m j) e f) }
 
-pub under_way_begins : (first : Numbers) (begun : ℕ) → IsUnderWay first first begun begun 1
-under_way_begins first begun = record { count = 0; path = refl; counted = omega arith; is_number = record { exact = λ h. refl; later = λ h. absurd (omega arith) } }
+pub under_way_begins : (first : Numbers) (past : ℕ) → IsUnderWay first first past past 1
+under_way_begins first past = record { count = 0; path = refl; counted = omega arith; is_number = record { exact = λ h. refl; later = λ h. absurd (omega arith) } }
 
-pub under_way_next : (first now new : Numbers) (begun steps steps' number number' : ℕ) → IsUnderWay first now begun steps number → IsFittingStep now new → steps' ≡ steps + 1 → ((k : ℕ) → IsStepNumber k number → IsStepNumber (suc k) number') → IsUnderWay first new begun steps' number'
-under_way_next first now new begun steps steps' number number' u st e n =
-    let c : steps ≡ u.count + begun = u.counted in
+pub under_way_next : (first now new : Numbers) (past pivots pivots' number number' : ℕ) → IsUnderWay first now past pivots number → IsFittingPivot now new → pivots' ≡ pivots + 1 → ((k : ℕ) → IsPivotNumber k number → IsPivotNumber (suc k) number') → IsUnderWay first new past pivots' number'
+under_way_next first now new past pivots pivots' number number' u st e n =
+    let c : pivots ≡ u.count + past = u.counted in
     record { count = suc u.count; path = (now, (u.path, st)); counted = omega arith; is_number = n (suc u.count) u.is_number }
 
-pub under_way_less : (first now : Numbers) (begun steps number : ℕ) → IsProgramStart first → IsUnderWay first now begun steps number → steps < 2 ^ suc (length first.basics + length first.nonbasics) + begun
-under_way_less first now begun steps number s u =
-    let c : steps ≡ u.count + begun = u.counted in
+pub under_way_less : (first now : Numbers) (past pivots number : ℕ) → IsProgramStart first → IsUnderWay first now past pivots number → pivots < 2 ^ suc (length first.basics + length first.nonbasics) + past
+under_way_less first now past pivots number s u =
+    let c : pivots ≡ u.count + past = u.counted in
     let b : u.count < 2 ^ suc (length first.basics + length first.nonbasics) = short first now u.count s u.path in
     omega arith
 
@@ -113,6 +113,6 @@ pub measure_falls : (a b c : ℕ) → c ≡ b + 1 → b < a → a - c < a - b
 measure_falls a b c e h = omega arith
 
 -- the pivot of a step that does not fit
-pub is_unfit : (first now : Numbers) (begun steps number variable c r : ℕ) (unfit : Unfit) → IsUnderWay first now begun steps number → IsEntering now.rated (tableau now) c → IsLexicographicRow now.rated now.rated (listed now.starts) (tableau now) c r → variable ≡ (tableau now).nonbasic c → IsFirstUnfit (steps_of_pivot now r c) unfit → IsUnfitStep first number variable unfit
-is_unfit first now begun steps number variable c r unfit u e l v f =
+pub is_unfit : (first now : Numbers) (past pivots number variable c r : ℕ) (unfit : Unfit) → IsUnderWay first now past pivots number → IsEntering now.rated (tableau now) c → IsLexicographicRow now.rated now.rated (listed now.starts) (tableau now) c r → variable ≡ (tableau now).nonbasic c → IsFirstUnfit (steps_of_pivot now r c) unfit → IsUnfitPivot first number variable unfit
+is_unfit first now past pivots number variable c r unfit u e l v f =
     record { count = u.count; before = now; path = u.path; column = c; row = r; enters = e; leaves = l; variable = v; is_number = u.is_number; first_unfit = f }

@@ -3,13 +3,13 @@ use Rattle.std.specs.Prelude.{ℕ, suc, ◌<◌, ◌^◌, ◌⊎◌}
 use Rattle.linear_systems.specs.Tableau.{Tableau}
 use Rattle.linear_systems.specs.Lex.{IsLexLess}
 use Rattle.linear_systems.specs.Rows.{key, IsLexicographicRow, Alike}
-use Rattle.zero_sum_lp.specs.Paths.{LinearProgram, IsLinearProgram, IsEntering, IsOptimal, IsStep, IsAfter}
+use Rattle.zero_sum_lp.specs.Paths.{LinearProgram, IsLinearProgram, IsEntering, IsOptimal, IsPathPivot, IsAfter}
 
 -- Each step makes the objective row, with its coefficients of the start's basic variables,
 -- lexicographically greater.
 abbrev pub TheObjectiveRowGrows : Type 0
 TheObjectiveRowGrows =
-    (g : LinearProgram) (n : ℕ) (t u : Tableau) → IsLinearProgram g → IsAfter g n t → IsStep g t u
+    (g : LinearProgram) (n : ℕ) (t u : Tableau) → IsLinearProgram g → IsAfter g n t → IsPathPivot g t u
     → IsLexLess (suc g.rated) (key g.start.basic t g.rated) (key g.start.basic u g.rated)
 
 -- So no basis comes twice, and the path ends: it has fewer steps than there are sets of variables.

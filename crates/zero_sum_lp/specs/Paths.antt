@@ -41,7 +41,7 @@ abbrev pub IsOptimal : ℕ → Tableau → Type 0
 IsOptimal m t = (j : ℕ) → j < t.width → zero_ℚ ≤ℚ t.cell m j
 
 -- one step: the pivot of the entering column at its lexicographic row
-pub record IsStep (g : LinearProgram) (t u : Tableau) : Type 0 where
+pub record IsPathPivot (g : LinearProgram) (t u : Tableau) : Type 0 where
   pub column : ℕ
   pub row : ℕ
   pub entering : IsEntering g.rated t column
@@ -51,4 +51,4 @@ pub record IsStep (g : LinearProgram) (t u : Tableau) : Type 0 where
 -- t is the tableau after n steps of the path
 abbrev pub IsAfter : LinearProgram → ℕ → Tableau → Type 0
 IsAfter g zero t = Alike g.start t
-IsAfter g (suc n) u = (t : Tableau) × (IsAfter g n t × IsStep g t u)
+IsAfter g (suc n) u = (t : Tableau) × (IsAfter g n t × IsPathPivot g t u)

@@ -31,7 +31,7 @@ IsLeavingRow m column row =
 
 -- one step of the path: the entering column, its lexicographic row, and the pivot, all of whose
 -- steps of arithmetic fit
-pub record IsFittingStep (m n : Numbers) : Type 0 where
+pub record IsFittingPivot (m n : Numbers) : Type 0 where
   pub column : ℕ
   pub row : ℕ
   pub entering : IsEntering m.rated (tableau m) column
@@ -43,7 +43,7 @@ pub record IsFittingStep (m n : Numbers) : Type 0 where
 -- n is the tableau after k steps of the path, each of which fits
 abbrev pub LeadsTo : Numbers → ℕ → Numbers → Type 0
 LeadsTo first zero n = n ≡ first
-LeadsTo first (suc k) n = (m : Numbers) × (LeadsTo first k m × IsFittingStep m n)
+LeadsTo first (suc k) n = (m : Numbers) × (LeadsTo first k m × IsFittingPivot m n)
 
 -- n ends the path: each step before fits, and no entry of the objective row is negative
 pub record EndsPath (first n : Numbers) : Type 0 where
@@ -52,13 +52,13 @@ pub record EndsPath (first n : Numbers) : Type 0 where
   pub optimal : IsOptimal n.rated (tableau n)
 
 -- the number of a step, counted from 1; 2 ^ 64 - 1 stands for every later step too
-pub record IsStepNumber (k number : ℕ) : Type 0 where
+pub record IsPivotNumber (k number : ℕ) : Type 0 where
   pub exact : k < 2 ^ 64 → number ≡ k
   pub later : 2 ^ 64 ≤ k → number ≡ 2 ^ 64 - 1
 
 -- the first step of the path that does not fit: its number, the entering variable, and the first
 -- step of its arithmetic that does not fit
-pub record IsUnfitStep (first : Numbers) (number entering : ℕ) (unfit : Unfit) : Type 0 where
+pub record IsUnfitPivot (first : Numbers) (number entering : ℕ) (unfit : Unfit) : Type 0 where
   pub count : ℕ
   pub before : Numbers
   pub path : LeadsTo first count before
@@ -67,15 +67,15 @@ pub record IsUnfitStep (first : Numbers) (number entering : ℕ) (unfit : Unfit)
   pub enters : IsEntering before.rated (tableau before) column
   pub leaves : IsLeavingRow before column row
   pub variable : entering ≡ (tableau before).nonbasic column
-  pub is_number : IsStepNumber (suc count) number
+  pub is_number : IsPivotNumber (suc count) number
   pub first_unfit : IsFirstUnfit (steps_of_pivot before row column) unfit
 
--- where a walk along the path is: after `steps` steps from `begun`, before the step of this number
-pub record IsUnderWay (first now : Numbers) (begun steps number : ℕ) : Type 0 where
+-- where a walk along the path is: after `steps` steps from `past`, before the step of this number
+pub record IsUnderWay (first now : Numbers) (past pivots number : ℕ) : Type 0 where
   pub count : ℕ
   pub path : LeadsTo first count now
-  pub counted : steps ≡ count + begun
-  pub is_number : IsStepNumber (suc count) number
+  pub counted : pivots ≡ count + past
+  pub is_number : IsPivotNumber (suc count) number
 
 -- the least-numbered nonbasic variable with a negative entry in row m among the first n columns, or
 -- none

@@ -1,14 +1,12 @@
-//! The equilibrium of a constant-sum game by one linear program.
+//! The equilibrium of a constant-sum game by one linear program of two players' realisation plans.
 //!
-//! [`Lp`] is the program of two players' realisation plans (Koller, Megiddo and von Stengel 1996).
-//! `Lp::solve` follows the path of the simplex method to its end, an [`Optimum`], or to the first
-//! step that does not fit. The optimum has prices, and makes plans of its raw weights; `laws` says
-//! that these prove the value of the game.
-//!
-//! `specs::Paths` has linear programs and the path of the simplex method under the lexicographic
-//! rule (Dantzig, Orden and Wolfe 1955); `specs::Programs` the linear program of two players'
-//! realisation plans with its prices and raw weights, and `specs::Plans` the plans made of those.
-//! The functions without a body have no other meaning than the laws that they promise.
+//! Callers may rely on: `program` and `Lp::solve` give the one program and the one end of its path,
+//! in at most 2^n pivots for variables below n; `optimal_plans_prove_the_value`.
+//! Definitions: `specs::Paths` has linear programs and the path of the simplex method, `Programs`
+//! the program of plans, `Plans` plans made of raw weights, `FormPrograms` what a form answers.
+//! Private words: `specs::Systems`, and the modules that make weights into plans.
+//! Lemmas for callers: `proofs::ProgramAnswers`, `PathEnds` and `PlanAnswers`, that each is one.
+//! A change here touches: what `lp` answers and refuses, and `lp_texts_are_solutions`.
 #![tactic(auto)]
 
 ghost use Rattle.zero_sum_lp.specs.PathLaws.{TheObjectiveRowGrows, PathsEnd, PathsGoOn, PathsAreDetermined};

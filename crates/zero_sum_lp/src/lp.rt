@@ -11,7 +11,7 @@ ghost use Rattle.zero_sum_lp.specs.Steps.{linear_program};
 use crate::optimum::Optimum;
 use crate::path::follow;
 use frac128::Unfit;
-use lex_tableau::{StartStop, Steps, System, Work};
+use lex_tableau::{PivotCount, StartStop, System, Work};
 use sequence_data::Side;
 use std::alloc::Global;
 use std::marker::Model;
@@ -92,9 +92,9 @@ impl Lp {
     }
 
     /// Follows the path to its end. Takes no memory. There is always an optimum.
-    pub fn solve<L: Ledger>(self, steps: &mut Steps<L>) -> LpEnd
+    pub fn solve<L: Ledger>(self, pivots: &mut PivotCount<L>) -> LpEnd
         ensures end { IsEndOf self result }
-        ensures cost { steps.new ≤ steps.old + 2 ^ (linear_program self.tableau).bound }
+        ensures cost { pivots.new ≤ pivots.old + 2 ^ (linear_program self.tableau).bound }
     {
         let Lp {
             first,
@@ -104,7 +104,7 @@ impl Lp {
             work,
         } = self;
         let mut work = work;
-        match follow(&mut work, objective, width, steps) {
+        match follow(&mut work, objective, width, pivots) {
             Ok(()) => LpEnd::Optimal(Optimum::new(first, second, objective, width, work)),
             Err(stop) => LpEnd::Range {
                 step: stop.step,

@@ -2,16 +2,16 @@
 ghost use Rattle.std.specs.Prelude.{◌≡◌, ◌+◌, ◌^◌, ◌<◌, ◌≤◌, ℕ, suc, length, true, false, IfErr, OnOk};
 ghost use Rattle.rational.specs.Rational.{zero_ℚ, ◌≤ℚ◌, ◌<ℚ◌};
 ghost use Rattle.lex_tableau.specs.Rows.{tableau};
-ghost use Rattle.zero_sum_lp.specs.Steps.{linear_program, IsProgramStart, EntersFirst, EndsPath, IsUnfitStep, IsStepNumber};
+ghost use Rattle.zero_sum_lp.specs.Steps.{linear_program, IsProgramStart, EntersFirst, EndsPath, IsUnfitPivot, IsPivotNumber};
 
 use frac128::Unfit;
-use lex_tableau::{Steps, Tableau, Work};
+use lex_tableau::{PivotCount, Tableau, Work};
 use std::sync::ledger::Ledger;
 
 /// The step of a path that does not fit: its number, counted from 1, the entering variable and the
 /// step.
 #[derive(Debug, Drop)]
-pub struct UnfitStep {
+pub struct UnfitPivot {
     pub step: u64,
     pub entering: u32,
     pub unfit: Unfit,
@@ -67,7 +67,7 @@ fn entering(current: &Tableau, objective: usize, width: usize) -> Option<usize>
 
 // The number of the step after this one.
 fn next_number(number: u64) -> u64
-    ensures { (k : ℕ) → IsStepNumber k number → IsStepNumber (suc k) result }
+    ensures { (k : ℕ) → IsPivotNumber k number → IsPivotNumber (suc k) result }
 {
     if number == u64::MAX {
         number
@@ -85,14 +85,14 @@ pub fn follow<L: Ledger>(
     work: &mut Work,
     objective: usize,
     width: usize,
-    steps: &mut Steps<L>,
-) -> Result<(), UnfitStep>
+    pivots: &mut PivotCount<L>,
+) -> Result<(), UnfitPivot>
     requires start { IsProgramStart work.old }
     requires objective_is { objective ≡ work.old.rated }
     requires width_is { width ≡ length work.old.nonbasics }
     ensures end { OnOk result (EndsPath work.old work.new) }
-    ensures unfit { IfErr result (λ e. IsUnfitStep work.old e.step e.entering e.unfit) }
-    ensures cost { steps.new ≤ steps.old + 2 ^ (linear_program work.old).bound }
+    ensures unfit { IfErr result (λ e. IsUnfitPivot work.old e.step e.entering e.unfit) }
+    ensures cost { pivots.new ≤ pivots.old + 2 ^ (linear_program work.old).bound }
 {
     let mut number: u64 = 1;
     while let Some(col) = entering(work.now(), objective, width) {
@@ -100,10 +100,10 @@ pub fn follow<L: Ledger>(
             unreachable!();
         };
         let variable = work.now().nonbasic(col);
-        match work.pivot(row, col, steps) {
+        match work.pivot(row, col, pivots) {
             Ok(()) => {}
             Err(unfit) => {
-                return Err(UnfitStep {
+                return Err(UnfitPivot {
                     step: number,
                     entering: variable,
                     unfit,

@@ -1,6 +1,6 @@
 -- Whole trees are trees.
-use Rattle.written_trees.proofs.BegunTrees as begun_trees
+use Rattle.written_trees.proofs.PartialTrees as partial_trees
 use Rattle.written_trees.proofs.whole_trees_are_trees.Goals as goal
 
 pub returns : goal.returns
-returns c = begun_trees.whole_trees_are_trees
+returns c = partial_trees.whole_trees_are_trees

@@ -6,6 +6,6 @@ use Rattle.basis_enum.proofs.walk.reach.Given as goal
 abbrev pub invariant-loop-number : goal.invariant-loop-number
 invariant-loop-number g l = record {
   walk : IsWalkAt l.system l.number l.walk;
-  count : l.steps + 1 ≡ l.initial.steps + length l.walk.known.items;
+  count : l.pivots + 1 ≡ l.initial.pivots + length l.walk.known.items;
   moves : AreNewMoves l.walk.level.items l.walk.known.items l.moves.items;
 }

@@ -2,9 +2,9 @@ use Rattle.std.proofs.Common.{suc, ◌-◌, ◌<◌, ◌≡◌, None, length, ma
 use Rattle.std.proofs.lemmas.List.{length-map}
 use Rattle.std.proofs.lemmas.Option.{slice_get-get_or}
 use Rattle.choice_lists.specs.declared.decision.Decision.{Decision}
-use Rattle.choice_lists.specs.Ways.{AreBehind, is_first, ways_where}
+use Rattle.choice_lists.specs.Ways.{AreAfter, is_first, ways_where}
 use Rattle.choice_lists.proofs.Ways.{all_ends-counted}
-use Rattle.choice_lists.proofs.Behind.{first-start, first-more, first-stays, ways-summed, step-before, AreBehind-first, AreBehind-multiplied}
+use Rattle.choice_lists.proofs.After.{first-start, first-more, first-stays, ways-summed, edge-before, AreAfter-first, AreAfter-multiplied}
 use Rattle.choice_lists.proofs.count.count_apart.Goals as goal
 
 -- a decision where there is none
@@ -14,7 +14,7 @@ none_there = record { place = 0; before = None }
 pub loop-left-init : goal.loop-left-init
 loop-left-init c = record {
   within = omega arith;
-  behind = c.in_ok-behind.ensures c.args.limit c.requires.limit;
+  following = c.in_ok-following.ensures c.args.limit c.requires.limit;
   first = first-start c.args.decisions.now c.args.actions.now c.args.limit is_first c.requires.limit;
 }
 
@@ -25,11 +25,11 @@ loop-left-preserved-in-None c =
     let within : m < length c.args.decisions.now = omega (arith, c.loop-left.invariant.within) in
     let d = get_or c.args.decisions.now m none_there in
     let at = slice_get-get_or c.args.decisions.now m none_there within in
-    let behind = subst (λ v. AreBehind c.args.decisions.now c.args.actions.now v c.args.limit (map (λ v. v.items) c.loop-left.behind.items)) next c.loop-left.invariant.behind in
-    let ways = ways-summed (λ v. v.items) c.args.decisions.now c.args.actions.now m c.args.limit c.sum-ways.result c.loop-left.behind.items d c.index.result.now c.deref.result.now behind at c.index.ensures c.deref.ensures.value c.sum-ways.ensures in
+    let following = subst (λ v. AreAfter c.args.decisions.now c.args.actions.now v c.args.limit (map (λ v. v.items) c.loop-left.following.items)) next c.loop-left.invariant.following in
+    let ways = ways-summed (λ v. v.items) c.args.decisions.now c.args.actions.now m c.args.limit c.sum-ways.result c.loop-left.following.items d c.index.result.now c.deref.result.now following at c.index.ensures c.deref.ensures.value c.sum-ways.ensures in
     record {
       within = omega (arith, c.loop-left.invariant.within);
-      behind = AreBehind-first c.args.decisions.now c.args.actions.now m c.args.limit _ d at c.in-None.is behind;
+      following = AreAfter-first c.args.decisions.now c.args.actions.now m c.args.limit _ d at c.in-None.is following;
       first = c.product-first.ensures ∙ first-more c.args.decisions.now c.args.actions.now m c.args.limit c.loop-left.first c.sum-ways.result d c.requires.limit at c.in-None.is ways (c.loop-left.invariant.first ∙ ap (λ v. min (ways_where c.args.decisions.now c.args.actions.now v is_first) c.args.limit) next);
     }
 
@@ -38,8 +38,8 @@ index_mut-products-requires c =
     let m = c.loop-left.left - 1 in
     let within : m < length c.args.decisions.now = omega (arith, c.loop-left.invariant.within) in
     let at = slice_get-get_or c.args.decisions.now m none_there within in
-    let earlier = step-before c.args.decisions.now c.args.actions.now m (get_or c.args.decisions.now m none_there) c.in-Some.step c.requires.linked at c.in-Some.is in
-    omega (arith, earlier, within, c.loop-left.invariant.behind.one_for_each, length-map c.loop-left.behind.items (λ v. v.items))
+    let earlier = edge-before c.args.decisions.now c.args.actions.now m (get_or c.args.decisions.now m none_there) c.in-Some.edge c.requires.linked at c.in-Some.is in
+    omega (arith, earlier, within, c.loop-left.invariant.following.one_for_each, length-map c.loop-left.following.items (λ v. v.items))
 
 pub loop-left-preserved : goal.loop-left-preserved
 loop-left-preserved c =
@@ -48,13 +48,13 @@ loop-left-preserved c =
     let within : m < length c.args.decisions.now = omega (arith, c.loop-left.invariant.within) in
     let d = get_or c.args.decisions.now m none_there in
     let at = slice_get-get_or c.args.decisions.now m none_there within in
-    let behind = subst (λ v. AreBehind c.args.decisions.now c.args.actions.now v c.args.limit (map (λ v. v.items) c.loop-left.behind.items)) next c.loop-left.invariant.behind in
-    let ways = ways-summed (λ v. v.items) c.args.decisions.now c.args.actions.now m c.args.limit c.sum-ways.result c.loop-left.behind.items d c.index.result.now c.deref.result.now behind at c.index.ensures c.deref.ensures.value c.sum-ways.ensures in
-    let earlier = step-before c.args.decisions.now c.args.actions.now m d c.in-Some.step c.requires.linked at c.in-Some.is in
+    let following = subst (λ v. AreAfter c.args.decisions.now c.args.actions.now v c.args.limit (map (λ v. v.items) c.loop-left.following.items)) next c.loop-left.invariant.following in
+    let ways = ways-summed (λ v. v.items) c.args.decisions.now c.args.actions.now m c.args.limit c.sum-ways.result c.loop-left.following.items d c.index.result.now c.deref.result.now following at c.index.ensures c.deref.ensures.value c.sum-ways.ensures in
+    let earlier = edge-before c.args.decisions.now c.args.actions.now m d c.in-Some.edge c.requires.linked at c.in-Some.is in
     record {
       within = omega (arith, c.loop-left.invariant.within);
-      behind = AreBehind-multiplied (λ v. v.items) c.args.decisions.now c.args.actions.now m c.args.limit c.sum-ways.result c.loop-left.behind.items d c.in-Some.step c.index_mut-products.result.now c.multiply.new.products at c.in-Some.is behind c.requires.limit ways (omega (arith, earlier, behind.one_for_each, length-map c.loop-left.behind.items (λ v. v.items))) c.index_mut-products.ensures.value c.multiply.ensures;
-      first = first-stays c.args.decisions.now c.args.actions.now m c.args.limit c.loop-left.first d c.in-Some.step at c.in-Some.is (c.loop-left.invariant.first ∙ ap (λ v. min (ways_where c.args.decisions.now c.args.actions.now v is_first) c.args.limit) next);
+      following = AreAfter-multiplied (λ v. v.items) c.args.decisions.now c.args.actions.now m c.args.limit c.sum-ways.result c.loop-left.following.items d c.in-Some.edge c.index_mut-products.result.now c.multiply.new.products at c.in-Some.is following c.requires.limit ways (omega (arith, earlier, following.one_for_each, length-map c.loop-left.following.items (λ v. v.items))) c.index_mut-products.ensures.value c.multiply.ensures;
+      first = first-stays c.args.decisions.now c.args.actions.now m c.args.limit c.loop-left.first d c.in-Some.edge at c.in-Some.is (c.loop-left.invariant.first ∙ ap (λ v. min (ways_where c.args.decisions.now c.args.actions.now v is_first) c.args.limit) next);
     }
 
 pub returns : goal.returns

@@ -1,11 +1,11 @@
 use Rattle.std.proofs.Common.{◌≡◌, ◌≤◌, length, map, min}
-use Rattle.choice_lists.specs.Ways.{AreBehind, is_first, ways_where}
+use Rattle.choice_lists.specs.Ways.{AreAfter, is_first, ways_where}
 use Rattle.choice_lists.proofs.count.count_apart.Given as goal
 
 abbrev pub invariant-loop-left : goal.invariant-loop-left
 invariant-loop-left l = record {
   within : l.left ≤ length l.decisions;
-  behind : AreBehind l.decisions l.actions l.left l.limit (map (λ v. v.items) l.behind.items);
+  following : AreAfter l.decisions l.actions l.left l.limit (map (λ v. v.items) l.following.items);
   first : l.first ≡ min (ways_where l.decisions l.actions l.left is_first) l.limit;
 }
 

@@ -1,7 +1,7 @@
 use Rattle.std.proofs.Common.{None, get_or, arith, add-one}
 use Rattle.std.proofs.lemmas.Option.{slice_get-get_or}
 use Rattle.choice_lists.specs.declared.decision.Decision.{Decision}
-use Rattle.choice_lists.proofs.Behind.{AreOnes-none, AreOnes-next, AreBehind-ones}
+use Rattle.choice_lists.proofs.After.{AreOnes-none, AreOnes-next, AreAfter-ones}
 use Rattle.choice_lists.proofs.count.ones.Goals as goal
 
 -- a decision where there is none
@@ -18,4 +18,4 @@ loop-decision-preserved c =
     rw add-one (AreOnes-next (λ v. v.items) c.args.decisions.now c.args.actions.now c.loop-decision.decision-index c.loop-decision.lists.items c.push.new.self.items _ d at c.in_ok-push.ensures.items (c.in_ok-vec.ensures.items_if_clones_equal (λ y h. h)) c.loop-decision.invariant)
 
 pub returns : goal.returns
-returns c = AreBehind-ones (λ v. v.items) c.args.decisions.now c.args.actions.now c.loop-decision.decision-index c.loop-decision.lists.items (omega arith) c.loop-decision.invariant
+returns c = AreAfter-ones (λ v. v.items) c.args.decisions.now c.args.actions.now c.loop-decision.decision-index c.loop-decision.lists.items (omega arith) c.loop-decision.invariant

@@ -4,7 +4,7 @@ use Rattle.std.proofs.lemmas.Option.{slice_get-get_or}
 use Rattle.choice_lists.specs.declared.decision.Decision.{Decision}
 use Rattle.choice_lists.specs.Walks.{AreLinked}
 use Rattle.choice_lists.specs.LeftOut.{all_ends}
-use Rattle.choice_lists.proofs.LeftOut.{AreNumbered-kept, AreNumbered-left_out, AreNumbered-all, kept_below-all, step-numbered, linked-kept, all_ends-kept}
+use Rattle.choice_lists.proofs.LeftOut.{AreNumbered-kept, AreNumbered-left_out, AreNumbered-all, kept_below-all, edge-numbered, linked-kept, all_ends-kept}
 use Rattle.choice_lists.proofs.kept.kept_decisions.Goals as goal
 use Rattle.choice_lists.proofs.kept.kept_decisions.Goals.{then-index+in_ok-push-2, else-index}
 
@@ -37,7 +37,7 @@ loop-number-preserved c =
     let read = get_or_default kept n false c.index.result.now inside ∙ sym c.index.ensures in
     elim c.if-index.branch [
       | then-index+in_ok-push-2 w ↦ (
-          let told = step-numbered c.args.decisions.now c.args.actions.now kept n c.loop-number.numbers.items w.deref.result.now d c.requires.linked at c.loop-number.invariant.number_for_each c.loop-number.invariant.numbers_are c.len.result (w.deref.ensures.value ∙ c.in_ok-push.ensures.items) in
+          let told = edge-numbered c.args.decisions.now c.args.actions.now kept n c.loop-number.numbers.items w.deref.result.now d c.requires.linked at c.loop-number.invariant.number_for_each c.loop-number.invariant.numbers_are c.len.result (w.deref.ensures.value ∙ c.in_ok-push.ensures.items) in
           rw (w.list-is, add-one) (AreNumbered-kept c.args.decisions.now kept n c.loop-number.numbers.items c.push.new.self.items c.loop-number.list.items w.push-then-index.new.self.items d w.renumbered.result c.loop-number.invariant at (read ∙ w.if-index.true) push w.in_ok-push-2.ensures.items (w.renumbered.ensures kept told.1)))
       | else-index w ↦ rw (w.list-is, add-one) (AreNumbered-left_out c.args.decisions.now kept n c.loop-number.numbers.items c.push.new.self.items c.loop-number.list.items d c.loop-number.invariant at (read ∙ w.if-index.false) push)
     ]

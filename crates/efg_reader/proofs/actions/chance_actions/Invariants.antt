@@ -2,11 +2,11 @@ use Rattle.std.proofs.Common.{◌≡◌, length}
 use Rattle.rational.specs.Rational.{zero_ℚ}
 use Rattle.file_parts.specs.Reading.{kinds}
 use Rattle.efg_reader.specs.TreeParsing.{parse_chances}
-use Rattle.efg_reader.proofs.ActionSteps.{behind_actions}
+use Rattle.efg_reader.proofs.ActionSteps.{after_actions}
 use Rattle.efg_reader.proofs.actions.chance_actions.Given as goal
 
 abbrev pub invariant-loop-name : goal.invariant-loop-name
-invariant-loop-name l = behind_actions l.actions.items (parse_chances l.set l.sum (kinds l.rest)) ≡ parse_chances l.set zero_ℚ (kinds l.tokens)
+invariant-loop-name l = after_actions l.actions.items (parse_chances l.set l.sum (kinds l.rest)) ≡ parse_chances l.set zero_ℚ (kinds l.tokens)
 
 abbrev pub decreases-loop-name : goal.decreases-loop-name
 decreases-loop-name l = length l.rest

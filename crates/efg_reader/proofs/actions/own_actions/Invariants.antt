@@ -6,7 +6,7 @@ use Rattle.efg_reader.proofs.actions.own_actions.Given as goal
 abbrev pub invariant-loop-name : goal.invariant-loop-name
 invariant-loop-name l = record {
   so_far : l.actions.items ++ map own_action (texts_at (kinds l.rest)).0 ≡ map own_action (texts_at (kinds l.tokens)).0;
-  behind : (texts_at (kinds l.rest)).1 ≡ (texts_at (kinds l.tokens)).1;
+  following : (texts_at (kinds l.rest)).1 ≡ (texts_at (kinds l.tokens)).1;
 }
 
 abbrev pub decreases-loop-name : goal.decreases-loop-name

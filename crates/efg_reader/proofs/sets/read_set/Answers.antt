@@ -1,7 +1,7 @@
 use Rattle.std.proofs.Common.{rules, option_map, refl}
 use Rattle.std.specs.Vec.{with_item}
 use Rattle.file_parts.specs.Reading.{kinds}
-use Rattle.efg_reader.specs.Uses.{begun_sets}
+use Rattle.efg_reader.specs.Uses.{partial_sets}
 use Rattle.efg_reader.proofs.SetSteps.{Comes, step_without, first_refused, first_used, later_refused, later_used, sets_begin, sets_go_on}
 use Rattle.efg_reader.proofs.sets.read_set.Goals as goal
 use Rattle.efg_reader.proofs.sets.read_set.Goals.{In_ok-place}
@@ -10,7 +10,7 @@ use Rattle.efg_reader.proofs.sets.read_set.Goals.{In_ok-place}
 comes : (c : In_ok-place) → Comes c.args.sets c.args.owner (kinds c.args.tokens.now) (kinds c.optional_text.result.1.now) c.in-Some.label (option_map (λ t. t.now) c.optional_text.result.0) c.in_ok-place.place c.in_ok-place.is_new
 comes c = record {
   are = c.requires.sets;
-  behind = kinds c.in-Some.behind.now;
+  following = kinds c.in-Some.following.now;
   is_label = c.in-Some.ensures;
   is_name = c.optional_text.ensures;
   is_place = c.in_ok-place.ensures.place;
@@ -19,7 +19,7 @@ comes c = record {
 }
 
 pub returns-in_default-clause-read : goal.returns-in_default-clause-read
-returns-in_default-clause-read c = step_without c.args.node (begun_sets c.args.sets) c.args.owner (kinds c.args.tokens.now) c.unfit.result c.in_default.ensures c.unfit.ensures
+returns-in_default-clause-read c = step_without c.args.node (partial_sets c.args.sets) c.args.owner (kinds c.args.tokens.now) c.unexpected.result c.in_default.ensures c.unexpected.ensures
 
 pub returns-in_err-set-clause-read : goal.returns-in_err-set-clause-read
 returns-in_err-set-clause-read c =

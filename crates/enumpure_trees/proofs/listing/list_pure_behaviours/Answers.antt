@@ -6,12 +6,12 @@ use Rattle.game_theory.specs.Profiles.{IsProfile}
 use Rattle.game_theory.specs.Lines.{lines_text}
 use Rattle.game_core.specs.Table.{game_of}
 use Rattle.game_core.specs.TreeGame.{game_of_tree}
-use Rattle.enumpure.specs.Replies.{flag, AreStable}
+use Rattle.enumpure.specs.Replies.{plays_best, AreMutualBestReplies}
 use Rattle.enumpure_trees.specs.Orders.{AreOrders}
 use Rattle.enumpure_trees.specs.Ranks.{lines_below}
 use Rattle.enumpure_trees.proofs.FormSizes.{IsProfile-first}
 use Rattle.enumpure_trees.proofs.SortedOrders.{AreOrders-sorted}
-use Rattle.enumpure_trees.proofs.Texts.{AreListed-made, length-flags, IsTreeEquilibriaText-listed, length-listed, above_limit, below_limit}
+use Rattle.enumpure_trees.proofs.Texts.{AreListed-made, length-best_replies, IsTreeEquilibriaText-listed, length-listed, above_limit, below_limit}
 use Rattle.enumpure_trees.proofs.listing.list_pure_behaviours.Goals as goal
 
 pub line_length-requires-clause-profile : goal.line_length-requires-clause-profile
@@ -25,35 +25,35 @@ pub write_lines-requires-clause-orders : goal.write_lines-requires-clause-orders
 write_lines-requires-clause-orders c =
     subst (λ os. AreOrders c.args.reduced.now.choices (map (λ v. v.items) os)) (sym c.deref-3.ensures.value) (AreOrders-sorted c.args.reduced.now.choices (map (λ v. v.items) c.in_ok-orders.orders.items) (c.in_ok-orders.ensures {u = tt}))
 
-pub write_lines-requires-clause-flags : goal.write_lines-requires-clause-flags
-write_lines-requires-clause-flags c =
-    let flags = c.in_ok-stable.stable.items in
-    let stable = subst (λ t. AreStable (game_of t) flags) c.table.ensures (c.in_ok-stable.ensures {u = tt}) in
-    ap length c.deref-4.ensures.value ∙ length-flags c.args.tree.now c.args.reduced.now flags c.requires.form stable
+pub write_lines-requires-clause-best_replies : goal.write_lines-requires-clause-best_replies
+write_lines-requires-clause-best_replies c =
+    let best_replies = c.in_ok-all_best.all_best.items in
+    let all_best = subst (λ t. AreMutualBestReplies (game_of t) best_replies) c.table.ensures (c.in_ok-all_best.ensures {u = tt}) in
+    ap length c.deref-4.ensures.value ∙ length-best_replies c.args.tree.now c.args.reduced.now best_replies c.requires.form all_best
 
 pub returns-then-count-each : goal.returns-then-count-each
 returns-then-count-each c =
     let tree = c.args.tree.now in
     let form = c.args.reduced.now in
     let orders = map (λ v. v.items) c.in_ok-orders.orders.items in
-    let flags = c.in_ok-stable.stable.items in
-    let listed = AreListed-made tree form orders flags c.table.result.now (c.trees_are_game_trees.ensures tree c.players.ensures.valid) c.requires.form (c.in_ok-orders.ensures {u = tt}) (c.in_ok-stable.ensures {u = tt}) c.table.ensures in
+    let best_replies = c.in_ok-all_best.all_best.items in
+    let listed = AreListed-made tree form orders best_replies c.table.result.now (c.trees_are_game_trees.ensures tree c.players.ensures.valid) c.requires.form (c.in_ok-orders.ensures {u = tt}) (c.in_ok-all_best.ensures {u = tt}) c.table.ensures in
     let counted : c.count-count.result ≡ count_by (λ b. b) c.deref-2.result.now = search rules in
-    let long = length-listed tree form orders flags c.in_ok-each.each listed (c.in_ok-each.ensures {u = tt}).each in
+    let long = length-listed tree form orders best_replies c.in_ok-each.each listed (c.in_ok-each.ensures {u = tt}).each in
     let above = above_limit most_text c.in_ok-each.each c.count-count.result (c.in_ok-each.ensures {u = tt}).some c.if-count-each.true in
     let same = ap (λ n. n * c.in_ok-each.each) (counted ∙ ap (count_by (λ b. b)) c.deref-2.ensures.value) in
-    inr ((lines_text (lines_below (game_of_tree tree) form.choices orders (flag flags) (length flags)), IsTreeEquilibriaText-listed tree form orders flags _ listed refl, omega (arith, long, above, same)), c.too_long_text.ensures)
+    inr ((lines_text (lines_below (game_of_tree tree) form.choices orders (plays_best best_replies) (length best_replies)), IsTreeEquilibriaText-listed tree form orders best_replies _ listed refl, omega (arith, long, above, same)), c.too_long_text.ensures)
 
 pub returns : goal.returns
 returns c =
     let tree = c.args.tree.now in
     let form = c.args.reduced.now in
     let orders = map (λ v. v.items) c.in_ok-orders.orders.items in
-    let flags = c.in_ok-stable.stable.items in
-    let listed = AreListed-made tree form orders flags c.table.result.now (c.trees_are_game_trees.ensures tree c.players.ensures.valid) c.requires.form (c.in_ok-orders.ensures {u = tt}) (c.in_ok-stable.ensures {u = tt}) c.table.ensures in
-    let text = c.in_ok-write_lines.ensures {u = tt} ∙ ap₂ (λ os fs. lines_text (lines_below (game_of_tree tree) form.choices (map (λ v. v.items) os) (flag fs) (length fs))) c.deref-3.ensures.value c.deref-4.ensures.value in
+    let best_replies = c.in_ok-all_best.all_best.items in
+    let listed = AreListed-made tree form orders best_replies c.table.result.now (c.trees_are_game_trees.ensures tree c.players.ensures.valid) c.requires.form (c.in_ok-orders.ensures {u = tt}) (c.in_ok-all_best.ensures {u = tt}) c.table.ensures in
+    let text = c.in_ok-write_lines.ensures {u = tt} ∙ ap₂ (λ os fs. lines_text (lines_below (game_of_tree tree) form.choices (map (λ v. v.items) os) (plays_best fs) (length fs))) c.deref-3.ensures.value c.deref-4.ensures.value in
     let counted : c.count-count.result ≡ count_by (λ b. b) c.deref-2.result.now = search rules in
-    let long = length-listed tree form orders flags c.in_ok-each.each listed (c.in_ok-each.ensures {u = tt}).each in
+    let long = length-listed tree form orders best_replies c.in_ok-each.each listed (c.in_ok-each.ensures {u = tt}).each in
     let below = below_limit most_text c.in_ok-each.each c.count-count.result (c.in_ok-each.ensures {u = tt}).some c.if-count-each.false in
     let same = ap (λ n. n * c.in_ok-each.each) (counted ∙ ap (count_by (λ b. b)) c.deref-2.ensures.value) in
-    (IsTreeEquilibriaText-listed tree form orders flags c.in_ok-write_lines.field-0.items listed text, omega (arith, ap length text, long, below, same))
+    (IsTreeEquilibriaText-listed tree form orders best_replies c.in_ok-write_lines.field-0.items listed text, omega (arith, ap length text, long, below, same))

@@ -1,11 +1,11 @@
 use Rattle.std.proofs.Common.{sym, subst}
-use Rattle.game_text.proofs.Digits.{Struck, struck_behind, kept_digits}
+use Rattle.game_text.proofs.Digits.{Struck, struck_after, kept_digits}
 use Rattle.game_text.proofs.Limits.{decimal_answer}
 use Rattle.game_text.proofs.number.decimal_value.Goals as goal
 
 pub size_of_both-requires-clause-after : goal.size_of_both-requires-clause-after
 size_of_both-requires-clause-after c =
-    kept_digits c.args.after.now _ (subst (Struck c.args.after.now) (sym c.without_trailing_zeros-after.ensures) (struck_behind c.args.after.now)) c.requires.after
+    kept_digits c.args.after.now _ (subst (Struck c.args.after.now) (sym c.without_trailing_zeros-after.ensures) (struck_after c.args.after.now)) c.requires.after
 
 pub returns : goal.returns
 returns c =

@@ -5,7 +5,7 @@ use Rattle.rational.specs.Rational.{ℚ}
 use Rattle.game_text.specs.declared.number.NumberFault.{NumberFault}
 use Rattle.game_text.specs.declared.number.NumberFault.TheVariants.{Bad, TooLarge}
 use Rattle.game_text.specs.Numbers.{NumberForm, IsNumber, IsTooLarge, IsNoNumber}
-use Rattle.game_text.specs.NumberReading.{Answers, is_minus, behind_sign, leading, behind, form_of, form_with}
+use Rattle.game_text.specs.NumberReading.{Answers, is_minus, after_sign, leading, following, form_of, form_with}
 use Rattle.game_text.proofs.Forms.{form_found, form_again}
 use Rattle.game_text.proofs.number.read_number.Goals as goal
 
@@ -25,7 +25,7 @@ too_large text None (Err fault) e h is = cc
 too_large text (Some form) (Ok f) e h is = cc
 too_large text (Some form) (Err fault) e h is = record { form = form; is_written = form_found text form e; is_beyond = h.1 }
 
-parts_form : (text bytes before rest : List ℕ) (negative : Bool) → negative ≡ is_minus text → bytes ≡ behind_sign text → before ≡ leading is_ascii_digit bytes → rest ≡ behind is_ascii_digit bytes → form_with negative before rest ≡ form_of text
+parts_form : (text bytes before rest : List ℕ) (negative : Bool) → negative ≡ is_minus text → bytes ≡ after_sign text → before ≡ leading is_ascii_digit bytes → rest ≡ following is_ascii_digit bytes → form_with negative before rest ≡ form_of text
 unfolding form_of
 parts_form text bytes before rest negative a b f r = rw (f, r, b, a) refl
 

@@ -9,7 +9,7 @@ loop-rest-init c =
     let bytes = c.args.bytes.now in
     let rest = c.without_blanks-rest.result.now in record {
       tokens = rw c.new-list.ensures.items (blanks_before bytes rest c.without_blanks-rest.ensures);
-      in_place = rw c.new-list.ensures.items (omega arith);
+      are_spaced = rw c.new-list.ensures.items (omega arith);
       within = blanks_shorten bytes rest c.without_blanks-rest.ensures;
       no_blank = rw c.without_blanks-rest.ensures (drop_blanks bytes);
     }
@@ -26,7 +26,7 @@ loop-rest-preserved c =
     let pushed : c.push.new.self.items ≡ items ++ one ∷ [] = c.in_ok-push.ensures.items in
     let blanks = c.without_blanks-rest-in-loop-rest.ensures in record {
       tokens = rw pushed (read_tokens bytes rest after next items one read c.loop-rest.invariant.tokens blanks);
-      in_place = rw pushed (read_places bytes rest after next items one read c.loop-rest.invariant.in_place blanks);
+      are_spaced = rw pushed (read_places bytes rest after next items one read c.loop-rest.invariant.are_spaced blanks);
       within = omega (arith, shorter bytes rest after one read, blanks_shorten after next blanks, c.loop-rest.invariant.within);
       no_blank = rw blanks (drop_blanks after);
     }

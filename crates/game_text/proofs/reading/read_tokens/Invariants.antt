@@ -1,12 +1,12 @@
 use Rattle.std.proofs.Common.{◌-◌, ◌≤◌, length}
 use Rattle.game_text.specs.Tokens.{AreTokensBefore, BeginsWith, IsBlank}
-use Rattle.game_core.specs.InPlace.{AreInPlace}
+use Rattle.game_core.specs.Spacing.{AreSpaced}
 use Rattle.game_text.proofs.reading.read_tokens.Given as goal
 
 abbrev pub invariant-loop-rest : goal.invariant-loop-rest
 invariant-loop-rest l = record {
   tokens : AreTokensBefore 0 l.bytes l.list.items l.rest;
-  in_place : AreInPlace 0 (length l.bytes - length l.rest) l.list.items;
+  are_spaced : AreSpaced 0 (length l.bytes - length l.rest) l.list.items;
   within : length l.rest ≤ length l.bytes;
   no_blank : ¬ (BeginsWith IsBlank l.rest);
 }

@@ -8,7 +8,7 @@ use Rattle.frac128.specs.declared.steps.Op.TheVariants.{Div}
 use Rattle.game_theory.specs.Lines.{listed}
 use Rattle.game_theory.proofs.Entries.{listed-push}
 use Rattle.pure_payoffs.specs.Steps.{StepFits}
-use Rattle.pure_payoffs.proofs.Runs.{first_unfit-more, first_unfit-behind}
+use Rattle.pure_payoffs.proofs.Runs.{first_unfit-more, first_unfit-following}
 use Rattle.extreme_equilibria.specs.Polytopes.{scaled}
 use Rattle.extreme_equilibria.proofs.PositiveNumbers.{sum-pos}
 use Rattle.label_pairing.specs.Scaling.{entry_of, division, sum_steps}
@@ -23,7 +23,7 @@ pub returns-in-Err-div : goal.returns-in-Err-div
 returns-in-Err-div c =
     let p = c.args.point.now in
     let read : c.index-point-i.result ≡ entry_of p c.loop-i.i = c.index-point-i.is ∙ get_or_default p c.loop-i.i c.index-point-i.result zero_ℚ c.loop-i-test.true in
-    inr (first_unfit-behind (sum_steps p) _ c.in-Err-div.unfit c.in-Ok.ensures.1 (unfit-first (division p) (length p) c.loop-i.i c.loop-i-test.true c.in-Err-div.unfit c.loop-i.invariant.fits (λ f. c.in-Err-div.ensures.unfit (subst₂ DivFits (sym read) (sym c.in-Ok.ensures.0) f)) (c.in-Err-div.ensures.step ∙ ap₂ (λ x y. unfit Div x y) read c.in-Ok.ensures.0)))
+    inr (first_unfit-following (sum_steps p) _ c.in-Err-div.unfit c.in-Ok.ensures.1 (unfit-first (division p) (length p) c.loop-i.i c.loop-i-test.true c.in-Err-div.unfit c.loop-i.invariant.fits (λ f. c.in-Err-div.ensures.unfit (subst₂ DivFits (sym read) (sym c.in-Ok.ensures.0) f)) (c.in-Err-div.ensures.step ∙ ap₂ (λ x y. unfit Div x y) read c.in-Ok.ensures.0)))
 
 pub returns-in-Err : goal.returns-in-Err
 returns-in-Err c = inr (first_unfit-more (sum_steps c.args.point.now) _ c.in-Err.unfit c.in-Err.ensures)

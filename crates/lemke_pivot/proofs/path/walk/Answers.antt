@@ -13,82 +13,82 @@ pivot-requires-clause-entry g c = z0_entry c.args.size c.args.first c.args.work.
 pub returns-then-is_zero-clause-solved : goal.returns-then-is_zero-clause-solved
 returns-then-is_zero-clause-solved g c =
     let l = c.loop-size in let o = l.invariant.path in
-    let v = walk_value c.args.size c.args.first c.args.work.now c.requires.start l.work l.entering c.args.steps.now l.steps l.step o c.now.result.now (c.args.size + c.args.size + 1) c.value.result c.now.ensures.value (omega arith) c.value.ensures.value in
-    walk_solved c.args.size c.args.first c.args.work.now c.requires.start l.work l.entering c.args.steps.now l.steps l.step o (sym v ∙ c.is_zero.ensures.0 c.if-is_zero.true) (subst IsTableau c.now.ensures.value c.value.ensures.valid)
+    let v = walk_value c.args.size c.args.first c.args.work.now c.requires.start l.work l.entering c.args.pivots.now l.pivots l.step o c.now.result.now (c.args.size + c.args.size + 1) c.value.result c.now.ensures.value (omega arith) c.value.ensures.value in
+    walk_solved c.args.size c.args.first c.args.work.now c.requires.start l.work l.entering c.args.pivots.now l.pivots l.step o (sym v ∙ c.is_zero.ensures.0 c.if-is_zero.true) (subst IsTableau c.now.ensures.value c.value.ensures.valid)
 
 pub column_of-col-requires-clause-columns : goal.column_of-col-requires-clause-columns
 column_of-col-requires-clause-columns g c =
     let l = c.loop-size in
-    columns_are c.args.size c.args.first c.args.work.now c.requires.start l.work l.entering c.args.steps.now l.steps l.step l.invariant.path ∙ ap (λ (m : Numbers). length m.nonbasics) (sym c.now-in-loop-size.ensures.value)
+    columns_are c.args.size c.args.first c.args.work.now c.requires.start l.work l.entering c.args.pivots.now l.pivots l.step l.invariant.path ∙ ap (λ (m : Numbers). length m.nonbasics) (sym c.now-in-loop-size.ensures.value)
 
 pub column_of-col-requires-clause-nonbasic : goal.column_of-col-requires-clause-nonbasic
 column_of-col-requires-clause-nonbasic g c =
     let l = c.loop-size in let o = l.invariant.path in
-    let v = walk_value c.args.size c.args.first c.args.work.now c.requires.start l.work l.entering c.args.steps.now l.steps l.step o c.now.result.now (c.args.size + c.args.size + 1) c.value.result c.now.ensures.value (omega arith) c.value.ensures.value in
-    let w = walk_nonbasic c.args.size c.args.first c.args.work.now c.requires.start l.work l.entering c.args.steps.now l.steps l.step o (λ e. true≢false (sym (c.is_zero.ensures.1 (v ∙ e)) ∙ c.if-is_zero.false)) in
+    let v = walk_value c.args.size c.args.first c.args.work.now c.requires.start l.work l.entering c.args.pivots.now l.pivots l.step o c.now.result.now (c.args.size + c.args.size + 1) c.value.result c.now.ensures.value (omega arith) c.value.ensures.value in
+    let w = walk_nonbasic c.args.size c.args.first c.args.work.now c.requires.start l.work l.entering c.args.pivots.now l.pivots l.step o (λ e. true≢false (sym (c.is_zero.ensures.1 (v ∙ e)) ∙ c.if-is_zero.false)) in
     (w.0, w.1, ap (λ (m : Numbers). (tableau m).nonbasic w.0) c.now-in-loop-size.ensures.value ∙ w.2)
 
 pub ratio_row-requires : goal.ratio_row-requires
 ratio_row-requires g c =
     let l = c.loop-size in
-    let e = columns_are c.args.size c.args.first c.args.work.now c.requires.start l.work l.entering c.args.steps.now l.steps l.step l.invariant.path ∙ ap (λ (m : Numbers). length m.nonbasics) (sym c.now-in-loop-size-2.ensures.value) in
+    let e = columns_are c.args.size c.args.first c.args.work.now c.requires.start l.work l.entering c.args.pivots.now l.pivots l.step l.invariant.path ∙ ap (λ (m : Numbers). length m.nonbasics) (sym c.now-in-loop-size-2.ensures.value) in
     subst (λ k. c.column_of-col.result < k) e c.column_of-col.ensures.within
 
 pub unreachable-requires : goal.unreachable-requires
 unreachable-requires g c =
     let l = c.loop-size in let o = l.invariant.path in
-    let v = walk_value c.args.size c.args.first c.args.work.now c.requires.start l.work l.entering c.args.steps.now l.steps l.step o c.now.result.now (c.args.size + c.args.size + 1) c.value.result c.now.ensures.value (omega arith) c.value.ensures.value in
-    walk_never c.args.size c.args.first c.args.work.now c.requires.start l.work l.entering c.args.steps.now l.steps l.step o (λ e. true≢false (sym (c.is_zero.ensures.1 (v ∙ e)) ∙ c.if-is_zero.false))
+    let v = walk_value c.args.size c.args.first c.args.work.now c.requires.start l.work l.entering c.args.pivots.now l.pivots l.step o c.now.result.now (c.args.size + c.args.size + 1) c.value.result c.now.ensures.value (omega arith) c.value.ensures.value in
+    walk_never c.args.size c.args.first c.args.work.now c.requires.start l.work l.entering c.args.pivots.now l.pivots l.step o (λ e. true≢false (sym (c.is_zero.ensures.1 (v ∙ e)) ∙ c.if-is_zero.false))
     c.now-in-loop-size-2.result.now c.column_of-col.result c.ratio_row.result c.now-in-loop-size-2.ensures.value c.in_default-ratio_row.is c.column_of-col.ensures.within (sym (ap (λ (m : Numbers). (tableau m).nonbasic c.column_of-col.result) c.now-in-loop-size.ensures.value) ∙ c.column_of-col.ensures.is) c.ratio_row.ensures.best
 
 pub pivot-requires-in-loop-size-clause-col_in : goal.pivot-requires-in-loop-size-clause-col_in
 pivot-requires-in-loop-size-clause-col_in g c =
     let l = c.loop-size in
-    subst (λ k. c.column_of-col.result < k) (columns_are c.args.size c.args.first c.args.work.now c.requires.start l.work l.entering c.args.steps.now l.steps l.step l.invariant.path) c.column_of-col.ensures.within
+    subst (λ k. c.column_of-col.result < k) (columns_are c.args.size c.args.first c.args.work.now c.requires.start l.work l.entering c.args.pivots.now l.pivots l.step l.invariant.path) c.column_of-col.ensures.within
 
 pub pivot-requires-in-loop-size-clause-entry : goal.pivot-requires-in-loop-size-clause-entry
 pivot-requires-in-loop-size-clause-entry g c =
     let l = c.loop-size in let o = l.invariant.path in
-    let v = walk_value c.args.size c.args.first c.args.work.now c.requires.start l.work l.entering c.args.steps.now l.steps l.step o c.now.result.now (c.args.size + c.args.size + 1) c.value.result c.now.ensures.value (omega arith) c.value.ensures.value in
+    let v = walk_value c.args.size c.args.first c.args.work.now c.requires.start l.work l.entering c.args.pivots.now l.pivots l.step o c.now.result.now (c.args.size + c.args.size + 1) c.value.result c.now.ensures.value (omega arith) c.value.ensures.value in
     let ne : value (tableau l.work) (z0_of c.args.size) ≢ zero_ℚ = λ e. true≢false (sym (c.is_zero.ensures.1 (v ∙ e)) ∙ c.if-is_zero.false) in
-    let L = walk_best c.args.size c.args.first c.args.work.now c.requires.start l.work l.entering c.args.steps.now l.steps l.step o ne c.now-in-loop-size-2.result.now c.column_of-col.result c.in-Some.row c.ratio_row.result c.now-in-loop-size-2.ensures.value c.in-Some.is c.ratio_row.ensures.best in
+    let L = walk_best c.args.size c.args.first c.args.work.now c.requires.start l.work l.entering c.args.pivots.now l.pivots l.step o ne c.now-in-loop-size-2.result.now c.column_of-col.result c.in-Some.row c.ratio_row.result c.now-in-loop-size-2.ensures.value c.in-Some.is c.ratio_row.ensures.best in
     ne_zero_of_pos ((tableau l.work).cell c.in-Some.row c.column_of-col.result) L.positive
 
 pub returns-in-Err-pivot-clause-unfit : goal.returns-in-Err-pivot-clause-unfit
 returns-in-Err-pivot-clause-unfit g c =
     let l = c.loop-size in let o = l.invariant.path in
-    let v = walk_value c.args.size c.args.first c.args.work.now c.requires.start l.work l.entering c.args.steps.now l.steps l.step o c.now.result.now (c.args.size + c.args.size + 1) c.value.result c.now.ensures.value (omega arith) c.value.ensures.value in
+    let v = walk_value c.args.size c.args.first c.args.work.now c.requires.start l.work l.entering c.args.pivots.now l.pivots l.step o c.now.result.now (c.args.size + c.args.size + 1) c.value.result c.now.ensures.value (omega arith) c.value.ensures.value in
     let ne : value (tableau l.work) (z0_of c.args.size) ≢ zero_ℚ = λ e. true≢false (sym (c.is_zero.ensures.1 (v ∙ e)) ∙ c.if-is_zero.false) in
-    walk_stops c.args.size c.args.first c.args.work.now c.requires.start l.work l.entering c.args.steps.now l.steps l.step o ne c.column_of-col.result c.in-Some.row c.column_of-col.ensures.within (sym (ap (λ (m : Numbers). (tableau m).nonbasic c.column_of-col.result) c.now-in-loop-size.ensures.value) ∙ c.column_of-col.ensures.is)
-    (walk_best c.args.size c.args.first c.args.work.now c.requires.start l.work l.entering c.args.steps.now l.steps l.step o ne c.now-in-loop-size-2.result.now c.column_of-col.result c.in-Some.row c.ratio_row.result c.now-in-loop-size-2.ensures.value c.in-Some.is c.ratio_row.ensures.best)
+    walk_stops c.args.size c.args.first c.args.work.now c.requires.start l.work l.entering c.args.pivots.now l.pivots l.step o ne c.column_of-col.result c.in-Some.row c.column_of-col.ensures.within (sym (ap (λ (m : Numbers). (tableau m).nonbasic c.column_of-col.result) c.now-in-loop-size.ensures.value) ∙ c.column_of-col.ensures.is)
+    (walk_best c.args.size c.args.first c.args.work.now c.requires.start l.work l.entering c.args.pivots.now l.pivots l.step o ne c.now-in-loop-size-2.result.now c.column_of-col.result c.in-Some.row c.ratio_row.result c.now-in-loop-size-2.ensures.value c.in-Some.is c.ratio_row.ensures.best)
     (subst IsTableau c.now.ensures.value c.value.ensures.valid) c.next_step-step.result c.in-Err-pivot.unfit (c.next_step-step.ensures (suc (length o.earlier)) o.number) c.in-Err-pivot.ensures.unfit
 
 pub complement_of-entering-requires-clause-positive : goal.complement_of-entering-requires-clause-positive
 complement_of-entering-requires-clause-positive g c =
     let l = c.loop-size in let o = l.invariant.path in
-    let v = walk_value c.args.size c.args.first c.args.work.now c.requires.start l.work l.entering c.args.steps.now l.steps l.step o c.now.result.now (c.args.size + c.args.size + 1) c.value.result c.now.ensures.value (omega arith) c.value.ensures.value in
+    let v = walk_value c.args.size c.args.first c.args.work.now c.requires.start l.work l.entering c.args.pivots.now l.pivots l.step o c.now.result.now (c.args.size + c.args.size + 1) c.value.result c.now.ensures.value (omega arith) c.value.ensures.value in
     let ne : value (tableau l.work) (z0_of c.args.size) ≢ zero_ℚ = λ e. true≢false (sym (c.is_zero.ensures.1 (v ∙ e)) ∙ c.if-is_zero.false) in
-    let L = walk_best c.args.size c.args.first c.args.work.now c.requires.start l.work l.entering c.args.steps.now l.steps l.step o ne c.now-in-loop-size-2.result.now c.column_of-col.result c.in-Some.row c.ratio_row.result c.now-in-loop-size-2.ensures.value c.in-Some.is c.ratio_row.ensures.best in
-    subst (λ k. 0 < k) (sym (c.basic-leaving.ensures ∙ ap (λ (m : Numbers). (tableau m).basic c.in-Some.row) c.now-in-loop-size-3.ensures.value)) (walk_variable c.args.size c.args.first c.args.work.now c.requires.start l.work l.entering c.args.steps.now l.steps l.step o ne c.in-Some.row L.within).0
+    let L = walk_best c.args.size c.args.first c.args.work.now c.requires.start l.work l.entering c.args.pivots.now l.pivots l.step o ne c.now-in-loop-size-2.result.now c.column_of-col.result c.in-Some.row c.ratio_row.result c.now-in-loop-size-2.ensures.value c.in-Some.is c.ratio_row.ensures.best in
+    subst (λ k. 0 < k) (sym (c.basic-leaving.ensures ∙ ap (λ (m : Numbers). (tableau m).basic c.in-Some.row) c.now-in-loop-size-3.ensures.value)) (walk_variable c.args.size c.args.first c.args.work.now c.requires.start l.work l.entering c.args.pivots.now l.pivots l.step o ne c.in-Some.row L.within).0
 
 pub loop-size-preserved : goal.loop-size-preserved
 loop-size-preserved g c =
     let l = c.loop-size in let o = l.invariant.path in
-    let v = walk_value c.args.size c.args.first c.args.work.now c.requires.start l.work l.entering c.args.steps.now l.steps l.step o c.now.result.now (c.args.size + c.args.size + 1) c.value.result c.now.ensures.value (omega arith) c.value.ensures.value in
+    let v = walk_value c.args.size c.args.first c.args.work.now c.requires.start l.work l.entering c.args.pivots.now l.pivots l.step o c.now.result.now (c.args.size + c.args.size + 1) c.value.result c.now.ensures.value (omega arith) c.value.ensures.value in
     let ne : value (tableau l.work) (z0_of c.args.size) ≢ zero_ℚ = λ e. true≢false (sym (c.is_zero.ensures.1 (v ∙ e)) ∙ c.if-is_zero.false) in
-    let L = walk_best c.args.size c.args.first c.args.work.now c.requires.start l.work l.entering c.args.steps.now l.steps l.step o ne c.now-in-loop-size-2.result.now c.column_of-col.result c.in-Some.row c.ratio_row.result c.now-in-loop-size-2.ensures.value c.in-Some.is c.ratio_row.ensures.best in
+    let L = walk_best c.args.size c.args.first c.args.work.now c.requires.start l.work l.entering c.args.pivots.now l.pivots l.step o ne c.now-in-loop-size-2.result.now c.column_of-col.result c.in-Some.row c.ratio_row.result c.now-in-loop-size-2.ensures.value c.in-Some.is c.ratio_row.ensures.best in
     let left = c.basic-leaving.ensures ∙ ap (λ (m : Numbers). (tableau m).basic c.in-Some.row) c.now-in-loop-size-3.ensures.value in
     record {
       size = l.invariant.size;
       few = l.invariant.few;
       z0 = l.invariant.z0;
-      path = walk_next c.args.size c.args.first c.args.work.now c.requires.start l.work l.entering c.args.steps.now l.steps l.step o ne c.column_of-col.result c.in-Some.row c.column_of-col.ensures.within (sym (ap (λ (m : Numbers). (tableau m).nonbasic c.column_of-col.result) c.now-in-loop-size.ensures.value) ∙ c.column_of-col.ensures.is) L (subst IsTableau c.now.ensures.value c.value.ensures.valid)
-          c.pivot-in-loop-size.new.self c.complement_of-entering.result c.pivot-in-loop-size.new.steps c.next_step-step.result c.in_default-pivot.ensures.pivot c.in_default-pivot.ensures.fits (c.complement_of-entering.ensures ∙ ap (complement c.args.size) left) c.pivot-in-loop-size.ensures.counted (c.next_step-step.ensures (suc (length o.earlier)) o.number);
+      path = walk_next c.args.size c.args.first c.args.work.now c.requires.start l.work l.entering c.args.pivots.now l.pivots l.step o ne c.column_of-col.result c.in-Some.row c.column_of-col.ensures.within (sym (ap (λ (m : Numbers). (tableau m).nonbasic c.column_of-col.result) c.now-in-loop-size.ensures.value) ∙ c.column_of-col.ensures.is) L (subst IsTableau c.now.ensures.value c.value.ensures.valid)
+          c.pivot-in-loop-size.new.self c.complement_of-entering.result c.pivot-in-loop-size.new.pivots c.next_step-step.result c.in_default-pivot.ensures.pivot c.in_default-pivot.ensures.fits (c.complement_of-entering.ensures ∙ ap (complement c.args.size) left) c.pivot-in-loop-size.ensures.counted (c.next_step-step.ensures (suc (length o.earlier)) o.number);
     }
 
 pub loop-size-smaller : goal.loop-size-smaller
 loop-size-smaller g c =
     let l = c.loop-size in let o = l.invariant.path in
-    let b = walk_bound c.args.size c.args.first c.args.work.now c.requires.start c.pivot-in-loop-size.new.self c.complement_of-entering.result c.args.steps.now c.pivot-in-loop-size.new.steps c.next_step-step.result (loop-size-preserved g c).path in
+    let b = walk_bound c.args.size c.args.first c.args.work.now c.requires.start c.pivot-in-loop-size.new.self c.complement_of-entering.result c.args.pivots.now c.pivot-in-loop-size.new.pivots c.next_step-step.result (loop-size-preserved g c).path in
     let e = c.pivot-in-loop-size.ensures.counted in
     omega (arith, b, e)

@@ -13,5 +13,5 @@ returns-in_default-clause-lines c =
 pub returns-clause-lines : goal.returns-clause-lines
 returns-clause-lines c =
     let line = c.in-Some.line.now in
-    let behind = c.in-Some.behind.now in
-    subst (λ text. lines_of text ≡ line ∷ lines_of behind) (sym c.in-Some.ensures.1) (line_cut line behind c.in-Some.ensures.0)
+    let following = c.in-Some.following.now in
+    subst (λ text. lines_of text ≡ line ∷ lines_of following) (sym c.in-Some.ensures.1) (line_cut line following c.in-Some.ensures.0)

@@ -6,7 +6,7 @@ use Rattle.rational.proofs.Field.{le_or_lt}
 use Rattle.game_theory.specs.Mixed.{payoff as payoff_of}
 use Rattle.game_core.specs.Table.{game_of, strategy_counts}
 use Rattle.pure_payoffs.specs.Steps.{StepFits}
-use Rattle.pure_payoffs.proofs.Runs.{first_unfit-behind}
+use Rattle.pure_payoffs.proofs.Runs.{first_unfit-following}
 use Rattle.behaviour_profile.specs.EntryTests.{mixed_of}
 use Rattle.ne_checker.specs.TableChecks.{payoff_steps, value_steps}
 use Rattle.ne_checker.proofs.tables.better_reply.Goals as goal
@@ -15,7 +15,7 @@ pub returns-in-Err-payoff-clause-unfit : goal.returns-in-Err-payoff-clause-unfit
 returns-in-Err-payoff-clause-unfit c =
     let g = game_of c.args.table.now in
     let m = mixed_of (strategy_counts c.args.table.now) c.args.mixed.now in
-    first_unfit-behind (value_steps g m c.args.player) (payoff_steps g m c.args.player) c.in-Err-payoff.unfit c.in-Ok.ensures.fits c.in-Err-payoff.ensures
+    first_unfit-following (value_steps g m c.args.player) (payoff_steps g m c.args.player) c.in-Err-payoff.unfit c.in-Ok.ensures.fits c.in-Err-payoff.ensures
 
 pub returns-then-is_less-clause-found : goal.returns-then-is_less-clause-found
 returns-then-is_less-clause-found c =

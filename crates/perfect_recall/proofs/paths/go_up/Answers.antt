@@ -1,6 +1,6 @@
 use Rattle.std.proofs.Common.{◌<◌, length, arith}
 use Rattle.game_core.specs.TreeGame.{game_of_tree}
-use Rattle.perfect_recall.proofs.LastSteps.{chooses-within, goes_up, still_within, last-nobody, last-player}
+use Rattle.perfect_recall.proofs.LastEdges.{chooses-within, goes_up, still_within, last-nobody, last-player}
 use Rattle.perfect_recall.proofs.paths.go_up.Goals as goal
 
 pub choice_at-requires : goal.choice_at-requires
@@ -8,13 +8,13 @@ choice_at-requires c =
     let before = goes_up (game_of_tree c.args.tree.now) c.args.to c.loop-here.here c.parent-here.result c.stands_for_game_tree.ensures.game c.loop-here.invariant.within c.loop-here.invariant.above c.loop-here-test.true c.parent-here.ensures in
     omega (arith, before, c.loop-here.invariant.within)
 
-pub bounds-steps-here : goal.bounds-steps-here
-bounds-steps-here c =
+pub bounds-edges-here : goal.bounds-edges-here
+bounds-edges-here c =
     let before = goes_up (game_of_tree c.args.tree.now) c.args.to c.loop-here.here c.parent-here.result c.stands_for_game_tree.ensures.game c.loop-here.invariant.within c.loop-here.invariant.above c.loop-here-test.true c.parent-here.ensures in
     omega (arith, before, c.loop-here.invariant.reach)
 
-pub offset_bounds-steps-here : goal.offset_bounds-steps-here
-offset_bounds-steps-here c =
+pub offset_bounds-edges-here : goal.offset_bounds-edges-here
+offset_bounds-edges-here c =
     let before = goes_up (game_of_tree c.args.tree.now) c.args.to c.loop-here.here c.parent-here.result c.stands_for_game_tree.ensures.game c.loop-here.invariant.within c.loop-here.invariant.above c.loop-here-test.true c.parent-here.ensures in
     omega (arith, before, c.loop-here.invariant.within, c.stands_for_game_tree.ensures.valid.few_nodes)
 
@@ -35,13 +35,13 @@ pub loop-here-preserved-in-Some : goal.loop-here-preserved-in-Some
 loop-here-preserved-in-Some c =
     let g = game_of_tree c.args.tree.now in
     let before = goes_up g c.args.to c.loop-here.here c.parent-here.result c.stands_for_game_tree.ensures.game c.loop-here.invariant.within c.loop-here.invariant.above c.loop-here-test.true c.parent-here.ensures in
-    let reach : c.parent-here.result < length c.args.steps.now = omega (arith, before, c.loop-here.invariant.reach) in
+    let reach : c.parent-here.result < length c.args.edges.now = omega (arith, before, c.loop-here.invariant.reach) in
     record {
       within = omega (arith, before, c.loop-here.invariant.within);
       reach = reach;
       above = still_within g c.args.to c.loop-here.here c.parent-here.result c.stands_for_game_tree.ensures.game c.loop-here.invariant.within c.loop-here.invariant.above c.loop-here-test.true c.parent-here.ensures;
       last = last-player g c.args.to c.loop-here.here c.parent-here.result c.stands_for_game_tree.ensures.game c.loop-here.invariant.within c.loop-here.invariant.above c.loop-here-test.true c.parent-here.ensures
-          c.loop-here.last c.in-Some.player c.in-Some.field-0-1 _ c.in-Some.ensures ((c.requires.steps c.parent-here.result reach).of_player c.in-Some.player c.in-Some.field-0-1 c.in-Some.ensures) c.loop-here.invariant.last;
+          c.loop-here.last c.in-Some.player c.in-Some.field-0-1 _ c.in-Some.ensures ((c.requires.edges c.parent-here.result reach).of_player c.in-Some.player c.in-Some.field-0-1 c.in-Some.ensures) c.loop-here.invariant.last;
     }
 
 pub loop-here-preserved : goal.loop-here-preserved

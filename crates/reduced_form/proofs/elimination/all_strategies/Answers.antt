@@ -1,8 +1,8 @@
 use Rattle.std.proofs.Common.{◌+◌, ◌<◌, inl, inr, sym, subst, arith}
 use Rattle.std.proofs.lemmas.Bool.{cases_eq}
-use Rattle.dominance.specs.Elimination.{AreListed, IsKeptAfter}
+use Rattle.extreme_equilibria.specs.Elimination.{AreListed, IsKeptAfter}
 use Rattle.game_core.specs.Table.{game_of}
-use Rattle.dominance.proofs.KeptLists.{listed-push, listed-same}
+use Rattle.extreme_equilibria.proofs.KeptLists.{listed-push, listed-same}
 use Rattle.game_core.proofs.TableCounts.{strategy_count-names}
 use Rattle.reduced_form.proofs.Eliminations.{none-listed}
 use Rattle.reduced_form.proofs.elimination.all_strategies.Goals as goal

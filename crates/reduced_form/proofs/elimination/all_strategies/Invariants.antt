@@ -1,5 +1,5 @@
 use Rattle.std.proofs.Common.{◌<◌}
-use Rattle.dominance.specs.Elimination.{AreListed}
+use Rattle.extreme_equilibria.specs.Elimination.{AreListed}
 use Rattle.reduced_form.proofs.elimination.all_strategies.Given as goal
 
 abbrev pub invariant-loop-strategy : goal.invariant-loop-strategy

@@ -2,8 +2,8 @@ use Rattle.std.proofs.Common.{ℕ, suc, ◌<◌, ◌≡◌, ◌⊎◌, List, [],
 use Rattle.std.specs.Prelude.{Contains}
 use Rattle.lists.proofs.Numbers.{below_two}
 use Rattle.game_core.specs.Table.{game_of}
-use Rattle.dominance.specs.Elimination.{IsDominated, AreKept}
-use Rattle.dominance.proofs.KeptLists.{last-lists, next-round}
+use Rattle.extreme_equilibria.specs.Elimination.{IsDominated, AreKept}
+use Rattle.extreme_equilibria.proofs.KeptLists.{last-lists, next-round}
 use Rattle.reduced_form.proofs.Eliminations.{Round, within-all, none-dominated}
 use Rattle.reduced_form.proofs.elimination.kept_strategies.Goals as goal
 use Rattle.reduced_form.proofs.elimination.kept_strategies.Goals.{In_ok-next_second}

@@ -1,5 +1,5 @@
 use Rattle.std.proofs.Common.{ℕ, ◌+◌, length}
-use Rattle.dominance.specs.Elimination.{AreKeptAfter}
+use Rattle.extreme_equilibria.specs.Elimination.{AreKeptAfter}
 use Rattle.game_core.specs.Table.{game_of}
 use Rattle.reduced_form.proofs.elimination.kept_strategies.Given as goal
 

@@ -1,7 +1,7 @@
 use Rattle.std.proofs.Common.{ℕ, ◌+◌, ◌<◌, ◌≡◌, ◌⊎◌, List, length, take, sym, subst, ap, ◌∙◌, arith}
 use Rattle.std.specs.Prelude.{Contains}
 use Rattle.std.proofs.lemmas.List.{take_all}
-use Rattle.dominance.specs.Elimination.{AreListed, IsDominated}
+use Rattle.extreme_equilibria.specs.Elimination.{AreListed, IsDominated}
 use Rattle.game_core.specs.Table.{game_of}
 use Rattle.reduced_form.proofs.Eliminations.{stays-listed, stays-count, goes-listed, goes-count}
 use Rattle.reduced_form.proofs.elimination.undominated_among.Goals as goal

@@ -1,6 +1,6 @@
 use Rattle.std.proofs.Common.{◌<◌, ◌≡◌, ◌⊎◌, length, take}
 use Rattle.std.specs.Prelude.{Contains}
-use Rattle.dominance.specs.Elimination.{AreListed, IsDominated}
+use Rattle.extreme_equilibria.specs.Elimination.{AreListed, IsDominated}
 use Rattle.game_core.specs.Table.{game_of}
 use Rattle.reduced_form.proofs.elimination.undominated_among.Given as goal
 

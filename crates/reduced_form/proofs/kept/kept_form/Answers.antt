@@ -1,7 +1,7 @@
 use Rattle.std.proofs.Common.{ℕ, ◌+◌, ◌*◌, ◌<◌, ◌≡◌, ◌∙◌, All, List, [], ◌∷◌, ◌++◌, length, map, get_or, sym, ap, ap₂, subst, subst₂, refl, arith}
 use Rattle.std.proofs.lemmas.Option.{get_or_from_slice_get}
 use Rattle.rational.specs.Rational.{zero_ℚ}
-use Rattle.dominance.specs.KeptTable.{kept_table}
+use Rattle.extreme_equilibria.specs.KeptTable.{kept_table}
 use Rattle.game_core.specs.Table.{GameTable, IsTable, game_of}
 use Rattle.reduced_form.specs.Kept.{IsKeptForm}
 use Rattle.game_core.proofs.TableCounts.{strategy_count-names}

@@ -1,6 +1,6 @@
 use Rattle.std.proofs.Common.{◌*◌, ◌<◌, ◌≡◌, [], ◌∷◌, ◌++◌, length, ap, ◌∙◌, arith}
 use Rattle.std.proofs.lemmas.List.{length_push}
-use Rattle.dominance.specs.KeptTable.{kept_table}
+use Rattle.extreme_equilibria.specs.KeptTable.{kept_table}
 use Rattle.game_core.specs.Table.{game_of}
 use Rattle.reduced_form.proofs.KeptCells.{cells-next, pays-two}
 use Rattle.reduced_form.proofs.kept.payoffs_at.Goals as goal

@@ -1,6 +1,6 @@
 use Rattle.std.proofs.Common.{ℕ, ◌+◌, ◌*◌, ◌<◌, ◌≡◌, [], ◌∷◌, length, get_or}
 use Rattle.rational.specs.Rational.{zero_ℚ}
-use Rattle.dominance.specs.KeptTable.{kept_table}
+use Rattle.extreme_equilibria.specs.KeptTable.{kept_table}
 use Rattle.game_core.specs.Table.{game_of}
 use Rattle.reduced_form.proofs.kept.payoffs_at.Given as goal
 

@@ -1,7 +1,7 @@
 use Rattle.std.proofs.Common.{◌<◌, inl, inr, [], length, refl, sym, ap, subst, arith}
 use Rattle.std.proofs.lemmas.List.{length-map}
 use Rattle.game_core.specs.TreeGame.{game_of_tree}
-use Rattle.reduced_form.specs.Stops.{IsStop}
+use Rattle.reduced_form.specs.Stops.{IsReduceStop}
 use Rattle.reduced_form.proofs.FormCounts.{AreCounted-all, AreCountedSoFar-many, AreCountedSoFar-step, many-front, read_through}
 use Rattle.reduced_form.proofs.limits.count_all.Goals as goal
 
@@ -9,7 +9,7 @@ pub returns-then-players-gt-MOST_PAYOFFS-clause-stop : goal.returns-then-players
 returns-then-players-gt-MOST_PAYOFFS-clause-stop c =
     let valid = c.trees_are_game_trees.ensures c.args.tree.now c.players-players.ensures.valid in
     let many = many-front (game_of_tree c.args.tree.now) [] valid (λ i l. absurd (omega arith)) (omega arith) (omega (arith, ap length c.players-players.ensures.players)) in
-    subst (IsStop (game_of_tree c.args.tree.now)) (sym c.too_many_payoffs.ensures) (inr (inl (many, refl)))
+    subst (IsReduceStop (game_of_tree c.args.tree.now)) (sym c.too_many_payoffs.ensures) (inr (inl (many, refl)))
 
 pub count_strategies-requires-clause-decisions : goal.count_strategies-requires-clause-decisions
 count_strategies-requires-clause-decisions c =
@@ -23,7 +23,7 @@ returns-then-count-most-clause-stop c =
     let inside : c.loop-player.player < length c.args.tree.now.players = omega (arith, ap length c.players-players.ensures.players) in
     let h = c.in_ok-count.ensures {u = tt} in
     let many = AreCountedSoFar-many (game_of_tree c.args.tree.now) c.loop-player.player c.loop-player.payoffs c.in_ok-count.count h.0 c.loop-player.counts.items valid c.loop-player.invariant inside h.1 h.2 c.if-count-most.true in
-    subst (IsStop (game_of_tree c.args.tree.now)) (sym c.too_many_payoffs-then-count-most.ensures) (inr (inl (many, refl)))
+    subst (IsReduceStop (game_of_tree c.args.tree.now)) (sym c.too_many_payoffs-then-count-most.ensures) (inr (inl (many, refl)))
 
 pub loop-player-preserved : goal.loop-player-preserved
 loop-player-preserved c =

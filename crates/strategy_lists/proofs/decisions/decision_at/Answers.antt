@@ -5,7 +5,7 @@ use Rattle.strategy_lists.proofs.Moves.{move_at}
 use Rattle.strategy_lists.proofs.decisions.decision_at.Goals as goal
 use Rattle.strategy_lists.proofs.decisions.decision_at.Goals.{in-Some, in-None}
 
--- the step leads to the decision
+-- the edge leads to the decision
 led_to : (c : goal.After-place_at-2) → LeadsTo (game_of_tree c.args.tree.now) c.args.player c.args.numbers.now c.args.number c.match-last_move.before
 led_to c = elim c.match-last_move.branch [
   | in-Some w ↦ (

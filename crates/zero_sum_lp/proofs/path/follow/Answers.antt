@@ -15,22 +15,22 @@ entering-requires-clause-width_is g c =
 
 pub ratio_row-requires : goal.ratio_row-requires
 ratio_row-requires g c =
-    subst (λ (n : Numbers). c.in-Some.col < length n.nonbasics) (sym c.now-in-Some.ensures.value) (read_enters c.args.work.now c.loop-col.work c.now.result.now c.args.steps.now c.loop-col.steps c.loop-col.number c.args.objective c.args.width c.in-Some.col c.requires.start c.loop-col.invariant c.requires.objective_is c.requires.width_is c.now.ensures.value c.in-Some.ensures).column
+    subst (λ (n : Numbers). c.in-Some.col < length n.nonbasics) (sym c.now-in-Some.ensures.value) (read_enters c.args.work.now c.loop-col.work c.now.result.now c.args.pivots.now c.loop-col.pivots c.loop-col.number c.args.objective c.args.width c.in-Some.col c.requires.start c.loop-col.invariant c.requires.objective_is c.requires.width_is c.now.ensures.value c.in-Some.ensures).column
 
 pub unreachable-requires : goal.unreachable-requires
 unreachable-requires g c =
-    some_leaves c.args.work.now c.loop-col.work c.loop-col.invariant.count c.requires.start c.loop-col.invariant.path c.in-Some.col (read_enters c.args.work.now c.loop-col.work c.now.result.now c.args.steps.now c.loop-col.steps c.loop-col.number c.args.objective c.args.width c.in-Some.col c.requires.start c.loop-col.invariant c.requires.objective_is c.requires.width_is c.now.ensures.value c.in-Some.ensures) (subst (λ (n : Numbers). (i : ℕ) → i < n.rated → (tableau n).cell i c.in-Some.col ≤ℚ zero_ℚ) c.now-in-Some.ensures.value c.in_default-ratio_row.ensures.best)
+    some_leaves c.args.work.now c.loop-col.work c.loop-col.invariant.count c.requires.start c.loop-col.invariant.path c.in-Some.col (read_enters c.args.work.now c.loop-col.work c.now.result.now c.args.pivots.now c.loop-col.pivots c.loop-col.number c.args.objective c.args.width c.in-Some.col c.requires.start c.loop-col.invariant c.requires.objective_is c.requires.width_is c.now.ensures.value c.in-Some.ensures) (subst (λ (n : Numbers). (i : ℕ) → i < n.rated → (tableau n).cell i c.in-Some.col ≤ℚ zero_ℚ) c.now-in-Some.ensures.value c.in_default-ratio_row.ensures.best)
 
 pub nonbasic-variable-requires : goal.nonbasic-variable-requires
 nonbasic-variable-requires g c =
-    subst (λ (n : Numbers). c.in-Some.col < length n.nonbasics) (sym c.now-in-Some-2.ensures.value) (read_enters c.args.work.now c.loop-col.work c.now.result.now c.args.steps.now c.loop-col.steps c.loop-col.number c.args.objective c.args.width c.in-Some.col c.requires.start c.loop-col.invariant c.requires.objective_is c.requires.width_is c.now.ensures.value c.in-Some.ensures).column
+    subst (λ (n : Numbers). c.in-Some.col < length n.nonbasics) (sym c.now-in-Some-2.ensures.value) (read_enters c.args.work.now c.loop-col.work c.now.result.now c.args.pivots.now c.loop-col.pivots c.loop-col.number c.args.objective c.args.width c.in-Some.col c.requires.start c.loop-col.invariant c.requires.objective_is c.requires.width_is c.now.ensures.value c.in-Some.ensures).column
 
 pub pivot-requires-clause-row_in : goal.pivot-requires-clause-row_in
 pivot-requires-clause-row_in g c = (read_leaves c.loop-col.work c.now-in-Some.result.now c.in-Some.col c.in-Some-ratio_row.row c.now-in-Some.ensures.value c.in-Some-ratio_row.ensures.best).within
 
 pub pivot-requires-clause-col_in : goal.pivot-requires-clause-col_in
 pivot-requires-clause-col_in g c =
-    (read_enters c.args.work.now c.loop-col.work c.now.result.now c.args.steps.now c.loop-col.steps c.loop-col.number c.args.objective c.args.width c.in-Some.col c.requires.start c.loop-col.invariant c.requires.objective_is c.requires.width_is c.now.ensures.value c.in-Some.ensures).column
+    (read_enters c.args.work.now c.loop-col.work c.now.result.now c.args.pivots.now c.loop-col.pivots c.loop-col.number c.args.objective c.args.width c.in-Some.col c.requires.start c.loop-col.invariant c.requires.objective_is c.requires.width_is c.now.ensures.value c.in-Some.ensures).column
 
 pub pivot-requires-clause-entry : goal.pivot-requires-clause-entry
 pivot-requires-clause-entry g c =
@@ -38,21 +38,21 @@ pivot-requires-clause-entry g c =
 
 pub returns-in-Err-clause-unfit : goal.returns-in-Err-clause-unfit
 returns-in-Err-clause-unfit g c =
-    is_unfit c.args.work.now c.loop-col.work c.args.steps.now c.loop-col.steps c.loop-col.number c.nonbasic-variable.result c.in-Some.col c.in-Some-ratio_row.row c.in-Err.unfit c.loop-col.invariant (read_enters c.args.work.now c.loop-col.work c.now.result.now c.args.steps.now c.loop-col.steps c.loop-col.number c.args.objective c.args.width c.in-Some.col c.requires.start c.loop-col.invariant c.requires.objective_is c.requires.width_is c.now.ensures.value c.in-Some.ensures) (read_leaves c.loop-col.work c.now-in-Some.result.now c.in-Some.col c.in-Some-ratio_row.row c.now-in-Some.ensures.value c.in-Some-ratio_row.ensures.best) (subst (λ (n : Numbers). c.nonbasic-variable.result ≡ (tableau n).nonbasic c.in-Some.col) c.now-in-Some-2.ensures.value c.nonbasic-variable.ensures) c.in-Err.ensures.unfit
+    is_unfit c.args.work.now c.loop-col.work c.args.pivots.now c.loop-col.pivots c.loop-col.number c.nonbasic-variable.result c.in-Some.col c.in-Some-ratio_row.row c.in-Err.unfit c.loop-col.invariant (read_enters c.args.work.now c.loop-col.work c.now.result.now c.args.pivots.now c.loop-col.pivots c.loop-col.number c.args.objective c.args.width c.in-Some.col c.requires.start c.loop-col.invariant c.requires.objective_is c.requires.width_is c.now.ensures.value c.in-Some.ensures) (read_leaves c.loop-col.work c.now-in-Some.result.now c.in-Some.col c.in-Some-ratio_row.row c.now-in-Some.ensures.value c.in-Some-ratio_row.ensures.best) (subst (λ (n : Numbers). c.nonbasic-variable.result ≡ (tableau n).nonbasic c.in-Some.col) c.now-in-Some-2.ensures.value c.nonbasic-variable.ensures) c.in-Err.ensures.unfit
 
 pub returns-in-Err-clause-cost : goal.returns-in-Err-clause-cost
-returns-in-Err-clause-cost g c = let b = under_way_less c.args.work.now c.loop-col.work c.args.steps.now c.loop-col.steps c.loop-col.number c.requires.start c.loop-col.invariant in let e = c.pivot.ensures.counted in omega arith
+returns-in-Err-clause-cost g c = let b = under_way_less c.args.work.now c.loop-col.work c.args.pivots.now c.loop-col.pivots c.loop-col.number c.requires.start c.loop-col.invariant in let e = c.pivot.ensures.counted in omega arith
 
 pub loop-col-smaller : goal.loop-col-smaller
-loop-col-smaller g c = measure_falls _ c.loop-col.steps c.pivot.new.steps c.pivot.ensures.counted (under_way_less c.args.work.now c.loop-col.work c.args.steps.now c.loop-col.steps c.loop-col.number c.requires.start c.loop-col.invariant)
+loop-col-smaller g c = measure_falls _ c.loop-col.pivots c.pivot.new.pivots c.pivot.ensures.counted (under_way_less c.args.work.now c.loop-col.work c.args.pivots.now c.loop-col.pivots c.loop-col.number c.requires.start c.loop-col.invariant)
 
 pub loop-col-preserved : goal.loop-col-preserved
 loop-col-preserved g c =
-    under_way_next c.args.work.now c.loop-col.work c.pivot.new.self c.args.steps.now c.loop-col.steps c.pivot.new.steps c.loop-col.number c.next_number-number.result c.loop-col.invariant (record { column = c.in-Some.col; row = c.in-Some-ratio_row.row; entering = (read_enters c.args.work.now c.loop-col.work c.now.result.now c.args.steps.now c.loop-col.steps c.loop-col.number c.args.objective c.args.width c.in-Some.col c.requires.start c.loop-col.invariant c.requires.objective_is c.requires.width_is c.now.ensures.value c.in-Some.ensures); leaving = (read_leaves c.loop-col.work c.now-in-Some.result.now c.in-Some.col c.in-Some-ratio_row.row c.now-in-Some.ensures.value c.in-Some-ratio_row.ensures.best); fits = c.in-Ok.ensures.fits; pivot = c.in-Ok.ensures.pivot; valid = c.pivot.ensures.valid }) c.pivot.ensures.counted c.next_number-number.ensures
+    under_way_next c.args.work.now c.loop-col.work c.pivot.new.self c.args.pivots.now c.loop-col.pivots c.pivot.new.pivots c.loop-col.number c.next_number-number.result c.loop-col.invariant (record { column = c.in-Some.col; row = c.in-Some-ratio_row.row; entering = (read_enters c.args.work.now c.loop-col.work c.now.result.now c.args.pivots.now c.loop-col.pivots c.loop-col.number c.args.objective c.args.width c.in-Some.col c.requires.start c.loop-col.invariant c.requires.objective_is c.requires.width_is c.now.ensures.value c.in-Some.ensures); leaving = (read_leaves c.loop-col.work c.now-in-Some.result.now c.in-Some.col c.in-Some-ratio_row.row c.now-in-Some.ensures.value c.in-Some-ratio_row.ensures.best); fits = c.in-Ok.ensures.fits; pivot = c.in-Ok.ensures.pivot; valid = c.pivot.ensures.valid }) c.pivot.ensures.counted c.next_number-number.ensures
 
 pub returns-clause-end : goal.returns-clause-end
 returns-clause-end g c =
-    read_end c.args.work.now c.loop-col.work c.now.result.now c.args.steps.now c.loop-col.steps c.loop-col.number c.args.objective c.args.width c.requires.start c.loop-col.invariant c.requires.objective_is c.requires.width_is c.now.ensures.value c.in_default.ensures
+    read_end c.args.work.now c.loop-col.work c.now.result.now c.args.pivots.now c.loop-col.pivots c.loop-col.number c.args.objective c.args.width c.requires.start c.loop-col.invariant c.requires.objective_is c.requires.width_is c.now.ensures.value c.in_default.ensures
 
 pub returns-clause-cost : goal.returns-clause-cost
-returns-clause-cost g c = let b = under_way_less c.args.work.now c.loop-col.work c.args.steps.now c.loop-col.steps c.loop-col.number c.requires.start c.loop-col.invariant in omega arith
+returns-clause-cost g c = let b = under_way_less c.args.work.now c.loop-col.work c.args.pivots.now c.loop-col.pivots c.loop-col.number c.requires.start c.loop-col.invariant in omega arith

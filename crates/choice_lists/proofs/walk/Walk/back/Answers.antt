@@ -36,8 +36,8 @@ loop-last-preserved c =
     let most : get_or walk.actions.now d.place 0 ≤ get_or walk.choices.items d.place 0 = omega (arith, c.if-index-self.false, c.index.ensures ∙ get_or_default_zero walk.choices.items d.place c.index.result.now within) in
     let long : vec_len walk.fixed ≡ length walk.fixed.items = sym c.deref.ensures.len ∙ ap length c.deref.ensures.value in
     let popped = c.pop.ensures.rest ∙ ap (λ v. take (v - 1) walk.fixed.items) long in
-    let step = walk-unfixes walk _ n j d c.loop-last.invariant.at last at most (record { decisions = refl; actions = refl }) refl refl popped in
-    record { same = record { decisions = c.loop-last.invariant.same.decisions; actions = c.loop-last.invariant.same.actions }; at = step.0; ends = step.1 ∙ c.loop-last.invariant.ends }
+    let edge = walk-unfixes walk _ n j d c.loop-last.invariant.at last at most (record { decisions = refl; actions = refl }) refl refl popped in
+    record { same = record { decisions = c.loop-last.invariant.same.decisions; actions = c.loop-last.invariant.same.actions }; at = edge.0; ends = edge.1 ∙ c.loop-last.invariant.ends }
 
 pub returns : goal.returns
 returns c =

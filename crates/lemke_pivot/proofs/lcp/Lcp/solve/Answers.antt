@@ -3,7 +3,7 @@ use Rattle.lex_tableau.specs.Rows.{Numbers, tableau}
 use Rattle.sequence_data.specs.Data.{side_of}
 use Rattle.lemke_pivot.specs.Parts.{Problem, IsLeastRow, problem_size}
 use Rattle.lemke_pivot.specs.Paths.{IsPathStart, EndsSolved, EndsUnfit}
-use Rattle.lemke_pivot.specs.Ends.{IsSolutionOf, IsUnfitStep}
+use Rattle.lemke_pivot.specs.Ends.{IsSolutionOf, IsUnfitPivot}
 use Rattle.lemke_pivot.proofs.Solve.{path_start}
 use Rattle.lemke_pivot.proofs.lcp.Lcp.solve.Goals as goal
 
@@ -29,4 +29,4 @@ returns-in-Err g c =
     subst (λ k. IsLeastRow k (tableau i.work).right c.least_row-row.result) c.self.invariant.1 (subst (λ (m : Numbers). IsLeastRow i.size (tableau m).right c.least_row-row.result) c.now.ensures.value c.least_row-row.ensures.least) in
     let e : EndsUnfit i.work (problem_size (side_of i.first) (side_of i.second)) c.least_row-row.result c.in-Err.stop.step c.in-Err.stop.entering c.in-Err.stop.unfit =
     subst (λ k. EndsUnfit i.work k c.least_row-row.result c.in-Err.stop.step c.in-Err.stop.entering c.in-Err.stop.unfit) c.self.invariant.1 c.in-Err.ensures.unfit in
-    subst (λ (q : Problem). IsUnfitStep q c.in-Err.stop.step c.in-Err.stop.entering c.in-Err.stop.unfit) c.self.view_is (record { row = c.least_row-row.result; begins = l; path = e })
+    subst (λ (q : Problem). IsUnfitPivot q c.in-Err.stop.step c.in-Err.stop.entering c.in-Err.stop.unfit) c.self.view_is (record { row = c.least_row-row.result; begins = l; path = e })

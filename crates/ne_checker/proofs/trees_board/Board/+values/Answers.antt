@@ -25,42 +25,42 @@ with_branch-returns t c = λ b reads.
     let value = c.in_ok-value.ensures b reads in
     product-added _ _ _ _ _ _ _ (λ e. cc (c.if-is_zero.ensures.1 e)) value.0 c.in_ok-mul.ensures.value value.1 c.in_ok-mul.ensures.fits c.add.ensures.value c.add.ensures.fits c.add.ensures.step c.add.ensures.unfit
 
-pub value-returns-in_err-value_behind-in-Some : goal.value-returns-in_err-value_behind-in-Some
-value-returns-in_err-value_behind-in-Some t c = λ b reads.
+pub value-returns-in_err-value_after-in-Some : goal.value-returns-in_err-value_after-in-Some
+value-returns-in_err-value_after-in-Some t c = λ b reads.
     let p = err_from_is_err_and c.from_residual.result c.from_residual.ensures.1 in
-    rw (p.1, p.2) (now-refused _ b c.args.player c.requires.board.tree c.args.node c.requires.node _ (sym c.set.ensures ∙ c.in-Some.is) _ (c.in_err-value_behind-in-Some.ensures b reads))
+    rw (p.1, p.2) (now-refused _ b c.args.player c.requires.board.tree c.args.node c.requires.node _ (sym c.set.ensures ∙ c.in-Some.is) _ (c.in_err-value_after-in-Some.ensures b reads))
 
-pub value-returns-in_ok-value_behind-in-Some : goal.value-returns-in_ok-value_behind-in-Some
-value-returns-in_ok-value_behind-in-Some t c = λ b reads.
-    let behind = c.in_ok-value_behind-in-Some.ensures b reads in
-    now-added _ b c.args.player c.requires.board.tree c.args.node c.requires.node _ (sym c.set.ensures ∙ c.in-Some.is) _ _ _ c.pays-pays.ensures behind.0 behind.1 c.add.ensures.value c.add.ensures.fits c.add.ensures.step c.add.ensures.unfit
+pub value-returns-in_ok-value_after-in-Some : goal.value-returns-in_ok-value_after-in-Some
+value-returns-in_ok-value_after-in-Some t c = λ b reads.
+    let following = c.in_ok-value_after-in-Some.ensures b reads in
+    now-added _ b c.args.player c.requires.board.tree c.args.node c.requires.node _ (sym c.set.ensures ∙ c.in-Some.is) _ _ _ c.pays-pays.ensures following.0 following.1 c.add.ensures.value c.add.ensures.fits c.add.ensures.step c.add.ensures.unfit
 
 pub value-returns-in-None : goal.value-returns-in-None
 value-returns-in-None t c = λ b reads. now-end _ b c.args.player c.requires.board.tree c.args.node c.requires.node _ (sym c.set.ensures ∙ c.in-None.is) c.pays-pays.ensures
 
-pub value_behind-with_branch-requires : goal.value_behind-with_branch-requires
-value_behind-with_branch-requires t c =
+pub value_after-with_branch-requires : goal.value_after-with_branch-requires
+value_after-with_branch-requires t c =
     let below : c.loop-action.action < (game_of c.args.self.now).actions c.args.set = omega (arith, c.action_count-action-end.ensures) in
     let found = child-found (λ v. v.items) _ c.args.self.now.children.now c.args.node c.args.set c.loop-action.action c.index-self-node.result c.index.result.now c.requires.board.tree c.requires.board.children_are c.requires.node c.requires.set below c.index.ensures in
     (omega (arith, found.1), (c.requires.board, (found.2, c.requires.player)))
 
-pub value_behind-returns-in_err-sum : goal.value_behind-returns-in_err-sum
-value_behind-returns-in_err-sum t c = λ b reads.
+pub value_after-returns-in_err-sum : goal.value_after-returns-in_err-sum
+value_after-returns-in_err-sum t c = λ b reads.
     let below : c.loop-action.action < (game_of c.args.self.now).actions c.args.set = omega (arith, c.action_count-action-end.ensures) in
     let found = child-found (λ v. v.items) _ c.args.self.now.children.now c.args.node c.args.set c.loop-action.action c.index-self-node.result c.index.result.now c.requires.board.tree c.requires.board.children_are c.requires.node c.requires.set below c.index.ensures in
     let p = err_from_is_err_and c.from_residual.result c.from_residual.ensures.1 in
     let before = c.loop-action.invariant b reads in
     rw (p.1, p.2) (branch-refused _ _ _ c.loop-action.action _ _ before.0 (c.probability-prob.ensures b reads) before.1 _ _ below (rw found.0 at (c.in_err-sum.ensures b reads)))
 
-pub value_behind-loop-action-preserved : goal.value_behind-loop-action-preserved
-value_behind-loop-action-preserved t c = λ b reads.
+pub value_after-loop-action-preserved : goal.value_after-loop-action-preserved
+value_after-loop-action-preserved t c = λ b reads.
     let below : c.loop-action.action < (game_of c.args.self.now).actions c.args.set = omega (arith, c.action_count-action-end.ensures) in
     let found = child-found (λ v. v.items) _ c.args.self.now.children.now c.args.node c.args.set c.loop-action.action c.index-self-node.result c.index.result.now c.requires.board.tree c.requires.board.children_are c.requires.node c.requires.set below c.index.ensures in
     let before = c.loop-action.invariant b reads in
     let sum = c.in_ok-sum.ensures b reads in
     branch-more _ _ _ c.loop-action.action _ _ before.0 (c.probability-prob.ensures b reads) before.1 _ (rw found.0 at sum.0) (rw found.0 at sum.1)
 
-pub value_behind-returns : goal.value_behind-returns
-value_behind-returns t c = λ b reads.
+pub value_after-returns : goal.value_after-returns
+value_after-returns t c = λ b reads.
     let all : c.loop-action.action ≡ (game_of c.args.self.now).actions c.args.set = omega (arith, c.action_count-action-end.ensures) in
     rw (← all) (c.loop-action.invariant b reads)

@@ -4,7 +4,7 @@ use Rattle.std.proofs.lemmas.Result.{err_from_is_err_and}
 use Rattle.rational.specs.Rational.{zero_ℚ}
 use Rattle.pure_payoffs.proofs.Places.{child-found}
 use Rattle.ne_checker.specs.TreeSides.{game_at}
-use Rattle.ne_checker.proofs.TreeReplySteps.{own-gives, other-gives, reply-behind_refused, reply-product_refused, reply-added}
+use Rattle.ne_checker.proofs.TreeReplySteps.{own-gives, other-gives, reply-after_refused, reply-product_refused, reply-added}
 use Rattle.ne_checker.proofs.TreeSideParts.{own_sets-child, chosen-within, chosen-known}
 use Rattle.ne_checker.proofs.TreeSums.{sum-more, number-refused, addition-refused}
 use Rattle.ne_checker.proofs.trees_side.Side.+values.Goals as goal
@@ -48,34 +48,34 @@ children_sum-returns t c = λ b choice first decided from.
     let all : c.loop-action.action ≡ (game_at c.args.self.now).actions c.args.set = omega (arith, c.action_count-action-end.ensures) in
     rw (← all) (c.loop-action.invariant b choice first decided from)
 
-pub value-returns-in_err-behind : goal.value-returns-in_err-behind
-value-returns-in_err-behind t c = λ b choice first decided from.
+pub value-returns-in_err-following : goal.value-returns-in_err-following
+value-returns-in_err-following t c = λ b choice first decided from.
     let p = err_from_is_err_and c.from_residual.result c.from_residual.ensures.1 in
-    rw (p.1, p.2) (reply-behind_refused _ b c.args.self.now.player choice c.requires.side.tree (chosen-within _ b _ choice _ _ _ first decided) c.args.node c.requires.node _ (c.in_err-behind.ensures b choice first decided from))
+    rw (p.1, p.2) (reply-after_refused _ b c.args.self.now.player choice c.requires.side.tree (chosen-within _ b _ choice _ _ _ first decided) c.args.node c.requires.node _ (c.in_err-following.ensures b choice first decided from))
 
 pub value-returns-in_err-worth : goal.value-returns-in_err-worth
 value-returns-in_err-worth t c = λ b choice first decided from.
     let p = err_from_is_err_and c.from_residual-in_err-worth.result c.from_residual-in_err-worth.ensures.1 in
-    let behind = c.in_ok-behind.ensures b choice first decided from in
+    let following = c.in_ok-following.ensures b choice first decided from in
     let weight = get_or_default c.args.self.now.weights.now c.args.node c.index-self-node.result zero_ℚ (omega (arith, c.requires.side.weights_long, c.requires.node)) ∙ decided.weights_are c.args.node c.requires.node in
-    rw (p.1, p.2) (reply-product_refused _ b c.args.self.now.player choice c.requires.side.tree (chosen-within _ b _ choice _ _ _ first decided) c.args.node c.requires.node _ _ weight c.pays.ensures behind.1 _ c.in_err-worth.ensures.step c.in_err-worth.ensures.unfit)
+    rw (p.1, p.2) (reply-product_refused _ b c.args.self.now.player choice c.requires.side.tree (chosen-within _ b _ choice _ _ _ first decided) c.args.node c.requires.node _ _ weight c.pays.ensures following.1 _ c.in_err-worth.ensures.step c.in_err-worth.ensures.unfit)
 
 pub value-returns : goal.value-returns
 value-returns t c = λ b choice first decided from.
-    let behind = c.in_ok-behind.ensures b choice first decided from in
+    let following = c.in_ok-following.ensures b choice first decided from in
     let weight = get_or_default c.args.self.now.weights.now c.args.node c.index-self-node.result zero_ℚ (omega (arith, c.requires.side.weights_long, c.requires.node)) ∙ decided.weights_are c.args.node c.requires.node in
-    reply-added _ b c.args.self.now.player choice c.requires.side.tree (chosen-within _ b _ choice _ _ _ first decided) c.args.node c.requires.node _ _ weight c.pays.ensures behind.1 _ _ _ behind.0 c.in_ok-worth.ensures.value c.in_ok-worth.ensures.fits c.add.ensures.value c.add.ensures.fits c.add.ensures.step c.add.ensures.unfit
+    reply-added _ b c.args.self.now.player choice c.requires.side.tree (chosen-within _ b _ choice _ _ _ first decided) c.args.node c.requires.node _ _ weight c.pays.ensures following.1 _ _ _ following.0 c.in_ok-worth.ensures.value c.in_ok-worth.ensures.fits c.add.ensures.value c.add.ensures.fits c.add.ensures.step c.add.ensures.unfit
 
-pub value_behind-bounds-values-child : goal.value_behind-bounds-values-child
-value_behind-bounds-values-child t c =
+pub value_after-bounds-values-child : goal.value_after-bounds-values-child
+value_after-bounds-values-child t c =
     let set = sym c.set.ensures ∙ c.in-Some.is in
     let own = c.is_own.ensures.0 c.if-is_own.true in
     let below = c.requires.choices.within c.in-Some.set (c.requires.side.tree.sets_within c.args.node c.in-Some.set c.requires.node set) own in
     let found = child-found (λ v. v.items) _ c.args.self.now.children.now c.args.node c.in-Some.set _ c.index-self-node.result c.index-child.result.now c.requires.side.tree c.requires.side.children_are c.requires.node set below c.index-child.ensures in
     omega (arith, found.2, c.requires.values)
 
-pub value_behind-returns-then-is_own : goal.value_behind-returns-then-is_own
-value_behind-returns-then-is_own t c = λ b choice first decided from.
+pub value_after-returns-then-is_own : goal.value_after-returns-then-is_own
+value_after-returns-then-is_own t c = λ b choice first decided from.
     let set = sym c.set.ensures ∙ c.in-Some.is in
     let own = c.is_own.ensures.0 c.if-is_own.true in
     let below = c.requires.choices.within c.in-Some.set (c.requires.side.tree.sets_within c.args.node c.in-Some.set c.requires.node set) own in
@@ -83,6 +83,6 @@ value_behind-returns-then-is_own t c = λ b choice first decided from.
     let value = c.index-values-child.is ∙ get_or_default c.args.values.now c.index-child.result.now _ zero_ℚ (omega (arith, found.2, c.requires.values)) ∙ chosen-known _ b _ choice _ _ _ first decided c.args.node c.in-Some.set c.index-child.result.now c.requires.side.tree c.requires.node set own from found.0 in
     own-gives _ b c.args.self.now.player choice c.requires.side.tree c.args.node c.in-Some.set c.zero-then-is_own.result c.index-values-child.result _ set own c.zero-then-is_own.ensures value c.add.ensures.value c.add.ensures.fits c.add.ensures.step c.add.ensures.unfit
 
-pub value_behind-returns-else-is_own : goal.value_behind-returns-else-is_own
-value_behind-returns-else-is_own t c = λ b choice first decided from.
+pub value_after-returns-else-is_own : goal.value_after-returns-else-is_own
+value_after-returns-else-is_own t c = λ b choice first decided from.
     other-gives _ b c.args.self.now.player choice c.requires.side.tree c.args.node c.in-Some.set _ (sym c.set.ensures ∙ c.in-Some.is) (λ o. cc (c.if-is_own.ensures.1 o)) (c.children_sum.ensures b choice first decided from)

@@ -11,8 +11,8 @@ use Rattle.ne_checker.proofs.trees_side.Side.+values.Given as goal
 abbrev pub decreases-children_sum : goal.decreases-children_sum
 decreases-children_sum l = 3 * (length l.self.now.tree.now.nodes - l.node)
 
-abbrev pub decreases-value_behind : goal.decreases-value_behind
-decreases-value_behind l = 3 * (length l.self.now.tree.now.nodes - l.node) + 1
+abbrev pub decreases-value_after : goal.decreases-value_after
+decreases-value_after l = 3 * (length l.self.now.tree.now.nodes - l.node) + 1
 
 abbrev pub decreases-value : goal.decreases-value
 decreases-value l = 3 * (length l.self.now.tree.now.nodes - l.node) + 2

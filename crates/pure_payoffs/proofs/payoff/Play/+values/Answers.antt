@@ -2,11 +2,11 @@ use Rattle.std.proofs.Common.{Ok, Err, ℕ, ◌≡◌, ◌∙◌, ◌<◌, ap, r
 use Rattle.std.proofs.lemmas.Result.{err_from_is_err_and}
 use Rattle.pure_payoffs.specs.Plays.{choice_of, game_of}
 use Rattle.pure_payoffs.proofs.BranchSteps.{skipped-gives, child-refused, product-refused, product-added, branch-more, branch-refused}
-use Rattle.pure_payoffs.proofs.NodeValues.{owned-gives, end-gives, behind-refused, node-added}
+use Rattle.pure_payoffs.proofs.NodeValues.{owned-gives, end-gives, following-refused, node-added}
 use Rattle.pure_payoffs.proofs.Places.{child-read, child-found, play-chooses}
 use Rattle.pure_payoffs.proofs.TreeParts.{set-read, pays-read, count-read, prob-read, owner-read}
 use Rattle.pure_payoffs.proofs.payoff.Play.+values.Goals as goal
-use Rattle.pure_payoffs.proofs.payoff.Play.+values.Goals.{value_behind-After-index-self-node, chance_value-After-index-actions-action}
+use Rattle.pure_payoffs.proofs.payoff.Play.+values.Goals.{value_after-After-index-self-node, chance_value-After-index-actions-action}
 
 pub with_branch-returns-then-is_zero-clause-gives : goal.with_branch-returns-then-is_zero-clause-gives
 with_branch-returns-then-is_zero-clause-gives t c = skipped-gives _ _ _ _ (c.if-is_zero.ensures.0 refl)
@@ -23,19 +23,19 @@ pub with_branch-returns-clause-gives : goal.with_branch-returns-clause-gives
 with_branch-returns-clause-gives t c =
     product-added _ _ _ _ _ _ _ (λ e. cc (c.if-is_zero.ensures.1 e)) c.in_ok-value.ensures.gives.0 c.in_ok-mul.ensures.value c.in_ok-value.ensures.gives.1 c.in_ok-mul.ensures.fits c.add.ensures.value c.add.ensures.fits c.add.ensures.step c.add.ensures.unfit
 
-pub value_at-returns-in_err-value_behind-in-Some-clause-gives : goal.value_at-returns-in_err-value_behind-in-Some-clause-gives
-value_at-returns-in_err-value_behind-in-Some-clause-gives t c =
+pub value_at-returns-in_err-value_after-in-Some-clause-gives : goal.value_at-returns-in_err-value_after-in-Some-clause-gives
+value_at-returns-in_err-value_after-in-Some-clause-gives t c =
     let below : c.args.node < length c.nodes.result.now = omega (arith, ap length c.nodes.ensures.nodes) in
     let set = set-read c.args.self.now.tree.now _ c.args.node _ c.nodes.ensures.nodes below ∙ c.in-Some.is in
     let p = err_from_is_err_and c.from_residual.result c.from_residual.ensures.1 in
-    rw (p.1, p.2) (behind-refused _ _ c.args.player c.requires.play.tree (play-chooses _ _ _ _ _ c.requires.play) c.args.node c.requires.node _ set _ c.in_err-value_behind-in-Some.ensures.gives)
+    rw (p.1, p.2) (following-refused _ _ c.args.player c.requires.play.tree (play-chooses _ _ _ _ _ c.requires.play) c.args.node c.requires.node _ set _ c.in_err-value_after-in-Some.ensures.gives)
 
-pub value_at-returns-in_ok-value_behind-in-Some-clause-gives : goal.value_at-returns-in_ok-value_behind-in-Some-clause-gives
-value_at-returns-in_ok-value_behind-in-Some-clause-gives t c =
+pub value_at-returns-in_ok-value_after-in-Some-clause-gives : goal.value_at-returns-in_ok-value_after-in-Some-clause-gives
+value_at-returns-in_ok-value_after-in-Some-clause-gives t c =
     let below : c.args.node < length c.nodes.result.now = omega (arith, ap length c.nodes.ensures.nodes) in
     let set = set-read c.args.self.now.tree.now _ c.args.node _ c.nodes.ensures.nodes below ∙ c.in-Some.is in
     let pays = pays-read c.args.self.now.tree.now _ c.args.node c.args.player _ _ c.nodes.ensures.nodes below c.outcome_payoff-pays.ensures in
-    node-added _ _ c.args.player c.requires.play.tree (play-chooses _ _ _ _ _ c.requires.play) c.args.node c.requires.node _ set _ _ _ pays c.in_ok-value_behind-in-Some.ensures.gives.0 c.in_ok-value_behind-in-Some.ensures.gives.1 c.add.ensures.value c.add.ensures.fits c.add.ensures.step c.add.ensures.unfit
+    node-added _ _ c.args.player c.requires.play.tree (play-chooses _ _ _ _ _ c.requires.play) c.args.node c.requires.node _ set _ _ _ pays c.in_ok-value_after-in-Some.ensures.gives.0 c.in_ok-value_after-in-Some.ensures.gives.1 c.add.ensures.value c.add.ensures.fits c.add.ensures.step c.add.ensures.unfit
 
 pub value_at-returns-in-None-clause-gives : goal.value_at-returns-in-None-clause-gives
 value_at-returns-in-None-clause-gives t c =
@@ -45,26 +45,26 @@ value_at-returns-in-None-clause-gives t c =
     end-gives _ _ c.args.player c.requires.play.tree (play-chooses _ _ _ _ _ c.requires.play) c.args.node c.requires.node _ set pays
 
 -- the owner chooses one of the set's actions
-chosen : (t : ℕ) (c : goal.value_behind-After-index-self-node t) → c.action_at-action.result < (game_of c.args.self.now).actions c.args.set
+chosen : (t : ℕ) (c : goal.value_after-After-index-self-node t) → c.action_at-action.result < (game_of c.args.self.now).actions c.args.set
 chosen t c =
     let within = c.requires.play.tree.sets_within c.args.node c.args.set c.requires.node c.requires.set in
     let owner = owner-read c.args.kind _ c.in-Move.owner c.requires.kind c.in-Move.is in
     rw c.action_at-action.ensures (play-chooses _ _ _ _ _ c.requires.play c.args.set c.in-Move.owner within owner)
 
-pub value_behind-index-requires : goal.value_behind-index-requires
-value_behind-index-requires t c =
+pub value_after-index-requires : goal.value_after-index-requires
+value_after-index-requires t c =
     let read = child-read (λ v. v.items) _ c.args.self.now.children.now c.args.node c.args.set c.action_at-action.result c.index-self-node.result c.requires.play.tree c.requires.play.children_are c.requires.node c.requires.set (chosen t c) in
     rw (get_or c.args.self.now.children.now c.args.node c.index-self-node.result).ok.0 read.0
 
-pub value_behind-value-requires : goal.value_behind-value-requires
-value_behind-value-requires t c =
-    let below = chosen t (goal.at.value_behind-value-requires t c).After-index-self-node in
+pub value_after-value-requires : goal.value_after-value-requires
+value_after-value-requires t c =
+    let below = chosen t (goal.at.value_after-value-requires t c).After-index-self-node in
     let found = child-found (λ v. v.items) _ c.args.self.now.children.now c.args.node c.args.set c.action_at-action.result c.index-self-node.result c.index.result.now c.requires.play.tree c.requires.play.children_are c.requires.node c.requires.set below c.index.ensures in
     (omega arith, (c.requires.play, (found.2, (c.requires.player, c.requires.keep))))
 
-pub value_behind-returns-in-Move-clause-gives : goal.value_behind-returns-in-Move-clause-gives
-value_behind-returns-in-Move-clause-gives t c =
-    let below = chosen t (goal.at.value_behind-returns-in-Move-clause-gives t c).After-index-self-node in
+pub value_after-returns-in-Move-clause-gives : goal.value_after-returns-in-Move-clause-gives
+value_after-returns-in-Move-clause-gives t c =
+    let below = chosen t (goal.at.value_after-returns-in-Move-clause-gives t c).After-index-self-node in
     let found = child-found (λ v. v.items) _ c.args.self.now.children.now c.args.node c.args.set c.action_at-action.result c.index-self-node.result c.index.result.now c.requires.play.tree c.requires.play.children_are c.requires.node c.requires.set below c.index.ensures in
     owned-gives (game_of c.args.self.now) (choice_of c.args.self.now) c.args.player c.args.node c.args.set c.in-Move.owner c.index.result.now _ _ (owner-read c.args.kind _ c.in-Move.owner c.requires.kind c.in-Move.is) (rw c.action_at-action.ensures at found.0) c.value.ensures.gives
 

@@ -18,8 +18,8 @@ decreases-value_at l = 5 * (length l.self.now.tree.now.nodes - l.node) + 2
 abbrev pub decreases-value : goal.decreases-value
 decreases-value l = 5 * (length l.self.now.tree.now.nodes - l.node) + 3
 
-abbrev pub decreases-value_behind : goal.decreases-value_behind
-decreases-value_behind l = 5 * (length l.self.now.tree.now.nodes - l.node) + 1
+abbrev pub decreases-value_after : goal.decreases-value_after
+decreases-value_after l = 5 * (length l.self.now.tree.now.nodes - l.node) + 1
 
 abbrev pub decreases-with_branch : goal.decreases-with_branch
 decreases-with_branch l = 5 * (length l.self.now.tree.now.nodes - l.child) + 4

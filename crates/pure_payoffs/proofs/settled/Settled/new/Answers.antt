@@ -13,8 +13,8 @@ loop-number-preserved c =
     let inside : number < t.size = omega (arith, ap length c.nodes-node-items.ensures.nodes) in
     rw c.in_ok-push.ensures.items (elim c.if-players-room.branch [
       | then-players-room+then-is_topmost+in_ok-of_players w ↦
-          let flag : get_or c.in_ok-flags.flags.items number false ≡ true = ap (λ xs. get_or xs number false) (sym w.deref.ensures.value) ∙ w.is_topmost.ensures w.if-is_topmost.true in
-          let settled = c.in_ok-flags.ensures.settled number inside flag in
+          let is_idle : get_or c.in_ok-idle.idle.items number false ≡ true = ap (λ xs. get_or xs number false) (sym w.deref.ensures.value) ∙ w.is_topmost.ensures w.if-is_topmost.true in
+          let settled = c.in_ok-idle.ensures.settled number inside is_idle in
           let same = ap (λ v. v.items) w.of_players-is in
           pushed (λ i l. subst (λ xs. IsPlace t number i (get_or xs i None)) (sym same) (free-place t number i w.in_ok-of_players.of_players.items settled w.in_ok-of_players.ensures (subst (λ xs. i < length xs) same l)))
       | else-players-room w ↦ pushed (λ i l. let none : c.if-players-room.of_players.items ≡ [] = ap (λ v. v.items) w.of_players-is ∙ c.new-of_players.ensures.items in absurd (omega (arith, ap length none)))

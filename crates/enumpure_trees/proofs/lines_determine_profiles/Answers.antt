@@ -1,0 +1,5 @@
+use Rattle.enumpure_trees.proofs.EquilibriumLines.{lines-tell}
+use Rattle.enumpure_trees.proofs.lines_determine_profiles.Goals as goal
+
+pub returns : goal.returns
+returns c = lines-tell

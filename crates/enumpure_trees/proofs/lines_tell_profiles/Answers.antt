@@ -1,5 +1,0 @@
-use Rattle.enumpure_trees.proofs.EquilibriumLines.{lines-tell}
-use Rattle.enumpure_trees.proofs.lines_tell_profiles.Goals as goal
-
-pub returns : goal.returns
-returns c = lines-tell

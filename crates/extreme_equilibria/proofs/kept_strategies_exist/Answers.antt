@@ -1,0 +1,5 @@
+use Rattle.extreme_equilibria.proofs.KeptLists.{kept-exist}
+use Rattle.extreme_equilibria.proofs.kept_strategies_exist.Goals as goal
+
+pub returns : goal.returns
+returns c = kept-exist

@@ -1,0 +1,5 @@
+use Rattle.extreme_equilibria.proofs.KeptLists.{last-lists}
+use Rattle.extreme_equilibria.proofs.last_lists_are_kept.Goals as goal
+
+pub returns : goal.returns
+returns c = last-lists

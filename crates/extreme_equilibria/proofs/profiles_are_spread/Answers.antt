@@ -1,0 +1,5 @@
+use Rattle.extreme_equilibria.proofs.ExtremeEquilibria.{profiles-spread}
+use Rattle.extreme_equilibria.proofs.profiles_are_spread.Goals as goal
+
+pub returns : goal.returns
+returns c = profiles-spread

@@ -1,0 +1,5 @@
+use Rattle.extreme_equilibria.proofs.KeptLists.{rounds-by_lists}
+use Rattle.extreme_equilibria.proofs.rounds_by_lists.Goals as goal
+
+pub returns : goal.returns
+returns c = rounds-by_lists

@@ -1,0 +1,5 @@
+use Rattle.extreme_equilibria.proofs.Rounds.{rounds-end}
+use Rattle.extreme_equilibria.proofs.rounds_end.Goals as goal
+
+pub returns : goal.returns
+returns c = rounds-end

@@ -1,0 +1,5 @@
+use Rattle.game_theory.proofs.LineTexts.{lines-tell}
+use Rattle.game_theory.proofs.lines_determine_profiles.Goals as goal
+
+pub returns : goal.returns
+returns c = lines-tell

@@ -1,5 +1,0 @@
-use Rattle.game_theory.proofs.LineTexts.{lines-tell}
-use Rattle.game_theory.proofs.lines_tell_profiles.Goals as goal
-
-pub returns : goal.returns
-returns c = lines-tell

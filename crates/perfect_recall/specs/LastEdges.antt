@@ -1,0 +1,28 @@
+-- The players' last own edges on the paths of a tree, while they are computed.
+use Rattle.std.specs.Prelude.{ℕ, ◌<◌, ◌≡◌, List, length, slice_index_or, Option, Some, None}
+use Rattle.game_theory.specs.Trees.{Tree}
+use Rattle.game_theory.specs.Recall.{own_history}
+use Rattle.sequence_forms.specs.Sequences.{last_edge}
+
+-- player i chooses at node k, which is in set s
+pub record Chooses (t : Tree) (k i s : ℕ) : Type 0 where
+  pub at_set : t.set k ≡ Some s
+  pub own : t.owner s ≡ Some i
+
+-- no player chooses at node k
+abbrev pub NobodyChooses : Tree → ℕ → Type 0
+NobodyChooses t k = (i s : ℕ) → Chooses t k i s → ⊥
+
+-- for each player the last own edge on the path to node k
+pub record AreLast (t : Tree) (k : ℕ) (last : List (Option (ℕ × ℕ))) : Type 0 where
+  pub one_for_each : length last ≡ t.players
+  pub are_last : (i : ℕ) → i < t.players → slice_index_or last i None ≡ last_edge (own_history t i k)
+
+-- the last own edge before node k of the player who chooses there, and none where nobody does
+pub record IsEdgeBefore (t : Tree) (k : ℕ) (edge : Option (ℕ × ℕ)) : Type 0 where
+  pub of_player : (i s : ℕ) → Chooses t k i s → edge ≡ last_edge (own_history t i k)
+  pub of_nobody : NobodyChooses t k → edge ≡ None
+
+-- such edges, for the first nodes
+abbrev pub AreLastEdges : Tree → List (Option (ℕ × ℕ)) → Type 0
+AreLastEdges t edges = (k : ℕ) → k < length edges → IsEdgeBefore t k (slice_index_or edges k None)

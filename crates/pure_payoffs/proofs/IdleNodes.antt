@@ -1,0 +1,19 @@
+-- Idle nodes, from the children up to the parents.
+use Rattle.std.proofs.Common.{ℕ, zero, suc, ◌<◌, ◌≤◌, ◌≡◌, Bool, true, false, List, get_or, sym, ap, ◌∙◌, arith}
+use Rattle.game_theory.specs.Trees.{Tree, IsTree, IsAbove}
+use Rattle.pure_payoffs.specs.Settled.{ArePassedUp, AreSettledNodes}
+
+module _ (t : Tree) (n : ℕ) (idle : List Bool) (w : IsTree t) (few : n ≤ 1) (h : ArePassedUp t n idle) where
+  -- what lies below an idle node is idle
+  idle_below : (d k c : ℕ) → c < t.size → IsAbove t d k c → get_or idle k false ≡ true → get_or idle c false ≡ true
+  idle_below zero k c l above is_idle = ap (λ x. get_or idle x false) (sym above) ∙ is_idle
+  idle_below (suc d) k c l above is_idle =
+      let after = w.after_parent c above.0 l in
+      h.pass c (omega arith) above.0 l (idle_below d k (t.parent c) (omega arith) above.1 is_idle)
+
+  -- once all are passed up, idle nodes tell of subtrees
+  pub passed-all : AreSettledNodes t idle
+  passed-all = record {
+    one_for_each = h.tell.one_for_each;
+    settled = λ k l is_idle c m n. h.tell.no_player c m (idle_below n.0 k c m n.1 is_idle);
+  }

@@ -1,5 +1,0 @@
-use Rattle.pure_payoffs.proofs.SettledFlags.{passed-all}
-use Rattle.pure_payoffs.proofs.settled.settled_flags.Goals as goal
-
-pub returns : goal.returns
-returns c = passed-all _ c.loop-number.number c.loop-number.flags.items c.stands_for_game_tree.ensures c.loop-number-test.false c.loop-number.invariant

@@ -1,7 +1,0 @@
-use Rattle.game_core.specs.TreeGame.{game_of_tree}
-use Rattle.pure_payoffs.specs.Settled.{ArePassedUp}
-use Rattle.pure_payoffs.proofs.settled.settled_flags.Given as goal
-
--- from this node on flags are passed up
-abbrev pub invariant-loop-number : goal.invariant-loop-number
-invariant-loop-number l = ArePassedUp (game_of_tree l.tree) l.number l.flags.items

@@ -1,0 +1,7 @@
+use Rattle.game_core.specs.TreeGame.{game_of_tree}
+use Rattle.pure_payoffs.specs.Settled.{ArePassedUp}
+use Rattle.pure_payoffs.proofs.settled.settled_nodes.Given as goal
+
+-- from this node on idle nodes are passed up
+abbrev pub invariant-loop-number : goal.invariant-loop-number
+invariant-loop-number l = ArePassedUp (game_of_tree l.tree) l.number l.idle.items

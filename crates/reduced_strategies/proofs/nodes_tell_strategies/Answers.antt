@@ -1,5 +1,0 @@
-use Rattle.reduced_strategies.proofs.Nodes.{nodes-tell}
-use Rattle.reduced_strategies.proofs.nodes_tell_strategies.Goals as goal
-
-pub returns : goal.returns
-returns c = nodes-tell
