@@ -3,10 +3,11 @@ use Rattle.std.proofs.Common.{ℕ, ◌+◌, ◌-◌, ◌<◌, ◌≤◌, ◌^◌
 use Rattle.std.specs.Int.{bit_at}
 use Rattle.std.specs.List.{between}
 use Rattle.std.proofs.lemmas.Bool.{cases_lt}
+use Rattle.std.proofs.lemmas.Nat.{and_le_l}
 use Rattle.std.proofs.lemmas.Nat.Bits.{bit_at_and}
 use Rattle.std.proofs.lemmas.List.{take_all, length-append, length-map, length-drop, get_or-map, get_or_append_left, get_or-append_right, get_or-take, length-take-le}
 use Rattle.std.proofs.lemmas.List.Edits.{length-between, get_or-between}
-use Rattle.std.proofs.lemmas.Simd.{bitmask_splat, zip2_splat_left, bit_mask_l}
+use Rattle.std.proofs.lemmas.Simd.{bitmask_splat, zip2_splat_left, bit_mask_l, mask_l-lt}
 use borrow.Rule.Slice.PartMut.{put_mid, post_of}
 use lib.Lanes.{zip2, mask_l, top}
 use mir.Val.{hbits, bits}
@@ -32,6 +33,13 @@ lane_bit word all xs i e l =
     ∙ ap (λ b. cond b 1 0) (get_or-map (λ x. nat_eq x all) joined i 0 false (omega (arith, long))
     ∙ ap (λ x. nat_eq x all) (get_or-map (λ x. bit_or word x) xs i 0 0 (omega (arith, e))))
 
+-- there are as many bits as lanes
+pub lanes_few : (word all : ℕ) (xs : List ℕ) → length xs ≡ 8 → lanes_mask word all xs < 2 ^ 8
+lanes_few word all xs e =
+    let bools : List Bool = map (λ x. nat_eq x all) (map (λ x. bit_or word x) xs) in
+    let long : length bools ≡ 8 = length-map _ _ ∙ (length-map xs (λ x. bit_or word x) ∙ e) in
+    subst (λ n. n < 2 ^ 8) (sym (lanes_mask_is word all xs e)) (subst (λ k. mask_l bools < 2 ^ k) long (mask_l-lt bools))
+
 -- both bits are set
 both_set : (b c : Bool) → nat_eq (min (cond b 1 0) (cond c 1 0)) 1 ≡ (b && c)
 both_set true true = refl
@@ -39,18 +47,17 @@ both_set true false = refl
 both_set false true = refl
 both_set false false = refl
 
--- the bits of both words tell the places of a block
-pub block_matches : (mask all low high : List ℕ) (found : List Bool) (lows highs : ℕ) → length low ≡ 8 → length found ≡ 8
+-- the bits of both words are those of the places of a block
+pub both_bits : (mask all low high : List ℕ) (lows highs : ℕ)
     → ((i : ℕ) → i < 8 → bit_at lows i ≡ cond (nat_eq (bit_or (get_or mask 0 0) (get_or low i 0)) (get_or all 0 0)) 1 0)
     → ((i : ℕ) → i < 8 → bit_at highs i ≡ cond (nat_eq (bit_or (get_or mask 1 0) (get_or high i 0)) (get_or all 1 0)) 1 0)
-    → ((i : ℕ) (d : Bool) → i < 8 → get_or found i d ≡ nat_eq (bit_at (bit_and lows highs) i) 1)
-    → AreMatches mask all low high found
-block_matches mask all low high found lows highs e f g h w = record {
-  so_many = f ∙ sym e;
-  are_matches = λ i d l.
-      let k : i < 8 = omega (arith, e) in
-      w i d k ∙ ap (λ n. nat_eq n 1) (bit_at_and lows highs i ∙ ap₂ min (g i k) (h i k)) ∙ both_set _ _;
-}
+    → (i : ℕ) → i < 8 → nat_eq (bit_at (bit_and lows highs) i) 1 ≡ completes mask all (get_or low i 0) (get_or high i 0)
+both_bits mask all low high lows highs g h i k =
+    ap (λ n. nat_eq n 1) (bit_at_and lows highs i ∙ ap₂ min (g i k) (h i k)) ∙ both_set _ _
+
+-- and there are no more
+pub both_few : (lows highs : ℕ) → lows < 2 ^ 8 → bit_and lows highs < 2 ^ 8
+both_few lows highs l = omega (arith, l, and_le_l lows highs)
 
 -- a place of a part
 read_between : (xs : List ℕ) (at end i : ℕ) → at ≤ i → i < end → get_or (between at end xs) (i - at) 0 ≡ get_or xs i 0

@@ -1,7 +1,11 @@
 -- How many masks complete a mask, and how many pairs these make
-use Rattle.std.proofs.Common.{ℕ, zero, suc, ◌+◌, ◌-◌, ◌*◌, mul-le-mul, ◌<◌, ◌≤◌, ◌^◌, ◌≡◌, Bool, cond, List, [], ◌∷◌, length, map, get_or, take, refl, sym, ap, ap₂, subst, ◌∙◌, arith, add-one}
+use Rattle.std.proofs.Common.{ℕ, zero, suc, ◌+◌, ◌-◌, ◌*◌, ◌/◌, ◌%◌, nat_eq, mul-le-mul, ◌<◌, ◌≤◌, ◌^◌, ◌≡◌, Bool, cond, List, [], ◌∷◌, length, map, get_or, take, refl, sym, ap, ap₂, subst, ◌∙◌, arith, add-one}
 use Rattle.std.specs.Prelude.{count_by, sum, sum_by}
+use Rattle.std.specs.Int.{bit_at}
+use Rattle.std.specs.Int.Count.{ones, ones_step}
 use Rattle.std.specs.List.{between, range_with_len}
+use Rattle.std.proofs.lemmas.Nat.{ones-le}
+use Rattle.std.proofs.lemmas.Nat.Bits.{bit_at_lowest, bit_at-suc}
 use Rattle.std.proofs.lemmas.List.{length-map, length-append, nil_from_length, take_all}
 use Rattle.std.proofs.lemmas.List.Edits.{length-between, get_or-between}
 use Rattle.std.proofs.lemmas.List.FromFn.{length-range_with_len, sum_by-map-range_with_len_more}
@@ -10,39 +14,62 @@ use Rattle.rayon.specs.Shown.{run-append}
 use Rattle.linear_systems.specs.Vertices.{MarkedPoint}
 use Rattle.basis_enum.specs.Vertices.{mark_of, marks_of}
 use Rattle.basis_enum.specs.declared.vertex.Vertex.{Vertex}
-use Rattle.label_pairing.specs.Matches.{completes, AreMatches, AreWords, partner_count, partner_pairs}
+use Rattle.label_pairing.specs.Matches.{completes, AreWords, partner_count, partner_pairs}
 use Rattle.label_pairing.specs.Pairs.{are_together, mark_at, all_pairs}
 use Rattle.label_pairing.proofs.Rows.{row, rows, range_more, rows-next, vertex-together}
 
--- so many flags are set as numbers from a place on pass
-flags_are : (f : ℕ → Bool) (at : ℕ) (found : List Bool) → ((i : ℕ) (d : Bool) → i < length found → get_or found i d ≡ f (at + i)) → count_by (λ b. b) found ≡ count_by f (range_with_len at (length found))
-flags_are f at [] h = refl
-flags_are f at (b ∷ bs) h =
-    let one : b ≡ f at = h 0 b (omega arith) ∙ ap f (omega arith) in
-    let rest = flags_are f (at + 1) bs (λ i d l. h (suc i) d (omega arith) ∙ ap f (omega arith)) in
-    sum_by-cons (λ b. cond b 1 0) b bs
-    ∙ ap₂ (λ c n. cond c 1 0 + n) one rest
-    ∙ sym (sum_by-cons (λ i. cond (f i) 1 0) at (range_with_len (at + 1) (length bs)))
+-- as many numbers pass one test as another, where the numbers of the one run with those of the other
+same_count : (f g : ℕ → Bool) (a b n : ℕ) → ((i : ℕ) → i < n → f (a + i) ≡ g (b + i)) → count_by f (range_with_len a n) ≡ count_by g (range_with_len b n)
+same_count f g a b zero h = refl
+same_count f g a b (suc n) h =
+    let one : f a ≡ g b = ap f (omega arith) ∙ h 0 (omega arith) ∙ ap g (omega arith) in
+    let rest = same_count f g (a + 1) (b + 1) n (λ i l. ap f (omega arith) ∙ h (suc i) (omega arith) ∙ ap g (omega arith)) in
+    sum_by-cons (λ i. cond (f i) 1 0) a (range_with_len (a + 1) n)
+    ∙ ap₂ (λ c m. cond c 1 0 + m) one rest
+    ∙ sym (sum_by-cons (λ i. cond (g i) 1 0) b (range_with_len (b + 1) n))
+
+-- a bit that is 1 counts 1
+bit_is : (b : ℕ) → b < 2 → cond (nat_eq b 1) 1 0 ≡ b
+bit_is zero l = refl
+bit_is (suc zero) l = refl
+bit_is (suc (suc b)) l = absurd (omega (arith, l))
+
+-- a number has as many ones as bits that pass as places
+pub bits_count : (f : ℕ → Bool) (a k n : ℕ) → n < 2 ^ k → ((i : ℕ) → i < k → nat_eq (bit_at n i) 1 ≡ f (a + i)) → ones n ≡ count_by f (range_with_len a k)
+bits_count f a zero n few h = omega (arith, ones-le 0 n few)
+bits_count f a (suc k) n few h =
+    let half : n / 2 < 2 ^ k = omega (arith, few) in
+    let lowest : n % 2 ≡ cond (f a) 1 0 = sym (bit_is (n % 2) (omega arith)) ∙ ap (λ b. cond b 1 0) (ap (λ m. nat_eq m 1) (sym (bit_at_lowest n)) ∙ h 0 (omega arith) ∙ ap f (omega arith)) in
+    let rest = bits_count f (a + 1) k (n / 2) half (λ i l. ap (λ m. nat_eq m 1) (sym (bit_at-suc n i)) ∙ h (suc i) (omega arith) ∙ ap f (omega arith)) in
+    ones_step n ∙ ap₂ (λ x y. x + y) lowest rest ∙ sym (sum_by-cons (λ i. cond (f i) 1 0) a (range_with_len (a + 1) k))
 
 module _ (mask all low high : List ℕ) where
-  abbrev test : ℕ → Bool
+  abbrev pub test : ℕ → Bool
   test i = completes mask all (get_or low i 0) (get_or high i 0)
 
   -- how many of the first places are partners
   abbrev pub partners_below : ℕ → ℕ
   partners_below n = count_by test (range_with_len 0 n)
 
+  -- one more is a partner or not
+  pub partners_more : (i : ℕ) → partners_below (i + 1) ≡ partners_below i + cond (test i) 1 0
+  partners_more i =
+      ap partners_below (add-one i)
+      ∙ ap (count_by test) (range_more 0 i)
+      ∙ sum_by_push (λ j. cond (test j) 1 0) (range_with_len 0 i) (0 + i)
+      ∙ ap (λ j. partners_below i + cond (test j) 1 0) (omega arith)
+
   -- the partners in a part come to those before it
-  pub partners-next : (at end : ℕ) (found : List Bool) → at ≤ end → end ≤ length low → AreMatches mask all (between at end low) (between at end high) found → partners_below at + count_by (λ b. b) found ≡ partners_below end
-  partners-next at end found a b h =
-      let so_many : length found ≡ end - at = h.so_many ∙ length-between low at end b in
+  pub partners-next : (at end : ℕ) → at ≤ end → end ≤ length low → length high ≡ length low
+      → partners_below at + partner_count mask all (between at end low) (between at end high) ≡ partners_below end
+  partners-next at end a b e =
+      let so_many : length (between at end low) ≡ end - at = length-between low at end b in
       let whole : at + (end - at) ≡ end = omega arith in
       let from : 0 + at ≡ at = omega arith in
       ap (λ n. partners_below at + n)
-      (flags_are test at found (λ i d l.
-      h.are_matches i d (omega (arith, h.so_many))
-      ∙ ap₂ (λ x y. completes mask all x y) (get_or-between low at end i 0 (omega (arith, so_many))) (get_or-between high at end i 0 (omega (arith, so_many))))
-      ∙ ap₂ (λ s n. count_by test (range_with_len s n)) (sym from) so_many)
+      (ap (λ n. count_by (λ i. completes mask all (get_or (between at end low) i 0) (get_or (between at end high) i 0)) (range_with_len 0 n)) so_many
+      ∙ same_count _ test 0 at (end - at) (λ i l. ap₂ (λ x y. completes mask all x y) (get_or-between low at end (0 + i) 0 (omega arith)) (get_or-between high at end (0 + i) 0 (omega arith)) ∙ ap test (omega arith))
+      ∙ ap (λ s. count_by test (range_with_len s (end - at))) (sym from))
       ∙ sym (sum_by-append (λ i. cond (test i) 1 0) (range_with_len 0 at) (range_with_len (0 + at) (end - at)))
       ∙ ap (count_by test) (run-append 0 at (end - at) ∙ ap (range_with_len 0) whole)
 

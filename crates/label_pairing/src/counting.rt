@@ -1,45 +1,46 @@
 // How many partners vertices have.
-ghost use Rattle.std.specs.Prelude.{◌≡◌, ◌<◌, ◌≤◌, ◌^◌, length, map, count_by, sum, IfOk};
+ghost use Rattle.std.specs.Prelude.{◌≡◌, ◌<◌, ◌≤◌, ◌^◌, length, map, sum, IfOk};
 ghost use Rattle.label_pairing.specs.Matches.{partner_count};
 
-use crate::matching::matches;
+use crate::matching::{BLOCK, block_count, completes};
 use basis_enum::Vertex;
 use rayon::prelude::*;
 use std::alloc::{AllocError, Global};
 use std::thread::Threads;
 
-// The places whose partners are counted at once.
-const PLACES: usize = 64;
-
 // The fewest pairs whose comparison is worth a thread.
 const PAIRS_PER_THREAD: usize = 65_536;
 
-// How many places are found.
-fn found_count(found: &[bool]) -> usize
-    ensures count { result ≡ count_by (λ found. found) found.now }
-    ensures few { result ≤ length found.now }
+// How many masks, whose words these are, complete a mask: place by place.
+fn place_count(mask: [u64; 2], all: [u64; 2], low: &[u64], high: &[u64]) -> usize
+    requires { length high.now ≡ length low.now }
+    ensures count { result ≡ partner_count mask all low.now high.now }
+    ensures few { result ≤ length low.now }
 {
-    found.iter().filter(|found| **found).count()
+    let mut count = 0;
+    for i in 0..low.len() {
+        if completes(mask, all, low[i], high[i]) {
+            count += 1;
+        }
+    }
+    count
 }
 
-// How many masks, whose words these are, complete a mask.
+// How many masks, whose words these are, complete a mask: block by block, and the rest place by
+// place.
 fn partner_count(mask: [u64; 2], all: [u64; 2], low: &[u64], high: &[u64]) -> usize
     requires { length high.now ≡ length low.now }
     ensures { result ≡ partner_count mask all low.now high.now }
 {
-    let mut found = [false; PLACES];
-    let blocks = low.len() / PLACES;
+    let blocks = low.len() / BLOCK;
     let mut count = 0;
     for block in 0..blocks {
-        let at = PLACES * block;
-        let end = at + PLACES;
-        matches(mask, all, &low[at..end], &high[at..end], &mut found);
-        count += found_count(&found);
+        let at = BLOCK * block;
+        let end = at + BLOCK;
+        count += block_count(mask, all, &low[at..end], &high[at..end]);
     }
-    let rest = PLACES * blocks;
-    let rest_found = &mut found[..low.len() - rest];
-    matches(mask, all, &low[rest..], &high[rest..], rest_found);
-    count + found_count(rest_found)
+    let rest = BLOCK * blocks;
+    count + place_count(mask, all, &low[rest..], &high[rest..])
 }
 
 /// How many partners each vertex has: masks of a list, whose low and high words are given apart,

@@ -1,15 +1,15 @@
 // Which masks complete a mask.
-ghost use Rattle.std.specs.Prelude.{◌≡◌, ◌<◌, ◌≤◌, ℕ, Bool, length, get_or, cond, nat_eq, bit_or};
+ghost use Rattle.std.specs.Prelude.{◌≡◌, ◌<◌, ◌≤◌, ◌^◌, ℕ, Bool, length, get_or, cond, nat_eq, bit_or};
 ghost use Rattle.std.specs.Int.{bit_at};
-ghost use Rattle.label_pairing.specs.Matches.{completes, AreMatches};
+ghost use Rattle.label_pairing.specs.Matches.{completes, partner_count, AreMatches};
 
 use std::simd::prelude::*;
 
-// The places of a block, which are compared at once.
-const BLOCK: usize = 8;
+/// The places of a block, which are compared at once.
+pub(crate) const BLOCK: usize = 8;
 
-// Whether the bits of a mask and of two further words together are all.
-fn completes(mask: [u64; 2], all: [u64; 2], low: u64, high: u64) -> bool
+/// Whether the bits of a mask and of two further words together are all.
+pub(crate) fn completes(mask: [u64; 2], all: [u64; 2], low: u64, high: u64) -> bool
     ensures { result ≡ completes mask all low high }
 {
     mask[0] | low == all[0] && mask[1] | high == all[1]
@@ -29,8 +29,9 @@ fn match_places(mask: [u64; 2], all: [u64; 2], low: &[u64], high: &[u64], found:
 // Which of a block's words together with a word are all: a bit for each.
 fn word_bits(word: u64, all: u64, others: &[u64]) -> u64
     requires { length others.now ≡ 8 }
-    ensures { (i : ℕ) → i < 8
+    ensures bits { (i : ℕ) → i < 8
         → bit_at result i ≡ cond (nat_eq (bit_or word (get_or others.now i 0)) all) 1 0 }
+    ensures no_more { result < 2 ^ 8 }
 {
     let together = u64x8::splat(word) | u64x8::from_slice(others);
     together.simd_eq(u64x8::splat(all)).to_bitmask()
@@ -48,6 +49,17 @@ fn write_bits(bits: u64, found: &mut [bool])
     }
 }
 
+// Which places of a block complete a mask: a bit for each.
+fn block_bits(mask: [u64; 2], all: [u64; 2], low: &[u64], high: &[u64]) -> u64
+    requires low { length low.now ≡ 8 }
+    requires high { length high.now ≡ 8 }
+    ensures bits { (i : ℕ) → i < 8 → nat_eq (bit_at result i) 1
+        ≡ completes mask all (get_or low.now i 0) (get_or high.now i 0) }
+    ensures no_more { result < 2 ^ 8 }
+{
+    word_bits(mask[0], all[0], low) & word_bits(mask[1], all[1], high)
+}
+
 // `matches` of a block.
 fn match_block(mask: [u64; 2], all: [u64; 2], low: &[u64], high: &[u64], found: &mut [bool])
     requires low { length low.now ≡ 8 }
@@ -55,9 +67,17 @@ fn match_block(mask: [u64; 2], all: [u64; 2], low: &[u64], high: &[u64], found: 
     requires found { length found.old ≡ 8 }
     ensures { AreMatches mask all low.now high.now found.new }
 {
-    let low_bits = word_bits(mask[0], all[0], low);
-    let high_bits = word_bits(mask[1], all[1], high);
-    write_bits(low_bits & high_bits, found);
+    write_bits(block_bits(mask, all, low, high), found);
+}
+
+/// How many places of a block complete a mask.
+pub(crate) fn block_count(mask: [u64; 2], all: [u64; 2], low: &[u64], high: &[u64]) -> usize
+    requires low { length low.now ≡ 8 }
+    requires high { length high.now ≡ 8 }
+    ensures count { result ≡ partner_count mask all low.now high.now }
+    ensures few { result ≤ 8 }
+{
+    block_bits(mask, all, low, high).count_ones() as usize
 }
 
 /// For each place of a list of masks, whose low and high words are given apart: whether the bits of
