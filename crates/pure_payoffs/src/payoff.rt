@@ -50,10 +50,9 @@ impl<'a> Play<'a> {
     ghost use Rattle.game_theory.specs.Profiles.{IsProfile};
     ghost use Rattle.game_theory.specs.Behaviour.{payoff, pure, value};
     ghost use Rattle.game_core.specs.Tree.{kind_of_owner};
-    ghost use Rattle.game_core.specs.TreeGame.{game_of_tree};
     ghost use Rattle.reduced_strategies.specs.Places.{ArePlaces};
-    ghost use Rattle.reduced_strategies.specs.StrategicForm.{AreStrategies, completed};
-    ghost use Rattle.pure_payoffs.specs.Plays.{IsPlayed, Give, game_of, choice_of, steps_at, branch_steps, steps_after, value_after};
+    ghost use Rattle.reduced_strategies.specs.StrategicForm.{AreStrategies};
+    ghost use Rattle.pure_payoffs.specs.Plays.{IsPlayed, Give, game_of, strategies_of, choice_of, steps_at, branch_steps, steps_after, value_after};
     ghost use Rattle.pure_payoffs.specs.Shortcuts.{KeepShortcuts};
     ghost use Rattle.pure_payoffs.specs.Steps.{StepFits, IsFirstUnfit, payoff_steps};
 
@@ -66,22 +65,15 @@ impl<'a> Play<'a> {
     /// The first step that does not fit.
     pub fn payoff(&self, shortcuts: &mut Shortcuts, player: u32) -> Result<Frac, Unfit>
         requires player { player < length self.now.tree.now.players }
-        requires children { AreChildren (game_of_tree self.now.tree.now)
+        requires children { AreChildren (game_of self.now)
             (map (λ v. v.items) self.now.children.now) }
-        requires places { ArePlaces (game_of_tree self.now.tree.now) self.now.places.now }
-        requires strategies { AreStrategies (game_of_tree self.now.tree.now)
-            (map (λ v. map (λ w. w.items) v.items) self.now.strategies.now) }
-        requires profile { IsProfile
-            (map length (map (λ v. map
-            (λ w. w.items) v.items) self.now.strategies.now)) self.now.profile.now }
-        requires keep { KeepShortcuts (game_of_tree self.now.tree.now)
-            (completed (game_of_tree self.now.tree.now)
-            (map (λ v. map (λ w. w.items) v.items) self.now.strategies.now) self.now.profile.now) shortcuts.old }
-        ensures keep { KeepShortcuts (game_of_tree self.now.tree.now)
-            (completed (game_of_tree self.now.tree.now)
-            (map (λ v. map (λ w. w.items) v.items) self.now.strategies.now) self.now.profile.now) shortcuts.new }
-        ensures gives { let t = game_of_tree self.now.tree.now in
-            let choice = completed t (map (λ v. map (λ w. w.items) v.items) self.now.strategies.now) self.now.profile.now in
+        requires places { ArePlaces (game_of self.now) self.now.places.now }
+        requires strategies { AreStrategies (game_of self.now) (strategies_of self.now) }
+        requires profile { IsProfile (map length (strategies_of self.now)) self.now.profile.now }
+        requires keep { KeepShortcuts (game_of self.now) (choice_of self.now) shortcuts.old }
+        ensures keep { KeepShortcuts (game_of self.now) (choice_of self.now) shortcuts.new }
+        ensures gives { let t = game_of self.now in
+            let choice = choice_of self.now in
             MatchResult result
             (λ value. (value ≡ payoff t (pure choice) player) × All StepFits (payoff_steps t choice player))
             (IsFirstUnfit (payoff_steps t choice player)) }

@@ -1,8 +1,8 @@
 -- The sizes of a reduced form by the numbers of strategies.
-use Rattle.std.proofs.Common.{ℕ, zero, suc, ◌+◌, ◌*◌, ◌/◌, ◌<◌, ◌≤◌, ◌≡◌, inl, inr, Some, List, [], ◌∷◌, ◌++◌, length, map, take, get_or, All, refl, sym, ap, ap₂, ◌∙◌, subst, arith, min, below_more, option_map, mul-pos}
+use Rattle.std.proofs.Common.{ℕ, zero, suc, ◌+◌, ◌*◌, ◌/◌, ◌<◌, ◌≤◌, ◌≡◌, inl, inr, Some, List, [], ◌∷◌, ◌++◌, length, map, take, get_or, All, refl, sym, ap, ap₂, ◌∙◌, subst, arith, min, below_more, mul-pos}
 use Rattle.std.specs.Prelude.{slice_get}
 use Rattle.std.proofs.lemmas.List.{length-map, length_push, length-take-le, take_all, take_more, get_or_append_left, get_or_push, ext_get_or, get_or-take, get_or-map}
-use Rattle.std.proofs.lemmas.Option.{slice_get-get_or, slice_get-map, slice_get_read}
+use Rattle.std.proofs.lemmas.Option.{slice_get-get_or}
 use Rattle.std.proofs.Math.Nat.{lt-div-mul-add, mul-div-le, min-le_left, min-eq_left, min-eq_right}
 use Rattle.std.proofs.lemmas.Bool.{cases_lt}
 use Rattle.game_theory.proofs.ProfileCounts.{profile_count-push, profile_count-positive, profile_count-front}
@@ -250,11 +250,6 @@ few_choices m n h l =
     let first : m * n ≤ most_payoffs * n = N.mul-le-mul_right n h in
     let second : most_payoffs * n ≤ most_payoffs * 65536 = N.mul-le-mul_left most_payoffs l in
     omega arith
-
--- what stands at a place, seen through a function
-pub read_through : {V W : Type 0} (f : V → W) (lists : List V) (k : ℕ) (v : V) (w : W) → k < length lists → v ≡ get_or lists k v → w ≡ f v → slice_get (map f lists) k ≡ Some w
-read_through f lists k v w l is seen =
-    slice_get-map f lists k ∙ ap (option_map f) (slice_get_read lists (length lists) k v refl l is) ∙ ap Some (sym seen)
 
 -- one more player's list of strategies
 pub reduced-push : (t : Tree) (lists : List (List (List ℕ))) (last : List (List ℕ)) → ((i : ℕ) → i < length lists → AreReducedStrategies t i (get_or lists i [])) → AreReducedStrategies t (length lists) last

@@ -3,9 +3,10 @@ ghost use Rattle.std.specs.Prelude.{◌≡◌, ◌<◌, ◌≤◌, ◌*◌, ◌+
 ghost use Rattle.game_theory.specs.Profiles.{profile_count, profile_at};
 ghost use Rattle.game_core.specs.Table.{most_payoffs};
 ghost use Rattle.game_core.specs.TreeGame.{game_of_tree};
+ghost use Rattle.pure_payoffs.specs.Plays.{game_of, strategies_of, choice_of};
 ghost use Rattle.pure_payoffs.specs.Shortcuts.{HasRoom, KeepShortcuts};
 ghost use Rattle.reduced_strategies.specs.Places.{ArePlaces};
-ghost use Rattle.reduced_strategies.specs.StrategicForm.{AreStrategies, completed};
+ghost use Rattle.reduced_strategies.specs.StrategicForm.{AreStrategies};
 ghost use Rattle.reduced_form.specs.Cells.{AreCells, IsCellStop};
 ghost use Rattle.game_theory.specs.Children.{AreChildren};
 
@@ -22,31 +23,22 @@ fn push_cells(
     payoffs: &mut Vec<Frac>,
     number: u32,
 ) -> Result<(), ReduceStop>
-    requires children { AreChildren (game_of_tree play.now.tree.now)
+    requires children { AreChildren (game_of play.now)
         (map (λ v. v.items) play.now.children.now) }
-    requires places { ArePlaces (game_of_tree play.now.tree.now) play.now.places.now }
-    requires strategies { AreStrategies (game_of_tree play.now.tree.now)
-        (map (λ v. map (λ w. w.items) v.items) play.now.strategies.now) }
-    requires number { number < profile_count
-        (map length (map (λ v. map (λ w. w.items) v.items) play.now.strategies.now)) }
+    requires places { ArePlaces (game_of play.now) play.now.places.now }
+    requires strategies { AreStrategies (game_of play.now) (strategies_of play.now) }
+    requires number { number < profile_count (map length (strategies_of play.now)) }
     requires profile { play.now.profile.now
-        ≡ profile_at (map length
-        (map (λ v. map (λ w. w.items) v.items) play.now.strategies.now)) number }
-    requires keep { KeepShortcuts (game_of_tree play.now.tree.now)
-        (completed (game_of_tree play.now.tree.now)
-        (map (λ v. map (λ w. w.items) v.items) play.now.strategies.now) play.now.profile.now) shortcuts.old }
+        ≡ profile_at (map length (strategies_of play.now)) number }
+    requires keep { KeepShortcuts (game_of play.now) (choice_of play.now) shortcuts.old }
     requires so_many { length payoffs.old.items ≡ number * length play.now.tree.now.players }
-    requires cells { AreCells (game_of_tree play.now.tree.now)
-        (map (λ v. map (λ w. w.items) v.items) play.now.strategies.now) payoffs.old.items }
-    ensures room { HasRoom (game_of_tree play.now.tree.now) shortcuts.new }
+    requires cells { AreCells (game_of play.now) (strategies_of play.now) payoffs.old.items }
+    ensures room { HasRoom (game_of play.now) shortcuts.new }
     ensures so_many { OnOk result (length payoffs.new.items
         ≡ suc number * length play.now.tree.now.players) }
     ensures cells { OnOk result
-        (AreCells (game_of_tree play.now.tree.now)
-        (map (λ v. map (λ w. w.items) v.items) play.now.strategies.now) payoffs.new.items) }
-    ensures stop { IfErr result
-        (IsCellStop (game_of_tree play.now.tree.now)
-        (map (λ v. map (λ w. w.items) v.items) play.now.strategies.now)) }
+        (AreCells (game_of play.now) (strategies_of play.now) payoffs.new.items) }
+    ensures stop { IfErr result (IsCellStop (game_of play.now) (strategies_of play.now)) }
 {
     for player in 0..play.tree.players().len() as u32 {
         match play.payoff(shortcuts, player) {

@@ -5,7 +5,6 @@ ghost use Rattle.game_core.specs.Table.{IsTable};
 ghost use Rattle.game_core.specs.Tree.{GameTree};
 ghost use Rattle.game_core.specs.TreeGame.{game_of_tree};
 ghost use Rattle.reduced_strategies.specs.StrategicForm.{AreStrategies};
-ghost use Rattle.strategy_lists.specs.Decisions.{AreDecisionsOfAll};
 ghost use Rattle.reduced_form.specs.declared.stop.ReduceStop.TheVariants as stops;
 ghost use Rattle.reduced_form.specs.ReducedForm.{PaysCompletions, strategy_name};
 ghost use Rattle.reduced_form.specs.Stops.{form_of};
@@ -14,12 +13,11 @@ use crate::cells::cells;
 use crate::limits::{check_choices, count_all};
 use crate::names::{copied_names, names_of_all};
 use crate::stop::ReduceStop;
-use choice_lists::Decision;
 use frac128::{Frac, Memory};
 use game_core::{Table, Tree, copied, trees_are_game_trees};
 use std::alloc::Global;
 use std::marker::Model;
-use strategy_lists::{decisions_of_all, list_strategies, set_places};
+use strategy_lists::{Decisions, set_places};
 
 /// The reduced strategic form of a tree. Players and strategies are numbered from 0.
 #[derive(Debug, Drop)]
@@ -59,20 +57,15 @@ impl Reduced {
 }
 
 // The reduced strategies of each player.
-fn strategies_of_all(
-    alloc: Global,
-    tree: &Tree,
-    decisions: &[Vec<Decision>],
-) -> Result<Vec<Vec<Vec<u32>>>, Memory>
-    requires decisions { AreDecisionsOfAll (game_of_tree tree.now)
-        (map (λ v. v.items) decisions.now) }
+fn strategies_of_all(alloc: Global, decisions: &Decisions) -> Result<Vec<Vec<Vec<u32>>>, Memory>
     ensures { IfOk result
-        (λ strategies. AreStrategies (game_of_tree tree.now)
+        (λ strategies. AreStrategies (game_of_tree decisions.now)
         (map (λ v. map (λ w. w.items) v.items) strategies.items)) }
 {
-    let mut strategies = Vec::with_capacity(alloc, decisions.len())?;
-    for player in 0..tree.players().len() {
-        strategies.push(list_strategies(alloc, tree, &decisions[player], player as u32)?)?;
+    let players = decisions.tree().players().len();
+    let mut strategies = Vec::with_capacity(alloc, players)?;
+    for player in 0..players {
+        strategies.push(decisions.list(alloc, player as u32)?)?;
     }
     Ok(strategies)
 }
@@ -108,10 +101,10 @@ pub fn reduce(alloc: Global, tree: &Tree) -> Result<Reduced, ReduceStop>
     trees_are_game_trees();
     let _players = tree.players();
     let places = set_places(alloc, tree)?;
-    let decisions = decisions_of_all(alloc, tree, &places)?;
-    let counts = count_all(alloc, tree, &decisions)?;
+    let decisions = Decisions::new(alloc, tree, &places)?;
+    let counts = count_all(alloc, &decisions)?;
     check_choices(tree, &counts)?;
-    let choices = strategies_of_all(alloc, tree, &decisions)?;
+    let choices = strategies_of_all(alloc, &decisions)?;
     let payoffs = match cells(alloc, tree, &places, &choices, &counts) {
         Ok(payoffs) => payoffs,
         Err(stop) => return Err(stop),

@@ -4,7 +4,6 @@ ghost use Rattle.game_theory.specs.Profiles.{profile_count};
 ghost use Rattle.game_core.specs.Table.{most_payoffs};
 ghost use Rattle.game_core.specs.Tree.{own_sets as tree_sets};
 ghost use Rattle.game_core.specs.TreeGame.{game_of_tree};
-ghost use Rattle.strategy_lists.specs.Decisions.{AreDecisionsOfAll};
 ghost use Rattle.reduced_form.specs.declared.stop.ReduceStop.TheVariants as stops;
 ghost use Rattle.reduced_form.specs.Counts.{AreCounted, choices_by};
 ghost use Rattle.reduced_form.specs.Limits.{most_choices};
@@ -12,10 +11,9 @@ ghost use Rattle.reduced_form.specs.Stops.{IsReduceStop, too_many_payoffs, too_m
 ghost use Rattle.game_theory.specs.OwnSets.{own_sets};
 
 use crate::stop::ReduceStop;
-use choice_lists::Decision;
 use game_core::{TooLarge, Tree, What, trees_are_game_trees};
 use std::alloc::Global;
-use strategy_lists::{count_strategies, own_sets_are_those_of_the_tree};
+use strategy_lists::{Decisions, own_sets_are_those_of_the_tree};
 
 // The most payoffs of a reduced form.
 const MOST_PAYOFFS: usize = 1_048_576;
@@ -45,20 +43,14 @@ fn too_many_choices() -> ReduceStop
 
 /// How many reduced strategies each player has, where the form has no more payoffs than it may. Nothing is
 /// built, and counting stops where it is known to have more.
-pub fn count_all(
-    alloc: Global,
-    tree: &Tree,
-    decisions: &[Vec<Decision>],
-) -> Result<Vec<usize>, ReduceStop>
-    requires decisions { AreDecisionsOfAll (game_of_tree tree.now)
-        (map (λ v. v.items) decisions.now) }
-    ensures counted { IfOk result (λ counts. AreCounted (game_of_tree tree.now) counts.items) }
+pub fn count_all(alloc: Global, decisions: &Decisions) -> Result<Vec<usize>, ReduceStop>
+    ensures counted { IfOk result (λ counts. AreCounted (game_of_tree decisions.now) counts.items) }
     ensures few { IfOk result
-        (λ counts. length tree.now.players * profile_count counts.items ≤ most_payoffs) }
-    ensures stop { IfErr result (IsReduceStop (game_of_tree tree.now)) }
+        (λ counts. length decisions.now.players * profile_count counts.items ≤ most_payoffs) }
+    ensures stop { IfErr result (IsReduceStop (game_of_tree decisions.now)) }
 {
     trees_are_game_trees();
-    let players = tree.players().len();
+    let players = decisions.tree().players().len();
     if players > MOST_PAYOFFS {
         return Err(too_many_payoffs());
     }
@@ -66,7 +58,7 @@ pub fn count_all(
     let mut payoffs = players;
     for player in 0..players {
         let most = MOST_PAYOFFS / payoffs;
-        let count = count_strategies(alloc, tree, &decisions[player], player as u32, most)?;
+        let count = decisions.count(alloc, player as u32, most)?;
         if count > most {
             return Err(too_many_payoffs());
         }

@@ -1,6 +1,6 @@
 //! The reduced strategies of the players of a tree: their number, and the list of them.
 //!
-//! Callers may rely on: `list_strategies` gives each of a player once, in order; `count_strategies`
+//! Callers may rely on: `Decisions::list` gives each of a player once, in order; `Decisions::count`
 //! their number up to a limit; `set_places` the index of each set among its owner's.
 //! Definitions: `specs::Decisions` has the decisions of each player, by which choice lists are
 //! reduced strategies; `specs::OwnNumbers` the numbers that are a player's own.
@@ -13,6 +13,5 @@ mod decisions;
 mod places;
 mod strategies;
 
-pub use decisions::decisions_of_all;
 pub use places::{own_sets_are_those_of_the_tree, set_places};
-pub use strategies::{count_strategies, list_strategies};
+pub use strategies::Decisions;

@@ -6,5 +6,5 @@ use Rattle.reduced_form.proofs.form.strategies_of_all.Given as goal
 abbrev pub invariant-loop-player : goal.invariant-loop-player
 invariant-loop-player l = record {
   one_for_each : length l.strategies.items ≡ l.player;
-  are_reduced : (i : ℕ) → i < length (map (λ v. map (λ w. w.items) v.items) l.strategies.items) → AreReducedStrategies (game_of_tree l.tree) i (get_or (map (λ v. map (λ w. w.items) v.items) l.strategies.items) i []);
+  are_reduced : (i : ℕ) → i < length (map (λ v. map (λ w. w.items) v.items) l.strategies.items) → AreReducedStrategies (game_of_tree l.decisions) i (get_or (map (λ v. map (λ w. w.items) v.items) l.strategies.items) i []);
 }

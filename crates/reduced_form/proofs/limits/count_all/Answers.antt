@@ -1,38 +1,31 @@
 use Rattle.std.proofs.Common.{◌<◌, inl, inr, [], length, refl, sym, ap, subst, arith}
-use Rattle.std.proofs.lemmas.List.{length-map}
 use Rattle.game_core.specs.TreeGame.{game_of_tree}
 use Rattle.reduced_form.specs.Stops.{IsReduceStop}
-use Rattle.reduced_form.proofs.FormCounts.{AreCounted-all, AreCountedSoFar-many, AreCountedSoFar-step, many-front, read_through}
+use Rattle.reduced_form.proofs.FormCounts.{AreCounted-all, AreCountedSoFar-many, AreCountedSoFar-step, many-front}
 use Rattle.reduced_form.proofs.limits.count_all.Goals as goal
 
 pub returns-then-players-gt-MOST_PAYOFFS-clause-stop : goal.returns-then-players-gt-MOST_PAYOFFS-clause-stop
 returns-then-players-gt-MOST_PAYOFFS-clause-stop c =
-    let valid = c.trees_are_game_trees.ensures c.args.tree.now c.players-players.ensures.valid in
-    let many = many-front (game_of_tree c.args.tree.now) [] valid (λ i l. absurd (omega arith)) (omega arith) (omega (arith, ap length c.players-players.ensures.players)) in
-    subst (IsReduceStop (game_of_tree c.args.tree.now)) (sym c.too_many_payoffs.ensures) (inr (inl (many, refl)))
-
-pub count_strategies-requires-clause-decisions : goal.count_strategies-requires-clause-decisions
-count_strategies-requires-clause-decisions c =
-    let counted = c.requires.decisions.one_for_each in
-    let inside : c.loop-player.player < length c.args.decisions.now = omega (arith, length-map c.args.decisions.now (λ v. v.items), counted, ap length c.players-players.ensures.players) in
-    c.requires.decisions.are_decisions c.loop-player.player c.deref.result.now (read_through (λ v. v.items) c.args.decisions.now c.loop-player.player c.index-decisions-player.result c.deref.result.now inside c.index-decisions-player.is c.deref.ensures.value)
+    let valid = c.trees_are_game_trees.ensures c.args.decisions.now (rw c.tree.ensures at c.players-players.ensures.valid) in
+    let many = many-front (game_of_tree c.args.decisions.now) [] valid (λ i l. absurd (omega arith)) (omega arith) (omega (arith, ap length c.players-players.ensures.players, ap (λ t. length t.players) c.tree.ensures)) in
+    subst (IsReduceStop (game_of_tree c.args.decisions.now)) (sym c.too_many_payoffs.ensures) (inr (inl (many, refl)))
 
 pub returns-then-count-most-clause-stop : goal.returns-then-count-most-clause-stop
 returns-then-count-most-clause-stop c =
-    let valid = c.trees_are_game_trees.ensures c.args.tree.now c.players-players.ensures.valid in
-    let inside : c.loop-player.player < length c.args.tree.now.players = omega (arith, ap length c.players-players.ensures.players) in
+    let valid = c.trees_are_game_trees.ensures c.args.decisions.now (rw c.tree.ensures at c.players-players.ensures.valid) in
+    let inside : c.loop-player.player < length c.args.decisions.now.players = omega (arith, ap length c.players-players.ensures.players, ap (λ t. length t.players) c.tree.ensures) in
     let h = c.in_ok-count.ensures {u = tt} in
-    let many = AreCountedSoFar-many (game_of_tree c.args.tree.now) c.loop-player.player c.loop-player.payoffs c.in_ok-count.count h.0 c.loop-player.counts.items valid c.loop-player.invariant inside h.1 h.2 c.if-count-most.true in
-    subst (IsReduceStop (game_of_tree c.args.tree.now)) (sym c.too_many_payoffs-then-count-most.ensures) (inr (inl (many, refl)))
+    let many = AreCountedSoFar-many (game_of_tree c.args.decisions.now) c.loop-player.player c.loop-player.payoffs c.in_ok-count.count h.0 c.loop-player.counts.items valid c.loop-player.invariant inside h.1 h.2 c.if-count-most.true in
+    subst (IsReduceStop (game_of_tree c.args.decisions.now)) (sym c.too_many_payoffs-then-count-most.ensures) (inr (inl (many, refl)))
 
 pub loop-player-preserved : goal.loop-player-preserved
 loop-player-preserved c =
-    let valid = c.trees_are_game_trees.ensures c.args.tree.now c.players-players.ensures.valid in
-    let inside : c.loop-player.player < length c.args.tree.now.players = omega (arith, ap length c.players-players.ensures.players) in
+    let valid = c.trees_are_game_trees.ensures c.args.decisions.now (rw c.tree.ensures at c.players-players.ensures.valid) in
+    let inside : c.loop-player.player < length c.args.decisions.now.players = omega (arith, ap length c.players-players.ensures.players, ap (λ t. length t.players) c.tree.ensures) in
     let h = c.in_ok-count.ensures {u = tt} in
-    AreCountedSoFar-step (game_of_tree c.args.tree.now) c.loop-player.player c.loop-player.payoffs c.in_ok-count.count h.0 c.loop-player.counts.items c.push.new.self.items valid c.loop-player.invariant inside (c.in_ok-push.ensures {u = tt}).items h.1 h.2 c.if-count-most.false
+    AreCountedSoFar-step (game_of_tree c.args.decisions.now) c.loop-player.player c.loop-player.payoffs c.in_ok-count.count h.0 c.loop-player.counts.items c.push.new.self.items valid c.loop-player.invariant inside (c.in_ok-push.ensures {u = tt}).items h.1 h.2 c.if-count-most.false
 
 pub returns-clause-counted : goal.returns-clause-counted
 returns-clause-counted c =
-    let valid = c.trees_are_game_trees.ensures c.args.tree.now c.players-players.ensures.valid in
-    AreCounted-all (game_of_tree c.args.tree.now) c.loop-player.counts.items valid c.loop-player.invariant.are_counts (omega (arith, c.loop-player.invariant.one_for_each, ap length c.players-players.ensures.players))
+    let valid = c.trees_are_game_trees.ensures c.args.decisions.now (rw c.tree.ensures at c.players-players.ensures.valid) in
+    AreCounted-all (game_of_tree c.args.decisions.now) c.loop-player.counts.items valid c.loop-player.invariant.are_counts (omega (arith, c.loop-player.invariant.one_for_each, ap length c.players-players.ensures.players, ap (λ t. length t.players) c.tree.ensures))

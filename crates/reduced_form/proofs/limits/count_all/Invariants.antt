@@ -3,4 +3,4 @@ use Rattle.reduced_form.proofs.FormCounts.{AreCountedSoFar}
 use Rattle.reduced_form.proofs.limits.count_all.Given as goal
 
 abbrev pub invariant-loop-player : goal.invariant-loop-player
-invariant-loop-player l = AreCountedSoFar (game_of_tree l.tree) l.player l.payoffs l.counts.items
+invariant-loop-player l = AreCountedSoFar (game_of_tree l.decisions) l.player l.payoffs l.counts.items
