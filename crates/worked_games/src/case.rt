@@ -5,12 +5,12 @@ use game_core::{MemInputs, MemSink, OpenGate};
 use std::alloc::Global;
 use std::thread::Threads;
 
-/// The words of a run, its input without a name and its file with its name, how the outside behaves, and the status and bytes that are wanted.
+/// The words of a run with a space between them, its input without a name and its files with their names, how the outside behaves, and the status and bytes that are wanted.
 #[derive(Clone, Copy)]
 pub struct Case<'a> {
-    pub words: &'a [&'a str],
+    pub words: &'a str,
     pub input: &'a str,
-    pub file: Option<(&'a str, &'a str)>,
+    pub files: &'a [(&'a str, &'a str)],
     pub failing: &'a [u64],
     pub out_most: usize,
     pub out_limit: usize,
@@ -26,9 +26,9 @@ impl<'a> Case<'a> {
     /// writes nothing.
     pub fn of(input: &'a str) -> Case<'a> {
         Case {
-            words: &["enumpure"],
+            words: "enumpure",
             input,
-            file: None,
+            files: &[],
             failing: &[],
             out_most: 1000,
             out_limit: 1000,
@@ -52,38 +52,111 @@ impl<'a> Case<'a> {
         alloc: Global,
         taken: &[u8],
     ) -> Result<bool, Memory> {
+        let inputs = self.inputs(alloc)?;
+        let most = self.out_most.max(1);
+        let out = MemSink::new(alloc, most, self.out_limit, self.flush_fails)?;
+        let (status, out, err) = ended(rt, alloc, self.words, inputs, out, self.err_limit)?;
+        Ok(status == self.status && out.taken() == taken && err.taken() == self.err.as_bytes())
+    }
+
+    // The inputs of the run.
+    fn inputs(&self, alloc: Global) -> Result<MemInputs, Memory> {
+        let mut named = Vec::new(alloc);
+        for (name, game) in self.files {
+            named.push(file(alloc, name, game)?)?;
+        }
         let input = Vec::from_slice(alloc, self.input.as_bytes())?;
         let failing = Vec::from_slice(alloc, self.failing)?;
-        let mut named = Vec::new(alloc);
-        if let Some((name, game)) = self.file {
-            let bytes = Vec::from_slice(alloc, game.as_bytes())?;
-            named.push((String::from_str(alloc, name)?, bytes))?;
-        }
-        let mut inputs = MemInputs::new(input, named, failing);
-        let most = self.out_most.max(1);
-        let mut out = MemSink::new(alloc, most, self.out_limit, self.flush_fails)?;
-        let mut err = MemSink::new(alloc, 1000, self.err_limit, false)?;
-        let words = owned(alloc, self.words)?;
-        let status = run(
-            rt,
-            alloc,
-            &words,
-            &mut inputs,
-            &mut out,
-            &mut err,
-            &OpenGate,
-        );
-        Ok(status == self.status && out.taken() == taken && err.taken() == self.err.as_bytes())
+        Ok(MemInputs::new(input, named, failing))
     }
 }
 
-/// Words as a run takes them.
-pub fn owned(alloc: Global, words: &[&str]) -> Result<Vec<String>, Memory> {
+// A file with its name.
+fn file(alloc: Global, name: &str, game: &str) -> Result<(String, Vec<u8>), Memory> {
+    let bytes = Vec::from_slice(alloc, game.as_bytes())?;
+    Ok((String::from_str(alloc, name)?, bytes))
+}
+
+// How a run over these inputs ends: its status, its output, and standard error, which takes so many bytes.
+fn ended<R: Threads + Sync>(
+    rt: &R,
+    alloc: Global,
+    words: &str,
+    mut inputs: MemInputs,
+    mut out: MemSink,
+    err_limit: usize,
+) -> Result<(u8, MemSink, MemSink), Memory> {
+    let words = owned(alloc, words)?;
+    let mut err = MemSink::new(alloc, 1000, err_limit, false)?;
+    let status = run(
+        rt,
+        alloc,
+        &words,
+        &mut inputs,
+        &mut out,
+        &mut err,
+        &OpenGate,
+    );
+    Ok((status, out, err))
+}
+
+/// Words as a run takes them. An empty text has none.
+pub fn owned(alloc: Global, words: &str) -> Result<Vec<String>, Memory> {
     let mut owned = Vec::new(alloc);
-    for word in words {
+    if words.is_empty() {
+        return Ok(owned);
+    }
+    for word in words.split(' ') {
         owned.push(String::from_str(alloc, word)?)?;
     }
     Ok(owned)
+}
+
+/// Whether runs over a game do what is wanted. The text has a line on what the game shows, the game, and for each run `$ `,
+/// its words, ` = ` and its status, and then the lines that it writes, on standard error where the status is not 0.
+pub fn runs_hold<R: Threads + Sync>(rt: &R, alloc: Global, text: &str) -> Result<bool, Memory> {
+    let Some((head, runs)) = text.split_once("\n$ ") else {
+        return Ok(false);
+    };
+    let Some((_, input)) = head.split_once('\n') else {
+        return Ok(false);
+    };
+    for run in runs.split("\n$ ") {
+        if !run_holds(rt, alloc, input, run)? {
+            return Ok(false);
+        }
+    }
+    Ok(true)
+}
+
+// Whether one run over a game does what is wanted.
+fn run_holds<R: Threads + Sync>(
+    rt: &R,
+    alloc: Global,
+    input: &str,
+    run: &str,
+) -> Result<bool, Memory> {
+    let (line, lines) = run.split_once('\n').unwrap_or((run, ""));
+    let Some((words, status)) = line.split_once(" = ") else {
+        return Ok(false);
+    };
+    let Ok(status) = status.parse::<u8>() else {
+        return Ok(false);
+    };
+    let mut written = String::from_str(alloc, lines)?;
+    if !lines.is_empty() {
+        written.push_str("\n")?;
+    }
+    let text = written.as_str();
+    let (out, err) = if status == 0 { (text, "") } else { ("", text) };
+    let case = Case {
+        words,
+        status,
+        out,
+        err,
+        ..Case::of(input)
+    };
+    case.holds(rt, alloc)
 }
 
 /// Whether `enumpure` refuses a game with this fault; the game's text is given in two parts.
@@ -122,30 +195,6 @@ pub fn are_refused<R: Threads + Sync>(
     Ok(true)
 }
 
-// Whether a run of `enumpure` over these inputs ends with this status, writes so many bytes of text and tells this line.
-fn holds_over<R: Threads + Sync>(
-    rt: &R,
-    alloc: Global,
-    mut inputs: MemInputs,
-    status: u8,
-    text_length: usize,
-    line: &str,
-) -> Result<bool, Memory> {
-    let mut out = MemSink::new(alloc, text_length.max(1), text_length, false)?;
-    let mut err = MemSink::new(alloc, 1000, 1000, false)?;
-    let words = owned(alloc, &["enumpure"])?;
-    let answer = run(
-        rt,
-        alloc,
-        &words,
-        &mut inputs,
-        &mut out,
-        &mut err,
-        &OpenGate,
-    );
-    Ok(answer == status && out.taken().len() == text_length && err.taken() == line.as_bytes())
-}
-
 /// A run of `enumpure` over pieces, each so many times, the numbers of the calls of the input that fail, and the status,
 /// the number of bytes of text and the line on standard error that are wanted.
 #[derive(Clone, Copy)]
@@ -166,7 +215,11 @@ impl<'a> Large<'a> {
         }
         let failing = Vec::from_slice(alloc, self.failing)?;
         let inputs = MemInputs::new(input, Vec::new(alloc), failing);
-        holds_over(rt, alloc, inputs, self.status, self.text_length, self.err)
+        let length = self.text_length;
+        let out = MemSink::new(alloc, length.max(1), length, false)?;
+        let (status, out, err) = ended(rt, alloc, "enumpure", inputs, out, 1000)?;
+        let told = err.taken() == self.err.as_bytes();
+        Ok(told && status == self.status && out.taken().len() == length)
     }
 }
 

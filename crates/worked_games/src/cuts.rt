@@ -83,7 +83,7 @@ fn cut_games_are_told(rt: HostRuntime) -> Result<(), Memory> {
             0xad9a_2aea_e204_bfdd,
         ),
     ];
-    let words = owned(rt.alloc(), &["enumpure"])?;
+    let words = owned(rt.alloc(), "enumpure")?;
     for (game, wanted) in rows {
         let bytes = game.as_bytes();
         let mut digest = 0xcbf2_9ce4_8422_2325;

@@ -1,56 +1,73 @@
 // Words that are refused, inputs that are refused, and calls of the outside that fail.
-use crate::case::{Case, Large, are_refused, is_refused};
+use crate::case::{Case, Large, are_refused, is_refused, runs_hold};
 use answers::Memory;
 use std::alloc::Global;
 use std::thread::Threads;
 
 const DILEMMA: &str = "NFG 1 R \"PD\" { \"A\" \"B\" } { 2 2 } 3 3 5 0 0 5 1 1";
 
-/// No tool, and words after a tool other than its options and the names of its files.
-#[test]
-fn words_are_refused(rt: HostRuntime) -> Result<(), Memory> {
-    let rows: [(&[&str], &str); 9] = [
-        (&["solve"], "gambit: unknown tool\n"),
-        (&["checks"], "gambit: unknown tool\n"),
-        (&["check"], "gambit: words not understood\n"),
-        (&["lp", "--price"], "gambit: words not understood\n"),
-        (&["enummixed", "-c"], "gambit: words not understood\n"),
-        (&["enumpure", "-s"], "gambit: words not understood\n"),
-        (&["enumpure", "-P"], "gambit: words not understood\n"),
-        (&["enumpure", "a", "b"], "gambit: words not understood\n"),
-        (&["enumpure", "a", ""], "gambit: words not understood\n"),
-    ];
-    for (words, err) in rows {
-        let case = Case {
-            words,
-            status: 2,
-            err,
-            ..Case::of(DILEMMA)
-        };
-        assert!(rt; case.holds(&rt, rt.alloc())?);
-    }
-    Ok(())
-}
+// No tool, and words after a tool other than its options and the names of its files; once the last word is empty.
+const REFUSED: &str = r#"# Words that are refused.
+NFG 1 R "PD" { "A" "B" } { 2 2 } 3 3 5 0 0 5 1 1
+$ solve = 2
+gambit: unknown tool
+$ checks = 2
+gambit: unknown tool
+$ check = 2
+gambit: words not understood
+$ lp --price = 2
+gambit: words not understood
+$ enummixed -c = 2
+gambit: words not understood
+$ enumpure -s = 2
+gambit: words not understood
+$ enumpure -P = 2
+gambit: words not understood
+$ enumpure a b = 2
+gambit: words not understood
+$ enumpure a  = 2
+gambit: words not understood"#;
 
-/// Letters of `enumpure`, and names that are unlike one: (words, the name of the file that is there).
+/// Words that are refused; and letters and names, also names that are unlike one, with the name of the file that is there.
+/// Standard input is read only where no file is named.
 #[test]
-fn letters_and_names_are_read(rt: HostRuntime) -> Result<(), Memory> {
-    let rows: [(&[&str], &str); 6] = [
-        (&["enumpure", "-q", "a"], "a"),
-        (&["enumpure", "-S", "a", "-Sq"], "a"),
-        (&["enumpure", "--", "-S"], "-S"),
-        (&["enumpure", "--", "--"], "--"),
-        (&["enumpure", "-"], "-"),
-        (&["enumpure", ""], ""),
+fn words_are_read(rt: HostRuntime) -> Result<(), Memory> {
+    assert!(rt; runs_hold(&rt, rt.alloc(), REFUSED)?);
+    let line = "NE,0,1,0,1\n";
+    let rows = [
+        ("enumpure -q a", "a", 0, line, ""),
+        ("enumpure -S a -Sq", "a", 0, line, ""),
+        ("enumpure -- -S", "-S", 0, line, ""),
+        ("enumpure -- --", "--", 0, line, ""),
+        ("enumpure -", "-", 0, line, ""),
+        ("enumpure ", "", 0, line, ""),
+        ("enumpure pd.nfg", "pd.nfg", 0, line, ""),
+        ("enumpure -S pd.nfg", "pd.nfg", 0, line, ""),
+        (
+            "enumpure none.nfg",
+            "pd.nfg",
+            3,
+            "",
+            "gambit: cannot open\n",
+        ),
+        (
+            "enumpure",
+            "pd.nfg",
+            1,
+            "",
+            "gambit: nfg fault at 0: header\n",
+        ),
     ];
-    for (words, name) in rows {
+    for (words, name, status, out, err) in rows {
         let case = Case {
             words,
-            file: Some((name, DILEMMA)),
-            out: "NE,0,1,0,1\n",
+            files: &[(name, DILEMMA)],
+            status,
+            out,
+            err,
             ..Case::of("")
         };
-        assert!(rt; case.holds(&rt, rt.alloc())?);
+        assert!(rt; case.holds(&rt, rt.alloc())?, "{words}");
     }
     Ok(())
 }
@@ -73,29 +90,6 @@ nfg fault at 0: header | efg 2 R"#;
     assert!(rt; are_refused(&rt, rt.alloc(), "", whole)?);
     assert!(rt; is_refused(&rt, rt.alloc(), "", "", "nfg fault at 0: header")?);
     assert!(rt; is_refused(&rt, rt.alloc(), "", " EFG", "efg fault at 4: header")?);
-    Ok(())
-}
-
-/// A game in a file with a name, and a name that no file has. Standard input is not read then.
-#[test]
-fn files_are_named(rt: HostRuntime) -> Result<(), Memory> {
-    let rows: [(&[&str], u8, &str, &str); 4] = [
-        (&["enumpure", "pd.nfg"], 0, "NE,0,1,0,1\n", ""),
-        (&["enumpure", "-S", "pd.nfg"], 0, "NE,0,1,0,1\n", ""),
-        (&["enumpure", "none.nfg"], 3, "", "gambit: cannot open\n"),
-        (&["enumpure"], 1, "", "gambit: nfg fault at 0: header\n"),
-    ];
-    for (words, status, out, err) in rows {
-        let case = Case {
-            words,
-            file: Some(("pd.nfg", DILEMMA)),
-            status,
-            out,
-            err,
-            ..Case::of("")
-        };
-        assert!(rt; case.holds(&rt, rt.alloc())?);
-    }
     Ok(())
 }
 
@@ -156,7 +150,23 @@ fn failing_writes_are_told<R: Threads + Sync>(
     Ok(true)
 }
 
-/// Each selection, read, write and flush that fails, in turn, on a table and on a tree.
+// Whether the flush that fails is told.
+fn a_failing_flush_is_told<R: Threads + Sync>(
+    rt: &R,
+    alloc: Global,
+    whole: Case,
+) -> Result<bool, Memory> {
+    let case = Case {
+        flush_fails: true,
+        status: 4,
+        err: "gambit: write failed\n",
+        ..whole
+    };
+    case.holds(rt, alloc)
+}
+
+/// Each selection, read, write and flush that fails, in turn, on a table and on a tree. Where the text is empty, nothing is
+/// written, but a flush still has to succeed.
 #[test]
 fn each_failing_call_is_told(rt: HostRuntime) -> Result<(), Memory> {
     let rows = [
@@ -174,152 +184,71 @@ fn each_failing_call_is_told(rt: HostRuntime) -> Result<(), Memory> {
             let slow = Case { out_most, ..whole };
             assert!(rt; slow.holds(&rt, rt.alloc())?);
         }
-        let unflushed = Case {
-            flush_fails: true,
-            status: 4,
-            err: "gambit: write failed\n",
-            ..whole
-        };
-        assert!(rt; unflushed.holds(&rt, rt.alloc())?);
+        assert!(rt; a_failing_flush_is_told(&rt, rt.alloc(), whole)?);
     }
+    let empty = Case {
+        out_limit: 0,
+        ..Case::of("NFG 1 R \"\" { \"A\" \"B\" } { 2 2 } 1 -1 -1 1 -1 1 1 -1")
+    };
+    assert!(rt; empty.holds(&rt, rt.alloc())?);
+    assert!(rt; a_failing_flush_is_told(&rt, rt.alloc(), empty)?);
     Ok(())
 }
 
-/// A fault of standard error changes no status, and leaves a front of the line; the last row has room for the line.
+/// A fault of standard error changes no status, and leaves a front of the line: the words, the input, the bytes that
+/// standard error takes, the status, and what it took.
 #[test]
 fn faults_of_the_error_sink_change_nothing(rt: HostRuntime) -> Result<(), Memory> {
-    let rows: [(&[&str], usize, &str); 3] = [
-        (&[], 0, ""),
-        (&[], 3, "gam"),
-        (&[], 16, "gambit: no tool\n"),
+    let large = "NFG 1 R \"\" { \"A\" } { 1048577 }";
+    let rows = [
+        ("", "", 0, 2, ""),
+        ("", "", 3, 2, "gam"),
+        ("", "", 16, 2, "gambit: no tool\n"),
+        ("enumpure", "", 0, 1, ""),
+        ("enumpure", "", 7, 1, "gambit:"),
+        ("enumpure", "", 31, 1, "gambit: nfg fault at 0: header\n"),
+        ("enumpure", large, 0, 1, ""),
+        ("enumpure", large, 19, 1, "gambit: too large: "),
     ];
-    for (words, err_limit, err) in rows {
+    for (words, input, err_limit, status, err) in rows {
         let case = Case {
             words,
             err_limit,
-            status: 2,
-            err,
-            ..Case::of("")
-        };
-        assert!(rt; case.holds(&rt, rt.alloc())?);
-    }
-    Ok(())
-}
-
-/// The same where the line names numbers: (input, bytes that standard error takes, what it took).
-#[test]
-fn faults_of_the_error_sink_keep_the_status(rt: HostRuntime) -> Result<(), Memory> {
-    let rows = [
-        ("", 0, ""),
-        ("", 7, "gambit:"),
-        ("", 31, "gambit: nfg fault at 0: header\n"),
-        ("NFG 1 R \"\" { \"A\" } { 1048577 }", 0, ""),
-        (
-            "NFG 1 R \"\" { \"A\" } { 1048577 }",
-            19,
-            "gambit: too large: ",
-        ),
-    ];
-    for (input, err_limit, err) in rows {
-        let case = Case {
-            err_limit,
-            status: 1,
+            status,
             err,
             ..Case::of(input)
         };
-        assert!(rt; case.holds(&rt, rt.alloc())?);
-    }
-    Ok(())
-}
-
-/// Where the text is empty, nothing is written, but a flush still has to succeed.
-#[test]
-fn an_empty_text_is_flushed(rt: HostRuntime) -> Result<(), Memory> {
-    let pennies = "NFG 1 R \"\" { \"A\" \"B\" } { 2 2 } 1 -1 -1 1 -1 1 1 -1";
-    let rows = [(false, 0, ""), (true, 4, "gambit: write failed\n")];
-    for (flush_fails, status, err) in rows {
-        let case = Case {
-            out_limit: 0,
-            flush_fails,
-            status,
-            err,
-            ..Case::of(pennies)
-        };
-        assert!(rt; case.holds(&rt, rt.alloc())?);
+        assert!(rt; case.holds(&rt, rt.alloc())?, "{err_limit} {err}");
     }
     Ok(())
 }
 
 /// Inputs at the limits on bytes, on payoffs and on the text, and just above them. Where all payoffs are zero, all
-/// profiles are equilibria: 255 against 255 strategies give 65,025 lines of 1,023 bytes.
+/// profiles are equilibria: 255 against 255 strategies give 65,025 lines of 1,023 bytes. An input is read to the first byte
+/// above the limit and no further: after its selection and 257 reads of 65,536 bytes at most, the next call would fail.
 #[test]
 fn limits_are_kept(rt: HostRuntime) -> Result<(), Memory> {
+    let long = "gambit: file longer than 16777216 bytes\n";
+    let header = "gambit: nfg fault at 16777216: header\n";
+    let text = "gambit: too large: 67108865 bytes of text, limit 67108864\n";
+    let table = "NFG 1 R \"\" { \"A\" \"B\" } ";
     let rows = [
-        (
-            "",
-            " ",
-            16_777_217,
-            1,
-            0,
-            "gambit: file longer than 16777216 bytes\n",
-        ),
-        (
-            "",
-            " ",
-            16_777_216,
-            1,
-            0,
-            "gambit: nfg fault at 16777216: header\n",
-        ),
-        (
-            "NFG 1 R \"\" { \"A\" \"B\" } { 1024 512 }",
-            " 0",
-            1_048_576,
-            1,
-            0,
-            "gambit: too large: 67108865 bytes of text, limit 67108864\n",
-        ),
-        (
-            "NFG 1 R \"\" { \"A\" \"B\" } { 255 255 }",
-            " 0",
-            130_050,
-            0,
-            66_520_575,
-            "",
-        ),
-        (
-            "NFG 1 R \"\" { \"A\" \"B\" } { 256 256 }",
-            " 0",
-            131_072,
-            1,
-            0,
-            "gambit: too large: 67108865 bytes of text, limit 67108864\n",
-        ),
+        ("", "", " ", 16_777_217, 0, 1, 0, long),
+        ("", "", " ", 16_777_216, 0, 1, 0, header),
+        ("", "", " ", 16_777_218, 259, 1, 0, long),
+        (table, "{ 1024 512 }", " 0", 1_048_576, 0, 1, 0, text),
+        (table, "{ 255 255 }", " 0", 130_050, 0, 0, 66_520_575, ""),
+        (table, "{ 256 256 }", " 0", 131_072, 0, 1, 0, text),
     ];
-    for (front, piece, count, status, text_length, err) in rows {
+    for (front, sizes, piece, count, failing, status, text_length, err) in rows {
         let large = Large {
-            pieces: &[(front, 1), (piece, count)],
-            failing: &[],
+            pieces: &[(front, 1), (sizes, 1), (piece, count)],
+            failing: &[failing],
             status,
             text_length,
             err,
         };
-        assert!(rt; large.holds(&rt, rt.alloc())?);
+        assert!(rt; large.holds(&rt, rt.alloc())?, "{count} {sizes}");
     }
-    Ok(())
-}
-
-/// An input is read to the first byte above the limit and no further: after its selection and 257 reads of 65,536 bytes
-/// at most, the next call would fail.
-#[test]
-fn nothing_is_read_after_the_limit(rt: HostRuntime) -> Result<(), Memory> {
-    let large = Large {
-        pieces: &[(" ", 16_777_218)],
-        failing: &[259],
-        status: 1,
-        text_length: 0,
-        err: "gambit: file longer than 16777216 bytes\n",
-    };
-    assert!(rt; large.holds(&rt, rt.alloc())?);
     Ok(())
 }

@@ -5,13 +5,9 @@
 #[cfg(test)]
 mod case;
 #[cfg(test)]
-mod constant_sums;
-#[cfg(test)]
 mod cuts;
 #[cfg(test)]
 mod faults;
-#[cfg(test)]
-mod games;
 #[cfg(test)]
 mod pure_equilibria;
 #[cfg(test)]

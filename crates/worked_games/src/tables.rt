@@ -1,5 +1,5 @@
 // Files of tables that are refused, production by production.
-use crate::case::{Case, are_refused, is_refused};
+use crate::case::{are_refused, is_refused};
 use answers::Memory;
 
 // The header and the players of a table with two players.
@@ -9,10 +9,9 @@ const BIMATRIX: &str = "NFG 1 R \"\" { \"A\" \"B\" } ";
 const SELTEN: &str =
     "NFG 1 R \"Selten\" { \"Player 1\" \"Player 2\" } { { \"1\" \"2\" \"3\" } { \"1\" \"2\" } } \"\" { { \"\" 1, 1 } { \"\" 0, 2 } { \"\" 0, 2 } { \"\" 1, 1 } { \"\" 0, 3 } { \"\" 2, 0 } } ";
 
-/// A fault at each production of a table's file, and the token that it names.
-#[test]
-fn productions_of_tables_are_refused(rt: HostRuntime) -> Result<(), Memory> {
-    let whole = r#"nfg fault at 0: header | nfg 1 R "" { "A" "B" } { 1 1 } 1 2
+// Faults with the whole files, with what follows the players, and with the numbers of the outcomes. Too many payoffs are
+// counted where the strategies end, whatever follows them.
+const WHOLE: &str = r#"nfg fault at 0: header | nfg 1 R "" { "A" "B" } { 1 1 } 1 2
 nfg fault at 4: header | NFG 2 R "" { "A" "B" } { 1 1 } 1 2
 nfg fault at 6: header | NFG 1 S "" { "A" "B" } { 1 1 } 1 2
 nfg fault at 8: header | NFG 1 R { "A" "B" } { 1 1 } 1 2
@@ -23,8 +22,13 @@ nfg fault at 13: players | NFG 1 R "" { } { 1 1 } 1 2
 nfg fault at 13: players | NFG 1 R "" { 2 2 } 1 2
 nfg fault at 17: players | NFG 1 R "" { "A" 7 } { 1 1 } 1 2
 nfg fault at 24: strategies | NFG 1 R "PD" { "A" "B" }
-nfg fault at 30: strategies | NFG 1 R "PD" { "A" "B" } { 2 2"#;
-    let bimatrix = r#"nfg fault at 23: strategies | 1 2
+nfg fault at 30: strategies | NFG 1 R "PD" { "A" "B" } { 2 2
+too large: 1048577 payoffs, limit 1048576 | NFG 1 R "" { "A" "B" } { 1024 513 }
+too large: 1048577 payoffs, limit 1048576 | NFG 1 R "" { "A" "B" } { 1024 513 } 1 2 }
+too large: 1048577 payoffs, limit 1048576 | NFG 1 R "" { "A" "B" } { 9000000000000000000 9000000000000000000 }
+too large: 1048577 payoffs, limit 1048576 | NFG 1 R "" { "A" "B" "C" "D" "E" "F" } { 9000000000000000000 9000000000000000000 9000000000000000000 9000000000000000000 9000000000000000000 9000000000000000000 } 1"#;
+
+const AFTER_PLAYERS: &str = r#"nfg fault at 23: strategies | 1 2
 nfg fault at 27: strategies | { 2 0 } 1 2
 nfg fault at 25: strategies | { 1.5 2 } 1 2
 nfg fault at 27: strategies | { 2 -2 } 1 2
@@ -47,52 +51,33 @@ nfg fault at 34: payoff count | { 1 1 } 1, , 2
 nfg fault at 33: payoff count | { 1 1 } 1 x
 nfg fault at 34: payoff count | { 724 724 }
 nfg fault at 34: trailing | { 1 1 } 1 2,"#;
-    let selten = r#"nfg fault at 164: outcome | 1 2 3 4 5 7
+
+const NUMBERS: &str = r#"nfg fault at 164: outcome | 1 2 3 4 5 7
 nfg fault at 163: payoff count | 1 2 3 4 5
 nfg fault at 158: payoff count | 1 2 -3 4 5 6
 nfg fault at 158: payoff count | 1 2 0.5 4 5 6
 nfg fault at 166: trailing | 1 2 3 4 5 6 0"#;
-    assert!(rt; are_refused(&rt, rt.alloc(), "", whole)?);
-    assert!(rt; are_refused(&rt, rt.alloc(), BIMATRIX, bimatrix)?);
-    assert!(rt; are_refused(&rt, rt.alloc(), SELTEN, selten)?);
-    assert!(rt; is_refused(&rt, rt.alloc(), "", "NFG 1 ", "nfg fault at 6: header")?);
-    assert!(rt;
-        is_refused(
-            &rt,
-            rt.alloc(),
+
+/// A fault at each production of a table's file, and the token that it names. The last files end with a space.
+#[test]
+fn productions_of_tables_are_refused(rt: HostRuntime) -> Result<(), Memory> {
+    for (front, games) in [("", WHOLE), (BIMATRIX, AFTER_PLAYERS), (SELTEN, NUMBERS)] {
+        assert!(rt; are_refused(&rt, rt.alloc(), front, games)?, "{games}");
+    }
+    for (front, rest, fault) in [
+        ("", "NFG 1 ", "nfg fault at 6: header"),
+        (
             BIMATRIX,
             "{ 1 1 } { { \"\" 1 2 } ",
-            "nfg fault at 44: outcome"
-        )?
-    );
-    assert!(rt;
-        is_refused(
-            &rt,
-            rt.alloc(),
-            "",
-            "NFG 1 R \"PD\" { \"A\" \"B\" } { 2 2 } ",
-            "nfg fault at 33: payoff count"
-        )?
-    );
-    Ok(())
-}
-
-/// Too many payoffs, which are counted where the strategies end, whatever follows them.
-#[test]
-fn payoffs_are_counted_first(rt: HostRuntime) -> Result<(), Memory> {
-    let rows = [
-        "NFG 1 R \"\" { \"A\" \"B\" } { 1024 513 }",
-        "NFG 1 R \"\" { \"A\" \"B\" } { 1024 513 } 1 2 }",
-        "NFG 1 R \"\" { \"A\" \"B\" } { 9000000000000000000 9000000000000000000 }",
-        "NFG 1 R \"\" { \"A\" \"B\" \"C\" \"D\" \"E\" \"F\" } { 9000000000000000000 9000000000000000000 9000000000000000000 9000000000000000000 9000000000000000000 9000000000000000000 } 1",
-    ];
-    for input in rows {
-        let case = Case {
-            status: 1,
-            err: "gambit: too large: 1048577 payoffs, limit 1048576\n",
-            ..Case::of(input)
-        };
-        assert!(rt; case.holds(&rt, rt.alloc())?);
+            "nfg fault at 44: outcome",
+        ),
+        (
+            "NFG 1 R \"PD\" { \"A\" \"B\" } ",
+            "{ 2 2 } ",
+            "nfg fault at 33: payoff count",
+        ),
+    ] {
+        assert!(rt; is_refused(&rt, rt.alloc(), front, rest, fault)?, "{fault}");
     }
     Ok(())
 }

@@ -91,3 +91,50 @@ fn owned(alloc: Global, words: &str) -> Result<Vec<String>, Stop> {
     }
     Ok(owned)
 }
+
+/// Whether runs over a game do what is wanted. The text has a line on what the game shows, the game, and for each run `$ `,
+/// its words, ` = ` and its status, and then the lines that it writes, on standard error where the status is not 0.
+pub fn runs_hold<R: Threads + Sync>(rt: &R, alloc: Global, text: &str) -> Result<bool, Stop> {
+    let Some((head, runs)) = text.split_once("\n$ ") else {
+        return Ok(false);
+    };
+    let Some((_, input)) = head.split_once('\n') else {
+        return Ok(false);
+    };
+    for run in runs.split("\n$ ") {
+        if !run_holds(rt, alloc, input, run)? {
+            return Ok(false);
+        }
+    }
+    Ok(true)
+}
+
+// Whether one run over a game does what is wanted.
+fn run_holds<R: Threads + Sync>(
+    rt: &R,
+    alloc: Global,
+    input: &str,
+    run: &str,
+) -> Result<bool, Stop> {
+    let (line, lines) = run.split_once('\n').unwrap_or((run, ""));
+    let Some((words, status)) = line.split_once(" = ") else {
+        return Ok(false);
+    };
+    let Ok(status) = status.parse::<u8>() else {
+        return Ok(false);
+    };
+    let mut written = String::from_str(alloc, lines)?;
+    if !lines.is_empty() {
+        written.push_str("\n")?;
+    }
+    let text = written.as_str();
+    let (out, err) = if status == 0 { (text, "") } else { ("", text) };
+    let case = Case {
+        words,
+        status,
+        out,
+        err,
+        ..Case::of(input)
+    };
+    case.holds(rt, alloc)
+}

@@ -6,6 +6,66 @@ use frac128::Frac;
 use std::alloc::Global;
 use std::thread::Threads;
 
+// The sizes of tables with their payoffs, in the order of a file, and their extreme equilibria.
+const GAMES: &str = r#"# Matching pennies.
+2 2: 1 -1 -1 1 -1 1 1 -1
+NE,1/2,1/2,1/2,1/2
+# A continuum, of which the ends are listed.
+3 2: 1 1 0 2 0 2 1 1 0 3 2 0
+NE,1,0,0,1,0
+NE,1,0,0,1/2,1/2
+# All payoffs equal.
+2 2: 0 0 0 0 0 0 0 0
+NE,1,0,1,0
+NE,1,0,0,1
+NE,0,1,1,0
+NE,0,1,0,1
+# Battle of the sexes.
+2 2: 2 1 0 0 0 0 1 2
+NE,1,0,1,0
+NE,2/3,1/3,1/3,2/3
+NE,0,1,0,1
+# One strategy each.
+1 1: 7 7
+NE,1,1
+# The prisoners' dilemma.
+2 2: 3 3 5 0 0 5 1 1
+NE,0,1,0,1
+# Two equal rows.
+3 2: 2 1 2 1 0 0 0 0 0 0 1 2
+NE,1,0,0,1,0
+NE,2/3,0,1/3,1/3,2/3
+NE,0,1,0,1,0
+NE,0,2/3,1/3,1/3,2/3
+NE,0,0,1,0,1
+# Two equal columns.
+2 3: 2 1 0 0 2 1 0 0 0 0 1 2
+NE,1,0,1,0,0
+NE,1,0,0,1,0
+NE,2/3,1/3,1/3,0,2/3
+NE,2/3,1/3,0,1/3,2/3
+NE,0,1,0,0,1
+# Coordination.
+3 3: 1 1 0 0 0 0 0 0 1 1 0 0 0 0 0 0 1 1
+NE,1,0,0,1,0,0
+NE,1/2,1/2,0,1/2,1/2,0
+NE,1/2,0,1/2,1/2,0,1/2
+NE,1/3,1/3,1/3,1/3,1/3,1/3
+NE,0,1,0,0,1,0
+NE,0,1/2,1/2,0,1/2,1/2
+NE,0,0,1,0,0,1
+# Rock, paper, scissors.
+3 3: 0 0 1 -1 -1 1 -1 1 0 0 1 -1 1 -1 -1 1 0 0
+NE,1/3,1/3,1/3,1/3,1/3,1/3
+# A player with one strategy.
+1 3: 1 2 1 2 1 0
+NE,1,1,0,0
+NE,1,0,1,0
+# A degenerate game in which the points of zeros have all labels together.
+2 3: 1 1 1 1 0 1 2 0 1 0 0 1
+NE,1,0,1,0,0
+NE,0,1,1,0,0"#;
+
 // Whole numbers with spaces between them, as fractions.
 fn fractions(alloc: Global, words: &str) -> Result<Vec<Frac>, Stop> {
     let mut list = Vec::new(alloc);
@@ -16,21 +76,21 @@ fn fractions(alloc: Global, words: &str) -> Result<Vec<Frac>, Stop> {
     Ok(list)
 }
 
-// Whether a table with these payoffs, in the order of a file, has these extreme equilibria, by the definition and by the tool.
+// Whether a game has these extreme equilibria, by the definition and by the tool.
 fn has<R: Threads + Sync>(
     rt: &R,
     alloc: Global,
-    height: usize,
-    width: usize,
+    sizes: &str,
     payoffs: &str,
     lines: &str,
 ) -> Result<bool, Stop> {
+    let (height, width) = sizes.split_once(' ').unwrap_or((sizes, ""));
+    let height = height.parse::<usize>().unwrap_or(0);
+    let width = width.parse::<usize>().unwrap_or(0);
     let list = fractions(alloc, payoffs)?;
     let game = Payoffs::of(alloc, height, width, list.as_slice())?;
     let text = extreme_equilibria(alloc, &game)?;
-    let input = format!(in alloc;
-        "NFG 1 R \"\" {{ \"A\" \"B\" }} {{ {height} {width} }} {payoffs}"
-    )?;
+    let input = format!(in alloc; "NFG 1 R \"\" {{ \"A\" \"B\" }} {{ {sizes} }} {payoffs}")?;
     let plain = Case {
         out: lines,
         ..Case::of(input.as_str())
@@ -42,78 +102,26 @@ fn has<R: Threads + Sync>(
     Ok(text.as_slice() == lines.as_bytes() && plain.holds(rt, alloc)? && lettered.holds(rt, alloc)?)
 }
 
-/// Matching pennies; a continuum, of which the ends are listed; all payoffs equal; battle of the sexes; one strategy each; the
-/// prisoners' dilemma.
-#[test]
-fn games_of_two_rows(rt: HostRuntime) -> Result<(), Stop> {
-    let rows = [
-        (2, 2, "1 -1 -1 1 -1 1 1 -1", "NE,1/2,1/2,1/2,1/2\n"),
-        (
-            3,
-            2,
-            "1 1 0 2 0 2 1 1 0 3 2 0",
-            "NE,1,0,0,1,0\nNE,1,0,0,1/2,1/2\n",
-        ),
-        (
-            2,
-            2,
-            "0 0 0 0 0 0 0 0",
-            "NE,1,0,1,0\nNE,1,0,0,1\nNE,0,1,1,0\nNE,0,1,0,1\n",
-        ),
-        (
-            2,
-            2,
-            "2 1 0 0 0 0 1 2",
-            "NE,1,0,1,0\nNE,2/3,1/3,1/3,2/3\nNE,0,1,0,1\n",
-        ),
-        (1, 1, "7 7", "NE,1,1\n"),
-        (2, 2, "3 3 5 0 0 5 1 1", "NE,0,1,0,1\n"),
-    ];
-    for (height, width, payoffs, lines) in rows {
-        assert!(rt; has(&rt, rt.alloc(), height, width, payoffs, lines)?);
-    }
-    Ok(())
+// The same where the text has a line on the game, its sizes, `: ` and its payoffs, and then its equilibria.
+fn holds<R: Threads + Sync>(rt: &R, alloc: Global, text: &str) -> Result<bool, Stop> {
+    let Some((_, game)) = text.split_once('\n') else {
+        return Ok(false);
+    };
+    let Some((table, equilibria)) = game.split_once('\n') else {
+        return Ok(false);
+    };
+    let Some((sizes, payoffs)) = table.split_once(": ") else {
+        return Ok(false);
+    };
+    let lines = format!(in alloc; "{equilibria}\n")?;
+    has(rt, alloc, sizes, payoffs, lines.as_str())
 }
 
-/// Two equal rows; two equal columns; coordination; rock, paper, scissors; a player with one strategy; a degenerate game in which
-/// the points of zeros have all labels together.
+/// Each game, by the definition and by the tool.
 #[test]
-fn games_of_three(rt: HostRuntime) -> Result<(), Stop> {
-    let rows = [
-        (
-            3,
-            2,
-            "2 1 2 1 0 0 0 0 0 0 1 2",
-            "NE,1,0,0,1,0\nNE,2/3,0,1/3,1/3,2/3\nNE,0,1,0,1,0\nNE,0,2/3,1/3,1/3,2/3\nNE,0,0,1,0,1\n",
-        ),
-        (
-            2,
-            3,
-            "2 1 0 0 2 1 0 0 0 0 1 2",
-            "NE,1,0,1,0,0\nNE,1,0,0,1,0\nNE,2/3,1/3,1/3,0,2/3\nNE,2/3,1/3,0,1/3,2/3\nNE,0,1,0,0,1\n",
-        ),
-        (
-            3,
-            3,
-            "1 1 0 0 0 0 0 0 1 1 0 0 0 0 0 0 1 1",
-            "NE,1,0,0,1,0,0\nNE,1/2,1/2,0,1/2,1/2,0\nNE,1/2,0,1/2,1/2,0,1/2\nNE,1/3,1/3,1/3,1/3,1/3,1/3\nNE,0,1,0,0,1,0\nNE,0,1/2,1/2,0,1/2,1/2\nNE,0,0,1,0,0,1\n",
-        ),
-        (
-            3,
-            3,
-            "0 0 1 -1 -1 1 -1 1 0 0 1 -1 1 -1 -1 1 0 0",
-            "NE,1/3,1/3,1/3,1/3,1/3,1/3\n",
-        ),
-        (1, 3, "1 2 1 2 1 0", "NE,1,1,0,0\nNE,1,0,1,0\n"),
-        (
-            2,
-            3,
-            "1 1 1 1 0 1 2 0 1 0 0 1",
-            "NE,1,0,1,0,0\nNE,0,1,1,0,0\n",
-        ),
-    ];
-    for (height, width, payoffs, lines) in rows {
-        assert!(rt; has(&rt, rt.alloc(), height, width, payoffs, lines)?);
+fn small_games(rt: HostRuntime) -> Result<(), Stop> {
+    for game in GAMES.split("\n# ") {
+        assert!(rt; holds(&rt, rt.alloc(), game)?, "{game}");
     }
     Ok(())
 }
