@@ -1,5 +1,5 @@
-//! Worked rows of `check` and `convert`, as tests over `gambit_tools::run`, and what the other
-//! tools print, read back. Nothing here is called by the program.
+//! Worked rows of `check` and `convert`, as tests over `gambit_tools::run`, what the other tools
+//! print, read back, and `enummixed` on large tables. The program calls nothing here.
 #![tactic(auto)]
 
 #[cfg(test)]
@@ -14,3 +14,5 @@ mod layouts;
 mod read_back;
 #[cfg(test)]
 mod verdicts;
+#[cfg(test)]
+mod zeros;

@@ -1,5 +1,5 @@
 //! Extreme equilibria of small games by their definition, beside those that the tool lists, its
-//! refusals and limits, and those of bases and pairs, as tests. The program calls nothing here.
+//! refusals and limits, and the bases of cubes, as tests. The program calls nothing here.
 #![tactic(auto)]
 
 #[cfg(test)]
@@ -15,12 +15,8 @@ mod elimination;
 #[cfg(test)]
 mod gates;
 #[cfg(test)]
-mod pairings;
-#[cfg(test)]
 mod rows;
 #[cfg(test)]
 mod small_games;
 #[cfg(test)]
 mod stop;
-#[cfg(test)]
-mod zeros;

@@ -1,5 +1,5 @@
-//! Fractions, numbers, tokens, lines, small tables and command lines, as tests over their crates.
-//! Nothing here is called by the program.
+//! Fractions, numbers, tokens, lines, small tables, command lines and pairs of vertices, as tests
+//! over their crates. Nothing here is called by the program.
 #![tactic(auto)]
 
 #[cfg(test)]
@@ -10,6 +10,10 @@ mod fractions;
 mod lines;
 #[cfg(test)]
 mod numbers;
+#[cfg(test)]
+mod pairings;
+#[cfg(test)]
+mod stop;
 #[cfg(test)]
 mod tables;
 #[cfg(test)]

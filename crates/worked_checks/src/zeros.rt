@@ -1,10 +1,10 @@
 // Large tables in which all payoffs are zero, so that each pair of pure strategies is an extreme equilibrium.
 use crate::case::Case;
-use crate::stop::Stop;
+use answers::Memory;
 use std::alloc::Global;
 
 // The file of a table with these payoffs at its first profile, and zeros at all others.
-fn file(alloc: Global, height: usize, width: usize, first: &str) -> Result<String, Stop> {
+fn file(alloc: Global, height: usize, width: usize, first: &str) -> Result<String, Memory> {
     let mut text = format!(in alloc;
         "NFG 1 R \"\" {{ \"A\" \"B\" }} {{ {height} {width} }} {first}"
     )?;
@@ -19,7 +19,7 @@ fn file(alloc: Global, height: usize, width: usize, first: &str) -> Result<Strin
 }
 
 // Adds the entries of a pure strategy to a line: so many, with 1 at a place.
-fn push_pure(text: &mut String, size: usize, place: usize) -> Result<(), Stop> {
+fn push_pure(text: &mut String, size: usize, place: usize) -> Result<(), Memory> {
     for entry in 0..size {
         text.push_str(if entry == place { ",1" } else { ",0" })?;
     }
@@ -27,7 +27,7 @@ fn push_pure(text: &mut String, size: usize, place: usize) -> Result<(), Stop> {
 }
 
 // The lines of the pairs of pure strategies with so many of the first rows.
-fn lines(alloc: Global, height: usize, width: usize, listed: usize) -> Result<String, Stop> {
+fn lines(alloc: Global, height: usize, width: usize, listed: usize) -> Result<String, Memory> {
     let mut text = String::new(alloc);
     for row in 0..listed {
         for column in 0..width {
@@ -45,7 +45,7 @@ fn lines(alloc: Global, height: usize, width: usize, listed: usize) -> Result<St
 /// aside or not, or more than are looked through for dominated ones; and many strategies that one of them dominates, which only
 /// count where none is set aside.
 #[test]
-fn equilibria_of_zeros(rt: HostRuntime) -> Result<(), Stop> {
+fn equilibria_of_zeros(rt: HostRuntime) -> Result<(), Memory> {
     let few = "gambit: too large: 129 labels, limit 128\n";
     let many = "gambit: too large: 513 labels, limit 512\n";
     let rows = [
@@ -62,12 +62,12 @@ fn equilibria_of_zeros(rt: HostRuntime) -> Result<(), Stop> {
         let input = file(rt.alloc(), height, width, first)?;
         let text = lines(rt.alloc(), height, width, listed)?;
         let case = Case {
-            words,
+            input: input.as_str(),
             room: text.len().max(4000),
             status,
             out: text.as_str(),
             err,
-            ..Case::of(input.as_str())
+            ..Case::of(words, "")
         };
         assert!(rt; case.holds(&rt, rt.alloc())?, "{words} {height}");
     }

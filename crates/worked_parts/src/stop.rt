@@ -1,0 +1,28 @@
+// Why a test does not end.
+use frac128::Memory;
+use std::alloc::{AllocError, AllocFailed};
+
+/// There was no memory, or a step does not fit.
+#[derive(Debug, Drop)]
+pub enum Stop {
+    Memory,
+    Unfit,
+}
+
+impl From<Memory> for Stop {
+    fn from(_memory: Memory) -> Stop {
+        Stop::Memory
+    }
+}
+
+impl From<AllocError> for Stop {
+    fn from(_refused: AllocError) -> Stop {
+        Stop::Memory
+    }
+}
+
+impl<T: Drop> From<AllocFailed<T>> for Stop {
+    fn from(_refused: AllocFailed<T>) -> Stop {
+        Stop::Memory
+    }
+}
