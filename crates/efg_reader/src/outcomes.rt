@@ -54,7 +54,8 @@ fn mismatch_or_node(differs: bool) -> EfgKind
 // That no payoff comes, of which this many came before.
 fn no_payoff(tokens: &[Spanned], index: usize) -> Refusal<EfgKind>
     ensures { result
-        ≡ Unexpected (if closes (payoff_start index (kinds tokens.now)) then OutcomeMismatch else Node)
+        ≡ Unexpected
+        (if closes (payoff_start index (kinds tokens.now)) then OutcomeMismatch else Node)
         (length (payoff_start index (kinds tokens.now))) }
 {
     let start = payoff_start(tokens, index);

@@ -85,7 +85,8 @@ fn finished_sets(alloc: Global, sets: Vec<KeptSet>) -> Result<Vec<InfoSet>, Allo
 
 // The outcomes with their names.
 fn finished_outcomes(alloc: Global, outcomes: Vec<KeptOutcome>) -> Result<Vec<Outcome>, AllocError>
-    ensures { IfOk result (λ v. v.items ≡ map finished_outcome (map partial_outcome outcomes.items)) }
+    ensures { IfOk result
+        (λ v. v.items ≡ map finished_outcome (map partial_outcome outcomes.items)) }
 {
     let mut finished = Vec::new(alloc);
     for outcome in outcomes {
@@ -98,7 +99,8 @@ fn finished_outcomes(alloc: Global, outcomes: Vec<KeptOutcome>) -> Result<Vec<Ou
 // The tree with these parts.
 fn tree(alloc: Global, front: Front, builder: Builder) -> Result<Tree, EfgStop>
     requires { IsTree (tree_so_far front.title front.players.items (partial_of builder)) }
-    ensures tree { IfOk result (λ t. t ≡ tree_so_far front.title front.players.items (partial_of builder)) }
+    ensures tree { IfOk result
+        (λ t. t ≡ tree_so_far front.title front.players.items (partial_of builder)) }
     ensures memory { IfErr result (λ stop. stop ≡ Memory) }
 {
     let Front { title, players } = front;

@@ -45,7 +45,8 @@ impl<'a> Model for Decisions<'a> {
 
     ghost view = { λ d. d.tree.now };
 
-    ghost invariant = { λ d. AreDecisionsOfAll (game_of_tree d.tree.now) (map (λ v. v.items) d.lists.items) };
+    ghost invariant = { λ d. AreDecisionsOfAll (game_of_tree d.tree.now)
+        (map (λ v. v.items) d.lists.items) };
 }
 
 impl<'a> Decisions<'a> {
