@@ -89,7 +89,7 @@ impl Behaviour {
     {
         let mut entries = Vec::new(alloc);
         for player in 0..tree.players().len() {
-            let strategy = &reduced.choices()[player][profile[player] as usize];
+            let strategy = &reduced.choices().lists()[player][profile[player] as usize];
             push_player(&mut entries, tree, player as u32, strategy)?;
         }
         Ok(Behaviour { entries })

@@ -69,7 +69,7 @@ pub fn orders_of_all(alloc: Global, tree: &Tree, reduced: &Reduced) -> Result<Ve
     trees_are_game_trees();
     let mut orders = Vec::with_capacity(alloc, tree.players().len())?;
     for player in 0..reduced.table().players().len() {
-        orders.push(order_of(alloc, &reduced.choices()[player])?)?;
+        orders.push(order_of(alloc, &reduced.choices().lists()[player])?)?;
     }
     Ok(orders)
 }

@@ -11,6 +11,7 @@ ghost use Rattle.reduced_form.specs.Cells.{AreCells, IsCellStop};
 ghost use Rattle.game_theory.specs.Children.{AreChildren};
 
 use crate::stop::ReduceStop;
+use crate::strategies::Strategies;
 use frac128::Frac;
 use game_core::{Tree, profile_count, set_profile, trees_are_game_trees};
 use pure_payoffs::{Play, Shortcuts, children_of_all};
@@ -61,23 +62,18 @@ pub fn cells(
     alloc: Global,
     tree: &Tree,
     places: &[u32],
-    strategies: &[Vec<Vec<u32>>],
+    strategies: &Strategies,
     counts: &[usize],
 ) -> Result<Vec<Frac>, ReduceStop>
     requires places { ArePlaces (game_of_tree tree.now) places.now }
-    requires strategies { AreStrategies (game_of_tree tree.now)
-        (map (λ v. map (λ w. w.items) v.items) strategies.now) }
-    requires counts { counts.now
-        ≡ map length (map (λ v. map (λ w. w.items) v.items) strategies.now) }
+    requires strategies { AreStrategies (game_of_tree tree.now) strategies.now }
+    requires counts { counts.now ≡ map length strategies.now }
     requires few { length tree.now.players * profile_count counts.now ≤ most_payoffs }
     ensures so_many { IfOk result (λ payoffs. length payoffs.items
         ≡ length tree.now.players * profile_count counts.now) }
     ensures cells { IfOk result
-        (λ payoffs. AreCells (game_of_tree tree.now)
-        (map (λ v. map (λ w. w.items) v.items) strategies.now) payoffs.items) }
-    ensures stop { IfErr result
-        (IsCellStop (game_of_tree tree.now)
-        (map (λ v. map (λ w. w.items) v.items) strategies.now)) }
+        (λ payoffs. AreCells (game_of_tree tree.now) strategies.now payoffs.items) }
+    ensures stop { IfErr result (IsCellStop (game_of_tree tree.now) strategies.now) }
 {
     trees_are_game_trees();
     let players = tree.players().len();
@@ -93,7 +89,7 @@ pub fn cells(
             tree,
             children: &children,
             places,
-            strategies,
+            strategies: strategies.lists(),
             profile: &profile,
         };
         push_cells(&play, &mut shortcuts, &mut payoffs, number as u32)?;

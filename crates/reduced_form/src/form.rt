@@ -13,6 +13,7 @@ use crate::cells::cells;
 use crate::limits::{check_choices, count_all};
 use crate::names::{copied_names, names_of_all};
 use crate::stop::ReduceStop;
+use crate::strategies::Strategies;
 use frac128::{Frac, Memory};
 use game_core::{Table, Tree, copied, trees_are_game_trees};
 use std::alloc::Global;
@@ -22,30 +23,29 @@ use strategy_lists::{Decisions, set_places};
 /// The reduced strategic form of a tree. Players and strategies are numbered from 0.
 #[derive(Debug, Drop)]
 pub struct Reduced {
-    choices: Vec<Vec<Vec<u32>>>,
+    choices: Strategies,
     table: Table,
 }
 
 impl Model for Reduced {
-    ghost use Rattle.std.specs.Prelude.{map};
     ghost use Rattle.reduced_form.specs.ReducedForm.{ReducedForm, code_of_form};
 
     ghost Value = { ReducedForm };
 
     ghost coded = { code_of_form };
 
-    ghost view = { λ r. record { choices = map (λ v. map (λ w. w.items) v.items) r.choices.items; table = r.table } };
+    ghost view = { λ r. record { choices = r.choices; table = r.table } };
 }
 
 impl Reduced {
-    ghost use Rattle.std.specs.Prelude.{◌≡◌, map};
+    ghost use Rattle.std.specs.Prelude.{◌≡◌};
 
     /// For each player the reduced strategies in order, and in each for each own set in order its action, counted
     /// from 1, or 0 for none.
-    pub fn choices(&self) -> &[Vec<Vec<u32>>]
-        ensures { map (λ v. map (λ w. w.items) v.items) result.now ≡ self.now.choices }
+    pub fn choices(&self) -> &Strategies
+        ensures { result.now ≡ self.now.choices }
     {
-        self.choices.as_slice()
+        &self.choices
     }
 
     /// The table of the strategies' profiles, with the tree's title and players.
@@ -57,28 +57,36 @@ impl Reduced {
 }
 
 // The reduced strategies of each player.
-fn strategies_of_all(alloc: Global, decisions: &Decisions) -> Result<Vec<Vec<Vec<u32>>>, Memory>
-    ensures { IfOk result
-        (λ strategies. AreStrategies (game_of_tree decisions.now)
-        (map (λ v. map (λ w. w.items) v.items) strategies.items)) }
+fn strategies_of_all(alloc: Global, decisions: &Decisions) -> Result<Strategies, Memory>
+    ensures { IfOk result (AreStrategies (game_of_tree decisions.now)) }
 {
     let players = decisions.tree().players().len();
     let mut strategies = Vec::with_capacity(alloc, players)?;
     for player in 0..players {
         strategies.push(decisions.list(alloc, player as u32)?)?;
     }
-    Ok(strategies)
+    Ok(Strategies::new(strategies))
 }
 
 // The table of these strategies with these payoffs.
 fn table_of(
     alloc: Global,
     tree: &Tree,
-    strategies: &[Vec<Vec<u32>>],
+    strategies: &Strategies,
     payoffs: Vec<Frac>,
 ) -> Result<Table, Memory>
-    requires { IsTable (record { title = tree.now.title; players = tree.now.players; strategies = map (map strategy_name) (map (λ v. map (λ w. w.items) v.items) strategies.now); payoffs = payoffs.items }) }
-    ensures { IfOk result (λ table. table ≡ record { title = tree.now.title; players = tree.now.players; strategies = map (map strategy_name) (map (λ v. map (λ w. w.items) v.items) strategies.now); payoffs = payoffs.items }) }
+    requires { IsTable (record {
+      title = tree.now.title;
+      players = tree.now.players;
+      strategies = map (map strategy_name) strategies.now;
+      payoffs = payoffs.items;
+    }) }
+    ensures { IfOk result (λ table. table ≡ record {
+      title = tree.now.title;
+      players = tree.now.players;
+      strategies = map (map strategy_name) strategies.now;
+      payoffs = payoffs.items;
+    }) }
 {
     let title = copied(alloc, tree.title())?;
     let players = copied_names(alloc, tree.players())?;

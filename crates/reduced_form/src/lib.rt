@@ -1,7 +1,8 @@
 //! The reduced strategic form of a tree, and the table over the strategies that elimination keeps.
 //!
 //! Callers may rely on: `reduce` gives the form, whose cells are what every completion pays, or the
-//! first reason why there is none; `undominated` the kept strategies and their table.
+//! first reason why there is none; `undominated` the kept strategies and their table. `Strategies`
+//! are the lists that `Strategies::new` takes and `Strategies::lists` gives.
 //! Definitions: `specs::ReducedForm` has the form and the names of strategies, `Stops` what a tree
 //! answers (`form_of`), `Kept` what a table answers (`kept_of`).
 //! Private words: `specs::Counts`, `Limits` and `Cells`, how the code counts and fills tables.
@@ -17,8 +18,10 @@ mod kept_stop;
 mod limits;
 mod names;
 mod stop;
+mod strategies;
 
 pub use form::{Reduced, forms_are_single, reduce};
 pub use kept::{Kept, MOST_STRATEGIES, kept_forms_are_single, undominated};
 pub use kept_stop::KeptStop;
 pub use stop::ReduceStop;
+pub use strategies::Strategies;

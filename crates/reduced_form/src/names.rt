@@ -3,6 +3,7 @@ ghost use Rattle.std.specs.Prelude.{◌≡◌, ◌++◌, map, IfOk, OnOk};
 ghost use Rattle.std.specs.List.{flat_map};
 ghost use Rattle.reduced_form.specs.ReducedForm.{action_text, strategy_name};
 
+use crate::strategies::Strategies;
 use frac128::Memory;
 use game_core::{Name, copied};
 use std::alloc::Global;
@@ -56,12 +57,13 @@ fn names_of_one(alloc: Global, strategies: &[Vec<u32>]) -> Result<Vec<Name>, Mem
 }
 
 /// The names of all players' strategies.
-pub fn names_of_all(alloc: Global, strategies: &[Vec<Vec<u32>>]) -> Result<Vec<Vec<Name>>, Memory>
+pub fn names_of_all(alloc: Global, strategies: &Strategies) -> Result<Vec<Vec<Name>>, Memory>
     ensures { IfOk result (λ names. map (λ v. v.items) names.items
-        ≡ map (map strategy_name) (map (λ v. map (λ w. w.items) v.items) strategies.now)) }
+        ≡ map (map strategy_name) strategies.now) }
 {
-    let mut names = Vec::with_capacity(alloc, strategies.len())?;
-    for list in strategies {
+    let lists = strategies.lists();
+    let mut names = Vec::with_capacity(alloc, lists.len())?;
+    for list in lists {
         names.push(names_of_one(alloc, list)?)?;
     }
     Ok(names)

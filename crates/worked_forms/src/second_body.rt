@@ -151,7 +151,7 @@ fn behaviour_line(
     profile: usize,
 ) -> Result<Vec<u8>, Memory> {
     let mut entries = Vec::new(alloc);
-    for (player, strategies) in (0..u32::MAX).zip(reduced.choices()) {
+    for (player, strategies) in (0..u32::MAX).zip(reduced.choices().lists()) {
         let strategy = choice(counts, profile, player as usize);
         if let Some(actions) = strategies.get(strategy) {
             push_behaviour(&mut entries, tree, player, actions)?;

@@ -6,39 +6,39 @@ use Rattle.game_core.specs.TreeGame.{game_of_tree}
 use Rattle.reduced_strategies.specs.StrategicForm.{AreStrategies, list_of}
 use Rattle.behaviour_profile.proofs.BehaviourEntries.{number-within, strategy-is, list_of-long, entries_from-push}
 use Rattle.behaviour_profile.proofs.Behaviour.from_reduced.Goals as goal
-use Rattle.behaviour_profile.proofs.Behaviour.from_reduced.Goals.{After-choices, After-deref}
+use Rattle.behaviour_profile.proofs.Behaviour.from_reduced.Goals.{After-lists, After-deref}
 
 -- the player is one of the tree's
-is_player : (c : After-choices) → c.loop-player.player < length c.args.tree.now.players
+is_player : (c : After-lists) → c.loop-player.player < length c.args.tree.now.players
 is_player c = omega (arith, ap length c.players-player-end.ensures.players)
 
 -- the lists that are read are the players' reduced strategies
-are_strategies : (c : After-choices) → AreStrategies (game_of_tree c.args.tree.now) (map (λ v. map (λ w. w.items) v.items) c.choices.result.now)
-are_strategies c = subst (AreStrategies (game_of_tree c.args.tree.now)) (sym c.choices.ensures) c.requires.form.are_strategies
+are_strategies : (c : After-lists) → AreStrategies (game_of_tree c.args.tree.now) (map (λ v. map (λ w. w.items) v.items) c.lists.result.now)
+are_strategies c = subst (AreStrategies (game_of_tree c.args.tree.now)) (sym (c.lists.ensures ∙ c.choices.ensures)) c.requires.form.are_strategies
 
 -- and the profile is one of theirs
-is_profile : (c : After-choices) → IsProfile (map length (map (λ v. map (λ w. w.items) v.items) c.choices.result.now)) c.args.profile.now
-is_profile c = subst (λ x. IsProfile (map length x) c.args.profile.now) (sym c.choices.ensures) c.requires.profile
+is_profile : (c : After-lists) → IsProfile (map length (map (λ v. map (λ w. w.items) v.items) c.lists.result.now)) c.args.profile.now
+is_profile c = subst (λ x. IsProfile (map length x) c.args.profile.now) (sym (c.lists.ensures ∙ c.choices.ensures)) c.requires.profile
 
 pub bounds-profile-player : goal.bounds-profile-player
 bounds-profile-player c = omega (arith, length-profile (map length c.args.reduced.now.choices) c.args.profile.now c.requires.profile, length-map c.args.reduced.now.choices length, c.requires.form.are_strategies.one_for_each, ap length c.players-player-end.ensures.players)
 
 pub index-strategy-requires : goal.index-strategy-requires
 index-strategy-requires c =
-    let b = (goal.at.index-strategy-requires c).After-choices in
-    rw c.index-choices-player.result.ok.0 (number-within (λ v. v.items) (λ w. w.items) (game_of_tree c.args.tree.now) c.choices.result.now c.args.profile.now c.loop-player.player c.index-choices-player.result (are_strategies b) (is_profile b) (is_player b) c.index-choices-player.is)
+    let b = (goal.at.index-strategy-requires c).After-lists in
+    rw c.index-lists-player.result.ok.0 (number-within (λ v. v.items) (λ w. w.items) (game_of_tree c.args.tree.now) c.lists.result.now c.args.profile.now c.loop-player.player c.index-lists-player.result (are_strategies b) (is_profile b) (is_player b) c.index-lists-player.is)
 
 -- the strategy that is read is the player's in the profile
 is_strategy : (c : After-deref) → c.deref.result.now ≡ list_of c.args.reduced.now.choices c.args.profile.now c.loop-player.player
 is_strategy c =
-    let b = (goal.at.After-deref c).After-choices in
+    let b = (goal.at.After-deref c).After-lists in
     c.deref.ensures.value
-    ∙ sym (strategy-is (λ v. v.items) (λ w. w.items) (game_of_tree c.args.tree.now) c.choices.result.now c.args.profile.now c.loop-player.player c.index-choices-player.result (are_strategies b) (is_profile b) (is_player b) c.index-choices-player.is c.index-strategy.result.now c.index-strategy.ensures)
-    ∙ ap (λ x. list_of x c.args.profile.now c.loop-player.player) c.choices.ensures
+    ∙ sym (strategy-is (λ v. v.items) (λ w. w.items) (game_of_tree c.args.tree.now) c.lists.result.now c.args.profile.now c.loop-player.player c.index-lists-player.result (are_strategies b) (is_profile b) (is_player b) c.index-lists-player.is c.index-strategy.result.now c.index-strategy.ensures)
+    ∙ ap (λ x. list_of x c.args.profile.now c.loop-player.player) (c.lists.ensures ∙ c.choices.ensures)
 
 pub push_player-requires : goal.push_player-requires
 push_player-requires c =
-    let b = (goal.at.push_player-requires c).After-choices in
+    let b = (goal.at.push_player-requires c).After-lists in
     ap length (is_strategy c) ∙ list_of-long (game_of_tree c.args.tree.now) c.args.reduced.now.choices c.args.profile.now c.loop-player.player c.requires.form.are_strategies c.requires.profile (is_player b)
 
 pub loop-player-preserved : goal.loop-player-preserved

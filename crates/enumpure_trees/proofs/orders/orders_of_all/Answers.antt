@@ -16,7 +16,7 @@ inside c = omega (arith, ap length c.players-player-end.ensures.players, ap (λ 
 -- the strategies are the player's
 strategies-seen : (c : After-deref) → map (λ w. w.items) c.deref.result.now ≡ get_or c.args.reduced.now.choices c.loop-player.player []
 strategies-seen c =
-    ap (map (λ w. w.items)) c.deref.ensures.value ∙ seen-at (λ v. map (λ w. w.items) v.items) c.choices.result.now c.args.reduced.now.choices c.loop-player.player c.index-choices-player.result [] c.choices.ensures (omega (arith, inside c, c.requires.form.are_strategies.one_for_each)) c.index-choices-player.is
+    ap (map (λ w. w.items)) c.deref.ensures.value ∙ seen-at (λ v. map (λ w. w.items) v.items) c.lists.result.now c.args.reduced.now.choices c.loop-player.player c.index-lists-player.result [] (c.lists.ensures ∙ c.choices.ensures) (omega (arith, inside c, c.requires.form.are_strategies.one_for_each)) c.index-lists-player.is
 
 pub order_of-requires-clause-few : goal.order_of-requires-clause-few
 order_of-requires-clause-few c =
@@ -38,7 +38,7 @@ loop-player-preserved c =
     let seen : map (λ v. v.items) c.push.new.self.items ≡ orders ++ last ∷ [] = ap (map (λ v. v.items)) items ∙ map-append (λ v. v.items) c.loop-player.orders.items (c.in_ok-order_of.field-0 ∷ []) in
     let long : length orders ≡ player = length-map c.loop-player.orders.items (λ v. v.items) ∙ c.loop-player.invariant.one_for_each in
     let inside : player < length choices = omega (arith, ap length c.players-player-end.ensures.players, ap (λ t. length t.players) c.table.ensures, ap length c.requires.form.players_are, c.requires.form.are_strategies.one_for_each) in
-    let strategies = ap (map (λ w. w.items)) c.deref.ensures.value ∙ seen-at (λ v. map (λ w. w.items) v.items) c.choices.result.now choices player c.index-choices-player.result [] c.choices.ensures inside c.index-choices-player.is in
+    let strategies = ap (map (λ w. w.items)) c.deref.ensures.value ∙ seen-at (λ v. map (λ w. w.items) v.items) c.lists.result.now choices player c.index-lists-player.result [] (c.lists.ensures ∙ c.choices.ensures) inside c.index-lists-player.is in
     let here : IsSortedOrder (get_or choices player []) last = subst (λ (x : List (List ℕ)). IsSortedOrder x last) strategies (c.in_ok-order_of.ensures {u = tt}) in
     record {
       one_for_each = ap length items ∙ length_push c.loop-player.orders.items c.in_ok-order_of.field-0 ∙ ap (λ k. k + 1) c.loop-player.invariant.one_for_each;

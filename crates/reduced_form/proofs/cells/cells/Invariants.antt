@@ -1,4 +1,4 @@
-use Rattle.std.proofs.Common.{◌≡◌, ◌*◌, length, map}
+use Rattle.std.proofs.Common.{◌≡◌, ◌*◌, length}
 use Rattle.game_core.specs.TreeGame.{game_of_tree}
 use Rattle.pure_payoffs.specs.Shortcuts.{HasRoom}
 use Rattle.reduced_form.specs.Cells.{AreCells}
@@ -9,5 +9,5 @@ invariant-loop-number l = record {
   room : HasRoom (game_of_tree l.tree) l.shortcuts;
   digits : length l.profile.items ≡ length l.counts;
   so_many : length l.payoffs.items ≡ l.number * length l.tree.players;
-  cells : AreCells (game_of_tree l.tree) (map (λ v. map (λ w. w.items) v.items) l.strategies) l.payoffs.items;
+  cells : AreCells (game_of_tree l.tree) l.strategies l.payoffs.items;
 }

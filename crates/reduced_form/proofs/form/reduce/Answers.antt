@@ -1,9 +1,9 @@
-use Rattle.std.proofs.Common.{ℕ, ◌*◌, ◌≡◌, ◌≤◌, Global, Vec, List, length, map, sym, ap, ◌∙◌, subst}
+use Rattle.std.proofs.Common.{ℕ, ◌*◌, ◌≡◌, ◌≤◌, List, length, map, ap, ◌∙◌, subst}
 use Rattle.game_theory.specs.Profiles.{profile_count}
-use Rattle.game_core.specs.Table.{GameTable, IsTable}
+use Rattle.game_core.specs.Table.{GameTable}
 use Rattle.game_core.specs.TreeGame.{game_of_tree}
 use Rattle.reduced_strategies.specs.StrategicForm.{AreStrategies}
-use Rattle.reduced_form.specs.Cells.{AreCells, IsCellStop}
+use Rattle.reduced_form.specs.Cells.{AreCells}
 use Rattle.reduced_form.specs.Counts.{AreCounted, choices_by}
 use Rattle.reduced_form.specs.Limits.{AreFew, most_choices}
 use Rattle.reduced_form.specs.ReducedForm.{IsReducedForm}
@@ -12,48 +12,40 @@ use Rattle.reduced_form.proofs.FormLaws.{cell_stop-is_stop, form-all_fit, form-f
 use Rattle.reduced_form.proofs.form.reduce.Goals as goal
 use Rattle.reduced_form.proofs.form.reduce.Goals.{In_ok-choices, In-Ok}
 
--- strategies as contracts see them
-abbrev seen : List (Vec (Vec ℕ Global) Global) → List (List (List ℕ))
-seen strategies = map (λ v. map (λ w. w.items) v.items) strategies
-
--- the strategies
-abbrev lists : In_ok-choices → List (List (List ℕ))
-lists c = seen c.in_ok-choices.choices.items
-
 -- the counts are counted, and the strategies are those of the tree
 counted : (c : In_ok-choices) → AreCounted (game_of_tree c.args.tree.now) c.in_ok-counts.counts.items
 counted c = rw c.in_ok-decisions.ensures at (c.in_ok-counts.ensures {u = tt}).counted
 
-listed : (c : In_ok-choices) → AreStrategies (game_of_tree c.args.tree.now) (lists c)
+listed : (c : In_ok-choices) → AreStrategies (game_of_tree c.args.tree.now) c.in_ok-choices.choices
 listed c = rw c.in_ok-decisions.ensures at (c.in_ok-choices.ensures {u = tt})
 
 -- the counts are those of the strategies
-same : (c : In_ok-choices) → c.in_ok-counts.counts.items ≡ map length (lists c)
-same c = counted-same (game_of_tree c.args.tree.now) c.in_ok-counts.counts.items (lists c) (counted c) (listed c)
+same : (c : In_ok-choices) → c.in_ok-counts.counts.items ≡ map length c.in_ok-choices.choices
+same c = counted-same (game_of_tree c.args.tree.now) c.in_ok-counts.counts.items c.in_ok-choices.choices (counted c) (listed c)
 
 -- both counts are within their limits
-few : (c : In_ok-choices) → AreFew (game_of_tree c.args.tree.now) (lists c)
+few : (c : In_ok-choices) → AreFew (game_of_tree c.args.tree.now) c.in_ok-choices.choices
 few c =
-    form-few (game_of_tree c.args.tree.now) c.in_ok-counts.counts.items (lists c) (counted c) (listed c) (rw c.in_ok-decisions.ensures at (c.in_ok-counts.ensures {u = tt}).few)
+    form-few (game_of_tree c.args.tree.now) c.in_ok-counts.counts.items c.in_ok-choices.choices (counted c) (listed c) (rw c.in_ok-decisions.ensures at (c.in_ok-counts.ensures {u = tt}).few)
     (subst (λ (ns : List ℕ). choices_by (game_of_tree c.args.tree.now) 0 ns ≤ most_choices) c.deref-2.ensures.value (c.in_ok-check_choices.ensures {u = tt}).few)
 
 -- there is a payoff for each cell
-long : (c : In-Ok) → c.in_ok-counts.counts.items ≡ map length (seen c.in_ok-choices.choices.items) → length c.in-Ok.payoffs.items ≡ length c.args.tree.now.players * profile_count (map length (seen c.in_ok-choices.choices.items))
-long c same = (c.in-Ok.ensures {u = tt}).so_many ∙ ap (λ ns. length c.args.tree.now.players * profile_count ns) (c.deref-5.ensures.value ∙ same)
+long : (c : In-Ok) → c.in_ok-counts.counts.items ≡ map length c.in_ok-choices.choices → length c.in-Ok.payoffs.items ≡ length c.args.tree.now.players * profile_count (map length c.in_ok-choices.choices)
+long c same = (c.in-Ok.ensures {u = tt}).so_many ∙ ap (λ ns. length c.args.tree.now.players * profile_count ns) (c.deref-4.ensures.value ∙ same)
 
 -- the payoffs are those of the cells
-paid : (c : In-Ok) → AreCells (game_of_tree c.args.tree.now) (seen c.in_ok-choices.choices.items) c.in-Ok.payoffs.items
-paid c = subst (λ xs. AreCells (game_of_tree c.args.tree.now) (seen xs) c.in-Ok.payoffs.items) c.deref-4.ensures.value (c.in-Ok.ensures {u = tt}).cells
+paid : (c : In-Ok) → AreCells (game_of_tree c.args.tree.now) c.in_ok-choices.choices c.in-Ok.payoffs.items
+paid c = (c.in-Ok.ensures {u = tt}).cells
 
 pub cells-requires-clause-counts : goal.cells-requires-clause-counts
 cells-requires-clause-counts c =
-    c.deref-5.ensures.value ∙ same (goal.at.cells-requires-clause-counts c).In_ok-choices ∙ ap (λ xs. map length (seen xs)) (sym c.deref-4.ensures.value)
+    c.deref-4.ensures.value ∙ same (goal.at.cells-requires-clause-counts c).In_ok-choices
 
 pub returns-in-Err-clause-answer : goal.returns-in-Err-clause-answer
 returns-in-Err-clause-answer c =
     let t = game_of_tree c.args.tree.now in
     let d = (goal.at.returns-in-Err-clause-answer c).In_ok-choices in
-    cell_stop-is_stop t (lists d) c.in-Err.stop (listed d) (few d) (subst (λ xs. IsCellStop t (seen xs) c.in-Err.stop) c.deref-4.ensures.value (c.in-Err.ensures {u = tt}).stop)
+    cell_stop-is_stop t d.in_ok-choices.choices c.in-Err.stop (listed d) (few d) (c.in-Err.ensures {u = tt}).stop
 
 pub table_of-requires : goal.table_of-requires
 table_of-requires c =
@@ -61,25 +53,23 @@ table_of-requires c =
     let d = (goal.at.table_of-requires c).In-Ok in
     let choices = (goal.at.table_of-requires c).In_ok-choices in
     let valid = c.trees_are_game_trees.ensures t c.players-players.ensures.valid in
-    let table = form_table-is_table t (seen c.in_ok-choices.choices.items) c.in-Ok.payoffs.items valid (listed choices) (long d (same choices)) (few choices).few_payoffs in
-    subst (λ xs. IsTable (form_table t (seen xs) c.in-Ok.payoffs.items)) (sym c.deref-6.ensures.value) table
+    form_table-is_table t c.in_ok-choices.choices c.in-Ok.payoffs.items valid (listed choices) (long d (same choices)) (few choices).few_payoffs
 
 -- the form
-made : (c : In-Ok) → AreStrategies (game_of_tree c.args.tree.now) (seen c.in_ok-choices.choices.items) → c.in_ok-counts.counts.items ≡ map length (seen c.in_ok-choices.choices.items) → AreFew (game_of_tree c.args.tree.now) (seen c.in_ok-choices.choices.items)
-    → (table : GameTable) → table ≡ form_table c.args.tree.now (seen c.in_ok-choices.choices.items) c.in-Ok.payoffs.items
-    → IsReducedForm c.args.tree.now (record { choices = seen c.in_ok-choices.choices.items; table = table })
+made : (c : In-Ok) → AreStrategies (game_of_tree c.args.tree.now) c.in_ok-choices.choices → c.in_ok-counts.counts.items ≡ map length c.in_ok-choices.choices → AreFew (game_of_tree c.args.tree.now) c.in_ok-choices.choices
+    → (table : GameTable) → table ≡ form_table c.args.tree.now c.in_ok-choices.choices c.in-Ok.payoffs.items
+    → IsReducedForm c.args.tree.now (record { choices = c.in_ok-choices.choices; table = table })
 made c listed counts few table is =
     let t = c.args.tree.now in
     let valid = c.trees_are_game_trees.ensures t c.players-players.ensures.valid in
-    form-is_form t (seen c.in_ok-choices.choices.items) c.in-Ok.payoffs.items table valid listed is (long c counts) few.few_payoffs (paid c)
+    form-is_form t c.in_ok-choices.choices c.in-Ok.payoffs.items table valid listed is (long c counts) few.few_payoffs (paid c)
 
 pub returns-clause-answer : goal.returns-clause-answer
 returns-clause-answer c =
     let t = c.args.tree.now in
     let d = (goal.at.returns-clause-answer c).In-Ok in
     let choices = (goal.at.returns-clause-answer c).In_ok-choices in
-    let table = c.in_ok-table.ensures {u = tt} ∙ ap (λ xs. form_table t (seen xs) c.in-Ok.payoffs.items) c.deref-6.ensures.value in
-    (made d (listed choices) (same choices) (few choices) c.in_ok-table.table table, few choices, form-all_fit (game_of_tree t) (seen c.in_ok-choices.choices.items) c.in-Ok.payoffs.items (long d (same choices)) (paid d))
+    (made d (listed choices) (same choices) (few choices) c.in_ok-table.table (c.in_ok-table.ensures {u = tt}), few choices, form-all_fit (game_of_tree t) c.in_ok-choices.choices c.in-Ok.payoffs.items (long d (same choices)) (paid d))
 
 pub returns-clause-completions : goal.returns-clause-completions
 returns-clause-completions c =
@@ -87,5 +77,4 @@ returns-clause-completions c =
     let d = (goal.at.returns-clause-completions c).In-Ok in
     let choices = (goal.at.returns-clause-completions c).In_ok-choices in
     let valid = c.trees_are_game_trees.ensures t c.players-players.ensures.valid in
-    let table = c.in_ok-table.ensures {u = tt} ∙ ap (λ xs. form_table t (seen xs) c.in-Ok.payoffs.items) c.deref-6.ensures.value in
-    form-pays_completions t (record { choices = seen c.in_ok-choices.choices.items; table = c.in_ok-table.table }) valid (made d (listed choices) (same choices) (few choices) c.in_ok-table.table table)
+    form-pays_completions t (record { choices = c.in_ok-choices.choices; table = c.in_ok-table.table }) valid (made d (listed choices) (same choices) (few choices) c.in_ok-table.table (c.in_ok-table.ensures {u = tt}))

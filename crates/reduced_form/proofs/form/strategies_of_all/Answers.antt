@@ -3,6 +3,7 @@ use Rattle.std.proofs.lemmas.List.{length-map, length_push, map-append}
 use Rattle.std.proofs.lemmas.Option.{get_or_from_slice_get, slice_get_within}
 use Rattle.game_core.specs.TreeGame.{game_of_tree}
 use Rattle.reduced_strategies.specs.Choices.{AreReducedStrategies}
+use Rattle.reduced_strategies.specs.StrategicForm.{AreStrategies}
 use Rattle.reduced_form.proofs.FormCounts.{reduced-push}
 use Rattle.reduced_form.proofs.form.strategies_of_all.Goals as goal
 
@@ -25,7 +26,7 @@ returns c =
     let t = game_of_tree c.args.decisions.now in
     let lists = map (λ v. map (λ w. w.items) v.items) c.loop-player.strategies.items in
     let long : length lists ≡ c.loop-player.player = length-map c.loop-player.strategies.items (λ v. map (λ w. w.items) v.items) ∙ c.loop-player.invariant.one_for_each in
-    record {
+    subst (AreStrategies t) (sym c.new.ensures) (record {
       one_for_each = omega (arith, long, ap length c.players-players.ensures.players, ap (λ t. length t.players) c.tree.ensures);
       are_reduced = λ i list h. subst (AreReducedStrategies t i) (get_or_from_slice_get lists i list [] h) (c.loop-player.invariant.are_reduced i (slice_get_within lists i list h));
-    }
+    })
