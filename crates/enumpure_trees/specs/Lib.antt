@@ -1,4 +1,5 @@
 pub mod Laws
+pub mod Listing
 pub mod Orders
 pub mod Ranks
 pub mod Stops

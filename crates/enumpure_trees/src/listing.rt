@@ -2,13 +2,13 @@
 ghost use Rattle.std.specs.Prelude.{◌≡◌, ◌<◌, ◌≤◌, ◌^◌, ◌++◌, ℕ, List, length, map, IfOk, OnOk, replicate};
 ghost use Rattle.answers.specs.Answers.{Gives, IsSingle, map_ok};
 ghost use Rattle.game_theory.specs.Profiles.{IsProfile, profile_count, number_of};
-ghost use Rattle.game_theory.specs.Lines.{line_text, lines_text};
+ghost use Rattle.game_theory.specs.Lines.{line_text};
 ghost use Rattle.game_theory.specs.Trees.{IsTree, Tree as game_tree};
 ghost use Rattle.game_core.specs.TreeGame.{game_of_tree};
 ghost use Rattle.reduced_form.specs.ReducedForm.{IsReducedForm};
-ghost use Rattle.enumpure_trees.specs.Orders.{AreOrders, ordered};
+ghost use Rattle.enumpure_trees.specs.Listing.{listed_text};
+ghost use Rattle.enumpure_trees.specs.Orders.{ordered};
 ghost use Rattle.game_theory.specs.Ranks.{ranked};
-ghost use Rattle.enumpure_trees.specs.Ranks.{lines_below};
 ghost use Rattle.enumpure_trees.specs.TreeEquilibria.{profile_line};
 ghost use Rattle.enumpure.specs.Replies.{plays_best};
 ghost use Rattle.enumpure.specs.declared.listing.ListStop.TheVariants as stops;
@@ -22,15 +22,29 @@ use game_core::{MOST_TEXT, Tree, too_long_text, trees_are_game_trees};
 use ne_printer::{line, push_line};
 use reduced_form::Reduced;
 use std::alloc::Global;
+use std::marker::Model;
 
 // What the lines are of: a tree and its reduced form, the order of each player's strategies, and for each profile, by
 // its number, whether it is an equilibrium.
-#[derive(Clone, Copy)]
+#[derive(Drop)]
 struct Lines<'a> {
     tree: &'a Tree,
     reduced: &'a Reduced,
     orders: &'a [Vec<u32>],
     all_best: &'a [bool],
+}
+
+impl<'a> Model for Lines<'a> {
+    ghost use Rattle.std.specs.Prelude.{map};
+    ghost use Rattle.enumpure_trees.specs.Listing.{IsListing, Listing, listing};
+
+    ghost Value = { Listing };
+
+    ghost view = { λ l. listing l.tree.now l.reduced.now
+        (map (λ v. v.items) l.orders.now) l.all_best.now };
+
+    ghost invariant = { λ l. IsListing
+        (listing l.tree.now l.reduced.now (map (λ v. v.items) l.orders.now) l.all_best.now) };
 }
 
 // The profile in which each player plays the first strategy.
@@ -58,19 +72,6 @@ fn set_ordered(profile: &mut [u32], orders: &[Vec<u32>], profiles: usize, rank: 
     }
 }
 
-// Whether a profile is an equilibrium.
-fn is_mutual(lines: &Lines, profile: &[u32]) -> bool
-    requires form { IsReducedForm lines.now.tree.now lines.now.reduced.now }
-    requires best_replies { length lines.now.all_best.now
-        ≡ profile_count (map length lines.now.reduced.now.choices) }
-    requires profile { IsProfile (map length lines.now.reduced.now.choices) profile.now }
-    ensures { result
-        ≡ plays_best lines.now.all_best.now
-        (number_of (map length lines.now.reduced.now.choices) profile.now) }
-{
-    lines.all_best[lines.reduced.table().profile_number(profile)]
-}
-
 // How many bytes the line of each profile has: as many as that of the given one.
 fn line_length(
     alloc: Global,
@@ -91,57 +92,42 @@ fn line_length(
     Ok(line(alloc, behaviour.entries())?.len())
 }
 
-// Adds the lines of the profiles of best replies in the order of their ranks. Writes over `profile`.
-fn push_lines(
-    alloc: Global,
-    text: &mut Vec<u8>,
-    lines: &Lines,
-    profile: &mut [u32],
-) -> Result<(), Memory>
-    requires players { length profile.old ≡ length lines.now.orders.now }
-    requires form { IsReducedForm lines.now.tree.now lines.now.reduced.now }
-    requires orders { AreOrders lines.now.reduced.now.choices
-        (map (λ v. v.items) lines.now.orders.now) }
-    requires best_replies { length lines.now.all_best.now
-        ≡ profile_count (map length lines.now.reduced.now.choices) }
-    ensures { OnOk result (text.new.items
-        ≡ text.old.items
-        ++ lines_text (lines_below
-        (game_of_tree lines.now.tree.now) lines.now.reduced.now.choices
-        (map (λ v. v.items) lines.now.orders.now) (plays_best lines.now.all_best.now)
-        (length lines.now.all_best.now))) }
-{
-    for rank in 0..lines.all_best.len() {
-        set_ordered(profile, lines.orders, lines.all_best.len(), rank);
-        if is_mutual(lines, profile) {
-            let behaviour = Behaviour::from_reduced(alloc, lines.tree, lines.reduced, profile)?;
-            push_line(alloc, text, behaviour.entries())?;
-        }
+impl<'a> Lines<'a> {
+    // Whether a profile is an equilibrium.
+    fn is_mutual(&self, profile: &[u32]) -> bool
+        requires { IsProfile (map length self.now.reduced.choices) profile.now }
+        ensures { result
+            ≡ plays_best self.now.all_best
+            (number_of (map length self.now.reduced.choices) profile.now) }
+    {
+        self.all_best[self.reduced.table().profile_number(profile)]
     }
-    Ok(())
-}
 
-// The lines of the profiles of best replies, in a text that has room for so many bytes from the start. Writes over `profile`.
-fn write_lines(
-    alloc: Global,
-    lines: &Lines,
-    profile: &mut [u32],
-    bytes: usize,
-) -> Result<Vec<u8>, Memory>
-    requires players { length profile.old ≡ length lines.now.orders.now }
-    requires form { IsReducedForm lines.now.tree.now lines.now.reduced.now }
-    requires orders { AreOrders lines.now.reduced.now.choices
-        (map (λ v. v.items) lines.now.orders.now) }
-    requires best_replies { length lines.now.all_best.now
-        ≡ profile_count (map length lines.now.reduced.now.choices) }
-    ensures { IfOk result (λ text. text.items
-        ≡ lines_text (lines_below (game_of_tree lines.now.tree.now) lines.now.reduced.now.choices
-        (map (λ v. v.items) lines.now.orders.now) (plays_best lines.now.all_best.now)
-        (length lines.now.all_best.now))) }
-{
-    let mut text = Vec::with_capacity(alloc, bytes)?;
-    push_lines(alloc, &mut text, lines, profile)?;
-    Ok(text)
+    // Adds the lines of the profiles of best replies in the order of their ranks. Writes over `profile`.
+    fn push(&self, alloc: Global, text: &mut Vec<u8>, profile: &mut [u32]) -> Result<(), Memory>
+        requires { length profile.old ≡ length self.now.orders }
+        ensures { OnOk result (text.new.items ≡ text.old.items ++ listed_text self.now) }
+    {
+        for rank in 0..self.all_best.len() {
+            set_ordered(profile, self.orders, self.all_best.len(), rank);
+            if self.is_mutual(profile) {
+                let behaviour = Behaviour::from_reduced(alloc, self.tree, self.reduced, profile)?;
+                push_line(alloc, text, behaviour.entries())?;
+            }
+        }
+        Ok(())
+    }
+
+    // The lines of the profiles of best replies, in a text that has room for so many bytes from the start. Writes over
+    // `profile`.
+    fn text(&self, alloc: Global, profile: &mut [u32], bytes: usize) -> Result<Vec<u8>, Memory>
+        requires { length profile.old ≡ length self.now.orders }
+        ensures { IfOk result (λ text. text.items ≡ listed_text self.now) }
+    {
+        let mut text = Vec::with_capacity(alloc, bytes)?;
+        self.push(alloc, &mut text, profile)?;
+        Ok(text)
+    }
 }
 
 /// The lines of the pure equilibria of a tree: each pure profile of the reduced strategic form at which no player has
@@ -176,7 +162,7 @@ pub fn list_pure_behaviours(
         orders: &orders,
         all_best: &all_best,
     };
-    Ok(write_lines(alloc, &lines, &mut profile, count * each)?)
+    Ok(lines.text(alloc, &mut profile, count * each)?)
 }
 
 /// A tree has one such text, or one that is too long.

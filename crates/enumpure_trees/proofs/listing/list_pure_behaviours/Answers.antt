@@ -21,15 +21,15 @@ line_length-requires-clause-profile c =
     let zeros = c.deref.ensures.value ∙ c.in_ok-profile.ensures {u = tt} ∙ ap (λ names. replicate (length names) 0) c.players.ensures.players in
     subst (IsProfile (map length c.args.reduced.now.choices)) (sym zeros) (IsProfile-first tree c.args.reduced.now valid c.requires.form)
 
-pub write_lines-requires-clause-orders : goal.write_lines-requires-clause-orders
-write_lines-requires-clause-orders c =
-    subst (λ os. AreOrders c.args.reduced.now.choices (map (λ v. v.items) os)) (sym c.deref-3.ensures.value) (AreOrders-sorted c.args.reduced.now.choices (map (λ v. v.items) c.in_ok-orders.orders.items) (c.in_ok-orders.ensures {u = tt}))
-
-pub write_lines-requires-clause-best_replies : goal.write_lines-requires-clause-best_replies
-write_lines-requires-clause-best_replies c =
+pub invariant_of-lines : goal.invariant_of-lines
+invariant_of-lines c =
     let best_replies = c.in_ok-all_best.all_best.items in
     let all_best = subst (λ t. AreMutualBestReplies (game_of t) best_replies) c.table.ensures (c.in_ok-all_best.ensures {u = tt}) in
-    ap length c.deref-4.ensures.value ∙ length-best_replies c.args.tree.now c.args.reduced.now best_replies c.requires.form all_best
+    record {
+      form = c.requires.form;
+      orders = subst (λ os. AreOrders c.args.reduced.now.choices (map (λ v. v.items) os)) (sym c.deref-3.ensures.value) (AreOrders-sorted c.args.reduced.now.choices (map (λ v. v.items) c.in_ok-orders.orders.items) (c.in_ok-orders.ensures {u = tt}));
+      best_replies = ap length c.deref-4.ensures.value ∙ length-best_replies c.args.tree.now c.args.reduced.now best_replies c.requires.form all_best;
+    }
 
 pub returns-then-count-each : goal.returns-then-count-each
 returns-then-count-each c =
@@ -51,9 +51,9 @@ returns c =
     let orders = map (λ v. v.items) c.in_ok-orders.orders.items in
     let best_replies = c.in_ok-all_best.all_best.items in
     let listed = AreListed-made tree form orders best_replies c.table.result.now (c.trees_are_game_trees.ensures tree c.players.ensures.valid) c.requires.form (c.in_ok-orders.ensures {u = tt}) (c.in_ok-all_best.ensures {u = tt}) c.table.ensures in
-    let text = c.in_ok-write_lines.ensures {u = tt} ∙ ap₂ (λ os fs. lines_text (lines_below (game_of_tree tree) form.choices (map (λ v. v.items) os) (plays_best fs) (length fs))) c.deref-3.ensures.value c.deref-4.ensures.value in
+    let text = c.in_ok-text.ensures {u = tt} ∙ ap₂ (λ os fs. lines_text (lines_below (game_of_tree tree) form.choices (map (λ v. v.items) os) (plays_best fs) (length fs))) c.deref-3.ensures.value c.deref-4.ensures.value in
     let counted : c.count-count.result ≡ count_by (λ b. b) c.deref-2.result.now = search rules in
     let long = length-listed tree form orders best_replies c.in_ok-each.each listed (c.in_ok-each.ensures {u = tt}).each in
     let below = below_limit most_text c.in_ok-each.each c.count-count.result (c.in_ok-each.ensures {u = tt}).some c.if-count-each.false in
     let same = ap (λ n. n * c.in_ok-each.each) (counted ∙ ap (count_by (λ b. b)) c.deref-2.ensures.value) in
-    (IsTreeEquilibriaText-listed tree form orders best_replies c.in_ok-write_lines.field-0.items listed text, omega (arith, ap length text, long, below, same))
+    (IsTreeEquilibriaText-listed tree form orders best_replies c.in_ok-text.field-0.items listed text, omega (arith, ap length text, long, below, same))
