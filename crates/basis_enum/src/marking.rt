@@ -36,7 +36,7 @@ fn mask(tableau: &Tableau, count: usize) -> u128
 {
     let mut mask = ones(count);
     for row in 0..tableau.basics().len() {
-        if !tableau.right(row).is_zero() {
+        if tableau.right_sign(row) != 0 {
             mask &= !(1 << (tableau.basic(row) - 1));
         }
     }
@@ -62,7 +62,7 @@ fn number(vertex: &Vertex) -> u128
 fn values(alloc: Global, tableau: &Tableau, variables: &[u32]) -> Result<Vec<Frac>, Memory>
     ensures { IfOk result (λ v. v.items ≡ values_of tableau.now variables.now) }
 {
-    let mut values = Vec::new(alloc);
+    let mut values = Vec::with_capacity(alloc, variables.len())?;
     for variable in variables {
         values.push(tableau.value(*variable))?;
     }

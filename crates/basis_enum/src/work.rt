@@ -8,7 +8,8 @@ const PIECES_PER_WORKER: usize = 16;
 /// enough pieces each.
 pub(crate) fn sharers(pieces: usize, workers: u32) -> u32
     requires { (1 ≤ workers) × (workers ≤ 64) }
-    ensures { (1 ≤ result) × (result ≤ 64) }
+    ensures some { 1 ≤ result }
+    ensures asked { result ≤ workers }
 {
     if pieces < 2 {
         return 1;

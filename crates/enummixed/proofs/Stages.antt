@@ -1,5 +1,5 @@
 -- The stages of a game's pairs, one after another
-use Rattle.std.proofs.Common.{ℕ, ◌<◌, ◌≡◌, List, All, Ok, Err, Result, length, map, get_or, sym, subst, subst₂}
+use Rattle.std.proofs.Common.{ℕ, ◌<◌, ◌≡◌, List, All, Ok, Err, Result, length, map, get_or, ap, inl, inr, sym, subst, subst₂}
 use Rattle.std.specs.Prelude.{Contains}
 use Rattle.std.specs.Result.{IsErrAnd}
 use Rattle.std.proofs.lemmas.List.Elements.{All-map, Contains-get_or}
@@ -19,6 +19,7 @@ use Rattle.label_pairing.specs.Stops.{pairs_in}
 use Rattle.label_pairing.proofs.AllPairs.{pairs_together}
 use Rattle.label_pairing.specs.declared.pairing.PairStop.{PairStop}
 use Rattle.label_pairing.specs.declared.pairing.PairStop.TheVariants as pair_stops
+use Rattle.enummixed.specs.BothVertices.{both_vertices_in}
 use Rattle.enummixed.specs.ExtremeText.{VertexPairs, extreme_pairs}
 use Rattle.enummixed.specs.Told.{polytopes_stop, enumeration_stop, pairs_stop, scale_stop}
 use Rattle.enummixed.specs.Used.{all_labels, occurs, used_points, scaling_in}
@@ -76,6 +77,32 @@ after-one one two first = refused_by (enumeration_stop 1) (vertices_in two) >>= 
 
 abbrev pub after-systems : Parts × Parts → Answer MixedStop VertexPairs
 after-systems systems = refused_by (enumeration_stop 0) (vertices_in systems.0) >>= after-one systems.0 systems.1
+
+-- ---- the vertices of both polytopes
+both-values : (a b : VertexList × VertexList) → ◌≡◌ {A = Result (VertexList × VertexList) MixedStop} (Ok a) (Ok b) → a ≡ b
+both-values a b e = cc
+
+no-value : (stop : MixedStop) (a : VertexList × VertexList) → ◌≡◌ {A = Result (VertexList × VertexList) MixedStop} (Err stop) (Ok a) → ⊥
+no-value stop a e = cc
+
+pub both-first : (one two : Parts) (first second : VertexList) → both_vertices_in one two (Ok (first, second)) → vertices_in one (Ok first)
+both-first one two first second h =
+    subst (λ v. vertices_in one (Ok v)) (sym (ap (λ b. b.0) (both-values (first, second) (h.0, h.2.0) h.2.2))) h.1
+
+pub both-second : (one two : Parts) (first second : VertexList) → both_vertices_in one two (Ok (first, second)) → vertices_in two (Ok second)
+both-second one two first second h =
+    subst (λ v. vertices_in two (Ok v)) (sym (ap (λ b. b.1) (both-values (first, second) (h.0, h.2.0) h.2.2))) h.2.1
+
+both-refusal : (one two : Parts) (stop : MixedStop) → Gives stops.Memory (both_vertices_in one two) (Err stop) → Gives stops.Memory (after-systems (one, two)) (Err stop)
+both-refusal one two stop (inl m) = inl m
+both-refusal one two stop (inr (inl h)) = inr (inl h)
+both-refusal one two stop (inr (inr (v, h, inl k))) = inr (inr (v, h, inl k))
+both-refusal one two stop (inr (inr (v, h, inr k))) = absurd (no-value stop (v, k.0) k.2)
+
+pub both-exit : {X : Type 0} (one two : Parts) (stop : MixedStop) (r : Result X MixedStop) (view : X → VertexPairs) → Gives stops.Memory (both_vertices_in one two) (Err stop) → IsErrAnd r (λ q. q ≡ stop) → Gives stops.Memory (after-systems (one, two)) (map_ok r view)
+both-exit one two stop (Ok x) view g e = elim e [ ]
+both-exit one two stop (Err q) view g e =
+    subst (λ s. Gives stops.Memory (after-systems (one, two)) (Err s)) (sym e) (both-refusal one two stop g)
 
 module _ {X : Type 0} (game : Game) (one two : Parts) (p : ArePolytopes game one two) (r : Result X MixedStop) (view : X → VertexPairs) where
   pub up-systems : Gives stops.Memory (after-systems (one, two)) (map_ok r view) → Gives stops.Memory (extreme_pairs game) (map_ok r view)

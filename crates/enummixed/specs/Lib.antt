@@ -1,3 +1,4 @@
+pub mod BothVertices
 pub mod ExtremeText
 pub mod Laws
 pub mod Order

@@ -7,6 +7,7 @@ ghost use Rattle.basis_enum.specs.Enumeration.{vertices_in};
 ghost use Rattle.basis_enum.specs.Vertices.{marks_of, list_of};
 ghost use Rattle.label_pairing.specs.Pairs.{mark_at};
 ghost use Rattle.label_pairing.specs.Scaling.{IsScalable};
+ghost use Rattle.enummixed.specs.BothVertices.{both_lists_of, both_vertices_in};
 ghost use Rattle.enummixed.specs.ExtremeText.{extreme_pairs};
 ghost use Rattle.enummixed.specs.Pairs.{pairs_of, AreScaled};
 ghost use Rattle.enummixed.specs.Told.{enumeration_stop, scale_stop};
@@ -26,7 +27,7 @@ use reply_polytope::polytopes;
 use std::alloc::Global;
 use std::marker::{Brand, Sync};
 use std::sync::ledger::{Blank, Ledger};
-use std::thread::Threads;
+use std::thread::{Threads, join};
 
 /// The vertices of both polytopes of a table, and the pairs of them that make its extreme
 /// equilibria.
@@ -44,6 +45,9 @@ pub struct ExtremePairs {
     /// The second player's probabilities likewise.
     pub seconds: Vec<Vec<Frac>>,
 }
+
+// The fewest workers that are worth a group for each polytope.
+const SIDE_BY_SIDE: u32 = 4;
 
 // The vertices of a system. The steps are counted on a blank, and the count is not used.
 fn enumerated<R: Threads + Sync, G: Gate, L: Ledger>(
@@ -83,6 +87,90 @@ fn vertices_of<R: Threads + Sync, G: Gate>(
     match enumerated::<R, G, Brand>(rt, alloc, system, workers, gate, Blank::new(1)) {
         Ok(vertices) => Ok(vertices),
         Err(stop) => Err(MixedStop::of_enumeration(polytope, stop)),
+    }
+}
+
+// The vertices of the first polytope, and then of the second.
+fn one_by_one<R: Threads + Sync, G: Gate>(
+    rt: &R,
+    alloc: Global,
+    one: &System,
+    two: &System,
+    workers: u32,
+    gate: &G,
+) -> Result<(Vertices, Vertices), MixedStop>
+    requires one { IsEnumerable one.now }
+    requires two { IsEnumerable two.now }
+    requires workers { (1 ≤ workers) × (workers ≤ 64) }
+    ensures vertices { Gives stops.Memory (both_vertices_in one.now two.now)
+        (map_ok result both_lists_of) }
+    ensures few { IfOk result (λ both. (both.0.bases ≤ 20000) × (both.1.bases ≤ 20000)) }
+{
+    let first = vertices_of(rt, alloc, 0, one, workers, gate)?;
+    let second = vertices_of(rt, alloc, 1, two, workers, gate)?;
+    Ok((first, second))
+}
+
+// The vertices of both polytopes at once, each by half of the workers.
+fn side_by_side<R: Threads + Sync, G: Gate>(
+    rt: &R,
+    alloc: Global,
+    one: &System,
+    two: &System,
+    workers: u32,
+    gate: &G,
+) -> Result<(Vertices, Vertices), MixedStop>
+    requires one { IsEnumerable one.now }
+    requires two { IsEnumerable two.now }
+    requires workers { (2 ≤ workers) × (workers ≤ 64) }
+    ensures vertices { Gives stops.Memory (both_vertices_in one.now two.now)
+        (map_ok result both_lists_of) }
+    ensures few { IfOk result (λ both. (both.0.bases ≤ 20000) × (both.1.bases ≤ 20000)) }
+{
+    let theirs = workers / 2;
+    let ours = workers - theirs;
+    let (first, second) = join(
+        rt,
+        || -> Result<Vertices, MixedStop>
+            requires one { IsEnumerable one.now }
+            requires workers { (1 ≤ ours) × (ours ≤ 64) }
+            ensures vertices { Gives stops.Memory
+                (refused_by (enumeration_stop 0) (vertices_in one.entry.now))
+                (map_ok result list_of) }
+            ensures few { IfOk result (λ v. v.bases ≤ 20000) }
+        { vertices_of(rt, alloc, 0, one, ours, gate) },
+        || -> Result<Vertices, MixedStop>
+            requires two { IsEnumerable two.now }
+            requires workers { (1 ≤ theirs) × (theirs ≤ 64) }
+            ensures vertices { Gives stops.Memory
+                (refused_by (enumeration_stop 1) (vertices_in two.entry.now))
+                (map_ok result list_of) }
+            ensures few { IfOk result (λ v. v.bases ≤ 20000) }
+        { vertices_of(rt, alloc, 1, two, theirs, gate) },
+    );
+    Ok((first?, second?))
+}
+
+// The vertices of both polytopes.
+fn both_vertices<R: Threads + Sync, G: Gate>(
+    rt: &R,
+    alloc: Global,
+    one: &System,
+    two: &System,
+    workers: u32,
+    gate: &G,
+) -> Result<(Vertices, Vertices), MixedStop>
+    requires one { IsEnumerable one.now }
+    requires two { IsEnumerable two.now }
+    requires workers { (1 ≤ workers) × (workers ≤ 64) }
+    ensures vertices { Gives stops.Memory (both_vertices_in one.now two.now)
+        (map_ok result both_lists_of) }
+    ensures few { IfOk result (λ both. (both.0.bases ≤ 20000) × (both.1.bases ≤ 20000)) }
+{
+    if workers < SIDE_BY_SIDE {
+        one_by_one(rt, alloc, one, two, workers, gate)
+    } else {
+        side_by_side(rt, alloc, one, two, workers, gate)
     }
 }
 
@@ -126,7 +214,8 @@ fn scaled(
 
 /// The vertices of both polytopes of a table, and the pairs of them that together have all labels,
 /// with the points of these vertices scaled. The pairs are as many as the extreme equilibria. So
-/// many workers enumerate the vertices, and the answer is the same for any number of them.
+/// many workers enumerate the vertices, four or more of them those of both polytopes at once, and
+/// the answer is the same for any number of them.
 ///
 /// # Errors
 ///
@@ -147,8 +236,7 @@ pub fn extreme_pairs<R: Threads + Sync, G: Gate>(
     ensures scaled { IfOk result AreScaled }
 {
     let (one, two) = polytopes(alloc, table)?;
-    let first = vertices_of(rt, alloc, 0, &one, workers, gate)?;
-    let second = vertices_of(rt, alloc, 1, &two, workers, gate)?;
+    let (first, second) = both_vertices(rt, alloc, &one, &two, workers, gate)?;
     let labels = all_labels(one.basics().len() + one.nonbasics().len());
     let pairs = pairs(rt, alloc, &first.list, &second.list, labels)?;
     let first_used = first_places(alloc, &pairs)?;

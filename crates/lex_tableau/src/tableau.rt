@@ -68,7 +68,7 @@ fn sign_at(numbers: &[i128], first: usize, place: usize) -> i8
 fn copied(alloc: Global, xs: &[u32]) -> Result<Vec<u32>, Memory>
     ensures { IfOk result (λ v. v.items ≡ xs.now) }
 {
-    let mut copy = Vec::new(alloc);
+    let mut copy = Vec::with_capacity(alloc, xs.len())?;
     for x in xs {
         copy.push(*x)?;
     }
@@ -204,6 +204,19 @@ impl Tableau {
         ensures valid { IsTableau self.now }
     {
         fraction_at(
+            self.numbers.as_slice(),
+            row * (self.nonbasics.len() + 2),
+            self.nonbasics.len() + 1,
+        )
+    }
+
+    /// The sign of the right side of a row: -1, 0 or 1. The fraction is not formed.
+    pub fn right_sign(&self, row: usize) -> i8
+        requires { row < length self.now.basics }
+        ensures value { result ≡ sign_of ((tableau self.now).right row) }
+        ensures valid { IsTableau self.now }
+    {
+        sign_at(
             self.numbers.as_slice(),
             row * (self.nonbasics.len() + 2),
             self.nonbasics.len() + 1,
