@@ -8,13 +8,16 @@ use Rattle.std.specs.Prelude.{All}
 use Rattle.std.specs.List.{AllByRecursion}
 use Rattle.game_core.specs.declared.too_large.What.{What}
 use Rattle.game_core.specs.declared.too_large.What.TheVariants.{Nodes, Depth}
+use Rattle.game_core.specs.declared.tree.Kind.{Kind}
 use Rattle.game_core.specs.declared.tree.Node.{Node}
 use Rattle.game_core.specs.Tree.{most_nodes, most_depth}
-use Rattle.written_trees.specs.Building.{PartialTree, PartialSet, Branching, take_branch, add_branches, passed_at}
+use Rattle.written_trees.specs.Building.{PartialTree, PartialSet, PartialOutcome, Branching, take_branch, add_branches, partial_count, passed_at, passed}
 use Rattle.efg_reader.specs.declared.builder.Branching.{Branching as Kept}
 use Rattle.efg_reader.specs.declared.sets.KeptSet.{KeptSet}
 use Rattle.efg_reader.specs.Uses.{partial_set}
-use Rattle.efg_reader.specs.States.{branching_of, branchings_of, IsNear, HasTaken}
+use Rattle.efg_reader.specs.States.{branching_of, branchings_of, nodes_of, tree_of, IsNear, HasTaken}
+use Rattle.efg_reader.specs.PartialCodes.{PartialNodes}
+use Rattle.efg_reader.specs.TreeReading.{grown_at, grown}
 
 -- ---- a list kept in reverse
 -- the last one kept is the first branching
@@ -149,3 +152,39 @@ near_after partial place taken added k count nodes longer room near was is = go 
         let deep : place.depth + 1 ≡ suc b.depth = omega (arith, ap (λ (b : Branching). b.depth) was.0) in
         let all : branchings_of added ≡ add_branches k count (suc b.depth) (take_branch b rest) = is ∙ rw (deep, was.1) refl in
         rw (longer, all) (near_grown partial b rest k count room near)
+
+-- ---- a further node
+-- the limits are those of the nodes alone
+pub same_room : (nodes : PartialNodes) (sets others : List PartialSet) (outcomes more : List PartialOutcome) → passed (tree_of nodes sets outcomes) ≡ passed (tree_of nodes others more)
+same_room nodes sets others outcomes more = go nodes.branchings
+  where
+    go : (branchings : List Branching) → passed_at (tree_of nodes sets outcomes) branchings ≡ passed_at (tree_of nodes others more) branchings
+    go [] = refl
+    go (b ∷ rest) = refl
+
+-- where nothing was taken, nothing branches
+pub none_taken : (branchings after : List Branching) → HasTaken branchings None after → branchings ≡ []
+none_taken [] after h = refl
+none_taken (b ∷ rest) after h = absurd h
+
+-- where the first place is taken within the limits, it and the nodes lie below them
+pub room_for : (partial : PartialTree) (place : Kept) (taken : List Branching) → passed partial ≡ None → HasTaken partial.branchings (Some place) taken → (length partial.nodes < most_nodes) × (place.depth ≤ most_depth)
+room_for partial place taken room was = go partial.branchings room was
+  where
+    go : (branchings : List Branching) → passed_at partial branchings ≡ None → HasTaken branchings (Some place) taken → (length partial.nodes < most_nodes) × (place.depth ≤ most_depth)
+    go [] room was = cc
+    go (b ∷ rest) room was = let below = has_room partial b rest room in (below.0, omega (arith, below.1, ap (λ (b : Branching). b.depth) was.0))
+
+-- the tree with a further node, as the code keeps it
+pub grown_is : (nodes : PartialNodes) (sets : List PartialSet) (outcomes : List PartialOutcome) (kind : Kind) (set outcome : Option ℕ) (place : Kept) (taken added : List Kept) (list : List Node) (k count : ℕ) → k ≡ length nodes.list → count ≡ partial_count sets set
+    → HasTaken nodes.branchings (Some place) (branchings_of taken) → branchings_of added ≡ add_branches k count (place.depth + 1) (branchings_of taken) → list ≡ nodes.list ++ record { kind = kind; parent = place.node; branch = place.next; set = set; outcome = outcome } ∷ []
+    → grown (tree_of nodes sets outcomes) kind set outcome ≡ Some (tree_of (nodes_of list added) sets outcomes)
+grown_is nodes sets outcomes kind set outcome place taken added list k count at counted was is longer = go nodes.branchings was
+  where
+    go : (branchings : List Branching) → HasTaken branchings (Some place) (branchings_of taken) → grown_at (tree_of nodes sets outcomes) kind set outcome branchings ≡ Some (tree_of (nodes_of list added) sets outcomes)
+    go [] was = cc
+    go (b ∷ rest) was =
+        let deep : place.depth + 1 ≡ suc b.depth = omega (arith, ap (λ (b : Branching). b.depth) was.0) in
+        let all : branchings_of added ≡ add_branches (length nodes.list) (partial_count sets set) (suc b.depth) (take_branch b rest) = is ∙ rw (deep, was.1, at, counted) refl in
+        let nodes_are : list ≡ nodes.list ++ record { kind = kind; parent = b.node; branch = b.next; set = set; outcome = outcome } ∷ [] = longer ∙ ap (λ (b : Branching). nodes.list ++ record { kind = kind; parent = b.node; branch = b.next; set = set; outcome = outcome } ∷ []) was.0 in
+        λ i. Some (record { nodes = sym nodes_are i; sets = sets; outcomes = outcomes; branchings = sym all i })

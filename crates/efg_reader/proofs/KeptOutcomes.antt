@@ -16,7 +16,7 @@ use Rattle.file_parts.proofs.Readers.{chain}
 use Rattle.written_trees.specs.Building.{PartialOutcome, outcome_place}
 use Rattle.written_trees.proofs.InsertedKeys.{position-none, position-map, insert_key-known, insert_key-new}
 use Rattle.efg_reader.specs.declared.outcomes.KeptOutcome.{KeptOutcome}
-use Rattle.efg_reader.specs.declared.outcomes.Outcomes.{Outcomes}
+use Rattle.efg_reader.specs.declared.outcomes.Outcomes.TheInside.{Inside as Kept}
 use Rattle.efg_reader.specs.Uses.{partial_outcome, partial_outcomes, AreOutcomes}
 use Rattle.efg_reader.specs.TreeParsing.{bare_outcome_use, parse_first_payoffs, parse_later_payoffs, parse_outcome_use, parse_named}
 use Rattle.efg_reader.specs.declared.kinds.EfgKind.{EfgKind}
@@ -41,7 +41,7 @@ step_is : (players label : ℕ) (outcomes : List PartialOutcome) (name : Option 
 unfolding parse_named
 step_is players label outcomes name tokens following text = rw (← text) refl
 
-module _ (players label : ℕ) (old : Outcomes) (are : AreOutcomes old) where
+module _ (players label : ℕ) (old : Kept) (are : AreOutcomes old) where
   -- whether the label is known
   abbrev is_known : Bool
   is_known = list_any (nat_eq label) old.labels.keys
@@ -70,7 +70,7 @@ module _ (players label : ℕ) (old : Outcomes) (are : AreOutcomes old) where
         slice_get_past (partial_outcomes old) (outcome_place (partial_outcomes old) label) past
 
     -- the outcomes are kept, with the new one
-    pub first_kept : (after : Outcomes) (one : KeptOutcome) → after.labels.keys ≡ insert_key nat_eq old.labels.keys label → after.list.items ≡ old.list.items ++ one ∷ [] → one.label ≡ label → AreOutcomes after
+    pub first_kept : (after : Kept) (one : KeptOutcome) → after.labels.keys ≡ insert_key nat_eq old.labels.keys label → after.list.items ≡ old.list.items ++ one ∷ [] → one.label ≡ label → AreOutcomes after
     first_kept after one keys list own =
         let labels : insert_key nat_eq old.labels.keys label ≡ map label_of old.list.items ++ one.label ∷ [] = insert_key-new nat_eq Decides-eqb old.labels.keys label new ∙ ap₂ (λ front l. front ++ l ∷ []) are.labels_are (sym own) in
         record { labels_are = keys ∙ labels ∙ sym (map-append label_of old.list.items (one ∷ [])) ∙ ap (map label_of) (sym list) }
@@ -109,7 +109,7 @@ module _ (players label : ℕ) (old : Outcomes) (are : AreOutcomes old) where
         ∙ ap Some (get_or-map partial_outcome old.list.items place before (partial_outcome before) inside ∙ ap partial_outcome (sym stands))
 
     -- the outcomes are kept, with the one that goes on
-    pub later_kept : (later : Outcomes) (after : KeptOutcome) → later.labels.keys ≡ insert_key nat_eq old.labels.keys label → later.list.items ≡ slice_set old.list.items place after → after.label ≡ before.label → AreOutcomes later
+    pub later_kept : (later : Kept) (after : KeptOutcome) → later.labels.keys ≡ insert_key nat_eq old.labels.keys label → later.list.items ≡ slice_set old.list.items place after → after.label ≡ before.label → AreOutcomes later
     later_kept later after keys list own =
         let labels : map label_of (slice_set old.list.items place after) ≡ map label_of old.list.items = map-set_same label_of old.list.items place after before (own ∙ ap label_of stands) in
         record { labels_are = keys ∙ insert_key-known nat_eq Decides-eqb old.labels.keys label known ∙ are.labels_are ∙ sym labels ∙ ap (map label_of) (sym list) }

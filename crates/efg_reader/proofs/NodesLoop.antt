@@ -3,7 +3,8 @@ use Rattle.std.proofs.Common.{◌≡◌, ℕ, zero, suc, ◌<◌, ◌≢◌, nat
 use Rattle.std.specs.List.{AllByRecursion}
 use Rattle.game_core.specs.declared.too_large.What.{What}
 use Rattle.game_core.specs.Spacing.{IsShortToken}
-use Rattle.std.specs.Prelude.{vec_len}
+use Rattle.std.specs.Prelude.{Vec, vec_len}
+use Rattle.std.specs.Global.{Global}
 use Rattle.std.proofs.lemmas.List.{length-map, length-reverse}
 use Rattle.file_parts.specs.declared.refusal.Refusal.{Refusal}
 use Rattle.file_parts.specs.declared.refusal.Refusal.TheVariants as refusals
@@ -12,10 +13,10 @@ use Rattle.file_parts.specs.Parsing.{counted, IsRefusal}
 use Rattle.file_parts.proofs.Readers.{err_same}
 use Rattle.file_parts.proofs.Values.{value}
 use Rattle.written_trees.specs.Building.{PartialTree, Branching, root_alone, passed}
-use Rattle.efg_reader.specs.declared.builder.Builder.{Builder}
+use Rattle.efg_reader.specs.declared.builder.Branching.{Branching as Kept}
 use Rattle.efg_reader.specs.declared.nodes.Stop.{Stop}
 use Rattle.efg_reader.specs.declared.nodes.Stop.TheVariants.{Refused, Passed}
-use Rattle.efg_reader.specs.States.{partial_of, branching_of, branchings_of, RefusesNode, RefusesNodes}
+use Rattle.efg_reader.specs.States.{branching_of, branchings_of, RefusesNode, RefusesNodes}
 use Rattle.efg_reader.specs.TreeReading.{begins_node, next_at, one_more_at, is_whole, nodes_at, whole_nodes_at, and_then}
 use Rattle.efg_reader.specs.TreeParsing.{parse_next, parse_at, parse_nodes, parse_all_nodes}
 use Rattle.efg_reader.specs.declared.kinds.EfgKind.{EfgKind}
@@ -142,11 +143,10 @@ more_after players partial tokens rest refusal w way f u =
 
 -- ---- the places
 -- whether the tree is whole, by the branchings that are kept
-pub whole_by_kept : (builder : Builder) (v : Bool) → v ≡ nat_eq (vec_len builder.branchings) 0 → is_whole (partial_of builder) ≡ v
-whole_by_kept builder v e =
-    let kept = builder.branchings in
+pub whole_by_kept : (kept : Vec Kept Global) (v : Bool) → v ≡ nat_eq (vec_len kept) 0 → v ≡ nat_eq (length (branchings_of kept.items)) 0
+whole_by_kept kept v e =
     let same : length (branchings_of kept.items) ≡ vec_len kept = length-reverse (map branching_of kept.items) ∙ length-map kept.items branching_of ∙ sym kept.ok.0 in
-    ap (λ (n : ℕ). nat_eq n 0) same ∙ sym e
+    e ∙ ap (λ (n : ℕ). nat_eq n 0) (sym same)
 
 -- where the tree is not whole, something branches
 pub some_branching : (partial : PartialTree) → is_whole partial ≡ false → partial.branchings ≢ []

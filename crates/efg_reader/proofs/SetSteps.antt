@@ -17,7 +17,7 @@ use Rattle.written_trees.proofs.InsertedKeys.{position-map, slice_get-none}
 use Rattle.written_trees.proofs.Lists.{map-map}
 use Rattle.efg_reader.specs.declared.sets.KeptSet.{KeptSet}
 use Rattle.efg_reader.specs.declared.sets.SetKey.{SetKey as Key}
-use Rattle.efg_reader.specs.declared.sets.Sets.{Sets}
+use Rattle.efg_reader.specs.declared.sets.Sets.TheInside.{Inside as KeptSets}
 use Rattle.efg_reader.specs.Uses.{partial_set, partial_sets, AreSets}
 use Rattle.efg_reader.specs.TreeReading.{positive_at}
 use Rattle.efg_reader.specs.TreeParsing.{bare_use, parse_first_list, parse_later_list, parse_use, parse_set}
@@ -55,7 +55,7 @@ negated false true e = refl
 negated false false e = e
 
 -- what is known of the set that comes, before its list
-pub record Comes (sets : Sets) (owner : Option ℕ) (tokens after : List Token) (label : ℕ) (name : Option (List ℕ)) (place : ℕ) (is_new : Bool) : Type 0 where
+pub record Comes (sets : KeptSets) (owner : Option ℕ) (tokens after : List Token) (label : ℕ) (name : Option (List ℕ)) (place : ℕ) (is_new : Bool) : Type 0 where
   pub are : AreSets sets
   pub following : List Token
   pub is_label : positive_at tokens ≡ Some (label, following)
@@ -79,7 +79,7 @@ step_is : (k : ℕ) (sets : List PartialSet) (owner : Option ℕ) (label : ℕ) 
 unfolding parse_set
 step_is k sets owner label name tokens following after l n = rw (l, ← n) refl
 
-module _ {sets : Sets} {owner : Option ℕ} {tokens after : List Token} {label : ℕ} {name : Option (List ℕ)} {place : ℕ} {is_new : Bool} (h : Comes sets owner tokens after label name place is_new) where
+module _ {sets : KeptSets} {owner : Option ℕ} {tokens after : List Token} {label : ℕ} {name : Option (List ℕ)} {place : ℕ} {is_new : Bool} (h : Comes sets owner tokens after label name place is_new) where
   -- the keys are those of the sets that are partial
   keys_so_far : map {B = SetKey} (λ k. (k.owner, k.label)) sets.keys.keys ≡ map key_of_partial (partial_sets sets)
   keys_so_far = h.are.keys_are ∙ sym (map-map key_of_partial partial_set sets.list.items)
@@ -118,7 +118,7 @@ module _ {sets : Sets} {owner : Option ℕ} {tokens after : List Token} {label :
   first_refused k refusal new r = rw (step_begins k new) (refused_first refusal _ _ (refused_first refusal (parse_first_list owner label after) _ r))
 
   -- a set was partial
-  pub first_used : (k : ℕ) (more : Sets) (set : KeptSet) (rest : List Token) → is_new ≡ true → parse_first_list owner label after ≡ Ok (set.actions.items, rest) → partial_set set ≡ new_set k (bare_use owner label name) set.actions.items → more.list.items ≡ sets.list.items ++ set ∷ []
+  pub first_used : (k : ℕ) (more : KeptSets) (set : KeptSet) (rest : List Token) → is_new ≡ true → parse_first_list owner label after ≡ Ok (set.actions.items, rest) → partial_set set ≡ new_set k (bare_use owner label name) set.actions.items → more.list.items ≡ sets.list.items ++ set ∷ []
       → parse_set k (partial_sets sets) owner tokens ≡ Ok ((partial_sets more, place), rest)
   first_used k more set rest new read is list = rw (list, map-append partial_set sets.list.items (set ∷ []), is) (step_begins k new ∙ rw read refl)
 
@@ -127,13 +127,13 @@ module _ {sets : Sets} {owner : Option ℕ} {tokens after : List Token} {label :
   later_refused k set refusal known is r = rw (step_goes_on k set (stands_at sets.list.items place set (known_within known) is)) (refused_first refusal _ _ (refused_first refusal (parse_later_list set.owner set.actions.items after) _ r))
 
   -- a set was used again
-  pub later_used : (k : ℕ) (more : Sets) (set next : KeptSet) (rest : List Token) → is_new ≡ false → set ≡ get_or sets.list.items place set → parse_later_list set.owner set.actions.items after ≡ Ok (tt, rest) → partial_set next ≡ used_set k (bare_use owner label name) (partial_set set)
+  pub later_used : (k : ℕ) (more : KeptSets) (set next : KeptSet) (rest : List Token) → is_new ≡ false → set ≡ get_or sets.list.items place set → parse_later_list set.owner set.actions.items after ≡ Ok (tt, rest) → partial_set next ≡ used_set k (bare_use owner label name) (partial_set set)
       → more.list.items ≡ slice_set sets.list.items place next → parse_set k (partial_sets sets) owner tokens ≡ Ok ((partial_sets more, place), rest)
   later_used k more set next rest known is read next_is list = rw (list, map-set partial_set sets.list.items place next, next_is) (step_goes_on k set (stands_at sets.list.items place set (known_within known) is) ∙ rw read (ap (λ (p : ℕ). Ok ((slice_set (partial_sets sets) p (used_set k (bare_use owner label name) (partial_set set)), place), rest)) (sym place_partial)))
 
 -- ---- what stays true of the sets
 -- with a set of a first use
-pub sets_begin : (sets more : Sets) (k : ℕ) (key : Key) (name : Option (List ℕ)) (set : KeptSet) (is_new : Bool) → AreSets sets → is_new ≡ true → more.keys.keys ≡ (if is_new then sets.keys.keys ++ key ∷ [] else sets.keys.keys) → more.list.items ≡ sets.list.items ++ set ∷ []
+pub sets_begin : (sets more : KeptSets) (k : ℕ) (key : Key) (name : Option (List ℕ)) (set : KeptSet) (is_new : Bool) → AreSets sets → is_new ≡ true → more.keys.keys ≡ (if is_new then sets.keys.keys ++ key ∷ [] else sets.keys.keys) → more.list.items ≡ sets.list.items ++ set ∷ []
     → partial_set set ≡ new_set k (bare_use key.owner key.label name) set.actions.items → AreSets more
 sets_begin sets more k key name set is_new are new keys list is =
     let of_key : Key → SetKey = λ k. (k.owner, k.label) in
@@ -143,7 +143,7 @@ sets_begin sets more k key name set is_new are new keys list is =
     record { keys_are = rw (added, list) (map-append of_key sets.keys.keys (key ∷ []) ∙ ap₂ (λ front one. front ++ one ∷ []) are.keys_are last ∙ sym (map-append of_set sets.list.items (set ∷ []))) }
 
 -- with a set that is used again
-pub sets_go_on : (sets more : Sets) (k : ℕ) (key : Key) (name : Option (List ℕ)) (place : ℕ) (set next : KeptSet) (is_new : Bool) → AreSets sets → is_new ≡ false → more.keys.keys ≡ (if is_new then sets.keys.keys ++ key ∷ [] else sets.keys.keys) → set ≡ get_or sets.list.items place set
+pub sets_go_on : (sets more : KeptSets) (k : ℕ) (key : Key) (name : Option (List ℕ)) (place : ℕ) (set next : KeptSet) (is_new : Bool) → AreSets sets → is_new ≡ false → more.keys.keys ≡ (if is_new then sets.keys.keys ++ key ∷ [] else sets.keys.keys) → set ≡ get_or sets.list.items place set
     → more.list.items ≡ slice_set sets.list.items place next → partial_set next ≡ used_set k (bare_use key.owner key.label name) (partial_set set) → AreSets more
 sets_go_on sets more k key name place set next is_new are known keys is list next_is =
     let of_set : KeptSet → SetKey = λ s. (s.owner, s.label) in

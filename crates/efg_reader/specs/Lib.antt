@@ -1,4 +1,5 @@
 pub mod FaultKinds
+pub mod PartialCodes
 pub mod States
 pub mod Stops
 pub mod TreeFaults

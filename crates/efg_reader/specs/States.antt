@@ -3,14 +3,14 @@ use Rattle.std.specs.Prelude.{ℕ, suc, ◌≤◌, ◌≡◌, List, [], ◌∷�
 use Rattle.std.specs.List.{AllByRecursion}
 use Rattle.game_core.specs.Tree.{most_nodes, most_depth}
 use Rattle.game_core.specs.declared.token.Token.{Token}
+use Rattle.game_core.specs.declared.tree.Node.{Node}
 use Rattle.file_parts.specs.declared.refusal.Refusal.TheVariants as refusals
 use Rattle.file_parts.specs.Parsing.{counted, IsRefusal}
-use Rattle.written_trees.specs.Building.{PartialTree, Branching, take_branch, passed}
-use Rattle.efg_reader.specs.Uses.{partial_sets, partial_outcomes, AreSets, AreOutcomes}
+use Rattle.written_trees.specs.Building.{PartialTree, PartialSet, PartialOutcome, Branching, take_branch, passed}
+use Rattle.efg_reader.specs.PartialCodes.{PartialNodes}
 use Rattle.efg_reader.specs.TreeReading.{begins_node, whole_nodes_at}
 use Rattle.efg_reader.specs.TreeParsing.{parse_at, parse_all_nodes}
 use Rattle.efg_reader.specs.declared.builder.Branching.{Branching as Kept}
-use Rattle.efg_reader.specs.declared.builder.Builder.{Builder}
 use Rattle.efg_reader.specs.declared.nodes.Stop.{Stop}
 use Rattle.efg_reader.specs.declared.nodes.Stop.TheVariants.{Refused, Passed}
 
@@ -22,28 +22,28 @@ branching_of b = record { node = b.node; next = b.next; count = b.count; depth =
 abbrev pub branchings_of : List Kept → List Branching
 branchings_of kept = reverse (map branching_of kept)
 
--- the tree as far as it is partial
-abbrev pub partial_of : Builder → PartialTree
-partial_of builder = record {
-  nodes = builder.nodes.items;
-  sets = partial_sets builder.sets;
-  outcomes = partial_outcomes builder.outcomes;
-  branchings = branchings_of builder.branchings.items;
-}
+-- nodes, and those of them with open branches
+abbrev pub nodes_of : List Node → List Kept → PartialNodes
+nodes_of nodes kept = record { list = nodes; branchings = branchings_of kept }
+
+-- the tree of these nodes, sets and outcomes, as far as it is partial
+abbrev pub tree_of : PartialNodes → List PartialSet → List PartialOutcome → PartialTree
+tree_of nodes sets outcomes = record { nodes = nodes.list; sets = sets; outcomes = outcomes; branchings = nodes.branchings }
 
 -- a branching among so many nodes: each of its actions before the next led to one of them, and it lies within the limit
 pub record IsNear (nodes : ℕ) (b : Branching) : Type 0 where
   pub next_within : b.next ≤ nodes
   pub depth_within : b.depth ≤ suc most_depth
 
--- what the reader keeps to between two nodes
-pub record IsBuilder (builder : Builder) : Type 0 where
-  pub sets : AreSets builder.sets
-  pub outcomes : AreOutcomes builder.outcomes
-  pub few_nodes : length builder.nodes.items ≤ most_nodes
-  pub few_sets : length builder.sets.list.items ≤ length builder.nodes.items
-  pub few_outcomes : length builder.outcomes.list.items ≤ length builder.nodes.items
-  pub near : AllByRecursion (IsNear (length builder.nodes.items)) (branchings_of builder.branchings.items)
+-- no more nodes than a tree may have, and near branchings
+pub record AreNodes (nodes : PartialNodes) : Type 0 where
+  pub few : length nodes.list ≤ most_nodes
+  pub near : AllByRecursion (IsNear (length nodes.list)) nodes.branchings
+
+-- no more sets than nodes, and no more outcomes
+pub record IsBuilder (tree : PartialTree) : Type 0 where
+  pub few_sets : length tree.sets ≤ length tree.nodes
+  pub few_outcomes : length tree.outcomes ≤ length tree.nodes
 
 -- the first open branch was taken, where there was one
 abbrev pub HasTaken : List Branching → Option Kept → List Branching → Type 0

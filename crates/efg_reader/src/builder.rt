@@ -1,17 +1,14 @@
 // The tree as far as it is partial.
-ghost use Rattle.std.specs.Prelude.{◌≡◌, ◌≢◌, ◌<◌, ◌≤◌, suc, [], None, Some, All, length, IfOk, OnOk};
-ghost use Rattle.std.specs.List.{AllByRecursion};
-ghost use Rattle.game_core.specs.Tree.{most_nodes};
-ghost use Rattle.written_trees.specs.Building.{passed, root_alone, partial_count, add_branches};
-ghost use Rattle.efg_reader.specs.Uses.{partial_sets};
-ghost use Rattle.efg_reader.specs.TreeReading.{grown};
-ghost use Rattle.efg_reader.specs.States.{partial_of, branchings_of, IsNear, IsBuilder, HasTaken};
+ghost use Rattle.std.specs.Prelude.{◌≡◌, ◌≢◌, ◌<◌, suc, List, [], None, Some, All, length, IfOk, OnOk};
+ghost use Rattle.written_trees.specs.Building.{PartialOutcome, passed, root_alone, add_branches};
+ghost use Rattle.efg_reader.specs.TreeReading.{grown, is_whole};
+ghost use Rattle.efg_reader.specs.States.{branchings_of, tree_of, HasTaken};
 
 use crate::outcomes::Outcomes;
 use crate::sets::Sets;
 use game_core::{Kind, Node, What};
-use indexmap::IndexSet;
 use std::alloc::{AllocError, Global};
+use std::marker::Model;
 
 /// The most nodes of a tree.
 const MOST_NODES: usize = 65536;
@@ -41,17 +38,53 @@ pub struct Choice {
     pub set: Option<u32>,
 }
 
-/// The tree as far as it is partial.
+/// The nodes of a tree that is partial. There are never more than a tree may have.
+#[derive(Drop)]
+pub struct Nodes {
+    /// The nodes in prefix order.
+    pub list: Vec<Node>,
+    /// The nodes with open branches; the last one has the first of them.
+    pub branchings: Vec<Branching>,
+}
+
+impl Model for Nodes {
+    ghost use Rattle.efg_reader.specs.PartialCodes.{PartialNodes, code_of_partial_nodes};
+
+    ghost Value = { PartialNodes };
+
+    ghost coded = { code_of_partial_nodes };
+
+    ghost use Rattle.efg_reader.specs.States.{nodes_of, AreNodes};
+
+    ghost view = { λ n. nodes_of n.list.items n.branchings.items };
+
+    ghost invariant = { λ n. AreNodes (nodes_of n.list.items n.branchings.items) };
+}
+
+/// The tree as far as it is partial. There are never more sets than nodes, nor more outcomes.
 #[derive(Drop)]
 pub struct Builder {
-    /// The nodes in prefix order.
-    pub nodes: Vec<Node>,
+    /// The nodes.
+    pub nodes: Nodes,
     /// The sets.
     pub sets: Sets,
     /// The outcomes.
     pub outcomes: Outcomes,
-    /// The nodes with open branches; the last one has the first of them.
-    pub branchings: Vec<Branching>,
+}
+
+impl Model for Builder {
+    ghost use Rattle.written_trees.specs.Building.{PartialTree};
+    ghost use Rattle.efg_reader.specs.PartialCodes.{code_of_partial_tree};
+
+    ghost Value = { PartialTree };
+
+    ghost coded = { code_of_partial_tree };
+
+    ghost use Rattle.efg_reader.specs.States.{tree_of, IsBuilder};
+
+    ghost view = { λ b. tree_of b.nodes b.sets b.outcomes };
+
+    ghost invariant = { λ b. IsBuilder (tree_of b.nodes b.sets b.outcomes) };
 }
 
 // Takes the first open branch.
@@ -91,11 +124,41 @@ fn add_branches(
     Ok(())
 }
 
+impl Nodes {
+    /// These nodes with one more at the first open branch, with this choice and this outcome.
+    pub fn add(self, sets: &Sets, choice: Choice, outcome: Option<u32>) -> Result<Nodes, AllocError>
+        requires free { self.branchings ≢ [] }
+        requires room { passed (tree_of self [] []) ≡ None }
+        ensures grown { IfOk result (λ more. (outcomes : List PartialOutcome)
+            → grown (tree_of self sets.now outcomes) choice.kind choice.set outcome
+            ≡ Some (tree_of more sets.now outcomes)) }
+        ensures longer { IfOk result (λ more. length more.list ≡ suc (length self.list)) }
+    {
+        let Nodes {
+            mut list,
+            mut branchings,
+        } = self;
+        let Some(branching) = take_branch(&mut branchings) else {
+            return Ok(Nodes { list, branchings });
+        };
+        let number = list.len() as u32;
+        let count = sets.count(choice.set);
+        add_branches(&mut branchings, number, count, branching.depth + 1)?;
+        list.push(Node {
+            kind: choice.kind,
+            parent: branching.node,
+            branch: branching.next,
+            set: choice.set,
+            outcome,
+        })?;
+        Ok(Nodes { list, branchings })
+    }
+}
+
 impl Builder {
     /// Nothing but the branch of the root.
     pub fn new(alloc: Global) -> Result<Builder, AllocError>
-        ensures nothing { IfOk result (λ builder. partial_of builder ≡ root_alone) }
-        ensures valid { IfOk result IsBuilder }
+        ensures { IfOk result (λ builder. builder ≡ root_alone) }
     {
         let root = Branching {
             node: None,
@@ -103,79 +166,38 @@ impl Builder {
             count: 1,
             depth: 0,
         };
-        let sets = Sets {
-            keys: IndexSet::new(alloc),
+        let branchings = Vec::from_slice(alloc, &[root])?;
+        let nodes = Nodes {
             list: Vec::new(alloc),
-        };
-        let outcomes = Outcomes {
-            labels: IndexSet::new(alloc),
-            list: Vec::new(alloc),
+            branchings,
         };
         Ok(Builder {
-            nodes: Vec::new(alloc),
-            sets,
-            outcomes,
-            branchings: Vec::from_slice(alloc, &[root])?,
+            nodes,
+            sets: Sets::new(alloc),
+            outcomes: Outcomes::new(alloc),
         })
+    }
+
+    /// Whether no branch is open.
+    pub fn is_whole(&self) -> bool
+        ensures { result ≡ is_whole self.now }
+    {
+        let nodes = &self.nodes;
+        nodes.branchings.is_empty()
     }
 
     /// The limit that a further node would pass.
     pub fn passed(&self) -> Option<What>
-        ensures { result ≡ passed (partial_of self.now) }
+        ensures { result ≡ passed self.now }
     {
-        let branching = self.branchings.last()?;
-        if self.nodes.len() >= MOST_NODES {
+        let nodes = &self.nodes;
+        let branching = nodes.branchings.last()?;
+        if nodes.list.len() >= MOST_NODES {
             Some(What::Nodes)
         } else if branching.depth > MOST_DEPTH {
             Some(What::Depth)
         } else {
             None
         }
-    }
-
-    // How many actions a set has, and none at an end.
-    fn count(&self, set: Option<u32>) -> usize
-        ensures { result ≡ partial_count (partial_sets self.now.sets) set }
-    {
-        match set {
-            None => 0,
-            Some(set) => match self.sets.list.get(set as usize) {
-                Some(set) => set.actions.len(),
-                None => 0,
-            },
-        }
-    }
-
-    /// Adds a node with this choice and this outcome at the first open branch.
-    pub fn add(&mut self, choice: Choice, outcome: Option<u32>) -> Result<(), AllocError>
-        requires near { AllByRecursion (IsNear (length self.old.nodes.items))
-            (branchings_of self.old.branchings.items) }
-        requires free { branchings_of self.old.branchings.items ≢ [] }
-        requires room { passed (partial_of self.old) ≡ None }
-        ensures grown { OnOk result (grown (partial_of self.old) choice.kind choice.set outcome
-            ≡ Some (partial_of self.new)) }
-        ensures near { OnOk result
-            (AllByRecursion (IsNear (length self.new.nodes.items))
-            (branchings_of self.new.branchings.items)) }
-        ensures few_nodes { OnOk result (length self.new.nodes.items ≤ most_nodes) }
-        ensures longer { OnOk result (length self.new.nodes.items
-            ≡ suc (length self.old.nodes.items)) }
-        ensures sets { self.new.sets ≡ self.old.sets }
-        ensures outcomes { self.new.outcomes ≡ self.old.outcomes }
-    {
-        let Some(branching) = take_branch(&mut self.branchings) else {
-            return Ok(());
-        };
-        let number = self.nodes.len() as u32;
-        let count = self.count(choice.set);
-        add_branches(&mut self.branchings, number, count, branching.depth + 1)?;
-        self.nodes.push(Node {
-            kind: choice.kind,
-            parent: branching.node,
-            branch: branching.next,
-            set: choice.set,
-            outcome,
-        })?;
-        Ok(())
     }
 }

@@ -4,7 +4,8 @@
 //! `files_have_one_tree`; `files_are_read`, in both directions; answers are single.
 //! Definitions: `specs::TreeFile` has the grammar, `FaultKinds` the faults of tokens that are no
 //! file, `Stops` what tokens answer.
-//! Private words: `specs::TreeReading`, `States` and `Uses`, what is kept while tokens are read.
+//! Private words: `specs::TreeReading`, `States`, `Uses` and `PartialCodes`, what is kept while
+//! tokens are read.
 //! Lemmas for callers: `proofs::FileStops`.
 //! A change here touches: the trees of docs/FORMAT.md, `gambit_tools` and `refusals`.
 #![tactic(auto)]

@@ -5,8 +5,7 @@ ghost use Rattle.game_core.specs.Spacing.{IsShortToken};
 ghost use Rattle.file_parts.specs.Reading.{kinds};
 ghost use Rattle.file_parts.specs.Parsing.{Parses};
 ghost use Rattle.game_core.specs.Tree.{kind_of_owner};
-ghost use Rattle.efg_reader.specs.Uses.{partial_sets, AreSets};
-ghost use Rattle.efg_reader.specs.States.{partial_of, IsBuilder, ReadsNode, ReadsNodes};
+ghost use Rattle.efg_reader.specs.States.{ReadsNode, ReadsNodes};
 ghost use Rattle.efg_reader.specs.TreeReading.{is_word, begins_node};
 ghost use Rattle.efg_reader.specs.TreeParsing.{parse_set_choice, parse_own_choice, parse_choice, parse_at};
 ghost use Rattle.written_trees.specs.Building.{passed};
@@ -78,12 +77,10 @@ fn set_choice<'a>(
     number: u32,
     tokens: &'a [Spanned],
 ) -> Result<(Sets, Choice, &'a [Spanned]), Refusal<EfgKind>>
-    requires sets { AreSets sets }
-    requires few { length sets.list.items < 4294967295 }
+    requires few { length sets < 4294967295 }
     requires short { AllByRecursion IsShortToken (kinds tokens.now) }
-    ensures sets { IfOk result (λ x. AreSets x.0) }
-    ensures read { Parses (λ x. ((partial_sets x.0, (x.1.kind, x.1.set)), kinds x.2.now)) result
-        (parse_set_choice number (partial_sets sets) owner (kinds tokens.now)) }
+    ensures { Parses (λ x. ((x.0, (x.1.kind, x.1.set)), kinds x.2.now)) result
+        (parse_set_choice number sets owner (kinds tokens.now)) }
 {
     match read_set(alloc, sets, owner, number, tokens) {
         Ok((sets, set, rest)) => {
@@ -106,12 +103,10 @@ fn own_choice<'a>(
     number: u32,
     tokens: &'a [Spanned],
 ) -> Result<(Sets, Choice, &'a [Spanned]), Refusal<EfgKind>>
-    requires sets { AreSets sets }
-    requires few { length sets.list.items < 4294967295 }
+    requires few { length sets < 4294967295 }
     requires short { AllByRecursion IsShortToken (kinds tokens.now) }
-    ensures sets { IfOk result (λ x. AreSets x.0) }
-    ensures read { Parses (λ x. ((partial_sets x.0, (x.1.kind, x.1.set)), kinds x.2.now)) result
-        (parse_own_choice players number (partial_sets sets) (kinds tokens.now)) }
+    ensures { Parses (λ x. ((x.0, (x.1.kind, x.1.set)), kinds x.2.now)) result
+        (parse_own_choice players number sets (kinds tokens.now)) }
 {
     match player(tokens, players) {
         Ok((player, following)) => set_choice(alloc, sets, Some(player), number, following),
@@ -129,12 +124,10 @@ fn choice<'a>(
     number: u32,
     tokens: &'a [Spanned],
 ) -> Result<(Sets, Choice, &'a [Spanned]), Refusal<EfgKind>>
-    requires sets { AreSets sets }
-    requires few { length sets.list.items < 4294967295 }
+    requires few { length sets < 4294967295 }
     requires short { AllByRecursion IsShortToken (kinds tokens.now) }
-    ensures sets { IfOk result (λ x. AreSets x.0) }
-    ensures read { Parses (λ x. ((partial_sets x.0, (x.1.kind, x.1.set)), kinds x.2.now)) result
-        (parse_choice players number (partial_sets sets) (kinds tokens.now)) }
+    ensures { Parses (λ x. ((x.0, (x.1.kind, x.1.set)), kinds x.2.now)) result
+        (parse_choice players number sets (kinds tokens.now)) }
 {
     let Some((word, name_on)) = word(tokens) else {
         return Err(unexpected(EfgKind::Node, tokens));
@@ -164,22 +157,25 @@ fn next<'a>(
     players: u32,
     tokens: &'a [Spanned],
 ) -> Result<(Builder, &'a [Spanned]), Refusal<EfgKind>>
-    requires valid { IsBuilder builder }
     requires begins { begins_node (kinds tokens.now) ≡ true }
-    requires room { passed (partial_of builder) ≡ None }
-    requires free { (partial_of builder).branchings ≢ [] }
+    requires room { passed builder ≡ None }
+    requires free { builder.branchings ≢ [] }
     requires short { AllByRecursion IsShortToken (kinds tokens.now) }
-    ensures valid { IfOk result (λ x. IsBuilder x.0) }
-    ensures read { Parses (λ x. (partial_of x.0, kinds x.1.now)) result
-        (parse_at players (partial_of builder) (partial_of builder).branchings (kinds tokens.now)) }
+    ensures { Parses (λ x. (x.0, kinds x.1.now)) result
+        (parse_at players builder builder.branchings (kinds tokens.now)) }
 {
     let Builder {
         nodes,
         sets,
         outcomes,
-        branchings,
     } = builder;
-    let (sets, choice, following) = match choice(alloc, sets, players, nodes.len() as u32, tokens) {
+    let (sets, choice, following) = match choice(
+        alloc,
+        sets,
+        players,
+        nodes.list.len() as u32,
+        tokens,
+    ) {
         Ok(read) => read,
         Err(refusal) => return Err(refusal),
     };
@@ -192,14 +188,15 @@ fn next<'a>(
         Ok(read) => read,
         Err(refusal) => return Err(refusal),
     };
-    let mut more = Builder {
-        nodes,
-        sets,
-        outcomes,
-        branchings,
-    };
-    match more.add(choice, outcome) {
-        Ok(()) => Ok((more, rest)),
+    match nodes.add(&sets, choice, outcome) {
+        Ok(nodes) => Ok((
+            Builder {
+                nodes,
+                sets,
+                outcomes,
+            },
+            rest,
+        )),
         Err(_) => Err(Refusal::Memory),
     }
 }
@@ -212,13 +209,9 @@ fn one_more<'a>(
     players: u32,
     tokens: &'a [Spanned],
 ) -> Result<(Builder, &'a [Spanned]), Stop>
-    requires valid { IsBuilder builder }
-    requires free { (partial_of builder).branchings ≢ [] }
+    requires free { builder.branchings ≢ [] }
     requires short { AllByRecursion IsShortToken (kinds tokens.now) }
-    ensures valid { IfOk result (λ x. IsBuilder x.0) }
-    ensures read { ReadsNode (λ x. (partial_of x.0, kinds x.1.now)) result players
-        (partial_of builder)
-        (kinds tokens.now) }
+    ensures { ReadsNode (λ x. (x.0, kinds x.1.now)) result players builder (kinds tokens.now) }
 {
     if !begins_node(tokens) {
         return Err(Stop::Refused(unexpected(EfgKind::Node, tokens)));
@@ -235,11 +228,11 @@ fn one_more<'a>(
 /// The tree of all nodes of a file, after which it ends.
 pub fn read_nodes(alloc: Global, players: u32, tokens: &[Spanned]) -> Result<Builder, Stop>
     requires short { AllByRecursion IsShortToken (kinds tokens.now) }
-    ensures { ReadsNodes (λ builder. partial_of builder) result players (kinds tokens.now) }
+    ensures { ReadsNodes (λ builder. builder) result players (kinds tokens.now) }
 {
     let mut builder = Builder::new(alloc)?;
     let mut rest = tokens;
-    while !builder.branchings.is_empty() {
+    while !builder.is_whole() {
         (builder, rest) = match one_more(alloc, builder, players, rest) {
             Ok(read) => read,
             Err(stop) => return Err(stop),

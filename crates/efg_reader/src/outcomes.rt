@@ -1,11 +1,10 @@
 // The outcomes, numbered by their first use.
-ghost use Rattle.std.specs.Prelude.{◌≡◌, ◌<◌, Some, if◌then◌else◌, length, option_map, IfOk, OnOk};
+ghost use Rattle.std.specs.Prelude.{◌≡◌, ◌<◌, [], Some, if◌then◌else◌, length, option_map, IfOk, OnOk};
 ghost use Rattle.std.specs.List.{AllByRecursion};
 ghost use Rattle.game_core.specs.Spacing.{IsShortToken};
 ghost use Rattle.file_parts.specs.declared.refusal.Refusal.TheVariants.{Unexpected};
 ghost use Rattle.file_parts.specs.Reading.{kinds, payoff_start};
 ghost use Rattle.file_parts.specs.Parsing.{Parses, parse_each};
-ghost use Rattle.efg_reader.specs.Uses.{partial_outcomes, AreOutcomes};
 ghost use Rattle.efg_reader.specs.TreeParsing.{closes, parse_payoff, parse_payoffs_end, parse_first_payoffs, parse_same_payoffs, parse_later_payoffs, parse_named, parse_outcome};
 ghost use Rattle.efg_reader.specs.declared.kinds.EfgKind.TheVariants.{Node, OutcomeMismatch};
 ghost use Rattle.std.specs.Option.{option_or};
@@ -19,6 +18,7 @@ use frac128::Frac;
 use game_core::{Name, Spanned};
 use indexmap::IndexSet;
 use std::alloc::Global;
+use std::marker::Model;
 
 /// An outcome as far as it was used.
 #[derive(Drop)]
@@ -31,13 +31,42 @@ pub struct KeptOutcome {
     pub payoffs: Vec<Frac>,
 }
 
-/// The outcomes in the order of their first use.
+/// The outcomes in the order of their first use. The labels are always those of the outcomes.
 #[derive(Drop)]
 pub struct Outcomes {
     /// The numbers that the file gives them.
     pub labels: IndexSet<u64>,
     /// The outcomes.
     pub list: Vec<KeptOutcome>,
+}
+
+impl Model for Outcomes {
+    ghost use Rattle.std.specs.Prelude.{List};
+    ghost use Rattle.std.specs.Coded.{coded_list};
+    ghost use Rattle.written_trees.specs.Building.{PartialOutcome};
+    ghost use Rattle.efg_reader.specs.PartialCodes.{code_of_partial_outcome};
+
+    ghost Value = { List PartialOutcome };
+
+    ghost coded = { coded_list code_of_partial_outcome };
+
+    ghost use Rattle.efg_reader.specs.Uses.{partial_outcomes, AreOutcomes};
+
+    ghost view = { partial_outcomes };
+
+    ghost invariant = { AreOutcomes };
+}
+
+impl Outcomes {
+    /// No outcomes.
+    pub fn new(alloc: Global) -> Outcomes
+        ensures { result ≡ [] }
+    {
+        Outcomes {
+            labels: IndexSet::new(alloc),
+            list: Vec::new(alloc),
+        }
+    }
 }
 
 // The kind of the fault at a token: whether the payoffs are too few or too many there, or the token fits no list.
@@ -194,26 +223,28 @@ fn later_use<'a>(
 // The outcomes with the one of this label, which a node uses, its number, and the tokens after it.
 fn read_named<'a>(
     alloc: Global,
-    mut outcomes: Outcomes,
+    outcomes: Outcomes,
     label: u64,
     players: usize,
     tokens: &'a [Spanned],
 ) -> Result<(Outcomes, u32, &'a [Spanned]), Refusal<EfgKind>>
-    requires outcomes { AreOutcomes outcomes }
-    requires few { length outcomes.list.items < 4294967295 }
-    ensures outcomes { IfOk result (λ x. AreOutcomes x.0) }
-    ensures read { Parses (λ x. ((partial_outcomes x.0, Some x.1), kinds x.2.now)) result
-        (parse_named players label (partial_outcomes outcomes) (kinds tokens.now)) }
+    requires few { length outcomes < 4294967295 }
+    ensures { Parses (λ x. ((x.0, Some x.1), kinds x.2.now)) result
+        (parse_named players label outcomes (kinds tokens.now)) }
 {
     let (name, following) = optional_text(tokens);
-    let (place, is_new) = outcomes.labels.insert_full(label)?;
+    let Outcomes {
+        mut labels,
+        mut list,
+    } = outcomes;
+    let (place, is_new) = labels.insert_full(label)?;
     if is_new {
         let (outcome, rest) = first_use(alloc, label, name, players, following)?;
-        outcomes.list.push(outcome)?;
-        Ok((outcomes, place as u32, rest))
+        list.push(outcome)?;
+        Ok((Outcomes { labels, list }, place as u32, rest))
     } else {
-        let rest = later_use(alloc, &mut outcomes.list[place], name, following)?;
-        Ok((outcomes, place as u32, rest))
+        let rest = later_use(alloc, &mut list[place], name, following)?;
+        Ok((Outcomes { labels, list }, place as u32, rest))
     }
 }
 
@@ -225,12 +256,10 @@ pub fn read_outcome<'a>(
     players: usize,
     tokens: &'a [Spanned],
 ) -> Result<(Outcomes, Option<u32>, &'a [Spanned]), Refusal<EfgKind>>
-    requires outcomes { AreOutcomes outcomes }
-    requires few { length outcomes.list.items < 4294967295 }
+    requires few { length outcomes < 4294967295 }
     requires short { AllByRecursion IsShortToken (kinds tokens.now) }
-    ensures outcomes { IfOk result (λ x. AreOutcomes x.0) }
-    ensures read { Parses (λ x. ((partial_outcomes x.0, x.1), kinds x.2.now)) result
-        (parse_outcome players (partial_outcomes outcomes) (kinds tokens.now)) }
+    ensures { Parses (λ x. ((x.0, x.1), kinds x.2.now)) result
+        (parse_outcome players outcomes (kinds tokens.now)) }
 {
     let Some((number, rest)) = label(tokens) else {
         return Err(unexpected(EfgKind::Node, tokens));

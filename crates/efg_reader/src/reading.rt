@@ -5,7 +5,6 @@ ghost use Rattle.game_core.specs.Tree.{IsTree};
 ghost use Rattle.written_trees.specs.Described.{or_empty};
 ghost use Rattle.written_trees.specs.Building.{finished_set, finished_outcome, tree_so_far};
 ghost use Rattle.efg_reader.specs.Uses.{partial_set, partial_outcome};
-ghost use Rattle.efg_reader.specs.States.{partial_of};
 ghost use Rattle.efg_reader.specs.TreeFaults.{IsFile};
 ghost use Rattle.efg_reader.specs.FaultKinds.{IsFault};
 ghost use Rattle.efg_reader.specs.declared.kinds.EfgKind.{EfgKind};
@@ -98,9 +97,9 @@ fn finished_outcomes(alloc: Global, outcomes: Vec<KeptOutcome>) -> Result<Vec<Ou
 
 // The tree with these parts.
 fn tree(alloc: Global, front: Front, builder: Builder) -> Result<Tree, EfgStop>
-    requires { IsTree (tree_so_far front.title front.players.items (partial_of builder)) }
+    requires { IsTree (tree_so_far front.title front.players.items builder) }
     ensures tree { IfOk result
-        (λ t. t ≡ tree_so_far front.title front.players.items (partial_of builder)) }
+        (λ t. t ≡ tree_so_far front.title front.players.items builder) }
     ensures memory { IfErr result (λ stop. stop ≡ Memory) }
 {
     let Front { title, players } = front;
@@ -108,11 +107,10 @@ fn tree(alloc: Global, front: Front, builder: Builder) -> Result<Tree, EfgStop>
         nodes,
         sets,
         outcomes,
-        ..
     } = builder;
     let sets = finished_sets(alloc, sets.list)?;
     let outcomes = finished_outcomes(alloc, outcomes.list)?;
-    match Tree::new(alloc, title, players, nodes, sets, outcomes) {
+    match Tree::new(alloc, title, players, nodes.list, sets, outcomes) {
         Ok(tree) => Ok(tree),
         Err(_) => Err(EfgStop::Memory),
     }

@@ -5,7 +5,8 @@ ghost use Rattle.game_core.specs.Spacing.{IsShortToken};
 ghost use Rattle.file_parts.specs.Reading.{kinds};
 ghost use Rattle.file_parts.specs.Parsing.{Parses};
 ghost use Rattle.written_trees.specs.Described.{same_set};
-ghost use Rattle.efg_reader.specs.Uses.{partial_set, partial_sets, AreSets};
+ghost use Rattle.written_trees.specs.Building.{partial_count};
+ghost use Rattle.efg_reader.specs.Uses.{partial_set};
 ghost use Rattle.efg_reader.specs.TreeParsing.{parse_first_list, parse_later_list, parse_set};
 ghost use Rattle.std.specs.Option.{option_or};
 
@@ -16,6 +17,7 @@ use file_parts::{Refusal, copied, optional_text, unexpected};
 use game_core::{Action, Name, Spanned};
 use indexmap::IndexSet;
 use std::alloc::{AllocError, AllocFailed, Global};
+use std::marker::Model;
 
 /// What tells a set from others: chance and each player number their sets separately.
 #[derive(Clone, Copy, Debug, PartialEq, Eq, Hash)]
@@ -41,13 +43,55 @@ pub struct KeptSet {
     pub members: Vec<u32>,
 }
 
-/// The sets in the order of their first use.
+/// The sets in the order of their first use. The keys are always those of the sets.
 #[derive(Drop)]
 pub struct Sets {
     /// What tells them apart.
     pub keys: IndexSet<SetKey>,
     /// The sets.
     pub list: Vec<KeptSet>,
+}
+
+impl Model for Sets {
+    ghost use Rattle.std.specs.Prelude.{List};
+    ghost use Rattle.std.specs.Coded.{coded_list};
+    ghost use Rattle.written_trees.specs.Building.{PartialSet};
+    ghost use Rattle.efg_reader.specs.PartialCodes.{code_of_partial_set};
+
+    ghost Value = { List PartialSet };
+
+    ghost coded = { coded_list code_of_partial_set };
+
+    ghost use Rattle.efg_reader.specs.Uses.{partial_sets, AreSets};
+
+    ghost view = { partial_sets };
+
+    ghost invariant = { AreSets };
+}
+
+impl Sets {
+    /// No sets.
+    pub fn new(alloc: Global) -> Sets
+        ensures { result ≡ [] }
+    {
+        Sets {
+            keys: IndexSet::new(alloc),
+            list: Vec::new(alloc),
+        }
+    }
+
+    /// How many actions a set has, and none at an end.
+    pub fn count(&self, set: Option<u32>) -> usize
+        ensures { result ≡ partial_count self.now set }
+    {
+        match set {
+            None => 0,
+            Some(set) => match self.list.get(set as usize) {
+                Some(set) => set.actions.len(),
+                None => 0,
+            },
+        }
+    }
 }
 
 /// A name of its own, where one came.
@@ -122,30 +166,29 @@ fn placed(known: &mut IndexSet<SetKey>, key: SetKey) -> Result<(usize, bool), Al
 /// The sets with the one that this node of this owner uses, its number, and the tokens after it.
 pub fn read_set<'a>(
     alloc: Global,
-    mut sets: Sets,
+    sets: Sets,
     owner: Option<u32>,
     node: u32,
     tokens: &'a [Spanned],
 ) -> Result<(Sets, u32, &'a [Spanned]), Refusal<EfgKind>>
-    requires sets { AreSets sets }
-    requires few { length sets.list.items < 4294967295 }
+    requires few { length sets < 4294967295 }
     requires short { AllByRecursion IsShortToken (kinds tokens.now) }
-    ensures sets { IfOk result (λ x. AreSets x.0) }
-    ensures read { Parses (λ x. ((partial_sets x.0, x.1), kinds x.2.now)) result
-        (parse_set node (partial_sets sets) owner (kinds tokens.now)) }
+    ensures { Parses (λ x. ((x.0, x.1), kinds x.2.now)) result
+        (parse_set node sets owner (kinds tokens.now)) }
 {
     let Some((label, following)) = positive(tokens) else {
         return Err(unexpected(EfgKind::Node, tokens));
     };
     let (name, following) = optional_text(following);
     let key = SetKey { owner, label };
-    let (place, is_new) = placed(&mut sets.keys, key)?;
+    let Sets { mut keys, mut list } = sets;
+    let (place, is_new) = placed(&mut keys, key)?;
     if is_new {
         let (set, rest) = first_use(alloc, key, name, node, following)?;
-        sets.list.push(set)?;
-        Ok((sets, place as u32, rest))
+        list.push(set)?;
+        Ok((Sets { keys, list }, place as u32, rest))
     } else {
-        let rest = later_use(alloc, &mut sets.list[place], name, node, following)?;
-        Ok((sets, place as u32, rest))
+        let rest = later_use(alloc, &mut list[place], name, node, following)?;
+        Ok((Sets { keys, list }, place as u32, rest))
     }
 }

@@ -2,43 +2,37 @@ use Rattle.std.proofs.Common.{◌<◌, length, ◌∙◌, sym, subst}
 use Rattle.std.proofs.lemmas.List.{length-map}
 use Rattle.file_parts.specs.Reading.{kinds}
 use Rattle.written_trees.specs.Building.{PartialTree}
-use Rattle.efg_reader.specs.States.{partial_of}
-use Rattle.efg_reader.proofs.NodesLoop.{IsUnderWay, at_first, goes_on, takes, refuses_all, whole_read, more_after, whole_by_kept, some_branching}
+use Rattle.efg_reader.proofs.NodesLoop.{IsUnderWay, at_first, goes_on, takes, refuses_all, whole_read, more_after, some_branching}
 use Rattle.efg_reader.proofs.nodes.read_nodes.Goals as goal
 
 pub loop-alloc-init : goal.loop-alloc-init
 loop-alloc-init c =
     let tokens = kinds c.args.tokens.now in
-    record {
-      valid = c.in_ok-builder.ensures.valid;
-      under_way = subst (λ (partial : PartialTree). IsUnderWay c.args.players partial tokens tokens) (sym c.in_ok-builder.ensures.nothing) (at_first c.args.players tokens c.requires.short);
-    }
+    subst (λ (partial : PartialTree). IsUnderWay c.args.players partial tokens tokens) (sym c.in_ok-builder.ensures) (at_first c.args.players tokens c.requires.short)
 
 pub one_more-requires-clause-free : goal.one_more-requires-clause-free
-one_more-requires-clause-free c = some_branching (partial_of c.loop-alloc.builder) (whole_by_kept c.loop-alloc.builder c.is_empty.result c.is_empty.ensures ∙ c.loop-alloc-test.true)
+one_more-requires-clause-free c = some_branching c.loop-alloc.builder (sym c.is_whole.ensures ∙ c.loop-alloc-test.true)
 
 pub one_more-requires-clause-short : goal.one_more-requires-clause-short
-one_more-requires-clause-short c = c.loop-alloc.invariant.under_way.short
+one_more-requires-clause-short c = c.loop-alloc.invariant.short
 
 pub returns-in-Err : goal.returns-in-Err
 returns-in-Err c =
-    refuses_all c.in-Err.stop c.args.players (partial_of c.loop-alloc.builder) (kinds c.loop-alloc.rest.now) (kinds c.args.tokens.now) (whole_by_kept c.loop-alloc.builder c.is_empty.result c.is_empty.ensures ∙ c.loop-alloc-test.true) c.in-Err.ensures.read c.loop-alloc.invariant.under_way
+    refuses_all c.in-Err.stop c.args.players c.loop-alloc.builder (kinds c.loop-alloc.rest.now) (kinds c.args.tokens.now) (sym c.is_whole.ensures ∙ c.loop-alloc-test.true) c.in-Err.ensures c.loop-alloc.invariant
 
 pub loop-alloc-preserved : goal.loop-alloc-preserved
-loop-alloc-preserved c = record {
-  valid = c.in-Ok.ensures.valid;
-  under_way = goes_on c.args.players (partial_of c.loop-alloc.builder) (partial_of c.in-Ok.read.0) (kinds c.loop-alloc.rest.now) (kinds c.in-Ok.read.1.now) (kinds c.args.tokens.now) (whole_by_kept c.loop-alloc.builder c.is_empty.result c.is_empty.ensures ∙ c.loop-alloc-test.true) c.in-Ok.ensures.read c.loop-alloc.invariant.under_way;
-}
+loop-alloc-preserved c =
+    goes_on c.args.players c.loop-alloc.builder c.in-Ok.read.0 (kinds c.loop-alloc.rest.now) (kinds c.in-Ok.read.1.now) (kinds c.args.tokens.now) (sym c.is_whole.ensures ∙ c.loop-alloc-test.true) c.in-Ok.ensures c.loop-alloc.invariant
 
 pub loop-alloc-smaller : goal.loop-alloc-smaller
 loop-alloc-smaller c =
-    let shorter : length (kinds c.in-Ok.read.1.now) < length (kinds c.loop-alloc.rest.now) = takes c.args.players (partial_of c.loop-alloc.builder) (partial_of c.in-Ok.read.0) (kinds c.loop-alloc.rest.now) (kinds c.in-Ok.read.1.now) (kinds c.args.tokens.now) c.in-Ok.ensures.read c.loop-alloc.invariant.under_way in
+    let shorter : length (kinds c.in-Ok.read.1.now) < length (kinds c.loop-alloc.rest.now) = takes c.args.players c.loop-alloc.builder c.in-Ok.read.0 (kinds c.loop-alloc.rest.now) (kinds c.in-Ok.read.1.now) (kinds c.args.tokens.now) c.in-Ok.ensures c.loop-alloc.invariant in
     rw (length-map, length-map) at shorter
 
 pub returns-then-ends : goal.returns-then-ends
 returns-then-ends c =
-    whole_read c.args.players (partial_of c.loop-alloc.builder) (kinds c.args.tokens.now) (kinds c.loop-alloc.rest.now) (whole_by_kept c.loop-alloc.builder c.is_empty.result c.is_empty.ensures ∙ c.loop-alloc-test.false) c.loop-alloc.invariant.under_way (sym c.ends.ensures ∙ c.if-ends.true)
+    whole_read c.args.players c.loop-alloc.builder (kinds c.args.tokens.now) (kinds c.loop-alloc.rest.now) (sym c.is_whole.ensures ∙ c.loop-alloc-test.false) c.loop-alloc.invariant (sym c.ends.ensures ∙ c.if-ends.true)
 
 pub returns-else-ends : goal.returns-else-ends
 returns-else-ends c =
-    more_after c.args.players (partial_of c.loop-alloc.builder) (kinds c.args.tokens.now) (kinds c.loop-alloc.rest.now) c.unexpected.result (whole_by_kept c.loop-alloc.builder c.is_empty.result c.is_empty.ensures ∙ c.loop-alloc-test.false) c.loop-alloc.invariant.under_way (sym c.ends.ensures ∙ c.if-ends.false) c.unexpected.ensures
+    more_after c.args.players c.loop-alloc.builder (kinds c.args.tokens.now) (kinds c.loop-alloc.rest.now) c.unexpected.result (sym c.is_whole.ensures ∙ c.loop-alloc-test.false) c.loop-alloc.invariant (sym c.ends.ensures ∙ c.if-ends.false) c.unexpected.ensures

@@ -1,14 +1,10 @@
 use Rattle.std.proofs.Common.{length}
 use Rattle.file_parts.specs.Reading.{kinds}
-use Rattle.efg_reader.specs.States.{partial_of, IsBuilder}
 use Rattle.efg_reader.proofs.NodesLoop.{IsUnderWay}
 use Rattle.efg_reader.proofs.nodes.read_nodes.Given as goal
 
 abbrev pub invariant-loop-alloc : goal.invariant-loop-alloc
-invariant-loop-alloc l = record {
-  valid : IsBuilder l.builder;
-  under_way : IsUnderWay l.players (partial_of l.builder) (kinds l.rest) (kinds l.tokens);
-}
+invariant-loop-alloc l = IsUnderWay l.players l.builder (kinds l.rest) (kinds l.tokens)
 
 abbrev pub decreases-loop-alloc : goal.decreases-loop-alloc
 decreases-loop-alloc l = length l.rest

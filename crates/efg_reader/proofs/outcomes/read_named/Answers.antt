@@ -5,38 +5,38 @@ use Rattle.efg_reader.proofs.KeptOutcomes.{first_kept, first_refused, first_used
 use Rattle.efg_reader.proofs.outcomes.read_named.Goals as goal
 
 -- a first use
-pub returns-in_err-outcome-clause-read : goal.returns-in_err-outcome-clause-read
-returns-in_err-outcome-clause-read c =
+pub returns-in_err-outcome : goal.returns-in_err-outcome
+returns-in_err-outcome c =
     let new = not-true _ (sym c.in_ok-place.ensures.added ∙ c.if-is_new.true) in
-    let refused = first_refused c.args.players c.args.label c.args.outcomes c.requires.outcomes new _ (kinds c.args.tokens.now) (kinds c.optional_text.result.1.now) c.optional_text.ensures c.in_err-outcome.field-0.0 c.in_err-outcome.ensures.read in
-    search (refused, rules)
+    let refused = first_refused c.args.players c.args.label c.outcomes.inside c.outcomes.invariant new _ (kinds c.args.tokens.now) (kinds c.optional_text.result.1.now) c.optional_text.ensures c.in_err-outcome.field-0.0 c.in_err-outcome.ensures.read in
+    rw (← c.outcomes.view_is) (search (refused, rules))
 
-pub returns-in_ok-push-clause-outcomes : goal.returns-in_ok-push-clause-outcomes
-returns-in_ok-push-clause-outcomes c =
+pub invariant_of-result : goal.invariant_of-result
+invariant_of-result c =
     let new = not-true _ (sym c.in_ok-place.ensures.added ∙ c.if-is_new.true) in
-    first_kept c.args.players c.args.label c.args.outcomes c.requires.outcomes new _ c.in_ok-outcome.outcome c.in_ok-place.ensures.keys c.in_ok-push.ensures.items c.in_ok-outcome.ensures.label
+    first_kept c.args.players c.args.label c.outcomes.inside c.outcomes.invariant new _ c.in_ok-outcome.outcome c.in_ok-place.ensures.keys c.in_ok-push.ensures.items c.in_ok-outcome.ensures.label
 
-pub returns-in_ok-push-clause-read : goal.returns-in_ok-push-clause-read
-returns-in_ok-push-clause-read c =
+pub returns-in_ok-push : goal.returns-in_ok-push
+returns-in_ok-push c =
     let new = not-true _ (sym c.in_ok-place.ensures.added ∙ c.if-is_new.true) in
-    first_used c.args.players c.args.label c.args.outcomes c.requires.outcomes new _ (kinds c.args.tokens.now) (kinds c.optional_text.result.1.now) c.optional_text.ensures c.push.new.self.items c.in_ok-outcome.outcome c.in_ok-place.place (kinds c.in_ok-outcome.rest.now)
-    c.in_ok-place.ensures.index c.in_ok-push.ensures.items c.in_ok-outcome.ensures.label c.in_ok-outcome.ensures.name c.in_ok-outcome.ensures.read
+    rw (← c.outcomes.view_is) (first_used c.args.players c.args.label c.outcomes.inside c.outcomes.invariant new _ (kinds c.args.tokens.now) (kinds c.optional_text.result.1.now) c.optional_text.ensures c.push.new.self.items c.in_ok-outcome.outcome c.in_ok-place.place (kinds c.in_ok-outcome.rest.now)
+    c.in_ok-place.ensures.index c.in_ok-push.ensures.items c.in_ok-outcome.ensures.label c.in_ok-outcome.ensures.name c.in_ok-outcome.ensures.read)
 
 -- a later use
-pub returns-in_err-rest-clause-read : goal.returns-in_err-rest-clause-read
-returns-in_err-rest-clause-read c =
+pub returns-in_err-rest : goal.returns-in_err-rest
+returns-in_err-rest c =
     let known = not-false _ (sym c.in_ok-place.ensures.added ∙ c.if-is_new.false) in
-    let refused = later_refused c.args.players c.args.label c.args.outcomes c.requires.outcomes known c.index_mut.result.now c.in_ok-place.place c.in_ok-place.ensures.index c.index_mut.ensures.value _ (kinds c.args.tokens.now) (kinds c.optional_text.result.1.now) c.optional_text.ensures c.in_err-rest.field-0.0 c.in_err-rest.ensures.read in
-    search (refused, rules)
+    let refused = later_refused c.args.players c.args.label c.outcomes.inside c.outcomes.invariant known c.index_mut.result.now c.in_ok-place.place c.in_ok-place.ensures.index c.index_mut.ensures.value _ (kinds c.args.tokens.now) (kinds c.optional_text.result.1.now) c.optional_text.ensures c.in_err-rest.field-0.0 c.in_err-rest.ensures.read in
+    rw (← c.outcomes.view_is) (search (refused, rules))
 
-pub returns-in_ok-rest-clause-outcomes : goal.returns-in_ok-rest-clause-outcomes
-returns-in_ok-rest-clause-outcomes c =
+pub invariant_of-result-else-is_new : goal.invariant_of-result-else-is_new
+invariant_of-result-else-is_new c =
     let known = not-false _ (sym c.in_ok-place.ensures.added ∙ c.if-is_new.false) in
-    later_kept c.args.players c.args.label c.args.outcomes c.requires.outcomes known c.index_mut.result.now c.in_ok-place.place c.in_ok-place.ensures.index c.index_mut.ensures.value _ c.later_use.new.outcome
+    later_kept c.args.players c.args.label c.outcomes.inside c.outcomes.invariant known c.index_mut.result.now c.in_ok-place.place c.in_ok-place.ensures.index c.index_mut.ensures.value _ c.later_use.new.outcome
     c.in_ok-place.ensures.keys refl c.in_ok-rest.ensures.label
 
-pub returns-in_ok-rest-clause-read : goal.returns-in_ok-rest-clause-read
-returns-in_ok-rest-clause-read c =
+pub returns-in_ok-rest : goal.returns-in_ok-rest
+returns-in_ok-rest c =
     let known = not-false _ (sym c.in_ok-place.ensures.added ∙ c.if-is_new.false) in
-    later_used c.args.players c.args.label c.args.outcomes c.requires.outcomes known c.index_mut.result.now c.in_ok-place.place c.in_ok-place.ensures.index c.index_mut.ensures.value _ (kinds c.args.tokens.now) (kinds c.optional_text.result.1.now) c.optional_text.ensures c.later_use.new.outcome (kinds c.in_ok-rest.rest.now)
-    c.in_ok-rest.ensures.label c.in_ok-rest.ensures.name c.in_ok-rest.ensures.payoffs c.in_ok-rest.ensures.read
+    rw (← c.outcomes.view_is) (later_used c.args.players c.args.label c.outcomes.inside c.outcomes.invariant known c.index_mut.result.now c.in_ok-place.place c.in_ok-place.ensures.index c.index_mut.ensures.value _ (kinds c.args.tokens.now) (kinds c.optional_text.result.1.now) c.optional_text.ensures c.later_use.new.outcome (kinds c.in_ok-rest.rest.now)
+    c.in_ok-rest.ensures.label c.in_ok-rest.ensures.name c.in_ok-rest.ensures.payoffs c.in_ok-rest.ensures.read)

@@ -1,6 +1,5 @@
 use Rattle.std.proofs.Common.{◌≡◌, ◌<◌, ◌^◌, List, length, ◌∙◌, Ok, arith}
 use Rattle.file_parts.specs.Reading.{kinds}
-use Rattle.efg_reader.specs.States.{partial_of}
 use Rattle.efg_reader.specs.TreeReading.{Head}
 use Rattle.efg_reader.specs.TreeParsing.{parse_head}
 use Rattle.efg_reader.proofs.FileStops.{all_short, few_of, front_stop, made_tree, nodes_stop, read_file, read_tree}
@@ -30,14 +29,14 @@ tree-requires c =
     let x : Head × List Token = ((c.in-Ok.read.0.title, c.in-Ok.read.0.players.items), kinds c.in-Ok.read.1.now) in
     let front : parse_head (kinds c.args.tokens.now.list) ≡ Ok x = rw c.list.ensures.list at c.in-Ok.ensures in
     let players : c.len.result ≡ length c.in-Ok.read.0.players.items = c.len.ensures ∙ c.in-Ok.read.0.players.ok.0 in
-    read_tree c.args.tokens.now.list x (partial_of c.in-Ok-read_nodes.builder) c.requires.few front (rw players at c.in-Ok-read_nodes.ensures)
+    read_tree c.args.tokens.now.list x c.in-Ok-read_nodes.builder c.requires.few front (rw players at c.in-Ok-read_nodes.ensures)
 
 pub returns-in-Ok-read_nodes : goal.returns-in-Ok-read_nodes
 returns-in-Ok-read_nodes c =
     let x : Head × List Token = ((c.in-Ok.read.0.title, c.in-Ok.read.0.players.items), kinds c.in-Ok.read.1.now) in
     let front : parse_head (kinds c.args.tokens.now.list) ≡ Ok x = rw c.list.ensures.list at c.in-Ok.ensures in
     let players : c.len.result ≡ length c.in-Ok.read.0.players.items = c.len.ensures ∙ c.in-Ok.read.0.players.ok.0 in
-    made_tree c.tree.result c.args.tokens.now _ c.tree.ensures.tree c.tree.ensures.memory (read_file c.args.tokens.now.list x (partial_of c.in-Ok-read_nodes.builder) c.requires.few front (rw players at c.in-Ok-read_nodes.ensures))
+    made_tree c.tree.result c.args.tokens.now _ c.tree.ensures.tree c.tree.ensures.memory (read_file c.args.tokens.now.list x c.in-Ok-read_nodes.builder c.requires.few front (rw players at c.in-Ok-read_nodes.ensures))
 
 pub returns-in-Err-read_nodes : goal.returns-in-Err-read_nodes
 returns-in-Err-read_nodes c =
