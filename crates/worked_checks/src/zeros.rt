@@ -8,12 +8,8 @@ fn file(alloc: Global, height: usize, width: usize, first: &str) -> Result<Strin
     let mut text = format!(in alloc;
         "NFG 1 R \"\" {{ \"A\" \"B\" }} {{ {height} {width} }} {first}"
     )?;
-    for row in 0..height {
-        for column in 0..width {
-            if row > 0 || column > 0 {
-                text.push_str(" 0 0")?;
-            }
-        }
+    for _ in 1..height.saturating_mul(width) {
+        text.push_str(" 0 0")?;
     }
     Ok(text)
 }

@@ -97,6 +97,24 @@ const ENTRY: &str =
     "EFG 2 R \"Entry\" { \"E\" \"I\" } p \"\" 1 1 \"\" { \"Out\" \"In\" } 0 t \"\" 1 \"Out\" { 0, 2 } \
 p \"\" 2 1 \"\" { \"Fight\" \"Accommodate\" } 0 t \"\" 2 \"Fight\" { -1, -1 } t \"\" 3 \"Share\" { 1, 1 }";
 
+// Whether a run with these failing calls of the inputs ends with this line and status 3.
+fn input_fails<R: Threads + Sync>(
+    rt: &R,
+    alloc: Global,
+    whole: Case,
+    failing: &[u64],
+    err: &str,
+) -> Result<bool, Memory> {
+    let case = Case {
+        failing,
+        status: 3,
+        out: "",
+        err,
+        ..whole
+    };
+    case.holds(rt, alloc)
+}
+
 // Whether each call of the inputs that fails is told: the selection, the first read, the read that would find the end. No
 // other call is made.
 fn failing_inputs_are_told<R: Threads + Sync>(
@@ -104,27 +122,19 @@ fn failing_inputs_are_told<R: Threads + Sync>(
     alloc: Global,
     whole: Case,
 ) -> Result<bool, Memory> {
-    let rows: [(&[u64], u8, &str, &str); 6] = [
-        (&[1], 3, "gambit: cannot open\n", ""),
-        (&[2], 3, "gambit: read failed\n", ""),
-        (&[3], 3, "gambit: read failed\n", ""),
-        (&[1, 2, 3], 3, "gambit: cannot open\n", ""),
-        (&[4], 0, "", whole.out),
-        (&[0], 0, "", whole.out),
-    ];
-    for (failing, status, err, out) in rows {
-        let case = Case {
-            failing,
-            status,
-            err,
-            out,
-            ..whole
-        };
-        if !case.holds(rt, alloc)? {
-            return Ok(false);
-        }
-    }
-    Ok(true)
+    let open = "gambit: cannot open\n";
+    let read = "gambit: read failed\n";
+    let unread = Case {
+        failing: &[0, 4],
+        ..whole
+    };
+    Ok(
+        input_fails(rt, alloc, whole, &[1], open)?
+            && input_fails(rt, alloc, whole, &[2], read)?
+            && input_fails(rt, alloc, whole, &[3], read)?
+            && input_fails(rt, alloc, whole, &[1, 2, 3], open)?
+            && unread.holds(rt, alloc)?,
+    )
 }
 
 // Whether the write that fails is told after each number of bytes, with the output taking this many bytes a call at most.

@@ -76,20 +76,24 @@ fn fractions(alloc: Global, words: &str) -> Result<Vec<Frac>, Stop> {
     Ok(list)
 }
 
-// Whether a game has these extreme equilibria, by the definition and by the tool.
-fn has<R: Threads + Sync>(
+// The lines of a game's extreme equilibria, by the definition.
+fn defined(alloc: Global, sizes: &str, payoffs: &str) -> Result<Vec<u8>, Stop> {
+    let (height, width) = sizes.split_once(' ').unwrap_or((sizes, ""));
+    let height = height.parse::<usize>().unwrap_or(0);
+    let width = width.parse::<usize>().unwrap_or(0);
+    let list = fractions(alloc, payoffs)?;
+    let game = Payoffs::of(alloc, height, width, list.as_slice())?;
+    extreme_equilibria(alloc, &game)
+}
+
+// Whether the tool prints these lines for a game, by one worker and by seven.
+fn prints<R: Threads + Sync>(
     rt: &R,
     alloc: Global,
     sizes: &str,
     payoffs: &str,
     lines: &str,
 ) -> Result<bool, Stop> {
-    let (height, width) = sizes.split_once(' ').unwrap_or((sizes, ""));
-    let height = height.parse::<usize>().unwrap_or(0);
-    let width = width.parse::<usize>().unwrap_or(0);
-    let list = fractions(alloc, payoffs)?;
-    let game = Payoffs::of(alloc, height, width, list.as_slice())?;
-    let text = extreme_equilibria(alloc, &game)?;
     let input = format!(in alloc; "NFG 1 R \"\" {{ \"A\" \"B\" }} {{ {sizes} }} {payoffs}")?;
     let plain = Case {
         out: lines,
@@ -99,7 +103,22 @@ fn has<R: Threads + Sync>(
         words: "enummixed -q -D -j 7",
         ..plain
     };
-    Ok(text.as_slice() == lines.as_bytes() && plain.holds(rt, alloc)? && lettered.holds(rt, alloc)?)
+    Ok(plain.holds(rt, alloc)? && lettered.holds(rt, alloc)?)
+}
+
+// Whether a game has these extreme equilibria, by the definition and by the tool.
+fn has<R: Threads + Sync>(
+    rt: &R,
+    alloc: Global,
+    sizes: &str,
+    payoffs: &str,
+    lines: &str,
+) -> Result<bool, Stop> {
+    let text = defined(alloc, sizes, payoffs)?;
+    if text.as_slice() != lines.as_bytes() {
+        return Ok(false);
+    }
+    prints(rt, alloc, sizes, payoffs, lines)
 }
 
 // The same where the text has a line on the game, its sizes, `: ` and its payoffs, and then its equilibria.
