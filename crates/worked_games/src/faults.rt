@@ -28,47 +28,70 @@ gambit: words not understood
 $ enumpure a  = 2
 gambit: words not understood"#;
 
-/// Words that are refused; and letters and names, also names that are unlike one, with the name of the file that is there.
-/// Standard input is read only where no file is named.
+// Words with letters and names, `|`, and the name of the file that is there, also names that are unlike one.
+const NAMED: &str = "enumpure -q a|a
+enumpure -S a -Sq|a
+enumpure -- -S|-S
+enumpure -- --|--
+enumpure -|-
+enumpure |
+enumpure pd.nfg|pd.nfg
+enumpure -S pd.nfg|pd.nfg";
+
+// Whether a run over one file with this name does what is wanted.
+fn reads<R: Threads + Sync>(
+    rt: &R,
+    alloc: Global,
+    words: &str,
+    name: &str,
+    whole: Case,
+) -> Result<bool, Memory> {
+    let case = Case {
+        words,
+        files: &[(name, DILEMMA)],
+        ..whole
+    };
+    case.holds(rt, alloc)
+}
+
+// The same of each of these words, with the name of its file.
+fn all_read<R: Threads + Sync>(
+    rt: &R,
+    alloc: Global,
+    rows: &str,
+    whole: Case,
+) -> Result<bool, Memory> {
+    for row in rows.split('\n') {
+        let (words, name) = row.split_once('|').unwrap_or((row, ""));
+        if !reads(rt, alloc, words, name, whole)? {
+            return Ok(false);
+        }
+    }
+    Ok(true)
+}
+
+/// Words that are refused; and letters and names, with the name of the file that is there. Standard input is read only where
+/// no file is named.
 #[test]
 fn words_are_read(rt: HostRuntime) -> Result<(), Memory> {
     assert!(rt; runs_hold(&rt, rt.alloc(), REFUSED)?);
-    let line = "NE,0,1,0,1\n";
-    let rows = [
-        ("enumpure -q a", "a", 0, line, ""),
-        ("enumpure -S a -Sq", "a", 0, line, ""),
-        ("enumpure -- -S", "-S", 0, line, ""),
-        ("enumpure -- --", "--", 0, line, ""),
-        ("enumpure -", "-", 0, line, ""),
-        ("enumpure ", "", 0, line, ""),
-        ("enumpure pd.nfg", "pd.nfg", 0, line, ""),
-        ("enumpure -S pd.nfg", "pd.nfg", 0, line, ""),
-        (
-            "enumpure none.nfg",
-            "pd.nfg",
-            3,
-            "",
-            "gambit: cannot open\n",
-        ),
-        (
-            "enumpure",
-            "pd.nfg",
-            1,
-            "",
-            "gambit: nfg fault at 0: header\n",
-        ),
-    ];
-    for (words, name, status, out, err) in rows {
-        let case = Case {
-            words,
-            files: &[(name, DILEMMA)],
-            status,
-            out,
-            err,
-            ..Case::of("")
-        };
-        assert!(rt; case.holds(&rt, rt.alloc())?, "{words}");
-    }
+    let read = Case {
+        out: "NE,0,1,0,1\n",
+        ..Case::of("")
+    };
+    assert!(rt; all_read(&rt, rt.alloc(), NAMED, read)?);
+    let not_there = Case {
+        status: 3,
+        err: "gambit: cannot open\n",
+        ..Case::of("")
+    };
+    assert!(rt; reads(&rt, rt.alloc(), "enumpure none.nfg", "pd.nfg", not_there)?);
+    let empty = Case {
+        status: 1,
+        err: "gambit: nfg fault at 0: header\n",
+        ..Case::of("")
+    };
+    assert!(rt; reads(&rt, rt.alloc(), "enumpure", "pd.nfg", empty)?);
     Ok(())
 }
 
