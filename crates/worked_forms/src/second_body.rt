@@ -123,6 +123,24 @@ fn strategies_line(alloc: Global, counts: &[usize], profile: usize) -> Result<Ve
     line(alloc, &entries)
 }
 
+// Adds the entries of a player's set at a place, where a strategy gives this action from 1, or 0 for none.
+fn push_set(
+    entries: &mut Vec<Frac>,
+    tree: &Tree,
+    player: u32,
+    place: u32,
+    action: u32,
+) -> Result<(), Memory> {
+    let Some(number) = tree.own_sets(player, place) else {
+        return Ok(());
+    };
+    let Some(set) = tree.sets().get(number as usize) else {
+        return Ok(());
+    };
+    let chosen = (action as usize).saturating_sub(1);
+    push_choice(entries, set.actions().len(), chosen)
+}
+
 // Adds the entries of a player's sets, where a strategy gives these actions from 1, or 0 for none.
 fn push_behaviour(
     entries: &mut Vec<Frac>,
@@ -131,13 +149,7 @@ fn push_behaviour(
     actions: &[u32],
 ) -> Result<(), Memory> {
     for (place, action) in (0..u32::MAX).zip(actions) {
-        let Some(number) = tree.own_sets(player, place) else {
-            continue;
-        };
-        if let Some(set) = tree.sets().get(number as usize) {
-            let chosen = (*action as usize).saturating_sub(1);
-            push_choice(entries, set.actions().len(), chosen)?;
-        }
+        push_set(entries, tree, player, place, *action)?;
     }
     Ok(())
 }

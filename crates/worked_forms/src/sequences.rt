@@ -2,7 +2,7 @@
 use crate::games::{ALONE, ENTRY, POKER, tree_of};
 use crate::tests::push_payoffs;
 use frac128::Memory;
-use game_core::Tree;
+use game_core::{Table, Tree};
 use perfect_recall::find_recall;
 use reduced_form::reduce;
 use sequence_form::{
@@ -47,34 +47,44 @@ pub fn form_of(alloc: Global, tree: &Tree) -> Option<SeqForm> {
     build(alloc, tree, &recall).ok()
 }
 
+// Whether a sequence form has this text.
+fn has_text(alloc: Global, form: &SeqForm, text: &str) -> Result<bool, Memory> {
+    let made = form_text(alloc, form)?;
+    Ok(made.as_slice() == text.as_bytes())
+}
+
 // Whether the sequence form of a tree has this text.
 fn has_form(alloc: Global, text: &[u8], form: &str) -> Result<bool, Memory> {
     let Some(tree) = tree_of(alloc, text) else {
         return Ok(false);
     };
     match form_of(alloc, &tree) {
-        Some(made) => Ok(form_text(alloc, &made)?.as_slice() == form.as_bytes()),
+        Some(made) => has_text(alloc, &made, form),
         None => Ok(false),
     }
 }
 
-// Whether the sequence form of a tree's reduced form has this text, and as many sequences as are counted.
+// Whether the sequence form of a table has this text, and as many sequences as are counted.
+fn is_form_of(alloc: Global, table: &Table, form: &str) -> Result<bool, Memory> {
+    if table.players().len() != 2 {
+        return Ok(false);
+    }
+    let Ok(made) = build_table(alloc, table) else {
+        return Ok(false);
+    };
+    if made.first().sequences() as u64 != counts_table(table).sequences_one {
+        return Ok(false);
+    }
+    has_text(alloc, &made, form)
+}
+
+// The same of a tree's reduced form.
 fn has_table_form(alloc: Global, text: &[u8], form: &str) -> Result<bool, Memory> {
     let Some(tree) = tree_of(alloc, text) else {
         return Ok(false);
     };
-    let Ok(reduced) = reduce(alloc, &tree) else {
-        return Ok(false);
-    };
-    let table = reduced.table();
-    if table.players().len() != 2 {
-        return Ok(false);
-    }
-    match build_table(alloc, table) {
-        Ok(made) => Ok(
-            form_text(alloc, &made)?.as_slice() == form.as_bytes()
-                && counts_table(table).sequences_one == made.first().sequences() as u64,
-        ),
+    match reduce(alloc, &tree) {
+        Ok(reduced) => is_form_of(alloc, reduced.table(), form),
         Err(_) => Ok(false),
     }
 }
