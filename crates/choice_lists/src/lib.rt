@@ -11,13 +11,9 @@
 #![tactic(auto)]
 
 mod count;
-#[cfg(test)]
-mod count_tests;
 mod decision;
 mod kept;
 mod walk;
-#[cfg(test)]
-mod walk_tests;
 
 pub use count::count_walks;
 pub use decision::{Decision, Edge};

@@ -1,7 +1,11 @@
-//! Fractions, numbers, tokens, lines, small tables, command lines and pairs of vertices, as tests
-//! over their crates. Nothing here is called by the program.
+//! Fractions, numbers, tokens, lines, small tables, command lines, choice lists and pairs of
+//! vertices, as tests over their crates. Nothing here is called by the program.
 #![tactic(auto)]
 
+#[cfg(test)]
+mod choice_counts;
+#[cfg(test)]
+mod choices;
 #[cfg(test)]
 mod command_lines;
 #[cfg(test)]

@@ -1,9 +1,9 @@
+// How many lists of choices there are, worked by hand.
 ghost use Rattle.std.specs.Prelude.{◌≡◌, ◌<◌, ◌+◌, ◌^◌, None, Some, IsTrue};
 ghost use Rattle.choice_lists.specs.Tested.{are_linked};
 
-use crate::count::count_walks;
-use crate::decision::{Decision, Edge};
 use answers::Memory;
+use choice_lists::{Decision, Edge, count_walks};
 use std::alloc::Global;
 
 // A decision at a place, with nothing before it.

@@ -3,7 +3,7 @@ use Rattle.std.proofs.Math.ListN as lists
 use Rattle.choice_lists.specs.declared.decision.Decision.{Decision}
 use Rattle.choice_lists.specs.Walks.{AreLinked}
 use Rattle.choice_lists.proofs.Linked.{linked-none, linked-more}
-use Rattle.choice_lists.proofs.walk_tests.apart.Goals as goal
+use Rattle.worked_parts.proofs.choices.apart.Goals as goal
 
 pub loop-place-init : goal.loop-place-init
 loop-place-init c = record { linked = subst₂ AreLinked (sym c.new-decisions.ensures.items) (sym c.new-actions.ensures.items) linked-none; as_many = ap length c.new-actions.ensures.items }

@@ -1,10 +1,10 @@
+// Lists of choices, worked by hand.
 ghost use Rattle.std.specs.Prelude.{◌≡◌, ◌<◌, ◌+◌, ◌^◌, None, Some, IfOk, IsTrue};
 ghost use Rattle.choice_lists.specs.Tested.{are_linked};
 ghost use Rattle.choice_lists.specs.Walks.{AreLinked};
 
-use crate::decision::{Decision, Edge};
-use crate::walk::{count_ends, list_walks};
 use answers::Memory;
+use choice_lists::{Decision, Edge, count_ends, list_walks};
 use std::alloc::Global;
 
 // A decision with nothing before it.

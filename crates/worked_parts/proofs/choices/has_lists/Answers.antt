@@ -1,5 +1,5 @@
 use Rattle.choice_lists.proofs.Linked.{linked-tested}
-use Rattle.choice_lists.proofs.walk_tests.has_lists.Goals as goal
+use Rattle.worked_parts.proofs.choices.has_lists.Goals as goal
 
 pub list_walks-requires : goal.list_walks-requires
 list_walks-requires c = record { linked = linked-tested c.args.decisions.now c.args.actions.now c.requires }
