@@ -38,7 +38,8 @@ pub fn stages_are_single<E, Y, Z, S: Stages<E, Y, Z>>()
 
 /// The answer of the second of two stages is that of both, and so is a refusal of the first.
 pub fn stages_give<E, Y, Z, S: Stages<E, Y, Z>>()
-    ensures second { (y : Y) (answer : Result Z E) → S.first (Ok y) → Gives S.memory (S.second y) answer
+    ensures second { (y : Y) (answer : Result Z E) → S.first (Ok y)
+        → Gives S.memory (S.second y) answer
         → Gives S.memory (then S.first S.second) answer }
     ensures first { (r : E) → Gives S.memory S.first (Err r)
         → Gives S.memory (then S.first S.second) (Err r) }

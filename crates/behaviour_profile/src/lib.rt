@@ -85,7 +85,10 @@ impl Behaviour {
     ) -> Result<Behaviour, Memory>
         requires form { IsReducedForm tree.now reduced.now }
         requires profile { IsProfile (map length reduced.now.choices) profile.now }
-        ensures { IfOk result (λ behaviour. behaviour ≡ tree_entries (game_of_tree tree.now) (pure (completed (game_of_tree tree.now) reduced.now.choices profile.now))) }
+        ensures { IfOk result
+            (λ behaviour. behaviour
+            ≡ tree_entries (game_of_tree tree.now)
+            (pure (completed (game_of_tree tree.now) reduced.now.choices profile.now))) }
     {
         let mut entries = Vec::new(alloc);
         for player in 0..tree.players().len() {
@@ -104,7 +107,10 @@ fn push_player(
     strategy: &[u32],
 ) -> Result<(), Memory>
     requires { length strategy.now ≡ length (own_sets (game_of_tree tree.now) player) }
-    ensures { OnOk result (entries.new.items ≡ entries.old.items ++ own_entries (game_of_tree tree.now) (pure (first_for_none (game_of_tree tree.now) player strategy.now)) player) }
+    ensures { OnOk result
+        (entries.new.items ≡ entries.old.items
+        ++ own_entries (game_of_tree tree.now)
+        (pure (first_for_none (game_of_tree tree.now) player strategy.now)) player) }
 {
     own_sets_are_those_of_the_tree();
     let sets = tree.sets();

@@ -33,7 +33,8 @@ pub use reading::{faults_are_single, read, trees_are_single};
 
 /// The tokens of a file stand for one tree at most.
 pub fn files_have_one_tree()
-    ensures { (tokens : List token) (one other : GameTree) → IsTreeFile tokens one → IsTreeFile tokens other → one ≡ other }
+    ensures { (tokens : List token) (one other : GameTree) → IsTreeFile tokens one
+        → IsTreeFile tokens other → one ≡ other }
 {}
 
 /// A tree is read exactly where the tokens are a file of it.

@@ -139,7 +139,8 @@ pub fn trees_are_single()
 /// The tokens of a source have one fault at most; they have none where they are a file of a tree, and one where they are
 /// none. (There are fewer than 2^32 of them.)
 pub fn faults_are_single()
-    ensures one { (tokens : TokenList) (kind other : EfgKind) (at offset : ℕ) → IsFault tokens kind at
+    ensures one { (tokens : TokenList) (kind other : EfgKind) (at offset : ℕ)
+        → IsFault tokens kind at
         → IsFault tokens other offset → (kind ≡ other) × (at ≡ offset) }
     ensures of_no_file { (tokens : TokenList) (kind : EfgKind) (at : ℕ) → IsFile (bare tokens)
         → IsFault tokens kind at → ⊥ }

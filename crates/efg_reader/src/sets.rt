@@ -114,7 +114,15 @@ fn first_use<'a>(
 ) -> Result<(KeptSet, &'a [Spanned]), Refusal<EfgKind>>
     ensures read { Parses (λ x. (x.0.actions.items, kinds x.1.now)) result
         (parse_first_list key.owner key.label (kinds tokens.now)) }
-    ensures set { IfOk result (λ x. partial_set x.0 ≡ record { owner = key.owner; label = key.label; name = option_map (λ t. t.now) name.entry; actions = x.0.actions.items; members = node ∷ [] }) }
+    ensures set { IfOk result
+        (λ x. partial_set x.0
+        ≡ record {
+          owner = key.owner;
+          label = key.label;
+          name = option_map (λ t. t.now) name.entry;
+          actions = x.0.actions.items;
+          members = node ∷ [];
+        }) }
 {
     let (actions, rest) = first_list(alloc, tokens, key.owner, key.label)?;
     let name = optional_name(alloc, name)?;
@@ -139,7 +147,15 @@ fn later_use<'a>(
 ) -> Result<&'a [Spanned], Refusal<EfgKind>>
     ensures read { Parses (λ rest. (tt, kinds rest.now)) result
         (parse_later_list set.old.owner set.old.actions.items (kinds tokens.now)) }
-    ensures set { OnOk result (partial_set set.new ≡ record { owner = set.old.owner; label = set.old.label; name = option_or set.old.name (option_map (λ t. t.now) name.entry); actions = set.old.actions.items; members = set.old.members.items ++ node ∷ [] }) }
+    ensures set { OnOk result
+        (partial_set set.new
+        ≡ record {
+          owner = set.old.owner;
+          label = set.old.label;
+          name = option_or set.old.name (option_map (λ t. t.now) name.entry);
+          actions = set.old.actions.items;
+          members = set.old.members.items ++ node ∷ [];
+        }) }
 {
     let rest = later_list(tokens, set.owner, set.actions.as_slice())?;
     if set.name.is_none() {

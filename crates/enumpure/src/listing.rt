@@ -96,8 +96,8 @@ fn push_lines(
     requires players { length profile.old ≡ length counts.now }
     requires best_replies { length all_best.now ≡ profile_count counts.now }
     requires few { length all_best.now ≤ most_payoffs }
-    ensures { OnOk result (text.new.items
-        ≡ text.old.items ++ lines_text (lines_below counts.now all_best.now (length all_best.now))) }
+    ensures { OnOk result (text.new.items ≡ text.old.items
+        ++ lines_text (lines_below counts.now all_best.now (length all_best.now))) }
 {
     for rank in 0..all_best.len() {
         set_ranked(profile, counts, all_best.len(), rank);

@@ -16,7 +16,7 @@ pub record Listing : Type 0 where
   pub orders : List (List ℕ)
   pub all_best : List Bool
 
--- these
+-- the listing with these parts
 abbrev pub listing : GameTree → ReducedForm → List (List ℕ) → List Bool → Listing
 listing tree reduced orders all_best = record { tree = tree; reduced = reduced; orders = orders; all_best = all_best }
 

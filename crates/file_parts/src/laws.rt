@@ -18,7 +18,8 @@ pub fn whole_numbers_are_read()
 
 /// Names are read exactly where one or more texts stand in braces.
 pub fn names_are_read<K>()
-    ensures sound { (kind : K) (tokens rest : List Token) (names : List (List ℕ)) → parse_names kind tokens ≡ Ok (names, rest)
+    ensures sound { (kind : K) (tokens rest : List Token) (names : List (List ℕ))
+        → parse_names kind tokens ≡ Ok (names, rest)
         → (1 ≤ length names) × (tokens ≡ braced_texts names ++ rest) }
     ensures complete { (kind : K) (rest : List Token) (names : List (List ℕ)) → 1 ≤ length names
         → parse_names kind (braced_texts names ++ rest) ≡ Ok (names, rest) }
@@ -26,16 +27,20 @@ pub fn names_are_read<K>()
 
 /// So many payoffs are read exactly where so many numbers stand.
 pub fn payoffs_are_read<K>()
-    ensures sound { (kind : K) (n : ℕ) (tokens rest : List Token) (payoffs : List ℚ) → parse_payoffs kind n tokens ≡ Ok (payoffs, rest)
+    ensures sound { (kind : K) (n : ℕ) (tokens rest : List Token) (payoffs : List ℚ)
+        → parse_payoffs kind n tokens ≡ Ok (payoffs, rest)
         → (front : List Token) × AreNumbers front payoffs × (length payoffs ≡ n) × (tokens ≡ front ++ rest) }
-    ensures complete { (kind : K) (front rest : List Token) (payoffs : List ℚ) → AreNumbers front payoffs
+    ensures complete { (kind : K) (front rest : List Token) (payoffs : List ℚ)
+        → AreNumbers front payoffs
         → parse_payoffs kind (length payoffs) (front ++ rest) ≡ Ok (payoffs, rest) }
 {}
 
 /// A title is read exactly where one stands after the header of its format.
 pub fn titles_are_read<K>()
-    ensures sound { (kind : K) (word : List ℕ) (version : ℕ) (tokens rest : List Token) (title : List ℕ) → parse_title kind word version tokens ≡ Ok (title, rest)
+    ensures sound { (kind : K) (word : List ℕ) (version : ℕ) (tokens rest : List Token)
+        (title : List ℕ) → parse_title kind word version tokens ≡ Ok (title, rest)
         → (header : List Token) × IsHeader word version header × (tokens ≡ header ++ Text title ∷ rest) }
-    ensures complete { (kind : K) (word : List ℕ) (version : ℕ) (header rest : List Token) (title : List ℕ) → IsHeader word version header
+    ensures complete { (kind : K) (word : List ℕ) (version : ℕ) (header rest : List Token)
+        (title : List ℕ) → IsHeader word version header
         → parse_title kind word version (header ++ Text title ∷ rest) ≡ Ok (title, rest) }
 {}

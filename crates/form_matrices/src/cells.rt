@@ -20,7 +20,8 @@ pub fn dense(
     requires in_order { AreInOrder cells.now }
     requires same { length numbers.now ≡ length cells.now }
     ensures length { IfOk result (λ matrix. length matrix.items ≡ rows * columns) }
-    ensures entries { IfOk result (λ matrix. HoldsNumbers rows columns (placed cells.now numbers.now) matrix.items) }
+    ensures entries { IfOk result
+        (λ matrix. HoldsNumbers rows columns (placed cells.now numbers.now) matrix.items) }
 {
     let mut matrix = vec![in alloc; Frac::zero(); rows * columns]?;
     for k in 0..cells.len() {

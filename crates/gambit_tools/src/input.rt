@@ -38,14 +38,17 @@ fn read_piece<I: Inputs>(
     ensures longer { IfOk result (λ count. vec_len bytes.new ≡ vec_len bytes.old + count) }
 
     // What was read so far and what is left are the input's bytes.
-    ensures so_far { OnOk result ((start : Option (List ℕ)) → Consumes start (I.seen inputs.old).left bytes.old.items
+    ensures so_far { OnOk result
+        ((start : Option (List ℕ)) → Consumes start (I.seen inputs.old).left bytes.old.items
         → Consumes start (I.seen inputs.new).left bytes.new.items) }
-    ensures at_end { result ≡ Ok 0 → (start : Option (List ℕ)) → Consumes start (I.seen inputs.old).left bytes.old.items
+    ensures at_end { result ≡ Ok 0 → (start : Option (List ℕ))
+        → Consumes start (I.seen inputs.old).left bytes.old.items
         → AreBytesOf start bytes.new.items }
     ensures nothing_left { result ≡ Ok 0 → IsAtEnd (I.seen inputs.new).left }
 
     ensures selected { OnOk result ((I.seen inputs.new).selected ≡ (I.seen inputs.old).selected) }
-    ensures no_fault { OnOk result ((I.seen inputs.new).read_faults ≡ (I.seen inputs.old).read_faults) }
+    ensures no_fault { OnOk result
+        ((I.seen inputs.new).read_faults ≡ (I.seen inputs.old).read_faults) }
     ensures refused { IfErr result (IsPieceRefusal
         (I.seen inputs.old)
         (I.seen inputs.new)) }
@@ -67,11 +70,14 @@ fn read_piece<I: Inputs>(
 fn read_selected<I: Inputs>(alloc: Global, inputs: &mut I) -> Result<Vec<u8>, Refusal>
     ensures bytes { IfOk result (λ bytes. AreBytesOf (I.seen inputs.old).left bytes.items) }
     ensures within_limit { IfOk result (λ bytes. vec_len bytes ≤ most_bytes) }
-    ensures read { OnOk result (((I.seen inputs.new).selected ≡ (I.seen inputs.old).selected) × IsAtEnd (I.seen inputs.new).left) }
+    ensures read { OnOk result
+        (((I.seen inputs.new).selected ≡ (I.seen inputs.old).selected)
+        × IsAtEnd (I.seen inputs.new).left) }
     ensures refused { IfErr result (IsReadingRefusal (I.seen inputs.old).left
         (I.seen inputs.old)
         (I.seen inputs.new)) }
-    ensures no_fault { OnOk result ((I.seen inputs.new).read_faults ≡ (I.seen inputs.old).read_faults) }
+    ensures no_fault { OnOk result
+        ((I.seen inputs.new).read_faults ≡ (I.seen inputs.old).read_faults) }
     ensures open_faults { (I.seen inputs.new).open_faults ≡ (I.seen inputs.old).open_faults }
     ensures selections { (I.seen inputs.new).selections ≡ (I.seen inputs.old).selections }
     ensures held { (n : InputName) → (I.seen inputs.new).held n ≡ (I.seen inputs.old).held n }
@@ -95,7 +101,9 @@ pub fn read_input<I: Inputs>(
     inputs: &mut I,
     name: Option<String>,
 ) -> Result<Vec<u8>, Refusal>
-    ensures bytes { IfOk result (λ bytes. AreBytesOf ((I.seen inputs.old).held (option_map string_bytes name)) bytes.items) }
+    ensures bytes { IfOk result
+        (λ bytes. AreBytesOf
+        ((I.seen inputs.old).held (option_map string_bytes name)) bytes.items) }
     ensures within_limit { IfOk result (λ bytes. length bytes.items ≤ most_bytes) }
     ensures read { OnOk result (IsReadToEnd (option_map string_bytes name) (I.seen inputs.new)) }
     ensures refused { IfErr result (IsInputRefusal (option_map string_bytes name)

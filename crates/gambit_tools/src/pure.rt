@@ -24,7 +24,8 @@ fn form_text(
     reduced: &Reduced,
 ) -> Result<Vec<u8>, ListStop>
     requires form { IsReducedForm tree.now reduced.now }
-    ensures { Gives list_stop.Memory (form_text strategic tree.now reduced.now) (map_ok result (λ text. text.items)) }
+    ensures { Gives list_stop.Memory (form_text strategic tree.now reduced.now)
+        (map_ok result (λ text. text.items)) }
 {
     if strategic {
         list_pure_equilibria(alloc, reduced.table())
@@ -35,7 +36,8 @@ fn form_text(
 
 /// The text of the pure equilibria of a game; those of a tree by strategies or as behaviour.
 fn pure_equilibria(alloc: Global, strategic: bool, game: &Game) -> Result<Vec<u8>, Refusal>
-    ensures { Gives Refusal.Memory (enumpure strategic game.now) (map_ok result (λ text. text.items)) }
+    ensures { Gives Refusal.Memory (enumpure strategic game.now)
+        (map_ok result (λ text. text.items)) }
 {
     match game {
         Game::Strategic(table) => Ok(list_pure_equilibria(alloc, table)?),

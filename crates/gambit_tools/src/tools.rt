@@ -93,7 +93,8 @@ fn answer<R: Threads + Sync, I: Inputs, K: Sink, G: Gate>(
     ensures counts { CountsDetermine
         (I.seen inputs.old)
         (I.seen inputs.new) (result_err result) }
-    ensures output_faults { (K.seen out.old).faults < (K.seen out.new).faults → result_err result ≡ Some Refusal.WriteFault }
+    ensures output_faults { (K.seen out.old).faults < (K.seen out.new).faults
+        → result_err result ≡ Some Refusal.WriteFault }
     ensures held { (n : InputName) → (I.seen inputs.new).held n ≡ (I.seen inputs.old).held n }
 {
     let settings = match read_settings(alloc, words) {
@@ -185,7 +186,8 @@ pub fn run<R: Threads + Sync, I: Inputs, K: Sink, E: Sink, G: Gate>(
 
 /// The contents of a command's inputs have at most one answer.
 pub fn answers_are_single()
-    ensures { (command : Command) (contents : List (List ℕ)) → IsSingle (answer_of command contents) }
+    ensures { (command : Command) (contents : List (List ℕ))
+        → IsSingle (answer_of command contents) }
 {
     trees_are_game_trees();
     sets_are_numbered_by_first_nodes();

@@ -28,7 +28,13 @@ impl Model for Table {
 
     ghost view = { λ t. record { title = t.title; players = t.players.items; strategies = map (λ v. v.items) t.strategies.items; payoffs = t.payoffs.items } };
 
-    ghost invariant = { λ t. IsTable (record { title = t.title; players = t.players.items; strategies = map (λ v. v.items) t.strategies.items; payoffs = t.payoffs.items }) };
+    ghost invariant = { λ t. IsTable
+        (record {
+          title = t.title;
+          players = t.players.items;
+          strategies = map (λ v. v.items) t.strategies.items;
+          payoffs = t.payoffs.items;
+        }) };
 }
 
 impl Table {
@@ -40,8 +46,18 @@ impl Table {
         strategies: Vec<Vec<Name>>,
         payoffs: Vec<Frac>,
     ) -> Table
-        requires { IsTable (record { title = title; players = players.items; strategies = map (λ v. v.items) strategies.items; payoffs = payoffs.items }) }
-        ensures { result ≡ record { title = title; players = players.items; strategies = map (λ v. v.items) strategies.items; payoffs = payoffs.items } }
+        requires { IsTable (record {
+          title = title;
+          players = players.items;
+          strategies = map (λ v. v.items) strategies.items;
+          payoffs = payoffs.items;
+        }) }
+        ensures { result ≡ record {
+          title = title;
+          players = players.items;
+          strategies = map (λ v. v.items) strategies.items;
+          payoffs = payoffs.items;
+        } }
     {
         Table {
             title,

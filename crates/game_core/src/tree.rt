@@ -80,7 +80,13 @@ impl InfoSet {
         actions: Vec<Action>,
         members: Vec<u32>,
     ) -> InfoSet
-        ensures { result ≡ record { owner = owner; label = label; name = name; actions = actions.items; members = members.items } }
+        ensures { result ≡ record {
+          owner = owner;
+          label = label;
+          name = name;
+          actions = actions.items;
+          members = members.items;
+        } }
     {
         InfoSet {
             owner,
@@ -231,7 +237,14 @@ impl Model for Tree {
 
     ghost view = { λ t. record { title = t.title; players = t.players.items; nodes = t.nodes.items; sets = t.sets.items; outcomes = t.outcomes.items } };
 
-    ghost invariant = { λ t. IsTree (record { title = t.title; players = t.players.items; nodes = t.nodes.items; sets = t.sets.items; outcomes = t.outcomes.items })
+    ghost invariant = { λ t. IsTree
+        (record {
+          title = t.title;
+          players = t.players.items;
+          nodes = t.nodes.items;
+          sets = t.sets.items;
+          outcomes = t.outcomes.items;
+        })
         × AreOwnLists t.sets.items (length t.players.items) (map (λ v. v.items) t.own.items) };
 }
 
@@ -245,8 +258,21 @@ impl Tree {
         sets: Vec<InfoSet>,
         outcomes: Vec<Outcome>,
     ) -> Result<Tree, Memory>
-        requires { IsTree (record { title = title; players = players.items; nodes = nodes.items; sets = sets.items; outcomes = outcomes.items }) }
-        ensures { IfOk result (λ t. t ≡ record { title = title; players = players.items; nodes = nodes.items; sets = sets.items; outcomes = outcomes.items }) }
+        requires { IsTree (record {
+          title = title;
+          players = players.items;
+          nodes = nodes.items;
+          sets = sets.items;
+          outcomes = outcomes.items;
+        }) }
+        ensures { IfOk result
+            (λ t. t ≡ record {
+              title = title;
+              players = players.items;
+              nodes = nodes.items;
+              sets = sets.items;
+              outcomes = outcomes.items;
+            }) }
     {
         let own = own_lists(alloc, players.len(), sets.as_slice())?;
         Ok(Tree {

@@ -93,7 +93,8 @@ fn compare_rows(
     requires distinct { HasEachOnce basics.now nonbasics.now numbers.now }
     requires positive { IsPositiveIn nonbasics.now numbers.now row column }
     requires best_positive { IsPositiveIn nonbasics.now numbers.now best column }
-    ensures { ComparesRows (suc rated) starts.now basics.now nonbasics.now numbers.now column row best result }
+    ensures { ComparesRows
+        (suc rated) starts.now basics.now nonbasics.now numbers.now column row best result }
 {
     for place in 0..rated + 1 {
         match compare_at(basics, nonbasics, numbers, starts, column, row, best, place) {

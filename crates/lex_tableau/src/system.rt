@@ -29,7 +29,8 @@ impl Model for System {
 
     ghost view = { λ s. parts_of s.basics.items s.nonbasics.items s.cells.items s.rated };
 
-    ghost invariant = { λ s. IsSystem (parts_of s.basics.items s.nonbasics.items s.cells.items s.rated) };
+    ghost invariant = { λ s. IsSystem
+        (parts_of s.basics.items s.nonbasics.items s.cells.items s.rated) };
 }
 
 impl System {

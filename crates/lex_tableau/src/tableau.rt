@@ -41,7 +41,8 @@ impl Model for Tableau {
 
     ghost view = { λ t. numbers_of t.starts.items t.basics.items t.nonbasics.items t.rated t.numbers.items };
 
-    ghost invariant = { λ t. IsTableau (numbers_of t.starts.items t.basics.items t.nonbasics.items t.rated t.numbers.items) };
+    ghost invariant = { λ t. IsTableau
+        (numbers_of t.starts.items t.basics.items t.nonbasics.items t.rated t.numbers.items) };
 }
 
 // The fraction at a place of a row.

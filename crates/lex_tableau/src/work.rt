@@ -31,7 +31,8 @@ impl Model for Work {
 
     ghost view = { λ w. w.tableau };
 
-    ghost invariant = { λ w. (length w.spare.items ≡ length w.tableau.numbers) × IsTableau w.tableau };
+    ghost invariant = { λ w. (length w.spare.items ≡ length w.tableau.numbers)
+        × IsTableau w.tableau };
 }
 
 impl Work {

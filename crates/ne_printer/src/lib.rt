@@ -46,7 +46,8 @@ pub fn push_numbers(
     name: &[u8],
     numbers: &[Frac],
 ) -> Result<(), Memory>
-    ensures line { OnOk result (text.new.items ≡ text.old.items ++ numbers_line name.now numbers.now) }
+    ensures line { OnOk result
+        (text.new.items ≡ text.old.items ++ numbers_line name.now numbers.now) }
     ensures memory { OnErr result (text.new.items ≡ text.old.items) }
 {
     let length = text.len();
@@ -82,7 +83,8 @@ fn push_parts(
     name: &[u8],
     numbers: &[Frac],
 ) -> Result<(), Memory>
-    ensures line { OnOk result (text.new.items ≡ text.old.items ++ numbers_line name.now numbers.now) }
+    ensures line { OnOk result
+        (text.new.items ≡ text.old.items ++ numbers_line name.now numbers.now) }
     ensures kept { BeginsWith text.old.items text.new.items }
 {
     text.extend_from_slice(name)?;

@@ -40,7 +40,19 @@ impl MemInputs {
     /// Inputs with these bytes under no name, these names with bytes, of which the first counts where names are
     /// equal, and these numbers of the calls that fail. Takes no memory.
     pub fn new(plain: Vec<u8>, named: Vec<(String, Vec<u8>)>, failing: Vec<u64>) -> MemInputs
-        ensures state { result ≡ record { plain = plain.items; named = map (λ p. (string_bytes p.0, p.1.items)) named.items; failing = failing.items; calls = 0; selected = None; failed = None; position = 0; selections = 0; open_faults = 0; read_faults = 0 } }
+        ensures state { result
+            ≡ record {
+              plain = plain.items;
+              named = map (λ p. (string_bytes p.0, p.1.items)) named.items;
+              failing = failing.items;
+              calls = 0;
+              selected = None;
+              failed = None;
+              position = 0;
+              selections = 0;
+              open_faults = 0;
+              read_faults = 0;
+            } }
         ensures held { (n : InputName)
             → (⟦<MemInputs as Inputs>⟧.seen result).held n
             ≡ bytes_held plain.items (map (λ p. (string_bytes p.0, p.1.items)) named.items) n }
@@ -120,8 +132,22 @@ impl Inputs for MemInputs {
             ↔ (Contains self.old.failing (next_count self.old.calls)
             ⊎ (bytes_held self.old.plain self.old.named (option_map string_bytes name)
             ≡ None)) }
-        ensures selected { OnOk result (self.new ≡ record self.old { calls = next_count self.old.calls; selected = Some (option_map string_bytes name); position = 0; selections = next_count self.old.selections }) }
-        ensures refused { OnErr result (self.new ≡ record self.old { calls = next_count self.old.calls; selected = None; failed = Some (option_map string_bytes name); position = 0; selections = next_count self.old.selections; open_faults = next_count self.old.open_faults }) }
+        ensures selected { OnOk result
+            (self.new ≡ record self.old {
+              calls = next_count self.old.calls;
+              selected = Some (option_map string_bytes name);
+              position = 0;
+              selections = next_count self.old.selections;
+            }) }
+        ensures refused { OnErr result
+            (self.new ≡ record self.old {
+              calls = next_count self.old.calls;
+              selected = None;
+              failed = Some (option_map string_bytes name);
+              position = 0;
+              selections = next_count self.old.selections;
+              open_faults = next_count self.old.open_faults;
+            }) }
     {
         let fails = self.counts_failing();
         let absent = self.bytes_of(&name).is_none();
@@ -161,8 +187,18 @@ impl Inputs for MemInputs {
         ensures count { IfOk result (λ n. n ≡ min (length (bytes_left self.old)) (length buf.old)) }
         ensures fills { IfOk result (λ n. buf.new
             ≡ take n (bytes_left self.old) ++ drop n buf.old) }
-        ensures reads { IfOk result (λ n. self.new ≡ record self.old { calls = next_count self.old.calls; position = self.old.position + n }) }
-        ensures refused { OnErr result (self.new ≡ record self.old { calls = next_count self.old.calls; selected = None; failed = self.old.selected; read_faults = next_count self.old.read_faults }) }
+        ensures reads { IfOk result
+            (λ n. self.new ≡ record self.old {
+              calls = next_count self.old.calls;
+              position = self.old.position + n;
+            }) }
+        ensures refused { OnErr result
+            (self.new ≡ record self.old {
+              calls = next_count self.old.calls;
+              selected = None;
+              failed = self.old.selected;
+              read_faults = next_count self.old.read_faults;
+            }) }
         ensures unfilled { OnErr result (buf.new ≡ buf.old) }
     {
         let fails = self.counts_failing();

@@ -29,7 +29,8 @@ impl Model for MemSink {
 
     ghost view = { λ s. record { taken = s.bytes.items; most = s.most; limit = s.limit; flush_fails = s.flush_fails; flushed = s.flushed; faults = s.faults } };
 
-    ghost invariant = { λ s. (0 < s.most) × (s.limit ≤ vec_capacity s.bytes) × (vec_len s.bytes ≤ s.limit) };
+    ghost invariant = { λ s. (0 < s.most) × (s.limit ≤ vec_capacity s.bytes)
+        × (vec_len s.bytes ≤ s.limit) };
 }
 
 impl MemSink {
@@ -41,7 +42,15 @@ impl MemSink {
         flush_fails: bool,
     ) -> Result<MemSink, Memory>
         requires { 0 < most }
-        ensures state { IfOk result (λ s. s ≡ record { taken = []; most = most; limit = limit; flush_fails = flush_fails; flushed = false; faults = 0 }) }
+        ensures state { IfOk result
+            (λ s. s ≡ record {
+              taken = [];
+              most = most;
+              limit = limit;
+              flush_fails = flush_fails;
+              flushed = false;
+              faults = 0;
+            }) }
         ensures taken { IfOk result (λ s. (⟦<MemSink as Sink>⟧.seen s).taken ≡ Some []) }
         ensures not_flushed { IfOk result (λ s. (⟦<MemSink as Sink>⟧.seen s).flushed ≡ false) }
         ensures faults { IfOk result (λ s. (⟦<MemSink as Sink>⟧.seen s).faults ≡ 0) }
@@ -81,8 +90,13 @@ impl Sink for MemSink {
         ensures full { IsErr result
             ↔ ((0 < length piece.now) × (self.old.limit ≤ length self.old.taken)) }
         ensures count { IfOk result (λ n. n ≡ count_taken self.old piece.now) }
-        ensures takes { IfOk result (λ n. self.new ≡ record self.old { taken = self.old.taken ++ take n piece.now; flushed = false }) }
-        ensures refuses { OnErr result (self.new ≡ record self.old { flushed = false; faults = next_count self.old.faults }) }
+        ensures takes { IfOk result
+            (λ n. self.new ≡ record self.old {
+              taken = self.old.taken ++ take n piece.now;
+              flushed = false;
+            }) }
+        ensures refuses { OnErr result
+            (self.new ≡ record self.old { flushed = false; faults = next_count self.old.faults }) }
     {
         self.flushed = false;
         let room = self.most.min(self.limit - self.bytes.len());
@@ -109,7 +123,8 @@ impl Sink for MemSink {
 
         ensures fails { IsErr result ↔ IsTrue self.old.flush_fails }
         ensures flushes { OnOk result (self.new ≡ record self.old { flushed = true }) }
-        ensures refuses { OnErr result (self.new ≡ record self.old { flushed = false; faults = next_count self.old.faults }) }
+        ensures refuses { OnErr result
+            (self.new ≡ record self.old { flushed = false; faults = next_count self.old.faults }) }
     {
         self.flushed = !self.flush_fails;
         if self.flush_fails {

@@ -75,8 +75,20 @@ impl<'a, R: Files + Input + Drop> Inputs for RealInputs<'a, R> {
 
         ensures opens { OnOk result (is_some self.new.file ≡ is_some name) }
         ensures standard { OnOk result (IsNone name → source_left self.new ≡ self.old.standard) }
-        ensures selected { OnOk result (self.new ≡ record self.old { file = self.new.file; selected = Some (option_map string_bytes name); selections = next_count self.old.selections }) }
-        ensures refused { OnErr result (self.new ≡ record self.old { file = None; selected = None; failed = Some (option_map string_bytes name); selections = next_count self.old.selections; open_faults = next_count self.old.open_faults }) }
+        ensures selected { OnOk result
+            (self.new ≡ record self.old {
+              file = self.new.file;
+              selected = Some (option_map string_bytes name);
+              selections = next_count self.old.selections;
+            }) }
+        ensures refused { OnErr result
+            (self.new ≡ record self.old {
+              file = None;
+              selected = None;
+              failed = Some (option_map string_bytes name);
+              selections = next_count self.old.selections;
+              open_faults = next_count self.old.open_faults;
+            }) }
     {
         self.selections = self.selections.saturating_add(1);
         match open_named(self.rt, &name) {
@@ -112,7 +124,14 @@ impl<'a, R: Files + Input + Drop> Inputs for RealInputs<'a, R> {
         ensures standard { is_named self.old.selected ≡ true
             → self.new.standard ≡ self.old.standard }
         ensures nothing { self.old.selected ≡ None → self.new ≡ self.old }
-        ensures refused { OnErr result (self.new ≡ record self.old { standard = self.new.standard; file = None; selected = None; failed = self.old.selected; read_faults = next_count self.old.read_faults }) }
+        ensures refused { OnErr result
+            (self.new ≡ record self.old {
+              standard = self.new.standard;
+              file = None;
+              selected = None;
+              failed = self.old.selected;
+              read_faults = next_count self.old.read_faults;
+            }) }
     {
         if self.selected.is_none() {
             return Ok(0);

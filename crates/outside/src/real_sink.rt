@@ -30,7 +30,8 @@ impl<W: Write + Drop> Model for RealSink<W> {
 impl<W: Write + Drop> RealSink<W> {
     /// A sink over a writer.
     pub fn new(inner: W) -> RealSink<W>
-        ensures state { result ≡ record { contents = W.contents inner; flushed = false; faults = 0 } }
+        ensures state { result
+            ≡ record { contents = W.contents inner; flushed = false; faults = 0 } }
         ensures not_flushed { (⟦<RealSink<W> as Sink>⟧.seen result).flushed ≡ false }
         ensures faults { (⟦<RealSink<W> as Sink>⟧.seen result).faults ≡ 0 }
     {

@@ -144,7 +144,8 @@ impl<'a> Play<'a> {
         ensures keep { KeepShortcuts (game_of self.now) (choice_of self.now) shortcuts.new }
         ensures gives { let t = game_of self.now in
             let choice = choice_of self.now in
-            Give (steps_after t choice player node set (t.owner set)) (value_after t choice player node set (t.owner set)) result }
+            Give (steps_after t choice player node set (t.owner set))
+            (value_after t choice player node set (t.owner set)) result }
     {
         match kind {
             Kind::Move { player: owner } => {
@@ -172,7 +173,8 @@ impl<'a> Play<'a> {
         ensures keep { KeepShortcuts (game_of self.now) (choice_of self.now) shortcuts.new }
         ensures gives { let t = game_of self.now in
             let choice = choice_of self.now in
-            Give (steps_after t choice player node set None) (value_after t choice player node set None) result }
+            Give (steps_after t choice player node set None)
+            (value_after t choice player node set None) result }
     {
         let actions = self.tree.sets()[set as usize].actions();
         let children = &self.children[node as usize];
@@ -201,7 +203,8 @@ impl<'a> Play<'a> {
         ensures keep { KeepShortcuts (game_of self.now) (choice_of self.now) shortcuts.new }
         ensures gives { let t = game_of self.now in
             let choice = choice_of self.now in
-            Give (branch_steps prob sum (value t (pure choice) player child) (steps_at t choice player child)) (sum +ℚ prob *ℚ value t (pure choice) player child) result }
+            Give (branch_steps prob sum (value t (pure choice) player child) (steps_at t choice player child))
+            (sum +ℚ prob *ℚ value t (pure choice) player child) result }
     {
         if prob.is_zero() {
             return Ok(sum);

@@ -229,7 +229,8 @@ impl Refusal {
 
     /// The line on standard error, with its line feed, where it names no numbers. Takes no memory.
     pub fn fixed_line(&self) -> Option<&'static str>
-        ensures { MatchOption result (NamesNumbers self.now) (λ line. line.now ≡ refusal_line self.now) }
+        ensures { MatchOption result (NamesNumbers self.now)
+            (λ line. line.now ≡ refusal_line self.now) }
     {
         match self {
             Refusal::Usage(Usage::NoTool) => Some("gambit: no tool\n"),

@@ -72,7 +72,16 @@ impl Model for SeqForm {
 
     ghost view = { λ f. record { first = f.first; second = f.second; leaves = f.leaves.items; cells = f.cells.items; greatest_one = f.extremes.greatest_one; greatest_two = f.extremes.greatest_two; least_one = f.extremes.least_one } };
 
-    ghost invariant = { λ f. IsFormData (record { first = f.first; second = f.second; leaves = f.leaves.items; cells = f.cells.items; greatest_one = f.extremes.greatest_one; greatest_two = f.extremes.greatest_two; least_one = f.extremes.least_one }) };
+    ghost invariant = { λ f. IsFormData
+        (record {
+          first = f.first;
+          second = f.second;
+          leaves = f.leaves.items;
+          cells = f.cells.items;
+          greatest_one = f.extremes.greatest_one;
+          greatest_two = f.extremes.greatest_two;
+          least_one = f.extremes.least_one;
+        }) };
 }
 
 impl SeqForm {

@@ -36,18 +36,22 @@ pub use types::{Cell, Leaf, SetRow};
 
 /// Leaves have one list of cells.
 pub fn cells_are_one()
-    ensures { (leaves : List Leaf) (one other : List Cell) → AreCells leaves one → AreCells leaves other → one ≡ other }
+    ensures { (leaves : List Leaf) (one other : List Cell) → AreCells leaves one
+        → AreCells leaves other → one ≡ other }
 {}
 
 /// One step is the first that does not fit, and there is none where all fit.
 pub fn stops_are_exact()
-    ensures one { (steps : List PlacedStep) (k m : ℕ) (step other : Step) → IsFirstUnfitAt steps k step → IsFirstUnfitAt steps m other → (k ≡ m) × (step ≡ other) }
-    ensures none { (steps : List PlacedStep) (k : ℕ) (step : Step) → IsFirstUnfitAt steps k step → AllFit steps → ⊥ }
+    ensures one { (steps : List PlacedStep) (k m : ℕ) (step other : Step)
+        → IsFirstUnfitAt steps k step → IsFirstUnfitAt steps m other → (k ≡ m) × (step ≡ other) }
+    ensures none { (steps : List PlacedStep) (k : ℕ) (step : Step) → IsFirstUnfitAt steps k step
+        → AllFit steps → ⊥ }
 {}
 
 /// One number is the greatest, and one the least.
 pub fn extremes_are_one()
-    ensures greatest { (numbers : List ℚ) (v w : ℚ) → IsGreatest numbers v → IsGreatest numbers w → v ≡ w }
+    ensures greatest { (numbers : List ℚ) (v w : ℚ) → IsGreatest numbers v → IsGreatest numbers w
+        → v ≡ w }
     ensures least { (numbers : List ℚ) (v w : ℚ) → IsLeast numbers v → IsLeast numbers w → v ≡ w }
 {}
 

@@ -22,7 +22,8 @@ pub(crate) fn at_most_one<'a>(texts: Option<&[&'a str]>) -> Result<Option<&'a st
 
 // A copy of the text.
 fn owned(alloc: Global, text: Option<&str>) -> Result<Option<String>, SettingsStop>
-    ensures copy { IfOk result (λ t. option_map string_bytes t ≡ option_map (λ s. s.now) text.entry) }
+    ensures copy { IfOk result
+        (λ t. option_map string_bytes t ≡ option_map (λ s. s.now) text.entry) }
     ensures memory { IfErr result (λ e. e ≡ SettingsStop.Memory) }
 {
     let Some(text) = text else {

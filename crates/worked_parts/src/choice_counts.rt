@@ -18,7 +18,10 @@ fn first(place: u32) -> Decision
 
 // A decision at a place after an action, counted from 0, of the first decision, whose place is 0.
 fn following(place: u32, action: u32) -> Decision
-    ensures { result ≡ record { place = place; before = Some (record { decision = 0; place = 0; action = action }) } }
+    ensures { result ≡ record {
+      place = place;
+      before = Some (record { decision = 0; place = 0; action = action });
+    } }
 {
     let before = Edge {
         decision: 0,

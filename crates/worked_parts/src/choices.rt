@@ -19,7 +19,10 @@ fn first(place: u32) -> Decision
 
 // A decision after an action, counted from 0, of a decision at a place.
 fn after(place: u32, decision: u32, earlier: u32, action: u32) -> Decision
-    ensures { result ≡ record { place = place; before = Some (record { decision = decision; place = earlier; action = action }) } }
+    ensures { result ≡ record {
+      place = place;
+      before = Some (record { decision = decision; place = earlier; action = action });
+    } }
 {
     Decision {
         place,
