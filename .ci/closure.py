@@ -158,8 +158,10 @@ def contract_text(path, name):
     type_name, _, method = name.rpartition("::")
     text, indent = source(path), "    " if type_name else ""
     start = re.search(rf"^impl[^\n]*\b{type_name}\b[^\n]*{{", text, re.M).start() if type_name else 0
-    start = re.compile(rf"^{indent}pub fn {method}\b", re.M).search(text, start).start()
-    return text[start:re.compile(rf"\n{indent}{{| {{\n").search(text, start).start()]
+    text = text[re.compile(rf"^{indent}pub fn {method}\b", re.M).search(text, start).start():]
+    signature = re.split(r"\n *(?:requires|ensures)\b", text)[0]
+    body = re.search(r" {\n", signature) or re.search(rf"\n{indent}{{", text)
+    return text[:body.start()]
 
 
 def used_by_function(path, name):
