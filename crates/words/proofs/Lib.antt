@@ -9,3 +9,4 @@ pub mod Numbers
 pub mod Answered
 pub mod Named
 pub mod Ranges
+pub mod Apps

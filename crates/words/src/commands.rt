@@ -1,6 +1,6 @@
 //! The words of each tool, collected by a command of `clap`.
 
-ghost use Rattle.std.specs.Prelude.{◌≡◌, map, string_bytes, IfOk, IfErr, None, true, codes};
+ghost use Rattle.std.specs.Prelude.{◌≡◌, [], map, string_bytes, IfOk, IfErr, None, false, true, codes};
 ghost use Rattle.clap.specs.Matches.{found_of};
 ghost use Rattle.clap.specs.Simple.{app_of, with_rule};
 ghost use Rattle.clap.specs.Walk.{rows_of};
@@ -64,78 +64,78 @@ fn with_prices<'a>(alloc: Global, command: Command<'a>) -> Result<Command<'a>, A
     command.arg(prices)
 }
 
-/// The command of `enumpure`.
-#[tactic(auto, unfolding(crate::specs::Commands::app_with))]
-pub(crate) fn enumpure_command<'a>(alloc: Global) -> Result<Command<'a>, AllocError>
-    ensures { IfOk result (λ c. app_of c ≡ app_with enumpure_options) }
+// The command with the letter `q` alone.
+fn quiet_command<'a>(alloc: Global) -> Result<Command<'a>, AllocError>
+    ensures { IfOk result (λ c. app_of c
+        ≡ app_with (record { flags = codes "q"; valued = []; prices = false })) }
 {
     let plain = plain_command(alloc)?;
-    let quiet = with_flag(alloc, plain, "q", 'q')?;
+    with_flag(alloc, plain, "q", 'q')
+}
+
+// The command with the letters `q` and `S`.
+fn strategic_command<'a>(alloc: Global) -> Result<Command<'a>, AllocError>
+    ensures { IfOk result (λ c. app_of c
+        ≡ app_with (record { flags = codes "qS"; valued = []; prices = false })) }
+{
+    let quiet = quiet_command(alloc)?;
     with_flag(alloc, quiet, "S", 'S')
 }
 
+/// The command of `enumpure`.
+pub(crate) fn enumpure_command<'a>(alloc: Global) -> Result<Command<'a>, AllocError>
+    ensures { IfOk result (λ c. app_of c ≡ app_with enumpure_options) }
+{
+    strategic_command(alloc)
+}
+
 /// The command of `enummixed`.
-#[tactic(auto, unfolding(crate::specs::Commands::app_with))]
 pub(crate) fn enummixed_command<'a>(alloc: Global) -> Result<Command<'a>, AllocError>
     ensures { IfOk result (λ c. app_of c ≡ app_with enummixed_options) }
 {
-    let plain = plain_command(alloc)?;
-    let quiet = with_flag(alloc, plain, "q", 'q')?;
+    let quiet = quiet_command(alloc)?;
     let undominated = with_flag(alloc, quiet, "D", 'D')?;
     with_value(alloc, undominated, "-j", 'j')
 }
 
 /// The command of `lcp`.
-#[tactic(auto, unfolding(crate::specs::Commands::app_with))]
 pub(crate) fn lcp_command<'a>(alloc: Global) -> Result<Command<'a>, AllocError>
     ensures { IfOk result (λ c. app_of c ≡ app_with lcp_options) }
 {
-    let plain = plain_command(alloc)?;
-    let quiet = with_flag(alloc, plain, "q", 'q')?;
-    let strategic = with_flag(alloc, quiet, "S", 'S')?;
+    let strategic = strategic_command(alloc)?;
     with_value(alloc, strategic, "-e", 'e')
 }
 
 /// The command of `lp`.
-#[tactic(auto, unfolding(crate::specs::Commands::app_with))]
 pub(crate) fn lp_command<'a>(alloc: Global) -> Result<Command<'a>, AllocError>
     ensures { IfOk result (λ c. app_of c ≡ app_with lp_options) }
 {
-    let plain = plain_command(alloc)?;
-    let quiet = with_flag(alloc, plain, "q", 'q')?;
-    let strategic = with_flag(alloc, quiet, "S", 'S')?;
+    let strategic = strategic_command(alloc)?;
     with_prices(alloc, strategic)
 }
 
 /// The command of `convert`.
-#[tactic(auto, unfolding(crate::specs::Commands::app_with))]
 pub(crate) fn convert_command<'a>(alloc: Global) -> Result<Command<'a>, AllocError>
     ensures { IfOk result (λ c. app_of c ≡ app_with convert_options) }
 {
-    let plain = plain_command(alloc)?;
-    let quiet = with_flag(alloc, plain, "q", 'q')?;
+    let quiet = quiet_command(alloc)?;
     let layouts = with_value(alloc, quiet, "-O", 'O')?;
     let rows = with_value(alloc, layouts, "-r", 'r')?;
     with_value(alloc, rows, "-c", 'c')
 }
 
 /// The command of `check`.
-#[tactic(auto, unfolding(crate::specs::Commands::app_with))]
 pub(crate) fn check_command<'a>(alloc: Global) -> Result<Command<'a>, AllocError>
     ensures { IfOk result (λ c. app_of c ≡ app_with check_options) }
 {
-    let plain = plain_command(alloc)?;
-    let quiet = with_flag(alloc, plain, "q", 'q')?;
-    with_flag(alloc, quiet, "S", 'S')
+    strategic_command(alloc)
 }
 
 /// The command of `make`.
-#[tactic(auto, unfolding(crate::specs::Commands::app_with))]
 pub(crate) fn make_command<'a>(alloc: Global) -> Result<Command<'a>, AllocError>
     ensures { IfOk result (λ c. app_of c ≡ app_with make_options) }
 {
-    let plain = plain_command(alloc)?;
-    let quiet = with_flag(alloc, plain, "q", 'q')?;
+    let quiet = quiet_command(alloc)?;
     with_value(alloc, quiet, "-j", 'j')
 }
 

@@ -1,0 +1,12 @@
+use Rattle.std.proofs.Common.{[], codes, false, refl}
+use Rattle.std.proofs.lemmas.Result.{IfOk-weaker}
+use Rattle.clap.specs.Simple.{app_of}
+use Rattle.words.specs.Commands.{value_rule}
+use Rattle.words.specs.Words.{lcp_options}
+use Rattle.words.proofs.Apps.{one_more}
+use Rattle.words.proofs.commands.lcp_command.Goals as goal
+
+pub returns : goal.returns
+returns c = IfOk-weaker c.with_value.result _ _ (λ r more.
+    one_more (record { flags = codes "qS"; valued = []; prices = false }) lcp_options (value_rule 101) (app_of c.in_ok-strategic.strategic) (app_of r)
+    c.in_ok-strategic.ensures more refl) c.with_value.ensures
