@@ -11,8 +11,6 @@
 
 mod claim_word;
 mod sharing;
-#[cfg(test)]
-mod tests;
 
 pub use claim_word::{Claims, Pass};
 pub use sharing::shared_map;

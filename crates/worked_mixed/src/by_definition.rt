@@ -7,18 +7,18 @@ use ne_printer::push_line;
 use std::alloc::Global;
 use std::cmp::Ordering;
 
-/// The payoffs of a game of two players: those of player one, a row for each of her strategies, and those of player two, a
-/// column for each of his.
-#[derive(Debug, Drop)]
-pub struct Payoffs {
-    pub rows: Vec<Vec<Frac>>,
-    pub columns: Vec<Vec<Frac>>,
+// The payoffs of a game of two players: those of player one, a row for each of her strategies, and those of player two, a
+// column for each of his.
+#[derive(Drop)]
+struct Payoffs {
+    rows: Vec<Vec<Frac>>,
+    columns: Vec<Vec<Frac>>,
 }
 
 impl Payoffs {
-    /// The payoffs of a table with so many rows and columns, from the list in the order of a file: profile by profile, player
-    /// one's strategy fastest, and of each profile those of both players.
-    pub fn of(alloc: Global, height: usize, width: usize, list: &[Frac]) -> Result<Payoffs, Stop> {
+    // The payoffs of a table with so many rows and columns, from the list in the order of a file: profile by profile, player
+    // one's strategy fastest, and of each profile those of both players.
+    fn of(alloc: Global, height: usize, width: usize, list: &[Frac]) -> Result<Payoffs, Stop> {
         let mut entries = list.iter().copied();
         let mut rows: Vec<Vec<Frac>> = Vec::new(alloc);
         for _ in 0..height {
@@ -35,14 +35,6 @@ impl Payoffs {
         }
         Ok(Payoffs { rows, columns })
     }
-}
-
-// A mixed strategy with its support and the other player's best replies to it.
-#[derive(Debug, Drop)]
-struct Mixed {
-    weights: Vec<Frac>,
-    support: Vec<bool>,
-    replies: Vec<bool>,
 }
 
 // All sets of so many, each as its flags.
@@ -68,13 +60,6 @@ fn with_one_more(alloc: Global, sets: &[Vec<bool>]) -> Result<Vec<Vec<bool>>, St
     Ok(longer)
 }
 
-// Whether each element of the one set is in the other.
-fn is_within(one: &[bool], other: &[bool]) -> bool {
-    one.iter()
-        .zip(other)
-        .all(|(first, second)| !*first || *second)
-}
-
 // What a pure reply gains against a mixed strategy.
 fn gain(payoffs: &[Frac], weights: &[Frac]) -> Result<Frac, Stop> {
     let mut sum = Frac::zero();
@@ -82,6 +67,17 @@ fn gain(payoffs: &[Frac], weights: &[Frac]) -> Result<Frac, Stop> {
         sum = sum.add(payoff.mul(*weight)?)?;
     }
     Ok(sum)
+}
+
+// The entries whose flags are set.
+fn chosen(alloc: Global, entries: &[Frac], flags: &[bool]) -> Result<Vec<Frac>, Stop> {
+    let mut chosen = Vec::new(alloc);
+    for (entry, flag) in entries.iter().zip(flags) {
+        if *flag {
+            chosen.push(*entry)?;
+        }
+    }
+    Ok(chosen)
 }
 
 // The entries whose flags are set, and then two more.
@@ -92,12 +88,7 @@ fn equation(
     gain: Frac,
     right: Frac,
 ) -> Result<Vec<Frac>, Stop> {
-    let mut equation = Vec::new(alloc);
-    for (value, flag) in entries.iter().zip(support) {
-        if *flag {
-            equation.push(*value)?;
-        }
-    }
+    let mut equation = chosen(alloc, entries, support)?;
     equation.push(gain)?;
     equation.push(right)?;
     Ok(equation)
@@ -188,21 +179,71 @@ fn determined(
 }
 
 // All mixed strategies that some support and some set of best replies determine.
-fn mixed_strategies(alloc: Global, size: usize, payoffs: &[Vec<Frac>]) -> Result<Vec<Mixed>, Stop> {
+fn mixed_strategies(
+    alloc: Global,
+    size: usize,
+    payoffs: &[Vec<Frac>],
+) -> Result<Vec<Vec<Frac>>, Stop> {
     let mut found = Vec::new(alloc);
     for support in &all_sets(alloc, size)? {
         for replies in &all_sets(alloc, payoffs.len())? {
             let weights = determined(alloc, payoffs, support.as_slice(), replies.as_slice())?;
             if let Some(weights) = weights {
-                found.push(Mixed {
-                    weights,
-                    support: Vec::from_slice(alloc, support.as_slice())?,
-                    replies: Vec::from_slice(alloc, replies.as_slice())?,
-                })?;
+                found.push(weights)?;
             }
         }
     }
     Ok(found)
+}
+
+// Whether no pure reply to a mixed strategy gains more.
+fn is_most(payoffs: &[Vec<Frac>], weights: &[Frac], most: Frac) -> Result<bool, Stop> {
+    for gains in payoffs {
+        if gain(gains.as_slice(), weights)?.cmp(most) == Ordering::Greater {
+            return Ok(false);
+        }
+    }
+    Ok(true)
+}
+
+// Whether a mixed strategy has best replies to another one alone. `payoffs` has a list for each reply.
+fn is_reply(payoffs: &[Vec<Frac>], reply: &[Frac], weights: &[Frac]) -> Result<bool, Stop> {
+    for (gains, part) in payoffs.iter().zip(reply) {
+        if part.signum() == 1 && !is_most(payoffs, weights, gain(gains.as_slice(), weights)?)? {
+            return Ok(false);
+        }
+    }
+    Ok(true)
+}
+
+// Whether each of two mixed strategies replies to the other.
+fn are_replies(payoffs: &Payoffs, one: &[Frac], two: &[Frac]) -> Result<bool, Stop> {
+    Ok(
+        is_reply(payoffs.rows.as_slice(), one, two)?
+            && is_reply(payoffs.columns.as_slice(), two, one)?,
+    )
+}
+
+// The entries of two mixed strategies.
+fn joined(alloc: Global, one: &[Frac], two: &[Frac]) -> Result<Vec<Frac>, Stop> {
+    let mut line = Vec::from_slice(alloc, one)?;
+    line.extend_from_slice(two)?;
+    Ok(line)
+}
+
+// The lines of all extreme equilibria of a game.
+fn extreme_equilibria(alloc: Global, payoffs: &Payoffs) -> Result<Vec<Vec<Frac>>, Stop> {
+    let firsts = mixed_strategies(alloc, payoffs.rows.len(), payoffs.columns.as_slice())?;
+    let seconds = mixed_strategies(alloc, payoffs.columns.len(), payoffs.rows.as_slice())?;
+    let mut lines = Vec::new(alloc);
+    for one in &firsts {
+        for two in &seconds {
+            if are_replies(payoffs, one.as_slice(), two.as_slice())? {
+                lines.push(joined(alloc, one.as_slice(), two.as_slice())?)?;
+            }
+        }
+    }
+    Ok(lines)
 }
 
 // The order of two lines: at the first entry in which they differ the greater one stands first.
@@ -216,22 +257,20 @@ fn line_order(one: &[Frac], other: &[Frac]) -> Ordering {
     Ordering::Equal
 }
 
-/// The text of all extreme equilibria of a game, each a line, those with the greater entries first.
-pub fn extreme_equilibria(alloc: Global, payoffs: &Payoffs) -> Result<Vec<u8>, Stop> {
-    let firsts = mixed_strategies(alloc, payoffs.rows.len(), payoffs.columns.as_slice())?;
-    let seconds = mixed_strategies(alloc, payoffs.columns.len(), payoffs.rows.as_slice())?;
-    let mut lines: Vec<Vec<Frac>> = Vec::new(alloc);
-    for one in &firsts {
-        for two in &seconds {
-            if is_within(one.support.as_slice(), two.replies.as_slice())
-                && is_within(two.support.as_slice(), one.replies.as_slice())
-            {
-                let mut line = Vec::from_slice(alloc, one.weights.as_slice())?;
-                line.extend_from_slice(two.weights.as_slice())?;
-                lines.push(line)?;
-            }
-        }
-    }
+// The lines of a game with so many rows and columns, from the list of its payoffs in the order of a file.
+fn lines_of(
+    alloc: Global,
+    height: usize,
+    width: usize,
+    list: &[Frac],
+) -> Result<Vec<Vec<Frac>>, Stop> {
+    let payoffs = Payoffs::of(alloc, height, width, list)?;
+    extreme_equilibria(alloc, &payoffs)
+}
+
+/// The text of all extreme equilibria of such a game, each a line, those with the greater entries first.
+pub fn text_of(alloc: Global, height: usize, width: usize, list: &[Frac]) -> Result<Vec<u8>, Stop> {
+    let mut lines = lines_of(alloc, height, width, list)?;
     lines.sort_unstable_by(|one, other| line_order(one.as_slice(), other.as_slice()));
     let mut text = Vec::new(alloc);
     for line in &lines {

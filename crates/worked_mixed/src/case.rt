@@ -19,10 +19,11 @@ pub struct Case<'a> {
 }
 
 impl<'a> Case<'a> {
-    /// A run over a game, with nothing that fails and room for 4,000 bytes, which ends with status 0 and writes nothing.
-    pub fn of(input: &'a str) -> Case<'a> {
+    /// A run with these words over a game, with nothing that fails and room for 4,000 bytes, which ends with status 0 and
+    /// writes nothing.
+    pub fn of(words: &'a str, input: &'a str) -> Case<'a> {
         Case {
-            words: "enummixed",
+            words,
             input,
             failing: &[],
             room: 4000,
@@ -55,32 +56,78 @@ impl<'a> Case<'a> {
         taken: &[u8],
         gate: &G,
     ) -> Result<bool, Stop> {
-        let (status, out, err) = self.ends(rt, alloc, gate)?;
-        Ok(status == self.status && out.taken() == taken && err.taken() == self.err.as_bytes())
+        let end = self.ends(rt, alloc, gate)?;
+        let taken = end.out.taken() == taken && end.err.taken() == self.err.as_bytes();
+        Ok(end.status == self.status && taken)
     }
 
-    /// The text of the run.
-    pub fn text<R: Threads + Sync>(&self, rt: &R, alloc: Global) -> Result<Vec<u8>, Stop> {
-        let (_, out, _) = self.ends(rt, alloc, &OpenGate)?;
-        Ok(Vec::from_slice(alloc, out.taken())?)
+    /// Whether the run ends with this status and writes these lines, without the last line feed here, on standard error where
+    /// the status is not 0.
+    pub fn lists<R: Threads + Sync>(
+        &self,
+        rt: &R,
+        alloc: Global,
+        status: u8,
+        lines: &str,
+    ) -> Result<bool, Stop> {
+        let (out, err) = if status == 0 {
+            (lines, "")
+        } else {
+            ("", lines)
+        };
+        let end = self.ends(rt, alloc, &OpenGate)?;
+        let listed = are_lines(end.out.taken(), out) && are_lines(end.err.taken(), err);
+        Ok(end.status == status && listed)
     }
 
-    // How the run ends: its status and both sinks.
-    fn ends<R: Threads + Sync, G: Gate>(
+    /// How the run ends.
+    pub fn ends<R: Threads + Sync, G: Gate>(
         &self,
         rt: &R,
         alloc: Global,
         gate: &G,
-    ) -> Result<(u8, MemSink, MemSink), Stop> {
+    ) -> Result<End, Stop> {
+        let mut inputs = self.inputs(alloc)?;
+        let words = owned(alloc, self.words)?;
+        let mut end = self.start(alloc)?;
+        let (out, err) = (&mut end.out, &mut end.err);
+        end.status = run(rt, alloc, &words, &mut inputs, out, err, gate);
+        Ok(end)
+    }
+
+    // The input of the run, with the calls that fail.
+    fn inputs(&self, alloc: Global) -> Result<MemInputs, Stop> {
         let input = Vec::from_slice(alloc, self.input.as_bytes())?;
         let failing = Vec::from_slice(alloc, self.failing)?;
-        let mut inputs = MemInputs::new(input, Vec::new(alloc), failing);
-        let mut out = MemSink::new(alloc, 1000, self.room, false)?;
-        let mut err = MemSink::new(alloc, 1000, 1000, false)?;
-        let words = owned(alloc, self.words)?;
-        let status = run(rt, alloc, &words, &mut inputs, &mut out, &mut err, gate);
-        Ok((status, out, err))
+        Ok(MemInputs::new(input, Vec::new(alloc), failing))
     }
+
+    // The end of a run that has not begun.
+    fn start(&self, alloc: Global) -> Result<End, Stop> {
+        let out = MemSink::new(alloc, 1000, self.room, false)?;
+        let err = MemSink::new(alloc, 1000, 1000, false)?;
+        Ok(End {
+            status: 0,
+            out,
+            err,
+        })
+    }
+}
+
+/// How a run ends: its status and both sinks.
+#[derive(Drop)]
+pub struct End {
+    pub status: u8,
+    pub out: MemSink,
+    pub err: MemSink,
+}
+
+/// Whether a text is these lines, of which the last has no line feed here; no lines are an empty text.
+pub fn are_lines(text: &[u8], lines: &str) -> bool {
+    if lines.is_empty() {
+        return text.is_empty();
+    }
+    text.strip_suffix(b"\n") == Some(lines.as_bytes())
 }
 
 // Words as a run takes them.
@@ -123,18 +170,5 @@ fn run_holds<R: Threads + Sync>(
     let Ok(status) = status.parse::<u8>() else {
         return Ok(false);
     };
-    let mut written = String::from_str(alloc, lines)?;
-    if !lines.is_empty() {
-        written.push_str("\n")?;
-    }
-    let text = written.as_str();
-    let (out, err) = if status == 0 { (text, "") } else { ("", text) };
-    let case = Case {
-        words,
-        status,
-        out,
-        err,
-        ..Case::of(input)
-    };
-    case.holds(rt, alloc)
+    Case::of(words, input).lists(rt, alloc, status, lines)
 }

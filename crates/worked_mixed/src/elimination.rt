@@ -5,7 +5,11 @@ use std::alloc::Global;
 
 /// The entry of an equation at a place.
 pub fn entry(equation: &[Frac], place: usize) -> Frac {
-    equation.get(place).copied().unwrap_or(Frac::zero())
+    if place < equation.len() {
+        equation[place]
+    } else {
+        Frac::zero()
+    }
 }
 
 // The equation with each entry divided by the one at a place, which is not zero.

@@ -2,15 +2,18 @@
 use crate::case::Case;
 use crate::cubes::counted;
 use crate::stop::Stop;
-use game_core::Gate;
+use game_core::{Gate, OpenGate};
+use std::alloc::Global;
 use std::sync::atomic::{AtomicBool, AtomicU64, Ordering};
+use std::thread::Threads;
 
 // How long a piece is held at most.
 const TURNS: u64 = 100_000_000;
 
-// Counts the passes, and holds the second pass of piece 0 until piece 1 was passed: a worker alone would wait for itself.
+/// Counts the passes, and holds one pass of piece 0 until piece 1 was passed: a worker alone would wait for itself.
 #[derive(Drop)]
-struct HoldingGate {
+pub struct HoldingGate {
+    held: u64,
     passes: AtomicU64,
     passes_of_first: AtomicU64,
     opened: AtomicBool,
@@ -18,13 +21,20 @@ struct HoldingGate {
 }
 
 impl HoldingGate {
-    fn new() -> HoldingGate {
+    /// A gate that holds the pass of piece 0 before which there were so many.
+    pub fn new(held: u64) -> HoldingGate {
         HoldingGate {
+            held,
             passes: AtomicU64::new(0),
             passes_of_first: AtomicU64::new(0),
             opened: AtomicBool::new(false),
             gave_up: AtomicBool::new(false),
         }
+    }
+
+    /// Whether it was held in vain.
+    pub fn gave_up(&self) -> bool {
+        self.gave_up.load(Ordering::SeqCst)
     }
 
     // Waits until piece 1 was passed, or gives up.
@@ -44,18 +54,52 @@ impl Gate for HoldingGate {
         if piece == 1 {
             self.opened.store(true, Ordering::SeqCst);
         }
-        if piece == 0 && self.passes_of_first.fetch_add(1, Ordering::SeqCst) == 1 {
+        if piece == 0 && self.passes_of_first.fetch_add(1, Ordering::SeqCst) == self.held {
             self.hold();
         }
     }
 }
 
+// Whether a run writes these lines, passes a gate twelve times and two of its workers run at once.
+fn shares_work<R: Threads + Sync>(
+    rt: &R,
+    alloc: Global,
+    words: &str,
+    input: &str,
+    lines: &str,
+) -> Result<bool, Stop> {
+    let gate = HoldingGate::new(1);
+    let case = Case::of(words, input);
+    let passes = case.passes(rt, alloc, lines.as_bytes(), &gate)?;
+    Ok(passes && gate.passes.load(Ordering::SeqCst) == 12 && !gate.gave_up())
+}
+
+// Whether a run without an input writes this text.
+fn writes<R: Threads + Sync>(
+    rt: &R,
+    alloc: Global,
+    words: &str,
+    text: &[u8],
+) -> Result<bool, Stop> {
+    Case::of(words, "").takes(rt, alloc, text)
+}
+
+// Whether one worker writes counts, and two and sixty-four workers write the same.
+fn same_counts<R: Threads + Sync>(rt: &R, alloc: Global) -> Result<bool, Stop> {
+    let alone = Case::of("make 1 8 8", "").ends(rt, alloc, &OpenGate)?;
+    let text = alone.out.taken();
+    if !text.starts_with(b"bases ") || !writes(rt, alloc, "make -j 2 1 8 8", text)? {
+        return Ok(false);
+    }
+    writes(rt, alloc, "make -j 64 1 8 8", text)
+}
+
 /// Two workers share the three new bases of a cube: while one holds the first, the other passes the second.
 #[test]
 fn workers_share_a_level(rt: HostRuntime) -> Result<(), Stop> {
-    let gate = HoldingGate::new();
+    let gate = HoldingGate::new(1);
     assert!(rt; counted(&rt, rt.alloc(), 3, 2, &gate)? == Ok((8, 7)));
-    assert!(rt; !gate.gave_up.load(Ordering::SeqCst));
+    assert!(rt; !gate.gave_up());
     Ok(())
 }
 
@@ -75,15 +119,11 @@ fn workers_of_both_tools(rt: HostRuntime) -> Result<(), Stop> {
             "NE,1,0,1,0\n",
         ),
     ];
-    for (words, input, out) in rows {
-        let gate = HoldingGate::new();
-        let case = Case {
-            words,
-            ..Case::of(input)
-        };
-        assert!(rt; case.passes(&rt, rt.alloc(), out.as_bytes(), &gate)?);
-        assert!(rt; gate.passes.load(Ordering::SeqCst) == 12);
-        assert!(rt; !gate.gave_up.load(Ordering::SeqCst));
+    for (words, input, lines) in rows {
+        assert!(rt;
+            shares_work(&rt, rt.alloc(), words, input, lines)?,
+            "{words}"
+        );
     }
     Ok(())
 }
@@ -91,18 +131,6 @@ fn workers_of_both_tools(rt: HostRuntime) -> Result<(), Stop> {
 /// The counts of a table of eight rows and columns are the same for one, two and sixty-four workers.
 #[test]
 fn any_number_of_workers(rt: HostRuntime) -> Result<(), Stop> {
-    let alone = Case {
-        words: "make 1 8 8",
-        ..Case::of("")
-    };
-    let text = alone.text(&rt, rt.alloc())?;
-    assert!(rt; text.starts_with(b"bases "));
-    for words in ["make -j 2 1 8 8", "make -j 64 1 8 8"] {
-        let case = Case {
-            words,
-            ..Case::of("")
-        };
-        assert!(rt; case.takes(&rt, rt.alloc(), &text)?);
-    }
+    assert!(rt; same_counts(&rt, rt.alloc())?);
     Ok(())
 }

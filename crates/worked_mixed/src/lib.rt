@@ -1,5 +1,5 @@
 //! Extreme equilibria of small games by their definition, beside those that the tool lists, its
-//! refusals and limits, and the bases of cubes, as tests. The program calls nothing here.
+//! refusals and limits, the bases of cubes, and work that is shared by claims, as tests. The program calls nothing here.
 #![tactic(auto)]
 
 #[cfg(test)]
@@ -16,6 +16,8 @@ mod elimination;
 mod gates;
 #[cfg(test)]
 mod rows;
+#[cfg(test)]
+mod shared;
 #[cfg(test)]
 mod small_games;
 #[cfg(test)]

@@ -147,7 +147,7 @@ fn failing_calls(rt: HostRuntime) -> Result<(), Stop> {
             status,
             out,
             err,
-            ..Case::of(PENNIES)
+            ..Case::of("enummixed", PENNIES)
         };
         assert!(rt; case.holds(&rt, rt.alloc())?);
     }

@@ -1,6 +1,6 @@
 // Small games with their extreme equilibria.
-use crate::by_definition::{Payoffs, extreme_equilibria};
-use crate::case::Case;
+use crate::by_definition::text_of;
+use crate::case::{Case, are_lines};
 use crate::stop::Stop;
 use frac128::Frac;
 use std::alloc::Global;
@@ -76,14 +76,18 @@ fn fractions(alloc: Global, words: &str) -> Result<Vec<Frac>, Stop> {
     Ok(list)
 }
 
-// The lines of a game's extreme equilibria, by the definition.
-fn defined(alloc: Global, sizes: &str, payoffs: &str) -> Result<Vec<u8>, Stop> {
+/// The text of a game's extreme equilibria, by the definition.
+pub fn defined(alloc: Global, sizes: &str, payoffs: &str) -> Result<Vec<u8>, Stop> {
     let (height, width) = sizes.split_once(' ').unwrap_or((sizes, ""));
     let height = height.parse::<usize>().unwrap_or(0);
     let width = width.parse::<usize>().unwrap_or(0);
     let list = fractions(alloc, payoffs)?;
-    let game = Payoffs::of(alloc, height, width, list.as_slice())?;
-    extreme_equilibria(alloc, &game)
+    text_of(alloc, height, width, list.as_slice())
+}
+
+/// The file of a game.
+pub fn file(alloc: Global, sizes: &str, payoffs: &str) -> Result<String, Stop> {
+    Ok(format!(in alloc; "NFG 1 R \"\" {{ \"A\" \"B\" }} {{ {sizes} }} {payoffs}")?)
 }
 
 // Whether the tool prints these lines for a game, by one worker and by seven.
@@ -94,46 +98,33 @@ fn prints<R: Threads + Sync>(
     payoffs: &str,
     lines: &str,
 ) -> Result<bool, Stop> {
-    let input = format!(in alloc; "NFG 1 R \"\" {{ \"A\" \"B\" }} {{ {sizes} }} {payoffs}")?;
-    let plain = Case {
-        out: lines,
-        ..Case::of(input.as_str())
-    };
-    let lettered = Case {
-        words: "enummixed -q -D -j 7",
-        ..plain
-    };
-    Ok(plain.holds(rt, alloc)? && lettered.holds(rt, alloc)?)
+    let input = file(alloc, sizes, payoffs)?;
+    let input = input.as_str();
+    Ok(
+        Case::of("enummixed", input).lists(rt, alloc, 0, lines)?
+            && Case::of("enummixed -q -D -j 7", input).lists(rt, alloc, 0, lines)?,
+    )
 }
 
-// Whether a game has these extreme equilibria, by the definition and by the tool.
-fn has<R: Threads + Sync>(
-    rt: &R,
-    alloc: Global,
-    sizes: &str,
-    payoffs: &str,
-    lines: &str,
-) -> Result<bool, Stop> {
+// Whether a game has these extreme equilibria, by the definition.
+fn defines(alloc: Global, sizes: &str, payoffs: &str, lines: &str) -> Result<bool, Stop> {
     let text = defined(alloc, sizes, payoffs)?;
-    if text.as_slice() != lines.as_bytes() {
-        return Ok(false);
-    }
-    prints(rt, alloc, sizes, payoffs, lines)
+    Ok(are_lines(text.as_slice(), lines))
 }
 
-// The same where the text has a line on the game, its sizes, `: ` and its payoffs, and then its equilibria.
+// Whether a game has the extreme equilibria that its text says, by the definition and by the tool. The text has a line on the
+// game, its sizes, `: ` and its payoffs, and then the lines of its equilibria.
 fn holds<R: Threads + Sync>(rt: &R, alloc: Global, text: &str) -> Result<bool, Stop> {
     let Some((_, game)) = text.split_once('\n') else {
         return Ok(false);
     };
-    let Some((table, equilibria)) = game.split_once('\n') else {
+    let Some((table, lines)) = game.split_once('\n') else {
         return Ok(false);
     };
     let Some((sizes, payoffs)) = table.split_once(": ") else {
         return Ok(false);
     };
-    let lines = format!(in alloc; "{equilibria}\n")?;
-    has(rt, alloc, sizes, payoffs, lines.as_str())
+    Ok(defines(alloc, sizes, payoffs, lines)? && prints(rt, alloc, sizes, payoffs, lines)?)
 }
 
 /// Each game, by the definition and by the tool.

@@ -1,13 +1,13 @@
-// Two callers that are proved, and what gates see of the workers.
+// Work that is shared by claims: two callers that are proved, and what gates see of the workers.
 ghost use Rattle.std.specs.Prelude.{◌≡◌, ◌<◌, ◌≤◌, ◌*◌, ◌^◌, length, map, slice_index, IfOk};
 ghost use Rattle.std.specs.List.{range_with_len};
 
-use crate::claim_word::Claims;
-use crate::sharing::shared_map;
+use crate::gates::HoldingGate;
 use answers::Memory;
+use claims::{Claims, shared_map};
 use outside::{Gate, OpenGate};
 use std::alloc::Global;
-use std::sync::atomic::{AtomicBool, AtomicU64, Ordering};
+use std::sync::atomic::{AtomicU64, Ordering};
 use std::thread::Threads;
 
 // The squares of the numbers below `count`, by three workers.
@@ -51,35 +51,31 @@ fn doubles<R: Threads + Sync>(
     )
 }
 
-// Holds piece 0 until piece 1 was passed, for so many turns at most.
-const TURNS: u64 = 100_000_000;
-
-#[derive(Drop)]
-struct HoldingGate {
-    opened: AtomicBool,
-    gave_up: AtomicBool,
-}
-
-impl Gate for HoldingGate {
-    fn pass(&self, piece: usize) {
-        if piece == 1 {
-            self.opened.store(true, Ordering::SeqCst);
-        }
-        if piece == 0 {
-            for _ in 0..TURNS {
-                if self.opened.load(Ordering::SeqCst) {
-                    return;
-                }
-            }
-            self.gave_up.store(true, Ordering::SeqCst);
-        }
-    }
-}
-
 // Counts how often each piece was passed.
 #[derive(Drop)]
 struct CountingGate {
     passes: Vec<AtomicU64>,
+}
+
+impl CountingGate {
+    // A gate for so many pieces, of which none was passed.
+    fn new(alloc: Global, count: usize) -> Result<CountingGate, Memory> {
+        let mut passes = Vec::new(alloc);
+        for _ in 0..count {
+            passes.push(AtomicU64::new(0))?;
+        }
+        Ok(CountingGate { passes })
+    }
+
+    // Whether each piece was passed once.
+    fn passed_once(&self) -> bool {
+        for passes in &self.passes {
+            if passes.load(Ordering::SeqCst) != 1 {
+                return false;
+            }
+        }
+        true
+    }
 }
 
 impl Gate for CountingGate {
@@ -90,6 +86,32 @@ impl Gate for CountingGate {
     }
 }
 
+// Whether two workers compute two numbers, of which one waits at the first until the other passed the second.
+fn run_at_once<R: Threads + Sync>(rt: &R, alloc: Global) -> Result<bool, Memory> {
+    let gate = HoldingGate::new(0);
+    let (claims, mut pass) = Claims::new(alloc)?;
+    let got = shared_map(rt, alloc, &claims, &mut pass, 2, 2, &gate, &|k| k)?;
+    Ok(got.as_slice() == [0, 1].as_slice() && !gate.gave_up())
+}
+
+// Whether seven workers compute a thousand numbers through a gate, and the pass has all parts again.
+fn compute_all<R: Threads + Sync>(
+    rt: &R,
+    alloc: Global,
+    gate: &CountingGate,
+) -> Result<bool, Memory> {
+    let (claims, mut pass) = Claims::new(alloc)?;
+    let got = shared_map(rt, alloc, &claims, &mut pass, 1000, 7, gate, &|k| k)?;
+    Ok(got.len() == 1000 && pass.parts() == 64)
+}
+
+// Whether they do, and pass each piece once.
+fn pass_each_once<R: Threads + Sync>(rt: &R, alloc: Global) -> Result<bool, Memory> {
+    let gate = CountingGate::new(alloc, 1000)?;
+    Ok(compute_all(rt, alloc, &gate)? && gate.passed_once())
+}
+
+/// The squares of ten numbers.
 #[test]
 fn squares_of_ten(rt: HostRuntime) -> Result<(), Memory> {
     let got = squares(&rt, rt.alloc(), 10)?;
@@ -97,6 +119,7 @@ fn squares_of_ten(rt: HostRuntime) -> Result<(), Memory> {
     Ok(())
 }
 
+/// Twice three numbers, also by more workers than numbers.
 #[test]
 fn doubles_by_all_workers(rt: HostRuntime) -> Result<(), Memory> {
     let numbers = [4_294_967_295, 0, 17];
@@ -107,32 +130,16 @@ fn doubles_by_all_workers(rt: HostRuntime) -> Result<(), Memory> {
     Ok(())
 }
 
+/// Two workers run at once.
 #[test]
 fn two_workers_run_at_once(rt: HostRuntime) -> Result<(), Memory> {
-    let gate = HoldingGate {
-        opened: AtomicBool::new(false),
-        gave_up: AtomicBool::new(false),
-    };
-    let (claims, mut pass) = Claims::new(rt.alloc())?;
-    let got = shared_map(&rt, rt.alloc(), &claims, &mut pass, 2, 2, &gate, &|k| k)?;
-    assert!(rt; got.as_slice() == [0, 1].as_slice());
-    assert!(rt; !gate.gave_up.load(Ordering::SeqCst));
+    assert!(rt; run_at_once(&rt, rt.alloc())?);
     Ok(())
 }
 
+/// Each piece is passed once.
 #[test]
 fn each_piece_is_passed_once(rt: HostRuntime) -> Result<(), Memory> {
-    let mut passes = Vec::new(rt.alloc());
-    for _ in 0..1000 {
-        passes.push(AtomicU64::new(0))?;
-    }
-    let gate = CountingGate { passes };
-    let (claims, mut pass) = Claims::new(rt.alloc())?;
-    let got = shared_map(&rt, rt.alloc(), &claims, &mut pass, 1000, 7, &gate, &|k| k)?;
-    assert!(rt; got.len() == 1000);
-    for passes in &gate.passes {
-        assert!(rt; passes.load(Ordering::SeqCst) == 1);
-    }
-    assert!(rt; pass.parts() == 64);
+    assert!(rt; pass_each_once(&rt, rt.alloc())?);
     Ok(())
 }
