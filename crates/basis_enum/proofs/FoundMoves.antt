@@ -1,5 +1,5 @@
 -- The pivots that are found from a tableau
-use Rattle.std.proofs.Common.{ℕ, suc, zero, ◌<◌, ◌≤◌, ◌≡◌, ◌+◌, ◌^◌, refl, sym, ap, ◌∙◌, subst, arith, inl, inr, List, [], ◌∷◌, ◌++◌, length, get_or, eq-or-lt_of_le, append_assoc, append-nil}
+use Rattle.std.proofs.Common.{ℕ, suc, zero, ◌<◌, ◌≤◌, ◌≡◌, ◌+◌, ◌^◌, refl, sym, ap, subst, arith, inl, inr, List, [], ◌∷◌, ◌++◌, length, get_or, eq-or-lt_of_le}
 use Rattle.std.specs.List.{Contains}
 use Rattle.std.proofs.lemmas.List.Sums.{sum_by-cons}
 use Rattle.linear_systems.specs.Reached.{in_row, in_column}
@@ -14,7 +14,7 @@ use Rattle.lex_tableau.specs.Ratio.{listed}
 use Rattle.basis_enum.proofs.Lists.{first_in, in_cases}
 use Rattle.std.proofs.lemmas.List.Elements.{Contains-append_left, Contains-append_right, Contains-append_cases}
 use Rattle.basis_enum.specs.declared.moves.Move.{Move}
-use Rattle.basis_enum.specs.Found.{IsFound, HasNone, AreFound, AddsFound}
+use Rattle.basis_enum.specs.Found.{IsFound, HasNone, AreFound}
 
 -- a basis counts each of its digits
 pub digit_in : (xs : List ℕ) (c : ℕ) → c < length xs → digit (get_or xs c 0) ≤ basis_of xs
@@ -71,19 +71,4 @@ found_push t place known n moves m f h =
         | inl e ↦ (m, Contains-append_right moves (m ∷ []) m (first_in m []), subst (λ k. IsFound t place known k m) (sym e) h)
         | inr l ↦ (let z = f.all column r l x new in (z.0, Contains-append_left moves (m ∷ []) z.0 z.1, z.2))
       ];
-    }
-
--- ---- after those that were there
-pub adds_start : (t : Numbers) (place : ℕ) (known : List ℕ) (old : List Move) → AddsFound t place known 0 old old
-adds_start t place known old = record { more = []; added = sym (append-nil old); found = found_start t place known }
-
-pub adds_none : (t : Numbers) (place : ℕ) (known : List ℕ) (n : ℕ) (old new : List Move) → AddsFound t place known n old new → HasNone t known n → AddsFound t place known (n + 1) old new
-adds_none t place known n old new a none = record { more = a.more; added = a.added; found = found_none t place known n a.more a.found none }
-
-pub adds_push : (t : Numbers) (place : ℕ) (known : List ℕ) (n : ℕ) (old new : List Move) (m : Move) → AddsFound t place known n old new → IsFound t place known n m → AddsFound t place known (n + 1) old (new ++ m ∷ [])
-adds_push t place known n old new m a h =
-    record {
-      more = a.more ++ m ∷ [];
-      added = ap (λ xs. xs ++ m ∷ []) a.added ∙ append_assoc old a.more (m ∷ []);
-      found = found_push t place known n a.more m a.found h;
     }

@@ -1,8 +1,9 @@
 -- The pivots of a whole level, and those to the next level among them
-use Rattle.std.proofs.Common.{ℕ, suc, zero, ◌<◌, ◌≤◌, ◌≡◌, ◌+◌, ◌^◌, refl, sym, ap, ap₂, ◌∙◌, subst, arith, inl, inr, List, [], ◌∷◌, ◌++◌, length, get_or, map, eq-or-lt_of_le}
+use Rattle.std.proofs.Common.{ℕ, suc, zero, ◌<◌, ◌≤◌, ◌≡◌, ◌+◌, ◌^◌, refl, sym, ap, ap₂, ◌∙◌, subst, subst₂, arith, inl, inr, List, [], ◌∷◌, ◌++◌, length, get_or, map, eq-or-lt_of_le}
 use Rattle.std.specs.List.{Contains}
 use Rattle.std.specs.List.Sorted.{IsStrictlyIncreasing}
-use Rattle.std.proofs.lemmas.List.{get_or_default}
+use Rattle.std.proofs.Math.Seq.{get_or-append_seam}
+use Rattle.std.proofs.lemmas.List.{length-append, get_or_append_left}
 use Rattle.std.proofs.lemmas.List.Elements.{Contains-append_left, Contains-append_right, Contains-append_cases}
 use Rattle.lex_tableau.specs.Rows.{Numbers}
 use Rattle.basis_enum.specs.Bases.{basis_of, neighbour_of}
@@ -10,7 +11,7 @@ use Rattle.basis_enum.specs.Levels as L
 use Rattle.basis_enum.specs.Levels.{Levels, no_tableau, bases_of, IsLexRowOf, IsMove, AreNextMoves, IsNew, ComesBefore}
 use Rattle.basis_enum.proofs.Lists.{mapped, once_in, first_in, rest_in, in_cases}
 use Rattle.basis_enum.specs.declared.moves.Move.{Move}
-use Rattle.basis_enum.specs.Found.{IsFound, AreFound, IsFoundIn, AreFoundIn, AddsFoundAt, IsReady, IsLevelOf, AreKnown}
+use Rattle.basis_enum.specs.Found.{IsFoundBelow, AreFound, HasAllFound, IsFoundIn, AreFoundIn, AreReady, AreKnown}
 use Rattle.basis_enum.proofs.FoundMoves.{entering_bounds}
 use Rattle.basis_enum.specs.Next.{target_of, order_of, move_of, AreSmall, IsNextOf, AreNewMoves}
 use Rattle.linear_systems.proofs.LexRow.{lex_row_once}
@@ -23,61 +24,60 @@ basis_at level numbers place e h = ap (λ xs. get_or xs place 0) e ∙ read leve
     read (t ∷ ts) zero h = refl
     read (t ∷ ts) (suc i) h = read ts i (omega arith)
 
-pub found_in_start : (level : List Numbers) (known : List ℕ) → AreFoundIn level known 0 []
-found_in_start level known = record { each = λ m c. absurd (omega (arith, c.1)); all = λ place column r h. absurd (omega arith) }
+pub found_in_start : (known : List ℕ) → AreFoundIn [] known []
+found_in_start known = record { each = λ m c. absurd (omega (arith, c.1)); all = λ place h. absurd (omega arith) }
 
-pub found_in_more : (level : List Numbers) (known : List ℕ) (n : ℕ) (moves more : List Move) → AreFoundIn level known n moves → AreFound (get_or level n no_tableau) n known (length (get_or level n no_tableau).nonbasics) more → AreFoundIn level known (n + 1) (moves ++ more)
-found_in_more level known n moves more f g =
+-- one more tableau, and its pivots
+pub found_in_more : (level : List Numbers) (known : List ℕ) (moves more : List Move) (t : Numbers) → AreFoundIn level known moves → AreFound t (length level) known (length t.nonbasics) more → AreFoundIn (level ++ t ∷ []) known (moves ++ more)
+found_in_more level known moves more t f g =
     record {
       each = λ m c. elim (Contains-append_cases moves more m c) [
-        | inl a ↦ (let z = f.each m a in record { place = z.place; within = (let w : z.place < n = z.within in omega arith); column = z.column; column_in = z.column_in; found = z.found })
-        | inr b ↦ (let z = g.each m b in record { place = n; within = omega arith; column = z.column; column_in = z.within; found = z.found })
+        | inl a ↦ (let z = f.each m a in record { place = z.place; within = (let w : z.place < length level = z.within in omega (arith, size)); below = subst (λ u. IsFoundBelow u z.place known (length u.nonbasics) m) (sym (get_or_append_left level (t ∷ []) no_tableau z.place z.within)) z.below })
+        | inr b ↦ record { place = length level; within = omega (arith, size); below = subst (λ u. IsFoundBelow u (length level) known (length u.nonbasics) m) (sym last) (g.each m b) }
       ];
-      all = λ place column r h k x new. elim (eq-or-lt_of_le (let l : place ≤ n = omega arith in l)) [
-        | inr l ↦ (let z = f.all place column r l k x new in (z.0, Contains-append_left moves more z.0 z.1, z.2))
-        | inl e ↦ there e (λ p q y no. g.all p q y no) (λ m c. Contains-append_right moves more m c) k x new
+      all = λ place h. elim (eq-or-lt_of_le (let l : place ≤ length level = omega (arith, size, h) in l)) [
+        | inr l ↦ subst (λ u. HasAllFound u place known (moves ++ more)) (sym (get_or_append_left level (t ∷ []) no_tableau place l)) (λ column r k x new. let z = f.all place l column r k x new in (z.0, Contains-append_left moves more z.0 z.1, z.2))
+        | inl e ↦ subst₂ (λ p u. HasAllFound u p known (moves ++ more)) (sym e) (sym (ap (λ p. get_or (level ++ t ∷ []) p no_tableau) e ∙ last)) (λ column r k x new. let z = g.all column r k x new in (z.0, Contains-append_right moves more z.0 z.1, z.2))
       ];
     }
   where
-    there : {place column r : ℕ} → place ≡ n → ((column r : ℕ) → column < length (get_or level n no_tableau).nonbasics → IsLexRowOf (get_or level n no_tableau) column r → ¬ (Contains known (neighbour_of (get_or level n no_tableau) r column)) → (m : Move) × Contains more m × IsFound (get_or level n no_tableau) n known column m) → ((m : Move) → Contains more m → Contains (moves ++ more) m) → column < length (get_or level place no_tableau).nonbasics → IsLexRowOf (get_or level place no_tableau) column r → ¬ (Contains known (neighbour_of (get_or level place no_tableau) r column)) → (m : Move) × Contains (moves ++ more) m × IsFound (get_or level place no_tableau) place known column m
-    there {place} {column} {r} e all over = subst (λ p. column < length (get_or level p no_tableau).nonbasics → IsLexRowOf (get_or level p no_tableau) column r → ¬ (Contains known (neighbour_of (get_or level p no_tableau) r column)) → (m : Move) × Contains (moves ++ more) m × IsFound (get_or level p no_tableau) p known column m) (sym e) (λ k x new. let z = all column r k x new in (z.0, over z.0 z.1, z.2))
+    size : length (level ++ t ∷ []) ≡ length level + 1
+    size = length-append level (t ∷ [])
 
-pub ready_of : (level : List Numbers) (numbers : List ℕ) (place : ℕ) (t : Numbers) → IsLevelOf level numbers → place < length level → t ≡ get_or level place t → IsReady t
-ready_of level numbers place t l h e = subst IsReady (sym (e ∙ get_or_default level place t no_tableau h)) (l.ready place h)
+    last : get_or (level ++ t ∷ []) (length level) no_tableau ≡ t
+    last = get_or-append_seam level t [] no_tableau
 
--- the pivots of one more tableau
-pub found_in_next : (level : List Numbers) (known : List ℕ) (n : ℕ) (moves new : List Move) → AreFoundIn level known n moves → AddsFoundAt level n known moves new → AreFoundIn level known (n + 1) new
-found_in_next level known n moves new f a = subst (AreFoundIn level known (n + 1)) (sym a.added) (found_in_more level known n moves a.more f a.found)
+pub found_in_new : (level new : List Numbers) (known : List ℕ) (moves more all : List Move) (t : Numbers) (n : ℕ) → length level ≡ n → new ≡ level ++ t ∷ [] → all ≡ moves ++ more → AreFoundIn level known moves → AreFound t n known (length t.nonbasics) more → AreFoundIn new known all
+found_in_new level new known moves more all t n size pushed added f g = subst₂ (λ l a. AreFoundIn l known a) (sym pushed) (sym added) (found_in_more level known moves more t f (subst (λ n. AreFound t n known (length t.nonbasics) more) (sym size) g))
 
 -- places and variables are numbers of 32 bits
-pub found_small : (level : List Numbers) (known numbers : List ℕ) (moves : List Move) → IsLevelOf level numbers → AreFoundIn level known (length level) moves → AreSmall moves
-found_small level known numbers moves l f m c =
+pub found_small : (level : List Numbers) (known : List ℕ) (moves : List Move) → AreReady level → length level < 2 ^ 32 → AreFoundIn level known moves → AreSmall moves
+found_small level known moves ready few f m c =
     let z = f.each m c in
-    let few : length level < 2 ^ 32 = l.few in
     let w : z.place < length level = z.within in
-    let p : m.parent ≡ z.place = z.found.parent in
-    let b = entering_bounds (get_or level z.place no_tableau) z.column (l.ready z.place z.within).digits z.column_in in
-    let most : get_or (get_or level z.place no_tableau).nonbasics z.column 0 ≤ 128 = b.1 in
-    let e : m.entering ≡ get_or (get_or level z.place no_tableau).nonbasics z.column 0 = z.found.entering in
+    let p : m.parent ≡ z.place = z.below.found.parent in
+    let b = entering_bounds (get_or level z.place no_tableau) z.below.column (ready z.place z.within).digits z.below.within in
+    let most : get_or (get_or level z.place no_tableau).nonbasics z.below.column 0 ≤ 128 = b.1 in
+    let e : m.entering ≡ get_or (get_or level z.place no_tableau).nonbasics z.below.column 0 = z.below.found.entering in
     (omega arith, omega arith)
 
-pub new_moves_are : (level : List Numbers) (known numbers : List ℕ) (found next : List Move) → IsLevelOf level numbers → AreFoundIn level known (length level) found → IsNextOf found next → AreNewMoves level known next
-new_moves_are level known numbers found next l f n = record { found = found; all = f; small = found_small level known numbers found l f; firsts = n }
+pub new_moves_are : (level : List Numbers) (known : List ℕ) (found next : List Move) → AreReady level → length level < 2 ^ 32 → AreFoundIn level known found → IsNextOf found next → AreNewMoves level known next
+new_moves_are level known found next ready few f n = record { found = found; all = f; small = found_small level known found ready few f; firsts = n }
 
 -- ---- the pivots to the next level
-pub move_is : (level : List Numbers) (known : List ℕ) (m : Move) → IsFoundIn level known (length level) m → IsMove level (move_of m)
+pub move_is : (level : List Numbers) (known : List ℕ) (m : Move) → IsFoundIn level known m → IsMove level (move_of m)
 move_is level known m f =
     record {
-      parent = subst (λ p. p < length level) (sym f.found.parent) f.within;
-      column = subst (λ p. m.column < length (get_or level p no_tableau).nonbasics) (sym f.found.parent) (subst (λ c. c < length (get_or level f.place no_tableau).nonbasics) (sym f.found.column) f.column_in);
-      row = subst (λ p. IsLexRowOf (get_or level p no_tableau) m.column m.row) (sym f.found.parent) (subst (λ c. IsLexRowOf (get_or level f.place no_tableau) c m.row) (sym f.found.column) f.found.row);
+      parent = subst (λ p. p < length level) (sym f.below.found.parent) f.within;
+      column = subst (λ p. m.column < length (get_or level p no_tableau).nonbasics) (sym f.below.found.parent) (subst (λ c. c < length (get_or level f.place no_tableau).nonbasics) (sym f.below.found.column) f.below.within);
+      row = subst (λ p. IsLexRowOf (get_or level p no_tableau) m.column m.row) (sym f.below.found.parent) (subst (λ c. IsLexRowOf (get_or level f.place no_tableau) c m.row) (sym f.below.found.column) f.below.found.row);
     }
 
-pub target_is_there : (level : List Numbers) (known : List ℕ) (m : Move) → IsFoundIn level known (length level) m → m.target ≡ L.target level (move_of m)
-target_is_there level known m f = f.found.target ∙ ap₂ (λ p c. neighbour_of (get_or level p no_tableau) m.row c) (sym f.found.parent) (sym f.found.column)
+pub target_is_there : (level : List Numbers) (known : List ℕ) (m : Move) → IsFoundIn level known m → m.target ≡ L.target level (move_of m)
+target_is_there level known m f = f.below.found.target ∙ ap₂ (λ p c. neighbour_of (get_or level p no_tableau) m.row c) (sym f.below.found.parent) (sym f.below.found.column)
 
-pub entering_is : (level : List Numbers) (known : List ℕ) (m : Move) → IsFoundIn level known (length level) m → m.entering ≡ L.entering level (move_of m)
-entering_is level known m f = f.found.entering ∙ ap₂ (λ p c. get_or (get_or level p no_tableau).nonbasics c 0) (sym f.found.parent) (sym f.found.column)
+pub entering_is : (level : List Numbers) (known : List ℕ) (m : Move) → IsFoundIn level known m → m.entering ≡ L.entering level (move_of m)
+entering_is level known m f = f.below.found.entering ∙ ap₂ (λ p c. get_or (get_or level p no_tableau).nonbasics c 0) (sym f.below.found.parent) (sym f.below.found.column)
 
 -- it is the parent and the column that count
 moved_before : (level : List Numbers) (k j m : L.Move) → k.parent ≡ j.parent → k.column ≡ j.column → ComesBefore level j m → ComesBefore level k m
@@ -85,7 +85,7 @@ moved_before level k j m p c (inl l) = inl (subst (λ x. x < m.parent) (sym p) l
 moved_before level k j m p c (inr q) = inr (p ∙ q.0, subst (λ x. x < L.entering level m) (ap₂ (λ a b. get_or (get_or level a no_tableau).nonbasics b 0) (sym p) (sym c)) q.1)
 
 -- what comes before in its level has a less order
-order_before : (level : List Numbers) (known : List ℕ) (k m : Move) → IsFoundIn level known (length level) k → IsFoundIn level known (length level) m → k.entering < 2 ^ 32 → order_of m ≤ order_of k → ComesBefore level (move_of k) (move_of m) → ⊥
+order_before : (level : List Numbers) (known : List ℕ) (k m : Move) → IsFoundIn level known k → IsFoundIn level known m → k.entering < 2 ^ 32 → order_of m ≤ order_of k → ComesBefore level (move_of k) (move_of m) → ⊥
 order_before level known k m fk fm small le (inl p) = omega arith
 order_before level known k m fk fm small le (inr p) =
     let a : k.entering ≡ L.entering level (move_of k) = entering_is level known k fk in
@@ -94,7 +94,7 @@ order_before level known k m fk fm small le (inr p) =
     let d : k.parent ≡ m.parent = p.0 in
     omega arith
 
-targets_same : (level : List Numbers) (known : List ℕ) (moves : List Move) → ((m : Move) → Contains moves m → IsFoundIn level known (length level) m) → map (L.target level) (map move_of moves) ≡ map target_of moves
+targets_same : (level : List Numbers) (known : List ℕ) (moves : List Move) → ((m : Move) → Contains moves m → IsFoundIn level known m) → map (L.target level) (map move_of moves) ≡ map target_of moves
 targets_same level known [] h = refl
 targets_same level known (m ∷ ms) h = ap₂ (λ x xs. x ∷ xs) (sym (target_is_there level known m (h m (first_in m ms)))) (targets_same level known ms (λ k c. h k (rest_in m k ms c)))
 
@@ -102,10 +102,10 @@ unmoved : (moves : List Move) (m : L.Move) → Contains (map move_of moves) m �
 unmoved [] m c = absurd (omega (arith, c.1))
 unmoved (k ∷ ks) m c = elim (in_cases (move_of k) m (map move_of ks) c) [ inl e ↦ (k, first_in k ks, e) | inr t ↦ (let z = unmoved ks m t in (z.0, rest_in k z.0 ks z.1, z.2)) ]
 
-pub next_are : (l : Levels) (known : List ℕ) (found next : List Move) → AreKnown l known → AreSmall found → AreFoundIn l.level known (length l.level) found → IsNextOf found next → AreNextMoves l (map move_of next)
+pub next_are : (l : Levels) (known : List ℕ) (found next : List Move) → AreKnown l known → AreSmall found → AreFoundIn l.level known found → IsNextOf found next → AreNextMoves l (map move_of next)
 next_are l known found next k small f n = record { each = each; new = new; ascending = subst IsStrictlyIncreasing (sym targets) n.ascending; all = all; first = first }
   where
-    of : (m : Move) → Contains next m → IsFoundIn l.level known (length l.level) m
+    of : (m : Move) → Contains next m → IsFoundIn l.level known m
     of m c = f.each m (n.each m c)
 
     targets : map (L.target l.level) (map move_of next) ≡ map target_of next
@@ -115,12 +115,12 @@ next_are l known found next k small f n = record { each = each; new = new; ascen
     each m c = let z = unmoved next m c in subst (IsMove l.level) z.2 (move_is l.level known z.0 (of z.0 z.1))
 
     new : (m : L.Move) → Contains (map move_of next) m → IsNew l (L.target l.level m)
-    new m c = let z = unmoved next m c in subst (λ m. IsNew l (L.target l.level m)) z.2 (λ b. (of z.0 z.1).found.new (subst (Contains known) (sym (target_is_there l.level known z.0 (of z.0 z.1))) (k.all _ b)))
+    new m c = let z = unmoved next m c in subst (λ m. IsNew l (L.target l.level m)) z.2 (λ b. (of z.0 z.1).below.found.new (subst (Contains known) (sym (target_is_there l.level known z.0 (of z.0 z.1))) (k.all _ b)))
 
     -- a pivot to a new basis is found, and one to the same basis is there that does not come later
     there : (m : L.Move) → IsMove l.level m → IsNew l (L.target l.level m) → (x : Move) × (y : Move) × Contains found x × Contains next y × (y.target ≡ L.target l.level m) × (order_of y ≤ order_of x) × (x.parent ≡ m.parent) × (x.column ≡ m.column)
     there m h new =
-        let x = f.all m.parent m.column m.row h.parent h.column h.row (λ b. new (k.only _ b)) in
+        let x = f.all m.parent h.parent m.column m.row h.column h.row (λ b. new (k.only _ b)) in
         let y = n.all x.0 x.1 in
         let row : (x.0).row ≡ m.row = lex_row_once _ _ _ _ _ _ (x.2).row h.row in
         (x.0, y.0, x.1, y.1, y.2 ∙ (x.2).target ∙ ap (λ r. neighbour_of (get_or l.level m.parent no_tableau) r m.column) row, y.3, (x.2).parent, (x.2).column)

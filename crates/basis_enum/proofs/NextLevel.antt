@@ -30,6 +30,9 @@ children_push level moves n next t w c h =
       ];
     }
 
+pub children_new : (level : List Numbers) (moves : List Move) (n m : ℕ) (next new : List Numbers) (t : Numbers) → n < length moves → m ≡ n + 1 → new ≡ next ++ t ∷ [] → AreChildren level moves n next → IsChild level (move_of (get_or moves n no_move)) t → AreChildren level moves m new
+children_new level moves n m next new t w more pushed c h = subst₂ (AreChildren level moves) (sym more) (sym pushed) (children_push level moves n next t w c h)
+
 moved_at : (moves : List Move) (i : ℕ) → get_or (map move_of moves) i L.no_move ≡ move_of (get_or moves i no_move)
 moved_at moves i = get_or-map move_of moves i no_move
 

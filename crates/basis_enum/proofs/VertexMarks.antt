@@ -1,11 +1,12 @@
 -- The marks of basic solutions, and that those of all reached tableaux are the vertices
 use Rattle.std.proofs.Common.{ℕ, zero, suc, ◌<◌, ◌≤◌, ◌≡◌, ◌≢◌, ◌+◌, ◌-◌, ◌/◌, ◌%◌, ◌^◌, min, refl, sym, ap, ◌∙◌, subst, arith, ◌⊎◌, inl, inr, List, [], ◌∷◌, ◌++◌, length, get_or, map, lit<}
 use Rattle.std.specs.Int.{bit_at}
+use Rattle.std.specs.Prelude.{Option, Some, None, option_to_list}
 use Rattle.std.specs.List.{All, Any, Contains, dedup}
 use Rattle.std.specs.List.Sorted.{IsNonDecreasingBy, IsPermutation}
 use Rattle.std.proofs.Math.Nat.{pow-le-pow_right}
 use Rattle.std.proofs.lemmas.Bool.{cases_lt}
-use Rattle.std.proofs.lemmas.List.{append-nil, map-append, get_or-map, get_or_default, length-map}
+use Rattle.std.proofs.lemmas.List.{append-nil, get_or-map, get_or_default, length-map}
 use Rattle.std.proofs.lemmas.List.Elements.{Contains-append_left, Contains-get_or, Contains-push, Contains-push_cases}
 use Rattle.std.proofs.lemmas.List.Kept.{Contains-from_dedup}
 use Rattle.std.proofs.lemmas.List.Sorted.{IsPermutation-map, IsPermutation-sym, Contains-permutation}
@@ -23,7 +24,7 @@ use Rattle.basis_enum.specs.Systems.{IsEnumerable, variable_count}
 use Rattle.basis_enum.specs.Ends.{complete, IsEnd}
 use Rattle.basis_enum.proofs.Complete.{complete_cover, complete_extreme}
 use Rattle.basis_enum.specs.declared.vertex.Vertex.{Vertex}
-use Rattle.basis_enum.specs.Marks.{AreUpTo, IsNoted, left_out, added, IsMarkIn, AreMarksOf, AreInOrder}
+use Rattle.basis_enum.specs.Marks.{AreUpTo, IsVertexOf, IsMarkIn, AreMarksOf, AreInOrder}
 use Rattle.basis_enum.specs.Vertices.{mark_of, marks_of}
 use Rattle.basis_enum.proofs.Masks.{low_word, high_word}
 use Rattle.basis_enum.proofs.Orders.{is_tie, dedup_ascends, dedup_keeps, map-dedup, IsNonDecreasingBy-map}
@@ -35,22 +36,20 @@ reached_numbered s t e r = λ k d h.
     (e.numbered (get_or t.basics k d)).0
     (r.variables (get_or t.basics k d) (in_row k h (get_or_default t.basics k 0 d h)))
 
--- ---- one tableau is noted
-pub mark_added : (s : Parts) (t : Numbers) (old : List Vertex) (v : Vertex) (word : ℕ)
+-- ---- the vertex of one tableau
+pub vertex_is : (s : Parts) (t : Numbers) (v : Vertex) (word : ℕ)
     → IsZeroWord (variable_count s) (λ l. basic_solution (tableau t) (suc l)) word
     → get_or v.mask 0 0 ≡ word % 2 ^ 64 → get_or v.mask 1 0 ≡ word / 2 ^ 64
     → v.point.items ≡ map (basic_solution (tableau t)) s.nonbasics
-    → Any (λ q. q ≢ zero_ℚ) v.point.items
-    → IsNoted s t (marks_of old) (marks_of (old ++ v ∷ []))
-mark_added s t old v word zeros low high values any =
-    added (mark_of v) nonzero
-    (record {
+    → Any (λ q. q ≢ zero_ℚ) v.point.items → IsVertexOf s t (Some v)
+vertex_is s t v word zeros low high values any =
+    (nonzero,
+    record {
       low = subst (IsZeroWord (min n 64) (λ l. x (suc l))) (sym low) (low_word n (λ l. x (suc l)) word zeros);
       high = subst (IsZeroWord (n - 64) (λ l. x (suc (64 + l)))) (sym high) (high_word n (λ l. x (suc l)) word zeros);
       size = ap length values ∙ length-map s.nonbasics x;
       values = λ j h. value j zero_ℚ h;
     })
-    (map-append mark_of old (v ∷ []))
   where
     n : ℕ
     n = variable_count s
@@ -71,54 +70,46 @@ mark_added s t old v word zeros low high values any =
           other = λ e. any.4 (sym any.3 ∙ value any.0 any.1 (omega arith) ∙ e);
         }
 
-pub mark_left_out : (s : Parts) (t : Numbers) (marks : List MarkedPoint) (values : List ℚ)
+pub vertex_none : (s : Parts) (t : Numbers) (values : List ℚ)
     → values ≡ map (basic_solution (tableau t)) s.nonbasics → All (λ q. q ≡ zero_ℚ) values
-    → IsNoted s t marks marks
-mark_left_out s t marks values e all =
-    left_out
-    (λ p. p.other (sym (ap (λ xs. get_or xs p.column zero_ℚ) e ∙ get_or-map (basic_solution (tableau t)) s.nonbasics p.column 0 zero_ℚ p.within)
-    ∙ all p.column zero_ℚ (let size : length values ≡ length s.nonbasics = ap length e ∙ length-map s.nonbasics (basic_solution (tableau t)) in let w : p.column < length s.nonbasics = p.within in omega arith))) refl
+    → IsVertexOf s t None
+vertex_none s t values e all p =
+    p.other (sym (ap (λ xs. get_or xs p.column zero_ℚ) e ∙ get_or-map (basic_solution (tableau t)) s.nonbasics p.column 0 zero_ℚ p.within)
+    ∙ all p.column zero_ℚ (let size : length values ≡ length s.nonbasics = ap length e ∙ length-map s.nonbasics (basic_solution (tableau t)) in let w : p.column < length s.nonbasics = p.within in omega arith))
 
--- what is noted of a tableau is noted after other marks
-pub noted_after : (s : Parts) (t : Numbers) (old new : List MarkedPoint) → IsNoted s t [] new
-    → IsNoted s t old (old ++ new)
-noted_after s t old new (left_out none same) =
-    left_out none (ap (λ xs. old ++ xs) same ∙ append-nil old)
-noted_after s t old new (added mark nonzero marked more) =
-    added mark nonzero marked (ap (λ xs. old ++ xs) more)
-
--- ---- all tableaux are noted, one after another
+-- ---- the vertices of all tableaux, one after another
 pub no_marks : (s : Parts) → AreMarksOf s [] []
 no_marks s =
     record { each = λ m c. absurd (omega (arith, c.1)); all = λ t c h. absurd (omega (arith, c.1)) }
 
-pub marks_more : (s : Parts) (ts : List Numbers) (t : Numbers) (old new : List MarkedPoint)
-    → AreMarksOf s ts old → IsNoted s t old new → AreMarksOf s (ts ++ t ∷ []) new
-marks_more s ts t old new h (left_out none same) =
-    record {
-      each = λ m c. widened m (h.each m (subst (λ xs. Contains xs m) same c));
+in_more : (s : Parts) (ts : List Numbers) (t : Numbers) (m : MarkedPoint) → IsMarkIn s ts m
+    → IsMarkIn s (ts ++ t ∷ []) m
+in_more s ts t m k =
+    record { of = k.of; among = Contains-append_left ts (t ∷ []) k.of k.among; nonzero = k.nonzero; marked = k.marked }
+
+pub marks_more : (s : Parts) (ts : List Numbers) (t : Numbers) (old : List MarkedPoint)
+    (vertex : Option Vertex) → AreMarksOf s ts old → IsVertexOf s t vertex
+    → AreMarksOf s (ts ++ t ∷ []) (old ++ marks_of (option_to_list vertex))
+marks_more s ts t old None h none =
+    subst (AreMarksOf s (ts ++ t ∷ [])) (sym (append-nil old))
+    (record {
+      each = λ m c. in_more s ts t m (h.each m c);
       all = λ u c p. elim (Contains-push_cases ts t u c) [
-        | inl k ↦ (let m = h.all u k p in (m.0, subst (λ xs. Contains xs m.0) (sym same) m.1, m.2))
+        | inl k ↦ h.all u k p
         | inr e ↦ absurd (none (subst (λ u. IsNonzero (system_of s) (basic_solution (tableau u))) (sym e) p))
       ];
-    }
-  where
-    widened : (m : MarkedPoint) → IsMarkIn s ts m → IsMarkIn s (ts ++ t ∷ []) m
-    widened m k = record { of = k.of; among = Contains-append_left ts (t ∷ []) k.of k.among; nonzero = k.nonzero; marked = k.marked }
-marks_more s ts t old new h (added mark nonzero marked more) =
+    })
+marks_more s ts t old (Some v) h is =
     record {
-      each = λ m c. elim (Contains-push_cases old mark m (subst (λ xs. Contains xs m) more c)) [
-        | inl k ↦ widened m (h.each m k)
-        | inr e ↦ subst (IsMarkIn s (ts ++ t ∷ [])) e (record { of = t; among = Contains-push ts t; nonzero = nonzero; marked = marked })
+      each = λ m c. elim (Contains-push_cases old (mark_of v) m c) [
+        | inl k ↦ in_more s ts t m (h.each m k)
+        | inr e ↦ subst (IsMarkIn s (ts ++ t ∷ [])) e (record { of = t; among = Contains-push ts t; nonzero = is.0; marked = is.1 })
       ];
       all = λ u c p. elim (Contains-push_cases ts t u c) [
-        | inl k ↦ (let m = h.all u k p in (m.0, subst (λ xs. Contains xs m.0) (sym more) (Contains-append_left old (mark ∷ []) m.0 m.1), m.2))
-        | inr e ↦ (mark, subst (λ xs. Contains xs mark) (sym more) (Contains-push old mark), subst (λ u. IsMarkOf (variable_count s) (system_of s) (basic_solution (tableau u)) mark) e marked)
+        | inl k ↦ (let m = h.all u k p in (m.0, Contains-append_left old (mark_of v ∷ []) m.0 m.1, m.2))
+        | inr e ↦ (mark_of v, Contains-push old (mark_of v), subst (λ u. IsMarkOf (variable_count s) (system_of s) (basic_solution (tableau u)) (mark_of v)) e is.1)
       ];
     }
-  where
-    widened : (m : MarkedPoint) → IsMarkIn s ts m → IsMarkIn s (ts ++ t ∷ []) m
-    widened m k = record { of = k.of; among = Contains-append_left ts (t ∷ []) k.of k.among; nonzero = k.nonzero; marked = k.marked }
 
 -- ---- sorted, one of each mask
 pub marks_in_order : (old sorted new : List Vertex) → IsPermutation old sorted

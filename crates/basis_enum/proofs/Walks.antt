@@ -1,9 +1,10 @@
 -- From level to level
-use Rattle.std.proofs.Common.{ℕ, suc, zero, ◌<◌, ◌≤◌, ◌≡◌, ◌+◌, refl, sym, ap, ap₂, ◌∙◌, subst, arith, inl, inr, List, [], ◌∷◌, ◌++◌, length, get_or, map, take, append_assoc}
+use Rattle.std.proofs.Common.{ℕ, suc, zero, ◌<◌, ◌≤◌, ◌≡◌, ◌+◌, refl, sym, ap, ap₂, ◌∙◌, subst, subst₂, arith, inl, inr, List, [], ◌∷◌, ◌++◌, length, get_or, map, append_assoc}
 use Rattle.std.specs.List.{Contains}
+use Rattle.std.specs.Prelude.{Option, option_to_list}
 use Rattle.std.specs.List.Sorted.{IsStrictlyIncreasing}
 use Rattle.std.proofs.lemmas.Grind.{same_number_lists}
-use Rattle.std.proofs.lemmas.List.{append-nil, length-append, length-map, map-append, get_or_default, take_all, take_more}
+use Rattle.std.proofs.lemmas.List.{append-nil, length-append, length-map, map-append, get_or_default}
 use Rattle.std.proofs.lemmas.List.Elements.{Contains-append_left, Contains-append_right, Contains-append_cases, Contains-get_or}
 use Rattle.std.proofs.Math.ListN.{get_or-map}
 use Rattle.frac128.specs.declared.steps.Unfit.{Unfit}
@@ -11,10 +12,10 @@ use Rattle.linear_systems.specs.Reached.{in_column}
 use Rattle.lex_tableau.specs.Rows.{Numbers}
 use Rattle.lex_tableau.specs.Starts.{Parts, IsSystem}
 use Rattle.basis_enum.specs.Bases.{basis_of, AreVariables}
-use Rattle.basis_enum.specs.Levels.{Levels, IsLevel, IsNextLevel, AreNextMoves, bases_of, most, no_tableau, parent_of}
+use Rattle.basis_enum.specs.Levels.{Levels, IsChild, IsLevel, IsMove, IsNextLevel, AreNextMoves, bases_of, most, no_tableau, parent_of}
 use Rattle.basis_enum.specs.Systems.{IsEnumerable, variable_count}
 use Rattle.basis_enum.specs.Ends.{complete, IsEnd, IsUnfitChild}
-use Rattle.basis_enum.proofs.Complete.{Held, held_start, held_digits, level_held, pivoted_nonbasics}
+use Rattle.basis_enum.proofs.Complete.{Held, held_start, held_child, held_digits, level_held, pivoted_nonbasics}
 use Rattle.basis_enum.proofs.Lists.{unmapped}
 use Rattle.basis_enum.proofs.Once.{level_few}
 use Rattle.basis_enum.specs.declared.moves.Move.{Move}
@@ -22,17 +23,17 @@ use Rattle.basis_enum.specs.declared.stop.EnumStop.{EnumStop}
 use Rattle.basis_enum.specs.declared.stop.EnumStop.TheVariants as stops
 use Rattle.basis_enum.specs.declared.vertex.Vertex.{Vertex}
 use Rattle.basis_enum.specs.declared.walk.Walk.{Walk}
-use Rattle.basis_enum.specs.Children.{AreMoves, AreChildren}
+use Rattle.basis_enum.specs.Children.{AreMoves, AreChildren, LeadToReady}
 use Rattle.basis_enum.specs.Enumeration.{AreVerticesOf, IsEnumStop}
-use Rattle.basis_enum.specs.Found.{IsReady, IsLevelOf, AreKnown}
-use Rattle.basis_enum.specs.Marks.{AreInOrder, AreMarksOf, AreUpTo, IsNoted}
+use Rattle.basis_enum.specs.Found.{AreFound, AreFoundIn, IsFoundIn, IsReady, AreReady, AreKnown}
+use Rattle.basis_enum.specs.Marks.{AreInOrder, AreMarksOf, AreUpTo, IsVertexOf}
 use Rattle.basis_enum.specs.Merged.{IsMerged}
 use Rattle.basis_enum.specs.Next.{AreNewMoves, move_of, no_move, target_of}
 use Rattle.basis_enum.specs.Vertices.{VertexList, mark_of, marks_of}
-use Rattle.basis_enum.specs.Walks.{levels_of, IsFirst, IsWalkAt, IsWalkToEnd, HaveEntering, IsMoveStop, IsLimitStop, IsUnfitMove, AddsVertices, AreNumbered, IsVertexAt}
-use Rattle.basis_enum.proofs.LevelMoves.{basis_at, move_is, target_is_there, entering_is, next_are}
+use Rattle.basis_enum.specs.Walks.{levels_of, IsFirst, IsWalkAt, IsWalkToEnd, HaveEntering, IsMoveStop, IsLimitStop, IsUnfitMove, AddsVertices}
+use Rattle.basis_enum.proofs.LevelMoves.{basis_at, found_in_start, found_in_more, move_is, target_is_there, entering_is, next_are}
 use Rattle.basis_enum.proofs.NextLevel.{next_level}
-use Rattle.basis_enum.proofs.VertexMarks.{reached_numbered, noted_after, marks_more, are_vertices}
+use Rattle.basis_enum.proofs.VertexMarks.{reached_numbered, no_marks, marks_more, are_vertices}
 
 -- ---- the tableaux of a level
 ready : (s : Parts) (t : Numbers) → IsEnumerable s → Held s t → IsReady t
@@ -55,15 +56,8 @@ walk_few s k w h =
     let count : length w.known.items ≡ length (h.before ++ w.level.items) = h.count in
     omega arith
 
-pub walk_level : (s : Parts) (k : ℕ) (w : Walk) → IsEnumerable s → IsWalkAt s k w → IsLevelOf w.level.items w.bases.items
-walk_level s k w e h =
-    let few : length (h.before ++ w.level.items) ≤ 20000 = level_few s k (levels_of h.before w.level.items) h.is_level in
-    let sum : length (h.before ++ w.level.items) ≡ length h.before + length w.level.items = length-append h.before w.level.items in
-    record {
-      ready = λ i hi. ready s _ e (walk_held s k w e h i hi);
-      bases = h.bases;
-      few = omega arith;
-    }
+pub walk_ready : (s : Parts) (k : ℕ) (w : Walk) → IsEnumerable s → IsWalkAt s k w → AreReady w.level.items
+walk_ready s k w e h i hi = ready s _ e (walk_held s k w e h i hi)
 
 -- ---- the pivots to new bases
 pub moves_are : (level : List Numbers) (known : List ℕ) (moves : List Move) → AreNewMoves level known moves → AreMoves level moves
@@ -81,45 +75,63 @@ targets_rise level known bases moves n e = subst IsStrictlyIncreasing (sym e) n.
 pub targets_apart : (level : List Numbers) (known bases : List ℕ) (moves : List Move) → AreNewMoves level known moves → bases ≡ map target_of moves → (b : ℕ) → Contains known b → ¬ (Contains bases b)
 targets_apart level known bases moves n e b k c =
     let z = unmapped target_of b moves (subst (λ xs. Contains xs b) e c) in
-    (n.all.each z.0 (n.firsts.each z.0 z.1)).found.new (subst (Contains known) (sym z.2) k)
+    (n.all.each z.0 (n.firsts.each z.0 z.1)).below.found.new (subst (Contains known) (sym z.2) k)
+
+-- they lead to tableaux whose pivots can be found
+pub moves_lead : (s : Parts) (k : ℕ) (w : Walk) (moves : List Move) → IsEnumerable s → IsWalkAt s k w → AreNewMoves w.level.items w.known.items moves → LeadToReady s w.level.items moves
+moves_lead s k w moves e h n m c =
+    record {
+      ready = λ t q. ready s t e (held t q);
+      numbered = λ t q. reached_numbered s t e (held t q).reached;
+      target = λ t q. target_is_there w.level.items w.known.items m found ∙ ap basis_of (sym (pivoted_nonbasics (parent_of w.level.items (move_of m)) t m.row m.column is_move.column q.pivot));
+    }
+  where
+    found : IsFoundIn w.level.items w.known.items m
+    found = n.all.each m (n.firsts.each m c)
+
+    is_move : IsMove w.level.items (move_of m)
+    is_move = move_is w.level.items w.known.items m found
+
+    held : (t : Numbers) → IsChild w.level.items (move_of m) t → Held s t
+    held t q = held_child s (parent_of w.level.items (move_of m)) t m.row m.column h.valid e (walk_held s k w e h m.parent is_move.parent) is_move.column is_move.row q.is_tableau q.pivot
+
+pub children_ready : (s : Parts) (level next : List Numbers) (moves : List Move) → LeadToReady s level moves → AreChildren level moves (length moves) next → AreReady next
+children_ready s level next moves lead c i hi =
+    let size : length next ≡ length moves = c.size in
+    let within : i < length moves = omega arith in
+    (lead _ (Contains-get_or moves i no_move within)).ready _ (c.each i within)
 
 -- the children's bases are the pivots' targets
-children_bases : (level next : List Numbers) (known : List ℕ) (moves : List Move) → AreNewMoves level known moves → AreChildren level moves (length moves) next → map target_of moves ≡ bases_of next
-children_bases level next known moves n c =
+children_bases : (s : Parts) (level next : List Numbers) (moves : List Move) → LeadToReady s level moves → AreChildren level moves (length moves) next → map target_of moves ≡ bases_of next
+children_bases s level next moves lead c =
     same_number_lists (map target_of moves) (bases_of next) (length-map moves target_of ∙ sym c.size ∙ sym (length-map next (λ t. basis_of t.nonbasics))) each
   where
     each : (i : ℕ) → i < length (map target_of moves) → get_or (map target_of moves) i 0 ≡ get_or (bases_of next) i 0
     each i h =
         let hi : i < length moves = subst (λ m. i < m) (length-map moves target_of) h in
         let size : length next ≡ length moves = c.size in
-        let m = get_or moves i no_move in
-        let there = Contains-get_or moves i no_move hi in
-        let f = n.all.each m (n.firsts.each m there) in
-        get_or-map target_of moves i no_move ∙ target_is_there level known m f
-        ∙ ap basis_of (sym (pivoted_nonbasics (parent_of level (move_of m)) (get_or next i no_tableau) m.row m.column (move_is level known m f).column (c.each i hi).pivot))
+        get_or-map target_of moves i no_move
+        ∙ (lead _ (Contains-get_or moves i no_move hi)).target _ (c.each i hi)
         ∙ sym (basis_at next (bases_of next) i refl (let w : i < length next = omega arith in w))
 
 -- ---- the vertices of a level
-pub vertices_start : (s : Parts) (level : List Numbers) (vertices : List Vertex) → AddsVertices s level 0 vertices vertices
-vertices_start s level vertices = record { adds = λ ts m. subst (λ xs. AreMarksOf s xs (marks_of vertices)) (sym (append-nil ts)) m }
+pub vertices_start : (s : Parts) (vertices : List Vertex) → AddsVertices s [] vertices vertices
+vertices_start s vertices = λ ts m. subst (λ xs. AreMarksOf s xs (marks_of vertices)) (sym (append-nil ts)) m
 
-pub vertices_next : (s : Parts) (level : List Numbers) (n : ℕ) (first vertices new : List Vertex) → n < length level → AddsVertices s level n first vertices → IsNoted s (get_or level n no_tableau) (marks_of vertices) (marks_of new) → AddsVertices s level (n + 1) first new
-vertices_next s level n first vertices new h before noted =
-    record {
-      adds = λ ts m.
-          let t = get_or level n no_tableau in
-          subst (λ xs. AreMarksOf s xs (marks_of new)) (append_assoc ts (take n level) (t ∷ []) ∙ ap (λ xs. ts ++ xs) (sym (take_more level n no_tableau h)))
-          (marks_more s (ts ++ take n level) t (marks_of vertices) (marks_of new) (before.adds ts m) noted);
-    }
+vertices_more : (s : Parts) (level : List Numbers) (t : Numbers) (first vertices : List Vertex)
+    (vertex : Option Vertex) → AddsVertices s level first vertices → IsVertexOf s t vertex
+    → AddsVertices s (level ++ t ∷ []) first (vertices ++ option_to_list vertex)
+vertices_more s level t first vertices vertex before is = λ ts m.
+    subst₂ (AreMarksOf s) (append_assoc ts level (t ∷ [])) (sym (map-append mark_of vertices (option_to_list vertex)))
+    (marks_more s (ts ++ level) t (marks_of vertices) vertex (before ts m) is)
 
-pub vertices_more : (s : Parts) (level : List Numbers) (n : ℕ) (first vertices more : List Vertex) → AddsVertices s level n first vertices → IsVertexAt s level n more → AddsVertices s level (n + 1) first (vertices ++ more)
-vertices_more s level n first vertices more before at =
-    vertices_next s level n first vertices (vertices ++ more) at.within before
-    (subst (IsNoted s (get_or level n no_tableau) (marks_of vertices)) (sym (map-append mark_of vertices more)) (noted_after s (get_or level n no_tableau) (marks_of vertices) (marks_of more) at.noted))
-
-pub vertices_all : (s : Parts) (level : List Numbers) (old new : List Vertex) → AddsVertices s level (length level) old new → (ts : List Numbers) → AreMarksOf s ts (marks_of old) → AreMarksOf s (ts ++ level) (marks_of new)
-vertices_all s level old new h ts m =
-    subst (λ xs. AreMarksOf s (ts ++ xs) (marks_of new)) (take_all (length level) level (omega arith)) (h.adds ts m)
+pub vertices_new : (s : Parts) (level new : List Numbers) (t : Numbers)
+    (first vertices all : List Vertex) (vertex : Option Vertex) → new ≡ level ++ t ∷ []
+    → all ≡ vertices ++ option_to_list vertex → AddsVertices s level first vertices
+    → IsVertexOf s t vertex → AddsVertices s new first all
+vertices_new s level new t first vertices all vertex pushed added before is =
+    subst₂ (λ l a. AddsVertices s l first a) (sym pushed) (sym added)
+    (vertices_more s level t first vertices vertex before is)
 
 -- ---- the next level
 known_next : (before level next : List Numbers) (known all : List ℕ) → AreKnown (levels_of before level) known → IsMerged known (bases_of next) all → AreKnown (levels_of (before ++ level) next) all
@@ -140,38 +152,23 @@ walk_next_level s k w moves next h n some few c =
     next_level (levels_of h.before w.level.items) moves next (walk_moves s k w moves h n) some
     (let sizes : length (map move_of moves) ≡ length moves = length-map moves move_of in let counts : length w.known.items ≡ length (h.before ++ w.level.items) = h.count in omega arith) c
 
-pub walk_next : (s : Parts) (k : ℕ) (w new : Walk) (moves : List Move) (bases : List ℕ) → IsWalkAt s k w → AreNewMoves w.level.items w.known.items moves → 0 < length moves → length w.known.items + length moves ≤ 20000 → AreChildren w.level.items moves (length moves) new.level.items → bases ≡ map target_of moves → new.bases.items ≡ bases → IsMerged w.known.items bases new.known.items → ((ts : List Numbers) → AreMarksOf s ts (marks_of w.vertices.items) → AreMarksOf s (ts ++ new.level.items) (marks_of new.vertices.items)) → IsWalkAt s (k + 1) new
-walk_next s k w new moves bases h n some few c e b m marks =
+pub walk_next : (s : Parts) (k : ℕ) (w new : Walk) (moves : List Move) (bases : List ℕ) → IsEnumerable s → IsWalkAt s k w → AreNewMoves w.level.items w.known.items moves → 0 < length moves → length w.known.items + length moves ≤ 20000 → AreChildren w.level.items moves (length moves) new.level.items → bases ≡ map target_of moves → IsMerged w.known.items bases new.known.items → AddsVertices s new.level.items w.vertices.items new.vertices.items → IsWalkAt s (k + 1) new
+walk_next s k w new moves bases enumerable h n some few c e m adds =
     record {
       valid = h.valid;
       before = h.before ++ w.level.items;
       is_level = subst (λ j. IsLevel s j (levels_of (h.before ++ w.level.items) new.level.items)) (let q : suc k ≡ k + 1 = omega arith in q) (levels_of h.before w.level.items, h.is_level, walk_next_level s k w moves new.level.items h n some few c);
-      bases = b ∙ told;
       known = known_next h.before w.level.items new.level.items w.known.items new.known.items h.known merged;
       ascending = m.ascending;
       count = m.size ∙ ap₂ (λ x y. x + y) h.count (ap length told ∙ length-map new.level.items (λ t. basis_of t.nonbasics)) ∙ sym (length-append (h.before ++ w.level.items) new.level.items);
-      marks = marks (h.before ++ w.level.items) h.marks;
+      marks = adds (h.before ++ w.level.items) h.marks;
     }
   where
     told : bases ≡ bases_of new.level.items
-    told = e ∙ children_bases w.level.items new.level.items w.known.items moves n c
+    told = e ∙ children_bases s w.level.items new.level.items moves (moves_lead s k w moves enumerable h n) c
 
     merged : IsMerged w.known.items (bases_of new.level.items) new.known.items
     merged = subst (λ xs. IsMerged w.known.items xs new.known.items) told m
-
--- the new level's variables
-pub children_numbered : (s : Parts) (k : ℕ) (w : Walk) (moves : List Move) (next : List Numbers) → IsEnumerable s → (h : IsWalkAt s k w) → AreNewMoves w.level.items w.known.items moves → 0 < length moves → length w.known.items + length moves ≤ 20000 → AreChildren w.level.items moves (length moves) next → AreNumbered s next
-children_numbered s k w moves next e h n some few c i hi =
-    reached_numbered s (get_or next i no_tableau) e (level_held s (suc k) (levels_of (h.before ++ w.level.items) next) h.valid e (levels_of h.before w.level.items, h.is_level, walk_next_level s k w moves next h n some few c) _ (Contains-append_right (h.before ++ w.level.items) next _ (Contains-get_or next i no_tableau hi))).reached
-
--- the new level, with the bases to which the pivots lead
-pub children_level : (s : Parts) (k : ℕ) (w : Walk) (moves : List Move) (next : List Numbers) (bases : List ℕ) → IsEnumerable s → (h : IsWalkAt s k w) → AreNewMoves w.level.items w.known.items moves → 0 < length moves → length w.known.items + length moves ≤ 20000 → AreChildren w.level.items moves (length moves) next → bases ≡ map target_of moves → IsLevelOf next bases
-children_level s k w moves next bases e h n some few c is =
-    record {
-      ready = λ i hi. ready s _ e (level_held s (suc k) (levels_of (h.before ++ w.level.items) next) h.valid e (levels_of h.before w.level.items, h.is_level, walk_next_level s k w moves next h n some few c) _ (Contains-append_right (h.before ++ w.level.items) next _ (Contains-get_or next i no_tableau hi)));
-      bases = is ∙ children_bases w.level.items next w.known.items moves n c;
-      few = let size : length next ≡ length moves = c.size in omega arith;
-    }
 
 -- ---- the ends
 pub limit_stop : (s : Parts) (k : ℕ) (w : Walk) (moves : List Move) (e : EnumStop) → IsWalkAt s k w → AreNewMoves w.level.items w.known.items moves → IsLimitStop (length w.known.items + length moves) e → IsEnumStop s e
@@ -234,34 +231,40 @@ system_variables s h e =
 first_nonbasics : (s : Parts) (t : Numbers) → IsFirst s t → s.nonbasics ≡ t.nonbasics
 first_nonbasics s t f = same_number_lists s.nonbasics t.nonbasics f.is_start.fractions.width (λ j h. f.is_start.fractions.nonbasic j h)
 
-pub first_level : (s : Parts) (t : Numbers) (basis : ℕ) → IsSystem s → IsEnumerable s → IsFirst s t → basis ≡ basis_of s.nonbasics → IsLevelOf (t ∷ []) (basis ∷ [])
-first_level s t basis h e f is =
-    record {
-      ready = λ i hi. let first : i ≡ 0 = omega arith in subst (λ i. IsReady (get_or (t ∷ []) i no_tableau)) (sym first) (ready s t e (held_start s t h e f.is_tableau f.is_start));
-      bases = ap (λ b. b ∷ []) (is ∙ ap basis_of (first_nonbasics s t f));
-      few = omega arith;
-    }
+first_held : (s : Parts) (t : Numbers) → IsSystem s → IsEnumerable s → IsFirst s t → Held s t
+first_held s t h e f = held_start s t h e f.is_tableau f.is_start
 
-pub first_numbers : (s : Parts) (t : Numbers) → IsSystem s → IsEnumerable s → IsFirst s t → AreNumbered s (t ∷ [])
-first_numbers s t h e f i hi =
-    let first : i ≡ 0 = omega arith in
-    subst (λ i. AreUpTo (variable_count s) (get_or (t ∷ []) i no_tableau).basics) (sym first) (reached_numbered s t e (held_start s t h e f.is_tableau f.is_start).reached)
+pub first_ready : (s : Parts) (t : Numbers) → IsSystem s → IsEnumerable s → IsFirst s t → IsReady t
+first_ready s t h e f = ready s t e (first_held s t h e f)
 
-pub walk_start : (s : Parts) (t : Numbers) (basis : ℕ) (w : Walk) → IsSystem s → IsFirst s t → basis ≡ basis_of s.nonbasics → w.level.items ≡ t ∷ [] → w.bases.items ≡ basis ∷ [] → w.known.items ≡ basis ∷ [] → AreMarksOf s (t ∷ []) (marks_of w.vertices.items) → IsWalkAt s 0 w
-walk_start s t basis w valid f e level bases known marks =
+pub first_numbered : (s : Parts) (t : Numbers) → IsSystem s → IsEnumerable s → IsFirst s t → AreUpTo (variable_count s) t.basics
+first_numbered s t h e f = reached_numbered s t e (first_held s t h e f).reached
+
+pub first_basis : (s : Parts) (t : Numbers) → IsFirst s t → basis_of s.nonbasics ≡ basis_of t.nonbasics
+first_basis s t f = ap basis_of (first_nonbasics s t f)
+
+pub first_found : (t : Numbers) (known : List ℕ) (found : List Move) → AreFound t 0 known (length t.nonbasics) found → AreFoundIn (t ∷ []) known found
+first_found t known found f = found_in_more [] known [] found t (found_in_start known) f
+
+pub first_all_ready : (t : Numbers) → IsReady t → AreReady (t ∷ [])
+first_all_ready t r i hi = let first : i ≡ 0 = omega arith in subst (λ i. IsReady (get_or (t ∷ []) i no_tableau)) (sym first) r
+
+pub walk_start : (s : Parts) (t : Numbers) (w : Walk) (vertex : Option Vertex) → IsSystem s
+    → IsFirst s t → w.level.items ≡ t ∷ [] → w.known.items ≡ basis_of s.nonbasics ∷ []
+    → w.vertices.items ≡ option_to_list vertex → IsVertexOf s t vertex → IsWalkAt s 0 w
+walk_start s t w vertex valid f level known vertices is =
     record {
       valid = valid;
       before = [];
       is_level = record { start = t; is_tableau = f.is_tableau; is_start = f.is_start; fits = f.fits; before = refl; level = level };
-      bases = bases ∙ told;
       known = record { all = λ b c. subst (λ xs. Contains xs b) (sym (known ∙ told)) c; only = λ b c. subst (λ xs. Contains xs b) (known ∙ told) c };
       ascending = subst IsStrictlyIncreasing (sym known) (λ k h. absurd (omega arith));
       count = ap length known ∙ sym (ap length level);
-      marks = subst (λ ts. AreMarksOf s ts (marks_of w.vertices.items)) (sym level) marks;
+      marks = subst₂ (AreMarksOf s) (sym level) (sym (ap marks_of vertices)) (marks_more s [] t [] vertex (no_marks s) is);
     }
   where
-    told : basis ∷ [] ≡ bases_of w.level.items
-    told = ap (λ b. b ∷ []) (e ∙ ap basis_of (first_nonbasics s t f)) ∙ sym (ap bases_of level)
+    told : basis_of s.nonbasics ∷ [] ≡ bases_of w.level.items
+    told = ap (λ b. b ∷ []) (first_basis s t f) ∙ sym (ap bases_of level)
 
 -- ---- at the last level
 pub walk_vertices : (s : Parts) (w : Walk) (v : VertexList) → IsEnumerable s → IsWalkToEnd s w → v.bases ≡ length w.known.items → AreInOrder (marks_of w.vertices.items) v.list → AreVerticesOf s v

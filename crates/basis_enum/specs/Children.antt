@@ -2,13 +2,18 @@
 use Rattle.std.specs.Prelude.{ℕ, ◌<◌, ◌≤◌, ◌≡◌, List, length, get_or, map}
 use Rattle.std.specs.List.{Contains}
 use Rattle.lex_tableau.specs.Rows.{Numbers}
+use Rattle.lex_tableau.specs.Starts.{Parts}
 use Rattle.whole_rows.specs.Steps.{IsFirstUnfit}
 use Rattle.basis_enum.specs.Levels.{no_tableau, IsMove, IsChild, steps_of}
 use Rattle.basis_enum.specs.Ends.{IsFirstUnfitMove}
 use Rattle.basis_enum.specs.declared.moves.Move.{Move}
 use Rattle.basis_enum.specs.declared.children.ChildStop.{ChildStop}
 use Rattle.basis_enum.specs.declared.children.ChildStop.TheVariants.{Unfit, Memory}
+use Rattle.basis_enum.specs.Bases.{basis_of}
+use Rattle.basis_enum.specs.Found.{IsReady}
+use Rattle.basis_enum.specs.Marks.{AreUpTo}
 use Rattle.basis_enum.specs.Next.{no_move, move_of}
+use Rattle.basis_enum.specs.Systems.{variable_count}
 
 -- pivots from the level
 abbrev pub AreMoves : List Numbers → List Move → Type 0
@@ -32,3 +37,13 @@ IsChildStopAt level moves n Memory = Unit {0}
 abbrev pub IsChildStop : List Numbers → List Move → ChildStop → Type 0
 IsChildStop level moves (Unfit place unfit) = IsFirstUnfitMove level (map move_of moves) place unfit
 IsChildStop level moves Memory = Unit {0}
+
+-- what a pivot leads to is ready, with variables of the system, and has the pivot's target
+pub record LeadsToReady (s : Parts) (level : List Numbers) (m : Move) : Type 0 where
+  pub ready : (t : Numbers) → IsChild level (move_of m) t → IsReady t
+  pub numbered : (t : Numbers) → IsChild level (move_of m) t → AreUpTo (variable_count s) t.basics
+  pub target : (t : Numbers) → IsChild level (move_of m) t → m.target ≡ basis_of t.nonbasics
+
+-- each of these pivots does
+abbrev pub LeadToReady : Parts → List Numbers → List Move → Type 0
+LeadToReady s level moves = (m : Move) → Contains moves m → LeadsToReady s level m

@@ -44,42 +44,24 @@ pub record AreFound (t : Numbers) (place : ℕ) (known : List ℕ) (bound : ℕ)
   pub all : (column r : ℕ) → column < bound → IsLexRowOf t column r
       → ¬ (Contains known (neighbour_of t r column)) → HasFound t place known moves column
 
--- those of a tableau of the level, in all its columns
-abbrev pub AreFoundAt : List Numbers → ℕ → List ℕ → List Move → Type 0
-AreFoundAt level place known moves =
-    AreFound (get_or level place no_tableau) place known
-    (length (get_or level place no_tableau).nonbasics) moves
-
--- new has these pivots after the old ones
-pub record AddsFound (t : Numbers) (place : ℕ) (known : List ℕ) (bound : ℕ) (old new : List Move)
-    : Type 0 where
-  pub more : List Move
-  pub added : new ≡ old ++ more
-  pub found : AreFound t place known bound more
-
--- those from a tableau of the level, in all its columns
-abbrev pub AddsFoundAt : List Numbers → ℕ → List ℕ → List Move → List Move → Type 0
-AddsFoundAt level place known old new =
-    AddsFound (get_or level place no_tableau) place known
-    (length (get_or level place no_tableau).nonbasics) old new
+-- of each of its columns the pivot is among the moves, or leads to a known basis
+abbrev pub HasAllFound : Numbers → ℕ → List ℕ → List Move → Type 0
+HasAllFound t place known moves =
+    (column r : ℕ) → column < length t.nonbasics → IsLexRowOf t column r
+    → ¬ (Contains known (neighbour_of t r column)) → HasFound t place known moves column
 
 -- a tableau of the level and a column, with such a pivot
-pub record IsFoundIn (level : List Numbers) (known : List ℕ) (bound : ℕ) (m : Move) : Type 0 where
+pub record IsFoundIn (level : List Numbers) (known : List ℕ) (m : Move) : Type 0 where
   pub place : ℕ
-  pub within : place < bound
-  pub column : ℕ
-  pub column_in : column < length (get_or level place no_tableau).nonbasics
-  pub found : IsFound (get_or level place no_tableau) place known column m
+  pub within : place < length level
+  pub below : IsFoundBelow (get_or level place no_tableau) place known
+      (length (get_or level place no_tableau).nonbasics) m
 
--- the pivots from the first tableaux of the level that lead to new bases
-pub record AreFoundIn (level : List Numbers) (known : List ℕ) (bound : ℕ) (moves : List Move)
-    : Type 0 where
-  pub each : (m : Move) → Contains moves m → IsFoundIn level known bound m
-  pub all : (place column r : ℕ) → place < bound
-      → column < length (get_or level place no_tableau).nonbasics
-      → IsLexRowOf (get_or level place no_tableau) column r
-      → ¬ (Contains known (neighbour_of (get_or level place no_tableau) r column))
-      → HasFound (get_or level place no_tableau) place known moves column
+-- the pivots from the level that lead to new bases
+pub record AreFoundIn (level : List Numbers) (known : List ℕ) (moves : List Move) : Type 0 where
+  pub each : (m : Move) → Contains moves m → IsFoundIn level known m
+  pub all : (place : ℕ) → place < length level
+      → HasAllFound (get_or level place no_tableau) place known moves
 
 -- a tableau whose pivots can be found
 pub record IsReady (t : Numbers) : Type 0 where
@@ -90,12 +72,6 @@ pub record IsReady (t : Numbers) : Type 0 where
 -- each of these can be
 abbrev pub AreReady : List Numbers → Type 0
 AreReady level = (i : ℕ) → i < length level → IsReady (get_or level i no_tableau)
-
--- a level and the bases of its tableaux
-pub record IsLevelOf (level : List Numbers) (numbers : List ℕ) : Type 0 where
-  pub ready : AreReady level
-  pub bases : numbers ≡ bases_of level
-  pub few : length level < 2 ^ 32
 
 -- the bases that are known are those of the levels
 pub record AreKnown (l : Levels) (known : List ℕ) : Type 0 where

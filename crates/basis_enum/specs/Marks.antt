@@ -1,12 +1,14 @@
--- The marks of the basic solutions of tableaux, as they are noted one after another
-use Rattle.std.specs.Prelude.{ℕ, ◌<◌, ◌≤◌, ◌≡◌, List, [], ◌∷◌, ◌++◌, length, get_or, map}
+-- The marks of the basic solutions of tableaux
+use Rattle.std.specs.Prelude.{ℕ, ◌<◌, ◌≤◌, ◌≡◌, List, length, get_or, map, Option, Some, None}
 use Rattle.std.specs.List.{All, Contains}
 use Rattle.rational.specs.Rational.{ℚ}
 use Rattle.lex_tableau.specs.Rows.{Numbers, tableau}
 use Rattle.lex_tableau.specs.Starts.{Parts, system_of}
 use Rattle.linear_systems.specs.Points.{IsNonzero, basic_solution}
 use Rattle.linear_systems.specs.Vertices.{MarkedPoint, IsMarkOf, mask_of}
+use Rattle.basis_enum.specs.declared.vertex.Vertex.{Vertex}
 use Rattle.basis_enum.specs.Systems.{variable_count}
+use Rattle.basis_enum.specs.Vertices.{mark_of}
 
 -- each of the variables is one of 1 to n
 abbrev pub AreUpTo : ℕ → List ℕ → Type 0
@@ -16,14 +18,12 @@ AreUpTo n variables = All (λ v. (0 < v) × (v ≤ n)) variables
 abbrev pub values_of : Numbers → List ℕ → List ℚ
 values_of t variables = map (basic_solution (tableau t)) variables
 
--- the basic solution of t is noted: its mark is added, unless it is zero at the system's nonbasic
+-- the vertex that is the basic solution of t, or none, where that is zero at the system's nonbasic
 -- variables
-pub data IsNoted (s : Parts) (t : Numbers) (old new : List MarkedPoint) : Type 0 where
-  left_out : (IsNonzero (system_of s) (basic_solution (tableau t)) → ⊥) → new ≡ old
-      → IsNoted s t old new
-  added : (mark : MarkedPoint) → IsNonzero (system_of s) (basic_solution (tableau t))
-      → IsMarkOf (variable_count s) (system_of s) (basic_solution (tableau t)) mark
-      → new ≡ old ++ mark ∷ [] → IsNoted s t old new
+abbrev pub IsVertexOf : Parts → Numbers → Option Vertex → Type 0
+IsVertexOf s t None = IsNonzero (system_of s) (basic_solution (tableau t)) → ⊥
+IsVertexOf s t (Some v) = IsNonzero (system_of s) (basic_solution (tableau t))
+    × IsMarkOf (variable_count s) (system_of s) (basic_solution (tableau t)) (mark_of v)
 
 -- the mark is that of the basic solution of one of the tableaux, which is not zero
 pub record IsMarkIn (s : Parts) (ts : List Numbers) (mark : MarkedPoint) : Type 0 where

@@ -62,7 +62,7 @@ pub record AreFirsts (found : List Move) (i : ℕ) (next : List Move) : Type 0 w
 -- next has the first pivot to each new basis, in ascending order, out of all that are found
 pub record AreNewMoves (level : List Numbers) (known : List ℕ) (next : List Move) : Type 0 where
   pub found : List Move
-  pub all : AreFoundIn level known (length level) found
+  pub all : AreFoundIn level known found
   pub small : AreSmall found
   pub firsts : IsNextOf found next
 

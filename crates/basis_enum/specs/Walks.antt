@@ -1,13 +1,12 @@
 -- The enumeration on its way, level after level
-use Rattle.std.specs.Prelude.{ℕ, ◌<◌, ◌≡◌, List, [], ◌++◌, length, get_or, map, take}
+use Rattle.std.specs.Prelude.{ℕ, ◌<◌, ◌≡◌, List, [], ◌++◌, length, get_or, map}
 use Rattle.std.specs.List.{Contains}
 use Rattle.std.specs.List.Sorted.{IsStrictlyIncreasing}
 use Rattle.frac128.specs.declared.steps.Unfit.{Unfit}
 use Rattle.lex_tableau.specs.Rows.{Numbers, IsTableau}
 use Rattle.lex_tableau.specs.Starts.{Parts, IsSystem, IsStartOf, StartFits}
-use Rattle.basis_enum.specs.Systems.{variable_count}
 use Rattle.basis_enum.specs.Levels as L
-use Rattle.basis_enum.specs.Levels.{Levels, IsLevel, bases_of, most, no_tableau, parent_of}
+use Rattle.basis_enum.specs.Levels.{Levels, IsLevel, most, parent_of}
 use Rattle.basis_enum.specs.Ends.{IsAscendingListOf, IsFirstUnfitMove}
 use Rattle.basis_enum.specs.declared.moves.Move.{Move}
 use Rattle.basis_enum.specs.declared.stop.EnumStop.{EnumStop}
@@ -16,7 +15,7 @@ use Rattle.basis_enum.specs.declared.vertex.Vertex.{Vertex}
 use Rattle.basis_enum.specs.declared.walk.Walk.{Walk}
 use Rattle.basis_enum.specs.Enumeration.{limit_of}
 use Rattle.basis_enum.specs.Found.{AreKnown}
-use Rattle.basis_enum.specs.Marks.{AreMarksOf, AreUpTo, IsNoted}
+use Rattle.basis_enum.specs.Marks.{AreMarksOf}
 use Rattle.basis_enum.specs.Next.{AreNewMoves, move_of}
 use Rattle.basis_enum.specs.Vertices.{marks_of}
 
@@ -30,13 +29,12 @@ pub record IsFirst (s : Parts) (t : Numbers) : Type 0 where
 abbrev pub levels_of : List Numbers → List Numbers → Levels
 levels_of before level = record { before = before; level = level }
 
--- at level k of the system: its tableaux with their bases, the bases of all levels so far in
--- ascending order, and the marks of their tableaux
+-- at level k of the system: its tableaux, the bases of all levels so far in ascending order, and
+-- the marks of their tableaux
 pub record IsWalkAt (s : Parts) (k : ℕ) (w : Walk) : Type 0 where
   pub valid : IsSystem s
   pub before : List Numbers
   pub is_level : IsLevel s k (levels_of before w.level.items)
-  pub bases : w.bases.items ≡ bases_of w.level.items
   pub known : AreKnown (levels_of before w.level.items) w.known.items
   pub ascending : IsStrictlyIncreasing w.known.items
   pub count : length w.known.items ≡ length (before ++ w.level.items)
@@ -77,19 +75,7 @@ IsLimitStop count (Start row unfit) = ⊥
 IsLimitStop count (Range number basis variable unfit) = ⊥
 IsLimitStop count Memory = ⊥
 
--- the basic variables of these tableaux are numbers from 1 on
-abbrev pub AreNumbered : Parts → List Numbers → Type 0
-AreNumbered s level =
-    (i : ℕ) → i < length level → AreUpTo (variable_count s) (get_or level i no_tableau).basics
-
--- the vertex of one of these tableaux, or none
-pub record IsVertexAt (s : Parts) (level : List Numbers) (n : ℕ) (vertices : List Vertex)
-    : Type 0 where
-  pub within : n < length level
-  pub noted : IsNoted s (get_or level n no_tableau) [] (marks_of vertices)
-
--- the vertices of the first n of these tableaux come to those of any others
-pub record AddsVertices (s : Parts) (level : List Numbers) (n : ℕ) (old new : List Vertex)
-    : Type 0 where
-  pub adds : (ts : List Numbers) → AreMarksOf s ts (marks_of old)
-      → AreMarksOf s (ts ++ take n level) (marks_of new)
+-- the vertices of these tableaux come to those of any others
+abbrev pub AddsVertices : Parts → List Numbers → List Vertex → List Vertex → Type 0
+AddsVertices s level old new =
+    (ts : List Numbers) → AreMarksOf s ts (marks_of old) → AreMarksOf s (ts ++ level) (marks_of new)

@@ -1,11 +1,11 @@
 // The vertices of tableaux' basic solutions.
-ghost use Rattle.std.specs.Prelude.{◌≡◌, ◌+◌, ◌*◌, ◌/◌, ◌%◌, ◌-◌, ◌^◌, ◌≤◌, suc, get_or, ◌≢◌, IfOk, MatchBool, OnOk};
+ghost use Rattle.std.specs.Prelude.{◌≡◌, ◌+◌, ◌*◌, ◌/◌, ◌%◌, ◌-◌, ◌^◌, ◌++◌, ◌≤◌, suc, get_or, ◌≢◌, option_to_list, IfOk, MatchBool, OnOk};
 ghost use Rattle.std.specs.List.{All, Any};
 ghost use Rattle.rational.specs.Rational.{zero_ℚ};
 ghost use Rattle.lex_tableau.specs.Rows.{tableau as fractions_of};
 ghost use Rattle.linear_systems.specs.Points.{basic_solution};
 ghost use Rattle.linear_systems.specs.Vertices.{IsZeroWord, mask_of};
-ghost use Rattle.basis_enum.specs.Marks.{AreInOrder, AreUpTo, IsNoted, values_of};
+ghost use Rattle.basis_enum.specs.Marks.{AreInOrder, AreUpTo, IsVertexOf, values_of};
 ghost use Rattle.basis_enum.specs.Systems.{variable_count};
 ghost use Rattle.basis_enum.specs.Vertices.{mark_of, marks_of};
 
@@ -77,24 +77,32 @@ fn is_nonzero(values: &[Frac]) -> bool
     values.iter().any(|value| !value.is_zero())
 }
 
-/// Adds the vertex that is the basic solution of a tableau of the system, unless it is zero at all
+/// The vertex that is the basic solution of a tableau of the system, unless it is zero at all
 /// nonbasic variables of the system.
-pub(crate) fn note_vertex(
+pub(crate) fn vertex_of(
     alloc: Global,
-    vertices: &mut Vec<Vertex>,
     system: &System,
     tableau: &Tableau,
-) -> Result<(), Memory>
+) -> Result<Option<Vertex>, Memory>
     requires few { variable_count system.now ≤ 128 }
     requires numbered { AreUpTo (variable_count system.now) tableau.now.basics }
-    ensures { let old = marks_of vertices.old.items in
-        OnOk result (IsNoted system.now tableau.now old (marks_of vertices.new.items)) }
+    ensures { IfOk result (IsVertexOf system.now tableau.now) }
 {
     let point = values(alloc, tableau, system.nonbasics())?;
-    if is_nonzero(point.as_slice()) {
-        let count = system.basics().len() + system.nonbasics().len();
-        let mask = words(mask(tableau, count));
-        vertices.push(Vertex { mask, point })?;
+    if !is_nonzero(point.as_slice()) {
+        return Ok(None);
+    }
+    let count = system.basics().len() + system.nonbasics().len();
+    let mask = words(mask(tableau, count));
+    Ok(Some(Vertex { mask, point }))
+}
+
+/// Adds a vertex, where there is one.
+pub(crate) fn add_vertex(vertices: &mut Vec<Vertex>, vertex: Option<Vertex>) -> Result<(), Memory>
+    ensures { OnOk result (vertices.new.items ≡ vertices.old.items ++ option_to_list vertex) }
+{
+    if let Some(vertex) = vertex {
+        vertices.push(vertex)?;
     }
     Ok(())
 }

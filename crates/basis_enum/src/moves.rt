@@ -1,27 +1,21 @@
-// The pivots of a level that lead to new bases.
-ghost use Rattle.std.specs.Prelude.{◌≡◌, ◌<◌, ◌≤◌, ◌+◌, ℕ, true, false, length, get_or, map, IfOk, MatchOption, OnOk};
+// The pivots from tableaux to new bases.
+ghost use Rattle.std.specs.Prelude.{◌≡◌, ◌<◌, ◌≤◌, ◌+◌, ◌*◌, ◌^◌, ℕ, [], true, false, length, map, IfOk, MatchOption, OnOk};
 ghost use Rattle.std.specs.List.Sorted.{IsNonDecreasingBy, IsStrictlyIncreasing};
 ghost use Rattle.std.specs.Ordering.{nat_cmp};
 ghost use Rattle.lex_tableau.specs.Rows.{IsTableau};
 ghost use Rattle.basis_enum.specs.Bases.{HaveDigits, basis_of, neighbour_of};
-ghost use Rattle.basis_enum.specs.Levels.{no_tableau};
-ghost use Rattle.basis_enum.specs.Found.{AddsFound, AddsFoundAt, AreFoundAt, AreFoundIn, HasNone, IsFound, IsLevelOf, IsWhole};
+ghost use Rattle.basis_enum.specs.Found.{AreFound, HasNone, IsFound, IsReady};
+ghost use Rattle.basis_enum.specs.Marks.{AreUpTo, IsVertexOf};
+ghost use Rattle.basis_enum.specs.Next.{AreFirsts, AreSmall, IsNextOf, LeadsAgain, LeadsFurther, rank, rank_of, target_of};
 ghost use Rattle.basis_enum.specs.Systems.{variable_count};
-ghost use Rattle.basis_enum.specs.Walks.{AddsVertices, AreNumbered, IsVertexAt};
-ghost use Rattle.basis_enum.specs.Next.{AreFirsts, AreNewMoves, AreSmall, IsNextOf, LeadsAgain, LeadsFurther, rank, rank_of, target_of};
 
 use crate::bases::{exchanged, is_known};
-use crate::marking::note_vertex;
+use crate::marking::vertex_of;
 use crate::vertex::Vertex;
-use crate::work::sharers;
 use answers::Memory;
-use claims::{Claims, shared_map};
 use lex_tableau::{System, Tableau};
-use outside::Gate;
 use std::alloc::Global;
 use std::cmp::Ordering;
-use std::marker::Sync;
-use std::thread::Threads;
 
 // A pivot on a lexicographic row: the basis to which it leads, the place of its tableau in the
 // level, the variable that enters, the row and the column.
@@ -34,11 +28,11 @@ pub(crate) struct Move {
     pub column: u32,
 }
 
-// What a tableau of a level gives: its pivots to new bases, and its vertex, where it has one.
-#[derive(Debug, Drop)]
-struct Found {
-    moves: Vec<Move>,
-    vertices: Vec<Vertex>,
+// What a tableau gives: its pivots to new bases, and its vertex, where it has one.
+#[derive(Drop)]
+pub(crate) struct Found {
+    pub moves: Vec<Move>,
+    pub vertex: Option<Vertex>,
 }
 
 // The basis to which the pivot on the lexicographic row of a column leads.
@@ -62,9 +56,7 @@ fn move_at(
     known: &[u128],
     column: usize,
 ) -> Option<Move>
-    requires valid { IsTableau tableau.now }
-    requires digits { HaveDigits tableau.now }
-    requires whole { IsWhole tableau.now }
+    requires ready { IsReady tableau.now }
     requires basis { basis ≡ basis_of tableau.now.nonbasics }
     requires known { IsStrictlyIncreasing known.now }
     requires column_in { column < length tableau.now.nonbasics }
@@ -85,154 +77,63 @@ fn move_at(
     })
 }
 
-// Adds the pivots from a tableau to new bases, column by column.
-#[tactic(auto, using(crate::proofs::FoundMoves::adds_start, crate::proofs::FoundMoves::adds_none, crate::proofs::FoundMoves::adds_push))]
-fn add_moves(
+// The pivots from a tableau to new bases, column by column.
+#[tactic(auto, using(crate::proofs::FoundMoves::found_start, crate::proofs::FoundMoves::found_none, crate::proofs::FoundMoves::found_push))]
+fn moves_from(
+    alloc: Global,
     tableau: &Tableau,
     parent: u32,
     basis: u128,
     known: &[u128],
-    found: &mut Vec<Move>,
-) -> Result<(), Memory>
-    requires valid { IsTableau tableau.now }
-    requires digits { HaveDigits tableau.now }
-    requires whole { IsWhole tableau.now }
+) -> Result<Vec<Move>, Memory>
+    requires ready { IsReady tableau.now }
     requires basis { basis ≡ basis_of tableau.now.nonbasics }
     requires known { IsStrictlyIncreasing known.now }
-    ensures { OnOk result (AddsFound tableau.now parent known.now
-        (length tableau.now.nonbasics) found.old.items found.new.items) }
+    ensures { IfOk result (λ v. AreFound tableau.now parent known.now
+        (length tableau.now.nonbasics) v.items) }
 {
+    let mut found = Vec::with_capacity(alloc, tableau.nonbasics().len())?;
     for column in 0..tableau.nonbasics().len() {
         if let Some(next) = move_at(tableau, parent, basis, known, column) {
             found.push(next)?;
         }
     }
-    Ok(())
+    Ok(found)
 }
 
-// Adds the pivots from a tableau of the level to new bases.
-#[tactic(auto, using(crate::proofs::LevelMoves::basis_at))]
-fn add_moves_at(
-    level: &[Tableau],
-    bases: &[u128],
-    known: &[u128],
-    place: usize,
-    found: &mut Vec<Move>,
-) -> Result<(), Memory>
-    requires level { IsLevelOf level.now bases.now }
-    requires known { IsStrictlyIncreasing known.now }
-    requires place_in { place < length level.now }
-    ensures { OnOk result
-        (AddsFoundAt level.now place known.now found.old.items found.new.items) }
-{
-    add_moves(&level[place], place as u32, bases[place], known, found)
-}
-
-// What a tableau of the level gives: one piece of work.
-fn piece(
+// What a tableau gives, whose place in its level is `parent`.
+pub(crate) fn found_from(
     alloc: Global,
     system: &System,
-    level: &[Tableau],
-    bases: &[u128],
+    tableau: &Tableau,
+    parent: u32,
+    basis: u128,
     known: &[u128],
-    place: usize,
 ) -> Result<Found, Memory>
     requires few { variable_count system.now ≤ 128 }
-    requires numbered { AreNumbered system.now level.now }
-    requires level { IsLevelOf level.now bases.now }
+    requires numbered { AreUpTo (variable_count system.now) tableau.now.basics }
+    requires ready { IsReady tableau.now }
+    requires basis { basis ≡ basis_of tableau.now.nonbasics }
     requires known { IsStrictlyIncreasing known.now }
-    requires place_in { place < length level.now }
-    ensures moves { IfOk result (λ f. AreFoundAt level.now place known.now f.moves.items) }
-    ensures vertices { IfOk result (λ f. IsVertexAt system.now level.now place f.vertices.items) }
+    ensures moves { IfOk result (λ f. AreFound tableau.now parent known.now
+        (length tableau.now.nonbasics) f.moves.items) }
+    ensures vertex { IfOk result (λ f. IsVertexOf system.now tableau.now f.vertex) }
 {
-    let mut moves = Vec::with_capacity(alloc, level[place].nonbasics().len())?;
-    add_moves_at(level, bases, known, place, &mut moves)?;
-    let mut vertices = Vec::new(alloc);
-    note_vertex(alloc, &mut vertices, system, &level[place])?;
-    Ok(Found { moves, vertices })
+    let moves = moves_from(alloc, tableau, parent, basis, known)?;
+    let vertex = vertex_of(alloc, system, tableau)?;
+    Ok(Found { moves, vertex })
 }
 
-// The pivots from the level to new bases, piece by piece on this thread. The vertices of the level
-// are added.
-#[tactic(auto, using(crate::proofs::LevelMoves::found_in_start, crate::proofs::Walks::vertices_start))]
-fn find_moves<G: Gate>(
-    alloc: Global,
-    system: &System,
-    level: &[Tableau],
-    bases: &[u128],
-    known: &[u128],
-    gate: &G,
-    vertices: &mut Vec<Vertex>,
-) -> Result<Vec<Move>, Memory>
-    requires few { variable_count system.now ≤ 128 }
-    requires numbered { AreNumbered system.now level.now }
-    requires level { IsLevelOf level.now bases.now }
-    requires known { IsStrictlyIncreasing known.now }
-    ensures moves { IfOk result (λ v. AreFoundIn level.now known.now (length level.now) v.items) }
-    ensures vertices { OnOk result (AddsVertices system.now level.now (length level.now)
-        vertices.old.items vertices.new.items) }
+// The order of two pivots to one basis: by the parent's place, then by the entering variable.
+fn compare_parents(parent: u32, entering: u32, other_parent: u32, other_entering: u32) -> Ordering
+    ensures { result
+        ≡ nat_cmp (parent * 2 ^ 32 + entering) (other_parent * 2 ^ 32 + other_entering) }
 {
-    let mut moves = Vec::new(alloc);
-    for place in 0..level.len() {
-        gate.pass(place);
-        add_moves_at(level, bases, known, place, &mut moves)?;
-        note_vertex(alloc, vertices, system, &level[place])?;
+    match parent.cmp(&other_parent) {
+        Ordering::Less => Ordering::Less,
+        Ordering::Greater => Ordering::Greater,
+        Ordering::Equal => entering.cmp(&other_entering),
     }
-    Ok(moves)
-}
-
-// The pivots from the level to new bases, whose pieces so many workers share. The vertices of the
-// level are added.
-#[tactic(auto, using(crate::proofs::LevelMoves::found_in_start, crate::proofs::Walks::vertices_start))]
-fn share_moves<R: Threads + Sync, G: Gate>(
-    rt: &R,
-    alloc: Global,
-    system: &System,
-    level: &[Tableau],
-    bases: &[u128],
-    known: &[u128],
-    workers: u32,
-    gate: &G,
-    vertices: &mut Vec<Vertex>,
-) -> Result<Vec<Move>, Memory>
-    requires few { variable_count system.now ≤ 128 }
-    requires numbered { AreNumbered system.now level.now }
-    requires level { IsLevelOf level.now bases.now }
-    requires known { IsStrictlyIncreasing known.now }
-    requires workers { (1 ≤ workers) × (workers ≤ 64) }
-    ensures moves { IfOk result (λ v. AreFoundIn level.now known.now (length level.now) v.items) }
-    ensures vertices { OnOk result (AddsVertices system.now level.now (length level.now)
-        vertices.old.items vertices.new.items) }
-{
-    let (claims, mut pass) = Claims::new(alloc)?;
-    let work = |place: usize| -> Result<Found, Memory>
-        requires few { variable_count system.now ≤ 128 }
-        requires numbered { AreNumbered system.now level.now }
-        requires level { IsLevelOf level.now bases.now }
-        requires known { IsStrictlyIncreasing known.now }
-        requires place_in { place < length level.now }
-        ensures moves { IfOk result
-            (λ f. AreFoundAt level.entry.now place known.entry.now f.moves.items) }
-        ensures vertices { IfOk result
-            (λ f. IsVertexAt system.entry.now level.entry.now place f.vertices.items) }
-    { piece(alloc, system, level, bases, known, place) };
-    let pieces = shared_map(
-        rt,
-        alloc,
-        &claims,
-        &mut pass,
-        level.len(),
-        workers,
-        gate,
-        &work,
-    )?;
-    let mut moves = Vec::new(alloc);
-    for piece in pieces {
-        let mut found = piece?;
-        moves.append(&mut found.moves)?;
-        vertices.append(&mut found.vertices)?;
-    }
-    Ok(moves)
 }
 
 // The order of two pivots, by what they are.
@@ -250,11 +151,7 @@ fn compare_parts(
     match target.cmp(&other_target) {
         Ordering::Less => Ordering::Less,
         Ordering::Greater => Ordering::Greater,
-        Ordering::Equal => match parent.cmp(&other_parent) {
-            Ordering::Less => Ordering::Less,
-            Ordering::Greater => Ordering::Greater,
-            Ordering::Equal => entering.cmp(&other_entering),
-        },
+        Ordering::Equal => compare_parents(parent, entering, other_parent, other_entering),
     }
 }
 
@@ -268,8 +165,8 @@ fn compare(a: &Move, b: &Move) -> Ordering
     )
 }
 
-// One pivot to each basis, in ascending order, and of those that lead there the first.
-fn next_moves(alloc: Global, mut found: Vec<Move>) -> Result<Vec<Move>, Memory>
+/// One pivot to each basis, in ascending order, and of those that lead there the first.
+pub(crate) fn next_moves(alloc: Global, mut found: Vec<Move>) -> Result<Vec<Move>, Memory>
     requires { AreSmall found.items }
     ensures { IfOk result (λ v. IsNextOf found.items v.items) }
 {
@@ -320,64 +217,6 @@ fn firsts(alloc: Global, found: &[Move]) -> Result<Vec<Move>, Memory>
     for i in 0..found.len() {
         take_first(found, i, &mut next)?;
     }
-    Ok(next)
-}
-
-// The pivots from the level to new bases, by so many workers. The vertices of the level are added.
-fn found_moves<R: Threads + Sync, G: Gate>(
-    rt: &R,
-    alloc: Global,
-    system: &System,
-    level: &[Tableau],
-    bases: &[u128],
-    known: &[u128],
-    workers: u32,
-    gate: &G,
-    vertices: &mut Vec<Vertex>,
-) -> Result<Vec<Move>, Memory>
-    requires few { variable_count system.now ≤ 128 }
-    requires numbered { AreNumbered system.now level.now }
-    requires level { IsLevelOf level.now bases.now }
-    requires known { IsStrictlyIncreasing known.now }
-    requires workers { (1 ≤ workers) × (workers ≤ 64) }
-    ensures moves { IfOk result (λ v. AreFoundIn level.now known.now (length level.now) v.items) }
-    ensures vertices { OnOk result (AddsVertices system.now level.now (length level.now)
-        vertices.old.items vertices.new.items) }
-{
-    match sharers(level.len(), workers) {
-        1 => find_moves(alloc, system, level, bases, known, gate, vertices),
-        sharers => share_moves(
-            rt, alloc, system, level, bases, known, sharers, gate, vertices,
-        ),
-    }
-}
-
-// The pivots to the next level: one to each new basis, in ascending order. The vertices of the
-// level are added.
-pub(crate) fn new_moves<R: Threads + Sync, G: Gate>(
-    rt: &R,
-    alloc: Global,
-    system: &System,
-    level: &[Tableau],
-    bases: &[u128],
-    known: &[u128],
-    workers: u32,
-    gate: &G,
-    vertices: &mut Vec<Vertex>,
-) -> Result<Vec<Move>, Memory>
-    requires few { variable_count system.now ≤ 128 }
-    requires numbered { AreNumbered system.now level.now }
-    requires level { IsLevelOf level.now bases.now }
-    requires known { IsStrictlyIncreasing known.now }
-    requires workers { (1 ≤ workers) × (workers ≤ 64) }
-    ensures moves { IfOk result (λ v. AreNewMoves level.now known.now v.items) }
-    ensures vertices { OnOk result (AddsVertices system.now level.now (length level.now)
-        vertices.old.items vertices.new.items) }
-{
-    let found = found_moves(
-        rt, alloc, system, level, bases, known, workers, gate, vertices,
-    )?;
-    let next = next_moves(alloc, found)?;
     Ok(next)
 }
 

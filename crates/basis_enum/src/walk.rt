@@ -1,19 +1,18 @@
 // The enumeration on its way, level after level.
-ghost use Rattle.std.specs.Prelude.{◌≡◌, ◌<◌, ◌≤◌, ◌+◌, ◌^◌, [], length, IfErr, IfOk, OnOk};
-ghost use Rattle.std.specs.List.{Contains};
-ghost use Rattle.lex_tableau.specs.Starts.{IsSystem};
+ghost use Rattle.std.specs.Prelude.{◌≡◌, ◌<◌, ◌≤◌, ◌+◌, ◌^◌, length, IfErr, IfOk, OnOk};
+ghost use Rattle.std.specs.List.Sorted.{IsStrictlyIncreasing};
 ghost use Rattle.basis_enum.specs.Ends.{IsAscendingListOf};
 ghost use Rattle.basis_enum.specs.Systems.{IsEnumerable, variable_count};
-ghost use Rattle.basis_enum.specs.Children.{AreChildren, AreMoves, IsChildStop};
+ghost use Rattle.basis_enum.specs.Children.{AreChildren, AreMoves, IsChildStop, LeadToReady};
 ghost use Rattle.basis_enum.specs.Enumeration.{IsEnumStop};
-ghost use Rattle.basis_enum.specs.Found.{AreReady};
+ghost use Rattle.basis_enum.specs.Found.{AreFoundIn, AreReady};
 ghost use Rattle.basis_enum.specs.Next.{AreNewMoves};
-ghost use Rattle.basis_enum.specs.Vertices.{marks_of};
-ghost use Rattle.basis_enum.specs.Walks.{AreNumbered, HaveEntering, IsFirst, IsLimitStop, IsMoveStop, IsWalkAt, IsWalkToEnd};
+ghost use Rattle.basis_enum.specs.Walks.{AddsVertices, HaveEntering, IsFirst, IsLimitStop, IsMoveStop, IsWalkAt, IsWalkToEnd};
 
 use crate::bases::{basis, merged};
 use crate::children::{ChildStop, children};
-use crate::moves::{Move, new_moves, targets};
+use crate::marking::add_vertex;
+use crate::moves::{Move, found_from, next_moves, targets};
 use crate::stop::{Basis, EnumStop};
 use crate::vertex::Vertex;
 use answers::Memory;
@@ -28,12 +27,11 @@ use std::thread::Threads;
 // How many bases may be reached.
 const MOST_BASES: usize = 20_000;
 
-// A level: its tableaux, with their bases. Beside it the bases of all levels so far, in ascending
-// order, and the vertices of their tableaux as they were reached.
-#[derive(Debug, Drop)]
+// A level: its tableaux. Beside it the bases of all levels so far, in ascending order, and the
+// vertices of their tableaux as they were reached.
+#[derive(Drop)]
 pub(crate) struct Walk {
     pub level: Vec<Tableau>,
-    pub bases: Vec<u128>,
     pub known: Vec<u128>,
     pub vertices: Vec<Vertex>,
 }
@@ -51,15 +49,8 @@ fn first(alloc: Global, system: &System) -> Result<Tableau, EnumStop>
 }
 
 // Level 0, and the pivots to the next one.
-fn start<R: Threads + Sync, G: Gate>(
-    rt: &R,
-    alloc: Global,
-    system: &System,
-    workers: u32,
-    gate: &G,
-) -> Result<(Walk, Vec<Move>), EnumStop>
+fn start<G: Gate>(alloc: Global, system: &System, gate: &G) -> Result<(Walk, Vec<Move>), EnumStop>
     requires enumerable { IsEnumerable system.now }
-    requires workers { (1 ≤ workers) × (workers ≤ 64) }
     ensures walk { IfOk result (λ p. IsWalkAt system.now 0 p.0) }
     ensures moves { IfOk result (λ p. AreNewMoves p.0.level.items p.0.known.items p.1.items) }
     ensures one { IfOk result (λ p. length p.0.known.items ≡ 1) }
@@ -67,27 +58,17 @@ fn start<R: Threads + Sync, G: Gate>(
 {
     let tableau = first(alloc, system)?;
     let basis = basis(system.nonbasics());
-    let mut level = Vec::new(alloc);
-    let mut bases = Vec::new(alloc);
     let mut known = Vec::new(alloc);
-    let mut vertices = Vec::new(alloc);
-    level.push(tableau)?;
-    bases.push(basis)?;
     known.push(basis)?;
-    let moves = new_moves(
-        rt,
-        alloc,
-        system,
-        level.as_slice(),
-        bases.as_slice(),
-        known.as_slice(),
-        workers,
-        gate,
-        &mut vertices,
-    )?;
+    gate.pass(0);
+    let found = found_from(alloc, system, &tableau, 0, basis, known.as_slice())?;
+    let mut level = Vec::new(alloc);
+    level.push(tableau)?;
+    let mut vertices = Vec::new(alloc);
+    add_vertex(&mut vertices, found.vertex)?;
+    let moves = next_moves(alloc, found.moves)?;
     let walk = Walk {
         level,
-        bases,
         known,
         vertices,
     };
@@ -137,29 +118,41 @@ fn refusal(
     }
 }
 
-// The tableaux of the level after this one.
+// The tableaux of the level after this one, and the pivots from there to new bases. The vertices of
+// that level are added.
 fn next_level<R: Threads + Sync, G: Gate, L: Ledger>(
     rt: &R,
     alloc: Global,
+    system: &System,
     level: &[Tableau],
     moves: &[Move],
+    known: &[u128],
     number: u32,
     workers: u32,
     gate: &G,
+    vertices: &mut Vec<Vertex>,
     pivots: &mut PivotCount<L>,
-) -> Result<Vec<Tableau>, EnumStop>
+) -> Result<(Vec<Tableau>, Vec<Move>), EnumStop>
+    requires few { variable_count system.now ≤ 128 }
     requires level { AreReady level.now }
     requires moves { AreMoves level.now moves.now }
     requires entering { HaveEntering level.now moves.now }
-    requires few { length moves.now < 2 ^ 32 }
+    requires ready { LeadToReady system.now level.now moves.now }
+    requires known { IsStrictlyIncreasing known.now }
+    requires small { length moves.now < 2 ^ 32 }
     requires workers { (1 ≤ workers) × (workers ≤ 64) }
     ensures children { IfOk result
-        (λ v. AreChildren level.now moves.now (length moves.now) v.items) }
+        (λ p. AreChildren level.now moves.now (length moves.now) p.0.items) }
+    ensures found { IfOk result (λ p. AreFoundIn p.0.items known.now p.1.items) }
+    ensures vertices { IfOk result
+        (λ p. AddsVertices system.now p.0.items vertices.old.items vertices.new.items) }
     ensures stop { IfErr result (IsMoveStop level.now moves.now number) }
     ensures counted { OnOk result (pivots.new ≡ pivots.old + length moves.now) }
     ensures bounded { pivots.new ≤ pivots.old + length moves.now }
 {
-    match children(rt, alloc, level, moves, workers, gate, pivots) {
+    match children(
+        rt, alloc, system, level, moves, known, workers, gate, vertices, pivots,
+    ) {
         Ok(next) => Ok(next),
         Err(stop) => Err(refusal(alloc, level, moves, number, stop)),
     }
@@ -208,32 +201,24 @@ fn advance<R: Threads + Sync, G: Gate, L: Ledger>(
     ensures bounded { pivots.new + length walk.old.known.items ≤ pivots.old + 20000 }
 {
     check_count(walk.known.len(), moves)?;
-    let level = next_level(
-        rt,
-        alloc,
-        walk.level.as_slice(),
-        moves,
-        number,
-        workers,
-        gate,
-        pivots,
-    )?;
     let bases = targets(alloc, moves)?;
-    walk.known = merged(alloc, walk.known.as_slice(), bases.as_slice())?;
-    let next = new_moves(
+    let known = merged(alloc, walk.known.as_slice(), bases.as_slice())?;
+    let (level, found) = next_level(
         rt,
         alloc,
         system,
-        level.as_slice(),
-        bases.as_slice(),
-        walk.known.as_slice(),
+        walk.level.as_slice(),
+        moves,
+        known.as_slice(),
+        number,
         workers,
         gate,
         &mut walk.vertices,
+        pivots,
     )?;
     walk.level = level;
-    walk.bases = bases;
-    Ok(next)
+    walk.known = known;
+    Ok(next_moves(alloc, found)?)
 }
 
 // Goes from level to level, to the last one.
@@ -252,7 +237,7 @@ pub(crate) fn reach<R: Threads + Sync, G: Gate, L: Ledger>(
     ensures counted { IfOk result (λ w. pivots.new + 1 ≡ pivots.old + length w.known.items) }
     ensures bounded { pivots.new ≤ pivots.old + 19999 }
 {
-    let (mut walk, mut moves) = start(rt, alloc, system, workers, gate)?;
+    let (mut walk, mut moves) = start(alloc, system, gate)?;
     for number in 0..MOST_BASES as u32 {
         if moves.is_empty() {
             return Ok(walk);

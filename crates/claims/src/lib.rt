@@ -6,7 +6,7 @@
 //! Definitions: `specs::ClaimWord` has `PassState`, what contracts see of a `Pass`, with
 //! `HasEachBelow` and `KnowsWhole`.
 //! Private words: `specs::Pieces`, and `KeepsClaims`, the rule of the claim word.
-//! A change here touches: `basis_enum` alone, which computes its levels by `shared_map`.
+//! A change here touches: `basis_enum`, which computes its levels by `shared_map`, and gate tests.
 #![tactic(auto)]
 
 mod claim_word;

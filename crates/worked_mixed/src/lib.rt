@@ -1,5 +1,6 @@
 //! Extreme equilibria of small games by their definition, beside those that the tool lists, its
-//! refusals and limits, the bases of cubes, and work that is shared by claims, as tests. The program calls nothing here.
+//! refusals and limits, the bases of cubes, and work that is shared by claims, as tests. The
+//! program calls nothing here.
 #![tactic(auto)]
 
 #[cfg(test)]

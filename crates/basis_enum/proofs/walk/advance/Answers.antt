@@ -1,12 +1,14 @@
-use Rattle.std.proofs.Common.{◌∙◌, ◌+◌, ◌≤◌, length, refl, sym, subst, subst₂, arith}
+use Rattle.std.proofs.Common.{◌≡◌, ◌∙◌, ◌+◌, ◌≤◌, length, sym, subst, subst₂, arith}
 use Rattle.std.specs.List.{Contains}
+use Rattle.std.specs.List.Sorted.{IsStrictlyIncreasing}
 use Rattle.std.proofs.lemmas.Result.{err_from_is_err_and}
-use Rattle.basis_enum.specs.Children.{AreMoves, AreChildren}
-use Rattle.basis_enum.specs.Found.{AreReady, IsLevelOf}
+use Rattle.basis_enum.specs.Children.{AreMoves, AreChildren, LeadToReady}
+use Rattle.basis_enum.specs.Found.{AreReady}
 use Rattle.basis_enum.specs.Merged.{IsMerged}
 use Rattle.basis_enum.specs.Next.{AreNewMoves}
-use Rattle.basis_enum.specs.Walks.{AddsVertices, AreNumbered, HaveEntering, IsLimitStop, IsMoveStop}
-use Rattle.basis_enum.proofs.Walks.{walk_few, walk_level, walk_next, vertices_all, moves_are, moves_enter, targets_apart, children_level, children_numbered, limit_stop, move_stop}
+use Rattle.basis_enum.specs.Walks.{HaveEntering, IsLimitStop, IsMoveStop}
+use Rattle.basis_enum.proofs.LevelMoves.{found_small, new_moves_are}
+use Rattle.basis_enum.proofs.Walks.{walk_few, walk_ready, walk_next, moves_are, moves_enter, moves_lead, targets_apart, children_ready, limit_stop, move_stop}
 use Rattle.basis_enum.proofs.walk.advance.Goals as goal
 
 pub returns-in_err-check_count-clause-stop : goal.returns-in_err-check_count-clause-stop
@@ -19,50 +21,59 @@ returns-in_err-check_count-clause-bounded g c =
     let few : length c.args.walk.now.known.items ≤ 20000 = walk_few c.args.system.now c.args.number c.args.walk.now c.requires.walk in
     omega arith
 
+pub merged-requires-clause-apart : goal.merged-requires-clause-apart
+merged-requires-clause-apart g c = λ b k n.
+    targets_apart c.args.walk.now.level.items c.args.walk.now.known.items c.in_ok-bases.bases.items c.args.moves.now c.requires.moves c.in_ok-bases.ensures b (subst (λ xs. Contains xs b) c.as_slice.ensures.value k) (subst (λ xs. Contains xs b) c.as_slice-2.ensures.value n)
+
 pub next_level-requires-clause-level : goal.next_level-requires-clause-level
 next_level-requires-clause-level g c = λ _ _.
-    subst AreReady (sym c.as_slice.ensures.value) (walk_level c.args.system.now c.args.number c.args.walk.now c.requires.enumerable c.requires.walk).ready
+    subst AreReady (sym c.as_slice-3.ensures.value) (walk_ready c.args.system.now c.args.number c.args.walk.now c.requires.enumerable c.requires.walk)
 
 pub next_level-requires-clause-moves : goal.next_level-requires-clause-moves
 next_level-requires-clause-moves g c = λ _ _.
-    subst (λ l. AreMoves l c.args.moves.now) (sym c.as_slice.ensures.value) (moves_are c.args.walk.now.level.items c.args.walk.now.known.items c.args.moves.now c.requires.moves)
+    subst (λ l. AreMoves l c.args.moves.now) (sym c.as_slice-3.ensures.value) (moves_are c.args.walk.now.level.items c.args.walk.now.known.items c.args.moves.now c.requires.moves)
 
 pub next_level-requires-clause-entering : goal.next_level-requires-clause-entering
 next_level-requires-clause-entering g c = λ _ _.
-    subst (λ l. HaveEntering l c.args.moves.now) (sym c.as_slice.ensures.value) (moves_enter c.args.walk.now.level.items c.args.walk.now.known.items c.args.moves.now c.requires.moves)
+    subst (λ l. HaveEntering l c.args.moves.now) (sym c.as_slice-3.ensures.value) (moves_enter c.args.walk.now.level.items c.args.walk.now.known.items c.args.moves.now c.requires.moves)
+
+pub next_level-requires-clause-ready : goal.next_level-requires-clause-ready
+next_level-requires-clause-ready g c = λ _ _.
+    subst (λ l. LeadToReady c.args.system.now l c.args.moves.now) (sym c.as_slice-3.ensures.value) (moves_lead c.args.system.now c.args.number c.args.walk.now c.args.moves.now c.requires.enumerable c.requires.walk c.requires.moves)
+
+pub next_level-requires-clause-known : goal.next_level-requires-clause-known
+next_level-requires-clause-known g c = λ _ _.
+    subst IsStrictlyIncreasing (sym c.as_slice-4.ensures.value) c.in_ok-known.ensures.ascending
 
 pub returns-in_err-level-clause-stop : goal.returns-in_err-level-clause-stop
 returns-in_err-level-clause-stop g c =
     let few = subst (λ n. n + length c.args.moves.now ≤ 20000) (c.len.ensures ∙ c.args.walk.now.known.ok.0) c.in_ok-check_count.ensures.few in
     let p = err_from_is_err_and c.from_residual-in_err-level.result c.from_residual-in_err-level.ensures.1 in
-    rw (p.1, p.2) (move_stop c.args.system.now c.args.number c.args.walk.now c.args.moves.now c.in_err-level.field-0.0 c.requires.walk c.requires.moves few (subst (λ l. IsMoveStop l c.args.moves.now c.args.number c.in_err-level.field-0.0) c.as_slice.ensures.value c.in_err-level.ensures.stop))
+    rw (p.1, p.2) (move_stop c.args.system.now c.args.number c.args.walk.now c.args.moves.now c.in_err-level.field-0.0 c.requires.walk c.requires.moves few (subst (λ l. IsMoveStop l c.args.moves.now c.args.number c.in_err-level.field-0.0) c.as_slice-3.ensures.value c.in_err-level.ensures.stop))
 
-pub merged-requires-clause-apart : goal.merged-requires-clause-apart
-merged-requires-clause-apart g c = λ b k n.
-    targets_apart c.args.walk.now.level.items c.args.walk.now.known.items c.in_ok-bases.bases.items c.args.moves.now c.requires.moves c.in_ok-bases.ensures b (subst (λ xs. Contains xs b) c.as_slice-2.ensures.value k) (subst (λ xs. Contains xs b) c.as_slice-3.ensures.value n)
-
-pub new_moves-requires-clause-numbered : goal.new_moves-requires-clause-numbered
-new_moves-requires-clause-numbered g c = λ _ _.
-    let few = subst (λ n. n + length c.args.moves.now ≤ 20000) (c.len.ensures ∙ c.args.walk.now.known.ok.0) c.in_ok-check_count.ensures.few in
-    let children = subst (λ l. AreChildren l c.args.moves.now (length c.args.moves.now) c.in_ok-level.level.items) c.as_slice.ensures.value c.in_ok-level.ensures.children in
-    subst (AreNumbered c.args.system.now) (sym c.as_slice-4.ensures.value)
-    (children_numbered c.args.system.now c.args.number c.args.walk.now c.args.moves.now c.in_ok-level.level.items c.requires.enumerable c.requires.walk c.requires.moves c.requires.some few children)
-
-pub new_moves-requires-clause-level : goal.new_moves-requires-clause-level
-new_moves-requires-clause-level g c = λ _ _.
-    let few = subst (λ n. n + length c.args.moves.now ≤ 20000) (c.len.ensures ∙ c.args.walk.now.known.ok.0) c.in_ok-check_count.ensures.few in
-    let children = subst (λ l. AreChildren l c.args.moves.now (length c.args.moves.now) c.in_ok-level.level.items) c.as_slice.ensures.value c.in_ok-level.ensures.children in
-    subst₂ IsLevelOf (sym c.as_slice-4.ensures.value) (sym c.as_slice-5.ensures.value)
-    (children_level c.args.system.now c.args.number c.args.walk.now c.args.moves.now c.in_ok-level.level.items c.in_ok-bases.bases.items c.requires.enumerable c.requires.walk c.requires.moves c.requires.some few children c.in_ok-bases.ensures)
+pub next_moves-requires : goal.next_moves-requires
+next_moves-requires g c =
+    let few : length c.args.walk.now.known.items + length c.args.moves.now ≤ 20000 = subst (λ n. n + length c.args.moves.now ≤ 20000) (c.len.ensures ∙ c.args.walk.now.known.ok.0) c.in_ok-check_count.ensures.few in
+    let size : length c.in_ok-level.level.items ≡ length c.args.moves.now = c.in_ok-level.ensures.children.size in
+    let children = subst (λ l. AreChildren l c.args.moves.now (length c.args.moves.now) c.in_ok-level.level.items) c.as_slice-3.ensures.value c.in_ok-level.ensures.children in
+    let lead = moves_lead c.args.system.now c.args.number c.args.walk.now c.args.moves.now c.requires.enumerable c.requires.walk c.requires.moves in
+    found_small c.in_ok-level.level.items c.as_slice-4.result.now c.in_ok-level.found.items
+    (children_ready c.args.system.now c.args.walk.now.level.items c.in_ok-level.level.items c.args.moves.now lead children) (omega arith) c.in_ok-level.ensures.found
 
 pub returns-clause-moves : goal.returns-clause-moves
-returns-clause-moves g c = subst₂ (λ level known. AreNewMoves level known c.in_ok-next.next.items) c.as_slice-4.ensures.value c.as_slice-6.ensures.value c.in_ok-next.ensures.moves
+returns-clause-moves g c =
+    let few : length c.args.walk.now.known.items + length c.args.moves.now ≤ 20000 = subst (λ n. n + length c.args.moves.now ≤ 20000) (c.len.ensures ∙ c.args.walk.now.known.ok.0) c.in_ok-check_count.ensures.few in
+    let size : length c.in_ok-level.level.items ≡ length c.args.moves.now = c.in_ok-level.ensures.children.size in
+    let children = subst (λ l. AreChildren l c.args.moves.now (length c.args.moves.now) c.in_ok-level.level.items) c.as_slice-3.ensures.value c.in_ok-level.ensures.children in
+    let lead = moves_lead c.args.system.now c.args.number c.args.walk.now c.args.moves.now c.requires.enumerable c.requires.walk c.requires.moves in
+    subst (λ known. AreNewMoves c.in_ok-level.level.items known c.in_ok-next_moves.field-0.items) c.as_slice-4.ensures.value
+    (new_moves_are c.in_ok-level.level.items c.as_slice-4.result.now c.in_ok-level.found.items c.in_ok-next_moves.field-0.items
+    (children_ready c.args.system.now c.args.walk.now.level.items c.in_ok-level.level.items c.args.moves.now lead children) (omega arith) c.in_ok-level.ensures.found c.in_ok-next_moves.ensures)
 
 pub returns-clause-walk : goal.returns-clause-walk
 returns-clause-walk g c =
     let few = subst (λ n. n + length c.args.moves.now ≤ 20000) (c.len.ensures ∙ c.args.walk.now.known.ok.0) c.in_ok-check_count.ensures.few in
-    let children = subst (λ l. AreChildren l c.args.moves.now (length c.args.moves.now) c.in_ok-level.level.items) c.as_slice.ensures.value c.in_ok-level.ensures.children in
-    let merged = subst₂ (λ xs ys. IsMerged xs ys c.in_ok-walk.field-0.items) c.as_slice-2.ensures.value c.as_slice-3.ensures.value c.in_ok-walk.ensures in
-    let marks = vertices_all c.args.system.now c.in_ok-level.level.items c.args.walk.now.vertices.items c.new_moves.new.vertices.items (subst (λ l. AddsVertices c.args.system.now l (length l) c.args.walk.now.vertices.items c.new_moves.new.vertices.items) c.as_slice-4.ensures.value c.in_ok-next.ensures.vertices) in
-    walk_next c.args.system.now c.args.number c.args.walk.now (record { level = c.in_ok-level.level; bases = c.in_ok-bases.bases; known = c.in_ok-walk.field-0; vertices = c.new_moves.new.vertices }) c.args.moves.now c.in_ok-bases.bases.items
-    c.requires.walk c.requires.moves c.requires.some few children c.in_ok-bases.ensures refl merged marks
+    let children = subst (λ l. AreChildren l c.args.moves.now (length c.args.moves.now) c.in_ok-level.level.items) c.as_slice-3.ensures.value c.in_ok-level.ensures.children in
+    let merged = subst₂ (λ xs ys. IsMerged xs ys c.in_ok-known.known.items) c.as_slice.ensures.value c.as_slice-2.ensures.value c.in_ok-known.ensures in
+    walk_next c.args.system.now c.args.number c.args.walk.now (record { level = c.in_ok-level.level; known = c.in_ok-known.known; vertices = c.next_level.new.vertices }) c.args.moves.now c.in_ok-bases.bases.items
+    c.requires.enumerable c.requires.walk c.requires.moves c.requires.some few children c.in_ok-bases.ensures merged c.in_ok-level.ensures.vertices

@@ -1,55 +1,54 @@
-use Rattle.std.proofs.Common.{◌≡◌, ◌∙◌, ◌++◌, ◌∷◌, [], length, ap, sym, subst, subst₂, arith}
+use Rattle.std.proofs.Common.{◌≡◌, ◌∙◌, ◌++◌, ◌∷◌, [], List, option_to_list, ap, sym, subst, subst₂, arith}
 use Rattle.std.specs.List.Sorted.{IsStrictlyIncreasing}
+use Rattle.lex_tableau.specs.Rows.{Numbers}
+use Rattle.basis_enum.specs.declared.vertex.Vertex.{Vertex}
 use Rattle.basis_enum.specs.Bases.{AreVariables, basis_of}
-use Rattle.basis_enum.specs.Found.{IsLevelOf}
-use Rattle.basis_enum.specs.Marks.{AreMarksOf}
 use Rattle.basis_enum.specs.Next.{AreNewMoves}
-use Rattle.basis_enum.specs.Vertices.{marks_of}
-use Rattle.basis_enum.specs.Walks.{AddsVertices, AreNumbered}
-use Rattle.basis_enum.proofs.VertexMarks.{no_marks}
-use Rattle.basis_enum.proofs.Walks.{system_variables, first_level, first_numbers, vertices_all, walk_start}
+use Rattle.basis_enum.proofs.LevelMoves.{found_small, new_moves_are}
+use Rattle.basis_enum.proofs.Walks.{system_variables, first_ready, first_numbered, first_basis, first_found, first_all_ready, walk_start}
 use Rattle.basis_enum.proofs.walk.start.Goals as goal
 
 pub basis-basis-requires : goal.basis-basis-requires
 basis-basis-requires g c = subst AreVariables (sym c.nonbasics.ensures.value) (system_variables c.args.system.now c.nonbasics.ensures.valid c.requires.enumerable)
 
-pub new_moves-requires-clause-numbered : goal.new_moves-requires-clause-numbered
-new_moves-requires-clause-numbered g c = λ _ _.
-    let t = c.in_ok-tableau.tableau in
-    let level : c.push.new.self.items ≡ t ∷ [] = c.in_ok-push.ensures.items ∙ ap (λ xs. xs ++ t ∷ []) c.new-level.ensures.items in
-    let is : c.as_slice.result.now ≡ t ∷ [] = c.as_slice.ensures.value ∙ level in
-    subst (AreNumbered c.args.system.now) (sym is) (first_numbers c.args.system.now t c.nonbasics.ensures.valid c.requires.enumerable c.in_ok-tableau.ensures.first)
+pub found_from-requires-clause-numbered : goal.found_from-requires-clause-numbered
+found_from-requires-clause-numbered g c = first_numbered c.args.system.now c.in_ok-tableau.tableau c.nonbasics.ensures.valid c.requires.enumerable c.in_ok-tableau.ensures.first
 
-pub new_moves-requires-clause-level : goal.new_moves-requires-clause-level
-new_moves-requires-clause-level g c = λ _ _.
-    let t = c.in_ok-tableau.tableau in
-    let basis = c.basis-basis.result in
-    let level : c.push.new.self.items ≡ t ∷ [] = c.in_ok-push.ensures.items ∙ ap (λ xs. xs ++ t ∷ []) c.new-level.ensures.items in
-    let bases : c.push-2.new.self.items ≡ basis ∷ [] = c.in_ok-push-2.ensures.items ∙ ap (λ xs. xs ++ basis ∷ []) c.new-bases.ensures.items in
-    let is_level : c.as_slice.result.now ≡ t ∷ [] = c.as_slice.ensures.value ∙ level in
-    let is_bases : c.as_slice-2.result.now ≡ basis ∷ [] = c.as_slice-2.ensures.value ∙ bases in
-    subst₂ IsLevelOf (sym is_level) (sym is_bases)
-    (first_level c.args.system.now t basis c.nonbasics.ensures.valid c.requires.enumerable c.in_ok-tableau.ensures.first (c.basis-basis.ensures ∙ ap basis_of c.nonbasics.ensures.value))
+pub found_from-requires-clause-ready : goal.found_from-requires-clause-ready
+found_from-requires-clause-ready g c = first_ready c.args.system.now c.in_ok-tableau.tableau c.nonbasics.ensures.valid c.requires.enumerable c.in_ok-tableau.ensures.first
 
-pub new_moves-requires-clause-known : goal.new_moves-requires-clause-known
-new_moves-requires-clause-known g c = λ _ _.
-    subst IsStrictlyIncreasing (sym (c.as_slice-3.ensures.value ∙ c.in_ok-push-3.ensures.items ∙ ap (λ xs. xs ++ c.basis-basis.result ∷ []) c.new-known.ensures.items)) (λ k h. absurd (omega arith))
+pub found_from-requires-clause-basis : goal.found_from-requires-clause-basis
+found_from-requires-clause-basis g c = c.basis-basis.ensures ∙ ap basis_of c.nonbasics.ensures.value ∙ first_basis c.args.system.now c.in_ok-tableau.tableau c.in_ok-tableau.ensures.first
+
+pub found_from-requires-clause-known : goal.found_from-requires-clause-known
+found_from-requires-clause-known g c =
+    subst IsStrictlyIncreasing (sym (c.as_slice.ensures.value ∙ c.in_ok-push.ensures.items ∙ ap (λ xs. xs ++ c.basis-basis.result ∷ []) c.new-known.ensures.items)) (λ k h. absurd (omega arith))
+
+pub next_moves-requires : goal.next_moves-requires
+next_moves-requires g c =
+    let s = c.args.system.now in
+    let t = c.in_ok-tableau.tableau in
+    let ready = first_ready s t c.nonbasics.ensures.valid c.requires.enumerable c.in_ok-tableau.ensures.first in
+    found_small (t ∷ []) c.as_slice.result.now c.in_ok-found.found.moves.items (first_all_ready t ready) (omega arith)
+    (first_found t c.as_slice.result.now c.in_ok-found.found.moves.items c.in_ok-found.ensures.moves)
 
 pub returns-clause-walk : goal.returns-clause-walk
 returns-clause-walk g c =
-    let s = c.args.system.now in
-    let t = c.in_ok-tableau.tableau in
-    let basis = c.basis-basis.result in
-    let old = c.new-vertices.result.items in
-    let new = c.new_moves.new.vertices.items in
-    let level : c.push.new.self.items ≡ t ∷ [] = c.in_ok-push.ensures.items ∙ ap (λ xs. xs ++ t ∷ []) c.new-level.ensures.items in
-    let adds : AddsVertices s (t ∷ []) 1 old new = subst (λ l. AddsVertices s l (length l) old new) (c.as_slice.ensures.value ∙ level) c.in_ok-moves.ensures.vertices in
-    walk_start s t basis (record { level = c.push.new.self; bases = c.push-2.new.self; known = c.push-3.new.self; vertices = c.new_moves.new.vertices }) c.nonbasics.ensures.valid c.in_ok-tableau.ensures.first
-    (c.basis-basis.ensures ∙ ap basis_of c.nonbasics.ensures.value)
+    let known : c.push.new.self.items ≡ c.basis-basis.result ∷ [] = c.in_ok-push.ensures.items ∙ ap (λ xs. xs ++ c.basis-basis.result ∷ []) c.new-known.ensures.items in
+    let level : c.push-2.new.self.items ≡ c.in_ok-tableau.tableau ∷ [] = ◌∙◌ {A = List Numbers} c.in_ok-push-2.ensures.items (ap (λ xs. xs ++ c.in_ok-tableau.tableau ∷ []) c.new-level.ensures.items) in
+    let vertices : c.add_vertex.new.vertices.items ≡ option_to_list c.in_ok-found.found.vertex = ◌∙◌ {A = List Vertex} c.in_ok-add_vertex.ensures (ap (λ xs. xs ++ option_to_list c.in_ok-found.found.vertex) c.new-vertices.ensures.items) in
+    walk_start c.args.system.now c.in_ok-tableau.tableau (record { level = c.push-2.new.self; known = c.push.new.self; vertices = c.add_vertex.new.vertices }) c.in_ok-found.found.vertex c.nonbasics.ensures.valid c.in_ok-tableau.ensures.first
     level
-    (c.in_ok-push-2.ensures.items ∙ ap (λ xs. xs ++ basis ∷ []) c.new-bases.ensures.items)
-    (c.in_ok-push-3.ensures.items ∙ ap (λ xs. xs ++ basis ∷ []) c.new-known.ensures.items)
-    (vertices_all s (t ∷ []) old new adds [] (subst (λ vertices. AreMarksOf s [] (marks_of vertices)) (sym c.new-vertices.ensures.items) (no_marks s)))
+    (known ∙ ap (λ b. b ∷ []) (c.basis-basis.ensures ∙ ap basis_of c.nonbasics.ensures.value))
+    vertices
+    c.in_ok-found.ensures.vertex
 
 pub returns-clause-moves : goal.returns-clause-moves
-returns-clause-moves g c = subst₂ (λ level known. AreNewMoves level known c.in_ok-moves.moves.items) c.as_slice.ensures.value c.as_slice-3.ensures.value c.in_ok-moves.ensures.moves
+returns-clause-moves g c =
+    let s = c.args.system.now in
+    let t = c.in_ok-tableau.tableau in
+    let level : c.push-2.new.self.items ≡ t ∷ [] = ◌∙◌ {A = List Numbers} c.in_ok-push-2.ensures.items (ap (λ xs. xs ++ t ∷ []) c.new-level.ensures.items) in
+    let ready = first_ready s t c.nonbasics.ensures.valid c.requires.enumerable c.in_ok-tableau.ensures.first in
+    subst₂ (λ level known. AreNewMoves level known c.in_ok-moves.moves.items) (sym level) c.as_slice.ensures.value
+    (new_moves_are (t ∷ []) c.as_slice.result.now c.in_ok-found.found.moves.items c.in_ok-moves.moves.items (first_all_ready t ready) (omega arith)
+    (first_found t c.as_slice.result.now c.in_ok-found.found.moves.items c.in_ok-found.ensures.moves) c.in_ok-moves.ensures)
