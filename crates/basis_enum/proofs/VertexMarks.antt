@@ -42,14 +42,15 @@ pub vertex_is : (s : Parts) (t : Numbers) (v : Vertex) (word : ℕ)
     → get_or v.mask 0 0 ≡ word % 2 ^ 64 → get_or v.mask 1 0 ≡ word / 2 ^ 64
     → v.point.items ≡ map (basic_solution (tableau t)) s.nonbasics
     → Any (λ q. q ≢ zero_ℚ) v.point.items → IsVertexOf s t (Some v)
-vertex_is s t v word zeros low high values any =
-    (nonzero,
-    record {
-      low = subst (IsZeroWord (min n 64) (λ l. x (suc l))) (sym low) (low_word n (λ l. x (suc l)) word zeros);
-      high = subst (IsZeroWord (n - 64) (λ l. x (suc (64 + l)))) (sym high) (high_word n (λ l. x (suc l)) word zeros);
-      size = ap length values ∙ length-map s.nonbasics x;
-      values = λ j h. value j zero_ℚ h;
-    })
+vertex_is s t v word zeros low high values any = (
+  nonzero,
+  record {
+    low = subst (IsZeroWord (min n 64) (λ l. x (suc l))) (sym low) (low_word n (λ l. x (suc l)) word zeros);
+    high = subst (IsZeroWord (n - 64) (λ l. x (suc (64 + l)))) (sym high) (high_word n (λ l. x (suc l)) word zeros);
+    size = ap length values ∙ length-map s.nonbasics x;
+    values = λ j h. value j zero_ℚ h;
+  },
+)
   where
     n : ℕ
     n = variable_count s
