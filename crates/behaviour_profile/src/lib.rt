@@ -6,7 +6,7 @@
 //! of tested entries, `Plans` the behaviour of two plans and its steps.
 //! Private words: `specs::FirstActions` and `specs::Shares`, how entries are made.
 //! Lemmas for callers: `proofs::GroupTests` and `TestedEntries` on entries, `PlanStops` on plans.
-//! A change here touches: `enumpure_trees`, `ne_checker`, `line_checks`, `lp` and `lcp`.
+//! A change here touches: `enumpure_trees`, `ne_checker`, `lp` and `lcp`.
 #![tactic(auto)]
 
 ghost use Rattle.std.specs.Prelude.{◌≡◌, ◌++◌, length, map, IfOk, OnOk};

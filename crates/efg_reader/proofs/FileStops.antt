@@ -15,23 +15,23 @@ use Rattle.file_parts.specs.declared.refusal.Refusal.TheVariants as refusals
 use Rattle.file_parts.proofs.Readers.{err_same}
 use Rattle.file_parts.proofs.Values.{value}
 use Rattle.written_trees.specs.Building.{PartialTree, tree_so_far}
-use Rattle.efg_reader.specs.declared.kinds.EfgKind.{EfgKind}
+use Rattle.tree_grammar.specs.declared.kinds.EfgKind.{EfgKind}
 use Rattle.efg_reader.specs.declared.fault.EfgStop.{EfgStop}
 use Rattle.efg_reader.specs.declared.fault.EfgStop.TheVariants as stops
 use Rattle.efg_reader.specs.declared.nodes.Stop.{Stop}
 use Rattle.efg_reader.specs.declared.nodes.Stop.TheVariants.{Refused, Passed}
 use Rattle.efg_reader.specs.States.{RefusesNodes}
 use Rattle.efg_reader.specs.Stops.{IsPassed, IsEfgStop, kind_in_nodes, IsNodesStop, tree_in}
-use Rattle.efg_reader.specs.TreeFile.{IsTreeFile, PassesLimit}
-use Rattle.efg_reader.specs.TreeReading.{Head}
-use Rattle.efg_reader.specs.TreeParsing.{parse_head, parse_all_nodes, in_nodes, parse_tree}
-use Rattle.efg_reader.specs.TreeFaults.{IsFile}
-use Rattle.efg_reader.specs.FaultKinds.{IsFault}
+use Rattle.tree_grammar.specs.TreeFile.{IsTreeFile, PassesLimit}
+use Rattle.tree_grammar.specs.TreeReading.{Head}
+use Rattle.tree_grammar.specs.TreeParsing.{parse_head, parse_all_nodes, in_nodes, parse_tree}
+use Rattle.tree_grammar.specs.TreeFaults.{IsFile}
+use Rattle.tree_grammar.specs.FaultKinds.{IsFault}
 use Rattle.written_trees.proofs.PartialTrees.{whole_is_tree}
-use Rattle.efg_reader.proofs.FileLaws.{read_is_file, met_is_passed, no_front_is_nothing, no_nodes_are_nothing, one_tree, not_passed, one_limit}
-use Rattle.efg_reader.proofs.Heads.{value_head, head_front}
-use Rattle.efg_reader.proofs.Whole.{few_players, whole_same}
-use Rattle.efg_reader.proofs.FaultLaws.{stop_is_fault, file_is_faultless, fault_or_file, one_fault}
+use Rattle.tree_grammar.proofs.FileLaws.{read_is_file, met_is_passed, no_front_is_nothing, no_nodes_are_nothing, one_tree, not_passed, one_limit}
+use Rattle.tree_grammar.proofs.Heads.{value_head, head_front}
+use Rattle.tree_grammar.proofs.Whole.{few_players, whole_same}
+use Rattle.tree_grammar.proofs.FaultLaws.{stop_is_fault, file_is_faultless, fault_or_file, one_fault}
 use Rattle.game_core.specs.TokenList.{TokenList, bare}
 use Rattle.game_core.specs.declared.token.Spanned.{Spanned}
 use Rattle.game_core.specs.declared.token.Token.{Token}

@@ -17,7 +17,7 @@ use Rattle.efg_reader.specs.declared.sets.KeptSet.{KeptSet}
 use Rattle.efg_reader.specs.Uses.{partial_set}
 use Rattle.efg_reader.specs.States.{branching_of, branchings_of, nodes_of, tree_of, IsNear, HasTaken}
 use Rattle.efg_reader.specs.PartialCodes.{PartialNodes}
-use Rattle.efg_reader.specs.TreeReading.{grown_at, grown}
+use Rattle.tree_grammar.specs.TreeReading.{grown_at, grown}
 
 -- ---- a list kept in reverse
 -- the last one kept is the first branching

@@ -18,8 +18,8 @@ use Rattle.written_trees.proofs.InsertedKeys.{position-none, position-map, inser
 use Rattle.efg_reader.specs.declared.outcomes.KeptOutcome.{KeptOutcome}
 use Rattle.efg_reader.specs.declared.outcomes.Outcomes.TheInside.{Inside as Kept}
 use Rattle.efg_reader.specs.Uses.{partial_outcome, partial_outcomes, AreOutcomes}
-use Rattle.efg_reader.specs.TreeParsing.{bare_outcome_use, parse_first_payoffs, parse_later_payoffs, parse_outcome_use, parse_named}
-use Rattle.efg_reader.specs.declared.kinds.EfgKind.{EfgKind}
+use Rattle.tree_grammar.specs.TreeParsing.{bare_outcome_use, parse_first_payoffs, parse_later_payoffs, parse_outcome_use, parse_named}
+use Rattle.tree_grammar.specs.declared.kinds.EfgKind.{EfgKind}
 use Rattle.std.specs.Option.{option_or}
 use Rattle.game_core.specs.declared.token.Token.{Token}
 

@@ -13,11 +13,11 @@ use Rattle.file_parts.specs.Parsing.{IsRefusal}
 use Rattle.file_parts.proofs.TokenLaws.{whole_is, label_again, le_passes}
 use Rattle.file_parts.proofs.TokenReaders.{some_or_none}
 use Rattle.written_trees.specs.Building.{PartialOutcome}
-use Rattle.efg_reader.specs.TreeReading.{positive_at}
-use Rattle.efg_reader.specs.TreeParsing.{parse_named, parse_outcome}
-use Rattle.efg_reader.specs.declared.kinds.EfgKind.{EfgKind}
-use Rattle.efg_reader.specs.declared.kinds.EfgKind.TheVariants.{Node}
-use Rattle.efg_reader.proofs.SetLaws.{short_label}
+use Rattle.tree_grammar.specs.TreeReading.{positive_at}
+use Rattle.tree_grammar.specs.TreeParsing.{parse_named, parse_outcome}
+use Rattle.tree_grammar.specs.declared.kinds.EfgKind.{EfgKind}
+use Rattle.tree_grammar.specs.declared.kinds.EfgKind.TheVariants.{Node}
+use Rattle.tree_grammar.proofs.SetLaws.{short_label}
 
 -- a whole number that comes is a label
 pub label_fits : (tokens : List Token) → AllByRecursion IsShortToken tokens → label_at tokens ≡ whole_at tokens

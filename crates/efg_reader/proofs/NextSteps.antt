@@ -11,11 +11,11 @@ use Rattle.file_parts.proofs.Parses.{refused_first}
 use Rattle.file_parts.proofs.Readers.{bind_ok, ok_same, ok_err}
 use Rattle.written_trees.specs.Written.{SetUse, OutcomeUse}
 use Rattle.written_trees.specs.Building.{PartialTree, Branching, PartialSet, PartialOutcome, set_place, outcome_place, passed, new_set, used_set, new_outcome, used_outcome}
-use Rattle.efg_reader.specs.TreeReading.{begins_node, is_word, positive_at, grown_at, grown}
-use Rattle.efg_reader.specs.TreeParsing.{Choice, bare_use, parse_first_list, parse_later_list, parse_use, parse_set, parse_player, parse_set_choice, parse_own_choice, parse_after, parse_choice, bare_outcome_use, parse_first_payoffs, parse_later_payoffs, parse_outcome_use, parse_named, parse_outcome, with_parts, parse_next, parse_at}
-use Rattle.efg_reader.specs.declared.kinds.EfgKind.{EfgKind}
-use Rattle.efg_reader.specs.declared.kinds.EfgKind.TheVariants.{Node}
-use Rattle.efg_reader.proofs.NodeSteps.{with_uses}
+use Rattle.tree_grammar.specs.TreeReading.{begins_node, is_word, positive_at, grown_at, grown}
+use Rattle.tree_grammar.specs.TreeParsing.{Choice, bare_use, parse_first_list, parse_later_list, parse_use, parse_set, parse_player, parse_set_choice, parse_own_choice, parse_after, parse_choice, bare_outcome_use, parse_first_payoffs, parse_later_payoffs, parse_outcome_use, parse_named, parse_outcome, with_parts, parse_next, parse_at}
+use Rattle.tree_grammar.specs.declared.kinds.EfgKind.{EfgKind}
+use Rattle.tree_grammar.specs.declared.kinds.EfgKind.TheVariants.{Node}
+use Rattle.tree_grammar.proofs.NodeSteps.{with_uses}
 use Rattle.std.proofs.lemmas.Option.{same_Some}
 use Rattle.game_core.specs.declared.token.Token.{Token}
 use Rattle.std.proofs.lemmas.Bool.{cases_Bool}

@@ -17,14 +17,14 @@ use Rattle.efg_reader.specs.declared.builder.Branching.{Branching as Kept}
 use Rattle.efg_reader.specs.declared.nodes.Stop.{Stop}
 use Rattle.efg_reader.specs.declared.nodes.Stop.TheVariants.{Refused, Passed}
 use Rattle.efg_reader.specs.States.{branching_of, branchings_of, RefusesNode, RefusesNodes}
-use Rattle.efg_reader.specs.TreeReading.{begins_node, next_at, one_more_at, is_whole, nodes_at, whole_nodes_at, and_then}
-use Rattle.efg_reader.specs.TreeParsing.{parse_next, parse_at, parse_nodes, parse_all_nodes}
-use Rattle.efg_reader.specs.declared.kinds.EfgKind.{EfgKind}
-use Rattle.efg_reader.specs.declared.kinds.EfgKind.TheVariants.{Trailing}
-use Rattle.efg_reader.proofs.NodeLaws.{of_back}
-use Rattle.efg_reader.proofs.NodeValues.{Keeps, value_next}
-use Rattle.efg_reader.proofs.MarkedLaws.{read_by, next_is, next_keeps, next_takes}
-use Rattle.efg_reader.proofs.Whole.{nothing_keeps}
+use Rattle.tree_grammar.specs.TreeReading.{begins_node, next_at, one_more_at, is_whole, nodes_at, whole_nodes_at, and_then}
+use Rattle.tree_grammar.specs.TreeParsing.{parse_next, parse_at, parse_nodes, parse_all_nodes}
+use Rattle.tree_grammar.specs.declared.kinds.EfgKind.{EfgKind}
+use Rattle.tree_grammar.specs.declared.kinds.EfgKind.TheVariants.{Trailing}
+use Rattle.tree_grammar.proofs.NodeLaws.{of_back}
+use Rattle.tree_grammar.proofs.NodeValues.{Keeps, value_next}
+use Rattle.tree_grammar.proofs.MarkedLaws.{read_by, next_is, next_keeps, next_takes}
+use Rattle.tree_grammar.proofs.Whole.{nothing_keeps}
 use Rattle.game_core.specs.declared.token.Token.{Token}
 use Rattle.std.proofs.lemmas.Bool.{cases_Bool}
 

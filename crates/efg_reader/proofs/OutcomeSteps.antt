@@ -8,9 +8,9 @@ use Rattle.file_parts.specs.declared.refusal.Refusal.{Refusal}
 use Rattle.file_parts.specs.declared.refusal.Refusal.TheVariants as refusals
 use Rattle.file_parts.specs.Reading.{payoff_start, payoff_at}
 use Rattle.file_parts.specs.Parsing.{Parsed, ◌>>=◌, IsRefusal}
-use Rattle.efg_reader.specs.TreeParsing.{closes, parse_same_payoff, parse_same_payoffs}
-use Rattle.efg_reader.specs.declared.kinds.EfgKind.{EfgKind}
-use Rattle.efg_reader.specs.declared.kinds.EfgKind.TheVariants.{Node, OutcomeMismatch}
+use Rattle.tree_grammar.specs.TreeParsing.{closes, parse_same_payoff, parse_same_payoffs}
+use Rattle.tree_grammar.specs.declared.kinds.EfgKind.{EfgKind}
+use Rattle.tree_grammar.specs.declared.kinds.EfgKind.TheVariants.{Node, OutcomeMismatch}
 use Rattle.rational.specs.Tests.{eq_ℚ}
 use Rattle.game_core.specs.declared.token.Token.{Token}
 

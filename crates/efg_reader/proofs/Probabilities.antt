@@ -18,8 +18,8 @@ use Rattle.frac128.specs.Steps.{AddFits, unfit}
 use Rattle.frac128.specs.declared.steps.Op.TheVariants.{Add}
 use Rattle.frac128.specs.declared.steps.Unfit.{Unfit}
 use Rattle.written_trees.specs.Building.{add_test}
-use Rattle.efg_reader.specs.TreeParsing.{sum_with}
-use Rattle.efg_reader.specs.declared.kinds.EfgKind.TheVariants.{Probability, ProbabilityRange}
+use Rattle.tree_grammar.specs.TreeParsing.{sum_with}
+use Rattle.tree_grammar.specs.declared.kinds.EfgKind.TheVariants.{Probability, ProbabilityRange}
 use Rattle.written_trees.proofs.Chances.{add_test-Decides}
 
 -- a test fails where what it decides does not hold

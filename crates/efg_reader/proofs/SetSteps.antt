@@ -19,10 +19,10 @@ use Rattle.efg_reader.specs.declared.sets.KeptSet.{KeptSet}
 use Rattle.efg_reader.specs.declared.sets.SetKey.{SetKey as Key}
 use Rattle.efg_reader.specs.declared.sets.Sets.TheInside.{Inside as KeptSets}
 use Rattle.efg_reader.specs.Uses.{partial_set, partial_sets, AreSets}
-use Rattle.efg_reader.specs.TreeReading.{positive_at}
-use Rattle.efg_reader.specs.TreeParsing.{bare_use, parse_first_list, parse_later_list, parse_use, parse_set}
-use Rattle.efg_reader.specs.declared.kinds.EfgKind.{EfgKind}
-use Rattle.efg_reader.specs.declared.kinds.EfgKind.TheVariants.{Node}
+use Rattle.tree_grammar.specs.TreeReading.{positive_at}
+use Rattle.tree_grammar.specs.TreeParsing.{bare_use, parse_first_list, parse_later_list, parse_use, parse_set}
+use Rattle.tree_grammar.specs.declared.kinds.EfgKind.{EfgKind}
+use Rattle.tree_grammar.specs.declared.kinds.EfgKind.TheVariants.{Node}
 use Rattle.game_core.specs.declared.token.Token.{Token}
 
 -- ---- places

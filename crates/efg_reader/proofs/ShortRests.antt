@@ -8,11 +8,11 @@ use Rattle.game_core.specs.Spacing.{IsShortToken}
 use Rattle.file_parts.specs.Reading.{word_at, text_at}
 use Rattle.file_parts.proofs.TokenLaws.{word_is, text_is}
 use Rattle.written_trees.specs.Building.{PartialSet}
-use Rattle.efg_reader.specs.TreeReading.{Head}
-use Rattle.efg_reader.specs.TreeParsing.{Choice, parse_head, parse_player, parse_choice}
-use Rattle.efg_reader.proofs.Heads.{head_is}
-use Rattle.efg_reader.proofs.NodeLaws.{of_back}
-use Rattle.efg_reader.proofs.Within.{Ends, player_within, choice_within}
+use Rattle.tree_grammar.specs.TreeReading.{Head}
+use Rattle.tree_grammar.specs.TreeParsing.{Choice, parse_head, parse_player, parse_choice}
+use Rattle.tree_grammar.proofs.Heads.{head_is}
+use Rattle.tree_grammar.proofs.NodeLaws.{of_back}
+use Rattle.tree_grammar.proofs.Within.{Ends, player_within, choice_within}
 
 -- all are short
 abbrev pub AreShort : List Token → Type 0

@@ -8,8 +8,8 @@ use Rattle.file_parts.specs.declared.refusal.Refusal.TheVariants as refusals
 use Rattle.file_parts.specs.Parsing.{counted, IsRefusal}
 use Rattle.written_trees.specs.Building.{PartialTree, PartialSet, PartialOutcome, Branching, take_branch, passed}
 use Rattle.efg_reader.specs.PartialCodes.{PartialNodes}
-use Rattle.efg_reader.specs.TreeReading.{begins_node, whole_nodes_at}
-use Rattle.efg_reader.specs.TreeParsing.{parse_at, parse_all_nodes}
+use Rattle.tree_grammar.specs.TreeReading.{begins_node, whole_nodes_at}
+use Rattle.tree_grammar.specs.TreeParsing.{parse_at, parse_all_nodes}
 use Rattle.efg_reader.specs.declared.builder.Branching.{Branching as Kept}
 use Rattle.efg_reader.specs.declared.nodes.Stop.{Stop}
 use Rattle.efg_reader.specs.declared.nodes.Stop.TheVariants.{Refused, Passed}

@@ -7,10 +7,10 @@ use Rattle.game_core.specs.declared.too_large.What.{What}
 use Rattle.game_core.specs.declared.too_large.What.TheVariants.{Nodes, Depth}
 use Rattle.game_core.specs.TokenList.{TokenList, bare}
 use Rattle.game_core.specs.declared.token.Token.{Token}
-use Rattle.efg_reader.specs.TreeFile.{IsTreeFile, PassesLimit}
-use Rattle.efg_reader.specs.FaultKinds.{IsFault}
-use Rattle.efg_reader.specs.declared.kinds.EfgKind.{EfgKind}
-use Rattle.efg_reader.specs.declared.kinds.EfgKind.TheVariants.{Unfinished}
+use Rattle.tree_grammar.specs.TreeFile.{IsTreeFile, PassesLimit}
+use Rattle.tree_grammar.specs.FaultKinds.{IsFault}
+use Rattle.tree_grammar.specs.declared.kinds.EfgKind.{EfgKind}
+use Rattle.tree_grammar.specs.declared.kinds.EfgKind.TheVariants.{Unfinished}
 use Rattle.file_parts.specs.Reading.{offset_of}
 use Rattle.file_parts.specs.declared.refusal.Refusal.{Refusal}
 use Rattle.file_parts.specs.declared.refusal.Refusal.TheVariants as refusals

@@ -5,16 +5,16 @@ ghost use Rattle.game_core.specs.declared.tree.Action.{Action as action};
 ghost use Rattle.game_core.specs.declared.token.Token.{Token as token};
 ghost use Rattle.file_parts.specs.Reading.{kinds, texts_at};
 ghost use Rattle.file_parts.specs.Parsing.{Parses};
-ghost use Rattle.efg_reader.specs.TreeReading.{own_action};
-ghost use Rattle.efg_reader.specs.TreeParsing.{sum_with, parse_chances, parse_closed, parse_first_list, parse_repeated, parse_all_repeated, parse_later_list};
-ghost use Rattle.efg_reader.specs.declared.kinds.EfgKind.TheVariants.{Node, SetMismatch};
+ghost use Rattle.tree_grammar.specs.TreeReading.{own_action};
+ghost use Rattle.tree_grammar.specs.TreeParsing.{sum_with, parse_chances, parse_closed, parse_first_list, parse_repeated, parse_all_repeated, parse_later_list};
+ghost use Rattle.tree_grammar.specs.declared.kinds.EfgKind.TheVariants.{Node, SetMismatch};
 
-use crate::kinds::EfgKind;
 use file_parts::{Refusal, copied, left, number, right, text, unexpected};
 use frac128::Frac;
 use game_core::{Action, Spanned};
 use std::alloc::Global;
 use std::cmp::Ordering;
+use tree_grammar::EfgKind;
 
 // The sum with one more probability of the set with this number.
 fn next_sum(sum: Frac, prob: Frac, set: u64) -> Result<Frac, EfgKind>
@@ -132,7 +132,7 @@ fn mismatch_or_node(differs: bool) -> EfgKind
 }
 
 // The tokens after an action that repeats this one.
-#[tactic(auto, unfolding(crate::specs::TreeParsing::parse_repeated))]
+#[tactic(auto, unfolding(tree_grammar::specs::TreeParsing::parse_repeated))]
 fn repeated<'a>(
     tokens: &'a [Spanned],
     owner: Option<u32>,
@@ -172,7 +172,7 @@ fn all_repeated<'a>(
 }
 
 /// The tokens after the actions of a later use, which may come, and repeat these.
-#[tactic(auto, using(file_parts::proofs::Parses::refused_first), unfolding(crate::specs::TreeParsing::parse_repeated_list))]
+#[tactic(auto, using(file_parts::proofs::Parses::refused_first), unfolding(tree_grammar::specs::TreeParsing::parse_repeated_list))]
 pub fn later_list<'a>(
     tokens: &'a [Spanned],
     owner: Option<u32>,

@@ -1,7 +1,7 @@
 // Why a tree is not read.
-use crate::kinds::EfgKind;
 use game_core::TooLarge;
 use std::alloc::AllocError;
+use tree_grammar::EfgKind;
 
 /// A fault in a file of a tree: its kind, and the byte offset from 0 of the token named, or the source's length
 /// where the tokens end too early.

@@ -2,12 +2,12 @@
 ghost use Rattle.std.specs.Prelude.{◌≡◌};
 ghost use Rattle.file_parts.specs.Reading.{kinds};
 ghost use Rattle.file_parts.specs.Parsing.{Parses};
-ghost use Rattle.efg_reader.specs.TreeParsing.{parse_head};
+ghost use Rattle.tree_grammar.specs.TreeParsing.{parse_head};
 
-use crate::kinds::EfgKind;
 use file_parts::{Refusal, after_text, copied, names, title};
 use game_core::{Name, Spanned};
 use std::alloc::Global;
+use tree_grammar::EfgKind;
 
 /// The title and the players.
 #[derive(Drop)]
@@ -19,7 +19,7 @@ pub struct Front {
 }
 
 /// The title, the players, and the tokens after them and the comment that may come.
-#[tactic(auto, using(file_parts::proofs::Parses::refused_first), unfolding(crate::specs::TreeParsing::parse_head))]
+#[tactic(auto, using(file_parts::proofs::Parses::refused_first), unfolding(tree_grammar::specs::TreeParsing::parse_head))]
 pub fn read_front(
     alloc: Global,
     tokens: &[Spanned],

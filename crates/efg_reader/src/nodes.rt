@@ -6,18 +6,18 @@ ghost use Rattle.file_parts.specs.Reading.{kinds};
 ghost use Rattle.file_parts.specs.Parsing.{Parses};
 ghost use Rattle.game_core.specs.Tree.{kind_of_owner};
 ghost use Rattle.efg_reader.specs.States.{ReadsNode, ReadsNodes};
-ghost use Rattle.efg_reader.specs.TreeReading.{is_word, begins_node};
-ghost use Rattle.efg_reader.specs.TreeParsing.{parse_set_choice, parse_own_choice, parse_choice, parse_at};
+ghost use Rattle.tree_grammar.specs.TreeReading.{is_word, begins_node};
+ghost use Rattle.tree_grammar.specs.TreeParsing.{parse_set_choice, parse_own_choice, parse_choice, parse_at};
 ghost use Rattle.written_trees.specs.Building.{passed};
 
 use crate::builder::{Builder, Choice};
-use crate::kinds::EfgKind;
 use crate::outcomes::read_outcome;
 use crate::pieces::{begins_node, player};
 use crate::sets::{Sets, read_set};
 use file_parts::{Refusal, ends, text, unexpected, word};
 use game_core::{Kind, Name, Spanned, What};
 use std::alloc::{AllocError, Global};
+use tree_grammar::EfgKind;
 
 /// Why nodes are not read.
 #[derive(Clone, Copy, Debug, PartialEq, Eq)]
@@ -69,7 +69,7 @@ fn kind_of(owner: Option<u32>) -> Kind
 }
 
 // The sets with one of this owner, the choice at it, and the tokens after it.
-#[tactic(auto, using(file_parts::proofs::Parses::refused_first), unfolding(crate::specs::TreeParsing::parse_set_choice))]
+#[tactic(auto, using(file_parts::proofs::Parses::refused_first), unfolding(tree_grammar::specs::TreeParsing::parse_set_choice))]
 fn set_choice<'a>(
     alloc: Global,
     sets: Sets,
@@ -95,7 +95,7 @@ fn set_choice<'a>(
 }
 
 // The sets with one of the player whose number comes, the choice at it, and the tokens after it.
-#[tactic(auto, using(file_parts::proofs::Parses::refused_first, crate::proofs::ShortRests::player_leaves), unfolding(crate::specs::TreeParsing::parse_own_choice))]
+#[tactic(auto, using(file_parts::proofs::Parses::refused_first, crate::proofs::ShortRests::player_leaves), unfolding(tree_grammar::specs::TreeParsing::parse_own_choice))]
 fn own_choice<'a>(
     alloc: Global,
     sets: Sets,
@@ -116,7 +116,7 @@ fn own_choice<'a>(
 
 // A node with this number up to its outcome: the sets with the one that it uses, the choice that is made there, and
 // the tokens after it.
-#[tactic(auto, using(crate::proofs::ShortRests::short_after), unfolding(crate::specs::TreeParsing::parse_choice))]
+#[tactic(auto, using(crate::proofs::ShortRests::short_after), unfolding(tree_grammar::specs::TreeParsing::parse_choice))]
 fn choice<'a>(
     alloc: Global,
     sets: Sets,

@@ -5,11 +5,10 @@ ghost use Rattle.game_core.specs.Spacing.{IsShortToken};
 ghost use Rattle.file_parts.specs.declared.refusal.Refusal.TheVariants.{Unexpected};
 ghost use Rattle.file_parts.specs.Reading.{kinds, payoff_start};
 ghost use Rattle.file_parts.specs.Parsing.{Parses, parse_each};
-ghost use Rattle.efg_reader.specs.TreeParsing.{closes, parse_payoff, parse_payoffs_end, parse_first_payoffs, parse_same_payoffs, parse_later_payoffs, parse_named, parse_outcome};
-ghost use Rattle.efg_reader.specs.declared.kinds.EfgKind.TheVariants.{Node, OutcomeMismatch};
+ghost use Rattle.tree_grammar.specs.TreeParsing.{closes, parse_payoff, parse_payoffs_end, parse_first_payoffs, parse_same_payoffs, parse_later_payoffs, parse_named, parse_outcome};
+ghost use Rattle.tree_grammar.specs.declared.kinds.EfgKind.TheVariants.{Node, OutcomeMismatch};
 ghost use Rattle.std.specs.Option.{option_or};
 
-use crate::kinds::EfgKind;
 use crate::sets::optional_name;
 use file_parts::{
     Refusal, label, left, number, optional_text, payoff, payoff_start, right, unexpected,
@@ -19,6 +18,7 @@ use game_core::{Name, Spanned};
 use indexmap::IndexSet;
 use std::alloc::Global;
 use std::marker::Model;
+use tree_grammar::EfgKind;
 
 /// An outcome as far as it was used.
 #[derive(Drop)]
@@ -124,7 +124,7 @@ fn payoffs(
 }
 
 // The payoffs of an outcome at its first use, and the tokens after them.
-#[tactic(auto, using(file_parts::proofs::Parses::refused_first), unfolding(crate::specs::TreeParsing::parse_first_payoffs))]
+#[tactic(auto, using(file_parts::proofs::Parses::refused_first), unfolding(tree_grammar::specs::TreeParsing::parse_first_payoffs))]
 fn first_payoffs(
     alloc: Global,
     tokens: &[Spanned],
@@ -161,7 +161,7 @@ fn repeated<'a>(tokens: &'a [Spanned], payoffs: &[Frac]) -> Result<&'a [Spanned]
 }
 
 // The tokens after the payoffs of a later use, which may come, and repeat these.
-#[tactic(auto, using(file_parts::proofs::Parses::refused_first), unfolding(crate::specs::TreeParsing::parse_repeated_payoffs))]
+#[tactic(auto, using(file_parts::proofs::Parses::refused_first), unfolding(tree_grammar::specs::TreeParsing::parse_repeated_payoffs))]
 fn later_payoffs<'a>(
     tokens: &'a [Spanned],
     payoffs: &[Frac],

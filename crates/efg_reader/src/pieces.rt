@@ -4,12 +4,12 @@ ghost use Rattle.std.specs.List.{AllByRecursion};
 ghost use Rattle.game_core.specs.Spacing.{IsShortToken};
 ghost use Rattle.file_parts.specs.Reading.{Gives, kinds};
 ghost use Rattle.file_parts.specs.Parsing.{Parses};
-ghost use Rattle.efg_reader.specs.TreeReading.{positive_at, begins_node, is_node_word};
-ghost use Rattle.efg_reader.specs.TreeParsing.{parse_player};
+ghost use Rattle.tree_grammar.specs.TreeReading.{positive_at, begins_node, is_node_word};
+ghost use Rattle.tree_grammar.specs.TreeParsing.{parse_player};
 
-use crate::kinds::EfgKind;
 use file_parts::{Refusal, label, unexpected, whole, word};
 use game_core::Spanned;
+use tree_grammar::EfgKind;
 
 /// A number of at least 1, and the tokens after it.
 #[tactic(auto, using(crate::proofs::Labels::positives))]
@@ -26,7 +26,7 @@ pub fn positive(tokens: &[Spanned]) -> Option<(u64, &[Spanned])>
 }
 
 /// A player, counted from 0, by the number of 1 to the number of players that comes, and the tokens after it.
-#[tactic(auto, unfolding(crate::specs::TreeParsing::parse_player))]
+#[tactic(auto, unfolding(tree_grammar::specs::TreeParsing::parse_player))]
 pub fn player(tokens: &[Spanned], players: u32) -> Result<(u32, &[Spanned]), Refusal<EfgKind>>
     ensures { Parses (λ x. (x.0, kinds x.1.now)) result (parse_player players (kinds tokens.now)) }
 {

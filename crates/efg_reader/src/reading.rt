@@ -5,9 +5,9 @@ ghost use Rattle.game_core.specs.Tree.{IsTree};
 ghost use Rattle.written_trees.specs.Described.{or_empty};
 ghost use Rattle.written_trees.specs.Building.{finished_set, finished_outcome, tree_so_far};
 ghost use Rattle.efg_reader.specs.Uses.{partial_set, partial_outcome};
-ghost use Rattle.efg_reader.specs.TreeFaults.{IsFile};
-ghost use Rattle.efg_reader.specs.FaultKinds.{IsFault};
-ghost use Rattle.efg_reader.specs.declared.kinds.EfgKind.{EfgKind};
+ghost use Rattle.tree_grammar.specs.TreeFaults.{IsFile};
+ghost use Rattle.tree_grammar.specs.FaultKinds.{IsFault};
+ghost use Rattle.tree_grammar.specs.declared.kinds.EfgKind.{EfgKind};
 ghost use Rattle.efg_reader.specs.Stops.{IsEfgStop, IsNodesStop, tree_in};
 ghost use Rattle.efg_reader.specs.declared.fault.EfgStop.TheVariants.{Memory};
 ghost use Rattle.game_core.specs.TokenList.{TokenList, bare};
@@ -16,13 +16,13 @@ ghost use Rattle.game_core.specs.Spacing.{IsShortToken};
 use crate::builder::Builder;
 use crate::fault::{EfgFault, EfgStop};
 use crate::front::{Front, read_front};
-use crate::kinds::EfgKind;
 use crate::nodes::{Stop, read_nodes};
 use crate::outcomes::KeptOutcome;
 use crate::sets::KeptSet;
 use file_parts::{Refusal, offset};
 use game_core::{InfoSet, Name, Outcome, Tokens, TooLarge, Tree, What};
 use std::alloc::{AllocError, Global};
+use tree_grammar::EfgKind;
 
 // The stop for a refusal.
 fn stop(refusal: Refusal<EfgKind>, tokens: &Tokens) -> EfgStop

@@ -7,17 +7,17 @@ ghost use Rattle.file_parts.specs.Parsing.{Parses};
 ghost use Rattle.written_trees.specs.Described.{same_set};
 ghost use Rattle.written_trees.specs.Building.{partial_count};
 ghost use Rattle.efg_reader.specs.Uses.{partial_set};
-ghost use Rattle.efg_reader.specs.TreeParsing.{parse_first_list, parse_later_list, parse_set};
+ghost use Rattle.tree_grammar.specs.TreeParsing.{parse_first_list, parse_later_list, parse_set};
 ghost use Rattle.std.specs.Option.{option_or};
 
 use crate::actions::{first_list, later_list};
-use crate::kinds::EfgKind;
 use crate::pieces::positive;
 use file_parts::{Refusal, copied, optional_text, unexpected};
 use game_core::{Action, Name, Spanned};
 use indexmap::IndexSet;
 use std::alloc::{AllocError, AllocFailed, Global};
 use std::marker::Model;
+use tree_grammar::EfgKind;
 
 /// What tells a set from others: chance and each player number their sets separately.
 #[derive(Clone, Copy, Debug, PartialEq, Eq, Hash)]

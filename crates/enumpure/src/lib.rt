@@ -6,7 +6,7 @@
 //! on texts, `Replies` best replies by the numbers of profiles.
 //! Private words: `specs::Ranks`, and `lengths`, which counts bytes before lines are written.
 //! Lemmas for callers: `proofs::Texts` on texts within the limit; `Strides`, `Listed`.
-//! A change here touches: `enumpure_trees`, `convert_tables`, `ne_checker`, `line_checks`,
+//! A change here touches: `enumpure_trees`, `convert_tables`, `ne_checker`,
 //! `enummixed` and what `enumpure` prints.
 #![tactic(auto)]
 

@@ -17,10 +17,10 @@ use Rattle.enumpure.specs.declared.listing.ListStop.TheVariants as list_stop
 use Rattle.ne_printer.specs.ReadLines.{line_in}
 use Rattle.ne_printer.specs.declared.reading.LineStop.{LineStop}
 use Rattle.ne_printer.specs.declared.reading.LineStop.TheVariants as line_stop
-use Rattle.line_checks.specs.LineChecks.{TableChecksAreSingle, TreeChecksAreSingle, faulty, limited, line_entries, table_check, table_judged, table_line, text_stop, tree_check, tree_judged, tree_line, unread}
-use Rattle.line_checks.specs.Lines.{lines_answer, lines_of}
-use Rattle.line_checks.specs.declared.stops.CheckStop.{CheckStop}
-use Rattle.line_checks.specs.declared.stops.CheckStop.TheVariants as check_stop
+use Rattle.ne_checker.specs.LineChecks.{TableChecksAreSingle, TreeChecksAreSingle, faulty, limited, line_entries, table_check, table_judged, table_line, text_stop, tree_check, tree_judged, tree_line, unread}
+use Rattle.ne_checker.specs.Lines.{lines_answer, lines_of}
+use Rattle.ne_checker.specs.declared.stops.CheckStop.{CheckStop}
+use Rattle.ne_checker.specs.declared.stops.CheckStop.TheVariants as check_stop
 use Rattle.perfect_recall.specs.Found.{recall_of}
 use Rattle.reduced_form.specs.Stops.{form_of}
 use Rattle.reduced_form.proofs.Exact.{form_of-single}

@@ -3,7 +3,7 @@ use Rattle.std.specs.Prelude.{ℕ, ◌<◌, Bool, true, false, List, length}
 use Rattle.answers.specs.Answers.{Answer, refuse_where, ◌>>=◌, ◌>>◌, refused_by}
 use Rattle.game_core.specs.declared.game.Game.{Game}
 use Rattle.game_core.specs.declared.game.Game.TheVariants.{Strategic, Extensive}
-use Rattle.line_checks.specs.LineChecks.{table_check, tree_check}
+use Rattle.ne_checker.specs.LineChecks.{table_check, tree_check}
 use Rattle.perfect_recall.specs.Found.{recall_of}
 use Rattle.reduced_form.specs.Stops.{form_of}
 use Rattle.gambit_tools.specs.Games.{game_in}

@@ -9,7 +9,7 @@ ghost use Rattle.gambit_tools.specs.Outcome.{IsComputed};
 use crate::games::game_in;
 use crate::input::read_input;
 use game_core::{Game, Tree};
-use line_checks::{check_table_lines, check_tree_lines};
+use ne_checker::{check_table_lines, check_tree_lines};
 use outside::Inputs;
 use perfect_recall::find_recall;
 use reduced_form::reduce;

@@ -20,7 +20,7 @@ use crate::mixed::enummixed;
 use crate::output::write_text;
 use crate::pure::enumpure;
 use game_core::{sets_are_numbered_by_first_nodes, trees_are_game_trees};
-use line_checks::{table_checks_are_single, tree_checks_are_single};
+use ne_checker::{table_checks_are_single, tree_checks_are_single};
 use outside::{Gate, Inputs, Sink};
 use perfect_recall::recalls_are_single;
 use refusals::Refusal;

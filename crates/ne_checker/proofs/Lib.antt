@@ -1,3 +1,7 @@
+pub mod Choices
+pub mod LineCuts
+pub mod LineSteps
+pub mod Single
 pub mod TableBlocks
 pub mod TableOthers
 pub mod TableParts
@@ -9,6 +13,7 @@ pub mod TreeAlike
 pub mod TreeDecisions
 pub mod TreeDepths
 pub mod TreeFound
+pub mod TreeLines
 pub mod TreeMembers
 pub mod TreeNowSteps
 pub mod TreeOwnSets

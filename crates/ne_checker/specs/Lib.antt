@@ -1,5 +1,8 @@
+pub mod LineChecks
+pub mod Lines
 pub mod TableChecks
 pub mod TableLaws
+pub mod Texts
 pub mod TreeBoards
 pub mod TreeScratches
 pub mod TreeSides

@@ -1,17 +1,27 @@
-//! Whether given play is an equilibrium, and where it is none the first player who can do better.
+//! Whether given play is an equilibrium, and where it is none the first player who can do better;
+//! and the check of lines with profiles of a game: the verdict on each line.
 //!
 //! Callers may rely on: `check_table` and `check_tree` give the one verdict, or the first step that
 //! does not fit; by law it says where equilibria are (of trees, where all recall).
+//! `check_table_lines` and `check_tree_lines` give the verdicts of all lines, or the first line that
+//! is refused, or that the text is too long.
 //! Definitions: `specs::TableChecks` and `specs::TreeVerdicts` have the verdicts, `TreeSteps` the
-//! steps on a tree, `TreeScratches` the reply that is left in the room for a check.
+//! steps on a tree, `TreeScratches` the reply that is left in the room for a check; `LineChecks` the
+//! verdicts of lines (`table_check`, `tree_check`), `Lines` the lines of a text, `Texts` the texts
+//! of verdicts.
 //! Private words: `specs::TreeBoards`, `TreeSides`, `TreeStarts` and `TreeWeights`.
 //! Lemmas for callers: `proofs::TableSingle`, that there is one verdict.
-//! A change here touches: `line_checks`, and with it the verdicts that `check` prints.
+//! A change here touches: the text of `check`, byte for byte, and its refusals.
 #![tactic(auto)]
 
+mod line_parts;
 mod mixed;
 mod scratch;
+mod stops;
+mod table_lines;
 mod tables;
+mod texts;
+mod tree_lines;
 mod trees;
 mod trees_board;
 mod trees_player;
@@ -19,7 +29,10 @@ mod trees_side;
 
 pub use mixed::Mixed;
 pub use scratch::Scratch;
+pub use stops::CheckStop;
+pub use table_lines::{check_table_lines, table_checks_are_single};
 pub use tables::{
     TableVerdict, check_table, table_verdicts_are_single, table_verdicts_find_equilibria,
 };
+pub use tree_lines::{check_tree_lines, tree_checks_are_single};
 pub use trees::{TreeVerdict, check_tree, tree_verdicts_are_single, tree_verdicts_find_equilibria};

@@ -7,7 +7,7 @@
 //! perfect recall is.
 //! Private words: `specs::LastEdges` and `specs::Members`: histories are compared by their ends.
 //! Lemmas for callers: `proofs::Histories` on own histories; `Members` on a set's nodes.
-//! A change here touches: the refusal `Forgets`, `sequence_form`, `ne_checker`, `line_checks`.
+//! A change here touches: the refusal `Forgets`, `sequence_form`, `ne_checker`.
 #![tactic(auto)]
 
 mod find;

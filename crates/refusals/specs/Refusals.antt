@@ -11,8 +11,8 @@ use Rattle.nfg_reader.specs.declared.reading.NfgKind.TheVariants as nfg_kind
 use Rattle.frac128.specs.declared.steps.Op.{Op}
 use Rattle.frac128.specs.declared.steps.Op.TheVariants.{Add, Sub, Mul, Div}
 use Rattle.game_theory.specs.Lines.{number_text}
-use Rattle.efg_reader.specs.declared.kinds.EfgKind.{EfgKind}
-use Rattle.efg_reader.specs.declared.kinds.EfgKind.TheVariants as efg_kind
+use Rattle.tree_grammar.specs.declared.kinds.EfgKind.{EfgKind}
+use Rattle.tree_grammar.specs.declared.kinds.EfgKind.TheVariants as efg_kind
 use Rattle.words.specs.declared.Usage.{Usage}
 use Rattle.words.specs.declared.Usage.TheVariants as usage
 use Rattle.refusals.specs.declared.refusal.Site.{Site}

@@ -25,8 +25,8 @@ use Rattle.behaviour_profile.specs.declared.plans.BehaviourStop.{BehaviourStop}
 use Rattle.behaviour_profile.specs.declared.plans.BehaviourStop.TheVariants as behaviour_stop
 use Rattle.convert_tables.specs.declared.stops.ConvertStop.{ConvertStop}
 use Rattle.convert_tables.specs.declared.stops.ConvertStop.TheVariants as convert_stop
-use Rattle.line_checks.specs.declared.stops.CheckStop.{CheckStop}
-use Rattle.line_checks.specs.declared.stops.CheckStop.TheVariants as check_stop
+use Rattle.ne_checker.specs.declared.stops.CheckStop.{CheckStop}
+use Rattle.ne_checker.specs.declared.stops.CheckStop.TheVariants as check_stop
 use Rattle.reduced_form.specs.declared.kept_stop.KeptStop.{KeptStop}
 use Rattle.reduced_form.specs.declared.kept_stop.KeptStop.TheVariants as kept_stop
 use Rattle.game_core.specs.declared.too_large.TooLarge.{TooLarge}

@@ -2,7 +2,7 @@
 ghost use Rattle.std.specs.Prelude.{◌≡◌, ◌++◌, IfOk, codes, string_bytes};
 ghost use Rattle.std.specs.Fmt.{decimal};
 ghost use Rattle.game_theory.specs.Lines.{number_text};
-ghost use Rattle.efg_reader.specs.declared.kinds.EfgKind.TheVariants.{Probability, ProbabilityRange};
+ghost use Rattle.tree_grammar.specs.declared.kinds.EfgKind.TheVariants.{Probability, ProbabilityRange};
 ghost use Rattle.refusals.specs.Refusals.{text_kind_text, nfg_kind_text, efg_kind_text, op_text, site_text, spaced, what_text, refusal_line};
 ghost use Rattle.refusals.specs.declared.refusal.Refusal.TheVariants as refusal;
 ghost use Rattle.refusals.specs.declared.refusal.Site.TheVariants as site;
@@ -10,13 +10,14 @@ ghost use Rattle.refusals.specs.declared.refusal.Site.TheVariants as site;
 use crate::refusal::Site;
 use answers::Memory;
 use basis_enum::Basis;
-use efg_reader::{EfgFault, EfgKind};
+use efg_reader::EfgFault;
 use frac128::{Frac, Op, Unfit};
 use game_core::{TooLarge, What};
 use game_text::{TextFault, TextKind};
 use ne_printer::fraction_text;
 use nfg_reader::{NfgFault, NfgKind};
 use std::alloc::Global;
+use tree_grammar::EfgKind;
 
 // The words for a kind of fault in a text.
 fn text_kind_text(kind: TextKind) -> &'static str

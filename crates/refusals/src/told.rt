@@ -9,7 +9,7 @@ use enumpure::ListStop;
 use game_core::TooLarge;
 use game_text::TextStop;
 use lemke_pivot::LcpStop;
-use line_checks::CheckStop;
+use ne_checker::CheckStop;
 use nfg_reader::NfgStop;
 use perfect_recall::RecallStop;
 use reduced_form::{KeptStop, ReduceStop};

@@ -1,6 +1,6 @@
 use Rattle.std.proofs.Common.{◌≡◌, drop}
 use Rattle.file_parts.specs.Reading.{kinds}
-use Rattle.efg_reader.specs.TreeParsing.{parse_all_repeated}
+use Rattle.tree_grammar.specs.TreeParsing.{parse_all_repeated}
 use Rattle.efg_reader.proofs.actions.all_repeated.Given as goal
 
 abbrev pub invariant-loop-action : goal.invariant-loop-action

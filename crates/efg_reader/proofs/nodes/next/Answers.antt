@@ -5,7 +5,7 @@ use Rattle.file_parts.specs.Parsing.{IsRefusal}
 use Rattle.written_trees.specs.Building.{PartialTree, PartialOutcome, passed}
 use Rattle.efg_reader.specs.PartialCodes.{PartialNodes}
 use Rattle.efg_reader.specs.States.{tree_of}
-use Rattle.efg_reader.specs.TreeParsing.{Choice, parse_choice, parse_at}
+use Rattle.tree_grammar.specs.TreeParsing.{Choice, parse_choice, parse_at}
 use Rattle.efg_reader.proofs.Growing.{same_room}
 use Rattle.efg_reader.proofs.NextSteps.{MayCome, may_come, choice_refused, outcome_refused, node_added, few_sets_more, few_outcomes_more}
 use Rattle.efg_reader.proofs.ShortRests.{choice_leaves}

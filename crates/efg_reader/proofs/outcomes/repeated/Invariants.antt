@@ -1,6 +1,6 @@
 use Rattle.std.proofs.Common.{◌≡◌, drop}
 use Rattle.file_parts.specs.Reading.{kinds}
-use Rattle.efg_reader.specs.TreeParsing.{parse_same_payoffs}
+use Rattle.tree_grammar.specs.TreeParsing.{parse_same_payoffs}
 use Rattle.efg_reader.proofs.outcomes.repeated.Given as goal
 
 abbrev pub invariant-loop-index : goal.invariant-loop-index

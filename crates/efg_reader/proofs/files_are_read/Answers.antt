@@ -1,8 +1,0 @@
-use Rattle.efg_reader.proofs.Whole.{read_is_file, file_is_read}
-use Rattle.efg_reader.proofs.files_are_read.Goals as goal
-
-pub returns-clause-sound : goal.returns-clause-sound
-returns-clause-sound c = read_is_file
-
-pub returns-clause-complete : goal.returns-clause-complete
-returns-clause-complete c = file_is_read

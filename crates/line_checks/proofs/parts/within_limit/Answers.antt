@@ -1,8 +1,0 @@
-use Rattle.std.proofs.Common.{inr, refl, arith}
-use Rattle.enumpure.specs.declared.listing.ListStop.TheVariants as list_stops
-use Rattle.line_checks.proofs.LineSteps.{longer}
-use Rattle.line_checks.proofs.parts.within_limit.Goals as goal
-
-pub returns-then-len-gt-MOST_TEXT : goal.returns-then-len-gt-MOST_TEXT
-returns-then-len-gt-MOST_TEXT c = λ whole kept.
-    inr (list_stops.TooLarge c.too_long_text.result, ((whole, refl, longer whole c.args.text.items kept (omega (arith, c.if-len-gt-MOST_TEXT.true, c.len.ensures, c.args.text.ok.0))), c.too_long_text.ensures), refl)

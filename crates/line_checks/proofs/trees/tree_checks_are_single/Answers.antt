@@ -1,6 +1,0 @@
-use Rattle.line_checks.proofs.Single.{tree_checks_once}
-use Rattle.line_checks.proofs.trees.tree_checks_are_single.Goals as goal
-
-pub returns : goal.returns
-returns c =
-    tree_checks_once c.profiles_are_single.ensures c.tested_entries_are_behaviours.ensures c.tree_verdicts_are_single.ensures c.trees_are_game_trees.ensures

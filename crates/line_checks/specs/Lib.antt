@@ -1,3 +1,0 @@
-pub mod LineChecks
-pub mod Lines
-pub mod Texts

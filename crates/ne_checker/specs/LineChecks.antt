@@ -1,0 +1,113 @@
+-- The check of lines: each has the entries of a profile, which is judged.
+use Rattle.std.specs.Prelude.{ℕ, ◌≡◌, List, [], Ok, Err}
+use Rattle.answers.specs.Answers.{Answer, IsSingle, ◌>>=◌, refused_by}
+use Rattle.rational.specs.Rational.{ℚ}
+use Rattle.game_core.specs.Table.{GameTable, strategy_counts}
+use Rattle.game_core.specs.Tree.{GameTree, IsTree}
+use Rattle.game_core.specs.TreeGame.{game_of_tree}
+use Rattle.behaviour_profile.specs.EntryTests.{action_counts, profile_in}
+use Rattle.behaviour_profile.specs.declared.entries.ProfileFault.{ProfileFault}
+use Rattle.behaviour_profile.specs.declared.entries.ProfileFault.TheVariants as faults
+use Rattle.ne_printer.specs.ReadLines.{line_in}
+use Rattle.ne_printer.specs.declared.reading.LineStop.{LineStop}
+use Rattle.ne_printer.specs.declared.reading.LineStop.TheVariants as line_stops
+use Rattle.enumpure.specs.Stops.{within_text_limit}
+use Rattle.enumpure.specs.declared.listing.ListStop.{ListStop}
+use Rattle.enumpure.specs.declared.listing.ListStop.TheVariants as list_stops
+use Rattle.ne_checker.specs.TableChecks.{table_verdict}
+use Rattle.ne_checker.specs.TreeVerdicts.{tree_verdict}
+use Rattle.ne_checker.specs.TreeVerdictLaws.{AllRecall}
+use Rattle.ne_checker.specs.declared.tables.TableVerdict.{TableVerdict}
+use Rattle.ne_checker.specs.declared.tables.TableVerdict.TheVariants as table_verdicts
+use Rattle.ne_checker.specs.declared.trees.TreeVerdict.{TreeVerdict}
+use Rattle.ne_checker.specs.declared.trees.TreeVerdict.TheVariants as tree_verdicts
+use Rattle.ne_checker.specs.Lines.{lines_answer, lines_of}
+use Rattle.ne_checker.specs.Texts.{IsTableText, IsTreeText}
+use Rattle.ne_checker.specs.declared.stops.CheckStop.{CheckStop}
+use Rattle.ne_checker.specs.declared.stops.CheckStop.TheVariants as stops
+
+-- ---- the entries of a line
+-- the line with this number is not read
+abbrev pub unread : ℕ → LineStop → CheckStop
+unread number line_stops.Bad = stops.BadLine number
+unread number line_stops.Memory = stops.Memory
+
+-- its entries are no profile
+abbrev pub faulty : ℕ → ProfileFault → CheckStop
+faulty number (faults.Unfit step) = stops.Range number step
+faulty number faults.Count = stops.BadLine number
+faulty number (faults.Negative place) = stops.BadLine number
+faulty number (faults.Sum group) = stops.BadLine number
+
+-- the entries on a line, of a profile in groups of these sizes; or why the line is refused
+abbrev pub line_entries : ℕ → List ℕ → List ℕ → Answer CheckStop (List ℚ)
+line_entries number sizes line = do
+  entries ← refused_by (unread number) (line_in line)
+  refused_by (faulty number) (profile_in sizes entries)
+
+-- ---- the verdict on a line
+-- the text of the verdict of a table on entries
+abbrev pub table_judged : ℕ → GameTable → List ℚ → Answer CheckStop (List ℕ)
+table_judged number table entries (Ok text) =
+    (verdict : TableVerdict) × table_verdict table entries verdict × IsTableText verdict text
+table_judged number table entries (Err (stops.Range line step)) =
+    (line ≡ number) × table_verdict table entries (table_verdicts.Range step)
+table_judged number table entries (Err (stops.BadLine line)) = ⊥
+table_judged number table entries (Err (stops.TooLarge limit)) = ⊥
+table_judged number table entries (Err stops.Memory) = ⊥
+
+-- that of a tree
+abbrev pub tree_judged : ℕ → GameTree → List ℚ → Answer CheckStop (List ℕ)
+tree_judged number tree entries (Ok text) =
+    (verdict : TreeVerdict) × (reply : List ℕ) × tree_verdict tree entries verdict reply
+    × IsTreeText verdict reply text
+tree_judged number tree entries (Err (stops.Range line step)) =
+    (line ≡ number) × tree_verdict tree entries (tree_verdicts.Range step) []
+tree_judged number tree entries (Err (stops.BadLine line)) = ⊥
+tree_judged number tree entries (Err (stops.TooLarge limit)) = ⊥
+tree_judged number tree entries (Err stops.Memory) = ⊥
+
+-- a line with a profile of a table
+abbrev pub table_line : GameTable → ℕ → List ℕ → Answer CheckStop (List ℕ)
+table_line table number line = do
+  entries ← line_entries number (strategy_counts table) line
+  table_judged number table entries
+
+-- a line with behaviour on a tree
+abbrev pub tree_line : GameTree → ℕ → List ℕ → Answer CheckStop (List ℕ)
+tree_line tree number line = do
+  entries ← line_entries number (action_counts (game_of_tree tree)) line
+  tree_judged number tree entries
+
+-- ---- all lines
+-- the texts are too long
+abbrev pub text_stop : ListStop → CheckStop
+text_stop (list_stops.TooLarge limit) = stops.TooLarge limit
+text_stop list_stops.Memory = stops.Memory
+
+-- this text, or the limit where it is longer
+abbrev pub limited : List ℕ → Answer CheckStop (List ℕ)
+limited judged = refused_by text_stop (within_text_limit (λ text. text ≡ judged))
+
+-- All lines with profiles of a table are judged, before the length of the text is tested.
+abbrev pub table_check : GameTable → List ℕ → Answer CheckStop (List ℕ)
+table_check table text = do
+  judged ← lines_answer (table_line table) 1 (lines_of text)
+  limited judged
+
+-- likewise all lines with behaviour on a tree
+abbrev pub tree_check : GameTree → List ℕ → Answer CheckStop (List ℕ)
+tree_check tree text = do
+  judged ← lines_answer (tree_line tree) 1 (lines_of text)
+  limited judged
+
+-- ---- laws
+-- a table and a text have one answer
+abbrev pub TableChecksAreSingle : Type 0
+TableChecksAreSingle = (table : GameTable) (text : List ℕ) → IsSingle (table_check table text)
+
+-- a tree in which all players recall and a text have one answer
+abbrev pub TreeChecksAreSingle : Type 0
+TreeChecksAreSingle =
+    (tree : GameTree) (text : List ℕ) → IsTree tree → AllRecall tree
+    → IsSingle (tree_check tree text)

@@ -1,0 +1,74 @@
+// The check of lines with mixed profiles of a table.
+ghost use Rattle.answers.specs.Answers.{Gives, map_ok};
+ghost use Rattle.ne_checker.specs.LineChecks.{TableChecksAreSingle, table_check, table_line};
+ghost use Rattle.ne_checker.specs.declared.stops.CheckStop.TheVariants as stops;
+
+use crate::line_parts::{first_line, keep, within_limit};
+use crate::stops::{CheckStop, faulty, unread};
+use crate::texts::{better_strategy, equilibrium};
+use crate::{Mixed, TableVerdict, check_table};
+use behaviour_profile::profiles_are_single;
+use game_core::Table;
+use ne_printer::read_line;
+use std::alloc::Global;
+
+// The text of the verdict on a line.
+fn table_line(alloc: Global, table: &Table, number: u64, line: &[u8]) -> Result<Vec<u8>, CheckStop>
+    ensures { Gives stops.Memory (table_line table.now number line.now)
+        (map_ok result (λ text. text.items)) }
+{
+    let entries = match read_line(alloc, line) {
+        Ok(entries) => entries,
+        Err(stop) => return Err(unread(number, stop)),
+    };
+    let mixed = match Mixed::try_new(table, entries) {
+        Ok(mixed) => mixed,
+        Err(fault) => return Err(faulty(number, fault)),
+    };
+    match check_table(table, &mixed) {
+        TableVerdict::Equilibrium => Ok(equilibrium(alloc)?),
+        TableVerdict::Better {
+            player,
+            payoff,
+            best,
+            reply,
+        } => Ok(better_strategy(alloc, player, payoff, best, reply)?),
+        TableVerdict::Range { unfit } => Err(CheckStop::Range {
+            line: number,
+            unfit,
+        }),
+    }
+}
+
+/// The verdicts on the mixed profiles of a table whose lines these are: for each line
+/// `equilibrium`, or with commas between them `better`, the first player with a better strategy,
+/// what the profile pays the player, what the best strategy pays, and the first such strategy.
+/// Players and strategies count from 1.
+///
+/// # Errors
+///
+/// At the first line where there is a reason: `BadLine` where it does not have the entries of a
+/// mixed profile, `Range` where a step of arithmetic does not fit. `TooLarge` where all lines have
+/// verdicts, of more than 67,108,864 bytes; `Memory` where memory ran out.
+pub fn check_table_lines(alloc: Global, table: &Table, text: &[u8]) -> Result<Vec<u8>, CheckStop>
+    ensures { Gives stops.Memory (table_check table.now text.now)
+        (map_ok result (λ text. text.items)) }
+{
+    let mut verdicts = Vec::new(alloc);
+    let mut rest = text;
+    let mut number = 1;
+    while let Some((line, following)) = first_line(rest) {
+        let verdict = table_line(alloc, table, number, line)?;
+        keep(&mut verdicts, &verdict)?;
+        rest = following;
+        number += 1;
+    }
+    within_limit(verdicts)
+}
+
+/// A table and a text have one answer.
+pub fn table_checks_are_single()
+    ensures { TableChecksAreSingle }
+{
+    profiles_are_single();
+}

@@ -1,0 +1,86 @@
+// The texts of verdicts.
+ghost use Rattle.std.specs.Prelude.{◌≡◌, ◌<◌, ◌^◌, ◌++◌, [], ◌∷◌, length, IfOk, OnOk};
+ghost use Rattle.std.specs.List.{flat_map};
+ghost use Rattle.ne_checker.specs.TreeScratches.{reply_of};
+ghost use Rattle.ne_checker.specs.Texts.{better_start, better_text, choice_text, equilibrium_text};
+
+use crate::Scratch;
+use frac128::{Frac, Memory};
+use ne_printer::fraction_text;
+use std::alloc::Global;
+
+/// The text of an equilibrium.
+pub(crate) fn equilibrium(alloc: Global) -> Result<Vec<u8>, Memory>
+    ensures { IfOk result (λ text. text.items ≡ equilibrium_text) }
+{
+    Ok(b"equilibrium\n".to_vec(alloc)?)
+}
+
+// The text of a better reply, up to the reply.
+fn better_start(alloc: Global, player: u32, payoff: Frac, best: Frac) -> Result<Vec<u8>, Memory>
+    ensures { IfOk result (λ text. text.items ≡ better_start player payoff best) }
+{
+    let number = u64::from(player) + 1;
+    let payoff = fraction_text(alloc, payoff)?;
+    let best = fraction_text(alloc, best)?;
+    let text = format!(in alloc; "better,{number},{payoff},{best}")?;
+    Ok(text.into_bytes())
+}
+
+// Adds a strategy or an action.
+fn push_choice(alloc: Global, text: &mut Vec<u8>, choice: u32) -> Result<(), Memory>
+    ensures { OnOk result (text.new.items ≡ text.old.items ++ choice_text choice) }
+{
+    let number = u64::from(choice) + 1;
+    let written = format!(in alloc; ",{number}")?;
+    text.extend_from_slice(written.as_bytes())?;
+    Ok(())
+}
+
+// Adds the actions of the reply that a check found.
+fn push_reply(alloc: Global, text: &mut Vec<u8>, scratch: &Scratch) -> Result<(), Memory>
+    requires { length (reply_of scratch.now) < 2 ^ 32 }
+    ensures { OnOk result (text.new.items
+        ≡ text.old.items ++ flat_map choice_text (reply_of scratch.now)) }
+{
+    let mut place = 0;
+    while let Some(action) = scratch.reply(place) {
+        push_choice(alloc, text, action)?;
+        place += 1;
+    }
+    Ok(())
+}
+
+/// The text of a better strategy of a player.
+pub(crate) fn better_strategy(
+    alloc: Global,
+    player: u32,
+    payoff: Frac,
+    best: Frac,
+    strategy: u32,
+) -> Result<Vec<u8>, Memory>
+    ensures { IfOk result (λ text. text.items ≡ better_text player payoff best (strategy ∷ [])) }
+{
+    let mut text = better_start(alloc, player, payoff, best)?;
+    push_choice(alloc, &mut text, strategy)?;
+    text.push(b'\n')?;
+    Ok(text)
+}
+
+/// The text of a better reply of a player, which a check found.
+pub(crate) fn better_reply(
+    alloc: Global,
+    player: u32,
+    payoff: Frac,
+    best: Frac,
+    scratch: &Scratch,
+) -> Result<Vec<u8>, Memory>
+    requires { length (reply_of scratch.now) < 2 ^ 32 }
+    ensures { IfOk result (λ text. text.items
+        ≡ better_text player payoff best (reply_of scratch.now)) }
+{
+    let mut text = better_start(alloc, player, payoff, best)?;
+    push_reply(alloc, &mut text, scratch)?;
+    text.push(b'\n')?;
+    Ok(text)
+}

@@ -1,0 +1,100 @@
+// The check of lines with behaviour on a tree.
+ghost use Rattle.answers.specs.Answers.{Gives, map_ok};
+ghost use Rattle.game_core.specs.TreeGame.{game_of_tree};
+ghost use Rattle.perfect_recall.specs.Found.{IsRecallOf};
+ghost use Rattle.ne_checker.specs.TreeScratches.{IsScratchOf};
+ghost use Rattle.ne_checker.specs.LineChecks.{TreeChecksAreSingle, tree_check, tree_line};
+ghost use Rattle.ne_checker.specs.declared.stops.CheckStop.TheVariants as stops;
+
+use crate::line_parts::{first_line, keep, within_limit};
+use crate::stops::{CheckStop, faulty, unread};
+use crate::texts::{better_reply, equilibrium};
+use crate::{Scratch, TreeVerdict, check_tree, tree_verdicts_are_single};
+use behaviour_profile::{Behaviour, profiles_are_single, tested_entries_are_behaviours};
+use game_core::tree_parts::stands_for_game_tree;
+use game_core::{Tree, trees_are_game_trees};
+use ne_printer::read_line;
+use perfect_recall::Recall;
+use std::alloc::Global;
+
+// The text of the verdict on a line.
+fn tree_line(
+    alloc: Global,
+    tree: &Tree,
+    recall: &Recall,
+    scratch: &mut Scratch,
+    number: u64,
+    line: &[u8],
+) -> Result<Vec<u8>, CheckStop>
+    requires recall { IsRecallOf (game_of_tree tree.now) recall.now }
+    requires scratch { IsScratchOf tree.now scratch.old }
+    ensures scratch { IsScratchOf tree.now scratch.new }
+    ensures text { Gives stops.Memory (tree_line tree.now number line.now)
+        (map_ok result (λ text. text.items)) }
+{
+    stands_for_game_tree(tree);
+    tested_entries_are_behaviours();
+    let entries = match read_line(alloc, line) {
+        Ok(entries) => entries,
+        Err(stop) => return Err(unread(number, stop)),
+    };
+    let behaviour = match Behaviour::try_new(tree, entries) {
+        Ok(behaviour) => behaviour,
+        Err(fault) => return Err(faulty(number, fault)),
+    };
+    match check_tree(tree, recall, &behaviour, scratch) {
+        TreeVerdict::Equilibrium => Ok(equilibrium(alloc)?),
+        TreeVerdict::Better {
+            player,
+            payoff,
+            best,
+        } => Ok(better_reply(alloc, player, payoff, best, scratch)?),
+        TreeVerdict::Range { unfit } => Err(CheckStop::Range {
+            line: number,
+            unfit,
+        }),
+    }
+}
+
+/// The verdicts on the behaviour on a tree whose lines these are: for each line `equilibrium`, or
+/// with commas between them `better`, the first player with a better reply, what the behaviour pays
+/// the player, what the best reply pays, and its action at each of the player's sets in order.
+/// Players and actions count from 1.
+///
+/// # Errors
+///
+/// At the first line where there is a reason: `BadLine` where it does not have the entries of
+/// behaviour, `Range` where a step of arithmetic does not fit. `TooLarge` where all lines have
+/// verdicts, of more than 67,108,864 bytes; `Memory` where memory ran out.
+pub fn check_tree_lines(
+    alloc: Global,
+    tree: &Tree,
+    recall: &Recall,
+    text: &[u8],
+) -> Result<Vec<u8>, CheckStop>
+    requires { IsRecallOf (game_of_tree tree.now) recall.now }
+    ensures { Gives stops.Memory (tree_check tree.now text.now)
+        (map_ok result (λ text. text.items)) }
+{
+    let mut scratch = Scratch::new(alloc, tree)?;
+    let mut verdicts = Vec::new(alloc);
+    let mut rest = text;
+    let mut number = 1;
+    while let Some((line, following)) = first_line(rest) {
+        let verdict = tree_line(alloc, tree, recall, &mut scratch, number, line)?;
+        keep(&mut verdicts, &verdict)?;
+        rest = following;
+        number += 1;
+    }
+    within_limit(verdicts)
+}
+
+/// A tree in which all players recall and a text have one answer.
+pub fn tree_checks_are_single()
+    ensures { TreeChecksAreSingle }
+{
+    trees_are_game_trees();
+    profiles_are_single();
+    tested_entries_are_behaviours();
+    tree_verdicts_are_single();
+}

@@ -1,0 +1,5 @@
+pub mod FaultKinds
+pub mod TreeFaults
+pub mod TreeFile
+pub mod TreeParsing
+pub mod TreeReading

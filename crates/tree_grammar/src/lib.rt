@@ -1,0 +1,34 @@
+//! Which tokens stand for which game tree: the grammar of files of trees, the functions that read
+//! them, and the faults of tokens that are no file.
+//!
+//! Callers may rely on: `files_have_one_tree`; `files_are_read`, in both directions.
+//! Definitions: `specs::TreeFile` has the grammar, `TreeParsing` the reading functions, and
+//! `FaultKinds` the kinds of faults and where they are.
+//! Private words: `specs::TreeReading` and `TreeFaults`, the nodes as they are read one by one.
+//! Lemmas for callers: `proofs::Whole`, that what is read is a file; `NodePoints` on faults.
+//! A change here touches: `efg_reader`, which reads such files, and what `refusals` says of faults.
+#![tactic(auto)]
+
+ghost use Rattle.std.specs.Prelude.{◌≡◌, ◌<◌, ◌^◌, List, length, Ok};
+ghost use Rattle.game_core.specs.Tree.{GameTree};
+ghost use Rattle.game_core.specs.declared.token.Token.{Token as token};
+ghost use Rattle.tree_grammar.specs.TreeFile.{IsTreeFile};
+ghost use Rattle.tree_grammar.specs.TreeParsing.{parse_tree};
+
+mod kinds;
+
+pub use kinds::EfgKind;
+
+/// The tokens of a file stand for one tree at most.
+pub fn files_have_one_tree()
+    ensures { (tokens : List token) (one other : GameTree) → IsTreeFile tokens one
+        → IsTreeFile tokens other → one ≡ other }
+{}
+
+/// A tree is read exactly where the tokens are a file of it.
+pub fn files_are_read()
+    ensures sound { (tokens : List token) (tree : GameTree) → length tokens < 2 ^ 32
+        → parse_tree tokens ≡ Ok tree → IsTreeFile tokens tree }
+    ensures complete { (tokens : List token) (tree : GameTree) → IsTreeFile tokens tree
+        → parse_tree tokens ≡ Ok tree }
+{}
