@@ -1,9 +1,12 @@
 //! Worked rows of `check` and `convert`, as tests over `gambit_tools::run`, what the other tools
-//! print, read back, and `enummixed` on large tables. The program calls nothing here.
+//! print, read back, `enumpure` on games cut off, and `enummixed` on large tables. The program calls
+//! nothing here.
 #![tactic(auto)]
 
 #[cfg(test)]
 mod case;
+#[cfg(test)]
+mod cuts;
 #[cfg(test)]
 mod failing;
 #[cfg(test)]

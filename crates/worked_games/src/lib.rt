@@ -5,8 +5,6 @@
 #[cfg(test)]
 mod case;
 #[cfg(test)]
-mod cuts;
-#[cfg(test)]
 mod faults;
 #[cfg(test)]
 mod pure_equilibria;

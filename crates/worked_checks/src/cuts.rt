@@ -1,8 +1,6 @@
 // Games that are cut off.
-use crate::case::owned;
+use crate::case::Case;
 use answers::Memory;
-use gambit_tools::run;
-use game_core::{MemInputs, MemSink, OpenGate};
 use std::alloc::Global;
 use std::thread::Threads;
 
@@ -19,15 +17,10 @@ fn folded(digest: u64, bytes: &[u8]) -> u64 {
 fn with_answer<R: Threads + Sync>(
     rt: &R,
     alloc: Global,
-    words: &[String],
     game: &[u8],
     digest: u64,
 ) -> Result<u64, Memory> {
-    let game = Vec::from_slice(alloc, game)?;
-    let mut inputs = MemInputs::new(game, Vec::new(alloc), Vec::new(alloc));
-    let mut out = MemSink::new(alloc, 1000, 1000, false)?;
-    let mut err = MemSink::new(alloc, 1000, 1000, false)?;
-    let status = run(rt, alloc, words, &mut inputs, &mut out, &mut err, &OpenGate);
+    let (status, out, err) = Case::of("enumpure", "").ends(rt, alloc, game)?;
     let digest = folded(digest, &[status]);
     let digest = folded(digest, out.taken());
     Ok(folded(digest, err.taken()))
@@ -83,12 +76,11 @@ fn cut_games_are_told(rt: HostRuntime) -> Result<(), Memory> {
             0xad9a_2aea_e204_bfdd,
         ),
     ];
-    let words = owned(rt.alloc(), "enumpure")?;
     for (game, wanted) in rows {
         let bytes = game.as_bytes();
         let mut digest = 0xcbf2_9ce4_8422_2325;
         for length in 0..bytes.len() + 1 {
-            digest = with_answer(&rt, rt.alloc(), &words, &bytes[..length], digest)?;
+            digest = with_answer(&rt, rt.alloc(), &bytes[..length], digest)?;
         }
         assert!(rt; digest == wanted);
     }
