@@ -13,7 +13,6 @@ ghost use Rattle.basis_enum.specs.Walks.{AddsVertices};
 use crate::marking::add_vertex;
 use crate::moves::{Found, Move, found_from};
 use crate::vertex::Vertex;
-use crate::work::sharers;
 use answers::Memory;
 use claims::{Claims, shared_map};
 use frac128::Unfit;
@@ -167,9 +166,10 @@ fn add_reached(
     add_vertex(vertices, reached.found.vertex)
 }
 
-// The tableaux of the next level and the pivots from there, piece by piece on this thread.
+/// The tableaux of the next level and the pivots from there to new bases, in no stated order, piece
+/// by piece on this thread. The vertices of the level are added.
 #[tactic(auto, using(crate::proofs::NextLevel::children_start, crate::proofs::NextLevel::stop_at, crate::proofs::LevelMoves::found_in_start, crate::proofs::Walks::vertices_start))]
-fn make_children<G: Gate, L: Ledger>(
+pub(crate) fn make_children<G: Gate, L: Ledger>(
     alloc: Global,
     system: &System,
     level: &[Tableau],
@@ -205,9 +205,9 @@ fn make_children<G: Gate, L: Ledger>(
     Ok((next, found))
 }
 
-// The tableaux of the next level and the pivots from there, whose pieces so many workers share.
+/// The same by pieces that so many workers share.
 #[tactic(auto, using(crate::proofs::NextLevel::children_start, crate::proofs::NextLevel::stop_at, crate::proofs::LevelMoves::found_in_start, crate::proofs::Walks::vertices_start))]
-fn share_children<R: Threads + Sync, G: Gate, L: Ledger>(
+pub(crate) fn share_children<R: Threads + Sync, G: Gate, L: Ledger>(
     rt: &R,
     alloc: Global,
     system: &System,
@@ -270,42 +270,4 @@ fn share_children<R: Threads + Sync, G: Gate, L: Ledger>(
         add_reached(piece?, &mut next, &mut found, vertices)?;
     }
     Ok((next, found))
-}
-
-/// The tableaux of the next level, and the pivots from there to new bases, in no stated order. So
-/// many workers share the pieces, where these are many enough. The vertices of the level are added.
-pub(crate) fn children<R: Threads + Sync, G: Gate, L: Ledger>(
-    rt: &R,
-    alloc: Global,
-    system: &System,
-    level: &[Tableau],
-    moves: &[Move],
-    known: &[u128],
-    workers: u32,
-    gate: &G,
-    vertices: &mut Vec<Vertex>,
-    pivots: &mut PivotCount<L>,
-) -> Result<(Vec<Tableau>, Vec<Move>), ChildStop>
-    requires few { variable_count system.now ≤ 128 }
-    requires level { AreReady level.now }
-    requires moves { AreMoves level.now moves.now }
-    requires ready { LeadToReady system.now level.now moves.now }
-    requires known { IsStrictlyIncreasing known.now }
-    requires small { length moves.now < 2 ^ 32 }
-    requires workers { (1 ≤ workers) × (workers ≤ 64) }
-    ensures children { IfOk result
-        (λ p. AreChildren level.now moves.now (length moves.now) p.0.items) }
-    ensures found { IfOk result (λ p. AreFoundIn p.0.items known.now p.1.items) }
-    ensures vertices { IfOk result
-        (λ p. AddsVertices system.now p.0.items vertices.old.items vertices.new.items) }
-    ensures stop { IfErr result (IsChildStop level.now moves.now) }
-    ensures counted { OnOk result (pivots.new ≡ pivots.old + length moves.now) }
-    ensures bounded { pivots.new ≤ pivots.old + length moves.now }
-{
-    match sharers(moves.len(), workers) {
-        1 => make_children(alloc, system, level, moves, known, gate, vertices, pivots),
-        sharers => share_children(
-            rt, alloc, system, level, moves, known, sharers, gate, vertices, pivots,
-        ),
-    }
 }

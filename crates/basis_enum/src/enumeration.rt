@@ -6,6 +6,7 @@ ghost use Rattle.basis_enum.specs.declared.stop.EnumStop.TheVariants as stops;
 ghost use Rattle.basis_enum.specs.Enumeration.{vertices_in};
 ghost use Rattle.basis_enum.specs.Vertices.{list_of};
 
+use crate::helpers::Helpers;
 use crate::marking::in_order;
 use crate::stop::EnumStop;
 use crate::vertex::Vertices;
@@ -45,7 +46,26 @@ pub fn enumerate<R: Threads + Sync, G: Gate, L: Ledger>(
     ensures few { IfOk result (λ v. v.bases ≤ 20000) }
     ensures bounded { pivots.new ≤ pivots.old + 19999 }
 {
-    match reach(rt, alloc, system, workers, gate, pivots) {
+    enumerate_with(rt, alloc, system, &Helpers::new(workers - 1), gate, pivots)
+}
+
+/// The vertices of a system, as `enumerate` gives them. Each level takes of the helpers those that
+/// are idle when it begins, as far as its pieces are worth them, and adds them again.
+pub fn enumerate_with<R: Threads + Sync, G: Gate, L: Ledger>(
+    rt: &R,
+    alloc: Global,
+    system: &System,
+    helpers: &Helpers,
+    gate: &G,
+    pivots: &mut PivotCount<L>,
+) -> Result<Vertices, EnumStop>
+    requires enumerable { IsEnumerable system.now }
+    ensures vertices { Gives stops.Memory (vertices_in system.now) (map_ok result list_of) }
+    ensures counted { IfOk result (λ v. pivots.new + 1 ≡ pivots.old + v.bases) }
+    ensures few { IfOk result (λ v. v.bases ≤ 20000) }
+    ensures bounded { pivots.new ≤ pivots.old + 19999 }
+{
+    match reach(rt, alloc, system, helpers, gate, pivots) {
         Ok(walk) => Ok(Vertices {
             bases: walk.known.len() as u64,
             list: in_order(walk.vertices),

@@ -16,14 +16,15 @@ ghost use Rattle.basis_enum.specs.Laws.{EndsOnce, NumbersOrderBases, CompleteLev
 mod bases;
 mod children;
 mod enumeration;
+mod helpers;
 mod marking;
 mod moves;
 mod stop;
 mod vertex;
 mod walk;
-mod work;
 
-pub use enumeration::enumerate;
+pub use enumeration::{enumerate, enumerate_with};
+pub use helpers::Helpers;
 pub use stop::{Basis, EnumStop};
 pub use vertex::{Vertex, Vertices};
 

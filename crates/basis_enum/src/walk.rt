@@ -10,7 +10,8 @@ ghost use Rattle.basis_enum.specs.Next.{AreNewMoves};
 ghost use Rattle.basis_enum.specs.Walks.{AddsVertices, HaveEntering, IsFirst, IsLimitStop, IsMoveStop, IsWalkAt, IsWalkToEnd};
 
 use crate::bases::{basis, merged};
-use crate::children::{ChildStop, children};
+use crate::children::{ChildStop, make_children, share_children};
+use crate::helpers::{Helpers, helpers_worth};
 use crate::marking::add_vertex;
 use crate::moves::{Move, found_from, next_moves, targets};
 use crate::stop::{Basis, EnumStop};
@@ -118,8 +119,8 @@ fn refusal(
     }
 }
 
-// The tableaux of the level after this one, and the pivots from there to new bases. The vertices of
-// that level are added.
+// The tableaux of the level after this one, and the pivots from there to new bases, with the helpers
+// that are idle. The vertices of that level are added.
 fn next_level<R: Threads + Sync, G: Gate, L: Ledger>(
     rt: &R,
     alloc: Global,
@@ -128,7 +129,7 @@ fn next_level<R: Threads + Sync, G: Gate, L: Ledger>(
     moves: &[Move],
     known: &[u128],
     number: u32,
-    workers: u32,
+    helpers: &Helpers,
     gate: &G,
     vertices: &mut Vec<Vertex>,
     pivots: &mut PivotCount<L>,
@@ -140,7 +141,6 @@ fn next_level<R: Threads + Sync, G: Gate, L: Ledger>(
     requires ready { LeadToReady system.now level.now moves.now }
     requires known { IsStrictlyIncreasing known.now }
     requires small { length moves.now < 2 ^ 32 }
-    requires workers { (1 ≤ workers) × (workers ≤ 64) }
     ensures children { IfOk result
         (λ p. AreChildren level.now moves.now (length moves.now) p.0.items) }
     ensures found { IfOk result (λ p. AreFoundIn p.0.items known.now p.1.items) }
@@ -150,9 +150,17 @@ fn next_level<R: Threads + Sync, G: Gate, L: Ledger>(
     ensures counted { OnOk result (pivots.new ≡ pivots.old + length moves.now) }
     ensures bounded { pivots.new ≤ pivots.old + length moves.now }
 {
-    match children(
-        rt, alloc, system, level, moves, known, workers, gate, vertices, pivots,
-    ) {
+    let taken = helpers.take(helpers_worth(moves.len()));
+    let next = if taken == 0 {
+        make_children(alloc, system, level, moves, known, gate, vertices, pivots)
+    } else {
+        let workers = taken + 1;
+        share_children(
+            rt, alloc, system, level, moves, known, workers, gate, vertices, pivots,
+        )
+    };
+    helpers.add(taken);
+    match next {
         Ok(next) => Ok(next),
         Err(stop) => Err(refusal(alloc, level, moves, number, stop)),
     }
@@ -183,7 +191,7 @@ fn advance<R: Threads + Sync, G: Gate, L: Ledger>(
     walk: &mut Walk,
     moves: &[Move],
     number: u32,
-    workers: u32,
+    helpers: &Helpers,
     gate: &G,
     pivots: &mut PivotCount<L>,
 ) -> Result<Vec<Move>, EnumStop>
@@ -191,7 +199,6 @@ fn advance<R: Threads + Sync, G: Gate, L: Ledger>(
     requires walk { IsWalkAt system.now number walk.old }
     requires moves { AreNewMoves walk.old.level.items walk.old.known.items moves.now }
     requires some { 0 < length moves.now }
-    requires workers { (1 ≤ workers) × (workers ≤ 64) }
     ensures walk { OnOk result (IsWalkAt system.now (number + 1) walk.new) }
     ensures moves { IfOk result
         (λ v. AreNewMoves walk.new.level.items walk.new.known.items v.items) }
@@ -211,7 +218,7 @@ fn advance<R: Threads + Sync, G: Gate, L: Ledger>(
         moves,
         known.as_slice(),
         number,
-        workers,
+        helpers,
         gate,
         &mut walk.vertices,
         pivots,
@@ -226,12 +233,11 @@ pub(crate) fn reach<R: Threads + Sync, G: Gate, L: Ledger>(
     rt: &R,
     alloc: Global,
     system: &System,
-    workers: u32,
+    helpers: &Helpers,
     gate: &G,
     pivots: &mut PivotCount<L>,
 ) -> Result<Walk, EnumStop>
     requires enumerable { IsEnumerable system.now }
-    requires workers { (1 ≤ workers) × (workers ≤ 64) }
     ensures walk { IfOk result (IsWalkToEnd system.now) }
     ensures stop { IfErr result (IsEnumStop system.now) }
     ensures counted { IfOk result (λ w. pivots.new + 1 ≡ pivots.old + length w.known.items) }
@@ -249,7 +255,7 @@ pub(crate) fn reach<R: Threads + Sync, G: Gate, L: Ledger>(
             &mut walk,
             moves.as_slice(),
             number,
-            workers,
+            helpers,
             gate,
             pivots,
         )?;

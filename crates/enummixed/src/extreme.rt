@@ -17,7 +17,7 @@ ghost use Rattle.enummixed.specs.declared.stop.MixedStop.TheVariants as stops;
 
 use crate::points::{all_labels, scaled_points, used_places};
 use crate::stop::MixedStop;
-use basis_enum::{EnumStop, Vertex, Vertices, enumerate};
+use basis_enum::{EnumStop, Helpers, Vertex, Vertices, enumerate_with};
 use frac128::{Frac, Memory};
 use game_core::Table;
 use label_pairing::pairs;
@@ -46,7 +46,7 @@ pub struct ExtremePairs {
     pub seconds: Vec<Vec<Frac>>,
 }
 
-// The fewest workers that are worth a group for each polytope.
+// The fewest workers by whom both polytopes are enumerated at once.
 const SIDE_BY_SIDE: u32 = 4;
 
 // The vertices of a system. The steps are counted on a blank, and the count is not used.
@@ -54,18 +54,17 @@ fn enumerated<R: Threads + Sync, G: Gate, L: Ledger>(
     rt: &R,
     alloc: Global,
     system: &System,
-    workers: u32,
+    helpers: &Helpers,
     gate: &G,
     blank: Blank,
 ) -> Result<Vertices, EnumStop>
     requires enumerable { IsEnumerable system.now }
-    requires workers { (1 ≤ workers) × (workers ≤ 64) }
     requires blank { (L.parts ≡ blank.parts) × (L.name ≡ blank.name) × (0 < blank.parts) }
     ensures vertices { Gives enum_stops.Memory (vertices_in system.now) (map_ok result list_of) }
     ensures few { IfOk result (λ v. v.bases ≤ 20000) }
 {
     let mut pivots = PivotCount::<L>::new(blank);
-    enumerate(rt, alloc, system, workers, gate, &mut pivots)
+    enumerate_with(rt, alloc, system, helpers, gate, &mut pivots)
 }
 
 // The vertices of a polytope, by its system.
@@ -74,20 +73,39 @@ fn vertices_of<R: Threads + Sync, G: Gate>(
     alloc: Global,
     polytope: u32,
     system: &System,
-    workers: u32,
+    helpers: &Helpers,
     gate: &G,
 ) -> Result<Vertices, MixedStop>
     requires enumerable { IsEnumerable system.now }
-    requires workers { (1 ≤ workers) × (workers ≤ 64) }
     ensures vertices { Gives stops.Memory
         (refused_by (enumeration_stop polytope) (vertices_in system.now))
         (map_ok result list_of) }
     ensures few { IfOk result (λ v. v.bases ≤ 20000) }
 {
-    match enumerated::<R, G, Brand>(rt, alloc, system, workers, gate, Blank::new(1)) {
+    match enumerated::<R, G, Brand>(rt, alloc, system, helpers, gate, Blank::new(1)) {
         Ok(vertices) => Ok(vertices),
         Err(stop) => Err(MixedStop::of_enumeration(polytope, stop)),
     }
+}
+
+// The same by a worker who is a helper afterwards.
+fn vertices_beside<R: Threads + Sync, G: Gate>(
+    rt: &R,
+    alloc: Global,
+    polytope: u32,
+    system: &System,
+    helpers: &Helpers,
+    gate: &G,
+) -> Result<Vertices, MixedStop>
+    requires enumerable { IsEnumerable system.now }
+    ensures vertices { Gives stops.Memory
+        (refused_by (enumeration_stop polytope) (vertices_in system.now))
+        (map_ok result list_of) }
+    ensures few { IfOk result (λ v. v.bases ≤ 20000) }
+{
+    let vertices = vertices_of(rt, alloc, polytope, system, helpers, gate);
+    helpers.add(1);
+    vertices
 }
 
 // The vertices of the first polytope, and then of the second.
@@ -96,57 +114,51 @@ fn one_by_one<R: Threads + Sync, G: Gate>(
     alloc: Global,
     one: &System,
     two: &System,
-    workers: u32,
+    helpers: &Helpers,
     gate: &G,
 ) -> Result<(Vertices, Vertices), MixedStop>
     requires one { IsEnumerable one.now }
     requires two { IsEnumerable two.now }
-    requires workers { (1 ≤ workers) × (workers ≤ 64) }
     ensures vertices { Gives stops.Memory (both_vertices_in one.now two.now)
         (map_ok result both_lists_of) }
     ensures few { IfOk result (λ both. (both.0.bases ≤ 20000) × (both.1.bases ≤ 20000)) }
 {
-    let first = vertices_of(rt, alloc, 0, one, workers, gate)?;
-    let second = vertices_of(rt, alloc, 1, two, workers, gate)?;
+    let first = vertices_of(rt, alloc, 0, one, helpers, gate)?;
+    let second = vertices_of(rt, alloc, 1, two, helpers, gate)?;
     Ok((first, second))
 }
 
-// The vertices of both polytopes at once, each by half of the workers.
+// The vertices of both polytopes at once, each by a worker who takes helpers where these are idle.
 fn side_by_side<R: Threads + Sync, G: Gate>(
     rt: &R,
     alloc: Global,
     one: &System,
     two: &System,
-    workers: u32,
+    helpers: &Helpers,
     gate: &G,
 ) -> Result<(Vertices, Vertices), MixedStop>
     requires one { IsEnumerable one.now }
     requires two { IsEnumerable two.now }
-    requires workers { (2 ≤ workers) × (workers ≤ 64) }
     ensures vertices { Gives stops.Memory (both_vertices_in one.now two.now)
         (map_ok result both_lists_of) }
     ensures few { IfOk result (λ both. (both.0.bases ≤ 20000) × (both.1.bases ≤ 20000)) }
 {
-    let theirs = workers / 2;
-    let ours = workers - theirs;
     let (first, second) = join(
         rt,
         || -> Result<Vertices, MixedStop>
             requires one { IsEnumerable one.now }
-            requires workers { (1 ≤ ours) × (ours ≤ 64) }
             ensures vertices { Gives stops.Memory
                 (refused_by (enumeration_stop 0) (vertices_in one.entry.now))
                 (map_ok result list_of) }
             ensures few { IfOk result (λ v. v.bases ≤ 20000) }
-        { vertices_of(rt, alloc, 0, one, ours, gate) },
+        { vertices_beside(rt, alloc, 0, one, helpers, gate) },
         || -> Result<Vertices, MixedStop>
             requires two { IsEnumerable two.now }
-            requires workers { (1 ≤ theirs) × (theirs ≤ 64) }
             ensures vertices { Gives stops.Memory
                 (refused_by (enumeration_stop 1) (vertices_in two.entry.now))
                 (map_ok result list_of) }
             ensures few { IfOk result (λ v. v.bases ≤ 20000) }
-        { vertices_of(rt, alloc, 1, two, theirs, gate) },
+        { vertices_beside(rt, alloc, 1, two, helpers, gate) },
     );
     Ok((first?, second?))
 }
@@ -162,15 +174,15 @@ fn both_vertices<R: Threads + Sync, G: Gate>(
 ) -> Result<(Vertices, Vertices), MixedStop>
     requires one { IsEnumerable one.now }
     requires two { IsEnumerable two.now }
-    requires workers { (1 ≤ workers) × (workers ≤ 64) }
+    requires workers { 1 ≤ workers }
     ensures vertices { Gives stops.Memory (both_vertices_in one.now two.now)
         (map_ok result both_lists_of) }
     ensures few { IfOk result (λ both. (both.0.bases ≤ 20000) × (both.1.bases ≤ 20000)) }
 {
     if workers < SIDE_BY_SIDE {
-        one_by_one(rt, alloc, one, two, workers, gate)
+        one_by_one(rt, alloc, one, two, &Helpers::new(workers - 1), gate)
     } else {
-        side_by_side(rt, alloc, one, two, workers, gate)
+        side_by_side(rt, alloc, one, two, &Helpers::new(workers - 2), gate)
     }
 }
 

@@ -60,15 +60,17 @@ impl Gate for HoldingGate {
     }
 }
 
-// Whether a run writes these lines, passes a gate twelve times and two of its workers run at once.
+// Whether a run writes these lines, passes a gate twelve times and two of its workers run at once, where this pass of piece 0
+// is held.
 fn shares_work<R: Threads + Sync>(
     rt: &R,
     alloc: Global,
+    held: u64,
     words: &str,
     input: &str,
     lines: &str,
 ) -> Result<bool, Stop> {
-    let gate = HoldingGate::new(1);
+    let gate = HoldingGate::new(held);
     let case = Case::of(words, input);
     let passes = case.passes(rt, alloc, lines.as_bytes(), &gate)?;
     Ok(passes && gate.passes.load(Ordering::SeqCst) == 12 && !gate.gave_up())
@@ -103,25 +105,34 @@ fn workers_share_a_level(rt: HostRuntime) -> Result<(), Stop> {
     Ok(())
 }
 
-/// Both tools hand their workers on. Each of the seven bases is passed once for its moves, and each of the five that are not
-/// the first of their polytope once for its tableau.
+/// Both tools hand their workers on, and four workers enumerate both polytopes at once: while one holds the first basis, the other
+/// polytope goes on. Each of the seven bases is passed once for its moves, and each of the five that are not the first of their
+/// polytope once for its tableau.
 #[test]
 fn workers_of_both_tools(rt: HostRuntime) -> Result<(), Stop> {
     let rows = [
         (
+            1,
             "make -j 2 1 2 2",
             "",
             "bases 4 3\nvertices 3 2\nequilibria 1\n",
         ),
         (
+            0,
+            "make -j 4 1 2 2",
+            "",
+            "bases 4 3\nvertices 3 2\nequilibria 1\n",
+        ),
+        (
+            1,
             "enummixed -D -j 2",
             "NFG 1 R \"\" { \"A\" \"B\" } { 2 2 } 8 8 3 5 1 7 0 9",
             "NE,1,0,1,0\n",
         ),
     ];
-    for (words, input, lines) in rows {
+    for (held, words, input, lines) in rows {
         assert!(rt;
-            shares_work(&rt, rt.alloc(), words, input, lines)?,
+            shares_work(&rt, rt.alloc(), held, words, input, lines)?,
             "{words}"
         );
     }

@@ -1,5 +1,5 @@
-//! Fractions, numbers, tokens, lines, small tables, command lines, choice lists and pairs of
-//! vertices, as tests over their crates. Nothing here is called by the program.
+//! Fractions, numbers, tokens, lines, small tables, command lines, choice lists, pairs of vertices
+//! and idle workers, as tests over their crates. Nothing here is called by the program.
 #![tactic(auto)]
 
 #[cfg(test)]
@@ -10,6 +10,8 @@ mod choices;
 mod command_lines;
 #[cfg(test)]
 mod fractions;
+#[cfg(test)]
+mod helpers;
 #[cfg(test)]
 mod lines;
 #[cfg(test)]

@@ -1,7 +1,7 @@
 use Rattle.std.proofs.Common.{◌∙◌}
 use Rattle.basis_enum.specs.Vertices.{list_of}
 use Rattle.basis_enum.proofs.Walks.{walk_vertices}
-use Rattle.basis_enum.proofs.enumeration.enumerate.Goals as goal
+use Rattle.basis_enum.proofs.enumeration.enumerate_with.Goals as goal
 
 pub returns-in-Ok-clause-vertices : goal.returns-in-Ok-clause-vertices
 returns-in-Ok-clause-vertices g c =
