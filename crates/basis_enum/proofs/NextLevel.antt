@@ -13,7 +13,10 @@ use Rattle.basis_enum.specs.declared.children.ChildStop.{ChildStop}
 use Rattle.basis_enum.specs.declared.children.ChildStop.TheVariants as stops
 use Rattle.basis_enum.specs.declared.moves.Move.{Move}
 use Rattle.basis_enum.specs.Next.{no_move, move_of}
-use Rattle.basis_enum.specs.Children.{AreChildren, IsChildStop, IsChildStopAt}
+use Rattle.basis_enum.specs.declared.children.Made.{Made}
+use Rattle.basis_enum.specs.Found.{AreFound, AreFoundIn}
+use Rattle.basis_enum.proofs.LevelMoves.{found_in_start, found_in_new}
+use Rattle.basis_enum.specs.Children.{AreChildren, IsChildStop, IsChildStopAt, IsMadeFrom}
 
 pub children_start : (level : List Numbers) (moves : List Move) → AreChildren level moves 0 []
 children_start level moves = record { within = omega arith; size = refl; each = λ i h. absurd (omega arith) }
@@ -48,6 +51,24 @@ first_unfit level moves n next unfit w c h =
 pub stop_at : (level : List Numbers) (moves : List Move) (n : ℕ) (next : List Numbers) (stop : ChildStop) → n < length moves → AreChildren level moves n next → IsChildStopAt level moves n stop → IsChildStop level moves stop
 stop_at level moves n next (stops.Unfit place unfit) w c h = subst (λ p. IsFirstUnfitMove level (map move_of moves) p unfit) (sym h.0) (first_unfit level moves n next unfit w c h.1)
 stop_at level moves n next stops.Memory w c h = tt
+
+-- nothing is made at first
+pub made_start : (level : List Numbers) (moves : List Move) (known : List ℕ) (made : Made) → made.tableaux.items ≡ [] → made.moves.items ≡ [] → IsMadeFrom level moves known made
+made_start level moves known made none no_moves = record {
+  tableaux = subst (λ xs. AreChildren level moves (length xs) xs) (sym none) (children_start level moves);
+  moves_are = subst₂ (λ xs ms. AreFoundIn xs known ms) (sym none) (sym no_moves) (found_in_start known);
+}
+
+-- the stop of the pivot after those that are made
+pub stop_made : (level : List Numbers) (moves : List Move) (known : List ℕ) (made : Made) (n : ℕ) (stop : ChildStop) → length made.tableaux.items ≡ n → n < length moves → IsMadeFrom level moves known made → IsChildStopAt level moves n stop → IsChildStop level moves stop
+stop_made level moves known made n stop is within m here = stop_at level moves n made.tableaux.items stop within (subst (λ k. AreChildren level moves k made.tableaux.items) is m.tableaux) here
+
+-- one more tableau is made, with its pivots
+pub made_more : (level : List Numbers) (moves : List Move) (known : List ℕ) (old new : Made) (n : ℕ) (t : Numbers) (more : List Move) → length old.tableaux.items ≡ n → n < length moves → new.tableaux.items ≡ old.tableaux.items ++ t ∷ [] → new.moves.items ≡ old.moves.items ++ more → IsMadeFrom level moves known old → IsChild level (move_of (get_or moves n no_move)) t → AreFound t n known (length t.nonbasics) more → IsMadeFrom level moves known new
+made_more level moves known old new n t more is within pushed added m child found = record {
+  tableaux = children_new level moves n _ old.tableaux.items _ t within (ap length pushed ∙ length-append old.tableaux.items (t ∷ []) ∙ ap (λ k. k + 1) is) pushed (subst (λ k. AreChildren level moves k old.tableaux.items) is m.tableaux) child;
+  moves_are = found_in_new old.tableaux.items _ known old.moves.items more _ t n is pushed added m.moves_are found;
+}
 
 -- the children of all next pivots are the next level
 pub next_level : (p : Levels) (moves : List Move) (next : List Numbers) → AreNextMoves p (map move_of moves) → 0 < length moves → count p (map move_of moves) ≤ most → AreChildren p.level moves (length moves) next → IsNextLevel p (record { before = p.before ++ p.level; level = next })

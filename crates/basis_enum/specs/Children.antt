@@ -8,9 +8,10 @@ use Rattle.basis_enum.specs.Levels.{no_tableau, IsMove, IsChild, steps_of}
 use Rattle.basis_enum.specs.Ends.{IsFirstUnfitMove}
 use Rattle.basis_enum.specs.declared.moves.Move.{Move}
 use Rattle.basis_enum.specs.declared.children.ChildStop.{ChildStop}
+use Rattle.basis_enum.specs.declared.children.Made.{Made}
 use Rattle.basis_enum.specs.declared.children.ChildStop.TheVariants.{Unfit, Memory}
 use Rattle.basis_enum.specs.Bases.{basis_of}
-use Rattle.basis_enum.specs.Found.{IsReady}
+use Rattle.basis_enum.specs.Found.{AreFoundIn, IsReady}
 use Rattle.basis_enum.specs.Marks.{AreUpTo}
 use Rattle.basis_enum.specs.Next.{no_move, move_of}
 use Rattle.basis_enum.specs.Systems.{variable_count}
@@ -26,6 +27,12 @@ pub record AreChildren (level : List Numbers) (moves : List Move) (n : ℕ) (nex
   pub size : length next ≡ n
   pub each : (i : ℕ) → i < n
       → IsChild level (move_of (get_or moves i no_move)) (get_or next i no_tableau)
+
+-- the tableaux after the first of these pivots, and the pivots from there to new bases
+pub record IsMadeFrom (level : List Numbers) (moves : List Move) (known : List ℕ) (made : Made)
+    : Type 0 where
+  pub tableaux : AreChildren level moves (length made.tableaux.items) made.tableaux.items
+  pub moves_are : AreFoundIn made.tableaux.items known made.moves.items
 
 -- the first step of this pivot that does not fit, or no memory, of which nothing is said
 abbrev pub IsChildStopAt : List Numbers → List Move → ℕ → ChildStop → Type 0

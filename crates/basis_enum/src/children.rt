@@ -3,13 +3,14 @@ ghost use Rattle.std.specs.Prelude.{◌≡◌, ◌<◌, ◌≤◌, ◌+◌, ◌^
 ghost use Rattle.std.specs.List.Sorted.{IsStrictlyIncreasing};
 ghost use Rattle.lex_tableau.specs.PivotStops.{IsPivotStop};
 ghost use Rattle.basis_enum.specs.Levels.{IsChild, IsMove, parent_of};
-ghost use Rattle.basis_enum.specs.Children.{AreChildren, AreMoves, IsChildStop, IsChildStopAt, LeadToReady};
+ghost use Rattle.basis_enum.specs.Children.{AreChildren, AreMoves, IsChildStop, IsChildStopAt, IsMadeFrom, LeadToReady};
 ghost use Rattle.basis_enum.specs.Found.{AreFound, AreFoundIn, AreReady};
 ghost use Rattle.basis_enum.specs.Marks.{IsVertexOf};
 ghost use Rattle.basis_enum.specs.Next.{move_of, no_move};
 ghost use Rattle.basis_enum.specs.Systems.{variable_count};
-ghost use Rattle.basis_enum.specs.Walks.{AddsVertices};
+ghost use Rattle.basis_enum.specs.Walks.{AddsVertices, AddVertices};
 
+use crate::helpers::{Helpers, helpers_worth};
 use crate::marking::add_vertex;
 use crate::moves::{Found, Move, found_from};
 use crate::vertex::Vertex;
@@ -22,6 +23,9 @@ use std::alloc::{AllocError, AllocFailed, Global};
 use std::marker::{Brand, Sync};
 use std::sync::ledger::{Blank, Ledger};
 use std::thread::Threads;
+
+// How many pieces are made on one thread before it looks for helpers again.
+const PIECES_ALONE: usize = 16;
 
 // Why the next level has no tableaux: the place of a pivot with its first step that does not fit,
 // or no memory.
@@ -147,67 +151,87 @@ fn piece<G: Gate>(
     Ok(Reached { tableau, found })
 }
 
+// What is made of the next level so far: its tableaux, in order, and the pivots from there to new
+// bases, in no stated order.
+#[derive(Drop)]
+pub(crate) struct Made {
+    tableaux: Vec<Tableau>,
+    moves: Vec<Move>,
+}
+
 // Adds a tableau, its pivots and its vertex to those of its level.
-fn add_reached(
-    reached: Reached,
-    next: &mut Vec<Tableau>,
-    found: &mut Vec<Move>,
-    vertices: &mut Vec<Vertex>,
-) -> Result<(), Memory>
-    ensures next { OnOk result (next.new.items ≡ next.old.items ++ reached.tableau ∷ []) }
-    ensures found { OnOk result
-        (found.new.items ≡ found.old.items ++ reached.found.moves.items) }
+fn add_reached(reached: Reached, made: &mut Made, vertices: &mut Vec<Vertex>) -> Result<(), Memory>
+    ensures tableaux { OnOk result
+        (made.new.tableaux.items ≡ made.old.tableaux.items ++ reached.tableau ∷ []) }
+    ensures moves { OnOk result
+        (made.new.moves.items ≡ made.old.moves.items ++ reached.found.moves.items) }
     ensures vertices { OnOk result
         (vertices.new.items ≡ vertices.old.items ++ option_to_list reached.found.vertex) }
 {
     let mut reached = reached;
-    next.push(reached.tableau)?;
-    found.append(&mut reached.found.moves)?;
+    made.tableaux.push(reached.tableau)?;
+    made.moves.append(&mut reached.found.moves)?;
     add_vertex(vertices, reached.found.vertex)
 }
 
-/// The tableaux of the next level and the pivots from there to new bases, in no stated order, piece
-/// by piece on this thread. The vertices of the level are added.
-#[tactic(auto, using(crate::proofs::NextLevel::children_start, crate::proofs::NextLevel::stop_at, crate::proofs::LevelMoves::found_in_start, crate::proofs::Walks::vertices_start))]
-pub(crate) fn make_children<G: Gate, L: Ledger>(
+// Makes the next pieces on this thread, so many at most.
+#[tactic(auto, using(crate::proofs::NextLevel::stop_made, crate::proofs::Walks::adding_start))]
+fn make_children<G: Gate, L: Ledger>(
     alloc: Global,
     system: &System,
     level: &[Tableau],
     moves: &[Move],
     known: &[u128],
     gate: &G,
+    made: &mut Made,
     vertices: &mut Vec<Vertex>,
     pivots: &mut PivotCount<L>,
-) -> Result<(Vec<Tableau>, Vec<Move>), ChildStop>
+) -> Result<(), ChildStop>
     requires few { variable_count system.now ≤ 128 }
     requires level { AreReady level.now }
     requires moves { AreMoves level.now moves.now }
     requires ready { LeadToReady system.now level.now moves.now }
     requires known { IsStrictlyIncreasing known.now }
     requires small { length moves.now < 2 ^ 32 }
-    ensures children { IfOk result
-        (λ p. AreChildren level.now moves.now (length moves.now) p.0.items) }
-    ensures found { IfOk result (λ p. AreFoundIn p.0.items known.now p.1.items) }
-    ensures vertices { IfOk result
-        (λ p. AddsVertices system.now p.0.items vertices.old.items vertices.new.items) }
+    requires made { IsMadeFrom level.now moves.now known.now made.old }
+    requires left { length made.old.tableaux.items < length moves.now }
+    ensures made { OnOk result (IsMadeFrom level.now moves.now known.now made.new) }
+    ensures more { OnOk result (length made.old.tableaux.items < length made.new.tableaux.items) }
+    ensures vertices { OnOk result (AddVertices system.now made.old.tableaux.items
+        made.new.tableaux.items vertices.old.items vertices.new.items) }
     ensures stop { IfErr result (IsChildStop level.now moves.now) }
-    ensures counted { OnOk result (pivots.new ≡ pivots.old + length moves.now) }
-    ensures bounded { pivots.new ≤ pivots.old + length moves.now }
+    ensures counted { OnOk result (pivots.new + length made.old.tableaux.items
+        ≡ pivots.old + length made.new.tableaux.items) }
+    ensures bounded { pivots.new + length made.old.tableaux.items
+        ≤ pivots.old + length moves.now }
 {
-    let mut next = Vec::with_capacity(alloc, moves.len())?;
-    let mut found = Vec::new(alloc);
-    for place in 0..moves.len() {
+    let first = made.tableaux.len();
+    let end = moves.len().min(first + PIECES_ALONE);
+    for place in first..end {
         gate.pass(place);
         let reached = piece(alloc, system, level, moves, known, place, gate)?;
         pivots.tick();
-        add_reached(reached, &mut next, &mut found, vertices)?;
+        add_reached(reached, made, vertices)?;
     }
-    Ok((next, found))
+    Ok(())
 }
 
-/// The same by pieces that so many workers share.
-#[tactic(auto, using(crate::proofs::NextLevel::children_start, crate::proofs::NextLevel::stop_at, crate::proofs::LevelMoves::found_in_start, crate::proofs::Walks::vertices_start))]
-pub(crate) fn share_children<R: Threads + Sync, G: Gate, L: Ledger>(
+// A gate whose pieces count from another number on.
+#[derive(Clone, Copy)]
+struct GateFrom<'a, G> {
+    gate: &'a G,
+    first: usize,
+}
+
+impl<G: Gate> Gate for GateFrom<'_, G> {
+    fn pass(&self, piece: usize) {
+        self.gate.pass(self.first.saturating_add(piece));
+    }
+}
+
+// Makes all pieces that are left, which so many workers share.
+#[tactic(auto, using(crate::proofs::NextLevel::stop_made, crate::proofs::Walks::adding_start))]
+fn share_children<R: Threads + Sync, G: Gate, L: Ledger>(
     rt: &R,
     alloc: Global,
     system: &System,
@@ -216,6 +240,118 @@ pub(crate) fn share_children<R: Threads + Sync, G: Gate, L: Ledger>(
     known: &[u128],
     workers: u32,
     gate: &G,
+    made: &mut Made,
+    vertices: &mut Vec<Vertex>,
+    pivots: &mut PivotCount<L>,
+) -> Result<(), ChildStop>
+    requires few { variable_count system.now ≤ 128 }
+    requires level { AreReady level.now }
+    requires moves { AreMoves level.now moves.now }
+    requires ready { LeadToReady system.now level.now moves.now }
+    requires known { IsStrictlyIncreasing known.now }
+    requires small { length moves.now < 2 ^ 32 }
+    requires workers { (1 ≤ workers) × (workers ≤ 64) }
+    requires made { IsMadeFrom level.now moves.now known.now made.old }
+    requires left { length made.old.tableaux.items < length moves.now }
+    ensures made { OnOk result (IsMadeFrom level.now moves.now known.now made.new) }
+    ensures more { OnOk result (length made.old.tableaux.items < length made.new.tableaux.items) }
+    ensures vertices { OnOk result (AddVertices system.now made.old.tableaux.items
+        made.new.tableaux.items vertices.old.items vertices.new.items) }
+    ensures stop { IfErr result (IsChildStop level.now moves.now) }
+    ensures counted { OnOk result (pivots.new + length made.old.tableaux.items
+        ≡ pivots.old + length made.new.tableaux.items) }
+    ensures bounded { pivots.new + length made.old.tableaux.items
+        ≤ pivots.old + length moves.now }
+{
+    let (claims, mut pass) = Claims::new(alloc)?;
+    let first = made.tableaux.len();
+    let count = moves.len() - first;
+    let work = |number: usize| -> Result<Reached, ChildStop>
+        requires few { variable_count system.now ≤ 128 }
+        requires level { AreReady level.now }
+        requires moves { AreMoves level.now moves.now }
+        requires ready { LeadToReady system.now level.now moves.now }
+        requires known { IsStrictlyIncreasing known.now }
+        requires small { length moves.now < 2 ^ 32 }
+        requires place_in { first + number < length moves.now }
+        ensures child { IfOk result (λ r. IsChild level.entry.now
+            (move_of (get_or moves.entry.now (first + number) no_move)) r.tableau) }
+        ensures found { IfOk result (λ r. AreFound r.tableau (first + number) known.entry.now
+            (length r.tableau.nonbasics) r.found.moves.items) }
+        ensures vertex { IfOk result
+            (λ r. IsVertexOf system.entry.now r.tableau r.found.vertex) }
+        ensures stop { IfErr result
+            (IsChildStopAt level.entry.now moves.entry.now (first + number)) }
+    { piece(alloc, system, level, moves, known, first + number, gate) };
+    let gate = GateFrom { gate, first };
+    let pieces = shared_map(rt, alloc, &claims, &mut pass, count, workers, &gate, &work)?;
+    for piece in pieces {
+        pivots.tick();
+        add_reached(piece?, made, vertices)?;
+    }
+    Ok(())
+}
+
+// Makes further pieces: all that are left, where helpers are idle, who share them, and else some.
+fn make_more<R: Threads + Sync, G: Gate, L: Ledger>(
+    rt: &R,
+    alloc: Global,
+    system: &System,
+    level: &[Tableau],
+    moves: &[Move],
+    known: &[u128],
+    helpers: &Helpers,
+    gate: &G,
+    made: &mut Made,
+    vertices: &mut Vec<Vertex>,
+    pivots: &mut PivotCount<L>,
+) -> Result<(), ChildStop>
+    requires few { variable_count system.now ≤ 128 }
+    requires level { AreReady level.now }
+    requires moves { AreMoves level.now moves.now }
+    requires ready { LeadToReady system.now level.now moves.now }
+    requires known { IsStrictlyIncreasing known.now }
+    requires small { length moves.now < 2 ^ 32 }
+    requires made { IsMadeFrom level.now moves.now known.now made.old }
+    requires left { length made.old.tableaux.items < length moves.now }
+    ensures made { OnOk result (IsMadeFrom level.now moves.now known.now made.new) }
+    ensures more { OnOk result (length made.old.tableaux.items < length made.new.tableaux.items) }
+    ensures vertices { OnOk result (AddVertices system.now made.old.tableaux.items
+        made.new.tableaux.items vertices.old.items vertices.new.items) }
+    ensures stop { IfErr result (IsChildStop level.now moves.now) }
+    ensures counted { OnOk result (pivots.new + length made.old.tableaux.items
+        ≡ pivots.old + length made.new.tableaux.items) }
+    ensures bounded { pivots.new + length made.old.tableaux.items
+        ≤ pivots.old + length moves.now }
+{
+    let taken = helpers.take(helpers_worth(moves.len() - made.tableaux.len()));
+    let more = if taken == 0 {
+        make_children(
+            alloc, system, level, moves, known, gate, made, vertices, pivots,
+        )
+    } else {
+        let workers = taken + 1;
+        share_children(
+            rt, alloc, system, level, moves, known, workers, gate, made, vertices, pivots,
+        )
+    };
+    helpers.add(taken);
+    more
+}
+
+/// The tableaux of the next level, and the pivots from there to new bases, in no stated order. The
+/// vertices of the level are added. Helpers share the pieces from the time on at which they are
+/// idle.
+#[tactic(auto, using(crate::proofs::NextLevel::made_start, crate::proofs::Walks::vertices_start))]
+pub(crate) fn children<R: Threads + Sync, G: Gate, L: Ledger>(
+    rt: &R,
+    alloc: Global,
+    system: &System,
+    level: &[Tableau],
+    moves: &[Move],
+    known: &[u128],
+    helpers: &Helpers,
+    gate: &G,
     vertices: &mut Vec<Vertex>,
     pivots: &mut PivotCount<L>,
 ) -> Result<(Vec<Tableau>, Vec<Move>), ChildStop>
@@ -225,7 +361,6 @@ pub(crate) fn share_children<R: Threads + Sync, G: Gate, L: Ledger>(
     requires ready { LeadToReady system.now level.now moves.now }
     requires known { IsStrictlyIncreasing known.now }
     requires small { length moves.now < 2 ^ 32 }
-    requires workers { (1 ≤ workers) × (workers ≤ 64) }
     ensures children { IfOk result
         (λ p. AreChildren level.now moves.now (length moves.now) p.0.items) }
     ensures found { IfOk result (λ p. AreFoundIn p.0.items known.now p.1.items) }
@@ -235,39 +370,14 @@ pub(crate) fn share_children<R: Threads + Sync, G: Gate, L: Ledger>(
     ensures counted { OnOk result (pivots.new ≡ pivots.old + length moves.now) }
     ensures bounded { pivots.new ≤ pivots.old + length moves.now }
 {
-    let (claims, mut pass) = Claims::new(alloc)?;
-    let work = |place: usize| -> Result<Reached, ChildStop>
-        requires few { variable_count system.now ≤ 128 }
-        requires level { AreReady level.now }
-        requires moves { AreMoves level.now moves.now }
-        requires ready { LeadToReady system.now level.now moves.now }
-        requires known { IsStrictlyIncreasing known.now }
-        requires small { length moves.now < 2 ^ 32 }
-        requires place_in { place < length moves.now }
-        ensures child { IfOk result
-            (λ r. IsChild level.entry.now (move_of (get_or moves.entry.now place no_move))
-            r.tableau) }
-        ensures found { IfOk result (λ r. AreFound r.tableau place known.entry.now
-            (length r.tableau.nonbasics) r.found.moves.items) }
-        ensures vertex { IfOk result
-            (λ r. IsVertexOf system.entry.now r.tableau r.found.vertex) }
-        ensures stop { IfErr result (IsChildStopAt level.entry.now moves.entry.now place) }
-    { piece(alloc, system, level, moves, known, place, gate) };
-    let pieces = shared_map(
-        rt,
-        alloc,
-        &claims,
-        &mut pass,
-        moves.len(),
-        workers,
-        gate,
-        &work,
-    )?;
-    let mut next = Vec::with_capacity(alloc, moves.len())?;
-    let mut found = Vec::new(alloc);
-    for piece in pieces {
-        pivots.tick();
-        add_reached(piece?, &mut next, &mut found, vertices)?;
+    let mut made = Made {
+        tableaux: Vec::with_capacity(alloc, moves.len())?,
+        moves: Vec::new(alloc),
+    };
+    while made.tableaux.len() < moves.len() {
+        make_more(
+            rt, alloc, system, level, moves, known, helpers, gate, &mut made, vertices, pivots,
+        )?;
     }
-    Ok((next, found))
+    Ok((made.tableaux, made.moves))
 }

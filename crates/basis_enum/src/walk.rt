@@ -6,12 +6,12 @@ ghost use Rattle.basis_enum.specs.Systems.{IsEnumerable, variable_count};
 ghost use Rattle.basis_enum.specs.Children.{AreChildren, AreMoves, IsChildStop, LeadToReady};
 ghost use Rattle.basis_enum.specs.Enumeration.{IsEnumStop};
 ghost use Rattle.basis_enum.specs.Found.{AreFoundIn, AreReady};
-ghost use Rattle.basis_enum.specs.Next.{AreNewMoves};
+ghost use Rattle.basis_enum.specs.Next.{AreNewMoves, AreSmall, IsNextOf};
 ghost use Rattle.basis_enum.specs.Walks.{AddsVertices, HaveEntering, IsFirst, IsLimitStop, IsMoveStop, IsWalkAt, IsWalkToEnd};
 
 use crate::bases::{basis, merged};
-use crate::children::{ChildStop, make_children, share_children};
-use crate::helpers::{Helpers, helpers_worth};
+use crate::children::{ChildStop, children};
+use crate::helpers::Helpers;
 use crate::marking::add_vertex;
 use crate::moves::{Move, found_from, next_moves, targets};
 use crate::stop::{Basis, EnumStop};
@@ -22,11 +22,15 @@ use lex_tableau::{PivotCount, StartStop, System, Tableau};
 use outside::Gate;
 use std::alloc::Global;
 use std::marker::Sync;
+use std::mem;
 use std::sync::ledger::Ledger;
-use std::thread::Threads;
+use std::thread::{Threads, join};
 
 // How many bases may be reached.
 const MOST_BASES: usize = 20_000;
+
+// A level of so many tableaux is worth a helper who frees it.
+const LARGE_LEVEL: usize = 256;
 
 // A level: its tableaux. Beside it the bases of all levels so far, in ascending order, and the
 // vertices of their tableaux as they were reached.
@@ -150,17 +154,9 @@ fn next_level<R: Threads + Sync, G: Gate, L: Ledger>(
     ensures counted { OnOk result (pivots.new ≡ pivots.old + length moves.now) }
     ensures bounded { pivots.new ≤ pivots.old + length moves.now }
 {
-    let taken = helpers.take(helpers_worth(moves.len()));
-    let next = if taken == 0 {
-        make_children(alloc, system, level, moves, known, gate, vertices, pivots)
-    } else {
-        let workers = taken + 1;
-        share_children(
-            rt, alloc, system, level, moves, known, workers, gate, vertices, pivots,
-        )
-    };
-    helpers.add(taken);
-    match next {
+    match children(
+        rt, alloc, system, level, moves, known, helpers, gate, vertices, pivots,
+    ) {
         Ok(next) => Ok(next),
         Err(stop) => Err(refusal(alloc, level, moves, number, stop)),
     }
@@ -181,6 +177,33 @@ fn check_count(bases: usize, moves: &[Move]) -> Result<(), EnumStop>
         }));
     }
     Ok(())
+}
+
+// The pivots to the next level. The level before is not needed any more: where it is large and a
+// helper is idle, the helper frees it meanwhile.
+fn next_moves_beside<R: Threads + Sync>(
+    rt: &R,
+    alloc: Global,
+    found: Vec<Move>,
+    before: Vec<Tableau>,
+    helpers: &Helpers,
+) -> Result<Vec<Move>, Memory>
+    requires { AreSmall found.items }
+    ensures { IfOk result (λ v. IsNextOf found.items v.items) }
+{
+    if before.len() < LARGE_LEVEL || helpers.take(1) == 0 {
+        return next_moves(alloc, found);
+    }
+    let (next, _) = join(
+        rt,
+        move || -> Result<Vec<Move>, Memory>
+            requires { AreSmall found.items }
+            ensures { IfOk result (λ v. IsNextOf found.items v.items) }
+        { next_moves(alloc, found) },
+        move || drop(before),
+    );
+    helpers.add(1);
+    next
 }
 
 // Goes on to the next level, and finds the pivots from there.
@@ -223,9 +246,9 @@ fn advance<R: Threads + Sync, G: Gate, L: Ledger>(
         &mut walk.vertices,
         pivots,
     )?;
-    walk.level = level;
+    let before = mem::replace(&mut walk.level, level);
     walk.known = known;
-    Ok(next_moves(alloc, found)?)
+    Ok(next_moves_beside(rt, alloc, found, before, helpers)?)
 }
 
 // Goes from level to level, to the last one.

@@ -1,17 +1,26 @@
-use Rattle.std.proofs.Common.{◌+◌, rules, refl, arith}
-use Rattle.basis_enum.proofs.LevelMoves.{found_in_new}
-use Rattle.basis_enum.proofs.NextLevel.{children_new}
-use Rattle.basis_enum.proofs.Walks.{vertices_new}
+use Rattle.std.proofs.Common.{◌≡◌, ◌+◌, ◌∙◌, ◌∷◌, [], rules, ap, length, arith}
+use Rattle.std.proofs.lemmas.List.{length-append}
+use Rattle.std.proofs.lemmas.Result.{err_from_is_err_and}
+use Rattle.basis_enum.proofs.NextLevel.{made_more, stop_made}
+use Rattle.basis_enum.proofs.Walks.{adding_more}
 use Rattle.basis_enum.proofs.children.make_children.Goals as goal
 
 pub loop-place-preserved : goal.loop-place-preserved
 loop-place-preserved g c =
     let n = c.loop-place.place in
-    let old = c.loop-place.next.items in
+    let old = c.loop-place.made in
     let r = c.in_ok-reached.reached in
+    let is = c.loop-place.invariant in
+    let added = c.in_ok-add_reached.ensures in
+    let size = ap length added.tableaux ∙ length-append old.tableaux.items (r.tableau ∷ []) in
     record {
-      children = children_new c.args.level.now c.args.moves.now n (n + 1) old _ r.tableau (search rules) refl c.in_ok-add_reached.ensures.next c.loop-place.invariant.children c.in_ok-reached.ensures.child;
-      found = found_in_new old _ c.args.known.now c.loop-place.found.items r.found.moves.items _ r.tableau n c.loop-place.invariant.children.size c.in_ok-add_reached.ensures.next c.in_ok-add_reached.ensures.found c.loop-place.invariant.found c.in_ok-reached.ensures.found;
-      vertices = vertices_new c.args.system.now old _ r.tableau c.args.vertices.now.items c.loop-place.vertices.items _ r.found.vertex c.in_ok-add_reached.ensures.next c.in_ok-add_reached.ensures.vertices c.loop-place.invariant.vertices c.in_ok-reached.ensures.vertex;
-      counted = omega (arith, c.tick.ensures, c.loop-place.invariant.counted);
+      at = omega (arith, size, is.at);
+      made = made_more c.args.level.now c.args.moves.now c.args.known.now old _ n r.tableau r.found.moves.items is.at (omega (arith, c.min-end.ensures)) added.tableaux added.moves is.made c.in_ok-reached.ensures.child c.in_ok-reached.ensures.found;
+      vertices = adding_more c.args.system.now c.args.made.now.tableaux.items old.tableaux.items _ r.tableau c.args.vertices.now.items c.loop-place.vertices.items _ r.found.vertex added.tableaux added.vertices is.vertices c.in_ok-reached.ensures.vertex;
+      counted = omega (arith, c.tick.ensures, is.counted, size);
     }
+
+pub returns-in_err-reached-clause-stop : goal.returns-in_err-reached-clause-stop
+returns-in_err-reached-clause-stop g c =
+    let p = err_from_is_err_and c.from_residual.result c.from_residual.ensures.1 in
+    rw (p.1, p.2) (stop_made c.args.level.now c.args.moves.now c.args.known.now c.loop-place.made c.loop-place.place c.in_err-reached.field-0.0 c.loop-place.invariant.at (omega (arith, c.min-end.ensures)) c.loop-place.invariant.made c.in_err-reached.ensures.stop)

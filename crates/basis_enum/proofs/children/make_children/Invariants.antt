@@ -1,13 +1,12 @@
-use Rattle.std.proofs.Common.{◌≡◌, ◌+◌}
-use Rattle.basis_enum.specs.Children.{AreChildren}
-use Rattle.basis_enum.specs.Found.{AreFoundIn}
-use Rattle.basis_enum.specs.Walks.{AddsVertices}
+use Rattle.std.proofs.Common.{◌≡◌, ◌+◌, length}
+use Rattle.basis_enum.specs.Children.{IsMadeFrom}
+use Rattle.basis_enum.specs.Walks.{AddVertices}
 use Rattle.basis_enum.proofs.children.make_children.Given as goal
 
 abbrev pub invariant-loop-place : goal.invariant-loop-place
 invariant-loop-place g l = record {
-  children : AreChildren l.level l.moves l.place l.next.items;
-  found : AreFoundIn l.next.items l.known l.found.items;
-  vertices : AddsVertices l.system l.next.items l.initial.vertices.items l.vertices.items;
-  counted : l.pivots ≡ l.initial.pivots + l.place;
+  at : length l.made.tableaux.items ≡ l.place;
+  made : IsMadeFrom l.level l.moves l.known l.made;
+  vertices : AddVertices l.system l.initial.made.tableaux.items l.made.tableaux.items l.initial.vertices.items l.vertices.items;
+  counted : l.pivots + length l.initial.made.tableaux.items ≡ l.initial.pivots + length l.made.tableaux.items;
 }

@@ -6,7 +6,7 @@ use Rattle.basis_enum.specs.Children.{AreMoves, AreChildren, LeadToReady}
 use Rattle.basis_enum.specs.Found.{AreReady}
 use Rattle.basis_enum.specs.Merged.{IsMerged}
 use Rattle.basis_enum.specs.Next.{AreNewMoves}
-use Rattle.basis_enum.specs.Walks.{HaveEntering, IsLimitStop, IsMoveStop}
+use Rattle.basis_enum.specs.Walks.{HaveEntering, IsLimitStop, IsMoveStop, IsWalkAt}
 use Rattle.basis_enum.proofs.LevelMoves.{found_small, new_moves_are}
 use Rattle.basis_enum.proofs.Walks.{walk_few, walk_ready, walk_next, moves_are, moves_enter, moves_lead, targets_apart, children_ready, limit_stop, move_stop}
 use Rattle.basis_enum.proofs.walk.advance.Goals as goal
@@ -51,8 +51,8 @@ returns-in_err-level-clause-stop g c =
     let p = err_from_is_err_and c.from_residual-in_err-level.result c.from_residual-in_err-level.ensures.1 in
     rw (p.1, p.2) (move_stop c.args.system.now c.args.number c.args.walk.now c.args.moves.now c.in_err-level.field-0.0 c.requires.walk c.requires.moves few (subst (λ l. IsMoveStop l c.args.moves.now c.args.number c.in_err-level.field-0.0) c.as_slice-3.ensures.value c.in_err-level.ensures.stop))
 
-pub next_moves-requires : goal.next_moves-requires
-next_moves-requires g c =
+pub next_moves_beside-requires-after_bounds : goal.next_moves_beside-requires-after_bounds
+next_moves_beside-requires-after_bounds g c = λ _ _.
     let few : length c.args.walk.now.known.items + length c.args.moves.now ≤ 20000 = subst (λ n. n + length c.args.moves.now ≤ 20000) (c.len.ensures ∙ c.args.walk.now.known.ok.0) c.in_ok-check_count.ensures.few in
     let size : length c.in_ok-level.level.items ≡ length c.args.moves.now = c.in_ok-level.ensures.children.size in
     let children = subst (λ l. AreChildren l c.args.moves.now (length c.args.moves.now) c.in_ok-level.level.items) c.as_slice-3.ensures.value c.in_ok-level.ensures.children in
@@ -66,14 +66,15 @@ returns-clause-moves g c =
     let size : length c.in_ok-level.level.items ≡ length c.args.moves.now = c.in_ok-level.ensures.children.size in
     let children = subst (λ l. AreChildren l c.args.moves.now (length c.args.moves.now) c.in_ok-level.level.items) c.as_slice-3.ensures.value c.in_ok-level.ensures.children in
     let lead = moves_lead c.args.system.now c.args.number c.args.walk.now c.args.moves.now c.requires.enumerable c.requires.walk c.requires.moves in
-    subst (λ known. AreNewMoves c.in_ok-level.level.items known c.in_ok-next_moves.field-0.items) c.as_slice-4.ensures.value
-    (new_moves_are c.in_ok-level.level.items c.as_slice-4.result.now c.in_ok-level.found.items c.in_ok-next_moves.field-0.items
-    (children_ready c.args.system.now c.args.walk.now.level.items c.in_ok-level.level.items c.args.moves.now lead children) (omega arith) c.in_ok-level.ensures.found c.in_ok-next_moves.ensures)
+    subst₂ (λ l known. AreNewMoves l.items known c.in_ok-next_moves_beside.field-0.items) (sym c.replace-before.ensures.after) c.as_slice-4.ensures.value
+    (new_moves_are c.in_ok-level.level.items c.as_slice-4.result.now c.in_ok-level.found.items c.in_ok-next_moves_beside.field-0.items
+    (children_ready c.args.system.now c.args.walk.now.level.items c.in_ok-level.level.items c.args.moves.now lead children) (omega arith) c.in_ok-level.ensures.found c.in_ok-next_moves_beside.ensures)
 
 pub returns-clause-walk : goal.returns-clause-walk
 returns-clause-walk g c =
     let few = subst (λ n. n + length c.args.moves.now ≤ 20000) (c.len.ensures ∙ c.args.walk.now.known.ok.0) c.in_ok-check_count.ensures.few in
     let children = subst (λ l. AreChildren l c.args.moves.now (length c.args.moves.now) c.in_ok-level.level.items) c.as_slice-3.ensures.value c.in_ok-level.ensures.children in
     let merged = subst₂ (λ xs ys. IsMerged xs ys c.in_ok-known.known.items) c.as_slice.ensures.value c.as_slice-2.ensures.value c.in_ok-known.ensures in
-    walk_next c.args.system.now c.args.number c.args.walk.now (record { level = c.in_ok-level.level; known = c.in_ok-known.known; vertices = c.next_level.new.vertices }) c.args.moves.now c.in_ok-bases.bases.items
-    c.requires.enumerable c.requires.walk c.requires.moves c.requires.some few children c.in_ok-bases.ensures merged c.in_ok-level.ensures.vertices
+    subst (λ l. IsWalkAt c.args.system.now (c.args.number + 1) (record { level = l; known = c.in_ok-known.known; vertices = c.next_level.new.vertices })) (sym c.replace-before.ensures.after)
+    (walk_next c.args.system.now c.args.number c.args.walk.now (record { level = c.in_ok-level.level; known = c.in_ok-known.known; vertices = c.next_level.new.vertices }) c.args.moves.now c.in_ok-bases.bases.items
+    c.requires.enumerable c.requires.walk c.requires.moves c.requires.some few children c.in_ok-bases.ensures merged c.in_ok-level.ensures.vertices)
