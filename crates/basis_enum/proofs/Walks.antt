@@ -30,7 +30,7 @@ use Rattle.basis_enum.specs.Marks.{AreInOrder, AreMarksOf, AreUpTo, IsVertexOf}
 use Rattle.basis_enum.specs.Merged.{IsMerged}
 use Rattle.basis_enum.specs.Next.{AreNewMoves, move_of, no_move, target_of}
 use Rattle.basis_enum.specs.Vertices.{VertexList, mark_of, marks_of}
-use Rattle.basis_enum.specs.Walks.{levels_of, IsFirst, IsWalkAt, IsWalkToEnd, HaveEntering, IsMoveStop, IsLimitStop, IsUnfitMove, AddVertices, AddsVertices}
+use Rattle.basis_enum.specs.Walks.{levels_of, IsFirst, IsWalkAt, IsWalkToEnd, HaveEntering, IsMoveStop, IsLimitStop, IsUnfitMove, AddsMoreVertices, AddsVertices}
 use Rattle.basis_enum.proofs.LevelMoves.{basis_at, found_in_start, found_in_more, move_is, target_is_there, entering_is, next_are}
 use Rattle.basis_enum.proofs.NextLevel.{next_level}
 use Rattle.basis_enum.proofs.VertexMarks.{reached_numbered, no_marks, marks_more, are_vertices}
@@ -133,11 +133,11 @@ vertices_new s level new t first vertices all vertex pushed added before is =
     subst₂ (λ l a. AddsVertices s l first a) (sym pushed) (sym added)
     (vertices_more s level t first vertices vertex before is)
 
-pub adding_start : (s : Parts) (level : List Numbers) (vertices : List Vertex) → AddVertices s level level vertices vertices
+pub adding_start : (s : Parts) (level : List Numbers) (vertices : List Vertex) → AddsMoreVertices s level level vertices vertices
 adding_start s level vertices = λ first before. before
 
 -- one more tableau and its vertex
-pub adding_more : (s : Parts) (level some new : List Numbers) (t : Numbers) (old vertices all : List Vertex) (vertex : Option Vertex) → new ≡ some ++ t ∷ [] → all ≡ vertices ++ option_to_list vertex → AddVertices s level some old vertices → IsVertexOf s t vertex → AddVertices s level new old all
+pub adding_more : (s : Parts) (level some new : List Numbers) (t : Numbers) (old vertices all : List Vertex) (vertex : Option Vertex) → new ≡ some ++ t ∷ [] → all ≡ vertices ++ option_to_list vertex → AddsMoreVertices s level some old vertices → IsVertexOf s t vertex → AddsMoreVertices s level new old all
 adding_more s level some new t old vertices all vertex pushed added before is = λ first start.
     vertices_new s some new t first vertices all vertex pushed added (before first start) is
 

@@ -81,6 +81,6 @@ AddsVertices s level old new =
     (ts : List Numbers) → AreMarksOf s ts (marks_of old) → AreMarksOf s (ts ++ level) (marks_of new)
 
 -- where the vertices of a level's first tableaux are added, so are then those of more of them
-abbrev pub AddVertices : Parts → List Numbers → List Numbers → List Vertex → List Vertex → Type 0
-AddVertices s some more old new =
+abbrev pub AddsMoreVertices : Parts → List Numbers → List Numbers → List Vertex → List Vertex → Type 0
+AddsMoreVertices s some more old new =
     (first : List Vertex) → AddsVertices s some first old → AddsVertices s more first new

@@ -8,7 +8,7 @@ ghost use Rattle.basis_enum.specs.Found.{AreFound, AreFoundIn, AreReady};
 ghost use Rattle.basis_enum.specs.Marks.{IsVertexOf};
 ghost use Rattle.basis_enum.specs.Next.{move_of, no_move};
 ghost use Rattle.basis_enum.specs.Systems.{variable_count};
-ghost use Rattle.basis_enum.specs.Walks.{AddsVertices, AddVertices};
+ghost use Rattle.basis_enum.specs.Walks.{AddsVertices, AddsMoreVertices};
 
 use crate::helpers::{Helpers, helpers_worth};
 use crate::marking::add_vertex;
@@ -197,7 +197,7 @@ fn make_children<G: Gate, L: Ledger>(
     requires left { length made.old.tableaux.items < length moves.now }
     ensures made { OnOk result (IsMadeFrom level.now moves.now known.now made.new) }
     ensures more { OnOk result (length made.old.tableaux.items < length made.new.tableaux.items) }
-    ensures vertices { OnOk result (AddVertices system.now made.old.tableaux.items
+    ensures vertices { OnOk result (AddsMoreVertices system.now made.old.tableaux.items
         made.new.tableaux.items vertices.old.items vertices.new.items) }
     ensures stop { IfErr result (IsChildStop level.now moves.now) }
     ensures counted { OnOk result (pivots.new + length made.old.tableaux.items
@@ -255,7 +255,7 @@ fn share_children<R: Threads + Sync, G: Gate, L: Ledger>(
     requires left { length made.old.tableaux.items < length moves.now }
     ensures made { OnOk result (IsMadeFrom level.now moves.now known.now made.new) }
     ensures more { OnOk result (length made.old.tableaux.items < length made.new.tableaux.items) }
-    ensures vertices { OnOk result (AddVertices system.now made.old.tableaux.items
+    ensures vertices { OnOk result (AddsMoreVertices system.now made.old.tableaux.items
         made.new.tableaux.items vertices.old.items vertices.new.items) }
     ensures stop { IfErr result (IsChildStop level.now moves.now) }
     ensures counted { OnOk result (pivots.new + length made.old.tableaux.items
@@ -316,7 +316,7 @@ fn make_more<R: Threads + Sync, G: Gate, L: Ledger>(
     requires left { length made.old.tableaux.items < length moves.now }
     ensures made { OnOk result (IsMadeFrom level.now moves.now known.now made.new) }
     ensures more { OnOk result (length made.old.tableaux.items < length made.new.tableaux.items) }
-    ensures vertices { OnOk result (AddVertices system.now made.old.tableaux.items
+    ensures vertices { OnOk result (AddsMoreVertices system.now made.old.tableaux.items
         made.new.tableaux.items vertices.old.items vertices.new.items) }
     ensures stop { IfErr result (IsChildStop level.now moves.now) }
     ensures counted { OnOk result (pivots.new + length made.old.tableaux.items

@@ -123,8 +123,8 @@ fn refusal(
     }
 }
 
-// The tableaux of the level after this one, and the pivots from there to new bases, with the helpers
-// that are idle. The vertices of that level are added.
+// The tableaux of the level after this one, and the pivots from there to new bases. The vertices of
+// that level are added.
 fn next_level<R: Threads + Sync, G: Gate, L: Ledger>(
     rt: &R,
     alloc: Global,
