@@ -5,8 +5,8 @@
 //! `stages_give` and `reasons_are_told`, what a call gives that computes them.
 //! Definitions: `specs::Answers` has `Answer`, `IsSingle`, `Gives`, and how stages are put
 //! together.
-//! Lemmas for callers: `proofs::Answers`, by which a relation made of stages is single and a call
-//! gives what it says.
+//! Lemmas for callers: `proofs::AnswerLemmas`, by which a relation made of stages is single and a
+//! call gives what it says.
 //! A change here touches: the contract of nearly every call that can be refused, up to that of
 //! `run`.
 #![tactic(auto)]

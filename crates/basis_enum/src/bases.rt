@@ -67,7 +67,7 @@ fn takes_known(known: &[u128], new: &[u128], first: usize, second: usize) -> boo
 }
 
 // Two ascending lists with no basis in common as one.
-#[tactic(auto, using(crate::proofs::Merged::merged_start, crate::proofs::Merged::merged_first, crate::proofs::Merged::merged_second, crate::proofs::Merged::merged_all))]
+#[tactic(auto, using(crate::proofs::MergedListLemmas::merged_start, crate::proofs::MergedListLemmas::merged_first, crate::proofs::MergedListLemmas::merged_second, crate::proofs::MergedListLemmas::merged_all))]
 pub(crate) fn merged(alloc: Global, known: &[u128], new: &[u128]) -> Result<Vec<u128>, Memory>
     requires known { IsStrictlyIncreasing known.now }
     requires new { IsStrictlyIncreasing new.now }

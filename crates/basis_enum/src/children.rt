@@ -175,7 +175,7 @@ fn add_reached(reached: Reached, made: &mut Made, vertices: &mut Vec<Vertex>) ->
 }
 
 // Makes the next pieces on this thread, so many at most.
-#[tactic(auto, using(crate::proofs::NextLevel::stop_made, crate::proofs::Walks::adding_start))]
+#[tactic(auto, using(crate::proofs::NextLevelLemmas::stop_made, crate::proofs::WalkLemmas::adding_start))]
 fn make_children<G: Gate, L: Ledger>(
     alloc: Global,
     system: &System,
@@ -230,7 +230,7 @@ impl<G: Gate> Gate for GateFrom<'_, G> {
 }
 
 // Makes all pieces that are left, which so many workers share.
-#[tactic(auto, using(crate::proofs::NextLevel::stop_made, crate::proofs::Walks::adding_start))]
+#[tactic(auto, using(crate::proofs::NextLevelLemmas::stop_made, crate::proofs::WalkLemmas::adding_start))]
 fn share_children<R: Threads + Sync, G: Gate, L: Ledger>(
     rt: &R,
     alloc: Global,
@@ -342,7 +342,7 @@ fn make_more<R: Threads + Sync, G: Gate, L: Ledger>(
 /// The tableaux of the next level, and the pivots from there to new bases, in no stated order. The
 /// vertices of the level are added. Helpers share the pieces from the time on at which they are
 /// idle.
-#[tactic(auto, using(crate::proofs::NextLevel::made_start, crate::proofs::Walks::vertices_start))]
+#[tactic(auto, using(crate::proofs::NextLevelLemmas::made_start, crate::proofs::WalkLemmas::vertices_start))]
 pub(crate) fn children<R: Threads + Sync, G: Gate, L: Ledger>(
     rt: &R,
     alloc: Global,

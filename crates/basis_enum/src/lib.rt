@@ -6,7 +6,8 @@
 //! Definitions: `specs::Levels` has the levels of bases, `Bases` bases as numbers, `Ends` how an
 //! enumeration ends, `Enumeration` what a system answers; `linear_systems` says what vertices are.
 //! Private words: `specs::Children`, `Found`, `Marks`, `Merged`, `Next` and `Walks`.
-//! Lemmas for callers: `proofs::Single`, that there is one answer; `Complete` on reached bases.
+//! Lemmas for callers: `proofs::OneAnswerLaws`, that there is one answer; `CompleteLevelLaws` on
+//! reached bases.
 //! A change here touches: `label_pairing`, `enummixed`, and the counts of `make`.
 #![tactic(auto)]
 

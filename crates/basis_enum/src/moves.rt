@@ -48,7 +48,7 @@ fn target(tableau: &Tableau, basis: u128, row: usize, column: usize) -> u128
 }
 
 // The pivot in a column, where there is one and its basis is new.
-#[tactic(auto, using(crate::proofs::FoundMoves::no_row))]
+#[tactic(auto, using(crate::proofs::FoundMoveLemmas::no_row))]
 fn move_at(
     tableau: &Tableau,
     parent: u32,
@@ -78,7 +78,7 @@ fn move_at(
 }
 
 // The pivots from a tableau to new bases, column by column.
-#[tactic(auto, using(crate::proofs::FoundMoves::found_start, crate::proofs::FoundMoves::found_none, crate::proofs::FoundMoves::found_push))]
+#[tactic(auto, using(crate::proofs::FoundMoveLemmas::found_start, crate::proofs::FoundMoveLemmas::found_none, crate::proofs::FoundMoveLemmas::found_push))]
 fn moves_from(
     alloc: Global,
     tableau: &Tableau,
@@ -179,7 +179,7 @@ pub(crate) fn next_moves(alloc: Global, mut found: Vec<Move>) -> Result<Vec<Move
 }
 
 // Whether a pivot is the first to its basis.
-#[tactic(auto, using(crate::proofs::Firsts::first_of_all, crate::proofs::Firsts::leads_further, crate::proofs::Firsts::leads_again))]
+#[tactic(auto, using(crate::proofs::FirstMoveLemmas::first_of_all, crate::proofs::FirstMoveLemmas::leads_further, crate::proofs::FirstMoveLemmas::leads_again))]
 fn is_first(found: &[Move], i: usize) -> bool
     requires sorted { IsNonDecreasingBy rank_of found.now }
     requires small { AreSmall found.now }
@@ -191,7 +191,7 @@ fn is_first(found: &[Move], i: usize) -> bool
 }
 
 // Takes a pivot where it is the first to its basis.
-#[tactic(auto, using(crate::proofs::Firsts::firsts_push, crate::proofs::Firsts::firsts_skip))]
+#[tactic(auto, using(crate::proofs::FirstMoveLemmas::firsts_push, crate::proofs::FirstMoveLemmas::firsts_skip))]
 fn take_first(found: &[Move], i: usize, next: &mut Vec<Move>) -> Result<(), Memory>
     requires sorted { IsNonDecreasingBy rank_of found.now }
     requires small { AreSmall found.now }
@@ -207,7 +207,7 @@ fn take_first(found: &[Move], i: usize, next: &mut Vec<Move>) -> Result<(), Memo
 }
 
 // Of pivots in ascending order the first to each basis.
-#[tactic(auto, using(crate::proofs::Firsts::firsts_start, crate::proofs::Firsts::firsts_all))]
+#[tactic(auto, using(crate::proofs::FirstMoveLemmas::firsts_start, crate::proofs::FirstMoveLemmas::firsts_all))]
 fn firsts(alloc: Global, found: &[Move]) -> Result<Vec<Move>, Memory>
     requires sorted { IsNonDecreasingBy rank_of found.now }
     requires small { AreSmall found.now }

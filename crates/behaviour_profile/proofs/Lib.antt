@@ -1,12 +1,12 @@
-mod ActionTotals
-pub mod BehaviourEntries
-pub mod FirstFaults
-pub mod GroupLists
-pub mod GroupTests
-pub mod PlanShares
-pub mod PlanStops
-mod ProfileAnswers
-pub mod SharesTaken
-mod TestedBehaviours
-pub mod TestedEntries
-mod TreeGroups
+mod ActionTotalLemmas
+pub mod BehaviourEntryLemmas
+pub mod FirstFaultLemmas
+pub mod GroupListLemmas
+pub mod GroupTestLemmas
+pub mod PlanShareLemmas
+pub mod PlanStopLemmas
+mod ProfileAnswerLemmas
+pub mod TakenShareLemmas
+mod TestedBehaviourLemmas
+pub mod TestedEntryLemmas
+mod TreeGroupLemmas

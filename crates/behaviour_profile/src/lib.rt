@@ -5,7 +5,8 @@
 //! Definitions: `specs::EntryTests` has groups of entries and their tests, `EntryLaws` what holds
 //! of tested entries, `Plans` the behaviour of two plans and its steps.
 //! Private words: `specs::FirstActions` and `specs::Shares`, how entries are made.
-//! Lemmas for callers: `proofs::GroupTests` and `TestedEntries` on entries, `PlanStops` on plans.
+//! Lemmas for callers: `proofs::GroupTestLemmas` and `TestedEntryLemmas` on entries,
+//! `PlanStopLemmas` on plans.
 //! A change here touches: `enumpure_trees`, `ne_checker`, `lp` and `lcp`.
 #![tactic(auto)]
 
@@ -47,7 +48,7 @@ impl Model for Behaviour {
     ghost use Rattle.std.specs.Prelude.{List};
     ghost use Rattle.std.specs.Coded.{coded_list};
     ghost use Rattle.rational.specs.Rational.{ℚ};
-    ghost use Rattle.rational.proofs.Codes.{code_ℚ};
+    ghost use Rattle.rational.proofs.CodeLemmas.{code_ℚ};
 
     ghost Value = { List ℚ };
 

@@ -1,6 +1,6 @@
 -- Best replies in the entry game.
 use Rattle.std.proofs.Common.{ℕ, zero, suc, ◌<◌, ◌≡◌, true, Some, refl, ap, arith}
-use Rattle.lists.proofs.Numbers.{below_two}
+use Rattle.lists.proofs.NumberLemmas.{below_two}
 use Rattle.rational.specs.Gcd.{gcd}
 use Rattle.rational.specs.Rational.{ℚ, is_lowest, frac, ◌+ℚ◌, ◌*ℚ◌, ◌≤ℚ◌, ◌<ℚ◌}
 use Rattle.rational.specs.Tests.{le_test, lt_test}

@@ -4,8 +4,9 @@
 //! `best_choices_show_better_replies`; sets are decided one by one, from the last to the first.
 //! Definitions: `specs::Reaching` has the weights of nodes, `Replies` reply values and best
 //! choices, `Order` the order of sets, `Strategies` best strategies of a table.
-//! Lemmas for callers: `proofs::Weights`, `ReplyValues`, `Deciding`, `BestChoices`, `SetOrder`,
-//! `Verdicts`, `Greatest` and `Strategies`, all for `ne_checker`.
+//! Lemmas for callers: `proofs::WeightLemmas`, `ReplyValueLemmas`, `DecisionOrderLemmas`,
+//! `BestChoiceLemmas`, `SetOrderLemmas`, `VerdictLemmas`, `FirstGreatestLemmas` and
+//! `StrategyLemmas`, all for `ne_checker`.
 //! A change here touches: `ne_checker` alone, and through it the verdicts of `check`.
 #![tactic(auto)]
 

@@ -6,7 +6,8 @@
 //! Definitions: `specs::Walks` has decisions that are linked (`AreLinked`) and their choice lists
 //! (`AreWalks`).
 //! Private words: `specs::Ends`, `Ways` and `LeftOut`, how the code walks and counts; `Tested`.
-//! Lemmas for callers: `proofs::EndLists` on the ends of a walk, `Ascending` on lists in order.
+//! Lemmas for callers: `proofs::EndListLemmas` on the ends of a walk, `AscendingOrderLemmas` on
+//! lists in order.
 //! A change here touches: `strategy_lists`, `reduced_form` and `enumpure_trees`.
 #![tactic(auto)]
 

@@ -14,7 +14,7 @@ use Rattle.std.proofs.lemmas.Bool.{cases_lt}
 use denote.Param.Members.{Shared}
 use Rattle.claims.specs.ClaimWord.{times, one_below, HasEachBelow}
 use Rattle.claims.specs.Pieces.{numbers, AreOf, AreDone}
-use Rattle.claims.proofs.Times.{times-cons, times_above, some_fails, each_below_filter, length_of_each, times-first, one_below-none}
+use Rattle.claims.proofs.OccurrenceLemmas.{times-cons, times_above, some_fails, each_below_filter, length_of_each, times-first, one_below-none}
 
 -- a number below the count is kept, and one that is not is dropped
 keeps_below : (n count : ℕ) → n < count → filter (λ k. nat_lt k count) (n ∷ []) ≡ n ∷ []

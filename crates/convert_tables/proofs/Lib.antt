@@ -1,4 +1,4 @@
-pub mod CellPlaces
-pub mod Each
-pub mod LaidOut
-pub mod PlanAxes
+pub mod CellPlaceLemmas
+pub mod NumberedTextLemmas
+pub mod OneLayoutLaws
+pub mod PlanAxisLemmas

@@ -22,7 +22,7 @@ use game_core::{MOST_TEXT, Table, profile_count, too_long_text};
 use std::alloc::Global;
 
 // The players besides the row player and the column player, in order.
-#[tactic(auto, using(crate::proofs::CellPlaces::others_grow))]
+#[tactic(auto, using(crate::proofs::CellPlaceLemmas::others_grow))]
 fn other_players(
     alloc: Global,
     players: usize,

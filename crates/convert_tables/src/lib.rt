@@ -4,7 +4,7 @@
 //! wrong, or that the text is too long; `layouts_are_single`.
 //! Definitions: `specs::Layouts` has the layouts, made of `Marks` and `Names`; `specs::Converted`
 //! what is answered; `specs::Examples` the prisoners' dilemma laid out.
-//! Lemmas for callers: `proofs::LaidOut`, that a table is answered in one way.
+//! Lemmas for callers: `proofs::OneLayoutLaws`, that a table is answered in one way.
 //! A change here touches: the text of `convert`, byte for byte, and its refusals.
 #![tactic(auto)]
 

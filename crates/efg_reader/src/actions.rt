@@ -31,7 +31,7 @@ fn next_sum(sum: Frac, prob: Frac, set: u64) -> Result<Frac, EfgKind>
 }
 
 // As many actions of chance as come, their sum, and the tokens after them. The set has this number.
-#[tactic(auto, using(crate::proofs::ActionSteps::summed_steps))]
+#[tactic(auto, using(crate::proofs::ActionStepLemmas::summed_steps))]
 fn chance_actions(
     alloc: Global,
     tokens: &[Spanned],
@@ -90,7 +90,7 @@ fn closed(tokens: &[Spanned], count: usize) -> Result<&[Spanned], Refusal<EfgKin
 }
 
 /// The actions of a set at its first use, and the tokens after them. The set has this number.
-#[tactic(auto, using(crate::proofs::ActionSteps::list_steps))]
+#[tactic(auto, using(crate::proofs::ActionStepLemmas::list_steps))]
 pub fn first_list(
     alloc: Global,
     tokens: &[Spanned],
@@ -155,7 +155,7 @@ fn repeated<'a>(
 }
 
 // The tokens after actions that repeat these.
-#[tactic(auto, using(crate::proofs::ActionSteps::repeat_steps))]
+#[tactic(auto, using(crate::proofs::ActionStepLemmas::repeat_steps))]
 fn all_repeated<'a>(
     tokens: &'a [Spanned],
     owner: Option<u32>,
@@ -172,7 +172,7 @@ fn all_repeated<'a>(
 }
 
 /// The tokens after the actions of a later use, which may come, and repeat these.
-#[tactic(auto, using(file_parts::proofs::Parses::refused_first), unfolding(tree_grammar::specs::TreeParsing::parse_repeated_list))]
+#[tactic(auto, using(file_parts::proofs::ParseLemmas::refused_first), unfolding(tree_grammar::specs::TreeParsing::parse_repeated_list))]
 pub fn later_list<'a>(
     tokens: &'a [Spanned],
     owner: Option<u32>,

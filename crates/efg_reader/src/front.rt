@@ -19,7 +19,7 @@ pub struct Front {
 }
 
 /// The title, the players, and the tokens after them and the comment that may come.
-#[tactic(auto, using(file_parts::proofs::Parses::refused_first), unfolding(tree_grammar::specs::TreeParsing::parse_head))]
+#[tactic(auto, using(file_parts::proofs::ParseLemmas::refused_first), unfolding(tree_grammar::specs::TreeParsing::parse_head))]
 pub fn read_front(
     alloc: Global,
     tokens: &[Spanned],

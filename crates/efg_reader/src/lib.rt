@@ -5,7 +5,7 @@
 //! Definitions: `specs::Stops` has what tokens answer; the grammar and the kinds of faults stand in
 //! `tree_grammar`.
 //! Private words: `specs::States`, `Uses` and `PartialCodes`, what is kept while tokens are read.
-//! Lemmas for callers: `proofs::FileStops`.
+//! Lemmas for callers: `proofs::FileStopLemmas`.
 //! A change here touches: the trees of docs/FORMAT.md, `gambit_tools` and `refusals`.
 #![tactic(auto)]
 

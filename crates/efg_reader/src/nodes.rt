@@ -69,7 +69,7 @@ fn kind_of(owner: Option<u32>) -> Kind
 }
 
 // The sets with one of this owner, the choice at it, and the tokens after it.
-#[tactic(auto, using(file_parts::proofs::Parses::refused_first), unfolding(tree_grammar::specs::TreeParsing::parse_set_choice))]
+#[tactic(auto, using(file_parts::proofs::ParseLemmas::refused_first), unfolding(tree_grammar::specs::TreeParsing::parse_set_choice))]
 fn set_choice<'a>(
     alloc: Global,
     sets: Sets,
@@ -95,7 +95,7 @@ fn set_choice<'a>(
 }
 
 // The sets with one of the player whose number comes, the choice at it, and the tokens after it.
-#[tactic(auto, using(file_parts::proofs::Parses::refused_first, crate::proofs::ShortRests::player_leaves), unfolding(tree_grammar::specs::TreeParsing::parse_own_choice))]
+#[tactic(auto, using(file_parts::proofs::ParseLemmas::refused_first, crate::proofs::ShortRestLemmas::player_leaves), unfolding(tree_grammar::specs::TreeParsing::parse_own_choice))]
 fn own_choice<'a>(
     alloc: Global,
     sets: Sets,
@@ -116,7 +116,7 @@ fn own_choice<'a>(
 
 // A node with this number up to its outcome: the sets with the one that it uses, the choice that is made there, and
 // the tokens after it.
-#[tactic(auto, using(crate::proofs::ShortRests::short_after), unfolding(tree_grammar::specs::TreeParsing::parse_choice))]
+#[tactic(auto, using(crate::proofs::ShortRestLemmas::short_after), unfolding(tree_grammar::specs::TreeParsing::parse_choice))]
 fn choice<'a>(
     alloc: Global,
     sets: Sets,
@@ -202,7 +202,7 @@ fn next<'a>(
 }
 
 // The tree with a further node, and the tokens after it.
-#[tactic(auto, using(crate::proofs::NextSteps::no_word))]
+#[tactic(auto, using(crate::proofs::NextStepLemmas::no_word))]
 fn one_more<'a>(
     alloc: Global,
     builder: Builder,

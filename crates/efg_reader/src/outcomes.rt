@@ -102,7 +102,7 @@ fn closed(tokens: &[Spanned]) -> Result<&[Spanned], Refusal<EfgKind>>
 }
 
 // The payoffs of this many players, and the tokens after them.
-#[tactic(auto, using(file_parts::proofs::Parses::parses))]
+#[tactic(auto, using(file_parts::proofs::ParseLemmas::parses))]
 fn payoffs(
     alloc: Global,
     tokens: &[Spanned],
@@ -124,7 +124,7 @@ fn payoffs(
 }
 
 // The payoffs of an outcome at its first use, and the tokens after them.
-#[tactic(auto, using(file_parts::proofs::Parses::refused_first), unfolding(tree_grammar::specs::TreeParsing::parse_first_payoffs))]
+#[tactic(auto, using(file_parts::proofs::ParseLemmas::refused_first), unfolding(tree_grammar::specs::TreeParsing::parse_first_payoffs))]
 fn first_payoffs(
     alloc: Global,
     tokens: &[Spanned],
@@ -142,7 +142,7 @@ fn first_payoffs(
 }
 
 // The tokens after payoffs that repeat these.
-#[tactic(auto, using(crate::proofs::OutcomeSteps::repeated_steps))]
+#[tactic(auto, using(crate::proofs::OutcomeStepLemmas::repeated_steps))]
 fn repeated<'a>(tokens: &'a [Spanned], payoffs: &[Frac]) -> Result<&'a [Spanned], Refusal<EfgKind>>
     ensures { Parses (λ rest. (tt, kinds rest.now)) result
         (parse_same_payoffs 0 payoffs.now (kinds tokens.now)) }
@@ -161,7 +161,7 @@ fn repeated<'a>(tokens: &'a [Spanned], payoffs: &[Frac]) -> Result<&'a [Spanned]
 }
 
 // The tokens after the payoffs of a later use, which may come, and repeat these.
-#[tactic(auto, using(file_parts::proofs::Parses::refused_first), unfolding(tree_grammar::specs::TreeParsing::parse_repeated_payoffs))]
+#[tactic(auto, using(file_parts::proofs::ParseLemmas::refused_first), unfolding(tree_grammar::specs::TreeParsing::parse_repeated_payoffs))]
 fn later_payoffs<'a>(
     tokens: &'a [Spanned],
     payoffs: &[Frac],
@@ -249,7 +249,7 @@ fn read_named<'a>(
 }
 
 /// The outcomes with the one that a node uses, where it uses one, its number, and the tokens after it.
-#[tactic(auto, using(crate::proofs::Labels::outcome_steps))]
+#[tactic(auto, using(crate::proofs::LabelLemmas::outcome_steps))]
 pub fn read_outcome<'a>(
     alloc: Global,
     outcomes: Outcomes,

@@ -12,7 +12,7 @@ use game_core::Spanned;
 use tree_grammar::EfgKind;
 
 /// A number of at least 1, and the tokens after it.
-#[tactic(auto, using(crate::proofs::Labels::positives))]
+#[tactic(auto, using(crate::proofs::LabelLemmas::positives))]
 pub fn positive(tokens: &[Spanned]) -> Option<(u64, &[Spanned])>
     requires short { AllByRecursion IsShortToken (kinds tokens.now) }
     ensures { Gives (λ x. (x.0, kinds x.1.now)) result (positive_at (kinds tokens.now)) }

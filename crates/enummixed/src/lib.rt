@@ -5,7 +5,7 @@
 //! Definitions: `specs::ExtremeText` says what the text is and what a game answers, `Used` which
 //! points are scaled, `Told` how the reasons of the parts are named.
 //! Private words: `specs::Order` and `specs::Spread`, how lines are sorted and points spread.
-//! Lemmas for callers: `proofs::VertexPairs`, what the stages of a game's pairs give together.
+//! Lemmas for callers: `proofs::VertexPairLemmas`, what the stages of a game's pairs give together.
 //! A change here touches: what `enummixed` and `make` answer, and `enummixed_texts_are_extreme`.
 #![tactic(auto)]
 

@@ -5,7 +5,8 @@
 //! Definitions: `specs::Text` says what the text is, `Stops` what a table answers within the limit
 //! on texts, `Replies` best replies by the numbers of profiles.
 //! Private words: `specs::Ranks`, and `lengths`, which counts bytes before lines are written.
-//! Lemmas for callers: `proofs::Texts` on texts within the limit; `Strides`, `Listed`.
+//! Lemmas for callers: `proofs::OneTextLaws` on texts within the limit; `StrideLemmas`,
+//! `ListedProfileLemmas`.
 //! A change here touches: `enumpure_trees`, `convert_tables`, `ne_checker`,
 //! `enummixed` and what `enumpure` prints.
 #![tactic(auto)]

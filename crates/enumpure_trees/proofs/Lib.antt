@@ -1,15 +1,15 @@
-mod ListedCounts
-mod LineLengths
-mod RankSums
-mod RankedProfiles
-mod Sorted
-mod SortedOrders
-mod MutualReplies
-mod Texts
-mod Told
-pub mod EquilibriumLines
-pub mod FormSizes
-pub mod Listed
-pub mod OrderedLines
-pub mod OrderedProfiles
-pub mod PrintedSets
+mod CompletedListLemmas
+pub mod EquilibriumLineLemmas
+pub mod FormSizeLemmas
+mod LineLengthLemmas
+mod ListedCountLemmas
+pub mod ListedLineLemmas
+mod MutualReplyLemmas
+pub mod OrderedLineLemmas
+pub mod OrderedProfileLemmas
+pub mod PrintedSetLemmas
+mod RankSumLemmas
+mod RankedProfileLemmas
+mod SortedOrderLemmas
+mod SortedStrategyLemmas
+mod TextLemmas

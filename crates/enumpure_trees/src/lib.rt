@@ -5,7 +5,8 @@
 //! Definitions: `specs::TreeEquilibria` says which lines there are and in which order, `Orders` the
 //! order of a player's strategies, `Stops` what a tree answers.
 //! Private words: `specs::Ranks` and `specs::StrategyOrders`, how the code sorts and lists.
-//! Lemmas for callers: `proofs::EquilibriumLines`, that a tree has one list of lines; `FormSizes`.
+//! Lemmas for callers: `proofs::EquilibriumLineLemmas`, that a tree has one list of lines;
+//! `FormSizeLemmas`.
 //! A change here touches: what `enumpure` prints of a tree without `-S`.
 #![tactic(auto)]
 

@@ -1,23 +1,23 @@
 -- The worked games.
 use Rattle.std.proofs.Common.{ℕ, pos, zero, suc, ◌<◌, ◌≡◌, ℤ, ◌<ℤ◌, List, [], ◌∷◌, All, refl, sym, ◌∙◌, ap₂, ◌++◌, arith}
 use Rattle.std.proofs.lemmas.Int.{ints}
-use Rattle.lists.proofs.Numbers.{below_two}
+use Rattle.lists.proofs.NumberLemmas.{below_two}
 use Rattle.rational.specs.Rational.{ℚ, ◌+ℚ◌, ◌≤ℚ◌, zero_ℚ, one_ℚ}
 use Rattle.rational.proofs.RationalRing.{rational_ring}
 use Rattle.rational.proofs.Ring.{ring, combine, ◌times◌is◌, num, ◌:+◌, ◌:*◌, :neg, A, B, C, D, E}
 use Rattle.rational.proofs.Linear.{Claim, holds, holds_ℤ, all_hold_ℤ, linear, at, lit, ◌⟨+⟩◌, ◌⟨≤⟩◌, ◌⟨=⟩◌}
 use Rattle.rational.proofs.Field.{half, le_of_eq, le_of_lt, two_halves}
-use Rattle.rational.proofs.Inverse.{ne_zero_of_pos, one_pos}
-use Rattle.rational.proofs.Midpoints.{half_pos}
+use Rattle.rational.proofs.InverseLemmas.{ne_zero_of_pos, one_pos}
+use Rattle.rational.proofs.MidpointLemmas.{half_pos}
 use Rattle.game_theory.specs.Mixed.{Mixed, pure, sure}
 use Rattle.game_theory.specs.Lines.{entries}
-use Rattle.game_theory.proofs.ProfileLines.{listed-same}
-use Rattle.game_theory.proofs.SureStrategies.{zero_le_one, sure-not_negative, sum_to-sure}
+use Rattle.game_theory.proofs.ProfileLineLemmas.{listed-same}
+use Rattle.game_theory.proofs.SureStrategyLemmas.{zero_le_one, sure-not_negative, sum_to-sure}
 use Rattle.extreme_equilibria.specs.ExtremeEquilibria.{AreSame, IsMidpoint, IsExtremeEquilibrium, IsExtremeEquilibriumLine}
 use Rattle.extreme_equilibria.specs.TwoPlayers.{pays_against}
 use Rattle.extreme_equilibria.specs.Bimatrix.{gain, mean_gain, IsMixedStrategy, IsBestReply, IsBimatrixEquilibrium}
 use Rattle.extreme_equilibria.specs.Examples.{indifferent_game, halves, IndifferenceHasExtremeEquilibria, one_profile_game, OneProfileIsExtreme}
-use Rattle.extreme_equilibria.proofs.Tables.{to_tables, from_tables, extreme_to_tables, extreme_from_tables}
+use Rattle.extreme_equilibria.proofs.TableLemmas.{to_tables, from_tables, extreme_to_tables, extreme_from_tables}
 
 -- a sure strategy as probabilities
 sure_mixed : (n s : ℕ) → s < n → IsMixedStrategy n (sure s)

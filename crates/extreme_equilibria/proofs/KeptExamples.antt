@@ -2,7 +2,7 @@
 use Rattle.std.proofs.Common.{ℕ, zero, suc, ◌<◌, ◌≡◌, [], ◌∷◌, get_or, refl, sym, subst, arith}
 use Rattle.std.specs.Prelude.{Contains}
 use Rattle.std.specs.List.Sorted.{IsStrictlyIncreasing}
-use Rattle.lists.proofs.Numbers.{below_two}
+use Rattle.lists.proofs.NumberLemmas.{below_two}
 use Rattle.rational.specs.Gcd.{gcd}
 use Rattle.rational.specs.Rational.{is_lowest, frac, ◌<ℚ◌}
 use Rattle.rational.specs.Tests.{lt_test}
@@ -12,8 +12,8 @@ use Rattle.game_theory.specs.Examples.{prisoners_dilemma_game}
 use Rattle.extreme_equilibria.specs.TwoPlayers.{other, pays_against}
 use Rattle.extreme_equilibria.specs.Elimination.{IsDominated, IsKeptAfter, AreListed, AreKeptAfter}
 use Rattle.extreme_equilibria.specs.KeptExamples.{weak_game, EliminationInTwoGames}
-use Rattle.extreme_equilibria.proofs.Rounds.{other-below}
-use Rattle.extreme_equilibria.proofs.KeptLists.{place, last-lists}
+use Rattle.extreme_equilibria.proofs.RoundLemmas.{other-below}
+use Rattle.extreme_equilibria.proofs.KeptListLemmas.{place, last-lists}
 
 -- ---- lists
 -- an element of a list of both strategies, and of one of the second alone

@@ -7,8 +7,9 @@
 //! Definitions: `specs::ExtremeEquilibria` says what they are, `Bimatrix` has the two tables,
 //! `Polytopes` best replies and labels, `Systems` the two systems, `PairLines` the lines;
 //! `Elimination` says which strategies are kept, `KeptTable` has the game over them.
-//! Lemmas for callers: `proofs::Systems` on the points of the systems, `TwoPlayers` on payoffs,
-//! `ExtremeLists` and `PairLines` on lists of lines, `KeptLists` and `Rounds` on what is kept.
+//! Lemmas for callers: `proofs::SystemLemmas` on the points of the systems, `TwoPlayerLemmas` on
+//! payoffs, `ExtremeListLemmas` and `PairLineLemmas` on lists of lines, `KeptListLemmas` and
+//! `RoundLemmas` on what is kept.
 //! A change here touches: `reduced_form`, `reply_polytope`, `label_pairing`, `enummixed`.
 #![tactic(auto)]
 

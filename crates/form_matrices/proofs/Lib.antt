@@ -1,2 +1,2 @@
-pub mod SetEntries
-pub mod WrittenCells
+pub mod SetEntryLemmas
+pub mod WrittenCellLemmas

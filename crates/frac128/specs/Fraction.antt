@@ -1,8 +1,8 @@
 -- what a fraction stands for, which rationals fit one, and their order and sign
 use Rattle.std.specs.Prelude.{ℕ, suc, ◌≡◌, ◌<◌, ◌^◌, nat_abs, pos, negsuc, neg_ℤ, ℤ, ◌<ℤ◌, Bool, true, false}
 use Rattle.std.proofs.Common.{ap, ◌∙◌}
-use Rattle.rational.proofs.Parts.{pos_abs, pos_nat_abs}
-use Rattle.rational.proofs.Fractions.{frac-lowest}
+use Rattle.rational.proofs.PartLemmas.{pos_abs, pos_nat_abs}
+use Rattle.rational.proofs.FractionLemmas.{frac-lowest}
 use Rattle.rational.specs.Gcd.{gcd}
 use Rattle.rational.specs.Rational.{ℚ, frac}
 use Rattle.frac128.specs.declared.frac.Frac.TheInside.{Inside}

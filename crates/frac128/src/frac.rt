@@ -20,7 +20,7 @@ pub struct Frac {
 
 impl Model for Frac {
     ghost use Rattle.rational.specs.Rational.{ℚ};
-    ghost use Rattle.rational.proofs.Codes.{code_ℚ};
+    ghost use Rattle.rational.proofs.CodeLemmas.{code_ℚ};
 
     ghost Value = { ℚ };
 

@@ -5,7 +5,8 @@
 //! Definitions: a `Frac` is a `ℚ` to contracts; `specs::Fraction` says which fit (parts up to 2^127
 //! - 1 in size), `specs::Steps` when a step fits, `specs::Short` which are short.
 //! Private words: what `euclid`, `fitting`, `products` and `sums` do not hand on.
-//! Lemmas for callers: `proofs::Parts` and `Reduced` on parts, `Compared` and `Signs`.
+//! Lemmas for callers: `proofs::PartLemmas` and `ReductionLemmas` on parts, `ComparisonLemmas` and
+//! `SignLemmas`.
 //! A change here touches: which steps fit, and so every refusal `Range`.
 #![tactic(auto)]
 

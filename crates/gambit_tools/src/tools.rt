@@ -30,7 +30,7 @@ use std::thread::Threads;
 use words::{Settings, SettingsStop, read_settings};
 
 /// Reads the inputs that the settings name, and computes the text. Each tool has an arm.
-#[tactic(auto, using(crate::proofs::Making::make_computed))]
+#[tactic(auto, using(crate::proofs::MakeLaws::make_computed))]
 fn compute<R: Threads + Sync, I: Inputs, G: Gate>(
     rt: &R,
     alloc: Global,

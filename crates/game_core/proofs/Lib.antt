@@ -1,9 +1,9 @@
-mod Numbers
-mod PlayersSets
-mod PrefixOrder
+pub mod DrawLemmas
+pub mod FirstUseLemmas
+pub mod GameLemmas
+mod NumberLemmas
+mod PlayerSetLemmas
+mod PrefixOrderLemmas
+pub mod SetNumberLemmas
+pub mod TableCountLemmas
 mod TreeLaws
-pub mod Drawing
-pub mod FirstUse
-pub mod Games
-pub mod SetNumbers
-pub mod TableCounts

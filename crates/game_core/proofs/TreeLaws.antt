@@ -3,7 +3,7 @@ use Rattle.std.proofs.Common.{◌≡◌, ◌<◌, ◌≤◌, ◌∙◌, sym, ap,
 use Rattle.std.proofs.lemmas.List.{length-map}
 use Rattle.std.proofs.lemmas.List.Elements.{All-get_or, All-map}
 use Rattle.std.proofs.lemmas.Option.{slice_get-get_or, get_or_from_slice_get, same_Some}
-use Rattle.lists.proofs.Elements.{element}
+use Rattle.lists.proofs.ElementLemmas.{element}
 use Rattle.rational.specs.Rational.{◌≤ℚ◌, zero_ℚ, one_ℚ}
 use Rattle.rational.specs.Sum.{sum_to}
 use Rattle.game_theory.specs.FirstNodes.{AreNumberedByFirstNodes}
@@ -11,7 +11,7 @@ use Rattle.game_theory.specs.Trees.{IsTree as is_game_tree, IsChild, IsChanceDis
 use Rattle.game_core.specs.declared.tree.Action.{Action}
 use Rattle.game_core.specs.Tree.{GameTree, IsTree, InformationSet, IsWithin, AreChances, ProbabilitiesFit, SetFits, action_count, probability_at}
 use Rattle.game_core.specs.TreeGame.{game_of_tree, or_zero}
-use Rattle.game_core.proofs.PrefixOrder.{child_at, hangs_at, branch_at, root, same_node, within}
+use Rattle.game_core.proofs.PrefixOrderLemmas.{child_at, hangs_at, branch_at, root, same_node, within}
 
 -- a part of the element at a place
 part_of : {X Y : Type 0} (f : X → Y) (xs : List X) (k : ℕ) (x : X) (d : Y) → slice_get xs k ≡ Some x → get_or (map f xs) k d ≡ f x

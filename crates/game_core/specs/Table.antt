@@ -2,7 +2,7 @@
 use Rattle.std.specs.Prelude.{ℕ, ◌+◌, ◌*◌, ◌<◌, ◌≤◌, ◌≡◌, List, length, map, slice_index_or, All, refl}
 use Rattle.std.specs.Coded.{Coded, code_by, coded×, coded_ℕ, coded_list}
 use Rattle.rational.specs.Rational.{ℚ, zero_ℚ}
-use Rattle.rational.proofs.Codes.{code_ℚ}
+use Rattle.rational.proofs.CodeLemmas.{code_ℚ}
 use Rattle.game_theory.specs.Profiles.{Game, profile_count}
 
 -- a title, the players' names, each player's strategies' names, and one payoff per player for each

@@ -2,7 +2,7 @@
 use Rattle.std.specs.Prelude.{ℕ, zero, suc, List, [], map, ◌≡◌, refl}
 use Rattle.std.specs.Coded.{Coded, code_by, coded×, coded_ℕ, coded_list}
 use Rattle.rational.specs.Rational.{ℚ, zero_ℚ}
-use Rattle.rational.proofs.Codes.{code_ℚ}
+use Rattle.rational.proofs.CodeLemmas.{code_ℚ}
 use Rattle.game_core.specs.declared.token.Spanned.{Spanned}
 use Rattle.game_core.specs.declared.token.Token.{Token}
 use Rattle.game_core.specs.declared.token.Token.TheVariants.{Left, Right, Comma, Text, Word, Number}

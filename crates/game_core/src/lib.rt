@@ -6,7 +6,7 @@
 //! Definitions: `specs::Table` and `TreeGame` say what a table and a tree stand for (`game_of`,
 //! `game_of_tree`), `Tree` what makes one, `Spacing` what tokens keep.
 //! Private words: `specs::OwnSets` and `TreeCodes`, how a tree keeps its parts.
-//! Lemmas for callers: `proofs::TableCounts` on counts of strategies, `SetNumbers`.
+//! Lemmas for callers: `proofs::TableCountLemmas` on counts of strategies, `SetNumberLemmas`.
 //! A change here touches: all contracts that name a game, from the readers to `run`.
 #![tactic(auto)]
 

@@ -5,7 +5,8 @@
 //! Definitions: `specs::Tokens` has tokens and faults, `specs::Numbers` the texts, values and
 //! limits of numbers, `specs::Stops` what bytes answer (`tokens_of`).
 //! Private words: `specs::Reading` and `specs::NumberReading`, which say how the code reads.
-//! Lemmas for callers: `proofs::Digits`, `Powers`, and `Single`, that there is one answer.
+//! Lemmas for callers: `proofs::DigitLemmas`, `PowerLemmas`, and `OneListLaws`, that there is one
+//! answer.
 //! A change here touches: the tokens of docs/FORMAT.md, `ne_printer`, `gambit_tools`.
 #![tactic(auto)]
 

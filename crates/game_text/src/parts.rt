@@ -25,7 +25,7 @@ fn digits_count(text: &[u8]) -> usize
 }
 
 // The digits at the front, and what comes after them.
-#[tactic(auto, using(crate::proofs::Prefixes::spans))]
+#[tactic(auto, using(crate::proofs::PrefixLemmas::spans))]
 pub fn split_digits(text: &[u8]) -> (&[u8], &[u8])
     ensures front { result.0.now ≡ leading is_ascii_digit text.now }
     ensures digits { All IsAsciiDigit result.0.now }

@@ -92,7 +92,7 @@ fn number(run: &[u8]) -> Result<Frac, TextKind>
 }
 
 // The word or number that comes next, and the bytes after it.
-#[tactic(auto, using(crate::proofs::Fronts::prefix_lengths))]
+#[tactic(auto, using(crate::proofs::FrontLemmas::prefix_lengths))]
 fn next_run(alloc: Global, bytes: &[u8], at: usize) -> Result<(Token, &[u8]), TextStop>
     requires { BeginsWith IsNoMark bytes.now }
     ensures token { IfOk result (λ x. IsNext bytes.now x.1.now x.0) }

@@ -5,7 +5,7 @@ use Rattle.game_theory.specs.Trees.{Tree}
 use Rattle.game_theory.specs.Behaviour.{is_own_of, is_own}
 use Rattle.game_theory.specs.Recall.{own_history, HasPerfectRecall}
 use Rattle.game_theory.specs.TreeExamples.{one_card_poker, forgetful_game, RecallInTwoGames}
-use Rattle.game_theory.proofs.TreeTests.{each_below, each_below-tells, if_any, if_any-tells, implies, implies-tells}
+use Rattle.game_theory.proofs.TreeTestLemmas.{each_below, each_below-tells, if_any, if_any-tells, implies, implies-tells}
 
 -- whether no step comes before
 abbrev is_empty : List (ℕ × ℕ) → Bool

@@ -4,8 +4,9 @@
 //! payoffs as means, lists and lines of equilibria, values of nodes, and worked examples.
 //! Definitions: strategic form: `specs::Profiles`, then `Mixed`, `Equilibrium`, `Lines`. Extensive
 //! form: `Trees`, then `Behaviour`, `TreeEquilibrium`, `Recall`, `OwnSets`.
-//! Lemmas for callers: `proofs::ProfileNumbers`, `SureStrategies`, `Replies`, `PureProfiles`,
-//! `LineOrder` and `ProfileLines`; of trees `Children`, `Subtrees`, `Values` and `OwnSets`.
+//! Lemmas for callers: `proofs::ProfileNumberLemmas`, `SureStrategyLemmas`, `ReplyLemmas`,
+//! `PureProfileLemmas`, `LineOrderLemmas` and `ProfileLineLemmas`; of trees `ChildLemmas`,
+//! `SubtreeLemmas`, `ValueLemmas` and `OwnSetLemmas`.
 //! A change here touches: what an equilibrium is and how its line is written, and so the contract
 //! of `run`, what each text of a tool is, and the proofs of all crates that name games.
 #![tactic(auto)]

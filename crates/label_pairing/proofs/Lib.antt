@@ -1,5 +1,5 @@
-pub mod AllPairs
-pub mod Blocks
-pub mod Partners
-pub mod Rows
-pub mod StepLists
+pub mod AllPairLemmas
+pub mod BlockLemmas
+pub mod PartnerLemmas
+pub mod RowLemmas
+pub mod StepListLemmas

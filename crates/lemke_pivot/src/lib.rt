@@ -5,7 +5,8 @@
 //! Definitions: `specs::Problems` has problems w = b + M z and that of two sides, `ProblemPaths`
 //! the path of complementary pivots, `FormProblems` what a form answers, `Ends` the ends of a path.
 //! Private words: `specs::Walks`, `Vectors`, `Values`, `Bases` and `Systems`.
-//! Lemmas for callers: `proofs::ProblemAnswers` and `PathEnds`, that each is one; `Solve`.
+//! Lemmas for callers: `proofs::ProblemAnswerLemmas` and `PathEndLemmas`, that each is one;
+//! `PathStartLemmas`.
 //! A change here touches: what `lcp` answers and refuses, and `lcp_texts_are_equilibria`.
 #![tactic(auto)]
 

@@ -1,7 +1,7 @@
-pub mod Entries
-pub mod RatioRows
-pub mod Signs
-pub mod Starts
-pub mod Systems
-pub mod TableauPivot
-pub mod Tableaux
+pub mod EntryLemmas
+pub mod RatioRowLemmas
+pub mod SignLemmas
+pub mod StartLemmas
+pub mod SystemLemmas
+pub mod TableauLemmas
+pub mod TableauPivotLemmas

@@ -2,7 +2,7 @@
 use Rattle.std.specs.Prelude.{ℕ, ◌+◌, ◌*◌, ◌<◌, ◌≤◌, ◌≡◌, ◌^◌, refl, List, length, get_or}
 use Rattle.std.specs.Coded.{Coded, code_by, coded×, coded_ℕ, coded_list}
 use Rattle.rational.specs.Rational.{ℚ}
-use Rattle.rational.proofs.Codes.{code_ℚ}
+use Rattle.rational.proofs.CodeLemmas.{code_ℚ}
 use Rattle.linear_systems.specs.Tableau.{Tableau}
 use Rattle.linear_systems.specs.Rows.{HasDistinctVariables, Alike}
 pub use Rattle.whole_rows.specs.StartRows.{cells_from, start_row_steps, RowsFit, IsFirstUnfitRow}

@@ -6,7 +6,7 @@
 //! Definitions: `specs::Rows` has tableaux and the fractions that they stand for, `Starts` systems
 //! and their starts, `Pivots` the steps of a pivot in order, `Ratio` the lexicographic row.
 //! Private words: the module `ratio`, which compares rows by their keys.
-//! Lemmas for callers: `proofs::Systems` and `Tableaux`, determined by their fractions.
+//! Lemmas for callers: `proofs::SystemLemmas` and `TableauLemmas`, determined by their fractions.
 //! A change here touches: `zero_sum_lp`, `lemke_pivot`, `reply_polytope`, `basis_enum` and
 //! `enummixed`.
 #![tactic(auto)]

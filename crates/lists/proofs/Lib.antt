@@ -1,4 +1,4 @@
-pub mod Elements
-pub mod Numbers
-pub mod Options
-pub mod Orders
+pub mod ElementLemmas
+pub mod NumberLemmas
+pub mod OptionLemmas
+pub mod OrderLemmas

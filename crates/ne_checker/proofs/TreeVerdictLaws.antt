@@ -9,10 +9,10 @@ use Rattle.game_theory.specs.Recall.{HasPerfectRecall}
 use Rattle.game_core.specs.Tree.{GameTree, IsTree as is_valid_tree}
 use Rattle.game_core.specs.TreeGame.{game_of_tree}
 use Rattle.best_replies.specs.Replies.{reply_value}
-use Rattle.best_replies.proofs.BestChoices.{best_choices-pay_most}
-use Rattle.best_replies.proofs.ReplyValues.{root-reply_value}
-use Rattle.best_replies.proofs.Verdicts.{best_choices-tell}
-use Rattle.pure_payoffs.proofs.FirstUnfits.{unfit_among}
+use Rattle.best_replies.proofs.BestChoiceLemmas.{best_choices-pay_most}
+use Rattle.best_replies.proofs.ReplyValueLemmas.{root-reply_value}
+use Rattle.best_replies.proofs.VerdictLemmas.{best_choices-tell}
+use Rattle.pure_payoffs.proofs.FirstUnfitLemmas.{unfit_among}
 use Rattle.ne_checker.specs.declared.trees.TreeVerdict.{TreeVerdict}
 use Rattle.ne_checker.specs.declared.trees.TreeVerdict.TheVariants.{Equilibrium, Better, Range}
 use Rattle.ne_checker.specs.TreeVerdicts.{HasNoBetter, IsBetter, IsTreeVerdict}

@@ -10,7 +10,7 @@
 //! verdicts of lines (`table_check`, `tree_check`), `Lines` the lines of a text, `Texts` the texts
 //! of verdicts.
 //! Private words: `specs::TreeBoards`, `TreeSides`, `TreeStarts` and `TreeWeights`.
-//! Lemmas for callers: `proofs::TableSingle`, that there is one verdict.
+//! Lemmas for callers: `proofs::TableSingleLemmas`, that there is one verdict.
 //! A change here touches: the text of `check`, byte for byte, and its refusals.
 #![tactic(auto)]
 

@@ -24,7 +24,7 @@ impl Model for Mixed {
     ghost use Rattle.std.specs.Prelude.{List};
     ghost use Rattle.std.specs.Coded.{coded_list};
     ghost use Rattle.rational.specs.Rational.{ℚ};
-    ghost use Rattle.rational.proofs.Codes.{code_ℚ};
+    ghost use Rattle.rational.proofs.CodeLemmas.{code_ℚ};
 
     ghost Value = { List ℚ };
 

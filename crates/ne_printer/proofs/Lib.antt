@@ -1,6 +1,6 @@
-pub mod EntryLists
-pub mod Fractions
-pub mod LineTexts
-pub mod LinesRead
-pub mod Numerals
-pub mod ReadBack
+pub mod EntryListLemmas
+pub mod FractionLemmas
+pub mod LineTextLemmas
+pub mod LinesReadLemmas
+pub mod NumeralLemmas
+pub mod ReadBackLemmas

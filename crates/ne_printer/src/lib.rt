@@ -4,7 +4,7 @@
 //! `read_line` gives a line's entries, or `Bad`; `lines_read_back`.
 //! Definitions: `game_theory` has the text of a line; `specs::Entries` that of numbers after a
 //! name, `specs::ReadLines` what a line reads as (`line_in`).
-//! Lemmas for callers: `proofs::LineTexts` and `LinesRead`, on lines written and read.
+//! Lemmas for callers: `proofs::LineTextLemmas` and `LinesReadLemmas`, on lines written and read.
 //! A change here touches: the lines that the tools print, and those that `check` reads.
 #![tactic(auto)]
 
@@ -127,7 +127,7 @@ fn push_entry(alloc: Global, text: &mut Vec<u8>, entry: Frac) -> Result<(), Memo
 }
 
 // The text of a whole number from 0 to 9, which most entries are, without formatting.
-#[tactic(auto, using(crate::proofs::LineTexts::number_text_cast))]
+#[tactic(auto, using(crate::proofs::LineTextLemmas::number_text_cast))]
 fn one_digit(value: Frac) -> Option<u8>
     ensures { MatchOption result (¬ (IsOneDigit value)) (λ digit. number_text value ≡ digit ∷ []) }
 {

@@ -69,7 +69,7 @@ fn are_digits(text: &[u8]) -> bool
 }
 
 // Whether a text is 1 to 39 digits.
-#[tactic(auto, using(crate::proofs::Numerals::all_same))]
+#[tactic(auto, using(crate::proofs::NumeralLemmas::all_same))]
 fn is_numeral(text: &[u8]) -> bool
     ensures { IsTrue result ↔ IsNumeral text.now }
 {

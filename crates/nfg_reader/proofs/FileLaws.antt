@@ -12,7 +12,7 @@ use Rattle.game_core.specs.Table.{GameTable, IsTable, most_payoffs, strategy_cou
 use Rattle.game_core.specs.declared.token.Token.{Token}
 use Rattle.nfg_reader.specs.TableFile.{AreStrategies, AreOutcomes, outcome_payoffs, IsPayoffBody, IsOutcomeBody, IsTableFile, HasTooManyPayoffs}
 use Rattle.nfg_reader.specs.TableReading.{front_at, rest_at, table_at, FrontPart, profiles, table_of, IsTooLong}
-use Rattle.nfg_reader.proofs.CountedNames.{lengths_counted}
+use Rattle.nfg_reader.proofs.CountedNameLemmas.{lengths_counted}
 use Rattle.nfg_reader.proofs.FrontLaws.{front_is, front_again}
 use Rattle.nfg_reader.proofs.BodyLaws.{rest_is, rest_again}
 

@@ -5,7 +5,7 @@
 //! Definitions: `specs::TableFile` has the grammar, `specs::Faults` the faults of tokens that are
 //! no file, `specs::Stops` what tokens answer (`table_in`).
 //! Private words: `specs::TableReading`, what is taken off the tokens.
-//! Lemmas for callers: `proofs::Single`, that tokens have one answer.
+//! Lemmas for callers: `proofs::OneAnswerLaws`, that tokens have one answer.
 //! A change here touches: the tables of docs/FORMAT.md, `gambit_tools` and `refusals`.
 #![tactic(auto)]
 

@@ -1,5 +1,5 @@
-mod Answers
-mod LastEdges
-pub mod Members
-mod PrefixOrder
-pub mod Histories
+pub mod HistoryLemmas
+mod LastEdgeLemmas
+pub mod MemberLemmas
+mod OneRecallLaws
+mod PrefixOrderLemmas

@@ -6,7 +6,7 @@
 //! Definitions: `specs::Found` says what is found of a tree (`recall_of`); `game_theory` says what
 //! perfect recall is.
 //! Private words: `specs::LastEdges` and `specs::Members`: histories are compared by their ends.
-//! Lemmas for callers: `proofs::Histories` on own histories; `Members` on a set's nodes.
+//! Lemmas for callers: `proofs::HistoryLemmas` on own histories; `MemberLemmas` on a set's nodes.
 //! A change here touches: the refusal `Forgets`, `sequence_form`, `ne_checker`.
 #![tactic(auto)]
 

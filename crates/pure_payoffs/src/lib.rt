@@ -6,7 +6,8 @@
 //! Definitions: `specs::Steps` has the steps of a payoff in order, `Plays` what they start from,
 //! `Shortcuts` what is kept between payoffs, `FirstUnfit` the first thing with an unfit step.
 //! Private words: `specs::Settled`, nodes whose value no profile changes, and `specs::Filled`.
-//! Lemmas for callers: `proofs::FirstUnfits` and `Runs` on steps, `NodeSteps` on a node.
+//! Lemmas for callers: `proofs::FirstUnfitLemmas` and `StepRunLemmas` on steps, `NodeStepLemmas` on
+//! a node.
 //! A change here touches: `reduced_form`; `Step` also `sequence_data`, `behaviour_profile`,
 //! `ne_checker`, `label_pairing`, `zero_sum_lp` and `lemke_pivot`.
 #![tactic(auto)]

@@ -7,7 +7,7 @@ use lib.Dec.{T_prop}
 use mathlib.Core.HLevel.{hedberg}
 use Rattle.rational.specs.Rational.{ℚ, zero_ℚ, ◌≤ℚ◌, ◌<ℚ◌}
 use Rattle.rational.specs.Tests.{le_test, lt_test, eq_test, eq_ℚ}
-use Rattle.rational.proofs.Fractions.{equal_by_cross, equal_by_parts}
+use Rattle.rational.proofs.FractionLemmas.{equal_by_cross, equal_by_parts}
 use Rattle.rational.proofs.Field.{le_or_lt, le_antisymm, ne_of_lt, not_le_of_lt, not_lt_of_le}
 
 -- a is b or is not

@@ -6,10 +6,10 @@ use Rattle.rational.specs.Rational.{ℚ, is_lowest, den_pos, frac, ◌+ℚ◌, �
 pub use Rattle.rational.specs.Midpoint.{half}
 use Rattle.rational.proofs.IntegerRing.{integer_ring}
 use Rattle.rational.proofs.RationalRing.{rational_ring, *ℚ_comm}
-use Rattle.rational.proofs.Fractions.{StandsFor, equal_by, StandsFor-self, StandsFor-frac, StandsFor-mul}
-use Rattle.rational.proofs.Order.{le_by, lt_by}
+use Rattle.rational.proofs.FractionLemmas.{StandsFor, equal_by, StandsFor-self, StandsFor-frac, StandsFor-mul}
+use Rattle.rational.proofs.OrderLemmas.{le_by, lt_by}
 use Rattle.rational.proofs.Ring.{ring, num, ◌:+◌, ◌:*◌, ◌:-◌, :neg, A, B, C}
-use Rattle.rational.proofs.Parts.{nonneg-num, pos-num}
+use Rattle.rational.proofs.PartLemmas.{nonneg-num, pos-num}
 use Rattle.rational.proofs.Linear.{linear, at, lit, minus, ◌⟨+⟩◌, ◌⟨-⟩◌, ◌⟨≤⟩◌, ◌⟨<⟩◌, ◌⟨=⟩◌, zero-over}
 
 -- ---- order

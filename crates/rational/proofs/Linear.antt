@@ -3,8 +3,8 @@ use Rattle.std.proofs.Common.{ℕ, suc, zero, ◌*◌, ◌<◌, ◌≡◌, ℤ, 
 use borrow.Author.Differences.{below_in}
 use Rattle.rational.specs.Rational.{ℚ, den_pos, whole, ◌+ℚ◌, ◌*ℚ◌, neg_ℚ, zero_ℚ, ◌≤ℚ◌, ◌<ℚ◌}
 use Rattle.rational.proofs.IntegerRing.{integer_ring}
-use Rattle.rational.proofs.Fractions.{StandsFor, StandsFor-self, StandsFor-also, StandsFor-frac, StandsFor-add, StandsFor-mul, StandsFor-neg}
-use Rattle.rational.proofs.Order.{le_by, by_le, lt_by, by_lt, eq_by, by_eq}
+use Rattle.rational.proofs.FractionLemmas.{StandsFor, StandsFor-self, StandsFor-also, StandsFor-frac, StandsFor-add, StandsFor-mul, StandsFor-neg}
+use Rattle.rational.proofs.OrderLemmas.{le_by, by_le, lt_by, by_lt, eq_by, by_eq}
 use Rattle.rational.proofs.Ring.{ring, num, ◌:+◌, ◌:*◌, A, B, C}
 
 infixl 60 ◌⟨+⟩◌ ◌⟨-⟩◌

@@ -3,7 +3,7 @@ use Rattle.std.proofs.Common.{ℕ, ◌*◌, ◌≡◌, ℤ, pos, neg_ℤ, ◌*�
 use Rattle.rational.specs.Rational.{ℚ, ◌+ℚ◌, ◌*ℚ◌, neg_ℚ, zero_ℚ, one_ℚ}
 use Rattle.rational.proofs.CommutativeRing.{CommutativeRing}
 use Rattle.rational.proofs.IntegerRing.{integer_ring}
-use Rattle.rational.proofs.Fractions.{StandsFor, equal_by, StandsFor-self, StandsFor-frac, StandsFor-add, StandsFor-mul, StandsFor-neg}
+use Rattle.rational.proofs.FractionLemmas.{StandsFor, equal_by, StandsFor-self, StandsFor-frac, StandsFor-add, StandsFor-mul, StandsFor-neg}
 use Rattle.rational.proofs.Ring.{num, ring, ◌:+◌, ◌:*◌, :neg, A, B, C, D, E, F}
 
 zero-is : StandsFor zero_ℚ (pos 0) 1

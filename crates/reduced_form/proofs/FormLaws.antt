@@ -4,11 +4,11 @@ use Rattle.std.proofs.lemmas.List.{length-map, get_or-map, get_or_default}
 use native.Mathlib.Nat as N
 use Rattle.rational.specs.Rational.{ℚ}
 use Rattle.game_theory.specs.Profiles.{profile_count, number_of}
-use Rattle.game_theory.proofs.ProfileNumbers.{number_of-below, profile_at-number_of}
+use Rattle.game_theory.proofs.ProfileNumberLemmas.{number_of-below, profile_at-number_of}
 use Rattle.game_theory.specs.Trees.{Tree, IsTree as is_game_tree}
 use Rattle.game_theory.specs.Behaviour.{payoff, pure}
 use Rattle.reduced_strategies.specs.StrategicForm.{AreStrategies, completed}
-use Rattle.reduced_strategies.proofs.Completions.{completions-pay}
+use Rattle.reduced_strategies.proofs.CompletionLemmas.{completions-pay}
 use Rattle.game_core.specs.Table.{GameTable, IsTable, most_payoffs}
 use Rattle.game_core.specs.Tree.{GameTree}
 use Rattle.game_core.specs.TreeGame.{game_of_tree}
@@ -19,7 +19,7 @@ use Rattle.reduced_form.specs.ReducedForm.{ReducedForm, IsReducedForm, PaysCompl
 use Rattle.reduced_form.specs.Stops.{IsReduceStop}
 use Rattle.reduced_form.specs.declared.stop.ReduceStop.{ReduceStop}
 use Rattle.reduced_form.specs.declared.stop.ReduceStop.TheVariants as stops
-use Rattle.reduced_form.proofs.FormCounts.{profile_count-player, counts-positive, counted-same, choice_count-by}
+use Rattle.reduced_form.proofs.FormCountLemmas.{profile_count-player, counts-positive, counted-same, choice_count-by}
 
 -- ---- sizes
 -- there are no more profiles than payoffs may be

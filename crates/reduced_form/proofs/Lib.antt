@@ -1,10 +1,10 @@
-mod ActionTexts
-mod CellRows
-pub mod Eliminations
-pub mod Exact
-pub mod FormCounts
+mod ActionTextLemmas
+mod CellRowLemmas
+pub mod EliminationLemmas
+pub mod FormCountLemmas
 pub mod FormLaws
-pub mod KeptCells
-pub mod KeptForms
-pub mod KeptSingles
-mod SetCounts
+pub mod KeptCellLemmas
+pub mod KeptFormLemmas
+pub mod KeptSingleLemmas
+pub mod OneFormLaws
+mod SetCountLemmas

@@ -6,7 +6,8 @@
 //! Definitions: `specs::ReducedForm` has the form and the names of strategies, `Stops` what a tree
 //! answers (`form_of`), `Kept` what a table answers (`kept_of`).
 //! Private words: `specs::Counts`, `Limits` and `Cells`, how the code counts and fills tables.
-//! Lemmas for callers: `proofs::FormLaws` and `FormCounts` on the table, `Exact` and `KeptSingles`.
+//! Lemmas for callers: `proofs::FormLaws` and `FormCountLemmas` on the table, `OneFormLaws` and
+//! `KeptSingleLemmas`.
 //! A change here touches: `behaviour_profile`, `enumpure_trees`, `enummixed`, `gambit_tools`.
 #![tactic(auto)]
 

@@ -4,8 +4,9 @@
 //! `choices_have_reduced` and `one_list_of_strategies`; none of these laws asks for perfect recall.
 //! Definitions: `specs::Choices` says what a reduced strategy is and in which order they stand,
 //! `StrategicForm` what their profiles pay.
-//! Lemmas for callers: `proofs::Histories` on own histories, `Sets` and `StrategyProfiles` on what
-//! choice lists give the sets, `ReducedStrategies` and `TreeEquilibria` on completions.
+//! Lemmas for callers: `proofs::HistoryLemmas` on own histories, `SetLemmas` and
+//! `StrategyProfileLemmas` on what choice lists give the sets, `ReducedStrategyLemmas` and
+//! `TreeEquilibriaLemmas` on completions.
 //! A change here touches: `strategy_lists`, `pure_payoffs`, `reduced_form` and what the tools print
 //! of trees; the laws of `best_replies` and `sequence_forms`.
 #![tactic(auto)]

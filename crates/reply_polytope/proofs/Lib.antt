@@ -1,5 +1,5 @@
-pub mod Enumerable
-pub mod Leasts
-pub mod Singles
-pub mod SlackSystems
-pub mod Tables
+pub mod EnumerableLemmas
+pub mod LeastLemmas
+pub mod SingleLemmas
+pub mod SlackSystemLemmas
+pub mod TableLemmas

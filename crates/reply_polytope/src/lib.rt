@@ -5,7 +5,8 @@
 //! Definitions: `specs::Shifts` has the shift that makes a player's payoffs positive, `Polytopes`
 //! the two systems, `Stops` what a game answers (`polytopes_in`).
 //! Private words: `specs::Shapes`, systems of slacks whose cells stand in a list.
-//! Lemmas for callers: `proofs::Enumerable`, what `basis_enum` asks of both systems; `Singles`.
+//! Lemmas for callers: `proofs::EnumerableLemmas`, what `basis_enum` asks of both systems;
+//! `SingleLemmas`.
 //! A change here touches: `enummixed`, and what it and `make` answer and refuse.
 #![tactic(auto)]
 

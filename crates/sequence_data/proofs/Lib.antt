@@ -1,6 +1,6 @@
-pub mod CellSums
-pub mod Gains
-mod Gathering
-pub mod Order
-pub mod Placed
-pub mod Places
+pub mod CellSumLemmas
+pub mod GainLemmas
+mod GatheredLeafLemmas
+pub mod OrderLemmas
+pub mod PlaceLemmas
+pub mod PlacedStepLemmas

@@ -3,7 +3,7 @@ use Rattle.std.specs.Prelude.{ℕ, zero, suc, ◌<◌, ◌≡◌, List, length, 
 use Rattle.std.specs.Coded.{Coded, code_by, coded×, coded_ℕ, coded_list}
 use Rattle.std.specs.List.{range_with_len}
 use Rattle.rational.specs.Rational.{ℚ, ◌≤ℚ◌, zero_ℚ}
-use Rattle.rational.proofs.Codes.{code_ℚ}
+use Rattle.rational.proofs.CodeLemmas.{code_ℚ}
 use Rattle.sequence_forms.specs.Forms.{SequenceForm}
 use Rattle.sequence_forms.specs.Lists.{FormLists, Entry, side_of_lists, form_of_lists}
 use Rattle.sequence_forms.specs.Sides.{Side, first, sequences, IsOrderedSide}

@@ -6,7 +6,8 @@
 //! Definitions: `specs::Data` says what each form keeps and which sequence form it stands for,
 //! `Cells` what the cells are, `Steps` the order of all steps, `Weights` a plan as a list.
 //! Private words: `specs::Gathered`, cells while they are summed up.
-//! Lemmas for callers: `proofs::Gains` on gains and costs, `CellSums` and `Order` on cells.
+//! Lemmas for callers: `proofs::GainLemmas` on gains and costs, `CellSumLemmas` and `OrderLemmas`
+//! on cells.
 //! A change here touches: `sequence_form`, `form_matrices`, `zero_sum_lp`, `lemke_pivot` and
 //! `behaviour_profile`.
 #![tactic(auto)]

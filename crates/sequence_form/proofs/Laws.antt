@@ -9,21 +9,21 @@ use Rattle.game_theory.specs.Trees.{Tree}
 use Rattle.game_core.specs.Table.{GameTable, IsTable, game_of, strategy_counts}
 use Rattle.sequence_forms.specs.Forms.{SequenceForm, form_of, form_of_table, chance_of_path, payoff_of_path}
 use Rattle.sequence_forms.specs.Lists.{Entry, listed_at, leaf_entries, leaves, AreListsOf, profile_entries, AreListsOfTable}
-use Rattle.sequence_forms.proofs.Alike.{alike_back, same_best_plans, same_plans, same_sums}
-use Rattle.sequence_forms.proofs.Lists.{lists_make}
-use Rattle.sequence_forms.proofs.TableLists.{table_lists_make}
-use Rattle.sequence_forms.proofs.Tables.{tables_have_forms, table_plans_pay}
+use Rattle.sequence_forms.proofs.AlikeFormLemmas.{alike_back, same_best_plans, same_plans, same_sums}
+use Rattle.sequence_forms.proofs.ListLemmas.{lists_make}
+use Rattle.sequence_forms.proofs.TableListLemmas.{table_lists_make}
+use Rattle.sequence_forms.proofs.TableLemmas.{tables_have_forms, table_plans_pay}
 use Rattle.sequence_forms.proofs.TreeLaws.{plans_pay_cells, trees_weigh_one}
 use Rattle.sequence_data.specs.Cells.{total, chance_one, chance_two, cell_at}
 use Rattle.sequence_data.specs.Data.{FormData, SideData, form, lists_of, of_player}
 use Rattle.sequence_data.specs.declared.types.Cell.{Cell}
 use Rattle.sequence_data.specs.declared.types.Leaf.{Leaf}
-use Rattle.sequence_data.proofs.CellSums.{cells-sum}
+use Rattle.sequence_data.proofs.CellSumLemmas.{cells-sum}
 use Rattle.sequence_form.specs.Forms.{IsTreeForm, profile_leaf, table_leaves, IsTableForm}
 use Rattle.sequence_form.specs.Laws.{TreeFormsStandForTrees, TreeFormsPayPlans, rows_of, columns_of, TableFormsStandForTables, TableFormsPayPlans}
 use Rattle.sequence_form.specs.Paths.{leaf_at, tree_leaves}
-use Rattle.sequence_form.proofs.Sides.{befores, counts}
-use Rattle.sequence_form.proofs.TableLeaves.{two-strategies}
+use Rattle.sequence_form.proofs.SideLemmas.{befores, counts}
+use Rattle.sequence_form.proofs.TableLeafLemmas.{two-strategies}
 
 -- ---- trees
 -- a sum over the leaves of a tree

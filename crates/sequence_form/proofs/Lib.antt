@@ -1,8 +1,8 @@
-mod Built
-pub mod Forms
-pub mod Kept
+mod BuiltFormLemmas
+pub mod FormLemmas
+pub mod KeptFormLemmas
 pub mod Laws
-mod Numbering
-mod PathSteps
-mod Sides
-pub mod TableLeaves
+mod NumberingLemmas
+mod PathStepLemmas
+mod SideLemmas
+pub mod TableLeafLemmas

@@ -5,7 +5,8 @@
 //! none; by law it stands for the game, and two plans pay by it what they pay in the game.
 //! Definitions: `specs::Forms` says what a tree and a table answer, `Laws` what a form stands for,
 //! `Sequences` the sides of a tree, `Paths` its leaves and their steps, `Counts` the sizes.
-//! Lemmas for callers: `proofs::Forms`, `Kept`, `Laws` and `TableLeaves` on built forms.
+//! Lemmas for callers: `proofs::FormLemmas`, `KeptFormLemmas`, `Laws` and `TableLeafLemmas` on
+//! built forms.
 //! A change here touches: `behaviour_profile`, and the stages and laws of `lp` and `lcp`.
 #![tactic(auto)]
 

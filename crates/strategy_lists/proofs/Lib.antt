@@ -1,6 +1,6 @@
-mod Moves
-mod Parents
-mod PlayersDecisions
-mod WalksAreStrategies
-pub mod ActionCounts
-pub mod OwnNumbers
+pub mod ActionCountLemmas
+mod MoveLemmas
+pub mod OwnNumberLemmas
+mod ParentLemmas
+mod PlayerDecisionLemmas
+mod WalkStrategyLemmas

@@ -5,7 +5,7 @@
 //! Definitions: `specs::Decisions` has the decisions of each player, by which choice lists are
 //! reduced strategies; `specs::OwnNumbers` the numbers that are a player's own.
 //! Private words: `specs::Made`, the decisions while they are made.
-//! Lemmas for callers: `proofs::ActionCounts` and `OwnNumbers` on own sets.
+//! Lemmas for callers: `proofs::ActionCountLemmas` and `OwnNumberLemmas` on own sets.
 //! A change here touches: `reduced_form`, `sequence_form`, `behaviour_profile`, `ne_checker`.
 #![tactic(auto)]
 

@@ -8,15 +8,15 @@ use Rattle.game_core.specs.declared.token.Token.{Token}
 use Rattle.game_core.specs.declared.token.Token.TheVariants.{Right, Text, Word, Number}
 use Rattle.file_parts.specs.Parts.{whole_number, braced_texts, IsOpen}
 use Rattle.file_parts.specs.Parsing.{Parsed, parse_title, parse_names}
-use Rattle.file_parts.proofs.PartReaders.{title_reader, names_reader, title_faults, names_faults}
-use Rattle.file_parts.proofs.Readers.{ReadsAs, reads_alone, result_of, bind_err, ok_same, err_same, ok_err, ends_early, same_front}
+use Rattle.file_parts.proofs.PartReaderLemmas.{title_reader, names_reader, title_faults, names_faults}
+use Rattle.file_parts.proofs.ReaderLemmas.{ReadsAs, reads_alone, result_of, bind_err, ok_same, err_same, ok_err, ends_early, same_front}
 use Rattle.file_parts.specs.Reading.{after_text}
-use Rattle.file_parts.proofs.Fronts.{fronts}
-use Rattle.file_parts.proofs.Fronts.Goes.{same, first, second}
-use Rattle.file_parts.proofs.Values.{value, value_title}
+use Rattle.file_parts.proofs.FrontLemmas.{fronts}
+use Rattle.file_parts.proofs.FrontLemmas.Goes.{same, first, second}
+use Rattle.file_parts.proofs.ValueLemmas.{value, value_title}
 use Rattle.written_trees.specs.Written.{SetUse, OutcomeUse}
 use Rattle.written_trees.specs.Building.{PartialTree, root_alone, tree_so_far, open_branches}
-use Rattle.written_trees.proofs.Built.{built_is_so}
+use Rattle.written_trees.proofs.BuiltTreeLemmas.{built_is_so}
 use Rattle.tree_grammar.specs.TreeFile.{IsFront, IsPartialFile, IsTreeFile}
 use Rattle.file_parts.proofs.HeaderLaws.{title_is}
 use Rattle.tree_grammar.specs.TreeReading.{Head}
@@ -28,12 +28,12 @@ use Rattle.tree_grammar.specs.declared.kinds.EfgKind.TheVariants.{Header, Player
 use Rattle.tree_grammar.proofs.FileLaws.{partial_front}
 use Rattle.tree_grammar.proofs.NodesLaws.{nodes_are, no_branching, all_written}
 use Rattle.tree_grammar.proofs.MarkedLaws.{nodes_same}
-use Rattle.tree_grammar.proofs.Heads.{ReadsHead, head_some, title_again_so, names_again_so, names_go_on, head_stops}
-use Rattle.tree_grammar.proofs.Whole.{nothing_keeps, at_end, nodes_begin, few_players, few_is_file, read_is_file, file_is_read, inner_fault, body_stops}
-use Rattle.tree_grammar.proofs.NodeKinds.{node_kind_told}
-use Rattle.tree_grammar.proofs.NodePoints.{nodes_stops}
-use Rattle.tree_grammar.proofs.PointKinds.{KindBefore, node_kind_at}
-use Rattle.tree_grammar.proofs.ReadOn.{file_trails}
+use Rattle.tree_grammar.proofs.HeadLemmas.{ReadsHead, head_some, title_again_so, names_again_so, names_go_on, head_stops}
+use Rattle.tree_grammar.proofs.WholeFileLaws.{nothing_keeps, at_end, nodes_begin, few_players, few_is_file, read_is_file, file_is_read, inner_fault, body_stops}
+use Rattle.tree_grammar.proofs.NodeKindLemmas.{node_kind_told}
+use Rattle.tree_grammar.proofs.NodePointLemmas.{nodes_stops}
+use Rattle.tree_grammar.proofs.PointKindLemmas.{KindBefore, node_kind_at}
+use Rattle.tree_grammar.proofs.TrailingTokenLemmas.{file_trails}
 
 -- ---- where reading stops is a fault
 -- some tokens are not none

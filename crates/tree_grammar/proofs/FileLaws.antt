@@ -13,16 +13,16 @@ use Rattle.written_trees.specs.Building.{PartialTree, root_alone, passed, tree_s
 use Rattle.written_trees.specs.Laws.{PassesAt, IsBuilt}
 use Rattle.tree_grammar.specs.TreeFile.{IsFront, IsPartialFile, IsTreeFile, PassesLimit}
 use Rattle.tree_grammar.specs.TreeReading.{Head, front_at, whole_nodes_at}
-use Rattle.written_trees.proofs.Built.{built_is_so}
-use Rattle.written_trees.proofs.Limits.{limits_are_so}
-use Rattle.written_trees.proofs.Rebuilt.{described_is_so}
-use Rattle.written_trees.proofs.Sound.{sound}
-use Rattle.tree_grammar.proofs.FileStatements.{ReadIsFile, MetIsPassed, NoFrontIsNothing, NoNodesAreNothing, OneTree, NotPassed, OneLimit}
+use Rattle.written_trees.proofs.BuiltTreeLemmas.{built_is_so}
+use Rattle.written_trees.proofs.LimitLemmas.{limits_are_so}
+use Rattle.written_trees.proofs.DescribedTreeLemmas.{described_is_so}
+use Rattle.written_trees.proofs.SoundTreeLemmas.{sound}
+use Rattle.tree_grammar.proofs.FileStatementLemmas.{ReadIsFile, MetIsPassed, NoFrontIsNothing, NoNodesAreNothing, OneTree, NotPassed, OneLimit}
 use Rattle.tree_grammar.proofs.SetLaws.{IsBare}
 use Rattle.tree_grammar.proofs.NodeLaws.{beginning_is}
 use Rattle.tree_grammar.proofs.NodesLaws.{BeginsWithNodes, nodes_bare, whole_again, all_written, whole_nodes_are, whole_nodes_met, whole_nodes_again, whole_nodes_stop}
 use Rattle.std.proofs.lemmas.Option.{same_Some}
-use Rattle.lists.proofs.Options.{bind_some}
+use Rattle.lists.proofs.OptionLemmas.{bind_some}
 use Rattle.game_core.specs.declared.token.Token.{Token}
 use Rattle.game_core.specs.declared.token.Token.TheVariants.{Text, Word}
 

@@ -6,8 +6,8 @@ use Rattle.game_core.specs.declared.too_large.What.{What}
 use Rattle.game_core.specs.declared.token.Token.{Token}
 use Rattle.game_core.specs.declared.token.Token.TheVariants.{Comma}
 use Rattle.file_parts.specs.Parsing.{Parsed, ◌>>=◌}
-use Rattle.file_parts.proofs.Readers.{bind_ok, bind_err, ok_same, err_same, ok_err}
-use Rattle.file_parts.proofs.Values.{value, value_some}
+use Rattle.file_parts.proofs.ReaderLemmas.{bind_ok, bind_err, ok_same, err_same, ok_err}
+use Rattle.file_parts.proofs.ValueLemmas.{value, value_some}
 use Rattle.written_trees.specs.Written.{WrittenNode}
 use Rattle.written_trees.specs.Building.{PartialTree, Branching, add_node, add_nodes, passed}
 use Rattle.tree_grammar.specs.TreeFile.{IsNode, AreNodes}
@@ -18,9 +18,9 @@ use Rattle.tree_grammar.specs.declared.kinds.EfgKind.TheVariants.{Node}
 use Rattle.tree_grammar.proofs.SetLaws.{IsBare}
 use Rattle.tree_grammar.proofs.NodeLaws.{node_written, node_begins}
 use Rattle.tree_grammar.proofs.NodesLaws.{BeginsWithNext, BeginsWithNodes, one_more_is, one_more_again, none_more, one_before, place_free, nodes_bare, parts_added, and_then_ok}
-use Rattle.tree_grammar.proofs.NodeValues.{Keeps, value_next, node_keeps}
-use Rattle.tree_grammar.proofs.PartReaders.{has_comma}
-use Rattle.tree_grammar.proofs.MarkedNodes.{mark_here, marked}
+use Rattle.tree_grammar.proofs.NodeValueLemmas.{Keeps, value_next, node_keeps}
+use Rattle.tree_grammar.proofs.PartReaderLemmas.{has_comma}
+use Rattle.tree_grammar.proofs.MarkedNodeLemmas.{mark_here, marked}
 use Rattle.std.proofs.lemmas.Option.{same_Some}
 use Rattle.std.proofs.lemmas.Bool.{cases_Bool}
 

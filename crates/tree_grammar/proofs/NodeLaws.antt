@@ -17,7 +17,7 @@ use Rattle.tree_grammar.specs.TreeReading.{set_use_at, outcome_use_at, player_at
 use Rattle.tree_grammar.proofs.SetLaws.{IsBare, set_is, set_again}
 use Rattle.tree_grammar.proofs.OutcomeLaws.{outcome_is, outcome_again, outcome_bare}
 use Rattle.std.proofs.lemmas.Bool.{or_cases}
-use Rattle.lists.proofs.Options.{bind_some, either}
+use Rattle.lists.proofs.OptionLemmas.{bind_some, either}
 use Rattle.game_core.specs.declared.token.Token.{Token}
 use Rattle.game_core.specs.declared.token.Token.TheVariants.{Text, Word}
 

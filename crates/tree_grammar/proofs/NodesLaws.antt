@@ -10,14 +10,14 @@ use Rattle.file_parts.proofs.TokenLaws.{end_is}
 use Rattle.written_trees.specs.Written.{WrittenNode}
 use Rattle.written_trees.specs.Building.{PartialTree, Branching, root_alone, open_branches, add_at, add_node, add_nodes, passed_at, passed, within_limits}
 use Rattle.written_trees.specs.Laws.{IsWrittenNode}
-use Rattle.written_trees.proofs.Sound.{AreBranchings}
+use Rattle.written_trees.proofs.SoundTreeLemmas.{AreBranchings}
 use Rattle.tree_grammar.specs.TreeFile.{IsNode, AreNodes, IsNodeWord}
 use Rattle.tree_grammar.specs.TreeReading.{node_at, next_at, begins_node, within_limit, and_then, one_more_at, is_whole, nodes_at, whole_nodes_at}
 use Rattle.tree_grammar.proofs.SetLaws.{IsBare}
 use Rattle.tree_grammar.proofs.NodeLaws.{node_is, node_again, node_written, node_begins, node_word_passes}
 use Rattle.std.proofs.lemmas.Option.{same_Some}
-use Rattle.written_trees.proofs.Steps.{allowed}
-use Rattle.lists.proofs.Options.{bind_some, either}
+use Rattle.written_trees.proofs.StepLemmas.{allowed}
+use Rattle.lists.proofs.OptionLemmas.{bind_some, either}
 use Rattle.game_core.specs.declared.token.Token.{Token}
 use Rattle.game_core.specs.declared.token.Token.TheVariants.{Word}
 

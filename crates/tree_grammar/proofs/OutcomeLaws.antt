@@ -11,8 +11,8 @@ use Rattle.tree_grammar.specs.TreeFile.{ArePayoffs, IsOutcomePart}
 use Rattle.tree_grammar.specs.TreeReading.{optional_at, payoff_list_at, named_outcome_at, outcome_use_at}
 use Rattle.tree_grammar.proofs.SetLaws.{IsBare, optional_text_again, optional_is, optional_again, no_list_again}
 use Rattle.std.proofs.lemmas.Option.{same_Some}
-use Rattle.lists.proofs.Numbers.{positive, not_zero}
-use Rattle.lists.proofs.Options.{bind_some, either}
+use Rattle.lists.proofs.NumberLemmas.{positive, not_zero}
+use Rattle.lists.proofs.OptionLemmas.{bind_some, either}
 use Rattle.game_core.specs.declared.token.Token.{Token}
 use Rattle.game_core.specs.declared.token.Token.TheVariants.{Left, Right}
 

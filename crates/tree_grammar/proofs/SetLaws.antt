@@ -5,7 +5,7 @@ use Rattle.std.proofs.lemmas.List.Elements.{All-map, recursion_from_All}
 use Rattle.std.specs.Prelude.{All, pos}
 use Rattle.std.specs.List.{AllByRecursion, flat_map}
 use Rattle.rational.specs.Rational.{ℚ, zero_ℚ}
-use Rattle.rational.proofs.Parts.{whole-num}
+use Rattle.rational.proofs.PartLemmas.{whole-num}
 use Rattle.game_core.specs.declared.tree.Action.{Action}
 use Rattle.file_parts.specs.Parts.{whole_number, optional_text}
 use Rattle.file_parts.specs.Reading.{left_at, right_at, whole_at, optional_text_at, texts_at, opens}
@@ -15,7 +15,7 @@ use Rattle.written_trees.specs.Laws.{HasNoProbability, IsActionList}
 use Rattle.tree_grammar.specs.TreeFile.{action_tokens, AreActions, IsSetPart}
 use Rattle.tree_grammar.specs.TreeReading.{chance_actions_at, own_action, actions_at, closed_at, action_list_at, optional_at, positive_at, set_use_at}
 use Rattle.lists.specs.Options.{◌>>=◌}
-use Rattle.lists.proofs.Options.{bind_some, either}
+use Rattle.lists.proofs.OptionLemmas.{bind_some, either}
 use Rattle.game_core.specs.declared.token.Token.{Token}
 use Rattle.game_core.specs.declared.token.Token.TheVariants.{Left, Right, Text, Number}
 use Rattle.game_core.specs.Spacing.{IsShortToken}

@@ -5,7 +5,8 @@
 //! Definitions: `specs::TreeFile` has the grammar, `TreeParsing` the reading functions, and
 //! `FaultKinds` the kinds of faults and where they are.
 //! Private words: `specs::TreeReading` and `TreeFaults`, the nodes as they are read one by one.
-//! Lemmas for callers: `proofs::Whole`, that what is read is a file; `NodePoints` on faults.
+//! Lemmas for callers: `proofs::WholeFileLaws`, that what is read is a file; `NodePointLemmas` on
+//! faults.
 //! A change here touches: `efg_reader`, which reads such files, and what `refusals` says of faults.
 #![tactic(auto)]
 

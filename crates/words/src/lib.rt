@@ -5,7 +5,8 @@
 //! Definitions: `specs::Grammar` says how words are read from left to right, `specs::Words` what
 //! they ask for (`Command`, `command_from`).
 //! Private words: `specs::Commands`, the command of `clap` for a tool's options.
-//! Lemmas for callers: `proofs::Ranges`, that the numbers among the words are within their ranges.
+//! Lemmas for callers: `proofs::RangeLemmas`, that the numbers among the words are within their
+//! ranges.
 //! A change here touches: the contract of `run`, `refusals`, and the words of docs/FORMAT.md.
 #![tactic(auto)]
 

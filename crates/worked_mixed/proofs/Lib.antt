@@ -1,1 +1,1 @@
-pub mod CubeSystems
+pub mod CubeSystemLemmas

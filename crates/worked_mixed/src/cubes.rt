@@ -15,7 +15,7 @@ use std::sync::ledger::{Blank, Ledger};
 use std::thread::Threads;
 
 // A cell of the cube of so many variables, the right side last in each row.
-#[tactic(auto, using(crate::proofs::CubeSystems::one_above))]
+#[tactic(auto, using(crate::proofs::CubeSystemLemmas::one_above))]
 fn cell(size: u32, row: u32, column: u32) -> Frac
     ensures { zero_ℚ ≤ℚ result }
 {

@@ -5,7 +5,7 @@
 //! describe.
 //! Definitions: `specs::Written` has the nodes as they are written, `Described` the tree that they
 //! describe, `Building` how a tree grows node by node.
-//! Lemmas for callers: `proofs::PartialTrees`, a partial tree without open branches is a tree.
+//! Lemmas for callers: `proofs::PartialTreeLemmas`, a partial tree without open branches is a tree.
 //! A change here touches: `efg_reader`, which reads such nodes, and what `run` says of trees.
 #![tactic(auto)]
 

@@ -2,11 +2,11 @@
 use Rattle.std.proofs.Common.{sym, subst, subst₂, ap}
 use Rattle.sequence_forms.specs.Prices.{gains}
 use Rattle.sequence_data.specs.Data.{IsSideData, form, side_of}
-use Rattle.sequence_data.proofs.Gains.{gains_positive}
+use Rattle.sequence_data.proofs.GainLemmas.{gains_positive}
 use Rattle.zero_sum_lp.specs.FormPrograms.{IsStarted, IsSystemOf}
 use Rattle.zero_sum_lp.specs.Parts.{IsStartFor}
 use Rattle.zero_sum_lp.specs.ValueLaws.{ProgramsAreOfForms}
-use Rattle.zero_sum_lp.proofs.Starting.{program_is, starts_for}
+use Rattle.zero_sum_lp.proofs.SystemStartLemmas.{program_is, starts_for}
 
 pub programs_of_forms : ProgramsAreOfForms
 programs_of_forms f p valid stages =

@@ -2,7 +2,7 @@
 use Rattle.std.specs.Prelude.{List, refl}
 use Rattle.std.specs.Coded.{Coded, code_by, coded×, coded_list}
 use Rattle.rational.specs.Rational.{ℚ}
-use Rattle.rational.proofs.Codes.{code_ℚ}
+use Rattle.rational.proofs.CodeLemmas.{code_ℚ}
 
 -- the weights of both players' sequences
 pub record PlanPair : Type 0 where

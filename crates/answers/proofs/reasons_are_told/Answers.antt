@@ -1,4 +1,4 @@
-use Rattle.answers.proofs.Answers.{refused_by-single, gives_refused}
+use Rattle.answers.proofs.AnswerLemmas.{refused_by-single, gives_refused}
 use Rattle.answers.proofs.reasons_are_told.Goals as goal
 
 pub returns : goal.returns

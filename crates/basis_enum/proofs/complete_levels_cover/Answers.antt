@@ -1,4 +1,4 @@
-use Rattle.basis_enum.proofs.Complete.{complete_cover, complete_extreme}
+use Rattle.basis_enum.proofs.CompleteLevelLaws.{complete_cover, complete_extreme}
 use Rattle.basis_enum.proofs.complete_levels_cover.Goals as goal
 
 pub returns-clause-cover : goal.returns-clause-cover

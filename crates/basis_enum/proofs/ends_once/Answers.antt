@@ -1,4 +1,4 @@
-use Rattle.basis_enum.proofs.Once.{ends_once}
+use Rattle.basis_enum.proofs.OneEndLaws.{ends_once}
 use Rattle.basis_enum.proofs.ends_once.Goals as goal
 
 pub returns : goal.returns

@@ -1,4 +1,4 @@
-use Rattle.basis_enum.proofs.Digits.{comes_first, basis_tells}
+use Rattle.basis_enum.proofs.DigitLemmas.{comes_first, basis_tells}
 use Rattle.basis_enum.proofs.numbers_order_bases.Goals as goal
 
 pub returns : goal.returns

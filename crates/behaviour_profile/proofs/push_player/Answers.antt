@@ -5,7 +5,7 @@ use Rattle.game_theory.specs.Lines.{listed}
 use Rattle.game_theory.specs.Behaviour.{pure}
 use Rattle.game_core.specs.TreeGame.{game_of_tree}
 use Rattle.behaviour_profile.specs.FirstActions.{first_for_none}
-use Rattle.behaviour_profile.proofs.BehaviourEntries.{place-below_sets, own_set-below, place-found, actions-counted, first_for_none-place, entries_at-push}
+use Rattle.behaviour_profile.proofs.BehaviourEntryLemmas.{place-below_sets, own_set-below, place-found, actions-counted, first_for_none-place, entries_at-push}
 use Rattle.behaviour_profile.proofs.push_player.Goals as goal
 use Rattle.behaviour_profile.proofs.push_player.Goals.{After-own_sets, in-Some+in_ok-push_set, in_default}
 

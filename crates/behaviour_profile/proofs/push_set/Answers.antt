@@ -1,7 +1,7 @@
 use Rattle.std.proofs.Common.{◌≡◌, sym, ap, ◌∙◌}
-use Rattle.game_theory.proofs.Entries.{listed-push}
+use Rattle.game_theory.proofs.EntryLemmas.{listed-push}
 use Rattle.game_theory.specs.Mixed.{sure}
-use Rattle.game_theory.proofs.SureStrategies.{sure-at, sure-other}
+use Rattle.game_theory.proofs.SureStrategyLemmas.{sure-at, sure-other}
 use Rattle.behaviour_profile.proofs.push_set.Goals as goal
 use Rattle.behaviour_profile.proofs.push_set.Goals.{then-action-chosen, else-action-chosen}
 

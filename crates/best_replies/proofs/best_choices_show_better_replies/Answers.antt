@@ -1,4 +1,4 @@
-use Rattle.best_replies.proofs.Verdicts.{best_choices-tell}
+use Rattle.best_replies.proofs.VerdictLemmas.{best_choices-tell}
 use Rattle.best_replies.proofs.best_choices_show_better_replies.Goals as goal
 
 pub returns : goal.returns

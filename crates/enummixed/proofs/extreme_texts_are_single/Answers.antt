@@ -1,4 +1,4 @@
-use Rattle.enummixed.proofs.VertexPairs.{texts-single}
+use Rattle.enummixed.proofs.VertexPairLemmas.{texts-single}
 use Rattle.enummixed.proofs.extreme_texts_are_single.Goals as goal
 
 pub returns : goal.returns

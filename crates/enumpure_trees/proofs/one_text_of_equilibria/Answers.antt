@@ -1,4 +1,4 @@
-use Rattle.enumpure_trees.proofs.EquilibriumLines.{text-determined}
+use Rattle.enumpure_trees.proofs.EquilibriumLineLemmas.{text-determined}
 use Rattle.enumpure_trees.proofs.one_text_of_equilibria.Goals as goal
 
 pub returns : goal.returns

@@ -1,4 +1,4 @@
-use Rattle.extreme_equilibria.proofs.Masks.{masks_determine_labels}
+use Rattle.extreme_equilibria.proofs.MaskLemmas.{masks_determine_labels}
 use Rattle.extreme_equilibria.proofs.masks_determine_labels.Goals as goal
 
 pub returns : goal.returns

@@ -1,4 +1,4 @@
-use Rattle.extreme_equilibria.proofs.ExtremeEquilibria.{profiles-spread}
+use Rattle.extreme_equilibria.proofs.ExtremeEquilibriaLemmas.{profiles-spread}
 use Rattle.extreme_equilibria.proofs.profiles_are_spread.Goals as goal
 
 pub returns : goal.returns

@@ -1,4 +1,4 @@
-use Rattle.extreme_equilibria.proofs.Rounds.{rounds-end}
+use Rattle.extreme_equilibria.proofs.RoundLemmas.{rounds-end}
 use Rattle.extreme_equilibria.proofs.rounds_end.Goals as goal
 
 pub returns : goal.returns

@@ -1,4 +1,4 @@
-use Rattle.game_theory.proofs.LineTexts.{lines-tell}
+use Rattle.game_theory.proofs.LineTextLemmas.{lines-tell}
 use Rattle.game_theory.proofs.lines_determine_profiles.Goals as goal
 
 pub returns : goal.returns

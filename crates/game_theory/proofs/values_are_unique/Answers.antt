@@ -1,4 +1,4 @@
-use Rattle.game_theory.proofs.Values.{value-unique}
+use Rattle.game_theory.proofs.ValueLemmas.{value-unique}
 use Rattle.game_theory.proofs.values_are_unique.Goals as goal
 
 pub returns : goal.returns

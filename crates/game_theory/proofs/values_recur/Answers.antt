@@ -1,4 +1,4 @@
-use Rattle.game_theory.proofs.Values.{value-recurs}
+use Rattle.game_theory.proofs.ValueLemmas.{value-recurs}
 use Rattle.game_theory.proofs.values_recur.Goals as goal
 
 pub returns : goal.returns

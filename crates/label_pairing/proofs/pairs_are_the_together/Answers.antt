@@ -1,4 +1,4 @@
-use Rattle.label_pairing.proofs.AllPairs.{pairs_together}
+use Rattle.label_pairing.proofs.AllPairLemmas.{pairs_together}
 use Rattle.label_pairing.proofs.pairs_are_the_together.Goals as goal
 
 pub returns : goal.returns

@@ -1,4 +1,4 @@
-use Rattle.lemke_pivot.proofs.ProblemPaths as Paths
+use Rattle.lemke_pivot.proofs.ProblemPathLemmas as Paths
 use Rattle.lemke_pivot.proofs.always_a_leaving_row.Goals as goal
 
 pub returns : goal.returns

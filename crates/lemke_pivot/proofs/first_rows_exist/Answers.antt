@@ -1,4 +1,4 @@
-use Rattle.lemke_pivot.proofs.ProblemPaths as Paths
+use Rattle.lemke_pivot.proofs.ProblemPathLemmas as Paths
 use Rattle.lemke_pivot.proofs.first_rows_exist.Goals as goal
 
 pub returns : goal.returns

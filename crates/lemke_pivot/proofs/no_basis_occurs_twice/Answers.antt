@@ -1,4 +1,4 @@
-use Rattle.lemke_pivot.proofs.ProblemPaths as Paths
+use Rattle.lemke_pivot.proofs.ProblemPathLemmas as Paths
 use Rattle.lemke_pivot.proofs.no_basis_occurs_twice.Goals as goal
 
 pub returns : goal.returns

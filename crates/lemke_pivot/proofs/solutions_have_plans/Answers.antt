@@ -1,4 +1,4 @@
-use Rattle.lemke_pivot.proofs.Solutions as Solutions
+use Rattle.lemke_pivot.proofs.SolutionLemmas as Solutions
 use Rattle.lemke_pivot.proofs.solutions_have_plans.Goals as goal
 
 pub returns : goal.returns

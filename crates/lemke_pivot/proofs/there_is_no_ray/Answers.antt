@@ -1,4 +1,4 @@
-use Rattle.lemke_pivot.proofs.Copositive as Copositive
+use Rattle.lemke_pivot.proofs.CopositiveLemmas as Copositive
 use Rattle.lemke_pivot.proofs.there_is_no_ray.Goals as goal
 
 pub returns : goal.returns

@@ -1,4 +1,4 @@
-use Rattle.linear_systems.proofs.Solutions.{solution_extreme}
+use Rattle.linear_systems.proofs.SolutionLemmas.{solution_extreme}
 use Rattle.linear_systems.proofs.basic_solutions_are_extreme.Goals as goal
 
 pub returns : goal.returns

@@ -1,4 +1,4 @@
-use Rattle.linear_systems.proofs.Cover.{covers}
+use Rattle.linear_systems.proofs.CoverLemmas.{covers}
 use Rattle.linear_systems.proofs.closed_sets_cover.Goals as goal
 
 pub returns : goal.returns

@@ -1,4 +1,4 @@
-use Rattle.linear_systems.proofs.Starts.{start_reached, alike_reached, pivot_reached}
+use Rattle.linear_systems.proofs.StartLemmas.{start_reached, alike_reached, pivot_reached}
 use Rattle.linear_systems.proofs.lexicographic_pivots_reach.Goals as goal
 
 pub returns : goal.returns

@@ -1,4 +1,4 @@
-use Rattle.linear_systems.proofs.Small.{extreme_alone}
+use Rattle.linear_systems.proofs.SmallStepLemmas.{extreme_alone}
 use Rattle.linear_systems.proofs.zeros_determine.Goals as goal
 
 pub returns : goal.returns

@@ -1,4 +1,4 @@
-use Rattle.lists.proofs.Orders.{lists_ordered}
+use Rattle.lists.proofs.OrderLemmas.{lists_ordered}
 use Rattle.lists.proofs.lists_are_ordered.Goals as goal
 
 pub returns : goal.returns

@@ -1,7 +1,7 @@
 use Rattle.std.proofs.Common.{◌≡◌, ◌++◌, [], ap, ◌∙◌, subst}
 use Rattle.std.specs.Prelude.{OnOk}
 use Rattle.ne_printer.specs.Entries.{numbers_line}
-use Rattle.ne_printer.proofs.LineTexts.{line_text-joined}
+use Rattle.ne_printer.proofs.LineTextLemmas.{line_text-joined}
 use Rattle.ne_printer.proofs.push_line.Goals as goal
 
 pub returns-clause-line : goal.returns-clause-line

@@ -1,7 +1,7 @@
 use Rattle.rational.specs.Rational.{den_pos, lowest}
-use Rattle.rational.proofs.Fractions.{frac_self}
-use Rattle.rational.proofs.Inverse.{frac-inv, frac-inv_neg}
-use Rattle.rational.proofs.Parts.{frac-eq, frac-le, frac-lt, frac-add, frac-mul, frac-neg}
+use Rattle.rational.proofs.FractionLemmas.{frac_self}
+use Rattle.rational.proofs.InverseLemmas.{frac-inv, frac-inv_neg}
+use Rattle.rational.proofs.PartLemmas.{frac-eq, frac-le, frac-lt, frac-add, frac-mul, frac-neg}
 use Rattle.rational.proofs.fractions_stand_for_numbers.Goals as goal
 
 pub returns : goal.returns

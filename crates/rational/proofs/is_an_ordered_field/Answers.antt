@@ -1,5 +1,5 @@
 use Rattle.rational.proofs.Field.{*ℚ-inv, le_trans, le_antisymm, le_total, lt-le, le-add_left, nonneg-mul}
-use Rattle.rational.proofs.Inverse.{one_pos, inv_ℚ-zero}
+use Rattle.rational.proofs.InverseLemmas.{one_pos, inv_ℚ-zero}
 use Rattle.rational.proofs.is_an_ordered_field.Goals as goal
 
 pub returns : goal.returns

@@ -1,4 +1,4 @@
-use Rattle.rational.proofs.Means.{mean_le, support}
+use Rattle.rational.proofs.MeanLemmas.{mean_le, support}
 use Rattle.rational.proofs.means_stay_below.Goals as goal
 
 pub returns : goal.returns

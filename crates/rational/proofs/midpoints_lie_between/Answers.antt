@@ -1,4 +1,4 @@
-use Rattle.rational.proofs.Midpoints.{midpoint_above, midpoint_below, midpoint_is}
+use Rattle.rational.proofs.MidpointLemmas.{midpoint_above, midpoint_below, midpoint_is}
 use Rattle.rational.proofs.midpoints_lie_between.Goals as goal
 
 pub returns : goal.returns

@@ -1,5 +1,5 @@
 use Rattle.std.proofs.Common.{refl}
-use Rattle.rational.proofs.Sums.{sum_to-add, sum_to-scale, sum_to-exchange, sum_to-append, sum_to-le, each_zero}
+use Rattle.rational.proofs.SumLemmas.{sum_to-add, sum_to-scale, sum_to-exchange, sum_to-append, sum_to-le, each_zero}
 use Rattle.rational.proofs.sums_add_up.Goals as goal
 
 pub returns : goal.returns

@@ -1,4 +1,4 @@
-use Rattle.reduced_strategies.proofs.Completions.{completions-pay}
+use Rattle.reduced_strategies.proofs.CompletionLemmas.{completions-pay}
 use Rattle.reduced_strategies.proofs.completions_pay_the_cell.Goals as goal
 
 pub returns : goal.returns

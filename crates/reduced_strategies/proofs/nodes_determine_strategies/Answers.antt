@@ -1,4 +1,4 @@
-use Rattle.reduced_strategies.proofs.Nodes.{nodes-tell}
+use Rattle.reduced_strategies.proofs.NodeLemmas.{nodes-tell}
 use Rattle.reduced_strategies.proofs.nodes_determine_strategies.Goals as goal
 
 pub returns : goal.returns

@@ -1,4 +1,4 @@
-use Rattle.reduced_strategies.proofs.Alone.{alone-strategies}
+use Rattle.reduced_strategies.proofs.OnePlayerExamples.{alone-strategies}
 use Rattle.reduced_strategies.proofs.reduced_strategies_of_one_player.Goals as goal
 
 pub returns : goal.returns

@@ -1,4 +1,4 @@
-use Rattle.reduced_strategies.proofs.Existence.{strategies-exist}
+use Rattle.reduced_strategies.proofs.ExistenceLemmas.{strategies-exist}
 use Rattle.reduced_strategies.proofs.strategies_exist.Goals as goal
 
 pub returns : goal.returns

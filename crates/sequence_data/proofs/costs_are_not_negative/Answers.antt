@@ -1,4 +1,4 @@
-use Rattle.sequence_data.proofs.Gains.{costs_positive_one, costs_positive_two}
+use Rattle.sequence_data.proofs.GainLemmas.{costs_positive_one, costs_positive_two}
 use Rattle.sequence_data.proofs.costs_are_not_negative.Goals as goal
 
 pub returns-clause-one : goal.returns-clause-one

@@ -1,4 +1,4 @@
-use Rattle.sequence_data.proofs.Order.{greatest-one, least-one}
+use Rattle.sequence_data.proofs.OrderLemmas.{greatest-one, least-one}
 use Rattle.sequence_data.proofs.extremes_are_one.Goals as goal
 
 pub returns-clause-greatest : goal.returns-clause-greatest

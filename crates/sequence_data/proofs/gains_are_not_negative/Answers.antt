@@ -1,4 +1,4 @@
-use Rattle.sequence_data.proofs.Gains.{gains_positive}
+use Rattle.sequence_data.proofs.GainLemmas.{gains_positive}
 use Rattle.sequence_data.proofs.gains_are_not_negative.Goals as goal
 
 pub returns : goal.returns

@@ -1,4 +1,4 @@
-use Rattle.sequence_data.proofs.Order.{unfit-none, unfit-one}
+use Rattle.sequence_data.proofs.OrderLemmas.{unfit-none, unfit-one}
 use Rattle.sequence_data.proofs.stops_are_exact.Goals as goal
 
 pub returns-clause-one : goal.returns-clause-one

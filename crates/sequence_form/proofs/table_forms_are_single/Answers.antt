@@ -1,4 +1,4 @@
-use Rattle.sequence_form.proofs.Forms.{table_form-single}
+use Rattle.sequence_form.proofs.FormLemmas.{table_form-single}
 use Rattle.sequence_form.proofs.table_forms_are_single.Goals as goal
 
 pub returns : goal.returns

@@ -1,4 +1,4 @@
-use Rattle.sequence_form.proofs.Forms.{tree_form-single}
+use Rattle.sequence_form.proofs.FormLemmas.{tree_form-single}
 use Rattle.sequence_form.proofs.tree_forms_are_single.Goals as goal
 
 pub returns : goal.returns

@@ -1,4 +1,4 @@
-use Rattle.tree_grammar.proofs.Whole.{read_is_file, file_is_read}
+use Rattle.tree_grammar.proofs.WholeFileLaws.{read_is_file, file_is_read}
 use Rattle.tree_grammar.proofs.files_are_read.Goals as goal
 
 pub returns-clause-sound : goal.returns-clause-sound

@@ -1,4 +1,4 @@
-use Rattle.zero_sum_lp.proofs.Ends.{value_proved}
+use Rattle.zero_sum_lp.proofs.EndPriceLemmas.{value_proved}
 use Rattle.zero_sum_lp.proofs.optima_prove_the_value.Goals as goal
 
 pub returns : goal.returns

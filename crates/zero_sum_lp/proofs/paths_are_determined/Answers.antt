@@ -1,4 +1,4 @@
-use Rattle.zero_sum_lp.proofs.Determined.{after_once, path_ends}
+use Rattle.zero_sum_lp.proofs.DeterminedPathLemmas.{after_once, path_ends}
 use Rattle.zero_sum_lp.proofs.paths_are_determined.Goals as goal
 
 pub returns : goal.returns

@@ -1,4 +1,4 @@
-use Rattle.zero_sum_lp.proofs.Determined.{path_is_short}
+use Rattle.zero_sum_lp.proofs.DeterminedPathLemmas.{path_is_short}
 use Rattle.zero_sum_lp.proofs.paths_end.Goals as goal
 
 pub returns : goal.returns

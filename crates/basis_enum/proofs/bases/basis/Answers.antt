@@ -2,7 +2,7 @@ use Rattle.std.proofs.Common.{get_or, arith, ◌<◌, ◌^◌, ◌≡◌, take}
 use Rattle.std.proofs.lemmas.List.Elements.{Contains-get_or}
 use Rattle.std.proofs.lemmas.List.Sums.{sum_by_more_le}
 use Rattle.basis_enum.specs.Bases.{digit, basis_of}
-use Rattle.basis_enum.proofs.Digits.{basis_below}
+use Rattle.basis_enum.proofs.DigitLemmas.{basis_below}
 use Rattle.basis_enum.proofs.bases.basis.Goals as goal
 
 pub digit-basis-requires-clause-above : goal.digit-basis-requires-clause-above

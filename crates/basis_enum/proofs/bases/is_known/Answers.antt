@@ -1,5 +1,5 @@
-use Rattle.basis_enum.proofs.Neighbours.{place_of}
-use Rattle.basis_enum.proofs.Search.{missed_at}
+use Rattle.basis_enum.proofs.NeighbourLemmas.{place_of}
+use Rattle.basis_enum.proofs.SearchLemmas.{missed_at}
 use Rattle.basis_enum.proofs.bases.is_known.Goals as goal
 
 pub returns-in-Err-clause-new : goal.returns-in-Err-clause-new

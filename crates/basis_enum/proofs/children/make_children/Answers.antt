@@ -1,8 +1,8 @@
 use Rattle.std.proofs.Common.{◌≡◌, ◌+◌, ◌∙◌, ◌∷◌, [], rules, ap, length, arith}
 use Rattle.std.proofs.lemmas.List.{length-append}
 use Rattle.std.proofs.lemmas.Result.{err_from_is_err_and}
-use Rattle.basis_enum.proofs.NextLevel.{made_more, stop_made}
-use Rattle.basis_enum.proofs.Walks.{adding_more}
+use Rattle.basis_enum.proofs.NextLevelLemmas.{made_more, stop_made}
+use Rattle.basis_enum.proofs.WalkLemmas.{adding_more}
 use Rattle.basis_enum.proofs.children.make_children.Goals as goal
 
 pub loop-place-preserved : goal.loop-place-preserved

@@ -6,8 +6,8 @@ use Rattle.basis_enum.specs.Levels.{IsChild}
 use Rattle.basis_enum.specs.Found.{AreFound}
 use Rattle.basis_enum.specs.Marks.{IsVertexOf}
 use Rattle.basis_enum.specs.Next.{move_of, no_move}
-use Rattle.basis_enum.proofs.NextLevel.{made_more}
-use Rattle.basis_enum.proofs.Walks.{adding_more}
+use Rattle.basis_enum.proofs.NextLevelLemmas.{made_more}
+use Rattle.basis_enum.proofs.WalkLemmas.{adding_more}
 use Rattle.basis_enum.proofs.children.share_children.Goals as goal
 
 pub loop-piece-preserved : goal.loop-piece-preserved

@@ -1,6 +1,6 @@
 use Rattle.std.proofs.Common.{◌∙◌}
 use Rattle.basis_enum.specs.Vertices.{list_of}
-use Rattle.basis_enum.proofs.Walks.{walk_vertices}
+use Rattle.basis_enum.proofs.WalkLemmas.{walk_vertices}
 use Rattle.basis_enum.proofs.enumeration.enumerate_with.Goals as goal
 
 pub returns-in-Ok-clause-vertices : goal.returns-in-Ok-clause-vertices

@@ -3,8 +3,8 @@ use Rattle.std.proofs.lemmas.Fn.{dedup_same}
 use Rattle.std.proofs.lemmas.List.Sorted.{IsNonDecreasingBy-from_sort_by_key}
 use Rattle.linear_systems.specs.Vertices.{mask_of}
 use Rattle.basis_enum.specs.Vertices.{mark_of}
-use Rattle.basis_enum.proofs.Orders.{is_tie}
-use Rattle.basis_enum.proofs.VertexMarks.{marks_in_order}
+use Rattle.basis_enum.proofs.OrderLemmas.{is_tie}
+use Rattle.basis_enum.proofs.VertexMarkLemmas.{marks_in_order}
 use Rattle.basis_enum.proofs.marking.in_order.Goals as goal
 
 pub returns : goal.returns

@@ -1,4 +1,4 @@
-use Rattle.basis_enum.proofs.BasicValues.{value_more}
+use Rattle.basis_enum.proofs.BasicValueLemmas.{value_more}
 use Rattle.basis_enum.proofs.marking.values.Goals as goal
 
 pub loop-variable-preserved : goal.loop-variable-preserved

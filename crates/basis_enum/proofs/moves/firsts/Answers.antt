@@ -1,5 +1,5 @@
 use Rattle.std.proofs.Common.{rules}
-use Rattle.basis_enum.proofs.Firsts.{firsts_all}
+use Rattle.basis_enum.proofs.FirstMoveLemmas.{firsts_all}
 use Rattle.basis_enum.proofs.moves.firsts.Goals as goal
 
 pub returns : goal.returns

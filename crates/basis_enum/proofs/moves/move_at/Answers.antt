@@ -1,6 +1,6 @@
 use Rattle.std.proofs.Common.{subst}
 use Rattle.std.specs.List.{Contains}
-use Rattle.basis_enum.proofs.FoundMoves.{leads_back}
+use Rattle.basis_enum.proofs.FoundMoveLemmas.{leads_back}
 use Rattle.basis_enum.proofs.moves.move_at.Goals as goal
 
 pub returns-then-is_known : goal.returns-then-is_known

@@ -1,6 +1,6 @@
 use Rattle.std.proofs.Common.{rules, sym, subst, ◌+◌}
 use Rattle.basis_enum.specs.Next.{AreFirsts}
-use Rattle.basis_enum.proofs.Firsts.{firsts_skip, firsts_push}
+use Rattle.basis_enum.proofs.FirstMoveLemmas.{firsts_skip, firsts_push}
 use Rattle.basis_enum.proofs.moves.take_first.Goals as goal
 
 pub returns-then-not-is_first : goal.returns-then-not-is_first

@@ -1,5 +1,5 @@
 use Rattle.std.proofs.Common.{◌<◌, ◌≤◌, subst, sym}
-use Rattle.basis_enum.proofs.FoundMoves.{leaving_bounds, entering_bounds, target_fits}
+use Rattle.basis_enum.proofs.FoundMoveLemmas.{leaving_bounds, entering_bounds, target_fits}
 use Rattle.basis_enum.proofs.moves.target.Goals as goal
 
 pub exchanged-requires-clause-leaving_above : goal.exchanged-requires-clause-leaving_above

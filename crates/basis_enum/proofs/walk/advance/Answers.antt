@@ -7,8 +7,8 @@ use Rattle.basis_enum.specs.Found.{AreReady}
 use Rattle.basis_enum.specs.Merged.{IsMerged}
 use Rattle.basis_enum.specs.Next.{AreNewMoves}
 use Rattle.basis_enum.specs.Walks.{HaveEntering, IsLimitStop, IsMoveStop, IsWalkAt}
-use Rattle.basis_enum.proofs.LevelMoves.{found_small, new_moves_are}
-use Rattle.basis_enum.proofs.Walks.{walk_few, walk_ready, walk_next, moves_are, moves_enter, moves_lead, targets_apart, children_ready, limit_stop, move_stop}
+use Rattle.basis_enum.proofs.LevelMoveLemmas.{found_small, new_moves_are}
+use Rattle.basis_enum.proofs.WalkLemmas.{walk_few, walk_ready, walk_next, moves_are, moves_enter, moves_lead, targets_apart, children_ready, limit_stop, move_stop}
 use Rattle.basis_enum.proofs.walk.advance.Goals as goal
 
 pub returns-in_err-check_count-clause-stop : goal.returns-in_err-check_count-clause-stop

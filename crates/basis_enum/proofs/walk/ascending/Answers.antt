@@ -2,7 +2,7 @@ use Rattle.std.proofs.Common.{◌≡◌, ◌∙◌, ap, length, take, eqb, subst
 use Rattle.std.specs.List.Sorted.{IsPermutation}
 use Rattle.std.proofs.Math.Seq.{take-length}
 use Rattle.std.proofs.lemmas.List.Filters.{dedup_is}
-use Rattle.basis_enum.proofs.Ascending.{ascending_is}
+use Rattle.basis_enum.proofs.AscendingListLemmas.{ascending_is}
 use Rattle.basis_enum.proofs.walk.ascending.Goals as goal
 
 pub returns : goal.returns

@@ -1,6 +1,6 @@
 use Rattle.std.proofs.Common.{◌≡◌, ◌≤◌, length, subst, arith}
 use Rattle.basis_enum.specs.Walks.{IsWalkAt}
-use Rattle.basis_enum.proofs.Walks.{walk_few, walk_ends}
+use Rattle.basis_enum.proofs.WalkLemmas.{walk_few, walk_ends}
 use Rattle.basis_enum.proofs.walk.reach.Goals as goal
 
 pub returns-then-is_empty-clause-bounded : goal.returns-then-is_empty-clause-bounded

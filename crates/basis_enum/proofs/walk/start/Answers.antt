@@ -4,8 +4,8 @@ use Rattle.lex_tableau.specs.Rows.{Numbers}
 use Rattle.basis_enum.specs.declared.vertex.Vertex.{Vertex}
 use Rattle.basis_enum.specs.Bases.{AreVariables, basis_of}
 use Rattle.basis_enum.specs.Next.{AreNewMoves}
-use Rattle.basis_enum.proofs.LevelMoves.{found_small, new_moves_are}
-use Rattle.basis_enum.proofs.Walks.{system_variables, first_ready, first_numbered, first_basis, first_found, first_all_ready, walk_start}
+use Rattle.basis_enum.proofs.LevelMoveLemmas.{found_small, new_moves_are}
+use Rattle.basis_enum.proofs.WalkLemmas.{system_variables, first_ready, first_numbered, first_basis, first_found, first_all_ready, walk_start}
 use Rattle.basis_enum.proofs.walk.start.Goals as goal
 
 pub basis-basis-requires : goal.basis-basis-requires

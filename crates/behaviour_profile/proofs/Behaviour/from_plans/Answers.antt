@@ -1,7 +1,7 @@
 use Rattle.std.proofs.Common.{refl}
 use Rattle.std.proofs.lemmas.Result.{err_from_is_err_and}
 use Rattle.behaviour_profile.specs.Plans.{plans_of}
-use Rattle.behaviour_profile.proofs.PlanStops.{first_stop, second_stop, both_made}
+use Rattle.behaviour_profile.proofs.PlanStopLemmas.{first_stop, second_stop, both_made}
 use Rattle.behaviour_profile.proofs.Behaviour.from_plans.Goals as goal
 
 pub returns-in_err-push_plan : goal.returns-in_err-push_plan

@@ -1,10 +1,10 @@
 use Rattle.std.proofs.Common.{◌<◌, ◌≡◌, ◌∙◌, sym, ap, subst, length, map, arith}
 use Rattle.std.proofs.lemmas.List.{length-map}
 use Rattle.game_theory.specs.Profiles.{IsProfile}
-use Rattle.game_theory.proofs.ProfileNumbers.{length-profile}
+use Rattle.game_theory.proofs.ProfileNumberLemmas.{length-profile}
 use Rattle.game_core.specs.TreeGame.{game_of_tree}
 use Rattle.reduced_strategies.specs.StrategicForm.{AreStrategies, list_of}
-use Rattle.behaviour_profile.proofs.BehaviourEntries.{number-within, strategy-is, list_of-long, entries_from-push}
+use Rattle.behaviour_profile.proofs.BehaviourEntryLemmas.{number-within, strategy-is, list_of-long, entries_from-push}
 use Rattle.behaviour_profile.proofs.Behaviour.from_reduced.Goals as goal
 use Rattle.behaviour_profile.proofs.Behaviour.from_reduced.Goals.{After-lists, After-deref}
 

@@ -1,6 +1,6 @@
 use Rattle.std.proofs.Common.{ap, length, arith}
 use Rattle.game_core.specs.TreeGame.{game_of_tree}
-use Rattle.behaviour_profile.proofs.TreeGroups.{total-next, total-within}
+use Rattle.behaviour_profile.proofs.TreeGroupLemmas.{total-next, total-within}
 use Rattle.behaviour_profile.proofs.entries.is_count.Goals as goal
 
 pub returns-in-None : goal.returns-in-None

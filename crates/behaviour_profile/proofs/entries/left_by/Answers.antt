@@ -5,9 +5,9 @@ use Rattle.game_core.specs.Tree.{InformationSet}
 use Rattle.game_core.specs.TreeGame.{game_of_tree}
 use Rattle.game_theory.specs.OwnSets.{own_sets}
 use Rattle.behaviour_profile.specs.EntryTests.{own_counts}
-use Rattle.behaviour_profile.proofs.BehaviourEntries.{place-below_sets}
-use Rattle.behaviour_profile.proofs.GroupLists.{sum-next, end-within, number-within}
-use Rattle.behaviour_profile.proofs.TreeGroups.{none-left, set-below, count-at, count-is}
+use Rattle.behaviour_profile.proofs.BehaviourEntryLemmas.{place-below_sets}
+use Rattle.behaviour_profile.proofs.GroupListLemmas.{sum-next, end-within, number-within}
+use Rattle.behaviour_profile.proofs.TreeGroupLemmas.{none-left, set-below, count-at, count-is}
 use Rattle.behaviour_profile.proofs.entries.left_by.Goals as goal
 use Rattle.behaviour_profile.proofs.entries.left_by.Goals.{After-actions}
 

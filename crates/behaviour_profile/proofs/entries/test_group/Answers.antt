@@ -2,10 +2,10 @@ use Rattle.std.proofs.Common.{All, arith, refl, sym, subst, ap, ◌∙◌, ◌�
 use Rattle.std.proofs.lemmas.Bool.{false≢true}
 use Rattle.std.proofs.lemmas.Int.{ints}
 use Rattle.rational.specs.Rational.{◌≤ℚ◌, zero_ℚ}
-use Rattle.rational.proofs.Parts.{nonneg-num, sign_nonneg}
-use Rattle.sequence_data.proofs.Places.{get_or-inside}
+use Rattle.rational.proofs.PartLemmas.{nonneg-num, sign_nonneg}
+use Rattle.sequence_data.proofs.PlaceLemmas.{get_or-inside}
 use Rattle.behaviour_profile.specs.EntryTests.{Passes, entry_at}
-use Rattle.behaviour_profile.proofs.GroupTests.{tests_below, sum_below, negative_by_sign, negative_here, unfit_here, passed-next, sum-next, group-passed, sum_here}
+use Rattle.behaviour_profile.proofs.GroupTestLemmas.{tests_below, sum_below, negative_by_sign, negative_here, unfit_here, passed-next, sum-next, group-passed, sum_here}
 use Rattle.behaviour_profile.proofs.entries.test_group.Goals as goal
 use Rattle.behaviour_profile.proofs.entries.test_group.Goals.{After-signum}
 

@@ -1,6 +1,6 @@
 use Rattle.std.proofs.Common.{◌≡◌, All}
 use Rattle.behaviour_profile.specs.EntryTests.{Passes}
-use Rattle.behaviour_profile.proofs.GroupTests.{tests_below, sum_below}
+use Rattle.behaviour_profile.proofs.GroupTestLemmas.{tests_below, sum_below}
 use Rattle.behaviour_profile.proofs.entries.test_group.Given as goal
 
 abbrev pub invariant-loop-k : goal.invariant-loop-k

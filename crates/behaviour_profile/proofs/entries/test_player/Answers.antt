@@ -4,8 +4,8 @@ use Rattle.std.proofs.lemmas.List.{length-take-le}
 use Rattle.game_core.specs.Tree.{InformationSet}
 use Rattle.game_core.specs.TreeGame.{game_of_tree}
 use Rattle.behaviour_profile.specs.EntryTests.{Passes, own_counts, tests_from}
-use Rattle.behaviour_profile.proofs.GroupLists.{sum-next, end-within, number-within, next_passes, next_fault}
-use Rattle.behaviour_profile.proofs.TreeGroups.{none-left, set-below, count-at, count-is, count-few}
+use Rattle.behaviour_profile.proofs.GroupListLemmas.{sum-next, end-within, number-within, next_passes, next_fault}
+use Rattle.behaviour_profile.proofs.TreeGroupLemmas.{none-left, set-below, count-at, count-is, count-few}
 use Rattle.behaviour_profile.proofs.entries.test_player.Goals as goal
 use Rattle.behaviour_profile.proofs.entries.test_player.Goals.{After-actions, In_default}
 

@@ -2,8 +2,8 @@ use Rattle.std.proofs.Common.{ap, length, ◌<◌, ◌≤◌, ◌+◌, ◌^◌, 
 use Rattle.std.specs.Prelude.{sum}
 use Rattle.game_core.specs.TreeGame.{game_of_tree}
 use Rattle.behaviour_profile.specs.EntryTests.{own_counts}
-use Rattle.behaviour_profile.proofs.ActionTotals.{actions-few}
-use Rattle.behaviour_profile.proofs.TreeGroups.{total-next, groups-next, total-within, groups-within, player_passes, player_fault}
+use Rattle.behaviour_profile.proofs.ActionTotalLemmas.{actions-few}
+use Rattle.behaviour_profile.proofs.TreeGroupLemmas.{total-next, groups-next, total-within, groups-within, player_passes, player_fault}
 use Rattle.behaviour_profile.proofs.entries.test_players.Goals as goal
 use Rattle.behaviour_profile.proofs.entries.test_players.Goals.{In-loop-player}
 

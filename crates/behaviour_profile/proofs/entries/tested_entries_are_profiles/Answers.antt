@@ -1,4 +1,4 @@
-use Rattle.behaviour_profile.proofs.TestedEntries.{tested_entries}
+use Rattle.behaviour_profile.proofs.TestedEntryLemmas.{tested_entries}
 use Rattle.behaviour_profile.proofs.entries.tested_entries_are_profiles.Goals as goal
 
 pub returns : goal.returns

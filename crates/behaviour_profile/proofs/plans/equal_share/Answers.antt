@@ -1,7 +1,7 @@
 use Rattle.std.proofs.Common.{arith, refl}
 use Rattle.std.proofs.lemmas.Int.{to_z_pos}
 use Rattle.std.specs.Int.{w128}
-use Rattle.behaviour_profile.proofs.SharesTaken.{equal_share-had}
+use Rattle.behaviour_profile.proofs.TakenShareLemmas.{equal_share-had}
 use Rattle.behaviour_profile.proofs.plans.equal_share.Goals as goal
 
 pub returns-in-None : goal.returns-in-None

@@ -3,7 +3,7 @@ use Rattle.std.proofs.lemmas.Option.{slice_get-get_or, get_or_from_slice_get}
 use Rattle.game_theory.specs.OwnSets.{own_sets}
 use Rattle.game_core.specs.Tree.{InformationSet}
 use Rattle.game_core.specs.TreeGame.{game_of_tree}
-use Rattle.behaviour_profile.proofs.BehaviourEntries.{own_set-below, place-found}
+use Rattle.behaviour_profile.proofs.BehaviourEntryLemmas.{own_set-below, place-found}
 use Rattle.behaviour_profile.proofs.plans.label.Goals as goal
 
 pub bounds-sets-set : goal.bounds-sets-set

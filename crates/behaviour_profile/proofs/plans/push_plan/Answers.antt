@@ -6,9 +6,9 @@ use Rattle.game_theory.specs.OwnSets.{own_sets}
 use Rattle.sequence_data.specs.Data.{SideData}
 use Rattle.sequence_data.specs.declared.types.SetRow.{SetRow}
 use Rattle.sequence_form.specs.Sequences.{set_row}
-use Rattle.behaviour_profile.proofs.BehaviourEntries.{place-below_sets}
-use Rattle.behaviour_profile.proofs.PlanShares.{own_within, row_is, before_within, after_within}
-use Rattle.behaviour_profile.proofs.PlanStops.{all_sets, next_set, set_stop}
+use Rattle.behaviour_profile.proofs.BehaviourEntryLemmas.{place-below_sets}
+use Rattle.behaviour_profile.proofs.PlanShareLemmas.{own_within, row_is, before_within, after_within}
+use Rattle.behaviour_profile.proofs.PlanStopLemmas.{all_sets, next_set, set_stop}
 use Rattle.behaviour_profile.proofs.plans.push_plan.Goals as goal
 
 abbrev none : SetRow

@@ -2,7 +2,7 @@ use Rattle.std.proofs.Common.{◌≡◌, ℕ}
 use Rattle.rational.specs.Rational.{ℚ}
 use Rattle.game_core.specs.TreeGame.{game_of_tree}
 use Rattle.sequence_data.specs.Weights.{weight}
-use Rattle.behaviour_profile.proofs.PlanStops.{AddsSets}
+use Rattle.behaviour_profile.proofs.PlanStopLemmas.{AddsSets}
 use Rattle.behaviour_profile.proofs.plans.push_plan.Given as goal
 
 abbrev pub invariant-loop-place : goal.invariant-loop-place

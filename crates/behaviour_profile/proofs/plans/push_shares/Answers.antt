@@ -1,5 +1,5 @@
 use Rattle.std.proofs.Common.{◌+◌, ◌<◌, length, refl, arith}
-use Rattle.behaviour_profile.proofs.SharesTaken.{weight_read, next_share, next_fits, first_share, all_shares}
+use Rattle.behaviour_profile.proofs.TakenShareLemmas.{weight_read, next_share, next_fits, first_share, all_shares}
 use Rattle.behaviour_profile.proofs.plans.push_shares.Goals as goal
 
 pub returns-in-Err-clause-stop : goal.returns-in-Err-clause-stop

@@ -1,6 +1,6 @@
 use Rattle.std.proofs.Common.{◌∙◌, sym}
 use Rattle.std.proofs.lemmas.Bool.{false≢true}
-use Rattle.behaviour_profile.proofs.SharesTaken.{share-none, none_fit, divided_is, divided_unfit}
+use Rattle.behaviour_profile.proofs.TakenShareLemmas.{share-none, none_fit, divided_is, divided_unfit}
 use Rattle.behaviour_profile.proofs.plans.share.Goals as goal
 
 pub returns-then-is_zero-clause-value : goal.returns-then-is_zero-clause-value

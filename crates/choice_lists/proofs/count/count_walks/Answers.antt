@@ -1,9 +1,9 @@
 use Rattle.std.proofs.Common.{◌+◌, ◌≡◌, true, length, get_or, min, refl, ap, ◌∙◌, arith}
 use mathlib.Core.Bool.{beq}
 use Rattle.std.proofs.lemmas.Result.{IfOk-weaker}
-use Rattle.choice_lists.proofs.Turns.{walks_counted}
+use Rattle.choice_lists.proofs.WalkTurnLemmas.{walks_counted}
 use Rattle.choice_lists.specs.LeftOut.{all_ends}
-use Rattle.choice_lists.proofs.LeftOut.{AreApart-shared, fails_there}
+use Rattle.choice_lists.proofs.LeftOutDecisionLemmas.{AreApart-shared, fails_there}
 use Rattle.choice_lists.proofs.count.count_walks.Goals as goal
 
 pub returns-then-not-contains : goal.returns-then-not-contains

@@ -1,7 +1,7 @@
 use Rattle.std.proofs.Common.{None, get_or, arith, add-one}
 use Rattle.std.proofs.lemmas.Option.{slice_get-get_or}
 use Rattle.choice_lists.specs.declared.decision.Decision.{Decision}
-use Rattle.choice_lists.proofs.After.{AreOnes-none, AreOnes-next, AreAfter-ones}
+use Rattle.choice_lists.proofs.WayCountLemmas.{AreOnes-none, AreOnes-next, AreAfter-ones}
 use Rattle.choice_lists.proofs.count.ones.Goals as goal
 
 -- a decision where there is none

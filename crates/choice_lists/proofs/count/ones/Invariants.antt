@@ -1,4 +1,4 @@
-use Rattle.choice_lists.proofs.After.{AreOnes}
+use Rattle.choice_lists.proofs.WayCountLemmas.{AreOnes}
 use Rattle.choice_lists.proofs.count.ones.Given as goal
 
 abbrev pub invariant-loop-decision : goal.invariant-loop-decision

@@ -1,7 +1,7 @@
 use Rattle.std.proofs.Common.{◌≡◌, length, min, ap, sym, ◌∙◌, arith, add-one}
 use Rattle.std.specs.Prelude.{slice_index}
 use Rattle.choice_lists.specs.Ways.{sum_branches}
-use Rattle.choice_lists.proofs.After.{sum-next}
+use Rattle.choice_lists.proofs.WayCountLemmas.{sum-next}
 use Rattle.choice_lists.proofs.count.sum.Goals as goal
 
 pub loop-number-preserved : goal.loop-number-preserved

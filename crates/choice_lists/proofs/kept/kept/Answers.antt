@@ -2,7 +2,7 @@ use Rattle.std.proofs.Common.{suc, ◌-◌, ◌<◌, ◌≡◌, false, None, len
 use Rattle.std.proofs.lemmas.List.{get_or_default}
 use Rattle.std.proofs.lemmas.Option.{slice_get-get_or}
 use Rattle.choice_lists.specs.declared.decision.Decision.{Decision}
-use Rattle.choice_lists.proofs.LeftOut.{IsEnoughFrom, IsEnoughFrom-kept, IsEnoughFrom-left_out}
+use Rattle.choice_lists.proofs.LeftOutDecisionLemmas.{IsEnoughFrom, IsEnoughFrom-kept, IsEnoughFrom-left_out}
 use Rattle.choice_lists.proofs.kept.kept.Goals as goal
 
 -- a decision where there is none

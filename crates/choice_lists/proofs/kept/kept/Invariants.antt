@@ -1,5 +1,5 @@
 use Rattle.std.proofs.Common.{◌≤◌, length}
-use Rattle.choice_lists.proofs.LeftOut.{IsEnoughFrom}
+use Rattle.choice_lists.proofs.LeftOutDecisionLemmas.{IsEnoughFrom}
 use Rattle.choice_lists.proofs.kept.kept.Given as goal
 
 abbrev pub invariant-loop-left : goal.invariant-loop-left

@@ -4,7 +4,7 @@ use Rattle.std.proofs.lemmas.Option.{slice_get-get_or}
 use Rattle.choice_lists.specs.declared.decision.Decision.{Decision}
 use Rattle.choice_lists.specs.Walks.{AreLinked}
 use Rattle.choice_lists.specs.LeftOut.{all_ends}
-use Rattle.choice_lists.proofs.LeftOut.{AreNumbered-kept, AreNumbered-left_out, AreNumbered-all, kept_below-all, edge-numbered, linked-kept, all_ends-kept}
+use Rattle.choice_lists.proofs.LeftOutDecisionLemmas.{AreNumbered-kept, AreNumbered-left_out, AreNumbered-all, kept_below-all, edge-numbered, linked-kept, all_ends-kept}
 use Rattle.choice_lists.proofs.kept.kept_decisions.Goals as goal
 use Rattle.choice_lists.proofs.kept.kept_decisions.Goals.{then-index+in_ok-push-2, else-index}
 

@@ -1,4 +1,4 @@
-use Rattle.choice_lists.proofs.LeftOut.{AreNumbered}
+use Rattle.choice_lists.proofs.LeftOutDecisionLemmas.{AreNumbered}
 use Rattle.choice_lists.proofs.kept.kept_decisions.Given as goal
 
 abbrev pub invariant-loop-number : goal.invariant-loop-number

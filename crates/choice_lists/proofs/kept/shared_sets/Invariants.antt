@@ -1,4 +1,4 @@
-use Rattle.choice_lists.proofs.LeftOut.{AreSeen}
+use Rattle.choice_lists.proofs.LeftOutDecisionLemmas.{AreSeen}
 use Rattle.choice_lists.proofs.kept.shared_sets.Given as goal
 
 abbrev pub invariant-loop-decision : goal.invariant-loop-decision

@@ -1,5 +1,5 @@
 use Rattle.std.proofs.Common.{◌+◌, length, ap, ◌∙◌, arith}
-use Rattle.choice_lists.proofs.Turns.{left, end_there, IsTurn-made, walks_counted}
+use Rattle.choice_lists.proofs.WalkTurnLemmas.{left, end_there, IsTurn-made, walks_counted}
 use Rattle.choice_lists.proofs.walk.count_ends.Goals as goal
 
 pub returns-then-count-most-clause-lists : goal.returns-then-count-most-clause-lists

@@ -1,6 +1,6 @@
 use Rattle.std.proofs.Common.{◌++◌, length, map, ap, ◌∙◌, arith}
 use Rattle.std.proofs.lemmas.List.Elements.{same_from_all_zip}
-use Rattle.choice_lists.proofs.Turns.{left, IsTurn-made, kept-more, walks_kept}
+use Rattle.choice_lists.proofs.WalkTurnLemmas.{left, IsTurn-made, kept-more, walks_kept}
 use Rattle.choice_lists.proofs.walk.list_walks.Goals as goal
 
 pub loop-from-smaller : goal.loop-from-smaller

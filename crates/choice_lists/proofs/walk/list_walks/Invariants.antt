@@ -1,6 +1,6 @@
 use Rattle.std.proofs.Common.{◌++◌, ◌≡◌, length, map}
-use Rattle.choice_lists.proofs.EndLists.{all_ends}
-use Rattle.choice_lists.proofs.Turns.{left, IsAtNext}
+use Rattle.choice_lists.proofs.EndListLemmas.{all_ends}
+use Rattle.choice_lists.proofs.WalkTurnLemmas.{left, IsAtNext}
 use Rattle.choice_lists.proofs.walk.list_walks.Given as goal
 
 abbrev pub invariant-loop-from : goal.invariant-loop-from

@@ -1,5 +1,5 @@
 use Rattle.std.proofs.Common.{◌<◌, length, All, sym, subst}
-use Rattle.convert_tables.proofs.CellPlaces.{other_players-below}
+use Rattle.convert_tables.proofs.CellPlaceLemmas.{other_players-below}
 use Rattle.convert_tables.proofs.cells.push_cell.Goals as goal
 
 pub push_later_payoffs-requires-2-clause-players : goal.push_later_payoffs-requires-2-clause-players

@@ -1,8 +1,8 @@
 use Rattle.std.proofs.Common.{◌≡◌, ◌+◌, ◌*◌, ◌++◌, ap, ◌∙◌, arith}
 use Rattle.std.specs.List.{flat_map, range_with_len}
 use Rattle.convert_tables.specs.Layouts.{cell_text, strategy_count}
-use Rattle.convert_tables.proofs.CellPlaces.{count_is}
-use Rattle.convert_tables.proofs.Each.{each-next}
+use Rattle.convert_tables.proofs.CellPlaceLemmas.{count_is}
+use Rattle.convert_tables.proofs.NumberedTextLemmas.{each-next}
 use Rattle.convert_tables.proofs.cells.push_cells.Goals as goal
 
 pub loop-column-preserved : goal.loop-column-preserved

@@ -5,9 +5,9 @@ use Rattle.convert_tables.specs.Layouts.{cell_text, cells_text, cell_number, str
 use Rattle.convert_tables.specs.declared.marks.Mark.TheVariants.{RowStart, RowNameEnd}
 use Rattle.convert_tables.specs.Names.{marked_text}
 use Rattle.convert_tables.specs.declared.cells.Plan.{Plan}
-use Rattle.convert_tables.proofs.CellPlaces.{AreAxes, IsChoice, IsChoice-profile, AreCells, AreCells-row, first_few, count_is, strategy_name_is}
-use Rattle.convert_tables.proofs.PlanAxes.{axes}
-use Rattle.convert_tables.proofs.Each.{each-same, three_parts}
+use Rattle.convert_tables.proofs.CellPlaceLemmas.{AreAxes, IsChoice, IsChoice-profile, AreCells, AreCells-row, first_few, count_is, strategy_name_is}
+use Rattle.convert_tables.proofs.PlanAxisLemmas.{axes}
+use Rattle.convert_tables.proofs.NumberedTextLemmas.{each-same, three_parts}
 use Rattle.convert_tables.proofs.cells.push_row.Goals as goal
 
 -- the number of the row's first cell, as it is computed

@@ -2,8 +2,8 @@ use Rattle.std.proofs.Common.{◌<◌, ◌≤◌, ◌≡◌, ◌+◌, ◌++◌, 
 use Rattle.std.specs.List.{flat_map, range_with_len}
 use Rattle.game_core.specs.TextLimit.{most_text}
 use Rattle.convert_tables.specs.Layouts.{row_text, strategy_count}
-use Rattle.convert_tables.proofs.CellPlaces.{count_is}
-use Rattle.convert_tables.proofs.Each.{each-next, each-long}
+use Rattle.convert_tables.proofs.CellPlaceLemmas.{count_is}
+use Rattle.convert_tables.proofs.NumberedTextLemmas.{each-next, each-long}
 use Rattle.convert_tables.proofs.cells.push_rows.Goals as goal
 
 pub push_row-requires-clause-strategy : goal.push_row-requires-clause-strategy

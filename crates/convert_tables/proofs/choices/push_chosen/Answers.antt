@@ -1,7 +1,7 @@
 use Rattle.std.proofs.Common.{◌<◌, length, arith}
-use Rattle.game_theory.proofs.ProfileNumbers.{length-profile, profile-below}
+use Rattle.game_theory.proofs.ProfileNumberLemmas.{length-profile, profile-below}
 use Rattle.game_core.specs.Table.{strategy_counts}
-use Rattle.game_core.proofs.TableCounts.{length-strategy_counts}
+use Rattle.game_core.proofs.TableCountLemmas.{length-strategy_counts}
 use Rattle.convert_tables.proofs.choices.push_chosen.Goals as goal
 
 pub bounds-choice-player : goal.bounds-choice-player

@@ -4,7 +4,7 @@ use Rattle.std.proofs.lemmas.Option.{get_or_from_slice_get}
 use Rattle.convert_tables.specs.declared.marks.Mark.TheVariants.{ColumnsEnd}
 use Rattle.convert_tables.specs.Layouts.{column_text, strategy_names, table_start}
 use Rattle.convert_tables.specs.Marks.{mark_text}
-use Rattle.convert_tables.proofs.Each.{three_parts}
+use Rattle.convert_tables.proofs.NumberedTextLemmas.{three_parts}
 use Rattle.convert_tables.proofs.choices.push_columns.Goals as goal
 
 pub returns : goal.returns

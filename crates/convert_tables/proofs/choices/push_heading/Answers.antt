@@ -1,7 +1,7 @@
 use Rattle.std.proofs.Common.{◌<◌, length, All, sym, subst}
 use Rattle.std.proofs.lemmas.List.Elements.{All-take, All-drop}
 use Rattle.convert_tables.specs.declared.cells.Plan.{Plan}
-use Rattle.convert_tables.proofs.CellPlaces.{other_players-below}
+use Rattle.convert_tables.proofs.CellPlaceLemmas.{other_players-below}
 use Rattle.convert_tables.proofs.choices.push_heading.Goals as goal
 
 others_below : (l : Plan) → All (λ i. i < length l.table.now.players) l.others.now

@@ -3,7 +3,7 @@ use Rattle.std.specs.Fmt.{decimal}
 use Rattle.convert_tables.specs.declared.marks.Style.TheVariants.{Sgame}
 use Rattle.convert_tables.specs.Layouts.{strategy_count, player_name}
 use Rattle.convert_tables.specs.Names.{name_text}
-use Rattle.convert_tables.proofs.Each.{grown}
+use Rattle.convert_tables.proofs.NumberedTextLemmas.{grown}
 use Rattle.convert_tables.proofs.choices.push_sgame_start.Goals as goal
 
 pub returns : goal.returns

@@ -2,7 +2,7 @@ use Rattle.std.proofs.Common.{◌<◌, ◌≡◌, ◌++◌, length, sym, ◌∙�
 use Rattle.std.specs.Prelude.{OnOk}
 use Rattle.convert_tables.specs.Layouts.{strategy_name}
 use Rattle.convert_tables.specs.Names.{name_text}
-use Rattle.convert_tables.proofs.CellPlaces.{count_is, strategy_name_is}
+use Rattle.convert_tables.proofs.CellPlaceLemmas.{count_is, strategy_name_is}
 use Rattle.convert_tables.proofs.choices.push_strategy.Goals as goal
 
 pub bounds-strategies-strategy : goal.bounds-strategies-strategy

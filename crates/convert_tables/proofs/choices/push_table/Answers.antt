@@ -1,5 +1,5 @@
-use Rattle.convert_tables.proofs.CellPlaces.{IsChoice-profile}
-use Rattle.convert_tables.proofs.PlanAxes.{axes}
+use Rattle.convert_tables.proofs.CellPlaceLemmas.{IsChoice-profile}
+use Rattle.convert_tables.proofs.PlanAxisLemmas.{axes}
 use Rattle.convert_tables.proofs.choices.push_table.Goals as goal
 
 pub push_heading-requires : goal.push_heading-requires

@@ -4,11 +4,11 @@ use Rattle.std.specs.Result.{IsErrOf}
 use Rattle.game_core.specs.TextLimit.{most_text}
 use Rattle.convert_tables.specs.declared.stops.TextStop.TheVariants as text_stops
 use Rattle.game_theory.specs.Profiles.{IsProfile, profile_count, profile_at}
-use Rattle.game_theory.proofs.ProfileNumbers.{IsProfile-profile_at}
+use Rattle.game_theory.proofs.ProfileNumberLemmas.{IsProfile-profile_at}
 use Rattle.convert_tables.specs.Layouts.{choice_at, others_counts, table_text}
 use Rattle.convert_tables.specs.declared.cells.Plan.{Plan}
-use Rattle.convert_tables.proofs.CellPlaces.{AreFewCounts, AreFewCounts-others}
-use Rattle.convert_tables.proofs.Each.{each-next, each-long}
+use Rattle.convert_tables.proofs.CellPlaceLemmas.{AreFewCounts, AreFewCounts-others}
+use Rattle.convert_tables.proofs.NumberedTextLemmas.{each-next, each-long}
 use Rattle.convert_tables.proofs.choices.push_tables.Goals as goal
 
 few : (l : Plan) (counts : List ℕ) → counts ≡ others_counts l.table.now l.row l.column → AreFewCounts counts

@@ -1,5 +1,5 @@
 use Rattle.convert_tables.specs.declared.marks.Style.TheVariants.{Html, Sgame}
-use Rattle.convert_tables.proofs.LaidOut.{laid_out-single}
+use Rattle.convert_tables.proofs.OneLayoutLaws.{laid_out-single}
 use Rattle.convert_tables.proofs.convert.layouts_are_single.Goals as goal
 
 pub returns : goal.returns

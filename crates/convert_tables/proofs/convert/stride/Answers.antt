@@ -1,6 +1,6 @@
 use Rattle.std.proofs.Common.{◌∙◌, arith}
-use Rattle.game_theory.proofs.ProfileCounts.{profile_count-front}
-use Rattle.convert_tables.proofs.CellPlaces.{profile_count-before}
+use Rattle.game_theory.proofs.ProfileCountLemmas.{profile_count-front}
+use Rattle.convert_tables.proofs.CellPlaceLemmas.{profile_count-before}
 use Rattle.convert_tables.proofs.convert.stride.Goals as goal
 
 pub profile_count-requires-clause-few : goal.profile_count-requires-clause-few

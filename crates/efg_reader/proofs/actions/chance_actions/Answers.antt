@@ -1,5 +1,5 @@
 use Rattle.file_parts.specs.Reading.{kinds}
-use Rattle.efg_reader.proofs.ActionSteps.{summed_goes_on}
+use Rattle.efg_reader.proofs.ActionStepLemmas.{summed_goes_on}
 use Rattle.efg_reader.proofs.actions.chance_actions.Goals as goal
 
 pub loop-name-preserved : goal.loop-name-preserved

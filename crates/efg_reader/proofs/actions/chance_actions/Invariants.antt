@@ -2,7 +2,7 @@ use Rattle.std.proofs.Common.{◌≡◌, length}
 use Rattle.rational.specs.Rational.{zero_ℚ}
 use Rattle.file_parts.specs.Reading.{kinds}
 use Rattle.tree_grammar.specs.TreeParsing.{parse_chances}
-use Rattle.efg_reader.proofs.ActionSteps.{after_actions}
+use Rattle.efg_reader.proofs.ActionStepLemmas.{after_actions}
 use Rattle.efg_reader.proofs.actions.chance_actions.Given as goal
 
 abbrev pub invariant-loop-name : goal.invariant-loop-name

@@ -1,7 +1,7 @@
 use Rattle.std.proofs.Common.{rules, ◌≡◌, true, false, length, arith}
 use Rattle.rational.specs.Rational.{one_ℚ}
 use Rattle.file_parts.specs.Reading.{kinds}
-use Rattle.efg_reader.proofs.ActionSteps.{own_closed, chance_differs, chance_closed}
+use Rattle.efg_reader.proofs.ActionStepLemmas.{own_closed, chance_differs, chance_closed}
 use Rattle.efg_reader.proofs.actions.first_list.Goals as goal
 use Rattle.rational.specs.Tests.{eq_ℚ}
 

@@ -1,6 +1,6 @@
 use Rattle.std.proofs.Common.{sym, ◌∙◌, arith}
 use Rattle.std.proofs.lemmas.Int.{ints}
-use Rattle.efg_reader.proofs.Probabilities.{sum_so, sum_negative, sum_above, sum_outside}
+use Rattle.efg_reader.proofs.ProbabilityLemmas.{sum_so, sum_negative, sum_above, sum_outside}
 use Rattle.efg_reader.proofs.actions.next_sum.Goals as goal
 use Rattle.efg_reader.proofs.actions.next_sum.Goals.{then-signum-lt0-via-then-signum-lt0, then-signum-lt0-via-else-signum-lt0+then-eq}
 

@@ -1,5 +1,5 @@
 use Rattle.std.proofs.Common.{arith}
-use Rattle.efg_reader.proofs.Growing.{place_taken}
+use Rattle.efg_reader.proofs.OpenBranchLemmas.{place_taken}
 use Rattle.efg_reader.proofs.builder.take_branch.Goals as goal
 
 pub returns-then-taken : goal.returns-then-taken

@@ -2,7 +2,7 @@ use Rattle.std.proofs.Common.{◌<◌, length, ◌∙◌, sym, subst}
 use Rattle.std.proofs.lemmas.List.{length-map}
 use Rattle.file_parts.specs.Reading.{kinds}
 use Rattle.written_trees.specs.Building.{PartialTree}
-use Rattle.efg_reader.proofs.NodesLoop.{IsUnderWay, at_first, goes_on, takes, refuses_all, whole_read, more_after, some_branching}
+use Rattle.efg_reader.proofs.NodesLoopLemmas.{IsUnderWay, at_first, goes_on, takes, refuses_all, whole_read, more_after, some_branching}
 use Rattle.efg_reader.proofs.nodes.read_nodes.Goals as goal
 
 pub loop-alloc-init : goal.loop-alloc-init

@@ -1,6 +1,6 @@
 use Rattle.std.proofs.Common.{length}
 use Rattle.file_parts.specs.Reading.{kinds}
-use Rattle.efg_reader.proofs.NodesLoop.{IsUnderWay}
+use Rattle.efg_reader.proofs.NodesLoopLemmas.{IsUnderWay}
 use Rattle.efg_reader.proofs.nodes.read_nodes.Given as goal
 
 abbrev pub invariant-loop-alloc : goal.invariant-loop-alloc

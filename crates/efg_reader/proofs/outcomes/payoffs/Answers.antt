@@ -1,6 +1,6 @@
 use Rattle.std.proofs.Common.{if◌then◌else◌}
 use Rattle.file_parts.specs.Reading.{kinds, payoff_start, number_at}
-use Rattle.file_parts.proofs.Parses.{each_ends, wanted_refused}
+use Rattle.file_parts.proofs.ParseLemmas.{each_ends, wanted_refused}
 use Rattle.tree_grammar.specs.TreeParsing.{closes, parse_payoff}
 use Rattle.tree_grammar.specs.declared.kinds.EfgKind.TheVariants.{Node, OutcomeMismatch}
 use Rattle.efg_reader.proofs.outcomes.payoffs.Goals as goal

@@ -1,7 +1,7 @@
 use Rattle.std.proofs.Common.{◌≡◌, ◌-◌}
 use Rattle.file_parts.specs.Reading.{kinds}
 use Rattle.file_parts.specs.Parsing.{parse_each}
-use Rattle.file_parts.proofs.Parses.{following}
+use Rattle.file_parts.proofs.ParseLemmas.{following}
 use Rattle.tree_grammar.specs.TreeParsing.{parse_payoff}
 use Rattle.efg_reader.proofs.outcomes.payoffs.Given as goal
 

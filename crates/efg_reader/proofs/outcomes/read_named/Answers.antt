@@ -1,7 +1,7 @@
 use Rattle.std.proofs.Common.{rules, ◌∙◌, refl, sym}
 use Rattle.std.proofs.lemmas.Bool.{not-true, not-false}
 use Rattle.file_parts.specs.Reading.{kinds}
-use Rattle.efg_reader.proofs.KeptOutcomes.{first_kept, first_refused, first_used, later_kept, later_refused, later_used}
+use Rattle.efg_reader.proofs.KeptOutcomeLemmas.{first_kept, first_refused, first_used, later_kept, later_refused, later_used}
 use Rattle.efg_reader.proofs.outcomes.read_named.Goals as goal
 
 -- a first use

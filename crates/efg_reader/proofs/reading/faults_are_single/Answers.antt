@@ -1,4 +1,4 @@
-use Rattle.efg_reader.proofs.FileStops.{one_fault_at, no_fault_of_file, fault_of_others}
+use Rattle.efg_reader.proofs.FileStopLemmas.{one_fault_at, no_fault_of_file, fault_of_others}
 use Rattle.efg_reader.proofs.reading.faults_are_single.Goals as goal
 
 pub returns : goal.returns

@@ -1,4 +1,4 @@
-use Rattle.efg_reader.proofs.FileStops.{tree_in-single}
+use Rattle.efg_reader.proofs.FileStopLemmas.{tree_in-single}
 use Rattle.efg_reader.proofs.reading.trees_are_single.Goals as goal
 
 pub returns : goal.returns

@@ -1,7 +1,7 @@
 use Rattle.std.proofs.Common.{rules, option_map, refl}
 use Rattle.std.specs.Vec.{with_item}
 use Rattle.file_parts.specs.Reading.{kinds}
-use Rattle.efg_reader.proofs.SetSteps.{Comes, step_without, first_refused, first_used, later_refused, later_used, sets_begin, sets_go_on}
+use Rattle.efg_reader.proofs.SetStepLemmas.{Comes, step_without, first_refused, first_used, later_refused, later_used, sets_begin, sets_go_on}
 use Rattle.efg_reader.proofs.sets.read_set.Goals as goal
 use Rattle.efg_reader.proofs.sets.read_set.Goals.{In_ok-place}
 

@@ -1,7 +1,7 @@
 use Rattle.std.proofs.Common.{◌+◌, ◌<◌, ◌≡◌, All, Ok, Err, length, map, refl, sym, ap, ap₂, ◌∙◌, subst, subst₂, arith}
 use Rattle.std.proofs.lemmas.List.{length-map}
 use Rattle.answers.specs.Answers.{Gives, only, refused_by}
-use Rattle.answers.proofs.Answers.{gives_exit, gives_told_exit}
+use Rattle.answers.proofs.AnswerLemmas.{gives_exit, gives_told_exit}
 use Rattle.game_core.specs.Table.{game_of}
 use Rattle.pure_payoffs.specs.FirstUnfit.{Fits}
 use Rattle.basis_enum.specs.Systems.{variable_count}
@@ -16,9 +16,9 @@ use Rattle.enummixed.specs.Pairs.{pairs_of}
 use Rattle.enummixed.specs.Told.{enumeration_stop, pairs_stop, scale_stop}
 use Rattle.enummixed.specs.Used.{all_labels, occurs, used_points, scaled_used, scaling_in}
 use Rattle.enummixed.specs.declared.stop.MixedStop.TheVariants as stops
-use Rattle.enummixed.proofs.ExtremeLines.{scalable}
-use Rattle.enummixed.proofs.Stages.{one-enumerable, two-enumerable, both-first, both-second, both-exit, first-places-in, second-places-in, after-pairs, after-first, scale-first, scale-second, pairs-as, value, up-systems, up-second, up-pairs, up-first}
-use Rattle.enummixed.proofs.VertexCounts.{vertices-few}
+use Rattle.enummixed.proofs.ExtremeLineLemmas.{scalable}
+use Rattle.enummixed.proofs.StageLemmas.{one-enumerable, two-enumerable, both-first, both-second, both-exit, first-places-in, second-places-in, after-pairs, after-first, scale-first, scale-second, pairs-as, value, up-systems, up-second, up-pairs, up-first}
+use Rattle.enummixed.proofs.VertexCountLemmas.{vertices-few}
 use Rattle.enummixed.proofs.extreme.extreme_pairs.Goals as goal
 
 pub both_vertices-requires-clause-one : goal.both_vertices-requires-clause-one

@@ -3,7 +3,7 @@ use Rattle.std.specs.List.{range_with_len}
 use Rattle.std.proofs.lemmas.List.{length-map}
 use Rattle.std.proofs.lemmas.List.FromFn.{length-map-range_with_len}
 use Rattle.answers.specs.Answers.{Gives, refused_by}
-use Rattle.answers.proofs.Answers.{gives_refused}
+use Rattle.answers.proofs.AnswerLemmas.{gives_refused}
 use Rattle.pure_payoffs.specs.FirstUnfit.{Fits}
 use Rattle.basis_enum.specs.Vertices.{mark_of, marks_of}
 use Rattle.label_pairing.specs.Scaling.{scale_steps}
@@ -11,7 +11,7 @@ use Rattle.label_pairing.specs.declared.scaling.ScaleStop.TheVariants as scale_s
 use Rattle.enummixed.specs.declared.stop.MixedStop.TheVariants as stops
 use Rattle.enummixed.specs.Told.{scale_stop}
 use Rattle.enummixed.specs.Used.{occurs, used_points, scaling_in}
-use Rattle.enummixed.proofs.UsedPoints.{used-same, scaled-same}
+use Rattle.enummixed.proofs.UsedPointLemmas.{used-same, scaled-same}
 use Rattle.enummixed.proofs.extreme.scaled.Goals as goal
 
 pub scaled_points-requires-clause-used : goal.scaled_points-requires-clause-used

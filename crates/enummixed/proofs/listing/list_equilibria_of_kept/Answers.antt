@@ -1,6 +1,6 @@
 use Rattle.std.proofs.Common.{Ok, Err, subst}
 use Rattle.answers.specs.Answers.{Gives, refused_by}
-use Rattle.answers.proofs.Answers.{gives_bind_as, gives_exit}
+use Rattle.answers.proofs.AnswerLemmas.{gives_bind_as, gives_exit}
 use Rattle.game_core.specs.Table.{game_of}
 use Rattle.enumpure.specs.Stops.{within_text_limit}
 use Rattle.enumpure.specs.declared.listing.ListStop.TheVariants as list_stops
@@ -8,7 +8,7 @@ use Rattle.enummixed.specs.ExtremeText.{IsExtremeEquilibriaText, extreme_pairs}
 use Rattle.enummixed.specs.Pairs.{pairs_of}
 use Rattle.enummixed.specs.Told.{text_stop}
 use Rattle.enummixed.specs.declared.stop.MixedStop.TheVariants as stops
-use Rattle.enummixed.proofs.Stages.{told-end}
+use Rattle.enummixed.proofs.StageLemmas.{told-end}
 use Rattle.enummixed.proofs.listing.list_equilibria_of_kept.Goals as goal
 
 pub returns-in_err-extreme : goal.returns-in_err-extreme

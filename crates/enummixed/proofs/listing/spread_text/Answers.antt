@@ -5,14 +5,14 @@ use Rattle.std.proofs.lemmas.List.Sorted.{length_permutation}
 use Rattle.std.specs.Ordering.{is_lt}
 use Rattle.rational.specs.Rational.{ℚ}
 use Rattle.game_core.specs.Table.{game_of}
-use Rattle.game_core.proofs.TableCounts.{strategy_count-names}
-use Rattle.reduced_form.proofs.Eliminations.{kept-all}
+use Rattle.game_core.proofs.TableCountLemmas.{strategy_count-names}
+use Rattle.reduced_form.proofs.EliminationLemmas.{kept-all}
 use Rattle.enummixed.specs.Order.{pair_order}
 use Rattle.enummixed.specs.ExtremeText.{IsExtremeEquilibriaText}
 use Rattle.enummixed.specs.Pairs.{pairs_of}
 use Rattle.enummixed.specs.Spread.{AreSpreadPoints}
-use Rattle.enummixed.proofs.KeptLines.{two-counts, spread-text}
-use Rattle.enummixed.proofs.VertexPairs.{within-weaker, written-over}
+use Rattle.enummixed.proofs.KeptLineLemmas.{two-counts, spread-text}
+use Rattle.enummixed.proofs.VertexPairLemmas.{within-weaker, written-over}
 use Rattle.enummixed.proofs.listing.spread_text.Goals as goal
 
 pub spread_points-requires-clause-within : goal.spread_points-requires-clause-within

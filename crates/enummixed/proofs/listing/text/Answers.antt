@@ -6,7 +6,7 @@ use Rattle.rational.specs.Rational.{ℚ}
 use Rattle.enummixed.specs.Order.{pair_order}
 use Rattle.enummixed.specs.ExtremeText.{IsExtremeEquilibriaText}
 use Rattle.enummixed.specs.Pairs.{pairs_of}
-use Rattle.enummixed.proofs.VertexPairs.{sorted-text, within-weaker, written-over}
+use Rattle.enummixed.proofs.VertexPairLemmas.{sorted-text, within-weaker, written-over}
 use Rattle.enummixed.proofs.listing.text.Goals as goal
 
 pub returns : goal.returns

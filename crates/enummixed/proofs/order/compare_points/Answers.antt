@@ -1,6 +1,6 @@
 use Rattle.std.proofs.Common.{◌∙◌, inl, inr, sym, arith}
 use Rattle.enummixed.specs.Order.{greater_first}
-use Rattle.enummixed.proofs.LineOrders.{ended}
+use Rattle.enummixed.proofs.LineOrderLemmas.{ended}
 use Rattle.enummixed.proofs.order.compare_points.Goals as goal
 use Rattle.enummixed.proofs.order.compare_points.Goals.{then-loop-k-test+else-k-right, else-loop-k-test}
 

@@ -2,7 +2,7 @@ use Rattle.std.proofs.Common.{rules, map}
 use Rattle.std.specs.Ordering.{is_lt}
 use Rattle.std.proofs.lemmas.Fn.{always_returns_same}
 use Rattle.enummixed.specs.Order.{pair_order}
-use Rattle.enummixed.proofs.LineOrders.{pairs-ordered}
+use Rattle.enummixed.proofs.LineOrderLemmas.{pairs-ordered}
 use Rattle.enummixed.proofs.order.sort_pairs.Goals as goal
 
 pub returns-clause-sorted : goal.returns-clause-sorted

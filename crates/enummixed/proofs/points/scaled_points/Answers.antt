@@ -8,7 +8,7 @@ use Rattle.pure_payoffs.specs.FirstUnfit.{Fits}
 use Rattle.label_pairing.specs.Pairs.{mark_at}
 use Rattle.label_pairing.specs.Scaling.{IsScalable, scale_steps}
 use Rattle.enummixed.specs.Used.{is_set}
-use Rattle.enummixed.proofs.UsedPoints.{point-read, fit-next, fit-same, scaled-next, stop_here}
+use Rattle.enummixed.proofs.UsedPointLemmas.{point-read, fit-next, fit-same, scaled-next, stop_here}
 use Rattle.enummixed.proofs.points.scaled_points.Goals as goal
 use Rattle.enummixed.proofs.points.scaled_points.Goals.{then-used-i+in-Ok+in_ok-push-in-Ok, else-used-i+in_ok-push}
 

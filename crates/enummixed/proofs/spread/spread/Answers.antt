@@ -1,8 +1,8 @@
 use Rattle.std.proofs.Common.{◌≡◌, ◌<◌, ◌∙◌, length, get_or, replicate, ap, refl, arith}
 use Rattle.std.proofs.lemmas.List.{get_or_default, length-set, length-replicate}
-use Rattle.lists.proofs.Elements.{get_or-copies}
+use Rattle.lists.proofs.ElementLemmas.{get_or-copies}
 use Rattle.rational.specs.Rational.{zero_ℚ}
-use Rattle.enummixed.proofs.SpreadPoints.{placed-next, elsewhere-next}
+use Rattle.enummixed.proofs.SpreadPointLemmas.{placed-next, elsewhere-next}
 use Rattle.enummixed.proofs.spread.spread.Goals as goal
 
 pub loop-k-init : goal.loop-k-init

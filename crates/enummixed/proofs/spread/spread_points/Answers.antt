@@ -1,7 +1,7 @@
 use Rattle.std.proofs.Common.{ℕ, ◌≡◌, ◌++◌, ◌∷◌, ◌∙◌, List, [], length, map, get_or, sym, ap, subst, arith}
 use Rattle.std.proofs.lemmas.List.{get_or-map, length-map, map_push}
 use Rattle.rational.specs.Rational.{ℚ}
-use Rattle.enummixed.proofs.SpreadPoints.{count-next, spread-next}
+use Rattle.enummixed.proofs.SpreadPointLemmas.{count-next, spread-next}
 use Rattle.extreme_equilibria.specs.KeptTable.{IsSpreadPoint}
 use Rattle.enummixed.proofs.spread.spread_points.Goals as goal
 use Rattle.enummixed.proofs.spread.spread_points.Goals.{then-len-places+in_ok-spread+in_ok-push, else-len-places+in_ok-push-2}

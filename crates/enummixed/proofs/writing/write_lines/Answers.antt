@@ -1,7 +1,7 @@
 use Rattle.std.proofs.Common.{◌+◌, ◌∙◌, inr, refl, map, length, ap, arith}
 use Rattle.game_theory.specs.Lines.{lines_text}
 use Rattle.enummixed.specs.Order.{line_of}
-use Rattle.enummixed.proofs.LineTexts.{text-next, text-grows}
+use Rattle.enummixed.proofs.LineTextLemmas.{text-next, text-grows}
 use Rattle.enummixed.proofs.writing.write_lines.Goals as goal
 
 pub returns-then-len-gt-MOST_TEXT : goal.returns-then-len-gt-MOST_TEXT

@@ -1,10 +1,10 @@
 use Rattle.std.proofs.Common.{◌+◌, ◌*◌, ◌<◌, ◌≡◌, length, take, sym, ap, ap₂, ◌∙◌, arith}
 use Rattle.std.specs.List.{sum_by}
 use Rattle.std.proofs.lemmas.List.Sums.{sum_by_more, sum_by_more_le}
-use Rattle.game_core.proofs.TableCounts.{length-strategy_counts}
+use Rattle.game_core.proofs.TableCountLemmas.{length-strategy_counts}
 use Rattle.game_core.specs.Table.{strategy_counts}
-use Rattle.enumpure.proofs.LineLengths.{all_counted, sum-table, few_bytes, length-line_none, length-line_text}
-use Rattle.enumpure.proofs.Strides.{HaveStrategies-table}
+use Rattle.enumpure.proofs.LineLengthLemmas.{all_counted, sum-table, few_bytes, length-line_none, length-line_text}
+use Rattle.enumpure.proofs.StrideLemmas.{HaveStrategies-table}
 use Rattle.enumpure.proofs.lengths.line_length.Goals as goal
 
 pub overflow_add-strategies : goal.overflow_add-strategies

@@ -1,7 +1,7 @@
 use Rattle.std.proofs.Common.{◌*◌, ◌≡◌, ap, sym, ◌∙◌, rules}
 use Rattle.std.specs.List.{count_by}
 use Rattle.game_core.specs.Table.{strategy_counts}
-use Rattle.enumpure.proofs.LineLengths.{length-lines_text}
+use Rattle.enumpure.proofs.LineLengthLemmas.{length-lines_text}
 use Rattle.enumpure.proofs.lengths.text_length.Goals as goal
 
 pub returns : goal.returns

@@ -1,10 +1,10 @@
 use Rattle.std.proofs.Common.{inr, length, rules, refl, sym, ap, ◌∙◌, subst, arith}
 use Rattle.game_theory.specs.Lines.{lines_text}
 use Rattle.game_core.specs.Table.{game_of}
-use Rattle.game_core.proofs.TableCounts.{profile_count-table}
+use Rattle.game_core.proofs.TableCountLemmas.{profile_count-table}
 use Rattle.enumpure.specs.Ranks.{lines_below}
 use Rattle.enumpure.specs.Replies.{AreMutualBestReplies}
-use Rattle.enumpure.proofs.Listed.{IsPureEquilibriaText-listed}
+use Rattle.enumpure.proofs.ListedProfileLemmas.{IsPureEquilibriaText-listed}
 use Rattle.enumpure.proofs.listing.list_pure_equilibria.Goals as goal
 
 pub returns-then-bytes-gt-MOST_TEXT : goal.returns-then-bytes-gt-MOST_TEXT

@@ -1,4 +1,4 @@
-use Rattle.enumpure.proofs.Texts.{pure_text-single}
+use Rattle.enumpure.proofs.OneTextLaws.{pure_text-single}
 use Rattle.enumpure.proofs.listing.pure_texts_are_single.Goals as goal
 
 pub returns : goal.returns

@@ -1,7 +1,7 @@
 use Rattle.std.proofs.Common.{◌≡◌, sym, ap, ◌∙◌}
-use Rattle.game_theory.proofs.Entries.{listed-push}
+use Rattle.game_theory.proofs.EntryLemmas.{listed-push}
 use Rattle.game_theory.specs.Mixed.{sure}
-use Rattle.game_theory.proofs.SureStrategies.{sure-at, sure-other}
+use Rattle.game_theory.proofs.SureStrategyLemmas.{sure-at, sure-other}
 use Rattle.enumpure.proofs.listing.push_entries.Goals as goal
 use Rattle.enumpure.proofs.listing.push_entries.Goals.{then-strategy-played, else-strategy-played}
 

@@ -2,12 +2,12 @@ use Rattle.std.proofs.Common.{◌≡◌, ◌++◌, length, sym, ap, ◌∙◌, s
 use Rattle.game_theory.specs.Profiles.{IsProfile, number_of}
 use Rattle.game_theory.specs.Mixed.{pure}
 use Rattle.game_theory.specs.Lines.{entries, line_text, lines_text}
-use Rattle.game_theory.proofs.ProfileNumbers.{number_of-below}
+use Rattle.game_theory.proofs.ProfileNumberLemmas.{number_of-below}
 use Rattle.game_theory.specs.Ranks.{ranked}
 use Rattle.enumpure.specs.Ranks.{lines_below}
 use Rattle.enumpure.specs.Replies.{plays_best}
-use Rattle.enumpure.proofs.Listed.{lines_text-none, lines_text-push, lines_text-skip}
-use Rattle.game_theory.proofs.Ranks.{IsProfile-ranked}
+use Rattle.enumpure.proofs.ListedProfileLemmas.{lines_text-none, lines_text-push, lines_text-skip}
+use Rattle.game_theory.proofs.RankLemmas.{IsProfile-ranked}
 use Rattle.enumpure.proofs.listing.push_lines.Goals as goal
 use Rattle.enumpure.proofs.listing.push_lines.Goals.{then-all_best-profile_number+in_ok-set_entries+in_ok-push_line, else-all_best-profile_number}
 

@@ -1,7 +1,7 @@
 use Rattle.std.proofs.Common.{arith}
 use Rattle.game_theory.specs.Mixed.{pure}
-use Rattle.game_theory.proofs.ProfileNumbers.{length-profile}
-use Rattle.enumpure.proofs.ProfileEntries.{entries-push}
+use Rattle.game_theory.proofs.ProfileNumberLemmas.{length-profile}
+use Rattle.enumpure.proofs.ProfileEntryLemmas.{entries-push}
 use Rattle.enumpure.proofs.listing.set_entries.Goals as goal
 
 pub bounds-profile-player : goal.bounds-profile-player

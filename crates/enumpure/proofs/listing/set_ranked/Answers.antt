@@ -1,7 +1,7 @@
 use Rattle.std.proofs.Common.{◌/◌, get_or, arith}
 use Rattle.std.proofs.Math.Nat.{mod-le}
 use Rattle.game_theory.specs.Ranks.{ranked}
-use Rattle.enumpure.proofs.ProfileParts.{IsSetBelow-next, IsSetBelow-all, length-ranked}
+use Rattle.enumpure.proofs.ProfilePartLemmas.{IsSetBelow-next, IsSetBelow-all, length-ranked}
 use Rattle.enumpure.proofs.listing.set_ranked.Goals as goal
 
 pub loop-player-preserved : goal.loop-player-preserved

@@ -1,6 +1,6 @@
 use Rattle.std.proofs.Common.{◌≤◌}
 use Rattle.game_theory.specs.Ranks.{ranked}
-use Rattle.enumpure.proofs.ProfileParts.{IsSetBelow}
+use Rattle.enumpure.proofs.ProfilePartLemmas.{IsSetBelow}
 use Rattle.enumpure.proofs.listing.set_ranked.Given as goal
 
 abbrev pub invariant-loop-player : goal.invariant-loop-player

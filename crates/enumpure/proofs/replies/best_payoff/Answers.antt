@@ -1,9 +1,9 @@
 use Rattle.std.proofs.Common.{◌<◌, ◌+◌, get_or, sym, subst, arith}
-use Rattle.game_core.proofs.TableCounts.{length-strategy_counts, profile_count-table}
+use Rattle.game_core.proofs.TableCountLemmas.{length-strategy_counts, profile_count-table}
 use Rattle.game_core.specs.Table.{game_of, strategy_counts}
 use Rattle.enumpure.specs.Replies.{IsBest}
-use Rattle.enumpure.proofs.Best.{IsBest-one, IsBest-greater, IsBest-same}
-use Rattle.enumpure.proofs.Strides.{HaveStrategies-table}
+use Rattle.enumpure.proofs.BestPayoffLemmas.{IsBest-one, IsBest-greater, IsBest-same}
+use Rattle.enumpure.proofs.StrideLemmas.{HaveStrategies-table}
 use Rattle.enumpure.proofs.replies.best_payoff.Goals as goal
 use Rattle.enumpure.proofs.replies.best_payoff.Goals.{then-is_less, else-is_less}
 

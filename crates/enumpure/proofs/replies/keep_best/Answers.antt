@@ -2,7 +2,7 @@ use Rattle.std.proofs.Common.{◌+◌, sym, subst, arith}
 use Rattle.rational.specs.Rational.{◌<ℚ◌}
 use Rattle.game_core.specs.Table.{game_of}
 use Rattle.enumpure.specs.Replies.{KeepsBestInLine}
-use Rattle.enumpure.proofs.Best.{KeepsBestInLine-none, KeepsBestInLine-keep, KeepsBestInLine-clear}
+use Rattle.enumpure.proofs.BestPayoffLemmas.{KeepsBestInLine-none, KeepsBestInLine-keep, KeepsBestInLine-clear}
 use Rattle.enumpure.proofs.replies.keep_best.Goals as goal
 use Rattle.enumpure.proofs.replies.keep_best.Goals.{then-is_less, else-is_less}
 

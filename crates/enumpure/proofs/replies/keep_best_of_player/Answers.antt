@@ -1,10 +1,10 @@
 use Rattle.std.proofs.Common.{◌+◌, ◌<◌, length, get_or, sym, ◌∙◌, subst, arith}
-use Rattle.game_core.proofs.TableCounts.{length-strategy_counts}
+use Rattle.game_core.proofs.TableCountLemmas.{length-strategy_counts}
 use Rattle.game_core.specs.Table.{game_of, strategy_counts}
 use Rattle.enumpure.specs.Replies.{IsBest, KeepsBestInLine}
-use Rattle.enumpure.proofs.Exchanges.{strategy_at-by_stride, strides_away-below}
-use Rattle.enumpure.proofs.Strides.{HaveStrategies-table, stride-positive}
-use Rattle.enumpure.proofs.KeptReplies.{KeepsBestBelow, KeepsBestBelow-none, KeepsBestBelow-skip, KeepsBestBelow-step, KeepsBestReplies-all}
+use Rattle.enumpure.proofs.ExchangeLemmas.{strategy_at-by_stride, strides_away-below}
+use Rattle.enumpure.proofs.StrideLemmas.{HaveStrategies-table, stride-positive}
+use Rattle.enumpure.proofs.KeptReplyLemmas.{KeepsBestBelow, KeepsBestBelow-none, KeepsBestBelow-skip, KeepsBestBelow-step, KeepsBestReplies-all}
 use Rattle.enumpure.proofs.replies.keep_best_of_player.Goals as goal
 use Rattle.enumpure.proofs.replies.keep_best_of_player.Goals.{then-first-stride-eq0, else-first-stride-eq0}
 

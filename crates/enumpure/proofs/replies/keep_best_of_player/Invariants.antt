@@ -1,5 +1,5 @@
 use Rattle.game_core.specs.Table.{game_of}
-use Rattle.enumpure.proofs.KeptReplies.{KeepsBestBelow}
+use Rattle.enumpure.proofs.KeptReplyLemmas.{KeepsBestBelow}
 use Rattle.enumpure.proofs.replies.keep_best_of_player.Given as goal
 
 abbrev pub invariant-loop-first : goal.invariant-loop-first

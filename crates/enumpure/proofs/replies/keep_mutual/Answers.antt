@@ -1,10 +1,10 @@
 use Rattle.std.proofs.Common.{◌*◌, ◌<◌, ◌≡◌, length, get_or, sym, ap, ap₂, ◌∙◌, subst, refl, arith, add-one}
-use Rattle.game_core.proofs.TableCounts.{length-strategy_counts, profile_count-table}
+use Rattle.game_core.proofs.TableCountLemmas.{length-strategy_counts, profile_count-table}
 use Rattle.game_theory.specs.Profiles.{stride}
-use Rattle.game_theory.proofs.ProfileNumbers.{stride-next}
+use Rattle.game_theory.proofs.ProfileNumberLemmas.{stride-next}
 use Rattle.game_core.specs.Table.{game_of, strategy_counts}
-use Rattle.enumpure.proofs.Strides.{HaveStrategies-table, stride_next-at_most}
-use Rattle.enumpure.proofs.KeptReplies.{AreBestRepliesBelow, AreBestRepliesBelow-none, AreBestRepliesBelow-next, AreMutualBestReplies-all}
+use Rattle.enumpure.proofs.StrideLemmas.{HaveStrategies-table, stride_next-at_most}
+use Rattle.enumpure.proofs.KeptReplyLemmas.{AreBestRepliesBelow, AreBestRepliesBelow-none, AreBestRepliesBelow-next, AreMutualBestReplies-all}
 use Rattle.enumpure.proofs.replies.keep_mutual.Goals as goal
 
 pub loop-player-init : goal.loop-player-init

@@ -1,7 +1,7 @@
 use Rattle.std.proofs.Common.{◌≡◌}
 use Rattle.game_theory.specs.Profiles.{stride}
 use Rattle.game_core.specs.Table.{game_of, strategy_counts}
-use Rattle.enumpure.proofs.KeptReplies.{AreBestRepliesBelow}
+use Rattle.enumpure.proofs.KeptReplyLemmas.{AreBestRepliesBelow}
 use Rattle.enumpure.proofs.replies.keep_mutual.Given as goal
 
 abbrev pub invariant-loop-player : goal.invariant-loop-player

@@ -2,7 +2,7 @@ use Rattle.std.proofs.Common.{◌≡◌, ◌<◌, ◌≤◌, length, All, sym, �
 use Rattle.std.proofs.lemmas.List.Elements.{All-map}
 use Rattle.game_theory.specs.Profiles.{profile_count}
 use Rattle.game_core.specs.Table.{strategy_counts, most_payoffs}
-use Rattle.game_core.proofs.TableCounts.{profile_count-table}
+use Rattle.game_core.proofs.TableCountLemmas.{profile_count-table}
 use Rattle.enumpure.proofs.replies.mutual_best_replies.Goals as goal
 
 pub profile_count-requires-clause-few : goal.profile_count-requires-clause-few

@@ -1,6 +1,6 @@
 use Rattle.enumpure_trees.specs.TreeEquilibria.{IsTreeEquilibriaText}
-use Rattle.enumpure_trees.proofs.EquilibriumLines.{text-determined}
-use Rattle.enumpure.proofs.Texts.{within_text_limit-single}
+use Rattle.enumpure_trees.proofs.EquilibriumLineLemmas.{text-determined}
+use Rattle.enumpure.proofs.OneTextLaws.{within_text_limit-single}
 use Rattle.enumpure_trees.proofs.listing.behaviour_texts_are_single.Goals as goal
 
 pub returns : goal.returns

@@ -1,7 +1,7 @@
 use Rattle.std.proofs.Common.{length, sym, ap, ◌∙◌}
 use Rattle.game_theory.specs.Lines.{line_text}
 use Rattle.game_core.specs.TreeGame.{game_of_tree}
-use Rattle.enumpure_trees.proofs.LineLengths.{line_lengths-same}
+use Rattle.enumpure_trees.proofs.LineLengthLemmas.{line_lengths-same}
 use Rattle.enumpure_trees.proofs.listing.line_length.Goals as goal
 
 pub returns-clause-each : goal.returns-clause-each

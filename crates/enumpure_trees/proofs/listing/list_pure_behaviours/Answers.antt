@@ -9,9 +9,9 @@ use Rattle.game_core.specs.TreeGame.{game_of_tree}
 use Rattle.enumpure.specs.Replies.{plays_best, AreMutualBestReplies}
 use Rattle.enumpure_trees.specs.Orders.{AreOrders}
 use Rattle.enumpure_trees.specs.Ranks.{lines_below}
-use Rattle.enumpure_trees.proofs.FormSizes.{IsProfile-first}
-use Rattle.enumpure_trees.proofs.SortedOrders.{AreOrders-sorted}
-use Rattle.enumpure_trees.proofs.Texts.{AreListed-made, length-best_replies, IsTreeEquilibriaText-listed, length-listed, above_limit, below_limit}
+use Rattle.enumpure_trees.proofs.FormSizeLemmas.{IsProfile-first}
+use Rattle.enumpure_trees.proofs.SortedOrderLemmas.{AreOrders-sorted}
+use Rattle.enumpure_trees.proofs.TextLemmas.{AreListed-made, length-best_replies, IsTreeEquilibriaText-listed, length-listed, above_limit, below_limit}
 use Rattle.enumpure_trees.proofs.listing.list_pure_behaviours.Goals as goal
 
 pub line_length-requires-clause-profile : goal.line_length-requires-clause-profile

@@ -1,7 +1,7 @@
 use Rattle.std.proofs.Common.{length, map, arith}
 use Rattle.std.proofs.lemmas.List.{length-map}
 use Rattle.game_theory.specs.Ranks.{ranked}
-use Rattle.enumpure_trees.proofs.RankedProfiles.{IsWrittenBelow-none, IsNextPlace-read, IsWrittenBelow-next, IsWrittenBelow-all, place-read, value-at}
+use Rattle.enumpure_trees.proofs.RankedProfileLemmas.{IsWrittenBelow-none, IsNextPlace-read, IsWrittenBelow-next, IsWrittenBelow-all, place-read, value-at}
 use Rattle.enumpure_trees.proofs.listing.set_ordered.Goals as goal
 
 pub loop-player-init : goal.loop-player-init

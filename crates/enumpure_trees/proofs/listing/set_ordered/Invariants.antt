@@ -1,6 +1,6 @@
 use Rattle.std.proofs.Common.{length, map}
 use Rattle.game_theory.specs.Ranks.{ranked}
-use Rattle.enumpure_trees.proofs.RankedProfiles.{IsWrittenBelow}
+use Rattle.enumpure_trees.proofs.RankedProfileLemmas.{IsWrittenBelow}
 use Rattle.enumpure_trees.proofs.listing.set_ordered.Given as goal
 
 abbrev pub invariant-loop-player : goal.invariant-loop-player

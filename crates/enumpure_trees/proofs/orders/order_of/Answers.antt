@@ -1,7 +1,7 @@
 use Rattle.std.proofs.Common.{◌≡◌, map, sym, ap, ◌∙◌, subst, arith}
 use Rattle.std.proofs.lemmas.List.{length-map, take_all}
 use Rattle.enumpure_trees.specs.StrategyOrders.{first_numbered, IsSortedOrder}
-use Rattle.enumpure_trees.proofs.Sorted.{IsSortedOrder-sorted}
+use Rattle.enumpure_trees.proofs.SortedStrategyLemmas.{IsSortedOrder-sorted}
 use Rattle.enumpure_trees.proofs.orders.order_of.Goals as goal
 
 pub returns : goal.returns

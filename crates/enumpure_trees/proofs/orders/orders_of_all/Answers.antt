@@ -3,9 +3,9 @@ use Rattle.std.proofs.lemmas.List.{length-map, length_push, map-append}
 use Rattle.game_core.specs.Table.{IsTable}
 use Rattle.game_core.specs.TreeGame.{game_of_tree}
 use Rattle.enumpure_trees.specs.StrategyOrders.{AreTold, IsSortedOrder}
-use Rattle.enumpure_trees.proofs.FormSizes.{few_strategies}
-use Rattle.enumpure_trees.proofs.SortedOrders.{sorted-push, seen-at}
-use Rattle.enumpure_trees.proofs.Told.{AreTold-strategies}
+use Rattle.enumpure_trees.proofs.FormSizeLemmas.{few_strategies}
+use Rattle.enumpure_trees.proofs.SortedOrderLemmas.{sorted-push, seen-at}
+use Rattle.enumpure_trees.proofs.CompletedListLemmas.{AreTold-strategies}
 use Rattle.enumpure_trees.proofs.orders.orders_of_all.Goals as goal
 use Rattle.enumpure_trees.proofs.orders.orders_of_all.Goals.{After-deref}
 

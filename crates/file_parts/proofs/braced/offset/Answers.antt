@@ -1,4 +1,4 @@
-use Rattle.file_parts.proofs.Places.{place_within, place_read}
+use Rattle.file_parts.proofs.PlaceLemmas.{place_within, place_read}
 use Rattle.game_core.specs.Spacing.{AreSpaced}
 use Rattle.file_parts.proofs.braced.offset.Goals as goal
 

@@ -2,7 +2,7 @@ use Rattle.std.proofs.Common.{◌++◌, sym, ◌∙◌, ap}
 use Rattle.file_parts.specs.Parts.{braced_texts}
 use Rattle.file_parts.specs.Parsing.{parse_names}
 use Rattle.file_parts.proofs.TokenLaws.{names_is, names_again}
-use Rattle.file_parts.proofs.Values.{value, value_some, value_names}
+use Rattle.file_parts.proofs.ValueLemmas.{value, value_some, value_names}
 use Rattle.file_parts.proofs.laws.names_are_read.Goals as goal
 
 pub returns-clause-sound : goal.returns-clause-sound

@@ -1,7 +1,7 @@
 use Rattle.std.proofs.Common.{sym, ◌∙◌, ap, length, ◌++◌}
 use Rattle.file_parts.specs.Parsing.{parse_payoffs}
 use Rattle.file_parts.proofs.NumberLaws.{payoffs_are, payoffs_again}
-use Rattle.file_parts.proofs.Values.{value, value_some, value_payoffs}
+use Rattle.file_parts.proofs.ValueLemmas.{value, value_some, value_payoffs}
 use Rattle.file_parts.proofs.laws.payoffs_are_read.Goals as goal
 
 pub returns-clause-sound : goal.returns-clause-sound

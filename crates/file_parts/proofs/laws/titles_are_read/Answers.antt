@@ -5,7 +5,7 @@ use Rattle.game_core.specs.declared.token.Token.TheVariants.{Text, Word}
 use Rattle.file_parts.specs.Parts.{whole_number}
 use Rattle.file_parts.specs.Parsing.{parse_title}
 use Rattle.file_parts.proofs.HeaderLaws.{title_is, title_again}
-use Rattle.file_parts.proofs.Values.{value, value_some, value_title}
+use Rattle.file_parts.proofs.ValueLemmas.{value, value_some, value_title}
 use Rattle.file_parts.proofs.laws.titles_are_read.Goals as goal
 
 pub returns-clause-sound : goal.returns-clause-sound

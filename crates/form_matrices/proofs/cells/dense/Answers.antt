@@ -1,5 +1,5 @@
 use Rattle.std.proofs.Common.{◌<◌, subst, sym, arith}
-use Rattle.form_matrices.proofs.WrittenCells.{IsWritten, cell_is, number_is, written_next, written_all}
+use Rattle.form_matrices.proofs.WrittenCellLemmas.{IsWritten, cell_is, number_is, written_next, written_all}
 use Rattle.form_matrices.proofs.cells.dense.Goals as goal
 
 pub loop-k-preserved : goal.loop-k-preserved

@@ -1,4 +1,4 @@
-use Rattle.form_matrices.proofs.WrittenCells.{IsWritten}
+use Rattle.form_matrices.proofs.WrittenCellLemmas.{IsWritten}
 use Rattle.form_matrices.proofs.cells.dense.Given as goal
 
 abbrev pub invariant-loop-k : goal.invariant-loop-k

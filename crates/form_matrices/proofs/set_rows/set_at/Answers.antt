@@ -1,6 +1,6 @@
 use Rattle.std.proofs.Common.{◌∙◌, ap, get_or, List}
 use Rattle.sequence_data.specs.declared.types.SetRow.{SetRow}
-use Rattle.form_matrices.proofs.SetEntries.{first_read}
+use Rattle.form_matrices.proofs.SetEntryLemmas.{first_read}
 use Rattle.form_matrices.proofs.set_rows.set_at.Goals as goal
 
 pub returns-clause-first : goal.returns-clause-first

@@ -1,6 +1,6 @@
 use Rattle.std.proofs.Common.{◌≢◌, ◌≤◌, ◌<◌, ◌-◌, length, sym, ◌∙◌, ap, arith}
 use Rattle.rational.specs.Rational.{neg_ℚ}
-use Rattle.form_matrices.proofs.SetEntries.{whole_at_empty, whole_elsewhere, entry_at_action, entry_past, entry_at_before, entry_elsewhere}
+use Rattle.form_matrices.proofs.SetEntryLemmas.{whole_at_empty, whole_elsewhere, entry_at_action, entry_past, entry_at_before, entry_elsewhere}
 use Rattle.sequence_data.specs.Data.{side_of}
 use Rattle.sequence_forms.specs.Matrices.{set_row}
 use Rattle.form_matrices.proofs.set_rows.set_entry.Goals as goal

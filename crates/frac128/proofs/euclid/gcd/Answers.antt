@@ -1,6 +1,6 @@
 use Rattle.std.proofs.Common.{sym, ap, ◌∙◌, inl, inr}
 use Rattle.rational.specs.Gcd.{gcd as gcd_of}
-use Rattle.frac128.proofs.Quotients.{gcd_same, one_shared, gcd-step, gcd-zero}
+use Rattle.frac128.proofs.QuotientLemmas.{gcd_same, one_shared, gcd-step, gcd-zero}
 use Rattle.frac128.proofs.euclid.gcd.Goals as goal
 use Rattle.frac128.proofs.euclid.gcd.Goals.{then-a-eq1-via-then-a-eq1, then-a-eq1-via-else-a-eq1+then-b-eq1}
 

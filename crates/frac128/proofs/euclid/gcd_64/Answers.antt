@@ -1,6 +1,6 @@
 use Rattle.std.proofs.Common.{sym, ap, ◌∙◌}
 use Rattle.rational.specs.Gcd.{gcd as gcd_of}
-use Rattle.frac128.proofs.Quotients.{gcd-step, gcd-zero}
+use Rattle.frac128.proofs.QuotientLemmas.{gcd-step, gcd-zero}
 use Rattle.frac128.proofs.euclid.gcd_64.Goals as goal
 
 pub loop-y-preserved : goal.loop-y-preserved

@@ -1,6 +1,6 @@
 use Rattle.std.proofs.Common.{subst, ◌<◌, ◌^◌}
 use Rattle.std.specs.Option.{SomeIff}
-use Rattle.frac128.proofs.Halves.{by_halves, wide_half}
+use Rattle.frac128.proofs.HalfProductLemmas.{by_halves, wide_half}
 use Rattle.frac128.proofs.fitting.long_product.Goals as goal
 
 pub returns-then-high-gt-WORD : goal.returns-then-high-gt-WORD

@@ -2,8 +2,8 @@ use Rattle.std.proofs.Common.{mul-pos, inl, inr, arith, sym, ap₂, ◌∙◌, �
 use Rattle.rational.specs.Rational.{frac}
 use Rattle.rational.specs.Gcd.{gcd}
 use Rattle.frac128.specs.Fraction.{with_sign}
-use Rattle.frac128.proofs.Reduced.{common_pos, answer_at, none_at, zero_product}
-use Rattle.frac128.proofs.ProductSizes.{crossed_positive, crossed_lowest, crossed_value, crossed_wide}
+use Rattle.frac128.proofs.ReductionLemmas.{common_pos, answer_at, none_at, zero_product}
+use Rattle.frac128.proofs.ProductSizeLemmas.{crossed_positive, crossed_lowest, crossed_value, crossed_wide}
 use Rattle.frac128.proofs.products.product_of.Goals as goal
 use Rattle.frac128.proofs.products.product_of.Goals.{then-a-eq0-via-then-a-eq0, then-a-eq0-via-else-a-eq0+then-c-eq0}
 

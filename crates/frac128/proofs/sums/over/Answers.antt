@@ -2,9 +2,9 @@ use Rattle.std.proofs.Common.{arith, sym, ap, ◌∙◌, ◌*◌, ◌<◌, subst
 use Rattle.rational.specs.Rational.{frac}
 use Rattle.rational.specs.Gcd.{gcd}
 use Rattle.frac128.specs.Fraction.{with_sign}
-use Rattle.frac128.proofs.Parts.{kept, num_kept}
-use Rattle.frac128.proofs.Reduced.{common_pos, answer_at, none_at}
-use Rattle.frac128.proofs.SumSizes.{over_positive, over_lowest, over_read, over_wide}
+use Rattle.frac128.proofs.PartLemmas.{kept, num_kept}
+use Rattle.frac128.proofs.ReductionLemmas.{common_pos, answer_at, none_at}
+use Rattle.frac128.proofs.SumSizeLemmas.{over_positive, over_lowest, over_read, over_wide}
 use Rattle.frac128.proofs.sums.over.Goals as goal
 
 pub divided-lowest_top-requires : goal.divided-lowest_top-requires

@@ -4,7 +4,7 @@ use Rattle.answers.specs.Answers.{Gives, map_ok}
 use Rattle.gambit_tools.specs.Check.{verdicts}
 use Rattle.gambit_tools.specs.Games.{game_in}
 use Rattle.refusals.specs.declared.refusal.Refusal.TheVariants as refusal
-use Rattle.gambit_tools.proofs.Checking.{IsAfterOne, both-read, first-refused, game-computed, second-refused, verdicts-computed}
+use Rattle.gambit_tools.proofs.CheckedLineLemmas.{IsAfterOne, both-read, first-refused, game-computed, second-refused, verdicts-computed}
 use Rattle.gambit_tools.proofs.check.check.Goals as goal
 
 pub returns-in_err-bytes : goal.returns-in_err-bytes

@@ -1,5 +1,5 @@
 use Rattle.std.proofs.Common.{◌∙◌, sym, arith}
-use Rattle.gambit_tools.proofs.Trees.{are_few, begins_by_first}
+use Rattle.gambit_tools.proofs.TreeTokenLemmas.{are_few, begins_by_first}
 use Rattle.gambit_tools.proofs.games.begins_as_tree.Goals as goal
 
 pub returns-in-Some : goal.returns-in-Some

@@ -9,7 +9,7 @@ use Rattle.gambit_tools.specs.Reading.{ReadsGame, RefuseGame}
 use Rattle.game_core.specs.declared.game.Game.{Game}
 use Rattle.refusals.specs.declared.refusal.Refusal.{Refusal}
 use Rattle.refusals.specs.declared.refusal.Refusal.TheVariants as refusal
-use Rattle.gambit_tools.proofs.Computing.{IsRead, game-computed, refused-computed, text-computed}
+use Rattle.gambit_tools.proofs.OneInputLemmas.{IsRead, game-computed, refused-computed, text-computed}
 use Rattle.gambit_tools.proofs.games.read_game.Goals as goal
 
 pub returns-in_err-bytes : goal.returns-in_err-bytes

@@ -1,6 +1,6 @@
 use Rattle.std.proofs.Common.{subst₂}
 use Rattle.answers.specs.Answers.{Gives, map_ok, ◌>>=◌}
-use Rattle.answers.proofs.Answers.{gives_bind_as, gives_exit}
+use Rattle.answers.proofs.AnswerLemmas.{gives_bind_as, gives_exit}
 use Rattle.sequence_form.specs.Counts.{problem_rows}
 use Rattle.zero_sum_lp.specs.PlanPairs.{PlanPair}
 use Rattle.gambit_tools.specs.Entries.{line_in}

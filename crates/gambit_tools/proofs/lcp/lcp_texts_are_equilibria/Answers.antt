@@ -1,4 +1,4 @@
-use Rattle.gambit_tools.proofs.LcpTexts.{lcp_texts}
+use Rattle.gambit_tools.proofs.LcpTextLemmas.{lcp_texts}
 use Rattle.gambit_tools.proofs.lcp.lcp_texts_are_equilibria.Goals as goal
 
 pub returns : goal.returns

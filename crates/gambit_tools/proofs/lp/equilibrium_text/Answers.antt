@@ -1,5 +1,5 @@
 use Rattle.answers.specs.Answers.{◌>>=◌}
-use Rattle.answers.proofs.Answers.{gives_bind_as, gives_exit}
+use Rattle.answers.proofs.AnswerLemmas.{gives_bind_as, gives_exit}
 use Rattle.sequence_form.specs.Counts.{size_of_program}
 use Rattle.gambit_tools.specs.Lp.{solution_in, solution_text}
 use Rattle.gambit_tools.specs.Solved.{solution_of}

@@ -1,4 +1,4 @@
-use Rattle.gambit_tools.proofs.LpTexts.{lp_texts}
+use Rattle.gambit_tools.proofs.LpTextLemmas.{lp_texts}
 use Rattle.gambit_tools.proofs.lp.lp_texts_are_solutions.Goals as goal
 
 pub returns : goal.returns

@@ -1,6 +1,6 @@
 use Rattle.std.proofs.Common.{rules, ◌≡◌, ap, subst, Ok, Err}
 use Rattle.answers.specs.Answers.{Gives, only}
-use Rattle.answers.proofs.Answers.{gives_told_exit}
+use Rattle.answers.proofs.AnswerLemmas.{gives_told_exit}
 use Rattle.game_core.specs.MadeTables.{made_game}
 use Rattle.enummixed.specs.ExtremeText.{extreme_pairs}
 use Rattle.enummixed.specs.Pairs.{pairs_of}

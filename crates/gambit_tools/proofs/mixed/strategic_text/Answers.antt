@@ -1,6 +1,6 @@
 use Rattle.std.proofs.Common.{sym, subst}
 use Rattle.answers.specs.Answers.{Gives, map_ok, refused_by}
-use Rattle.answers.proofs.Answers.{gives_bind_as}
+use Rattle.answers.proofs.AnswerLemmas.{gives_bind_as}
 use Rattle.reduced_form.specs.Stops.{form_of}
 use Rattle.refusals.specs.Told.{form_refusal}
 use Rattle.refusals.specs.declared.refusal.Refusal.TheVariants as refusal

@@ -1,5 +1,5 @@
 use Rattle.std.proofs.Common.{◌∙◌, ap, length}
-use Rattle.game_theory.proofs.ProfileLines.{length-listed}
+use Rattle.game_theory.proofs.ProfileLineLemmas.{length-listed}
 use Rattle.sequence_data.specs.Data.{SideData}
 use Rattle.lemke_pivot.specs.Parts.{plan_one, plan_two}
 use Rattle.gambit_tools.proofs.pivoting.equilibrium_in.Goals as goal

@@ -1,6 +1,6 @@
 use Rattle.std.proofs.Common.{◌≡◌, ◌∙◌, ap, arith, []}
 use Rattle.game_theory.specs.Lines.{listed}
-use Rattle.game_theory.proofs.Entries.{listed-push}
+use Rattle.game_theory.proofs.EntryLemmas.{listed-push}
 use Rattle.lemke_pivot.specs.Parts.{plan_one}
 use Rattle.gambit_tools.proofs.pivoting.first_plan.Goals as goal
 

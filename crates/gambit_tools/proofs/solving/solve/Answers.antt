@@ -1,5 +1,5 @@
 use Rattle.answers.specs.Answers.{◌>>=◌, only, refused_by}
-use Rattle.answers.proofs.Answers.{gives_bind_as, gives_told_exit}
+use Rattle.answers.proofs.AnswerLemmas.{gives_bind_as, gives_told_exit}
 use Rattle.zero_sum_lp.specs.FormPrograms.{program_in}
 use Rattle.zero_sum_lp.specs.PlanStops.{plans_of}
 use Rattle.zero_sum_lp.specs.declared.stop.PlanStop.TheVariants as plan_stop

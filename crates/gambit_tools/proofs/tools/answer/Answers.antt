@@ -1,6 +1,6 @@
 use Rattle.std.proofs.Common.{map, string_bytes}
 use Rattle.words.specs.Words.{command_of}
-use Rattle.words.proofs.Ranges.{ranges}
+use Rattle.words.proofs.RangeLemmas.{ranges}
 use Rattle.gambit_tools.proofs.tools.answer.Goals as goal
 
 pub compute-requires-clause-ranges : goal.compute-requires-clause-ranges

@@ -1,7 +1,7 @@
 use Rattle.std.proofs.Common.{Err, map, string_bytes, refl}
 use Rattle.answers.specs.Answers.{map_ok}
 use Rattle.gambit_tools.specs.Seen.{seen}
-use Rattle.gambit_tools.proofs.Running.{outcome-complete, outcome-text, outcome-told}
+use Rattle.gambit_tools.proofs.RunLaws.{outcome-complete, outcome-text, outcome-told}
 use Rattle.gambit_tools.proofs.tools.run.Goals as goal
 
 pub returns-in-None : goal.returns-in-None

@@ -1,5 +1,5 @@
 use Rattle.std.proofs.Common.{ap, arith, length}
-use Rattle.game_core.proofs.TableCounts.{few_players}
+use Rattle.game_core.proofs.TableCountLemmas.{few_players}
 use Rattle.gambit_tools.proofs.two_players.player_count.Goals as goal
 
 pub overflow_cast-result : goal.overflow_cast-result

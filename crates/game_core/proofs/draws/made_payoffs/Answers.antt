@@ -1,4 +1,4 @@
-use Rattle.game_core.proofs.Drawing.{payoffs_next, state_next}
+use Rattle.game_core.proofs.DrawLemmas.{payoffs_next, state_next}
 use Rattle.game_core.proofs.draws.made_payoffs.Goals as goal
 
 pub loop-preserved : goal.loop-preserved

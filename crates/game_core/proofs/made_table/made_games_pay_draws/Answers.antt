@@ -1,4 +1,4 @@
-use Rattle.game_core.proofs.Games.{pays_draws}
+use Rattle.game_core.proofs.GameLemmas.{pays_draws}
 use Rattle.game_core.proofs.made_table.made_games_pay_draws.Goals as goal
 
 pub returns : goal.returns

@@ -1,6 +1,6 @@
 use Rattle.std.proofs.Common.{[], ◌∷◌, length, map, ap, ap₂, ◌∙◌}
 use Rattle.std.proofs.lemmas.List.{length-replicate}
-use Rattle.game_core.proofs.Games.{is_made, is_table}
+use Rattle.game_core.proofs.GameLemmas.{is_made, is_table}
 use Rattle.game_core.proofs.made_table.make_table.Goals as goal
 
 pub new-requires-2 : goal.new-requires-2

@@ -1,6 +1,6 @@
 use Rattle.std.proofs.Common.{ap, ◌∙◌, ◌+◌, ◌*◌, get_or, arith}
-use Rattle.game_theory.proofs.ProfileCounts.{profile_count-front}
-use Rattle.game_theory.proofs.ProfileCounts.{profile_count-next}
+use Rattle.game_theory.proofs.ProfileCountLemmas.{profile_count-front}
+use Rattle.game_theory.proofs.ProfileCountLemmas.{profile_count-next}
 use Rattle.game_core.proofs.profiles.profile_count.Goals as goal
 
 pub overflow_mul-profiles : goal.overflow_mul-profiles

@@ -1,8 +1,8 @@
 use Rattle.std.proofs.Common.{◌≡◌, ◌<◌, ◌+◌, ◌*◌, ◌-◌, ◌∙◌, sym, refl, length, map, drop, get_or, arith, rules}
 use Rattle.std.proofs.lemmas.List.{length-map}
-use Rattle.game_theory.proofs.ProfileNumbers.{length-profile}
+use Rattle.game_theory.proofs.ProfileNumberLemmas.{length-profile}
 use Rattle.game_theory.specs.Profiles.{number_of, profile_count}
-use Rattle.game_core.proofs.Numbers.{number_of-before, number_of-end, length_at}
+use Rattle.game_core.proofs.NumberLemmas.{number_of-before, number_of-end, length_at}
 use Rattle.game_core.proofs.table.profile_number.Goals as goal
 
 pub loop-place-init : goal.loop-place-init

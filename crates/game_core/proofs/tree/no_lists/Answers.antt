@@ -1,5 +1,5 @@
 use Rattle.std.proofs.lemmas.List.{map_push}
-use Rattle.game_core.proofs.PlayersSets.{AreOwnLists-one_more}
+use Rattle.game_core.proofs.PlayerSetLemmas.{AreOwnLists-one_more}
 use Rattle.game_core.proofs.tree.no_lists.Goals as goal
 
 pub loop-preserved : goal.loop-preserved

@@ -1,6 +1,6 @@
 use Rattle.std.proofs.Common.{◌<◌, ◌∙◌, sym, length, arith}
 use Rattle.std.proofs.lemmas.List.{length-map}
-use Rattle.game_core.proofs.PlayersSets.{AreOwnLists-step_chance, AreOwnLists-step_player, owner_within}
+use Rattle.game_core.proofs.PlayerSetLemmas.{AreOwnLists-step_chance, AreOwnLists-step_player, owner_within}
 use Rattle.game_core.proofs.tree.own_lists.Goals as goal
 use Rattle.game_core.proofs.tree.own_lists.Goals.{in-Some+in_ok-push, in_default}
 

@@ -1,6 +1,6 @@
 use Rattle.std.proofs.Common.{sym, subst}
-use Rattle.game_text.proofs.Digits.{Struck, struck_after, kept_digits}
-use Rattle.game_text.proofs.Limits.{decimal_answer}
+use Rattle.game_text.proofs.DigitLemmas.{Struck, struck_after, kept_digits}
+use Rattle.game_text.proofs.LimitLemmas.{decimal_answer}
 use Rattle.game_text.proofs.number.decimal_value.Goals as goal
 
 pub size_of_both-requires-clause-after : goal.size_of_both-requires-clause-after

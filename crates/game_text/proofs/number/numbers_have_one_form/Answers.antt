@@ -1,4 +1,4 @@
-use Rattle.game_text.proofs.Forms.{one_form}
+use Rattle.game_text.proofs.NumeralFormLemmas.{one_form}
 use Rattle.game_text.proofs.number.numbers_have_one_form.Goals as goal
 
 pub returns : goal.returns

@@ -1,6 +1,6 @@
 use Rattle.std.proofs.Common.{sym, ap, ◌∙◌, subst}
 use Rattle.game_text.specs.Numbers.{IsWithinLimits, value_of}
-use Rattle.game_text.proofs.Forms.{one_form}
+use Rattle.game_text.proofs.NumeralFormLemmas.{one_form}
 use Rattle.game_text.proofs.number.numbers_have_one_value.Goals as goal
 
 pub returns-clause-value : goal.returns-clause-value

@@ -1,5 +1,5 @@
 use Rattle.std.proofs.Common.{sym}
-use Rattle.game_text.proofs.Forms.{power_digits}
+use Rattle.game_text.proofs.NumeralFormLemmas.{power_digits}
 use Rattle.game_text.proofs.number.read_decimal.Goals as goal
 
 pub decimal_value-requires-clause-power : goal.decimal_value-requires-clause-power

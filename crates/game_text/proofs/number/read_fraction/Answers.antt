@@ -1,5 +1,5 @@
 use Rattle.std.proofs.Common.{sym}
-use Rattle.game_text.proofs.Forms.{tested_digits, tested_divisor}
+use Rattle.game_text.proofs.NumeralFormLemmas.{tested_digits, tested_divisor}
 use Rattle.game_text.proofs.number.read_fraction.Goals as goal
 
 pub fraction_value-requires-clause-bottom : goal.fraction_value-requires-clause-bottom

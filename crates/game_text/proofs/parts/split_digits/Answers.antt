@@ -1,8 +1,8 @@
 use Rattle.std.proofs.Common.{take, ap, sym, ◌∙◌, subst}
 use Rattle.std.specs.Char.{IsAsciiDigit, is_ascii_digit}
 use Rattle.std.specs.List.{All}
-use Rattle.game_text.proofs.Digits.{leading_digits}
-use Rattle.game_text.proofs.Prefixes.{take-prefix_len}
+use Rattle.game_text.proofs.DigitLemmas.{leading_digits}
+use Rattle.game_text.proofs.PrefixLemmas.{take-prefix_len}
 use Rattle.game_text.proofs.parts.split_digits.Goals as goal
 
 pub returns-clause-digits : goal.returns-clause-digits

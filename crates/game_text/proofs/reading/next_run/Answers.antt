@@ -1,5 +1,5 @@
 use Rattle.std.proofs.Common.{take, drop, refl, sym, ap, ◌∙◌}
-use Rattle.game_text.proofs.Next.{IsFrontRun, word_next, number_next, number_fault}
+use Rattle.game_text.proofs.NextTokenLemmas.{IsFrontRun, word_next, number_next, number_fault}
 use Rattle.game_text.proofs.reading.next_run.Goals as goal
 
 pub returns-then-is_letter-clause-token : goal.returns-then-is_letter-clause-token

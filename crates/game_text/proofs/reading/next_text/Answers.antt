@@ -1,5 +1,5 @@
 use Rattle.std.proofs.Common.{refl}
-use Rattle.game_text.proofs.Next.{text_next, open_text}
+use Rattle.game_text.proofs.NextTokenLemmas.{text_next, open_text}
 use Rattle.game_text.proofs.reading.next_text.Goals as goal
 
 pub returns-in_default-clause-fault : goal.returns-in_default-clause-fault

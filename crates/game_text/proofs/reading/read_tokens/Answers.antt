@@ -1,7 +1,7 @@
 use Rattle.std.proofs.Common.{◌≡◌, ◌-◌, ◌∷◌, [], ◌++◌, length, refl, arith}
 use Rattle.game_core.specs.declared.token.Spanned.{Spanned}
-use Rattle.game_text.proofs.Runs.{drop_blanks}
-use Rattle.game_text.proofs.Steps.{IsRead, blanks_before, blanks_shorten, shorter, read_tokens, read_places}
+use Rattle.game_text.proofs.ByteRunLemmas.{drop_blanks}
+use Rattle.game_text.proofs.TokenStepLemmas.{IsRead, blanks_before, blanks_shorten, shorter, read_tokens, read_places}
 use Rattle.game_text.proofs.reading.read_tokens.Goals as goal
 
 pub loop-rest-init : goal.loop-rest-init

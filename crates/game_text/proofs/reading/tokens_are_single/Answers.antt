@@ -1,4 +1,4 @@
-use Rattle.game_text.proofs.Single.{tokens_of-single}
+use Rattle.game_text.proofs.OneListLaws.{tokens_of-single}
 use Rattle.game_text.proofs.reading.tokens_are_single.Goals as goal
 
 pub returns : goal.returns

@@ -1,4 +1,4 @@
-use Rattle.game_text.proofs.Digits.{size_answer}
+use Rattle.game_text.proofs.DigitLemmas.{size_answer}
 use Rattle.game_text.proofs.sizes.size_of.Goals as goal
 
 pub returns : goal.returns

@@ -1,4 +1,4 @@
-use Rattle.game_text.proofs.Digits.{both_answer, before_long}
+use Rattle.game_text.proofs.DigitLemmas.{both_answer, before_long}
 use Rattle.game_text.proofs.sizes.size_of_both.Goals as goal
 
 pub returns-in_err-number : goal.returns-in_err-number

@@ -1,7 +1,7 @@
 use Rattle.std.proofs.Common.{◌≡◌, ◌+◌, ◌*◌, arith, take}
 use Rattle.std.proofs.lemmas.List.Sums.{fold_more}
 use Rattle.game_text.specs.NumberReading.{digits_after}
-use Rattle.game_text.proofs.Digits.{digits_front}
+use Rattle.game_text.proofs.DigitLemmas.{digits_front}
 use Rattle.game_text.proofs.sizes.with_digits.Goals as goal
 
 pub returns-then-value-limit : goal.returns-then-value-limit

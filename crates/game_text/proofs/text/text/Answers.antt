@@ -1,5 +1,5 @@
 use Rattle.std.proofs.Common.{◌≡◌, ◌∷◌, [], ◌++◌, sym, ap, ◌∙◌, append_assoc}
-use Rattle.game_text.proofs.Quoted.{spelled_more}
+use Rattle.game_text.proofs.QuotedLemmas.{spelled_more}
 use Rattle.game_text.proofs.text.text.Goals as goal
 
 pub loop-byte-preserved : goal.loop-byte-preserved

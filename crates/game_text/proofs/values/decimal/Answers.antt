@@ -1,5 +1,5 @@
 use Rattle.std.proofs.Common.{arith}
-use Rattle.game_text.proofs.Powers.{falls_answer, within_answer, beyond_answer}
+use Rattle.game_text.proofs.PowerLemmas.{falls_answer, within_answer, beyond_answer}
 use Rattle.game_text.proofs.values.decimal.Goals as goal
 
 pub returns-then-falls : goal.returns-then-falls

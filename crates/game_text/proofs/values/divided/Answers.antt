@@ -1,6 +1,6 @@
 use Rattle.std.proofs.Common.{◌≡◌, mul-pos, arith}
-use Rattle.frac128.proofs.Parts.{den_size}
-use Rattle.game_text.proofs.Powers.{ten_pos}
+use Rattle.frac128.proofs.PartLemmas.{den_size}
+use Rattle.game_text.proofs.PowerLemmas.{ten_pos}
 use Rattle.game_text.proofs.values.divided.Goals as goal
 
 pub over-requires-clause-positive : goal.over-requires-clause-positive

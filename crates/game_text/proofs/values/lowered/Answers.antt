@@ -1,7 +1,7 @@
 use Rattle.std.proofs.Common.{◌≤◌, ◌^◌, pos, sym, subst, ◌∙◌, arith}
-use Rattle.frac128.proofs.Parts.{kept-part}
+use Rattle.frac128.proofs.PartLemmas.{kept-part}
 use Rattle.frac128.specs.Short.{IsShort}
-use Rattle.game_text.proofs.Powers.{ten_pos, long_den, short_at, step_on, step_end, tested_long}
+use Rattle.game_text.proofs.PowerLemmas.{ten_pos, long_den, short_at, step_on, step_end, tested_long}
 use Rattle.game_text.proofs.values.lowered.Goals as goal
 
 pub returns-then-not-is_short : goal.returns-then-not-is_short

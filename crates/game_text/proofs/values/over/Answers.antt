@@ -2,8 +2,8 @@ use Rattle.std.proofs.Common.{refl, subst, sym}
 use mir.Syntax.{w128}
 use Rattle.std.proofs.lemmas.Int.{to_z_pos}
 use Rattle.frac128.specs.Fraction.{PartFits}
-use Rattle.frac128.proofs.Parts.{kept-part}
-use Rattle.game_text.proofs.Powers.{over_fits}
+use Rattle.frac128.proofs.PartLemmas.{kept-part}
+use Rattle.game_text.proofs.PowerLemmas.{over_fits}
 use Rattle.game_text.proofs.values.over.Goals as goal
 
 pub unreachable-requires : goal.unreachable-requires

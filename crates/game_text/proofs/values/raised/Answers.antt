@@ -1,5 +1,5 @@
 use Rattle.std.proofs.Common.{◌*◌, ◌^◌}
-use Rattle.game_text.proofs.Powers.{long_whole, raised_long}
+use Rattle.game_text.proofs.PowerLemmas.{long_whole, raised_long}
 use Rattle.game_text.proofs.values.raised.Goals as goal
 
 pub returns-then-size-ge-LIMIT : goal.returns-then-size-ge-LIMIT

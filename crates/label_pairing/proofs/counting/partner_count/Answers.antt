@@ -1,7 +1,7 @@
 use Rattle.std.proofs.Common.{ℕ, ◌+◌, ◌*◌, ◌/◌, ◌≡◌, ◌∙◌, length, ap, ap₂, subst, sym, arith}
 use Rattle.std.specs.List.{between}
 use Rattle.label_pairing.specs.Matches.{partner_count}
-use Rattle.label_pairing.proofs.Partners.{partners_below, partners-next}
+use Rattle.label_pairing.proofs.PartnerLemmas.{partners_below, partners-next}
 use Rattle.label_pairing.proofs.counting.partner_count.Goals as goal
 
 pub loop-block-preserved : goal.loop-block-preserved

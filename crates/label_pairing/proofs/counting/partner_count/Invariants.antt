@@ -1,5 +1,5 @@
 use Rattle.std.proofs.Common.{◌≡◌, ◌*◌, ◌≤◌}
-use Rattle.label_pairing.proofs.Partners.{partners_below}
+use Rattle.label_pairing.proofs.PartnerLemmas.{partners_below}
 use Rattle.label_pairing.proofs.counting.partner_count.Given as goal
 
 abbrev pub invariant-loop-block : goal.invariant-loop-block

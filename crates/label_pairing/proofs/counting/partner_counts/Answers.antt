@@ -1,7 +1,7 @@
 use Rattle.std.proofs.Common.{◌∙◌, map, ap}
-use Rattle.lists.proofs.Options.{if_ok-then}
+use Rattle.lists.proofs.OptionLemmas.{if_ok-then}
 use Rattle.rayon.proofs.ToStd.{slice-map}
-use Rattle.label_pairing.proofs.Partners.{partners}
+use Rattle.label_pairing.proofs.PartnerLemmas.{partners}
 use Rattle.label_pairing.proofs.counting.partner_counts.Goals as goal
 
 pub returns : goal.returns

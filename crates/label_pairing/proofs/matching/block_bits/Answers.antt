@@ -1,4 +1,4 @@
-use Rattle.label_pairing.proofs.Blocks.{both_bits, both_few}
+use Rattle.label_pairing.proofs.BlockLemmas.{both_bits, both_few}
 use Rattle.label_pairing.proofs.matching.block_bits.Goals as goal
 
 pub returns-clause-bits : goal.returns-clause-bits

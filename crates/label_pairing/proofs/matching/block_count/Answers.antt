@@ -2,7 +2,7 @@ use Rattle.std.proofs.Common.{ℕ, ◌∙◌, Bool, sym, ap, arith}
 use Rattle.std.specs.Prelude.{count_by}
 use Rattle.std.specs.List.{range_with_len}
 use Rattle.std.proofs.lemmas.Nat.{ones-le}
-use Rattle.label_pairing.proofs.Partners.{bits_count, test}
+use Rattle.label_pairing.proofs.PartnerLemmas.{bits_count, test}
 use Rattle.label_pairing.proofs.matching.block_count.Goals as goal
 
 pub returns-clause-count : goal.returns-clause-count

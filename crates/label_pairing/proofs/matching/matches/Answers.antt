@@ -1,6 +1,6 @@
 use Rattle.std.proofs.Common.{ℕ, ◌+◌, ◌-◌, ◌*◌, ◌/◌, ◌≤◌, ◌≡◌, ◌∙◌, length, arith}
 use Rattle.std.proofs.lemmas.List.Edits.{length-between}
-use Rattle.label_pairing.proofs.Blocks.{part_matches, length-part, rest_matches}
+use Rattle.label_pairing.proofs.BlockLemmas.{part_matches, length-part, rest_matches}
 use Rattle.label_pairing.proofs.matching.matches.Goals as goal
 
 pub loop-block-preserved : goal.loop-block-preserved

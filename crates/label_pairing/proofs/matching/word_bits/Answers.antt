@@ -1,4 +1,4 @@
-use Rattle.label_pairing.proofs.Blocks.{lane_bit, lanes_few}
+use Rattle.label_pairing.proofs.BlockLemmas.{lane_bit, lanes_few}
 use Rattle.label_pairing.proofs.matching.word_bits.Goals as goal
 
 pub returns-clause-bits : goal.returns-clause-bits

@@ -3,7 +3,7 @@ use Rattle.std.specs.Vec.{with_items}
 use Rattle.std.proofs.lemmas.List.{get_or-map, with_items_is}
 use Rattle.basis_enum.specs.declared.vertex.Vertex.{Vertex}
 use Rattle.label_pairing.specs.Matches.{partner_count}
-use Rattle.label_pairing.proofs.Rows.{pairs-next}
+use Rattle.label_pairing.proofs.RowLemmas.{pairs-next}
 use Rattle.label_pairing.proofs.pairing.collected.Goals as goal
 
 pub push_partners-requires-clause-count : goal.push_partners-requires-clause-count

@@ -2,7 +2,7 @@ use Rattle.std.proofs.Common.{◌≡◌, List, length}
 use Rattle.linear_systems.specs.Vertices.{MarkedPoint}
 use Rattle.basis_enum.specs.Vertices.{marks_of}
 use Rattle.label_pairing.specs.Matches.{AreWords}
-use Rattle.label_pairing.proofs.Rows.{rows}
+use Rattle.label_pairing.proofs.RowLemmas.{rows}
 use Rattle.label_pairing.proofs.pairing.collected.Given as goal
 
 abbrev pub invariant-loop-i : goal.invariant-loop-i

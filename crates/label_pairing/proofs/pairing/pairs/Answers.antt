@@ -6,8 +6,8 @@ use Rattle.basis_enum.specs.declared.vertex.Vertex.{Vertex}
 use Rattle.label_pairing.specs.Matches.{partner_count}
 use Rattle.label_pairing.specs.Pairs.{all_pairs, most_pairs}
 use Rattle.label_pairing.specs.Stops.{pair_limit}
-use Rattle.label_pairing.proofs.Partners.{partners_fit, pairs-counted}
-use Rattle.label_pairing.proofs.Rows.{words_of}
+use Rattle.label_pairing.proofs.PartnerLemmas.{partners_fit, pairs-counted}
+use Rattle.label_pairing.proofs.RowLemmas.{words_of}
 use Rattle.label_pairing.proofs.pairing.pairs.Goals as goal
 
 pub pair_count-count-requires : goal.pair_count-count-requires

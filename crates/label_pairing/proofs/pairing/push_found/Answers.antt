@@ -1,5 +1,5 @@
 use Rattle.std.proofs.Common.{◌∙◌, true, false, ap}
-use Rattle.label_pairing.proofs.Rows.{found-next, found-same}
+use Rattle.label_pairing.proofs.RowLemmas.{found-next, found-same}
 use Rattle.label_pairing.proofs.pairing.push_found.Goals as goal
 use Rattle.label_pairing.proofs.pairing.push_found.Goals.{then-found-j+in_ok-push, else-found-j}
 

@@ -1,7 +1,7 @@
 use Rattle.std.proofs.Common.{◌≡◌, ◌∙◌, ◌++◌, OnOk, ap, sym, subst}
 use Rattle.std.proofs.lemmas.List.{append-nil}
-use Rattle.label_pairing.proofs.Partners.{no-partners}
-use Rattle.label_pairing.proofs.Rows.{found-partners}
+use Rattle.label_pairing.proofs.PartnerLemmas.{no-partners}
+use Rattle.label_pairing.proofs.RowLemmas.{found-partners}
 use Rattle.label_pairing.proofs.pairing.push_partners.Goals as goal
 
 pub returns-then-count-eq0-clause-pairs : goal.returns-then-count-eq0-clause-pairs

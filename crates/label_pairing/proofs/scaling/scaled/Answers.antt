@@ -2,17 +2,17 @@ use Rattle.std.proofs.Common.{◌∙◌, ◌≡◌, [], inr, length, sym, ap, ap
 use Rattle.std.proofs.lemmas.List.{get_or_default}
 use Rattle.std.proofs.lemmas.List.Elements.{All-append}
 use Rattle.rational.specs.Rational.{◌*ℚ◌, inv_ℚ, zero_ℚ}
-use Rattle.rational.proofs.Inverse.{ne_zero_of_pos}
+use Rattle.rational.proofs.InverseLemmas.{ne_zero_of_pos}
 use Rattle.frac128.specs.Steps.{DivFits, unfit}
 use Rattle.frac128.specs.declared.steps.Op.TheVariants.{Div}
 use Rattle.game_theory.specs.Lines.{listed}
-use Rattle.game_theory.proofs.Entries.{listed-push}
+use Rattle.game_theory.proofs.EntryLemmas.{listed-push}
 use Rattle.pure_payoffs.specs.Steps.{StepFits}
-use Rattle.pure_payoffs.proofs.Runs.{first_unfit-more, first_unfit-following}
+use Rattle.pure_payoffs.proofs.StepRunLemmas.{first_unfit-more, first_unfit-following}
 use Rattle.extreme_equilibria.specs.Polytopes.{scaled}
-use Rattle.extreme_equilibria.proofs.PositiveNumbers.{sum-pos}
+use Rattle.extreme_equilibria.proofs.PositiveNumberLemmas.{sum-pos}
 use Rattle.label_pairing.specs.Scaling.{entry_of, division, sum_steps}
-use Rattle.label_pairing.proofs.StepLists.{fits-next, unfit-first, fits-all}
+use Rattle.label_pairing.proofs.StepListLemmas.{fits-next, unfit-first, fits-all}
 use Rattle.label_pairing.proofs.scaling.scaled.Goals as goal
 
 pub div-requires : goal.div-requires

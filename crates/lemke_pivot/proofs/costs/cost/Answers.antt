@@ -1,4 +1,4 @@
-use Rattle.lemke_pivot.proofs.CostSteps.{product_unfit, difference_unfit}
+use Rattle.lemke_pivot.proofs.CostStepLemmas.{product_unfit, difference_unfit}
 use Rattle.lemke_pivot.proofs.costs.cost.Goals as goal
 
 pub returns-in-Err-clause-unfit : goal.returns-in-Err-clause-unfit

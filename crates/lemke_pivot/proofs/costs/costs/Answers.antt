@@ -1,8 +1,8 @@
 use Rattle.std.proofs.Common.{inr}
 use Rattle.sequence_data.specs.declared.types.Cell.{Cell}
-use Rattle.pure_payoffs.proofs.FirstUnfits.{made_next}
+use Rattle.pure_payoffs.proofs.FirstUnfitLemmas.{made_next}
 use Rattle.lemke_pivot.specs.FormProblems.{cost_one, cost_two, cost_steps}
-use Rattle.lemke_pivot.proofs.CostSteps.{both_fit, unfit_one, unfit_two}
+use Rattle.lemke_pivot.proofs.CostStepLemmas.{both_fit, unfit_one, unfit_two}
 use Rattle.lemke_pivot.proofs.costs.costs.Goals as goal
 
 pub returns-in-Err-clause-stage : goal.returns-in-Err-clause-stage

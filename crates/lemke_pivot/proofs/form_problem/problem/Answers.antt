@@ -7,7 +7,7 @@ use Rattle.sequence_data.specs.Data.{SideData, side_of}
 use Rattle.lemke_pivot.specs.declared.stop.LcpStop.TheVariants as stops
 use Rattle.lemke_pivot.specs.FormProblems.{costs_in, form_size}
 use Rattle.lemke_pivot.specs.Parts.{problem_size}
-use Rattle.lemke_pivot.proofs.FormProblems.{costs_stop, start_gives}
+use Rattle.lemke_pivot.proofs.FormProblemLemmas.{costs_stop, start_gives}
 use Rattle.lemke_pivot.proofs.form_problem.problem.Goals as goal
 
 pub returns-in_err-costs : goal.returns-in_err-costs

@@ -1,5 +1,5 @@
 use Rattle.std.proofs.Common.{◌∙◌}
-use Rattle.lemke_pivot.proofs.FormSystems.{for_sides}
+use Rattle.lemke_pivot.proofs.FormSystemLemmas.{for_sides}
 use Rattle.lemke_pivot.proofs.form_problem.started.Goals as goal
 
 pub new-requires-clause-problem : goal.new-requires-clause-problem

@@ -2,7 +2,7 @@ use Rattle.std.proofs.Common.{◌∙◌, List, ap, subst, sym}
 use Rattle.sequence_data.specs.declared.types.Cell.{Cell}
 use Rattle.sequence_data.specs.Data.{SideData}
 use Rattle.form_matrices.specs.Matrices.{HoldsNumbers, placed}
-use Rattle.lemke_pivot.proofs.FormSystems.{cells_read, system_read}
+use Rattle.lemke_pivot.proofs.FormSystemLemmas.{cells_read, system_read}
 use Rattle.lemke_pivot.proofs.form_problem.system_of_form.Goals as goal
 
 pub dense-requires-clause-inside : goal.dense-requires-clause-inside

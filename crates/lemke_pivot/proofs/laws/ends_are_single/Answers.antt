@@ -1,4 +1,4 @@
-use Rattle.lemke_pivot.proofs.PathEnds.{ends_same}
+use Rattle.lemke_pivot.proofs.PathEndLemmas.{ends_same}
 use Rattle.lemke_pivot.proofs.laws.ends_are_single.Goals as goal
 
 pub returns : goal.returns

@@ -1,4 +1,4 @@
-use Rattle.lemke_pivot.proofs.FormProblems.{problems_of_forms}
+use Rattle.lemke_pivot.proofs.FormProblemLemmas.{problems_of_forms}
 use Rattle.lemke_pivot.proofs.laws.problems_are_of_forms.Goals as goal
 
 pub returns : goal.returns

@@ -1,4 +1,4 @@
-use Rattle.lemke_pivot.proofs.Solve.{solves_tables}
+use Rattle.lemke_pivot.proofs.PathStartLemmas.{solves_tables}
 use Rattle.lemke_pivot.proofs.laws.solutions_solve_tables.Goals as goal
 
 pub returns : goal.returns

@@ -1,4 +1,4 @@
-use Rattle.lemke_pivot.proofs.Solve.{solves_the_form}
+use Rattle.lemke_pivot.proofs.PathStartLemmas.{solves_the_form}
 use Rattle.lemke_pivot.proofs.laws.solutions_solve_the_form.Goals as goal
 
 pub returns : goal.returns

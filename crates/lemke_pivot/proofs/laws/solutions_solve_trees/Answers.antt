@@ -1,4 +1,4 @@
-use Rattle.lemke_pivot.proofs.Solve.{solves_trees}
+use Rattle.lemke_pivot.proofs.PathStartLemmas.{solves_trees}
 use Rattle.lemke_pivot.proofs.laws.solutions_solve_trees.Goals as goal
 
 pub returns : goal.returns

@@ -1,7 +1,7 @@
 use Rattle.std.proofs.Common.{◌∙◌, ◌+◌, length}
 use Rattle.lemke_pivot.specs.Systems.{listed_costs}
-use Rattle.lemke_pivot.proofs.Blocks.{less_p, less_q}
-use Rattle.lemke_pivot.proofs.Solve.{prices_are}
+use Rattle.lemke_pivot.proofs.BlockLemmas.{less_p, less_q}
+use Rattle.lemke_pivot.proofs.PathStartLemmas.{prices_are}
 use Rattle.lemke_pivot.proofs.matrix.matrix_entry.Goals as goal
 
 pub returns-then-row-prices-2 : goal.returns-then-row-prices-2

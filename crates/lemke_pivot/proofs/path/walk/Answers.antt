@@ -1,10 +1,10 @@
 use Rattle.std.proofs.Common.{◌≢◌, ◌+◌, ◌<◌, suc, sym, ap, ◌∙◌, subst, length, true≢false, arith}
 use Rattle.rational.specs.Rational.{zero_ℚ}
-use Rattle.rational.proofs.Inverse.{ne_zero_of_pos}
+use Rattle.rational.proofs.InverseLemmas.{ne_zero_of_pos}
 use Rattle.lex_tableau.specs.Rows.{Numbers, tableau, IsTableau}
 use Rattle.lemke_pivot.specs.Values.{value}
 use Rattle.lemke_pivot.specs.ProblemPaths.{complement, z0_of}
-use Rattle.lemke_pivot.proofs.Walk.{z0_entry, columns_are, walk_value, walk_bound, walk_solved, walk_nonbasic, walk_variable, walk_best, walk_never, walk_next, walk_stops}
+use Rattle.lemke_pivot.proofs.KeptWalkLemmas.{z0_entry, columns_are, walk_value, walk_bound, walk_solved, walk_nonbasic, walk_variable, walk_best, walk_never, walk_next, walk_stops}
 use Rattle.lemke_pivot.proofs.path.walk.Goals as goal
 
 pub pivot-requires-clause-entry : goal.pivot-requires-clause-entry

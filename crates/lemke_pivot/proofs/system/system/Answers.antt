@@ -2,7 +2,7 @@ use Rattle.std.proofs.Common.{subst, sym, arith}
 use Rattle.sequence_data.specs.Data.{side_of}
 use Rattle.sequence_forms.specs.Sides.{sequences}
 use Rattle.lemke_pivot.specs.Systems.{IsSystemFor, number_of}
-use Rattle.lemke_pivot.proofs.Systems.{system_for}
+use Rattle.lemke_pivot.proofs.SystemLemmas.{system_for}
 use Rattle.lemke_pivot.proofs.system.system.Goals as goal
 
 pub returns : goal.returns

@@ -1,10 +1,10 @@
 use Rattle.std.proofs.Common.{◌∙◌, ◌*◌, ◌+◌, ◌*ℤ◌, ap₂, length, sym, int_cmp}
 use Rattle.std.specs.Int.{w128}
 use Rattle.std.proofs.lemmas.Int.{to_z-of_z}
-use Rattle.rational.proofs.Parts.{pos_nat_abs}
+use Rattle.rational.proofs.PartLemmas.{pos_nat_abs}
 use Rattle.whole_rows.specs.Rows.{from_place}
-use Rattle.whole_rows.proofs.Fitting.{read_at}
-use Rattle.lex_tableau.proofs.RatioRows.{compared}
+use Rattle.whole_rows.proofs.FittingStepLemmas.{read_at}
+use Rattle.lex_tableau.proofs.RatioRowLemmas.{compared}
 use Rattle.lex_tableau.proofs.ratio.compare_at.Goals as goal
 
 pub returns : goal.returns

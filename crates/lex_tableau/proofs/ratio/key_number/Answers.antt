@@ -1,8 +1,8 @@
 use Rattle.std.proofs.Common.{◌∙◌, ◌*◌, ◌+◌, ap, length, nat_abs, arith}
 use Rattle.rational.specs.Rational.{frac}
 use Rattle.whole_rows.specs.Rows.{from_place}
-use Rattle.whole_rows.proofs.Fitting.{read_at, read_first}
-use Rattle.lex_tableau.proofs.RatioRows.{key_own, key_column, key_absent}
+use Rattle.whole_rows.proofs.FittingStepLemmas.{read_at, read_first}
+use Rattle.lex_tableau.proofs.RatioRowLemmas.{key_own, key_column, key_absent}
 use Rattle.lex_tableau.proofs.ratio.key_number.Goals as goal
 
 pub returns-then-basics-row : goal.returns-then-basics-row

@@ -2,8 +2,8 @@ use Rattle.std.proofs.Common.{arith, subst, ◌+◌, ◌*◌, ◌≤ℤ◌, ◌<
 use Rattle.linear_systems.specs.Rows.{IsLexicographicRow}
 use Rattle.lex_tableau.specs.Rows.{tableau_of}
 use Rattle.lex_tableau.specs.Ratio.{IsBest, listed}
-use Rattle.whole_rows.proofs.Fitting.{read_at}
-use Rattle.lex_tableau.proofs.RatioRows.{best_passed, best_first, best_taken, best_kept, cell_positive, cell_not_positive, number_positive}
+use Rattle.whole_rows.proofs.FittingStepLemmas.{read_at}
+use Rattle.lex_tableau.proofs.RatioRowLemmas.{best_passed, best_first, best_taken, best_kept, cell_positive, cell_not_positive, number_positive}
 use Rattle.lex_tableau.proofs.ratio.next_best.Goals as goal
 
 pub returns-then-not-is_positive : goal.returns-then-not-is_positive

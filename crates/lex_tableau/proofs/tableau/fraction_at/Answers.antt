@@ -1,6 +1,6 @@
 use Rattle.std.proofs.Common.{◌∙◌, ◌+◌, ap₂, nat_abs}
 use Rattle.rational.specs.Rational.{frac}
-use Rattle.whole_rows.proofs.Fitting.{read_at, read_first}
+use Rattle.whole_rows.proofs.FittingStepLemmas.{read_at, read_first}
 use Rattle.lex_tableau.proofs.tableau.fraction_at.Goals as goal
 
 pub returns : goal.returns

@@ -1,9 +1,9 @@
 use Rattle.std.proofs.Common.{◌∙◌, ◌+◌, ap, sym, nat_abs}
 use Rattle.std.specs.Int.{int_signum}
-use Rattle.rational.proofs.Parts.{pos_abs}
-use Rattle.whole_rows.proofs.Fitting.{read_at}
+use Rattle.rational.proofs.PartLemmas.{pos_abs}
+use Rattle.whole_rows.proofs.FittingStepLemmas.{read_at}
 use Rattle.whole_rows.specs.Rows.{from_place}
-use Rattle.lex_tableau.proofs.Signs.{sign_of-frac, sign_read}
+use Rattle.lex_tableau.proofs.SignLemmas.{sign_of-frac, sign_read}
 use Rattle.lex_tableau.proofs.tableau.sign_at.Goals as goal
 
 pub returns : goal.returns

@@ -2,8 +2,8 @@ use Rattle.std.proofs.Common.{ap, length, arith}
 use Rattle.std.specs.Prelude.{sum}
 use Rattle.std.proofs.lemmas.List.{take_all}
 use Rattle.game_core.specs.Table.{strategy_counts}
-use Rattle.game_core.proofs.TableCounts.{length-strategy_counts}
-use Rattle.ne_checker.proofs.TableParts.{strategies-few, entries-next, entries-within}
+use Rattle.game_core.proofs.TableCountLemmas.{length-strategy_counts}
+use Rattle.ne_checker.proofs.TablePartLemmas.{strategies-few, entries-next, entries-within}
 use Rattle.ne_checker.proofs.mixed.entry_count.Goals as goal
 
 pub overflow_add-count : goal.overflow_add-count

@@ -1,8 +1,8 @@
 use Rattle.std.proofs.Common.{Some, ◌<◌, ◌≡◌, ◌∙◌, ap, sym, length, slice_get, arith}
 use Rattle.std.proofs.lemmas.Option.{slice_get-get_or}
 use Rattle.game_core.specs.Table.{strategy_counts}
-use Rattle.behaviour_profile.proofs.GroupLists.{next_passes, next_fault}
-use Rattle.ne_checker.proofs.TableParts.{player-few, player-within, entries-next}
+use Rattle.behaviour_profile.proofs.GroupListLemmas.{next_passes, next_fault}
+use Rattle.ne_checker.proofs.TablePartLemmas.{player-few, player-within, entries-next}
 use Rattle.ne_checker.proofs.mixed.test_players.Goals as goal
 use Rattle.ne_checker.proofs.mixed.test_players.Goals.{In-loop-player, After-strategy_count-count}
 

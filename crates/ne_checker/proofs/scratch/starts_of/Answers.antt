@@ -1,5 +1,5 @@
 use Rattle.std.proofs.Common.{◌≡◌, ap, length, arith}
-use Rattle.ne_checker.proofs.TreeStartSteps.{starts-all}
+use Rattle.ne_checker.proofs.TreeStartStepLemmas.{starts-all}
 use Rattle.ne_checker.proofs.scratch.starts_of.Goals as goal
 
 pub returns : goal.returns

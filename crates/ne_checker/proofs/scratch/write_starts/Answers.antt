@@ -1,9 +1,9 @@
 use Rattle.std.proofs.Common.{◌≡◌, ◌+◌, ◌<◌, ◌∙◌, ap, sym, subst, length, arith}
 use Rattle.std.proofs.lemmas.List.{length-set}
-use Rattle.strategy_lists.proofs.ActionCounts.{actions-below}
+use Rattle.strategy_lists.proofs.ActionCountLemmas.{actions-below}
 use Rattle.game_core.specs.TreeGame.{game_of_tree}
 use Rattle.ne_checker.specs.TreeStarts.{AreStartsTo}
-use Rattle.ne_checker.proofs.TreeStartSteps.{starts-own, starts-other, starts-player}
+use Rattle.ne_checker.proofs.TreeStartStepLemmas.{starts-own, starts-other, starts-player}
 use Rattle.ne_checker.proofs.scratch.write_starts.Goals as goal
 use Rattle.ne_checker.proofs.scratch.write_starts.Goals.{then-is_own, else-is_own}
 

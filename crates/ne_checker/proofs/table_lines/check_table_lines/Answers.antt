@@ -1,6 +1,6 @@
 use Rattle.std.proofs.Common.{sym, subst, Ok}
 use Rattle.ne_checker.specs.LineChecks.{table_line}
-use Rattle.ne_checker.proofs.LineSteps.{at_end, at_next, at_stop}
+use Rattle.ne_checker.proofs.LineStepLemmas.{at_end, at_next, at_stop}
 use Rattle.ne_checker.proofs.table_lines.check_table_lines.Goals as goal
 
 pub returns-in_err-verdict : goal.returns-in_err-verdict

@@ -1,6 +1,6 @@
 use Rattle.std.proofs.Common.{length}
 use Rattle.ne_checker.specs.LineChecks.{table_line}
-use Rattle.ne_checker.proofs.LineSteps.{IsOnWay}
+use Rattle.ne_checker.proofs.LineStepLemmas.{IsOnWay}
 use Rattle.ne_checker.proofs.table_lines.check_table_lines.Given as goal
 
 abbrev pub invariant-loop-line : goal.invariant-loop-line

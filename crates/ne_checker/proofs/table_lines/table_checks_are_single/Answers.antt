@@ -1,4 +1,4 @@
-use Rattle.ne_checker.proofs.Single.{table_checks_once}
+use Rattle.ne_checker.proofs.OneAnswerLaws.{table_checks_once}
 use Rattle.ne_checker.proofs.table_lines.table_checks_are_single.Goals as goal
 
 pub returns : goal.returns

@@ -2,12 +2,12 @@ use Rattle.std.proofs.Common.{ℕ, ◌≡◌, ◌+◌, ◌-◌, ◌∙◌, suc, 
 use Rattle.std.specs.List.{flat_map, range_with_len}
 use Rattle.std.proofs.lemmas.List.Elements.{All-nil}
 use Rattle.game_core.specs.Table.{game_of, strategy_counts}
-use Rattle.game_core.proofs.TableCounts.{profile_count-table}
+use Rattle.game_core.proofs.TableCountLemmas.{profile_count-table}
 use Rattle.pure_payoffs.specs.Steps.{StepFits, IsFirstUnfit}
 use Rattle.behaviour_profile.specs.EntryTests.{mixed_of}
 use Rattle.ne_checker.specs.TableChecks.{steps_at, value_below}
-use Rattle.ne_checker.proofs.TableBlocks.{profile-fits, profile-value, sum-unfit, weight-unfit}
-use Rattle.ne_checker.proofs.TableRuns.{fits-next, unfit-next}
+use Rattle.ne_checker.proofs.TableBlockLemmas.{profile-fits, profile-value, sum-unfit, weight-unfit}
+use Rattle.ne_checker.proofs.TableRunLemmas.{fits-next, unfit-next}
 use Rattle.ne_checker.proofs.tables.add_profiles.Goals as goal
 
 pub overflow_add-profile-end : goal.overflow_add-profile-end

@@ -1,6 +1,6 @@
 use Rattle.std.proofs.Common.{sym, ◌∙◌}
 use Rattle.std.proofs.lemmas.Bool.{false≢true}
-use Rattle.ne_checker.proofs.TableSteps.{nothing-added, product-added, product-unfit}
+use Rattle.ne_checker.proofs.TableStepLemmas.{nothing-added, product-added, product-unfit}
 use Rattle.ne_checker.proofs.tables.add_weighed.Goals as goal
 
 pub returns-then-is_zero : goal.returns-then-is_zero

@@ -7,11 +7,11 @@ use Rattle.game_core.specs.Table.{game_of, strategy_counts}
 use Rattle.pure_payoffs.specs.Steps.{StepFits, IsFirstUnfit}
 use Rattle.best_replies.specs.Greatest.{IsFirstGreatest}
 use Rattle.best_replies.specs.Strategies.{strategy_value}
-use Rattle.best_replies.proofs.Greatest.{first_greatest-kept, first_greatest-passed}
+use Rattle.best_replies.proofs.FirstGreatestLemmas.{first_greatest-kept, first_greatest-passed}
 use Rattle.behaviour_profile.specs.EntryTests.{mixed_of}
 use Rattle.ne_checker.specs.TableChecks.{strategy_steps}
-use Rattle.ne_checker.proofs.TableParts.{entries-within, some_strategy, strategies-few}
-use Rattle.ne_checker.proofs.TableRuns.{fits-next, steps_of, unfit-next}
+use Rattle.ne_checker.proofs.TablePartLemmas.{entries-within, some_strategy, strategies-few}
+use Rattle.ne_checker.proofs.TableRunLemmas.{fits-next, steps_of, unfit-next}
 use Rattle.ne_checker.proofs.tables.best_strategy.Goals as goal
 use Rattle.ne_checker.proofs.tables.best_strategy.Goals.{After-strategy_count-count, then-is_less, else-is_less}
 

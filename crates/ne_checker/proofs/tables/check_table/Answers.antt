@@ -1,9 +1,9 @@
 use Rattle.std.proofs.Common.{◌<◌, ap, sym, length, below_more, arith}
 use Rattle.game_core.specs.Table.{strategy_counts}
-use Rattle.game_core.proofs.TableCounts.{length-strategy_counts}
+use Rattle.game_core.proofs.TableCountLemmas.{length-strategy_counts}
 use Rattle.behaviour_profile.specs.EntryTests.{mixed_of}
-use Rattle.behaviour_profile.proofs.TestedEntries.{entries-mixed_of}
-use Rattle.ne_checker.proofs.TableParts.{player-few, player-within}
+use Rattle.behaviour_profile.proofs.TestedEntryLemmas.{entries-mixed_of}
+use Rattle.ne_checker.proofs.TablePartLemmas.{player-few, player-within}
 use Rattle.ne_checker.proofs.tables.check_table.Goals as goal
 use Rattle.ne_checker.proofs.tables.check_table.Goals.{In-loop-player}
 

@@ -1,5 +1,5 @@
 use Rattle.std.proofs.Common.{arith}
-use Rattle.ne_checker.proofs.TableParts.{strategies-few, entries-next, entries-within}
+use Rattle.ne_checker.proofs.TablePartLemmas.{strategies-few, entries-next, entries-within}
 use Rattle.ne_checker.proofs.tables.first_entry.Goals as goal
 
 pub overflow_add-first : goal.overflow_add-first

@@ -4,11 +4,11 @@ use Rattle.rational.specs.Rational.{ℚ, zero_ℚ}
 use Rattle.frac128.specs.declared.steps.Unfit.{Unfit}
 use Rattle.game_theory.specs.Profiles.{profile_at}
 use Rattle.game_core.specs.Table.{most_payoffs, strategy_counts}
-use Rattle.game_core.proofs.TableCounts.{length-strategy_counts}
+use Rattle.game_core.proofs.TableCountLemmas.{length-strategy_counts}
 use Rattle.behaviour_profile.specs.EntryTests.{mixed_of}
-use Rattle.behaviour_profile.proofs.GroupLists.{sum-nil}
-use Rattle.ne_checker.proofs.TableOthers.{GiveFrom, all-left, none-left, own-left, other-left, other-unfit, strategies-left}
-use Rattle.ne_checker.proofs.TableParts.{strategies-few, player-within, some_strategy, entries-next, entries-within}
+use Rattle.behaviour_profile.proofs.GroupListLemmas.{sum-nil}
+use Rattle.ne_checker.proofs.TableOtherLemmas.{GiveFrom, all-left, none-left, own-left, other-left, other-unfit, strategies-left}
+use Rattle.ne_checker.proofs.TablePartLemmas.{strategies-few, player-within, some_strategy, entries-next, entries-within}
 use Rattle.ne_checker.proofs.tables.others_weight.Goals as goal
 use Rattle.ne_checker.proofs.tables.others_weight.Goals.{After-strategy_count-count, After-index-entries-first, then-other-player+in-Ok, else-other-player}
 

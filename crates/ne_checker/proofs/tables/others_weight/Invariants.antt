@@ -8,7 +8,7 @@ use Rattle.pure_payoffs.specs.Plays.{Give}
 use Rattle.best_replies.specs.Strategies.{weight}
 use Rattle.behaviour_profile.specs.EntryTests.{mixed_of}
 use Rattle.ne_checker.specs.TableChecks.{others_probabilities, product_steps}
-use Rattle.ne_checker.proofs.TableOthers.{GiveFrom}
+use Rattle.ne_checker.proofs.TableOtherLemmas.{GiveFrom}
 use Rattle.ne_checker.proofs.tables.others_weight.Given as goal
 
 -- what the factors that are still to come give is what all of them give

@@ -4,13 +4,13 @@ use Rattle.rational.specs.Rational.{◌+ℚ◌, ◌*ℚ◌, zero_ℚ}
 use Rattle.game_theory.specs.Mixed.{Mixed}
 use Rattle.game_core.specs.Table.{game_of, strategy_counts}
 use Rattle.pure_payoffs.specs.Steps.{Step, StepFits, IsFirstUnfit}
-use Rattle.pure_payoffs.proofs.FirstUnfits.{unfit_among}
+use Rattle.pure_payoffs.proofs.FirstUnfitLemmas.{unfit_among}
 use Rattle.best_replies.specs.Strategies.{strategy_value}
-use Rattle.best_replies.proofs.Strategies.{payoff-strategies}
+use Rattle.best_replies.proofs.StrategyLemmas.{payoff-strategies}
 use Rattle.behaviour_profile.specs.EntryTests.{mixed_of}
 use Rattle.ne_checker.specs.TableChecks.{payoff_below, strategy_steps, weighed_steps}
-use Rattle.ne_checker.proofs.TableParts.{entries-within, player-within}
-use Rattle.ne_checker.proofs.TableRuns.{fits-at, fits-next, steps_of, unfit-next}
+use Rattle.ne_checker.proofs.TablePartLemmas.{entries-within, player-within}
+use Rattle.ne_checker.proofs.TableRunLemmas.{fits-at, fits-next, steps_of, unfit-next}
 use Rattle.ne_checker.proofs.tables.payoff.Goals as goal
 use Rattle.ne_checker.proofs.tables.payoff.Goals.{In-loop-strategy, After-index-entries-first, In-Ok}
 

@@ -3,14 +3,14 @@ use Rattle.std.proofs.Math.Nat.{mul-le-mul_left}
 use Rattle.rational.specs.Rational.{ℚ}
 use Rattle.game_theory.specs.Profiles.{profile_count, stride}
 use Rattle.game_core.specs.Table.{game_of, strategy_counts}
-use Rattle.game_core.proofs.TableCounts.{profile_count-table}
-use Rattle.enumpure.proofs.Strides.{HaveStrategies-table, stride-positive, stride_next-at_most}
+use Rattle.game_core.proofs.TableCountLemmas.{profile_count-table}
+use Rattle.enumpure.proofs.StrideLemmas.{HaveStrategies-table, stride-positive, stride_next-at_most}
 use Rattle.behaviour_profile.specs.EntryTests.{mixed_of}
 use Rattle.pure_payoffs.specs.Steps.{IsFirstUnfit, StepFits}
 use Rattle.ne_checker.specs.TableChecks.{steps_at, value_below}
-use Rattle.ne_checker.proofs.TableBlocks.{IsReached, start, at_first, block-within, block-played, next, block-unfit, done}
-use Rattle.ne_checker.proofs.TableParts.{player-within, profiles-are}
-use Rattle.ne_checker.proofs.TableRuns.{steps_of}
+use Rattle.ne_checker.proofs.TableBlockLemmas.{IsReached, start, at_first, block-within, block-played, next, block-unfit, done}
+use Rattle.ne_checker.proofs.TablePartLemmas.{player-within, profiles-are}
+use Rattle.ne_checker.proofs.TableRunLemmas.{steps_of}
 use Rattle.ne_checker.proofs.tables.strategy_value.Goals as goal
 use Rattle.ne_checker.proofs.tables.strategy_value.Goals.{After-zero-value, In-loop-first}
 

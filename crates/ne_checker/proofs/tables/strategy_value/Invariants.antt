@@ -2,7 +2,7 @@ use Rattle.std.proofs.Common.{◌-◌, ◌<◌, get_or, length}
 use Rattle.game_theory.specs.Profiles.{profile_count, stride}
 use Rattle.game_core.specs.Table.{game_of, strategy_counts}
 use Rattle.behaviour_profile.specs.EntryTests.{mixed_of}
-use Rattle.ne_checker.proofs.TableBlocks.{IsReached}
+use Rattle.ne_checker.proofs.TableBlockLemmas.{IsReached}
 use Rattle.ne_checker.proofs.tables.strategy_value.Given as goal
 
 abbrev pub invariant-loop-first : goal.invariant-loop-first

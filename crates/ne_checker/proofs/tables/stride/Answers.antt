@@ -1,10 +1,10 @@
 use Rattle.std.proofs.Common.{◌≡◌, ap, ap₂, sym, ◌∙◌, ◌*◌, add-one, get_or, arith}
 use Rattle.game_theory.specs.Profiles.{stride}
-use Rattle.game_theory.proofs.ProfileNumbers.{stride-next}
+use Rattle.game_theory.proofs.ProfileNumberLemmas.{stride-next}
 use Rattle.game_core.specs.Table.{strategy_counts}
-use Rattle.game_core.proofs.TableCounts.{profile_count-table}
-use Rattle.enumpure.proofs.Strides.{HaveStrategies-table, stride_next-at_most}
-use Rattle.ne_checker.proofs.TableParts.{player-within}
+use Rattle.game_core.proofs.TableCountLemmas.{profile_count-table}
+use Rattle.enumpure.proofs.StrideLemmas.{HaveStrategies-table, stride_next-at_most}
+use Rattle.ne_checker.proofs.TablePartLemmas.{player-within}
 use Rattle.ne_checker.proofs.tables.stride.Goals as goal
 use Rattle.ne_checker.proofs.tables.stride.Goals.{After-strategy_count-stride}
 

@@ -1,4 +1,4 @@
-use Rattle.ne_checker.proofs.TableSingle.{verdict_once}
+use Rattle.ne_checker.proofs.TableSingleLemmas.{verdict_once}
 use Rattle.ne_checker.proofs.tables.table_verdicts_are_single.Goals as goal
 
 pub returns : goal.returns

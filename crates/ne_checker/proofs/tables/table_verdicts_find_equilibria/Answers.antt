@@ -1,4 +1,4 @@
-use Rattle.ne_checker.proofs.TableVerdicts.{verdicts-tell}
+use Rattle.ne_checker.proofs.TableVerdictLemmas.{verdicts-tell}
 use Rattle.ne_checker.proofs.tables.table_verdicts_find_equilibria.Goals as goal
 
 pub returns : goal.returns

@@ -1,6 +1,6 @@
 use Rattle.std.proofs.Common.{sym, subst, Ok}
 use Rattle.ne_checker.specs.LineChecks.{tree_line}
-use Rattle.ne_checker.proofs.LineSteps.{at_end, at_next, at_stop}
+use Rattle.ne_checker.proofs.LineStepLemmas.{at_end, at_next, at_stop}
 use Rattle.ne_checker.proofs.tree_lines.check_tree_lines.Goals as goal
 
 pub returns-in_err-verdict : goal.returns-in_err-verdict

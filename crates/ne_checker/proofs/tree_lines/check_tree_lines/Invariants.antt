@@ -1,7 +1,7 @@
 use Rattle.std.proofs.Common.{length}
 use Rattle.ne_checker.specs.TreeScratches.{IsScratchOf}
 use Rattle.ne_checker.specs.LineChecks.{tree_line}
-use Rattle.ne_checker.proofs.LineSteps.{IsOnWay}
+use Rattle.ne_checker.proofs.LineStepLemmas.{IsOnWay}
 use Rattle.ne_checker.proofs.tree_lines.check_tree_lines.Given as goal
 
 abbrev pub invariant-loop-line : goal.invariant-loop-line

@@ -1,4 +1,4 @@
-use Rattle.ne_checker.proofs.Single.{tree_checks_once}
+use Rattle.ne_checker.proofs.OneAnswerLaws.{tree_checks_once}
 use Rattle.ne_checker.proofs.tree_lines.tree_checks_are_single.Goals as goal
 
 pub returns : goal.returns

@@ -2,7 +2,7 @@ use Rattle.std.proofs.Common.{inr}
 use Rattle.ne_checker.specs.TreeScratches.{reply_of}
 use Rattle.ne_checker.specs.TreeVerdicts.{AreEntries}
 use Rattle.ne_checker.specs.declared.trees.TreeVerdict.TheVariants as verdicts
-use Rattle.ne_checker.proofs.TreeLines.{line_out_of_range, line_told, tested_are_entries}
+use Rattle.ne_checker.proofs.TreeLineLemmas.{line_out_of_range, line_told, tested_are_entries}
 use Rattle.ne_checker.proofs.tree_lines.tree_line.Goals as goal
 
 pub check_tree-requires-clause-entries : goal.check_tree-requires-clause-entries

@@ -1,10 +1,10 @@
 use Rattle.std.proofs.Common.{◌<◌, ◌∙◌, inl, inr, ap, sym, subst, length, arith}
 use Rattle.std.proofs.lemmas.Bool.{cases_eq}
 use Rattle.game_core.specs.TreeGame.{game_of_tree}
-use Rattle.best_replies.proofs.Deciding.{best_choices-exist}
-use Rattle.best_replies.proofs.SetOrder.{sets-ascend_on_paths}
+use Rattle.best_replies.proofs.DecisionOrderLemmas.{best_choices-exist}
+use Rattle.best_replies.proofs.SetOrderLemmas.{sets-ascend_on_paths}
 use Rattle.ne_checker.specs.TreeVerdicts.{HasNoBetter}
-use Rattle.ne_checker.proofs.TreeFound.{none-better, one-better}
+use Rattle.ne_checker.proofs.FoundReplyLemmas.{none-better, one-better}
 use Rattle.ne_checker.proofs.trees.check_tree.Goals as goal
 
 pub check-requires-clause-entries : goal.check-requires-clause-entries

@@ -1,4 +1,4 @@
-use Rattle.ne_checker.proofs.TreeSingle.{verdicts-single}
+use Rattle.ne_checker.proofs.TreeSingleLemmas.{verdicts-single}
 use Rattle.ne_checker.proofs.trees.tree_verdicts_are_single.Goals as goal
 
 pub returns : goal.returns

@@ -1,8 +1,8 @@
 use Rattle.std.proofs.Common.{arith}
 use Rattle.std.proofs.lemmas.Result.{err_from_is_err_and}
 use Rattle.ne_checker.specs.TreeBoards.{game_of}
-use Rattle.ne_checker.proofs.TreeParts.{second-refused, third-refused, fourth-refused, four-fit}
-use Rattle.ne_checker.proofs.TreeReplies.{decided-none}
+use Rattle.ne_checker.proofs.TreePartLemmas.{second-refused, third-refused, fourth-refused, four-fit}
+use Rattle.ne_checker.proofs.TreeReplyLemmas.{decided-none}
 use Rattle.ne_checker.proofs.trees_player.check_player.Goals as goal
 
 pub returns-in_err-set_weights : goal.returns-in_err-set_weights

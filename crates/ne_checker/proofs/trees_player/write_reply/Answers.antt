@@ -1,7 +1,7 @@
 use Rattle.std.proofs.Common.{◌<◌, ◌∙◌, ap, get_or, length, arith}
 use Rattle.std.proofs.lemmas.List.{length-set}
 use Rattle.game_core.specs.TreeGame.{game_of_tree}
-use Rattle.ne_checker.proofs.TreeReplies.{reply-own, reply-other}
+use Rattle.ne_checker.proofs.TreeReplyLemmas.{reply-own, reply-other}
 use Rattle.ne_checker.proofs.trees_player.write_reply.Goals as goal
 use Rattle.ne_checker.proofs.trees_player.write_reply.Goals.{then-is_own, else-is_own}
 

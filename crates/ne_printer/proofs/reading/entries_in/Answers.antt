@@ -4,7 +4,7 @@ use Rattle.std.specs.List.{AllZip}
 use Rattle.std.proofs.lemmas.Iterator.Consumers.{YieldsList-turn, YieldsList-end}
 use Rattle.std.proofs.lemmas.Slice.Zip.{all_zipped_more}
 use Rattle.ne_printer.specs.ReadLines.{IsFraction}
-use Rattle.ne_printer.proofs.EntryLists.{not_entries, yields_parts}
+use Rattle.ne_printer.proofs.EntryListLemmas.{not_entries, yields_parts}
 use Rattle.ne_printer.proofs.reading.entries_in.Goals as goal
 
 pub loop-part-preserved : goal.loop-part-preserved

@@ -1,5 +1,5 @@
 use Rattle.std.proofs.Common.{◌∙◌}
-use Rattle.ne_printer.proofs.Fractions.{uncut_fraction, cut_fraction, one_number}
+use Rattle.ne_printer.proofs.FractionLemmas.{uncut_fraction, cut_fraction, one_number}
 use Rattle.ne_printer.proofs.reading.fraction_in.Goals as goal
 
 pub returns-in_err-number : goal.returns-in_err-number

@@ -1,4 +1,4 @@
-use Rattle.ne_printer.proofs.ReadBack.{line_reads}
+use Rattle.ne_printer.proofs.ReadBackLemmas.{line_reads}
 use Rattle.ne_printer.proofs.reading.lines_read_back.Goals as goal
 
 pub returns : goal.returns

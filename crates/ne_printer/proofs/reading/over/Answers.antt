@@ -1,7 +1,7 @@
 use Rattle.std.proofs.Common.{nat_abs, ◌<◌, ◌^◌, refl, subst, sym}
 use mir.Syntax.{w128}
 use Rattle.std.proofs.lemmas.Int.{to_z_pos}
-use Rattle.game_text.proofs.Powers.{over_fits}
+use Rattle.game_text.proofs.PowerLemmas.{over_fits}
 use Rattle.ne_printer.proofs.reading.over.Goals as goal
 
 pub unreachable-requires : goal.unreachable-requires

@@ -1,7 +1,7 @@
 use Rattle.std.proofs.Common.{◌<◌, length, subst, sym, arith}
 use Rattle.std.proofs.lemmas.Bool.Decides.{nat_tests}
 use Rattle.ne_printer.specs.ReadLines.{IsLine}
-use Rattle.ne_printer.proofs.LinesRead.{after_start, line_gives, empty_line}
+use Rattle.ne_printer.proofs.LinesReadLemmas.{after_start, line_gives, empty_line}
 use Rattle.ne_printer.proofs.reading.read_line.Goals as goal
 
 pub returns-then-is_empty : goal.returns-then-is_empty

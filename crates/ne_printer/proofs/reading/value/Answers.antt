@@ -3,7 +3,7 @@ use Rattle.std.specs.Char.{digit_value}
 use Rattle.std.specs.Str.Parse.{digits_value}
 use Rattle.std.proofs.lemmas.Int.Digits.{digits_value_more}
 use Rattle.std.proofs.lemmas.Str.Parse.{digits_value-take-le}
-use Rattle.ne_printer.proofs.Numerals.{all_same, numeral_digits}
+use Rattle.ne_printer.proofs.NumeralLemmas.{all_same, numeral_digits}
 use Rattle.ne_printer.proofs.reading.value.Goals as goal
 
 pub returns-in_err-number : goal.returns-in_err-number

@@ -1,4 +1,4 @@
-use Rattle.nfg_reader.proofs.Single.{one_fault_at, no_fault_of_file, fault_of_others}
+use Rattle.nfg_reader.proofs.OneAnswerLaws.{one_fault_at, no_fault_of_file, fault_of_others}
 use Rattle.nfg_reader.proofs.reading.faults_are_single.Goals as goal
 
 pub returns : goal.returns

@@ -1,4 +1,4 @@
-use Rattle.nfg_reader.proofs.Whole.{read_is_file, file_is_read}
+use Rattle.nfg_reader.proofs.WholeFileLaws.{read_is_file, file_is_read}
 use Rattle.nfg_reader.proofs.reading.files_are_read.Goals as goal
 
 pub returns-clause-sound : goal.returns-clause-sound

@@ -1,7 +1,7 @@
 use Rattle.std.proofs.Common.{subst, sym, arith}
 use Rattle.game_core.specs.TreeGame.{game_of_tree}
-use Rattle.perfect_recall.proofs.Histories.{before_set}
-use Rattle.perfect_recall.proofs.Members.{AreMembers, members-at}
+use Rattle.perfect_recall.proofs.HistoryLemmas.{before_set}
+use Rattle.perfect_recall.proofs.MemberLemmas.{AreMembers, members-at}
 use Rattle.perfect_recall.proofs.find.edge_before_set.Goals as goal
 
 pub bounds-members-0 : goal.bounds-members-0

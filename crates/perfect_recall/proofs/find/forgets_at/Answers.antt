@@ -1,8 +1,8 @@
 use Rattle.std.proofs.Common.{◌∙◌, subst, sym, arith}
 use Rattle.game_core.specs.TreeGame.{game_of_tree}
-use Rattle.perfect_recall.proofs.Answers.{owner-at}
-use Rattle.perfect_recall.proofs.Histories.{alike, first_member, first_other}
-use Rattle.perfect_recall.proofs.Members.{AreMembers, members-at}
+use Rattle.perfect_recall.proofs.OneRecallLaws.{owner-at}
+use Rattle.perfect_recall.proofs.HistoryLemmas.{alike, first_member, first_other}
+use Rattle.perfect_recall.proofs.MemberLemmas.{AreMembers, members-at}
 use Rattle.perfect_recall.proofs.find.forgets_at.Goals as goal
 
 pub other_member-requires-clause-some : goal.other_member-requires-clause-some

@@ -1,4 +1,4 @@
-use Rattle.perfect_recall.proofs.Answers.{recall-single}
+use Rattle.perfect_recall.proofs.OneRecallLaws.{recall-single}
 use Rattle.perfect_recall.proofs.find.recalls_are_single.Goals as goal
 
 pub returns : goal.returns

@@ -1,7 +1,7 @@
 use Rattle.std.proofs.Common.{subst}
 use Rattle.game_core.specs.TreeGame.{game_of_tree}
 use Rattle.perfect_recall.specs.LastEdges.{Chooses, NobodyChooses}
-use Rattle.perfect_recall.proofs.LastEdges.{down-nobody, down-player}
+use Rattle.perfect_recall.proofs.LastEdgeLemmas.{down-nobody, down-player}
 use Rattle.perfect_recall.proofs.paths.go_down.Goals as goal
 
 pub returns-in-Some : goal.returns-in-Some

@@ -1,6 +1,6 @@
 use Rattle.std.proofs.Common.{◌<◌, length, arith}
 use Rattle.game_core.specs.TreeGame.{game_of_tree}
-use Rattle.perfect_recall.proofs.LastEdges.{chooses-within, goes_up, still_within, last-nobody, last-player}
+use Rattle.perfect_recall.proofs.LastEdgeLemmas.{chooses-within, goes_up, still_within, last-nobody, last-player}
 use Rattle.perfect_recall.proofs.paths.go_up.Goals as goal
 
 pub choice_at-requires : goal.choice_at-requires

@@ -1,6 +1,6 @@
 use Rattle.std.proofs.Common.{◌<◌, ◌≤◌, ap, refl, length, arith}
-use Rattle.pure_payoffs.proofs.Filling.{filled-all, filled-written, parent-within, branch-within}
-use Rattle.pure_payoffs.proofs.TreeParts.{parent-read, branch-read}
+use Rattle.pure_payoffs.proofs.FilledListLemmas.{filled-all, filled-written, parent-within, branch-within}
+use Rattle.pure_payoffs.proofs.TreePartLemmas.{parent-read, branch-read}
 use Rattle.pure_payoffs.proofs.children.children_of_all.Goals as goal
 
 pub index_mut-requires : goal.index_mut-requires

@@ -1,4 +1,4 @@
-use Rattle.pure_payoffs.proofs.IdleNodes.{passed-all}
+use Rattle.pure_payoffs.proofs.IdleNodeLemmas.{passed-all}
 use Rattle.pure_payoffs.proofs.settled.settled_nodes.Goals as goal
 
 pub returns : goal.returns

@@ -1,7 +1,7 @@
 use Rattle.std.proofs.Common.{◌≡◌, ◌∙◌, ◌<◌, Some, get_or, length, sym, ap, arith}
 use Rattle.pure_payoffs.specs.Plays.{game_of}
-use Rattle.pure_payoffs.proofs.Places.{child-read, child-found, play-chooses}
-use Rattle.pure_payoffs.proofs.TreeParts.{set-read, pays-none, owner-of}
+use Rattle.pure_payoffs.proofs.PlaceLemmas.{child-read, child-found, play-chooses}
+use Rattle.pure_payoffs.proofs.TreePartLemmas.{set-read, pays-none, owner-of}
 use Rattle.pure_payoffs.proofs.shortcuts.next.Goals as goal
 use Rattle.pure_payoffs.proofs.shortcuts.next.Goals.{After-index-play-node}
 

@@ -1,6 +1,6 @@
 use Rattle.pure_payoffs.specs.Plays.{choice_of, game_of}
-use Rattle.pure_payoffs.proofs.Places.{play-chooses}
-use Rattle.pure_payoffs.proofs.Standing.{StandsFor-self, StandsFor-before, StandsFor-onwards}
+use Rattle.pure_payoffs.proofs.PlaceLemmas.{play-chooses}
+use Rattle.pure_payoffs.proofs.StandInLemmas.{StandsFor-self, StandsFor-before, StandsFor-onwards}
 use Rattle.pure_payoffs.proofs.shortcuts.target.Goals as goal
 
 pub loop-next-preserved : goal.loop-next-preserved

@@ -5,7 +5,7 @@ use Rattle.game_theory.specs.Trees.{Tree, IsTree}
 use Rattle.reduced_strategies.specs.StrategicForm.{AreStrategies}
 use Rattle.game_core.specs.Table.{most_payoffs}
 use Rattle.game_core.specs.TreeGame.{game_of_tree}
-use Rattle.reduced_form.proofs.FormCounts.{counts-positive}
+use Rattle.reduced_form.proofs.FormCountLemmas.{counts-positive}
 use Rattle.reduced_form.proofs.FormLaws.{few_profiles, few_of_each}
 use Rattle.reduced_form.proofs.cells.cells.Goals as goal
 

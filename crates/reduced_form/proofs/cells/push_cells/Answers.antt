@@ -1,13 +1,13 @@
 use Rattle.std.proofs.Common.{ℕ, ◌<◌, List, length, map, All, sym, ap, ◌∙◌, subst, arith}
 use Rattle.std.proofs.lemmas.List.{length_push}
 use Rattle.game_theory.specs.Profiles.{IsProfile}
-use Rattle.game_theory.proofs.ProfileNumbers.{IsProfile-profile_at}
+use Rattle.game_theory.proofs.ProfileNumberLemmas.{IsProfile-profile_at}
 use Rattle.game_theory.specs.Behaviour.{payoff, pure}
 use Rattle.game_core.specs.TreeGame.{game_of_tree}
 use Rattle.reduced_strategies.specs.StrategicForm.{completed}
 use Rattle.pure_payoffs.specs.Steps.{StepFits, IsFirstUnfit, payoff_steps}
 use Rattle.reduced_form.specs.Cells.{AreCells}
-use Rattle.reduced_form.proofs.CellRows.{cells-earlier, cells-push}
+use Rattle.reduced_form.proofs.CellRowLemmas.{cells-earlier, cells-push}
 use Rattle.reduced_form.proofs.cells.push_cells.Goals as goal
 
 pub payoff-requires-clause-profile : goal.payoff-requires-clause-profile

@@ -2,9 +2,9 @@ use Rattle.std.proofs.Common.{◌+◌, ◌<◌, inl, inr, sym, subst, arith}
 use Rattle.std.proofs.lemmas.Bool.{cases_eq}
 use Rattle.extreme_equilibria.specs.Elimination.{AreListed, IsKeptAfter}
 use Rattle.game_core.specs.Table.{game_of}
-use Rattle.extreme_equilibria.proofs.KeptLists.{listed-push, listed-same}
-use Rattle.game_core.proofs.TableCounts.{strategy_count-names}
-use Rattle.reduced_form.proofs.Eliminations.{none-listed}
+use Rattle.extreme_equilibria.proofs.KeptListLemmas.{listed-push, listed-same}
+use Rattle.game_core.proofs.TableCountLemmas.{strategy_count-names}
+use Rattle.reduced_form.proofs.EliminationLemmas.{none-listed}
 use Rattle.reduced_form.proofs.elimination.all_strategies.Goals as goal
 
 pub loop-strategy-init : goal.loop-strategy-init

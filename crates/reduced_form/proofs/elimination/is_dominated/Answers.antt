@@ -4,7 +4,7 @@ use Rattle.std.proofs.lemmas.List.Elements.{Contains-get_or}
 use Rattle.rational.specs.Rational.{◌<ℚ◌}
 use Rattle.extreme_equilibria.specs.TwoPlayers.{pays_against}
 use Rattle.game_core.specs.Table.{game_of}
-use Rattle.extreme_equilibria.proofs.KeptLists.{place}
+use Rattle.extreme_equilibria.proofs.KeptListLemmas.{place}
 use Rattle.reduced_form.proofs.elimination.is_dominated.Goals as goal
 
 pub returns-then-pays_more : goal.returns-then-pays_more

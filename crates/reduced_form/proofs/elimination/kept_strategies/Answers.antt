@@ -1,10 +1,10 @@
 use Rattle.std.proofs.Common.{ℕ, suc, ◌<◌, ◌≡◌, ◌⊎◌, List, [], ◌∷◌, length, get_or, sym, ap, subst, subst₂, arith}
 use Rattle.std.specs.Prelude.{Contains}
-use Rattle.lists.proofs.Numbers.{below_two}
+use Rattle.lists.proofs.NumberLemmas.{below_two}
 use Rattle.game_core.specs.Table.{game_of}
 use Rattle.extreme_equilibria.specs.Elimination.{IsDominated, AreKept}
-use Rattle.extreme_equilibria.proofs.KeptLists.{last-lists, next-round}
-use Rattle.reduced_form.proofs.Eliminations.{Round, within-all, none-dominated}
+use Rattle.extreme_equilibria.proofs.KeptListLemmas.{last-lists, next-round}
+use Rattle.reduced_form.proofs.EliminationLemmas.{Round, within-all, none-dominated}
 use Rattle.reduced_form.proofs.elimination.kept_strategies.Goals as goal
 use Rattle.reduced_form.proofs.elimination.kept_strategies.Goals.{In_ok-next_second}
 

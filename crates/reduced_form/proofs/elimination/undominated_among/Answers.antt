@@ -3,7 +3,7 @@ use Rattle.std.specs.Prelude.{Contains}
 use Rattle.std.proofs.lemmas.List.{take_all}
 use Rattle.extreme_equilibria.specs.Elimination.{AreListed, IsDominated}
 use Rattle.game_core.specs.Table.{game_of}
-use Rattle.reduced_form.proofs.Eliminations.{stays-listed, stays-count, goes-listed, goes-count}
+use Rattle.reduced_form.proofs.EliminationLemmas.{stays-listed, stays-count, goes-listed, goes-count}
 use Rattle.reduced_form.proofs.elimination.undominated_among.Goals as goal
 use Rattle.reduced_form.proofs.elimination.undominated_among.Goals.{then-not-is_dominated+in_ok-push, else-not-is_dominated}
 

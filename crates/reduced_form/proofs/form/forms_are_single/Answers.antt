@@ -1,4 +1,4 @@
-use Rattle.reduced_form.proofs.Exact.{form_of-single}
+use Rattle.reduced_form.proofs.OneFormLaws.{form_of-single}
 use Rattle.reduced_form.proofs.form.forms_are_single.Goals as goal
 
 pub returns : goal.returns

@@ -7,7 +7,7 @@ use Rattle.reduced_form.specs.Cells.{AreCells}
 use Rattle.reduced_form.specs.Counts.{AreCounted, choices_by}
 use Rattle.reduced_form.specs.Limits.{AreFew, most_choices}
 use Rattle.reduced_form.specs.ReducedForm.{IsReducedForm}
-use Rattle.reduced_form.proofs.FormCounts.{counted-same}
+use Rattle.reduced_form.proofs.FormCountLemmas.{counted-same}
 use Rattle.reduced_form.proofs.FormLaws.{cell_stop-is_stop, form-all_fit, form-few, form-is_form, form-pays_completions, form_table, form_table-is_table}
 use Rattle.reduced_form.proofs.form.reduce.Goals as goal
 use Rattle.reduced_form.proofs.form.reduce.Goals.{In_ok-choices, In-Ok}

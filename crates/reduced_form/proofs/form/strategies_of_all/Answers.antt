@@ -4,7 +4,7 @@ use Rattle.std.proofs.lemmas.Option.{get_or_from_slice_get, slice_get_within}
 use Rattle.game_core.specs.TreeGame.{game_of_tree}
 use Rattle.reduced_strategies.specs.Choices.{AreReducedStrategies}
 use Rattle.reduced_strategies.specs.StrategicForm.{AreStrategies}
-use Rattle.reduced_form.proofs.FormCounts.{reduced-push}
+use Rattle.reduced_form.proofs.FormCountLemmas.{reduced-push}
 use Rattle.reduced_form.proofs.form.strategies_of_all.Goals as goal
 
 pub loop-player-preserved : goal.loop-player-preserved

@@ -4,10 +4,10 @@ use Rattle.rational.specs.Rational.{zero_ℚ}
 use Rattle.extreme_equilibria.specs.KeptTable.{kept_table}
 use Rattle.game_core.specs.Table.{GameTable, IsTable, game_of}
 use Rattle.reduced_form.specs.Kept.{IsKeptForm}
-use Rattle.game_core.proofs.TableCounts.{strategy_count-names}
-use Rattle.reduced_form.proofs.Exact.{tables-same}
-use Rattle.reduced_form.proofs.Eliminations.{kept-all}
-use Rattle.reduced_form.proofs.KeptForms.{made_table, made-is_table, made-is_form, names-two, few-kept, two-of_players}
+use Rattle.game_core.proofs.TableCountLemmas.{strategy_count-names}
+use Rattle.reduced_form.proofs.OneFormLaws.{tables-same}
+use Rattle.reduced_form.proofs.EliminationLemmas.{kept-all}
+use Rattle.reduced_form.proofs.KeptFormLemmas.{made_table, made-is_table, made-is_form, names-two, few-kept, two-of_players}
 use Rattle.reduced_form.proofs.kept.kept_form.Goals as goal
 use Rattle.reduced_form.proofs.kept.kept_form.Goals.{In_ok-push-2}
 

@@ -1,4 +1,4 @@
-use Rattle.reduced_form.proofs.KeptSingles.{kept_of-single}
+use Rattle.reduced_form.proofs.KeptSingleLemmas.{kept_of-single}
 use Rattle.reduced_form.proofs.kept.kept_forms_are_single.Goals as goal
 
 pub returns : goal.returns

@@ -2,7 +2,7 @@ use Rattle.std.proofs.Common.{◌*◌, ◌<◌, ◌≡◌, [], ◌∷◌, ◌++�
 use Rattle.std.proofs.lemmas.List.{length_push}
 use Rattle.extreme_equilibria.specs.KeptTable.{kept_table}
 use Rattle.game_core.specs.Table.{game_of}
-use Rattle.reduced_form.proofs.KeptCells.{cells-next, pays-two}
+use Rattle.reduced_form.proofs.KeptCellLemmas.{cells-next, pays-two}
 use Rattle.reduced_form.proofs.kept.payoffs_at.Goals as goal
 
 pub loop-number-preserved : goal.loop-number-preserved

@@ -1,8 +1,8 @@
 use Rattle.std.proofs.Common.{◌≡◌, ◌∙◌, ◌∷◌, [], length, ap, ap₂, arith}
 use Rattle.game_core.specs.Table.{strategy_counts}
-use Rattle.game_core.proofs.TableCounts.{length-strategy_counts}
-use Rattle.lists.proofs.Elements.{two-elements}
-use Rattle.game_core.proofs.TableCounts.{few_players, strategy_count-names}
+use Rattle.game_core.proofs.TableCountLemmas.{length-strategy_counts}
+use Rattle.lists.proofs.ElementLemmas.{two-elements}
+use Rattle.game_core.proofs.TableCountLemmas.{few_players, strategy_count-names}
 use Rattle.reduced_form.specs.Kept.{HasFewStrategies}
 use Rattle.reduced_form.proofs.kept.undominated.Goals as goal
 use Rattle.reduced_form.proofs.kept.undominated.Goals.{Else-strategies-gt-MOST_STRATEGIES}

@@ -2,8 +2,8 @@ use Rattle.std.proofs.Common.{◌+◌, ◌*◌, ◌<◌, ◌≤◌, inr, length,
 use Rattle.game_core.specs.TreeGame.{game_of_tree}
 use Rattle.reduced_form.specs.Limits.{most_choices}
 use Rattle.reduced_form.specs.Stops.{IsReduceStop}
-use Rattle.reduced_form.proofs.FormCounts.{choices-step, few_choices, few_strategies, many-choices}
-use Rattle.reduced_form.proofs.SetCounts.{own_sets-short}
+use Rattle.reduced_form.proofs.FormCountLemmas.{choices-step, few_choices, few_strategies, many-choices}
+use Rattle.reduced_form.proofs.SetCountLemmas.{own_sets-short}
 use Rattle.reduced_form.proofs.limits.check_choices.Goals as goal
 use Rattle.reduced_form.proofs.limits.check_choices.Goals.{After-own_set_count}
 

@@ -1,7 +1,7 @@
 use Rattle.std.proofs.Common.{◌<◌, inl, inr, [], length, refl, sym, ap, subst, arith}
 use Rattle.game_core.specs.TreeGame.{game_of_tree}
 use Rattle.reduced_form.specs.Stops.{IsReduceStop}
-use Rattle.reduced_form.proofs.FormCounts.{AreCounted-all, AreCountedSoFar-many, AreCountedSoFar-step, many-front}
+use Rattle.reduced_form.proofs.FormCountLemmas.{AreCounted-all, AreCountedSoFar-many, AreCountedSoFar-step, many-front}
 use Rattle.reduced_form.proofs.limits.count_all.Goals as goal
 
 pub returns-then-players-gt-MOST_PAYOFFS-clause-stop : goal.returns-then-players-gt-MOST_PAYOFFS-clause-stop

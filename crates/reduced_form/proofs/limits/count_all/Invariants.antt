@@ -1,5 +1,5 @@
 use Rattle.game_core.specs.TreeGame.{game_of_tree}
-use Rattle.reduced_form.proofs.FormCounts.{AreCountedSoFar}
+use Rattle.reduced_form.proofs.FormCountLemmas.{AreCountedSoFar}
 use Rattle.reduced_form.proofs.limits.count_all.Given as goal
 
 abbrev pub invariant-loop-player : goal.invariant-loop-player

@@ -1,5 +1,5 @@
 use Rattle.std.proofs.Common.{length, ap, arith}
-use Rattle.reduced_form.proofs.SetCounts.{own_sets-short}
+use Rattle.reduced_form.proofs.SetCountLemmas.{own_sets-short}
 use Rattle.reduced_form.proofs.limits.own_set_count.Goals as goal
 
 pub returns-after-loop-count : goal.returns-after-loop-count

@@ -1,5 +1,5 @@
 use Rattle.std.proofs.Common.{ℕ, List, ◌++◌, sym, ap, ◌∙◌}
-use Rattle.reduced_form.proofs.ActionTexts.{action_text-digit}
+use Rattle.reduced_form.proofs.ActionTextLemmas.{action_text-digit}
 use Rattle.reduced_form.proofs.names.push_action.Goals as goal
 
 pub returns-in_ok-push-2 : goal.returns-in_ok-push-2

@@ -1,7 +1,7 @@
 use Rattle.std.proofs.Common.{sym, subst, ◌+◌}
 use Rattle.game_core.specs.Table.{game_of}
 use Rattle.reply_polytope.specs.Shifts.{IsLeast}
-use Rattle.reply_polytope.proofs.Leasts.{least_of_one, least_less, least_same}
+use Rattle.reply_polytope.proofs.LeastLemmas.{least_of_one, least_less, least_same}
 use Rattle.reply_polytope.proofs.shifts.least_payoff.Goals as goal
 use Rattle.reply_polytope.proofs.shifts.least_payoff.Goals.{then-is_less, else-is_less}
 

@@ -7,7 +7,7 @@ use Rattle.game_theory.specs.Profiles.{profile_count}
 use Rattle.game_core.specs.Table.{game_of, strategy_counts}
 use Rattle.extreme_equilibria.specs.Bimatrix.{shift_of}
 use Rattle.reply_polytope.specs.Shifts.{IsLeast}
-use Rattle.reply_polytope.proofs.Leasts.{fits_next, sums_next}
+use Rattle.reply_polytope.proofs.LeastLemmas.{fits_next, sums_next}
 use Rattle.reply_polytope.proofs.shifts.shifted_payoffs.Goals as goal
 
 pub returns-in-Err : goal.returns-in-Err

@@ -1,7 +1,7 @@
 use Rattle.std.proofs.Common.{length, subst, sym}
 use Rattle.reply_polytope.specs.Polytopes.{IsRatedSystem}
 use Rattle.reply_polytope.specs.Shapes.{slack_system}
-use Rattle.reply_polytope.proofs.SlackSystems.{rated_system}
+use Rattle.reply_polytope.proofs.SlackSystemLemmas.{rated_system}
 use Rattle.reply_polytope.proofs.systems.slack_system.Goals as goal
 
 pub returns : goal.returns

@@ -2,8 +2,8 @@ use Rattle.std.proofs.Common.{◌≡◌, ◌∙◌, ◌<◌, inl, inr, length, a
 use Rattle.extreme_equilibria.specs.Systems.{first_system, second_system}
 use Rattle.reply_polytope.specs.Polytopes.{IsRatedSystem}
 use Rattle.reply_polytope.specs.Shapes.{cell_in}
-use Rattle.game_core.proofs.TableCounts.{few_players, some_profile}
-use Rattle.reply_polytope.proofs.Tables.{profiles-are, polytopes-are, second_stop}
+use Rattle.game_core.proofs.TableCountLemmas.{few_players, some_profile}
+use Rattle.reply_polytope.proofs.TableLemmas.{profiles-are, polytopes-are, second_stop}
 use Rattle.reply_polytope.proofs.table_systems.polytopes.Goals as goal
 
 pub overflow_cast-result : goal.overflow_cast-result

@@ -2,7 +2,7 @@ use Rattle.std.proofs.Common.{◌≡◌, ◌∙◌, ap, length, map, take, eqb, 
 use Rattle.std.proofs.Math.Seq.{take-length}
 use Rattle.std.proofs.lemmas.List.Filters.{dedup_is}
 use Rattle.sequence_data.specs.Gathered.{cell_place}
-use Rattle.sequence_data.proofs.Places.{places-made}
+use Rattle.sequence_data.proofs.PlaceLemmas.{places-made}
 use Rattle.sequence_data.proofs.cells.cell_places.Goals as goal
 
 pub returns : goal.returns

@@ -5,7 +5,7 @@ use Rattle.std.proofs.lemmas.List.Elements.{All-get_or}
 use Rattle.std.proofs.lemmas.Result.{err_from_is_err_and}
 use Rattle.sequence_data.specs.Cells.{AreCells}
 use Rattle.sequence_data.specs.Gathered.{cell_place, cell_in}
-use Rattle.sequence_data.proofs.Gathering.{are-cells, cells-after, gather-fit, gather-stop, own-cell, rows-few}
+use Rattle.sequence_data.proofs.GatheredLeafLemmas.{are-cells, cells-after, gather-fit, gather-stop, own-cell, rows-few}
 use Rattle.sequence_data.proofs.cells.gather.Goals as goal
 
 pub empty_cells-requires-clause-rows : goal.empty_cells-requires-clause-rows

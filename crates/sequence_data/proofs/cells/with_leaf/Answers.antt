@@ -1,5 +1,5 @@
 use Rattle.std.proofs.lemmas.Result.{err_from_is_err_and}
-use Rattle.sequence_data.proofs.Placed.{chance-stop, one-stop, two-stop, all-added}
+use Rattle.sequence_data.proofs.PlacedStepLemmas.{chance-stop, one-stop, two-stop, all-added}
 use Rattle.sequence_data.proofs.cells.with_leaf.Goals as goal
 
 pub returns-in_err-weight-clause-stop : goal.returns-in_err-weight-clause-stop

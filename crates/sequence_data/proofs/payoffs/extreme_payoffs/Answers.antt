@@ -1,5 +1,5 @@
 use Rattle.std.proofs.Common.{arith}
-use Rattle.sequence_data.proofs.Order.{greatest-all, greatest-more, greatest-none, least-all, least-more, least-none}
+use Rattle.sequence_data.proofs.OrderLemmas.{greatest-all, greatest-more, greatest-none, least-all, least-more, least-none}
 use Rattle.sequence_data.proofs.payoffs.extreme_payoffs.Goals as goal
 
 pub loop-leaf-init : goal.loop-leaf-init

@@ -1,4 +1,4 @@
-use Rattle.sequence_data.proofs.Order.{IsGreatestOf, IsLeastOf}
+use Rattle.sequence_data.proofs.OrderLemmas.{IsGreatestOf, IsLeastOf}
 use Rattle.sequence_data.proofs.payoffs.extreme_payoffs.Given as goal
 
 abbrev pub invariant-loop-leaf : goal.invariant-loop-leaf

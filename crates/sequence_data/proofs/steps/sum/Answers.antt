@@ -2,7 +2,7 @@ use Rattle.std.proofs.Common.{sym, subst, [], ◌∷◌}
 use Rattle.frac128.specs.Steps.{unfit}
 use Rattle.frac128.specs.declared.steps.Op.TheVariants.{Add}
 use Rattle.sequence_data.specs.Steps.{IsFirstUnfitAt, at_place}
-use Rattle.sequence_data.proofs.Placed.{here-first}
+use Rattle.sequence_data.proofs.PlacedStepLemmas.{here-first}
 use Rattle.sequence_data.proofs.steps.sum.Goals as goal
 
 pub returns-in-Err-clause-stop : goal.returns-in-Err-clause-stop

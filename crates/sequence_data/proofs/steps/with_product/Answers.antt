@@ -3,7 +3,7 @@ use Rattle.std.proofs.Common.{[], ◌∷◌}
 use Rattle.frac128.specs.Steps.{unfit}
 use Rattle.frac128.specs.declared.steps.Op.TheVariants.{Add}
 use Rattle.sequence_data.specs.Steps.{IsUnfitStop, at_place, product_steps}
-use Rattle.sequence_data.proofs.Placed.{if_err-then, product-stop, product-sum-stop}
+use Rattle.sequence_data.proofs.PlacedStepLemmas.{if_err-then, product-stop, product-sum-stop}
 use Rattle.sequence_data.proofs.steps.with_product.Goals as goal
 
 pub returns-in_err-part-clause-stop : goal.returns-in_err-part-clause-stop

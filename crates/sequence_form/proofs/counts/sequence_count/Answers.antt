@@ -1,7 +1,7 @@
 use Rattle.std.proofs.Common.{◌≡◌, ◌+◌, ◌∙◌, ap, length, arith}
 use Rattle.game_core.specs.TreeGame.{game_of_tree}
 use Rattle.sequence_form.specs.Sequences.{next_sequence}
-use Rattle.sequence_form.proofs.Numbering.{next-all, next-few, next-push}
+use Rattle.sequence_form.proofs.NumberingLemmas.{next-all, next-few, next-push}
 use Rattle.sequence_form.proofs.counts.sequence_count.Goals as goal
 
 pub overflow_add-count : goal.overflow_add-count

@@ -1,7 +1,7 @@
 use Rattle.std.proofs.Common.{◌≡◌, ◌∙◌, ap, sym, length, arith}
 use Rattle.game_core.specs.TreeGame.{game_of_tree}
 use Rattle.strategy_lists.specs.OwnNumbers.{own_numbers}
-use Rattle.strategy_lists.proofs.OwnNumbers.{own_numbers-length, own_sets-numbers}
+use Rattle.strategy_lists.proofs.OwnNumberLemmas.{own_numbers-length, own_sets-numbers}
 use Rattle.sequence_form.proofs.counts.set_count.Goals as goal
 
 pub overflow_add-count : goal.overflow_add-count

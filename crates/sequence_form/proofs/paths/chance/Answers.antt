@@ -2,9 +2,9 @@ use Rattle.std.proofs.Common.{◌≡◌, ◌∙◌, ap, ap₂, sym}
 use Rattle.rational.specs.Rational.{◌*ℚ◌}
 use Rattle.game_core.specs.TreeGame.{game_of_tree}
 use Rattle.sequence_forms.specs.Forms.{chance_of_path}
-use Rattle.sequence_form.proofs.PathSteps.{branch-below, parent-chooses, parent-set}
+use Rattle.sequence_form.proofs.PathStepLemmas.{branch-below, parent-chooses, parent-set}
 use Rattle.sequence_form.proofs.paths.chance.Goals as goal
-use Rattle.lists.proofs.Options.{if_ok-then}
+use Rattle.lists.proofs.OptionLemmas.{if_ok-then}
 
 pub returns-in_default-clause-value : goal.returns-in_default-clause-value
 returns-in_default-clause-value c =

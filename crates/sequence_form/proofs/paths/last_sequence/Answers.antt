@@ -2,9 +2,9 @@ use Rattle.std.proofs.Common.{◌∙◌, Some, ap, sym, arith}
 use Rattle.std.proofs.lemmas.Option.{none-some, same_Some}
 use Rattle.game_core.specs.TreeGame.{game_of_tree}
 use Rattle.sequence_forms.specs.Sequences.{sequence}
-use Rattle.sequence_forms.proofs.Sequences.{sequence-below}
-use Rattle.sequence_form.proofs.Numbering.{action-by_firsts, firsts-length, sequences-few}
-use Rattle.sequence_form.proofs.PathSteps.{branch-below, parent-chooses, parent-set, set-below}
+use Rattle.sequence_forms.proofs.SequenceLemmas.{sequence-below}
+use Rattle.sequence_form.proofs.NumberingLemmas.{action-by_firsts, firsts-length, sequences-few}
+use Rattle.sequence_form.proofs.PathStepLemmas.{branch-below, parent-chooses, parent-set, set-below}
 use Rattle.sequence_form.proofs.paths.last_sequence.Goals as goal
 
 pub returns-in_default : goal.returns-in_default

@@ -3,7 +3,7 @@ use Rattle.std.proofs.lemmas.List.FromFn.{get_or-map-range_with_len, length-map-
 use Rattle.game_core.specs.TreeGame.{game_of_tree}
 use Rattle.sequence_forms.specs.Lists.{leaves_below}
 use Rattle.sequence_form.specs.Paths.{leaf_at}
-use Rattle.sequence_form.proofs.PathSteps.{leaves-more, leaves-same}
+use Rattle.sequence_form.proofs.PathStepLemmas.{leaves-more, leaves-same}
 use Rattle.sequence_form.proofs.paths.leaves.Goals as goal
 use Rattle.sequence_form.proofs.paths.leaves.Goals.{then-is_none+in_ok-push, else-is_none}
 

@@ -2,7 +2,7 @@ use Rattle.std.proofs.Common.{ap, subst}
 use Rattle.std.proofs.lemmas.Result.{err_from_is_err_and}
 use Rattle.game_core.specs.TreeGame.{game_of_tree}
 use Rattle.sequence_data.specs.Steps.{AllFit, IsUnfitStop}
-use Rattle.sequence_form.proofs.PathSteps.{all-fit, one-stop, payoff-is, same_leaf, step-is, two-stop}
+use Rattle.sequence_form.proofs.PathStepLemmas.{all-fit, one-stop, payoff-is, same_leaf, step-is, two-stop}
 use Rattle.sequence_form.proofs.paths.next_path.Goals as goal
 
 pub returns-in_err-one-clause-stop : goal.returns-in_err-one-clause-stop

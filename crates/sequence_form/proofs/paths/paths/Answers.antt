@@ -4,7 +4,7 @@ use Rattle.std.proofs.lemmas.List.FromFn.{get_or-map-range_with_len, length-map-
 use Rattle.std.proofs.lemmas.Result.{err_from_is_err_and}
 use Rattle.game_core.specs.TreeGame.{game_of_tree}
 use Rattle.sequence_form.specs.Paths.{leaf_at}
-use Rattle.sequence_form.proofs.PathSteps.{path-fit, path-stop}
+use Rattle.sequence_form.proofs.PathStepLemmas.{path-fit, path-stop}
 use Rattle.sequence_form.proofs.paths.paths.Goals as goal
 
 pub index-above-requires : goal.index-above-requires

@@ -3,7 +3,7 @@ use Rattle.std.specs.List.{range_with_len}
 use Rattle.std.proofs.lemmas.List.FromFn.{map-range_with_len_more}
 use Rattle.game_core.specs.TreeGame.{game_of_tree}
 use Rattle.sequence_form.specs.Sequences.{next_sequence}
-use Rattle.sequence_form.proofs.Numbering.{next-few, next-push}
+use Rattle.sequence_form.proofs.NumberingLemmas.{next-few, next-push}
 use Rattle.sequence_form.proofs.sequences.first_sequences.Goals as goal
 
 pub overflow_add-next : goal.overflow_add-next

@@ -1,5 +1,5 @@
 use Rattle.std.proofs.Common.{arith}
-use Rattle.sequence_form.proofs.Numbering.{actions-cast}
+use Rattle.sequence_form.proofs.NumberingLemmas.{actions-cast}
 use Rattle.sequence_form.proofs.sequences.own_actions.Goals as goal
 
 pub overflow_cast-result : goal.overflow_cast-result

@@ -1,6 +1,6 @@
 use Rattle.std.proofs.Common.{◌∙◌, None, ap, sym, length, get_or, arith}
 use Rattle.game_core.specs.TreeGame.{game_of_tree}
-use Rattle.sequence_form.proofs.Numbering.{before-below, before-by_firsts, before-none, firsts-length, own-step, recall-at, recall-length, sequences-few}
+use Rattle.sequence_form.proofs.NumberingLemmas.{before-below, before-by_firsts, before-none, firsts-length, own-step, recall-at, recall-length, sequences-few}
 use Rattle.sequence_form.proofs.sequences.sequence_before.Goals as goal
 
 pub bounds : goal.bounds

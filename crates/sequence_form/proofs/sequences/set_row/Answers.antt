@@ -1,6 +1,6 @@
 use Rattle.std.proofs.Common.{arith}
 use Rattle.game_core.specs.TreeGame.{game_of_tree}
-use Rattle.sequence_form.proofs.Numbering.{actions-cast, first-at, firsts-length, same_row, sequence-is}
+use Rattle.sequence_form.proofs.NumberingLemmas.{actions-cast, first-at, firsts-length, same_row, sequence-is}
 use Rattle.sequence_form.proofs.sequences.set_row.Goals as goal
 
 pub bounds-firsts-set : goal.bounds-firsts-set

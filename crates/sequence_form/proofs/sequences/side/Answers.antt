@@ -1,9 +1,9 @@
 use Rattle.std.proofs.Common.{◌≡◌, ◌∙◌, ap, sym, get_or, length, map, arith}
 use Rattle.game_core.specs.TreeGame.{game_of_tree}
 use Rattle.strategy_lists.specs.OwnNumbers.{own_numbers}
-use Rattle.strategy_lists.proofs.OwnNumbers.{own_sets-numbers}
+use Rattle.strategy_lists.proofs.OwnNumberLemmas.{own_sets-numbers}
 use Rattle.sequence_form.specs.Sequences.{set_row}
-use Rattle.sequence_form.proofs.Numbering.{first-at, firsts-length, next-all, same_side}
+use Rattle.sequence_form.proofs.NumberingLemmas.{first-at, firsts-length, next-all, same_side}
 use Rattle.sequence_form.proofs.sequences.side.Goals as goal
 
 pub bounds-firsts-sets : goal.bounds-firsts-sets

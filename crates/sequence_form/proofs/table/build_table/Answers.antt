@@ -3,9 +3,9 @@ use Rattle.sequence_data.specs.Data.{IsSideData, LeafFits}
 use Rattle.sequence_data.specs.declared.types.Leaf.{Leaf}
 use Rattle.sequence_form.specs.Laws.{columns_of, rows_of}
 use Rattle.sequence_form.specs.Sequences.{start_side}
-use Rattle.sequence_form.proofs.Built.{table-gives}
-use Rattle.game_core.proofs.TableCounts.{few_players, strategy_count-names}
-use Rattle.sequence_form.proofs.TableLeaves.{columns-few, profiles-fit, rows-few, some-columns, some-profile, some-rows, start-is_side}
+use Rattle.sequence_form.proofs.BuiltFormLemmas.{table-gives}
+use Rattle.game_core.proofs.TableCountLemmas.{few_players, strategy_count-names}
+use Rattle.sequence_form.proofs.TableLeafLemmas.{columns-few, profiles-fit, rows-few, some-columns, some-profile, some-rows, start-is_side}
 use Rattle.sequence_form.proofs.table.build_table.Goals as goal
 
 pub overflow_cast-result : goal.overflow_cast-result

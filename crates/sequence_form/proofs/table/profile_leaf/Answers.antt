@@ -1,7 +1,7 @@
 use Rattle.std.proofs.Common.{◌%◌, ◌/◌, ◌∙◌, ap, arith}
-use Rattle.sequence_form.proofs.PathSteps.{same_leaf}
-use Rattle.game_core.proofs.TableCounts.{strategy_count-names}
-use Rattle.sequence_form.proofs.TableLeaves.{column-is, pays-at, row-is}
+use Rattle.sequence_form.proofs.PathStepLemmas.{same_leaf}
+use Rattle.game_core.proofs.TableCountLemmas.{strategy_count-names}
+use Rattle.sequence_form.proofs.TableLeafLemmas.{column-is, pays-at, row-is}
 use Rattle.sequence_form.proofs.table.profile_leaf.Goals as goal
 
 pub returns : goal.returns

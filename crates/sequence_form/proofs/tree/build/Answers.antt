@@ -2,12 +2,12 @@ use Rattle.std.proofs.Common.{◌<◌, ◌∙◌, All, List, ap, sym, subst, len
 use Rattle.game_core.specs.TreeGame.{game_of_tree}
 use Rattle.sequence_forms.specs.Sequences.{side_of}
 use Rattle.sequence_forms.specs.Sides.{sequences}
-use Rattle.sequence_forms.proofs.SetOrder.{trees_ordered}
+use Rattle.sequence_forms.proofs.SetOrderLemmas.{trees_ordered}
 use Rattle.sequence_data.specs.Data.{IsSideData, LeafFits}
 use Rattle.sequence_data.specs.declared.types.Leaf.{Leaf}
-use Rattle.sequence_form.proofs.Built.{tree-gives}
-use Rattle.sequence_form.proofs.PathSteps.{leaves-fit, some-leaf}
-use Rattle.sequence_form.proofs.Sides.{side-is_data}
+use Rattle.sequence_form.proofs.BuiltFormLemmas.{tree-gives}
+use Rattle.sequence_form.proofs.PathStepLemmas.{leaves-fit, some-leaf}
+use Rattle.sequence_form.proofs.SideLemmas.{side-is_data}
 use Rattle.sequence_form.proofs.tree.build.Goals as goal
 
 pub of_leaves-requires-clause-first : goal.of_leaves-requires-clause-first

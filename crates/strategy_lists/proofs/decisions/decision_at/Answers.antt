@@ -1,7 +1,7 @@
 use Rattle.std.proofs.Common.{refl, sym, subst}
 use Rattle.game_core.specs.TreeGame.{game_of_tree}
 use Rattle.strategy_lists.specs.Made.{LeadsTo}
-use Rattle.strategy_lists.proofs.Moves.{move_at}
+use Rattle.strategy_lists.proofs.MoveLemmas.{move_at}
 use Rattle.strategy_lists.proofs.decisions.decision_at.Goals as goal
 use Rattle.strategy_lists.proofs.decisions.decision_at.Goals.{in-Some, in-None}
 

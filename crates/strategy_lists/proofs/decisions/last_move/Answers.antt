@@ -3,9 +3,9 @@ use Rattle.std.proofs.lemmas.Bool.{both_ways}
 use Rattle.game_theory.specs.Recall.{own_history}
 use Rattle.game_core.specs.TreeGame.{game_of_tree}
 use Rattle.strategy_lists.specs.Made.{mover}
-use Rattle.strategy_lists.proofs.Moves.{mover-is, branch-is, history-past, last-move}
-use Rattle.strategy_lists.proofs.Parents.{parent-before, root-is}
-use Rattle.strategy_lists.proofs.OwnNumbers.{owner-decides}
+use Rattle.strategy_lists.proofs.MoveLemmas.{mover-is, branch-is, history-past, last-move}
+use Rattle.strategy_lists.proofs.ParentLemmas.{parent-before, root-is}
+use Rattle.strategy_lists.proofs.OwnNumberLemmas.{owner-decides}
 use Rattle.strategy_lists.proofs.decisions.last_move.Goals as goal
 
 pub returns-then-eq : goal.returns-then-eq

@@ -2,7 +2,7 @@ use Rattle.std.proofs.Common.{ℕ, ◌≡◌, ◌∙◌, None, length, drop, get
 use Rattle.std.proofs.lemmas.List.{take_at}
 use Rattle.game_core.specs.Tree.{IsWithin}
 use Rattle.strategy_lists.specs.OwnNumbers.{counted}
-use Rattle.strategy_lists.proofs.OwnNumbers.{AreCounts-next, ArePlacesBelow-next, counts-room, place-counted}
+use Rattle.strategy_lists.proofs.OwnNumberLemmas.{AreCounts-next, ArePlacesBelow-next, counts-room, place-counted}
 use Rattle.strategy_lists.proofs.places.places_among.Goals as goal
 
 pub next_place-requires-clause-few : goal.next_place-requires-clause-few

@@ -1,7 +1,7 @@
 use Rattle.std.proofs.Common.{◌∙◌, map, ap, sym, subst, length, get_or}
 use Rattle.std.proofs.lemmas.Result.{IfOk-weaker}
 use Rattle.game_core.specs.Tree.{IsWithin}
-use Rattle.strategy_lists.proofs.OwnNumbers.{owners-within, ArePlaces-owners}
+use Rattle.strategy_lists.proofs.OwnNumberLemmas.{owners-within, ArePlaces-owners}
 use Rattle.strategy_lists.proofs.places.set_places.Goals as goal
 
 pub places_among-requires-clause-within : goal.places_among-requires-clause-within

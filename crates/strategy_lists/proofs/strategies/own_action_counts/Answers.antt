@@ -3,8 +3,8 @@ use Rattle.std.proofs.lemmas.List.{length_push}
 use Rattle.std.proofs.lemmas.Option.{slice_get_within}
 use Rattle.game_core.specs.Tree.{own_sets}
 use Rattle.game_core.specs.TreeGame.{game_of_tree}
-use Rattle.strategy_lists.proofs.ActionCounts.{actions-fit, actions-at, own_set-within, own_sets-few, counts-more, counts-all}
-use Rattle.strategy_lists.proofs.OwnNumbers.{own_from-own_sets}
+use Rattle.strategy_lists.proofs.ActionCountLemmas.{actions-fit, actions-at, own_set-within, own_sets-few, counts-more, counts-all}
+use Rattle.strategy_lists.proofs.OwnNumberLemmas.{own_from-own_sets}
 use Rattle.strategy_lists.proofs.strategies.own_action_counts.Goals as goal
 
 pub overflow_cast-len : goal.overflow_cast-len

@@ -1,6 +1,6 @@
 use Rattle.std.specs.Int.{w128}
 use Rattle.std.proofs.lemmas.Int.{to_z-of_z}
-use Rattle.whole_rows.proofs.Fitting.{read_back, not_first, not_second, told}
+use Rattle.whole_rows.proofs.FittingStepLemmas.{read_back, not_first, not_second, told}
 use Rattle.whole_rows.proofs.arithmetic.combination.Goals as goal
 
 pub returns-in_default : goal.returns-in_default

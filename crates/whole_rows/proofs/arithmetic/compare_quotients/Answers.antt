@@ -1,9 +1,9 @@
 use Rattle.std.proofs.Common.{◌∙◌, ◌*ℤ◌, ap, ap₂, pos, nat_abs, int_cmp}
 use Rattle.std.specs.Int.{w128}
 use Rattle.std.proofs.lemmas.Int.{to_z-of_z}
-use Rattle.rational.proofs.Parts.{pos_nat_abs}
-use Rattle.whole_rows.proofs.Fitting.{read_back}
-use Rattle.whole_rows.proofs.Quotients.{shortened_back}
+use Rattle.rational.proofs.PartLemmas.{pos_nat_abs}
+use Rattle.whole_rows.proofs.FittingStepLemmas.{read_back}
+use Rattle.whole_rows.proofs.QuotientLemmas.{shortened_back}
 use Rattle.whole_rows.proofs.arithmetic.compare_quotients.Goals as goal
 
 pub returns-then-is_short-4 : goal.returns-then-is_short-4

@@ -1,6 +1,6 @@
 use Rattle.std.proofs.Common.{nat_abs, sym, subst₂}
 use Rattle.std.specs.Int.{w128, ◌∣◌}
-use Rattle.whole_rows.proofs.Quotients.{exact, shortened_back}
+use Rattle.whole_rows.proofs.QuotientLemmas.{exact, shortened_back}
 use Rattle.whole_rows.proofs.arithmetic.exact_quotient.Goals as goal
 
 pub returns-else-is_short-clause-value : goal.returns-else-is_short-clause-value

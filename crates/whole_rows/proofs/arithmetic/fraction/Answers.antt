@@ -1,7 +1,7 @@
 use Rattle.std.proofs.Common.{◌∙◌, refl}
 use Rattle.std.specs.Int.{w128}
 use Rattle.std.proofs.lemmas.Int.{to_z-of_z}
-use Rattle.whole_rows.proofs.Fitting.{fraction_none, fraction_is}
+use Rattle.whole_rows.proofs.FittingStepLemmas.{fraction_none, fraction_is}
 use Rattle.whole_rows.proofs.arithmetic.fraction.Goals as goal
 
 pub returns-in-Some : goal.returns-in-Some

@@ -1,5 +1,5 @@
 use Rattle.std.specs.Int.{w64}
-use Rattle.whole_rows.proofs.Quotients.{exact}
+use Rattle.whole_rows.proofs.QuotientLemmas.{exact}
 use Rattle.whole_rows.proofs.arithmetic.short_quotient.Goals as goal
 
 pub returns : goal.returns

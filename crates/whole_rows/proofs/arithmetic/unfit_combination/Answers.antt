@@ -1,6 +1,6 @@
 use Rattle.std.specs.Int.{w128}
 use Rattle.std.proofs.lemmas.Int.{to_z-of_z}
-use Rattle.whole_rows.proofs.Fitting.{read_back, first_unfit, second_unfit, third_unfit}
+use Rattle.whole_rows.proofs.FittingStepLemmas.{read_back, first_unfit, second_unfit, third_unfit}
 use Rattle.whole_rows.proofs.arithmetic.unfit_combination.Goals as goal
 
 pub returns-in_default : goal.returns-in_default

@@ -2,7 +2,7 @@ use Rattle.std.proofs.Common.{◌∙◌, ◌≡◌, ◌<◌, ◌^◌, ap, ap₂,
 use Rattle.std.specs.Int.{w128}
 use Rattle.std.proofs.lemmas.Int.{to_z-of_z, fits_signed_from_abs}
 use Rattle.rational.specs.Gcd.{gcd}
-use Rattle.whole_rows.proofs.RowValues.{common_pos, common_small, stored, stored_pos}
+use Rattle.whole_rows.proofs.RowValueLemmas.{common_pos, common_small, stored, stored_pos}
 use Rattle.whole_rows.proofs.pivots.common_part.Goals as goal
 
 is : (c : goal.After-gcd) → c.gcd.result ≡ gcd (nat_abs c.args.p) (nat_abs c.args.k)

@@ -1,8 +1,8 @@
 use Rattle.std.proofs.Common.{◌∙◌, ap, ap₂, nat_abs, sym, subst₂, ◌*ℤ◌}
 use Rattle.std.specs.Int.{w128, ◌∣◌}
 use Rattle.std.proofs.lemmas.Int.{to_z-of_z}
-use Rattle.whole_rows.proofs.Fitting.{read_back}
-use Rattle.whole_rows.proofs.RowValues.{nat_abs-signed, quotient_unique}
+use Rattle.whole_rows.proofs.FittingStepLemmas.{read_back}
+use Rattle.whole_rows.proofs.RowValueLemmas.{nat_abs-signed, quotient_unique}
 use Rattle.whole_rows.specs.Pivots.{signed_by}
 use Rattle.whole_rows.proofs.pivots.factor.Goals as goal
 

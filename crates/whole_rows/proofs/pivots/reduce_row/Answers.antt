@@ -2,7 +2,7 @@ use Rattle.std.proofs.Common.{◌∙◌, ap, nat_abs, subst, sym, to_z, ◌*ℤ�
 use Rattle.std.specs.Int.{w128, ◌∣◌}
 use Rattle.std.proofs.lemmas.Int.{to_z-of_z}
 use Rattle.whole_rows.specs.Rows.{from_place}
-use Rattle.whole_rows.proofs.RowValues.{reduced, reduced_already}
+use Rattle.whole_rows.proofs.RowValueLemmas.{reduced, reduced_already}
 use Rattle.whole_rows.proofs.pivots.reduce_row.Goals as goal
 
 pub divide_row-requires-clause-divides : goal.divide_row-requires-clause-divides

@@ -2,7 +2,7 @@ use Rattle.std.proofs.Common.{◌<◌, ◌^◌, ap, pos, nat_abs, subst, sym}
 use Rattle.std.specs.Int.{w128}
 use Rattle.std.proofs.lemmas.Int.{fits_signed_from_abs}
 use Rattle.whole_rows.specs.Rows.{from_place, IsCommonDivisor}
-use Rattle.whole_rows.proofs.RowValues.{divisor_small, row_size, stored, stored_pos}
+use Rattle.whole_rows.proofs.RowValueLemmas.{divisor_small, row_size, stored, stored_pos}
 use Rattle.whole_rows.proofs.pivots.row_divisor.Goals as goal
 
 small : (c : goal.After-common_divisor) → c.common_divisor.result < 2 ^ 127

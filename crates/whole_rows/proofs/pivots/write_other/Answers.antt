@@ -2,8 +2,8 @@ use Rattle.std.proofs.Common.{◌∙◌, ◌+◌, ap₂, arith, subst, subst₂,
 use Rattle.whole_rows.specs.Rows.{from_place}
 use Rattle.whole_rows.specs.Steps.{AllFit, IsFirstUnfit}
 use Rattle.whole_rows.specs.Pivots.{own_factor, other_factor, steps_to, place_number}
-use Rattle.whole_rows.proofs.Fitting.{read_at, read_back}
-use Rattle.whole_rows.proofs.RowValues.{pivoted_row, kept_row, lead_is, by_one, own_factor_pos, factors_cross, is_zero, not_zero, steps_are}
+use Rattle.whole_rows.proofs.FittingStepLemmas.{read_at, read_back}
+use Rattle.whole_rows.proofs.RowValueLemmas.{pivoted_row, kept_row, lead_is, by_one, own_factor_pos, factors_cross, is_zero, not_zero, steps_are}
 use Rattle.whole_rows.proofs.pivots.write_other.Goals as goal
 
 pub returns-then-number-eq0-clause-written : goal.returns-then-number-eq0-clause-written

@@ -4,7 +4,7 @@ use Rattle.whole_rows.specs.Rows.{from_place}
 use Rattle.whole_rows.specs.Steps.{IsFirstUnfit}
 use Rattle.whole_rows.specs.Pivots.{pivot_steps}
 use Rattle.whole_rows.specs.PivotedRows.{IsPivotedRow, IsPivotRow}
-use Rattle.whole_rows.proofs.RowFrames.{row_kept, pivoted_same, pivot_same, rows_fit, unfit_row}
+use Rattle.whole_rows.proofs.RowFrameLemmas.{row_kept, pivoted_same, pivot_same, rows_fit, unfit_row}
 use Rattle.whole_rows.proofs.pivots.write_pivot.Goals as goal
 
 pub returns-in_err-write_row-clause-unfit : goal.returns-in_err-write_row-clause-unfit

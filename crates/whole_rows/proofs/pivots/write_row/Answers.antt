@@ -1,6 +1,6 @@
 use Rattle.std.proofs.Common.{◌≢◌, ◌*◌, pos, subst, sym}
 use Rattle.whole_rows.specs.Rows.{from_place}
-use Rattle.whole_rows.proofs.RowValues.{turned_row}
+use Rattle.whole_rows.proofs.RowValueLemmas.{turned_row}
 use Rattle.whole_rows.proofs.pivots.write_row.Goals as goal
 
 pub returns-then-i-row-clause-pivot_row : goal.returns-then-i-row-clause-pivot_row

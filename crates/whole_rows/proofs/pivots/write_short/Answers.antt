@@ -3,9 +3,9 @@ use Rattle.whole_rows.specs.Rows.{from_place}
 use Rattle.whole_rows.specs.Steps.{AllFit}
 use Rattle.whole_rows.specs.Shorts.{IsShort}
 use Rattle.whole_rows.specs.Pivots.{signed_by, own_factor, other_factor, place_number}
-use Rattle.whole_rows.proofs.Fitting.{read_at, read_back}
-use Rattle.whole_rows.proofs.ShortNumbers.{short_back, short_steps}
-use Rattle.whole_rows.proofs.RowValues.{pivoted_row, lead_is, own_sign, signs_cross, steps_are, own_short, other_short}
+use Rattle.whole_rows.proofs.FittingStepLemmas.{read_at, read_back}
+use Rattle.whole_rows.proofs.ShortNumberLemmas.{short_back, short_steps}
+use Rattle.whole_rows.proofs.RowValueLemmas.{pivoted_row, lead_is, own_sign, signs_cross, steps_are, own_short, other_short}
 use Rattle.whole_rows.proofs.pivots.write_short.Goals as goal
 
 pub reduce_row-requires-clause-positive : goal.reduce_row-requires-clause-positive

@@ -2,8 +2,8 @@ use Rattle.std.proofs.Common.{◌+◌}
 use Rattle.std.specs.Int.{w128}
 use Rattle.std.proofs.lemmas.Int.{to_z-of_z}
 use Rattle.whole_rows.specs.Rows.{from_place}
-use Rattle.whole_rows.proofs.Fitting.{read_at, read_first, turned_back}
-use Rattle.whole_rows.proofs.PlaceSteps.{told_lead, none_column, some_column, told_other}
+use Rattle.whole_rows.proofs.FittingStepLemmas.{read_at, read_first, turned_back}
+use Rattle.whole_rows.proofs.PlaceStepLemmas.{told_lead, none_column, some_column, told_other}
 use Rattle.whole_rows.proofs.places.number_at.Goals as goal
 
 pub returns-then-place-eq0 : goal.returns-then-place-eq0

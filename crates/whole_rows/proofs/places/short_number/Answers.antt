@@ -3,8 +3,8 @@ use Rattle.frac128.specs.Fraction.{PartFits}
 use Rattle.std.specs.Int.{w64}
 use Rattle.std.proofs.lemmas.Int.{to_z-of_z}
 use Rattle.whole_rows.specs.Rows.{from_place}
-use Rattle.whole_rows.proofs.Fitting.{read_at, read_first, read_back, turned_back}
-use Rattle.whole_rows.proofs.ShortNumbers.{product_fits, short_leads, short_column, short_other}
+use Rattle.whole_rows.proofs.FittingStepLemmas.{read_at, read_first, read_back, turned_back}
+use Rattle.whole_rows.proofs.ShortNumberLemmas.{product_fits, short_leads, short_column, short_other}
 use Rattle.whole_rows.proofs.places.short_number.Goals as goal
 
 pub returns-then-place-eq0 : goal.returns-then-place-eq0

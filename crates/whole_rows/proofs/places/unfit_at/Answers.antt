@@ -1,7 +1,7 @@
 use Rattle.std.proofs.Common.{◌+◌}
 use Rattle.whole_rows.specs.Rows.{from_place}
-use Rattle.whole_rows.proofs.Fitting.{read_at, read_first, read_back}
-use Rattle.whole_rows.proofs.PlaceSteps.{first_lead, first_column, first_other, unfit_other}
+use Rattle.whole_rows.proofs.FittingStepLemmas.{read_at, read_first, read_back}
+use Rattle.whole_rows.proofs.PlaceStepLemmas.{first_lead, first_column, first_other, unfit_other}
 use Rattle.whole_rows.proofs.places.unfit_at.Goals as goal
 
 pub returns-then-place-eq0 : goal.returns-then-place-eq0

@@ -2,8 +2,8 @@ use Rattle.std.proofs.Common.{◌∙◌, ap, arith, nat_abs, pos, get_or, to_z, 
 use Rattle.std.specs.Int.{w128}
 use Rattle.rational.specs.Gcd.{gcd}
 use Rattle.whole_rows.specs.Rows.{from_place}
-use Rattle.whole_rows.proofs.Fitting.{read_size, plus_none}
-use Rattle.whole_rows.proofs.RowWrites.{common_first, common_next, common_one}
+use Rattle.whole_rows.proofs.FittingStepLemmas.{read_size, plus_none}
+use Rattle.whole_rows.proofs.RowWriteLemmas.{common_first, common_next, common_one}
 use Rattle.whole_rows.proofs.rows.common_divisor.Goals as goal
 
 pub loop-place-init : goal.loop-place-init

@@ -2,7 +2,7 @@ use Rattle.std.proofs.Common.{◌≡◌, ◌*ℤ◌, ◌+◌, to_z, of_z, inr, a
 use Rattle.std.specs.Int.{w128}
 use Rattle.frac128.specs.Fraction.{PartFits}
 use Rattle.whole_rows.specs.Rows.{from_place}
-use Rattle.whole_rows.proofs.RowWrites.{kept_outside, written_next, still_divides, divided_there}
+use Rattle.whole_rows.proofs.RowWriteLemmas.{kept_outside, written_next, still_divides, divided_there}
 use Rattle.whole_rows.proofs.rows.divide_row.Goals as goal
 
 pub quotient_by-requires-clause-divides : goal.quotient_by-requires-clause-divides

@@ -5,7 +5,7 @@ use Rattle.frac128.specs.Fraction.{PartFits}
 use Rattle.whole_rows.specs.Rows.{from_place}
 use Rattle.whole_rows.specs.Steps.{AllFit, IsFirstUnfit}
 use Rattle.whole_rows.specs.Pivots.{place_number, steps_to, place_steps}
-use Rattle.whole_rows.proofs.RowWrites.{kept_outside, written_next, written_there, steps_next, unfit_in_row}
+use Rattle.whole_rows.proofs.RowWriteLemmas.{kept_outside, written_next, written_there, steps_next, unfit_in_row}
 use Rattle.whole_rows.proofs.rows.write_combination.Goals as goal
 
 pub returns-in_default-clause-unfit : goal.returns-in_default-clause-unfit

@@ -3,8 +3,8 @@ use Rattle.std.specs.Int.{w64, w128}
 use Rattle.frac128.specs.Fraction.{PartFits}
 use Rattle.whole_rows.specs.Rows.{from_place}
 use Rattle.whole_rows.specs.Pivots.{place_number}
-use Rattle.whole_rows.proofs.Fitting.{read_back}
-use Rattle.whole_rows.proofs.RowWrites.{kept_outside, written_next}
+use Rattle.whole_rows.proofs.FittingStepLemmas.{read_back}
+use Rattle.whole_rows.proofs.RowWriteLemmas.{kept_outside, written_next}
 use Rattle.whole_rows.proofs.rows.write_divided.Goals as goal
 
 pub loop-place-preserved : goal.loop-place-preserved

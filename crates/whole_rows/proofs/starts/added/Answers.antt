@@ -3,8 +3,8 @@ use Rattle.std.specs.Int.{w128, ◌∣◌}
 use Rattle.std.proofs.lemmas.Int.{to_z-of_z}
 use Rattle.rational.specs.Gcd.{gcd, div_ℤ}
 use Rattle.rational.specs.GcdLaws.{gcd-is}
-use Rattle.whole_rows.proofs.StartRows.{added_is}
-use Rattle.whole_rows.proofs.Fitting.{read_back}
+use Rattle.whole_rows.proofs.StartRowLemmas.{added_is}
+use Rattle.whole_rows.proofs.FittingStepLemmas.{read_back}
 use Rattle.whole_rows.specs.Pivots.{signed_by}
 use Rattle.whole_rows.proofs.starts.added.Goals as goal
 

@@ -3,9 +3,9 @@ use Rattle.rational.specs.Gcd.{gcd}
 use Rattle.frac128.specs.Fraction.{PartFits}
 use Rattle.whole_rows.specs.Steps.{times, unfit_step}
 use Rattle.whole_rows.specs.StartRows.{cells_from, common_to}
-use Rattle.whole_rows.proofs.Fitting.{read_back}
-use Rattle.whole_rows.proofs.RowWrites.{plus_one}
-use Rattle.whole_rows.proofs.StartRows.{cell_read, den_read, common_ne, denominator_next, denominator_unfit}
+use Rattle.whole_rows.proofs.FittingStepLemmas.{read_back}
+use Rattle.whole_rows.proofs.RowWriteLemmas.{plus_one}
+use Rattle.whole_rows.proofs.StartRowLemmas.{cell_read, den_read, common_ne, denominator_next, denominator_unfit}
 use Rattle.whole_rows.proofs.starts.common_denominator.Goals as goal
 
 pub added-part-requires-clause-common : goal.added-part-requires-clause-common

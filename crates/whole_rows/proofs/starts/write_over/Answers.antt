@@ -5,8 +5,8 @@ use Rattle.frac128.specs.Fraction.{PartFits}
 use Rattle.whole_rows.specs.Rows.{from_place}
 use Rattle.whole_rows.specs.Steps.{times, unfit_step}
 use Rattle.whole_rows.specs.StartRows.{cells_from, common_to}
-use Rattle.whole_rows.proofs.Fitting.{read_back}
-use Rattle.whole_rows.proofs.StartRows.{cell_read, den_read, num_read, den_divides, divides_read, quotient_is, numerator_next, numerator_unfit, row_more, lead_more, kept_more, start_read}
+use Rattle.whole_rows.proofs.FittingStepLemmas.{read_back}
+use Rattle.whole_rows.proofs.StartRowLemmas.{cell_read, den_read, num_read, den_divides, divides_read, quotient_is, numerator_next, numerator_unfit, row_more, lead_more, kept_more, start_read}
 use Rattle.whole_rows.proofs.starts.write_over.Goals as goal
 
 pub exact_quotient-part-requires-clause-divides : goal.exact_quotient-part-requires-clause-divides

@@ -1,6 +1,6 @@
 use Rattle.whole_rows.specs.StartRows.{cells_from, common_to, denominator_steps, numerator_steps}
-use Rattle.whole_rows.proofs.RowWrites.{unfit_before}
-use Rattle.whole_rows.proofs.StartRows.{start_row_fits, start_rest_unfit}
+use Rattle.whole_rows.proofs.RowWriteLemmas.{unfit_before}
+use Rattle.whole_rows.proofs.StartRowLemmas.{start_row_fits, start_rest_unfit}
 use Rattle.whole_rows.proofs.starts.write_start_row.Goals as goal
 
 pub returns-in-Ok-clause-fits : goal.returns-in-Ok-clause-fits

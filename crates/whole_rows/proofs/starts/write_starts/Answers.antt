@@ -3,8 +3,8 @@ use Rattle.std.proofs.lemmas.Bool.{cases_eq}
 use Rattle.whole_rows.specs.Rows.{from_place}
 use Rattle.whole_rows.specs.Steps.{AllFit}
 use Rattle.whole_rows.specs.StartRows.{cells_from, start_row_steps, IsStartRow}
-use Rattle.whole_rows.proofs.RowFrames.{row_kept}
-use Rattle.whole_rows.proofs.StartRows.{start_same}
+use Rattle.whole_rows.proofs.RowFrameLemmas.{row_kept}
+use Rattle.whole_rows.proofs.StartRowLemmas.{start_same}
 use Rattle.whole_rows.proofs.starts.write_starts.Goals as goal
 
 pub loop-i-preserved : goal.loop-i-preserved

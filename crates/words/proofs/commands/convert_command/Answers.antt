@@ -4,7 +4,7 @@ use Rattle.clap.specs.Simple.{app_of}
 use Rattle.words.specs.Commands.{app_with, value_rule}
 use Rattle.words.specs.Grammar.{Options}
 use Rattle.words.specs.Words.{convert_options}
-use Rattle.words.proofs.Apps.{one_more}
+use Rattle.words.proofs.AppLemmas.{one_more}
 use Rattle.words.proofs.commands.convert_command.Goals as goal
 
 pub returns : goal.returns

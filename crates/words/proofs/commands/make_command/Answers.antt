@@ -3,7 +3,7 @@ use Rattle.std.proofs.lemmas.Result.{IfOk-weaker}
 use Rattle.clap.specs.Simple.{app_of}
 use Rattle.words.specs.Commands.{value_rule}
 use Rattle.words.specs.Words.{make_options}
-use Rattle.words.proofs.Apps.{one_more}
+use Rattle.words.proofs.AppLemmas.{one_more}
 use Rattle.words.proofs.commands.make_command.Goals as goal
 
 pub returns : goal.returns

@@ -1,7 +1,7 @@
 use Rattle.std.proofs.Common.{codes}
 use Rattle.clap.specs.declared.builder.action.ArgAction.TheVariants.{Append}
 use Rattle.words.specs.Commands.{bare, plain_rule}
-use Rattle.words.proofs.Apps.{bare_app, bare_rule, ruled}
+use Rattle.words.proofs.AppLemmas.{bare_app, bare_rule, ruled}
 use Rattle.words.proofs.commands.plain_command.Goals as goal
 
 pub returns : goal.returns

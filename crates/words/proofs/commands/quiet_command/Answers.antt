@@ -2,7 +2,7 @@ use Rattle.std.proofs.Common.{[], codes, false, refl}
 use Rattle.std.proofs.lemmas.Result.{IfOk-weaker}
 use Rattle.clap.specs.Simple.{app_of}
 use Rattle.words.specs.Commands.{flag_rule}
-use Rattle.words.proofs.Apps.{one_more, plain_app}
+use Rattle.words.proofs.AppLemmas.{one_more, plain_app}
 use Rattle.words.proofs.commands.quiet_command.Goals as goal
 
 pub returns : goal.returns

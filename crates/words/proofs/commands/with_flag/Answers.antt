@@ -2,7 +2,7 @@ use Rattle.std.proofs.Common.{◌∙◌, ap, refl}
 use Rattle.clap.specs.Simple.{app_of, new_rule}
 use Rattle.clap.specs.declared.builder.action.ArgAction.TheVariants.{Count}
 use Rattle.words.specs.Commands.{flag_id, flag_rule}
-use Rattle.words.proofs.Apps.{ruled, short_rule}
+use Rattle.words.proofs.AppLemmas.{ruled, short_rule}
 use Rattle.words.proofs.commands.with_flag.Goals as goal
 
 pub returns : goal.returns

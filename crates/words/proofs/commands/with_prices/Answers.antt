@@ -2,7 +2,7 @@ use Rattle.std.proofs.Common.{codes, refl}
 use Rattle.clap.specs.Simple.{app_of}
 use Rattle.clap.specs.declared.builder.action.ArgAction.TheVariants.{Count}
 use Rattle.words.specs.Commands.{prices_rule}
-use Rattle.words.proofs.Apps.{long_rule, ruled}
+use Rattle.words.proofs.AppLemmas.{long_rule, ruled}
 use Rattle.words.proofs.commands.with_prices.Goals as goal
 
 pub returns : goal.returns

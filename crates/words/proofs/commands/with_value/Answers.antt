@@ -2,7 +2,7 @@ use Rattle.std.proofs.Common.{◌∙◌, ap, refl}
 use Rattle.clap.specs.Simple.{app_of, new_rule}
 use Rattle.clap.specs.declared.builder.action.ArgAction.TheVariants.{Append}
 use Rattle.words.specs.Commands.{value_id, value_rule}
-use Rattle.words.proofs.Apps.{ruled, short_rule}
+use Rattle.words.proofs.AppLemmas.{ruled, short_rule}
 use Rattle.words.proofs.commands.with_value.Goals as goal
 
 pub returns : goal.returns

@@ -1,7 +1,7 @@
 use Rattle.std.proofs.Common.{map, string_bytes, refl, subst}
 use Rattle.words.specs.Commands.{collected}
 use Rattle.words.specs.Words.{enummixed_options, IsAnswer}
-use Rattle.words.proofs.Answered.{enummixed_told}
+use Rattle.words.proofs.MatchAnswerLemmas.{enummixed_told}
 use Rattle.words.proofs.tools.read_enummixed.Goals as goal
 
 pub returns : goal.returns

@@ -1,7 +1,7 @@
 use Rattle.std.proofs.Common.{map, string_bytes, refl, subst}
 use Rattle.words.specs.Commands.{collected}
 use Rattle.words.specs.Words.{lcp_options, IsAnswer}
-use Rattle.words.proofs.Answered.{lcp_told}
+use Rattle.words.proofs.MatchAnswerLemmas.{lcp_told}
 use Rattle.words.proofs.tools.read_lcp.Goals as goal
 
 pub returns : goal.returns

@@ -1,7 +1,7 @@
 use Rattle.std.proofs.Common.{map, string_bytes, refl, subst}
 use Rattle.words.specs.Commands.{collected}
 use Rattle.words.specs.Words.{lp_options, IsAnswer}
-use Rattle.words.proofs.Answered.{lp_told}
+use Rattle.words.proofs.MatchAnswerLemmas.{lp_told}
 use Rattle.words.proofs.tools.read_lp.Goals as goal
 
 pub returns : goal.returns

@@ -1,7 +1,7 @@
 use Rattle.std.proofs.Common.{length, map, sym, ap, ◌∙◌, subst}
 use Rattle.std.proofs.Math.ListN.{replicate}
 use Rattle.game_theory.specs.Profiles.{IsProfile}
-use Rattle.enumpure_trees.proofs.FormSizes.{IsProfile-first}
+use Rattle.enumpure_trees.proofs.FormSizeLemmas.{IsProfile-first}
 use Rattle.worked_forms.proofs.tests.first_behaviour.Goals as goal
 
 pub from_reduced-requires-clause-profile : goal.from_reduced-requires-clause-profile

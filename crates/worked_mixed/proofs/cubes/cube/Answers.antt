@@ -1,6 +1,6 @@
 use Rattle.std.proofs.Common.{sym, subst}
 use Rattle.basis_enum.specs.Systems.{IsEnumerable}
-use Rattle.worked_mixed.proofs.CubeSystems.{cube_system, cube_enumerable}
+use Rattle.worked_mixed.proofs.CubeSystemLemmas.{cube_system, cube_enumerable}
 use Rattle.worked_mixed.proofs.cubes.cube.Goals as goal
 
 pub new-requires : goal.new-requires

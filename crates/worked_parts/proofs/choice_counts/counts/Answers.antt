@@ -1,4 +1,4 @@
-use Rattle.choice_lists.proofs.Linked.{linked-tested}
+use Rattle.choice_lists.proofs.LinkedDecisionLemmas.{linked-tested}
 use Rattle.worked_parts.proofs.choice_counts.counts.Goals as goal
 
 pub count_walks-requires-clause-linked : goal.count_walks-requires-clause-linked

@@ -2,7 +2,7 @@ use Rattle.std.proofs.Common.{◌+◌, ◌≡◌, None, length, sym, ap, ◌∙�
 use Rattle.std.proofs.Math.ListN as lists
 use Rattle.choice_lists.specs.declared.decision.Decision.{Decision}
 use Rattle.choice_lists.specs.Walks.{AreLinked}
-use Rattle.choice_lists.proofs.Linked.{linked-none, linked-more}
+use Rattle.choice_lists.proofs.LinkedDecisionLemmas.{linked-none, linked-more}
 use Rattle.worked_parts.proofs.choices.apart.Goals as goal
 
 pub loop-place-init : goal.loop-place-init

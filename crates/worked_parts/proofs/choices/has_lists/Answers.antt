@@ -1,4 +1,4 @@
-use Rattle.choice_lists.proofs.Linked.{linked-tested}
+use Rattle.choice_lists.proofs.LinkedDecisionLemmas.{linked-tested}
 use Rattle.worked_parts.proofs.choices.has_lists.Goals as goal
 
 pub list_walks-requires : goal.list_walks-requires

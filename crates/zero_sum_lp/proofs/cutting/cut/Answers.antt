@@ -3,8 +3,8 @@ use Rattle.sequence_data.specs.declared.types.SetRow.{SetRow}
 use Rattle.sequence_data.specs.Data.{side_of}
 use Rattle.sequence_data.specs.Weights.{weight}
 use Rattle.zero_sum_lp.specs.PlanSteps.{IsCutTo}
-use Rattle.zero_sum_lp.proofs.PlanLists.{set_read, set_in, set_follows}
-use Rattle.zero_sum_lp.proofs.CutLists.{cut_from, cut_read, unfit_cut_from, unfit_cut_read}
+use Rattle.zero_sum_lp.proofs.PlanListLemmas.{set_read, set_in, set_follows}
+use Rattle.zero_sum_lp.proofs.CutListLemmas.{cut_from, cut_read, unfit_cut_from, unfit_cut_read}
 use Rattle.zero_sum_lp.proofs.cutting.cut.Goals as goal
 
 pub cut_set-requires-clause-before_in : goal.cut_set-requires-clause-before_in

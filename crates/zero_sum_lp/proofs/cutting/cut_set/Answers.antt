@@ -2,8 +2,8 @@ use Rattle.std.proofs.Common.{arith, ◌+◌, ◌∙◌, refl}
 use Rattle.std.proofs.lemmas.List.Elements.{All-nil}
 use Rattle.pure_payoffs.specs.Steps.{StepFits}
 use Rattle.sequence_data.specs.Weights.{weight}
-use Rattle.zero_sum_lp.proofs.PlanLists.{rest_begins}
-use Rattle.zero_sum_lp.proofs.CutLists.{share_next, left_next, share_fails}
+use Rattle.zero_sum_lp.proofs.PlanListLemmas.{rest_begins}
+use Rattle.zero_sum_lp.proofs.CutListLemmas.{share_next, left_next, share_fails}
 use Rattle.zero_sum_lp.proofs.cutting.cut_set.Goals as goal
 
 pub loop-action-init : goal.loop-action-init

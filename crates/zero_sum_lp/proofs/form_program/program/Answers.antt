@@ -6,7 +6,7 @@ use Rattle.sequence_data.specs.declared.types.Leaf.{Leaf}
 use Rattle.sequence_data.specs.declared.types.Cell.{Cell}
 use Rattle.zero_sum_lp.specs.declared.stop.LpStop.TheVariants as stops
 use Rattle.zero_sum_lp.specs.FormPrograms.{gains_in, is_constant, size_of, sums_in}
-use Rattle.zero_sum_lp.proofs.FormPrograms.{sums_stop, apart_stop, gains_stop, start_gives}
+use Rattle.zero_sum_lp.proofs.FormProgramLemmas.{sums_stop, apart_stop, gains_stop, start_gives}
 use Rattle.zero_sum_lp.proofs.form_program.program.Goals as goal
 
 pub returns-in_err-sums : goal.returns-in_err-sums

@@ -1,5 +1,5 @@
 use Rattle.std.proofs.Common.{◌∙◌}
-use Rattle.zero_sum_lp.proofs.FormSystems.{for_sides}
+use Rattle.zero_sum_lp.proofs.FormSystemLemmas.{for_sides}
 use Rattle.zero_sum_lp.proofs.form_program.started.Goals as goal
 
 pub new-requires-clause-program : goal.new-requires-clause-program

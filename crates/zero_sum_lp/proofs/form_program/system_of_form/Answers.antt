@@ -1,6 +1,6 @@
 use Rattle.std.proofs.Common.{◌∙◌, ap}
 use Rattle.sequence_data.specs.Data.{SideData}
-use Rattle.zero_sum_lp.proofs.FormSystems.{inside_read, system_read}
+use Rattle.zero_sum_lp.proofs.FormSystemLemmas.{inside_read, system_read}
 use Rattle.zero_sum_lp.proofs.form_program.system_of_form.Goals as goal
 
 pub dense-requires-clause-inside : goal.dense-requires-clause-inside

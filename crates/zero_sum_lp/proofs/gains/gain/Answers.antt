@@ -1,4 +1,4 @@
-use Rattle.zero_sum_lp.proofs.ProgramSteps.{product_unfit, difference_unfit}
+use Rattle.zero_sum_lp.proofs.ProgramStepLemmas.{product_unfit, difference_unfit}
 use Rattle.zero_sum_lp.proofs.gains.gain.Goals as goal
 
 pub returns-in-Err-clause-unfit : goal.returns-in-Err-clause-unfit

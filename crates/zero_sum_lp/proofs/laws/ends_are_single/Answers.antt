@@ -1,4 +1,4 @@
-use Rattle.zero_sum_lp.proofs.PathEnds.{ends_same}
+use Rattle.zero_sum_lp.proofs.PathEndLemmas.{ends_same}
 use Rattle.zero_sum_lp.proofs.laws.ends_are_single.Goals as goal
 
 pub returns : goal.returns

@@ -1,4 +1,4 @@
-use Rattle.zero_sum_lp.proofs.PlanAnswers.{plans_single}
+use Rattle.zero_sum_lp.proofs.PlanAnswerLemmas.{plans_single}
 use Rattle.zero_sum_lp.proofs.laws.plans_are_single.Goals as goal
 
 pub returns : goal.returns

@@ -1,9 +1,9 @@
 use Rattle.std.proofs.Common.{ℕ, arith, ◌<◌, ◌≡◌, length, subst, sym, ◌∙◌}
 use Rattle.rational.specs.Rational.{zero_ℚ, ◌≤ℚ◌}
 use Rattle.lex_tableau.specs.Rows.{Numbers, tableau}
-use Rattle.zero_sum_lp.proofs.Walking.{objective_in, width_kept, some_leaves, read_enters, read_leaves, read_end, under_way_next, under_way_less, measure_falls, is_unfit}
+use Rattle.zero_sum_lp.proofs.PathWalkLemmas.{objective_in, width_kept, some_leaves, read_enters, read_leaves, read_end, under_way_next, under_way_less, measure_falls, is_unfit}
 use Rattle.zero_sum_lp.proofs.path.follow.Goals as goal
-use Rattle.rational.proofs.Inverse.{ne_zero_of_pos}
+use Rattle.rational.proofs.InverseLemmas.{ne_zero_of_pos}
 
 pub entering-requires-clause-row_in : goal.entering-requires-clause-row_in
 entering-requires-clause-row_in g c =

@@ -2,7 +2,7 @@ use Rattle.std.proofs.Common.{arith, ◌∙◌}
 use Rattle.std.proofs.lemmas.Int.{ints, to_z-of_z}
 use Rattle.std.specs.Int.{w8}
 use Rattle.lex_tableau.specs.Rows.{tableau}
-use Rattle.zero_sum_lp.proofs.EnteringColumns.{below_by_sign, above_by_sign}
+use Rattle.zero_sum_lp.proofs.EnteringColumnLemmas.{below_by_sign, above_by_sign}
 use Rattle.zero_sum_lp.proofs.path.is_negative.Goals as goal
 
 pub returns-clause-negative : goal.returns-clause-negative

@@ -3,7 +3,7 @@ use Rattle.sequence_data.specs.declared.types.SetRow.{SetRow}
 use Rattle.sequence_data.specs.Data.{side_of}
 use Rattle.sequence_data.specs.Weights.{weight}
 use Rattle.zero_sum_lp.specs.PlanSteps.{IsRaisedTo}
-use Rattle.zero_sum_lp.proofs.PlanLists.{set_read, set_in, raised_from, raised_read, unfit_raise_from, unfit_raise_read}
+use Rattle.zero_sum_lp.proofs.PlanListLemmas.{set_read, set_in, raised_from, raised_read, unfit_raise_from, unfit_raise_read}
 use Rattle.zero_sum_lp.proofs.raising.raise.Goals as goal
 
 pub raise_set-requires-clause-before_in : goal.raise_set-requires-clause-before_in

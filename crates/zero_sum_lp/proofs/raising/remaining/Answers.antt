@@ -2,7 +2,7 @@ use Rattle.std.proofs.Common.{◌+◌}
 use Rattle.std.proofs.lemmas.List.Elements.{All-nil}
 use Rattle.pure_payoffs.specs.Steps.{StepFits}
 use Rattle.sequence_data.specs.Weights.{weight}
-use Rattle.zero_sum_lp.proofs.PlanLists.{rest_begins, rest_next, rest_fits, rest_fails}
+use Rattle.zero_sum_lp.proofs.PlanListLemmas.{rest_begins, rest_next, rest_fits, rest_fails}
 use Rattle.zero_sum_lp.proofs.raising.remaining.Goals as goal
 
 pub loop-action-init : goal.loop-action-init

@@ -1,7 +1,7 @@
 use Rattle.std.proofs.Common.{subst₂, arith}
 use Rattle.sequence_data.specs.declared.types.Leaf.{Leaf}
 use Rattle.zero_sum_lp.specs.FormPrograms.{AreFirstApart}
-use Rattle.zero_sum_lp.proofs.ProgramSteps.{same_next, all_same, first_apart, differ_by_test, same_by_test}
+use Rattle.zero_sum_lp.proofs.ProgramStepLemmas.{same_next, all_same, first_apart, differ_by_test, same_by_test}
 use Rattle.zero_sum_lp.proofs.sums.test_constant.Goals as goal
 
 pub returns-then-ne : goal.returns-then-ne

@@ -1,6 +1,6 @@
 use Rattle.std.proofs.Common.{◌∙◌, sym}
 use Rattle.sequence_data.specs.Data.{side_of}
-use Rattle.zero_sum_lp.proofs.Systems.{objective_elsewhere}
+use Rattle.zero_sum_lp.proofs.SystemLemmas.{objective_elsewhere}
 use Rattle.zero_sum_lp.proofs.system.objective_entry.Goals as goal
 
 pub returns-else-col-sequences : goal.returns-else-col-sequences

@@ -4,8 +4,8 @@ use Rattle.sequence_data.specs.declared.types.SetRow.{SetRow}
 use Rattle.sequence_forms.specs.Sides.{sequences}
 use Rattle.zero_sum_lp.specs.Programs.{columns_of, constraints}
 use Rattle.zero_sum_lp.specs.Systems.{gain_of, IsSystemFor}
-use Rattle.zero_sum_lp.proofs.Optima.{sets_are}
-use Rattle.zero_sum_lp.proofs.Systems.{system_for}
+use Rattle.zero_sum_lp.proofs.OptimumLemmas.{sets_are}
+use Rattle.zero_sum_lp.proofs.SystemLemmas.{system_for}
 use Rattle.zero_sum_lp.proofs.system.system.Goals as goal
 
 pub returns : goal.returns

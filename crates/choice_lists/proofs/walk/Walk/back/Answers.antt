@@ -4,7 +4,7 @@ use Rattle.std.proofs.lemmas.Option.{slice_get-get_or}
 use Rattle.std.proofs.lemmas.Grind.{get_or_default_zero}
 use Rattle.choice_lists.specs.declared.decision.Decision.{Decision}
 use Rattle.choice_lists.specs.Ends.{later_ends}
-use Rattle.choice_lists.proofs.WalkSteps.{walk-further_next, walk-unfixes, last-within, last-none, later_ends-none, choice-within}
+use Rattle.choice_lists.proofs.WalkStepLemmas.{walk-further_next, walk-unfixes, last-within, last-none, later_ends-none, choice-within}
 use Rattle.choice_lists.proofs.walk.Walk.back.Goals as goal
 
 -- a decision where there is none

@@ -1,6 +1,6 @@
 use Rattle.std.proofs.Common.{refl, length, ap, ◌∙◌, false}
 use Rattle.std.proofs.lemmas.List.{length-replicate}
-use Rattle.choice_lists.proofs.WalkSteps.{walk-starts}
+use Rattle.choice_lists.proofs.WalkStepLemmas.{walk-starts}
 use Rattle.choice_lists.proofs.walk.Walk.new.Goals as goal
 
 pub returns : goal.returns

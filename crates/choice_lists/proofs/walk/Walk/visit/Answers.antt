@@ -3,7 +3,7 @@ use Rattle.std.proofs.lemmas.Option.{slice_get-get_or}
 use Rattle.std.proofs.lemmas.Grind.{get_or_default_zero}
 use Rattle.choice_lists.specs.declared.decision.Decision.{Decision}
 use Rattle.choice_lists.specs.Ends.{ComesTo}
-use Rattle.choice_lists.proofs.WalkSteps.{walk-passes, walk-branches, choice-within}
+use Rattle.choice_lists.proofs.WalkStepLemmas.{walk-passes, walk-branches, choice-within}
 use Rattle.choice_lists.proofs.walk.Walk.visit.Goals as goal
 use Rattle.choice_lists.proofs.walk.Walk.visit.Goals.{else-is_reached-via-then-is_reached+else-index-eq0, else-is_reached-via-else-is_reached}
 

@@ -3,7 +3,7 @@ use Rattle.written_trees.specs.Building.{passed}
 use Rattle.efg_reader.specs.PartialCodes.{PartialNodes}
 use Rattle.efg_reader.specs.States.{branchings_of, nodes_of, tree_of}
 use Rattle.tree_grammar.specs.TreeReading.{grown}
-use Rattle.efg_reader.proofs.Growing.{near_after, few_next, grown_is, room_for}
+use Rattle.efg_reader.proofs.OpenBranchLemmas.{near_after, few_next, grown_is, room_for}
 use Rattle.efg_reader.proofs.builder.Nodes.add.Goals as goal
 
 pub take_branch-requires : goal.take_branch-requires

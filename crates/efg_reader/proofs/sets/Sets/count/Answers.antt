@@ -1,6 +1,6 @@
 use Rattle.std.proofs.Common.{◌≡◌, Some, sym, ◌∙◌}
 use Rattle.std.specs.Prelude.{slice_get}
-use Rattle.efg_reader.proofs.Growing.{count_found, found_at}
+use Rattle.efg_reader.proofs.OpenBranchLemmas.{count_found, found_at}
 use Rattle.efg_reader.proofs.sets.Sets.count.Goals as goal
 
 pub returns-in-Some-get : goal.returns-in-Some-get

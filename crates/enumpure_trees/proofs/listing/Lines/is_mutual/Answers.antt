@@ -1,11 +1,11 @@
 use Rattle.std.proofs.Common.{◌≡◌, map, length, sym, ap, ◌∙◌, subst, arith}
 use Rattle.game_theory.specs.Profiles.{IsProfile, number_of}
-use Rattle.game_theory.proofs.ProfileNumbers.{number_of-below}
+use Rattle.game_theory.proofs.ProfileNumberLemmas.{number_of-below}
 use Rattle.game_core.specs.Table.{GameTable, strategy_counts}
 use Rattle.game_core.specs.Tree.{GameTree}
 use Rattle.enumpure.specs.Replies.{plays_best}
 use Rattle.reduced_form.specs.ReducedForm.{ReducedForm, IsReducedForm}
-use Rattle.enumpure_trees.proofs.FormSizes.{form-counts}
+use Rattle.enumpure_trees.proofs.FormSizeLemmas.{form-counts}
 use Rattle.enumpure_trees.proofs.listing.Lines.is_mutual.Goals as goal
 
 -- the strategies that the form's table has

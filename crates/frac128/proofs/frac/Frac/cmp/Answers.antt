@@ -1,6 +1,6 @@
 use Rattle.std.proofs.Common.{refl}
-use Rattle.frac128.proofs.Compared.{by_nums, by_products, short_product}
-use Rattle.frac128.proofs.Parts.{kept}
+use Rattle.frac128.proofs.ComparisonLemmas.{by_nums, by_products, short_product}
+use Rattle.frac128.proofs.PartLemmas.{kept}
 use Rattle.frac128.proofs.frac.Frac.cmp.Goals as goal
 
 pub returns-then-den-other_den : goal.returns-then-den-other_den

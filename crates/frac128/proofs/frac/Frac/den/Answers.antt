@@ -1,5 +1,5 @@
 use Rattle.rational.specs.Rational.{den_pos}
-use Rattle.frac128.proofs.Parts.{read_den, read_fits}
+use Rattle.frac128.proofs.PartLemmas.{read_den, read_fits}
 use Rattle.frac128.proofs.frac.Frac.den.Goals as goal
 
 pub returns-clause-value : goal.returns-clause-value

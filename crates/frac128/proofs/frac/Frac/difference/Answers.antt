@@ -1,4 +1,4 @@
-use Rattle.frac128.proofs.Differences.{difference_answer}
+use Rattle.frac128.proofs.DifferenceLemmas.{difference_answer}
 use Rattle.frac128.proofs.frac.Frac.difference.Goals as goal
 
 pub returns : goal.returns

@@ -1,5 +1,5 @@
 use Rattle.std.proofs.Common.{inl, inr}
-use Rattle.frac128.proofs.Reduced.{signed_lowest, sizes_wide, sizes_value}
+use Rattle.frac128.proofs.ReductionLemmas.{signed_lowest, sizes_wide, sizes_value}
 use Rattle.frac128.proofs.frac.Frac.from_sizes.Goals as goal
 use Rattle.frac128.proofs.frac.Frac.from_sizes.Goals.{then-top-ge-LIMIT-via-then-top-ge-LIMIT, then-top-ge-LIMIT-via-else-top-ge-LIMIT+then-bottom-ge-LIMIT}
 

@@ -1,4 +1,4 @@
-use Rattle.frac128.proofs.Parts.{zero_test}
+use Rattle.frac128.proofs.PartLemmas.{zero_test}
 use Rattle.frac128.proofs.frac.Frac.is_zero.Goals as goal
 
 pub returns : goal.returns

@@ -1,7 +1,7 @@
-use Rattle.frac128.proofs.Parts.{den_size}
-use Rattle.frac128.proofs.Quotients.{gcd-one}
-use Rattle.frac128.proofs.SumSizes.{sum_answer, sum_refused}
-use Rattle.frac128.proofs.LikeSums.{like_summands, like_tops, like_refused}
+use Rattle.frac128.proofs.PartLemmas.{den_size}
+use Rattle.frac128.proofs.QuotientLemmas.{gcd-one}
+use Rattle.frac128.proofs.SumSizeLemmas.{sum_answer, sum_refused}
+use Rattle.frac128.proofs.LikeSumLemmas.{like_summands, like_tops, like_refused}
 use Rattle.frac128.proofs.frac.Frac.like_sum.Goals as goal
 
 pub returns-in_err-top : goal.returns-in_err-top

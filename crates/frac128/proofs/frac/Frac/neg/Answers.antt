@@ -1,4 +1,4 @@
-use Rattle.frac128.proofs.Parts.{neg_value}
+use Rattle.frac128.proofs.PartLemmas.{neg_value}
 use Rattle.frac128.proofs.frac.Frac.neg.Goals as goal
 
 pub returns : goal.returns

@@ -1,4 +1,4 @@
-use Rattle.frac128.proofs.Parts.{read_num, read_fits}
+use Rattle.frac128.proofs.PartLemmas.{read_num, read_fits}
 use Rattle.frac128.proofs.frac.Frac.num.Goals as goal
 
 pub returns-clause-value : goal.returns-clause-value

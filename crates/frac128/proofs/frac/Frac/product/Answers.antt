@@ -1,4 +1,4 @@
-use Rattle.frac128.proofs.SignedParts.{product_answer}
+use Rattle.frac128.proofs.SignedPartLemmas.{product_answer}
 use Rattle.frac128.proofs.frac.Frac.product.Goals as goal
 
 pub returns : goal.returns

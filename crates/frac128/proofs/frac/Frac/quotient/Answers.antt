@@ -1,4 +1,4 @@
-use Rattle.frac128.proofs.SignedParts.{quotient_answer, divisor_size_pos, divisor_lowest}
+use Rattle.frac128.proofs.SignedPartLemmas.{quotient_answer, divisor_size_pos, divisor_lowest}
 use Rattle.frac128.proofs.frac.Frac.quotient.Goals as goal
 
 pub product_of-requires-clause-right_positive : goal.product_of-requires-clause-right_positive

@@ -1,4 +1,4 @@
-use Rattle.frac128.proofs.Reduced.{common_pos, lowered_pos, lowered_lowest, lowered_value, answer_at}
+use Rattle.frac128.proofs.ReductionLemmas.{common_pos, lowered_pos, lowered_lowest, lowered_value, answer_at}
 use Rattle.rational.specs.Rational.{frac}
 use Rattle.frac128.specs.Fraction.{with_sign}
 use Rattle.frac128.proofs.frac.Frac.reduced.Goals as goal

@@ -1,5 +1,5 @@
-use Rattle.frac128.proofs.Parts.{zero_read}
-use Rattle.frac128.proofs.LikeSums.{left_zero, right_zero}
+use Rattle.frac128.proofs.PartLemmas.{zero_read}
+use Rattle.frac128.proofs.LikeSumLemmas.{left_zero, right_zero}
 use Rattle.frac128.proofs.frac.Frac.sum.Goals as goal
 
 pub returns-then-num-eq0 : goal.returns-then-num-eq0

@@ -1,8 +1,8 @@
 use Rattle.std.proofs.Common.{ap, ◌∙◌, nat_abs}
 use Rattle.rational.specs.Gcd.{gcd}
-use Rattle.frac128.proofs.Parts.{den_size, size_positive}
-use Rattle.frac128.proofs.Reduced.{common_pos}
-use Rattle.frac128.proofs.SumSizes.{summands_common_positive, own_positive, others_positive, other_den_in_range, own_apart, others_apart, kept_top, left_refused, right_refused, top_refused, sum_refused, sum_answer}
+use Rattle.frac128.proofs.PartLemmas.{den_size, size_positive}
+use Rattle.frac128.proofs.ReductionLemmas.{common_pos}
+use Rattle.frac128.proofs.SumSizeLemmas.{summands_common_positive, own_positive, others_positive, other_den_in_range, own_apart, others_apart, kept_top, left_refused, right_refused, top_refused, sum_refused, sum_answer}
 use Rattle.frac128.proofs.frac.Frac.unlike_sum.Goals as goal
 
 pub divided-own-requires : goal.divided-own-requires

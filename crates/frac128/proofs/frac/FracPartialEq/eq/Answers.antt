@@ -1,4 +1,4 @@
-use Rattle.frac128.proofs.Compared.{den_test}
+use Rattle.frac128.proofs.ComparisonLemmas.{den_test}
 use Rattle.frac128.proofs.frac.FracPartialEq.eq.Goals as goal
 
 pub returns-then-num-clause-same : goal.returns-then-num-clause-same

@@ -1,6 +1,6 @@
 use Rattle.std.proofs.Common.{◌<◌, ◌+◌, ◌*◌, ◌∙◌, ap, length, map, arith}
 use Rattle.game_theory.specs.Profiles.{number_of}
-use Rattle.game_core.proofs.Numbers.{payoff_at}
+use Rattle.game_core.proofs.NumberLemmas.{payoff_at}
 use Rattle.game_core.proofs.table.Table.payoff.Goals as goal
 
 -- the payoff's place is below the number of payoffs

@@ -1,7 +1,7 @@
 use Rattle.std.proofs.Common.{◌≤◌, length, map, sym, subst}
 use Rattle.game_theory.specs.Profiles.{profile_count}
 use Rattle.game_core.specs.Table.{most_payoffs}
-use Rattle.game_core.proofs.TableCounts.{profile_count-table}
+use Rattle.game_core.proofs.TableCountLemmas.{profile_count-table}
 use Rattle.game_core.proofs.table.Table.profile_number.Goals as goal
 
 pub profile_number-requires-clause-few : goal.profile_number-requires-clause-few

@@ -1,5 +1,5 @@
 use Rattle.std.proofs.Common.{◌≡◌, length, arith}
-use Rattle.game_core.proofs.PlayersSets.{owners_within}
+use Rattle.game_core.proofs.PlayerSetLemmas.{owners_within}
 use Rattle.game_core.proofs.tree.Tree.new.Goals as goal
 
 pub own_lists-requires-clause-owners : goal.own_lists-requires-clause-owners

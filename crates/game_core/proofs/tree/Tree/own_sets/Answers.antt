@@ -2,7 +2,7 @@ use Rattle.std.proofs.Common.{◌≡◌, ◌≤◌, refl, ap, sym, arith, length
 use Rattle.std.proofs.lemmas.List.{length-map}
 use Rattle.std.proofs.lemmas.Option.{slice_get_past, slice_get_read}
 use Rattle.game_core.specs.Tree.{own_from}
-use Rattle.game_core.proofs.PlayersSets.{own_from-nobody, own_list, owners_within}
+use Rattle.game_core.proofs.PlayerSetLemmas.{own_from-nobody, own_list, owners_within}
 use Rattle.game_core.proofs.tree.Tree.own_sets.Goals as goal
 use Rattle.game_core.proofs.tree.Tree.own_sets.Goals.{In_ok-list}
 

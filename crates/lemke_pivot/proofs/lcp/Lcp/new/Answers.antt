@@ -1,4 +1,4 @@
-use Rattle.lemke_pivot.proofs.Solve.{starts_for}
+use Rattle.lemke_pivot.proofs.PathStartLemmas.{starts_for}
 use Rattle.lemke_pivot.proofs.lcp.Lcp.new.Goals as goal
 
 pub invariant_of-result : goal.invariant_of-result

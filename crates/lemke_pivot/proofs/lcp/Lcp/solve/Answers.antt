@@ -4,7 +4,7 @@ use Rattle.sequence_data.specs.Data.{side_of}
 use Rattle.lemke_pivot.specs.Parts.{Problem, IsLeastRow, problem_size}
 use Rattle.lemke_pivot.specs.Paths.{IsPathStart, EndsSolved, EndsUnfit}
 use Rattle.lemke_pivot.specs.Ends.{IsSolutionOf, IsUnfitPivot}
-use Rattle.lemke_pivot.proofs.Solve.{path_start}
+use Rattle.lemke_pivot.proofs.PathStartLemmas.{path_start}
 use Rattle.lemke_pivot.proofs.lcp.Lcp.solve.Goals as goal
 
 pub walk-requires : goal.walk-requires

@@ -1,6 +1,6 @@
 use Rattle.std.proofs.Common.{◌≡◌, subst, arith}
 use Rattle.lemke_pivot.specs.Parts.{plan_one}
-use Rattle.lemke_pivot.proofs.Solve.{read_value}
+use Rattle.lemke_pivot.proofs.PathStartLemmas.{read_value}
 use Rattle.lemke_pivot.proofs.lcp.Solution.one.Goals as goal
 
 pub returns : goal.returns

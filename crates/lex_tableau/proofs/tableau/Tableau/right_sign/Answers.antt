@@ -1,4 +1,4 @@
-use Rattle.lex_tableau.proofs.TableauPivot.{numbers_fit_read}
+use Rattle.lex_tableau.proofs.TableauPivotLemmas.{numbers_fit_read}
 use Rattle.lex_tableau.proofs.tableau.Tableau.right_sign.Goals as goal
 
 pub sign_at-requires-clause-fit : goal.sign_at-requires-clause-fit

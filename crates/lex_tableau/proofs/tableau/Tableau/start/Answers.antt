@@ -3,7 +3,7 @@ use Rattle.whole_rows.specs.Rows.{from_place}
 use Rattle.lex_tableau.specs.Rows.{IsTableau}
 use Rattle.whole_rows.specs.StartRows.{IsStartRow, cells_from}
 use Rattle.lex_tableau.specs.Starts.{Parts, IsStartOf}
-use Rattle.lex_tableau.proofs.Starts.{start_rows, start_shape, take_all, start_is_tableau, start_is, start_copied}
+use Rattle.lex_tableau.proofs.StartLemmas.{start_rows, start_shape, take_all, start_is_tableau, start_is, start_copied}
 use Rattle.lex_tableau.proofs.tableau.Tableau.start.Goals as goal
 
 pub invariant_of-result : goal.invariant_of-result

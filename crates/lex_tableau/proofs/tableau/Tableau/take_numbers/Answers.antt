@@ -3,7 +3,7 @@ use Rattle.rational.specs.Rational.{zero_ℚ}
 use Rattle.whole_rows.specs.Rows.{from_place}
 use Rattle.lex_tableau.specs.Rows.{Numbers, row_of, tableau, IsTableau, IsPivotOf}
 use Rattle.whole_rows.specs.PivotedRows.{IsPivotedRow, IsPivotRow}
-use Rattle.lex_tableau.proofs.TableauPivot.{solutions_kept, keys_kept, pivot_is_tableau, is_pivot, exchanged_read, rated_in}
+use Rattle.lex_tableau.proofs.TableauPivotLemmas.{solutions_kept, keys_kept, pivot_is_tableau, is_pivot, exchanged_read, rated_in}
 use Rattle.lex_tableau.proofs.tableau.Tableau.take_numbers.Goals as goal
 
 pub invariant_of-self : goal.invariant_of-self

@@ -1,6 +1,6 @@
 use Rattle.std.proofs.Common.{◌∙◌, ap, subst}
 use Rattle.lex_tableau.specs.Rows.{Numbers, IsTableau}
-use Rattle.lex_tableau.proofs.TableauPivot.{solutions_kept, keys_kept, copied_pivot}
+use Rattle.lex_tableau.proofs.TableauPivotLemmas.{solutions_kept, keys_kept, copied_pivot}
 use Rattle.lex_tableau.proofs.tableau.Tableau.with_numbers.Goals as goal
 
 pub invariant_of-result : goal.invariant_of-result

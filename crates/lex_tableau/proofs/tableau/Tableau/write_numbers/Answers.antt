@@ -4,7 +4,7 @@ use Rattle.rational.specs.Rational.{zero_ℚ}
 use Rattle.whole_rows.specs.Rows.{from_place}
 use Rattle.lex_tableau.specs.Rows.{Numbers, row_of, tableau}
 use Rattle.whole_rows.specs.PivotedRows.{IsPivotedRow, IsPivotRow}
-use Rattle.lex_tableau.proofs.TableauPivot.{rated_in, entry_read, numbers_fit_read, row_told, others_told}
+use Rattle.lex_tableau.proofs.TableauPivotLemmas.{rated_in, entry_read, numbers_fit_read, row_told, others_told}
 use Rattle.lex_tableau.proofs.tableau.Tableau.write_numbers.Goals as goal
 
 pub write_pivot-requires-clause-entry : goal.write_pivot-requires-clause-entry

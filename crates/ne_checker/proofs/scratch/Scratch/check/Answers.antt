@@ -9,7 +9,7 @@ use Rattle.ne_checker.specs.TreeSteps.{player_steps}
 use Rattle.game_core.specs.TreeGame.{game_of_tree}
 use Rattle.game_theory.specs.Children.{AreChildren}
 use Rattle.ne_checker.specs.TreeStarts.{AreStarts}
-use Rattle.ne_checker.proofs.TreeStartSteps.{starts-within, starts-read}
+use Rattle.ne_checker.proofs.TreeStartStepLemmas.{starts-within, starts-read}
 use Rattle.ne_checker.proofs.scratch.Scratch.check.Goals as goal
 
 pub check_player-requires-clause-board : goal.check_player-requires-clause-board

@@ -1,9 +1,9 @@
 use Rattle.std.proofs.Common.{◌≡◌, ◌∙◌, ◌<◌, refl, sym, arith}
 use Rattle.std.proofs.lemmas.Result.{err_from_is_err_and}
-use Rattle.pure_payoffs.proofs.BranchSteps.{skipped-gives, child-refused, product-refused, product-added, branch-more, branch-refused}
-use Rattle.pure_payoffs.proofs.Places.{child-found}
+use Rattle.pure_payoffs.proofs.BranchStepLemmas.{skipped-gives, child-refused, product-refused, product-added, branch-more, branch-refused}
+use Rattle.pure_payoffs.proofs.PlaceLemmas.{child-found}
 use Rattle.ne_checker.specs.TreeBoards.{game_of}
-use Rattle.ne_checker.proofs.TreeNowSteps.{now-end, now-refused, now-added}
+use Rattle.ne_checker.proofs.TreeNowStepLemmas.{now-end, now-refused, now-added}
 use Rattle.ne_checker.proofs.trees_board.Board.+values.Goals as goal
 
 pub with_branch-returns-then-is_zero : goal.with_branch-returns-then-is_zero

@@ -1,7 +1,7 @@
 use Rattle.std.proofs.Common.{◌≡◌, ◌<◌, ◌∙◌, ap, sym, subst, arith}
 use Rattle.game_theory.specs.Behaviour.{action_probability}
 use Rattle.ne_checker.specs.TreeBoards.{game_of}
-use Rattle.ne_checker.proofs.TreeWeightSteps.{weight-kept, weight-more, weight-read}
+use Rattle.ne_checker.proofs.TreeWeightStepLemmas.{weight-kept, weight-more, weight-read}
 use Rattle.ne_checker.proofs.trees_board.Board.next_weight.Goals as goal
 
 pub returns-in_default : goal.returns-in_default

@@ -1,7 +1,7 @@
 use Rattle.std.proofs.Common.{◌≡◌, ◌∙◌, ◌+◌, ◌<◌, Some, sym, get_or, length, arith}
 use Rattle.std.proofs.lemmas.List.{get_or_default}
 use Rattle.rational.specs.Rational.{zero_ℚ}
-use Rattle.best_replies.proofs.Weights.{action-own}
+use Rattle.best_replies.proofs.WeightLemmas.{action-own}
 use Rattle.ne_checker.specs.TreeBoards.{game_of}
 use Rattle.ne_checker.proofs.trees_board.Board.probability.Goals as goal
 

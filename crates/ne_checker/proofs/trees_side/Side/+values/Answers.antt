@@ -2,11 +2,11 @@ use Rattle.std.proofs.Common.{◌≡◌, ◌∙◌, ◌<◌, sym, arith}
 use Rattle.std.proofs.lemmas.List.{get_or_default}
 use Rattle.std.proofs.lemmas.Result.{err_from_is_err_and}
 use Rattle.rational.specs.Rational.{zero_ℚ}
-use Rattle.pure_payoffs.proofs.Places.{child-found}
+use Rattle.pure_payoffs.proofs.PlaceLemmas.{child-found}
 use Rattle.ne_checker.specs.TreeSides.{game_at}
-use Rattle.ne_checker.proofs.TreeReplySteps.{own-gives, other-gives, reply-after_refused, reply-product_refused, reply-added}
-use Rattle.ne_checker.proofs.TreeSideParts.{own_sets-child, chosen-within, chosen-known}
-use Rattle.ne_checker.proofs.TreeSums.{sum-more, number-refused, addition-refused}
+use Rattle.ne_checker.proofs.TreeReplyStepLemmas.{own-gives, other-gives, reply-after_refused, reply-product_refused, reply-added}
+use Rattle.ne_checker.proofs.TreeSidePartLemmas.{own_sets-child, chosen-within, chosen-known}
+use Rattle.ne_checker.proofs.TreeSumLemmas.{sum-more, number-refused, addition-refused}
 use Rattle.ne_checker.proofs.trees_side.Side.+values.Goals as goal
 
 pub children_sum-value-requires : goal.children_sum-value-requires

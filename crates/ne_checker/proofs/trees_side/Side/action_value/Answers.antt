@@ -1,11 +1,11 @@
 use Rattle.std.proofs.Common.{◌≡◌, ◌∙◌, ◌<◌, ap, subst, get_or, length, arith}
 use Rattle.std.proofs.lemmas.List.{length-set, length-map}
 use Rattle.std.proofs.lemmas.Result.{err_from_is_err_and}
-use Rattle.pure_payoffs.proofs.Places.{child-read, child-found}
-use Rattle.perfect_recall.proofs.Members.{AreMembers}
+use Rattle.pure_payoffs.proofs.PlaceLemmas.{child-read, child-found}
+use Rattle.perfect_recall.proofs.MemberLemmas.{AreMembers}
 use Rattle.ne_checker.specs.TreeSides.{game_at}
-use Rattle.ne_checker.proofs.TreeMembers.{decided-fewer, later-sets, listed-are, listed-at, listed-child, summed-more, summed-all}
-use Rattle.ne_checker.proofs.TreeSums.{number-refused, addition-refused}
+use Rattle.ne_checker.proofs.TreeMemberLemmas.{decided-fewer, later-sets, listed-are, listed-at, listed-child, summed-more, summed-all}
+use Rattle.ne_checker.proofs.TreeSumLemmas.{number-refused, addition-refused}
 use Rattle.ne_checker.proofs.trees_side.Side.action_value.Goals as goal
 
 pub bounds-self-member : goal.bounds-self-member

@@ -1,7 +1,7 @@
 use Rattle.std.proofs.Common.{◌≡◌, ℕ, suc, length}
 use Rattle.game_theory.specs.Behaviour.{Behaviour}
 use Rattle.ne_checker.specs.TreeSides.{AreDecided, game_at}
-use Rattle.ne_checker.proofs.TreeMembers.{AreSummed}
+use Rattle.ne_checker.proofs.TreeMemberLemmas.{AreSummed}
 use Rattle.ne_checker.proofs.trees_side.Side.action_value.Given as goal
 
 -- the action's values at the members so far are known, and the sum is over these

@@ -1,9 +1,9 @@
 use Rattle.std.proofs.Common.{◌≡◌, ◌<◌, sym, subst, arith}
 use Rattle.std.proofs.lemmas.Result.{err_from_is_err_and}
-use Rattle.strategy_lists.proofs.ActionCounts.{actions-below}
+use Rattle.strategy_lists.proofs.ActionCountLemmas.{actions-below}
 use Rattle.ne_checker.specs.TreeSides.{game_at}
-use Rattle.ne_checker.proofs.TreeDecisions.{weighed-greater, weighed-other, weighed-all}
-use Rattle.ne_checker.proofs.TreeParts.{part-refused}
+use Rattle.ne_checker.proofs.TreeDecisionLemmas.{weighed-greater, weighed-other, weighed-all}
+use Rattle.ne_checker.proofs.TreePartLemmas.{part-refused}
 use Rattle.ne_checker.proofs.trees_side.Side.decide.Goals as goal
 use Rattle.ne_checker.proofs.trees_side.Side.decide.Goals.{then-is_greater, else-is_greater}
 

@@ -1,7 +1,7 @@
 use Rattle.std.proofs.Common.{◌≡◌, ◌<◌, ℕ, suc, length}
 use Rattle.game_theory.specs.Behaviour.{Behaviour}
 use Rattle.ne_checker.specs.TreeSides.{AreDecided, game_at}
-use Rattle.ne_checker.proofs.TreeDecisions.{AreWeighed}
+use Rattle.ne_checker.proofs.TreeDecisionLemmas.{AreWeighed}
 use Rattle.ne_checker.proofs.trees_side.Side.decide.Given as goal
 
 -- the actions so far are weighed

@@ -1,6 +1,6 @@
 use Rattle.std.proofs.Common.{◌≡◌, ◌-◌, subst, suc, arith}
 use Rattle.std.proofs.lemmas.Result.{err_from_is_err_and}
-use Rattle.ne_checker.proofs.TreeOwnSets.{AreAllDecided, all-done, all-own, all-other, decision-refused}
+use Rattle.ne_checker.proofs.TreeOwnSetLemmas.{AreAllDecided, all-done, all-own, all-other, decision-refused}
 use Rattle.ne_checker.proofs.trees_side.Side.decide_all.Goals as goal
 
 pub loop-set-preserved : goal.loop-set-preserved

@@ -1,7 +1,7 @@
 use Rattle.std.proofs.Common.{◌≡◌, ℕ, length}
 use Rattle.game_theory.specs.Behaviour.{Behaviour}
 use Rattle.ne_checker.specs.TreeSides.{AreChoices, AreDecided, game_at}
-use Rattle.ne_checker.proofs.TreeOwnSets.{AreAllDecided}
+use Rattle.ne_checker.proofs.TreeOwnSetLemmas.{AreAllDecided}
 use Rattle.ne_checker.proofs.trees_side.Side.decide_all.Given as goal
 
 -- the own sets from here on are decided

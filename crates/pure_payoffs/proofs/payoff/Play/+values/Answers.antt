@@ -1,10 +1,10 @@
 use Rattle.std.proofs.Common.{Ok, Err, ℕ, ◌≡◌, ◌∙◌, ◌<◌, ap, refl, get_or, length, arith}
 use Rattle.std.proofs.lemmas.Result.{err_from_is_err_and}
 use Rattle.pure_payoffs.specs.Plays.{choice_of, game_of}
-use Rattle.pure_payoffs.proofs.BranchSteps.{skipped-gives, child-refused, product-refused, product-added, branch-more, branch-refused}
-use Rattle.pure_payoffs.proofs.NodeValues.{owned-gives, end-gives, following-refused, node-added}
-use Rattle.pure_payoffs.proofs.Places.{child-read, child-found, play-chooses}
-use Rattle.pure_payoffs.proofs.TreeParts.{set-read, pays-read, count-read, prob-read, owner-read}
+use Rattle.pure_payoffs.proofs.BranchStepLemmas.{skipped-gives, child-refused, product-refused, product-added, branch-more, branch-refused}
+use Rattle.pure_payoffs.proofs.NodeValueLemmas.{owned-gives, end-gives, following-refused, node-added}
+use Rattle.pure_payoffs.proofs.PlaceLemmas.{child-read, child-found, play-chooses}
+use Rattle.pure_payoffs.proofs.TreePartLemmas.{set-read, pays-read, count-read, prob-read, owner-read}
 use Rattle.pure_payoffs.proofs.payoff.Play.+values.Goals as goal
 use Rattle.pure_payoffs.proofs.payoff.Play.+values.Goals.{value_after-After-index-self-node, chance_value-After-index-actions-action}
 

@@ -1,7 +1,7 @@
 use Rattle.std.proofs.Common.{◌-◌, ◌≡◌, ◌∙◌, ◌<◌, [], sym, ap, map, get_or, length, arith}
 use Rattle.std.proofs.lemmas.List.{length-map, get_or-map, get_or_default}
 use Rattle.reduced_strategies.specs.StrategicForm.{list_of}
-use Rattle.pure_payoffs.proofs.Places.{owner-plays, owner-strategies, strategy-within, place-within, completed-read, strategy-read}
+use Rattle.pure_payoffs.proofs.PlaceLemmas.{owner-plays, owner-strategies, strategy-within, place-within, completed-read, strategy-read}
 use Rattle.pure_payoffs.proofs.payoff.Play.action_at.Goals as goal
 use Rattle.pure_payoffs.proofs.payoff.Play.action_at.Goals.{After-index-self-owner, After-index-strategy}
 

@@ -1,7 +1,7 @@
 use Rattle.std.proofs.Common.{◌<◌, Some, length, refl, arith}
 use Rattle.std.proofs.lemmas.List.{length-map}
-use Rattle.pure_payoffs.proofs.SettledNodes.{Settles-from_one}
-use Rattle.pure_payoffs.proofs.SettledPlaces.{place-read, place-written}
+use Rattle.pure_payoffs.proofs.SettledNodeLemmas.{Settles-from_one}
+use Rattle.pure_payoffs.proofs.SettledPlaceLemmas.{place-read, place-written}
 use Rattle.pure_payoffs.proofs.settled.Settled.keep.Goals as goal
 
 pub returns-then-player-len : goal.returns-then-player-len

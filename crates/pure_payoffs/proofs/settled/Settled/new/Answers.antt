@@ -1,7 +1,7 @@
 use Rattle.std.proofs.Common.{◌≡◌, ◌<◌, ◌∙◌, [], None, false, true, length, get_or, sym, ap, subst, arith}
 use Rattle.game_core.specs.TreeGame.{game_of_tree}
 use Rattle.pure_payoffs.specs.Settled.{IsPlace}
-use Rattle.pure_payoffs.proofs.SettledPlaces.{free-place, places-pushed}
+use Rattle.pure_payoffs.proofs.SettledPlaceLemmas.{free-place, places-pushed}
 use Rattle.pure_payoffs.proofs.settled.Settled.new.Goals as goal
 use Rattle.pure_payoffs.proofs.settled.Settled.new.Goals.{then-players-room+then-is_topmost+in_ok-of_players, else-players-room}
 

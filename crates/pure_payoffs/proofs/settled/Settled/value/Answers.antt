@@ -2,7 +2,7 @@ use Rattle.std.proofs.Common.{◌<◌, None, length, get_or, ap, sym, subst, ◌
 use Rattle.std.proofs.lemmas.List.{length-map}
 use Rattle.std.specs.Prelude.{IfSome}
 use Rattle.pure_payoffs.specs.Settled.{Settles}
-use Rattle.pure_payoffs.proofs.SettledPlaces.{place-read}
+use Rattle.pure_payoffs.proofs.SettledPlaceLemmas.{place-read}
 use Rattle.pure_payoffs.proofs.settled.Settled.value.Goals as goal
 
 pub returns-in-Some : goal.returns-in-Some

@@ -3,7 +3,7 @@ use Rattle.std.proofs.lemmas.Result.{IfOk-weaker}
 use Rattle.game_core.specs.TreeGame.{game_of_tree}
 use Rattle.choice_lists.specs.Walks.{AreWalks}
 use Rattle.strategy_lists.specs.Decisions.{action_counts}
-use Rattle.strategy_lists.proofs.WalksAreStrategies.{walks-strategies}
+use Rattle.strategy_lists.proofs.WalkStrategyLemmas.{walks-strategies}
 use Rattle.strategy_lists.proofs.strategies.Decisions.list.Goals as goal
 
 pub returns : goal.returns

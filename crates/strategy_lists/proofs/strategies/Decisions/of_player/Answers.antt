@@ -1,6 +1,6 @@
 use Rattle.std.proofs.Common.{◌<◌, length, ap, arith}
 use Rattle.std.proofs.lemmas.List.{length-map}
-use Rattle.strategy_lists.proofs.PlayersDecisions.{list-at}
+use Rattle.strategy_lists.proofs.PlayerDecisionLemmas.{list-at}
 use Rattle.strategy_lists.proofs.strategies.Decisions.of_player.Goals as goal
 
 pub returns : goal.returns

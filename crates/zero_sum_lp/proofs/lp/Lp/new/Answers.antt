@@ -1,6 +1,6 @@
 use Rattle.std.proofs.Common.{◌∙◌, ap, List, length}
 use Rattle.sequence_data.specs.declared.types.SetRow.{SetRow}
-use Rattle.zero_sum_lp.proofs.Starting.{starts_for, shape_is}
+use Rattle.zero_sum_lp.proofs.SystemStartLemmas.{starts_for, shape_is}
 use Rattle.zero_sum_lp.proofs.lp.Lp.new.Goals as goal
 
 pub invariant_of-result : goal.invariant_of-result

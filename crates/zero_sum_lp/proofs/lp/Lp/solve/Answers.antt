@@ -1,4 +1,4 @@
-use Rattle.zero_sum_lp.proofs.Optima.{program_starts}
+use Rattle.zero_sum_lp.proofs.OptimumLemmas.{program_starts}
 use Rattle.zero_sum_lp.proofs.lp.Lp.solve.Goals as goal
 
 pub follow-requires-clause-start : goal.follow-requires-clause-start

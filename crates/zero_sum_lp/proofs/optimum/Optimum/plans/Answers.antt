@@ -1,6 +1,6 @@
 use Rattle.std.proofs.Common.{ap, inr, refl}
 use Rattle.zero_sum_lp.specs.Parts.{Program}
-use Rattle.zero_sum_lp.proofs.PlanReads.{first_plan, unfit_second}
+use Rattle.zero_sum_lp.proofs.PlanReadLemmas.{first_plan, unfit_second}
 use Rattle.zero_sum_lp.proofs.optimum.Optimum.plans.Goals as goal
 
 pub returns-in-Err-lessened : goal.returns-in-Err-lessened

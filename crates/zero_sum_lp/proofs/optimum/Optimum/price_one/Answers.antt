@@ -3,7 +3,7 @@ use Rattle.std.proofs.Common.{sym, ◌≤◌, ◌≡◌, ◌+◌, length, subst}
 use Rattle.zero_sum_lp.specs.Programs.{price_one as first_price}
 use Rattle.lex_tableau.specs.Rows.{tableau}
 use Rattle.zero_sum_lp.specs.Parts.{Program}
-use Rattle.zero_sum_lp.proofs.Optima.{read_row, read_width, read_distinct, read_other, first_price_is, few_sets}
+use Rattle.zero_sum_lp.proofs.OptimumLemmas.{read_row, read_width, read_distinct, read_other, first_price_is, few_sets}
 use Rattle.zero_sum_lp.proofs.optimum.Optimum.price_one.Goals as goal
 
 pub entry_at-requires-clause-row_in : goal.entry_at-requires-clause-row_in

@@ -4,7 +4,7 @@ use Rattle.sequence_data.specs.declared.types.SetRow.{SetRow}
 use Rattle.zero_sum_lp.specs.Programs.{price_two as second_price}
 use Rattle.lex_tableau.specs.Rows.{tableau}
 use Rattle.zero_sum_lp.specs.Parts.{Program}
-use Rattle.zero_sum_lp.proofs.Optima.{second_price_is, second_variable}
+use Rattle.zero_sum_lp.proofs.OptimumLemmas.{second_price_is, second_variable}
 use Rattle.zero_sum_lp.proofs.optimum.Optimum.price_two.Goals as goal
 
 pub returns : goal.returns

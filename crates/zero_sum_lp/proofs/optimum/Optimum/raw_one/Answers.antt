@@ -1,7 +1,7 @@
 use Rattle.zero_sum_lp.specs.Programs.{raw_one}
 use Rattle.lex_tableau.specs.Rows.{tableau}
 use Rattle.sequence_data.specs.Data.{side_of}
-use Rattle.zero_sum_lp.proofs.PlanReads.{weights_push, raw_one_is}
+use Rattle.zero_sum_lp.proofs.PlanReadLemmas.{weights_push, raw_one_is}
 use Rattle.zero_sum_lp.proofs.optimum.Optimum.raw_one.Goals as goal
 
 pub loop-q-preserved : goal.loop-q-preserved

@@ -3,8 +3,8 @@ use Rattle.sequence_data.specs.declared.types.SetRow.{SetRow}
 use Rattle.zero_sum_lp.specs.Programs.{raw_two}
 use Rattle.lex_tableau.specs.Rows.{tableau}
 use Rattle.sequence_data.specs.Data.{side_of}
-use Rattle.zero_sum_lp.proofs.Optima.{read_row, read_width, read_distinct, read_other}
-use Rattle.zero_sum_lp.proofs.PlanReads.{weights_push, raw_two_is, slack_variable}
+use Rattle.zero_sum_lp.proofs.OptimumLemmas.{read_row, read_width, read_distinct, read_other}
+use Rattle.zero_sum_lp.proofs.PlanReadLemmas.{weights_push, raw_two_is, slack_variable}
 use Rattle.zero_sum_lp.proofs.optimum.Optimum.raw_two.Goals as goal
 
 pub entry_at-requires-clause-row_in : goal.entry_at-requires-clause-row_in

@@ -1,0 +1,52 @@
+-- The pivots to the next level are determined by the levels so far
+use Rattle.std.proofs.Common.{ℕ, ◌≡◌, ◌<◌, sym, ap, ap₂, ◌∙◌, subst, ◌⊎◌, inl, inr, List, length, get_or, map}
+use Rattle.std.proofs.lemmas.Bool.{cases_order}
+use Rattle.std.specs.List.{Contains}
+use Rattle.std.proofs.lemmas.List.Elements.{Contains-get_or}
+use Rattle.linear_systems.proofs.LexRowLemmas.{lex_row_once}
+use Rattle.lex_tableau.specs.Ratio.{listed}
+use Rattle.lex_tableau.specs.Rows.{Numbers, tableau, IsTableau}
+use Rattle.basis_enum.specs.Levels.{Levels, Move, no_tableau, parent_of, entering, target, IsLexRowOf, IsMove, ComesBefore, AreNextMoves}
+use Rattle.basis_enum.proofs.AscendingNumberLemmas.{increasing_same, unmapped, told_by}
+
+move_same : (m k : Move) → m.parent ≡ k.parent → m.row ≡ k.row → m.column ≡ k.column → m ≡ k
+move_same m k p r c = ap₂ (λ x y. record { parent = x; row = y; column = m.column }) p r ∙ ap (λ x. record { parent = k.parent; row = k.row; column = x }) c
+
+-- the column and the row are told by the parent and the entering variable
+pub move_by : (level : List Numbers) (m k : Move) → ((t : Numbers) → Contains level t → IsTableau t) → IsMove level m → IsMove level k → m.parent ≡ k.parent → entering level m ≡ entering level k → m ≡ k
+move_by level m k valid hm hk p e = move_same m k p row column
+  where
+    parents : parent_of level m ≡ parent_of level k
+    parents = ap (λ i. get_or level i no_tableau) p
+
+    is_tableau : IsTableau (parent_of level k)
+    is_tableau = valid (parent_of level k) (Contains-get_or level k.parent no_tableau hk.parent)
+
+    column : m.column ≡ k.column
+    column = is_tableau.reached.reached.proper.nonbasic_once m.column k.column (subst (λ t. m.column < length t.nonbasics) parents hm.column) hk.column (ap (λ t. get_or t.nonbasics m.column 0) (sym parents) ∙ e)
+
+    row : m.row ≡ k.row
+    row =
+        lex_row_once (parent_of level k).rated (listed (parent_of level k).starts) (tableau (parent_of level k)) k.column m.row k.row
+        (subst (λ c. IsLexRowOf (parent_of level k) c m.row) column (subst (λ t. IsLexRowOf t m.column m.row) parents hm.row)) hk.row
+
+-- of two moves one comes first, or they are one
+order : (level : List Numbers) (m k : Move) → ComesBefore level m k ⊎ (((m.parent ≡ k.parent) × (entering level m ≡ entering level k)) ⊎ ComesBefore level k m)
+order level m k = elim (cases_order m.parent k.parent) [
+  | inr (inl l) ↦ inl (inl l)
+  | inr (inr l) ↦ inr (inr (inl l))
+  | inl p ↦ elim (cases_order (entering level m) (entering level k)) [ inr (inl l) ↦ inl (inr (p, l)) | inr (inr l) ↦ inr (inr (inr (sym p, l))) | inl e ↦ inr (inl (p, e)) ]
+]
+
+pub moves_once : (l : Levels) (ms ns : List Move) → ((t : Numbers) → Contains l.level t → IsTableau t) → AreNextMoves l ms → AreNextMoves l ns → ms ≡ ns
+moves_once l ms ns valid hm hn = told_by (target l.level) ms ns same (increasing_same _ _ hm.ascending hn.ascending (over ms ns hm hn) (over ns ms hn hm))
+  where
+    over : (ms ns : List Move) → AreNextMoves l ms → AreNextMoves l ns → (v : ℕ) → Contains (map (target l.level) ms) v → Contains (map (target l.level) ns) v
+    over ms ns hm hn v h = let z = unmapped (target l.level) v ms h in subst (λ v. Contains (map (target l.level) ns) v) z.2 (hn.all z.0 (hm.each z.0 z.1) (hm.new z.0 z.1))
+
+    same : (m k : Move) → Contains ms m → Contains ns k → target l.level m ≡ target l.level k → m ≡ k
+    same m k cm ck e = elim (order l.level m k) [
+      | inl b ↦ absurd (hn.first k m ck (hm.each m cm) e b)
+      | inr (inr b) ↦ absurd (hm.first m k cm (hn.each k ck) (sym e) b)
+      | inr (inl p) ↦ move_by l.level m k valid (hm.each m cm) (hn.each k ck) p.0 p.1
+    ]

@@ -1,0 +1,288 @@
+-- From level to level
+use Rattle.std.proofs.Common.{ℕ, suc, zero, ◌<◌, ◌≤◌, ◌≡◌, ◌+◌, refl, sym, ap, ap₂, ◌∙◌, subst, subst₂, arith, inl, inr, List, [], ◌∷◌, ◌++◌, length, get_or, map, append_assoc}
+use Rattle.std.specs.List.{Contains}
+use Rattle.std.specs.Prelude.{Option, option_to_list}
+use Rattle.std.specs.List.Sorted.{IsStrictlyIncreasing}
+use Rattle.std.proofs.lemmas.Grind.{same_number_lists}
+use Rattle.std.proofs.lemmas.List.{append-nil, length-append, length-map, map-append, get_or_default}
+use Rattle.std.proofs.lemmas.List.Elements.{Contains-append_left, Contains-append_right, Contains-append_cases, Contains-get_or}
+use Rattle.std.proofs.Math.ListN.{get_or-map}
+use Rattle.frac128.specs.declared.steps.Unfit.{Unfit}
+use Rattle.linear_systems.specs.Reached.{in_column}
+use Rattle.lex_tableau.specs.Rows.{Numbers}
+use Rattle.lex_tableau.specs.Starts.{Parts, IsSystem}
+use Rattle.basis_enum.specs.Bases.{basis_of, AreVariables}
+use Rattle.basis_enum.specs.Levels.{Levels, IsChild, IsLevel, IsMove, IsNextLevel, AreNextMoves, bases_of, most, no_tableau, parent_of}
+use Rattle.basis_enum.specs.Systems.{IsEnumerable, variable_count}
+use Rattle.basis_enum.specs.Ends.{complete, IsEnd, IsUnfitChild}
+use Rattle.basis_enum.proofs.CompleteLevelLaws.{Held, held_start, held_child, held_digits, level_held, pivoted_nonbasics}
+use Rattle.basis_enum.proofs.AscendingNumberLemmas.{unmapped}
+use Rattle.basis_enum.proofs.OneEndLaws.{level_few}
+use Rattle.basis_enum.specs.declared.moves.Move.{Move}
+use Rattle.basis_enum.specs.declared.stop.EnumStop.{EnumStop}
+use Rattle.basis_enum.specs.declared.stop.EnumStop.TheVariants as stops
+use Rattle.basis_enum.specs.declared.vertex.Vertex.{Vertex}
+use Rattle.basis_enum.specs.declared.walk.Walk.{Walk}
+use Rattle.basis_enum.specs.Children.{AreMoves, AreChildren, LeadToReady}
+use Rattle.basis_enum.specs.Enumeration.{AreVerticesOf, IsEnumStop}
+use Rattle.basis_enum.specs.Found.{AreFound, AreFoundIn, IsFoundIn, IsReady, AreReady, AreKnown}
+use Rattle.basis_enum.specs.Marks.{AreInOrder, AreMarksOf, AreUpTo, IsVertexOf}
+use Rattle.basis_enum.specs.Merged.{IsMerged}
+use Rattle.basis_enum.specs.Next.{AreNewMoves, move_of, no_move, target_of}
+use Rattle.basis_enum.specs.Vertices.{VertexList, mark_of, marks_of}
+use Rattle.basis_enum.specs.Walks.{levels_of, IsFirst, IsWalkAt, IsWalkToEnd, HaveEntering, IsMoveStop, IsLimitStop, IsUnfitMove, AddsMoreVertices, AddsVertices}
+use Rattle.basis_enum.proofs.LevelMoveLemmas.{basis_at, found_in_start, found_in_more, move_is, target_is_there, entering_is, next_are}
+use Rattle.basis_enum.proofs.NextLevelLemmas.{next_level}
+use Rattle.basis_enum.proofs.VertexMarkLemmas.{reached_numbered, no_marks, marks_more, are_vertices}
+
+-- ---- the tableaux of a level
+ready : (s : Parts) (t : Numbers) → IsEnumerable s → Held s t → IsReady t
+ready s t e h =
+    let few : length s.basics + length s.nonbasics ≤ 128 = e.few in
+    let rows : length t.basics ≡ length s.basics = h.reached.reached.rows in
+    let width : length t.nonbasics ≡ length s.nonbasics = h.reached.reached.width in
+    record {
+      is_tableau = h.is_tableau;
+      digits = held_digits s t e h;
+      whole = record { rated = h.rated ∙ sym rows; rows = omega arith; columns = omega arith };
+    }
+
+pub walk_held : (s : Parts) (k : ℕ) (w : Walk) → IsEnumerable s → IsWalkAt s k w → (i : ℕ) → i < length w.level.items → Held s (get_or w.level.items i no_tableau)
+walk_held s k w e h i hi = level_held s k (levels_of h.before w.level.items) h.valid e h.is_level _ (Contains-append_right h.before w.level.items _ (Contains-get_or w.level.items i no_tableau hi))
+
+pub walk_few : (s : Parts) (k : ℕ) (w : Walk) → IsWalkAt s k w → length w.known.items ≤ 20000
+walk_few s k w h =
+    let few : length (h.before ++ w.level.items) ≤ 20000 = level_few s k (levels_of h.before w.level.items) h.is_level in
+    let count : length w.known.items ≡ length (h.before ++ w.level.items) = h.count in
+    omega arith
+
+pub walk_ready : (s : Parts) (k : ℕ) (w : Walk) → IsEnumerable s → IsWalkAt s k w → AreReady w.level.items
+walk_ready s k w e h i hi = ready s _ e (walk_held s k w e h i hi)
+
+-- ---- the pivots to new bases
+pub moves_are : (level : List Numbers) (known : List ℕ) (moves : List Move) → AreNewMoves level known moves → AreMoves level moves
+moves_are level known moves n m c = move_is level known m (n.all.each m (n.firsts.each m c))
+
+pub moves_enter : (level : List Numbers) (known : List ℕ) (moves : List Move) → AreNewMoves level known moves → HaveEntering level moves
+moves_enter level known moves n m c = entering_is level known m (n.all.each m (n.firsts.each m c))
+
+pub walk_moves : (s : Parts) (k : ℕ) (w : Walk) (moves : List Move) → (h : IsWalkAt s k w) → AreNewMoves w.level.items w.known.items moves → AreNextMoves (levels_of h.before w.level.items) (map move_of moves)
+walk_moves s k w moves h n = next_are (levels_of h.before w.level.items) w.known.items n.found moves h.known n.small n.all n.firsts
+
+pub targets_rise : (level : List Numbers) (known bases : List ℕ) (moves : List Move) → AreNewMoves level known moves → bases ≡ map target_of moves → IsStrictlyIncreasing bases
+targets_rise level known bases moves n e = subst IsStrictlyIncreasing (sym e) n.firsts.ascending
+
+pub targets_apart : (level : List Numbers) (known bases : List ℕ) (moves : List Move) → AreNewMoves level known moves → bases ≡ map target_of moves → (b : ℕ) → Contains known b → ¬ (Contains bases b)
+targets_apart level known bases moves n e b k c =
+    let z = unmapped target_of b moves (subst (λ xs. Contains xs b) e c) in
+    (n.all.each z.0 (n.firsts.each z.0 z.1)).below.found.new (subst (Contains known) (sym z.2) k)
+
+-- they lead to tableaux whose pivots can be found
+pub moves_lead : (s : Parts) (k : ℕ) (w : Walk) (moves : List Move) → IsEnumerable s → IsWalkAt s k w → AreNewMoves w.level.items w.known.items moves → LeadToReady s w.level.items moves
+moves_lead s k w moves e h n m c =
+    record {
+      ready = λ t q. ready s t e (held t q);
+      numbered = λ t q. reached_numbered s t e (held t q).reached;
+      target = λ t q. target_is_there w.level.items w.known.items m found ∙ ap basis_of (sym (pivoted_nonbasics (parent_of w.level.items (move_of m)) t m.row m.column is_move.column q.pivot));
+    }
+  where
+    found : IsFoundIn w.level.items w.known.items m
+    found = n.all.each m (n.firsts.each m c)
+
+    is_move : IsMove w.level.items (move_of m)
+    is_move = move_is w.level.items w.known.items m found
+
+    held : (t : Numbers) → IsChild w.level.items (move_of m) t → Held s t
+    held t q = held_child s (parent_of w.level.items (move_of m)) t m.row m.column h.valid e (walk_held s k w e h m.parent is_move.parent) is_move.column is_move.row q.is_tableau q.pivot
+
+pub children_ready : (s : Parts) (level next : List Numbers) (moves : List Move) → LeadToReady s level moves → AreChildren level moves (length moves) next → AreReady next
+children_ready s level next moves lead c i hi =
+    let size : length next ≡ length moves = c.size in
+    let within : i < length moves = omega arith in
+    (lead _ (Contains-get_or moves i no_move within)).ready _ (c.each i within)
+
+-- the children's bases are the pivots' targets
+children_bases : (s : Parts) (level next : List Numbers) (moves : List Move) → LeadToReady s level moves → AreChildren level moves (length moves) next → map target_of moves ≡ bases_of next
+children_bases s level next moves lead c =
+    same_number_lists (map target_of moves) (bases_of next) (length-map moves target_of ∙ sym c.size ∙ sym (length-map next (λ t. basis_of t.nonbasics))) each
+  where
+    each : (i : ℕ) → i < length (map target_of moves) → get_or (map target_of moves) i 0 ≡ get_or (bases_of next) i 0
+    each i h =
+        let hi : i < length moves = subst (λ m. i < m) (length-map moves target_of) h in
+        let size : length next ≡ length moves = c.size in
+        get_or-map target_of moves i no_move
+        ∙ (lead _ (Contains-get_or moves i no_move hi)).target _ (c.each i hi)
+        ∙ sym (basis_at next (bases_of next) i refl (let w : i < length next = omega arith in w))
+
+-- ---- the vertices of a level
+pub vertices_start : (s : Parts) (vertices : List Vertex) → AddsVertices s [] vertices vertices
+vertices_start s vertices = λ ts m. subst (λ xs. AreMarksOf s xs (marks_of vertices)) (sym (append-nil ts)) m
+
+vertices_more : (s : Parts) (level : List Numbers) (t : Numbers) (first vertices : List Vertex)
+    (vertex : Option Vertex) → AddsVertices s level first vertices → IsVertexOf s t vertex
+    → AddsVertices s (level ++ t ∷ []) first (vertices ++ option_to_list vertex)
+vertices_more s level t first vertices vertex before is = λ ts m.
+    subst₂ (AreMarksOf s) (append_assoc ts level (t ∷ [])) (sym (map-append mark_of vertices (option_to_list vertex)))
+    (marks_more s (ts ++ level) t (marks_of vertices) vertex (before ts m) is)
+
+pub vertices_new : (s : Parts) (level new : List Numbers) (t : Numbers)
+    (first vertices all : List Vertex) (vertex : Option Vertex) → new ≡ level ++ t ∷ []
+    → all ≡ vertices ++ option_to_list vertex → AddsVertices s level first vertices
+    → IsVertexOf s t vertex → AddsVertices s new first all
+vertices_new s level new t first vertices all vertex pushed added before is =
+    subst₂ (λ l a. AddsVertices s l first a) (sym pushed) (sym added)
+    (vertices_more s level t first vertices vertex before is)
+
+pub adding_start : (s : Parts) (level : List Numbers) (vertices : List Vertex) → AddsMoreVertices s level level vertices vertices
+adding_start s level vertices = λ first before. before
+
+-- one more tableau and its vertex
+pub adding_more : (s : Parts) (level some new : List Numbers) (t : Numbers) (old vertices all : List Vertex) (vertex : Option Vertex) → new ≡ some ++ t ∷ [] → all ≡ vertices ++ option_to_list vertex → AddsMoreVertices s level some old vertices → IsVertexOf s t vertex → AddsMoreVertices s level new old all
+adding_more s level some new t old vertices all vertex pushed added before is = λ first start.
+    vertices_new s some new t first vertices all vertex pushed added (before first start) is
+
+-- ---- the next level
+known_next : (before level next : List Numbers) (known all : List ℕ) → AreKnown (levels_of before level) known → IsMerged known (bases_of next) all → AreKnown (levels_of (before ++ level) next) all
+known_next before level next known all k m =
+    record {
+      all = λ b c. elim (Contains-append_cases (bases_of (before ++ level)) (bases_of next) b (subst (λ xs. Contains xs b) (map-append (λ t. basis_of t.nonbasics) (before ++ level) next) c)) [
+        | inl a ↦ m.first b (k.all b a)
+        | inr a ↦ m.second b a
+      ];
+      only = λ b c. subst (λ xs. Contains xs b) (sym (map-append (λ t. basis_of t.nonbasics) (before ++ level) next)) (elim (m.only b c) [
+        | inl a ↦ Contains-append_left (bases_of (before ++ level)) (bases_of next) b (k.only b a)
+        | inr a ↦ Contains-append_right (bases_of (before ++ level)) (bases_of next) b a
+      ]);
+    }
+
+walk_next_level : (s : Parts) (k : ℕ) (w : Walk) (moves : List Move) (next : List Numbers) → (h : IsWalkAt s k w) → AreNewMoves w.level.items w.known.items moves → 0 < length moves → length w.known.items + length moves ≤ 20000 → AreChildren w.level.items moves (length moves) next → IsNextLevel (levels_of h.before w.level.items) (levels_of (h.before ++ w.level.items) next)
+walk_next_level s k w moves next h n some few c =
+    next_level (levels_of h.before w.level.items) moves next (walk_moves s k w moves h n) some
+    (let sizes : length (map move_of moves) ≡ length moves = length-map moves move_of in let counts : length w.known.items ≡ length (h.before ++ w.level.items) = h.count in omega arith) c
+
+pub walk_next : (s : Parts) (k : ℕ) (w new : Walk) (moves : List Move) (bases : List ℕ) → IsEnumerable s → IsWalkAt s k w → AreNewMoves w.level.items w.known.items moves → 0 < length moves → length w.known.items + length moves ≤ 20000 → AreChildren w.level.items moves (length moves) new.level.items → bases ≡ map target_of moves → IsMerged w.known.items bases new.known.items → AddsVertices s new.level.items w.vertices.items new.vertices.items → IsWalkAt s (k + 1) new
+walk_next s k w new moves bases enumerable h n some few c e m adds =
+    record {
+      valid = h.valid;
+      before = h.before ++ w.level.items;
+      is_level = subst (λ j. IsLevel s j (levels_of (h.before ++ w.level.items) new.level.items)) (let q : suc k ≡ k + 1 = omega arith in q) (levels_of h.before w.level.items, h.is_level, walk_next_level s k w moves new.level.items h n some few c);
+      known = known_next h.before w.level.items new.level.items w.known.items new.known.items h.known merged;
+      ascending = m.ascending;
+      count = m.size ∙ ap₂ (λ x y. x + y) h.count (ap length told ∙ length-map new.level.items (λ t. basis_of t.nonbasics)) ∙ sym (length-append (h.before ++ w.level.items) new.level.items);
+      marks = adds (h.before ++ w.level.items) h.marks;
+    }
+  where
+    told : bases ≡ bases_of new.level.items
+    told = e ∙ children_bases s w.level.items new.level.items moves (moves_lead s k w moves enumerable h n) c
+
+    merged : IsMerged w.known.items (bases_of new.level.items) new.known.items
+    merged = subst (λ xs. IsMerged w.known.items xs new.known.items) told m
+
+-- ---- the ends
+pub limit_stop : (s : Parts) (k : ℕ) (w : Walk) (moves : List Move) (e : EnumStop) → IsWalkAt s k w → AreNewMoves w.level.items w.known.items moves → IsLimitStop (length w.known.items + length moves) e → IsEnumStop s e
+limit_stop s k w moves (stops.TooLarge limit) h n p =
+    let counts : length w.known.items ≡ length (h.before ++ w.level.items) = h.count in
+    let sizes : length (map move_of moves) ≡ length moves = length-map moves move_of in
+    let over : most < length w.known.items + length moves = p.0 in
+    inr (record {
+      count = length w.known.items + length moves;
+      end = record { number = k; levels = levels_of h.before w.level.items; is_level = h.is_level; ends = record { moves = map move_of moves; are = walk_moves s k w moves h n; over = omega arith; total_is = omega arith } };
+      limit_is = p.1;
+    })
+limit_stop s k w moves (stops.Start row unfit) h n p = absurd p
+limit_stop s k w moves (stops.Range number basis variable unfit) h n p = absurd p
+limit_stop s k w moves stops.Memory h n p = absurd p
+
+stopped : (s : Parts) (k : ℕ) (w : Walk) (moves : List Move) (basis : List ℕ) (variable : ℕ) (unfit : Unfit) → (h : IsWalkAt s k w) → AreNewMoves w.level.items w.known.items moves → length w.known.items + length moves ≤ 20000 → IsUnfitMove w.level.items moves basis variable unfit → IsUnfitChild (levels_of h.before w.level.items) basis variable unfit
+stopped s k w moves basis variable unfit h n few u =
+    let counts : length w.known.items ≡ length (h.before ++ w.level.items) = h.count in
+    let sizes : length (map move_of moves) ≡ length moves = length-map moves move_of in
+    record { moves = map move_of moves; are = walk_moves s k w moves h n; few = omega arith; place = u.place; first = u.first; basis_is = u.basis_is; variable_is = u.variable_is }
+
+pub move_stop : (s : Parts) (k : ℕ) (w : Walk) (moves : List Move) (e : EnumStop) → IsWalkAt s k w → AreNewMoves w.level.items w.known.items moves → length w.known.items + length moves ≤ 20000 → IsMoveStop w.level.items moves k e → IsEnumStop s e
+move_stop s k w moves (stops.Range number basis variable unfit) h n few p =
+    inr (record { number = k; levels = levels_of h.before w.level.items; is_level = h.is_level; ends = (p.0, stopped s k w moves basis variable unfit h n few p.1) })
+move_stop s k w moves stops.Memory h n few p = inl refl
+move_stop s k w moves (stops.Start row unfit) h n few p = absurd p
+move_stop s k w moves (stops.TooLarge limit) h n few p = absurd p
+
+-- each level has a basis, so that levels are as few as bases
+level_many : (s : Parts) (k : ℕ) (l : Levels) → IsLevel s k l → k < length (l.before ++ l.level)
+level_many s zero l h = subst (λ n. 0 < n) (sym (ap₂ (λ b x. length (b ++ x)) h.before h.level)) (omega arith)
+level_many s (suc k) l (p, hp, n) =
+    let ih : k < length (p.before ++ p.level) = level_many s k p hp in
+    let sum : length (l.before ++ l.level) ≡ length l.before + length l.level = length-append l.before l.level in
+    let before : length l.before ≡ length (p.before ++ p.level) = ap length n.before in
+    let size : length l.level ≡ length n.moves = n.size in
+    let some : 0 < length n.moves = n.some in
+    omega arith
+
+pub walk_ends : (s : Parts) (w : Walk) → IsWalkAt s 20000 w → ⊥
+walk_ends s w h =
+    let few : length (h.before ++ w.level.items) ≤ 20000 = level_few s 20000 (levels_of h.before w.level.items) h.is_level in
+    let many : 20000 < length (h.before ++ w.level.items) = level_many s 20000 (levels_of h.before w.level.items) h.is_level in
+    omega arith
+
+-- ---- level 0
+pub system_variables : (s : Parts) → IsSystem s → IsEnumerable s → AreVariables s.nonbasics
+system_variables s h e =
+    let few : variable_count s ≤ 128 = e.few in
+    record {
+      above = λ v c. (bounds v c).0;
+      most = λ v c. let b : v ≤ variable_count s = (bounds v c).1 in omega arith;
+      once = λ i j a b q. h.distinct.nonbasic_once i j a b q;
+    }
+  where
+    bounds : (v : ℕ) → Contains s.nonbasics v → (0 < v) × (v ≤ variable_count s)
+    bounds v c = (e.numbered v).0 (in_column c.0 c.1 (get_or_default s.nonbasics c.0 0 v c.1 ∙ c.2))
+
+first_nonbasics : (s : Parts) (t : Numbers) → IsFirst s t → s.nonbasics ≡ t.nonbasics
+first_nonbasics s t f = same_number_lists s.nonbasics t.nonbasics f.is_start.fractions.width (λ j h. f.is_start.fractions.nonbasic j h)
+
+first_held : (s : Parts) (t : Numbers) → IsSystem s → IsEnumerable s → IsFirst s t → Held s t
+first_held s t h e f = held_start s t h e f.is_tableau f.is_start
+
+pub first_ready : (s : Parts) (t : Numbers) → IsSystem s → IsEnumerable s → IsFirst s t → IsReady t
+first_ready s t h e f = ready s t e (first_held s t h e f)
+
+pub first_numbered : (s : Parts) (t : Numbers) → IsSystem s → IsEnumerable s → IsFirst s t → AreUpTo (variable_count s) t.basics
+first_numbered s t h e f = reached_numbered s t e (first_held s t h e f).reached
+
+pub first_basis : (s : Parts) (t : Numbers) → IsFirst s t → basis_of s.nonbasics ≡ basis_of t.nonbasics
+first_basis s t f = ap basis_of (first_nonbasics s t f)
+
+pub first_found : (t : Numbers) (known : List ℕ) (found : List Move) → AreFound t 0 known (length t.nonbasics) found → AreFoundIn (t ∷ []) known found
+first_found t known found f = found_in_more [] known [] found t (found_in_start known) f
+
+pub first_all_ready : (t : Numbers) → IsReady t → AreReady (t ∷ [])
+first_all_ready t r i hi = let first : i ≡ 0 = omega arith in subst (λ i. IsReady (get_or (t ∷ []) i no_tableau)) (sym first) r
+
+pub walk_start : (s : Parts) (t : Numbers) (w : Walk) (vertex : Option Vertex) → IsSystem s
+    → IsFirst s t → w.level.items ≡ t ∷ [] → w.known.items ≡ basis_of s.nonbasics ∷ []
+    → w.vertices.items ≡ option_to_list vertex → IsVertexOf s t vertex → IsWalkAt s 0 w
+walk_start s t w vertex valid f level known vertices is =
+    record {
+      valid = valid;
+      before = [];
+      is_level = record { start = t; is_tableau = f.is_tableau; is_start = f.is_start; fits = f.fits; before = refl; level = level };
+      known = record { all = λ b c. subst (λ xs. Contains xs b) (sym (known ∙ told)) c; only = λ b c. subst (λ xs. Contains xs b) (known ∙ told) c };
+      ascending = subst IsStrictlyIncreasing (sym known) (λ k h. absurd (omega arith));
+      count = ap length known ∙ sym (ap length level);
+      marks = subst₂ (AreMarksOf s) (sym level) (sym (ap marks_of vertices)) (marks_more s [] t [] vertex (no_marks s) is);
+    }
+  where
+    told : basis_of s.nonbasics ∷ [] ≡ bases_of w.level.items
+    told = ap (λ b. b ∷ []) (first_basis s t f) ∙ sym (ap bases_of level)
+
+-- ---- at the last level
+pub walk_vertices : (s : Parts) (w : Walk) (v : VertexList) → IsEnumerable s → IsWalkToEnd s w → v.bases ≡ length w.known.items → AreInOrder (marks_of w.vertices.items) v.list → AreVerticesOf s v
+walk_vertices s w v e h bases order =
+    record {
+      reached = h.walk.before ++ w.level.items;
+      end = end;
+      bases = bases ∙ h.walk.count;
+      list = are_vertices s (h.walk.before ++ w.level.items) (marks_of w.vertices.items) v.list h.walk.valid e end h.walk.marks order;
+    }
+  where
+    end : IsEnd s (complete (h.walk.before ++ w.level.items))
+    end = record { number = h.number; levels = levels_of h.walk.before w.level.items; is_level = h.walk.is_level; ends = record { none = walk_moves s h.number w [] h.walk h.none; all = refl } }

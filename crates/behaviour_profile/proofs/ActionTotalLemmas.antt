@@ -1,0 +1,85 @@
+-- How many actions the players of a tree have.
+use Rattle.std.proofs.Common.{ℕ, zero, suc, ◌+◌, ◌*◌, ◌<◌, ◌≤◌, ◌≡◌, ◌^◌, Bool, true, false, Decides, Option, Some, None, [], ◌∷◌, ◌++◌, length, map, refl, ap, ◌∙◌, arith}
+use Rattle.std.specs.Prelude.{◌==◌, if◌then◌else◌, sum}
+use Rattle.std.specs.List.{range_with_len, flat_map}
+use Rattle.std.proofs.lemmas.Bool.Decides.{Decides-eqb}
+use Rattle.std.proofs.lemmas.List.{map-append}
+use Rattle.game_theory.specs.Trees.{Tree}
+use Rattle.game_theory.specs.Behaviour.{is_own_of}
+use Rattle.game_core.specs.Tree.{GameTree, IsTree}
+use Rattle.game_core.specs.TreeGame.{game_of_tree}
+use Rattle.strategy_lists.specs.OwnNumbers.{own_numbers}
+use Rattle.strategy_lists.proofs.ActionCountLemmas.{actions-below}
+use Rattle.strategy_lists.proofs.OwnNumberLemmas.{own_sets-numbers}
+use Rattle.behaviour_profile.specs.EntryTests.{own_counts, action_counts}
+use Rattle.behaviour_profile.proofs.GroupListLemmas.{sum-append, sum-cons, sum-nil}
+use Rattle.behaviour_profile.proofs.GroupTestLemmas.{made-next}
+
+-- ---- a set counts for one player at most
+-- what a set with n actions adds to the counts of the players before p
+abbrev parts : Option ℕ → ℕ → ℕ → ℕ
+parts o n zero = 0
+parts o n (suc p) = parts o n p + (if is_own_of o p then n else 0)
+
+parts-before : (j n p : ℕ) → p ≤ j → parts (Some j) n p ≡ 0
+parts-before j n zero l = refl
+parts-before j n (suc p) l = go (j == p) (Decides-eqb j p) (parts-before j n p (omega arith))
+  where
+    go : (b : Bool) → Decides b (j ≡ p) → parts (Some j) n p ≡ 0 → parts (Some j) n p + (if b then n else 0) ≡ 0
+    go true d e = absurd (let same : j ≡ p = d.0 refl in omega (arith, same, l))
+    go false d e = omega (arith, e)
+
+parts-most : (o : Option ℕ) (n p : ℕ) → parts o n p ≤ n
+parts-most o n zero = omega arith
+parts-most None n (suc p) = omega (arith, parts-most None n p)
+parts-most (Some j) n (suc p) = go (j == p) (Decides-eqb j p) (parts-most (Some j) n p)
+  where
+    go : (b : Bool) → Decides b (j ≡ p) → parts (Some j) n p ≤ n → parts (Some j) n p + (if b then n else 0) ≤ n
+    go true d h = let none = parts-before j n p (omega (arith, d.0 refl)) in omega (arith, none)
+    go false d h = omega (arith, h)
+
+-- ---- the sets below one
+module _ (t : Tree) where
+  abbrev own_total : ℕ → ℕ → ℕ
+  own_total i n = sum (map t.actions (own_numbers t.owner i n))
+
+  own-next : (i n : ℕ) → own_total i (suc n) ≡ own_total i n + (if is_own_of (t.owner n) i then t.actions n else 0)
+  own-next i n = go (is_own_of (t.owner n) i)
+    where
+      go : (b : Bool) → sum (map t.actions (if b then own_numbers t.owner i n ++ n ∷ [] else own_numbers t.owner i n)) ≡ own_total i n + (if b then t.actions n else 0)
+      go true = ap sum (map-append t.actions (own_numbers t.owner i n) (n ∷ [])) ∙ sum-append (map t.actions (own_numbers t.owner i n)) (t.actions n ∷ []) ∙ omega (arith, sum-cons (t.actions n) [], sum-nil)
+      go false = omega arith
+
+  abbrev total_below : ℕ → ℕ → ℕ
+  total_below zero n = 0
+  total_below (suc p) n = total_below p n + own_total p n
+
+  total-next : (p n : ℕ) → total_below p (suc n) ≡ total_below p n + parts (t.owner n) (t.actions n) p
+  total-next zero n = omega arith
+  total-next (suc p) n = omega (arith, total-next p n, own-next p n)
+
+  total-none : (p : ℕ) → total_below p 0 ≡ 0
+  total-none zero = refl
+  total-none (suc p) = omega (arith, total-none p)
+
+  -- it is the sum of the players' counts
+  total-is : (p : ℕ) → sum (flat_map (own_counts t) (range_with_len 0 p)) ≡ total_below p t.sets
+  total-is zero = sum-nil
+  total-is (suc p) =
+      let here : sum (own_counts t p) ≡ own_total p t.sets = ap (λ sets. sum (map t.actions sets)) (own_sets-numbers t p) in
+      let all = ap sum (made-next (own_counts t) p) ∙ sum-append (flat_map (own_counts t) (range_with_len 0 p)) (own_counts t p) in
+      omega (arith, all, here, total-is p)
+
+total-few : (t : GameTree) (p n : ℕ) → IsTree t → n ≤ length t.sets → total_below (game_of_tree t) p n ≤ 65535 * n
+total-few t p zero valid few = omega (arith, total-none (game_of_tree t) p)
+total-few t p (suc n) valid few =
+    let g = game_of_tree t in
+    let before = total-few t p n valid (omega arith) in
+    let one = actions-below t n valid (omega arith) in
+    omega (arith, before, total-next g p n, parts-most (g.owner n) (g.actions n) p, one, valid.few_nodes)
+
+-- all actions fit 32 bits
+pub actions-few : (t : GameTree) → IsTree t → sum (action_counts (game_of_tree t)) < 2 ^ 32
+actions-few t valid =
+    let g = game_of_tree t in
+    omega (arith, total-is g g.players, total-few t g.players g.sets valid (omega arith), valid.few_sets, valid.few_nodes)

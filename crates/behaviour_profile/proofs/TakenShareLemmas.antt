@@ -1,0 +1,102 @@
+-- The shares of a set's weights in the weight before it, one by one.
+use Rattle.std.proofs.Common.{ℕ, ◌+◌, ◌<◌, ◌≤◌, ◌≡◌, ◌≢◌, ◌⊎◌, ◌^◌, ℤ, inl, inr, Ok, Err, Result, Bool, true, false, pos, List, [], ◌∷◌, ◌++◌, All, length, get_or, take, refl, sym, ap, ap₂, ◌∙◌, subst, subst₂, arith, lit<, zero-add}
+use Rattle.std.specs.Prelude.{IfOk, IfErr, OnErr, if◌then◌else◌}
+use Rattle.std.proofs.lemmas.List.{take_all}
+use Rattle.std.proofs.lemmas.List.Elements.{All-nil}
+use Rattle.std.proofs.lemmas.List.FromFn.{get_or-range_with_len, length-range_with_len}
+use native.Mathlib.Nat.{eq-one_of_dvd-one}
+use Rattle.rational.specs.GcdLaws.{gcd-is}
+use Rattle.rational.specs.Rational.{ℚ, ◌*ℚ◌, inv_ℚ, frac, zero_ℚ}
+use Rattle.rational.specs.Tests.{eq_test}
+use Rattle.rational.proofs.Decide.{eq_test-true}
+use Rattle.rational.proofs.FractionLemmas.{frac-lowest}
+use Rattle.frac128.specs.Fraction.{PartFits, Fits as FracFits, quotient}
+use Rattle.frac128.specs.Steps.{DivFits, unfit}
+use Rattle.frac128.specs.declared.steps.Op.TheVariants.{Div}
+use Rattle.game_theory.specs.Lines.{listed}
+use Rattle.game_theory.proofs.EntryLemmas.{listed-push}
+use Rattle.sequence_forms.specs.PlanBehaviour.{share}
+use Rattle.pure_payoffs.specs.Steps.{Step, StepFits, IsFirstUnfit}
+use Rattle.pure_payoffs.specs.FirstUnfit.{Fits, IsFirstUnfitOf}
+use Rattle.pure_payoffs.proofs.StepRunLemmas.{first_unfit-here}
+use Rattle.pure_payoffs.proofs.FirstUnfitLemmas.{fits_next, first_unfit_here}
+use Rattle.sequence_data.specs.Weights.{weight}
+use Rattle.sequence_data.specs.declared.types.SetRow.{SetRow}
+use Rattle.sequence_data.proofs.PlaceLemmas.{get_or-inside}
+use Rattle.behaviour_profile.specs.Shares.{actions_of, share_at, share_steps, steps_at}
+
+-- whether the weight before is 0
+test-zero : (before : ℚ) → before ≡ zero_ℚ → eq_test before zero_ℚ ≡ true
+test-zero before e = (eq_test-true before zero_ℚ).1 e
+
+test-other : (before : ℚ) → before ≢ zero_ℚ → eq_test before zero_ℚ ≡ false
+test-other before ne = go (eq_test before zero_ℚ) (λ e. ne ((eq_test-true before zero_ℚ).0 e))
+  where
+    go : (b : Bool) → (b ≡ true → ⊥) → b ≡ false
+    go true h = absurd (h refl)
+    go false h = refl
+
+-- where it is, there is no step
+pub share-none : (n : ℕ) (before after : ℚ) → before ≡ zero_ℚ → share n before after ≡ frac (pos 1) n
+share-none n before after e = ap (λ b. if b then frac (pos 1) n else after *ℚ inv_ℚ before) (test-zero before e)
+
+pub none_fit : (before after : ℚ) → before ≡ zero_ℚ → All StepFits (share_steps before after)
+none_fit before after e = subst (λ b. All StepFits (if b then [] else unfit Div after before ∷ [])) (sym (test-zero before e)) (All-nil StepFits)
+
+-- where it is not, the weight is divided by it
+pub share-is : (n : ℕ) (before after : ℚ) → before ≢ zero_ℚ → share n before after ≡ after *ℚ inv_ℚ before
+share-is n before after ne = ap (λ b. if b then frac (pos 1) n else after *ℚ inv_ℚ before) (test-other before ne)
+
+pub share-steps : (before after : ℚ) → before ≢ zero_ℚ → share_steps before after ≡ unfit Div after before ∷ []
+share-steps before after ne = ap (λ b. if b then [] else unfit Div after before ∷ []) (test-other before ne)
+
+-- and the quotient fits, or it is the first step that does not
+pub divided_unfit : (r : Result ℚ Step) (before after : ℚ) → before ≢ zero_ℚ → IfErr r (λ e. e ≡ unfit Div after before) → OnErr r (¬ (DivFits after before)) → IfErr r (IsFirstUnfit (share_steps before after))
+divided_unfit (Ok v) before after ne is h = tt
+divided_unfit (Err u) before after ne is h = subst₂ (λ (ss : List Step) (e : Step). IsFirstUnfit ss e) (sym (share-steps before after ne)) (sym is) (first_unfit-here (unfit Div after before) [] h)
+
+pub divided_is : (r : Result ℚ Step) (n : ℕ) (before after : ℚ) → before ≢ zero_ℚ → IfOk r (λ v. v ≡ after *ℚ inv_ℚ before) → IfOk r (λ v. v ≡ share n before after)
+divided_is (Ok v) n before after ne is = is ∙ sym (share-is n before after ne)
+divided_is (Err u) n before after ne is = tt
+
+-- ---- 1 divided by a number of actions
+pos_same : (a b : ℕ) → pos a ≡ pos b → a ≡ b
+pos_same a b e = cc
+
+-- it fits
+equal_share-fits : (n : ℕ) → 0 < n → n < 2 ^ 32 → FracFits (frac (pos 1) n)
+equal_share-fits n some few =
+    let parts = frac-lowest (pos 1) n some (eq-one_of_dvd-one (gcd-is 1 n).0) in
+    record { num = subst PartFits (sym parts.0) (lit< tt); den = subst (λ (d : ℕ). PartFits (pos d)) (sym parts.1) (omega (arith, few)) }
+
+-- so it is always had
+pub equal_share-had : (n : ℕ) (z : ℤ) → 0 < n → n < 2 ^ 32 → z ≡ pos n → (z ≡ pos 0) ⊎ (¬ (FracFits (quotient (pos 1) z))) → ⊥
+equal_share-had n z some few is (inl e) = absurd (let h : n ≡ 0 = pos_same n 0 (sym is ∙ e) in omega (arith, h, some))
+equal_share-had n z some few is (inr h) = h (subst (λ (x : ℤ). FracFits (quotient (pos 1) x)) (sym is) (equal_share-fits n some few))
+
+-- ---- the shares of a set
+-- a weight that is read
+pub weight_read : (weights : List ℚ) (q : ℕ) (x : ℚ) → q < length weights → x ≡ get_or weights q x → x ≡ weight weights q
+weight_read weights q x l is = is ∙ get_or-inside weights q x zero_ℚ l
+
+module _ (weights : List ℚ) (row : SetRow) (a : ℕ) (before after : ℚ) (l : a < row.count) (before_is : before ≡ weight weights row.before) (after_is : after ≡ weight weights (row.first + a)) where
+  within : a < length (actions_of row)
+  within = omega (arith, l, length-range_with_len 0 row.count)
+
+  stands : a ≡ get_or (actions_of row) a a
+  stands = sym (get_or-range_with_len 0 row.count a a l ∙ zero-add a)
+
+  -- one share more
+  pub next_share : (old now new : List ℚ) (x : ℚ) → now ≡ old ++ listed a (share_at weights row) → new ≡ now ++ x ∷ [] → x ≡ share row.count before after → new ≡ old ++ listed (a + 1) (share_at weights row)
+  next_share old now new x so_far push is = listed-push new now old a (share_at weights row) x so_far push (is ∙ ap₂ (share row.count) before_is after_is)
+
+  pub next_fits : All (Fits (steps_at weights row)) (take a (actions_of row)) → All StepFits (share_steps before after) → All (Fits (steps_at weights row)) (take (a + 1) (actions_of row))
+  next_fits h f = fits_next (steps_at weights row) (actions_of row) a a within stands h (subst₂ (λ b c. All StepFits (share_steps b c)) before_is after_is f)
+
+  -- or the first that does not fit
+  pub first_share : (step : Step) → All (Fits (steps_at weights row)) (take a (actions_of row)) → IsFirstUnfit (share_steps before after) step → IsFirstUnfitOf (steps_at weights row) (actions_of row) a step
+  first_share step h f = first_unfit_here (steps_at weights row) (actions_of row) a a within stands step h (subst₂ (λ b c. IsFirstUnfit (share_steps b c) step) before_is after_is f)
+
+-- all shares fit
+pub all_shares : (weights : List ℚ) (row : SetRow) (n : ℕ) → row.count ≤ n → All (Fits (steps_at weights row)) (take n (actions_of row)) → All (Fits (steps_at weights row)) (actions_of row)
+all_shares weights row n l h = subst (All (Fits (steps_at weights row))) (take_all n (actions_of row) (omega (arith, l, length-range_with_len 0 row.count))) h

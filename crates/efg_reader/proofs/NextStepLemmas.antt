@@ -1,0 +1,158 @@
+-- A further node as the code reads it.
+use Rattle.std.proofs.Common.{◌≡◌, ◌≢◌, ℕ, suc, ◌≤◌, nat_eq, true, false, List, [], ◌∷◌, ◌++◌, length, Option, Some, None, slice_get, slice_set, inl, inr, refl, sym, ap, ◌∙◌, length-append, arith}
+use Rattle.std.proofs.lemmas.List.{length-set}
+use Rattle.std.specs.Prelude.{Ok, Err, codes}
+use Rattle.game_core.specs.declared.tree.Kind.TheVariants.{End}
+use Rattle.file_parts.specs.declared.refusal.Refusal.{Refusal}
+use Rattle.file_parts.specs.declared.refusal.Refusal.TheVariants.{Unexpected}
+use Rattle.file_parts.specs.Reading.{word_at, text_at, whole_at, optional_text_at}
+use Rattle.file_parts.specs.Parsing.{Parsed, IsRefusal, wanted}
+use Rattle.file_parts.proofs.ParseLemmas.{refused_first}
+use Rattle.file_parts.proofs.ReaderLemmas.{bind_ok, ok_same, ok_err}
+use Rattle.written_trees.specs.Written.{SetUse, OutcomeUse}
+use Rattle.written_trees.specs.Building.{PartialTree, Branching, PartialSet, PartialOutcome, set_place, outcome_place, passed, new_set, used_set, new_outcome, used_outcome}
+use Rattle.tree_grammar.specs.TreeReading.{begins_node, is_word, positive_at, grown_at, grown}
+use Rattle.tree_grammar.specs.TreeParsing.{Choice, bare_use, parse_first_list, parse_later_list, parse_use, parse_set, parse_player, parse_set_choice, parse_own_choice, parse_after, parse_choice, bare_outcome_use, parse_first_payoffs, parse_later_payoffs, parse_outcome_use, parse_named, parse_outcome, with_parts, parse_next, parse_at}
+use Rattle.tree_grammar.specs.declared.kinds.EfgKind.{EfgKind}
+use Rattle.tree_grammar.specs.declared.kinds.EfgKind.TheVariants.{Node}
+use Rattle.tree_grammar.proofs.NodeStepLemmas.{with_uses}
+use Rattle.std.proofs.lemmas.Option.{same_Some}
+use Rattle.game_core.specs.declared.token.Token.{Token}
+use Rattle.std.proofs.lemmas.Bool.{cases_Bool}
+
+-- no node's word comes
+pub no_word : (players : ℕ) (partial : PartialTree) (branchings : List Branching) (tokens : List Token) (refusal : Refusal EfgKind) → begins_node tokens ≡ false → refusal ≡ Unexpected Node (length tokens) → IsRefusal refusal (parse_at players partial branchings tokens)
+no_word players partial [] tokens refusal n u = rw u refl
+no_word players partial (b ∷ branchings) tokens refusal n u = rw (u, n) refl
+
+-- ---- the node
+-- where a node may come, it is read at the first open branch
+pub record MayCome (players : ℕ) (partial : PartialTree) (tokens : List Token) : Type 0 where
+  pub first : Branching
+  pub others : List Branching
+  pub free : partial.branchings ≡ first ∷ others
+  pub is : parse_at players partial partial.branchings tokens ≡ parse_next players partial first others tokens
+
+may_by : (players : ℕ) (partial : PartialTree) (branchings : List Branching) (tokens : List Token) → partial.branchings ≡ branchings → branchings ≢ [] → begins_node tokens ≡ true → passed partial ≡ None → MayCome players partial tokens
+may_by players partial [] tokens e some n room = absurd (some refl)
+may_by players partial (b ∷ rest) tokens e some n room =
+    let here : parse_at players partial (b ∷ rest) tokens ≡ parse_next players partial b rest tokens = rw (n, room) refl in
+    record { first = b; others = rest; free = e; is = ap (λ (branchings : List Branching). parse_at players partial branchings tokens) e ∙ here }
+
+pub may_come : (players : ℕ) (partial : PartialTree) (tokens : List Token) → partial.branchings ≢ [] → begins_node tokens ≡ true → passed partial ≡ None → MayCome players partial tokens
+may_come players partial tokens some n room = may_by players partial partial.branchings tokens refl some n room
+
+-- the choice is not read
+pub choice_refused : (players : ℕ) (partial : PartialTree) (tokens : List Token) (refusal : Refusal EfgKind) → MayCome players partial tokens → IsRefusal refusal (parse_choice players (length partial.nodes) partial.sets tokens) → IsRefusal refusal (parse_at players partial partial.branchings tokens)
+unfolding parse_next
+choice_refused players partial tokens refusal m r = rw m.is (refused_first refusal (parse_choice players (length partial.nodes) partial.sets tokens) _ r)
+
+-- the outcome is not read
+pub outcome_refused : (players : ℕ) (partial : PartialTree) (tokens : List Token) (refusal : Refusal EfgKind) (c : Choice × List Token) → MayCome players partial tokens → parse_choice players (length partial.nodes) partial.sets tokens ≡ Ok c → IsRefusal refusal (parse_outcome players partial.outcomes c.1) → IsRefusal refusal (parse_at players partial partial.branchings tokens)
+unfolding parse_next
+outcome_refused players partial tokens refusal c m e r = rw (m.is, e) (refused_first refusal (parse_outcome players partial.outcomes c.1) _ r)
+
+-- both are read, and the tree grows
+pub node_added : (players : ℕ) (partial more : PartialTree) (tokens : List Token) (c : Choice × List Token) (o : (List PartialOutcome × Option ℕ) × List Token) → MayCome players partial tokens → parse_choice players (length partial.nodes) partial.sets tokens ≡ Ok c → parse_outcome players partial.outcomes c.1 ≡ Ok o
+    → grown (with_uses partial c.0.0 o.0.0) c.0.1.0 c.0.1.1 o.0.1 ≡ Some more → parse_at players partial partial.branchings tokens ≡ Ok (more, o.1)
+unfolding parse_next
+node_added players partial more tokens c o m e f g =
+    let here : grown_at (with_uses partial c.0.0 o.0.0) c.0.1.0 c.0.1.1 o.0.1 (m.first ∷ m.others) ≡ Some more = ap (grown_at (with_uses partial c.0.0 o.0.0) c.0.1.0 c.0.1.1 o.0.1) (sym m.free) ∙ g in
+    let same : with_parts partial m.first m.others c.0 o.0 ≡ more = same_Some _ _ here in
+    rw (m.is, e, f) (ap (λ (b : PartialTree). Ok (b, o.1)) same)
+
+-- ---- how many sets and outcomes there are
+-- one more set at most
+use_adds : (k : ℕ) (sets : List PartialSet) (used : SetUse) (found : Option PartialSet) (tokens : List Token) (x : List PartialSet × List Token) → parse_use k sets used found tokens ≡ Ok x → length x.0 ≤ suc (length sets)
+use_adds k sets used None tokens x e =
+    let a = bind_ok (parse_first_list used.owner used.label tokens) _ x e in
+    let same : length (sets ++ new_set k used a.0.0 ∷ []) ≡ length x.0 = ap (λ (z : List PartialSet × List Token). length z.0) (ok_same _ x a.2) in
+    let one = length-append sets (new_set k used a.0.0 ∷ []) in
+    omega (arith, same, one)
+use_adds k sets used (Some set) tokens x e =
+    let a = bind_ok (parse_later_list set.owner set.actions tokens) _ x e in
+    let place = set_place sets (used.owner, used.label) in
+    let same : length (slice_set sets place (used_set k used set)) ≡ length x.0 = ap (λ (z : List PartialSet × List Token). length z.0) (ok_same _ x a.2) in
+    let all = length-set sets place (used_set k used set) in
+    omega (arith, same, all)
+
+set_adds : (k : ℕ) (sets : List PartialSet) (owner : Option ℕ) (tokens : List Token) (x : (List PartialSet × ℕ) × List Token) → parse_set k sets owner tokens ≡ Ok x → length x.0.0 ≤ suc (length sets)
+unfolding parse_set
+set_adds k sets owner tokens x e =
+    let a = bind_ok (wanted Node tokens (positive_at tokens)) _ x e in
+    let used = bare_use owner a.0.0 (optional_text_at a.0.1).0 in
+    let found = slice_get sets (set_place sets (owner, a.0.0)) in
+    let b = bind_ok (parse_use k sets used found (optional_text_at a.0.1).1) _ x a.2 in
+    let same : length b.0.0 ≡ length x.0.0 = ap (λ (z : (List PartialSet × ℕ) × List Token). length z.0.0) (ok_same _ x b.2) in
+    let few = use_adds k sets used found (optional_text_at a.0.1).1 b.0 b.1 in
+    omega (arith, same, few)
+
+set_choice_adds : (k : ℕ) (sets : List PartialSet) (owner : Option ℕ) (tokens : List Token) (x : Choice × List Token) → parse_set_choice k sets owner tokens ≡ Ok x → length x.0.0 ≤ suc (length sets)
+unfolding parse_set_choice
+set_choice_adds k sets owner tokens x e =
+    let a = bind_ok (parse_set k sets owner tokens) _ x e in
+    let same : length a.0.0.0 ≡ length x.0.0 = ap (λ (z : Choice × List Token). length z.0.0) (ok_same _ x a.2) in
+    let few = set_adds k sets owner tokens a.0 a.1 in
+    omega (arith, same, few)
+
+own_choice_adds : (players k : ℕ) (sets : List PartialSet) (tokens : List Token) (x : Choice × List Token) → parse_own_choice players k sets tokens ≡ Ok x → length x.0.0 ≤ suc (length sets)
+unfolding parse_own_choice
+own_choice_adds players k sets tokens x e = let a = bind_ok (parse_player players tokens) _ x e in set_choice_adds k sets (Some a.0.0) a.0.1 x a.2
+
+after_adds : (players k : ℕ) (sets : List PartialSet) (word : List ℕ) (start tokens : List Token) (x : Choice × List Token) → parse_after players k sets word start tokens ≡ Ok x → length x.0.0 ≤ suc (length sets)
+after_adds players k sets word start tokens x e = elim (cases_Bool (is_word word (codes "c"))) [
+  | inl c ↦ let f : parse_set_choice k sets None tokens ≡ Ok x = rw c at e in set_choice_adds k sets None tokens x f
+  | inr c ↦ elim (cases_Bool (is_word word (codes "p"))) [
+    | inl p ↦ let f : parse_own_choice players k sets tokens ≡ Ok x = rw (c, p) at e in own_choice_adds players k sets tokens x f
+    | inr p ↦ elim (cases_Bool (is_word word (codes "t"))) [
+      | inl t ↦
+          let f : ◌≡◌ {A = Parsed EfgKind Choice} (Ok ((sets, (End, None)), tokens)) (Ok x) = rw (c, p, t) at e in
+          let same : length sets ≡ length x.0.0 = ap (λ (z : Choice × List Token). length z.0.0) (ok_same _ x f) in
+          omega (arith, same)
+      | inr t ↦ let f : ◌≡◌ {A = Parsed EfgKind Choice} (Err (Node, start)) (Ok x) = rw (c, p, t) at e in absurd (ok_err x (Node, start) (sym f))
+    ]
+  ]
+]
+
+pub few_sets_more : (players k : ℕ) (sets : List PartialSet) (tokens : List Token) (x : Choice × List Token) → parse_choice players k sets tokens ≡ Ok x → length x.0.0 ≤ suc (length sets)
+unfolding parse_choice
+few_sets_more players k sets tokens x e =
+    let w = bind_ok (wanted Node tokens (word_at tokens)) _ x e in
+    let n = bind_ok (wanted Node w.0.1 (text_at w.0.1)) _ x w.2 in
+    after_adds players k sets w.0.0 tokens n.0.1 x n.2
+
+-- one more outcome at most
+outcome_adds : (players : ℕ) (outcomes : List PartialOutcome) (used : OutcomeUse) (found : Option PartialOutcome) (tokens : List Token) (x : List PartialOutcome × List Token) → parse_outcome_use players outcomes used found tokens ≡ Ok x → length x.0 ≤ suc (length outcomes)
+outcome_adds players outcomes used None tokens x e =
+    let a = bind_ok (parse_first_payoffs players tokens) _ x e in
+    let same : length (outcomes ++ new_outcome used a.0.0 ∷ []) ≡ length x.0 = ap (λ (z : List PartialOutcome × List Token). length z.0) (ok_same _ x a.2) in
+    let one = length-append outcomes (new_outcome used a.0.0 ∷ []) in
+    omega (arith, same, one)
+outcome_adds players outcomes used (Some outcome) tokens x e =
+    let a = bind_ok (parse_later_payoffs outcome.payoffs tokens) _ x e in
+    let place = outcome_place outcomes used.label in
+    let same : length (slice_set outcomes place (used_outcome used outcome)) ≡ length x.0 = ap (λ (z : List PartialOutcome × List Token). length z.0) (ok_same _ x a.2) in
+    let all = length-set outcomes place (used_outcome used outcome) in
+    omega (arith, same, all)
+
+named_adds : (players label : ℕ) (outcomes : List PartialOutcome) (tokens : List Token) (x : (List PartialOutcome × Option ℕ) × List Token) → parse_named players label outcomes tokens ≡ Ok x → length x.0.0 ≤ suc (length outcomes)
+unfolding parse_named
+named_adds players label outcomes tokens x e =
+    let used = bare_outcome_use label (optional_text_at tokens).0 in
+    let found = slice_get outcomes (outcome_place outcomes label) in
+    let b = bind_ok (parse_outcome_use players outcomes used found (optional_text_at tokens).1) _ x e in
+    let same : length b.0.0 ≡ length x.0.0 = ap (λ (z : (List PartialOutcome × Option ℕ) × List Token). length z.0.0) (ok_same _ x b.2) in
+    let few = outcome_adds players outcomes used found (optional_text_at tokens).1 b.0 b.1 in
+    omega (arith, same, few)
+
+pub few_outcomes_more : (players : ℕ) (outcomes : List PartialOutcome) (tokens : List Token) (x : (List PartialOutcome × Option ℕ) × List Token) → parse_outcome players outcomes tokens ≡ Ok x → length x.0.0 ≤ suc (length outcomes)
+unfolding parse_outcome
+few_outcomes_more players outcomes tokens x e =
+    let a = bind_ok (wanted Node tokens (whole_at tokens)) _ x e in
+    elim (cases_Bool (nat_eq a.0.0 0)) [
+      | inl z ↦
+          let f : ◌≡◌ {A = Parsed EfgKind (List PartialOutcome × Option ℕ)} (Ok ((outcomes, None), a.0.1)) (Ok x) = rw z at a.2 in
+          let same : length outcomes ≡ length x.0.0 = ap (λ (z : (List PartialOutcome × Option ℕ) × List Token). length z.0.0) (ok_same _ x f) in
+          omega (arith, same)
+      | inr z ↦ let f : parse_named players a.0.0 outcomes a.0.1 ≡ Ok x = rw z at a.2 in named_adds players a.0.0 outcomes a.0.1 x f
+    ]

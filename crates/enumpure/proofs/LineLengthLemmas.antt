@@ -1,0 +1,108 @@
+-- The lengths of lines, and of the text of lines.
+use Rattle.std.proofs.Common.{ℕ, zero, suc, ◌+◌, ◌*◌, ◌^◌, ◌<◌, ◌≤◌, ◌≡◌, ◌≢◌, ◌⊎◌, inl, inr, Bool, true, false, cond, List, [], ◌∷◌, ◌++◌, length, codes, get_or, take, refl, sym, ap, ap₂, ◌∙◌, arith, length-append}
+use Rattle.std.proofs.lemmas.Bool.{cases_eq}
+use Rattle.std.specs.List.{sum_by, count_by}
+use Rattle.std.proofs.lemmas.Grind.{flat_map-append}
+use Rattle.std.proofs.lemmas.List.{append-nil, take_all}
+use Rattle.std.proofs.lemmas.List.Sums.{sum_by-cons}
+use Rattle.std.proofs.Math.Nat.{mul-le-mul, mul-le-mul_left}
+use Rattle.std.specs.Fmt.{digits}
+use Rattle.game_core.proofs.TableCountLemmas.{length-strategy_counts, at_most_product, profile_count-table}
+use Rattle.rational.specs.Gcd.{gcd}
+use Rattle.rational.specs.Rational.{ℚ, is_lowest, frac, zero_ℚ, one_ℚ}
+use Rattle.game_theory.specs.Profiles.{profile_count}
+use Rattle.game_theory.specs.Mixed.{Mixed, later, sure, pure}
+use Rattle.game_theory.specs.Lines.{listed, entries, number_text, line_text, lines_text}
+use Rattle.game_theory.proofs.SureStrategyLemmas.{sure-at, sure-other}
+use Rattle.game_core.specs.Table.{GameTable, IsTable, strategy_counts, most_payoffs}
+use Rattle.ne_printer.specs.Entries.{entry_text, entries_text}
+use Rattle.ne_printer.proofs.LineTextLemmas.{line_text-joined}
+use Rattle.enumpure.specs.Ranks.{ranked_plays_best, rank_line, lines_below}
+use Rattle.enumpure.specs.Replies.{plays_best}
+use Rattle.enumpure.proofs.StrideLemmas.{HaveStrategies, HaveStrategies-later, HaveStrategies-table, profile_count-positive}
+use Rattle.enumpure.proofs.TotalLemmas.{total, one_if, total-ranked, total-best_replies}
+
+-- the text of 1
+number_text-one : number_text one_ℚ ≡ 49 ∷ []
+unfolding frac gcd is_lowest digits
+number_text-one = refl
+
+-- the text of 0
+number_text-zero : number_text zero_ℚ ≡ 48 ∷ []
+unfolding frac gcd is_lowest digits
+number_text-zero = refl
+
+-- an entry of a pure profile is a comma and a digit
+length-entry_text : (s t : ℕ) → length (entry_text (sure s t)) ≡ 2
+length-entry_text s t = go (cases_eq t s)
+  where
+    go : (t ≡ s) ⊎ (t ≢ s) → length (entry_text (sure s t)) ≡ 2
+    go (inl e) = ap (λ q. length (entry_text q)) (ap (sure s) e ∙ sure-at s) ∙ ap (λ v. length (44 ∷ v)) number_text-one
+    go (inr e) = ap (λ q. length (entry_text q)) (sure-other s t e) ∙ ap (λ v. length (44 ∷ v)) number_text-zero
+
+-- n entries of two bytes each
+length-listed : (n : ℕ) (f : ℕ → ℚ) → ((s : ℕ) → length (entry_text (f s)) ≡ 2) → length (entries_text (listed n f)) ≡ 2 * n
+length-listed zero f h = refl
+length-listed (suc n) f h = length-append (entry_text (f 0)) (entries_text (listed n (λ i. f (suc i)))) ∙ omega (arith, h 0, length-listed n (λ i. f (suc i)) (λ s. h (suc s)))
+
+-- the entries of all players are two bytes for each strategy
+length-entries : (ns : List ℕ) (m : Mixed) → ((i s : ℕ) → length (entry_text (m i s)) ≡ 2) → length (entries_text (entries ns m)) ≡ 2 * sum_by (λ n. n) ns
+length-entries [] m h = refl
+length-entries (n ∷ ns) m h =
+    ap length (flat_map-append entry_text (listed n (m 0)) (entries ns (later m))) ∙ length-append (entries_text (listed n (m 0))) (entries_text (entries ns (later m))) ∙ omega (arith, sum_by-cons (λ n. n) n ns, length-listed n (m 0) (h 0), length-entries ns (later m) (λ i. h (suc i)))
+
+-- the length of the line with some entry
+length-line_some : (q : ℚ) (qs : List ℚ) → length (line_text (q ∷ qs)) ≡ 3 + length (entries_text (q ∷ qs))
+length-line_some q qs =
+    ap length (sym (line_text-joined [] (q ∷ qs))) ∙ length-append (codes "NE") (entries_text (q ∷ qs) ++ 10 ∷ []) ∙ ap (λ v. 2 + v) (length-append (entries_text (q ∷ qs)) (10 ∷ [])) ∙ omega arith
+
+-- the length of the line without entries
+pub length-line_none : (ns profile : List ℕ) → HaveStrategies ns → sum_by (λ n. n) ns ≡ 0 → length (line_text (entries ns (pure profile))) ≡ 4
+length-line_none [] profile h e = refl
+length-line_none (n ∷ ns) profile h e = let some : 0 < n = h.some 0 (omega arith) in absurd (omega (arith, some, sum_by-cons (λ n. n) n ns))
+
+-- the length of the line of a profile with some strategy
+pub length-line_text : (ns profile : List ℕ) → HaveStrategies ns → sum_by (λ n. n) ns ≢ 0 → length (line_text (entries ns (pure profile))) ≡ 3 + 2 * sum_by (λ n. n) ns
+length-line_text [] profile h e = absurd (e refl)
+length-line_text (zero ∷ ns) profile h e = absurd (omega (arith, h.some 0 (omega arith)))
+length-line_text (suc n ∷ ns) profile h e =
+    length-line_some (pure profile 0 0) (listed n (λ i. pure profile 0 (suc i)) ++ entries ns (later (pure profile))) ∙ ap (λ v. 3 + v) (length-entries (suc n ∷ ns) (pure profile) (λ i s. length-entry_text (get_or profile i 0) s))
+
+-- the strategies of all players are at most as many as players times profiles
+sum-at_most : (ns : List ℕ) → HaveStrategies ns → sum_by (λ n. n) ns ≤ length ns * profile_count ns
+sum-at_most [] h = omega arith
+sum-at_most (n ∷ ns) h =
+    let p : ℕ = profile_count ns in
+    let rest : HaveStrategies ns = HaveStrategies-later n ns h in
+    let one : n * 1 ≤ n * p = mul-le-mul_left n (profile_count-positive ns rest) in
+    let all : length ns * p ≤ n * (length ns * p) = at_most_product n (length ns * p) (h.some 0 (omega arith)) in
+    omega (arith, one, all, sum_by-cons (λ n. n) n ns, sum-at_most ns rest)
+
+-- a table has few strategies
+pub sum-table : (t : GameTable) → IsTable t → sum_by (λ n. n) (strategy_counts t) ≤ most_payoffs
+sum-table t h =
+    let e : length (strategy_counts t) * profile_count (strategy_counts t) ≡ length t.payoffs = ap (λ v. v * profile_count (strategy_counts t)) (length-strategy_counts t h) ∙ sym h.payoffs_of_each in
+    omega (arith, sum-at_most (strategy_counts t) (HaveStrategies-table t h), e, h.few_payoffs)
+
+-- past the last player all strategies are counted
+pub all_counted : (t : GameTable) (strategies i : ℕ) → IsTable t → length t.players ≤ i → strategies ≡ sum_by (λ n. n) (take i (strategy_counts t)) → strategies ≡ sum_by (λ n. n) (strategy_counts t)
+all_counted t strategies i h l e = e ∙ ap (sum_by (λ n. n)) (take_all i (strategy_counts t) (omega (arith, length-strategy_counts t h)))
+
+-- the lines of all profiles of a table have few bytes
+pub few_bytes : (t : GameTable) (n : ℕ) → IsTable t → n ≤ 3 + 2 * most_payoffs → profile_count (strategy_counts t) * n < 2 ^ 64
+few_bytes t n h l = omega (arith, mul-le-mul (profile_count-table t h) l)
+
+-- lines of equal lengths
+length-lines_below : (ns : List ℕ) (best_replies : List Bool) (n r : ℕ) → ((q : ℕ) → length (line_text (rank_line ns q)) ≡ n) → length (lines_text (lines_below ns best_replies r)) ≡ total r (λ q. one_if (ranked_plays_best ns best_replies q)) * n
+unfolding lines_below
+length-lines_below ns best_replies n zero h = omega arith
+length-lines_below ns best_replies n (suc r) h = go (length-lines_below ns best_replies n r h) (ranked_plays_best ns best_replies r) refl
+  where
+    go : length (lines_text (lines_below ns best_replies r)) ≡ total r (λ q. one_if (ranked_plays_best ns best_replies q)) * n → (b : Bool) → ranked_plays_best ns best_replies r ≡ b → length (lines_text (lines_below ns best_replies r ++ cond b (rank_line ns r ∷ []) [])) ≡ (total r (λ q. one_if (ranked_plays_best ns best_replies q)) + one_if b) * n
+    go e true f = ap length (flat_map-append line_text (lines_below ns best_replies r) (rank_line ns r ∷ [])) ∙ length-append (lines_text (lines_below ns best_replies r)) (line_text (rank_line ns r) ++ []) ∙ ap₂ (λ x y. x + y) e (ap length (append-nil (line_text (rank_line ns r))) ∙ h r) ∙ omega arith
+    go e false f = ap (λ v. length (lines_text v)) (append-nil (lines_below ns best_replies r)) ∙ e ∙ omega arith
+
+-- the length of the text is that of a line for each entry
+pub length-lines_text : (ns : List ℕ) (best_replies : List Bool) (n : ℕ) → length best_replies ≡ profile_count ns → ((profile : List ℕ) → length (line_text (entries ns (pure profile))) ≡ n) → length (lines_text (lines_below ns best_replies (length best_replies))) ≡ count_by (λ b. b) best_replies * n
+length-lines_text ns best_replies n e h =
+    length-lines_below ns best_replies n (length best_replies) (λ q. h _) ∙ ap (λ v. v * n) (ap (λ v. total v (λ q. one_if (ranked_plays_best ns best_replies q))) e ∙ total-ranked ns (λ k. one_if (plays_best best_replies k)) ∙ ap (λ v. total v (λ k. one_if (plays_best best_replies k))) (sym e) ∙ total-best_replies best_replies)

@@ -1,0 +1,133 @@
+-- Refusals of the tool `check` come from the contents of its inputs, and it has at most one answer.
+use Rattle.std.proofs.Common.{ℕ, ◌+◌, ◌≡◌, ◌<◌, refl, Bool, true, false, List, [], ◌∷◌, ◌++◌, length, Err}
+use Rattle.answers.specs.Answers.{Answer, IsSingle, ◌>>=◌, ◌>>◌, only, refused_by}
+use Rattle.answers.proofs.AnswerLemmas.{bind-single, refuse_where-single, refused_by-single}
+use Rattle.rational.specs.Rational.{ℚ}
+use Rattle.game_core.specs.Table.{GameTable, strategy_counts}
+use Rattle.game_core.specs.Tree.{GameTree}
+use Rattle.game_core.specs.TreeGame.{game_of_tree}
+use Rattle.game_core.specs.declared.game.Game.{Game}
+use Rattle.game_core.specs.declared.game.Game.TheVariants.{Strategic, Extensive}
+use Rattle.behaviour_profile.specs.EntryTests.{action_counts, profile_in}
+use Rattle.behaviour_profile.specs.declared.entries.ProfileFault.{ProfileFault}
+use Rattle.behaviour_profile.specs.declared.entries.ProfileFault.TheVariants as fault
+use Rattle.enumpure.specs.Stops.{within_text_limit}
+use Rattle.enumpure.specs.declared.listing.ListStop.{ListStop}
+use Rattle.enumpure.specs.declared.listing.ListStop.TheVariants as list_stop
+use Rattle.ne_printer.specs.ReadLines.{line_in}
+use Rattle.ne_printer.specs.declared.reading.LineStop.{LineStop}
+use Rattle.ne_printer.specs.declared.reading.LineStop.TheVariants as line_stop
+use Rattle.ne_checker.specs.LineChecks.{TableChecksAreSingle, TreeChecksAreSingle, faulty, limited, line_entries, table_check, table_judged, table_line, text_stop, tree_check, tree_judged, tree_line, unread}
+use Rattle.ne_checker.specs.Lines.{lines_answer, lines_of}
+use Rattle.ne_checker.specs.declared.stops.CheckStop.{CheckStop}
+use Rattle.ne_checker.specs.declared.stops.CheckStop.TheVariants as check_stop
+use Rattle.perfect_recall.specs.Found.{recall_of}
+use Rattle.reduced_form.specs.Stops.{form_of}
+use Rattle.reduced_form.proofs.OneFormLaws.{form_of-single}
+use Rattle.refusals.specs.Told.{check_refusal, form_refusal, recall_refusal}
+use Rattle.refusals.specs.declared.refusal.Refusal.{Refusal}
+use Rattle.refusals.specs.declared.refusal.Refusal.TheVariants as refusal
+use Rattle.gambit_tools.specs.Check.{check, verdicts, within_bytes}
+use Rattle.gambit_tools.specs.Games.{IsGame, game_in}
+use Rattle.gambit_tools.specs.Input.{most_bytes}
+use Rattle.gambit_tools.specs.Origins.{Contents, origin}
+use Rattle.gambit_tools.proofs.FormContentLemmas.{AreReasons, form_origin, inner-reasons, only-reasons, recall-contents, then-contents, then-reasons, told-contents}
+use Rattle.gambit_tools.proofs.FormSingleLemmas.{RecallsAreSingle}
+use Rattle.gambit_tools.proofs.KeptPropertyLemmas.{game_in-valid}
+use Rattle.gambit_tools.proofs.GameSingleLemmas.{game_in-single}
+
+-- ---- origins
+unread-reasons : (number : ℕ) (line : List ℕ) (stop : LineStop) → line_in line (Err stop) → origin (check_refusal (unread number stop)) ≡ Contents
+unread-reasons number line line_stop.Bad h = refl
+unread-reasons number line line_stop.Memory h = absurd h
+
+faulty-reasons : (number : ℕ) (fault : ProfileFault) → origin (check_refusal (faulty number fault)) ≡ Contents
+faulty-reasons number (fault.Unfit step) = refl
+faulty-reasons number fault.Count = refl
+faulty-reasons number (fault.Negative place) = refl
+faulty-reasons number (fault.Sum group) = refl
+
+entries-reasons : (number : ℕ) (sizes line : List ℕ) → AreReasons check_refusal (line_entries number sizes line)
+entries-reasons number sizes line =
+    then-reasons check_refusal (refused_by (unread number) (line_in line)) (λ entries. refused_by (faulty number) (profile_in sizes entries))
+    (inner-reasons check_refusal (unread number) (line_in line) (unread-reasons number line))
+    (λ entries. inner-reasons check_refusal (faulty number) (profile_in sizes entries) (λ fault _. faulty-reasons number fault))
+
+table_judged-reasons : (number : ℕ) (table : GameTable) (entries : List ℚ) → AreReasons check_refusal (table_judged number table entries)
+table_judged-reasons number table entries (check_stop.Range line step) h = refl
+table_judged-reasons number table entries (check_stop.BadLine line) h = refl
+table_judged-reasons number table entries (check_stop.TooLarge limit) h = refl
+table_judged-reasons number table entries check_stop.Memory h = absurd h
+
+tree_judged-reasons : (number : ℕ) (tree : GameTree) (entries : List ℚ) → AreReasons check_refusal (tree_judged number tree entries)
+tree_judged-reasons number tree entries (check_stop.Range line step) h = refl
+tree_judged-reasons number tree entries (check_stop.BadLine line) h = refl
+tree_judged-reasons number tree entries (check_stop.TooLarge limit) h = refl
+tree_judged-reasons number tree entries check_stop.Memory h = absurd h
+
+table_line-reasons : (table : GameTable) (number : ℕ) (line : List ℕ) → AreReasons check_refusal (table_line table number line)
+table_line-reasons table number line =
+    then-reasons check_refusal (line_entries number (strategy_counts table) line) (table_judged number table) (entries-reasons number (strategy_counts table) line) (table_judged-reasons number table)
+
+tree_line-reasons : (tree : GameTree) (number : ℕ) (line : List ℕ) → AreReasons check_refusal (tree_line tree number line)
+tree_line-reasons tree number line =
+    then-reasons check_refusal (line_entries number (action_counts (game_of_tree tree)) line) (tree_judged number tree) (entries-reasons number (action_counts (game_of_tree tree)) line)
+    (tree_judged-reasons number tree)
+
+lines-reasons : (judge : ℕ → List ℕ → Answer CheckStop (List ℕ)) → ((number : ℕ) (line : List ℕ) → AreReasons check_refusal (judge number line)) → (number : ℕ) (lines : List (List ℕ))
+    → AreReasons check_refusal (lines_answer judge number lines)
+lines-reasons judge each number [] = only-reasons check_refusal []
+lines-reasons judge each number (line ∷ lines) =
+    then-reasons check_refusal (judge number line) (λ text. lines_answer judge (number + 1) lines >>= λ texts. only (text ++ texts)) (each number line)
+    (λ text. then-reasons check_refusal (lines_answer judge (number + 1) lines) (λ texts. only (text ++ texts)) (lines-reasons judge each (number + 1) lines) (λ texts. only-reasons check_refusal (text ++ texts)))
+
+limited-reasons : (judged : List ℕ) → AreReasons check_refusal (limited judged)
+limited-reasons judged = inner-reasons check_refusal text_stop (within_text_limit (λ text. text ≡ judged)) each
+  where
+    each : (stop : ListStop) → within_text_limit (λ text. text ≡ judged) (Err stop) → origin (check_refusal (text_stop stop)) ≡ Contents
+    each (list_stop.TooLarge limit) h = refl
+    each list_stop.Memory h = absurd h
+
+table_check-reasons : (table : GameTable) (text : List ℕ) → AreReasons check_refusal (table_check table text)
+table_check-reasons table text =
+    then-reasons check_refusal (lines_answer (table_line table) 1 (lines_of text)) limited (lines-reasons (table_line table) (table_line-reasons table) 1 (lines_of text)) limited-reasons
+
+tree_check-reasons : (tree : GameTree) (text : List ℕ) → AreReasons check_refusal (tree_check tree text)
+tree_check-reasons tree text =
+    then-reasons check_refusal (lines_answer (tree_line tree) 1 (lines_of text)) limited (lines-reasons (tree_line tree) (tree_line-reasons tree) 1 (lines_of text)) limited-reasons
+
+pub verdicts-origin : (strategic : Bool) (game : Game) (lines : List ℕ) (r : Refusal) → verdicts strategic game lines (Err r) → origin r ≡ Contents
+verdicts-origin true (Strategic table) lines = told-contents check_refusal (table_check table lines) (table_check-reasons table lines)
+verdicts-origin false (Strategic table) lines = told-contents check_refusal (table_check table lines) (table_check-reasons table lines)
+verdicts-origin true (Extensive tree) lines =
+    then-contents (refused_by form_refusal (form_of tree)) (λ form. refused_by check_refusal (table_check form.table lines))
+    (told-contents form_refusal (form_of tree) (form_origin tree)) (λ form. told-contents check_refusal (table_check form.table lines) (table_check-reasons form.table lines))
+verdicts-origin false (Extensive tree) lines =
+    then-contents (refused_by recall_refusal (recall_of tree)) (λ _. refused_by check_refusal (tree_check tree lines))
+    (told-contents recall_refusal (recall_of tree) (recall-contents tree)) (λ _. told-contents check_refusal (tree_check tree lines) (tree_check-reasons tree lines))
+
+-- ---- one answer
+-- lines have one answer on a table, and on a tree
+pub record ChecksAreSingle : Type 0 where
+  pub tables : TableChecksAreSingle
+  pub trees : TreeChecksAreSingle
+
+verdicts-single : RecallsAreSingle → ChecksAreSingle → (strategic : Bool) (game : Game) (lines : List ℕ) → IsGame game → IsSingle (verdicts strategic game lines)
+verdicts-single recalls checks true (Strategic table) lines w = refused_by-single check_refusal (table_check table lines) (checks.tables table lines)
+verdicts-single recalls checks false (Strategic table) lines w = refused_by-single check_refusal (table_check table lines) (checks.tables table lines)
+verdicts-single recalls checks true (Extensive tree) lines w =
+    bind-single (refused_by form_refusal (form_of tree)) (λ form. refused_by check_refusal (table_check form.table lines))
+    (refused_by-single form_refusal (form_of tree) (form_of-single tree))
+    (λ form _. refused_by-single check_refusal (table_check form.table lines) (checks.tables form.table lines))
+verdicts-single recalls checks false (Extensive tree) lines w =
+    bind-single (refused_by recall_refusal (recall_of tree)) (λ _. refused_by check_refusal (tree_check tree lines))
+    (refused_by-single recall_refusal (recall_of tree) (recalls tree w))
+    (λ before h. refused_by-single check_refusal (tree_check tree lines) (checks.trees tree lines w h.all_recall))
+
+pub check-single : RecallsAreSingle → ChecksAreSingle → (strategic : Bool) (bytes lines : List ℕ) → IsSingle (check strategic bytes lines)
+check-single recalls checks strategic bytes lines =
+    bind-single (within_bytes bytes) (λ _. within_bytes lines >> (game_in bytes >>= λ game. verdicts strategic game lines))
+    (refuse_where-single (most_bytes < length bytes) refusal.TooLong)
+    (λ _ _. bind-single (within_bytes lines) (λ _. game_in bytes >>= λ game. verdicts strategic game lines)
+    (refuse_where-single (most_bytes < length lines) refusal.TooLong)
+    (λ _ _. bind-single (game_in bytes) (λ game. verdicts strategic game lines) (game_in-single bytes) (λ game h. verdicts-single recalls checks strategic game lines (game_in-valid bytes game h))))

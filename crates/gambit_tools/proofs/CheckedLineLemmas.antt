@@ -1,0 +1,169 @@
+-- Commands with two inputs: what reading them and judging the lines of the second does.
+use Rattle.std.proofs.Common.{ℕ, ◌≡◌, ◌+◌, ◌≤◌, ◌<◌, ◌∙◌, inl, inr, sym, subst, refl, arith, Bool, List, [], ◌∷◌, length, Option, None, Some, Ok, Err}
+use Rattle.std.specs.Io.KnownBytes.{Consumes}
+use Rattle.answers.specs.Answers.{Gives}
+use Rattle.outside.specs.Counts.{Rose}
+use Rattle.outside.specs.Inputs.{InputName, InputsSeen}
+use Rattle.words.specs.Words.{Command, Check}
+use Rattle.game_core.specs.declared.game.Game.{Game}
+use Rattle.gambit_tools.specs.Check.{check, verdicts}
+use Rattle.gambit_tools.specs.Input.{most_bytes, AreBytesOf, IsInputRefusal, IsReadToEnd, CountsDetermine}
+use Rattle.gambit_tools.specs.Games.{game_in}
+use Rattle.gambit_tools.specs.Origins.{Contents as of_contents, origin}
+use Rattle.gambit_tools.specs.Outcome.{HasAnswer, HasReadBefore, IsComputed, IsRefusedIn, RunAnswer}
+use Rattle.refusals.specs.declared.refusal.Refusal.{Refusal}
+use Rattle.refusals.specs.declared.refusal.Refusal.TheVariants as refusal
+use Rattle.gambit_tools.proofs.CheckContentLemmas.{verdicts-origin}
+use Rattle.gambit_tools.proofs.OneInputLemmas.{counts_none, too_long}
+use Rattle.gambit_tools.proofs.ContentLaws.{game_in-origin}
+
+-- bytes that an input may hold
+some_bytes : (held : Option (List ℕ)) → (bytes : List ℕ) × AreBytesOf held bytes
+some_bytes None = ([], tt)
+some_bytes (Some known) = (known, refl)
+
+-- after an input was read to its end the others are as they were
+pub record IsAfterOne (before between : InputsSeen) : Type 0 where
+  pub opening : between.open_faults ≡ before.open_faults
+  pub reading : between.read_faults ≡ before.read_faults
+  pub once : between.selections ≤ before.selections + 1
+  pub stay : (n : InputName) → between.held n ≡ before.held n
+
+counts_after : (before between after : InputsSeen) (r : Option Refusal) → IsAfterOne before between → CountsDetermine between after r → CountsDetermine before after r
+counts_after before between after r s h = record {
+  opening = λ less. h.opening (subst (λ n. n < after.open_faults) (sym s.opening) less);
+  reading = λ less. h.reading (subst (λ n. n < after.read_faults) (sym s.reading) less);
+}
+
+held_after : (before between after : InputsSeen) → IsAfterOne before between → ((n : InputName) → after.held n ≡ between.held n) → (n : InputName) → after.held n ≡ before.held n
+held_after before between after s stay n = stay n ∙ s.stay n
+
+module _ (strategic : Bool) (bytes_name : List ℕ) (lines_name : InputName) where
+  abbrev command : Command
+  command = Check strategic bytes_name lines_name
+
+  abbrev game_name : InputName
+  game_name = Some bytes_name
+
+  -- ---- the first input is not read
+  pub first-refused : (before after : InputsSeen) (r : Refusal) → IsInputRefusal game_name before after r → CountsDetermine before after (Some r) → after.selections ≤ before.selections + 1
+      → ((n : InputName) → after.held n ≡ before.held n) → IsComputed command before after (Err r)
+  first-refused before after refusal.OpenFault h counts few stay = record { answers = (game_name, (0, omega arith, refl), h); has_read = h.none_selected; selects_few = omega (arith, few); counts = counts; inputs_stay = stay }
+  first-refused before after refusal.ReadFault h counts few stay = record { answers = (game_name, (0, omega arith, refl), h); has_read = h.none_selected; selects_few = omega (arith, few); counts = counts; inputs_stay = stay }
+  first-refused before after refusal.TooLong h counts few stay =
+      (let long = too_long (before.held game_name) after.left h.taken h.count h.are_first in
+      let other = some_bytes (before.held lines_name) in
+      record {
+        answers = record { contents = long.0 ∷ other.0 ∷ []; are_contents = (long.1, (other.1, tt)); is_answer = inl (long.2, refl) };
+        has_read = (game_name, (0, omega arith, refl), h);
+        selects_few = omega (arith, few);
+        counts = counts;
+        inputs_stay = stay;
+      })
+  first-refused before after refusal.Memory h counts few stay = record { answers = tt; has_read = inr (game_name, (0, omega arith, refl), h); selects_few = omega (arith, few); counts = counts; inputs_stay = stay }
+  first-refused before after _ h counts few stay = elim h [ ]
+
+  -- ---- the second input is not read
+  pub second-refused : (before between after : InputsSeen) (bytes : List ℕ) (r : Refusal) → IsAfterOne before between → AreBytesOf (before.held game_name) bytes → length bytes ≤ most_bytes
+      → IsInputRefusal lines_name between after r → CountsDetermine between after (Some r) → after.selections ≤ between.selections + 1
+      → ((n : InputName) → after.held n ≡ between.held n) → IsComputed command before after (Err r)
+  second-refused before between after bytes refusal.OpenFault s are short h counts few stay = record {
+    answers = (lines_name, (1, omega arith, refl), record { rose = subst (λ n. Rose n after.open_faults) s.opening h.rose; failed = h.failed; none_selected = h.none_selected });
+    has_read = h.none_selected;
+    selects_few = (let once = s.once in omega (arith, few, once));
+    counts = counts_after before between after (Some refusal.OpenFault) s counts;
+    inputs_stay = held_after before between after s stay;
+  }
+  second-refused before between after bytes refusal.ReadFault s are short h counts few stay = record {
+    answers = (lines_name, (1, omega arith, refl), record { rose = subst (λ n. Rose n after.read_faults) s.reading h.rose; failed = h.failed; none_selected = h.none_selected });
+    has_read = h.none_selected;
+    selects_few = (let once = s.once in omega (arith, few, once));
+    counts = counts_after before between after (Some refusal.ReadFault) s counts;
+    inputs_stay = held_after before between after s stay;
+  }
+  second-refused before between after bytes refusal.TooLong s are short h counts few stay =
+      (let first = subst (λ held. Consumes held after.left h.taken) (s.stay lines_name) h.are_first in
+      let long = too_long (before.held lines_name) after.left h.taken h.count first in
+      record {
+        answers = record { contents = bytes ∷ long.0 ∷ []; are_contents = (are, (long.1, tt)); is_answer = inr (tt, (λ more. omega (arith, short, more)), inl (long.2, refl)) };
+        has_read = (lines_name, (1, omega arith, refl), record { selected = h.selected; taken = h.taken; count = h.count; are_first = first });
+        selects_few = (let once = s.once in omega (arith, few, once));
+        counts = counts_after before between after (Some refusal.TooLong) s counts;
+        inputs_stay = held_after before between after s stay;
+      })
+  second-refused before between after bytes refusal.Memory s are short h counts few stay = record {
+    answers = tt;
+    has_read = inr (lines_name, (1, omega arith, refl), h);
+    selects_few = (let once = s.once in omega (arith, few, once));
+    counts = counts_after before between after (Some refusal.Memory) s counts;
+    inputs_stay = held_after before between after s stay;
+  }
+  second-refused before between after bytes _ s are short h counts few stay = elim h [ ]
+
+  -- ---- both are read
+  pub record AreBothRead (before after : InputsSeen) (bytes lines : List ℕ) : Type 0 where
+    pub are_bytes : AreBytesOf (before.held game_name) bytes
+    pub are_lines : AreBytesOf (before.held lines_name) lines
+    pub few_bytes : length bytes ≤ most_bytes
+    pub few_lines : length lines ≤ most_bytes
+    pub read : IsReadToEnd lines_name after
+    pub counts : CountsDetermine before after None
+    pub twice : after.selections ≤ before.selections + 2
+    pub stay : (n : InputName) → after.held n ≡ before.held n
+
+  -- one input after the other
+  pub both-read : (before between after : InputsSeen) (bytes lines : List ℕ) → IsAfterOne before between → AreBytesOf (before.held game_name) bytes → AreBytesOf (between.held lines_name) lines
+      → length bytes ≤ most_bytes → length lines ≤ most_bytes → IsReadToEnd lines_name after → CountsDetermine between after None → after.selections ≤ between.selections + 1
+      → ((n : InputName) → after.held n ≡ between.held n) → AreBothRead before after bytes lines
+  both-read before between after bytes lines s are_bytes are_lines few_bytes few_lines read counts few stay = record {
+    are_bytes = are_bytes;
+    are_lines = subst (λ held. AreBytesOf held lines) (s.stay lines_name) are_lines;
+    few_bytes = few_bytes;
+    few_lines = few_lines;
+    read = read;
+    counts = counts_after before between after None s counts;
+    twice = (let once = s.once in omega (arith, few, once));
+    stay = held_after before between after s stay;
+  }
+
+  memory-computed : (before after : InputsSeen) (bytes lines : List ℕ) → AreBothRead before after bytes lines → IsComputed command before after (Err refusal.Memory)
+  memory-computed before after bytes lines h =
+      record { answers = tt; has_read = inr (lines_name, (1, omega arith, refl), h.read.selected); selects_few = h.twice; counts = counts_none before after refusal.Memory h.counts; inputs_stay = h.stay }
+
+  -- what the contents answer
+  whole : (before after : InputsSeen) (bytes lines : List ℕ) (answer : RunAnswer) → AreBothRead before after bytes lines → check strategic bytes lines answer → HasAnswer command before answer
+  whole before after bytes lines answer h g = record { contents = bytes ∷ lines ∷ []; are_contents = (h.are_bytes, (h.are_lines, tt)); is_answer = g }
+
+  contents-computed : (before after : InputsSeen) (bytes lines : List ℕ) (r : Refusal) → AreBothRead before after bytes lines → origin r ≡ of_contents → check strategic bytes lines (Err r) → IsComputed command before after (Err r)
+  contents-computed before after bytes lines r h o g =
+      let answer : HasAnswer command before (Err r) = whole before after bytes lines (Err r) h g in
+      record {
+        answers = subst (λ o. IsRefusedIn command before after r o) (sym o) answer;
+        has_read = subst (λ o. HasReadBefore (game_name ∷ lines_name ∷ []) before after o) (sym o) h.read;
+        selects_few = h.twice;
+        counts = counts_none before after r h.counts;
+        inputs_stay = h.stay;
+      }
+
+  -- the contents are within the limit
+  later : (before after : InputsSeen) (bytes lines : List ℕ) (r : Refusal) → AreBothRead before after bytes lines → ((game : Game) × game_in bytes (Ok game) × verdicts strategic game lines (Err r)) → check strategic bytes lines (Err r)
+  later before after bytes lines r h k = inr (tt, (λ more. (let few = h.few_bytes in omega (arith, few, more))), inr (tt, (λ more. (let few = h.few_lines in omega (arith, few, more))), inr k))
+
+  -- a game that is refused
+  pub game-computed : (before after : InputsSeen) (bytes lines : List ℕ) (r : Refusal) → AreBothRead before after bytes lines → Gives refusal.Memory (game_in bytes) (Err r) → IsComputed command before after (Err r)
+  game-computed before after bytes lines r h (inl e) = subst (λ r. IsComputed command before after (Err r)) (sym e) (memory-computed before after bytes lines h)
+  game-computed before after bytes lines r h (inr g) =
+      contents-computed before after bytes lines r h (game_in-origin bytes r h.few_bytes g)
+      (inr (tt, (λ more. (let few = h.few_bytes in omega (arith, few, more))), inr (tt, (λ more. (let few = h.few_lines in omega (arith, few, more))), inl g)))
+
+  -- what the lines are judged to be
+  pub verdicts-computed : (before after : InputsSeen) (bytes lines : List ℕ) (game : Game) (answer : RunAnswer) → AreBothRead before after bytes lines → game_in bytes (Ok game) → Gives refusal.Memory (verdicts strategic game lines) answer → IsComputed command before after answer
+  verdicts-computed before after bytes lines game (Ok text) h k g = record {
+    answers = whole before after bytes lines (Ok text) h (tt, (λ more. (let few = h.few_bytes in omega (arith, few, more))), (tt, (λ more. (let few = h.few_lines in omega (arith, few, more))), (game, k, g)));
+    has_read = h.read;
+    selects_few = h.twice;
+    counts = h.counts;
+    inputs_stay = h.stay;
+  }
+  verdicts-computed before after bytes lines game (Err r) h k (inl e) = subst (λ r. IsComputed command before after (Err r)) (sym e) (memory-computed before after bytes lines h)
+  verdicts-computed before after bytes lines game (Err r) h k (inr g) = contents-computed before after bytes lines r h (verdicts-origin strategic game lines r g) (later before after bytes lines r h (game, k, g))

@@ -1,0 +1,77 @@
+-- The payoffs at the leaves of a form with a program sum to the same number.
+use Rattle.std.proofs.Common.{ℕ, zero, suc, ◌<◌, ◌≡◌, ◌∙◌, inl, inr, sym, ap, subst, refl, arith, All, List, [], ◌∷◌, map, length, get_or, Option, None, Some, Ok}
+use Rattle.std.proofs.lemmas.List.Elements.{All-get_or, All-head, All-tail}
+use Rattle.std.proofs.lemmas.List.FromFn.{length-map-range_with_len, get_or-map-range_with_len}
+use Rattle.std.proofs.lemmas.Bool.{cases_lt}
+use Rattle.rational.specs.Rational.{ℚ}
+use Rattle.game_theory.specs.Profiles.{profile_count, number_of}
+use Rattle.game_theory.proofs.ProfileNumberLemmas.{number_of-below}
+use Rattle.game_theory.specs.Trees.{Tree}
+use Rattle.game_core.specs.Table.{GameTable, IsTable, game_of, strategy_counts}
+use Rattle.sequence_forms.specs.Forms.{LeavesSumTo, form_of_table}
+use Rattle.sequence_forms.specs.Lists.{leaf_first, leaves_below}
+use Rattle.sequence_forms.specs.Prices.{HasConstantSum}
+use Rattle.sequence_forms.proofs.SignLemmas.{table_cells}
+use Rattle.sequence_data.specs.Data.{FormData, IsFormData}
+use Rattle.sequence_data.specs.declared.types.Leaf.{Leaf}
+use Rattle.sequence_form.specs.Forms.{IsTableForm, IsTreeForm, profile_leaf, table_leaves}
+use Rattle.sequence_form.specs.Laws.{columns_of, rows_of}
+use Rattle.sequence_form.specs.Paths.{leaf_at}
+use Rattle.sequence_form.proofs.TableLeafLemmas.{two-strategies}
+use Rattle.zero_sum_lp.specs.FormPrograms.{is_constant, sum_at}
+
+-- the sum at the first leaf
+abbrev pub constant_of : FormData → Leaf → ℚ
+constant_of f none = sum_at (get_or f.leaves 0 none)
+
+-- each leaf has it
+abbrev pub SumsTo : List Leaf → ℚ → Type 0
+SumsTo leaves c = All (λ l. sum_at l ≡ c) leaves
+
+pub sums_to : (f : FormData) (none : Leaf) → IsFormData f → is_constant f.leaves (Ok tt) → SumsTo f.leaves (constant_of f none)
+sums_to f none w h = All-get_or (λ l. All (λ k. sum_at k ≡ sum_at l) f.leaves) f.leaves 0 none w.some_leaf h
+
+-- ---- trees
+-- what holds of each leaf that is listed holds of each leaf
+leaves_hold : (t : Tree) (P : Leaf → Type 0) (n : ℕ) (later : List ℕ) → All P (map (leaf_at t) (leaves_below t n later)) → All P (map (leaf_at t) later) × ((k : ℕ) → k < n → t.set k ≡ None → P (leaf_at t k))
+leaves_hold t P zero later h = (h, λ k l e. absurd (omega (arith, l)))
+leaves_hold t P (suc n) later h = let below = leaves_hold t P n (leaf_first (t.set n) n later) h in go (t.set n) refl below.0 below.1
+  where
+    none_some : (s : ℕ) → Some s ≡ None → ⊥
+    none_some s e = cc
+
+    go : (o : Option ℕ) → t.set n ≡ o → All P (map (leaf_at t) (leaf_first o n later)) → ((k : ℕ) → k < n → t.set k ≡ None → P (leaf_at t k)) → All P (map (leaf_at t) later) × ((k : ℕ) → k < suc n → t.set k ≡ None → P (leaf_at t k))
+    go None is all below = (
+      All-tail P (leaf_at t n) (map (leaf_at t) later) all,
+      λ k l e. elim (cases_lt k n) [
+        | inl less ↦ below k less e
+        | inr same ↦ subst (λ m. P (leaf_at t m)) (let q : n ≡ k = omega (arith, l, same) in q) (All-head P (leaf_at t n) (map (leaf_at t) later) all)
+      ],
+    )
+    go (Some s) is all below = (
+      all,
+      λ k l e. elim (cases_lt k n) [
+        | inl less ↦ below k less e
+        | inr same ↦ absurd (none_some s (sym is ∙ ap t.set (let q : n ≡ k = omega (arith, l, same) in q) ∙ e))
+      ],
+    )
+
+pub tree_sums : (t : Tree) (f : FormData) (c : ℚ) → IsTreeForm t f → SumsTo f.leaves c → LeavesSumTo t c
+tree_sums t f c h sums k l e = (leaves_hold t (λ d. sum_at d ≡ c) t.size [] (subst (λ (ls : List Leaf). SumsTo ls c) h.leaves_are sums)).1 k l e
+
+-- ---- tables
+profile_sums : (t : GameTable) (c : ℚ) (k : ℕ) → SumsTo (table_leaves t) c → k < profile_count (strategy_counts t) → sum_at (profile_leaf t k) ≡ c
+profile_sums t c k sums l =
+    let n = profile_count (strategy_counts t) in
+    let within : k < length (table_leaves t) = omega (arith, l, length-map-range_with_len (profile_leaf t) 0 n) in
+    subst (λ d. sum_at d ≡ c) (get_or-map-range_with_len (profile_leaf t) 0 n k k (profile_leaf t k) l (omega arith))
+    (All-get_or (λ d. sum_at d ≡ c) (table_leaves t) k (profile_leaf t k) within sums)
+
+pub table_sums : (t : GameTable) (f : FormData) (c : ℚ) → IsTable t → IsTableForm t f → SumsTo f.leaves c → HasConstantSum (form_of_table (game_of t) (rows_of t) (columns_of t)) c
+table_sums t f c w h sums =
+    let m = rows_of t in
+    let n = columns_of t in
+    let two = two-strategies t w h.two_players in
+    let listed : SumsTo (table_leaves t) c = subst (λ (ls : List Leaf). SumsTo ls c) h.leaves_are sums in
+    (table_cells (game_of t) m n).sums c (λ r q j l. profile_sums t c (number_of (m ∷ n ∷ []) (r ∷ q ∷ [])) listed
+    (subst (λ ns. number_of (m ∷ n ∷ []) (r ∷ q ∷ []) < profile_count ns) (sym two) (number_of-below (m ∷ n ∷ []) (r ∷ q ∷ []) (j, (l, tt)))))

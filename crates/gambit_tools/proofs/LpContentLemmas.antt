@@ -1,0 +1,73 @@
+-- Refusals of the tool `lp` come from the contents of its input.
+use Rattle.std.proofs.Common.{◌≡◌, ◌∙◌, inl, inr, ap, refl, Bool, true, false, [], ◌++◌, Err}
+use Rattle.answers.specs.Answers.{only, refuse_where, ◌>>=◌, refused_by}
+use Rattle.frac128.specs.Steps.{AddFits, unfit}
+use Rattle.frac128.specs.declared.steps.Op.TheVariants.{Add}
+use Rattle.game_theory.specs.Lines.{line_text}
+use Rattle.game_core.specs.declared.game.Game.{Game}
+use Rattle.sequence_data.specs.Data.{FormData}
+use Rattle.sequence_form.specs.Counts.{size_of_program}
+use Rattle.lex_tableau.specs.declared.tableau.StartStop.{StartStop}
+use Rattle.lex_tableau.specs.declared.tableau.StartStop.TheVariants as start_stop
+use Rattle.zero_sum_lp.specs.FormPrograms.{program_in, start_of, told_start}
+use Rattle.zero_sum_lp.specs.Parts.{Program}
+use Rattle.zero_sum_lp.specs.PlanStops.{plans_of}
+use Rattle.zero_sum_lp.specs.declared.stop.LpStop.{LpStop}
+use Rattle.zero_sum_lp.specs.declared.stop.PlanStop.{PlanStop}
+use Rattle.zero_sum_lp.specs.declared.stop.PlanStop.TheVariants as plan_stop
+use Rattle.gambit_tools.specs.Entries.{entries_in}
+use Rattle.gambit_tools.specs.Lp.{Solution, first_price, lp, optimum_of, prices_in, prices_text, solution, solution_in, solution_text}
+use Rattle.gambit_tools.specs.Origins.{Contents, origin}
+use Rattle.gambit_tools.specs.TwoPlayers.{form_in, two_players}
+use Rattle.refusals.specs.Told.{plan_refusal, program_refusal}
+use Rattle.refusals.specs.declared.refusal.Refusal.{Refusal}
+use Rattle.refusals.specs.declared.refusal.Refusal.TheVariants as refusal
+use Rattle.refusals.specs.declared.refusal.Site.TheVariants as site
+use Rattle.gambit_tools.proofs.FormContentLemmas.{AreContents, entries-contents, form_in-contents, only-contents, then-contents, told-contents, two_players-contents, where-contents}
+
+-- ---- reasons to stop
+plan-contents : (o : Program) (stop : PlanStop) → plans_of o (Err stop) → origin (plan_refusal stop) ≡ Contents
+plan-contents o (plan_stop.Range player step) h = refl
+plan-contents o plan_stop.Memory h = absurd h
+
+start-contents : (f : FormData) (stop : StartStop) → start_of f (Err stop) → origin (program_refusal (told_start stop)) ≡ Contents
+start-contents f (start_stop.Unfit row step) h = refl
+start-contents f start_stop.Memory h = absurd h.1.1
+
+program-contents : (f : FormData) (stop : LpStop) → program_in f (Err stop) → origin (program_refusal stop) ≡ Contents
+program-contents f stop (inl h) = ap (λ s. origin (program_refusal s)) h.1
+program-contents f stop (inr (_, _, inl h)) = ap (λ s. origin (program_refusal s)) h.2
+program-contents f stop (inr (_, _, inr (_, _, inl h))) = ap (λ s. origin (program_refusal s)) h.2
+program-contents f stop (inr (_, _, inr (_, _, inr (_, _, inl h)))) = ap (λ s. origin (program_refusal s)) h.2
+program-contents f stop (inr (_, _, inr (_, _, inr (_, _, inr (_, _, h))))) =
+    ap (λ s. origin (program_refusal s)) h.2 ∙ start-contents f h.0 h.1
+
+-- ---- the solution
+optimum-contents : (p : Program) → AreContents (optimum_of p)
+optimum-contents p r h = ap origin h.is
+
+solution_in-contents : (f : FormData) → AreContents (solution_in f)
+solution_in-contents f =
+    then-contents (refused_by program_refusal (program_in f)) (λ p. optimum_of p >>= λ o. (refused_by plan_refusal (plans_of o) >>= λ plans. only (solution f o plans)))
+    (told-contents program_refusal (program_in f) (program-contents f))
+    (λ p. then-contents (optimum_of p) (λ o. refused_by plan_refusal (plans_of o) >>= λ plans. only (solution f o plans)) (optimum-contents p)
+    (λ o. then-contents (refused_by plan_refusal (plans_of o)) (λ plans. only (solution f o plans))
+    (told-contents plan_refusal (plans_of o) (plan-contents o)) (λ plans. only-contents (solution f o plans))))
+
+-- ---- the text
+prices-contents : (asked : Bool) (f : FormData) (s : Solution) → AreContents (prices_in asked f s)
+prices-contents false f s = only-contents []
+prices-contents true f s =
+    then-contents (refuse_where (¬ (AddFits (first_price s) f.least_one)) (refusal.Range site.Value (unfit Add (first_price s) f.least_one))) (λ _. only (prices_text f s))
+    (where-contents _ _ refl) (λ _. only-contents (prices_text f s))
+
+text-contents : (strategic asked : Bool) (game : Game) (f : FormData) (s : Solution) → AreContents (solution_text strategic asked game f s)
+text-contents strategic asked game f s =
+    then-contents (entries_in strategic game s.one s.two) (λ entries. prices_in asked f s >>= λ lines. only (line_text entries ++ lines)) (entries-contents strategic game s.one s.two)
+    (λ entries. then-contents (prices_in asked f s) (λ lines. only (line_text entries ++ lines)) (prices-contents asked f s) (λ lines. only-contents (line_text entries ++ lines)))
+
+pub lp-origin : (strategic asked : Bool) (game : Game) (r : Refusal) → lp strategic asked game (Err r) → origin r ≡ Contents
+lp-origin strategic asked game =
+    then-contents (two_players game) (λ _. form_in size_of_program strategic game >>= λ f. (solution_in f >>= λ s. solution_text strategic asked game f s)) (two_players-contents game)
+    (λ _. then-contents (form_in size_of_program strategic game) (λ f. solution_in f >>= λ s. solution_text strategic asked game f s) (form_in-contents size_of_program strategic game)
+    (λ f. then-contents (solution_in f) (λ s. solution_text strategic asked game f s) (solution_in-contents f) (λ s. text-contents strategic asked game f s)))

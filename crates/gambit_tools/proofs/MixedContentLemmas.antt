@@ -1,0 +1,106 @@
+-- Refusals of the tool `enummixed` come from the contents of its input.
+use Rattle.std.proofs.Common.{ℕ, ◌≡◌, inl, inr, refl, Bool, true, false, List, Err, map}
+use Rattle.answers.specs.Answers.{refused_by}
+use Rattle.rational.specs.Rational.{ℚ}
+use Rattle.game_theory.specs.Profiles.{Game as TableGame}
+use Rattle.game_core.specs.Table.{GameTable, game_of}
+use Rattle.game_core.specs.declared.game.Game.{Game}
+use Rattle.game_core.specs.declared.game.Game.TheVariants.{Strategic, Extensive}
+use Rattle.linear_systems.specs.Vertices.{MarkedPoint}
+use Rattle.lex_tableau.specs.Starts.{Parts}
+use Rattle.reduced_form.specs.Kept.{kept_of}
+use Rattle.reduced_form.specs.Stops.{form_of}
+use Rattle.reduced_form.specs.declared.kept_stop.KeptStop.{KeptStop}
+use Rattle.reduced_form.specs.declared.kept_stop.KeptStop.TheVariants as kept_stop
+use Rattle.enumpure.specs.Stops.{within_text_limit}
+use Rattle.enumpure.specs.declared.listing.ListStop.{ListStop}
+use Rattle.enumpure.specs.declared.listing.ListStop.TheVariants as list_stop
+use Rattle.reply_polytope.specs.Stops.{polytopes_in}
+use Rattle.reply_polytope.specs.declared.stop.PolyStop.{PolyStop}
+use Rattle.reply_polytope.specs.declared.stop.PolyStop.TheVariants as poly_stop
+use Rattle.basis_enum.specs.Enumeration.{vertices_in}
+use Rattle.basis_enum.specs.declared.stop.EnumStop.{EnumStop}
+use Rattle.basis_enum.specs.declared.stop.EnumStop.TheVariants as enum_stop
+use Rattle.basis_enum.specs.Systems.{variable_count}
+use Rattle.label_pairing.specs.Stops.{pairs_in}
+use Rattle.label_pairing.specs.declared.pairing.PairStop.{PairStop}
+use Rattle.label_pairing.specs.declared.pairing.PairStop.TheVariants as pair_stop
+use Rattle.label_pairing.specs.declared.scaling.ScaleStop.{ScaleStop}
+use Rattle.label_pairing.specs.declared.scaling.ScaleStop.TheVariants as scaling_stop
+use Rattle.enummixed.specs.ExtremeText.{IsExtremeEquilibriaText, extreme_pairs, extreme_text, kept_text}
+use Rattle.enummixed.specs.Told.{polytopes_stop, enumeration_stop, pairs_stop, scale_stop, text_stop}
+use Rattle.enummixed.specs.Used.{all_labels, occurs, used_points, scaling_in}
+use Rattle.refusals.specs.Told.{form_refusal, kept_refusal, mixed_refusal}
+use Rattle.refusals.specs.declared.refusal.Refusal.{Refusal}
+use Rattle.gambit_tools.specs.Enummixed.{enummixed, strategic_text, table_text}
+use Rattle.gambit_tools.specs.Origins.{Contents, origin}
+use Rattle.gambit_tools.specs.TwoPlayers.{two_players}
+use Rattle.gambit_tools.proofs.FormContentLemmas.{AreContents, AreReasons, form_origin, inner-reasons, only-reasons, then-contents, then-reasons, told-contents, two_players-contents}
+
+-- ---- stages of the enumeration
+polytopes-reasons : (g : TableGame) (stop : PolyStop) → polytopes_in g (Err stop) → origin (mixed_refusal (polytopes_stop stop)) ≡ Contents
+polytopes-reasons g (poly_stop.NotTwoPlayers count) h = refl
+polytopes-reasons g (poly_stop.TooLarge limit) h = refl
+polytopes-reasons g (poly_stop.Range player profile step) h = refl
+polytopes-reasons g poly_stop.Memory h = absurd h
+
+vertices-reasons : (polytope : ℕ) (s : Parts) (stop : EnumStop) → vertices_in s (Err stop) → origin (mixed_refusal (enumeration_stop polytope stop)) ≡ Contents
+vertices-reasons polytope s (enum_stop.Start row step) h = refl
+vertices-reasons polytope s (enum_stop.Range level basis entering step) h = refl
+vertices-reasons polytope s (enum_stop.TooLarge limit) h = refl
+vertices-reasons polytope s enum_stop.Memory h = absurd h
+
+pairs-reasons : (all : List ℕ) (first second : List MarkedPoint) (stop : PairStop) → pairs_in all first second (Err stop) → origin (mixed_refusal (pairs_stop stop)) ≡ Contents
+pairs-reasons all first second (pair_stop.TooLarge limit) h = refl
+pairs-reasons all first second pair_stop.Memory h = absurd h
+
+scaling-reasons : (polytope : ℕ) (points : List (List ℚ)) (stop : ScaleStop) → scaling_in points (Err stop) → origin (mixed_refusal (scale_stop polytope stop)) ≡ Contents
+scaling-reasons polytope points (scaling_stop.Range step) h = refl
+scaling-reasons polytope points scaling_stop.Memory h = cc
+
+text-reasons : (P : List ℕ → Type 0) (stop : ListStop) → within_text_limit P (Err stop) → origin (mixed_refusal (text_stop stop)) ≡ Contents
+text-reasons P (list_stop.TooLarge limit) h = refl
+text-reasons P list_stop.Memory h = absurd h
+
+pub pairs-contents : (g : TableGame) → AreReasons mixed_refusal (extreme_pairs g)
+pairs-contents g stop (inl h) = inner-reasons mixed_refusal polytopes_stop (polytopes_in g) (polytopes-reasons g) stop h
+pairs-contents g stop (inr (systems, _, inl h)) = inner-reasons mixed_refusal (enumeration_stop 0) (vertices_in systems.0) (vertices-reasons 0 systems.0) stop h
+pairs-contents g stop (inr (systems, _, inr (first, _, inl h))) = inner-reasons mixed_refusal (enumeration_stop 1) (vertices_in systems.1) (vertices-reasons 1 systems.1) stop h
+pairs-contents g stop (inr (systems, _, inr (first, _, inr (second, _, inl h)))) =
+    let labels = all_labels (variable_count systems.0) in
+    inner-reasons mixed_refusal pairs_stop (pairs_in labels first.list second.list) (pairs-reasons labels first.list second.list) stop h
+pairs-contents g stop (inr (systems, _, inr (first, _, inr (second, _, inr (pairs, _, inl h))))) =
+    let points = used_points first.list (occurs (map (λ p. p.0) pairs)) in
+    inner-reasons mixed_refusal (scale_stop 0) (scaling_in points) (scaling-reasons 0 points) stop h
+pairs-contents g stop (inr (systems, _, inr (first, _, inr (second, _, inr (pairs, _, inr (_, _, inl h)))))) =
+    let points = used_points second.list (occurs (map (λ p. p.1) pairs)) in
+    inner-reasons mixed_refusal (scale_stop 1) (scaling_in points) (scaling-reasons 1 points) stop h
+pairs-contents g stop (inr (systems, _, inr (first, _, inr (second, _, inr (pairs, _, inr (_, _, inr (_, _, h))))))) = only-reasons mixed_refusal _ stop h
+
+text-contents : (g kept : TableGame) → AreReasons mixed_refusal (kept_text g kept)
+text-contents g kept =
+    then-reasons mixed_refusal (extreme_pairs kept) (λ _. refused_by text_stop (within_text_limit (IsExtremeEquilibriaText g))) (pairs-contents kept)
+    (λ _. inner-reasons mixed_refusal text_stop (within_text_limit (IsExtremeEquilibriaText g)) (text-reasons (IsExtremeEquilibriaText g)))
+
+-- ---- the tool
+kept-contents : (table : GameTable) (stop : KeptStop) → kept_of table (Err stop) → origin (kept_refusal stop) ≡ Contents
+kept-contents table (kept_stop.NotTwoPlayers count) h = refl
+kept-contents table (kept_stop.TooLarge limit) h = refl
+kept-contents table kept_stop.Memory h = absurd h
+
+table_text-contents : (all : Bool) (table : GameTable) → AreContents (table_text all table)
+table_text-contents true table = told-contents mixed_refusal (extreme_text (game_of table)) (text-contents (game_of table) (game_of table))
+table_text-contents false table =
+    then-contents (refused_by kept_refusal (kept_of table)) (λ kept. refused_by mixed_refusal (kept_text (game_of table) (game_of kept.table)))
+    (told-contents kept_refusal (kept_of table) (kept-contents table))
+    (λ kept. told-contents mixed_refusal (kept_text (game_of table) (game_of kept.table)) (text-contents (game_of table) (game_of kept.table)))
+
+strategic_text-contents : (all : Bool) (game : Game) → AreContents (strategic_text all game)
+strategic_text-contents all (Strategic table) = table_text-contents all table
+strategic_text-contents all (Extensive tree) =
+    then-contents (refused_by form_refusal (form_of tree)) (λ form. table_text all form.table)
+    (told-contents form_refusal (form_of tree) (form_origin tree)) (λ form. table_text-contents all form.table)
+
+pub enummixed-origin : (all : Bool) (game : Game) (r : Refusal) → enummixed all game (Err r) → origin r ≡ Contents
+enummixed-origin all game =
+    then-contents (two_players game) (λ _. strategic_text all game) (two_players-contents game) (λ _. strategic_text-contents all game)

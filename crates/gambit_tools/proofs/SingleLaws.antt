@@ -1,0 +1,61 @@
+-- Each stage has at most one answer.
+use Rattle.std.proofs.Common.{ℕ, Bool, true, false, List, [], slice_index_or}
+use Rattle.answers.specs.Answers.{IsSingle, refused_by}
+use Rattle.answers.proofs.AnswerLemmas.{bind-single, refused_by-single}
+use Rattle.game_core.specs.Table.{game_of as game_of_table}
+use Rattle.game_core.specs.Tree.{GameTree}
+use Rattle.game_core.specs.TreeGame.{game_of_tree}
+use Rattle.game_core.specs.declared.game.Game.{Game}
+use Rattle.game_core.specs.declared.game.Game.TheVariants.{Strategic, Extensive}
+use Rattle.reduced_form.specs.ReducedForm.{ReducedForm}
+use Rattle.reduced_form.specs.Stops.{form_of}
+use Rattle.reduced_form.proofs.OneFormLaws.{form_of-single}
+use Rattle.enumpure_trees.specs.TreeEquilibria.{IsTreeEquilibriaText}
+use Rattle.enumpure_trees.proofs.EquilibriumLineLemmas.{text-determined}
+use Rattle.enumpure.specs.Stops.{pure_text}
+use Rattle.enumpure.proofs.OneTextLaws.{pure_text-single, within_text_limit-single}
+use Rattle.words.specs.Words.{Command, Enumpure, Enummixed, Lcp, Lp, Convert, Check, Make}
+use Rattle.refusals.specs.Told.{form_refusal, list_refusal}
+use Rattle.gambit_tools.specs.Games.{IsGame, game_in}
+use Rattle.gambit_tools.specs.Enumpure.{form_text, enumpure}
+use Rattle.gambit_tools.specs.Commands.{tool_of, game_answer, answer_of}
+use Rattle.gambit_tools.proofs.CheckContentLemmas.{ChecksAreSingle, check-single}
+use Rattle.gambit_tools.proofs.ConvertLaws.{convert-single}
+use Rattle.gambit_tools.proofs.FormSingleLemmas.{RecallsAreSingle}
+use Rattle.gambit_tools.proofs.GameSingleLemmas.{game_in-single}
+use Rattle.gambit_tools.proofs.KeptPropertyLemmas.{TreesAreGames, game_in-valid}
+use Rattle.gambit_tools.proofs.LcpSingleLemmas.{lcp-single}
+use Rattle.gambit_tools.proofs.LpSingleLemmas.{lp-single}
+use Rattle.gambit_tools.proofs.MakeLaws.{make-single}
+use Rattle.gambit_tools.proofs.MixedSingleLemmas.{enummixed-single}
+
+-- ---- the tool `enumpure`
+form_text-single : (strategic : Bool) (tree : GameTree) (form : ReducedForm) → IsSingle (form_text strategic tree form)
+form_text-single true tree form = pure_text-single (game_of_table form.table)
+form_text-single false tree form = within_text_limit-single (IsTreeEquilibriaText (game_of_tree tree) form.choices) (text-determined (game_of_tree tree) form.choices)
+
+enumpure-single : (strategic : Bool) (game : Game) → IsSingle (enumpure strategic game)
+enumpure-single strategic (Strategic table) = refused_by-single list_refusal (pure_text (game_of_table table)) (pure_text-single (game_of_table table))
+enumpure-single strategic (Extensive tree) =
+    bind-single (refused_by form_refusal (form_of tree)) (λ form. refused_by list_refusal (form_text strategic tree form))
+    (refused_by-single form_refusal (form_of tree) (form_of-single tree))
+    (λ form _. refused_by-single list_refusal (form_text strategic tree form) (form_text-single strategic tree form))
+
+-- ---- commands
+-- each tool that is built has a line
+tool_of-single : (command : Command) (game : Game) → TreesAreGames → RecallsAreSingle → IsGame game → IsSingle (tool_of command game)
+tool_of-single (Enumpure strategic file) game laws recalls w = enumpure-single strategic game
+tool_of-single (Enummixed undominated workers file) game laws recalls w = enummixed-single undominated game w
+tool_of-single (Lcp strategic file) game laws recalls w = lcp-single strategic game laws recalls w
+tool_of-single (Lp strategic prices file) game laws recalls w = lp-single strategic prices game laws recalls w
+tool_of-single (Convert html row column file) game laws recalls w = convert-single html row column game
+tool_of-single _ game laws recalls w = λ one other h k. absurd h
+
+game_answer-single : TreesAreGames → RecallsAreSingle → (command : Command) (bytes : List ℕ) → IsSingle (game_answer command bytes)
+game_answer-single laws recalls command bytes =
+    bind-single (game_in bytes) (tool_of command) (game_in-single bytes) (λ game h. tool_of-single command game laws recalls (game_in-valid bytes game h))
+
+pub answer_of-single : TreesAreGames → RecallsAreSingle → ChecksAreSingle → (command : Command) (contents : List (List ℕ)) → IsSingle (answer_of command contents)
+answer_of-single laws recalls checks (Check strategic game lines) contents = check-single recalls checks strategic (slice_index_or contents 0 []) (slice_index_or contents 1 [])
+answer_of-single laws recalls checks (Make number rows columns workers) contents = make-single number rows columns
+answer_of-single laws recalls checks command contents = game_answer-single laws recalls command (slice_index_or contents 0 [])

@@ -1,0 +1,95 @@
+-- The lists of the players' own sets, one set after another.
+use Rattle.std.proofs.Common.{◌≡◌, ◌<◌, ◌≤◌, ◌+◌, ◌∙◌, sym, ap, subst, refl, ℕ, suc, true, false, Option, Some, None, List, [], ◌∷◌, ◌++◌, length, get_or, set, below_more, arith, take, map, All, inl, inr, option_map}
+use Rattle.std.proofs.Math.Nat.{add-zero}
+use Rattle.std.proofs.lemmas.Bool.{cases_eq, eqb-true, eq-eqb, false_from_ne_true}
+use Rattle.std.proofs.lemmas.List.{append-nil, length-set, get_or-set_same, get_or-set_other, get_or_append_left, get_or_push, length_push, length-take-le, get_or-map, map-set, take_more, length-map}
+use Rattle.std.proofs.lemmas.Option.{slice_get-get_or, slice_get_read, slice_get-map, get_or_from_slice_get, same_Some}
+use Rattle.lists.proofs.ElementLemmas.{test_in_front}
+use Rattle.game_core.specs.OwnSets.{AreOwnLists}
+use Rattle.game_core.specs.Tree.{GameTree, IsTree, InformationSet, IsWithin, is_set, own_from}
+
+-- one more set comes last among its owner's own sets
+own_from-push_at : (s i : ℕ) (sets : List InformationSet) (last : InformationSet) → own_from s i (sets ++ last ∷ []) ≡ own_from s i sets ++ own_from (s + length sets) i (last ∷ [])
+own_from-push_at s i [] last = rw add-zero refl
+own_from-push_at s i (first ∷ sets) last =
+    let later : suc s + length sets ≡ s + suc (length sets) = omega arith in
+    rw (← later) (test_in_front (is_set i first.owner) s _ _ _ (own_from-push_at (suc s) i sets last))
+
+-- the same where the sets are numbered from 0
+own_from-push : (i : ℕ) (sets : List InformationSet) (last : InformationSet) → own_from 0 i (sets ++ last ∷ []) ≡ own_from 0 i sets ++ own_from (length sets) i (last ∷ [])
+own_from-push i sets last =
+    let start : 0 + length sets ≡ length sets = omega arith in
+    rw start at (own_from-push_at 0 i sets last)
+
+-- the set is not the player's own
+own_from-other : (s i : ℕ) (last : InformationSet) → is_set i last.owner ≡ false → own_from s i (last ∷ []) ≡ []
+own_from-other s i last other = rw other refl
+
+-- the set is the player's own
+own_from-own : (s i : ℕ) (last : InformationSet) → is_set i last.owner ≡ true → own_from s i (last ∷ []) ≡ s ∷ []
+own_from-own s i last own = rw own refl
+
+-- one more player without sets
+pub AreOwnLists-one_more : (players : ℕ) (lists : List (List ℕ)) → AreOwnLists [] players lists → AreOwnLists [] (players + 1) (lists ++ [] ∷ [])
+AreOwnLists-one_more players lists h = record {
+  one_for_each = length_push lists [] ∙ ap (λ n. n + 1) h.one_for_each;
+  are_own = λ i below. slice_get-get_or (lists ++ [] ∷ []) i [] below ∙ ap Some (empty i (rw length_push at below));
+}
+  where
+    empty : (i : ℕ) → i < length lists + 1 → get_or (lists ++ [] ∷ []) i [] ≡ []
+    empty = below_more _ _ (λ i below. get_or_append_left lists ([] ∷ []) [] i below ∙ get_or_from_slice_get lists i [] [] (h.are_own i below)) (get_or_push lists [] [] (length lists) refl)
+
+-- one more set of chance
+AreOwnLists-chance : (sets : List InformationSet) (last : InformationSet) (players : ℕ) (lists : List (List ℕ)) → last.owner ≡ None → AreOwnLists sets players lists → AreOwnLists (sets ++ last ∷ []) players lists
+AreOwnLists-chance sets last players lists owner h = record {
+  one_for_each = h.one_for_each;
+  are_own = λ i below. h.are_own i below ∙ ap Some (sym (own_from-push i sets last ∙ ap (λ v. own_from 0 i sets ++ v) (own_from-other _ i last (ap (is_set i) owner)) ∙ append-nil _));
+}
+
+-- the list of one player after one more set of another player or of that player
+list_after : (sets : List InformationSet) (last : InformationSet) (player i : ℕ) (lists : List (List ℕ)) → last.owner ≡ Some player → i < length lists → get_or lists i [] ≡ own_from 0 i sets → get_or (set lists player (get_or lists player [] ++ length sets ∷ [])) i [] ≡ own_from 0 i (sets ++ last ∷ [])
+list_after sets last player i lists owner below h = elim (cases_eq i player) [
+  | inl same ↦ rw same (get_or-set_same lists player _ [] (rw same at below) ∙ ap (λ v. v ++ length sets ∷ []) (rw same at h) ∙ ap (λ v. own_from 0 player sets ++ v) (sym (own_from-own _ player last (ap (is_set player) owner ∙ eq-eqb player player refl))) ∙ sym (own_from-push player sets last))
+  | inr other ↦ get_or-set_other lists player i _ [] other ∙ h ∙ sym (append-nil _) ∙ ap (λ v. own_from 0 i sets ++ v) (sym (own_from-other _ i last (ap (is_set i) owner ∙ false_from_ne_true _ (λ same. other (sym (eqb-true player i same)))))) ∙ sym (own_from-push i sets last)
+]
+
+-- one more set of a player
+AreOwnLists-player : (sets : List InformationSet) (last : InformationSet) (players player : ℕ) (lists : List (List ℕ)) → last.owner ≡ Some player → AreOwnLists sets players lists → AreOwnLists (sets ++ last ∷ []) players (set lists player (get_or lists player [] ++ length sets ∷ []))
+AreOwnLists-player sets last players player lists owner h = record {
+  one_for_each = length-set lists player _ ∙ h.one_for_each;
+  are_own = λ i below. slice_get-get_or (set lists player _) i [] below ∙ ap Some (list_after sets last player i lists owner (rw length-set at below) (get_or_from_slice_get lists i _ [] (h.are_own i (rw length-set at below))));
+}
+
+-- the set at a place is one of chance
+pub AreOwnLists-step_chance : (sets : List InformationSet) (k : ℕ) (here : InformationSet) (players : ℕ) (lists : List (List ℕ)) → k < length sets → here ≡ get_or sets k here → here.owner ≡ None → AreOwnLists (take k sets) players lists → AreOwnLists (take (k + 1) sets) players lists
+AreOwnLists-step_chance sets k here players lists below is owner h = rw (take_more sets k here below) (rw (← is) (AreOwnLists-chance (take k sets) here players lists owner h))
+
+-- the set at a place is one of a player, whose list takes its number
+pub AreOwnLists-step_player : {V : Type 0} (f : V → List ℕ) (sets : List InformationSet) (k : ℕ) (here : InformationSet) (players player : ℕ) (lists : List V) (old new : V) → k < length sets → here ≡ get_or sets k here → here.owner ≡ Some player → player < length lists → old ≡ get_or lists player old → f new ≡ f old ++ k ∷ [] → AreOwnLists (take k sets) players (map f lists) → AreOwnLists (take (k + 1) sets) players (map f (set lists player new))
+AreOwnLists-step_player f sets k here players player lists old new below is owner inside old_is new_is h =
+    let counted : length (take k sets) ≡ k = length-take-le k sets (omega arith) in
+    let list_is : f new ≡ get_or (map f lists) player [] ++ length (take k sets) ∷ [] = new_is ∙ ap (λ v. f v ++ k ∷ []) old_is ∙ ap (λ v. v ++ k ∷ []) (sym (get_or-map f lists player old [] inside)) ∙ ap (λ n. get_or (map f lists) player [] ++ n ∷ []) (sym counted) in
+    rw (take_more sets k here below, map-set, list_is) (rw (← is) (AreOwnLists-player (take k sets) here players player (map f lists) owner h))
+
+-- a set's owner is one of the players
+pub owner_within : (sets : List InformationSet) (k : ℕ) (here : InformationSet) (players player : ℕ) → All (λ set. IsWithin players set.owner) sets → k < length sets → here ≡ get_or sets k here → here.owner ≡ Some player → player < players
+owner_within sets k here players player owners below is owner = subst (IsWithin players) (ap (λ set. set.owner) (sym is) ∙ owner) (owners k here below)
+
+-- a number that is no player's owns no set
+pub own_from-nobody : (s i players : ℕ) (sets : List InformationSet) → All (λ set. IsWithin players set.owner) sets → players ≤ i → own_from s i sets ≡ []
+own_from-nobody s i players [] owners past = refl
+own_from-nobody s i players (first ∷ sets) owners past = rw (other first.owner (owners 0 first (omega arith))) (own_from-nobody (suc s) i players sets (λ k d below. owners (suc k) d (omega arith)) past)
+  where
+    other : (owner : Option ℕ) → IsWithin players owner → is_set i owner ≡ false
+    other None within = refl
+    other (Some player) within = false_from_ne_true _ (λ same. let e = eqb-true player i same in absurd (omega arith))
+
+-- a player's list has the numbers of the player's own sets
+pub own_list : {V : Type 0} (f : V → List ℕ) (sets : List InformationSet) (players player : ℕ) (lists : List V) (list : V) → AreOwnLists sets players (map f lists) → player < length lists → list ≡ get_or lists player list → own_from 0 player sets ≡ f list
+own_list f sets players player lists list h inside is =
+    let found = slice_get-map f lists player ∙ ap (option_map f) (slice_get_read lists (length lists) player list refl inside is) in
+    same_Some _ _ (sym (h.are_own player (rw length-map inside)) ∙ found)
+
+-- each set's owner is one of the players
+pub owners_within : (t : GameTree) → IsTree t → All (λ set. IsWithin (length t.players) set.owner) t.sets
+owners_within t valid k d below = (valid.sets_fit k (get_or t.sets k d) (slice_get-get_or t.sets k d below)).owner_within

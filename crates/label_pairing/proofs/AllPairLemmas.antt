@@ -1,0 +1,110 @@
+-- All pairs are exactly the pairs, and none stands twice
+use Rattle.std.proofs.Common.{ℕ, zero, suc, ◌<◌, ◌≡◌, ◌≢◌, inl, inr, Bool, true, false, cond, List, [], ◌∷◌, ◌++◌, All, Ok, Err, length, map, get_or, sym, ap, ◌∙◌, subst, arith}
+use Rattle.std.specs.Prelude.{Contains}
+use Rattle.std.specs.List.{AllPairs, filter, range_with_len}
+use Rattle.std.proofs.lemmas.Bool.{cases_lt}
+use Rattle.std.proofs.lemmas.List.Elements.{All-append, All-filter, All-contains, All-contains_itself, filter_passes, Contains-get_or, Contains-append_left, Contains-append_right, Contains-append_cases}
+use Rattle.std.proofs.lemmas.List.FromFn.{length-map-range_with_len, get_or-map-range_with_len}
+use Rattle.std.proofs.lemmas.List.Kept.{AllPairs-cons, AllPairs-filter}
+use Rattle.linear_systems.specs.Vertices.{MarkedPoint}
+use Rattle.label_pairing.specs.Pairs.{are_together, mark_at, places, all_pairs}
+use Rattle.label_pairing.specs.declared.pairing.PairStop.TheVariants as stops
+use Rattle.label_pairing.specs.Laws.{IsPair, PairsAreTheTogether, PairsAreSingle}
+use Rattle.label_pairing.proofs.RowLemmas.{places-next}
+
+-- what a filter keeps
+kept : {X : Type 0} (p : X → Bool) (xs : List X) (x : X) → p x ≡ true → Contains xs x → Contains (filter p xs) x
+kept p [] x t (k, h, e) = absurd (omega arith)
+kept {X} p (y ∷ ys) x t (zero, h, e) = go (p y) (ap p e ∙ t)
+  where
+    go : (b : Bool) → b ≡ true → Contains (cond b (y ∷ filter p ys) (filter p ys)) x
+    go true _ = (0, omega arith, e)
+    go false f = absurd (cc)
+kept {X} p (y ∷ ys) x t (suc k, h, e) = go (p y) (kept p ys x t (k, omega arith, e))
+  where
+    go : (b : Bool) → Contains (filter p ys) x → Contains (cond b (y ∷ filter p ys) (filter p ys)) x
+    go true (j, l, f) = (suc j, omega arith, f)
+    go false c = c
+
+-- the places in one row
+abbrev row : ℕ → ℕ → List (ℕ × ℕ)
+row m n = map (λ j. (m, j)) (range_with_len 0 n)
+
+row_out : (m n : ℕ) (p : ℕ × ℕ) → Contains (map (λ j. (m, j)) (range_with_len 0 n)) p → (p.0 ≡ m) × (p.1 < n)
+row_out m n p (k, h, e) =
+    let l : k < n = omega (arith, length-map-range_with_len {X = ℕ × ℕ} (λ j. (m, j)) 0 n) in
+    let same : p ≡ (m, k) = sym e ∙ get_or-map-range_with_len {X = ℕ × ℕ} (λ j. (m, j)) 0 n k k p l (omega arith) in
+    (ap (λ (q : ℕ × ℕ). q.0) same, subst (λ j. j < n) (sym (ap (λ (q : ℕ × ℕ). q.1) same)) l)
+
+row_in : (m n j : ℕ) → j < n → Contains (map {B = ℕ × ℕ} (λ j. (m, j)) (range_with_len 0 n)) (m, j)
+row_in m n j l = (j, subst (λ k. j < k) (sym (length-map-range_with_len {X = ℕ × ℕ} (λ j. (m, j)) 0 n)) l, get_or-map-range_with_len {X = ℕ × ℕ} (λ j. (m, j)) 0 n j j (m, j) l (omega arith))
+
+-- all places
+places_out : (m n : ℕ) (p : ℕ × ℕ) → Contains (places m n) p → (p.0 < m) × (p.1 < n)
+places_out zero n p (k, h, e) = absurd (omega arith)
+places_out (suc m) n p c = elim (Contains-append_cases (places m n) _ p (subst (λ ps. Contains ps p) (places-next m n) c)) [
+  | inl a ↦ let r = places_out m n p a in (omega (arith, r.0), r.1)
+  | inr a ↦ let r = row_out m n p a in (omega (arith, r.0), r.1)
+]
+
+places_in : (m n i j : ℕ) → i < m → j < n → Contains (places m n) (i, j)
+places_in zero n i j h l = absurd (omega arith)
+places_in (suc m) n i j h l =
+    subst (λ ps. Contains ps (i, j)) (sym (places-next m n))
+    (elim (cases_lt i m) [
+      | inl b ↦ Contains-append_left (places m n) _ (i, j) (places_in m n i j b l)
+      | inr b ↦ let e : m ≡ i = omega arith in Contains-append_right (places m n) _ (i, j) (subst (λ k. Contains {X = ℕ × ℕ} (row m n) (k, j)) e (row_in m n j l))
+    ])
+
+-- lists of which no two elements are related in either nor across
+all_pairs-append : {X : Type 0} (R : X → X → Type 0) (xs ys : List X) → AllPairs R xs → AllPairs R ys → All (λ x. All (R x) ys) xs → AllPairs R (xs ++ ys)
+all_pairs-append R [] ys h g across = g
+all_pairs-append R (x ∷ xs) ys h g across =
+    AllPairs-cons R x (xs ++ ys) (All-append (R x) xs ys (λ k d l. h 0 (suc k) d (omega arith) (omega arith)) (across 0 x (omega arith)))
+    (all_pairs-append R xs ys (λ i j d l m. h (suc i) (suc j) d (omega arith) (omega arith)) g (λ k d l. across (suc k) d (omega arith)))
+
+-- no place stands twice
+places_once : (m n : ℕ) → AllPairs (λ p q. p ≢ q) (places m n)
+places_once zero n = λ i j d l m. absurd (omega arith)
+places_once (suc m) n =
+    subst (AllPairs (λ p q. p ≢ q)) (sym (places-next m n)) (all_pairs-append (λ p q. p ≢ q) (places m n) (row m n) (places_once m n) row_once across)
+  where
+    row_once : AllPairs (λ p q. p ≢ q) (row m n)
+    row_once i j d l h e =
+        let k : j < n = omega (arith, length-map-range_with_len {X = ℕ × ℕ} (λ j. (m, j)) 0 n) in
+        let same : (let p : ℕ × ℕ = (m, i) in p) ≡ (m, j) = sym (get_or-map-range_with_len {X = ℕ × ℕ} (λ j. (m, j)) 0 n i i d (omega arith) (omega arith)) ∙ e ∙ get_or-map-range_with_len {X = ℕ × ℕ} (λ j. (m, j)) 0 n j j d k (omega arith) in
+        omega (arith, ap (λ (p : ℕ × ℕ). p.1) same)
+
+    across : All (λ p. All (λ q. p ≢ q) (row m n)) (places m n)
+    across k d h i c l e =
+        let before = places_out m n (get_or (places m n) k d) (Contains-get_or (places m n) k d h) in
+        let here = row_out m n (get_or (row m n) i c) (Contains-get_or (row m n) i c l) in
+        omega (arith, before.0, here.0, ap (λ (p : ℕ × ℕ). p.0) e)
+
+module _ (all : List ℕ) (first second : List MarkedPoint) where
+  abbrev test : ℕ × ℕ → Bool
+  test p = are_together all (mark_at first p.0) (mark_at second p.1)
+
+  exactly_out : (i j : ℕ) → Contains (all_pairs all first second) (i, j) → IsPair all first second i j
+  exactly_out i j c =
+      let ps = places (length first) (length second) in
+      let inside = places_out (length first) (length second) (i, j) (All-contains (Contains ps) (filter test ps) (i, j) (All-filter test (Contains ps) ps (All-contains_itself ps)) c) in
+      record { in_first = inside.0; in_second = inside.1; together = All-contains (λ p. test p ≡ true) (filter test ps) (i, j) (filter_passes test ps) c }
+
+  exactly_in : (i j : ℕ) → IsPair all first second i j → Contains (all_pairs all first second) (i, j)
+  exactly_in i j h = kept test (places (length first) (length second)) (i, j) h.together (places_in (length first) (length second) i j h.in_first h.in_second)
+
+pub pairs_together : PairsAreTheTogether
+pairs_together = record {
+  exactly = λ all first second i j. (exactly_out all first second i j, exactly_in all first second i j);
+  once = λ all first second. AllPairs-filter (λ p q. p ≢ q) _ (places (length first) (length second)) (places_once (length first) (length second));
+}
+
+pub pairs_single : PairsAreSingle
+pairs_single all first second (Ok a) (Ok b) h g = ap Ok (h.0 ∙ sym g.0)
+pairs_single all first second (Ok a) (Err (stops.TooLarge l)) h g = absurd (omega (arith, ap length h.0, h.1, g.0))
+pairs_single all first second (Err (stops.TooLarge l)) (Ok a) g h = absurd (omega (arith, ap length h.0, h.1, g.0))
+pairs_single all first second (Err (stops.TooLarge l)) (Err (stops.TooLarge k)) h g = ap (λ x. Err (stops.TooLarge x)) (h.1 ∙ sym g.1)
+pairs_single all first second (Ok a) (Err stops.Memory) h g = absurd g
+pairs_single all first second (Err (stops.TooLarge l)) (Err stops.Memory) h g = absurd g
+pairs_single all first second (Err stops.Memory) other h g = absurd h

@@ -1,0 +1,68 @@
+-- The costs of cells, one after another.
+use Rattle.std.proofs.Common.{ℕ, suc, ◌<◌, ◌≡◌, ◌+◌, List, [], ◌∷◌, ◌++◌, All, Result, Ok, Err, length, take, drop, get_or, refl, sym, ap, ◌∙◌, subst, append_assoc, add-one}
+use Rattle.std.specs.Prelude.{IfErr, OnErr}
+use Rattle.std.proofs.Math.Seq.{take-suc}
+use Rattle.std.proofs.lemmas.List.Elements.{All-nil, All-cons, All-append}
+use Rattle.rational.specs.Rational.{ℚ, ◌*ℚ◌}
+use Rattle.frac128.specs.Steps.{MulFits, SubFits, unfit}
+use Rattle.frac128.specs.declared.steps.Op.TheVariants.{Sub, Mul}
+use Rattle.pure_payoffs.specs.FirstUnfit.{Fits, IsFirstUnfitOf}
+use Rattle.pure_payoffs.specs.Steps.{Step, IsFirstUnfit}
+use Rattle.pure_payoffs.proofs.FirstUnfitLemmas.{split_here}
+use Rattle.pure_payoffs.proofs.StepRunLemmas.{first_unfit-following, first_unfit-here, one-fits}
+use Rattle.sequence_data.specs.declared.types.Cell.{Cell}
+use Rattle.lemke_pivot.specs.FormProblems.{PlayersCell, both_costs, cost_steps, steps_at}
+
+-- ---- a cost
+pub product_unfit : (most weight payoff : ℚ) (e : Step) → (MulFits most weight → ⊥) → e ≡ unfit Mul most weight → IsFirstUnfit (cost_steps most weight payoff) e
+product_unfit most weight payoff e h is = subst (IsFirstUnfit (cost_steps most weight payoff)) (sym is) (first_unfit-here (unfit Mul most weight) _ h)
+
+pub difference_unfit : (most weight payoff part : ℚ) (r : Result ℚ Step) → part ≡ most *ℚ weight → MulFits most weight → IfErr r (λ e. e ≡ unfit Sub part payoff) → OnErr r (SubFits part payoff → ⊥) → IfErr r (IsFirstUnfit (cost_steps most weight payoff))
+difference_unfit most weight payoff part (Ok v) is fits step refused = tt
+difference_unfit most weight payoff part (Err e) is fits step refused =
+    subst (IsFirstUnfit (cost_steps most weight payoff)) (sym (step ∙ ap (λ p. unfit Sub p payoff) is))
+    (first_unfit-following (unfit Mul most weight ∷ []) (unfit Sub (most *ℚ weight) payoff ∷ []) _ (one-fits (unfit Mul most weight) fits) (first_unfit-here _ [] (λ f. refused (subst (λ p. SubFits p payoff) (sym is) f))))
+
+-- ---- both players' costs
+both_append : (xs ys : List Cell) → both_costs (xs ++ ys) ≡ both_costs xs ++ both_costs ys
+both_append [] ys = refl
+both_append (c ∷ xs) ys = ap (λ (rest : List PlayersCell). record { player = 0; cell = c } ∷ record { player = 1; cell = c } ∷ rest) (both_append xs ys)
+
+module _ (most_one most_two : ℚ) (cells : List Cell) (k : ℕ) (c : Cell) (l : k < length cells) (is : c ≡ get_or cells k c) where
+  abbrev steps : PlayersCell → List Step
+  steps = steps_at most_one most_two
+
+  abbrev first : PlayersCell
+  first = record { player = 0; cell = c }
+
+  abbrev second : PlayersCell
+  second = record { player = 1; cell = c }
+
+  both_split : both_costs cells ≡ both_costs (take k cells) ++ first ∷ second ∷ both_costs (drop (suc k) cells)
+  both_split = ap both_costs (split_here (λ (x : Cell). []) cells k c l is) ∙ both_append (take k cells) (c ∷ drop (suc k) cells)
+
+  module _ (fit : All (Fits steps) (both_costs (take k cells))) where
+    pub unfit_one : (e : Step) → IsFirstUnfit (cost_steps most_one c.weight c.one) e → IsFirstUnfitOf steps (both_costs cells) first e
+    unfit_one e h = record { before = both_costs (take k cells); after = second ∷ both_costs (drop (suc k) cells); is_there = both_split; earlier_fit = fit; first_unfit = h }
+
+    first_fits : Fits steps first → All (Fits steps) (both_costs (take k cells) ++ first ∷ [])
+    first_fits h = All-append (Fits steps) (both_costs (take k cells)) (first ∷ []) fit (All-cons (Fits steps) first [] h (All-nil (Fits steps)))
+
+    pub unfit_two : (e : Step) → Fits steps first → IsFirstUnfit (cost_steps most_two c.weight c.two) e → IsFirstUnfitOf steps (both_costs cells) second e
+    unfit_two e h g =
+        record {
+          before = both_costs (take k cells) ++ first ∷ [];
+          after = both_costs (drop (suc k) cells);
+          is_there = both_split ∙ sym (append_assoc (both_costs (take k cells)) (first ∷ []) (second ∷ both_costs (drop (suc k) cells)));
+          earlier_fit = first_fits h;
+          first_unfit = g;
+        }
+
+    taken : both_costs (take (k + 1) cells) ≡ (both_costs (take k cells) ++ first ∷ []) ++ second ∷ []
+    taken =
+        ap (λ n. both_costs (take n cells)) (add-one k) ∙ ap both_costs (take-suc cells k c l ∙ ap (λ y. take k cells ++ y ∷ []) (sym is)) ∙ both_append (take k cells) (c ∷ [])
+        ∙ sym (append_assoc (both_costs (take k cells)) (first ∷ []) (second ∷ []))
+
+    pub both_fit : Fits steps first → Fits steps second → All (Fits steps) (both_costs (take (k + 1) cells))
+    both_fit h g =
+        subst (All (Fits steps)) (sym taken) (All-append (Fits steps) (both_costs (take k cells) ++ first ∷ []) (second ∷ []) (first_fits h) (All-cons (Fits steps) second [] g (All-nil (Fits steps))))

@@ -1,0 +1,139 @@
+-- what the walk keeps
+use Rattle.std.proofs.Common.{ℕ, zero, suc, ◌<◌, ◌≤◌, ◌≡◌, ◌≢◌, ◌+◌, ◌^◌, inr, Bool, true, false, List, [], ◌∷◌, length, map, get_or, Option, Some, None, refl, sym, ap, ap₂, ◌∙◌, subst, arith, true≢false}
+use Rattle.std.proofs.lemmas.List.{length-map}
+use Rattle.rational.specs.Rational.{ℚ, ◌-ℚ◌, ◌*ℚ◌, inv_ℚ, zero_ℚ, ◌≤ℚ◌}
+use Rattle.rational.proofs.Field.{not_lt_of_le}
+use Rattle.linear_systems.specs.Tableau.{Tableau}
+use Rattle.linear_systems.specs.Rows.{key, Alike, IsLexicographicRow, HasDistinctVariables}
+use Rattle.linear_systems.proofs.LexLemmas.{lex_same}
+use Rattle.frac128.specs.declared.steps.Unfit.{Unfit}
+use Rattle.lex_tableau.specs.Rows.{Numbers, tableau, IsTableau, IsValueOf, IsPivotOf}
+use Rattle.lex_tableau.specs.Ratio.{listed, IsBest}
+use Rattle.whole_rows.specs.Steps.{AllFit, IsFirstUnfit}
+use Rattle.lex_tableau.specs.Pivots.{steps_of_pivot}
+use Rattle.lemke_pivot.specs.Values.{value, is_basic}
+use Rattle.lemke_pivot.specs.ProblemPaths.{w_of, z_of, z0_of, complement, start, HasPositiveKeys, PathTo}
+use Rattle.linear_systems.proofs.AgreementLemmas.{alike_trans, alike_pivot}
+use Rattle.lemke_pivot.proofs.ValueLemmas.{row_of, basic_yes, basic_which, value_basic, value_out}
+use Rattle.lemke_pivot.proofs.KeyLemmas.{nonbasic_which}
+use Rattle.lemke_pivot.proofs.FirstBasisLemmas.{entry_not}
+use Rattle.lemke_pivot.proofs.ProblemPathLemmas.{keys, short, leaving_row, next_is_out, basic_is_variable}
+use Rattle.lemke_pivot.specs.Paths.{ExactPathTo, EndsSolved, EndsUnfit, IsPathStart, IsNonbasic, saturated}
+
+-- the value that a tableau reads off is the sum's
+pub value_is : (t : Tableau) (v : ℕ) (q : ℚ) → HasDistinctVariables t → IsValueOf t v q → q ≡ value t v
+value_is t v q N V = go (is_basic t v) refl
+  where
+    go : (y : Bool) → is_basic t v ≡ y → q ≡ value t v
+    go true e = let w = basic_which t v e in V.basic (row_of t v) w.0 w.1 ∙ sym (value_basic t N (row_of t v) w.0) ∙ ap (value t) w.1
+    go false e = V.nonbasic (λ i h p. true≢false (sym (basic_yes t i h) ∙ ap (is_basic t) p ∙ e)) ∙ sym (value_out t N v e)
+
+-- the path has come to t, and c is next; a step was counted for each pivot
+pub record OnWalk (n r : ℕ) (m t : Numbers) (c from now step : ℕ) : Type 0 where
+  pub earlier : List Numbers
+  pub path : ExactPathTo m n r earlier t c
+  pub counts : from + suc (length earlier) ≡ now
+  pub number : step ≡ saturated (suc (length earlier))
+  pub starts : t.starts ≡ m.starts
+  pub rated : t.rated ≡ n
+
+-- the path over whole numbers is one over fractions
+pub path_of_numbers : (n r : ℕ) (m : Numbers) (M : ℕ → ℕ → ℚ) (b : ℕ → ℚ) → Alike (start n M b) (tableau m) → r < n → (ss : List Numbers) (t : Numbers) (c : ℕ) → ExactPathTo m n r ss t c → PathTo n M b r (map tableau ss) (tableau t) c
+path_of_numbers n r m M b a h [] t c p = (alike_trans _ _ (tableau t) (alike_pivot (start n M b) (tableau m) r n h (omega arith) a) p.0.pivot.fractions, p.1)
+path_of_numbers n r m M b a h (s ∷ ss) t c p = (p.0, p.1, path_of_numbers n r m M b a h ss s p.0 p.2, p.3, p.4.replaces, p.5)
+
+module _ (n r : ℕ) (m : Numbers) (S : IsPathStart n r m) where
+  start_rows : length m.basics ≡ n
+  start_rows = sym S.alike.rows
+
+  pub row_rated : r < m.rated
+  row_rated = subst (λ k. r < k) (sym S.rated) S.first.within
+
+  pub z0_column : n < length m.nonbasics
+  z0_column = subst (λ k. n < k) S.alike.width (omega arith)
+
+  pub z0_entry : (tableau m).cell r n ≢ zero_ℚ
+  z0_entry e = entry_not n S.matrix S.right r S.first (S.alike.cell r n S.first.within (omega arith) ∙ e)
+
+  exact_path : (ss : List Numbers) (t : Numbers) (c : ℕ) → ExactPathTo m n r ss t c → PathTo n S.matrix S.right r (map tableau ss) (tableau t) c
+  exact_path = path_of_numbers n r m S.matrix S.right S.alike S.first.within
+
+  pub walk_begins : (t : Numbers) (from now : ℕ) → IsPivotOf m r n t → AllFit (steps_of_pivot m r n) → now ≡ from + 1 → OnWalk n r m t (z_of n r) from now 1
+  walk_begins t from now p f e = record { earlier = []; path = (record { valid = S.valid; pivot = p; fits = f }, refl); counts = omega (arith, e); number = refl; starts = p.starts; rated = p.rated ∙ S.rated }
+
+  module _ (t : Numbers) (c from now step : ℕ) (o : OnWalk n r m t c from now step) where
+    path : PathTo n S.matrix S.right r (map tableau o.earlier) (tableau t) c
+    path = exact_path o.earlier t c o.path
+
+    here : HasPositiveKeys n S.matrix S.right (tableau t)
+    here = keys n S.matrix S.right r S.first (map tableau o.earlier) (tableau t) c path
+
+    pub rows_are : length t.basics ≡ n
+    rows_are = here.reached.rows
+
+    pub columns_are : n + 1 ≡ length t.nonbasics
+    columns_are = let e : length t.nonbasics ≡ suc n = here.reached.width in omega (arith, e)
+
+    pub walk_value : (t₁ : Numbers) (v : ℕ) (q : ℚ) → t₁ ≡ t → v ≡ z0_of n → IsValueOf (tableau t₁) v q → q ≡ value (tableau t) (z0_of n)
+    walk_value t₁ v q e f V = value_is (tableau t) (z0_of n) q here.reached.proper (subst (λ m. IsValueOf (tableau m) (z0_of n) q) e (subst (λ k. IsValueOf (tableau t₁) k q) f V))
+
+    pub walk_bound : now ≤ from + 2 ^ suc (suc (n + n))
+    walk_bound =
+        let h : suc (length o.earlier) ≤ 2 ^ suc (suc (n + n)) = subst (λ k. suc k ≤ 2 ^ suc (suc (n + n))) (length-map o.earlier tableau) (short n S.matrix S.right r S.first (map tableau o.earlier) (tableau t) c path) in
+        let e : from + suc (length o.earlier) ≡ now = o.counts in
+        omega (arith, h, e)
+
+    pub walk_solved : value (tableau t) (z0_of n) ≡ zero_ℚ → IsTableau t → EndsSolved m n r t
+    walk_solved z v = (o.earlier, c, o.path, z, v)
+
+    module _ (ne : value (tableau t) (z0_of n) ≢ zero_ℚ) where
+      pub walk_nonbasic : IsNonbasic t (n + 1) c
+      walk_nonbasic =
+          let w = next_is_out n S.matrix S.right r S.first (map tableau o.earlier) (tableau t) c path ne in
+          let a : 0 < c = w.0 in
+          let b : c ≤ n + n = w.1 in
+          let j = nonbasic_which n S.matrix S.right (tableau t) here.reached c a (omega arith) w.2 in
+          (j.0, subst (λ k. j.0 < k) (sym columns_are) j.1, j.2)
+
+      pub walk_variable : (i : ℕ) → i < n → (0 < (tableau t).basic i) × ((tableau t).basic i ≤ z0_of n)
+      walk_variable i h = basic_is_variable n S.matrix S.right r S.first (map tableau o.earlier) (tableau t) c i path ne (subst (λ k. i < k) (sym rows_are) h)
+
+      -- the row that the tableau finds is the path's
+      walk_row : (col row : ℕ) → IsLexicographicRow t.rated t.rated (listed t.starts) (tableau t) col row → IsLexicographicRow n n w_of (tableau t) col row
+      walk_row col row L =
+          let K : IsLexicographicRow n n (listed t.starts) (tableau t) col row = subst (λ k. IsLexicographicRow k k (listed t.starts) (tableau t) col row) o.rated L in
+          record {
+            within = K.within;
+            positive = K.positive;
+            least = λ i h d p. record { by = lex_same (suc n) _ _ (λ q l. ap₂ (λ x y. (x *ℚ inv_ℚ ((tableau t).cell i col)) -ℚ (y *ℚ inv_ℚ ((tableau t).cell row col))) (same i q l) (same row q l)) (K.least i h d p).by };
+          }
+        where
+          same : (i q : ℕ) → q < suc n → key (listed t.starts) (tableau t) i q ≡ key w_of (tableau t) i q
+          same i zero h = refl
+          same i (suc q) h = ap (λ v. key (λ _. v) (tableau t) i 1) (ap (λ s. get_or s q 0) o.starts ∙ S.starts q (omega arith))
+
+      pub walk_best : (t₁ : Numbers) (col row : ℕ) (o : Option ℕ) → t₁ ≡ t → o ≡ Some row → IsBest t₁.rated t₁.rated t₁.starts (tableau t₁) col o → IsLexicographicRow n n w_of (tableau t) col row
+      walk_best t₁ col row o e f B = walk_row col row (subst (λ m. IsBest m.rated m.rated m.starts (tableau m) col (Some row)) e (subst (λ p. IsBest t₁.rated t₁.rated t₁.starts (tableau t₁) col p) f B))
+
+      never : (col : ℕ) → col < n + 1 → (tableau t).nonbasic col ≡ c → ((i : ℕ) → i < t.rated → (tableau t).cell i col ≤ℚ zero_ℚ) → ⊥
+      never col h e none =
+          let w = leaving_row n S.matrix S.right r S.first (map tableau o.earlier) (tableau t) c col S.copositive path ne (subst (λ k. col < k) columns_are h) e in
+          not_lt_of_le ((tableau t).cell w.0 col) zero_ℚ (none w.0 (subst (λ k. w.0 < k) (sym o.rated) w.1.within)) w.1.positive
+
+      pub walk_never : (t₁ : Numbers) (col : ℕ) (o : Option ℕ) → t₁ ≡ t → o ≡ None → col < n + 1 → (tableau t).nonbasic col ≡ c → IsBest t₁.rated t₁.rated t₁.starts (tableau t₁) col o → ⊥
+      walk_never t₁ col o e f h q B = never col h q (subst (λ m. IsBest m.rated m.rated m.starts (tableau m) col None) e (subst (λ p. IsBest t₁.rated t₁.rated t₁.starts (tableau t₁) col p) f B))
+
+      module _ (col row : ℕ) (h : col < n + 1) (e : (tableau t).nonbasic col ≡ c) (L : IsLexicographicRow n n w_of (tableau t) col row) (valid : IsTableau t) where
+        pub walk_next : (t' : Numbers) (c' later number : ℕ) → IsPivotOf t row col t' → AllFit (steps_of_pivot t row col) → c' ≡ complement n ((tableau t).basic row) → later ≡ now + 1 → number ≡ saturated (suc (suc (length o.earlier))) → OnWalk n r m t' c' from later number
+        walk_next t' c' later number p f q g k =
+            record {
+              earlier = t ∷ o.earlier;
+              path = (c, (tableau t).basic row, o.path, ne, record { valid = valid; replaces = record { col = col; row = row; col_in = subst (λ k. col < k) columns_are h; c_is = e; l_is = refl; chosen = L; to = p.fractions }; pivot = p; fits = f }, q);
+              counts = let a : from + suc (length o.earlier) ≡ now = o.counts in omega (arith, a, g);
+              number = k;
+              starts = p.starts ∙ o.starts;
+              rated = p.rated ∙ o.rated;
+            }
+
+        pub walk_stops : (number : ℕ) (u : Unfit) → number ≡ saturated (suc (suc (length o.earlier))) → IsFirstUnfit (steps_of_pivot t row col) u → EndsUnfit m n r number c u
+        walk_stops number u k f = inr (o.earlier, t, record { path = o.path; goes_on = ne; valid = valid; col = col; row = row; col_in = subst (λ k. col < k) columns_are h; entering_is = e; chosen = L; unfit = f; number = k })

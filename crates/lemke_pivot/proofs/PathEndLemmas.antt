@@ -1,0 +1,181 @@
+-- The path has one end.
+use Rattle.std.proofs.Common.{ℕ, suc, ◌<◌, ◌≡◌, ◌≢◌, inl, inr, List, [], ◌∷◌, length, sym, ap, ◌∙◌, subst, subst₂, arith}
+use Rattle.std.proofs.lemmas.Bool.{cases_lt}
+use Rattle.rational.specs.Rational.{ℚ, zero_ℚ}
+use Rattle.rational.proofs.Field.{not_lt_of_le}
+use Rattle.linear_systems.specs.Tableau.{pivot}
+use Rattle.linear_systems.specs.Rows.{IsLexicographicRow}
+use Rattle.linear_systems.proofs.AgreementLemmas.{alike_sym, alike_trans}
+use Rattle.linear_systems.proofs.LexRowLemmas.{lex_row_once, below_cases}
+use Rattle.frac128.specs.declared.steps.Unfit.{Unfit}
+use Rattle.whole_rows.specs.Steps.{AllFit, IsFirstUnfit}
+use Rattle.whole_rows.proofs.FirstUnfitLemmas.{no_unfit, one_unfit}
+use Rattle.lex_tableau.specs.Pivots.{steps_of_pivot}
+use Rattle.lex_tableau.specs.Rows.{Numbers, tableau, IsPivotOf, IsTableau}
+use Rattle.lex_tableau.proofs.TableauLemmas.{determined}
+use Rattle.lemke_pivot.specs.ProblemPaths.{complement, w_of, z0_of}
+use Rattle.lemke_pivot.specs.Values.{value}
+use Rattle.lemke_pivot.specs.declared.lcp.LemkeEnd.TheVariants.{Solved, Range}
+use Rattle.lemke_pivot.specs.Ends.{EndsAreSingle}
+use Rattle.lemke_pivot.specs.Parts.{Problem, IsLeastRow, size_of}
+use Rattle.lemke_pivot.specs.Paths.{EndsSolved, EndsUnfit, ExactPathTo, ReplacesExactly, StopsAt, saturated}
+
+-- ---- the first row
+least_once : (n : ℕ) (b : ℕ → ℚ) (r s : ℕ) → IsLeastRow n b r → IsLeastRow n b s → r ≡ s
+least_once n b r s h k = elim (cases_lt r s) [
+  | inl l ↦ absurd (not_lt_of_le (b s) (b r) (k.least r h.within) (h.last s l k.within))
+  | inr l ↦ elim (cases_lt s r) [
+    | inl m ↦ absurd (not_lt_of_le (b r) (b s) (h.least s k.within) (k.last r m h.within))
+    | inr m ↦ omega (arith, l, m)
+  ]
+]
+
+-- ---- one pivot
+pivot_same : (s t u : Numbers) (row col : ℕ) → IsTableau t → IsTableau u → IsPivotOf s row col t → IsPivotOf s row col u → t ≡ u
+pivot_same s t u row col v w p q =
+    determined t u v w (p.starts ∙ sym q.starts) (p.rated ∙ sym q.rated)
+    (alike_trans (tableau t) (pivot (tableau s) row col) (tableau u) (alike_sym (pivot (tableau s) row col) (tableau t) p.fractions) q.fractions)
+
+-- where a variable enters
+module _ (n : ℕ) (s : Numbers) (v : IsTableau s) (c i j k l : ℕ) (hi : i < (tableau s).width) (hj : j < (tableau s).width) (ei : (tableau s).nonbasic i ≡ c) (ej : (tableau s).nonbasic j ≡ c) (rk : IsLexicographicRow n n w_of (tableau s) i k) (rl : IsLexicographicRow n n w_of (tableau s) j l) where
+  same_column : i ≡ j
+  same_column = v.reached.reached.proper.nonbasic_once i j hi hj (ei ∙ sym ej)
+
+  same_row : k ≡ l
+  same_row = lex_row_once n w_of (tableau s) j k l (subst (λ x. IsLexicographicRow n n w_of (tableau s) x k) same_column rk) rl
+
+module _ (n : ℕ) (s : Numbers) (c l k : ℕ) (t u : Numbers) (p : ReplacesExactly n s c l t) (q : ReplacesExactly n s c k u) where
+  column_is : p.replaces.col ≡ q.replaces.col
+  column_is = same_column n s p.valid c p.replaces.col q.replaces.col p.replaces.row q.replaces.row p.replaces.col_in q.replaces.col_in p.replaces.c_is q.replaces.c_is p.replaces.chosen q.replaces.chosen
+
+  row_is : p.replaces.row ≡ q.replaces.row
+  row_is = same_row n s p.valid c p.replaces.col q.replaces.col p.replaces.row q.replaces.row p.replaces.col_in q.replaces.col_in p.replaces.c_is q.replaces.c_is p.replaces.chosen q.replaces.chosen
+
+  replaces_same : IsTableau t → IsTableau u → (t ≡ u) × (l ≡ k)
+  replaces_same v w = (
+    pivot_same s t u q.replaces.row q.replaces.col v w (subst₂ (λ x y. IsPivotOf s x y t) row_is column_is p.pivot) q.pivot,
+    sym p.replaces.l_is ∙ ap (λ x. (tableau s).basic x) row_is ∙ q.replaces.l_is,
+  )
+
+-- ---- the path
+-- a path goes on from its tableau of this number
+record GoesOn (m : Numbers) (n r k : ℕ) : Type 0 where
+  earlier : List Numbers
+  before : Numbers
+  enters : ℕ
+  leaves : ℕ
+  after : Numbers
+  length_is : length earlier ≡ k
+  path : ExactPathTo m n r earlier before enters
+  not_zero : value (tableau before) (z0_of n) ≢ zero_ℚ
+  step : ReplacesExactly n before enters leaves after
+
+module _ (m : Numbers) (n r : ℕ) where
+  path_same : (ss us : List Numbers) (t u : Numbers) (c d : ℕ) → ExactPathTo m n r ss t c → ExactPathTo m n r us u d → length ss ≡ length us → IsTableau t → IsTableau u → (t ≡ u) × (c ≡ d)
+  path_same [] [] t u c d p q e v w = (pivot_same m t u r n v w p.0.pivot q.0.pivot, p.1 ∙ sym q.1)
+  path_same [] (z ∷ us) t u c d p q e v w = absurd (omega (arith, e))
+  path_same (s ∷ ss) [] t u c d p q e v w = absurd (omega (arith, e))
+  path_same (s ∷ ss) (z ∷ us) t u c d p q e v w =
+      let h : length ss ≡ length us = omega (arith, e) in
+      let i = path_same ss us s z p.0 q.0 p.2 q.2 h p.4.valid q.4.valid in
+      let here : ReplacesExactly n z q.0 p.1 t = subst₂ (λ a b. ReplacesExactly n a b p.1 t) i.0 i.1 p.4 in
+      let last = replaces_same n z q.0 p.1 q.1 t u here q.4 v w in
+      (last.0, p.5 ∙ ap (complement n) last.1 ∙ sym q.5)
+
+  begins_fit : (ss : List Numbers) (t : Numbers) (c : ℕ) → ExactPathTo m n r ss t c → AllFit (steps_of_pivot m r n)
+  begins_fit [] t c p = p.0.fits
+  begins_fit (s ∷ ss) t c p = begins_fit ss s p.0 p.2
+
+  goes_on : (ss : List Numbers) (t : Numbers) (c k : ℕ) → k < length ss → ExactPathTo m n r ss t c → GoesOn m n r k
+  goes_on [] t c k h p = absurd (omega (arith, h))
+  goes_on (s ∷ ss) t c k h p = elim (below_cases k (length ss) h) [
+    | inl e ↦ record { earlier = ss; before = s; enters = p.0; leaves = p.1; after = t; length_is = sym e; path = p.2; not_zero = p.3; step = p.4 }
+    | inr l ↦ goes_on ss s p.0 k l p.2
+  ]
+
+  -- no path goes on from where another ends
+  solved_ends : (t : Numbers) (a : EndsSolved m n r t) → GoesOn m n r (length a.0) → ⊥
+  solved_ends t a g =
+      let s = path_same a.0 g.earlier t g.before a.1 g.enters a.2 g.path (sym g.length_is) a.4 g.step.valid in
+      g.not_zero (sym (ap (λ (x : Numbers). value (tableau x) (z0_of n)) s.0) ∙ a.3)
+
+  stop_ends : (step entering : ℕ) (e : Unfit) (earlier : List Numbers) (t : Numbers) → StopsAt m n r step entering e earlier t → GoesOn m n r (length earlier) → ⊥
+  stop_ends step entering e earlier t a g =
+      let s = path_same earlier g.earlier t g.before entering g.enters a.path g.path (sym g.length_is) a.valid g.step.valid in
+      let q : ReplacesExactly n t entering g.leaves g.after = subst₂ (λ x y. ReplacesExactly n x y g.leaves g.after) (sym s.0) (sym s.1) g.step in
+      let col : q.replaces.col ≡ a.col = same_column n t a.valid entering q.replaces.col a.col q.replaces.row a.row q.replaces.col_in a.col_in q.replaces.c_is a.entering_is q.replaces.chosen a.chosen in
+      let row : q.replaces.row ≡ a.row = same_row n t a.valid entering q.replaces.col a.col q.replaces.row a.row q.replaces.col_in a.col_in q.replaces.c_is a.entering_is q.replaces.chosen a.chosen in
+      no_unfit (steps_of_pivot t a.row a.col) e (subst₂ (λ x y. AllFit (steps_of_pivot t x y)) row col q.fits) a.unfit
+
+  solved_same : (t u : Numbers) → EndsSolved m n r t → EndsSolved m n r u → t ≡ u
+  solved_same t u a b = elim (cases_lt (length a.0) (length b.0)) [
+    | inl l ↦ absurd (solved_ends t a (goes_on b.0 u b.1 (length a.0) l b.2))
+    | inr l ↦ elim (cases_lt (length b.0) (length a.0)) [
+      | inl k ↦ absurd (solved_ends u b (goes_on a.0 t a.1 (length b.0) k a.2))
+      | inr k ↦ (path_same a.0 b.0 t u a.1 b.1 a.2 b.2 (omega (arith, l, k)) a.4 b.4).0
+    ]
+  ]
+
+  solved_stops : (t : Numbers) (step entering : ℕ) (e : Unfit) (earlier : List Numbers) (u : Numbers) → EndsSolved m n r t → StopsAt m n r step entering e earlier u → ⊥
+  solved_stops t step entering e earlier u a b = elim (cases_lt (length a.0) (length earlier)) [
+    | inl l ↦ solved_ends t a (goes_on earlier u entering (length a.0) l b.path)
+    | inr l ↦ elim (cases_lt (length earlier) (length a.0)) [
+      | inl k ↦ stop_ends step entering e earlier u b (goes_on a.0 t a.1 (length earlier) k a.2)
+      | inr k ↦ b.goes_on (sym (ap (λ (x : Numbers). value (tableau x) (z0_of n)) (path_same a.0 earlier t u a.1 entering a.2 b.path (omega (arith, l, k)) a.4 b.valid).0) ∙ a.3)
+    ]
+  ]
+
+  not_both : (t : Numbers) (step entering : ℕ) (e : Unfit) → EndsSolved m n r t → EndsUnfit m n r step entering e → ⊥
+  not_both t step entering e a (inl b) = no_unfit (steps_of_pivot m r n) e (begins_fit a.0 t a.1 a.2) b.3
+  not_both t step entering e a (inr b) = solved_stops t step entering e b.0 b.1 a b.2
+
+  stops_here : (step entering : ℕ) (e : Unfit) (ss : List Numbers) (t : Numbers) (step' entering' : ℕ) (e' : Unfit) (us : List Numbers) (u : Numbers) → StopsAt m n r step entering e ss t → StopsAt m n r step' entering' e' us u → length ss ≡ length us → (step ≡ step') × ((entering ≡ entering') × (e ≡ e'))
+  stops_here step entering e ss t step' entering' e' us u a b q =
+      let s = path_same ss us t u entering entering' a.path b.path q a.valid b.valid in
+      let nonbasic : (tableau u).nonbasic a.col ≡ entering' = sym (ap (λ (x : Numbers). (tableau x).nonbasic a.col) s.0) ∙ a.entering_is ∙ s.1 in
+      let col_in : a.col < (tableau u).width = subst (λ x. a.col < (tableau x).width) s.0 a.col_in in
+      let chosen : IsLexicographicRow n n w_of (tableau u) a.col a.row = subst (λ x. IsLexicographicRow n n w_of (tableau x) a.col a.row) s.0 a.chosen in
+      let col = same_column n u b.valid entering' a.col b.col a.row b.row col_in b.col_in nonbasic b.entering_is chosen b.chosen in
+      let row = same_row n u b.valid entering' a.col b.col a.row b.row col_in b.col_in nonbasic b.entering_is chosen b.chosen in
+      let unfit : IsFirstUnfit (steps_of_pivot u b.row b.col) e = subst₂ (λ x y. IsFirstUnfit (steps_of_pivot u x y) e) row col (subst (λ x. IsFirstUnfit (steps_of_pivot x a.row a.col) e) s.0 a.unfit) in (
+        a.number ∙ ap (λ k. saturated (suc (suc k))) q ∙ sym b.number,
+        (s.1, one_unfit (steps_of_pivot u b.row b.col) e e' unfit b.unfit),
+      )
+
+  stops_same : (step entering : ℕ) (e : Unfit) (ss : List Numbers) (t : Numbers) (step' entering' : ℕ) (e' : Unfit) (us : List Numbers) (u : Numbers) → StopsAt m n r step entering e ss t → StopsAt m n r step' entering' e' us u → (step ≡ step') × ((entering ≡ entering') × (e ≡ e'))
+  stops_same step entering e ss t step' entering' e' us u a b = elim (cases_lt (length ss) (length us)) [
+    | inl l ↦ absurd (stop_ends step entering e ss t a (goes_on us u entering' (length ss) l b.path))
+    | inr l ↦ elim (cases_lt (length us) (length ss)) [
+      | inl k ↦ absurd (stop_ends step' entering' e' us u b (goes_on ss t entering (length us) k a.path))
+      | inr k ↦ stops_here step entering e ss t step' entering' e' us u a b (omega (arith, l, k))
+    ]
+  ]
+
+  unfit_same : (step entering : ℕ) (e : Unfit) (step' entering' : ℕ) (e' : Unfit) → EndsUnfit m n r step entering e → EndsUnfit m n r step' entering' e' → (step ≡ step') × ((entering ≡ entering') × (e ≡ e'))
+  unfit_same step entering e step' entering' e' (inl a) (inl b) = (a.0 ∙ sym b.0, (a.1 ∙ sym b.1, one_unfit (steps_of_pivot m r n) e e' a.3 b.3))
+  unfit_same step entering e step' entering' e' (inl a) (inr b) = absurd (no_unfit (steps_of_pivot m r n) e (begins_fit b.0 b.1 entering' b.2.path) a.3)
+  unfit_same step entering e step' entering' e' (inr a) (inl b) = absurd (no_unfit (steps_of_pivot m r n) e' (begins_fit a.0 a.1 entering a.2.path) b.3)
+  unfit_same step entering e step' entering' e' (inr a) (inr b) = stops_same step entering e a.0 a.1 step' entering' e' b.0 b.1 a.2 b.2
+
+-- a problem by its parts
+pub problem_same : (a b : Problem) → a.first ≡ b.first → a.second ≡ b.second → a.tableau ≡ b.tableau → a ≡ b
+problem_same a b e f g = λ i. record { first = e i; second = f i; tableau = g i }
+
+module _ (p : Problem) where
+  row_once : (r s : ℕ) → IsLeastRow (size_of p) (tableau p.tableau).right r → IsLeastRow (size_of p) (tableau p.tableau).right s → s ≡ r
+  row_once r s h k = least_once (size_of p) (tableau p.tableau).right s r k h
+
+pub ends_same : EndsAreSingle
+ends_same p (Solved a) (Solved b) h one other =
+    (let path : EndsSolved p.tableau (size_of p) one.row b.tableau = subst (λ r. EndsSolved p.tableau (size_of p) r b.tableau) (row_once p one.row other.row one.begins other.begins) other.path in
+    ap Solved (problem_same a b (one.first ∙ sym other.first) (one.second ∙ sym other.second) (solved_same p.tableau (size_of p) one.row a.tableau b.tableau one.path path)))
+ends_same p (Solved a) (Range step entering unfit) h one other =
+    (let path : EndsUnfit p.tableau (size_of p) one.row step entering unfit = subst (λ r. EndsUnfit p.tableau (size_of p) r step entering unfit) (row_once p one.row other.row one.begins other.begins) other.path in
+    absurd (not_both p.tableau (size_of p) one.row a.tableau step entering unfit one.path path))
+ends_same p (Range step entering unfit) (Solved b) h one other =
+    (let path : EndsUnfit p.tableau (size_of p) other.row step entering unfit = subst (λ r. EndsUnfit p.tableau (size_of p) r step entering unfit) (row_once p other.row one.row other.begins one.begins) one.path in
+    absurd (not_both p.tableau (size_of p) other.row b.tableau step entering unfit other.path path))
+ends_same p (Range step entering unfit) (Range step' entering' unfit') h one other =
+    (let path : EndsUnfit p.tableau (size_of p) one.row step' entering' unfit' = subst (λ r. EndsUnfit p.tableau (size_of p) r step' entering' unfit') (row_once p one.row other.row one.begins other.begins) other.path in
+    let s = unfit_same p.tableau (size_of p) one.row step entering unfit step' entering' unfit' one.path path in
+    λ i. Range (s.0 i) (s.1.0 i) (s.1.1 i))

@@ -1,0 +1,49 @@
+-- A system is determined by its fractions, and has one start.
+use Rattle.std.proofs.Common.{ℕ, ◌≡◌, ◌<◌, ◌+◌, ◌*◌, ◌/◌, ◌%◌, inl, inr, ◌≤◌, length, get_or, sym, ap, ap₂, ◌∙◌, subst, arith, div-add-mod', eq-or-lt_of_le}
+use Rattle.std.proofs.lemmas.Grind.{same_number_lists}
+use Rattle.std.proofs.lemmas.List.{ext_get_or}
+use native.Mathlib.Nat.{div-lt_iff_lt-mul, mod-lt}
+use Rattle.rational.specs.Rational.{zero_ℚ}
+use Rattle.linear_systems.specs.Rows.{Alike}
+use Rattle.lex_tableau.specs.Rows.{Numbers, tableau, IsTableau}
+use Rattle.lex_tableau.specs.Starts.{Parts, system_of, IsSystem, IsStartOf, cells_from}
+use Rattle.lex_tableau.proofs.TableauLemmas.{alike_both, determined}
+
+parts_same : (a b : Parts) → a.basics ≡ b.basics → a.nonbasics ≡ b.nonbasics → a.cells ≡ b.cells → a.rated ≡ b.rated → a ≡ b
+parts_same a b p q r s = λ i. record { basics = p i; nonbasics = q i; cells = r i; rated = s i }
+
+module _ (a b : Parts) (l : Alike (system_of a) (system_of b)) where
+  width : length a.nonbasics ≡ length b.nonbasics
+  width = l.width
+
+  -- row by row
+  row_cells : (i p : ℕ) → i < length a.basics → p < length a.nonbasics + 1 → cells_from a.cells (i * (length a.nonbasics + 1)) p ≡ cells_from b.cells (i * (length a.nonbasics + 1)) p
+  row_cells i p hi hp = elim (eq-or-lt_of_le (let q : p ≤ length a.nonbasics = omega arith in q)) [
+    | inl e ↦ subst (λ k. cells_from a.cells (i * (length a.nonbasics + 1)) k ≡ cells_from b.cells (i * (length a.nonbasics + 1)) k) (sym e)
+        (l.right i hi ∙ ap (λ w. cells_from b.cells (i * (w + 1)) w) (sym width))
+    | inr m ↦ (l.cell i p hi m ∙ ap (λ w. cells_from b.cells (i * (w + 1)) p) (sym width))
+  ]
+
+pub systems_determined : (a b : Parts) → IsSystem a → IsSystem b → Alike (system_of a) (system_of b) → a.rated ≡ b.rated → a ≡ b
+systems_determined a b ha hb l r = parts_same a b basics nonbasics (ext_get_or zero_ℚ a.cells b.cells lengths at) r
+  where
+    basics : a.basics ≡ b.basics
+    basics = same_number_lists a.basics b.basics l.rows (λ i h. l.basic i h)
+
+    nonbasics : a.nonbasics ≡ b.nonbasics
+    nonbasics = same_number_lists a.nonbasics b.nonbasics l.width (λ j h. l.nonbasic j h)
+
+    lengths : length a.cells ≡ length b.cells
+    lengths = ha.shape ∙ ap₂ (λ x y. length x * (length y + 1)) basics nonbasics ∙ sym hb.shape
+
+    size : ℕ
+    size = length a.nonbasics + 1
+
+    at : (k : ℕ) → k < length a.cells → get_or a.cells k zero_ℚ ≡ get_or b.cells k zero_ℚ
+    at k h =
+        subst (λ n. get_or a.cells n zero_ℚ ≡ get_or b.cells n zero_ℚ) (div-add-mod' k size)
+        (row_cells a b l (k / size) (k % size) ((div-lt_iff_lt-mul {k = size} (omega arith)).1 (subst (λ n. k < n) ha.shape h)) (mod-lt k {m = size} (omega arith)))
+
+pub starts_same : (s : Parts) (m n : Numbers) → IsTableau m → IsTableau n → IsStartOf s m → IsStartOf s n → m ≡ n
+starts_same s m n hm hn p q =
+    determined m n hm hn (p.starts ∙ sym q.starts) (p.rated ∙ sym q.rated) (alike_both (system_of s) (tableau m) (tableau n) p.fractions q.fractions)

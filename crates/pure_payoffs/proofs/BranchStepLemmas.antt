@@ -1,0 +1,57 @@
+-- The steps of one branch of chance, and how they follow those of the earlier ones.
+use Rattle.std.proofs.Common.{ℕ, suc, ◌+◌, ◌<◌, ◌≡◌, ◌≢◌, List, [], ◌∷◌, ◌++◌, All, Result, Ok, sym, ap, ap₂, ◌∙◌, subst, add-one, arith}
+use Rattle.std.specs.Prelude.{IfOk, IfErr, OnOk, OnErr, if◌then◌else◌}
+use Rattle.std.proofs.lemmas.Bool.{false_from_ne_true}
+use Rattle.std.proofs.lemmas.List.Elements.{All-nil, All-append}
+use Rattle.rational.proofs.Decide.{eq_ℚ-decides}
+use Rattle.rational.specs.Rational.{ℚ, ◌+ℚ◌, ◌*ℚ◌, zero_ℚ}
+use Rattle.rational.specs.Sum.{sum_to}
+use Rattle.rational.proofs.RationalRing.{+ℚ-zero}
+use Rattle.rational.proofs.Rules.{zero-*ℚ}
+use Rattle.frac128.specs.Steps.{AddFits, MulFits, unfit}
+use Rattle.frac128.specs.declared.steps.Op.TheVariants.{Add, Mul}
+use Rattle.frac128.specs.declared.steps.Unfit.{Unfit}
+use Rattle.pure_payoffs.specs.Plays.{Give, branch_steps}
+use Rattle.pure_payoffs.specs.Steps.{Step, StepFits, IsFirstUnfit, chance_steps}
+use Rattle.pure_payoffs.proofs.StepRunLemmas.{first_unfit-following, first_unfit-here, first_unfit-more, first_unfit-chance, one-fits, added-gives, following-gives}
+
+-- a branch with the probability 0 adds nothing
+pub skipped-gives : (prob sum v : ℚ) (steps : List Step) → prob ≡ zero_ℚ → Give (branch_steps prob sum v steps) (sum +ℚ prob *ℚ v) (Ok sum)
+skipped-gives prob sum v steps e =
+    (sym (ap (λ x. sum +ℚ x) (ap (λ x. x *ℚ v) e ∙ zero-*ℚ v) ∙ +ℚ-zero sum), subst (All StepFits) (sym (ap (λ b. if b then [] else steps ++ unfit Mul prob v ∷ unfit Add sum (prob *ℚ v) ∷ []) ((eq_ℚ-decides prob zero_ℚ).1 e))) (All-nil StepFits))
+
+-- the steps of any other branch
+taken-steps : (prob sum v : ℚ) (steps : List Step) → prob ≢ zero_ℚ → branch_steps prob sum v steps ≡ steps ++ unfit Mul prob v ∷ unfit Add sum (prob *ℚ v) ∷ []
+taken-steps prob sum v steps other =
+    ap (λ b. if b then [] else steps ++ unfit Mul prob v ∷ unfit Add sum (prob *ℚ v) ∷ []) (false_from_ne_true _ (λ t. other ((eq_ℚ-decides prob zero_ℚ).0 t)))
+
+-- the first step of the child that does not fit is the branch's
+pub child-refused : (prob sum v : ℚ) (steps : List Step) (u : Step) → prob ≢ zero_ℚ → IsFirstUnfit steps u → IsFirstUnfit (branch_steps prob sum v steps) u
+child-refused prob sum v steps u other h = rw (taken-steps prob sum v steps other) (first_unfit-more steps _ u h)
+
+-- a product that does not fit is the branch's first such step
+pub product-refused : (prob sum v x : ℚ) (steps : List Step) (u : Step) → prob ≢ zero_ℚ → x ≡ v → All StepFits steps → u ≡ unfit Mul prob x → (MulFits prob x → ⊥) → IsFirstUnfit (branch_steps prob sum v steps) u
+product-refused prob sum v x steps u other e fit step refused =
+    rw (taken-steps prob sum v steps other, step, ← e) (first_unfit-following steps _ (unfit Mul prob x) fit (first_unfit-here (unfit Mul prob x) _ refused))
+
+-- what the addition of a product gives is what the branch gives
+pub product-added : (prob sum v x y : ℚ) (steps : List Step) (r : Result ℚ Unfit) → prob ≢ zero_ℚ → x ≡ v → y ≡ prob *ℚ x → All StepFits steps → MulFits prob x
+    → IfOk r (λ f. f ≡ sum +ℚ y) → OnOk r (AddFits sum y) → IfErr r (λ e. e ≡ unfit Add sum y) → OnErr r (AddFits sum y → ⊥) → Give (branch_steps prob sum v steps) (sum +ℚ prob *ℚ v) r
+product-added prob sum v x y steps r other e product fit fits value sum_fits step refused =
+    let last : Give (unfit Add sum y ∷ []) (sum +ℚ y) r = added-gives sum y r value sum_fits step refused in
+    let both = following-gives (unfit Mul prob x ∷ []) (unfit Add sum y ∷ []) (sum +ℚ y) r (one-fits (unfit Mul prob x) fits) last in
+    let whole = following-gives steps (unfit Mul prob x ∷ unfit Add sum y ∷ []) (sum +ℚ y) r fit both in
+    rw (taken-steps prob sum v steps other, ← e, ← product) whole
+
+module _ (chances values : ℕ → ℚ) (later : ℕ → List Step) (a : ℕ) (sum prob : ℚ) (sum_is : sum ≡ sum_to a (λ b. chances b *ℚ values b)) (prob_is : prob ≡ chances a) (fit : All StepFits (chance_steps a chances values later)) where
+  -- one more branch of chance that fits
+  pub branch-more : (x : ℚ) → x ≡ sum +ℚ prob *ℚ values a → All StepFits (branch_steps prob sum (values a) (later a)) → (x ≡ sum_to (a + 1) (λ b. chances b *ℚ values b)) × All StepFits (chance_steps (a + 1) chances values later)
+  branch-more x is fits =
+      let steps : All StepFits (branch_steps (chances a) (sum_to a (λ b. chances b *ℚ values b)) (values a) (later a)) = rw (← sum_is, ← prob_is) fits in
+      rw add-one (is ∙ ap₂ (λ y z. y +ℚ z *ℚ values a) sum_is prob_is, All-append StepFits (chance_steps a chances values later) _ fit steps)
+
+  -- the first step of one more branch that does not fit is that of all branches
+  pub branch-refused : (n : ℕ) (u : Step) → a < n → IsFirstUnfit (branch_steps prob sum (values a) (later a)) u → IsFirstUnfit (chance_steps n chances values later) u
+  branch-refused n u l h =
+      let step : IsFirstUnfit (branch_steps (chances a) (sum_to a (λ b. chances b *ℚ values b)) (values a) (later a)) u = rw (← sum_is, ← prob_is) h in
+      first_unfit-chance (suc a) n chances values later u (omega arith) (first_unfit-following (chance_steps a chances values later) _ u fit step)

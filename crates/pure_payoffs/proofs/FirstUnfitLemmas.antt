@@ -1,0 +1,89 @@
+-- The first step that does not fit is one.
+use Rattle.std.proofs.Common.{ℕ, ◌≡◌, ◌<◌, ◌+◌, suc, length, take, drop, get_or, map, add-one, List, [], ◌∷◌, ◌++◌, All, Ok, Err, refl, sym, ap, ap₂, ◌∙◌, subst, append_assoc, arith}
+use Rattle.std.proofs.Math.Seq.{take-suc}
+use Rattle.std.proofs.lemmas.List.{take-append-drop, map-append}
+use Rattle.std.proofs.lemmas.List.Elements.{All-nil, All-cons, All-append}
+use Rattle.answers.specs.Answers.{IsSingle}
+use Rattle.pure_payoffs.specs.Steps.{Step, StepFits, IsFirstUnfit}
+use Rattle.pure_payoffs.proofs.StepRunLemmas.{first_unfit-more}
+use Rattle.pure_payoffs.specs.FirstUnfit.{Fits, IsFirstUnfitOf, all_fit}
+
+-- what holds of all holds of each
+pub front_has : {X : Type 0} (P : X → Type 0) (before after : List X) (x : X) → All P (before ++ x ∷ after) → P x
+front_has P [] after x h = h 0 x (omega arith)
+front_has P (y ∷ before) after x h = front_has P before after x (λ k d l. h (suc k) d (omega arith))
+
+-- one is the first of which a thing does not hold
+pub front_one : {X : Type 0} (P : X → Type 0) (xs ys r q : List X) (one other : X) → xs ++ one ∷ r ≡ ys ++ other ∷ q → All P xs → All P ys → (P one → ⊥) → (P other → ⊥) → one ≡ other
+front_one P [] [] r q one other e f g h k = cc
+front_one P [] (y ∷ ys) r q one other e f g h k = (let same : one ≡ y = cc in absurd (h (subst P (sym same) (g 0 y (omega arith)))))
+front_one P (x ∷ xs) [] r q one other e f g h k = (let same : x ≡ other = cc in absurd (k (subst P same (f 0 x (omega arith)))))
+front_one P (x ∷ xs) (y ∷ ys) r q one other e f g h k =
+    (let rest : xs ++ one ∷ r ≡ ys ++ other ∷ q = cc in front_one P xs ys r q one other rest (λ j d l. f (suc j) d (omega arith)) (λ j d l. g (suc j) d (omega arith)) h k)
+
+-- steps have one first step that does not fit
+pub unfit_once : (steps : List Step) (one other : Step) → IsFirstUnfit steps one → IsFirstUnfit steps other → one ≡ other
+unfit_once steps one other h g =
+    front_one StepFits h.before g.before h.following g.following one other (sym h.is_there ∙ g.is_there) h.earlier_fit g.earlier_fit h.does_not_fit g.does_not_fit
+
+-- there is none among steps that fit
+pub unfit_among : (steps : List Step) (step : Step) → IsFirstUnfit steps step → All StepFits steps → ⊥
+unfit_among steps step h fit = h.does_not_fit (front_has StepFits h.before h.following step (subst (All StepFits) h.is_there fit))
+
+-- of two lists of steps that begin in the same way
+pub unfit_begins : (steps more : List Step) (one other : Step) → IsFirstUnfit steps one → IsFirstUnfit (steps ++ more) other → one ≡ other
+unfit_begins steps more one other h g =
+    let f = first_unfit-more steps more one h in
+    front_one StepFits f.before g.before f.following g.following one other (sym f.is_there ∙ g.is_there) f.earlier_fit g.earlier_fit f.does_not_fit g.does_not_fit
+
+pub unfit_excludes : (steps more : List Step) (one : Step) → IsFirstUnfit steps one → All StepFits (steps ++ more) → ⊥
+unfit_excludes steps more one h fit =
+    let f = first_unfit-more steps more one h in
+    f.does_not_fit (front_has StepFits f.before f.following one (subst (All StepFits) f.is_there fit))
+
+append_none : {X : Type 0} (xs : List X) → xs ++ [] ≡ xs
+append_none [] = refl
+append_none (x ∷ xs) = ap (λ ys. x ∷ ys) (append_none xs)
+
+-- the first thing and its step are one
+pub same_stop : {X : Type 0} (steps : X → List Step) (xs : List X) (x y : X) (one other : Step) → IsFirstUnfitOf steps xs x one → IsFirstUnfitOf steps xs y other → (x ≡ y) × (one ≡ other)
+same_stop steps xs x y one other h g = (same, unfit_begins (steps x) [] one other h.first_unfit (subst (λ ss. IsFirstUnfit ss other) (sym (append_none (steps x))) (subst (λ z. IsFirstUnfit (steps z) other) (sym same) g.first_unfit)))
+  where
+    same : x ≡ y
+    same =
+        front_one (Fits steps) h.before g.before h.after g.after x y (sym h.is_there ∙ g.is_there) h.earlier_fit g.earlier_fit
+        (λ fit. unfit_excludes (steps x) [] one h.first_unfit (subst (All StepFits) (sym (append_none (steps x))) fit))
+        (λ fit. unfit_excludes (steps y) [] other g.first_unfit (subst (All StepFits) (sym (append_none (steps y))) fit))
+
+-- there is none where the steps of all fit
+pub no_stop : {X : Type 0} (steps : X → List Step) (xs : List X) (x : X) (one : Step) → IsFirstUnfitOf steps xs x one → All (Fits steps) xs → ⊥
+no_stop steps xs x one h fit =
+    unfit_excludes (steps x) [] one h.first_unfit (subst (All StepFits) (sym (append_none (steps x))) (front_has (Fits steps) h.before h.after x (subst (All (Fits steps)) h.is_there fit)))
+
+pub all_fit-single : {X : Type 0} (steps : X → List Step) (xs : List X) → IsSingle (all_fit steps xs)
+all_fit-single steps xs (Ok _) (Ok _) h g = refl
+all_fit-single steps xs (Ok _) (Err stop) h g = absurd (no_stop steps xs stop.0 stop.1 g h)
+all_fit-single steps xs (Err stop) (Ok _) h g = absurd (no_stop steps xs stop.0 stop.1 h g)
+all_fit-single steps xs (Err (x, one)) (Err (y, other)) h g =
+    (let s = same_stop steps xs x y one other h g in ap₂ (λ a b. Err (a, b)) s.0 s.1)
+
+-- ---- one thing after another
+module _ {X : Type 0} (steps : X → List Step) (xs : List X) (k : ℕ) (x : X) (l : k < length xs) (is : x ≡ get_or xs k x) where
+  taken : take (suc k) xs ≡ take k xs ++ x ∷ []
+  taken = take-suc xs k x l ∙ ap (λ y. take k xs ++ y ∷ []) (sym is)
+
+  -- the first k and then this one
+  pub split_here : xs ≡ take k xs ++ x ∷ drop (suc k) xs
+  split_here = sym (take-append-drop (suc k) xs) ∙ ap (λ t. t ++ drop (suc k) xs) taken ∙ append_assoc (take k xs) (x ∷ []) (drop (suc k) xs)
+
+  pub fits_next : All (Fits steps) (take k xs) → Fits steps x → All (Fits steps) (take (k + 1) xs)
+  fits_next h f =
+      subst (λ n. All (Fits steps) (take n xs)) (sym (add-one k)) (subst (All (Fits steps)) (sym taken) (All-append (Fits steps) (take k xs) (x ∷ []) h (All-cons (Fits steps) x [] f (All-nil (Fits steps)))))
+
+  pub first_unfit_here : (step : Step) → All (Fits steps) (take k xs) → IsFirstUnfit (steps x) step → IsFirstUnfitOf steps xs x step
+  first_unfit_here step h f = record { before = take k xs; after = drop (suc k) xs; is_there = split_here; earlier_fit = h; first_unfit = f }
+
+  -- and what is made of each
+  pub made_next : {Y : Type 0} (f : X → Y) (made new : List Y) (y : Y) → made ≡ map f (take k xs) → y ≡ f x → new ≡ made ++ y ∷ [] → new ≡ map f (take (k + 1) xs)
+  made_next f made new y e g n =
+      n ∙ ap₂ (λ a b. a ++ b ∷ []) e g ∙ sym (map-append f (take k xs) (x ∷ [])) ∙ ap (map f) (sym taken) ∙ ap (λ n. map f (take n xs)) (sym (add-one k))

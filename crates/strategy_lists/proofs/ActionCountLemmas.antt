@@ -1,0 +1,81 @@
+-- A set has fewer actions than the tree has nodes; and the numbers of actions of a player's own sets, one after another.
+use Rattle.std.proofs.Common.{ℕ, zero, suc, ◌<◌, ◌≤◌, ◌^◌, ◌≡◌, inl, inr, Bool, true, false, Decides, Some, None, List, [], ◌∷◌, ◌++◌, length, map, get_or, slice_get, take, refl, sym, ap, subst, ◌∙◌, arith}
+use Rattle.std.specs.Prelude.{if◌then◌else◌}
+use Rattle.std.proofs.Math.Seq.{take-suc, take-length}
+use Rattle.std.proofs.lemmas.Bool.{cases_lt}
+use Rattle.std.proofs.lemmas.List.{length-append, length_push, get_or-map, map-append}
+use Rattle.std.proofs.lemmas.Option.{none-some, slice_get_within, slice_get-get_or, get_or_from_slice_get}
+use Rattle.game_core.proofs.SetNumberLemmas.{is_set-decides}
+use Rattle.game_core.specs.declared.tree.Node.{Node}
+use Rattle.game_core.specs.Tree.{GameTree, IsTree, InformationSet, OpenBranch, AreInPrefixOrder, action_count, branches_from, members_from, is_set, own_sets}
+use Rattle.game_core.specs.TreeGame.{game_of_tree}
+use Rattle.strategy_lists.proofs.OwnNumberLemmas.{own_from-own_sets, own_sets-numbers, own_numbers-length}
+use Rattle.strategy_lists.proofs.WalkStrategyLemmas.{own_set-tell}
+
+-- a node has a place for each action
+length-places : (node a n : ℕ) → length (branches_from node a n) ≡ n
+length-places node a zero = refl
+length-places node a (suc n) = ap suc (length-places node (suc a) n)
+
+-- there is a node for each place that is free
+places-taken : (sets : List InformationSet) (k : ℕ) (nodes : List Node) (free : List OpenBranch) → AreInPrefixOrder sets k nodes free [] → length free ≤ length nodes
+places-taken sets k [] free h = omega (arith, ap length h)
+places-taken sets k (node ∷ nodes) [] h = absurd h
+places-taken sets k (node ∷ nodes) (place ∷ free) h =
+    let later = places-taken sets (suc k) nodes (branches_from k 0 (action_count sets node.set) ++ free) h.1 in
+    omega (arith, length-append (branches_from k 0 (action_count sets node.set)) free)
+
+-- a set with a node has fewer actions than there are nodes
+actions-few : (sets : List InformationSet) (k m s : ℕ) (nodes : List Node) (free : List OpenBranch) → AreInPrefixOrder sets k nodes free [] → 0 < length (members_from m s nodes) → action_count sets (Some s) < length nodes
+actions-few sets k m s [] free h some = absurd (omega arith)
+actions-few sets k m s (node ∷ nodes) [] h some = absurd h
+actions-few sets k m s (node ∷ nodes) (place ∷ free) h some =
+    go (is_set s node.set) (is_set-decides s node.set) (actions-few sets (suc k) (suc m) s nodes (branches_from k 0 (action_count sets node.set) ++ free) h.1) some
+  where
+    go : (b : Bool) → Decides b (node.set ≡ Some s) → (0 < length (members_from (suc m) s nodes) → action_count sets (Some s) < length nodes) → 0 < length (if b then m ∷ members_from (suc m) s nodes else members_from (suc m) s nodes) → action_count sets (Some s) < suc (length nodes)
+    go true d later some =
+        let taken = places-taken sets (suc k) nodes (branches_from k 0 (action_count sets node.set) ++ free) h.1 in
+        let same : action_count sets node.set ≡ action_count sets (Some s) = ap (action_count sets) (d.0 refl) in
+        omega (arith, length-append (branches_from k 0 (action_count sets node.set)) free, length-places k 0 (action_count sets node.set))
+    go false d later some = let few = later some in omega arith
+
+-- the number of a set's actions is that of the game
+pub actions-at : (t : GameTree) (s : ℕ) (set : InformationSet) → s < length t.sets → set ≡ get_or t.sets s set → action_count t.sets (Some s) ≡ length set.actions
+actions-at t s set below is = get_or-map (λ x. length x.actions) t.sets s set 0 below ∙ ap (λ x. length x.actions) (sym is)
+
+-- it is smaller than the number of nodes
+pub actions-below : (t : GameTree) (s : ℕ) → IsTree t → s < length t.sets → action_count t.sets (Some s) < length t.nodes
+actions-below t s valid below =
+    let set = get_or t.sets s (record { owner = None; label = 0; name = []; actions = []; members = [] }) in
+    let fits = valid.sets_fit s set (slice_get-get_or t.sets s _ below) in
+    let some : 0 < length (members_from 0 s t.nodes) = subst (λ xs. 0 < length xs) fits.members_are fits.some_member in
+    actions-few t.sets 0 0 s t.nodes _ valid.in_prefix_order some
+
+-- it fits 32 bits
+pub actions-fit : (t : GameTree) (s : ℕ) (set : InformationSet) → IsTree t → s < length t.sets → set ≡ get_or t.sets s set → length set.actions < 2 ^ 32
+actions-fit t s set valid below is = omega (arith, actions-below t s valid below, actions-at t s set below is, valid.few_nodes)
+
+-- a set of the tree's lists that is one of the player's own is one of the sets
+pub own_set-within : (t : GameTree) (i place s : ℕ) → slice_get (own_sets t i) place ≡ Some s → s < length t.sets
+own_set-within t i place s h = (own_set-tell (game_of_tree t) i place s (ap (λ xs. slice_get xs place) (sym (own_from-own_sets t i)) ∙ h)).0
+
+-- a player has fewer own sets than a place can count
+pub own_sets-few : (t : GameTree) (i : ℕ) → IsTree t → length (own_sets t i) < 2 ^ 32
+own_sets-few t i valid =
+    let short = own_numbers-length (game_of_tree t).owner i (length t.sets) in
+    omega (arith, ap length (own_from-own_sets t i), ap length (own_sets-numbers (game_of_tree t) i), short, valid.few_sets, valid.few_nodes)
+
+-- the numbers of actions with one more set, and of all sets
+module _ (actions : ℕ → ℕ) (sets counts : List ℕ) (h : counts ≡ map actions (take (length counts) sets)) where
+  pub counts-more : (s count : ℕ) → slice_get sets (length counts) ≡ Some s → actions s ≡ count → counts ++ count ∷ [] ≡ map actions (take (length (counts ++ count ∷ [])) sets)
+  counts-more s count at is =
+      let inside = slice_get_within sets (length counts) s at in
+      let next : take (suc (length counts)) sets ≡ take (length counts) sets ++ s ∷ [] = take-suc sets (length counts) s inside ∙ ap (λ x. take (length counts) sets ++ x ∷ []) (get_or_from_slice_get sets (length counts) s s at) in
+      let long : length (counts ++ count ∷ []) ≡ suc (length counts) = length_push counts count ∙ omega arith in
+      rw (long, next, map-append actions (take (length counts) sets) (s ∷ []), is) (ap (λ xs. xs ++ count ∷ []) h)
+
+  pub counts-all : slice_get sets (length counts) ≡ None → length counts ≤ length sets → counts ≡ map actions sets
+  counts-all at_none few = elim (cases_lt (length counts) (length sets)) [
+    | inl less ↦ absurd (none-some _ (sym at_none ∙ slice_get-get_or sets (length counts) 0 less))
+    | inr past ↦ (let all : length counts ≡ length sets = omega arith in h ∙ ap (λ n. map actions (take n sets)) all ∙ ap (map actions) (take-length sets))
+  ]

@@ -1,0 +1,104 @@
+-- When steps on whole numbers fit.
+use Rattle.std.proofs.Common.{ℕ, ℤ, pos, negsuc, zero, suc, ◌≡◌, ◌<◌, ◌≤◌, ◌^◌, ◌↔◌, ◌*ℤ◌, ◌-ℤ◌, neg_ℤ, nat_abs, ◌<ℤ◌, ◌/◌, refl, sym, ap, ap₂, ◌∙◌, subst, List, [], ◌∷◌, arith, ◌⊎◌, inl, inr, Option, Some, None, MatchOption, to_z, of_z, get_or, slice_index_or, ◌+◌}
+use Rattle.std.proofs.Math.Nat.{div-le_self}
+use Rattle.std.specs.Int.{w128}
+use Rattle.std.proofs.lemmas.Int.{ints, to_z-of_z, fits_signed_from_abs}
+use Rattle.frac128.proofs.DifferenceLemmas.{neg_fits}
+use Rattle.rational.specs.Gcd.{gcd}
+use Rattle.rational.specs.Rational.{ℚ, whole, frac, ◌+ℚ◌, ◌-ℚ◌}
+use Rattle.rational.proofs.IntegerRing.{integer_ring}
+use Rattle.rational.proofs.Ring.{ring, num, ◌:*◌, ◌:-◌, :neg, A}
+use Rattle.rational.proofs.PartLemmas.{whole-num, whole-den, whole-mul, whole-neg, whole-add}
+use Rattle.rational.specs.LowestTerms.{nat_abs-div_ℤ}
+use Rattle.frac128.specs.declared.steps.Unfit.{Unfit}
+use Rattle.frac128.specs.Fraction.{PartFits, Fits, quotient}
+use Rattle.frac128.specs.Steps.{num_beside}
+use Rattle.whole_rows.specs.Steps.{times, less, StepFits, AllFit, IsFirstUnfit, unfit_step}
+
+one_fits : (n : ℕ) → n ≡ 1 → PartFits (pos n)
+one_fits n e = omega (arith, e)
+
+pub whole_fits : (n : ℤ) → PartFits n ↔ Fits (whole n)
+whole_fits n = (λ h. record { num = subst PartFits (sym (whole-num n)) h; den = one_fits (whole n).den (whole-den n) }, λ h. subst PartFits (whole-num n) h.num)
+
+pub times_fits : (a b : ℤ) → PartFits (a *ℤ b) ↔ StepFits (times a b)
+times_fits a b = subst (λ q. PartFits (a *ℤ b) ↔ Fits q) (whole-mul a b) (whole_fits (a *ℤ b))
+
+pub whole-sub : (a b : ℤ) → whole a -ℚ whole b ≡ whole (a -ℤ b)
+whole-sub a b = ap (λ q. whole a +ℚ q) (sym (whole-neg b)) ∙ sym (whole-add a (neg_ℤ b))
+
+one_gcd : (d e : ℕ) → d ≡ 1 → e ≡ 1 → e / gcd d e ≡ 1
+unfolding gcd
+one_gcd d e p q = ap₂ (λ x y. y / gcd x y) p q
+
+beside : (a b : ℤ) → num_beside (whole a) (whole b) ≡ a
+beside a b = ap₂ (λ x y. x *ℤ pos y) (whole-num a) (one_gcd _ _ (whole-den a) (whole-den b)) ∙ ring integer_ring (a ∷ []) (A :* num 1) A refl
+
+pub less_fits : (a b : ℤ) → PartFits a → PartFits b → PartFits (a -ℤ b) ↔ StepFits (less a b)
+less_fits a b ha hb = (λ h. record { left = subst PartFits (sym (beside a b)) ha; right = subst PartFits (sym (beside b a)) hb; top = subst PartFits (sym (ap₂ (λ x y. x -ℤ y) (beside a b) (beside b a))) h; den = one_fits _ (ap (λ (q : ℚ). q.den) (whole-sub a b) ∙ whole-den (a -ℤ b)) }, λ h. subst PartFits (ap₂ (λ x y. x -ℤ y) (beside a b) (beside b a)) h.top)
+
+-- a product or a difference that does not fit, as the first step that does not
+pub first_unfit : (a u b v : ℤ) (e : Unfit) → ¬ (PartFits (a *ℤ u)) → e ≡ unfit_step (times a u) → IsFirstUnfit (times a u ∷ times b v ∷ less (a *ℤ u) (b *ℤ v) ∷ []) e
+first_unfit a u b v e h is = inl (λ f. h ((times_fits a u).1 f), is)
+
+pub second_unfit : (a u b v x : ℤ) (e : Unfit) → (x ≡ a *ℤ u) × PartFits x → ¬ (PartFits (b *ℤ v)) → e ≡ unfit_step (times b v) → IsFirstUnfit (times a u ∷ times b v ∷ less (a *ℤ u) (b *ℤ v) ∷ []) e
+second_unfit a u b v x e g h is = inr ((times_fits a u).0 (subst PartFits g.0 g.1), inl (λ f. h ((times_fits b v).1 f), is))
+
+pub all_fit : (a u b v : ℤ) → PartFits (a *ℤ u) → PartFits (b *ℤ v) → PartFits ((a *ℤ u) -ℤ (b *ℤ v)) → AllFit (times a u ∷ times b v ∷ less (a *ℤ u) (b *ℤ v) ∷ [])
+all_fit a u b v f g h = ((times_fits a u).0 f, ((times_fits b v).0 g, ((less_fits (a *ℤ u) (b *ℤ v) f g).0 h, tt)))
+
+pub third_unfit : (a u b v x y : ℤ) (e : Unfit) → ¬ (AllFit (times a u ∷ times b v ∷ less (a *ℤ u) (b *ℤ v) ∷ [])) → (x ≡ a *ℤ u) × PartFits x → (y ≡ b *ℤ v) × PartFits y → e ≡ unfit_step (less x y) → IsFirstUnfit (times a u ∷ times b v ∷ less (a *ℤ u) (b *ℤ v) ∷ []) e
+third_unfit a u b v x y e h p q is =
+    let f = subst PartFits p.0 p.1 in let g = subst PartFits q.0 q.1 in
+    inr ((times_fits a u).0 f, inr ((times_fits b v).0 g, inl (λ k. h ((times_fits a u).0 f, ((times_fits b v).0 g, (k, tt))), is ∙ ap₂ (λ x y. unfit_step (less x y)) p.0 q.0)))
+
+-- what is told by the three numbers
+pub told : (a u b v x y : ℤ) (o : Option ℤ) → (x ≡ a *ℤ u) × PartFits x → (y ≡ b *ℤ v) × PartFits y → MatchOption o (¬ (PartFits (x -ℤ y))) (λ d. (d ≡ x -ℤ y) × PartFits d) → MatchOption o (¬ (AllFit (times a u ∷ times b v ∷ less (a *ℤ u) (b *ℤ v) ∷ []))) (λ d. (d ≡ (a *ℤ u) -ℤ (b *ℤ v)) × PartFits d × AllFit (times a u ∷ times b v ∷ less (a *ℤ u) (b *ℤ v) ∷ []))
+told a u b v x y None p q h = λ f. h (subst PartFits (sym (ap₂ (λ x y. x -ℤ y) p.0 q.0)) ((less_fits (a *ℤ u) (b *ℤ v) (subst PartFits p.0 p.1) (subst PartFits q.0 q.1)).1 f.1.1.0))
+told a u b v x y (Some d) p q h = (h.0 ∙ ap₂ (λ x y. x -ℤ y) p.0 q.0, h.1, all_fit a u b v (subst PartFits p.0 p.1) (subst PartFits q.0 q.1) (subst PartFits (h.0 ∙ ap₂ (λ x y. x -ℤ y) p.0 q.0) h.1))
+
+-- the parts of a fraction in lowest terms are no larger than those it is made of
+pub frac_fits : (n : ℤ) (d : ℕ) → 0 < d → PartFits n → d < 2 ^ 127 → Fits (frac n d)
+unfolding frac
+frac_fits n zero p h g = absurd (omega arith)
+frac_fits n (suc d) p h g = record { num = subst (λ x. x < 2 ^ 127) (sym (nat_abs-div_ℤ n (gcd (nat_abs n) (suc d)))) (smaller (nat_abs n) (gcd (nat_abs n) (suc d)) h); den = smaller (suc d) (gcd (nat_abs n) (suc d)) g }
+  where
+    smaller : (x k : ℕ) → x < 2 ^ 127 → x / k < 2 ^ 127
+    smaller x k h = let q : x / k ≤ x = div-le_self x k in omega arith
+
+pub fraction_none : (n d : ℤ) → pos 0 <ℤ d → PartFits n → PartFits d → (d ≡ pos 0) ⊎ (¬ (Fits (quotient n d))) → ⊥
+fraction_none n (pos d) p h g (inl e) = omega (arith, ints)
+fraction_none n (pos d) p h g (inr f) = f (frac_fits n d (omega (arith, ints)) h g)
+fraction_none n (negsuc d) p h g o = omega (arith, ints)
+
+pub fraction_is : (n d : ℤ) → pos 0 <ℤ d → quotient n d ≡ frac n (nat_abs d)
+fraction_is n (pos d) p = refl
+fraction_is n (negsuc d) p = absurd (omega (arith, ints))
+
+pub not_first : (a u b v : ℤ) → ¬ (PartFits (a *ℤ u)) → AllFit (times a u ∷ times b v ∷ less (a *ℤ u) (b *ℤ v) ∷ []) → ⊥
+not_first a u b v h f = h ((times_fits a u).1 f.0)
+
+pub not_second : (a u b v : ℤ) → ¬ (PartFits (b *ℤ v)) → AllFit (times a u ∷ times b v ∷ less (a *ℤ u) (b *ℤ v) ∷ []) → ⊥
+not_second a u b v h f = h ((times_fits b v).1 f.1.0)
+
+-- a number that fits is read as it was stored
+pub read_back : (n : ℤ) → PartFits n → to_z w128 (of_z w128 n) ≡ n
+read_back n h = to_z-of_z w128 n (fits_signed_from_abs w128 n h)
+
+-- so is a number of a list of such numbers
+pub read_at : (xs : List ℤ) (k : ℕ) → ((k : ℕ) → PartFits (get_or xs k (pos 0))) → to_z w128 (of_z w128 (slice_index_or xs k (pos 0))) ≡ get_or xs k (pos 0)
+read_at xs k h = read_back (get_or xs k (pos 0)) (h k)
+
+pub plus_none : (k : ℕ) → k ≡ k + 0
+plus_none k = omega arith
+
+-- and the number at the beginning of a row
+pub read_first : (xs : List ℤ) (k : ℕ) → ((k : ℕ) → PartFits (get_or xs k (pos 0))) → to_z w128 (of_z w128 (slice_index_or xs k (pos 0))) ≡ get_or xs (k + 0) (pos 0)
+read_first xs k h = read_at xs k h ∙ ap (λ n. get_or xs n (pos 0)) (plus_none k)
+
+-- a number with its sign turned
+pub turned_back : (n : ℤ) → PartFits n → to_z w128 (of_z w128 (pos 0 -ℤ to_z w128 (of_z w128 n))) ≡ neg_ℤ n
+turned_back n h = ap (λ x. to_z w128 (of_z w128 (pos 0 -ℤ x))) (read_back n h) ∙ ap (λ x. to_z w128 (of_z w128 x)) (ring integer_ring (n ∷ []) (num 0 :- A) (:neg A) refl) ∙ read_back (neg_ℤ n) (neg_fits n h)
+
+pub read_size : (n : ℤ) (k : ℕ) → PartFits n → k ≡ nat_abs (to_z w128 (of_z w128 n)) → k ≡ nat_abs n
+read_size n k h e = e ∙ ap nat_abs (read_back n h)

@@ -1,0 +1,48 @@
+-- What the stages of a form's program give together.
+use Rattle.std.proofs.Common.{◌<◌, Result, Ok, Err, inr, refl}
+use Rattle.answers.specs.Answers.{Answer, Gives, ◌>>◌, refuse_where, refused_by}
+use Rattle.answers.proofs.AnswerLemmas.{gives_bind, gives_first}
+use Rattle.sequence_data.specs.Data.{FormData}
+use Rattle.zero_sum_lp.specs.declared.stop.LpStop.{LpStop}
+use Rattle.zero_sum_lp.specs.declared.stop.LpStop.TheVariants as stops
+use Rattle.zero_sum_lp.specs.declared.stop.NotConstant.{NotConstant}
+use Rattle.zero_sum_lp.specs.FormPrograms.{gains_in, is_constant, program_in, size_of, start_in, sums_in, too_many_rows}
+use Rattle.zero_sum_lp.specs.Parts.{Program}
+
+-- one stage more
+go_on : (p : Answer LpStop (Unit {0})) (q : Answer LpStop Program) (answer : Result Program LpStop) → p (Ok tt) → Gives stops.Memory q answer → Gives stops.Memory (p >> q) answer
+go_on p q answer h g = gives_bind {Z = Program} stops.Memory p (λ _. q) tt answer h g
+
+leave : (p : Answer LpStop (Unit {0})) (q : Answer LpStop Program) (r : LpStop) → Gives stops.Memory p (Err r) → Gives stops.Memory (p >> q) (Err r)
+leave p q r g = gives_first {Z = Program} stops.Memory p (λ _. q) r g
+
+module _ (f : FormData) where
+  abbrev size_stage : Answer LpStop (Unit {0})
+  size_stage = refuse_where (512 < size_of f) (stops.TooLarge (too_many_rows f))
+
+  abbrev constant_stage : Answer LpStop (Unit {0})
+  constant_stage = refused_by stops.NotConstant (is_constant f.leaves)
+
+  abbrev from_gains : Answer LpStop Program
+  from_gains = gains_in f.least_one f.cells >> start_in f
+
+  abbrev from_constant : Answer LpStop Program
+  from_constant = constant_stage >> from_gains
+
+  abbrev from_sums : Answer LpStop Program
+  from_sums = sums_in f.leaves >> from_constant
+
+  module _ (few : 512 < size_of f → ⊥) where
+    pub sums_stop : (r : LpStop) → Gives stops.Memory (sums_in f.leaves) (Err r) → Gives stops.Memory (program_in f) (Err r)
+    sums_stop r g = go_on size_stage from_sums (Err r) few (leave (sums_in f.leaves) from_constant r g)
+
+    module _ (sums : sums_in f.leaves (Ok tt)) where
+      pub apart_stop : (stop : NotConstant) → is_constant f.leaves (Err stop) → Gives stops.Memory (program_in f) (Err (stops.NotConstant stop))
+      apart_stop stop h = go_on size_stage from_sums (Err (stops.NotConstant stop)) few (go_on (sums_in f.leaves) from_constant (Err (stops.NotConstant stop)) sums (leave constant_stage from_gains (stops.NotConstant stop) (inr (stop, h, refl))))
+
+      module _ (constant : is_constant f.leaves (Ok tt)) where
+        pub gains_stop : (r : LpStop) → Gives stops.Memory (gains_in f.least_one f.cells) (Err r) → Gives stops.Memory (program_in f) (Err r)
+        gains_stop r g = go_on size_stage from_sums (Err r) few (go_on (sums_in f.leaves) from_constant (Err r) sums (go_on constant_stage from_gains (Err r) constant (leave (gains_in f.least_one f.cells) (start_in f) r g)))
+
+        pub start_gives : (answer : Result Program LpStop) → gains_in f.least_one f.cells (Ok tt) → Gives stops.Memory (start_in f) answer → Gives stops.Memory (program_in f) answer
+        start_gives answer h g = go_on size_stage from_sums answer few (go_on (sums_in f.leaves) from_constant answer sums (go_on constant_stage from_gains answer constant (go_on (gains_in f.least_one f.cells) (start_in f) answer h g)))

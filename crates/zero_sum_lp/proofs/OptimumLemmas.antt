@@ -1,0 +1,113 @@
+-- The last tableau of a program's path.
+use Rattle.std.proofs.Common.{ℕ, zero, suc, ◌<◌, ◌≤◌, ◌≡◌, ◌≢◌, ◌+◌, ◌-◌, ◌⊎◌, inl, inr, length, sym, ap, ◌∙◌, subst, arith, add-one}
+use Rattle.std.proofs.lemmas.Bool.{cases_eq}
+use Rattle.std.proofs.lemmas.List.{length-map}
+use Rattle.rational.specs.Rational.{ℚ}
+use Rattle.rational.proofs.SumLemmas.{sum_to-zeros}
+use Rattle.linear_systems.specs.Tableau.{Tableau}
+use Rattle.linear_systems.specs.Rows.{coefficient, HasDistinctVariables}
+use Rattle.linear_systems.proofs.RowLemmas.{unit_other, times_zero}
+use Rattle.linear_systems.proofs.LexRowLemmas.{below_cases}
+use Rattle.sequence_forms.specs.Sides.{sequences}
+use Rattle.zero_sum_lp.specs.Programs.{constraints, value_at, price_one, price_two}
+use Rattle.zero_sum_lp.proofs.BoundedObjectiveLemmas.{programs_linear}
+use Rattle.zero_sum_lp.proofs.DeterminedPathLemmas.{after_on_path}
+use Rattle.zero_sum_lp.proofs.ObjectiveGrowthLemmas.{IsLexicographicallyFeasible}
+use Rattle.zero_sum_lp.proofs.OptimalRowLemmas.{value_basic}
+use Rattle.zero_sum_lp.proofs.ProgramLemmas.{basic_last}
+use Rattle.lex_tableau.specs.Rows.{Numbers, tableau, IsValueOf}
+use Rattle.sequence_data.specs.Data.{SideData, side_of}
+use Rattle.zero_sum_lp.specs.Parts.{HasShape, Program, IsProgram, IsOptimum}
+use Rattle.zero_sum_lp.specs.Steps.{linear_program, IsProgramStart, EndsPath}
+use Rattle.zero_sum_lp.proofs.PathWalkLemmas.{leads_after}
+
+pub program_starts : (p : Program) → IsProgram p → IsProgramStart p.tableau
+program_starts p h =
+    record { basics = h.start.basics; program = programs_linear (side_of p.first) (side_of p.second) h.start.gain (linear_program p.tableau) h.first.ordered h.second.ordered h.start.program }
+
+-- where the path ends is an optimum
+pub is_optimum : (p : Program) (end : Numbers) → IsProgram p → EndsPath p.tableau end → IsOptimum (record { first = p.first; second = p.second; tableau = end })
+is_optimum p end h e = record { first = h.first; second = h.second; start = p.tableau; begins = h.start; path = e }
+
+-- how many sets a side has
+pub sets_are : (sets : SideData) → (side_of sets).sets ≡ length sets.sets
+sets_are sets = length-map sets.sets (λ s. s.before)
+
+module _ (o : Program) (h : IsOptimum o) where
+  start_is : IsProgramStart h.start
+  start_is = program_starts (record { first = o.first; second = o.second; tableau = h.start }) (record { first = h.first; second = h.second; start = h.begins })
+
+  end_feasible : IsLexicographicallyFeasible (linear_program h.start).bound h.start.rated (tableau h.start) (tableau o.tableau)
+  end_feasible = after_on_path (linear_program h.start) h.path.count (tableau o.tableau) start_is.program (leads_after h.start o.tableau h.path.count start_is h.path.path)
+
+  pub end_rows : length o.tableau.basics ≡ suc (constraints (side_of o.first) (side_of o.second))
+  end_rows = end_feasible.reached.rows ∙ sym h.begins.program.start.rows
+
+  pub end_width : length o.tableau.nonbasics ≡ sequences (side_of o.first) + suc (side_of o.second).sets
+  end_width = end_feasible.reached.width ∙ sym h.begins.program.start.width
+
+  pub end_distinct : HasDistinctVariables (tableau o.tableau)
+  end_distinct = end_feasible.reached.proper
+
+  -- the objective row's variable
+  pub end_objective : (tableau o.tableau).basic (constraints (side_of o.first) (side_of o.second)) ≡ suc (constraints (side_of o.first) (side_of o.second) + (sequences (side_of o.first) + suc (side_of o.second).sets))
+  end_objective =
+      let m : h.start.rated ≡ constraints (side_of o.first) (side_of o.second) = h.begins.program.rated in
+      let w : suc (constraints (side_of o.first) (side_of o.second)) ≡ length h.start.basics = h.begins.program.start.rows in
+      end_feasible.reached.stays (constraints (side_of o.first) (side_of o.second)) (omega arith) (omega arith)
+      ∙ sym (h.begins.program.start.basic (constraints (side_of o.first) (side_of o.second)) (omega arith))
+      ∙ basic_last (side_of o.first) (side_of o.second) h.begins.gain (constraints (side_of o.first) (side_of o.second)) (omega arith)
+
+-- ---- for the readers
+module _ (o : Program) (h : IsOptimum o) (seen : Numbers) (e : seen ≡ o.tableau) (objective width : ℕ) (s : HasShape o.first o.second objective width) where
+  pub read_row : objective < length seen.basics
+  read_row = subst (λ n. objective < length n.basics) (sym e) (let r = end_rows o h in let m : objective ≡ constraints (side_of o.first) (side_of o.second) = s.rows in omega arith)
+
+  pub read_width : width ≡ length seen.nonbasics
+  read_width = subst (λ n. width ≡ length n.nonbasics) (sym e) (s.columns ∙ sym (end_width o h))
+
+  pub read_distinct : HasDistinctVariables (tableau seen)
+  read_distinct = subst (λ n. HasDistinctVariables (tableau n)) (sym e) (end_distinct o h)
+
+  -- a variable with a smaller number is not the objective row's
+  pub read_other : (v : ℕ) → v < suc (constraints (side_of o.first) (side_of o.second) + (sequences (side_of o.first) + suc (side_of o.second).sets)) → (tableau seen).basic objective ≢ v
+  read_other v l q =
+      let b : (tableau seen).basic objective ≡ suc (constraints (side_of o.first) (side_of o.second) + (sequences (side_of o.first) + suc (side_of o.second).sets)) = ap (λ n. (tableau n).basic objective) e ∙ ap (λ m. (tableau o.tableau).basic m) s.rows ∙ end_objective o h in
+      omega (arith, l, q, b)
+
+-- ---- values
+-- the row whose basic variable is v, or none
+basic_row : (n : ℕ) (t : Tableau) (v : ℕ) → ((i : ℕ) × ((i < n) × (t.basic i ≡ v))) ⊎ ((i : ℕ) → i < n → t.basic i ≢ v)
+basic_row zero t v = inr (λ i h. absurd (omega arith))
+basic_row (suc n) t v = elim (cases_eq (t.basic n) v) [
+  | inl e ↦ inl (n, (omega arith, e))
+  | inr ne ↦ elim (basic_row n t v) [
+    | inl w ↦ inl (w.0, (let l = w.1.0 in omega arith, w.1.1))
+    | inr f ↦ inr (λ i h. elim (below_cases i n h) [ inl e ↦ subst (λ k. t.basic k ≢ v) (sym e) ne | inr l ↦ f i l ])
+  ]
+]
+
+pub value_is : (t : Tableau) (v : ℕ) (q : ℚ) → HasDistinctVariables t → IsValueOf t v q → q ≡ value_at t v
+value_is t v q d h = elim (basic_row t.rows t v) [
+  | inl w ↦ h.basic w.0 w.1.0 w.1.1 ∙ sym (ap (value_at t) (sym w.1.1) ∙ value_basic t w.0 d w.1.0)
+  | inr f ↦ h.nonbasic f ∙ sym (sum_to-zeros t.rows _ (λ i hi. times_zero (t.right i) _ (unit_other (t.basic i) v (λ e. f i hi (sym e)))))
+]
+
+-- a slack of the first player's rows has a smaller number than the objective
+pub few_sets : (first second : SideData) (k : ℕ) → k ≤ length first.sets → k + 1 < suc (constraints (side_of first) (side_of second) + (sequences (side_of first) + suc (side_of second).sets))
+few_sets first second k h = let e = sets_are first in omega arith
+
+-- the number of a value
+pub second_variable : (first second : SideData) (objective width len k : ℕ) → HasShape first second objective width → len ≡ length second.sets → objective + (width - len - 1) + k + 1 ≡ suc (constraints (side_of first) (side_of second) + (sequences (side_of first) + k))
+second_variable first second objective width len k s e =
+    let m : objective ≡ constraints (side_of first) (side_of second) = s.rows in
+    let w : width ≡ sequences (side_of first) + suc (side_of second).sets = s.columns in
+    let n = sets_are second in
+    omega arith
+
+module _ (o : Program) (h : IsOptimum o) (seen : Numbers) (e : seen ≡ o.tableau) (objective width : ℕ) (s : HasShape o.first o.second objective width) (k : ℕ) (q : ℚ) where
+  pub first_price_is : q ≡ coefficient (tableau seen) objective (k + 1) → q ≡ price_one (side_of o.first) (side_of o.second) (tableau o.tableau) k
+  first_price_is f = f ∙ ap (λ n. coefficient (tableau n) objective (k + 1)) e ∙ ap (λ m. coefficient (tableau o.tableau) m (k + 1)) s.rows ∙ ap (coefficient (tableau o.tableau) (constraints (side_of o.first) (side_of o.second))) (add-one k)
+
+  pub second_price_is : (v : ℕ) → v ≡ suc (constraints (side_of o.first) (side_of o.second) + (sequences (side_of o.first) + k)) → IsValueOf (tableau seen) v q → q ≡ price_two (side_of o.first) (side_of o.second) (tableau o.tableau) k
+  second_price_is v f w = value_is (tableau o.tableau) v q (end_distinct o h) (subst (λ n. IsValueOf (tableau n) v q) e w) ∙ ap (value_at (tableau o.tableau)) f

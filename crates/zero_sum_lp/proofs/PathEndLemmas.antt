@@ -1,0 +1,132 @@
+-- The path has one end.
+use Rattle.std.proofs.Common.{ℕ, zero, suc, ◌<◌, ◌≡◌, ◌^◌, inl, inr, sym, ap, ap₂, ◌∙◌, subst, subst₂, arith}
+use Rattle.std.proofs.lemmas.Bool.{cases_lt}
+use Rattle.rational.specs.Rational.{zero_ℚ}
+use Rattle.rational.proofs.Field.{not_lt_of_le}
+use Rattle.linear_systems.specs.Tableau.{pivot}
+use Rattle.linear_systems.proofs.LexRowLemmas.{lex_row_once, below_cases}
+use Rattle.zero_sum_lp.specs.Paths.{IsEntering, IsOptimal}
+use Rattle.linear_systems.proofs.AgreementLemmas.{alike_sym, alike_trans}
+use Rattle.zero_sum_lp.proofs.DeterminedPathLemmas.{entering_once}
+use Rattle.frac128.specs.declared.steps.Unfit.{Unfit}
+use Rattle.whole_rows.specs.Steps.{AllFit, IsFirstUnfit}
+use Rattle.whole_rows.proofs.FirstUnfitLemmas.{no_unfit, one_unfit}
+use Rattle.lex_tableau.specs.Pivots.{steps_of_pivot}
+use Rattle.lex_tableau.specs.Ratio.{listed}
+use Rattle.lex_tableau.specs.Rows.{Numbers, tableau, IsPivotOf, IsTableau}
+use Rattle.lex_tableau.proofs.TableauLemmas.{determined}
+use Rattle.zero_sum_lp.specs.declared.lp.LpEnd.TheVariants.{Optimal, Range}
+use Rattle.zero_sum_lp.specs.Ends.{EndsAreSingle}
+use Rattle.zero_sum_lp.specs.Parts.{Program}
+use Rattle.zero_sum_lp.specs.Steps.{IsFittingPivot, IsLeavingRow, LeadsTo, EndsPath, IsPivotNumber, IsUnfitPivot}
+
+-- ---- one step
+-- the pivot of a tableau that is determined
+module _ (m : Numbers) (v : IsTableau m) (c d r s : ℕ) (ec : IsEntering m.rated (tableau m) c) (ed : IsEntering m.rated (tableau m) d) (lr : IsLeavingRow m c r) (ls : IsLeavingRow m d s) where
+  same_column : c ≡ d
+  same_column = entering_once m.rated (tableau m) c d v.reached.reached.proper ec ed
+
+  same_row : r ≡ s
+  same_row = lex_row_once m.rated (listed m.starts) (tableau m) d r s (subst (λ x. IsLeavingRow m x r) same_column lr) ls
+
+step_same : (m n o : Numbers) → IsTableau m → IsFittingPivot m n → IsFittingPivot m o → n ≡ o
+step_same m n o v a b =
+    let c = same_column m v a.column b.column a.row b.row a.entering b.entering a.leaving b.leaving in
+    let r = same_row m v a.column b.column a.row b.row a.entering b.entering a.leaving b.leaving in
+    let p : IsPivotOf m b.row b.column n = subst₂ (λ x y. IsPivotOf m x y n) r c a.pivot in
+    determined n o a.valid b.valid (p.starts ∙ sym b.pivot.starts) (p.rated ∙ sym b.pivot.rated)
+    (alike_trans (tableau n) (pivot (tableau m) b.row b.column) (tableau o) (alike_sym (pivot (tableau m) b.row b.column) (tableau n) p.fractions) b.pivot.fractions)
+
+-- ---- the path
+valid_at : (first n : Numbers) (k : ℕ) → IsTableau first → LeadsTo first k n → IsTableau n
+valid_at first n zero v e = subst IsTableau (sym e) v
+valid_at first n (suc k) v w = w.1.1.valid
+
+path_same : (first n o : Numbers) (k : ℕ) → IsTableau first → LeadsTo first k n → LeadsTo first k o → n ≡ o
+path_same first n o zero v e f = e ∙ sym f
+path_same first n o (suc k) v w x =
+    let e = path_same first w.0 x.0 k v w.1.0 x.1.0 in step_same x.0 n o (valid_at first x.0 k v x.1.0) (subst (λ m. IsFittingPivot m n) e w.1.1) x.1.1
+
+-- a longer path takes a step from each tableau before its end
+step_at : (first n : Numbers) (j k : ℕ) → k < j → LeadsTo first j n → (m : Numbers) × ((o : Numbers) × (LeadsTo first k m × IsFittingPivot m o))
+step_at first n zero k l w = absurd (omega arith)
+step_at first n (suc j) k l w = elim (below_cases k j l) [
+  | inl e ↦ (w.0, (n, (subst (λ i. LeadsTo first i w.0) (sym e) w.1.0, w.1.1)))
+  | inr h ↦ step_at first w.0 j k h w.1.0
+]
+
+not_optimal : (n : Numbers) (c : ℕ) → IsOptimal n.rated (tableau n) → IsEntering n.rated (tableau n) c → ⊥
+not_optimal n c o e = not_lt_of_le zero_ℚ ((tableau n).cell n.rated c) (o c e.column) e.negative
+
+module _ (first : Numbers) (v : IsTableau first) where
+  -- from where a path takes a step there is another end neither of the path nor of its arithmetic
+  step_from : (n o : Numbers) (k j : ℕ) → k < j → LeadsTo first k n → LeadsTo first j o → (p : Numbers) × IsFittingPivot n p
+  step_from n o k j l w x =
+      let s = step_at first o j k l x in
+      (s.1.0, subst (λ m. IsFittingPivot m s.1.0) (path_same first s.0 n k v s.1.1.0 w) s.1.1.1)
+
+  ended_goes_on : (n o : Numbers) (k j : ℕ) → k < j → LeadsTo first k n → IsOptimal n.rated (tableau n) → LeadsTo first j o → ⊥
+  ended_goes_on n o k j l w opt x = let s = step_from n o k j l w x in not_optimal n s.1.column opt s.1.entering
+
+  unfit_goes_on : (number entering : ℕ) (unfit : Unfit) (u : IsUnfitPivot first number entering unfit) (o : Numbers) (j : ℕ) → u.count < j → LeadsTo first j o → ⊥
+  unfit_goes_on number entering unfit u o j l x =
+      let s = step_from u.before o u.count j l u.path x in
+      let w = valid_at first u.before u.count v u.path in
+      let c = same_column u.before w s.1.column u.column s.1.row u.row s.1.entering u.enters s.1.leaving u.leaves in
+      let r = same_row u.before w s.1.column u.column s.1.row u.row s.1.entering u.enters s.1.leaving u.leaves in
+      no_unfit (steps_of_pivot u.before u.row u.column) unfit (subst₂ (λ a b. AllFit (steps_of_pivot u.before a b)) r c s.1.fits) u.first_unfit
+
+  optima_same : (n o : Numbers) → EndsPath first n → EndsPath first o → n ≡ o
+  optima_same n o a b = elim (cases_lt a.count b.count) [
+    | inl l ↦ absurd (ended_goes_on n o a.count b.count l a.path a.optimal b.path)
+    | inr l ↦ elim (cases_lt b.count a.count) [
+      | inl k ↦ absurd (ended_goes_on o n b.count a.count k b.path b.optimal a.path)
+      | inr k ↦ path_same first n o b.count v (subst (λ i. LeadsTo first i n) (let e : a.count ≡ b.count = omega (arith, l, k) in e) a.path) b.path
+    ]
+  ]
+
+  not_both : (n : Numbers) (number entering : ℕ) (unfit : Unfit) → EndsPath first n → IsUnfitPivot first number entering unfit → ⊥
+  not_both n number entering unfit a u = elim (cases_lt a.count u.count) [
+    | inl l ↦ ended_goes_on n u.before a.count u.count l a.path a.optimal u.path
+    | inr l ↦ elim (cases_lt u.count a.count) [
+      | inl k ↦ unfit_goes_on number entering unfit u n a.count k a.path
+      | inr k ↦ (let e : n ≡ u.before = path_same first n u.before u.count v (subst (λ i. LeadsTo first i n) (let q : a.count ≡ u.count = omega (arith, l, k) in q) a.path) u.path in not_optimal u.before u.column (subst (λ m. IsOptimal m.rated (tableau m)) e a.optimal) u.enters)
+    ]
+  ]
+
+  number_same : (k a b : ℕ) → IsPivotNumber k a → IsPivotNumber k b → a ≡ b
+  number_same k a b h g = elim (cases_lt k (2 ^ 64)) [ inl l ↦ h.exact l ∙ sym (g.exact l) | inr l ↦ h.later l ∙ sym (g.later l) ]
+
+  unfit_same : (number entering number' entering' : ℕ) (unfit unfit' : Unfit) → (u : IsUnfitPivot first number entering unfit) → (w : IsUnfitPivot first number' entering' unfit') → (number ≡ number') × ((entering ≡ entering') × (unfit ≡ unfit'))
+  unfit_same number entering number' entering' unfit unfit' u w = elim (cases_lt u.count w.count) [
+    | inl l ↦ absurd (unfit_goes_on number entering unfit u w.before w.count l w.path)
+    | inr l ↦ elim (cases_lt w.count u.count) [
+      | inl k ↦ absurd (unfit_goes_on number' entering' unfit' w u.before u.count k u.path)
+      | inr k ↦ same_here (let q : u.count ≡ w.count = omega (arith, l, k) in q)
+    ]
+  ]
+    where
+      same_here : u.count ≡ w.count → (number ≡ number') × ((entering ≡ entering') × (unfit ≡ unfit'))
+      same_here q =
+          let e : u.before ≡ w.before = path_same first u.before w.before w.count v (subst (λ i. LeadsTo first i u.before) q u.path) w.path in
+          let valid = valid_at first w.before w.count v w.path in
+          let enters : IsEntering w.before.rated (tableau w.before) u.column = subst (λ m. IsEntering m.rated (tableau m) u.column) e u.enters in
+          let leaves : IsLeavingRow w.before u.column u.row = subst (λ m. IsLeavingRow m u.column u.row) e u.leaves in
+          let c = same_column w.before valid u.column w.column u.row w.row enters w.enters leaves w.leaves in
+          let r = same_row w.before valid u.column w.column u.row w.row enters w.enters leaves w.leaves in
+          let here : IsFirstUnfit (steps_of_pivot w.before w.row w.column) unfit = subst₂ (λ a b. IsFirstUnfit (steps_of_pivot w.before a b) unfit) r c (subst (λ m. IsFirstUnfit (steps_of_pivot m u.row u.column) unfit) e u.first_unfit) in (
+            number_same (suc w.count) number number' (subst (λ i. IsPivotNumber (suc i) number) q u.is_number) w.is_number,
+            (u.variable ∙ ap₂ (λ (m : Numbers) (i : ℕ). (tableau m).nonbasic i) e c ∙ sym w.variable, one_unfit (steps_of_pivot w.before w.row w.column) unfit unfit' here w.first_unfit),
+          )
+
+-- a program by its parts
+pub program_same : (a b : Program) → a.first ≡ b.first → a.second ≡ b.second → a.tableau ≡ b.tableau → a ≡ b
+program_same a b e f g = λ i. record { first = e i; second = f i; tableau = g i }
+
+pub ends_same : EndsAreSingle
+ends_same p (Optimal a) (Optimal b) h one other =
+    ap Optimal (program_same a b (one.first ∙ sym other.first) (one.second ∙ sym other.second) (optima_same p.tableau h.start.valid a.tableau b.tableau one.path other.path))
+ends_same p (Optimal a) (Range step entering unfit) h one other = absurd (not_both p.tableau h.start.valid a.tableau step entering unfit one.path other)
+ends_same p (Range step entering unfit) (Optimal b) h one other = absurd (not_both p.tableau h.start.valid b.tableau step entering unfit other.path one)
+ends_same p (Range step entering unfit) (Range step' entering' unfit') h one other =
+    (let s = unfit_same p.tableau h.start.valid step entering step' entering' unfit unfit' one other in λ i. Range (s.0 i) (s.1.0 i) (s.1.1 i))

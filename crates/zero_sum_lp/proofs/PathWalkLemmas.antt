@@ -1,0 +1,118 @@
+-- The path over whole numbers is the path of the linear program.
+use Rattle.std.proofs.Common.{ℕ, zero, suc, ◌<◌, ◌≡◌, ◌+◌, ◌-◌, ◌^◌, length, refl, sym, ap, ap₂, ◌∙◌, subst, subst₂, arith}
+use Rattle.rational.specs.Rational.{◌*ℚ◌, ◌-ℚ◌, inv_ℚ, zero_ℚ, ◌≤ℚ◌}
+use Rattle.rational.proofs.Field.{not_lt_of_le}
+use Rattle.linear_systems.specs.Tableau.{Tableau}
+use Rattle.linear_systems.specs.Rows.{coefficient, key, IsLexicographicRow}
+use Rattle.linear_systems.proofs.LexLemmas.{lex_same}
+use Rattle.zero_sum_lp.specs.Paths.{IsEntering, IsOptimal, IsAfter}
+use Rattle.zero_sum_lp.proofs.DeterminedPathLemmas.{after_on_path, after_leaves, path_is_short}
+use Rattle.frac128.specs.declared.steps.Unfit.{Unfit}
+use Rattle.lex_tableau.specs.Rows.{Numbers, tableau}
+use Rattle.lex_tableau.specs.Ratio.{listed}
+use Rattle.whole_rows.specs.Steps.{IsFirstUnfit}
+use Rattle.lex_tableau.specs.Pivots.{steps_of_pivot}
+use Rattle.zero_sum_lp.specs.Steps.{linear_program, IsProgramStart, IsFittingPivot, LeadsTo, EndsPath, IsPivotNumber, IsUnfitPivot, IsUnderWay, IsEnteringOf}
+
+-- keys by the same variables
+key_by : (m : ℕ) (b d : ℕ → ℕ) (t : Tableau) (i p : ℕ) → ((q : ℕ) → q < m → b q ≡ d q) → p < suc m → key b t i p ≡ key d t i p
+key_by m b d t i zero h l = refl
+key_by m b d t i (suc p) h l = ap (coefficient t i) (h p (omega arith))
+
+lex_row_by : (k m : ℕ) (b d : ℕ → ℕ) (t : Tableau) (c r : ℕ) → ((q : ℕ) → q < m → b q ≡ d q) → IsLexicographicRow k m b t c r → IsLexicographicRow k m d t c r
+lex_row_by k m b d t c r h l =
+    record {
+      within = l.within;
+      positive = l.positive;
+      least = λ i hi ne p. record { by = lex_same (suc m) _ _ (λ j hj. ap₂ (λ x y. (x *ℚ inv_ℚ (t.cell i c)) -ℚ (y *ℚ inv_ℚ (t.cell r c))) (key_by m b d t i j h hj) (key_by m b d t r j h hj)) (l.least i hi ne p).by };
+    }
+
+-- what the path keeps
+pub kept : (first n : Numbers) (k : ℕ) → LeadsTo first k n → (n.starts ≡ first.starts) × (n.rated ≡ first.rated)
+kept first n zero e = (ap (λ x. x.starts) e, ap (λ x. x.rated) e)
+kept first n (suc k) w = let b = kept first w.0 k w.1.0 in (w.1.1.pivot.starts ∙ b.0, w.1.1.pivot.rated ∙ b.1)
+
+-- a path over whole numbers is one of the linear program
+pub leads_after : (first n : Numbers) (k : ℕ) → IsProgramStart first → LeadsTo first k n → IsAfter (linear_program first) k (tableau n)
+leads_after first n zero s e = subst (λ x. IsAfter (linear_program first) 0 (tableau x)) (sym e) (record { rows = refl; width = refl; basic = λ i h. refl; nonbasic = λ j h. refl; cell = λ i j h l. refl; right = λ i h. refl })
+leads_after first n (suc k) s w =
+    let b = kept first w.0 k w.1.0 in
+    let st = w.1.1 in (
+      tableau w.0,
+      (
+        leads_after first w.0 k s w.1.0,
+        record {
+          column = st.column;
+          row = st.row;
+          entering = subst (λ m. IsEntering m (tableau w.0) st.column) b.1 st.entering;
+          leaving = lex_row_by first.rated first.rated (listed first.starts) (tableau first).basic (tableau w.0) st.column st.row s.basics (subst₂ (λ m starts. IsLexicographicRow m m (listed starts) (tableau w.0) st.column st.row) b.1 b.0 st.leaving);
+          turned = st.pivot.fractions;
+        },
+      ),
+    )
+
+-- ---- where the path is
+module _ (first now : Numbers) (k : ℕ) (s : IsProgramStart first) (w : LeadsTo first k now) where
+  pub rows_kept : length now.basics ≡ length first.basics
+  rows_kept = (after_on_path (linear_program first) k (tableau now) s.program (leads_after first now k s w)).reached.rows
+
+  pub width_kept : length now.nonbasics ≡ length first.nonbasics
+  width_kept = (after_on_path (linear_program first) k (tableau now) s.program (leads_after first now k s w)).reached.width
+
+  pub objective_in : (m : ℕ) → m ≡ first.rated → m < length now.basics
+  objective_in m e = let r = rows_kept in let o : first.rated < length first.basics = s.program.objective in omega arith
+
+  pub short : k < 2 ^ suc (length first.basics + length first.nonbasics)
+  short = path_is_short (linear_program first) k (tableau now) s.program (leads_after first now k s w)
+
+  -- what a scan of all columns found enters
+  pub found_enters : (m n c : ℕ) → m ≡ first.rated → n ≡ length first.nonbasics → IsEnteringOf m n (tableau now) c → IsEntering now.rated (tableau now) c
+  found_enters m n c em en e =
+      let same : m ≡ now.rated = em ∙ sym (kept first now k w).1 in
+      let all : n ≡ length now.nonbasics = en ∙ sym width_kept in
+      subst (λ o. IsEntering o (tableau now) c) same (record { column = subst (λ x. c < x) all e.column; negative = e.negative; least = λ j hj q. e.least j (subst (λ x. j < x) (sym all) hj) q })
+
+  pub none_optimal : (m n : ℕ) → m ≡ first.rated → n ≡ length first.nonbasics → ((j : ℕ) → j < n → zero_ℚ ≤ℚ (tableau now).cell m j) → IsOptimal now.rated (tableau now)
+  none_optimal m n em en h = λ j hj. subst (λ o. zero_ℚ ≤ℚ (tableau now).cell o j) (em ∙ sym (kept first now k w).1) (h j (subst (λ x. j < x) (sym (en ∙ sym width_kept)) hj))
+
+  -- an entering column has a positive entry in a constraint
+  pub some_leaves : (c : ℕ) → IsEntering now.rated (tableau now) c → ((i : ℕ) → i < now.rated → (tableau now).cell i c ≤ℚ zero_ℚ) → ⊥
+  some_leaves c e none =
+      let same : now.rated ≡ first.rated = (kept first now k w).1 in
+      let l = after_leaves (linear_program first) k (tableau now) c s.program (leads_after first now k s w) (subst (λ o. IsEntering o (tableau now) c) same e) in
+      not_lt_of_le ((tableau now).cell l.0 c) zero_ℚ (none l.0 (subst (λ x. l.0 < x) (sym same) l.1.within)) l.1.positive
+
+-- ---- for the loop
+-- what a scan of the tableau as it was read found enters
+pub read_enters : (first now seen : Numbers) (past pivots number m n c : ℕ) → IsProgramStart first → IsUnderWay first now past pivots number → m ≡ first.rated → n ≡ length first.nonbasics → seen ≡ now → IsEnteringOf m n (tableau seen) c → IsEntering now.rated (tableau now) c
+read_enters first now seen past pivots number m n c s u em en e f = found_enters first now u.count s u.path m n c em en (subst (λ x. IsEnteringOf m n (tableau x) c) e f)
+
+-- and the tableau that was read has its lexicographic row
+pub read_leaves : (now seen : Numbers) (c r : ℕ) → seen ≡ now → IsLexicographicRow seen.rated seen.rated (listed seen.starts) (tableau seen) c r → IsLexicographicRow now.rated now.rated (listed now.starts) (tableau now) c r
+read_leaves now seen c r e l = subst (λ x. IsLexicographicRow x.rated x.rated (listed x.starts) (tableau x) c r) e l
+
+pub read_end : (first now seen : Numbers) (past pivots number m n : ℕ) → IsProgramStart first → IsUnderWay first now past pivots number → m ≡ first.rated → n ≡ length first.nonbasics → seen ≡ now → ((j : ℕ) → j < n → zero_ℚ ≤ℚ (tableau seen).cell m j) → EndsPath first now
+read_end first now seen past pivots number m n s u em en e f =
+    record { count = u.count; path = u.path; optimal = none_optimal first now u.count s u.path m n em en (subst (λ x. (j : ℕ) → j < n → zero_ℚ ≤ℚ (tableau x).cell m j) e f) }
+
+pub under_way_begins : (first : Numbers) (past : ℕ) → IsUnderWay first first past past 1
+under_way_begins first past = record { count = 0; path = refl; counted = omega arith; is_number = record { exact = λ h. refl; later = λ h. absurd (omega arith) } }
+
+pub under_way_next : (first now new : Numbers) (past pivots pivots' number number' : ℕ) → IsUnderWay first now past pivots number → IsFittingPivot now new → pivots' ≡ pivots + 1 → ((k : ℕ) → IsPivotNumber k number → IsPivotNumber (suc k) number') → IsUnderWay first new past pivots' number'
+under_way_next first now new past pivots pivots' number number' u st e n =
+    let c : pivots ≡ u.count + past = u.counted in
+    record { count = suc u.count; path = (now, (u.path, st)); counted = omega arith; is_number = n (suc u.count) u.is_number }
+
+pub under_way_less : (first now : Numbers) (past pivots number : ℕ) → IsProgramStart first → IsUnderWay first now past pivots number → pivots < 2 ^ suc (length first.basics + length first.nonbasics) + past
+under_way_less first now past pivots number s u =
+    let c : pivots ≡ u.count + past = u.counted in
+    let b : u.count < 2 ^ suc (length first.basics + length first.nonbasics) = short first now u.count s u.path in
+    omega arith
+
+pub measure_falls : (a b c : ℕ) → c ≡ b + 1 → b < a → a - c < a - b
+measure_falls a b c e h = omega arith
+
+-- the pivot of a step that does not fit
+pub is_unfit : (first now : Numbers) (past pivots number variable c r : ℕ) (unfit : Unfit) → IsUnderWay first now past pivots number → IsEntering now.rated (tableau now) c → IsLexicographicRow now.rated now.rated (listed now.starts) (tableau now) c r → variable ≡ (tableau now).nonbasic c → IsFirstUnfit (steps_of_pivot now r c) unfit → IsUnfitPivot first number variable unfit
+is_unfit first now past pivots number variable c r unfit u e l v f =
+    record { count = u.count; before = now; path = u.path; column = c; row = r; enters = e; leaves = l; variable = v; is_number = u.is_number; first_unfit = f }

@@ -1,0 +1,77 @@
+-- A form has one program, or one reason why it has none.
+use Rattle.std.proofs.Common.{◌≡◌, ◌∙◌, ◌<◌, List, [], ◌∷◌, ◌++◌, All, Ok, Err, refl, sym, ap, ap₂, subst}
+use Rattle.answers.specs.Answers.{◌>>◌, IsSingle, refuse_where, refused_by}
+use Rattle.answers.proofs.AnswerLemmas.{bind-single, refuse_where-single, refused_by-single}
+use Rattle.zero_sum_lp.specs.Programs.{program_of}
+use Rattle.linear_systems.proofs.AgreementLemmas.{alike_sym, alike_trans}
+use Rattle.lex_tableau.specs.Starts.{Parts, system_of}
+use Rattle.lex_tableau.specs.declared.tableau.StartStop.TheVariants as starts
+use Rattle.lex_tableau.proofs.SystemLemmas.{systems_determined, starts_same}
+use Rattle.whole_rows.proofs.FirstUnfitLemmas.{no_unfit_row, one_unfit_row}
+use Rattle.pure_payoffs.proofs.FirstUnfitLemmas.{all_fit-single, front_has, front_one}
+use Rattle.sequence_forms.specs.Prices.{gains}
+use Rattle.sequence_data.specs.declared.types.Leaf.{Leaf}
+use Rattle.sequence_data.specs.Data.{FormData, form, side_of}
+use Rattle.zero_sum_lp.specs.declared.stop.LpStop.TheVariants as stops
+use Rattle.zero_sum_lp.specs.declared.stop.NotConstant.{NotConstant}
+use Rattle.zero_sum_lp.specs.FormPrograms.{AreFirstApart, IsSystemOf, ProgramsAreSingle, gain_steps, gains_in, is_constant, size_of, start_in, start_of, started, sum_at, sum_steps, sums_in, told_start, too_many_rows}
+use Rattle.zero_sum_lp.proofs.PathEndLemmas.{program_same}
+
+-- ---- the sums
+heads_same : (x y : Leaf) (xs ys : List Leaf) → x ∷ xs ≡ y ∷ ys → x ≡ y
+heads_same x y xs ys e = cc
+
+tails_same : (x y : Leaf) (xs ys : List Leaf) → x ∷ xs ≡ y ∷ ys → xs ≡ ys
+tails_same x y xs ys e = cc
+
+not_apart : (leaves : List Leaf) (stop : NotConstant) → is_constant leaves (Ok tt) → AreFirstApart leaves stop → ⊥
+not_apart leaves stop h a =
+    let all = front_has (λ l. All (λ k. sum_at k ≡ sum_at l) leaves) (a.leaf ∷ a.same) a.rest a.other (subst (All (λ l. All (λ k. sum_at k ≡ sum_at l) leaves)) a.are_there h) in
+    a.differs (sym (front_has (λ k. sum_at k ≡ sum_at a.other) [] (a.same ++ a.other ∷ a.rest) a.leaf (subst (All (λ k. sum_at k ≡ sum_at a.other)) a.are_there all)))
+
+one_apart : (leaves : List Leaf) (stop other : NotConstant) → AreFirstApart leaves stop → AreFirstApart leaves other → stop ≡ other
+one_apart leaves stop other a b =
+    let lists : a.leaf ∷ (a.same ++ a.other ∷ a.rest) ≡ b.leaf ∷ (b.same ++ b.other ∷ b.rest) = sym a.are_there ∙ b.are_there in
+    let first = heads_same a.leaf b.leaf _ _ lists in
+    let second = front_one (λ l. sum_at l ≡ sum_at a.leaf) a.same b.same a.rest b.rest a.other b.other (tails_same a.leaf b.leaf _ _ lists) a.are_same
+    (subst (λ x. All (λ l. sum_at l ≡ sum_at x) b.same) (sym first) b.are_same) a.differs (subst (λ x. sum_at b.other ≡ sum_at x → ⊥) (sym first) b.differs) in
+    a.stop_is ∙ ap₂ (λ (l k : Leaf). record { first = l.place; second = k.place; first_sum = sum_at l; second_sum = sum_at k }) first second ∙ sym b.stop_is
+
+is_constant-single : (leaves : List Leaf) → IsSingle (is_constant leaves)
+is_constant-single leaves (Ok _) (Ok _) h g = refl
+is_constant-single leaves (Ok _) (Err stop) h g = absurd (not_apart leaves stop h g)
+is_constant-single leaves (Err stop) (Ok _) h g = absurd (not_apart leaves stop g h)
+is_constant-single leaves (Err stop) (Err other) h g = ap Err (one_apart leaves stop other h g)
+
+-- ---- the start
+module _ (f : FormData) where
+  one_system : (s t : Parts) → IsSystemOf f s → IsSystemOf f t → s ≡ t
+  one_system s t h g =
+      let program = program_of (side_of f.first) (side_of f.second) (gains (form f) f.least_one) in
+      systems_determined s t h.valid g.valid (alike_trans (system_of s) program (system_of t) (alike_sym program (system_of s) h.program) g.program) (h.rated ∙ sym g.rated)
+
+  started-single : (s : Parts) → IsSingle (started f s)
+  started-single s (Ok p) (Ok q) h g =
+      ap Ok (program_same p q (h.first ∙ sym g.first) (h.second ∙ sym g.second) (starts_same s p.tableau q.tableau h.valid g.valid h.start g.start))
+  started-single s (Ok p) (Err (starts.Unfit row unfit)) h g = absurd (no_unfit_row _ _ s.cells row unfit h.fits g)
+  started-single s (Err (starts.Unfit row unfit)) (Ok q) h g = absurd (no_unfit_row _ _ s.cells row unfit g.fits h)
+  started-single s (Err (starts.Unfit row unfit)) (Err (starts.Unfit other next)) h g =
+      (let same = one_unfit_row _ _ s.cells row other unfit next h g in λ i. Err (starts.Unfit (same.0 i) (same.1 i)))
+  started-single s (Err starts.Memory) other h g = absurd h
+  started-single s one (Err starts.Memory) h g = absurd g
+
+  start_of-single : IsSingle (start_of f)
+  start_of-single one other h g =
+      started-single g.0 one other (subst (λ s. started f s one) (one_system h.0 g.0 h.1.0 g.1.0) h.1.1) g.1.1
+
+-- ---- all stages
+pub programs_single : ProgramsAreSingle
+programs_single f =
+    let constant = refused_by stops.NotConstant (is_constant f.leaves) in
+    let numbers = gains_in f.least_one f.cells in
+    let size = refuse_where (512 < size_of f) (stops.TooLarge (too_many_rows f)) in
+    bind-single size (λ _. sums_in f.leaves >> (constant >> (numbers >> start_in f))) (refuse_where-single (512 < size_of f) (stops.TooLarge (too_many_rows f)))
+    (λ _ _. bind-single (sums_in f.leaves) (λ _. constant >> (numbers >> start_in f)) (refused_by-single (λ stop. stops.SumRange stop.0.place stop.1) _ (all_fit-single sum_steps f.leaves))
+    (λ _ _. bind-single constant (λ _. numbers >> start_in f) (refused_by-single stops.NotConstant _ (is_constant-single f.leaves))
+    (λ _ _. bind-single numbers (λ _. start_in f) (refused_by-single (λ stop. stops.GainRange stop.0.row stop.0.column stop.1) _ (all_fit-single (gain_steps f.least_one) f.cells))
+    (λ _ _. refused_by-single told_start _ (start_of-single f)))))
