@@ -174,7 +174,7 @@ fn add_reached(reached: Reached, made: &mut Made, vertices: &mut Vec<Vertex>) ->
     add_vertex(vertices, reached.found.vertex)
 }
 
-// Makes the next pieces on this thread, so many at most.
+// Makes the next pieces on this thread, 16 of them at most.
 #[tactic(auto, using(crate::proofs::NextLevelLemmas::stop_made, crate::proofs::WalkLemmas::adding_start))]
 fn make_children<G: Gate, L: Ledger>(
     alloc: Global,
@@ -254,7 +254,7 @@ fn share_children<R: Threads + Sync, G: Gate, L: Ledger>(
     requires made { IsMadeFrom level.now moves.now known.now made.old }
     requires left { length made.old.tableaux.items < length moves.now }
     ensures made { OnOk result (IsMadeFrom level.now moves.now known.now made.new) }
-    ensures more { OnOk result (length made.old.tableaux.items < length made.new.tableaux.items) }
+    ensures all { OnOk result (length made.new.tableaux.items ≡ length moves.now) }
     ensures vertices { OnOk result (AddsMoreVertices system.now made.old.tableaux.items
         made.new.tableaux.items vertices.old.items vertices.new.items) }
     ensures stop { IfErr result (IsChildStop level.now moves.now) }

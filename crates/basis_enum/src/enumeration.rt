@@ -49,8 +49,14 @@ pub fn enumerate<R: Threads + Sync, G: Gate, L: Ledger>(
     enumerate_with(rt, alloc, system, &Helpers::new(workers - 1), gate, pivots)
 }
 
-/// The vertices of a system, as `enumerate` gives them. Each level takes of the helpers those that
-/// are idle when it begins, as far as its pieces are worth them, and adds them again.
+/// The vertices of a system, as `enumerate` gives them, by the calling thread and by helpers. A
+/// level takes helpers that are idle, when it begins and again after every 16 pieces that it makes
+/// alone, as far as the pieces that are left are worth them; one more may free a large level that
+/// is done with. Each helper that is taken is added again.
+///
+/// # Errors
+///
+/// Those of `enumerate`, exactly where it has them.
 pub fn enumerate_with<R: Threads + Sync, G: Gate, L: Ledger>(
     rt: &R,
     alloc: Global,

@@ -1,5 +1,4 @@
-//! Tableaux of linear systems in whole numbers, with the pivot and the lexicographic row; worked
-//! rows of them stand as tests.
+//! Tableaux of linear systems in whole numbers, with the pivot and the lexicographic row.
 //!
 //! Callers may rely on: `Work::pivot` pivots, or gives `Unfit` exactly at the first step that does
 //! not fit and changes nothing; `Tableau::ratio_row`; `PivotCount` counts pivots at no cost.
@@ -17,8 +16,6 @@ mod pivot_count;
 mod ratio;
 mod system;
 mod tableau;
-#[cfg(test)]
-mod tests;
 mod work;
 
 pub use pivot_count::PivotCount;

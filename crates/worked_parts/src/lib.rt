@@ -1,5 +1,5 @@
-//! Fractions, numbers, tokens, lines, small tables, command lines, choice lists, pairs of vertices
-//! and idle workers, as tests over their crates. Nothing here is called by the program.
+//! Fractions, numbers, tokens, lines, small tables, command lines and choice lists, as tests over
+//! their crates. Nothing here is called by the program.
 #![tactic(auto)]
 
 #[cfg(test)]
@@ -11,15 +11,9 @@ mod command_lines;
 #[cfg(test)]
 mod fractions;
 #[cfg(test)]
-mod helpers;
-#[cfg(test)]
 mod lines;
 #[cfg(test)]
 mod numbers;
-#[cfg(test)]
-mod pairings;
-#[cfg(test)]
-mod stop;
 #[cfg(test)]
 mod tables;
 #[cfg(test)]

@@ -1,6 +1,6 @@
 use Rattle.std.proofs.Common.{◌<◌, ◌≡◌, ◌+◌, ◌∙◌, ◌∷◌, [], IfOk, ap, length, get_or, sym, subst, arith}
 use Rattle.std.proofs.lemmas.Iterator.Adapters.{YieldsList-from_vec}
-use Rattle.std.proofs.lemmas.Iterator.Consumers.{YieldsList-turn}
+use Rattle.std.proofs.lemmas.Iterator.Consumers.{YieldsList-turn, YieldsList-end}
 use Rattle.std.proofs.lemmas.List.{length-append}
 use Rattle.basis_enum.specs.Levels.{IsChild}
 use Rattle.basis_enum.specs.Found.{AreFound}
@@ -40,3 +40,10 @@ loop-piece-preserved g c =
       vertices = adding_more s c.args.made.now.tableaux.items old.tableaux.items _ r.tableau c.args.vertices.now.items c.loop-piece.vertices.items _ r.found.vertex added.tableaux added.vertices is.vertices vertex;
       counted = omega (arith, c.tick.ensures, is.counted, size);
     }
+
+pub returns-clause-all : goal.returns-clause-all
+returns-clause-all g c =
+    let pieces = c.in_ok-pieces.pieces in
+    let gives = c.into_iter-piece-iterator.ensures.into_iter_gives in
+    let end = YieldsList-end (YieldsList-from_vec pieces.items gives.0 (gives.1 ∙ pieces.ok.0)) c.loop-piece.yielded c.loop-piece.piece-iterator c.loop-piece.yielded_by c.next.result c.next.new.self c.in-None.is c.next.ensures.steps in
+    omega (arith, end.1, c.loop-piece.invariant.at, c.in_ok-pieces.ensures.len, pieces.ok.0, c.len-first.ensures, c.args.made.now.tableaux.ok.0, c.requires.left)

@@ -4,7 +4,7 @@ use Rattle.std.proofs.lemmas.List.{get_or_past}
 use Rattle.rational.specs.Rational.{ℚ}
 use Rattle.lex_tableau.specs.Entries.{AreNumbered}
 use Rattle.lex_tableau.specs.Starts.{IsSystem, parts_of}
-use Rattle.lex_tableau.proofs.tests.system.Goals as goal
+use Rattle.worked_tableaux.proofs.systems.system.Goals as goal
 
 small : (first n : ℕ) (xs : List ℕ) → AreNumbered first n xs → first + n < 2 ^ 32 → (i : ℕ)
     → get_or xs i 0 < 2 ^ 32

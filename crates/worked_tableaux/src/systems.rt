@@ -1,8 +1,8 @@
 // Systems whose starts, pivots and lexicographic rows were worked by hand.
 ghost use Rattle.std.specs.Prelude.{◌≡◌, ◌+◌, ◌*◌, ◌<◌, ◌≤◌, length, IfOk};
 
-use crate::{PivotCount, StartStop, System, Tableau, Work, numbered};
 use frac128::{Frac, Memory, Unfit};
+use lex_tableau::{PivotCount, StartStop, System, Tableau, Work, numbered};
 use std::alloc::Global;
 use std::marker::Brand;
 use std::sync::ledger::{Blank, Ledger};

@@ -1,4 +1,4 @@
-use Rattle.lex_tableau.proofs.tests.worked_systems.Given as goal
+use Rattle.worked_tableaux.proofs.systems.worked_systems.Given as goal
 
 abbrev pub ghosts-holds : goal.ghosts-holds
 ghosts-holds g a = record { name = a.blank.name; parts = a.blank.parts }

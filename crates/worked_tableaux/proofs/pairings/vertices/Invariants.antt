@@ -1,5 +1,5 @@
 use Rattle.std.proofs.Common.{◌≡◌, length}
-use Rattle.worked_parts.proofs.pairings.vertices.Given as goal
+use Rattle.worked_tableaux.proofs.pairings.vertices.Given as goal
 
 abbrev pub invariant-loop : goal.invariant-loop
 invariant-loop l = length l.list.items ≡ l.counter
