@@ -1,9 +1,8 @@
 -- The nodes with open branches as the code keeps them, and as the tree grows.
-use Rattle.std.proofs.Common.{◌≡◌, ℕ, zero, suc, ◌+◌, ◌<◌, ◌≤◌, nat_lt, nat_le, Bool, true, false, cond, List, [], ◌∷◌, ◌++◌, length, map, reverse, slice_get, slice_set, slice_index_or, option_map, Option, Some, None, refl, sym, ap, ◌∙◌, subst, arith}
+use Rattle.std.proofs.Common.{◌≡◌, ℕ, zero, suc, ◌+◌, ◌<◌, ◌≤◌, nat_lt, nat_le, Bool, true, false, cond, List, [], ◌∷◌, ◌++◌, length, map, reverse, slice_set, slice_index_or, Option, Some, None, refl, sym, ap, ◌∙◌, subst, arith}
 use Rattle.std.proofs.lemmas.Bool.Decides.{nat_tests}
 use Rattle.std.proofs.lemmas.List.{reverse-append, map-append}
 use Rattle.std.proofs.lemmas.List.Elements.{All-nil, All-cons}
-use Rattle.std.proofs.lemmas.Option.{get_or_from_slice_get, slice_get-get_or, slice_get-map}
 use Rattle.std.specs.Prelude.{All}
 use Rattle.std.specs.List.{AllByRecursion}
 use Rattle.game_core.specs.declared.too_large.What.{What}
@@ -13,8 +12,6 @@ use Rattle.game_core.specs.declared.tree.Node.{Node}
 use Rattle.game_core.specs.Tree.{most_nodes, most_depth}
 use Rattle.written_trees.specs.Building.{PartialTree, PartialSet, PartialOutcome, Branching, take_branch, add_branches, partial_count, passed_at, passed}
 use Rattle.efg_reader.specs.declared.builder.Branching.{Branching as Kept}
-use Rattle.efg_reader.specs.declared.sets.KeptSet.{KeptSet}
-use Rattle.efg_reader.specs.Uses.{partial_set}
 use Rattle.efg_reader.specs.States.{branching_of, branchings_of, nodes_of, tree_of, IsNear, HasTaken}
 use Rattle.efg_reader.specs.PartialCodes.{PartialNodes}
 use Rattle.tree_grammar.specs.TreeReading.{grown_at, grown}
@@ -63,18 +60,6 @@ place_taken kept last taken goes_on e t g lt =
     let next = next_is (branching_of h.one) (branchings_of h.front) (rw one at lt) in
     subst (λ (start : List Branching). HasTaken start (Some taken) (branchings_of (slice_set kept last (with_next goes_on)))) (sym start)
     (ap branching_of one, after ∙ ap (λ (b : Kept). branching_of (with_next b) ∷ branchings_of h.front) other ∙ sym next)
-
--- what is found at a place below the length stands there
-pub found_at : {A : Type 0} (list : List A) (i : ℕ) (x : A) → (true ≡ nat_lt i (length list)) × (x ≡ slice_index_or list i x) → slice_get list i ≡ Some x
-found_at list i x h =
-    let lt : i < length list = grind (arith, nat_tests, h.0) in
-    slice_get-get_or list i x lt ∙ ap Some (sym h.1)
-
--- the action count of a set that is there
-pub count_found : (sets : List KeptSet) (s : ℕ) (set : KeptSet) → slice_get sets s ≡ Some set → slice_index_or (map (λ set. length set.actions) (map partial_set sets)) s 0 ≡ length set.actions.items
-count_found sets s set e =
-    get_or_from_slice_get (map (λ set. length set.actions) (map partial_set sets)) s (length set.actions.items) 0
-    (slice_get-map (λ (set : PartialSet). length set.actions) (map partial_set sets) s ∙ ap (option_map (λ (set : PartialSet). length set.actions)) (slice_get-map partial_set sets s ∙ ap (option_map partial_set) e))
 
 -- what holds of each of two lists in turn
 both_lists : (P : Branching → Type 0) (xs ys : List Branching) → AllByRecursion P (xs ++ ys) → AllByRecursion P xs × AllByRecursion P ys

@@ -1,4 +1,3 @@
 pub mod PartialCodes
 pub mod States
 pub mod Stops
-pub mod Uses

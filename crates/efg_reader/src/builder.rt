@@ -4,11 +4,10 @@ ghost use Rattle.written_trees.specs.Building.{PartialOutcome, passed, root_alon
 ghost use Rattle.tree_grammar.specs.TreeReading.{grown, is_whole};
 ghost use Rattle.efg_reader.specs.States.{branchings_of, tree_of, HasTaken};
 
-use crate::outcomes::Outcomes;
-use crate::sets::Sets;
 use game_core::{Kind, Node, What};
 use std::alloc::{AllocError, Global};
 use std::marker::Model;
+use tree_grammar::{Outcomes, Sets};
 
 /// The most nodes of a tree.
 const MOST_NODES: usize = 65536;

@@ -2,22 +2,17 @@
 //!
 //! Callers may rely on: `read` gives the tree of a file, or where there is none a fault or a limit;
 //! answers are single.
-//! Definitions: `specs::Stops` has what tokens answer; the grammar and the kinds of faults stand in
-//! `tree_grammar`.
-//! Private words: `specs::States`, `Uses` and `PartialCodes`, what is kept while tokens are read.
+//! Definitions: `specs::Stops` has what tokens answer; the grammar, the kinds of faults and the
+//! readers of a file's parts stand in `tree_grammar`.
+//! Private words: `specs::States` and `PartialCodes`, what is kept while nodes are read.
 //! Lemmas for callers: `proofs::FileStopLemmas`.
 //! A change here touches: the trees of docs/FORMAT.md, `gambit_tools` and `refusals`.
 #![tactic(auto)]
 
-mod actions;
 mod builder;
 mod fault;
-mod front;
 mod nodes;
-mod outcomes;
-mod pieces;
 mod reading;
-mod sets;
 
 pub use fault::{EfgFault, EfgStop};
 pub use reading::{faults_are_single, read, trees_are_single};

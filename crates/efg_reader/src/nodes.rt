@@ -11,13 +11,10 @@ ghost use Rattle.tree_grammar.specs.TreeParsing.{parse_set_choice, parse_own_cho
 ghost use Rattle.written_trees.specs.Building.{passed};
 
 use crate::builder::{Builder, Choice};
-use crate::outcomes::read_outcome;
-use crate::pieces::{begins_node, player};
-use crate::sets::{Sets, read_set};
 use file_parts::{Refusal, ends, text, unexpected, word};
 use game_core::{Kind, Name, Spanned, What};
 use std::alloc::{AllocError, Global};
-use tree_grammar::EfgKind;
+use tree_grammar::{EfgKind, Sets, begins_node, player, read_outcome, read_set};
 
 /// Why nodes are not read.
 #[derive(Clone, Copy, Debug, PartialEq, Eq)]
@@ -95,7 +92,7 @@ fn set_choice<'a>(
 }
 
 // The sets with one of the player whose number comes, the choice at it, and the tokens after it.
-#[tactic(auto, using(file_parts::proofs::ParseLemmas::refused_first, crate::proofs::ShortRestLemmas::player_leaves), unfolding(tree_grammar::specs::TreeParsing::parse_own_choice))]
+#[tactic(auto, using(file_parts::proofs::ParseLemmas::refused_first, tree_grammar::proofs::ShortRestLemmas::player_leaves), unfolding(tree_grammar::specs::TreeParsing::parse_own_choice))]
 fn own_choice<'a>(
     alloc: Global,
     sets: Sets,
@@ -116,7 +113,7 @@ fn own_choice<'a>(
 
 // A node with this number up to its outcome: the sets with the one that it uses, the choice that is made there, and
 // the tokens after it.
-#[tactic(auto, using(crate::proofs::ShortRestLemmas::short_after), unfolding(tree_grammar::specs::TreeParsing::parse_choice))]
+#[tactic(auto, using(tree_grammar::proofs::ShortRestLemmas::short_after), unfolding(tree_grammar::specs::TreeParsing::parse_choice))]
 fn choice<'a>(
     alloc: Global,
     sets: Sets,

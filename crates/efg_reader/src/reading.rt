@@ -1,10 +1,8 @@
 // Reads a tree from the tokens of a file.
-ghost use Rattle.std.specs.Prelude.{ℕ, ◌≡◌, ◌⊎◌, ◌<◌, ◌^◌, length, map, IfOk, IfErr};
+ghost use Rattle.std.specs.Prelude.{ℕ, ◌≡◌, ◌⊎◌, ◌<◌, ◌^◌, length, IfOk, IfErr};
 ghost use Rattle.answers.specs.Answers.{Gives, IsSingle};
 ghost use Rattle.game_core.specs.Tree.{IsTree};
-ghost use Rattle.written_trees.specs.Described.{or_empty};
-ghost use Rattle.written_trees.specs.Building.{finished_set, finished_outcome, tree_so_far};
-ghost use Rattle.efg_reader.specs.Uses.{partial_set, partial_outcome};
+ghost use Rattle.written_trees.specs.Building.{tree_so_far};
 ghost use Rattle.tree_grammar.specs.TreeFaults.{IsFile};
 ghost use Rattle.tree_grammar.specs.FaultKinds.{IsFault};
 ghost use Rattle.tree_grammar.specs.declared.kinds.EfgKind.{EfgKind};
@@ -15,14 +13,11 @@ ghost use Rattle.game_core.specs.Spacing.{IsShortToken};
 
 use crate::builder::Builder;
 use crate::fault::{EfgFault, EfgStop};
-use crate::front::{Front, read_front};
 use crate::nodes::{Stop, read_nodes};
-use crate::outcomes::KeptOutcome;
-use crate::sets::KeptSet;
 use file_parts::{Refusal, offset};
-use game_core::{InfoSet, Name, Outcome, Tokens, TooLarge, Tree, What};
-use std::alloc::{AllocError, Global};
-use tree_grammar::EfgKind;
+use game_core::{Tokens, TooLarge, Tree, What};
+use std::alloc::Global;
+use tree_grammar::{EfgKind, Front, read_front};
 
 // The stop for a refusal.
 fn stop(refusal: Refusal<EfgKind>, tokens: &Tokens) -> EfgStop
@@ -60,41 +55,6 @@ fn nodes_stop(stopped: Stop, tokens: &Tokens) -> EfgStop
     }
 }
 
-// The name that came, and else the empty one.
-fn or_empty(alloc: Global, name: Option<Name>) -> Name
-    ensures { result ≡ or_empty name }
-{
-    match name {
-        Some(name) => name,
-        None => Name::new(Vec::new(alloc)),
-    }
-}
-
-// The sets with their names.
-fn finished_sets(alloc: Global, sets: Vec<KeptSet>) -> Result<Vec<InfoSet>, AllocError>
-    ensures { IfOk result (λ v. v.items ≡ map finished_set (map partial_set sets.items)) }
-{
-    let mut finished = Vec::new(alloc);
-    for set in sets {
-        let name = or_empty(alloc, set.name);
-        finished.push(InfoSet::new(set.owner, set.label, name, set.actions, set.members))?;
-    }
-    Ok(finished)
-}
-
-// The outcomes with their names.
-fn finished_outcomes(alloc: Global, outcomes: Vec<KeptOutcome>) -> Result<Vec<Outcome>, AllocError>
-    ensures { IfOk result
-        (λ v. v.items ≡ map finished_outcome (map partial_outcome outcomes.items)) }
-{
-    let mut finished = Vec::new(alloc);
-    for outcome in outcomes {
-        let name = or_empty(alloc, outcome.name);
-        finished.push(Outcome::new(outcome.label, name, outcome.payoffs))?;
-    }
-    Ok(finished)
-}
-
 // The tree with these parts.
 fn tree(alloc: Global, front: Front, builder: Builder) -> Result<Tree, EfgStop>
     requires { IsTree (tree_so_far front.title front.players.items builder) }
@@ -108,8 +68,8 @@ fn tree(alloc: Global, front: Front, builder: Builder) -> Result<Tree, EfgStop>
         sets,
         outcomes,
     } = builder;
-    let sets = finished_sets(alloc, sets.list)?;
-    let outcomes = finished_outcomes(alloc, outcomes.list)?;
+    let sets = sets.finish(alloc)?;
+    let outcomes = outcomes.finish(alloc)?;
     match Tree::new(alloc, title, players, nodes.list, sets, outcomes) {
         Ok(tree) => Ok(tree),
         Err(_) => Err(EfgStop::Memory),

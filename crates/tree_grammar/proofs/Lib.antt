@@ -1,4 +1,5 @@
 pub mod ActionListLemmas
+pub mod ActionStepLemmas
 pub mod ChanceListLemmas
 pub mod ChanceReaderLemmas
 pub mod ChoiceStepLemmas
@@ -7,6 +8,8 @@ pub mod FaultLaws
 pub mod FileLaws
 pub mod FileStatementLemmas
 pub mod HeadLemmas
+pub mod KeptOutcomeLemmas
+pub mod LabelLemmas
 pub mod MarkedLaws
 pub mod MarkedNodeLemmas
 pub mod MarkedReaderLemmas
@@ -20,14 +23,18 @@ pub mod NodeStepLemmas
 pub mod NodeValueLemmas
 pub mod NodesLaws
 pub mod OutcomeLaws
+pub mod OutcomeStepLemmas
 pub mod PartReaderLemmas
 pub mod PayoffListLemmas
 pub mod PointKindLemmas
+pub mod ProbabilityLemmas
 pub mod RepeatedListLemmas
 pub mod RepeatedPayoffLemmas
 pub mod RunLemmas
 pub mod SetLaws
 pub mod SetReadLemmas
+pub mod SetStepLemmas
+pub mod ShortRestLemmas
 pub mod StopLemmas
 pub mod TokenEndLemmas
 pub mod TrailingTokenLemmas

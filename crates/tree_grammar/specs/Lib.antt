@@ -3,3 +3,5 @@ pub mod TreeFaults
 pub mod TreeFile
 pub mod TreeParsing
 pub mod TreeReading
+pub mod UseCodes
+pub mod Uses

@@ -1,12 +1,16 @@
 //! Which tokens stand for which game tree: the grammar of files of trees, the functions that read
-//! them, and the faults of tokens that are no file.
+//! them, the faults of tokens that are no file, and the readers of a file's parts.
 //!
-//! Callers may rely on: `files_have_one_tree`; `files_are_read`, in both directions.
+//! Callers may rely on: `files_have_one_tree`; `files_are_read`, in both directions; `read_front`,
+//! `player`, `read_set` and `read_outcome` take off the tokens what the reading function of their
+//! part does, or give a `Refusal` with the fault's kind and the tokens left; `Sets` and `Outcomes`
+//! are seen as lists, in the order of first use.
 //! Definitions: `specs::TreeFile` has the grammar, `TreeParsing` the reading functions, and
 //! `FaultKinds` the kinds of faults and where they are.
-//! Private words: `specs::TreeReading` and `TreeFaults`, the nodes as they are read one by one.
+//! Private words: `specs::TreeReading` and `TreeFaults`, the nodes as they are read one by one;
+//! `Uses` and `UseCodes`, how sets and outcomes are kept and stored.
 //! Lemmas for callers: `proofs::WholeFileLaws`, that what is read is a file; `NodePointLemmas` on
-//! faults.
+//! faults; `ShortRestLemmas`, that the tokens after a part are short.
 //! A change here touches: `efg_reader`, which reads such files, and what `refusals` says of faults.
 #![tactic(auto)]
 
@@ -16,9 +20,18 @@ ghost use Rattle.game_core.specs.declared.token.Token.{Token as token};
 ghost use Rattle.tree_grammar.specs.TreeFile.{IsTreeFile};
 ghost use Rattle.tree_grammar.specs.TreeParsing.{parse_tree};
 
+mod actions;
+mod front;
 mod kinds;
+mod outcomes;
+mod pieces;
+mod sets;
 
+pub use front::{Front, read_front};
 pub use kinds::EfgKind;
+pub use outcomes::{Outcomes, read_outcome};
+pub use pieces::{begins_node, player};
+pub use sets::{Sets, read_set};
 
 /// The tokens of a file stand for one tree at most.
 pub fn files_have_one_tree()

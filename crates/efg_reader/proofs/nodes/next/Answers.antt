@@ -8,7 +8,7 @@ use Rattle.efg_reader.specs.States.{tree_of}
 use Rattle.tree_grammar.specs.TreeParsing.{Choice, parse_choice, parse_at}
 use Rattle.efg_reader.proofs.OpenBranchLemmas.{same_room}
 use Rattle.efg_reader.proofs.NextStepLemmas.{MayCome, may_come, choice_refused, outcome_refused, node_added, few_sets_more, few_outcomes_more}
-use Rattle.efg_reader.proofs.ShortRestLemmas.{choice_leaves}
+use Rattle.tree_grammar.proofs.ShortRestLemmas.{choice_leaves}
 use Rattle.efg_reader.proofs.nodes.next.Goals as goal
 
 pub choice-requires-clause-few : goal.choice-requires-clause-few

@@ -3,7 +3,7 @@ use Rattle.file_parts.specs.Reading.{kinds}
 use Rattle.tree_grammar.specs.TreeReading.{Head}
 use Rattle.tree_grammar.specs.TreeParsing.{parse_head}
 use Rattle.efg_reader.proofs.FileStopLemmas.{all_short, few_of, front_stop, made_tree, nodes_stop, read_file, read_tree}
-use Rattle.efg_reader.proofs.ShortRestLemmas.{head_leaves}
+use Rattle.tree_grammar.proofs.ShortRestLemmas.{head_leaves}
 use Rattle.efg_reader.proofs.reading.read.Goals as goal
 use Rattle.game_core.specs.declared.token.Token.{Token}
 

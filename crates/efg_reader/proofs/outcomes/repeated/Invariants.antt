@@ -1,7 +1,0 @@
-use Rattle.std.proofs.Common.{◌≡◌, drop}
-use Rattle.file_parts.specs.Reading.{kinds}
-use Rattle.tree_grammar.specs.TreeParsing.{parse_same_payoffs}
-use Rattle.efg_reader.proofs.outcomes.repeated.Given as goal
-
-abbrev pub invariant-loop-index : goal.invariant-loop-index
-invariant-loop-index l = parse_same_payoffs l.index (drop l.index l.payoffs) (kinds l.rest) ≡ parse_same_payoffs 0 l.payoffs (kinds l.tokens)

@@ -1,7 +1,0 @@
-use Rattle.std.proofs.Common.{◌≡◌, map}
-use Rattle.written_trees.specs.Building.{finished_outcome}
-use Rattle.efg_reader.specs.Uses.{partial_outcome}
-use Rattle.efg_reader.proofs.reading.finished_outcomes.Given as goal
-
-abbrev pub invariant-loop-outcome : goal.invariant-loop-outcome
-invariant-loop-outcome l = l.finished.items ≡ map finished_outcome (map partial_outcome l.yielded)

@@ -1,0 +1,192 @@
+// Lists of actions.
+ghost use Rattle.std.specs.Prelude.{◌≡◌, if◌then◌else◌, List, map, Ok};
+ghost use Rattle.rational.specs.Rational.{zero_ℚ};
+ghost use Rattle.game_core.specs.declared.tree.Action.{Action as action};
+ghost use Rattle.game_core.specs.declared.token.Token.{Token as token};
+ghost use Rattle.file_parts.specs.Reading.{kinds, texts_at};
+ghost use Rattle.file_parts.specs.Parsing.{Parses};
+ghost use Rattle.tree_grammar.specs.TreeReading.{own_action};
+ghost use Rattle.tree_grammar.specs.TreeParsing.{sum_with, parse_chances, parse_closed, parse_first_list, parse_repeated, parse_all_repeated, parse_later_list};
+ghost use Rattle.tree_grammar.specs.declared.kinds.EfgKind.TheVariants.{Node, SetMismatch};
+
+use crate::kinds::EfgKind;
+use file_parts::{Refusal, copied, left, number, right, text, unexpected};
+use frac128::Frac;
+use game_core::{Action, Spanned};
+use std::alloc::Global;
+use std::cmp::Ordering;
+
+// The sum with one more probability of the set with this number.
+fn next_sum(sum: Frac, prob: Frac, set: u64) -> Result<Frac, EfgKind>
+    ensures { result ≡ sum_with set sum prob }
+{
+    let next = match sum.add(prob) {
+        Ok(next) => next,
+        Err(unfit) => return Err(EfgKind::ProbabilityRange { set, unfit }),
+    };
+    if prob.signum() < 0 || next.cmp(Frac::one()) == Ordering::Greater {
+        return Err(EfgKind::Probability { set, sum: next });
+    }
+    Ok(next)
+}
+
+// As many actions of chance as come, their sum, and the tokens after them. The set has this number.
+#[tactic(auto, using(crate::proofs::ActionStepLemmas::summed_steps))]
+fn chance_actions(
+    alloc: Global,
+    tokens: &[Spanned],
+    set: u64,
+) -> Result<(Vec<Action>, Frac, &[Spanned]), Refusal<EfgKind>>
+    ensures { Parses (λ x. ((x.0.items, x.1), kinds x.2.now)) result
+        (parse_chances set zero_ℚ (kinds tokens.now)) }
+{
+    let mut actions = Vec::new(alloc);
+    let mut sum = Frac::zero();
+    let mut rest = tokens;
+    while let Some((name, after)) = text(rest) {
+        let Some(next) = number(after) else {
+            return Err(unexpected(EfgKind::Node, after));
+        };
+        let prob = next.0;
+        sum = match next_sum(sum, prob, set) {
+            Ok(more) => more,
+            Err(kind) => return Err(unexpected(kind, after)),
+        };
+        let name = copied(alloc, name)?;
+        actions.push(Action { name, prob })?;
+        rest = next.1;
+    }
+    Ok((actions, sum, rest))
+}
+
+// As many actions of a player as come, and the tokens after them.
+fn own_actions(
+    alloc: Global,
+    tokens: &[Spanned],
+) -> Result<(Vec<Action>, &[Spanned]), Refusal<EfgKind>>
+    ensures { Parses {Y = List action
+        × List token} (λ x. (x.0.items, kinds x.1.now)) result
+        (Ok (map own_action (texts_at (kinds tokens.now)).0, (texts_at (kinds tokens.now)).1)) }
+{
+    let mut actions = Vec::new(alloc);
+    let mut rest = tokens;
+    while let Some((name, following)) = text(rest) {
+        let name = copied(alloc, name)?;
+        let prob = Frac::zero();
+        actions.push(Action { name, prob })?;
+        rest = following;
+    }
+    Ok((actions, rest))
+}
+
+// The tokens after the brace that closes this many actions, which is at least one.
+fn closed(tokens: &[Spanned], count: usize) -> Result<&[Spanned], Refusal<EfgKind>>
+    ensures { Parses (λ rest. (tt, kinds rest.now)) result (parse_closed count (kinds tokens.now)) }
+{
+    match right(tokens) {
+        Some(rest) if count >= 1 => Ok(rest),
+        _ => Err(unexpected(EfgKind::Node, tokens)),
+    }
+}
+
+/// The actions of a set at its first use, and the tokens after them. The set has this number.
+#[tactic(auto, using(crate::proofs::ActionStepLemmas::list_steps))]
+pub fn first_list(
+    alloc: Global,
+    tokens: &[Spanned],
+    owner: Option<u32>,
+    set: u64,
+) -> Result<(Vec<Action>, &[Spanned]), Refusal<EfgKind>>
+    ensures { Parses (λ x. (x.0.items, kinds x.1.now)) result
+        (parse_first_list owner set (kinds tokens.now)) }
+{
+    let Some(inner) = left(tokens) else {
+        return Err(unexpected(EfgKind::SetMismatch, tokens));
+    };
+    match owner {
+        Some(_) => {
+            let (actions, following) = own_actions(alloc, inner)?;
+            let rest = closed(following, actions.len())?;
+            Ok((actions, rest))
+        }
+        None => {
+            let (actions, sum, following) = chance_actions(alloc, inner, set)?;
+            let rest = closed(following, actions.len())?;
+            if sum != Frac::one() {
+                return Err(unexpected(EfgKind::Probability { set, sum }, following));
+            }
+            Ok((actions, rest))
+        }
+    }
+}
+
+// The kind of the fault where a text is wanted, or not wanted, and another token comes.
+fn mismatch_or_node(differs: bool) -> EfgKind
+    ensures { result ≡ (if differs then SetMismatch else Node) }
+{
+    if differs {
+        EfgKind::SetMismatch
+    } else {
+        EfgKind::Node
+    }
+}
+
+// The tokens after an action that repeats this one.
+#[tactic(auto, unfolding(crate::specs::TreeParsing::parse_repeated))]
+fn repeated<'a>(
+    tokens: &'a [Spanned],
+    owner: Option<u32>,
+    action: &Action,
+) -> Result<&'a [Spanned], Refusal<EfgKind>>
+    ensures { Parses (λ rest. (tt, kinds rest.now)) result
+        (parse_repeated owner action.now (kinds tokens.now)) }
+{
+    let Some((_, after)) = text(tokens) else {
+        return Err(unexpected(mismatch_or_node(right(tokens).is_some()), tokens));
+    };
+    if owner.is_some() {
+        return Ok(after);
+    }
+    match number(after) {
+        Some((prob, rest)) if prob == action.prob => Ok(rest),
+        Some(_) => Err(unexpected(EfgKind::SetMismatch, after)),
+        None => Err(unexpected(EfgKind::Node, after)),
+    }
+}
+
+// The tokens after actions that repeat these.
+#[tactic(auto, using(crate::proofs::ActionStepLemmas::repeat_steps))]
+fn all_repeated<'a>(
+    tokens: &'a [Spanned],
+    owner: Option<u32>,
+    actions: &[Action],
+) -> Result<&'a [Spanned], Refusal<EfgKind>>
+    ensures { Parses (λ rest. (tt, kinds rest.now)) result
+        (parse_all_repeated owner actions.now (kinds tokens.now)) }
+{
+    let mut rest = tokens;
+    for action in actions {
+        rest = repeated(rest, owner, action)?;
+    }
+    Ok(rest)
+}
+
+/// The tokens after the actions of a later use, which may come, and repeat these.
+#[tactic(auto, using(file_parts::proofs::ParseLemmas::refused_first), unfolding(crate::specs::TreeParsing::parse_repeated_list))]
+pub fn later_list<'a>(
+    tokens: &'a [Spanned],
+    owner: Option<u32>,
+    actions: &[Action],
+) -> Result<&'a [Spanned], Refusal<EfgKind>>
+    ensures { Parses (λ rest. (tt, kinds rest.now)) result
+        (parse_later_list owner actions.now (kinds tokens.now)) }
+{
+    let Some(inner) = left(tokens) else {
+        return Ok(tokens);
+    };
+    let following = all_repeated(inner, owner, actions)?;
+    match right(following) {
+        Some(rest) => Ok(rest),
+        None => Err(unexpected(mismatch_or_node(text(following).is_some()), following)),
+    }
+}

@@ -1,0 +1,59 @@
+// Numbers and players at the front of a list of tokens.
+ghost use Rattle.std.specs.Prelude.{◌≡◌, ◌<◌};
+ghost use Rattle.std.specs.List.{AllByRecursion};
+ghost use Rattle.game_core.specs.Spacing.{IsShortToken};
+ghost use Rattle.file_parts.specs.Reading.{Gives, kinds};
+ghost use Rattle.file_parts.specs.Parsing.{Parses};
+ghost use Rattle.tree_grammar.specs.TreeReading.{positive_at, begins_node, is_node_word};
+ghost use Rattle.tree_grammar.specs.TreeParsing.{parse_player};
+
+use crate::kinds::EfgKind;
+use file_parts::{Refusal, label, unexpected, whole, word};
+use game_core::Spanned;
+
+/// A number of at least 1, and the tokens after it.
+#[tactic(auto, using(crate::proofs::LabelLemmas::positives))]
+pub fn positive(tokens: &[Spanned]) -> Option<(u64, &[Spanned])>
+    requires short { AllByRecursion IsShortToken (kinds tokens.now) }
+    ensures { Gives (λ x. (x.0, kinds x.1.now)) result (positive_at (kinds tokens.now)) }
+{
+    let (number, rest) = label(tokens)?;
+    if number >= 1 {
+        Some((number, rest))
+    } else {
+        None
+    }
+}
+
+/// A player, counted from 0, by the number that comes, which is 1 to the number of players, and the tokens after it. An
+/// error has the fault's kind, which tells no whole number from one of no player, and how many tokens are left there.
+#[tactic(auto, unfolding(crate::specs::TreeParsing::parse_player))]
+pub fn player(tokens: &[Spanned], players: u32) -> Result<(u32, &[Spanned]), Refusal<EfgKind>>
+    ensures { Parses (λ x. (x.0, kinds x.1.now)) result (parse_player players (kinds tokens.now)) }
+{
+    let Some((number, rest)) = whole(tokens) else {
+        return Err(unexpected(EfgKind::Node, tokens));
+    };
+    if number >= 1 && number <= players as u128 {
+        Ok((number as u32 - 1, rest))
+    } else {
+        Err(unexpected(EfgKind::UnknownPlayer, tokens))
+    }
+}
+
+/// Whether the word of a node comes: `c`, `p` or `t`.
+pub fn begins_node(tokens: &[Spanned]) -> bool
+    ensures { result ≡ begins_node (kinds tokens.now) }
+{
+    match word(tokens) {
+        Some((word, _)) => is_node_word(word.bytes()),
+        None => false,
+    }
+}
+
+// Whether this is the word of a node.
+fn is_node_word(word: &[u8]) -> bool
+    ensures { result ≡ is_node_word word.now }
+{
+    word == b"c".as_slice() || word == b"p".as_slice() || word == b"t".as_slice()
+}
