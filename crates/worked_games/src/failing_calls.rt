@@ -43,11 +43,12 @@ fn failing_writes_are_told<R: Threads + Sync>(
     alloc: Global,
     whole: Case,
 ) -> Result<bool, Memory> {
-    for room in 0..whole.out.len() {
+    let text = whole.out;
+    for room in 0..text.len() {
         let case = Case {
             room,
             status: 4,
-            out: &whole.out[..room],
+            out: &text[..room],
             err: "gambit: write failed\n",
             ..whole
         };
