@@ -1,16 +1,14 @@
-//! Worked games and failing inputs and outputs, as tests over `gambit_tools::run`. Nothing here is
-//! called by the program.
+//! Tests over `gambit_tools::run` that need an inside: calls of the inputs and sinks that fail, what
+//! is read of an input, and games that are cut off. The program calls nothing here.
 #![tactic(auto)]
 
 #[cfg(test)]
 mod case;
 #[cfg(test)]
-mod faults;
+mod cut_games;
 #[cfg(test)]
-mod pure_equilibria;
+mod error_sink;
 #[cfg(test)]
-mod tables;
+mod failing_calls;
 #[cfg(test)]
-mod trees;
-#[cfg(test)]
-mod two_player_games;
+mod long_input;

@@ -1,5 +1,5 @@
-//! Extreme equilibria of small games by their definition, beside those that the tool lists, its
-//! refusals and limits, the bases of cubes, and work that is shared by claims, as tests. The
+//! Extreme equilibria of small games by their definition, beside those that the tool lists, what a
+//! gate sees of its workers, the bases of cubes, and work that is shared by claims, as tests. The
 //! program calls nothing here.
 #![tactic(auto)]
 
@@ -15,8 +15,6 @@ mod cubes;
 mod elimination;
 #[cfg(test)]
 mod gates;
-#[cfg(test)]
-mod rows;
 #[cfg(test)]
 mod shared;
 #[cfg(test)]

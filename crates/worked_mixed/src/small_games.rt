@@ -101,8 +101,8 @@ fn prints<R: Threads + Sync>(
     let input = file(alloc, sizes, payoffs)?;
     let input = input.as_str();
     Ok(
-        Case::of("enummixed", input).lists(rt, alloc, 0, lines)?
-            && Case::of("enummixed -q -D -j 7", input).lists(rt, alloc, 0, lines)?,
+        Case::of("enummixed", input).lists(rt, alloc, lines)?
+            && Case::of("enummixed -q -D -j 7", input).lists(rt, alloc, lines)?,
     )
 }
 

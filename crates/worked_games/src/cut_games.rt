@@ -20,7 +20,7 @@ fn with_answer<R: Threads + Sync>(
     game: &[u8],
     digest: u64,
 ) -> Result<u64, Memory> {
-    let (status, out, err) = Case::of("enumpure", "").ends(rt, alloc, game)?;
+    let (status, out, err) = Case::of("enumpure", game).ends(rt, alloc)?;
     let digest = folded(digest, &[status]);
     let digest = folded(digest, out.taken());
     Ok(folded(digest, err.taken()))
