@@ -1,7 +1,7 @@
-// Files as they are read, written out as text: the parts of tables and trees.
-use crate::games::{ALONE, POKER, table_of, tree_of};
+// Files of trees as they are read, their parts written out as text.
+use crate::games::{POKER, tree_of};
 use frac128::Memory;
-use game_core::{InfoSet, Kind, Name, Node, Outcome, Table, Tree};
+use game_core::{InfoSet, Kind, Name, Node, Outcome, Tree};
 use ne_printer::fraction;
 use std::alloc::Global;
 
@@ -126,101 +126,6 @@ fn parts_of_trees_are_read(rt: HostRuntime) -> Result<(), Memory> {
     ];
     for (text, parts) in rows {
         assert!(rt; has_parts(rt.alloc(), text, parts)?);
-    }
-    Ok(())
-}
-
-// The own sets of players by their places, and none after the last.
-#[test]
-fn own_sets_are_in_order(rt: HostRuntime) {
-    let rows = [
-        (POKER, 0, 0, Some(1)),
-        (POKER, 0, 1, Some(3)),
-        (POKER, 0, 2, None),
-        (POKER, 1, 0, Some(2)),
-        (POKER, 1, 1, None),
-        (POKER, 2, 0, None),
-        (ALONE, 0, 0, Some(0)),
-        (ALONE, 0, 1, Some(1)),
-        (ALONE, 0, 2, None),
-    ];
-    for (text, player, place, set) in rows {
-        let Some(tree) = tree_of(rt.alloc(), text) else {
-            panic!(rt);
-        };
-        assert!(rt; tree.own_sets(player, place) == set);
-    }
-}
-
-// The title and the players, each player's strategies, and the payoffs.
-fn table_text(alloc: Global, table: &Table) -> Result<Vec<u8>, Memory> {
-    let mut text = Vec::new(alloc);
-    push_name(&mut text, table.title())?;
-    for player in table.players() {
-        push_name(&mut text, player)?;
-    }
-    for player in 0..table.players().len() {
-        text.push(b';')?;
-        for name in table.strategies(player) {
-            push_name(&mut text, name)?;
-        }
-    }
-    text.push(b';')?;
-    for payoff in table.payoffs() {
-        text.push(b' ')?;
-        text.extend_from_slice(&fraction(alloc, *payoff)?)?;
-    }
-    Ok(text)
-}
-
-// Whether a table is read so.
-fn is_read(alloc: Global, text: &[u8], table: &str) -> Result<bool, Memory> {
-    match table_of(alloc, text) {
-        Some(read) => Ok(table_text(alloc, &read)?.as_slice() == table.as_bytes()),
-        None => Ok(false),
-    }
-}
-
-/// Strategies that are only counted are named by their numbers.
-#[test]
-fn tables_are_read(rt: HostRuntime) -> Result<(), Memory> {
-    let rows: [(&[u8], &str); 8] = [
-        (
-            br#"NFG 1 R "PD" { "A" "B" } { 2 2 } 3 3 5 0 0 5 1 1"#,
-            " PD A B; 1 2; 1 2; 3 3 5 0 0 5 1 1",
-        ),
-        (
-            b"NFG 1.0 D \"PD\"{\"A\"\"B\"}{2 1}\n1 2\t3 4",
-            " PD A B; 1 2; 1; 1 2 3 4",
-        ),
-        (
-            br#"NFG 1 R "" { "a" "b" "c" } { { "x" "y" } { "z" } { "u" } } "a comment" 1 2 3 4 5 6"#,
-            "  a b c; x y; z; u; 1 2 3 4 5 6",
-        ),
-        (
-            br#"NFG 1 R "" { "A" "B" } { 1 1 } 1/2 -0.25"#,
-            "  A B; 1; 1; 1/2 -1/4",
-        ),
-        (
-            br#"NFG 1 R "" { "A" "B" } { 1 2 } 1, 2 3,4"#,
-            "  A B; 1; 1 2; 1 2 3 4",
-        ),
-        (
-            br#"NFG 1 R "Selten" { "Player 1" "Player 2" } { { "1" "2" "3" } { "1" "2" } } ""
-{ { "" 1, 1 } { "" 0, 2 } { "" 0, 2 } { "" 1, 1 } { "" 0, 3 } { "" 2, 0 } } 1 2 3 4 5 6"#,
-            " Selten Player 1 Player 2; 1 2 3; 1 2; 1 1 0 2 0 2 1 1 0 3 2 0",
-        ),
-        (
-            br#"NFG 1 R "" { "A" "B" } { 3 1 } { { "" 7 8 } { "" 5 6 } } 2 0 1"#,
-            "  A B; 1 2 3; 1; 5 6 0 0 7 8",
-        ),
-        (
-            br#"NFG 1 R "" { "A" "B" } { 1 1 } { } 0"#,
-            "  A B; 1; 1; 0 0",
-        ),
-    ];
-    for (text, table) in rows {
-        assert!(rt; is_read(rt.alloc(), text, table)?);
     }
     Ok(())
 }

@@ -1,5 +1,5 @@
-//! Fractions, numbers, tokens, lines, small tables, command lines and choice lists, as tests over
-//! their crates. Nothing here is called by the program.
+//! Fractions, numbers, tokens, lines, command lines and choice lists, as tests over their crates.
+//! Nothing here is called by the program.
 #![tactic(auto)]
 
 #[cfg(test)]
@@ -14,7 +14,5 @@ mod fractions;
 mod lines;
 #[cfg(test)]
 mod numbers;
-#[cfg(test)]
-mod tables;
 #[cfg(test)]
 mod tokens;
