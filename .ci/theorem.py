@@ -9,11 +9,12 @@ import sys
 from collections import defaultdict
 from pathlib import Path
 
-from closure import Item, closure, exported_functions, file_of, text_of
+from closure import Item, closure, exported_functions, file_of, source_imports, text_of
 from specifications import Unknown
 
 PAGE = Path("docs/THEOREM.md")
 LIBRARY = Path("crates/gambit_tools/src/lib.rt")
+TWO_PLAYERS = Path("crates/two_player_tools/src/lib.rt")
 PROGRAM = Path("crates/gambit/src/main.rt")
 ROW = re.compile(r"^\| `(crates/[^`]+)` \| (\d+) \| (\d+) \|", re.M)
 PART = re.compile(r"^(## [^\n]*)\n(.*?)(?=^## |\Z)", re.M | re.S)
@@ -21,8 +22,9 @@ LINES_A_MINUTE = 10
 
 
 def theorem():
-    """All items that the contracts of the crate of the main theorem rest on, and the program that calls it."""
-    return closure([*exported_functions(LIBRARY), Item("program", str(PROGRAM), "main")])
+    """All items that the contracts of the crate of the main theorem rest on, also those that it hands on, and the program."""
+    handed_on = [item for item in exported_functions(TWO_PLAYERS) if item.name in source_imports(LIBRARY)]
+    return closure([*exported_functions(LIBRARY), *handed_on, Item("program", str(PROGRAM), "main")])
 
 
 def rows_wanted(items):

@@ -28,12 +28,13 @@ use Rattle.refusals.specs.Told.{check_refusal, form_refusal, recall_refusal}
 use Rattle.refusals.specs.declared.refusal.Refusal.{Refusal}
 use Rattle.refusals.specs.declared.refusal.Refusal.TheVariants as refusal
 use Rattle.gambit_tools.specs.Check.{check, verdicts, within_bytes}
-use Rattle.gambit_tools.specs.Games.{IsGame, game_in}
+use Rattle.two_player_tools.specs.GameTypes.{IsGame}
+use Rattle.gambit_tools.specs.Games.{game_in}
 use Rattle.gambit_tools.specs.Input.{most_bytes}
 use Rattle.gambit_tools.specs.Origins.{Contents, origin}
 use Rattle.gambit_tools.proofs.FormContentLemmas.{AreReasons, form_origin, inner-reasons, only-reasons, recall-contents, then-contents, then-reasons, told-contents}
-use Rattle.gambit_tools.proofs.FormSingleLemmas.{RecallsAreSingle}
-use Rattle.gambit_tools.proofs.KeptPropertyLemmas.{game_in-valid}
+use Rattle.two_player_tools.proofs.FormSingleLemmas.{RecallsAreSingle}
+use Rattle.gambit_tools.proofs.ReadGameLemmas.{game_in-valid}
 use Rattle.gambit_tools.proofs.GameSingleLemmas.{game_in-single}
 
 -- ---- origins

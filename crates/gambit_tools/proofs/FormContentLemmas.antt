@@ -20,9 +20,9 @@ use Rattle.sequence_data.specs.declared.stop.SeqStop.{SeqStop}
 use Rattle.sequence_data.specs.declared.stop.SeqStop.TheVariants as sequence_stop
 use Rattle.sequence_form.specs.Forms.{tree_form, table_form}
 use Rattle.sequence_form.specs.declared.counts.Counts.{Counts}
-use Rattle.gambit_tools.specs.Entries.{entries_in, line_in}
+use Rattle.two_player_tools.specs.Entries.{entries_in, line_in}
 use Rattle.gambit_tools.specs.Origins.{Contents, origin}
-use Rattle.gambit_tools.specs.TwoPlayers.{form_in, form_of_table, form_of_tree, table_counts, tree_counts, two_players, within_rows}
+use Rattle.two_player_tools.specs.TwoPlayers.{form_in, form_of_table, form_of_tree, table_counts, tree_counts, two_players, within_rows}
 use Rattle.refusals.specs.Told.{behaviour_refusal, form_refusal, recall_refusal, sequence_refusal}
 use Rattle.refusals.specs.declared.refusal.Refusal.{Refusal}
 

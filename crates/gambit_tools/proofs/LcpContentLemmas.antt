@@ -10,11 +10,11 @@ use Rattle.zero_sum_lp.specs.PlanPairs.{PlanPair}
 use Rattle.lemke_pivot.specs.FormProblems.{problem_in, start_at, told_start}
 use Rattle.lemke_pivot.specs.Parts.{Problem}
 use Rattle.lemke_pivot.specs.declared.stop.LcpStop.{LcpStop}
-use Rattle.gambit_tools.specs.Entries.{line_in}
-use Rattle.gambit_tools.specs.Lcp.{end_of, equilibrium_in, lcp, plans_at}
+use Rattle.two_player_tools.specs.Entries.{line_in}
+use Rattle.two_player_tools.specs.Lcp.{end_of, equilibrium_in, lcp, plans_at}
 use Rattle.gambit_tools.specs.Origins.{Contents, origin}
 use Rattle.refusals.specs.Told.{problem_refusal}
-use Rattle.gambit_tools.specs.TwoPlayers.{form_in, two_players}
+use Rattle.two_player_tools.specs.TwoPlayers.{form_in, two_players}
 use Rattle.refusals.specs.declared.refusal.Refusal.{Refusal}
 use Rattle.gambit_tools.proofs.FormContentLemmas.{AreContents, form_in-contents, line_in-contents, only-contents, then-contents, told-contents, two_players-contents}
 

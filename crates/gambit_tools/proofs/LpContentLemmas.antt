@@ -15,10 +15,10 @@ use Rattle.zero_sum_lp.specs.PlanStops.{plans_of}
 use Rattle.zero_sum_lp.specs.declared.stop.LpStop.{LpStop}
 use Rattle.zero_sum_lp.specs.declared.stop.PlanStop.{PlanStop}
 use Rattle.zero_sum_lp.specs.declared.stop.PlanStop.TheVariants as plan_stop
-use Rattle.gambit_tools.specs.Entries.{entries_in}
-use Rattle.gambit_tools.specs.Lp.{Solution, first_price, lp, optimum_of, prices_in, prices_text, solution, solution_in, solution_text}
+use Rattle.two_player_tools.specs.Entries.{entries_in}
+use Rattle.two_player_tools.specs.Lp.{Solution, first_price, lp, optimum_of, prices_in, prices_text, solution, solution_in, solution_text}
 use Rattle.gambit_tools.specs.Origins.{Contents, origin}
-use Rattle.gambit_tools.specs.TwoPlayers.{form_in, two_players}
+use Rattle.two_player_tools.specs.TwoPlayers.{form_in, two_players}
 use Rattle.refusals.specs.Told.{plan_refusal, program_refusal}
 use Rattle.refusals.specs.declared.refusal.Refusal.{Refusal}
 use Rattle.refusals.specs.declared.refusal.Refusal.TheVariants as refusal

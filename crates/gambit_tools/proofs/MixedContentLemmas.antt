@@ -34,7 +34,7 @@ use Rattle.refusals.specs.Told.{form_refusal, kept_refusal, mixed_refusal}
 use Rattle.refusals.specs.declared.refusal.Refusal.{Refusal}
 use Rattle.gambit_tools.specs.Enummixed.{enummixed, strategic_text, table_text}
 use Rattle.gambit_tools.specs.Origins.{Contents, origin}
-use Rattle.gambit_tools.specs.TwoPlayers.{two_players}
+use Rattle.two_player_tools.specs.TwoPlayers.{two_players}
 use Rattle.gambit_tools.proofs.FormContentLemmas.{AreContents, AreReasons, form_origin, inner-reasons, only-reasons, then-contents, then-reasons, told-contents, two_players-contents}
 
 -- ---- stages of the enumeration

@@ -13,9 +13,9 @@ use Rattle.enummixed.specs.ExtremeText.{extreme_text, kept_text}
 use Rattle.enummixed.proofs.VertexPairLemmas.{texts-single}
 use Rattle.refusals.specs.Told.{form_refusal, kept_refusal, mixed_refusal}
 use Rattle.gambit_tools.specs.Enummixed.{enummixed, strategic_text, table_text}
-use Rattle.gambit_tools.specs.Games.{IsGame}
-use Rattle.gambit_tools.specs.TwoPlayers.{two_players}
-use Rattle.gambit_tools.proofs.FormSingleLemmas.{two_players-single}
+use Rattle.two_player_tools.specs.GameTypes.{IsGame}
+use Rattle.two_player_tools.specs.TwoPlayers.{two_players}
+use Rattle.two_player_tools.proofs.FormSingleLemmas.{two_players-single}
 
 table_text-single : (all : Bool) (table : GameTable) → IsTable table → IsSingle (table_text all table)
 table_text-single true table w = refused_by-single mixed_refusal (extreme_text (game_of table)) (texts-single (game_of table) (game_of table))

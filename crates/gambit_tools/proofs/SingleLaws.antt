@@ -16,16 +16,18 @@ use Rattle.enumpure.specs.Stops.{pure_text}
 use Rattle.enumpure.proofs.OneTextLaws.{pure_text-single, within_text_limit-single}
 use Rattle.words.specs.Words.{Command, Enumpure, Enummixed, Lcp, Lp, Convert, Check, Make}
 use Rattle.refusals.specs.Told.{form_refusal, list_refusal}
-use Rattle.gambit_tools.specs.Games.{IsGame, game_in}
+use Rattle.two_player_tools.specs.GameTypes.{IsGame}
+use Rattle.gambit_tools.specs.Games.{game_in}
 use Rattle.gambit_tools.specs.Enumpure.{form_text, enumpure}
 use Rattle.gambit_tools.specs.Commands.{tool_of, game_answer, answer_of}
 use Rattle.gambit_tools.proofs.CheckContentLemmas.{ChecksAreSingle, check-single}
 use Rattle.gambit_tools.proofs.ConvertLaws.{convert-single}
-use Rattle.gambit_tools.proofs.FormSingleLemmas.{RecallsAreSingle}
+use Rattle.two_player_tools.proofs.FormSingleLemmas.{RecallsAreSingle}
 use Rattle.gambit_tools.proofs.GameSingleLemmas.{game_in-single}
-use Rattle.gambit_tools.proofs.KeptPropertyLemmas.{TreesAreGames, game_in-valid}
-use Rattle.gambit_tools.proofs.LcpSingleLemmas.{lcp-single}
-use Rattle.gambit_tools.proofs.LpSingleLemmas.{lp-single}
+use Rattle.two_player_tools.proofs.KeptPropertyLemmas.{TreesAreGames}
+use Rattle.gambit_tools.proofs.ReadGameLemmas.{game_in-valid}
+use Rattle.two_player_tools.proofs.LcpSingleLemmas.{lcp-single}
+use Rattle.two_player_tools.proofs.LpSingleLemmas.{lp-single}
 use Rattle.gambit_tools.proofs.MakeLaws.{make-single}
 use Rattle.gambit_tools.proofs.MixedSingleLemmas.{enummixed-single}
 

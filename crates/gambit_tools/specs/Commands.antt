@@ -10,8 +10,8 @@ use Rattle.gambit_tools.specs.Convert.{convert}
 use Rattle.gambit_tools.specs.Enummixed.{enummixed}
 use Rattle.gambit_tools.specs.Enumpure.{enumpure}
 use Rattle.gambit_tools.specs.Games.{game_in}
-use Rattle.gambit_tools.specs.Lcp.{lcp}
-use Rattle.gambit_tools.specs.Lp.{lp}
+use Rattle.two_player_tools.specs.Lcp.{lcp}
+use Rattle.two_player_tools.specs.Lp.{lp}
 use Rattle.gambit_tools.specs.Make.{make}
 use Rattle.refusals.specs.declared.refusal.Refusal.{Refusal}
 

@@ -9,7 +9,7 @@ use Rattle.reduced_form.specs.Kept.{kept_of}
 use Rattle.reduced_form.specs.ReducedForm.{ReducedForm}
 use Rattle.reduced_form.specs.Stops.{form_of}
 use Rattle.enummixed.specs.ExtremeText.{IsExtremeEquilibriaText, extreme_text, kept_text}
-use Rattle.gambit_tools.specs.TwoPlayers.{two_players}
+use Rattle.two_player_tools.specs.TwoPlayers.{two_players}
 use Rattle.refusals.specs.Told.{form_refusal, kept_refusal, mixed_refusal}
 use Rattle.refusals.specs.declared.refusal.Refusal.{Refusal}
 

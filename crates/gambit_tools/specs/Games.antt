@@ -1,8 +1,6 @@
 -- The game that the bytes of an input stand for, in stages: tokens, and a table or a tree.
 use Rattle.std.specs.Prelude.{ℕ, ◌<◌, ◌≡◌, List, ◌∷◌, length, codes}
 use Rattle.answers.specs.Answers.{Answer, only, refuse_where, by_case, ◌>>=◌, ◌>>◌, refused_by}
-use Rattle.game_core.specs.Table.{IsTable}
-use Rattle.game_core.specs.Tree.{IsTree}
 use Rattle.game_core.specs.declared.game.Game.{Game}
 use Rattle.game_core.specs.declared.game.Game.TheVariants.{Strategic, Extensive}
 use Rattle.game_core.specs.TokenList.{TokenList, bare}
@@ -15,11 +13,6 @@ use Rattle.gambit_tools.specs.Input.{most_bytes}
 use Rattle.refusals.specs.Told.{text_refusal, nfg_refusal, efg_refusal}
 use Rattle.refusals.specs.declared.refusal.Refusal.{Refusal}
 use Rattle.refusals.specs.declared.refusal.Refusal.TheVariants as refusal
-
--- what the types of tables and trees keep of a game
-abbrev pub IsGame : Game → Type 0
-IsGame (Strategic table) = IsTable table
-IsGame (Extensive tree) = IsTree tree
 
 -- the tokens of bytes within the limit on inputs
 abbrev pub tokens_in : List ℕ → Answer Refusal TokenList

@@ -6,7 +6,6 @@ ghost use Rattle.gambit_tools.specs.Enummixed.{enummixed, strategic_text, table_
 ghost use Rattle.gambit_tools.specs.Outcome.{IsComputed};
 
 use crate::games::read_game;
-use crate::two_players::two_players;
 use enummixed::{list_equilibria_of_kept, list_extreme_equilibria};
 use game_core::{Game, Table};
 use outside::{Gate, Inputs};
@@ -15,6 +14,7 @@ use refusals::Refusal;
 use std::alloc::Global;
 use std::marker::Sync;
 use std::thread::Threads;
+use two_player_tools::two_players;
 
 /// The text of the extreme equilibria of a table, whose strictly dominated strategies are set aside.
 fn text_of_kept<R: Threads + Sync, G: Gate>(

@@ -18,7 +18,7 @@ use Rattle.lex_tableau.specs.Starts.{Parts, system_of}
 use Rattle.sequence_data.specs.declared.types.Cell.{Cell}
 use Rattle.sequence_data.specs.Data.{FormData, IsFormData, LeafFits, SideData, form, side_of}
 use Rattle.sequence_data.proofs.GainLemmas.{costs_positive_one, costs_positive_two}
-use Rattle.form_matrices.specs.Matrices.{IsInside, placed, HoldsNumbers}
+use Rattle.sequence_data.specs.Matrices.{IsInside, placed, HoldsNumbers}
 use Rattle.lemke_pivot.specs.FormProblems.{IsSystemOf, cost_at, cost_one, cost_two, form_size}
 use Rattle.lemke_pivot.specs.Parts.{IsProblemSystem, start_of}
 use Rattle.lemke_pivot.specs.Systems.{IsSystemFor, number_of}

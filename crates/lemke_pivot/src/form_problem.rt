@@ -8,11 +8,10 @@ use crate::costs::costs;
 use crate::lcp::{Lcp, row_count};
 use crate::stop::LcpStop;
 use crate::system::system;
-use form_matrices::dense;
 use frac128::{Frac, Memory};
 use game_core::{TooLarge, What};
 use lex_tableau::{StartStop, System};
-use sequence_data::{SeqForm, SetRow, Side};
+use sequence_data::{SeqForm, SetRow, Side, dense};
 use std::alloc::Global;
 
 // The most rows.

@@ -8,9 +8,8 @@ ghost use Rattle.sequence_forms.specs.Sides.{sequences};
 ghost use Rattle.lemke_pivot.specs.Parts.{problem_size};
 ghost use Rattle.lemke_pivot.specs.Systems.{cost_count, listed_costs};
 
-use form_matrices::set_entry;
 use frac128::Frac;
-use sequence_data::Side;
+use sequence_data::{Side, set_entry};
 
 // The row of a sequence of the first player.
 fn entry_x(first: &Side, second: &Side, one: &[Frac], two: &[Frac], row: usize, col: usize) -> Frac

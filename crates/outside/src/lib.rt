@@ -2,7 +2,8 @@
 //! that its workers pass.
 //!
 //! Callers may rely on: the clauses of `Inputs` and `Sink`, which every implementation keeps;
-//! `MemInputs` and `MemSink` do exactly what their states say; a `Gate` changes no answer.
+//! `MemInputs` and `MemSink` do exactly what their states say; a `Gate` changes no answer;
+//! `read_some` hands on what a source gives.
 //! Definitions: `specs::Inputs` and `specs::Sink` say what contracts see of both, `specs::Counts`
 //! how failed calls are counted.
 //! Private words: `specs::RealInputs` and `specs::RealSink`, and the module `tries`.
@@ -23,6 +24,6 @@ pub use gate::{Gate, OpenGate};
 pub use inputs::{Inputs, OpenFailed, ReadFailed};
 pub use mem_inputs::MemInputs;
 pub use mem_sink::MemSink;
-pub use real_inputs::RealInputs;
+pub use real_inputs::{RealInputs, read_some};
 pub use real_sink::RealSink;
 pub use sink::{Sink, WriteFailed};

@@ -168,8 +168,10 @@ fn open_named<R: Files>(rt: &R, name: &Option<String>) -> Result<Option<R::File>
     Err(OpenFailed)
 }
 
-// Reads to the front of a buffer, and answers how many bytes.
-fn read_some<S: Read>(source: &mut S, buf: &mut [u8]) -> Result<usize, ReadFailed>
+/// Reads to the front of a buffer, and answers how many bytes: one call of the source, which is
+/// repeated where it was interrupted, at most 1,000 times. After that, and where the source answers
+/// another error, the call fails.
+pub fn read_some<S: Read>(source: &mut S, buf: &mut [u8]) -> Result<usize, ReadFailed>
     ensures bound { ReadsAtMost result buf.new }
     ensures bytes { ReadConsumes (S.remaining source.old) (S.remaining source.new) result buf.new }
 {
@@ -181,53 +183,4 @@ fn read_some<S: Read>(source: &mut S, buf: &mut [u8]) -> Result<usize, ReadFaile
         }
     }
     Err(ReadFailed)
-}
-
-#[cfg(test)]
-mod tests {
-    use super::*;
-    use std::alloc::AllocError;
-    use std::io;
-
-    // A reader of zeros that is interrupted some times first.
-    #[derive(Drop)]
-    struct Fitful {
-        interrupts: u32,
-    }
-
-    impl Read for Fitful {
-        fn read(&mut self, buf: &mut [u8]) -> io::Result<usize> {
-            if self.interrupts > 0 {
-                self.interrupts -= 1;
-                return Err(io::Error::from(ErrorKind::Interrupted));
-            }
-            Ok(buf.len())
-        }
-    }
-
-    #[test]
-    fn repeats_interrupted_reads(rt: HostRuntime) {
-        for (interrupts, want) in [(0, Ok(4)), (1000, Ok(4)), (1001, Err(ReadFailed))] {
-            let mut buf = [1u8; 4];
-            assert!(rt; read_some(&mut Fitful { interrupts }, &mut buf) == want);
-        }
-    }
-
-    #[test]
-    fn reads_files(rt: HostRuntime) -> Result<(), AllocError> {
-        let mut inputs = RealInputs::new(&rt);
-        for (name, opens, want) in [
-            ("/dev/zero", true, Ok(3)),
-            ("/dev/null", true, Ok(0)),
-            (".", true, Err(ReadFailed)),
-            ("/dev/null/none", false, Ok(0)),
-        ] {
-            let name = String::from_str(rt.alloc(), name)?;
-            assert!(rt; inputs.select(Some(name)).is_ok() == opens);
-            assert!(rt; inputs.read(&mut [1u8; 3]) == want);
-            assert!(rt; want.is_ok() || inputs.read(&mut [1u8; 3]) == Ok(0));
-        }
-        assert!(rt; inputs.select(None).is_ok());
-        Ok(())
-    }
 }

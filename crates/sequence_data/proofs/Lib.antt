@@ -4,3 +4,5 @@ mod GatheredLeafLemmas
 pub mod OrderLemmas
 pub mod PlaceLemmas
 pub mod PlacedStepLemmas
+pub mod SetEntryLemmas
+pub mod WrittenCellLemmas

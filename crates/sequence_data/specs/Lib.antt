@@ -4,3 +4,4 @@ pub mod Gathered
 pub mod Steps
 pub mod Weights
 pub mod Data
+pub mod Matrices

@@ -2,13 +2,15 @@
 //! and the extreme payoffs.
 //!
 //! Callers may rely on: `SeqForm::of_leaves` gives the cells that are the sums of the leaves, or
-//! the first step that does not fit; `gains_are_not_negative` and `costs_are_not_negative`.
+//! the first step that does not fit; `gains_are_not_negative` and `costs_are_not_negative`; `set_at`
+//! and `set_entry` give a set's row and its entries, and `dense` the matrix of the numbers of cells.
 //! Definitions: `specs::Data` says what each form keeps and which sequence form it stands for,
-//! `Cells` what the cells are, `Steps` the order of all steps, `Weights` a plan as a list.
+//! `Cells` what the cells are, `Steps` the order of all steps, `Weights` a plan as a list, `Matrices`
+//! numbers of cells as a matrix; `sequence_forms` has the rows of plans.
 //! Private words: `specs::Gathered`, cells while they are summed up.
 //! Lemmas for callers: `proofs::GainLemmas` on gains and costs, `CellSumLemmas` and `OrderLemmas`
 //! on cells.
-//! A change here touches: `sequence_form`, `form_matrices`, `zero_sum_lp`, `lemke_pivot` and
+//! A change here touches: `sequence_form`, `zero_sum_lp`, `lemke_pivot` and
 //! `behaviour_profile`.
 #![tactic(auto)]
 
@@ -25,12 +27,16 @@ ghost use Rattle.sequence_data.specs.Steps.{AllFit, IsFirstUnfitAt, PlacedStep};
 
 mod cells;
 mod form;
+mod matrix;
 mod payoffs;
+mod set_rows;
 mod steps;
 mod stop;
 mod types;
 
 pub use form::{SeqForm, Side};
+pub use matrix::dense;
+pub use set_rows::{set_at, set_entry};
 pub use steps::{product, sum};
 pub use stop::SeqStop;
 pub use types::{Cell, Leaf, SetRow};

@@ -1,5 +1,6 @@
 //! Tests over `gambit_tools::run` that need an inside: calls of the inputs and sinks that fail, what
-//! is read of an input, and games that are cut off. The program calls nothing here.
+//! is read of an input, and games that are cut off; and tests of the real inputs and sinks. The
+//! program calls nothing here.
 #![tactic(auto)]
 
 #[cfg(test)]
@@ -12,3 +13,5 @@ mod error_sink;
 mod failing_calls;
 #[cfg(test)]
 mod long_input;
+#[cfg(test)]
+mod real_files;

@@ -15,7 +15,7 @@ use Rattle.sequence_forms.specs.Prices.{gains}
 use Rattle.sequence_forms.specs.Sides.{Side, sequences}
 use Rattle.sequence_data.specs.declared.types.Cell.{Cell}
 use Rattle.sequence_data.specs.Data.{FormData, IsFormData, LeafFits, SideData, form, side_of}
-use Rattle.form_matrices.specs.Matrices.{IsInside, placed, HoldsNumbers}
+use Rattle.sequence_data.specs.Matrices.{IsInside, placed, HoldsNumbers}
 use Rattle.zero_sum_lp.specs.FormPrograms.{IsSystemOf, gain_at, size_of}
 use Rattle.zero_sum_lp.specs.Parts.{IsProgramSystem}
 use Rattle.zero_sum_lp.specs.Systems.{IsSystemFor, gain_of}

@@ -7,9 +7,8 @@ ghost use Rattle.sequence_data.specs.Weights.{weight};
 ghost use Rattle.zero_sum_lp.specs.PlanSteps.{FailsToShare, IsCutPlan, IsUnfitCut, SharesOut};
 
 use crate::weights::{set_weight, weight_at};
-use form_matrices::set_at;
 use frac128::{Frac, Unfit};
-use sequence_data::Side;
+use sequence_data::{Side, set_at};
 use std::cmp::Ordering;
 
 // The less of two fractions.

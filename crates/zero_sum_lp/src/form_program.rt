@@ -9,11 +9,10 @@ use crate::lp::Lp;
 use crate::stop::LpStop;
 use crate::sums::{sums, test_constant};
 use crate::system::system;
-use form_matrices::dense;
 use frac128::{Frac, Memory};
 use game_core::{TooLarge, What};
 use lex_tableau::{StartStop, System};
-use sequence_data::{SeqForm, SetRow, Side};
+use sequence_data::{SeqForm, SetRow, Side, dense};
 use std::alloc::Global;
 
 // The most rows and columns together.

@@ -7,9 +7,8 @@ ghost use Rattle.sequence_data.specs.Weights.{weight};
 ghost use Rattle.zero_sum_lp.specs.PlanSteps.{IsRaisedPlan, IsUnfitRaise, raise_steps_at, raised_at, rest_at, rest_steps_at};
 
 use crate::weights::{set_weight, weight_at};
-use form_matrices::set_at;
 use frac128::{Frac, Unfit};
-use sequence_data::Side;
+use sequence_data::{Side, set_at};
 
 // What the weights of a set's actions leave of the weight before the set.
 fn remaining(weights: &[Frac], before: usize, first: usize, count: usize) -> Result<Frac, Unfit>

@@ -7,10 +7,9 @@ ghost use Rattle.zero_sum_lp.specs.Parts.{program_size};
 ghost use Rattle.lex_tableau.specs.Entries.{AreEntries, entry_of};
 ghost use Rattle.zero_sum_lp.specs.Systems.{IsSystemFor, gain_count, listed_gain, listed_program, listed_reply};
 
-use form_matrices::set_entry;
 use frac128::{Frac, Memory};
 use lex_tableau::{System, numbered};
-use sequence_data::Side;
+use sequence_data::{Side, set_entry};
 use std::alloc::Global;
 
 // A row of the first player's plans.

@@ -10,4 +10,4 @@ returns-in_err-game g c =
     rw (p.1, p.2) (c.in_err-game.ensures (LpCommand c.args.strategic c.args.prices (option_map string_bytes c.args.file)) refl)
 
 pub returns : goal.returns
-returns g c = c.in_ok-game.ensures (LpCommand c.args.strategic c.args.prices (option_map string_bytes c.args.file)) (map_ok c.equilibrium_text.result (λ text. text.items)) refl c.equilibrium_text.ensures
+returns g c = c.in_ok-game.ensures (LpCommand c.args.strategic c.args.prices (option_map string_bytes c.args.file)) (map_ok c.lp_text.result (λ text. text.items)) refl c.lp_text.ensures

@@ -1,7 +1,7 @@
 use Rattle.std.proofs.Common.{◌∙◌, List, ap, subst, sym}
 use Rattle.sequence_data.specs.declared.types.Cell.{Cell}
 use Rattle.sequence_data.specs.Data.{SideData}
-use Rattle.form_matrices.specs.Matrices.{HoldsNumbers, placed}
+use Rattle.sequence_data.specs.Matrices.{HoldsNumbers, placed}
 use Rattle.lemke_pivot.proofs.FormSystemLemmas.{cells_read, system_read}
 use Rattle.lemke_pivot.proofs.form_problem.system_of_form.Goals as goal
 

@@ -1,2 +1,0 @@
-pub mod SetEntryLemmas
-pub mod WrittenCellLemmas

@@ -1,5 +1,0 @@
-use Rattle.gambit_tools.proofs.LcpTextLemmas.{lcp_texts}
-use Rattle.gambit_tools.proofs.lcp.lcp_texts_are_equilibria.Goals as goal
-
-pub returns : goal.returns
-returns c = lcp_texts (record { game_tree = c.trees_are_game_trees.ensures; numbered = c.sets_are_numbered_by_first_nodes.ensures })

@@ -1,5 +1,0 @@
-use Rattle.gambit_tools.proofs.LpTextLemmas.{lp_texts}
-use Rattle.gambit_tools.proofs.lp.lp_texts_are_solutions.Goals as goal
-
-pub returns : goal.returns
-returns c = lp_texts (record { game_tree = c.trees_are_game_trees.ensures; numbered = c.sets_are_numbered_by_first_nodes.ensures })

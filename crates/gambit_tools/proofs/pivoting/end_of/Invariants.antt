@@ -1,4 +1,0 @@
-use Rattle.gambit_tools.proofs.pivoting.end_of.Given as goal
-
-abbrev pub ghosts-follow : goal.ghosts-follow
-ghosts-follow a = record { name = a.blank.name; parts = a.blank.parts }

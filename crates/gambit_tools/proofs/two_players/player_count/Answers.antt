@@ -1,6 +1,0 @@
-use Rattle.std.proofs.Common.{ap, arith, length}
-use Rattle.game_core.proofs.TableCountLemmas.{few_players}
-use Rattle.gambit_tools.proofs.two_players.player_count.Goals as goal
-
-pub overflow_cast-result : goal.overflow_cast-result
-overflow_cast-result c = omega (arith, few_players c.in-Strategic.table c.players.ensures.valid, ap length c.players.ensures.players)

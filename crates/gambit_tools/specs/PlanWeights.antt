@@ -1,7 +1,0 @@
--- Two plans as they are kept before they are printed.
-use Rattle.zero_sum_lp.specs.PlanPairs.{PlanPair}
-use Rattle.gambit_tools.specs.declared.pivoting.PlanWeights.{PlanWeights}
-
--- the weights of both players' sequences
-abbrev pub plans_of : PlanWeights → PlanPair
-plans_of w = record { one = w.one.items; two = w.two.items }

@@ -1,0 +1,69 @@
+-- What the tools for two players make of a game, and print of two plans, is single.
+use Rattle.std.proofs.Common.{ℕ, ◌<◌, ◌≢◌, Bool, true, false, List}
+use Rattle.answers.specs.Answers.{IsSingle, ◌>>◌, only, refused_by}
+use Rattle.answers.proofs.AnswerLemmas.{bind-single, only-single, refuse_where-single, refused_by-single}
+use Rattle.rational.specs.Rational.{ℚ}
+use Rattle.game_theory.specs.Lines.{line_text}
+use Rattle.game_core.specs.Table.{GameTable}
+use Rattle.game_core.specs.Tree.{GameTree, IsTree}
+use Rattle.game_core.specs.declared.game.Game.{Game}
+use Rattle.game_core.specs.declared.game.Game.TheVariants.{Strategic, Extensive}
+use Rattle.game_core.specs.declared.too_large.What.TheVariants as what
+use Rattle.behaviour_profile.specs.Plans.{plan_behaviour}
+use Rattle.behaviour_profile.proofs.PlanStopLemmas.{plan_behaviour-single}
+use Rattle.perfect_recall.specs.Found.{recall_of}
+use Rattle.reduced_form.specs.Stops.{form_of}
+use Rattle.reduced_form.proofs.OneFormLaws.{form_of-single}
+use Rattle.sequence_form.specs.Forms.{tree_form, table_form}
+use Rattle.sequence_form.specs.declared.counts.Counts.{Counts}
+use Rattle.sequence_form.proofs.FormLemmas.{table_form-single, tree_form-single}
+use Rattle.two_player_tools.specs.Entries.{entries_in, line_in}
+use Rattle.two_player_tools.specs.GameTypes.{IsGame}
+use Rattle.refusals.specs.Told.{behaviour_refusal, form_refusal, recall_refusal, sequence_refusal}
+use Rattle.two_player_tools.specs.TwoPlayers.{form_in, form_of_table, form_of_tree, players_of, table_counts, tree_counts, two_players, within_rows}
+use Rattle.refusals.specs.declared.refusal.Refusal.TheVariants as refusal
+
+-- a tree has one recall
+abbrev pub RecallsAreSingle : Type 0
+RecallsAreSingle = (t : GameTree) → IsTree t → IsSingle (recall_of t)
+
+-- ---- the number of players
+pub two_players-single : (game : Game) → IsSingle (two_players game)
+two_players-single game = refuse_where-single (players_of game ≢ 2) (refusal.NotTwoPlayers (players_of game))
+
+-- ---- the form
+within_rows-single : (count : ℕ) → IsSingle (within_rows count)
+within_rows-single count = refuse_where-single (512 < count) (refusal.TooLarge what.Rows count 512)
+
+form_of_table-single : (rows : Counts → ℕ) (t : GameTable) → IsSingle (form_of_table rows t)
+form_of_table-single rows t =
+    bind-single (within_rows (rows (table_counts t))) (λ _. refused_by sequence_refusal (table_form t)) (within_rows-single (rows (table_counts t)))
+    (λ _ _. refused_by-single sequence_refusal (table_form t) (table_form-single t))
+
+form_of_tree-single : (rows : Counts → ℕ) (t : GameTree) → IsSingle (recall_of t) → IsSingle (form_of_tree rows t)
+form_of_tree-single rows t single =
+    bind-single (refused_by recall_refusal (recall_of t)) (λ _. within_rows (rows (tree_counts t)) >> refused_by sequence_refusal (tree_form t))
+    (refused_by-single recall_refusal (recall_of t) single)
+    (λ _ _. bind-single (within_rows (rows (tree_counts t))) (λ _. refused_by sequence_refusal (tree_form t)) (within_rows-single (rows (tree_counts t)))
+    (λ _ _. refused_by-single sequence_refusal (tree_form t) (tree_form-single t)))
+
+pub form_in-single : (rows : Counts → ℕ) (strategic : Bool) (game : Game) → RecallsAreSingle → IsGame game → IsSingle (form_in rows strategic game)
+form_in-single rows true (Strategic t) recalls w = form_of_table-single rows t
+form_in-single rows false (Strategic t) recalls w = form_of_table-single rows t
+form_in-single rows true (Extensive t) recalls w =
+    bind-single (refused_by form_refusal (form_of t)) (λ form. form_of_table rows form.table)
+    (refused_by-single form_refusal (form_of t) (form_of-single t))
+    (λ form _. form_of_table-single rows form.table)
+form_in-single rows false (Extensive t) recalls w = form_of_tree-single rows t (recalls t w)
+
+-- ---- the line
+pub entries_in-single : (strategic : Bool) (game : Game) (one two : List ℚ) → IsSingle (entries_in strategic game one two)
+entries_in-single true (Strategic t) one two = only-single _
+entries_in-single false (Strategic t) one two = only-single _
+entries_in-single true (Extensive t) one two = only-single _
+entries_in-single false (Extensive t) one two = refused_by-single behaviour_refusal (plan_behaviour t one two) (plan_behaviour-single t one two)
+
+pub line_in-single : (strategic : Bool) (game : Game) (one two : List ℚ) → IsSingle (line_in strategic game one two)
+line_in-single strategic game one two =
+    bind-single (entries_in strategic game one two) (λ entries. only (line_text entries)) (entries_in-single strategic game one two)
+    (λ entries _. only-single (line_text entries))

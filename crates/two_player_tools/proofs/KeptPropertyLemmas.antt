@@ -1,0 +1,63 @@
+-- What the stages before keep of a sequence form and an optimum.
+use Rattle.std.proofs.Common.{ℕ, ◌≡◌, ◌∙◌, sym, subst, arith, Bool, true, false, Option, List, Ok}
+use Rattle.game_theory.specs.FirstNodes.{AreNumberedByFirstNodes}
+use Rattle.game_theory.specs.Trees.{IsTree as is_game_tree}
+use Rattle.game_core.specs.Tree.{GameTree, IsTree}
+use Rattle.game_core.specs.TreeGame.{game_of_tree}
+use Rattle.game_core.specs.declared.game.Game.{Game}
+use Rattle.game_core.specs.declared.game.Game.TheVariants.{Strategic, Extensive}
+use Rattle.perfect_recall.specs.Found.{IsRecallOf}
+use Rattle.sequence_forms.specs.Forms.{HasTwoWhoRecall}
+use Rattle.sequence_data.specs.Data.{FormData, IsFormData, IsSideData}
+use Rattle.sequence_form.specs.Forms.{IsTreeForm}
+use Rattle.sequence_form.specs.declared.counts.Counts.{Counts}
+use Rattle.sequence_form.proofs.KeptFormLemmas.{table_form-valid, tree_form-valid}
+use Rattle.zero_sum_lp.specs.FormPrograms.{program_in}
+use Rattle.zero_sum_lp.specs.Parts.{IsOptimumOf, IsProgram, Program}
+use Rattle.zero_sum_lp.specs.PlanPairs.{PlanPair}
+use Rattle.zero_sum_lp.specs.PlanStops.{plans_of}
+use Rattle.two_player_tools.specs.GameTypes.{IsGame}
+use Rattle.two_player_tools.specs.TwoPlayers.{form_in}
+
+-- what trees stand for
+pub record TreesAreGames : Type 0 where
+  pub game_tree : (t : GameTree) → IsTree t → is_game_tree (game_of_tree t)
+  pub numbered : (t : GameTree) → IsTree t → AreNumberedByFirstNodes (game_of_tree t)
+
+-- ---- forms
+-- the form of a game
+pub form_in-valid : (rows : Counts → ℕ) (strategic : Bool) (game : Game) (f : FormData) → TreesAreGames → IsGame game → form_in rows strategic game (Ok f) → IsFormData f
+form_in-valid rows true (Strategic t) f laws w h = table_form-valid t f w h.2
+form_in-valid rows false (Strategic t) f laws w h = table_form-valid t f w h.2
+form_in-valid rows true (Extensive t) f laws w h = table_form-valid h.0.table f h.1.0.is_table h.2.2
+form_in-valid rows false (Extensive t) f laws w h = tree_form-valid (game_of_tree t) f (laws.game_tree t w) (laws.numbered t w) h.1.all_recall h.2.2
+
+-- a tree with a form has two players, who recall
+pub two_who_recall : (t : GameTree) (f : FormData) (before : List (Option (ℕ × ℕ))) → TreesAreGames → IsTree t → IsRecallOf (game_of_tree t) before → IsTreeForm (game_of_tree t) f → HasTwoWhoRecall (game_of_tree t)
+two_who_recall t f before laws w recall h = record {
+  is_tree = laws.game_tree t w;
+  two_players = h.two_players;
+  first_recalls = recall.all_recall 0 (omega (arith, h.two_players));
+  second_recalls = recall.all_recall 1 (omega (arith, h.two_players));
+}
+
+-- ---- programs and optima
+-- how a form is solved: its program, the program's optimum and the plans
+pub record IsSolving (f : FormData) (p o : Program) (plans : PlanPair) : Type 0 where
+  pub valid : IsFormData f
+  pub program : program_in f (Ok p)
+  pub optimum : IsOptimumOf p o
+  pub planned : plans_of o (Ok plans)
+
+pub optimum-first : (p o : Program) → IsProgram p → IsOptimumOf p o → IsSideData o.first
+optimum-first p o h k = subst IsSideData (sym k.first) h.first
+
+pub optimum-second : (p o : Program) → IsProgram p → IsOptimumOf p o → IsSideData o.second
+optimum-second p o h k = subst IsSideData (sym k.second) h.second
+
+module _ (f : FormData) (p o : Program) (plans : PlanPair) (h : IsSolving f p o plans) where
+  pub first-same : o.first ≡ f.first
+  first-same = h.optimum.first ∙ h.program.2.2.2.2.1.1.first
+
+  pub second-same : o.second ≡ f.second
+  second-same = h.optimum.second ∙ h.program.2.2.2.2.1.1.second

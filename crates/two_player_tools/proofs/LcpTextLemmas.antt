@@ -1,0 +1,103 @@
+-- The texts of `lcp` are those of equilibria.
+use Rattle.std.proofs.Common.{ℕ, ◌≡◌, ◌∙◌, sym, ap, subst, Bool, true, false, Option, List, length, Result, Ok}
+use Rattle.game_theory.specs.Equilibrium.{IsEquilibrium as is_table_equilibrium}
+use Rattle.game_theory.specs.Lines.{line_text}
+use Rattle.game_theory.proofs.ProfileLineLemmas.{length-listed}
+use Rattle.game_theory.specs.TreeEquilibrium.{IsEquilibrium}
+use Rattle.game_core.specs.Table.{GameTable, IsTable, game_of}
+use Rattle.game_core.specs.Tree.{GameTree, IsTree}
+use Rattle.game_core.specs.TreeGame.{game_of_tree}
+use Rattle.game_core.specs.declared.game.Game.{Game}
+use Rattle.game_core.specs.declared.game.Game.TheVariants.{Strategic, Extensive}
+use Rattle.perfect_recall.specs.Found.{IsRecallOf}
+use Rattle.sequence_forms.specs.Forms.{mixed_of}
+use Rattle.sequence_forms.specs.PlanBehaviour.{behaviour_of}
+use Rattle.sequence_forms.specs.Sides.{sequences}
+use Rattle.sequence_forms.proofs.EndLemmas.{solutions_on_tables, solutions_on_trees}
+use Rattle.sequence_data.specs.Data.{FormData, IsFormData, SideData, form, side_of}
+use Rattle.sequence_data.specs.Weights.{weight}
+use Rattle.sequence_form.specs.Counts.{problem_rows}
+use Rattle.sequence_form.specs.Forms.{IsTableForm, IsTreeForm}
+use Rattle.sequence_form.specs.Laws.{columns_of, rows_of}
+use Rattle.sequence_form.proofs.Laws.{table_stands, tree_stands}
+use Rattle.zero_sum_lp.specs.PlanPairs.{PlanPair}
+use Rattle.lemke_pivot.specs.Ends.{IsSolutionOf}
+use Rattle.lemke_pivot.specs.FormProblems.{problem_in}
+use Rattle.lemke_pivot.specs.Parts.{IsProblem, IsProblemOfForm, Problem, plan_one, plan_two}
+use Rattle.lemke_pivot.proofs.FormProblemLemmas.{problems_of_forms}
+use Rattle.lemke_pivot.proofs.PathStartLemmas.{solves_the_form}
+use Rattle.two_player_tools.specs.GameTypes.{IsGame}
+use Rattle.two_player_tools.specs.Lcp.{plans_at}
+use Rattle.two_player_tools.specs.LcpLaws.{AreInEquilibrium, LcpTextsAreEquilibria, weights_of}
+use Rattle.two_player_tools.specs.TwoPlayers.{form_in}
+use Rattle.refusals.specs.declared.refusal.Refusal.{Refusal}
+use Rattle.two_player_tools.proofs.KeptPropertyLemmas.{TreesAreGames, form_in-valid, two_who_recall}
+use Rattle.two_player_tools.proofs.LcpPlanLemmas.{HavePrices, have_prices}
+
+-- how a form is solved: its problem, and the problem's solution
+pub record IsPivoting (f : FormData) (p s : Problem) : Type 0 where
+  pub valid : IsFormData f
+  pub problem : problem_in f (Ok p)
+  pub solution : IsSolutionOf p s
+
+module _ (f : FormData) (p s : Problem) (h : IsPivoting f p s) where
+  pub first-is : s.first ≡ f.first
+  first-is = h.solution.first ∙ h.problem.2.2.1.1.first
+
+  pub second-is : s.second ≡ f.second
+  second-is = h.solution.second ∙ h.problem.2.2.1.1.second
+
+  pub first-count : f.first.sequences ≡ sequences (side_of s.first)
+  first-count = h.valid.first_is.sequences_are ∙ sym (ap (λ (d : SideData). sequences (side_of d)) first-is)
+
+  pub second-count : f.second.sequences ≡ sequences (side_of s.second)
+  second-count = h.valid.second_is.sequences_are ∙ sym (ap (λ (d : SideData). sequences (side_of d)) second-is)
+
+  is_problem : IsProblem p
+  is_problem = (problems_of_forms f p h.valid h.problem).0
+
+  is_of_form : IsProblemOfForm (form f) f.greatest_one f.greatest_two p
+  is_of_form = (problems_of_forms f p h.valid h.problem).1
+
+  solved : HavePrices (form f) f.greatest_one f.greatest_two (plans_at s)
+  solved =
+      have_prices (form f) f.greatest_one f.greatest_two s (is_of_form.rows ∙ ap side_of (sym h.solution.first)) (is_of_form.columns ∙ ap side_of (sym h.solution.second))
+      (solves_the_form (form f) f.greatest_one f.greatest_two p s is_problem is_of_form h.solution)
+
+  on_table : (t : GameTable) → IsTable t → IsTableForm t f → is_table_equilibrium (game_of t) (mixed_of (weights_of (plans_at s)))
+  on_table t w k =
+      let stands = table_stands t f w k in
+      solutions_on_tables (game_of t) (rows_of t) (columns_of t) (form f) f.greatest_one f.greatest_two (weight (plans_at s).one) (weight (plans_at s).two) solved.P solved.P' solved.Q solved.Q' stands.strategies_are stands.alike solved.solves
+
+  on_tree : (t : GameTree) (before : List (Option (ℕ × ℕ))) → TreesAreGames → IsTree t → IsRecallOf (game_of_tree t) before → IsTreeForm (game_of_tree t) f → IsEquilibrium (game_of_tree t) (behaviour_of (game_of_tree t) (weights_of (plans_at s)))
+  on_tree t before laws w recall k =
+      solutions_on_trees (game_of_tree t) (form f) f.greatest_one f.greatest_two (weight (plans_at s).one) (weight (plans_at s).two) solved.P solved.P' solved.Q solved.Q' (two_who_recall t f before laws w recall k) (tree_stands (game_of_tree t) f k).alike solved.solves
+
+  equilibrium : (strategic : Bool) (game : Game) → TreesAreGames → IsGame game → form_in problem_rows strategic game (Ok f) → AreInEquilibrium strategic game (plans_at s)
+  equilibrium true (Strategic t) laws w k = on_table t w k.2
+  equilibrium false (Strategic t) laws w k = on_table t w k.2
+  equilibrium true (Extensive t) laws w k = (k.0, k.1, on_table k.0.table k.1.0.is_table k.2.2)
+  equilibrium false (Extensive t) laws w k = on_tree t k.0 laws w k.1 k.2.2
+
+-- two plans of one answer
+plans_same : (a b : PlanPair) → ◌≡◌ {A = Result PlanPair Refusal} (Ok a) (Ok b) → a ≡ b
+plans_same a b e = cc
+
+text_same : (a b : List ℕ) → ◌≡◌ {A = Result (List ℕ) Refusal} (Ok a) (Ok b) → a ≡ b
+text_same a b e = cc
+
+pub lcp_texts : TreesAreGames → LcpTextsAreEquilibria
+lcp_texts laws strategic game text w (_, _, (f, k, (plans, (p, problem, (s, solution, same)), (entries, are_entries, e)))) =
+    let h : IsPivoting f p s = record { valid = form_in-valid problem_rows strategic game f laws w k; problem = problem; solution = solution } in
+    let are : plans ≡ plans_at s = plans_same plans (plans_at s) same in
+    record {
+      form = f;
+      is_form = k;
+      plans = plans;
+      one_has_all = ap (λ (v : PlanPair). length v.one) are ∙ length-listed (sequences (side_of s.first)) (plan_one s) ∙ sym (first-count f p s h);
+      two_has_all = ap (λ (v : PlanPair). length v.two) are ∙ length-listed (sequences (side_of s.second)) (plan_two s) ∙ sym (second-count f p s h);
+      equilibrium = subst (AreInEquilibrium strategic game) (sym are) (equilibrium f p s h strategic game laws w k);
+      entries = entries;
+      are_entries = are_entries;
+      text_is = text_same text (line_text entries) e;
+    }

@@ -1,0 +1,95 @@
+-- The texts of `lp` are those of solutions.
+use Rattle.std.proofs.Common.{ℕ, suc, ◌≡◌, ◌∙◌, sym, ap, subst, Bool, true, false, if◌then◌else◌, Option, List, [], ◌++◌, length, Result, Ok}
+use Rattle.game_theory.specs.Lines.{line_text}
+use Rattle.game_core.specs.Table.{GameTable, IsTable, game_of}
+use Rattle.game_core.specs.Tree.{GameTree, IsTree}
+use Rattle.game_core.specs.TreeGame.{game_of_tree}
+use Rattle.game_core.specs.declared.game.Game.{Game}
+use Rattle.game_core.specs.declared.game.Game.TheVariants.{Strategic, Extensive}
+use Rattle.perfect_recall.specs.Found.{IsRecallOf}
+use Rattle.sequence_forms.specs.PriceLaws.{ProvesValueOfTree}
+use Rattle.sequence_forms.specs.TableLaws.{ProvesValueOfTable}
+use Rattle.sequence_data.specs.Data.{FormData, IsFormData, SideData, form}
+use Rattle.sequence_data.specs.Weights.{weight}
+use Rattle.sequence_data.specs.declared.types.Leaf.{Leaf}
+use Rattle.sequence_form.specs.Counts.{size_of_program}
+use Rattle.sequence_form.specs.Forms.{IsTableForm, IsTreeForm, profile_leaf}
+use Rattle.sequence_form.specs.Laws.{columns_of, rows_of}
+use Rattle.sequence_form.specs.Paths.{leaf_at}
+use Rattle.sequence_form.proofs.Laws.{table_stands, tree_stands}
+use Rattle.zero_sum_lp.specs.Parts.{IsProgram, Program, first_prices, second_prices}
+use Rattle.zero_sum_lp.specs.PlanPairs.{PlanPair}
+use Rattle.zero_sum_lp.specs.ValueLaws.{IsProgramOfForm}
+use Rattle.zero_sum_lp.proofs.FormLaws.{programs_of_forms}
+use Rattle.zero_sum_lp.proofs.ValueLemmas.{plans_prove, plans_solve_tables, plans_solve_trees}
+use Rattle.two_player_tools.specs.GameTypes.{IsGame}
+use Rattle.two_player_tools.specs.Lp.{Solution, listed_prices, prices_in, prices_text, solution, solution_text}
+use Rattle.two_player_tools.specs.LpLaws.{HoldsOn, IsSolved, LpTextsAreSolutions, ProvesValue}
+use Rattle.two_player_tools.specs.TwoPlayers.{form_in}
+use Rattle.refusals.specs.declared.refusal.Refusal.{Refusal}
+use Rattle.two_player_tools.proofs.ConstantSumLemmas.{constant_of, sums_to, table_sums, tree_sums}
+use Rattle.two_player_tools.proofs.KeptPropertyLemmas.{IsSolving, TreesAreGames, first-same, form_in-valid, second-same, two_who_recall}
+
+-- two values of one answer
+ok_same : {Y : Type 0} (a b : Y) → ◌≡◌ {A = Result Y Refusal} (Ok a) (Ok b) → a ≡ b
+ok_same a b e = cc
+
+-- ---- solutions
+module _ (f : FormData) (p o : Program) (plans : PlanPair) (h : IsSolving f p o plans) where
+  is_program : IsProgram p
+  is_program = (programs_of_forms f p h.valid h.program).0
+
+  is_of_form : IsProgramOfForm (form f) f.least_one p
+  is_of_form = (programs_of_forms f p h.valid h.program).1
+
+  proves : ProvesValue f (solution f o plans)
+  proves = record {
+    first = first_prices o;
+    second = second_prices o;
+    first_are = ap (λ (s : SideData). listed_prices (suc (length s.sets)) (first_prices o)) (first-same f p o plans h);
+    second_are = ap (λ (s : SideData). listed_prices (suc (length s.sets)) (second_prices o)) (second-same f p o plans h);
+    proof = plans_prove (form f) f.least_one p o plans is_program is_of_form h.optimum h.planned;
+  }
+
+  on_table : (t : GameTable) → IsTable t → IsTableForm t f → ProvesValueOfTable (game_of t) (weight plans.one) (weight plans.two) (solution f o plans).value
+  on_table t w k =
+      let none : Leaf = profile_leaf t 0 in
+      let stands = table_stands t f w k in
+      let sums = table_sums t f (constant_of f none) w k (sums_to f none h.valid h.program.2.2.1) in
+      plans_solve_tables (game_of t) (rows_of t) (columns_of t) (form f) f.least_one (constant_of f none) p o plans stands.strategies_are stands.alike sums is_program is_of_form h.optimum h.planned
+
+  on_tree : (t : GameTree) (before : List (Option (ℕ × ℕ))) → TreesAreGames → IsTree t → IsRecallOf (game_of_tree t) before → IsTreeForm (game_of_tree t) f → ProvesValueOfTree (game_of_tree t) (weight plans.one) (weight plans.two) (solution f o plans).value
+  on_tree t before laws w recall k =
+      let none : Leaf = leaf_at (game_of_tree t) 0 in
+      let two = two_who_recall t f before laws w recall k in
+      let sums = tree_sums (game_of_tree t) f (constant_of f none) k (sums_to f none h.valid h.program.2.2.1) in
+      plans_solve_trees (game_of_tree t) (form f) f.least_one (constant_of f none) p o plans two (tree_stands (game_of_tree t) f k).alike sums is_program is_of_form h.optimum h.planned
+
+  holds : (strategic : Bool) (game : Game) → TreesAreGames → IsGame game → form_in size_of_program strategic game (Ok f) → HoldsOn strategic game (solution f o plans)
+  holds true (Strategic t) laws w k = on_table t w k.2
+  holds false (Strategic t) laws w k = on_table t w k.2
+  holds true (Extensive t) laws w k = (k.0, k.1, on_table k.0.table k.1.0.is_table k.2.2)
+  holds false (Extensive t) laws w k = on_tree t k.0 laws w k.1 k.2.2
+
+-- ---- texts
+lines_are : (asked : Bool) (f : FormData) (s : Solution) (lines : List ℕ) → prices_in asked f s (Ok lines) → lines ≡ (if asked then prices_text f s else [])
+lines_are false f s lines e = ok_same lines [] e
+lines_are true f s lines h = ok_same lines (prices_text f s) h.2
+
+solved_text : (strategic asked : Bool) (game : Game) (text : List ℕ) (f : FormData) (p o : Program) (plans : PlanPair) (s : Solution) → TreesAreGames → IsGame game → form_in size_of_program strategic game (Ok f) → IsSolving f p o plans → s ≡ solution f o plans
+    → solution_text strategic asked game f s (Ok text) → IsSolved strategic asked game text
+solved_text strategic asked game text f p o plans s laws w k h same (entries, are_entries, (lines, are_lines, e)) = record {
+  form = f;
+  is_form = k;
+  solution = s;
+  proves = subst (ProvesValue f) (sym same) (proves f p o plans h);
+  holds = subst (HoldsOn strategic game) (sym same) (holds f p o plans h strategic game laws w k);
+  entries = entries;
+  are_entries = are_entries;
+  text_is = ok_same text (line_text entries ++ lines) e ∙ ap (λ v. line_text entries ++ v) (lines_are asked f s lines are_lines);
+}
+
+pub lp_texts : TreesAreGames → LpTextsAreSolutions
+lp_texts laws strategic asked game text w (_, _, (f, k, (s, (p, program, (o, optimum, (plans, planned, same))), h))) =
+    let valid : IsFormData f = form_in-valid size_of_program strategic game f laws w k in
+    solved_text strategic asked game text f p o plans s laws w k (record { valid = valid; program = program; optimum = optimum; planned = planned }) (ok_same s (solution f o plans) same) h

@@ -1,0 +1,9 @@
+pub mod Entries
+pub mod GameTypes
+pub mod Lcp
+pub mod LcpLaws
+pub mod Lp
+pub mod LpLaws
+pub mod PlanWeights
+pub mod Solved
+pub mod TwoPlayers

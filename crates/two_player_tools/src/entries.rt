@@ -1,0 +1,78 @@
+// The line of two plans.
+ghost use Rattle.std.specs.Prelude.{◌≡◌, ◌++◌, false, drop, length, IfOk};
+ghost use Rattle.answers.specs.Answers.{Gives, map_ok};
+ghost use Rattle.game_theory.specs.Lines.{line_text};
+ghost use Rattle.game_core.specs.TreeGame.{game_of_tree};
+ghost use Rattle.game_core.specs.declared.game.Game.TheVariants.{Extensive};
+ghost use Rattle.sequence_form.specs.Forms.{IsTreeForm};
+ghost use Rattle.two_player_tools.specs.Entries.{line_in};
+ghost use Rattle.two_player_tools.specs.TwoPlayers.{IsFormOf};
+
+use behaviour_profile::Behaviour;
+use frac128::{Frac, Memory};
+use game_core::{Game, Tree};
+use ne_printer::line;
+use refusals::Refusal;
+use sequence_form::SeqForm;
+use std::alloc::Global;
+
+// The weights of all sequences but the empty one, which are those of the strategies.
+fn strategies(alloc: Global, one: &[Frac], two: &[Frac]) -> Result<Vec<Frac>, Memory>
+    ensures { IfOk result (λ entries. entries.items ≡ drop 1 one.now ++ drop 1 two.now) }
+{
+    let mut entries = Vec::new(alloc);
+    if let Some((_, weights)) = one.split_first() {
+        entries.extend_from_slice(weights)?;
+    }
+    if let Some((_, weights)) = two.split_first() {
+        entries.extend_from_slice(weights)?;
+    }
+    Ok(entries)
+}
+
+// The line of the strategies' weights.
+fn strategies_line(alloc: Global, one: &[Frac], two: &[Frac]) -> Result<Vec<u8>, Memory>
+    ensures { IfOk result (λ text. text.items ≡ line_text (drop 1 one.now ++ drop 1 two.now)) }
+{
+    let entries = strategies(alloc, one, two)?;
+    line(alloc, &entries)
+}
+
+// The line of the behaviour of two plans on a tree.
+fn behaviour_line(
+    alloc: Global,
+    tree: &Tree,
+    form: &SeqForm,
+    one: &[Frac],
+    two: &[Frac],
+) -> Result<Vec<u8>, Refusal>
+    requires form { IsTreeForm (game_of_tree tree.now) form.now }
+    requires one { length one.now ≡ form.now.first.sequences }
+    requires two { length two.now ≡ form.now.second.sequences }
+    ensures { Gives Refusal.Memory (line_in false (Extensive tree.now) one.now two.now)
+        (map_ok result (λ text. text.items)) }
+{
+    let behaviour = Behaviour::from_plans(alloc, tree, form, one, two)?;
+    Ok(line(alloc, behaviour.entries())?)
+}
+
+/// The line of two plans: the strategies' weights, or on a tree the behaviour of the plans.
+pub fn plans_line(
+    alloc: Global,
+    strategic: bool,
+    game: &Game,
+    form: &SeqForm,
+    one: &[Frac],
+    two: &[Frac],
+) -> Result<Vec<u8>, Refusal>
+    requires form { IsFormOf strategic game.now form.now }
+    requires one { length one.now ≡ form.now.first.sequences }
+    requires two { length two.now ≡ form.now.second.sequences }
+    ensures { Gives Refusal.Memory (line_in strategic game.now one.now two.now)
+        (map_ok result (λ text. text.items)) }
+{
+    match game {
+        Game::Extensive(tree) if !strategic => behaviour_line(alloc, tree, form, one, two),
+        _ => Ok(strategies_line(alloc, one, two)?),
+    }
+}

@@ -1,0 +1,29 @@
+// The tool `lcp`.
+ghost use Rattle.answers.specs.Answers.{Gives, map_ok};
+ghost use Rattle.two_player_tools.specs.Lcp.{lcp};
+ghost use Rattle.two_player_tools.specs.LcpLaws.{LcpTextsAreEquilibria};
+
+use crate::entries::plans_line;
+use crate::pivoting::equilibrium_in;
+use crate::two_players::{Method, form_in, two_players};
+use game_core::{Game, sets_are_numbered_by_first_nodes, trees_are_game_trees};
+use refusals::Refusal;
+use std::alloc::Global;
+
+/// The text of `lcp`: the line of an equilibrium of a game.
+pub fn lcp_text(alloc: Global, strategic: bool, game: &Game) -> Result<Vec<u8>, Refusal>
+    ensures { Gives Refusal.Memory (lcp strategic game.now) (map_ok result (λ text. text.items)) }
+{
+    two_players(game)?;
+    let form = form_in(alloc, Method::Complementarity, strategic, game)?;
+    let plans = equilibrium_in(alloc, &form)?;
+    plans_line(alloc, strategic, game, &form, &plans.one, &plans.two)
+}
+
+/// Each text of `lcp` is the line of an equilibrium of the game.
+pub fn lcp_texts_are_equilibria()
+    ensures { LcpTextsAreEquilibria }
+{
+    trees_are_game_trees();
+    sets_are_numbered_by_first_nodes();
+}

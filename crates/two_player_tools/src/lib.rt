@@ -1,0 +1,45 @@
+//! The tools `lp` and `lcp` on a game that was read: a sequence form, its solution by a linear program
+//! or by complementary pivots, and the text of what is found.
+//!
+//! Callers may rely on: `lp_text` and `lcp_text` give the text that is defined, or the refusal that
+//! the first failing stage gives; `two_players` refuses other games; `lp_texts_are_solutions` and
+//! `lcp_texts_are_equilibria` say what each text is, and `solutions_are_single` that there is one.
+//! Definitions: `specs::TwoPlayers` says which sequence form a tool works on, `Lp` and `Lcp` what each
+//! answers, `Entries` the line of two plans; `LpLaws` and `LcpLaws` what holds of each text.
+//! Private words: `specs::Solved` and `PlanWeights`, for code between stages.
+//! Lemmas for callers: `proofs::FormSingleLemmas`, `LpSingleLemmas`, `LcpSingleLemmas`.
+//! A change here touches: `gambit_tools`, docs/THEOREM.md.
+#![tactic(auto)]
+
+ghost use Rattle.std.specs.Prelude.{Bool};
+ghost use Rattle.answers.specs.Answers.{IsSingle};
+ghost use Rattle.game_core.specs.declared.game.Game.{Game};
+ghost use Rattle.two_player_tools.specs.GameTypes.{IsGame};
+ghost use Rattle.two_player_tools.specs.Lcp.{lcp};
+ghost use Rattle.two_player_tools.specs.Lp.{lp};
+
+use game_core::{sets_are_numbered_by_first_nodes, trees_are_game_trees};
+use perfect_recall::recalls_are_single;
+
+mod entries;
+mod lcp;
+mod lp;
+mod pivoting;
+mod prices;
+mod solving;
+mod two_players;
+
+pub use lcp::{lcp_text, lcp_texts_are_equilibria};
+pub use lp::{lp_text, lp_texts_are_solutions};
+pub use two_players::two_players;
+
+/// A game has at most one answer by each tool.
+pub fn solutions_are_single()
+    ensures lp { (strategic asked : Bool) (game : Game) → IsGame game
+        → IsSingle (lp strategic asked game) }
+    ensures lcp { (strategic : Bool) (game : Game) → IsGame game → IsSingle (lcp strategic game) }
+{
+    trees_are_game_trees();
+    sets_are_numbered_by_first_nodes();
+    recalls_are_single();
+}

@@ -1,0 +1,76 @@
+// The tool `lp`.
+ghost use Rattle.answers.specs.Answers.{Gives, map_ok};
+ghost use Rattle.two_player_tools.specs.Entries.{line_in};
+ghost use Rattle.two_player_tools.specs.Lp.{lp, solution_text};
+ghost use Rattle.two_player_tools.specs.LpLaws.{LpTextsAreSolutions};
+ghost use Rattle.two_player_tools.specs.Solved.{HasSizesOf, solution_of};
+ghost use Rattle.two_player_tools.specs.TwoPlayers.{IsFormOf};
+
+use crate::entries::plans_line;
+use crate::prices::price_lines;
+use crate::solving::{Solved, solve};
+use crate::two_players::{Method, form_in, two_players};
+use game_core::{Game, sets_are_numbered_by_first_nodes, trees_are_game_trees};
+use refusals::Refusal;
+use sequence_form::SeqForm;
+use std::alloc::Global;
+
+// The line of a solution.
+fn solution_line(
+    alloc: Global,
+    strategic: bool,
+    game: &Game,
+    form: &SeqForm,
+    solved: &Solved,
+) -> Result<Vec<u8>, Refusal>
+    requires form { IsFormOf strategic game.now form.now }
+    requires sizes { HasSizesOf form.now solved.now }
+    ensures { Gives Refusal.Memory
+        (line_in strategic game.now solved.now.plans.one solved.now.plans.two)
+        (map_ok result (λ text. text.items)) }
+{
+    let plans = &solved.plans;
+    plans_line(alloc, strategic, game, form, plans.one(), plans.two())
+}
+
+// The text of a solution: its line, and where they are asked for its value and prices.
+fn solution_text(
+    alloc: Global,
+    strategic: bool,
+    asked: bool,
+    game: &Game,
+    form: &SeqForm,
+    solved: &Solved,
+) -> Result<Vec<u8>, Refusal>
+    requires form { IsFormOf strategic game.now form.now }
+    requires sizes { HasSizesOf form.now solved.now }
+    ensures { Gives Refusal.Memory
+        (solution_text strategic asked game.now form.now (solution_of form.now solved.now))
+        (map_ok result (λ text. text.items)) }
+{
+    let mut text = solution_line(alloc, strategic, game, form, solved)?;
+    let lines = price_lines(alloc, asked, form, solved)?;
+    text.extend_from_slice(&lines)?;
+    Ok(text)
+}
+
+/// The text of `lp`: the line of an equilibrium of a game, with its value and prices where they are
+/// asked for.
+pub fn lp_text(alloc: Global, strategic: bool, asked: bool, game: &Game) -> Result<Vec<u8>, Refusal>
+    ensures { Gives Refusal.Memory (lp strategic asked game.now)
+        (map_ok result (λ text. text.items)) }
+{
+    two_players(game)?;
+    let form = form_in(alloc, Method::LinearProgram, strategic, game)?;
+    let solved = solve(alloc, &form)?;
+    solution_text(alloc, strategic, asked, game, &form, &solved)
+}
+
+/// Each text of `lp` is that of an equilibrium of the game, whose value the plans and prices of the
+/// same solution prove. The prices are printed where they are asked for.
+pub fn lp_texts_are_solutions()
+    ensures { LpTextsAreSolutions }
+{
+    trees_are_game_trees();
+    sets_are_numbered_by_first_nodes();
+}

@@ -1,0 +1,112 @@
+// What the tools for two players need of a game.
+ghost use Rattle.std.specs.Prelude.{◌≡◌, length};
+ghost use Rattle.answers.specs.Answers.{Gives};
+ghost use Rattle.sequence_form.specs.Counts.{AreFew};
+ghost use Rattle.two_player_tools.specs.TwoPlayers.{players_of, two_players, rows_by, within_rows, form_of_table, form_of_tree, form_in};
+
+use game_core::{Game, Table, Tree, What};
+use perfect_recall::find_recall;
+use reduced_form::reduce;
+use refusals::Refusal;
+use sequence_form::{
+    Counts, SeqForm, build, build_table, counts_table, counts_tree, program_size, rows,
+};
+use std::alloc::Global;
+
+/// The most rows of a problem, or rows and columns of a program together.
+const MOST_ROWS: u64 = 512;
+
+/// How a sequence form is solved: by its linear program, or by its complementarity problem.
+#[derive(Clone, Copy, Debug, PartialEq, Eq)]
+pub enum Method {
+    LinearProgram,
+    Complementarity,
+}
+
+/// How many players a game has.
+fn player_count(game: &Game) -> u32
+    ensures { result ≡ players_of game.now }
+{
+    match game {
+        Game::Strategic(table) => table.players().len() as u32,
+        Game::Extensive(tree) => tree.players().len() as u32,
+    }
+}
+
+/// Refuses a game that does not have two players. Takes no memory.
+pub fn two_players(game: &Game) -> Result<(), Refusal>
+    ensures { two_players game.now result }
+{
+    let count = player_count(game);
+    if count == 2 {
+        Ok(())
+    } else {
+        Err(Refusal::NotTwoPlayers { count })
+    }
+}
+
+/// How many rows a form of these sizes has: of its linear program with the columns, or of its
+/// complementarity problem.
+fn row_count(method: Method, sizes: &Counts) -> u64
+    requires { AreFew sizes.now }
+    ensures { result ≡ rows_by method sizes.now }
+{
+    match method {
+        Method::LinearProgram => program_size(sizes),
+        Method::Complementarity => rows(sizes),
+    }
+}
+
+/// Refuses a problem with more rows than there may be. Takes no memory.
+fn within_rows(rows: u64) -> Result<(), Refusal>
+    ensures { within_rows rows result }
+{
+    if rows <= MOST_ROWS {
+        return Ok(());
+    }
+    Err(Refusal::TooLarge {
+        what: What::Rows,
+        count: rows,
+        limit: MOST_ROWS,
+    })
+}
+
+/// The sequence form of a table, where the rows that the method counts are within the limit.
+fn form_of_table(alloc: Global, method: Method, table: &Table) -> Result<SeqForm, Refusal>
+    requires { length table.now.players ≡ 2 }
+    ensures { Gives Refusal.Memory (form_of_table (rows_by method) table.now) result }
+{
+    within_rows(row_count(method, &counts_table(table)))?;
+    Ok(build_table(alloc, table)?)
+}
+
+/// The sequence form of a tree, where the rows that the method counts are within the limit.
+fn form_of_tree(alloc: Global, method: Method, tree: &Tree) -> Result<SeqForm, Refusal>
+    requires { length tree.now.players ≡ 2 }
+    ensures { Gives Refusal.Memory (form_of_tree (rows_by method) tree.now) result }
+{
+    let recall = find_recall(alloc, tree)?;
+    within_rows(row_count(method, &counts_tree(tree)))?;
+    Ok(build(alloc, tree, &recall)?)
+}
+
+/// The sequence form of a game, where the rows that the method counts are within the limit: of a
+/// tree by its own sequences, or by its reduced strategies.
+pub fn form_in(
+    alloc: Global,
+    method: Method,
+    strategic: bool,
+    game: &Game,
+) -> Result<SeqForm, Refusal>
+    requires { players_of game.now ≡ 2 }
+    ensures { Gives Refusal.Memory (form_in (rows_by method) strategic game.now) result }
+{
+    match game {
+        Game::Strategic(table) => form_of_table(alloc, method, table),
+        Game::Extensive(tree) if strategic => {
+            let reduced = reduce(alloc, tree)?;
+            form_of_table(alloc, method, reduced.table())
+        }
+        Game::Extensive(tree) => form_of_tree(alloc, method, tree),
+    }
+}
