@@ -1,7 +1,6 @@
 pub mod AscendingOrderLemmas
 pub mod EndListLemmas
 pub mod LeftOutDecisionLemmas
-pub mod LinkedDecisionLemmas
 pub mod ReachedDecisionLemmas
 pub mod StepLemmas
 pub mod WalkStepLemmas

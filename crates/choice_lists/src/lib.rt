@@ -5,7 +5,7 @@
 //! `count_ends` their number up to a limit, the first without a walk if no set has two decisions.
 //! Definitions: `specs::Walks` has decisions that are linked (`AreLinked`) and their choice lists
 //! (`AreWalks`).
-//! Private words: `specs::Ends`, `Ways` and `LeftOut`, how the code walks and counts; `Tested`.
+//! Private words: `specs::Ends`, `Ways` and `LeftOut`, how the code walks and counts.
 //! Lemmas for callers: `proofs::EndListLemmas` on the ends of a walk, `AscendingOrderLemmas` on
 //! lists in order.
 //! A change here touches: `strategy_lists`, `reduced_form` and `enumpure_trees`.

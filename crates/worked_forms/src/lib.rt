@@ -1,5 +1,5 @@
-//! Games as they are read, reduced forms, recall and sequence forms, as tests over their crates,
-//! and pure equilibria beside a plain listing by the definition. The program calls nothing here.
+//! Games as they are read, recall and sequence forms, as tests over their crates, and pure
+//! equilibria beside a plain listing by the definition. The program calls nothing here.
 #![tactic(auto)]
 
 #[cfg(test)]
@@ -12,5 +12,3 @@ mod recall;
 mod second_body;
 #[cfg(test)]
 mod sequences;
-#[cfg(test)]
-mod tests;

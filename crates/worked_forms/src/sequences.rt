@@ -1,8 +1,8 @@
 // The sequence form of worked trees and of a table.
 use crate::games::{ALONE, ENTRY, POKER, tree_of};
-use crate::tests::push_payoffs;
-use frac128::Memory;
+use frac128::{Frac, Memory};
 use game_core::{Table, Tree};
+use ne_printer::fraction;
 use perfect_recall::find_recall;
 use reduced_form::reduce;
 use sequence_form::{
@@ -24,6 +24,15 @@ p "" 2 1 "" 0
 t "" 0
 t "" 3
 t "" 5 "" { 100, -100 }"#;
+
+// Adds payoffs, each after a space.
+fn push_payoffs(alloc: Global, text: &mut Vec<u8>, payoffs: &[Frac]) -> Result<(), Memory> {
+    for payoff in payoffs {
+        text.push(b' ')?;
+        text.extend_from_slice(&fraction(alloc, *payoff)?)?;
+    }
+    Ok(())
+}
 
 // Each cell with its weight and payoffs, and then the greatest payoffs of both players and the least of the first.
 fn form_text(alloc: Global, form: &SeqForm) -> Result<Vec<u8>, Memory> {

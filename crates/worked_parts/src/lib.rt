@@ -1,11 +1,7 @@
-//! Fractions, numbers, tokens, lines, command lines and choice lists, as tests over their crates.
-//! Nothing here is called by the program.
+//! Fractions, numbers, tokens, lines and command lines, as tests over their crates. Nothing here is
+//! called by the program.
 #![tactic(auto)]
 
-#[cfg(test)]
-mod choice_counts;
-#[cfg(test)]
-mod choices;
 #[cfg(test)]
 mod command_lines;
 #[cfg(test)]

@@ -1,4 +1,4 @@
-use game_text::{Spanned, TextFault, TextKind, TextStop, Token, Tokens, read_tokens};
+use game_text::{Spanned, Token, Tokens, read_tokens};
 use std::alloc::{AllocError, Global};
 
 // Each token with its span: a text in quotes, a word after `=`, a number as a fraction.
@@ -60,25 +60,5 @@ fn reads_tokens(rt: HostRuntime) {
         let read = shown(rt.alloc(), &tokens).expect(&rt, "memory");
         assert!(rt; read.as_slice() == expected);
         assert!(rt; tokens.source_length() == source.len());
-    }
-}
-
-#[test]
-fn names_the_first_fault(rt: HostRuntime) {
-    for (source, at, kind) in [
-        (b"ab \"cd".as_slice(), 3, TextKind::OpenText),
-        (b"\"ab\\\"", 0, TextKind::OpenText),
-        (b"\"", 0, TextKind::OpenText),
-        (b"a #", 2, TextKind::BadChar),
-        (b"\x80", 0, TextKind::BadChar),
-        (b"a\x00", 1, TextKind::BadChar),
-        (b"{ 1/0", 2, TextKind::BadNumber),
-        (b"\t1a", 1, TextKind::BadNumber),
-        (b"1e19", 0, TextKind::NumberTooLarge),
-        (b"1/0 # \"", 0, TextKind::BadNumber),
-        (b"\"a\" # 1/0", 4, TextKind::BadChar),
-    ] {
-        let stop = read_tokens(rt.alloc(), source).err();
-        assert!(rt; stop == Some(TextStop::Fault(TextFault { at, kind })));
     }
 }
