@@ -1,6 +1,6 @@
 // Games as text that several tests read.
 use efg_reader::read;
-use game_core::{Table, Tree};
+use game_core::Tree;
 use game_text::read_tokens;
 use std::alloc::Global;
 
@@ -13,14 +13,6 @@ pub fn tree_of(alloc: Global, text: &[u8]) -> Option<Tree> {
         return None;
     }
     read(alloc, &tokens).ok()
-}
-
-// The table that a text stands for; nothing where it is none.
-pub fn table_of(alloc: Global, text: &[u8]) -> Option<Table> {
-    let Ok(tokens) = read_tokens(alloc, text) else {
-        return None;
-    };
-    nfg_reader::read(alloc, &tokens).ok()
 }
 
 pub const POKER: &[u8] = br#"EFG 2 R "A simple Poker game" { "Fred" "Alice" } ""
@@ -96,18 +88,3 @@ t "" 1 "Out" { 0, 2 }
 p "" 2 1 "" { "Fight" "Accommodate" } 0
 t "" 2 "Fight" { -1, -1 }
 t "" 3 "Share" { 1, 1 }"#;
-
-// The way of `TWO_WAYS`, and another player's set after it; no end pays anything.
-pub const ALL_ZERO: &[u8] = br#"EFG 2 R "" { "A" "B" }
-p "" 1 1 "" { "L" "R" } 0
-p "" 1 2 "" { "a" "b" } 0
-t "" 0
-p "" 2 1 "" { "u" "v" "w" } 0
-t "" 0
-t "" 0
-t "" 0
-p "" 1 3 "" { "x" "y" } 0
-p "" 1 2 "" { "a" "b" } 0
-t "" 0
-t "" 0
-t "" 0"#;
