@@ -1,5 +1,5 @@
-//! Games as they are read, recall and sequence forms, as tests over their crates, and pure
-//! equilibria beside a plain listing by the definition. The program calls nothing here.
+//! Trees as they are read, recall and sequence forms, as tests over their crates. The program calls
+//! nothing here.
 #![tactic(auto)]
 
 #[cfg(test)]
@@ -8,7 +8,5 @@ mod games;
 mod reading;
 #[cfg(test)]
 mod recall;
-#[cfg(test)]
-mod second_body;
 #[cfg(test)]
 mod sequences;

@@ -40,17 +40,6 @@ impl<'a> Case<'a> {
         Ok(end.out.taken() == taken && end.is_done())
     }
 
-    /// Whether the run writes these lines, without the last line feed here, and ends with status 0.
-    pub fn lists<R: Threads + Sync>(
-        &self,
-        rt: &R,
-        alloc: Global,
-        lines: &str,
-    ) -> Result<bool, Stop> {
-        let end = self.ends(rt, alloc, &OpenGate)?;
-        Ok(are_lines(end.out.taken(), lines) && end.is_done())
-    }
-
     /// How the run ends.
     pub fn ends<R: Threads + Sync, G: Gate>(
         &self,
@@ -92,14 +81,6 @@ impl End {
     fn is_done(&self) -> bool {
         self.status == 0 && self.err.taken().is_empty()
     }
-}
-
-/// Whether a text is these lines, of which the last has no line feed here; no lines are an empty text.
-pub fn are_lines(text: &[u8], lines: &str) -> bool {
-    if lines.is_empty() {
-        return text.is_empty();
-    }
-    text.strip_suffix(b"\n") == Some(lines.as_bytes())
 }
 
 // Words as a run takes them.

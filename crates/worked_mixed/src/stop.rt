@@ -1,5 +1,5 @@
 // Why a test does not end.
-use frac128::{Memory, Unfit};
+use frac128::Memory;
 use std::alloc::{AllocError, AllocFailed};
 
 /// There was no memory, or a step on two fractions does not fit.
@@ -24,11 +24,5 @@ impl From<AllocError> for Stop {
 impl<T: Drop> From<AllocFailed<T>> for Stop {
     fn from(_refused: AllocFailed<T>) -> Stop {
         Stop::Memory
-    }
-}
-
-impl From<Unfit> for Stop {
-    fn from(_unfit: Unfit) -> Stop {
-        Stop::Unfit
     }
 }
