@@ -6,7 +6,8 @@
 //! Definitions: `specs::Written` has the nodes as they are written, `Described` the tree that they
 //! describe, `Building` how a tree grows node by node.
 //! Lemmas for callers: `proofs::PartialTreeLemmas`, a partial tree without open branches is a tree.
-//! A change here touches: `efg_reader`, which reads such nodes, and what `run` says of trees.
+//! A change here touches: `tree_grammar` and `efg_reader`, which read such nodes, and what `run`
+//! says of trees.
 #![tactic(auto)]
 
 ghost use Rattle.written_trees.specs.Laws.{WholeTreesAreTrees, BuiltIsDescribed, DescribedIsBuilt, LimitsAreExact};
