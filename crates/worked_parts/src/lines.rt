@@ -1,4 +1,5 @@
 // Lines of profiles: how they are written, and which are read.
+use crate::fractions::parsed;
 use frac128::{Frac, Memory};
 use ne_printer::{LineStop, fraction, line, push_numbers, read_line};
 use std::alloc::Global;
@@ -24,12 +25,6 @@ NE,-1
 NE,0.5
 NE,170141183460469231731687303715884105728
 NE,0000000000000000000000000000000000000001";
-
-// The fraction that a word is.
-fn parsed(word: &str) -> Option<Frac> {
-    let (num, den) = word.split_once('/')?;
-    Frac::new(num.parse::<i128>().ok()?, den.parse::<i128>().ok()?)
-}
 
 // The fractions among words.
 fn fractions(alloc: Global, words: &str) -> Result<Vec<Frac>, Memory> {
