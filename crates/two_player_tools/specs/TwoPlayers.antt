@@ -19,8 +19,8 @@ use Rattle.sequence_form.specs.declared.counts.Counts.{Counts}
 use Rattle.refusals.specs.Told.{form_refusal, recall_refusal, sequence_refusal}
 use Rattle.refusals.specs.declared.refusal.Refusal.{Refusal}
 use Rattle.refusals.specs.declared.refusal.Refusal.TheVariants as refusal
-use Rattle.two_player_tools.specs.declared.two_players.Method.{Method}
-use Rattle.two_player_tools.specs.declared.two_players.Method.TheVariants.{LinearProgram, Complementarity}
+use Rattle.two_player_tools.specs.declared.forms.Method.{Method}
+use Rattle.two_player_tools.specs.declared.forms.Method.TheVariants.{LinearProgram, Complementarity}
 
 -- how many players a game has
 abbrev pub players_of : Game → ℕ

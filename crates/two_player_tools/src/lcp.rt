@@ -4,8 +4,8 @@ ghost use Rattle.two_player_tools.specs.Lcp.{lcp};
 ghost use Rattle.two_player_tools.specs.LcpLaws.{LcpTextsAreEquilibria};
 
 use crate::entries::plans_line;
+use crate::forms::{Method, form_in, two_players};
 use crate::pivoting::equilibrium_in;
-use crate::two_players::{Method, form_in, two_players};
 use game_core::{Game, sets_are_numbered_by_first_nodes, trees_are_game_trees};
 use refusals::Refusal;
 use std::alloc::Global;

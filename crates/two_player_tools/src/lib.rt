@@ -22,16 +22,16 @@ use game_core::{sets_are_numbered_by_first_nodes, trees_are_game_trees};
 use perfect_recall::recalls_are_single;
 
 mod entries;
+mod forms;
 mod lcp;
 mod lp;
 mod pivoting;
 mod prices;
 mod solving;
-mod two_players;
 
+pub use forms::two_players;
 pub use lcp::{lcp_text, lcp_texts_are_equilibria};
 pub use lp::{lp_text, lp_texts_are_solutions};
-pub use two_players::two_players;
 
 /// A game has at most one answer by each tool.
 pub fn solutions_are_single()

@@ -7,9 +7,9 @@ ghost use Rattle.two_player_tools.specs.Solved.{HasSizesOf, solution_of};
 ghost use Rattle.two_player_tools.specs.TwoPlayers.{IsFormOf};
 
 use crate::entries::plans_line;
+use crate::forms::{Method, form_in, two_players};
 use crate::prices::price_lines;
 use crate::solving::{Solved, solve};
-use crate::two_players::{Method, form_in, two_players};
 use game_core::{Game, sets_are_numbered_by_first_nodes, trees_are_game_trees};
 use refusals::Refusal;
 use sequence_form::SeqForm;

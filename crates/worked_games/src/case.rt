@@ -49,8 +49,8 @@ impl<'a> Case<'a> {
         Ok(status == self.status && taken)
     }
 
-    /// How the run ends: its status and both sinks.
-    pub fn ends<R: Threads + Sync>(
+    // How the run ends: its status and both sinks.
+    fn ends<R: Threads + Sync>(
         &self,
         rt: &R,
         alloc: Global,
