@@ -2,21 +2,25 @@
 use Rattle.std.proofs.Common.{ℕ, ◌<◌, ◌≤◌, ◌≡◌, ◌+◌, refl, sym, ap, ◌∙◌, subst, subst₂, arith, inl, inr, List, [], ◌∷◌, ◌++◌, length, get_or, map, eq-or-lt_of_le}
 use Rattle.std.proofs.Math.Seq.{get_or-append_seam}
 use Rattle.std.proofs.Math.ListN.{get_or-map}
-use Rattle.std.proofs.lemmas.List.{length-append, length-map, get_or_append_left}
+use Rattle.std.proofs.lemmas.List.{length-append, length-map, get_or_append_left, get_or_default}
+use Rattle.std.proofs.lemmas.List.Elements.{Contains-get_or}
 use Rattle.frac128.specs.declared.steps.Unfit.{Unfit}
 use Rattle.lex_tableau.specs.Rows.{Numbers}
 use Rattle.whole_rows.specs.Steps.{AllFit, IsFirstUnfit}
 use Rattle.basis_enum.specs.Levels as L
 use Rattle.basis_enum.specs.Levels.{Levels, no_tableau, IsChild, AreNextMoves, IsNextLevel, count, most, steps_of}
-use Rattle.basis_enum.specs.Ends.{IsFirstUnfitMove}
+use Rattle.basis_enum.specs.Ends.{IsAscendingListOf, IsFirstUnfitMove}
 use Rattle.basis_enum.specs.declared.children.ChildStop.{ChildStop}
 use Rattle.basis_enum.specs.declared.children.ChildStop.TheVariants as stops
+use Rattle.basis_enum.specs.declared.children.Expansion.{Expansion}
 use Rattle.basis_enum.specs.declared.moves.Move.{Move}
 use Rattle.basis_enum.specs.Next.{no_move, move_of}
 use Rattle.basis_enum.specs.declared.children.Made.{Made}
-use Rattle.basis_enum.specs.Found.{AreFound, AreFoundIn}
+use Rattle.basis_enum.specs.declared.children.Reached.{Reached}
+use Rattle.basis_enum.specs.Found.{AreFoundIn}
 use Rattle.basis_enum.proofs.LevelMoveLemmas.{found_in_start, found_in_new}
-use Rattle.basis_enum.specs.Children.{AreChildren, IsChildStop, IsChildStopAt, IsMadeFrom}
+use Rattle.basis_enum.specs.Walks.{HaveEntering, IsUnfitMove}
+use Rattle.basis_enum.specs.Children.{AreChildren, AreMoves, IsChildStop, IsChildStopAt, IsMadeFrom, IsReachedAt}
 
 pub children_start : (level : List Numbers) (moves : List Move) → AreChildren level moves 0 []
 children_start level moves = record { within = omega arith; size = refl; each = λ i h. absurd (omega arith) }
@@ -48,26 +52,41 @@ first_unfit level moves n next unfit w c h =
     }
 
 -- the stop of a pivot whose children before it are there
-pub stop_at : (level : List Numbers) (moves : List Move) (n : ℕ) (next : List Numbers) (stop : ChildStop) → n < length moves → AreChildren level moves n next → IsChildStopAt level moves n stop → IsChildStop level moves stop
-stop_at level moves n next (stops.Unfit place unfit) w c h = subst (λ p. IsFirstUnfitMove level (map move_of moves) p unfit) (sym h.0) (first_unfit level moves n next unfit w c h.1)
-stop_at level moves n next stops.Memory w c h = tt
+stop_at : (e : Expansion) (n : ℕ) (next : List Numbers) (stop : ChildStop) → n < length e.moves.now → AreChildren e.level.now e.moves.now n next → IsChildStopAt e n stop → IsChildStop e stop
+stop_at e n next (stops.Unfit place unfit) w c h = subst (λ p. IsFirstUnfitMove e.level.now (map move_of e.moves.now) p unfit) (sym h.0) (first_unfit e.level.now e.moves.now n next unfit w c h.1)
+stop_at e n next stops.Memory w c h = tt
+
+-- the pivot that does not fit goes from this basis, with this variable entering it
+pub unfit_move : (e : Expansion) (place : ℕ) (unfit : Unfit) (t : Numbers) (basics basis : List ℕ) → AreMoves e.level.now e.moves.now → HaveEntering e.level.now e.moves.now → IsChildStop e (stops.Unfit place unfit) → basics ≡ (get_or e.level.now (get_or e.moves.now place no_move).parent t).basics → IsAscendingListOf basics basis → IsUnfitMove e.level.now e.moves.now basis (get_or e.moves.now place no_move).entering unfit
+unfit_move e place unfit t basics basis are enter stop is ascending =
+    let moves = e.moves.now in
+    let within : place < length moves = subst (λ n. place < n) (length-map moves move_of) stop.within in
+    let m = get_or moves place no_move in
+    let among = Contains-get_or moves place no_move within in
+    let parent = get_or_default e.level.now m.parent t no_tableau (are m among).parent in
+    record {
+      place = place;
+      first = stop;
+      basis_is = subst (λ k. IsAscendingListOf (L.parent_of e.level.now k).basics basis) (sym (moved_at moves place)) (subst (λ b. IsAscendingListOf b basis) (is ∙ ap (λ u. u.basics) parent) ascending);
+      variable_is = enter m among ∙ ap (L.entering e.level.now) (sym (moved_at moves place));
+    }
 
 -- nothing is made at first
-pub made_start : (level : List Numbers) (moves : List Move) (known : List ℕ) (made : Made) → made.tableaux.items ≡ [] → made.moves.items ≡ [] → IsMadeFrom level moves known made
-made_start level moves known made none no_moves = record {
-  tableaux = subst (λ xs. AreChildren level moves (length xs) xs) (sym none) (children_start level moves);
-  moves_are = subst₂ (λ xs ms. AreFoundIn xs known ms) (sym none) (sym no_moves) (found_in_start known);
+pub made_start : (e : Expansion) (made : Made) → made.tableaux.items ≡ [] → made.moves.items ≡ [] → IsMadeFrom e made
+made_start e made none no_moves = record {
+  tableaux = subst (λ xs. AreChildren e.level.now e.moves.now (length xs) xs) (sym none) (children_start e.level.now e.moves.now);
+  moves_are = subst₂ (λ xs ms. AreFoundIn xs e.known.now ms) (sym none) (sym no_moves) (found_in_start e.known.now);
 }
 
 -- the stop of the pivot after those that are made
-pub stop_made : (level : List Numbers) (moves : List Move) (known : List ℕ) (made : Made) (n : ℕ) (stop : ChildStop) → length made.tableaux.items ≡ n → n < length moves → IsMadeFrom level moves known made → IsChildStopAt level moves n stop → IsChildStop level moves stop
-stop_made level moves known made n stop is within m here = stop_at level moves n made.tableaux.items stop within (subst (λ k. AreChildren level moves k made.tableaux.items) is m.tableaux) here
+pub stop_made : (e : Expansion) (made : Made) (n : ℕ) (stop : ChildStop) → length made.tableaux.items ≡ n → n < length e.moves.now → IsMadeFrom e made → IsChildStopAt e n stop → IsChildStop e stop
+stop_made e made n stop is within m here = stop_at e n made.tableaux.items stop within (subst (λ k. AreChildren e.level.now e.moves.now k made.tableaux.items) is m.tableaux) here
 
 -- one more tableau is made, with its pivots
-pub made_more : (level : List Numbers) (moves : List Move) (known : List ℕ) (old new : Made) (n : ℕ) (t : Numbers) (more : List Move) → length old.tableaux.items ≡ n → n < length moves → new.tableaux.items ≡ old.tableaux.items ++ t ∷ [] → new.moves.items ≡ old.moves.items ++ more → IsMadeFrom level moves known old → IsChild level (move_of (get_or moves n no_move)) t → AreFound t n known (length t.nonbasics) more → IsMadeFrom level moves known new
-made_more level moves known old new n t more is within pushed added m child found = record {
-  tableaux = children_new level moves n _ old.tableaux.items _ t within (ap length pushed ∙ length-append old.tableaux.items (t ∷ []) ∙ ap (λ k. k + 1) is) pushed (subst (λ k. AreChildren level moves k old.tableaux.items) is m.tableaux) child;
-  moves_are = found_in_new old.tableaux.items _ known old.moves.items more _ t n is pushed added m.moves_are found;
+pub made_more : (e : Expansion) (old new : Made) (n : ℕ) (r : Reached) → length old.tableaux.items ≡ n → n < length e.moves.now → new.tableaux.items ≡ old.tableaux.items ++ r.tableau ∷ [] → new.moves.items ≡ old.moves.items ++ r.found.moves.items → IsMadeFrom e old → IsReachedAt e n r → IsMadeFrom e new
+made_more e old new n r is within pushed added m reached = record {
+  tableaux = children_new e.level.now e.moves.now n _ old.tableaux.items _ r.tableau within (ap length pushed ∙ length-append old.tableaux.items (r.tableau ∷ []) ∙ ap (λ k. k + 1) is) pushed (subst (λ k. AreChildren e.level.now e.moves.now k old.tableaux.items) is m.tableaux) reached.child;
+  moves_are = found_in_new old.tableaux.items _ e.known.now old.moves.items r.found.moves.items _ r.tableau n is pushed added m.moves_are reached.found;
 }
 
 -- the children of all next pivots are the next level

@@ -30,7 +30,7 @@ use Rattle.basis_enum.specs.Marks.{AreInOrder, AreMarksOf, AreUpTo, IsVertexOf}
 use Rattle.basis_enum.specs.Merged.{IsMerged}
 use Rattle.basis_enum.specs.Next.{AreNewMoves, move_of, no_move, target_of}
 use Rattle.basis_enum.specs.Vertices.{VertexList, mark_of, marks_of}
-use Rattle.basis_enum.specs.Walks.{levels_of, IsFirst, IsWalkAt, IsWalkToEnd, HaveEntering, IsMoveStop, IsLimitStop, IsUnfitMove, AddsMoreVertices, AddsVertices}
+use Rattle.basis_enum.specs.Walks.{levels_of, IsFirst, IsWalkAt, IsWalkToEnd, HaveEntering, IsMoveStop, IsCountStop, IsLimitStop, IsUnfitMove, AddsMoreVertices, AddsVertices}
 use Rattle.basis_enum.proofs.LevelMoveLemmas.{basis_at, found_in_start, found_in_more, move_is, target_is_there, entering_is, next_are}
 use Rattle.basis_enum.proofs.NextLevelLemmas.{next_level}
 use Rattle.basis_enum.proofs.VertexMarkLemmas.{reached_numbered, no_marks, marks_more, are_vertices}
@@ -179,7 +179,7 @@ walk_next s k w new moves bases enumerable h n some few c e m adds =
     merged = subst (λ xs. IsMerged w.known.items xs new.known.items) told m
 
 -- ---- the ends
-pub limit_stop : (s : Parts) (k : ℕ) (w : Walk) (moves : List Move) (e : EnumStop) → IsWalkAt s k w → AreNewMoves w.level.items w.known.items moves → IsLimitStop (length w.known.items + length moves) e → IsEnumStop s e
+limit_stop : (s : Parts) (k : ℕ) (w : Walk) (moves : List Move) (e : EnumStop) → IsWalkAt s k w → AreNewMoves w.level.items w.known.items moves → IsLimitStop (length w.known.items + length moves) e → IsEnumStop s e
 limit_stop s k w moves (stops.TooLarge limit) h n p =
     let counts : length w.known.items ≡ length (h.before ++ w.level.items) = h.count in
     let sizes : length (map move_of moves) ≡ length moves = length-map moves move_of in
@@ -192,6 +192,10 @@ limit_stop s k w moves (stops.TooLarge limit) h n p =
 limit_stop s k w moves (stops.Start row unfit) h n p = absurd p
 limit_stop s k w moves (stops.Range number basis variable unfit) h n p = absurd p
 limit_stop s k w moves stops.Memory h n p = absurd p
+
+pub count_stop : (s : Parts) (k : ℕ) (w : Walk) (moves : List Move) (e : EnumStop) → IsWalkAt s k w → AreNewMoves w.level.items w.known.items moves → IsCountStop (length w.known.items + length moves) e → IsEnumStop s e
+count_stop s k w moves e h n (inl memory) = inl memory
+count_stop s k w moves e h n (inr past) = limit_stop s k w moves e h n past
 
 stopped : (s : Parts) (k : ℕ) (w : Walk) (moves : List Move) (basis : List ℕ) (variable : ℕ) (unfit : Unfit) → (h : IsWalkAt s k w) → AreNewMoves w.level.items w.known.items moves → length w.known.items + length moves ≤ 20000 → IsUnfitMove w.level.items moves basis variable unfit → IsUnfitChild (levels_of h.before w.level.items) basis variable unfit
 stopped s k w moves basis variable unfit h n few u =
@@ -217,10 +221,10 @@ level_many s (suc k) l (p, hp, n) =
     let some : 0 < length n.moves = n.some in
     omega arith
 
-pub walk_ends : (s : Parts) (w : Walk) → IsWalkAt s 20000 w → ⊥
-walk_ends s w h =
-    let few : length (h.before ++ w.level.items) ≤ 20000 = level_few s 20000 (levels_of h.before w.level.items) h.is_level in
-    let many : 20000 < length (h.before ++ w.level.items) = level_many s 20000 (levels_of h.before w.level.items) h.is_level in
+pub walk_early : (s : Parts) (k : ℕ) (w : Walk) → IsWalkAt s k w → k < 20000
+walk_early s k w h =
+    let few : length (h.before ++ w.level.items) ≤ 20000 = level_few s k (levels_of h.before w.level.items) h.is_level in
+    let many : k < length (h.before ++ w.level.items) = level_many s k (levels_of h.before w.level.items) h.is_level in
     omega arith
 
 -- ---- level 0

@@ -1,18 +1,22 @@
 -- The tableaux of the next level
-use Rattle.std.specs.Prelude.{ℕ, ◌<◌, ◌≤◌, ◌≡◌, List, length, get_or, map}
+use Rattle.std.specs.Prelude.{ℕ, ◌+◌, ◌^◌, ◌<◌, ◌≤◌, ◌≡◌, List, Result, length, get_or, map, MatchResult}
 use Rattle.std.specs.List.{Contains}
+use Rattle.std.specs.List.Sorted.{IsStrictlyIncreasing}
 use Rattle.lex_tableau.specs.Rows.{Numbers}
 use Rattle.lex_tableau.specs.Starts.{Parts}
 use Rattle.whole_rows.specs.Steps.{IsFirstUnfit}
+use Rattle.basis_enum.specs.Levels as L
 use Rattle.basis_enum.specs.Levels.{no_tableau, IsMove, IsChild, steps_of}
 use Rattle.basis_enum.specs.Ends.{IsFirstUnfitMove}
 use Rattle.basis_enum.specs.declared.moves.Move.{Move}
 use Rattle.basis_enum.specs.declared.children.ChildStop.{ChildStop}
+use Rattle.basis_enum.specs.declared.children.Expansion.{Expansion}
 use Rattle.basis_enum.specs.declared.children.Made.{Made}
+use Rattle.basis_enum.specs.declared.children.Reached.{Reached}
 use Rattle.basis_enum.specs.declared.children.ChildStop.TheVariants.{Unfit, Memory}
 use Rattle.basis_enum.specs.Bases.{basis_of}
-use Rattle.basis_enum.specs.Found.{AreFoundIn, IsReady}
-use Rattle.basis_enum.specs.Marks.{AreUpTo}
+use Rattle.basis_enum.specs.Found.{AreFound, AreFoundIn, AreReady, IsReady}
+use Rattle.basis_enum.specs.Marks.{AreUpTo, IsVertexOf}
 use Rattle.basis_enum.specs.Next.{no_move, move_of}
 use Rattle.basis_enum.specs.Systems.{variable_count}
 
@@ -28,22 +32,47 @@ pub record AreChildren (level : List Numbers) (moves : List Move) (n : ℕ) (nex
   pub each : (i : ℕ) → i < n
       → IsChild level (move_of (get_or moves i no_move)) (get_or next i no_tableau)
 
--- the tableaux after the first of these pivots, and the pivots from there to new bases
-pub record IsMadeFrom (level : List Numbers) (moves : List Move) (known : List ℕ) (made : Made)
-    : Type 0 where
-  pub tableaux : AreChildren level moves (length made.tableaux.items) made.tableaux.items
-  pub moves_are : AreFoundIn made.tableaux.items known made.moves.items
+-- the tableaux after all pivots of an expansion
+abbrev pub AreAllChildren : Expansion → List Numbers → Type 0
+AreAllChildren e = AreChildren e.level.now e.moves.now (length e.moves.now)
 
--- the first step of this pivot that does not fit, or no memory, of which nothing is said
-abbrev pub IsChildStopAt : List Numbers → List Move → ℕ → ChildStop → Type 0
-IsChildStopAt level moves n (Unfit place unfit) =
-    (place ≡ n) × IsFirstUnfit (steps_of level (move_of (get_or moves n no_move))) unfit
-IsChildStopAt level moves n Memory = Unit {0}
+-- the tableaux after the first pivots of an expansion, and the pivots from there to new bases
+pub record IsMadeFrom (e : Expansion) (made : Made) : Type 0 where
+  pub tableaux : AreChildren e.level.now e.moves.now (length made.tableaux.items) made.tableaux.items
+  pub moves_are : AreFoundIn made.tableaux.items e.known.now made.moves.items
+
+-- the pivot of an expansion with this number
+abbrev pub move_at : Expansion → ℕ → L.Move
+move_at e n = move_of (get_or e.moves.now n no_move)
+
+-- the tableau after that pivot
+abbrev pub IsChildAt : Expansion → ℕ → Numbers → Type 0
+IsChildAt e n = IsChild e.level.now (move_at e n)
+
+-- that tableau, the pivots from there to new bases, and its vertex, where it has one
+pub record IsReachedAt (e : Expansion) (n : ℕ) (r : Reached) : Type 0 where
+  pub child : IsChildAt e n r.tableau
+  pub found : AreFound r.tableau n e.known.now (length r.tableau.nonbasics) r.found.moves.items
+  pub vertex : IsVertexOf e.system.now r.tableau r.found.vertex
+
+-- the first step of that pivot that does not fit, or no memory, of which nothing is said
+abbrev pub IsChildStopAt : Expansion → ℕ → ChildStop → Type 0
+IsChildStopAt e n (Unfit place unfit) =
+    (place ≡ n) × IsFirstUnfit (steps_of e.level.now (move_at e n)) unfit
+IsChildStopAt e n Memory = Unit {0}
+
+-- what is told of the pivots of an expansion from this number on
+pub record ArePiecesFrom (e : Expansion) (first : ℕ) (pieces : List (Result Reached ChildStop))
+    : Type 0 where
+  pub size : first + length pieces ≡ length e.moves.now
+  pub each : (n : ℕ) (d : Result Reached ChildStop) → n < length pieces
+      → MatchResult (get_or pieces n d) (IsReachedAt e (first + n)) (IsChildStopAt e (first + n))
 
 -- the first pivot with a step that does not fit, or no memory, of which nothing is said
-abbrev pub IsChildStop : List Numbers → List Move → ChildStop → Type 0
-IsChildStop level moves (Unfit place unfit) = IsFirstUnfitMove level (map move_of moves) place unfit
-IsChildStop level moves Memory = Unit {0}
+abbrev pub IsChildStop : Expansion → ChildStop → Type 0
+IsChildStop e (Unfit place unfit) =
+    IsFirstUnfitMove e.level.now (map move_of e.moves.now) place unfit
+IsChildStop e Memory = Unit {0}
 
 -- what a pivot leads to is ready, with variables of the system, and has the pivot's target
 pub record LeadsToReady (s : Parts) (level : List Numbers) (m : Move) : Type 0 where
@@ -54,3 +83,12 @@ pub record LeadsToReady (s : Parts) (level : List Numbers) (m : Move) : Type 0 w
 -- each of these pivots does
 abbrev pub LeadToReady : Parts → List Numbers → List Move → Type 0
 LeadToReady s level moves = (m : Move) → Contains moves m → LeadsToReady s level m
+
+-- the next level can be made: the pivots are of the level, to tableaux that are ready
+pub record IsExpandable (e : Expansion) : Type 0 where
+  pub few : variable_count e.system.now ≤ 128
+  pub level : AreReady e.level.now
+  pub moves_are : AreMoves e.level.now e.moves.now
+  pub ready : LeadToReady e.system.now e.level.now e.moves.now
+  pub known : IsStrictlyIncreasing e.known.now
+  pub small : length e.moves.now < 2 ^ 32

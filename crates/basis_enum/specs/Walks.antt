@@ -1,5 +1,5 @@
 -- The enumeration on its way, level after level
-use Rattle.std.specs.Prelude.{ℕ, ◌<◌, ◌≡◌, List, [], ◌++◌, length, get_or, map}
+use Rattle.std.specs.Prelude.{ℕ, ◌<◌, ◌≡◌, ◌⊎◌, List, [], ◌++◌, length, get_or, map}
 use Rattle.std.specs.List.{Contains}
 use Rattle.std.specs.List.Sorted.{IsStrictlyIncreasing}
 use Rattle.frac128.specs.declared.steps.Unfit.{Unfit}
@@ -74,6 +74,10 @@ IsLimitStop count (TooLarge limit) = (most < count) × (limit ≡ limit_of count
 IsLimitStop count (Start row unfit) = ⊥
 IsLimitStop count (Range number basis variable unfit) = ⊥
 IsLimitStop count Memory = ⊥
+
+-- so many bases are too many, or no memory, of which nothing is said
+abbrev pub IsCountStop : ℕ → EnumStop → Type 0
+IsCountStop count e = (e ≡ Memory) ⊎ IsLimitStop count e
 
 -- the vertices of these tableaux come to those of any others
 abbrev pub AddsVertices : Parts → List Numbers → List Vertex → List Vertex → Type 0

@@ -1,21 +1,17 @@
 // The tableaux of the next level.
-ghost use Rattle.std.specs.Prelude.{◌≡◌, ◌<◌, ◌≤◌, ◌+◌, ◌^◌, ◌++◌, ◌∷◌, [], length, get_or, option_to_list, IfOk, IfErr, OnOk};
-ghost use Rattle.std.specs.List.Sorted.{IsStrictlyIncreasing};
+ghost use Rattle.std.specs.Prelude.{◌≡◌, ◌<◌, ◌≤◌, ◌+◌, ◌++◌, ◌∷◌, [], length, option_to_list, IfOk, IfErr, MatchResult, OnOk};
 ghost use Rattle.lex_tableau.specs.PivotStops.{IsPivotStop};
 ghost use Rattle.basis_enum.specs.Levels.{IsChild, IsMove, parent_of};
-ghost use Rattle.basis_enum.specs.Children.{AreChildren, AreMoves, IsChildStop, IsChildStopAt, IsMadeFrom, LeadToReady};
-ghost use Rattle.basis_enum.specs.Found.{AreFound, AreFoundIn, AreReady};
-ghost use Rattle.basis_enum.specs.Marks.{IsVertexOf};
-ghost use Rattle.basis_enum.specs.Next.{move_of, no_move};
-ghost use Rattle.basis_enum.specs.Systems.{variable_count};
+ghost use Rattle.basis_enum.specs.Children.{AreAllChildren, ArePiecesFrom, IsChildAt, IsChildStop, IsChildStopAt, IsExpandable, IsMadeFrom, IsReachedAt};
+ghost use Rattle.basis_enum.specs.Found.{AreFoundIn, AreReady};
+ghost use Rattle.basis_enum.specs.Next.{move_of};
 ghost use Rattle.basis_enum.specs.Walks.{AddsVertices, AddsMoreVertices};
 
-use crate::helpers::{Helpers, helpers_worth};
 use crate::marking::add_vertex;
 use crate::moves::{Found, Move, found_from};
 use crate::vertex::Vertex;
 use answers::Memory;
-use claims::{Claims, shared_map};
+use claims::{Claims, Helpers, helpers_worth, shared_map};
 use frac128::Unfit;
 use lex_tableau::{PivotCount, PivotStop, System, Tableau};
 use outside::Gate;
@@ -27,9 +23,19 @@ use std::thread::Threads;
 // How many pieces are made on one thread before it looks for helpers again.
 const PIECES_ALONE: usize = 16;
 
+/// A level and what is read while the next one is made: the system, the tableaux of the level, the
+/// pivots from there to new bases, and the bases that are known, these new ones among them.
+#[derive(Drop)]
+pub(crate) struct Expansion<'a> {
+    pub system: &'a System,
+    pub level: &'a [Tableau],
+    pub moves: &'a [Move],
+    pub known: &'a [u128],
+}
+
 // Why the next level has no tableaux: the place of a pivot with its first step that does not fit,
 // or no memory.
-#[derive(Debug, Drop)]
+#[derive(Drop)]
 pub(crate) enum ChildStop {
     Unfit { place: usize, unfit: Unfit },
     Memory,
@@ -94,19 +100,18 @@ fn pivoted<L: Ledger>(
 }
 
 // The tableau of a new basis.
-fn child(
-    alloc: Global,
-    level: &[Tableau],
-    moves: &[Move],
-    place: usize,
-) -> Result<Tableau, ChildStop>
-    requires level { AreReady level.now }
-    requires moves { AreMoves level.now moves.now }
-    requires place_in { place < length moves.now }
-    ensures child { IfOk result (IsChild level.now (move_of (get_or moves.now place no_move))) }
-    ensures stop { IfErr result (IsChildStopAt level.now moves.now place) }
+fn child(alloc: Global, expansion: &Expansion, place: usize) -> Result<Tableau, ChildStop>
+    requires expandable { IsExpandable expansion.now }
+    requires place_in { place < length expansion.now.moves.now }
+    ensures child { IfOk result (IsChildAt expansion.now place) }
+    ensures stop { IfErr result (IsChildStopAt expansion.now place) }
 {
-    match pivoted::<Brand>(alloc, level, &moves[place], Blank::new(1)) {
+    match pivoted::<Brand>(
+        alloc,
+        expansion.level,
+        &expansion.moves[place],
+        Blank::new(1),
+    ) {
         Ok(tableau) => Ok(tableau),
         Err(PivotStop::Unfit(unfit)) => Err(ChildStop::Unfit { place, unfit }),
         Err(PivotStop::Memory) => Err(ChildStop::Memory),
@@ -117,36 +122,24 @@ fn child(
 // worker passes the gate before the first one, and here before the second.
 fn piece<G: Gate>(
     alloc: Global,
-    system: &System,
-    level: &[Tableau],
-    moves: &[Move],
-    known: &[u128],
+    expansion: &Expansion,
     place: usize,
     gate: &G,
 ) -> Result<Reached, ChildStop>
-    requires few { variable_count system.now ≤ 128 }
-    requires level { AreReady level.now }
-    requires moves { AreMoves level.now moves.now }
-    requires ready { LeadToReady system.now level.now moves.now }
-    requires known { IsStrictlyIncreasing known.now }
-    requires small { length moves.now < 2 ^ 32 }
-    requires place_in { place < length moves.now }
-    ensures child { IfOk result
-        (λ r. IsChild level.now (move_of (get_or moves.now place no_move)) r.tableau) }
-    ensures found { IfOk result (λ r. AreFound r.tableau place known.now
-        (length r.tableau.nonbasics) r.found.moves.items) }
-    ensures vertex { IfOk result (λ r. IsVertexOf system.now r.tableau r.found.vertex) }
-    ensures stop { IfErr result (IsChildStopAt level.now moves.now place) }
+    requires expandable { IsExpandable expansion.now }
+    requires place_in { place < length expansion.now.moves.now }
+    ensures { MatchResult result (IsReachedAt expansion.now place)
+        (IsChildStopAt expansion.now place) }
 {
-    let tableau = child(alloc, level, moves, place)?;
+    let tableau = child(alloc, expansion, place)?;
     gate.pass(place);
     let found = found_from(
         alloc,
-        system,
+        expansion.system,
         &tableau,
         place as u32,
-        moves[place].target,
-        known,
+        expansion.moves[place].target,
+        expansion.known,
     )?;
     Ok(Reached { tableau, found })
 }
@@ -178,38 +171,30 @@ fn add_reached(reached: Reached, made: &mut Made, vertices: &mut Vec<Vertex>) ->
 #[tactic(auto, using(crate::proofs::NextLevelLemmas::stop_made, crate::proofs::WalkLemmas::adding_start))]
 fn make_children<G: Gate, L: Ledger>(
     alloc: Global,
-    system: &System,
-    level: &[Tableau],
-    moves: &[Move],
-    known: &[u128],
+    expansion: &Expansion,
     gate: &G,
     made: &mut Made,
     vertices: &mut Vec<Vertex>,
     pivots: &mut PivotCount<L>,
 ) -> Result<(), ChildStop>
-    requires few { variable_count system.now ≤ 128 }
-    requires level { AreReady level.now }
-    requires moves { AreMoves level.now moves.now }
-    requires ready { LeadToReady system.now level.now moves.now }
-    requires known { IsStrictlyIncreasing known.now }
-    requires small { length moves.now < 2 ^ 32 }
-    requires made { IsMadeFrom level.now moves.now known.now made.old }
-    requires left { length made.old.tableaux.items < length moves.now }
-    ensures made { OnOk result (IsMadeFrom level.now moves.now known.now made.new) }
+    requires expandable { IsExpandable expansion.now }
+    requires made { IsMadeFrom expansion.now made.old }
+    requires left { length made.old.tableaux.items < length expansion.now.moves.now }
+    ensures made { OnOk result (IsMadeFrom expansion.now made.new) }
     ensures more { OnOk result (length made.old.tableaux.items < length made.new.tableaux.items) }
-    ensures vertices { OnOk result (AddsMoreVertices system.now made.old.tableaux.items
-        made.new.tableaux.items vertices.old.items vertices.new.items) }
-    ensures stop { IfErr result (IsChildStop level.now moves.now) }
+    ensures vertices { OnOk result (AddsMoreVertices expansion.now.system.now
+        made.old.tableaux.items made.new.tableaux.items vertices.old.items vertices.new.items) }
+    ensures stop { IfErr result (IsChildStop expansion.now) }
     ensures counted { OnOk result (pivots.new + length made.old.tableaux.items
         ≡ pivots.old + length made.new.tableaux.items) }
     ensures bounded { pivots.new + length made.old.tableaux.items
-        ≤ pivots.old + length moves.now }
+        ≤ pivots.old + length expansion.now.moves.now }
 {
     let first = made.tableaux.len();
-    let end = moves.len().min(first + PIECES_ALONE);
+    let end = expansion.moves.len().min(first + PIECES_ALONE);
     for place in first..end {
         gate.pass(place);
-        let reached = piece(alloc, system, level, moves, known, place, gate)?;
+        let reached = piece(alloc, expansion, place, gate)?;
         pivots.tick();
         add_reached(reached, made, vertices)?;
     }
@@ -217,7 +202,7 @@ fn make_children<G: Gate, L: Ledger>(
 }
 
 // A gate whose pieces count from another number on.
-#[derive(Clone, Copy)]
+#[derive(Drop)]
 struct GateFrom<'a, G> {
     gate: &'a G,
     first: usize,
@@ -229,62 +214,60 @@ impl<G: Gate> Gate for GateFrom<'_, G> {
     }
 }
 
+// The pieces from a number on, which so many workers share.
+fn shared_pieces<R: Threads + Sync, G: Gate>(
+    rt: &R,
+    alloc: Global,
+    expansion: &Expansion,
+    first: usize,
+    workers: u32,
+    gate: &G,
+) -> Result<Vec<Result<Reached, ChildStop>>, Memory>
+    requires expandable { IsExpandable expansion.now }
+    requires workers { (1 ≤ workers) × (workers ≤ 64) }
+    requires first_in { first ≤ length expansion.now.moves.now }
+    ensures { IfOk result (λ v. ArePiecesFrom expansion.now first v.items) }
+{
+    let (claims, mut pass) = Claims::new(alloc)?;
+    let count = expansion.moves.len() - first;
+    let work = |number: usize| -> Result<Reached, ChildStop>
+        requires expandable { IsExpandable expansion.now }
+        requires place_in { first + number < length expansion.now.moves.now }
+        ensures { MatchResult result (IsReachedAt expansion.entry.now (first + number))
+            (IsChildStopAt expansion.entry.now (first + number)) }
+    { piece(alloc, expansion, first + number, gate) };
+    let gate = GateFrom { gate, first };
+    shared_map(rt, alloc, &claims, &mut pass, count, workers, &gate, &work)
+}
+
 // Makes all pieces that are left, which so many workers share.
 #[tactic(auto, using(crate::proofs::NextLevelLemmas::stop_made, crate::proofs::WalkLemmas::adding_start))]
 fn share_children<R: Threads + Sync, G: Gate, L: Ledger>(
     rt: &R,
     alloc: Global,
-    system: &System,
-    level: &[Tableau],
-    moves: &[Move],
-    known: &[u128],
+    expansion: &Expansion,
     workers: u32,
     gate: &G,
     made: &mut Made,
     vertices: &mut Vec<Vertex>,
     pivots: &mut PivotCount<L>,
 ) -> Result<(), ChildStop>
-    requires few { variable_count system.now ≤ 128 }
-    requires level { AreReady level.now }
-    requires moves { AreMoves level.now moves.now }
-    requires ready { LeadToReady system.now level.now moves.now }
-    requires known { IsStrictlyIncreasing known.now }
-    requires small { length moves.now < 2 ^ 32 }
+    requires expandable { IsExpandable expansion.now }
     requires workers { (1 ≤ workers) × (workers ≤ 64) }
-    requires made { IsMadeFrom level.now moves.now known.now made.old }
-    requires left { length made.old.tableaux.items < length moves.now }
-    ensures made { OnOk result (IsMadeFrom level.now moves.now known.now made.new) }
-    ensures all { OnOk result (length made.new.tableaux.items ≡ length moves.now) }
-    ensures vertices { OnOk result (AddsMoreVertices system.now made.old.tableaux.items
-        made.new.tableaux.items vertices.old.items vertices.new.items) }
-    ensures stop { IfErr result (IsChildStop level.now moves.now) }
+    requires made { IsMadeFrom expansion.now made.old }
+    requires left { length made.old.tableaux.items < length expansion.now.moves.now }
+    ensures made { OnOk result (IsMadeFrom expansion.now made.new) }
+    ensures all { OnOk result (length made.new.tableaux.items ≡ length expansion.now.moves.now) }
+    ensures vertices { OnOk result (AddsMoreVertices expansion.now.system.now
+        made.old.tableaux.items made.new.tableaux.items vertices.old.items vertices.new.items) }
+    ensures stop { IfErr result (IsChildStop expansion.now) }
     ensures counted { OnOk result (pivots.new + length made.old.tableaux.items
         ≡ pivots.old + length made.new.tableaux.items) }
     ensures bounded { pivots.new + length made.old.tableaux.items
-        ≤ pivots.old + length moves.now }
+        ≤ pivots.old + length expansion.now.moves.now }
 {
-    let (claims, mut pass) = Claims::new(alloc)?;
     let first = made.tableaux.len();
-    let count = moves.len() - first;
-    let work = |number: usize| -> Result<Reached, ChildStop>
-        requires few { variable_count system.now ≤ 128 }
-        requires level { AreReady level.now }
-        requires moves { AreMoves level.now moves.now }
-        requires ready { LeadToReady system.now level.now moves.now }
-        requires known { IsStrictlyIncreasing known.now }
-        requires small { length moves.now < 2 ^ 32 }
-        requires place_in { first + number < length moves.now }
-        ensures child { IfOk result (λ r. IsChild level.entry.now
-            (move_of (get_or moves.entry.now (first + number) no_move)) r.tableau) }
-        ensures found { IfOk result (λ r. AreFound r.tableau (first + number) known.entry.now
-            (length r.tableau.nonbasics) r.found.moves.items) }
-        ensures vertex { IfOk result
-            (λ r. IsVertexOf system.entry.now r.tableau r.found.vertex) }
-        ensures stop { IfErr result
-            (IsChildStopAt level.entry.now moves.entry.now (first + number)) }
-    { piece(alloc, system, level, moves, known, first + number, gate) };
-    let gate = GateFrom { gate, first };
-    let pieces = shared_map(rt, alloc, &claims, &mut pass, count, workers, &gate, &work)?;
+    let pieces = shared_pieces(rt, alloc, expansion, first, workers, gate)?;
     for piece in pieces {
         pivots.tick();
         add_reached(piece?, made, vertices)?;
@@ -296,44 +279,32 @@ fn share_children<R: Threads + Sync, G: Gate, L: Ledger>(
 fn make_more<R: Threads + Sync, G: Gate, L: Ledger>(
     rt: &R,
     alloc: Global,
-    system: &System,
-    level: &[Tableau],
-    moves: &[Move],
-    known: &[u128],
+    expansion: &Expansion,
     helpers: &Helpers,
     gate: &G,
     made: &mut Made,
     vertices: &mut Vec<Vertex>,
     pivots: &mut PivotCount<L>,
 ) -> Result<(), ChildStop>
-    requires few { variable_count system.now ≤ 128 }
-    requires level { AreReady level.now }
-    requires moves { AreMoves level.now moves.now }
-    requires ready { LeadToReady system.now level.now moves.now }
-    requires known { IsStrictlyIncreasing known.now }
-    requires small { length moves.now < 2 ^ 32 }
-    requires made { IsMadeFrom level.now moves.now known.now made.old }
-    requires left { length made.old.tableaux.items < length moves.now }
-    ensures made { OnOk result (IsMadeFrom level.now moves.now known.now made.new) }
+    requires expandable { IsExpandable expansion.now }
+    requires made { IsMadeFrom expansion.now made.old }
+    requires left { length made.old.tableaux.items < length expansion.now.moves.now }
+    ensures made { OnOk result (IsMadeFrom expansion.now made.new) }
     ensures more { OnOk result (length made.old.tableaux.items < length made.new.tableaux.items) }
-    ensures vertices { OnOk result (AddsMoreVertices system.now made.old.tableaux.items
-        made.new.tableaux.items vertices.old.items vertices.new.items) }
-    ensures stop { IfErr result (IsChildStop level.now moves.now) }
+    ensures vertices { OnOk result (AddsMoreVertices expansion.now.system.now
+        made.old.tableaux.items made.new.tableaux.items vertices.old.items vertices.new.items) }
+    ensures stop { IfErr result (IsChildStop expansion.now) }
     ensures counted { OnOk result (pivots.new + length made.old.tableaux.items
         ≡ pivots.old + length made.new.tableaux.items) }
     ensures bounded { pivots.new + length made.old.tableaux.items
-        ≤ pivots.old + length moves.now }
+        ≤ pivots.old + length expansion.now.moves.now }
 {
-    let taken = helpers.take(helpers_worth(moves.len() - made.tableaux.len()));
+    let taken = helpers.take(helpers_worth(expansion.moves.len() - made.tableaux.len()));
     let more = if taken == 0 {
-        make_children(
-            alloc, system, level, moves, known, gate, made, vertices, pivots,
-        )
+        make_children(alloc, expansion, gate, made, vertices, pivots)
     } else {
         let workers = taken + 1;
-        share_children(
-            rt, alloc, system, level, moves, known, workers, gate, made, vertices, pivots,
-        )
+        share_children(rt, alloc, expansion, workers, gate, made, vertices, pivots)
     };
     helpers.add(taken);
     more
@@ -342,41 +313,31 @@ fn make_more<R: Threads + Sync, G: Gate, L: Ledger>(
 /// The tableaux of the next level, and the pivots from there to new bases, in no stated order. The
 /// vertices of the level are added. Helpers share the pieces from the time on at which they are
 /// idle.
-#[tactic(auto, using(crate::proofs::NextLevelLemmas::made_start, crate::proofs::WalkLemmas::vertices_start))]
 pub(crate) fn children<R: Threads + Sync, G: Gate, L: Ledger>(
     rt: &R,
     alloc: Global,
-    system: &System,
-    level: &[Tableau],
-    moves: &[Move],
-    known: &[u128],
+    expansion: &Expansion,
     helpers: &Helpers,
     gate: &G,
     vertices: &mut Vec<Vertex>,
     pivots: &mut PivotCount<L>,
 ) -> Result<(Vec<Tableau>, Vec<Move>), ChildStop>
-    requires few { variable_count system.now ≤ 128 }
-    requires level { AreReady level.now }
-    requires moves { AreMoves level.now moves.now }
-    requires ready { LeadToReady system.now level.now moves.now }
-    requires known { IsStrictlyIncreasing known.now }
-    requires small { length moves.now < 2 ^ 32 }
-    ensures children { IfOk result
-        (λ p. AreChildren level.now moves.now (length moves.now) p.0.items) }
-    ensures found { IfOk result (λ p. AreFoundIn p.0.items known.now p.1.items) }
-    ensures vertices { IfOk result
-        (λ p. AddsVertices system.now p.0.items vertices.old.items vertices.new.items) }
-    ensures stop { IfErr result (IsChildStop level.now moves.now) }
-    ensures counted { OnOk result (pivots.new ≡ pivots.old + length moves.now) }
-    ensures bounded { pivots.new ≤ pivots.old + length moves.now }
+    requires expandable { IsExpandable expansion.now }
+    ensures children { IfOk result (λ p. AreAllChildren expansion.now p.0.items) }
+    ensures found { IfOk result (λ p. AreFoundIn p.0.items expansion.now.known.now p.1.items) }
+    ensures vertices { IfOk result (λ p. AddsVertices expansion.now.system.now p.0.items
+        vertices.old.items vertices.new.items) }
+    ensures stop { IfErr result (IsChildStop expansion.now) }
+    ensures counted { OnOk result (pivots.new ≡ pivots.old + length expansion.now.moves.now) }
+    ensures bounded { pivots.new ≤ pivots.old + length expansion.now.moves.now }
 {
     let mut made = Made {
-        tableaux: Vec::with_capacity(alloc, moves.len())?,
+        tableaux: Vec::with_capacity(alloc, expansion.moves.len())?,
         moves: Vec::new(alloc),
     };
-    while made.tableaux.len() < moves.len() {
+    while made.tableaux.len() < expansion.moves.len() {
         make_more(
-            rt, alloc, system, level, moves, known, helpers, gate, &mut made, vertices, pivots,
+            rt, alloc, expansion, helpers, gate, &mut made, vertices, pivots,
         )?;
     }
     Ok((made.tableaux, made.moves))

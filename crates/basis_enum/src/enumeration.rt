@@ -6,11 +6,11 @@ ghost use Rattle.basis_enum.specs.declared.stop.EnumStop.TheVariants as stops;
 ghost use Rattle.basis_enum.specs.Enumeration.{vertices_in};
 ghost use Rattle.basis_enum.specs.Vertices.{list_of};
 
-use crate::helpers::Helpers;
 use crate::marking::in_order;
 use crate::stop::EnumStop;
 use crate::vertex::Vertices;
 use crate::walk::reach;
+use claims::Helpers;
 use lex_tableau::{PivotCount, System};
 use outside::Gate;
 use std::alloc::Global;

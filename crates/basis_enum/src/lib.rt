@@ -18,7 +18,6 @@ ghost use Rattle.basis_enum.specs.Laws.{EndsOnce, NumbersOrderBases, CompleteLev
 mod bases;
 mod children;
 mod enumeration;
-mod helpers;
 mod marking;
 mod moves;
 mod stop;
@@ -26,7 +25,6 @@ mod vertex;
 mod walk;
 
 pub use enumeration::{enumerate, enumerate_with};
-pub use helpers::Helpers;
 pub use stop::{Basis, EnumStop};
 pub use vertex::{Vertex, Vertices};
 

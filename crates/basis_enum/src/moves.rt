@@ -19,7 +19,7 @@ use std::cmp::Ordering;
 
 // A pivot on a lexicographic row: the basis to which it leads, the place of its tableau in the
 // level, the variable that enters, the row and the column.
-#[derive(Clone, Copy, Debug)]
+#[derive(Clone, Copy)]
 pub(crate) struct Move {
     pub target: u128,
     pub parent: u32,
@@ -48,7 +48,6 @@ fn target(tableau: &Tableau, basis: u128, row: usize, column: usize) -> u128
 }
 
 // The pivot in a column, where there is one and its basis is new.
-#[tactic(auto, using(crate::proofs::FoundMoveLemmas::no_row))]
 fn move_at(
     tableau: &Tableau,
     parent: u32,
@@ -78,7 +77,6 @@ fn move_at(
 }
 
 // The pivots from a tableau to new bases, column by column.
-#[tactic(auto, using(crate::proofs::FoundMoveLemmas::found_start, crate::proofs::FoundMoveLemmas::found_none, crate::proofs::FoundMoveLemmas::found_push))]
 fn moves_from(
     alloc: Global,
     tableau: &Tableau,

@@ -1,22 +1,24 @@
 // The enumeration on its way, level after level.
-ghost use Rattle.std.specs.Prelude.{◌≡◌, ◌<◌, ◌≤◌, ◌+◌, ◌^◌, length, IfErr, IfOk, OnOk};
+ghost use Rattle.std.specs.Prelude.{◌≡◌, ◌<◌, ◌≤◌, ◌+◌, ℕ, [], ◌∷◌, length, map, IfErr, IfOk, OnOk};
+ghost use Rattle.std.specs.List.{Contains};
 ghost use Rattle.std.specs.List.Sorted.{IsStrictlyIncreasing};
 ghost use Rattle.basis_enum.specs.Ends.{IsAscendingListOf};
-ghost use Rattle.basis_enum.specs.Systems.{IsEnumerable, variable_count};
-ghost use Rattle.basis_enum.specs.Children.{AreChildren, AreMoves, IsChildStop, LeadToReady};
+ghost use Rattle.basis_enum.specs.Systems.{IsEnumerable};
+ghost use Rattle.basis_enum.specs.Children.{AreAllChildren, IsChildStop, IsExpandable};
 ghost use Rattle.basis_enum.specs.Enumeration.{IsEnumStop};
-ghost use Rattle.basis_enum.specs.Found.{AreFoundIn, AreReady};
-ghost use Rattle.basis_enum.specs.Next.{AreNewMoves, AreSmall, IsNextOf};
-ghost use Rattle.basis_enum.specs.Walks.{AddsVertices, HaveEntering, IsFirst, IsLimitStop, IsMoveStop, IsWalkAt, IsWalkToEnd};
+ghost use Rattle.basis_enum.specs.Found.{AreFoundIn};
+ghost use Rattle.basis_enum.specs.Merged.{IsMerged};
+ghost use Rattle.basis_enum.specs.Next.{AreNewMoves, AreSmall, IsNextOf, target_of};
+ghost use Rattle.basis_enum.specs.Walks.{AddsVertices, HaveEntering, IsCountStop, IsFirst, IsLimitStop, IsMoveStop, IsWalkAt, IsWalkToEnd};
 
 use crate::bases::{basis, merged};
-use crate::children::{ChildStop, children};
-use crate::helpers::Helpers;
+use crate::children::{ChildStop, Expansion, children};
 use crate::marking::add_vertex;
 use crate::moves::{Move, found_from, next_moves, targets};
 use crate::stop::{Basis, EnumStop};
 use crate::vertex::Vertex;
 use answers::Memory;
+use claims::Helpers;
 use game_core::{TooLarge, What};
 use lex_tableau::{PivotCount, StartStop, System, Tableau};
 use outside::Gate;
@@ -53,6 +55,15 @@ fn first(alloc: Global, system: &System) -> Result<Tableau, EnumStop>
     }
 }
 
+// The list of one item.
+fn list_of<T: Drop>(alloc: Global, item: T) -> Result<Vec<T>, Memory>
+    ensures { IfOk result (λ list. list.items ≡ item ∷ []) }
+{
+    let mut list = Vec::new(alloc);
+    list.push(item)?;
+    Ok(list)
+}
+
 // Level 0, and the pivots to the next one.
 fn start<G: Gate>(alloc: Global, system: &System, gate: &G) -> Result<(Walk, Vec<Move>), EnumStop>
     requires enumerable { IsEnumerable system.now }
@@ -63,12 +74,10 @@ fn start<G: Gate>(alloc: Global, system: &System, gate: &G) -> Result<(Walk, Vec
 {
     let tableau = first(alloc, system)?;
     let basis = basis(system.nonbasics());
-    let mut known = Vec::new(alloc);
-    known.push(basis)?;
+    let known = list_of(alloc, basis)?;
     gate.pass(0);
     let found = found_from(alloc, system, &tableau, 0, basis, known.as_slice())?;
-    let mut level = Vec::new(alloc);
-    level.push(tableau)?;
+    let level = list_of(alloc, tableau)?;
     let mut vertices = Vec::new(alloc);
     add_vertex(&mut vertices, found.vertex)?;
     let moves = next_moves(alloc, found.moves)?;
@@ -84,32 +93,23 @@ fn start<G: Gate>(alloc: Global, system: &System, gate: &G) -> Result<(Walk, Vec
 fn ascending(alloc: Global, variables: &[u32]) -> Result<Vec<u32>, Memory>
     ensures { IfOk result (λ v. IsAscendingListOf variables.now v.items) }
 {
-    let mut list = Vec::new(alloc);
-    for variable in variables {
-        list.push(*variable)?;
-    }
+    let mut list = variables.to_vec(alloc)?;
     list.sort_unstable();
     list.dedup();
     Ok(list)
 }
 
 // The refusal of the next level.
-fn refusal(
-    alloc: Global,
-    level: &[Tableau],
-    moves: &[Move],
-    number: u32,
-    stop: ChildStop,
-) -> EnumStop
-    requires moves { AreMoves level.now moves.now }
-    requires entering { HaveEntering level.now moves.now }
-    requires stop { IsChildStop level.now moves.now stop }
-    ensures { IsMoveStop level.now moves.now number result }
+fn refusal(alloc: Global, expansion: &Expansion, number: u32, stop: ChildStop) -> EnumStop
+    requires expandable { IsExpandable expansion.now }
+    requires entering { HaveEntering expansion.now.level.now expansion.now.moves.now }
+    requires stop { IsChildStop expansion.now stop }
+    ensures { IsMoveStop expansion.now.level.now expansion.now.moves.now number result }
 {
     match stop {
         ChildStop::Unfit { place, unfit } => {
-            let next = moves[place];
-            match ascending(alloc, level[next.parent as usize].basics()) {
+            let next = expansion.moves[place];
+            match ascending(alloc, expansion.level[next.parent as usize].basics()) {
                 Ok(variables) => EnumStop::Range {
                     level: number,
                     basis: Basis::new(variables),
@@ -128,37 +128,27 @@ fn refusal(
 fn next_level<R: Threads + Sync, G: Gate, L: Ledger>(
     rt: &R,
     alloc: Global,
-    system: &System,
-    level: &[Tableau],
-    moves: &[Move],
-    known: &[u128],
+    expansion: &Expansion,
     number: u32,
     helpers: &Helpers,
     gate: &G,
     vertices: &mut Vec<Vertex>,
     pivots: &mut PivotCount<L>,
 ) -> Result<(Vec<Tableau>, Vec<Move>), EnumStop>
-    requires few { variable_count system.now ≤ 128 }
-    requires level { AreReady level.now }
-    requires moves { AreMoves level.now moves.now }
-    requires entering { HaveEntering level.now moves.now }
-    requires ready { LeadToReady system.now level.now moves.now }
-    requires known { IsStrictlyIncreasing known.now }
-    requires small { length moves.now < 2 ^ 32 }
-    ensures children { IfOk result
-        (λ p. AreChildren level.now moves.now (length moves.now) p.0.items) }
-    ensures found { IfOk result (λ p. AreFoundIn p.0.items known.now p.1.items) }
-    ensures vertices { IfOk result
-        (λ p. AddsVertices system.now p.0.items vertices.old.items vertices.new.items) }
-    ensures stop { IfErr result (IsMoveStop level.now moves.now number) }
-    ensures counted { OnOk result (pivots.new ≡ pivots.old + length moves.now) }
-    ensures bounded { pivots.new ≤ pivots.old + length moves.now }
+    requires expandable { IsExpandable expansion.now }
+    requires entering { HaveEntering expansion.now.level.now expansion.now.moves.now }
+    ensures children { IfOk result (λ p. AreAllChildren expansion.now p.0.items) }
+    ensures found { IfOk result (λ p. AreFoundIn p.0.items expansion.now.known.now p.1.items) }
+    ensures vertices { IfOk result (λ p. AddsVertices expansion.now.system.now p.0.items
+        vertices.old.items vertices.new.items) }
+    ensures stop { IfErr result
+        (IsMoveStop expansion.now.level.now expansion.now.moves.now number) }
+    ensures counted { OnOk result (pivots.new ≡ pivots.old + length expansion.now.moves.now) }
+    ensures bounded { pivots.new ≤ pivots.old + length expansion.now.moves.now }
 {
-    match children(
-        rt, alloc, system, level, moves, known, helpers, gate, vertices, pivots,
-    ) {
+    match children(rt, alloc, expansion, helpers, gate, vertices, pivots) {
         Ok(next) => Ok(next),
-        Err(stop) => Err(refusal(alloc, level, moves, number, stop)),
+        Err(stop) => Err(refusal(alloc, expansion, number, stop)),
     }
 }
 
@@ -177,6 +167,21 @@ fn check_count(bases: usize, moves: &[Move]) -> Result<(), EnumStop>
         }));
     }
     Ok(())
+}
+
+// The bases that are known, and with them those to which these pivots lead.
+fn known_after(alloc: Global, known: &[u128], moves: &[Move]) -> Result<Vec<u128>, EnumStop>
+    requires few { length known.now ≤ 20000 }
+    requires known { IsStrictlyIncreasing known.now }
+    requires rising { IsStrictlyIncreasing (map target_of moves.now) }
+    requires new { (b : ℕ) → Contains known.now b → ¬ (Contains (map target_of moves.now) b) }
+    ensures few { OnOk result (length known.now + length moves.now ≤ 20000) }
+    ensures merged { IfOk result (λ v. IsMerged known.now (map target_of moves.now) v.items) }
+    ensures stop { IfErr result (IsCountStop (length known.now + length moves.now)) }
+{
+    check_count(known.len(), moves)?;
+    let new = targets(alloc, moves)?;
+    Ok(merged(alloc, known, new.as_slice())?)
 }
 
 // The pivots to the next level. The level before is not needed any more: where it is large and a
@@ -230,21 +235,16 @@ fn advance<R: Threads + Sync, G: Gate, L: Ledger>(
         ≡ pivots.old + length walk.new.known.items) }
     ensures bounded { pivots.new + length walk.old.known.items ≤ pivots.old + 20000 }
 {
-    check_count(walk.known.len(), moves)?;
-    let bases = targets(alloc, moves)?;
-    let known = merged(alloc, walk.known.as_slice(), bases.as_slice())?;
-    let (level, found) = next_level(
-        rt,
-        alloc,
+    let known = known_after(alloc, walk.known.as_slice(), moves)?;
+    let expansion = Expansion {
         system,
-        walk.level.as_slice(),
+        level: walk.level.as_slice(),
         moves,
-        known.as_slice(),
-        number,
-        helpers,
-        gate,
-        &mut walk.vertices,
-        pivots,
+        known: known.as_slice(),
+    };
+    let vertices = &mut walk.vertices;
+    let (level, found) = next_level(
+        rt, alloc, &expansion, number, helpers, gate, vertices, pivots,
     )?;
     let before = mem::replace(&mut walk.level, level);
     walk.known = known;
@@ -267,11 +267,9 @@ pub(crate) fn reach<R: Threads + Sync, G: Gate, L: Ledger>(
     ensures bounded { pivots.new ≤ pivots.old + 19999 }
 {
     let (mut walk, mut moves) = start(alloc, system, gate)?;
-    for number in 0..MOST_BASES as u32 {
-        if moves.is_empty() {
-            return Ok(walk);
-        }
-        let next = advance(
+    let mut number = 0;
+    while !moves.is_empty() {
+        moves = advance(
             rt,
             alloc,
             system,
@@ -282,7 +280,7 @@ pub(crate) fn reach<R: Threads + Sync, G: Gate, L: Ledger>(
             gate,
             pivots,
         )?;
-        moves = next;
+        number += 1;
     }
-    unreachable!()
+    Ok(walk)
 }

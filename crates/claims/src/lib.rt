@@ -1,8 +1,9 @@
-//! Numbers that threads claim from one word, each once; and work that is shared among threads by
-//! such claims.
+//! Numbers that threads claim from one word, each once; work that is shared among threads by such
+//! claims; and idle workers, who may help with it.
 //!
 //! Callers may rely on: `shared_map`, whose list has at each index what the function gives there,
-//! however many workers; a pass with all parts knows each number below its count claimed once.
+//! however many workers; a pass with all parts knows each number below its count claimed once;
+//! `Helpers` gives no more idle workers than it is asked for.
 //! Definitions: `specs::ClaimWord` has `PassState`, what contracts see of a `Pass`, with
 //! `HasEachBelow` and `KnowsWhole`.
 //! Private words: `specs::Pieces`, and `KeepsClaims`, the rule of the claim word.
@@ -10,7 +11,9 @@
 #![tactic(auto)]
 
 mod claim_word;
+mod helpers;
 mod sharing;
 
 pub use claim_word::{Claims, Pass};
+pub use helpers::{Helpers, helpers_worth};
 pub use sharing::shared_map;

@@ -17,7 +17,8 @@ ghost use Rattle.enummixed.specs.declared.stop.MixedStop.TheVariants as stops;
 
 use crate::points::{all_labels, scaled_points, used_places};
 use crate::stop::MixedStop;
-use basis_enum::{EnumStop, Helpers, Vertex, Vertices, enumerate_with};
+use basis_enum::{EnumStop, Vertex, Vertices, enumerate_with};
+use claims::Helpers;
 use frac128::{Frac, Memory};
 use game_core::Table;
 use label_pairing::pairs;

@@ -97,5 +97,5 @@ module _ (t : Tree) (b : Behaviour) (i : ℕ) (choice other : ℕ → ℕ) (w : 
   -- the steps of the player
   pub steps-alike : player_steps t b i choice ≡ player_steps t b i other
   steps-alike =
-      ap₂ (λ x y. now_steps_at t b i 0 ++ weight_steps t b i ++ x ++ y)
+      ap₂ (λ x y. now_steps_at t b i 0 ++ (weight_steps t b i ++ x ++ y))
       (turned-alike (own_sets t i) _ _ (λ s among. parts-alike (t.actions s) _ _ (λ a m. action-alike s a m))) (reply-alike t.size 0 w.some_node)

@@ -1,7 +1,6 @@
 pub mod AlikeChoiceLemmas
 pub mod ChoiceLemmas
 pub mod FoundReplyLemmas
-pub mod LineCutLemmas
 pub mod LineStepLemmas
 pub mod OneAnswerLaws
 pub mod TableBlockLemmas

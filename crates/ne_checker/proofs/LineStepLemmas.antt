@@ -5,7 +5,8 @@ use Rattle.answers.specs.Answers.{Answer, Gives, ◌>>=◌, map_ok}
 use Rattle.answers.proofs.AnswerLemmas.{gives_bind_as, gives_exit}
 use Rattle.game_core.specs.TextLimit.{most_text}
 use Rattle.ne_checker.specs.LineChecks.{limited}
-use Rattle.ne_checker.specs.Lines.{IsKept, lines_answer, lines_of}
+use Rattle.ne_checker.specs.Lines.{IsKept, lines_answer}
+use Rattle.ne_printer.specs.TextLines.{lines_of}
 use Rattle.ne_checker.specs.declared.stops.CheckStop.{CheckStop}
 use Rattle.ne_checker.specs.declared.stops.CheckStop.TheVariants as stops
 

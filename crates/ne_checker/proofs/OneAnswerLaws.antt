@@ -21,7 +21,8 @@ use Rattle.ne_checker.specs.declared.trees.TreeVerdict.{TreeVerdict}
 use Rattle.ne_checker.specs.declared.trees.TreeVerdict.TheVariants as tree_verdicts
 use Rattle.ne_checker.proofs.TableSingleLemmas.{verdict_once}
 use Rattle.ne_checker.specs.LineChecks.{faulty, limited, line_entries, table_judged, table_line, text_stop, tree_judged, tree_line, unread, TableChecksAreSingle, TreeChecksAreSingle}
-use Rattle.ne_checker.specs.Lines.{lines_answer, lines_of}
+use Rattle.ne_checker.specs.Lines.{lines_answer}
+use Rattle.ne_printer.specs.TextLines.{lines_of}
 use Rattle.ne_checker.specs.Texts.{IsTableText, IsTreeText}
 use Rattle.ne_checker.proofs.TreeLineLemmas.{tested_are_entries}
 use Rattle.ne_checker.specs.declared.stops.CheckStop.{CheckStop}

@@ -1,9 +1,11 @@
 -- Steps of numbers from 0 on, and of a player's own sets, one after another.
-use Rattle.std.proofs.Common.{ℕ, zero, suc, ◌+◌, ◌<◌, ◌≤◌, ◌≡◌, inl, inr, List, [], ◌∷◌, ◌++◌, All, sym, ap, ◌∙◌, subst, add-one, arith, eq-or-lt_of_le, le_of_suc-le-suc}
+use Rattle.std.proofs.Common.{ℕ, zero, suc, ◌+◌, ◌<◌, ◌≤◌, ◌≡◌, inl, inr, List, [], ◌∷◌, ◌++◌, All, sym, ap, ◌∙◌, subst, add-one, arith, eq-or-lt_of_le, le_of_suc-le-suc, Result, Ok, Err, MatchResult}
 use Rattle.std.specs.List.{flat_map, range_with_len}
 use Rattle.std.proofs.lemmas.Grind.{flat_map-append}
 use Rattle.std.proofs.lemmas.List.{append-nil}
 use Rattle.std.proofs.lemmas.List.Elements.{All-append}
+use Rattle.rational.specs.Rational.{ℚ}
+use Rattle.pure_payoffs.specs.Plays.{Give}
 use Rattle.pure_payoffs.specs.Steps.{Step, StepFits, IsFirstUnfit}
 use Rattle.pure_payoffs.proofs.StepRunLemmas.{first_unfit-more, first_unfit-following}
 use Rattle.ne_checker.proofs.TreeMemberLemmas.{range-last}
@@ -31,22 +33,27 @@ module _ (f : ℕ → List Step) where
   part-refused a n u l h first =
       parts-first (suc a) n u (omega arith) (subst (λ s. IsFirstUnfit s u) (sym (parts-suc a)) (first_unfit-following (flat_map f (range_with_len 0 a)) (f a) u h first))
 
--- ---- four parts, one after another
-module _ (first second third fourth : List Step) (fit : All StepFits first) where
-  -- the second part's first step that does not fit
-  pub second-refused : (u : Step) → IsFirstUnfit second u → IsFirstUnfit (first ++ second ++ third ++ fourth) u
-  second-refused u h = first_unfit-more (first ++ second ++ third) fourth u (first_unfit-more (first ++ second) third u (first_unfit-following first second u fit h))
+-- ---- three parts, one after another
+module _ (first second third : List Step) where
+  -- the first part's first step that does not fit
+  pub first-refused : (u : Step) → IsFirstUnfit first u → IsFirstUnfit (first ++ second ++ third) u
+  first-refused u h = first_unfit-more (first ++ second) third u (first_unfit-more first second u h)
 
-  module _ (more : All StepFits second) where
-    -- the third's
-    pub third-refused : (u : Step) → IsFirstUnfit third u → IsFirstUnfit (first ++ second ++ third ++ fourth) u
-    third-refused u h = first_unfit-more (first ++ second ++ third) fourth u (first_unfit-following (first ++ second) third u (All-append StepFits first second fit more) h)
+  module _ (fit : All StepFits first) where
+    -- the second's
+    pub second-refused : (u : Step) → IsFirstUnfit second u → IsFirstUnfit (first ++ second ++ third) u
+    second-refused u h = first_unfit-more (first ++ second) third u (first_unfit-following first second u fit h)
 
-    module _ (most : All StepFits third) where
-      -- the fourth's
-      pub fourth-refused : (u : Step) → IsFirstUnfit fourth u → IsFirstUnfit (first ++ second ++ third ++ fourth) u
-      fourth-refused u h = first_unfit-following (first ++ second ++ third) fourth u (All-append StepFits (first ++ second) third (All-append StepFits first second fit more) most) h
+    module _ (more : All StepFits second) where
+      -- the third's
+      pub third-refused : (u : Step) → IsFirstUnfit third u → IsFirstUnfit (first ++ second ++ third) u
+      third-refused u h = first_unfit-following (first ++ second) third u (All-append StepFits first second fit more) h
 
       -- all parts fit
-      pub four-fit : All StepFits fourth → All StepFits (first ++ second ++ third ++ fourth)
-      four-fit all = All-append StepFits (first ++ second ++ third) fourth (All-append StepFits (first ++ second) third (All-append StepFits first second fit more) most) all
+      pub three-fit : All StepFits third → All StepFits (first ++ second ++ third)
+      three-fit all = All-append StepFits (first ++ second) third (All-append StepFits first second fit more) all
+
+      -- what is told by the third part, and with it another fact
+      pub third-gives : (v : ℚ) (answer : Result ℚ Step) {P : Type 0} → Give third v answer → P → MatchResult answer (λ x. (x ≡ v) × All StepFits (first ++ second ++ third) × P) (IsFirstUnfit (first ++ second ++ third))
+      third-gives v (Ok x) gives p = (gives.0, three-fit gives.1, p)
+      third-gives v (Err u) gives p = third-refused u gives

@@ -21,7 +21,8 @@ use Rattle.ne_checker.specs.declared.tables.TableVerdict.{TableVerdict}
 use Rattle.ne_checker.specs.declared.tables.TableVerdict.TheVariants as table_verdicts
 use Rattle.ne_checker.specs.declared.trees.TreeVerdict.{TreeVerdict}
 use Rattle.ne_checker.specs.declared.trees.TreeVerdict.TheVariants as tree_verdicts
-use Rattle.ne_checker.specs.Lines.{lines_answer, lines_of}
+use Rattle.ne_checker.specs.Lines.{lines_answer}
+use Rattle.ne_printer.specs.TextLines.{lines_of}
 use Rattle.ne_checker.specs.Texts.{IsTableText, IsTreeText}
 use Rattle.ne_checker.specs.declared.stops.CheckStop.{CheckStop}
 use Rattle.ne_checker.specs.declared.stops.CheckStop.TheVariants as stops

@@ -142,9 +142,12 @@ decision_steps t b i choice s =
 abbrev pub decisions : Tree → Behaviour → ℕ → (ℕ → ℕ) → List Step
 decisions t b i choice = flat_map (decision_steps t b i choice) (reverse (own_sets t i))
 
--- ---- all steps of player i: the payoff, the weights, the own sets from the last to the first, and
+-- ---- the steps of player i's best choices: the weights, the own sets from the last to the first, and
 -- what the reply pays
+abbrev pub best_steps : Tree → Behaviour → ℕ → (ℕ → ℕ) → List Step
+best_steps t b i choice =
+    weight_steps t b i ++ decisions t b i choice ++ reply_steps t b i choice 0
+
+-- all steps of player i: the payoff, and the best choices
 abbrev pub player_steps : Tree → Behaviour → ℕ → (ℕ → ℕ) → List Step
-player_steps t b i choice =
-    now_steps_at t b i 0 ++ weight_steps t b i ++ decisions t b i choice
-    ++ reply_steps t b i choice 0
+player_steps t b i choice = now_steps_at t b i 0 ++ best_steps t b i choice

@@ -14,6 +14,7 @@
 //! A change here touches: the text of `check`, byte for byte, and its refusals.
 #![tactic(auto)]
 
+mod comparison;
 mod line_parts;
 mod mixed;
 mod scratch;

@@ -1,52 +1,13 @@
-// The lines of a text, and the text that is written.
-ghost use Rattle.std.specs.Prelude.{
-  ◌≡◌,
-  ◌≢◌,
-  ◌<◌,
-  ℕ,
-  List,
-  [],
-  ◌∷◌,
-  ◌++◌,
-  length,
-  OnOk,
-  MatchOption,
-};
-ghost use Rattle.std.specs.List.{All};
+// The text that is written.
+ghost use Rattle.std.specs.Prelude.{◌≡◌, ℕ, List, ◌++◌, OnOk};
 ghost use Rattle.answers.specs.Answers.{Gives, map_ok};
 ghost use Rattle.ne_checker.specs.LineChecks.{limited};
-ghost use Rattle.ne_checker.specs.Lines.{IsKept, lines_of};
+ghost use Rattle.ne_checker.specs.Lines.{IsKept};
 ghost use Rattle.ne_checker.specs.declared.stops.CheckStop.TheVariants as stops;
 
 use crate::stops::CheckStop;
 use frac128::Memory;
 use game_core::{MOST_TEXT, too_long_text};
-
-// What stands before the first line feed, and what after it, where there is one.
-fn cut(text: &[u8]) -> Option<(&[u8], &[u8])>
-    ensures { MatchOption result (All (λ b. b ≢ 10) text.now)
-        (λ cut. All (λ b. b ≢ 10) cut.0.now × (text.now ≡ cut.0.now ++ 10 ∷ cut.1.now)) }
-{
-    let place = text.iter().position(|b| *b == b'\n')?;
-    Some((&text[..place], &text[place + 1..]))
-}
-
-/// The first line of a text, without its line feed, and what stands after that; nothing where the
-/// text is empty.
-pub(crate) fn first_line(text: &[u8]) -> Option<(&[u8], &[u8])>
-    ensures lines { MatchOption result (text.now ≡ [])
-        (λ cut. lines_of text.now ≡ cut.0.now ∷ lines_of cut.1.now) }
-    ensures shorter { MatchOption result (text.now ≡ [])
-        (λ cut. length cut.1.now < length text.now) }
-{
-    if text.is_empty() {
-        return None;
-    }
-    let Some((line, following)) = cut(text) else {
-        return Some((text, &[]));
-    };
-    Some((line, following))
-}
 
 /// Adds to a text, where that is not above the limit yet.
 pub(crate) fn keep(text: &mut Vec<u8>, more: &[u8]) -> Result<(), Memory>

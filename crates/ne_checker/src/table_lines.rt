@@ -3,13 +3,13 @@ ghost use Rattle.answers.specs.Answers.{Gives, map_ok};
 ghost use Rattle.ne_checker.specs.LineChecks.{TableChecksAreSingle, table_check, table_line};
 ghost use Rattle.ne_checker.specs.declared.stops.CheckStop.TheVariants as stops;
 
-use crate::line_parts::{first_line, keep, within_limit};
+use crate::line_parts::{keep, within_limit};
 use crate::stops::{CheckStop, faulty, unread};
 use crate::texts::{better_strategy, equilibrium};
 use crate::{Mixed, TableVerdict, check_table};
 use behaviour_profile::profiles_are_single;
 use game_core::Table;
-use ne_printer::read_line;
+use ne_printer::{first_line, read_line};
 use std::alloc::Global;
 
 // The text of the verdict on a line.

@@ -47,6 +47,7 @@ ghost use Rattle.ne_checker.specs.TableChecks.{
   weight_steps,
 };
 
+use crate::comparison::is_less;
 use crate::mixed::{Mixed, strategy_count};
 use frac128::{Frac, Unfit};
 use game_core::Table;
@@ -118,13 +119,6 @@ fn first_entry(table: &Table, player: usize) -> usize
         first += strategy_count(table, earlier);
     }
     first
-}
-
-// Whether the first fraction is less.
-fn is_less(left: Frac, right: Frac) -> bool
-    ensures { IsTrue result ↔ (left <ℚ right) }
-{
-    left.cmp(right).is_lt()
 }
 
 // Adds the product of a weight and a number to a sum; a weight of 0 adds nothing.

@@ -6,14 +6,14 @@ ghost use Rattle.ne_checker.specs.TreeScratches.{IsScratchOf};
 ghost use Rattle.ne_checker.specs.LineChecks.{TreeChecksAreSingle, tree_check, tree_line};
 ghost use Rattle.ne_checker.specs.declared.stops.CheckStop.TheVariants as stops;
 
-use crate::line_parts::{first_line, keep, within_limit};
+use crate::line_parts::{keep, within_limit};
 use crate::stops::{CheckStop, faulty, unread};
 use crate::texts::{better_reply, equilibrium};
 use crate::{Scratch, TreeVerdict, check_tree, tree_verdicts_are_single};
 use behaviour_profile::{Behaviour, profiles_are_single, tested_entries_are_behaviours};
 use game_core::tree_parts::stands_for_game_tree;
 use game_core::{Tree, trees_are_game_trees};
-use ne_printer::read_line;
+use ne_printer::{first_line, read_line};
 use perfect_recall::Recall;
 use std::alloc::Global;
 

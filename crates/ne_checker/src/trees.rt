@@ -8,8 +8,8 @@ ghost use Rattle.ne_checker.specs.TreeVerdictLaws.{
   TreeVerdictsFindEquilibria,
 };
 
+use crate::comparison::is_less;
 use crate::scratch::Scratch;
-use crate::trees_player::is_less;
 use behaviour_profile::Behaviour;
 use frac128::{Frac, Unfit};
 use game_core::tree_parts::stands_for_game_tree;

@@ -9,7 +9,7 @@ use game_core::tree_parts::{action_count, branch, owner, parent, pays, probabili
 
 /// A behaviour on a tree, as a check reads it. Players, nodes, sets and actions are numbered
 /// from 0.
-#[derive(Clone, Copy, Debug)]
+#[derive(Drop)]
 pub(crate) struct Board<'a> {
     /// The tree.
     pub(crate) tree: &'a Tree,

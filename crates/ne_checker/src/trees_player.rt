@@ -22,18 +22,43 @@ ghost use Rattle.best_replies.specs.Replies.{reply_value, AreBestChoices};
 ghost use Rattle.pure_payoffs.specs.Steps.{StepFits, IsFirstUnfit};
 ghost use Rattle.ne_checker.specs.TreeBoards.{IsOnBoard, Reads, game_of};
 ghost use Rattle.ne_checker.specs.TreeSides.{AreChosen};
-ghost use Rattle.ne_checker.specs.TreeSteps.{player_steps};
+ghost use Rattle.ne_checker.specs.TreeSteps.{best_steps, player_steps};
 
 use crate::trees_board::Board;
 use crate::trees_side::{Side, is_own};
 use frac128::{Frac, Unfit};
 use game_core::Tree;
 
-// Whether the first fraction is less.
-pub(crate) fn is_less(left: Frac, right: Frac) -> bool
-    ensures { IsTrue result ↔ (left <ℚ right) }
+// What a player's best choices pay; writes these at the player's sets.
+fn best_payoff(
+    board: &Board,
+    player: u32,
+    weights: &mut [Frac],
+    choices: &mut [u32],
+    values: &mut [Frac],
+) -> Result<Frac, Unfit>
+    requires board { IsOnBoard board.now }
+    requires player { player < length board.now.tree.now.players }
+    requires weights { length weights.old ≡ length board.now.tree.now.nodes }
+    requires choices { length choices.old ≡ length board.now.tree.now.sets }
+    requires values { length values.old ≡ length board.now.tree.now.nodes }
+    ensures { (b : Behaviour) (choice : ℕ → ℕ) → let t = game_of board.now in
+        Reads board.now b → AscendOnPaths t player → AreBestChoices t b player choice
+        → MatchResult result
+        (λ best. (best ≡ reply_value t b player choice 0)
+        × All StepFits (best_steps t b player choice) × AreChosen t player choice choices.new)
+        (IsFirstUnfit (best_steps t b player choice)) }
 {
-    left.cmp(right).is_lt()
+    board.set_weights(player, weights)?;
+    let side = Side {
+        tree: board.tree,
+        children: board.children,
+        weights,
+        player,
+    };
+    choices.fill(0);
+    side.decide_all(choices, values)?;
+    side.value(choices, values, 0)
 }
 
 // What a behaviour pays a player, and what the best choices pay; writes these at the player's sets.
@@ -57,16 +82,7 @@ pub(crate) fn check_player(
         (IsFirstUnfit (player_steps t b player choice)) }
 {
     let payoff = board.value(player, 0)?;
-    board.set_weights(player, weights)?;
-    let side = Side {
-        tree: board.tree,
-        children: board.children,
-        weights,
-        player,
-    };
-    choices.fill(0);
-    side.decide_all(choices, values)?;
-    let best = side.value(choices, values, 0)?;
+    let best = best_payoff(board, player, weights, choices, values)?;
     Ok((payoff, best))
 }
 

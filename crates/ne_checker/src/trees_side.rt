@@ -9,7 +9,7 @@ use game_core::tree_parts::{action_count, owner, pays, set, stands_for_game_tree
 
 /// A player to whom a behaviour of the others leaves a reply. Players, nodes, sets and actions are
 /// numbered from 0.
-#[derive(Clone, Copy, Debug)]
+#[derive(Drop)]
 pub(crate) struct Side<'a> {
     /// The tree.
     pub(crate) tree: &'a Tree,

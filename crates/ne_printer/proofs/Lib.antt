@@ -1,5 +1,6 @@
 pub mod EntryListLemmas
 pub mod FractionLemmas
+pub mod LineCutLemmas
 pub mod LineTextLemmas
 pub mod LinesReadLemmas
 pub mod NumeralLemmas

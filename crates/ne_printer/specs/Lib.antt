@@ -1,2 +1,3 @@
 pub mod Entries
 pub mod ReadLines
+pub mod TextLines

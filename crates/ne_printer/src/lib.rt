@@ -1,9 +1,11 @@
 //! The text of equilibria: lines and fractions, and lines read back.
 //!
 //! Callers may rely on: `line`, `push_line`, `push_numbers` and `fraction` write the defined bytes;
-//! `read_line` gives a line's entries, or `Bad`; `lines_read_back`.
+//! `first_line` cuts a text after its first line; `read_line` gives a line's entries, or `Bad`;
+//! `lines_read_back`.
 //! Definitions: `game_theory` has the text of a line; `specs::Entries` that of numbers after a
-//! name, `specs::ReadLines` what a line reads as (`line_in`).
+//! name, `specs::TextLines` the lines of a text (`lines_of`), `specs::ReadLines` what a line reads as
+//! (`line_in`).
 //! Lemmas for callers: `proofs::LineTextLemmas` and `LinesReadLemmas`, on lines written and read.
 //! A change here touches: the lines that the tools print, and those that `check` reads.
 #![tactic(auto)]
@@ -15,7 +17,7 @@ ghost use Rattle.game_theory.specs.Lines.{line_text, number_text};
 ghost use Rattle.ne_printer.specs.Entries.{entry_text, entries_text, numbers_line, line_start, BeginsWith, IsOneDigit};
 
 use frac128::{Frac, Memory};
-pub use reading::{LineStop, lines_are_single, lines_read_back, read_line};
+pub use reading::{LineStop, first_line, lines_are_single, lines_read_back, read_line};
 use std::alloc::Global;
 
 /// The text of a fraction: the numerator, with a `-` first where it is negative, and after `/` the denominator

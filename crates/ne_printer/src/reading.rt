@@ -1,11 +1,12 @@
 //! Lines of equilibria, read back.
-ghost use Rattle.std.specs.Prelude.{◌≡◌, ◌≢◌, ◌+◌, ◌-◌, ◌*◌, ◌<◌, ◌≤◌, ◌^◌, ℕ, ◌++◌, ◌∷◌, ◌↔◌, IsTrue, pos, MatchOption};
+ghost use Rattle.std.specs.Prelude.{◌≡◌, ◌≢◌, ◌+◌, ◌-◌, ◌*◌, ◌<◌, ◌≤◌, ◌^◌, ℕ, [], ◌++◌, ◌∷◌, ◌↔◌, IsTrue, length, pos, MatchOption};
 ghost use Rattle.std.specs.Char.{IsAsciiDigit, is_ascii_digit, digit_value};
 ghost use Rattle.std.specs.List.{All, list_all};
 ghost use Rattle.std.specs.Str.Parse.{digits_value};
 ghost use Rattle.answers.specs.Answers.{Gives, map_ok};
 ghost use Rattle.rational.specs.Rational.{ℚ, frac};
 ghost use Rattle.ne_printer.specs.ReadLines.{IsNumeral, IsNumber, IsFraction, entries_in, line_in, LinesAreSingle, LinesReadBack};
+ghost use Rattle.ne_printer.specs.TextLines.{lines_of};
 ghost use Rattle.ne_printer.specs.declared.reading.LineStop.TheVariants as stops;
 
 use frac128::Frac;
@@ -93,6 +94,23 @@ fn cut(text: &[u8], byte: u8) -> Option<(&[u8], &[u8])>
 {
     let place = text.iter().position(|b| *b == byte)?;
     Some((&text[..place], &text[place + 1..]))
+}
+
+/// The first line of a text, without its line feed, and what stands after that; nothing where the
+/// text is empty.
+pub fn first_line(text: &[u8]) -> Option<(&[u8], &[u8])>
+    ensures lines { MatchOption result (text.now ≡ [])
+        (λ cut. lines_of text.now ≡ cut.0.now ∷ lines_of cut.1.now) }
+    ensures shorter { MatchOption result (text.now ≡ [])
+        (λ cut. length cut.1.now < length text.now) }
+{
+    if text.is_empty() {
+        return None;
+    }
+    let Some((line, following)) = cut(text, b'\n') else {
+        return Some((text, &[]));
+    };
+    Some((line, following))
 }
 
 // A numerator over a denominator.

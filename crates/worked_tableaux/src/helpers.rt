@@ -1,6 +1,6 @@
 // Helpers that are taken and added.
 use crate::stop::Stop;
-use basis_enum::Helpers;
+use claims::Helpers;
 
 /// Of five helpers two are taken, then the three that are left, then none; of three that are added, all.
 #[test]

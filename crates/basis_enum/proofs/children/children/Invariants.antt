@@ -5,10 +5,10 @@ use Rattle.basis_enum.proofs.children.children.Given as goal
 
 abbrev pub invariant-loop-alloc : goal.invariant-loop-alloc
 invariant-loop-alloc g l = record {
-  made : IsMadeFrom l.level l.moves l.known l.made;
-  vertices : AddsVertices l.system l.made.tableaux.items l.initial.vertices.items l.vertices.items;
+  made : IsMadeFrom l.expansion l.made;
+  vertices : AddsVertices l.expansion.system.now l.made.tableaux.items l.initial.vertices.items l.vertices.items;
   counted : l.pivots ≡ l.initial.pivots + length l.made.tableaux.items;
 }
 
 abbrev pub decreases-loop-alloc : goal.decreases-loop-alloc
-decreases-loop-alloc g l = length l.moves - length l.made.tableaux.items
+decreases-loop-alloc g l = length l.expansion.moves.now - length l.made.tableaux.items

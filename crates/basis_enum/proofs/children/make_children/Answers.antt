@@ -15,12 +15,12 @@ loop-place-preserved g c =
     let size = ap length added.tableaux ∙ length-append old.tableaux.items (r.tableau ∷ []) in
     record {
       at = omega (arith, size, is.at);
-      made = made_more c.args.level.now c.args.moves.now c.args.known.now old _ n r.tableau r.found.moves.items is.at (omega (arith, c.min-end.ensures)) added.tableaux added.moves is.made c.in_ok-reached.ensures.child c.in_ok-reached.ensures.found;
-      vertices = adding_more c.args.system.now c.args.made.now.tableaux.items old.tableaux.items _ r.tableau c.args.vertices.now.items c.loop-place.vertices.items _ r.found.vertex added.tableaux added.vertices is.vertices c.in_ok-reached.ensures.vertex;
+      made = made_more c.args.expansion.now old _ n r is.at (omega (arith, c.min-end.ensures)) added.tableaux added.moves is.made c.in_ok-reached.ensures;
+      vertices = adding_more c.args.expansion.now.system.now c.args.made.now.tableaux.items old.tableaux.items _ r.tableau c.args.vertices.now.items c.loop-place.vertices.items _ r.found.vertex added.tableaux added.vertices is.vertices c.in_ok-reached.ensures.vertex;
       counted = omega (arith, c.tick.ensures, is.counted, size);
     }
 
 pub returns-in_err-reached-clause-stop : goal.returns-in_err-reached-clause-stop
 returns-in_err-reached-clause-stop g c =
     let p = err_from_is_err_and c.from_residual.result c.from_residual.ensures.1 in
-    rw (p.1, p.2) (stop_made c.args.level.now c.args.moves.now c.args.known.now c.loop-place.made c.loop-place.place c.in_err-reached.field-0.0 c.loop-place.invariant.at (omega (arith, c.min-end.ensures)) c.loop-place.invariant.made c.in_err-reached.ensures.stop)
+    rw (p.1, p.2) (stop_made c.args.expansion.now c.loop-place.made c.loop-place.place c.in_err-reached.field-0.0 c.loop-place.invariant.at (omega (arith, c.min-end.ensures)) c.loop-place.invariant.made c.in_err-reached.ensures)

@@ -6,7 +6,7 @@ use Rattle.basis_enum.proofs.children.make_children.Given as goal
 abbrev pub invariant-loop-place : goal.invariant-loop-place
 invariant-loop-place g l = record {
   at : length l.made.tableaux.items ≡ l.place;
-  made : IsMadeFrom l.level l.moves l.known l.made;
-  vertices : AddsMoreVertices l.system l.initial.made.tableaux.items l.made.tableaux.items l.initial.vertices.items l.vertices.items;
+  made : IsMadeFrom l.expansion l.made;
+  vertices : AddsMoreVertices l.expansion.system.now l.initial.made.tableaux.items l.made.tableaux.items l.initial.vertices.items l.vertices.items;
   counted : l.pivots + length l.initial.made.tableaux.items ≡ l.initial.pivots + length l.made.tableaux.items;
 }

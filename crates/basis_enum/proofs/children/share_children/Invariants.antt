@@ -6,7 +6,7 @@ use Rattle.basis_enum.proofs.children.share_children.Given as goal
 abbrev pub invariant-loop-piece : goal.invariant-loop-piece
 invariant-loop-piece g l = record {
   at : length l.made.tableaux.items ≡ length l.initial.made.tableaux.items + length l.yielded;
-  made : IsMadeFrom l.level l.moves l.known l.made;
-  vertices : AddsMoreVertices l.system l.initial.made.tableaux.items l.made.tableaux.items l.initial.vertices.items l.vertices.items;
+  made : IsMadeFrom l.expansion l.made;
+  vertices : AddsMoreVertices l.expansion.system.now l.initial.made.tableaux.items l.made.tableaux.items l.initial.vertices.items l.vertices.items;
   counted : l.pivots + length l.initial.made.tableaux.items ≡ l.initial.pivots + length l.made.tableaux.items;
 }

@@ -1,6 +1,5 @@
 use Rattle.std.proofs.Common.{◌≡◌, ◌∙◌, ◌++◌, ◌∷◌, [], List, option_to_list, ap, sym, subst, subst₂, arith}
 use Rattle.std.specs.List.Sorted.{IsStrictlyIncreasing}
-use Rattle.lex_tableau.specs.Rows.{Numbers}
 use Rattle.basis_enum.specs.declared.vertex.Vertex.{Vertex}
 use Rattle.basis_enum.specs.Bases.{AreVariables, basis_of}
 use Rattle.basis_enum.specs.Next.{AreNewMoves}
@@ -22,7 +21,7 @@ found_from-requires-clause-basis g c = c.basis-basis.ensures ∙ ap basis_of c.n
 
 pub found_from-requires-clause-known : goal.found_from-requires-clause-known
 found_from-requires-clause-known g c =
-    subst IsStrictlyIncreasing (sym (c.as_slice.ensures.value ∙ c.in_ok-push.ensures.items ∙ ap (λ xs. xs ++ c.basis-basis.result ∷ []) c.new-known.ensures.items)) (λ k h. absurd (omega arith))
+    subst IsStrictlyIncreasing (sym (c.as_slice.ensures.value ∙ c.in_ok-known.ensures)) (λ k h. absurd (omega arith))
 
 pub next_moves-requires : goal.next_moves-requires
 next_moves-requires g c =
@@ -34,12 +33,10 @@ next_moves-requires g c =
 
 pub returns-clause-walk : goal.returns-clause-walk
 returns-clause-walk g c =
-    let known : c.push.new.self.items ≡ c.basis-basis.result ∷ [] = c.in_ok-push.ensures.items ∙ ap (λ xs. xs ++ c.basis-basis.result ∷ []) c.new-known.ensures.items in
-    let level : c.push-2.new.self.items ≡ c.in_ok-tableau.tableau ∷ [] = ◌∙◌ {A = List Numbers} c.in_ok-push-2.ensures.items (ap (λ xs. xs ++ c.in_ok-tableau.tableau ∷ []) c.new-level.ensures.items) in
     let vertices : c.add_vertex.new.vertices.items ≡ option_to_list c.in_ok-found.found.vertex = ◌∙◌ {A = List Vertex} c.in_ok-add_vertex.ensures (ap (λ xs. xs ++ option_to_list c.in_ok-found.found.vertex) c.new-vertices.ensures.items) in
-    walk_start c.args.system.now c.in_ok-tableau.tableau (record { level = c.push-2.new.self; known = c.push.new.self; vertices = c.add_vertex.new.vertices }) c.in_ok-found.found.vertex c.nonbasics.ensures.valid c.in_ok-tableau.ensures.first
-    level
-    (known ∙ ap (λ b. b ∷ []) (c.basis-basis.ensures ∙ ap basis_of c.nonbasics.ensures.value))
+    walk_start c.args.system.now c.in_ok-tableau.tableau (record { level = c.in_ok-level.level; known = c.in_ok-known.known; vertices = c.add_vertex.new.vertices }) c.in_ok-found.found.vertex c.nonbasics.ensures.valid c.in_ok-tableau.ensures.first
+    c.in_ok-level.ensures
+    (c.in_ok-known.ensures ∙ ap (λ b. b ∷ []) (c.basis-basis.ensures ∙ ap basis_of c.nonbasics.ensures.value))
     vertices
     c.in_ok-found.ensures.vertex
 
@@ -47,8 +44,7 @@ pub returns-clause-moves : goal.returns-clause-moves
 returns-clause-moves g c =
     let s = c.args.system.now in
     let t = c.in_ok-tableau.tableau in
-    let level : c.push-2.new.self.items ≡ t ∷ [] = ◌∙◌ {A = List Numbers} c.in_ok-push-2.ensures.items (ap (λ xs. xs ++ t ∷ []) c.new-level.ensures.items) in
     let ready = first_ready s t c.nonbasics.ensures.valid c.requires.enumerable c.in_ok-tableau.ensures.first in
-    subst₂ (λ level known. AreNewMoves level known c.in_ok-moves.moves.items) (sym level) c.as_slice.ensures.value
+    subst₂ (λ level known. AreNewMoves level known c.in_ok-moves.moves.items) (sym c.in_ok-level.ensures) c.as_slice.ensures.value
     (new_moves_are (t ∷ []) c.as_slice.result.now c.in_ok-found.found.moves.items c.in_ok-moves.moves.items (first_all_ready t ready) (omega arith)
     (first_found t c.as_slice.result.now c.in_ok-found.found.moves.items c.in_ok-found.ensures.moves) c.in_ok-moves.ensures)

@@ -1,4 +1,4 @@
-// Workers that are idle, and how many of them a level takes.
+// Workers that are idle, and how many of them shared work takes.
 ghost use Rattle.std.specs.Prelude.{◌≤◌};
 
 use std::sync::atomic::{AtomicU32, Ordering};
@@ -6,7 +6,7 @@ use std::sync::atomic::{AtomicU32, Ordering};
 // The pieces that are worth a second helper, and each further one.
 const PIECES_PER_WORKER: usize = 16;
 
-// The most workers of a level.
+// The most workers who share work.
 const MOST_WORKERS: usize = 64;
 
 /// Workers that are idle. Those who are at work may share them: each takes some for a while, and
@@ -44,9 +44,9 @@ impl Helpers {
     }
 }
 
-/// How many helpers a level is worth: none for a single piece, one for more, and further ones where
-/// each worker has enough pieces.
-pub(crate) fn helpers_worth(pieces: usize) -> u32
+/// How many helpers so many pieces of work are worth: none for a single piece, one for more, and
+/// further ones where each worker has enough pieces.
+pub fn helpers_worth(pieces: usize) -> u32
     ensures { result ≤ 63 }
 {
     if pieces < 2 {

@@ -1,8 +1,8 @@
 use Rattle.std.proofs.Common.{◌<◌, ◌≡◌, ◌∷◌, length, sym, subst, arith}
 use Rattle.std.proofs.lemmas.Bool.Decides.{nat_tests}
-use Rattle.ne_checker.specs.Lines.{lines_of}
-use Rattle.ne_checker.proofs.LineCutLemmas.{last_line, line_cut}
-use Rattle.ne_checker.proofs.line_parts.first_line.Goals as goal
+use Rattle.ne_printer.specs.TextLines.{lines_of}
+use Rattle.ne_printer.proofs.LineCutLemmas.{last_line, line_cut}
+use Rattle.ne_printer.proofs.reading.first_line.Goals as goal
 
 pub returns-in_default-clause-lines : goal.returns-in_default-clause-lines
 returns-in_default-clause-lines c =

@@ -3,7 +3,7 @@ use Rattle.std.proofs.Common.{ℕ, ◌+◌, ◌<◌, ◌≡◌, ◌≢◌, ◌==
 use Rattle.std.specs.List.{All, slice_split}
 use Rattle.std.proofs.lemmas.List.Splits.{slice_split_at, slice_split_none, length-slice_split}
 use Rattle.std.proofs.lemmas.Bool.Decides.{nat_tests}
-use Rattle.ne_checker.specs.Lines.{lines_of, without_empty_last}
+use Rattle.ne_printer.specs.TextLines.{lines_of, without_empty_last}
 
 -- a piece that is not the last stays
 piece-stays : (piece next : List ℕ) (pieces : List (List ℕ)) → without_empty_last (piece ∷ next ∷ pieces) ≡ piece ∷ without_empty_last (next ∷ pieces)

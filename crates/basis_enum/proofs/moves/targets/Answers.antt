@@ -1,0 +1,19 @@
+use Rattle.std.proofs.Common.{◌≡◌, ◌∙◌, ◌++◌, ◌∷◌, [], ap, get_or, length, map, sym, take, arith}
+use Rattle.std.proofs.Math.Seq.{take-length}
+use Rattle.std.proofs.lemmas.List.{map-append, take_more}
+use Rattle.basis_enum.specs.Next.{no_move, target_of}
+use Rattle.basis_enum.proofs.moves.targets.Goals as goal
+
+pub loop-next-preserved : goal.loop-next-preserved
+loop-next-preserved c =
+    let i = c.loop-next.next-index in
+    let moves = c.args.moves.now in
+    let m = get_or moves i no_move in
+    c.in_ok-push.ensures.items ∙ ap (λ xs. xs ++ m.target ∷ []) c.loop-next.invariant
+    ∙ sym (ap (map target_of) (take_more moves i no_move c.loop-next-test.true) ∙ map-append target_of (take i moves) (m ∷ []))
+
+pub returns : goal.returns
+returns c =
+    let moves = c.args.moves.now in
+    let whole : c.loop-next.next-index ≡ length moves = omega arith in
+    c.loop-next.invariant ∙ ap (map target_of) (ap (λ n. take n moves) whole ∙ take-length moves)
