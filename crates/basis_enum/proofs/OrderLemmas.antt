@@ -62,44 +62,47 @@ dedup_ascends {X = X} n (x ∷ xs) h =
     let pairs = λ (i j : ℕ) (d : X) (k : i < j) (l : j < length (x ∷ xs)). h i j d (omega arith) l in
     (ascends_from n x xs (first_pairs (λ a b. n a ≤ n b) x xs pairs) (tail_pairs (λ a b. n a ≤ n b) x xs pairs)).0
 
--- ---- each number is still there
-kept_from : {X : Type 0} (n : X → ℕ) (x : X) (xs : List X) (z : X) → Contains (x ∷ xs) z
-    → (y : X) × Contains (dedup_from (is_tie n) x xs) y × (n y ≡ n z)
-kept_from n x [] z c = elim (in_cases x z [] c) [
-  | inl e ↦ (x, first_in x [], ap n e)
+-- ---- each number is still there, at an item that does not rank later
+kept_from : {X : Type 0} (n r : X → ℕ) (x : X) (xs : List X) (z : X) → All (λ y. r x ≤ r y) xs
+    → AllPairs (λ a b. r a ≤ r b) xs → Contains (x ∷ xs) z
+    → (y : X) × Contains (dedup_from (is_tie n) x xs) y × (n y ≡ n z) × (r y ≤ r z)
+kept_from n r x [] z above pairs c = elim (in_cases x z [] c) [
+  | inl e ↦ (x, first_in x [], ap n e, (let s : r x ≡ r z = ap r e in omega arith))
   | inr none ↦ absurd (omega (arith, none.1))
 ]
-kept_from {X = X} n x (y ∷ ys) z c = elim (cases_eq (n y) (n x)) [
+kept_from {X = X} n r x (y ∷ ys) z above pairs c = elim (cases_eq (n y) (n x)) [
   | inl e ↦ subst (λ b. Kept (cond b (dedup_from (is_tie n) x ys) (x ∷ dedup_from (is_tie n) y ys)))
       (sym (ap (λ a. eqb a (n x)) e ∙ eqb_same (n x)))
-      (tie e (in_cases x z (y ∷ ys) c) (kept_from n x ys))
+      (tie e (in_cases x z (y ∷ ys) c) (λ v. kept_from n r x ys v (All-tail (λ a. r x ≤ r a) y ys above) (tail_pairs (λ a b. r a ≤ r b) y ys pairs)))
   | inr ne ↦ subst (λ b. Kept (cond b (dedup_from (is_tie n) x ys) (x ∷ dedup_from (is_tie n) y ys)))
       (sym (eqb_apart (n y) (n x) ne))
-      (apart (in_cases x z (y ∷ ys) c) (kept_from n y ys z))
+      (apart (in_cases x z (y ∷ ys) c) (kept_from n r y ys z (first_pairs (λ a b. r a ≤ r b) y ys pairs) (tail_pairs (λ a b. r a ≤ r b) y ys pairs)))
 ]
   where
     Kept : List X → Type 0
-    Kept zs = (y : X) × Contains zs y × (n y ≡ n z)
+    Kept zs = (v : X) × Contains zs v × (n v ≡ n z) × (r v ≤ r z)
 
     tie : n y ≡ n x → (x ≡ z) ⊎ Contains (y ∷ ys) z
-        → ((v : X) → Contains (x ∷ ys) v → (w : X) × Contains (dedup_from (is_tie n) x ys) w × (n w ≡ n v))
+        → ((v : X) → Contains (x ∷ ys) v → (w : X) × Contains (dedup_from (is_tie n) x ys) w × (n w ≡ n v) × (r w ≤ r v))
         → Kept (dedup_from (is_tie n) x ys)
-    tie e (inl f) again = let k = again x (first_in x ys) in (k.0, k.1, k.2 ∙ ap n f)
-    tie e (inr r) again = elim (in_cases y z ys r) [
-      | inl f ↦ (let k = again x (first_in x ys) in (k.0, k.1, k.2 ∙ sym e ∙ ap n f))
+    tie e (inl f) again = let k = again x (first_in x ys) in (k.0, k.1, k.2 ∙ ap n f, (let s : r x ≡ r z = ap r f in let l : r k.0 ≤ r x = k.3 in omega arith))
+    tie e (inr q) again = elim (in_cases y z ys q) [
+      | inl f ↦ (let k = again x (first_in x ys) in (k.0, k.1, k.2 ∙ sym e ∙ ap n f, (let s : r y ≡ r z = ap r f in let l : r k.0 ≤ r x = k.3 in let m : r x ≤ r y = All-head (λ a. r x ≤ r a) y ys above in omega arith)))
       | inr l ↦ again z (rest_in x z ys l)
     ]
 
     apart : (x ≡ z) ⊎ Contains (y ∷ ys) z
         → (Contains (y ∷ ys) z → Kept (dedup_from (is_tie n) y ys))
         → Kept (x ∷ dedup_from (is_tie n) y ys)
-    apart (inl f) again = (x, first_in x _, ap n f)
-    apart (inr r) again = let k = again r in (k.0, rest_in x k.0 _ k.1, k.2)
+    apart (inl f) again = (x, first_in x _, ap n f, (let s : r x ≡ r z = ap r f in omega arith))
+    apart (inr q) again = let k = again q in (k.0, rest_in x k.0 _ k.1, k.2, k.3)
 
-pub dedup_keeps : {X : Type 0} (n : X → ℕ) (xs : List X) (z : X) → Contains xs z
-    → (y : X) × Contains (dedup (is_tie n) xs) y × (n y ≡ n z)
-dedup_keeps n [] z c = absurd (omega (arith, c.1))
-dedup_keeps n (x ∷ xs) z c = kept_from n x xs z c
+pub dedup_keeps : {X : Type 0} (n r : X → ℕ) (xs : List X) (z : X) → IsNonDecreasingBy r xs → Contains xs z
+    → (y : X) × Contains (dedup (is_tie n) xs) y × (n y ≡ n z) × (r y ≤ r z)
+dedup_keeps n r [] z h c = absurd (omega (arith, c.1))
+dedup_keeps {X = X} n r (x ∷ xs) z h c =
+    let pairs = λ (i j : ℕ) (d : X) (k : i < j) (l : j < length (x ∷ xs)). h i j d (omega arith) l in
+    kept_from n r x xs z (first_pairs (λ a b. r a ≤ r b) x xs pairs) (tail_pairs (λ a b. r a ≤ r b) x xs pairs) c
 
 -- ---- under a function that the numbers go through
 map_from : {X Y : Type 0} (f : X → Y) (n : Y → ℕ) (x : X) (xs : List X)

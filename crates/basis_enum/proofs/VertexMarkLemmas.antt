@@ -120,12 +120,15 @@ marks_in_order old sorted new moved order e =
     subst (AreInOrder (marks_of old)) (sym (ap marks_of e ∙ map-dedup mark_of mask_of sorted))
     (record {
       kept = λ m c. Contains-permutation (marks_of sorted) (marks_of old) m (IsPermutation-sym (marks_of old) (marks_of sorted) same) (Contains-from_dedup (is_tie mask_of) (marks_of sorted) m c);
-      all = λ m c. dedup_keeps mask_of (marks_of sorted) m (Contains-permutation (marks_of old) (marks_of sorted) m same c);
-      ascending = dedup_ascends mask_of (marks_of sorted) (IsNonDecreasingBy-map mark_of mask_of sorted order);
+      all = λ m c. (let k = dedup_keeps mask_of mask_of (marks_of sorted) m in_order (Contains-permutation (marks_of old) (marks_of sorted) m same c) in (k.0, k.1, k.2));
+      ascending = dedup_ascends mask_of (marks_of sorted) in_order;
     })
   where
     same : IsPermutation (marks_of old) (marks_of sorted)
     same = IsPermutation-map mark_of old sorted moved
+
+    in_order : IsNonDecreasingBy mask_of (marks_of sorted)
+    in_order = IsNonDecreasingBy-map mark_of mask_of sorted order
 
 -- ---- equal masks have equal zeros
 equal_words : (n : ℕ) (s : Tableau) (x y : ℕ → ℚ) (a b : MarkedPoint) → IsMarkOf n s x a

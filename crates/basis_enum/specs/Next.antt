@@ -1,5 +1,5 @@
 -- The pivots to the next level, out of those that are found
-use Rattle.std.specs.Prelude.{ℕ, suc, ◌+◌, ◌*◌, ◌^◌, ◌<◌, ◌≤◌, ◌≡◌, List, length, get_or, map}
+use Rattle.std.specs.Prelude.{ℕ, ◌+◌, ◌*◌, ◌^◌, ◌<◌, ◌≤◌, ◌≡◌, List, map}
 use Rattle.std.specs.List.{Contains}
 use Rattle.std.specs.List.Sorted.{IsStrictlyIncreasing}
 use Rattle.lex_tableau.specs.Rows.{Numbers}
@@ -39,25 +39,6 @@ AreSmall moves = (m : Move) → Contains moves m → (m.parent < 2 ^ 32) × (m.e
 
 abbrev pub no_move : Move
 no_move = record { target = 0; parent = 0; entering = 0; row = 0; column = 0 }
-
--- place i's target is above all earlier ones
-abbrev pub LeadsFurther : List Move → ℕ → Type 0
-LeadsFurther found i =
-    (k : ℕ) → k < i → (get_or found k no_move).target < (get_or found i no_move).target
-
--- it is that of the place before, which does not come later
-pub record LeadsAgain (found : List Move) (i : ℕ) : Type 0 where
-  pub before : ℕ
-  pub next : suc before ≡ i
-  pub same : (get_or found before no_move).target ≡ (get_or found i no_move).target
-  pub order : order_of (get_or found before no_move) ≤ order_of (get_or found i no_move)
-
--- next is of the first i found ones
-pub record AreFirsts (found : List Move) (i : ℕ) (next : List Move) : Type 0 where
-  pub within : i ≤ length found
-  pub each : (m : Move) → Contains next m → (k : ℕ) × (k < i) × (get_or found k no_move ≡ m)
-  pub ascending : IsStrictlyIncreasing (map target_of next)
-  pub all : (k : ℕ) → k < i → HasAsEarly next (get_or found k no_move)
 
 -- next has the first pivot to each new basis, in ascending order, out of all that are found
 pub record AreNewMoves (level : List Numbers) (known : List ℕ) (next : List Move) : Type 0 where

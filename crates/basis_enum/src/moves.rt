@@ -1,12 +1,12 @@
 // The pivots from tableaux to new bases.
-ghost use Rattle.std.specs.Prelude.{◌≡◌, ◌<◌, ◌≤◌, ◌+◌, ◌*◌, ◌^◌, ℕ, [], true, false, length, map, IfOk, MatchOption, OnOk};
-ghost use Rattle.std.specs.List.Sorted.{IsNonDecreasingBy, IsStrictlyIncreasing};
+ghost use Rattle.std.specs.Prelude.{◌≡◌, ◌<◌, ◌≤◌, ◌+◌, ◌*◌, ◌^◌, ℕ, length, map, IfOk, MatchOption};
+ghost use Rattle.std.specs.List.Sorted.{IsStrictlyIncreasing};
 ghost use Rattle.std.specs.Ordering.{nat_cmp};
 ghost use Rattle.lex_tableau.specs.Rows.{IsTableau};
 ghost use Rattle.basis_enum.specs.Bases.{HaveDigits, basis_of, neighbour_of};
 ghost use Rattle.basis_enum.specs.Found.{AreFound, HasNone, IsFound, IsReady};
 ghost use Rattle.basis_enum.specs.Marks.{AreUpTo, IsVertexOf};
-ghost use Rattle.basis_enum.specs.Next.{AreFirsts, AreSmall, IsNextOf, LeadsAgain, LeadsFurther, rank, rank_of, target_of};
+ghost use Rattle.basis_enum.specs.Next.{AreSmall, IsNextOf, rank, rank_of, target_of};
 ghost use Rattle.basis_enum.specs.Systems.{variable_count};
 
 use crate::bases::{exchanged, is_known};
@@ -164,58 +164,18 @@ fn compare(a: &Move, b: &Move) -> Ordering
 }
 
 /// One pivot to each basis, in ascending order, and of those that lead there the first.
-pub(crate) fn next_moves(alloc: Global, mut found: Vec<Move>) -> Result<Vec<Move>, Memory>
+pub(crate) fn next_moves(found: Vec<Move>) -> Vec<Move>
     requires { AreSmall found.items }
-    ensures { IfOk result (λ v. IsNextOf found.items v.items) }
+    ensures { IsNextOf found.items result.items }
 {
+    let mut found = found;
     found.sort_unstable_by(
         |a: &Move, b: &Move| -> Ordering
             ensures { result ≡ nat_cmp (rank_of a.now) (rank_of b.now) }
         { compare(a, b) },
     );
-    firsts(alloc, found.as_slice())
-}
-
-// Whether a pivot is the first to its basis.
-#[tactic(auto, using(crate::proofs::FirstMoveLemmas::first_of_all, crate::proofs::FirstMoveLemmas::leads_further, crate::proofs::FirstMoveLemmas::leads_again))]
-fn is_first(found: &[Move], i: usize) -> bool
-    requires sorted { IsNonDecreasingBy rank_of found.now }
-    requires small { AreSmall found.now }
-    requires place_in { i < length found.now }
-    ensures first { result ≡ true → LeadsFurther found.now i }
-    ensures again { result ≡ false → LeadsAgain found.now i }
-{
-    i == 0 || found[i - 1].target != found[i].target
-}
-
-// Takes a pivot where it is the first to its basis.
-#[tactic(auto, using(crate::proofs::FirstMoveLemmas::firsts_push, crate::proofs::FirstMoveLemmas::firsts_skip))]
-fn take_first(found: &[Move], i: usize, next: &mut Vec<Move>) -> Result<(), Memory>
-    requires sorted { IsNonDecreasingBy rank_of found.now }
-    requires small { AreSmall found.now }
-    requires place_in { i < length found.now }
-    requires firsts { AreFirsts found.now i next.old.items }
-    ensures { OnOk result (AreFirsts found.now (i + 1) next.new.items) }
-{
-    if !is_first(found, i) {
-        return Ok(());
-    }
-    next.push(found[i])?;
-    Ok(())
-}
-
-// Of pivots in ascending order the first to each basis.
-#[tactic(auto, using(crate::proofs::FirstMoveLemmas::firsts_start, crate::proofs::FirstMoveLemmas::firsts_all))]
-fn firsts(alloc: Global, found: &[Move]) -> Result<Vec<Move>, Memory>
-    requires sorted { IsNonDecreasingBy rank_of found.now }
-    requires small { AreSmall found.now }
-    ensures { IfOk result (λ v. IsNextOf found.now v.items) }
-{
-    let mut next = Vec::new(alloc);
-    for i in 0..found.len() {
-        take_first(found, i, &mut next)?;
-    }
-    Ok(next)
+    found.dedup_by_key(|next: &mut Move| next.target);
+    found
 }
 
 // The bases to which pivots lead.

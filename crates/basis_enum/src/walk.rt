@@ -80,7 +80,7 @@ fn start<G: Gate>(alloc: Global, system: &System, gate: &G) -> Result<(Walk, Vec
     let level = list_of(alloc, tableau)?;
     let mut vertices = Vec::new(alloc);
     add_vertex(&mut vertices, found.vertex)?;
-    let moves = next_moves(alloc, found.moves)?;
+    let moves = next_moves(found.moves);
     let walk = Walk {
         level,
         known,
@@ -188,23 +188,22 @@ fn known_after(alloc: Global, known: &[u128], moves: &[Move]) -> Result<Vec<u128
 // helper is idle, the helper frees it meanwhile.
 fn next_moves_beside<R: Threads + Sync>(
     rt: &R,
-    alloc: Global,
     found: Vec<Move>,
     before: Vec<Tableau>,
     helpers: &Helpers,
-) -> Result<Vec<Move>, Memory>
+) -> Vec<Move>
     requires { AreSmall found.items }
-    ensures { IfOk result (λ v. IsNextOf found.items v.items) }
+    ensures { IsNextOf found.items result.items }
 {
     if before.len() < LARGE_LEVEL || helpers.take(1) == 0 {
-        return next_moves(alloc, found);
+        return next_moves(found);
     }
     let (next, _) = join(
         rt,
-        move || -> Result<Vec<Move>, Memory>
+        move || -> Vec<Move>
             requires { AreSmall found.items }
-            ensures { IfOk result (λ v. IsNextOf found.items v.items) }
-        { next_moves(alloc, found) },
+            ensures { IsNextOf found.items result.items }
+        { next_moves(found) },
         move || drop(before),
     );
     helpers.add(1);
@@ -248,7 +247,7 @@ fn advance<R: Threads + Sync, G: Gate, L: Ledger>(
     )?;
     let before = mem::replace(&mut walk.level, level);
     walk.known = known;
-    Ok(next_moves_beside(rt, alloc, found, before, helpers)?)
+    Ok(next_moves_beside(rt, found, before, helpers))
 }
 
 // Goes from level to level, to the last one.

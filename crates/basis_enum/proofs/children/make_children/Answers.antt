@@ -1,4 +1,4 @@
-use Rattle.std.proofs.Common.{◌≡◌, ◌+◌, ◌∙◌, ◌∷◌, [], rules, ap, length, arith}
+use Rattle.std.proofs.Common.{◌∙◌, ◌∷◌, [], ap, length, arith}
 use Rattle.std.proofs.lemmas.List.{length-append}
 use Rattle.std.proofs.lemmas.Result.{err_from_is_err_and}
 use Rattle.basis_enum.proofs.NextLevelLemmas.{made_more, stop_made}

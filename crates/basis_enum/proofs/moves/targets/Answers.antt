@@ -1,4 +1,4 @@
-use Rattle.std.proofs.Common.{◌≡◌, ◌∙◌, ◌++◌, ◌∷◌, [], ap, get_or, length, map, sym, take, arith}
+use Rattle.std.proofs.Common.{ℕ, List, ◌≡◌, ◌∙◌, ◌++◌, ◌∷◌, [], ap, get_or, length, map, sym, take, arith}
 use Rattle.std.proofs.Math.Seq.{take-length}
 use Rattle.std.proofs.lemmas.List.{map-append, take_more}
 use Rattle.basis_enum.specs.Next.{no_move, target_of}
@@ -9,8 +9,8 @@ loop-next-preserved c =
     let i = c.loop-next.next-index in
     let moves = c.args.moves.now in
     let m = get_or moves i no_move in
-    c.in_ok-push.ensures.items ∙ ap (λ xs. xs ++ m.target ∷ []) c.loop-next.invariant
-    ∙ sym (ap (map target_of) (take_more moves i no_move c.loop-next-test.true) ∙ map-append target_of (take i moves) (m ∷ []))
+    ◌∙◌ {A = List ℕ} c.in_ok-push.ensures.items (ap (λ xs. xs ++ m.target ∷ []) c.loop-next.invariant
+    ∙ sym (ap (map target_of) (take_more moves i no_move c.loop-next-test.true) ∙ map-append target_of (take i moves) (m ∷ [])))
 
 pub returns : goal.returns
 returns c =

@@ -75,9 +75,9 @@ returns-clause-moves g c =
     let size : length c.in_ok-level.level.items ≡ length c.args.moves.now = c.in_ok-level.ensures.children.size in
     let children = subst (λ l. AreChildren l c.args.moves.now (length c.args.moves.now) c.in_ok-level.level.items) c.as_slice-2.ensures.value c.in_ok-level.ensures.children in
     let lead = moves_lead c.args.system.now c.args.number c.args.walk.now c.args.moves.now c.requires.enumerable c.requires.walk c.requires.moves in
-    subst₂ (λ l known. AreNewMoves l.items known c.in_ok-next_moves_beside.field-0.items) (sym c.replace-before.ensures.after) c.as_slice-3.ensures.value
-    (new_moves_are c.in_ok-level.level.items c.as_slice-3.result.now c.in_ok-level.found.items c.in_ok-next_moves_beside.field-0.items
-    (children_ready c.args.system.now c.args.walk.now.level.items c.in_ok-level.level.items c.args.moves.now lead children) (omega arith) c.in_ok-level.ensures.found c.in_ok-next_moves_beside.ensures)
+    subst₂ (λ l known. AreNewMoves l.items known c.next_moves_beside.result.items) (sym c.replace-before.ensures.after) c.as_slice-3.ensures.value
+    (new_moves_are c.in_ok-level.level.items c.as_slice-3.result.now c.in_ok-level.found.items c.next_moves_beside.result.items
+    (children_ready c.args.system.now c.args.walk.now.level.items c.in_ok-level.level.items c.args.moves.now lead children) (omega arith) c.in_ok-level.ensures.found c.next_moves_beside.ensures)
 
 pub returns-clause-walk : goal.returns-clause-walk
 returns-clause-walk g c =

@@ -23,8 +23,8 @@ pub found_from-requires-clause-known : goal.found_from-requires-clause-known
 found_from-requires-clause-known g c =
     subst IsStrictlyIncreasing (sym (c.as_slice.ensures.value ∙ c.in_ok-known.ensures)) (λ k h. absurd (omega arith))
 
-pub next_moves-requires : goal.next_moves-requires
-next_moves-requires g c =
+pub next_moves-moves-requires : goal.next_moves-moves-requires
+next_moves-moves-requires g c =
     let s = c.args.system.now in
     let t = c.in_ok-tableau.tableau in
     let ready = first_ready s t c.nonbasics.ensures.valid c.requires.enumerable c.in_ok-tableau.ensures.first in
@@ -45,6 +45,6 @@ returns-clause-moves g c =
     let s = c.args.system.now in
     let t = c.in_ok-tableau.tableau in
     let ready = first_ready s t c.nonbasics.ensures.valid c.requires.enumerable c.in_ok-tableau.ensures.first in
-    subst₂ (λ level known. AreNewMoves level known c.in_ok-moves.moves.items) (sym c.in_ok-level.ensures) c.as_slice.ensures.value
-    (new_moves_are (t ∷ []) c.as_slice.result.now c.in_ok-found.found.moves.items c.in_ok-moves.moves.items (first_all_ready t ready) (omega arith)
-    (first_found t c.as_slice.result.now c.in_ok-found.found.moves.items c.in_ok-found.ensures.moves) c.in_ok-moves.ensures)
+    subst₂ (λ level known. AreNewMoves level known c.next_moves-moves.result.items) (sym c.in_ok-level.ensures) c.as_slice.ensures.value
+    (new_moves_are (t ∷ []) c.as_slice.result.now c.in_ok-found.found.moves.items c.next_moves-moves.result.items (first_all_ready t ready) (omega arith)
+    (first_found t c.as_slice.result.now c.in_ok-found.found.moves.items c.in_ok-found.ensures.moves) c.next_moves-moves.ensures)
