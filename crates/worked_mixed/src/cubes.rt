@@ -70,7 +70,7 @@ fn counts<R: Threads + Sync, G: Gate, L: Ledger>(
     match enumerate(rt, alloc, &system, workers, gate, &mut pivots) {
         Ok(vertices) => Ok(Ok((vertices.bases, vertices.list.len()))),
         Err(EnumStop::TooLarge(limit)) => Ok(Err(limit)),
-        Err(_) => Err(Stop::Unfit),
+        Err(_) => Err(Stop::Refused),
     }
 }
 

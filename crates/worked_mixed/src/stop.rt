@@ -2,11 +2,11 @@
 use frac128::Memory;
 use std::alloc::{AllocError, AllocFailed};
 
-/// There was no memory, or a step on two fractions does not fit.
+/// There was no memory, or an enumeration was refused.
 #[derive(Debug, Drop)]
 pub enum Stop {
     Memory,
-    Unfit,
+    Refused,
 }
 
 impl From<Memory> for Stop {

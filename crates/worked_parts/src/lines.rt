@@ -1,7 +1,7 @@
 // Lines of profiles: how they are written, and which are read.
 use crate::fractions::parsed;
 use frac128::{Frac, Memory};
-use ne_printer::{LineStop, fraction, line, push_numbers, read_line};
+use ne_printer::{LineStop, first_line, fraction, line, push_numbers, read_line};
 use std::alloc::Global;
 
 // Entries with the line that they are written as and read from; the first line has none.
@@ -98,4 +98,21 @@ fn lines_are_read(rt: HostRuntime) -> Result<(), LineStop> {
     }
     assert!(rt; is_bad(alloc, "NE,1\n"));
     Ok(())
+}
+
+// Whether the first line of a text is this one, and this stands after it.
+fn is_cut(text: &str, line: &str, rest: &str) -> bool {
+    match first_line(text.as_bytes()) {
+        Some((first, following)) => first == line.as_bytes() && following == rest.as_bytes(),
+        None => false,
+    }
+}
+
+/// A text is cut at its first line feed; without one it is a single line, and an empty one has none.
+#[test]
+fn first_lines_are_cut(rt: HostRuntime) {
+    assert!(rt; is_cut("NE,1\n\nNE,0\n", "NE,1", "\nNE,0\n"));
+    assert!(rt; is_cut("\nNE,0\n", "", "NE,0\n"));
+    assert!(rt; is_cut("NE,0", "NE,0", ""));
+    assert!(rt; first_line(b"").is_none());
 }
