@@ -15,7 +15,7 @@
 #![tactic(auto)]
 
 mod comparison;
-mod line_parts;
+mod kept_text;
 mod mixed;
 mod scratch;
 mod stops;

@@ -3,7 +3,7 @@ ghost use Rattle.answers.specs.Answers.{Gives, map_ok};
 ghost use Rattle.ne_checker.specs.LineChecks.{TableChecksAreSingle, table_check, table_line};
 ghost use Rattle.ne_checker.specs.declared.stops.CheckStop.TheVariants as stops;
 
-use crate::line_parts::{keep, within_limit};
+use crate::kept_text::{keep, within_limit};
 use crate::stops::{CheckStop, faulty, unread};
 use crate::texts::{better_strategy, equilibrium};
 use crate::{Mixed, TableVerdict, check_table};

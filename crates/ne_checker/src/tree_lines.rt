@@ -6,7 +6,7 @@ ghost use Rattle.ne_checker.specs.TreeScratches.{IsScratchOf};
 ghost use Rattle.ne_checker.specs.LineChecks.{TreeChecksAreSingle, tree_check, tree_line};
 ghost use Rattle.ne_checker.specs.declared.stops.CheckStop.TheVariants as stops;
 
-use crate::line_parts::{keep, within_limit};
+use crate::kept_text::{keep, within_limit};
 use crate::stops::{CheckStop, faulty, unread};
 use crate::texts::{better_reply, equilibrium};
 use crate::{Scratch, TreeVerdict, check_tree, tree_verdicts_are_single};

@@ -1,8 +1,8 @@
 //! The text of equilibria: lines and fractions, and lines read back.
 //!
 //! Callers may rely on: `line`, `push_line`, `push_numbers` and `fraction` write the defined bytes;
-//! `first_line` gives a text's first line, and a shorter text that has the others; `read_line` gives
-//! a line's entries, or `Bad`; `lines_read_back`.
+//! `first_line` cuts a text after its first line; `read_line` gives a line's entries, or `Bad`;
+//! `lines_read_back`.
 //! Definitions: `game_theory` has the text of a line; `specs::Entries` that of numbers after a
 //! name, `specs::TextLines` the lines of a text (`lines_of`), `specs::ReadLines` what a line reads as
 //! (`line_in`).

@@ -6,7 +6,7 @@ ghost use Rattle.std.specs.Str.Parse.{digits_value};
 ghost use Rattle.answers.specs.Answers.{Gives, map_ok};
 ghost use Rattle.rational.specs.Rational.{ℚ, frac};
 ghost use Rattle.ne_printer.specs.ReadLines.{IsNumeral, IsNumber, IsFraction, entries_in, line_in, LinesAreSingle, LinesReadBack};
-ghost use Rattle.ne_printer.specs.TextLines.{lines_of};
+ghost use Rattle.ne_printer.specs.TextLines.{IsFirstLine, lines_of};
 ghost use Rattle.ne_printer.specs.declared.reading.LineStop.TheVariants as stops;
 
 use frac128::Frac;
@@ -99,6 +99,8 @@ fn cut(text: &[u8], byte: u8) -> Option<(&[u8], &[u8])>
 /// The first line of a text, without its line feed, and what stands after that; nothing where the
 /// text is empty.
 pub fn first_line(text: &[u8]) -> Option<(&[u8], &[u8])>
+    ensures cut { MatchOption result (text.now ≡ [])
+        (λ cut. IsFirstLine text.now cut.0.now cut.1.now) }
     ensures lines { MatchOption result (text.now ≡ [])
         (λ cut. lines_of text.now ≡ cut.0.now ∷ lines_of cut.1.now) }
     ensures shorter { MatchOption result (text.now ≡ [])

@@ -1,7 +1,7 @@
 use Rattle.std.proofs.Common.{inr, refl, arith}
 use Rattle.enumpure.specs.declared.listing.ListStop.TheVariants as list_stops
 use Rattle.ne_checker.proofs.LineStepLemmas.{longer}
-use Rattle.ne_checker.proofs.line_parts.within_limit.Goals as goal
+use Rattle.ne_checker.proofs.kept_text.within_limit.Goals as goal
 
 pub returns-then-len-gt-MOST_TEXT : goal.returns-then-len-gt-MOST_TEXT
 returns-then-len-gt-MOST_TEXT c = λ whole kept.
