@@ -11,7 +11,7 @@ use crate::marking::add_vertex;
 use crate::moves::{Found, Move, found_from};
 use crate::vertex::Vertex;
 use answers::Memory;
-use claims::{Claims, Helpers, helpers_worth, shared_map};
+use claims::{Claims, Helpers, helped_map};
 use frac128::Unfit;
 use lex_tableau::{PivotCount, PivotStop, System, Tableau};
 use outside::Gate;
@@ -214,17 +214,16 @@ impl<G: Gate> Gate for GateFrom<'_, G> {
     }
 }
 
-// The pieces from a number on, which so many workers share.
+// The pieces from a number on, which helpers share.
 fn shared_pieces<R: Threads + Sync, G: Gate>(
     rt: &R,
     alloc: Global,
     expansion: &Expansion,
     first: usize,
-    workers: u32,
+    helpers: &Helpers,
     gate: &G,
 ) -> Result<Vec<Result<Reached, ChildStop>>, Memory>
     requires expandable { IsExpandable expansion.now }
-    requires workers { (1 ≤ workers) × (workers ≤ 64) }
     requires first_in { first ≤ length expansion.now.moves.now }
     ensures { IfOk result (λ v. ArePiecesFrom expansion.now first v.items) }
 {
@@ -237,23 +236,22 @@ fn shared_pieces<R: Threads + Sync, G: Gate>(
             (IsChildStopAt expansion.entry.now (first + number)) }
     { piece(alloc, expansion, first + number, gate) };
     let gate = GateFrom { gate, first };
-    shared_map(rt, alloc, &claims, &mut pass, count, workers, &gate, &work)
+    helped_map(rt, alloc, &claims, &mut pass, count, helpers, &gate, &work)
 }
 
-// Makes all pieces that are left, which so many workers share.
+// Makes all pieces that are left, which helpers share.
 #[tactic(auto, using(crate::proofs::NextLevelLemmas::stop_made, crate::proofs::WalkLemmas::adding_start))]
 fn share_children<R: Threads + Sync, G: Gate, L: Ledger>(
     rt: &R,
     alloc: Global,
     expansion: &Expansion,
-    workers: u32,
+    helpers: &Helpers,
     gate: &G,
     made: &mut Made,
     vertices: &mut Vec<Vertex>,
     pivots: &mut PivotCount<L>,
 ) -> Result<(), ChildStop>
     requires expandable { IsExpandable expansion.now }
-    requires workers { (1 ≤ workers) × (workers ≤ 64) }
     requires made { IsMadeFrom expansion.now made.old }
     requires left { length made.old.tableaux.items < length expansion.now.moves.now }
     ensures made { OnOk result (IsMadeFrom expansion.now made.new) }
@@ -267,7 +265,7 @@ fn share_children<R: Threads + Sync, G: Gate, L: Ledger>(
         ≤ pivots.old + length expansion.now.moves.now }
 {
     let first = made.tableaux.len();
-    let pieces = shared_pieces(rt, alloc, expansion, first, workers, gate)?;
+    let pieces = shared_pieces(rt, alloc, expansion, first, helpers, gate)?;
     for piece in pieces {
         pivots.tick();
         add_reached(piece?, made, vertices)?;
@@ -299,15 +297,11 @@ fn make_more<R: Threads + Sync, G: Gate, L: Ledger>(
     ensures bounded { pivots.new + length made.old.tableaux.items
         ≤ pivots.old + length expansion.now.moves.now }
 {
-    let taken = helpers.take(helpers_worth(expansion.moves.len() - made.tableaux.len()));
-    let more = if taken == 0 {
-        make_children(alloc, expansion, gate, made, vertices, pivots)
+    if expansion.moves.len() - made.tableaux.len() > 1 && helpers.are_idle() {
+        share_children(rt, alloc, expansion, helpers, gate, made, vertices, pivots)
     } else {
-        let workers = taken + 1;
-        share_children(rt, alloc, expansion, workers, gate, made, vertices, pivots)
-    };
-    helpers.add(taken);
-    more
+        make_children(alloc, expansion, gate, made, vertices, pivots)
+    }
 }
 
 /// The tableaux of the next level, and the pivots from there to new bases, in no stated order. The

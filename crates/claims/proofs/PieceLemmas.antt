@@ -12,8 +12,9 @@ use Rattle.std.proofs.lemmas.List.Sorted.{sum_by-IsPermutation, IsPermutation-ma
 use Rattle.std.proofs.lemmas.List.Sums.{length-filter, count_by-le-length}
 use Rattle.std.proofs.lemmas.Bool.{cases_lt}
 use denote.Param.Members.{Shared}
-use Rattle.claims.specs.ClaimWord.{times, one_below, HasEachBelow}
-use Rattle.claims.specs.Pieces.{numbers, AreOf, AreDone}
+use Rattle.atomic_table.specs.Seated.{TableId}
+use Rattle.claims.specs.ClaimWord.{PassState, pass_state, times, one_below, HasEachBelow}
+use Rattle.claims.specs.Pieces.{numbers, turn_limit, AreOf, AreDone, IsHelped}
 use Rattle.claims.proofs.OccurrenceLemmas.{times-cons, times_above, some_fails, each_below_filter, length_of_each, times-first, one_below-none}
 
 -- a number below the count is kept, and one that is not is dropped
@@ -165,3 +166,36 @@ sorted_in_order {T} n ps sorted len each perm rises =
     let none = one_below-none x in
     let e : times x (numbers sorted) ≡ one_below (0 + length sorted) x = same ∙ each x ∙ ap (λ k. one_below k x) m in
     omega (arith, e, none))
+
+-- the claims of one turn are few
+pub few_alone : (count own before after parts : ℕ) → 1 ≤ parts → own ≤ turn_limit count → after ≤ before + own → after + 1 * turn_limit count ≤ before + 2 * parts * turn_limit count
+few_alone count own before after parts some few is = let p : 1 * turn_limit count ≤ parts * turn_limit count = grind arith in omega (arith, few, is, p)
+
+-- a turn, and then the turns of two groups of workers
+pub few_then : (count own before middle after parts : ℕ) → own ≤ turn_limit count → middle ≤ before + own → after + 2 * turn_limit count ≤ middle + 2 * parts * turn_limit count → after + 1 * turn_limit count ≤ before + 2 * parts * turn_limit count
+few_then count own before middle after parts few is more = omega (arith, few, is, more)
+
+taken_twice : (p q c : ℕ) → p * c + q * c ≡ (p + q) * c
+taken_twice p q c = grind arith
+
+-- the turns of two groups of workers, each with its parts
+few_halved : (count parts theirs : ℕ) (olds xs ys both : List ℕ) → theirs ≤ parts → both ≡ xs ++ ys → length xs + 1 * turn_limit count ≤ length olds + 2 * (parts - theirs) * turn_limit count → length ys + 1 * turn_limit count ≤ 0 + 2 * theirs * turn_limit count
+    → length both + 2 * turn_limit count ≤ length olds + 2 * parts * turn_limit count
+few_halved count parts theirs olds xs ys both within joined a b =
+    let l : length both ≡ length xs + length ys = rw joined (length-append xs ys) in
+    let all : 2 * (parts - theirs) * turn_limit count + 2 * theirs * turn_limit count ≡ 2 * parts * turn_limit count = taken_twice (2 * (parts - theirs)) (2 * theirs) (turn_limit count) ∙ ap (λ k. k * turn_limit count) (let e : 2 * (parts - theirs) + 2 * theirs ≡ 2 * parts = omega arith in e) in
+    omega (arith, l, a, b, all)
+
+few_helped : (count n : ℕ) → count < 2 ^ 32 → n + 1 * turn_limit count ≤ 0 + 2 * 64 * turn_limit count → n < 2 ^ 64
+few_helped count n c few = omega (arith, c, few)
+
+-- what two workers with a half of the parts each claimed
+pub halves_few : (count theirs : ℕ) (claims : TableId) (old mine other after after_other : PassState) (both : List ℕ) → theirs ≤ old.parts → mine ≡ pass_state claims (old.parts - theirs) old.claimed → other ≡ pass_state claims theirs []
+    → IsHelped count 1 mine after → IsHelped count 1 other after_other → both ≡ after.claimed ++ after_other.claimed → length both + 2 * turn_limit count ≤ length old.claimed + 2 * old.parts * turn_limit count
+halves_few count theirs claims old mine other after after_other both within kept given first second joined = few_halved count old.parts theirs old.claimed after.claimed after_other.claimed both within joined
+    (subst (λ (s : PassState). length after.claimed + 1 * turn_limit count ≤ length s.claimed + 2 * s.parts * turn_limit count) kept first.few)
+    (subst (λ (s : PassState). length after_other.claimed + 1 * turn_limit count ≤ length s.claimed + 2 * s.parts * turn_limit count) given second.few)
+
+-- what the workers claimed by a pass with all parts that had claimed nothing
+pub all_few : (count : ℕ) (claims : TableId) (old after : PassState) → count < 2 ^ 32 → old ≡ pass_state claims 64 [] → IsHelped count 1 old after → length after.claimed < 2 ^ 64
+all_few count claims old after few new helped = few_helped count (length after.claimed) few (subst (λ (s : PassState). length after.claimed + 1 * turn_limit count ≤ length s.claimed + 2 * s.parts * turn_limit count) new helped.few)

@@ -3,7 +3,7 @@ use Rattle.std.specs.Prelude.{◌≡◌, ◌<◌, ◌≤◌, ◌+◌, ◌*◌, �
 use denote.Param.Members.{Shared}
 use Rattle.std.specs.Fn.{FnReturns}
 use Rattle.atomic_table.specs.Seated.{TableId}
-use Rattle.claims.specs.ClaimWord.{PassState, pass_state}
+use Rattle.claims.specs.ClaimWord.{PassState, pass_state, KnowsWhole}
 
 -- a pass of these claims that has claimed nothing, with a part for each of so many workers
 abbrev pub IsNewFor : TableId → ℕ → PassState → Type 0
@@ -30,3 +30,23 @@ pub record AreDone {F T : Type 0} (g : Shared F (ℕ × Unit {0}) T) (f : F)
     (count : ℕ) (claimed : List ℕ) (pieces : List (ℕ × T)) : Type 0 where
   pub are_of : AreOf g f count claimed pieces
   pub past : (count < length claimed) ⊎ (length pieces < length claimed)
+
+-- the most numbers that one worker claims in one turn, which ends where a helper joins in
+abbrev pub turn_limit : ℕ → ℕ
+turn_limit count = count + 16
+
+-- a pass of these claims, with some part, and the pieces of all that it claimed so far
+pub record IsAtWork {F T : Type 0} (g : Shared F (ℕ × Unit {0}) T) (f : F) (count : ℕ)
+    (claims : TableId) (pass : PassState) (pieces : List (ℕ × T)) : Type 0 where
+  pub own : pass.claims ≡ claims
+  pub some : 1 ≤ pass.parts
+  pub whole : KnowsWhole pass.parts pass.claimed
+  pub are_of : AreOf g f count pass.claimed pieces
+
+-- the same pass after the turns of workers, each of whom has a part: these are fewer than twice the
+-- parts, by so many at least
+pub record IsHelped (count fewer : ℕ) (before after : PassState) : Type 0 where
+  pub same : after ≡ pass_state before.claims before.parts after.claimed
+  pub few : length after.claimed + fewer * turn_limit count
+      ≤ length before.claimed + 2 * before.parts * turn_limit count
+  pub whole : KnowsWhole after.parts after.claimed

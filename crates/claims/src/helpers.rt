@@ -1,13 +1,7 @@
-// Workers that are idle, and how many of them shared work takes.
+// Workers that are idle.
 ghost use Rattle.std.specs.Prelude.{◌≤◌};
 
 use std::sync::atomic::{AtomicU32, Ordering};
-
-// The pieces that are worth a second helper, and each further one.
-const PIECES_PER_WORKER: usize = 16;
-
-// The most workers who share work.
-const MOST_WORKERS: usize = 64;
 
 /// Workers that are idle. Those who are at work may share them: each takes some for a while, and
 /// adds them again.
@@ -22,6 +16,11 @@ impl Helpers {
         Helpers {
             idle: AtomicU32::new(count),
         }
+    }
+
+    /// Whether some workers are idle at this moment.
+    pub fn are_idle(&self) -> bool {
+        self.idle.load(Ordering::SeqCst) > 0
     }
 
     /// Takes the idle workers, `most` of them at most, and says how many these are.
@@ -42,16 +41,4 @@ impl Helpers {
     pub fn add(&self, count: u32) {
         self.idle.fetch_add(count, Ordering::SeqCst);
     }
-}
-
-/// How many helpers so many pieces of work are worth: none for a single piece, one for more, and
-/// further ones where each worker has enough pieces.
-pub fn helpers_worth(pieces: usize) -> u32
-    ensures { result ≤ 63 }
-{
-    if pieces < 2 {
-        return 0;
-    }
-    let workers = (pieces / PIECES_PER_WORKER).max(2).min(MOST_WORKERS);
-    workers as u32 - 1
 }

@@ -2,18 +2,20 @@
 //! claims; and idle workers, who may help with it.
 //!
 //! Callers may rely on: `shared_map`, whose list has at each index what the function gives there,
-//! however many workers; a pass with all parts knows each number below its count claimed once;
-//! `Helpers` gives no more idle workers than it is asked for.
+//! however many workers, and `helped_map`, the same by helpers; a pass with all parts knows each
+//! number below its count claimed once; `Helpers` gives no more idle workers than it is asked for.
 //! Definitions: `specs::ClaimWord` has `PassState`, what contracts see of a `Pass`, with
 //! `HasEachBelow` and `KnowsWhole`.
 //! Private words: `specs::Pieces`, and `KeepsClaims`, the rule of the claim word.
-//! A change here touches: `basis_enum`, which computes its levels by `shared_map`, and gate tests.
+//! A change here touches: `basis_enum`, which computes its levels by `helped_map`, and gate tests.
 #![tactic(auto)]
 
 mod claim_word;
 mod helpers;
+mod helping;
 mod sharing;
 
 pub use claim_word::{Claims, Pass};
-pub use helpers::{Helpers, helpers_worth};
+pub use helpers::Helpers;
+pub use helping::helped_map;
 pub use sharing::shared_map;

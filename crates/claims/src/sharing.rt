@@ -158,7 +158,10 @@ fn worked_alone<T: Drop, F: Fn(usize) -> T, G: Gate>(
 
 // The values in the order of their numbers. Each worker claimed its own in ascending order, so the
 // stable sort merges few lists.
-fn in_order<T: Drop>(alloc: Global, mut pieces: Vec<(usize, T)>) -> Result<Vec<T>, Memory>
+pub(crate) fn in_order<T: Drop>(
+    alloc: Global,
+    mut pieces: Vec<(usize, T)>,
+) -> Result<Vec<T>, Memory>
     requires { HasEachBelow (length pieces.items) (numbers pieces.items) }
     ensures { IfOk result (λ v. IsPermutation pieces.items (enumerate_from 0 v.items)) }
 {

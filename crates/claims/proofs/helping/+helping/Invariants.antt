@@ -1,0 +1,27 @@
+use Rattle.std.proofs.Common.{◌≡◌, ◌+◌, ◌*◌, ◌-◌, length}
+use Rattle.claims.specs.ClaimWord.{KnowsWhole, pass_state}
+use Rattle.claims.specs.Pieces.{AreOf}
+use Rattle.claims.proofs.helping.+helping.Given as goal
+
+abbrev pub invariant-helped-loop : goal.invariant-helped-loop
+invariant-helped-loop g l = record {
+  same : l.pass ≡ pass_state l.job.claims.now l.initial.pass.parts l.pass.claimed;
+  claimed : length l.pass.claimed ≡ length l.initial.pass.claimed + 16 * l.counter;
+  whole : KnowsWhole l.pass.parts l.pass.claimed;
+  are_of : AreOf g.F.Fn l.job.f.now l.job.count l.pass.claimed l.pieces.items;
+}
+
+abbrev pub decreases-helped : goal.decreases-helped
+decreases-helped g l = 4 * l.pass.now.parts
+
+abbrev pub decreases-halved : goal.decreases-halved
+decreases-halved g l = 4 * l.pass.now.parts - 1
+
+abbrev pub decreases-both_helped : goal.decreases-both_helped
+decreases-both_helped g l = 4 * (l.pass.now.parts + l.other.now.parts) - 2
+
+abbrev pub decreases-both_helped-front : goal.decreases-both_helped-front
+decreases-both_helped-front g l = 4 * l.other.now.parts + 1
+
+abbrev pub decreases-both_helped-back : goal.decreases-both_helped-back
+decreases-both_helped-back g l = 4 * l.pass.now.parts + 1

@@ -1,0 +1,248 @@
+// Work that idle workers help with: they claim its pieces beside the calling thread, from the time
+// on at which they are idle.
+ghost use Rattle.std.specs.Prelude.{◌≡◌, ◌<◌, ◌≤◌, ◌+◌, ◌^◌, ℕ, [], length, IfOk, IfSome, IfNone, OnOk, vec_len};
+ghost use Rattle.std.specs.Fork.{GivesEach};
+ghost use Rattle.std.specs.Thread.{IsSync, IsSend};
+ghost use Rattle.claims.specs.ClaimWord.{HasEachBelow, KnowsWhole, pass_state};
+ghost use Rattle.claims.specs.Pieces.{AreDone, AreOf, IsAtWork, IsHelped};
+
+use crate::claim_word::{Claims, Pass};
+use crate::helpers::Helpers;
+use crate::sharing::in_order;
+use answers::Memory;
+use outside::Gate;
+use std::alloc::Global;
+use std::marker::{Send, Sync};
+use std::thread::{Threads, join_mut};
+
+// How many pieces a worker computes before it looks for another helper.
+const PIECES_ALONE: usize = 16;
+
+// How many bytes a worker takes and gives back before it is helped, and a helper before it begins:
+// 4 MiB.
+const ROOM: usize = 4194304;
+
+// Work whose pieces are numbered below a count: the claim word of the numbers, what each piece
+// gives, the gate, and the helpers.
+#[derive(Drop)]
+pub(crate) struct Job<'a, R, F, G> {
+    rt: &'a R,
+    alloc: Global,
+    claims: &'a Claims,
+    count: usize,
+    helpers: &'a Helpers,
+    gate: &'a G,
+    f: &'a F,
+}
+
+/// The list `f(0)` to `f(count - 1)`, computed by the calling thread and by helpers. A helper joins
+/// in, in a thread of its own where one can be made, at the start where there are two pieces or
+/// more; and after every 16 pieces each worker takes in a further one where some are idle and more
+/// than 16 pieces are left. Each helper is added again. The workers claim the numbers from the
+/// claim word, and pass the gate before each piece. The pass has all 64 parts and has claimed
+/// nothing; whatever the answer, it has all parts again, and tells the numbers that were claimed.
+/// Refused for want of memory alone.
+pub fn helped_map<R: Threads + Sync, T: Send + Drop, F: Fn(usize) -> T + Sync, G: Gate>(
+    rt: &R,
+    alloc: Global,
+    claims: &Claims,
+    pass: &mut Pass,
+    count: usize,
+    helpers: &Helpers,
+    gate: &G,
+    f: &F,
+) -> Result<Vec<T>, Memory>
+    requires pass { pass.old ≡ pass_state claims.now 64 [] }
+    requires count { count < 2 ^ 32 }
+    requires accepts { (k : ℕ) → k < count → F.pre f.now k }
+    ensures pass { pass.new ≡ pass_state claims.now 64 pass.new.claimed }
+    ensures each_once { HasEachBelow (length pass.new.claimed) pass.new.claimed }
+    ensures past { OnOk result (count < length pass.new.claimed) }
+    ensures len { IfOk result (λ v. vec_len v ≡ count) }
+    ensures each { IfOk result (λ v. GivesEach F.Fn f.now count v.items) }
+{
+    let mut pieces = Vec::new(alloc);
+    let job = Job {
+        rt,
+        alloc,
+        claims,
+        count,
+        helpers,
+        gate,
+        f,
+    };
+    begun(&job, pass, &mut pieces)?;
+    in_order(alloc, pieces)
+}
+
+// All pieces, where two or more with a helper from the start on, if one is idle.
+fn begun<R: Threads + Sync, T: Send + Drop, F: Fn(usize) -> T + Sync, G: Gate>(
+    job: &Job<R, F, G>,
+    pass: &mut Pass,
+    pieces: &mut Vec<(usize, T)>,
+) -> Result<(), Memory>
+    requires work { IsAtWork F.Fn job.now.f.now job.now.count job.now.claims.now
+        pass.old pieces.old.items }
+    requires parts { 1 < pass.old.parts }
+    requires count { job.now.count < 2 ^ 32 }
+    requires accepts { (k : ℕ) → k < job.now.count → F.pre job.now.f.now k }
+    ensures pass { IsHelped job.now.count 1 pass.old pass.new }
+    ensures pieces { OnOk result
+        (AreDone F.Fn job.now.f.now job.now.count pass.new.claimed pieces.new.items) }
+{
+    if job.count > 1 && job.helpers.take(1) == 1 {
+        return halved(job, pass, pieces);
+    }
+    helped(job, pass, pieces)
+}
+
+// The further pieces that a worker claims, until none is left. Helpers join in where some are idle.
+#[cycle(helping)]
+fn helped<R: Threads + Sync, T: Send + Drop, F: Fn(usize) -> T + Sync, G: Gate>(
+    job: &Job<R, F, G>,
+    pass: &mut Pass,
+    pieces: &mut Vec<(usize, T)>,
+) -> Result<(), Memory>
+    requires work { IsAtWork F.Fn job.now.f.now job.now.count job.now.claims.now
+        pass.old pieces.old.items }
+    requires count { job.now.count < 2 ^ 32 }
+    requires accepts { (k : ℕ) → k < job.now.count → F.pre job.now.f.now k }
+    ensures pass { IsHelped job.now.count 1 pass.old pass.new }
+    ensures pieces { OnOk result
+        (AreDone F.Fn job.now.f.now job.now.count pass.new.claimed pieces.new.items) }
+{
+    for _ in 0..job.count / PIECES_ALONE + 1 {
+        let Some(left) = worked(job, pass, pieces)? else {
+            return Ok(());
+        };
+        if left > PIECES_ALONE && pass.parts() > 1 && job.helpers.take(1) == 1 {
+            return halved(job, pass, pieces);
+        }
+    }
+    Ok(())
+}
+
+// The further pieces that a worker and a helper claim, each with one half of the parts. The helper
+// is added again.
+#[cycle(helping)]
+fn halved<R: Threads + Sync, T: Send + Drop, F: Fn(usize) -> T + Sync, G: Gate>(
+    job: &Job<R, F, G>,
+    pass: &mut Pass,
+    pieces: &mut Vec<(usize, T)>,
+) -> Result<(), Memory>
+    requires work { IsAtWork F.Fn job.now.f.now job.now.count job.now.claims.now
+        pass.old pieces.old.items }
+    requires parts { 1 < pass.old.parts }
+    requires count { job.now.count < 2 ^ 32 }
+    requires accepts { (k : ℕ) → k < job.now.count → F.pre job.now.f.now k }
+    ensures pass { IsHelped job.now.count 2 pass.old pass.new }
+    ensures pieces { OnOk result
+        (AreDone F.Fn job.now.f.now job.now.count pass.new.claimed pieces.new.items) }
+{
+    let theirs = pass.parts() / 2;
+    let mut other = job.claims.split(pass, theirs);
+    let mut rest = Vec::new(job.alloc);
+    let (first, second) = both_helped(job, pass, pieces, &mut other, &mut rest);
+    job.claims.join(pass, other);
+    job.helpers.add(1);
+    first?;
+    second?;
+    pieces.append(&mut rest)?;
+    Ok(())
+}
+
+// The further pieces of two workers, each with a pass of its own, the second in a new thread. It is
+// a function of its own so that what the closures require is what this function is given.
+#[cycle(helping)]
+fn both_helped<R: Threads + Sync, T: Send + Drop, F: Fn(usize) -> T + Sync, G: Gate>(
+    job: &Job<R, F, G>,
+    pass: &mut Pass,
+    pieces: &mut Vec<(usize, T)>,
+    other: &mut Pass,
+    rest: &mut Vec<(usize, T)>,
+) -> (Result<(), Memory>, Result<(), Memory>)
+    requires work { IsAtWork F.Fn job.now.f.now job.now.count job.now.claims.now
+        pass.old pieces.old.items }
+    requires other { IsAtWork F.Fn job.now.f.now job.now.count job.now.claims.now
+        other.old rest.old.items }
+    requires count { job.now.count < 2 ^ 32 }
+    requires accepts { (k : ℕ) → k < job.now.count → F.pre job.now.f.now k }
+    ensures pass { IsHelped job.now.count 1 pass.old pass.new }
+    ensures other { IsHelped job.now.count 1 other.old other.new }
+    ensures first { OnOk result.0
+        (AreDone F.Fn job.now.f.now job.now.count pass.new.claimed pieces.new.items) }
+    ensures second { OnOk result.1
+        (AreDone F.Fn job.now.f.now job.now.count other.new.claimed rest.new.items) }
+{
+    let mut back = || -> Result<(), Memory>
+        requires shared { IsSync R.row × IsSync F.row × IsSync G.row × IsSend T.row }
+        requires work { IsAtWork F.Fn job.now.f.now job.now.count job.now.claims.now
+            pass.now pieces.now.items }
+        requires count { job.now.count < 2 ^ 32 }
+        requires accepts { (k : ℕ) → k < job.now.count → F.pre job.now.f.now k }
+        ensures pass { IsHelped job.entry.now.count 1 pass.entry.now pass.exit.now }
+        ensures pieces { OnOk result
+            (AreDone F.Fn job.entry.now.f.now job.entry.now.count
+            pass.exit.now.claimed pieces.exit.now.items) }
+    {
+        make_room(job.alloc);
+        helped(job, pass, pieces)
+    };
+    let mut front = || -> Result<(), Memory>
+        requires shared { IsSync R.row × IsSync F.row × IsSync G.row × IsSend T.row }
+        requires work { IsAtWork F.Fn job.now.f.now job.now.count job.now.claims.now
+            other.now rest.now.items }
+        requires count { job.now.count < 2 ^ 32 }
+        requires accepts { (k : ℕ) → k < job.now.count → F.pre job.now.f.now k }
+        ensures pass { IsHelped job.entry.now.count 1 other.entry.now other.exit.now }
+        ensures pieces { OnOk result
+            (AreDone F.Fn job.entry.now.f.now job.entry.now.count
+            other.exit.now.claimed rest.exit.now.items) }
+    {
+        make_room(job.alloc);
+        helped(job, other, rest)
+    };
+    let (second, first) = join_mut(job.rt, &mut front, &mut back);
+    (first, second)
+}
+
+// Takes room and gives it back. The system's allocator keeps it for the thread, and need not ask
+// for it page by page while the pieces are computed.
+fn make_room(alloc: Global) {
+    drop(Vec::<u8>::with_capacity(alloc, ROOM));
+}
+
+// The next pieces that one worker claims, 16 of them, and how many numbers are above the last of
+// these; `None` where no piece is left to claim.
+fn worked<R, T: Drop, F: Fn(usize) -> T, G: Gate>(
+    job: &Job<R, F, G>,
+    pass: &mut Pass,
+    pieces: &mut Vec<(usize, T)>,
+) -> Result<Option<usize>, Memory>
+    requires work { IsAtWork F.Fn job.now.f.now job.now.count job.now.claims.now
+        pass.old pieces.old.items }
+    requires count { job.now.count < 2 ^ 32 }
+    requires accepts { (k : ℕ) → k < job.now.count → F.pre job.now.f.now k }
+    ensures same { pass.new ≡ pass_state job.now.claims.now pass.old.parts pass.new.claimed }
+    ensures whole { KnowsWhole pass.new.parts pass.new.claimed }
+    ensures few { length pass.new.claimed ≤ length pass.old.claimed + 16 }
+    ensures of { OnOk result
+        (AreOf F.Fn job.now.f.now job.now.count pass.new.claimed pieces.new.items) }
+    ensures more { IfOk result (λ left. IfSome left (λ _. length pass.new.claimed
+        ≡ length pass.old.claimed + 16)) }
+    ensures done { IfOk result (λ left. IfNone left
+        (length pieces.new.items < length pass.new.claimed)) }
+{
+    let mut left = 0;
+    for _ in 0..PIECES_ALONE {
+        pieces.reserve(1)?;
+        let number = job.claims.claim(pass) as usize;
+        if number >= job.count {
+            return Ok(None);
+        }
+        job.gate.pass(number);
+        pieces.push((number, (job.f)(number)))?;
+        left = job.count - number - 1;
+    }
+    Ok(Some(left))
+}
