@@ -273,7 +273,8 @@ fn share_children<R: Threads + Sync, G: Gate, L: Ledger>(
     Ok(())
 }
 
-// Makes further pieces: all that are left, where helpers are idle, who share them, and else some.
+// Makes further pieces: all that are left, where they are enough for helpers who are idle and who
+// share them, and else some.
 fn make_more<R: Threads + Sync, G: Gate, L: Ledger>(
     rt: &R,
     alloc: Global,
@@ -297,7 +298,7 @@ fn make_more<R: Threads + Sync, G: Gate, L: Ledger>(
     ensures bounded { pivots.new + length made.old.tableaux.items
         ≤ pivots.old + length expansion.now.moves.now }
 {
-    if expansion.moves.len() - made.tableaux.len() > 1 && helpers.are_idle() {
+    if helpers.are_free_for(expansion.moves.len() - made.tableaux.len()) {
         share_children(rt, alloc, expansion, helpers, gate, made, vertices, pivots)
     } else {
         make_children(alloc, expansion, gate, made, vertices, pivots)
@@ -306,7 +307,7 @@ fn make_more<R: Threads + Sync, G: Gate, L: Ledger>(
 
 /// The tableaux of the next level, and the pivots from there to new bases, in no stated order. The
 /// vertices of the level are added. Helpers share the pieces from the time on at which they are
-/// idle.
+/// idle, where enough are left.
 pub(crate) fn children<R: Threads + Sync, G: Gate, L: Ledger>(
     rt: &R,
     alloc: Global,

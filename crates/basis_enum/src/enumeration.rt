@@ -18,6 +18,9 @@ use std::marker::Sync;
 use std::sync::ledger::Ledger;
 use std::thread::Threads;
 
+// How many pieces are enough for a further worker.
+const FEWEST_PIECES: usize = 2;
+
 /// The vertices of a system whose rows are all rated, whose variables are the numbers from 1 to at
 /// most 128, and whose right sides are not negative: its extreme points, but for the one in which
 /// all nonbasic variables are zero. Each is there once, in ascending order of the masks. So many
@@ -46,13 +49,13 @@ pub fn enumerate<R: Threads + Sync, G: Gate, L: Ledger>(
     ensures few { IfOk result (λ v. v.bases ≤ 20000) }
     ensures bounded { pivots.new ≤ pivots.old + 19999 }
 {
-    enumerate_with(rt, alloc, system, &Helpers::new(workers - 1), gate, pivots)
+    let helpers = Helpers::new(workers - 1, FEWEST_PIECES);
+    enumerate_with(rt, alloc, system, &helpers, gate, pivots)
 }
 
-/// The vertices of a system, as `enumerate` gives them, by the calling thread and by helpers. A
-/// level takes helpers that are idle, when it begins and again after every 16 pieces that it makes
-/// alone, as far as the pieces that are left are worth them; one more may free a large level that
-/// is done with. Each helper that is taken is added again.
+/// The vertices of a system, as `enumerate` gives them, by the calling thread and by helpers, who
+/// join in while a level is made, where they are idle and enough pieces of it are left. Each helper
+/// is added again.
 ///
 /// # Errors
 ///

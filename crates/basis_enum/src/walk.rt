@@ -24,15 +24,11 @@ use lex_tableau::{PivotCount, StartStop, System, Tableau};
 use outside::Gate;
 use std::alloc::Global;
 use std::marker::Sync;
-use std::mem;
 use std::sync::ledger::Ledger;
-use std::thread::{Threads, join};
+use std::thread::Threads;
 
 // How many bases may be reached.
 const MOST_BASES: usize = 20_000;
-
-// A level of so many tableaux is worth a helper who frees it.
-const LARGE_LEVEL: usize = 256;
 
 // A level: its tableaux. Beside it the bases of all levels so far, in ascending order, and the
 // vertices of their tableaux as they were reached.
@@ -184,32 +180,6 @@ fn known_after(alloc: Global, known: &[u128], moves: &[Move]) -> Result<Vec<u128
     Ok(merged(alloc, known, new.as_slice())?)
 }
 
-// The pivots to the next level. The level before is not needed any more: where it is large and a
-// helper is idle, the helper frees it meanwhile.
-fn next_moves_beside<R: Threads + Sync>(
-    rt: &R,
-    found: Vec<Move>,
-    before: Vec<Tableau>,
-    helpers: &Helpers,
-) -> Vec<Move>
-    requires { AreSmall found.items }
-    ensures { IsNextOf found.items result.items }
-{
-    if before.len() < LARGE_LEVEL || helpers.take(1) == 0 {
-        return next_moves(found);
-    }
-    let (next, _) = join(
-        rt,
-        move || -> Vec<Move>
-            requires { AreSmall found.items }
-            ensures { IsNextOf found.items result.items }
-        { next_moves(found) },
-        move || drop(before),
-    );
-    helpers.add(1);
-    next
-}
-
 // Goes on to the next level, and finds the pivots from there.
 fn advance<R: Threads + Sync, G: Gate, L: Ledger>(
     rt: &R,
@@ -245,9 +215,9 @@ fn advance<R: Threads + Sync, G: Gate, L: Ledger>(
     let (level, found) = next_level(
         rt, alloc, &expansion, number, helpers, gate, vertices, pivots,
     )?;
-    let before = mem::replace(&mut walk.level, level);
+    walk.level = level;
     walk.known = known;
-    Ok(next_moves_beside(rt, found, before, helpers))
+    Ok(next_moves(found))
 }
 
 // Goes from level to level, to the last one.

@@ -1,6 +1,7 @@
 -- Pieces that were claimed, put together and put in order.
 use Rattle.std.proofs.Common.{◌≡◌, ◌<◌, ◌≤◌, ◌+◌, ◌-◌, ◌*◌, ◌/◌, ◌^◌, ◌∙◌, ◌==◌, ℕ, zero, suc, true, false, List, [], ◌∷◌, ◌++◌, length, length-append, arith, refl, sym, ap, ap₂, cond, nat_lt, get_or, map, inl, inr, ⊎_elim, subst}
-use Rattle.std.specs.Prelude.{filter, All}
+use Rattle.std.specs.Prelude.{filter, All, OnOk}
+use Rattle.std.specs.declared.result.Result.{Result}
 use Rattle.std.specs.Fn.{FnReturns}
 use Rattle.std.specs.Fork.{GivesEach}
 use Rattle.std.specs.List.{enumerate_from}
@@ -11,6 +12,7 @@ use Rattle.std.proofs.lemmas.List.FromFn.{length-enumerate_from, get_or-enumerat
 use Rattle.std.proofs.lemmas.List.Sorted.{sum_by-IsPermutation, IsPermutation-map, All-permutation, length_permutation}
 use Rattle.std.proofs.lemmas.List.Sums.{length-filter, count_by-le-length}
 use Rattle.std.proofs.lemmas.Bool.{cases_lt}
+use Rattle.std.proofs.lemmas.Result.{on_ok_weaker}
 use denote.Param.Members.{Shared}
 use Rattle.atomic_table.specs.Seated.{TableId}
 use Rattle.claims.specs.ClaimWord.{PassState, pass_state, times, one_below, HasEachBelow}
@@ -84,6 +86,12 @@ module _ {F T : Type 0} (g : Shared F (ℕ × Unit {0}) T) (f : F) (count : ℕ)
         are_of = AreOf-append xs ys ps qs a.are_of b.are_of;
         past = ⊎_elim (λ h. inl (omega (arith, h, l))) (λ h. inr (omega (arith, h, l, k, fewer))) a.past;
       }
+
+  -- what two workers did, where both did all
+  pub both_done : {A B E : Type 0} (xs ys both : List ℕ) (ps qs : List (ℕ × T)) (r : Result A E) (s : Result B E) → both ≡ xs ++ ys → OnOk r (AreDone g f count xs ps) → OnOk s (AreDone g f count ys qs) → OnOk r (OnOk s (AreDone g f count both (ps ++ qs)))
+  both_done xs ys both ps qs r s joined first second =
+      let done : AreDone g f count xs ps → AreDone g f count ys qs → AreDone g f count both (ps ++ qs) = λ a b. rw joined (AreDone-append xs ys ps qs a b) in
+      on_ok_weaker r (λ a. on_ok_weaker s (done a) second) first
 
   pub AreOf-each : (xs : List ℕ) (ps : List (ℕ × T)) → count < length xs → HasEachBelow (length xs) xs → AreOf g f count xs ps → HasEachBelow count (numbers ps)
   AreOf-each xs ps past each a = rw a.numbers (each_below_filter count (length xs) xs (omega (arith, past)) each)
@@ -170,10 +178,6 @@ sorted_in_order {T} n ps sorted len each perm rises =
 -- the claims of one turn are few
 pub few_alone : (count own before after parts : ℕ) → 1 ≤ parts → own ≤ turn_limit count → after ≤ before + own → after + 1 * turn_limit count ≤ before + 2 * parts * turn_limit count
 few_alone count own before after parts some few is = let p : 1 * turn_limit count ≤ parts * turn_limit count = grind arith in omega (arith, few, is, p)
-
--- a turn, and then the turns of two groups of workers
-pub few_then : (count own before middle after parts : ℕ) → own ≤ turn_limit count → middle ≤ before + own → after + 2 * turn_limit count ≤ middle + 2 * parts * turn_limit count → after + 1 * turn_limit count ≤ before + 2 * parts * turn_limit count
-few_then count own before middle after parts few is more = omega (arith, few, is, more)
 
 taken_twice : (p q c : ℕ) → p * c + q * c ≡ (p + q) * c
 taken_twice p q c = grind arith

@@ -1,40 +1,56 @@
 // Workers that are idle.
-ghost use Rattle.std.specs.Prelude.{◌≤◌};
+ghost use Rattle.std.specs.Prelude.{◌≡◌, ◌≤◌, IsTrue};
 
+use std::marker::Model;
 use std::sync::atomic::{AtomicU32, Ordering};
 
-/// Workers that are idle. Those who are at work may share them: each takes some for a while, and
-/// adds them again.
+/// Workers that are idle. Those who are at work may share them: each takes one for a while where
+/// enough pieces of its work are left, and adds it again. Contracts see how many pieces are enough.
 #[derive(Drop)]
 pub struct Helpers {
     idle: AtomicU32,
+    fewest: usize,
+}
+
+impl Model for Helpers {
+    ghost use Rattle.std.specs.Prelude.{ℕ};
+
+    ghost Value = { ℕ };
+
+    ghost view = { λ h. h.fewest };
 }
 
 impl Helpers {
-    /// So many idle workers.
-    pub fn new(count: u32) -> Helpers {
+    /// So many idle workers, for each of whom so many pieces are enough.
+    pub fn new(count: u32, fewest: usize) -> Helpers
+        ensures { result ≡ fewest }
+    {
         Helpers {
             idle: AtomicU32::new(count),
+            fewest,
         }
     }
 
-    /// Whether some workers are idle at this moment.
-    pub fn are_idle(&self) -> bool {
-        self.idle.load(Ordering::SeqCst) > 0
-    }
-
-    /// Takes the idle workers, `most` of them at most, and says how many these are.
-    pub fn take(&self, most: u32) -> u32
-        ensures { result ≤ most }
+    /// Whether some workers are idle at this moment, and so many pieces are enough for one. Never
+    /// where they are not enough.
+    pub fn are_free_for(&self, pieces: usize) -> bool
+        ensures { IsTrue result → self.now ≤ pieces }
     {
-        let left = |idle: u32| -> Option<u32> { Some(idle - idle.min(most)) };
-        match self
-            .idle
-            .fetch_update(Ordering::SeqCst, Ordering::SeqCst, left)
-        {
-            Ok(idle) => idle.min(most),
-            Err(_) => 0,
+        self.fewest <= pieces && self.idle.load(Ordering::SeqCst) > 0
+    }
+
+    /// Takes an idle worker where so many pieces are enough, and says whether it did. Never where
+    /// they are not enough.
+    pub fn take_for(&self, pieces: usize) -> bool
+        ensures { IsTrue result → self.now ≤ pieces }
+    {
+        if pieces < self.fewest {
+            return false;
         }
+        let left = |idle: u32| -> Option<u32> { idle.checked_sub(1) };
+        self.idle
+            .fetch_update(Ordering::SeqCst, Ordering::SeqCst, left)
+            .is_ok()
     }
 
     /// Adds so many workers that are idle from now on.

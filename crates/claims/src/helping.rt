@@ -1,6 +1,6 @@
 // Work that idle workers help with: they claim its pieces beside the calling thread, from the time
 // on at which they are idle.
-ghost use Rattle.std.specs.Prelude.{◌≡◌, ◌<◌, ◌≤◌, ◌+◌, ◌^◌, ℕ, [], length, IfOk, IfSome, IfNone, OnOk, vec_len};
+ghost use Rattle.std.specs.Prelude.{◌≡◌, ◌<◌, ◌≤◌, ◌+◌, ◌++◌, ◌^◌, ℕ, [], length, IfOk, IfSome, IfNone, OnOk, vec_len};
 ghost use Rattle.std.specs.Fork.{GivesEach};
 ghost use Rattle.std.specs.Thread.{IsSync, IsSend};
 ghost use Rattle.claims.specs.ClaimWord.{HasEachBelow, KnowsWhole, pass_state};
@@ -36,9 +36,9 @@ pub(crate) struct Job<'a, R, F, G> {
 }
 
 /// The list `f(0)` to `f(count - 1)`, computed by the calling thread and by helpers. A helper joins
-/// in, in a thread of its own where one can be made, at the start where there are two pieces or
-/// more; and after every 16 pieces each worker takes in a further one where some are idle and more
-/// than 16 pieces are left. Each helper is added again. The workers claim the numbers from the
+/// in, in a thread of its own where one can be made, at the start; and after every 16 pieces each
+/// worker takes in a further one where more than 16 are left; both only where some are idle and the
+/// pieces that are left are enough for one. Each helper is added again. The workers claim the numbers from the
 /// claim word, and pass the gate before each piece. The pass has all 64 parts and has claimed
 /// nothing; whatever the answer, it has all parts again, and tells the numbers that were claimed.
 /// Refused for want of memory alone.
@@ -75,7 +75,7 @@ pub fn helped_map<R: Threads + Sync, T: Send + Drop, F: Fn(usize) -> T + Sync, G
     in_order(alloc, pieces)
 }
 
-// All pieces, where two or more with a helper from the start on, if one is idle.
+// All pieces, where they are enough for a helper with one from the start on, if one is idle.
 fn begun<R: Threads + Sync, T: Send + Drop, F: Fn(usize) -> T + Sync, G: Gate>(
     job: &Job<R, F, G>,
     pass: &mut Pass,
@@ -90,7 +90,7 @@ fn begun<R: Threads + Sync, T: Send + Drop, F: Fn(usize) -> T + Sync, G: Gate>(
     ensures pieces { OnOk result
         (AreDone F.Fn job.now.f.now job.now.count pass.new.claimed pieces.new.items) }
 {
-    if job.count > 1 && job.helpers.take(1) == 1 {
+    if job.helpers.take_for(job.count) {
         return halved(job, pass, pieces);
     }
     helped(job, pass, pieces)
@@ -115,15 +115,14 @@ fn helped<R: Threads + Sync, T: Send + Drop, F: Fn(usize) -> T + Sync, G: Gate>(
         let Some(left) = worked(job, pass, pieces)? else {
             return Ok(());
         };
-        if left > PIECES_ALONE && pass.parts() > 1 && job.helpers.take(1) == 1 {
+        if left > PIECES_ALONE && pass.parts() > 1 && job.helpers.take_for(left) {
             return halved(job, pass, pieces);
         }
     }
     Ok(())
 }
 
-// The further pieces that a worker and a helper claim, each with one half of the parts. The helper
-// is added again.
+// The further pieces that a worker and a helper claim.
 #[cycle(helping)]
 fn halved<R: Threads + Sync, T: Send + Drop, F: Fn(usize) -> T + Sync, G: Gate>(
     job: &Job<R, F, G>,
@@ -139,16 +138,38 @@ fn halved<R: Threads + Sync, T: Send + Drop, F: Fn(usize) -> T + Sync, G: Gate>(
     ensures pieces { OnOk result
         (AreDone F.Fn job.now.f.now job.now.count pass.new.claimed pieces.new.items) }
 {
-    let theirs = pass.parts() / 2;
-    let mut other = job.claims.split(pass, theirs);
     let mut rest = Vec::new(job.alloc);
-    let (first, second) = both_helped(job, pass, pieces, &mut other, &mut rest);
-    job.claims.join(pass, other);
-    job.helpers.add(1);
+    let (first, second) = in_halves(job, pass, pieces, &mut rest);
     first?;
     second?;
     pieces.append(&mut rest)?;
     Ok(())
+}
+
+// The same in two lists, each by one half of the parts. The helper is added again.
+#[cycle(helping)]
+fn in_halves<R: Threads + Sync, T: Send + Drop, F: Fn(usize) -> T + Sync, G: Gate>(
+    job: &Job<R, F, G>,
+    pass: &mut Pass,
+    pieces: &mut Vec<(usize, T)>,
+    rest: &mut Vec<(usize, T)>,
+) -> (Result<(), Memory>, Result<(), Memory>)
+    requires work { IsAtWork F.Fn job.now.f.now job.now.count job.now.claims.now
+        pass.old pieces.old.items }
+    requires parts { 1 < pass.old.parts }
+    requires none { rest.old.items ≡ [] }
+    requires count { job.now.count < 2 ^ 32 }
+    requires accepts { (k : ℕ) → k < job.now.count → F.pre job.now.f.now k }
+    ensures pass { IsHelped job.now.count 2 pass.old pass.new }
+    ensures pieces { OnOk result.0 (OnOk result.1 (AreDone F.Fn job.now.f.now job.now.count
+        pass.new.claimed (pieces.new.items ++ rest.new.items))) }
+{
+    let theirs = pass.parts() / 2;
+    let mut other = job.claims.split(pass, theirs);
+    let both = both_helped(job, pass, pieces, &mut other, rest);
+    job.claims.join(pass, other);
+    job.helpers.add(1);
+    both
 }
 
 // The further pieces of two workers, each with a pass of its own, the second in a new thread. It is

@@ -50,6 +50,12 @@ pub struct ExtremePairs {
 // The fewest workers by whom both polytopes are enumerated at once.
 const SIDE_BY_SIDE: u32 = 4;
 
+// How many pieces are enough for a further worker, where one polytope is enumerated after the
+// other, and where both are at once and no worker would be without work.
+const ENOUGH_ALONE: usize = 2;
+
+const ENOUGH_SIDE_BY_SIDE: usize = 64;
+
 // The vertices of a system. The steps are counted on a blank, and the count is not used.
 fn enumerated<R: Threads + Sync, G: Gate, L: Ledger>(
     rt: &R,
@@ -181,9 +187,11 @@ fn both_vertices<R: Threads + Sync, G: Gate>(
     ensures few { IfOk result (λ both. (both.0.bases ≤ 20000) × (both.1.bases ≤ 20000)) }
 {
     if workers < SIDE_BY_SIDE {
-        one_by_one(rt, alloc, one, two, &Helpers::new(workers - 1), gate)
+        let helpers = Helpers::new(workers - 1, ENOUGH_ALONE);
+        one_by_one(rt, alloc, one, two, &helpers, gate)
     } else {
-        side_by_side(rt, alloc, one, two, &Helpers::new(workers - 2), gate)
+        let helpers = Helpers::new(workers - 2, ENOUGH_SIDE_BY_SIDE);
+        side_by_side(rt, alloc, one, two, &helpers, gate)
     }
 }
 

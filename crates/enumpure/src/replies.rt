@@ -1,6 +1,5 @@
 // The profiles of a table at which each player plays a best reply.
-ghost use Rattle.std.specs.Prelude.{◌≡◌, ℕ, ◌+◌, ◌*◌, ◌<◌, ◌↔◌, IsTrue, IfOk, OnOk, EachIndex, length, slice_index};
-ghost use Rattle.rational.specs.Rational.{◌<ℚ◌};
+ghost use Rattle.std.specs.Prelude.{◌≡◌, ℕ, ◌+◌, ◌*◌, ◌<◌, IsTrue, IfOk, OnOk, EachIndex, length, slice_index};
 ghost use Rattle.game_theory.specs.Profiles.{profile_count, stride as stride_of};
 ghost use Rattle.game_core.specs.Table.{game_of, strategy_counts, IsTable};
 ghost use Rattle.enumpure.specs.Replies.{IsBest, KeepsBestInLine, KeepsBestReplies, AreMutualBestReplies, plays_best};
@@ -38,13 +37,6 @@ fn payoff(table: &Table, player: usize, profile: usize) -> Frac
     table.payoffs()[profile * table.players().len() + player]
 }
 
-// Whether the first fraction is less.
-fn is_less(left: Frac, right: Frac) -> bool
-    ensures { IsTrue result ↔ (left <ℚ right) }
-{
-    left.cmp(right).is_lt()
-}
-
 // The best payoff among a player's strategies against what the others play in a profile, `first`, in
 // which the player plays strategy 0. The stride leads to the profile with the player's next strategy.
 fn best_payoff(table: &Table, player: usize, stride: usize, first: usize) -> Frac
@@ -58,7 +50,7 @@ fn best_payoff(table: &Table, player: usize, stride: usize, first: usize) -> Fra
     let mut best = payoff(table, player, first);
     for strategy in 1..strategy_count(table, player) {
         let other = payoff(table, player, first + stride * strategy);
-        if is_less(best, other) {
+        if best.is_less(other) {
             best = other;
         }
     }
@@ -84,7 +76,7 @@ fn keep_best(
 {
     for strategy in 0..strategy_count(table, player) {
         let profile = first + stride * strategy;
-        if is_less(payoff(table, player, profile), best) {
+        if payoff(table, player, profile).is_less(best) {
             all_best[profile] = false;
         }
     }

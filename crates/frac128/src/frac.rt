@@ -2,7 +2,7 @@
 ghost use Rattle.std.specs.Prelude.{◌≡◌, ◌≢◌, ◌⊎◌, ◌↔◌, ◌<◌, ◌<ℤ◌, ◌^◌, nat_abs, int_lt, pos, IsNone, IfSome, IsTrue, MatchOption};
 ghost use Rattle.frac128.specs.Fraction.{quotient, Fits, PartFits, with_sign};
 ghost use Rattle.rational.specs.Gcd.{gcd as gcd_of};
-ghost use Rattle.rational.specs.Rational.{frac, zero_ℚ, one_ℚ, neg_ℚ};
+ghost use Rattle.rational.specs.Rational.{frac, zero_ℚ, one_ℚ, neg_ℚ, ◌<ℚ◌};
 ghost use Rattle.rational.specs.Tests.{cmp_ℚ, sign_of};
 
 use crate::euclid::{cmp_signed_quotients, divided, gcd};
@@ -149,6 +149,13 @@ impl Frac {
             return (num * other_den).cmp(&(other_num * den));
         }
         cmp_signed_quotients(num, den.unsigned_abs(), other_num, other_den.unsigned_abs())
+    }
+
+    /// Whether the value is less than the other.
+    pub fn is_less(self, other: Frac) -> bool
+        ensures { IsTrue result ↔ (self <ℚ other) }
+    {
+        self.cmp(other).is_lt()
     }
 
     // The fraction of two parts in lowest terms.

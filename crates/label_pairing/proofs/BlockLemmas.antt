@@ -4,7 +4,7 @@ use Rattle.std.specs.Int.{bit_at}
 use Rattle.std.specs.List.{between}
 use Rattle.std.proofs.lemmas.Bool.{cases_lt}
 use Rattle.std.proofs.lemmas.Nat.{and_le_l}
-use Rattle.std.proofs.lemmas.Nat.Bits.{bit_at_and}
+use Rattle.std.proofs.lemmas.Nat.Bits.{bit_at_and, bit_at-zero}
 use Rattle.std.proofs.lemmas.List.{take_all, length-append, length-map, length-drop, get_or-map, get_or_append_left, get_or-append_right, get_or-take, length-take-le}
 use Rattle.std.proofs.lemmas.List.Edits.{length-between, get_or-between}
 use Rattle.std.proofs.lemmas.Simd.{bitmask_splat, zip2_splat_left, bit_mask_l, mask_l-lt}
@@ -54,6 +54,17 @@ pub both_bits : (mask all low high : List ℕ) (lows highs : ℕ)
     → (i : ℕ) → i < 8 → nat_eq (bit_at (bit_and lows highs) i) 1 ≡ completes mask all (get_or low i 0) (get_or high i 0)
 both_bits mask all low high lows highs g h i k =
     ap (λ n. nat_eq n 1) (bit_at_and lows highs i ∙ ap₂ min (g i k) (h i k)) ∙ both_set _ _
+
+none_set : (n : ℕ) (b c : Bool) → n ≡ 0 → n ≡ cond b 1 0 → nat_eq n 1 ≡ (b && c)
+none_set n true c none is = absurd (omega (arith, none, is))
+none_set n false c none is = rw none refl
+
+-- where no low word is all, no place of a block is
+pub no_bits : (mask all low high : List ℕ) (lows : ℕ) → lows ≡ 0
+    → ((i : ℕ) → i < 8 → bit_at lows i ≡ cond (nat_eq (bit_or (get_or mask 0 0) (get_or low i 0)) (get_or all 0 0)) 1 0)
+    → (i : ℕ) → i < 8 → nat_eq (bit_at 0 i) 1 ≡ completes mask all (get_or low i 0) (get_or high i 0)
+no_bits mask all low high lows none g i k =
+    none_set _ _ _ (bit_at-zero i) (ap (λ n. bit_at n i) (sym none) ∙ g i k)
 
 -- and there are no more
 pub both_few : (lows highs : ℕ) → lows < 2 ^ 8 → bit_and lows highs < 2 ^ 8

@@ -49,7 +49,7 @@ fn write_bits(bits: u64, found: &mut [bool])
     }
 }
 
-// Which places of a block complete a mask: a bit for each.
+// Which places of a block complete a mask: a bit for each. The high words are mostly not looked at.
 fn block_bits(mask: [u64; 2], all: [u64; 2], low: &[u64], high: &[u64]) -> u64
     requires low { length low.now ≡ 8 }
     requires high { length high.now ≡ 8 }
@@ -57,7 +57,11 @@ fn block_bits(mask: [u64; 2], all: [u64; 2], low: &[u64], high: &[u64]) -> u64
         ≡ completes mask all (get_or low.now i 0) (get_or high.now i 0) }
     ensures no_more { result < 2 ^ 8 }
 {
-    word_bits(mask[0], all[0], low) & word_bits(mask[1], all[1], high)
+    let lows = word_bits(mask[0], all[0], low);
+    if lows == 0 {
+        return 0;
+    }
+    lows & word_bits(mask[1], all[1], high)
 }
 
 // `matches` of a block.

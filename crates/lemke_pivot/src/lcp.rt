@@ -1,6 +1,5 @@
 // The problem and its path.
 ghost use Rattle.std.specs.Prelude.{◌≡◌, ◌+◌, ◌<◌, ◌≤◌, ◌^◌, length, true, false, IfOk, IfErr, OnOk};
-ghost use Rattle.rational.specs.Rational.{◌<ℚ◌, ◌≤ℚ◌};
 ghost use Rattle.sequence_data.specs.Data.{IsSideData, side_of};
 ghost use Rattle.sequence_forms.specs.Sides.{sequences};
 ghost use Rattle.lex_tableau.specs.Rows.{IsTableau, tableau};
@@ -77,14 +76,6 @@ pub enum LemkeEnd {
     },
 }
 
-// Whether the first fraction is less.
-fn is_less(left: Frac, right: Frac) -> bool
-    ensures less { result ≡ true → left <ℚ right }
-    ensures otherwise { result ≡ false → right ≤ℚ left }
-{
-    left.cmp(right).is_lt()
-}
-
 // The last of the rows with the least right side.
 fn least_row(table: &Tableau, size: usize) -> usize
     requires some { 0 < size }
@@ -96,7 +87,7 @@ fn least_row(table: &Tableau, size: usize) -> usize
     let mut least = table.right(0);
     for row in 1..size {
         let right = table.right(row);
-        if is_less(least, right) {
+        if least.is_less(right) {
             continue;
         }
         best = row;

@@ -14,7 +14,6 @@
 //! A change here touches: the text of `check`, byte for byte, and its refusals.
 #![tactic(auto)]
 
-mod comparison;
 mod kept_text;
 mod mixed;
 mod scratch;

@@ -47,7 +47,6 @@ ghost use Rattle.ne_checker.specs.TableChecks.{
   weight_steps,
 };
 
-use crate::comparison::is_less;
 use crate::mixed::{Mixed, strategy_count};
 use frac128::{Frac, Unfit};
 use game_core::Table;
@@ -249,7 +248,7 @@ fn best_strategy(table: &Table, mixed: &Mixed, player: usize) -> Result<Worth, U
             Ok(value) => value,
             Err(unfit) => return Err(unfit),
         };
-        if is_less(best, value) {
+        if best.is_less(value) {
             best = value;
             reply = strategy as u32;
         }
@@ -304,7 +303,7 @@ fn better_reply(table: &Table, mixed: &Mixed, player: usize) -> Result<Option<Be
         Ok(payoff) => payoff,
         Err(unfit) => return Err(unfit),
     };
-    if is_less(payoff, best.value) {
+    if payoff.is_less(best.value) {
         Ok(Some(BetterReply {
             payoff,
             best: best.value,

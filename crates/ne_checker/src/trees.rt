@@ -8,7 +8,6 @@ ghost use Rattle.ne_checker.specs.TreeVerdictLaws.{
   TreeVerdictsFindEquilibria,
 };
 
-use crate::comparison::is_less;
 use crate::scratch::Scratch;
 use behaviour_profile::Behaviour;
 use frac128::{Frac, Unfit};
@@ -60,7 +59,7 @@ pub fn check_tree(
         match scratch.check(tree, entries, player) {
             Err(unfit) => return TreeVerdict::Range { unfit },
             Ok((payoff, best)) => {
-                if is_less(payoff, best) {
+                if payoff.is_less(best) {
                     scratch.keep_reply(tree, player);
                     return TreeVerdict::Better {
                         player,

@@ -13,13 +13,6 @@ use frac128::{Frac, Memory};
 use game_core::Table;
 use std::alloc::Global;
 
-// Whether the first fraction is less.
-fn is_less(left: Frac, right: Frac) -> bool
-    ensures { IsTrue result ↔ (left <ℚ right) }
-{
-    left.cmp(right).is_lt()
-}
-
 // What a player gets for a strategy against one of the other player.
 fn payoff(table: &Table, player: u32, own: u32, against: u32) -> Frac
     requires valid { IsTable table.now }
@@ -51,7 +44,7 @@ fn pays_more(table: &Table, player: u32, others: &[u32], strategy: u32, by: u32)
 {
     for against in others {
         let less = payoff(table, player, strategy, *against);
-        if !is_less(less, payoff(table, player, by, *against)) {
+        if !less.is_less(payoff(table, player, by, *against)) {
             return false;
         }
     }

@@ -1,7 +1,6 @@
 // The shift of a player's payoffs.
-ghost use Rattle.std.specs.Prelude.{◌≡◌, ◌<◌, ◌↔◌, IsTrue, length};
+ghost use Rattle.std.specs.Prelude.{◌≡◌, ◌<◌, length};
 ghost use Rattle.answers.specs.Answers.{Gives, map_ok};
-ghost use Rattle.rational.specs.Rational.{◌<ℚ◌};
 ghost use Rattle.game_theory.specs.Profiles.{profile_count};
 ghost use Rattle.game_core.specs.Table.{game_of, strategy_counts, IsTable};
 ghost use Rattle.reply_polytope.specs.declared.stop.PolyStop.TheVariants as stops;
@@ -22,13 +21,6 @@ fn payoff(table: &Table, player: usize, profile: usize) -> Frac
     table.payoffs()[profile * table.players().len() + player]
 }
 
-// Whether the first fraction is less.
-fn is_less(left: Frac, right: Frac) -> bool
-    ensures { IsTrue result ↔ (left <ℚ right) }
-{
-    left.cmp(right).is_lt()
-}
-
 // The least of a player's payoffs.
 fn least_payoff(table: &Table, player: usize, profiles: usize) -> Frac
     requires player { player < length table.now.players }
@@ -39,7 +31,7 @@ fn least_payoff(table: &Table, player: usize, profiles: usize) -> Frac
     let mut least = payoff(table, player, 0);
     for profile in 1..profiles {
         let other = payoff(table, player, profile);
-        if is_less(other, least) {
+        if other.is_less(least) {
             least = other;
         }
     }

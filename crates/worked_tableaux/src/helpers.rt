@@ -24,7 +24,7 @@ fn triples<R: Threads + Sync>(
     ensures { IfOk result (λ v. v.items ≡ map (λ k. 3 * k) (range_with_len 0 count)) }
 {
     let (claims, mut pass) = Claims::new(alloc)?;
-    let helpers = Helpers::new(helpers);
+    let helpers = Helpers::new(helpers, 2);
     let triple = |k: usize| -> u64
         requires { k < 2 ^ 32 }
         ensures { result ≡ 3 * k }
@@ -68,7 +68,7 @@ impl Gate for LateGate {
 // Whether that helper joins in, and the pass has all parts again.
 fn help_late<R: Threads + Sync>(rt: &R, alloc: Global) -> Result<bool, Memory> {
     let gate = LateGate {
-        helpers: Helpers::new(0),
+        helpers: Helpers::new(0, 2),
         opened: AtomicBool::new(false),
         gave_up: AtomicBool::new(false),
     };
@@ -87,17 +87,16 @@ fn help_late<R: Threads + Sync>(rt: &R, alloc: Global) -> Result<bool, Memory> {
     Ok(got.len() == 100 && pass.parts() == 64 && !gave_up)
 }
 
-/// Of five helpers two are taken, then the three that are left, then none; of three that are added, all.
+/// Of two helpers each is taken once for three pieces, none for two; then a third, who is added.
 #[test]
 fn idle_helpers_are_taken(rt: HostRuntime) -> Result<(), Stop> {
-    let helpers = Helpers::new(5);
-    assert!(rt; helpers.take(2) == 2);
-    assert!(rt; helpers.are_idle());
-    assert!(rt; helpers.take(4) == 3);
-    assert!(rt; !helpers.are_idle());
-    assert!(rt; helpers.take(1) == 0);
-    helpers.add(3);
-    assert!(rt; helpers.take(63) == 3);
+    let helpers = Helpers::new(2, 3);
+    assert!(rt; helpers.are_free_for(3) && !helpers.are_free_for(2));
+    assert!(rt; !helpers.take_for(2));
+    assert!(rt; helpers.take_for(3) && helpers.take_for(4));
+    assert!(rt; !helpers.are_free_for(3) && !helpers.take_for(3));
+    helpers.add(1);
+    assert!(rt; helpers.take_for(3) && !helpers.take_for(3));
     Ok(())
 }
 

@@ -1,4 +1,4 @@
-use Rattle.std.proofs.Common.{◌≡◌, ◌+◌, ◌≤◌, length, map, refl, sym, subst, subst₂, arith}
+use Rattle.std.proofs.Common.{◌≡◌, ◌+◌, ◌≤◌, length, map, refl, sym, subst, arith}
 use Rattle.std.specs.List.{Contains}
 use Rattle.std.specs.List.Sorted.{IsStrictlyIncreasing}
 use Rattle.std.proofs.lemmas.Result.{err_from_is_err_and}
@@ -60,8 +60,8 @@ returns-in_err-level-clause-stop g c =
     let p = err_from_is_err_and c.from_residual-in_err-level.result c.from_residual-in_err-level.ensures.1 in
     rw (p.1, p.2) (move_stop c.args.system.now c.args.number c.args.walk.now c.args.moves.now c.in_err-level.field-0.0 c.requires.walk c.requires.moves few (subst (λ l. IsMoveStop l c.args.moves.now c.args.number c.in_err-level.field-0.0) c.as_slice-2.ensures.value c.in_err-level.ensures.stop))
 
-pub next_moves_beside-requires-after_bounds : goal.next_moves_beside-requires-after_bounds
-next_moves_beside-requires-after_bounds g c = λ _ _.
+pub next_moves-requires-after_bounds : goal.next_moves-requires-after_bounds
+next_moves-requires-after_bounds g c = λ _ _.
     let few : length c.args.walk.now.known.items + length c.args.moves.now ≤ 20000 = subst (λ xs. length xs + length c.args.moves.now ≤ 20000) c.as_slice.ensures.value c.in_ok-known.ensures.few in
     let size : length c.in_ok-level.level.items ≡ length c.args.moves.now = c.in_ok-level.ensures.children.size in
     let children = subst (λ l. AreChildren l c.args.moves.now (length c.args.moves.now) c.in_ok-level.level.items) c.as_slice-2.ensures.value c.in_ok-level.ensures.children in
@@ -75,15 +75,14 @@ returns-clause-moves g c =
     let size : length c.in_ok-level.level.items ≡ length c.args.moves.now = c.in_ok-level.ensures.children.size in
     let children = subst (λ l. AreChildren l c.args.moves.now (length c.args.moves.now) c.in_ok-level.level.items) c.as_slice-2.ensures.value c.in_ok-level.ensures.children in
     let lead = moves_lead c.args.system.now c.args.number c.args.walk.now c.args.moves.now c.requires.enumerable c.requires.walk c.requires.moves in
-    subst₂ (λ l known. AreNewMoves l.items known c.next_moves_beside.result.items) (sym c.replace-before.ensures.after) c.as_slice-3.ensures.value
-    (new_moves_are c.in_ok-level.level.items c.as_slice-3.result.now c.in_ok-level.found.items c.next_moves_beside.result.items
-    (children_ready c.args.system.now c.args.walk.now.level.items c.in_ok-level.level.items c.args.moves.now lead children) (omega arith) c.in_ok-level.ensures.found c.next_moves_beside.ensures)
+    subst (λ known. AreNewMoves c.in_ok-level.level.items known c.next_moves.result.items) c.as_slice-3.ensures.value
+    (new_moves_are c.in_ok-level.level.items c.as_slice-3.result.now c.in_ok-level.found.items c.next_moves.result.items
+    (children_ready c.args.system.now c.args.walk.now.level.items c.in_ok-level.level.items c.args.moves.now lead children) (omega arith) c.in_ok-level.ensures.found c.next_moves.ensures)
 
 pub returns-clause-walk : goal.returns-clause-walk
 returns-clause-walk g c =
     let few = subst (λ xs. length xs + length c.args.moves.now ≤ 20000) c.as_slice.ensures.value c.in_ok-known.ensures.few in
     let children = subst (λ l. AreChildren l c.args.moves.now (length c.args.moves.now) c.in_ok-level.level.items) c.as_slice-2.ensures.value c.in_ok-level.ensures.children in
     let merged = subst (λ xs. IsMerged xs (map target_of c.args.moves.now) c.in_ok-known.known.items) c.as_slice.ensures.value c.in_ok-known.ensures.merged in
-    subst (λ l. IsWalkAt c.args.system.now (c.args.number + 1) (record { level = l; known = c.in_ok-known.known; vertices = c.next_level.new.vertices })) (sym c.replace-before.ensures.after)
-    (walk_next c.args.system.now c.args.number c.args.walk.now (record { level = c.in_ok-level.level; known = c.in_ok-known.known; vertices = c.next_level.new.vertices }) c.args.moves.now (map target_of c.args.moves.now)
-    c.requires.enumerable c.requires.walk c.requires.moves c.requires.some few children refl merged c.in_ok-level.ensures.vertices)
+    walk_next c.args.system.now c.args.number c.args.walk.now (record { level = c.in_ok-level.level; known = c.in_ok-known.known; vertices = c.next_level.new.vertices }) c.args.moves.now (map target_of c.args.moves.now)
+    c.requires.enumerable c.requires.walk c.requires.moves c.requires.some few children refl merged c.in_ok-level.ensures.vertices

@@ -12,16 +12,19 @@ invariant-helped-loop g l = record {
 }
 
 abbrev pub decreases-helped : goal.decreases-helped
-decreases-helped g l = 4 * l.pass.now.parts
+decreases-helped g l = 5 * l.pass.now.parts
 
 abbrev pub decreases-halved : goal.decreases-halved
-decreases-halved g l = 4 * l.pass.now.parts - 1
+decreases-halved g l = 5 * l.pass.now.parts - 1
+
+abbrev pub decreases-in_halves : goal.decreases-in_halves
+decreases-in_halves g l = 5 * l.pass.now.parts - 2
 
 abbrev pub decreases-both_helped : goal.decreases-both_helped
-decreases-both_helped g l = 4 * (l.pass.now.parts + l.other.now.parts) - 2
+decreases-both_helped g l = 5 * (l.pass.now.parts + l.other.now.parts) - 3
 
 abbrev pub decreases-both_helped-front : goal.decreases-both_helped-front
-decreases-both_helped-front g l = 4 * l.other.now.parts + 1
+decreases-both_helped-front g l = 5 * l.other.now.parts + 1
 
 abbrev pub decreases-both_helped-back : goal.decreases-both_helped-back
-decreases-both_helped-back g l = 4 * l.pass.now.parts + 1
+decreases-both_helped-back g l = 5 * l.pass.now.parts + 1
