@@ -50,10 +50,11 @@ pub struct ExtremePairs {
 // The fewest workers by whom both polytopes are enumerated at once.
 const SIDE_BY_SIDE: u32 = 4;
 
-// How many pieces are enough for a further worker, where one polytope is enumerated after the
-// other, and where both are at once and no worker would be without work.
+// How many pieces are enough for a further worker, where one polytope is enumerated after the other.
 const ENOUGH_ALONE: usize = 2;
 
+// How many are enough where both are enumerated at once: as many as take longer than the start of a
+// thread.
 const ENOUGH_SIDE_BY_SIDE: usize = 64;
 
 // The vertices of a system. The steps are counted on a blank, and the count is not used.
