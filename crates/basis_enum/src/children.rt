@@ -239,6 +239,17 @@ fn shared_pieces<R: Threads + Sync, G: Gate>(
     helped_map(rt, alloc, &claims, &mut pass, count, helpers, &gate, &work)
 }
 
+// How many pivots pieces found.
+fn move_count(pieces: &[Result<Reached, ChildStop>]) -> usize {
+    let mut count: usize = 0;
+    for piece in pieces.iter() {
+        if let Ok(reached) = piece {
+            count = count.saturating_add(reached.found.moves.len());
+        }
+    }
+    count
+}
+
 // Makes all pieces that are left, which helpers share.
 #[tactic(auto, using(crate::proofs::NextLevelLemmas::stop_made, crate::proofs::WalkLemmas::adding_start))]
 fn share_children<R: Threads + Sync, G: Gate, L: Ledger>(
@@ -266,6 +277,7 @@ fn share_children<R: Threads + Sync, G: Gate, L: Ledger>(
 {
     let first = made.tableaux.len();
     let pieces = shared_pieces(rt, alloc, expansion, first, helpers, gate)?;
+    made.moves.reserve(move_count(&pieces))?;
     for piece in pieces {
         pivots.tick();
         add_reached(piece?, made, vertices)?;

@@ -61,7 +61,7 @@ pub fn helped_map<R: Threads + Sync, T: Send + Drop, F: Fn(usize) -> T + Sync, G
     ensures len { IfOk result (λ v. vec_len v ≡ count) }
     ensures each { IfOk result (λ v. GivesEach F.Fn f.now count v.items) }
 {
-    let mut pieces = Vec::new(alloc);
+    let mut pieces = room_for(alloc, count);
     let job = Job {
         rt,
         alloc,
@@ -73,6 +73,16 @@ pub fn helped_map<R: Threads + Sync, T: Send + Drop, F: Fn(usize) -> T + Sync, G
     };
     begun(&job, pass, &mut pieces)?;
     in_order(alloc, pieces)
+}
+
+// An empty list with room for so many pieces; without room where there is no memory.
+fn room_for<T: Drop>(alloc: Global, count: usize) -> Vec<T>
+    ensures { result.items ≡ [] }
+{
+    match Vec::with_capacity(alloc, count) {
+        Ok(list) => list,
+        Err(_) => Vec::new(alloc),
+    }
 }
 
 // All pieces, where they are enough for a helper with one from the start on, if one is idle.
@@ -138,7 +148,7 @@ fn halved<R: Threads + Sync, T: Send + Drop, F: Fn(usize) -> T + Sync, G: Gate>(
     ensures pieces { OnOk result
         (AreDone F.Fn job.now.f.now job.now.count pass.new.claimed pieces.new.items) }
 {
-    let mut rest = Vec::new(job.alloc);
+    let mut rest = room_for(job.alloc, job.count / 2);
     let (first, second) = in_halves(job, pass, pieces, &mut rest);
     first?;
     second?;
