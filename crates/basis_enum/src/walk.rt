@@ -8,7 +8,7 @@ ghost use Rattle.basis_enum.specs.Children.{AreAllChildren, IsChildStop, IsExpan
 ghost use Rattle.basis_enum.specs.Enumeration.{IsEnumStop};
 ghost use Rattle.basis_enum.specs.Found.{AreFoundIn};
 ghost use Rattle.basis_enum.specs.Merged.{IsMerged};
-ghost use Rattle.basis_enum.specs.Next.{AreNewMoves, AreSmall, IsNextOf, target_of};
+ghost use Rattle.basis_enum.specs.Next.{AreNewMoves, target_of};
 ghost use Rattle.basis_enum.specs.Walks.{AddsVertices, HaveEntering, IsCountStop, IsFirst, IsLimitStop, IsMoveStop, IsWalkAt, IsWalkToEnd};
 
 use crate::bases::{basis, merged};

@@ -38,10 +38,10 @@ pub(crate) struct Job<'a, R, F, G> {
 /// The list `f(0)` to `f(count - 1)`, computed by the calling thread and by helpers. A helper joins
 /// in, in a thread of its own where one can be made, at the start; and after every 16 pieces each
 /// worker takes in a further one where more than 16 are left; both only where some are idle and the
-/// pieces that are left are enough for one. Each helper is added again. The workers claim the numbers from the
-/// claim word, and pass the gate before each piece. The pass has all 64 parts and has claimed
-/// nothing; whatever the answer, it has all parts again, and tells the numbers that were claimed.
-/// Refused for want of memory alone.
+/// pieces that are left are enough for one. Each helper is added again. The workers claim the
+/// numbers from the claim word, and pass the gate before each piece. The pass has all 64 parts and
+/// has claimed nothing; whatever the answer, it has all parts again, and tells the numbers that were
+/// claimed. Refused for want of memory alone.
 pub fn helped_map<R: Threads + Sync, T: Send + Drop, F: Fn(usize) -> T + Sync, G: Gate>(
     rt: &R,
     alloc: Global,

@@ -3,7 +3,8 @@
 //!
 //! Callers may rely on: `shared_map`, whose list has at each index what the function gives there,
 //! however many workers, and `helped_map`, the same by helpers; a pass with all parts knows each
-//! number below its count claimed once; `Helpers` gives a worker only where the pieces are enough for one.
+//! number below its count claimed once; `Helpers` gives a worker only where the pieces are enough
+//! for one.
 //! Definitions: `specs::ClaimWord` has `PassState`, what contracts see of a `Pass`, with
 //! `HasEachBelow` and `KnowsWhole`.
 //! Private words: `specs::Pieces`, and `KeepsClaims`, the rule of the claim word.

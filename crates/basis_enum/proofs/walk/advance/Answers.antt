@@ -6,7 +6,7 @@ use Rattle.basis_enum.specs.Children.{AreMoves, AreChildren, LeadToReady}
 use Rattle.basis_enum.specs.Found.{AreReady}
 use Rattle.basis_enum.specs.Merged.{IsMerged}
 use Rattle.basis_enum.specs.Next.{AreNewMoves, target_of}
-use Rattle.basis_enum.specs.Walks.{HaveEntering, IsCountStop, IsMoveStop, IsWalkAt}
+use Rattle.basis_enum.specs.Walks.{HaveEntering, IsCountStop, IsMoveStop}
 use Rattle.basis_enum.proofs.LevelMoveLemmas.{found_small, new_moves_are}
 use Rattle.basis_enum.proofs.WalkLemmas.{walk_few, walk_ready, walk_next, moves_are, moves_enter, moves_lead, targets_apart, children_ready, count_stop, move_stop}
 use Rattle.basis_enum.proofs.walk.advance.Goals as goal
@@ -60,8 +60,8 @@ returns-in_err-level-clause-stop g c =
     let p = err_from_is_err_and c.from_residual-in_err-level.result c.from_residual-in_err-level.ensures.1 in
     rw (p.1, p.2) (move_stop c.args.system.now c.args.number c.args.walk.now c.args.moves.now c.in_err-level.field-0.0 c.requires.walk c.requires.moves few (subst (λ l. IsMoveStop l c.args.moves.now c.args.number c.in_err-level.field-0.0) c.as_slice-2.ensures.value c.in_err-level.ensures.stop))
 
-pub next_moves-requires-after_bounds : goal.next_moves-requires-after_bounds
-next_moves-requires-after_bounds g c = λ _ _.
+pub next_moves-requires : goal.next_moves-requires
+next_moves-requires g c =
     let few : length c.args.walk.now.known.items + length c.args.moves.now ≤ 20000 = subst (λ xs. length xs + length c.args.moves.now ≤ 20000) c.as_slice.ensures.value c.in_ok-known.ensures.few in
     let size : length c.in_ok-level.level.items ≡ length c.args.moves.now = c.in_ok-level.ensures.children.size in
     let children = subst (λ l. AreChildren l c.args.moves.now (length c.args.moves.now) c.in_ok-level.level.items) c.as_slice-2.ensures.value c.in_ok-level.ensures.children in
