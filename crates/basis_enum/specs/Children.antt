@@ -1,5 +1,6 @@
 -- The tableaux of the next level
-use Rattle.std.specs.Prelude.{ℕ, ◌+◌, ◌^◌, ◌<◌, ◌≤◌, ◌≡◌, List, Result, length, get_or, map, MatchResult}
+use Rattle.std.specs.Prelude.{ℕ, ◌+◌, ◌^◌, ◌<◌, ◌≤◌, ◌≡◌, List, Option, length, get_or, map, IfSome}
+use Rattle.std.specs.Global.{Box}
 use Rattle.std.specs.List.{Contains}
 use Rattle.std.specs.List.Sorted.{IsStrictlyIncreasing}
 use Rattle.lex_tableau.specs.Rows.{Numbers}
@@ -61,12 +62,12 @@ IsChildStopAt e n (Unfit place unfit) =
     (place ≡ n) × IsFirstUnfit (steps_of e.level.now (move_at e n)) unfit
 IsChildStopAt e n Memory = Unit {0}
 
--- what is told of the pivots of an expansion from this number on
-pub record ArePiecesFrom (e : Expansion) (first : ℕ) (pieces : List (Result Reached ChildStop))
+-- what the pivots of an expansion from this number on give; of a gap nothing is said
+pub record ArePiecesFrom (e : Expansion) (first : ℕ) (pieces : List (Option (Box Reached)))
     : Type 0 where
   pub size : first + length pieces ≡ length e.moves.now
-  pub each : (n : ℕ) (d : Result Reached ChildStop) → n < length pieces
-      → MatchResult (get_or pieces n d) (IsReachedAt e (first + n)) (IsChildStopAt e (first + n))
+  pub each : (n : ℕ) (d : Option (Box Reached)) → n < length pieces
+      → IfSome (get_or pieces n d) (λ b. IsReachedAt e (first + n) b.value)
 
 -- the first pivot with a step that does not fit, or no memory, of which nothing is said
 abbrev pub IsChildStop : Expansion → ChildStop → Type 0

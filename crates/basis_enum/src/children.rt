@@ -1,5 +1,5 @@
 // The tableaux of the next level.
-ghost use Rattle.std.specs.Prelude.{◌≡◌, ◌<◌, ◌≤◌, ◌+◌, ◌++◌, ◌∷◌, [], length, option_to_list, IfOk, IfErr, MatchResult, OnOk};
+ghost use Rattle.std.specs.Prelude.{◌≡◌, ◌<◌, ◌≤◌, ◌+◌, ◌++◌, ◌∷◌, [], length, option_to_list, IfOk, IfErr, IfSome, MatchResult, OnOk};
 ghost use Rattle.lex_tableau.specs.PivotStops.{IsPivotStop};
 ghost use Rattle.basis_enum.specs.Levels.{IsChild, IsMove, parent_of};
 ghost use Rattle.basis_enum.specs.Children.{AreAllChildren, ArePiecesFrom, IsChildAt, IsChildStop, IsChildStopAt, IsExpandable, IsMadeFrom, IsReachedAt};
@@ -14,7 +14,7 @@ use answers::Memory;
 use claims::{Claims, Helpers, helped_map};
 use frac128::Unfit;
 use lex_tableau::{PivotCount, PivotStop, System, Tableau};
-use outside::Gate;
+use outside::{Gate, OpenGate};
 use std::alloc::{AllocError, AllocFailed, Global};
 use std::marker::{Brand, Sync};
 use std::sync::ledger::{Blank, Ledger};
@@ -214,6 +214,22 @@ impl<G: Gate> Gate for GateFrom<'_, G> {
     }
 }
 
+// A piece in a box, so that lists of pieces are short. Nothing where its pivot has a step that does
+// not fit, or memory ran out.
+fn boxed_piece<G: Gate>(
+    alloc: Global,
+    expansion: &Expansion,
+    place: usize,
+    gate: &G,
+) -> Option<Box<Reached>>
+    requires expandable { IsExpandable expansion.now }
+    requires place_in { place < length expansion.now.moves.now }
+    ensures { IfSome result (λ b. IsReachedAt expansion.now place b.value) }
+{
+    let reached = piece(alloc, expansion, place, gate).ok()?;
+    Box::new(alloc, reached).ok()
+}
+
 // The pieces from a number on, which helpers share.
 fn shared_pieces<R: Threads + Sync, G: Gate>(
     rt: &R,
@@ -222,28 +238,46 @@ fn shared_pieces<R: Threads + Sync, G: Gate>(
     first: usize,
     helpers: &Helpers,
     gate: &G,
-) -> Result<Vec<Result<Reached, ChildStop>>, Memory>
+) -> Result<Vec<Option<Box<Reached>>>, Memory>
     requires expandable { IsExpandable expansion.now }
     requires first_in { first ≤ length expansion.now.moves.now }
     ensures { IfOk result (λ v. ArePiecesFrom expansion.now first v.items) }
 {
     let (claims, mut pass) = Claims::new(alloc)?;
     let count = expansion.moves.len() - first;
-    let work = |number: usize| -> Result<Reached, ChildStop>
+    let work = |number: usize| -> Option<Box<Reached>>
         requires expandable { IsExpandable expansion.now }
         requires place_in { first + number < length expansion.now.moves.now }
-        ensures { MatchResult result (IsReachedAt expansion.entry.now (first + number))
-            (IsChildStopAt expansion.entry.now (first + number)) }
-    { piece(alloc, expansion, first + number, gate) };
+        ensures { IfSome result (λ b. IsReachedAt expansion.entry.now (first + number) b.value) }
+    { boxed_piece(alloc, expansion, first + number, gate) };
     let gate = GateFrom { gate, first };
     helped_map(rt, alloc, &claims, &mut pass, count, helpers, &gate, &work)
 }
 
+// What is in a box; where there is none, the piece is made again, so that its refusal is told.
+fn unboxed(
+    alloc: Global,
+    expansion: &Expansion,
+    place: usize,
+    boxed: Option<Box<Reached>>,
+) -> Result<Reached, ChildStop>
+    requires expandable { IsExpandable expansion.now }
+    requires place_in { place < length expansion.now.moves.now }
+    requires boxed { IfSome boxed (λ b. IsReachedAt expansion.now place b.value) }
+    ensures { MatchResult result (IsReachedAt expansion.now place)
+        (IsChildStopAt expansion.now place) }
+{
+    match boxed {
+        Some(reached) => Ok(Box::into_inner(reached)),
+        None => piece(alloc, expansion, place, &OpenGate),
+    }
+}
+
 // How many pivots pieces found.
-fn move_count(pieces: &[Result<Reached, ChildStop>]) -> usize {
+fn move_count(pieces: &[Option<Box<Reached>>]) -> usize {
     let mut count: usize = 0;
     for piece in pieces.iter() {
-        if let Ok(reached) = piece {
+        if let Some(reached) = piece {
             count = count.saturating_add(reached.found.moves.len());
         }
     }
@@ -279,8 +313,9 @@ fn share_children<R: Threads + Sync, G: Gate, L: Ledger>(
     let pieces = shared_pieces(rt, alloc, expansion, first, helpers, gate)?;
     made.moves.reserve(move_count(&pieces))?;
     for piece in pieces {
+        let reached = unboxed(alloc, expansion, made.tableaux.len(), piece)?;
         pivots.tick();
-        add_reached(piece?, made, vertices)?;
+        add_reached(reached, made, vertices)?;
     }
     Ok(())
 }
