@@ -57,6 +57,15 @@ const ENOUGH_ALONE: usize = 2;
 // thread.
 const ENOUGH_SIDE_BY_SIDE: usize = 64;
 
+// How many bytes a worker takes and gives back before it enumerates: 4 MiB.
+const ROOM: usize = 4194304;
+
+// Takes room and gives it back. From the second time on the system's allocator keeps it for the
+// thread, and need not ask for it page by page.
+fn make_room(alloc: Global) {
+    drop(Vec::<u8>::with_capacity(alloc, ROOM));
+}
+
 // The vertices of a system. The steps are counted on a blank, and the count is not used.
 fn enumerated<R: Threads + Sync, G: Gate, L: Ledger>(
     rt: &R,
@@ -111,6 +120,7 @@ fn vertices_beside<R: Threads + Sync, G: Gate>(
         (map_ok result list_of) }
     ensures few { IfOk result (λ v. v.bases ≤ 20000) }
 {
+    make_room(alloc);
     let vertices = vertices_of(rt, alloc, polytope, system, helpers, gate);
     helpers.add(1);
     vertices
@@ -151,6 +161,7 @@ fn side_by_side<R: Threads + Sync, G: Gate>(
         (map_ok result both_lists_of) }
     ensures few { IfOk result (λ both. (both.0.bases ≤ 20000) × (both.1.bases ≤ 20000)) }
 {
+    make_room(alloc);
     let (first, second) = join(
         rt,
         || -> Result<Vertices, MixedStop>
