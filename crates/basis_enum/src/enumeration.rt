@@ -10,7 +10,7 @@ use crate::marking::in_order;
 use crate::stop::EnumStop;
 use crate::vertex::Vertices;
 use crate::walk::reach;
-use claims::Helpers;
+use claims::{FEWEST_SHARED, Helpers};
 use lex_tableau::{PivotCount, System};
 use outside::Gate;
 use std::alloc::Global;
@@ -18,15 +18,12 @@ use std::marker::Sync;
 use std::sync::ledger::Ledger;
 use std::thread::Threads;
 
-// How many pieces are enough for a further worker.
-const FEWEST_PIECES: usize = 2;
-
 /// The vertices of a system whose rows are all rated, whose variables are the numbers from 1 to at
 /// most 128, and whose right sides are not negative: its extreme points, but for the one in which
 /// all nonbasic variables are zero. Each is there once, in ascending order of the masks. So many
 /// workers share the pieces of work of a level that has many, each in a thread of its own where one
 /// can be made, and the answer is the same for any number of them. The gate is passed before each
-/// piece. Each pivot counts one step.
+/// piece, but not before one that is made again to tell its refusal. Each pivot counts one step.
 ///
 /// # Errors
 ///
@@ -49,7 +46,7 @@ pub fn enumerate<R: Threads + Sync, G: Gate, L: Ledger>(
     ensures few { IfOk result (λ v. v.bases ≤ 20000) }
     ensures bounded { pivots.new ≤ pivots.old + 19999 }
 {
-    let helpers = Helpers::new(workers - 1, FEWEST_PIECES);
+    let helpers = Helpers::new(workers - 1, FEWEST_SHARED);
     enumerate_with(rt, alloc, system, &helpers, gate, pivots)
 }
 

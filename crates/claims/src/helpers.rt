@@ -4,6 +4,9 @@ ghost use Rattle.std.specs.Prelude.{◌≡◌, ◌≤◌, IsTrue};
 use std::marker::Model;
 use std::sync::atomic::{AtomicU32, Ordering};
 
+/// The fewest pieces that two workers can share.
+pub const FEWEST_SHARED: usize = 2;
+
 /// Workers that are idle. Those who are at work may share them: each takes one for a while where
 /// enough pieces of its work are left, and adds it again. Contracts see how many pieces are enough.
 #[derive(Drop)]

@@ -18,8 +18,7 @@ use std::thread::{Threads, join_mut};
 // How many pieces a worker computes before it looks for another helper.
 const PIECES_ALONE: usize = 16;
 
-// How many bytes a worker takes and gives back before it is helped, and a helper before it begins:
-// 4 MiB.
+// How many bytes a worker takes and gives back before it is helped, and a helper before it begins.
 const ROOM: usize = 4194304;
 
 // Work whose pieces are numbered below a count: the claim word of the numbers, what each piece
@@ -156,7 +155,9 @@ fn halved<R: Threads + Sync, T: Send + Drop, F: Fn(usize) -> T + Sync, G: Gate>(
     Ok(())
 }
 
-// The same in two lists, each by one half of the parts. The helper is added again.
+// The further pieces that a worker and a helper claim, each with half of the parts: those of the
+// worker are added to the first list, and those of the helper to the second. The helper is added
+// again.
 #[cycle(helping)]
 fn in_halves<R: Threads + Sync, T: Send + Drop, F: Fn(usize) -> T + Sync, G: Gate>(
     job: &Job<R, F, G>,
@@ -237,9 +238,10 @@ fn both_helped<R: Threads + Sync, T: Send + Drop, F: Fn(usize) -> T + Sync, G: G
     (first, second)
 }
 
-// Takes room and gives it back. The system's allocator keeps it for the thread, and need not ask
-// for it page by page while the pieces are computed.
-fn make_room(alloc: Global) {
+/// Takes 4 MiB and gives them back. The system's allocator then keeps that room for the thread, and
+/// need not ask for it page by page while the thread is at work. Where it is refused, nothing else
+/// changes.
+pub fn make_room(alloc: Global) {
     drop(Vec::<u8>::with_capacity(alloc, ROOM));
 }
 

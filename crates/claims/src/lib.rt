@@ -17,6 +17,6 @@ mod helping;
 mod sharing;
 
 pub use claim_word::{Claims, Pass};
-pub use helpers::Helpers;
-pub use helping::helped_map;
+pub use helpers::{FEWEST_SHARED, Helpers};
+pub use helping::{helped_map, make_room};
 pub use sharing::shared_map;

@@ -18,7 +18,7 @@ ghost use Rattle.enummixed.specs.declared.stop.MixedStop.TheVariants as stops;
 use crate::points::{all_labels, scaled_points, used_places};
 use crate::stop::MixedStop;
 use basis_enum::{EnumStop, Vertex, Vertices, enumerate_with};
-use claims::Helpers;
+use claims::{FEWEST_SHARED, Helpers, make_room};
 use frac128::{Frac, Memory};
 use game_core::Table;
 use label_pairing::pairs;
@@ -50,21 +50,9 @@ pub struct ExtremePairs {
 // The fewest workers by whom both polytopes are enumerated at once.
 const SIDE_BY_SIDE: u32 = 4;
 
-// How many pieces are enough for a further worker, where one polytope is enumerated after the other.
-const ENOUGH_ALONE: usize = 2;
-
-// How many are enough where both are enumerated at once: as many as take longer than the start of a
-// thread.
+// How many pieces are enough for a helper where both polytopes are enumerated at once: a thread that
+// is started for fewer saves little.
 const ENOUGH_SIDE_BY_SIDE: usize = 64;
-
-// How many bytes a worker takes and gives back before it enumerates: 4 MiB.
-const ROOM: usize = 4194304;
-
-// Takes room and gives it back. From the second time on the system's allocator keeps it for the
-// thread, and need not ask for it page by page.
-fn make_room(alloc: Global) {
-    drop(Vec::<u8>::with_capacity(alloc, ROOM));
-}
 
 // The vertices of a system. The steps are counted on a blank, and the count is not used.
 fn enumerated<R: Threads + Sync, G: Gate, L: Ledger>(
@@ -199,7 +187,7 @@ fn both_vertices<R: Threads + Sync, G: Gate>(
     ensures few { IfOk result (λ both. (both.0.bases ≤ 20000) × (both.1.bases ≤ 20000)) }
 {
     if workers < SIDE_BY_SIDE {
-        let helpers = Helpers::new(workers - 1, ENOUGH_ALONE);
+        let helpers = Helpers::new(workers - 1, FEWEST_SHARED);
         one_by_one(rt, alloc, one, two, &helpers, gate)
     } else {
         let helpers = Helpers::new(workers - 2, ENOUGH_SIDE_BY_SIDE);

@@ -1,11 +1,12 @@
 -- How many masks complete a mask, and how many pairs these make
-use Rattle.std.proofs.Common.{ℕ, zero, suc, ◌+◌, ◌-◌, ◌*◌, ◌/◌, ◌%◌, nat_eq, mul-le-mul, ◌<◌, ◌≤◌, ◌^◌, ◌≡◌, Bool, cond, List, [], ◌∷◌, length, map, get_or, take, refl, sym, ap, ap₂, subst, ◌∙◌, arith, add-one}
+use Rattle.std.proofs.Common.{ℕ, zero, suc, ◌+◌, ◌-◌, ◌*◌, ◌/◌, ◌%◌, nat_eq, mul-le-mul, ◌<◌, ◌≤◌, ◌^◌, ◌≡◌, ◌≢◌, ◌&&◌, Bool, false, bit_or, cond, List, [], ◌∷◌, length, map, get_or, take, refl, sym, ap, ap₂, subst, ◌∙◌, arith, add-one}
 use Rattle.std.specs.Prelude.{count_by, sum, sum_by}
 use Rattle.std.specs.Int.{bit_at}
 use Rattle.std.specs.Int.Count.{ones, ones_step}
 use Rattle.std.specs.List.{between, range_with_len}
+use Rattle.std.proofs.lemmas.Bool.{ne_eqb}
 use Rattle.std.proofs.lemmas.Nat.{ones-le}
-use Rattle.std.proofs.lemmas.Nat.Bits.{bit_at_lowest, bit_at-suc}
+use Rattle.std.proofs.lemmas.Nat.Bits.{bit_at_lowest, bit_at-suc, bit_at-zero, bit_at_or, same_from_bits}
 use Rattle.std.proofs.lemmas.List.{length-map, length-append, nil_from_length, take_all}
 use Rattle.std.proofs.lemmas.List.Edits.{length-between, get_or-between}
 use Rattle.std.proofs.lemmas.List.FromFn.{length-range_with_len, sum_by-map-range_with_len_more}
@@ -14,7 +15,7 @@ use Rattle.rayon.specs.Shown.{run-append}
 use Rattle.linear_systems.specs.Vertices.{MarkedPoint}
 use Rattle.basis_enum.specs.Vertices.{mark_of, marks_of}
 use Rattle.basis_enum.specs.declared.vertex.Vertex.{Vertex}
-use Rattle.label_pairing.specs.Matches.{completes, AreWords, partner_count, partner_pairs}
+use Rattle.label_pairing.specs.Matches.{completes, AreWords, HasBitsOf, partner_count, partner_pairs}
 use Rattle.label_pairing.specs.Pairs.{are_together, mark_at, all_pairs}
 use Rattle.label_pairing.proofs.RowLemmas.{row, rows, range_more, rows-next, vertex-together}
 
@@ -42,6 +43,37 @@ bits_count f a (suc k) n few h =
     let lowest : n % 2 ≡ cond (f a) 1 0 = sym (bit_is (n % 2) (omega arith)) ∙ ap (λ b. cond b 1 0) (ap (λ m. nat_eq m 1) (sym (bit_at_lowest n)) ∙ h 0 (omega arith) ∙ ap f (omega arith)) in
     let rest = bits_count f (a + 1) k (n / 2) half (λ i l. ap (λ m. nat_eq m 1) (sym (bit_at-suc n i)) ∙ h (suc i) (omega arith) ∙ ap f (omega arith)) in
     ones_step n ∙ ap₂ (λ x y. x + y) lowest rest ∙ sym (sum_by-cons (λ i. cond (f i) 1 0) a (range_with_len (a + 1) k))
+
+-- a word has its own bits, however many it is given besides
+pub has_given : (word other : ℕ) → HasBitsOf (bit_or word other) other
+has_given word other = same_from_bits _ _ (λ i. omega (arith, bit_at_or (bit_or word other) other i, bit_at_or word other i))
+
+-- and those that it had
+pub has_more : (word more other : ℕ) → HasBitsOf word other → HasBitsOf (bit_or word more) other
+has_more word more other has =
+    same_from_bits _ _ (λ i. omega (arith, bit_at_or (bit_or word more) other i, bit_at_or word more i, bit_at_or word other i, ap (λ n. bit_at n i) has))
+
+-- where a word and one with fewer bits have all, so do the word and the one with more
+has_all : (word other union all : ℕ) → HasBitsOf union other → bit_or word other ≡ all → HasBitsOf (bit_or word union) all
+has_all word other union all has e =
+    same_from_bits _ _ (λ i. omega (arith, bit_at_or (bit_or word union) all i, bit_at_or word union i, bit_at_or word other i, ap (λ n. bit_at n i) e, bit_at_or union other i, ap (λ n. bit_at n i) has))
+
+-- a place whose low word lacks a bit is no partner
+no-partner : (mask all : List ℕ) (low high : ℕ) → bit_or (get_or mask 0 0) low ≢ get_or all 0 0 → completes mask all low high ≡ false
+no-partner mask all low high apart =
+    ap (λ b. b && nat_eq (bit_or (get_or mask 1 0) high) (get_or all 1 0)) (ne_eqb (bit_or (get_or mask 0 0) low) (get_or all 0 0) apart)
+
+-- so a block whose union lacks a bit has no partner
+pub none-in_union : (mask all low high : List ℕ) (union : ℕ) → ((i : ℕ) → i < 8 → HasBitsOf union (get_or low i 0))
+    → bit_or (bit_or (get_or mask 0 0) union) (get_or all 0 0) ≢ bit_or (get_or mask 0 0) union
+    → length low ≡ 8 → 0 ≡ partner_count mask all low high
+none-in_union mask all low high union has lacks e =
+    let test : ℕ → Bool = λ i. completes mask all (get_or low i 0) (get_or high i 0) in
+    let none : 0 ≡ ones 0 = omega (arith, ones-le 0 0 (omega arith)) in
+    let fails : (i : ℕ) → i < 8 → test i ≡ false = λ i l. no-partner mask all (get_or low i 0) (get_or high i 0) (λ is. lacks (has_all (get_or mask 0 0) (get_or low i 0) union (get_or all 0 0) (has i l) is)) in
+    none
+    ∙ bits_count test 0 8 0 (omega arith) (λ i l. let same : i ≡ 0 + i = omega arith in ap (λ n. nat_eq n 1) (bit_at-zero i) ∙ sym (fails i l) ∙ ap test same)
+    ∙ ap (λ n. count_by test (range_with_len 0 n)) (sym e)
 
 module _ (mask all low high : List ℕ) where
   abbrev pub test : ℕ → Bool

@@ -1,6 +1,6 @@
 -- Which masks of a list complete a mask. The list is given by the low and the high words of its
 -- masks.
-use Rattle.std.specs.Prelude.{ℕ, ◌<◌, ◌≡◌, ◌&&◌, Bool, false, List, length, map, get_or, count_by, nat_eq, bit_or}
+use Rattle.std.specs.Prelude.{ℕ, ◌<◌, ◌≡◌, ◌+◌, ◌*◌, ◌/◌, ◌&&◌, Bool, false, List, length, map, get_or, count_by, nat_eq, bit_or}
 use Rattle.std.specs.List.{filter, range_with_len}
 use Rattle.linear_systems.specs.Vertices.{MarkedPoint}
 
@@ -21,6 +21,16 @@ abbrev pub partner_count : List ℕ → List ℕ → List ℕ → List ℕ → �
 partner_count mask all low high =
     count_by (λ i. completes mask all (get_or low i 0) (get_or high i 0))
     (range_with_len 0 (length low))
+
+-- a word has all bits of another
+abbrev pub HasBitsOf : ℕ → ℕ → Type 0
+HasBitsOf word other = bit_or word other ≡ word
+
+-- for each block of eight words one with all their bits
+pub record AreUnions (words unions : List ℕ) : Type 0 where
+  pub so_many : length unions ≡ length words / 8
+  pub have : (block i : ℕ) → block < length words / 8 → i < 8
+      → HasBitsOf (get_or unions block 0) (get_or words (8 * block + i) 0)
 
 -- these are the words of the marks
 pub record AreWords (marks : List MarkedPoint) (low high : List ℕ) : Type 0 where

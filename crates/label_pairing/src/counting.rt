@@ -1,15 +1,56 @@
 // How many partners vertices have.
-ghost use Rattle.std.specs.Prelude.{◌≡◌, ◌<◌, ◌≤◌, ◌^◌, length, map, sum, IfOk};
-ghost use Rattle.label_pairing.specs.Matches.{partner_count};
+ghost use Rattle.std.specs.Prelude.{◌≡◌, ◌<◌, ◌≤◌, ◌^◌, ℕ, get_or, length, map, sum, IfOk};
+ghost use Rattle.label_pairing.specs.Matches.{partner_count, AreUnions, HasBitsOf};
 
 use crate::matching::{BLOCK, block_count, completes};
 use basis_enum::Vertex;
+use frac128::Memory;
 use rayon::prelude::*;
-use std::alloc::{AllocError, Global};
+use std::alloc::Global;
 use std::thread::Threads;
 
 // The fewest pairs whose comparison is worth a thread.
-const PAIRS_PER_THREAD: usize = 65_536;
+const PAIRS_PER_THREAD: usize = 4_194_304;
+
+// A word with all bits of these words.
+fn union(words: &[u64]) -> u64
+    ensures { (i : ℕ) → i < length words.now → HasBitsOf result (get_or words.now i 0) }
+{
+    let mut union = 0;
+    for i in 0..words.len() {
+        union |= words[i];
+    }
+    union
+}
+
+// For each block of words one with all their bits.
+fn unions(alloc: Global, words: &[u64]) -> Result<Vec<u64>, Memory>
+    ensures { IfOk result (λ v. AreUnions words.now v.items) }
+{
+    let blocks = words.len() / BLOCK;
+    let mut unions = Vec::with_capacity(alloc, blocks)?;
+    for block in 0..blocks {
+        let at = BLOCK * block;
+        unions.push(union(&words[at..at + BLOCK]))?;
+    }
+    Ok(unions)
+}
+
+// How many masks of a block complete a mask. They are compared only where the mask and the union of
+// the block's low words together have all bits.
+fn count_in_block(mask: [u64; 2], all: [u64; 2], union: u64, low: &[u64], high: &[u64]) -> usize
+    requires low { length low.now ≡ 8 }
+    requires high { length high.now ≡ 8 }
+    requires union { (i : ℕ) → i < 8 → HasBitsOf union (get_or low.now i 0) }
+    ensures count { result ≡ partner_count mask all low.now high.now }
+    ensures few { result ≤ 8 }
+{
+    let together = mask[0] | union;
+    if together | all[0] != together {
+        return 0;
+    }
+    block_count(mask, all, low, high)
+}
 
 // How many masks, whose words these are, complete a mask: place by place.
 fn place_count(mask: [u64; 2], all: [u64; 2], low: &[u64], high: &[u64]) -> usize
@@ -26,10 +67,11 @@ fn place_count(mask: [u64; 2], all: [u64; 2], low: &[u64], high: &[u64]) -> usiz
     count
 }
 
-// How many masks, whose words these are, complete a mask: block by block, and the rest place by
-// place.
-fn partner_count(mask: [u64; 2], all: [u64; 2], low: &[u64], high: &[u64]) -> usize
-    requires { length high.now ≡ length low.now }
+// How many masks, whose words and the unions of whose low words these are, complete a mask: block by
+// block, and the rest place by place.
+fn partner_count(mask: [u64; 2], all: [u64; 2], unions: &[u64], low: &[u64], high: &[u64]) -> usize
+    requires high { length high.now ≡ length low.now }
+    requires unions { AreUnions low.now unions.now }
     ensures { result ≡ partner_count mask all low.now high.now }
 {
     let blocks = low.len() / BLOCK;
@@ -37,7 +79,7 @@ fn partner_count(mask: [u64; 2], all: [u64; 2], low: &[u64], high: &[u64]) -> us
     for block in 0..blocks {
         let at = BLOCK * block;
         let end = at + BLOCK;
-        count += block_count(mask, all, &low[at..end], &high[at..end]);
+        count += count_in_block(mask, all, unions[block], &low[at..end], &high[at..end]);
     }
     let rest = BLOCK * blocks;
     count + place_count(mask, all, &low[rest..], &high[rest..])
@@ -53,22 +95,26 @@ pub fn partner_counts<R: Threads + Sync>(
     all: [u64; 2],
     low: &[u64],
     high: &[u64],
-) -> Result<Vec<usize>, AllocError>
+) -> Result<Vec<usize>, Memory>
     requires { length high.now ≡ length low.now }
     ensures { IfOk result (λ counts. counts.items
         ≡ map (λ vertex. partner_count vertex.mask all low.now high.now) first.now) }
 {
-    first
+    let unions = unions(alloc, low)?;
+    let unions = unions.as_slice();
+    let counts = first
         .par_iter()
         .with_min_len(PAIRS_PER_THREAD / low.len().max(1))
         .map(
             |vertex: &Vertex| -> usize
-                requires { length high.now ≡ length low.now }
+                requires high { length high.now ≡ length low.now }
+                requires unions { AreUnions low.now unions.now }
                 ensures { result
                     ≡ partner_count vertex.now.mask all low.entry.now high.entry.now }
-            { partner_count(vertex.mask, all, low, high) },
+            { partner_count(vertex.mask, all, unions, low, high) },
         )
-        .collect(rt, alloc)
+        .collect(rt, alloc)?;
+    Ok(counts)
 }
 
 /// How many pairs there are: the partners of all vertices together.

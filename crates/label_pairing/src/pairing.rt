@@ -13,7 +13,7 @@ use crate::matching::matches;
 use basis_enum::Vertex;
 use frac128::Memory;
 use game_core::{TooLarge, What};
-use std::alloc::{AllocError, Global};
+use std::alloc::Global;
 use std::thread::Threads;
 
 // The most pairs.
@@ -35,17 +35,6 @@ impl From<Memory> for PairStop {
     ghost from_gives = { λ _ e. e ≡ stops.Memory };
 
     fn from(_memory: Memory) -> PairStop {
-        PairStop::Memory
-    }
-}
-
-impl From<AllocError> for PairStop {
-    ghost use Rattle.std.specs.Prelude.{◌≡◌};
-    ghost use Rattle.label_pairing.specs.declared.pairing.PairStop.TheVariants as stops;
-
-    ghost from_gives = { λ _ e. e ≡ stops.Memory };
-
-    fn from(_error: AllocError) -> PairStop {
         PairStop::Memory
     }
 }

@@ -1,5 +1,4 @@
 use Rattle.std.proofs.Common.{◌∙◌, map, ap}
-use Rattle.lists.proofs.OptionLemmas.{if_ok-then}
 use Rattle.rayon.proofs.ToStd.{slice-map}
 use Rattle.label_pairing.proofs.PartnerLemmas.{partners}
 use Rattle.label_pairing.proofs.counting.partner_counts.Goals as goal
@@ -8,6 +7,7 @@ pub returns : goal.returns
 returns g c =
     let slice = ap (λ it. it.base.slice.now) c.map.ensures.base ∙ ap (λ it. it.slice.now) c.with_min_len.ensures.base ∙ c.par_iter.ensures in
     let f = c.map.result.f in
-    if_ok-then c.collect.result _ _ c.collect.ensures (λ v h. let chain = h.1 in
-    h.2 ∙ slice-map chain.0 c.args.first.now (chain.1 ∙ slice) (partners f.0.now f.1.now f.2.now) h.0 chain.2
-    ∙ ap (λ f. map (partners f.0.now f.1.now f.2.now) c.args.first.now) c.map.ensures.f)
+    let h = c.in_ok-counts.ensures in
+    let chain = h.1 in
+    h.2 ∙ slice-map chain.0 c.args.first.now (chain.1 ∙ slice) (partners f.0.now f.2.now f.3.now) h.0 chain.2
+    ∙ ap (λ f. map (partners f.0.now f.2.now f.3.now) c.args.first.now) c.map.ensures.f

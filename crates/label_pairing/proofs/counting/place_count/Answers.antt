@@ -1,4 +1,4 @@
-use Rattle.std.proofs.Common.{◌+◌, ◌≡◌, ◌∙◌, cond, sym, ap, arith}
+use Rattle.std.proofs.Common.{◌+◌, ◌∙◌, cond, sym, ap, arith}
 use Rattle.label_pairing.proofs.PartnerLemmas.{partners_below, partners_more}
 use Rattle.label_pairing.proofs.counting.place_count.Goals.{then-completes, else-completes}
 use Rattle.label_pairing.proofs.counting.place_count.Goals as goal
