@@ -15,8 +15,11 @@ use std::alloc::Global;
 use std::marker::{Send, Sync};
 use std::thread::{Threads, join_mut};
 
-// How many pieces a worker computes before it looks for another helper.
+// How many pieces a worker computes before it looks for helpers again.
 const PIECES_ALONE: usize = 16;
+
+// How many parts all passes have together.
+const ALL_PARTS: usize = 64;
 
 // How many bytes a worker takes and gives back before it is helped, and a helper before it begins.
 const ROOM: usize = 4194304;
@@ -35,12 +38,12 @@ pub(crate) struct Job<'a, R, F, G> {
 }
 
 /// The list `f(0)` to `f(count - 1)`, computed by the calling thread and by helpers. A helper joins
-/// in, in a thread of its own where one can be made, at the start; and after every 16 pieces each
-/// worker takes in a further one where more than 16 are left; both only where some are idle and the
-/// pieces that are left are enough for one. Each helper is added again. The workers claim the
-/// numbers from the claim word, and pass the gate before each piece. The pass has all 64 parts and
-/// has claimed nothing; whatever the answer, it has all parts again, and tells the numbers that were
-/// claimed. Refused for want of memory alone.
+/// in, in a thread of its own where one can be made, where some are idle and a worker's share of the
+/// pieces that are left is enough for one; the worker and the helper then have half of the share
+/// each. The calling thread looks for helpers at the start, and each worker after every 16 pieces.
+/// Each helper is added again. The workers claim the numbers from the claim word, and pass the gate
+/// before each piece. The pass has all 64 parts and has claimed nothing; whatever the answer, it has
+/// all parts again, and tells the numbers that were claimed. Refused for want of memory alone.
 pub fn helped_map<R: Threads + Sync, T: Send + Drop, F: Fn(usize) -> T + Sync, G: Gate>(
     rt: &R,
     alloc: Global,
@@ -70,7 +73,7 @@ pub fn helped_map<R: Threads + Sync, T: Send + Drop, F: Fn(usize) -> T + Sync, G
         gate,
         f,
     };
-    begun(&job, pass, &mut pieces)?;
+    helped(&job, count, pass, &mut pieces)?;
     in_order(alloc, pieces)
 }
 
@@ -84,31 +87,17 @@ fn room_for<T: Drop>(alloc: Global, count: usize) -> Vec<T>
     }
 }
 
-// All pieces, where they are enough for a helper with one from the start on, if one is idle.
-fn begun<R: Threads + Sync, T: Send + Drop, F: Fn(usize) -> T + Sync, G: Gate>(
-    job: &Job<R, F, G>,
-    pass: &mut Pass,
-    pieces: &mut Vec<(usize, T)>,
-) -> Result<(), Memory>
-    requires work { IsAtWork F.Fn job.now.f.now job.now.count job.now.claims.now
-        pass.old pieces.old.items }
-    requires parts { 1 < pass.old.parts }
-    requires count { job.now.count < 2 ^ 32 }
-    requires accepts { (k : ℕ) → k < job.now.count → F.pre job.now.f.now k }
-    ensures pass { IsHelped job.now.count 1 pass.old pass.new }
-    ensures pieces { OnOk result
-        (AreDone F.Fn job.now.f.now job.now.count pass.new.claimed pieces.new.items) }
-{
-    if job.helpers.take_for(job.count) {
-        return halved(job, pass, pieces);
-    }
-    helped(job, pass, pieces)
+// A worker's share of the pieces that are left: as much of them as it has of all parts.
+fn share(left: usize, parts: u32) -> usize {
+    left.saturating_mul(parts as usize) / ALL_PARTS
 }
 
-// The further pieces that a worker claims, until none is left. Helpers join in where some are idle.
+// The further pieces that a worker claims, until none is left, beside helpers who join in where some
+// are idle. So many are left as far as the worker knows.
 #[cycle(helping)]
 fn helped<R: Threads + Sync, T: Send + Drop, F: Fn(usize) -> T + Sync, G: Gate>(
     job: &Job<R, F, G>,
+    left: usize,
     pass: &mut Pass,
     pieces: &mut Vec<(usize, T)>,
 ) -> Result<(), Memory>
@@ -120,12 +109,15 @@ fn helped<R: Threads + Sync, T: Send + Drop, F: Fn(usize) -> T + Sync, G: Gate>(
     ensures pieces { OnOk result
         (AreDone F.Fn job.now.f.now job.now.count pass.new.claimed pieces.new.items) }
 {
+    let mut left = left;
     for _ in 0..job.count / PIECES_ALONE + 1 {
-        let Some(left) = worked(job, pass, pieces)? else {
-            return Ok(());
-        };
-        if left > PIECES_ALONE && pass.parts() > 1 && job.helpers.take_for(left) {
-            return halved(job, pass, pieces);
+        let parts = pass.parts();
+        if parts > 1 && job.helpers.take_for(share(left, parts)) {
+            return halved(job, left, pass, pieces);
+        }
+        match worked(job, pass, pieces)? {
+            Some(more) => left = more,
+            None => return Ok(()),
         }
     }
     Ok(())
@@ -135,6 +127,7 @@ fn helped<R: Threads + Sync, T: Send + Drop, F: Fn(usize) -> T + Sync, G: Gate>(
 #[cycle(helping)]
 fn halved<R: Threads + Sync, T: Send + Drop, F: Fn(usize) -> T + Sync, G: Gate>(
     job: &Job<R, F, G>,
+    left: usize,
     pass: &mut Pass,
     pieces: &mut Vec<(usize, T)>,
 ) -> Result<(), Memory>
@@ -147,8 +140,8 @@ fn halved<R: Threads + Sync, T: Send + Drop, F: Fn(usize) -> T + Sync, G: Gate>(
     ensures pieces { OnOk result
         (AreDone F.Fn job.now.f.now job.now.count pass.new.claimed pieces.new.items) }
 {
-    let mut rest = room_for(job.alloc, job.count / 2);
-    let (first, second) = in_halves(job, pass, pieces, &mut rest);
+    let mut rest = room_for(job.alloc, left / 2);
+    let (first, second) = in_halves(job, left, pass, pieces, &mut rest);
     first?;
     second?;
     pieces.append(&mut rest)?;
@@ -161,6 +154,7 @@ fn halved<R: Threads + Sync, T: Send + Drop, F: Fn(usize) -> T + Sync, G: Gate>(
 #[cycle(helping)]
 fn in_halves<R: Threads + Sync, T: Send + Drop, F: Fn(usize) -> T + Sync, G: Gate>(
     job: &Job<R, F, G>,
+    left: usize,
     pass: &mut Pass,
     pieces: &mut Vec<(usize, T)>,
     rest: &mut Vec<(usize, T)>,
@@ -177,7 +171,7 @@ fn in_halves<R: Threads + Sync, T: Send + Drop, F: Fn(usize) -> T + Sync, G: Gat
 {
     let theirs = pass.parts() / 2;
     let mut other = job.claims.split(pass, theirs);
-    let both = both_helped(job, pass, pieces, &mut other, rest);
+    let both = both_helped(job, left, pass, pieces, &mut other, rest);
     job.claims.join(pass, other);
     job.helpers.add(1);
     both
@@ -188,6 +182,7 @@ fn in_halves<R: Threads + Sync, T: Send + Drop, F: Fn(usize) -> T + Sync, G: Gat
 #[cycle(helping)]
 fn both_helped<R: Threads + Sync, T: Send + Drop, F: Fn(usize) -> T + Sync, G: Gate>(
     job: &Job<R, F, G>,
+    left: usize,
     pass: &mut Pass,
     pieces: &mut Vec<(usize, T)>,
     other: &mut Pass,
@@ -218,7 +213,7 @@ fn both_helped<R: Threads + Sync, T: Send + Drop, F: Fn(usize) -> T + Sync, G: G
             pass.exit.now.claimed pieces.exit.now.items) }
     {
         make_room(job.alloc);
-        helped(job, pass, pieces)
+        helped(job, left, pass, pieces)
     };
     let mut front = || -> Result<(), Memory>
         requires shared { IsSync R.row × IsSync F.row × IsSync G.row × IsSend T.row }
@@ -232,7 +227,7 @@ fn both_helped<R: Threads + Sync, T: Send + Drop, F: Fn(usize) -> T + Sync, G: G
             other.exit.now.claimed rest.exit.now.items) }
     {
         make_room(job.alloc);
-        helped(job, other, rest)
+        helped(job, 0, other, rest)
     };
     let (second, first) = join_mut(job.rt, &mut front, &mut back);
     (first, second)

@@ -19,8 +19,8 @@ in_halves-returns-clause-pieces g t c =
     let count = c.args.job.now.count in
     both_done g.F.Fn f count halves.new.pass.claimed halves.new.other.claimed _ halves.new.pieces.items halves.new.rest.items halves.result.0 halves.result.1 (ap (λ (s : PassState). s.claimed) c.join.ensures.joined) halves.ensures.first halves.ensures.second
 
-pub helped-returns-in_default-clause-pass : goal.helped-returns-in_default-clause-pass
-helped-returns-in_default-clause-pass g t c = record {
+pub helped-returns-in-None-clause-pass : goal.helped-returns-in-None-clause-pass
+helped-returns-in-None-clause-pass g t c = record {
   same = search rules;
   few = few_alone c.args.job.now.count (16 * c.loop.counter + 16) (length c.args.pass.now.claimed) (length c.worked.new.pass.claimed) c.args.pass.now.parts c.requires.work.some (omega (arith, c.loop-test.true)) (omega (arith, c.loop.invariant.claimed, c.worked.ensures.few));
   whole = c.worked.ensures.whole;

@@ -6,20 +6,20 @@ use Rattle.claims.proofs.helping.helped_map.Goals as goal
 
 pub in_order-requires : goal.in_order-requires
 in_order-requires g c =
-    let pass = c.begun.ensures.pass in
+    let pass = c.helped.ensures.pass in
     let parts = ap (λ (s : PassState). s.parts) pass.same ∙ ap (λ (s : PassState). s.parts) c.requires.pass in
     let each = pass.whole parts (all_few c.args.count _ _ _ c.requires.count c.requires.pass pass) in
-    let all = AreDone-all g.F.Fn c.args.f.now c.args.count _ c.begun.new.pieces.items each c.in_ok-begun.ensures.pieces in
+    let all = AreDone-all g.F.Fn c.args.f.now c.args.count _ c.helped.new.pieces.items each c.in_ok-helped.ensures.pieces in
     rw (all.2) (all.1)
 
 pub returns : goal.returns
 returns g c =
-    let pass = c.begun.ensures.pass in
+    let pass = c.helped.ensures.pass in
     let parts = ap (λ (s : PassState). s.parts) pass.same ∙ ap (λ (s : PassState). s.parts) c.requires.pass in
     let each = pass.whole parts (all_few c.args.count _ _ _ c.requires.count c.requires.pass pass) in
-    let done = c.in_ok-begun.ensures.pieces in
-    let all = AreDone-all g.F.Fn c.args.f.now c.args.count _ c.begun.new.pieces.items each done in
-    let gives = gives_each g.F.Fn c.args.f.now c.args.count c.begun.new.pieces.items in
+    let done = c.in_ok-helped.ensures.pieces in
+    let all = AreDone-all g.F.Fn c.args.f.now c.args.count _ c.helped.new.pieces.items each done in
+    let gives = gives_each g.F.Fn c.args.f.now c.args.count c.helped.new.pieces.items in
     record {
       pass = search rules;
       each_once = each;
