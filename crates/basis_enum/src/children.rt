@@ -12,6 +12,7 @@ use crate::moves::{Found, Move, found_from};
 use crate::vertex::Vertex;
 use answers::Memory;
 use claims::{Claims, Helpers, helped_map};
+use crossbeam_deque::Stealer;
 use frac128::Unfit;
 use lex_tableau::{PivotCount, PivotStop, System, Tableau};
 use outside::{Gate, OpenGate};
@@ -24,13 +25,15 @@ use std::thread::Threads;
 const PIECES_ALONE: usize = 16;
 
 /// A level and what is read while the next one is made: the system, the tableaux of the level, the
-/// pivots from there to new bases, and the bases that are known, these new ones among them.
+/// pivots from there to new bases, and the bases that are known, these new ones among them. Beside
+/// them, tableaux that are spent and may be written over.
 #[derive(Drop)]
 pub(crate) struct Expansion<'a> {
     pub system: &'a System,
     pub level: &'a [Tableau],
     pub moves: &'a [Move],
     pub known: &'a [u128],
+    pub spent: &'a Stealer<Tableau>,
 }
 
 // Why the next level has no tableaux: the place of a pivot with its first step that does not fit,
@@ -81,9 +84,11 @@ struct Reached {
     found: Found,
 }
 
-// The tableau after a pivot. The pivot is counted on a blank, and the count is not used.
+// The tableau after a pivot, in the room of one that is spent. The pivot is counted on a blank, and
+// the count is not used.
 fn pivoted<L: Ledger>(
     alloc: Global,
+    spent: Option<Tableau>,
     level: &[Tableau],
     next: &Move,
     blank: Blank,
@@ -96,7 +101,14 @@ fn pivoted<L: Ledger>(
         (IsPivotStop (parent_of level.now (move_of next.now)) next.now.row next.now.column) }
 {
     let mut pivots = PivotCount::<L>::new(blank);
-    level[next.parent as usize].pivoted(alloc, next.row as usize, next.column as usize, &mut pivots)
+    let parent = &level[next.parent as usize];
+    parent.pivoted(
+        alloc,
+        spent,
+        next.row as usize,
+        next.column as usize,
+        &mut pivots,
+    )
 }
 
 // The tableau of a new basis.
@@ -108,6 +120,7 @@ fn child(alloc: Global, expansion: &Expansion, place: usize) -> Result<Tableau, 
 {
     match pivoted::<Brand>(
         alloc,
+        expansion.spent.steal().success(),
         expansion.level,
         &expansion.moves[place],
         Blank::new(1),

@@ -20,6 +20,7 @@ mod children;
 mod enumeration;
 mod marking;
 mod moves;
+mod spent;
 mod stop;
 mod vertex;
 mod walk;

@@ -15,6 +15,7 @@ use crate::bases::{basis, merged};
 use crate::children::{ChildStop, Expansion, children};
 use crate::marking::add_vertex;
 use crate::moves::{Move, found_from, next_moves, targets};
+use crate::spent::Spent;
 use crate::stop::{Basis, EnumStop};
 use crate::vertex::Vertex;
 use answers::Memory;
@@ -24,6 +25,7 @@ use lex_tableau::{PivotCount, StartStop, System, Tableau};
 use outside::Gate;
 use std::alloc::Global;
 use std::marker::Sync;
+use std::mem;
 use std::sync::ledger::Ledger;
 use std::thread::Threads;
 
@@ -180,12 +182,13 @@ fn known_after(alloc: Global, known: &[u128], moves: &[Move]) -> Result<Vec<u128
     Ok(merged(alloc, known, new.as_slice())?)
 }
 
-// Goes on to the next level, and finds the pivots from there.
+// Goes on to the next level, and finds the pivots from there. The tableaux of this level are spent.
 fn advance<R: Threads + Sync, G: Gate, L: Ledger>(
     rt: &R,
     alloc: Global,
     system: &System,
     walk: &mut Walk,
+    spent: &mut Spent,
     moves: &[Move],
     number: u32,
     helpers: &Helpers,
@@ -210,12 +213,13 @@ fn advance<R: Threads + Sync, G: Gate, L: Ledger>(
         level: walk.level.as_slice(),
         moves,
         known: known.as_slice(),
+        spent: spent.shared(),
     };
     let vertices = &mut walk.vertices;
     let (level, found) = next_level(
         rt, alloc, &expansion, number, helpers, gate, vertices, pivots,
     )?;
-    walk.level = level;
+    spent.add(mem::replace(&mut walk.level, level));
     walk.known = known;
     Ok(next_moves(found))
 }
@@ -236,6 +240,7 @@ pub(crate) fn reach<R: Threads + Sync, G: Gate, L: Ledger>(
     ensures bounded { pivots.new ≤ pivots.old + 19999 }
 {
     let (mut walk, mut moves) = start(alloc, system, gate)?;
+    let mut spent = Spent::new(alloc)?;
     let mut number = 0;
     while !moves.is_empty() {
         moves = advance(
@@ -243,6 +248,7 @@ pub(crate) fn reach<R: Threads + Sync, G: Gate, L: Ledger>(
             alloc,
             system,
             &mut walk,
+            &mut spent,
             moves.as_slice(),
             number,
             helpers,

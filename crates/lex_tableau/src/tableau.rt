@@ -65,14 +65,13 @@ fn sign_at(numbers: &[i128], first: usize, place: usize) -> i8
     numbers[first + place].signum() as i8
 }
 
-// A copy of a list.
-fn copied(alloc: Global, xs: &[u32]) -> Result<Vec<u32>, Memory>
+// A copy of a list, written over what is in a room.
+fn copied(room: Vec<u32>, xs: &[u32]) -> Result<Vec<u32>, Memory>
     ensures { IfOk result (λ v. v.items ≡ xs.now) }
 {
-    let mut copy = Vec::with_capacity(alloc, xs.len())?;
-    for x in xs {
-        copy.push(*x)?;
-    }
+    let mut copy = room;
+    copy.clear();
+    copy.extend_from_slice(xs)?;
     Ok(copy)
 }
 
@@ -124,6 +123,45 @@ impl From<Memory> for StartStop {
     }
 }
 
+// The lists of a tableau that is spent, which are written over.
+#[derive(Drop)]
+struct Room {
+    starts: Vec<u32>,
+    basics: Vec<u32>,
+    nonbasics: Vec<u32>,
+    numbers: Vec<i128>,
+}
+
+impl Room {
+    // The lists of this tableau, and empty ones where there is none.
+    fn of(alloc: Global, spent: Option<Tableau>) -> Room {
+        match spent {
+            Some(tableau) => Room {
+                starts: tableau.starts,
+                basics: tableau.basics,
+                nonbasics: tableau.nonbasics,
+                numbers: tableau.numbers,
+            },
+            None => Room {
+                starts: Vec::new(alloc),
+                basics: Vec::new(alloc),
+                nonbasics: Vec::new(alloc),
+                numbers: Vec::new(alloc),
+            },
+        }
+    }
+}
+
+// So many numbers: those of a room where they are as many, and else zeros.
+fn filled(alloc: Global, room: Vec<i128>, count: usize) -> Result<Vec<i128>, Memory>
+    ensures { IfOk result (λ v. length v.items ≡ count) }
+{
+    if room.len() == count {
+        return Ok(room);
+    }
+    zeros(alloc, count)
+}
+
 // So many zeros.
 fn zeros(alloc: Global, count: usize) -> Result<Vec<i128>, Memory>
     ensures { IfOk result (λ v. length v.items ≡ count) }
@@ -149,9 +187,9 @@ impl Tableau {
             return Err(StartStop::Memory);
         };
         let mut numbers = zeros(alloc, total)?;
-        let starts = copied(alloc, system.basics.as_slice())?;
-        let basics = copied(alloc, system.basics.as_slice())?;
-        let nonbasics = copied(alloc, system.nonbasics.as_slice())?;
+        let starts = copied(Vec::new(alloc), system.basics.as_slice())?;
+        let basics = copied(Vec::new(alloc), system.basics.as_slice())?;
+        let nonbasics = copied(Vec::new(alloc), system.nonbasics.as_slice())?;
         match write_starts(system.cells.as_slice(), numbers.as_mut_slice(), rows, count) {
             Ok(()) => {}
             Err(stop) => {
@@ -273,10 +311,12 @@ impl Tableau {
         )
     }
 
-    // The tableau with these numbers, which the pivot made.
+    // The tableau with these numbers, which the pivot made. Its variables are written over those lists.
     fn with_numbers(
         &self,
-        alloc: Global,
+        starts: Vec<u32>,
+        basics: Vec<u32>,
+        nonbasics: Vec<u32>,
         numbers: Vec<i128>,
         row: usize,
         col: usize,
@@ -292,9 +332,9 @@ impl Tableau {
         ensures keys { IfOk result (KeepsPositiveKeys self.now row col) }
         ensures valid { IfOk result IsTableau }
     {
-        let starts = copied(alloc, self.starts.as_slice())?;
-        let mut basics = copied(alloc, self.basics.as_slice())?;
-        let mut nonbasics = copied(alloc, self.nonbasics.as_slice())?;
+        let starts = copied(starts, self.starts.as_slice())?;
+        let mut basics = copied(basics, self.basics.as_slice())?;
+        let mut nonbasics = copied(nonbasics, self.nonbasics.as_slice())?;
         let entering = nonbasics[col];
         nonbasics[col] = basics[row];
         basics[row] = entering;
@@ -307,7 +347,8 @@ impl Tableau {
         })
     }
 
-    /// The pivot on a rated row and a column, as a new tableau. It counts one step.
+    /// The pivot on a rated row and a column, as a new tableau. It counts one step. A tableau that is
+    /// spent is written over, so that no memory is taken where it is one of the same system.
     ///
     /// # Errors
     ///
@@ -316,6 +357,7 @@ impl Tableau {
     pub fn pivoted<L: Ledger>(
         &self,
         alloc: Global,
+        spent: Option<Tableau>,
         row: usize,
         col: usize,
         pivots: &mut PivotCount<L>,
@@ -332,9 +374,10 @@ impl Tableau {
         ensures counted { pivots.new ≡ pivots.old + 1 }
     {
         pivots.tick();
-        let mut numbers = self.room(alloc)?;
+        let room = Room::of(alloc, spent);
+        let mut numbers = filled(alloc, room.numbers, self.numbers.len())?;
         self.write_numbers(numbers.as_mut_slice(), row, col)?;
-        Ok(self.with_numbers(alloc, numbers, row, col)?)
+        Ok(self.with_numbers(room.starts, room.basics, room.nonbasics, numbers, row, col)?)
     }
 
     /// The value of a variable where the nonbasic ones are 0: the right side of its row, and 0

@@ -75,14 +75,16 @@ returns-clause-moves g c =
     let size : length c.in_ok-level.level.items ≡ length c.args.moves.now = c.in_ok-level.ensures.children.size in
     let children = subst (λ l. AreChildren l c.args.moves.now (length c.args.moves.now) c.in_ok-level.level.items) c.as_slice-2.ensures.value c.in_ok-level.ensures.children in
     let lead = moves_lead c.args.system.now c.args.number c.args.walk.now c.args.moves.now c.requires.enumerable c.requires.walk c.requires.moves in
-    subst (λ known. AreNewMoves c.in_ok-level.level.items known c.next_moves.result.items) c.as_slice-3.ensures.value
+    rw (c.replace.ensures.after)
+    (subst (λ known. AreNewMoves c.in_ok-level.level.items known c.next_moves.result.items) c.as_slice-3.ensures.value
     (new_moves_are c.in_ok-level.level.items c.as_slice-3.result.now c.in_ok-level.found.items c.next_moves.result.items
-    (children_ready c.args.system.now c.args.walk.now.level.items c.in_ok-level.level.items c.args.moves.now lead children) (omega arith) c.in_ok-level.ensures.found c.next_moves.ensures)
+    (children_ready c.args.system.now c.args.walk.now.level.items c.in_ok-level.level.items c.args.moves.now lead children) (omega arith) c.in_ok-level.ensures.found c.next_moves.ensures))
 
 pub returns-clause-walk : goal.returns-clause-walk
 returns-clause-walk g c =
     let few = subst (λ xs. length xs + length c.args.moves.now ≤ 20000) c.as_slice.ensures.value c.in_ok-known.ensures.few in
     let children = subst (λ l. AreChildren l c.args.moves.now (length c.args.moves.now) c.in_ok-level.level.items) c.as_slice-2.ensures.value c.in_ok-level.ensures.children in
     let merged = subst (λ xs. IsMerged xs (map target_of c.args.moves.now) c.in_ok-known.known.items) c.as_slice.ensures.value c.in_ok-known.ensures.merged in
-    walk_next c.args.system.now c.args.number c.args.walk.now (record { level = c.in_ok-level.level; known = c.in_ok-known.known; vertices = c.next_level.new.vertices }) c.args.moves.now (map target_of c.args.moves.now)
-    c.requires.enumerable c.requires.walk c.requires.moves c.requires.some few children refl merged c.in_ok-level.ensures.vertices
+    rw (c.replace.ensures.after)
+    (walk_next c.args.system.now c.args.number c.args.walk.now (record { level = c.in_ok-level.level; known = c.in_ok-known.known; vertices = c.next_level.new.vertices }) c.args.moves.now (map target_of c.args.moves.now)
+    c.requires.enumerable c.requires.walk c.requires.moves c.requires.some few children refl merged c.in_ok-level.ensures.vertices)
