@@ -26,7 +26,7 @@ const PIECES_ALONE: usize = 16;
 
 /// A level and what is read while the next one is made: the system, the tableaux of the level, the
 /// pivots from there to new bases, and the bases that are known, these new ones among them. Beside
-/// them, tableaux that are spent and may be written over.
+/// them, tableaux that are spent and may be written over, and how many each piece is to free.
 #[derive(Drop)]
 pub(crate) struct Expansion<'a> {
     pub system: &'a System,
@@ -34,6 +34,7 @@ pub(crate) struct Expansion<'a> {
     pub moves: &'a [Move],
     pub known: &'a [u128],
     pub spent: &'a Stealer<Tableau>,
+    pub surplus: usize,
 }
 
 // Why the next level has no tableaux: the place of a pivot with its first step that does not fit,
@@ -227,6 +228,13 @@ impl<G: Gate> Gate for GateFrom<'_, G> {
     }
 }
 
+// Frees the spent tableaux that come to a piece.
+fn free_surplus(expansion: &Expansion) {
+    for _ in 0..expansion.surplus {
+        drop(expansion.spent.steal());
+    }
+}
+
 // A piece in a box, so that lists of pieces are short. Nothing where its pivot has a step that does
 // not fit, or memory ran out.
 fn boxed_piece<G: Gate>(
@@ -240,6 +248,7 @@ fn boxed_piece<G: Gate>(
     ensures { IfSome result (λ b. IsReachedAt expansion.now place b.value) }
 {
     let reached = piece(alloc, expansion, place, gate).ok()?;
+    free_surplus(expansion);
     Box::new(alloc, reached).ok()
 }
 

@@ -28,6 +28,11 @@ impl Spent {
         }
     }
 
+    // How many of them come to each of so many new tableaux, beside the one that each is written over.
+    pub(crate) fn surplus(&self, new: usize) -> usize {
+        self.own.len().saturating_sub(new) / new.max(1)
+    }
+
     // What workers take spent tableaux from.
     pub(crate) fn shared(&self) -> &Stealer<Tableau> {
         &self.shared

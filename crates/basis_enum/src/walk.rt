@@ -214,6 +214,7 @@ fn advance<R: Threads + Sync, G: Gate, L: Ledger>(
         moves,
         known: known.as_slice(),
         spent: spent.shared(),
+        surplus: spent.surplus(moves.len()),
     };
     let vertices = &mut walk.vertices;
     let (level, found) = next_level(
