@@ -13,7 +13,7 @@ use answers::Memory;
 use outside::Gate;
 use std::alloc::Global;
 use std::marker::{Send, Sync};
-use std::thread::{Threads, join_mut};
+use std::thread::{Threads, join_mut, spawn};
 
 // How many pieces a worker computes before it looks for helpers again.
 const PIECES_ALONE: usize = 16;
@@ -64,6 +64,9 @@ pub fn helped_map<R: Threads + Sync, T: Send + Drop, F: Fn(usize) -> T + Sync, G
     ensures each { IfOk result (λ v. GivesEach F.Fn f.now count v.items) }
 {
     let mut pieces = room_for(alloc, count);
+    if helpers.are_free_for(count) {
+        start_idle_thread(rt);
+    }
     let job = Job {
         rt,
         alloc,
@@ -75,6 +78,13 @@ pub fn helped_map<R: Threads + Sync, T: Send + Drop, F: Fn(usize) -> T + Sync, G
     };
     helped(&job, count, pass, &mut pieces)?;
     in_order(alloc, pieces)
+}
+
+// Starts a thread that does nothing, and does not wait for it. Some systems put a new thread on the
+// processor of the one that starts it, where it waits for milliseconds, and the next new thread on
+// another processor, where it begins at once.
+fn start_idle_thread<R: Threads>(rt: &R) {
+    drop(spawn(rt, || {}));
 }
 
 // An empty list with room for so many pieces; without room where there is no memory.
