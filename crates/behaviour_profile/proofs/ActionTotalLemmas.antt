@@ -5,7 +5,7 @@ use Rattle.std.specs.List.{range_with_len, flat_map}
 use Rattle.std.proofs.lemmas.Bool.Decides.{Decides-eqb}
 use Rattle.std.proofs.lemmas.List.{map-append}
 use Rattle.game_theory.specs.Trees.{Tree}
-use Rattle.game_theory.specs.Behaviour.{is_own_of}
+use Rattle.game_theory.specs.Behaviour.{is_index}
 use Rattle.game_core.specs.Tree.{GameTree, IsTree}
 use Rattle.game_core.specs.TreeGame.{game_of_tree}
 use Rattle.strategy_lists.specs.OwnNumbers.{own_numbers}
@@ -19,7 +19,7 @@ use Rattle.behaviour_profile.proofs.GroupTestLemmas.{made-next}
 -- what a set with n actions adds to the counts of the players before p
 abbrev parts : Option ℕ → ℕ → ℕ → ℕ
 parts o n zero = 0
-parts o n (suc p) = parts o n p + (if is_own_of o p then n else 0)
+parts o n (suc p) = parts o n p + (if is_index o p then n else 0)
 
 parts-before : (j n p : ℕ) → p ≤ j → parts (Some j) n p ≡ 0
 parts-before j n zero l = refl
@@ -43,8 +43,8 @@ module _ (t : Tree) where
   abbrev own_total : ℕ → ℕ → ℕ
   own_total i n = sum (map t.actions (own_numbers t.owner i n))
 
-  own-next : (i n : ℕ) → own_total i (suc n) ≡ own_total i n + (if is_own_of (t.owner n) i then t.actions n else 0)
-  own-next i n = go (is_own_of (t.owner n) i)
+  own-next : (i n : ℕ) → own_total i (suc n) ≡ own_total i n + (if is_index (t.owner n) i then t.actions n else 0)
+  own-next i n = go (is_index (t.owner n) i)
     where
       go : (b : Bool) → sum (map t.actions (if b then own_numbers t.owner i n ++ n ∷ [] else own_numbers t.owner i n)) ≡ own_total i n + (if b then t.actions n else 0)
       go true = ap sum (map-append t.actions (own_numbers t.owner i n) (n ∷ [])) ∙ sum-append (map t.actions (own_numbers t.owner i n)) (t.actions n ∷ []) ∙ omega (arith, sum-cons (t.actions n) [], sum-nil)

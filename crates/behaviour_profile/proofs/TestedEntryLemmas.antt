@@ -147,9 +147,6 @@ listed-front zero list l = refl
 listed-front (suc n) [] l = absurd (omega (arith, l))
 listed-front (suc n) (x ∷ list) l = ap (λ v. x ∷ v) (listed-front n list (omega (arith, l)))
 
-length-rest : (n : ℕ) (list : List ℚ) → length (take n list ++ drop n list) ≡ length list
-length-rest n list = ap length (take-append-drop n list)
-
 entries-profile_of : (sizes : List ℕ) (list : List ℚ) → length list ≡ sum sizes → entries sizes (profile_of sizes list) ≡ list
 entries-profile_of [] [] e = refl
 entries-profile_of [] (x ∷ list) e = absurd (omega (arith, e, sum-nil))

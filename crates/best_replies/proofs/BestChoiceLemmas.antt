@@ -16,7 +16,7 @@ use Rattle.game_theory.specs.Trees.{Tree, IsTree}
 use Rattle.game_theory.specs.Behaviour.{Behaviour, branch_probability, value, payoff, IsChoice, reply}
 use Rattle.game_theory.specs.Recall.{own_history, HasPerfectRecall}
 use Rattle.game_theory.proofs.ChildLemmas.{where_true}
-use Rattle.game_theory.proofs.OwnSetLemmas.{is_own_of-decides}
+use Rattle.game_theory.proofs.OwnSetLemmas.{is_index-decides}
 use Rattle.reduced_strategies.proofs.HistoryLemmas.{along_paths}
 use Rattle.best_replies.specs.Reaching.{reach, weight}
 use Rattle.best_replies.specs.Replies.{reply_value, is_member, follows, action_value, AreBestChoices, OthersBehaveAlike}
@@ -36,7 +36,7 @@ member_below : (t : Tree) (s n : ℕ) → ((k : ℕ) × (k < n) × (t.set k ≡ 
 member_below t s zero = inr (λ k l e. absurd (omega (arith, l)))
 member_below t s (suc n) = elim (member_below t s n) [
   | inl found ↦ inl (found.0, omega (arith, found.1), found.2)
-  | inr none ↦ elim (either (is_member t s n) (is_own_of-decides (t.set n) s)) [
+  | inr none ↦ elim (either (is_member t s n) (is_index-decides (t.set n) s)) [
     | inl e ↦ inl (n, omega arith, e)
     | inr not ↦ inr (λ k l e. elim (cases_lt k n) [ inl before ↦ none k before e | inr last ↦ let same : k ≡ n = omega arith in not (subst (λ x. t.set x ≡ Some s) same e) ])
   ]

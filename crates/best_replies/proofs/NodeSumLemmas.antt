@@ -11,7 +11,7 @@ use Rattle.rational.proofs.Ring.{ring, num, ◌:+◌, A, B, C}
 use Rattle.game_theory.specs.Trees.{Tree, IsTree}
 use Rattle.game_theory.specs.Behaviour.{is_parent}
 use Rattle.game_theory.proofs.ChildLemmas.{where_true, over_children}
-use Rattle.game_theory.proofs.OwnSetLemmas.{is_own_of-decides}
+use Rattle.game_theory.proofs.OwnSetLemmas.{is_index-decides}
 use Rattle.best_replies.specs.Replies.{is_member, follows}
 
 -- ---- numbers where a test holds
@@ -100,7 +100,7 @@ root_apart (suc (suc m)) f h =
 -- what the test of an action tells
 pub follows-decides : (t : Tree) (s a c : ℕ) → Decides (follows t s a c) ((0 < c) × ((t.set (t.parent c) ≡ Some s) × (t.branch c ≡ a)))
 follows-decides t s a c =
-    Decides-and (nat_lt 0 c) _ (Decides-ltb 0 c) (Decides-and (is_member t s (t.parent c)) (t.branch c == a) (is_own_of-decides (t.set (t.parent c)) s) (Decides-eqb (t.branch c) a))
+    Decides-and (nat_lt 0 c) _ (Decides-ltb 0 c) (Decides-and (is_member t s (t.parent c)) (t.branch c == a) (is_index-decides (t.set (t.parent c)) s) (Decides-eqb (t.branch c) a))
 
 -- a node below the root follows one action of one set
 one_action : (t : Tree) (F : ℕ → ℚ) → IsTree t → (c : ℕ) → c < t.size → below_root c (F c) ≡ sum_to t.sets (λ s. sum_to (t.actions s) (λ a. where_true (follows t s a c) (F c)))

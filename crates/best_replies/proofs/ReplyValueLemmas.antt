@@ -15,7 +15,7 @@ use Rattle.game_theory.specs.Behaviour.{Behaviour, branch_probability, value, re
 use Rattle.game_theory.proofs.ChildLemmas.{where_true, over_children-by_actions}
 use Rattle.game_theory.proofs.ValueLemmas.{value-recurs, value-end}
 use Rattle.game_theory.proofs.SubtreeLemmas.{value-agree}
-use Rattle.game_theory.proofs.OwnSetLemmas.{is_own_of-decides}
+use Rattle.game_theory.proofs.OwnSetLemmas.{is_index-decides}
 use Rattle.best_replies.specs.Reaching.{weight}
 use Rattle.best_replies.specs.Replies.{reply_value, is_member, follows}
 use Rattle.best_replies.specs.Laws.{ReplyValuesRecur, RootReplyValueIsPayoff, ActionValuesByMembers, ReplyValuesDependOnSubtrees}
@@ -104,7 +104,7 @@ action_value-by_members t b i choice s a child w h =
 
     -- a member's child
     by_member : (k : ℕ) → k < t.size → sum_to t.size (λ c. where_true (is_member t s k) (sure (child k) c *ℚ v c)) ≡ where_true (is_member t s k) (v (child k))
-    by_member k l = go (is_member t s k) (is_own_of-decides (t.set k) s)
+    by_member k l = go (is_member t s k) (is_index-decides (t.set k) s)
       where
         go : (m : Bool) → Decides m (t.set k ≡ Some s) → sum_to t.size (λ c. where_true m (sure (child k) c *ℚ v c)) ≡ where_true m (v (child k))
         go true d = sum_to-single t.size (child k) v (h k l (d.0 refl)).1
@@ -125,11 +125,11 @@ action_value-by_members t b i choice s a child w h =
             let inside : t.parent c < t.size = omega arith in
             let m = h (t.parent c) inside at.1.0 in
             let is_child : c ≡ child (t.parent c) = w.one_child (t.parent c) a c (child (t.parent c)) (at.0, l, refl, at.1.1) m in
-            sum_to-only t.size (t.parent c) _ inside (λ k n apart. where_true-same (is_member t s k) _ zero_ℚ (is_own_of-decides (t.set k) s) (λ e. let mk = h k n e in ap (λ x. x *ℚ v c) (sure-other (child k) c (λ q. apart (sym mk.2 ∙ ap t.parent (sym q)))) ∙ zero-*ℚ (v c)) ∙ where_true-zero (is_member t s k))
-            ∙ where_true-yes (is_member t s (t.parent c)) _ ((is_own_of-decides (t.set (t.parent c)) s).1 at.1.0)
+            sum_to-only t.size (t.parent c) _ inside (λ k n apart. where_true-same (is_member t s k) _ zero_ℚ (is_index-decides (t.set k) s) (λ e. let mk = h k n e in ap (λ x. x *ℚ v c) (sure-other (child k) c (λ q. apart (sym mk.2 ∙ ap t.parent (sym q)))) ∙ zero-*ℚ (v c)) ∙ where_true-zero (is_member t s k))
+            ∙ where_true-yes (is_member t s (t.parent c)) _ ((is_index-decides (t.set (t.parent c)) s).1 at.1.0)
             ∙ ap (λ x. sure x c *ℚ v c) (sym is_child) ∙ ap (λ x. x *ℚ v c) (sure-at c) ∙ one-*ℚ (v c)
         go false d =
-            sum_to-zeros t.size _ (λ k n. where_true-same (is_member t s k) _ zero_ℚ (is_own_of-decides (t.set k) s) (λ e. ap (λ x. x *ℚ v c) (sure-other (child k) c (λ q. not_from_Decides false d refl (follows-child k n e q))) ∙ zero-*ℚ (v c)) ∙ where_true-zero (is_member t s k))
+            sum_to-zeros t.size _ (λ k n. where_true-same (is_member t s k) _ zero_ℚ (is_index-decides (t.set k) s) (λ e. ap (λ x. x *ℚ v c) (sure-other (child k) c (λ q. not_from_Decides false d refl (follows-child k n e q))) ∙ zero-*ℚ (v c)) ∙ where_true-zero (is_member t s k))
 
 -- ---- what reply values depend on
 -- the reply value of a node depends only on the choices in its subtree

@@ -3,7 +3,7 @@ use Rattle.std.specs.Prelude.{ℕ, ◌<◌, ◌≡◌, ◌≢◌, ◌==◌, ◌&
 use Rattle.rational.specs.Rational.{ℚ, ◌*ℚ◌, ◌<ℚ◌, zero_ℚ}
 use Rattle.rational.specs.Sum.{sum_to}
 use Rattle.game_theory.specs.Trees.{Tree}
-use Rattle.game_theory.specs.Behaviour.{Behaviour, is_own_of, value, payoff, IsChoice, reply}
+use Rattle.game_theory.specs.Behaviour.{Behaviour, is_index, value, payoff, IsChoice, reply}
 use Rattle.best_replies.specs.Greatest.{IsFirstGreatest}
 use Rattle.best_replies.specs.Reaching.{weight}
 
@@ -13,7 +13,7 @@ reply_value t b i choice k = weight t b i k *ℚ value t (reply t b i choice) i 
 
 -- whether node k is one of set s
 abbrev pub is_member : Tree → ℕ → ℕ → Bool
-is_member t s k = is_own_of (t.set k) s
+is_member t s k = is_index (t.set k) s
 
 -- whether action a leads from a node of set s to node c
 abbrev pub follows : Tree → ℕ → ℕ → ℕ → Bool

@@ -314,24 +314,6 @@ pub record IsEnoughFrom (decisions : List Decision) (actions : List ℕ) (n : �
   pub alone : (j k : ℕ) (d e : Decision) → n ≤ j → slice_get decisions j ≡ Some d → slice_get decisions k ≡ Some e → is_kept kept j ≡ false → d.place ≡ e.place → j ≡ k
   pub before_kept : (j : ℕ) (d : Decision) (edge : Edge) → n ≤ j → slice_get decisions j ≡ Some d → is_kept kept j ≡ true → d.before ≡ Some edge → is_kept kept edge.decision ≡ true
 
--- at the end nothing is asked
-pub IsEnoughFrom-end : (decisions : List Decision) (actions : List ℕ) (kept : List Bool) → length kept ≡ length decisions → IsEnoughFrom decisions actions (length decisions) kept
-IsEnoughFrom-end decisions actions kept long = record {
-  one_for_each = long;
-  one_action = λ j d l at out. absurd (omega (arith, slice_get_within decisions j d at));
-  alone = λ j k d e l at there out same. absurd (omega (arith, slice_get_within decisions j d at));
-  before_kept = λ j d edge l at held before. absurd (omega (arith, slice_get_within decisions j d at));
-}
-
--- from the start it is enough
-pub AreEnough-start : (decisions : List Decision) (actions : List ℕ) (n : ℕ) (kept : List Bool) → n ≡ 0 → IsEnoughFrom decisions actions n kept → AreEnough decisions actions kept
-AreEnough-start decisions actions n kept start h = record {
-  one_for_each = h.one_for_each;
-  one_action = λ j d at out. h.one_action j d (omega arith) at out;
-  alone = λ j k d e at there out same. h.alone j k d e (omega arith) at there out same;
-  before_kept = λ j d edge at held before. h.before_kept j d edge (omega arith) at held before;
-}
-
 -- one decision more: it is kept where it was marked, or its set has more actions or another decision; and then the one before it is
 module _ (decisions : List Decision) (actions : List ℕ) (linked : AreLinked decisions actions) (shared : List Bool) (are : AreShared decisions (length actions) shared) (n : ℕ) (kept : List Bool) (d : Decision) (at : slice_get decisions n ≡ Some d) (h : IsEnoughFrom decisions actions (suc n) kept) where
   -- the edges come from decisions before
@@ -400,56 +382,6 @@ pub record AreSeen (decisions : List Decision) (sets n : ℕ) (seen shared : Lis
   pub told : (k : ℕ) (d : Decision) → k < n → slice_get decisions k ≡ Some d → get_or seen d.place false ≡ true
   pub alone : (j k : ℕ) (d e : Decision) → j < n → k < n → slice_get decisions j ≡ Some d → slice_get decisions k ≡ Some e → get_or shared d.place false ≡ false → d.place ≡ e.place → j ≡ k
 
-pub AreSeen-none : (decisions : List Decision) (sets : ℕ) (seen shared : List Bool) → seen ≡ replicate sets false → shared ≡ replicate sets false → AreSeen decisions sets 0 seen shared
-AreSeen-none decisions sets seen shared s m = record {
-  seen_for_each = ap length s ∙ length-replicate sets false;
-  shared_for_each = ap length m ∙ length-replicate sets false;
-  told = λ k d l at. absurd (omega arith);
-  alone = λ j k d e l b at there no_mark same. absurd (omega arith);
-}
-
--- one more decision, whose set is marked where it was seen
-pub AreSeen-next : (decisions : List Decision) (sets n : ℕ) (seen shared : List Bool) (d : Decision) (mark : Bool) → slice_get decisions n ≡ Some d → d.place < sets → (mark ≡ false → (get_or shared d.place false ≡ false) × (get_or seen d.place false ≡ false)) → AreSeen decisions sets n seen shared
-    → AreSeen decisions sets (suc n) (set seen d.place true) (set shared d.place mark)
-AreSeen-next decisions sets n seen shared d mark at within fresh s =
-    let marked_at : (e : Decision) → e.place ≡ d.place → get_or (set shared d.place mark) e.place false ≡ mark = λ e same. ap (λ v. get_or (set shared d.place mark) v false) same ∙ get_or-set_same shared d.place mark false (omega (arith, within, s.shared_for_each)) in
-    let clash : (k : ℕ) (e : Decision) → k < n → slice_get decisions k ≡ Some e → e.place ≡ d.place → mark ≡ false → ⊥ =
-    λ k e l there same none. not_both (get_or seen d.place false) (ap (λ v. get_or seen v false) (sym same) ∙ s.told k e l there) (fresh none).1 in
-    record {
-      seen_for_each = lists.length-set seen d.place true ∙ s.seen_for_each;
-      shared_for_each = lists.length-set shared d.place mark ∙ s.shared_for_each;
-      told = λ k e l there. elim (cases_eq e.place d.place) [
-        | inl same ↦ ap (λ v. get_or (set seen d.place true) v false) same ∙ get_or-set_same seen d.place true false (omega (arith, within, s.seen_for_each))
-        | inr other ↦ elim (below_or_last k n l) [
-          | inl b ↦ get_or-set_other seen d.place e.place true false other ∙ s.told k e b there
-          | inr b ↦ absurd (other (sym (ap (λ (v : Decision). v.place) (one_decision decisions k n d e b at there))))
-        ]
-      ];
-      alone = λ j k e f l m here there no_mark same. elim (cases_eq e.place d.place) [
-        | inl this ↦
-            let none : mark ≡ false = sym (marked_at e this) ∙ no_mark in
-            elim (below_or_last j n l) [
-              | inl b ↦ absurd (clash j e b here this none)
-              | inr b ↦ elim (below_or_last k n m) [ inl c ↦ absurd (clash k f c there (sym same ∙ this) none) | inr c ↦ omega (arith, b, c) ]
-            ]
-        | inr other ↦
-            let unmarked = sym (get_or-set_other shared d.place e.place mark false other) ∙ no_mark in
-            elim (below_or_last j n l) [
-              | inr b ↦ absurd (other (sym (ap (λ (v : Decision). v.place) (one_decision decisions j n d e b at here))))
-              | inl b ↦ elim (below_or_last k n m) [
-                | inr c ↦ absurd (other (same ∙ sym (ap (λ (v : Decision). v.place) (one_decision decisions k n d f c at there))))
-                | inl c ↦ s.alone j k e f b c here there unmarked same
-              ]
-            ]
-      ];
-    }
-
-pub AreShared-all : (decisions : List Decision) (sets n : ℕ) (seen shared : List Bool) → length decisions ≤ n → AreSeen decisions sets n seen shared → AreShared decisions sets shared
-AreShared-all decisions sets n seen shared all s = record {
-  one_for_each = s.shared_for_each;
-  alone = λ j k d e here there no_mark same. s.alone j k d e (omega (arith, slice_get_within decisions j d here)) (omega (arith, slice_get_within decisions k e there)) here there no_mark same;
-}
-
 -- where no set is marked, none has two decisions
 pub AreApart-shared : (decisions : List Decision) (sets : ℕ) (shared : List Bool) → AreShared decisions sets shared → (Contains shared true → ⊥) → AreApart decisions
 AreApart-shared decisions sets shared s none j k d e here there same =
@@ -473,14 +405,6 @@ pub record AreNumbered (decisions : List Decision) (kept : List Bool) (n : ℕ) 
 pub kept_below-all : (kept : List Bool) (n : ℕ) → kept_below kept n ≤ n
 kept_below-all kept zero = omega arith
 kept_below-all kept (suc n) = elim (cases_Bool (is_kept kept n)) [ inl held ↦ omega (arith, below-kept kept n held, kept_below-all kept n) | inr out ↦ omega (arith, below-left_out kept n out, kept_below-all kept n) ]
-
-pub AreNumbered-none : (decisions : List Decision) (kept : List Bool) (numbers : List ℕ) (list : List Decision) → numbers ≡ [] → list ≡ [] → AreNumbered decisions kept 0 numbers list
-AreNumbered-none decisions kept numbers list no_numbers none = record {
-  number_for_each = ap length no_numbers;
-  numbers_are = λ k l. absurd (omega arith);
-  as_many = ap length none;
-  list_is = ap (λ v. v ++ kept_from kept 0 decisions) none;
-}
 
 -- one more number
 numbers-more : (kept : List Bool) (n number : ℕ) (numbers more : List ℕ) → length numbers ≡ n → ((k : ℕ) → k < n → get_or numbers k 0 ≡ kept_below kept k) → number ≡ kept_below kept n → more ≡ numbers ++ number ∷ [] → (k : ℕ) → k < suc n → get_or more k 0 ≡ kept_below kept k

@@ -5,9 +5,9 @@ use Rattle.std.specs.List.{filter, range_with_len}
 use Rattle.std.proofs.Math.Nat.{mul-le-mul_left}
 use Rattle.std.proofs.Math.ListN.{length-set}
 use Rattle.std.proofs.lemmas.Bool.{cases_eq}
-use Rattle.std.proofs.lemmas.List.{get_or-set_same, get_or-set_other, get_or-map, get_or_default, append-nil}
+use Rattle.std.proofs.lemmas.List.{get_or-set_same, get_or-set_other, get_or_default, append-nil}
 use Rattle.lists.proofs.NumberLemmas.{unequal}
-use Rattle.std.proofs.lemmas.Option.{get_or_from_slice_get, slice_get_within}
+use Rattle.std.proofs.lemmas.Option.{get_or_from_slice_get}
 use Rattle.std.proofs.lemmas.List.Elements.{All-filter, All-map, All-set, All-take}
 use Rattle.std.proofs.lemmas.List.FromFn.{filter_of_map_range_with_len_more, length-range_with_len, get_or-range_with_len}
 use Rattle.game_theory.specs.Profiles.{IsProfile, profile_count, number_of, stride}
@@ -15,7 +15,7 @@ use Rattle.game_theory.proofs.ProfileNumberLemmas.{length-profile, profile-below
 use Rattle.game_theory.proofs.ProfileCountLemmas.{profile_count-positive, profile_count-front, profile_count-next}
 use Rattle.game_core.specs.Table.{GameTable, IsTable, strategy_counts, most_payoffs}
 use Rattle.game_core.proofs.TableCountLemmas.{length-strategy_counts, profile_count-table, at_most_product}
-use Rattle.enumpure.proofs.StrideLemmas.{HaveStrategies-table}
+use Rattle.game_core.proofs.StrideLemmas.{HaveStrategies-table}
 use Rattle.convert_tables.specs.Layouts.{other_players, others_counts, strategy_count, strategy_name, cell_number}
 
 -- the others are players
@@ -137,22 +137,12 @@ AreFewCounts-others t row column valid =
     record { profiles = profiles; few = λ k d l. omega (arith, count_few counts k twice l, get_or_default counts k d 0 l); some = twice }
 
 -- ---- names
--- how many strategies a player has, by their names
-pub count_is : (t : GameTable) (i : ℕ) (names : List (List ℕ)) → slice_get t.strategies i ≡ Some names → strategy_count t i ≡ length names
-count_is t i names e = get_or-map length t.strategies i [] 0 (slice_get_within t.strategies i names e) ∙ ap length (get_or_from_slice_get t.strategies i names [] e)
-
 -- a strategy's name
 pub strategy_name_is : (t : GameTable) (i s : ℕ) (names : List (List ℕ)) (name : List ℕ) → slice_get t.strategies i ≡ Some names → s < length names → name ≡ get_or names s name → strategy_name t i s ≡ name
 strategy_name_is t i s names name e l is =
     ap (λ ns. get_or ns s []) (get_or_from_slice_get t.strategies i names [] e) ∙ get_or_default names s [] name l ∙ sym is
 
 -- ---- players
--- the profiles of the players before one are as many as its stride
-pub profile_count-before : (ns : List ℕ) (i : ℕ) → profile_count (take i ns) ≡ stride ns i
-profile_count-before ns zero = omega arith
-profile_count-before [] (suc i) = omega arith
-profile_count-before (n ∷ ns) (suc i) = ap (λ v. n * v) (profile_count-before ns i)
-
 map_same : (xs : List ℕ) → map (λ (k : ℕ). k) xs ≡ xs
 map_same [] = refl
 map_same (x ∷ xs) = ap (λ v. x ∷ v) (map_same xs)

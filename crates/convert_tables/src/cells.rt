@@ -50,8 +50,7 @@ fn push_payoff(
     ensures { OnOk result (text.new.items
         ≡ text.old.items ++ payoff_text table.now number player) }
 {
-    let payoff = table.payoffs()[number * table.players().len() + player];
-    text.extend_from_slice(&fraction(alloc, payoff)?)?;
+    text.extend_from_slice(&fraction(alloc, table.payoff_at(number, player))?)?;
     Ok(())
 }
 
@@ -99,7 +98,7 @@ fn push_cells(alloc: Global, text: &mut Vec<u8>, plan: &Plan, first: usize) -> R
         (first + plan.now.column_stride * c))
         (range_with_len 0 (strategy_count plan.now.table.now plan.now.column))) }
 {
-    for column in 0..plan.table.strategies(plan.column).len() {
+    for column in 0..plan.table.strategy_count(plan.column) {
         push_cell(alloc, text, plan, first + plan.column_stride * column)?;
     }
     Ok(())
@@ -156,7 +155,7 @@ pub fn push_rows(
     ensures long { IsErrOf result TextStop.TooLong → most_text < length (text.old.items
         ++ rows_text plan.now.style plan.now.table.now plan.now.row plan.now.column choice.now) }
 {
-    for strategy in 0..plan.table.strategies(plan.row).len() {
+    for strategy in 0..plan.table.strategy_count(plan.row) {
         push_row(alloc, text, plan, choice, strategy)?;
         if text.len() > MOST_TEXT {
             return Err(TextStop::TooLong);

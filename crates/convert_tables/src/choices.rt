@@ -15,7 +15,6 @@ use crate::cells::{Plan, push_rows};
 use crate::marks::{Mark, Style, mark_text};
 use crate::names::{push_marked, push_name};
 use crate::stops::TextStop;
-use enumpure::strategy_count;
 use frac128::Memory;
 use game_core::{Name, Table, profile_count, set_profile};
 use std::alloc::Global;
@@ -116,9 +115,9 @@ fn push_sgame_start(
         ≡ text.old.items ++ sgame_start table.now row column) }
 {
     text.extend_from_slice(b"\\begin{game}{")?;
-    push_number(alloc, text, strategy_count(table, row))?;
+    push_number(alloc, text, table.strategy_count(row))?;
     text.extend_from_slice(b"}{")?;
-    push_number(alloc, text, strategy_count(table, column))?;
+    push_number(alloc, text, table.strategy_count(column))?;
     text.extend_from_slice(b"}[")?;
     push_player(text, Style::Sgame, table, row)?;
     text.extend_from_slice(b"][")?;

@@ -1,9 +1,8 @@
 // The layouts of a table.
-ghost use Rattle.std.specs.Prelude.{◌≡◌, ◌≢◌, ◌-◌, ◌<◌, ◌≤◌, ◌++◌, ◌↔◌, IsTrue, ℕ, length, map, IfOk, OnOk, All};
+ghost use Rattle.std.specs.Prelude.{◌≡◌, ◌≢◌, ◌-◌, ◌<◌, ◌≤◌, ◌++◌, ◌↔◌, IsTrue, ℕ, length, map, IfOk, OnOk};
 ghost use Rattle.std.specs.Result.{IsErrOf};
 ghost use Rattle.answers.specs.Answers.{Gives, IsSingle, map_ok};
-ghost use Rattle.game_theory.specs.Profiles.{stride, profile_count};
-ghost use Rattle.game_core.specs.Table.{GameTable, IsTable, strategy_counts, most_payoffs};
+ghost use Rattle.game_core.specs.Table.{GameTable};
 ghost use Rattle.game_core.specs.TextLimit.{most_text, too_long_text};
 ghost use Rattle.convert_tables.specs.Examples.{PrisonersDilemmaIsLaidOut};
 ghost use Rattle.convert_tables.specs.Layouts.{other_players, others_counts, title_text, layout};
@@ -16,9 +15,8 @@ use crate::choices::push_tables;
 use crate::marks::Style;
 use crate::names::push_name;
 use crate::stops::{ConvertStop, TextStop};
-use enumpure::strategy_counts;
 use frac128::Memory;
-use game_core::{MOST_TEXT, Table, profile_count, too_long_text};
+use game_core::{MOST_TEXT, Table, too_long_text};
 use std::alloc::Global;
 
 // The players besides the row player and the column player, in order.
@@ -38,16 +36,6 @@ fn other_players(
         }
     }
     Ok(others)
-}
-
-// How much a profile's number grows when a player changes to the next strategy.
-fn stride(counts: &[usize], player: usize) -> usize
-    requires player { player < length counts.now }
-    requires some { All (λ n. 0 < n) counts.now }
-    requires few { profile_count counts.now ≤ most_payoffs }
-    ensures { result ≡ stride counts.now player }
-{
-    profile_count(&counts[..player])
 }
 
 fn zeros(alloc: Global, count: usize) -> Result<Vec<u32>, Memory>
@@ -92,7 +80,7 @@ fn write_layout(
     ensures long { IsErrOf result TextStop.TooLong
         → most_text < length (layout style table.now row column) }
 {
-    let mut counts = strategy_counts(alloc, table)?;
+    let mut counts = table.strategy_counts(alloc)?;
     let others = other_players(alloc, table.players().len(), row, column)?;
     let mut choice = zeros(alloc, counts.len())?;
     let plan = Plan {
@@ -101,8 +89,8 @@ fn write_layout(
         row,
         column,
         others: &others,
-        row_stride: stride(&counts, row),
-        column_stride: stride(&counts, column),
+        row_stride: table.stride(row),
+        column_stride: table.stride(column),
     };
     counts[row] = 1;
     counts[column] = 1;

@@ -147,11 +147,6 @@ same_room nodes sets others outcomes more = go nodes.branchings
     go [] = refl
     go (b ∷ rest) = refl
 
--- where nothing was taken, nothing branches
-pub none_taken : (branchings after : List Branching) → HasTaken branchings None after → branchings ≡ []
-none_taken [] after h = refl
-none_taken (b ∷ rest) after h = absurd h
-
 -- where the first place is taken within the limits, it and the nodes lie below them
 pub room_for : (partial : PartialTree) (place : Kept) (taken : List Branching) → passed partial ≡ None → HasTaken partial.branchings (Some place) taken → (length partial.nodes < most_nodes) × (place.depth ≤ most_depth)
 room_for partial place taken room was = go partial.branchings room was

@@ -10,10 +10,10 @@ use std::marker::Model;
 use tree_grammar::{Outcomes, Sets};
 
 /// The most nodes of a tree.
-const MOST_NODES: usize = 65536;
+pub(crate) const MOST_NODES: usize = 65536;
 
 /// The most edges from the root to a node.
-const MOST_DEPTH: u32 = 1024;
+pub(crate) const MOST_DEPTH: u32 = 1024;
 
 /// A node some of whose actions lead nowhere yet; before the root there is one of these without a node.
 #[derive(Clone, Copy, Debug, PartialEq, Eq)]

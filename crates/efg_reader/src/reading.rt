@@ -11,7 +11,7 @@ ghost use Rattle.efg_reader.specs.declared.fault.EfgStop.TheVariants.{Memory};
 ghost use Rattle.game_core.specs.TokenList.{TokenList, bare};
 ghost use Rattle.game_core.specs.Spacing.{IsShortToken};
 
-use crate::builder::Builder;
+use crate::builder::{Builder, MOST_DEPTH, MOST_NODES};
 use crate::fault::{EfgFault, EfgStop};
 use crate::nodes::{Stop, read_nodes};
 use file_parts::{Refusal, offset};
@@ -44,13 +44,13 @@ fn nodes_stop(stopped: Stop, tokens: &Tokens) -> EfgStop
         Stop::Refused(refusal) => stop(refusal, tokens),
         Stop::Passed(What::Nodes) => EfgStop::TooLarge(TooLarge {
             what: What::Nodes,
-            count: 65537,
-            limit: 65536,
+            count: MOST_NODES as u64 + 1,
+            limit: MOST_NODES as u64,
         }),
         Stop::Passed(_) => EfgStop::TooLarge(TooLarge {
             what: What::Depth,
-            count: 1025,
-            limit: 1024,
+            count: MOST_DEPTH as u64 + 1,
+            limit: MOST_DEPTH as u64,
         }),
     }
 }

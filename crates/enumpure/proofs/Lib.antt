@@ -6,5 +6,4 @@ pub mod ListedProfileLemmas
 pub mod OneTextLaws
 pub mod ProfileEntryLemmas
 pub mod ProfilePartLemmas
-pub mod StrideLemmas
 pub mod TotalLemmas

@@ -19,7 +19,7 @@ use Rattle.ne_printer.specs.Entries.{entry_text, entries_text}
 use Rattle.ne_printer.proofs.LineTextLemmas.{line_text-joined}
 use Rattle.enumpure.specs.Ranks.{ranked_plays_best, rank_line, lines_below}
 use Rattle.enumpure.specs.Replies.{plays_best}
-use Rattle.enumpure.proofs.StrideLemmas.{HaveStrategies, HaveStrategies-later, HaveStrategies-table, profile_count-positive}
+use Rattle.game_core.proofs.StrideLemmas.{HaveStrategies, HaveStrategies-later, HaveStrategies-table, profile_count-positive}
 use Rattle.enumpure.proofs.TotalLemmas.{total, one_if, total-ranked, total-best_replies}
 
 -- the text of 1

@@ -1,13 +1,13 @@
 -- A profile that is written, and its number that is added up, player by player.
 use Rattle.std.proofs.Common.{ℕ, suc, ◌+◌, ◌*◌, ◌/◌, ◌%◌, ◌<◌, ◌≤◌, ◌≡◌, ◌≢◌, ◌⊎◌, inl, inr, List, [], ◌∷◌, length, get_or, set, drop, refl, sym, ap, ap₂, ◌∙◌, subst, arith, mod-lt, drop-cons, add-one}
 use Rattle.std.proofs.lemmas.Bool.{cases_eq}
-use Rattle.std.proofs.lemmas.List.{get_or-set_same, get_or-set_other, ext_get_or, drop_all}
+use Rattle.std.proofs.lemmas.List.{get_or-set_same, get_or-set_other, ext_get_or}
 use Rattle.std.proofs.Math.Nat.{mul-div_cancel_left}
-use Rattle.game_theory.specs.Profiles.{profile_count, IsProfile, number_of, stride}
-use Rattle.game_theory.proofs.ProfileNumberLemmas.{profile-below, stride-next}
+use Rattle.game_theory.specs.Profiles.{profile_count, IsProfile}
+use Rattle.game_theory.proofs.ProfileNumberLemmas.{profile-below}
 use Rattle.game_theory.specs.Ranks.{ranked}
 use Rattle.game_theory.proofs.RankLemmas.{factors-positive}
-use Rattle.enumpure.proofs.StrideLemmas.{HaveStrategies}
+use Rattle.game_core.proofs.StrideLemmas.{HaveStrategies}
 
 -- The strategies of the players before `i` are written, and the others are those of the profile with rank
 -- `rest` among the profiles of the players from `i` on, of which there are `later`.
@@ -67,30 +67,6 @@ IsSetBelow-next ns target profile i later rest l b w h =
 -- at last the profile is written
 pub IsSetBelow-all : (ns target profile : List ℕ) (i later rest : ℕ) → length profile ≡ length target → length target ≤ i → IsSetBelow ns target profile i later rest → profile ≡ target
 IsSetBelow-all ns target profile i later rest e l h = ext_get_or 0 profile target e (λ j b. h.written j (omega arith))
-
--- the number of the strategies of the players before `i`, to which those of the others add as many strides
-pub record IsNumberBelow (ns s : List ℕ) (i number d : ℕ) : Type 0 where
-  pub stride_is : d ≡ stride ns i
-  pub sum : number + d * number_of (drop i ns) (drop i s) ≡ number_of ns s
-
--- one player more
-pub IsNumberBelow-next : (ns s : List ℕ) (i number d : ℕ) → i < length ns → i < length s → IsNumberBelow ns s i number d → IsNumberBelow ns s (i + 1) (number + d * get_or s i 0) (d * get_or ns i 0)
-IsNumberBelow-next ns s i number d l b h =
-    record { stride_is = ap (λ v. v * get_or ns i 0) h.stride_is ∙ sym (stride-next ns i l) ∙ ap (stride ns) (sym (add-one i)); sum = subst (λ v. number + d * get_or s i 0 + d * get_or ns i 0 * number_of (drop v ns) (drop v s) ≡ number_of ns s) (sym (add-one i)) sum_next }
-  where
-    parts : number_of (drop i ns) (drop i s) ≡ get_or s i 0 + get_or ns i 0 * number_of (drop (suc i) ns) (drop (suc i) s)
-    parts = ap₂ number_of (drop-cons ns i 0 l) (drop-cons s i 0 b)
-
-    sum_next : number + d * get_or s i 0 + d * get_or ns i 0 * number_of (drop (suc i) ns) (drop (suc i) s) ≡ number_of ns s
-    sum_next = let e : number + d * (get_or s i 0 + get_or ns i 0 * number_of (drop (suc i) ns) (drop (suc i) s)) ≡ number_of ns s = ap (λ v. number + d * v) (sym parts) ∙ h.sum in omega (arith, e)
-
--- what is added so far is at most the number
-pub number_so_far : (ns s : List ℕ) (i number d : ℕ) → i < length ns → i < length s → IsNumberBelow ns s i number d → number + d * get_or s i 0 ≤ number_of ns s
-number_so_far ns s i number d l b h = omega (arith, (IsNumberBelow-next ns s i number d l b h).sum)
-
--- past the last player nothing is left
-pub number_of-past : (ns s : List ℕ) (i number d : ℕ) → length ns ≤ i → IsNumberBelow ns s i number d → number ≡ number_of ns s
-number_of-past ns s i number d l h = omega (arith, ap (λ v. d * number_of v (drop i s)) (drop_all i ns l), h.sum)
 
 -- each player of a game that has a profile has some strategy
 pub HaveStrategies-profile : (ns s : List ℕ) → IsProfile ns s → HaveStrategies ns

@@ -6,7 +6,6 @@ ghost use Rattle.game_theory.specs.Lines.{entries, line_text, lines_text};
 ghost use Rattle.game_core.specs.Table.{strategy_counts};
 ghost use Rattle.enumpure.specs.Ranks.{lines_below};
 
-use crate::replies::strategy_count;
 use game_core::Table;
 
 // How many bytes the line of each pure profile has: besides `NE` and the line feed a comma and a digit for
@@ -18,7 +17,7 @@ fn line_length(table: &Table) -> usize
 {
     let mut strategies = 0;
     for player in 0..table.players().len() {
-        strategies += strategy_count(table, player);
+        strategies += table.strategy_count(player);
     }
     if strategies == 0 {
         4

@@ -5,10 +5,8 @@
 //! Definitions: `specs::Text` says what the text is, `Stops` what a table answers within the limit
 //! on texts, `Replies` best replies by the numbers of profiles.
 //! Private words: `specs::Ranks`, and `lengths`, which counts bytes before lines are written.
-//! Lemmas for callers: `proofs::OneTextLaws` on texts within the limit; `StrideLemmas`,
-//! `ListedProfileLemmas`.
-//! A change here touches: `enumpure_trees`, `convert_tables`, `ne_checker`,
-//! `enummixed` and what `enumpure` prints.
+//! Lemmas for callers: `proofs::OneTextLaws` on texts within the limit; `ListedProfileLemmas`.
+//! A change here touches: `enumpure_trees`, `ne_checker`, `enummixed` and what `enumpure` prints.
 #![tactic(auto)]
 
 mod lengths;
@@ -16,4 +14,4 @@ mod listing;
 mod replies;
 
 pub use listing::{ListStop, list_pure_equilibria, pure_texts_are_single};
-pub use replies::{mutual_best_replies, strategy_count, strategy_counts};
+pub use replies::mutual_best_replies;

@@ -11,7 +11,7 @@ ghost use Rattle.enumpure.specs.Stops.{pure_text};
 ghost use Rattle.enumpure.specs.declared.listing.ListStop.TheVariants as stops;
 
 use crate::lengths::text_length;
-use crate::replies::{mutual_best_replies, strategy_counts};
+use crate::replies::mutual_best_replies;
 use frac128::{Frac, Memory};
 use game_core::{MOST_TEXT, Table, TooLarge, too_long_text};
 use ne_printer::push_line;
@@ -149,7 +149,7 @@ pub fn list_pure_equilibria(alloc: Global, table: &Table) -> Result<Vec<u8>, Lis
     ensures { Gives stops.Memory (pure_text (game_of table.now))
         (map_ok result (λ text. text.items)) }
 {
-    let counts = strategy_counts(alloc, table)?;
+    let counts = table.strategy_counts(alloc)?;
     let all_best = mutual_best_replies(alloc, table)?;
     let bytes = text_length(table, &all_best);
     if bytes > MOST_TEXT {

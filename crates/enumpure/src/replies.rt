@@ -1,41 +1,12 @@
 // The profiles of a table at which each player plays a best reply.
-ghost use Rattle.std.specs.Prelude.{◌≡◌, ℕ, ◌+◌, ◌*◌, ◌<◌, IsTrue, IfOk, OnOk, EachIndex, length, slice_index};
-ghost use Rattle.game_theory.specs.Profiles.{profile_count, stride as stride_of};
+ghost use Rattle.std.specs.Prelude.{◌≡◌, ℕ, ◌+◌, ◌*◌, ◌<◌, IsTrue, IfOk, EachIndex, length, slice_index};
+ghost use Rattle.game_theory.specs.Profiles.{profile_count};
 ghost use Rattle.game_core.specs.Table.{game_of, strategy_counts, IsTable};
 ghost use Rattle.enumpure.specs.Replies.{IsBest, KeepsBestInLine, KeepsBestReplies, AreMutualBestReplies, plays_best};
 
 use frac128::{Frac, Memory};
 use game_core::{Table, profile_count};
 use std::alloc::Global;
-
-/// How many strategies a player has.
-pub fn strategy_count(table: &Table, player: usize) -> usize
-    requires { player < length table.now.players }
-    ensures { result ≡ slice_index (strategy_counts table.now) player }
-{
-    table.strategies(player).len()
-}
-
-/// How many strategies each player has.
-pub fn strategy_counts(alloc: Global, table: &Table) -> Result<Vec<usize>, Memory>
-    ensures counts { IfOk result (λ counts. counts.items ≡ strategy_counts table.now) }
-    ensures valid { OnOk result (IsTable table.now) }
-{
-    let mut counts = Vec::new(alloc);
-    for player in 0..table.players().len() {
-        counts.push(strategy_count(table, player))?;
-    }
-    Ok(counts)
-}
-
-// A player's payoff at the profile with a number.
-fn payoff(table: &Table, player: usize, profile: usize) -> Frac
-    requires player { player < length table.now.players }
-    requires profile { profile < profile_count (strategy_counts table.now) }
-    ensures { result ≡ (game_of table.now).pays player profile }
-{
-    table.payoffs()[profile * table.players().len() + player]
-}
 
 // The best payoff among a player's strategies against what the others play in a profile, `first`, in
 // which the player plays strategy 0. The stride leads to the profile with the player's next strategy.
@@ -47,9 +18,9 @@ fn best_payoff(table: &Table, player: usize, stride: usize, first: usize) -> Fra
     ensures { IsBest ((game_of table.now).pays player) first stride
         (slice_index (strategy_counts table.now) player) result }
 {
-    let mut best = payoff(table, player, first);
-    for strategy in 1..strategy_count(table, player) {
-        let other = payoff(table, player, first + stride * strategy);
+    let mut best = table.payoff_at(first, player);
+    for strategy in 1..table.strategy_count(player) {
+        let other = table.payoff_at(first + stride * strategy, player);
         if best.is_less(other) {
             best = other;
         }
@@ -74,23 +45,23 @@ fn keep_best(
     ensures in_line { KeepsBestInLine ((game_of table.now).pays player) first stride
         (slice_index (strategy_counts table.now) player) best all_best.old all_best.new }
 {
-    for strategy in 0..strategy_count(table, player) {
+    for strategy in 0..table.strategy_count(player) {
         let profile = first + stride * strategy;
-        if payoff(table, player, profile).is_less(best) {
+        if table.payoff_at(profile, player).is_less(best) {
             all_best[profile] = false;
         }
     }
 }
 
 // Leaves out the profiles at which the player has a strategy with a greater payoff.
-fn keep_best_of_player(all_best: &mut [bool], table: &Table, player: usize, stride: usize)
+fn keep_best_of_player(all_best: &mut [bool], table: &Table, player: usize)
     requires player { player < length table.now.players }
     requires best_replies { length all_best.old ≡ profile_count (strategy_counts table.now) }
-    requires stride { stride ≡ stride_of (strategy_counts table.now) player }
     requires valid { IsTable table.now }
     ensures { KeepsBestReplies (game_of table.now) player all_best.old all_best.new }
 {
-    let strategies = strategy_count(table, player);
+    let stride = table.stride(player);
+    let strategies = table.strategy_count(player);
     for first in 0..all_best.len() {
         if first / stride % strategies == 0 {
             let best = best_payoff(table, player, stride, first);
@@ -105,10 +76,8 @@ fn keep_mutual(all_best: &mut [bool], table: &Table)
     requires all { EachIndex all_best.old (λ k. IsTrue (plays_best all_best.old k)) }
     ensures { AreMutualBestReplies (game_of table.now) all_best.new }
 {
-    let mut stride = 1;
     for player in 0..table.players().len() {
-        keep_best_of_player(all_best, table, player, stride);
-        stride *= strategy_count(table, player);
+        keep_best_of_player(all_best, table, player);
     }
 }
 
@@ -117,7 +86,7 @@ pub fn mutual_best_replies(alloc: Global, table: &Table) -> Result<Vec<bool>, Me
     ensures { IfOk result
         (λ replies. AreMutualBestReplies (game_of table.now) replies.items) }
 {
-    let counts = strategy_counts(alloc, table)?;
+    let counts = table.strategy_counts(alloc)?;
     let mut all_best = vec![in alloc; true; profile_count(&counts)]?;
     keep_mutual(&mut all_best, table);
     Ok(all_best)

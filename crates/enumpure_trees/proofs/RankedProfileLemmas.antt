@@ -74,11 +74,6 @@ place-below orders rank i later rest count b l is next =
     let ns : List ℕ = map length orders in
     omega (arith, next.place_is, is, profile-below ns (ranked ns rank) i (IsProfile-ranked ns rank b) (omega (arith, length-map orders (length {A = ℕ}))))
 
--- ---- the lists that are read
--- there is a count for each player
-pub length-counts : (lists : List (Vec ℕ Global)) → length (map (length {A = ℕ}) (map (λ v. v.items) lists)) ≡ length lists
-length-counts lists = length-map (map (λ v. v.items) lists) (length {A = ℕ}) ∙ length-map lists (λ v. v.items)
-
 -- a list that is read is the player's
 pub items-at : (lists : List (Vec ℕ Global)) (i : ℕ) (list : Vec ℕ Global) → i < length lists → list ≡ get_or lists i list → list.items ≡ get_or (map (λ v. v.items) lists) i []
 items-at lists i list l is = ap (λ v. v.items) is ∙ sym (get_or-map (λ v. v.items) lists i list [] l)

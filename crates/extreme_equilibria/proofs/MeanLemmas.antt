@@ -1,7 +1,7 @@
 -- Proper means of two points. A point that is no midpoint of a convex set is no proper mean either.
-use Rattle.std.proofs.Common.{ℕ, ◌<◌, ◌≡◌, ◌≢◌, ◌↔◌, inl, inr, [], ◌∷◌, refl, sym, ap₂, ◌∙◌, arith}
+use Rattle.std.proofs.Common.{ℕ, ◌<◌, ◌≡◌, [], ◌∷◌, refl, sym, ap₂, ◌∙◌, arith}
 use Rattle.std.proofs.lemmas.Int.{ints}
-use Rattle.rational.specs.Rational.{ℚ, ◌+ℚ◌, ◌*ℚ◌, ◌-ℚ◌, inv_ℚ, zero_ℚ, one_ℚ, ◌≤ℚ◌, ◌<ℚ◌}
+use Rattle.rational.specs.Rational.{ℚ, ◌+ℚ◌, ◌*ℚ◌, inv_ℚ, zero_ℚ, one_ℚ, ◌≤ℚ◌, ◌<ℚ◌}
 use Rattle.rational.specs.Sum.{sum_to}
 use Rattle.rational.proofs.RationalRing.{rational_ring}
 use Rattle.rational.proofs.Ring.{ring, combine, ◌times◌is◌, num, ◌:+◌, ◌:*◌, ◌:-◌, :neg, A, B, C, D, E, F}
@@ -9,7 +9,6 @@ use Rattle.rational.proofs.Linear.{linear, at, ◌⟨+⟩◌, ◌⟨≤⟩◌, �
 use Rattle.rational.proofs.Field.{pos-mul, le-mul_left, *ℚ-inv}
 use Rattle.rational.proofs.Rules.{add-*ℚ}
 use Rattle.rational.proofs.SumLemmas.{sum_to-same, sum_to-add, sum_to-scale}
-use Rattle.rational.proofs.Decide.{is_zero}
 use Rattle.extreme_equilibria.specs.ExtremeEquilibria.{AreSame, IsMidpoint}
 use Rattle.extreme_equilibria.specs.Bimatrix.{IsNoMidpoint, gain, mean_gain, IsBimatrixEquilibrium}
 use Rattle.extreme_equilibria.specs.Polytopes.{IsInPolytope}
@@ -102,13 +101,3 @@ alone_mean n S z convex alone α β p q h g e sp sq i b =
     let left : S (blend t ((α *ℚ α) +ℚ two) (β *ℚ β) p q) = convex ((α *ℚ α) +ℚ two) (β *ℚ β) p q _ (add-pos _ _ (pos-mul α α h h) twice) (pos-mul β β g g) (blend_mean n t _ _ p q (ring rational_ring (α ∷ β ∷ t ∷ []) ((A :* A :+ (A :* B :+ A :* B) :+ B :* B) :* C) ((A :+ B) :* (A :+ B) :* C) refl ∙ one)) sp sq in
     let right : S (blend t (α *ℚ α) ((β *ℚ β) +ℚ two) p q) = convex (α *ℚ α) ((β *ℚ β) +ℚ two) p q _ (pos-mul α α h h) (add-pos _ _ (pos-mul β β g g) twice) (blend_mean n t _ _ p q (ring rational_ring (α ∷ β ∷ t ∷ []) ((A :* A :+ (B :* B :+ (A :* B :+ A :* B))) :* C) ((A :+ B) :* (A :+ B) :* C) refl ∙ one)) sp sq in
     stretched_apart α β t (p i) (q i) h g (inv_pos _ square) (alone (blend t ((α *ℚ α) +ℚ two) (β *ℚ β) p q) (blend t (α *ℚ α) ((β *ℚ β) +ℚ two) p q) left right (λ i b. stretched_middle α β t (p i) (q i) (z i) one (e i b)) i b)
-
--- the same with "no two different points"
-pub alone_denied : (n : ℕ) (S : (ℕ → ℚ) → Type 0) (z : ℕ → ℚ) → IsNoMidpoint n S z ↔ ((p q : ℕ → ℚ) → S p → S q → IsMidpoint n p q z → (i : ℕ) → i < n → p i ≢ q i → ⊥)
-alone_denied n S z = (λ h p q s t e i b d. d (h p q s t e i b), λ h p q s t e i b. equal (p i) (q i) (h p q s t e i b))
-  where
-    equal : (a b : ℚ) → (a ≢ b → ⊥) → a ≡ b
-    equal a b h = elim (is_zero (a -ℚ b)) [
-      | inl o ↦ combine rational_ring (a ∷ b ∷ []) ((num 1 times A :- B is num 0) ∷ []) A B refl (o, tt)
-      | inr o ↦ absurd (h (λ e. o (combine rational_ring (a ∷ b ∷ []) ((num 1 times A is B) ∷ []) (A :- B) (num 0) refl (e, tt))))
-    ]

@@ -58,10 +58,6 @@ refused_first (refusals.Unexpected kind left) (Ok x) f e = cc
 refused_first (refusals.Unexpected kind left) (Err fault) f e = cc
 refused_first refusals.Memory o f e = tt
 
--- a refusal after what was read
-pub refused_next : {K A B : Type 0} (refusal : Refusal K) (o : Result A (K × List Token)) (x : A) (f : A → Result B (K × List Token)) → o ≡ Ok x → IsRefusal refusal (f x) → IsRefusal refusal (o >>= f)
-refused_next refusal o x f e r = rw e r
-
 -- a part that must come and does not
 pub wanted_refused : {K X : Type 0} (kind : K) (tokens : List Token) (o : Option (X × List Token)) (refusal : Refusal K) → o ≡ None → refusal ≡ refusals.Unexpected kind (length tokens) → IsRefusal refusal (wanted kind tokens o)
 wanted_refused kind tokens o refusal n u = rw (n, u) refl

@@ -1,5 +1,5 @@
 -- the fields of a fraction and the parts of its value
-use Rattle.std.proofs.Common.{◌≤ℤ◌, ◌↔◌, ◌-◌, ℕ, ◌≡◌, ◌<◌, ◌^◌, ℤ, pos, negsuc, neg_ℤ, nat_abs, ◌-ℤ◌, arith, refl, sym, ap, ap₂, ◌∙◌, subst, SFits, to_z, of_z, IsTrue, eqb}
+use Rattle.std.proofs.Common.{ℕ, ◌≡◌, ◌<◌, ◌^◌, ℤ, pos, negsuc, neg_ℤ, nat_abs, ◌-ℤ◌, arith, refl, sym, ap, ap₂, ◌∙◌, subst, SFits, to_z, of_z, IsTrue, eqb}
 use mir.Syntax.{w128}
 use Rattle.std.proofs.lemmas.Int.{ints, to_z-of_z, to_z_pos, fits_signed_from_abs}
 use Rattle.std.proofs.lemmas.Bool.Decides.{Decides-eqb}
@@ -119,16 +119,3 @@ neg_value q r n d k fits en ed ek rn rd =
     let num : r.num ≡ neg_ℤ q.num = rn ∙ ap (λ x. to_z w128 (of_z w128 (pos 0 -ℤ x))) (to_z-of_z w128 n f) ∙ to_z-of_z w128 (pos 0 -ℤ n) (neg_fits n f h) ∙ zero-minus n ∙ ap neg_ℤ en in
     let den : r.den ≡ q.den = rd ∙ ek ∙ ap nat_abs (to_z-of_z w128 d (fits_signed_from_abs w128 d g) ∙ ed) in
     equal_by_parts r (neg_ℚ q) (num ∙ sym (neg-parts q).0) (den ∙ sym (neg-parts q).1)
-
--- a part fits where it lies from -(2^127 - 1) to 2^127 - 1
-pub PartFits-bounds : (n : ℤ) → PartFits n ↔ ((neg_ℤ (pos (2 ^ 127 - 1)) ≤ℤ n) × (n ≤ℤ pos (2 ^ 127 - 1)))
-PartFits-bounds (pos n) = (λ h. (omega (arith, ints), omega (arith, ints)), λ h. omega (arith, ints, h.1))
-PartFits-bounds (negsuc n) = (λ h. (omega (arith, ints), omega (arith, ints)), λ h. omega (arith, ints, h.0))
-
--- a rational fits with either sign
-pub Fits-neg : (q : ℚ) → Fits q → Fits (neg_ℚ q)
-Fits-neg q f =
-    record {
-      num = subst (λ x. x < 2 ^ 127) (sym (ap nat_abs (neg-parts q).0 ∙ abs-neg q.num)) f.num;
-      den = subst (λ x. x < 2 ^ 127) (sym (neg-parts q).1) f.den;
-    }

@@ -230,29 +230,3 @@ sum_answer a b d e g own others n m l r t o k tops given = go o given
         den = subst (λ (q : ℚ). q.den < 2 ^ 127) (h.0 ∙ value) h.1.den;
       },
     )
-
--- where a sum fits, its numerator in lowest terms fits as well
-pub Fits-sum : (a b : ℚ) → AddFits a b → Fits (a +ℚ b)
-Fits-sum a b k =
-    record { num = le-lt_trans (subst (λ (q : ℚ). nat_abs q.num ≤ nat_abs top) (sum_value a b a.den b.den g own others s) (frac_num_size top (own * (others * g)) positive)) fits; den = k.den }
-  where
-    g : ℕ
-    g = gcd a.den b.den
-
-    own : ℕ
-    own = a.den / g
-
-    others : ℕ
-    others = b.den / g
-
-    s : Summands a b a.den b.den g own others
-    s = record { den_is = refl; other_den_is = refl; common_is = refl; own_is = refl; others_is = refl }
-
-    top : ℤ
-    top = (a.num *ℤ pos others) +ℤ (b.num *ℤ pos own)
-
-    positive : 0 < own * (others * g)
-    positive = mul-pos (own_positive a b a.den b.den g own others s) (mul-pos (others_positive a b a.den b.den g own others s) (summands_common_positive a b a.den b.den g own others s))
-
-    fits : PartFits top
-    fits = subst PartFits (ap₂ ◌+ℤ◌ (left_is a b a.den b.den g own others s) (right_is a b a.den b.den g own others s)) k.top

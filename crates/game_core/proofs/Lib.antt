@@ -4,6 +4,6 @@ pub mod GameLemmas
 mod NumberLemmas
 mod PlayerSetLemmas
 mod PrefixOrderLemmas
-pub mod SetNumberLemmas
+pub mod StrideLemmas
 pub mod TableCountLemmas
 mod TreeLaws

@@ -1,12 +1,10 @@
 -- Numbers of profiles.
-use Rattle.std.proofs.Common.{◌≡◌, ◌<◌, ◌≤◌, ◌+◌, ◌*◌, ◌-◌, ◌∙◌, sym, ap, subst, refl, ℕ, zero, suc, List, [], ◌∷◌, length, map, drop, get_or, add-one, arith}
-use Rattle.std.proofs.Math.Nat.{mul-le-mul_left, mul-le-mul_right}
+use Rattle.std.proofs.Common.{◌≡◌, ◌<◌, ◌≤◌, ◌+◌, ◌*◌, ◌-◌, ◌∙◌, sym, ap, refl, ℕ, zero, suc, List, [], ◌∷◌, length, map, drop, get_or, add-one, arith}
+use Rattle.std.proofs.Math.Nat.{mul-le-mul_right}
 use Rattle.std.proofs.Math.Seq.{drop-cons, drop-length}
-use Rattle.std.proofs.lemmas.List.{get_or-map, get_or_default, length-map}
+use Rattle.std.proofs.lemmas.List.{get_or-map, length-map}
 use Rattle.game_theory.proofs.ProfileNumberLemmas.{length-profile, number_of-below}
-use Rattle.rational.specs.Rational.{ℚ, zero_ℚ}
 use Rattle.game_theory.specs.Profiles.{IsProfile, number_of, profile_count}
-use Rattle.game_core.specs.Table.{GameTable, IsTable, strategy_counts, game_of}
 
 -- more players have no fewer profiles
 below_product : (s n r p : ℕ) → s < n → r < p → r < n * p
@@ -48,19 +46,3 @@ number_of-end ns ss h = rw (drop-length ss) (none (drop (length ss) ns))
     none : (ns : List ℕ) → 0 ≡ number_of ns []
     none [] = refl
     none (n ∷ ns) = refl
-
--- a player's payoff at a profile stands among the payoffs
-pub place_below : (number players player count : ℕ) → number < count → player < players → number * players + player < players * count
-place_below number players player count profile inside =
-    let room : players * (number + 1) ≤ players * count = mul-le-mul_left players (omega arith) in
-    omega arith
-
--- a player's payoff at a profile, by the profile's number and the number of players
-pub payoff_at : (t u : GameTable) (profile : List ℕ) (player number players : ℕ) → t ≡ u → IsTable t → IsProfile (strategy_counts u) profile → player < length u.players → number ≡ number_of (strategy_counts t) profile → players ≡ length t.players → (number * players + player < length t.payoffs) × ((x : ℚ) → x ≡ get_or t.payoffs (number * players + player) x → x ≡ (game_of u).pays player (number_of (strategy_counts u) profile))
-payoff_at t u profile player number players same valid is_profile inside number_is players_is =
-    let P : GameTable → Type 0 = λ v. IsProfile (strategy_counts v) profile × (player < length v.players) in
-    let here = subst P (sym same) (is_profile, inside) in
-    let counted = number_of-below (strategy_counts t) profile here.0 in
-    let place : number_of (strategy_counts t) profile * length t.players + player < length t.payoffs = rw valid.payoffs_of_each (place_below _ (length t.players) player _ counted here.1) in
-    let at : number * players + player ≡ number_of (strategy_counts t) profile * length t.players + player = rw (number_is, players_is) refl in
-    (rw at place, λ x found. found ∙ ap (λ k. get_or t.payoffs k x) at ∙ get_or_default t.payoffs _ x zero_ℚ place ∙ ap (λ v. (game_of v).pays player (number_of (strategy_counts v) profile)) same)

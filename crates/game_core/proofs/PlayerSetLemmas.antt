@@ -6,14 +6,15 @@ use Rattle.std.proofs.lemmas.List.{append-nil, length-set, get_or-set_same, get_
 use Rattle.std.proofs.lemmas.Option.{slice_get-get_or, slice_get_read, slice_get-map, get_or_from_slice_get, same_Some}
 use Rattle.lists.proofs.ElementLemmas.{test_in_front}
 use Rattle.game_core.specs.OwnSets.{AreOwnLists}
-use Rattle.game_core.specs.Tree.{GameTree, IsTree, InformationSet, IsWithin, is_set, own_from}
+use Rattle.game_theory.specs.Behaviour.{is_index}
+use Rattle.game_core.specs.Tree.{GameTree, IsTree, InformationSet, IsWithin, own_from}
 
 -- one more set comes last among its owner's own sets
 own_from-push_at : (s i : ℕ) (sets : List InformationSet) (last : InformationSet) → own_from s i (sets ++ last ∷ []) ≡ own_from s i sets ++ own_from (s + length sets) i (last ∷ [])
 own_from-push_at s i [] last = rw add-zero refl
 own_from-push_at s i (first ∷ sets) last =
     let later : suc s + length sets ≡ s + suc (length sets) = omega arith in
-    rw (← later) (test_in_front (is_set i first.owner) s _ _ _ (own_from-push_at (suc s) i sets last))
+    rw (← later) (test_in_front (is_index first.owner i) s _ _ _ (own_from-push_at (suc s) i sets last))
 
 -- the same where the sets are numbered from 0
 own_from-push : (i : ℕ) (sets : List InformationSet) (last : InformationSet) → own_from 0 i (sets ++ last ∷ []) ≡ own_from 0 i sets ++ own_from (length sets) i (last ∷ [])
@@ -22,11 +23,11 @@ own_from-push i sets last =
     rw start at (own_from-push_at 0 i sets last)
 
 -- the set is not the player's own
-own_from-other : (s i : ℕ) (last : InformationSet) → is_set i last.owner ≡ false → own_from s i (last ∷ []) ≡ []
+own_from-other : (s i : ℕ) (last : InformationSet) → is_index last.owner i ≡ false → own_from s i (last ∷ []) ≡ []
 own_from-other s i last other = rw other refl
 
 -- the set is the player's own
-own_from-own : (s i : ℕ) (last : InformationSet) → is_set i last.owner ≡ true → own_from s i (last ∷ []) ≡ s ∷ []
+own_from-own : (s i : ℕ) (last : InformationSet) → is_index last.owner i ≡ true → own_from s i (last ∷ []) ≡ s ∷ []
 own_from-own s i last own = rw own refl
 
 -- one more player without sets
@@ -43,14 +44,14 @@ AreOwnLists-one_more players lists h = record {
 AreOwnLists-chance : (sets : List InformationSet) (last : InformationSet) (players : ℕ) (lists : List (List ℕ)) → last.owner ≡ None → AreOwnLists sets players lists → AreOwnLists (sets ++ last ∷ []) players lists
 AreOwnLists-chance sets last players lists owner h = record {
   one_for_each = h.one_for_each;
-  are_own = λ i below. h.are_own i below ∙ ap Some (sym (own_from-push i sets last ∙ ap (λ v. own_from 0 i sets ++ v) (own_from-other _ i last (ap (is_set i) owner)) ∙ append-nil _));
+  are_own = λ i below. h.are_own i below ∙ ap Some (sym (own_from-push i sets last ∙ ap (λ v. own_from 0 i sets ++ v) (own_from-other _ i last (ap (λ o. is_index o i) owner)) ∙ append-nil _));
 }
 
 -- the list of one player after one more set of another player or of that player
 list_after : (sets : List InformationSet) (last : InformationSet) (player i : ℕ) (lists : List (List ℕ)) → last.owner ≡ Some player → i < length lists → get_or lists i [] ≡ own_from 0 i sets → get_or (set lists player (get_or lists player [] ++ length sets ∷ [])) i [] ≡ own_from 0 i (sets ++ last ∷ [])
 list_after sets last player i lists owner below h = elim (cases_eq i player) [
-  | inl same ↦ rw same (get_or-set_same lists player _ [] (rw same at below) ∙ ap (λ v. v ++ length sets ∷ []) (rw same at h) ∙ ap (λ v. own_from 0 player sets ++ v) (sym (own_from-own _ player last (ap (is_set player) owner ∙ eq-eqb player player refl))) ∙ sym (own_from-push player sets last))
-  | inr other ↦ get_or-set_other lists player i _ [] other ∙ h ∙ sym (append-nil _) ∙ ap (λ v. own_from 0 i sets ++ v) (sym (own_from-other _ i last (ap (is_set i) owner ∙ false_from_ne_true _ (λ same. other (sym (eqb-true player i same)))))) ∙ sym (own_from-push i sets last)
+  | inl same ↦ rw same (get_or-set_same lists player _ [] (rw same at below) ∙ ap (λ v. v ++ length sets ∷ []) (rw same at h) ∙ ap (λ v. own_from 0 player sets ++ v) (sym (own_from-own _ player last (ap (λ o. is_index o player) owner ∙ eq-eqb player player refl))) ∙ sym (own_from-push player sets last))
+  | inr other ↦ get_or-set_other lists player i _ [] other ∙ h ∙ sym (append-nil _) ∙ ap (λ v. own_from 0 i sets ++ v) (sym (own_from-other _ i last (ap (λ o. is_index o i) owner ∙ false_from_ne_true _ (λ same. other (sym (eqb-true player i same)))))) ∙ sym (own_from-push i sets last)
 ]
 
 -- one more set of a player
@@ -80,7 +81,7 @@ pub own_from-nobody : (s i players : ℕ) (sets : List InformationSet) → All (
 own_from-nobody s i players [] owners past = refl
 own_from-nobody s i players (first ∷ sets) owners past = rw (other first.owner (owners 0 first (omega arith))) (own_from-nobody (suc s) i players sets (λ k d below. owners (suc k) d (omega arith)) past)
   where
-    other : (owner : Option ℕ) → IsWithin players owner → is_set i owner ≡ false
+    other : (owner : Option ℕ) → IsWithin players owner → is_index owner i ≡ false
     other None within = refl
     other (Some player) within = false_from_ne_true _ (λ same. let e = eqb-true player i same in absurd (omega arith))
 

@@ -1,12 +1,12 @@
 -- The numbers of strategies and of profiles of a table.
-use Rattle.std.proofs.Common.{ℕ, zero, suc, ◌*◌, ◌<◌, ◌≤◌, ◌≡◌, List, [], ◌∷◌, All, Some, length, get_or, sym, ap, subst, ◌∙◌, arith}
+use Rattle.std.proofs.Common.{ℕ, zero, suc, ◌*◌, ◌<◌, ◌≤◌, ◌≡◌, List, [], ◌∷◌, Some, length, get_or, ap, ◌∙◌, arith}
 use Rattle.std.specs.Prelude.{slice_get}
 use Rattle.std.proofs.lemmas.List.{length-map, get_or-map}
 use Rattle.std.proofs.lemmas.Option.{get_or_from_slice_get, slice_get_within}
 use Rattle.game_theory.specs.Profiles.{profile_count}
-use Rattle.game_theory.proofs.ProfileCountLemmas.{profile_count-positive}
 use native.Mathlib.Nat as N
 use Rattle.game_core.specs.Table.{GameTable, IsTable, strategy_counts, most_payoffs}
+use Rattle.game_core.proofs.StrideLemmas.{HaveStrategies-table, profile_count-positive}
 
 -- a table has a count of strategies for each player
 pub length-strategy_counts : (t : GameTable) → IsTable t → length (strategy_counts t) ≡ length t.players
@@ -18,12 +18,7 @@ strategy_count-names t i names is = get_or-map length t.strategies i names 0 (sl
 
 -- each player of a table has some strategy, so there is a profile
 pub some_profile : (t : GameTable) → IsTable t → 0 < profile_count (strategy_counts t)
-some_profile t h = profile_count-positive (strategy_counts t) each
-  where
-    each : All (λ n. 0 < n) (strategy_counts t)
-    each k d l =
-        let b : k < length t.strategies = omega (arith, length-map t.strategies length) in
-        subst (λ v. 0 < v) (sym (get_or-map length t.strategies k [] d b)) (h.some_strategy k [] b)
+some_profile t h = profile_count-positive (strategy_counts t) (HaveStrategies-table t h)
 
 -- a positive number of numbers makes no product smaller
 pub at_most_product : (a b : ℕ) → 0 < a → b ≤ a * b

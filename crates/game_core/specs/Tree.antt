@@ -1,8 +1,9 @@
 -- What contracts see of a game tree, and what makes it one. Source: Gambit's description of its `.efg` format, version 2;
 -- Kuhn 1953.
-use Rattle.std.specs.Prelude.{ℕ, zero, suc, ◌<◌, ◌≤◌, ◌^◌, ◌≡◌, ◌==◌, Bool, false, if◌then◌else◌, List, [], ◌∷◌, ◌++◌, length, map, slice_get, slice_index_or, All, IfSome, Option, Some, None}
+use Rattle.std.specs.Prelude.{ℕ, zero, suc, ◌<◌, ◌≤◌, ◌^◌, ◌≡◌, if◌then◌else◌, List, [], ◌∷◌, ◌++◌, length, map, slice_get, slice_index_or, All, IfSome, Option, Some, None}
 use Rattle.rational.specs.Rational.{ℚ, ◌≤ℚ◌, zero_ℚ, one_ℚ}
 use Rattle.rational.specs.Sum.{sum_to}
+use Rattle.game_theory.specs.Behaviour.{is_index}
 use Rattle.game_core.specs.declared.tree.Action.{Action}
 use Rattle.game_core.specs.declared.tree.Kind.{Kind}
 use Rattle.game_core.specs.declared.tree.Kind.TheVariants.{Chance, Move, End}
@@ -84,15 +85,10 @@ pub record NodeFits (t : GameTree) (node : Node) : Type 0 where
   pub set_within : IsWithin (length t.sets) node.set
   pub outcome_within : IsWithin (length t.outcomes) node.outcome
 
--- whether this is the set's number
-abbrev pub is_set : ℕ → Option ℕ → Bool
-is_set s None = false
-is_set s (Some r) = r == s
-
 -- the numbers of the nodes that name set s, numbered from k on
 abbrev pub members_from : ℕ → ℕ → List Node → List ℕ
 members_from k s [] = []
-members_from k s (node ∷ nodes) = if is_set s node.set then k ∷ members_from (suc k) s nodes else members_from (suc k) s nodes
+members_from k s (node ∷ nodes) = if is_index node.set s then k ∷ members_from (suc k) s nodes else members_from (suc k) s nodes
 
 -- the probability of action a in a list of actions
 abbrev pub probability_at : List Action → ℕ → ℚ
@@ -138,7 +134,7 @@ pub record IsTree (t : GameTree) : Type 0 where
 -- the numbers of player i's own sets in order, where the sets are numbered from s on
 abbrev pub own_from : ℕ → ℕ → List InformationSet → List ℕ
 own_from s i [] = []
-own_from s i (set ∷ sets) = if is_set i set.owner then s ∷ own_from (suc s) i sets else own_from (suc s) i sets
+own_from s i (set ∷ sets) = if is_index set.owner i then s ∷ own_from (suc s) i sets else own_from (suc s) i sets
 
 -- the numbers of player i's own sets in order
 abbrev pub own_sets : GameTree → ℕ → List ℕ

@@ -6,7 +6,7 @@
 //! Definitions: `specs::Table` and `TreeGame` say what a table and a tree stand for (`game_of`,
 //! `game_of_tree`), `Tree` what makes one, `Spacing` what tokens keep.
 //! Private words: `specs::OwnSets` and `TreeCodes`, how a tree keeps its parts.
-//! Lemmas for callers: `proofs::TableCountLemmas` on counts of strategies, `SetNumberLemmas`.
+//! Lemmas for callers: `proofs::TableCountLemmas` on counts of strategies, `StrideLemmas`.
 //! A change here touches: all contracts that name a game, from the readers to `run`.
 #![tactic(auto)]
 
@@ -30,7 +30,7 @@ pub use outside::{
     WriteFailed,
 };
 pub use profiles::{profile_count, set_profile};
-pub use table::Table;
+pub use table::{MOST_PAYOFFS, Table};
 pub use text_limit::{MOST_TEXT, too_long_text};
 pub use token::{Spanned, Token, Tokens};
 pub use too_large::{TooLarge, What};

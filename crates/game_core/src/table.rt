@@ -1,11 +1,15 @@
 // Games as tables.
-ghost use Rattle.std.specs.Prelude.{◌≡◌, ◌<◌, ◌≤◌, ◌*◌, ◌+◌, Some, length, map, slice_get, slice_index_or};
-ghost use Rattle.game_theory.specs.Profiles.{IsProfile, number_of, profile_count};
+ghost use Rattle.std.specs.Prelude.{◌≡◌, ◌<◌, ◌≤◌, IfOk, OnOk, Some, length, map, slice_get, slice_index};
+ghost use Rattle.game_theory.specs.Profiles.{IsProfile, number_of, profile_count, stride};
 ghost use Rattle.game_core.specs.Table.{IsTable, GameTable, game_of, strategy_counts, most_payoffs};
 
 use crate::name::Name;
-use frac128::Frac;
+use frac128::{Frac, Memory};
+use std::alloc::Global;
 use std::marker::Model;
+
+/// The most payoffs that a table may have.
+pub const MOST_PAYOFFS: usize = 1_048_576;
 
 /// A game as a table. Each player has at least one strategy, and each pure profile has one payoff per player.
 /// Profiles run in file order, in which the first player's strategy changes fastest; there are at most
@@ -92,6 +96,40 @@ impl Table {
         self.strategies[player].as_slice()
     }
 
+    /// How many strategies a player has.
+    pub fn strategy_count(&self, player: usize) -> usize
+        requires { player < length self.now.players }
+        ensures count { result ≡ slice_index (strategy_counts self.now) player }
+        ensures valid { IsTable self.now }
+    {
+        self.strategies(player).len()
+    }
+
+    /// How many strategies each player has.
+    pub fn strategy_counts(&self, alloc: Global) -> Result<Vec<usize>, Memory>
+        ensures counts { IfOk result (λ counts. counts.items ≡ strategy_counts self.now) }
+        ensures valid { OnOk result (IsTable self.now) }
+    {
+        let mut counts = Vec::new(alloc);
+        for player in 0..self.players().len() {
+            counts.push(self.strategy_count(player))?;
+        }
+        Ok(counts)
+    }
+
+    /// By how much a profile's number grows with a player's strategy: the product of the earlier
+    /// players' numbers of strategies.
+    pub fn stride(&self, player: usize) -> usize
+        requires { player < length self.now.players }
+        ensures { result ≡ stride (strategy_counts self.now) player }
+    {
+        let mut stride = 1;
+        for earlier in 0..player {
+            stride *= self.strategy_count(earlier);
+        }
+        stride
+    }
+
     /// The payoffs, profile by profile in file order, one per player in each.
     pub fn payoffs(&self) -> &[Frac]
         ensures payoffs { result.now ≡ self.now.payoffs }
@@ -109,6 +147,15 @@ impl Table {
         profile_number(self.strategies.as_slice(), profile)
     }
 
+    /// A player's payoff at the pure profile with a number, in file order.
+    pub fn payoff_at(&self, profile: usize, player: usize) -> Frac
+        requires profile { profile < profile_count (strategy_counts self.now) }
+        requires player { player < length self.now.players }
+        ensures { result ≡ (game_of self.now).pays player profile }
+    {
+        self.payoffs()[profile * self.players().len() + player]
+    }
+
     /// A player's payoff at a pure profile, which has one strategy for each player.
     pub fn payoff(&self, profile: &[u32], player: u32) -> Frac
         requires profile { IsProfile (strategy_counts self.now) profile.now }
@@ -116,8 +163,7 @@ impl Table {
         ensures { result
             ≡ (game_of self.now).pays player (number_of (strategy_counts self.now) profile.now) }
     {
-        let number = profile_number(self.strategies.as_slice(), profile);
-        self.payoffs[number * self.players.len() + player as usize]
+        self.payoff_at(self.profile_number(profile), player as usize)
     }
 }
 

@@ -1,5 +1,5 @@
 -- Tests of bytes and what they tell.
-use Rattle.std.proofs.Common.{◌≡◌, ◌≢◌, ℕ, ◌≤◌, false, ◌||◌, ◌&&◌, ◌==◌, ◌⊎◌, inl, inr, arith}
+use Rattle.std.proofs.Common.{◌≡◌, ℕ, ◌≤◌, false, ◌||◌, ◌&&◌, ◌==◌, ◌⊎◌, inl, inr, arith}
 use Rattle.std.specs.Prelude.{nat_le}
 use Rattle.std.specs.Bool.{Decides}
 use Rattle.std.specs.Char.{is_ascii_digit}
@@ -34,14 +34,6 @@ tells_bare b =
 -- a bare byte is no blank
 pub bare_no_blank : (b : ℕ) → IsBare b → IsBlank b → ⊥
 bare_no_blank b h k = omega arith
-
--- a bare byte is no quote
-pub bare_no_quote : (b : ℕ) → IsBare b → b ≢ 34
-bare_no_quote b h k = omega arith
-
--- a bare byte is no brace and no comma
-pub bare_no_mark : (b : ℕ) → IsBare b → (b ≢ 123) × (b ≢ 125) × (b ≢ 44)
-bare_no_mark b h = (λ k. omega arith, λ k. omega arith, λ k. omega arith)
 
 -- a blank is not bare
 pub blank_not_bare : (b : ℕ) → IsBlank b → is_bare b ≡ false

@@ -1,14 +1,13 @@
 -- One more token after those that were read.
-use Rattle.std.proofs.Common.{◌≡◌, ℕ, ◌+◌, ◌<◌, ◌≤◌, List, [], ◌∷◌, ◌++◌, length, map, sym, ap, ◌∙◌, append_assoc, length-append, arith}
+use Rattle.std.proofs.Common.{◌≡◌, ℕ, ◌+◌, ◌<◌, ◌≤◌, List, [], ◌∷◌, ◌++◌, length, sym, ap, ◌∙◌, append_assoc, length-append, arith}
 use Rattle.std.specs.List.{AllByRecursion}
 use Rattle.frac128.specs.Short.{IsShort}
 use Rattle.game_text.specs.Numbers.{IsNumber, NumberForm, Fraction, Decimal, value_of, IsWithinLimits}
 use Rattle.rational.specs.Rational.{ℚ}
-use Rattle.game_core.specs.TokenList.{TokenList, bare}
 use Rattle.game_core.specs.declared.token.Spanned.{Spanned}
 use Rattle.game_core.specs.declared.token.Token.{Token}
 use Rattle.game_core.specs.declared.token.Token.TheVariants.{Left, Right, Comma, Text, Word, Number}
-use Rattle.game_text.specs.Tokens.{IsBlank, IsTokenAt, AreTokens, AreTokensBefore}
+use Rattle.game_text.specs.Tokens.{IsBlank, IsTokenAt, AreTokensBefore}
 use Rattle.game_core.specs.Spacing.{AreSpaced, IsShortToken}
 
 -- bytes that begin with blanks
@@ -42,14 +41,6 @@ token_is_short front back Comma h = tt
 token_is_short front back (Text text) h = tt
 token_is_short front back (Word word) h = tt
 token_is_short front back (Number value) h = number_is_short front value h.2
-
--- the numbers of tokens are short
-short_before : (at : ℕ) (bytes : List ℕ) (tokens : List Spanned) (rest : List ℕ) → AreTokensBefore at bytes tokens rest → AllByRecursion IsShortToken (map (λ s. s.token) tokens)
-short_before at bytes [] rest h = tt
-short_before at bytes (s ∷ tokens) rest h = (token_is_short h.1 h.2 s.token h.5, short_before s.end h.2 tokens rest h.8)
-
-pub tokens_are_short : (bytes : List ℕ) (tokens : TokenList) → AreTokens bytes tokens → AllByRecursion IsShortToken (bare tokens)
-tokens_are_short bytes tokens h = short_before 0 bytes tokens.list [] h.in_order
 
 -- one more span
 pub are_spaced_push : (from to end : ℕ) (tokens : List Spanned) (one : Spanned) → AreSpaced from to tokens → to ≤ one.start → one.start < one.end → IsShortToken one.token → one.end ≤ end → AreSpaced from end (tokens ++ one ∷ [])

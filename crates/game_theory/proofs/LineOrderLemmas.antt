@@ -60,11 +60,6 @@ AreInOrder-first x [] h k d l = absurd (omega arith)
 AreInOrder-first x (y ∷ lines) h zero d l = h.0
 AreInOrder-first x (y ∷ lines) h (suc k) d l = StandsBefore-trans x y (get_or lines k d) h.0 (AreInOrder-first y lines h.1 k d (omega arith))
 
--- a line before each of the others may be put in front
-pub AreInOrder-cons : (x : List ℚ) (lines : List (List ℚ)) → All (StandsBefore x) lines → AreInOrder lines → AreInOrder (x ∷ lines)
-AreInOrder-cons x [] h o = tt
-AreInOrder-cons x (y ∷ lines) h o = (h 0 y (omega arith), o)
-
 -- a line after each of the others may be put at the end
 pub AreInOrder-push : (lines : List (List ℚ)) (x : List ℚ) → AreInOrder lines → All (λ y. StandsBefore y x) lines → AreInOrder (lines ++ x ∷ [])
 AreInOrder-push [] x o h = tt

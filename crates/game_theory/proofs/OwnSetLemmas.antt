@@ -4,17 +4,17 @@ use Rattle.std.specs.Prelude.{◌==◌, if◌then◌else◌}
 use Rattle.std.proofs.lemmas.Bool.{cases_lt}
 use Rattle.std.proofs.lemmas.Bool.Decides.{Decides-eqb, Decides-like, not_from_Decides}
 use Rattle.game_theory.specs.Trees.{Tree}
-use Rattle.game_theory.specs.Behaviour.{is_own_of, is_own}
+use Rattle.game_theory.specs.Behaviour.{is_index, is_own}
 use Rattle.game_theory.specs.OwnSets.{own_below, own_sets}
 
 -- whether there is a number, and it is i
-pub is_own_of-decides : (o : Option ℕ) (i : ℕ) → Decides (is_own_of o i) (o ≡ Some i)
-is_own_of-decides None i = (λ e. cc, λ e. cc)
-is_own_of-decides (Some j) i = Decides-like (j == i) (λ e. ap Some e) (λ e. cc) (Decides-eqb j i)
+pub is_index-decides : (o : Option ℕ) (i : ℕ) → Decides (is_index o i) (o ≡ Some i)
+is_index-decides None i = (λ e. cc, λ e. cc)
+is_index-decides (Some j) i = Decides-like (j == i) (λ e. ap Some e) (λ e. cc) (Decides-eqb j i)
 
 -- whether a set is player i's own
 pub is_own-decides : (t : Tree) (i s : ℕ) → Decides (is_own t i s) (t.owner s ≡ Some i)
-is_own-decides t i s = is_own_of-decides (t.owner s) i
+is_own-decides t i s = is_index-decides (t.owner s) i
 
 -- s is one of the sets
 abbrev pub IsAmong : List ℕ → ℕ → Type 0

@@ -95,25 +95,11 @@ number_of-exchange (n ∷ ns) (s ∷ ss) (suc i) t h l =
 pub number_of-exchange_from : (ns s : List ℕ) (i t start : ℕ) → IsProfile ns s → i < length ns → start + stride ns i * get_or s i 0 ≡ number_of ns s → number_of ns (set s i t) ≡ start + stride ns i * t
 number_of-exchange_from ns s i t start h l e = omega (arith, number_of-exchange ns s i t h l)
 
--- the same for the profile with a number
-pub number_of-exchange_at : (ns : List ℕ) (k i t : ℕ) → k < profile_count ns → i < length ns → number_of ns (set (profile_at ns k) i t) + stride ns i * get_or (profile_at ns k) i 0 ≡ k + stride ns i * t
-number_of-exchange_at ns k i t h l =
-    number_of-exchange ns (profile_at ns k) i t (IsProfile-profile_at ns k h) l ∙ ap (λ x. x + stride ns i * t) (number_of-profile_at ns k h)
-
--- equal numbers are of equal profiles
-pub number_of-injective : (ns s t : List ℕ) → IsProfile ns s → IsProfile ns t → number_of ns s ≡ number_of ns t → s ≡ t
-number_of-injective ns s t h l e = sym (profile_at-number_of ns s h) ∙ ap (λ k. profile_at ns k) e ∙ profile_at-number_of ns t l
-
 -- the next player's stride
 pub stride-next : (ns : List ℕ) (i : ℕ) → i < length ns → stride ns (suc i) ≡ stride ns i * get_or ns i 0
 stride-next [] i h = absurd (omega arith)
 stride-next (n ∷ ns) zero h = omega arith
 stride-next (n ∷ ns) (suc i) h = let e : n * stride ns (suc i) ≡ n * (stride ns i * get_or ns i 0) = ap (λ x. n * x) (stride-next ns i (omega arith)) in omega (arith, e)
-
--- the stride after the last player is the count of the profiles
-pub stride-all : (ns : List ℕ) → stride ns (length ns) ≡ profile_count ns
-stride-all [] = refl
-stride-all (n ∷ ns) = ap (λ x. n * x) (stride-all ns)
 
 -- a player's strategy in the profile with a number
 pub strategy-profile_at : (ns : List ℕ) (k i : ℕ) → i < length ns → get_or (profile_at ns k) i 0 ≡ (k / stride ns i) % get_or ns i 0

@@ -2,7 +2,7 @@
 use Rattle.std.proofs.Common.{ℕ, zero, suc, ◌≡◌, Bool, true, false, Some, List, [], ◌∷◌, refl, sym, ap, ◌∙◌, arith}
 use Rattle.std.proofs.lemmas.Bool.Decides.{Decides-eqb}
 use Rattle.game_theory.specs.Trees.{Tree}
-use Rattle.game_theory.specs.Behaviour.{is_own_of, is_own}
+use Rattle.game_theory.specs.Behaviour.{is_index, is_own}
 use Rattle.game_theory.specs.Recall.{own_history, HasPerfectRecall}
 use Rattle.game_theory.specs.TreeExamples.{one_card_poker, forgetful_game, RecallInTwoGames}
 use Rattle.game_theory.proofs.TreeTestLemmas.{each_below, each_below-tells, if_any, if_any-tells, implies, implies-tells}
@@ -23,7 +23,7 @@ is_first t i k = if_any (t.set k) (λ s. implies (is_own t i s) (is_empty (own_h
 
 -- an own set, from its owner
 own-passes : (t : Tree) (i s : ℕ) → t.owner s ≡ Some i → is_own t i s ≡ true
-own-passes t i s e = ap (λ o. is_own_of o i) e ∙ (Decides-eqb i i).1 refl
+own-passes t i s e = ap (λ o. is_index o i) e ∙ (Decides-eqb i i).1 refl
 
 -- a first choice has no own history
 first-tells : (t : Tree) (i s k : ℕ) → is_first t i k ≡ true → t.owner s ≡ Some i → t.set k ≡ Some s → own_history t i k ≡ []

@@ -1,6 +1,6 @@
 -- Pure replies: a payoff is the mean of the payoffs of a player's replies.
-use Rattle.std.proofs.Common.{ℕ, zero, suc, ◌+◌, ◌*◌, ◌<◌, ◌≡◌, ◌≢◌, Bool, true, false, eqb, eqb→eq, cond, T, List, [], ◌∷◌, length, get_or, refl, sym, ap, ◌∙◌, subst, subst₂, arith, tests}
-use Rattle.rational.specs.Rational.{ℚ, ◌*ℚ◌, ◌≤ℚ◌, zero_ℚ, one_ℚ}
+use Rattle.std.proofs.Common.{ℕ, zero, suc, ◌+◌, ◌*◌, ◌<◌, ◌≡◌, ◌≢◌, eqb, eqb→eq, cond, List, [], ◌∷◌, length, get_or, sym, ap, ◌∙◌, subst, subst₂, arith, tests}
+use Rattle.rational.specs.Rational.{ℚ, ◌*ℚ◌, ◌≤ℚ◌, zero_ℚ}
 use Rattle.rational.specs.Sum.{sum_to}
 use Rattle.rational.proofs.SumLemmas.{sum_to-same}
 use Rattle.game_theory.specs.Profiles.{Game}
@@ -8,7 +8,6 @@ use Rattle.game_theory.specs.Mixed.{Mixed, later, mean, payoff, IsValid, sure, r
 use Rattle.game_theory.specs.Equilibrium.{IsEquilibrium}
 use Rattle.game_theory.specs.Laws.{PayoffIsMeanOfReplies}
 use Rattle.game_theory.proofs.PayoffLemmas.{mean-same, mean-same_numbers, mean-first, mean-first_sure, mean-sum}
-use Rattle.game_theory.proofs.SureStrategyLemmas.{sure-not_negative, sum_to-sure}
 
 -- the player who replies plays the strategy
 pub reply-at : (m : Mixed) (i s t : ℕ) → reply m i s i t ≡ sure s t
@@ -52,26 +51,6 @@ mean-replies (n ∷ ns) m u (suc i) h =
 -- a payoff is the mean of the payoffs of a player's pure replies
 pub payoff-replies : PayoffIsMeanOfReplies
 payoff-replies g m i j h = mean-replies g.strategies m (g.pays j) i h
-
--- what holds of the one strategy and of the probabilities before holds of a reply's
-reply-cases : (P : ℚ → Type 0) (m : Mixed) (i s j t : ℕ) → P (sure s t) → P (m j t) → P (reply m i s j t)
-reply-cases P m i s j t p q = go (eqb j i)
-  where
-    go : (b : Bool) → P (cond b (sure s t) (m j t))
-    go true = p
-    go false = q
-
--- a reply to a valid profile is valid
-pub IsValid-reply : (ns : List ℕ) (m : Mixed) (i s : ℕ) → s < get_or ns i 0 → IsValid ns m → IsValid ns (reply m i s)
-IsValid-reply ns m i s h v =
-    record { not_negative = λ j t l b. reply-cases (λ x. zero_ℚ ≤ℚ x) m i s j t (sure-not_negative s t) (v.not_negative j t l b); sum_is_one = sums }
-  where
-    sums : (j : ℕ) → j < length ns → sum_to (get_or ns j 0) (reply m i s j) ≡ one_ℚ
-    sums j l = go (eqb j i) refl
-      where
-        go : (b : Bool) → eqb j i ≡ b → sum_to (get_or ns j 0) (λ t. cond b (sure s t) (m j t)) ≡ one_ℚ
-        go true e = sum_to-sure (get_or ns j 0) s (subst (λ x. s < get_or ns x 0) (sym (eqb→eq j i (subst T (sym e) tt))) h)
-        go false e = v.sum_is_one j l
 
 -- equal probabilities are valid together
 pub IsValid-same : (ns : List ℕ) (m n : Mixed) → ((i t : ℕ) → i < length ns → t < get_or ns i 0 → m i t ≡ n i t) → IsValid ns m → IsValid ns n

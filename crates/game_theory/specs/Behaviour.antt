@@ -55,13 +55,14 @@ payoff t b i = value t b i 0
 abbrev pub pure : (ℕ → ℕ) → Behaviour
 pure choice s = sure (choice s)
 
--- whether a set is this player's own
-abbrev pub is_own_of : Option ℕ → ℕ → Bool
-is_own_of None i = false
-is_own_of (Some j) i = j == i
+-- whether the index that is there, if one is, is this one
+abbrev pub is_index : Option ℕ → ℕ → Bool
+is_index None i = false
+is_index (Some j) i = j == i
 
+-- whether a set is player i's own
 abbrev pub is_own : Tree → ℕ → ℕ → Bool
-is_own t i s = is_own_of (t.owner s) i
+is_own t i s = is_index (t.owner s) i
 
 -- a choice has an action of each own set of player i
 abbrev pub IsChoice : Tree → ℕ → (ℕ → ℕ) → Type 0

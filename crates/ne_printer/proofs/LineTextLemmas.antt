@@ -1,11 +1,10 @@
 -- The text of a line, as it grows entry by entry.
-use Rattle.std.proofs.Common.{ℕ, ◌+◌, ◌≡◌, pos, ℤ, nat_abs, to_z, of_z, FitsSigned, ◌≤ℤ◌, List, [], ◌∷◌, ◌++◌, length, map, codes, take, ap, ap₂, sym, ◌∙◌, append_assoc, arith, ◌==◌, if◌then◌else◌}
+use Rattle.std.proofs.Common.{ℕ, ◌+◌, ◌≡◌, pos, ℤ, nat_abs, to_z, of_z, FitsSigned, ◌≤ℤ◌, List, [], ◌∷◌, ◌++◌, map, codes, ap, ap₂, ◌∙◌, append_assoc, arith, ◌==◌, if◌then◌else◌}
 use Rattle.std.specs.Int.{w128}
 use Rattle.std.proofs.lemmas.Int.{ints}
 use Rattle.std.specs.List.{join_with_byte}
 use Rattle.std.specs.Fmt.{decimal, signed_decimal}
 use Rattle.std.proofs.lemmas.Fmt.{decimal_digit}
-use Rattle.std.proofs.Math.Seq.{take-append_seam}
 use Rattle.std.proofs.lemmas.List.{append-nil}
 use Rattle.rational.specs.Rational.{ℚ}
 use Rattle.game_theory.specs.Lines.{number_text, line_text}
@@ -28,15 +27,6 @@ pub line_text-joined : (old : List ℕ) (qs : List ℚ) → ((old ++ line_start 
 line_text-joined old [] = simp append_assoc
 line_text-joined old (q ∷ qs) = ap (λ v. ((old ++ codes "NE") ++ v) ++ 10 ∷ []) (commas q qs) ∙ simp append_assoc
 
--- ---- texts that begin with others
--- a text begins with itself
-pub begins_same : (old new : List ℕ) → new ≡ old → BeginsWith old new
-begins_same old new e = ([], e ∙ sym (append-nil old))
-
 -- one that goes on where another does
 pub begins_on : (old text new : List ℕ) → BeginsWith old text → BeginsWith text new → BeginsWith old new
 begins_on old text new h k = (h.0 ++ k.0, k.1 ∙ ap (λ v. v ++ k.0) h.1 ∙ append_assoc old h.0 k.0)
-
--- cut back to the length that it had
-pub begins_cut : (old new : List ℕ) (n : ℕ) → n ≡ length old → BeginsWith old new → take n new ≡ old
-begins_cut old new n long h = rw (h.1, long) (take-append_seam old h.0)

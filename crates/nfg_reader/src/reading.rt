@@ -16,7 +16,7 @@ use crate::outcomes::last_payoffs;
 use crate::strategies::{profile_count, strategy_names};
 use file_parts::{Refusal, offset};
 use frac128::Frac;
-use game_core::{Table, Tokens, TooLarge, What};
+use game_core::{MOST_PAYOFFS, Table, Tokens, TooLarge, What};
 use std::alloc::{AllocError, Global};
 
 /// The kind of a fault in a file of a table.
@@ -107,8 +107,8 @@ pub fn read(alloc: Global, tokens: &Tokens) -> Result<Table, NfgStop>
     let Some(profiles) = profile_count(alloc, players, &front.strategies)? else {
         return Err(NfgStop::TooLarge(TooLarge {
             what: What::Payoffs,
-            count: 1048577,
-            limit: 1048576,
+            count: MOST_PAYOFFS as u64 + 1,
+            limit: MOST_PAYOFFS as u64,
         }));
     };
     match last_payoffs(alloc, rest, players, profiles) {

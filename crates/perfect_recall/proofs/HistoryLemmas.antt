@@ -1,5 +1,5 @@
 -- Where the player's earlier sets are alike, own histories with the same last edge are equal.
-use Rattle.std.proofs.Common.{◌≡◌, ◌<◌, ◌≤◌, ◌∙◌, sym, ap, subst, refl, ℕ, suc, ◌⊎◌, inl, inr, Bool, true, false, Decides, Option, Some, None, List, [], ◌∷◌, ◌++◌, length, get_or, arith}
+use Rattle.std.proofs.Common.{◌≡◌, ◌<◌, ◌≤◌, ◌∙◌, sym, ap, subst, refl, ℕ, ◌⊎◌, inl, inr, Bool, true, false, Decides, Option, Some, None, List, [], ◌∷◌, ◌++◌, length, get_or, arith}
 use Rattle.std.proofs.lemmas.Bool.{cases_lt, cases_eq}
 use Rattle.std.proofs.lemmas.Bool.Decides.{not_from_Decides}
 use Rattle.std.proofs.lemmas.Option.{none-some, same_Some}
@@ -134,18 +134,6 @@ module _ (t : Tree) (i s : ℕ) (members : List ℕ) (edges : List (Option (ℕ 
               ]
             ];
       }
-
--- ---- one set after another
--- earlier sets, with one more
-pub earlier-more : (t : Tree) (i n : ℕ) → EarlierAreAlike t i n → (t.owner n ≡ Some i → IsAlike t i n) → EarlierAreAlike t i (suc n)
-earlier-more t i n h here r l own = elim (cases_lt r n) [
-  | inl m ↦ h r m own
-  | inr g ↦ let same : r ≡ n = omega arith in subst (IsAlike t i) (sym same) (here (ap t.owner (sym same) ∙ own))
-]
-
--- all sets
-pub all-earlier : (t : Tree) (i : ℕ) → IsTree t → EarlierAreAlike t i t.sets → HasPerfectRecall t i
-all-earlier t i w h s k l own in_k in_l at_k at_l = h s (w.sets_within k s in_k at_k) own k l in_k in_l at_k at_l
 
 -- a player who recalls is alike in all sets
 pub recall-alike : (t : Tree) (i s : ℕ) → HasPerfectRecall t i → t.owner s ≡ Some i → IsAlike t i s

@@ -60,10 +60,6 @@ module _ (t : Tree) (c : ℕ) (w : IsTree t) (later : 0 < c) (below : c < t.size
     ];
   }
 
--- before the root there is no edge
-pub last-root : (t : Tree) (last : List (Option (ℕ × ℕ))) → length last ≡ t.players → ((i : ℕ) → get_or last i None ≡ None) → AreLast t 0 last
-last-root t last long none = record { one_for_each = long; are_last = λ i l. none i }
-
 -- the way up from a node to one above it that is another
 module _ (t : Tree) (to here p : ℕ) (w : IsTree t) (below : here < t.size) (within : IsWithin t to here) (other : here ≢ to) (is : p ≡ t.parent here) where
   later : 0 < here

@@ -3,10 +3,11 @@ use Rattle.std.proofs.Common.{◌≡◌, ◌<◌, ◌+◌, ◌∙◌, sym, ap, s
 use Rattle.std.specs.Prelude.{if◌then◌else◌}
 use Rattle.std.proofs.lemmas.Bool.Decides.{not_from_Decides}
 use Rattle.std.proofs.lemmas.Option.{slice_get-get_or}
-use Rattle.game_core.proofs.SetNumberLemmas.{is_set-decides}
+use Rattle.game_theory.proofs.OwnSetLemmas.{is_index-decides}
 use Rattle.game_theory.specs.Trees.{Tree}
 use Rattle.game_core.specs.declared.tree.Node.{Node}
-use Rattle.game_core.specs.Tree.{GameTree, IsTree, InformationSet, members_from, is_set}
+use Rattle.game_theory.specs.Behaviour.{is_index}
+use Rattle.game_core.specs.Tree.{GameTree, IsTree, InformationSet, members_from}
 use Rattle.game_core.specs.TreeGame.{game_of_tree}
 
 -- the set of a node
@@ -24,7 +25,7 @@ one_further m s node nodes i rest = (suc rest.0, omega (arith, rest.1), omega (a
 -- a member is a node of the set
 inside : (m s : ℕ) (nodes : List Node) (j : ℕ) → j < length (members_from m s nodes) → IsInside m s nodes (members_from m s nodes) j
 inside m s [] j l = absurd (omega arith)
-inside m s (node ∷ nodes) j l = go (is_set s node.set) (is_set-decides s node.set) (λ i k. one_further m s node nodes i (inside (suc m) s nodes i k)) j l
+inside m s (node ∷ nodes) j l = go (is_index node.set s) (is_index-decides node.set s) (λ i k. one_further m s node nodes i (inside (suc m) s nodes i k)) j l
   where
     go : (b : Bool) → Decides b (node.set ≡ Some s) → ((i : ℕ) → i < length (members_from (suc m) s nodes) → IsInside m s (node ∷ nodes) (members_from (suc m) s nodes) i) → (i : ℕ) → i < length (if b then m ∷ members_from (suc m) s nodes else members_from (suc m) s nodes)
         → IsInside m s (node ∷ nodes) (if b then m ∷ members_from (suc m) s nodes else members_from (suc m) s nodes) i
@@ -39,7 +40,7 @@ IsReached m members p = (j : ℕ) × (j < length members) × (get_or members j 0
 -- each node of the set is a member
 reached : (m s : ℕ) (nodes : List Node) (p : ℕ) → p < length nodes → set_at nodes p ≡ Some s → IsReached m (members_from m s nodes) p
 reached m s [] p l is = absurd (omega arith)
-reached m s (node ∷ nodes) p l is = go (is_set s node.set) (is_set-decides s node.set) (λ q k e. let found = reached (suc m) s nodes q k e in (found.0, found.1, omega (arith, found.2))) p l is
+reached m s (node ∷ nodes) p l is = go (is_index node.set s) (is_index-decides node.set s) (λ q k e. let found = reached (suc m) s nodes q k e in (found.0, found.1, omega (arith, found.2))) p l is
   where
     go : (b : Bool) → Decides b (node.set ≡ Some s) → ((q : ℕ) → q < length nodes → set_at nodes q ≡ Some s → IsReached m (members_from (suc m) s nodes) (suc q)) → (q : ℕ) → q < suc (length nodes) → set_at (node ∷ nodes) q ≡ Some s
         → IsReached m (if b then m ∷ members_from (suc m) s nodes else members_from (suc m) s nodes) q
@@ -55,7 +56,7 @@ Ascend members = (i j : ℕ) → i < j → j < length members → get_or members
 -- the members ascend
 ascend : (m s : ℕ) (nodes : List Node) → Ascend (members_from m s nodes)
 ascend m s [] i j l k = absurd (omega arith)
-ascend m s (node ∷ nodes) i j l k = go (is_set s node.set) (ascend (suc m) s nodes) i j l k
+ascend m s (node ∷ nodes) i j l k = go (is_index node.set s) (ascend (suc m) s nodes) i j l k
   where
     go : (b : Bool) → Ascend (members_from (suc m) s nodes) → Ascend (if b then m ∷ members_from (suc m) s nodes else members_from (suc m) s nodes)
     go true rest i zero l k = absurd (omega arith)

@@ -7,10 +7,6 @@ use Rattle.game_theory.specs.Children.{AreChildren}
 use Rattle.game_theory.specs.Trees.{Tree, IsTree}
 use Rattle.pure_payoffs.specs.Filled.{HaveRoom, AreFilled}
 
--- at first no list has a child
-pub filled-start : (t : Tree) (n : ℕ) (lists : List (List ℕ)) → n ≤ 1 → HaveRoom t t.size lists → AreFilled t n lists
-filled-start t n lists few h = record { has_room = h; filled = λ c p l m. absurd (omega arith) }
-
 -- at last the lists have the children
 pub filled-all : (t : Tree) (n : ℕ) (lists : List (List ℕ)) → IsTree t → t.size ≤ n → AreFilled t n lists → AreChildren t lists
 filled-all t n lists w all h = record {

@@ -56,13 +56,6 @@ owner-of t nodes k s j d valid same below kind set =
     let node : get_or nodes k d ≡ get_or t.nodes k d = ap (λ x. get_or x k d) same in
     owner-read (Move j) ((game_of_tree t).owner s) j (sym kind ∙ ap (λ x. x.kind) node ∙ fit.kind_is ∙ ap (kind_at t.sets) (sym (ap (λ x. x.set) node) ∙ set)) refl
 
--- at a node whose set has an owner that player moves
-pub moves-at : (t : GameTree) (nodes : List Node) (k s j : ℕ) (d : Node) → IsTree t → nodes ≡ t.nodes → k < length nodes → (game_of_tree t).set k ≡ Some s → (game_of_tree t).owner s ≡ Some j → (get_or nodes k d).kind ≡ Move j
-moves-at t nodes k s j d valid same below set owner =
-    let fit = valid.nodes_fit k d (subst (λ x. k < length x) same below) in
-    let node : get_or nodes k d ≡ get_or t.nodes k d = ap (λ x. get_or x k d) same in
-    ap (λ x. x.kind) node ∙ fit.kind_is ∙ ap (kind_at t.sets) (sym (ap (λ x. x.set) node) ∙ sym (set-read t nodes k d same below) ∙ set) ∙ ap kind_of_owner owner
-
 -- a node without an outcome pays nothing
 pub pays-none : (t : GameTree) (nodes : List Node) (k i : ℕ) (d : Node) → nodes ≡ t.nodes → k < length nodes → is_some (get_or nodes k d).outcome ≡ false → (game_of_tree t).pays k i ≡ zero_ℚ
 pays-none t nodes k i d same below none = sym (pays-read t nodes k i d zero_ℚ same below (sym (nothing (get_or nodes k d).outcome none)))

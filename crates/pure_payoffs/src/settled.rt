@@ -8,14 +8,11 @@ ghost use Rattle.pure_payoffs.specs.Settled.{AreWithoutPlayers, AreSettledNodes,
 use crate::children::stands_for_game_tree;
 use answers::Memory;
 use frac128::Frac;
-use game_core::{Kind, Node, Tree};
+use game_core::{Kind, MOST_PAYOFFS, Node, Tree};
 use std::alloc::Global;
 
-/// The most values that are kept: as many as a table may have payoffs.
-const MOST_VALUES: usize = 1_048_576;
-
 /// What nodes in whose subtrees no player moves are worth to the players, as far as it was asked for. Of the nodes
-/// on a path the topmost is kept, and no more than `MOST_VALUES` in all.
+/// on a path the topmost is kept, and no more in all than a table may have payoffs.
 #[derive(Debug, Drop)]
 pub(crate) struct Settled {
     // For each node a place for each player, or no place at all.
@@ -77,7 +74,7 @@ impl Settled {
     {
         let idle = settled_nodes(alloc, tree)?;
         let players = tree.players().len();
-        let mut room = MOST_VALUES;
+        let mut room = MOST_PAYOFFS;
         let mut places = Vec::new(alloc);
         for (number, node) in tree.nodes().iter().enumerate() {
             let mut of_players = Vec::new(alloc);

@@ -3,12 +3,10 @@ use Rattle.std.proofs.Common.{◌≡◌, ◌≢◌, ◌⊎◌, ◌↔◌, inl, i
 use Rattle.std.proofs.lemmas.Bool.Decides.{Decides-and, Decides-eqb, Decides-int_eq, Decides-like}
 use Rattle.std.specs.Prelude.{nat_eq}
 use Rattle.std.specs.Ordering.{int_eq}
-use lib.Dec.{T_prop}
-use mathlib.Core.HLevel.{hedberg}
 use Rattle.rational.specs.Rational.{ℚ, zero_ℚ, ◌≤ℚ◌, ◌<ℚ◌}
 use Rattle.rational.specs.Tests.{le_test, lt_test, eq_test, eq_ℚ}
 use Rattle.rational.proofs.FractionLemmas.{equal_by_cross, equal_by_parts}
-use Rattle.rational.proofs.Field.{le_or_lt, le_antisymm, ne_of_lt, not_le_of_lt, not_lt_of_le}
+use Rattle.rational.proofs.Field.{le_or_lt, le_antisymm, ne_of_lt, not_lt_of_le}
 
 -- a is b or is not
 pub eq_or_ne : (a b : ℚ) → (a ≡ b) ⊎ (a ≢ b)
@@ -21,25 +19,9 @@ eq_or_ne a b = elim (le_or_lt a b) [
 pub is_zero : (a : ℚ) → (a ≡ zero_ℚ) ⊎ (a ≢ zero_ℚ)
 is_zero a = eq_or_ne a zero_ℚ
 
--- a is at most b or is not
-pub le_or_not : (a b : ℚ) → (a ≤ℚ b) ⊎ (¬ (a ≤ℚ b))
-le_or_not a b = elim (le_or_lt a b) [ inl l ↦ inl l | inr g ↦ inr (not_le_of_lt b a g) ]
-
 -- a is below b or is not
 pub lt_or_not : (a b : ℚ) → (a <ℚ b) ⊎ (¬ (a <ℚ b))
 lt_or_not a b = elim (le_or_lt b a) [ inl l ↦ inr (not_lt_of_le b a l) | inr g ↦ inl g ]
-
--- two rationals are equal in one way at most
-pub ℚ_set : IsSet ℚ
-ℚ_set = hedberg (λ a b. elim (eq_or_ne a b) [ inl e ↦ yes e | inr n ↦ no n ])
-
--- at most is a proposition, as a ghost field wants it
-pub le_prop : (a b : ℚ) → IsProp (a ≤ℚ b)
-le_prop a b = hlevel T_prop
-
--- below is a proposition
-pub lt_prop : (a b : ℚ) → IsProp (a <ℚ b)
-lt_prop a b = hlevel T_prop
 
 -- ---- tests that compute
 T_true : (b : Bool) → T b → b ≡ true

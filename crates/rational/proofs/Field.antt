@@ -2,7 +2,7 @@
 use Rattle.std.proofs.Common.{ℕ, suc, zero, ◌*◌, ◌≡◌, ◌≢◌, ◌⊎◌, ◌↔◌, inl, inr, ℤ, pos, negsuc, neg_ℤ, ◌*ℤ◌, ◌≤ℤ◌, ◌<ℤ◌, refl, sym, ap, ◌∙◌, [], ◌∷◌, lit<, arith, mul-pos, subst, subst₂, zero-lt-suc}
 use Rattle.std.proofs.lemmas.Int.{ints, by_lt_z}
 use Rattle.rational.specs.Gcd.{gcd}
-use Rattle.rational.specs.Rational.{ℚ, is_lowest, den_pos, frac, ◌+ℚ◌, ◌*ℚ◌, ◌-ℚ◌, neg_ℚ, inv_ℚ, zero_ℚ, one_ℚ, ◌≤ℚ◌, ◌<ℚ◌}
+use Rattle.rational.specs.Rational.{ℚ, is_lowest, den_pos, frac, ◌+ℚ◌, ◌*ℚ◌, ◌-ℚ◌, inv_ℚ, zero_ℚ, one_ℚ, ◌≤ℚ◌, ◌<ℚ◌}
 pub use Rattle.rational.specs.Midpoint.{half}
 use Rattle.rational.proofs.IntegerRing.{integer_ring}
 use Rattle.rational.proofs.RationalRing.{rational_ring, *ℚ_comm}
@@ -10,7 +10,7 @@ use Rattle.rational.proofs.FractionLemmas.{StandsFor, equal_by, StandsFor-self, 
 use Rattle.rational.proofs.OrderLemmas.{le_by, lt_by}
 use Rattle.rational.proofs.Ring.{ring, num, ◌:+◌, ◌:*◌, ◌:-◌, :neg, A, B, C}
 use Rattle.rational.proofs.PartLemmas.{nonneg-num, pos-num}
-use Rattle.rational.proofs.Linear.{linear, at, lit, minus, ◌⟨+⟩◌, ◌⟨-⟩◌, ◌⟨≤⟩◌, ◌⟨<⟩◌, ◌⟨=⟩◌, zero-over}
+use Rattle.rational.proofs.Linear.{linear, at, lit, ◌⟨+⟩◌, ◌⟨-⟩◌, ◌⟨≤⟩◌, ◌⟨<⟩◌, ◌⟨=⟩◌, zero-over}
 
 -- ---- order
 -- a is at most b, or b is below a
@@ -111,38 +111,15 @@ le-add a b c d h g =
 pub le-add_left : (c a b : ℚ) → a ≤ℚ b → (c +ℚ a) ≤ℚ (c +ℚ b)
 le-add_left c a b h = le-add c c a b (le_refl c) h
 
--- a summand on the right keeps the order
-pub le-add_right : (c a b : ℚ) → a ≤ℚ b → (a +ℚ c) ≤ℚ (b +ℚ c)
-le-add_right c a b h = le-add a b c c h (le_refl c)
-
 -- the greater of both summands, one of them truly so
 pub lt-add : (a b c d : ℚ) → a <ℚ b → c ≤ℚ d → (a +ℚ c) <ℚ (b +ℚ d)
 lt-add a b c d h g =
     linear (a ∷ b ∷ c ∷ d ∷ []) ((at 0 ⟨<⟩ at 1) ∷ (at 2 ⟨≤⟩ at 3) ∷ []) ((at 0 ⟨+⟩ at 2) ⟨<⟩ (at 1 ⟨+⟩ at 3)) (λ one z p h. omega (arith, ints)) (h, (g, tt))
 
--- a summand on the left keeps the strict order
-pub lt-add_left : (c a b : ℚ) → a <ℚ b → (c +ℚ a) <ℚ (c +ℚ b)
-lt-add_left c a b h =
-    linear (a ∷ b ∷ c ∷ []) ((at 0 ⟨<⟩ at 1) ∷ []) ((at 2 ⟨+⟩ at 0) ⟨<⟩ (at 2 ⟨+⟩ at 1)) (λ one z p h. omega (arith, ints)) (h, tt)
-
--- a summand on the right keeps the strict order
-pub lt-add_right : (c a b : ℚ) → a <ℚ b → (a +ℚ c) <ℚ (b +ℚ c)
-lt-add_right c a b h = lt-add a b c c h (le_refl c)
-
 -- numbers that are not negative have a sum that is not negative
 pub nonneg-add : (a b : ℚ) → zero_ℚ ≤ℚ a → zero_ℚ ≤ℚ b → zero_ℚ ≤ℚ (a +ℚ b)
 nonneg-add a b h g =
     linear (a ∷ b ∷ []) ((lit (pos 0) ⟨≤⟩ at 0) ∷ (lit (pos 0) ⟨≤⟩ at 1) ∷ []) (lit (pos 0) ⟨≤⟩ (at 0 ⟨+⟩ at 1)) (λ one z p h. omega (arith, ints)) (h, (g, tt))
-
--- negation turns the order
-pub le-neg : (a b : ℚ) → a ≤ℚ b → neg_ℚ b ≤ℚ neg_ℚ a
-le-neg a b h =
-    linear (a ∷ b ∷ []) ((at 0 ⟨≤⟩ at 1) ∷ []) (minus (at 1) ⟨≤⟩ minus (at 0)) (λ one z p h. omega (arith, ints)) (h, tt)
-
--- negation turns the strict order
-pub lt-neg : (a b : ℚ) → a <ℚ b → neg_ℚ b <ℚ neg_ℚ a
-lt-neg a b h =
-    linear (a ∷ b ∷ []) ((at 0 ⟨<⟩ at 1) ∷ []) (minus (at 1) ⟨<⟩ minus (at 0)) (λ one z p h. omega (arith, ints)) (h, tt)
 
 -- a is at most b exactly where b - a is not negative
 pub le-sub : (a b : ℚ) → (a ≤ℚ b) ↔ (zero_ℚ ≤ℚ (b -ℚ a))
@@ -202,26 +179,9 @@ pub lt-mul_left : (c a b : ℚ) → zero_ℚ <ℚ c → a <ℚ b → (c *ℚ a) 
 lt-mul_left c a b h g =
     (lt-sub (c *ℚ a) (c *ℚ b)).1 (subst (λ x. zero_ℚ <ℚ x) (ring rational_ring (a ∷ b ∷ c ∷ []) (C :* (B :- A)) (C :* B :- C :* A) refl) (pos-mul c (b -ℚ a) h ((lt-sub a b).0 g)))
 
--- a positive factor on the right keeps the strict order
-pub lt-mul_right : (c a b : ℚ) → zero_ℚ <ℚ c → a <ℚ b → (a *ℚ c) <ℚ (b *ℚ c)
-lt-mul_right c a b h g = subst₂ (λ x y. x <ℚ y) (*ℚ_comm c a) (*ℚ_comm c b) (lt-mul_left c a b h g)
-
 -- a positive factor can be taken away from an inequality
 pub le_of_mul_left : (c a b : ℚ) → zero_ℚ <ℚ c → (c *ℚ a) ≤ℚ (c *ℚ b) → a ≤ℚ b
 le_of_mul_left c a b h g = le_of_not_lt a b (λ k. not_le_of_lt (c *ℚ b) (c *ℚ a) (lt-mul_left c b a h k) g)
-
--- a positive factor can be taken away from a strict inequality
-pub lt_of_mul_left : (c a b : ℚ) → zero_ℚ <ℚ c → (c *ℚ a) <ℚ (c *ℚ b) → a <ℚ b
-lt_of_mul_left c a b h g = lt_of_not_le a b (λ k. not_lt_of_le (c *ℚ b) (c *ℚ a) (le-mul_left c b a (le_of_lt zero_ℚ c h) k) g)
-
-square_ℤ : (m : ℤ) → pos 0 ≤ℤ (m *ℤ m)
-square_ℤ (pos m) = omega (arith, ints)
-square_ℤ (negsuc m) = omega (arith, ints)
-
--- no square is negative
-pub square-nonneg : (a : ℚ) → zero_ℚ ≤ℚ (a *ℚ a)
-square-nonneg a =
-    le_by zero_ℚ (a *ℚ a) (pos 0) (a.num *ℤ a.num) (a.den * a.den) (zero-over (a.den * a.den) (mul-pos (den_pos a) (den_pos a))) (StandsFor-mul a a _ _ _ _ (StandsFor-self a) (StandsFor-self a)) (square_ℤ a.num)
 
 -- ---- the inverse
 inv_is_pos : (a : ℚ) (n : ℕ) → a.num ≡ pos (suc n) → StandsFor (inv_ℚ a) (pos a.den) (suc n)

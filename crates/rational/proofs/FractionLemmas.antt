@@ -5,8 +5,7 @@ use borrow.Author.Differences.{up, down, same_in}
 use native.Mathlib.Nat.{div-mul_cancel}
 use native.Mathlib.Nat as N
 use lib.Dec.{T, T_prop}
-use native.Mathlib.Decide.{ℕ_discrete}
-use mathlib.Core.HLevel.{is_prop→PathP, hedberg}
+use mathlib.Core.HLevel.{is_prop→PathP}
 use Rattle.std.specs.Int.{◌∣◌}
 use Rattle.rational.specs.Gcd.{gcd, div_ℤ}
 use Rattle.rational.specs.GcdLaws.{gcd-is, lowest_unique}
@@ -14,9 +13,6 @@ use Rattle.rational.specs.LowestTerms.{div_ℤ-mul}
 use Rattle.rational.specs.Rational.{ℚ, is_lowest, lowest-in, den_pos, lowest, frac, ◌+ℚ◌, ◌*ℚ◌, neg_ℚ}
 use Rattle.rational.proofs.IntegerRing.{integer_ring, up-mul, down-mul}
 use Rattle.rational.proofs.Ring.{ring, ◌:+◌, ◌:*◌, :neg, A, B, C, D, E, F}
-
-ℕ_set : IsSet ℕ
-ℕ_set = hedberg ℕ_discrete
 
 -- rationals with equal numerators and denominators are equal
 pub equal_by_parts : (a b : ℚ) → a.num ≡ b.num → a.den ≡ b.den → a ≡ b

@@ -18,11 +18,6 @@ pub mean_le : (n : ℕ) (x v : ℕ → ℚ) (m : ℚ) → ((i : ℕ) → i < n �
 mean_le n x v m weights one top =
     subst (λ y. sum_to n (λ i. x i *ℚ v i) ≤ℚ y) (mean-constant n x m one) (sum_to-le n (λ i. x i *ℚ v i) (λ i. x i *ℚ m) (λ i h. le-mul_left (x i) (v i) m (weights i h) (top i h)))
 
--- a mean of values that are all at least m is at least m
-pub le_mean : (n : ℕ) (x v : ℕ → ℚ) (m : ℚ) → ((i : ℕ) → i < n → zero_ℚ ≤ℚ x i) → sum_to n x ≡ one_ℚ → ((i : ℕ) → i < n → m ≤ℚ v i) → m ≤ℚ sum_to n (λ i. x i *ℚ v i)
-le_mean n x v m weights one least =
-    subst (λ y. y ≤ℚ sum_to n (λ i. x i *ℚ v i)) (mean-constant n x m one) (sum_to-le n (λ i. x i *ℚ m) (λ i. x i *ℚ v i) (λ i h. le-mul_left (x i) m (v i) (weights i h) (least i h)))
-
 -- the weighted distances of the values to m sum to the distance of the mean
 pub mean_gap : (n : ℕ) (x v : ℕ → ℚ) (m : ℚ) → sum_to n x ≡ one_ℚ → sum_to n (λ i. x i *ℚ (m -ℚ v i)) ≡ m -ℚ sum_to n (λ i. x i *ℚ v i)
 mean_gap n x v m one =

@@ -1,12 +1,12 @@
 -- What the numerator and the denominator of a rational tell of it.
-use Rattle.std.proofs.Common.{ℕ, zero, suc, ◌<◌, ◌≤◌, ◌*◌, ◌≡◌, ◌↔◌, ℤ, pos, negsuc, neg_ℤ, nat_abs, ◌+ℤ◌, ◌*ℤ◌, ◌≤ℤ◌, ◌<ℤ◌, [], ◌∷◌, refl, sym, ap, ap₂, ◌∙◌, subst, lit<, mul-pos, arith}
+use Rattle.std.proofs.Common.{ℕ, zero, suc, ◌<◌, ◌≤◌, ◌*◌, ◌≡◌, ◌↔◌, ℤ, pos, negsuc, neg_ℤ, nat_abs, ◌+ℤ◌, ◌*ℤ◌, ◌≤ℤ◌, ◌<ℤ◌, [], ◌∷◌, refl, sym, ap, ◌∙◌, subst, lit<, mul-pos, arith}
 use Rattle.std.proofs.lemmas.Int.{ints}
 use Rattle.std.proofs.Math.Nat.{not-suc-le-zero, div-le_self}
 use Rattle.rational.specs.LowestTerms.{nat_abs-div_ℤ}
 use Rattle.rational.specs.Gcd.{gcd}
 use Rattle.rational.specs.Rational.{ℚ, frac, den_pos, lowest, whole, ◌+ℚ◌, ◌*ℚ◌, neg_ℚ, zero_ℚ, ◌≤ℚ◌, ◌<ℚ◌}
 use Rattle.rational.proofs.IntegerRing.{integer_ring}
-use Rattle.rational.proofs.FractionLemmas.{equal_by_parts, StandsFor, StandsFor-self, StandsFor-also, StandsFor-frac, StandsFor-add, StandsFor-mul, StandsFor-neg, equal_by, equal_by_cross, frac-lowest}
+use Rattle.rational.proofs.FractionLemmas.{equal_by_parts, StandsFor, StandsFor-self, StandsFor-also, StandsFor-frac, StandsFor-add, StandsFor-mul, StandsFor-neg, equal_by, frac-lowest}
 use Rattle.rational.proofs.OrderLemmas.{le_by, by_le, lt_by, by_lt, eq_by, by_eq}
 use Rattle.rational.proofs.Ring.{ring, num, ◌:+◌, ◌:*◌, A, B, C}
 use Rattle.rational.proofs.Linear.{zero-over, StandsFor-whole}
@@ -44,10 +44,6 @@ whole-mul m n =
 pub whole-neg : (n : ℤ) → whole (neg_ℤ n) ≡ neg_ℚ (whole n)
 whole-neg n =
     equal_by (whole (neg_ℤ n)) (neg_ℚ (whole n)) (neg_ℤ n) (neg_ℤ n) 1 1 (StandsFor-whole (neg_ℤ n)) (StandsFor-neg (whole n) n 1 (StandsFor-whole n)) refl
-
--- whole numbers are in the order of the integers
-pub whole-le : (m n : ℤ) → (whole m ≤ℚ whole n) ↔ (m ≤ℤ n)
-whole-le m n = (by_le (whole m) (whole n) m n 1 (StandsFor-whole m) (StandsFor-whole n), le_by (whole m) (whole n) m n 1 (StandsFor-whole m) (StandsFor-whole n))
 
 -- the same for the strict order
 pub whole-lt : (m n : ℤ) → (whole m <ℚ whole n) ↔ (m <ℤ n)
@@ -105,14 +101,6 @@ pub neg-parts : (a : ℚ) → ((neg_ℚ a).num ≡ neg_ℤ a.num) × ((neg_ℚ a
 unfolding neg_ℚ
 neg-parts a = frac-lowest (neg_ℤ a.num) a.den (den_pos a) (ap (λ x. gcd x a.den) (abs-neg a.num) ∙ lowest a)
 
--- the numerator of a negated number
-pub neg-num : (a : ℚ) → (neg_ℚ a).num ≡ neg_ℤ a.num
-neg-num a = (neg-parts a).0
-
--- the denominator of a negated number
-pub neg-den : (a : ℚ) → (neg_ℚ a).den ≡ a.den
-neg-den a = (neg-parts a).1
-
 -- ---- cross products
 over_left : (m : ℤ) (d e : ℕ) → 0 < d → 0 < e → StandsFor (frac m d) (m *ℤ pos e) (d * e)
 over_left m d e p q =
@@ -121,10 +109,6 @@ over_left m d e p q =
 over_right : (n : ℤ) (d e : ℕ) → 0 < d → 0 < e → StandsFor (frac n e) (n *ℤ pos d) (d * e)
 over_right n d e p q =
     StandsFor-also (frac n e) n (n *ℤ pos d) e (d * e) (StandsFor-frac n e q) (mul-pos p q) (ring integer_ring (n ∷ pos d ∷ pos e ∷ []) (A :* (B :* C)) (A :* B :* C) refl)
-
--- numbers are equal exactly where their cross products are
-pub eq_cross : (a b : ℚ) → (a ≡ b) ↔ (a.num *ℤ pos b.den ≡ b.num *ℤ pos a.den)
-eq_cross a b = (λ e. ap₂ (λ (x y : ℚ). x.num *ℤ pos y.den) e (sym e), equal_by_cross a b)
 
 -- the same of any two fractions
 pub frac-eq : (m n : ℤ) (d e : ℕ) → 0 < d → 0 < e → (frac m d ≡ frac n e) ↔ (m *ℤ pos e ≡ n *ℤ pos d)

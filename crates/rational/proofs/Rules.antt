@@ -72,10 +72,6 @@ neg-+ℚ_next a b = sym (+ℚ_assoc (neg_ℚ a) a b) ∙ ap (λ x. x +ℚ b) (ne
 pub +ℚ_cancel : (a b c : ℚ) → a +ℚ c ≡ b +ℚ c → a ≡ b
 +ℚ_cancel a b c e = L.add_cancel rational_ring a b c e
 
--- b is the only number that makes 0 with a
-pub neg_ℚ_unique : (a b : ℚ) → a +ℚ b ≡ zero_ℚ → neg_ℚ a ≡ b
-neg_ℚ_unique a b e = L.neg_unique rational_ring a b e
-
 -- sums of products in one order, with negations inside and with no factor 1, factor 0 or summand 0
 pub ruleset ring_laws = (+ℚ_assoc, +ℚ_comm, +ℚ_left_comm, *ℚ_assoc, *ℚ_comm, *ℚ_left_comm, *ℚ-add, add-*ℚ, *ℚ-neg, neg-*ℚ, neg_ℚ-add, neg_ℚ-neg, neg_ℚ-zero, +ℚ-zero, zero-+ℚ, *ℚ-one, one-*ℚ, *ℚ-zero, zero-*ℚ)
 

@@ -1,5 +1,5 @@
 -- Laws of sums.
-use Rattle.std.proofs.Common.{ℕ, pos, suc, add-one, zero, ◌<◌, ◌≤◌, ◌≡◌, ◌+◌, ◌*◌, mul-zero, eqb, cond, refl, sym, ap, ap₂, ◌∙◌, subst, [], ◌∷◌, arith, inl, inr, tests, eq-or-lt_of_le, le_of_suc-le-suc}
+use Rattle.std.proofs.Common.{ℕ, pos, suc, add-one, zero, ◌<◌, ◌≡◌, ◌+◌, ◌*◌, mul-zero, eqb, cond, refl, sym, ap, ap₂, ◌∙◌, subst, [], ◌∷◌, arith, inl, inr, tests, eq-or-lt_of_le, le_of_suc-le-suc}
 use Rattle.std.proofs.lemmas.Int.{ints}
 use Rattle.rational.specs.Rational.{ℚ, ◌+ℚ◌, ◌*ℚ◌, ◌-ℚ◌, neg_ℚ, zero_ℚ, one_ℚ, whole, ◌≤ℚ◌, ◌<ℚ◌}
 use Rattle.rational.specs.Sum.{sum_to, change}
@@ -130,12 +130,6 @@ sum_to-zeros n f h = sum_to-same n f (λ i. zero_ℚ) h ∙ sum_to-zero n
 -- terms that are not negative have a sum that is not negative
 pub sum_to-nonneg : (n : ℕ) (f : ℕ → ℚ) → ((i : ℕ) → i < n → zero_ℚ ≤ℚ f i) → zero_ℚ ≤ℚ sum_to n f
 sum_to-nonneg n f h = subst (λ x. x ≤ℚ sum_to n f) (sum_to-zero n) (sum_to-le n (λ i. zero_ℚ) f h)
-
--- further terms that are not negative make no sum less
-pub sum_to-longer : (m n : ℕ) (f : ℕ → ℚ) → ((i : ℕ) → m ≤ i → i < m + n → zero_ℚ ≤ℚ f i) → sum_to m f ≤ℚ sum_to (m + n) f
-sum_to-longer m n f h =
-    subst (λ x. sum_to m f ≤ℚ x) (sym (sum_to-append m n f)) (linear (sum_to m f ∷ sum_to n (λ i. f (m + i)) ∷ []) ((lit (pos 0) ⟨≤⟩ at 1) ∷ []) (at 0 ⟨≤⟩ (at 0 ⟨+⟩ at 1)) (λ one z p h. omega (arith, ints))
-    (sum_to-nonneg n (λ i. f (m + i)) (λ i k. h (m + i) (omega arith) (omega arith)), tt))
 
 -- no term of a sum of terms that are not negative is greater than the sum
 pub term_le_sum : (n c : ℕ) (f : ℕ → ℚ) → ((i : ℕ) → i < n → zero_ℚ ≤ℚ f i) → c < n → f c ≤ℚ sum_to n f

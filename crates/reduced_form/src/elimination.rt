@@ -107,7 +107,7 @@ fn all_strategies(alloc: Global, table: &Table, player: u32) -> Result<Vec<u32>,
     requires few { slice_index (strategy_counts table.now) player ≤ most_strategies }
     ensures { IfOk result (λ all. AreKeptAfter (game_of table.now) 0 player all.items) }
 {
-    let count = table.strategies(player as usize).len();
+    let count = table.strategy_count(player as usize);
     let mut all = Vec::with_capacity(alloc, count)?;
     for strategy in 0..count {
         all.push(strategy as u32)?;

@@ -148,7 +148,7 @@ pub fn undominated(alloc: Global, table: &Table) -> Result<Kept, KeptStop>
             count: players as u32,
         });
     }
-    let strategies = table.strategies(0).len() + table.strategies(1).len();
+    let strategies = table.strategy_count(0) + table.strategy_count(1);
     if strategies > MOST_STRATEGIES {
         return Err(KeptStop::TooLarge(TooLarge {
             what: What::Labels,

@@ -3,9 +3,9 @@
 //! Callers may rely on: `reduce` gives the form, whose cells are what every completion pays, or the
 //! first reason why there is none; `undominated` the kept strategies and their table. `Strategies`
 //! are the lists that `Strategies::new` takes and `Strategies::lists` gives.
-//! Definitions: `specs::ReducedForm` has the form and the names of strategies, `Stops` what a tree
-//! answers (`form_of`), `Kept` what a table answers (`kept_of`).
-//! Private words: `specs::Counts`, `Limits` and `Cells`, how the code counts and fills tables.
+//! Definitions: `specs::ReducedForm` has the form and the names of strategies, `Limits` its limits,
+//! `Stops` what a tree answers (`form_of`), `Kept` what a table answers (`kept_of`).
+//! Private words: `specs::Counts` and `Cells`, how the code counts and fills tables.
 //! Lemmas for callers: `proofs::FormLaws` and `FormCountLemmas` on the table, `OneFormLaws` and
 //! `KeptSingleLemmas`.
 //! A change here touches: `behaviour_profile`, `enumpure_trees`, `enummixed`, `gambit_tools`.

@@ -11,12 +11,9 @@ ghost use Rattle.reduced_form.specs.Stops.{IsReduceStop, too_many_payoffs, too_m
 ghost use Rattle.game_theory.specs.OwnSets.{own_sets};
 
 use crate::stop::ReduceStop;
-use game_core::{TooLarge, Tree, What, trees_are_game_trees};
+use game_core::{MOST_PAYOFFS, TooLarge, Tree, What, trees_are_game_trees};
 use std::alloc::Global;
 use strategy_lists::{Decisions, own_sets_are_those_of_the_tree};
-
-// The most payoffs of a reduced form.
-const MOST_PAYOFFS: usize = 1_048_576;
 
 // The most choices of a reduced form.
 const MOST_CHOICES: u64 = 67_108_864;

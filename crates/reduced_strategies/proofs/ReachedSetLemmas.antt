@@ -2,9 +2,9 @@
 use Rattle.std.proofs.Common.{ℕ, zero, suc, ◌<◌, ◌≡◌, Bool, true, false, Decides, Some, List, [], ◌∷◌, refl, sym, ◌∙◌, arith}
 use Rattle.std.specs.Prelude.{◌==◌, ◌&&◌, ◌||◌}
 use Rattle.std.proofs.lemmas.Bool.Decides.{Decides-and, Decides-eqb, Decides-like, Decides-below_or}
-use Rattle.game_theory.proofs.OwnSetLemmas.{is_own_of-decides}
+use Rattle.game_theory.proofs.OwnSetLemmas.{is_index-decides}
 use Rattle.game_theory.specs.Trees.{Tree, IsTree}
-use Rattle.game_theory.specs.Behaviour.{is_own_of}
+use Rattle.game_theory.specs.Behaviour.{is_index}
 use Rattle.game_theory.specs.Recall.{own_history}
 use Rattle.reduced_strategies.specs.Choices.{Agrees, IsReached}
 use Rattle.reduced_strategies.proofs.HistoryLemmas.{along_paths, agrees_at_child}
@@ -28,7 +28,7 @@ some_below p (suc n) = p n || some_below p n
 
 -- whether node k is of set s, and its history agrees with choices
 abbrev reaches_at : Tree → ℕ → (ℕ → ℕ) → ℕ → ℕ → Bool
-reaches_at t i choice s k = is_own_of (t.set k) s && agrees choice (own_history t i k)
+reaches_at t i choice s k = is_index (t.set k) s && agrees choice (own_history t i k)
 
 -- whether a set is reached
 abbrev pub is_reached : Tree → ℕ → (ℕ → ℕ) → ℕ → Bool
@@ -41,7 +41,7 @@ ReachesAt t i choice s k = (t.set k ≡ Some s) × Agrees choice (own_history t 
 -- what the test of a node tells
 reaches_at-decides : (t : Tree) (i : ℕ) (choice : ℕ → ℕ) (s k : ℕ) → Decides (reaches_at t i choice s k) (ReachesAt t i choice s k)
 reaches_at-decides t i choice s k =
-    Decides-and (is_own_of (t.set k) s) (agrees choice (own_history t i k)) (is_own_of-decides (t.set k) s) (agrees-decides choice (own_history t i k))
+    Decides-and (is_index (t.set k) s) (agrees choice (own_history t i k)) (is_index-decides (t.set k) s) (agrees-decides choice (own_history t i k))
 
 -- what the test of a set tells
 pub is_reached-decides : (t : Tree) (i : ℕ) (choice : ℕ → ℕ) (s : ℕ) → Decides (is_reached t i choice s) (IsReached t i choice s)

@@ -12,15 +12,6 @@ use frac128::Frac;
 use game_core::Table;
 use std::alloc::Global;
 
-// A player's payoff at the profile with a number.
-fn payoff(table: &Table, player: usize, profile: usize) -> Frac
-    requires player { player < length table.now.players }
-    requires profile { profile < profile_count (strategy_counts table.now) }
-    ensures { result ≡ (game_of table.now).pays player profile }
-{
-    table.payoffs()[profile * table.players().len() + player]
-}
-
 // The least of a player's payoffs.
 fn least_payoff(table: &Table, player: usize, profiles: usize) -> Frac
     requires player { player < length table.now.players }
@@ -28,9 +19,9 @@ fn least_payoff(table: &Table, player: usize, profiles: usize) -> Frac
     requires some { 0 < profiles }
     ensures { IsLeast profiles ((game_of table.now).pays player) result }
 {
-    let mut least = payoff(table, player, 0);
+    let mut least = table.payoff_at(0, player);
     for profile in 1..profiles {
-        let other = payoff(table, player, profile);
+        let other = table.payoff_at(profile, player);
         if other.is_less(least) {
             least = other;
         }
@@ -65,7 +56,7 @@ pub(crate) fn shifted_payoffs(
     };
     let mut shifted = Vec::with_capacity(alloc, profiles)?;
     for profile in 0..profiles {
-        match payoff(table, player as usize, profile).add(shift) {
+        match table.payoff_at(profile, player as usize).add(shift) {
             Ok(sum) => shifted.push(sum)?,
             Err(unfit) => {
                 return Err(PolyStop::Range {

@@ -1,7 +1,6 @@
 // The systems of best replies of a table.
-ghost use Rattle.std.specs.Prelude.{◌≡◌, ◌<◌, length, slice_index};
 ghost use Rattle.answers.specs.Answers.{Gives};
-ghost use Rattle.game_core.specs.Table.{game_of, strategy_counts};
+ghost use Rattle.game_core.specs.Table.{game_of};
 ghost use Rattle.reply_polytope.specs.declared.stop.PolyStop.TheVariants as stops;
 ghost use Rattle.reply_polytope.specs.Stops.{polytopes_in};
 
@@ -15,20 +14,16 @@ use std::alloc::Global;
 // The most labels.
 const MOST_LABELS: usize = 128;
 
-// How many strategies a player has.
-fn strategy_count(table: &Table, player: usize) -> usize
-    requires { player < length table.now.players }
-    ensures { result ≡ slice_index (strategy_counts table.now) player }
-{
-    table.strategies(player).len()
-}
-
 /// The systems of the polytopes of both players' best replies. Variables are labels, numbered from
-/// 1: first the first player's strategies and then the second's.
+/// 1: first the first player's strategies and then the second's. The first system has a row for each
+/// strategy of the second player and a column for each of the first's, and the second the other way
+/// round.
+///
+/// # Errors
 ///
 /// `NotTwoPlayers` exactly where there is another number of players; `TooLarge` exactly where two
 /// have more than 128 strategies together; `Range` exactly where neither holds and a step of the
-/// shift of a player's payoffs does not fit, with the first such step.
+/// shift of a player's payoffs does not fit, with the first such step. `Memory` where memory ran out.
 pub fn polytopes(alloc: Global, table: &Table) -> Result<(System, System), PolyStop>
     ensures { Gives stops.Memory (polytopes_in (game_of table.now)) result }
 {
@@ -38,8 +33,8 @@ pub fn polytopes(alloc: Global, table: &Table) -> Result<(System, System), PolyS
             count: players as u32,
         });
     }
-    let rows = strategy_count(table, 0);
-    let columns = strategy_count(table, 1);
+    let rows = table.strategy_count(0);
+    let columns = table.strategy_count(1);
     if rows + columns > MOST_LABELS {
         return Err(PolyStop::TooLarge(TooLarge {
             what: What::Labels,

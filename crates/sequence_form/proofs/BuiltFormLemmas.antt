@@ -10,7 +10,7 @@ use Rattle.sequence_data.specs.Steps.{AllFit, IsUnfitStop, cell_steps}
 use Rattle.sequence_data.specs.declared.stop.SeqStop.{SeqStop}
 use Rattle.sequence_data.specs.declared.stop.SeqStop.TheVariants as stops
 use Rattle.sequence_data.specs.declared.types.Leaf.{Leaf}
-use Rattle.sequence_data.proofs.PlacedStepLemmas.{fit-append, stop-more, stop-following}
+use Rattle.sequence_data.proofs.PlacedStepLemmas.{fit-append, stop-following}
 use Rattle.sequence_form.specs.Forms.{tree_steps, tree_form, table_leaves, table_form}
 use Rattle.sequence_form.specs.Laws.{rows_of, columns_of}
 use Rattle.sequence_form.specs.Paths.{path_steps, tree_leaves}
@@ -21,10 +21,6 @@ tree-stop : (t : GameTree) (stop : SeqStop) → length t.players ≡ 2 → IsUnf
 tree-stop t (stops.NotTwoPlayers count) two h = absurd h
 tree-stop t (stops.Range place unfit) two h = inr (two, h)
 tree-stop t stops.Memory two h = inl refl
-
--- what stops at the nodes
-pub path-gives : (t : GameTree) (stop : SeqStop) → length t.players ≡ 2 → IsUnfitStop (path_steps (game_of_tree t) (length t.nodes)) stop → Gives stops.Memory (tree_form t) (Err stop)
-path-gives t stop two h = tree-stop t stop two (stop-more (path_steps (game_of_tree t) (length t.nodes)) (cell_steps (tree_leaves (game_of_tree t))) stop h)
 
 -- what is made of the leaves
 pub tree-gives : (t : GameTree) (first second : SideData) (ls : List Leaf) (r : Result FormData SeqStop) → length t.players ≡ 2 → first ≡ tree_side (game_of_tree t) 0 → second ≡ tree_side (game_of_tree t) 1 → ls ≡ tree_leaves (game_of_tree t)

@@ -1,19 +1,17 @@
 -- The profiles of a table of two players as leaves.
-use Rattle.std.proofs.Common.{ℕ, zero, suc, ◌+◌, ◌*◌, ◌/◌, ◌%◌, ◌<◌, ◌≤◌, ◌≡◌, List, [], ◌∷◌, length, get_or, All, refl, sym, ap, ◌∙◌, subst, arith}
+use Rattle.std.proofs.Common.{ℕ, zero, suc, ◌*◌, ◌/◌, ◌%◌, ◌<◌, ◌≤◌, ◌≡◌, [], ◌∷◌, length, get_or, All, refl, sym, ap, ◌∙◌, subst, arith}
 use Rattle.std.proofs.Math.Nat.{mod-eq_of_lt}
 use Rattle.std.proofs.lemmas.List.{length-map, get_or-map}
 use Rattle.std.proofs.lemmas.List.Elements.{All-get_or}
 use Rattle.std.proofs.lemmas.List.FromFn.{length-map-range_with_len, get_or-map-range_with_len}
 use Rattle.std.proofs.lemmas.Nat.{div_below, mod_below}
 use Rattle.game_theory.proofs.SureStrategyLemmas.{zero_le_one}
-use Rattle.rational.specs.Rational.{ℚ, zero_ℚ}
 use Rattle.game_theory.specs.Profiles.{profile_count, profile_at}
 use Rattle.lists.proofs.ElementLemmas.{two-elements}
-use Rattle.game_core.specs.Table.{GameTable, IsTable, game_of, strategy_counts}
+use Rattle.game_core.specs.Table.{GameTable, IsTable, strategy_counts}
 use Rattle.sequence_forms.specs.Sides.{first}
 use Rattle.sequence_data.specs.Data.{LeafFits, IsSideData, side_of}
 use Rattle.sequence_data.specs.declared.types.Leaf.{Leaf}
-use Rattle.sequence_data.proofs.PlaceLemmas.{get_or-inside}
 use Rattle.sequence_form.specs.Forms.{profile_leaf, table_leaves}
 use Rattle.sequence_form.specs.Laws.{rows_of, columns_of}
 use Rattle.sequence_form.specs.Sequences.{start_side}
@@ -105,14 +103,3 @@ start-is_side n some = record {
     some_action = λ j h. subst (λ i. 0 < (side_of (start_side n)).count i) (sym (one_place j h)) some;
   };
 }
-
--- ---- the parts of a profile as the table has them
-pub pays-at : (t : GameTable) (k i n : ℕ) (payoffs : List ℚ) (v : ℚ) → IsTable t → length t.players ≡ 2 → k < profile_count (strategy_counts t) → i < 2 → n ≡ 2 * k + i → payoffs ≡ t.payoffs → v ≡ get_or payoffs n v → v ≡ (game_of t).pays i k
-pays-at t k i n payoffs v valid two below player is same at =
-    let within : n < length t.payoffs = omega (arith, payoffs-are t valid two, below, player, is) in
-    let place : n ≡ k * length t.players + i = is ∙ omega arith ∙ ap (λ m. k * m + i) (sym two) in
-    at ∙ ap (λ xs. get_or xs n v) same ∙ get_or-inside t.payoffs n v zero_ℚ within ∙ ap (λ m. get_or t.payoffs m zero_ℚ) place
-
--- the number of profiles by the payoffs
-pub profiles-by_payoffs : (t : GameTable) (n : ℕ) → IsTable t → length t.players ≡ 2 → n ≡ length t.payoffs → n / 2 ≡ profile_count (strategy_counts t)
-profiles-by_payoffs t n valid two is = omega (arith, is, payoffs-are t valid two)

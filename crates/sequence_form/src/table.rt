@@ -33,15 +33,14 @@ fn profile_leaf(table: &Table, number: usize) -> Leaf
     requires number { number < profile_count (strategy_counts table.now) }
     ensures { result ≡ profile_leaf table.now number }
 {
-    let rows = table.strategies(0).len();
-    let payoffs = table.payoffs();
+    let rows = table.strategy_count(0);
     Leaf {
         place: number as u32,
         row: (number % rows) as u32 + 1,
         column: (number / rows) as u32 + 1,
         chance: Frac::one(),
-        one: payoffs[2 * number],
-        two: payoffs[2 * number + 1],
+        one: table.payoff_at(number, 0),
+        two: table.payoff_at(number, 1),
     }
 }
 
@@ -74,8 +73,8 @@ pub fn build_table(alloc: Global, table: &Table) -> Result<SeqForm, SeqStop>
             count: players as u32,
         });
     }
-    let first = start_side(alloc, table.strategies(0).len() as u32)?;
-    let second = start_side(alloc, table.strategies(1).len() as u32)?;
+    let first = start_side(alloc, table.strategy_count(0) as u32)?;
+    let second = start_side(alloc, table.strategy_count(1) as u32)?;
     let leaves = profiles(alloc, table)?;
     SeqForm::of_leaves(alloc, first, second, leaves)
 }

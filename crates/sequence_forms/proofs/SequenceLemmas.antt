@@ -4,9 +4,9 @@ use Rattle.std.specs.Prelude.{◌==◌, if◌then◌else◌, slice_index}
 use Rattle.std.proofs.lemmas.Bool.{cases_lt}
 use Rattle.std.proofs.lemmas.Bool.Decides.{Decides-eqb, not_from_Decides}
 use Rattle.game_theory.specs.OwnSets.{own_sets}
-use Rattle.game_theory.proofs.OwnSetLemmas.{is_own_of-decides, is_own-decides, IsAmong, own_sets-has, own_sets-tell}
+use Rattle.game_theory.proofs.OwnSetLemmas.{is_index-decides, is_own-decides, IsAmong, own_sets-has, own_sets-tell}
 use Rattle.game_theory.specs.Trees.{Tree, IsTree}
-use Rattle.game_theory.specs.Behaviour.{is_own_of, is_own}
+use Rattle.game_theory.specs.Behaviour.{is_index, is_own}
 use Rattle.game_theory.specs.Recall.{own_edge, own_history, HasPerfectRecall}
 use Rattle.reduced_strategies.proofs.HistoryLemmas.{along_paths, own_history-step}
 use Rattle.sequence_forms.specs.Sides.{sequences, IsSide}
@@ -110,7 +110,7 @@ last-below t i w k l = along_paths t (λ x. last_sequence t i x < sequences (sid
 -- the history before a set is that of one of its nodes, or there is none
 pub history_before-cases : (t : Tree) (i s n : ℕ) → ((k : ℕ) × (k < n) × (t.set k ≡ Some s) × (history_before_to t i s n ≡ own_history t i k)) ⊎ ((history_before_to t i s n ≡ []) × ((k : ℕ) → k < n → t.set k ≢ Some s))
 history_before-cases t i s zero = inr (refl, λ k h. absurd (omega arith))
-history_before-cases t i s (suc n) = go (is_own_of (t.set n) s) (is_own_of-decides (t.set n) s) (history_before-cases t i s n)
+history_before-cases t i s (suc n) = go (is_index (t.set n) s) (is_index-decides (t.set n) s) (history_before-cases t i s n)
   where
     go : (b : Bool) → Decides b (t.set n ≡ Some s) → ((k : ℕ) × (k < n) × (t.set k ≡ Some s) × (history_before_to t i s n ≡ own_history t i k)) ⊎ ((history_before_to t i s n ≡ []) × ((k : ℕ) → k < n → t.set k ≢ Some s))
         → ((k : ℕ) × (k < suc n) × (t.set k ≡ Some s) × ((if b then own_history t i n else history_before_to t i s n) ≡ own_history t i k)) ⊎ (((if b then own_history t i n else history_before_to t i s n) ≡ []) × ((k : ℕ) → k < suc n → t.set k ≢ Some s))

@@ -5,9 +5,10 @@ use Rattle.std.proofs.Math.Seq.{take-suc, take-length}
 use Rattle.std.proofs.lemmas.Bool.{cases_lt}
 use Rattle.std.proofs.lemmas.List.{length-append, length_push, get_or-map, map-append}
 use Rattle.std.proofs.lemmas.Option.{none-some, slice_get_within, slice_get-get_or, get_or_from_slice_get}
-use Rattle.game_core.proofs.SetNumberLemmas.{is_set-decides}
+use Rattle.game_theory.proofs.OwnSetLemmas.{is_index-decides}
 use Rattle.game_core.specs.declared.tree.Node.{Node}
-use Rattle.game_core.specs.Tree.{GameTree, IsTree, InformationSet, OpenBranch, AreInPrefixOrder, action_count, branches_from, members_from, is_set, own_sets}
+use Rattle.game_theory.specs.Behaviour.{is_index}
+use Rattle.game_core.specs.Tree.{GameTree, IsTree, InformationSet, OpenBranch, AreInPrefixOrder, action_count, branches_from, members_from, own_sets}
 use Rattle.game_core.specs.TreeGame.{game_of_tree}
 use Rattle.strategy_lists.proofs.OwnNumberLemmas.{own_from-own_sets, own_sets-numbers, own_numbers-length}
 use Rattle.strategy_lists.proofs.WalkStrategyLemmas.{own_set-tell}
@@ -30,7 +31,7 @@ actions-few : (sets : List InformationSet) (k m s : ℕ) (nodes : List Node) (fr
 actions-few sets k m s [] free h some = absurd (omega arith)
 actions-few sets k m s (node ∷ nodes) [] h some = absurd h
 actions-few sets k m s (node ∷ nodes) (place ∷ free) h some =
-    go (is_set s node.set) (is_set-decides s node.set) (actions-few sets (suc k) (suc m) s nodes (branches_from k 0 (action_count sets node.set) ++ free) h.1) some
+    go (is_index node.set s) (is_index-decides node.set s) (actions-few sets (suc k) (suc m) s nodes (branches_from k 0 (action_count sets node.set) ++ free) h.1) some
   where
     go : (b : Bool) → Decides b (node.set ≡ Some s) → (0 < length (members_from (suc m) s nodes) → action_count sets (Some s) < length nodes) → 0 < length (if b then m ∷ members_from (suc m) s nodes else members_from (suc m) s nodes) → action_count sets (Some s) < suc (length nodes)
     go true d later some =

@@ -9,11 +9,11 @@ use Rattle.std.proofs.lemmas.List.{append-nil, append_assoc, length_push, length
 use Rattle.std.proofs.lemmas.List.Elements.{All-map}
 use Rattle.std.proofs.lemmas.Option.{none-some, same_Some, slice_get-get_or}
 use Rattle.game_theory.specs.OwnSets.{own_below, own_sets}
-use Rattle.game_theory.proofs.OwnSetLemmas.{is_own_of-decides}
+use Rattle.game_theory.proofs.OwnSetLemmas.{is_index-decides}
 use Rattle.lists.proofs.ElementLemmas.{slice_get-end}
 use Rattle.game_theory.specs.Trees.{Tree}
-use Rattle.game_theory.specs.Behaviour.{is_own_of}
-use Rattle.game_core.specs.Tree.{GameTree, IsTree, InformationSet, IsWithin, is_set, own_from}
+use Rattle.game_theory.specs.Behaviour.{is_index}
+use Rattle.game_core.specs.Tree.{GameTree, IsTree, InformationSet, IsWithin, own_from}
 use Rattle.game_core.specs.TreeGame.{game_of_tree}
 use Rattle.reduced_strategies.specs.Places.{ArePlaces}
 use Rattle.strategy_lists.specs.OwnNumbers.{own_numbers, AreCounts, counted, ArePlacesBelow}
@@ -37,16 +37,16 @@ slice_get-push_cases (z ∷ xs) y x (suc j) h =
 module _ (owner : ℕ → Option ℕ) (i : ℕ) where
   -- an own number comes last
   pub own_numbers-own : (n : ℕ) → owner n ≡ Some i → own_numbers owner i (suc n) ≡ own_numbers owner i n ++ n ∷ []
-  own_numbers-own n own = rw ((is_own_of-decides (owner n) i).1 own) refl
+  own_numbers-own n own = rw ((is_index-decides (owner n) i).1 own) refl
 
   -- another number is left out
   pub own_numbers-other : (n : ℕ) → (owner n ≡ Some i → ⊥) → own_numbers owner i (suc n) ≡ own_numbers owner i n
-  own_numbers-other n other = rw (false_from_ne_true (is_own_of (owner n) i) (λ e. other ((is_own_of-decides (owner n) i).0 e))) refl
+  own_numbers-other n other = rw (false_from_ne_true (is_index (owner n) i) (λ e. other ((is_index-decides (owner n) i).0 e))) refl
 
   -- there are no more than the numbers below n
   pub own_numbers-length : (n : ℕ) → length (own_numbers owner i n) ≤ n
   own_numbers-length zero = omega arith
-  own_numbers-length (suc n) = go (is_own_of (owner n) i) (own_numbers-length n)
+  own_numbers-length (suc n) = go (is_index (owner n) i) (own_numbers-length n)
     where
       go : (b : Bool) → length (own_numbers owner i n) ≤ n → length (if b then own_numbers owner i n ++ n ∷ [] else own_numbers owner i n) ≤ suc n
       go true h = rw length_push (omega arith)
@@ -55,7 +55,7 @@ module _ (owner : ℕ → Option ℕ) (i : ℕ) where
   -- an own number has as many before it as are below it
   pub own_numbers-at : (k n : ℕ) → k < n → owner k ≡ Some i → slice_get (own_numbers owner i n) (length (own_numbers owner i k)) ≡ Some k
   own_numbers-at k zero below own = absurd (omega arith)
-  own_numbers-at k (suc n) below own = elim (cases_lt k n) [ inl early ↦ go (is_own_of (owner n) i) (own_numbers-at k n early own) | inr last ↦ at_last (omega arith) ]
+  own_numbers-at k (suc n) below own = elim (cases_lt k n) [ inl early ↦ go (is_index (owner n) i) (own_numbers-at k n early own) | inr last ↦ at_last (omega arith) ]
     where
       go : (b : Bool) → slice_get (own_numbers owner i n) (length (own_numbers owner i k)) ≡ Some k → slice_get (if b then own_numbers owner i n ++ n ∷ [] else own_numbers owner i n) (length (own_numbers owner i k)) ≡ Some k
       go true h = slice_get-push (own_numbers owner i n) n k _ h
@@ -67,7 +67,7 @@ module _ (owner : ℕ → Option ℕ) (i : ℕ) where
   -- what stands at a place is an own number, and has so many before it
   pub own_numbers-tell : (n j k : ℕ) → slice_get (own_numbers owner i n) j ≡ Some k → (k < n) × (owner k ≡ Some i) × (j ≡ length (own_numbers owner i k))
   own_numbers-tell zero j k h = absurd (none-some k h)
-  own_numbers-tell (suc n) j k h = go (is_own_of (owner n) i) (is_own_of-decides (owner n) i) (own_numbers-tell n j k) h
+  own_numbers-tell (suc n) j k h = go (is_index (owner n) i) (is_index-decides (owner n) i) (own_numbers-tell n j k) h
     where
       go : (b : Bool) → Decides b (owner n ≡ Some i) → (slice_get (own_numbers owner i n) j ≡ Some k → (k < n) × (owner k ≡ Some i) × (j ≡ length (own_numbers owner i k))) → slice_get (if b then own_numbers owner i n ++ n ∷ [] else own_numbers owner i n) j ≡ Some k → (k < suc n) × (owner k ≡ Some i) × (j ≡ length (own_numbers owner i k))
       go true d early h = elim (slice_get-push_cases (own_numbers owner i n) n k j h) [
@@ -84,7 +84,7 @@ module _ (owner : ℕ → Option ℕ) (i : ℕ) where
 -- the own sets below n are the own numbers below n
 own_below-numbers : (t : Tree) (i n : ℕ) (later : List ℕ) → own_below t i n later ≡ own_numbers t.owner i n ++ later
 own_below-numbers t i zero later = refl
-own_below-numbers t i (suc n) later = go (is_own_of (t.owner n) i) (own_below-numbers t i n)
+own_below-numbers t i (suc n) later = go (is_index (t.owner n) i) (own_below-numbers t i n)
   where
     go : (b : Bool) → ((later : List ℕ) → own_below t i n later ≡ own_numbers t.owner i n ++ later) → own_below t i n (if b then n ∷ later else later) ≡ (if b then own_numbers t.owner i n ++ n ∷ [] else own_numbers t.owner i n) ++ later
     go true h = h (n ∷ later) ∙ sym (append_assoc (own_numbers t.owner i n) (n ∷ []) later)
@@ -94,18 +94,13 @@ own_below-numbers t i (suc n) later = go (is_own_of (t.owner n) i) (own_below-nu
 pub own_sets-numbers : (t : Tree) (i : ℕ) → own_sets t i ≡ own_numbers t.owner i t.sets
 own_sets-numbers t i = own_below-numbers t i t.sets [] ∙ append-nil _
 
--- the tests of an owner are one
-pub is_set-own : (o : Option ℕ) (i : ℕ) → is_set i o ≡ is_own_of o i
-is_set-own None i = refl
-is_set-own (Some j) i = refl
-
 -- the own sets of a list after those before it
 own_from-numbers : (owner : ℕ → Option ℕ) (i s : ℕ) (sets : List InformationSet) → ((k : ℕ) → owner (s + k) ≡ get_or (map (λ set. set.owner) sets) k None) → own_numbers owner i (s + length sets) ≡ own_numbers owner i s ++ own_from s i sets
 own_from-numbers owner i s [] h = rw add-zero (sym (append-nil _))
 own_from-numbers owner i s (x ∷ sets) h =
     let later = own_from-numbers owner i (suc s) sets (λ k. ap owner (omega arith) ∙ h (suc k)) in
     let first : owner s ≡ x.owner = ap owner (sym (add-zero s)) ∙ h 0 in
-    ap (own_numbers owner i) (omega arith) ∙ later ∙ go (is_own_of (owner s) i) (is_set i x.owner) (ap (λ o. is_own_of o i) first ∙ sym (is_set-own x.owner i))
+    ap (own_numbers owner i) (omega arith) ∙ later ∙ go (is_index (owner s) i) (is_index x.owner i) (ap (λ o. is_index o i) first)
   where
     go : (b c : Bool) → b ≡ c → (if b then own_numbers owner i s ++ s ∷ [] else own_numbers owner i s) ++ own_from (suc s) i sets ≡ own_numbers owner i s ++ (if c then s ∷ own_from (suc s) i sets else own_from (suc s) i sets)
     go true true e = append_assoc (own_numbers owner i s) (s ∷ []) (own_from (suc s) i sets)

@@ -1,11 +1,11 @@
 -- The numbers that are a player's own, where each number has an owner or none.
 use Rattle.std.specs.Prelude.{ℕ, zero, suc, ◌+◌, ◌<◌, ◌≡◌, if◌then◌else◌, List, [], ◌∷◌, ◌++◌, length, slice_index, slice_set, Option, Some, None}
-use Rattle.game_theory.specs.Behaviour.{is_own_of}
+use Rattle.game_theory.specs.Behaviour.{is_index}
 
 -- the numbers below n that are player i's own, in order
 abbrev pub own_numbers : (ℕ → Option ℕ) → ℕ → ℕ → List ℕ
 own_numbers owner i zero = []
-own_numbers owner i (suc n) = if is_own_of (owner n) i then own_numbers owner i n ++ n ∷ [] else own_numbers owner i n
+own_numbers owner i (suc n) = if is_index (owner n) i then own_numbers owner i n ++ n ∷ [] else own_numbers owner i n
 
 -- so many of each player's own numbers are below n
 abbrev pub AreCounts : (ℕ → Option ℕ) → ℕ → List ℕ → Type 0

@@ -1,22 +1,20 @@
 -- First lists of actions, whose probabilities are added up as they are read, and later lists, which are compared as they are read.
-use Rattle.std.proofs.Common.{◌≡◌, ℕ, ◌<◌, ◌≤◌, ◌&&◌, Bool, true, false, true≢false, List, [], ◌∷◌, length, map, Option, Some, None, if◌then◌else◌, nat_le, refl, sym, ap, ◌∙◌, subst, All, arith}
+use Rattle.std.proofs.Common.{◌≡◌, ℕ, ◌<◌, ◌≤◌, ◌&&◌, Bool, true, false, true≢false, List, [], ◌∷◌, length, Option, Some, None, if◌then◌else◌, nat_le, refl, sym, ap, ◌∙◌, All, arith}
 use Rattle.std.specs.List.{AllByRecursion}
-use Rattle.std.proofs.lemmas.List.Elements.{All-map, recursion_from_All}
-use Rattle.std.proofs.lemmas.Option.{cond_some, same_Some}
+use Rattle.std.proofs.lemmas.List.Elements.{recursion_from_All}
 use Rattle.rational.proofs.Decide.{eq_ℚ-decides}
 use Rattle.rational.specs.Tests.{eq_ℚ}
 use Rattle.lists.specs.Options.{◌>>=◌}
-use Rattle.lists.proofs.OptionLemmas.{bind_some}
 use Rattle.rational.specs.Rational.{ℚ, ◌+ℚ◌, zero_ℚ, one_ℚ}
 use Rattle.game_core.specs.declared.tree.Action.{Action}
 use Rattle.game_core.specs.declared.token.Token.{Token}
 use Rattle.game_core.specs.declared.token.Token.TheVariants.{Left, Text, Number}
 use Rattle.file_parts.specs.Reading.{left_at, right_at, texts_at, opens}
-use Rattle.file_parts.proofs.TokenLaws.{left_is, passes_le, le_passes}
+use Rattle.file_parts.proofs.TokenLaws.{left_is, le_passes}
 use Rattle.written_trees.specs.Building.{may_follow, adds_up, may_be_first, repeats_actions}
 use Rattle.written_trees.specs.Laws.{HasNoProbability, IsActionList}
 use Rattle.written_trees.proofs.InsertedKeyLemmas.{eq_self}
-use Rattle.tree_grammar.specs.TreeReading.{chance_actions_at, own_action, actions_at, closed_at, action_list_at, summed_at, first_list_at, all_repeated_at, later_list_at}
+use Rattle.tree_grammar.specs.TreeReading.{chance_actions_at, actions_at, closed_at, action_list_at, summed_at, first_list_at, all_repeated_at, later_list_at}
 
 -- a reading of actions and their sum
 abbrev pub Summed : Type 0
@@ -140,25 +138,6 @@ pub chance_list_is : (owner : Option ℕ) (tokens inner : List Token) (sums : Su
 chance_list_is owner tokens inner sums o l s =
     let all : first_list_at None tokens ≡ (summed_at zero_ℚ inner >>= closed_sum) = first_list_is None tokens inner l ∙ sums_tested (chance_actions_at inner) ∙ ap (λ (r : Summed). r >>= closed_sum) (sym (summed_is zero_ℚ inner)) in
     rw (o, ← s) all
-
--- with what closes it and what the test says
-pub chance_list_by : (owner : Option ℕ) (n : ℕ) (tokens inner following : List Token) (actions : List Action) (sum : ℚ) (closed : Option (List Token)) (is : Bool) → owner ≡ None → left_at tokens ≡ Some inner → summed_at zero_ℚ inner ≡ Some ((actions, sum), following)
-    → n ≡ length actions → closed_at n following ≡ closed → eq_ℚ sum one_ℚ ≡ is → first_list_at owner tokens ≡ (closed >>= λ rest. if is then Some (actions, rest) else None)
-chance_list_by owner n tokens inner following actions sum closed is o l s e c t = rw (← c, ← t, e) (chance_list_is owner tokens inner (Some ((actions, sum), following)) o l s)
-
--- a player's actions have no probabilities
-pub own_list_so : (owner : Option ℕ) (i n : ℕ) (inner following rest : List Token) (actions : List Action) → owner ≡ Some i → actions_at (Some 0) inner ≡ Some (actions, following) → n ≡ length actions → closed_at n following ≡ Some rest → IsActionList owner actions
-own_list_so owner i n inner following rest actions o a e c =
-    let none : All (HasNoProbability (Some i)) (map own_action (texts_at inner).0) = All-map (HasNoProbability (Some i)) own_action (texts_at inner).0 (λ k d lt. refl) in
-    let all : All (HasNoProbability (Some i)) actions = subst (λ (x : List Action × List Token). All (HasNoProbability (Some i)) x.0) (same_Some _ _ a) none in
-    record { some_action = some; no_probabilities = subst (λ (who : Option ℕ). All (HasNoProbability who) actions) (sym o) all }
-  where
-    some : 0 < length actions
-    some =
-        let b = bind_some (right_at following) _ rest c in
-        let p = cond_some (nat_le 1 n) b.0 rest b.2 in
-        let le = passes_le 1 n p.0 in
-        omega arith
 
 -- ---- a later list
 -- the brace that closes actions, and whether they repeat others

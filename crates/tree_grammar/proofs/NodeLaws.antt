@@ -21,12 +21,6 @@ use Rattle.lists.proofs.OptionLemmas.{bind_some, either}
 use Rattle.game_core.specs.declared.token.Token.{Token}
 use Rattle.game_core.specs.declared.token.Token.TheVariants.{Text, Word}
 
--- ---- parts of what holds throughout
--- what holds of two lists in a row holds of the first
-pub of_front : {X : Type 0} (P : X → Type 0) (xs ys : List X) → AllByRecursion P (xs ++ ys) → AllByRecursion P xs
-of_front P [] ys h = tt
-of_front P (x ∷ xs) ys h = (h.0, of_front P xs ys h.1)
-
 -- and of the second
 pub of_back : {X : Type 0} (P : X → Type 0) (xs ys : List X) → AllByRecursion P (xs ++ ys) → AllByRecursion P ys
 of_back P [] ys h = h

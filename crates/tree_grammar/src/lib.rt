@@ -6,9 +6,9 @@
 //! part does, or give a `Refusal` with the fault's kind and the tokens left; `Sets` and `Outcomes`
 //! are seen as lists, in the order of first use.
 //! Definitions: `specs::TreeFile` has the grammar, `TreeParsing` the reading functions, and
-//! `FaultKinds` the kinds of faults and where they are.
-//! Private words: `specs::TreeReading` and `TreeFaults`, the nodes as they are read one by one;
-//! `Uses` and `UseCodes`, how sets and outcomes are kept and stored.
+//! `FaultKinds` and `TreeFaults` the kinds of faults and where they are.
+//! Private words: `specs::TreeReading`, the nodes as they are read one by one; `Uses` and
+//! `UseCodes`, how sets and outcomes are kept and stored.
 //! Lemmas for callers: `proofs::WholeFileLaws`, that what is read is a file; `NodePointLemmas` on
 //! faults; `ShortRestLemmas`, that the tokens after a part are short.
 //! A change here touches: `efg_reader`, which reads such files, and what `refusals` says of faults.

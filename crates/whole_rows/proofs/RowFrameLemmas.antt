@@ -5,7 +5,7 @@ use Rattle.std.proofs.lemmas.Bool.{cases_eq, cases_lt}
 use Rattle.rational.specs.Rational.{frac}
 use Rattle.frac128.specs.Fraction.{PartFits}
 use Rattle.frac128.specs.declared.steps.Unfit.{Unfit}
-use Rattle.linear_systems.proofs.PivotLemmas.{eqb_same, eqb_apart}
+use Rattle.linear_systems.proofs.PivotLemmas.{eqb_apart}
 use Rattle.whole_rows.specs.Rows.{from_place, fraction, IsRow}
 use Rattle.whole_rows.specs.Steps.{AllFit, IsFirstUnfit}
 use Rattle.whole_rows.specs.Pivots.{row_steps, pivot_steps}
@@ -37,10 +37,6 @@ outside i k size p n h = elim (cases_lt k i) [
 
 pub row_kept : (i k size : ℕ) (xs ys : List ℤ) → k ≢ i → ((j : ℕ) → (j < i * size) ⊎ (i * size + size ≤ j) → get_or ys j (pos 0) ≡ get_or xs j (pos 0)) → (p : ℕ) → p < size → from_place ys (k * size) p ≡ from_place xs (k * size) p
 row_kept i k size xs ys n h p hp = h (k * size + p) (outside i k size p n hp)
-
--- ---- the steps
-pub no_own_steps : (size : ℕ) (rows : ℕ → ℕ → ℤ) (r c i : ℕ) → i ≡ r → AllFit (cond (eqb i r) [] (row_steps size (rows i) (rows r) c))
-no_own_steps size rows r c i e = subst (λ i. AllFit (cond (eqb i r) [] (row_steps size (rows i) (rows r) c))) (sym e) (rw (eqb_same r) tt)
 
 pub own_steps : (size : ℕ) (rows : ℕ → ℕ → ℤ) (r c i : ℕ) → i ≢ r → cond (eqb i r) [] (row_steps size (rows i) (rows r) c) ≡ row_steps size (rows i) (rows r) c
 own_steps size rows r c i n = rw (eqb_apart i r n) refl

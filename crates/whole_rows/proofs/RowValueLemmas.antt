@@ -319,18 +319,12 @@ stored_pos n h l = subst (λ z. pos 0 <ℤ z) (sym (stored n l)) (positive_pos n
 pub row_size : (row : ℕ → ℤ) → pos 0 <ℤ row 0 → 0 < nat_abs (row 0)
 row_size row h = pos_abs (row 0) h
 
-pub factors_are : (p k g u v : ℤ) → g ≡ pos (gcd (nat_abs p) (nat_abs k)) → u ≡ div_ℤ (signed_by p p) (nat_abs g) → v ≡ div_ℤ (signed_by p k) (nat_abs g) → (u ≡ own_factor p k) × (v ≡ other_factor p k)
-factors_are p k g u v e f h = (f ∙ ap (λ z. div_ℤ (signed_by p p) (nat_abs z)) e, h ∙ ap (λ z. div_ℤ (signed_by p k) (nat_abs z)) e)
-
 -- the steps of a row with a number in the column
 pub steps_are : (size : ℕ) (row b : ℕ → ℤ) (c : ℕ) → row c ≢ pos 0 → row_steps size row b c ≡ steps_to row b c (own_factor (b c) (row c)) (other_factor (b c) (row c)) size
 steps_are size row b c h = rw (eqb_apart (nat_abs (row c)) 0 (λ e. size_ne (row c) h e)) refl
   where
     size_ne : (n : ℤ) → n ≢ pos 0 → nat_abs n ≡ 0 → ⊥
     size_ne n h e = let k : 0 < nat_abs n = nonzero_size n h in omega arith
-
-pub no_steps : (size : ℕ) (row b : ℕ → ℤ) (c : ℕ) → row c ≡ pos 0 → row_steps size row b c ≡ []
-no_steps size row b c h = rw h refl
 
 -- an exact quotient is the rounded one
 pub quotient_unique : (q n d : ℤ) → pos 0 <ℤ d → q *ℤ d ≡ n → q ≡ div_ℤ n (nat_abs d)

@@ -23,10 +23,6 @@ use Rattle.std.specs.declared.result.Result.{Result}
 use Rattle.whole_rows.proofs.RowFrameLemmas.{row_same}
 use Rattle.whole_rows.proofs.RowWriteLemmas.{all_fit-append, unfit_before, unfit_after, plus_one, kept_outside}
 
--- ---- the least common multiple of two numbers, as m times what d adds
-gcd_left : (m d : ℕ) → 0 < m → 0 < d → 0 < gcd m d
-gcd_left m d hm hd = gcd_pos m d hd
-
 lcm_times : (m d : ℕ) → m * (d / gcd m d) * gcd m d ≡ m * d
 lcm_times m d = let e : d / gcd m d * gcd m d ≡ d = div-mul_cancel (gcd m d) (gcd-is m d).1 in omega (arith, ap (λ x. m * x) e)
 

@@ -25,7 +25,7 @@ lp -P --prices game | Words
 lp --prices game | Lp { strategic: false, prices: true, file: Some("game") }
 check -S game | Check { strategic: true, game: "game", lines: None }
 make 1 2 2 | Make { number: 1, rows: 2, columns: 2, workers: 1 }
-enummixed -D -j 2 | Enummixed { undominated: true, workers: 2, file: None }
+enummixed -D -j 2 | Enummixed { all: true, workers: 2, file: None }
 make -j 2 1 2 2 | Make { number: 1, rows: 2, columns: 2, workers: 2 }
 convert -O html -r 2 | Convert { html: true, row: 2, column: 2, file: None }"#;
 
@@ -120,12 +120,12 @@ lp -- --prices | Lp { strategic: false, prices: false, file: Some("--prices") }
 lp -prices | Words"#;
 
 // Numbers of workers, rows and columns.
-const NUMBERS: &str = r#"enummixed -j 1 | Enummixed { undominated: false, workers: 1, file: None }
-enummixed -j64 | Enummixed { undominated: false, workers: 64, file: None }
-enummixed -j=7 x | Enummixed { undominated: false, workers: 7, file: Some("x") }
+const NUMBERS: &str = r#"enummixed -j 1 | Enummixed { all: false, workers: 1, file: None }
+enummixed -j64 | Enummixed { all: false, workers: 64, file: None }
+enummixed -j=7 x | Enummixed { all: false, workers: 7, file: Some("x") }
 enummixed -j 0 | Words
-enummixed -j 01 | Enummixed { undominated: false, workers: 1, file: None }
-enummixed -j 0000000001 | Enummixed { undominated: false, workers: 1, file: None }
+enummixed -j 01 | Enummixed { all: false, workers: 1, file: None }
+enummixed -j 0000000001 | Enummixed { all: false, workers: 1, file: None }
 enummixed -j 00000000001 | Words
 enummixed -j -1 | Words
 enummixed -j-1 | Words
@@ -137,7 +137,7 @@ enummixed -j 1 -j 1 | Words
 enummixed -j 1x | Words
 enummixed -j ١ | Words
 enummixed -Dj | Words
-enummixed -Dj3 | Enummixed { undominated: true, workers: 3, file: None }
+enummixed -Dj3 | Enummixed { all: true, workers: 3, file: None }
 enummixed -jD | Words
 make 0 1 32 | Make { number: 0, rows: 1, columns: 32, workers: 1 }
 make 2147483647 32 1 | Make { number: 2147483647, rows: 32, columns: 1, workers: 1 }

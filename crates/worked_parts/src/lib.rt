@@ -1,5 +1,5 @@
-//! Fractions, numbers, tokens, lines and command lines, as tests over their crates. Nothing here is
-//! called by the program.
+//! Fractions, numbers, tokens, tables, lines and command lines, as tests over their crates. Nothing
+//! here is called by the program.
 #![tactic(auto)]
 
 #[cfg(test)]
@@ -10,5 +10,7 @@ mod fractions;
 mod lines;
 #[cfg(test)]
 mod numbers;
+#[cfg(test)]
+mod tables;
 #[cfg(test)]
 mod tokens;

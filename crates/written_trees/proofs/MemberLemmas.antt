@@ -5,7 +5,8 @@ use Rattle.std.proofs.lemmas.List.Elements.{All-head, All-tail}
 use Rattle.std.proofs.lemmas.Option.{slice_get_within}
 use Rattle.lists.proofs.ElementLemmas.{test_in_front}
 use Rattle.game_core.specs.declared.tree.Node.{Node}
-use Rattle.game_core.specs.Tree.{IsWithin, is_set, members_from}
+use Rattle.game_theory.specs.Behaviour.{is_index}
+use Rattle.game_core.specs.Tree.{IsWithin, members_from}
 use Rattle.written_trees.specs.Building.{PartialSet}
 use Rattle.written_trees.proofs.ListLemmas.{slice_get-push_cases, slice_get-set_cases}
 
@@ -14,26 +15,26 @@ abbrev pub NameSets : ℕ → List Node → Type 0
 NameSets n nodes = All (λ node. IsWithin n node.set) nodes
 
 -- the last node comes last
-members_from-push : (k s : ℕ) (nodes : List Node) (node : Node) → members_from k s (nodes ++ node ∷ []) ≡ members_from k s nodes ++ (cond (is_set s node.set) ((k + length nodes) ∷ []) [])
+members_from-push : (k s : ℕ) (nodes : List Node) (node : Node) → members_from k s (nodes ++ node ∷ []) ≡ members_from k s nodes ++ (cond (is_index node.set s) ((k + length nodes) ∷ []) [])
 members_from-push k s [] node =
     let e : k + 0 ≡ k = omega arith in
     rw e refl
 members_from-push k s (one ∷ nodes) node =
     let e : k + suc (length nodes) ≡ suc k + length nodes = omega arith in
-    rw e (test_in_front (is_set s one.set) k _ _ _ (members_from-push (suc k) s nodes node))
+    rw e (test_in_front (is_index one.set s) k _ _ _ (members_from-push (suc k) s nodes node))
 
 -- a number is itself
-is_set-same : (s : ℕ) → is_set s (Some s) ≡ true
-is_set-same s = grind (arith, nat_tests)
+is_index-same : (s : ℕ) → is_index (Some s) s ≡ true
+is_index-same s = grind (arith, nat_tests)
 
 -- and no other
-is_set-other : (s p : ℕ) → (s ≡ p → ⊥) → is_set s (Some p) ≡ false
-is_set-other s p h = grind (arith, nat_tests)
+is_index-other : (s p : ℕ) → (s ≡ p → ⊥) → is_index (Some p) s ≡ false
+is_index-other s p h = grind (arith, nat_tests)
 
 -- no node names a set past the end
-past : (s : ℕ) (number : Option ℕ) → IsWithin s number → is_set s number ≡ false
+past : (s : ℕ) (number : Option ℕ) → IsWithin s number → is_index number s ≡ false
 past s None h = refl
-past s (Some p) h = is_set-other s p (λ e. omega arith)
+past s (Some p) h = is_index-other s p (λ e. omega arith)
 
 -- so it has no members
 no_members : (k s : ℕ) (nodes : List Node) → NameSets s nodes → members_from k s nodes ≡ []
@@ -52,14 +53,14 @@ abbrev pub HaveMembers : List Node → List PartialSet → Type 0
 HaveMembers nodes sets = (s : ℕ) (set : PartialSet) → slice_get sets s ≡ Some set → HasMembers nodes s set
 
 -- a node that does not name a set
-unnamed : (nodes : List Node) (node : Node) (s : ℕ) (set : PartialSet) → is_set s node.set ≡ false → HasMembers nodes s set → HasMembers (nodes ++ node ∷ []) s set
+unnamed : (nodes : List Node) (node : Node) (s : ℕ) (set : PartialSet) → is_index node.set s ≡ false → HasMembers nodes s set → HasMembers (nodes ++ node ∷ []) s set
 unnamed nodes node s set e h = record {
   are = h.are ∙ sym (append-nil (members_from 0 s nodes)) ∙ sym (members_from-push 0 s nodes node ∙ rw e refl);
   some = h.some;
 }
 
 -- a node that names a set comes last among its members
-named : (nodes : List Node) (node : Node) (s : ℕ) (set : PartialSet) → is_set s node.set ≡ true → set.members ≡ members_from 0 s nodes ++ length nodes ∷ [] → HasMembers (nodes ++ node ∷ []) s set
+named : (nodes : List Node) (node : Node) (s : ℕ) (set : PartialSet) → is_index node.set s ≡ true → set.members ≡ members_from 0 s nodes ++ length nodes ∷ [] → HasMembers (nodes ++ node ∷ []) s set
 named nodes node s set e h = record {
   are = h ∙ sym (members_from-push 0 s nodes node ∙ rw e (ap (λ k. members_from 0 s nodes ++ k ∷ []) (omega arith)));
   some = rw (h, length-append (members_from 0 s nodes) (length nodes ∷ [])) (omega arith);
@@ -74,17 +75,17 @@ pub have_members-new : (nodes : List Node) (node : Node) (sets : List PartialSet
 have_members-new nodes node sets new is one within h s set e = elim (slice_get-push_cases sets new s set e) [
   | inl old ↦
       let less = slice_get_within sets s set old in
-      unnamed nodes node s set (rw is (is_set-other s (length sets) (λ q. omega arith))) (h s set old)
+      unnamed nodes node s set (rw is (is_index-other s (length sets) (λ q. omega arith))) (h s set old)
   | inr here ↦
       let none : members_from 0 s nodes ≡ [] = rw here.0 (no_members 0 (length sets) nodes within) in
-      named nodes node s set (rw (is, here.0) (is_set-same (length sets))) (rw (here.1, one, none) refl)
+      named nodes node s set (rw (is, here.0) (is_index-same (length sets))) (rw (here.1, one, none) refl)
 ]
 
 -- a node that names a set again
 pub have_members-again : (nodes : List Node) (node : Node) (sets : List PartialSet) (p : ℕ) (old new : PartialSet) → node.set ≡ Some p → slice_get sets p ≡ Some old → new.members ≡ old.members ++ length nodes ∷ [] → HaveMembers nodes sets → HaveMembers (nodes ++ node ∷ []) (slice_set sets p new)
 have_members-again nodes node sets p old new is there one h s at e = elim (slice_get-set_cases sets p new s at e) [
-  | inl other ↦ unnamed nodes node s at (rw is (is_set-other s p other.0)) (h s at other.1)
+  | inl other ↦ unnamed nodes node s at (rw is (is_index-other s p other.0)) (h s at other.1)
   | inr here ↦
       let before : old.members ≡ members_from 0 s nodes = rw here.0 ((h p old there).are) in
-      named nodes node s at (rw (is, here.0) (is_set-same p)) (rw (here.1, one, before) refl)
+      named nodes node s at (rw (is, here.0) (is_index-same p)) (rw (here.1, one, before) refl)
 ]

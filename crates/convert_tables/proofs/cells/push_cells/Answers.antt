@@ -1,7 +1,6 @@
 use Rattle.std.proofs.Common.{◌≡◌, ◌+◌, ◌*◌, ◌++◌, ap, ◌∙◌, arith}
 use Rattle.std.specs.List.{flat_map, range_with_len}
 use Rattle.convert_tables.specs.Layouts.{cell_text, strategy_count}
-use Rattle.convert_tables.proofs.CellPlaceLemmas.{count_is}
 use Rattle.convert_tables.proofs.NumberedTextLemmas.{each-next}
 use Rattle.convert_tables.proofs.cells.push_cells.Goals as goal
 
@@ -13,5 +12,5 @@ loop-column-preserved c =
 pub returns : goal.returns
 returns c =
     let l = c.args.plan.now in
-    let all : c.loop-column.column ≡ strategy_count l.table.now l.column = omega (arith, count_is l.table.now l.column c.strategies-column-end.result.now c.strategies-column-end.ensures.strategies) in
+    let all : c.loop-column.column ≡ strategy_count l.table.now l.column = omega (arith, c.strategy_count-column-end.ensures.count) in
     c.loop-column.invariant ∙ ap (λ n. c.args.text.now.items ++ flat_map (λ k. cell_text l.style l.table.now l.row l.column (c.args.first + l.column_stride * k)) (range_with_len 0 n)) all

@@ -5,7 +5,8 @@ use Rattle.convert_tables.specs.Layouts.{cell_text, cells_text, cell_number, str
 use Rattle.convert_tables.specs.declared.marks.Mark.TheVariants.{RowStart, RowNameEnd}
 use Rattle.convert_tables.specs.Names.{marked_text}
 use Rattle.convert_tables.specs.declared.cells.Plan.{Plan}
-use Rattle.convert_tables.proofs.CellPlaceLemmas.{AreAxes, IsChoice, IsChoice-profile, AreCells, AreCells-row, first_few, count_is, strategy_name_is}
+use Rattle.game_core.proofs.TableCountLemmas.{strategy_count-names}
+use Rattle.convert_tables.proofs.CellPlaceLemmas.{AreAxes, IsChoice, IsChoice-profile, AreCells, AreCells-row, first_few, strategy_name_is}
 use Rattle.convert_tables.proofs.PlanAxisLemmas.{axes}
 use Rattle.convert_tables.proofs.NumberedTextLemmas.{each-same, three_parts}
 use Rattle.convert_tables.proofs.cells.push_row.Goals as goal
@@ -45,7 +46,7 @@ overflow_add-first c =
 pub bounds-names-strategy : goal.bounds-names-strategy
 bounds-names-strategy c =
     let l = c.args.plan.now in
-    omega (arith, c.requires.strategy, count_is l.table.now l.row c.strategies-names.result.now c.strategies-names.ensures.strategies)
+    omega (arith, c.requires.strategy, strategy_count-names l.table.now l.row c.strategies-names.result.now c.strategies-names.ensures.strategies)
 
 pub push_cells-requires : goal.push_cells-requires
 push_cells-requires c k b =
@@ -58,7 +59,7 @@ push_cells-requires c k b =
 pub row_end-requires : goal.row_end-requires
 row_end-requires c =
     let l = c.args.plan.now in
-    omega (arith, c.requires.strategy, count_is l.table.now l.row c.strategies-names.result.now c.strategies-names.ensures.strategies)
+    omega (arith, c.requires.strategy, strategy_count-names l.table.now l.row c.strategies-names.result.now c.strategies-names.ensures.strategies)
 
 pub returns : goal.returns
 returns c =
@@ -71,7 +72,7 @@ returns c =
     let is = IsChoice-profile t l.row l.column choice h c.requires.choice in
     let first = c.profile_number.result + l.row_stride * r in
     let places = cells l choice c.profile_number.result r h is c.requires.strategy c.profile_number.ensures.number in
-    let rows : strategy_count t l.row ≡ length names = count_is t l.row names c.strategies-names.ensures.strategies in
+    let rows : strategy_count t l.row ≡ length names = strategy_count-names t l.row names c.strategies-names.ensures.strategies in
     let in_names : r < length names = omega (arith, c.requires.strategy) in
     let name : c.bytes-name.result.now ≡ strategy_name t l.row r = c.bytes-name.ensures ∙ sym (strategy_name_is t l.row r names c.index-names-strategy.result c.strategies-names.ensures.strategies in_names c.index-names-strategy.is) in
     let cell : (k : ℕ) → k < strategy_count t l.column → cell_text l.style t l.row l.column (first + l.column_stride * k) ≡ cell_text l.style t l.row l.column (cell_number t l.row l.column choice r k) =

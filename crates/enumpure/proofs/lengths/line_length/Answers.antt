@@ -4,7 +4,7 @@ use Rattle.std.proofs.lemmas.List.Sums.{sum_by_more, sum_by_more_le}
 use Rattle.game_core.proofs.TableCountLemmas.{length-strategy_counts}
 use Rattle.game_core.specs.Table.{strategy_counts}
 use Rattle.enumpure.proofs.LineLengthLemmas.{all_counted, sum-table, few_bytes, length-line_none, length-line_text}
-use Rattle.enumpure.proofs.StrideLemmas.{HaveStrategies-table}
+use Rattle.game_core.proofs.StrideLemmas.{HaveStrategies-table}
 use Rattle.enumpure.proofs.lengths.line_length.Goals as goal
 
 pub overflow_add-strategies : goal.overflow_add-strategies
@@ -12,14 +12,14 @@ overflow_add-strategies c =
     let t = c.args.table.now in
     let valid = c.players-player-end.ensures.valid in
     let player : c.loop-player.player < length (strategy_counts t) = omega (arith, length-strategy_counts t valid, ap length c.players-player-end.ensures.players) in
-    omega (arith, c.loop-player.invariant, c.strategy_count-strategies.ensures, sum_by_more_le (λ n. n) (strategy_counts t) c.loop-player.player 0 player, sum-table t valid)
+    omega (arith, c.loop-player.invariant, c.strategy_count-strategies.ensures.count, sum_by_more_le (λ n. n) (strategy_counts t) c.loop-player.player 0 player, sum-table t valid)
 
 pub loop-player-preserved : goal.loop-player-preserved
 loop-player-preserved c =
     let t = c.args.table.now in
     let player : c.loop-player.player < length (strategy_counts t) = omega (arith, length-strategy_counts t c.players-player-end.ensures.valid, ap length c.players-player-end.ensures.players) in
     let was : c.loop-player.strategies ≡ sum_by (λ n. n) (take c.loop-player.player (strategy_counts t)) = c.loop-player.invariant in
-    ap₂ (λ x y. x + y) was c.strategy_count-strategies.ensures ∙ sym (sum_by_more (λ n. n) (strategy_counts t) c.loop-player.player 0 player)
+    ap₂ (λ x y. x + y) was c.strategy_count-strategies.ensures.count ∙ sym (sum_by_more (λ n. n) (strategy_counts t) c.loop-player.player 0 player)
 
 pub overflow_mul-result : goal.overflow_mul-result
 overflow_mul-result c =

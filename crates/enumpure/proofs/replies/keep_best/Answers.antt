@@ -17,8 +17,8 @@ loop-strategy-preserved c =
     let mid = c.loop-strategy.all_best in
     let best = c.args.best in
     elim c.if-is_less.branch [
-      | then-is_less w ↦ subst (λ v. KeepsBestInLine p c.args.first c.args.stride (n + 1) best old v) (sym w.all_best-is) (KeepsBestInLine-clear p c.args.first c.args.stride n best old mid c.requires.stride (omega (arith, c.requires.profiles n (omega arith))) (subst (λ v. v <ℚ best) c.payoff.ensures (c.is_less.ensures.0 w.if-is_less.true)) c.loop-strategy.invariant)
-      | else-is_less w ↦ subst (λ v. KeepsBestInLine p c.args.first c.args.stride (n + 1) best old v) (sym w.all_best-is) (KeepsBestInLine-keep p c.args.first c.args.stride n best old mid c.requires.stride (λ l. cc (w.if-is_less.false, c.is_less.ensures.1 (subst (λ v. v <ℚ best) (sym c.payoff.ensures) l))) c.loop-strategy.invariant)
+      | then-is_less w ↦ subst (λ v. KeepsBestInLine p c.args.first c.args.stride (n + 1) best old v) (sym w.all_best-is) (KeepsBestInLine-clear p c.args.first c.args.stride n best old mid c.requires.stride (omega (arith, c.requires.profiles n (omega arith))) (subst (λ v. v <ℚ best) c.payoff_at.ensures (c.is_less.ensures.0 w.if-is_less.true)) c.loop-strategy.invariant)
+      | else-is_less w ↦ subst (λ v. KeepsBestInLine p c.args.first c.args.stride (n + 1) best old v) (sym w.all_best-is) (KeepsBestInLine-keep p c.args.first c.args.stride n best old mid c.requires.stride (λ l. cc (w.if-is_less.false, c.is_less.ensures.1 (subst (λ v. v <ℚ best) (sym c.payoff_at.ensures) l))) c.loop-strategy.invariant)
     ]
 
 pub returns : goal.returns

@@ -3,7 +3,7 @@ use Rattle.game_core.proofs.TableCountLemmas.{length-strategy_counts}
 use Rattle.game_core.specs.Table.{game_of, strategy_counts}
 use Rattle.enumpure.specs.Replies.{IsBest, KeepsBestInLine}
 use Rattle.enumpure.proofs.ExchangeLemmas.{strategy_at-by_stride, strides_away-below}
-use Rattle.enumpure.proofs.StrideLemmas.{HaveStrategies-table, stride-positive}
+use Rattle.game_core.proofs.StrideLemmas.{HaveStrategies-table, stride-positive}
 use Rattle.enumpure.proofs.KeptReplyLemmas.{KeepsBestBelow, KeepsBestBelow-none, KeepsBestBelow-skip, KeepsBestBelow-step, KeepsBestReplies-all}
 use Rattle.enumpure.proofs.replies.keep_best_of_player.Goals as goal
 use Rattle.enumpure.proofs.replies.keep_best_of_player.Goals.{then-first-stride-eq0, else-first-stride-eq0}
@@ -25,7 +25,7 @@ pub best_payoff-best-requires-clause-profiles : goal.best_payoff-best-requires-c
 best_payoff-best-requires-clause-profiles c s l =
     let t = c.args.table.now in
     let player : c.args.player < length (strategy_counts t) = omega (arith, length-strategy_counts t c.requires.valid) in
-    strides_away-below (strategy_counts t) c.loop-first.first c.args.player c.args.stride s (record { number = omega arith; player = player }) (strategy_at-by_stride (strategy_counts t) c.loop-first.first c.args.player c.args.stride c.strategy_count-strategies.result player c.requires.stride c.strategy_count-strategies.ensures ∙ c.if-first-stride-eq0.true) c.requires.stride l
+    strides_away-below (strategy_counts t) c.loop-first.first c.args.player c.stride-stride.result s (record { number = omega arith; player = player }) (strategy_at-by_stride (strategy_counts t) c.loop-first.first c.args.player c.stride-stride.result c.strategy_count-strategies.result player c.stride-stride.ensures c.strategy_count-strategies.ensures.count ∙ c.if-first-stride-eq0.true) c.stride-stride.ensures l
 
 pub keep_best-requires-clause-stride : goal.keep_best-requires-clause-stride
 keep_best-requires-clause-stride c =
@@ -36,7 +36,7 @@ pub keep_best-requires-clause-profiles : goal.keep_best-requires-clause-profiles
 keep_best-requires-clause-profiles c s l =
     let t = c.args.table.now in
     let player : c.args.player < length (strategy_counts t) = omega (arith, length-strategy_counts t c.requires.valid) in
-    strides_away-below (strategy_counts t) c.loop-first.first c.args.player c.args.stride s (record { number = omega arith; player = player }) (strategy_at-by_stride (strategy_counts t) c.loop-first.first c.args.player c.args.stride c.strategy_count-strategies.result player c.requires.stride c.strategy_count-strategies.ensures ∙ c.if-first-stride-eq0.true) c.requires.stride l
+    strides_away-below (strategy_counts t) c.loop-first.first c.args.player c.stride-stride.result s (record { number = omega arith; player = player }) (strategy_at-by_stride (strategy_counts t) c.loop-first.first c.args.player c.stride-stride.result c.strategy_count-strategies.result player c.stride-stride.ensures c.strategy_count-strategies.ensures.count ∙ c.if-first-stride-eq0.true) c.stride-stride.ensures l
 
 pub loop-first-preserved : goal.loop-first-preserved
 loop-first-preserved c =
@@ -48,9 +48,9 @@ loop-first-preserved c =
     let mid = c.loop-first.all_best in
     let player : i < length (strategy_counts t) = omega (arith, length-strategy_counts t c.requires.valid) in
     let some : 0 < get_or (strategy_counts t) i 0 = (HaveStrategies-table t c.requires.valid).some i player in
-    let played = strategy_at-by_stride (strategy_counts t) k i c.args.stride c.strategy_count-strategies.result player c.requires.stride c.strategy_count-strategies.ensures in
+    let played = strategy_at-by_stride (strategy_counts t) k i c.stride-stride.result c.strategy_count-strategies.result player c.stride-stride.ensures c.strategy_count-strategies.ensures.count in
     elim c.if-first-stride-eq0.branch [
-      | then-first-stride-eq0 w ↦ subst (λ v. KeepsBestBelow g i old v (k + 1)) (sym w.all_best-is) (KeepsBestBelow-step g i old mid w.keep_best.new.all_best k w.best_payoff-best.result (omega arith) player some (played ∙ w.if-first-stride-eq0.true) (subst (λ d. IsBest (g.pays i) k d (get_or (strategy_counts t) i 0) w.best_payoff-best.result) c.requires.stride w.best_payoff-best.ensures) (subst (λ d. KeepsBestInLine (g.pays i) k d (get_or (strategy_counts t) i 0) w.best_payoff-best.result mid w.keep_best.new.all_best) c.requires.stride w.keep_best.ensures.in_line) c.loop-first.invariant)
+      | then-first-stride-eq0 w ↦ subst (λ v. KeepsBestBelow g i old v (k + 1)) (sym w.all_best-is) (KeepsBestBelow-step g i old mid w.keep_best.new.all_best k w.best_payoff-best.result (omega arith) player some (played ∙ w.if-first-stride-eq0.true) (subst (λ d. IsBest (g.pays i) k d (get_or (strategy_counts t) i 0) w.best_payoff-best.result) c.stride-stride.ensures w.best_payoff-best.ensures) (subst (λ d. KeepsBestInLine (g.pays i) k d (get_or (strategy_counts t) i 0) w.best_payoff-best.result mid w.keep_best.new.all_best) c.stride-stride.ensures w.keep_best.ensures.in_line) c.loop-first.invariant)
       | else-first-stride-eq0 w ↦ subst (λ v. KeepsBestBelow g i old v (k + 1)) (sym w.all_best-is) (KeepsBestBelow-skip g i old mid k player some (λ z. w.if-first-stride-eq0.false (sym played ∙ z)) c.loop-first.invariant)
     ]
 

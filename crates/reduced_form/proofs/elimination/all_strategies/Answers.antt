@@ -3,7 +3,6 @@ use Rattle.std.proofs.lemmas.Bool.{cases_eq}
 use Rattle.extreme_equilibria.specs.Elimination.{AreListed, IsKeptAfter}
 use Rattle.game_core.specs.Table.{game_of}
 use Rattle.extreme_equilibria.proofs.KeptListLemmas.{listed-push, listed-same}
-use Rattle.game_core.proofs.TableCountLemmas.{strategy_count-names}
 use Rattle.reduced_form.proofs.EliminationLemmas.{none-listed}
 use Rattle.reduced_form.proofs.elimination.all_strategies.Goals as goal
 
@@ -12,7 +11,7 @@ loop-strategy-init c = none-listed c.in_ok-all.all.items (c.in_ok-all.ensures {u
 
 pub overflow_cast-strategy : goal.overflow_cast-strategy
 overflow_cast-strategy c =
-    omega (arith, c.requires.few, strategy_count-names c.args.table.now c.args.player c.strategies-count.result.now c.strategies-count.ensures.strategies)
+    omega (arith, c.requires.few, c.strategy_count-count.ensures.count)
 
 pub loop-strategy-preserved : goal.loop-strategy-preserved
 loop-strategy-preserved c =
@@ -23,5 +22,5 @@ loop-strategy-preserved c =
 pub returns : goal.returns
 returns c =
     let n = c.loop-strategy.strategy in
-    let e = strategy_count-names c.args.table.now c.args.player c.strategies-count.result.now c.strategies-count.ensures.strategies in
+    let e = c.strategy_count-count.ensures.count in
     listed-same (λ s. s < n) (IsKeptAfter (game_of c.args.table.now) 0 c.args.player) c.loop-strategy.all.items c.loop-strategy.invariant (λ s l. omega arith) (λ s l. omega arith)

@@ -1,8 +1,7 @@
-use Rattle.std.proofs.Common.{◌≡◌, ◌∙◌, ◌∷◌, [], length, ap, ap₂, arith}
+use Rattle.std.proofs.Common.{◌≡◌, ◌∙◌, ◌∷◌, [], length, sym, ap, ap₂, arith}
 use Rattle.game_core.specs.Table.{strategy_counts}
-use Rattle.game_core.proofs.TableCountLemmas.{length-strategy_counts}
 use Rattle.lists.proofs.ElementLemmas.{two-elements}
-use Rattle.game_core.proofs.TableCountLemmas.{few_players, strategy_count-names}
+use Rattle.game_core.proofs.TableCountLemmas.{few_players, length-strategy_counts}
 use Rattle.reduced_form.specs.Kept.{HasFewStrategies}
 use Rattle.reduced_form.proofs.kept.undominated.Goals as goal
 use Rattle.reduced_form.proofs.kept.undominated.Goals.{Else-strategies-gt-MOST_STRATEGIES}
@@ -17,9 +16,9 @@ few c =
     let t = c.args.table.now in
     let two : length (strategy_counts t) ≡ 2 = length-strategy_counts t c.players-players.ensures.valid ∙ omega (arith, ap length c.players-players.ensures.players, c.if-players-ne2.false) in
     record {
-      m = length c.strategies.result.now;
-      n = length c.strategies-2.result.now;
-      strategies = two-elements (strategy_counts t) two ∙ ap₂ (λ m n. m ∷ n ∷ []) (strategy_count-names t 0 c.strategies.result.now c.strategies.ensures.strategies) (strategy_count-names t 1 c.strategies-2.result.now c.strategies-2.ensures.strategies);
+      m = c.strategy_count.result;
+      n = c.strategy_count-2.result;
+      strategies = two-elements (strategy_counts t) two ∙ ap₂ (λ m n. m ∷ n ∷ []) (sym c.strategy_count.ensures.count) (sym c.strategy_count-2.ensures.count);
       few = omega (arith, c.if-strategies-gt-MOST_STRATEGIES.false);
     }
 

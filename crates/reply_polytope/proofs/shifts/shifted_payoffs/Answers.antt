@@ -27,7 +27,7 @@ returns-in-Err-add c =
     let u = (game_of c.args.table.now).pays c.args.player in
     let least = c.least_payoff-least.result in
     let shift : c.in-Ok.shift ≡ shift_of least = c.in-Ok.ensures.value ∙ ap (λ x. x -ℚ least) c.one.ensures in
-    let read = c.payoff.ensures in
+    let read = c.payoff_at.ensures in
     inr (
       refl,
       record {
@@ -49,7 +49,7 @@ loop-profile-preserved c =
     let xs = c.loop-profile.shifted.items in
     let sum = c.in-Ok-add.sum in
     let items : c.push.new.self.items ≡ xs ++ sum ∷ [] = c.in_ok-push-in-Ok-add.ensures.items in
-    let read = c.payoff.ensures in
+    let read = c.payoff_at.ensures in
     record {
       count = ap length items ∙ length_push xs sum ∙ omega (arith, c.loop-profile.invariant.count);
       are_sums = λ k l. ap (λ ys. get_or ys k zero_ℚ) items ∙ sums_next n u c.in-Ok.shift sum xs c.loop-profile.invariant.count c.loop-profile.invariant.are_sums (c.in-Ok-add.ensures.value ∙ ap (λ x. x +ℚ c.in-Ok.shift) read) k l;

@@ -15,7 +15,7 @@ shifted_payoffs-requires-clause-some c =
     let t = c.args.table.now in
     let valid = c.players-players.ensures.valid in
     let two : length t.players ≡ 2 = omega (arith, ap length c.players-players.ensures.players, c.if-players-ne2.false) in
-    subst (λ k. 0 < k) (sym (profiles-are t valid two c.strategy_count-rows.result c.strategy_count-columns.result c.strategy_count-rows.ensures c.strategy_count-columns.ensures)) (some_profile t valid)
+    subst (λ k. 0 < k) (sym (profiles-are t valid two c.strategy_count-rows.result c.strategy_count-columns.result c.strategy_count-rows.ensures.count c.strategy_count-columns.ensures.count)) (some_profile t valid)
 
 pub returns-in-Err-shifted_payoffs : goal.returns-in-Err-shifted_payoffs
 returns-in-Err-shifted_payoffs c = elim c.in-Err-shifted_payoffs.ensures [
@@ -23,7 +23,7 @@ returns-in-Err-shifted_payoffs c = elim c.in-Err-shifted_payoffs.ensures [
   | inr stop ↦ let t = c.args.table.now in
       let valid = c.players-players.ensures.valid in
       let two : length t.players ≡ 2 = omega (arith, ap length c.players-players.ensures.players, c.if-players-ne2.false) in
-      inr (second_stop t valid two c.strategy_count-rows.result c.strategy_count-columns.result c.strategy_count-rows.ensures c.strategy_count-columns.ensures (omega (arith, c.if-rows-columns-gt-MOST_LABELS.false)) c.in-Ok.first.items c.in-Ok.ensures c.in-Err-shifted_payoffs.stop stop)
+      inr (second_stop t valid two c.strategy_count-rows.result c.strategy_count-columns.result c.strategy_count-rows.ensures.count c.strategy_count-columns.ensures.count (omega (arith, c.if-rows-columns-gt-MOST_LABELS.false)) c.in-Ok.first.items c.in-Ok.ensures c.in-Err-shifted_payoffs.stop stop)
 ]
 
 pub second_reply_system-requires-clause-payoffs : goal.second_reply_system-requires-clause-payoffs
@@ -31,7 +31,7 @@ second_reply_system-requires-clause-payoffs c =
     let t = c.args.table.now in
     let valid = c.players-players.ensures.valid in
     let two : length t.players ≡ 2 = omega (arith, ap length c.players-players.ensures.players, c.if-players-ne2.false) in
-    ap length c.deref-2.ensures.value ∙ c.in-Ok.ensures.count ∙ sym (profiles-are t valid two c.strategy_count-rows.result c.strategy_count-columns.result c.strategy_count-rows.ensures c.strategy_count-columns.ensures)
+    ap length c.deref-2.ensures.value ∙ c.in-Ok.ensures.count ∙ sym (profiles-are t valid two c.strategy_count-rows.result c.strategy_count-columns.result c.strategy_count-rows.ensures.count c.strategy_count-columns.ensures.count)
 
 pub returns : goal.returns
 returns c =
@@ -40,6 +40,6 @@ returns c =
     let two : length t.players ≡ 2 = omega (arith, ap length c.players-players.ensures.players, c.if-players-ne2.false) in
     let m = c.strategy_count-rows.result in
     let n = c.strategy_count-columns.result in
-    polytopes-are t valid two m n c.strategy_count-rows.ensures c.strategy_count-columns.ensures (omega (arith, c.if-rows-columns-gt-MOST_LABELS.false)) c.in-Ok.first.items c.in-Ok-shifted_payoffs.second.items c.in-Ok.ensures c.in-Ok-shifted_payoffs.ensures c.in_ok-one.one c.in_ok-two.two
+    polytopes-are t valid two m n c.strategy_count-rows.ensures.count c.strategy_count-columns.ensures.count (omega (arith, c.if-rows-columns-gt-MOST_LABELS.false)) c.in-Ok.first.items c.in-Ok-shifted_payoffs.second.items c.in-Ok.ensures c.in-Ok-shifted_payoffs.ensures c.in_ok-one.one c.in_ok-two.two
     (subst (λ xs. IsRatedSystem (first_system m n (cell_in xs m 1)) c.in_ok-one.one) c.deref.ensures.value c.in_ok-one.ensures)
     (subst (λ xs. IsRatedSystem (second_system m n (cell_in xs 1 m)) c.in_ok-two.two) c.deref-2.ensures.value c.in_ok-two.ensures)

@@ -4,43 +4,43 @@ use Rattle.sequence_data.specs.declared.types.Leaf.{Leaf}
 use Rattle.sequence_form.specs.Laws.{columns_of, rows_of}
 use Rattle.sequence_form.specs.Sequences.{start_side}
 use Rattle.sequence_form.proofs.BuiltFormLemmas.{table-gives}
-use Rattle.game_core.proofs.TableCountLemmas.{few_players, strategy_count-names}
+use Rattle.game_core.proofs.TableCountLemmas.{few_players}
 use Rattle.sequence_form.proofs.TableLeafLemmas.{columns-few, profiles-fit, rows-few, some-columns, some-profile, some-rows, start-is_side}
 use Rattle.sequence_form.proofs.table.build_table.Goals as goal
 
 pub overflow_cast-result : goal.overflow_cast-result
 overflow_cast-result c = omega (arith, few_players c.args.table.now c.players-players.ensures.valid, ap length c.players-players.ensures.players)
 
-pub overflow_cast-strategies : goal.overflow_cast-strategies
-overflow_cast-strategies c =
+pub overflow_cast-strategy_count : goal.overflow_cast-strategy_count
+overflow_cast-strategy_count c =
     let two = ap length (sym c.players-players.ensures.players) ∙ c.if-players-ne2.false in
-    omega (arith, rows-few c.args.table.now c.players-players.ensures.valid two, strategy_count-names c.args.table.now 0 c.strategies.result.now c.strategies.ensures.strategies)
+    omega (arith, rows-few c.args.table.now c.players-players.ensures.valid two, c.strategy_count.ensures.count)
 
 pub start_side-requires : goal.start_side-requires
 start_side-requires c =
     let two = ap length (sym c.players-players.ensures.players) ∙ c.if-players-ne2.false in
-    omega (arith, rows-few c.args.table.now c.players-players.ensures.valid two, strategy_count-names c.args.table.now 0 c.strategies.result.now c.strategies.ensures.strategies)
+    omega (arith, rows-few c.args.table.now c.players-players.ensures.valid two, c.strategy_count.ensures.count)
 
-pub overflow_cast-strategies-2 : goal.overflow_cast-strategies-2
-overflow_cast-strategies-2 c =
+pub overflow_cast-strategy_count-2 : goal.overflow_cast-strategy_count-2
+overflow_cast-strategy_count-2 c =
     let two = ap length (sym c.players-players.ensures.players) ∙ c.if-players-ne2.false in
-    omega (arith, columns-few c.args.table.now c.players-players.ensures.valid two, strategy_count-names c.args.table.now 1 c.strategies-2.result.now c.strategies-2.ensures.strategies)
+    omega (arith, columns-few c.args.table.now c.players-players.ensures.valid two, c.strategy_count-2.ensures.count)
 
 pub start_side-requires-2 : goal.start_side-requires-2
 start_side-requires-2 c =
     let two = ap length (sym c.players-players.ensures.players) ∙ c.if-players-ne2.false in
-    omega (arith, columns-few c.args.table.now c.players-players.ensures.valid two, strategy_count-names c.args.table.now 1 c.strategies-2.result.now c.strategies-2.ensures.strategies)
+    omega (arith, columns-few c.args.table.now c.players-players.ensures.valid two, c.strategy_count-2.ensures.count)
 
 pub of_leaves-requires-clause-first : goal.of_leaves-requires-clause-first
 of_leaves-requires-clause-first c =
     let two = ap length (sym c.players-players.ensures.players) ∙ c.if-players-ne2.false in
-    let is = c.in_ok-first.ensures ∙ ap start_side (sym (strategy_count-names c.args.table.now 0 c.strategies.result.now c.strategies.ensures.strategies)) in
+    let is = c.in_ok-first.ensures ∙ ap start_side c.strategy_count.ensures.count in
     subst IsSideData (sym is) (start-is_side (rows_of c.args.table.now) (some-rows c.args.table.now c.players-players.ensures.valid two))
 
 pub of_leaves-requires-clause-second : goal.of_leaves-requires-clause-second
 of_leaves-requires-clause-second c =
     let two = ap length (sym c.players-players.ensures.players) ∙ c.if-players-ne2.false in
-    let is = c.in_ok-second.ensures ∙ ap start_side (sym (strategy_count-names c.args.table.now 1 c.strategies-2.result.now c.strategies-2.ensures.strategies)) in
+    let is = c.in_ok-second.ensures ∙ ap start_side c.strategy_count-2.ensures.count in
     subst IsSideData (sym is) (start-is_side (columns_of c.args.table.now) (some-columns c.args.table.now c.players-players.ensures.valid two))
 
 pub of_leaves-requires-clause-some_leaf : goal.of_leaves-requires-clause-some_leaf
@@ -52,8 +52,8 @@ pub of_leaves-requires-clause-leaves_fit : goal.of_leaves-requires-clause-leaves
 of_leaves-requires-clause-leaves_fit c =
     let t = c.args.table.now in
     let two = ap length (sym c.players-players.ensures.players) ∙ c.if-players-ne2.false in
-    let rows = ap (λ s. s.sequences) (c.in_ok-first.ensures ∙ ap start_side (sym (strategy_count-names t 0 c.strategies.result.now c.strategies.ensures.strategies))) in
-    let columns = ap (λ s. s.sequences) (c.in_ok-second.ensures ∙ ap start_side (sym (strategy_count-names t 1 c.strategies-2.result.now c.strategies-2.ensures.strategies))) in
+    let rows = ap (λ s. s.sequences) (c.in_ok-first.ensures ∙ ap start_side c.strategy_count.ensures.count) in
+    let columns = ap (λ s. s.sequences) (c.in_ok-second.ensures ∙ ap start_side c.strategy_count-2.ensures.count) in
     let fit = subst (λ n. All (LeafFits n (suc (columns_of t))) c.in_ok-leaves.leaves.items) (sym rows) (subst (All (LeafFits (suc (rows_of t)) (suc (columns_of t)))) (sym c.in_ok-leaves.ensures) (profiles-fit t c.players-players.ensures.valid two)) in
     subst (λ n. All (LeafFits c.in_ok-first.first.sequences n) c.in_ok-leaves.leaves.items) (sym columns) fit
 
@@ -61,6 +61,6 @@ pub returns : goal.returns
 returns c =
     let t = c.args.table.now in
     let two = ap length (sym c.players-players.ensures.players) ∙ c.if-players-ne2.false in
-    let first = c.in_ok-first.ensures ∙ ap start_side (sym (strategy_count-names t 0 c.strategies.result.now c.strategies.ensures.strategies)) in
-    let second = c.in_ok-second.ensures ∙ ap start_side (sym (strategy_count-names t 1 c.strategies-2.result.now c.strategies-2.ensures.strategies)) in
+    let first = c.in_ok-first.ensures ∙ ap start_side c.strategy_count.ensures.count in
+    let second = c.in_ok-second.ensures ∙ ap start_side c.strategy_count-2.ensures.count in
     table-gives t c.in_ok-first.first c.in_ok-second.second c.in_ok-leaves.leaves.items c.of_leaves.result two first second c.in_ok-leaves.ensures c.of_leaves.ensures.form c.of_leaves.ensures.fits c.of_leaves.ensures.stop
