@@ -3,6 +3,7 @@ pub mod ExtremeLineLemmas
 pub mod KeptLineLemmas
 pub mod LineOrderLemmas
 pub mod LineTextLemmas
+pub mod SortedListLemmas
 pub mod SpreadPointLemmas
 pub mod StageLemmas
 pub mod UsedPointLemmas

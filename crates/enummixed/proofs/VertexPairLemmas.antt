@@ -22,13 +22,16 @@ use Rattle.reply_polytope.proofs.SingleLemmas.{polytopes_single}
 use Rattle.basis_enum.specs.Systems.{variable_count}
 use Rattle.label_pairing.specs.Scaling.{scale_steps}
 use Rattle.label_pairing.proofs.AllPairLemmas.{pairs_single}
-use Rattle.enummixed.specs.Laws.{ExtremePairsAreSingle, ExtremeTextsAreSingle}
+use Rattle.enummixed.specs.Laws.{ExtremePairsAreSingle, ExtremeTextsAreSingle, PairsAreAsManyAsExtremeEquilibria}
 use Rattle.enummixed.specs.Told.{polytopes_stop, enumeration_stop, pairs_stop, scale_stop, text_stop}
 use Rattle.enummixed.specs.Used.{all_labels, used_points, scaling_in}
 use Rattle.std.proofs.Common.{◌≤◌, ◌++◌, length, take, drop, arith}
-use Rattle.std.proofs.lemmas.List.{take-append-le, take_all}
+use Rattle.std.proofs.lemmas.List.{length-map, take-append-le, take_all}
+use Rattle.std.proofs.lemmas.List.Sorted.{length_permutation}
 use Rattle.basis_enum.proofs.OneAnswerLaws.{one_answer}
 use Rattle.enummixed.proofs.ExtremeLineLemmas.{extreme-lines}
+use Rattle.enummixed.proofs.LineOrderLemmas.{pairs-ordered}
+use Rattle.enummixed.proofs.SortedListLemmas.{sorted}
 
 -- what is written over all of a list
 pub written-over : {X : Type 0} (new old : List X) (n : ℕ) → length new ≡ length old → n ≡ length old → take n (new ++ drop (length new) old) ≡ new
@@ -51,6 +54,15 @@ sorted-text game e h firsts seconds sorted =
       are_extreme_equilibria = extreme-lines game h.0.0 h.0.1 h.1 h.2.0.list h.2.2.0.list h.2.1.list h.2.2.1.list firsts seconds h.2.2.2.0 sorted h.2.2.2.1.0 f s permuted ordered;
       is_text = refl;
     })
+
+-- the lines of the sorted pairs are as many as the pairs
+pub pairs-counted : PairsAreAsManyAsExtremeEquilibria
+pairs-counted game found h =
+    let pairs : List (ℕ × ℕ) = h.2.2.2.0 in
+    let firsts : List (List ℚ) = scaled_used h.2.0.list (occurs (map (λ p. p.0) pairs)) in
+    let seconds : List (List ℚ) = scaled_used h.2.2.0.list (occurs (map (λ p. p.1) pairs)) in
+    let s = sorted (λ p q. is_lt (pair_order firsts seconds p q)) (pairs-ordered firsts seconds) pairs in
+    (map (line_of firsts seconds) s.0, extreme-lines game h.0.0 h.0.1 h.1 h.2.0.list h.2.2.0.list h.2.1.list h.2.2.1.list firsts seconds pairs s.0 h.2.2.2.1.0 refl refl s.1 s.2, length-map s.0 (line_of firsts seconds) ∙ length_permutation pairs s.0 s.1 ∙ ap (λ e. length e.pairs) (sym (parts_same _ _ h.2.2.2.2.2.2)))
 
 -- a text of which more is said
 pub within-weaker : (P Q : List ℕ → Type 0) → ((text : List ℕ) → P text → Q text) → (r : Result (List ℕ) ListStop) → Gives list_stops.Memory (within_text_limit P) r → Gives list_stops.Memory (within_text_limit Q) r

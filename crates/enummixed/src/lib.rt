@@ -1,7 +1,8 @@
 //! The tool `enummixed`: the extreme equilibria of a game of two players, a line each.
 //!
 //! Callers may rely on: `list_extreme_equilibria` gives the text, or the first reason why there is
-//! none; `list_equilibria_of_kept` the same by the kept strategies, with 0 at the others.
+//! none; `list_equilibria_of_kept` the same by the kept strategies, with 0 at the others; and
+//! `pairs_are_as_many_as_extreme_equilibria`, by which who counts the pairs counts these.
 //! Definitions: `specs::ExtremeText` says what the text is and what a game answers, `Used` which
 //! points are scaled, `Told` how the reasons of the parts are named.
 //! Private words: `specs::Order` and `specs::Spread`, how lines are sorted and points spread.
@@ -9,7 +10,7 @@
 //! A change here touches: what `enummixed` and `make` answer, and `enummixed_texts_are_extreme`.
 #![tactic(auto)]
 
-ghost use Rattle.enummixed.specs.Laws.{ExtremePairsAreSingle, ExtremeTextsAreSingle};
+ghost use Rattle.enummixed.specs.Laws.{ExtremePairsAreSingle, ExtremeTextsAreSingle, PairsAreAsManyAsExtremeEquilibria};
 
 mod extreme;
 mod listing;
@@ -31,4 +32,9 @@ pub fn extreme_pairs_are_single()
 /// A game has one text of extreme equilibria, or one reason why it has none.
 pub fn extreme_texts_are_single()
     ensures { ExtremeTextsAreSingle }
+{}
+
+/// The pairs of a game are as many as its extreme equilibria.
+pub fn pairs_are_as_many_as_extreme_equilibria()
+    ensures { PairsAreAsManyAsExtremeEquilibria }
 {}

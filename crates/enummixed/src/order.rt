@@ -43,8 +43,10 @@ fn compare_pairs(
         ≡ pair_order (map (λ v. v.items) firsts.now) (map (λ v. v.items) seconds.now) one other }
 {
     let first = compare_points(point(firsts, one.0), point(firsts, other.0));
-    let second = compare_points(point(seconds, one.1), point(seconds, other.1));
-    first.then(second)
+    if first != Ordering::Equal {
+        return first;
+    }
+    compare_points(point(seconds, one.1), point(seconds, other.1))
 }
 
 /// Sorts pairs of places by their lines: at the first entry that differs the greater comes first.

@@ -17,9 +17,7 @@ use std::alloc::Global;
 fn push_point(entries: &mut Vec<Frac>, point: &[Frac]) -> Result<(), Memory>
     ensures { OnOk result (entries.new.items ≡ entries.old.items ++ point.now) }
 {
-    for entry in point {
-        entries.push(*entry)?;
-    }
+    entries.extend_from_slice(point)?;
     Ok(())
 }
 

@@ -85,7 +85,7 @@ enumpure_origin strategic (Extensive tree) r (inr h) = ap origin h.2.2 ∙ form_
 -- each tool that is built has a line
 pub tool_of-origin : (command : Command) (game : Game) (r : Refusal) → tool_of command game (Err r) → origin r ≡ Contents
 tool_of-origin (Enumpure strategic file) game r h = enumpure_origin strategic game r h
-tool_of-origin (Enummixed undominated workers file) game r h = enummixed-origin undominated game r h
+tool_of-origin (Enummixed all workers file) game r h = enummixed-origin all game r h
 tool_of-origin (Lcp strategic file) game r h = lcp-origin strategic game r h
 tool_of-origin (Lp strategic prices file) game r h = lp-origin strategic prices game r h
 tool_of-origin (Convert html row column file) game r h = convert-origin html row column game r h

@@ -1,4 +1,5 @@
 pub mod CheckContentLemmas
+pub mod CheckTextLemmas
 pub mod CheckedLineLemmas
 pub mod ContentLaws
 pub mod ConvertLaws

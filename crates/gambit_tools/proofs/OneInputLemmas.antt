@@ -38,7 +38,7 @@ too_long None left taken e c = (taken, tt, omega (arith, e))
 too_long (Some known) None taken e c = absurd c
 too_long (Some known) (Some rest) taken e c = (known, refl, (let n = ap length c ∙ length-append taken rest in omega (arith, e, n)))
 
--- where no count rose, each err_is any refusal
+-- where no count rose, each tells any refusal
 pub counts_none : (before after : InputsSeen) (r : Refusal) → CountsDetermine before after None → CountsDetermine before after (Some r)
 counts_none before after r h = record { opening = λ l. (let e = h.opening l in absurd cc); reading = λ l. (let e = h.reading l in absurd cc) }
 

@@ -132,7 +132,7 @@ outcome-text single words before after (Ok x) view e h counts faults stay untold
   status_is = refl;
   is_run = h;
   is_exact = run-exact single words (but_for_err before) (but_for_err after) (Ok (view x)) h;
-  err_is = untold;
+  tells = untold;
   input_faults = λ rose. absurd (elim rose [ inl l ↦ none_some _ (counts.opening l) | inr l ↦ none_some _ (counts.reading l) ]);
   output_faults = λ rose. absurd (none_some _ (faults rose));
   inputs_stay = stay;
@@ -145,15 +145,15 @@ pub outcome-told : {X : Type 0} → AnswersAreSingle → (words : List (List ℕ
     → (before.out.faults < after.out.faults → result_err answered ≡ Some refusal.WriteFault)
     → ((name : InputName) → after.inputs.held name ≡ before.inputs.held name) → IsToldAs r told → status ≡ status_of told → IsTold before.err after.err (Some told)
     → IsOutcome words before after status (Err told)
-outcome-told single words before after (Ok x) view r told status e h counts faults stay is status_is err_is = absurd (none_some r (sym e))
-outcome-told single words before after (Err q) view r told status e h counts faults stay is status_is err_is =
+outcome-told single words before after (Ok x) view r told status e h counts faults stay is status_is tells = absurd (none_some r (sym e))
+outcome-told single words before after (Err q) view r told status e h counts faults stay is status_is tells =
     (let same : IsToldAs q told = subst (λ x. IsToldAs x told) (some_same r q e) is in
     let run : IsRunOf (command_from words) (but_for_err before) (but_for_err after) (Err told) = told-run (command_from words) (but_for_err before) (but_for_err after) q told same h in
     record {
       status_is = status_is;
       is_run = run;
       is_exact = run-exact single words (but_for_err before) (but_for_err after) (Err told) run;
-      err_is = err_is;
+      tells = tells;
       input_faults = status-input_faults before.inputs after.inputs q told status same status_is counts;
       output_faults = λ rose. status-output_faults q told status same status_is (faults rose);
       inputs_stay = stay;

@@ -47,7 +47,7 @@ enumpure-single strategic (Extensive tree) =
 -- each tool that is built has a line
 tool_of-single : (command : Command) (game : Game) → TreesAreGames → RecallsAreSingle → IsGame game → IsSingle (tool_of command game)
 tool_of-single (Enumpure strategic file) game laws recalls w = enumpure-single strategic game
-tool_of-single (Enummixed undominated workers file) game laws recalls w = enummixed-single undominated game w
+tool_of-single (Enummixed all workers file) game laws recalls w = enummixed-single all game w
 tool_of-single (Lcp strategic file) game laws recalls w = lcp-single strategic game laws recalls w
 tool_of-single (Lp strategic prices file) game laws recalls w = lp-single strategic prices game laws recalls w
 tool_of-single (Convert html row column file) game laws recalls w = convert-single html row column game

@@ -10,7 +10,7 @@ use Rattle.game_core.specs.declared.token.Token.{Token}
 use Rattle.game_core.specs.declared.token.Token.TheVariants.{Word}
 use Rattle.gambit_tools.specs.Games.{BeginsAsTree}
 
--- a comparison of a word's bytes err_is whether the word is the token
+-- a comparison of a word's bytes tells whether the word is the token
 pub word_is : (token : Token) (word bytes name : List ℕ) (b : Bool) → token ≡ Word word → bytes ≡ word → b ≡ pointwise eqb bytes name → (IsTrue b → token ≡ Word name) × (token ≡ Word name → IsTrue b)
 word_is token word bytes name b t w e =
     let d = slice_eq-Decides Decides-eqb bytes name b e in

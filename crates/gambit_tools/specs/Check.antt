@@ -1,10 +1,13 @@
 -- The tool `check`: the verdict of each line of a list of profiles. Source: Nash 1951; Kuhn 1953.
-use Rattle.std.specs.Prelude.{ℕ, ◌<◌, Bool, true, false, List, length}
+use Rattle.std.specs.Prelude.{ℕ, ◌<◌, Bool, true, false, List, length, Ok}
 use Rattle.answers.specs.Answers.{Answer, refuse_where, ◌>>=◌, ◌>>◌, refused_by}
 use Rattle.game_core.specs.declared.game.Game.{Game}
 use Rattle.game_core.specs.declared.game.Game.TheVariants.{Strategic, Extensive}
+use Rattle.ne_checker.specs.CheckLaws.{TellsOfLines, TellsOfTableLine, TellsOfTreeLine}
 use Rattle.ne_checker.specs.LineChecks.{table_check, tree_check}
+use Rattle.ne_printer.specs.TextLines.{lines_of}
 use Rattle.perfect_recall.specs.Found.{recall_of}
+use Rattle.reduced_form.specs.ReducedForm.{ReducedForm}
 use Rattle.reduced_form.specs.Stops.{form_of}
 use Rattle.gambit_tools.specs.Games.{game_in}
 use Rattle.gambit_tools.specs.Input.{most_bytes}
@@ -34,3 +37,15 @@ check strategic bytes lines = do
   within_bytes lines
   game ← game_in bytes
   verdicts strategic game lines
+
+-- ---- what each text is
+-- The text tells of the profile on each line: of a table; of a tree, by behaviour; or, by strategies,
+-- of the tree's reduced strategic form.
+abbrev pub IsCheckText : Bool → Game → (lines text : List ℕ) → Type 0
+IsCheckText strategic (Strategic table) lines text =
+    TellsOfLines (TellsOfTableLine table) (lines_of lines) text
+IsCheckText true (Extensive tree) lines text =
+    (form : ReducedForm) × form_of tree (Ok form)
+    × TellsOfLines (TellsOfTableLine form.table) (lines_of lines) text
+IsCheckText false (Extensive tree) lines text =
+    TellsOfLines (TellsOfTreeLine tree) (lines_of lines) text

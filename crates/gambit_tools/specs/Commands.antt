@@ -18,7 +18,7 @@ use Rattle.refusals.specs.declared.refusal.Refusal.{Refusal}
 -- the inputs that a command names, in the order in which they are read
 abbrev pub inputs_of : Command → List InputName
 inputs_of (Enumpure strategic file) = file ∷ []
-inputs_of (Enummixed undominated workers file) = file ∷ []
+inputs_of (Enummixed all workers file) = file ∷ []
 inputs_of (Lcp strategic file) = file ∷ []
 inputs_of (Lp strategic prices file) = file ∷ []
 inputs_of (Convert html row column file) = file ∷ []
@@ -28,7 +28,7 @@ inputs_of (Make number rows columns workers) = []
 -- what the tool of a command that reads one game answers for it
 abbrev pub tool_of : Command → Game → Answer Refusal (List ℕ)
 tool_of (Enumpure strategic file) game = enumpure strategic game
-tool_of (Enummixed undominated workers file) game = enummixed undominated game
+tool_of (Enummixed all workers file) game = enummixed all game
 tool_of (Lcp strategic file) game = lcp strategic game
 tool_of (Lp strategic prices file) game = lp strategic prices game
 tool_of (Convert html row column file) game = convert html row column game

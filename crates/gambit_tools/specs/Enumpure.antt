@@ -1,5 +1,5 @@
 -- The tool `enumpure`: the text of a game's pure equilibria.
-use Rattle.std.specs.Prelude.{ℕ, Bool, true, false, List}
+use Rattle.std.specs.Prelude.{ℕ, Bool, true, false, List, Ok}
 use Rattle.answers.specs.Answers.{Answer, ◌>>=◌, refused_by}
 use Rattle.game_core.specs.Table.{game_of}
 use Rattle.game_core.specs.Tree.{GameTree}
@@ -9,8 +9,10 @@ use Rattle.game_core.specs.declared.game.Game.TheVariants.{Strategic, Extensive}
 use Rattle.reduced_form.specs.ReducedForm.{ReducedForm}
 use Rattle.reduced_form.specs.Stops.{form_of}
 use Rattle.enumpure.specs.Stops.{pure_text}
+use Rattle.enumpure.specs.Text.{IsPureEquilibriaText}
 use Rattle.enumpure.specs.declared.listing.ListStop.{ListStop}
 use Rattle.enumpure_trees.specs.Stops.{behaviour_text}
+use Rattle.enumpure_trees.specs.TreeEquilibria.{IsTreeEquilibriaText}
 use Rattle.refusals.specs.Told.{form_refusal, list_refusal}
 use Rattle.refusals.specs.declared.refusal.Refusal.{Refusal}
 
@@ -25,3 +27,14 @@ enumpure strategic (Strategic table) = refused_by list_refusal (pure_text (game_
 enumpure strategic (Extensive tree) = do
   form ← refused_by form_refusal (form_of tree)
   refused_by list_refusal (form_text strategic tree form)
+
+-- ---- what each text is
+-- The text has the lines of exactly the pure equilibria: of a table; of a tree, as behaviour; or, by
+-- strategies, of the tree's reduced strategic form.
+abbrev pub IsPureText : Bool → Game → List ℕ → Type 0
+IsPureText strategic (Strategic table) text = IsPureEquilibriaText (game_of table) text
+IsPureText true (Extensive tree) text =
+    (form : ReducedForm) × form_of tree (Ok form) × IsPureEquilibriaText (game_of form.table) text
+IsPureText false (Extensive tree) text =
+    (form : ReducedForm) × form_of tree (Ok form)
+    × IsTreeEquilibriaText (game_of_tree tree) form.choices text

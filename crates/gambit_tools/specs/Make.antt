@@ -1,8 +1,11 @@
 -- The tool `make`: how many bases, vertices and equilibria a made table has.
 -- Source: Avis, Rosenberg, Savani and von Stengel 2010.
-use Rattle.std.specs.Prelude.{ℕ, List, ◌++◌, length, codes}
+use Rattle.std.specs.Prelude.{ℕ, ◌≡◌, List, ◌++◌, length, codes, Ok}
 use Rattle.std.specs.Fmt.{decimal}
 use Rattle.answers.specs.Answers.{Answer, only, ◌>>=◌, refused_by}
+use Rattle.rational.specs.Rational.{ℚ}
+use Rattle.game_theory.specs.Profiles.{Game}
+use Rattle.extreme_equilibria.specs.ExtremeEquilibria.{AreExtremeEquilibria}
 use Rattle.game_core.specs.MadeTables.{made_game}
 use Rattle.enummixed.specs.ExtremeText.{VertexPairs, extreme_pairs}
 use Rattle.refusals.specs.Told.{mixed_refusal}
@@ -26,3 +29,14 @@ abbrev pub make : (number rows columns : ℕ) → Answer Refusal (List ℕ)
 make number rows columns = do
   pairs ← refused_by mixed_refusal (extreme_pairs (made_game number rows columns))
   only (counts_text pairs)
+
+-- ---- what each text is
+-- the text has the counts of what was found in a game, and the pairs are as many as its extreme
+-- equilibria
+pub record IsCountsText (game : Game) (text : List ℕ) : Type 0 where
+  pub found : VertexPairs
+  pub is_found : extreme_pairs game (Ok found)
+  pub is_text : text ≡ counts_text found
+  pub lines : List (List ℚ)
+  pub are_extreme_equilibria : AreExtremeEquilibria game lines
+  pub as_many : length lines ≡ length found.pairs

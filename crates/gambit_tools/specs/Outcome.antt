@@ -1,4 +1,4 @@
--- What a run does: what it answers and why, what it reads and writes, and what it err_is on standard error.
+-- What a run does: what it answers and why, what it reads and writes, and what it tells on standard error.
 use Rattle.std.specs.Prelude.{ℕ, ◌+◌, ◌<◌, ◌≤◌, ◌≡◌, ◌⊎◌, true, List, [], ◌∷◌, length, take, Contains, Option, None, Some, Ok, Err, Result}
 use Rattle.std.specs.Result.{result_err}
 use Rattle.outside.specs.Counts.{Rose}
@@ -38,7 +38,7 @@ pub record HasAnswer (command : Command) (before : InputsSeen) (answer : RunAnsw
   pub is_answer : answer_of command contents answer
 
 -- ---- what is read
--- each of the inputs with these names was read to its end, in this order
+-- after the inputs with these names were read, one after another: the last of them is selected and was read to its end
 abbrev pub AreRead : List InputName → InputsSeen → InputsSeen → Type 0
 AreRead [] before after = after ≡ before
 AreRead (name ∷ []) before after = IsReadToEnd name after
@@ -53,13 +53,13 @@ HasReadBefore names before after Length = (name : InputName) × Contains names n
 HasReadBefore names before after Contents = AreRead names before after
 HasReadBefore names before after Memory = (after ≡ before) ⊎ ((name : InputName) × Contains names name × (after.selected ≡ Some name))
 
--- what a run has read: all inputs with these names, or what it had to before a refusal, and no other input
+-- what a run has read: its last input to the end, or what it had to before a refusal
 abbrev pub HasRead : List InputName → InputsSeen → InputsSeen → RunAnswer → Type 0
 HasRead names before after (Ok text) = AreRead names before after
 HasRead names before after (Err r) = HasReadBefore names before after (origin r)
 
 -- ---- what is answered
--- a fault of an input with one of these names, of which its count err_is
+-- a fault of an input with one of these names, which its count tells
 abbrev pub IsFault : List InputName → InputsSeen → InputsSeen → Fault → Type 0
 IsFault names before after Opening = (name : InputName) × Contains names name × IsOpenFault name before after
 IsFault names before after Reading = (name : InputName) × Contains names name × IsReadFault name before after
@@ -160,7 +160,7 @@ pub record IsOutcome (words : List (List ℕ)) (before after : Seen) (status : �
   pub status_is : status ≡ run_status (result_err answer)
   pub is_run : IsRunOf (command_from words) (but_for_err before) (but_for_err after) answer
   pub is_exact : IsExact words (but_for_err before) (but_for_err after) answer
-  pub err_is : IsTold before.err after.err (result_err answer)
+  pub tells : IsTold before.err after.err (result_err answer)
   -- a fault that was counted is told by the status
   pub input_faults : (before.inputs.open_faults < after.inputs.open_faults) ⊎ (before.inputs.read_faults < after.inputs.read_faults) → (status ≡ 3) ⊎ (status ≡ 5)
   pub output_faults : before.out.faults < after.out.faults → status ≡ 4

@@ -8,6 +8,7 @@ ghost use Rattle.gambit_tools.specs.Seen.{outside, seen};
 ghost use Rattle.gambit_tools.specs.Input.{CountsDetermine};
 ghost use Rattle.refusals.specs.Refusals.{status_of, IsToldAs, NamesNumbers};
 ghost use Rattle.gambit_tools.specs.Commands.{answer_of};
+ghost use Rattle.gambit_tools.specs.Laws.{TextsHoldForTheGame};
 ghost use Rattle.gambit_tools.specs.Outcome.{RunAnswer, IsTold, TakesLine, IsComputed, IsRunOf, IsOutcome, IsComplete};
 ghost use Rattle.refusals.specs.declared.refusal.Refusal.{Refusal};
 
@@ -16,17 +17,22 @@ use crate::convert::convert;
 use crate::lcp::lcp;
 use crate::lp::lp;
 use crate::make::make;
-use crate::mixed::enummixed;
+use crate::mixed::{enummixed, enummixed_texts_are_extreme};
 use crate::output::write_text;
 use crate::pure::enumpure;
+use enummixed::pairs_are_as_many_as_extreme_equilibria;
 use game_core::{sets_are_numbered_by_first_nodes, trees_are_game_trees};
-use ne_checker::{table_checks_are_single, tree_checks_are_single};
+use ne_checker::{
+    table_checks_are_single, table_checks_tell_equilibria, tree_checks_are_single,
+    tree_checks_tell_equilibria,
+};
 use outside::{Gate, Inputs, Sink};
 use perfect_recall::recalls_are_single;
 use refusals::Refusal;
 use std::alloc::Global;
 use std::marker::Sync;
 use std::thread::Threads;
+use two_player_tools::{lcp_texts_are_equilibria, lp_texts_are_solutions};
 use words::{Settings, SettingsStop, read_settings};
 
 /// Reads the inputs that the settings name, and computes the text. Each tool has an arm.
@@ -46,11 +52,9 @@ fn compute<R: Threads + Sync, I: Inputs, G: Gate>(
 {
     match settings {
         Settings::Enumpure { strategic, file } => enumpure(alloc, strategic, file, inputs),
-        Settings::Enummixed {
-            undominated,
-            workers,
-            file,
-        } => enummixed(rt, alloc, undominated, workers, file, inputs, gate),
+        Settings::Enummixed { all, workers, file } => enummixed(
+            rt, alloc, all, workers, file, inputs, gate,
+        ),
         Settings::Lcp { strategic, file } => lcp(alloc, strategic, file, inputs),
         Settings::Lp {
             strategic,
@@ -194,4 +198,17 @@ pub fn answers_are_single()
     recalls_are_single();
     table_checks_are_single();
     tree_checks_are_single();
+}
+
+/// Each text of `enumpure`, `enummixed`, `lcp`, `lp`, `check` and `make` says what is so of the game that
+/// the bytes of the input stand for.
+pub fn texts_hold_for_the_game()
+    ensures { TextsHoldForTheGame }
+{
+    enummixed_texts_are_extreme();
+    lcp_texts_are_equilibria();
+    lp_texts_are_solutions();
+    table_checks_tell_equilibria();
+    tree_checks_tell_equilibria();
+    pairs_are_as_many_as_extreme_equilibria();
 }

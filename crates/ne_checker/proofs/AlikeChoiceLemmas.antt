@@ -1,24 +1,27 @@
--- Choices that are the same at a player's own sets have the same steps.
+-- Behaviours and choices that are the same at the players' sets have the same steps.
 use Rattle.std.proofs.Common.{ℕ, zero, suc, ◌<◌, ◌≡◌, inl, inr, Option, None, Some, List, [], ◌∷◌, ◌++◌, All, length, get_or, refl, sym, ap, ap₂, ◌∙◌, subst, arith}
-use Rattle.std.specs.Prelude.{reverse}
+use Rattle.std.specs.Prelude.{◌&&◌, if◌then◌else◌, nat_lt, reverse}
 use Rattle.std.specs.List.{flat_map, range_with_len}
 use Rattle.std.proofs.lemmas.List.Elements.{All-filter, filter_passes}
 use Rattle.std.proofs.lemmas.List.FromFn.{length-range_with_len, get_or-range_with_len}
-use Rattle.rational.specs.Rational.{ℚ}
+use Rattle.rational.specs.Rational.{ℚ, ◌*ℚ◌}
+use Rattle.rational.specs.Sum.{sum_to}
 use Rattle.rational.proofs.SumLemmas.{sum_to-same}
 use Rattle.frac128.specs.Steps.{unfit}
-use Rattle.frac128.specs.declared.steps.Op.TheVariants.{Add}
+use Rattle.frac128.specs.declared.steps.Op.TheVariants.{Add, Mul}
 use Rattle.game_theory.specs.Trees.{Tree, IsTree}
-use Rattle.game_theory.specs.Behaviour.{Behaviour}
+use Rattle.game_theory.specs.Behaviour.{Behaviour, action_probability, value}
 use Rattle.game_theory.specs.Children.{child}
 use Rattle.game_theory.specs.OwnSets.{own_sets}
 use Rattle.game_theory.proofs.NamedChildLemmas.{child-later}
-use Rattle.game_theory.proofs.OwnSetLemmas.{IsAmong, is_own_of-decides}
+use Rattle.game_theory.proofs.OwnSetLemmas.{IsAmong, is_index-decides}
 use Rattle.best_replies.specs.Replies.{reply_value, is_member}
 use Rattle.best_replies.proofs.ReplyValueLemmas.{reply_value-agree}
 use Rattle.best_replies.proofs.WeightLemmas.{own_or_not, if_own, if_other}
-use Rattle.pure_payoffs.specs.Steps.{Step}
-use Rattle.ne_checker.specs.TreeSteps.{sum_steps, child_value, after_steps, after_sum, own_steps, reply_steps_to, reply_steps, members, member_child, action_steps, player_steps, now_steps_at, weight_steps}
+use Rattle.pure_payoffs.specs.Plays.{branch_steps}
+use Rattle.pure_payoffs.specs.Steps.{Step, chance_steps}
+use Rattle.ne_checker.specs.TreeSteps.{sum_steps, child_value, after_steps, after_sum, reply_steps_to, reply_steps, members, member_child, action_steps, decision_steps, player_steps, now_node_steps, now_steps_to, has_factor, weight_step, weight_steps}
+use Rattle.ne_checker.proofs.AlikeBehaviourLemmas.{AreAlike, branch-alike, probability-alike, reply_value-alike, value-alike, weight-alike}
 use Rattle.ne_checker.proofs.TreeOwnSetLemmas.{turned}
 use Rattle.ne_checker.proofs.TreePartLemmas.{parts-suc}
 
@@ -29,6 +32,22 @@ sum_steps-alike zero v u f g e h = refl
 sum_steps-alike (suc n) v u f g e h =
     ap₂ (λ x y. x ++ y) (ap₂ (λ x y. x ++ y) (sum_steps-alike n v u f g (λ a l. e a (omega arith)) (λ a l. h a (omega arith))) (h n (omega arith)))
     (ap₂ (λ x y. unfit Add x y ∷ []) (sum_to-same n v u (λ a l. e a (omega arith))) (e n (omega arith)))
+
+-- sums of products
+products-alike : (n : ℕ) (p q v u : ℕ → ℚ) → ((a : ℕ) → a < n → p a ≡ q a) → ((a : ℕ) → a < n → v a ≡ u a) → sum_to n (λ a. p a *ℚ v a) ≡ sum_to n (λ a. q a *ℚ u a)
+products-alike n p q v u d e = sum_to-same n _ _ (λ a l. ap₂ (λ x y. x *ℚ y) (d a l) (e a l))
+
+-- the steps of such sums
+chances-alike : (n : ℕ) (p q v u : ℕ → ℚ) (f g : ℕ → List Step) → ((a : ℕ) → a < n → p a ≡ q a) → ((a : ℕ) → a < n → v a ≡ u a) → ((a : ℕ) → a < n → f a ≡ g a) → chance_steps n p v f ≡ chance_steps n q u g
+chances-alike zero p q v u f g d e h = refl
+chances-alike (suc n) p q v u f g d e h =
+    let before : (a : ℕ) → a < n → p a ≡ q a = λ a l. d a (omega arith) in
+    let values : (a : ℕ) → a < n → v a ≡ u a = λ a l. e a (omega arith) in
+    let chance = d n (omega arith) in
+    let worth = e n (omega arith) in
+    let steps = h n (omega arith) in
+    let sums = products-alike n p q v u before values in
+    ap₂ (λ x y. x ++ y) (chances-alike n p q v u f g before values (λ a l. h a (omega arith))) (λ j. branch_steps (chance j) (sums j) (worth j) (steps j))
 
 -- parts of the numbers from 0 on
 parts-alike : (n : ℕ) (f g : ℕ → List Step) → ((a : ℕ) → a < n → f a ≡ g a) → flat_map f (range_with_len 0 n) ≡ flat_map g (range_with_len 0 n)
@@ -44,36 +63,64 @@ turned-alike (x ∷ xs) f g h = turned f x xs ∙ ap₂ (λ y z. y ++ z) (turned
 members-are : (t : Tree) (s j : ℕ) → j < length (members t s) → (get_or (members t s) j 0 < t.size) × (t.set (get_or (members t s) j 0) ≡ Some s)
 members-are t s j l =
     let below : All (λ k. k < t.size) (range_with_len 0 t.size) = λ k d m. let n : k < t.size = subst (λ x. k < x) (length-range_with_len 0 t.size) m in subst (λ x. x < t.size) (sym (get_or-range_with_len 0 t.size k d n)) (omega arith) in
-    (All-filter (is_member t s) (λ k. k < t.size) (range_with_len 0 t.size) below j 0 l, (is_own_of-decides (t.set (get_or (members t s) j 0)) s).0 (filter_passes (is_member t s) (range_with_len 0 t.size) j 0 l))
+    (All-filter (is_member t s) (λ k. k < t.size) (range_with_len 0 t.size) below j 0 l, (is_index-decides (t.set (get_or (members t s) j 0)) s).0 (filter_passes (is_member t s) (range_with_len 0 t.size) j 0 l))
 
--- ---- choices
-module _ (t : Tree) (b : Behaviour) (i : ℕ) (choice other : ℕ → ℕ) (w : IsTree t) (chosen : (s : ℕ) → s < t.sets → t.owner s ≡ Some i → choice s < t.actions s) (same : (s : ℕ) → s < t.sets → t.owner s ≡ Some i → choice s ≡ other s) where
+-- ---- behaviours and choices
+module _ (t : Tree) (b behaviour : Behaviour) (i : ℕ) (choice other : ℕ → ℕ) (w : IsTree t) (alike : AreAlike t b behaviour) (chosen : (s : ℕ) → s < t.sets → t.owner s ≡ Some i → choice s < t.actions s) (same : (s : ℕ) → s < t.sets → t.owner s ≡ Some i → choice s ≡ other s) where
+  -- the steps of what the behaviour pays, node by node
+  now_node-alike : (f g : ℕ → List Step) (k : ℕ) → k < t.size → ((c : ℕ) → c < t.size → f c ≡ g c) → now_node_steps t b i f k (t.set k) ≡ now_node_steps t behaviour i g k (t.set k)
+  now_node-alike f g k l h = go (t.set k) refl
+    where
+      go : (o : Option ℕ) → t.set k ≡ o → now_node_steps t b i f k o ≡ now_node_steps t behaviour i g k o
+      go None e = refl
+      go (Some s) e =
+          let chance : (a : ℕ) → a < t.actions s → action_probability t b s a ≡ action_probability t behaviour s a = λ a m. probability-alike t b behaviour w alike s a (w.sets_within k s l e) m in
+          let worth : (a : ℕ) → a < t.actions s → value t b i (child t k a) ≡ value t behaviour i (child t k a) = λ a m. value-alike t b behaviour w alike i (child t k a) (child-later t k s a w l e m).1 in
+          ap₂ (λ x y. x ++ unfit Add (t.pays k i) y ∷ [])
+          (chances-alike (t.actions s) _ _ _ _ (λ a. f (child t k a)) (λ a. g (child t k a)) chance worth (λ a m. h (child t k a) (child-later t k s a w l e m).1))
+          (products-alike (t.actions s) _ _ _ _ chance worth)
+
+  now-alike : (d k : ℕ) → k < t.size → now_steps_to t b i d k ≡ now_steps_to t behaviour i d k
+  now-alike zero k l = refl
+  now-alike (suc d) k l = now_node-alike (now_steps_to t b i d) (now_steps_to t behaviour i d) k l (λ c m. now-alike d c m)
+
+  -- the steps of the weights
+  weights-alike : weight_steps t b i ≡ weight_steps t behaviour i
+  weights-alike = parts-alike t.size _ _ step-alike
+    where
+      step-alike : (c : ℕ) → c < t.size → weight_step t b i c ≡ weight_step t behaviour i c
+      step-alike zero l = refl
+      step-alike (suc c) l =
+          let after = w.after_parent (suc c) (omega arith) l in
+          ap₂ (λ x y. if nat_lt 0 (suc c) && has_factor t i (t.set (t.parent (suc c))) then unfit Mul x y ∷ [] else [])
+          (weight-alike t b behaviour w alike i (t.parent (suc c)) (omega (arith, after, l))) (branch-alike t b behaviour w alike (suc c) (omega arith) l)
+
   -- nodes are worth the same
-  pub values-alike : (k : ℕ) → k < t.size → reply_value t b i choice k ≡ reply_value t b i other k
-  values-alike k l = reply_value-agree t b i choice other k w l (λ c s inside below e o. same s (w.sets_within c s below e) o)
+  pub values-alike : (k : ℕ) → k < t.size → reply_value t b i choice k ≡ reply_value t behaviour i other k
+  values-alike k l = reply_value-agree t b i choice other k w l (λ c s inside below e o. same s (w.sets_within c s below e) o) ∙ reply_value-alike t b behaviour w alike i other k l
 
   module _ (k s : ℕ) (l : k < t.size) (e : t.set k ≡ Some s) where
-    child-alike : (a : ℕ) → a < t.actions s → child_value t b i choice k a ≡ child_value t b i other k a
+    child-alike : (a : ℕ) → a < t.actions s → child_value t b i choice k a ≡ child_value t behaviour i other k a
     child-alike a m = values-alike (child t k a) (child-later t k s a w l e m).1
 
-    chosen-alike : t.owner s ≡ Some i → child_value t b i choice k (choice s) ≡ child_value t b i other k (other s)
-    chosen-alike o = let n = w.sets_within k s l e in child-alike (choice s) (chosen s n o) ∙ ap (child_value t b i other k) (same s n o)
+    chosen-alike : t.owner s ≡ Some i → child_value t b i choice k (choice s) ≡ child_value t behaviour i other k (other s)
+    chosen-alike o = let n = w.sets_within k s l e in child-alike (choice s) (chosen s n o) ∙ ap (child_value t behaviour i other k) (same s n o)
 
   -- what stands after a node
-  following-alike : (f g : ℕ → List Step) (k : ℕ) → k < t.size → ((c : ℕ) → c < t.size → f c ≡ g c) → after_steps t b i choice f k (t.set k) ≡ after_steps t b i other g k (t.set k)
+  following-alike : (f g : ℕ → List Step) (k : ℕ) → k < t.size → ((c : ℕ) → c < t.size → f c ≡ g c) → after_steps t b i choice f k (t.set k) ≡ after_steps t behaviour i other g k (t.set k)
   following-alike f g k l h = go (t.set k) refl
     where
-      go : (o : Option ℕ) → t.set k ≡ o → after_steps t b i choice f k o ≡ after_steps t b i other g k o
+      go : (o : Option ℕ) → t.set k ≡ o → after_steps t b i choice f k o ≡ after_steps t behaviour i other g k o
       go None e = refl
       go (Some s) e = elim (own_or_not t i s) [
         | inl o ↦ if_own t i s _ _ o ∙ sum_steps-alike 1 _ _ (λ _. []) (λ _. []) (λ a m. chosen-alike k s l e o) (λ a m. refl) ∙ sym (if_own t i s _ _ o)
         | inr apart ↦ if_other t i s _ _ apart ∙ sum_steps-alike (t.actions s) _ _ (λ a. f (child t k a)) (λ a. g (child t k a)) (λ a m. child-alike k s l e a m) (λ a m. h (child t k a) (child-later t k s a w l e m).1) ∙ sym (if_other t i s _ _ apart)
       ]
 
-  sum-alike : (k : ℕ) → k < t.size → after_sum t b i choice k (t.set k) ≡ after_sum t b i other k (t.set k)
+  sum-alike : (k : ℕ) → k < t.size → after_sum t b i choice k (t.set k) ≡ after_sum t behaviour i other k (t.set k)
   sum-alike k l = go (t.set k) refl
     where
-      go : (o : Option ℕ) → t.set k ≡ o → after_sum t b i choice k o ≡ after_sum t b i other k o
+      go : (o : Option ℕ) → t.set k ≡ o → after_sum t b i choice k o ≡ after_sum t behaviour i other k o
       go None e = refl
       go (Some s) e = elim (own_or_not t i s) [
         | inl o ↦ if_own t i s _ _ o ∙ sum_to-same 1 _ _ (λ a m. chosen-alike k s l e o) ∙ sym (if_own t i s _ _ o)
@@ -81,21 +128,25 @@ module _ (t : Tree) (b : Behaviour) (i : ℕ) (choice other : ℕ → ℕ) (w : 
       ]
 
   -- the steps of a node
-  reply-alike : (d k : ℕ) → k < t.size → reply_steps_to t b i choice d k ≡ reply_steps_to t b i other d k
+  reply-alike : (d k : ℕ) → k < t.size → reply_steps_to t b i choice d k ≡ reply_steps_to t behaviour i other d k
   reply-alike zero k l = refl
-  reply-alike (suc d) k l = ap₂ (λ x y. x ++ own_steps t b i k y) (following-alike (reply_steps_to t b i choice d) (reply_steps_to t b i other d) k l (λ c m. reply-alike d c m)) (sum-alike k l)
+  reply-alike (suc d) k l =
+      ap₂ (λ x y. x ++ y) (following-alike (reply_steps_to t b i choice d) (reply_steps_to t behaviour i other d) k l (λ c m. reply-alike d c m))
+      (ap₂ (λ x y. unfit Mul x (t.pays k i) ∷ unfit Add (x *ℚ t.pays k i) y ∷ []) (weight-alike t b behaviour w alike i k l) (sum-alike k l))
 
   -- the steps of a decision
-  action-alike : (s a : ℕ) → a < t.actions s → action_steps t b i choice s a ≡ action_steps t b i other s a
+  action-alike : (s a : ℕ) → a < t.actions s → action_steps t b i choice s a ≡ action_steps t behaviour i other s a
   action-alike s a m =
-      sum_steps-alike (length (members t s)) _ _ (λ j. reply_steps t b i choice (member_child t s a j)) (λ j. reply_steps t b i other (member_child t s a j))
+      sum_steps-alike (length (members t s)) _ _ (λ j. reply_steps t b i choice (member_child t s a j)) (λ j. reply_steps t behaviour i other (member_child t s a j))
       (λ j l. values-alike (member_child t s a j) (inside j l)) (λ j l. reply-alike t.size (member_child t s a j) (inside j l))
     where
       inside : (j : ℕ) → j < length (members t s) → member_child t s a j < t.size
       inside j l = let is = members-are t s j l in (child-later t (get_or (members t s) j 0) s a w is.0 is.1 m).1
 
   -- the steps of the player
-  pub steps-alike : player_steps t b i choice ≡ player_steps t b i other
+  pub steps-alike : player_steps t b i choice ≡ player_steps t behaviour i other
   steps-alike =
-      ap₂ (λ x y. now_steps_at t b i 0 ++ (weight_steps t b i ++ x ++ y))
-      (turned-alike (own_sets t i) _ _ (λ s among. parts-alike (t.actions s) _ _ (λ a m. action-alike s a m))) (reply-alike t.size 0 w.some_node)
+      let now = now-alike t.size 0 w.some_node in
+      let decided = turned-alike (own_sets t i) (decision_steps t b i choice) (decision_steps t behaviour i other) (λ s among. parts-alike (t.actions s) _ _ (λ a m. action-alike s a m)) in
+      let replies = reply-alike t.size 0 w.some_node in
+      λ j. now j ++ (weights-alike j ++ decided j ++ replies j)

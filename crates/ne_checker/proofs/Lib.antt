@@ -1,8 +1,12 @@
+pub mod AlikeBehaviourLemmas
 pub mod AlikeChoiceLemmas
+pub mod AlikeVerdictLemmas
+pub mod CheckLaws
 pub mod ChoiceLemmas
 pub mod FoundReplyLemmas
 pub mod LineStepLemmas
 pub mod OneAnswerLaws
+pub mod SameEntryLemmas
 pub mod TableBlockLemmas
 pub mod TableOtherLemmas
 pub mod TablePartLemmas

@@ -3,11 +3,9 @@ use Rattle.std.proofs.Common.{ℕ, ◌+◌, ◌≡◌, ◌∙◌, List, [], ◌�
 use Rattle.answers.specs.Answers.{Answer, IsSingle, ◌>>=◌, only, refused_by}
 use Rattle.answers.proofs.AnswerLemmas.{bind-single, only-single, refused_by-single}
 use Rattle.rational.specs.Rational.{ℚ}
-use Rattle.game_theory.specs.Trees.{IsTree as is_game_tree}
 use Rattle.game_core.specs.Table.{GameTable, strategy_counts}
-use Rattle.game_core.specs.Tree.{GameTree, IsTree}
+use Rattle.game_core.specs.Tree.{GameTree}
 use Rattle.game_core.specs.TreeGame.{game_of_tree}
-use Rattle.behaviour_profile.specs.EntryLaws.{TestedEntriesAreBehaviours}
 use Rattle.behaviour_profile.specs.EntryTests.{action_counts, profile_in}
 use Rattle.ne_printer.specs.ReadLines.{line_in}
 use Rattle.ne_printer.proofs.LinesReadLemmas.{line_told}
@@ -24,7 +22,6 @@ use Rattle.ne_checker.specs.LineChecks.{faulty, limited, line_entries, table_jud
 use Rattle.ne_checker.specs.Lines.{lines_answer}
 use Rattle.ne_printer.specs.TextLines.{lines_of}
 use Rattle.ne_checker.specs.Texts.{IsTableText, IsTreeText}
-use Rattle.ne_checker.proofs.TreeLineLemmas.{tested_are_entries}
 use Rattle.ne_checker.specs.declared.stops.CheckStop.{CheckStop}
 use Rattle.ne_checker.specs.declared.stops.CheckStop.TheVariants as stops
 
@@ -116,8 +113,8 @@ tree_judged_once number tree entries once one (Err (stops.BadLine line)) h k = a
 tree_judged_once number tree entries once one (Err (stops.TooLarge limit)) h k = absurd k
 tree_judged_once number tree entries once one (Err stops.Memory) h k = absurd k
 
-pub tree_checks_once : ProfilesAreSingle → TestedEntriesAreBehaviours → TreeVerdictsAreSingle → ((tree : GameTree) → IsTree tree → is_game_tree (game_of_tree tree)) → TreeChecksAreSingle
+pub tree_checks_once : ProfilesAreSingle → TreeVerdictsAreSingle → TreeChecksAreSingle
 unfolding AreOnce
-tree_checks_once profile_once law once valid tree text is recall =
+tree_checks_once profile_once once tree text is recall =
     let sizes = action_counts (game_of_tree tree) in
-    check_once (tree_line tree) (λ number line. bind-single (line_entries number sizes line) (tree_judged number tree) (entries_once profile_once number sizes line) (λ entries h. tree_judged_once number tree entries (λ verdict other reply reply'. once tree entries verdict other reply reply' is recall (tested_are_entries law tree h.0 entries (valid tree is) h.2)))) text
+    check_once (tree_line tree) (λ number line. bind-single (line_entries number sizes line) (tree_judged number tree) (entries_once profile_once number sizes line) (λ entries h. tree_judged_once number tree entries (λ verdict other reply reply'. once tree entries verdict other reply reply' is recall))) text

@@ -7,7 +7,7 @@ use Rattle.game_theory.specs.Profiles.{profile_count}
 use Rattle.game_theory.proofs.ProfileNumberLemmas.{quotient-of}
 use Rattle.game_core.specs.Table.{GameTable, IsTable, strategy_counts, most_payoffs}
 use Rattle.game_core.proofs.TableCountLemmas.{length-strategy_counts, at_most_product}
-use Rattle.enumpure.proofs.StrideLemmas.{HaveStrategies, HaveStrategies-later, HaveStrategies-table, profile_count-positive}
+use Rattle.game_core.proofs.StrideLemmas.{HaveStrategies, HaveStrategies-later, HaveStrategies-table, profile_count-positive}
 use Rattle.behaviour_profile.proofs.GroupListLemmas.{end-within, sum-cons, sum-next, sum-nil}
 
 -- a player has no more strategies than there are profiles

@@ -109,7 +109,7 @@ module _ (g : Game) (m other : Mixed) (same : (i s : ℕ) → i < length g.strat
           pays_more = h.pays_more;
         }
 
-  verdict-same : (verdict : TableVerdict) → IsTableVerdict g m verdict → IsTableVerdict g other verdict
+  pub verdict-same : (verdict : TableVerdict) → IsTableVerdict g m verdict → IsTableVerdict g other verdict
   verdict-same Equilibrium h = λ i l. no_better-same i l (h i l)
   verdict-same (Better player payoff best reply) h =
       record { is_player = h.is_player; earlier = λ i l. no_better-same i (omega (arith, l, h.is_player)) (h.earlier i l); better = better-same player h.is_player payoff best reply h.better }

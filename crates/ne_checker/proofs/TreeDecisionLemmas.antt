@@ -2,7 +2,7 @@
 use Rattle.std.proofs.Common.{ℕ, suc, ◌+◌, ◌<◌, ◌≡◌, inl, inr, Some, List, All, length, get_or, set, sym, ap, ◌∙◌, subst, add-one, arith}
 use Rattle.std.specs.List.{flat_map, range_with_len}
 use Rattle.std.proofs.lemmas.Bool.{cases_eq, cases_lt}
-use Rattle.std.proofs.lemmas.List.{length-set, get_or-set_same, get_or-set_other}
+use Rattle.std.proofs.lemmas.List.{get_or-set_same, get_or-set_other}
 use Rattle.std.proofs.lemmas.List.Elements.{All-nil}
 use Rattle.rational.specs.Rational.{ℚ, ◌≤ℚ◌, ◌<ℚ◌}
 use Rattle.rational.proofs.Field.{le_refl}
@@ -13,19 +13,9 @@ use Rattle.best_replies.specs.Replies.{action_value}
 use Rattle.best_replies.proofs.FirstGreatestLemmas.{first_greatest-unique, first_greatest-kept, first_greatest-passed}
 use Rattle.best_replies.proofs.WeightLemmas.{step-to}
 use Rattle.pure_payoffs.specs.Steps.{StepFits}
-use Rattle.ne_checker.specs.TreeSides.{AreChoices, AreDecided, IsComputed}
+use Rattle.ne_checker.specs.TreeSides.{AreDecided, IsComputed}
 use Rattle.ne_checker.specs.TreeSteps.{action_steps, decision_steps}
 use Rattle.ne_checker.proofs.TreePartLemmas.{parts-more}
-
--- choices stay actions where an action is written
-pub choices-written : (t : Tree) (i s a : ℕ) (choices : List ℕ) → s < t.sets → a < t.actions s → AreChoices t i choices → AreChoices t i (set choices s a)
-choices-written t i s a choices l m h = record {
-  long = length-set choices s a ∙ h.long;
-  within = λ r k o. elim (cases_eq r s) [
-    | inl same ↦ subst (λ x. get_or (set choices s a) x 0 < t.actions x) (sym same) (subst (λ x. x < t.actions s) (sym (get_or-set_same choices s a 0 (omega (arith, h.long)))) m)
-    | inr apart ↦ subst (λ x. x < t.actions r) (sym (get_or-set_other choices s r a 0 apart)) (h.within r k o)
-  ];
-}
 
 module _ (t : Tree) (b : Behaviour) (i : ℕ) (choice : ℕ → ℕ) (weights : List ℚ) where
   -- the first n actions of set s are weighed, and this is the first of the greatest

@@ -1,23 +1,23 @@
 -- The nodes of a set, and sums over them.
-use Rattle.std.proofs.Common.{ℕ, zero, suc, ◌+◌, ◌<◌, ◌≤◌, ◌≡◌, inl, inr, Bool, true, false, Option, None, Some, List, [], ◌∷◌, ◌++◌, All, length, get_or, set, refl, sym, ap, ap₂, ◌∙◌, subst, add-zero, add-one, arith}
+use Rattle.std.proofs.Common.{ℕ, zero, suc, ◌+◌, ◌<◌, ◌≤◌, ◌≡◌, inl, inr, Bool, true, false, None, Some, List, [], ◌∷◌, ◌++◌, All, length, get_or, set, refl, sym, ap, ap₂, ◌∙◌, subst, add-zero, add-one, arith}
 use Rattle.std.specs.Prelude.{filter, cond}
 use Rattle.std.specs.List.{range_with_len}
 use Rattle.std.proofs.Math.Seq.{get_or-append_seam}
 use Rattle.std.proofs.lemmas.Bool.{cases_eq, cases_lt}
 use Rattle.std.proofs.lemmas.List.{get_or_append_left, get_or-map, length_push, get_or-set_same, get_or-set_other, append-nil}
-use Rattle.std.proofs.lemmas.List.Elements.{filter-append, All-nil}
+use Rattle.std.proofs.lemmas.List.Elements.{filter-append}
 use Rattle.rational.specs.Rational.{ℚ, ◌+ℚ◌, zero_ℚ}
 use Rattle.rational.specs.Sum.{sum_to}
 use Rattle.rational.proofs.RationalRing.{+ℚ-zero}
 use Rattle.rational.proofs.SumLemmas.{sum_to-same}
 use Rattle.frac128.specs.Steps.{AddFits}
 use Rattle.game_theory.specs.Trees.{Tree, IsTree}
-use Rattle.game_theory.specs.Behaviour.{Behaviour, is_own_of}
+use Rattle.game_theory.specs.Behaviour.{Behaviour, is_index}
 use Rattle.game_theory.specs.Children.{child}
 use Rattle.game_theory.proofs.ChildLemmas.{where_true}
 use Rattle.game_theory.proofs.NamedChildLemmas.{child-is, child-is_child, child-later}
 use Rattle.game_core.specs.declared.tree.Node.{Node}
-use Rattle.game_core.specs.Tree.{GameTree, InformationSet, IsTree as is_valid, is_set, members_from}
+use Rattle.game_core.specs.Tree.{GameTree, InformationSet, IsTree as is_valid, members_from}
 use Rattle.game_core.specs.TreeGame.{game_of_tree}
 use Rattle.best_replies.specs.Replies.{action_value, reply_value, is_member}
 use Rattle.best_replies.proofs.ReplyValueLemmas.{action_value-by_members}
@@ -30,24 +30,19 @@ use Rattle.ne_checker.proofs.TreeSumLemmas.{sum-more}
 
 -- ---- the members of a tree's set
 -- those that the tree lists pass the test
-members_from-filter : (f : ℕ → Bool) (m s : ℕ) (nodes : List Node) → ((j : ℕ) (d : Node) → j < length nodes → f (m + j) ≡ is_set s (get_or nodes j d).set) → members_from m s nodes ≡ filter f (range_with_len m (length nodes))
+members_from-filter : (f : ℕ → Bool) (m s : ℕ) (nodes : List Node) → ((j : ℕ) (d : Node) → j < length nodes → f (m + j) ≡ is_index (get_or nodes j d).set s) → members_from m s nodes ≡ filter f (range_with_len m (length nodes))
 members_from-filter f m s [] h = refl
 members_from-filter f m s (node ∷ nodes) h =
-    let here : f m ≡ is_set s node.set = subst (λ x. f x ≡ is_set s node.set) (add-zero m) (h 0 node (omega arith)) in
-    let rest : members_from (m + 1) s nodes ≡ filter f (range_with_len (m + 1) (length nodes)) = members_from-filter f (m + 1) s nodes (λ j d l. subst (λ x. f x ≡ is_set s (get_or nodes j d).set) (omega arith) (h (suc j) d (omega arith))) in
-    ap (λ n. cond (is_set s node.set) (m ∷ members_from n s nodes) (members_from n s nodes)) (sym (add-one m))
+    let here : f m ≡ is_index node.set s = subst (λ x. f x ≡ is_index node.set s) (add-zero m) (h 0 node (omega arith)) in
+    let rest : members_from (m + 1) s nodes ≡ filter f (range_with_len (m + 1) (length nodes)) = members_from-filter f (m + 1) s nodes (λ j d l. subst (λ x. f x ≡ is_index (get_or nodes j d).set s) (omega arith) (h (suc j) d (omega arith))) in
+    ap (λ n. cond (is_index node.set s) (m ∷ members_from n s nodes) (members_from n s nodes)) (sym (add-one m))
     ∙ ap₂ (λ b xs. cond b (m ∷ xs) xs) (sym here) rest
-
--- the test is the same
-same_test : (s : ℕ) (o : Option ℕ) → is_own_of o s ≡ is_set s o
-same_test s None = refl
-same_test s (Some r) = refl
 
 pub members-listed : (t : GameTree) (sets : List InformationSet) (s : ℕ) (set : InformationSet) → is_valid t → sets ≡ t.sets → s < length t.sets → set ≡ get_or sets s set
     → (set.members ≡ members (game_of_tree t) s) × AreMembers (game_of_tree t) s set.members
 members-listed t sets s set valid same below is =
     let at = members-at t sets s set valid same below is in
-    ((valid.sets_fit s set at.0).members_are ∙ members_from-filter (is_member (game_of_tree t) s) 0 s t.nodes (λ j d l. ap (is_member (game_of_tree t) s) (omega arith) ∙ ap (λ o. is_own_of o s) (get_or-map (λ node. node.set) t.nodes j d None l) ∙ same_test s (get_or t.nodes j d).set), at.1)
+    ((valid.sets_fit s set at.0).members_are ∙ members_from-filter (is_member (game_of_tree t) s) 0 s t.nodes (λ j d l. ap (is_member (game_of_tree t) s) (omega arith) ∙ ap (λ o. is_index o s) (get_or-map (λ node. node.set) t.nodes j d None l)), at.1)
 
 -- ---- sums over members
 -- the numbers from 0 on end with the last one
@@ -162,10 +157,6 @@ module _ (t : Tree) (b : Behaviour) (i : ℕ) (choice : ℕ → ℕ) (weights : 
               let is : member_child t s a place.0 ≡ x = ap (λ k. child t k a) place.2 ∙ child-is t (t.parent x) a x w (p, l, refl, branch) in
               subst (λ y. get_or values y zero_ℚ ≡ reply_value t b i choice y) is (h.known place.0 (omega (arith, place.1)))
         ]
-
--- nothing is summed at first
-pub summed-none : (t : Tree) (b : Behaviour) (i : ℕ) (choice : ℕ → ℕ) (weights : List ℚ) (choices : List ℕ) (values : List ℚ) (s a : ℕ) (sum : ℚ) → sum ≡ zero_ℚ → AreDecided t b i choice weights choices values (suc s) a → AreSummed t b i choice weights choices values s a 0 sum
-summed-none t b i choice weights choices values s a sum is h = record { decided = h; known = λ n l. absurd (omega arith); sum_is = is; fit = All-nil StepFits }
 
 -- ---- the members as they are read
 module _ (t : GameTree) (sets : List InformationSet) (s : ℕ) (here : InformationSet) (listed : List ℕ) (valid : is_valid t) (same : sets ≡ t.sets) (below : s < length t.sets) (at_place : here ≡ get_or sets s here) (is : listed ≡ here.members) where

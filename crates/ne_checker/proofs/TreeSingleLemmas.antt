@@ -22,7 +22,9 @@ use Rattle.ne_checker.specs.TreeSteps.{player_steps}
 use Rattle.ne_checker.specs.TreeVerdicts.{HasNoBetter, IsBetter, IsOutOfRange, IsTreeVerdict}
 use Rattle.ne_checker.specs.TreeVerdictLaws.{TreeVerdictsAreSingle}
 use Rattle.ne_checker.proofs.AlikeChoiceLemmas.{values-alike, steps-alike}
+use Rattle.ne_checker.proofs.AlikeVerdictLemmas.{verdict-alike}
 use Rattle.ne_checker.proofs.FoundReplyLemmas.{map-among}
+use Rattle.ne_checker.proofs.SameEntryLemmas.{entries-alike}
 
 module _ (t : Tree) (b : Behaviour) (w : IsTree t) (numbered : AreNumberedByFirstNodes t) (recall : (i : ℕ) → i < t.players → HasPerfectRecall t i) where
   -- ---- one player's best choices
@@ -31,10 +33,10 @@ module _ (t : Tree) (b : Behaviour) (w : IsTree t) (numbered : AreNumberedByFirs
     same = best_choices-unique t b i choice other w (sets-ascend_on_paths t i w (recall i l) numbered) best best'
 
     worth-same : reply_value t b i choice 0 ≡ reply_value t b i other 0
-    worth-same = values-alike t b i choice other w (λ s m o. (best s m o).within) same 0 w.some_node
+    worth-same = values-alike t b b i choice other w (λ s j a m o n. refl) (λ s m o. (best s m o).within) same 0 w.some_node
 
     steps-same : player_steps t b i choice ≡ player_steps t b i other
-    steps-same = steps-alike t b i choice other w (λ s m o. (best s m o).within) same
+    steps-same = steps-alike t b b i choice other w (λ s j a m o n. refl) (λ s m o. (best s m o).within) same
 
     reply-same : map choice (own_sets t i) ≡ map other (own_sets t i)
     reply-same = map-among choice other (own_sets t i) (λ s among. let own = own_sets-tell t i s among in same s own.0 own.1)
@@ -95,5 +97,7 @@ module _ (t : Tree) (b : Behaviour) (w : IsTree t) (numbered : AreNumberedByFirs
 
 -- the law of single verdicts, where trees stand for game trees whose sets are numbered by their first nodes
 pub verdicts-single : ((tree : GameTree) → is_valid_tree tree → IsTree (game_of_tree tree)) → ((tree : GameTree) → is_valid_tree tree → AreNumberedByFirstNodes (game_of_tree tree)) → TreeVerdictsAreSingle
-verdicts-single game numbered tree entries v u reply reply' valid recall are h g =
-    verdicts-same (game_of_tree tree) are.0 (game tree valid) (numbered tree valid) recall v u reply reply' (h are.0 are.1) (g are.0 are.1)
+verdicts-single game numbered tree entries v u reply reply' valid recall h g =
+    let t = game_of_tree tree in
+    let w = game tree valid in
+    verdicts-same t h.0 w (numbered tree valid) recall v u reply reply' h.2 (verdict-alike t g.0 h.0 w (entries-alike t g.0 h.0 w (sym g.1 ∙ h.1)) u reply' g.2)

@@ -14,7 +14,7 @@ use Rattle.pure_payoffs.specs.Steps.{StepFits}
 use Rattle.ne_checker.specs.declared.trees.TreeVerdict.{TreeVerdict}
 use Rattle.ne_checker.specs.declared.trees.TreeVerdict.TheVariants.{Equilibrium, Better}
 use Rattle.ne_checker.specs.TreeSteps.{player_steps}
-use Rattle.ne_checker.specs.TreeVerdicts.{AreEntries, IsTreeVerdict, tree_verdict}
+use Rattle.ne_checker.specs.TreeVerdicts.{IsTreeVerdict, tree_verdict}
 
 -- all players of a tree recall
 abbrev pub AllRecall : GameTree → Type 0
@@ -24,9 +24,8 @@ AllRecall tree = (i : ℕ) → i < length tree.players → HasPerfectRecall (gam
 abbrev pub TreeVerdictsAreSingle : Type 0
 TreeVerdictsAreSingle =
     (tree : GameTree) (entries : List ℚ) (verdict other : TreeVerdict) (reply reply' : List ℕ)
-    → IsTree tree → AllRecall tree → AreEntries tree entries
-    → tree_verdict tree entries verdict reply → tree_verdict tree entries other reply'
-    → (verdict ≡ other) × (reply ≡ reply')
+    → IsTree tree → AllRecall tree → tree_verdict tree entries verdict reply
+    → tree_verdict tree entries other reply' → (verdict ≡ other) × (reply ≡ reply')
 
 -- the steps of all players fit, for each player's best choices
 abbrev pub AllFit : Tree → Behaviour → Type 0

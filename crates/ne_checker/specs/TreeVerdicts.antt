@@ -53,8 +53,8 @@ IsTreeVerdict t b (Range step) reply = IsOutOfRange t b step × (reply ≡ [])
 abbrev pub AreEntries : GameTree → List ℚ → Type 0
 AreEntries tree entries = (b : Behaviour) × (entries ≡ tree_entries (game_of_tree tree) b)
 
--- a verdict on the behaviour with these entries, and the reply that comes with it
+-- a verdict on behaviour with these entries, and the reply that comes with it
 abbrev pub tree_verdict : GameTree → List ℚ → TreeVerdict → List ℕ → Type 0
 tree_verdict tree entries verdict reply =
-    (b : Behaviour) → entries ≡ tree_entries (game_of_tree tree) b
-    → IsTreeVerdict (game_of_tree tree) b verdict reply
+    (b : Behaviour) × (entries ≡ tree_entries (game_of_tree tree) b)
+    × IsTreeVerdict (game_of_tree tree) b verdict reply

@@ -1,6 +1,6 @@
 // Mixed profiles of tables, by their entries.
-ghost use Rattle.std.specs.Prelude.{◌≡◌, ◌<◌, ◌^◌, All, length, sum, slice_index, IfErr, OnOk};
-ghost use Rattle.game_core.specs.Table.{IsTable, strategy_counts};
+ghost use Rattle.std.specs.Prelude.{◌≡◌, ◌<◌, ◌^◌, All, length, sum, IfErr, OnOk};
+ghost use Rattle.game_core.specs.Table.{strategy_counts};
 ghost use Rattle.behaviour_profile.specs.EntryTests.{
   IsFirstFault,
   Passes,
@@ -33,15 +33,6 @@ impl Model for Mixed {
     ghost view = { λ m. m.entries.items };
 }
 
-/// How many strategies a player has.
-pub(crate) fn strategy_count(table: &Table, player: usize) -> usize
-    requires { player < length table.now.players }
-    ensures count { result ≡ slice_index (strategy_counts table.now) player }
-    ensures valid { IsTable table.now }
-{
-    table.strategies(player).len()
-}
-
 // How many entries a mixed profile has.
 fn entry_count(table: &Table) -> usize
     ensures value { result ≡ sum (strategy_counts table.now) }
@@ -49,7 +40,7 @@ fn entry_count(table: &Table) -> usize
 {
     let mut count = 0;
     for player in 0..table.players().len() {
-        count += strategy_count(table, player);
+        count += table.strategy_count(player);
     }
     count
 }
@@ -65,7 +56,7 @@ fn test_players(table: &Table, entries: &[Frac]) -> Result<(), ProfileFault>
 {
     let mut place = 0;
     for player in 0..table.players().len() {
-        let count = strategy_count(table, player) as u32;
+        let count = table.strategy_count(player) as u32;
         match test_group(entries, place, player as u32, count) {
             Ok(()) => place += count,
             Err(fault) => return Err(fault),

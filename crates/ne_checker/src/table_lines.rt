@@ -1,13 +1,14 @@
 // The check of lines with mixed profiles of a table.
 ghost use Rattle.answers.specs.Answers.{Gives, map_ok};
+ghost use Rattle.ne_checker.specs.CheckLaws.{TableChecksTell};
 ghost use Rattle.ne_checker.specs.LineChecks.{TableChecksAreSingle, table_check, table_line};
 ghost use Rattle.ne_checker.specs.declared.stops.CheckStop.TheVariants as stops;
 
 use crate::kept_text::{keep, within_limit};
 use crate::stops::{CheckStop, faulty, unread};
 use crate::texts::{better_strategy, equilibrium};
-use crate::{Mixed, TableVerdict, check_table};
-use behaviour_profile::profiles_are_single;
+use crate::{Mixed, TableVerdict, check_table, table_verdicts_find_equilibria};
+use behaviour_profile::{profiles_are_single, tested_entries_are_profiles};
 use game_core::Table;
 use ne_printer::{first_line, read_line};
 use std::alloc::Global;
@@ -71,4 +72,13 @@ pub fn table_checks_are_single()
     ensures { TableChecksAreSingle }
 {
     profiles_are_single();
+}
+
+/// Each text tells of all lines: of an equilibrium that it is one, and else of the first player
+/// with a better strategy, and of the first that pays the most.
+pub fn table_checks_tell_equilibria()
+    ensures { TableChecksTell }
+{
+    tested_entries_are_profiles();
+    table_verdicts_find_equilibria();
 }

@@ -23,7 +23,7 @@ ghost use Rattle.std.specs.Prelude.{
 ghost use Rattle.std.specs.List.{flat_map, range_with_len};
 ghost use Rattle.rational.specs.Rational.{◌+ℚ◌, ◌*ℚ◌, ◌<ℚ◌, one_ℚ};
 ghost use Rattle.game_theory.specs.Mixed.{payoff as payoff_of};
-ghost use Rattle.game_theory.specs.Profiles.{profile_at, profile_count, stride as stride_of};
+ghost use Rattle.game_theory.specs.Profiles.{profile_at, profile_count};
 ghost use Rattle.game_core.specs.Table.{IsTable, game_of, strategy_counts};
 ghost use Rattle.pure_payoffs.specs.Plays.{Give};
 ghost use Rattle.pure_payoffs.specs.Steps.{IsFirstUnfit, StepFits};
@@ -47,7 +47,7 @@ ghost use Rattle.ne_checker.specs.TableChecks.{
   weight_steps,
 };
 
-use crate::mixed::{Mixed, strategy_count};
+use crate::mixed::Mixed;
 use frac128::{Frac, Unfit};
 use game_core::Table;
 
@@ -87,27 +87,6 @@ struct BetterReply {
     reply: u32,
 }
 
-// A player's payoff at the profile with a number.
-fn profile_payoff(table: &Table, player: usize, profile: usize) -> Frac
-    requires player { player < length table.now.players }
-    requires profile { profile < profile_count (strategy_counts table.now) }
-    ensures { result ≡ (game_of table.now).pays player profile }
-{
-    table.payoffs()[profile * table.players().len() + player]
-}
-
-// How much a profile's number grows with the player's strategy.
-fn stride(table: &Table, player: usize) -> usize
-    requires { player < length table.now.players }
-    ensures { result ≡ stride_of (strategy_counts table.now) player }
-{
-    let mut stride = 1;
-    for earlier in 0..player {
-        stride *= strategy_count(table, earlier);
-    }
-    stride
-}
-
 // Where a player's entries begin.
 fn first_entry(table: &Table, player: usize) -> usize
     requires { player < length table.now.players }
@@ -115,7 +94,7 @@ fn first_entry(table: &Table, player: usize) -> usize
 {
     let mut first = 0;
     for earlier in 0..player {
-        first += strategy_count(table, earlier);
+        first += table.strategy_count(earlier);
     }
     first
 }
@@ -127,10 +106,8 @@ fn add_weighed(sum: Frac, weight: Frac, number: Frac) -> Result<Frac, Unfit>
     if weight.is_zero() {
         return Ok(sum);
     }
-    match weight.mul(number) {
-        Ok(product) => sum.add(product),
-        Err(unfit) => Err(unfit),
-    }
+    let product = weight.mul(number)?;
+    sum.add(product)
 }
 
 // The product of the probabilities with which the others play a profile.
@@ -146,12 +123,9 @@ fn others_weight(table: &Table, mixed: &Mixed, player: usize, profile: usize) ->
     let mut first = 0;
     let mut rest = profile;
     for other in 0..table.players().len() {
-        let count = strategy_count(table, other);
+        let count = table.strategy_count(other);
         if other != player {
-            match product.mul(entries[first + rest % count]) {
-                Ok(next) => product = next,
-                Err(unfit) => return Err(unfit),
-            }
+            product = product.mul(entries[first + rest % count])?;
         }
         first += count;
         rest /= count;
@@ -184,14 +158,8 @@ fn add_profiles(
 {
     let mut value = so_far;
     for profile in first..first + count {
-        let weight = match others_weight(table, mixed, player, profile) {
-            Ok(weight) => weight,
-            Err(unfit) => return Err(unfit),
-        };
-        match add_weighed(value, weight, profile_payoff(table, player, profile)) {
-            Ok(next) => value = next,
-            Err(unfit) => return Err(unfit),
-        }
+        let weight = others_weight(table, mixed, player, profile)?;
+        value = add_weighed(value, weight, table.payoff_at(profile, player))?;
     }
     Ok(value)
 }
@@ -210,16 +178,13 @@ fn strategy_value(
         let g = game_of table.now in
         Give (strategy_steps g m player strategy) (value_of g m player strategy) result }
 {
-    let stride = stride(table, player);
+    let stride = table.stride(player);
     let profiles = table.payoffs().len() / table.players().len();
     let mut value = Frac::zero();
     let mut first = strategy * stride;
     while first < profiles {
-        match add_profiles(table, mixed, player, strategy, value, first, stride) {
-            Ok(next) => value = next,
-            Err(unfit) => return Err(unfit),
-        }
-        first += stride * strategy_count(table, player);
+        value = add_profiles(table, mixed, player, strategy, value, first, stride)?;
+        first += stride * table.strategy_count(player);
     }
     Ok(value)
 }
@@ -237,17 +202,11 @@ fn best_strategy(table: &Table, mixed: &Mixed, player: usize) -> Result<Worth, U
     ensures unfit { let m = mixed_of (strategy_counts table.now) mixed.now in
         IfErr result (IsFirstUnfit (value_steps (game_of table.now) m player)) }
 {
-    let count = strategy_count(table, player);
-    let mut best = match strategy_value(table, mixed, player, 0) {
-        Ok(value) => value,
-        Err(unfit) => return Err(unfit),
-    };
+    let count = table.strategy_count(player);
+    let mut best = strategy_value(table, mixed, player, 0)?;
     let mut reply = 0;
     for strategy in 1..count {
-        let value = match strategy_value(table, mixed, player, strategy) {
-            Ok(value) => value,
-            Err(unfit) => return Err(unfit),
-        };
+        let value = strategy_value(table, mixed, player, strategy)?;
         if best.is_less(value) {
             best = value;
             reply = strategy as u32;
@@ -272,16 +231,10 @@ fn payoff(table: &Table, mixed: &Mixed, player: usize) -> Result<Frac, Unfit>
 {
     let first = first_entry(table, player);
     let mut payoff = Frac::zero();
-    for strategy in 0..strategy_count(table, player) {
+    for strategy in 0..table.strategy_count(player) {
         let probability = mixed.entries()[first + strategy];
-        let value = match strategy_value(table, mixed, player, strategy) {
-            Ok(value) => value,
-            Err(unfit) => return Err(unfit),
-        };
-        match add_weighed(payoff, probability, value) {
-            Ok(next) => payoff = next,
-            Err(unfit) => return Err(unfit),
-        }
+        let value = strategy_value(table, mixed, player, strategy)?;
+        payoff = add_weighed(payoff, probability, value)?;
     }
     Ok(payoff)
 }
@@ -295,14 +248,8 @@ fn better_reply(table: &Table, mixed: &Mixed, player: usize) -> Result<Option<Be
     ensures unfit { let m = mixed_of (strategy_counts table.now) mixed.now in
         IfErr result (IsFirstUnfit (player_steps (game_of table.now) m player)) }
 {
-    let best = match best_strategy(table, mixed, player) {
-        Ok(best) => best,
-        Err(unfit) => return Err(unfit),
-    };
-    let payoff = match payoff(table, mixed, player) {
-        Ok(payoff) => payoff,
-        Err(unfit) => return Err(unfit),
-    };
+    let best = best_strategy(table, mixed, player)?;
+    let payoff = payoff(table, mixed, player)?;
     if payoff.is_less(best.value) {
         Ok(Some(BetterReply {
             payoff,
@@ -343,7 +290,8 @@ pub fn table_verdicts_are_single()
     ensures { TableVerdictsAreSingle }
 {}
 
-/// Verdicts of tables tell equilibria.
+/// Verdicts of tables tell equilibria. A better strategy is the first player's that has one, and
+/// the first of the best.
 pub fn table_verdicts_find_equilibria()
     ensures { TableVerdictsFindEquilibria }
 {}

@@ -3,13 +3,16 @@ ghost use Rattle.answers.specs.Answers.{Gives, map_ok};
 ghost use Rattle.game_core.specs.TreeGame.{game_of_tree};
 ghost use Rattle.perfect_recall.specs.Found.{IsRecallOf};
 ghost use Rattle.ne_checker.specs.TreeScratches.{IsScratchOf};
+ghost use Rattle.ne_checker.specs.CheckLaws.{TreeChecksTell};
 ghost use Rattle.ne_checker.specs.LineChecks.{TreeChecksAreSingle, tree_check, tree_line};
 ghost use Rattle.ne_checker.specs.declared.stops.CheckStop.TheVariants as stops;
 
 use crate::kept_text::{keep, within_limit};
 use crate::stops::{CheckStop, faulty, unread};
 use crate::texts::{better_reply, equilibrium};
-use crate::{Scratch, TreeVerdict, check_tree, tree_verdicts_are_single};
+use crate::{
+    Scratch, TreeVerdict, check_tree, tree_verdicts_are_single, tree_verdicts_find_equilibria,
+};
 use behaviour_profile::{Behaviour, profiles_are_single, tested_entries_are_behaviours};
 use game_core::tree_parts::stands_for_game_tree;
 use game_core::{Tree, trees_are_game_trees};
@@ -93,8 +96,16 @@ pub fn check_tree_lines(
 pub fn tree_checks_are_single()
     ensures { TreeChecksAreSingle }
 {
-    trees_are_game_trees();
     profiles_are_single();
-    tested_entries_are_behaviours();
     tree_verdicts_are_single();
+}
+
+/// Each text on a tree in which all players recall tells of all lines: of an equilibrium that it
+/// is one, and else of the first player with a better reply, and of a reply that pays the most.
+pub fn tree_checks_tell_equilibria()
+    ensures { TreeChecksTell }
+{
+    trees_are_game_trees();
+    tested_entries_are_behaviours();
+    tree_verdicts_find_equilibria();
 }

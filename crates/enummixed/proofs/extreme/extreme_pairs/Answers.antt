@@ -6,14 +6,13 @@ use Rattle.game_core.specs.Table.{game_of}
 use Rattle.pure_payoffs.specs.FirstUnfit.{Fits}
 use Rattle.basis_enum.specs.Systems.{variable_count}
 use Rattle.basis_enum.specs.Vertices.{mark_of, marks_of, list_of}
-use Rattle.basis_enum.specs.Enumeration.{vertices_in}
 use Rattle.lex_tableau.specs.Starts.{system_of}
 use Rattle.label_pairing.specs.Pairs.{mark_at}
 use Rattle.label_pairing.specs.Scaling.{IsScalable, scale_steps}
 use Rattle.label_pairing.specs.Stops.{pairs_in}
 use Rattle.label_pairing.specs.declared.pairing.PairStop.TheVariants as pair_stops
 use Rattle.enummixed.specs.Pairs.{pairs_of}
-use Rattle.enummixed.specs.Told.{enumeration_stop, pairs_stop, scale_stop}
+use Rattle.enummixed.specs.Told.{pairs_stop, scale_stop}
 use Rattle.enummixed.specs.Used.{all_labels, occurs, used_points, scaled_used, scaling_in}
 use Rattle.enummixed.specs.declared.stop.MixedStop.TheVariants as stops
 use Rattle.enummixed.proofs.ExtremeLineLemmas.{scalable}

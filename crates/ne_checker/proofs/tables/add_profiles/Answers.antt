@@ -1,6 +1,7 @@
 use Rattle.std.proofs.Common.{ℕ, ◌≡◌, ◌+◌, ◌-◌, ◌∙◌, suc, All, sym, ap, subst, add-one, arith}
 use Rattle.std.specs.List.{flat_map, range_with_len}
 use Rattle.std.proofs.lemmas.List.Elements.{All-nil}
+use Rattle.std.proofs.lemmas.Result.{err_from_is_err_and}
 use Rattle.game_core.specs.Table.{game_of, strategy_counts}
 use Rattle.game_core.proofs.TableCountLemmas.{profile_count-table}
 use Rattle.pure_payoffs.specs.Steps.{StepFits, IsFirstUnfit}
@@ -21,27 +22,29 @@ loop-profile-init c =
       fit = subst (λ n. All StepFits (flat_map (steps_at (game_of c.args.table.now) (mixed_of (strategy_counts c.args.table.now) c.args.mixed.now) c.args.player c.args.strategy) (range_with_len c.args.first n))) (sym none) (All-nil StepFits);
     }
 
-pub returns-in-Err : goal.returns-in-Err
-returns-in-Err c =
+pub returns-in_err-weight : goal.returns-in_err-weight
+returns-in_err-weight c =
     let m = mixed_of (strategy_counts c.args.table.now) c.args.mixed.now in
     let g = game_of c.args.table.now in
     let k : ℕ = c.loop-profile.profile in
     let f = steps_at g m c.args.player c.args.strategy in
     let at : c.args.first + (k - c.args.first) ≡ k = omega (arith, c.loop-profile.auto.profile) in
-    unfit-next f c.args.first (k - c.args.first) c.args.count c.in-Err.unfit (omega (arith, c.loop-profile-test.true, c.loop-profile.auto.profile)) c.loop-profile.invariant.fit
-    (subst (λ j. IsFirstUnfit (f j) c.in-Err.unfit) (sym at) (weight-unfit g m c.args.player c.args.strategy k c.in-Err.unfit (c.requires.played k (omega (arith, c.loop-profile.auto.profile)) (omega (arith, c.loop-profile-test.true))) c.in-Err.ensures))
+    let p = err_from_is_err_and c.from_residual.result c.from_residual.ensures.1 in
+    rw (p.1, p.2) (unfit-next f c.args.first (k - c.args.first) c.args.count c.in_err-weight.field-0.0 (omega (arith, c.loop-profile-test.true, c.loop-profile.auto.profile)) c.loop-profile.invariant.fit
+    (subst (λ j. IsFirstUnfit (f j) c.in_err-weight.field-0.0) (sym at) (weight-unfit g m c.args.player c.args.strategy k c.in_err-weight.field-0.0 (c.requires.played k (omega (arith, c.loop-profile.auto.profile)) (omega (arith, c.loop-profile-test.true))) c.in_err-weight.ensures)))
 
-pub returns-in-Err-add_weighed : goal.returns-in-Err-add_weighed
-returns-in-Err-add_weighed c =
+pub returns-in_err-value : goal.returns-in_err-value
+returns-in_err-value c =
     let m = mixed_of (strategy_counts c.args.table.now) c.args.mixed.now in
     let g = game_of c.args.table.now in
     let k : ℕ = c.loop-profile.profile in
     let f = steps_at g m c.args.player c.args.strategy in
     let at : c.args.first + (k - c.args.first) ≡ k = omega (arith, c.loop-profile.auto.profile) in
-    unfit-next f c.args.first (k - c.args.first) c.args.count c.in-Err-add_weighed.unfit (omega (arith, c.loop-profile-test.true, c.loop-profile.auto.profile)) c.loop-profile.invariant.fit
-    (subst (λ j. IsFirstUnfit (f j) c.in-Err-add_weighed.unfit) (sym at)
-    (sum-unfit g m c.args.player c.args.strategy k c.in-Ok.weight c.profile_payoff.result c.loop-profile.value c.in-Err-add_weighed.unfit (c.requires.played k (omega (arith, c.loop-profile.auto.profile)) (omega (arith, c.loop-profile-test.true)))
-    c.in-Ok.ensures.0 c.profile_payoff.ensures c.loop-profile.invariant.value c.in-Ok.ensures.1 c.in-Err-add_weighed.ensures))
+    let p = err_from_is_err_and c.from_residual-in_err-value.result c.from_residual-in_err-value.ensures.1 in
+    rw (p.1, p.2) (unfit-next f c.args.first (k - c.args.first) c.args.count c.in_err-value.field-0.0 (omega (arith, c.loop-profile-test.true, c.loop-profile.auto.profile)) c.loop-profile.invariant.fit
+    (subst (λ j. IsFirstUnfit (f j) c.in_err-value.field-0.0) (sym at)
+    (sum-unfit g m c.args.player c.args.strategy k c.in_ok-weight.weight c.payoff_at.result c.loop-profile.value c.in_err-value.field-0.0 (c.requires.played k (omega (arith, c.loop-profile.auto.profile)) (omega (arith, c.loop-profile-test.true)))
+    c.in_ok-weight.ensures.0 c.payoff_at.ensures c.loop-profile.invariant.value c.in_ok-weight.ensures.1 c.in_err-value.ensures)))
 
 pub loop-profile-preserved : goal.loop-profile-preserved
 loop-profile-preserved c =
@@ -53,12 +56,12 @@ loop-profile-preserved c =
     let more : suc (k - c.args.first) ≡ (k + 1) - c.args.first = omega (arith, c.loop-profile.auto.profile) in
     let played = c.requires.played k (omega (arith, c.loop-profile.auto.profile)) (omega (arith, c.loop-profile-test.true)) in
     record {
-      value = profile-value g m c.args.player c.args.strategy k c.in-Ok.weight c.profile_payoff.result c.loop-profile.value c.in-Ok-add_weighed.next played c.in-Ok.ensures.0 c.profile_payoff.ensures c.loop-profile.invariant.value c.in-Ok-add_weighed.ensures.0
+      value = profile-value g m c.args.player c.args.strategy k c.in_ok-weight.weight c.payoff_at.result c.loop-profile.value c.in_ok-value.value played c.in_ok-weight.ensures.0 c.payoff_at.ensures c.loop-profile.invariant.value c.in_ok-value.ensures.0
           ∙ ap (value_below g m c.args.player c.args.strategy) (sym (add-one k));
       fit = subst (λ n. All StepFits (flat_map f (range_with_len c.args.first n))) more
           (fits-next f c.args.first (k - c.args.first) c.loop-profile.invariant.fit
           (subst (λ j. All StepFits (f j)) (sym at)
-          (profile-fits g m c.args.player c.args.strategy k c.in-Ok.weight c.profile_payoff.result c.loop-profile.value played c.in-Ok.ensures.0 c.profile_payoff.ensures c.loop-profile.invariant.value c.in-Ok.ensures.1 c.in-Ok-add_weighed.ensures.1)));
+          (profile-fits g m c.args.player c.args.strategy k c.in_ok-weight.weight c.payoff_at.result c.loop-profile.value played c.in_ok-weight.ensures.0 c.payoff_at.ensures c.loop-profile.invariant.value c.in_ok-weight.ensures.1 c.in_ok-value.ensures.1)));
     }
 
 pub returns : goal.returns

@@ -1,6 +1,7 @@
 use Rattle.std.proofs.Common.{ℕ, ◌≡◌, ◌<◌, ◌≤◌, ◌+◌, ◌∙◌, suc, inl, inr, All, get_or, sym, ap, subst, add-one, arith}
 use Rattle.std.proofs.lemmas.Bool.{false≢true}
 use Rattle.std.proofs.lemmas.List.Elements.{All-nil}
+use Rattle.std.proofs.lemmas.Result.{err_from_is_err_and}
 use Rattle.rational.specs.Rational.{ℚ, ◌≤ℚ◌, ◌<ℚ◌}
 use Rattle.rational.proofs.Field.{le_or_lt, le_refl}
 use Rattle.game_core.specs.Table.{game_of, strategy_counts}
@@ -27,12 +28,13 @@ pub strategy_value-requires-clause-strategy : goal.strategy_value-requires-claus
 strategy_value-requires-clause-strategy c =
     some_strategy c.args.table.now c.strategy_count-count.ensures.valid c.args.player c.requires.player
 
-pub returns-in-Err-clause-unfit : goal.returns-in-Err-clause-unfit
-returns-in-Err-clause-unfit c =
+pub returns-in_err-best-clause-unfit : goal.returns-in_err-best-clause-unfit
+returns-in_err-best-clause-unfit c =
     let g = game_of c.args.table.now in
     let m = mixed_of (strategy_counts c.args.table.now) c.args.mixed.now in
-    unfit-next (strategy_steps g m c.args.player) 0 0 (get_or (strategy_counts c.args.table.now) c.args.player 0) c.in-Err.unfit
-    (some_strategy c.args.table.now c.strategy_count-count.ensures.valid c.args.player c.requires.player) (All-nil StepFits) c.in-Err.ensures
+    let p = err_from_is_err_and c.from_residual.result c.from_residual.ensures.1 in
+    rw (p.1, p.2) (unfit-next (strategy_steps g m c.args.player) 0 0 (get_or (strategy_counts c.args.table.now) c.args.player 0) c.in_err-best.field-0.0
+    (some_strategy c.args.table.now c.strategy_count-count.ensures.valid c.args.player c.requires.player) (All-nil StepFits) c.in_err-best.ensures)
 
 pub loop-strategy-init : goal.loop-strategy-init
 loop-strategy-init c =
@@ -44,18 +46,19 @@ loop-strategy-init c =
         greatest = λ k l. (let e : 0 ≡ k = omega (arith, l) in subst (λ x. strategy_value g m c.args.player x ≤ℚ strategy_value g m c.args.player 0) e (le_refl (strategy_value g m c.args.player 0)));
         first = λ k l. absurd (omega (arith, l));
       };
-      value = c.in-Ok.ensures.0;
-      fit = fits-next (strategy_steps g m c.args.player) 0 0 (All-nil StepFits) c.in-Ok.ensures.1;
+      value = c.in_ok-best.ensures.0;
+      fit = fits-next (strategy_steps g m c.args.player) 0 0 (All-nil StepFits) c.in_ok-best.ensures.1;
     }
 
-pub returns-in-Err-strategy_value-clause-unfit : goal.returns-in-Err-strategy_value-clause-unfit
-returns-in-Err-strategy_value-clause-unfit c =
+pub returns-in_err-value-clause-unfit : goal.returns-in_err-value-clause-unfit
+returns-in_err-value-clause-unfit c =
     let g = game_of c.args.table.now in
     let m = mixed_of (strategy_counts c.args.table.now) c.args.mixed.now in
     let at : 0 + c.loop-strategy.strategy ≡ c.loop-strategy.strategy = omega arith in
-    unfit-next (strategy_steps g m c.args.player) 0 c.loop-strategy.strategy (get_or (strategy_counts c.args.table.now) c.args.player 0) c.in-Err-strategy_value.unfit
+    let p = err_from_is_err_and c.from_residual-in_err-value.result c.from_residual-in_err-value.ensures.1 in
+    rw (p.1, p.2) (unfit-next (strategy_steps g m c.args.player) 0 c.loop-strategy.strategy (get_or (strategy_counts c.args.table.now) c.args.player 0) c.in_err-value.field-0.0
     (omega (arith, c.loop-strategy-test.true, c.strategy_count-count.ensures.count)) c.loop-strategy.invariant.fit
-    (subst (λ j. IsFirstUnfit (strategy_steps g m c.args.player j) c.in-Err-strategy_value.unfit) (sym at) c.in-Err-strategy_value.ensures)
+    (subst (λ j. IsFirstUnfit (strategy_steps g m c.args.player j) c.in_err-value.field-0.0) (sym at) c.in_err-value.ensures))
 
 pub overflow_cast-reply : goal.overflow_cast-reply
 overflow_cast-reply c = omega (arith, c.loop-strategy-test.true, few (goal.at.overflow_cast-reply c).After-strategy_count-count)
@@ -68,12 +71,12 @@ loop-strategy-preserved c =
     let v : ℕ → ℚ = strategy_value g m c.args.player in
     let at : 0 + k ≡ k = omega arith in
     let was : c.loop-strategy.best ≡ v c.loop-strategy.reply = c.loop-strategy.invariant.value in
-    let is : c.in-Ok-strategy_value.value ≡ v k = c.in-Ok-strategy_value.ensures.0 in
+    let is : c.in_ok-value.value ≡ v k = c.in_ok-value.ensures.0 in
     record {
       best = subst (λ n. IsFirstGreatest n v c.if-is_less.reply) (sym (add-one k)) (elim c.if-is_less.branch [
         | then-is_less w ↦
             subst (λ a. IsFirstGreatest (suc k) v a) (sym w.reply-is)
-            (first_greatest-passed k v c.loop-strategy.reply c.loop-strategy.invariant.best (subst (λ x. v c.loop-strategy.reply <ℚ x) is (subst (λ x. x <ℚ c.in-Ok-strategy_value.value) was (c.is_less.ensures.0 w.if-is_less.true))))
+            (first_greatest-passed k v c.loop-strategy.reply c.loop-strategy.invariant.best (subst (λ x. v c.loop-strategy.reply <ℚ x) is (subst (λ x. x <ℚ c.in_ok-value.value) was (c.is_less.ensures.0 w.if-is_less.true))))
         | else-is_less w ↦
             subst (λ a. IsFirstGreatest (suc k) v a) (sym w.reply-is)
             (first_greatest-kept k v c.loop-strategy.reply c.loop-strategy.invariant.best (elim (le_or_lt (v k) (v c.loop-strategy.reply)) [
@@ -86,7 +89,7 @@ loop-strategy-preserved c =
         | else-is_less w ↦ w.best-is ∙ was ∙ ap v (sym w.reply-is)
       ];
       fit = subst (λ n. All StepFits (steps_of (strategy_steps g m c.args.player) 0 n)) (sym (add-one k))
-          (fits-next (strategy_steps g m c.args.player) 0 k c.loop-strategy.invariant.fit (subst (λ j. All StepFits (strategy_steps g m c.args.player j)) (sym at) c.in-Ok-strategy_value.ensures.1));
+          (fits-next (strategy_steps g m c.args.player) 0 k c.loop-strategy.invariant.fit (subst (λ j. All StepFits (strategy_steps g m c.args.player j)) (sym at) c.in_ok-value.ensures.1));
     }
 
 end : (c : After-strategy_count-count) → (k : ℕ) → (1 ≤ c.strategy_count-count.result → k ≤ c.strategy_count-count.result) → c.strategy_count-count.result ≤ k → k ≡ get_or (strategy_counts c.args.table.now) c.args.player 0

@@ -1,6 +1,7 @@
 use Rattle.std.proofs.Common.{inl, inr, sym, ◌∙◌, subst}
 use Rattle.std.proofs.lemmas.Bool.{false≢true}
 use Rattle.std.proofs.lemmas.List.Elements.{All-append}
+use Rattle.std.proofs.lemmas.Result.{err_from_is_err_and}
 use Rattle.rational.specs.Rational.{◌≤ℚ◌}
 use Rattle.rational.proofs.Field.{le_or_lt}
 use Rattle.game_theory.specs.Mixed.{payoff as payoff_of}
@@ -11,21 +12,22 @@ use Rattle.behaviour_profile.specs.EntryTests.{mixed_of}
 use Rattle.ne_checker.specs.TableChecks.{payoff_steps, value_steps}
 use Rattle.ne_checker.proofs.tables.better_reply.Goals as goal
 
-pub returns-in-Err-payoff-clause-unfit : goal.returns-in-Err-payoff-clause-unfit
-returns-in-Err-payoff-clause-unfit c =
+pub returns-in_err-payoff-clause-unfit : goal.returns-in_err-payoff-clause-unfit
+returns-in_err-payoff-clause-unfit c =
     let g = game_of c.args.table.now in
     let m = mixed_of (strategy_counts c.args.table.now) c.args.mixed.now in
-    first_unfit-following (value_steps g m c.args.player) (payoff_steps g m c.args.player) c.in-Err-payoff.unfit c.in-Ok.ensures.fits c.in-Err-payoff.ensures
+    let p = err_from_is_err_and c.from_residual-in_err-payoff.result c.from_residual-in_err-payoff.ensures.1 in
+    rw (p.1, p.2) (first_unfit-following (value_steps g m c.args.player) (payoff_steps g m c.args.player) c.in_err-payoff.field-0.0 c.in_ok-best.ensures.fits c.in_err-payoff.ensures)
 
 pub returns-then-is_less-clause-found : goal.returns-then-is_less-clause-found
 returns-then-is_less-clause-found c =
     let g = game_of c.args.table.now in
     let m = mixed_of (strategy_counts c.args.table.now) c.args.mixed.now in
     record {
-      fit = All-append StepFits (value_steps g m c.args.player) (payoff_steps g m c.args.player) c.in-Ok.ensures.fits c.in-Ok-payoff.ensures.1;
-      is_best = c.in-Ok.ensures.best;
-      payoff_is = c.in-Ok-payoff.ensures.0;
-      best_is = c.in-Ok.ensures.value;
+      fit = All-append StepFits (value_steps g m c.args.player) (payoff_steps g m c.args.player) c.in_ok-best.ensures.fits c.in_ok-payoff.ensures.1;
+      is_best = c.in_ok-best.ensures.best;
+      payoff_is = c.in_ok-payoff.ensures.0;
+      best_is = c.in_ok-best.ensures.value;
       pays_more = c.is_less.ensures.0 c.if-is_less.true;
     }
 
@@ -34,9 +36,9 @@ returns-else-is_less-clause-found c =
     let g = game_of c.args.table.now in
     let m = mixed_of (strategy_counts c.args.table.now) c.args.mixed.now in
     record {
-      fit = All-append StepFits (value_steps g m c.args.player) (payoff_steps g m c.args.player) c.in-Ok.ensures.fits c.in-Ok-payoff.ensures.1;
-      best = c.in-Ok.best.strategy;
-      is_best = c.in-Ok.ensures.best;
-      no_more = subst (λ x. x ≤ℚ payoff_of g m c.args.player) c.in-Ok.ensures.value (subst (λ x. c.in-Ok.best.value ≤ℚ x) c.in-Ok-payoff.ensures.0
-          (elim (le_or_lt c.in-Ok.best.value c.in-Ok-payoff.payoff) [ inl le ↦ le | inr lt ↦ absurd (false≢true (sym c.if-is_less.false ∙ c.is_less.ensures.1 lt)) ]));
+      fit = All-append StepFits (value_steps g m c.args.player) (payoff_steps g m c.args.player) c.in_ok-best.ensures.fits c.in_ok-payoff.ensures.1;
+      best = c.in_ok-best.best.strategy;
+      is_best = c.in_ok-best.ensures.best;
+      no_more = subst (λ x. x ≤ℚ payoff_of g m c.args.player) c.in_ok-best.ensures.value (subst (λ x. c.in_ok-best.best.value ≤ℚ x) c.in_ok-payoff.ensures.0
+          (elim (le_or_lt c.in_ok-best.best.value c.in_ok-payoff.payoff) [ inl le ↦ le | inr lt ↦ absurd (false≢true (sym c.if-is_less.false ∙ c.is_less.ensures.1 lt)) ]));
     }

@@ -1,5 +1,6 @@
 use Rattle.std.proofs.Common.{ℕ, suc, ◌≡◌, ◌<◌, ◌+◌, ◌%◌, ◌/◌, ◌∷◌, ◌∙◌, List, Ok, Err, Result, length, get_or, drop, sym, ap, ap₂, subst, add-one, arith}
 use Rattle.std.proofs.lemmas.List.{drop_all, get_or_read}
+use Rattle.std.proofs.lemmas.Result.{err_from_is_err_and}
 use Rattle.rational.specs.Rational.{ℚ, zero_ℚ}
 use Rattle.frac128.specs.declared.steps.Unfit.{Unfit}
 use Rattle.game_theory.specs.Profiles.{profile_at}
@@ -10,7 +11,7 @@ use Rattle.behaviour_profile.proofs.GroupListLemmas.{sum-nil}
 use Rattle.ne_checker.proofs.TableOtherLemmas.{GiveFrom, all-left, none-left, own-left, other-left, other-unfit, strategies-left}
 use Rattle.ne_checker.proofs.TablePartLemmas.{strategies-few, player-within, some_strategy, entries-next, entries-within}
 use Rattle.ne_checker.proofs.tables.others_weight.Goals as goal
-use Rattle.ne_checker.proofs.tables.others_weight.Goals.{After-strategy_count-count, After-index-entries-first, then-other-player+in-Ok, else-other-player}
+use Rattle.ne_checker.proofs.tables.others_weight.Goals.{After-strategy_count-count, After-index-entries-first, then-other-player+in_ok-product, else-other-player}
 
 is_player : (c : After-strategy_count-count) → c.loop-other.other < length c.args.table.now.players
 is_player c = omega (arith, c.loop-other-test.true, ap length c.players-other-end.ensures.players)
@@ -64,14 +65,15 @@ loop-other-init c =
       left = λ r h. all-left (mixed_of (strategy_counts c.args.table.now) c.args.mixed.now) c.args.player (profile_at (strategy_counts c.args.table.now) c.args.profile) r (subst (λ x. GiveFrom (mixed_of (strategy_counts c.args.table.now) c.args.mixed.now) c.args.player 0 (profile_at (strategy_counts c.args.table.now) c.args.profile) x r) c.one-product.ensures h);
     }
 
-pub returns-in-Err : goal.returns-in-Err
-returns-in-Err c =
-    let a = (goal.at.returns-in-Err c).After-strategy_count-count in
+pub returns-in_err-product : goal.returns-in_err-product
+returns-in_err-product c =
+    let a = (goal.at.returns-in_err-product c).After-strategy_count-count in
     let m = mixed_of (strategy_counts c.args.table.now) c.args.mixed.now in
-    c.loop-other.invariant.left (Err c.in-Err.unfit)
-    (subst (λ v. GiveFrom m c.args.player c.loop-other.other v c.loop-other.product (Err c.in-Err.unfit)) (sym (here a))
-    (other-unfit m c.args.player c.loop-other.other (c.loop-other.rest % c.strategy_count-count.result) _ c.loop-other.product c.index-entries-first.result c.in-Err.unfit c.if-other-player.true
-    (entry (goal.at.returns-in-Err c).After-index-entries-first (place a)) c.in-Err.ensures.step c.in-Err.ensures.unfit))
+    let p = err_from_is_err_and c.from_residual.result c.from_residual.ensures.1 in
+    rw (p.1, p.2) (c.loop-other.invariant.left (Err c.in_err-product.field-0.0)
+    (subst (λ v. GiveFrom m c.args.player c.loop-other.other v c.loop-other.product (Err c.in_err-product.field-0.0)) (sym (here a))
+    (other-unfit m c.args.player c.loop-other.other (c.loop-other.rest % c.strategy_count-count.result) _ c.loop-other.product c.index-entries-first.result c.in_err-product.field-0.0 c.if-other-player.true
+    (entry (goal.at.returns-in_err-product c).After-index-entries-first (place a)) c.in_err-product.ensures.step c.in_err-product.ensures.unfit)))
 
 pub loop-other-preserved : goal.loop-other-preserved
 loop-other-preserved c =
@@ -87,12 +89,12 @@ loop-other-preserved c =
       left = λ r h. c.loop-other.invariant.left r
           (subst (λ v. GiveFrom m c.args.player j v c.loop-other.product r) (sym (here a))
           (elim c.if-other-player.branch [
-            | then-other-player+in-Ok w ↦
-                other-left m c.args.player j s later c.loop-other.product w.index-entries-first.result w.in-Ok.next r w.if-other-player.true
+            | then-other-player+in_ok-product w ↦
+                other-left m c.args.player j s later c.loop-other.product w.index-entries-first.result w.in_ok-product.product r w.if-other-player.true
                 (get_or_read c.args.mixed.now (c.loop-other.first + s) w.index-entries-first.result (place a)
                 (w.index-entries-first.is ∙ ap (λ v. get_or v (c.loop-other.first + s) w.index-entries-first.result) c.entries-entries.ensures) zero_ℚ
                 ∙ ap (λ x. get_or c.args.mixed.now (x + s) zero_ℚ) c.loop-other.invariant.first)
-                w.in-Ok.ensures.fits w.in-Ok.ensures.value (subst (λ x. GiveFrom m c.args.player (suc j) later x r) w.product-is (at_next c.if-other-player.product r h))
+                w.in_ok-product.ensures.fits w.in_ok-product.ensures.value (subst (λ x. GiveFrom m c.args.player (suc j) later x r) w.product-is (at_next c.if-other-player.product r h))
             | else-other-player w ↦ own-left m c.args.player j s later c.loop-other.product r w.if-other-player.false (subst (λ x. GiveFrom m c.args.player (suc j) later x r) w.product-is (at_next c.if-other-player.product r h))
           ]));
     }

@@ -1,5 +1,6 @@
 use Rattle.std.proofs.Common.{ℕ, ◌≡◌, ◌<◌, ◌+◌, ◌∙◌, List, All, get_or, length, sym, ap, subst, add-one, arith}
 use Rattle.std.proofs.lemmas.List.{get_or_read}
+use Rattle.std.proofs.lemmas.Result.{err_from_is_err_and}
 use Rattle.rational.specs.Rational.{◌+ℚ◌, ◌*ℚ◌, zero_ℚ}
 use Rattle.game_theory.specs.Mixed.{Mixed}
 use Rattle.game_core.specs.Table.{game_of, strategy_counts}
@@ -12,7 +13,7 @@ use Rattle.ne_checker.specs.TableChecks.{payoff_below, strategy_steps, weighed_s
 use Rattle.ne_checker.proofs.TablePartLemmas.{entries-within, player-within}
 use Rattle.ne_checker.proofs.TableRunLemmas.{fits-at, fits-next, steps_of, unfit-next}
 use Rattle.ne_checker.proofs.tables.payoff.Goals as goal
-use Rattle.ne_checker.proofs.tables.payoff.Goals.{In-loop-strategy, After-index-entries-first, In-Ok}
+use Rattle.ne_checker.proofs.tables.payoff.Goals.{In-loop-strategy, In_ok-value}
 
 place : (c : In-loop-strategy) → c.first_entry-first.result + c.loop-strategy.strategy < length c.args.mixed.now
 place c =
@@ -20,47 +21,48 @@ place c =
     omega (arith, within, c.first_entry-first.ensures, c.loop-strategy-test.true, c.strategy_count-strategy-end.ensures.count, c.requires.entries)
 
 -- the steps that add what one strategy is worth
-abbrev steps : (c : In-Ok) → ℕ → List Step
+abbrev steps : (c : In_ok-value) → ℕ → List Step
 steps c s =
     weighed_steps (mixed_of (strategy_counts c.args.table.now) c.args.mixed.now c.args.player s) (strategy_value (game_of c.args.table.now) (mixed_of (strategy_counts c.args.table.now) c.args.mixed.now) c.args.player s)
     (payoff_below (game_of c.args.table.now) (mixed_of (strategy_counts c.args.table.now) c.args.mixed.now) c.args.player s)
 
-entry : (c : In-Ok) → c.first_entry-first.result + c.loop-strategy.strategy < length c.args.mixed.now
+entry : (c : In_ok-value) → c.first_entry-first.result + c.loop-strategy.strategy < length c.args.mixed.now
     → c.index-entries-first.result ≡ mixed_of (strategy_counts c.args.table.now) c.args.mixed.now c.args.player c.loop-strategy.strategy
 entry c within =
     get_or_read c.args.mixed.now (c.first_entry-first.result + c.loop-strategy.strategy) c.index-entries-first.result within
     (c.index-entries-first.is ∙ ap (λ v. get_or v (c.first_entry-first.result + c.loop-strategy.strategy) c.index-entries-first.result) c.entries.ensures) zero_ℚ
     ∙ ap (λ x. get_or c.args.mixed.now (x + c.loop-strategy.strategy) zero_ℚ) c.first_entry-first.ensures
 
-step_is : (c : In-Ok) → c.first_entry-first.result + c.loop-strategy.strategy < length c.args.mixed.now → weighed_steps c.index-entries-first.result c.in-Ok.value c.loop-strategy.payoff ≡ steps c (0 + c.loop-strategy.strategy)
+step_is : (c : In_ok-value) → c.first_entry-first.result + c.loop-strategy.strategy < length c.args.mixed.now → weighed_steps c.index-entries-first.result c.in_ok-value.value c.loop-strategy.payoff ≡ steps c (0 + c.loop-strategy.strategy)
 step_is c within =
-    (λ j. weighed_steps (entry c within j) (c.in-Ok.ensures.0 j) (c.loop-strategy.invariant.payoff j)) ∙ ap (steps c) (let e : c.loop-strategy.strategy ≡ 0 + c.loop-strategy.strategy = omega arith in e)
+    (λ j. weighed_steps (entry c within j) (c.in_ok-value.ensures.0 j) (c.loop-strategy.invariant.payoff j)) ∙ ap (steps c) (let e : c.loop-strategy.strategy ≡ 0 + c.loop-strategy.strategy = omega arith in e)
 
-pub returns-in-Err : goal.returns-in-Err
-returns-in-Err c =
+pub returns-in_err-value : goal.returns-in_err-value
+returns-in_err-value c =
     let g = game_of c.args.table.now in
     let m = mixed_of (strategy_counts c.args.table.now) c.args.mixed.now in
-    absurd (unfit_among (strategy_steps g m c.args.player c.loop-strategy.strategy) c.in-Err.unfit c.in-Err.ensures
+    absurd (unfit_among (strategy_steps g m c.args.player c.loop-strategy.strategy) c.in_err-value.field-0.0 c.in_err-value.ensures
     (fits-at (strategy_steps g m c.args.player) (get_or (strategy_counts c.args.table.now) c.args.player 0) c.loop-strategy.strategy (omega (arith, c.loop-strategy-test.true, c.strategy_count-strategy-end.ensures.count)) c.requires.fit))
 
-pub returns-in-Err-add_weighed : goal.returns-in-Err-add_weighed
-returns-in-Err-add_weighed c =
-    let a = (goal.at.returns-in-Err-add_weighed c).In-Ok in
-    let within = place (goal.at.returns-in-Err-add_weighed c).In-loop-strategy in
-    unfit-next (steps a) 0 c.loop-strategy.strategy (get_or (strategy_counts c.args.table.now) c.args.player 0) c.in-Err-add_weighed.unfit
+pub returns-in_err-payoff : goal.returns-in_err-payoff
+returns-in_err-payoff c =
+    let a = (goal.at.returns-in_err-payoff c).In_ok-value in
+    let within = place (goal.at.returns-in_err-payoff c).In-loop-strategy in
+    let p = err_from_is_err_and c.from_residual-in_err-payoff.result c.from_residual-in_err-payoff.ensures.1 in
+    rw (p.1, p.2) (unfit-next (steps a) 0 c.loop-strategy.strategy (get_or (strategy_counts c.args.table.now) c.args.player 0) c.in_err-payoff.field-0.0
     (omega (arith, c.loop-strategy-test.true, c.strategy_count-strategy-end.ensures.count)) c.loop-strategy.invariant.fit
-    (subst (λ ss. IsFirstUnfit ss c.in-Err-add_weighed.unfit) (step_is a within) c.in-Err-add_weighed.ensures)
+    (subst (λ ss. IsFirstUnfit ss c.in_err-payoff.field-0.0) (step_is a within) c.in_err-payoff.ensures))
 
 pub loop-strategy-preserved : goal.loop-strategy-preserved
 loop-strategy-preserved c =
-    let a = (goal.at.loop-strategy-preserved c).In-Ok in
+    let a = (goal.at.loop-strategy-preserved c).In_ok-value in
     let within = place (goal.at.loop-strategy-preserved c).In-loop-strategy in
     let g = game_of c.args.table.now in
     let m : Mixed = mixed_of (strategy_counts c.args.table.now) c.args.mixed.now in
     record {
-      payoff = c.in-Ok-add_weighed.ensures.0 ∙ (λ j. c.loop-strategy.invariant.payoff j +ℚ (entry a within j *ℚ c.in-Ok.ensures.0 j)) ∙ ap (payoff_below g m c.args.player) (sym (add-one c.loop-strategy.strategy));
+      payoff = c.in_ok-payoff.ensures.0 ∙ (λ j. c.loop-strategy.invariant.payoff j +ℚ (entry a within j *ℚ c.in_ok-value.ensures.0 j)) ∙ ap (payoff_below g m c.args.player) (sym (add-one c.loop-strategy.strategy));
       fit = subst (λ n. All StepFits (steps_of (steps a) 0 n)) (sym (add-one c.loop-strategy.strategy))
-          (fits-next (steps a) 0 c.loop-strategy.strategy c.loop-strategy.invariant.fit (subst (All StepFits) (step_is a within) c.in-Ok-add_weighed.ensures.1));
+          (fits-next (steps a) 0 c.loop-strategy.strategy c.loop-strategy.invariant.fit (subst (All StepFits) (step_is a within) c.in_ok-payoff.ensures.1));
     }
 
 pub returns : goal.returns

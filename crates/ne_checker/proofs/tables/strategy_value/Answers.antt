@@ -1,10 +1,11 @@
 use Rattle.std.proofs.Common.{ℕ, List, ◌≡◌, ◌<◌, ◌≤◌, ◌+◌, ◌*◌, ◌/◌, ◌∙◌, All, get_or, length, sym, ap, ap₂, subst, arith}
 use Rattle.std.proofs.Math.Nat.{mul-le-mul_left}
+use Rattle.std.proofs.lemmas.Result.{err_from_is_err_and}
 use Rattle.rational.specs.Rational.{ℚ}
 use Rattle.game_theory.specs.Profiles.{profile_count, stride}
 use Rattle.game_core.specs.Table.{game_of, strategy_counts}
 use Rattle.game_core.proofs.TableCountLemmas.{profile_count-table}
-use Rattle.enumpure.proofs.StrideLemmas.{HaveStrategies-table, stride-positive, stride_next-at_most}
+use Rattle.game_core.proofs.StrideLemmas.{HaveStrategies-table, stride-positive, stride_next-at_most}
 use Rattle.behaviour_profile.specs.EntryTests.{mixed_of}
 use Rattle.pure_payoffs.specs.Steps.{IsFirstUnfit, StepFits}
 use Rattle.ne_checker.specs.TableChecks.{steps_at, value_below}
@@ -72,14 +73,15 @@ add_profiles-requires-clause-so_far c =
     at_first (game_of c.args.table.now) (mixed_of (strategy_counts c.args.table.now) c.args.mixed.now) c.args.player c.args.strategy (is_player a) c.requires.strategy (some a) c.loop-first.value c.loop-first.first
     (reached (goal.at.add_profiles-requires-clause-so_far c).In-loop-first (is_player a) (some a))
 
-pub returns-in-Err : goal.returns-in-Err
-returns-in-Err c =
-    let a = (goal.at.returns-in-Err c).After-zero-value in
+pub returns-in_err-value : goal.returns-in_err-value
+returns-in_err-value c =
+    let a = (goal.at.returns-in_err-value c).After-zero-value in
     let g = game_of c.args.table.now in
     let m = mixed_of (strategy_counts c.args.table.now) c.args.mixed.now in
-    block-unfit g m c.args.player c.args.strategy (is_player a) c.requires.strategy (some a) c.loop-first.value c.loop-first.first
-    (reached (goal.at.returns-in-Err c).In-loop-first (is_player a) (some a)) c.in-Err.unfit (is_next (goal.at.returns-in-Err c).In-loop-first (all a))
-    (subst (λ d. IsFirstUnfit (steps_of (steps_at g m c.args.player c.args.strategy) c.loop-first.first d) c.in-Err.unfit) c.stride-stride.ensures c.in-Err.ensures)
+    let p = err_from_is_err_and c.from_residual.result c.from_residual.ensures.1 in
+    rw (p.1, p.2) (block-unfit g m c.args.player c.args.strategy (is_player a) c.requires.strategy (some a) c.loop-first.value c.loop-first.first
+    (reached (goal.at.returns-in_err-value c).In-loop-first (is_player a) (some a)) c.in_err-value.field-0.0 (is_next (goal.at.returns-in_err-value c).In-loop-first (all a))
+    (subst (λ d. IsFirstUnfit (steps_of (steps_at g m c.args.player c.args.strategy) c.loop-first.first d) c.in_err-value.field-0.0) c.stride-stride.ensures c.in_err-value.ensures))
 
 length-block : (c : After-zero-value) → (n : ℕ) → n ≡ get_or (strategy_counts c.args.table.now) c.args.player 0 → c.stride-stride.result * n ≤ profile_count (strategy_counts c.args.table.now)
 length-block c n e = subst (λ x. c.stride-stride.result * x ≤ profile_count (strategy_counts c.args.table.now)) (sym e) (block c)
@@ -107,10 +109,10 @@ loop-first-preserved c = λ some player strategy.
     let g = game_of c.args.table.now in
     let m = mixed_of (strategy_counts c.args.table.now) c.args.mixed.now in
     let step : stride (strategy_counts c.args.table.now) c.args.player * get_or (strategy_counts c.args.table.now) c.args.player 0 ≡ c.stride-stride.result * c.strategy_count.result = ap₂ (λ x y. x * y) (sym c.stride-stride.ensures) (sym c.strategy_count.ensures.count) in
-    subst (λ x. IsReached g m c.args.player c.args.strategy player strategy some c.in-Ok.next (c.loop-first.first + x)) step
-    (next g m c.args.player c.args.strategy player strategy some c.loop-first.value c.loop-first.first (c.loop-first.invariant some player strategy) c.in-Ok.next (is_next (goal.at.loop-first-preserved c).In-loop-first (all a))
-    (subst (λ d. c.in-Ok.next ≡ value_below g m c.args.player c.args.strategy (c.loop-first.first + d)) c.stride-stride.ensures c.in-Ok.ensures.0)
-    (subst (λ d. All StepFits (steps_of (steps_at g m c.args.player c.args.strategy) c.loop-first.first d)) c.stride-stride.ensures c.in-Ok.ensures.1))
+    subst (λ x. IsReached g m c.args.player c.args.strategy player strategy some c.in_ok-value.value (c.loop-first.first + x)) step
+    (next g m c.args.player c.args.strategy player strategy some c.loop-first.value c.loop-first.first (c.loop-first.invariant some player strategy) c.in_ok-value.value (is_next (goal.at.loop-first-preserved c).In-loop-first (all a))
+    (subst (λ d. c.in_ok-value.value ≡ value_below g m c.args.player c.args.strategy (c.loop-first.first + d)) c.stride-stride.ensures c.in_ok-value.ensures.0)
+    (subst (λ d. All StepFits (steps_of (steps_at g m c.args.player c.args.strategy) c.loop-first.first d)) c.stride-stride.ensures c.in_ok-value.ensures.1))
 
 pub returns : goal.returns
 returns c =

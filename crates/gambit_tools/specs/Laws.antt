@@ -1,0 +1,36 @@
+-- What each text of a tool says of the game that the bytes of its input stand for.
+use Rattle.std.specs.Prelude.{ℕ, Bool, List, [], ◌∷◌, Ok}
+use Rattle.game_core.specs.declared.game.Game.{Game}
+use Rattle.game_core.specs.MadeTables.{made_game}
+use Rattle.outside.specs.Inputs.{InputName}
+use Rattle.words.specs.Words.{Enumpure, Enummixed, Lcp, Lp, Check, Make}
+use Rattle.two_player_tools.specs.LcpLaws.{IsEquilibriumText}
+use Rattle.two_player_tools.specs.LpLaws.{IsSolved}
+use Rattle.gambit_tools.specs.Check.{IsCheckText}
+use Rattle.gambit_tools.specs.Commands.{answer_of}
+use Rattle.gambit_tools.specs.Enummixed.{IsExtremeText}
+use Rattle.gambit_tools.specs.Enumpure.{IsPureText}
+use Rattle.gambit_tools.specs.Games.{game_in}
+use Rattle.gambit_tools.specs.Make.{IsCountsText}
+
+-- Each text of `enumpure` lists the pure equilibria, that of `enummixed` the extreme ones, that of `lcp` is
+-- an equilibrium, that of `lp` a solution, that of `check` tells of each line, and that of `make` counts.
+pub record TextsHoldForTheGame : Type 0 where
+  pub enumpure : (strategic : Bool) (file : InputName) (bytes text : List ℕ)
+      → answer_of (Enumpure strategic file) (bytes ∷ []) (Ok text)
+      → (game : Game) × game_in bytes (Ok game) × IsPureText strategic game text
+  pub enummixed : (all : Bool) (workers : ℕ) (file : InputName) (bytes text : List ℕ)
+      → answer_of (Enummixed all workers file) (bytes ∷ []) (Ok text)
+      → (game : Game) × game_in bytes (Ok game) × IsExtremeText game text
+  pub lcp : (strategic : Bool) (file : InputName) (bytes text : List ℕ)
+      → answer_of (Lcp strategic file) (bytes ∷ []) (Ok text)
+      → (game : Game) × game_in bytes (Ok game) × IsEquilibriumText strategic game text
+  pub lp : (strategic prices : Bool) (file : InputName) (bytes text : List ℕ)
+      → answer_of (Lp strategic prices file) (bytes ∷ []) (Ok text)
+      → (game : Game) × game_in bytes (Ok game) × IsSolved strategic prices game text
+  pub check : (strategic : Bool) (name : List ℕ) (file : InputName) (bytes lines text : List ℕ)
+      → answer_of (Check strategic name file) (bytes ∷ lines ∷ []) (Ok text)
+      → (game : Game) × game_in bytes (Ok game) × IsCheckText strategic game lines text
+  pub make : (number rows columns workers : ℕ) (text : List ℕ)
+      → answer_of (Make number rows columns workers) [] (Ok text)
+      → IsCountsText (made_game number rows columns) text
