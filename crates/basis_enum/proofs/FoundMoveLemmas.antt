@@ -1,7 +1,6 @@
 -- The pivots that are found from a tableau
-use Rattle.std.proofs.Common.{ℕ, suc, zero, ◌<◌, ◌≤◌, ◌≡◌, ◌+◌, ◌^◌, refl, sym, ap, subst, arith, inl, inr, List, [], ◌∷◌, ◌++◌, length, get_or, eq-or-lt_of_le}
+use Rattle.std.proofs.Common.{ℕ, ◌<◌, ◌≤◌, ◌≡◌, ◌+◌, ◌^◌, refl, sym, ap, subst, arith, inl, inr, List, [], ◌∷◌, ◌++◌, length, get_or, eq-or-lt_of_le}
 use Rattle.std.specs.List.{Contains}
-use Rattle.std.proofs.lemmas.List.Sums.{sum_by-cons}
 use Rattle.linear_systems.specs.Reached.{in_row, in_column}
 use Rattle.lex_tableau.specs.Rows.{Numbers, tableau, IsTableau}
 use Rattle.basis_enum.specs.Bases.{digit, basis_of, neighbour_of, HaveDigits}
@@ -16,12 +15,6 @@ use Rattle.std.proofs.lemmas.List.Elements.{Contains-append_left, Contains-appen
 use Rattle.basis_enum.specs.declared.moves.Move.{Move}
 use Rattle.basis_enum.specs.Found.{IsFound, HasNone, AreFound}
 
--- a basis counts each of its digits
-pub digit_in : (xs : List ℕ) (c : ℕ) → c < length xs → digit (get_or xs c 0) ≤ basis_of xs
-digit_in [] c h = absurd (omega arith)
-digit_in (x ∷ xs) zero h = let e : basis_of (x ∷ xs) ≡ digit x + basis_of xs = sum_by-cons digit x xs in omega arith
-digit_in (x ∷ xs) (suc c) h = let e : basis_of (x ∷ xs) ≡ digit x + basis_of xs = sum_by-cons digit x xs in let i : digit (get_or xs c 0) ≤ basis_of xs = digit_in xs c (omega arith) in omega arith
-
 pub leaving_bounds : (t : Numbers) (r : ℕ) → HaveDigits t → r < length t.basics → (0 < get_or t.basics r 0) × (get_or t.basics r 0 ≤ 128)
 leaving_bounds t r d h = d _ (in_row r h refl)
 
@@ -35,9 +28,6 @@ target_fits t r c basis leaving entering h d hr hc p q e =
     let l : digit leaving ≡ digit (get_or t.basics r 0) = ap digit q in
     let m : digit entering ≡ digit (get_or t.nonbasics c 0) = ap digit e in
     omega arith
-
-pub target_is : (t : Numbers) (r c n : ℕ) → c < length t.nonbasics → n + digit (get_or t.nonbasics c 0) ≡ basis_of t.nonbasics + digit (get_or t.basics r 0) → n ≡ neighbour_of t r c
-target_is t r c n hc e = let a : neighbour_of t r c + digit (get_or t.nonbasics c 0) ≡ basis_of t.nonbasics + digit (get_or t.basics r 0) = neighbour_is t r c hc in omega arith
 
 pub leads_back : (t : Numbers) (known : List ℕ) (c r : ℕ) → IsLexRowOf t c r → Contains known (neighbour_of t r c) → HasNone t known c
 leads_back t known c r h k = record { leads_back = λ q x. subst (λ n. Contains known (neighbour_of t n c)) (lex_row_once t.rated (listed t.starts) (tableau t) c r q h x) k }

@@ -69,9 +69,6 @@ moves_enter level known moves n m c = entering_is level known m (n.all.each m (n
 pub walk_moves : (s : Parts) (k : ℕ) (w : Walk) (moves : List Move) → (h : IsWalkAt s k w) → AreNewMoves w.level.items w.known.items moves → AreNextMoves (levels_of h.before w.level.items) (map move_of moves)
 walk_moves s k w moves h n = next_are (levels_of h.before w.level.items) w.known.items n.found moves h.known n.small n.all n.firsts
 
-pub targets_rise : (level : List Numbers) (known bases : List ℕ) (moves : List Move) → AreNewMoves level known moves → bases ≡ map target_of moves → IsStrictlyIncreasing bases
-targets_rise level known bases moves n e = subst IsStrictlyIncreasing (sym e) n.firsts.ascending
-
 pub targets_apart : (level : List Numbers) (known bases : List ℕ) (moves : List Move) → AreNewMoves level known moves → bases ≡ map target_of moves → (b : ℕ) → Contains known b → ¬ (Contains bases b)
 targets_apart level known bases moves n e b k c =
     let z = unmapped target_of b moves (subst (λ xs. Contains xs b) e c) in

@@ -9,10 +9,10 @@ ghost use Rattle.basis_enum.specs.Walks.{AddsVertices, AddsMoreVertices};
 
 use crate::marking::add_vertex;
 use crate::moves::{Found, Move, found_from};
+use crate::spent::SpentShare;
 use crate::vertex::Vertex;
 use answers::Memory;
 use claims::{Claims, Helpers, helped_map};
-use crossbeam_deque::Stealer;
 use frac128::Unfit;
 use lex_tableau::{PivotCount, PivotStop, System, Tableau};
 use outside::{Gate, OpenGate};
@@ -25,16 +25,15 @@ use std::thread::Threads;
 const PIECES_ALONE: usize = 16;
 
 /// A level and what is read while the next one is made: the system, the tableaux of the level, the
-/// pivots from there to new bases, and the bases that are known, these new ones among them. Beside
-/// them, tableaux that are spent and may be written over, and how many each piece is to free.
+/// pivots from there to new bases, and the bases that are known, these new ones among them. The new
+/// tableaux are written over those that are spent.
 #[derive(Drop)]
-pub(crate) struct Expansion<'a> {
+pub(crate) struct Expansion<'a, 's> {
     pub system: &'a System,
     pub level: &'a [Tableau],
     pub moves: &'a [Move],
     pub known: &'a [u128],
-    pub spent: &'a Stealer<Tableau>,
-    pub surplus: usize,
+    pub spent: SpentShare<'s>,
 }
 
 // Why the next level has no tableaux: the place of a pivot with its first step that does not fit,
@@ -121,7 +120,7 @@ fn child(alloc: Global, expansion: &Expansion, place: usize) -> Result<Tableau, 
 {
     match pivoted::<Brand>(
         alloc,
-        expansion.spent.steal().success(),
+        expansion.spent.take(),
         expansion.level,
         &expansion.moves[place],
         Blank::new(1),
@@ -228,13 +227,6 @@ impl<G: Gate> Gate for GateFrom<'_, G> {
     }
 }
 
-// Frees the spent tableaux that come to a piece.
-fn free_surplus(expansion: &Expansion) {
-    for _ in 0..expansion.surplus {
-        drop(expansion.spent.steal());
-    }
-}
-
 // A piece in a box, so that lists of pieces are short. Nothing where its pivot has a step that does
 // not fit, or memory ran out.
 fn boxed_piece<G: Gate>(
@@ -248,7 +240,7 @@ fn boxed_piece<G: Gate>(
     ensures { IfSome result (λ b. IsReachedAt expansion.now place b.value) }
 {
     let reached = piece(alloc, expansion, place, gate).ok()?;
-    free_surplus(expansion);
+    expansion.spent.free_surplus();
     Box::new(alloc, reached).ok()
 }
 

@@ -23,7 +23,8 @@ use std::thread::Threads;
 /// all nonbasic variables are zero. Each is there once, in ascending order of the masks. So many
 /// workers share the pieces of work of a level that has many, each in a thread of its own where one
 /// can be made, and the answer is the same for any number of them. The gate is passed before each
-/// piece, but not before one that is made again to tell its refusal. Each pivot counts one step.
+/// piece, but not before one that is made again to tell its refusal. The count of pivots rises
+/// by one for each basis but the first.
 ///
 /// # Errors
 ///

@@ -2,8 +2,9 @@
 //! reach.
 //!
 //! Callers may rely on: `enumerate` gives each vertex once, in the order of masks, with the number
-//! of bases, or the first step that does not fit, or the limit; pivots are one fewer than bases.
-//! `enumerate_with` gives the same by `Helpers`, idle workers that several enumerations share.
+//! of bases, or the first step that does not fit, or the limit; the pivots that are counted are one
+//! fewer than the bases. `enumerate_with` gives the same by `Helpers`, idle workers that several
+//! enumerations share.
 //! Definitions: `specs::Levels` has the levels of bases, `Bases` bases as numbers, `Ends` how an
 //! enumeration ends, `Enumeration` what a system answers; `linear_systems` says what vertices are.
 //! Private words: `specs::Children`, `Found`, `Marks`, `Merged`, `Next` and `Walks`.

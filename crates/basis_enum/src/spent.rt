@@ -28,13 +28,33 @@ impl Spent {
         }
     }
 
-    // How many of them come to each of so many new tableaux, beside the one that each is written over.
-    pub(crate) fn surplus(&self, new: usize) -> usize {
-        self.own.len().saturating_sub(new) / new.max(1)
+    // What comes of them to each of so many new tableaux.
+    pub(crate) fn share_among(&self, new: usize) -> SpentShare<'_> {
+        SpentShare {
+            tableaux: &self.shared,
+            surplus: self.own.len().saturating_sub(new) / new.max(1),
+        }
+    }
+}
+
+// What comes of the spent tableaux to a new one: one that it is written over, and further ones that
+// it frees.
+#[derive(Drop)]
+pub(crate) struct SpentShare<'a> {
+    tableaux: &'a Stealer<Tableau>,
+    surplus: usize,
+}
+
+impl SpentShare<'_> {
+    // A spent tableau, where one is left and no other worker takes it.
+    pub(crate) fn take(&self) -> Option<Tableau> {
+        self.tableaux.steal().success()
     }
 
-    // What workers take spent tableaux from.
-    pub(crate) fn shared(&self) -> &Stealer<Tableau> {
-        &self.shared
+    // Frees the further ones.
+    pub(crate) fn free_surplus(&self) {
+        for _ in 0..self.surplus {
+            drop(self.take());
+        }
     }
 }

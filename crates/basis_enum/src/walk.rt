@@ -213,8 +213,7 @@ fn advance<R: Threads + Sync, G: Gate, L: Ledger>(
         level: walk.level.as_slice(),
         moves,
         known: known.as_slice(),
-        spent: spent.shared(),
-        surplus: spent.surplus(moves.len()),
+        spent: spent.share_among(moves.len()),
     };
     let vertices = &mut walk.vertices;
     let (level, found) = next_level(

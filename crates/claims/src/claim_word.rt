@@ -8,6 +8,9 @@ use std::alloc::Global;
 use std::collections::LinkedList;
 use std::marker::{Brand, Model, PhantomData};
 
+// How many parts all passes have together.
+pub(crate) const ALL_PARTS: u32 = 64;
+
 // What the holder of a seat has: its parts, and the numbers that it claimed. It exists in proofs
 // alone.
 pub struct Holding {
@@ -130,7 +133,13 @@ impl Claims {
             &[0],
             &(),
         )?;
-        Ok((Claims { table }, Pass { seat, parts: 64 }))
+        Ok((
+            Claims { table },
+            Pass {
+                seat,
+                parts: ALL_PARTS,
+            },
+        ))
     }
 
     /// Claims the next number. Takes no memory, and waits for nobody.

@@ -6,7 +6,7 @@ ghost use Rattle.std.specs.Thread.{IsSync, IsSend};
 ghost use Rattle.claims.specs.ClaimWord.{HasEachBelow, KnowsWhole, pass_state};
 ghost use Rattle.claims.specs.Pieces.{AreDone, AreOf, IsAtWork, IsHelped};
 
-use crate::claim_word::{Claims, Pass};
+use crate::claim_word::{ALL_PARTS, Claims, Pass};
 use crate::helpers::Helpers;
 use crate::sharing::in_order;
 use answers::Memory;
@@ -17,9 +17,6 @@ use std::thread::{Threads, join_mut, spawn};
 
 // How many pieces a worker computes before it looks for helpers again.
 const PIECES_ALONE: usize = 16;
-
-// How many parts all passes have together.
-const ALL_PARTS: usize = 64;
 
 // How many bytes a worker takes and gives back before it is helped, and a helper before it begins.
 const ROOM: usize = 4194304;
@@ -41,7 +38,8 @@ pub(crate) struct Job<'a, R, F, G> {
 /// in, in a thread of its own where one can be made, where some are idle and a worker's share of the
 /// pieces that are left is enough for one; the worker and the helper then have half of the share
 /// each. The calling thread looks for helpers at the start, and each worker after every 16 pieces.
-/// Each helper is added again. The workers claim the numbers from the claim word, and pass the gate
+/// Each helper is added again. Where some are idle at the start, a thread that does nothing is
+/// started first, and nobody waits for it. The workers claim the numbers from the claim word, and pass the gate
 /// before each piece. The pass has all 64 parts and has claimed nothing; whatever the answer, it has
 /// all parts again, and tells the numbers that were claimed. Refused for want of memory alone.
 pub fn helped_map<R: Threads + Sync, T: Send + Drop, F: Fn(usize) -> T + Sync, G: Gate>(
@@ -99,7 +97,7 @@ fn room_for<T: Drop>(alloc: Global, count: usize) -> Vec<T>
 
 // A worker's share of the pieces that are left: as much of them as it has of all parts.
 fn share(left: usize, parts: u32) -> usize {
-    left.saturating_mul(parts as usize) / ALL_PARTS
+    left.saturating_mul(parts as usize) / ALL_PARTS as usize
 }
 
 // The further pieces that a worker claims, until none is left, beside helpers who join in where some

@@ -3,8 +3,9 @@
 //! Callers may rely on: `problem` and `Lcp::solve` give the one problem and the one end of its
 //! path: a solution or the first step that does not fit, and no ray; `solutions_solve_trees`.
 //! Definitions: `specs::Problems` has problems w = b + M z and that of two sides, `ProblemPaths`
-//! the path of complementary pivots, `FormProblems` what a form answers, `Ends` the ends of a path.
-//! Private words: `specs::Walks`, `Vectors`, `Values`, `Bases` and `Systems`.
+//! the path of complementary pivots, `FormProblems` what a form answers, `Ends` the ends of a path;
+//! `Systems`, `Vectors` and `Values` have the rows of a problem and what a tableau gives.
+//! Private words: `specs::Walks` and `Bases`.
 //! Lemmas for callers: `proofs::ProblemAnswerLemmas` and `PathEndLemmas`, that each is one;
 //! `PathStartLemmas`.
 //! A change here touches: what `lcp` answers and refuses, and `lcp_texts_are_equilibria`.

@@ -1,23 +1,10 @@
 -- Entries and numbered variables, one more at a time
-use Rattle.std.proofs.Common.{ℕ, suc, ◌<◌, ◌≤◌, ◌≡◌, ◌+◌, ◌*◌, ◌/◌, ◌%◌, inl, inr, List, [], ◌∷◌, ◌++◌, length, get_or, sym, ap, ap₂, ◌∙◌, subst, arith, tests}
-use Rattle.std.proofs.lemmas.List.{length_push, get_or_push, get_or_append_left}
+use Rattle.std.proofs.Common.{ℕ, suc, ◌<◌, ◌≤◌, ◌≡◌, ◌+◌, ◌*◌, List, [], get_or, sym, ap₂, ◌∙◌, arith, tests}
 use Rattle.std.proofs.lemmas.Nat.{div-mul-add, mod-mul-add}
 use Rattle.std.proofs.Math.Nat.{mul-le-mul_right}
 use Rattle.rational.specs.Rational.{ℚ, zero_ℚ}
 use Rattle.linear_systems.specs.Tableau.{Tableau}
-use Rattle.linear_systems.proofs.LexRowLemmas.{below_cases}
-use Rattle.lex_tableau.specs.Entries.{AreEntries, AreNumbered, entry_of}
-
--- one entry more
-pub entries_next : (t : Tableau) (size k : ℕ) (xs ys : List ℚ) (v : ℚ) → AreEntries t size k xs → v ≡ entry_of t (k / size) (k % size) → ys ≡ xs ++ v ∷ [] → AreEntries t size (k + 1) ys
-entries_next t size k xs ys v w e q =
-    subst (AreEntries t size (k + 1)) (sym q) (record {
-      count = length_push xs v ∙ ap (λ n. n + 1) w.count;
-      same = λ i l. elim (below_cases i k (omega arith)) [
-        | inl h ↦ (get_or_push xs v zero_ℚ i (w.count ∙ sym h) ∙ e ∙ ap (λ n. entry_of t (n / size) (n % size)) (sym h))
-        | inr h ↦ (get_or_append_left xs (v ∷ []) zero_ℚ i (let c : length xs ≡ k = w.count in omega arith) ∙ w.same i h)
-      ];
-    })
+use Rattle.lex_tableau.specs.Entries.{AreEntries, entry_of}
 
 -- a row's entry
 module _ (t : Tableau) (rows width : ℕ) (cells : List ℚ) (w : AreEntries t (width + 1) (rows * (width + 1)) cells) where
@@ -37,14 +24,3 @@ module _ (t : Tableau) (rows width : ℕ) (cells : List ℚ) (w : AreEntries t (
 
   pub right_at : (i : ℕ) → i < rows → width ≡ t.width → t.right i ≡ get_or cells (i * (width + 1) + width) zero_ℚ
   right_at i hi e = sym (entry_at i width hi (omega arith) ∙ last t i width e)
-
--- one variable more
-pub numbered_next : (first k : ℕ) (xs ys : List ℕ) → AreNumbered first k xs → ys ≡ xs ++ (first + k) ∷ [] → AreNumbered first (k + 1) ys
-numbered_next first k xs ys w q =
-    subst (AreNumbered first (k + 1)) (sym q) (record {
-      length_is = length_push xs (first + k) ∙ ap (λ n. n + 1) w.length_is;
-      number_is = λ i l. elim (below_cases i k (omega arith)) [
-        | inl h ↦ (get_or_push xs (first + k) 0 i (w.length_is ∙ sym h) ∙ ap (λ n. first + n) (sym h))
-        | inr h ↦ (get_or_append_left xs ((first + k) ∷ []) 0 i (let c : length xs ≡ k = w.length_is in omega arith) ∙ w.number_is i h)
-      ];
-    })

@@ -94,9 +94,6 @@ less_at n p f g h e l =
       };
     }
 
-pub more_same : (p : ℕ) (f g : ℕ → ℚ) → ((q : ℕ) → q < p → f q ≡ g q) → f p ≡ g p → (q : ℕ) → q < p + 1 → f q ≡ g q
-more_same p f g e l q h = elim (below_cases q p (omega arith)) [ inl k ↦ subst (λ q. f q ≡ g q) (sym k) l | inr k ↦ e q k ]
-
 -- ---- the signs of cells
 pub cell_positive : (bs ns : List ℕ) (xs : List ℤ) (i c : ℕ) → pos 0 <ℤ from_place xs (i * (length ns + 2)) 0 → pos 0 <ℤ from_place xs (i * (length ns + 2)) (c + 1) → zero_ℚ <ℚ (tableau_of bs ns xs).cell i c
 cell_positive bs ns xs i c b t = (frac-lt (pos 0) (from_place xs (i * (length ns + 2)) (c + 1)) 1 (nat_abs (from_place xs (i * (length ns + 2)) 0)) (omega arith) (pos_abs (from_place xs (i * (length ns + 2)) 0) b)).1 (subst₂ (λ x y. x <ℤ y) (ring integer_ring (pos (nat_abs (from_place xs (i * (length ns + 2)) 0)) ∷ []) (num 0) (num 0 :* A) refl) (ring integer_ring (from_place xs (i * (length ns + 2)) (c + 1) ∷ []) A (A :* num 1) refl) t)
@@ -106,9 +103,6 @@ cell_not_positive bs ns xs i c b t = (frac-le (from_place xs (i * (length ns + 2
 
 pub number_positive : (bs ns : List ℕ) (xs : List ℤ) (i c : ℕ) → pos 0 <ℤ from_place xs (i * (length ns + 2)) 0 → zero_ℚ <ℚ (tableau_of bs ns xs).cell i c → pos 0 <ℤ from_place xs (i * (length ns + 2)) (c + 1)
 number_positive bs ns xs i c b t = subst₂ (λ x y. x <ℤ y) (ring integer_ring (pos (nat_abs (from_place xs (i * (length ns + 2)) 0)) ∷ []) (num 0 :* A) (num 0) refl) (ring integer_ring (from_place xs (i * (length ns + 2)) (c + 1) ∷ []) (A :* num 1) A refl) ((frac-lt (pos 0) (from_place xs (i * (length ns + 2)) (c + 1)) 1 (nat_abs (from_place xs (i * (length ns + 2)) 0)) (omega arith) (pos_abs (from_place xs (i * (length ns + 2)) 0) b)).0 t)
-
-pub not_at_most : (n : ℤ) → (n ≤ℤ pos 0 → ⊥) → pos 0 <ℤ n
-not_at_most n h = grind (arith, ints, h)
 
 -- ---- one more row
 module _ (k m : ℕ) (ss : List ℕ) (t : Tableau) (c : ℕ) where

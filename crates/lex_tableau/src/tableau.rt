@@ -347,8 +347,8 @@ impl Tableau {
         })
     }
 
-    /// The pivot on a rated row and a column, as a new tableau. It counts one step. A tableau that is
-    /// spent is written over, so that no memory is taken where it is one of the same system.
+    /// The pivot on a rated row and a column, as a new tableau. It counts one pivot, also where it is
+    /// refused. A tableau that is spent may be given, so that the new one is written into its room.
     ///
     /// # Errors
     ///

@@ -60,7 +60,7 @@ impl Work {
         &self.tableau
     }
 
-    /// The pivot on a rated row and a column. It counts one step.
+    /// The pivot on a rated row and a column. It counts one pivot, also where it is refused.
     ///
     /// # Errors
     ///

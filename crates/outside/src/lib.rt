@@ -5,8 +5,8 @@
 //! `MemInputs` and `MemSink` do exactly what their states say; a `Gate` changes no answer;
 //! `read_some` hands on what a source gives.
 //! Definitions: `specs::Inputs` and `specs::Sink` say what contracts see of both, `specs::Counts`
-//! how failed calls are counted.
-//! Private words: `specs::RealInputs` and `specs::RealSink`, and the module `tries`.
+//! how failed calls are counted, `specs::RealInputs` and `specs::RealSink` what the real ones keep.
+//! Private words: the module `tries`.
 //! A change here touches: the contract of `run`, and `claims`, `basis_enum` and `enummixed`, which
 //! pass the gate.
 #![tactic(auto)]

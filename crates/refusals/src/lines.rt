@@ -111,6 +111,7 @@ fn what_text(what: What) -> &'static str
     }
 }
 
+/// The line of a fault of the tokens.
 pub fn text_line(alloc: Global, fault: TextFault) -> Result<String, Memory>
     ensures { IfOk result (λ line. string_bytes line ≡ refusal_line (refusal.Text fault)) }
 {
@@ -119,6 +120,7 @@ pub fn text_line(alloc: Global, fault: TextFault) -> Result<String, Memory>
     Ok(format!(in alloc; "gambit: text fault at {at}: {kind}\n")?)
 }
 
+/// The line of a fault of a table's file.
 pub fn nfg_line(alloc: Global, fault: NfgFault) -> Result<String, Memory>
     ensures { IfOk result (λ line. string_bytes line ≡ refusal_line (refusal.Nfg fault)) }
 {
@@ -127,6 +129,7 @@ pub fn nfg_line(alloc: Global, fault: NfgFault) -> Result<String, Memory>
     Ok(format!(in alloc; "gambit: nfg fault at {at}: {kind}\n")?)
 }
 
+/// The line of a fault of a tree's file.
 pub fn efg_line(alloc: Global, fault: EfgFault) -> Result<String, Memory>
     ensures { IfOk result (λ line. string_bytes line ≡ refusal_line (refusal.Efg fault)) }
 {
@@ -135,6 +138,7 @@ pub fn efg_line(alloc: Global, fault: EfgFault) -> Result<String, Memory>
     Ok(format!(in alloc; "gambit: efg fault at {at}: {kind}\n")?)
 }
 
+/// The line of a limit that is passed.
 pub fn limit_line(alloc: Global, passed: TooLarge) -> Result<String, Memory>
     ensures { IfOk result (λ line.
         string_bytes line
@@ -146,12 +150,14 @@ pub fn limit_line(alloc: Global, passed: TooLarge) -> Result<String, Memory>
     Ok(format!(in alloc; "gambit: too large: {count} {what}, limit {limit}\n")?)
 }
 
+/// The line of a game that has another number of players than two.
 pub fn players_line(alloc: Global, count: u32) -> Result<String, Memory>
     ensures { IfOk result (λ line. string_bytes line ≡ refusal_line (refusal.NotTwoPlayers count)) }
 {
     Ok(format!(in alloc; "gambit: {count} players, not two\n")?)
 }
 
+/// The line of a player who forgets, with the set and its first two nodes that differ.
 pub fn forgets_line(
     alloc: Global,
     player: u32,
@@ -170,6 +176,7 @@ pub fn forgets_line(
     )?)
 }
 
+/// The line of a game whose payoffs have no constant sum, with two places and their sums.
 pub fn sums_line(
     alloc: Global,
     first: u32,
@@ -305,24 +312,28 @@ fn site_text(alloc: Global, site: &Site) -> Result<String, Memory>
     }
 }
 
+/// The line of a line that is not a profile; lines count from 1.
 pub fn profile_line(alloc: Global, number: u64) -> Result<String, Memory>
     ensures { IfOk result (λ line. string_bytes line ≡ refusal_line (refusal.BadLine number)) }
 {
     Ok(format!(in alloc; "gambit: line {number} is not a profile\n")?)
 }
 
+/// The line of a player who is not there; players count from 1.
 pub fn absent_line(alloc: Global, number: u32) -> Result<String, Memory>
     ensures { IfOk result (λ line. string_bytes line ≡ refusal_line (refusal.NoSuchPlayer number)) }
 {
     Ok(format!(in alloc; "gambit: no player {number}\n")?)
 }
 
+/// The line of a player who is both the row and the column; players count from 1.
 pub fn twice_line(alloc: Global, number: u32) -> Result<String, Memory>
     ensures { IfOk result (λ line. string_bytes line ≡ refusal_line (refusal.SamePlayer number)) }
 {
     Ok(format!(in alloc; "gambit: player {number} is both row and column\n")?)
 }
 
+/// The line of a step that does not fit, with its site, its operation and its operands.
 pub fn range_line(alloc: Global, site: &Site, unfit: Unfit) -> Result<String, Memory>
     ensures { IfOk result (λ line.
         string_bytes line ≡ refusal_line (refusal.Range site.now unfit)) }

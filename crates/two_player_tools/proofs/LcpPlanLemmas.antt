@@ -1,8 +1,7 @@
 -- The plans of a solution, as lists, solve the problem of its form.
-use Rattle.std.proofs.Common.{ℕ, ◌<◌, ◌≡◌, ◌∙◌, sym, ap, ap₂, subst, List}
+use Rattle.std.proofs.Common.{ℕ, ◌<◌, ◌≡◌, ◌∙◌, sym, ap, ap₂, subst}
 use Rattle.rational.specs.Rational.{ℚ, ◌+ℚ◌, ◌-ℚ◌, ◌*ℚ◌, ◌≤ℚ◌, zero_ℚ}
 use Rattle.rational.proofs.SumLemmas.{sum_to-same}
-use Rattle.game_theory.specs.Lines.{listed}
 use Rattle.game_theory.proofs.ProfileLineLemmas.{get_or-listed}
 use Rattle.sequence_forms.specs.Forms.{SequenceForm}
 use Rattle.sequence_forms.specs.Matrices.{SolvesProblem, column_slack, column_total, right_side, row_slack, row_total, set_row}
@@ -23,11 +22,6 @@ pub record HavePrices (f : SequenceForm) (greatest_row greatest_column : ℚ) (p
   pub Q : ℕ → ℚ
   pub Q' : ℕ → ℚ
   pub solves : SolvesProblem f greatest_row greatest_column (weight plans.one) (weight plans.two) P P' Q Q'
-
--- lists of so many weights are the plans
-pub plans_are : (s : Problem) (m n : ℕ) (one two : List ℚ) → m ≡ sequences (side_of s.first) → n ≡ sequences (side_of s.second) → one ≡ listed m (plan_one s) → two ≡ listed n (plan_two s)
-    → (let pair : PlanPair = record { one = one; two = two } in pair ≡ plans_at s)
-plans_are s m n one two e d p q = ap₂ (λ (a b : List ℚ). let pair : PlanPair = record { one = a; two = b } in pair) (p ∙ ap (λ k. listed k (plan_one s)) e) (q ∙ ap (λ k. listed k (plan_two s)) d)
 
 module _ (f : SequenceForm) (g k : ℚ) (s : Problem) (rows : f.rows ≡ side_of s.first) (columns : f.columns ≡ side_of s.second) where
   abbrev x : ℕ → ℚ

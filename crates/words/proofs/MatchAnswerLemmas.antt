@@ -66,10 +66,10 @@ enummixed_refuses : (ps : List Part) → GivesHyphen enummixed_options ps → en
 enummixed_refuses ps h = let at_j : has_hyphen (values_of 106 ps) ≡ true = subst (λ x. has_hyphen (values_of x ps) ≡ true) (sym (only 106 h.0 h.1)) h.2 in
     rw (hyphen_number 1 1 64 (values_of 106 ps) at_j) refl
 
-pub enummixed_told : (words : List Text) (m : ArgMatches) (undominated : Bool) (workers plain : List Text) → SaysParts enummixed_options (parts_of enummixed_options words None) m
-    → undominated ≡ is_counted (flag_id 68) (rows_of (found_of m)) → workers ≡ texts_at (value_id 106) (rows_of (found_of m))
-    → plain ≡ texts_at (codes "words") (rows_of (found_of m)) → enummixed_settings undominated workers plain ≡ answer enummixed_options enummixed_of words
-enummixed_told words m undominated workers plain tells d j w = told_answer enummixed_options enummixed_of words m tells enummixed_refuses (enummixed_settings undominated workers plain)
+pub enummixed_told : (words : List Text) (m : ArgMatches) (all : Bool) (workers plain : List Text) → SaysParts enummixed_options (parts_of enummixed_options words None) m
+    → all ≡ is_counted (flag_id 68) (rows_of (found_of m)) → workers ≡ texts_at (value_id 106) (rows_of (found_of m))
+    → plain ≡ texts_at (codes "words") (rows_of (found_of m)) → enummixed_settings all workers plain ≡ answer enummixed_options enummixed_of words
+enummixed_told words m all workers plain tells d j w = told_answer enummixed_options enummixed_of words m tells enummixed_refuses (enummixed_settings all workers plain)
     (λ ps says i. enummixed_settings ((d ∙ says.flags 68) i) ((j ∙ says.values 106) i) ((w ∙ says.plain) i))
 
 lcp_refuses : (ps : List Part) → GivesHyphen lcp_options ps → lcp_of ps ≡ None

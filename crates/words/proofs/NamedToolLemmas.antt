@@ -9,7 +9,7 @@ use Rattle.words.specs.declared.Usage.{Usage}
 -- the name of a command's tool
 abbrev pub tool_name : Command → List ℕ
 tool_name (Enumpure strategic file) = codes "enumpure"
-tool_name (Enummixed undominated workers file) = codes "enummixed"
+tool_name (Enummixed all workers file) = codes "enummixed"
 tool_name (Lcp strategic file) = codes "lcp"
 tool_name (Lp strategic prices file) = codes "lp"
 tool_name (Convert html row column file) = codes "convert"

@@ -72,8 +72,8 @@ ranges (tool ∷ rest) (Make number rows columns workers) e =
     let command : Command = Make number rows columns workers in
     let named : codes "make" ≡ tool = subst (NamedFirst tool) e (any_named tool rest) in
     make_ranges rest command (subst (λ t. command_from (t ∷ rest) ≡ Ok command) (sym named) e)
-ranges (tool ∷ rest) (Enummixed undominated workers file) e =
-    let command : Command = Enummixed undominated workers file in
+ranges (tool ∷ rest) (Enummixed all workers file) e =
+    let command : Command = Enummixed all workers file in
     let named : codes "enummixed" ≡ tool = subst (NamedFirst tool) e (any_named tool rest) in
     enummixed_ranges rest command (subst (λ t. command_from (t ∷ rest) ≡ Ok command) (sym named) e)
 ranges (tool ∷ rest) _ e = tt

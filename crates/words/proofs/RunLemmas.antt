@@ -49,9 +49,6 @@ pub record Holds (c : List Rule) (h : Held) (rows : List Row) : Type 0 where
   pub whole : settle_fault c false h ≡ []
   pub rows_are : settled c h ≡ ready rows
 
-pub holds_ready : (c : List Rule) (rows : List Row) → Holds c (ready rows) rows
-holds_ready c rows = record { whole = refl; rows_are = refl }
-
 pub counted : (n : ℕ) → accepts false (vp.Signed (pos 0) (pos 255)) (count_text (min n 255)) ≡ true
 counted n = Accepts-accepts false (vp.Signed (pos 0) (pos 255)) (count_text (min n 255)) (IsSignedIn-count_text (min n 255) (omega arith))
 
@@ -65,9 +62,6 @@ prices_passes rows = rw counted refl
 
 pub value_passes : (x : ℕ) (text : Text) (rows : List Row) → use_fault false (value x) (text ∷ []) rows ≡ []
 value_passes x text rows = refl
-
-pub plain_passes : (text : Text) (rows : List Row) → use_fault false plain (text ∷ []) rows ≡ []
-plain_passes text rows = refl
 
 -- ---- the first character
 

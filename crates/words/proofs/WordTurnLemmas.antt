@@ -63,10 +63,6 @@ pub first_long : (a b : Kinds) → 0 < length a → 0 < length (or_else a b)
 first_long [] b h = absurd (omega (arith, h))
 first_long (k ∷ ks) b h = h
 
-pub second_long : (a b : Kinds) → 0 < length b → 0 < length (or_else a b)
-second_long [] b h = h
-second_long (k ∷ ks) b h = omega arith
-
 all_before : (bytes : List ℕ) → has_byte 61 bytes ≡ false → prefix_len (λ x. not (x == 61)) bytes ≡ length bytes
 all_before [] e = refl
 all_before (x ∷ xs) e = go (x == 61) refl e (all_before xs)

@@ -11,10 +11,11 @@ use Rattle.words.specs.declared.Usage.{Usage}
 use Rattle.words.specs.declared.Usage.TheVariants.{NoTool, UnknownTool, Words}
 use Rattle.words.specs.Grammar.{Options, Part, has_flag, has_prices, is_word, parts_of, plain_of, values_of}
 
--- a tool and how it works; a file that is None is standard input
+-- A tool and how it works; a file that is None is standard input. Where `all` is true, `enummixed` looks
+-- through all strategies, and else without the strictly dominated ones.
 pub data Command : Type 0 where
   Enumpure : (strategic : Bool) → (file : Option (List ℕ)) → Command
-  Enummixed : (undominated : Bool) → (workers : ℕ) → (file : Option (List ℕ)) → Command
+  Enummixed : (all : Bool) → (workers : ℕ) → (file : Option (List ℕ)) → Command
   Lcp : (strategic : Bool) → (file : Option (List ℕ)) → Command
   Lp : (strategic prices : Bool) → (file : Option (List ℕ)) → Command
   Convert : (html : Bool) → (row column : ℕ) → (file : Option (List ℕ)) → Command
@@ -79,8 +80,8 @@ enumpure_of parts = enumpure_settings (has_flag (letter "S") parts) (plain_of pa
 abbrev pub enummixed_options : Options
 enummixed_options = record { flags = codes "qD"; valued = codes "j"; prices = false }
 
-abbrev pub enummixed_settings : (undominated : Bool) → (workers plain : List (List ℕ)) → Option Command
-enummixed_settings undominated workers plain = option_and_then (λ n. option_map (Enummixed undominated n) (at_most_one plain)) (workers_from workers)
+abbrev pub enummixed_settings : (all : Bool) → (workers plain : List (List ℕ)) → Option Command
+enummixed_settings all workers plain = option_and_then (λ n. option_map (Enummixed all n) (at_most_one plain)) (workers_from workers)
 
 abbrev pub enummixed_of : List Part → Option Command
 enummixed_of parts = enummixed_settings (has_flag (letter "D") parts) (values_of (letter "j") parts) (plain_of parts)
@@ -167,7 +168,7 @@ IsFrom least most n = (least ≤ n) × (n ≤ most)
 
 -- the numbers of workers and of strategies that a command names are within their ranges
 abbrev pub IsWithinRanges : Command → Type 0
-IsWithinRanges (Enummixed undominated workers file) = IsFrom 1 64 workers
+IsWithinRanges (Enummixed all workers file) = IsFrom 1 64 workers
 IsWithinRanges (Make number rows columns workers) = IsFrom 1 32 rows × IsFrom 1 32 columns × IsFrom 1 64 workers
 IsWithinRanges _ = Unit {0}
 
@@ -176,7 +177,7 @@ IsWithinRanges _ = Unit {0}
 -- the command that settings stand for
 abbrev pub command_of : Settings → Command
 command_of (settings.Enumpure strategic file) = Enumpure strategic (option_map string_bytes file)
-command_of (settings.Enummixed undominated workers file) = Enummixed undominated workers (option_map string_bytes file)
+command_of (settings.Enummixed all workers file) = Enummixed all workers (option_map string_bytes file)
 command_of (settings.Lcp strategic file) = Lcp strategic (option_map string_bytes file)
 command_of (settings.Lp strategic prices file) = Lp strategic prices (option_map string_bytes file)
 command_of (settings.Convert html row column file) = Convert html row column (option_map string_bytes file)

@@ -94,8 +94,8 @@ pub(crate) fn enummixed_command<'a>(alloc: Global) -> Result<Command<'a>, AllocE
     ensures { IfOk result (λ c. app_of c ≡ app_with enummixed_options) }
 {
     let quiet = quiet_command(alloc)?;
-    let undominated = with_flag(alloc, quiet, "D", 'D')?;
-    with_value(alloc, undominated, "-j", 'j')
+    let all = with_flag(alloc, quiet, "D", 'D')?;
+    with_value(alloc, all, "-j", 'j')
 }
 
 /// The command of `lcp`.

@@ -17,7 +17,7 @@ mod commands;
 mod texts;
 mod tools;
 
-use std::alloc::Global;
+use std::alloc::{AllocError, Global};
 
 /// Which tool is to run, and how. A file that is left out stands for standard input.
 #[derive(Debug, Drop)]
@@ -28,37 +28,42 @@ pub enum Settings {
         strategic: bool,
         file: Option<String>,
     },
-    /// List the extreme equilibria of a game of two players.
+    /// List the extreme equilibria of a game of two players: looked for among all strategies where `all` is set (`-D`),
+    /// and else without the strictly dominated ones. From 1 to 64 workers share the enumeration.
     Enummixed {
-        undominated: bool,
+        all: bool,
         workers: u32,
         file: Option<String>,
     },
-    /// Print an equilibrium of a game of two players by complementary pivoting.
+    /// Print an equilibrium of a game of two players by complementary pivoting: of a tree by reduced strategies where
+    /// `strategic` is set, and else as behaviour.
     Lcp {
         strategic: bool,
         file: Option<String>,
     },
-    /// Print an equilibrium of a constant-sum game of two players by linear programming.
+    /// Print an equilibrium of a constant-sum game of two players by linear programming, `strategic` as for `Lcp`; and
+    /// the prices where `prices` is set.
     Lp {
         strategic: bool,
         prices: bool,
         file: Option<String>,
     },
-    /// Print the strategic form, as HTML or as LaTeX for `sgame`.
+    /// Print the strategic form, as HTML where `html` is set, and else as LaTeX for `sgame`. `row` and `column` are the
+    /// numbers of players, which count from 1.
     Convert {
         html: bool,
         row: u32,
         column: u32,
         file: Option<String>,
     },
-    /// Check lines of profiles of the game.
+    /// Check lines of profiles of a game, `strategic` as for `Lcp`: the name of its file, and that of the lines' file.
     Check {
         strategic: bool,
         game: String,
         lines: Option<String>,
     },
-    /// Make a table, and count what is found in it.
+    /// Make a table of two players from a number, with so many strategies of the first and of the second, and count
+    /// what is found in it. From 1 to 64 workers share the enumeration.
     Make {
         number: u32,
         rows: u32,
@@ -85,6 +90,17 @@ pub enum SettingsStop {
     Usage(Usage),
     /// Memory ran out.
     Memory,
+}
+
+impl From<AllocError> for SettingsStop {
+    ghost use Rattle.std.specs.Prelude.{◌≡◌};
+    ghost use Rattle.words.specs.declared.SettingsStop.TheVariants as stops;
+
+    ghost from_gives = { λ _ e. e ≡ stops.Memory };
+
+    fn from(_refused: AllocError) -> SettingsStop {
+        SettingsStop::Memory
+    }
 }
 
 /// Reads the words that stand after the program's own name.

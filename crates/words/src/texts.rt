@@ -29,10 +29,7 @@ fn owned(alloc: Global, text: Option<&str>) -> Result<Option<String>, SettingsSt
     let Some(text) = text else {
         return Ok(None);
     };
-    match String::from_str(alloc, text) {
-        Ok(copy) => Ok(Some(copy)),
-        Err(_) => Err(SettingsStop::Memory),
-    }
+    Ok(Some(String::from_str(alloc, text)?))
 }
 
 /// The name of a file, where there is at most one.

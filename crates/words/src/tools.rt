@@ -32,9 +32,7 @@ fn enumpure(
 pub(crate) fn read_enumpure(alloc: Global, words: &[String]) -> Result<Settings, SettingsStop>
     ensures { IsAnswer (answer enumpure_options enumpure_of (map string_bytes words.now)) result }
 {
-    let Ok(command) = commands::enumpure_command(alloc) else {
-        return Err(SettingsStop::Memory);
-    };
+    let command = commands::enumpure_command(alloc)?;
     let matches = read_words(command, words)?;
     let strategic = is_given(&matches, "S");
     let plain = given(&matches, "words");
@@ -44,35 +42,29 @@ pub(crate) fn read_enumpure(alloc: Global, words: &[String]) -> Result<Settings,
 // The settings of `enummixed`, by what its words give.
 fn enummixed(
     alloc: Global,
-    undominated: bool,
+    all: bool,
     workers: Option<&[&str]>,
     plain: Option<&[&str]>,
 ) -> Result<Settings, SettingsStop>
-    ensures { IsAnswer (enummixed_settings undominated
+    ensures { IsAnswer (enummixed_settings all
         (collected workers.entry)
         (collected plain.entry)) result }
 {
     let workers = number_from(workers, 1, 1, 64)?;
     let file = file_from(alloc, plain)?;
-    Ok(Settings::Enummixed {
-        undominated,
-        workers,
-        file,
-    })
+    Ok(Settings::Enummixed { all, workers, file })
 }
 
 /// Reads the words after `enummixed`.
 pub(crate) fn read_enummixed(alloc: Global, words: &[String]) -> Result<Settings, SettingsStop>
     ensures { IsAnswer (answer enummixed_options enummixed_of (map string_bytes words.now)) result }
 {
-    let Ok(command) = commands::enummixed_command(alloc) else {
-        return Err(SettingsStop::Memory);
-    };
+    let command = commands::enummixed_command(alloc)?;
     let matches = read_words(command, words)?;
-    let undominated = is_given(&matches, "D");
+    let all = is_given(&matches, "D");
     let workers = given(&matches, "-j");
     let plain = given(&matches, "words");
-    enummixed(alloc, undominated, workers, plain)
+    enummixed(alloc, all, workers, plain)
 }
 
 // The settings of `lcp`, by what its words give.
@@ -98,9 +90,7 @@ fn lcp(
 pub(crate) fn read_lcp(alloc: Global, words: &[String]) -> Result<Settings, SettingsStop>
     ensures { IsAnswer (answer lcp_options lcp_of (map string_bytes words.now)) result }
 {
-    let Ok(command) = commands::lcp_command(alloc) else {
-        return Err(SettingsStop::Memory);
-    };
+    let command = commands::lcp_command(alloc)?;
     let matches = read_words(command, words)?;
     let strategic = is_given(&matches, "S");
     let equilibria = given(&matches, "-e");
@@ -129,9 +119,7 @@ fn lp(
 pub(crate) fn read_lp(alloc: Global, words: &[String]) -> Result<Settings, SettingsStop>
     ensures { IsAnswer (answer lp_options lp_of (map string_bytes words.now)) result }
 {
-    let Ok(command) = commands::lp_command(alloc) else {
-        return Err(SettingsStop::Memory);
-    };
+    let command = commands::lp_command(alloc)?;
     let matches = read_words(command, words)?;
     let strategic = is_given(&matches, "S");
     let prices = is_given(&matches, "prices");
@@ -172,9 +160,7 @@ fn convert(
 pub(crate) fn read_convert(alloc: Global, words: &[String]) -> Result<Settings, SettingsStop>
     ensures { IsAnswer (answer convert_options convert_of (map string_bytes words.now)) result }
 {
-    let Ok(command) = commands::convert_command(alloc) else {
-        return Err(SettingsStop::Memory);
-    };
+    let command = commands::convert_command(alloc)?;
     let matches = read_words(command, words)?;
     let layouts = given(&matches, "-O");
     let rows = given(&matches, "-r");
@@ -191,23 +177,19 @@ fn check(alloc: Global, strategic: bool, plain: Option<&[&str]>) -> Result<Setti
         return Err(SettingsStop::Usage(Usage::Words));
     };
     let lines = file_from(alloc, Some(rest))?;
-    match String::from_str(alloc, game) {
-        Ok(game) => Ok(Settings::Check {
-            strategic,
-            game,
-            lines,
-        }),
-        Err(_) => Err(SettingsStop::Memory),
-    }
+    let game = String::from_str(alloc, game)?;
+    Ok(Settings::Check {
+        strategic,
+        game,
+        lines,
+    })
 }
 
 /// Reads the words after `check`.
 pub(crate) fn read_check(alloc: Global, words: &[String]) -> Result<Settings, SettingsStop>
     ensures { IsAnswer (answer check_options check_of (map string_bytes words.now)) result }
 {
-    let Ok(command) = commands::check_command(alloc) else {
-        return Err(SettingsStop::Memory);
-    };
+    let command = commands::check_command(alloc)?;
     let matches = read_words(command, words)?;
     let strategic = is_given(&matches, "S");
     let plain = given(&matches, "words");
@@ -243,9 +225,7 @@ fn make(workers: Option<&[&str]>, plain: Option<&[&str]>) -> Result<Settings, Se
 pub(crate) fn read_make(alloc: Global, words: &[String]) -> Result<Settings, SettingsStop>
     ensures { IsAnswer (answer make_options make_of (map string_bytes words.now)) result }
 {
-    let Ok(command) = commands::make_command(alloc) else {
-        return Err(SettingsStop::Memory);
-    };
+    let command = commands::make_command(alloc)?;
     let matches = read_words(command, words)?;
     let workers = given(&matches, "-j");
     let plain = given(&matches, "words");

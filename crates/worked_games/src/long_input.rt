@@ -26,3 +26,18 @@ fn a_long_input_is_not_read_to_its_end(rt: HostRuntime) -> Result<(), Memory> {
     assert!(rt; case.holds(&rt, rt.alloc())?);
     Ok(())
 }
+
+/// Where the game of `check` is too long, the lines are not opened: the next call would fail.
+#[test]
+fn after_a_long_input_no_other_is_opened(rt: HostRuntime) -> Result<(), Memory> {
+    let input = spaces(rt.alloc(), 16_777_218)?;
+    let case = Case {
+        game: str::from_utf8(input.as_slice()).unwrap_or(""),
+        failing: &[259],
+        status: 1,
+        err: "gambit: file longer than 16777216 bytes\n",
+        ..Case::of("check game", b"")
+    };
+    assert!(rt; case.holds(&rt, rt.alloc())?);
+    Ok(())
+}

@@ -2,8 +2,7 @@
 use Rattle.std.proofs.Common.{All, ℕ, suc, ◌<◌, ◌≤◌, ◌≡◌, ◌≢◌, ◌+◌, inl, inr, refl, sym, ap, ◌∙◌, subst, subst₂, arith, add-one, pos, ◌*ℤ◌}
 use Rattle.std.proofs.lemmas.Int.{ints}
 use Rattle.std.proofs.lemmas.Cmp.{int_ranked}
-use Rattle.std.specs.declared.cmp.Ordering.{Ordering}
-use Rattle.std.specs.declared.cmp.Ordering.TheVariants.{Less, Equal, Greater}
+use Rattle.std.specs.declared.cmp.Ordering.TheVariants.{Greater}
 use Rattle.rational.specs.Rational.{ℚ, ◌-ℚ◌, ◌≤ℚ◌, one_ℚ}
 use Rattle.rational.specs.Sum.{sum_to}
 use Rattle.rational.proofs.SumLemmas.{sum_to-same}
@@ -17,12 +16,6 @@ use Rattle.pure_payoffs.specs.Steps.{Step, StepFits, IsFirstUnfit}
 use Rattle.zero_sum_lp.specs.PlanSteps.{rest_steps, IsSharedTo, IsUnfitShare, IsCutTo, IsUnfitCut}
 use Rattle.zero_sum_lp.proofs.PlanListLemmas.{rest_next, rest_fits, rest_fails, rest_same, before_next, set_positive, IsSetOf, at_set}
 use Rattle.rational.specs.Tests.{cmp_ℚ}
-
--- ---- the less of two
-pub not_greater : (r : Ordering) (a b : ℚ) → r ≡ cmp_ℚ a b → (r ≡ Greater → ⊥) → a ≤ℚ b
-not_greater Less a b e h = let lt = int_ranked (a.num *ℤ pos b.den) (b.num *ℤ pos a.den) Less e in record { cross = omega (arith, ints) }
-not_greater Equal a b e h = let eq = int_ranked (a.num *ℤ pos b.den) (b.num *ℤ pos a.den) Equal e in record { cross = omega (arith, ints) }
-not_greater Greater a b e h = absurd (h refl)
 
 pub greater : (a b : ℚ) → Greater ≡ cmp_ℚ a b → b ≤ℚ a
 greater a b e = let gt = int_ranked (a.num *ℤ pos b.den) (b.num *ℤ pos a.den) Greater e in record { cross = omega (arith, ints) }
@@ -65,10 +58,6 @@ shared_same w v x y z z' n e f h s =
       shares = λ a l. subst (λ b. IsLesser b (w -ℚ sum_to a z') (z' a)) (f a l) (shares_same w x z z' n h s.shares a l);
       fits = subst (All StepFits) (rest_same w z z' n (λ a m. sym (h a m))) s.fits;
     })
-
--- ---- all sets
-pub cut_begins : (d : Side) (x z : ℕ → ℚ) → z 0 ≡ one_ℚ → ((q : ℕ) → q ≢ 0 → z q ≡ x q) → IsCutTo d 0 x z
-cut_begins d x z e h = record { empty = e; sets = λ j l. absurd (omega arith); later = λ q l. h q (λ k. omega (arith, k, l)) }
 
 -- one set's weights were cut
 pub record Cuts (z z' : ℕ → ℚ) (before f count : ℕ) : Type 0 where

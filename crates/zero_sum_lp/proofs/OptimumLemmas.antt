@@ -18,16 +18,12 @@ use Rattle.zero_sum_lp.proofs.ProgramLemmas.{basic_last}
 use Rattle.lex_tableau.specs.Rows.{Numbers, tableau, IsValueOf}
 use Rattle.sequence_data.specs.Data.{SideData, side_of}
 use Rattle.zero_sum_lp.specs.Parts.{HasShape, Program, IsProgram, IsOptimum}
-use Rattle.zero_sum_lp.specs.Steps.{linear_program, IsProgramStart, EndsPath}
+use Rattle.zero_sum_lp.specs.Steps.{linear_program, IsProgramStart}
 use Rattle.zero_sum_lp.proofs.PathWalkLemmas.{leads_after}
 
 pub program_starts : (p : Program) → IsProgram p → IsProgramStart p.tableau
 program_starts p h =
     record { basics = h.start.basics; program = programs_linear (side_of p.first) (side_of p.second) h.start.gain (linear_program p.tableau) h.first.ordered h.second.ordered h.start.program }
-
--- where the path ends is an optimum
-pub is_optimum : (p : Program) (end : Numbers) → IsProgram p → EndsPath p.tableau end → IsOptimum (record { first = p.first; second = p.second; tableau = end })
-is_optimum p end h e = record { first = h.first; second = h.second; start = p.tableau; begins = h.start; path = e }
 
 -- how many sets a side has
 pub sets_are : (sets : SideData) → (side_of sets).sets ≡ length sets.sets

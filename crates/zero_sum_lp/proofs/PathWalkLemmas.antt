@@ -95,9 +95,6 @@ pub read_end : (first now seen : Numbers) (past pivots number m n : ℕ) → IsP
 read_end first now seen past pivots number m n s u em en e f =
     record { count = u.count; path = u.path; optimal = none_optimal first now u.count s u.path m n em en (subst (λ x. (j : ℕ) → j < n → zero_ℚ ≤ℚ (tableau x).cell m j) e f) }
 
-pub under_way_begins : (first : Numbers) (past : ℕ) → IsUnderWay first first past past 1
-under_way_begins first past = record { count = 0; path = refl; counted = omega arith; is_number = record { exact = λ h. refl; later = λ h. absurd (omega arith) } }
-
 pub under_way_next : (first now new : Numbers) (past pivots pivots' number number' : ℕ) → IsUnderWay first now past pivots number → IsFittingPivot now new → pivots' ≡ pivots + 1 → ((k : ℕ) → IsPivotNumber k number → IsPivotNumber (suc k) number') → IsUnderWay first new past pivots' number'
 under_way_next first now new past pivots pivots' number number' u st e n =
     let c : pivots ≡ u.count + past = u.counted in

@@ -3,7 +3,7 @@ use Rattle.std.proofs.Common.{ℕ, zero, suc, ◌<◌, ◌≤◌, ◌≡◌, ◌
 use Rattle.std.proofs.lemmas.Bool.{cases_lt}
 use Rattle.std.proofs.lemmas.List.{length-map}
 use Rattle.std.proofs.lemmas.List.Elements.{All-append}
-use Rattle.rational.specs.Rational.{ℚ, ◌+ℚ◌, ◌-ℚ◌, zero_ℚ, one_ℚ}
+use Rattle.rational.specs.Rational.{ℚ, ◌+ℚ◌, ◌-ℚ◌, zero_ℚ}
 use Rattle.rational.specs.Sum.{sum_to}
 use Rattle.rational.proofs.RationalRing.{rational_ring}
 use Rattle.rational.proofs.SumLemmas.{sum_to-same}
@@ -70,11 +70,6 @@ rest_same w x y (suc n) h = ap₂ (λ ss s. ss ++ s ∷ []) (rest_same w x y n (
 
 raise_same : (w : ℚ) (x y : ℕ → ℚ) (n : ℕ) → ((a : ℕ) → x a ≡ y a) → raise_steps w x n ≡ raise_steps w y n
 raise_same w x y n h = ap₂ (λ ss s. ss ++ s ∷ []) (rest_same w x y n (λ a l. h a)) (ap₂ (λ b c. unfit Add b (w -ℚ c)) (h 0) (sum_to-same n x y (λ a l. h a)))
-
--- ---- all sets
-pub raised_begins : (d : Side) (x z : ℕ → ℚ) → z 0 ≡ one_ℚ → ((q : ℕ) → q ≢ 0 → z q ≡ x q) → IsRaisedTo d 0 x z
-raised_begins d x z e h =
-    record { empty = e; first_action = λ j l. absurd (omega arith); others = λ j a l. absurd (omega arith); later = λ q l. h q (λ k. let m = l in omega (arith, k, m)); fits = λ j l. absurd (omega arith) }
 
 -- sequences of a set and those before it
 pub before_next : (d : Side) (o : IsOrderedSide d) (n j a : ℕ) → n < d.sets → j < n → a < d.count j → first d j + a < first d n

@@ -11,8 +11,8 @@ use Rattle.zero_sum_lp.specs.Programs.{constraints, value_at, raw_one, raw_two}
 use Rattle.sequence_data.specs.Data.{SideData, side_of}
 use Rattle.zero_sum_lp.specs.Parts.{HasShape, Program, IsOptimum}
 use Rattle.sequence_data.specs.Weights.{weight}
-use Rattle.zero_sum_lp.specs.PlanSteps.{AreWeights, IsRaisedTo, IsUnfitRaise, IsCutTo, IsUnfitCut}
-use Rattle.zero_sum_lp.specs.PlanStops.{AreRawOne, AreRawTwo, IsFirstPlan, IsSecondPlan, IsUnfitFirst, IsUnfitSecond}
+use Rattle.zero_sum_lp.specs.PlanSteps.{AreWeights, IsRaisedTo, IsCutTo, IsUnfitCut}
+use Rattle.zero_sum_lp.specs.PlanStops.{AreRawOne, AreRawTwo, IsFirstPlan, IsSecondPlan, IsUnfitSecond}
 use Rattle.zero_sum_lp.proofs.OptimumLemmas.{sets_are, end_distinct, value_is}
 
 -- ---- lists of weights
@@ -48,9 +48,6 @@ first_plan o sets raw plan e w c r = record { raw = raw; raw_is = w; count = c; 
 
 pub second_plan : (o : Program) (sets : SideData) (raw plan : List ℚ) → sets ≡ o.second → AreRawTwo o raw → length plan ≡ length raw → IsCutTo (side_of sets) (length sets.sets) (weight raw) (weight plan) → IsSecondPlan o plan
 second_plan o sets raw plan e w c r = record { raw = raw; raw_is = w; count = c; cut = subst (λ x. IsCutTo (side_of x) (length x.sets) (weight raw) (weight plan)) e r }
-
-pub unfit_first : (o : Program) (sets : SideData) (raw : List ℚ) (u : Step) → sets ≡ o.first → AreRawOne o raw → IsUnfitRaise (side_of sets) (weight raw) u → IsUnfitFirst o u
-unfit_first o sets raw u e w r = record { raw = raw; raw_is = w; stop = subst (λ x. IsUnfitRaise (side_of x) (weight raw) u) e r }
 
 pub unfit_second : (o : Program) (sets : SideData) (raw plan : List ℚ) (u : Step) → sets ≡ o.second → IsFirstPlan o plan → AreRawTwo o raw → IsUnfitCut (side_of sets) (weight raw) u → IsUnfitSecond o u
 unfit_second o sets raw plan u e p w r = record { plan = plan; first = p; raw = raw; raw_is = w; stop = subst (λ x. IsUnfitCut (side_of x) (weight raw) u) e r }

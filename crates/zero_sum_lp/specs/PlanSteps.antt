@@ -52,8 +52,7 @@ pub record IsSharedTo (w : ℚ) (x z : ℕ → ℚ) (n : ℕ) : Type 0 where
   pub shares : (a : ℕ) → a < n → IsLesser (x a) (w -ℚ sum_to a z) (z a)
   pub fits : All StepFits (rest_steps w z n)
 
--- the shares of a set's first actions, of which the last difference is the first step that does
--- not fit
+-- the shares of a set's first actions, and the first of their differences that does not fit
 pub record IsUnfitShare (w : ℚ) (x z : ℕ → ℚ) (count : ℕ) (e : Step) : Type 0 where
   pub actions : ℕ
   pub within : actions ≤ count

@@ -70,7 +70,8 @@ pub record IsUnfitPivot (first : Numbers) (number entering : ℕ) (unfit : Unfit
   pub is_number : IsPivotNumber (suc count) number
   pub first_unfit : IsFirstUnfit (steps_of_pivot before row column) unfit
 
--- where a walk along the path is: after `steps` steps from `past`, before the step of this number
+-- where a walk along the path is: after pivots that were counted from `past` on, and before the pivot
+-- of this number
 pub record IsUnderWay (first now : Numbers) (past pivots number : ℕ) : Type 0 where
   pub count : ℕ
   pub path : LeadsTo first count now

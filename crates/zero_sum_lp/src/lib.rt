@@ -3,8 +3,9 @@
 //! Callers may rely on: `program` and `Lp::solve` give the one program and the one end of its path,
 //! in at most 2^n pivots for variables below n; `optimal_plans_prove_the_value`.
 //! Definitions: `specs::Paths` has linear programs and the path of the simplex method, `Programs`
-//! the program of plans, `Plans` plans made of raw weights, `FormPrograms` what a form answers.
-//! Private words: `specs::Systems`, and the modules that make weights into plans.
+//! the program of plans, `Systems` its rows, `Plans` plans made of raw weights, `FormPrograms` what
+//! a form answers.
+//! Private words: the modules that make weights into plans.
 //! Lemmas for callers: `proofs::ProgramAnswerLemmas`, `PathEndLemmas` and `PlanAnswerLemmas`, that
 //! each is one.
 //! A change here touches: what `lp` answers and refuses, and `lp_texts_are_solutions`.

@@ -40,8 +40,9 @@ impl Model for Lp {
         × HasShape l.first l.second l.objective l.width };
 }
 
-/// The end of the path: the optimum, or the first step that does not fit, with its number, counted
-/// from 1, and the entering variable. The number 2^64 - 1 also stands for every later step.
+/// The end of the path: the optimum, or the first step that does not fit, with the number of its
+/// pivot, counted from 1, and the entering variable. The number 2^64 - 1 also stands for every later
+/// pivot.
 #[derive(Debug, Drop)]
 pub enum LpEnd {
     Optimal(Optimum),

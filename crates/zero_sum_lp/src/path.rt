@@ -8,8 +8,8 @@ use frac128::Unfit;
 use lex_tableau::{PivotCount, Tableau, Work};
 use std::sync::ledger::Ledger;
 
-/// The step of a path that does not fit: its number, counted from 1, the entering variable and the
-/// step.
+/// The pivot of a path with the first step that does not fit: its number, counted from 1, the
+/// entering variable, and the step.
 #[derive(Debug, Drop)]
 pub struct UnfitPivot {
     pub step: u64,

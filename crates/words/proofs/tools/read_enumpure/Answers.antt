@@ -7,5 +7,5 @@ use Rattle.words.proofs.tools.read_enumpure.Goals as goal
 pub returns : goal.returns
 returns c = subst (λ a. IsAnswer a c.enumpure.result)
     (enumpure_told (map string_bytes c.args.words.now) c.in_ok-matches.matches c.is_given-strategic.result (collected c.given-plain.result)
-    (c.in_ok-matches.ensures.told enumpure_options c.in-Ok.ensures refl) c.is_given-strategic.ensures c.given-plain.ensures)
+    (c.in_ok-matches.ensures.told enumpure_options c.in_ok-command.ensures refl) c.is_given-strategic.ensures c.given-plain.ensures)
     c.enumpure.ensures
