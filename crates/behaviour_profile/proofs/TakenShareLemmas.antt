@@ -59,21 +59,6 @@ pub divided_is : (r : Result ℚ Step) (n : ℕ) (before after : ℚ) → before
 divided_is (Ok v) n before after ne is = is ∙ sym (share-is n before after ne)
 divided_is (Err u) n before after ne is = tt
 
--- ---- 1 divided by a number of actions
-pos_same : (a b : ℕ) → pos a ≡ pos b → a ≡ b
-pos_same a b e = cc
-
--- it fits
-equal_share-fits : (n : ℕ) → 0 < n → n < 2 ^ 32 → FracFits (frac (pos 1) n)
-equal_share-fits n some few =
-    let parts = frac-lowest (pos 1) n some (eq-one_of_dvd-one (gcd-is 1 n).0) in
-    record { num = subst PartFits (sym parts.0) (lit< tt); den = subst (λ (d : ℕ). PartFits (pos d)) (sym parts.1) (omega (arith, few)) }
-
--- so it is always had
-pub equal_share-had : (n : ℕ) (z : ℤ) → 0 < n → n < 2 ^ 32 → z ≡ pos n → (z ≡ pos 0) ⊎ (¬ (FracFits (quotient (pos 1) z))) → ⊥
-equal_share-had n z some few is (inl e) = absurd (let h : n ≡ 0 = pos_same n 0 (sym is ∙ e) in omega (arith, h, some))
-equal_share-had n z some few is (inr h) = h (subst (λ (x : ℤ). FracFits (quotient (pos 1) x)) (sym is) (equal_share-fits n some few))
-
 -- ---- the shares of a set
 -- a weight that is read
 pub weight_read : (weights : List ℚ) (q : ℕ) (x : ℚ) → q < length weights → x ≡ get_or weights q x → x ≡ weight weights q

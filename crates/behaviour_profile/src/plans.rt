@@ -75,17 +75,6 @@ impl<T: Drop> From<AllocFailed<T>> for BehaviourStop {
     }
 }
 
-// 1 divided by a number of actions.
-fn equal_share(count: u32) -> Frac
-    requires { 0 < count }
-    ensures { result ≡ frac (pos 1) count }
-{
-    match Frac::new(1, count as i128) {
-        Some(share) => share,
-        None => Frac::zero(),
-    }
-}
-
 // The weight after an action divided by the weight before its set, and where that is 0, 1 divided by the number of
 // actions.
 fn share(count: u32, before: Frac, after: Frac) -> Result<Frac, Unfit>
@@ -95,7 +84,7 @@ fn share(count: u32, before: Frac, after: Frac) -> Result<Frac, Unfit>
     ensures unfit { IfErr result (IsFirstUnfit (share_steps before after)) }
 {
     if before.is_zero() {
-        Ok(equal_share(count))
+        Ok(Frac::over(1, u128::from(count)))
     } else {
         after.div(before)
     }

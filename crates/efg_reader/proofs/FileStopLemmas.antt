@@ -27,7 +27,6 @@ use Rattle.tree_grammar.specs.TreeReading.{Head}
 use Rattle.tree_grammar.specs.TreeParsing.{parse_head, parse_all_nodes, in_nodes, parse_tree}
 use Rattle.tree_grammar.specs.TreeFaults.{IsFile}
 use Rattle.tree_grammar.specs.FaultKinds.{IsFault}
-use Rattle.written_trees.proofs.PartialTreeLemmas.{whole_is_tree}
 use Rattle.tree_grammar.proofs.FileLaws.{read_is_file, met_is_passed, no_front_is_nothing, no_nodes_are_nothing, one_tree, not_passed, one_limit}
 use Rattle.tree_grammar.proofs.HeadLemmas.{value_head, head_front}
 use Rattle.tree_grammar.proofs.WholeFileLaws.{few_players, whole_same}
@@ -110,7 +109,7 @@ pub read_file : (list : List Spanned) (x : Head × List Token) (partial : Partia
 read_file list x partial few e f = read_is_file (map (λ s. s.token) list) x partial (few_of list x few e) (head_front (map (λ s. s.token) list) x e) (whole_same (length x.0.1) x.1 partial f)
 
 pub read_tree : (list : List Spanned) (x : Head × List Token) (partial : PartialTree) → length list < 2 ^ 32 → parse_head (map (λ s. s.token) list) ≡ Ok x → parse_all_nodes (length x.0.1) x.1 ≡ Ok partial → IsTree (tree_so_far x.0.0 x.0.1 partial)
-read_tree list x partial few e f = whole_is_tree _ (read_file list x partial few e f).describe.partial
+read_tree list x partial few e f = (read_file list x partial few e f).describe.partial
 
 -- a tree that has been made is that of the file
 pub made_tree : (result : Result GameTree EfgStop) (tokens : TokenList) (tree : GameTree) → IfOk result (λ t. t ≡ tree) → IfErr result (λ stop. stop ≡ stops.Memory) → IsTreeFile (bare tokens) tree → Gives stops.Memory (tree_in tokens) result

@@ -2,6 +2,7 @@
 use Rattle.std.proofs.Common.{◌*◌, ℕ, zero, suc, ◌≡◌, ◌/◌, ◌<◌, ◌≤◌, ◌^◌, ℤ, pos, nat_abs, Bool, true, false, arith, refl, sym, ap, ap₂, ◌∙◌, subst, ltb, ◌⊎◌, ⊎_elim, not-le_of_lt, SFits, to_z, of_z, Option, None, MatchOption, zero-mul, mul-zero, lit<}
 use mir.Syntax.{w128}
 use native.Mathlib.Nat.{zero-div, not-suc-le-zero}
+use Rattle.std.proofs.Math.Nat.{div-le_self}
 use Rattle.std.proofs.lemmas.Int.{to_z-of_z}
 use Rattle.rational.specs.Gcd.{gcd, div_ℤ}
 use Rattle.rational.specs.GcdLaws.{gcd_pos, gcd-parts}
@@ -52,6 +53,15 @@ unfolding frac
 frac_parts b n zero h = absurd (not-suc-le-zero h)
 frac_parts b n (suc d) h =
     (ap (λ x. div_ℤ (with_sign b n) (gcd x (suc d))) (nat_abs-with_sign b n) ∙ div_ℤ-with_sign b n (gcd n (suc d)) (gcd_pos n (suc d) h), ap (λ x. suc d / gcd x (suc d)) (nat_abs-with_sign b n))
+
+-- sizes that fit still do in lowest terms
+pub sizes_fit : (s : Bool) (t b : ℕ) → 0 < b → t < 2 ^ 127 → b < 2 ^ 127 → Fits (frac (with_sign s t) b)
+sizes_fit s t b h k l =
+    let p = frac_parts s t b h in
+    record { num = subst (λ x. x < 2 ^ 127) (sym (ap nat_abs p.0 ∙ nat_abs-with_sign s (t / gcd t b))) (less t k); den = subst (λ x. x < 2 ^ 127) (sym p.1) (less b l) }
+  where
+    less : (n : ℕ) → n < 2 ^ 127 → n / gcd t b < 2 ^ 127
+    less n f = let q : n / gcd t b ≤ n = div-le_self n (gcd t b) in omega (arith, f)
 
 -- the sizes of a quotient with their common divisors divided out
 pub record Lowered (n d g t b : ℕ) : Type 0 where

@@ -24,6 +24,10 @@ pub signed_size : (t : ℤ) → with_sign (int_lt t (pos 0)) (nat_abs t) ≡ t
 signed_size (pos n) = rw (ltb-zero n) refl
 signed_size (negsuc n) = refl
 
+-- and a number as it was stored
+pub kept_size : (t : ℤ) (size : ℕ) → SFits w128 t → size ≡ nat_abs t → with_sign (int_lt (kept t) (pos 0)) size ≡ t
+kept_size t size f is = ap₂ (λ x n. with_sign (int_lt x (pos 0)) n) (to_z-of_z w128 t f) is ∙ signed_size t
+
 -- what the code has of top / (own * (others * common))
 pub record Over (t : ℤ) (size own others common shared top rest : ℕ) : Type 0 where
   pub own_positive : 0 < own

@@ -96,6 +96,20 @@ impl Frac {
         )
     }
 
+    /// The fraction `num / den` in lowest terms, where the denominator is not 0 and both parts lie
+    /// from -(2^127 - 1) to 2^127 - 1.
+    pub fn over(num: i128, den: u128) -> Frac
+        requires num { PartFits num }
+        requires positive { 0 < den }
+        requires den { den < 2 ^ 127 }
+        ensures { result ≡ frac num den }
+    {
+        match Frac::reduced(num < 0, num.unsigned_abs(), den) {
+            Some(fraction) => fraction,
+            None => unreachable!(),
+        }
+    }
+
     /// The numerator in lowest terms, with the sign of the fraction.
     pub fn num(self) -> i128
         ensures value { result ≡ self.num }

@@ -3,7 +3,6 @@ use Rattle.std.proofs.Common.{ℕ, ◌≡◌, inl, inr, sym, subst, List, Result
 use Rattle.game_core.specs.TokenList.{TokenList}
 use Rattle.game_core.specs.declared.game.Game.{Game}
 use Rattle.game_core.specs.declared.game.Game.TheVariants.{Strategic, Extensive}
-use Rattle.written_trees.proofs.PartialTreeLemmas.{whole_is_tree}
 use Rattle.two_player_tools.specs.GameTypes.{IsGame}
 use Rattle.gambit_tools.specs.Games.{game_in, game_of}
 use Rattle.refusals.specs.declared.refusal.Refusal.{Refusal}
@@ -12,7 +11,7 @@ game_same : (a b : Game) → ◌≡◌ {A = Result Game Refusal} (Ok a) (Ok b) �
 game_same a b e = cc
 
 game_of-valid : (tokens : TokenList) (game : Game) → game_of tokens (Ok game) → IsGame game
-game_of-valid tokens game (inl (begins, h)) = subst IsGame (sym (game_same game (Extensive h.0) h.2)) (whole_is_tree h.0 h.1.describe.partial)
+game_of-valid tokens game (inl (begins, h)) = subst IsGame (sym (game_same game (Extensive h.0) h.2)) h.1.describe.partial
 game_of-valid tokens game (inr (begins, h)) = subst IsGame (sym (game_same game (Strategic h.0) h.2)) h.1.1
 
 pub game_in-valid : (bytes : List ℕ) (game : Game) → game_in bytes (Ok game) → IsGame game

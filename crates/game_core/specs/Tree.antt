@@ -117,10 +117,10 @@ pub record SetFits (t : GameTree) (s : ℕ) (set : InformationSet) : Type 0 wher
 abbrev pub AreInOrderOfFirstUse : List (Option ℕ) → Type 0
 AreInOrderOfFirstUse names = (k s r : ℕ) → slice_get names k ≡ Some (Some s) → r < s → (l : ℕ) × (l < k) × (slice_get names l ≡ Some (Some r))
 
--- A game tree within the limits: its nodes stand in prefix order and leave no branch open, and its sets and outcomes in the order in
--- which the nodes first name them.
-pub record IsTree (t : GameTree) : Type 0 where
-  pub in_prefix_order : AreInPrefixOrder t.sets 0 t.nodes ((None, 0) ∷ []) []
+-- A game tree within the limits, as far as it goes: its nodes stand in prefix order and leave these branches open, and its sets and
+-- outcomes stand in the order in which the nodes first name them.
+pub record IsPartialTree (t : GameTree) (free : List OpenBranch) : Type 0 where
+  pub in_prefix_order : AreInPrefixOrder t.sets 0 t.nodes ((None, 0) ∷ []) free
   pub nodes_fit : All (NodeFits t) t.nodes
   pub sets_fit : (s : ℕ) (set : InformationSet) → slice_get t.sets s ≡ Some set → SetFits t s set
   pub outcomes_fit : All (λ outcome. length outcome.payoffs ≡ length t.players) t.outcomes
@@ -130,6 +130,10 @@ pub record IsTree (t : GameTree) : Type 0 where
   pub few_sets : length t.sets ≤ length t.nodes
   pub few_edges : (d k : ℕ) → LiesBelowRoot t.nodes d k → d ≤ most_depth
   pub few_players : length t.players < 2 ^ 32
+
+-- a game tree within the limits leaves no branch open
+abbrev pub IsTree : GameTree → Type 0
+IsTree t = IsPartialTree t []
 
 -- the numbers of player i's own sets in order, where the sets are numbered from s on
 abbrev pub own_from : ℕ → ℕ → List InformationSet → List ℕ

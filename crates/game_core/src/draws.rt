@@ -17,10 +17,7 @@ fn next_state(state: u32) -> u32
 fn payoff(state: u32) -> Frac
     ensures { result ≡ whole (pos (digit_of state)) }
 {
-    match Frac::new((state / 65536 % 10) as i128, 1) {
-        Some(payoff) => payoff,
-        None => unreachable!(),
-    }
+    Frac::over((state / 65536 % 10) as i128, 1)
 }
 
 /// The first draws from a seed.

@@ -1,7 +1,7 @@
 -- The values of numbers: signs, powers of ten, and which fractions are short.
-use Rattle.std.proofs.Common.{◌≡◌, ℕ, zero, suc, ◌+◌, ◌*◌, ◌-◌, ◌<◌, ◌≤◌, ◌^◌, ℤ, pos, nat_abs, ◌*ℤ◌, IsTrue, Bool, true, false, [], ◌∷◌, refl, sym, ap, ap₂, ◌∙◌, subst, lit<, arith, mul-pos, not-le_of_lt, add-one, mul-one, one-mul, Option, ◌⊎◌, inl, inr}
+use Rattle.std.proofs.Common.{◌≡◌, ℕ, zero, suc, ◌+◌, ◌*◌, ◌-◌, ◌<◌, ◌≤◌, ◌^◌, ℤ, pos, nat_abs, ◌*ℤ◌, IsTrue, Bool, true, false, [], ◌∷◌, refl, sym, ap, ap₂, ◌∙◌, subst, lit<, arith, mul-pos, not-le_of_lt, add-one, mul-one, one-mul, Option}
 use Rattle.std.proofs.Math.Nat.{one-le-pow, mul-le-mul_left}
-use Rattle.std.proofs.lemmas.Int.{ints, unsigned_abs-mul}
+use Rattle.std.proofs.lemmas.Int.{unsigned_abs-mul}
 use Rattle.std.proofs.lemmas.Nat.{pow-add}
 use Rattle.std.proofs.lemmas.Nat.Gcd.{le_of_dvd}
 use native.Mathlib.Nat.{dvd-mul_left}
@@ -12,8 +12,8 @@ use Rattle.rational.proofs.Ring.{ring, num, ◌:*◌, A, B, C, D}
 use Rattle.rational.specs.GcdLaws.{gauss}
 use Rattle.rational.specs.Rational.{ℚ, frac, whole, ◌*ℚ◌, den_pos, lowest}
 use Rattle.rational.proofs.FractionLemmas.{StandsFor-frac, equal_by, cancel_pos, frac_self}
-use Rattle.rational.proofs.PartLemmas.{whole-num, frac-mul, frac-scale, frac_num_size}
-use Rattle.frac128.specs.Fraction.{with_sign, quotient, Fits, PartFits}
+use Rattle.rational.proofs.PartLemmas.{whole-num, frac-mul, frac-scale}
+use Rattle.frac128.specs.Fraction.{with_sign, PartFits}
 use Rattle.frac128.proofs.PartLemmas.{kept, kept-part}
 use Rattle.frac128.proofs.ReductionLemmas.{nat_abs-with_sign}
 use Rattle.frac128.specs.Short.{IsShort}
@@ -51,22 +51,6 @@ den_grows n d k p q =
     let b = frac n (d * k) in
     let sizes : nat_abs a.num * b.den ≡ nat_abs (b.num *ℤ pos k) * a.den = sym (unsigned_abs-mul a.num (pos b.den)) ∙ ap nat_abs (den_cross n d k p q) ∙ unsigned_abs-mul (b.num *ℤ pos k) (pos a.den) in
     le_of_dvd (den_pos b) (gauss (nat_abs a.num) a.den b.den (lowest a) (subst (λ x. a.den ∣ x) (sym sizes) (dvd-mul_left a.den (nat_abs (b.num *ℤ pos k)))))
-
--- a fraction in lowest terms has no larger denominator
-den_below : (n : ℤ) (d : ℕ) → 0 < d → (frac n d).den ≤ d
-den_below n d p =
-    let a = frac n d in
-    let sizes : nat_abs a.num * d ≡ nat_abs n * a.den = sym (unsigned_abs-mul a.num (pos d)) ∙ ap nat_abs (StandsFor-frac n d p).cross ∙ unsigned_abs-mul n (pos a.den) in
-    le_of_dvd p (gauss (nat_abs a.num) a.den d (lowest a) (subst (λ x. a.den ∣ x) (sym sizes) (dvd-mul_left a.den (nat_abs n))))
-
--- so it fits where its parts do
-pub parts_fit : (n : ℤ) (d : ℕ) → nat_abs n < 2 ^ 127 → 0 < d → d < 2 ^ 127 → Fits (frac n d)
-parts_fit n d h p k = record { num = omega (arith, frac_num_size n d p); den = omega (arith, den_below n d p) }
-
--- a numerator over a denominator fits, whatever type holds the denominator
-pub over_fits : (n z : ℤ) (d : ℕ) → z ≡ pos d → nat_abs n < 2 ^ 127 → 0 < d → d < 2 ^ 127 → (z ≡ pos 0) ⊎ (¬ (Fits (quotient n z))) → ⊥
-over_fits n z d e h p k (inl none) = let no_size : pos d ≡ pos 0 = sym e ∙ none in omega (arith, ints)
-over_fits n z d e h p k (inr wide) = wide (subst (λ x. Fits (quotient n x)) (sym e) (parts_fit n d h p k))
 
 -- a power of ten makes no size smaller
 pub raised_long : (n k : ℕ) → 2 ^ 63 ≤ n → 2 ^ 63 ≤ n * 10 ^ k

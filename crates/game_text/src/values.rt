@@ -1,7 +1,7 @@
 // The values of numbers, where both parts in lowest terms are below 2^63.
 ghost use Rattle.std.specs.Prelude.{◌≡◌, ◌↔◌, ◌<◌, ◌≤◌, ◌+◌, ◌*◌, ◌^◌, nat_abs, pos, IsTrue};
 ghost use Rattle.rational.specs.Rational.{frac, whole, ◌*ℚ◌};
-ghost use Rattle.frac128.specs.Fraction.{PartFits, with_sign};
+ghost use Rattle.frac128.specs.Fraction.{with_sign};
 ghost use Rattle.game_text.specs.Numbers.{ten_to};
 ghost use Rattle.game_text.specs.NumberReading.{GivesShort};
 
@@ -24,19 +24,6 @@ fn short(fraction: Frac) -> Option<Frac>
     }
 }
 
-// A numerator over a denominator.
-fn over(num: i128, den: u128) -> Frac
-    requires num { PartFits num }
-    requires positive { 0 < den }
-    requires den { den < 2 ^ 127 }
-    ensures { result ≡ frac num den }
-{
-    match Frac::new(num, den as i128) {
-        Some(fraction) => fraction,
-        None => unreachable!(),
-    }
-}
-
 // The fraction over a power of ten.
 fn divided(fraction: Frac, power: usize) -> Frac
     requires short { fraction.den < 2 ^ 63 }
@@ -44,7 +31,7 @@ fn divided(fraction: Frac, power: usize) -> Frac
     ensures { result ≡ frac fraction.num (fraction.den * 10 ^ power) }
 {
     let factor = u128::from(10_u64.pow(power as u32));
-    over(fraction.num(), fraction.den().unsigned_abs() * factor)
+    Frac::over(fraction.num(), fraction.den().unsigned_abs() * factor)
 }
 
 // The fraction over a power of ten, where it is short. A denominator that is not short stays so.
@@ -73,7 +60,7 @@ fn raised(negative: bool, size: u128, power: usize) -> Option<Frac>
         return None;
     }
     let factor = u128::from(10_u64.pow(power as u32));
-    short(over(signed(size * factor, negative), 1))
+    short(Frac::over(signed(size * factor, negative), 1))
 }
 
 // A fraction of two sizes, where it is short.
@@ -83,7 +70,7 @@ pub fn fraction(negative: bool, top: u128, bottom: u128) -> Option<Frac>
     requires positive { 0 < bottom }
     ensures { GivesShort (frac (with_sign negative top) bottom) result }
 {
-    short(over(signed(top, negative), bottom))
+    short(Frac::over(signed(top, negative), bottom))
 }
 
 // A number with so many digits after the point, times or over a power of ten, where it is short.
@@ -101,9 +88,9 @@ pub fn decimal(
         (with_sign falls exponent)) result }
 {
     if falls {
-        lowered(over(signed(size, negative), 1), places + exponent)
+        lowered(Frac::over(signed(size, negative), 1), places + exponent)
     } else if exponent <= places {
-        lowered(over(signed(size, negative), 1), places - exponent)
+        lowered(Frac::over(signed(size, negative), 1), places - exponent)
     } else {
         raised(negative, size, exponent - places)
     }

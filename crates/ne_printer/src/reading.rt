@@ -122,10 +122,7 @@ fn over(num: u128, den: u128) -> Frac
     requires den { den < 2 ^ 127 }
     ensures { result ≡ frac (pos num) den }
 {
-    match Frac::new(num as i128, den as i128) {
-        Some(fraction) => fraction,
-        None => unreachable!(),
-    }
+    Frac::over(num as i128, den)
 }
 
 // The fraction that a text is.

@@ -10,7 +10,6 @@ pub mod ListLemmas
 pub mod MemberLemmas
 pub mod NumberedKeyLemmas
 pub mod OutcomeUseLemmas
-pub mod PartialTreeLemmas
 pub mod PlaceLemmas
 pub mod SetGrowthLemmas
 pub mod SetUseLemmas

@@ -7,7 +7,7 @@ use Rattle.game_core.specs.declared.tree.Action.{Action}
 use Rattle.game_core.specs.declared.tree.Kind.{Kind}
 use Rattle.game_core.specs.declared.tree.Kind.TheVariants.{End}
 use Rattle.game_core.specs.declared.tree.Node.{Node}
-use Rattle.game_core.specs.Tree.{GameTree, InformationSet, TreeOutcome, OpenBranch, AreInPrefixOrder, NodeFits, SetFits, AreInOrderOfFirstUse, LiesBelowRoot, most_nodes, most_depth, kind_of_owner, probability_at}
+use Rattle.game_core.specs.Tree.{GameTree, InformationSet, TreeOutcome, OpenBranch, IsPartialTree, LiesBelowRoot, kind_of_owner, probability_at}
 use Rattle.written_trees.specs.Written.{SetUse, OutcomeUse, WrittenNode}
 
 -- ---- uses
@@ -145,19 +145,6 @@ abbrev pub StandForEach : List SetKey → List ℕ → List Node → List Writte
 StandForEach keys labels [] [] = Unit {0}
 StandForEach keys labels (node ∷ nodes) (one ∷ written) = StandsFor keys labels node one × StandForEach keys labels nodes written
 StandForEach keys labels _ _ = ⊥
-
--- A game tree within the limits, as far as it goes: its nodes leave these branches open. Where none is left, it is a tree.
-pub record IsPartialTree (t : GameTree) (free : List OpenBranch) : Type 0 where
-  pub in_prefix_order : AreInPrefixOrder t.sets 0 t.nodes ((None, 0) ∷ []) free
-  pub nodes_fit : All (NodeFits t) t.nodes
-  pub sets_fit : (s : ℕ) (set : InformationSet) → slice_get t.sets s ≡ Some set → SetFits t s set
-  pub outcomes_fit : All (λ outcome. length outcome.payoffs ≡ length t.players) t.outcomes
-  pub sets_in_order : AreInOrderOfFirstUse (map (λ node. node.set) t.nodes)
-  pub outcomes_in_order : AreInOrderOfFirstUse (map (λ node. node.outcome) t.nodes)
-  pub few_nodes : length t.nodes ≤ most_nodes
-  pub few_sets : length t.sets ≤ length t.nodes
-  pub few_edges : (d k : ℕ) → LiesBelowRoot t.nodes d k → d ≤ most_depth
-  pub few_players : length t.players < 2 ^ 32
 
 -- Written nodes describe a tree, as far as it goes: its nodes hang in prefix order and leave these branches open, and its sets and
 -- outcomes are those that the nodes use, each once, in the order of their first uses.

@@ -4,9 +4,9 @@ use Rattle.rational.specs.Rational.{zero_ℚ}
 use Rattle.game_core.specs.declared.tree.Action.{Action}
 use Rattle.game_core.specs.declared.too_large.What.{What}
 use Rattle.game_core.specs.declared.too_large.What.TheVariants.{Nodes, Depth}
-use Rattle.game_core.specs.Tree.{GameTree, OpenBranch, IsTree, most_nodes, most_depth}
+use Rattle.game_core.specs.Tree.{GameTree, OpenBranch, most_nodes, most_depth}
 use Rattle.written_trees.specs.Written.{SetUse, OutcomeUse, WrittenNode}
-use Rattle.written_trees.specs.Described.{Describe, IsPartialTree, LiesAt}
+use Rattle.written_trees.specs.Described.{Describe, LiesAt}
 use Rattle.written_trees.specs.Building.{PartialTree, root_alone, add_nodes, passed, tree_so_far, open_branches}
 
 -- a list of actions has at least one, and a player's have no probabilities
@@ -31,10 +31,6 @@ IsOutcomeUse players used = IfSome used.payoffs (λ payoffs. length payoffs ≡ 
 pub record IsWrittenNode (players : ℕ) (node : WrittenNode) : Type 0 where
   pub set_is : IfSome node.set (IsSetUse players)
   pub outcome_is : IfSome node.outcome (IsOutcomeUse players)
-
--- a partial tree that leaves no branch open is a tree, and each tree is one
-abbrev pub WholeTreesAreTrees : Type 0
-WholeTreesAreTrees = (t : GameTree) → IsPartialTree t [] ↔ IsTree t
 
 -- what is built is described
 abbrev pub BuiltIsDescribed : Type 0

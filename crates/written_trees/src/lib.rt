@@ -1,21 +1,15 @@
 //! The nodes of a game tree as files write them, and the tree that they describe: definitions and
 //! laws.
 //!
-//! Callers may rely on: the four laws below, that what is built from written nodes is what they
+//! Callers may rely on: the three laws below, that what is built from written nodes is what they
 //! describe.
 //! Definitions: `specs::Written` has the nodes as they are written, `Described` the tree that they
 //! describe, `Building` how a tree grows node by node.
-//! Lemmas for callers: `proofs::PartialTreeLemmas`, a partial tree without open branches is a tree.
 //! A change here touches: `tree_grammar` and `efg_reader`, which read such nodes, and what `run`
 //! says of trees.
 #![tactic(auto)]
 
-ghost use Rattle.written_trees.specs.Laws.{WholeTreesAreTrees, BuiltIsDescribed, DescribedIsBuilt, LimitsAreExact};
-
-/// A partial tree that leaves no branch open is a tree, and each tree is one.
-pub fn whole_trees_are_trees()
-    ensures { WholeTreesAreTrees }
-{}
+ghost use Rattle.written_trees.specs.Laws.{BuiltIsDescribed, DescribedIsBuilt, LimitsAreExact};
 
 /// What is built from written nodes is the tree that they describe.
 pub fn built_is_described()

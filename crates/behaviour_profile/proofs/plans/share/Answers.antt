@@ -4,7 +4,7 @@ use Rattle.behaviour_profile.proofs.TakenShareLemmas.{share-none, none_fit, divi
 use Rattle.behaviour_profile.proofs.plans.share.Goals as goal
 
 pub returns-then-is_zero-clause-value : goal.returns-then-is_zero-clause-value
-returns-then-is_zero-clause-value c = c.equal_share.ensures ∙ sym (share-none c.args.count c.args.before c.args.after (c.is_zero.ensures.0 c.if-is_zero.true))
+returns-then-is_zero-clause-value c = c.over.ensures ∙ sym (share-none c.args.count c.args.before c.args.after (c.is_zero.ensures.0 c.if-is_zero.true))
 
 pub returns-then-is_zero-clause-fits : goal.returns-then-is_zero-clause-fits
 returns-then-is_zero-clause-fits c = none_fit c.args.before c.args.after (c.is_zero.ensures.0 c.if-is_zero.true)
