@@ -3,6 +3,7 @@ pub mod CutListLemmas
 pub mod DeterminedPathLemmas
 pub mod EndPriceLemmas
 pub mod EnteringColumnLemmas
+pub mod ExactPlanLemmas
 pub mod FormLaws
 pub mod FormProgramLemmas
 pub mod FormSystemLemmas
@@ -17,6 +18,7 @@ pub mod PathWalkLemmas
 pub mod PlanAnswerLemmas
 pub mod PlanListLemmas
 pub mod PlanReadLemmas
+pub mod PlanStepLemmas
 pub mod PlanWeightLemmas
 pub mod ProgramAnswerLemmas
 pub mod ProgramLemmas

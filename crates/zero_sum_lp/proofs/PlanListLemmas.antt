@@ -1,135 +1,21 @@
 -- Plans in lists, set by set.
-use Rattle.std.proofs.Common.{ℕ, zero, suc, ◌<◌, ◌≤◌, ◌≡◌, ◌≢◌, ◌+◌, inl, inr, All, List, [], ◌∷◌, ◌++◌, length, refl, sym, ap, ap₂, ◌∙◌, subst, subst₂, arith, add-one}
-use Rattle.std.proofs.lemmas.Bool.{cases_lt}
+use Rattle.std.proofs.Common.{ℕ, ◌<◌, ◌≤◌, ◌≡◌, ◌≢◌, ◌+◌, ◌-◌, inl, inr, All, List, length, refl, sym, ap, ap₂, ◌∙◌, subst, subst₂, arith, add-one}
+use Rattle.std.proofs.lemmas.Bool.{cases_eq, cases_lt}
 use Rattle.std.proofs.lemmas.List.{length-map}
-use Rattle.std.proofs.lemmas.List.Elements.{All-append}
-use Rattle.rational.specs.Rational.{ℚ, ◌+ℚ◌, ◌-ℚ◌, zero_ℚ}
+use Rattle.std.proofs.lemmas.List.Elements.{All-nil}
+use Rattle.rational.specs.Rational.{ℚ, ◌+ℚ◌, ◌-ℚ◌, one_ℚ}
 use Rattle.rational.specs.Sum.{sum_to}
-use Rattle.rational.proofs.RationalRing.{rational_ring}
 use Rattle.rational.proofs.SumLemmas.{sum_to-same}
-use Rattle.rational.proofs.Ring.{ring, num, ◌:+◌, ◌:-◌, A, B, C}
-use Rattle.linear_systems.proofs.LexRowLemmas.{below_cases}
-use Rattle.frac128.specs.declared.steps.Op.TheVariants.{Add, Sub}
-use Rattle.frac128.specs.Steps.{AddFits, SubFits, unfit}
-use Rattle.sequence_forms.specs.Sides.{Side, first, sequences, IsOrderedSide}
-use Rattle.sequence_forms.proofs.SideLemmas.{first_up, first_pos}
-use Rattle.sequence_data.specs.Data.{SideData, side_of}
-use Rattle.sequence_data.specs.Data.{side_of}
 use Rattle.pure_payoffs.specs.Steps.{Step, StepFits, IsFirstUnfit}
-use Rattle.pure_payoffs.proofs.StepRunLemmas.{first_unfit-more, first_unfit-following, first_unfit-here, one-fits}
-use Rattle.zero_sum_lp.specs.PlanSteps.{rest_steps, raise_steps, IsRaisedTo, IsUnfitRaise}
+use Rattle.sequence_forms.specs.Sides.{Side, first, sequences, IsOrderedSide}
+use Rattle.sequence_forms.proofs.SideLemmas.{first_up}
+use Rattle.sequence_data.specs.Data.{SideData, side_of}
+use Rattle.zero_sum_lp.specs.Plans.{IsRaised}
+use Rattle.zero_sum_lp.specs.PlanSteps.{raise_steps, IsFittingRaise, IsUnfitRaise}
+use Rattle.zero_sum_lp.proofs.ExactPlanLemmas.{raised_plan, is_raised, fitting_raise_as}
+use Rattle.zero_sum_lp.proofs.PlanStepLemmas.{fits_next, raise_same, steps_to, unfit_next}
 
--- ---- steps
--- one more step that fits
-pub fits_more : (ss : List Step) (s : Step) → All StepFits ss → StepFits s → All StepFits (ss ++ s ∷ [])
-fits_more ss s h f = All-append StepFits ss (s ∷ []) h (one-fits s f)
-
--- one more step that does not fit
-pub unfit_more : (ss : List Step) (s e : Step) → All StepFits ss → ¬ (StepFits s) → e ≡ s → IsFirstUnfit (ss ++ s ∷ []) e
-unfit_more ss s e h f q = subst (IsFirstUnfit (ss ++ s ∷ [])) (sym q) (first_unfit-following ss (s ∷ []) s h (first_unfit-here s [] f))
-
-pub rest_unfit : (w : ℚ) (x : ℕ → ℚ) (m n : ℕ) (e : Step) → m ≤ n → IsFirstUnfit (rest_steps w x m) e → IsFirstUnfit (rest_steps w x n) e
-rest_unfit w x m zero e l h = subst (λ k. IsFirstUnfit (rest_steps w x k) e) (let q : m ≡ 0 = omega arith in q) h
-rest_unfit w x m (suc n) e l h = elim (cases_lt m (suc n)) [
-  | inl k ↦ first_unfit-more (rest_steps w x n) (unfit Sub (w -ℚ sum_to n x) (x n) ∷ []) e (rest_unfit w x m n e (omega arith) h)
-  | inr k ↦ subst (λ i. IsFirstUnfit (rest_steps w x i) e) (let q : m ≡ suc n = omega arith in q) h
-]
-
--- ---- the rest of a set
-pub rest_begins : (w r : ℚ) → r ≡ w → r ≡ w -ℚ zero_ℚ
-rest_begins w r e = e ∙ ring rational_ring (w ∷ []) A (A :- num 0) refl
-
-pub rest_next : (w : ℚ) (x : ℕ → ℚ) (a : ℕ) (r v l : ℚ) → r ≡ w -ℚ sum_to a x → v ≡ x a → l ≡ r -ℚ v → l ≡ w -ℚ sum_to (a + 1) x
-rest_next w x a r v l e f g =
-    g ∙ ap₂ (λ b c. b -ℚ c) e f ∙ ring rational_ring (w ∷ sum_to a x ∷ x a ∷ []) ((A :- B) :- C) (A :- (B :+ C)) refl ∙ ap (λ k. w -ℚ sum_to k x) (sym (add-one a))
-
-pub rest_fits : (w : ℚ) (x : ℕ → ℚ) (a : ℕ) (r v : ℚ) → r ≡ w -ℚ sum_to a x → v ≡ x a → SubFits r v → All StepFits (rest_steps w x a) → All StepFits (rest_steps w x (a + 1))
-rest_fits w x a r v e f s h =
-    subst (λ k. All StepFits (rest_steps w x k)) (sym (add-one a)) (fits_more (rest_steps w x a) (unfit Sub (w -ℚ sum_to a x) (x a)) h (subst₂ SubFits e f s))
-
-pub rest_fails : (w : ℚ) (x : ℕ → ℚ) (a n : ℕ) (r v : ℚ) (u : Step) → a < n → r ≡ w -ℚ sum_to a x → v ≡ x a → ¬ (SubFits r v) → u ≡ unfit Sub r v → All StepFits (rest_steps w x a) → IsFirstUnfit (rest_steps w x n) u
-rest_fails w x a n r v u l e f s q h =
-    rest_unfit w x (suc a) n u (omega arith) (unfit_more (rest_steps w x a) (unfit Sub (w -ℚ sum_to a x) (x a)) u h (λ k. s (subst₂ SubFits (sym e) (sym f) k)) (q ∙ ap₂ (unfit Sub) e f))
-
--- ---- a set that is raised
-pub raise_fits : (w : ℚ) (z : ℕ → ℚ) (f n : ℕ) (r v : ℚ) → r ≡ w -ℚ sum_to n (λ a. z (f + a)) → v ≡ z f → AddFits v r → All StepFits (rest_steps w (λ a. z (f + a)) n) → All StepFits (raise_steps w (λ a. z (f + a)) n)
-raise_fits w z f n r v e q s h =
-    fits_more (rest_steps w (λ a. z (f + a)) n) (unfit Add (z (f + 0)) (w -ℚ sum_to n (λ a. z (f + a)))) h (subst₂ AddFits (q ∙ ap z (let o : f ≡ f + 0 = omega arith in o)) e s)
-
-pub raise_fails : (w : ℚ) (z : ℕ → ℚ) (f n : ℕ) (r v : ℚ) (u : Step) → r ≡ w -ℚ sum_to n (λ a. z (f + a)) → v ≡ z f → ¬ (AddFits v r) → u ≡ unfit Add v r → All StepFits (rest_steps w (λ a. z (f + a)) n) → IsFirstUnfit (raise_steps w (λ a. z (f + a)) n) u
-raise_fails w z f n r v u e q s k h =
-    let here : v ≡ z (f + 0) = q ∙ ap z (let o : f ≡ f + 0 = omega arith in o) in
-    unfit_more (rest_steps w (λ a. z (f + a)) n) (unfit Add (z (f + 0)) (w -ℚ sum_to n (λ a. z (f + a)))) u h (λ t. s (subst₂ AddFits (sym here) (sym e) t)) (k ∙ ap₂ (unfit Add) here e)
-
-pub raise_fails_before : (w : ℚ) (x : ℕ → ℚ) (n : ℕ) (u : Step) → IsFirstUnfit (rest_steps w x n) u → IsFirstUnfit (raise_steps w x n) u
-raise_fails_before w x n u h = first_unfit-more (rest_steps w x n) (unfit Add (x 0) (w -ℚ sum_to n x) ∷ []) u h
-
-pub rest_same : (w : ℚ) (x y : ℕ → ℚ) (n : ℕ) → ((a : ℕ) → a < n → x a ≡ y a) → rest_steps w x n ≡ rest_steps w y n
-rest_same w x y zero h = refl
-rest_same w x y (suc n) h = ap₂ (λ ss s. ss ++ s ∷ []) (rest_same w x y n (λ a l. h a (omega arith))) (ap₂ (λ b c. unfit Sub (w -ℚ b) c) (sum_to-same n x y (λ a l. h a (omega arith))) (h n (omega arith)))
-
-raise_same : (w : ℚ) (x y : ℕ → ℚ) (n : ℕ) → ((a : ℕ) → x a ≡ y a) → raise_steps w x n ≡ raise_steps w y n
-raise_same w x y n h = ap₂ (λ ss s. ss ++ s ∷ []) (rest_same w x y n (λ a l. h a)) (ap₂ (λ b c. unfit Add b (w -ℚ c)) (h 0) (sum_to-same n x y (λ a l. h a)))
-
--- sequences of a set and those before it
-pub before_next : (d : Side) (o : IsOrderedSide d) (n j a : ℕ) → n < d.sets → j < n → a < d.count j → first d j + a < first d n
-before_next d o n j a h l k = let u : first d j + d.count j ≤ first d n = first_up d.count j n l in omega arith
-
-module _ (d : Side) (o : IsOrderedSide d) (n : ℕ) (h : n < d.sets) (x z z' : ℕ → ℚ) where
-  first_below : (j : ℕ) → j < n → first d j < first d n
-  first_below j l = let u = before_next d o n j 0 h l (o.some_action j (omega arith)) in omega arith
-
-  pub raised_next : IsRaisedTo d n x z → z' (first d n) ≡ z (first d n) +ℚ (z (d.before n) -ℚ sum_to (d.count n) (λ a. z (first d n + a))) → ((q : ℕ) → q ≢ first d n → z' q ≡ z q) → All StepFits (raise_steps (z (d.before n)) (λ a. z (first d n + a)) (d.count n)) → IsRaisedTo d (suc n) x z'
-  raised_next r e other fit =
-      record {
-        empty = other 0 (λ k. let p = first_pos d.count n in omega (arith, k, p)) ∙ r.empty;
-        first_action = λ j l. elim (below_cases j n l) [
-          | inl q ↦ subst (λ i. z' (first d i) ≡ x (first d i) +ℚ (z' (d.before i) -ℚ sum_to (d.count i) (λ a. x (first d i + a)))) (sym q) (e ∙ ap₂ (λ b c. b +ℚ c) (r.later (first d n) (omega arith)) (ap₂ (λ b c. b -ℚ c) (sym (other (d.before n) (λ k. let p = o.follows n h in omega (arith, k, p)))) (sum_to-same (d.count n) _ _ (λ a m. r.later (first d n + a) (omega arith)))))
-          | inr q ↦ (other (first d j) (λ k. let p = first_below j q in omega (arith, k, p)) ∙ r.first_action j q ∙ ap (λ b. x (first d j) +ℚ (b -ℚ sum_to (d.count j) (λ a. x (first d j + a)))) (sym (earlier j q)))
-        ];
-        others = λ j a l p m. elim (below_cases j n l) [
-          | inl q ↦ (other (first d j + a) (λ k. let f : first d j ≡ first d n = ap (first d) q in omega (arith, k, f, p)) ∙ r.later (first d j + a) (let f : first d j ≡ first d n = ap (first d) q in omega arith))
-          | inr q ↦ (other (first d j + a) (λ k. let f = before_next d o n j a h q m in omega (arith, k, f)) ∙ r.others j a q p m)
-        ];
-        later = λ q l. (let c : 0 < d.count n = o.some_action n h in other q (λ k. omega (arith, k, l, c)) ∙ r.later q (omega (arith, l)));
-        fits = λ j l. elim (below_cases j n l) [
-          | inl q ↦ subst (λ i. All StepFits (raise_steps (z' (d.before i)) (λ a. x (first d i + a)) (d.count i))) (sym q) (subst (All StepFits) (raise_same (z (d.before n)) (λ a. z (first d n + a)) (λ a. x (first d n + a)) (d.count n) (λ a. r.later (first d n + a) (omega arith)) ∙ ap (λ b. raise_steps b (λ a. x (first d n + a)) (d.count n)) (sym (other (d.before n) (λ k. let p = o.follows n h in omega (arith, k, p))))) fit)
-          | inr q ↦ subst (λ b. All StepFits (raise_steps b (λ a. x (first d j + a)) (d.count j))) (sym (earlier j q)) (r.fits j q)
-        ];
-      }
-    where
-      earlier : (j : ℕ) → j < n → z' (d.before j) ≡ z (d.before j)
-      earlier j l = other (d.before j) (λ k. let p = o.follows j (omega arith) in let f = first_below j l in omega (arith, k, p, f))
-
-  pub raised_fails : (u : Step) → IsRaisedTo d n x z → IsFirstUnfit (raise_steps (z (d.before n)) (λ a. z (first d n + a)) (d.count n)) u → IsUnfitRaise d x u
-  raised_fails u r f =
-      record { set = n; within = h; plan = z; raised = r; first_unfit = subst (λ ss. IsFirstUnfit ss u) (raise_same (z (d.before n)) (λ a. z (first d n + a)) (λ a. x (first d n + a)) (d.count n) (λ a. r.later (first d n + a) (omega arith))) f }
-
--- the raw weight of the empty sequence does not matter
-pub set_positive : (d : Side) (j a : ℕ) → first d j + a ≢ 0
-set_positive d j a e = let p = first_pos d.count j in omega (arith, e, p)
-
-pub raised_from : (d : Side) (n : ℕ) (x y z : ℕ → ℚ) → ((q : ℕ) → q ≢ 0 → y q ≡ x q) → IsRaisedTo d n y z → IsRaisedTo d n x z
-raised_from d n x y z h r =
-    record {
-      empty = r.empty;
-      first_action = λ j l. r.first_action j l ∙ ap₂ (λ b c. b +ℚ (z (d.before j) -ℚ c)) (h (first d j) (λ e. let p = first_pos d.count j in omega (arith, e, p))) (sum_to-same (d.count j) _ _ (λ a m. h (first d j + a) (set_positive d j a)));
-      others = λ j a l p m. r.others j a l p m ∙ h (first d j + a) (set_positive d j a);
-      later = λ q l. r.later q l ∙ h q (λ e. let p = first_pos d.count n in omega (arith, e, p, l));
-      fits = λ j l. subst (All StepFits) (raise_same (z (d.before j)) _ _ (d.count j) (λ a. h (first d j + a) (set_positive d j a))) (r.fits j l);
-    }
-
-pub unfit_raise_from : (d : Side) (x y : ℕ → ℚ) (u : Step) → ((q : ℕ) → q ≢ 0 → y q ≡ x q) → IsUnfitRaise d y u → IsUnfitRaise d x u
-unfit_raise_from d x y u h f =
-    record {
-      set = f.set;
-      within = f.within;
-      plan = f.plan;
-      raised = raised_from d f.set x y f.plan h f.raised;
-      first_unfit = subst (λ ss. IsFirstUnfit ss u) (raise_same (f.plan (d.before f.set)) _ _ (d.count f.set) (λ a. h (first d f.set + a) (set_positive d f.set a))) f.first_unfit;
-    }
-
--- ---- for the loops over sets
+-- ---- sets that are read
 -- a set whose numbers were read
 pub record IsSetOf (d : Side) (n before f count : ℕ) : Type 0 where
   pub within : n < d.sets
@@ -156,14 +42,84 @@ set_follows d o n before f count s = subst₂ (λ b q. b < q) (sym s.before_is) 
 pub at_set : (d : Side) (n before f count : ℕ) (P : ℕ → ℕ → ℕ → Type 0) → IsSetOf d n before f count → P before f count → P (d.before n) (first d n) (d.count n)
 at_set d n before f count P s p = subst (λ c. P (d.before n) (first d n) c) s.count_is (subst (λ q. P (d.before n) q count) s.first_is (subst (λ b. P b f count) s.before_is p))
 
+-- ---- plans under way
+-- w has the weights of the plan z up to the first n sets, whose steps fit, and the raw weights x after them
+pub record IsMadeTo (d : Side) (n : ℕ) (x z w : ℕ → ℚ) (steps : ℕ → List Step) : Type 0 where
+  pub made : (q : ℕ) → q < first d n → w q ≡ z q
+  pub later : (q : ℕ) → first d n ≤ q → w q ≡ x q
+  pub fits : All StepFits (steps_to steps n)
+
+pub made_begins : (d : Side) (x z w : ℕ → ℚ) (steps : ℕ → List Step) → z 0 ≡ one_ℚ → w 0 ≡ one_ℚ → ((q : ℕ) → q ≢ 0 → w q ≡ x q) → IsMadeTo d 0 x z w steps
+made_begins d x z w steps e f h =
+    record {
+      made = λ q l. subst (λ i. w i ≡ z i) (let k : 0 ≡ q = omega arith in k) (f ∙ sym e);
+      later = λ q l. h q (λ k. omega (arith, k, l));
+      fits = All-nil StepFits;
+    }
+
+pub made_next : (d : Side) (n : ℕ) (x z w w' : ℕ → ℚ) (steps : ℕ → List Step) → IsMadeTo d n x z w steps → ((q : ℕ) → q < first d n → w' q ≡ w q) → ((a : ℕ) → a < d.count n → w' (first d n + a) ≡ z (first d n + a)) → ((q : ℕ) → first d n + d.count n ≤ q → w' q ≡ w q) → All StepFits (steps n) → IsMadeTo d (n + 1) x z w' steps
+made_next d n x z w w' steps m low here high fit =
+    subst (λ k. IsMadeTo d k x z w' steps) (sym (add-one n)) (record {
+      made = λ q l. elim (cases_lt q (first d n)) [
+        | inl k ↦ (low q k ∙ m.made q k)
+        | inr k ↦ (let e : first d n + (q - first d n) ≡ q = omega arith in subst (λ i. w' i ≡ z i) e (here (q - first d n) (omega arith)))
+      ];
+      later = λ q l. high q l ∙ m.later q (omega arith);
+      fits = fits_next steps n m.fits fit;
+    })
+
+-- ---- raised plans under way
+-- the steps of set j where x is raised to z
+abbrev pub raise_at : Side → (ℕ → ℚ) → (ℕ → ℚ) → ℕ → List Step
+raise_at d x z j = raise_steps (z (d.before j)) (λ a. x (first d j + a)) (d.count j)
+
+-- after n sets
+abbrev pub IsRaisedTo : Side → ℕ → (ℕ → ℚ) → (ℕ → ℚ) → Type 0
+IsRaisedTo d n x w = IsMadeTo d n x (raised_plan d x) w (raise_at d x (raised_plan d x))
+
 -- one set's weights were raised
-pub record Raises (z z' : ℕ → ℚ) (before f count : ℕ) : Type 0 where
-  pub first_action : z' f ≡ z f +ℚ (z before -ℚ sum_to count (λ a. z (f + a)))
-  pub others : (q : ℕ) → q ≢ f → z' q ≡ z q
-  pub fits : All StepFits (raise_steps (z before) (λ a. z (f + a)) count)
+pub record Raises (w w' : ℕ → ℚ) (before f count : ℕ) : Type 0 where
+  pub first_action : w' f ≡ w f +ℚ (w before -ℚ sum_to count (λ a. w (f + a)))
+  pub others : (q : ℕ) → q ≢ f → w' q ≡ w q
+  pub fits : All StepFits (raise_steps (w before) (λ a. w (f + a)) count)
 
-pub raised_read : (d : Side) (o : IsOrderedSide d) (n before f count : ℕ) (x z z' : ℕ → ℚ) → IsSetOf d n before f count → IsRaisedTo d n x z → Raises z z' before f count → IsRaisedTo d (n + 1) x z'
-raised_read d o n before f count x z z' s r h = let k = at_set d n before f count (Raises z z') s h in subst (λ k. IsRaisedTo d k x z') (sym (add-one n)) (raised_next d o n s.within x z z' r k.first_action k.others k.fits)
+module _ (d : Side) (o : IsOrderedSide d) (n : ℕ) (h : n < d.sets) (x z w : ℕ → ℚ) (r : IsRaised d x z) (m : IsMadeTo d n x z w (raise_at d x z)) where
+  before_made : w (d.before n) ≡ z (d.before n)
+  before_made = m.made (d.before n) (o.follows n h)
 
-pub unfit_raise_read : (d : Side) (o : IsOrderedSide d) (n before f count : ℕ) (x z : ℕ → ℚ) (u : Step) → IsSetOf d n before f count → IsRaisedTo d n x z → IsFirstUnfit (raise_steps (z before) (λ a. z (f + a)) count) u → IsUnfitRaise d x u
-unfit_raise_read d o n before f count x z u s r h = raised_fails d o n s.within x z z u r (at_set d n before f count (λ b q c. IsFirstUnfit (raise_steps (z b) (λ a. z (q + a)) c) u) s h)
+  raw_there : (a : ℕ) → w (first d n + a) ≡ x (first d n + a)
+  raw_there a = m.later (first d n + a) (omega arith)
+
+  raise_there : raise_steps (w (d.before n)) (λ a. w (first d n + a)) (d.count n) ≡ raise_at d x z n
+  raise_there =
+      raise_same (w (d.before n)) _ _ (d.count n) (o.some_action n h) (λ a l. raw_there a) ∙ ap (λ b. raise_steps b (λ a. x (first d n + a)) (d.count n)) before_made
+
+  raised_action : (w' : ℕ → ℚ) → Raises w w' (d.before n) (first d n) (d.count n) → (a : ℕ) → a < d.count n → w' (first d n + a) ≡ z (first d n + a)
+  raised_action w' k a l = elim (cases_eq a 0) [
+    | inl q ↦ (let at : first d n ≡ first d n + a = omega (arith, q) in subst (λ i. w' i ≡ z i) at (k.first_action ∙ ap₂ (λ b c. b +ℚ c) (m.later (first d n) (omega arith)) (ap₂ (λ b c. b -ℚ c) before_made (sum_to-same (d.count n) _ _ (λ i p. raw_there i))) ∙ sym (r.first_action n h)))
+    | inr q ↦ (k.others (first d n + a) (λ e. omega (arith, e, q)) ∙ raw_there a ∙ sym (r.others n a h (omega (arith, q)) l))
+  ]
+
+  raised_next : (w' : ℕ → ℚ) → Raises w w' (d.before n) (first d n) (d.count n) → IsMadeTo d (n + 1) x z w' (raise_at d x z)
+  raised_next w' k =
+      let some : 0 < d.count n = o.some_action n h in
+      made_next d n x z w w' (raise_at d x z) m (λ q l. k.others q (λ e. omega (arith, e, l))) (raised_action w' k) (λ q l. k.others q (λ e. omega (arith, e, l, some))) (subst (All StepFits) raise_there k.fits)
+
+pub raise_begins : (d : Side) (o : IsOrderedSide d) (x w : ℕ → ℚ) → w 0 ≡ one_ℚ → ((q : ℕ) → q ≢ 0 → w q ≡ x q) → IsRaisedTo d 0 x w
+raise_begins d o x w e h = made_begins d x (raised_plan d x) w _ (is_raised d o x).empty e h
+
+pub raise_next : (d : Side) (o : IsOrderedSide d) (n before f count : ℕ) (x w w' : ℕ → ℚ) → IsSetOf d n before f count → IsRaisedTo d n x w → Raises w w' before f count → IsRaisedTo d (n + 1) x w'
+raise_next d o n before f count x w w' s m k = raised_next d o n s.within x (raised_plan d x) w (is_raised d o x) m w' (at_set d n before f count (Raises w w') s k)
+
+pub raise_ends : (d : Side) (o : IsOrderedSide d) (n : ℕ) (x w : ℕ → ℚ) → n ≡ d.sets → IsRaisedTo d n x w → IsFittingRaise d x w
+raise_ends d o n x w e m =
+    let all : IsRaisedTo d d.sets x w = subst (λ k. IsRaisedTo d k x w) e m in
+    fitting_raise_as d o x x (raised_plan d x) w (λ q l. refl) (λ q l. sym (all.made q l)) (record { raised = is_raised d o x; fits = all.fits })
+
+pub raise_stops : (d : Side) (o : IsOrderedSide d) (n before f count : ℕ) (x w : ℕ → ℚ) (u : Step) → IsSetOf d n before f count → IsRaisedTo d n x w → IsFirstUnfit (raise_steps (w before) (λ a. w (f + a)) count) u → IsUnfitRaise d x u
+raise_stops d o n before f count x w u s m k =
+    record {
+      plan = raised_plan d x;
+      raised = is_raised d o x;
+      first_unfit = unfit_next _ n d.sets u s.within m.fits (subst (λ ss. IsFirstUnfit ss u) (raise_there d o n s.within x (raised_plan d x) w (is_raised d o x) m) (at_set d n before f count (λ b q c. IsFirstUnfit (raise_steps (w b) (λ a. w (q + a)) c) u) s k));
+    }

@@ -1,18 +1,20 @@
 -- The raw weights as lists, and the plans made of them.
-use Rattle.std.proofs.Common.{ℕ, suc, ◌<◌, ◌≡◌, ◌+◌, ◌-◌, inl, inr, List, [], ◌∷◌, ◌++◌, length, sym, ap, ◌∙◌, subst, arith}
+use Rattle.std.proofs.Common.{ℕ, suc, ◌<◌, ◌≡◌, ◌+◌, ◌-◌, inl, inr, List, [], ◌∷◌, ◌++◌, length, refl, sym, ap, ◌∙◌, subst, arith}
 use Rattle.std.proofs.lemmas.List.{length_push, get_or_push, get_or_append_left}
 use Rattle.rational.specs.Rational.{ℚ, zero_ℚ}
 use Rattle.linear_systems.specs.Rows.{coefficient}
 use Rattle.linear_systems.proofs.LexRowLemmas.{below_cases}
 use Rattle.pure_payoffs.specs.Steps.{Step}
 use Rattle.lex_tableau.specs.Rows.{Numbers, tableau, IsValueOf}
-use Rattle.sequence_forms.specs.Sides.{sequences}
-use Rattle.zero_sum_lp.specs.Programs.{constraints, value_at, raw_one, raw_two}
-use Rattle.sequence_data.specs.Data.{SideData, side_of}
-use Rattle.zero_sum_lp.specs.Parts.{HasShape, Program, IsOptimum}
+use Rattle.sequence_forms.specs.Sides.{sequences, IsOrderedSide}
+use Rattle.sequence_data.specs.Data.{IsSideData, SideData, side_of}
 use Rattle.sequence_data.specs.Weights.{weight}
-use Rattle.zero_sum_lp.specs.PlanSteps.{AreWeights, IsRaisedTo, IsCutTo, IsUnfitCut}
-use Rattle.zero_sum_lp.specs.PlanStops.{AreRawOne, AreRawTwo, IsFirstPlan, IsSecondPlan, IsUnfitSecond}
+use Rattle.zero_sum_lp.specs.Parts.{HasShape, Program, IsOptimum, first_raw, second_raw}
+use Rattle.zero_sum_lp.specs.PlanLists.{AreWeights}
+use Rattle.zero_sum_lp.specs.PlanSteps.{IsFittingRaise, IsUnfitRaise, IsFittingCut, IsUnfitCut}
+use Rattle.zero_sum_lp.specs.PlanStops.{IsFirstPlan, IsSecondPlan}
+use Rattle.zero_sum_lp.specs.Programs.{constraints, value_at, raw_one, raw_two}
+use Rattle.zero_sum_lp.proofs.ExactPlanLemmas.{fitting_cut_as, fitting_raise_as, unfit_cut_as, unfit_raise_as}
 use Rattle.zero_sum_lp.proofs.OptimumLemmas.{sets_are, end_distinct, value_is}
 
 -- ---- lists of weights
@@ -43,11 +45,25 @@ slack_variable first second objective width len k s e l =
     (omega arith, omega arith)
 
 -- ---- plans
-pub first_plan : (o : Program) (sets : SideData) (raw plan : List ℚ) → sets ≡ o.first → AreRawOne o raw → length plan ≡ length raw → IsRaisedTo (side_of sets) (length sets.sets) (weight raw) (weight plan) → IsFirstPlan o plan
-first_plan o sets raw plan e w c r = record { raw = raw; raw_is = w; count = c; raised = subst (λ x. IsRaisedTo (side_of x) (length x.sets) (weight raw) (weight plan)) e r }
+module _ (o : Program) (sets : SideData) (raw : List ℚ) (h : IsSideData sets) where
+  module _ (e : sets ≡ o.first) (w : AreWeights (sequences (side_of o.first)) (first_raw o) raw) where
+    first_ordered : IsOrderedSide (side_of o.first)
+    first_ordered = (subst IsSideData e h).ordered
 
-pub second_plan : (o : Program) (sets : SideData) (raw plan : List ℚ) → sets ≡ o.second → AreRawTwo o raw → length plan ≡ length raw → IsCutTo (side_of sets) (length sets.sets) (weight raw) (weight plan) → IsSecondPlan o plan
-second_plan o sets raw plan e w c r = record { raw = raw; raw_is = w; count = c; cut = subst (λ x. IsCutTo (side_of x) (length x.sets) (weight raw) (weight plan)) e r }
+    pub first_plan : (plan : List ℚ) → length plan ≡ length raw → IsFittingRaise (side_of sets) (weight raw) (weight plan) → IsFirstPlan o plan
+    first_plan plan c r =
+        record { count = c ∙ w.count; raised = fitting_raise_as (side_of o.first) first_ordered (weight raw) (first_raw o) (weight plan) (weight plan) w.same (λ q l. refl) (subst (λ s. IsFittingRaise (side_of s) (weight raw) (weight plan)) e r) }
 
-pub unfit_second : (o : Program) (sets : SideData) (raw plan : List ℚ) (u : Step) → sets ≡ o.second → IsFirstPlan o plan → AreRawTwo o raw → IsUnfitCut (side_of sets) (weight raw) u → IsUnfitSecond o u
-unfit_second o sets raw plan u e p w r = record { plan = plan; first = p; raw = raw; raw_is = w; stop = subst (λ x. IsUnfitCut (side_of x) (weight raw) u) e r }
+    pub first_stop : (u : Step) → IsUnfitRaise (side_of sets) (weight raw) u → IsUnfitRaise (side_of o.first) (first_raw o) u
+    first_stop u r = unfit_raise_as (side_of o.first) first_ordered (weight raw) (first_raw o) u w.same (subst (λ s. IsUnfitRaise (side_of s) (weight raw) u) e r)
+
+  module _ (e : sets ≡ o.second) (w : AreWeights (sequences (side_of o.second)) (second_raw o) raw) where
+    second_ordered : IsOrderedSide (side_of o.second)
+    second_ordered = (subst IsSideData e h).ordered
+
+    pub second_plan : (plan : List ℚ) → length plan ≡ length raw → IsFittingCut (side_of sets) (weight raw) (weight plan) → IsSecondPlan o plan
+    second_plan plan c r =
+        record { count = c ∙ w.count; cut = fitting_cut_as (side_of o.second) second_ordered (weight raw) (second_raw o) (weight plan) (weight plan) w.same (λ q l. refl) (subst (λ s. IsFittingCut (side_of s) (weight raw) (weight plan)) e r) }
+
+    pub second_stop : (u : Step) → IsUnfitCut (side_of sets) (weight raw) u → IsUnfitCut (side_of o.second) (second_raw o) u
+    second_stop u r = unfit_cut_as (side_of o.second) second_ordered (weight raw) (second_raw o) u w.same (subst (λ s. IsUnfitCut (side_of s) (weight raw) u) e r)

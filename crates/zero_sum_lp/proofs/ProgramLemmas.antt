@@ -11,7 +11,7 @@ use Rattle.rational.proofs.SumLemmas.{sum_to-same, sum_to-scale, sum_to-append, 
 use Rattle.rational.proofs.Ring.{ring, num, ◌:+◌, ◌:*◌, ◌:-◌, :neg}
 use Rattle.rational.proofs.Ring as R
 use Rattle.linear_systems.specs.Tableau.{Tableau, left}
-use Rattle.linear_systems.specs.Rows.{unit_at, HasDistinctVariables, Alike}
+use Rattle.linear_systems.specs.Rows.{unit_at, HasDistinctVariables}
 use Rattle.linear_systems.specs.Reached.{IsStart}
 use Rattle.linear_systems.proofs.AgreementLemmas.{alike_distinct}
 use Rattle.linear_systems.proofs.RowLemmas.{unit_self, unit_other, unit_nonneg}

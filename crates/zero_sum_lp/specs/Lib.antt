@@ -3,6 +3,7 @@ pub mod FormPrograms
 pub mod Parts
 pub mod PathLaws
 pub mod Paths
+pub mod PlanLists
 pub mod PlanPairs
 pub mod PlanSteps
 pub mod PlanStops

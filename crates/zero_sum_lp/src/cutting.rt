@@ -1,10 +1,12 @@
 // The second player's plan out of raw weights.
-ghost use Rattle.sequence_data.specs.Data.{IsSideData, side_of};
-ghost use Rattle.std.specs.Prelude.{◌≡◌, ◌+◌, ◌<◌, ◌≤◌, ℕ, length, IfErr, OnOk};
-ghost use Rattle.zero_sum_lp.specs.Plans.{IsLesser};
+ghost use Rattle.std.specs.Prelude.{All, ◌≡◌, ◌+◌, ◌<◌, ◌≤◌, ℕ, length, IfErr, OnOk};
+ghost use Rattle.pure_payoffs.specs.Steps.{StepFits};
 ghost use Rattle.sequence_forms.specs.Sides.{sequences};
+ghost use Rattle.sequence_data.specs.Data.{IsSideData, side_of};
 ghost use Rattle.sequence_data.specs.Weights.{weight};
-ghost use Rattle.zero_sum_lp.specs.PlanSteps.{FailsToShare, IsCutPlan, IsUnfitCut, SharesOut};
+ghost use Rattle.zero_sum_lp.specs.Plans.{IsLesser};
+ghost use Rattle.zero_sum_lp.specs.PlanLists.{AreShares, IsUnfitShare, weights_from};
+ghost use Rattle.zero_sum_lp.specs.PlanSteps.{IsFittingCut, IsUnfitCut, rest_steps};
 
 use crate::weights::{set_weight, weight_at};
 use frac128::{Frac, Unfit};
@@ -29,17 +31,18 @@ fn cut_set(weights: &mut [Frac], before: usize, first: usize, count: usize) -> R
     ensures low { (q : ℕ) → q < first → weight weights.new q ≡ weight weights.old q }
     ensures high { OnOk result ((q : ℕ) → first + count ≤ q
         → weight weights.new q ≡ weight weights.old q) }
-    ensures shared { OnOk result (SharesOut weights.old weights.new before first count) }
-    ensures unfit { IfErr result (FailsToShare weights.old weights.new before first count) }
+    ensures shares { OnOk result (AreShares (weight weights.old before)
+        (weights_from weights.old first) (weights_from weights.new first) count) }
+    ensures fits { OnOk result (All StepFits
+        (rest_steps (weight weights.old before) (weights_from weights.new first) count)) }
+    ensures unfit { IfErr result
+        (IsUnfitShare (weight weights.old before) (weights_from weights.old first) count) }
 {
     let mut left = weight_at(weights, before);
     for action in 0..count {
         let share = lesser(weight_at(weights, first + action), left);
         set_weight(weights, first + action, share);
-        match left.sub(share) {
-            Ok(less) => left = less,
-            Err(unfit) => return Err(unfit),
-        }
+        left = left.sub(share)?;
     }
     Ok(())
 }
@@ -53,21 +56,19 @@ pub fn cut(weights: &mut [Frac], side: &Side) -> Result<(), Unfit>
     requires side { IsSideData side.now }
     requires shape { length weights.old ≡ sequences (side_of side.now) }
     ensures length { length weights.new ≡ length weights.old }
-    ensures cut { OnOk result (IsCutPlan side.now weights.old weights.new) }
+    ensures cut { OnOk result
+        (IsFittingCut (side_of side.now) (weight weights.old) (weight weights.new)) }
     ensures unfit { IfErr result (IsUnfitCut (side_of side.now) (weight weights.old)) }
 {
     set_weight(weights, 0, Frac::one());
     for j in 0..side.sets().len() {
         let set = set_at(side, j);
-        match cut_set(
+        cut_set(
             weights,
             set.before as usize,
             set.first as usize,
             set.count as usize,
-        ) {
-            Ok(()) => {}
-            Err(unfit) => return Err(unfit),
-        }
+        )?;
     }
     Ok(())
 }

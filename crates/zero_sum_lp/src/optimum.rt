@@ -5,11 +5,12 @@ ghost use Rattle.sequence_forms.specs.Sides.{sequences};
 ghost use Rattle.answers.specs.Answers.{Gives};
 ghost use Rattle.zero_sum_lp.specs.declared.stop.PlanStop.TheVariants as plan_stops;
 ghost use Rattle.sequence_data.specs.Weights.{weight};
-ghost use Rattle.zero_sum_lp.specs.PlanSteps.{IsCutPlan, IsRaisedPlan, IsUnfitCut, IsUnfitRaise};
-ghost use Rattle.zero_sum_lp.specs.PlanStops.{AreRawOne, AreRawTwo, plans_of};
+ghost use Rattle.zero_sum_lp.specs.PlanLists.{AreWeights};
+ghost use Rattle.zero_sum_lp.specs.PlanSteps.{IsFittingCut, IsFittingRaise, IsUnfitCut, IsUnfitRaise};
+ghost use Rattle.zero_sum_lp.specs.PlanStops.{plans_of};
 ghost use Rattle.linear_systems.specs.Rows.{coefficient, HasDistinctVariables};
 ghost use Rattle.lex_tableau.specs.Rows.{tableau};
-ghost use Rattle.zero_sum_lp.specs.Parts.{HasShape, IsOptimum, first_prices, second_prices};
+ghost use Rattle.zero_sum_lp.specs.Parts.{HasShape, IsOptimum, first_prices, first_raw, second_prices, second_raw};
 
 use crate::cutting::cut;
 use crate::raising::raise;
@@ -81,14 +82,13 @@ fn raised(weights: Vec<Frac>, side: &Side) -> Result<Vec<Frac>, Unfit>
     requires side { IsSideData side.now }
     requires shape { length weights.items ≡ sequences (side_of side.now) }
     ensures length { IfOk result (λ plan. length plan.items ≡ length weights.items) }
-    ensures raised { IfOk result (λ plan. IsRaisedPlan side.now weights.items plan.items) }
+    ensures raised { IfOk result (λ plan.
+        IsFittingRaise (side_of side.now) (weight weights.items) (weight plan.items)) }
     ensures unfit { IfErr result (IsUnfitRaise (side_of side.now) (weight weights.items)) }
 {
     let mut weights = weights;
-    match raise(weights.as_mut_slice(), side) {
-        Ok(()) => Ok(weights),
-        Err(unfit) => Err(unfit),
-    }
+    raise(weights.as_mut_slice(), side)?;
+    Ok(weights)
 }
 
 // The raw weights, cut.
@@ -96,14 +96,13 @@ fn lessened(weights: Vec<Frac>, side: &Side) -> Result<Vec<Frac>, Unfit>
     requires side { IsSideData side.now }
     requires shape { length weights.items ≡ sequences (side_of side.now) }
     ensures length { IfOk result (λ plan. length plan.items ≡ length weights.items) }
-    ensures cut { IfOk result (λ plan. IsCutPlan side.now weights.items plan.items) }
+    ensures cut { IfOk result (λ plan.
+        IsFittingCut (side_of side.now) (weight weights.items) (weight plan.items)) }
     ensures unfit { IfErr result (IsUnfitCut (side_of side.now) (weight weights.items)) }
 {
     let mut weights = weights;
-    match cut(weights.as_mut_slice(), side) {
-        Ok(()) => Ok(weights),
-        Err(unfit) => Err(unfit),
-    }
+    cut(weights.as_mut_slice(), side)?;
+    Ok(weights)
 }
 
 // The entry of the objective row at a variable that is not its own, which counts as 0 where the
@@ -164,7 +163,8 @@ impl Optimum {
 
     // The raw weights of the first player: the values of x.
     fn raw_one(&self, alloc: Global) -> Result<Vec<Frac>, Memory>
-        ensures { IfOk result (λ raw. AreRawOne self.now raw.items) }
+        ensures { IfOk result (λ raw.
+            AreWeights (sequences (side_of self.now.first)) (first_raw self.now) raw.items) }
     {
         let mut raw = Vec::new(alloc);
         for q in 0..self.width - self.second.sets().len() - 1 {
@@ -176,7 +176,8 @@ impl Optimum {
     // The raw weights of the second player: the entries of the objective row at the slacks of the
     // second player's rows.
     fn raw_two(&self, alloc: Global) -> Result<Vec<Frac>, Memory>
-        ensures { IfOk result (λ raw. AreRawTwo self.now raw.items) }
+        ensures { IfOk result (λ raw.
+            AreWeights (sequences (side_of self.now.second)) (second_raw self.now) raw.items) }
     {
         let mut raw = Vec::new(alloc);
         let before = self.first.sets().len() + 1;

@@ -1,10 +1,13 @@
 // The first player's plan out of raw weights.
-ghost use Rattle.sequence_data.specs.Data.{IsSideData, side_of};
 ghost use Rattle.std.specs.Prelude.{All, ◌≡◌, ◌≢◌, ◌+◌, ◌<◌, ◌≤◌, ℕ, length, IfOk, IfErr, OnOk};
+ghost use Rattle.rational.specs.Rational.{◌+ℚ◌, ◌-ℚ◌};
+ghost use Rattle.rational.specs.Sum.{sum_to};
 ghost use Rattle.pure_payoffs.specs.Steps.{StepFits, IsFirstUnfit};
 ghost use Rattle.sequence_forms.specs.Sides.{sequences};
+ghost use Rattle.sequence_data.specs.Data.{IsSideData, side_of};
 ghost use Rattle.sequence_data.specs.Weights.{weight};
-ghost use Rattle.zero_sum_lp.specs.PlanSteps.{IsRaisedPlan, IsUnfitRaise, raise_steps_at, raised_at, rest_at, rest_steps_at};
+ghost use Rattle.zero_sum_lp.specs.PlanLists.{weights_from};
+ghost use Rattle.zero_sum_lp.specs.PlanSteps.{IsFittingRaise, IsUnfitRaise, raise_steps, rest_steps};
 
 use crate::weights::{set_weight, weight_at};
 use frac128::{Frac, Unfit};
@@ -14,16 +17,16 @@ use sequence_data::{Side, set_at};
 fn remaining(weights: &[Frac], before: usize, first: usize, count: usize) -> Result<Frac, Unfit>
     requires before_in { before < length weights.now }
     requires actions_in { first + count ≤ length weights.now }
-    ensures value { IfOk result (λ rest. rest ≡ rest_at weights.now before first count) }
-    ensures fits { OnOk result (All StepFits (rest_steps_at weights.now before first count)) }
-    ensures unfit { IfErr result (IsFirstUnfit (rest_steps_at weights.now before first count)) }
+    ensures value { IfOk result (λ rest. rest
+        ≡ weight weights.now before -ℚ sum_to count (weights_from weights.now first)) }
+    ensures fits { OnOk result (All StepFits
+        (rest_steps (weight weights.now before) (weights_from weights.now first) count)) }
+    ensures unfit { IfErr result (IsFirstUnfit
+        (rest_steps (weight weights.now before) (weights_from weights.now first) count)) }
 {
     let mut rest = weight_at(weights, before);
     for action in 0..count {
-        match rest.sub(weight_at(weights, first + action)) {
-            Ok(less) => rest = less,
-            Err(unfit) => return Err(unfit),
-        }
+        rest = rest.sub(weight_at(weights, first + action))?;
     }
     Ok(rest)
 }
@@ -34,22 +37,18 @@ fn raise_set(weights: &mut [Frac], before: usize, first: usize, count: usize) ->
     requires some_action { 0 < count }
     requires actions_in { first + count ≤ length weights.old }
     ensures length { length weights.new ≡ length weights.old }
-    ensures raised { OnOk result (weight weights.new first
-        ≡ raised_at weights.old before first count) }
+    ensures raised { OnOk result (weight weights.new first ≡ weight weights.old first
+        +ℚ (weight weights.old before -ℚ sum_to count (weights_from weights.old first))) }
     ensures others { (q : ℕ) → q ≢ first → weight weights.new q ≡ weight weights.old q }
-    ensures fits { OnOk result (All StepFits (raise_steps_at weights.old before first count)) }
-    ensures unfit { IfErr result (IsFirstUnfit (raise_steps_at weights.old before first count)) }
+    ensures fits { OnOk result (All StepFits
+        (raise_steps (weight weights.old before) (weights_from weights.old first) count)) }
+    ensures unfit { IfErr result (IsFirstUnfit
+        (raise_steps (weight weights.old before) (weights_from weights.old first) count)) }
 {
-    match remaining(weights, before, first, count) {
-        Ok(rest) => match weight_at(weights, first).add(rest) {
-            Ok(raised) => {
-                set_weight(weights, first, raised);
-                Ok(())
-            }
-            Err(unfit) => Err(unfit),
-        },
-        Err(unfit) => Err(unfit),
-    }
+    let rest = remaining(weights, before, first, count)?;
+    let raised = weight_at(weights, first).add(rest)?;
+    set_weight(weights, first, raised);
+    Ok(())
 }
 
 /// Makes the plan in place.
@@ -61,21 +60,19 @@ pub fn raise(weights: &mut [Frac], side: &Side) -> Result<(), Unfit>
     requires side { IsSideData side.now }
     requires shape { length weights.old ≡ sequences (side_of side.now) }
     ensures length { length weights.new ≡ length weights.old }
-    ensures raised { OnOk result (IsRaisedPlan side.now weights.old weights.new) }
+    ensures raised { OnOk result
+        (IsFittingRaise (side_of side.now) (weight weights.old) (weight weights.new)) }
     ensures unfit { IfErr result (IsUnfitRaise (side_of side.now) (weight weights.old)) }
 {
     set_weight(weights, 0, Frac::one());
     for j in 0..side.sets().len() {
         let set = set_at(side, j);
-        match raise_set(
+        raise_set(
             weights,
             set.before as usize,
             set.first as usize,
             set.count as usize,
-        ) {
-            Ok(()) => {}
-            Err(unfit) => return Err(unfit),
-        }
+        )?;
     }
     Ok(())
 }

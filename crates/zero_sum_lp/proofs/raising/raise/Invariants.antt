@@ -1,12 +1,12 @@
 use Rattle.std.proofs.Common.{◌≡◌, length}
 use Rattle.sequence_data.specs.Data.{side_of}
 use Rattle.sequence_data.specs.Weights.{weight}
-use Rattle.zero_sum_lp.specs.PlanSteps.{IsRaisedTo}
+use Rattle.zero_sum_lp.proofs.PlanListLemmas.{IsRaisedTo}
 use Rattle.zero_sum_lp.proofs.raising.raise.Given as goal
 
 abbrev pub invariant-loop-j : goal.invariant-loop-j
 invariant-loop-j l =
     record {
-      shape : length l.weights ≡ length l.initial.weights;
-      raised : IsRaisedTo (side_of l.side) l.j (weight l.initial.weights) (weight l.weights);
+      shape : length l.weights ≡ length l.fn.weights;
+      raised : IsRaisedTo (side_of l.side) l.j (weight l.fn.weights) (weight l.weights);
     }

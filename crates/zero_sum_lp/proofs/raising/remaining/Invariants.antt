@@ -1,15 +1,15 @@
-use Rattle.std.proofs.Common.{All, ◌≡◌, ◌+◌}
+use Rattle.std.proofs.Common.{All, ◌≡◌}
 use Rattle.rational.specs.Rational.{◌-ℚ◌}
 use Rattle.rational.specs.Sum.{sum_to}
+use Rattle.pure_payoffs.specs.Steps.{StepFits}
 use Rattle.sequence_data.specs.Weights.{weight}
+use Rattle.zero_sum_lp.specs.PlanLists.{weights_from}
 use Rattle.zero_sum_lp.specs.PlanSteps.{rest_steps}
-use Rattle.pure_payoffs.specs.Steps.{StepFits}
-use Rattle.pure_payoffs.specs.Steps.{StepFits}
 use Rattle.zero_sum_lp.proofs.raising.remaining.Given as goal
 
 abbrev pub invariant-loop-action : goal.invariant-loop-action
 invariant-loop-action l =
     record {
-      value : l.rest ≡ weight l.weights l.before -ℚ sum_to l.action (λ a. weight l.weights (l.first + a));
-      fits : All StepFits (rest_steps (weight l.weights l.before) (λ a. weight l.weights (l.first + a)) l.action);
+      value : l.rest ≡ weight l.weights l.before -ℚ sum_to l.action (weights_from l.weights l.first);
+      fits : All StepFits (rest_steps (weight l.weights l.before) (weights_from l.weights l.first) l.action);
     }

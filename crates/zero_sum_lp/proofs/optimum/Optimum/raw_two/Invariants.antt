@@ -1,7 +1,7 @@
 use Rattle.zero_sum_lp.specs.Programs.{raw_two}
 use Rattle.lex_tableau.specs.Rows.{tableau}
 use Rattle.sequence_data.specs.Data.{side_of}
-use Rattle.zero_sum_lp.specs.PlanSteps.{AreWeights}
+use Rattle.zero_sum_lp.specs.PlanLists.{AreWeights}
 use Rattle.zero_sum_lp.proofs.optimum.Optimum.raw_two.Given as goal
 
 abbrev pub invariant-loop-q : goal.invariant-loop-q
