@@ -1,6 +1,7 @@
 //! The type of fractions.
 ghost use Rattle.std.specs.Prelude.{◌≡◌, ◌≢◌, ◌⊎◌, ◌↔◌, ◌<◌, ◌<ℤ◌, ◌^◌, nat_abs, int_lt, pos, IsNone, IfSome, IsTrue, MatchOption};
 ghost use Rattle.frac128.specs.Fraction.{quotient, Fits, PartFits, with_sign};
+ghost use Rattle.rational.specs.Extremes.{IsGreater, IsLesser};
 ghost use Rattle.rational.specs.Gcd.{gcd as gcd_of};
 ghost use Rattle.rational.specs.Rational.{frac, zero_ℚ, one_ℚ, neg_ℚ, ◌<ℚ◌};
 ghost use Rattle.rational.specs.Tests.{cmp_ℚ, sign_of};
@@ -170,6 +171,26 @@ impl Frac {
         ensures { IsTrue result ↔ (self <ℚ other) }
     {
         self.cmp(other).is_lt()
+    }
+
+    /// The greater of two values.
+    pub fn max(self, other: Frac) -> Frac
+        ensures { IsGreater self other result }
+    {
+        match self.cmp(other) {
+            Ordering::Less => other,
+            _ => self,
+        }
+    }
+
+    /// The lesser of two values.
+    pub fn min(self, other: Frac) -> Frac
+        ensures { IsLesser self other result }
+    {
+        match self.cmp(other) {
+            Ordering::Less => self,
+            _ => other,
+        }
     }
 
     // The fraction of two parts in lowest terms.

@@ -1,3 +1,4 @@
+pub mod Extremes
 pub mod Gcd
 pub mod GcdLaws
 pub mod Laws

@@ -13,7 +13,7 @@ use Rattle.sequence_data.specs.declared.types.Cell.{Cell}
 use Rattle.sequence_data.specs.declared.types.Leaf.{Leaf}
 use Rattle.sequence_data.specs.Cells.{cell_at, chance_one, total}
 use Rattle.sequence_data.specs.Data.{FormData, IsFormData, form}
-use Rattle.sequence_data.specs.Extremes.{IsGreatest}
+use Rattle.rational.specs.Extremes.{IsGreatest}
 use Rattle.sequence_data.proofs.CellSumLemmas.{cell_entries, cells-sum}
 
 -- ---- sums over leaves

@@ -11,7 +11,7 @@ use Rattle.pure_payoffs.specs.Steps.{Step}
 use Rattle.sequence_data.specs.declared.types.Leaf.{Leaf}
 use Rattle.sequence_data.specs.declared.types.Cell.{Cell}
 use Rattle.sequence_data.specs.Cells.{cell_at, IsBefore, AreInOrder, IsAt, AreCells}
-use Rattle.sequence_data.specs.Extremes.{IsGreatest, IsLeast, IsGreater, IsLesser}
+use Rattle.rational.specs.Extremes.{IsGreatest, IsLeast, IsGreater, IsLesser}
 use Rattle.sequence_data.specs.Steps.{PlacedStep, at_place, AllFit, IsFirstUnfitAt}
 use Rattle.sequence_data.proofs.PlacedStepLemmas.{PlacedFits}
 use Rattle.sequence_data.proofs.PlaceLemmas.{any_at}

@@ -11,7 +11,7 @@ use Rattle.sequence_data.specs.declared.types.Cell.{Cell}
 use Rattle.sequence_data.specs.declared.types.Leaf.{Leaf}
 use Rattle.sequence_data.specs.declared.types.SetRow.{SetRow}
 use Rattle.sequence_data.specs.Cells.{AreCells}
-use Rattle.sequence_data.specs.Extremes.{IsGreatest, IsLeast}
+use Rattle.rational.specs.Extremes.{IsGreatest, IsLeast}
 
 -- how many sequences a player has, and the player's own sets in order
 pub record SideData : Type 0 where

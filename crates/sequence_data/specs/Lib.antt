@@ -1,5 +1,4 @@
 pub mod Cells
-pub mod Extremes
 pub mod Gathered
 pub mod Steps
 pub mod Weights

@@ -22,7 +22,7 @@ ghost use Rattle.sequence_data.specs.declared.types.Cell.{Cell};
 ghost use Rattle.sequence_data.specs.declared.types.Leaf.{Leaf};
 ghost use Rattle.sequence_data.specs.Cells.{AreCells};
 ghost use Rattle.sequence_data.specs.Data.{FormData, IsFormData, form};
-ghost use Rattle.sequence_data.specs.Extremes.{IsGreatest, IsLeast};
+ghost use Rattle.rational.specs.Extremes.{IsGreatest, IsLeast};
 ghost use Rattle.sequence_data.specs.Steps.{AllFit, IsFirstUnfitAt, PlacedStep};
 
 mod cells;

@@ -1,10 +1,9 @@
 // The extreme payoffs of leaves.
 ghost use Rattle.std.specs.Prelude.{◌<◌, length, map};
-ghost use Rattle.sequence_data.specs.Extremes.{IsGreater, IsGreatest, IsLeast, IsLesser};
+ghost use Rattle.rational.specs.Extremes.{IsGreatest, IsLeast};
 
 use crate::types::Leaf;
 use frac128::Frac;
-use std::cmp::Ordering;
 
 /// The greatest payoffs of both players, and the least of player one.
 #[derive(Clone, Copy, Debug)]
@@ -15,26 +14,6 @@ pub(crate) struct Extremes {
     pub greatest_two: Frac,
     /// The least of player one.
     pub least_one: Frac,
-}
-
-// The greater of two numbers.
-fn greater(left: Frac, right: Frac) -> Frac
-    ensures { IsGreater left right result }
-{
-    match left.cmp(right) {
-        Ordering::Less => right,
-        _ => left,
-    }
-}
-
-// The lesser of two numbers.
-fn lesser(left: Frac, right: Frac) -> Frac
-    ensures { IsLesser left right result }
-{
-    match left.cmp(right) {
-        Ordering::Less => left,
-        _ => right,
-    }
 }
 
 /// The extreme payoffs of these leaves, also of those of chance 0. Takes no memory.
@@ -49,9 +28,9 @@ pub(crate) fn extreme_payoffs(leaves: &[Leaf]) -> Extremes
     let mut greatest_two = first.two;
     let mut least_one = first.one;
     for leaf in leaves {
-        greatest_one = greater(greatest_one, leaf.one);
-        greatest_two = greater(greatest_two, leaf.two);
-        least_one = lesser(least_one, leaf.one);
+        greatest_one = greatest_one.max(leaf.one);
+        greatest_two = greatest_two.max(leaf.two);
+        least_one = least_one.min(leaf.one);
     }
     Extremes {
         greatest_one,

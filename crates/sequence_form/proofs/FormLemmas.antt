@@ -8,7 +8,7 @@ use Rattle.game_core.specs.TreeGame.{game_of_tree}
 use Rattle.pure_payoffs.specs.Steps.{Step}
 use Rattle.sequence_data.specs.Cells.{AreCells}
 use Rattle.sequence_data.specs.Data.{FormData, IsOfLeaves}
-use Rattle.sequence_data.specs.Extremes.{IsGreatest, IsLeast}
+use Rattle.rational.specs.Extremes.{IsGreatest, IsLeast}
 use Rattle.sequence_data.specs.Steps.{PlacedStep, IsFirstUnfitAt, cell_steps}
 use Rattle.sequence_data.specs.declared.stop.SeqStop.{SeqStop}
 use Rattle.sequence_data.specs.declared.stop.SeqStop.TheVariants as stops

@@ -1,5 +1,5 @@
 -- The game tree that written nodes describe. Source: Gambit's description of its `.efg` format, version 2.
-use Rattle.std.specs.Prelude.{ℕ, suc, ◌<◌, ◌≤◌, ◌^◌, ◌≡◌, ◌↔◌, ◌&&◌, nat_eq, Bool, true, false, List, [], ◌∷◌, length, map, slice_get, filter, All, Contains, IfSome, option_map, Option, Some, None}
+use Rattle.std.specs.Prelude.{ℕ, suc, ◌<◌, ◌≡◌, ◌↔◌, ◌&&◌, nat_eq, Bool, true, false, List, [], ◌∷◌, length, map, slice_get, filter, All, Contains, IfSome, option_map, Option, Some, None}
 use Rattle.rational.specs.Rational.{ℚ, ◌≤ℚ◌, zero_ℚ, one_ℚ}
 use Rattle.rational.specs.Sum.{sum_to}
 use Rattle.frac128.specs.Steps.{AddFits}

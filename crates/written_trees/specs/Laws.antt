@@ -1,5 +1,5 @@
 -- That written nodes describe one tree, and that building gives it.
-use Rattle.std.specs.Prelude.{ℕ, suc, ◌<◌, ◌^◌, ◌≡◌, ◌↔◌, List, [], length, All, IfSome, Option, Some, None}
+use Rattle.std.specs.Prelude.{ℕ, suc, ◌<◌, ◌^◌, ◌≡◌, List, length, All, IfSome, Option, Some, None}
 use Rattle.rational.specs.Rational.{zero_ℚ}
 use Rattle.game_core.specs.declared.tree.Action.{Action}
 use Rattle.game_core.specs.declared.too_large.What.{What}

@@ -1,5 +1,6 @@
 -- Cut plans in lists, action by action and set by set.
 use Rattle.std.proofs.Common.{All, ℕ, suc, ◌<◌, ◌≤◌, ◌≡◌, ◌≢◌, ◌+◌, inl, inr, List, refl, sym, ap, ◌∙◌, subst, subst₂, arith}
+use Rattle.rational.specs.Extremes.{IsLesser}
 use Rattle.rational.specs.Rational.{ℚ, ◌-ℚ◌, one_ℚ}
 use Rattle.rational.specs.Sum.{sum_to}
 use Rattle.rational.proofs.SumLemmas.{sum_to-same}
@@ -8,7 +9,7 @@ use Rattle.frac128.specs.declared.steps.Op.TheVariants.{Sub}
 use Rattle.frac128.specs.Steps.{SubFits, unfit}
 use Rattle.pure_payoffs.specs.Steps.{Step, StepFits, IsFirstUnfit}
 use Rattle.sequence_forms.specs.Sides.{Side, first, IsOrderedSide}
-use Rattle.zero_sum_lp.specs.Plans.{IsLesser, IsCut}
+use Rattle.zero_sum_lp.specs.Plans.{IsCut}
 use Rattle.zero_sum_lp.specs.PlanLists.{AreShares, IsUnfitShare}
 use Rattle.zero_sum_lp.specs.PlanSteps.{rest_steps, IsFittingCut, IsUnfitCut}
 use Rattle.zero_sum_lp.proofs.ExactPlanLemmas.{cut_plan, is_cut, fitting_cut_as, shares_once}

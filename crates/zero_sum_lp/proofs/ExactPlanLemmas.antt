@@ -1,16 +1,17 @@
 -- Raw weights make one plan where they are raised, and one where they are cut.
 use Rattle.std.proofs.Common.{ℕ, zero, suc, ◌+◌, ◌-◌, ◌<◌, ◌≤◌, ◌≡◌, inl, inr, All, cond, ltb, refl, sym, ap, ap₂, ◌∙◌, subst, subst₂, arith, add-one}
 use Rattle.std.proofs.lemmas.Bool.{cases_eq, cases_lt, cond-true, cond-false, lt-ltb, le-ltb}
+use Rattle.rational.specs.Extremes.{IsLesser}
 use Rattle.rational.specs.Rational.{ℚ, ◌+ℚ◌, ◌-ℚ◌, one_ℚ}
 use Rattle.rational.specs.Sum.{sum_to}
-use Rattle.rational.proofs.Field.{le_total}
+use Rattle.rational.proofs.Field.{le_refl, le_total}
 use Rattle.rational.proofs.SumLemmas.{sum_to-same}
 use Rattle.linear_systems.proofs.LexRowLemmas.{below_cases}
 use Rattle.pure_payoffs.specs.Steps.{Step, StepFits, IsFirstUnfit}
 use Rattle.pure_payoffs.proofs.FirstUnfitLemmas.{unfit_among, unfit_once}
 use Rattle.sequence_forms.specs.Sides.{Side, first, sequences, IsOrderedSide}
 use Rattle.sequence_forms.proofs.SideLemmas.{first_up, first_pos, sequence_below}
-use Rattle.zero_sum_lp.specs.Plans.{IsRaised, IsLesser, IsCut}
+use Rattle.zero_sum_lp.specs.Plans.{IsRaised, IsCut}
 use Rattle.zero_sum_lp.specs.PlanLists.{AreShares}
 use Rattle.zero_sum_lp.specs.PlanSteps.{IsFittingRaise, IsUnfitRaise, IsFittingCut, IsUnfitCut, raising_steps, cutting_steps}
 use Rattle.zero_sum_lp.proofs.PlanStepLemmas.{Agree, before_below, cutting_same, raising_same, rest_begins, rest_next}
@@ -76,7 +77,10 @@ is_raised d o x =
 
 -- ---- the plan that is cut
 some_lesser : (a b : ℚ) → (c : ℚ) × IsLesser a b c
-some_lesser a b = elim (le_total a b) [ inl l ↦ (a, inl (refl, l)) | inr l ↦ (b, inr (refl, l)) ]
+some_lesser a b = elim (le_total a b) [
+  | inl l ↦ (a, record { is_one = inl refl; left = le_refl a; right = l })
+  | inr l ↦ (b, record { is_one = inr refl; left = l; right = le_refl b })
+]
 
 -- what n actions leave of w, and the share of each
 left_after : ℚ → (ℕ → ℚ) → ℕ → ℚ

@@ -2,6 +2,7 @@
 use Rattle.std.proofs.Common.{ℕ, zero, suc, pos, ◌+◌, ◌-◌, ◌<◌, ◌≤◌, ◌≡◌, ◌⊎◌, inl, inr, [], ◌∷◌, refl, sym, ap, ap₂, ◌∙◌, subst, arith}
 use Rattle.std.proofs.lemmas.Int.{ints}
 use Rattle.std.proofs.lemmas.Bool.{cases_lt}
+use Rattle.rational.specs.Extremes.{IsLesser}
 use Rattle.rational.specs.Rational.{ℚ, ◌+ℚ◌, ◌-ℚ◌, ◌≤ℚ◌, zero_ℚ, one_ℚ}
 use Rattle.rational.specs.Sum.{sum_to}
 use Rattle.rational.proofs.RationalRing.{rational_ring}
@@ -13,7 +14,7 @@ use Rattle.linear_systems.proofs.LexRowLemmas.{below_cases}
 use Rattle.sequence_forms.specs.Sides.{Side, first, sequences, IsOrderedSide, IsRealisationPlan}
 use Rattle.sequence_forms.specs.Matrices.{AreNotNegative}
 use Rattle.sequence_forms.proofs.SideLemmas.{first_up}
-use Rattle.zero_sum_lp.specs.Plans.{IsRaised, IsLesser, IsCut}
+use Rattle.zero_sum_lp.specs.Plans.{IsRaised, IsCut}
 
 -- something that holds of the empty sequence, and of each set's where it holds of those before the set, holds of all
 pub each_sequence : (d : Side) (P : ℕ → Type 0) → IsOrderedSide d → P 0 → ((j : ℕ) → j < d.sets → P (d.before j) → (a : ℕ) → a < d.count j → P (first d j + a)) → (n : ℕ) → n ≤ d.sets → (q : ℕ) → q < first d n → P q
@@ -58,16 +59,13 @@ module _ (d : Side) (o : IsOrderedSide d) (x z : ℕ → ℚ) (r : IsRaised d x 
       some (suc n) j e h l = raised_splits j n h e
 
 -- ---- cut
-lesser_le : (a b c : ℚ) → IsLesser a b c → c ≤ℚ a
-lesser_le a b c (inl h) = le_of_eq c a h.0
-lesser_le a b c (inr h) = subst (λ u. u ≤ℚ a) (sym h.0) h.1
-
 -- one number is the less of two
 pub lesser_once : (a b c k : ℚ) → IsLesser a b c → IsLesser a b k → c ≡ k
-lesser_once a b c k (inl h) (inl g) = h.0 ∙ sym g.0
-lesser_once a b c k (inl h) (inr g) = h.0 ∙ le_antisymm a b h.1 g.1 ∙ sym g.0
-lesser_once a b c k (inr h) (inl g) = h.0 ∙ le_antisymm b a h.1 g.1 ∙ sym g.0
-lesser_once a b c k (inr h) (inr g) = h.0 ∙ sym g.0
+lesser_once a b c k h g = le_antisymm c k (below a b c k h g.is_one) (below a b k c g h.is_one)
+  where
+    below : (a b c k : ℚ) → IsLesser a b c → (k ≡ a) ⊎ (k ≡ b) → c ≤ℚ k
+    below a b c k h (inl e) = subst (λ u. c ≤ℚ u) (sym e) h.left
+    below a b c k h (inr e) = subst (λ u. c ≤ℚ u) (sym e) h.right
 
 -- after the first n actions of a set took their weights of w
 record IsShared (w : ℚ) (x z : ℕ → ℚ) (n : ℕ) : Type 0 where
@@ -75,27 +73,27 @@ record IsShared (w : ℚ) (x z : ℕ → ℚ) (n : ℕ) : Type 0 where
   pub full : (w -ℚ sum_to n z ≡ zero_ℚ) ⊎ (sum_to n z ≡ sum_to n x)
   pub sign : (a : ℕ) → a < n → zero_ℚ ≤ℚ z a
 
-share_next : (w : ℚ) (x z : ℕ → ℚ) (n : ℕ) → zero_ℚ ≤ℚ x n → IsLesser (x n) (w -ℚ sum_to n z) (z n) → IsShared w x z n → IsShared w x z (suc n)
-share_next w x z n up (inl h) s =
+share_next : (w : ℚ) (x z : ℕ → ℚ) (n : ℕ) → zero_ℚ ≤ℚ x n → (z n ≡ x n) ⊎ (z n ≡ w -ℚ sum_to n z) → z n ≤ℚ (w -ℚ sum_to n z) → IsShared w x z n → IsShared w x z (suc n)
+share_next w x z n up (inl e) l s =
     record {
-      rest = linear (w ∷ sum_to n z ∷ z n ∷ x n ∷ []) ((at 2 ⟨=⟩ at 3) ∷ (at 3 ⟨≤⟩ (at 0 ⟨-⟩ at 1)) ∷ []) (lit (pos 0) ⟨≤⟩ (at 0 ⟨-⟩ (at 1 ⟨+⟩ at 2))) (λ one z u v. omega (arith, ints)) (h.0, (h.1, tt));
+      rest = linear (w ∷ sum_to n z ∷ z n ∷ []) ((at 2 ⟨≤⟩ (at 0 ⟨-⟩ at 1)) ∷ []) (lit (pos 0) ⟨≤⟩ (at 0 ⟨-⟩ (at 1 ⟨+⟩ at 2))) (λ one z u v. omega (arith, ints)) (l, tt);
       full = elim s.full [
-        | inl e ↦ inl (linear (w ∷ sum_to n z ∷ z n ∷ x n ∷ []) ((at 2 ⟨=⟩ at 3) ∷ (at 3 ⟨≤⟩ (at 0 ⟨-⟩ at 1)) ∷ ((at 0 ⟨-⟩ at 1) ⟨=⟩ lit (pos 0)) ∷ (lit (pos 0) ⟨≤⟩ at 3) ∷ []) ((at 0 ⟨-⟩ (at 1 ⟨+⟩ at 2)) ⟨=⟩ lit (pos 0)) (λ one z u v. omega (arith, ints)) (h.0, (h.1, (e, (up, tt)))))
-        | inr e ↦ inr (ap₂ (λ u v. u +ℚ v) e h.0)
+        | inl f ↦ inl (linear (w ∷ sum_to n z ∷ z n ∷ x n ∷ []) ((at 2 ⟨=⟩ at 3) ∷ (at 2 ⟨≤⟩ (at 0 ⟨-⟩ at 1)) ∷ ((at 0 ⟨-⟩ at 1) ⟨=⟩ lit (pos 0)) ∷ (lit (pos 0) ⟨≤⟩ at 3) ∷ []) ((at 0 ⟨-⟩ (at 1 ⟨+⟩ at 2)) ⟨=⟩ lit (pos 0)) (λ one z u v. omega (arith, ints)) (e, (l, (f, (up, tt)))))
+        | inr f ↦ inr (ap₂ (λ u v. u +ℚ v) f e)
       ];
-      sign = λ a l. elim (below_cases a n l) [ inl e ↦ subst (λ k. zero_ℚ ≤ℚ z k) (sym e) (subst (λ v. zero_ℚ ≤ℚ v) (sym h.0) up) | inr k ↦ s.sign a k ];
+      sign = λ a l. elim (below_cases a n l) [ inl f ↦ subst (λ k. zero_ℚ ≤ℚ z k) (sym f) (subst (λ v. zero_ℚ ≤ℚ v) (sym e) up) | inr k ↦ s.sign a k ];
     }
-share_next w x z n up (inr h) s =
-    let none : w -ℚ sum_to (suc n) z ≡ zero_ℚ = linear (w ∷ sum_to n z ∷ z n ∷ []) ((at 2 ⟨=⟩ (at 0 ⟨-⟩ at 1)) ∷ []) ((at 0 ⟨-⟩ (at 1 ⟨+⟩ at 2)) ⟨=⟩ lit (pos 0)) (λ one z u v. omega (arith, ints)) (h.0, tt) in
+share_next w x z n up (inr e) l s =
+    let none : w -ℚ sum_to (suc n) z ≡ zero_ℚ = linear (w ∷ sum_to n z ∷ z n ∷ []) ((at 2 ⟨=⟩ (at 0 ⟨-⟩ at 1)) ∷ []) ((at 0 ⟨-⟩ (at 1 ⟨+⟩ at 2)) ⟨=⟩ lit (pos 0)) (λ one z u v. omega (arith, ints)) (e, tt) in
     record {
       rest = le_of_eq zero_ℚ (w -ℚ sum_to (suc n) z) (sym none);
       full = inl none;
-      sign = λ a l. elim (below_cases a n l) [ inl e ↦ subst (λ k. zero_ℚ ≤ℚ z k) (sym e) (subst (λ v. zero_ℚ ≤ℚ v) (sym h.0) s.rest) | inr k ↦ s.sign a k ];
+      sign = λ a l. elim (below_cases a n l) [ inl f ↦ subst (λ k. zero_ℚ ≤ℚ z k) (sym f) (subst (λ v. zero_ℚ ≤ℚ v) (sym e) s.rest) | inr k ↦ s.sign a k ];
     }
 
 shared : (w : ℚ) (x z : ℕ → ℚ) (n : ℕ) → zero_ℚ ≤ℚ w → ((a : ℕ) → a < n → zero_ℚ ≤ℚ x a) → ((a : ℕ) → a < n → IsLesser (x a) (w -ℚ sum_to a z) (z a)) → IsShared w x z n
 shared w x z zero pos_w pos_x h = record { rest = subst (λ u. zero_ℚ ≤ℚ u) (ring rational_ring (w ∷ []) A (A :- num 0) refl) pos_w; full = inr refl; sign = λ a l. absurd (omega arith) }
-shared w x z (suc n) pos_w pos_x h = share_next w x z n (pos_x n (omega arith)) (h n (omega arith)) (shared w x z n pos_w (λ a l. pos_x a (omega arith)) (λ a l. h a (omega arith)))
+shared w x z (suc n) pos_w pos_x h = let last = h n (omega arith) in share_next w x z n (pos_x n (omega arith)) last.is_one last.right (shared w x z n pos_w (λ a l. pos_x a (omega arith)) (λ a l. h a (omega arith)))
 
 -- where there is enough, all is shared
 shared_all : (w : ℚ) (x z : ℕ → ℚ) (n : ℕ) → w ≤ℚ sum_to n x → IsShared w x z n → sum_to n z ≡ w
@@ -107,7 +105,7 @@ shared_all w x z n enough s =
 
 module _ (d : Side) (o : IsOrderedSide d) (x z : ℕ → ℚ) (c : IsCut d x z) (sign : AreNotNegative (sequences d) x) (empty : one_ℚ ≤ℚ x 0) (sets : (j : ℕ) → j < d.sets → x (d.before j) ≤ℚ sum_to (d.count j) (λ a. x (first d j + a))) where
   pub cut_below : (q : ℕ) → q < sequences d → z q ≤ℚ x q
-  cut_below = each_sequence d (λ q. z q ≤ℚ x q) o (subst (λ v. v ≤ℚ x 0) (sym c.empty) empty) (λ j h up a l. lesser_le (x (first d j + a)) _ (z (first d j + a)) (c.shares j a h l)) d.sets (omega arith)
+  cut_below = each_sequence d (λ q. z q ≤ℚ x q) o (subst (λ v. v ≤ℚ x 0) (sym c.empty) empty) (λ j h up a l. (c.shares j a h l).left) d.sets (omega arith)
 
   set_shared : (j : ℕ) → j < d.sets → zero_ℚ ≤ℚ z (d.before j) → IsShared (z (d.before j)) (λ a. x (first d j + a)) (λ a. z (first d j + a)) (d.count j)
   set_shared j h up =

@@ -1,10 +1,10 @@
 -- What contracts inside this crate say of lists of weights.
 use Rattle.std.specs.Prelude.{ℕ, ◌+◌, ◌<◌, ◌≡◌, List, length}
+use Rattle.rational.specs.Extremes.{IsLesser}
 use Rattle.rational.specs.Rational.{ℚ, ◌-ℚ◌}
 use Rattle.rational.specs.Sum.{sum_to}
 use Rattle.pure_payoffs.specs.Steps.{Step, IsFirstUnfit}
 use Rattle.sequence_data.specs.Weights.{weight}
-use Rattle.zero_sum_lp.specs.Plans.{IsLesser}
 use Rattle.zero_sum_lp.specs.PlanSteps.{rest_steps}
 
 -- the weights of the actions of a set with this first sequence

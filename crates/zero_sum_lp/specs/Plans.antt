@@ -1,6 +1,7 @@
 -- Realisation plans made of raw weights.
-use Rattle.std.specs.Prelude.{ℕ, ◌+◌, ◌<◌, ◌≡◌, ◌⊎◌}
-use Rattle.rational.specs.Rational.{ℚ, ◌+ℚ◌, ◌-ℚ◌, ◌≤ℚ◌, one_ℚ}
+use Rattle.std.specs.Prelude.{ℕ, ◌+◌, ◌<◌, ◌≡◌}
+use Rattle.rational.specs.Extremes.{IsLesser}
+use Rattle.rational.specs.Rational.{ℚ, ◌+ℚ◌, ◌-ℚ◌, one_ℚ}
 use Rattle.rational.specs.Sum.{sum_to}
 use Rattle.sequence_forms.specs.Sides.{Side, first}
 
@@ -12,10 +13,6 @@ pub record IsRaised (d : Side) (x z : ℕ → ℚ) : Type 0 where
       → z (first d j) ≡ x (first d j) +ℚ (z (d.before j) -ℚ sum_to (d.count j) (λ a. x (first d j + a)))
   pub others : (j a : ℕ) → j < d.sets → 0 < a → a < d.count j
       → z (first d j + a) ≡ x (first d j + a)
-
--- c is the less of a and b
-abbrev pub IsLesser : ℚ → ℚ → ℚ → Type 0
-IsLesser a b c = ((c ≡ a) × (a ≤ℚ b)) ⊎ ((c ≡ b) × (b ≤ℚ a))
 
 -- z is the plan made of x where x is too much: at each set, each action in order gets the less of
 -- its raw weight and what the actions before it have left of the weight before the set

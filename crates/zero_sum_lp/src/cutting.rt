@@ -4,24 +4,12 @@ ghost use Rattle.pure_payoffs.specs.Steps.{StepFits};
 ghost use Rattle.sequence_forms.specs.Sides.{sequences};
 ghost use Rattle.sequence_data.specs.Data.{IsSideData, side_of};
 ghost use Rattle.sequence_data.specs.Weights.{weight};
-ghost use Rattle.zero_sum_lp.specs.Plans.{IsLesser};
 ghost use Rattle.zero_sum_lp.specs.PlanLists.{AreShares, IsUnfitShare, weights_from};
 ghost use Rattle.zero_sum_lp.specs.PlanSteps.{IsFittingCut, IsUnfitCut, rest_steps};
 
 use crate::weights::{set_weight, weight_at};
 use frac128::{Frac, Unfit};
 use sequence_data::{Side, set_at};
-use std::cmp::Ordering;
-
-// The less of two fractions.
-fn lesser(a: Frac, b: Frac) -> Frac
-    ensures { IsLesser a b result }
-{
-    match a.cmp(b) {
-        Ordering::Greater => b,
-        _ => a,
-    }
-}
 
 // Shares the weight before a set out among its actions.
 fn cut_set(weights: &mut [Frac], before: usize, first: usize, count: usize) -> Result<(), Unfit>
@@ -40,7 +28,7 @@ fn cut_set(weights: &mut [Frac], before: usize, first: usize, count: usize) -> R
 {
     let mut left = weight_at(weights, before);
     for action in 0..count {
-        let share = lesser(weight_at(weights, first + action), left);
+        let share = weight_at(weights, first + action).min(left);
         set_weight(weights, first + action, share);
         left = left.sub(share)?;
     }

@@ -11,9 +11,9 @@ loop-leaf-init c = record {
 
 pub loop-leaf-preserved : goal.loop-leaf-preserved
 loop-leaf-preserved c = record {
-  one = greatest-more (λ x. x.one) c.args.leaves.now c.loop-leaf.leaf-index c.leaf-item.result c.loop-leaf.greatest_one c.greater-greatest_one.result c.loop-leaf-test.true c.leaf-item.is c.loop-leaf.invariant.one c.greater-greatest_one.ensures;
-  two = greatest-more (λ x. x.two) c.args.leaves.now c.loop-leaf.leaf-index c.leaf-item.result c.loop-leaf.greatest_two c.greater-greatest_two.result c.loop-leaf-test.true c.leaf-item.is c.loop-leaf.invariant.two c.greater-greatest_two.ensures;
-  least = least-more (λ x. x.one) c.args.leaves.now c.loop-leaf.leaf-index c.leaf-item.result c.loop-leaf.least_one c.lesser-least_one.result c.loop-leaf-test.true c.leaf-item.is c.loop-leaf.invariant.least c.lesser-least_one.ensures;
+  one = greatest-more (λ x. x.one) c.args.leaves.now c.loop-leaf.leaf-index c.leaf-item.result c.loop-leaf.greatest_one c.max-greatest_one.result c.loop-leaf-test.true c.leaf-item.is c.loop-leaf.invariant.one c.max-greatest_one.ensures;
+  two = greatest-more (λ x. x.two) c.args.leaves.now c.loop-leaf.leaf-index c.leaf-item.result c.loop-leaf.greatest_two c.max-greatest_two.result c.loop-leaf-test.true c.leaf-item.is c.loop-leaf.invariant.two c.max-greatest_two.ensures;
+  least = least-more (λ x. x.one) c.args.leaves.now c.loop-leaf.leaf-index c.leaf-item.result c.loop-leaf.least_one c.min-least_one.result c.loop-leaf-test.true c.leaf-item.is c.loop-leaf.invariant.least c.min-least_one.ensures;
 }
 
 pub returns-clause-greatest_one : goal.returns-clause-greatest_one
