@@ -6,13 +6,13 @@ use Rattle.std.proofs.lemmas.Grind.{same_number_lists}
 use Rattle.std.proofs.lemmas.List.{get_or_default, length-append, length-set, map-append}
 use Rattle.std.proofs.lemmas.List.Elements.{Contains-append_left, Contains-append_right, Contains-append_cases, Contains-get_or}
 use Rattle.rational.specs.Rational.{ℚ}
-use Rattle.linear_systems.specs.Rows.{IsLexicographicRow}
+use Rattle.linear_systems.specs.Rows.{basic_solution, IsLexicographicRow}
 use Rattle.linear_systems.specs.Reached.{IsVariableOf, in_row, in_column}
 use Rattle.linear_systems.proofs.PivotLemmas.{eqb_same, eqb_apart}
 use Rattle.lex_tableau.specs.Ratio.{listed}
 use Rattle.lex_tableau.specs.Rows.{Numbers, tableau, IsTableau, IsPivotOf}
 use Rattle.lex_tableau.specs.Starts.{Parts, system_of, IsSystem, IsStartOf}
-use Rattle.linear_systems.specs.Points.{IsExtremePoint, basic_solution}
+use Rattle.linear_systems.specs.Points.{IsExtremePoint}
 use Rattle.linear_systems.specs.Reach.{IsFeasibleStart, IsLexReached, IsBasic, IsNeighbour, HasNeighbour, IsClosed}
 use Rattle.linear_systems.specs.ExtremePointLaws.{HasPoint}
 use Rattle.linear_systems.proofs.StartLemmas.{start_reached, alike_reached, pivot_reached}

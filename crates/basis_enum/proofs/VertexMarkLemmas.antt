@@ -15,7 +15,8 @@ use Rattle.linear_systems.specs.Tableau.{Tableau}
 use Rattle.linear_systems.specs.Reached.{IsVariableOf, in_row, in_column}
 use Rattle.lex_tableau.specs.Rows.{Numbers, tableau}
 use Rattle.lex_tableau.specs.Starts.{Parts, system_of, IsSystem}
-use Rattle.linear_systems.specs.Points.{IsExtremePoint, IsNonzero, AreEqualAt, basic_solution}
+use Rattle.linear_systems.specs.Points.{IsExtremePoint, IsNonzero, AreEqualAt}
+use Rattle.linear_systems.specs.Rows.{basic_solution}
 use Rattle.linear_systems.specs.Reach.{IsLexReached}
 use Rattle.linear_systems.specs.Vertices.{MarkedPoint, IsZeroWord, IsMarkOf, IsVertexMark, AreVertices, mask_of}
 use Rattle.linear_systems.proofs.SmallStepLemmas.{extreme_alone}

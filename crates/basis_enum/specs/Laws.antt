@@ -2,7 +2,8 @@
 use Rattle.std.specs.Prelude.{ℕ, ◌<◌, ◌≡◌, List, length, get_or}
 use Rattle.std.specs.List.{Contains}
 use Rattle.rational.specs.Rational.{ℚ}
-use Rattle.linear_systems.specs.Points.{IsExtremePoint, basic_solution}
+use Rattle.linear_systems.specs.Points.{IsExtremePoint}
+use Rattle.linear_systems.specs.Rows.{basic_solution}
 use Rattle.linear_systems.specs.ExtremePointLaws.{HasPoint}
 use Rattle.lex_tableau.specs.Rows.{Numbers, tableau}
 use Rattle.lex_tableau.specs.Starts.{Parts, system_of, IsSystem}

@@ -4,7 +4,8 @@ use Rattle.std.specs.List.{All, Contains}
 use Rattle.rational.specs.Rational.{ℚ}
 use Rattle.lex_tableau.specs.Rows.{Numbers, tableau}
 use Rattle.lex_tableau.specs.Starts.{Parts, system_of}
-use Rattle.linear_systems.specs.Points.{IsNonzero, basic_solution}
+use Rattle.linear_systems.specs.Points.{IsNonzero}
+use Rattle.linear_systems.specs.Rows.{basic_solution}
 use Rattle.linear_systems.specs.Vertices.{MarkedPoint, IsMarkOf, mask_of}
 use Rattle.basis_enum.specs.declared.vertex.Vertex.{Vertex}
 use Rattle.basis_enum.specs.Systems.{variable_count}

@@ -3,7 +3,7 @@ ghost use Rattle.std.specs.Prelude.{◌≡◌, ◌+◌, ◌*◌, ◌/◌, ◌%�
 ghost use Rattle.std.specs.List.{All, Any};
 ghost use Rattle.rational.specs.Rational.{zero_ℚ};
 ghost use Rattle.lex_tableau.specs.Rows.{tableau as fractions_of};
-ghost use Rattle.linear_systems.specs.Points.{basic_solution};
+ghost use Rattle.linear_systems.specs.Rows.{basic_solution};
 ghost use Rattle.linear_systems.specs.Vertices.{IsZeroWord, mask_of};
 ghost use Rattle.basis_enum.specs.Marks.{AreInOrder, AreUpTo, IsVertexOf, values_of};
 ghost use Rattle.basis_enum.specs.Systems.{variable_count};

@@ -7,7 +7,7 @@ use Rattle.std.proofs.lemmas.List.{get_or_default}
 use Rattle.std.proofs.lemmas.List.Folds.{Any-from_list_any}
 use Rattle.std.proofs.lemmas.Map.Keys.{IsDistinct-from_apart}
 use Rattle.std.proofs.lemmas.Map.Steps.{length-le_from_distinct_below}
-use Rattle.linear_systems.specs.Points.{basic_solution}
+use Rattle.linear_systems.specs.Rows.{basic_solution}
 use Rattle.linear_systems.specs.ExtremePointLaws.{HasPoint}
 use Rattle.linear_systems.specs.Vertices.{MarkedPoint, IsVertexMark}
 use Rattle.linear_systems.proofs.VertexListLemmas.{same_mask, place_once}

@@ -10,17 +10,18 @@ use Rattle.rational.proofs.Field.{le_refl, lt_irrefl, le_of_lt}
 use Rattle.rational.proofs.SumLemmas.{sum_to-zeros}
 use Rattle.linear_systems.specs.Tableau.{Tableau, Solves}
 use Rattle.linear_systems.specs.Lex.{IsLexPositive}
-use Rattle.linear_systems.specs.Rows.{key}
+use Rattle.linear_systems.specs.Rows.{basic_solution, key}
 use Rattle.linear_systems.proofs.RowLemmas.{unit_nonneg, unit_other}
 use Rattle.lemke_pivot.specs.Vectors.{image}
 use Rattle.lemke_pivot.specs.Problems.{IsCopositive}
-use Rattle.lemke_pivot.specs.Values.{value, direction, is_basic}
+use Rattle.linear_systems.proofs.SolutionLemmas.{solution_basic, solution_solves}
+use Rattle.lemke_pivot.specs.Values.{direction, is_basic}
 use Rattle.lemke_pivot.specs.Bases.{swap, Almost}
 use Rattle.lemke_pivot.specs.ProblemPaths.{w_of, z_of, z0_of, complement, HasPositiveKeys, basis_without, IsFirstRow, SolvesAt, IsRayAt}
 use Rattle.lemke_pivot.proofs.VectorLemmas.{dot-two}
 use Rattle.lemke_pivot.proofs.NoRayLemmas.{no_ray}
 use Rattle.lemke_pivot.proofs.EdgeLemmas.{At, at_first, swap_out, swap_other}
-use Rattle.lemke_pivot.proofs.ValueLemmas.{row_of, basic_which, value_basic, value_out, value_solves, direction_basic, direction_out, direction_self, direction_level, left_add}
+use Rattle.lemke_pivot.proofs.ValueLemmas.{row_of, basic_which, value_out, direction_basic, direction_out, direction_self, direction_level, left_add}
 use Rattle.lemke_pivot.proofs.ComplementLemmas.{Which, which, complement_of_w, complement_of_z, complement_twice, complement_neither, labels}
 use Rattle.lemke_pivot.proofs.KeyLemmas.{pivots, row_out, solves_back, basic_past}
 use Rattle.lemke_pivot.proofs.FirstBasisLemmas.{solves_start, without_z0, without_s, without_w, without_z, without_0, one_row, first, first_basis, first_keys, beginning}
@@ -33,29 +34,29 @@ lex_first n f p = go p.place refl
     go (suc k) e = subst (λ x. zero_ℚ ≤ℚ x) (sym (p.before 0 (omega arith))) (le_refl zero_ℚ)
 
 module _ (n : ℕ) (M : ℕ → ℕ → ℚ) (b : ℕ → ℚ) (t : Tableau) (R : HasPositiveKeys n M b t) where
-  pub value_sign : (v : ℕ) → zero_ℚ ≤ℚ value t v
+  pub value_sign : (v : ℕ) → zero_ℚ ≤ℚ basic_solution t v
   value_sign v = go (is_basic t v) refl
     where
-      go : (y : Bool) → is_basic t v ≡ y → zero_ℚ ≤ℚ value t v
-      go true e = let w = basic_which t v e in subst (λ x. zero_ℚ ≤ℚ x) (sym (value_basic t R.reached.proper (row_of t v) w.0) ∙ ap (value t) w.1) (lex_first (suc n) (key w_of t (row_of t v)) (R.positive (row_of t v) (row_out n M b t R.reached (row_of t v) w.0)))
+      go : (y : Bool) → is_basic t v ≡ y → zero_ℚ ≤ℚ basic_solution t v
+      go true e = let w = basic_which t v e in subst (λ x. zero_ℚ ≤ℚ x) (sym (solution_basic t (row_of t v) R.reached.proper w.0) ∙ ap (basic_solution t) w.1) (lex_first (suc n) (key w_of t (row_of t v)) (R.positive (row_of t v) (row_out n M b t R.reached (row_of t v) w.0)))
       go false e = subst (λ x. zero_ℚ ≤ℚ x) (sym (value_out t R.reached.proper v e)) (le_refl zero_ℚ)
 
-  point : (i : ℕ) → i < n → value t (w_of i) ≡ (b i +ℚ image n M (λ j. value t (z_of n j)) i) +ℚ value t (z0_of n)
-  point i h = solves_start n M b (value t) (solves_back n M b t R.reached (value t) (value_solves t R.reached.proper)) i h
+  point : (i : ℕ) → i < n → basic_solution t (w_of i) ≡ (b i +ℚ image n M (λ j. basic_solution t (z_of n j)) i) +ℚ basic_solution t (z0_of n)
+  point i h = solves_start n M b (basic_solution t) (solves_back n M b t R.reached (basic_solution t) (solution_solves t R.reached.proper)) i h
 
   -- where no pair is basic with both variables and z0 is 0, the values solve the problem
-  pub solved : ((i : ℕ) → i < n → (is_basic t (w_of i) ≡ false) ⊎ (is_basic t (z_of n i) ≡ false)) → value t (z0_of n) ≡ zero_ℚ → SolvesAt n M b t
+  pub solved : ((i : ℕ) → i < n → (is_basic t (w_of i) ≡ false) ⊎ (is_basic t (z_of n i) ≡ false)) → basic_solution t (z0_of n) ≡ zero_ℚ → SolvesAt n M b t
   solved pairs z0 =
       record {
-        rows = λ i h. combine rational_ring (value t (w_of i) ∷ b i ∷ image n M (λ j. value t (z_of n j)) i ∷ value t (z0_of n) ∷ []) ((num 1 times A is B :+ C :+ D) ∷ (num 1 times D is num 0) ∷ []) A (B :+ C) refl (point i h, (z0, tt));
+        rows = λ i h. combine rational_ring (basic_solution t (w_of i) ∷ b i ∷ image n M (λ j. basic_solution t (z_of n j)) i ∷ basic_solution t (z0_of n) ∷ []) ((num 1 times A is B :+ C :+ D) ∷ (num 1 times D is num 0) ∷ []) A (B :+ C) refl (point i h, (z0, tt));
         w_sign = λ i h. value_sign (w_of i);
         z_sign = λ i h. value_sign (z_of n i);
         meets = λ i h. meet i (pairs i h);
       }
     where
-      meet : (i : ℕ) → (is_basic t (w_of i) ≡ false) ⊎ (is_basic t (z_of n i) ≡ false) → value t (w_of i) *ℚ value t (z_of n i) ≡ zero_ℚ
-      meet i (inl e) = ap (λ x. x *ℚ value t (z_of n i)) (value_out t R.reached.proper (w_of i) e) ∙ ring rational_ring (value t (z_of n i) ∷ []) (num 0 :* A) (num 0) refl
-      meet i (inr e) = ap (λ x. value t (w_of i) *ℚ x) (value_out t R.reached.proper (z_of n i) e) ∙ ring rational_ring (value t (w_of i) ∷ []) (A :* num 0) (num 0) refl
+      meet : (i : ℕ) → (is_basic t (w_of i) ≡ false) ⊎ (is_basic t (z_of n i) ≡ false) → basic_solution t (w_of i) *ℚ basic_solution t (z_of n i) ≡ zero_ℚ
+      meet i (inl e) = ap (λ x. x *ℚ basic_solution t (z_of n i)) (value_out t R.reached.proper (w_of i) e) ∙ ring rational_ring (basic_solution t (z_of n i) ∷ []) (num 0 :* A) (num 0) refl
+      meet i (inr e) = ap (λ x. basic_solution t (w_of i) *ℚ x) (value_out t R.reached.proper (z_of n i) e) ∙ ring rational_ring (basic_solution t (w_of i) ∷ []) (A :* num 0) (num 0) refl
 
   -- ---- a column with no positive entry, at a basis that lacks one pair
   module _ (c col : ℕ) (hc : col < t.width) (c_is : t.nonbasic col ≡ c) (a : Almost (labels n) (is_basic t) c) (none : (i : ℕ) → i < n → t.cell i col ≤ℚ zero_ℚ) where
@@ -74,14 +75,14 @@ module _ (n : ℕ) (M : ℕ → ℕ → ℚ) (b : ℕ → ℚ) (t : Tableau) (R 
 
     way : (i : ℕ) → i < n → direction t col (w_of i) ≡ image n M (λ j. direction t col (z_of n j)) i +ℚ direction t col (z0_of n)
     way i h =
-        combine rational_ring (direction t col (w_of i) ∷ value t (w_of i) ∷ b i ∷ image n M (λ j. value t (z_of n j)) i ∷ image n M (λ j. direction t col (z_of n j)) i ∷ value t (z0_of n) ∷ direction t col (z0_of n) ∷ image n M (λ j. value t (z_of n j) +ℚ direction t col (z_of n j)) i ∷ []) ((num 1 times B :+ A is C :+ H :+ (F :+ G)) ∷ (num 1 times H is D :+ E) ∷ (:neg (num 1) times B is C :+ D :+ F) ∷ []) A (E :+ G) refl (solves_start n M b (λ v. value t v +ℚ direction t col v) (solves_back n M b t R.reached _ both) i h, (dot-two n (M i) (λ j. value t (z_of n j)) (λ j. direction t col (z_of n j)), (point i h, tt)))
+        combine rational_ring (direction t col (w_of i) ∷ basic_solution t (w_of i) ∷ b i ∷ image n M (λ j. basic_solution t (z_of n j)) i ∷ image n M (λ j. direction t col (z_of n j)) i ∷ basic_solution t (z0_of n) ∷ direction t col (z0_of n) ∷ image n M (λ j. basic_solution t (z_of n j) +ℚ direction t col (z_of n j)) i ∷ []) ((num 1 times B :+ A is C :+ H :+ (F :+ G)) ∷ (num 1 times H is D :+ E) ∷ (:neg (num 1) times B is C :+ D :+ F) ∷ []) A (E :+ G) refl (solves_start n M b (λ v. basic_solution t v +ℚ direction t col v) (solves_back n M b t R.reached _ both) i h, (dot-two n (M i) (λ j. basic_solution t (z_of n j)) (λ j. direction t col (z_of n j)), (point i h, tt)))
       where
-        both : Solves t (λ v. value t v +ℚ direction t col v)
-        both i h = left_add t (value t) (direction t col) i ∙ ap₂ (λ x y. x +ℚ y) (value_solves t R.reached.proper i h) (direction_level t R.reached.proper col i hc h) ∙ ring rational_ring (t.right i ∷ []) (A :+ num 0) A refl
+        both : Solves t (λ v. basic_solution t v +ℚ direction t col v)
+        both i h = left_add t (basic_solution t) (direction t col) i ∙ ap₂ (λ x y. x +ℚ y) (solution_solves t R.reached.proper i h) (direction_level t R.reached.proper col i hc h) ∙ ring rational_ring (t.right i ∷ []) (A :+ num 0) A refl
 
     -- of a pair one variable is 0 at the point and in the direction
     abbrev Off : ℕ → Type 0
-    Off v = (value t v ≡ zero_ℚ) × (direction t col v ≡ zero_ℚ)
+    Off v = (basic_solution t v ≡ zero_ℚ) × (direction t col v ≡ zero_ℚ)
 
     off : (v : ℕ) → is_basic t v ≡ false → v ≢ c → Off v
     off v e ne = (value_out t R.reached.proper v e, out_c v e ne)
@@ -163,7 +164,7 @@ module _ (n : ℕ) (M : ℕ → ℕ → ℚ) (b : ℕ → ℚ) (t : Tableau) (R 
             go (inr (inr (inr h))) (inr ne) (inr d) = let k = h in basic_past n M b t R.reached v (omega (arith, d)) ∙ sym (without_z n (c - 1) c_w.0 v (omega arith) d)
 
     -- a ray, but for what it has to say of u
-    pub ray : zero_ℚ <ℚ value t (z0_of n) → (((i : ℕ) → i < n → direction t col (z_of n i) ≡ zero_ℚ) → ⊥) → IsRayAt n M b t col
+    pub ray : zero_ℚ <ℚ basic_solution t (z0_of n) → (((i : ℕ) → i < n → direction t col (z_of n i) ≡ zero_ℚ) → ⊥) → IsRayAt n M b t col
     ray up some =
         record {
           point = point;
@@ -175,9 +176,9 @@ module _ (n : ℕ) (M : ℕ → ℕ → ℚ) (b : ℕ → ℚ) (t : Tableau) (R 
           z0_above = up;
           u0_sign = direction_sign (z0_of n);
           u_some = some;
-          wz = λ i h. zero_product (value t) (value t) i (elim (one_off i h) [ inl o ↦ inl o.0 | inr o ↦ inr o.0 ]);
-          wu = λ i h. zero_product (value t) (direction t col) i (elim (one_off i h) [ inl o ↦ inl o.0 | inr o ↦ inr o.1 ]);
-          vz = λ i h. zero_product (direction t col) (value t) i (elim (one_off i h) [ inl o ↦ inl o.1 | inr o ↦ inr o.0 ]);
+          wz = λ i h. zero_product (basic_solution t) (basic_solution t) i (elim (one_off i h) [ inl o ↦ inl o.0 | inr o ↦ inr o.0 ]);
+          wu = λ i h. zero_product (basic_solution t) (direction t col) i (elim (one_off i h) [ inl o ↦ inl o.0 | inr o ↦ inr o.1 ]);
+          vz = λ i h. zero_product (direction t col) (basic_solution t) i (elim (one_off i h) [ inl o ↦ inl o.1 | inr o ↦ inr o.0 ]);
           vu = λ i h. zero_product (direction t col) (direction t col) i (elim (one_off i h) [ inl o ↦ inl o.1 | inr o ↦ inr o.1 ]);
         }
 
@@ -187,7 +188,7 @@ module _ (n : ℕ) (M : ℕ → ℕ → ℚ) (b : ℕ → ℚ) (r : ℕ) (fr : I
   abbrev pub OnPath : Tableau → ℕ → List (ℕ → Bool) → Type 0
   OnPath t c earlier = At (pivots n M b) (labels n) (beginning n M b r fr) t c earlier
 
-  pub path_ray : (t : Tableau) (c col : ℕ) (earlier : List (ℕ → Bool)) → OnPath t c earlier → HasPositiveKeys n M b t → col < t.width → t.nonbasic col ≡ c → ((i : ℕ) → i < n → t.cell i col ≤ℚ zero_ℚ) → zero_ℚ <ℚ value t (z0_of n) → IsRayAt n M b t col
+  pub path_ray : (t : Tableau) (c col : ℕ) (earlier : List (ℕ → Bool)) → OnPath t c earlier → HasPositiveKeys n M b t → col < t.width → t.nonbasic col ≡ c → ((i : ℕ) → i < n → t.cell i col ≤ℚ zero_ℚ) → zero_ℚ <ℚ basic_solution t (z0_of n) → IsRayAt n M b t col
   unfolding beginning
   path_ray t c col earlier o R hc c_is none up = ray n M b t R c col hc c_is o.almost none up some
     where
@@ -202,8 +203,8 @@ module _ (n : ℕ) (M : ℕ → ℕ → ℚ) (b : ℕ → ℚ) (r : ℕ) (fr : I
           go w = here w.0 w.1 w.2 w.3 (cases_eq w.0 r)
 
   -- where the problem is copositive, some row has a positive entry
-  pub path_goes_on : (t : Tableau) (c col : ℕ) (earlier : List (ℕ → Bool)) → IsCopositive n M b → OnPath t c earlier → HasPositiveKeys n M b t → col < t.width → t.nonbasic col ≡ c → zero_ℚ <ℚ value t (z0_of n) → ((i : ℕ) → i < n → t.cell i col ≤ℚ zero_ℚ) → ⊥
-  path_goes_on t c col earlier cop o R hc c_is up none = no_ray n M b _ _ _ _ (value t (z0_of n)) (direction t col (z0_of n)) cop (path_ray t c col earlier o R hc c_is none up)
+  pub path_goes_on : (t : Tableau) (c col : ℕ) (earlier : List (ℕ → Bool)) → IsCopositive n M b → OnPath t c earlier → HasPositiveKeys n M b t → col < t.width → t.nonbasic col ≡ c → zero_ℚ <ℚ basic_solution t (z0_of n) → ((i : ℕ) → i < n → t.cell i col ≤ℚ zero_ℚ) → ⊥
+  path_goes_on t c col earlier cop o R hc c_is up none = no_ray n M b _ _ _ _ (basic_solution t (z0_of n)) (direction t col (z0_of n)) cop (path_ray t c col earlier o R hc c_is none up)
 
   -- no pair is basic with both variables
   path_pairs : (t : Tableau) (c : ℕ) (earlier : List (ℕ → Bool)) → OnPath t c earlier → (i : ℕ) → i < n → (is_basic t (w_of i) ≡ false) ⊎ (is_basic t (z_of n i) ≡ false)
@@ -217,7 +218,7 @@ module _ (n : ℕ) (M : ℕ → ℕ → ℚ) (b : ℕ → ℚ) (r : ℕ) (fr : I
       go true e = inr (ap (is_basic t) (sym pi) ∙ o.almost.others (w_of i) (λ q. absurd (omega (arith, sym pi ∙ q, h))) (λ q. true≢false (sym e ∙ ap (is_basic t) q ∙ o.almost.out)) (λ q. true≢false (sym e ∙ ap (is_basic t) q ∙ o.almost.partner_out)) ∙ ap not e)
 
   -- where z0 is 0, the problem is solved
-  pub path_solved : (t : Tableau) (c : ℕ) (earlier : List (ℕ → Bool)) → OnPath t c earlier → HasPositiveKeys n M b t → value t (z0_of n) ≡ zero_ℚ → SolvesAt n M b t
+  pub path_solved : (t : Tableau) (c : ℕ) (earlier : List (ℕ → Bool)) → OnPath t c earlier → HasPositiveKeys n M b t → basic_solution t (z0_of n) ≡ zero_ℚ → SolvesAt n M b t
   path_solved t c earlier o R z0 = solved n M b t R (path_pairs t c earlier o) z0
 
   -- where z0 has left, too

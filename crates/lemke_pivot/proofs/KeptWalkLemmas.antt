@@ -1,39 +1,28 @@
 -- what the walk keeps
-use Rattle.std.proofs.Common.{ℕ, zero, suc, ◌<◌, ◌≤◌, ◌≡◌, ◌≢◌, ◌+◌, ◌^◌, inr, Bool, true, false, List, [], ◌∷◌, length, map, get_or, Option, Some, None, refl, sym, ap, ap₂, ◌∙◌, subst, arith, true≢false}
+use Rattle.std.proofs.Common.{ℕ, zero, suc, ◌<◌, ◌≤◌, ◌≡◌, ◌≢◌, ◌+◌, ◌^◌, inr, List, [], ◌∷◌, length, map, get_or, Option, Some, None, refl, sym, ap, ap₂, ◌∙◌, subst, arith}
 use Rattle.std.proofs.lemmas.List.{length-map}
 use Rattle.rational.specs.Rational.{ℚ, ◌-ℚ◌, ◌*ℚ◌, inv_ℚ, zero_ℚ, ◌≤ℚ◌}
 use Rattle.rational.proofs.Field.{not_lt_of_le}
-use Rattle.linear_systems.specs.Tableau.{Tableau}
-use Rattle.linear_systems.specs.Rows.{key, Alike, IsLexicographicRow, HasDistinctVariables}
+use Rattle.linear_systems.specs.Rows.{basic_solution, key, Alike, IsLexicographicRow}
 use Rattle.linear_systems.proofs.LexLemmas.{lex_same}
 use Rattle.frac128.specs.declared.steps.Unfit.{Unfit}
-use Rattle.lex_tableau.specs.Rows.{Numbers, tableau, IsTableau, IsValueOf, IsPivotOf}
+use Rattle.lex_tableau.specs.Rows.{Numbers, tableau, IsTableau, IsPivotOf}
 use Rattle.lex_tableau.specs.Ratio.{listed, IsBest}
 use Rattle.whole_rows.specs.Steps.{AllFit, IsFirstUnfit}
-use Rattle.lex_tableau.specs.Pivots.{steps_of_pivot}
-use Rattle.lemke_pivot.specs.Values.{value, is_basic}
+use Rattle.lex_tableau.specs.Pivots.{pivot_number, steps_of_pivot}
 use Rattle.lemke_pivot.specs.ProblemPaths.{w_of, z_of, z0_of, complement, start, HasPositiveKeys, PathTo}
 use Rattle.linear_systems.proofs.AgreementLemmas.{alike_trans, alike_pivot}
-use Rattle.lemke_pivot.proofs.ValueLemmas.{row_of, basic_yes, basic_which, value_basic, value_out}
 use Rattle.lemke_pivot.proofs.KeyLemmas.{nonbasic_which}
 use Rattle.lemke_pivot.proofs.FirstBasisLemmas.{entry_not}
 use Rattle.lemke_pivot.proofs.ProblemPathLemmas.{keys, short, leaving_row, next_is_out, basic_is_variable}
-use Rattle.lemke_pivot.specs.Paths.{ExactPathTo, EndsSolved, EndsUnfit, IsPathStart, IsNonbasic, saturated}
-
--- the value that a tableau reads off is the sum's
-pub value_is : (t : Tableau) (v : ℕ) (q : ℚ) → HasDistinctVariables t → IsValueOf t v q → q ≡ value t v
-value_is t v q N V = go (is_basic t v) refl
-  where
-    go : (y : Bool) → is_basic t v ≡ y → q ≡ value t v
-    go true e = let w = basic_which t v e in V.basic (row_of t v) w.0 w.1 ∙ sym (value_basic t N (row_of t v) w.0) ∙ ap (value t) w.1
-    go false e = V.nonbasic (λ i h p. true≢false (sym (basic_yes t i h) ∙ ap (is_basic t) p ∙ e)) ∙ sym (value_out t N v e)
+use Rattle.lemke_pivot.specs.Paths.{ExactPathTo, EndsSolved, EndsUnfit, IsPathStart, IsNonbasic}
 
 -- the path has come to t, and c is next; a step was counted for each pivot
 pub record OnWalk (n r : ℕ) (m t : Numbers) (c from now step : ℕ) : Type 0 where
   pub earlier : List Numbers
   pub path : ExactPathTo m n r earlier t c
   pub counts : from + suc (length earlier) ≡ now
-  pub number : step ≡ saturated (suc (length earlier))
+  pub number : step ≡ pivot_number (suc (length earlier))
   pub starts : t.starts ≡ m.starts
   pub rated : t.rated ≡ n
 
@@ -74,8 +63,8 @@ module _ (n r : ℕ) (m : Numbers) (S : IsPathStart n r m) where
     pub columns_are : n + 1 ≡ length t.nonbasics
     columns_are = let e : length t.nonbasics ≡ suc n = here.reached.width in omega (arith, e)
 
-    pub walk_value : (t₁ : Numbers) (v : ℕ) (q : ℚ) → t₁ ≡ t → v ≡ z0_of n → IsValueOf (tableau t₁) v q → q ≡ value (tableau t) (z0_of n)
-    walk_value t₁ v q e f V = value_is (tableau t) (z0_of n) q here.reached.proper (subst (λ m. IsValueOf (tableau m) (z0_of n) q) e (subst (λ k. IsValueOf (tableau t₁) k q) f V))
+    pub walk_value : (t₁ : Numbers) (v : ℕ) (q : ℚ) → t₁ ≡ t → v ≡ z0_of n → q ≡ basic_solution (tableau t₁) v → q ≡ basic_solution (tableau t) (z0_of n)
+    walk_value t₁ v q e f V = V ∙ ap₂ (λ (m : Numbers) (k : ℕ). basic_solution (tableau m) k) e f
 
     pub walk_bound : now ≤ from + 2 ^ suc (suc (n + n))
     walk_bound =
@@ -83,10 +72,10 @@ module _ (n r : ℕ) (m : Numbers) (S : IsPathStart n r m) where
         let e : from + suc (length o.earlier) ≡ now = o.counts in
         omega (arith, h, e)
 
-    pub walk_solved : value (tableau t) (z0_of n) ≡ zero_ℚ → IsTableau t → EndsSolved m n r t
+    pub walk_solved : basic_solution (tableau t) (z0_of n) ≡ zero_ℚ → IsTableau t → EndsSolved m n r t
     walk_solved z v = (o.earlier, c, o.path, z, v)
 
-    module _ (ne : value (tableau t) (z0_of n) ≢ zero_ℚ) where
+    module _ (ne : basic_solution (tableau t) (z0_of n) ≢ zero_ℚ) where
       pub walk_nonbasic : IsNonbasic t (n + 1) c
       walk_nonbasic =
           let w = next_is_out n S.matrix S.right r S.first (map tableau o.earlier) (tableau t) c path ne in
@@ -124,7 +113,7 @@ module _ (n r : ℕ) (m : Numbers) (S : IsPathStart n r m) where
       walk_never t₁ col o e f h q B = never col h q (subst (λ m. IsBest m.rated m.rated m.starts (tableau m) col None) e (subst (λ p. IsBest t₁.rated t₁.rated t₁.starts (tableau t₁) col p) f B))
 
       module _ (col row : ℕ) (h : col < n + 1) (e : (tableau t).nonbasic col ≡ c) (L : IsLexicographicRow n n w_of (tableau t) col row) (valid : IsTableau t) where
-        pub walk_next : (t' : Numbers) (c' later number : ℕ) → IsPivotOf t row col t' → AllFit (steps_of_pivot t row col) → c' ≡ complement n ((tableau t).basic row) → later ≡ now + 1 → number ≡ saturated (suc (suc (length o.earlier))) → OnWalk n r m t' c' from later number
+        pub walk_next : (t' : Numbers) (c' later number : ℕ) → IsPivotOf t row col t' → AllFit (steps_of_pivot t row col) → c' ≡ complement n ((tableau t).basic row) → later ≡ now + 1 → number ≡ pivot_number (suc (suc (length o.earlier))) → OnWalk n r m t' c' from later number
         walk_next t' c' later number p f q g k =
             record {
               earlier = t ∷ o.earlier;
@@ -135,5 +124,5 @@ module _ (n r : ℕ) (m : Numbers) (S : IsPathStart n r m) where
               rated = p.rated ∙ o.rated;
             }
 
-        pub walk_stops : (number : ℕ) (u : Unfit) → number ≡ saturated (suc (suc (length o.earlier))) → IsFirstUnfit (steps_of_pivot t row col) u → EndsUnfit m n r number c u
+        pub walk_stops : (number : ℕ) (u : Unfit) → number ≡ pivot_number (suc (suc (length o.earlier))) → IsFirstUnfit (steps_of_pivot t row col) u → EndsUnfit m n r number c u
         walk_stops number u k f = inr (o.earlier, t, record { path = o.path; goes_on = ne; valid = valid; col = col; row = row; col_in = subst (λ k. col < k) columns_are h; entering_is = e; chosen = L; unfit = f; number = k })

@@ -4,21 +4,20 @@ use Rattle.std.proofs.lemmas.Bool.{cases_lt}
 use Rattle.rational.specs.Rational.{ℚ, zero_ℚ}
 use Rattle.rational.proofs.Field.{not_lt_of_le}
 use Rattle.linear_systems.specs.Tableau.{pivot}
-use Rattle.linear_systems.specs.Rows.{IsLexicographicRow}
+use Rattle.linear_systems.specs.Rows.{basic_solution, IsLexicographicRow}
 use Rattle.linear_systems.proofs.AgreementLemmas.{alike_sym, alike_trans}
 use Rattle.linear_systems.proofs.LexRowLemmas.{lex_row_once, below_cases}
 use Rattle.frac128.specs.declared.steps.Unfit.{Unfit}
 use Rattle.whole_rows.specs.Steps.{AllFit, IsFirstUnfit}
 use Rattle.whole_rows.proofs.FirstUnfitLemmas.{no_unfit, one_unfit}
-use Rattle.lex_tableau.specs.Pivots.{steps_of_pivot}
+use Rattle.lex_tableau.specs.Pivots.{pivot_number, steps_of_pivot}
 use Rattle.lex_tableau.specs.Rows.{Numbers, tableau, IsPivotOf, IsTableau}
 use Rattle.lex_tableau.proofs.TableauLemmas.{determined}
 use Rattle.lemke_pivot.specs.ProblemPaths.{complement, w_of, z0_of}
-use Rattle.lemke_pivot.specs.Values.{value}
 use Rattle.lemke_pivot.specs.declared.lcp.LemkeEnd.TheVariants.{Solved, Range}
 use Rattle.lemke_pivot.specs.Ends.{EndsAreSingle}
 use Rattle.lemke_pivot.specs.Parts.{Problem, IsLeastRow, size_of}
-use Rattle.lemke_pivot.specs.Paths.{EndsSolved, EndsUnfit, ExactPathTo, ReplacesExactly, StopsAt, saturated}
+use Rattle.lemke_pivot.specs.Paths.{EndsSolved, EndsUnfit, ExactPathTo, ReplacesExactly, StopsAt}
 
 -- ---- the first row
 least_once : (n : ℕ) (b : ℕ → ℚ) (r s : ℕ) → IsLeastRow n b r → IsLeastRow n b s → r ≡ s
@@ -67,7 +66,7 @@ record GoesOn (m : Numbers) (n r k : ℕ) : Type 0 where
   after : Numbers
   length_is : length earlier ≡ k
   path : ExactPathTo m n r earlier before enters
-  not_zero : value (tableau before) (z0_of n) ≢ zero_ℚ
+  not_zero : basic_solution (tableau before) (z0_of n) ≢ zero_ℚ
   step : ReplacesExactly n before enters leaves after
 
 module _ (m : Numbers) (n r : ℕ) where
@@ -97,7 +96,7 @@ module _ (m : Numbers) (n r : ℕ) where
   solved_ends : (t : Numbers) (a : EndsSolved m n r t) → GoesOn m n r (length a.0) → ⊥
   solved_ends t a g =
       let s = path_same a.0 g.earlier t g.before a.1 g.enters a.2 g.path (sym g.length_is) a.4 g.step.valid in
-      g.not_zero (sym (ap (λ (x : Numbers). value (tableau x) (z0_of n)) s.0) ∙ a.3)
+      g.not_zero (sym (ap (λ (x : Numbers). basic_solution (tableau x) (z0_of n)) s.0) ∙ a.3)
 
   stop_ends : (step entering : ℕ) (e : Unfit) (earlier : List Numbers) (t : Numbers) → StopsAt m n r step entering e earlier t → GoesOn m n r (length earlier) → ⊥
   stop_ends step entering e earlier t a g =
@@ -121,7 +120,7 @@ module _ (m : Numbers) (n r : ℕ) where
     | inl l ↦ solved_ends t a (goes_on earlier u entering (length a.0) l b.path)
     | inr l ↦ elim (cases_lt (length earlier) (length a.0)) [
       | inl k ↦ stop_ends step entering e earlier u b (goes_on a.0 t a.1 (length earlier) k a.2)
-      | inr k ↦ b.goes_on (sym (ap (λ (x : Numbers). value (tableau x) (z0_of n)) (path_same a.0 earlier t u a.1 entering a.2 b.path (omega (arith, l, k)) a.4 b.valid).0) ∙ a.3)
+      | inr k ↦ b.goes_on (sym (ap (λ (x : Numbers). basic_solution (tableau x) (z0_of n)) (path_same a.0 earlier t u a.1 entering a.2 b.path (omega (arith, l, k)) a.4 b.valid).0) ∙ a.3)
     ]
   ]
 
@@ -138,7 +137,7 @@ module _ (m : Numbers) (n r : ℕ) where
       let col = same_column n u b.valid entering' a.col b.col a.row b.row col_in b.col_in nonbasic b.entering_is chosen b.chosen in
       let row = same_row n u b.valid entering' a.col b.col a.row b.row col_in b.col_in nonbasic b.entering_is chosen b.chosen in
       let unfit : IsFirstUnfit (steps_of_pivot u b.row b.col) e = subst₂ (λ x y. IsFirstUnfit (steps_of_pivot u x y) e) row col (subst (λ x. IsFirstUnfit (steps_of_pivot x a.row a.col) e) s.0 a.unfit) in (
-        a.number ∙ ap (λ k. saturated (suc (suc k))) q ∙ sym b.number,
+        a.number ∙ ap (λ k. pivot_number (suc (suc k))) q ∙ sym b.number,
         (s.1, one_unfit (steps_of_pivot u b.row b.col) e e' unfit b.unfit),
       )
 
@@ -158,7 +157,7 @@ module _ (m : Numbers) (n r : ℕ) where
   unfit_same step entering e step' entering' e' (inr a) (inr b) = stops_same step entering e a.0 a.1 step' entering' e' b.0 b.1 a.2 b.2
 
 -- a problem by its parts
-pub problem_same : (a b : Problem) → a.first ≡ b.first → a.second ≡ b.second → a.tableau ≡ b.tableau → a ≡ b
+problem_same : (a b : Problem) → a.first ≡ b.first → a.second ≡ b.second → a.tableau ≡ b.tableau → a ≡ b
 problem_same a b e f g = λ i. record { first = e i; second = f i; tableau = g i }
 
 module _ (p : Problem) where

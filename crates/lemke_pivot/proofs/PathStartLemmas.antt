@@ -4,27 +4,26 @@ use Rattle.std.proofs.lemmas.Bool.{cases_eq}
 use Rattle.std.proofs.lemmas.List.{length-map}
 use Rattle.rational.specs.Rational.{ℚ, ◌≤ℚ◌, ◌<ℚ◌}
 use Rattle.rational.proofs.Field.{le_refl, le_trans, le_of_lt}
-use Rattle.linear_systems.specs.Rows.{Alike}
+use Rattle.linear_systems.specs.Rows.{basic_solution, Alike}
 use Rattle.linear_systems.proofs.AgreementLemmas.{alike_trans}
 use Rattle.sequence_forms.specs.Forms.{SequenceForm}
 use Rattle.sequence_forms.specs.Prices.{costs}
 use Rattle.sequence_forms.specs.Sides.{sequences}
 use Rattle.sequence_forms.proofs.EndLemmas.{solutions_on_trees, solutions_on_tables}
 use Rattle.sequence_forms.proofs.FlowLemmas.{ordered_flow}
-use Rattle.lemke_pivot.specs.Values.{value}
 use Rattle.lemke_pivot.specs.Problems.{Costs, costs_of, matrix, right_sides}
 use Rattle.lemke_pivot.specs.ProblemPaths.{IsFirstRow}
 use Rattle.lemke_pivot.proofs.CopositiveLemmas.{sides_copositive}
 use Rattle.lemke_pivot.proofs.SolutionLemmas.{solutions_have_plans}
 use Rattle.lemke_pivot.proofs.ProblemPathLemmas.{least_is_negative, solved}
-use Rattle.lex_tableau.specs.Rows.{Numbers, tableau, IsTableau, IsValueOf}
+use Rattle.lex_tableau.specs.Rows.{Numbers, tableau, IsTableau}
 use Rattle.lex_tableau.specs.Starts.{Parts, system_of, IsStartOf}
 use Rattle.sequence_data.specs.declared.types.SetRow.{SetRow}
 use Rattle.sequence_data.specs.Data.{SideData, side_of}
 use Rattle.lemke_pivot.specs.Parts.{Problem, size_of, problem_size, start_of, IsProblem, IsProblemSystem, IsStartFor, IsLeastRow}
 use Rattle.lemke_pivot.specs.Paths.{IsPathStart}
 use Rattle.lemke_pivot.specs.SolutionLaws.{SolvesForm, SolutionsSolveTheForm, SolutionsSolveTrees, SolutionsSolveTables}
-use Rattle.lemke_pivot.proofs.KeptWalkLemmas.{value_is, path_of_numbers}
+use Rattle.lemke_pivot.proofs.KeptWalkLemmas.{path_of_numbers}
 
 -- ---- the least row
 pub least_begins : (b : ℕ → ℚ) → IsLeastRow 1 b 0
@@ -48,8 +47,8 @@ least_kept k b r p h =
     }
 
 -- ---- what is read off
-pub read_value : (m work : Numbers) (v w : ℕ) (q : ℚ) → m ≡ work → v ≡ w → IsTableau m → IsValueOf (tableau m) v q → q ≡ value (tableau work) w
-read_value m work v w q e f T V = value_is (tableau m) v q T.reached.reached.proper V ∙ ap₂ (λ (n : Numbers) (u : ℕ). value (tableau n) u) e f
+pub read_value : (m work : Numbers) (v w : ℕ) (q : ℚ) → m ≡ work → v ≡ w → q ≡ basic_solution (tableau m) v → q ≡ basic_solution (tableau work) w
+read_value m work v w q e f V = V ∙ ap₂ (λ (n : Numbers) (u : ℕ). basic_solution (tableau n) u) e f
 
 -- ---- a problem's path
 module _ (p : Problem) (P : IsProblem p) (r : ℕ) (L : IsLeastRow (size_of p) (tableau p.tableau).right r) where

@@ -7,14 +7,14 @@ use Rattle.rational.specs.Rational.{ℚ, neg_ℚ, zero_ℚ, ◌≤ℚ◌, ◌<�
 use Rattle.rational.proofs.Field.{le_refl, le_trans, le_or_lt, le_of_lt, eq_or_lt_of_le}
 use Rattle.rational.proofs.Linear.{linear, minus, at, lit, ◌⟨≤⟩◌, ◌⟨<⟩◌, ◌⟨=⟩◌}
 use Rattle.linear_systems.specs.Tableau.{Tableau, pivot}
-use Rattle.linear_systems.specs.Rows.{Alike, IsLexicographicRow}
+use Rattle.linear_systems.specs.Rows.{basic_solution, Alike, IsLexicographicRow}
 use Rattle.linear_systems.proofs.AgreementLemmas.{alike_sym, alike_trans, alike_pivot, alike_lex_row}
 use Rattle.linear_systems.proofs.LexRowLemmas.{lex_row_once, lex_row_is}
 use Rattle.lemke_pivot.specs.Vectors.{zeros}
 use Rattle.lemke_pivot.specs.Problems.{costs_of, size, matrix, right_sides, IsCopositive}
 use Rattle.lemke_pivot.specs.Walks.{Apart, Distinct}
 use Rattle.lemke_pivot.specs.Bases.{swap}
-use Rattle.lemke_pivot.specs.Values.{value, is_basic}
+use Rattle.lemke_pivot.specs.Values.{is_basic}
 use Rattle.lemke_pivot.specs.ProblemPaths.{w_of, z_of, z0_of, complement, SolvesAt, IsRayAt, start, IsFirstRow, HasPositiveKeys, Replaces, PathTo}
 use Rattle.lemke_pivot.specs.ProblemLaws.{NoBasisOccursTwice, PathsAreShort, PathsAreUnique, PathsEndSolved, PathsEndInRays, FirstRowsExist, AlwaysALeavingRow, LeastIsNegative}
 use Rattle.lemke_pivot.proofs.ProblemBlockLemmas.{six_p}
@@ -45,7 +45,7 @@ module _ (n : ℕ) (M : ℕ → ℕ → ℚ) (b : ℕ → ℚ) (r : ℕ) (fr : I
   left_out : (s t : Tableau) (d l : ℕ) → HasPositiveKeys n M b s → is_basic s (z0_of n) ≡ true → is_basic s d ≡ false → Replaces n s d l t → l ≡ z0_of n → is_basic t (z0_of n) ≡ false
   left_out s t d l R z0_in d_out p e = after n M b s t d l (R, p) (z0_of n) ∙ ap (λ k. swap (is_basic s) d k (z0_of n)) e ∙ swap_out (is_basic s) d (z0_of n) (λ q. true≢false (sym z0_in ∙ ap (is_basic s) q ∙ d_out))
 
-  goes_on : (ss : List Tableau) (t : Tableau) (c : ℕ) → PathTo n M b r ss t c → value t (z0_of n) ≢ zero_ℚ → GoesOn n M b r ss t c
+  goes_on : (ss : List Tableau) (t : Tableau) (c : ℕ) → PathTo n M b r ss t c → basic_solution t (z0_of n) ≢ zero_ℚ → GoesOn n M b r ss t c
   goes_on [] t c p ne = p
   goes_on (s ∷ ss) t c p ne = let g = goes_on ss s p.0 p.2 p.3 in let w = on_path ss s p.0 g in
       (p.0, p.1, g, p.4, (λ e. ne (value_out t (next_keys n M b s t p.0 p.1 (w.1, p.4)).reached.proper (z0_of n) (left_out s t p.0 p.1 w.1 w.0.almost.has_z0 w.0.almost.out p.4 e))), p.5)
@@ -90,7 +90,7 @@ module _ (n : ℕ) (M : ℕ → ℕ → ℚ) (b : ℕ → ℚ) (r : ℕ) (fr : I
   pub short : (ss : List Tableau) (t : Tableau) (c : ℕ) → PathTo n M b r ss t c → suc (length ss) ≤ 2 ^ suc (suc (n + n))
   short ss t c p = subst (λ m. suc m ≤ 2 ^ suc (suc (n + n))) (length-map ss is_basic) (sets-bound (suc (suc (n + n))) (map is_basic (t ∷ ss)) (all_below ss t c p) (all_distinct ss t c p))
 
-  pub solved : (ss : List Tableau) (t : Tableau) (c : ℕ) → PathTo n M b r ss t c → value t (z0_of n) ≡ zero_ℚ → SolvesAt n M b t
+  pub solved : (ss : List Tableau) (t : Tableau) (c : ℕ) → PathTo n M b r ss t c → basic_solution t (z0_of n) ≡ zero_ℚ → SolvesAt n M b t
   unfolding Ending
   solved ss t c p z = go (ending ss t c p)
     where
@@ -99,13 +99,13 @@ module _ (n : ℕ) (M : ℕ → ℕ → ℚ) (b : ℕ → ℚ) (r : ℕ) (fr : I
       go (inr w) = let o = on_path w.1 w.0 w.2 w.4 in path_left n M b r fr w.0 t w.2 (map is_basic w.1) o.0 (next_keys n M b w.0 t w.2 (z0_of n) (o.1, w.5)) (after n M b w.0 t w.2 (z0_of n) (o.1, w.5))
 
   -- the value of z0 is positive where it is not 0
-  above : (t : Tableau) → HasPositiveKeys n M b t → value t (z0_of n) ≢ zero_ℚ → zero_ℚ <ℚ value t (z0_of n)
-  above t R ne = elim (eq_or_lt_of_le zero_ℚ (value t (z0_of n)) (value_sign n M b t R (z0_of n))) [ inl q ↦ absurd (ne (sym q)) | inr l ↦ l ]
+  above : (t : Tableau) → HasPositiveKeys n M b t → basic_solution t (z0_of n) ≢ zero_ℚ → zero_ℚ <ℚ basic_solution t (z0_of n)
+  above t R ne = elim (eq_or_lt_of_le zero_ℚ (basic_solution t (z0_of n)) (value_sign n M b t R (z0_of n))) [ inl q ↦ absurd (ne (sym q)) | inr l ↦ l ]
 
-  pub in_ray : (ss : List Tableau) (t : Tableau) (c col : ℕ) → PathTo n M b r ss t c → value t (z0_of n) ≢ zero_ℚ → col < t.width → t.nonbasic col ≡ c → ((i : ℕ) → i < n → t.cell i col ≤ℚ zero_ℚ) → IsRayAt n M b t col
+  pub in_ray : (ss : List Tableau) (t : Tableau) (c col : ℕ) → PathTo n M b r ss t c → basic_solution t (z0_of n) ≢ zero_ℚ → col < t.width → t.nonbasic col ≡ c → ((i : ℕ) → i < n → t.cell i col ≤ℚ zero_ℚ) → IsRayAt n M b t col
   in_ray ss t c col p ne hc e none = let w = on_path ss t c (goes_on ss t c p ne) in path_ray n M b r fr t c col (map is_basic ss) w.0 w.1 hc e none (above t w.1 ne)
 
-  pub leaving_row : (ss : List Tableau) (t : Tableau) (c col : ℕ) → IsCopositive n M b → PathTo n M b r ss t c → value t (z0_of n) ≢ zero_ℚ → col < t.width → t.nonbasic col ≡ c → (row : ℕ) × IsLexicographicRow n n w_of t col row
+  pub leaving_row : (ss : List Tableau) (t : Tableau) (c col : ℕ) → IsCopositive n M b → PathTo n M b r ss t c → basic_solution t (z0_of n) ≢ zero_ℚ → col < t.width → t.nonbasic col ≡ c → (row : ℕ) × IsLexicographicRow n n w_of t col row
   leaving_row ss t c col cop p ne hc e = let w = on_path ss t c (goes_on ss t c p ne) in
       elim (lex_row_is (suc (suc (n + n))) n (start n M b) t col (is_start n M b) w.1.reached) [
         | inl none ↦ absurd (path_goes_on n M b r fr t c col (map is_basic ss) cop w.0 w.1 hc e (above t w.1 ne) none)
@@ -113,7 +113,7 @@ module _ (n : ℕ) (M : ℕ → ℕ → ℚ) (b : ℕ → ℚ) (r : ℕ) (fr : I
       ]
 
   -- the variable that is next is nonbasic
-  pub next_is_out : (ss : List Tableau) (t : Tableau) (c : ℕ) → PathTo n M b r ss t c → value t (z0_of n) ≢ zero_ℚ → (0 < c) × (c ≤ n + n) × (is_basic t c ≡ false)
+  pub next_is_out : (ss : List Tableau) (t : Tableau) (c : ℕ) → PathTo n M b r ss t c → basic_solution t (z0_of n) ≢ zero_ℚ → (0 < c) × (c ≤ n + n) × (is_basic t c ≡ false)
   next_is_out ss t c p ne = go (which n c)
     where
       o : At (pivots n M b) (labels n) (beginning n M b r fr) t c (map is_basic ss)
@@ -125,7 +125,7 @@ module _ (n : ℕ) (M : ℕ → ℕ → ℚ) (b : ℕ → ℚ) (r : ℕ) (fr : I
       go (inr (inr h)) = absurd (o.almost.paired (complement_neither n c h))
 
   -- only variables are basic
-  pub basic_is_variable : (ss : List Tableau) (t : Tableau) (c i : ℕ) → PathTo n M b r ss t c → value t (z0_of n) ≢ zero_ℚ → i < t.rows → (0 < t.basic i) × (t.basic i ≤ z0_of n)
+  pub basic_is_variable : (ss : List Tableau) (t : Tableau) (c i : ℕ) → PathTo n M b r ss t c → basic_solution t (z0_of n) ≢ zero_ℚ → i < t.rows → (0 < t.basic i) × (t.basic i ≤ z0_of n)
   basic_is_variable ss t c i p ne h = go (which n (t.basic i)) (cases_eq (t.basic i) (z0_of n))
     where
       o : At (pivots n M b) (labels n) (beginning n M b r fr) t c (map is_basic ss)

@@ -1,27 +1,16 @@
--- solutions and directions that a tableau shows, and what is basic
+-- the basic solution and the directions that a tableau shows, and what is basic
 use Rattle.std.proofs.Common.{ℕ, zero, suc, ◌<◌, ◌≡◌, ◌≢◌, inl, inr, eqb, ◌||◌, Bool, true, false, cond, [], ◌∷◌, refl, sym, ap, ap₂, ◌∙◌, arith, tests, true≢false, eq-or-lt_of_le, le_of_suc-le-suc}
 use Rattle.rational.specs.Rational.{ℚ, ◌+ℚ◌, ◌*ℚ◌, neg_ℚ, zero_ℚ, one_ℚ}
 use Rattle.rational.specs.Sum.{sum_to}
 use Rattle.rational.proofs.RationalRing.{rational_ring}
 use Rattle.rational.proofs.Ring.{ring, num, ◌:+◌, ◌:*◌, :neg, A, B, C, D}
 use Rattle.rational.proofs.SumLemmas.{sum_to-same, sum_to-add, sum_to-zeros}
-use Rattle.linear_systems.specs.Tableau.{Tableau, left, Solves}
-use Rattle.linear_systems.specs.Rows.{unit_at, HasDistinctVariables}
+use Rattle.linear_systems.specs.Tableau.{Tableau, left}
+use Rattle.linear_systems.specs.Rows.{basic_solution, unit_at, HasDistinctVariables}
 use Rattle.linear_systems.proofs.PivotLemmas.{eqb_apart}
 use Rattle.linear_systems.proofs.RowLemmas.{unit_self, unit_other, sum_single}
-use Rattle.lemke_pivot.specs.Values.{spread, value, direction, any_to, is_basic}
-
-cond_no : (v u : ℕ) (a : ℚ) → u ≢ v → cond (eqb u v) a zero_ℚ ≡ zero_ℚ
-cond_no v u a h = grind (arith, tests)
-
-cond_yes : (v : ℕ) (a : ℚ) → cond (eqb v v) a zero_ℚ ≡ a
-cond_yes v a = grind (arith, tests)
-
-spread_at : (n : ℕ) (g : ℕ → ℕ) (f : ℕ → ℚ) (i : ℕ) → ((j k : ℕ) → j < n → k < n → g j ≡ g k → j ≡ k) → i < n → spread n g f (g i) ≡ f i
-spread_at n g f i once h = sum_single n _ i h (λ j k ne. cond_no (g i) (g j) (f j) (λ e. ne (once j i k h e))) ∙ cond_yes (g i) (f i)
-
-spread_none : (n : ℕ) (g : ℕ → ℕ) (f : ℕ → ℚ) (v : ℕ) → ((i : ℕ) → i < n → g i ≢ v) → spread n g f v ≡ zero_ℚ
-spread_none n g f v none = sum_to-zeros n _ (λ i h. cond_no v (g i) (f i) (none i h))
+use Rattle.linear_systems.proofs.SolutionLemmas.{basic_sum, sum_elsewhere, solution_elsewhere}
+use Rattle.lemke_pivot.specs.Values.{direction, any_to, is_basic}
 
 -- ---- what is basic
 any_yes : (n i : ℕ) (f : ℕ → Bool) → i < n → f i ≡ true → any_to n f ≡ true
@@ -84,11 +73,8 @@ module _ (t : Tableau) (N : HasDistinctVariables t) where
   pub nonbasic_no : (j : ℕ) → j < t.width → is_basic t (t.nonbasic j) ≡ false
   nonbasic_no j h = basic_no t (t.nonbasic j) (λ i k. N.apart i j k h)
 
-  pub value_basic : (i : ℕ) → i < t.rows → value t (t.basic i) ≡ t.right i
-  value_basic i h = spread_at t.rows t.basic t.right i N.basic_once h
-
-  pub value_out : (v : ℕ) → is_basic t v ≡ false → value t v ≡ zero_ℚ
-  value_out v e = spread_none t.rows t.basic t.right v (λ i h q. true≢false (sym (ap (is_basic t) (sym q) ∙ basic_yes t i h) ∙ e))
+  pub value_out : (v : ℕ) → is_basic t v ≡ false → basic_solution t v ≡ zero_ℚ
+  value_out v e = solution_elsewhere t v (λ i h q. true≢false (sym (ap (is_basic t) (sym q) ∙ basic_yes t i h) ∙ e))
 
   pub left_out : (x : ℕ → ℚ) (i : ℕ) → ((j : ℕ) → j < t.width → x (t.nonbasic j) ≡ zero_ℚ) → left t x i ≡ x (t.basic i)
   unfolding left
@@ -98,15 +84,11 @@ module _ (t : Tableau) (N : HasDistinctVariables t) where
   unfolding left
   left_one x i c h z = ap (λ a. x (t.basic i) +ℚ a) (sum_single t.width _ c h (λ j k ne. ap (λ a. t.cell i j *ℚ a) (z j k ne) ∙ ring rational_ring (t.cell i j ∷ []) (A :* num 0) (num 0) refl))
 
-  -- the values are a solution
-  pub value_solves : Solves t (value t)
-  value_solves i h = left_out (value t) i (λ j k. value_out (t.nonbasic j) (nonbasic_no j k)) ∙ value_basic i h
-
   pub direction_basic : (c i : ℕ) → c < t.width → i < t.rows → direction t c (t.basic i) ≡ neg_ℚ (t.cell i c)
-  direction_basic c i h k = ap₂ (λ a b. a +ℚ b) (spread_at t.rows t.basic (λ i. neg_ℚ (t.cell i c)) i N.basic_once k) (unit_other (t.nonbasic c) (t.basic i) (N.apart i c k h)) ∙ ring rational_ring (t.cell i c ∷ []) (:neg A :+ num 0) (:neg A) refl
+  direction_basic c i h k = ap₂ (λ a b. a +ℚ b) (basic_sum t (λ i. neg_ℚ (t.cell i c)) i N k) (unit_other (t.nonbasic c) (t.basic i) (N.apart i c k h)) ∙ ring rational_ring (t.cell i c ∷ []) (:neg A :+ num 0) (:neg A) refl
 
   pub direction_out : (c v : ℕ) → is_basic t v ≡ false → direction t c v ≡ unit_at (t.nonbasic c) v
-  direction_out c v e = ap (λ a. a +ℚ unit_at (t.nonbasic c) v) (spread_none t.rows t.basic (λ i. neg_ℚ (t.cell i c)) v (λ i h q. true≢false (sym (ap (is_basic t) (sym q) ∙ basic_yes t i h) ∙ e))) ∙ ring rational_ring (unit_at (t.nonbasic c) v ∷ []) (num 0 :+ A) A refl
+  direction_out c v e = ap (λ a. a +ℚ unit_at (t.nonbasic c) v) (sum_elsewhere t (λ i. neg_ℚ (t.cell i c)) v (λ i h q. true≢false (sym (ap (is_basic t) (sym q) ∙ basic_yes t i h) ∙ e))) ∙ ring rational_ring (unit_at (t.nonbasic c) v ∷ []) (num 0 :+ A) A refl
 
   pub direction_self : (c : ℕ) → c < t.width → direction t c (t.nonbasic c) ≡ one_ℚ
   direction_self c h = direction_out c (t.nonbasic c) (nonbasic_no c h) ∙ unit_self (t.nonbasic c)

@@ -1,12 +1,12 @@
 -- The problem of a sequence form in stages, and why there is none.
-use Rattle.std.specs.Prelude.{ℕ, ◌≡◌, ◌<◌, List, [], ◌∷◌, Ok, Err}
-use Rattle.answers.specs.Answers.{Answer, ◌>>◌, IsSingle, refuse_where, refused_by}
+use Rattle.std.specs.Prelude.{ℕ, ◌<◌, List, [], ◌∷◌, Ok}
+use Rattle.answers.specs.Answers.{Answer, ◌>>=◌, ◌>>◌, only, IsSingle, refuse_where, refused_by}
 use Rattle.rational.specs.Rational.{ℚ, ◌-ℚ◌, ◌*ℚ◌}
 use Rattle.frac128.specs.Steps.{unfit}
 use Rattle.frac128.specs.declared.steps.Op.TheVariants.{Sub, Mul}
-use Rattle.lex_tableau.specs.Rows.{IsTableau}
-use Rattle.lex_tableau.specs.Starts.{Parts, IsStartOf, StartFits}
-use Rattle.lex_tableau.specs.StartStops.{IsStartStop}
+use Rattle.lex_tableau.specs.Rows.{Numbers}
+use Rattle.lex_tableau.specs.Starts.{Parts}
+use Rattle.lex_tableau.specs.StartStops.{start_in}
 use Rattle.lex_tableau.specs.declared.tableau.StartStop.{StartStop}
 use Rattle.lex_tableau.specs.declared.tableau.StartStop.TheVariants as starts
 use Rattle.game_core.specs.declared.too_large.TooLarge.{TooLarge}
@@ -75,37 +75,30 @@ IsSystemOf f s =
     IsSystemFor f.first f.second (costs (form f) 0 f.greatest_one) (costs (form f) 1 f.greatest_two)
     s
 
--- a problem with these sides, whose start is that of this system
-pub record IsStarted (f : FormData) (s : Parts) (p : Problem) : Type 0 where
-  pub first : p.first ≡ f.first
-  pub second : p.second ≡ f.second
-  pub start : IsStartOf s p.tableau
-  pub valid : IsTableau p.tableau
-  pub fits : StartFits s
+-- the problem of a form's sides with this start
+abbrev pub with_start : FormData → Numbers → Problem
+with_start f n = record { first = f.first; second = f.second; tableau = n }
 
--- the start of the system, all steps of which fit; or the first step that does not, with its row
-abbrev pub started : FormData → Parts → Answer StartStop Problem
-started f s (Ok p) = IsStarted f s p
-started f s (Err (starts.Unfit row unfit)) = IsStartStop s (starts.Unfit row unfit)
-started f s (Err starts.Memory) = ⊥
-
-abbrev pub start_at : FormData → Answer StartStop Problem
-start_at f answer = (s : Parts) × (IsSystemOf f s × started f s answer)
+-- the problem with the start of its system, all steps of which fit; or the first step that does
+-- not, with its row
+abbrev pub form_start : FormData → Answer StartStop Problem
+form_start f answer =
+    (s : Parts) × (IsSystemOf f s × (start_in s >>= (λ n. only (with_start f n))) answer)
 
 -- a stop of the start as one of the problem
 abbrev pub told_start : StartStop → LcpStop
 told_start (starts.Unfit row unfit) = stops.Start row unfit
 told_start starts.Memory = stops.Memory
 
-abbrev pub start_in : FormData → Answer LcpStop Problem
-start_in f = refused_by told_start (start_at f)
+abbrev pub form_start_in : FormData → Answer LcpStop Problem
+form_start_in f = refused_by told_start (form_start f)
 
 -- ---- all
 -- The problem of a sequence form within the limit, whose steps all fit; or why there is none.
 abbrev pub problem_in : FormData → Answer LcpStop Problem
 problem_in f =
     refuse_where (512 < form_size f) (stops.TooLarge (too_many_rows f))
-    >> (costs_in f.greatest_one f.greatest_two f.cells >> start_in f)
+    >> (costs_in f.greatest_one f.greatest_two f.cells >> form_start_in f)
 
 -- A form has one problem, or one reason why it has none.
 abbrev pub ProblemsAreSingle : Type 0

@@ -2,14 +2,13 @@
 use Rattle.std.specs.Prelude.{ℕ, suc, ◌+◌, ◌<◌, ◌≤◌, ◌≡◌, get_or}
 use Rattle.rational.specs.Rational.{ℚ, ◌≤ℚ◌, ◌<ℚ◌}
 use Rattle.linear_systems.specs.Tableau.{Tableau}
-use Rattle.linear_systems.specs.Rows.{Alike}
+use Rattle.linear_systems.specs.Rows.{basic_solution, Alike}
 use Rattle.sequence_forms.specs.Forms.{SequenceForm}
 use Rattle.sequence_forms.specs.Prices.{costs}
 use Rattle.sequence_forms.specs.Sides.{Side, sequences}
 use Rattle.lemke_pivot.specs.ProblemLaws.{CostsAreNotNegative}
 use Rattle.lemke_pivot.specs.ProblemPaths.{start, w_of, z_of}
 use Rattle.lemke_pivot.specs.Problems.{costs_of, matrix, right_sides, size}
-use Rattle.lemke_pivot.specs.Values.{value}
 use Rattle.lex_tableau.specs.Rows.{Numbers, IsTableau, tableau}
 use Rattle.lex_tableau.specs.Starts.{Parts, system_of}
 use Rattle.sequence_data.specs.Data.{SideData, IsSideData, side_of}
@@ -38,7 +37,7 @@ start_of rows columns one two =
 -- ---- what stands in the tableau
 -- the values of z: both plans, and then the prices
 abbrev pub z_values : Problem → ℕ → ℚ
-z_values p i = value (tableau p.tableau) (z_of (size_of p) i)
+z_values p i = basic_solution (tableau p.tableau) (z_of (size_of p) i)
 
 abbrev pub plan_one : Problem → ℕ → ℚ
 plan_one p q = z_values p q

@@ -1,13 +1,12 @@
 -- The path over whole numbers: each pivot's steps fit, and it ends where z0 is 0 or at the first
 -- step that does not fit.
-use Rattle.std.specs.Prelude.{ℕ, suc, ◌<◌, ◌≤◌, ◌≡◌, ◌≢◌, ◌-◌, ◌^◌, ◌⊎◌, ltb, cond, List, [], ◌∷◌, length, get_or}
+use Rattle.std.specs.Prelude.{ℕ, suc, ◌<◌, ◌≤◌, ◌≡◌, ◌≢◌, ◌⊎◌, List, [], ◌∷◌, length, get_or}
 use Rattle.rational.specs.Rational.{ℚ, zero_ℚ}
-use Rattle.linear_systems.specs.Rows.{IsLexicographicRow, Alike}
+use Rattle.linear_systems.specs.Rows.{basic_solution, IsLexicographicRow, Alike}
 use Rattle.frac128.specs.declared.steps.Unfit.{Unfit}
 use Rattle.lex_tableau.specs.Rows.{Numbers, tableau, IsTableau, IsPivotOf}
 use Rattle.whole_rows.specs.Steps.{AllFit, IsFirstUnfit}
-use Rattle.lex_tableau.specs.Pivots.{steps_of_pivot}
-use Rattle.lemke_pivot.specs.Values.{value}
+use Rattle.lex_tableau.specs.Pivots.{pivot_number, steps_of_pivot}
 use Rattle.lemke_pivot.specs.Problems.{IsCopositive}
 use Rattle.lemke_pivot.specs.ProblemPaths.{w_of, z_of, z0_of, complement, start, IsFirstRow, Replaces}
 
@@ -31,23 +30,20 @@ pub record ReplacesExactly (n : ℕ) (s : Numbers) (c l : ℕ) (t : Numbers) : T
 abbrev pub ExactPathTo : Numbers → ℕ → ℕ → List Numbers → Numbers → ℕ → Type 0
 ExactPathTo m n r [] t c = IsExactPivot m r n t × (c ≡ z_of n r)
 ExactPathTo m n r (s ∷ ss) t c = (d : ℕ) × (l : ℕ) × ExactPathTo m n r ss s d
-    × (value (tableau s) (z0_of n) ≢ zero_ℚ) × ReplacesExactly n s d l t × (c ≡ complement n l)
+    × (basic_solution (tableau s) (z0_of n) ≢ zero_ℚ) × ReplacesExactly n s d l t
+    × (c ≡ complement n l)
 
 -- the path ends at t, where the value of z0 is 0
 abbrev pub EndsSolved : Numbers → ℕ → ℕ → Numbers → Type 0
 EndsSolved m n r t =
     (earlier : List Numbers) × (c : ℕ) × ExactPathTo m n r earlier t c
-    × (value (tableau t) (z0_of n) ≡ zero_ℚ) × IsTableau t
-
--- the greatest number of steps stands for all greater ones too
-abbrev pub saturated : ℕ → ℕ
-saturated k = cond (ltb k (2 ^ 64)) k (2 ^ 64 - 1)
+    × (basic_solution (tableau t) (z0_of n) ≡ zero_ℚ) × IsTableau t
 
 -- the path has come to t, where the next pivot has a step that does not fit, and e is the first
 pub record StopsAt (m : Numbers) (n r step entering : ℕ) (e : Unfit)
     (earlier : List Numbers) (t : Numbers) : Type 0 where
   pub path : ExactPathTo m n r earlier t entering
-  pub goes_on : value (tableau t) (z0_of n) ≢ zero_ℚ
+  pub goes_on : basic_solution (tableau t) (z0_of n) ≢ zero_ℚ
   pub valid : IsTableau t
   pub col : ℕ
   pub row : ℕ
@@ -55,7 +51,7 @@ pub record StopsAt (m : Numbers) (n r step entering : ℕ) (e : Unfit)
   pub entering_is : (tableau t).nonbasic col ≡ entering
   pub chosen : IsLexicographicRow n n w_of (tableau t) col row
   pub unfit : IsFirstUnfit (steps_of_pivot t row col) e
-  pub number : step ≡ saturated (suc (suc (length earlier)))
+  pub number : step ≡ pivot_number (suc (suc (length earlier)))
 
 -- A step that does not fit ends the path: in the first pivot, by which z0 enters, or in a later
 -- one. Pivots count from 1.

@@ -2,13 +2,13 @@
 use Rattle.std.specs.Prelude.{ℕ, suc, ◌<◌, ◌≤◌, ◌≡◌, ◌≢◌, ◌^◌, ◌+◌, List, ◌∷◌, length, map}
 use Rattle.rational.specs.Rational.{ℚ, ◌+ℚ◌, zero_ℚ, ◌≤ℚ◌, ◌<ℚ◌}
 use Rattle.linear_systems.specs.Tableau.{Tableau}
-use Rattle.linear_systems.specs.Rows.{IsLexicographicRow, Alike}
+use Rattle.linear_systems.specs.Rows.{basic_solution, IsLexicographicRow, Alike}
 use Rattle.sequence_forms.specs.Sides.{Side}
 use Rattle.sequence_forms.specs.Forms.{SequenceForm}
 use Rattle.sequence_forms.specs.Prices.{costs}
 use Rattle.sequence_forms.specs.Matrices.{SolvesProblem}
 use Rattle.sequence_forms.specs.PriceLaws.{HasFlow}
-use Rattle.lemke_pivot.specs.Values.{value, is_basic}
+use Rattle.lemke_pivot.specs.Values.{is_basic}
 use Rattle.lemke_pivot.specs.Walks.{Distinct}
 use Rattle.lemke_pivot.specs.Problems.{Costs, costs_of, size, matrix, right_sides, at_y, at_p, at_p', at_q, at_q', IsSolution, IsRay}
 use Rattle.lemke_pivot.specs.ProblemPaths.{PathTo, IsFirstRow, SolvesAt, IsRayAt, w_of, z0_of}
@@ -35,13 +35,14 @@ PathsAreUnique =
 abbrev pub PathsEndSolved : Type 0
 PathsEndSolved =
     (n : ℕ) (M : ℕ → ℕ → ℚ) (b : ℕ → ℚ) (r : ℕ) (ss : List Tableau) (t : Tableau) (c : ℕ)
-    → IsFirstRow n b r → PathTo n M b r ss t c → value t (z0_of n) ≡ zero_ℚ → SolvesAt n M b t
+    → IsFirstRow n b r → PathTo n M b r ss t c → basic_solution t (z0_of n) ≡ zero_ℚ
+    → SolvesAt n M b t
 
 -- where it is not 0 and no row leaves, there is a ray
 abbrev pub PathsEndInRays : Type 0
 PathsEndInRays =
     (n : ℕ) (M : ℕ → ℕ → ℚ) (b : ℕ → ℚ) (r : ℕ) (ss : List Tableau) (t : Tableau) (c col : ℕ)
-    → IsFirstRow n b r → PathTo n M b r ss t c → value t (z0_of n) ≢ zero_ℚ → col < t.width
+    → IsFirstRow n b r → PathTo n M b r ss t c → basic_solution t (z0_of n) ≢ zero_ℚ → col < t.width
     → t.nonbasic col ≡ c → ((i : ℕ) → i < n → t.cell i col ≤ℚ zero_ℚ) → IsRayAt n M b t col
 
 -- z0 has a row to enter at, where a right side is negative
@@ -68,7 +69,7 @@ AlwaysALeavingRow =
     (c col : ℕ) → let s = costs_of rows columns one two in
     HasFlow rows → HasFlow columns → CostsAreNotNegative s
     → IsFirstRow (size s) (right_sides s) r → PathTo (size s) (matrix s) (right_sides s) r ss t c
-    → value t (z0_of (size s)) ≢ zero_ℚ → col < t.width → t.nonbasic col ≡ c
+    → basic_solution t (z0_of (size s)) ≢ zero_ℚ → col < t.width → t.nonbasic col ≡ c
     → (row : ℕ) × IsLexicographicRow (size s) (size s) w_of t col row
 
 -- a row of least right side has a negative one

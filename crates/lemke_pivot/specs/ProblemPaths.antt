@@ -5,10 +5,10 @@ use Rattle.std.specs.Prelude.{ℕ, suc, ◌<◌, ◌≡◌, ◌≢◌, ◌+◌, 
 use Rattle.rational.specs.Rational.{ℚ, neg_ℚ, zero_ℚ, one_ℚ, ◌≤ℚ◌, ◌<ℚ◌}
 use Rattle.linear_systems.specs.Tableau.{Tableau, pivot}
 use Rattle.linear_systems.specs.Lex.{IsLexPositive}
-use Rattle.linear_systems.specs.Rows.{key, IsLexicographicRow, Alike}
+use Rattle.linear_systems.specs.Rows.{basic_solution, key, IsLexicographicRow, Alike}
 use Rattle.linear_systems.specs.Reached.{IsReached}
 use Rattle.lemke_pivot.specs.Bases.{swap}
-use Rattle.lemke_pivot.specs.Values.{value, direction}
+use Rattle.lemke_pivot.specs.Values.{direction}
 use Rattle.lemke_pivot.specs.Problems.{IsSolution, IsRay}
 
 abbrev pub w_of : ℕ → ℕ
@@ -68,18 +68,19 @@ pub record Replaces (n : ℕ) (t : Tableau) (c l : ℕ) (t' : Tableau) : Type 0 
 abbrev pub PathTo : ℕ → (ℕ → ℕ → ℚ) → (ℕ → ℚ) → ℕ → List Tableau → Tableau → ℕ → Type 0
 PathTo n M b r [] t c = Alike (pivot (start n M b) r n) t × (c ≡ z_of n r)
 PathTo n M b r (s ∷ ss) t c = (d : ℕ) × (l : ℕ) × PathTo n M b r ss s d
-    × (value s (z0_of n) ≢ zero_ℚ) × Replaces n s d l t × (c ≡ complement n l)
+    × (basic_solution s (z0_of n) ≢ zero_ℚ) × Replaces n s d l t × (c ≡ complement n l)
 
--- the tableau's own solution solves the problem
+-- the basic solution of the tableau solves the problem
 abbrev pub SolvesAt : ℕ → (ℕ → ℕ → ℚ) → (ℕ → ℚ) → Tableau → Type 0
-SolvesAt n M b t = IsSolution n M b (λ i. value t (w_of i)) (λ i. value t (z_of n i))
+SolvesAt n M b t =
+    IsSolution n M b (λ i. basic_solution t (w_of i)) (λ i. basic_solution t (z_of n i))
 
 -- the point of a tableau and the direction of a column are a ray
 abbrev pub IsRayAt : ℕ → (ℕ → ℕ → ℚ) → (ℕ → ℚ) → Tableau → ℕ → Type 0
 IsRayAt n M b t col =
-    IsRay n M b (λ i. value t (w_of i)) (λ i. value t (z_of n i))
+    IsRay n M b (λ i. basic_solution t (w_of i)) (λ i. basic_solution t (z_of n i))
     (λ i. direction t col (w_of i)) (λ i. direction t col (z_of n i))
-    (value t (z0_of n)) (direction t col (z0_of n))
+    (basic_solution t (z0_of n)) (direction t col (z0_of n))
 
 -- all w but that of row s, and z0
 abbrev pub basis_without : ℕ → ℕ → ℕ → Bool

@@ -2,7 +2,7 @@
 ghost use Rattle.std.specs.Prelude.{◌≡◌, ◌≤◌, map, IfOk};
 ghost use Rattle.answers.specs.Answers.{Gives};
 ghost use Rattle.lemke_pivot.specs.declared.stop.LcpStop.TheVariants as stops;
-ghost use Rattle.lemke_pivot.specs.FormProblems.{IsSystemOf, cost_one, cost_two, form_size, problem_in, start_in};
+ghost use Rattle.lemke_pivot.specs.FormProblems.{IsSystemOf, cost_one, cost_two, form_size, problem_in, form_start_in};
 
 use crate::costs::costs;
 use crate::lcp::{Lcp, row_count};
@@ -52,7 +52,7 @@ fn system_of_form(
 fn started(alloc: Global, form: &SeqForm, system: &System) -> Result<Lcp, LcpStop>
     requires few { form_size form.now ≤ 512 }
     requires system { IsSystemOf form.now system.now }
-    ensures { Gives stops.Memory (start_in form.now) result }
+    ensures { Gives stops.Memory (form_start_in form.now) result }
 {
     let first = copied(alloc, form.first())?;
     let second = copied(alloc, form.second())?;

@@ -1,8 +1,9 @@
 // The path over a tableau that is pivoted in place.
-ghost use Rattle.std.specs.Prelude.{◌≡◌, ◌≢◌, ◌+◌, ◌<◌, ◌≤◌, ℕ, suc, length, IfErr, OnOk};
+ghost use Rattle.std.specs.Prelude.{◌≡◌, ◌≢◌, ◌+◌, ◌<◌, ◌≤◌, suc, length, IfErr, OnOk};
 ghost use Rattle.lex_tableau.specs.Rows.{tableau};
 ghost use Rattle.lemke_pivot.specs.ProblemPaths.{complement};
-ghost use Rattle.lemke_pivot.specs.Paths.{EndsSolved, EndsUnfit, IsPathStart, IsNonbasic, saturated};
+ghost use Rattle.lex_tableau.specs.Pivots.{pivot_number};
+ghost use Rattle.lemke_pivot.specs.Paths.{EndsSolved, EndsUnfit, IsPathStart, IsNonbasic};
 
 use frac128::Unfit;
 use lex_tableau::{PivotCount, Tableau, Work};
@@ -34,7 +35,7 @@ fn complement_of(size: usize, variable: u32) -> u32
 
 // The number of the next pivot.
 fn next_step(step: u64) -> u64
-    ensures { (k : ℕ) → step ≡ saturated k → result ≡ saturated (suc k) }
+    ensures { result ≡ pivot_number (suc step) }
 {
     if step < u64::MAX { step + 1 } else { step }
 }

@@ -1,5 +1,5 @@
 -- Entries and numbered variables, one more at a time
-use Rattle.std.proofs.Common.{ℕ, suc, ◌<◌, ◌≤◌, ◌≡◌, ◌+◌, ◌*◌, List, [], get_or, sym, ap₂, ◌∙◌, arith, tests}
+use Rattle.std.proofs.Common.{ℕ, suc, ◌<◌, ◌≤◌, ◌≡◌, ◌+◌, ◌*◌, List, get_or, sym, ap₂, ◌∙◌, arith, tests}
 use Rattle.std.proofs.lemmas.Nat.{div-mul-add, mod-mul-add}
 use Rattle.std.proofs.Math.Nat.{mul-le-mul_right}
 use Rattle.rational.specs.Rational.{ℚ, zero_ℚ}

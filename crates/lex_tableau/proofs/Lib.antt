@@ -1,4 +1,5 @@
 pub mod EntryLemmas
+pub mod PivotNumberLemmas
 pub mod RatioRowLemmas
 pub mod SignLemmas
 pub mod StartLemmas

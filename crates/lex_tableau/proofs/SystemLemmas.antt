@@ -1,12 +1,18 @@
 -- A system is determined by its fractions, and has one start.
-use Rattle.std.proofs.Common.{ℕ, ◌≡◌, ◌<◌, ◌+◌, ◌*◌, ◌/◌, ◌%◌, inl, inr, ◌≤◌, length, get_or, sym, ap, ap₂, ◌∙◌, subst, arith, div-add-mod', eq-or-lt_of_le}
+use Rattle.std.proofs.Common.{ℕ, Ok, Err, ◌≡◌, ◌<◌, ◌+◌, ◌*◌, ◌/◌, ◌%◌, inl, inr, ◌≤◌, length, get_or, sym, ap, ap₂, ◌∙◌, subst, arith, div-add-mod', eq-or-lt_of_le}
 use Rattle.std.proofs.lemmas.Grind.{same_number_lists}
 use Rattle.std.proofs.lemmas.List.{ext_get_or}
 use native.Mathlib.Nat.{div-lt_iff_lt-mul, mod-lt}
+use Rattle.answers.specs.Answers.{◌>>=◌, only, IsSingle}
+use Rattle.answers.proofs.AnswerLemmas.{bind-single, only-single}
 use Rattle.rational.specs.Rational.{zero_ℚ}
 use Rattle.linear_systems.specs.Rows.{Alike}
 use Rattle.lex_tableau.specs.Rows.{Numbers, tableau, IsTableau}
 use Rattle.lex_tableau.specs.Starts.{Parts, system_of, IsSystem, IsStartOf, cells_from}
+use Rattle.lex_tableau.specs.StartStops.{start_in}
+use Rattle.lex_tableau.specs.declared.tableau.StartStop.{StartStop}
+use Rattle.lex_tableau.specs.declared.tableau.StartStop.TheVariants.{Unfit, Memory}
+use Rattle.whole_rows.proofs.FirstUnfitLemmas.{no_unfit_row, one_unfit_row}
 use Rattle.lex_tableau.proofs.TableauLemmas.{alike_both, determined}
 
 parts_same : (a b : Parts) → a.basics ≡ b.basics → a.nonbasics ≡ b.nonbasics → a.cells ≡ b.cells → a.rated ≡ b.rated → a ≡ b
@@ -47,3 +53,19 @@ systems_determined a b ha hb l r = parts_same a b basics nonbasics (ext_get_or z
 pub starts_same : (s : Parts) (m n : Numbers) → IsTableau m → IsTableau n → IsStartOf s m → IsStartOf s n → m ≡ n
 starts_same s m n hm hn p q =
     determined m n hm hn (p.starts ∙ sym q.starts) (p.rated ∙ sym q.rated) (alike_both (system_of s) (tableau m) (tableau n) p.fractions q.fractions)
+
+-- a system has one start, or one step that is the first that does not fit
+pub start_in-single : (s : Parts) → IsSingle (start_in s)
+start_in-single s (Ok m) (Ok n) h g = ap Ok (starts_same s m n h.valid g.valid h.start g.start)
+start_in-single s (Ok n) (Err (Unfit row unfit)) h g = absurd (no_unfit_row _ _ s.cells row unfit h.fits g)
+start_in-single s (Err (Unfit row unfit)) (Ok n) h g = absurd (no_unfit_row _ _ s.cells row unfit g.fits h)
+start_in-single s (Err (Unfit row unfit)) (Err (Unfit other next)) h g =
+    (let same = one_unfit_row _ _ s.cells row other unfit next h g in λ i. Err (Unfit (same.0 i) (same.1 i)))
+start_in-single s (Err Memory) other h g = absurd h
+start_in-single s one (Err Memory) h g = absurd g
+
+-- the start of the one system for which a condition holds, as the value that it stands for
+pub start_for-single : {Y : Type 0} (P : Parts → Type 0) (view : Numbers → Y) → ((s t : Parts) → P s → P t → s ≡ t) → IsSingle {E = StartStop} {Y = Y} (λ answer. (s : Parts) × (P s × (start_in s >>= (λ n. only (view n))) answer))
+start_for-single P view same one other h g =
+    bind-single (start_in g.0) (λ n. only (view n)) (start_in-single g.0) (λ n _. only-single (view n)) one other
+    (subst (λ s. (start_in s >>= (λ n. only (view n))) one) (same h.0 g.0 h.1.0 g.1.0) h.1.1) g.1.1

@@ -4,7 +4,8 @@ use Rattle.std.proofs.lemmas.Grind.{same_number_lists}
 use Rattle.std.proofs.lemmas.List.{same_lists, get_or_default}
 use native.Mathlib.Nat.{div-lt_iff_lt-mul, mod-lt}
 use Rattle.linear_systems.specs.Tableau.{Tableau}
-use Rattle.linear_systems.specs.Rows.{Alike}
+use Rattle.linear_systems.specs.Rows.{basic_solution, Alike}
+use Rattle.linear_systems.proofs.SolutionLemmas.{solution_basic}
 use Rattle.whole_rows.specs.Rows.{from_place, fraction, IsRow}
 use Rattle.lex_tableau.specs.Rows.{Numbers, tableau, IsTableau}
 use Rattle.whole_rows.proofs.DeterminedRowLemmas.{rows_determined}
@@ -82,3 +83,7 @@ determined a b ha hb s r l = numbers_same a b s basics nonbasics r numbers
 
     numbers : a.numbers ≡ b.numbers
     numbers = same_lists a.numbers b.numbers lengths (λ k d h. get_or_default a.numbers k d (pos 0) h ∙ at k h ∙ get_or_default b.numbers k (pos 0) d (let e : length a.numbers ≡ length b.numbers = lengths in omega arith))
+
+-- ---- the value of a variable
+pub value_found : (n : Numbers) (i v : ℕ) → IsTableau n → i < length n.basics → get_or n.basics i 0 ≡ v → (tableau n).right i ≡ basic_solution (tableau n) v
+value_found n i v t h e = sym (solution_basic (tableau n) i t.reached.reached.proper h) ∙ ap (basic_solution (tableau n)) e

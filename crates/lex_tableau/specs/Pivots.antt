@@ -1,5 +1,5 @@
--- The steps of the pivot of a tableau
-use Rattle.std.specs.Prelude.{ℕ, ℤ, ◌+◌, length, List}
+-- The steps of the pivot of a tableau, and its number
+use Rattle.std.specs.Prelude.{ℕ, ℤ, ◌+◌, ◌-◌, ◌^◌, min, length, List}
 use Rattle.whole_rows.specs.Steps.{Step}
 use Rattle.whole_rows.specs.Pivots.{pivot_steps}
 use Rattle.whole_rows.specs.Lists.{IsPivotAt, AreOthersPivoted}
@@ -18,3 +18,7 @@ HasPivotRow n row col new = IsPivotAt n.numbers (size_of n) row (col + 1) new
 abbrev pub HasOtherRows : Numbers → ℕ → ℕ → List ℤ → Type 0
 HasOtherRows n row col new =
     AreOthersPivoted n.numbers (size_of n) row (col + 1) (length n.basics) new
+
+-- the number of a pivot, counted from 1, as it is told: 2 ^ 64 - 1 stands for every later one too
+abbrev pub pivot_number : ℕ → ℕ
+pivot_number k = min k (2 ^ 64 - 1)

@@ -1,6 +1,6 @@
 -- Tableaux of whole numbers, and the tableaux of fractions that they stand for
-use Rattle.std.specs.Prelude.{ℕ, ℤ, ◌+◌, ◌*◌, ◌<◌, ◌≤◌, ◌≡◌, ◌≢◌, ◌↔◌, List, length, get_or, slice_set}
-use Rattle.rational.specs.Rational.{ℚ, zero_ℚ}
+use Rattle.std.specs.Prelude.{ℕ, ℤ, ◌+◌, ◌*◌, ◌<◌, ◌≤◌, ◌≡◌, ◌↔◌, List, length, get_or, slice_set}
+use Rattle.rational.specs.Rational.{ℚ}
 use Rattle.linear_systems.specs.Tableau.{Tableau, Solves, pivot}
 use Rattle.linear_systems.specs.Rows.{Alike}
 use Rattle.linear_systems.specs.Reached.{IsStart, IsReached}
@@ -65,12 +65,6 @@ pub record IsTableau (n : Numbers) : Type 0 where
   pub shape : length n.numbers ≡ length n.basics * (length n.nonbasics + 2)
   pub rows : (i : ℕ) → i < length n.basics → IsRow (length n.nonbasics + 2) (row_of n i)
   pub reached : IsReachedFrom n.rated n.starts (tableau n)
-
--- the value of a variable in the tableau's own solution: the right side of its row, and 0 where it
--- is not basic
-pub record IsValueOf (t : Tableau) (v : ℕ) (q : ℚ) : Type 0 where
-  pub basic : (i : ℕ) → i < t.rows → t.basic i ≡ v → q ≡ t.right i
-  pub nonbasic : ((i : ℕ) → i < t.rows → t.basic i ≢ v) → q ≡ zero_ℚ
 
 -- a tableau whose numbers are others, and whose basic variable of a row and nonbasic variable of a
 -- column have changed places

@@ -1,10 +1,11 @@
 // Tableaux of whole numbers.
 ghost use Rattle.std.specs.Prelude.{◌≡◌, ◌≢◌, ◌+◌, ◌<◌, ◌<ℤ◌, pos, length, IfOk, IfErr, OnOk};
 ghost use Rattle.rational.specs.Rational.{zero_ℚ};
+ghost use Rattle.linear_systems.specs.Rows.{basic_solution};
 ghost use Rattle.lex_tableau.specs.PivotStops.{IsPivotStop};
 ghost use Rattle.lex_tableau.specs.Pivots.{HasOtherRows, HasPivotRow, steps_of_pivot};
 ghost use Rattle.lex_tableau.specs.Ratio.{IsRatioRow, KeepsPositiveKeys};
-ghost use Rattle.lex_tableau.specs.Rows.{HasSolutionsOf, IsPivotOf, IsTableau, IsValueOf, tableau, with_variables_exchanged};
+ghost use Rattle.lex_tableau.specs.Rows.{HasSolutionsOf, IsPivotOf, IsTableau, tableau, with_variables_exchanged};
 ghost use Rattle.lex_tableau.specs.StartStops.{IsStartStop};
 ghost use Rattle.lex_tableau.specs.Starts.{IsStartOf, StartFits};
 ghost use Rattle.whole_rows.specs.Lists.{AllPartsFit};
@@ -383,7 +384,7 @@ impl Tableau {
     /// The value of a variable where the nonbasic ones are 0: the right side of its row, and 0
     /// where it is not basic.
     pub fn value(&self, variable: u32) -> Frac
-        ensures value { IsValueOf (tableau self.now) variable result }
+        ensures value { result ≡ basic_solution (tableau self.now) variable }
         ensures valid { IsTableau self.now }
     {
         for row in 0..self.basics.len() {

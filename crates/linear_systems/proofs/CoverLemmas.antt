@@ -10,12 +10,12 @@ use Rattle.rational.proofs.Field.{le_refl, le_or_lt, le_of_lt, lt_irrefl, nonneg
 use Rattle.rational.proofs.SumLemmas.{sum_to-nonneg, sum_to-zeros, each_zero}
 use Rattle.linear_systems.specs.Tableau.{Tableau}
 use Rattle.linear_systems.specs.Lex.{IsLexLess}
-use Rattle.linear_systems.specs.Rows.{unit_at, coefficient, IsLexicographicRow}
+use Rattle.linear_systems.specs.Rows.{unit_at, basic_solution, coefficient, IsLexicographicRow}
 use Rattle.linear_systems.specs.Reached.{IsVariableOf, in_row, in_column}
 use Rattle.linear_systems.proofs.LexLemmas.{less_trans, less_apart, compare}
 use Rattle.linear_systems.proofs.LexRowLemmas.{lex_row_is}
 use Rattle.linear_systems.proofs.RowLemmas.{times_zero, coefficient_absent, coefficient_cell}
-use Rattle.linear_systems.specs.Points.{IsPoint, IsExtremePoint, AreEqualAt, basic_solution}
+use Rattle.linear_systems.specs.Points.{IsPoint, IsExtremePoint, AreEqualAt}
 use Rattle.linear_systems.specs.Reach.{IsFeasibleStart, IsLexReached, IsClosed, HasNeighbour}
 use Rattle.linear_systems.specs.ExtremePointLaws.{HasPoint}
 use Rattle.linear_systems.proofs.SmallStepLemmas.{extreme_alone}
@@ -107,9 +107,9 @@ best_solution N s t p q ex best = extreme_alone s p (basic_solution t) ex (solut
   where
     zeros : (v : ℕ) → p v ≡ zero_ℚ → IsVariableOf t v → basic_solution t v ≡ zero_ℚ
     zeros v z (in_row i hi e) =
-        subst (λ v. basic_solution t v ≡ zero_ℚ) e (solution_basic N s.rows s t i q.reached hi
+        subst (λ v. basic_solution t v ≡ zero_ℚ) e (solution_basic t i q.reached.proper hi
         ∙ sym (ring rational_ring (t.right i ∷ []) (num 1 :* A) A refl) ∙ ap (λ a. a *ℚ t.right i) (sym ((marks p).some (t.basic i) (ap p e ∙ z))) ∙ no_weight N s t (mark p) p q ex.point (marks p) best i hi)
-    zeros v z (in_column j hj e) = subst (λ v. basic_solution t v ≡ zero_ℚ) e (solution_nonbasic N s.rows s t j q.reached hj)
+    zeros v z (in_column j hj e) = subst (λ v. basic_solution t v ≡ zero_ℚ) e (solution_nonbasic t j q.reached.proper hj)
 
 -- a column without a positive entry is not negative
 idle_column : (N : ℕ) (s t : Tableau) (w : ℕ → ℚ) (c : ℕ) → IsLexReached N s t → ((v : ℕ) → zero_ℚ ≤ℚ w v) → c < t.width → ((i : ℕ) → i < s.rows → t.cell i c ≤ℚ zero_ℚ) → zero_ℚ ≤ℚ reduced N w t (unit_at (t.nonbasic c)) zero_ℚ

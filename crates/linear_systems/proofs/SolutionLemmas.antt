@@ -1,4 +1,4 @@
--- The basic solution of a reached tableau
+-- The basic solution of a tableau, and that it is an extreme point where the tableau is reached
 use Rattle.std.proofs.Common.{ℕ, pos, suc, zero, ◌<◌, ◌≤◌, ◌≡◌, ◌≢◌, refl, sym, ap, ap₂, ◌∙◌, subst, [], ◌∷◌, arith, ◌⊎◌, inl, inr, eq-or-lt_of_le, le_of_suc-le-suc}
 use Rattle.std.proofs.lemmas.Int.{ints}
 use Rattle.std.proofs.lemmas.Bool.{cases_eq}
@@ -7,13 +7,15 @@ use Rattle.rational.proofs.RationalRing.{rational_ring}
 use Rattle.rational.proofs.Ring.{ring, combine, ◌times◌is◌, num, ◌:+◌, ◌:*◌, :neg, A, B}
 use Rattle.rational.proofs.Linear.{linear, at, lit, ◌⟨+⟩◌, ◌⟨≤⟩◌, ◌⟨<⟩◌, ◌⟨=⟩◌}
 use Rattle.rational.proofs.Field.{le_refl, le_of_lt}
+use Rattle.rational.proofs.Rules.{times_one}
+use Rattle.rational.specs.Sum.{sum_to}
 use Rattle.rational.proofs.SumLemmas.{sum_to-zeros}
 use Rattle.linear_systems.specs.Tableau.{Tableau, left, Solves}
 use Rattle.linear_systems.specs.Lex.{IsLexPositive}
-use Rattle.linear_systems.specs.Rows.{row, key}
+use Rattle.linear_systems.specs.Rows.{unit_at, basic_solution, row, key, HasDistinctVariables}
 use Rattle.linear_systems.specs.Reached.{IsCombination, IsReached, IsVariableOf, in_row, in_column}
 use Rattle.linear_systems.proofs.RowLemmas.{unit_self, unit_other, sum_single, times_zero}
-use Rattle.linear_systems.specs.Points.{IsPoint, IsExtremePoint, AreEqualAt, basic_solution}
+use Rattle.linear_systems.specs.Points.{IsPoint, IsExtremePoint, AreEqualAt}
 use Rattle.linear_systems.specs.Reach.{IsLexReached}
 
 pub one_positive : zero_ℚ <ℚ one_ℚ
@@ -41,20 +43,27 @@ solves_start N s t x p h i hi =
     solution_of_row s x i (combined s.rows t (λ x y. row s x y i) x (omega arith) (p.back i hi) h)
 
 -- ---- the values of the basic solution
-pub solution_basic : (N m : ℕ) (s t : Tableau) (i : ℕ) → IsReached N m s t → i < t.rows → basic_solution t (t.basic i) ≡ t.right i
-solution_basic N m s t i p hi =
-    sum_single t.rows _ i hi (λ k hk ne. times_zero (t.right k) _ (unit_other (t.basic i) (t.basic k) (λ e. ne (p.proper.basic_once k i hk hi e)))) ∙ ap (λ a. t.right i *ℚ a) (unit_self (t.basic i)) ∙ ring rational_ring (t.right i ∷ []) (A :* num 1) A refl
+-- a sum over the rows, in which only that of the variable counts
+pub basic_sum : (t : Tableau) (f : ℕ → ℚ) (i : ℕ) → HasDistinctVariables t → i < t.rows → sum_to t.rows (λ k. f k *ℚ unit_at (t.basic i) (t.basic k)) ≡ f i
+basic_sum t f i p hi =
+    sum_single t.rows _ i hi (λ k hk ne. times_zero (f k) _ (unit_other (t.basic i) (t.basic k) (λ e. ne (p.basic_once k i hk hi e)))) ∙ times_one (f i) _ (unit_self (t.basic i))
+
+pub sum_elsewhere : (t : Tableau) (f : ℕ → ℚ) (v : ℕ) → ((i : ℕ) → i < t.rows → t.basic i ≢ v) → sum_to t.rows (λ k. f k *ℚ unit_at v (t.basic k)) ≡ zero_ℚ
+sum_elsewhere t f v h = sum_to-zeros t.rows _ (λ i hi. times_zero (f i) _ (unit_other v (t.basic i) (h i hi)))
+
+pub solution_basic : (t : Tableau) (i : ℕ) → HasDistinctVariables t → i < t.rows → basic_solution t (t.basic i) ≡ t.right i
+solution_basic t i p hi = basic_sum t t.right i p hi
 
 pub solution_elsewhere : (t : Tableau) (v : ℕ) → ((i : ℕ) → i < t.rows → t.basic i ≢ v) → basic_solution t v ≡ zero_ℚ
-solution_elsewhere t v h = sum_to-zeros t.rows _ (λ i hi. times_zero (t.right i) _ (unit_other v (t.basic i) (h i hi)))
+solution_elsewhere t v h = sum_elsewhere t t.right v h
 
-pub solution_nonbasic : (N m : ℕ) (s t : Tableau) (j : ℕ) → IsReached N m s t → j < t.width → basic_solution t (t.nonbasic j) ≡ zero_ℚ
-solution_nonbasic N m s t j p hj = solution_elsewhere t (t.nonbasic j) (λ i hi. p.proper.apart i j hi hj)
+pub solution_nonbasic : (t : Tableau) (j : ℕ) → HasDistinctVariables t → j < t.width → basic_solution t (t.nonbasic j) ≡ zero_ℚ
+solution_nonbasic t j p hj = solution_elsewhere t (t.nonbasic j) (λ i hi. p.apart i j hi hj)
 
-solution_solves : (N m : ℕ) (s t : Tableau) → IsReached N m s t → Solves t (basic_solution t)
+pub solution_solves : (t : Tableau) → HasDistinctVariables t → Solves t (basic_solution t)
 unfolding left
-solution_solves N m s t p i hi =
-    ap₂ (λ a b. a +ℚ b) (solution_basic N m s t i p hi) (sum_to-zeros t.width _ (λ j hj. times_zero (t.cell i j) _ (solution_nonbasic N m s t j p hj))) ∙ ring rational_ring (t.right i ∷ []) (A :+ num 0) A refl
+solution_solves t p i hi =
+    ap₂ (λ a b. a +ℚ b) (solution_basic t i p hi) (sum_to-zeros t.width _ (λ j hj. times_zero (t.cell i j) _ (solution_nonbasic t j p hj))) ∙ ring rational_ring (t.right i ∷ []) (A :+ num 0) A refl
 
 -- a row that is lexicographically positive begins with no negative number
 first_nonnegative : (n : ℕ) (f : ℕ → ℚ) → IsLexPositive (suc n) f → zero_ℚ ≤ℚ f 0
@@ -91,12 +100,12 @@ solution_nonnegative N s t v p = go (place t v)
     rows = p.reached.rows
 
     go : Standing t v → zero_ℚ ≤ℚ basic_solution t v
-    go (in_basis i hi e) = subst (λ v. zero_ℚ ≤ℚ basic_solution t v) e (subst (λ a. zero_ℚ ≤ℚ a) (sym (solution_basic N s.rows s t i p.reached hi)) (rights_nonnegative N s t i p (omega (arith, rows))))
-    go (outside j hj e) = subst (λ v. zero_ℚ ≤ℚ basic_solution t v) e (subst (λ a. zero_ℚ ≤ℚ a) (sym (solution_nonbasic N s.rows s t j p.reached hj)) (le_refl zero_ℚ))
+    go (in_basis i hi e) = subst (λ v. zero_ℚ ≤ℚ basic_solution t v) e (subst (λ a. zero_ℚ ≤ℚ a) (sym (solution_basic t i p.reached.proper hi)) (rights_nonnegative N s t i p (omega (arith, rows))))
+    go (outside j hj e) = subst (λ v. zero_ℚ ≤ℚ basic_solution t v) e (subst (λ a. zero_ℚ ≤ℚ a) (sym (solution_nonbasic t j p.reached.proper hj)) (le_refl zero_ℚ))
     go (absent h g) = subst (λ a. zero_ℚ ≤ℚ a) (sym (solution_elsewhere t v h)) (le_refl zero_ℚ)
 
 pub solution_point : (N : ℕ) (s t : Tableau) → IsLexReached N s t → IsPoint s (basic_solution t)
-solution_point N s t p = record { solves = solves_start N s t (basic_solution t) p.reached (solution_solves N s.rows s t p.reached); nonnegative = λ v h. solution_nonnegative N s t v p }
+solution_point N s t p = record { solves = solves_start N s t (basic_solution t) p.reached (solution_solves t p.reached.proper); nonnegative = λ v h. solution_nonnegative N s t v p }
 
 -- a solution that is 0 at the nonbasic variables is the basic one
 alone_at : (N m : ℕ) (s t : Tableau) (x : ℕ → ℚ) (i : ℕ) → IsReached N m s t → Solves t x → ((j : ℕ) → j < t.width → x (t.nonbasic j) ≡ zero_ℚ) → i < t.rows → x (t.basic i) ≡ t.right i
@@ -118,11 +127,11 @@ solution_extreme N s t p = record { point = solution_point N s t p; alone = alon
       where
         -- at the tableau's nonbasic variables both are 0
         first_zero : (j : ℕ) → j < t.width → x (t.nonbasic j) ≡ zero_ℚ
-        first_zero j hj = let u = t.nonbasic j in let hu : IsVariableOf s u = p.variables u (in_column j hj refl) in let z : basic_solution t u ≡ zero_ℚ = solution_nonbasic N s.rows s t j p.reached hj in
+        first_zero j hj = let u = t.nonbasic j in let hu : IsVariableOf s u = p.variables u (in_column j hj refl) in let z : basic_solution t u ≡ zero_ℚ = solution_nonbasic t j p.reached.proper hj in
             two_zeros (x u) (y u) (hx.nonnegative u hu) (hy.nonnegative u hu) (mid u hu ∙ ap₂ (λ a b. a +ℚ b) z z)
 
         second_zero : (j : ℕ) → j < t.width → y (t.nonbasic j) ≡ zero_ℚ
-        second_zero j hj = let u = t.nonbasic j in let hu : IsVariableOf s u = p.variables u (in_column j hj refl) in let z : basic_solution t u ≡ zero_ℚ = solution_nonbasic N s.rows s t j p.reached hj in
+        second_zero j hj = let u = t.nonbasic j in let hu : IsVariableOf s u = p.variables u (in_column j hj refl) in let z : basic_solution t u ≡ zero_ℚ = solution_nonbasic t j p.reached.proper hj in
             two_zeros (y u) (x u) (hy.nonnegative u hu) (hx.nonnegative u hu) (ring rational_ring (x u ∷ y u ∷ []) (B :+ A) (A :+ B) refl ∙ mid u hu ∙ ap₂ (λ a b. a +ℚ b) z z)
 
         go : IsVariableOf t v → x v ≡ y v

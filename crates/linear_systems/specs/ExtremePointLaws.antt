@@ -2,9 +2,9 @@
 use Rattle.std.specs.Prelude.{ℕ, ◌<◌, ◌≡◌, List}
 use Rattle.rational.specs.Rational.{ℚ, zero_ℚ}
 use Rattle.linear_systems.specs.Tableau.{Tableau, pivot}
-use Rattle.linear_systems.specs.Rows.{IsLexicographicRow, Alike}
+use Rattle.linear_systems.specs.Rows.{basic_solution, IsLexicographicRow, Alike}
 use Rattle.linear_systems.specs.Reached.{IsVariableOf}
-use Rattle.linear_systems.specs.Points.{IsExtremePoint, AreEqualAt, basic_solution}
+use Rattle.linear_systems.specs.Points.{IsExtremePoint, AreEqualAt}
 use Rattle.linear_systems.specs.Reach.{IsFeasibleStart, IsLexReached, IsClosed}
 use Rattle.linear_systems.specs.Vertices.{MarkedPoint, AreVertices}
 

@@ -1,10 +1,8 @@
 -- The points of a system: its solutions without negative entries, and the extreme ones among them
 -- (Avis et al. 2010)
 use Rattle.std.specs.Prelude.{ℕ, ◌<◌, ◌≡◌, ◌≢◌}
-use Rattle.rational.specs.Rational.{ℚ, ◌+ℚ◌, ◌*ℚ◌, zero_ℚ, ◌≤ℚ◌}
-use Rattle.rational.specs.Sum.{sum_to}
+use Rattle.rational.specs.Rational.{ℚ, ◌+ℚ◌, zero_ℚ, ◌≤ℚ◌}
 use Rattle.linear_systems.specs.Tableau.{Tableau, Solves}
-use Rattle.linear_systems.specs.Rows.{unit_at}
 use Rattle.linear_systems.specs.Reached.{IsVariableOf}
 
 -- x solves s, and no variable of s is negative in it
@@ -27,7 +25,3 @@ pub record IsNonzero (s : Tableau) (p : ℕ → ℚ) : Type 0 where
   pub column : ℕ
   pub within : column < s.width
   pub other : p (s.nonbasic column) ≢ zero_ℚ
-
--- the solution in which nonbasic variables are 0: each basic variable is its row's right side
-abbrev pub basic_solution : Tableau → ℕ → ℚ
-basic_solution t v = sum_to t.rows (λ i. t.right i *ℚ unit_at v (t.basic i))

@@ -1,7 +1,8 @@
--- What a row says of a variable, the key of a row, and the lexicographic row of a column (the
--- lexicographic rule against cycling: Dantzig, Orden and Wolfe 1955)
+-- What a row says of a variable, the basic solution, the key of a row, and the lexicographic row of
+-- a column (the lexicographic rule against cycling: Dantzig, Orden and Wolfe 1955)
 use Rattle.std.specs.Prelude.{ℕ, zero, suc, ◌<◌, ◌≡◌, ◌≢◌, eqb, cond}
 use Rattle.rational.specs.Rational.{ℚ, ◌+ℚ◌, ◌*ℚ◌, inv_ℚ, zero_ℚ, one_ℚ, ◌<ℚ◌}
+use Rattle.rational.specs.Sum.{sum_to}
 use Rattle.linear_systems.specs.Tableau.{Tableau, left}
 use Rattle.linear_systems.specs.Lex.{IsLexLess}
 
@@ -13,6 +14,10 @@ unit_at v w = cond (eqb w v) one_ℚ zero_ℚ
 -- are 0
 abbrev pub coefficient : Tableau → ℕ → ℕ → ℚ
 coefficient t i v = left t (unit_at v) i
+
+-- the solution in which nonbasic variables are 0: each basic variable is its row's right side
+abbrev pub basic_solution : Tableau → ℕ → ℚ
+basic_solution t v = sum_to t.rows (λ i. t.right i *ℚ unit_at v (t.basic i))
 
 -- the key of row i: its right side, and then its coefficients of the variables b 0, b 1, ..
 abbrev pub key : (ℕ → ℕ) → Tableau → ℕ → ℕ → ℚ

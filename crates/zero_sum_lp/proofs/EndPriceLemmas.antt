@@ -8,7 +8,7 @@ use Rattle.rational.proofs.Field.{le_trans, le-mul_right}
 use Rattle.rational.proofs.SumLemmas.{sum_to-le, sum_to-same}
 use Rattle.linear_systems.specs.Tableau.{Tableau}
 use Rattle.linear_systems.specs.Reached.{IsStart}
-use Rattle.linear_systems.specs.Rows.{unit_at, coefficient}
+use Rattle.linear_systems.specs.Rows.{basic_solution, unit_at, coefficient}
 use Rattle.linear_systems.proofs.RowLemmas.{unit_self, unit_other}
 use Rattle.sequence_forms.specs.Forms.{SequenceForm, row_sum, column_sum}
 use Rattle.sequence_forms.specs.Matrices.{set_row, row_total, column_total, AreNotNegative}
@@ -18,7 +18,7 @@ use Rattle.sequence_forms.proofs.FlowLemmas.{ordered_flow}
 use Rattle.sequence_forms.proofs.MatrixLemmas.{row-whole, row-set, columns_net}
 use Rattle.zero_sum_lp.specs.Paths.{LinearProgram, IsAfter, IsOptimal}
 use Rattle.zero_sum_lp.specs.Plans.{IsRaised, IsCut}
-use Rattle.zero_sum_lp.specs.Programs.{constraints, IsProgramOf, value_at, price_one, price_two, raw_one, raw_two}
+use Rattle.zero_sum_lp.specs.Programs.{constraints, IsProgramOf, price_one, price_two, raw_one, raw_two}
 use Rattle.zero_sum_lp.proofs.BoundedObjectiveLemmas.{programs_linear}
 use Rattle.zero_sum_lp.proofs.DeterminedPathLemmas.{after_on_path}
 use Rattle.zero_sum_lp.proofs.OptimalRowLemmas.{IsEnd, turned, coef_nonneg, column_one, column_two, row_one, row_two, firsts, nonneg_column}
@@ -45,7 +45,7 @@ module _ (f : SequenceForm) (least : ℚ) (g : LinearProgram) (n : ℕ) (t : Tab
   -- ---- the inequalities of the optimum, in the variables' numbers
   weights_rows : (k : ℕ) → k < suc f.rows.sets → row_total f.rows (raw_one f.rows f.columns t) k ≤ℚ unit_at 0 k
   weights_rows k hk =
-      subst (λ u. u ≤ℚ unit_at 0 k) (turned (sequences f.rows) (λ j. value_at t (g.start.nonbasic j)) (set_row f.rows k) ∙ sum_to-same (sequences f.rows) _ _ (λ j hj. ap (λ v. set_row f.rows k j *ℚ value_at t v) (variable j (omega arith)))) (row_one (suc f.rows.sets) (sequences f.rows) (suc f.columns.sets) (sequences f.columns) (set_row f.rows) (set_row f.columns) (gains f least) g.bound g.start t program start ends k hk)
+      subst (λ u. u ≤ℚ unit_at 0 k) (turned (sequences f.rows) (λ j. basic_solution t (g.start.nonbasic j)) (set_row f.rows k) ∙ sum_to-same (sequences f.rows) _ _ (λ j hj. ap (λ v. set_row f.rows k j *ℚ basic_solution t v) (variable j (omega arith)))) (row_one (suc f.rows.sets) (sequences f.rows) (suc f.columns.sets) (sequences f.columns) (set_row f.rows) (set_row f.columns) (gains f least) g.bound g.start t program start ends k hk)
 
   weights_columns : (k : ℕ) → k < suc f.columns.sets → unit_at 0 k ≤ℚ row_total f.columns (raw_two f.rows f.columns t) k
   weights_columns k hk =
@@ -57,14 +57,14 @@ module _ (f : SequenceForm) (least : ℚ) (g : LinearProgram) (n : ℕ) (t : Tab
 
   prices_columns : (q : ℕ) → q < sequences f.columns → column_total f.columns (price_two f.rows f.columns t) q ≤ℚ column_sum f (gains f least) (raw_one f.rows f.columns t) q
   prices_columns q hq =
-      subst₂ (λ u v. u ≤ℚ v) (turned (suc f.columns.sets) (λ k. value_at t (g.start.nonbasic (sequences f.rows + k))) (λ k. set_row f.columns k q) ∙ sum_to-same (suc f.columns.sets) _ _ (λ k hk. ap (λ v. set_row f.columns k q *ℚ value_at t v) (variable (sequences f.rows + k) (omega arith)))) (sum_to-same (sequences f.rows) _ _ (λ j hj. ap (λ v. value_at t v *ℚ gains f least j q) (variable j (omega arith)))) (row_two (suc f.rows.sets) (sequences f.rows) (suc f.columns.sets) (sequences f.columns) (set_row f.rows) (set_row f.columns) (gains f least) g.bound g.start t program start ends q hq)
+      subst₂ (λ u v. u ≤ℚ v) (turned (suc f.columns.sets) (λ k. basic_solution t (g.start.nonbasic (sequences f.rows + k))) (λ k. set_row f.columns k q) ∙ sum_to-same (suc f.columns.sets) _ _ (λ k hk. ap (λ v. set_row f.columns k q *ℚ basic_solution t v) (variable (sequences f.rows + k) (omega arith)))) (sum_to-same (sequences f.rows) _ _ (λ j hj. ap (λ v. basic_solution t v *ℚ gains f least j q) (variable j (omega arith)))) (row_two (suc f.rows.sets) (sequences f.rows) (suc f.columns.sets) (sequences f.columns) (set_row f.rows) (set_row f.columns) (gains f least) g.bound g.start t program start ends q hq)
 
   same_first : price_one f.rows f.columns t 0 ≡ price_two f.rows f.columns t 0
-  same_first = ap (coefficient t (constraints f.rows f.columns)) (sym (slack 0 (omega arith))) ∙ firsts (suc f.rows.sets) (sequences f.rows) (suc f.columns.sets) (sequences f.columns) (set_row f.rows) (set_row f.columns) (gains f least) g.bound g.start t program start ends (omega arith) (omega arith) ∙ ap (value_at t) (variable (sequences f.rows + 0) (omega arith))
+  same_first = ap (coefficient t (constraints f.rows f.columns)) (sym (slack 0 (omega arith))) ∙ firsts (suc f.rows.sets) (sequences f.rows) (suc f.columns.sets) (sequences f.columns) (set_row f.rows) (set_row f.columns) (gains f least) g.bound g.start t program start ends (omega arith) (omega arith) ∙ ap (basic_solution t) (variable (sequences f.rows + 0) (omega arith))
 
   -- ---- raw weights
   raw_one_sign : AreNotNegative (sequences f.rows) (raw_one f.rows f.columns t)
-  raw_one_sign q hq = subst (λ v. zero_ℚ ≤ℚ value_at t v) (variable q (omega arith)) (nonneg_column (suc f.rows.sets) (sequences f.rows) (suc f.columns.sets) (sequences f.columns) (set_row f.rows) (set_row f.columns) (gains f least) g.bound g.start t program start ends q (omega arith))
+  raw_one_sign q hq = subst (λ v. zero_ℚ ≤ℚ basic_solution t v) (variable q (omega arith)) (nonneg_column (suc f.rows.sets) (sequences f.rows) (suc f.columns.sets) (sequences f.columns) (set_row f.rows) (set_row f.columns) (gains f least) g.bound g.start t program start ends q (omega arith))
 
   raw_two_sign : AreNotNegative (sequences f.columns) (raw_two f.rows f.columns t)
   raw_two_sign q hq = coef_nonneg t (constraints f.rows f.columns) (suc (suc f.rows.sets + q)) ends.none
@@ -90,7 +90,7 @@ module _ (f : SequenceForm) (least : ℚ) (g : LinearProgram) (n : ℕ) (t : Tab
         row_plan = raised_plan f.rows ro (raw_one f.rows f.columns t) x r raw_one_empty raw_one_sets raw_one_sign;
         column_plan = cut_plan f.columns co (raw_two f.rows f.columns t) y c raw_two_sign raw_two_empty raw_two_sets;
         row_prices = λ k hk. coef_nonneg t (constraints f.rows f.columns) (suc k) ends.none;
-        column_prices = λ k hk. subst (λ v. zero_ℚ ≤ℚ value_at t v) (variable (sequences f.rows + k) (omega arith)) (nonneg_column (suc f.rows.sets) (sequences f.rows) (suc f.columns.sets) (sequences f.columns) (set_row f.rows) (set_row f.columns) (gains f least) g.bound g.start t program start ends (sequences f.rows + k) (omega arith));
+        column_prices = λ k hk. subst (λ v. zero_ℚ ≤ℚ basic_solution t v) (variable (sequences f.rows + k) (omega arith)) (nonneg_column (suc f.rows.sets) (sequences f.rows) (suc f.columns.sets) (sequences f.columns) (set_row f.rows) (set_row f.columns) (gains f least) g.bound g.start t program start ends (sequences f.rows + k) (omega arith));
         same_first = same_first;
         value_is = ap (λ u. u +ℚ least) (sym same_first);
         row_gains = λ q hq. subst (λ u. row_sum f (gains f least) y q ≤ℚ u) (columns_net f.rows (price_one f.rows f.columns t) q hq) (le_trans _ _ _ (sum_to-le (sequences f.columns) _ _ (λ s hs. le-mul_right (gains f least q s) (y s) (raw_two f.rows f.columns t s) (sign q s hq hs) (cut_below f.columns co (raw_two f.rows f.columns t) y c raw_two_sign raw_two_empty raw_two_sets s hs))) (prices_rows q hq));

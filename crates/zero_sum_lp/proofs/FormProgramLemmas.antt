@@ -6,7 +6,7 @@ use Rattle.sequence_data.specs.Data.{FormData}
 use Rattle.zero_sum_lp.specs.declared.stop.LpStop.{LpStop}
 use Rattle.zero_sum_lp.specs.declared.stop.LpStop.TheVariants as stops
 use Rattle.zero_sum_lp.specs.declared.stop.NotConstant.{NotConstant}
-use Rattle.zero_sum_lp.specs.FormPrograms.{gains_in, is_constant, program_in, size_of, start_in, sums_in, too_many_rows}
+use Rattle.zero_sum_lp.specs.FormPrograms.{gains_in, is_constant, program_in, size_of, form_start_in, sums_in, too_many_rows}
 use Rattle.zero_sum_lp.specs.Parts.{Program}
 
 -- one stage more
@@ -24,7 +24,7 @@ module _ (f : FormData) where
   constant_stage = refused_by stops.NotConstant (is_constant f.leaves)
 
   abbrev from_gains : Answer LpStop Program
-  from_gains = gains_in f.least_one f.cells >> start_in f
+  from_gains = gains_in f.least_one f.cells >> form_start_in f
 
   abbrev from_constant : Answer LpStop Program
   from_constant = constant_stage >> from_gains
@@ -42,7 +42,7 @@ module _ (f : FormData) where
 
       module _ (constant : is_constant f.leaves (Ok tt)) where
         pub gains_stop : (r : LpStop) → Gives stops.Memory (gains_in f.least_one f.cells) (Err r) → Gives stops.Memory (program_in f) (Err r)
-        gains_stop r g = go_on size_stage from_sums (Err r) few (go_on (sums_in f.leaves) from_constant (Err r) sums (go_on constant_stage from_gains (Err r) constant (leave (gains_in f.least_one f.cells) (start_in f) r g)))
+        gains_stop r g = go_on size_stage from_sums (Err r) few (go_on (sums_in f.leaves) from_constant (Err r) sums (go_on constant_stage from_gains (Err r) constant (leave (gains_in f.least_one f.cells) (form_start_in f) r g)))
 
-        pub start_gives : (answer : Result Program LpStop) → gains_in f.least_one f.cells (Ok tt) → Gives stops.Memory (start_in f) answer → Gives stops.Memory (program_in f) answer
-        start_gives answer h g = go_on size_stage from_sums answer few (go_on (sums_in f.leaves) from_constant answer sums (go_on constant_stage from_gains answer constant (go_on (gains_in f.least_one f.cells) (start_in f) answer h g)))
+        pub start_gives : (answer : Result Program LpStop) → gains_in f.least_one f.cells (Ok tt) → Gives stops.Memory (form_start_in f) answer → Gives stops.Memory (program_in f) answer
+        start_gives answer h g = go_on size_stage from_sums answer few (go_on (sums_in f.leaves) from_constant answer sums (go_on constant_stage from_gains answer constant (go_on (gains_in f.least_one f.cells) (form_start_in f) answer h g)))

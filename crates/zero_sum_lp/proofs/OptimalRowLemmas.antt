@@ -12,11 +12,11 @@ use Rattle.rational.proofs.Linear.{linear, at, lit, ◌⟨+⟩◌, ◌⟨-⟩◌
 use Rattle.rational.proofs.Field.{nonneg-mul, le_of_eq, le_of_lt}
 use Rattle.rational.proofs.SumLemmas.{sum_to-same, sum_to-neg, sum_to-zeros, sum_to-nonneg, sum_to-append}
 use Rattle.linear_systems.specs.Lex.{IsLexPositive}
-use Rattle.linear_systems.specs.Rows.{unit_at, coefficient, key, row, HasDistinctVariables}
+use Rattle.linear_systems.specs.Rows.{unit_at, basic_solution, coefficient, key, row}
 use Rattle.linear_systems.specs.Reached.{IsReached, IsStart}
 use Rattle.linear_systems.proofs.LastRowLemmas.{last_row}
-use Rattle.linear_systems.proofs.RowLemmas.{unit_self, unit_other, unit_nonneg, sum_single, times_zero, coefficient_row, coefficient_cell, left_zero}
-use Rattle.zero_sum_lp.specs.Programs.{value_at}
+use Rattle.linear_systems.proofs.SolutionLemmas.{solution_basic, solution_solves}
+use Rattle.linear_systems.proofs.RowLemmas.{unit_other, unit_nonneg, times_zero, coefficient_row, coefficient_cell, left_zero}
 use Rattle.zero_sum_lp.proofs.ObjectiveGrowthLemmas.{IsLexicographicallyFeasible}
 use Rattle.zero_sum_lp.proofs.ProgramLemmas.{IsProgram, program_one, program_two, program_goal}
 use Rattle.zero_sum_lp.proofs.RayLemmas.{solves_start}
@@ -45,24 +45,12 @@ dual_right N m s t l st ml hl p =
     let right : (u : Tableau) (i : ℕ) → row u (λ v. zero_ℚ) one_ℚ i ≡ u.right i = λ u i. ap (λ x. x +ℚ (one_ℚ *ℚ u.right i)) (left_zero u i) ∙ ring rational_ring (u.right i ∷ []) (num 0 :+ num 1 :* R.A) R.A refl in
     sym (right t l) ∙ last_row N m s t l (λ v. zero_ℚ) one_ℚ st ml hl p ∙ ap₂ (λ a b. a +ℚ b) (right s l) (sum_to-same m _ _ (λ q hq. ap (λ u. coefficient t l (s.basic q) *ℚ u) (right s q)))
 
--- ---- the tableau's own solution
-pub value_basic : (t : Tableau) (i : ℕ) → HasDistinctVariables t → i < t.rows → value_at t (t.basic i) ≡ t.right i
-value_basic t i p hi =
-    sum_single t.rows _ i hi (λ j hj ne. times_zero (t.right j) _ (unit_other (t.basic j) (t.basic i) (λ e. ne (p.basic_once j i hj hi (sym e))))) ∙ ap (λ u. t.right i *ℚ u) (unit_self (t.basic i)) ∙ ring rational_ring (t.right i ∷ []) (R.A :* num 1) R.A refl
-
-pub value_nonbasic : (t : Tableau) (j : ℕ) → HasDistinctVariables t → j < t.width → value_at t (t.nonbasic j) ≡ zero_ℚ
-value_nonbasic t j p hj = sum_to-zeros t.rows _ (λ i hi. times_zero (t.right i) _ (unit_other (t.basic i) (t.nonbasic j) (λ e. p.apart i j hi hj (sym e))))
-
-value_left : (t : Tableau) (i : ℕ) → HasDistinctVariables t → i < t.rows → left t (value_at t) i ≡ t.right i
-unfolding left
-value_left t i p hi =
-    ap₂ (λ a b. a +ℚ b) (value_basic t i p hi) (sum_to-zeros t.width _ (λ j hj. times_zero (t.cell i j) _ (value_nonbasic t j p hj))) ∙ ring rational_ring (t.right i ∷ []) (R.A :+ num 0) R.A refl
-
-pub value_solves : (N m : ℕ) (s t : Tableau) (k : ℕ) → IsStart N m s → IsReached N m s t → k < s.rows → left s (value_at t) k ≡ s.right k
+-- ---- the basic solution
+pub value_solves : (N m : ℕ) (s t : Tableau) (k : ℕ) → IsStart N m s → IsReached N m s t → k < s.rows → left s (basic_solution t) k ≡ s.right k
 value_solves N m s t k st p hk =
-    combine rational_ring (left s (value_at t) k ∷ s.right k ∷ []) ((num 1 times R.A :+ :neg (num 1) :* R.B is num 0) ∷ []) R.A R.B refl (solves_start N m s t (value_at t) (neg_ℚ one_ℚ) st p (λ i hi. ap (λ u. u +ℚ (neg_ℚ one_ℚ *ℚ t.right i)) (value_left t i p.proper hi) ∙ ring rational_ring (t.right i ∷ []) (R.A :+ :neg (num 1) :* R.A) (num 0) refl) k hk, tt)
+    combine rational_ring (left s (basic_solution t) k ∷ s.right k ∷ []) ((num 1 times R.A :+ :neg (num 1) :* R.B is num 0) ∷ []) R.A R.B refl (solves_start N m s t (basic_solution t) (neg_ℚ one_ℚ) st p (λ i hi. ap (λ u. u +ℚ (neg_ℚ one_ℚ *ℚ t.right i)) (solution_solves t p.proper i hi) ∙ ring rational_ring (t.right i ∷ []) (R.A :+ :neg (num 1) :* R.A) (num 0) refl) k hk, tt)
 
-pub value_nonneg : (N m : ℕ) (s t : Tableau) (v : ℕ) → IsStart N m s → IsLexicographicallyFeasible N m s t → ((i : ℕ) → m ≤ i → i < s.rows → v ≡ s.basic i → ⊥) → zero_ℚ ≤ℚ value_at t v
+pub value_nonneg : (N m : ℕ) (s t : Tableau) (v : ℕ) → IsStart N m s → IsLexicographicallyFeasible N m s t → ((i : ℕ) → m ≤ i → i < s.rows → v ≡ s.basic i → ⊥) → zero_ℚ ≤ℚ basic_solution t v
 value_nonneg N m s t v st p away = sum_to-nonneg t.rows _ part
   where
     at_first : (f : ℕ → ℚ) → IsLexPositive (suc m) f → zero_ℚ ≤ℚ f 0
@@ -72,12 +60,12 @@ value_nonneg N m s t v st p away = sum_to-nonneg t.rows _ part
           | inr ne ↦ le_of_eq zero_ℚ (f 0) (sym (q.before 0 (omega arith)))
         ]
 
-    part : (i : ℕ) → i < t.rows → zero_ℚ ≤ℚ (t.right i *ℚ unit_at (t.basic i) v)
+    part : (i : ℕ) → i < t.rows → zero_ℚ ≤ℚ (t.right i *ℚ unit_at v (t.basic i))
     part i hi =
         let rows : t.rows ≡ s.rows = p.reached.rows in
         elim (cases_lt i m) [
-          | inl l ↦ nonneg-mul (t.right i) (unit_at (t.basic i) v) (at_first (key s.basic t i) (p.keys i l)) (unit_nonneg (t.basic i) v)
-          | inr l ↦ le_of_eq zero_ℚ _ (sym (times_zero (t.right i) _ (unit_other (t.basic i) v (λ e. away i l (omega arith) (e ∙ p.reached.stays i l (omega arith))))))
+          | inl l ↦ nonneg-mul (t.right i) (unit_at v (t.basic i)) (at_first (key s.basic t i) (p.keys i l)) (unit_nonneg v (t.basic i))
+          | inr l ↦ le_of_eq zero_ℚ _ (sym (times_zero (t.right i) _ (unit_other v (t.basic i) (λ e. away i l (omega arith) (sym e ∙ p.reached.stays i l (omega arith))))))
         ]
 
 -- ---- prices and raw weights
@@ -97,10 +85,10 @@ module _ (h X k Y : ℕ) (E F A : ℕ → ℕ → ℚ) (N : ℕ) (s t : Tableau)
 
   -- the prices of player 2 and the raw weights of player 1 are the values of q and x
   abbrev pub price_value : ℕ → ℚ
-  price_value j = value_at t (s.nonbasic (X + j))
+  price_value j = basic_solution t (s.nonbasic (X + j))
 
   abbrev pub weight_value : ℕ → ℚ
-  weight_value j = value_at t (s.nonbasic j)
+  weight_value j = basic_solution t (s.nonbasic j)
 
   module _ (p : IsProgram h X k Y E F A s) (st : IsStart N (h + Y) s) (o : IsEnd N (h + Y) s t) where
     pub column_one : (j : ℕ) → j < X → sum_to Y (λ i. slack_weight i *ℚ A j i) ≤ℚ sum_to h (λ i. slack_price i *ℚ E i j)
@@ -125,10 +113,10 @@ module _ (h X k Y : ℕ) (E F A : ℕ → ℕ → ℚ) (N : ℕ) (s t : Tableau)
         ∙ ap₂ (λ a b. a +ℚ b) (p.right_rest (h + Y) (omega arith) (omega arith)) (sum_to-append h Y (λ q. coefficient t (h + Y) (s.basic q) *ℚ s.right q) ∙ ap₂ (λ a b. a +ℚ b) (sum_to-same h _ (λ i. slack_price i *ℚ unit_at 0 i) (λ i hi. ap (λ u. slack_price i *ℚ u) (p.right i hi)) ∙ sum_unit h slack_price 0 hh) (sum_to-zeros Y _ (λ i hi. times_zero (slack_weight i) _ (p.right_rest (h + i) (omega arith) (omega arith)))))
         ∙ ring rational_ring (slack_price 0 ∷ []) (num 0 :+ (R.A :+ num 0)) R.A refl
 
-    pub nonneg_column : (j : ℕ) → j < X + k → zero_ℚ ≤ℚ value_at t (s.nonbasic j)
+    pub nonneg_column : (j : ℕ) → j < X + k → zero_ℚ ≤ℚ basic_solution t (s.nonbasic j)
     nonneg_column j hj = value_nonneg N (h + Y) s t (s.nonbasic j) st o.on_path (λ i mi hi e. st.proper.apart i j hi (let v : s.width ≡ X + k = p.width in omega arith) (sym e))
 
-    nonneg_slack : (i : ℕ) → i < h + Y → zero_ℚ ≤ℚ value_at t (s.basic i)
+    nonneg_slack : (i : ℕ) → i < h + Y → zero_ℚ ≤ℚ basic_solution t (s.basic i)
     nonneg_slack i hi =
         let w : s.rows ≡ suc (h + Y) = p.rows in
         value_nonneg N (h + Y) s t (s.basic i) st o.on_path (λ l ml hl e. let same : i ≡ l = st.proper.basic_once i l (omega arith) hl e in absurd (omega arith))
@@ -136,17 +124,17 @@ module _ (h X k Y : ℕ) (E F A : ℕ → ℕ → ℚ) (N : ℕ) (s t : Tableau)
     pub row_one : (i : ℕ) → i < h → sum_to X (λ j. weight_value j *ℚ E i j) ≤ℚ unit_at 0 i
     row_one i hi =
         let w : s.rows ≡ suc (h + Y) = p.rows in
-        linear (value_at t (s.basic i) ∷ sum_to X (λ j. weight_value j *ℚ E i j) ∷ unit_at 0 i ∷ []) ((lit (pos 0) ⟨≤⟩ at 0) ∷ ((at 0 ⟨+⟩ at 1) ⟨=⟩ at 2) ∷ []) (at 1 ⟨≤⟩ at 2) (λ one z u v. omega (arith, ints)) (nonneg_slack i (omega arith), (ap (λ u. value_at t (s.basic i) +ℚ u) (turned X weight_value (E i)) ∙ sym (program_one h X k Y E F A s (value_at t) i p hi) ∙ value_solves N (h + Y) s t i st o.on_path.reached (omega arith) ∙ p.right i hi, tt))
+        linear (basic_solution t (s.basic i) ∷ sum_to X (λ j. weight_value j *ℚ E i j) ∷ unit_at 0 i ∷ []) ((lit (pos 0) ⟨≤⟩ at 0) ∷ ((at 0 ⟨+⟩ at 1) ⟨=⟩ at 2) ∷ []) (at 1 ⟨≤⟩ at 2) (λ one z u v. omega (arith, ints)) (nonneg_slack i (omega arith), (ap (λ u. basic_solution t (s.basic i) +ℚ u) (turned X weight_value (E i)) ∙ sym (program_one h X k Y E F A s (basic_solution t) i p hi) ∙ value_solves N (h + Y) s t i st o.on_path.reached (omega arith) ∙ p.right i hi, tt))
 
     pub row_two : (i : ℕ) → i < Y → sum_to k (λ j. price_value j *ℚ F j i) ≤ℚ sum_to X (λ j. weight_value j *ℚ A j i)
     row_two i hi =
         let w : s.rows ≡ suc (h + Y) = p.rows in
-        linear (value_at t (s.basic (h + i)) ∷ sum_to k (λ j. price_value j *ℚ F j i) ∷ sum_to X (λ j. weight_value j *ℚ A j i) ∷ []) ((lit (pos 0) ⟨≤⟩ at 0) ∷ ((at 0 ⟨+⟩ (at 1 ⟨-⟩ at 2)) ⟨=⟩ lit (pos 0)) ∷ []) (at 1 ⟨≤⟩ at 2) (λ one z u v. omega (arith, ints)) (nonneg_slack (h + i) (omega arith), (ap₂ (λ a b. value_at t (s.basic (h + i)) +ℚ (a -ℚ b)) (turned k price_value (λ j. F j i)) (turned X weight_value (λ j. A j i)) ∙ sym (program_two h X k Y E F A s (value_at t) i p hi) ∙ value_solves N (h + Y) s t (h + i) st o.on_path.reached (omega arith) ∙ p.right_rest (h + i) (omega arith) (omega arith), tt))
+        linear (basic_solution t (s.basic (h + i)) ∷ sum_to k (λ j. price_value j *ℚ F j i) ∷ sum_to X (λ j. weight_value j *ℚ A j i) ∷ []) ((lit (pos 0) ⟨≤⟩ at 0) ∷ ((at 0 ⟨+⟩ (at 1 ⟨-⟩ at 2)) ⟨=⟩ lit (pos 0)) ∷ []) (at 1 ⟨≤⟩ at 2) (λ one z u v. omega (arith, ints)) (nonneg_slack (h + i) (omega arith), (ap₂ (λ a b. basic_solution t (s.basic (h + i)) +ℚ (a -ℚ b)) (turned k price_value (λ j. F j i)) (turned X weight_value (λ j. A j i)) ∙ sym (program_two h X k Y E F A s (basic_solution t) i p hi) ∙ value_solves N (h + Y) s t (h + i) st o.on_path.reached (omega arith) ∙ p.right_rest (h + i) (omega arith) (omega arith), tt))
 
     -- the value of the last row's variable is its right side, and q of row 0
     pub firsts : 0 < h → 0 < k → slack_price 0 ≡ price_value 0
     firsts hh hk =
         let w : s.rows ≡ suc (h + Y) = p.rows in
         let same_rows : t.rows ≡ s.rows = o.on_path.reached.rows in
-        let own : value_at t (s.basic (h + Y)) ≡ t.right (h + Y) = ap (value_at t) (sym (o.on_path.reached.stays (h + Y) (omega arith) (omega arith))) ∙ value_basic t (h + Y) o.on_path.reached.proper (omega arith) in
-        combine rational_ring (value_at t (s.basic (h + Y)) ∷ price_value 0 ∷ t.right (h + Y) ∷ slack_price 0 ∷ []) ((num 1 times R.A :- R.B is num 0) ∷ (:neg (num 1) times R.A is R.C) ∷ (:neg (num 1) times R.C is R.D) ∷ []) R.D R.B refl (sym (program_goal h X k Y E F A s (value_at t) p hk) ∙ value_solves N (h + Y) s t (h + Y) st o.on_path.reached (omega arith) ∙ p.right_rest (h + Y) (omega arith) (omega arith), (own, (last_right hh, tt)))
+        let own : basic_solution t (s.basic (h + Y)) ≡ t.right (h + Y) = ap (basic_solution t) (sym (o.on_path.reached.stays (h + Y) (omega arith) (omega arith))) ∙ solution_basic t (h + Y) o.on_path.reached.proper (omega arith) in
+        combine rational_ring (basic_solution t (s.basic (h + Y)) ∷ price_value 0 ∷ t.right (h + Y) ∷ slack_price 0 ∷ []) ((num 1 times R.A :- R.B is num 0) ∷ (:neg (num 1) times R.A is R.C) ∷ (:neg (num 1) times R.C is R.D) ∷ []) R.D R.B refl (sym (program_goal h X k Y E F A s (basic_solution t) p hk) ∙ value_solves N (h + Y) s t (h + Y) st o.on_path.reached (omega arith) ∙ p.right_rest (h + Y) (omega arith) (omega arith), (own, (last_right hh, tt)))

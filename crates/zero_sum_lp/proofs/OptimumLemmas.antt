@@ -1,21 +1,15 @@
 -- The last tableau of a program's path.
-use Rattle.std.proofs.Common.{ℕ, zero, suc, ◌<◌, ◌≤◌, ◌≡◌, ◌≢◌, ◌+◌, ◌-◌, ◌⊎◌, inl, inr, length, sym, ap, ◌∙◌, subst, arith, add-one}
-use Rattle.std.proofs.lemmas.Bool.{cases_eq}
+use Rattle.std.proofs.Common.{ℕ, suc, ◌<◌, ◌≤◌, ◌≡◌, ◌≢◌, ◌+◌, ◌-◌, length, sym, ap, ap₂, ◌∙◌, subst, arith, add-one}
 use Rattle.std.proofs.lemmas.List.{length-map}
 use Rattle.rational.specs.Rational.{ℚ}
-use Rattle.rational.proofs.SumLemmas.{sum_to-zeros}
-use Rattle.linear_systems.specs.Tableau.{Tableau}
-use Rattle.linear_systems.specs.Rows.{coefficient, HasDistinctVariables}
-use Rattle.linear_systems.proofs.RowLemmas.{unit_other, times_zero}
-use Rattle.linear_systems.proofs.LexRowLemmas.{below_cases}
+use Rattle.linear_systems.specs.Rows.{basic_solution, coefficient, HasDistinctVariables}
 use Rattle.sequence_forms.specs.Sides.{sequences}
-use Rattle.zero_sum_lp.specs.Programs.{constraints, value_at, price_one, price_two}
+use Rattle.zero_sum_lp.specs.Programs.{constraints, price_one, price_two}
 use Rattle.zero_sum_lp.proofs.BoundedObjectiveLemmas.{programs_linear}
 use Rattle.zero_sum_lp.proofs.DeterminedPathLemmas.{after_on_path}
 use Rattle.zero_sum_lp.proofs.ObjectiveGrowthLemmas.{IsLexicographicallyFeasible}
-use Rattle.zero_sum_lp.proofs.OptimalRowLemmas.{value_basic}
 use Rattle.zero_sum_lp.proofs.ProgramLemmas.{basic_last}
-use Rattle.lex_tableau.specs.Rows.{Numbers, tableau, IsValueOf}
+use Rattle.lex_tableau.specs.Rows.{Numbers, tableau}
 use Rattle.sequence_data.specs.Data.{SideData, side_of}
 use Rattle.zero_sum_lp.specs.Parts.{HasShape, Program, IsProgram, IsOptimum}
 use Rattle.zero_sum_lp.specs.Steps.{linear_program, IsProgramStart}
@@ -42,7 +36,7 @@ module _ (o : Program) (h : IsOptimum o) where
   pub end_width : length o.tableau.nonbasics ≡ sequences (side_of o.first) + suc (side_of o.second).sets
   end_width = end_feasible.reached.width ∙ sym h.begins.program.start.width
 
-  pub end_distinct : HasDistinctVariables (tableau o.tableau)
+  end_distinct : HasDistinctVariables (tableau o.tableau)
   end_distinct = end_feasible.reached.proper
 
   -- the objective row's variable
@@ -72,23 +66,6 @@ module _ (o : Program) (h : IsOptimum o) (seen : Numbers) (e : seen ≡ o.tablea
       omega (arith, l, q, b)
 
 -- ---- values
--- the row whose basic variable is v, or none
-basic_row : (n : ℕ) (t : Tableau) (v : ℕ) → ((i : ℕ) × ((i < n) × (t.basic i ≡ v))) ⊎ ((i : ℕ) → i < n → t.basic i ≢ v)
-basic_row zero t v = inr (λ i h. absurd (omega arith))
-basic_row (suc n) t v = elim (cases_eq (t.basic n) v) [
-  | inl e ↦ inl (n, (omega arith, e))
-  | inr ne ↦ elim (basic_row n t v) [
-    | inl w ↦ inl (w.0, (let l = w.1.0 in omega arith, w.1.1))
-    | inr f ↦ inr (λ i h. elim (below_cases i n h) [ inl e ↦ subst (λ k. t.basic k ≢ v) (sym e) ne | inr l ↦ f i l ])
-  ]
-]
-
-pub value_is : (t : Tableau) (v : ℕ) (q : ℚ) → HasDistinctVariables t → IsValueOf t v q → q ≡ value_at t v
-value_is t v q d h = elim (basic_row t.rows t v) [
-  | inl w ↦ h.basic w.0 w.1.0 w.1.1 ∙ sym (ap (value_at t) (sym w.1.1) ∙ value_basic t w.0 d w.1.0)
-  | inr f ↦ h.nonbasic f ∙ sym (sum_to-zeros t.rows _ (λ i hi. times_zero (t.right i) _ (unit_other (t.basic i) v (λ e. f i hi (sym e)))))
-]
-
 -- a slack of the first player's rows has a smaller number than the objective
 pub few_sets : (first second : SideData) (k : ℕ) → k ≤ length first.sets → k + 1 < suc (constraints (side_of first) (side_of second) + (sequences (side_of first) + suc (side_of second).sets))
 few_sets first second k h = let e = sets_are first in omega arith
@@ -105,5 +82,5 @@ module _ (o : Program) (h : IsOptimum o) (seen : Numbers) (e : seen ≡ o.tablea
   pub first_price_is : q ≡ coefficient (tableau seen) objective (k + 1) → q ≡ price_one (side_of o.first) (side_of o.second) (tableau o.tableau) k
   first_price_is f = f ∙ ap (λ n. coefficient (tableau n) objective (k + 1)) e ∙ ap (λ m. coefficient (tableau o.tableau) m (k + 1)) s.rows ∙ ap (coefficient (tableau o.tableau) (constraints (side_of o.first) (side_of o.second))) (add-one k)
 
-  pub second_price_is : (v : ℕ) → v ≡ suc (constraints (side_of o.first) (side_of o.second) + (sequences (side_of o.first) + k)) → IsValueOf (tableau seen) v q → q ≡ price_two (side_of o.first) (side_of o.second) (tableau o.tableau) k
-  second_price_is v f w = value_is (tableau o.tableau) v q (end_distinct o h) (subst (λ n. IsValueOf (tableau n) v q) e w) ∙ ap (value_at (tableau o.tableau)) f
+  pub second_price_is : (v : ℕ) → v ≡ suc (constraints (side_of o.first) (side_of o.second) + (sequences (side_of o.first) + k)) → q ≡ basic_solution (tableau seen) v → q ≡ price_two (side_of o.first) (side_of o.second) (tableau o.tableau) k
+  second_price_is v f w = w ∙ ap₂ (λ (n : Numbers) (u : ℕ). basic_solution (tableau n) u) e f

@@ -1,5 +1,5 @@
 -- The path has one end.
-use Rattle.std.proofs.Common.{ℕ, zero, suc, ◌<◌, ◌≡◌, ◌^◌, inl, inr, sym, ap, ap₂, ◌∙◌, subst, subst₂, arith}
+use Rattle.std.proofs.Common.{ℕ, zero, suc, ◌<◌, ◌≡◌, inl, inr, sym, ap, ap₂, ◌∙◌, subst, subst₂, arith}
 use Rattle.std.proofs.lemmas.Bool.{cases_lt}
 use Rattle.rational.specs.Rational.{zero_ℚ}
 use Rattle.rational.proofs.Field.{not_lt_of_le}
@@ -11,14 +11,14 @@ use Rattle.zero_sum_lp.proofs.DeterminedPathLemmas.{entering_once}
 use Rattle.frac128.specs.declared.steps.Unfit.{Unfit}
 use Rattle.whole_rows.specs.Steps.{AllFit, IsFirstUnfit}
 use Rattle.whole_rows.proofs.FirstUnfitLemmas.{no_unfit, one_unfit}
-use Rattle.lex_tableau.specs.Pivots.{steps_of_pivot}
+use Rattle.lex_tableau.specs.Pivots.{pivot_number, steps_of_pivot}
 use Rattle.lex_tableau.specs.Ratio.{listed}
 use Rattle.lex_tableau.specs.Rows.{Numbers, tableau, IsPivotOf, IsTableau}
 use Rattle.lex_tableau.proofs.TableauLemmas.{determined}
 use Rattle.zero_sum_lp.specs.declared.lp.LpEnd.TheVariants.{Optimal, Range}
 use Rattle.zero_sum_lp.specs.Ends.{EndsAreSingle}
 use Rattle.zero_sum_lp.specs.Parts.{Program}
-use Rattle.zero_sum_lp.specs.Steps.{IsFittingPivot, IsLeavingRow, LeadsTo, EndsPath, IsPivotNumber, IsUnfitPivot}
+use Rattle.zero_sum_lp.specs.Steps.{IsFittingPivot, IsLeavingRow, LeadsTo, EndsPath, IsUnfitPivot}
 
 -- ---- one step
 -- the pivot of a tableau that is determined
@@ -94,9 +94,6 @@ module _ (first : Numbers) (v : IsTableau first) where
     ]
   ]
 
-  number_same : (k a b : ℕ) → IsPivotNumber k a → IsPivotNumber k b → a ≡ b
-  number_same k a b h g = elim (cases_lt k (2 ^ 64)) [ inl l ↦ h.exact l ∙ sym (g.exact l) | inr l ↦ h.later l ∙ sym (g.later l) ]
-
   unfit_same : (number entering number' entering' : ℕ) (unfit unfit' : Unfit) → (u : IsUnfitPivot first number entering unfit) → (w : IsUnfitPivot first number' entering' unfit') → (number ≡ number') × ((entering ≡ entering') × (unfit ≡ unfit'))
   unfit_same number entering number' entering' unfit unfit' u w = elim (cases_lt u.count w.count) [
     | inl l ↦ absurd (unfit_goes_on number entering unfit u w.before w.count l w.path)
@@ -115,12 +112,12 @@ module _ (first : Numbers) (v : IsTableau first) where
           let c = same_column w.before valid u.column w.column u.row w.row enters w.enters leaves w.leaves in
           let r = same_row w.before valid u.column w.column u.row w.row enters w.enters leaves w.leaves in
           let here : IsFirstUnfit (steps_of_pivot w.before w.row w.column) unfit = subst₂ (λ a b. IsFirstUnfit (steps_of_pivot w.before a b) unfit) r c (subst (λ m. IsFirstUnfit (steps_of_pivot m u.row u.column) unfit) e u.first_unfit) in (
-            number_same (suc w.count) number number' (subst (λ i. IsPivotNumber (suc i) number) q u.is_number) w.is_number,
+            u.is_number ∙ ap (λ i. pivot_number (suc i)) q ∙ sym w.is_number,
             (u.variable ∙ ap₂ (λ (m : Numbers) (i : ℕ). (tableau m).nonbasic i) e c ∙ sym w.variable, one_unfit (steps_of_pivot w.before w.row w.column) unfit unfit' here w.first_unfit),
           )
 
 -- a program by its parts
-pub program_same : (a b : Program) → a.first ≡ b.first → a.second ≡ b.second → a.tableau ≡ b.tableau → a ≡ b
+program_same : (a b : Program) → a.first ≡ b.first → a.second ≡ b.second → a.tableau ≡ b.tableau → a ≡ b
 program_same a b e f g = λ i. record { first = e i; second = f i; tableau = g i }
 
 pub ends_same : EndsAreSingle

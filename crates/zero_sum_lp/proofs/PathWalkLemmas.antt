@@ -11,8 +11,9 @@ use Rattle.frac128.specs.declared.steps.Unfit.{Unfit}
 use Rattle.lex_tableau.specs.Rows.{Numbers, tableau}
 use Rattle.lex_tableau.specs.Ratio.{listed}
 use Rattle.whole_rows.specs.Steps.{IsFirstUnfit}
-use Rattle.lex_tableau.specs.Pivots.{steps_of_pivot}
-use Rattle.zero_sum_lp.specs.Steps.{linear_program, IsProgramStart, IsFittingPivot, LeadsTo, EndsPath, IsPivotNumber, IsUnfitPivot, IsUnderWay, IsEnteringOf}
+use Rattle.lex_tableau.specs.Pivots.{pivot_number, steps_of_pivot}
+use Rattle.lex_tableau.proofs.PivotNumberLemmas.{pivot_number_next}
+use Rattle.zero_sum_lp.specs.Steps.{linear_program, IsProgramStart, IsFittingPivot, LeadsTo, EndsPath, IsUnfitPivot, IsUnderWay, IsEnteringOf}
 
 -- keys by the same variables
 key_by : (m : ℕ) (b d : ℕ → ℕ) (t : Tableau) (i p : ℕ) → ((q : ℕ) → q < m → b q ≡ d q) → p < suc m → key b t i p ≡ key d t i p
@@ -95,10 +96,10 @@ pub read_end : (first now seen : Numbers) (past pivots number m n : ℕ) → IsP
 read_end first now seen past pivots number m n s u em en e f =
     record { count = u.count; path = u.path; optimal = none_optimal first now u.count s u.path m n em en (subst (λ x. (j : ℕ) → j < n → zero_ℚ ≤ℚ (tableau x).cell m j) e f) }
 
-pub under_way_next : (first now new : Numbers) (past pivots pivots' number number' : ℕ) → IsUnderWay first now past pivots number → IsFittingPivot now new → pivots' ≡ pivots + 1 → ((k : ℕ) → IsPivotNumber k number → IsPivotNumber (suc k) number') → IsUnderWay first new past pivots' number'
+pub under_way_next : (first now new : Numbers) (past pivots pivots' number number' : ℕ) → IsUnderWay first now past pivots number → IsFittingPivot now new → pivots' ≡ pivots + 1 → number' ≡ pivot_number (suc number) → IsUnderWay first new past pivots' number'
 under_way_next first now new past pivots pivots' number number' u st e n =
     let c : pivots ≡ u.count + past = u.counted in
-    record { count = suc u.count; path = (now, (u.path, st)); counted = omega arith; is_number = n (suc u.count) u.is_number }
+    record { count = suc u.count; path = (now, (u.path, st)); counted = omega arith; is_number = n ∙ ap (λ k. pivot_number (suc k)) u.is_number ∙ pivot_number_next (suc u.count) }
 
 pub under_way_less : (first now : Numbers) (past pivots number : ℕ) → IsProgramStart first → IsUnderWay first now past pivots number → pivots < 2 ^ suc (length first.basics + length first.nonbasics) + past
 under_way_less first now past pivots number s u =

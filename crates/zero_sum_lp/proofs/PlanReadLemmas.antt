@@ -1,11 +1,11 @@
 -- The raw weights as lists, and the plans made of them.
-use Rattle.std.proofs.Common.{ℕ, suc, ◌<◌, ◌≡◌, ◌+◌, ◌-◌, inl, inr, List, [], ◌∷◌, ◌++◌, length, refl, sym, ap, ◌∙◌, subst, arith}
+use Rattle.std.proofs.Common.{ℕ, suc, ◌<◌, ◌≡◌, ◌+◌, ◌-◌, inl, inr, List, [], ◌∷◌, ◌++◌, length, refl, sym, ap, ap₂, ◌∙◌, subst, arith}
 use Rattle.std.proofs.lemmas.List.{length_push, get_or_push, get_or_append_left}
 use Rattle.rational.specs.Rational.{ℚ, zero_ℚ}
-use Rattle.linear_systems.specs.Rows.{coefficient}
+use Rattle.linear_systems.specs.Rows.{basic_solution, coefficient}
 use Rattle.linear_systems.proofs.LexRowLemmas.{below_cases}
 use Rattle.pure_payoffs.specs.Steps.{Step}
-use Rattle.lex_tableau.specs.Rows.{Numbers, tableau, IsValueOf}
+use Rattle.lex_tableau.specs.Rows.{Numbers, tableau}
 use Rattle.sequence_forms.specs.Sides.{sequences, IsOrderedSide}
 use Rattle.sequence_data.specs.Data.{IsSideData, SideData, side_of}
 use Rattle.sequence_data.specs.Weights.{weight}
@@ -13,9 +13,9 @@ use Rattle.zero_sum_lp.specs.Parts.{HasShape, Program, IsOptimum, first_raw, sec
 use Rattle.zero_sum_lp.specs.PlanLists.{AreWeights}
 use Rattle.zero_sum_lp.specs.PlanSteps.{IsFittingRaise, IsUnfitRaise, IsFittingCut, IsUnfitCut}
 use Rattle.zero_sum_lp.specs.PlanStops.{IsFirstPlan, IsSecondPlan}
-use Rattle.zero_sum_lp.specs.Programs.{constraints, value_at, raw_one, raw_two}
+use Rattle.zero_sum_lp.specs.Programs.{constraints, raw_one, raw_two}
 use Rattle.zero_sum_lp.proofs.ExactPlanLemmas.{fitting_cut_as, fitting_raise_as, unfit_cut_as, unfit_raise_as}
-use Rattle.zero_sum_lp.proofs.OptimumLemmas.{sets_are, end_distinct, value_is}
+use Rattle.zero_sum_lp.proofs.OptimumLemmas.{sets_are}
 
 -- ---- lists of weights
 pub weights_push : (n : ℕ) (x : ℕ → ℚ) (xs ys : List ℚ) (v : ℚ) → AreWeights n x xs → v ≡ x n → ys ≡ xs ++ v ∷ [] → AreWeights (n + 1) x ys
@@ -29,10 +29,10 @@ weights_push n x xs ys v w e q =
     })
 
 module _ (o : Program) (h : IsOptimum o) (seen : Numbers) (e : seen ≡ o.tableau) (objective width : ℕ) (s : HasShape o.first o.second objective width) (k : ℕ) (q : ℚ) where
-  pub raw_one_is : IsValueOf (tableau seen) (objective + k + 1) q → q ≡ raw_one (side_of o.first) (side_of o.second) (tableau o.tableau) k
+  pub raw_one_is : q ≡ basic_solution (tableau seen) (objective + k + 1) → q ≡ raw_one (side_of o.first) (side_of o.second) (tableau o.tableau) k
   raw_one_is w =
       let m : objective ≡ constraints (side_of o.first) (side_of o.second) = s.rows in
-      value_is (tableau o.tableau) (objective + k + 1) q (end_distinct o h) (subst (λ n. IsValueOf (tableau n) (objective + k + 1) q) e w) ∙ ap (value_at (tableau o.tableau)) (omega arith)
+      w ∙ ap₂ (λ (n : Numbers) (u : ℕ). basic_solution (tableau n) u) e (omega arith)
 
   pub raw_two_is : (v : ℕ) → v ≡ suc (suc (side_of o.first).sets + k) → q ≡ coefficient (tableau seen) objective v → q ≡ raw_two (side_of o.first) (side_of o.second) (tableau o.tableau) k
   raw_two_is v f w = w ∙ ap (λ n. coefficient (tableau n) objective v) e ∙ ap (λ m. coefficient (tableau o.tableau) m v) s.rows ∙ ap (coefficient (tableau o.tableau) (constraints (side_of o.first) (side_of o.second))) f

@@ -5,17 +5,14 @@ use Rattle.answers.proofs.AnswerLemmas.{bind-single, refuse_where-single, refuse
 use Rattle.zero_sum_lp.specs.Programs.{program_of}
 use Rattle.linear_systems.proofs.AgreementLemmas.{alike_sym, alike_trans}
 use Rattle.lex_tableau.specs.Starts.{Parts, system_of}
-use Rattle.lex_tableau.specs.declared.tableau.StartStop.TheVariants as starts
-use Rattle.lex_tableau.proofs.SystemLemmas.{systems_determined, starts_same}
-use Rattle.whole_rows.proofs.FirstUnfitLemmas.{no_unfit_row, one_unfit_row}
+use Rattle.lex_tableau.proofs.SystemLemmas.{systems_determined, start_for-single}
 use Rattle.pure_payoffs.proofs.FirstUnfitLemmas.{all_fit-single, front_has, front_one}
 use Rattle.sequence_forms.specs.Prices.{gains}
 use Rattle.sequence_data.specs.declared.types.Leaf.{Leaf}
 use Rattle.sequence_data.specs.Data.{FormData, form, side_of}
 use Rattle.zero_sum_lp.specs.declared.stop.LpStop.TheVariants as stops
 use Rattle.zero_sum_lp.specs.declared.stop.NotConstant.{NotConstant}
-use Rattle.zero_sum_lp.specs.FormPrograms.{AreFirstApart, IsSystemOf, ProgramsAreSingle, gain_steps, gains_in, is_constant, size_of, start_in, start_of, started, sum_at, sum_steps, sums_in, told_start, too_many_rows}
-use Rattle.zero_sum_lp.proofs.PathEndLemmas.{program_same}
+use Rattle.zero_sum_lp.specs.FormPrograms.{AreFirstApart, IsSystemOf, ProgramsAreSingle, gain_steps, gains_in, is_constant, size_of, form_start, form_start_in, sum_at, sum_steps, sums_in, told_start, too_many_rows, with_start}
 
 -- ---- the sums
 heads_same : (x y : Leaf) (xs ys : List Leaf) → x ∷ xs ≡ y ∷ ys → x ≡ y
@@ -50,19 +47,8 @@ module _ (f : FormData) where
       let program = program_of (side_of f.first) (side_of f.second) (gains (form f) f.least_one) in
       systems_determined s t h.valid g.valid (alike_trans (system_of s) program (system_of t) (alike_sym program (system_of s) h.program) g.program) (h.rated ∙ sym g.rated)
 
-  started-single : (s : Parts) → IsSingle (started f s)
-  started-single s (Ok p) (Ok q) h g =
-      ap Ok (program_same p q (h.first ∙ sym g.first) (h.second ∙ sym g.second) (starts_same s p.tableau q.tableau h.valid g.valid h.start g.start))
-  started-single s (Ok p) (Err (starts.Unfit row unfit)) h g = absurd (no_unfit_row _ _ s.cells row unfit h.fits g)
-  started-single s (Err (starts.Unfit row unfit)) (Ok q) h g = absurd (no_unfit_row _ _ s.cells row unfit g.fits h)
-  started-single s (Err (starts.Unfit row unfit)) (Err (starts.Unfit other next)) h g =
-      (let same = one_unfit_row _ _ s.cells row other unfit next h g in λ i. Err (starts.Unfit (same.0 i) (same.1 i)))
-  started-single s (Err starts.Memory) other h g = absurd h
-  started-single s one (Err starts.Memory) h g = absurd g
-
-  start_of-single : IsSingle (start_of f)
-  start_of-single one other h g =
-      started-single g.0 one other (subst (λ s. started f s one) (one_system h.0 g.0 h.1.0 g.1.0) h.1.1) g.1.1
+  form_start-single : IsSingle (form_start f)
+  form_start-single = start_for-single (IsSystemOf f) (with_start f) one_system
 
 -- ---- all stages
 pub programs_single : ProgramsAreSingle
@@ -70,8 +56,8 @@ programs_single f =
     let constant = refused_by stops.NotConstant (is_constant f.leaves) in
     let numbers = gains_in f.least_one f.cells in
     let size = refuse_where (512 < size_of f) (stops.TooLarge (too_many_rows f)) in
-    bind-single size (λ _. sums_in f.leaves >> (constant >> (numbers >> start_in f))) (refuse_where-single (512 < size_of f) (stops.TooLarge (too_many_rows f)))
-    (λ _ _. bind-single (sums_in f.leaves) (λ _. constant >> (numbers >> start_in f)) (refused_by-single (λ stop. stops.SumRange stop.0.place stop.1) _ (all_fit-single sum_steps f.leaves))
-    (λ _ _. bind-single constant (λ _. numbers >> start_in f) (refused_by-single stops.NotConstant _ (is_constant-single f.leaves))
-    (λ _ _. bind-single numbers (λ _. start_in f) (refused_by-single (λ stop. stops.GainRange stop.0.row stop.0.column stop.1) _ (all_fit-single (gain_steps f.least_one) f.cells))
-    (λ _ _. refused_by-single told_start _ (start_of-single f)))))
+    bind-single size (λ _. sums_in f.leaves >> (constant >> (numbers >> form_start_in f))) (refuse_where-single (512 < size_of f) (stops.TooLarge (too_many_rows f)))
+    (λ _ _. bind-single (sums_in f.leaves) (λ _. constant >> (numbers >> form_start_in f)) (refused_by-single (λ stop. stops.SumRange stop.0.place stop.1) _ (all_fit-single sum_steps f.leaves))
+    (λ _ _. bind-single constant (λ _. numbers >> form_start_in f) (refused_by-single stops.NotConstant _ (is_constant-single f.leaves))
+    (λ _ _. bind-single numbers (λ _. form_start_in f) (refused_by-single (λ stop. stops.GainRange stop.0.row stop.0.column stop.1) _ (all_fit-single (gain_steps f.least_one) f.cells))
+    (λ _ _. refused_by-single told_start _ (form_start-single f)))))

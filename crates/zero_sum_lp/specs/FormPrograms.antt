@@ -1,12 +1,12 @@
 -- The program of a sequence form in stages, and why there is none.
 use Rattle.std.specs.Prelude.{ℕ, ◌≡◌, ◌≢◌, ◌<◌, List, [], ◌∷◌, ◌++◌, All, Ok, Err}
-use Rattle.answers.specs.Answers.{Answer, ◌>>◌, IsSingle, refuse_where, refused_by}
+use Rattle.answers.specs.Answers.{Answer, ◌>>=◌, ◌>>◌, only, IsSingle, refuse_where, refused_by}
 use Rattle.rational.specs.Rational.{ℚ, ◌+ℚ◌, ◌-ℚ◌, ◌*ℚ◌}
 use Rattle.frac128.specs.Steps.{unfit}
 use Rattle.frac128.specs.declared.steps.Op.TheVariants.{Add, Sub, Mul}
-use Rattle.lex_tableau.specs.Rows.{IsTableau}
-use Rattle.lex_tableau.specs.Starts.{Parts, IsStartOf, StartFits}
-use Rattle.lex_tableau.specs.StartStops.{IsStartStop}
+use Rattle.lex_tableau.specs.Rows.{Numbers}
+use Rattle.lex_tableau.specs.Starts.{Parts}
+use Rattle.lex_tableau.specs.StartStops.{start_in}
 use Rattle.lex_tableau.specs.declared.tableau.StartStop.{StartStop}
 use Rattle.lex_tableau.specs.declared.tableau.StartStop.TheVariants as starts
 use Rattle.game_core.specs.declared.too_large.TooLarge.{TooLarge}
@@ -85,30 +85,23 @@ gains_in least cells =
 abbrev pub IsSystemOf : FormData → Parts → Type 0
 IsSystemOf f s = IsSystemFor f.first f.second (gains (form f) f.least_one) s
 
--- a program with these sides, whose start is that of this system
-pub record IsStarted (f : FormData) (s : Parts) (p : Program) : Type 0 where
-  pub first : p.first ≡ f.first
-  pub second : p.second ≡ f.second
-  pub start : IsStartOf s p.tableau
-  pub valid : IsTableau p.tableau
-  pub fits : StartFits s
+-- the program of a form's sides with this start
+abbrev pub with_start : FormData → Numbers → Program
+with_start f n = record { first = f.first; second = f.second; tableau = n }
 
--- the start of the system, all steps of which fit; or the first step that does not, with its row
-abbrev pub started : FormData → Parts → Answer StartStop Program
-started f s (Ok p) = IsStarted f s p
-started f s (Err (starts.Unfit row unfit)) = IsStartStop s (starts.Unfit row unfit)
-started f s (Err starts.Memory) = ⊥
-
-abbrev pub start_of : FormData → Answer StartStop Program
-start_of f answer = (s : Parts) × (IsSystemOf f s × started f s answer)
+-- the program with the start of its system, all steps of which fit; or the first step that does
+-- not, with its row
+abbrev pub form_start : FormData → Answer StartStop Program
+form_start f answer =
+    (s : Parts) × (IsSystemOf f s × (start_in s >>= (λ n. only (with_start f n))) answer)
 
 -- a stop of the start as one of the program
 abbrev pub told_start : StartStop → LpStop
 told_start (starts.Unfit row unfit) = stops.Start row unfit
 told_start starts.Memory = stops.Memory
 
-abbrev pub start_in : FormData → Answer LpStop Program
-start_in f = refused_by told_start (start_of f)
+abbrev pub form_start_in : FormData → Answer LpStop Program
+form_start_in f = refused_by told_start (form_start f)
 
 -- ---- all
 -- The program of a sequence form within the limit, whose payoffs sum to the same number at each
@@ -118,7 +111,7 @@ program_in f =
     refuse_where (512 < size_of f) (stops.TooLarge (too_many_rows f))
     >> (sums_in f.leaves
     >> (refused_by stops.NotConstant (is_constant f.leaves)
-    >> (gains_in f.least_one f.cells >> start_in f)))
+    >> (gains_in f.least_one f.cells >> form_start_in f)))
 
 -- A form has one program, or one reason why it has none.
 abbrev pub ProgramsAreSingle : Type 0

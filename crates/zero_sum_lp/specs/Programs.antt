@@ -1,10 +1,9 @@
 -- The linear program of two players' realisation plans, and what is read at its optimum. Source:
 -- Koller, Megiddo and von Stengel 1996.
 use Rattle.std.specs.Prelude.{ℕ, suc, ◌+◌, ◌-◌, ◌<◌, ◌≡◌, nat_lt, if◌then◌else◌}
-use Rattle.rational.specs.Rational.{ℚ, ◌*ℚ◌, neg_ℚ, zero_ℚ}
-use Rattle.rational.specs.Sum.{sum_to}
+use Rattle.rational.specs.Rational.{ℚ, neg_ℚ, zero_ℚ}
 use Rattle.linear_systems.specs.Tableau.{Tableau}
-use Rattle.linear_systems.specs.Rows.{unit_at, coefficient, Alike}
+use Rattle.linear_systems.specs.Rows.{basic_solution, coefficient, Alike}
 use Rattle.sequence_forms.specs.Sides.{Side, sequences}
 use Rattle.sequence_forms.specs.Matrices.{set_row, right_side}
 use Rattle.zero_sum_lp.specs.Paths.{LinearProgram}
@@ -60,11 +59,6 @@ pub record IsProgramOf (rows columns : Side) (gain : ℕ → ℕ → ℚ) (g : L
   pub start : Alike (program_of rows columns gain) g.start
   pub bound : g.start.rows + g.start.width < g.bound
 
--- the value of variable v in the tableau's own solution: the right side of its row, and 0 where it
--- is not basic
-abbrev pub value_at : Tableau → ℕ → ℚ
-value_at t v = sum_to t.rows (λ i. t.right i *ℚ unit_at (t.basic i) v)
-
 -- the prices of the first player: the objective row's entries at the slacks of the first player's
 -- rows
 abbrev pub price_one : Side → Side → Tableau → ℕ → ℚ
@@ -76,8 +70,9 @@ raw_two rows columns t q = coefficient t (constraints rows columns) (suc (suc ro
 
 -- the prices of the second player: the values of Q
 abbrev pub price_two : Side → Side → Tableau → ℕ → ℚ
-price_two rows columns t k = value_at t (suc (constraints rows columns + (sequences rows + k)))
+price_two rows columns t k =
+    basic_solution t (suc (constraints rows columns + (sequences rows + k)))
 
 -- the raw weights of the first player: the values of x
 abbrev pub raw_one : Side → Side → Tableau → ℕ → ℚ
-raw_one rows columns t q = value_at t (suc (constraints rows columns + q))
+raw_one rows columns t q = basic_solution t (suc (constraints rows columns + q))

@@ -1,5 +1,5 @@
 -- The path of a program over whole numbers, step by step, and the first step that does not fit.
-use Rattle.std.specs.Prelude.{ℕ, zero, suc, ◌+◌, ◌-◌, ◌^◌, ◌<◌, ◌≤◌, ◌≡◌, length, get_or, Option, MatchOption}
+use Rattle.std.specs.Prelude.{ℕ, zero, suc, ◌+◌, ◌<◌, ◌≤◌, ◌≡◌, length, get_or, Option, MatchOption}
 use Rattle.rational.specs.Rational.{zero_ℚ, ◌≤ℚ◌, ◌<ℚ◌}
 use Rattle.linear_systems.specs.Tableau.{Tableau}
 use Rattle.linear_systems.specs.Rows.{IsLexicographicRow}
@@ -8,7 +8,7 @@ use Rattle.frac128.specs.declared.steps.Unfit.{Unfit}
 use Rattle.lex_tableau.specs.Rows.{Numbers, tableau, IsPivotOf, IsTableau}
 use Rattle.lex_tableau.specs.Ratio.{listed}
 use Rattle.whole_rows.specs.Steps.{AllFit, IsFirstUnfit}
-use Rattle.lex_tableau.specs.Pivots.{steps_of_pivot}
+use Rattle.lex_tableau.specs.Pivots.{pivot_number, steps_of_pivot}
 
 -- the linear program that a tableau is the start of
 abbrev pub linear_program : Numbers → LinearProgram
@@ -51,11 +51,6 @@ pub record EndsPath (first n : Numbers) : Type 0 where
   pub path : LeadsTo first count n
   pub optimal : IsOptimal n.rated (tableau n)
 
--- the number of a step, counted from 1; 2 ^ 64 - 1 stands for every later step too
-pub record IsPivotNumber (k number : ℕ) : Type 0 where
-  pub exact : k < 2 ^ 64 → number ≡ k
-  pub later : 2 ^ 64 ≤ k → number ≡ 2 ^ 64 - 1
-
 -- the first step of the path that does not fit: its number, the entering variable, and the first
 -- step of its arithmetic that does not fit
 pub record IsUnfitPivot (first : Numbers) (number entering : ℕ) (unfit : Unfit) : Type 0 where
@@ -67,7 +62,7 @@ pub record IsUnfitPivot (first : Numbers) (number entering : ℕ) (unfit : Unfit
   pub enters : IsEntering before.rated (tableau before) column
   pub leaves : IsLeavingRow before column row
   pub variable : entering ≡ (tableau before).nonbasic column
-  pub is_number : IsPivotNumber (suc count) number
+  pub is_number : number ≡ pivot_number (suc count)
   pub first_unfit : IsFirstUnfit (steps_of_pivot before row column) unfit
 
 -- where a walk along the path is: after pivots that were counted from `past` on, and before the pivot
@@ -76,7 +71,7 @@ pub record IsUnderWay (first now : Numbers) (past pivots number : ℕ) : Type 0 
   pub count : ℕ
   pub path : LeadsTo first count now
   pub counted : pivots ≡ count + past
-  pub is_number : IsPivotNumber (suc count) number
+  pub is_number : number ≡ pivot_number (suc count)
 
 -- the least-numbered nonbasic variable with a negative entry in row m among the first n columns, or
 -- none

@@ -2,7 +2,7 @@
 ghost use Rattle.std.specs.Prelude.{◌≡◌, ◌≤◌, map, IfOk};
 ghost use Rattle.answers.specs.Answers.{Gives};
 ghost use Rattle.zero_sum_lp.specs.declared.stop.LpStop.TheVariants as lp_stops;
-ghost use Rattle.zero_sum_lp.specs.FormPrograms.{IsSystemOf, gain_at, program_in, size_of, start_in};
+ghost use Rattle.zero_sum_lp.specs.FormPrograms.{IsSystemOf, gain_at, program_in, size_of, form_start_in};
 
 use crate::gains::gains;
 use crate::lp::Lp;
@@ -54,7 +54,7 @@ fn system_of_form(alloc: Global, form: &SeqForm, gains: &[Frac]) -> Result<Syste
 fn started(alloc: Global, form: &SeqForm, system: &System) -> Result<Lp, LpStop>
     requires few { size_of form.now ≤ 512 }
     requires system { IsSystemOf form.now system.now }
-    ensures { Gives lp_stops.Memory (start_in form.now) result }
+    ensures { Gives lp_stops.Memory (form_start_in form.now) result }
 {
     let first = copied(alloc, form.first())?;
     let second = copied(alloc, form.second())?;

@@ -1,8 +1,9 @@
 // The path of a linear program.
-ghost use Rattle.std.specs.Prelude.{◌≡◌, ◌+◌, ◌^◌, ◌<◌, ◌≤◌, ℕ, suc, length, true, false, IfErr, OnOk};
+ghost use Rattle.std.specs.Prelude.{◌≡◌, ◌+◌, ◌^◌, ◌<◌, ◌≤◌, suc, length, true, false, IfErr, OnOk};
 ghost use Rattle.rational.specs.Rational.{zero_ℚ, ◌≤ℚ◌, ◌<ℚ◌};
 ghost use Rattle.lex_tableau.specs.Rows.{tableau};
-ghost use Rattle.zero_sum_lp.specs.Steps.{linear_program, IsProgramStart, EntersFirst, EndsPath, IsUnfitPivot, IsPivotNumber};
+ghost use Rattle.lex_tableau.specs.Pivots.{pivot_number};
+ghost use Rattle.zero_sum_lp.specs.Steps.{linear_program, IsProgramStart, EntersFirst, EndsPath, IsUnfitPivot};
 
 use frac128::Unfit;
 use lex_tableau::{PivotCount, Tableau, Work};
@@ -67,7 +68,7 @@ fn entering(current: &Tableau, objective: usize, width: usize) -> Option<usize>
 
 // The number of the step after this one.
 fn next_number(number: u64) -> u64
-    ensures { (k : ℕ) → IsPivotNumber k number → IsPivotNumber (suc k) result }
+    ensures { result ≡ pivot_number (suc number) }
 {
     if number == u64::MAX {
         number

@@ -2,7 +2,7 @@ use Rattle.std.proofs.Common.{suc, ◌≡◌, ◌+◌, length, List, ℕ, ◌≢
 use Rattle.std.specs.List.{All, Any}
 use Rattle.rational.specs.Rational.{zero_ℚ}
 use Rattle.lex_tableau.specs.Rows.{tableau as fractions_of}
-use Rattle.linear_systems.specs.Points.{basic_solution}
+use Rattle.linear_systems.specs.Rows.{basic_solution}
 use Rattle.linear_systems.specs.Vertices.{IsZeroWord}
 use Rattle.basis_enum.proofs.VertexMarkLemmas.{vertex_is, vertex_none}
 use Rattle.basis_enum.proofs.marking.vertex_of.Goals as goal

@@ -1,8 +1,10 @@
 use Rattle.std.proofs.Common.{◌≢◌, ◌+◌, ◌<◌, suc, sym, ap, ◌∙◌, subst, length, true≢false, arith}
 use Rattle.rational.specs.Rational.{zero_ℚ}
 use Rattle.rational.proofs.InverseLemmas.{ne_zero_of_pos}
+use Rattle.linear_systems.specs.Rows.{basic_solution}
+use Rattle.lex_tableau.specs.Pivots.{pivot_number}
+use Rattle.lex_tableau.proofs.PivotNumberLemmas.{pivot_number_next}
 use Rattle.lex_tableau.specs.Rows.{Numbers, tableau, IsTableau}
-use Rattle.lemke_pivot.specs.Values.{value}
 use Rattle.lemke_pivot.specs.ProblemPaths.{complement, z0_of}
 use Rattle.lemke_pivot.proofs.KeptWalkLemmas.{z0_entry, columns_are, walk_value, walk_bound, walk_solved, walk_nonbasic, walk_variable, walk_best, walk_never, walk_next, walk_stops}
 use Rattle.lemke_pivot.proofs.path.walk.Goals as goal
@@ -50,7 +52,7 @@ pub pivot-requires-in-loop-size-clause-entry : goal.pivot-requires-in-loop-size-
 pivot-requires-in-loop-size-clause-entry g c =
     let l = c.loop-size in let o = l.invariant.path in
     let v = walk_value c.args.size c.args.first c.args.work.now c.requires.start l.work l.entering c.args.pivots.now l.pivots l.step o c.now.result.now (c.args.size + c.args.size + 1) c.value.result c.now.ensures.value (omega arith) c.value.ensures.value in
-    let ne : value (tableau l.work) (z0_of c.args.size) ≢ zero_ℚ = λ e. true≢false (sym (c.is_zero.ensures.1 (v ∙ e)) ∙ c.if-is_zero.false) in
+    let ne : basic_solution (tableau l.work) (z0_of c.args.size) ≢ zero_ℚ = λ e. true≢false (sym (c.is_zero.ensures.1 (v ∙ e)) ∙ c.if-is_zero.false) in
     let L = walk_best c.args.size c.args.first c.args.work.now c.requires.start l.work l.entering c.args.pivots.now l.pivots l.step o ne c.now-in-loop-size-2.result.now c.column_of-col.result c.in-Some.row c.ratio_row.result c.now-in-loop-size-2.ensures.value c.in-Some.is c.ratio_row.ensures.best in
     ne_zero_of_pos ((tableau l.work).cell c.in-Some.row c.column_of-col.result) L.positive
 
@@ -58,16 +60,16 @@ pub returns-in-Err-pivot-clause-unfit : goal.returns-in-Err-pivot-clause-unfit
 returns-in-Err-pivot-clause-unfit g c =
     let l = c.loop-size in let o = l.invariant.path in
     let v = walk_value c.args.size c.args.first c.args.work.now c.requires.start l.work l.entering c.args.pivots.now l.pivots l.step o c.now.result.now (c.args.size + c.args.size + 1) c.value.result c.now.ensures.value (omega arith) c.value.ensures.value in
-    let ne : value (tableau l.work) (z0_of c.args.size) ≢ zero_ℚ = λ e. true≢false (sym (c.is_zero.ensures.1 (v ∙ e)) ∙ c.if-is_zero.false) in
+    let ne : basic_solution (tableau l.work) (z0_of c.args.size) ≢ zero_ℚ = λ e. true≢false (sym (c.is_zero.ensures.1 (v ∙ e)) ∙ c.if-is_zero.false) in
     walk_stops c.args.size c.args.first c.args.work.now c.requires.start l.work l.entering c.args.pivots.now l.pivots l.step o ne c.column_of-col.result c.in-Some.row c.column_of-col.ensures.within (sym (ap (λ (m : Numbers). (tableau m).nonbasic c.column_of-col.result) c.now-in-loop-size.ensures.value) ∙ c.column_of-col.ensures.is)
     (walk_best c.args.size c.args.first c.args.work.now c.requires.start l.work l.entering c.args.pivots.now l.pivots l.step o ne c.now-in-loop-size-2.result.now c.column_of-col.result c.in-Some.row c.ratio_row.result c.now-in-loop-size-2.ensures.value c.in-Some.is c.ratio_row.ensures.best)
-    (subst IsTableau c.now.ensures.value c.value.ensures.valid) c.next_step-step.result c.in-Err-pivot.unfit (c.next_step-step.ensures (suc (length o.earlier)) o.number) c.in-Err-pivot.ensures.unfit
+    (subst IsTableau c.now.ensures.value c.value.ensures.valid) c.next_step-step.result c.in-Err-pivot.unfit (c.next_step-step.ensures ∙ ap (λ k. pivot_number (suc k)) o.number ∙ pivot_number_next (suc (length o.earlier))) c.in-Err-pivot.ensures.unfit
 
 pub complement_of-entering-requires-clause-positive : goal.complement_of-entering-requires-clause-positive
 complement_of-entering-requires-clause-positive g c =
     let l = c.loop-size in let o = l.invariant.path in
     let v = walk_value c.args.size c.args.first c.args.work.now c.requires.start l.work l.entering c.args.pivots.now l.pivots l.step o c.now.result.now (c.args.size + c.args.size + 1) c.value.result c.now.ensures.value (omega arith) c.value.ensures.value in
-    let ne : value (tableau l.work) (z0_of c.args.size) ≢ zero_ℚ = λ e. true≢false (sym (c.is_zero.ensures.1 (v ∙ e)) ∙ c.if-is_zero.false) in
+    let ne : basic_solution (tableau l.work) (z0_of c.args.size) ≢ zero_ℚ = λ e. true≢false (sym (c.is_zero.ensures.1 (v ∙ e)) ∙ c.if-is_zero.false) in
     let L = walk_best c.args.size c.args.first c.args.work.now c.requires.start l.work l.entering c.args.pivots.now l.pivots l.step o ne c.now-in-loop-size-2.result.now c.column_of-col.result c.in-Some.row c.ratio_row.result c.now-in-loop-size-2.ensures.value c.in-Some.is c.ratio_row.ensures.best in
     subst (λ k. 0 < k) (sym (c.basic-leaving.ensures ∙ ap (λ (m : Numbers). (tableau m).basic c.in-Some.row) c.now-in-loop-size-3.ensures.value)) (walk_variable c.args.size c.args.first c.args.work.now c.requires.start l.work l.entering c.args.pivots.now l.pivots l.step o ne c.in-Some.row L.within).0
 
@@ -75,7 +77,7 @@ pub loop-size-preserved : goal.loop-size-preserved
 loop-size-preserved g c =
     let l = c.loop-size in let o = l.invariant.path in
     let v = walk_value c.args.size c.args.first c.args.work.now c.requires.start l.work l.entering c.args.pivots.now l.pivots l.step o c.now.result.now (c.args.size + c.args.size + 1) c.value.result c.now.ensures.value (omega arith) c.value.ensures.value in
-    let ne : value (tableau l.work) (z0_of c.args.size) ≢ zero_ℚ = λ e. true≢false (sym (c.is_zero.ensures.1 (v ∙ e)) ∙ c.if-is_zero.false) in
+    let ne : basic_solution (tableau l.work) (z0_of c.args.size) ≢ zero_ℚ = λ e. true≢false (sym (c.is_zero.ensures.1 (v ∙ e)) ∙ c.if-is_zero.false) in
     let L = walk_best c.args.size c.args.first c.args.work.now c.requires.start l.work l.entering c.args.pivots.now l.pivots l.step o ne c.now-in-loop-size-2.result.now c.column_of-col.result c.in-Some.row c.ratio_row.result c.now-in-loop-size-2.ensures.value c.in-Some.is c.ratio_row.ensures.best in
     let left = c.basic-leaving.ensures ∙ ap (λ (m : Numbers). (tableau m).basic c.in-Some.row) c.now-in-loop-size-3.ensures.value in
     record {
@@ -83,7 +85,7 @@ loop-size-preserved g c =
       few = l.invariant.few;
       z0 = l.invariant.z0;
       path = walk_next c.args.size c.args.first c.args.work.now c.requires.start l.work l.entering c.args.pivots.now l.pivots l.step o ne c.column_of-col.result c.in-Some.row c.column_of-col.ensures.within (sym (ap (λ (m : Numbers). (tableau m).nonbasic c.column_of-col.result) c.now-in-loop-size.ensures.value) ∙ c.column_of-col.ensures.is) L (subst IsTableau c.now.ensures.value c.value.ensures.valid)
-          c.pivot-in-loop-size.new.self c.complement_of-entering.result c.pivot-in-loop-size.new.pivots c.next_step-step.result c.in_default-pivot.ensures.pivot c.in_default-pivot.ensures.fits (c.complement_of-entering.ensures ∙ ap (complement c.args.size) left) c.pivot-in-loop-size.ensures.counted (c.next_step-step.ensures (suc (length o.earlier)) o.number);
+          c.pivot-in-loop-size.new.self c.complement_of-entering.result c.pivot-in-loop-size.new.pivots c.next_step-step.result c.in_default-pivot.ensures.pivot c.in_default-pivot.ensures.fits (c.complement_of-entering.ensures ∙ ap (complement c.args.size) left) c.pivot-in-loop-size.ensures.counted (c.next_step-step.ensures ∙ ap (λ k. pivot_number (suc k)) o.number ∙ pivot_number_next (suc (length o.earlier)));
     }
 
 pub loop-size-smaller : goal.loop-size-smaller

@@ -5,4 +5,4 @@ use Rattle.lemke_pivot.proofs.lcp.Solution.one.Goals as goal
 
 pub returns : goal.returns
 returns c = let e = c.self.invariant.3 in
-    subst (λ p. c.value.result ≡ plan_one p c.args.sequence) c.self.view_is (read_value c.now.result.now c.self.inside.work _ _ c.value.result c.now.ensures.value (omega (arith, e)) c.value.ensures.valid c.value.ensures.value)
+    subst (λ p. c.value.result ≡ plan_one p c.args.sequence) c.self.view_is (read_value c.now.result.now c.self.inside.work _ _ c.value.result c.now.ensures.value (omega (arith, e)) c.value.ensures.value)

@@ -5,4 +5,4 @@ use Rattle.lemke_pivot.proofs.lcp.Solution.two.Goals as goal
 
 pub returns : goal.returns
 returns c = let e = c.self.invariant.3 in let f = c.sequences.ensures ∙ c.self.invariant.0.sequences_are in
-    subst (λ p. c.value.result ≡ plan_two p c.args.sequence) c.self.view_is (read_value c.now.result.now c.self.inside.work _ _ c.value.result c.now.ensures.value (omega (arith, e, f)) c.value.ensures.valid c.value.ensures.value)
+    subst (λ p. c.value.result ≡ plan_two p c.args.sequence) c.self.view_is (read_value c.now.result.now c.self.inside.work _ _ c.value.result c.now.ensures.value (omega (arith, e, f)) c.value.ensures.value)
