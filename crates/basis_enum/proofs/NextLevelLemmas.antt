@@ -1,12 +1,12 @@
 -- The tableaux of the next level, one after the other
-use Rattle.std.proofs.Common.{ℕ, ◌<◌, ◌≤◌, ◌≡◌, ◌+◌, refl, sym, ap, ◌∙◌, subst, subst₂, arith, inl, inr, List, [], ◌∷◌, ◌++◌, length, get_or, map, eq-or-lt_of_le}
+use Rattle.std.proofs.Common.{ℕ, ◌<◌, ◌≤◌, ◌≡◌, ◌+◌, refl, sym, ap, ◌∙◌, subst, subst₂, arith, inl, inr, List, [], ◌∷◌, ◌++◌, length, get_or, map, eq-or-lt_of_le, All}
 use Rattle.std.proofs.Math.Seq.{get_or-append_seam}
 use Rattle.std.proofs.Math.ListN.{get_or-map}
 use Rattle.std.proofs.lemmas.List.{length-append, length-map, get_or_append_left, get_or_default}
 use Rattle.std.proofs.lemmas.List.Elements.{Contains-get_or}
 use Rattle.frac128.specs.declared.steps.Unfit.{Unfit}
 use Rattle.lex_tableau.specs.Rows.{Numbers}
-use Rattle.whole_rows.specs.Steps.{AllFit, IsFirstUnfit}
+use Rattle.frac128.specs.Steps.{StepFits, IsFirstUnfit}
 use Rattle.basis_enum.specs.Levels as L
 use Rattle.basis_enum.specs.Levels.{Levels, no_tableau, IsChild, AreNextMoves, IsNextLevel, count, most, steps_of}
 use Rattle.basis_enum.specs.Ends.{IsAscendingListOf, IsFirstUnfitMove}
@@ -47,7 +47,7 @@ first_unfit : (level : List Numbers) (moves : List Move) (n : ℕ) (next : List 
 first_unfit level moves n next unfit w c h =
     record {
       within = (let e : length (map move_of moves) ≡ length moves = length-map moves move_of in omega arith);
-      before = λ j l. subst (λ m. AllFit (steps_of level m)) (sym (moved_at moves j)) (c.each j l).fits;
+      before = λ j l. subst (λ m. All StepFits (steps_of level m)) (sym (moved_at moves j)) (c.each j l).fits;
       here = subst (λ m. IsFirstUnfit (steps_of level m) unfit) (sym (moved_at moves n)) h;
     }
 

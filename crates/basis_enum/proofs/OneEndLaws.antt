@@ -1,5 +1,5 @@
 -- The enumeration of a system ends in one way
-use Rattle.std.proofs.Common.{ℕ, suc, zero, ◌≡◌, ◌<◌, ◌≤◌, ◌+◌, sym, ap, ap₂, ◌∙◌, subst, arith, inl, inr, List, [], ◌∷◌, ◌++◌, length, get_or, eq-or-lt_of_le, le_of_suc-le-suc}
+use Rattle.std.proofs.Common.{ℕ, suc, zero, ◌≡◌, ◌<◌, ◌≤◌, ◌+◌, sym, ap, ap₂, ◌∙◌, subst, arith, inl, inr, List, [], ◌∷◌, ◌++◌, length, get_or, eq-or-lt_of_le, le_of_suc-le-suc, All}
 use Rattle.std.proofs.lemmas.Bool.{cases_order}
 use Rattle.std.proofs.lemmas.List.{same_lists, get_or_default}
 use Rattle.std.specs.List.{Contains}
@@ -8,12 +8,13 @@ use Rattle.frac128.specs.declared.steps.Unfit.{Unfit}
 use Rattle.lex_tableau.specs.Rows.{Numbers, IsTableau}
 use Rattle.lex_tableau.specs.Starts.{Parts, StartFits}
 use Rattle.whole_rows.specs.StartRows.{IsFirstUnfitRow}
-use Rattle.whole_rows.specs.Steps.{AllFit, IsFirstUnfit}
+use Rattle.frac128.specs.Steps.{StepFits, IsFirstUnfit}
 use Rattle.basis_enum.specs.Levels.{Levels, Move, no_move, no_tableau, parent_of, entering, IsChild, IsNextLevel, IsLevel, steps_of, count, most}
 use Rattle.basis_enum.specs.Ends.{End, complete, start, range, too_many, IsAscendingListOf, IsFirstUnfitMove, IsClosedAt, IsPassedAt, IsUnfitChild, EndsAt, EndsAtLevel, IsEnd}
 use Rattle.basis_enum.proofs.AscendingNumberLemmas.{increasing_same, in_cases}
 use Rattle.lex_tableau.proofs.TableauLemmas.{determined, alike_both}
-use Rattle.whole_rows.proofs.FirstUnfitLemmas.{no_unfit, one_unfit, no_unfit_row, one_unfit_row}
+use Rattle.frac128.proofs.FirstUnfitLemmas.{unfit_among, unfit_once}
+use Rattle.whole_rows.proofs.FirstUnfitLemmas.{no_unfit_row, one_unfit_row}
 use Rattle.basis_enum.proofs.NextPivotLemmas.{moves_once}
 
 levels_same : (l m : Levels) → l.before ≡ m.before → l.level ≡ m.level → l ≡ m
@@ -73,7 +74,7 @@ goes_on k l m (range level basis variable unfit) valid (_, p) n =
     let same : p.moves ≡ n.moves = moves_once l p.moves n.moves valid p.are n.are in
     let w : p.place < length p.moves = p.first.within in
     let c : length p.moves ≡ length n.moves = ap length same in
-    no_unfit (steps_of l.level (get_or p.moves p.place no_move)) unfit (subst (λ ms. AllFit (steps_of l.level (get_or ms p.place no_move))) (sym same) (n.children p.place (omega arith)).fits) p.first.here
+    unfit_among (steps_of l.level (get_or p.moves p.place no_move)) unfit p.first.here (subst (λ ms. All StepFits (steps_of l.level (get_or ms p.place no_move))) (sym same) (n.children p.place (omega arith)).fits)
 goes_on k l m (complete reached) valid p n =
     let c : 0 ≡ length n.moves = ap length (moves_once l [] n.moves valid p.none n.are) in
     let some : 0 < length n.moves = n.some in
@@ -83,8 +84,8 @@ goes_on k l m (start row unfit) valid p n = p
 first_once : (level : List Numbers) (moves : List Move) (i j : ℕ) (e f : Unfit) → IsFirstUnfitMove level moves i e → IsFirstUnfitMove level moves j f → i ≡ j
 first_once level moves i j e f p q = elim (cases_order i j) [
   | inl same ↦ same
-  | inr (inl l) ↦ absurd (no_unfit _ e (q.before i l) p.here)
-  | inr (inr l) ↦ absurd (no_unfit _ f (p.before j l) q.here)
+  | inr (inl l) ↦ absurd (unfit_among _ e p.here (q.before i l))
+  | inr (inr l) ↦ absurd (unfit_among _ f q.here (p.before j l))
 ]
 
 stopped_once : (k : ℕ) (l : Levels) (b c : List ℕ) (v w : ℕ) (e f : Unfit) → ((t : Numbers) → Contains l.level t → IsTableau t) → IsUnfitChild l b v e → IsUnfitChild l c w f → range k b v e ≡ range k c w f
@@ -100,7 +101,7 @@ stopped_once k l b c v w e f valid p q = ap₂ (λ b v. range k b v e) lists var
     place = first_once l.level q.moves p.place q.place e f moved q.first
 
     pivots : e ≡ f
-    pivots = one_unfit (steps_of l.level (get_or q.moves q.place no_move)) e f (subst (λ i. IsFirstUnfit (steps_of l.level (get_or q.moves i no_move)) e) place moved.here) q.first.here
+    pivots = unfit_once (steps_of l.level (get_or q.moves q.place no_move)) e f (subst (λ i. IsFirstUnfit (steps_of l.level (get_or q.moves i no_move)) e) place moved.here) q.first.here
 
     pivot : get_or p.moves p.place no_move ≡ get_or q.moves q.place no_move
     pivot = ap₂ (λ ms i. get_or ms i no_move) same place

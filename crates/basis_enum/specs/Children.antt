@@ -5,7 +5,7 @@ use Rattle.std.specs.List.{Contains}
 use Rattle.std.specs.List.Sorted.{IsStrictlyIncreasing}
 use Rattle.lex_tableau.specs.Rows.{Numbers}
 use Rattle.lex_tableau.specs.Starts.{Parts}
-use Rattle.whole_rows.specs.Steps.{IsFirstUnfit}
+use Rattle.frac128.specs.Steps.{IsFirstUnfit}
 use Rattle.basis_enum.specs.Levels as L
 use Rattle.basis_enum.specs.Levels.{no_tableau, IsMove, IsChild, steps_of}
 use Rattle.basis_enum.specs.Ends.{IsFirstUnfitMove}

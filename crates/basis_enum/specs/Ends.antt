@@ -1,10 +1,10 @@
 -- How the enumeration of a system ends
-use Rattle.std.specs.Prelude.{ℕ, ◌+◌, ◌<◌, ◌≤◌, ◌≡◌, List, [], ◌++◌, length, get_or}
+use Rattle.std.specs.Prelude.{ℕ, ◌+◌, ◌<◌, ◌≤◌, ◌≡◌, List, [], ◌++◌, length, get_or, All}
 use Rattle.std.specs.List.{Contains}
 use Rattle.std.specs.List.Sorted.{IsStrictlyIncreasing}
 use Rattle.frac128.specs.declared.steps.Unfit.{Unfit}
 use Rattle.whole_rows.specs.StartRows.{IsFirstUnfitRow}
-use Rattle.whole_rows.specs.Steps.{AllFit, IsFirstUnfit}
+use Rattle.frac128.specs.Steps.{StepFits, IsFirstUnfit}
 use Rattle.lex_tableau.specs.Rows.{Numbers}
 use Rattle.lex_tableau.specs.Starts.{Parts}
 use Rattle.basis_enum.specs.Levels.{Levels, Move, no_move, parent_of, entering, AreNextMoves, steps_of, count, most, IsLevel}
@@ -28,7 +28,7 @@ pub record IsAscendingListOf (variables list : List ℕ) : Type 0 where
 pub record IsFirstUnfitMove (level : List Numbers) (moves : List Move) (i : ℕ) (unfit : Unfit)
     : Type 0 where
   pub within : i < length moves
-  pub before : (j : ℕ) → j < i → AllFit (steps_of level (get_or moves j no_move))
+  pub before : (j : ℕ) → j < i → All StepFits (steps_of level (get_or moves j no_move))
   pub here : IsFirstUnfit (steps_of level (get_or moves i no_move)) unfit
 
 -- no basis is next, and these are the tableaux of all levels

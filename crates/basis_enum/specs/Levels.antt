@@ -1,10 +1,10 @@
 -- The levels of bases: level 0 is the start's basis, and a level's new neighbours are the next
 -- level
-use Rattle.std.specs.Prelude.{ℕ, zero, suc, ◌+◌, ◌<◌, ◌≤◌, ◌≡◌, ◌⊎◌, List, [], ◌∷◌, ◌++◌, length, get_or, map}
+use Rattle.std.specs.Prelude.{ℕ, zero, suc, ◌+◌, ◌<◌, ◌≤◌, ◌≡◌, ◌⊎◌, List, [], ◌∷◌, ◌++◌, length, get_or, map, All}
 use Rattle.std.specs.List.{Contains}
 use Rattle.std.specs.List.Sorted.{IsStrictlyIncreasing}
 use Rattle.linear_systems.specs.Rows.{IsLexicographicRow}
-use Rattle.whole_rows.specs.Steps.{Step, AllFit}
+use Rattle.frac128.specs.Steps.{Step, StepFits}
 use Rattle.lex_tableau.specs.Ratio.{listed}
 use Rattle.lex_tableau.specs.Rows.{Numbers, tableau, IsTableau, IsPivotOf}
 use Rattle.lex_tableau.specs.Starts.{Parts, IsStartOf, StartFits}
@@ -80,7 +80,7 @@ steps_of level m = steps_of_pivot (parent_of level m) m.row m.column
 pub record IsChild (level : List Numbers) (m : Move) (new : Numbers) : Type 0 where
   pub is_tableau : IsTableau new
   pub pivot : IsPivotOf (parent_of level m) m.row m.column new
-  pub fits : AllFit (steps_of level m)
+  pub fits : All StepFits (steps_of level m)
 
 -- how many bases the levels and these pivots have
 abbrev pub count : Levels → List Move → ℕ

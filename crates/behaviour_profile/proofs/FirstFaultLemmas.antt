@@ -1,7 +1,7 @@
 -- The first test that is not passed, in lists of tests that are put together.
 use Rattle.std.proofs.Common.{◌≡◌, List, [], ◌∷◌, ◌++◌, All, refl, sym, ap, ◌∙◌, subst, append_assoc}
 use Rattle.std.proofs.lemmas.List.Elements.{All-nil, All-append}
-use Rattle.pure_payoffs.proofs.FirstUnfitLemmas.{front_has, front_one}
+use Rattle.frac128.proofs.FirstUnfitLemmas.{front_has, front_one}
 use Rattle.behaviour_profile.specs.declared.entries.ProfileFault.{ProfileFault}
 use Rattle.behaviour_profile.specs.EntryTests.{Test, Passes, fault_of, IsFirstFault}
 

@@ -9,9 +9,8 @@ use Rattle.rational.specs.Rational.{ℚ, ◌+ℚ◌, ◌≤ℚ◌, zero_ℚ, one
 use Rattle.rational.specs.Sum.{sum_to}
 use Rattle.rational.specs.Tests.{sign_of}
 use Rattle.rational.proofs.PartLemmas.{nonneg-num}
-use Rattle.frac128.specs.Steps.{AddFits, unfit}
+use Rattle.frac128.specs.Steps.{AddFits, unfit, Step}
 use Rattle.frac128.specs.declared.steps.Op.TheVariants.{Add}
-use Rattle.pure_payoffs.specs.Steps.{Step}
 use Rattle.behaviour_profile.specs.declared.entries.ProfileFault.{ProfileFault}
 use Rattle.behaviour_profile.specs.declared.entries.ProfileFault.TheVariants as faults
 use Rattle.behaviour_profile.specs.EntryTests.{Test, IsNotNegative, CanBeAdded, SumsToOne, Passes, IsFirstFault, entry_at, entry_tests, group_tests}

@@ -12,15 +12,15 @@ use Rattle.sequence_forms.specs.Sequences.{sequence, sequence_before, side_of}
 use Rattle.sequence_forms.specs.Sides.{sequences}
 use Rattle.sequence_forms.proofs.PlanBehaviourLemmas.{behaviour-at}
 use Rattle.sequence_forms.proofs.SequenceLemmas.{own_set-is, sequence-below, side_of-is}
-use Rattle.pure_payoffs.specs.Steps.{Step}
-use Rattle.pure_payoffs.specs.FirstUnfit.{Fits, IsFirstUnfitOf}
+use Rattle.frac128.specs.Steps.{Step}
+use Rattle.frac128.specs.FirstUnfit.{StepsFit, IsFirstUnfitOf}
 use Rattle.sequence_data.specs.Data.{SideData}
 use Rattle.sequence_data.specs.Weights.{weight}
 use Rattle.sequence_data.specs.declared.types.SetRow.{SetRow}
 use Rattle.sequence_form.specs.Sequences.{set_row, tree_side}
 use Rattle.behaviour_profile.specs.Plans.{OwnAction, actions_at, quotient}
 use Rattle.behaviour_profile.specs.Shares.{actions_of, share_at, share_steps, steps_at}
-use Rattle.pure_payoffs.proofs.UnfitListLemmas.{first_of-map}
+use Rattle.frac128.proofs.UnfitListLemmas.{first_of-map}
 
 module _ (t : Tree) (i place : ℕ) (rows : List SetRow) (side : SideData) (rows_are : rows ≡ side.sets) (side_is : side ≡ tree_side t i) (l : place < length rows) where
   of_own_sets : rows ≡ map (set_row t i) (own_sets t i)
@@ -78,8 +78,8 @@ module _ (t : Tree) (i s : ℕ) (row : SetRow) (weights : List ℚ) (plans : ℕ
   shares_are = λ j. listed (count_is j) (λ a. share_is a j)
 
   -- all quotients at the set fit
-  pub quotients_fit : All (Fits (steps_at weights row)) (actions_of row) → All (Fits (quotient t plans)) (actions_at t i s)
-  quotients_fit h = All-map (Fits (quotient t plans)) on_action (range_with_len 0 (t.actions s)) (subst₂ (λ (f : ℕ → List Step) (n : ℕ). All (Fits f) (range_with_len 0 n)) steps_are count_is h)
+  pub quotients_fit : All (StepsFit (steps_at weights row)) (actions_of row) → All (StepsFit (quotient t plans)) (actions_at t i s)
+  quotients_fit h = All-map (StepsFit (quotient t plans)) on_action (range_with_len 0 (t.actions s)) (subst₂ (λ (f : ℕ → List Step) (n : ℕ). All (StepsFit f) (range_with_len 0 n)) steps_are count_is h)
 
   -- or one is the first that does not
   pub first_quotient : (a : ℕ) (step : Step) → IsFirstUnfitOf (steps_at weights row) (actions_of row) a step → IsFirstUnfitOf (quotient t plans) (actions_at t i s) (on_action a) step

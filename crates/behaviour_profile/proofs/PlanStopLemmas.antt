@@ -14,9 +14,9 @@ use Rattle.sequence_forms.specs.PlanBehaviour.{behaviour_of}
 use Rattle.sequence_forms.proofs.SequenceLemmas.{own_set-is}
 use Rattle.game_core.specs.Tree.{GameTree, InformationSet}
 use Rattle.game_core.specs.TreeGame.{game_of_tree}
-use Rattle.pure_payoffs.specs.Steps.{Step}
-use Rattle.pure_payoffs.specs.FirstUnfit.{Fits}
-use Rattle.pure_payoffs.proofs.FirstUnfitLemmas.{same_stop, no_stop}
+use Rattle.frac128.specs.Steps.{Step}
+use Rattle.frac128.specs.FirstUnfit.{StepsFit}
+use Rattle.frac128.proofs.FirstUnfitLemmas.{same_stop, no_stop}
 use Rattle.sequence_data.specs.Weights.{weight}
 use Rattle.sequence_data.specs.declared.types.SetRow.{SetRow}
 use Rattle.sequence_form.specs.Sequences.{set_row}
@@ -27,13 +27,13 @@ use Rattle.behaviour_profile.specs.Plans.{OwnAction, actions_at, own_actions, bo
 use Rattle.behaviour_profile.specs.Shares.{AddsPlan, IsLabelOf, IsPlanStop, IsShareStop, actions_of, share_at, steps_at}
 use Rattle.behaviour_profile.proofs.BehaviourEntryLemmas.{entries_at-push}
 use Rattle.behaviour_profile.proofs.PlanShareLemmas.{shares_are, quotients_fit, first_quotient}
-use Rattle.pure_payoffs.proofs.UnfitListLemmas.{first_of-more, first_of-following, parts_fit, first_of-part}
+use Rattle.frac128.proofs.UnfitListLemmas.{first_of-more, first_of-following, parts_fit, first_of-part}
 
 -- ---- one player
 -- the entries at the first n own sets of a player stand after others, and all quotients there fit
 pub record AddsSets (t : Tree) (i : ℕ) (plans : ℕ → ℕ → ℚ) (n : ℕ) (old new : List ℚ) : Type 0 where
   pub entries_are : new ≡ old ++ entries_at t (behaviour_of t plans) (take n (own_sets t i))
-  pub all_fit : All (Fits (quotient t plans)) (flat_map (actions_at t i) (take n (own_sets t i)))
+  pub all_fit : All (StepsFit (quotient t plans)) (flat_map (actions_at t i) (take n (own_sets t i)))
 
 module _ (t : Tree) (i place : ℕ) (row : SetRow) (weights : List ℚ) (plans : ℕ → ℕ → ℚ) (l : place < length (own_sets t i)) (is : row ≡ set_row t i (get_or (own_sets t i) place 0)) (plan : plans i ≡ weight weights) where
   abbrev here : ℕ
@@ -46,7 +46,7 @@ module _ (t : Tree) (i place : ℕ) (row : SetRow) (weights : List ℚ) (plans :
   own = (own_set-is t i place l).1
 
   -- one set more
-  pub next_set : (old now new : List ℚ) → AddsSets t i plans place old now → new ≡ now ++ listed row.count (share_at weights row) → All (Fits (steps_at weights row)) (actions_of row) → AddsSets t i plans (place + 1) old new
+  pub next_set : (old now new : List ℚ) → AddsSets t i plans place old now → new ≡ now ++ listed row.count (share_at weights row) → All (StepsFit (steps_at weights row)) (actions_of row) → AddsSets t i plans (place + 1) old new
   next_set old now new so_far push fit = record {
     entries_are = entries_at-push t (behaviour_of t plans) new now old (own_sets t i) place here at so_far.entries_are (push ∙ ap (λ v. now ++ v) (shares_are t i here row weights plans is plan own));
     all_fit = parts_fit (quotient t plans) (actions_at t i) (own_sets t i) place here at so_far.all_fit (quotients_fit t i here row weights plans is plan own fit);
@@ -57,7 +57,7 @@ pub all_sets : (t : GameTree) (i n : ℕ) (plans : ℕ → ℕ → ℚ) (old new
 all_sets t i n plans old new l a =
     let g : Tree = game_of_tree t in
     let all : take n (own_sets g i) ≡ own_sets g i = take_all n (own_sets g i) l in
-    record { entries_are = a.entries_are ∙ ap (λ v. old ++ entries_at g (behaviour_of g plans) v) all; all_fit = subst (λ v. All (Fits (quotient g plans)) (flat_map (actions_at g i) v)) all a.all_fit }
+    record { entries_are = a.entries_are ∙ ap (λ v. old ++ entries_at g (behaviour_of g plans) v) all; all_fit = subst (λ v. All (StepsFit (quotient g plans)) (flat_map (actions_at g i) v)) all a.all_fit }
 
 -- a set stops its player's plan
 pub set_stop : (t : GameTree) (i place label : ℕ) (row : SetRow) (weights : List ℚ) (plans : ℕ → ℕ → ℚ) (old now : List ℚ) (stop : BehaviourStop) → place < length (own_sets (game_of_tree t) i) → row ≡ set_row (game_of_tree t) i (get_or (own_sets (game_of_tree t) i) place 0)
@@ -103,7 +103,7 @@ pub both_made : (t : GameTree) (one two old now new : List ℚ) → length t.pla
 both_made t one two old now new two_players none a b =
     let g : Tree = game_of_tree t in
     let behaviour = behaviour_of g (plans_of one two) in (
-      All-append (Fits (quotient g (plans_of one two))) (own_actions g 0) (own_actions g 1) a.all_fit b.all_fit,
+      All-append (StepsFit (quotient g (plans_of one two))) (own_actions g 0) (own_actions g 1) a.all_fit b.all_fit,
       b.entries_are ∙ ap (λ v. v ++ own_entries g behaviour 1) (a.entries_are ∙ ap (λ v. v ++ own_entries g behaviour 0) none)
           ∙ ap (λ v. own_entries g behaviour 0 ++ v) (sym (append-nil (own_entries g behaviour 1))) ∙ ap (entries_from g behaviour 0) (sym two_players),
     )
@@ -126,7 +126,7 @@ same_quotient t plans i j label number step other h g = λ k. Err (stops.Range (
     label_same = h.label_is ∙ ap (λ (s : InformationSet). s.label) set_same ∙ sym g.label_is
 
 -- there is none where all fit
-no_quotient : (t : GameTree) (plans : ℕ → ℕ → ℚ) (i label : ℕ) (step : Step) → All (Fits (quotient (game_of_tree t) plans)) (both_actions t) → IsUnfitQuotient t plans i label step → ⊥
+no_quotient : (t : GameTree) (plans : ℕ → ℕ → ℚ) (i label : ℕ) (step : Step) → All (StepsFit (quotient (game_of_tree t) plans)) (both_actions t) → IsUnfitQuotient t plans i label step → ⊥
 no_quotient t plans i label step fit h = no_stop (quotient (game_of_tree t) plans) (both_actions t) h.at step h.first fit
 
 pub plan_behaviour-single : (t : GameTree) (one two : List ℚ) → IsSingle (plan_behaviour t one two)

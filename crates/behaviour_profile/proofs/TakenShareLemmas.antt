@@ -10,16 +10,15 @@ use Rattle.rational.specs.Rational.{ℚ, ◌*ℚ◌, inv_ℚ, frac, zero_ℚ}
 use Rattle.rational.specs.Tests.{eq_test}
 use Rattle.rational.proofs.Decide.{eq_test-true}
 use Rattle.rational.proofs.FractionLemmas.{frac-lowest}
-use Rattle.frac128.specs.Fraction.{PartFits, Fits as FracFits, quotient}
-use Rattle.frac128.specs.Steps.{DivFits, unfit}
+use Rattle.frac128.specs.Fraction.{PartFits, Fits, quotient}
+use Rattle.frac128.specs.Steps.{DivFits, unfit, Step, StepFits, IsFirstUnfit}
 use Rattle.frac128.specs.declared.steps.Op.TheVariants.{Div}
 use Rattle.game_theory.specs.Lines.{listed}
 use Rattle.game_theory.proofs.EntryLemmas.{listed-push}
 use Rattle.sequence_forms.specs.PlanBehaviour.{share}
-use Rattle.pure_payoffs.specs.Steps.{Step, StepFits, IsFirstUnfit}
-use Rattle.pure_payoffs.specs.FirstUnfit.{Fits, IsFirstUnfitOf}
-use Rattle.pure_payoffs.proofs.StepRunLemmas.{first_unfit-here}
-use Rattle.pure_payoffs.proofs.FirstUnfitLemmas.{fits_next, first_unfit_here}
+use Rattle.frac128.specs.FirstUnfit.{StepsFit, IsFirstUnfitOf}
+use Rattle.frac128.proofs.StepRunLemmas.{first_unfit-here}
+use Rattle.frac128.proofs.FirstUnfitLemmas.{fits_next, first_unfit_here}
 use Rattle.sequence_data.specs.Weights.{weight}
 use Rattle.sequence_data.specs.declared.types.SetRow.{SetRow}
 use Rattle.sequence_data.proofs.PlaceLemmas.{get_or-inside}
@@ -75,13 +74,13 @@ module _ (weights : List ℚ) (row : SetRow) (a : ℕ) (before after : ℚ) (l :
   pub next_share : (old now new : List ℚ) (x : ℚ) → now ≡ old ++ listed a (share_at weights row) → new ≡ now ++ x ∷ [] → x ≡ share row.count before after → new ≡ old ++ listed (a + 1) (share_at weights row)
   next_share old now new x so_far push is = listed-push new now old a (share_at weights row) x so_far push (is ∙ ap₂ (share row.count) before_is after_is)
 
-  pub next_fits : All (Fits (steps_at weights row)) (take a (actions_of row)) → All StepFits (share_steps before after) → All (Fits (steps_at weights row)) (take (a + 1) (actions_of row))
+  pub next_fits : All (StepsFit (steps_at weights row)) (take a (actions_of row)) → All StepFits (share_steps before after) → All (StepsFit (steps_at weights row)) (take (a + 1) (actions_of row))
   next_fits h f = fits_next (steps_at weights row) (actions_of row) a a within stands h (subst₂ (λ b c. All StepFits (share_steps b c)) before_is after_is f)
 
   -- or the first that does not fit
-  pub first_share : (step : Step) → All (Fits (steps_at weights row)) (take a (actions_of row)) → IsFirstUnfit (share_steps before after) step → IsFirstUnfitOf (steps_at weights row) (actions_of row) a step
+  pub first_share : (step : Step) → All (StepsFit (steps_at weights row)) (take a (actions_of row)) → IsFirstUnfit (share_steps before after) step → IsFirstUnfitOf (steps_at weights row) (actions_of row) a step
   first_share step h f = first_unfit_here (steps_at weights row) (actions_of row) a a within stands step h (subst₂ (λ b c. IsFirstUnfit (share_steps b c) step) before_is after_is f)
 
 -- all shares fit
-pub all_shares : (weights : List ℚ) (row : SetRow) (n : ℕ) → row.count ≤ n → All (Fits (steps_at weights row)) (take n (actions_of row)) → All (Fits (steps_at weights row)) (actions_of row)
-all_shares weights row n l h = subst (All (Fits (steps_at weights row))) (take_all n (actions_of row) (omega (arith, l, length-range_with_len 0 row.count))) h
+pub all_shares : (weights : List ℚ) (row : SetRow) (n : ℕ) → row.count ≤ n → All (StepsFit (steps_at weights row)) (take n (actions_of row)) → All (StepsFit (steps_at weights row)) (actions_of row)
+all_shares weights row n l h = subst (All (StepsFit (steps_at weights row))) (take_all n (actions_of row) (omega (arith, l, length-range_with_len 0 row.count))) h

@@ -6,7 +6,7 @@ use Rattle.game_theory.specs.Mixed.{Mixed, IsValid as is_valid_profile}
 use Rattle.game_theory.specs.Behaviour.{Behaviour, IsValid}
 use Rattle.game_theory.specs.TreeEntries.{tree_entries}
 use Rattle.game_theory.specs.Trees.{Tree, IsTree}
-use Rattle.pure_payoffs.specs.Steps.{StepFits}
+use Rattle.frac128.specs.Steps.{StepFits}
 use Rattle.behaviour_profile.specs.EntryTests.{Test, IsNotNegative, CanBeAdded, SumsToOne, action_counts, profile_in, tests_from}
 
 -- a test that is one of an addition is passed

@@ -5,12 +5,11 @@ use Rattle.std.specs.List.{range_with_len, flat_map}
 use Rattle.answers.specs.Answers.{Answer}
 use Rattle.rational.specs.Rational.{ℚ, ◌≤ℚ◌, zero_ℚ, one_ℚ}
 use Rattle.rational.specs.Sum.{sum_to}
-use Rattle.frac128.specs.Steps.{unfit}
+use Rattle.frac128.specs.Steps.{unfit, Step, StepFits}
 use Rattle.frac128.specs.declared.steps.Op.TheVariants.{Add}
 use Rattle.game_theory.specs.Mixed.{Mixed}
 use Rattle.game_theory.specs.Trees.{Tree}
 use Rattle.game_theory.specs.OwnSets.{own_sets}
-use Rattle.pure_payoffs.specs.Steps.{Step, StepFits}
 use Rattle.behaviour_profile.specs.declared.entries.ProfileFault.{ProfileFault}
 use Rattle.behaviour_profile.specs.declared.entries.ProfileFault.TheVariants as faults
 

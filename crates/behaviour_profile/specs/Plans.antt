@@ -4,7 +4,7 @@ use Rattle.std.specs.List.{range_with_len, flat_map}
 use Rattle.answers.specs.Answers.{Answer}
 use Rattle.rational.specs.Rational.{ℚ, zero_ℚ}
 use Rattle.rational.specs.Tests.{eq_test}
-use Rattle.frac128.specs.Steps.{unfit}
+use Rattle.frac128.specs.Steps.{unfit, Step}
 use Rattle.frac128.specs.declared.steps.Op.TheVariants.{Div}
 use Rattle.game_theory.specs.Trees.{Tree}
 use Rattle.game_theory.specs.OwnSets.{own_sets}
@@ -13,8 +13,7 @@ use Rattle.sequence_forms.specs.PlanBehaviour.{of_two, behaviour_of}
 use Rattle.sequence_forms.specs.Sequences.{sequence, sequence_before}
 use Rattle.game_core.specs.Tree.{GameTree, InformationSet}
 use Rattle.game_core.specs.TreeGame.{game_of_tree}
-use Rattle.pure_payoffs.specs.Steps.{Step}
-use Rattle.pure_payoffs.specs.FirstUnfit.{Fits, IsFirstUnfitOf}
+use Rattle.frac128.specs.FirstUnfit.{StepsFit, IsFirstUnfitOf}
 use Rattle.sequence_data.specs.Weights.{weight}
 use Rattle.behaviour_profile.specs.declared.plans.BehaviourStop.{BehaviourStop}
 use Rattle.behaviour_profile.specs.declared.plans.BehaviourStop.TheVariants as stops
@@ -61,7 +60,7 @@ pub record IsUnfitQuotient (t : GameTree) (plans : ℕ → ℕ → ℚ) (player 
 -- The entries of the behaviour of two plans, all quotients of which fit; or the first that does not.
 abbrev pub plan_behaviour : GameTree → List ℚ → List ℚ → Answer BehaviourStop (List ℚ)
 plan_behaviour t one two (Ok entries) =
-    All (Fits (quotient (game_of_tree t) (plans_of one two))) (both_actions t)
+    All (StepsFit (quotient (game_of_tree t) (plans_of one two))) (both_actions t)
     × (entries ≡ tree_entries (game_of_tree t) (behaviour_of (game_of_tree t) (plans_of one two)))
 plan_behaviour t one two (Err (stops.Range player label step)) = IsUnfitQuotient t (plans_of one two) player label step
 plan_behaviour t one two (Err stops.Memory) = ⊥

@@ -3,14 +3,13 @@ use Rattle.std.specs.Prelude.{ℕ, ◌+◌, ◌≡◌, List, [], ◌∷◌, ◌+
 use Rattle.std.specs.List.{range_with_len}
 use Rattle.rational.specs.Rational.{ℚ, zero_ℚ}
 use Rattle.rational.specs.Tests.{eq_test}
-use Rattle.frac128.specs.Steps.{unfit}
+use Rattle.frac128.specs.Steps.{unfit, Step}
 use Rattle.frac128.specs.declared.steps.Op.TheVariants.{Div}
 use Rattle.game_theory.specs.TreeEntries.{own_entries}
 use Rattle.sequence_forms.specs.PlanBehaviour.{behaviour_of, share}
 use Rattle.game_core.specs.Tree.{GameTree, InformationSet}
 use Rattle.game_core.specs.TreeGame.{game_of_tree}
-use Rattle.pure_payoffs.specs.Steps.{Step}
-use Rattle.pure_payoffs.specs.FirstUnfit.{Fits, IsFirstUnfitOf}
+use Rattle.frac128.specs.FirstUnfit.{StepsFit, IsFirstUnfitOf}
 use Rattle.sequence_data.specs.Weights.{weight}
 use Rattle.sequence_data.specs.declared.types.SetRow.{SetRow}
 use Rattle.behaviour_profile.specs.Plans.{OwnAction, own_actions, quotient}
@@ -49,7 +48,7 @@ IsShareStop weights row i label stops.Memory = Unit {0}
 -- the entries of player i's plan stand after others, and all its quotients fit
 pub record AddsPlan (t : GameTree) (i : ℕ) (plans : ℕ → ℕ → ℚ) (old new : List ℚ) : Type 0 where
   pub entries_are : new ≡ old ++ own_entries (game_of_tree t) (behaviour_of (game_of_tree t) plans) i
-  pub all_fit : All (Fits (quotient (game_of_tree t) plans)) (own_actions (game_of_tree t) i)
+  pub all_fit : All (StepsFit (quotient (game_of_tree t) plans)) (own_actions (game_of_tree t) i)
 
 -- the first quotient of player i that does not fit: its player, and its set as a file numbers it
 pub record IsUnfitOwn (t : GameTree) (i : ℕ) (plans : ℕ → ℕ → ℚ) (player label : ℕ) (step : Step) : Type 0 where

@@ -22,8 +22,8 @@ ghost use Rattle.game_theory.specs.OwnSets.{own_sets};
 ghost use Rattle.sequence_forms.specs.PlanBehaviour.{share};
 ghost use Rattle.game_core.specs.Tree.{GameTree};
 ghost use Rattle.game_core.specs.TreeGame.{game_of_tree};
-ghost use Rattle.pure_payoffs.specs.FirstUnfit.{Fits};
-ghost use Rattle.pure_payoffs.specs.Steps.{StepFits, IsFirstUnfit};
+ghost use Rattle.frac128.specs.FirstUnfit.{StepsFit};
+ghost use Rattle.frac128.specs.Steps.{StepFits, IsFirstUnfit};
 ghost use Rattle.sequence_data.specs.Weights.{weight};
 ghost use Rattle.sequence_form.specs.Forms.{IsTreeForm};
 ghost use Rattle.sequence_form.specs.Sequences.{tree_side};
@@ -102,7 +102,7 @@ fn push_shares(
     requires after { row.first + row.count ≤ length plan.now }
     ensures shares { OnOk result
         (entries.new.items ≡ entries.old.items ++ listed row.count (share_at plan.now row)) }
-    ensures fits { OnOk result (All (Fits (steps_at plan.now row)) (actions_of row)) }
+    ensures fits { OnOk result (All (StepsFit (steps_at plan.now row)) (actions_of row)) }
     ensures stop { IfErr result (IsShareStop plan.now row player label) }
 {
     let before = plan[row.before as usize];

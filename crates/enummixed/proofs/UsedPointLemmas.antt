@@ -9,8 +9,8 @@ use Rattle.linear_systems.specs.Vertices.{MarkedPoint}
 use Rattle.basis_enum.specs.Vertices.{mark_of, marks_of}
 use Rattle.basis_enum.specs.declared.vertex.Vertex.{Vertex}
 use Rattle.extreme_equilibria.specs.PairLines.{scaled_point}
-use Rattle.pure_payoffs.specs.Steps.{Step, IsFirstUnfit}
-use Rattle.pure_payoffs.specs.FirstUnfit.{Fits, IsFirstUnfitOf}
+use Rattle.frac128.specs.Steps.{Step, IsFirstUnfit}
+use Rattle.frac128.specs.FirstUnfit.{StepsFit, IsFirstUnfitOf}
 use Rattle.label_pairing.specs.Pairs.{mark_at}
 use Rattle.label_pairing.specs.Scaling.{scale_steps}
 use Rattle.label_pairing.proofs.RowLemmas.{range_more}
@@ -62,17 +62,17 @@ module _ (point : ℕ → List ℚ) (used : ℕ → Bool) (n : ℕ) where
       out false = refl
 
   -- its steps fit
-  pub fit-next : used n ≡ true → All (Fits scale_steps) (map point (filter used (range_with_len 0 n))) → Fits scale_steps (point n) → All (Fits scale_steps) (map point (filter used (range_with_len 0 (n + 1))))
+  pub fit-next : used n ≡ true → All (StepsFit scale_steps) (map point (filter used (range_with_len 0 n))) → StepsFit scale_steps (point n) → All (StepsFit scale_steps) (map point (filter used (range_with_len 0 (n + 1))))
   fit-next is h f =
-      subst (All (Fits scale_steps)) (sym (used-next true is)) (All-append (Fits scale_steps) (map point (filter used (range_with_len 0 n))) (point n ∷ []) h (All-cons (Fits scale_steps) (point n) [] f (All-nil (Fits scale_steps))))
+      subst (All (StepsFit scale_steps)) (sym (used-next true is)) (All-append (StepsFit scale_steps) (map point (filter used (range_with_len 0 n))) (point n ∷ []) h (All-cons (StepsFit scale_steps) (point n) [] f (All-nil (StepsFit scale_steps))))
 
   -- or it is not used
-  pub fit-same : used n ≡ false → All (Fits scale_steps) (map point (filter used (range_with_len 0 n))) → All (Fits scale_steps) (map point (filter used (range_with_len 0 (n + 1))))
+  pub fit-same : used n ≡ false → All (StepsFit scale_steps) (map point (filter used (range_with_len 0 n))) → All (StepsFit scale_steps) (map point (filter used (range_with_len 0 (n + 1))))
   fit-same is h =
-      subst (All (Fits scale_steps)) (sym (used-next false is ∙ append-nil (map point (filter used (range_with_len 0 n))))) h
+      subst (All (StepsFit scale_steps)) (sym (used-next false is ∙ append-nil (map point (filter used (range_with_len 0 n))))) h
 
   -- or one of its steps is the first that does not fit
-  pub unfit-here : (size : ℕ) (step : Step) → n < size → used n ≡ true → All (Fits scale_steps) (map point (filter used (range_with_len 0 n))) → IsFirstUnfit (scale_steps (point n)) step → IsFirstUnfitOf scale_steps (map point (filter used (range_with_len 0 size))) (point n) step
+  pub unfit-here : (size : ℕ) (step : Step) → n < size → used n ≡ true → All (StepsFit scale_steps) (map point (filter used (range_with_len 0 n))) → IsFirstUnfit (scale_steps (point n)) step → IsFirstUnfitOf scale_steps (map point (filter used (range_with_len 0 size))) (point n) step
   unfit-here size step l is h f = record {
     before = map point (filter used (range_with_len 0 n));
     after = map point (filter used (range_with_len (n + 1) (size - (n + 1))));
@@ -93,7 +93,7 @@ scaled-next point used n points new p b is before push e =
     ∙ sym (map-range_with_len_more (λ i. cond (used i) (scaled_point (point i)) []) 0 n n (omega arith))
 
 -- the stop of a vertex is that of the list
-pub stop_here : (list : List MarkedPoint) (used : ℕ → Bool) (n : ℕ) (p : List ℚ) (stop : ScaleStop) → n < length list → used n ≡ true → All (Fits scale_steps) (map (λ i. (mark_at list i).point) (filter used (range_with_len 0 n))) → p ≡ (mark_at list n).point → Gives stops.Memory (scaled_in p) (Err stop) → Gives stops.Memory (scaling_in (used_points list used)) (Err stop)
+pub stop_here : (list : List MarkedPoint) (used : ℕ → Bool) (n : ℕ) (p : List ℚ) (stop : ScaleStop) → n < length list → used n ≡ true → All (StepsFit scale_steps) (map (λ i. (mark_at list i).point) (filter used (range_with_len 0 n))) → p ≡ (mark_at list n).point → Gives stops.Memory (scaled_in p) (Err stop) → Gives stops.Memory (scaling_in (used_points list used)) (Err stop)
 stop_here list used n p stop l is h e (inl m) = inl m
 stop_here list used n p (stops.Range step) l is h e (inr f) =
     inr (((mark_at list n).point, step), unfit-here (λ i. (mark_at list i).point) used n (length list) step l is h (subst (λ q. IsFirstUnfit (scale_steps q) step) e f), refl)

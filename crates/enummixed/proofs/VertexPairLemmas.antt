@@ -13,7 +13,7 @@ use Rattle.std.proofs.Common.{inl, inr}
 use Rattle.answers.specs.Answers.{Gives, IsSingle}
 use Rattle.answers.proofs.AnswerLemmas.{bind-single, refused_by-single, only-single}
 use Rattle.extreme_equilibria.proofs.ExtremeListLemmas.{extreme_equilibria-determined}
-use Rattle.pure_payoffs.proofs.FirstUnfitLemmas.{all_fit-single}
+use Rattle.frac128.proofs.FirstUnfitLemmas.{all_fit-single}
 use Rattle.enumpure.specs.Stops.{within_text_limit}
 use Rattle.enumpure.specs.declared.listing.ListStop.{ListStop}
 use Rattle.enumpure.specs.declared.listing.ListStop.TheVariants as list_stops

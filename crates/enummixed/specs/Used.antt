@@ -5,7 +5,7 @@ use Rattle.answers.specs.Answers.{Answer, refused_by}
 use Rattle.rational.specs.Rational.{ℚ}
 use Rattle.linear_systems.specs.Vertices.{MarkedPoint}
 use Rattle.extreme_equilibria.specs.PairLines.{scaled_point}
-use Rattle.pure_payoffs.specs.FirstUnfit.{all_fit}
+use Rattle.frac128.specs.FirstUnfit.{all_fit}
 use Rattle.label_pairing.specs.Pairs.{mark_at}
 use Rattle.label_pairing.specs.Scaling.{scale_steps}
 use Rattle.label_pairing.specs.declared.scaling.ScaleStop.{ScaleStop}

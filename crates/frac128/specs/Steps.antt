@@ -1,9 +1,10 @@
--- when a step on two fractions fits
-use Rattle.std.specs.Prelude.{pos, ℤ, ◌*ℤ◌, ◌+ℤ◌, ◌-ℤ◌, ◌/◌}
+-- when a step on two fractions fits, and the first of several that does not
+use Rattle.std.specs.Prelude.{pos, ℤ, ◌*ℤ◌, ◌+ℤ◌, ◌-ℤ◌, ◌/◌, ◌≡◌, List, ◌∷◌, ◌++◌, All}
 use Rattle.rational.specs.Gcd.{gcd}
 use Rattle.rational.specs.Rational.{ℚ, ◌+ℚ◌, ◌-ℚ◌, ◌*ℚ◌, inv_ℚ}
 use Rattle.frac128.specs.Fraction.{PartFits, Fits}
 use Rattle.frac128.specs.declared.steps.Op.{Op}
+use Rattle.frac128.specs.declared.steps.Op.TheVariants.{Add, Sub, Mul, Div}
 use Rattle.frac128.specs.declared.steps.Unfit.{Unfit}
 
 -- the numerator of a over the least common denominator of a and b: its own times the denominator
@@ -37,3 +38,25 @@ DivFits a b = Fits (a *ℚ inv_ℚ b)
 -- the step that does not fit
 abbrev pub unfit : Op → ℚ → ℚ → Unfit
 unfit op a b = record { op = op; left = a; right = b }
+
+-- a step: an operation on two numbers
+abbrev pub Step : Type 0
+Step = Unfit
+
+abbrev pub OperationFits : Op → ℚ → ℚ → Type 0
+OperationFits Add a b = AddFits a b
+OperationFits Sub a b = SubFits a b
+OperationFits Mul a b = MulFits a b
+OperationFits Div a b = DivFits a b
+
+-- a step fits
+abbrev pub StepFits : Step → Type 0
+StepFits s = OperationFits s.op s.left s.right
+
+-- the first of these steps that does not fit
+pub record IsFirstUnfit (steps : List Step) (step : Step) : Type 0 where
+  pub before : List Step
+  pub following : List Step
+  pub is_there : steps ≡ before ++ step ∷ following
+  pub earlier_fit : All StepFits before
+  pub does_not_fit : StepFits step → ⊥

@@ -2,4 +2,3 @@ pub mod AllPairLemmas
 pub mod BlockLemmas
 pub mod PartnerLemmas
 pub mod RowLemmas
-pub mod StepListLemmas

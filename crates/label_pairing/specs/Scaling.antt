@@ -3,9 +3,8 @@ use Rattle.std.specs.Prelude.{ℕ, ◌<◌, List, ◌++◌, length, map, get_or}
 use Rattle.std.specs.List.{range_with_len}
 use Rattle.rational.specs.Rational.{ℚ, ◌≤ℚ◌, zero_ℚ}
 use Rattle.rational.specs.Sum.{sum_to}
-use Rattle.frac128.specs.Steps.{unfit}
+use Rattle.frac128.specs.Steps.{unfit, Step}
 use Rattle.frac128.specs.declared.steps.Op.TheVariants.{Add, Div}
-use Rattle.pure_payoffs.specs.Steps.{Step}
 use Rattle.extreme_equilibria.specs.Polytopes.{IsNonzero}
 
 -- the entries of a point

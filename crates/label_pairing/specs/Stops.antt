@@ -6,7 +6,7 @@ use Rattle.linear_systems.specs.Vertices.{MarkedPoint}
 use Rattle.extreme_equilibria.specs.PairLines.{scaled_point}
 use Rattle.game_core.specs.declared.too_large.TooLarge.{TooLarge}
 use Rattle.game_core.specs.declared.too_large.What.TheVariants as what
-use Rattle.pure_payoffs.specs.Steps.{StepFits, IsFirstUnfit}
+use Rattle.frac128.specs.Steps.{StepFits, IsFirstUnfit}
 use Rattle.label_pairing.specs.Pairs.{all_pairs, most_pairs}
 use Rattle.label_pairing.specs.Scaling.{scale_steps}
 use Rattle.label_pairing.specs.declared.pairing.PairStop.{PairStop}

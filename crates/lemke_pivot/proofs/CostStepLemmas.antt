@@ -4,12 +4,11 @@ use Rattle.std.specs.Prelude.{IfErr, OnErr}
 use Rattle.std.proofs.Math.Seq.{take-suc}
 use Rattle.std.proofs.lemmas.List.Elements.{All-nil, All-cons, All-append}
 use Rattle.rational.specs.Rational.{ℚ, ◌*ℚ◌}
-use Rattle.frac128.specs.Steps.{MulFits, SubFits, unfit}
+use Rattle.frac128.specs.Steps.{MulFits, SubFits, unfit, Step, IsFirstUnfit}
 use Rattle.frac128.specs.declared.steps.Op.TheVariants.{Sub, Mul}
-use Rattle.pure_payoffs.specs.FirstUnfit.{Fits, IsFirstUnfitOf}
-use Rattle.pure_payoffs.specs.Steps.{Step, IsFirstUnfit}
-use Rattle.pure_payoffs.proofs.FirstUnfitLemmas.{split_here}
-use Rattle.pure_payoffs.proofs.StepRunLemmas.{first_unfit-following, first_unfit-here, one-fits}
+use Rattle.frac128.specs.FirstUnfit.{StepsFit, IsFirstUnfitOf}
+use Rattle.frac128.proofs.FirstUnfitLemmas.{split_here}
+use Rattle.frac128.proofs.StepRunLemmas.{first_unfit-following, first_unfit-here, one-fits}
 use Rattle.sequence_data.specs.declared.types.Cell.{Cell}
 use Rattle.lemke_pivot.specs.FormProblems.{PlayersCell, both_costs, cost_steps, steps_at}
 
@@ -41,14 +40,14 @@ module _ (most_one most_two : ℚ) (cells : List Cell) (k : ℕ) (c : Cell) (l :
   both_split : both_costs cells ≡ both_costs (take k cells) ++ first ∷ second ∷ both_costs (drop (suc k) cells)
   both_split = ap both_costs (split_here (λ (x : Cell). []) cells k c l is) ∙ both_append (take k cells) (c ∷ drop (suc k) cells)
 
-  module _ (fit : All (Fits steps) (both_costs (take k cells))) where
+  module _ (fit : All (StepsFit steps) (both_costs (take k cells))) where
     pub unfit_one : (e : Step) → IsFirstUnfit (cost_steps most_one c.weight c.one) e → IsFirstUnfitOf steps (both_costs cells) first e
     unfit_one e h = record { before = both_costs (take k cells); after = second ∷ both_costs (drop (suc k) cells); is_there = both_split; earlier_fit = fit; first_unfit = h }
 
-    first_fits : Fits steps first → All (Fits steps) (both_costs (take k cells) ++ first ∷ [])
-    first_fits h = All-append (Fits steps) (both_costs (take k cells)) (first ∷ []) fit (All-cons (Fits steps) first [] h (All-nil (Fits steps)))
+    first_fits : StepsFit steps first → All (StepsFit steps) (both_costs (take k cells) ++ first ∷ [])
+    first_fits h = All-append (StepsFit steps) (both_costs (take k cells)) (first ∷ []) fit (All-cons (StepsFit steps) first [] h (All-nil (StepsFit steps)))
 
-    pub unfit_two : (e : Step) → Fits steps first → IsFirstUnfit (cost_steps most_two c.weight c.two) e → IsFirstUnfitOf steps (both_costs cells) second e
+    pub unfit_two : (e : Step) → StepsFit steps first → IsFirstUnfit (cost_steps most_two c.weight c.two) e → IsFirstUnfitOf steps (both_costs cells) second e
     unfit_two e h g =
         record {
           before = both_costs (take k cells) ++ first ∷ [];
@@ -63,6 +62,6 @@ module _ (most_one most_two : ℚ) (cells : List Cell) (k : ℕ) (c : Cell) (l :
         ap (λ n. both_costs (take n cells)) (add-one k) ∙ ap both_costs (take-suc cells k c l ∙ ap (λ y. take k cells ++ y ∷ []) (sym is)) ∙ both_append (take k cells) (c ∷ [])
         ∙ sym (append_assoc (both_costs (take k cells)) (first ∷ []) (second ∷ []))
 
-    pub both_fit : Fits steps first → Fits steps second → All (Fits steps) (both_costs (take (k + 1) cells))
+    pub both_fit : StepsFit steps first → StepsFit steps second → All (StepsFit steps) (both_costs (take (k + 1) cells))
     both_fit h g =
-        subst (All (Fits steps)) (sym taken) (All-append (Fits steps) (both_costs (take k cells) ++ first ∷ []) (second ∷ []) (first_fits h) (All-cons (Fits steps) second [] g (All-nil (Fits steps))))
+        subst (All (StepsFit steps)) (sym taken) (All-append (StepsFit steps) (both_costs (take k cells) ++ first ∷ []) (second ∷ []) (first_fits h) (All-cons (StepsFit steps) second [] g (All-nil (StepsFit steps))))

@@ -1,5 +1,5 @@
 -- what the walk keeps
-use Rattle.std.proofs.Common.{ℕ, zero, suc, ◌<◌, ◌≤◌, ◌≡◌, ◌≢◌, ◌+◌, ◌^◌, inr, List, [], ◌∷◌, length, map, get_or, Option, Some, None, refl, sym, ap, ap₂, ◌∙◌, subst, arith}
+use Rattle.std.proofs.Common.{ℕ, zero, suc, ◌<◌, ◌≤◌, ◌≡◌, ◌≢◌, ◌+◌, ◌^◌, inr, List, [], ◌∷◌, length, map, get_or, Option, Some, None, refl, sym, ap, ap₂, ◌∙◌, subst, arith, All}
 use Rattle.std.proofs.lemmas.List.{length-map}
 use Rattle.rational.specs.Rational.{ℚ, ◌-ℚ◌, ◌*ℚ◌, inv_ℚ, zero_ℚ, ◌≤ℚ◌}
 use Rattle.rational.proofs.Field.{not_lt_of_le}
@@ -8,7 +8,7 @@ use Rattle.linear_systems.proofs.LexLemmas.{lex_same}
 use Rattle.frac128.specs.declared.steps.Unfit.{Unfit}
 use Rattle.lex_tableau.specs.Rows.{Numbers, tableau, IsTableau, IsPivotOf}
 use Rattle.lex_tableau.specs.Ratio.{listed, IsBest}
-use Rattle.whole_rows.specs.Steps.{AllFit, IsFirstUnfit}
+use Rattle.frac128.specs.Steps.{StepFits, IsFirstUnfit}
 use Rattle.lex_tableau.specs.Pivots.{pivot_number, steps_of_pivot}
 use Rattle.lemke_pivot.specs.ProblemPaths.{w_of, z_of, z0_of, complement, start, HasPositiveKeys, PathTo}
 use Rattle.linear_systems.proofs.AgreementLemmas.{alike_trans, alike_pivot}
@@ -47,7 +47,7 @@ module _ (n r : ℕ) (m : Numbers) (S : IsPathStart n r m) where
   exact_path : (ss : List Numbers) (t : Numbers) (c : ℕ) → ExactPathTo m n r ss t c → PathTo n S.matrix S.right r (map tableau ss) (tableau t) c
   exact_path = path_of_numbers n r m S.matrix S.right S.alike S.first.within
 
-  pub walk_begins : (t : Numbers) (from now : ℕ) → IsPivotOf m r n t → AllFit (steps_of_pivot m r n) → now ≡ from + 1 → OnWalk n r m t (z_of n r) from now 1
+  pub walk_begins : (t : Numbers) (from now : ℕ) → IsPivotOf m r n t → All StepFits (steps_of_pivot m r n) → now ≡ from + 1 → OnWalk n r m t (z_of n r) from now 1
   walk_begins t from now p f e = record { earlier = []; path = (record { valid = S.valid; pivot = p; fits = f }, refl); counts = omega (arith, e); number = refl; starts = p.starts; rated = p.rated ∙ S.rated }
 
   module _ (t : Numbers) (c from now step : ℕ) (o : OnWalk n r m t c from now step) where
@@ -113,7 +113,7 @@ module _ (n r : ℕ) (m : Numbers) (S : IsPathStart n r m) where
       walk_never t₁ col o e f h q B = never col h q (subst (λ m. IsBest m.rated m.rated m.starts (tableau m) col None) e (subst (λ p. IsBest t₁.rated t₁.rated t₁.starts (tableau t₁) col p) f B))
 
       module _ (col row : ℕ) (h : col < n + 1) (e : (tableau t).nonbasic col ≡ c) (L : IsLexicographicRow n n w_of (tableau t) col row) (valid : IsTableau t) where
-        pub walk_next : (t' : Numbers) (c' later number : ℕ) → IsPivotOf t row col t' → AllFit (steps_of_pivot t row col) → c' ≡ complement n ((tableau t).basic row) → later ≡ now + 1 → number ≡ pivot_number (suc (suc (length o.earlier))) → OnWalk n r m t' c' from later number
+        pub walk_next : (t' : Numbers) (c' later number : ℕ) → IsPivotOf t row col t' → All StepFits (steps_of_pivot t row col) → c' ≡ complement n ((tableau t).basic row) → later ≡ now + 1 → number ≡ pivot_number (suc (suc (length o.earlier))) → OnWalk n r m t' c' from later number
         walk_next t' c' later number p f q g k =
             record {
               earlier = t ∷ o.earlier;

@@ -1,5 +1,5 @@
 -- The path has one end.
-use Rattle.std.proofs.Common.{ℕ, suc, ◌<◌, ◌≡◌, ◌≢◌, inl, inr, List, [], ◌∷◌, length, sym, ap, ◌∙◌, subst, subst₂, arith}
+use Rattle.std.proofs.Common.{ℕ, suc, ◌<◌, ◌≡◌, ◌≢◌, inl, inr, List, [], ◌∷◌, length, sym, ap, ◌∙◌, subst, subst₂, arith, All}
 use Rattle.std.proofs.lemmas.Bool.{cases_lt}
 use Rattle.rational.specs.Rational.{ℚ, zero_ℚ}
 use Rattle.rational.proofs.Field.{not_lt_of_le}
@@ -8,8 +8,8 @@ use Rattle.linear_systems.specs.Rows.{basic_solution, IsLexicographicRow}
 use Rattle.linear_systems.proofs.AgreementLemmas.{alike_sym, alike_trans}
 use Rattle.linear_systems.proofs.LexRowLemmas.{lex_row_once, below_cases}
 use Rattle.frac128.specs.declared.steps.Unfit.{Unfit}
-use Rattle.whole_rows.specs.Steps.{AllFit, IsFirstUnfit}
-use Rattle.whole_rows.proofs.FirstUnfitLemmas.{no_unfit, one_unfit}
+use Rattle.frac128.specs.Steps.{StepFits, IsFirstUnfit}
+use Rattle.frac128.proofs.FirstUnfitLemmas.{unfit_among, unfit_once}
 use Rattle.lex_tableau.specs.Pivots.{pivot_number, steps_of_pivot}
 use Rattle.lex_tableau.specs.Rows.{Numbers, tableau, IsPivotOf, IsTableau}
 use Rattle.lex_tableau.proofs.TableauLemmas.{determined}
@@ -81,7 +81,7 @@ module _ (m : Numbers) (n r : ℕ) where
       let last = replaces_same n z q.0 p.1 q.1 t u here q.4 v w in
       (last.0, p.5 ∙ ap (complement n) last.1 ∙ sym q.5)
 
-  begins_fit : (ss : List Numbers) (t : Numbers) (c : ℕ) → ExactPathTo m n r ss t c → AllFit (steps_of_pivot m r n)
+  begins_fit : (ss : List Numbers) (t : Numbers) (c : ℕ) → ExactPathTo m n r ss t c → All StepFits (steps_of_pivot m r n)
   begins_fit [] t c p = p.0.fits
   begins_fit (s ∷ ss) t c p = begins_fit ss s p.0 p.2
 
@@ -104,7 +104,7 @@ module _ (m : Numbers) (n r : ℕ) where
       let q : ReplacesExactly n t entering g.leaves g.after = subst₂ (λ x y. ReplacesExactly n x y g.leaves g.after) (sym s.0) (sym s.1) g.step in
       let col : q.replaces.col ≡ a.col = same_column n t a.valid entering q.replaces.col a.col q.replaces.row a.row q.replaces.col_in a.col_in q.replaces.c_is a.entering_is q.replaces.chosen a.chosen in
       let row : q.replaces.row ≡ a.row = same_row n t a.valid entering q.replaces.col a.col q.replaces.row a.row q.replaces.col_in a.col_in q.replaces.c_is a.entering_is q.replaces.chosen a.chosen in
-      no_unfit (steps_of_pivot t a.row a.col) e (subst₂ (λ x y. AllFit (steps_of_pivot t x y)) row col q.fits) a.unfit
+      unfit_among (steps_of_pivot t a.row a.col) e a.unfit (subst₂ (λ x y. All StepFits (steps_of_pivot t x y)) row col q.fits)
 
   solved_same : (t u : Numbers) → EndsSolved m n r t → EndsSolved m n r u → t ≡ u
   solved_same t u a b = elim (cases_lt (length a.0) (length b.0)) [
@@ -125,7 +125,7 @@ module _ (m : Numbers) (n r : ℕ) where
   ]
 
   not_both : (t : Numbers) (step entering : ℕ) (e : Unfit) → EndsSolved m n r t → EndsUnfit m n r step entering e → ⊥
-  not_both t step entering e a (inl b) = no_unfit (steps_of_pivot m r n) e (begins_fit a.0 t a.1 a.2) b.3
+  not_both t step entering e a (inl b) = unfit_among (steps_of_pivot m r n) e b.3 (begins_fit a.0 t a.1 a.2)
   not_both t step entering e a (inr b) = solved_stops t step entering e b.0 b.1 a b.2
 
   stops_here : (step entering : ℕ) (e : Unfit) (ss : List Numbers) (t : Numbers) (step' entering' : ℕ) (e' : Unfit) (us : List Numbers) (u : Numbers) → StopsAt m n r step entering e ss t → StopsAt m n r step' entering' e' us u → length ss ≡ length us → (step ≡ step') × ((entering ≡ entering') × (e ≡ e'))
@@ -138,7 +138,7 @@ module _ (m : Numbers) (n r : ℕ) where
       let row = same_row n u b.valid entering' a.col b.col a.row b.row col_in b.col_in nonbasic b.entering_is chosen b.chosen in
       let unfit : IsFirstUnfit (steps_of_pivot u b.row b.col) e = subst₂ (λ x y. IsFirstUnfit (steps_of_pivot u x y) e) row col (subst (λ x. IsFirstUnfit (steps_of_pivot x a.row a.col) e) s.0 a.unfit) in (
         a.number ∙ ap (λ k. pivot_number (suc (suc k))) q ∙ sym b.number,
-        (s.1, one_unfit (steps_of_pivot u b.row b.col) e e' unfit b.unfit),
+        (s.1, unfit_once (steps_of_pivot u b.row b.col) e e' unfit b.unfit),
       )
 
   stops_same : (step entering : ℕ) (e : Unfit) (ss : List Numbers) (t : Numbers) (step' entering' : ℕ) (e' : Unfit) (us : List Numbers) (u : Numbers) → StopsAt m n r step entering e ss t → StopsAt m n r step' entering' e' us u → (step ≡ step') × ((entering ≡ entering') × (e ≡ e'))
@@ -151,9 +151,9 @@ module _ (m : Numbers) (n r : ℕ) where
   ]
 
   unfit_same : (step entering : ℕ) (e : Unfit) (step' entering' : ℕ) (e' : Unfit) → EndsUnfit m n r step entering e → EndsUnfit m n r step' entering' e' → (step ≡ step') × ((entering ≡ entering') × (e ≡ e'))
-  unfit_same step entering e step' entering' e' (inl a) (inl b) = (a.0 ∙ sym b.0, (a.1 ∙ sym b.1, one_unfit (steps_of_pivot m r n) e e' a.3 b.3))
-  unfit_same step entering e step' entering' e' (inl a) (inr b) = absurd (no_unfit (steps_of_pivot m r n) e (begins_fit b.0 b.1 entering' b.2.path) a.3)
-  unfit_same step entering e step' entering' e' (inr a) (inl b) = absurd (no_unfit (steps_of_pivot m r n) e' (begins_fit a.0 a.1 entering a.2.path) b.3)
+  unfit_same step entering e step' entering' e' (inl a) (inl b) = (a.0 ∙ sym b.0, (a.1 ∙ sym b.1, unfit_once (steps_of_pivot m r n) e e' a.3 b.3))
+  unfit_same step entering e step' entering' e' (inl a) (inr b) = absurd (unfit_among (steps_of_pivot m r n) e a.3 (begins_fit b.0 b.1 entering' b.2.path))
+  unfit_same step entering e step' entering' e' (inr a) (inl b) = absurd (unfit_among (steps_of_pivot m r n) e' b.3 (begins_fit a.0 a.1 entering a.2.path))
   unfit_same step entering e step' entering' e' (inr a) (inr b) = stops_same step entering e a.0 a.1 step' entering' e' b.0 b.1 a.2 b.2
 
 -- a problem by its parts

@@ -5,7 +5,7 @@ use Rattle.answers.proofs.AnswerLemmas.{bind-single, refuse_where-single, refuse
 use Rattle.linear_systems.proofs.AgreementLemmas.{alike_sym, alike_trans}
 use Rattle.lex_tableau.specs.Starts.{Parts, system_of}
 use Rattle.lex_tableau.proofs.SystemLemmas.{systems_determined, start_for-single}
-use Rattle.pure_payoffs.proofs.FirstUnfitLemmas.{all_fit-single}
+use Rattle.frac128.proofs.FirstUnfitLemmas.{all_fit-single}
 use Rattle.sequence_forms.specs.Prices.{costs}
 use Rattle.sequence_data.specs.Data.{FormData, form, side_of}
 use Rattle.lemke_pivot.specs.declared.stop.LcpStop.TheVariants as stops

@@ -1,11 +1,11 @@
 -- The path over whole numbers: each pivot's steps fit, and it ends where z0 is 0 or at the first
 -- step that does not fit.
-use Rattle.std.specs.Prelude.{ℕ, suc, ◌<◌, ◌≤◌, ◌≡◌, ◌≢◌, ◌⊎◌, List, [], ◌∷◌, length, get_or}
+use Rattle.std.specs.Prelude.{ℕ, suc, ◌<◌, ◌≤◌, ◌≡◌, ◌≢◌, ◌⊎◌, List, [], ◌∷◌, length, get_or, All}
 use Rattle.rational.specs.Rational.{ℚ, zero_ℚ}
 use Rattle.linear_systems.specs.Rows.{basic_solution, IsLexicographicRow, Alike}
 use Rattle.frac128.specs.declared.steps.Unfit.{Unfit}
 use Rattle.lex_tableau.specs.Rows.{Numbers, tableau, IsTableau, IsPivotOf}
-use Rattle.whole_rows.specs.Steps.{AllFit, IsFirstUnfit}
+use Rattle.frac128.specs.Steps.{StepFits, IsFirstUnfit}
 use Rattle.lex_tableau.specs.Pivots.{pivot_number, steps_of_pivot}
 use Rattle.lemke_pivot.specs.Problems.{IsCopositive}
 use Rattle.lemke_pivot.specs.ProblemPaths.{w_of, z_of, z0_of, complement, start, IsFirstRow, Replaces}
@@ -14,7 +14,7 @@ use Rattle.lemke_pivot.specs.ProblemPaths.{w_of, z_of, z0_of, complement, start,
 pub record IsExactPivot (s : Numbers) (row col : ℕ) (t : Numbers) : Type 0 where
   pub valid : IsTableau s
   pub pivot : IsPivotOf s row col t
-  pub fits : AllFit (steps_of_pivot s row col)
+  pub fits : All StepFits (steps_of_pivot s row col)
 
 -- c enters s on its lexicographic row and l leaves; the steps of the pivot fit, and t is what it
 -- makes
@@ -22,7 +22,7 @@ pub record ReplacesExactly (n : ℕ) (s : Numbers) (c l : ℕ) (t : Numbers) : T
   pub valid : IsTableau s
   pub replaces : Replaces n (tableau s) c l (tableau t)
   pub pivot : IsPivotOf s replaces.row replaces.col t
-  pub fits : AllFit (steps_of_pivot s replaces.row replaces.col)
+  pub fits : All StepFits (steps_of_pivot s replaces.row replaces.col)
 
 -- The path from m has come to t, and c is next. The list has the tableaux after the first pivot and
 -- before t, the last one first. z0 enters at row r; as long as the value of z0 is not 0, the

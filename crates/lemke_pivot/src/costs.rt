@@ -1,7 +1,7 @@
 // What both players' payoffs lack of the greatest ones.
 ghost use Rattle.std.specs.Prelude.{◌≡◌, All, map, IfOk, IfErr, OnOk};
 ghost use Rattle.answers.specs.Answers.{Gives, map_ok};
-ghost use Rattle.pure_payoffs.specs.Steps.{StepFits, IsFirstUnfit};
+ghost use Rattle.frac128.specs.Steps.{StepFits, IsFirstUnfit};
 ghost use Rattle.lemke_pivot.specs.declared.stop.LcpStop.TheVariants as stops;
 ghost use Rattle.lemke_pivot.specs.FormProblems.{cost_at, cost_one, cost_steps, cost_two, costs_in};
 

@@ -7,4 +7,3 @@ pub mod Rows
 pub mod StartStops
 pub mod Starts
 pub use Rattle.whole_rows.specs.StartRows
-pub use Rattle.whole_rows.specs.Steps

@@ -3,7 +3,7 @@ use Rattle.std.specs.Prelude.{ℕ}
 use Rattle.lex_tableau.specs.declared.tableau.PivotStop.{PivotStop}
 use Rattle.lex_tableau.specs.declared.tableau.PivotStop.TheVariants.{Unfit, Memory}
 use Rattle.lex_tableau.specs.Rows.{Numbers}
-use Rattle.whole_rows.specs.Steps.{IsFirstUnfit}
+use Rattle.frac128.specs.Steps.{IsFirstUnfit}
 use Rattle.lex_tableau.specs.Pivots.{steps_of_pivot}
 
 -- the first step of the pivot that does not fit, or no memory, of which nothing is said

@@ -1,6 +1,6 @@
 -- The steps of the pivot of a tableau, and its number
 use Rattle.std.specs.Prelude.{ℕ, ℤ, ◌+◌, ◌-◌, ◌^◌, min, length, List}
-use Rattle.whole_rows.specs.Steps.{Step}
+use Rattle.frac128.specs.Steps.{Step}
 use Rattle.whole_rows.specs.Pivots.{pivot_steps}
 use Rattle.whole_rows.specs.Lists.{IsPivotAt, AreOthersPivoted}
 use Rattle.lex_tableau.specs.Rows.{Numbers, size_of, row_of}

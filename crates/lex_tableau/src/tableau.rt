@@ -1,5 +1,5 @@
 // Tableaux of whole numbers.
-ghost use Rattle.std.specs.Prelude.{◌≡◌, ◌≢◌, ◌+◌, ◌<◌, ◌<ℤ◌, pos, length, IfOk, IfErr, OnOk};
+ghost use Rattle.std.specs.Prelude.{◌≡◌, ◌≢◌, ◌+◌, ◌<◌, ◌<ℤ◌, pos, length, IfOk, IfErr, OnOk, All};
 ghost use Rattle.rational.specs.Rational.{zero_ℚ};
 ghost use Rattle.linear_systems.specs.Rows.{basic_solution};
 ghost use Rattle.lex_tableau.specs.PivotStops.{IsPivotStop};
@@ -10,7 +10,7 @@ ghost use Rattle.lex_tableau.specs.StartStops.{IsStartStop};
 ghost use Rattle.lex_tableau.specs.Starts.{IsStartOf, StartFits};
 ghost use Rattle.whole_rows.specs.Lists.{AllPartsFit};
 ghost use Rattle.whole_rows.specs.Rows.{fraction as fraction_of, from_place};
-ghost use Rattle.whole_rows.specs.Steps.{AllFit, IsFirstUnfit};
+ghost use Rattle.frac128.specs.Steps.{StepFits, IsFirstUnfit};
 ghost use Rattle.rational.specs.Tests.{sign_of};
 
 use crate::pivot_count::PivotCount;
@@ -370,7 +370,7 @@ impl Tableau {
         ensures solutions { IfOk result (HasSolutionsOf self.now) }
         ensures keys { IfOk result (KeepsPositiveKeys self.now row col) }
         ensures valid { IfOk result IsTableau }
-        ensures fits { OnOk result (AllFit (steps_of_pivot self.now row col)) }
+        ensures fits { OnOk result (All StepFits (steps_of_pivot self.now row col)) }
         ensures unfit { IfErr result (IsPivotStop self.now row col) }
         ensures counted { pivots.new ≡ pivots.old + 1 }
     {
@@ -416,7 +416,7 @@ impl Tableau {
         ensures length { length spare.new ≡ length spare.old }
         ensures pivot_row { OnOk result (HasPivotRow self.now row col spare.new) }
         ensures others { OnOk result (HasOtherRows self.now row col spare.new) }
-        ensures fits { OnOk result (AllFit (steps_of_pivot self.now row col)) }
+        ensures fits { OnOk result (All StepFits (steps_of_pivot self.now row col)) }
         ensures unfit { IfErr result (IsFirstUnfit (steps_of_pivot self.now row col)) }
     {
         write_pivot(

@@ -1,12 +1,12 @@
 // A tableau that is pivoted in place.
-ghost use Rattle.std.specs.Prelude.{◌≡◌, ◌≢◌, ◌+◌, ◌<◌, length, IfOk, IfErr, OnOk, OnErr};
+ghost use Rattle.std.specs.Prelude.{◌≡◌, ◌≢◌, ◌+◌, ◌<◌, length, IfOk, IfErr, OnOk, OnErr, All};
 ghost use Rattle.rational.specs.Rational.{zero_ℚ};
 ghost use Rattle.lex_tableau.specs.Pivots.{steps_of_pivot};
 ghost use Rattle.lex_tableau.specs.Ratio.{KeepsPositiveKeys};
 ghost use Rattle.lex_tableau.specs.Rows.{HasSolutionsOf, IsPivotOf, IsTableau, tableau};
 ghost use Rattle.lex_tableau.specs.StartStops.{IsStartStop};
 ghost use Rattle.lex_tableau.specs.Starts.{IsStartOf, StartFits};
-ghost use Rattle.whole_rows.specs.Steps.{AllFit, IsFirstUnfit};
+ghost use Rattle.frac128.specs.Steps.{StepFits, IsFirstUnfit};
 
 use crate::pivot_count::PivotCount;
 use crate::system::System;
@@ -79,7 +79,7 @@ impl Work {
         ensures solutions { OnOk result (HasSolutionsOf self.old self.new) }
         ensures keys { OnOk result (KeepsPositiveKeys self.old row col self.new) }
         ensures valid { IsTableau self.new }
-        ensures fits { OnOk result (AllFit (steps_of_pivot self.old row col)) }
+        ensures fits { OnOk result (All StepFits (steps_of_pivot self.old row col)) }
         ensures unfit { IfErr result (IsFirstUnfit (steps_of_pivot self.old row col)) }
         ensures unchanged { OnErr result (self.new ≡ self.old) }
         ensures counted { pivots.new ≡ pivots.old + 1 }

@@ -7,7 +7,7 @@ use Rattle.std.proofs.lemmas.List.FromFn.{length-range_with_len, get_or-range_wi
 use Rattle.rational.specs.Rational.{ℚ, ◌*ℚ◌}
 use Rattle.rational.specs.Sum.{sum_to}
 use Rattle.rational.proofs.SumLemmas.{sum_to-same}
-use Rattle.frac128.specs.Steps.{unfit}
+use Rattle.frac128.specs.Steps.{unfit, Step}
 use Rattle.frac128.specs.declared.steps.Op.TheVariants.{Add, Mul}
 use Rattle.game_theory.specs.Trees.{Tree, IsTree}
 use Rattle.game_theory.specs.Behaviour.{Behaviour, action_probability, value}
@@ -19,7 +19,7 @@ use Rattle.best_replies.specs.Replies.{reply_value, is_member}
 use Rattle.best_replies.proofs.ReplyValueLemmas.{reply_value-agree}
 use Rattle.best_replies.proofs.WeightLemmas.{own_or_not, if_own, if_other}
 use Rattle.pure_payoffs.specs.Plays.{branch_steps}
-use Rattle.pure_payoffs.specs.Steps.{Step, chance_steps}
+use Rattle.pure_payoffs.specs.Steps.{chance_steps}
 use Rattle.ne_checker.specs.TreeSteps.{sum_steps, child_value, after_steps, after_sum, reply_steps_to, reply_steps, members, member_child, action_steps, decision_steps, player_steps, now_node_steps, now_steps_to, has_factor, weight_step, weight_steps}
 use Rattle.ne_checker.proofs.AlikeBehaviourLemmas.{AreAlike, branch-alike, probability-alike, reply_value-alike, value-alike, weight-alike}
 use Rattle.ne_checker.proofs.TreeOwnSetLemmas.{turned}

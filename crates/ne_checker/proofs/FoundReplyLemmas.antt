@@ -7,7 +7,7 @@ use Rattle.game_theory.specs.Behaviour.{Behaviour, payoff}
 use Rattle.game_theory.specs.OwnSets.{own_sets}
 use Rattle.game_theory.proofs.OwnSetLemmas.{IsAmong, own_sets-tell}
 use Rattle.best_replies.specs.Replies.{reply_value, AreBestChoices}
-use Rattle.pure_payoffs.specs.Steps.{StepFits}
+use Rattle.frac128.specs.Steps.{StepFits}
 use Rattle.ne_checker.specs.TreeSides.{AreChosen}
 use Rattle.ne_checker.specs.TreeSteps.{player_steps}
 use Rattle.ne_checker.specs.TreeVerdicts.{HasNoBetter, IsBetter}

@@ -10,8 +10,8 @@ use Rattle.rational.proofs.RationalRing.{+ℚ-zero}
 use Rattle.game_theory.specs.Profiles.{Game, profile_at, profile_count, stride}
 use Rattle.game_theory.specs.Mixed.{Mixed}
 use Rattle.game_theory.proofs.ProfileNumberLemmas.{quotient-of, remainder-of, strategy-profile_at}
-use Rattle.pure_payoffs.specs.Steps.{Step, StepFits, IsFirstUnfit}
-use Rattle.pure_payoffs.proofs.StepRunLemmas.{first_unfit-more, first_unfit-following}
+use Rattle.frac128.specs.Steps.{Step, StepFits, IsFirstUnfit}
+use Rattle.frac128.proofs.StepRunLemmas.{first_unfit-more, first_unfit-following}
 use Rattle.best_replies.specs.Strategies.{strategy_value, weight}
 use Rattle.ne_checker.specs.TableChecks.{others_probabilities, product_steps, profile_steps, steps_at, strategy_steps, value_below, weighed_steps}
 use Rattle.ne_checker.proofs.TableRunLemmas.{fits-joined, none-more, steps_of, unfit-joined}

@@ -5,14 +5,14 @@ use Rattle.std.proofs.lemmas.Bool.Decides.{Decides-eqb}
 use Rattle.rational.specs.Rational.{ℚ, ◌*ℚ◌, one_ℚ}
 use Rattle.rational.proofs.RationalRing.{*ℚ_assoc, *ℚ-one}
 use Rattle.rational.proofs.Rules.{one-*ℚ}
-use Rattle.frac128.specs.Steps.{MulFits, unfit}
+use Rattle.frac128.specs.Steps.{MulFits, unfit, Step, IsFirstUnfit}
 use Rattle.frac128.specs.declared.steps.Op.TheVariants.{Mul}
 use Rattle.frac128.specs.declared.steps.Unfit.{Unfit}
 use Rattle.game_theory.specs.Profiles.{profile_at}
 use Rattle.game_theory.specs.Mixed.{Mixed, later, probability}
 use Rattle.pure_payoffs.specs.Plays.{Give}
-use Rattle.pure_payoffs.specs.Steps.{Step, IsFirstUnfit}
-use Rattle.pure_payoffs.proofs.StepRunLemmas.{following-gives, first_unfit-here, one-fits}
+use Rattle.frac128.proofs.StepRunLemmas.{first_unfit-here, one-fits}
+use Rattle.pure_payoffs.proofs.StepRunLemmas.{following-gives}
 use Rattle.best_replies.specs.Strategies.{own_as_one, weight}
 use Rattle.ne_checker.specs.TableChecks.{others_from, others_probabilities, product_steps}
 

@@ -7,12 +7,12 @@ use Rattle.rational.specs.Tests.{eq_test}
 use Rattle.rational.proofs.Decide.{eq_test-true}
 use Rattle.rational.proofs.RationalRing.{+ℚ-zero}
 use Rattle.rational.proofs.Rules.{zero-*ℚ}
-use Rattle.frac128.specs.Steps.{AddFits, MulFits, unfit}
+use Rattle.frac128.specs.Steps.{AddFits, MulFits, unfit, Step, StepFits, IsFirstUnfit}
 use Rattle.frac128.specs.declared.steps.Op.TheVariants.{Add, Mul}
 use Rattle.frac128.specs.declared.steps.Unfit.{Unfit}
 use Rattle.pure_payoffs.specs.Plays.{Give}
-use Rattle.pure_payoffs.specs.Steps.{Step, StepFits, IsFirstUnfit}
-use Rattle.pure_payoffs.proofs.StepRunLemmas.{added-gives, following-gives, first_unfit-here, one-fits}
+use Rattle.frac128.proofs.StepRunLemmas.{first_unfit-here, one-fits}
+use Rattle.pure_payoffs.proofs.StepRunLemmas.{added-gives, following-gives}
 use Rattle.ne_checker.specs.TableChecks.{weighed_steps}
 
 not_true : (b : Bool) → (b ≡ true → ⊥) → b ≡ false

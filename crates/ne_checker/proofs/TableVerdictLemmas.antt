@@ -7,7 +7,7 @@ use Rattle.rational.proofs.InverseLemmas.{one_pos}
 use Rattle.game_theory.specs.Equilibrium.{IsEquilibrium}
 use Rattle.game_theory.specs.Mixed.{Mixed, payoff as payoff_of, reply as with_reply}
 use Rattle.game_theory.specs.Profiles.{Game}
-use Rattle.pure_payoffs.specs.Steps.{StepFits}
+use Rattle.frac128.specs.Steps.{StepFits}
 use Rattle.best_replies.specs.Strategies.{strategy_value}
 use Rattle.best_replies.proofs.FirstGreatestLemmas.{first_greatest-exists}
 use Rattle.best_replies.proofs.StrategyLemmas.{best_strategies-tell, strategy_value-payoff}

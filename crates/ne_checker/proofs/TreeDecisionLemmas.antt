@@ -12,7 +12,7 @@ use Rattle.best_replies.specs.Greatest.{IsFirstGreatest}
 use Rattle.best_replies.specs.Replies.{action_value}
 use Rattle.best_replies.proofs.FirstGreatestLemmas.{first_greatest-unique, first_greatest-kept, first_greatest-passed}
 use Rattle.best_replies.proofs.WeightLemmas.{step-to}
-use Rattle.pure_payoffs.specs.Steps.{StepFits}
+use Rattle.frac128.specs.Steps.{StepFits}
 use Rattle.ne_checker.specs.TreeSides.{AreDecided, IsComputed}
 use Rattle.ne_checker.specs.TreeSteps.{action_steps, decision_steps}
 use Rattle.ne_checker.proofs.TreePartLemmas.{parts-more}

@@ -1,6 +1,6 @@
 -- Steps that are told by depth: with enough depth they are told by the steps of later nodes.
 use Rattle.std.proofs.Common.{ℕ, zero, suc, ◌+◌, ◌<◌, ◌≤◌, ◌≡◌, List, sym, ◌∙◌, arith}
-use Rattle.pure_payoffs.specs.Steps.{Step}
+use Rattle.frac128.specs.Steps.{Step}
 
 module _ (n : ℕ) (told : (ℕ → List Step) → ℕ → List Step) (to : ℕ → ℕ → List Step) (deeper : (d k : ℕ) → to (suc d) k ≡ told (to d) k) (same : (f g : ℕ → List Step) (k : ℕ) → k < n → ((c : ℕ) → k < c → c < n → f c ≡ g c) → told f k ≡ told g k) where
   -- where no node lies deeper, one more edge adds no step

@@ -10,7 +10,7 @@ use Rattle.rational.specs.Rational.{ℚ, ◌+ℚ◌, zero_ℚ}
 use Rattle.rational.specs.Sum.{sum_to}
 use Rattle.rational.proofs.RationalRing.{+ℚ-zero}
 use Rattle.rational.proofs.SumLemmas.{sum_to-same}
-use Rattle.frac128.specs.Steps.{AddFits}
+use Rattle.frac128.specs.Steps.{AddFits, StepFits}
 use Rattle.game_theory.specs.Trees.{Tree, IsTree}
 use Rattle.game_theory.specs.Behaviour.{Behaviour, is_index}
 use Rattle.game_theory.specs.Children.{child}
@@ -23,7 +23,6 @@ use Rattle.best_replies.specs.Replies.{action_value, reply_value, is_member}
 use Rattle.best_replies.proofs.ReplyValueLemmas.{action_value-by_members}
 use Rattle.best_replies.proofs.SetOrderLemmas.{within-trans, above-le}
 use Rattle.perfect_recall.proofs.MemberLemmas.{AreMembers, members-at}
-use Rattle.pure_payoffs.specs.Steps.{StepFits}
 use Rattle.ne_checker.specs.TreeSides.{AreDecided, OwnSetsFrom, IsComputed}
 use Rattle.ne_checker.specs.TreeSteps.{members, member_child, action_steps, reply_steps, sum_steps}
 use Rattle.ne_checker.proofs.TreeSumLemmas.{sum-more}

@@ -3,7 +3,7 @@ use Rattle.std.proofs.Common.{ℕ, ◌<◌, ◌≡◌, Option, Some, None, List,
 use Rattle.std.specs.Prelude.{IfOk, IfErr, OnOk, OnErr}
 use Rattle.std.proofs.lemmas.List.Elements.{All-nil}
 use Rattle.rational.specs.Rational.{ℚ, ◌+ℚ◌}
-use Rattle.frac128.specs.Steps.{AddFits, unfit}
+use Rattle.frac128.specs.Steps.{AddFits, unfit, Step, StepFits, IsFirstUnfit}
 use Rattle.frac128.specs.declared.steps.Op.TheVariants.{Add}
 use Rattle.frac128.specs.declared.steps.Unfit.{Unfit}
 use Rattle.game_theory.specs.Children.{child}
@@ -12,9 +12,9 @@ use Rattle.game_theory.specs.Behaviour.{Behaviour, action_probability, value}
 use Rattle.game_theory.proofs.NamedChildLemmas.{child-is_child, child-later}
 use Rattle.game_theory.proofs.ValueLemmas.{value-by_actions, value-end}
 use Rattle.pure_payoffs.specs.Plays.{Give}
-use Rattle.pure_payoffs.specs.Steps.{Step, StepFits, IsFirstUnfit}
 use Rattle.pure_payoffs.proofs.NodeStepLemmas.{chance_steps-same}
-use Rattle.pure_payoffs.proofs.StepRunLemmas.{first_unfit-more, added-gives, following-gives}
+use Rattle.frac128.proofs.StepRunLemmas.{first_unfit-more}
+use Rattle.pure_payoffs.proofs.StepRunLemmas.{added-gives, following-gives}
 use Rattle.ne_checker.specs.TreeSteps.{now_node_steps, now_steps_to, now_steps_at, now_steps_after, now_value_after}
 use Rattle.ne_checker.proofs.TreeDepthLemmas.{told-recurs}
 

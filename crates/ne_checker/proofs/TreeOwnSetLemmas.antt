@@ -11,8 +11,8 @@ use Rattle.game_theory.specs.Trees.{Tree}
 use Rattle.game_theory.specs.Behaviour.{Behaviour, is_own}
 use Rattle.game_theory.specs.OwnSets.{own_below, own_sets}
 use Rattle.best_replies.proofs.WeightLemmas.{if_own, if_other}
-use Rattle.pure_payoffs.specs.Steps.{Step, StepFits, IsFirstUnfit}
-use Rattle.pure_payoffs.proofs.StepRunLemmas.{first_unfit-more, first_unfit-following}
+use Rattle.frac128.specs.Steps.{Step, StepFits, IsFirstUnfit}
+use Rattle.frac128.proofs.StepRunLemmas.{first_unfit-more, first_unfit-following}
 use Rattle.ne_checker.specs.TreeSides.{AreDecided}
 use Rattle.ne_checker.specs.TreeSteps.{decision_steps, decisions}
 

@@ -5,7 +5,7 @@ use Rattle.std.proofs.lemmas.List.Elements.{All-nil}
 use Rattle.rational.specs.Rational.{ℚ, ◌+ℚ◌, ◌*ℚ◌, zero_ℚ}
 use Rattle.rational.proofs.RationalRing.{+ℚ-zero}
 use Rattle.rational.proofs.Rules.{zero-+ℚ}
-use Rattle.frac128.specs.Steps.{AddFits, MulFits, unfit}
+use Rattle.frac128.specs.Steps.{AddFits, MulFits, unfit, Step, StepFits, IsFirstUnfit}
 use Rattle.frac128.specs.declared.steps.Op.TheVariants.{Add, Mul}
 use Rattle.frac128.specs.declared.steps.Unfit.{Unfit}
 use Rattle.game_theory.specs.Children.{child}
@@ -17,8 +17,8 @@ use Rattle.best_replies.specs.Replies.{reply_value}
 use Rattle.best_replies.proofs.ReplyValueLemmas.{reply_values-recur}
 use Rattle.best_replies.proofs.WeightLemmas.{own_or_not, if_own, if_other}
 use Rattle.pure_payoffs.specs.Plays.{Give}
-use Rattle.pure_payoffs.specs.Steps.{Step, StepFits, IsFirstUnfit}
-use Rattle.pure_payoffs.proofs.StepRunLemmas.{first_unfit-more, first_unfit-following, first_unfit-here, one-fits, added-gives, following-gives}
+use Rattle.frac128.proofs.StepRunLemmas.{first_unfit-more, first_unfit-following, first_unfit-here, one-fits}
+use Rattle.pure_payoffs.proofs.StepRunLemmas.{added-gives, following-gives}
 use Rattle.ne_checker.specs.TreeSteps.{sum_steps, child_value, after_steps, after_sum, own_steps, reply_steps_to, reply_steps, after_steps_at, after_sum_at, children_steps, children_sum}
 use Rattle.ne_checker.proofs.TreeDepthLemmas.{told-recurs}
 use Rattle.ne_checker.proofs.TreeSumLemmas.{sum_steps-same}

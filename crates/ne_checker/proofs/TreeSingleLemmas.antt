@@ -14,8 +14,8 @@ use Rattle.game_core.specs.TreeGame.{game_of_tree}
 use Rattle.best_replies.specs.Replies.{reply_value, AreBestChoices}
 use Rattle.best_replies.proofs.DecisionOrderLemmas.{best_choices-unique}
 use Rattle.best_replies.proofs.SetOrderLemmas.{sets-ascend_on_paths}
-use Rattle.pure_payoffs.specs.Steps.{Step, StepFits, IsFirstUnfit}
-use Rattle.pure_payoffs.proofs.FirstUnfitLemmas.{unfit_once, unfit_among}
+use Rattle.frac128.specs.Steps.{Step, StepFits, IsFirstUnfit}
+use Rattle.frac128.proofs.FirstUnfitLemmas.{unfit_once, unfit_among}
 use Rattle.ne_checker.specs.declared.trees.TreeVerdict.{TreeVerdict}
 use Rattle.ne_checker.specs.declared.trees.TreeVerdict.TheVariants.{Equilibrium, Better, Range}
 use Rattle.ne_checker.specs.TreeSteps.{player_steps}

@@ -12,7 +12,7 @@ use Rattle.best_replies.specs.Replies.{reply_value}
 use Rattle.best_replies.proofs.BestChoiceLemmas.{best_choices-pay_most}
 use Rattle.best_replies.proofs.ReplyValueLemmas.{root-reply_value}
 use Rattle.best_replies.proofs.VerdictLemmas.{best_choices-tell}
-use Rattle.pure_payoffs.proofs.FirstUnfitLemmas.{unfit_among}
+use Rattle.frac128.proofs.FirstUnfitLemmas.{unfit_among}
 use Rattle.ne_checker.specs.declared.trees.TreeVerdict.{TreeVerdict}
 use Rattle.ne_checker.specs.declared.trees.TreeVerdict.TheVariants.{Equilibrium, Better, Range}
 use Rattle.ne_checker.specs.TreeVerdicts.{HasNoBetter, IsBetter, IsTreeVerdict}

@@ -6,7 +6,7 @@ use Rattle.std.proofs.lemmas.Bool.Decides.{Decides-ltb}
 use Rattle.std.proofs.lemmas.List.{get_or_default, get_or-set_same, get_or-set_other}
 use Rattle.std.proofs.lemmas.List.Elements.{All-nil}
 use Rattle.rational.specs.Rational.{ℚ, ◌*ℚ◌, zero_ℚ}
-use Rattle.frac128.specs.Steps.{MulFits, unfit}
+use Rattle.frac128.specs.Steps.{MulFits, unfit, Step, StepFits, IsFirstUnfit}
 use Rattle.frac128.specs.declared.steps.Op.TheVariants.{Mul}
 use Rattle.frac128.specs.declared.steps.Unfit.{Unfit}
 use Rattle.game_theory.specs.Trees.{Tree, IsTree}
@@ -14,8 +14,7 @@ use Rattle.game_theory.specs.Behaviour.{Behaviour, action_probability, branch_pr
 use Rattle.best_replies.specs.Reaching.{weight}
 use Rattle.best_replies.proofs.WeightLemmas.{branch-at, weight-own, weight-other, if_own, if_other}
 use Rattle.pure_payoffs.specs.Plays.{Give}
-use Rattle.pure_payoffs.specs.Steps.{Step, StepFits, IsFirstUnfit}
-use Rattle.pure_payoffs.proofs.StepRunLemmas.{first_unfit-here, one-fits}
+use Rattle.frac128.proofs.StepRunLemmas.{first_unfit-here, one-fits}
 use Rattle.ne_checker.specs.TreeSteps.{has_factor, weight_step}
 use Rattle.ne_checker.specs.TreeWeights.{AreWeights}
 

@@ -5,13 +5,12 @@ use Rattle.std.specs.List.{range_with_len, flat_map}
 use Rattle.rational.specs.Rational.{ℚ, ◌*ℚ◌, ◌≤ℚ◌, ◌<ℚ◌, zero_ℚ, one_ℚ}
 use Rattle.rational.specs.Sum.{sum_to}
 use Rattle.rational.specs.Tests.{eq_test}
-use Rattle.frac128.specs.Steps.{unfit}
+use Rattle.frac128.specs.Steps.{unfit, Step, StepFits, IsFirstUnfit}
 use Rattle.frac128.specs.declared.steps.Op.TheVariants.{Add, Mul}
 use Rattle.game_theory.specs.Profiles.{Game, profile_count, profile_at}
 use Rattle.game_theory.specs.Mixed.{Mixed, payoff as payoff_of}
 use Rattle.game_theory.specs.Lines.{entries}
 use Rattle.game_core.specs.Table.{GameTable, game_of, strategy_counts}
-use Rattle.pure_payoffs.specs.Steps.{Step, StepFits, IsFirstUnfit}
 use Rattle.best_replies.specs.Strategies.{weight, strategy_value, IsBestStrategy}
 use Rattle.ne_checker.specs.declared.tables.BetterReply.{BetterReply}
 use Rattle.ne_checker.specs.declared.tables.TableVerdict.{TableVerdict}

@@ -5,7 +5,7 @@ use Rattle.game_theory.specs.Profiles.{Game}
 use Rattle.game_theory.specs.Mixed.{Mixed, IsValid, payoff as payoff_of, reply as with_reply}
 use Rattle.game_theory.specs.Equilibrium.{IsEquilibrium}
 use Rattle.game_core.specs.Table.{GameTable}
-use Rattle.pure_payoffs.specs.Steps.{StepFits}
+use Rattle.frac128.specs.Steps.{StepFits}
 use Rattle.best_replies.specs.Strategies.{HasBetterStrategy}
 use Rattle.ne_checker.specs.TableChecks.{IsTableVerdict, player_steps, table_verdict}
 use Rattle.ne_checker.specs.declared.tables.TableVerdict.{TableVerdict}

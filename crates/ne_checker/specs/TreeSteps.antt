@@ -3,13 +3,13 @@ use Rattle.std.specs.Prelude.{ℕ, zero, suc, ◌&&◌, nat_lt, Bool, true, fals
 use Rattle.std.specs.List.{flat_map, range_with_len}
 use Rattle.rational.specs.Rational.{ℚ, ◌*ℚ◌, zero_ℚ}
 use Rattle.rational.specs.Sum.{sum_to}
-use Rattle.frac128.specs.Steps.{unfit}
+use Rattle.frac128.specs.Steps.{unfit, Step}
 use Rattle.frac128.specs.declared.steps.Op.TheVariants.{Add, Mul}
 use Rattle.game_theory.specs.Trees.{Tree}
 use Rattle.game_theory.specs.Behaviour.{Behaviour, action_probability, branch_probability, is_own, value}
 use Rattle.game_theory.specs.Children.{child}
 use Rattle.game_theory.specs.OwnSets.{own_sets}
-use Rattle.pure_payoffs.specs.Steps.{Step, chance_steps}
+use Rattle.pure_payoffs.specs.Steps.{chance_steps}
 use Rattle.best_replies.specs.Reaching.{weight}
 use Rattle.best_replies.specs.Replies.{reply_value, is_member}
 

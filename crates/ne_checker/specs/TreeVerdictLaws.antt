@@ -10,7 +10,7 @@ use Rattle.game_theory.specs.Recall.{HasPerfectRecall}
 use Rattle.game_core.specs.Tree.{GameTree, IsTree}
 use Rattle.game_core.specs.TreeGame.{game_of_tree}
 use Rattle.best_replies.specs.Replies.{AreBestChoices, HasBetterReply}
-use Rattle.pure_payoffs.specs.Steps.{StepFits}
+use Rattle.frac128.specs.Steps.{StepFits}
 use Rattle.ne_checker.specs.declared.trees.TreeVerdict.{TreeVerdict}
 use Rattle.ne_checker.specs.declared.trees.TreeVerdict.TheVariants.{Equilibrium, Better}
 use Rattle.ne_checker.specs.TreeSteps.{player_steps}

@@ -9,7 +9,7 @@ use Rattle.game_theory.specs.TreeEntries.{tree_entries}
 use Rattle.game_core.specs.Tree.{GameTree}
 use Rattle.game_core.specs.TreeGame.{game_of_tree}
 use Rattle.best_replies.specs.Replies.{reply_value, AreBestChoices}
-use Rattle.pure_payoffs.specs.Steps.{Step, StepFits, IsFirstUnfit}
+use Rattle.frac128.specs.Steps.{Step, StepFits, IsFirstUnfit}
 use Rattle.ne_checker.specs.declared.trees.TreeVerdict.{TreeVerdict}
 use Rattle.ne_checker.specs.declared.trees.TreeVerdict.TheVariants.{Equilibrium, Better, Range}
 use Rattle.ne_checker.specs.TreeSteps.{player_steps}

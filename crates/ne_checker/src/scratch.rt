@@ -87,7 +87,7 @@ impl Scratch {
     ghost use Rattle.game_core.specs.TreeGame.{game_of_tree};
     ghost use Rattle.best_replies.specs.Order.{AscendOnPaths};
     ghost use Rattle.best_replies.specs.Replies.{reply_value, AreBestChoices};
-    ghost use Rattle.pure_payoffs.specs.Steps.{StepFits, IsFirstUnfit};
+    ghost use Rattle.frac128.specs.Steps.{StepFits, IsFirstUnfit};
     ghost use Rattle.ne_checker.specs.TreeScratches.{IsScratchOf, choices_of, reply_of};
     ghost use Rattle.ne_checker.specs.TreeSides.{AreChosen};
     ghost use Rattle.ne_checker.specs.TreeSteps.{player_steps};

@@ -26,7 +26,7 @@ ghost use Rattle.game_theory.specs.Mixed.{payoff as payoff_of};
 ghost use Rattle.game_theory.specs.Profiles.{profile_at, profile_count};
 ghost use Rattle.game_core.specs.Table.{IsTable, game_of, strategy_counts};
 ghost use Rattle.pure_payoffs.specs.Plays.{Give};
-ghost use Rattle.pure_payoffs.specs.Steps.{IsFirstUnfit, StepFits};
+ghost use Rattle.frac128.specs.Steps.{IsFirstUnfit, StepFits};
 ghost use Rattle.best_replies.specs.Strategies.{
   IsBestStrategy,
   strategy_value as value_of,

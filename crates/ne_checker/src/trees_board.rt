@@ -26,7 +26,7 @@ impl<'a> Board<'a> {
     ghost use Rattle.rational.specs.Rational.{◌+ℚ◌, ◌*ℚ◌};
     ghost use Rattle.game_theory.specs.Behaviour.{Behaviour, action_probability, value};
     ghost use Rattle.pure_payoffs.specs.Plays.{Give, branch_steps};
-    ghost use Rattle.pure_payoffs.specs.Steps.{StepFits, IsFirstUnfit};
+    ghost use Rattle.frac128.specs.Steps.{StepFits, IsFirstUnfit};
     ghost use Rattle.best_replies.specs.Reaching.{weight};
     ghost use Rattle.ne_checker.specs.TreeBoards.{IsOnBoard, Reads, game_of};
     ghost use Rattle.ne_checker.specs.TreeSteps.{

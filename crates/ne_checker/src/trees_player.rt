@@ -19,7 +19,7 @@ ghost use Rattle.game_theory.specs.OwnSets.{own_sets};
 ghost use Rattle.game_core.specs.TreeGame.{game_of_tree};
 ghost use Rattle.best_replies.specs.Order.{AscendOnPaths};
 ghost use Rattle.best_replies.specs.Replies.{reply_value, AreBestChoices};
-ghost use Rattle.pure_payoffs.specs.Steps.{StepFits, IsFirstUnfit};
+ghost use Rattle.frac128.specs.Steps.{StepFits, IsFirstUnfit};
 ghost use Rattle.ne_checker.specs.TreeBoards.{IsOnBoard, Reads, game_of};
 ghost use Rattle.ne_checker.specs.TreeSides.{AreChosen};
 ghost use Rattle.ne_checker.specs.TreeSteps.{best_steps, player_steps};

@@ -46,7 +46,7 @@ impl<'a> Side<'a> {
     ghost use Rattle.std.specs.Prelude.{◌≡◌, ◌<◌, ℕ, suc, length, All, MatchResult, Some};
     ghost use Rattle.game_theory.specs.Behaviour.{Behaviour};
     ghost use Rattle.pure_payoffs.specs.Plays.{Give};
-    ghost use Rattle.pure_payoffs.specs.Steps.{StepFits, IsFirstUnfit};
+    ghost use Rattle.frac128.specs.Steps.{StepFits, IsFirstUnfit};
     ghost use Rattle.best_replies.specs.Replies.{action_value, reply_value};
     ghost use Rattle.ne_checker.specs.TreeSides.{
       AreChoices,

@@ -8,12 +8,13 @@ use Rattle.rational.specs.Rational.{ℚ, ◌+ℚ◌, ◌*ℚ◌, zero_ℚ}
 use Rattle.rational.specs.Sum.{sum_to}
 use Rattle.rational.proofs.RationalRing.{+ℚ-zero}
 use Rattle.rational.proofs.Rules.{zero-*ℚ}
-use Rattle.frac128.specs.Steps.{AddFits, MulFits, unfit}
+use Rattle.frac128.specs.Steps.{AddFits, MulFits, unfit, Step, StepFits, IsFirstUnfit}
 use Rattle.frac128.specs.declared.steps.Op.TheVariants.{Add, Mul}
 use Rattle.frac128.specs.declared.steps.Unfit.{Unfit}
 use Rattle.pure_payoffs.specs.Plays.{Give, branch_steps}
-use Rattle.pure_payoffs.specs.Steps.{Step, StepFits, IsFirstUnfit, chance_steps}
-use Rattle.pure_payoffs.proofs.StepRunLemmas.{first_unfit-following, first_unfit-here, first_unfit-more, first_unfit-chance, one-fits, added-gives, following-gives}
+use Rattle.pure_payoffs.specs.Steps.{chance_steps}
+use Rattle.frac128.proofs.StepRunLemmas.{first_unfit-following, first_unfit-here, first_unfit-more, one-fits}
+use Rattle.pure_payoffs.proofs.StepRunLemmas.{first_unfit-chance, added-gives, following-gives}
 
 -- a branch with the probability 0 adds nothing
 pub skipped-gives : (prob sum v : ℚ) (steps : List Step) → prob ≡ zero_ℚ → Give (branch_steps prob sum v steps) (sum +ℚ prob *ℚ v) (Ok sum)

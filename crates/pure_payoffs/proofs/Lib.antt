@@ -1,7 +1,6 @@
 pub mod BranchStepLemmas
 pub mod ChoiceLemmas
 pub mod FilledListLemmas
-pub mod FirstUnfitLemmas
 pub mod IdleNodeLemmas
 pub mod NodeStepLemmas
 pub mod NodeValueLemmas
@@ -11,4 +10,3 @@ pub mod SettledPlaceLemmas
 pub mod StandInLemmas
 pub mod StepRunLemmas
 pub mod TreePartLemmas
-pub mod UnfitListLemmas

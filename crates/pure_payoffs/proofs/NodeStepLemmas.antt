@@ -5,14 +5,14 @@ use Rattle.game_theory.specs.Children.{child}
 use Rattle.rational.specs.Rational.{ℚ, ◌+ℚ◌, ◌*ℚ◌}
 use Rattle.rational.specs.Sum.{sum_to}
 use Rattle.rational.proofs.SumLemmas.{sum_to-same, sum_to-single}
-use Rattle.frac128.specs.Steps.{unfit}
+use Rattle.frac128.specs.Steps.{unfit, Step}
 use Rattle.frac128.specs.declared.steps.Op.TheVariants.{Add}
 use Rattle.game_theory.specs.Mixed.{sure}
 use Rattle.game_theory.specs.Trees.{Tree, IsTree}
 use Rattle.game_theory.specs.Behaviour.{of_owner, action_probability, value, pure}
 use Rattle.game_theory.proofs.ValueLemmas.{value-by_actions, value-end}
 use Rattle.pure_payoffs.specs.Plays.{steps_at, branch_steps, steps_after, value_after}
-use Rattle.pure_payoffs.specs.Steps.{Step, chance_steps, owner_steps, node_steps, steps_to}
+use Rattle.pure_payoffs.specs.Steps.{chance_steps, owner_steps, node_steps, steps_to}
 
 -- the sums of products of probabilities and values, where the values are the same
 pub weighted-same : (n : ℕ) (chances v w : ℕ → ℚ) → ((a : ℕ) → a < n → v a ≡ w a) → sum_to n (λ a. chances a *ℚ v a) ≡ sum_to n (λ a. chances a *ℚ w a)

@@ -4,15 +4,15 @@ use Rattle.std.specs.Prelude.{IfOk, IfErr, OnOk, OnErr}
 use Rattle.std.proofs.lemmas.List.Elements.{All-nil}
 use Rattle.game_theory.specs.Children.{child}
 use Rattle.rational.specs.Rational.{ℚ, ◌+ℚ◌}
-use Rattle.frac128.specs.Steps.{AddFits, unfit}
+use Rattle.frac128.specs.Steps.{AddFits, unfit, Step, StepFits, IsFirstUnfit}
 use Rattle.frac128.specs.declared.steps.Op.TheVariants.{Add}
 use Rattle.frac128.specs.declared.steps.Unfit.{Unfit}
 use Rattle.game_theory.specs.Trees.{Tree, IsTree}
 use Rattle.game_theory.specs.Behaviour.{value, pure}
 use Rattle.pure_payoffs.specs.Plays.{Give, steps_at, steps_after, value_after}
-use Rattle.pure_payoffs.specs.Steps.{Step, StepFits, IsFirstUnfit}
 use Rattle.pure_payoffs.proofs.NodeStepLemmas.{steps_at-end, steps_at-inner, value-inner, value-last}
-use Rattle.pure_payoffs.proofs.StepRunLemmas.{first_unfit-more, added-gives, following-gives}
+use Rattle.frac128.proofs.StepRunLemmas.{first_unfit-more}
+use Rattle.pure_payoffs.proofs.StepRunLemmas.{added-gives, following-gives}
 
 -- what a child gives is what comes after a player's node
 pub owned-gives : (t : Tree) (choice : ℕ → ℕ) (i k s j c : ℕ) (o : Option ℕ) (r : Result ℚ Unfit) → o ≡ Some j → c ≡ child t k (choice s) → Give (steps_at t choice i c) (value t (pure choice) i c) r → Give (steps_after t choice i k s o) (value_after t choice i k s o) r

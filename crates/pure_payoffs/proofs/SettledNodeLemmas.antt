@@ -3,14 +3,14 @@ use Rattle.std.proofs.Common.{ℕ, zero, suc, ◌<◌, ◌≡◌, Option, Some, 
 use Rattle.game_theory.proofs.NamedChildLemmas.{child-is_child}
 use Rattle.game_theory.specs.Children.{child}
 use Rattle.rational.specs.Rational.{ℚ}
-use Rattle.frac128.specs.Steps.{unfit}
+use Rattle.frac128.specs.Steps.{unfit, StepFits}
 use Rattle.frac128.specs.declared.steps.Op.TheVariants.{Add}
 use Rattle.game_theory.specs.Trees.{Tree, IsTree, IsChild}
 use Rattle.game_theory.specs.Behaviour.{value, pure}
 use Rattle.game_theory.proofs.SubtreeLemmas.{above_parent, value-agree}
 use Rattle.pure_payoffs.specs.Plays.{GiveAt}
 use Rattle.pure_payoffs.specs.Settled.{IsSettled, Settles}
-use Rattle.pure_payoffs.specs.Steps.{StepFits, owner_steps, node_steps, steps_to}
+use Rattle.pure_payoffs.specs.Steps.{owner_steps, node_steps, steps_to}
 use Rattle.pure_payoffs.proofs.NodeStepLemmas.{chance_steps-same, weighted-same}
 
 -- ---- what they give

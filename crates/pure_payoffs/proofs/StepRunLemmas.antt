@@ -1,36 +1,19 @@
 -- Steps one after another: what they give.
-use Rattle.std.proofs.Common.{ℕ, zero, suc, ◌≤◌, ◌≡◌, inl, inr, List, [], ◌∷◌, ◌++◌, All, Result, Ok, Err, refl, sym, ap, ◌∙◌, subst, append_assoc, arith, eq-or-lt_of_le, le_of_suc-le-suc}
+use Rattle.std.proofs.Common.{ℕ, zero, suc, ◌≤◌, ◌≡◌, inl, inr, List, [], ◌∷◌, ◌++◌, All, Result, Ok, Err, subst, arith, eq-or-lt_of_le, le_of_suc-le-suc}
 use Rattle.std.specs.Prelude.{IfOk, IfErr, OnOk, OnErr}
-use Rattle.std.proofs.lemmas.List.Elements.{All-nil, All-cons, All-append}
+use Rattle.std.proofs.lemmas.List.Elements.{All-append}
 use Rattle.rational.specs.Rational.{ℚ, ◌+ℚ◌}
-use Rattle.frac128.specs.Steps.{AddFits, unfit}
+use Rattle.frac128.specs.Steps.{AddFits, unfit, Step, StepFits, IsFirstUnfit}
+use Rattle.frac128.proofs.StepRunLemmas.{one-fits, first_unfit-same, first_unfit-more, first_unfit-following}
 use Rattle.frac128.specs.declared.steps.Op.TheVariants.{Add}
 use Rattle.frac128.specs.declared.steps.Unfit.{Unfit}
 use Rattle.pure_payoffs.specs.Plays.{Give}
-use Rattle.pure_payoffs.specs.Steps.{Step, StepFits, IsFirstUnfit, chance_steps}
-
--- the first step that does not fit stays the first before further steps
-pub first_unfit-more : (steps rest : List Step) (u : Step) → IsFirstUnfit steps u → IsFirstUnfit (steps ++ rest) u
-first_unfit-more steps rest u h =
-    record { before = h.before; following = h.following ++ rest; is_there = ap (λ s. s ++ rest) h.is_there ∙ append_assoc h.before (u ∷ h.following) rest; earlier_fit = h.earlier_fit; does_not_fit = h.does_not_fit }
-
--- it stays the first after steps that fit
-pub first_unfit-following : (steps rest : List Step) (u : Step) → All StepFits steps → IsFirstUnfit rest u → IsFirstUnfit (steps ++ rest) u
-first_unfit-following steps rest u fit h =
-    record { before = steps ++ h.before; following = h.following; is_there = ap (λ s. steps ++ s) h.is_there ∙ sym (append_assoc steps h.before (u ∷ h.following)); earlier_fit = All-append StepFits steps h.before fit h.earlier_fit; does_not_fit = h.does_not_fit }
-
--- a step that does not fit is the first from itself on
-pub first_unfit-here : (u : Step) (following : List Step) → (StepFits u → ⊥) → IsFirstUnfit (u ∷ following) u
-first_unfit-here u following refused = record { before = []; following = following; is_there = refl; earlier_fit = All-nil StepFits; does_not_fit = refused }
-
--- a step that fits stands alone
-pub one-fits : (step : Step) → StepFits step → All StepFits (step ∷ [])
-one-fits step fits = All-cons StepFits step [] fits (All-nil StepFits)
+use Rattle.pure_payoffs.specs.Steps.{chance_steps}
 
 -- what an addition gives
 pub added-gives : (a b : ℚ) (r : Result ℚ Unfit) → IfOk r (λ f. f ≡ a +ℚ b) → OnOk r (AddFits a b) → IfErr r (λ e. e ≡ unfit Add a b) → OnErr r (AddFits a b → ⊥) → Give (unfit Add a b ∷ []) (a +ℚ b) r
 added-gives a b (Ok v) value fits step refused = (value, one-fits (unfit Add a b) fits)
-added-gives a b (Err u) value fits step refused = subst (IsFirstUnfit (unfit Add a b ∷ [])) (sym step) (first_unfit-here (unfit Add a b) [] refused)
+added-gives a b (Err u) value fits step refused = first_unfit-same (unfit Add a b) [] u refused step
 
 -- steps that fit change nothing in what those after them give
 pub following-gives : (steps rest : List Step) (v : ℚ) (r : Result ℚ Unfit) → All StepFits steps → Give rest v r → Give (steps ++ rest) v r

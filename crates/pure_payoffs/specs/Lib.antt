@@ -1,5 +1,4 @@
 pub mod Filled
-pub mod FirstUnfit
 pub mod Plays
 pub mod Settled
 pub mod Shortcuts

@@ -4,7 +4,7 @@ use Rattle.game_theory.specs.Children.{AreChildren, child}
 use Rattle.rational.specs.Tests.{eq_ℚ}
 use Rattle.rational.specs.Rational.{ℚ, ◌*ℚ◌, zero_ℚ}
 use Rattle.rational.specs.Sum.{sum_to}
-use Rattle.frac128.specs.Steps.{unfit}
+use Rattle.frac128.specs.Steps.{unfit, Step, StepFits, IsFirstUnfit}
 use Rattle.frac128.specs.declared.steps.Op.TheVariants.{Add, Mul}
 use Rattle.frac128.specs.declared.steps.Unfit.{Unfit}
 use Rattle.game_theory.specs.Profiles.{IsProfile}
@@ -14,7 +14,7 @@ use Rattle.game_core.specs.TreeGame.{game_of_tree}
 use Rattle.reduced_strategies.specs.Places.{ArePlaces}
 use Rattle.reduced_strategies.specs.StrategicForm.{AreStrategies, completed}
 use Rattle.pure_payoffs.specs.declared.payoff.Play.{Play}
-use Rattle.pure_payoffs.specs.Steps.{Step, StepFits, IsFirstUnfit, chance_steps, steps_to}
+use Rattle.pure_payoffs.specs.Steps.{chance_steps, steps_to}
 
 -- a game tree, its nodes' children, its sets' places, and a profile of its reduced strategies
 pub record IsPlay (t : Tree) (children : List (List ℕ)) (places : List ℕ) (strategies : List (List (List ℕ))) (profile : List ℕ) : Type 0 where

@@ -1,37 +1,13 @@
--- The steps in which a pure profile's payoff on a tree is computed, and whether they fit.
-use Rattle.std.specs.Prelude.{ℕ, zero, suc, ◌≡◌, if◌then◌else◌, List, [], ◌∷◌, ◌++◌, All, Option, Some, None}
+-- The steps in which a pure profile's payoff on a tree is computed.
+use Rattle.std.specs.Prelude.{ℕ, zero, suc, if◌then◌else◌, List, [], ◌∷◌, ◌++◌, Option, Some, None}
 use Rattle.game_theory.specs.Children.{child}
 use Rattle.rational.specs.Tests.{eq_ℚ}
 use Rattle.rational.specs.Rational.{ℚ, ◌*ℚ◌, zero_ℚ}
 use Rattle.rational.specs.Sum.{sum_to}
-use Rattle.frac128.specs.Steps.{AddFits, SubFits, MulFits, DivFits, unfit}
-use Rattle.frac128.specs.declared.steps.Op.{Op}
-use Rattle.frac128.specs.declared.steps.Op.TheVariants.{Add, Sub, Mul, Div}
-use Rattle.frac128.specs.declared.steps.Unfit.{Unfit}
+use Rattle.frac128.specs.Steps.{Step, unfit}
+use Rattle.frac128.specs.declared.steps.Op.TheVariants.{Add, Mul}
 use Rattle.game_theory.specs.Trees.{Tree}
 use Rattle.game_theory.specs.Behaviour.{value, pure}
-
--- a step: an operation on two numbers
-abbrev pub Step : Type 0
-Step = Unfit
-
-abbrev pub OperationFits : Op → ℚ → ℚ → Type 0
-OperationFits Add a b = AddFits a b
-OperationFits Sub a b = SubFits a b
-OperationFits Mul a b = MulFits a b
-OperationFits Div a b = DivFits a b
-
--- a step fits
-abbrev pub StepFits : Step → Type 0
-StepFits s = OperationFits s.op s.left s.right
-
--- the first of these steps that does not fit
-pub record IsFirstUnfit (steps : List Step) (step : Step) : Type 0 where
-  pub before : List Step
-  pub following : List Step
-  pub is_there : steps ≡ before ++ step ∷ following
-  pub earlier_fit : All StepFits before
-  pub does_not_fit : StepFits step → ⊥
 
 -- The steps at a chance node, where these are the probabilities of its first actions, the values of its children and the steps of
 -- these: for each action in order whose probability is not 0 the steps of its child, the product of the probability and the

@@ -4,12 +4,10 @@
 //! Callers may rely on: `Play::payoff` gives what a profile pays, or the first step in the order of
 //! `specs::Steps` that does not fit; `children_of_all`, the children of each node.
 //! Definitions: `specs::Steps` has the steps of a payoff in order, `Plays` what they start from,
-//! `Shortcuts` what is kept between payoffs, `FirstUnfit` the first thing with an unfit step.
+//! `Shortcuts` what is kept between payoffs.
 //! Private words: `specs::Settled`, nodes whose value no profile changes, and `specs::Filled`.
-//! Lemmas for callers: `proofs::FirstUnfitLemmas` and `StepRunLemmas` on steps, `NodeStepLemmas` on
-//! a node.
-//! A change here touches: `reduced_form`; `Step` also `sequence_data`, `behaviour_profile`,
-//! `ne_checker`, `label_pairing`, `zero_sum_lp` and `lemke_pivot`.
+//! Lemmas for callers: `proofs::StepRunLemmas` on what steps give, `NodeStepLemmas` on a node.
+//! A change here touches: `reduced_form` and `ne_checker`.
 #![tactic(auto)]
 
 mod children;

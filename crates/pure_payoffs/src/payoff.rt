@@ -54,7 +54,8 @@ impl<'a> Play<'a> {
     ghost use Rattle.reduced_strategies.specs.StrategicForm.{AreStrategies};
     ghost use Rattle.pure_payoffs.specs.Plays.{IsPlayed, Give, game_of, strategies_of, choice_of, steps_at, branch_steps, steps_after, value_after};
     ghost use Rattle.pure_payoffs.specs.Shortcuts.{KeepShortcuts};
-    ghost use Rattle.pure_payoffs.specs.Steps.{StepFits, IsFirstUnfit, payoff_steps};
+    ghost use Rattle.frac128.specs.Steps.{StepFits, IsFirstUnfit};
+    ghost use Rattle.pure_payoffs.specs.Steps.{payoff_steps};
 
     /// What the profile pays a player, where the first action is taken at each set to which the player's strategy
     /// gives none. Takes no memory. `shortcuts` are those of this profile: the caller forgets

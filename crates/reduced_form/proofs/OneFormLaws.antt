@@ -15,8 +15,8 @@ use Rattle.reduced_strategies.proofs.StrategyOrderLemmas.{strategies-determined}
 use Rattle.game_core.specs.Table.{GameTable, most_payoffs}
 use Rattle.game_core.specs.Tree.{GameTree}
 use Rattle.game_core.specs.TreeGame.{game_of_tree}
-use Rattle.pure_payoffs.specs.Steps.{Step, IsFirstUnfit}
-use Rattle.pure_payoffs.proofs.FirstUnfitLemmas.{unfit_among, unfit_once}
+use Rattle.frac128.specs.Steps.{Step, IsFirstUnfit}
+use Rattle.frac128.proofs.FirstUnfitLemmas.{unfit_among, unfit_once}
 use Rattle.reduced_form.specs.Limits.{payoff_count, choice_count, most_choices, cell_steps, AreFew, AllFit, IsFirstUnfitAt}
 use Rattle.reduced_form.specs.ReducedForm.{ReducedForm, IsReducedForm, strategy_name}
 use Rattle.reduced_form.specs.Stops.{HasTooManyPayoffs, HasTooManyChoices, IsReason, form_of}

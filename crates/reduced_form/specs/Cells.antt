@@ -5,7 +5,7 @@ use Rattle.game_theory.specs.Profiles.{profile_at}
 use Rattle.game_theory.specs.Trees.{Tree}
 use Rattle.game_theory.specs.Behaviour.{payoff, pure}
 use Rattle.reduced_strategies.specs.StrategicForm.{completed}
-use Rattle.pure_payoffs.specs.Steps.{StepFits}
+use Rattle.frac128.specs.Steps.{StepFits}
 use Rattle.reduced_form.specs.declared.stop.ReduceStop.{ReduceStop}
 use Rattle.reduced_form.specs.declared.stop.ReduceStop.TheVariants as stops
 use Rattle.reduced_form.specs.Limits.{cell_steps, IsFirstUnfitAt}

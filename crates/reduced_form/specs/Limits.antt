@@ -5,7 +5,8 @@ use Rattle.game_theory.specs.Profiles.{profile_count, profile_at}
 use Rattle.game_theory.specs.Trees.{Tree}
 use Rattle.reduced_strategies.specs.StrategicForm.{completed}
 use Rattle.game_core.specs.Table.{most_payoffs}
-use Rattle.pure_payoffs.specs.Steps.{Step, StepFits, payoff_steps, IsFirstUnfit}
+use Rattle.frac128.specs.Steps.{Step, StepFits, IsFirstUnfit}
+use Rattle.pure_payoffs.specs.Steps.{payoff_steps}
 
 -- the most choices that a reduced form may have
 abbrev pub most_choices : ℕ

@@ -7,7 +7,7 @@ use Rattle.std.proofs.lemmas.List.Elements.{All-nil, All-get_or, All-head, All-t
 use Rattle.std.proofs.lemmas.Option.{none-some, same_Some, slice_get_within, slice_get-get_or, get_or_from_slice_get}
 use Rattle.rational.specs.Rational.{ℚ, ◌≤ℚ◌}
 use Rattle.rational.proofs.Field.{le_trans, le_antisymm}
-use Rattle.pure_payoffs.specs.Steps.{Step}
+use Rattle.frac128.specs.Steps.{Step}
 use Rattle.sequence_data.specs.declared.types.Leaf.{Leaf}
 use Rattle.sequence_data.specs.declared.types.Cell.{Cell}
 use Rattle.sequence_data.specs.Cells.{cell_at, IsBefore, AreInOrder, IsAt, AreCells}

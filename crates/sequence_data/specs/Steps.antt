@@ -1,9 +1,8 @@
 -- The steps in which leaves go into the cells of a sequence form, and the first that does not fit.
 use Rattle.std.specs.Prelude.{ℕ, ◌≡◌, List, [], ◌∷◌, ◌++◌, All}
 use Rattle.rational.specs.Rational.{ℚ, ◌*ℚ◌}
-use Rattle.frac128.specs.Steps.{unfit}
+use Rattle.frac128.specs.Steps.{unfit, Step, StepFits}
 use Rattle.frac128.specs.declared.steps.Op.TheVariants.{Add, Mul}
-use Rattle.pure_payoffs.specs.Steps.{Step, StepFits}
 use Rattle.sequence_data.specs.declared.types.Leaf.{Leaf}
 use Rattle.sequence_data.specs.declared.types.Cell.{Cell}
 use Rattle.sequence_data.specs.declared.stop.SeqStop.{SeqStop}

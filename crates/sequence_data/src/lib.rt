@@ -16,7 +16,7 @@
 
 ghost use Rattle.std.specs.Prelude.{◌≡◌, ℕ, List};
 ghost use Rattle.rational.specs.Rational.{ℚ, ◌≤ℚ◌, zero_ℚ};
-ghost use Rattle.pure_payoffs.specs.Steps.{Step};
+ghost use Rattle.frac128.specs.Steps.{Step};
 ghost use Rattle.sequence_forms.specs.Prices.{costs, gains};
 ghost use Rattle.sequence_data.specs.declared.types.Cell.{Cell};
 ghost use Rattle.sequence_data.specs.declared.types.Leaf.{Leaf};

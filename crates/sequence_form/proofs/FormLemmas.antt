@@ -5,7 +5,7 @@ use Rattle.rational.specs.Rational.{ℚ}
 use Rattle.game_core.specs.Table.{GameTable}
 use Rattle.game_core.specs.Tree.{GameTree}
 use Rattle.game_core.specs.TreeGame.{game_of_tree}
-use Rattle.pure_payoffs.specs.Steps.{Step}
+use Rattle.frac128.specs.Steps.{Step}
 use Rattle.sequence_data.specs.Cells.{AreCells}
 use Rattle.sequence_data.specs.Data.{FormData, IsOfLeaves}
 use Rattle.rational.specs.Extremes.{IsGreatest, IsLeast}

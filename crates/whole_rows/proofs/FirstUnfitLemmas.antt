@@ -1,37 +1,24 @@
--- One step is the first that does not fit, and one row the first with such a step.
-use Rattle.std.proofs.Common.{ℕ, ◌≡◌, ◌*◌, ◌∙◌, inl, inr, List, [], ◌∷◌, sym, subst, arith}
+-- One row is the first with a step that does not fit.
+use Rattle.std.proofs.Common.{ℕ, ◌≡◌, ◌*◌, inl, inr, List, subst, arith}
 use Rattle.std.proofs.lemmas.Bool.{cases_lt}
 use Rattle.rational.specs.Rational.{ℚ}
 use Rattle.frac128.specs.declared.steps.Unfit.{Unfit}
-use Rattle.whole_rows.specs.Steps.{Step, AllFit, IsFirstUnfit}
+use Rattle.frac128.specs.Steps.{Step, IsFirstUnfit}
+use Rattle.frac128.proofs.FirstUnfitLemmas.{unfit_among, unfit_once}
 use Rattle.whole_rows.specs.StartRows.{IsFirstUnfitRow, RowsFit, cells_from, start_row_steps}
 
--- ---- steps
-pub no_unfit : (ss : List Step) (e : Unfit) → AllFit ss → IsFirstUnfit ss e → ⊥
-no_unfit [] e h f = f
-no_unfit (s ∷ ss) e h (inl f) = f.0 h.0
-no_unfit (s ∷ ss) e h (inr f) = no_unfit ss e h.1 f.1
-
-pub one_unfit : (ss : List Step) (e f : Unfit) → IsFirstUnfit ss e → IsFirstUnfit ss f → e ≡ f
-one_unfit [] e f h g = absurd h
-one_unfit (s ∷ ss) e f (inl h) (inl g) = h.1 ∙ sym g.1
-one_unfit (s ∷ ss) e f (inl h) (inr g) = absurd (h.0 g.0)
-one_unfit (s ∷ ss) e f (inr h) (inl g) = absurd (g.0 h.0)
-one_unfit (s ∷ ss) e f (inr h) (inr g) = one_unfit ss e f h.1 g.1
-
--- ---- rows
 module _ (rows count : ℕ) (cells : List ℚ) where
   abbrev steps_of : ℕ → List Step
   steps_of i = start_row_steps count (cells_from cells (i * count))
 
   pub no_unfit_row : (i : ℕ) (e : Unfit) → RowsFit rows count cells → IsFirstUnfitRow rows count cells i e → ⊥
-  no_unfit_row i e h f = no_unfit (steps_of i) e (h i f.within) f.here
+  no_unfit_row i e h f = unfit_among (steps_of i) e f.here (h i f.within)
 
   pub one_unfit_row : (i j : ℕ) (e f : Unfit) → IsFirstUnfitRow rows count cells i e → IsFirstUnfitRow rows count cells j f → (i ≡ j) × (e ≡ f)
   one_unfit_row i j e f h g = elim (cases_lt i j) [
-    | inl l ↦ absurd (no_unfit (steps_of i) e (g.before i l) h.here)
+    | inl l ↦ absurd (unfit_among (steps_of i) e h.here (g.before i l))
     | inr l ↦ elim (cases_lt j i) [
-      | inl k ↦ absurd (no_unfit (steps_of j) f (h.before j k) g.here)
-      | inr k ↦ (let same : i ≡ j = omega (arith, l, k) in (same, one_unfit (steps_of j) e f (subst (λ n. IsFirstUnfit (steps_of n) e) same h.here) g.here))
+      | inl k ↦ absurd (unfit_among (steps_of j) f g.here (h.before j k))
+      | inr k ↦ (let same : i ≡ j = omega (arith, l, k) in (same, unfit_once (steps_of j) e f (subst (λ n. IsFirstUnfit (steps_of n) e) same h.here) g.here))
     ]
   ]

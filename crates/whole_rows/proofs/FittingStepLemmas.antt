@@ -1,5 +1,5 @@
 -- When steps on whole numbers fit.
-use Rattle.std.proofs.Common.{ℕ, ℤ, pos, negsuc, zero, suc, ◌≡◌, ◌<◌, ◌≤◌, ◌^◌, ◌↔◌, ◌*ℤ◌, ◌-ℤ◌, neg_ℤ, nat_abs, ◌<ℤ◌, ◌/◌, refl, sym, ap, ap₂, ◌∙◌, subst, List, [], ◌∷◌, arith, ◌⊎◌, inl, inr, Option, Some, None, MatchOption, to_z, of_z, get_or, slice_index_or, ◌+◌}
+use Rattle.std.proofs.Common.{ℕ, ℤ, pos, negsuc, zero, suc, ◌≡◌, ◌<◌, ◌≤◌, ◌^◌, ◌↔◌, ◌*ℤ◌, ◌-ℤ◌, neg_ℤ, nat_abs, ◌<ℤ◌, ◌/◌, refl, sym, ap, ap₂, ◌∙◌, subst, subst₂, List, [], ◌∷◌, arith, ◌⊎◌, inl, inr, Option, Some, None, MatchOption, to_z, of_z, get_or, slice_index_or, ◌+◌, All}
 use Rattle.std.proofs.Math.Nat.{div-le_self}
 use Rattle.std.specs.Int.{w128}
 use Rattle.std.proofs.lemmas.Int.{ints, to_z-of_z, fits_signed_from_abs}
@@ -12,8 +12,9 @@ use Rattle.rational.proofs.PartLemmas.{whole-num, whole-den, whole-mul, whole-ne
 use Rattle.rational.specs.LowestTerms.{nat_abs-div_ℤ}
 use Rattle.frac128.specs.declared.steps.Unfit.{Unfit}
 use Rattle.frac128.specs.Fraction.{PartFits, Fits, quotient}
-use Rattle.frac128.specs.Steps.{num_beside}
-use Rattle.whole_rows.specs.Steps.{times, less, StepFits, AllFit, IsFirstUnfit, unfit_step}
+use Rattle.frac128.specs.Steps.{num_beside, StepFits, IsFirstUnfit}
+use Rattle.frac128.proofs.StepRunLemmas.{three-fit, first_unfit-next, first_unfit-same}
+use Rattle.whole_rows.specs.Steps.{times, less}
 
 one_fits : (n : ℕ) → n ≡ 1 → PartFits (pos n)
 one_fits n e = omega (arith, e)
@@ -38,23 +39,25 @@ pub less_fits : (a b : ℤ) → PartFits a → PartFits b → PartFits (a -ℤ b
 less_fits a b ha hb = (λ h. record { left = subst PartFits (sym (beside a b)) ha; right = subst PartFits (sym (beside b a)) hb; top = subst PartFits (sym (ap₂ (λ x y. x -ℤ y) (beside a b) (beside b a))) h; den = one_fits _ (ap (λ (q : ℚ). q.den) (whole-sub a b) ∙ whole-den (a -ℤ b)) }, λ h. subst PartFits (ap₂ (λ x y. x -ℤ y) (beside a b) (beside b a)) h.top)
 
 -- a product or a difference that does not fit, as the first step that does not
-pub first_unfit : (a u b v : ℤ) (e : Unfit) → ¬ (PartFits (a *ℤ u)) → e ≡ unfit_step (times a u) → IsFirstUnfit (times a u ∷ times b v ∷ less (a *ℤ u) (b *ℤ v) ∷ []) e
-first_unfit a u b v e h is = inl (λ f. h ((times_fits a u).1 f), is)
+pub first_unfit : (a u b v : ℤ) (e : Unfit) → ¬ (PartFits (a *ℤ u)) → e ≡ times a u → IsFirstUnfit (times a u ∷ times b v ∷ less (a *ℤ u) (b *ℤ v) ∷ []) e
+first_unfit a u b v e h is = first_unfit-same (times a u) (times b v ∷ less (a *ℤ u) (b *ℤ v) ∷ []) e (λ f. h ((times_fits a u).1 f)) is
 
-pub second_unfit : (a u b v x : ℤ) (e : Unfit) → (x ≡ a *ℤ u) × PartFits x → ¬ (PartFits (b *ℤ v)) → e ≡ unfit_step (times b v) → IsFirstUnfit (times a u ∷ times b v ∷ less (a *ℤ u) (b *ℤ v) ∷ []) e
-second_unfit a u b v x e g h is = inr ((times_fits a u).0 (subst PartFits g.0 g.1), inl (λ f. h ((times_fits b v).1 f), is))
+pub second_unfit : (a u b v x : ℤ) (e : Unfit) → (x ≡ a *ℤ u) × PartFits x → ¬ (PartFits (b *ℤ v)) → e ≡ times b v → IsFirstUnfit (times a u ∷ times b v ∷ less (a *ℤ u) (b *ℤ v) ∷ []) e
+second_unfit a u b v x e g h is =
+    first_unfit-next (times a u) (times b v ∷ less (a *ℤ u) (b *ℤ v) ∷ []) e ((times_fits a u).0 (subst PartFits g.0 g.1)) (first_unfit-same (times b v) (less (a *ℤ u) (b *ℤ v) ∷ []) e (λ f. h ((times_fits b v).1 f)) is)
 
-pub all_fit : (a u b v : ℤ) → PartFits (a *ℤ u) → PartFits (b *ℤ v) → PartFits ((a *ℤ u) -ℤ (b *ℤ v)) → AllFit (times a u ∷ times b v ∷ less (a *ℤ u) (b *ℤ v) ∷ [])
-all_fit a u b v f g h = ((times_fits a u).0 f, ((times_fits b v).0 g, ((less_fits (a *ℤ u) (b *ℤ v) f g).0 h, tt)))
+pub all_fit : (a u b v : ℤ) → PartFits (a *ℤ u) → PartFits (b *ℤ v) → PartFits ((a *ℤ u) -ℤ (b *ℤ v)) → All StepFits (times a u ∷ times b v ∷ less (a *ℤ u) (b *ℤ v) ∷ [])
+all_fit a u b v f g h = (three-fit (times a u) (times b v) (less (a *ℤ u) (b *ℤ v))).1 ((times_fits a u).0 f, (times_fits b v).0 g, (less_fits (a *ℤ u) (b *ℤ v) f g).0 h)
 
-pub third_unfit : (a u b v x y : ℤ) (e : Unfit) → ¬ (AllFit (times a u ∷ times b v ∷ less (a *ℤ u) (b *ℤ v) ∷ [])) → (x ≡ a *ℤ u) × PartFits x → (y ≡ b *ℤ v) × PartFits y → e ≡ unfit_step (less x y) → IsFirstUnfit (times a u ∷ times b v ∷ less (a *ℤ u) (b *ℤ v) ∷ []) e
+pub third_unfit : (a u b v x y : ℤ) (e : Unfit) → ¬ (All StepFits (times a u ∷ times b v ∷ less (a *ℤ u) (b *ℤ v) ∷ [])) → (x ≡ a *ℤ u) × PartFits x → (y ≡ b *ℤ v) × PartFits y → e ≡ less x y → IsFirstUnfit (times a u ∷ times b v ∷ less (a *ℤ u) (b *ℤ v) ∷ []) e
 third_unfit a u b v x y e h p q is =
     let f = subst PartFits p.0 p.1 in let g = subst PartFits q.0 q.1 in
-    inr ((times_fits a u).0 f, inr ((times_fits b v).0 g, inl (λ k. h ((times_fits a u).0 f, ((times_fits b v).0 g, (k, tt))), is ∙ ap₂ (λ x y. unfit_step (less x y)) p.0 q.0)))
+    first_unfit-next (times a u) (times b v ∷ less (a *ℤ u) (b *ℤ v) ∷ []) e ((times_fits a u).0 f) (first_unfit-next (times b v) (less (a *ℤ u) (b *ℤ v) ∷ []) e ((times_fits b v).0 g)
+    (first_unfit-same (less (a *ℤ u) (b *ℤ v)) [] e (λ k. h ((three-fit (times a u) (times b v) (less (a *ℤ u) (b *ℤ v))).1 ((times_fits a u).0 f, (times_fits b v).0 g, k))) (is ∙ ap₂ less p.0 q.0)))
 
 -- what is told by the three numbers
-pub told : (a u b v x y : ℤ) (o : Option ℤ) → (x ≡ a *ℤ u) × PartFits x → (y ≡ b *ℤ v) × PartFits y → MatchOption o (¬ (PartFits (x -ℤ y))) (λ d. (d ≡ x -ℤ y) × PartFits d) → MatchOption o (¬ (AllFit (times a u ∷ times b v ∷ less (a *ℤ u) (b *ℤ v) ∷ []))) (λ d. (d ≡ (a *ℤ u) -ℤ (b *ℤ v)) × PartFits d × AllFit (times a u ∷ times b v ∷ less (a *ℤ u) (b *ℤ v) ∷ []))
-told a u b v x y None p q h = λ f. h (subst PartFits (sym (ap₂ (λ x y. x -ℤ y) p.0 q.0)) ((less_fits (a *ℤ u) (b *ℤ v) (subst PartFits p.0 p.1) (subst PartFits q.0 q.1)).1 f.1.1.0))
+pub told : (a u b v x y : ℤ) (o : Option ℤ) → (x ≡ a *ℤ u) × PartFits x → (y ≡ b *ℤ v) × PartFits y → MatchOption o (¬ (PartFits (x -ℤ y))) (λ d. (d ≡ x -ℤ y) × PartFits d) → MatchOption o (¬ (All StepFits (times a u ∷ times b v ∷ less (a *ℤ u) (b *ℤ v) ∷ []))) (λ d. (d ≡ (a *ℤ u) -ℤ (b *ℤ v)) × PartFits d × All StepFits (times a u ∷ times b v ∷ less (a *ℤ u) (b *ℤ v) ∷ []))
+told a u b v x y None p q h = λ f. h (subst PartFits (sym (ap₂ (λ x y. x -ℤ y) p.0 q.0)) ((less_fits (a *ℤ u) (b *ℤ v) (subst PartFits p.0 p.1) (subst PartFits q.0 q.1)).1 ((three-fit (times a u) (times b v) (less (a *ℤ u) (b *ℤ v))).0 f).2))
 told a u b v x y (Some d) p q h = (h.0 ∙ ap₂ (λ x y. x -ℤ y) p.0 q.0, h.1, all_fit a u b v (subst PartFits p.0 p.1) (subst PartFits q.0 q.1) (subst PartFits (h.0 ∙ ap₂ (λ x y. x -ℤ y) p.0 q.0) h.1))
 
 -- the parts of a fraction in lowest terms are no larger than those it is made of
@@ -75,11 +78,15 @@ pub fraction_is : (n d : ℤ) → pos 0 <ℤ d → quotient n d ≡ frac n (nat_
 fraction_is n (pos d) p = refl
 fraction_is n (negsuc d) p = absurd (omega (arith, ints))
 
-pub not_first : (a u b v : ℤ) → ¬ (PartFits (a *ℤ u)) → AllFit (times a u ∷ times b v ∷ less (a *ℤ u) (b *ℤ v) ∷ []) → ⊥
-not_first a u b v h f = h ((times_fits a u).1 f.0)
+pub not_first : (a u b v : ℤ) → ¬ (PartFits (a *ℤ u)) → All StepFits (times a u ∷ times b v ∷ less (a *ℤ u) (b *ℤ v) ∷ []) → ⊥
+not_first a u b v h f = h ((times_fits a u).1 ((three-fit (times a u) (times b v) (less (a *ℤ u) (b *ℤ v))).0 f).0)
 
-pub not_second : (a u b v : ℤ) → ¬ (PartFits (b *ℤ v)) → AllFit (times a u ∷ times b v ∷ less (a *ℤ u) (b *ℤ v) ∷ []) → ⊥
-not_second a u b v h f = h ((times_fits b v).1 f.1.0)
+pub not_second : (a u b v : ℤ) → ¬ (PartFits (b *ℤ v)) → All StepFits (times a u ∷ times b v ∷ less (a *ℤ u) (b *ℤ v) ∷ []) → ⊥
+not_second a u b v h f = h ((times_fits b v).1 ((three-fit (times a u) (times b v) (less (a *ℤ u) (b *ℤ v))).0 f).1)
+
+-- what holds of four numbers holds of the same ones
+pub of_same : (P : ℤ → ℤ → ℤ → ℤ → Type 0) (a u b v a' u' b' v' : ℤ) → a ≡ a' → u ≡ u' → b ≡ b' → v ≡ v' → P a u b v → P a' u' b' v'
+of_same P a u b v a' u' b' v' e f g h p = subst₂ (λ b v. P a' u' b v) g h (subst₂ (λ a u. P a u b v) e f p)
 
 -- a number that fits is read as it was stored
 pub read_back : (n : ℤ) → PartFits n → to_z w128 (of_z w128 n) ≡ n

@@ -1,16 +1,18 @@
 -- Rows in a list: those that are not written stay, and the rows of a pivot are those of all numbers.
-use Rattle.std.proofs.Common.{ℕ, ℤ, pos, suc, zero, ◌≡◌, ◌≢◌, ◌<◌, ◌≤◌, ◌+◌, ◌*◌, ◌<ℤ◌, nat_abs, eqb, cond, refl, sym, ap₂, ◌∙◌, subst, List, [], ◌++◌, arith, ◌⊎◌, inl, inr, get_or, mul-le-mul_right}
+use Rattle.std.proofs.Common.{ℕ, ℤ, pos, suc, zero, ◌≡◌, ◌≢◌, ◌<◌, ◌≤◌, ◌+◌, ◌*◌, ◌<ℤ◌, nat_abs, eqb, cond, refl, sym, ap₂, ◌∙◌, subst, List, [], ◌++◌, arith, ◌⊎◌, inl, inr, get_or, mul-le-mul_right, All}
 use Rattle.std.specs.Int.{◌∣◌}
 use Rattle.std.proofs.lemmas.Bool.{cases_eq, cases_lt}
+use Rattle.std.proofs.lemmas.List.Elements.{All-append}
 use Rattle.rational.specs.Rational.{frac}
 use Rattle.frac128.specs.Fraction.{PartFits}
 use Rattle.frac128.specs.declared.steps.Unfit.{Unfit}
 use Rattle.linear_systems.proofs.PivotLemmas.{eqb_apart}
 use Rattle.whole_rows.specs.Rows.{from_place, fraction, IsRow}
-use Rattle.whole_rows.specs.Steps.{AllFit, IsFirstUnfit}
+use Rattle.frac128.specs.Steps.{StepFits, IsFirstUnfit}
 use Rattle.whole_rows.specs.Pivots.{row_steps, pivot_steps}
 use Rattle.whole_rows.specs.PivotedRows.{IsPivotedRow, IsPivotRow}
-use Rattle.whole_rows.proofs.RowWriteLemmas.{all_fit-append, unfit_before, unfit_after, plus_one}
+use Rattle.frac128.proofs.StepRunLemmas.{first_unfit-more, first_unfit-following}
+use Rattle.whole_rows.proofs.RowWriteLemmas.{plus_one}
 
 -- ---- rows with the same numbers
 same_fraction : (size p : ℕ) (x y : ℕ → ℤ) → p < size → ((p : ℕ) → p < size → y p ≡ x p) → fraction y p ≡ fraction x p
@@ -41,12 +43,12 @@ row_kept i k size xs ys n h p hp = h (k * size + p) (outside i k size p n hp)
 pub own_steps : (size : ℕ) (rows : ℕ → ℕ → ℤ) (r c i : ℕ) → i ≢ r → cond (eqb i r) [] (row_steps size (rows i) (rows r) c) ≡ row_steps size (rows i) (rows r) c
 own_steps size rows r c i n = rw (eqb_apart i r n) refl
 
-pub rows_fit : (size : ℕ) (rows : ℕ → ℕ → ℤ) (r c i : ℕ) → AllFit (pivot_steps size rows r c i) → AllFit (cond (eqb i r) [] (row_steps size (rows i) (rows r) c)) → AllFit (pivot_steps size rows r c (i + 1))
-rows_fit size rows r c i f g = subst (λ n. AllFit (pivot_steps size rows r c n)) (plus_one i) (all_fit-append (pivot_steps size rows r c i) (cond (eqb i r) [] (row_steps size (rows i) (rows r) c)) f g)
+pub rows_fit : (size : ℕ) (rows : ℕ → ℕ → ℤ) (r c i : ℕ) → All StepFits (pivot_steps size rows r c i) → All StepFits (cond (eqb i r) [] (row_steps size (rows i) (rows r) c)) → All StepFits (pivot_steps size rows r c (i + 1))
+rows_fit size rows r c i f g = subst (λ n. All StepFits (pivot_steps size rows r c n)) (plus_one i) (All-append StepFits (pivot_steps size rows r c i) (cond (eqb i r) [] (row_steps size (rows i) (rows r) c)) f g)
 
-pub unfit_row : (size : ℕ) (rows : ℕ → ℕ → ℤ) (r c i n : ℕ) (e : Unfit) → i < n → AllFit (pivot_steps size rows r c i) → IsFirstUnfit (cond (eqb i r) [] (row_steps size (rows i) (rows r) c)) e → IsFirstUnfit (pivot_steps size rows r c n) e
+pub unfit_row : (size : ℕ) (rows : ℕ → ℕ → ℤ) (r c i n : ℕ) (e : Unfit) → i < n → All StepFits (pivot_steps size rows r c i) → IsFirstUnfit (cond (eqb i r) [] (row_steps size (rows i) (rows r) c)) e → IsFirstUnfit (pivot_steps size rows r c n) e
 unfit_row size rows r c i zero e l f h = absurd (omega arith)
 unfit_row size rows r c i (suc n) e l f h = elim (cases_eq i n) [
-  | inl k ↦ subst (λ m. IsFirstUnfit (pivot_steps size rows r c m ++ cond (eqb m r) [] (row_steps size (rows m) (rows r) c)) e) k (unfit_after (pivot_steps size rows r c i) (cond (eqb i r) [] (row_steps size (rows i) (rows r) c)) e f h)
-  | inr m ↦ unfit_before (pivot_steps size rows r c n) (cond (eqb n r) [] (row_steps size (rows n) (rows r) c)) e (unfit_row size rows r c i n e (omega arith) f h)
+  | inl k ↦ subst (λ m. IsFirstUnfit (pivot_steps size rows r c m ++ cond (eqb m r) [] (row_steps size (rows m) (rows r) c)) e) k (first_unfit-following (pivot_steps size rows r c i) (cond (eqb i r) [] (row_steps size (rows i) (rows r) c)) e f h)
+  | inr m ↦ first_unfit-more (pivot_steps size rows r c n) (cond (eqb n r) [] (row_steps size (rows n) (rows r) c)) e (unfit_row size rows r c i n e (omega arith) f h)
 ]

@@ -1,9 +1,10 @@
 -- Rows that are written place by place, their common divisor, and the steps of a row.
-use Rattle.std.proofs.Common.{ℕ, ℤ, pos, negsuc, zero, suc, ◌≡◌, ◌<◌, ◌≤◌, ◌*ℤ◌, ◌+◌, ◌<ℤ◌, nat_abs, sym, ap, ◌∙◌, subst, List, [], ◌∷◌, ◌++◌, arith, ◌⊎◌, inl, inr, length, get_or, slice_set, SFits, to_z, of_z, subst₂}
+use Rattle.std.proofs.Common.{ℕ, ℤ, pos, negsuc, zero, suc, ◌≡◌, ◌<◌, ◌≤◌, ◌*ℤ◌, ◌+◌, ◌<ℤ◌, nat_abs, sym, ap, ◌∙◌, subst, List, ◌++◌, arith, ◌⊎◌, inl, inr, length, get_or, slice_set, SFits, to_z, of_z, subst₂, All}
 use Rattle.std.specs.Int.{◌∣◌, w128}
 use Rattle.std.proofs.lemmas.Int.{ints, to_z-of_z}
 use Rattle.std.proofs.lemmas.Bool.{cases_eq}
 use Rattle.std.proofs.lemmas.List.{get_or-set_same, get_or-set_other}
+use Rattle.std.proofs.lemmas.List.Elements.{All-append}
 use Rattle.std.proofs.lemmas.Nat.Gcd.{dvd_trans}
 use native.Mathlib.Nat.{dvd_refl, one-dvd, pos_of_dvd_of_pos}
 use Rattle.rational.specs.Gcd.{gcd}
@@ -12,7 +13,8 @@ use Rattle.frac128.specs.declared.steps.Unfit.{Unfit}
 use Rattle.frac128.specs.Fraction.{PartFits}
 use Rattle.whole_rows.proofs.FittingStepLemmas.{read_back}
 use Rattle.whole_rows.specs.Rows.{from_place, IsCommonDivisor}
-use Rattle.whole_rows.specs.Steps.{Step, AllFit, IsFirstUnfit}
+use Rattle.frac128.specs.Steps.{StepFits, IsFirstUnfit}
+use Rattle.frac128.proofs.StepRunLemmas.{first_unfit-more, first_unfit-following}
 use Rattle.whole_rows.specs.Pivots.{steps_to, place_steps}
 
 -- ---- a place more is written
@@ -59,28 +61,13 @@ common_next f place g h k e =
 pub common_one : (f : ℕ → ℤ) (place size g : ℕ) → place ≤ size → IsCommonDivisor f place g → g ≡ 1 → IsCommonDivisor f size 1
 common_one f place size g l k e = record { positive = omega arith; divides = λ p hp. one-dvd _; greatest = λ d q. subst (λ n. d ∣ n) e (k.greatest d (λ p hp. q p (omega arith))) }
 
--- ---- steps one after the other
-pub all_fit-append : (xs ys : List Step) → AllFit xs → AllFit ys → AllFit (xs ++ ys)
-all_fit-append [] ys f g = g
-all_fit-append (x ∷ xs) ys f g = (f.0, all_fit-append xs ys f.1 g)
-
--- the first that does not fit is still the first where others follow
-pub unfit_before : (xs ys : List Step) (e : Unfit) → IsFirstUnfit xs e → IsFirstUnfit (xs ++ ys) e
-unfit_before [] ys e h = absurd h
-unfit_before (x ∷ xs) ys e (inl h) = inl h
-unfit_before (x ∷ xs) ys e (inr h) = inr (h.0, unfit_before xs ys e h.1)
-
--- and where others that fit come before
-pub unfit_after : (xs ys : List Step) (e : Unfit) → AllFit xs → IsFirstUnfit ys e → IsFirstUnfit (xs ++ ys) e
-unfit_after [] ys e f h = h
-unfit_after (x ∷ xs) ys e f h = inr (f.0, unfit_after xs ys e f.1 h)
-
+-- ---- the steps of a row
 -- the first unfit step at a place is that of all the places
-pub unfit_in_row : (row b : ℕ → ℤ) (c : ℕ) (u v : ℤ) (place size : ℕ) (e : Unfit) → place < size → AllFit (steps_to row b c u v place) → IsFirstUnfit (place_steps row b c u v place) e → IsFirstUnfit (steps_to row b c u v size) e
+pub unfit_in_row : (row b : ℕ → ℤ) (c : ℕ) (u v : ℤ) (place size : ℕ) (e : Unfit) → place < size → All StepFits (steps_to row b c u v place) → IsFirstUnfit (place_steps row b c u v place) e → IsFirstUnfit (steps_to row b c u v size) e
 unfit_in_row row b c u v place zero e l f h = absurd (omega arith)
 unfit_in_row row b c u v place (suc size) e l f h = elim (cases_eq place size) [
-  | inl k ↦ subst (λ n. IsFirstUnfit (steps_to row b c u v n ++ place_steps row b c u v n) e) k (unfit_after (steps_to row b c u v place) (place_steps row b c u v place) e f h)
-  | inr n ↦ unfit_before (steps_to row b c u v size) (place_steps row b c u v size) e (unfit_in_row row b c u v place size e (omega arith) f h)
+  | inl k ↦ subst (λ n. IsFirstUnfit (steps_to row b c u v n ++ place_steps row b c u v n) e) k (first_unfit-following (steps_to row b c u v place) (place_steps row b c u v place) e f h)
+  | inr n ↦ first_unfit-more (steps_to row b c u v size) (place_steps row b c u v size) e (unfit_in_row row b c u v place size e (omega arith) f h)
 ]
 
 -- ---- a place more is divided
@@ -94,8 +81,8 @@ pub plus_one : (n : ℕ) → suc n ≡ n + 1
 plus_one n = omega arith
 
 -- a place more fits
-pub steps_next : (row b : ℕ → ℤ) (c : ℕ) (u v : ℤ) (place : ℕ) → AllFit (steps_to row b c u v place) → AllFit (place_steps row b c u v place) → AllFit (steps_to row b c u v (place + 1))
-steps_next row b c u v place f g = subst (λ n. AllFit (steps_to row b c u v n)) (plus_one place) (all_fit-append (steps_to row b c u v place) (place_steps row b c u v place) f g)
+pub steps_next : (row b : ℕ → ℤ) (c : ℕ) (u v : ℤ) (place : ℕ) → All StepFits (steps_to row b c u v place) → All StepFits (place_steps row b c u v place) → All StepFits (steps_to row b c u v (place + 1))
+steps_next row b c u v place f g = subst (λ n. All StepFits (steps_to row b c u v n)) (plus_one place) (All-append StepFits (steps_to row b c u v place) (place_steps row b c u v place) f g)
 
 pub written_there : (n x : ℤ) → n ≡ x → PartFits n → (to_z w128 (of_z w128 n) ≡ x) × PartFits (to_z w128 (of_z w128 n))
 written_there n x e f = (read_back n f ∙ e, subst PartFits (sym (read_back n f)) f)

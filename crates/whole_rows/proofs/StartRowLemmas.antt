@@ -1,10 +1,11 @@
 -- The least common denominator of a row, and the whole numbers over it.
-use Rattle.std.proofs.Common.{ℕ, ℤ, pos, negsuc, suc, zero, ◌≡◌, ◌≢◌, ◌<◌, ◌≤◌, ◌+◌, ◌*◌, ◌/◌, ◌*ℤ◌, ◌<ℤ◌, nat_abs, sym, ap, ap₂, ◌∙◌, subst, subst₂, List, arith, ◌⊎◌, inl, inr, mul-pos, length, get_or, slice_set, ◌-◌, Ok, Err, to_z, of_z}
+use Rattle.std.proofs.Common.{ℕ, ℤ, pos, negsuc, suc, zero, ◌≡◌, ◌≢◌, ◌<◌, ◌≤◌, ◌+◌, ◌*◌, ◌/◌, ◌*ℤ◌, ◌<ℤ◌, nat_abs, sym, ap, ap₂, ◌∙◌, subst, subst₂, List, arith, ◌⊎◌, inl, inr, mul-pos, length, get_or, slice_set, ◌-◌, Ok, Err, to_z, of_z, All}
 use Rattle.std.specs.Int.{◌∣◌, w128}
 use Rattle.std.proofs.lemmas.List.{get_or_default, get_or-set_same, get_or-set_other}
 use Rattle.std.proofs.lemmas.Int.{ints, unsigned_abs-mul}
 use Rattle.std.proofs.lemmas.Nat.Gcd.{dvd_trans}
 use Rattle.std.proofs.lemmas.Bool.{cases_eq}
+use Rattle.std.proofs.lemmas.List.Elements.{All-append}
 use native.Mathlib.Nat.{dvd-mul_right, div-mul_cancel, mul-dvd-mul_right, dvd_of_mul-dvd-mul_right, eq-one_of_dvd-one, one-mul}
 use Rattle.rational.specs.Gcd.{gcd, div_ℤ}
 use Rattle.whole_rows.specs.Pivots.{signed_by}
@@ -15,13 +16,15 @@ use Rattle.rational.proofs.FractionLemmas.{frac_self, cancel_pos}
 use Rattle.frac128.specs.Fraction.{PartFits}
 use Rattle.frac128.specs.declared.steps.Unfit.{Unfit}
 use Rattle.whole_rows.specs.Rows.{fraction, from_place}
-use Rattle.whole_rows.specs.Steps.{times, AllFit, IsFirstUnfit, unfit_step}
+use Rattle.frac128.specs.Steps.{StepFits, IsFirstUnfit}
+use Rattle.whole_rows.specs.Steps.{times}
 use Rattle.whole_rows.specs.StartRows.{cells_from, common_to, denominator_steps, numerator_steps, start_row_steps, IsStartRow}
 use Rattle.whole_rows.proofs.FittingStepLemmas.{times_fits, read_back}
 use Rattle.std.specs.Result.{OnOk, IfErr}
 use Rattle.std.specs.declared.result.Result.{Result}
 use Rattle.whole_rows.proofs.RowFrameLemmas.{row_same}
-use Rattle.whole_rows.proofs.RowWriteLemmas.{all_fit-append, unfit_before, unfit_after, plus_one, kept_outside}
+use Rattle.frac128.proofs.StepRunLemmas.{fits-more, unfit-more, first_unfit-more, first_unfit-following}
+use Rattle.whole_rows.proofs.RowWriteLemmas.{plus_one, kept_outside}
 
 lcm_times : (m d : ℕ) → m * (d / gcd m d) * gcd m d ≡ m * d
 lcm_times m d = let e : d / gcd m d * gcd m d ≡ d = div-mul_cancel (gcd m d) (gcd-is m d).1 in omega (arith, ap (λ x. m * x) e)
@@ -128,24 +131,24 @@ module _ (cells : ℕ → ℚ) where
           quotient_pos (suc x) g d h e = omega arith
 
 -- ---- the steps
-pub denominator_next : (cells : ℕ → ℚ) (k : ℕ) → AllFit (denominator_steps cells k) → PartFits (pos (common_to cells k) *ℤ pos ((cells k).den / gcd (common_to cells k) (cells k).den)) → AllFit (denominator_steps cells (k + 1))
-denominator_next cells k f h = subst (λ n. AllFit (denominator_steps cells n)) (plus_one k) (all_fit-append (denominator_steps cells k) _ f ((times_fits (pos (common_to cells k)) (pos ((cells k).den / gcd (common_to cells k) (cells k).den))).0 h, tt))
+pub denominator_next : (cells : ℕ → ℚ) (k : ℕ) → All StepFits (denominator_steps cells k) → PartFits (pos (common_to cells k) *ℤ pos ((cells k).den / gcd (common_to cells k) (cells k).den)) → All StepFits (denominator_steps cells (k + 1))
+denominator_next cells k f h = subst (λ n. All StepFits (denominator_steps cells n)) (plus_one k) (fits-more (denominator_steps cells k) (times (pos (common_to cells k)) (pos ((cells k).den / gcd (common_to cells k) (cells k).den))) f ((times_fits (pos (common_to cells k)) (pos ((cells k).den / gcd (common_to cells k) (cells k).den))).0 h))
 
-pub denominator_unfit : (cells : ℕ → ℚ) (k n : ℕ) (e : Unfit) → k < n → AllFit (denominator_steps cells k) → ¬ (PartFits (pos (common_to cells k) *ℤ pos ((cells k).den / gcd (common_to cells k) (cells k).den))) → e ≡ unfit_step (times (pos (common_to cells k)) (pos ((cells k).den / gcd (common_to cells k) (cells k).den))) → IsFirstUnfit (denominator_steps cells n) e
+pub denominator_unfit : (cells : ℕ → ℚ) (k n : ℕ) (e : Unfit) → k < n → All StepFits (denominator_steps cells k) → ¬ (PartFits (pos (common_to cells k) *ℤ pos ((cells k).den / gcd (common_to cells k) (cells k).den))) → e ≡ times (pos (common_to cells k)) (pos ((cells k).den / gcd (common_to cells k) (cells k).den)) → IsFirstUnfit (denominator_steps cells n) e
 denominator_unfit cells k zero e l f h same = absurd (omega arith)
 denominator_unfit cells k (suc n) e l f h same = elim (cases_eq k n) [
-  | inl q ↦ subst (λ m. IsFirstUnfit (denominator_steps cells (suc m)) e) q (unfit_after (denominator_steps cells k) _ e f (inl (λ g. h ((times_fits _ _).1 g), same)))
-  | inr m ↦ unfit_before (denominator_steps cells n) _ e (denominator_unfit cells k n e (omega arith) f h same)
+  | inl q ↦ subst (λ m. IsFirstUnfit (denominator_steps cells (suc m)) e) q (unfit-more (denominator_steps cells k) (times (pos (common_to cells k)) (pos ((cells k).den / gcd (common_to cells k) (cells k).den))) e f (λ g. h ((times_fits _ _).1 g)) same)
+  | inr m ↦ first_unfit-more (denominator_steps cells n) _ e (denominator_unfit cells k n e (omega arith) f h same)
 ]
 
-pub numerator_next : (cells : ℕ → ℚ) (b k : ℕ) → AllFit (numerator_steps cells b k) → PartFits ((cells k).num *ℤ pos (b / (cells k).den)) → AllFit (numerator_steps cells b (k + 1))
-numerator_next cells b k f h = subst (λ n. AllFit (numerator_steps cells b n)) (plus_one k) (all_fit-append (numerator_steps cells b k) _ f ((times_fits (cells k).num (pos (b / (cells k).den))).0 h, tt))
+pub numerator_next : (cells : ℕ → ℚ) (b k : ℕ) → All StepFits (numerator_steps cells b k) → PartFits ((cells k).num *ℤ pos (b / (cells k).den)) → All StepFits (numerator_steps cells b (k + 1))
+numerator_next cells b k f h = subst (λ n. All StepFits (numerator_steps cells b n)) (plus_one k) (fits-more (numerator_steps cells b k) (times (cells k).num (pos (b / (cells k).den))) f ((times_fits (cells k).num (pos (b / (cells k).den))).0 h))
 
-pub numerator_unfit : (cells : ℕ → ℚ) (b k n : ℕ) (e : Unfit) → k < n → AllFit (numerator_steps cells b k) → ¬ (PartFits ((cells k).num *ℤ pos (b / (cells k).den))) → e ≡ unfit_step (times (cells k).num (pos (b / (cells k).den))) → IsFirstUnfit (numerator_steps cells b n) e
+pub numerator_unfit : (cells : ℕ → ℚ) (b k n : ℕ) (e : Unfit) → k < n → All StepFits (numerator_steps cells b k) → ¬ (PartFits ((cells k).num *ℤ pos (b / (cells k).den))) → e ≡ times (cells k).num (pos (b / (cells k).den)) → IsFirstUnfit (numerator_steps cells b n) e
 numerator_unfit cells b k zero e l f h same = absurd (omega arith)
 numerator_unfit cells b k (suc n) e l f h same = elim (cases_eq k n) [
-  | inl q ↦ subst (λ m. IsFirstUnfit (numerator_steps cells b (suc m)) e) q (unfit_after (numerator_steps cells b k) _ e f (inl (λ g. h ((times_fits _ _).1 g), same)))
-  | inr m ↦ unfit_before (numerator_steps cells b n) _ e (numerator_unfit cells b k n e (omega arith) f h same)
+  | inl q ↦ subst (λ m. IsFirstUnfit (numerator_steps cells b (suc m)) e) q (unfit-more (numerator_steps cells b k) (times (cells k).num (pos (b / (cells k).den))) e f (λ g. h ((times_fits _ _).1 g)) same)
+  | inr m ↦ first_unfit-more (numerator_steps cells b n) _ e (numerator_unfit cells b k n e (omega arith) f h same)
 ]
 
 -- ---- what the code reads
@@ -154,8 +157,8 @@ added_is common (pos d) g r h e f = f ∙ ap (λ z. div_ℤ (pos d) (nat_abs z))
 added_is common (negsuc d) g r h e f = absurd (omega (arith, ints))
 
 -- the steps of a row: those of its denominator, then those of its numbers
-pub start_row_unfit : (cells : ℕ → ℚ) (n : ℕ) (e : Unfit) → AllFit (denominator_steps cells n) → IsFirstUnfit (numerator_steps cells (common_to cells n) n) e → IsFirstUnfit (start_row_steps n cells) e
-start_row_unfit cells n e f h = unfit_after (denominator_steps cells n) (numerator_steps cells (common_to cells n) n) e f h
+pub start_row_unfit : (cells : ℕ → ℚ) (n : ℕ) (e : Unfit) → All StepFits (denominator_steps cells n) → IsFirstUnfit (numerator_steps cells (common_to cells n) n) e → IsFirstUnfit (start_row_steps n cells) e
+start_row_unfit cells n e f h = first_unfit-following (denominator_steps cells n) (numerator_steps cells (common_to cells n) n) e f h
 
 pub cell_read : (cells : List ℚ) (first k : ℕ) (q : ℚ) → first + k < length cells → q ≡ get_or cells (first + k) q → q ≡ cells_from cells first k
 cell_read cells first k q h e = e ∙ get_or_default cells (first + k) q zero_ℚ h
@@ -204,11 +207,11 @@ start_read cells count k x l e0 eb fb h = start_row cells count x e0 (λ j hj. (
       | inr m ↦ subst (λ p. PartFits (x p)) (back p m) (h (p - 1) (omega arith)).1
     ]
 
-pub start_row_fits : {E : Type 0} (cells : ℕ → ℚ) (n : ℕ) (o : Result (Unit {0}) E) → AllFit (denominator_steps cells n) → OnOk o (AllFit (numerator_steps cells (common_to cells n) n)) → OnOk o (AllFit (start_row_steps n cells))
-start_row_fits cells n (Ok x) f g = all_fit-append (denominator_steps cells n) (numerator_steps cells (common_to cells n) n) f g
+pub start_row_fits : {E : Type 0} (cells : ℕ → ℚ) (n : ℕ) (o : Result (Unit {0}) E) → All StepFits (denominator_steps cells n) → OnOk o (All StepFits (numerator_steps cells (common_to cells n) n)) → OnOk o (All StepFits (start_row_steps n cells))
+start_row_fits cells n (Ok x) f g = All-append StepFits (denominator_steps cells n) (numerator_steps cells (common_to cells n) n) f g
 start_row_fits cells n (Err e) f g = g
 
-pub start_rest_unfit : (cells : ℕ → ℚ) (n : ℕ) (o : Result (Unit {0}) Unfit) → AllFit (denominator_steps cells n) → IfErr o (IsFirstUnfit (numerator_steps cells (common_to cells n) n)) → IfErr o (IsFirstUnfit (start_row_steps n cells))
+pub start_rest_unfit : (cells : ℕ → ℚ) (n : ℕ) (o : Result (Unit {0}) Unfit) → All StepFits (denominator_steps cells n) → IfErr o (IsFirstUnfit (numerator_steps cells (common_to cells n) n)) → IfErr o (IsFirstUnfit (start_row_steps n cells))
 start_rest_unfit cells n (Ok x) f g = g
 start_rest_unfit cells n (Err e) f g = start_row_unfit cells n e f g
 

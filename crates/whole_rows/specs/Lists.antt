@@ -1,11 +1,11 @@
 -- Rows that stand in a list of numbers. `own` and `first` are where a row and the pivot's row
 -- begin, and column is the
 -- place of the pivot's column.
-use Rattle.std.specs.Prelude.{ℕ, ℤ, pos, ◌*ℤ◌, ◌+◌, ◌*◌, ◌<◌, ◌≤◌, ◌≡◌, ◌≢◌, ◌⊎◌, List, get_or, Option, MatchOption, IfSome, eqb, cond, []}
+use Rattle.std.specs.Prelude.{ℕ, ℤ, pos, ◌*ℤ◌, ◌+◌, ◌*◌, ◌<◌, ◌≤◌, ◌≡◌, ◌≢◌, ◌⊎◌, List, get_or, Option, MatchOption, IfSome, eqb, cond, [], All}
 use Rattle.rational.specs.Rational.{ℚ}
 use Rattle.frac128.specs.Fraction.{PartFits}
 use Rattle.whole_rows.specs.Rows.{from_place, IsRow}
-use Rattle.whole_rows.specs.Steps.{Step, AllFit}
+use Rattle.frac128.specs.Steps.{Step, StepFits}
 use Rattle.whole_rows.specs.Pivots.{place_steps, place_number, steps_to, row_steps, pivot_steps}
 use Rattle.whole_rows.specs.PivotedRows.{IsPivotedRow, IsPivotRow}
 use Rattle.whole_rows.specs.Shorts.{FitsShort}
@@ -35,7 +35,7 @@ AgreeOutside own size new old =
 -- the number n, where all these steps fit, and none where one does not
 abbrev pub IsWhereFit : List Step → ℤ → Option ℤ → Type 0
 IsWhereFit steps n o =
-    MatchOption o (¬ (AllFit steps)) (λ x. (x ≡ n) × PartFits x × AllFit steps)
+    MatchOption o (¬ (All StepFits steps)) (λ x. (x ≡ n) × PartFits x × All StepFits steps)
 
 -- the steps at a place of the row at `own`
 abbrev pub place_steps_at : List ℤ → ℕ → ℕ → ℕ → ℤ → ℤ → ℕ → List Step

@@ -1,7 +1,8 @@
 -- The steps of a pivot on whole numbers, in order, and what it makes of each row.
 use Rattle.std.specs.Prelude.{ℕ, ℤ, pos, negsuc, zero, suc, ◌-ℤ◌, ◌*ℤ◌, neg_ℤ, nat_abs, eqb, cond, List, [], ◌∷◌, ◌++◌}
 use Rattle.rational.specs.Gcd.{gcd, div_ℤ}
-use Rattle.whole_rows.specs.Steps.{Step, times, combination_steps}
+use Rattle.frac128.specs.Steps.{Step}
+use Rattle.whole_rows.specs.Steps.{times, combination_steps}
 
 -- n with the sign of p
 abbrev pub signed_by : ℤ → ℤ → ℤ

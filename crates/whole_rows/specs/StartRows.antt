@@ -1,11 +1,12 @@
 -- The rows of a system of fractions as whole numbers, and the steps by which they become so
-use Rattle.std.specs.Prelude.{ℕ, ℤ, pos, zero, suc, ◌+◌, ◌*◌, ◌/◌, ◌<◌, ◌≡◌, List, [], ◌∷◌, ◌++◌, get_or}
+use Rattle.std.specs.Prelude.{ℕ, ℤ, pos, zero, suc, ◌+◌, ◌*◌, ◌/◌, ◌<◌, ◌≡◌, List, [], ◌∷◌, ◌++◌, get_or, All}
 use Rattle.rational.specs.Gcd.{gcd}
 use Rattle.rational.specs.Rational.{ℚ, zero_ℚ}
 use Rattle.frac128.specs.Fraction.{PartFits}
 use Rattle.frac128.specs.declared.steps.Unfit.{Unfit}
 use Rattle.whole_rows.specs.Rows.{IsRow, fraction}
-use Rattle.whole_rows.specs.Steps.{Step, times, AllFit, IsFirstUnfit}
+use Rattle.frac128.specs.Steps.{Step, StepFits, IsFirstUnfit}
+use Rattle.whole_rows.specs.Steps.{times}
 
 -- the fractions from a place of a list on
 abbrev pub cells_from : List ℚ → ℕ → ℕ → ℚ
@@ -40,7 +41,7 @@ start_row_steps count cells = denominator_steps cells count ++ over_steps count 
 -- b is the common denominator, and all its steps fit
 abbrev pub IsCommonDenominator : ℕ → (ℕ → ℚ) → ℤ → Type 0
 IsCommonDenominator count cells b =
-    (b ≡ pos (common_to cells count)) × PartFits b × AllFit (denominator_steps cells count)
+    (b ≡ pos (common_to cells count)) × PartFits b × All StepFits (denominator_steps cells count)
 
 -- new is a row that stands for the cells
 pub record IsStartRow (count : ℕ) (cells : ℕ → ℚ) (new : ℕ → ℤ) : Type 0 where
@@ -50,10 +51,10 @@ pub record IsStartRow (count : ℕ) (cells : ℕ → ℚ) (new : ℕ → ℤ) : 
 -- all rows of so many cells fit
 abbrev pub RowsFit : ℕ → ℕ → List ℚ → Type 0
 RowsFit rows count cells =
-    (i : ℕ) → i < rows → AllFit (start_row_steps count (cells_from cells (i * count)))
+    (i : ℕ) → i < rows → All StepFits (start_row_steps count (cells_from cells (i * count)))
 
 -- row i is the first with a step that does not fit, and e that step
 pub record IsFirstUnfitRow (rows count : ℕ) (cells : List ℚ) (i : ℕ) (e : Unfit) : Type 0 where
   pub within : i < rows
-  pub before : (j : ℕ) → j < i → AllFit (start_row_steps count (cells_from cells (j * count)))
+  pub before : (j : ℕ) → j < i → All StepFits (start_row_steps count (cells_from cells (j * count)))
   pub here : IsFirstUnfit (start_row_steps count (cells_from cells (i * count))) e

@@ -1,5 +1,5 @@
 // Products and differences of whole numbers, where they fit, and the steps that do not.
-ghost use Rattle.std.specs.Prelude.{◌≡◌, ◌<◌, ◌≤◌, ◌^◌, ◌*ℤ◌, ◌-ℤ◌, ◌≤ℤ◌, ◌<ℤ◌, ◌↔◌, nat_abs, pos, neg_ℤ, IsTrue, IfSome, MatchOption};
+ghost use Rattle.std.specs.Prelude.{◌≡◌, ◌<◌, ◌≤◌, ◌^◌, ◌*ℤ◌, ◌-ℤ◌, ◌≤ℤ◌, ◌<ℤ◌, ◌↔◌, nat_abs, pos, neg_ℤ, IsTrue, IfSome, MatchOption, All};
 ghost use Rattle.std.specs.Int.{◌∣◌};
 ghost use Rattle.std.specs.Ordering.{int_cmp};
 ghost use Rattle.rational.specs.Rational.{frac};
@@ -7,7 +7,8 @@ ghost use Rattle.frac128.specs.Fraction.{PartFits};
 ghost use Rattle.whole_rows.specs.Lists.{IsWhereFit};
 ghost use Rattle.whole_rows.specs.Pivots.{other_factor, own_factor};
 ghost use Rattle.whole_rows.specs.Shorts.{IsShort};
-ghost use Rattle.whole_rows.specs.Steps.{AllFit, IsFirstUnfit, combination_steps, less, times, unfit_step};
+ghost use Rattle.frac128.specs.Steps.{StepFits, IsFirstUnfit};
+ghost use Rattle.whole_rows.specs.Steps.{combination_steps, less, times};
 
 use frac128::{Frac, Op, Unfit, cmp_signed_quotients};
 use std::cmp::Ordering;
@@ -127,7 +128,7 @@ pub fn fraction(num: i128, den: i128) -> Frac
 pub fn unfit_product(a: i128, b: i128) -> Unfit
     requires left { PartFits a }
     requires right { PartFits b }
-    ensures { result ≡ unfit_step (times a b) }
+    ensures { result ≡ times a b }
 {
     Unfit {
         op: Op::Mul,
@@ -140,7 +141,7 @@ pub fn unfit_product(a: i128, b: i128) -> Unfit
 pub fn unfit_difference(a: i128, b: i128) -> Unfit
     requires left { PartFits a }
     requires right { PartFits b }
-    ensures { result ≡ unfit_step (less a b) }
+    ensures { result ≡ less a b }
 {
     Unfit {
         op: Op::Sub,
@@ -155,7 +156,7 @@ pub fn unfit_combination(a: i128, u: i128, b: i128, v: i128) -> Unfit
     requires own_factor { PartFits u }
     requires other { PartFits b }
     requires other_factor { PartFits v }
-    requires unfit { ¬ (AllFit (combination_steps a u b v)) }
+    requires unfit { ¬ (All StepFits (combination_steps a u b v)) }
     ensures { IsFirstUnfit (combination_steps a u b v) result }
 {
     let Some(left) = product(a, u) else {

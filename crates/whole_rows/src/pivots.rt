@@ -1,5 +1,5 @@
 // The pivot of all rows, from one list of numbers into another.
-ghost use Rattle.std.specs.Prelude.{◌≡◌, ◌≢◌, ◌+◌, ◌*◌, ◌<◌, ◌≤◌, ◌<ℤ◌, pos, nat_abs, length, IfErr, IfSome, OnOk, IsTrue};
+ghost use Rattle.std.specs.Prelude.{◌≡◌, ◌≢◌, ◌+◌, ◌*◌, ◌<◌, ◌≤◌, ◌<ℤ◌, pos, nat_abs, length, IfErr, IfSome, OnOk, IsTrue, All};
 ghost use Rattle.std.specs.Int.{◌∣◌};
 ghost use Rattle.rational.specs.Gcd.{gcd as gcd_of, div_ℤ};
 ghost use Rattle.frac128.specs.Fraction.{PartFits};
@@ -7,7 +7,7 @@ ghost use Rattle.whole_rows.specs.Lists.{AgreeOutside, AllPartsFit, AreOthersPiv
 ghost use Rattle.whole_rows.specs.PivotedRows.{IsReduced};
 ghost use Rattle.whole_rows.specs.Pivots.{other_factor, own_factor, signed_by};
 ghost use Rattle.whole_rows.specs.Rows.{IsCommonDivisor, IsRow, from_place};
-ghost use Rattle.whole_rows.specs.Steps.{AllFit, IsFirstUnfit};
+ghost use Rattle.frac128.specs.Steps.{StepFits, IsFirstUnfit};
 
 use crate::arithmetic::{exact_quotient, short_factor};
 use crate::divisors::Divisor;
@@ -125,7 +125,7 @@ fn write_short(
     ensures length { length spare.new ≡ length spare.old }
     ensures kept { AgreeOutside own size spare.new spare.old }
     ensures written { IsTrue result → IsPivotedRowAt numbers.now own first column size spare.new }
-    ensures fits { IsTrue result → AllFit (row_steps_at numbers.now own first column size) }
+    ensures fits { IsTrue result → All StepFits (row_steps_at numbers.now own first column size) }
 {
     let entry = numbers[first + column];
     let number = numbers[own + column];
@@ -176,7 +176,7 @@ fn write_other(
     ensures length { length spare.new ≡ length spare.old }
     ensures kept { AgreeOutside own size spare.new spare.old }
     ensures written { OnOk result (IsPivotedRowAt numbers.now own first column size spare.new) }
-    ensures fits { OnOk result (AllFit (row_steps_at numbers.now own first column size)) }
+    ensures fits { OnOk result (All StepFits (row_steps_at numbers.now own first column size)) }
     ensures unfit { IfErr result (IsFirstUnfit (row_steps_at numbers.now own first column size)) }
 {
     let number = numbers[own + column];
@@ -221,7 +221,7 @@ fn write_row(
     ensures kept { AgreeOutside (i * size) size spare.new spare.old }
     ensures pivot_row { OnOk result (i ≡ row → IsPivotAt numbers.now size i column spare.new) }
     ensures others { OnOk result (i ≢ row → IsPivotedAt numbers.now size row column spare.new i) }
-    ensures fits { OnOk result (AllFit (steps_of_row numbers.now size row column i)) }
+    ensures fits { OnOk result (All StepFits (steps_of_row numbers.now size row column i)) }
     ensures unfit { IfErr result (IsFirstUnfit (steps_of_row numbers.now size row column i)) }
 {
     if i == row {
@@ -258,7 +258,7 @@ pub fn write_pivot(
     ensures length { length spare.new ≡ length spare.old }
     ensures pivot_row { OnOk result (IsPivotAt numbers.now size row column spare.new) }
     ensures others { OnOk result (AreOthersPivoted numbers.now size row column rows spare.new) }
-    ensures fits { OnOk result (AllFit (steps_of_rows numbers.now size row column rows)) }
+    ensures fits { OnOk result (All StepFits (steps_of_rows numbers.now size row column rows)) }
     ensures unfit { IfErr result (IsFirstUnfit (steps_of_rows numbers.now size row column rows)) }
 {
     for i in 0..rows {

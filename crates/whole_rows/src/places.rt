@@ -1,10 +1,10 @@
 // The numbers of a row after a pivot, place by place.
-ghost use Rattle.std.specs.Prelude.{◌+◌, ◌<◌, length};
+ghost use Rattle.std.specs.Prelude.{◌+◌, ◌<◌, length, All};
 ghost use Rattle.frac128.specs.Fraction.{PartFits};
 ghost use Rattle.whole_rows.specs.Lists.{AllPartsFit, IsPlaceNumber, IsShortNumber, place_steps_at};
 ghost use Rattle.whole_rows.specs.Pivots.{other_factor, own_factor};
 ghost use Rattle.whole_rows.specs.Shorts.{IsShort};
-ghost use Rattle.whole_rows.specs.Steps.{AllFit, IsFirstUnfit};
+ghost use Rattle.frac128.specs.Steps.{StepFits, IsFirstUnfit};
 
 use crate::arithmetic::{
     combination, product, short_difference, short_times, unfit_combination, unfit_product,
@@ -90,7 +90,7 @@ pub fn unfit_at(
     requires fit { AllPartsFit numbers.now }
     requires own_factor { PartFits u }
     requires other_factor { PartFits v }
-    requires unfit { ¬ (AllFit (place_steps_at numbers.now own first column u v place)) }
+    requires unfit { ¬ (All StepFits (place_steps_at numbers.now own first column u v place)) }
     ensures { IsFirstUnfit (place_steps_at numbers.now own first column u v place) result }
 {
     if place == 0 {

@@ -1,12 +1,12 @@
 // Rows of whole numbers, in a list of them.
-ghost use Rattle.std.specs.Prelude.{◌≡◌, ◌+◌, ◌<◌, ◌≤◌, ℕ, ◌<ℤ◌, pos, nat_abs, length, IfErr, OnOk, IsTrue};
+ghost use Rattle.std.specs.Prelude.{◌≡◌, ◌+◌, ◌<◌, ◌≤◌, ℕ, ◌<ℤ◌, pos, nat_abs, length, IfErr, OnOk, IsTrue, All};
 ghost use Rattle.std.specs.Int.{◌∣◌};
 ghost use Rattle.frac128.specs.Fraction.{PartFits};
 ghost use Rattle.whole_rows.specs.Lists.{AgreeOutside, AllPartsFit, AreSame, IsDivided, IsWritten, IsWrittenBy, RowFits, RowFitsShort, steps_at};
 ghost use Rattle.whole_rows.specs.Pivots.{other_factor, own_factor, turned};
 ghost use Rattle.whole_rows.specs.Rows.{IsCommonDivisor, from_place};
 ghost use Rattle.whole_rows.specs.Shorts.{IsShort};
-ghost use Rattle.whole_rows.specs.Steps.{AllFit, IsFirstUnfit};
+ghost use Rattle.frac128.specs.Steps.{StepFits, IsFirstUnfit};
 
 use crate::divisors::{Divisor, quotient_by};
 use crate::places::{number_at, short_number, unfit_at};
@@ -67,7 +67,7 @@ pub fn write_combination(
     ensures length { length spare.new ≡ length spare.old }
     ensures kept { AgreeOutside own size spare.new spare.old }
     ensures written { OnOk result (IsWritten numbers.now own first column u v size spare.new) }
-    ensures fits { OnOk result (AllFit (steps_at numbers.now own first column u v size)) }
+    ensures fits { OnOk result (All StepFits (steps_at numbers.now own first column u v size)) }
     ensures unfit { IfErr result (IsFirstUnfit (steps_at numbers.now own first column u v size)) }
 {
     for place in 0..size {

@@ -1,10 +1,10 @@
 // The rows of a system as whole numbers.
-ghost use Rattle.std.specs.Prelude.{◌≡◌, ◌≢◌, ◌+◌, ◌*◌, ◌/◌, ◌<◌, ◌≤◌, ◌<ℤ◌, pos, nat_abs, length, IfOk, IfErr, OnOk};
+ghost use Rattle.std.specs.Prelude.{◌≡◌, ◌≢◌, ◌+◌, ◌*◌, ◌/◌, ◌<◌, ◌≤◌, ◌<ℤ◌, pos, nat_abs, length, IfOk, IfErr, OnOk, All};
 ghost use Rattle.rational.specs.Gcd.{gcd as gcd_of};
 ghost use Rattle.frac128.specs.Fraction.{PartFits};
 ghost use Rattle.whole_rows.specs.Lists.{AgreeOutside, AreStartRows, IsStartRowAt};
 ghost use Rattle.whole_rows.specs.StartRows.{IsCommonDenominator, IsFirstUnfitRow, RowsFit, cells_from, common_to, denominator_steps, over_steps, start_row_steps};
-ghost use Rattle.whole_rows.specs.Steps.{AllFit, IsFirstUnfit};
+ghost use Rattle.frac128.specs.Steps.{StepFits, IsFirstUnfit};
 
 use crate::arithmetic::{exact_quotient, product, unfit_product};
 use crate::pivots::{common_part, factor};
@@ -56,7 +56,7 @@ fn write_over(
     ensures length { length numbers.new ≡ length numbers.old }
     ensures kept { AgreeOutside to (count + 1) numbers.new numbers.old }
     ensures written { OnOk result (IsStartRowAt cells.now from count numbers.new to) }
-    ensures fits { OnOk result (AllFit (over_steps count (cells_from cells.now from))) }
+    ensures fits { OnOk result (All StepFits (over_steps count (cells_from cells.now from))) }
     ensures unfit { IfErr result (IsFirstUnfit (over_steps count (cells_from cells.now from))) }
 {
     numbers[to] = common;
@@ -84,7 +84,7 @@ fn write_start_row(
     ensures length { length numbers.new ≡ length numbers.old }
     ensures kept { AgreeOutside to (count + 1) numbers.new numbers.old }
     ensures written { OnOk result (IsStartRowAt cells.now from count numbers.new to) }
-    ensures fits { OnOk result (AllFit (start_row_steps count (cells_from cells.now from))) }
+    ensures fits { OnOk result (All StepFits (start_row_steps count (cells_from cells.now from))) }
     ensures unfit { IfErr result
         (IsFirstUnfit (start_row_steps count (cells_from cells.now from))) }
 {

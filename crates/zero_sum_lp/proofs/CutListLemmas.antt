@@ -6,8 +6,7 @@ use Rattle.rational.specs.Sum.{sum_to}
 use Rattle.rational.proofs.SumLemmas.{sum_to-same}
 use Rattle.linear_systems.proofs.LexRowLemmas.{below_cases}
 use Rattle.frac128.specs.declared.steps.Op.TheVariants.{Sub}
-use Rattle.frac128.specs.Steps.{SubFits, unfit}
-use Rattle.pure_payoffs.specs.Steps.{Step, StepFits, IsFirstUnfit}
+use Rattle.frac128.specs.Steps.{SubFits, unfit, Step, StepFits, IsFirstUnfit}
 use Rattle.sequence_forms.specs.Sides.{Side, first, IsOrderedSide}
 use Rattle.zero_sum_lp.specs.Plans.{IsCut}
 use Rattle.zero_sum_lp.specs.PlanLists.{AreShares, IsUnfitShare}

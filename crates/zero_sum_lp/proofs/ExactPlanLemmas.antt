@@ -7,8 +7,8 @@ use Rattle.rational.specs.Sum.{sum_to}
 use Rattle.rational.proofs.Field.{le_refl, le_total}
 use Rattle.rational.proofs.SumLemmas.{sum_to-same}
 use Rattle.linear_systems.proofs.LexRowLemmas.{below_cases}
-use Rattle.pure_payoffs.specs.Steps.{Step, StepFits, IsFirstUnfit}
-use Rattle.pure_payoffs.proofs.FirstUnfitLemmas.{unfit_among, unfit_once}
+use Rattle.frac128.specs.Steps.{Step, StepFits, IsFirstUnfit}
+use Rattle.frac128.proofs.FirstUnfitLemmas.{unfit_among, unfit_once}
 use Rattle.sequence_forms.specs.Sides.{Side, first, sequences, IsOrderedSide}
 use Rattle.sequence_forms.proofs.SideLemmas.{first_up, first_pos, sequence_below}
 use Rattle.zero_sum_lp.specs.Plans.{IsRaised, IsCut}

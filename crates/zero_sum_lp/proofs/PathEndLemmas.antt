@@ -1,5 +1,5 @@
 -- The path has one end.
-use Rattle.std.proofs.Common.{ℕ, zero, suc, ◌<◌, ◌≡◌, inl, inr, sym, ap, ap₂, ◌∙◌, subst, subst₂, arith}
+use Rattle.std.proofs.Common.{ℕ, zero, suc, ◌<◌, ◌≡◌, inl, inr, sym, ap, ap₂, ◌∙◌, subst, subst₂, arith, All}
 use Rattle.std.proofs.lemmas.Bool.{cases_lt}
 use Rattle.rational.specs.Rational.{zero_ℚ}
 use Rattle.rational.proofs.Field.{not_lt_of_le}
@@ -9,8 +9,8 @@ use Rattle.zero_sum_lp.specs.Paths.{IsEntering, IsOptimal}
 use Rattle.linear_systems.proofs.AgreementLemmas.{alike_sym, alike_trans}
 use Rattle.zero_sum_lp.proofs.DeterminedPathLemmas.{entering_once}
 use Rattle.frac128.specs.declared.steps.Unfit.{Unfit}
-use Rattle.whole_rows.specs.Steps.{AllFit, IsFirstUnfit}
-use Rattle.whole_rows.proofs.FirstUnfitLemmas.{no_unfit, one_unfit}
+use Rattle.frac128.specs.Steps.{StepFits, IsFirstUnfit}
+use Rattle.frac128.proofs.FirstUnfitLemmas.{unfit_among, unfit_once}
 use Rattle.lex_tableau.specs.Pivots.{pivot_number, steps_of_pivot}
 use Rattle.lex_tableau.specs.Ratio.{listed}
 use Rattle.lex_tableau.specs.Rows.{Numbers, tableau, IsPivotOf, IsTableau}
@@ -74,7 +74,7 @@ module _ (first : Numbers) (v : IsTableau first) where
       let w = valid_at first u.before u.count v u.path in
       let c = same_column u.before w s.1.column u.column s.1.row u.row s.1.entering u.enters s.1.leaving u.leaves in
       let r = same_row u.before w s.1.column u.column s.1.row u.row s.1.entering u.enters s.1.leaving u.leaves in
-      no_unfit (steps_of_pivot u.before u.row u.column) unfit (subst₂ (λ a b. AllFit (steps_of_pivot u.before a b)) r c s.1.fits) u.first_unfit
+      unfit_among (steps_of_pivot u.before u.row u.column) unfit u.first_unfit (subst₂ (λ a b. All StepFits (steps_of_pivot u.before a b)) r c s.1.fits)
 
   optima_same : (n o : Numbers) → EndsPath first n → EndsPath first o → n ≡ o
   optima_same n o a b = elim (cases_lt a.count b.count) [
@@ -113,7 +113,7 @@ module _ (first : Numbers) (v : IsTableau first) where
           let r = same_row w.before valid u.column w.column u.row w.row enters w.enters leaves w.leaves in
           let here : IsFirstUnfit (steps_of_pivot w.before w.row w.column) unfit = subst₂ (λ a b. IsFirstUnfit (steps_of_pivot w.before a b) unfit) r c (subst (λ m. IsFirstUnfit (steps_of_pivot m u.row u.column) unfit) e u.first_unfit) in (
             u.is_number ∙ ap (λ i. pivot_number (suc i)) q ∙ sym w.is_number,
-            (u.variable ∙ ap₂ (λ (m : Numbers) (i : ℕ). (tableau m).nonbasic i) e c ∙ sym w.variable, one_unfit (steps_of_pivot w.before w.row w.column) unfit unfit' here w.first_unfit),
+            (u.variable ∙ ap₂ (λ (m : Numbers) (i : ℕ). (tableau m).nonbasic i) e c ∙ sym w.variable, unfit_once (steps_of_pivot w.before w.row w.column) unfit unfit' here w.first_unfit),
           )
 
 -- a program by its parts

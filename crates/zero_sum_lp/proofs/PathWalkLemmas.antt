@@ -10,7 +10,7 @@ use Rattle.zero_sum_lp.proofs.DeterminedPathLemmas.{after_on_path, after_leaves,
 use Rattle.frac128.specs.declared.steps.Unfit.{Unfit}
 use Rattle.lex_tableau.specs.Rows.{Numbers, tableau}
 use Rattle.lex_tableau.specs.Ratio.{listed}
-use Rattle.whole_rows.specs.Steps.{IsFirstUnfit}
+use Rattle.frac128.specs.Steps.{IsFirstUnfit}
 use Rattle.lex_tableau.specs.Pivots.{pivot_number, steps_of_pivot}
 use Rattle.lex_tableau.proofs.PivotNumberLemmas.{pivot_number_next}
 use Rattle.zero_sum_lp.specs.Steps.{linear_program, IsProgramStart, IsFittingPivot, LeadsTo, EndsPath, IsUnfitPivot, IsUnderWay, IsEnteringOf}

@@ -2,7 +2,7 @@
 use Rattle.std.proofs.Common.{ℕ, ◌<◌, ◌≡◌, inl, inr, List, Ok, Err, length, sym, ap, ◌∙◌, subst}
 use Rattle.std.proofs.lemmas.List.{ext_get_or}
 use Rattle.rational.specs.Rational.{ℚ, zero_ℚ}
-use Rattle.pure_payoffs.specs.Steps.{Step}
+use Rattle.frac128.specs.Steps.{Step}
 use Rattle.sequence_forms.specs.Sides.{Side, sequences}
 use Rattle.sequence_data.specs.Data.{IsSideData, side_of}
 use Rattle.sequence_data.specs.Weights.{weight}

@@ -4,7 +4,7 @@ use Rattle.std.proofs.lemmas.List.{length_push, get_or_push, get_or_append_left}
 use Rattle.rational.specs.Rational.{ℚ, zero_ℚ}
 use Rattle.linear_systems.specs.Rows.{basic_solution, coefficient}
 use Rattle.linear_systems.proofs.LexRowLemmas.{below_cases}
-use Rattle.pure_payoffs.specs.Steps.{Step}
+use Rattle.frac128.specs.Steps.{Step}
 use Rattle.lex_tableau.specs.Rows.{Numbers, tableau}
 use Rattle.sequence_forms.specs.Sides.{sequences, IsOrderedSide}
 use Rattle.sequence_data.specs.Data.{IsSideData, SideData, side_of}

@@ -13,22 +13,13 @@ use Rattle.rational.proofs.SumLemmas.{sum_to-same}
 use Rattle.rational.proofs.Ring.{ring, num, ◌:+◌, ◌:-◌, A, B, C}
 use Rattle.linear_systems.proofs.LexRowLemmas.{below_cases}
 use Rattle.frac128.specs.declared.steps.Op.TheVariants.{Add, Sub}
-use Rattle.frac128.specs.Steps.{AddFits, SubFits, unfit}
-use Rattle.pure_payoffs.specs.Steps.{Step, StepFits, IsFirstUnfit}
-use Rattle.pure_payoffs.proofs.StepRunLemmas.{first_unfit-more, first_unfit-following, first_unfit-here, one-fits}
+use Rattle.frac128.specs.Steps.{AddFits, SubFits, unfit, Step, StepFits, IsFirstUnfit}
+use Rattle.frac128.proofs.StepRunLemmas.{first_unfit-more, first_unfit-following, fits-more, unfit-more}
 use Rattle.sequence_forms.specs.Sides.{Side, first, sequences, IsOrderedSide}
 use Rattle.sequence_forms.proofs.SideLemmas.{first_up, sequence_below}
 use Rattle.zero_sum_lp.specs.PlanSteps.{rest_steps, raise_steps, raising_steps, cutting_steps}
 
 -- ---- steps
--- one more step that fits
-fits_more : (ss : List Step) (s : Step) → All StepFits ss → StepFits s → All StepFits (ss ++ s ∷ [])
-fits_more ss s h f = All-append StepFits ss (s ∷ []) h (one-fits s f)
-
--- one more step that does not fit
-unfit_more : (ss : List Step) (s e : Step) → All StepFits ss → ¬ (StepFits s) → e ≡ s → IsFirstUnfit (ss ++ s ∷ []) e
-unfit_more ss s e h f q = subst (IsFirstUnfit (ss ++ s ∷ [])) (sym q) (first_unfit-following ss (s ∷ []) s h (first_unfit-here s [] f))
-
 pub rest_unfit : (w : ℚ) (x : ℕ → ℚ) (m n : ℕ) (e : Step) → m ≤ n → IsFirstUnfit (rest_steps w x m) e → IsFirstUnfit (rest_steps w x n) e
 rest_unfit w x m zero e l h = subst (λ k. IsFirstUnfit (rest_steps w x k) e) (let q : m ≡ 0 = omega arith in q) h
 rest_unfit w x m (suc n) e l h = elim (cases_lt m (suc n)) [
@@ -46,11 +37,11 @@ rest_next w x a r v l e f g =
 
 pub rest_fits : (w : ℚ) (x : ℕ → ℚ) (a : ℕ) (r v : ℚ) → r ≡ w -ℚ sum_to a x → v ≡ x a → SubFits r v → All StepFits (rest_steps w x a) → All StepFits (rest_steps w x (a + 1))
 rest_fits w x a r v e f s h =
-    subst (λ k. All StepFits (rest_steps w x k)) (sym (add-one a)) (fits_more (rest_steps w x a) (unfit Sub (w -ℚ sum_to a x) (x a)) h (subst₂ SubFits e f s))
+    subst (λ k. All StepFits (rest_steps w x k)) (sym (add-one a)) (fits-more (rest_steps w x a) (unfit Sub (w -ℚ sum_to a x) (x a)) h (subst₂ SubFits e f s))
 
 pub rest_fails : (w : ℚ) (x : ℕ → ℚ) (a n : ℕ) (r v : ℚ) (u : Step) → a < n → r ≡ w -ℚ sum_to a x → v ≡ x a → ¬ (SubFits r v) → u ≡ unfit Sub r v → All StepFits (rest_steps w x a) → IsFirstUnfit (rest_steps w x n) u
 rest_fails w x a n r v u l e f s q h =
-    rest_unfit w x (suc a) n u (omega arith) (unfit_more (rest_steps w x a) (unfit Sub (w -ℚ sum_to a x) (x a)) u h (λ k. s (subst₂ SubFits (sym e) (sym f) k)) (q ∙ ap₂ (unfit Sub) e f))
+    rest_unfit w x (suc a) n u (omega arith) (unfit-more (rest_steps w x a) (unfit Sub (w -ℚ sum_to a x) (x a)) u h (λ k. s (subst₂ SubFits (sym e) (sym f) k)) (q ∙ ap₂ (unfit Sub) e f))
 
 pub rest_same : (w : ℚ) (x y : ℕ → ℚ) (n : ℕ) → ((a : ℕ) → a < n → x a ≡ y a) → rest_steps w x n ≡ rest_steps w y n
 rest_same w x y zero h = refl
@@ -59,7 +50,7 @@ rest_same w x y (suc n) h = ap₂ (λ ss s. ss ++ s ∷ []) (rest_same w x y n (
 -- ---- a set that is raised
 pub raise_fits : (w : ℚ) (z : ℕ → ℚ) (f n : ℕ) (r v : ℚ) → r ≡ w -ℚ sum_to n (λ a. z (f + a)) → v ≡ z f → AddFits v r → All StepFits (rest_steps w (λ a. z (f + a)) n) → All StepFits (raise_steps w (λ a. z (f + a)) n)
 raise_fits w z f n r v e q s h =
-    fits_more (rest_steps w (λ a. z (f + a)) n) (unfit Add (z (f + 0)) (w -ℚ sum_to n (λ a. z (f + a)))) h (subst₂ AddFits (q ∙ ap z (let o : f ≡ f + 0 = omega arith in o)) e s)
+    fits-more (rest_steps w (λ a. z (f + a)) n) (unfit Add (z (f + 0)) (w -ℚ sum_to n (λ a. z (f + a)))) h (subst₂ AddFits (q ∙ ap z (let o : f ≡ f + 0 = omega arith in o)) e s)
 
 pub raise_same : (w : ℚ) (x y : ℕ → ℚ) (n : ℕ) → 0 < n → ((a : ℕ) → a < n → x a ≡ y a) → raise_steps w x n ≡ raise_steps w y n
 raise_same w x y n some h = ap₂ (λ ss s. ss ++ s ∷ []) (rest_same w x y n h) (ap₂ (λ b c. unfit Add b (w -ℚ c)) (h 0 some) (sum_to-same n x y h))

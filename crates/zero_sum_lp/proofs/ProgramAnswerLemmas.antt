@@ -6,7 +6,7 @@ use Rattle.zero_sum_lp.specs.Programs.{program_of}
 use Rattle.linear_systems.proofs.AgreementLemmas.{alike_sym, alike_trans}
 use Rattle.lex_tableau.specs.Starts.{Parts, system_of}
 use Rattle.lex_tableau.proofs.SystemLemmas.{systems_determined, start_for-single}
-use Rattle.pure_payoffs.proofs.FirstUnfitLemmas.{all_fit-single, front_has, front_one}
+use Rattle.frac128.proofs.FirstUnfitLemmas.{all_fit-single, front_has, front_one}
 use Rattle.sequence_forms.specs.Prices.{gains}
 use Rattle.sequence_data.specs.declared.types.Leaf.{Leaf}
 use Rattle.sequence_data.specs.Data.{FormData, form, side_of}

@@ -5,13 +5,12 @@ use Rattle.std.proofs.lemmas.Bool.{cases_eq}
 use Rattle.std.proofs.lemmas.List.{get_or-map, get_or_default, length-map, length-drop, length-take-le, get_or-take}
 use Rattle.std.proofs.lemmas.Grind.{get_or_after_one}
 use Rattle.rational.specs.Rational.{ℚ, ◌*ℚ◌, zero_ℚ}
-use Rattle.frac128.specs.Steps.{MulFits, SubFits, unfit}
+use Rattle.frac128.specs.Steps.{MulFits, SubFits, unfit, Step, IsFirstUnfit}
 use Rattle.frac128.specs.declared.steps.Op.TheVariants.{Sub, Mul}
-use Rattle.pure_payoffs.specs.Steps.{Step, IsFirstUnfit}
-use Rattle.pure_payoffs.proofs.StepRunLemmas.{first_unfit-following, first_unfit-here, one-fits}
+use Rattle.frac128.proofs.StepRunLemmas.{first_unfit-following, first_unfit-here, one-fits}
 use Rattle.sequence_data.specs.declared.types.Cell.{Cell}
 use Rattle.sequence_data.specs.declared.types.Leaf.{Leaf}
-use Rattle.pure_payoffs.proofs.FirstUnfitLemmas.{split_here}
+use Rattle.frac128.proofs.FirstUnfitLemmas.{split_here}
 use Rattle.zero_sum_lp.specs.FormPrograms.{gain_steps, sum_at, AreFirstApart, is_constant}
 use Rattle.rational.proofs.Decide.{eq_ℚ-decides}
 use Rattle.rational.specs.Tests.{eq_ℚ}

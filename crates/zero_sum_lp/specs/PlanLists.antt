@@ -3,7 +3,7 @@ use Rattle.std.specs.Prelude.{ℕ, ◌+◌, ◌<◌, ◌≡◌, List, length}
 use Rattle.rational.specs.Extremes.{IsLesser}
 use Rattle.rational.specs.Rational.{ℚ, ◌-ℚ◌}
 use Rattle.rational.specs.Sum.{sum_to}
-use Rattle.pure_payoffs.specs.Steps.{Step, IsFirstUnfit}
+use Rattle.frac128.specs.Steps.{Step, IsFirstUnfit}
 use Rattle.sequence_data.specs.Weights.{weight}
 use Rattle.zero_sum_lp.specs.PlanSteps.{rest_steps}
 

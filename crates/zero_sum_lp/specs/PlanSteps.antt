@@ -3,9 +3,8 @@ use Rattle.std.specs.Prelude.{ℕ, zero, suc, ◌+◌, All, List, [], ◌∷◌,
 use Rattle.std.specs.List.{flat_map, range_with_len}
 use Rattle.rational.specs.Rational.{ℚ, ◌-ℚ◌}
 use Rattle.rational.specs.Sum.{sum_to}
-use Rattle.frac128.specs.Steps.{unfit}
+use Rattle.frac128.specs.Steps.{unfit, Step, StepFits, IsFirstUnfit}
 use Rattle.frac128.specs.declared.steps.Op.TheVariants.{Add, Sub}
-use Rattle.pure_payoffs.specs.Steps.{Step, StepFits, IsFirstUnfit}
 use Rattle.sequence_forms.specs.Sides.{Side, first}
 use Rattle.zero_sum_lp.specs.Plans.{IsRaised, IsCut}
 

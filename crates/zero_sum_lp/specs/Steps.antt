@@ -1,5 +1,5 @@
 -- The path of a program over whole numbers, step by step, and the first step that does not fit.
-use Rattle.std.specs.Prelude.{ℕ, zero, suc, ◌+◌, ◌<◌, ◌≤◌, ◌≡◌, length, get_or, Option, MatchOption}
+use Rattle.std.specs.Prelude.{ℕ, zero, suc, ◌+◌, ◌<◌, ◌≤◌, ◌≡◌, length, get_or, Option, MatchOption, All}
 use Rattle.rational.specs.Rational.{zero_ℚ, ◌≤ℚ◌, ◌<ℚ◌}
 use Rattle.linear_systems.specs.Tableau.{Tableau}
 use Rattle.linear_systems.specs.Rows.{IsLexicographicRow}
@@ -7,7 +7,7 @@ use Rattle.zero_sum_lp.specs.Paths.{LinearProgram, IsLinearProgram, IsEntering, 
 use Rattle.frac128.specs.declared.steps.Unfit.{Unfit}
 use Rattle.lex_tableau.specs.Rows.{Numbers, tableau, IsPivotOf, IsTableau}
 use Rattle.lex_tableau.specs.Ratio.{listed}
-use Rattle.whole_rows.specs.Steps.{AllFit, IsFirstUnfit}
+use Rattle.frac128.specs.Steps.{StepFits, IsFirstUnfit}
 use Rattle.lex_tableau.specs.Pivots.{pivot_number, steps_of_pivot}
 
 -- the linear program that a tableau is the start of
@@ -36,7 +36,7 @@ pub record IsFittingPivot (m n : Numbers) : Type 0 where
   pub row : ℕ
   pub entering : IsEntering m.rated (tableau m) column
   pub leaving : IsLeavingRow m column row
-  pub fits : AllFit (steps_of_pivot m row column)
+  pub fits : All StepFits (steps_of_pivot m row column)
   pub pivot : IsPivotOf m row column n
   pub valid : IsTableau n
 

@@ -1,6 +1,6 @@
 // The second player's plan out of raw weights.
 ghost use Rattle.std.specs.Prelude.{All, ◌≡◌, ◌+◌, ◌<◌, ◌≤◌, ℕ, length, IfErr, OnOk};
-ghost use Rattle.pure_payoffs.specs.Steps.{StepFits};
+ghost use Rattle.frac128.specs.Steps.{StepFits};
 ghost use Rattle.sequence_forms.specs.Sides.{sequences};
 ghost use Rattle.sequence_data.specs.Data.{IsSideData, side_of};
 ghost use Rattle.sequence_data.specs.Weights.{weight};

@@ -2,7 +2,7 @@
 ghost use Rattle.std.specs.Prelude.{All, ◌≡◌, ◌≢◌, ◌+◌, ◌<◌, ◌≤◌, ℕ, length, IfOk, IfErr, OnOk};
 ghost use Rattle.rational.specs.Rational.{◌+ℚ◌, ◌-ℚ◌};
 ghost use Rattle.rational.specs.Sum.{sum_to};
-ghost use Rattle.pure_payoffs.specs.Steps.{StepFits, IsFirstUnfit};
+ghost use Rattle.frac128.specs.Steps.{StepFits, IsFirstUnfit};
 ghost use Rattle.sequence_forms.specs.Sides.{sequences};
 ghost use Rattle.sequence_data.specs.Data.{IsSideData, side_of};
 ghost use Rattle.sequence_data.specs.Weights.{weight};

@@ -3,7 +3,7 @@ use Rattle.std.proofs.lemmas.List.{length-map}
 use Rattle.answers.specs.Answers.{Gives, only, refused_by}
 use Rattle.answers.proofs.AnswerLemmas.{gives_exit, gives_told_exit}
 use Rattle.game_core.specs.Table.{game_of}
-use Rattle.pure_payoffs.specs.FirstUnfit.{Fits}
+use Rattle.frac128.specs.FirstUnfit.{StepsFit}
 use Rattle.basis_enum.specs.Systems.{variable_count}
 use Rattle.basis_enum.specs.Vertices.{mark_of, marks_of, list_of}
 use Rattle.lex_tableau.specs.Starts.{system_of}
@@ -118,7 +118,7 @@ returns-in_err-seconds-clause-answer g c =
     let all : pairs_in (all_labels (variable_count one)) first.list second.list (Ok pairs) = pairs-as _ _ _ _ _ _ (Ok pairs) labels (ap marks_of c.deref.ensures.value) (ap marks_of c.deref-2.ensures.value) c.in_ok-pairs.ensures in
     let used : c.deref-5.result.now ≡ map (λ p. p.0) pairs = c.deref-5.ensures.value ∙ c.in_ok-first_used.ensures ∙ ap (map (λ p. p.0)) c.deref-3.ensures.value in
     let used' : c.deref-8.result.now ≡ map (λ p. p.1) pairs = c.deref-8.ensures.value ∙ c.in_ok-second_used.ensures ∙ ap (map (λ p. p.1)) c.deref-6.ensures.value in
-    let fit : All (Fits scale_steps) (used_points first.list (occurs (map (λ p. p.0) pairs))) = subst₂ (λ vs ps. All (Fits scale_steps) (used_points (marks_of vs) (occurs ps))) c.deref-4.ensures.value used c.in_ok-firsts.ensures.fit in
+    let fit : All (StepsFit scale_steps) (used_points first.list (occurs (map (λ p. p.0) pairs))) = subst₂ (λ vs ps. All (StepsFit scale_steps) (used_points (marks_of vs) (occurs ps))) c.deref-4.ensures.value used c.in_ok-firsts.ensures.fit in
     let r = c.from_residual-in_err-seconds.result in
     let stop = c.in_err-seconds.field-0.0 in
     up-first (game_of c.args.table.now) one two c.in_ok-one.ensures r pairs_of first second pairs (both-first c.in_ok-one.one c.in_ok-one.two (list_of c.in_ok-first.first) (list_of c.in_ok-first.second) c.in_ok-first.ensures.vertices) (both-second c.in_ok-one.one c.in_ok-one.two (list_of c.in_ok-first.first) (list_of c.in_ok-first.second) c.in_ok-first.ensures.vertices) all fit
@@ -135,8 +135,8 @@ returns-clause-answer g c =
     let all : pairs_in (all_labels (variable_count one)) first.list second.list (Ok pairs) = pairs-as _ _ _ _ _ _ (Ok pairs) labels (ap marks_of c.deref.ensures.value) (ap marks_of c.deref-2.ensures.value) c.in_ok-pairs.ensures in
     let used : c.deref-5.result.now ≡ map (λ p. p.0) pairs = c.deref-5.ensures.value ∙ c.in_ok-first_used.ensures ∙ ap (map (λ p. p.0)) c.deref-3.ensures.value in
     let used' : c.deref-8.result.now ≡ map (λ p. p.1) pairs = c.deref-8.ensures.value ∙ c.in_ok-second_used.ensures ∙ ap (map (λ p. p.1)) c.deref-6.ensures.value in
-    let fit : All (Fits scale_steps) (used_points first.list (occurs (map (λ p. p.0) pairs))) = subst₂ (λ vs ps. All (Fits scale_steps) (used_points (marks_of vs) (occurs ps))) c.deref-4.ensures.value used c.in_ok-firsts.ensures.fit in
-    let fit' : All (Fits scale_steps) (used_points second.list (occurs (map (λ p. p.1) pairs))) = subst₂ (λ vs ps. All (Fits scale_steps) (used_points (marks_of vs) (occurs ps))) c.deref-7.ensures.value used' c.in_ok-seconds.ensures.fit in
+    let fit : All (StepsFit scale_steps) (used_points first.list (occurs (map (λ p. p.0) pairs))) = subst₂ (λ vs ps. All (StepsFit scale_steps) (used_points (marks_of vs) (occurs ps))) c.deref-4.ensures.value used c.in_ok-firsts.ensures.fit in
+    let fit' : All (StepsFit scale_steps) (used_points second.list (occurs (map (λ p. p.1) pairs))) = subst₂ (λ vs ps. All (StepsFit scale_steps) (used_points (marks_of vs) (occurs ps))) c.deref-7.ensures.value used' c.in_ok-seconds.ensures.fit in
     ((one, two), c.in_ok-one.ensures, (first, (both-first c.in_ok-one.one c.in_ok-one.two (list_of c.in_ok-first.first) (list_of c.in_ok-first.second) c.in_ok-first.ensures.vertices), (second, (both-second c.in_ok-one.one c.in_ok-one.two (list_of c.in_ok-first.first) (list_of c.in_ok-first.second) c.in_ok-first.ensures.vertices), (pairs, all, (tt, fit, (tt, fit', refl))))))
 
 pub returns-clause-scaled : goal.returns-clause-scaled

@@ -4,7 +4,7 @@ use Rattle.std.proofs.lemmas.List.{length-map}
 use Rattle.std.proofs.lemmas.List.FromFn.{length-map-range_with_len}
 use Rattle.answers.specs.Answers.{Gives, refused_by}
 use Rattle.answers.proofs.AnswerLemmas.{gives_refused}
-use Rattle.pure_payoffs.specs.FirstUnfit.{Fits}
+use Rattle.frac128.specs.FirstUnfit.{StepsFit}
 use Rattle.basis_enum.specs.Vertices.{mark_of, marks_of}
 use Rattle.label_pairing.specs.Scaling.{scale_steps}
 use Rattle.label_pairing.specs.declared.scaling.ScaleStop.TheVariants as scale_stops
@@ -22,7 +22,7 @@ pub returns-in-Ok-clause-fit : goal.returns-in-Ok-clause-fit
 returns-in-Ok-clause-fit c =
     let vs = c.args.vertices.now in
     let are : c.deref.result.now ≡ map (occurs c.args.places.now) (range_with_len 0 (length (marks_of vs))) = c.deref.ensures.value ∙ c.in_ok-used.ensures ∙ ap (λ n. map (occurs c.args.places.now) (range_with_len 0 n)) (sym (length-map vs mark_of)) in
-    subst (All (Fits scale_steps)) (used-same (marks_of vs) c.args.places.now c.deref.result.now are) c.in-Ok.ensures.fit
+    subst (All (StepsFit scale_steps)) (used-same (marks_of vs) c.args.places.now c.deref.result.now are) c.in-Ok.ensures.fit
 
 pub returns-in-Ok-clause-scaled : goal.returns-in-Ok-clause-scaled
 returns-in-Ok-clause-scaled c =

@@ -4,7 +4,7 @@ use Rattle.std.specs.List.{filter, range_with_len}
 use Rattle.rational.specs.Rational.{ℚ}
 use Rattle.basis_enum.specs.Vertices.{mark_of, marks_of}
 use Rattle.extreme_equilibria.specs.PairLines.{scaled_point}
-use Rattle.pure_payoffs.specs.FirstUnfit.{Fits}
+use Rattle.frac128.specs.FirstUnfit.{StepsFit}
 use Rattle.label_pairing.specs.Pairs.{mark_at}
 use Rattle.label_pairing.specs.Scaling.{IsScalable, scale_steps}
 use Rattle.enummixed.specs.Used.{is_set}
@@ -32,7 +32,7 @@ loop-i-preserved c =
           let push : c.if-used-i.points.items ≡ xs ++ w.in-Ok.point ∷ [] = ap (λ v. v.items) w.points-is ∙ w.in_ok-push-in-Ok.ensures.items in
           let read = point-read vs n w.index-vertices-i.result c.loop-i-test.true w.index-vertices-i.is in
           record {
-            fit = fit-next point used n w.if-used-i.true c.loop-i.invariant.fit (subst (Fits scale_steps) read w.in-Ok.ensures.1);
+            fit = fit-next point used n w.if-used-i.true c.loop-i.invariant.fit (subst (StepsFit scale_steps) read w.in-Ok.ensures.1);
             scaled = scaled-next point used n (map (λ v. v.items) xs) (map (λ v. v.items) c.if-used-i.points.items) w.in-Ok.point.items true w.if-used-i.true c.loop-i.invariant.scaled (ap (map (λ v. v.items)) push ∙ map_push (λ v. v.items) xs w.in-Ok.point) (w.in-Ok.ensures.0 ∙ ap scaled_point read);
           }
       | else-used-i+in_ok-push w ↦
@@ -47,4 +47,4 @@ pub returns-clause-fit : goal.returns-clause-fit
 returns-clause-fit c =
     let vs = marks_of c.args.vertices.now in
     let end : c.loop-i.i ≡ length vs = omega (arith, length-map c.args.vertices.now mark_of) in
-    subst (λ n. All (Fits scale_steps) (map (λ i. (mark_at vs i).point) (filter (is_set c.args.used.now) (range_with_len 0 n)))) end c.loop-i.invariant.fit
+    subst (λ n. All (StepsFit scale_steps) (map (λ i. (mark_at vs i).point) (filter (is_set c.args.used.now) (range_with_len 0 n)))) end c.loop-i.invariant.fit

@@ -3,16 +3,15 @@ use Rattle.std.proofs.lemmas.List.{get_or_default}
 use Rattle.std.proofs.lemmas.List.Elements.{All-append}
 use Rattle.rational.specs.Rational.{◌*ℚ◌, inv_ℚ, zero_ℚ}
 use Rattle.rational.proofs.InverseLemmas.{ne_zero_of_pos}
-use Rattle.frac128.specs.Steps.{DivFits, unfit}
+use Rattle.frac128.specs.Steps.{DivFits, unfit, StepFits}
 use Rattle.frac128.specs.declared.steps.Op.TheVariants.{Div}
 use Rattle.game_theory.specs.Lines.{listed}
 use Rattle.game_theory.proofs.EntryLemmas.{listed-push}
-use Rattle.pure_payoffs.specs.Steps.{StepFits}
-use Rattle.pure_payoffs.proofs.StepRunLemmas.{first_unfit-more, first_unfit-following}
+use Rattle.frac128.proofs.StepRunLemmas.{first_unfit-more, first_unfit-following}
 use Rattle.extreme_equilibria.specs.Polytopes.{scaled}
 use Rattle.extreme_equilibria.proofs.PositiveNumberLemmas.{sum-pos}
 use Rattle.label_pairing.specs.Scaling.{entry_of, division, sum_steps}
-use Rattle.label_pairing.proofs.StepListLemmas.{fits-next, unfit-first, fits-all}
+use Rattle.frac128.proofs.StepListLemmas.{fits-next, unfit-first, fits-all}
 use Rattle.label_pairing.proofs.scaling.scaled.Goals as goal
 
 pub div-requires : goal.div-requires

@@ -1,7 +1,7 @@
 use Rattle.std.proofs.Common.{◌≡◌, All, length, map, take}
 use Rattle.std.specs.List.{range_with_len}
 use Rattle.game_theory.specs.Lines.{listed}
-use Rattle.pure_payoffs.specs.Steps.{StepFits}
+use Rattle.frac128.specs.Steps.{StepFits}
 use Rattle.extreme_equilibria.specs.Polytopes.{scaled}
 use Rattle.label_pairing.specs.Scaling.{entry_of, division}
 use Rattle.label_pairing.proofs.scaling.scaled.Given as goal

@@ -5,7 +5,7 @@ use Rattle.rational.specs.Sum.{sum_to}
 use Rattle.frac128.specs.Steps.{AddFits, unfit}
 use Rattle.frac128.specs.declared.steps.Op.TheVariants.{Add}
 use Rattle.label_pairing.specs.Scaling.{entry_of, addition}
-use Rattle.label_pairing.proofs.StepListLemmas.{fits-next, unfit-first, fits-all}
+use Rattle.frac128.proofs.StepListLemmas.{fits-next, unfit-first, fits-all}
 use Rattle.label_pairing.proofs.scaling.sum.Goals as goal
 use Rattle.std.proofs.Common.{length}
 

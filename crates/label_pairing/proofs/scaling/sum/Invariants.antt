@@ -1,6 +1,6 @@
 use Rattle.std.proofs.Common.{◌≡◌, All, take}
 use Rattle.rational.specs.Sum.{sum_to}
-use Rattle.pure_payoffs.specs.Steps.{StepFits}
+use Rattle.frac128.specs.Steps.{StepFits}
 use Rattle.label_pairing.specs.Scaling.{entry_of, sum_steps}
 use Rattle.label_pairing.proofs.scaling.sum.Given as goal
 

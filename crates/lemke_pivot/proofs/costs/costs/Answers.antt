@@ -1,6 +1,6 @@
 use Rattle.std.proofs.Common.{inr}
 use Rattle.sequence_data.specs.declared.types.Cell.{Cell}
-use Rattle.pure_payoffs.proofs.FirstUnfitLemmas.{made_next}
+use Rattle.frac128.proofs.FirstUnfitLemmas.{made_next}
 use Rattle.lemke_pivot.specs.FormProblems.{cost_one, cost_two, cost_steps}
 use Rattle.lemke_pivot.proofs.CostStepLemmas.{both_fit, unfit_one, unfit_two}
 use Rattle.lemke_pivot.proofs.costs.costs.Goals as goal

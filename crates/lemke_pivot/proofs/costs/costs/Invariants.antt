@@ -1,5 +1,5 @@
 use Rattle.std.proofs.Common.{◌≡◌, All, map, take}
-use Rattle.pure_payoffs.specs.FirstUnfit.{Fits}
+use Rattle.frac128.specs.FirstUnfit.{StepsFit}
 use Rattle.lemke_pivot.specs.FormProblems.{both_costs, cost_one, cost_two, steps_at}
 use Rattle.lemke_pivot.proofs.costs.costs.Given as goal
 
@@ -8,5 +8,5 @@ invariant-loop-cell l =
     record {
       one : l.one.items ≡ map (cost_one l.most_one) (take l.cell-index l.cells);
       two : l.two.items ≡ map (cost_two l.most_two) (take l.cell-index l.cells);
-      fit : All (Fits (steps_at l.most_one l.most_two)) (both_costs (take l.cell-index l.cells));
+      fit : All (StepsFit (steps_at l.most_one l.most_two)) (both_costs (take l.cell-index l.cells));
     }

@@ -4,7 +4,7 @@ use Rattle.std.proofs.lemmas.List.Elements.{All-nil}
 use Rattle.std.proofs.lemmas.Result.{err_from_is_err_and}
 use Rattle.game_core.specs.Table.{game_of, strategy_counts}
 use Rattle.game_core.proofs.TableCountLemmas.{profile_count-table}
-use Rattle.pure_payoffs.specs.Steps.{StepFits, IsFirstUnfit}
+use Rattle.frac128.specs.Steps.{StepFits, IsFirstUnfit}
 use Rattle.behaviour_profile.specs.EntryTests.{mixed_of}
 use Rattle.ne_checker.specs.TableChecks.{steps_at, value_below}
 use Rattle.ne_checker.proofs.TableBlockLemmas.{profile-fits, profile-value, sum-unfit, weight-unfit}

@@ -5,7 +5,7 @@ use Rattle.std.proofs.lemmas.Result.{err_from_is_err_and}
 use Rattle.rational.specs.Rational.{ℚ, ◌≤ℚ◌, ◌<ℚ◌}
 use Rattle.rational.proofs.Field.{le_or_lt, le_refl}
 use Rattle.game_core.specs.Table.{game_of, strategy_counts}
-use Rattle.pure_payoffs.specs.Steps.{StepFits, IsFirstUnfit}
+use Rattle.frac128.specs.Steps.{StepFits, IsFirstUnfit}
 use Rattle.best_replies.specs.Greatest.{IsFirstGreatest}
 use Rattle.best_replies.specs.Strategies.{strategy_value}
 use Rattle.best_replies.proofs.FirstGreatestLemmas.{first_greatest-kept, first_greatest-passed}

@@ -6,8 +6,8 @@ use Rattle.rational.specs.Rational.{◌≤ℚ◌}
 use Rattle.rational.proofs.Field.{le_or_lt}
 use Rattle.game_theory.specs.Mixed.{payoff as payoff_of}
 use Rattle.game_core.specs.Table.{game_of, strategy_counts}
-use Rattle.pure_payoffs.specs.Steps.{StepFits}
-use Rattle.pure_payoffs.proofs.StepRunLemmas.{first_unfit-following}
+use Rattle.frac128.specs.Steps.{StepFits}
+use Rattle.frac128.proofs.StepRunLemmas.{first_unfit-following}
 use Rattle.behaviour_profile.specs.EntryTests.{mixed_of}
 use Rattle.ne_checker.specs.TableChecks.{payoff_steps, value_steps}
 use Rattle.ne_checker.proofs.tables.better_reply.Goals as goal

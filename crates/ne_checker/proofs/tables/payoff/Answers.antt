@@ -4,8 +4,8 @@ use Rattle.std.proofs.lemmas.Result.{err_from_is_err_and}
 use Rattle.rational.specs.Rational.{◌+ℚ◌, ◌*ℚ◌, zero_ℚ}
 use Rattle.game_theory.specs.Mixed.{Mixed}
 use Rattle.game_core.specs.Table.{game_of, strategy_counts}
-use Rattle.pure_payoffs.specs.Steps.{Step, StepFits, IsFirstUnfit}
-use Rattle.pure_payoffs.proofs.FirstUnfitLemmas.{unfit_among}
+use Rattle.frac128.specs.Steps.{Step, StepFits, IsFirstUnfit}
+use Rattle.frac128.proofs.FirstUnfitLemmas.{unfit_among}
 use Rattle.best_replies.specs.Strategies.{strategy_value}
 use Rattle.best_replies.proofs.StrategyLemmas.{payoff-strategies}
 use Rattle.behaviour_profile.specs.EntryTests.{mixed_of}

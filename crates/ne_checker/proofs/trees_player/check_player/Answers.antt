@@ -1,7 +1,7 @@
 use Rattle.std.proofs.lemmas.List.Elements.{All-append}
 use Rattle.std.proofs.lemmas.Result.{err_from_is_err_and}
-use Rattle.pure_payoffs.specs.Steps.{StepFits}
-use Rattle.pure_payoffs.proofs.StepRunLemmas.{first_unfit-more, first_unfit-following}
+use Rattle.frac128.specs.Steps.{StepFits}
+use Rattle.frac128.proofs.StepRunLemmas.{first_unfit-more, first_unfit-following}
 use Rattle.ne_checker.proofs.trees_player.check_player.Goals as goal
 
 pub returns-in_err-payoff : goal.returns-in_err-payoff

@@ -5,7 +5,8 @@ use Rattle.game_theory.proofs.ProfileNumberLemmas.{IsProfile-profile_at}
 use Rattle.game_theory.specs.Behaviour.{payoff, pure}
 use Rattle.game_core.specs.TreeGame.{game_of_tree}
 use Rattle.reduced_strategies.specs.StrategicForm.{completed}
-use Rattle.pure_payoffs.specs.Steps.{StepFits, IsFirstUnfit, payoff_steps}
+use Rattle.frac128.specs.Steps.{StepFits, IsFirstUnfit}
+use Rattle.pure_payoffs.specs.Steps.{payoff_steps}
 use Rattle.reduced_form.specs.Cells.{AreCells}
 use Rattle.reduced_form.proofs.CellRowLemmas.{cells-earlier, cells-push}
 use Rattle.reduced_form.proofs.cells.push_cells.Goals as goal

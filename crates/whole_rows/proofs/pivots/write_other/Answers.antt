@@ -1,6 +1,6 @@
-use Rattle.std.proofs.Common.{◌∙◌, ◌+◌, ap₂, arith, subst, subst₂, sym}
+use Rattle.std.proofs.Common.{◌∙◌, ◌+◌, ap₂, arith, subst, subst₂, sym, All}
 use Rattle.whole_rows.specs.Rows.{from_place}
-use Rattle.whole_rows.specs.Steps.{AllFit, IsFirstUnfit}
+use Rattle.frac128.specs.Steps.{StepFits, IsFirstUnfit}
 use Rattle.whole_rows.specs.Pivots.{own_factor, other_factor, steps_to, place_number}
 use Rattle.whole_rows.proofs.FittingStepLemmas.{read_at, read_back}
 use Rattle.whole_rows.proofs.RowValueLemmas.{pivoted_row, kept_row, lead_is, by_one, own_factor_pos, factors_cross, is_zero, not_zero, steps_are}
@@ -23,7 +23,7 @@ returns-in-Ok-clause-written c =
 
 pub returns-in-Ok-clause-fits : goal.returns-in-Ok-clause-fits
 returns-in-Ok-clause-fits c =
-    subst AllFit (sym (steps_are c.args.size (from_place c.args.numbers.now c.args.own) (from_place c.args.numbers.now c.args.first) c.args.column (not_zero _ c.if-number-eq0.false))) (subst₂ (λ u v. AllFit (steps_to (from_place c.args.numbers.now c.args.own) (from_place c.args.numbers.now c.args.first) c.args.column u v c.args.size)) (read_back c.factors-u.result.0 c.factors-u.ensures.own_fits ∙ c.factors-u.ensures.own ∙ ap₂ own_factor (read_at c.args.numbers.now (c.args.first + c.args.column) c.requires.fit) (read_at c.args.numbers.now (c.args.own + c.args.column) c.requires.fit)) (read_back c.factors-u.result.1 c.factors-u.ensures.other_fits ∙ c.factors-u.ensures.other ∙ ap₂ other_factor (read_at c.args.numbers.now (c.args.first + c.args.column) c.requires.fit) (read_at c.args.numbers.now (c.args.own + c.args.column) c.requires.fit)) c.in-Ok.ensures.fits)
+    subst (All StepFits) (sym (steps_are c.args.size (from_place c.args.numbers.now c.args.own) (from_place c.args.numbers.now c.args.first) c.args.column (not_zero _ c.if-number-eq0.false))) (subst₂ (λ u v. All StepFits (steps_to (from_place c.args.numbers.now c.args.own) (from_place c.args.numbers.now c.args.first) c.args.column u v c.args.size)) (read_back c.factors-u.result.0 c.factors-u.ensures.own_fits ∙ c.factors-u.ensures.own ∙ ap₂ own_factor (read_at c.args.numbers.now (c.args.first + c.args.column) c.requires.fit) (read_at c.args.numbers.now (c.args.own + c.args.column) c.requires.fit)) (read_back c.factors-u.result.1 c.factors-u.ensures.other_fits ∙ c.factors-u.ensures.other ∙ ap₂ other_factor (read_at c.args.numbers.now (c.args.first + c.args.column) c.requires.fit) (read_at c.args.numbers.now (c.args.own + c.args.column) c.requires.fit)) c.in-Ok.ensures.fits)
 
 pub returns-in-Err-clause-unfit : goal.returns-in-Err-clause-unfit
 returns-in-Err-clause-unfit c =

@@ -1,7 +1,7 @@
 use Rattle.std.proofs.Common.{◌*◌, ◌∙◌, subst, sym, arith, rules, inl, inr}
 use Rattle.std.proofs.lemmas.Bool.{cases_eq}
 use Rattle.whole_rows.specs.Rows.{from_place}
-use Rattle.whole_rows.specs.Steps.{IsFirstUnfit}
+use Rattle.frac128.specs.Steps.{IsFirstUnfit}
 use Rattle.whole_rows.specs.Pivots.{pivot_steps}
 use Rattle.whole_rows.specs.PivotedRows.{IsPivotedRow, IsPivotRow}
 use Rattle.whole_rows.proofs.RowFrameLemmas.{row_kept, pivoted_same, pivot_same, rows_fit, unfit_row}

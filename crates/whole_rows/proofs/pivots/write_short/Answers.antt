@@ -1,6 +1,6 @@
-use Rattle.std.proofs.Common.{◌∙◌, ◌+◌, ◌<◌, ap₂, subst, sym}
+use Rattle.std.proofs.Common.{◌∙◌, ◌+◌, ◌<◌, ap₂, subst, sym, All}
 use Rattle.whole_rows.specs.Rows.{from_place}
-use Rattle.whole_rows.specs.Steps.{AllFit}
+use Rattle.frac128.specs.Steps.{StepFits}
 use Rattle.whole_rows.specs.Shorts.{IsShort}
 use Rattle.whole_rows.specs.Pivots.{signed_by, own_factor, other_factor, place_number}
 use Rattle.whole_rows.proofs.FittingStepLemmas.{read_at, read_back}
@@ -20,5 +20,5 @@ returns-clause-written c _ =
 
 pub returns-clause-fits : goal.returns-clause-fits
 returns-clause-fits c _ =
-    subst AllFit (sym (steps_are c.args.size (from_place c.args.numbers.now c.args.own) (from_place c.args.numbers.now c.args.first) c.args.column c.requires.number))
+    subst (All StepFits) (sym (steps_are c.args.size (from_place c.args.numbers.now c.args.own) (from_place c.args.numbers.now c.args.first) c.args.column c.requires.number))
     (short_steps (from_place c.args.numbers.now c.args.own) (from_place c.args.numbers.now c.args.first) c.args.column (own_factor (from_place c.args.numbers.now c.args.first c.args.column) (from_place c.args.numbers.now c.args.own c.args.column)) (other_factor (from_place c.args.numbers.now c.args.first c.args.column) (from_place c.args.numbers.now c.args.own c.args.column)) c.args.size (own_short (from_place c.args.numbers.now c.args.first c.args.column) (from_place c.args.numbers.now c.args.own c.args.column) (subst IsShort (c.in-Some.ensures.0 ∙ read_back c.signed.result c.signed.ensures.fits ∙ c.signed.ensures.value ∙ ap₂ signed_by (read_at c.args.numbers.now (c.args.first + c.args.column) c.requires.fit) (read_at c.args.numbers.now (c.args.first + c.args.column) c.requires.fit)) c.in-Some.ensures.1)) (other_short (from_place c.args.numbers.now c.args.first c.args.column) (from_place c.args.numbers.now c.args.own c.args.column) (subst IsShort (c.in-Some-short_factor.ensures.0 ∙ read_back c.signed-2.result c.signed-2.ensures.fits ∙ c.signed-2.ensures.value ∙ ap₂ signed_by (read_at c.args.numbers.now (c.args.first + c.args.column) c.requires.fit) (read_at c.args.numbers.now (c.args.own + c.args.column) c.requires.fit)) c.in-Some-short_factor.ensures.1)) (c.write_divided.ensures.fits c.if-not-write_divided.false))

@@ -1,8 +1,10 @@
-use Rattle.std.proofs.Common.{◌+◌}
+use Rattle.std.proofs.Common.{◌+◌, ◌*ℤ◌, ◌-ℤ◌}
 use Rattle.std.specs.Int.{w128}
 use Rattle.std.proofs.lemmas.Int.{to_z-of_z}
 use Rattle.whole_rows.specs.Rows.{from_place}
-use Rattle.whole_rows.proofs.FittingStepLemmas.{read_at, read_first, turned_back}
+use Rattle.whole_rows.specs.Steps.{combination_steps}
+use Rattle.whole_rows.specs.Lists.{IsWhereFit}
+use Rattle.whole_rows.proofs.FittingStepLemmas.{of_same, read_at, read_first, turned_back}
 use Rattle.whole_rows.proofs.PlaceStepLemmas.{told_lead, none_column, some_column, told_other}
 use Rattle.whole_rows.proofs.places.number_at.Goals as goal
 
@@ -20,4 +22,5 @@ returns-in-Some c =
 
 pub returns-else-place-column : goal.returns-else-place-column
 returns-else-place-column c =
-    told_other (from_place c.args.numbers.now c.args.own) (from_place c.args.numbers.now c.args.first) c.args.column c.args.u c.args.v c.args.place c.combination.result c.if-place-eq0.false c.if-place-column.false (simp (read_at c.args.numbers.now (c.args.own + c.args.place) c.requires.fit, read_at c.args.numbers.now (c.args.first + c.args.place) c.requires.fit, to_z-of_z w128 c.args.u c.ranges.u, to_z-of_z w128 c.args.v c.ranges.v) at c.combination.ensures)
+    told_other (from_place c.args.numbers.now c.args.own) (from_place c.args.numbers.now c.args.first) c.args.column c.args.u c.args.v c.args.place c.combination.result c.if-place-eq0.false c.if-place-column.false
+    (of_same (λ a u b v. IsWhereFit (combination_steps a u b v) ((a *ℤ u) -ℤ (b *ℤ v)) c.combination.result) _ _ _ _ _ _ _ _ (read_at c.args.numbers.now (c.args.own + c.args.place) c.requires.fit) (to_z-of_z w128 c.args.u c.ranges.u) (read_at c.args.numbers.now (c.args.first + c.args.place) c.requires.fit) (to_z-of_z w128 c.args.v c.ranges.v) c.combination.ensures)

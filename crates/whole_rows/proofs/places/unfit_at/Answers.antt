@@ -1,6 +1,8 @@
-use Rattle.std.proofs.Common.{◌+◌}
+use Rattle.std.proofs.Common.{◌+◌, All}
+use Rattle.frac128.specs.Steps.{StepFits}
 use Rattle.whole_rows.specs.Rows.{from_place}
-use Rattle.whole_rows.proofs.FittingStepLemmas.{read_at, read_first, read_back}
+use Rattle.whole_rows.specs.Steps.{combination_steps}
+use Rattle.whole_rows.proofs.FittingStepLemmas.{of_same, read_at, read_first, read_back}
 use Rattle.whole_rows.proofs.PlaceStepLemmas.{first_lead, first_column, first_other, unfit_other}
 use Rattle.whole_rows.proofs.places.unfit_at.Goals as goal
 
@@ -17,5 +19,6 @@ returns-else-place-column c =
     first_other (from_place c.args.numbers.now c.args.own) (from_place c.args.numbers.now c.args.first) c.args.column c.args.u c.args.v c.args.place c.unfit_combination.result c.if-place-eq0.false c.if-place-column.false (simp (read_at c.args.numbers.now (c.args.own + c.args.place) c.requires.fit, read_at c.args.numbers.now (c.args.first + c.args.place) c.requires.fit, read_back c.args.u c.requires.own_factor, read_back c.args.v c.requires.other_factor) at c.unfit_combination.ensures)
 
 pub unfit_combination-requires-clause-unfit : goal.unfit_combination-requires-clause-unfit
-unfit_combination-requires-clause-unfit c =
-    simp (read_at c.args.numbers.now (c.args.own + c.args.place) c.requires.fit, read_at c.args.numbers.now (c.args.first + c.args.place) c.requires.fit, read_back c.args.u c.requires.own_factor, read_back c.args.v c.requires.other_factor) (unfit_other (from_place c.args.numbers.now c.args.own) (from_place c.args.numbers.now c.args.first) c.args.column c.args.u c.args.v c.args.place c.if-place-eq0.false c.if-place-column.false c.requires.unfit)
+unfit_combination-requires-clause-unfit c f =
+    unfit_other (from_place c.args.numbers.now c.args.own) (from_place c.args.numbers.now c.args.first) c.args.column c.args.u c.args.v c.args.place c.if-place-eq0.false c.if-place-column.false c.requires.unfit
+    (of_same (λ a u b v. All StepFits (combination_steps a u b v)) _ _ _ _ _ _ _ _ (read_at c.args.numbers.now (c.args.own + c.args.place) c.requires.fit) (read_back c.args.u c.requires.own_factor) (read_at c.args.numbers.now (c.args.first + c.args.place) c.requires.fit) (read_back c.args.v c.requires.other_factor) f)

@@ -1,9 +1,9 @@
-use Rattle.std.proofs.Common.{◌≡◌, length, subst₂, to_z, of_z, arith}
+use Rattle.std.proofs.Common.{◌≡◌, length, subst₂, to_z, of_z, arith, All}
 use Rattle.std.specs.Int.{w128}
 use Rattle.std.proofs.lemmas.Int.{to_z-of_z}
 use Rattle.frac128.specs.Fraction.{PartFits}
 use Rattle.whole_rows.specs.Rows.{from_place}
-use Rattle.whole_rows.specs.Steps.{AllFit, IsFirstUnfit}
+use Rattle.frac128.specs.Steps.{StepFits, IsFirstUnfit}
 use Rattle.whole_rows.specs.Pivots.{place_number, steps_to, place_steps}
 use Rattle.whole_rows.proofs.RowWriteLemmas.{kept_outside, written_next, written_there, steps_next, unfit_in_row}
 use Rattle.whole_rows.proofs.rows.write_combination.Goals as goal
@@ -11,7 +11,7 @@ use Rattle.whole_rows.proofs.rows.write_combination.Goals as goal
 pub returns-in_default-clause-unfit : goal.returns-in_default-clause-unfit
 returns-in_default-clause-unfit c =
     unfit_in_row (from_place c.args.numbers.now c.args.own) (from_place c.args.numbers.now c.args.first) c.args.column c.args.u c.args.v c.loop-place.place c.args.size c.unfit_at.result c.loop-place-test.true
-    (subst₂ (λ u v. AllFit (steps_to (from_place c.args.numbers.now c.args.own) (from_place c.args.numbers.now c.args.first) c.args.column u v c.loop-place.place)) (to_z-of_z w128 c.args.u c.ranges.u) (to_z-of_z w128 c.args.v c.ranges.v) c.loop-place.invariant.fits)
+    (subst₂ (λ u v. All StepFits (steps_to (from_place c.args.numbers.now c.args.own) (from_place c.args.numbers.now c.args.first) c.args.column u v c.loop-place.place)) (to_z-of_z w128 c.args.u c.ranges.u) (to_z-of_z w128 c.args.v c.ranges.v) c.loop-place.invariant.fits)
     (subst₂ (λ u v. IsFirstUnfit (place_steps (from_place c.args.numbers.now c.args.own) (from_place c.args.numbers.now c.args.first) c.args.column u v c.loop-place.place) c.unfit_at.result) (to_z-of_z w128 c.args.u c.ranges.u) (to_z-of_z w128 c.args.v c.ranges.v) c.unfit_at.ensures)
 
 pub loop-place-preserved : goal.loop-place-preserved

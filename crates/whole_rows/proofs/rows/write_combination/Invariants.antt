@@ -1,9 +1,9 @@
-use Rattle.std.proofs.Common.{◌≡◌, ℕ, ◌<◌, ◌≤◌, ◌+◌, ◌⊎◌, pos, get_or}
+use Rattle.std.proofs.Common.{◌≡◌, ℕ, ◌<◌, ◌≤◌, ◌+◌, ◌⊎◌, pos, get_or, All}
 use Rattle.frac128.specs.Fraction.{PartFits}
 use Rattle.whole_rows.specs.Rows.{from_place}
-use Rattle.whole_rows.specs.Steps.{AllFit}
+use Rattle.frac128.specs.Steps.{StepFits}
 use Rattle.whole_rows.specs.Pivots.{steps_to, place_number}
 use Rattle.whole_rows.proofs.rows.write_combination.Given as goal
 
 abbrev pub invariant-loop-place : goal.invariant-loop-place
-invariant-loop-place l = record { kept : (k : ℕ) → (k < l.own) ⊎ (l.own + l.place ≤ k) → get_or l.spare k (pos 0) ≡ get_or l.initial.spare k (pos 0); written : (p : ℕ) → p < l.place → (from_place l.spare l.own p ≡ place_number (from_place l.numbers l.own) (from_place l.numbers l.first) l.column l.u l.v p) × PartFits (from_place l.spare l.own p); fits : AllFit (steps_to (from_place l.numbers l.own) (from_place l.numbers l.first) l.column l.u l.v l.place) }
+invariant-loop-place l = record { kept : (k : ℕ) → (k < l.own) ⊎ (l.own + l.place ≤ k) → get_or l.spare k (pos 0) ≡ get_or l.initial.spare k (pos 0); written : (p : ℕ) → p < l.place → (from_place l.spare l.own p ≡ place_number (from_place l.numbers l.own) (from_place l.numbers l.first) l.column l.u l.v p) × PartFits (from_place l.spare l.own p); fits : All StepFits (steps_to (from_place l.numbers l.own) (from_place l.numbers l.first) l.column l.u l.v l.place) }

@@ -1,7 +1,7 @@
-use Rattle.std.proofs.Common.{◌*◌, ◌+◌, subst, sym, arith, inl, inr}
+use Rattle.std.proofs.Common.{◌*◌, ◌+◌, subst, sym, arith, inl, inr, All}
 use Rattle.std.proofs.lemmas.Bool.{cases_eq}
 use Rattle.whole_rows.specs.Rows.{from_place}
-use Rattle.whole_rows.specs.Steps.{AllFit}
+use Rattle.frac128.specs.Steps.{StepFits}
 use Rattle.whole_rows.specs.StartRows.{cells_from, start_row_steps, IsStartRow}
 use Rattle.whole_rows.proofs.RowFrameLemmas.{row_kept}
 use Rattle.whole_rows.proofs.StartRowLemmas.{start_same}
@@ -15,7 +15,7 @@ loop-i-preserved c =
         | inr n ↦ start_same c.args.count (cells_from c.args.cells.now (j * c.args.count)) (from_place c.loop-i.numbers (j * (c.args.count + 1))) (from_place c.write_start_row.new.numbers (j * (c.args.count + 1))) (row_kept c.loop-i.i j (c.args.count + 1) c.loop-i.numbers c.write_start_row.new.numbers n c.write_start_row.ensures.kept) (c.loop-i.invariant.written j (omega arith))
       ];
       fits = λ j h. elim (cases_eq j c.loop-i.i) [
-        | inl e ↦ subst (λ j. AllFit (start_row_steps c.args.count (cells_from c.args.cells.now (j * c.args.count)))) (sym e) c.in-Ok.ensures.fits
+        | inl e ↦ subst (λ j. All StepFits (start_row_steps c.args.count (cells_from c.args.cells.now (j * c.args.count)))) (sym e) c.in-Ok.ensures.fits
         | inr n ↦ c.loop-i.invariant.fits j (omega arith)
       ];
     }

@@ -1,7 +1,7 @@
 use Rattle.std.proofs.Common.{arith, ◌+◌, ◌∙◌, refl}
 use Rattle.std.proofs.lemmas.List.Elements.{All-nil}
 use Rattle.std.proofs.lemmas.Result.{err_from_is_err_and}
-use Rattle.pure_payoffs.specs.Steps.{StepFits}
+use Rattle.frac128.specs.Steps.{StepFits}
 use Rattle.sequence_data.specs.Weights.{weight}
 use Rattle.zero_sum_lp.specs.PlanLists.{weights_from}
 use Rattle.zero_sum_lp.proofs.CutListLemmas.{left_next, share_fails, share_fits, share_next}

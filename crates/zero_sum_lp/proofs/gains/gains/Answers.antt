@@ -1,5 +1,5 @@
 use Rattle.std.proofs.Common.{inr, refl}
-use Rattle.pure_payoffs.proofs.FirstUnfitLemmas.{fits_next, first_unfit_here, made_next}
+use Rattle.frac128.proofs.FirstUnfitLemmas.{fits_next, first_unfit_here, made_next}
 use Rattle.zero_sum_lp.specs.FormPrograms.{gain_at, gain_steps}
 use Rattle.zero_sum_lp.proofs.gains.gains.Goals as goal
 

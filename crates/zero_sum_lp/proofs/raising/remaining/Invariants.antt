@@ -1,7 +1,7 @@
 use Rattle.std.proofs.Common.{All, ◌≡◌}
 use Rattle.rational.specs.Rational.{◌-ℚ◌}
 use Rattle.rational.specs.Sum.{sum_to}
-use Rattle.pure_payoffs.specs.Steps.{StepFits}
+use Rattle.frac128.specs.Steps.{StepFits}
 use Rattle.sequence_data.specs.Weights.{weight}
 use Rattle.zero_sum_lp.specs.PlanLists.{weights_from}
 use Rattle.zero_sum_lp.specs.PlanSteps.{rest_steps}

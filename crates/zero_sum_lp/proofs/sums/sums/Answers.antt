@@ -1,9 +1,8 @@
 use Rattle.std.proofs.Common.{[], inr, refl, subst, sym}
-use Rattle.frac128.specs.Steps.{unfit}
+use Rattle.frac128.specs.Steps.{unfit, IsFirstUnfit}
 use Rattle.frac128.specs.declared.steps.Op.TheVariants.{Add}
-use Rattle.pure_payoffs.specs.Steps.{IsFirstUnfit}
-use Rattle.pure_payoffs.proofs.StepRunLemmas.{first_unfit-here, one-fits}
-use Rattle.pure_payoffs.proofs.FirstUnfitLemmas.{fits_next, first_unfit_here, made_next}
+use Rattle.frac128.proofs.StepRunLemmas.{first_unfit-here, one-fits}
+use Rattle.frac128.proofs.FirstUnfitLemmas.{fits_next, first_unfit_here, made_next}
 use Rattle.zero_sum_lp.specs.FormPrograms.{sum_at, sum_steps}
 use Rattle.zero_sum_lp.proofs.sums.sums.Goals as goal
 

@@ -3,7 +3,7 @@ use Rattle.std.proofs.Math.Seq.{take-append_seam}
 use Rattle.std.specs.Prelude.{MatchResult}
 use Rattle.game_theory.specs.Behaviour.{payoff}
 use Rattle.best_replies.specs.Replies.{reply_value}
-use Rattle.pure_payoffs.specs.Steps.{StepFits, IsFirstUnfit}
+use Rattle.frac128.specs.Steps.{StepFits, IsFirstUnfit}
 use Rattle.ne_checker.specs.TreeSides.{AreChosen}
 use Rattle.ne_checker.specs.TreeSteps.{player_steps}
 use Rattle.game_core.specs.TreeGame.{game_of_tree}

@@ -3,7 +3,8 @@ use Rattle.game_theory.specs.Children.{child}
 use Rattle.rational.specs.Rational.{◌*ℚ◌}
 use Rattle.rational.specs.Sum.{sum_to}
 use Rattle.game_theory.specs.Behaviour.{Behaviour, action_probability, value}
-use Rattle.pure_payoffs.specs.Steps.{StepFits, chance_steps}
+use Rattle.frac128.specs.Steps.{StepFits}
+use Rattle.pure_payoffs.specs.Steps.{chance_steps}
 use Rattle.ne_checker.specs.TreeBoards.{Reads, game_of}
 use Rattle.ne_checker.specs.TreeSteps.{now_steps_at}
 use Rattle.ne_checker.proofs.trees_board.Board.+values.Given as goal

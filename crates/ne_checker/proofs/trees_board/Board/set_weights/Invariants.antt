@@ -1,7 +1,7 @@
 use Rattle.std.proofs.Common.{◌≡◌, All, length}
 use Rattle.std.specs.List.{flat_map, range_with_len}
 use Rattle.game_theory.specs.Behaviour.{Behaviour}
-use Rattle.pure_payoffs.specs.Steps.{StepFits}
+use Rattle.frac128.specs.Steps.{StepFits}
 use Rattle.ne_checker.specs.TreeBoards.{Reads, game_of}
 use Rattle.ne_checker.specs.TreeSteps.{weight_step}
 use Rattle.ne_checker.specs.TreeWeights.{AreWeights}

@@ -2,7 +2,7 @@ use Rattle.std.proofs.Common.{◌≡◌, ◌+◌, ◌-◌, ◌*◌, ℕ, All, le
 use Rattle.rational.specs.Sum.{sum_to}
 use Rattle.game_theory.specs.Behaviour.{Behaviour}
 use Rattle.game_theory.specs.Children.{child}
-use Rattle.pure_payoffs.specs.Steps.{StepFits}
+use Rattle.frac128.specs.Steps.{StepFits}
 use Rattle.ne_checker.specs.TreeSides.{AreDecided, OwnSetsFrom, game_at}
 use Rattle.ne_checker.specs.TreeSteps.{child_value, reply_steps, sum_steps}
 use Rattle.ne_checker.proofs.trees_side.Side.+values.Given as goal

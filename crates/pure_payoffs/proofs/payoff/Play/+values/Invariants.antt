@@ -5,7 +5,8 @@ use Rattle.rational.specs.Sum.{sum_to}
 use Rattle.game_theory.specs.Behaviour.{pure, value}
 use Rattle.pure_payoffs.specs.Plays.{choice_of, game_of, steps_at}
 use Rattle.pure_payoffs.specs.Shortcuts.{KeepShortcuts}
-use Rattle.pure_payoffs.specs.Steps.{StepFits, chance_steps}
+use Rattle.frac128.specs.Steps.{StepFits}
+use Rattle.pure_payoffs.specs.Steps.{chance_steps}
 use Rattle.pure_payoffs.proofs.payoff.Play.+values.Given as goal
 
 -- five times the number of nodes from this one on, and more for each call at the node

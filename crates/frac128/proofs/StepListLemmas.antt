@@ -4,8 +4,8 @@ use Rattle.std.specs.List.{range_with_len}
 use Rattle.std.proofs.lemmas.List.{take_all}
 use Rattle.std.proofs.lemmas.List.Elements.{All-more}
 use Rattle.std.proofs.lemmas.List.FromFn.{length-map-range_with_len, get_or-map-range_with_len}
-use Rattle.pure_payoffs.specs.Steps.{Step, StepFits, IsFirstUnfit}
-use Rattle.pure_payoffs.proofs.FirstUnfitLemmas.{split_here}
+use Rattle.frac128.specs.Steps.{Step, StepFits, IsFirstUnfit}
+use Rattle.frac128.proofs.FirstUnfitLemmas.{split_here}
 
 module _ (step : ℕ → Step) (n i : ℕ) (l : i < n) where
   within : i < length (map step (range_with_len 0 n))

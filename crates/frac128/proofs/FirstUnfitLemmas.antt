@@ -4,9 +4,9 @@ use Rattle.std.proofs.Math.Seq.{take-suc}
 use Rattle.std.proofs.lemmas.List.{take-append-drop, map-append}
 use Rattle.std.proofs.lemmas.List.Elements.{All-nil, All-cons, All-append}
 use Rattle.answers.specs.Answers.{IsSingle}
-use Rattle.pure_payoffs.specs.Steps.{Step, StepFits, IsFirstUnfit}
-use Rattle.pure_payoffs.proofs.StepRunLemmas.{first_unfit-more}
-use Rattle.pure_payoffs.specs.FirstUnfit.{Fits, IsFirstUnfitOf, all_fit}
+use Rattle.frac128.specs.Steps.{Step, StepFits, IsFirstUnfit}
+use Rattle.frac128.proofs.StepRunLemmas.{first_unfit-more}
+use Rattle.frac128.specs.FirstUnfit.{StepsFit, IsFirstUnfitOf, all_fit}
 
 -- what holds of all holds of each
 pub front_has : {X : Type 0} (P : X → Type 0) (before after : List X) (x : X) → All P (before ++ x ∷ after) → P x
@@ -51,14 +51,14 @@ same_stop steps xs x y one other h g = (same, unfit_begins (steps x) [] one othe
   where
     same : x ≡ y
     same =
-        front_one (Fits steps) h.before g.before h.after g.after x y (sym h.is_there ∙ g.is_there) h.earlier_fit g.earlier_fit
+        front_one (StepsFit steps) h.before g.before h.after g.after x y (sym h.is_there ∙ g.is_there) h.earlier_fit g.earlier_fit
         (λ fit. unfit_excludes (steps x) [] one h.first_unfit (subst (All StepFits) (sym (append_none (steps x))) fit))
         (λ fit. unfit_excludes (steps y) [] other g.first_unfit (subst (All StepFits) (sym (append_none (steps y))) fit))
 
 -- there is none where the steps of all fit
-pub no_stop : {X : Type 0} (steps : X → List Step) (xs : List X) (x : X) (one : Step) → IsFirstUnfitOf steps xs x one → All (Fits steps) xs → ⊥
+pub no_stop : {X : Type 0} (steps : X → List Step) (xs : List X) (x : X) (one : Step) → IsFirstUnfitOf steps xs x one → All (StepsFit steps) xs → ⊥
 no_stop steps xs x one h fit =
-    unfit_excludes (steps x) [] one h.first_unfit (subst (All StepFits) (sym (append_none (steps x))) (front_has (Fits steps) h.before h.after x (subst (All (Fits steps)) h.is_there fit)))
+    unfit_excludes (steps x) [] one h.first_unfit (subst (All StepFits) (sym (append_none (steps x))) (front_has (StepsFit steps) h.before h.after x (subst (All (StepsFit steps)) h.is_there fit)))
 
 pub all_fit-single : {X : Type 0} (steps : X → List Step) (xs : List X) → IsSingle (all_fit steps xs)
 all_fit-single steps xs (Ok _) (Ok _) h g = refl
@@ -76,11 +76,11 @@ module _ {X : Type 0} (steps : X → List Step) (xs : List X) (k : ℕ) (x : X) 
   pub split_here : xs ≡ take k xs ++ x ∷ drop (suc k) xs
   split_here = sym (take-append-drop (suc k) xs) ∙ ap (λ t. t ++ drop (suc k) xs) taken ∙ append_assoc (take k xs) (x ∷ []) (drop (suc k) xs)
 
-  pub fits_next : All (Fits steps) (take k xs) → Fits steps x → All (Fits steps) (take (k + 1) xs)
+  pub fits_next : All (StepsFit steps) (take k xs) → StepsFit steps x → All (StepsFit steps) (take (k + 1) xs)
   fits_next h f =
-      subst (λ n. All (Fits steps) (take n xs)) (sym (add-one k)) (subst (All (Fits steps)) (sym taken) (All-append (Fits steps) (take k xs) (x ∷ []) h (All-cons (Fits steps) x [] f (All-nil (Fits steps)))))
+      subst (λ n. All (StepsFit steps) (take n xs)) (sym (add-one k)) (subst (All (StepsFit steps)) (sym taken) (All-append (StepsFit steps) (take k xs) (x ∷ []) h (All-cons (StepsFit steps) x [] f (All-nil (StepsFit steps)))))
 
-  pub first_unfit_here : (step : Step) → All (Fits steps) (take k xs) → IsFirstUnfit (steps x) step → IsFirstUnfitOf steps xs x step
+  pub first_unfit_here : (step : Step) → All (StepsFit steps) (take k xs) → IsFirstUnfit (steps x) step → IsFirstUnfitOf steps xs x step
   first_unfit_here step h f = record { before = take k xs; after = drop (suc k) xs; is_there = split_here; earlier_fit = h; first_unfit = f }
 
   -- and what is made of each
