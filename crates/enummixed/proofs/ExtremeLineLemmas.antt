@@ -28,8 +28,8 @@ use Rattle.extreme_equilibria.specs.PairLines.{scaled_point, HaveAllLabels, pair
 use Rattle.extreme_equilibria.proofs.MappedListLemmas.{from-map, into-map}
 use Rattle.extreme_equilibria.proofs.PairLineLemmas.{pair_lines_are_extreme_equilibria, listed_vertices_scale_differently}
 use Rattle.lex_tableau.specs.Starts.{Parts, system_of}
-use Rattle.reply_polytope.specs.Polytopes.{ArePolytopes}
 use Rattle.reply_polytope.proofs.EnumerableLemmas.{first_count, second_count}
+use Rattle.reply_polytope.proofs.PolytopeLemmas.{ArePolytopesOf}
 use Rattle.basis_enum.specs.Systems.{variable_count}
 use Rattle.label_pairing.specs.Laws.{IsPair}
 use Rattle.label_pairing.specs.Pairs.{mark_at, are_together, all_pairs}
@@ -65,7 +65,7 @@ split (x ∷ a) b [] d e f = absurd (omega arith)
 split (x ∷ a) b (y ∷ c) d e f = let r = split a b c d (omega arith) (cc) in (ap₂ (λ x a. x ∷ a) (cc) r.0, r.1)
 
 -- ---- the least payoff is below each
-module _ (g : Game) (one two : Parts) (p : ArePolytopes g one two) where
+module _ (g : Game) (one two : Parts) (p : ArePolytopesOf g one two) where
   number-below : (i j : ℕ) → i < p.m → j < p.n → number_of g.strategies (i ∷ j ∷ []) < profile_count g.strategies
   number-below i j h l =
       subst (λ ns. number_of ns (i ∷ j ∷ []) < profile_count ns) (sym p.strategies) (number_of-below (p.m ∷ p.n ∷ []) (i ∷ j ∷ []) (h, (l, tt)))
@@ -223,7 +223,7 @@ pub record ArePointsOf (m n : ℕ) (firsts seconds : List (List ℚ)) (q : ℕ �
   pub second : length (get_or seconds q.1 []) ≡ n
 
 -- of the two systems of a game
-module _ (g : Game) (one two : Parts) (p : ArePolytopes g one two) (first second : List MarkedPoint)
+module _ (g : Game) (one two : Parts) (p : ArePolytopesOf g one two) (first second : List MarkedPoint)
     (hf : AreVertices (variable_count one) (system_of one) first) (hs : AreVertices (variable_count two) (system_of two) second) where
   abbrev t : Tableau
   t = first_system p.m p.n (shifted (shift_of p.least') (pays_against g 1))

@@ -64,12 +64,13 @@ module _ (g h : Game) (first second : List ℕ) (m n : ℕ) (are : g.strategies 
       subst (λ e. firsts ≡ scaled_used e.first.list (occurs (map (λ p. p.0) e.pairs)) → seconds ≡ scaled_used e.second.list (occurs (map (λ p. p.1) e.pairs)) → IsPermutation e.pairs sorted → IsSortedBy (λ p q. is_lt (pair_order firsts seconds p q)) sorted → IsExtremeEquilibriaText g (lines_text (map (line_of wide wide') sorted)))
       (sym (parts_same _ _ x.2.2.2.2.2.2))
       (λ f s permuted ordered.
-      let lengths = two-same x.1.m x.1.n (length first) (length second) h.strategies x.1.strategies cells.strategies in
+      let p = polytopes_of h x.0.0 x.0.1 x.1 in
+      let lengths = two-same p.m p.n (length first) (length second) h.strategies p.strategies cells.strategies in
       record {
         lines = map (line_of wide wide') sorted;
         are_extreme_equilibria = wide-lines sorted
-            (λ q c. subst (λ a. ArePointsOf a (length second) firsts seconds q) lengths.0 (subst (λ b. ArePointsOf x.1.m b firsts seconds q) lengths.1
-            (point-lengths h x.0.0 x.0.1 x.1 x.2.0.list x.2.2.0.list x.2.1.list x.2.2.1.list firsts seconds x.2.2.2.0 x.2.2.2.1.0 f s q (Contains-permutation sorted x.2.2.2.0 q (IsPermutation-sym x.2.2.2.0 sorted permuted) c))))
-            (extreme-lines h x.0.0 x.0.1 x.1 x.2.0.list x.2.2.0.list x.2.1.list x.2.2.1.list firsts seconds x.2.2.2.0 sorted x.2.2.2.1.0 f s permuted ordered);
+            (λ q c. subst (λ a. ArePointsOf a (length second) firsts seconds q) lengths.0 (subst (λ b. ArePointsOf p.m b firsts seconds q) lengths.1
+            (point-lengths h x.0.0 x.0.1 p x.2.0.list x.2.2.0.list x.2.1.list x.2.2.1.list firsts seconds x.2.2.2.0 x.2.2.2.1.0 f s q (Contains-permutation sorted x.2.2.2.0 q (IsPermutation-sym x.2.2.2.0 sorted permuted) c))))
+            (extreme-lines h x.0.0 x.0.1 p x.2.0.list x.2.2.0.list x.2.1.list x.2.2.1.list firsts seconds x.2.2.2.0 sorted x.2.2.2.1.0 f s permuted ordered);
         is_text = refl;
       })

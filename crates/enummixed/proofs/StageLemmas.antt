@@ -8,9 +8,9 @@ use Rattle.answers.proofs.AnswerLemmas.{gives_bind_as, gives_refused}
 use Rattle.game_theory.specs.Profiles.{Game}
 use Rattle.linear_systems.specs.Vertices.{MarkedPoint}
 use Rattle.lex_tableau.specs.Starts.{Parts}
-use Rattle.reply_polytope.specs.Polytopes.{ArePolytopes}
 use Rattle.reply_polytope.specs.Stops.{polytopes_in}
 use Rattle.reply_polytope.proofs.EnumerableLemmas.{first_enumerable, second_enumerable}
+use Rattle.reply_polytope.proofs.PolytopeLemmas.{polytopes_of}
 use Rattle.basis_enum.specs.Systems.{variable_count, IsEnumerable}
 use Rattle.basis_enum.specs.Vertices.{VertexList}
 use Rattle.basis_enum.specs.Enumeration.{vertices_in}
@@ -27,11 +27,11 @@ use Rattle.enummixed.specs.declared.stop.MixedStop.{MixedStop}
 use Rattle.enummixed.specs.declared.stop.MixedStop.TheVariants as stops
 
 -- what an enumeration asks of both systems
-pub one-enumerable : (game : Game) (one two : Parts) → ArePolytopes game one two → IsEnumerable one
-one-enumerable game one two p = let e = first_enumerable game one two p in record { rated = e.0; few = e.1; numbered = e.2; right = e.3 }
+pub one-enumerable : (game : Game) (one two : Parts) → polytopes_in game (Ok (one, two)) → IsEnumerable one
+one-enumerable game one two p = let e = first_enumerable game one two (polytopes_of game one two p) in record { rated = e.0; few = e.1; numbered = e.2; right = e.3 }
 
-pub two-enumerable : (game : Game) (one two : Parts) → ArePolytopes game one two → IsEnumerable two
-two-enumerable game one two p = let e = second_enumerable game one two p in record { rated = e.0; few = e.1; numbered = e.2; right = e.3 }
+pub two-enumerable : (game : Game) (one two : Parts) → polytopes_in game (Ok (one, two)) → IsEnumerable two
+two-enumerable game one two p = let e = second_enumerable game one two (polytopes_of game one two p) in record { rated = e.0; few = e.1; numbered = e.2; right = e.3 }
 
 -- the places of pairs are those of the lists
 pub first-places-in : (all : List ℕ) (first second : List MarkedPoint) (pairs : List (ℕ × ℕ)) → pairs ≡ all_pairs all first second → All (λ i. i < length first) (map (λ p. p.0) pairs)
@@ -104,7 +104,7 @@ both-exit one two stop (Ok x) view g e = elim e [ ]
 both-exit one two stop (Err q) view g e =
     subst (λ s. Gives stops.Memory (after-systems (one, two)) (Err s)) (sym e) (both-refusal one two stop g)
 
-module _ {X : Type 0} (game : Game) (one two : Parts) (p : ArePolytopes game one two) (r : Result X MixedStop) (view : X → VertexPairs) where
+module _ {X : Type 0} (game : Game) (one two : Parts) (p : polytopes_in game (Ok (one, two))) (r : Result X MixedStop) (view : X → VertexPairs) where
   pub up-systems : Gives stops.Memory (after-systems (one, two)) (map_ok r view) → Gives stops.Memory (extreme_pairs game) (map_ok r view)
   up-systems h = gives_bind_as stops.Memory (refused_by polytopes_stop (polytopes_in game)) after-systems (one, two) r view p h
 

@@ -18,6 +18,7 @@ use Rattle.enumpure.specs.declared.listing.ListStop.TheVariants as list_stop
 use Rattle.reply_polytope.specs.Stops.{polytopes_in}
 use Rattle.reply_polytope.specs.declared.stop.PolyStop.{PolyStop}
 use Rattle.reply_polytope.specs.declared.stop.PolyStop.TheVariants as poly_stop
+use Rattle.reply_polytope.proofs.PolytopeLemmas.{polytopes_not_memory}
 use Rattle.basis_enum.specs.Enumeration.{vertices_in}
 use Rattle.basis_enum.specs.declared.stop.EnumStop.{EnumStop}
 use Rattle.basis_enum.specs.declared.stop.EnumStop.TheVariants as enum_stop
@@ -42,7 +43,7 @@ polytopes-reasons : (g : TableGame) (stop : PolyStop) → polytopes_in g (Err st
 polytopes-reasons g (poly_stop.NotTwoPlayers count) h = refl
 polytopes-reasons g (poly_stop.TooLarge limit) h = refl
 polytopes-reasons g (poly_stop.Range player profile step) h = refl
-polytopes-reasons g poly_stop.Memory h = absurd h
+polytopes-reasons g poly_stop.Memory h = absurd (polytopes_not_memory g h)
 
 vertices-reasons : (polytope : ℕ) (s : Parts) (stop : EnumStop) → vertices_in s (Err stop) → origin (mixed_refusal (enumeration_stop polytope stop)) ≡ Contents
 vertices-reasons polytope s (enum_stop.Start row step) h = refl

@@ -13,7 +13,8 @@ use Rattle.extreme_equilibria.specs.Bimatrix.{shifted, shift_of}
 use Rattle.extreme_equilibria.specs.Systems.{first_system, second_system}
 use Rattle.extreme_equilibria.proofs.SystemLemmas.{first_variables, second_variables}
 use Rattle.lex_tableau.specs.Starts.{Parts, system_of}
-use Rattle.reply_polytope.specs.Polytopes.{IsRatedSystem, ArePolytopes}
+use Rattle.reply_polytope.specs.Polytopes.{IsRatedSystem}
+use Rattle.reply_polytope.proofs.PolytopeLemmas.{ArePolytopesOf}
 
 -- how many variables a system has
 abbrev pub variables : Parts → ℕ
@@ -54,7 +55,7 @@ second_numbered m n a v = (to, from_one (IsVariableOf (second_system m n a)) (m 
     to (in_row i l e) = (omega (arith, e), omega (arith, l, e))
     to (in_column j l e) = (omega (arith, e), omega (arith, l, e))
 
-module _ (g : Game) (one two : Parts) (h : ArePolytopes g one two) where
+module _ (g : Game) (one two : Parts) (h : ArePolytopesOf g one two) where
   abbrev c : ℕ → ℕ → ℚ
   c = shifted (shift_of h.least') (pays_against g 1)
 

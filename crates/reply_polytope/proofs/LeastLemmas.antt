@@ -1,10 +1,8 @@
--- The least of payoffs, and the sums, one payoff at a time.
-use Rattle.std.proofs.Common.{ℕ, ◌+◌, ◌<◌, ◌≡◌, List, [], ◌∷◌, ◌++◌, length, get_or, subst, ◌∙◌, arith}
+-- The least of payoffs, one payoff at a time.
+use Rattle.std.proofs.Common.{ℕ, ◌+◌, ◌≡◌, subst, arith}
 use borrow.Author.Count.{below_more}
-use Rattle.std.proofs.lemmas.List.{get_or_append_left, get_or_push}
-use Rattle.rational.specs.Rational.{ℚ, ◌+ℚ◌, ◌≤ℚ◌, ◌<ℚ◌, zero_ℚ}
+use Rattle.rational.specs.Rational.{ℚ, ◌≤ℚ◌, ◌<ℚ◌}
 use Rattle.rational.proofs.Field.{le_refl, le_trans, le_of_lt, le_of_not_lt}
-use Rattle.frac128.specs.Steps.{AddFits}
 use Rattle.reply_polytope.specs.Shifts.{IsLeast}
 
 -- one number is the least of one
@@ -30,12 +28,3 @@ least_same n u x y h e l =
       is_there = h.is_there;
       below = below_more (λ k. x ≤ℚ u k) n h.below (subst (λ z. x ≤ℚ z) e (le_of_not_lt x y l));
     }
-
--- a further sum that fits
-pub fits_next : (n : ℕ) (u : ℕ → ℚ) (c : ℚ) → ((k : ℕ) → k < n → AddFits (u k) c) → AddFits (u n) c → (k : ℕ) → k < n + 1 → AddFits (u k) c
-fits_next n u c = below_more (λ k. AddFits (u k) c) n
-
--- and a further sum
-pub sums_next : (n : ℕ) (u : ℕ → ℚ) (c x : ℚ) (xs : List ℚ) → length xs ≡ n → ((k : ℕ) → k < n → get_or xs k zero_ℚ ≡ u k +ℚ c) → x ≡ u n +ℚ c → (k : ℕ) → k < n + 1 → get_or (xs ++ x ∷ []) k zero_ℚ ≡ u k +ℚ c
-sums_next n u c x xs len h e =
-    below_more (λ k. get_or (xs ++ x ∷ []) k zero_ℚ ≡ u k +ℚ c) n (λ k b. get_or_append_left xs (x ∷ []) zero_ℚ k (omega (arith, len)) ∙ h k b) (get_or_push xs x zero_ℚ n len ∙ e)

@@ -1,14 +1,13 @@
 -- The two systems of best replies of a game.
-use Rattle.std.specs.Prelude.{ℕ, ◌+◌, ◌≤◌, ◌≡◌, [], ◌∷◌}
+use Rattle.std.specs.Prelude.{ℕ, ◌≡◌, [], ◌∷◌}
 use Rattle.rational.specs.Rational.{ℚ}
 use Rattle.linear_systems.specs.Tableau.{Tableau}
 use Rattle.linear_systems.specs.Rows.{Alike}
-use Rattle.game_theory.specs.Profiles.{Game, profile_count}
+use Rattle.game_theory.specs.Profiles.{Game}
 use Rattle.extreme_equilibria.specs.TwoPlayers.{pays_against}
 use Rattle.extreme_equilibria.specs.Bimatrix.{shifted, shift_of}
 use Rattle.extreme_equilibria.specs.Systems.{first_system, second_system}
 use Rattle.lex_tableau.specs.Starts.{Parts, system_of, IsSystem}
-use Rattle.reply_polytope.specs.Shifts.{IsLeast, ShiftFits}
 
 -- the most labels
 abbrev pub most_labels : ℕ
@@ -20,20 +19,12 @@ pub record IsRatedSystem (t : Tableau) (system : Parts) : Type 0 where
   pub alike : Alike t (system_of system)
   pub rated : system.rated ≡ t.rows
 
--- the systems of a game of two players with at most 128 strategies together, where every step of
--- the shifts fits: the first has the shifted payoffs of the second player, and the second those of
--- the first
-pub record ArePolytopes (g : Game) (first second : Parts) : Type 0 where
+-- The systems of a game of two players whose least payoffs are these: the first has the shifted
+-- payoffs of the second player, and the second those of the first.
+pub record ArePolytopes (g : Game) (least least' : ℚ) (first second : Parts) : Type 0 where
   pub m : ℕ
   pub n : ℕ
   pub strategies : g.strategies ≡ m ∷ n ∷ []
-  pub few_labels : m + n ≤ most_labels
-  pub least : ℚ
-  pub least' : ℚ
-  pub is_least : IsLeast (profile_count g.strategies) (g.pays 0) least
-  pub is_least' : IsLeast (profile_count g.strategies) (g.pays 1) least'
-  pub fits : ShiftFits (profile_count g.strategies) (g.pays 0) least
-  pub fits' : ShiftFits (profile_count g.strategies) (g.pays 1) least'
   pub is_first : IsRatedSystem
       (first_system m n (shifted (shift_of least') (pays_against g 1))) first
   pub is_second : IsRatedSystem

@@ -1,7 +1,13 @@
--- Systems of slacks whose cells stand in a list.
-use Rattle.std.specs.Prelude.{ℕ, ◌+◌, ◌*◌, ◌^◌, ◌<◌, ◌≤◌, ◌⊎◌, List, slice_index_or}
-use Rattle.rational.specs.Rational.{ℚ, zero_ℚ, one_ℚ}
+-- Systems of slacks whose cells stand in a list, and the shifted payoffs that are their cells.
+use Rattle.std.specs.Prelude.{ℕ, ◌+◌, ◌*◌, ◌^◌, ◌<◌, ◌≤◌, ◌⊎◌, List, map, slice_index_or}
+use Rattle.std.specs.List.{range_with_len}
+use Rattle.answers.specs.Answers.{Answer, ◌>>=◌, only}
+use Rattle.rational.specs.Rational.{ℚ, ◌+ℚ◌, zero_ℚ, one_ℚ}
 use Rattle.linear_systems.specs.Tableau.{Tableau}
+use Rattle.game_theory.specs.Profiles.{Game, profile_count}
+use Rattle.extreme_equilibria.specs.Bimatrix.{shift_of}
+use Rattle.reply_polytope.specs.Shifts.{shift_in}
+use Rattle.reply_polytope.specs.declared.stop.PolyStop.{PolyStop}
 use Rattle.reply_polytope.specs.declared.systems.Shape.{Shape}
 
 -- the number of row i and column j in a list, where rows and columns stand so far apart
@@ -29,3 +35,10 @@ pub record IsReadable (count : ℕ) (s : Shape) : Type 0 where
   pub few : count < 2 ^ 32
   pub few_rows : s.first_basic + s.rows < 2 ^ 16
   pub few_columns : s.first_nonbasic + s.width < 2 ^ 16
+
+-- the payoffs of player i, profile by profile, each with 1 less the least of them added
+abbrev pub shifted_payoffs_in : Game → ℕ → Answer PolyStop (List ℚ)
+shifted_payoffs_in g i =
+    shift_in g i
+    >>= (λ least. only
+    (map (λ k. g.pays i k +ℚ shift_of least) (range_with_len 0 (profile_count g.strategies))))

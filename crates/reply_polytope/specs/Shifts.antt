@@ -1,11 +1,17 @@
--- The shift of a player's payoffs, step by step: 1 less the least of them, and then each payoff
--- plus this. Profiles count from 0.
-use Rattle.std.specs.Prelude.{ℕ, ◌<◌, ◌≡◌, ◌⊎◌, List, length, slice_index_or}
-use Rattle.rational.specs.Rational.{ℚ, ◌+ℚ◌, ◌≤ℚ◌, zero_ℚ, one_ℚ}
-use Rattle.frac128.specs.Steps.{AddFits, SubFits, unfit}
+-- The shift of a player's payoffs: 1 less the least of them is added to each.
+-- Profiles count from 0.
+use Rattle.std.specs.Prelude.{ℕ, ◌<◌, ◌≡◌, ◌==◌, if◌then◌else◌, List, [], ◌∷◌, ◌++◌, Ok, Err}
+use Rattle.std.specs.List.{range_with_len}
+use Rattle.answers.specs.Answers.{Answer, ◌>>=◌, ◌>>◌, only, refused_by}
+use Rattle.rational.specs.Rational.{ℚ, ◌≤ℚ◌, one_ℚ}
+use Rattle.game_theory.specs.Profiles.{Game, profile_count}
+use Rattle.frac128.specs.Steps.{unfit}
 use Rattle.frac128.specs.declared.steps.Op.TheVariants.{Add, Sub}
-use Rattle.frac128.specs.declared.steps.Unfit.{Unfit}
+use Rattle.pure_payoffs.specs.Steps.{Step}
+use Rattle.pure_payoffs.specs.FirstUnfit.{all_fit}
 use Rattle.extreme_equilibria.specs.Bimatrix.{shift_of}
+use Rattle.reply_polytope.specs.declared.stop.PolyStop.{PolyStop}
+use Rattle.reply_polytope.specs.declared.stop.PolyStop.TheVariants as stops
 
 -- the least of n payoffs
 pub record IsLeast (n : ℕ) (u : ℕ → ℚ) (least : ℚ) : Type 0 where
@@ -14,35 +20,22 @@ pub record IsLeast (n : ℕ) (u : ℕ → ℚ) (least : ℚ) : Type 0 where
   pub is_there : least ≡ u place
   pub below : (k : ℕ) → k < n → least ≤ℚ u k
 
--- the steps fit: 1 less the least payoff, and then each of the first n payoffs plus this
-pub record ShiftFits (n : ℕ) (u : ℕ → ℚ) (least : ℚ) : Type 0 where
-  pub difference : SubFits one_ℚ least
-  pub sums : (k : ℕ) → k < n → AddFits (u k) (shift_of least)
+-- the least payoff of player i
+abbrev pub least_of : Game → ℕ → Answer PolyStop ℚ
+least_of g i (Ok least) = IsLeast (profile_count g.strategies) (g.pays i) least
+least_of g i (Err stop) = ⊥
 
--- 1 less the least payoff does not fit, which counts as a step of profile 0
-pub record IsUnfitDifference (least : ℚ) (profile : ℕ) (step : Unfit) : Type 0 where
-  pub does_not_fit : SubFits one_ℚ least → ⊥
-  pub is_profile : profile ≡ 0
-  pub is_step : step ≡ unfit Sub one_ℚ least
+-- the steps at profile k: at the first one 1 less the least payoff, and then the payoff plus this
+abbrev pub shift_steps : (ℕ → ℚ) → ℚ → ℕ → List Step
+shift_steps u least k =
+    (if k == 0 then unfit Sub one_ℚ least ∷ [] else []) ++ unfit Add (u k) (shift_of least) ∷ []
 
--- the steps before the sum of this profile fit, and this one does not
-pub record IsFirstUnfitSum (n : ℕ) (u : ℕ → ℚ) (least : ℚ) (profile : ℕ) (step : Unfit)
-    : Type 0 where
-  pub within : profile < n
-  pub before : ShiftFits profile u least
-  pub does_not_fit : AddFits (u profile) (shift_of least) → ⊥
-  pub is_step : step ≡ unfit Add (u profile) (shift_of least)
+-- the shifts by it of all payoffs fit; or the first step that does not, with its profile
+abbrev pub shifts_in : Game → ℕ → ℚ → Answer PolyStop (Unit {0})
+shifts_in g i least =
+    refused_by (λ stop. stops.Range i stop.0 stop.1)
+    (all_fit (shift_steps (g.pays i) least) (range_with_len 0 (profile_count g.strategies)))
 
--- the first step that does not fit, with its profile
-pub record IsFirstUnfitShift (n : ℕ) (u : ℕ → ℚ) (profile : ℕ) (step : Unfit) : Type 0 where
-  pub least : ℚ
-  pub is_least : IsLeast n u least
-  pub is_first : IsUnfitDifference least profile step ⊎ IsFirstUnfitSum n u least profile step
-
--- the shifted payoffs, of which every step fits
-pub record AreShifted (n : ℕ) (u : ℕ → ℚ) (numbers : List ℚ) : Type 0 where
-  pub least : ℚ
-  pub is_least : IsLeast n u least
-  pub fits : ShiftFits n u least
-  pub count : length numbers ≡ n
-  pub are_sums : (k : ℕ) → k < n → slice_index_or numbers k zero_ℚ ≡ u k +ℚ shift_of least
+-- the least payoff of player i, by which all payoffs can be shifted
+abbrev pub shift_in : Game → ℕ → Answer PolyStop ℚ
+shift_in g i = least_of g i >>= (λ least. shifts_in g i least >> only least)

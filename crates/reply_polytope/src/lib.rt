@@ -4,9 +4,10 @@
 //! a law of `extreme_equilibria` their points are those of the polytopes.
 //! Definitions: `specs::Shifts` has the shift that makes a player's payoffs positive, `Polytopes`
 //! the two systems, `Stops` what a game answers (`polytopes_in`).
-//! Private words: `specs::Shapes`, systems of slacks whose cells stand in a list.
-//! Lemmas for callers: `proofs::EnumerableLemmas`, what `basis_enum` asks of both systems;
-//! `SingleLemmas`.
+//! Private words: `specs::Shapes`, systems of slacks whose cells stand in a list, and the shifted
+//! payoffs.
+//! Lemmas for callers: `proofs::PolytopeLemmas`, what the two systems of a game are;
+//! `EnumerableLemmas`, what `basis_enum` asks of them; `SingleLemmas`.
 //! A change here touches: `enummixed`, and what it and `make` answer and refuse.
 #![tactic(auto)]
 

@@ -4,8 +4,8 @@ ghost use Rattle.answers.specs.Answers.{Gives, map_ok};
 ghost use Rattle.game_theory.specs.Profiles.{profile_count};
 ghost use Rattle.game_core.specs.Table.{game_of, strategy_counts, IsTable};
 ghost use Rattle.reply_polytope.specs.declared.stop.PolyStop.TheVariants as stops;
+ghost use Rattle.reply_polytope.specs.Shapes.{shifted_payoffs_in};
 ghost use Rattle.reply_polytope.specs.Shifts.{IsLeast};
-ghost use Rattle.reply_polytope.specs.Stops.{shifted_in};
 
 use crate::stop::PolyStop;
 use frac128::Frac;
@@ -40,7 +40,7 @@ pub(crate) fn shifted_payoffs(
     requires profiles { profiles ≡ profile_count (strategy_counts table.now) }
     requires some { 0 < profiles }
     requires valid { IsTable table.now }
-    ensures { Gives stops.Memory (shifted_in (game_of table.now) player)
+    ensures { Gives stops.Memory (shifted_payoffs_in (game_of table.now) player)
         (map_ok result (λ shifted. shifted.items)) }
 {
     let least = least_payoff(table, player as usize, profiles);

@@ -42,14 +42,8 @@ pub fn polytopes(alloc: Global, table: &Table) -> Result<(System, System), PolyS
             limit: MOST_LABELS as u64,
         }));
     }
-    let first = match shifted_payoffs(alloc, table, 0, rows * columns) {
-        Ok(first) => first,
-        Err(stop) => return Err(stop),
-    };
-    let second = match shifted_payoffs(alloc, table, 1, rows * columns) {
-        Ok(second) => second,
-        Err(stop) => return Err(stop),
-    };
+    let first = shifted_payoffs(alloc, table, 0, rows * columns)?;
+    let second = shifted_payoffs(alloc, table, 1, rows * columns)?;
     let one = first_reply_system(alloc, rows, columns, &second)?;
     let two = second_reply_system(alloc, rows, columns, &first)?;
     Ok((one, two))

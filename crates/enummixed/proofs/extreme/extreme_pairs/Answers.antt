@@ -7,6 +7,7 @@ use Rattle.frac128.specs.FirstUnfit.{StepsFit}
 use Rattle.basis_enum.specs.Systems.{variable_count}
 use Rattle.basis_enum.specs.Vertices.{mark_of, marks_of, list_of}
 use Rattle.lex_tableau.specs.Starts.{system_of}
+use Rattle.reply_polytope.proofs.PolytopeLemmas.{polytopes_of}
 use Rattle.label_pairing.specs.Pairs.{mark_at}
 use Rattle.label_pairing.specs.Scaling.{IsScalable, scale_steps}
 use Rattle.label_pairing.specs.Stops.{pairs_in}
@@ -37,13 +38,13 @@ returns-in_err-first-clause-answer g c =
 pub pairs-requires-clause-few_first : goal.pairs-requires-clause-few_first
 pairs-requires-clause-few_first g c =
     let one = c.in_ok-one.one in
-    let few = vertices-few one (list_of c.in_ok-first.first) c.in_ok-one.ensures.is_first.valid (one-enumerable (game_of c.args.table.now) one c.in_ok-one.two c.in_ok-one.ensures) (both-first c.in_ok-one.one c.in_ok-one.two (list_of c.in_ok-first.first) (list_of c.in_ok-first.second) c.in_ok-first.ensures.vertices) in
+    let few = vertices-few one (list_of c.in_ok-first.first) (polytopes_of (game_of c.args.table.now) one c.in_ok-one.two c.in_ok-one.ensures).is_first.valid (one-enumerable (game_of c.args.table.now) one c.in_ok-one.two c.in_ok-one.ensures) (both-first c.in_ok-one.one c.in_ok-one.two (list_of c.in_ok-first.first) (list_of c.in_ok-first.second) c.in_ok-first.ensures.vertices) in
     omega (arith, few, ap length c.deref.ensures.value, length-map c.in_ok-first.first.list.items mark_of, c.in_ok-first.ensures.few.0)
 
 pub pairs-requires-clause-few_second : goal.pairs-requires-clause-few_second
 pairs-requires-clause-few_second g c =
     let two = c.in_ok-one.two in
-    let few = vertices-few two (list_of c.in_ok-first.second) c.in_ok-one.ensures.is_second.valid (two-enumerable (game_of c.args.table.now) c.in_ok-one.one two c.in_ok-one.ensures) (both-second c.in_ok-one.one c.in_ok-one.two (list_of c.in_ok-first.first) (list_of c.in_ok-first.second) c.in_ok-first.ensures.vertices) in
+    let few = vertices-few two (list_of c.in_ok-first.second) (polytopes_of (game_of c.args.table.now) c.in_ok-one.one two c.in_ok-one.ensures).is_second.valid (two-enumerable (game_of c.args.table.now) c.in_ok-one.one two c.in_ok-one.ensures) (both-second c.in_ok-one.one c.in_ok-one.two (list_of c.in_ok-first.first) (list_of c.in_ok-first.second) c.in_ok-first.ensures.vertices) in
     omega (arith, few, ap length c.deref-2.ensures.value, length-map c.in_ok-first.second.list.items mark_of, c.in_ok-first.ensures.few.1)
 
 pub returns-in_err-pairs-clause-answer : goal.returns-in_err-pairs-clause-answer

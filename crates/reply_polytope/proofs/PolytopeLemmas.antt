@@ -1,0 +1,68 @@
+-- What the two systems of a game are, and that want of memory is no reason why there are none.
+use Rattle.std.proofs.Common.{ℕ, ◌+◌, ◌<◌, ◌≤◌, ◌≡◌, inl, inr, Ok, Err, [], ◌∷◌, sum, ap, refl, sym, subst, arith}
+use Rattle.answers.specs.Answers.{only}
+use Rattle.answers.proofs.AnswerLemmas.{only-single, single-exclude, single-value}
+use Rattle.rational.specs.Rational.{ℚ}
+use Rattle.game_theory.specs.Profiles.{Game, profile_count}
+use Rattle.extreme_equilibria.specs.TwoPlayers.{pays_against}
+use Rattle.extreme_equilibria.specs.Bimatrix.{shifted, shift_of}
+use Rattle.extreme_equilibria.specs.Systems.{first_system, second_system}
+use Rattle.lex_tableau.specs.Starts.{Parts}
+use Rattle.reply_polytope.specs.Polytopes.{IsRatedSystem, most_labels}
+use Rattle.reply_polytope.specs.Shifts.{IsLeast, shift_in}
+use Rattle.reply_polytope.specs.Stops.{polytopes_in}
+use Rattle.reply_polytope.specs.declared.stop.PolyStop.{PolyStop}
+use Rattle.reply_polytope.specs.declared.stop.PolyStop.TheVariants as stops
+
+-- the numbers of strategies, the least payoffs and the systems of a game of two players
+pub record ArePolytopesOf (g : Game) (first second : Parts) : Type 0 where
+  pub m : ℕ
+  pub n : ℕ
+  pub strategies : g.strategies ≡ m ∷ n ∷ []
+  pub few_labels : m + n ≤ most_labels
+  pub least : ℚ
+  pub least' : ℚ
+  pub is_least : IsLeast (profile_count g.strategies) (g.pays 0) least
+  pub is_least' : IsLeast (profile_count g.strategies) (g.pays 1) least'
+  pub is_first : IsRatedSystem
+      (first_system m n (shifted (shift_of least') (pays_against g 1))) first
+  pub is_second : IsRatedSystem
+      (second_system m n (shifted (shift_of least) (pays_against g 0))) second
+
+-- a shift is by the least payoff
+shift_is_by_least : (g : Game) (i : ℕ) (least : ℚ) → shift_in g i (Ok least) → IsLeast (profile_count g.strategies) (g.pays i) least
+shift_is_by_least g i least h = subst (IsLeast (profile_count g.strategies) (g.pays i)) (sym (single-value {E = PolyStop} (only h.0) least h.0 (only-single h.0) h.2.2 refl)) h.1
+
+pub polytopes_of : (g : Game) (first second : Parts) → polytopes_in g (Ok (first, second)) → ArePolytopesOf g first second
+polytopes_of g first second h =
+    let one = h.2.2.0 in
+    let two = h.2.2.2.0 in
+    let systems = h.2.2.2.2 in
+    record {
+      m = systems.m;
+      n = systems.n;
+      strategies = systems.strategies;
+      few_labels = few h.2.1;
+      least = one;
+      least' = two;
+      is_least = shift_is_by_least g 0 one h.2.2.1;
+      is_least' = shift_is_by_least g 1 two h.2.2.2.1;
+      is_first = systems.is_first;
+      is_second = systems.is_second;
+    }
+  where
+    few : (most_labels < sum g.strategies → ⊥) → h.2.2.2.2.m + h.2.2.2.2.n ≤ most_labels
+    few l = let e = ap sum h.2.2.2.2.strategies in omega (arith, e, l)
+
+-- ---- want of memory
+shift_not_memory : (g : Game) (i : ℕ) → shift_in g i (Err stops.Memory) → ⊥
+shift_not_memory g i (inl h) = h
+shift_not_memory g i (inr (least, _, inl (stop, _, e))) = cc
+shift_not_memory g i (inr (least, _, inr (_, _, e))) = single-exclude (only least) least stops.Memory (only-single least) refl e
+
+pub polytopes_not_memory : (g : Game) → polytopes_in g (Err stops.Memory) → ⊥
+polytopes_not_memory g (inl (_, e)) = cc
+polytopes_not_memory g (inr (_, _, inl (_, e))) = cc
+polytopes_not_memory g (inr (_, _, inr (_, _, inl s))) = shift_not_memory g 0 s
+polytopes_not_memory g (inr (_, _, inr (_, _, inr (one, _, inl s)))) = shift_not_memory g 1 s
+polytopes_not_memory g (inr (_, _, inr (_, _, inr (one, _, inr (two, _, h))))) = h
