@@ -9,7 +9,7 @@ use Rattle.basis_enum.proofs.NeighbourLemmas.{neighbour_is, neighbour_below}
 use Rattle.rational.specs.Rational.{zero_ℚ, ◌≤ℚ◌}
 use Rattle.rational.proofs.Field.{not_lt_of_le}
 use Rattle.linear_systems.proofs.LexRowLemmas.{lex_row_once}
-use Rattle.lex_tableau.specs.Ratio.{listed}
+use Rattle.lex_tableau.specs.Ratio.{variable_at}
 use Rattle.basis_enum.proofs.AscendingNumberLemmas.{first_in, in_cases}
 use Rattle.std.proofs.lemmas.List.Elements.{Contains-append_left, Contains-append_right, Contains-append_cases}
 use Rattle.basis_enum.specs.declared.moves.Move.{Move}
@@ -30,7 +30,7 @@ target_fits t r c basis leaving entering h d hr hc p q e =
     omega arith
 
 pub leads_back : (t : Numbers) (known : List ℕ) (c r : ℕ) → IsLexRowOf t c r → Contains known (neighbour_of t r c) → HasNone t known c
-leads_back t known c r h k = record { leads_back = λ q x. subst (λ n. Contains known (neighbour_of t n c)) (lex_row_once t.rated (listed t.starts) (tableau t) c r q h x) k }
+leads_back t known c r h k = record { leads_back = λ q x. subst (λ n. Contains known (neighbour_of t n c)) (lex_row_once t.rated (variable_at t.starts) (tableau t) c r q h x) k }
 
 -- a column without a positive entry has no lexicographic row
 pub no_row : (t : Numbers) (known : List ℕ) (c : ℕ) → ((i : ℕ) → i < t.rated → (tableau t).cell i c ≤ℚ zero_ℚ) → HasNone t known c

@@ -8,7 +8,7 @@ use Rattle.std.proofs.lemmas.List.Elements.{Contains-append_left, Contains-appen
 use Rattle.lex_tableau.specs.Rows.{Numbers}
 use Rattle.basis_enum.specs.Bases.{basis_of, neighbour_of}
 use Rattle.basis_enum.specs.Levels as L
-use Rattle.basis_enum.specs.Levels.{Levels, no_tableau, bases_of, IsLexRowOf, IsMove, AreNextMoves, IsNew, ComesBefore}
+use Rattle.basis_enum.specs.Levels.{Levels, no_tableau, bases_of, IsLexRowOf, IsMove, AreNextMoves, IsNew, IsEarlierMove}
 use Rattle.basis_enum.proofs.AscendingNumberLemmas.{mapped, once_in, first_in, rest_in, in_cases}
 use Rattle.basis_enum.specs.declared.moves.Move.{Move}
 use Rattle.basis_enum.specs.Found.{IsFoundBelow, AreFound, HasAllFound, IsFoundIn, AreFoundIn, AreReady, AreKnown}
@@ -80,12 +80,12 @@ pub entering_is : (level : List Numbers) (known : List ℕ) (m : Move) → IsFou
 entering_is level known m f = f.below.found.entering ∙ ap₂ (λ p c. get_or (get_or level p no_tableau).nonbasics c 0) (sym f.below.found.parent) (sym f.below.found.column)
 
 -- it is the parent and the column that count
-moved_before : (level : List Numbers) (k j m : L.Move) → k.parent ≡ j.parent → k.column ≡ j.column → ComesBefore level j m → ComesBefore level k m
+moved_before : (level : List Numbers) (k j m : L.Move) → k.parent ≡ j.parent → k.column ≡ j.column → IsEarlierMove level j m → IsEarlierMove level k m
 moved_before level k j m p c (inl l) = inl (subst (λ x. x < m.parent) (sym p) l)
 moved_before level k j m p c (inr q) = inr (p ∙ q.0, subst (λ x. x < L.entering level m) (ap₂ (λ a b. get_or (get_or level a no_tableau).nonbasics b 0) (sym p) (sym c)) q.1)
 
 -- what comes before in its level has a less order
-order_before : (level : List Numbers) (known : List ℕ) (k m : Move) → IsFoundIn level known k → IsFoundIn level known m → k.entering < 2 ^ 32 → order_of m ≤ order_of k → ComesBefore level (move_of k) (move_of m) → ⊥
+order_before : (level : List Numbers) (known : List ℕ) (k m : Move) → IsFoundIn level known k → IsFoundIn level known m → k.entering < 2 ^ 32 → order_of m ≤ order_of k → IsEarlierMove level (move_of k) (move_of m) → ⊥
 order_before level known k m fk fm small le (inl p) = omega arith
 order_before level known k m fk fm small le (inr p) =
     let a : k.entering ≡ L.entering level (move_of k) = entering_is level known k fk in
@@ -128,7 +128,7 @@ next_are l known found next k small f n = record { each = each; new = new; ascen
     all : (m : L.Move) → IsMove l.level m → IsNew l (L.target l.level m) → Contains (map (L.target l.level) (map move_of next)) (L.target l.level m)
     all m h new = let z = there m h new in subst (λ xs. Contains xs (L.target l.level m)) (sym targets) (subst (Contains (map target_of next)) z.4 (mapped target_of z.1 next z.3))
 
-    first : (m j : L.Move) → Contains (map move_of next) m → IsMove l.level j → L.target l.level j ≡ L.target l.level m → ¬ (ComesBefore l.level j m)
+    first : (m j : L.Move) → Contains (map move_of next) m → IsMove l.level j → L.target l.level j ≡ L.target l.level m → ¬ (IsEarlierMove l.level j m)
     first m j c h e b =
         let z = unmoved next m c in
         let new_j = subst (λ t. IsNew l t) (sym e) (new m c) in
@@ -136,4 +136,4 @@ next_are l known found next k small f n = record { each = each; new = new; ascen
         let target_z : (z.0).target ≡ L.target l.level m = target_is_there l.level known z.0 (of z.0 z.1) ∙ ap (L.target l.level) z.2 in
         let same : w.1 ≡ z.0 = once_in target_of next w.1 z.0 n.ascending w.3 z.1 (w.4 ∙ e ∙ sym target_z) in
         order_before l.level known w.0 z.0 (f.each w.0 w.2) (of z.0 z.1) (small w.0 w.2).1 (subst (λ y. order_of y ≤ order_of w.0) same w.5)
-        (subst (λ m. ComesBefore l.level (move_of w.0) m) (sym z.2) (moved_before l.level (move_of w.0) j m w.6 w.7 b))
+        (subst (λ m. IsEarlierMove l.level (move_of w.0) m) (sym z.2) (moved_before l.level (move_of w.0) j m w.6 w.7 b))

@@ -8,7 +8,7 @@ use Rattle.frac128.specs.declared.steps.Unfit.{Unfit}
 use Rattle.lex_tableau.specs.Rows.{Numbers}
 use Rattle.frac128.specs.Steps.{StepFits, IsFirstUnfit}
 use Rattle.basis_enum.specs.Levels as L
-use Rattle.basis_enum.specs.Levels.{Levels, no_tableau, IsChild, AreNextMoves, IsNextLevel, count, most, steps_of}
+use Rattle.basis_enum.specs.Levels.{Levels, no_tableau, IsPivoted, AreNextMoves, IsNextLevel, count, most, steps_of}
 use Rattle.basis_enum.specs.Ends.{IsAscendingListOf, IsFirstUnfitMove}
 use Rattle.basis_enum.specs.declared.children.ChildStop.{ChildStop}
 use Rattle.basis_enum.specs.declared.children.ChildStop.TheVariants as stops
@@ -25,19 +25,19 @@ use Rattle.basis_enum.specs.Children.{AreChildren, AreMoves, IsChildStop, IsChil
 pub children_start : (level : List Numbers) (moves : List Move) → AreChildren level moves 0 []
 children_start level moves = record { within = omega arith; size = refl; each = λ i h. absurd (omega arith) }
 
-pub children_push : (level : List Numbers) (moves : List Move) (n : ℕ) (next : List Numbers) (t : Numbers) → n < length moves → AreChildren level moves n next → IsChild level (move_of (get_or moves n no_move)) t → AreChildren level moves (n + 1) (next ++ t ∷ [])
+pub children_push : (level : List Numbers) (moves : List Move) (n : ℕ) (next : List Numbers) (t : Numbers) → n < length moves → AreChildren level moves n next → IsPivoted level (move_of (get_or moves n no_move)) t → AreChildren level moves (n + 1) (next ++ t ∷ [])
 children_push level moves n next t w c h =
     let size : length next ≡ n = c.size in
     record {
       within = omega arith;
       size = length-append next (t ∷ []) ∙ ap (λ m. m + 1) c.size;
       each = λ i k. elim (eq-or-lt_of_le (let l : i ≤ n = omega arith in l)) [
-        | inr l ↦ subst (IsChild level (move_of (get_or moves i no_move))) (sym (get_or_append_left next (t ∷ []) no_tableau i (omega arith))) (c.each i l)
-        | inl e ↦ subst₂ (λ j u. IsChild level (move_of (get_or moves j no_move)) u) (sym e) (sym (ap (λ j. get_or (next ++ t ∷ []) j no_tableau) (e ∙ sym size) ∙ get_or-append_seam next t [] no_tableau)) h
+        | inr l ↦ subst (IsPivoted level (move_of (get_or moves i no_move))) (sym (get_or_append_left next (t ∷ []) no_tableau i (omega arith))) (c.each i l)
+        | inl e ↦ subst₂ (λ j u. IsPivoted level (move_of (get_or moves j no_move)) u) (sym e) (sym (ap (λ j. get_or (next ++ t ∷ []) j no_tableau) (e ∙ sym size) ∙ get_or-append_seam next t [] no_tableau)) h
       ];
     }
 
-pub children_new : (level : List Numbers) (moves : List Move) (n m : ℕ) (next new : List Numbers) (t : Numbers) → n < length moves → m ≡ n + 1 → new ≡ next ++ t ∷ [] → AreChildren level moves n next → IsChild level (move_of (get_or moves n no_move)) t → AreChildren level moves m new
+pub children_new : (level : List Numbers) (moves : List Move) (n m : ℕ) (next new : List Numbers) (t : Numbers) → n < length moves → m ≡ n + 1 → new ≡ next ++ t ∷ [] → AreChildren level moves n next → IsPivoted level (move_of (get_or moves n no_move)) t → AreChildren level moves m new
 children_new level moves n m next new t w more pushed c h = subst₂ (AreChildren level moves) (sym more) (sym pushed) (children_push level moves n next t w c h)
 
 moved_at : (moves : List Move) (i : ℕ) → get_or (map move_of moves) i L.no_move ≡ move_of (get_or moves i no_move)
@@ -100,5 +100,5 @@ next_level p moves next are some few c =
       few = few;
       before = refl;
       size = c.size ∙ sym (length-map moves move_of);
-      children = λ i h. subst (λ m. IsChild p.level m (get_or next i no_tableau)) (sym (moved_at moves i)) (c.each i (omega arith));
+      children = λ i h. subst (λ m. IsPivoted p.level m (get_or next i no_tableau)) (sym (moved_at moves i)) (c.each i (omega arith));
     }

@@ -9,7 +9,7 @@ use Rattle.lex_tableau.specs.Rows.{Numbers, IsTableau}
 use Rattle.lex_tableau.specs.Starts.{Parts, StartFits}
 use Rattle.whole_rows.specs.StartRows.{IsFirstUnfitRow}
 use Rattle.frac128.specs.Steps.{StepFits, IsFirstUnfit}
-use Rattle.basis_enum.specs.Levels.{Levels, Move, no_move, no_tableau, parent_of, entering, IsChild, IsNextLevel, IsLevel, steps_of, count, most}
+use Rattle.basis_enum.specs.Levels.{Levels, Move, no_move, no_tableau, parent_of, entering, IsPivoted, IsNextLevel, IsLevel, steps_of, count, most}
 use Rattle.basis_enum.specs.Ends.{End, complete, start, range, too_many, IsAscendingListOf, IsFirstUnfitMove, IsClosedAt, IsPassedAt, IsUnfitChild, EndsAt, EndsAtLevel, IsEnd}
 use Rattle.basis_enum.proofs.AscendingNumberLemmas.{increasing_same, in_cases}
 use Rattle.lex_tableau.proofs.TableauLemmas.{determined, alike_both}
@@ -20,7 +20,7 @@ use Rattle.basis_enum.proofs.NextPivotLemmas.{moves_once}
 levels_same : (l m : Levels) → l.before ≡ m.before → l.level ≡ m.level → l ≡ m
 levels_same l m p q = ap₂ (λ x y. record { before = x; level = y }) p q
 
-child_once : (level : List Numbers) (m : Move) (a b : Numbers) → IsChild level m a → IsChild level m b → a ≡ b
+child_once : (level : List Numbers) (m : Move) (a b : Numbers) → IsPivoted level m a → IsPivoted level m b → a ≡ b
 child_once level m a b p q = determined a b p.is_tableau q.is_tableau (p.pivot.starts ∙ sym q.pivot.starts) (p.pivot.rated ∙ sym q.pivot.rated) (alike_both _ _ _ p.pivot.fractions q.pivot.fractions)
 
 -- ---- the tableaux of a level are tableaux
@@ -45,7 +45,7 @@ next_once p l m valid hl hm = levels_same l m (hl.before ∙ sym hm.before) (sam
         let second : length m.level ≡ length hm.moves = hm.size in
         let both : length l.level ≡ length m.level = sizes in
         get_or_default l.level i d no_tableau h
-        ∙ child_once p.level (get_or hm.moves i no_move) _ _ (subst (λ ms. IsChild p.level (get_or ms i no_move) (get_or l.level i no_tableau)) moves (hl.children i (omega arith))) (hm.children i (omega arith))
+        ∙ child_once p.level (get_or hm.moves i no_move) _ _ (subst (λ ms. IsPivoted p.level (get_or ms i no_move) (get_or l.level i no_tableau)) moves (hl.children i (omega arith))) (hm.children i (omega arith))
         ∙ get_or_default m.level i no_tableau d (omega arith)
 
 level_once : (s : Parts) (k : ℕ) (l m : Levels) → IsLevel s k l → IsLevel s k m → l ≡ m

@@ -12,7 +12,7 @@ use Rattle.linear_systems.specs.Reached.{in_column}
 use Rattle.lex_tableau.specs.Rows.{Numbers}
 use Rattle.lex_tableau.specs.Starts.{Parts, IsSystem}
 use Rattle.basis_enum.specs.Bases.{basis_of, AreVariables}
-use Rattle.basis_enum.specs.Levels.{Levels, IsChild, IsLevel, IsMove, IsNextLevel, AreNextMoves, bases_of, most, no_tableau, parent_of}
+use Rattle.basis_enum.specs.Levels.{Levels, IsPivoted, IsLevel, IsMove, IsNextLevel, AreNextMoves, bases_of, most, no_tableau, parent_of}
 use Rattle.basis_enum.specs.Systems.{IsEnumerable, variable_count}
 use Rattle.basis_enum.specs.Ends.{complete, IsEnd, IsUnfitChild}
 use Rattle.basis_enum.proofs.CompleteLevelLaws.{Held, held_start, held_child, held_digits, level_held, pivoted_nonbasics}
@@ -89,7 +89,7 @@ moves_lead s k w moves e h n m c =
     is_move : IsMove w.level.items (move_of m)
     is_move = move_is w.level.items w.known.items m found
 
-    held : (t : Numbers) → IsChild w.level.items (move_of m) t → Held s t
+    held : (t : Numbers) → IsPivoted w.level.items (move_of m) t → Held s t
     held t q = held_child s (parent_of w.level.items (move_of m)) t m.row m.column h.valid e (walk_held s k w e h m.parent is_move.parent) is_move.column is_move.row q.is_tableau q.pivot
 
 pub children_ready : (s : Parts) (level next : List Numbers) (moves : List Move) → LeadToReady s level moves → AreChildren level moves (length moves) next → AreReady next

@@ -7,7 +7,7 @@ use Rattle.lex_tableau.specs.Rows.{Numbers}
 use Rattle.lex_tableau.specs.Starts.{Parts}
 use Rattle.frac128.specs.Steps.{IsFirstUnfit}
 use Rattle.basis_enum.specs.Levels as L
-use Rattle.basis_enum.specs.Levels.{no_tableau, IsMove, IsChild, steps_of}
+use Rattle.basis_enum.specs.Levels.{no_tableau, IsMove, IsPivoted, steps_of}
 use Rattle.basis_enum.specs.Ends.{IsFirstUnfitMove}
 use Rattle.basis_enum.specs.declared.moves.Move.{Move}
 use Rattle.basis_enum.specs.declared.children.ChildStop.{ChildStop}
@@ -31,7 +31,7 @@ pub record AreChildren (level : List Numbers) (moves : List Move) (n : ℕ) (nex
   pub within : n ≤ length moves
   pub size : length next ≡ n
   pub each : (i : ℕ) → i < n
-      → IsChild level (move_of (get_or moves i no_move)) (get_or next i no_tableau)
+      → IsPivoted level (move_of (get_or moves i no_move)) (get_or next i no_tableau)
 
 -- the tableaux after all pivots of an expansion
 abbrev pub AreAllChildren : Expansion → List Numbers → Type 0
@@ -48,7 +48,7 @@ move_at e n = move_of (get_or e.moves.now n no_move)
 
 -- the tableau after that pivot
 abbrev pub IsChildAt : Expansion → ℕ → Numbers → Type 0
-IsChildAt e n = IsChild e.level.now (move_at e n)
+IsChildAt e n = IsPivoted e.level.now (move_at e n)
 
 -- that tableau, the pivots from there to new bases, and its vertex, where it has one
 pub record IsReachedAt (e : Expansion) (n : ℕ) (r : Reached) : Type 0 where
@@ -77,9 +77,9 @@ IsChildStop e Memory = Unit {0}
 
 -- what a pivot leads to is ready, with variables of the system, and has the pivot's target
 pub record LeadsToReady (s : Parts) (level : List Numbers) (m : Move) : Type 0 where
-  pub ready : (t : Numbers) → IsChild level (move_of m) t → IsReady t
-  pub numbered : (t : Numbers) → IsChild level (move_of m) t → AreUpTo (variable_count s) t.basics
-  pub target : (t : Numbers) → IsChild level (move_of m) t → m.target ≡ basis_of t.nonbasics
+  pub ready : (t : Numbers) → IsPivoted level (move_of m) t → IsReady t
+  pub numbered : (t : Numbers) → IsPivoted level (move_of m) t → AreUpTo (variable_count s) t.basics
+  pub target : (t : Numbers) → IsPivoted level (move_of m) t → m.target ≡ basis_of t.nonbasics
 
 -- each of these pivots does
 abbrev pub LeadToReady : Parts → List Numbers → List Move → Type 0

@@ -5,7 +5,7 @@ use Rattle.std.specs.List.{Contains}
 use Rattle.std.specs.List.Sorted.{IsStrictlyIncreasing}
 use Rattle.linear_systems.specs.Rows.{IsLexicographicRow}
 use Rattle.frac128.specs.Steps.{Step, StepFits}
-use Rattle.lex_tableau.specs.Ratio.{listed}
+use Rattle.lex_tableau.specs.Ratio.{variable_at}
 use Rattle.lex_tableau.specs.Rows.{Numbers, tableau, IsTableau, IsPivotOf}
 use Rattle.lex_tableau.specs.Starts.{Parts, IsStartOf, StartFits}
 use Rattle.lex_tableau.specs.Pivots.{steps_of_pivot}
@@ -35,7 +35,7 @@ target level m = neighbour_of (parent_of level m) m.row m.column
 
 -- r is the lexicographic row of column c
 abbrev pub IsLexRowOf : Numbers → ℕ → ℕ → Type 0
-IsLexRowOf t c r = IsLexicographicRow t.rated t.rated (listed t.starts) (tableau t) c r
+IsLexRowOf t c r = IsLexicographicRow t.rated t.rated (variable_at t.starts) (tableau t) c r
 
 -- a pivot of a tableau of the level on the lexicographic row of a column
 pub record IsMove (level : List Numbers) (m : Move) : Type 0 where
@@ -44,8 +44,8 @@ pub record IsMove (level : List Numbers) (m : Move) : Type 0 where
   pub row : IsLexRowOf (parent_of level m) m.column m.row
 
 -- by the parent's place in the level, and then by the entering variable
-abbrev pub ComesBefore : List Numbers → Move → Move → Type 0
-ComesBefore level m k =
+abbrev pub IsEarlierMove : List Numbers → Move → Move → Type 0
+IsEarlierMove level m k =
     (m.parent < k.parent) ⊎ ((m.parent ≡ k.parent) × (entering level m < entering level k))
 
 -- a level, and those before it
@@ -70,14 +70,14 @@ pub record AreNextMoves (l : Levels) (moves : List Move) : Type 0 where
   pub all : (m : Move) → IsMove l.level m → IsNew l (target l.level m)
       → Contains (map (target l.level) moves) (target l.level m)
   pub first : (m k : Move) → Contains moves m → IsMove l.level k
-      → target l.level k ≡ target l.level m → ¬ (ComesBefore l.level k m)
+      → target l.level k ≡ target l.level m → ¬ (IsEarlierMove l.level k m)
 
 -- the steps of a pivot
 abbrev pub steps_of : List Numbers → Move → List Step
 steps_of level m = steps_of_pivot (parent_of level m) m.row m.column
 
 -- new is the tableau after the pivot, all of whose steps fit
-pub record IsChild (level : List Numbers) (m : Move) (new : Numbers) : Type 0 where
+pub record IsPivoted (level : List Numbers) (m : Move) (new : Numbers) : Type 0 where
   pub is_tableau : IsTableau new
   pub pivot : IsPivotOf (parent_of level m) m.row m.column new
   pub fits : All StepFits (steps_of level m)
@@ -108,7 +108,7 @@ pub record IsNextLevel (p l : Levels) : Type 0 where
   pub before : l.before ≡ p.before ++ p.level
   pub size : length l.level ≡ length moves
   pub children : (i : ℕ) → i < length moves
-      → IsChild p.level (get_or moves i no_move) (get_or l.level i no_tableau)
+      → IsPivoted p.level (get_or moves i no_move) (get_or l.level i no_tableau)
 
 -- l has level k of the system
 abbrev pub IsLevel : Parts → ℕ → Levels → Type 0

@@ -16,5 +16,5 @@ mark_of v = record { low = get_or v.mask 0 0; high = get_or v.mask 1 0; point = 
 abbrev pub marks_of : List Vertex → List MarkedPoint
 marks_of vertices = map mark_of vertices
 
-abbrev pub list_of : Vertices → VertexList
-list_of v = record { bases = v.bases; list = marks_of v.list.items }
+abbrev pub vertex_list : Vertices → VertexList
+vertex_list v = record { bases = v.bases; list = marks_of v.list.items }

@@ -1,7 +1,7 @@
 // The tableaux of the next level.
 ghost use Rattle.std.specs.Prelude.{◌≡◌, ◌<◌, ◌≤◌, ◌+◌, ◌++◌, ◌∷◌, [], length, option_to_list, IfOk, IfErr, IfSome, MatchResult, OnOk};
 ghost use Rattle.lex_tableau.specs.PivotStops.{IsPivotStop};
-ghost use Rattle.basis_enum.specs.Levels.{IsChild, IsMove, parent_of};
+ghost use Rattle.basis_enum.specs.Levels.{IsPivoted, IsMove, parent_of};
 ghost use Rattle.basis_enum.specs.Children.{AreAllChildren, ArePiecesFrom, IsChildAt, IsChildStop, IsChildStopAt, IsExpandable, IsMadeFrom, IsReachedAt};
 ghost use Rattle.basis_enum.specs.Found.{AreFoundIn, AreReady};
 ghost use Rattle.basis_enum.specs.Next.{move_of};
@@ -96,7 +96,7 @@ fn pivoted<L: Ledger>(
     requires level { AreReady level.now }
     requires next { IsMove level.now (move_of next.now) }
     requires blank { (L.parts ≡ blank.parts) × (L.name ≡ blank.name) × (0 < blank.parts) }
-    ensures child { IfOk result (IsChild level.now (move_of next.now)) }
+    ensures child { IfOk result (IsPivoted level.now (move_of next.now)) }
     ensures stop { IfErr result
         (IsPivotStop (parent_of level.now (move_of next.now)) next.now.row next.now.column) }
 {

@@ -4,7 +4,7 @@ ghost use Rattle.answers.specs.Answers.{Gives, map_ok};
 ghost use Rattle.basis_enum.specs.Systems.{IsEnumerable};
 ghost use Rattle.basis_enum.specs.declared.stop.EnumStop.TheVariants as stops;
 ghost use Rattle.basis_enum.specs.Enumeration.{vertices_in};
-ghost use Rattle.basis_enum.specs.Vertices.{list_of};
+ghost use Rattle.basis_enum.specs.Vertices.{vertex_list};
 
 use crate::marking::in_order;
 use crate::stop::EnumStop;
@@ -42,7 +42,7 @@ pub fn enumerate<R: Threads + Sync, G: Gate, L: Ledger>(
 ) -> Result<Vertices, EnumStop>
     requires enumerable { IsEnumerable system.now }
     requires workers { (1 ≤ workers) × (workers ≤ 64) }
-    ensures vertices { Gives stops.Memory (vertices_in system.now) (map_ok result list_of) }
+    ensures vertices { Gives stops.Memory (vertices_in system.now) (map_ok result vertex_list) }
     ensures counted { IfOk result (λ v. pivots.new + 1 ≡ pivots.old + v.bases) }
     ensures few { IfOk result (λ v. v.bases ≤ 20000) }
     ensures bounded { pivots.new ≤ pivots.old + 19999 }
@@ -67,7 +67,7 @@ pub fn enumerate_with<R: Threads + Sync, G: Gate, L: Ledger>(
     pivots: &mut PivotCount<L>,
 ) -> Result<Vertices, EnumStop>
     requires enumerable { IsEnumerable system.now }
-    ensures vertices { Gives stops.Memory (vertices_in system.now) (map_ok result list_of) }
+    ensures vertices { Gives stops.Memory (vertices_in system.now) (map_ok result vertex_list) }
     ensures counted { IfOk result (λ v. pivots.new + 1 ≡ pivots.old + v.bases) }
     ensures few { IfOk result (λ v. v.bases ≤ 20000) }
     ensures bounded { pivots.new ≤ pivots.old + 19999 }

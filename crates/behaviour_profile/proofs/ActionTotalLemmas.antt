@@ -6,7 +6,7 @@ use Rattle.std.proofs.lemmas.Bool.Decides.{Decides-eqb}
 use Rattle.std.proofs.lemmas.List.{map-append}
 use Rattle.game_theory.specs.Trees.{Tree}
 use Rattle.game_theory.specs.Behaviour.{is_index}
-use Rattle.game_core.specs.Tree.{GameTree, IsTree}
+use Rattle.game_core.specs.Tree.{GameTree, IsGameTree}
 use Rattle.game_core.specs.TreeGame.{game_of_tree}
 use Rattle.strategy_lists.specs.OwnNumbers.{own_numbers}
 use Rattle.strategy_lists.proofs.ActionCountLemmas.{actions-below}
@@ -70,7 +70,7 @@ module _ (t : Tree) where
       let all = ap sum (made-next (own_counts t) p) ∙ sum-append (flat_map (own_counts t) (range_with_len 0 p)) (own_counts t p) in
       omega (arith, all, here, total-is p)
 
-total-few : (t : GameTree) (p n : ℕ) → IsTree t → n ≤ length t.sets → total_below (game_of_tree t) p n ≤ 65535 * n
+total-few : (t : GameTree) (p n : ℕ) → IsGameTree t → n ≤ length t.sets → total_below (game_of_tree t) p n ≤ 65535 * n
 total-few t p zero valid few = omega (arith, total-none (game_of_tree t) p)
 total-few t p (suc n) valid few =
     let g = game_of_tree t in
@@ -79,7 +79,7 @@ total-few t p (suc n) valid few =
     omega (arith, before, total-next g p n, parts-most (g.owner n) (g.actions n) p, one, valid.few_nodes)
 
 -- all actions fit 32 bits
-pub actions-few : (t : GameTree) → IsTree t → sum (action_counts (game_of_tree t)) < 2 ^ 32
+pub actions-few : (t : GameTree) → IsGameTree t → sum (action_counts (game_of_tree t)) < 2 ^ 32
 actions-few t valid =
     let g = game_of_tree t in
     omega (arith, total-is g g.players, total-few t g.players g.sets valid (omega arith), valid.few_sets, valid.few_nodes)

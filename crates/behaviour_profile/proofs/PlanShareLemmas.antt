@@ -15,24 +15,24 @@ use Rattle.sequence_forms.proofs.SequenceLemmas.{own_set-is, sequence-below, sid
 use Rattle.frac128.specs.Steps.{Step}
 use Rattle.frac128.specs.FirstUnfit.{StepsFit, IsFirstUnfitOf}
 use Rattle.sequence_data.specs.Data.{SideData}
-use Rattle.sequence_data.specs.Weights.{weight}
+use Rattle.sequence_data.specs.Weights.{weight_at}
 use Rattle.sequence_data.specs.declared.types.SetRow.{SetRow}
-use Rattle.sequence_form.specs.Sequences.{set_row, tree_side}
-use Rattle.behaviour_profile.specs.Plans.{OwnAction, actions_at, quotient}
+use Rattle.sequence_form.specs.Sequences.{own_set_row, tree_side}
+use Rattle.behaviour_profile.specs.Plans.{OwnAction, actions_at, quotient_steps}
 use Rattle.behaviour_profile.specs.Shares.{actions_of, share_at, share_steps, steps_at}
 use Rattle.frac128.proofs.UnfitListLemmas.{first_of-map}
 
 module _ (t : Tree) (i place : ℕ) (rows : List SetRow) (side : SideData) (rows_are : rows ≡ side.sets) (side_is : side ≡ tree_side t i) (l : place < length rows) where
-  of_own_sets : rows ≡ map (set_row t i) (own_sets t i)
+  of_own_sets : rows ≡ map (own_set_row t i) (own_sets t i)
   of_own_sets = rows_are ∙ ap (λ (s : SideData). s.sets) side_is
 
   -- a place among the rows is one among the own sets
   pub own_within : place < length (own_sets t i)
-  own_within = omega (arith, l, ap (λ (rs : List SetRow). length rs) of_own_sets, length-map (own_sets t i) (set_row t i))
+  own_within = omega (arith, l, ap (λ (rs : List SetRow). length rs) of_own_sets, length-map (own_sets t i) (own_set_row t i))
 
   -- the row there is that of the own set
-  pub row_is : (d : SetRow) → get_or rows place d ≡ set_row t i (get_or (own_sets t i) place 0)
-  row_is d = ap (λ (rs : List SetRow). get_or rs place d) of_own_sets ∙ get_or-map (set_row t i) (own_sets t i) place 0 d own_within
+  pub row_is : (d : SetRow) → get_or rows place d ≡ own_set_row t i (get_or (own_sets t i) place 0)
+  row_is d = ap (λ (rs : List SetRow). get_or rs place d) of_own_sets ∙ get_or-map (own_set_row t i) (own_sets t i) place 0 d own_within
 
   sequences_are : sequences (side_of t i) ≡ side.sequences
   sequences_are = sym (ap (λ (s : SideData). s.sequences) side_is)
@@ -50,12 +50,12 @@ module _ (t : Tree) (i place : ℕ) (rows : List SetRow) (side : SideData) (rows
       let last = sequence-below t i s (t.actions s - 1) own.0 own.1 (omega (arith, some)) in
       subst₂ (λ (r : SetRow) (n : ℕ). r.first + r.count ≤ n) (sym (row_is d)) sequences_are (omega (arith, some, last))
 
-module _ (t : Tree) (i s : ℕ) (row : SetRow) (weights : List ℚ) (plans : ℕ → ℕ → ℚ) (is : row ≡ set_row t i s) (plan : plans i ≡ weight weights) (own : t.owner s ≡ Some i) where
+module _ (t : Tree) (i s : ℕ) (row : SetRow) (weights : List ℚ) (plans : ℕ → ℕ → ℚ) (is : row ≡ own_set_row t i s) (plan : plans i ≡ weight_at weights) (own : t.owner s ≡ Some i) where
   -- the weights are the plan's
-  before_is : weight weights row.before ≡ plans i (sequence_before t i s)
+  before_is : weight_at weights row.before ≡ plans i (sequence_before t i s)
   before_is = ap (λ (x : ℕ → ℚ). x row.before) (sym plan) ∙ ap (λ (r : SetRow). plans i r.before) is
 
-  after_is : (a : ℕ) → weight weights (row.first + a) ≡ plans i (sequence t i (Some (s, a)))
+  after_is : (a : ℕ) → weight_at weights (row.first + a) ≡ plans i (sequence t i (Some (s, a)))
   after_is a =
       let e : sequence t i (Some (s, 0)) + a ≡ sequence t i (Some (s, a)) = omega arith in
       ap (λ (x : ℕ → ℚ). x (row.first + a)) (sym plan) ∙ ap (λ (r : SetRow). plans i (r.first + a)) is ∙ ap (plans i) e
@@ -67,7 +67,7 @@ module _ (t : Tree) (i s : ℕ) (row : SetRow) (weights : List ℚ) (plans : ℕ
   on_action a = record { player = i; set = s; action = a }
 
   -- and the steps of the shares are its quotients
-  steps_are : steps_at weights row ≡ (λ a. quotient t plans (on_action a))
+  steps_are : steps_at weights row ≡ (λ a. quotient_steps t plans (on_action a))
   steps_are = λ j a. share_steps (before_is j) (after_is a j)
 
   share_is : (a : ℕ) → share_at weights row a ≡ behaviour_of t plans s a
@@ -78,9 +78,9 @@ module _ (t : Tree) (i s : ℕ) (row : SetRow) (weights : List ℚ) (plans : ℕ
   shares_are = λ j. listed (count_is j) (λ a. share_is a j)
 
   -- all quotients at the set fit
-  pub quotients_fit : All (StepsFit (steps_at weights row)) (actions_of row) → All (StepsFit (quotient t plans)) (actions_at t i s)
-  quotients_fit h = All-map (StepsFit (quotient t plans)) on_action (range_with_len 0 (t.actions s)) (subst₂ (λ (f : ℕ → List Step) (n : ℕ). All (StepsFit f) (range_with_len 0 n)) steps_are count_is h)
+  pub quotients_fit : All (StepsFit (steps_at weights row)) (actions_of row) → All (StepsFit (quotient_steps t plans)) (actions_at t i s)
+  quotients_fit h = All-map (StepsFit (quotient_steps t plans)) on_action (range_with_len 0 (t.actions s)) (subst₂ (λ (f : ℕ → List Step) (n : ℕ). All (StepsFit f) (range_with_len 0 n)) steps_are count_is h)
 
   -- or one is the first that does not
-  pub first_quotient : (a : ℕ) (step : Step) → IsFirstUnfitOf (steps_at weights row) (actions_of row) a step → IsFirstUnfitOf (quotient t plans) (actions_at t i s) (on_action a) step
-  first_quotient a step h = first_of-map (quotient t plans) on_action (range_with_len 0 (t.actions s)) a step (subst₂ (λ (f : ℕ → List Step) (n : ℕ). IsFirstUnfitOf f (range_with_len 0 n) a step) steps_are count_is h)
+  pub first_quotient : (a : ℕ) (step : Step) → IsFirstUnfitOf (steps_at weights row) (actions_of row) a step → IsFirstUnfitOf (quotient_steps t plans) (actions_at t i s) (on_action a) step
+  first_quotient a step h = first_of-map (quotient_steps t plans) on_action (range_with_len 0 (t.actions s)) a step (subst₂ (λ (f : ℕ → List Step) (n : ℕ). IsFirstUnfitOf f (range_with_len 0 n) a step) steps_are count_is h)

@@ -17,13 +17,13 @@ use Rattle.game_core.specs.TreeGame.{game_of_tree}
 use Rattle.frac128.specs.Steps.{Step}
 use Rattle.frac128.specs.FirstUnfit.{StepsFit}
 use Rattle.frac128.proofs.FirstUnfitLemmas.{same_stop, no_stop}
-use Rattle.sequence_data.specs.Weights.{weight}
+use Rattle.sequence_data.specs.Weights.{weight_at}
 use Rattle.sequence_data.specs.declared.types.SetRow.{SetRow}
-use Rattle.sequence_form.specs.Sequences.{set_row}
+use Rattle.sequence_form.specs.Sequences.{own_set_row}
 use Rattle.behaviour_profile.specs.declared.plans.BehaviourStop.{BehaviourStop}
 use Rattle.behaviour_profile.specs.declared.plans.BehaviourStop.TheVariants as stops
 use Rattle.behaviour_profile.specs.FirstActions.{entries_at}
-use Rattle.behaviour_profile.specs.Plans.{OwnAction, actions_at, own_actions, both_actions, plans_of, quotient, plan_behaviour, IsUnfitQuotient}
+use Rattle.behaviour_profile.specs.Plans.{OwnAction, actions_at, own_actions, both_actions, both_plans, quotient_steps, plan_behaviour, IsUnfitQuotient}
 use Rattle.behaviour_profile.specs.Shares.{AddsPlan, IsLabelOf, IsPlanStop, IsShareStop, actions_of, share_at, steps_at}
 use Rattle.behaviour_profile.proofs.BehaviourEntryLemmas.{entries_at-push}
 use Rattle.behaviour_profile.proofs.PlanShareLemmas.{shares_are, quotients_fit, first_quotient}
@@ -33,9 +33,9 @@ use Rattle.frac128.proofs.UnfitListLemmas.{first_of-more, first_of-following, pa
 -- the entries at the first n own sets of a player stand after others, and all quotients there fit
 pub record AddsSets (t : Tree) (i : ℕ) (plans : ℕ → ℕ → ℚ) (n : ℕ) (old new : List ℚ) : Type 0 where
   pub entries_are : new ≡ old ++ entries_at t (behaviour_of t plans) (take n (own_sets t i))
-  pub all_fit : All (StepsFit (quotient t plans)) (flat_map (actions_at t i) (take n (own_sets t i)))
+  pub all_fit : All (StepsFit (quotient_steps t plans)) (flat_map (actions_at t i) (take n (own_sets t i)))
 
-module _ (t : Tree) (i place : ℕ) (row : SetRow) (weights : List ℚ) (plans : ℕ → ℕ → ℚ) (l : place < length (own_sets t i)) (is : row ≡ set_row t i (get_or (own_sets t i) place 0)) (plan : plans i ≡ weight weights) where
+module _ (t : Tree) (i place : ℕ) (row : SetRow) (weights : List ℚ) (plans : ℕ → ℕ → ℚ) (l : place < length (own_sets t i)) (is : row ≡ own_set_row t i (get_or (own_sets t i) place 0)) (plan : plans i ≡ weight_at weights) where
   abbrev here : ℕ
   here = get_or (own_sets t i) place 0
 
@@ -49,7 +49,7 @@ module _ (t : Tree) (i place : ℕ) (row : SetRow) (weights : List ℚ) (plans :
   pub next_set : (old now new : List ℚ) → AddsSets t i plans place old now → new ≡ now ++ listed row.count (share_at weights row) → All (StepsFit (steps_at weights row)) (actions_of row) → AddsSets t i plans (place + 1) old new
   next_set old now new so_far push fit = record {
     entries_are = entries_at-push t (behaviour_of t plans) new now old (own_sets t i) place here at so_far.entries_are (push ∙ ap (λ v. now ++ v) (shares_are t i here row weights plans is plan own));
-    all_fit = parts_fit (quotient t plans) (actions_at t i) (own_sets t i) place here at so_far.all_fit (quotients_fit t i here row weights plans is plan own fit);
+    all_fit = parts_fit (quotient_steps t plans) (actions_at t i) (own_sets t i) place here at so_far.all_fit (quotients_fit t i here row weights plans is plan own fit);
   }
 
 -- all sets
@@ -57,17 +57,17 @@ pub all_sets : (t : GameTree) (i n : ℕ) (plans : ℕ → ℕ → ℚ) (old new
 all_sets t i n plans old new l a =
     let g : Tree = game_of_tree t in
     let all : take n (own_sets g i) ≡ own_sets g i = take_all n (own_sets g i) l in
-    record { entries_are = a.entries_are ∙ ap (λ v. old ++ entries_at g (behaviour_of g plans) v) all; all_fit = subst (λ v. All (StepsFit (quotient g plans)) (flat_map (actions_at g i) v)) all a.all_fit }
+    record { entries_are = a.entries_are ∙ ap (λ v. old ++ entries_at g (behaviour_of g plans) v) all; all_fit = subst (λ v. All (StepsFit (quotient_steps g plans)) (flat_map (actions_at g i) v)) all a.all_fit }
 
 -- a set stops its player's plan
-pub set_stop : (t : GameTree) (i place label : ℕ) (row : SetRow) (weights : List ℚ) (plans : ℕ → ℕ → ℚ) (old now : List ℚ) (stop : BehaviourStop) → place < length (own_sets (game_of_tree t) i) → row ≡ set_row (game_of_tree t) i (get_or (own_sets (game_of_tree t) i) place 0)
-    → plans i ≡ weight weights → AddsSets (game_of_tree t) i plans place old now → IsLabelOf t (get_or (own_sets (game_of_tree t) i) place 0) label → IsShareStop weights row i label stop → IsPlanStop t i plans stop
+pub set_stop : (t : GameTree) (i place label : ℕ) (row : SetRow) (weights : List ℚ) (plans : ℕ → ℕ → ℚ) (old now : List ℚ) (stop : BehaviourStop) → place < length (own_sets (game_of_tree t) i) → row ≡ own_set_row (game_of_tree t) i (get_or (own_sets (game_of_tree t) i) place 0)
+    → plans i ≡ weight_at weights → AddsSets (game_of_tree t) i plans place old now → IsLabelOf t (get_or (own_sets (game_of_tree t) i) place 0) label → IsShareStop weights row i label stop → IsPlanStop t i plans stop
 set_stop t i place label row weights plans old now (stops.Range player set step) l is plan so_far labelled h =
     let g : Tree = game_of_tree t in
     let s : ℕ = get_or (own_sets g i) place 0 in
     record {
       at = record { player = i; set = s; action = h.2.0 };
-      first = first_of-part (quotient g plans) (actions_at g i) (own_sets g i) place s (slice_get-get_or (own_sets g i) place 0 l) _ step so_far.all_fit (first_quotient g i s row weights plans is plan (own_set-is g i place l).1 h.2.0 step h.2.1);
+      first = first_of-part (quotient_steps g plans) (actions_at g i) (own_sets g i) place s (slice_get-get_or (own_sets g i) place 0 l) _ step so_far.all_fit (first_quotient g i s row weights plans is plan (own_set-is g i place l).1 h.2.0 step h.2.1);
       player_is = h.0;
       label_is = record { set = labelled.set; stands_at = labelled.stands_at; label_is = h.1 ∙ labelled.label_is };
     }
@@ -75,10 +75,10 @@ set_stop t i place label row weights plans old now stops.Memory l is plan so_far
 
 -- ---- two players
 -- what stops the first
-pub first_stop : (t : GameTree) (one two : List ℚ) (stop : BehaviourStop) → IsPlanStop t 0 (plans_of one two) stop → Gives stops.Memory (plan_behaviour t one two) (Err stop)
+pub first_stop : (t : GameTree) (one two : List ℚ) (stop : BehaviourStop) → IsPlanStop t 0 (both_plans one two) stop → Gives stops.Memory (plan_behaviour t one two) (Err stop)
 first_stop t one two (stops.Range player label step) h = inr (record {
   at = h.at;
-  first = first_of-more (quotient (game_of_tree t) (plans_of one two)) (own_actions (game_of_tree t) 0) (own_actions (game_of_tree t) 1) h.at step h.first;
+  first = first_of-more (quotient_steps (game_of_tree t) (both_plans one two)) (own_actions (game_of_tree t) 0) (own_actions (game_of_tree t) 1) h.at step h.first;
   player_is = h.player_is;
   set = h.label_is.set;
   stands_at = h.label_is.stands_at;
@@ -87,10 +87,10 @@ first_stop t one two (stops.Range player label step) h = inr (record {
 first_stop t one two stops.Memory h = inl refl
 
 -- what stops the second
-pub second_stop : (t : GameTree) (one two old new : List ℚ) (stop : BehaviourStop) → AddsPlan t 0 (plans_of one two) old new → IsPlanStop t 1 (plans_of one two) stop → Gives stops.Memory (plan_behaviour t one two) (Err stop)
+pub second_stop : (t : GameTree) (one two old new : List ℚ) (stop : BehaviourStop) → AddsPlan t 0 (both_plans one two) old new → IsPlanStop t 1 (both_plans one two) stop → Gives stops.Memory (plan_behaviour t one two) (Err stop)
 second_stop t one two old new (stops.Range player label step) a h = inr (record {
   at = h.at;
-  first = first_of-following (quotient (game_of_tree t) (plans_of one two)) (own_actions (game_of_tree t) 0) (own_actions (game_of_tree t) 1) h.at step a.all_fit h.first;
+  first = first_of-following (quotient_steps (game_of_tree t) (both_plans one two)) (own_actions (game_of_tree t) 0) (own_actions (game_of_tree t) 1) h.at step a.all_fit h.first;
   player_is = h.player_is;
   set = h.label_is.set;
   stands_at = h.label_is.stands_at;
@@ -99,11 +99,11 @@ second_stop t one two old new (stops.Range player label step) a h = inr (record 
 second_stop t one two old new stops.Memory a h = inl refl
 
 -- and what is made where nothing does
-pub both_made : (t : GameTree) (one two old now new : List ℚ) → length t.players ≡ 2 → old ≡ [] → AddsPlan t 0 (plans_of one two) old now → AddsPlan t 1 (plans_of one two) now new → plan_behaviour t one two (Ok new)
+pub both_made : (t : GameTree) (one two old now new : List ℚ) → length t.players ≡ 2 → old ≡ [] → AddsPlan t 0 (both_plans one two) old now → AddsPlan t 1 (both_plans one two) now new → plan_behaviour t one two (Ok new)
 both_made t one two old now new two_players none a b =
     let g : Tree = game_of_tree t in
-    let behaviour = behaviour_of g (plans_of one two) in (
-      All-append (StepsFit (quotient g (plans_of one two))) (own_actions g 0) (own_actions g 1) a.all_fit b.all_fit,
+    let behaviour = behaviour_of g (both_plans one two) in (
+      All-append (StepsFit (quotient_steps g (both_plans one two))) (own_actions g 0) (own_actions g 1) a.all_fit b.all_fit,
       b.entries_are ∙ ap (λ v. v ++ own_entries g behaviour 1) (a.entries_are ∙ ap (λ v. v ++ own_entries g behaviour 0) none)
           ∙ ap (λ v. own_entries g behaviour 0 ++ v) (sym (append-nil (own_entries g behaviour 1))) ∙ ap (entries_from g behaviour 0) (sym two_players),
     )
@@ -114,7 +114,7 @@ same_quotient : (t : GameTree) (plans : ℕ → ℕ → ℚ) (i j label number :
 same_quotient t plans i j label number step other h g = λ k. Err (stops.Range (player_same k) (label_same k) (same.1 k))
   where
     same : (h.at ≡ g.at) × (step ≡ other)
-    same = same_stop (quotient (game_of_tree t) plans) (both_actions t) h.at g.at step other h.first g.first
+    same = same_stop (quotient_steps (game_of_tree t) plans) (both_actions t) h.at g.at step other h.first g.first
 
     player_same : i ≡ j
     player_same = h.player_is ∙ ap (λ (a : OwnAction). a.player) same.0 ∙ sym g.player_is
@@ -126,14 +126,14 @@ same_quotient t plans i j label number step other h g = λ k. Err (stops.Range (
     label_same = h.label_is ∙ ap (λ (s : InformationSet). s.label) set_same ∙ sym g.label_is
 
 -- there is none where all fit
-no_quotient : (t : GameTree) (plans : ℕ → ℕ → ℚ) (i label : ℕ) (step : Step) → All (StepsFit (quotient (game_of_tree t) plans)) (both_actions t) → IsUnfitQuotient t plans i label step → ⊥
-no_quotient t plans i label step fit h = no_stop (quotient (game_of_tree t) plans) (both_actions t) h.at step h.first fit
+no_quotient : (t : GameTree) (plans : ℕ → ℕ → ℚ) (i label : ℕ) (step : Step) → All (StepsFit (quotient_steps (game_of_tree t) plans)) (both_actions t) → IsUnfitQuotient t plans i label step → ⊥
+no_quotient t plans i label step fit h = no_stop (quotient_steps (game_of_tree t) plans) (both_actions t) h.at step h.first fit
 
 pub plan_behaviour-single : (t : GameTree) (one two : List ℚ) → IsSingle (plan_behaviour t one two)
 plan_behaviour-single t one two (Ok x) (Ok y) h g = ap Ok (h.1 ∙ sym g.1)
-plan_behaviour-single t one two (Ok x) (Err (stops.Range i label step)) h g = absurd (no_quotient t (plans_of one two) i label step h.0 g)
+plan_behaviour-single t one two (Ok x) (Err (stops.Range i label step)) h g = absurd (no_quotient t (both_plans one two) i label step h.0 g)
 plan_behaviour-single t one two (Ok x) (Err stops.Memory) h g = absurd g
-plan_behaviour-single t one two (Err (stops.Range i label step)) (Ok y) h g = absurd (no_quotient t (plans_of one two) i label step g.0 h)
-plan_behaviour-single t one two (Err (stops.Range i label step)) (Err (stops.Range j number other)) h g = same_quotient t (plans_of one two) i j label number step other h g
+plan_behaviour-single t one two (Err (stops.Range i label step)) (Ok y) h g = absurd (no_quotient t (both_plans one two) i label step g.0 h)
+plan_behaviour-single t one two (Err (stops.Range i label step)) (Err (stops.Range j number other)) h g = same_quotient t (both_plans one two) i j label number step other h g
 plan_behaviour-single t one two (Err (stops.Range i label step)) (Err stops.Memory) h g = absurd g
 plan_behaviour-single t one two (Err stops.Memory) other h g = absurd h

@@ -9,11 +9,11 @@ use Rattle.rational.specs.Rational.{ℚ}
 use Rattle.game_theory.specs.OwnSets.{own_sets}
 use Rattle.game_theory.specs.Trees.{Tree, IsTree as is_game_tree}
 use Rattle.game_theory.proofs.OwnSetLemmas.{IsAmong, own_sets-tell}
-use Rattle.game_core.specs.Tree.{GameTree, IsTree, InformationSet, own_sets as own_sets_of}
+use Rattle.game_core.specs.Tree.{GameTree, IsGameTree, InformationSet, own_sets as own_sets_of}
 use Rattle.game_core.specs.TreeGame.{game_of_tree}
 use Rattle.strategy_lists.proofs.ActionCountLemmas.{actions-below}
 use Rattle.behaviour_profile.specs.declared.entries.ProfileFault.{ProfileFault}
-use Rattle.behaviour_profile.specs.EntryTests.{IsFirstFault, Passes, action_counts, own_counts, tests_from}
+use Rattle.behaviour_profile.specs.EntryTests.{IsFirstProfileFault, Passes, action_counts, own_counts, tests_from}
 use Rattle.behaviour_profile.proofs.BehaviourEntryLemmas.{actions-counted, own_set-below, place-found}
 use Rattle.behaviour_profile.proofs.GroupListLemmas.{fault-longer, groups_fault, groups_pass, sum-append, sum-cons, sum-nil}
 use Rattle.behaviour_profile.proofs.GroupTestLemmas.{made-next}
@@ -44,7 +44,7 @@ module _ (t : GameTree) (i k : ℕ) (read : Option ℕ) (is : read ≡ slice_get
     pub count-is : (sets : List InformationSet) (set : InformationSet) → sets ≡ t.sets → set ≡ get_or sets s set → length set.actions ≡ (game_of_tree t).actions s
     count-is sets set same_sets here = actions-counted t sets set s same_sets (subst (λ xs. s < length xs) (sym same_sets) set-below) here
 
-    pub count-few : (n : ℕ) → IsTree t → n ≡ (game_of_tree t).actions s → n < 2 ^ 32
+    pub count-few : (n : ℕ) → IsGameTree t → n ≡ (game_of_tree t).actions s → n < 2 ^ 32
     count-few n valid e = let few = actions-below t s valid set-below in omega (arith, few, e, valid.few_nodes)
 
 -- ---- all players
@@ -99,11 +99,11 @@ module _ (t : Tree) where
 
   -- ---- their tests
   module _ (entries : List ℚ) where
-    later-fault : (p n : ℕ) (fault : ProfileFault) → p ≤ n → IsFirstFault (tests_from entries 0 0 (counts_below p)) fault → IsFirstFault (tests_from entries 0 0 (counts_below n)) fault
-    later-fault p zero fault l h = let e : p ≡ 0 = omega arith in subst (λ k. IsFirstFault (tests_from entries 0 0 (counts_below k)) fault) e h
+    later-fault : (p n : ℕ) (fault : ProfileFault) → p ≤ n → IsFirstProfileFault (tests_from entries 0 0 (counts_below p)) fault → IsFirstProfileFault (tests_from entries 0 0 (counts_below n)) fault
+    later-fault p zero fault l h = let e : p ≡ 0 = omega arith in subst (λ k. IsFirstProfileFault (tests_from entries 0 0 (counts_below k)) fault) e h
     later-fault p (suc n) fault l h = elim (eq-or-lt_of_le l) [
-      | inl e ↦ subst (λ k. IsFirstFault (tests_from entries 0 0 (counts_below k)) fault) e h
-      | inr b ↦ subst (λ v. IsFirstFault (tests_from entries 0 0 v) fault) (sym (made-next (own_counts t) n)) (fault-longer entries 0 0 (counts_below n) (own_counts t n) fault (later-fault p n fault (le_of_suc-le-suc b) h))
+      | inl e ↦ subst (λ k. IsFirstProfileFault (tests_from entries 0 0 (counts_below k)) fault) e h
+      | inr b ↦ subst (λ v. IsFirstProfileFault (tests_from entries 0 0 v) fault) (sym (made-next (own_counts t) n)) (fault-longer entries 0 0 (counts_below n) (own_counts t n) fault (later-fault p n fault (le_of_suc-le-suc b) h))
     ]
 
     module _ (p place group : ℕ) (place_is : place ≡ sum (counts_below p)) (group_is : group ≡ length (counts_below p)) (passed : All Passes (tests_from entries 0 0 (counts_below p))) where
@@ -113,7 +113,7 @@ module _ (t : Tree) where
       pub player_passes : All Passes (tests_from entries place group (own_counts t p)) → All Passes (tests_from entries 0 0 (counts_below (p + 1)))
       player_passes h = subst (λ v. All Passes (tests_from entries 0 0 v)) (sym (counts-next p)) (groups_pass entries 0 0 (counts_below p) (own_counts t p) passed (subst (All Passes) own_tests h))
 
-      pub player_fault : (fault : ProfileFault) → p < t.players → IsFirstFault (tests_from entries place group (own_counts t p)) fault → IsFirstFault (tests_from entries 0 0 (action_counts t)) fault
+      pub player_fault : (fault : ProfileFault) → p < t.players → IsFirstProfileFault (tests_from entries place group (own_counts t p)) fault → IsFirstProfileFault (tests_from entries 0 0 (action_counts t)) fault
       player_fault fault l h =
           later-fault (p + 1) t.players fault (omega (arith, l))
-          (subst (λ v. IsFirstFault (tests_from entries 0 0 v) fault) (sym (counts-next p)) (groups_fault entries 0 0 (counts_below p) (own_counts t p) passed fault (subst (λ tests. IsFirstFault tests fault) own_tests h)))
+          (subst (λ v. IsFirstProfileFault (tests_from entries 0 0 v) fault) (sym (counts-next p)) (groups_fault entries 0 0 (counts_below p) (own_counts t p) passed fault (subst (λ tests. IsFirstProfileFault tests fault) own_tests h)))

@@ -67,7 +67,7 @@ pub record IsFirstFailed (tests : List Test) (test : Test) : Type 0 where
   pub fails : Passes test → ⊥
 
 -- what is wrong at the first of these tests that is not passed
-pub record IsFirstFault (tests : List Test) (fault : ProfileFault) : Type 0 where
+pub record IsFirstProfileFault (tests : List Test) (fault : ProfileFault) : Type 0 where
   pub test : Test
   pub is_first : IsFirstFailed tests test
   pub fault_is : fault ≡ fault_of test
@@ -78,7 +78,7 @@ pub record IsFirstFault (tests : List Test) (fault : ProfileFault) : Type 0 wher
 abbrev pub IsProfileFault : List ℕ → List ℚ → ProfileFault → Type 0
 IsProfileFault sizes entries fault =
     ((length entries ≢ sum sizes) × (fault ≡ faults.Count))
-    ⊎ ((length entries ≡ sum sizes) × IsFirstFault (tests_from entries 0 0 sizes) fault)
+    ⊎ ((length entries ≡ sum sizes) × IsFirstProfileFault (tests_from entries 0 0 sizes) fault)
 
 -- Entries in groups of these sizes, whose count is right and whose tests are all passed; or what
 -- is wrong first.

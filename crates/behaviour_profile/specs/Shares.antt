@@ -10,9 +10,9 @@ use Rattle.sequence_forms.specs.PlanBehaviour.{behaviour_of, share}
 use Rattle.game_core.specs.Tree.{GameTree, InformationSet}
 use Rattle.game_core.specs.TreeGame.{game_of_tree}
 use Rattle.frac128.specs.FirstUnfit.{StepsFit, IsFirstUnfitOf}
-use Rattle.sequence_data.specs.Weights.{weight}
+use Rattle.sequence_data.specs.Weights.{weight_at}
 use Rattle.sequence_data.specs.declared.types.SetRow.{SetRow}
-use Rattle.behaviour_profile.specs.Plans.{OwnAction, own_actions, quotient}
+use Rattle.behaviour_profile.specs.Plans.{OwnAction, own_actions, quotient_steps}
 use Rattle.behaviour_profile.specs.declared.plans.BehaviourStop.{BehaviourStop}
 use Rattle.behaviour_profile.specs.declared.plans.BehaviourStop.TheVariants as stops
 
@@ -23,11 +23,11 @@ share_steps before after = if eq_test before zero_ℚ then [] else unfit Div aft
 
 -- the share of action a of a set
 abbrev pub share_at : List ℚ → SetRow → ℕ → ℚ
-share_at weights row a = share row.count (weight weights row.before) (weight weights (row.first + a))
+share_at weights row a = share row.count (weight_at weights row.before) (weight_at weights (row.first + a))
 
 -- its step
 abbrev pub steps_at : List ℚ → SetRow → ℕ → List Step
-steps_at weights row a = share_steps (weight weights row.before) (weight weights (row.first + a))
+steps_at weights row a = share_steps (weight_at weights row.before) (weight_at weights (row.first + a))
 
 -- the actions of a set
 abbrev pub actions_of : SetRow → List ℕ
@@ -48,12 +48,12 @@ IsShareStop weights row i label stops.Memory = Unit {0}
 -- the entries of player i's plan stand after others, and all its quotients fit
 pub record AddsPlan (t : GameTree) (i : ℕ) (plans : ℕ → ℕ → ℚ) (old new : List ℚ) : Type 0 where
   pub entries_are : new ≡ old ++ own_entries (game_of_tree t) (behaviour_of (game_of_tree t) plans) i
-  pub all_fit : All (StepsFit (quotient (game_of_tree t) plans)) (own_actions (game_of_tree t) i)
+  pub all_fit : All (StepsFit (quotient_steps (game_of_tree t) plans)) (own_actions (game_of_tree t) i)
 
 -- the first quotient of player i that does not fit: its player, and its set as a file numbers it
 pub record IsUnfitOwn (t : GameTree) (i : ℕ) (plans : ℕ → ℕ → ℚ) (player label : ℕ) (step : Step) : Type 0 where
   pub at : OwnAction
-  pub first : IsFirstUnfitOf (quotient (game_of_tree t) plans) (own_actions (game_of_tree t) i) at step
+  pub first : IsFirstUnfitOf (quotient_steps (game_of_tree t) plans) (own_actions (game_of_tree t) i) at step
   pub player_is : player ≡ at.player
   pub label_is : IsLabelOf t at.set label
 

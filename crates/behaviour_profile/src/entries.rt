@@ -25,7 +25,7 @@ ghost use Rattle.behaviour_profile.specs.EntryLaws.{
   TestedEntriesAreProfiles,
 };
 ghost use Rattle.behaviour_profile.specs.EntryTests.{
-  IsFirstFault,
+  IsFirstProfileFault,
   Passes,
   action_counts,
   group_tests,
@@ -71,7 +71,7 @@ pub fn test_group(entries: &[Frac], place: u32, group: u32, count: u32) -> Resul
     requires within { place + count ≤ length entries.now }
     requires few { place + count < 2 ^ 32 }
     ensures passed { OnOk result (All Passes (group_tests entries.now place group count)) }
-    ensures fault { IfErr result (IsFirstFault (group_tests entries.now place group count)) }
+    ensures fault { IfErr result (IsFirstProfileFault (group_tests entries.now place group count)) }
 {
     let mut sum = Frac::zero();
     for k in 0..count {
@@ -139,7 +139,7 @@ fn test_player(
     ensures passed { let own = own_counts (game_of_tree tree.now) player in
         OnOk result (All Passes (tests_from entries.now place group own)) }
     ensures fault { let own = own_counts (game_of_tree tree.now) player in
-        IfErr result (IsFirstFault (tests_from entries.now place group own)) }
+        IfErr result (IsFirstProfileFault (tests_from entries.now place group own)) }
 {
     own_sets_are_those_of_the_tree();
     let mut here = place;
@@ -164,7 +164,7 @@ fn test_players(tree: &Tree, entries: &[Frac]) -> Result<(), ProfileFault>
     ensures passed { let counts = action_counts (game_of_tree tree.now) in
         OnOk result (All Passes (tests_from entries.now 0 0 counts)) }
     ensures fault { let counts = action_counts (game_of_tree tree.now) in
-        IfErr result (IsFirstFault (tests_from entries.now 0 0 counts)) }
+        IfErr result (IsFirstProfileFault (tests_from entries.now 0 0 counts)) }
 {
     stands_for_game_tree(tree);
     let mut position = Position { place: 0, group: 0 };

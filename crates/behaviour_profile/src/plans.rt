@@ -24,7 +24,7 @@ ghost use Rattle.game_core.specs.Tree.{GameTree};
 ghost use Rattle.game_core.specs.TreeGame.{game_of_tree};
 ghost use Rattle.frac128.specs.FirstUnfit.{StepsFit};
 ghost use Rattle.frac128.specs.Steps.{StepFits, IsFirstUnfit};
-ghost use Rattle.sequence_data.specs.Weights.{weight};
+ghost use Rattle.sequence_data.specs.Weights.{weight_at};
 ghost use Rattle.sequence_form.specs.Forms.{IsTreeForm};
 ghost use Rattle.sequence_form.specs.Sequences.{tree_side};
 ghost use Rattle.behaviour_profile.specs.declared.plans.BehaviourStop.TheVariants as stops;
@@ -145,9 +145,9 @@ fn push_plan(
 ) -> Result<(), BehaviourStop>
     requires side { side.now ≡ tree_side (game_of_tree tree.now) player }
     requires plan { length plan.now ≡ side.now.sequences }
-    ensures added { (plans : ℕ → ℕ → ℚ) → plans player ≡ weight plan.now
+    ensures added { (plans : ℕ → ℕ → ℚ) → plans player ≡ weight_at plan.now
         → OnOk result (AddsPlan tree.now player plans entries.old.items entries.new.items) }
-    ensures stop { (plans : ℕ → ℕ → ℚ) → plans player ≡ weight plan.now
+    ensures stop { (plans : ℕ → ℕ → ℚ) → plans player ≡ weight_at plan.now
         → IfErr result (IsPlanStop tree.now player plans) }
 {
     stands_for_game_tree(tree);

@@ -7,7 +7,7 @@ use Rattle.answers.specs.Answers.{Gives, IsSingle}
 use Rattle.game_core.specs.declared.too_large.TooLarge.{TooLarge}
 use Rattle.game_core.specs.declared.too_large.What.{What}
 use Rattle.game_core.specs.declared.too_large.What.TheVariants as what
-use Rattle.game_core.specs.Tree.{GameTree, IsTree}
+use Rattle.game_core.specs.Tree.{GameTree, IsGameTree}
 use Rattle.file_parts.specs.Reading.{offset_of}
 use Rattle.file_parts.specs.Parsing.{counted, IsRefusal}
 use Rattle.file_parts.specs.declared.refusal.Refusal.{Refusal}
@@ -108,7 +108,7 @@ few_of list x few e = few_players (map (λ s. s.token) list) x (rw (length-map l
 pub read_file : (list : List Spanned) (x : Head × List Token) (partial : PartialTree) → length list < 2 ^ 32 → parse_head (map (λ s. s.token) list) ≡ Ok x → parse_all_nodes (length x.0.1) x.1 ≡ Ok partial → IsTreeFile (map (λ s. s.token) list) (tree_so_far x.0.0 x.0.1 partial)
 read_file list x partial few e f = read_is_file (map (λ s. s.token) list) x partial (few_of list x few e) (head_front (map (λ s. s.token) list) x e) (whole_same (length x.0.1) x.1 partial f)
 
-pub read_tree : (list : List Spanned) (x : Head × List Token) (partial : PartialTree) → length list < 2 ^ 32 → parse_head (map (λ s. s.token) list) ≡ Ok x → parse_all_nodes (length x.0.1) x.1 ≡ Ok partial → IsTree (tree_so_far x.0.0 x.0.1 partial)
+pub read_tree : (list : List Spanned) (x : Head × List Token) (partial : PartialTree) → length list < 2 ^ 32 → parse_head (map (λ s. s.token) list) ≡ Ok x → parse_all_nodes (length x.0.1) x.1 ≡ Ok partial → IsGameTree (tree_so_far x.0.0 x.0.1 partial)
 read_tree list x partial few e f = (read_file list x partial few e f).describe.partial
 
 -- a tree that has been made is that of the file

@@ -1,7 +1,7 @@
 // Reads a tree from the tokens of a file.
 ghost use Rattle.std.specs.Prelude.{ℕ, ◌≡◌, ◌⊎◌, ◌<◌, ◌^◌, length, IfOk, IfErr};
 ghost use Rattle.answers.specs.Answers.{Gives, IsSingle};
-ghost use Rattle.game_core.specs.Tree.{IsTree};
+ghost use Rattle.game_core.specs.Tree.{IsGameTree};
 ghost use Rattle.written_trees.specs.Building.{tree_so_far};
 ghost use Rattle.tree_grammar.specs.TreeFaults.{IsFile};
 ghost use Rattle.tree_grammar.specs.FaultKinds.{IsFault};
@@ -57,7 +57,7 @@ fn nodes_stop(stopped: Stop, tokens: &Tokens) -> EfgStop
 
 // The tree with these parts.
 fn tree(alloc: Global, front: Front, builder: Builder) -> Result<Tree, EfgStop>
-    requires { IsTree (tree_so_far front.title front.players.items builder) }
+    requires { IsGameTree (tree_so_far front.title front.players.items builder) }
     ensures tree { IfOk result
         (λ t. t ≡ tree_so_far front.title front.players.items builder) }
     ensures memory { IfErr result (λ stop. stop ≡ Memory) }

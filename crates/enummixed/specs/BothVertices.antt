@@ -2,7 +2,7 @@
 use Rattle.answers.specs.Answers.{Answer, only, ◌>>=◌, refused_by}
 use Rattle.lex_tableau.specs.Starts.{Parts}
 use Rattle.basis_enum.specs.Enumeration.{vertices_in}
-use Rattle.basis_enum.specs.Vertices.{VertexList, list_of}
+use Rattle.basis_enum.specs.Vertices.{VertexList, vertex_list}
 use Rattle.basis_enum.specs.declared.vertex.Vertices.{Vertices}
 use Rattle.enummixed.specs.Told.{enumeration_stop}
 use Rattle.enummixed.specs.declared.stop.MixedStop.{MixedStop}
@@ -16,4 +16,4 @@ both_vertices_in one two = do
 
 -- two lists of vertices as contracts see them
 abbrev pub both_lists_of : Vertices × Vertices → VertexList × VertexList
-both_lists_of both = (list_of both.0, list_of both.1)
+both_lists_of both = (vertex_list both.0, vertex_list both.1)

@@ -4,7 +4,7 @@ ghost use Rattle.answers.specs.Answers.{Gives, refused_by, map_ok};
 ghost use Rattle.game_core.specs.Table.{game_of};
 ghost use Rattle.basis_enum.specs.Systems.{IsEnumerable};
 ghost use Rattle.basis_enum.specs.Enumeration.{vertices_in};
-ghost use Rattle.basis_enum.specs.Vertices.{marks_of, list_of};
+ghost use Rattle.basis_enum.specs.Vertices.{marks_of, vertex_list};
 ghost use Rattle.label_pairing.specs.Pairs.{mark_at};
 ghost use Rattle.label_pairing.specs.Scaling.{IsScalable};
 ghost use Rattle.enummixed.specs.BothVertices.{both_lists_of, both_vertices_in};
@@ -65,7 +65,7 @@ fn enumerated<R: Threads + Sync, G: Gate, L: Ledger>(
 ) -> Result<Vertices, EnumStop>
     requires enumerable { IsEnumerable system.now }
     requires blank { (L.parts ≡ blank.parts) × (L.name ≡ blank.name) × (0 < blank.parts) }
-    ensures vertices { Gives enum_stops.Memory (vertices_in system.now) (map_ok result list_of) }
+    ensures vertices { Gives enum_stops.Memory (vertices_in system.now) (map_ok result vertex_list) }
     ensures few { IfOk result (λ v. v.bases ≤ 20000) }
 {
     let mut pivots = PivotCount::<L>::new(blank);
@@ -84,7 +84,7 @@ fn vertices_of<R: Threads + Sync, G: Gate>(
     requires enumerable { IsEnumerable system.now }
     ensures vertices { Gives stops.Memory
         (refused_by (enumeration_stop polytope) (vertices_in system.now))
-        (map_ok result list_of) }
+        (map_ok result vertex_list) }
     ensures few { IfOk result (λ v. v.bases ≤ 20000) }
 {
     match enumerated::<R, G, Brand>(rt, alloc, system, helpers, gate, Blank::new(1)) {
@@ -105,7 +105,7 @@ fn vertices_beside<R: Threads + Sync, G: Gate>(
     requires enumerable { IsEnumerable system.now }
     ensures vertices { Gives stops.Memory
         (refused_by (enumeration_stop polytope) (vertices_in system.now))
-        (map_ok result list_of) }
+        (map_ok result vertex_list) }
     ensures few { IfOk result (λ v. v.bases ≤ 20000) }
 {
     make_room(alloc);
@@ -156,14 +156,14 @@ fn side_by_side<R: Threads + Sync, G: Gate>(
             requires one { IsEnumerable one.now }
             ensures vertices { Gives stops.Memory
                 (refused_by (enumeration_stop 0) (vertices_in one.entry.now))
-                (map_ok result list_of) }
+                (map_ok result vertex_list) }
             ensures few { IfOk result (λ v. v.bases ≤ 20000) }
         { vertices_beside(rt, alloc, 0, one, helpers, gate) },
         || -> Result<Vertices, MixedStop>
             requires two { IsEnumerable two.now }
             ensures vertices { Gives stops.Memory
                 (refused_by (enumeration_stop 1) (vertices_in two.entry.now))
-                (map_ok result list_of) }
+                (map_ok result vertex_list) }
             ensures few { IfOk result (λ v. v.bases ≤ 20000) }
         { vertices_beside(rt, alloc, 1, two, helpers, gate) },
     );

@@ -23,7 +23,7 @@ use Rattle.ne_printer.specs.TextLines.{lines_of}
 use Rattle.ne_checker.specs.declared.stops.CheckStop.{CheckStop}
 use Rattle.ne_checker.specs.declared.stops.CheckStop.TheVariants as check_stop
 use Rattle.perfect_recall.specs.Found.{recall_of}
-use Rattle.reduced_form.specs.Stops.{form_of}
+use Rattle.reduced_form.specs.Stops.{reduced_form_of}
 use Rattle.reduced_form.proofs.OneFormLaws.{form_of-single}
 use Rattle.refusals.specs.Told.{check_refusal, form_refusal, recall_refusal}
 use Rattle.refusals.specs.declared.refusal.Refusal.{Refusal}
@@ -102,8 +102,8 @@ pub verdicts-origin : (strategic : Bool) (game : Game) (lines : List ℕ) (r : R
 verdicts-origin true (Strategic table) lines = told-contents check_refusal (table_check table lines) (table_check-reasons table lines)
 verdicts-origin false (Strategic table) lines = told-contents check_refusal (table_check table lines) (table_check-reasons table lines)
 verdicts-origin true (Extensive tree) lines =
-    then-contents (refused_by form_refusal (form_of tree)) (λ form. refused_by check_refusal (table_check form.table lines))
-    (told-contents form_refusal (form_of tree) (form_origin tree)) (λ form. told-contents check_refusal (table_check form.table lines) (table_check-reasons form.table lines))
+    then-contents (refused_by form_refusal (reduced_form_of tree)) (λ form. refused_by check_refusal (table_check form.table lines))
+    (told-contents form_refusal (reduced_form_of tree) (form_origin tree)) (λ form. told-contents check_refusal (table_check form.table lines) (table_check-reasons form.table lines))
 verdicts-origin false (Extensive tree) lines =
     then-contents (refused_by recall_refusal (recall_of tree)) (λ _. refused_by check_refusal (tree_check tree lines))
     (told-contents recall_refusal (recall_of tree) (recall-contents tree)) (λ _. told-contents check_refusal (tree_check tree lines) (tree_check-reasons tree lines))
@@ -118,8 +118,8 @@ verdicts-single : RecallsAreSingle → ChecksAreSingle → (strategic : Bool) (g
 verdicts-single recalls checks true (Strategic table) lines w = refused_by-single check_refusal (table_check table lines) (checks.tables table lines)
 verdicts-single recalls checks false (Strategic table) lines w = refused_by-single check_refusal (table_check table lines) (checks.tables table lines)
 verdicts-single recalls checks true (Extensive tree) lines w =
-    bind-single (refused_by form_refusal (form_of tree)) (λ form. refused_by check_refusal (table_check form.table lines))
-    (refused_by-single form_refusal (form_of tree) (form_of-single tree))
+    bind-single (refused_by form_refusal (reduced_form_of tree)) (λ form. refused_by check_refusal (table_check form.table lines))
+    (refused_by-single form_refusal (reduced_form_of tree) (form_of-single tree))
     (λ form _. refused_by-single check_refusal (table_check form.table lines) (checks.tables form.table lines))
 verdicts-single recalls checks false (Extensive tree) lines w =
     bind-single (refused_by recall_refusal (recall_of tree)) (λ _. refused_by check_refusal (tree_check tree lines))

@@ -21,7 +21,7 @@ use Rattle.enumpure.specs.declared.listing.ListStop.TheVariants as list_stop
 use Rattle.words.specs.Words.{Command, Enumpure, Enummixed, Lcp, Lp, Convert}
 use Rattle.gambit_tools.specs.Input.{most_bytes}
 use Rattle.refusals.specs.Told.{text_refusal, nfg_refusal, efg_refusal, list_refusal}
-use Rattle.gambit_tools.specs.Games.{game_of, game_in}
+use Rattle.gambit_tools.specs.Games.{game_of_tokens, game_in}
 use Rattle.gambit_tools.specs.Enumpure.{form_text, enumpure}
 use Rattle.gambit_tools.specs.Commands.{tool_of}
 use Rattle.gambit_tools.specs.Origins.{Contents, origin}
@@ -58,7 +58,7 @@ form_text_origin false tree form stop h = list_origin _ stop h
 no_game : (game : Game) (r : Refusal) → only game (Err r) → ⊥
 no_game game r e = cc
 
-game_origin : (tokens : TokenList) (r : Refusal) → game_of tokens (Err r) → origin r ≡ Contents
+game_origin : (tokens : TokenList) (r : Refusal) → game_of_tokens tokens (Err r) → origin r ≡ Contents
 game_origin tokens r (inl (begins, inl h)) = ap origin h.2 ∙ tree_origin tokens h.0 h.1
 game_origin tokens r (inl (begins, inr h)) = absurd (no_game (Extensive h.0) r h.2)
 game_origin tokens r (inr (begins, inl h)) = ap origin h.2 ∙ table_origin tokens h.0 h.1

@@ -5,7 +5,7 @@ use Rattle.answers.proofs.AnswerLemmas.{bind-single, refused_by-single}
 use Rattle.game_core.specs.Table.{GameTable}
 use Rattle.game_core.specs.declared.game.Game.{Game}
 use Rattle.game_core.specs.declared.game.Game.TheVariants.{Strategic, Extensive}
-use Rattle.reduced_form.specs.Stops.{form_of}
+use Rattle.reduced_form.specs.Stops.{reduced_form_of}
 use Rattle.reduced_form.proofs.OneFormLaws.{form_of-single}
 use Rattle.convert_tables.specs.Converted.{IsPlayer, laid_out, within_limit}
 use Rattle.convert_tables.specs.Layouts.{layout}
@@ -29,8 +29,8 @@ layout_in-single false table row column = laid_out-single Sgame table row column
 pub convert-single : (html : Bool) (row column : ℕ) (game : Game) → IsSingle (convert html row column game)
 convert-single html row column (Strategic table) = refused_by-single convert_refusal (layout_in html table row column) (layout_in-single html table row column)
 convert-single html row column (Extensive tree) =
-    bind-single (refused_by form_refusal (form_of tree)) (λ form. refused_by convert_refusal (layout_in html form.table row column))
-    (refused_by-single form_refusal (form_of tree) (form_of-single tree))
+    bind-single (refused_by form_refusal (reduced_form_of tree)) (λ form. refused_by convert_refusal (layout_in html form.table row column))
+    (refused_by-single form_refusal (reduced_form_of tree) (form_of-single tree))
     (λ form _. refused_by-single convert_refusal (layout_in html form.table row column) (layout_in-single html form.table row column))
 
 -- ---- origins
@@ -56,6 +56,6 @@ layout_in-reasons false table row column = laid_out-reasons Sgame table row colu
 pub convert-origin : (html : Bool) (row column : ℕ) (game : Game) (r : Refusal) → convert html row column game (Err r) → origin r ≡ Contents
 convert-origin html row column (Strategic table) = told-contents convert_refusal (layout_in html table row column) (layout_in-reasons html table row column)
 convert-origin html row column (Extensive tree) =
-    then-contents (refused_by form_refusal (form_of tree)) (λ form. refused_by convert_refusal (layout_in html form.table row column))
-    (told-contents form_refusal (form_of tree) (form_origin tree))
+    then-contents (refused_by form_refusal (reduced_form_of tree)) (λ form. refused_by convert_refusal (layout_in html form.table row column))
+    (told-contents form_refusal (reduced_form_of tree) (form_origin tree))
     (λ form. told-contents convert_refusal (layout_in html form.table row column) (layout_in-reasons html form.table row column))

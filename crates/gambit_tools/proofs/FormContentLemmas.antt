@@ -13,7 +13,7 @@ use Rattle.behaviour_profile.specs.declared.plans.BehaviourStop.TheVariants as b
 use Rattle.perfect_recall.specs.Found.{recall_of}
 use Rattle.perfect_recall.specs.declared.recall.RecallStop.{RecallStop}
 use Rattle.perfect_recall.specs.declared.recall.RecallStop.TheVariants as recall_stop
-use Rattle.reduced_form.specs.Stops.{form_of}
+use Rattle.reduced_form.specs.Stops.{reduced_form_of}
 use Rattle.reduced_form.specs.declared.stop.ReduceStop.{ReduceStop}
 use Rattle.reduced_form.specs.declared.stop.ReduceStop.TheVariants as reduce_stop
 use Rattle.sequence_data.specs.declared.stop.SeqStop.{SeqStop}
@@ -67,7 +67,7 @@ pub recall-contents : (t : GameTree) (stop : RecallStop) → recall_of t (Err st
 recall-contents t (recall_stop.Forgets f) h = refl
 recall-contents t recall_stop.Memory h = absurd h
 
-pub form_origin : (tree : GameTree) (stop : ReduceStop) → form_of tree (Err stop) → origin (form_refusal stop) ≡ Contents
+pub form_origin : (tree : GameTree) (stop : ReduceStop) → reduced_form_of tree (Err stop) → origin (form_refusal stop) ≡ Contents
 form_origin tree (reduce_stop.TooLarge limit) h = refl
 form_origin tree (reduce_stop.Range profile player step) h = refl
 form_origin tree reduce_stop.Memory h = absurd h
@@ -107,8 +107,8 @@ pub form_in-contents : (rows : Counts → ℕ) (strategic : Bool) (game : Game) 
 form_in-contents rows true (Strategic t) = form_of_table-contents rows t
 form_in-contents rows false (Strategic t) = form_of_table-contents rows t
 form_in-contents rows true (Extensive t) =
-    then-contents (refused_by form_refusal (form_of t)) (λ form. form_of_table rows form.table)
-    (told-contents form_refusal (form_of t) (form_origin t)) (λ form. form_of_table-contents rows form.table)
+    then-contents (refused_by form_refusal (reduced_form_of t)) (λ form. form_of_table rows form.table)
+    (told-contents form_refusal (reduced_form_of t) (form_origin t)) (λ form. form_of_table-contents rows form.table)
 form_in-contents rows false (Extensive t) = form_of_tree-contents rows t
 
 -- ---- the line

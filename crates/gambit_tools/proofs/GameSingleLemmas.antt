@@ -12,7 +12,7 @@ use Rattle.efg_reader.specs.Stops.{tree_in}
 use Rattle.efg_reader.proofs.FileStopLemmas.{tree_in-single}
 use Rattle.refusals.specs.Told.{text_refusal, nfg_refusal, efg_refusal}
 use Rattle.refusals.specs.declared.refusal.Refusal.TheVariants as refusal
-use Rattle.gambit_tools.specs.Games.{BeginsAsTree, tokens_in, tree_game, table_game, game_of, game_in}
+use Rattle.gambit_tools.specs.Games.{BeginsAsTree, tokens_in, tree_game, table_game, game_of_tokens, game_in}
 use Rattle.gambit_tools.specs.Input.{most_bytes}
 
 tokens_in-single : (bytes : List ℕ) → IsSingle (tokens_in bytes)
@@ -35,5 +35,5 @@ tree_game-single tokens =
 
 pub game_in-single : (bytes : List ℕ) → IsSingle (game_in bytes)
 game_in-single bytes =
-    bind-single (tokens_in bytes) game_of (tokens_in-single bytes)
+    bind-single (tokens_in bytes) game_of_tokens (tokens_in-single bytes)
     (λ tokens _. by_case-single (BeginsAsTree (bare tokens)) (tree_game tokens) (table_game tokens) (λ _. tree_game-single tokens) (λ _. table_game-single tokens))

@@ -9,7 +9,7 @@ use Rattle.game_core.specs.declared.game.Game.TheVariants.{Strategic, Extensive}
 use Rattle.linear_systems.specs.Vertices.{MarkedPoint}
 use Rattle.lex_tableau.specs.Starts.{Parts}
 use Rattle.reduced_form.specs.Kept.{kept_of}
-use Rattle.reduced_form.specs.Stops.{form_of}
+use Rattle.reduced_form.specs.Stops.{reduced_form_of}
 use Rattle.reduced_form.specs.declared.kept_stop.KeptStop.{KeptStop}
 use Rattle.reduced_form.specs.declared.kept_stop.KeptStop.TheVariants as kept_stop
 use Rattle.enumpure.specs.Stops.{within_text_limit}
@@ -99,8 +99,8 @@ table_text-contents false table =
 strategic_text-contents : (all : Bool) (game : Game) → AreContents (strategic_text all game)
 strategic_text-contents all (Strategic table) = table_text-contents all table
 strategic_text-contents all (Extensive tree) =
-    then-contents (refused_by form_refusal (form_of tree)) (λ form. table_text all form.table)
-    (told-contents form_refusal (form_of tree) (form_origin tree)) (λ form. table_text-contents all form.table)
+    then-contents (refused_by form_refusal (reduced_form_of tree)) (λ form. table_text all form.table)
+    (told-contents form_refusal (reduced_form_of tree) (form_origin tree)) (λ form. table_text-contents all form.table)
 
 pub enummixed-origin : (all : Bool) (game : Game) (r : Refusal) → enummixed all game (Err r) → origin r ≡ Contents
 enummixed-origin all game =

@@ -4,13 +4,13 @@ use Rattle.game_core.specs.TokenList.{TokenList}
 use Rattle.game_core.specs.declared.game.Game.{Game}
 use Rattle.game_core.specs.declared.game.Game.TheVariants.{Strategic, Extensive}
 use Rattle.two_player_tools.specs.GameTypes.{IsGame}
-use Rattle.gambit_tools.specs.Games.{game_in, game_of}
+use Rattle.gambit_tools.specs.Games.{game_in, game_of_tokens}
 use Rattle.refusals.specs.declared.refusal.Refusal.{Refusal}
 
 game_same : (a b : Game) → ◌≡◌ {A = Result Game Refusal} (Ok a) (Ok b) → a ≡ b
 game_same a b e = cc
 
-game_of-valid : (tokens : TokenList) (game : Game) → game_of tokens (Ok game) → IsGame game
+game_of-valid : (tokens : TokenList) (game : Game) → game_of_tokens tokens (Ok game) → IsGame game
 game_of-valid tokens game (inl (begins, h)) = subst IsGame (sym (game_same game (Extensive h.0) h.2)) h.1.describe.partial
 game_of-valid tokens game (inr (begins, h)) = subst IsGame (sym (game_same game (Strategic h.0) h.2)) h.1.1
 

@@ -9,7 +9,7 @@ use Rattle.gambit_tools.specs.Seen.{Outside, Seen, but_for_err}
 use Rattle.gambit_tools.specs.Input.{AreBytesOf, CountsDetermine}
 use Rattle.gambit_tools.specs.Commands.{inputs_of, answer_of}
 use Rattle.gambit_tools.specs.Origins.{Origin, Words, Outside as OfOutside, Length, Contents as OfContents, Memory, Opening, Reading, Writing, origin}
-use Rattle.gambit_tools.specs.Outcome.{RunAnswer, AreContents, AreToldContents, HasAnswer, AreRead, HasReadBefore, IsRunStop, IsCommandRun, IsRunOf, IsExact, IsComplete, NoFault, IsTold, IsOutcome}
+use Rattle.gambit_tools.specs.Outcome.{RunAnswer, AreContents, AreToldContents, HasAnswer, AreRead, HasReadBefore, IsRunStop, IsCommandRun, IsRunOf, IsExact, IsComplete, NoFault, IsTold, IsToldRun}
 use Rattle.refusals.specs.Refusals.{status_of, run_status, NamesNumbers, IsToldAs}
 use Rattle.refusals.specs.declared.refusal.Refusal.{Refusal}
 use Rattle.refusals.specs.declared.refusal.Refusal.TheVariants as refusal
@@ -127,7 +127,7 @@ none_some r e = cc
 pub outcome-text : {X : Type 0} → AnswersAreSingle → (words : List (List ℕ)) (before after : Seen) (answered : Result X Refusal) (view : X → List ℕ) → None ≡ result_err answered
     → IsRunOf (command_from words) (but_for_err before) (but_for_err after) (map_ok answered view) → CountsDetermine before.inputs after.inputs (result_err answered)
     → (before.out.faults < after.out.faults → result_err answered ≡ Some refusal.WriteFault)
-    → ((name : InputName) → after.inputs.held name ≡ before.inputs.held name) → after.err.taken ≡ before.err.taken → IsOutcome words before after 0 (map_ok answered view)
+    → ((name : InputName) → after.inputs.held name ≡ before.inputs.held name) → after.err.taken ≡ before.err.taken → IsToldRun words before after 0 (map_ok answered view)
 outcome-text single words before after (Ok x) view e h counts faults stay untold = record {
   status_is = refl;
   is_run = h;
@@ -144,7 +144,7 @@ pub outcome-told : {X : Type 0} → AnswersAreSingle → (words : List (List ℕ
     → IsRunOf (command_from words) (but_for_err before) (but_for_err after) (map_ok answered view) → CountsDetermine before.inputs after.inputs (result_err answered)
     → (before.out.faults < after.out.faults → result_err answered ≡ Some refusal.WriteFault)
     → ((name : InputName) → after.inputs.held name ≡ before.inputs.held name) → IsToldAs r told → status ≡ status_of told → IsTold before.err after.err (Some told)
-    → IsOutcome words before after status (Err told)
+    → IsToldRun words before after status (Err told)
 outcome-told single words before after (Ok x) view r told status e h counts faults stay is status_is tells = absurd (none_some r (sym e))
 outcome-told single words before after (Err q) view r told status e h counts faults stay is status_is tells =
     (let same : IsToldAs q told = subst (λ x. IsToldAs x told) (some_same r q e) is in
@@ -164,7 +164,7 @@ unrefused : (command : Command) (contents : List (List ℕ)) (answer : RunAnswer
 unrefused command contents (Ok text) status e g none = inl e
 unrefused command contents (Err r) status e g none = absurd (none r g)
 
-pub outcome-complete : (words : List (List ℕ)) (before after : Seen) (status : ℕ) (answer : RunAnswer) → IsOutcome words before after status answer → IsComplete words (but_for_err before) (but_for_err after) status
+pub outcome-complete : (words : List (List ℕ)) (before after : Seen) (status : ℕ) (answer : RunAnswer) → IsToldRun words before after status answer → IsComplete words (but_for_err before) (but_for_err after) status
 outcome-complete words before after status answer o command e contents told none not_refused =
     elim (o.is_exact command e contents told none) [
       | inl m ↦ inr (o.status_is ∙ ap (λ x. run_status (result_err x)) m)

@@ -8,7 +8,7 @@ use Rattle.game_core.specs.TreeGame.{game_of_tree}
 use Rattle.game_core.specs.declared.game.Game.{Game}
 use Rattle.game_core.specs.declared.game.Game.TheVariants.{Strategic, Extensive}
 use Rattle.reduced_form.specs.ReducedForm.{ReducedForm}
-use Rattle.reduced_form.specs.Stops.{form_of}
+use Rattle.reduced_form.specs.Stops.{reduced_form_of}
 use Rattle.reduced_form.proofs.OneFormLaws.{form_of-single}
 use Rattle.enumpure_trees.specs.TreeEquilibria.{IsTreeEquilibriaText}
 use Rattle.enumpure_trees.proofs.EquilibriumLineLemmas.{text-determined}
@@ -39,8 +39,8 @@ form_text-single false tree form = within_text_limit-single (IsTreeEquilibriaTex
 enumpure-single : (strategic : Bool) (game : Game) → IsSingle (enumpure strategic game)
 enumpure-single strategic (Strategic table) = refused_by-single list_refusal (pure_text (game_of_table table)) (pure_text-single (game_of_table table))
 enumpure-single strategic (Extensive tree) =
-    bind-single (refused_by form_refusal (form_of tree)) (λ form. refused_by list_refusal (form_text strategic tree form))
-    (refused_by-single form_refusal (form_of tree) (form_of-single tree))
+    bind-single (refused_by form_refusal (reduced_form_of tree)) (λ form. refused_by list_refusal (form_text strategic tree form))
+    (refused_by-single form_refusal (reduced_form_of tree) (form_of-single tree))
     (λ form _. refused_by-single list_refusal (form_text strategic tree form) (form_text-single strategic tree form))
 
 -- ---- commands

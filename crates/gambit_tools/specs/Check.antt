@@ -8,7 +8,7 @@ use Rattle.ne_checker.specs.LineChecks.{table_check, tree_check}
 use Rattle.ne_printer.specs.TextLines.{lines_of}
 use Rattle.perfect_recall.specs.Found.{recall_of}
 use Rattle.reduced_form.specs.ReducedForm.{ReducedForm}
-use Rattle.reduced_form.specs.Stops.{form_of}
+use Rattle.reduced_form.specs.Stops.{reduced_form_of}
 use Rattle.gambit_tools.specs.Games.{game_in}
 use Rattle.gambit_tools.specs.Input.{most_bytes}
 use Rattle.refusals.specs.Told.{check_refusal, form_refusal, recall_refusal}
@@ -20,7 +20,7 @@ use Rattle.refusals.specs.declared.refusal.Refusal.TheVariants as refusal
 abbrev pub verdicts : Bool → Game → List ℕ → Answer Refusal (List ℕ)
 verdicts strategic (Strategic table) lines = refused_by check_refusal (table_check table lines)
 verdicts true (Extensive tree) lines = do
-  form ← refused_by form_refusal (form_of tree)
+  form ← refused_by form_refusal (reduced_form_of tree)
   refused_by check_refusal (table_check form.table lines)
 verdicts false (Extensive tree) lines = do
   refused_by recall_refusal (recall_of tree)
@@ -45,7 +45,7 @@ abbrev pub IsCheckText : Bool → Game → (lines text : List ℕ) → Type 0
 IsCheckText strategic (Strategic table) lines text =
     TellsOfLines (TellsOfTableLine table) (lines_of lines) text
 IsCheckText true (Extensive tree) lines text =
-    (form : ReducedForm) × form_of tree (Ok form)
+    (form : ReducedForm) × reduced_form_of tree (Ok form)
     × TellsOfLines (TellsOfTableLine form.table) (lines_of lines) text
 IsCheckText false (Extensive tree) lines text =
     TellsOfLines (TellsOfTreeLine tree) (lines_of lines) text

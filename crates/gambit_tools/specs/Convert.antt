@@ -4,7 +4,7 @@ use Rattle.answers.specs.Answers.{Answer, ◌>>=◌, refused_by}
 use Rattle.game_core.specs.Table.{GameTable}
 use Rattle.game_core.specs.declared.game.Game.{Game}
 use Rattle.game_core.specs.declared.game.Game.TheVariants.{Strategic, Extensive}
-use Rattle.reduced_form.specs.Stops.{form_of}
+use Rattle.reduced_form.specs.Stops.{reduced_form_of}
 use Rattle.convert_tables.specs.Converted.{html_text, sgame_text}
 use Rattle.convert_tables.specs.declared.stops.ConvertStop.{ConvertStop}
 use Rattle.refusals.specs.Told.{convert_refusal, form_refusal}
@@ -19,5 +19,5 @@ layout_in false = sgame_text
 abbrev pub convert : Bool → (row column : ℕ) → Game → Answer Refusal (List ℕ)
 convert html row column (Strategic table) = refused_by convert_refusal (layout_in html table row column)
 convert html row column (Extensive tree) = do
-  form ← refused_by form_refusal (form_of tree)
+  form ← refused_by form_refusal (reduced_form_of tree)
   refused_by convert_refusal (layout_in html form.table row column)

@@ -7,7 +7,7 @@ use Rattle.game_core.specs.declared.game.Game.{Game}
 use Rattle.game_core.specs.declared.game.Game.TheVariants.{Strategic, Extensive}
 use Rattle.reduced_form.specs.Kept.{kept_of}
 use Rattle.reduced_form.specs.ReducedForm.{ReducedForm}
-use Rattle.reduced_form.specs.Stops.{form_of}
+use Rattle.reduced_form.specs.Stops.{reduced_form_of}
 use Rattle.enummixed.specs.ExtremeText.{IsExtremeEquilibriaText, extreme_text, kept_text}
 use Rattle.two_player_tools.specs.TwoPlayers.{two_players}
 use Rattle.refusals.specs.Told.{form_refusal, kept_refusal, mixed_refusal}
@@ -25,7 +25,7 @@ table_text false table = do
 abbrev pub strategic_text : Bool → Game → Answer Refusal (List ℕ)
 strategic_text all (Strategic table) = table_text all table
 strategic_text all (Extensive tree) = do
-  form ← refused_by form_refusal (form_of tree)
+  form ← refused_by form_refusal (reduced_form_of tree)
   table_text all form.table
 
 -- the answer of `enummixed`
@@ -39,7 +39,7 @@ enummixed all game = do
 abbrev pub IsStrategicForm : Game → GameTable → Type 0
 IsStrategicForm (Strategic t) table = table ≡ t
 IsStrategicForm (Extensive tree) table =
-    (form : ReducedForm) × form_of tree (Ok form) × (table ≡ form.table)
+    (form : ReducedForm) × reduced_form_of tree (Ok form) × (table ≡ form.table)
 
 -- a text has the lines of exactly the extreme equilibria of the game's strategic form, in order
 pub record IsExtremeText (game : Game) (text : List ℕ) : Type 0 where

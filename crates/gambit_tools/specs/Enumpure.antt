@@ -7,7 +7,7 @@ use Rattle.game_core.specs.TreeGame.{game_of_tree}
 use Rattle.game_core.specs.declared.game.Game.{Game}
 use Rattle.game_core.specs.declared.game.Game.TheVariants.{Strategic, Extensive}
 use Rattle.reduced_form.specs.ReducedForm.{ReducedForm}
-use Rattle.reduced_form.specs.Stops.{form_of}
+use Rattle.reduced_form.specs.Stops.{reduced_form_of}
 use Rattle.enumpure.specs.Stops.{pure_text}
 use Rattle.enumpure.specs.Text.{IsPureEquilibriaText}
 use Rattle.enumpure.specs.declared.listing.ListStop.{ListStop}
@@ -25,7 +25,7 @@ form_text false tree form = behaviour_text (game_of_tree tree) form.choices
 abbrev pub enumpure : Bool → Game → Answer Refusal (List ℕ)
 enumpure strategic (Strategic table) = refused_by list_refusal (pure_text (game_of table))
 enumpure strategic (Extensive tree) = do
-  form ← refused_by form_refusal (form_of tree)
+  form ← refused_by form_refusal (reduced_form_of tree)
   refused_by list_refusal (form_text strategic tree form)
 
 -- ---- what each text is
@@ -34,7 +34,7 @@ enumpure strategic (Extensive tree) = do
 abbrev pub IsPureText : Bool → Game → List ℕ → Type 0
 IsPureText strategic (Strategic table) text = IsPureEquilibriaText (game_of table) text
 IsPureText true (Extensive tree) text =
-    (form : ReducedForm) × form_of tree (Ok form) × IsPureEquilibriaText (game_of form.table) text
+    (form : ReducedForm) × reduced_form_of tree (Ok form) × IsPureEquilibriaText (game_of form.table) text
 IsPureText false (Extensive tree) text =
-    (form : ReducedForm) × form_of tree (Ok form)
+    (form : ReducedForm) × reduced_form_of tree (Ok form)
     × IsTreeEquilibriaText (game_of_tree tree) form.choices text

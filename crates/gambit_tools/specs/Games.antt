@@ -37,11 +37,11 @@ table_game tokens = do
   only (Strategic table)
 
 -- the game of the tokens: the first of them decides of which form it is
-abbrev pub game_of : TokenList → Answer Refusal Game
-game_of tokens = by_case (BeginsAsTree (bare tokens)) (tree_game tokens) (table_game tokens)
+abbrev pub game_of_tokens : TokenList → Answer Refusal Game
+game_of_tokens tokens = by_case (BeginsAsTree (bare tokens)) (tree_game tokens) (table_game tokens)
 
 -- the game of an input's bytes
 abbrev pub game_in : List ℕ → Answer Refusal Game
 game_in bytes = do
   tokens ← tokens_in bytes
-  game_of tokens
+  game_of_tokens tokens

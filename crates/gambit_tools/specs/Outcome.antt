@@ -60,15 +60,15 @@ HasRead names before after (Err r) = HasReadBefore names before after (origin r)
 
 -- ---- what is answered
 -- a fault of an input with one of these names, which its count tells
-abbrev pub IsFault : List InputName → InputsSeen → InputsSeen → Fault → Type 0
-IsFault names before after Opening = (name : InputName) × Contains names name × IsOpenFault name before after
-IsFault names before after Reading = (name : InputName) × Contains names name × IsReadFault name before after
-IsFault names before after Writing = ⊥
+abbrev pub IsInputFault : List InputName → InputsSeen → InputsSeen → Fault → Type 0
+IsInputFault names before after Opening = (name : InputName) × Contains names name × IsOpenFault name before after
+IsInputFault names before after Reading = (name : InputName) × Contains names name × IsReadFault name before after
+IsInputFault names before after Writing = ⊥
 
 -- why a command's text is not computed, by where the refusal comes from
 abbrev pub IsRefusedIn : Command → InputsSeen → InputsSeen → Refusal → Origin → Type 0
 IsRefusedIn command before after r (Words usage) = ⊥
-IsRefusedIn command before after r (OfOutside fault) = IsFault (inputs_of command) before after fault
+IsRefusedIn command before after r (OfOutside fault) = IsInputFault (inputs_of command) before after fault
 IsRefusedIn command before after r Length = HasAnswer command before (Err r)
 IsRefusedIn command before after r Contents = HasAnswer command before (Err r)
 IsRefusedIn command before after r Memory = Unit {0}
@@ -156,7 +156,7 @@ IsComplete words before after status =
     → ((r : Refusal) → ¬ (answer_of command contents (Err r))) → (status ≡ 0) ⊎ (status ≡ 5)
 
 -- a run with this answer, which is told by the status and on standard error
-pub record IsOutcome (words : List (List ℕ)) (before after : Seen) (status : ℕ) (answer : RunAnswer) : Type 0 where
+pub record IsToldRun (words : List (List ℕ)) (before after : Seen) (status : ℕ) (answer : RunAnswer) : Type 0 where
   pub status_is : status ≡ run_status (result_err answer)
   pub is_run : IsRunOf (command_from words) (but_for_err before) (but_for_err after) answer
   pub is_exact : IsExact words (but_for_err before) (but_for_err after) answer

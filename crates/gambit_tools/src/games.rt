@@ -4,7 +4,7 @@ ghost use Rattle.answers.specs.Answers.{Gives};
 ghost use Rattle.game_core.specs.TokenList.{bare};
 ghost use Rattle.game_core.specs.declared.token.Token.TheVariants as token_kind;
 ghost use Rattle.gambit_tools.specs.Input.{most_bytes};
-ghost use Rattle.gambit_tools.specs.Games.{BeginsAsTree, tree_game, table_game, game_of, game_in};
+ghost use Rattle.gambit_tools.specs.Games.{BeginsAsTree, tree_game, table_game, game_of_tokens, game_in};
 ghost use Rattle.gambit_tools.specs.Reading.{ReadsGame};
 
 use crate::input::read_input;
@@ -53,9 +53,9 @@ fn table_game(alloc: Global, tokens: &Tokens) -> Result<Game, Refusal>
 }
 
 /// The game that the tokens stand for.
-fn game_of(alloc: Global, tokens: &Tokens) -> Result<Game, Refusal>
+fn game_of_tokens(alloc: Global, tokens: &Tokens) -> Result<Game, Refusal>
     requires few { tokens.now.length < 2 ^ 32 }
-    ensures { Gives Refusal.Memory (game_of tokens.now) result }
+    ensures { Gives Refusal.Memory (game_of_tokens tokens.now) result }
 {
     if begins_as_tree(tokens) {
         tree_game(alloc, tokens)
@@ -70,7 +70,7 @@ pub fn game_in(alloc: Global, bytes: &[u8]) -> Result<Game, Refusal>
     ensures { Gives Refusal.Memory (game_in bytes.now) result }
 {
     let tokens = read_tokens(alloc, bytes)?;
-    game_of(alloc, &tokens)
+    game_of_tokens(alloc, &tokens)
 }
 
 /// Reads the game in a file, or on standard input where no file is named.

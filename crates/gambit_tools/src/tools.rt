@@ -9,7 +9,7 @@ ghost use Rattle.gambit_tools.specs.Input.{CountsDetermine};
 ghost use Rattle.refusals.specs.Refusals.{status_of, IsToldAs, NamesNumbers};
 ghost use Rattle.gambit_tools.specs.Commands.{answer_of};
 ghost use Rattle.gambit_tools.specs.Laws.{TextsHoldForTheGame};
-ghost use Rattle.gambit_tools.specs.Outcome.{RunAnswer, IsTold, TakesLine, IsComputed, IsRunOf, IsOutcome, IsComplete};
+ghost use Rattle.gambit_tools.specs.Outcome.{RunAnswer, IsTold, TakesLine, IsComputed, IsRunOf, IsToldRun, IsComplete};
 ghost use Rattle.refusals.specs.declared.refusal.Refusal.{Refusal};
 
 use crate::check::check;
@@ -169,7 +169,7 @@ pub fn run<R: Threads + Sync, I: Inputs, K: Sink, E: Sink, G: Gate>(
     gate: &G,
 ) -> u8
     // What is answered, read, written and told, and why; and that the contents decide it.
-    ensures outcome { (answer : RunAnswer) × IsOutcome (map string_bytes words.now)
+    ensures outcome { (answer : RunAnswer) × IsToldRun (map string_bytes words.now)
         (seen (I.seen inputs.old) (K.seen out.old) (E.seen err.old))
         (seen (I.seen inputs.new) (K.seen out.new) (E.seen err.new))
         result answer }

@@ -7,7 +7,7 @@ use Rattle.std.proofs.lemmas.Option.{slice_get-get_or, slice_get_read, slice_get
 use Rattle.lists.proofs.ElementLemmas.{test_in_front}
 use Rattle.game_core.specs.OwnSets.{AreOwnLists}
 use Rattle.game_theory.specs.Behaviour.{is_index}
-use Rattle.game_core.specs.Tree.{GameTree, IsTree, InformationSet, IsWithin, own_from}
+use Rattle.game_core.specs.Tree.{GameTree, IsGameTree, InformationSet, IsBelow, own_from}
 
 -- one more set comes last among its owner's own sets
 own_from-push_at : (s i : ℕ) (sets : List InformationSet) (last : InformationSet) → own_from s i (sets ++ last ∷ []) ≡ own_from s i sets ++ own_from (s + length sets) i (last ∷ [])
@@ -73,15 +73,15 @@ AreOwnLists-step_player f sets k here players player lists old new below is owne
     rw (take_more sets k here below, map-set, list_is) (rw (← is) (AreOwnLists-player (take k sets) here players player (map f lists) owner h))
 
 -- a set's owner is one of the players
-pub owner_within : (sets : List InformationSet) (k : ℕ) (here : InformationSet) (players player : ℕ) → All (λ set. IsWithin players set.owner) sets → k < length sets → here ≡ get_or sets k here → here.owner ≡ Some player → player < players
-owner_within sets k here players player owners below is owner = subst (IsWithin players) (ap (λ set. set.owner) (sym is) ∙ owner) (owners k here below)
+pub owner_within : (sets : List InformationSet) (k : ℕ) (here : InformationSet) (players player : ℕ) → All (λ set. IsBelow players set.owner) sets → k < length sets → here ≡ get_or sets k here → here.owner ≡ Some player → player < players
+owner_within sets k here players player owners below is owner = subst (IsBelow players) (ap (λ set. set.owner) (sym is) ∙ owner) (owners k here below)
 
 -- a number that is no player's owns no set
-pub own_from-nobody : (s i players : ℕ) (sets : List InformationSet) → All (λ set. IsWithin players set.owner) sets → players ≤ i → own_from s i sets ≡ []
+pub own_from-nobody : (s i players : ℕ) (sets : List InformationSet) → All (λ set. IsBelow players set.owner) sets → players ≤ i → own_from s i sets ≡ []
 own_from-nobody s i players [] owners past = refl
 own_from-nobody s i players (first ∷ sets) owners past = rw (other first.owner (owners 0 first (omega arith))) (own_from-nobody (suc s) i players sets (λ k d below. owners (suc k) d (omega arith)) past)
   where
-    other : (owner : Option ℕ) → IsWithin players owner → is_index owner i ≡ false
+    other : (owner : Option ℕ) → IsBelow players owner → is_index owner i ≡ false
     other None within = refl
     other (Some player) within = false_from_ne_true _ (λ same. let e = eqb-true player i same in absurd (omega arith))
 
@@ -92,5 +92,5 @@ own_list f sets players player lists list h inside is =
     same_Some _ _ (sym (h.are_own player (rw length-map inside)) ∙ found)
 
 -- each set's owner is one of the players
-pub owners_within : (t : GameTree) → IsTree t → All (λ set. IsWithin (length t.players) set.owner) t.sets
+pub owners_within : (t : GameTree) → IsGameTree t → All (λ set. IsBelow (length t.players) set.owner) t.sets
 owners_within t valid k d below = (valid.sets_fit k (get_or t.sets k d) (slice_get-get_or t.sets k d below)).owner_within

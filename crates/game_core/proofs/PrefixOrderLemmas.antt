@@ -2,7 +2,7 @@
 use Rattle.std.proofs.Common.{◌≡◌, ◌<◌, ◌≤◌, ◌+◌, ◌∙◌, sym, ap, subst, refl, ◌⊎◌, inl, inr, ℕ, zero, suc, Option, Some, None, List, [], ◌∷◌, ◌++◌, length, map, get_or, arith}
 use Rattle.std.proofs.lemmas.Bool.{cases_order}
 use Rattle.game_core.specs.declared.tree.Node.{Node}
-use Rattle.game_core.specs.Tree.{InformationSet, OpenBranch, IsWithin, action_count, branches_from, AreInPrefixOrder}
+use Rattle.game_core.specs.Tree.{InformationSet, OpenBranch, IsBelow, action_count, branches_from, AreInPrefixOrder}
 
 -- the place at which a node hangs
 abbrev pub branch_at : List Node → ℕ → OpenBranch
@@ -110,14 +110,14 @@ AreDistinct-places node a (suc n) = (λ among. let own_is = place_is _ node (suc
 
 -- places at nodes before node k
 abbrev AreBefore : ℕ → List OpenBranch → Type 0
-AreBefore k places = (p : OpenBranch) → IsAmong p places → IsWithin k p.0
+AreBefore k places = (p : OpenBranch) → IsAmong p places → IsBelow k p.0
 
 -- a number below a bound
-pub within : (k n : ℕ) (o : Option ℕ) → IsWithin k o → o ≡ Some n → n < k
-within k n o h is = subst (IsWithin k) is h
+pub within : (k n : ℕ) (o : Option ℕ) → IsBelow k o → o ≡ Some n → n < k
+within k n o h is = subst (IsBelow k) is h
 
 -- a number below a greater bound
-within_more : (k : ℕ) (o : Option ℕ) → IsWithin k o → IsWithin (suc k) o
+within_more : (k : ℕ) (o : Option ℕ) → IsBelow k o → IsBelow (suc k) o
 within_more k None h = h
 within_more k (Some n) h = omega arith
 
@@ -131,7 +131,7 @@ AreDistinct-more k n free distinct before = AreDistinct-append (branches_from k 
 -- the places that are free after a node are at nodes up to it
 AreBefore-more : (k n : ℕ) (free : List OpenBranch) → AreBefore k free → AreBefore (suc k) (branches_from k 0 n ++ free)
 AreBefore-more k n free before p among = elim (IsAmong-append p (branches_from k 0 n) free among) [
-  | inl own ↦ subst (IsWithin (suc k)) (sym (place_is p k 0 n own).0) (omega arith)
+  | inl own ↦ subst (IsBelow (suc k)) (sym (place_is p k 0 n own).0) (omega arith)
   | inr other ↦ within_more k p.0 (before p other)
 ]
 
@@ -185,7 +185,7 @@ module _ (sets : List InformationSet) (nodes : List Node) (ordered : AreInPrefix
       alone = (λ among. absurd among, tt)
 
       nowhere : AreBefore 0 ((None, 0) ∷ [])
-      nowhere p (inl here) = subst (λ q. IsWithin 0 q.0) (sym here) tt
+      nowhere p (inl here) = subst (λ q. IsBelow 0 q.0) (sym here) tt
       nowhere p (inr later) = absurd later
 
   -- each node but the root hangs at an action of a node before it

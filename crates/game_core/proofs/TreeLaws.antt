@@ -9,7 +9,7 @@ use Rattle.rational.specs.Sum.{sum_to}
 use Rattle.game_theory.specs.FirstNodes.{AreNumberedByFirstNodes}
 use Rattle.game_theory.specs.Trees.{IsTree as is_game_tree, IsChild, IsChanceDistribution}
 use Rattle.game_core.specs.declared.tree.Action.{Action}
-use Rattle.game_core.specs.Tree.{GameTree, IsTree, InformationSet, IsWithin, AreChances, ProbabilitiesFit, SetFits, action_count, probability_at}
+use Rattle.game_core.specs.Tree.{GameTree, IsGameTree, InformationSet, IsBelow, AreChances, ProbabilitiesFit, SetFits, action_count, probability_at}
 use Rattle.game_core.specs.TreeGame.{game_of_tree, or_zero}
 use Rattle.game_core.proofs.PrefixOrderLemmas.{child_at, hangs_at, branch_at, root, same_node, within}
 
@@ -33,18 +33,18 @@ chances : (owner : Option ℕ) (actions : List Action) → ProbabilitiesFit owne
 chances owner actions h is = subst (λ o. ProbabilitiesFit o actions) is h
 
 -- the set at a place fits
-set_fits : (t : GameTree) → IsTree t → (s : ℕ) → s < length t.sets → (set : InformationSet) × (slice_get t.sets s ≡ Some set) × SetFits t s set
+set_fits : (t : GameTree) → IsGameTree t → (s : ℕ) → s < length t.sets → (set : InformationSet) × (slice_get t.sets s ≡ Some set) × SetFits t s set
 set_fits t valid s below = let found = element t.sets s below in (found.0, found.1, valid.sets_fit s found.0 found.1)
 
 -- a child hangs at its parent's action
-child_place : (t : GameTree) → IsTree t → (k a c : ℕ) → IsChild (game_of_tree t) k a c → branch_at t.nodes c ≡ (Some k, a)
+child_place : (t : GameTree) → IsGameTree t → (k a c : ℕ) → IsChild (game_of_tree t) k a c → branch_at t.nodes c ≡ (Some k, a)
 child_place t valid k a c h =
     let at_node = (hangs_at t.sets t.nodes valid.in_prefix_order c h.0 h.1).2 in
     let parent = ap Some (sym (ap or_zero at_node) ∙ h.2) in
     rw (at_node ∙ parent, h.3) refl
 
 -- the probabilities of chance at a set
-lottery : (t : GameTree) → IsTree t → (s : ℕ) → s < length t.sets → (game_of_tree t).owner s ≡ None → IsChanceDistribution (game_of_tree t) s
+lottery : (t : GameTree) → IsGameTree t → (s : ℕ) → s < length t.sets → (game_of_tree t).owner s ≡ None → IsChanceDistribution (game_of_tree t) s
 lottery t valid s below chance =
     let set = set_fits t valid s below in
     let fits = chances _ _ set.2.probabilities (sym (part_of (λ set. set.owner) t.sets s set.0 None set.1) ∙ chance) in
@@ -57,12 +57,12 @@ lottery t valid s below chance =
     }
 
 -- what a tree stands for is a game tree
-pub game_tree : (t : GameTree) → IsTree t → is_game_tree (game_of_tree t)
+pub game_tree : (t : GameTree) → IsGameTree t → is_game_tree (game_of_tree t)
 game_tree t valid =
     let order = valid.in_prefix_order in
     record {
       some_node = (root t.sets t.nodes order).0;
-      sets_within = λ k s below is. within _ s _ (part_has (IsWithin (length t.sets)) (λ node. node.set) t.nodes k None (λ n d inside. (valid.nodes_fit n d inside).set_within) below) is;
+      sets_within = λ k s below is. within _ s _ (part_has (IsBelow (length t.sets)) (λ node. node.set) t.nodes k None (λ n d inside. (valid.nodes_fit n d inside).set_within) below) is;
       owners_within = λ s i below is. let set = set_fits t valid s below in within _ i _ set.2.owner_within (sym (part_of (λ set. set.owner) t.sets s set.0 None set.1) ∙ is);
       some_action = λ s below. let set = set_fits t valid s below in rw (part_of (λ set. length set.actions) t.sets s set.0 0 set.1) set.2.some_action;
       after_parent = λ c later inside. let place = hangs_at t.sets t.nodes order c later inside in rw place.2 place.1;
@@ -73,7 +73,7 @@ game_tree t valid =
     }
 
 -- and its sets are numbered by their first nodes
-pub numbered_by_first_nodes : (t : GameTree) → IsTree t → AreNumberedByFirstNodes (game_of_tree t)
+pub numbered_by_first_nodes : (t : GameTree) → IsGameTree t → AreNumberedByFirstNodes (game_of_tree t)
 numbered_by_first_nodes t valid k s r inside is below =
     let names = map (λ node. node.set) t.nodes in
     let here = slice_get-get_or names k None (rw length-map inside) ∙ ap Some is in

@@ -76,14 +76,14 @@ kind_at sets None = End
 kind_at sets (Some s) = kind_of_owner (slice_index_or (map (λ set. set.owner) sets) s None)
 
 -- a number below a bound, where there is one
-abbrev pub IsWithin : ℕ → Option ℕ → Type 0
-IsWithin bound index = IfSome index (λ i. i < bound)
+abbrev pub IsBelow : ℕ → Option ℕ → Type 0
+IsBelow bound index = IfSome index (λ i. i < bound)
 
 -- a node names a set and an outcome of the tree, where it names any, and its kind is that of its set
 pub record NodeFits (t : GameTree) (node : Node) : Type 0 where
   pub kind_is : node.kind ≡ kind_at t.sets node.set
-  pub set_within : IsWithin (length t.sets) node.set
-  pub outcome_within : IsWithin (length t.outcomes) node.outcome
+  pub set_within : IsBelow (length t.sets) node.set
+  pub outcome_within : IsBelow (length t.outcomes) node.outcome
 
 -- the numbers of the nodes that name set s, numbered from k on
 abbrev pub members_from : ℕ → ℕ → List Node → List ℕ
@@ -106,7 +106,7 @@ ProbabilitiesFit (Some i) actions = All (λ action. action.prob ≡ zero_ℚ) ac
 
 -- set s is chance's or one of the players', has actions, and its members are the nodes that name it
 pub record SetFits (t : GameTree) (s : ℕ) (set : InformationSet) : Type 0 where
-  pub owner_within : IsWithin (length t.players) set.owner
+  pub owner_within : IsBelow (length t.players) set.owner
   pub some_action : 0 < length set.actions
   pub probabilities : ProbabilitiesFit set.owner set.actions
   pub members_are : set.members ≡ members_from 0 s t.nodes
@@ -132,8 +132,8 @@ pub record IsPartialTree (t : GameTree) (free : List OpenBranch) : Type 0 where
   pub few_players : length t.players < 2 ^ 32
 
 -- a game tree within the limits leaves no branch open
-abbrev pub IsTree : GameTree → Type 0
-IsTree t = IsPartialTree t []
+abbrev pub IsGameTree : GameTree → Type 0
+IsGameTree t = IsPartialTree t []
 
 -- the numbers of player i's own sets in order, where the sets are numbered from s on
 abbrev pub own_from : ℕ → ℕ → List InformationSet → List ℕ

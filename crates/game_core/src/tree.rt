@@ -3,7 +3,7 @@ ghost use Rattle.std.specs.Prelude.{◌≡◌, ◌<◌, ◌^◌, [], All, length
 ghost use Rattle.game_theory.specs.FirstNodes.{AreNumberedByFirstNodes};
 ghost use Rattle.game_theory.specs.Trees.{IsTree as is_game_tree};
 ghost use Rattle.game_core.specs.OwnSets.{AreOwnLists};
-ghost use Rattle.game_core.specs.Tree.{IsTree, IsWithin, GameTree, own_sets};
+ghost use Rattle.game_core.specs.Tree.{IsGameTree, IsBelow, GameTree, own_sets};
 ghost use Rattle.game_core.specs.TreeGame.{game_of_tree};
 
 use crate::name::Name;
@@ -201,7 +201,7 @@ fn no_lists(alloc: Global, players: usize) -> Result<Vec<Vec<u32>>, Memory>
 // The numbers of each player's own sets in order.
 fn own_lists(alloc: Global, players: usize, sets: &[InfoSet]) -> Result<Vec<Vec<u32>>, Memory>
     requires few { length sets.now < 2 ^ 32 }
-    requires owners { All (λ set. IsWithin players set.owner) sets.now }
+    requires owners { All (λ set. IsBelow players set.owner) sets.now }
     ensures { IfOk result (λ lists. AreOwnLists sets.now players (map (λ v. v.items) lists.items)) }
 {
     let mut lists = no_lists(alloc, players)?;
@@ -227,7 +227,7 @@ pub struct Tree {
 
 impl Model for Tree {
     ghost use Rattle.std.specs.Prelude.{length, map};
-    ghost use Rattle.game_core.specs.Tree.{GameTree, IsTree};
+    ghost use Rattle.game_core.specs.Tree.{GameTree, IsGameTree};
     ghost use Rattle.game_core.specs.TreeCodes.{code_of_tree};
     ghost use Rattle.game_core.specs.OwnSets.{AreOwnLists};
 
@@ -237,7 +237,7 @@ impl Model for Tree {
 
     ghost view = { λ t. record { title = t.title; players = t.players.items; nodes = t.nodes.items; sets = t.sets.items; outcomes = t.outcomes.items } };
 
-    ghost invariant = { λ t. IsTree
+    ghost invariant = { λ t. IsGameTree
         (record {
           title = t.title;
           players = t.players.items;
@@ -258,7 +258,7 @@ impl Tree {
         sets: Vec<InfoSet>,
         outcomes: Vec<Outcome>,
     ) -> Result<Tree, Memory>
-        requires { IsTree (record {
+        requires { IsGameTree (record {
           title = title;
           players = players.items;
           nodes = nodes.items;
@@ -288,7 +288,7 @@ impl Tree {
     /// The game's title.
     pub fn title(&self) -> &Name
         ensures title { result.now ≡ self.now.title }
-        ensures valid { IsTree self.now }
+        ensures valid { IsGameTree self.now }
     {
         &self.title
     }
@@ -296,7 +296,7 @@ impl Tree {
     /// The players' names.
     pub fn players(&self) -> &[Name]
         ensures players { result.now ≡ self.now.players }
-        ensures valid { IsTree self.now }
+        ensures valid { IsGameTree self.now }
     {
         self.players.as_slice()
     }
@@ -304,7 +304,7 @@ impl Tree {
     /// The nodes in prefix order.
     pub fn nodes(&self) -> &[Node]
         ensures nodes { result.now ≡ self.now.nodes }
-        ensures valid { IsTree self.now }
+        ensures valid { IsGameTree self.now }
     {
         self.nodes.as_slice()
     }
@@ -312,7 +312,7 @@ impl Tree {
     /// The information sets, in the order in which the nodes first name them.
     pub fn sets(&self) -> &[InfoSet]
         ensures sets { result.now ≡ self.now.sets }
-        ensures valid { IsTree self.now }
+        ensures valid { IsGameTree self.now }
     {
         self.sets.as_slice()
     }
@@ -320,7 +320,7 @@ impl Tree {
     /// The outcomes, in the order in which the nodes first name them.
     pub fn outcomes(&self) -> &[Outcome]
         ensures outcomes { result.now ≡ self.now.outcomes }
-        ensures valid { IsTree self.now }
+        ensures valid { IsGameTree self.now }
     {
         self.outcomes.as_slice()
     }
@@ -338,10 +338,10 @@ impl Tree {
 
 /// What a tree stands for is a game tree.
 pub fn trees_are_game_trees()
-    ensures { (t : GameTree) → IsTree t → is_game_tree (game_of_tree t) }
+    ensures { (t : GameTree) → IsGameTree t → is_game_tree (game_of_tree t) }
 {}
 
 /// Its sets are numbered by their first nodes.
 pub fn sets_are_numbered_by_first_nodes()
-    ensures { (t : GameTree) → IsTree t → AreNumberedByFirstNodes (game_of_tree t) }
+    ensures { (t : GameTree) → IsGameTree t → AreNumberedByFirstNodes (game_of_tree t) }
 {}

@@ -3,7 +3,7 @@
 ghost use Rattle.std.specs.Prelude.{◌≡◌, ◌<◌, length};
 ghost use Rattle.game_theory.specs.FirstNodes.{AreNumberedByFirstNodes};
 ghost use Rattle.game_theory.specs.Trees.{IsTree as is_game_tree};
-ghost use Rattle.game_core.specs.Tree.{IsTree};
+ghost use Rattle.game_core.specs.Tree.{IsGameTree};
 ghost use Rattle.game_core.specs.TreeGame.{game_of_tree};
 
 use crate::tree::{Tree, sets_are_numbered_by_first_nodes, trees_are_game_trees};
@@ -11,7 +11,7 @@ use frac128::Frac;
 
 /// What a tree stands for is a game tree whose sets are numbered by their first nodes. Does nothing.
 pub fn stands_for_game_tree(tree: &Tree)
-    ensures valid { IsTree tree.now }
+    ensures valid { IsGameTree tree.now }
     ensures game { is_game_tree (game_of_tree tree.now) }
     ensures numbered { AreNumberedByFirstNodes (game_of_tree tree.now) }
 {

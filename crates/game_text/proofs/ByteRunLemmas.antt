@@ -2,7 +2,7 @@
 use Rattle.std.proofs.Common.{◌≡◌, ℕ, ◌<◌, true, List, [], ◌∷◌, ◌++◌, length, take, drop}
 use Rattle.std.specs.List.{prefix_len, AllByRecursion}
 use Rattle.std.proofs.lemmas.Bool.{false_from_ne_true}
-use Rattle.game_text.specs.Tokens.{BeginsWith, IsBlank, IsBare, IsRun}
+use Rattle.game_text.specs.Tokens.{FirstIs, IsBlank, IsBare, IsRun}
 use Rattle.game_text.specs.Reading.{is_bare, is_blank}
 use Rattle.game_text.proofs.ByteLemmas.{tells_bare, tells_blank}
 use Rattle.game_text.proofs.FrontLemmas.{take_passes, drop_stops, drop-front}
@@ -18,11 +18,11 @@ bare_passes [] h = tt
 bare_passes (b ∷ run) h = ((tells_bare b).1 h.0, bare_passes run h.1)
 
 -- no bare byte comes, by test and by fact
-bare_stops : (rest : List ℕ) → Stops is_bare rest → ¬ (BeginsWith IsBare rest)
+bare_stops : (rest : List ℕ) → Stops is_bare rest → ¬ (FirstIs IsBare rest)
 bare_stops [] s h = h
 bare_stops (b ∷ rest) s h = let e : is_bare b ≡ true = (tells_bare b).1 h in cc
 
-stops_bare : (rest : List ℕ) → ¬ (BeginsWith IsBare rest) → Stops is_bare rest
+stops_bare : (rest : List ℕ) → ¬ (FirstIs IsBare rest) → Stops is_bare rest
 stops_bare [] h = tt
 stops_bare (b ∷ rest) h = false_from_ne_true (is_bare b) (λ e. h ((tells_bare b).0 e))
 
@@ -46,10 +46,10 @@ passes_blank (b ∷ bytes) h = ((tells_blank b).0 h.0, passes_blank bytes h.1)
 pub take_blanks : (bytes : List ℕ) → AllByRecursion IsBlank (take (prefix_len is_blank bytes) bytes)
 take_blanks bytes = passes_blank (take (prefix_len is_blank bytes) bytes) (take_passes is_blank bytes)
 
-blank_stops : (rest : List ℕ) → Stops is_blank rest → ¬ (BeginsWith IsBlank rest)
+blank_stops : (rest : List ℕ) → Stops is_blank rest → ¬ (FirstIs IsBlank rest)
 blank_stops [] s h = h
 blank_stops (b ∷ rest) s h = let e : is_blank b ≡ true = (tells_blank b).1 h in cc
 
 -- no blank comes after the blanks
-pub drop_blanks : (bytes : List ℕ) → ¬ (BeginsWith IsBlank (drop (prefix_len is_blank bytes) bytes))
+pub drop_blanks : (bytes : List ℕ) → ¬ (FirstIs IsBlank (drop (prefix_len is_blank bytes) bytes))
 drop_blanks bytes = blank_stops (drop (prefix_len is_blank bytes) bytes) (drop_stops is_blank bytes)

@@ -6,7 +6,7 @@ use Rattle.game_core.specs.declared.token.Token.{Token}
 use Rattle.game_core.specs.declared.token.Token.TheVariants.{Left, Right, Comma, Text, Word, Number}
 use Rattle.game_text.specs.declared.reading.TextKind.{TextKind}
 use Rattle.game_text.specs.declared.reading.TextKind.TheVariants.{BadChar, OpenText, BadNumber, NumberTooLarge}
-use Rattle.game_text.specs.Tokens.{BeginsWith, BeginsNoToken, IsBlank, IsLetter, IsRun, IsTokenAt, IsFaultAt}
+use Rattle.game_text.specs.Tokens.{FirstIs, BeginsNoToken, IsBlank, IsLetter, IsRun, IsTokenAt, IsFaultAt}
 use Rattle.game_text.specs.Reading.{is_blank, is_letter, is_bare}
 use Rattle.game_text.proofs.ByteLemmas.{tells_blank, tells_letter, tells_bare, blank_not_bare, not_bare_no_letter}
 use Rattle.lists.proofs.NumberLemmas.{unequal}
@@ -24,18 +24,18 @@ kind_of_fault OpenText = 3
 kind_of_fault BadNumber = 5
 kind_of_fault NumberTooLarge = 5
 
-kind_at-word : (run rest back : List ℕ) → IsRun run rest → BeginsWith IsLetter run → kind_at (run ++ back) ≡ 4
+kind_at-word : (run rest back : List ℕ) → IsRun run rest → FirstIs IsLetter run → kind_at (run ++ back) ≡ 4
 kind_at-word [] rest back h k = absurd k
 kind_at-word (b ∷ run) rest back h k = let e : is_letter b ≡ true = (tells_letter b).1 k in rw e refl
 
-kind_at-number : (run rest back : List ℕ) → IsRun run rest → ¬ (BeginsWith IsLetter run) → kind_at (run ++ back) ≡ 5
+kind_at-number : (run rest back : List ℕ) → IsRun run rest → ¬ (FirstIs IsLetter run) → kind_at (run ++ back) ≡ 5
 kind_at-number [] rest back h k = absurd (let s : 0 < 0 = h.some in omega arith)
 kind_at-number (b ∷ run) rest back h k =
     let no : is_letter b ≡ false = false_from_ne_true (is_letter b) (λ e. k ((tells_letter b).0 e)) in
     let bare : is_bare b ≡ true = (tells_bare b).1 h.bare.0 in
     rw (bare, no) refl
 
-kind_at-blank : (bytes : List ℕ) → BeginsWith IsBlank bytes → kind_at bytes ≡ 7
+kind_at-blank : (bytes : List ℕ) → FirstIs IsBlank bytes → kind_at bytes ≡ 7
 kind_at-blank [] h = absurd h
 kind_at-blank (b ∷ bytes) h =
     let blank : is_blank b ≡ true = (tells_blank b).1 h in
@@ -52,7 +52,7 @@ kind_at-token front back (Text text) h = rw h.1 refl
 kind_at-token front back (Word word) h = kind_at-word front back back h.0 h.1
 kind_at-token front back (Number value) h = kind_at-number front back back h.0 h.1
 
-kind_at-bad_char : (bytes : List ℕ) → BeginsWith BeginsNoToken bytes → kind_at bytes ≡ 6
+kind_at-bad_char : (bytes : List ℕ) → FirstIs BeginsNoToken bytes → kind_at bytes ≡ 6
 kind_at-bad_char [] h = absurd h
 kind_at-bad_char (b ∷ bytes) h =
     let bare : is_bare b ≡ false = false_from_ne_true (is_bare b) (λ e. h.not_bare ((tells_bare b).0 e)) in
@@ -64,7 +64,7 @@ kind_at-bad_char (b ∷ bytes) h =
     let left : (b == 123) ≡ false = unequal b 123 h.no_brace.0 in
     rw (bare, no, blank, quote, comma, right, left) refl
 
-kind_at-quote : (bytes : List ℕ) → BeginsWith (λ b. b ≡ 34) bytes → kind_at bytes ≡ 3
+kind_at-quote : (bytes : List ℕ) → FirstIs (λ b. b ≡ 34) bytes → kind_at bytes ≡ 3
 kind_at-quote [] h = absurd h
 kind_at-quote (b ∷ bytes) h = rw h refl
 
@@ -76,5 +76,5 @@ kind_at-fault bytes BadNumber h = rw h.2 (kind_at-number h.0 h.1 h.1 h.3 h.4)
 kind_at-fault bytes NumberTooLarge h = rw h.2 (kind_at-number h.0 h.1 h.1 h.3 h.4)
 
 -- no blank comes where the kind is another
-pub kind_no_blank : (bytes : List ℕ) → kind_at bytes ≢ 7 → ¬ (BeginsWith IsBlank bytes)
+pub kind_no_blank : (bytes : List ℕ) → kind_at bytes ≢ 7 → ¬ (FirstIs IsBlank bytes)
 kind_no_blank bytes h k = h (kind_at-blank bytes k)

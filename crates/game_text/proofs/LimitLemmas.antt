@@ -6,7 +6,7 @@ use Rattle.frac128.specs.Fraction.{with_sign}
 use Rattle.frac128.proofs.ReductionLemmas.{nat_abs-with_sign}
 use Rattle.game_text.specs.Digits.{digits_value, without_leading_zeros, without_trailing_zeros}
 use Rattle.frac128.specs.Short.{IsShort}
-use Rattle.game_text.specs.Numbers.{Decimal, ten_to, value_of}
+use Rattle.game_text.specs.Numbers.{Decimal, ten_to, form_value}
 use Rattle.game_text.specs.NumberReading.{GivesShort, GivesValue}
 use Rattle.game_text.proofs.DigitLemmas.{Struck, struck_after, digits_parts, zeros_after}
 use Rattle.game_text.proofs.PowerLemmas.{common_factor, ten_pos}
@@ -22,7 +22,7 @@ struck_value s before after kept z =
 pub decimal_answer : (s f : Bool) (before after kept power : List ℕ) (n e : ℕ) (answer : Option ℚ) → kept ≡ without_trailing_zeros after → n ≡ digits_value (before ++ kept) → length (without_leading_zeros (before ++ kept)) ≤ 36 → e ≡ digits_value power → e ≤ 18 → GivesShort (frac (with_sign s n) (10 ^ length kept) *ℚ ten_to (with_sign f e)) answer → GivesValue (Decimal s before after (with_sign f (digits_value power))) answer
 decimal_answer s f before after kept power n e answer k m few p small h = by answer h
   where
-    value : frac (with_sign s n) (10 ^ length kept) *ℚ ten_to (with_sign f e) ≡ value_of (Decimal s before after (with_sign f (digits_value power)))
+    value : frac (with_sign s n) (10 ^ length kept) *ℚ ten_to (with_sign f e) ≡ form_value (Decimal s before after (with_sign f (digits_value power)))
     value =
         ap₂ (λ x y. frac (with_sign s x) (10 ^ length kept) *ℚ ten_to (with_sign f y)) m p ∙ ap (λ x. x *ℚ ten_to (with_sign f (digits_value power))) (struck_value s before after kept (subst (Struck after) (sym k) (struck_after after)))
 

@@ -8,7 +8,7 @@ use Rattle.game_text.specs.Numbers.{IsNumber}
 use Rattle.game_core.specs.declared.token.Token.TheVariants.{Text, Word, Number}
 use Rattle.game_text.specs.declared.reading.TextKind.{TextKind}
 use Rattle.game_text.specs.declared.reading.TextKind.TheVariants.{BadChar, OpenText, BadNumber, NumberTooLarge}
-use Rattle.game_text.specs.Tokens.{BeginsWith, IsLetter, IsRun, IsFaultAt}
+use Rattle.game_text.specs.Tokens.{FirstIs, IsLetter, IsRun, IsFaultAt}
 use Rattle.game_text.specs.Reading.{IsNext, RefusesNumber, is_letter, is_bare, spelled, after_text}
 use Rattle.game_text.proofs.ByteLemmas.{tells_letter}
 use Rattle.game_text.proofs.QuotedLemmas.{text_closes, text_is_open}
@@ -39,11 +39,11 @@ open_text bytes (c ∷ closing) e h = absurd (omega arith)
 
 -- ---- runs
 -- the first byte of a run, by test and by fact
-begins_with_letter : (run : List ℕ) → 1 ≤ length run → is_letter (get_or run 0 0) ≡ true → BeginsWith IsLetter run
+begins_with_letter : (run : List ℕ) → 1 ≤ length run → is_letter (get_or run 0 0) ≡ true → FirstIs IsLetter run
 begins_with_letter [] h e = absurd (omega arith)
 begins_with_letter (b ∷ run) h e = (tells_letter b).0 e
 
-begins_with_none : (run : List ℕ) → is_letter (get_or run 0 0) ≡ false → ¬ (BeginsWith IsLetter run)
+begins_with_none : (run : List ℕ) → is_letter (get_or run 0 0) ≡ false → ¬ (FirstIs IsLetter run)
 begins_with_none [] e h = h
 begins_with_none (b ∷ run) e h = both_ways (is_letter b) e ((tells_letter b).1 h)
 

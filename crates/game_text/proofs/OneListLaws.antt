@@ -4,14 +4,14 @@ use Rattle.std.proofs.lemmas.List.{append_cancel_right}
 use Rattle.std.specs.List.{AllByRecursion, prefix_len}
 use Rattle.answers.specs.Answers.{IsSingle}
 use Rattle.rational.specs.Rational.{ℚ}
-use Rattle.game_text.specs.Numbers.{NumberForm, IsNumber, IsTooLarge, value_of, IsWithinLimits}
+use Rattle.game_text.specs.Numbers.{NumberForm, IsNumber, IsTooLarge, form_value, IsWithinLimits}
 use Rattle.game_core.specs.TokenList.{TokenList, token_parts}
 use Rattle.game_core.specs.declared.token.Spanned.{Spanned}
 use Rattle.game_core.specs.declared.token.Token.{Token}
 use Rattle.game_core.specs.declared.token.Token.TheVariants.{Left, Right, Comma, Text, Word, Number}
 use Rattle.game_text.specs.declared.reading.TextKind.{TextKind}
 use Rattle.game_text.specs.declared.reading.TextKind.TheVariants.{BadChar, OpenText, BadNumber, NumberTooLarge}
-use Rattle.game_text.specs.Tokens.{BeginsWith, IsBlank, IsRun, IsTokenAt, IsFaultAt, AreTokens, AreTokensBefore, IsFirstFault}
+use Rattle.game_text.specs.Tokens.{FirstIs, IsBlank, IsRun, IsTokenAt, IsFaultAt, AreTokens, AreTokensBefore, IsFirstFault}
 use Rattle.game_text.specs.declared.reading.TextFault.{TextFault}
 use Rattle.game_text.specs.declared.reading.TextStop.TheVariants as text_stop
 use Rattle.game_text.specs.Reading.{is_bare, spelled, after_text}
@@ -25,7 +25,7 @@ use Rattle.game_text.proofs.NumeralFormLemmas.{one_form}
 -- a number has one value
 one_value : (text : List ℕ) (one other : ℚ) → IsNumber text one → IsNumber text other → one ≡ other
 one_value text one other h k =
-    h.is_value ∙ ap value_of (one_form text h.form k.form h.is_written k.is_written) ∙ sym k.is_value
+    h.is_value ∙ ap form_value (one_form text h.form k.form h.is_written k.is_written) ∙ sym k.is_value
 
 -- a number within the limits is not too large
 not_too_large : (text : List ℕ) (value : ℚ) → IsNumber text value → IsTooLarge text → ⊥
@@ -86,7 +86,7 @@ token_once front back again following one other h k e =
 -- ---- where tokens end
 -- neither a blank nor a token comes
 pub record ComesNoToken (rest : List ℕ) : Type 0 where
-  pub no_blank : ¬ (BeginsWith IsBlank rest)
+  pub no_blank : ¬ (FirstIs IsBlank rest)
   pub no_token : (front back : List ℕ) (token : Token) → rest ≡ front ++ back → IsTokenAt front back token → ⊥
 
 -- the kinds of tokens
@@ -159,7 +159,7 @@ fault_once rest kind other h k =
 
 -- ---- all tokens
 -- the blanks at the front are one list
-blanks_once : (one other rest following : List ℕ) → AllByRecursion IsBlank one → AllByRecursion IsBlank other → one ++ rest ≡ other ++ following → ¬ (BeginsWith IsBlank rest) → ¬ (BeginsWith IsBlank following) → (one ≡ other) × (rest ≡ following)
+blanks_once : (one other rest following : List ℕ) → AllByRecursion IsBlank one → AllByRecursion IsBlank other → one ++ rest ≡ other ++ following → ¬ (FirstIs IsBlank rest) → ¬ (FirstIs IsBlank following) → (one ≡ other) × (rest ≡ following)
 blanks_once [] [] rest following h k e n m = (refl, e)
 blanks_once [] (b ∷ other) rest following h k e n m = absurd (n (rw e k.0))
 blanks_once (b ∷ one) [] rest following h k e n m = absurd (m (rw (sym e) h.0))
@@ -170,7 +170,7 @@ blanks_once (b ∷ one) (c ∷ other) rest following h k e n m =
     (rw (heads, more.0) refl, more.1)
 
 -- no token begins with a blank
-token_no_blank : (front back : List ℕ) (token : Token) → IsTokenAt front back token → ¬ (BeginsWith IsBlank (front ++ back))
+token_no_blank : (front back : List ℕ) (token : Token) → IsTokenAt front back token → ¬ (FirstIs IsBlank (front ++ back))
 token_no_blank front back token h =
     kind_no_blank (front ++ back) (λ k. omega (arith, k, kind_at-token front back token h, token_kind token))
 

@@ -2,7 +2,7 @@
 use Rattle.std.proofs.Common.{◌≡◌, ◌≢◌, ℕ, Bool, true, false, cond, ◌&&◌, ◌==◌, inl, inr, List, [], ◌∷◌, ◌++◌, Option, Some, None, refl, sym, ap, ◌∙◌}
 use Rattle.std.proofs.lemmas.Bool.{and_parts, false_from_ne_true}
 use Rattle.std.proofs.lemmas.Bool.Decides.{Decides-eqb}
-use Rattle.game_text.specs.Tokens.{BeginsWith, SpellsText}
+use Rattle.game_text.specs.Tokens.{FirstIs, SpellsText}
 use Rattle.game_text.specs.Reading.{spelled_byte, spelled, after_text}
 use Rattle.lists.proofs.NumberLemmas.{unequal}
 
@@ -36,12 +36,12 @@ pub record Closes (bytes rest text : List ℕ) : Type 0 where
   pub spells : SpellsText inner text
 
 -- one more byte, which spells itself
-spells-cons : (b : ℕ) (inner text : List ℕ) → b ≢ 34 → (b ≡ 92 → BeginsWith (λ c. c ≢ 34) inner) → SpellsText inner text → SpellsText (b ∷ inner) (b ∷ text)
+spells-cons : (b : ℕ) (inner text : List ℕ) → b ≢ 34 → (b ≡ 92 → FirstIs (λ c. c ≢ 34) inner) → SpellsText inner text → SpellsText (b ∷ inner) (b ∷ text)
 spells-cons b [] text q e h = (q, e, ap (λ t. b ∷ t) h)
 spells-cons b (c ∷ inner) text q e h = inr (q, e, text, refl, h)
 
 -- the byte after a backslash is no quote, where the backslash is itself
-first_kept : (d : ℕ) (bytes inner rest : List ℕ) → d ≢ 34 → d ∷ bytes ≡ inner ++ 34 ∷ rest → BeginsWith (λ c. c ≢ 34) inner
+first_kept : (d : ℕ) (bytes inner rest : List ℕ) → d ≢ 34 → d ∷ bytes ≡ inner ++ 34 ∷ rest → FirstIs (λ c. c ≢ 34) inner
 first_kept d bytes [] rest h e = let k : d ≡ 34 = cc in h k
 first_kept d bytes (c ∷ inner) rest h e = λ k. let j : d ≡ 34 = let i : d ≡ c = cc in i ∙ k in h j
 

@@ -2,7 +2,7 @@
 use Rattle.std.proofs.Common.{◌≡◌, ℕ, ◌+◌, ◌<◌, ◌≤◌, List, [], ◌∷◌, ◌++◌, length, sym, ap, ◌∙◌, append_assoc, length-append, arith}
 use Rattle.std.specs.List.{AllByRecursion}
 use Rattle.frac128.specs.Short.{IsShort}
-use Rattle.game_text.specs.Numbers.{IsNumber, NumberForm, Fraction, Decimal, value_of, IsWithinLimits}
+use Rattle.game_text.specs.Numbers.{IsNumber, NumberForm, Fraction, Decimal, form_value, IsWithinLimits}
 use Rattle.rational.specs.Rational.{ℚ}
 use Rattle.game_core.specs.declared.token.Spanned.{Spanned}
 use Rattle.game_core.specs.declared.token.Token.{Token}
@@ -30,7 +30,7 @@ tokens_push from bytes (first ∷ tokens) rest front back after one h parts toke
 -- a number within the limits is short
 number_is_short : (text : List ℕ) (value : ℚ) → IsNumber text value → IsShort value
 number_is_short text value h =
-    let go : (form : NumberForm) → IsWithinLimits form → value ≡ value_of form → IsShort value = λ form. elim form as (λ f. IsWithinLimits f → value ≡ value_of f → IsShort value) [ Fraction negative top bottom ↦ λ w e. rw e w.2 | Decimal negative before after exponent ↦ λ w e. rw e w.2 ] in
+    let go : (form : NumberForm) → IsWithinLimits form → value ≡ form_value form → IsShort value = λ form. elim form as (λ f. IsWithinLimits f → value ≡ form_value f → IsShort value) [ Fraction negative top bottom ↦ λ w e. rw e w.2 | Decimal negative before after exponent ↦ λ w e. rw e w.2 ] in
     go h.form h.is_within h.is_value
 
 -- the number of a token is short

@@ -6,7 +6,7 @@ use Rattle.rational.specs.Rational.{ℚ}
 use Rattle.frac128.specs.Fraction.{with_sign}
 use Rattle.game_text.specs.Digits.{digits_value, without_leading_zeros}
 use Rattle.frac128.specs.Short.{IsShort}
-use Rattle.game_text.specs.Numbers.{NumberForm, Fraction, Decimal, IsWithinLimits, value_of}
+use Rattle.game_text.specs.Numbers.{NumberForm, Fraction, Decimal, IsWithinLimits, form_value}
 use Rattle.game_text.specs.declared.number.NumberFault.{NumberFault}
 use Rattle.game_text.specs.declared.number.NumberFault.TheVariants as faults
 
@@ -87,11 +87,11 @@ GivesShort q answer = MatchOption answer (¬ (IsShort q)) (λ f. (f ≡ q) × Is
 
 -- the value of the form, exactly where it is within the limits
 abbrev pub GivesValue : NumberForm → Option ℚ → Type 0
-GivesValue form answer = MatchOption answer (¬ (IsWithinLimits form)) (λ f. (f ≡ value_of form) × IsWithinLimits form)
+GivesValue form answer = MatchOption answer (¬ (IsWithinLimits form)) (λ f. (f ≡ form_value form) × IsWithinLimits form)
 
 -- the value of the form that was read, or the fault
 abbrev pub Answers : Option NumberForm → Result ℚ NumberFault → Type 0
 Answers None (Ok f) = ⊥
 Answers None (Err fault) = fault ≡ faults.Bad
-Answers (Some form) (Ok f) = (f ≡ value_of form) × IsWithinLimits form
+Answers (Some form) (Ok f) = (f ≡ form_value form) × IsWithinLimits form
 Answers (Some form) (Err fault) = (fault ≡ faults.TooLarge) × (¬ (IsWithinLimits form))

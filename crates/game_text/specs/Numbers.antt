@@ -47,26 +47,26 @@ ten_to (pos n) = whole (pos (10 ^ n))
 ten_to (negsuc n) = frac (pos 1) (10 ^ (n + 1))
 
 -- the value of a form
-abbrev pub value_of : NumberForm → ℚ
-value_of (Fraction negative top bottom) = frac (with_sign negative (digits_value top)) (digits_value bottom)
-value_of (Decimal negative before after exponent) =
+abbrev pub form_value : NumberForm → ℚ
+form_value (Fraction negative top bottom) = frac (with_sign negative (digits_value top)) (digits_value bottom)
+form_value (Decimal negative before after exponent) =
     frac (with_sign negative (digits_value (before ++ after))) (10 ^ length after) *ℚ ten_to exponent
 
 -- The form is within the limits: an exponent from -18 to 18, at most 36 digits when the leading zeros, and the trailing
 -- zeros after the point, are struck, and parts of the value below 2^63.
 abbrev pub IsWithinLimits : NumberForm → Type 0
 IsWithinLimits (Fraction negative top bottom) =
-    (length (without_leading_zeros top) ≤ 36) × (length (without_leading_zeros bottom) ≤ 36) × IsShort (value_of (Fraction negative top bottom))
+    (length (without_leading_zeros top) ≤ 36) × (length (without_leading_zeros bottom) ≤ 36) × IsShort (form_value (Fraction negative top bottom))
 IsWithinLimits (Decimal negative before after exponent) =
     (nat_abs exponent ≤ 18) × (length (without_leading_zeros (before ++ without_trailing_zeros after)) ≤ 36)
-    × IsShort (value_of (Decimal negative before after exponent))
+    × IsShort (form_value (Decimal negative before after exponent))
 
 -- the text of a number that is accepted, with its value
 pub record IsNumber (text : List ℕ) (value : ℚ) : Type 0 where
   pub form : NumberForm
   pub is_written : IsWritten text form
   pub is_within : IsWithinLimits form
-  pub is_value : value ≡ value_of form
+  pub is_value : value ≡ form_value form
 
 -- the text has a number's form, which passes a limit
 pub record IsTooLarge (text : List ℕ) : Type 0 where

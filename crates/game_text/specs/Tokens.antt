@@ -23,9 +23,9 @@ abbrev pub IsBare : ℕ → Type 0
 IsBare b = IsLetter b ⊎ IsAsciiDigit b ⊎ (b ≡ 43) ⊎ (b ≡ 45) ⊎ (b ≡ 46) ⊎ (b ≡ 47)
 
 -- the first byte, where there is one
-abbrev pub BeginsWith : (ℕ → Type 0) → List ℕ → Type 0
-BeginsWith P [] = ⊥
-BeginsWith P (b ∷ bytes) = P b
+abbrev pub FirstIs : (ℕ → Type 0) → List ℕ → Type 0
+FirstIs P [] = ⊥
+FirstIs P (b ∷ bytes) = P b
 
 -- The bytes between the quotes spell a text: `\"` is a quote, any other backslash is itself, and no other
 -- quote stands there. The last byte is no backslash, since that would spell a quote with the one that closes.
@@ -40,7 +40,7 @@ SpellsText (b ∷ c ∷ bytes) text =
 pub record IsRun (run rest : List ℕ) : Type 0 where
   pub some : 0 < length run
   pub bare : AllByRecursion IsBare run
-  pub longest : ¬ (BeginsWith IsBare rest)
+  pub longest : ¬ (FirstIs IsBare rest)
 
 -- the bytes are this token's, where these bytes follow
 abbrev pub IsTokenAt : List ℕ → List ℕ → Token → Type 0
@@ -48,8 +48,8 @@ IsTokenAt bytes rest Left = bytes ≡ 123 ∷ []
 IsTokenAt bytes rest Right = bytes ≡ 125 ∷ []
 IsTokenAt bytes rest Comma = bytes ≡ 44 ∷ []
 IsTokenAt bytes rest (Text text) = (inner : List ℕ) × (bytes ≡ 34 ∷ inner ++ 34 ∷ []) × SpellsText inner text
-IsTokenAt bytes rest (Word word) = IsRun bytes rest × BeginsWith IsLetter bytes × (word ≡ bytes)
-IsTokenAt bytes rest (Number value) = IsRun bytes rest × ¬ (BeginsWith IsLetter bytes) × IsNumber bytes value
+IsTokenAt bytes rest (Word word) = IsRun bytes rest × FirstIs IsLetter bytes × (word ≡ bytes)
+IsTokenAt bytes rest (Number value) = IsRun bytes rest × ¬ (FirstIs IsLetter bytes) × IsNumber bytes value
 
 -- From this offset on the bytes are these tokens, with blanks before them and between them, and then blanks and the rest.
 abbrev pub AreTokensBefore : ℕ → List ℕ → List Spanned → List ℕ → Type 0
@@ -74,11 +74,11 @@ pub record BeginsNoToken (b : ℕ) : Type 0 where
 
 -- the bytes begin with a fault of this kind
 abbrev pub IsFaultAt : List ℕ → TextKind → Type 0
-IsFaultAt bytes BadChar = BeginsWith BeginsNoToken bytes
+IsFaultAt bytes BadChar = FirstIs BeginsNoToken bytes
 IsFaultAt bytes OpenText =
-    BeginsWith (λ b. b ≡ 34) bytes × ((inner text rest : List ℕ) → bytes ≡ 34 ∷ inner ++ 34 ∷ rest → SpellsText inner text → ⊥)
-IsFaultAt bytes BadNumber = (run rest : List ℕ) × (bytes ≡ run ++ rest) × IsRun run rest × ¬ (BeginsWith IsLetter run) × IsNoNumber run
-IsFaultAt bytes NumberTooLarge = (run rest : List ℕ) × (bytes ≡ run ++ rest) × IsRun run rest × ¬ (BeginsWith IsLetter run) × IsTooLarge run
+    FirstIs (λ b. b ≡ 34) bytes × ((inner text rest : List ℕ) → bytes ≡ 34 ∷ inner ++ 34 ∷ rest → SpellsText inner text → ⊥)
+IsFaultAt bytes BadNumber = (run rest : List ℕ) × (bytes ≡ run ++ rest) × IsRun run rest × ¬ (FirstIs IsLetter run) × IsNoNumber run
+IsFaultAt bytes NumberTooLarge = (run rest : List ℕ) × (bytes ≡ run ++ rest) × IsRun run rest × ¬ (FirstIs IsLetter run) × IsTooLarge run
 
 -- the first fault: up to its offset the bytes are tokens and blanks
 pub record IsFirstFault (bytes : List ℕ) (at : ℕ) (kind : TextKind) : Type 0 where

@@ -2,7 +2,7 @@
 ghost use Rattle.std.specs.Prelude.{◌≡◌, ℕ, List, ◌∷◌, IfOk, IfErr};
 ghost use Rattle.answers.specs.Answers.{Gives, IsSingle};
 ghost use Rattle.game_text.specs.Numbers.{IsNumber};
-ghost use Rattle.game_text.specs.Tokens.{BeginsWith, IsBlank};
+ghost use Rattle.game_text.specs.Tokens.{FirstIs, IsBlank};
 ghost use Rattle.game_text.specs.Reading.{IsNext, IsNoMark, RefusesNumber, StopsAt};
 ghost use Rattle.game_text.specs.Stops.{tokens_of};
 ghost use Rattle.game_text.specs.declared.reading.TextStop.TheVariants.{Fault, Memory};
@@ -94,7 +94,7 @@ fn number(run: &[u8]) -> Result<Frac, TextKind>
 // The word or number that comes next, and the bytes after it.
 #[tactic(auto, using(crate::proofs::FrontLemmas::prefix_lengths))]
 fn next_run(alloc: Global, bytes: &[u8], at: usize) -> Result<(Token, &[u8]), TextStop>
-    requires { BeginsWith IsNoMark bytes.now }
+    requires { FirstIs IsNoMark bytes.now }
     ensures token { IfOk result (λ x. IsNext bytes.now x.1.now x.0) }
     ensures fault { IfErr result (StopsAt bytes.now at) }
 {
@@ -114,7 +114,7 @@ fn next_run(alloc: Global, bytes: &[u8], at: usize) -> Result<(Token, &[u8]), Te
 
 // The token that comes next, where no blank does, and the bytes after it.
 fn next_token(alloc: Global, bytes: &[u8], at: usize) -> Result<(Token, &[u8]), TextStop>
-    requires { BeginsWith (λ b. ¬ (IsBlank b)) bytes.now }
+    requires { FirstIs (λ b. ¬ (IsBlank b)) bytes.now }
     ensures token { IfOk result (λ x. IsNext bytes.now x.1.now x.0) }
     ensures fault { IfErr result (StopsAt bytes.now at) }
 {

@@ -7,7 +7,7 @@ use Rattle.linear_systems.specs.Rows.{basic_solution, key, Alike, IsLexicographi
 use Rattle.linear_systems.proofs.LexLemmas.{lex_same}
 use Rattle.frac128.specs.declared.steps.Unfit.{Unfit}
 use Rattle.lex_tableau.specs.Rows.{Numbers, tableau, IsTableau, IsPivotOf}
-use Rattle.lex_tableau.specs.Ratio.{listed, IsBest}
+use Rattle.lex_tableau.specs.Ratio.{variable_at, IsBest}
 use Rattle.frac128.specs.Steps.{StepFits, IsFirstUnfit}
 use Rattle.lex_tableau.specs.Pivots.{pivot_number, steps_of_pivot}
 use Rattle.lemke_pivot.specs.ProblemPaths.{w_of, z_of, z0_of, complement, start, HasPositiveKeys, PathTo}
@@ -88,16 +88,16 @@ module _ (n r : ℕ) (m : Numbers) (S : IsPathStart n r m) where
       walk_variable i h = basic_is_variable n S.matrix S.right r S.first (map tableau o.earlier) (tableau t) c i path ne (subst (λ k. i < k) (sym rows_are) h)
 
       -- the row that the tableau finds is the path's
-      walk_row : (col row : ℕ) → IsLexicographicRow t.rated t.rated (listed t.starts) (tableau t) col row → IsLexicographicRow n n w_of (tableau t) col row
+      walk_row : (col row : ℕ) → IsLexicographicRow t.rated t.rated (variable_at t.starts) (tableau t) col row → IsLexicographicRow n n w_of (tableau t) col row
       walk_row col row L =
-          let K : IsLexicographicRow n n (listed t.starts) (tableau t) col row = subst (λ k. IsLexicographicRow k k (listed t.starts) (tableau t) col row) o.rated L in
+          let K : IsLexicographicRow n n (variable_at t.starts) (tableau t) col row = subst (λ k. IsLexicographicRow k k (variable_at t.starts) (tableau t) col row) o.rated L in
           record {
             within = K.within;
             positive = K.positive;
             least = λ i h d p. record { by = lex_same (suc n) _ _ (λ q l. ap₂ (λ x y. (x *ℚ inv_ℚ ((tableau t).cell i col)) -ℚ (y *ℚ inv_ℚ ((tableau t).cell row col))) (same i q l) (same row q l)) (K.least i h d p).by };
           }
         where
-          same : (i q : ℕ) → q < suc n → key (listed t.starts) (tableau t) i q ≡ key w_of (tableau t) i q
+          same : (i q : ℕ) → q < suc n → key (variable_at t.starts) (tableau t) i q ≡ key w_of (tableau t) i q
           same i zero h = refl
           same i (suc q) h = ap (λ v. key (λ _. v) (tableau t) i 1) (ap (λ s. get_or s q 0) o.starts ∙ S.starts q (omega arith))
 

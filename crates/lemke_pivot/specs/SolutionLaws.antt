@@ -6,7 +6,7 @@ use Rattle.game_theory.specs.Profiles.{Game}
 use Rattle.game_theory.specs.TreeEquilibrium.{IsEquilibrium}
 use Rattle.game_theory.specs.Trees.{Tree}
 use Rattle.sequence_forms.specs.Alike.{FormsAlike}
-use Rattle.sequence_forms.specs.Forms.{SequenceForm, HasTwoWhoRecall, form_of, form_of_table, mixed_of}
+use Rattle.sequence_forms.specs.Forms.{SequenceForm, HasTwoWhoRecall, form_of, form_of_table, mixed_of_plans}
 use Rattle.sequence_forms.specs.Matrices.{SolvesProblem}
 use Rattle.sequence_forms.specs.PlanBehaviour.{behaviour_of, of_two}
 use Rattle.sequence_forms.specs.Prices.{costs}
@@ -42,4 +42,4 @@ SolutionsSolveTables =
     (g : Game) (m n : ℕ) (f : SequenceForm) (greatest_one greatest_two : ℚ) (p s : Problem)
     → g.strategies ≡ m ∷ n ∷ [] → FormsAlike f (form_of_table g m n) → IsProblem p
     → IsProblemOfForm f greatest_one greatest_two p → IsSolutionOf p s
-    → is_table_equilibrium g (mixed_of (of_two (plan_one s) (plan_two s)))
+    → is_table_equilibrium g (mixed_of_plans (of_two (plan_one s) (plan_two s)))

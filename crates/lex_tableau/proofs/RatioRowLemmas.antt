@@ -20,7 +20,7 @@ use Rattle.linear_systems.proofs.RowLemmas.{coefficient_own, coefficient_cell, c
 use Rattle.linear_systems.proofs.LexRowLemmas.{lex_first, lex_pass, lex_take, below_cases, quotients_apart}
 use Rattle.whole_rows.specs.Rows.{from_place}
 use Rattle.lex_tableau.specs.Rows.{tableau_of, IsReachedFrom}
-use Rattle.lex_tableau.specs.Ratio.{listed, quotient_of, Compares, LexCompares, IsBest}
+use Rattle.lex_tableau.specs.Ratio.{variable_at, quotient_of, Compares, LexCompares, IsBest}
 use Rattle.whole_rows.proofs.RowValueLemmas.{fraction_over, over_entry, whole_ne, pos_ne, frac_over}
 
 -- ---- the numbers of a key
@@ -35,19 +35,19 @@ module _ (bs ns : List ℕ) (xs : List ℤ) (ss : List ℕ) (i p : ℕ) (d : Has
   abbrev lead : ℤ
   lead = from_place xs (i * (length ns + 2)) 0
 
-  pub key_own : get_or bs i 0 ≡ get_or ss (p - 1) 0 → frac lead (nat_abs lead) ≡ key (listed ss) (tableau_of bs ns xs) i p
+  pub key_own : get_or bs i 0 ≡ get_or ss (p - 1) 0 → frac lead (nat_abs lead) ≡ key (variable_at ss) (tableau_of bs ns xs) i p
   key_own e =
       fraction_over (from_place xs (i * (length ns + 2))) 0 pr ∙ *ℚ-inv (whole lead) (whole_ne lead (pos_ne lead pr))
-      ∙ sym (coefficient_own (tableau_of bs ns xs) i d hi) ∙ ap (coefficient (tableau_of bs ns xs) i) e ∙ key_past (listed ss) (tableau_of bs ns xs) i p hp
+      ∙ sym (coefficient_own (tableau_of bs ns xs) i d hi) ∙ ap (coefficient (tableau_of bs ns xs) i) e ∙ key_past (variable_at ss) (tableau_of bs ns xs) i p hp
 
-  pub key_column : (j : ℕ) → j < length ns → get_or ns j 0 ≡ get_or ss (p - 1) 0 → frac (from_place xs (i * (length ns + 2)) (j + 1)) (nat_abs lead) ≡ key (listed ss) (tableau_of bs ns xs) i p
+  pub key_column : (j : ℕ) → j < length ns → get_or ns j 0 ≡ get_or ss (p - 1) 0 → frac (from_place xs (i * (length ns + 2)) (j + 1)) (nat_abs lead) ≡ key (variable_at ss) (tableau_of bs ns xs) i p
   key_column j hj e =
-      sym (coefficient_cell (tableau_of bs ns xs) i j d hi hj) ∙ ap (coefficient (tableau_of bs ns xs) i) e ∙ key_past (listed ss) (tableau_of bs ns xs) i p hp
+      sym (coefficient_cell (tableau_of bs ns xs) i j d hi hj) ∙ ap (coefficient (tableau_of bs ns xs) i) e ∙ key_past (variable_at ss) (tableau_of bs ns xs) i p hp
 
-  pub key_absent : get_or bs i 0 ≢ get_or ss (p - 1) 0 → ((j : ℕ) → j < length ns → get_or ns j 0 ≢ get_or ss (p - 1) 0) → frac (pos 0) (nat_abs lead) ≡ key (listed ss) (tableau_of bs ns xs) i p
+  pub key_absent : get_or bs i 0 ≢ get_or ss (p - 1) 0 → ((j : ℕ) → j < length ns → get_or ns j 0 ≢ get_or ss (p - 1) 0) → frac (pos 0) (nat_abs lead) ≡ key (variable_at ss) (tableau_of bs ns xs) i p
   key_absent n g =
       frac_over (pos 0) (nat_abs lead) (pos_abs lead pr) ∙ ring rational_ring (inv_ℚ (whole (pos (nat_abs lead))) ∷ []) (num 0 :* A) (num 0) refl
-      ∙ sym (coefficient_absent (tableau_of bs ns xs) i (get_or ss (p - 1) 0) n g) ∙ key_past (listed ss) (tableau_of bs ns xs) i p hp
+      ∙ sym (coefficient_absent (tableau_of bs ns xs) i (get_or ss (p - 1) 0) n g) ∙ key_past (variable_at ss) (tableau_of bs ns xs) i p hp
 
 -- ---- quotients
 -- the quotient of two fractions over one positive number
@@ -71,7 +71,7 @@ compares_frac n m d e o hd he same = subst (Compares (frac n d) (frac m e)) (sym
     go Greater h = (frac-lt m n e d he hd).1 h
 
 pub compared : (bs ns : List ℕ) (xs : List ℤ) (ss : List ℕ) (c i r p : ℕ) (k l : ℤ) (o : Ordering) → pos 0 <ℤ from_place xs (i * (length ns + 2)) 0 → pos 0 <ℤ from_place xs (r * (length ns + 2)) 0 → pos 0 <ℤ from_place xs (i * (length ns + 2)) (c + 1) → pos 0 <ℤ from_place xs (r * (length ns + 2)) (c + 1)
-    → frac k (nat_abs (from_place xs (i * (length ns + 2)) 0)) ≡ key (listed ss) (tableau_of bs ns xs) i p → frac l (nat_abs (from_place xs (r * (length ns + 2)) 0)) ≡ key (listed ss) (tableau_of bs ns xs) r p
+    → frac k (nat_abs (from_place xs (i * (length ns + 2)) 0)) ≡ key (variable_at ss) (tableau_of bs ns xs) i p → frac l (nat_abs (from_place xs (r * (length ns + 2)) 0)) ≡ key (variable_at ss) (tableau_of bs ns xs) r p
     → o ≡ int_cmp (k *ℤ pos (nat_abs (from_place xs (r * (length ns + 2)) (c + 1)))) (l *ℤ pos (nat_abs (from_place xs (i * (length ns + 2)) (c + 1))))
     → Compares (quotient_of ss (tableau_of bs ns xs) c i p) (quotient_of ss (tableau_of bs ns xs) c r p) o
 compared bs ns xs ss c i r p k l o bi br hi hr ki kr same =
@@ -108,17 +108,17 @@ number_positive bs ns xs i c b t = subst₂ (λ x y. x <ℤ y) (ring integer_rin
 module _ (k m : ℕ) (ss : List ℕ) (t : Tableau) (c : ℕ) where
   pub best_passed : (o : Option ℕ) → t.cell k c ≤ℚ zero_ℚ → IsBest k m ss t c o → IsBest (suc k) m ss t c o
   best_passed None h b = λ i hi. elim (below_cases i k hi) [ inl e ↦ subst (λ i. t.cell i c ≤ℚ zero_ℚ) (sym e) h | inr l ↦ b i l ]
-  best_passed (Some r) h b = lex_pass k m (listed ss) t c r b (λ u. absurd (not_lt_of_le (t.cell k c) zero_ℚ h u))
+  best_passed (Some r) h b = lex_pass k m (variable_at ss) t c r b (λ u. absurd (not_lt_of_le (t.cell k c) zero_ℚ h u))
 
   pub best_first : zero_ℚ <ℚ t.cell k c → IsBest k m ss t c None → IsBest (suc k) m ss t c (Some k)
-  best_first h b = lex_first k m (listed ss) t c b h
+  best_first h b = lex_first k m (variable_at ss) t c b h
 
   pub best_taken : (r : ℕ) → zero_ℚ <ℚ t.cell k c → IsBest k m ss t c (Some r) → IsLexLess (suc m) (quotient_of ss t c k) (quotient_of ss t c r) → IsBest (suc k) m ss t c (Some k)
-  best_taken r h b l = lex_take k m (listed ss) t c r b h l
+  best_taken r h b l = lex_take k m (variable_at ss) t c r b h l
 
   pub best_kept : (r : ℕ) (o : Ordering) → IsReachedFrom m ss t → k < m → (o ≡ Less → ⊥) → zero_ℚ <ℚ t.cell k c → IsBest k m ss t c (Some r) → LexCompares (suc m) (quotient_of ss t c k) (quotient_of ss t c r) o → IsBest (suc k) m ss t c (Some r)
   best_kept r Less p hk n h b l = absurd (n refl)
-  best_kept r Greater p hk n h b l = lex_pass k m (listed ss) t c r b (λ _. l)
+  best_kept r Greater p hk n h b l = lex_pass k m (variable_at ss) t c r b (λ _. l)
   best_kept r Equal p hk n h b l =
       let w : r < k = b.within in
       absurd (quotients_apart p.bound m p.start t k r (t.cell k c) (t.cell r c) p.begins p.reached hk (omega arith) (omega arith) (ne_zero_of_pos (t.cell k c) h)

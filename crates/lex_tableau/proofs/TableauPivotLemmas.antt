@@ -15,7 +15,7 @@ use Rattle.linear_systems.specs.Lex.{IsLexPositive}
 use Rattle.linear_systems.specs.Rows.{key}
 use Rattle.linear_systems.proofs.LexRowLemmas.{keys_stay_alike}
 use Rattle.linear_systems.proofs.PivotLemmas.{eqb_same, eqb_apart, pivot_solves}
-use Rattle.lex_tableau.specs.Ratio.{listed, KeepsPositiveKeys}
+use Rattle.lex_tableau.specs.Ratio.{variable_at, KeepsPositiveKeys}
 use Rattle.linear_systems.proofs.ReachedTableauLemmas.{reached_pivot, reached_alike}
 use Rattle.whole_rows.specs.Rows.{from_place, fraction, IsRow}
 use Rattle.lex_tableau.specs.Rows.{Numbers, HasSolutionsOf, numbers_of, row_of, tableau, IsTableau, IsPivotOf, with_variables_exchanged}
@@ -196,4 +196,4 @@ solutions_kept n m r c t hr hc ne p x = pivot_solves (tableau n) (tableau m) x r
 -- and on the lexicographic row the keys
 pub keys_kept : (n m : Numbers) (r c : ℕ) → IsTableau n → c < length n.nonbasics → IsPivotOf n r c m → KeepsPositiveKeys n r c m
 keys_kept n m r c t hc p best keys =
-    subst₂ (λ (ss : List ℕ) (k : ℕ). (i : ℕ) → i < k → IsLexPositive (suc k) (key (listed ss) (tableau m) i)) (sym p.starts) (sym p.rated) (keys_stay_alike n.rated (listed n.starts) (tableau n) (tableau m) c r t.rated hc best p.fractions keys)
+    subst₂ (λ (ss : List ℕ) (k : ℕ). (i : ℕ) → i < k → IsLexPositive (suc k) (key (variable_at ss) (tableau m) i)) (sym p.starts) (sym p.rated) (keys_stay_alike n.rated (variable_at n.starts) (tableau n) (tableau m) c r t.rated hc best p.fractions keys)

@@ -10,12 +10,12 @@ use Rattle.lex_tableau.specs.Rows.{Numbers, tableau, tableau_of, IsReachedFrom}
 use Rattle.whole_rows.specs.Lists.{row_at}
 
 -- the variables of a list, one after the other
-abbrev pub listed : List ℕ → ℕ → ℕ
-listed starts q = get_or starts q 0
+abbrev pub variable_at : List ℕ → ℕ → ℕ
+variable_at starts q = get_or starts q 0
 
 -- entry p of row i's key, divided by the row's entry in column c
 abbrev pub quotient_of : List ℕ → Tableau → ℕ → ℕ → ℕ → ℚ
-quotient_of starts t c i p = key (listed starts) t i p *ℚ inv_ℚ (t.cell i c)
+quotient_of starts t c i p = key (variable_at starts) t i p *ℚ inv_ℚ (t.cell i c)
 
 -- the order of two numbers
 abbrev pub Compares : ℚ → ℚ → Ordering → Type 0
@@ -33,7 +33,7 @@ LexCompares n f g Greater = IsLexLess n g f
 abbrev pub IsBest : ℕ → ℕ → List ℕ → Tableau → ℕ → Option ℕ → Type 0
 IsBest k m starts t c o =
     MatchOption o ((i : ℕ) → i < k → t.cell i c ≤ℚ zero_ℚ)
-    (λ r. IsLexicographicRow k m (listed starts) t c r)
+    (λ r. IsLexicographicRow k m (variable_at starts) t c r)
 
 -- the lexicographic row of a column of a tableau, or none where no rated row has a positive entry
 abbrev pub IsRatioRow : Numbers → ℕ → Option ℕ → Type 0
@@ -42,7 +42,7 @@ IsRatioRow n col o = IsBest n.rated n.rated n.starts (tableau n) col o
 -- the keys of the rated rows are lexicographically positive
 abbrev pub HasPositiveKeys : Numbers → Type 0
 HasPositiveKeys n =
-    (i : ℕ) → i < n.rated → IsLexPositive (suc n.rated) (key (listed n.starts) (tableau n) i)
+    (i : ℕ) → i < n.rated → IsLexPositive (suc n.rated) (key (variable_at n.starts) (tableau n) i)
 
 -- where the row is the column's lexicographic row, keys that are all positive stay so
 abbrev pub KeepsPositiveKeys : Numbers → ℕ → ℕ → Numbers → Type 0
@@ -55,7 +55,7 @@ KeepsPositiveKeys n row col new =
 abbrev pub IsKeyNumber : List ℕ → List ℕ → List ℕ → List ℤ → ℕ → ℕ → ℤ → Type 0
 IsKeyNumber starts basics nonbasics numbers i p n =
     frac n (nat_abs (row_at (length nonbasics + 2) numbers i 0))
-    ≡ key (listed starts) (tableau_of basics nonbasics numbers) i p
+    ≡ key (variable_at starts) (tableau_of basics nonbasics numbers) i p
 
 -- the order of the quotients of rows i and k at entry p
 abbrev pub ComparesAt : List ℕ → List ℕ → List ℕ → List ℤ → ℕ → ℕ → ℕ → ℕ → Ordering → Type 0

@@ -7,7 +7,7 @@ use Rattle.game_theory.specs.Trees.{IsTree as is_game_tree}
 use Rattle.game_theory.specs.Behaviour.{Behaviour, IsValid as is_valid_behaviour}
 use Rattle.game_theory.proofs.ProfileLineLemmas.{entries-injective}
 use Rattle.game_core.specs.Table.{GameTable, game_of, strategy_counts}
-use Rattle.game_core.specs.Tree.{GameTree, IsTree}
+use Rattle.game_core.specs.Tree.{GameTree, IsGameTree}
 use Rattle.game_core.specs.TreeGame.{game_of_tree}
 use Rattle.behaviour_profile.specs.EntryLaws.{TestedEntriesAreBehaviours, TestedEntriesAreProfiles}
 use Rattle.behaviour_profile.specs.EntryTests.{profile_in}
@@ -63,7 +63,7 @@ module _ (law : TableVerdictsFindEquilibria) where
   table_checks-tell tested table lines text h = checks-tell (table_line table) (TellsOfTableLine table) (table_line-tells tested table) lines text h
 
 -- ---- trees
-module _ (law : TreeVerdictsFindEquilibria) (tree : GameTree) (is : IsTree tree) (recall : AllRecall tree) where
+module _ (law : TreeVerdictsFindEquilibria) (tree : GameTree) (is : IsGameTree tree) (recall : AllRecall tree) where
   behaviour-tells : (b : Behaviour) (verdict : TreeVerdict) (actions text : List ℕ) → is_valid_behaviour (game_of_tree tree) b → IsTreeVerdict (game_of_tree tree) b verdict actions → IsTreeText verdict actions text → TellsOfBehaviour (game_of_tree tree) b text
   behaviour-tells b tree_verdicts.Equilibrium actions text valid h told = inl (law.equilibrium tree b actions is recall valid h, told)
   behaviour-tells b (tree_verdicts.Better player now best) actions text valid h told = inr (player, now, best, actions, law.better tree b player now best actions is recall h, told)
@@ -77,6 +77,6 @@ module _ (law : TreeVerdictsFindEquilibria) (tree : GameTree) (is : IsTree tree)
       let verdict = verdict-alike (game_of_tree tree) judged.0 found.0 w (entries-alike (game_of_tree tree) judged.0 found.0 w (sym judged.1 ∙ found.1)) h.2.0 h.2.1 judged.2 in
       record { behaviour = found.0; valid = found.2; are_entries = subst (λ list. line_in line (Ok list)) (sym profile.2 ∙ found.1) h.1.1; tells = behaviour-tells found.0 h.2.0 h.2.1 text found.2 verdict h.2.3 }
 
-pub tree_checks-tell : TreeVerdictsFindEquilibria → TestedEntriesAreBehaviours → ((tree : GameTree) → IsTree tree → is_game_tree (game_of_tree tree)) → TreeChecksTell
+pub tree_checks-tell : TreeVerdictsFindEquilibria → TestedEntriesAreBehaviours → ((tree : GameTree) → IsGameTree tree → is_game_tree (game_of_tree tree)) → TreeChecksTell
 tree_checks-tell law tested game tree lines text is recall h =
     checks-tell (tree_line tree) (TellsOfTreeLine tree) (tree_line-tells law tree is recall tested (game tree is)) lines text h

@@ -17,7 +17,7 @@ use Rattle.game_theory.specs.Children.{child}
 use Rattle.game_theory.proofs.ChildLemmas.{where_true}
 use Rattle.game_theory.proofs.NamedChildLemmas.{child-is, child-is_child, child-later}
 use Rattle.game_core.specs.declared.tree.Node.{Node}
-use Rattle.game_core.specs.Tree.{GameTree, InformationSet, IsTree as is_valid, members_from}
+use Rattle.game_core.specs.Tree.{GameTree, InformationSet, IsGameTree as is_valid, members_from}
 use Rattle.game_core.specs.TreeGame.{game_of_tree}
 use Rattle.best_replies.specs.Replies.{action_value, reply_value, is_member}
 use Rattle.best_replies.proofs.ReplyValueLemmas.{action_value-by_members}

@@ -9,7 +9,7 @@ use Rattle.game_theory.specs.FirstNodes.{AreNumberedByFirstNodes}
 use Rattle.game_theory.specs.OwnSets.{own_sets}
 use Rattle.game_theory.specs.Recall.{HasPerfectRecall}
 use Rattle.game_theory.proofs.OwnSetLemmas.{own_sets-tell}
-use Rattle.game_core.specs.Tree.{GameTree, IsTree as is_valid_tree}
+use Rattle.game_core.specs.Tree.{GameTree, IsGameTree as is_valid_tree}
 use Rattle.game_core.specs.TreeGame.{game_of_tree}
 use Rattle.best_replies.specs.Replies.{reply_value, AreBestChoices}
 use Rattle.best_replies.proofs.DecisionOrderLemmas.{best_choices-unique}

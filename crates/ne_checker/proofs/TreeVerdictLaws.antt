@@ -6,7 +6,7 @@ use Rattle.game_theory.specs.Trees.{Tree, IsTree}
 use Rattle.game_theory.specs.Behaviour.{Behaviour, IsValid, payoff, reply}
 use Rattle.game_theory.specs.TreeEquilibrium.{IsEquilibrium}
 use Rattle.game_theory.specs.Recall.{HasPerfectRecall}
-use Rattle.game_core.specs.Tree.{GameTree, IsTree as is_valid_tree}
+use Rattle.game_core.specs.Tree.{GameTree, IsGameTree as is_valid_tree}
 use Rattle.game_core.specs.TreeGame.{game_of_tree}
 use Rattle.best_replies.specs.Replies.{reply_value}
 use Rattle.best_replies.proofs.BestChoiceLemmas.{best_choices-pay_most}
@@ -16,7 +16,7 @@ use Rattle.frac128.proofs.FirstUnfitLemmas.{unfit_among}
 use Rattle.ne_checker.specs.declared.trees.TreeVerdict.{TreeVerdict}
 use Rattle.ne_checker.specs.declared.trees.TreeVerdict.TheVariants.{Equilibrium, Better, Range}
 use Rattle.ne_checker.specs.TreeVerdicts.{HasNoBetter, IsBetter, IsTreeVerdict}
-use Rattle.ne_checker.specs.TreeVerdictLaws.{AllFit, ShowsBetterReply, TreeVerdictsFindEquilibria}
+use Rattle.ne_checker.specs.TreeVerdictLaws.{AllPlayersFit, ShowsBetterReply, TreeVerdictsFindEquilibria}
 
 module _ (t : Tree) (b : Behaviour) (w : IsTree t) (recall : (i : ℕ) → i < t.players → HasPerfectRecall t i) where
   -- where no player has better choices there is an equilibrium
@@ -45,7 +45,7 @@ module _ (t : Tree) (b : Behaviour) (w : IsTree t) (recall : (i : ℕ) → i < t
       more = subst (λ x. x <ℚ reply_value t b player h.choice 0) h.now_is (subst (λ x. now <ℚ x) h.best_is h.more)
 
   -- at an equilibrium where all steps fit there is no other verdict
-  only-equilibrium : AllFit t b → IsEquilibrium t b → (verdict : TreeVerdict) (actions : List ℕ) → IsTreeVerdict t b verdict actions → verdict ≡ Equilibrium
+  only-equilibrium : AllPlayersFit t b → IsEquilibrium t b → (verdict : TreeVerdict) (actions : List ℕ) → IsTreeVerdict t b verdict actions → verdict ≡ Equilibrium
   only-equilibrium fit e Equilibrium actions h = refl
   only-equilibrium fit e (Better player now best) actions h =
       (let tells = one-tells player now best actions h in

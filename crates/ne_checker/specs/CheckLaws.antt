@@ -10,7 +10,7 @@ use Rattle.game_theory.specs.Behaviour.{Behaviour, IsValid as IsValidBehaviour}
 use Rattle.game_theory.specs.TreeEquilibrium.{IsEquilibrium as IsTreeEquilibrium}
 use Rattle.game_theory.specs.TreeEntries.{tree_entries}
 use Rattle.game_core.specs.Table.{GameTable, game_of, strategy_counts}
-use Rattle.game_core.specs.Tree.{GameTree, IsTree}
+use Rattle.game_core.specs.Tree.{GameTree, IsGameTree}
 use Rattle.game_core.specs.TreeGame.{game_of_tree}
 use Rattle.ne_printer.specs.ReadLines.{line_in}
 use Rattle.ne_printer.specs.TextLines.{lines_of}
@@ -65,6 +65,6 @@ TableChecksTell =
 -- .. and each text of the check of a tree in which all players recall.
 abbrev pub TreeChecksTell : Type 0
 TreeChecksTell =
-    (tree : GameTree) (lines text : List ℕ) → IsTree tree → AllRecall tree
+    (tree : GameTree) (lines text : List ℕ) → IsGameTree tree → AllRecall tree
     → tree_check tree lines (Ok text)
     → TellsOfLines (TellsOfTreeLine tree) (lines_of lines) text

@@ -3,7 +3,7 @@ use Rattle.std.specs.Prelude.{ℕ, ◌≡◌, List, [], Ok, Err}
 use Rattle.answers.specs.Answers.{Answer, IsSingle, ◌>>=◌, refused_by}
 use Rattle.rational.specs.Rational.{ℚ}
 use Rattle.game_core.specs.Table.{GameTable, strategy_counts}
-use Rattle.game_core.specs.Tree.{GameTree, IsTree}
+use Rattle.game_core.specs.Tree.{GameTree, IsGameTree}
 use Rattle.game_core.specs.TreeGame.{game_of_tree}
 use Rattle.behaviour_profile.specs.EntryTests.{action_counts, profile_in}
 use Rattle.behaviour_profile.specs.declared.entries.ProfileFault.{ProfileFault}
@@ -110,5 +110,5 @@ TableChecksAreSingle = (table : GameTable) (text : List ℕ) → IsSingle (table
 -- a tree in which all players recall and a text have one answer
 abbrev pub TreeChecksAreSingle : Type 0
 TreeChecksAreSingle =
-    (tree : GameTree) (text : List ℕ) → IsTree tree → AllRecall tree
+    (tree : GameTree) (text : List ℕ) → IsGameTree tree → AllRecall tree
     → IsSingle (tree_check tree text)

@@ -14,5 +14,5 @@ lines_answer judge number (line ∷ lines) = do
   only (text ++ texts)
 
 -- as much of a text as the limit on texts asks for: all of it, or more than the limit
-abbrev pub IsKept : List ℕ → List ℕ → Type 0
-IsKept text kept = (kept ≡ text) ⊎ ((most_text < length kept) × (length kept ≤ length text))
+abbrev pub IsEnoughOf : List ℕ → List ℕ → Type 0
+IsEnoughOf text kept = (kept ≡ text) ⊎ ((most_text < length kept) × (length kept ≤ length text))

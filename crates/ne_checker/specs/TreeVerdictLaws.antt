@@ -7,7 +7,7 @@ use Rattle.game_theory.specs.Behaviour.{Behaviour, IsValid, IsChoice, payoff, re
 use Rattle.game_theory.specs.TreeEquilibrium.{IsEquilibrium}
 use Rattle.game_theory.specs.OwnSets.{own_sets}
 use Rattle.game_theory.specs.Recall.{HasPerfectRecall}
-use Rattle.game_core.specs.Tree.{GameTree, IsTree}
+use Rattle.game_core.specs.Tree.{GameTree, IsGameTree}
 use Rattle.game_core.specs.TreeGame.{game_of_tree}
 use Rattle.best_replies.specs.Replies.{AreBestChoices, HasBetterReply}
 use Rattle.frac128.specs.Steps.{StepFits}
@@ -24,12 +24,12 @@ AllRecall tree = (i : ℕ) → i < length tree.players → HasPerfectRecall (gam
 abbrev pub TreeVerdictsAreSingle : Type 0
 TreeVerdictsAreSingle =
     (tree : GameTree) (entries : List ℚ) (verdict other : TreeVerdict) (reply reply' : List ℕ)
-    → IsTree tree → AllRecall tree → tree_verdict tree entries verdict reply
+    → IsGameTree tree → AllRecall tree → tree_verdict tree entries verdict reply
     → tree_verdict tree entries other reply' → (verdict ≡ other) × (reply ≡ reply')
 
 -- the steps of all players fit, for each player's best choices
-abbrev pub AllFit : Tree → Behaviour → Type 0
-AllFit t b =
+abbrev pub AllPlayersFit : Tree → Behaviour → Type 0
+AllPlayersFit t b =
     (i : ℕ) (choice : ℕ → ℕ) → i < t.players → AreBestChoices t b i choice
     → All StepFits (player_steps t b i choice)
 
@@ -50,15 +50,15 @@ pub record ShowsBetterReply (t : Tree) (b : Behaviour) (player : ℕ) (now best 
 -- A verdict of equilibrium on valid behaviour is right, and so is a better reply; where all steps
 -- fit, the verdict of equilibrium comes exactly at equilibria.
 pub record TreeVerdictsFindEquilibria : Type 0 where
-  pub equilibrium : (tree : GameTree) (b : Behaviour) (actions : List ℕ) → IsTree tree
+  pub equilibrium : (tree : GameTree) (b : Behaviour) (actions : List ℕ) → IsGameTree tree
       → AllRecall tree → IsValid (game_of_tree tree) b
       → IsTreeVerdict (game_of_tree tree) b Equilibrium actions
       → IsEquilibrium (game_of_tree tree) b
   pub better : (tree : GameTree) (b : Behaviour) (player : ℕ) (now best : ℚ)
-      (actions : List ℕ) → IsTree tree → AllRecall tree
+      (actions : List ℕ) → IsGameTree tree → AllRecall tree
       → IsTreeVerdict (game_of_tree tree) b (Better player now best) actions
       → ShowsBetterReply (game_of_tree tree) b player now best actions
   pub exactly : (tree : GameTree) (b : Behaviour) (verdict : TreeVerdict)
-      (actions : List ℕ) → IsTree tree → AllRecall tree → IsValid (game_of_tree tree) b
-      → AllFit (game_of_tree tree) b → IsTreeVerdict (game_of_tree tree) b verdict actions
+      (actions : List ℕ) → IsGameTree tree → AllRecall tree → IsValid (game_of_tree tree) b
+      → AllPlayersFit (game_of_tree tree) b → IsTreeVerdict (game_of_tree tree) b verdict actions
       → IsEquilibrium (game_of_tree tree) b ↔ (verdict ≡ Equilibrium)

@@ -50,8 +50,8 @@ IsTreeVerdict t b (Better player now best) reply = IsBetter t b player now best 
 IsTreeVerdict t b (Range step) reply = IsOutOfRange t b step × (reply ≡ [])
 
 -- these are the entries of some behaviour
-abbrev pub AreEntries : GameTree → List ℚ → Type 0
-AreEntries tree entries = (b : Behaviour) × (entries ≡ tree_entries (game_of_tree tree) b)
+abbrev pub AreBehaviourEntries : GameTree → List ℚ → Type 0
+AreBehaviourEntries tree entries = (b : Behaviour) × (entries ≡ tree_entries (game_of_tree tree) b)
 
 -- a verdict on behaviour with these entries, and the reply that comes with it
 abbrev pub tree_verdict : GameTree → List ℚ → TreeVerdict → List ℕ → Type 0

@@ -2,7 +2,7 @@
 ghost use Rattle.std.specs.Prelude.{◌≡◌, ◌<◌, ◌^◌, All, length, sum, IfErr, OnOk};
 ghost use Rattle.game_core.specs.Table.{strategy_counts};
 ghost use Rattle.behaviour_profile.specs.EntryTests.{
-  IsFirstFault,
+  IsFirstProfileFault,
   Passes,
   profile_in,
   tests_from,
@@ -52,7 +52,7 @@ fn test_players(table: &Table, entries: &[Frac]) -> Result<(), ProfileFault>
     ensures passed { let counts = strategy_counts table.now in
         OnOk result (All Passes (tests_from entries.now 0 0 counts)) }
     ensures fault { let counts = strategy_counts table.now in
-        IfErr result (IsFirstFault (tests_from entries.now 0 0 counts)) }
+        IfErr result (IsFirstProfileFault (tests_from entries.now 0 0 counts)) }
 {
     let mut place = 0;
     for player in 0..table.players().len() {

@@ -91,7 +91,7 @@ impl Scratch {
     ghost use Rattle.ne_checker.specs.TreeScratches.{IsScratchOf, choices_of, reply_of};
     ghost use Rattle.ne_checker.specs.TreeSides.{AreChosen};
     ghost use Rattle.ne_checker.specs.TreeSteps.{player_steps};
-    ghost use Rattle.ne_checker.specs.TreeVerdicts.{AreEntries};
+    ghost use Rattle.ne_checker.specs.TreeVerdicts.{AreBehaviourEntries};
 
     /// Room for the check of a behaviour on this tree, with no reply.
     pub fn new(alloc: Global, tree: &Tree) -> Result<Scratch, Memory>
@@ -132,7 +132,7 @@ impl Scratch {
         player: u32,
     ) -> Result<(Frac, Frac), Unfit>
         requires scratch { IsScratchOf tree.now self.old }
-        requires entries { AreEntries tree.now entries.now }
+        requires entries { AreBehaviourEntries tree.now entries.now }
         requires player { player < length tree.now.players }
         ensures scratch { IsScratchOf tree.now self.new }
         ensures reply { reply_of self.new ≡ reply_of self.old }

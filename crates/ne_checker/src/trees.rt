@@ -2,7 +2,7 @@
 ghost use Rattle.game_core.specs.TreeGame.{game_of_tree};
 ghost use Rattle.perfect_recall.specs.Found.{IsRecallOf};
 ghost use Rattle.ne_checker.specs.TreeScratches.{IsScratchOf, reply_of};
-ghost use Rattle.ne_checker.specs.TreeVerdicts.{AreEntries, tree_verdict};
+ghost use Rattle.ne_checker.specs.TreeVerdicts.{AreBehaviourEntries, tree_verdict};
 ghost use Rattle.ne_checker.specs.TreeVerdictLaws.{
   TreeVerdictsAreSingle,
   TreeVerdictsFindEquilibria,
@@ -46,7 +46,7 @@ pub fn check_tree(
     scratch: &mut Scratch,
 ) -> TreeVerdict
     requires recall { IsRecallOf (game_of_tree tree.now) recall.now }
-    requires entries { AreEntries tree.now behaviour.now }
+    requires entries { AreBehaviourEntries tree.now behaviour.now }
     requires scratch { IsScratchOf tree.now scratch.old }
     ensures scratch { IsScratchOf tree.now scratch.new }
     ensures verdict { tree_verdict tree.now behaviour.now result (reply_of scratch.new) }

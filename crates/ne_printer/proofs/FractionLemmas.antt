@@ -1,7 +1,7 @@
 -- Texts of fractions: each is one fraction only, and a `/` stands in it once.
 use Rattle.std.proofs.Common.{◌++◌, ◌≢◌, ◌∙◌, sym, subst, ap, ap₂, arith, ℕ, suc, ◌≡◌, pos, length, get_or, List, [], ◌∷◌, All, inl, inr}
 use Rattle.rational.specs.Rational.{ℚ, frac, whole}
-use Rattle.ne_printer.specs.ReadLines.{IsNumber, IsFraction}
+use Rattle.ne_printer.specs.ReadLines.{IsWholeNumber, IsFraction}
 use Rattle.ne_printer.proofs.NumeralLemmas.{no_slash, one_cut}
 
 -- a text that is cut at a `/` has one
@@ -13,11 +13,11 @@ no_cut (c ∷ text) (b ∷ top) bottom h e =
     no_cut text top bottom (λ k d l. h (suc k) d (omega arith)) rest
 
 -- a text is one number only
-pub one_number : (text : List ℕ) (n m : ℕ) → IsNumber text n → IsNumber text m → n ≡ m
+pub one_number : (text : List ℕ) (n m : ℕ) → IsWholeNumber text n → IsWholeNumber text m → n ≡ m
 one_number text n m h k = h.value ∙ sym k.value
 
 -- of a text with no `/`
-pub uncut_fraction : (text : List ℕ) (q : ℚ) → All (λ b. b ≢ 47) text → IsFraction text q → (n : ℕ) × IsNumber text n × (q ≡ whole (pos n))
+pub uncut_fraction : (text : List ℕ) (q : ℚ) → All (λ b. b ≢ 47) text → IsFraction text q → (n : ℕ) × IsWholeNumber text n × (q ≡ whole (pos n))
 uncut_fraction text q h (inl f) = f
 uncut_fraction text q h (inr f) = absurd (no_cut text f.top f.bottom h f.text_is)
 
@@ -25,8 +25,8 @@ uncut_fraction text q h (inr f) = absurd (no_cut text f.top f.bottom h f.text_is
 pub record IsOver (top bottom : List ℕ) (q : ℚ) : Type 0 where
   pub num : ℕ
   pub den : ℕ
-  pub top_is : IsNumber top num
-  pub bottom_is : IsNumber bottom den
+  pub top_is : IsWholeNumber top num
+  pub bottom_is : IsWholeNumber bottom den
   pub not_zero : den ≢ 0
   pub value : q ≡ frac (pos num) den
 
@@ -38,8 +38,8 @@ cut_fraction text top bottom q h e (inr f) =
     record {
       num = f.num;
       den = f.den;
-      top_is = subst (λ t. IsNumber t f.num) same.0 f.top_is;
-      bottom_is = subst (λ t. IsNumber t f.den) same.1 f.bottom_is;
+      top_is = subst (λ t. IsWholeNumber t f.num) same.0 f.top_is;
+      bottom_is = subst (λ t. IsWholeNumber t f.den) same.1 f.bottom_is;
       not_zero = f.not_zero;
       value = f.value;
     }

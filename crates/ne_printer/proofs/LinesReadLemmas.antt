@@ -8,14 +8,14 @@ use Rattle.std.specs.Str.{bytes_eq}
 use Rattle.std.proofs.lemmas.Slice.Eq.{bytes_eq-Decides}
 use Rattle.rational.specs.Rational.{ℚ}
 use Rattle.answers.specs.Answers.{Gives, IsSingle}
-use Rattle.ne_printer.specs.ReadLines.{IsNumber, IsFraction, AreEntries, IsLine, entries_in, line_in}
+use Rattle.ne_printer.specs.ReadLines.{IsWholeNumber, IsFraction, AreEntries, IsLine, entries_in, line_in}
 use Rattle.ne_printer.specs.declared.reading.LineStop.{LineStop}
 use Rattle.ne_printer.specs.declared.reading.LineStop.TheVariants as stops
 use Rattle.ne_printer.proofs.NumeralLemmas.{all_same, numeral_digits}
 use Rattle.ne_printer.proofs.FractionLemmas.{one_fraction}
 
 -- a number has no comma
-number_no_comma : (text : List ℕ) (n : ℕ) → IsNumber text n → All (λ b. (b == 44) ≡ false) text
+number_no_comma : (text : List ℕ) (n : ℕ) → IsWholeNumber text n → All (λ b. (b == 44) ≡ false) text
 number_no_comma text n h =
     All-weaker IsAsciiDigit (λ b. (b == 44) ≡ false) (λ b digit. ne_eqb b 44 (λ same. omega arith)) text (numeral_digits text (all_same text ∙ h.numeral.digits))
 

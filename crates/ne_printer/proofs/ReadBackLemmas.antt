@@ -15,7 +15,7 @@ use Rattle.rational.proofs.FractionLemmas.{frac_self}
 use Rattle.rational.proofs.PartLemmas.{whole-own_num}
 use Rattle.game_text.proofs.DigitLemmas.{digits_pass}
 use Rattle.game_theory.specs.Lines.{number_text, line_text}
-use Rattle.ne_printer.specs.ReadLines.{IsNumber, IsFraction, IsEntry, IsLine}
+use Rattle.ne_printer.specs.ReadLines.{IsWholeNumber, IsFraction, IsEntry, IsLine}
 use Rattle.ne_printer.proofs.NumeralLemmas.{all_same}
 
 -- digits, one by one
@@ -24,7 +24,7 @@ each_digit [] h = tt
 each_digit (b ∷ text) h = (digit_from_value b h.0, each_digit text h.1)
 
 -- the decimal of a number is that number
-decimal_number : (n : ℕ) → n < 2 ^ 127 → IsNumber (decimal n) n
+decimal_number : (n : ℕ) → n < 2 ^ 127 → IsWholeNumber (decimal n) n
 decimal_number n few =
     let digits = decimal_is_IsNumeral_wide n (omega arith) in
     record {
@@ -60,7 +60,7 @@ text_reads q n e num den =
     (λ few. let one : q.den ≡ 1 = omega (arith, den_pos q) in
     let tail = ap (λ d. decimal n ++ (if d == 1 then [] else codes "/" ++ decimal d)) one ∙ append-nil (decimal n) in
     let same : number_text q ≡ decimal n = text_is q n e ∙ tail in
-    inl (n, subst (λ t. IsNumber t n) (sym same) (decimal_number n num), sym (whole-own_num q one) ∙ ap whole e))
+    inl (n, subst (λ t. IsWholeNumber t n) (sym same) (decimal_number n num), sym (whole-own_num q one) ∙ ap whole e))
     (cases_lt 1 q.den)
 
 -- a number that is not negative

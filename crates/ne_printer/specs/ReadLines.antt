@@ -17,7 +17,7 @@ pub record IsNumeral (text : List ℕ) : Type 0 where
   pub short : length text ≤ 39
 
 -- a number: 1 to 39 digits, and not above 2^127 - 1
-pub record IsNumber (text : List ℕ) (n : ℕ) : Type 0 where
+pub record IsWholeNumber (text : List ℕ) (n : ℕ) : Type 0 where
   pub numeral : IsNumeral text
   pub value : n ≡ digits_value 10 text
   pub few : n ≤ 2 ^ 127 - 1
@@ -29,14 +29,14 @@ pub record IsQuotient (text : List ℕ) (q : ℚ) : Type 0 where
   pub num : ℕ
   pub den : ℕ
   pub text_is : text ≡ top ++ 47 ∷ bottom
-  pub top_is : IsNumber top num
-  pub bottom_is : IsNumber bottom den
+  pub top_is : IsWholeNumber top num
+  pub bottom_is : IsWholeNumber bottom den
   pub not_zero : den ≢ 0
   pub value : q ≡ frac (pos num) den
 
 -- a fraction: a number, or two with `/` between them
 abbrev pub IsFraction : List ℕ → ℚ → Type 0
-IsFraction text q = ((n : ℕ) × IsNumber text n × (q ≡ whole (pos n))) ⊎ IsQuotient text q
+IsFraction text q = ((n : ℕ) × IsWholeNumber text n × (q ≡ whole (pos n))) ⊎ IsQuotient text q
 
 -- fractions with single commas between them
 abbrev pub AreEntries : List ℕ → List ℚ → Type 0

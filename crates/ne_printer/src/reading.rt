@@ -5,7 +5,7 @@ ghost use Rattle.std.specs.List.{All, list_all};
 ghost use Rattle.std.specs.Str.Parse.{digits_value};
 ghost use Rattle.answers.specs.Answers.{Gives, map_ok};
 ghost use Rattle.rational.specs.Rational.{ℚ, frac};
-ghost use Rattle.ne_printer.specs.ReadLines.{IsNumeral, IsNumber, IsFraction, entries_in, line_in, LinesAreSingle, LinesReadBack};
+ghost use Rattle.ne_printer.specs.ReadLines.{IsNumeral, IsWholeNumber, IsFraction, entries_in, line_in, LinesAreSingle, LinesReadBack};
 ghost use Rattle.ne_printer.specs.TextLines.{IsFirstLine, lines_of};
 ghost use Rattle.ne_printer.specs.declared.reading.LineStop.TheVariants as stops;
 
@@ -79,7 +79,7 @@ fn is_numeral(text: &[u8]) -> bool
 
 // The number that a text is.
 fn number(text: &[u8]) -> Option<u128>
-    ensures { MatchOption result ((n : ℕ) → IsNumber text.now n → ⊥) (IsNumber text.now) }
+    ensures { MatchOption result ((n : ℕ) → IsWholeNumber text.now n → ⊥) (IsWholeNumber text.now) }
 {
     if !is_numeral(text) {
         return None;

@@ -19,7 +19,7 @@ use Rattle.file_parts.proofs.ReaderLemmas.{chain, ReadsAs, FaultsAre, bind_fault
 use Rattle.file_parts.proofs.TokenReaderLemmas.{wanted_faults, passed_faults, some_or_none}
 use Rattle.file_parts.proofs.PartReaderLemmas.{title_reader, names_reader, payoffs_reader, title_faults, names_faults, payoffs_faults}
 use Rattle.file_parts.proofs.ValueLemmas.{value, value_title, value_names, value_payoffs, value_each}
-use Rattle.nfg_reader.specs.TableFile.{counted_names, outcome_payoffs, IsFront, AreOutcomes, AreStrategies}
+use Rattle.nfg_reader.specs.TableFile.{counted_names, outcome_payoffs, IsFront, AreOutcomes, AreStrategyTokens}
 use Rattle.nfg_reader.specs.TableReading.{FrontPart, profiles, table_of, outcome_number_at}
 use Rattle.nfg_reader.specs.TableParsing.{parse_count, parse_counted, parse_named, parse_strategies, parse_front, parse_outcome, parse_outcomes, parse_number, parse_outcome_body, parse_body}
 use Rattle.nfg_reader.specs.Faults.{IsTitle, ArePlayers, AreStrategiesOf, ArePayoffsOf, AreClosedOutcomes, AreNumbersOf, StopsInStrategies, HasBody, StopsInOutcomes, StopsInNumbers, StopsInPayoffs, WholeComes, IsKind}
@@ -48,7 +48,7 @@ pub strategies_read_as : (n : ℕ) (front : List Token) (strategies : List (List
 strategies_read_as n front strategies r =
     let s = strategies_are n front (strategies, []) (sym (value_strategies n front) ∙ ap value (reads_alone (parse_strategies n) front strategies r)) in
     let same : s.2.part ≡ front = sym (append-nil s.2.part) ∙ sym s.2.is ∙ sym s.1 in
-    (strategies, subst (λ (q : List Token). AreStrategies q strategies) same s.2.are, s.2.all)
+    (strategies, subst (λ (q : List Token). AreStrategyTokens q strategies) same s.2.are, s.2.all)
 
 -- a front
 pub front_read : (part : List Token) (x : FrontPart) → ReadsAs parse_front part x → IsFront part x.title x.players x.strategies

@@ -10,7 +10,7 @@ use Rattle.rational.specs.Rational.{ℚ, zero_ℚ}
 use Rattle.game_theory.specs.Profiles.{profile_count}
 use Rattle.game_core.specs.Table.{GameTable, IsTable, most_payoffs, strategy_counts}
 use Rattle.game_core.specs.declared.token.Token.{Token}
-use Rattle.nfg_reader.specs.TableFile.{AreStrategies, AreOutcomes, outcome_payoffs, IsPayoffBody, IsOutcomeBody, IsTableFile, HasTooManyPayoffs}
+use Rattle.nfg_reader.specs.TableFile.{AreStrategyTokens, AreOutcomes, outcome_payoffs, IsPayoffBody, IsOutcomeBody, IsTableFile, HasTooManyPayoffs}
 use Rattle.nfg_reader.specs.TableReading.{front_at, rest_at, table_at, FrontPart, profiles, table_of, IsTooLong}
 use Rattle.nfg_reader.proofs.CountedNameLemmas.{lengths_counted}
 use Rattle.nfg_reader.proofs.FrontLaws.{front_is, front_again}
@@ -117,7 +117,7 @@ all_lengths [] h = tt
 all_lengths (names ∷ lists) h = (h.0, all_lengths lists h.1)
 
 -- each of the strategies' lists has a name
-lengths_some : (part : List Token) (strategies : List (List (List ℕ))) → AreStrategies part strategies → AllByRecursion (λ n. 1 ≤ n) (map length strategies)
+lengths_some : (part : List Token) (strategies : List (List (List ℕ))) → AreStrategyTokens part strategies → AllByRecursion (λ n. 1 ≤ n) (map length strategies)
 lengths_some part strategies (inl h) = rw (h.2, lengths_counted h.0) h.1
 lengths_some part strategies (inr h) = all_lengths strategies h.0
 

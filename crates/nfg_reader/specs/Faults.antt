@@ -11,7 +11,7 @@ use Rattle.game_core.specs.declared.token.Token.{Token}
 use Rattle.game_core.specs.declared.token.Token.TheVariants.{Left, Right, Text}
 use Rattle.file_parts.specs.Parts.{whole_number, IsHeader, braced_texts, IsComment, AreNumbers, IsOpen}
 use Rattle.file_parts.specs.Reading.{offset_of}
-use Rattle.nfg_reader.specs.TableFile.{AreStrategies, AreOutcomes, IsFront, IsTableFile}
+use Rattle.nfg_reader.specs.TableFile.{AreStrategyTokens, AreOutcomes, IsFront, IsTableFile}
 use Rattle.nfg_reader.specs.declared.reading.NfgKind.{NfgKind}
 use Rattle.nfg_reader.specs.declared.reading.NfgKind.TheVariants.{Header, Players, Strategies, Outcome, PayoffCount, Trailing}
 
@@ -34,7 +34,7 @@ ArePlayers players tokens = (1 ≤ length players) × (tokens ≡ braced_texts p
 
 -- strategies for this many players
 abbrev pub AreStrategiesOf : ℕ → List Token → Type 0
-AreStrategiesOf players tokens = (strategies : List (List (List ℕ))) × AreStrategies tokens strategies × (length strategies ≡ players)
+AreStrategiesOf players tokens = (strategies : List (List (List ℕ))) × AreStrategyTokens tokens strategies × (length strategies ≡ players)
 
 -- this many payoffs
 abbrev pub ArePayoffsOf : ℕ → List Token → Type 0

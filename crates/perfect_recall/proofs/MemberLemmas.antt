@@ -7,7 +7,7 @@ use Rattle.game_theory.proofs.OwnSetLemmas.{is_index-decides}
 use Rattle.game_theory.specs.Trees.{Tree}
 use Rattle.game_core.specs.declared.tree.Node.{Node}
 use Rattle.game_theory.specs.Behaviour.{is_index}
-use Rattle.game_core.specs.Tree.{GameTree, IsTree, InformationSet, members_from}
+use Rattle.game_core.specs.Tree.{GameTree, IsGameTree, InformationSet, members_from}
 use Rattle.game_core.specs.TreeGame.{game_of_tree}
 
 -- the set of a node
@@ -72,7 +72,7 @@ pub record AreMembers (t : Tree) (s : ℕ) (members : List ℕ) : Type 0 where
   pub ascend : Ascend members
 
 -- the members of a tree's set do
-pub members-are : (t : GameTree) (s : ℕ) (set : InformationSet) → IsTree t → slice_get t.sets s ≡ Some set → AreMembers (game_of_tree t) s set.members
+pub members-are : (t : GameTree) (s : ℕ) (set : InformationSet) → IsGameTree t → slice_get t.sets s ≡ Some set → AreMembers (game_of_tree t) s set.members
 members-are t s set valid is =
     let fits = valid.sets_fit s set is in
     subst (AreMembers (game_of_tree t) s) (sym fits.members_are) (record {
@@ -85,7 +85,7 @@ members-are t s set valid is =
     })
 
 -- the same by a list that is the tree's
-pub members-at : (t : GameTree) (sets : List InformationSet) (s : ℕ) (set : InformationSet) → IsTree t → sets ≡ t.sets → s < length t.sets → set ≡ get_or sets s set → (slice_get t.sets s ≡ Some set) × AreMembers (game_of_tree t) s set.members
+pub members-at : (t : GameTree) (sets : List InformationSet) (s : ℕ) (set : InformationSet) → IsGameTree t → sets ≡ t.sets → s < length t.sets → set ≡ get_or sets s set → (slice_get t.sets s ≡ Some set) × AreMembers (game_of_tree t) s set.members
 members-at t sets s set valid same below is =
     let found : slice_get t.sets s ≡ Some set = slice_get-get_or t.sets s set below ∙ ap Some (ap (λ xs. get_or xs s set) (sym same) ∙ sym is) in
     (found, members-are t s set valid found)

@@ -2,7 +2,7 @@
 use Rattle.std.proofs.Common.{◌≡◌, ◌<◌, ◌+◌, ◌-◌, ◌∙◌, sym, ap, subst, refl, ℕ, zero, suc, Some, None, List, [], ◌∷◌, ◌++◌, length, map, get_or, arith}
 use Rattle.game_theory.specs.Trees.{Tree, IsAbove, IsWithin}
 use Rattle.game_core.specs.declared.tree.Node.{Node}
-use Rattle.game_core.specs.Tree.{GameTree, IsTree, InformationSet, OpenBranch, AreInPrefixOrder, action_count, branches_from}
+use Rattle.game_core.specs.Tree.{GameTree, IsGameTree, InformationSet, OpenBranch, AreInPrefixOrder, action_count, branches_from}
 use Rattle.game_core.specs.TreeGame.{game_of_tree, or_zero}
 
 -- Free places after node m: the first is one of a node on the path to m, and each further one of a node on the path to the node of
@@ -55,7 +55,7 @@ after_root t sets (node ∷ nodes) order reads j below =
     subst (λ x. IsWithin t (t.parent x) j) one (subst (λ x. IsWithin t (t.parent (1 + j)) x) none found)
 
 -- the parent of a node of a tree
-pub parent-on_path : (t : GameTree) (k : ℕ) → IsTree t → 0 < k → k < length t.nodes → IsWithin (game_of_tree t) ((game_of_tree t).parent k) (k - 1)
+pub parent-on_path : (t : GameTree) (k : ℕ) → IsGameTree t → 0 < k → k < length t.nodes → IsWithin (game_of_tree t) ((game_of_tree t).parent k) (k - 1)
 parent-on_path t zero valid later below = absurd (omega arith)
 parent-on_path t (suc j) valid later below =
     let one : j ≡ suc j - 1 = omega arith in

@@ -2,7 +2,7 @@
 ghost use Rattle.std.specs.Prelude.{◌≡◌, ◌↔◌, ◌<◌, ◌+◌, ℕ, length, slice_index, IsTrue, IfOk, MatchOption, None, Some};
 ghost use Rattle.answers.specs.Answers.{Gives, IsSingle};
 ghost use Rattle.game_theory.specs.Recall.{HasPerfectRecall};
-ghost use Rattle.game_core.specs.Tree.{GameTree, IsTree};
+ghost use Rattle.game_core.specs.Tree.{GameTree, IsGameTree};
 ghost use Rattle.game_core.specs.TreeGame.{game_of_tree};
 ghost use Rattle.perfect_recall.specs.declared.recall.RecallStop.TheVariants as stops;
 ghost use Rattle.perfect_recall.specs.LastEdges.{AreLastEdges};
@@ -174,7 +174,7 @@ pub fn find_recall(alloc: Global, tree: &Tree) -> Result<Recall, RecallStop>
 
 /// A tree has one recall, or one player who forgets first.
 pub fn recalls_are_single()
-    ensures { (t : GameTree) → IsTree t → IsSingle (recall_of t) }
+    ensures { (t : GameTree) → IsGameTree t → IsSingle (recall_of t) }
 {
     trees_are_game_trees();
 }

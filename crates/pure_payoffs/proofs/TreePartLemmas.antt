@@ -6,7 +6,7 @@ use Rattle.game_core.specs.declared.tree.Action.{Action}
 use Rattle.game_core.specs.declared.tree.Kind.{Kind}
 use Rattle.game_core.specs.declared.tree.Kind.TheVariants.{Move}
 use Rattle.game_core.specs.declared.tree.Node.{Node}
-use Rattle.game_core.specs.Tree.{GameTree, IsTree, InformationSet, kind_at, kind_of_owner, probability_at}
+use Rattle.game_core.specs.Tree.{GameTree, IsGameTree, InformationSet, kind_at, kind_of_owner, probability_at}
 use Rattle.game_core.specs.TreeGame.{game_of_tree, or_zero, outcome_pays}
 
 -- a number or 0 is read in two ways
@@ -49,7 +49,7 @@ owner-read kind None j is move = cc
 owner-read kind (Some i) j is move = cc
 
 -- the owner of the set of a node at which a player moves
-pub owner-of : (t : GameTree) (nodes : List Node) (k s j : ℕ) (d : Node) → IsTree t → nodes ≡ t.nodes → k < length nodes → (get_or nodes k d).kind ≡ Move j → (get_or nodes k d).set ≡ Some s → (game_of_tree t).owner s ≡ Some j
+pub owner-of : (t : GameTree) (nodes : List Node) (k s j : ℕ) (d : Node) → IsGameTree t → nodes ≡ t.nodes → k < length nodes → (get_or nodes k d).kind ≡ Move j → (get_or nodes k d).set ≡ Some s → (game_of_tree t).owner s ≡ Some j
 owner-of t nodes k s j d valid same below kind set =
     let here : k < length t.nodes = subst (λ x. k < length x) same below in
     let fit = valid.nodes_fit k d here in

@@ -1,7 +1,7 @@
 // The children of nodes.
 ghost use Rattle.std.specs.Prelude.{◌≡◌, ◌<◌, ℕ, Some, slice_get, length, map, IfOk};
 ghost use Rattle.game_theory.specs.Trees.{IsTree};
-ghost use Rattle.game_core.specs.Tree.{GameTree, action_count, IsWithin};
+ghost use Rattle.game_core.specs.Tree.{GameTree, action_count, IsBelow};
 ghost use Rattle.game_core.specs.TreeGame.{game_of_tree};
 ghost use Rattle.pure_payoffs.specs.Filled.{AreFilled, HaveRoom};
 ghost use Rattle.game_theory.specs.Children.{AreChildren};
@@ -20,7 +20,7 @@ pub(crate) fn stands_for_game_tree(tree: &Tree)
 
 // How many actions a set has: none where there is no set.
 fn action_count(tree: &Tree, set: Option<u32>) -> usize
-    requires { IsWithin (length tree.now.sets) set }
+    requires { IsBelow (length tree.now.sets) set }
     ensures { result ≡ action_count tree.now.sets set }
 {
     match set {

@@ -1,7 +1,7 @@
 // The payoff of a pure profile.
 ghost use Rattle.std.specs.Prelude.{◌≡◌, ◌<◌, length};
 ghost use Rattle.frac128.specs.Fraction.{Fits};
-ghost use Rattle.game_core.specs.Tree.{IsWithin};
+ghost use Rattle.game_core.specs.Tree.{IsBelow};
 ghost use Rattle.game_core.specs.TreeGame.{outcome_pays};
 ghost use Rattle.game_theory.specs.Children.{AreChildren};
 
@@ -27,7 +27,7 @@ pub struct Play<'a> {
 
 // What an outcome pays a player: 0 where there is none.
 fn outcome_payoff(tree: &Tree, outcome: Option<u32>, player: u32) -> Frac
-    requires outcome { IsWithin (length tree.now.outcomes) outcome }
+    requires outcome { IsBelow (length tree.now.outcomes) outcome }
     requires player { player < length tree.now.players }
     ensures { result ≡ outcome_pays tree.now.outcomes outcome player }
 {

@@ -14,7 +14,7 @@ use Rattle.game_core.specs.Tree.{GameTree}
 use Rattle.game_core.specs.TreeGame.{game_of_tree}
 use Rattle.reduced_form.specs.Cells.{AreCells, IsCellStop}
 use Rattle.reduced_form.specs.Counts.{AreCounted, choices_by}
-use Rattle.reduced_form.specs.Limits.{AreFew, AllFit, most_choices}
+use Rattle.reduced_form.specs.Limits.{AreFew, AllCellsFit, most_choices}
 use Rattle.reduced_form.specs.ReducedForm.{ReducedForm, IsReducedForm, PaysCompletions, strategy_name}
 use Rattle.reduced_form.specs.Stops.{IsReduceStop}
 use Rattle.reduced_form.specs.declared.stop.ReduceStop.{ReduceStop}
@@ -74,7 +74,7 @@ form-is_form t strategies payoffs table w a is long few cells = subst (λ (x : G
 })
 
 -- all steps of its cells fit
-pub form-all_fit : (t : Tree) (strategies : List (List (List ℕ))) (payoffs : List ℚ) → length payoffs ≡ t.players * profile_count (map length strategies) → AreCells t strategies payoffs → AllFit t strategies
+pub form-all_fit : (t : Tree) (strategies : List (List (List ℕ))) (payoffs : List ℚ) → length payoffs ≡ t.players * profile_count (map length strategies) → AreCells t strategies payoffs → AllCellsFit t strategies
 form-all_fit t strategies payoffs long cells k i h l = (cells k i l (omega (arith, cell_place t.players (profile_count (map length strategies)) k i h l))).steps_fit
 
 -- each cell is what every completion pays

@@ -11,16 +11,16 @@ use Rattle.game_core.proofs.TableCountLemmas.{length-strategy_counts}
 use Rattle.extreme_equilibria.specs.KeptTable.{AreKeptLists, kept_table}
 use Rattle.extreme_equilibria.proofs.KeptListLemmas.{ascending-short}
 use Rattle.extreme_equilibria.proofs.KeptStrategyLemmas.{some-kept}
-use Rattle.reduced_form.specs.Kept.{IsKeptForm, HasFewStrategies, most_strategies, names_at}
+use Rattle.reduced_form.specs.Kept.{IsKeptForm, HasFewStrategies, most_strategies, kept_names}
 use Rattle.reduced_form.proofs.EliminationLemmas.{kept-all}
 
 -- the table over these strategies with these payoffs
 abbrev pub made_table : GameTable → List ℕ → List ℕ → List ℚ → GameTable
-made_table t first second payoffs = record { title = t.title; players = t.players; strategies = names_at t.strategies (first ∷ second ∷ []); payoffs = payoffs }
+made_table t first second payoffs = record { title = t.title; players = t.players; strategies = kept_names t.strategies (first ∷ second ∷ []); payoffs = payoffs }
 
 -- the names of both players
 pub names-two : (lists : List (List (List ℕ))) (first second : List ℕ) → length lists ≡ 2
-    → names_at lists (first ∷ second ∷ []) ≡ map (λ p. get_or (get_or lists 0 []) p []) first ∷ map (λ p. get_or (get_or lists 1 []) p []) second ∷ []
+    → kept_names lists (first ∷ second ∷ []) ≡ map (λ p. get_or (get_or lists 0 []) p []) first ∷ map (λ p. get_or (get_or lists 1 []) p []) second ∷ []
 names-two [] first second e = absurd (omega (arith, e))
 names-two (a ∷ []) first second e = absurd (omega (arith, e))
 names-two (a ∷ b ∷ []) first second e = refl

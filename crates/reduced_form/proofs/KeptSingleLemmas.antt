@@ -9,7 +9,7 @@ use Rattle.game_core.specs.declared.too_large.What.TheVariants as what
 use Rattle.game_core.proofs.TableCountLemmas.{length-strategy_counts}
 use Rattle.extreme_equilibria.specs.KeptTable.{kept_table}
 use Rattle.extreme_equilibria.proofs.KeptListLemmas.{one_list}
-use Rattle.reduced_form.specs.Kept.{KeptForm, IsKeptForm, HasFewStrategies, HasTooManyStrategies, most_strategies, kept_lists, kept_of, names_at}
+use Rattle.reduced_form.specs.Kept.{KeptForm, IsKeptForm, HasFewStrategies, HasTooManyStrategies, most_strategies, kept_lists, kept_of, kept_names}
 use Rattle.reduced_form.specs.declared.kept_stop.KeptStop.{KeptStop}
 use Rattle.reduced_form.specs.declared.kept_stop.KeptStop.TheVariants as stops
 use Rattle.reduced_form.proofs.OneFormLaws.{payoffs-same, tables-same}
@@ -27,7 +27,7 @@ forms-same t one other h g =
     let first : one.first ≡ other.first = one_list (game_of t) 0 one.first other.first (h.are_kept.are_kept 0 (omega arith)) (g.are_kept.are_kept 0 (omega arith)) in
     let second : one.second ≡ other.second = one_list (game_of t) 1 one.second other.second (h.are_kept.are_kept 1 (omega arith)) (g.are_kept.are_kept 1 (omega arith)) in
     let lists : kept_lists one ≡ kept_lists other = ap₂ (λ x y. x ∷ y ∷ []) first second in
-    let names : one.table.strategies ≡ other.table.strategies = h.names_are ∙ ap (names_at t.strategies) lists ∙ sym g.names_are in
+    let names : one.table.strategies ≡ other.table.strategies = h.names_are ∙ ap (kept_names t.strategies) lists ∙ sym g.names_are in
     let players : one.table.players ≡ other.table.players = h.players_are ∙ sym g.players_are in
     let profiles = profile_count (strategy_counts one.table) in
     let count = length one.table.players in

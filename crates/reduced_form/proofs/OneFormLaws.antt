@@ -17,9 +17,9 @@ use Rattle.game_core.specs.Tree.{GameTree}
 use Rattle.game_core.specs.TreeGame.{game_of_tree}
 use Rattle.frac128.specs.Steps.{Step, IsFirstUnfit}
 use Rattle.frac128.proofs.FirstUnfitLemmas.{unfit_among, unfit_once}
-use Rattle.reduced_form.specs.Limits.{payoff_count, choice_count, most_choices, cell_steps, AreFew, AllFit, IsFirstUnfitAt}
+use Rattle.reduced_form.specs.Limits.{payoff_count, choice_count, most_choices, cell_steps, AreFew, AllCellsFit, IsFirstUnfitCell}
 use Rattle.reduced_form.specs.ReducedForm.{ReducedForm, IsReducedForm, strategy_name}
-use Rattle.reduced_form.specs.Stops.{HasTooManyPayoffs, HasTooManyChoices, IsReason, form_of}
+use Rattle.reduced_form.specs.Stops.{HasTooManyPayoffs, HasTooManyChoices, IsReason, reduced_form_of}
 use Rattle.reduced_form.specs.declared.stop.ReduceStop.{ReduceStop}
 use Rattle.reduced_form.specs.declared.stop.ReduceStop.TheVariants as stops
 use Rattle.reduced_form.proofs.FormLaws.{counts-named}
@@ -48,7 +48,7 @@ cells_compare k i m j = elim (cases_lt k m) [
 ]
 
 -- a form has one first unfit step
-first_unfit_at-same : (t : Tree) (strategies : List (List (List ℕ))) (k i m j : ℕ) (one other : Step) → IsFirstUnfitAt t strategies k i one → IsFirstUnfitAt t strategies m j other → (k ≡ m) × (i ≡ j) × (one ≡ other)
+first_unfit_at-same : (t : Tree) (strategies : List (List (List ℕ))) (k i m j : ℕ) (one other : Step) → IsFirstUnfitCell t strategies k i one → IsFirstUnfitCell t strategies m j other → (k ≡ m) × (i ≡ j) × (one ≡ other)
 first_unfit_at-same t strategies k i m j one other h g = elim (cells_compare k i m j) [
   | inl before ↦ absurd (unfit_among (cell_steps t strategies k i) one h.is_first (g.earlier_fit k i h.is_profile h.is_player before))
   | inr rest ↦ elim rest [
@@ -79,17 +79,17 @@ reasons-same t (stops.TooLarge l) (stops.Range k i s) (inr h) g = absurd (choice
 reasons-same t (stops.Range k i s) (stops.TooLarge l) h (inl g) = absurd (many-few t h.strategies g.0 h.are_strategies h.are_few.few_payoffs)
 reasons-same t (stops.Range k i s) (stops.TooLarge l) h (inr g) = absurd (choices-few t h.strategies g.0 h.are_strategies h.are_few.few_choices)
 reasons-same t (stops.Range k i s) (stops.Range p j r) h g =
-    (let moved = subst (λ x. IsFirstUnfitAt t x k i s) (strategies-same t h.strategies g.strategies h.are_strategies g.are_strategies) h.is_first in
+    (let moved = subst (λ x. IsFirstUnfitCell t x k i s) (strategies-same t h.strategies g.strategies h.are_strategies g.are_strategies) h.is_first in
     let same = first_unfit_at-same t g.strategies k i p j s r moved g.is_first in
     cc (same.0, same.1, same.2))
 
 -- and then it has no strategies within the limits whose steps all fit
-reason-no_form : (t : Tree) (strategies : List (List (List ℕ))) (stop : ReduceStop) → IsReason t stop → AreStrategies t strategies → AreFew t strategies → AllFit t strategies → ⊥
+reason-no_form : (t : Tree) (strategies : List (List (List ℕ))) (stop : ReduceStop) → IsReason t stop → AreStrategies t strategies → AreFew t strategies → AllCellsFit t strategies → ⊥
 reason-no_form t strategies stops.Memory h a few fit = h
 reason-no_form t strategies (stops.TooLarge l) (inl h) a few fit = many-few t strategies h.0 a few.few_payoffs
 reason-no_form t strategies (stops.TooLarge l) (inr h) a few fit = choices-few t strategies h.0 a few.few_choices
 reason-no_form t strategies (stops.Range k i s) h a few fit =
-    (let moved = subst (λ x. IsFirstUnfitAt t x k i s) (strategies-same t h.strategies strategies h.are_strategies a) h.is_first in
+    (let moved = subst (λ x. IsFirstUnfitCell t x k i s) (strategies-same t h.strategies strategies h.are_strategies a) h.is_first in
     unfit_among (cell_steps t strategies k i) s moved.is_first (fit k i moved.is_profile moved.is_player))
 
 -- ---- forms
@@ -134,7 +134,7 @@ forms-same t one other h g =
     form table choices = record { choices = choices; table = table }
 
 -- ---- one answer
-pub form_of-single : (t : GameTree) → IsSingle (form_of t)
+pub form_of-single : (t : GameTree) → IsSingle (reduced_form_of t)
 form_of-single t (Ok one) (Ok other) h g = ap Ok (forms-same t one other h.0 g.0)
 form_of-single t (Ok one) (Err stop) h g = absurd (reason-no_form (game_of_tree t) one.choices stop g h.0.are_strategies h.1 h.2)
 form_of-single t (Err stop) (Ok other) h g = absurd (reason-no_form (game_of_tree t) other.choices stop h g.0.are_strategies g.1 g.2)

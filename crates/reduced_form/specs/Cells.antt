@@ -8,7 +8,7 @@ use Rattle.reduced_strategies.specs.StrategicForm.{completed}
 use Rattle.frac128.specs.Steps.{StepFits}
 use Rattle.reduced_form.specs.declared.stop.ReduceStop.{ReduceStop}
 use Rattle.reduced_form.specs.declared.stop.ReduceStop.TheVariants as stops
-use Rattle.reduced_form.specs.Limits.{cell_steps, IsFirstUnfitAt}
+use Rattle.reduced_form.specs.Limits.{cell_steps, IsFirstUnfitCell}
 
 -- what the profile with number k pays player i
 abbrev pub cell : Tree → List (List (List ℕ)) → ℕ → ℕ → ℚ
@@ -27,5 +27,5 @@ AreCells t strategies payoffs =
 -- a step of a cell does not fit, or memory ran out
 abbrev pub IsCellStop : Tree → List (List (List ℕ)) → ReduceStop → Type 0
 IsCellStop t strategies (stops.TooLarge limit) = ⊥
-IsCellStop t strategies (stops.Range profile player unfit) = IsFirstUnfitAt t strategies profile player unfit
+IsCellStop t strategies (stops.Range profile player unfit) = IsFirstUnfitCell t strategies profile player unfit
 IsCellStop t strategies stops.Memory = ⊤

@@ -29,10 +29,10 @@ abbrev pub kept_lists : KeptForm → List (List ℕ)
 kept_lists kept = kept.first ∷ kept.second ∷ []
 
 -- the players' names at these places
-abbrev pub names_at : List (List (List ℕ)) → List (List ℕ) → List (List (List ℕ))
-names_at (names ∷ players) (places ∷ lists) =
-    map (λ place. get_or names place []) places ∷ names_at players lists
-names_at _ _ = []
+abbrev pub kept_names : List (List (List ℕ)) → List (List ℕ) → List (List (List ℕ))
+kept_names (names ∷ players) (places ∷ lists) =
+    map (λ place. get_or names place []) places ∷ kept_names players lists
+kept_names _ _ = []
 
 -- The table over the kept strategies: they have their names, and each profile pays what it pays in
 -- the whole table.
@@ -41,7 +41,7 @@ pub record IsKeptForm (table : GameTable) (kept : KeptForm) : Type 0 where
   pub is_table : IsTable kept.table
   pub title_is : kept.table.title ≡ table.title
   pub players_are : kept.table.players ≡ table.players
-  pub names_are : kept.table.strategies ≡ names_at table.strategies (kept_lists kept)
+  pub names_are : kept.table.strategies ≡ kept_names table.strategies (kept_lists kept)
   pub same_cells : HaveSameCells (game_of kept.table) (kept_table (game_of table) (kept_lists kept))
 
 -- the most strategies of both players together

@@ -35,8 +35,8 @@ pub record AreFew (t : Tree) (strategies : List (List (List ℕ))) : Type 0 wher
   pub few_choices : choice_count t strategies ≤ most_choices
 
 -- all steps of all cells fit
-abbrev pub AllFit : Tree → List (List (List ℕ)) → Type 0
-AllFit t strategies = (k i : ℕ) → k < profile_count (map length strategies) → i < t.players → All StepFits (cell_steps t strategies k i)
+abbrev pub AllCellsFit : Tree → List (List (List ℕ)) → Type 0
+AllCellsFit t strategies = (k i : ℕ) → k < profile_count (map length strategies) → i < t.players → All StepFits (cell_steps t strategies k i)
 
 -- all steps of the cells before that of profile k and player i fit: profiles in order, and in each the players
 abbrev pub EarlierFit : Tree → List (List (List ℕ)) → ℕ → ℕ → Type 0
@@ -44,7 +44,7 @@ EarlierFit t strategies k i =
     (m j : ℕ) → m < profile_count (map length strategies) → j < t.players → (m < k) ⊎ ((m ≡ k) × (j < i)) → All StepFits (cell_steps t strategies m j)
 
 -- the first step that does not fit, in the cell of profile k and player i
-pub record IsFirstUnfitAt (t : Tree) (strategies : List (List (List ℕ))) (k i : ℕ) (step : Step) : Type 0 where
+pub record IsFirstUnfitCell (t : Tree) (strategies : List (List (List ℕ))) (k i : ℕ) (step : Step) : Type 0 where
   pub is_profile : k < profile_count (map length strategies)
   pub is_player : i < t.players
   pub earlier_fit : EarlierFit t strategies k i

@@ -9,7 +9,7 @@ use Rattle.game_core.specs.TreeGame.{game_of_tree}
 use Rattle.game_core.specs.declared.too_large.TooLarge.{TooLarge}
 use Rattle.game_core.specs.declared.too_large.What.TheVariants as what
 use Rattle.frac128.specs.Steps.{Step}
-use Rattle.reduced_form.specs.Limits.{payoff_count, choice_count, most_choices, AreFew, AllFit, IsFirstUnfitAt}
+use Rattle.reduced_form.specs.Limits.{payoff_count, choice_count, most_choices, AreFew, AllCellsFit, IsFirstUnfitCell}
 use Rattle.reduced_form.specs.ReducedForm.{ReducedForm, IsReducedForm}
 use Rattle.reduced_form.specs.declared.stop.ReduceStop.{ReduceStop}
 use Rattle.reduced_form.specs.declared.stop.ReduceStop.TheVariants as stops
@@ -39,7 +39,7 @@ pub record HasUnfitStep (t : Tree) (profile player : ℕ) (step : Step) : Type 0
   pub strategies : List (List (List ℕ))
   pub are_strategies : AreStrategies t strategies
   pub are_few : AreFew t strategies
-  pub is_first : IsFirstUnfitAt t strategies profile player step
+  pub is_first : IsFirstUnfitCell t strategies profile player step
 
 -- why a tree has no reduced form: a count is too large, first that of payoffs and then that of choices; or a step does not fit
 abbrev pub IsReason : Tree → ReduceStop → Type 0
@@ -53,6 +53,6 @@ IsReduceStop t stop = (stop ≡ stops.Memory) ⊎ IsReason t stop
 
 -- The reduced form of a tree, whose counts are within their limits and whose payoffs are computed in steps that all fit; or why it
 -- has none.
-abbrev pub form_of : GameTree → Answer ReduceStop ReducedForm
-form_of tree (Ok form) = IsReducedForm tree form × AreFew (game_of_tree tree) form.choices × AllFit (game_of_tree tree) form.choices
-form_of tree (Err stop) = IsReason (game_of_tree tree) stop
+abbrev pub reduced_form_of : GameTree → Answer ReduceStop ReducedForm
+reduced_form_of tree (Ok form) = IsReducedForm tree form × AreFew (game_of_tree tree) form.choices × AllCellsFit (game_of_tree tree) form.choices
+reduced_form_of tree (Err stop) = IsReason (game_of_tree tree) stop

@@ -7,7 +7,7 @@ ghost use Rattle.game_core.specs.TreeGame.{game_of_tree};
 ghost use Rattle.reduced_strategies.specs.StrategicForm.{AreStrategies};
 ghost use Rattle.reduced_form.specs.declared.stop.ReduceStop.TheVariants as stops;
 ghost use Rattle.reduced_form.specs.ReducedForm.{PaysCompletions, strategy_name};
-ghost use Rattle.reduced_form.specs.Stops.{form_of};
+ghost use Rattle.reduced_form.specs.Stops.{reduced_form_of};
 
 use crate::cells::cells;
 use crate::limits::{check_choices, count_all};
@@ -103,7 +103,7 @@ fn table_of(
 /// 67,108,864 choices, which are counted before anything is built. `Range` exactly where both counts are within
 /// their limits and a step of a payoff does not fit: the first. `Memory` where memory ran out.
 pub fn reduce(alloc: Global, tree: &Tree) -> Result<Reduced, ReduceStop>
-    ensures answer { Gives stops.Memory (form_of tree.now) result }
+    ensures answer { Gives stops.Memory (reduced_form_of tree.now) result }
     ensures completions { IfOk result (PaysCompletions tree.now) }
 {
     trees_are_game_trees();
@@ -123,5 +123,5 @@ pub fn reduce(alloc: Global, tree: &Tree) -> Result<Reduced, ReduceStop>
 
 /// A tree has one reduced form within the limits, or one reason why it has none.
 pub fn forms_are_single()
-    ensures { (tree : GameTree) → IsSingle (form_of tree) }
+    ensures { (tree : GameTree) → IsSingle (reduced_form_of tree) }
 {}

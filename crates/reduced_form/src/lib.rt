@@ -4,7 +4,7 @@
 //! first reason why there is none; `undominated` the kept strategies and their table. `Strategies`
 //! are the lists that `Strategies::new` takes and `Strategies::lists` gives.
 //! Definitions: `specs::ReducedForm` has the form and the names of strategies, `Limits` its limits,
-//! `Stops` what a tree answers (`form_of`), `Kept` what a table answers (`kept_of`).
+//! `Stops` what a tree answers (`reduced_form_of`), `Kept` what a table answers (`kept_of`).
 //! Private words: `specs::Counts` and `Cells`, how the code counts and fills tables.
 //! Lemmas for callers: `proofs::FormLaws` and `FormCountLemmas` on the table, `OneFormLaws` and
 //! `KeptSingleLemmas`.

@@ -5,7 +5,7 @@ use Rattle.game_theory.specs.OwnSets.{own_sets}
 use Rattle.game_theory.proofs.OwnSetLemmas.{own_sets-tell}
 use Rattle.game_theory.specs.Trees.{Tree, IsTree}
 use Rattle.game_theory.proofs.TreeTestLemmas.{tree-tested, coin_toss}
-use Rattle.reduced_strategies.specs.Choices.{choice_at, IsReached, IsReduced}
+use Rattle.reduced_strategies.specs.Choices.{choice_at, IsReachedUnder, IsReduced}
 use Rattle.reduced_strategies.specs.Examples.{alone, renumbered, ReducedStrategiesOfOnePlayer}
 use Rattle.reduced_strategies.proofs.SetLemmas.{choice_at-among}
 
@@ -18,8 +18,8 @@ record EndsOrGoesOn (t : Tree) (first second : ℕ) : Type 0 where
   second_own : t.owner second ≡ Some 0
   no_other_set : (s : ℕ) → s < t.sets → (s ≡ first) ⊎ (s ≡ second)
   two_actions : (s : ℕ) → t.actions s ≡ 2
-  first_reached : (choice : ℕ → ℕ) → IsReached t 0 choice first
-  second_reached : (choice : ℕ → ℕ) → IsReached t 0 choice second ↔ (choice first ≡ 2)
+  first_reached : (choice : ℕ → ℕ) → IsReachedUnder t 0 choice first
+  second_reached : (choice : ℕ → ℕ) → IsReachedUnder t 0 choice second ↔ (choice first ≡ 2)
 
 -- what is chosen at the two sets: an action at the first, and one at the second exactly where the first is the second action
 record IsOne (x y : ℕ) : Type 0 where
@@ -60,7 +60,7 @@ one-actions t first second choices g o s = subst (λ n. choice_at (own_sets t 0)
 
 -- a choice list is fixed at a set exactly where it reaches the set
 abbrev IsFixedAt : Tree → List ℕ → ℕ → Type 0
-IsFixedAt t choices s = (0 < choice_at (own_sets t 0) choices s) ↔ IsReached t 0 (choice_at (own_sets t 0) choices) s
+IsFixedAt t choices s = (0 < choice_at (own_sets t 0) choices s) ↔ IsReachedUnder t 0 (choice_at (own_sets t 0) choices) s
 
 -- and so is that list
 one-fixed : (t : Tree) (first second : ℕ) (choices : List ℕ) → EndsOrGoesOn t first second → IsOne (choice_at (own_sets t 0) choices first) (choice_at (own_sets t 0) choices second) → (s : ℕ) → (s ≡ first) ⊎ (s ≡ second) → IsFixedAt t choices s
@@ -99,7 +99,7 @@ alone-tree =
     tree-tested alone (record { some_node = refl; nodes = refl; edges = refl; sets = refl }) (λ s l e. coin_toss alone s refl (λ a. refl))
 
 -- the second set is reached by the second action at the first alone
-alone-second : (choice : ℕ → ℕ) → IsReached alone 0 choice 1 → choice 0 ≡ 2
+alone-second : (choice : ℕ → ℕ) → IsReachedUnder alone 0 choice 1 → choice 0 ≡ 2
 alone-second choice (zero, l, e, h) = cc
 alone-second choice (suc zero, l, e, h) = cc
 alone-second choice (suc (suc zero), l, e, h) = h.0
@@ -149,7 +149,7 @@ renumbered-tree =
     tree-tested renumbered (record { some_node = refl; nodes = refl; edges = refl; sets = refl }) (λ s l e. coin_toss renumbered s refl (λ a. refl))
 
 -- set 0 is reached by the second action at set 1 alone
-renumbered-second : (choice : ℕ → ℕ) → IsReached renumbered 0 choice 0 → choice 1 ≡ 2
+renumbered-second : (choice : ℕ → ℕ) → IsReachedUnder renumbered 0 choice 0 → choice 1 ≡ 2
 renumbered-second choice (zero, l, e, h) = cc
 renumbered-second choice (suc zero, l, e, h) = cc
 renumbered-second choice (suc (suc zero), l, e, h) = h.0

@@ -6,7 +6,7 @@ use Rattle.game_theory.proofs.OwnSetLemmas.{is_index-decides}
 use Rattle.game_theory.specs.Trees.{Tree, IsTree}
 use Rattle.game_theory.specs.Behaviour.{is_index}
 use Rattle.game_theory.specs.Recall.{own_history}
-use Rattle.reduced_strategies.specs.Choices.{Agrees, IsReached}
+use Rattle.reduced_strategies.specs.Choices.{Agrees, IsReachedUnder}
 use Rattle.reduced_strategies.proofs.HistoryLemmas.{along_paths, agrees_at_child}
 
 -- ---- the test
@@ -44,7 +44,7 @@ reaches_at-decides t i choice s k =
     Decides-and (is_index (t.set k) s) (agrees choice (own_history t i k)) (is_index-decides (t.set k) s) (agrees-decides choice (own_history t i k))
 
 -- what the test of a set tells
-pub is_reached-decides : (t : Tree) (i : ℕ) (choice : ℕ → ℕ) (s : ℕ) → Decides (is_reached t i choice s) (IsReached t i choice s)
+pub is_reached-decides : (t : Tree) (i : ℕ) (choice : ℕ → ℕ) (s : ℕ) → Decides (is_reached t i choice s) (IsReachedUnder t i choice s)
 is_reached-decides t i choice s =
     let nodes = Decides-below_or (reaches_at t i choice s) (ReachesAt t i choice s) (some_below (reaches_at t i choice s)) (reaches_at-decides t i choice s) refl (λ n. refl) t.size in
     Decides-like (is_reached t i choice s) (λ h. (h.0, h.1, h.2.0, h.2.1)) (λ h. (h.0, h.1, (h.2, h.3))) nodes
@@ -72,5 +72,5 @@ agrees-same t i choice other w same k l = along_paths t (λ x. Agrees choice (ow
         (agrees_at_child t i c led.0 other w p m led.1).1 (following, λ o. sym (same led.0 (t.parent c) (omega arith) led.1 o front.0 following) ∙ front.1 o)
 
 -- and reach each set that the first reach
-pub IsReached-same : (t : Tree) (i : ℕ) (choice other : ℕ → ℕ) → IsTree t → SameWhereReached t i choice other → (s : ℕ) → IsReached t i choice s → IsReached t i other s
+pub IsReached-same : (t : Tree) (i : ℕ) (choice other : ℕ → ℕ) → IsTree t → SameWhereReached t i choice other → (s : ℕ) → IsReachedUnder t i choice s → IsReachedUnder t i other s
 IsReached-same t i choice other w same s h = (h.0, h.1, h.2, agrees-same t i choice other w same h.0 h.1 h.3)

@@ -7,7 +7,7 @@ use Rattle.game_theory.specs.OwnSets.{own_sets}
 use Rattle.game_theory.proofs.OwnSetLemmas.{IsAmong, own_sets-has, own_sets-tell, own_sets-ascend}
 use Rattle.game_theory.specs.Trees.{Tree, IsTree}
 use Rattle.game_theory.specs.Behaviour.{IsChoice}
-use Rattle.reduced_strategies.specs.Choices.{choice_at, IsReached, IsReduced}
+use Rattle.reduced_strategies.specs.Choices.{choice_at, IsReachedUnder, IsReduced}
 use Rattle.reduced_strategies.specs.Laws.{ChoicesHaveReduced}
 use Rattle.reduced_strategies.proofs.SetLemmas.{choice_at-map, choice_at-among, choice_at-determines}
 use Rattle.reduced_strategies.proofs.ReachedSetLemmas.{is_reached, is_reached-decides, SameWhereReached, SameWhereReached-sym, IsReached-same}
@@ -44,11 +44,11 @@ reduced-own : (t : Tree) (i : ℕ) (choice : ℕ → ℕ) (s : ℕ) → IsAmong 
 reduced-own t i choice s h = choice_at-map (reached_action t i choice) (own_sets t i) s h
 
 -- it gives a set that is reached the action there
-reduced-reached : (t : Tree) (i : ℕ) (choice : ℕ → ℕ) (s : ℕ) → IsAmong (own_sets t i) s → IsReached t i (λ x. suc (choice x)) s → choice_at (own_sets t i) (reduced t i choice) s ≡ suc (choice s)
+reduced-reached : (t : Tree) (i : ℕ) (choice : ℕ → ℕ) (s : ℕ) → IsAmong (own_sets t i) s → IsReachedUnder t i (λ x. suc (choice x)) s → choice_at (own_sets t i) (reduced t i choice) s ≡ suc (choice s)
 reduced-reached t i choice s m h = reduced-own t i choice s m ∙ action_where-true _ (choice s) ((is_reached-decides t i (λ x. suc (choice x)) s).1 h)
 
 -- a set to which it gives an action is an own set that is reached, and the action is the one there
-reduced-given : (t : Tree) (i : ℕ) (choice : ℕ → ℕ) (s : ℕ) → 0 < choice_at (own_sets t i) (reduced t i choice) s → IsAmong (own_sets t i) s × IsReached t i (λ x. suc (choice x)) s × (choice_at (own_sets t i) (reduced t i choice) s ≡ suc (choice s))
+reduced-given : (t : Tree) (i : ℕ) (choice : ℕ → ℕ) (s : ℕ) → 0 < choice_at (own_sets t i) (reduced t i choice) s → IsAmong (own_sets t i) s × IsReachedUnder t i (λ x. suc (choice x)) s × (choice_at (own_sets t i) (reduced t i choice) s ≡ suc (choice s))
 reduced-given t i choice s h =
     let m = choice_at-among (own_sets t i) (reduced t i choice) s h in
     let e = reduced-own t i choice s m in
@@ -70,7 +70,7 @@ reduced-actions t i choice c s = elim (cases_lt 0 (choice_at (own_sets t i) (red
         omega (arith, q.2, c s own.0 own.1)
 
 -- it has an action at a set exactly where it reaches the set
-reduced-fixed : (t : Tree) (i : ℕ) (choice : ℕ → ℕ) → IsTree t → (s : ℕ) → s < t.sets → t.owner s ≡ Some i → (0 < choice_at (own_sets t i) (reduced t i choice) s) ↔ IsReached t i (choice_at (own_sets t i) (reduced t i choice)) s
+reduced-fixed : (t : Tree) (i : ℕ) (choice : ℕ → ℕ) → IsTree t → (s : ℕ) → s < t.sets → t.owner s ≡ Some i → (0 < choice_at (own_sets t i) (reduced t i choice) s) ↔ IsReachedUnder t i (choice_at (own_sets t i) (reduced t i choice)) s
 reduced-fixed t i choice w s l o =
     let list = choice_at (own_sets t i) (reduced t i choice) in
     let same = reduced-same t i choice w in (

@@ -17,14 +17,14 @@ Agrees choice [] = Unit {0}
 Agrees choice (edge ∷ history) = (choice edge.0 ≡ suc edge.1) × Agrees choice history
 
 -- a set is reached under choices of player i: some member's own history agrees with them
-abbrev pub IsReached : Tree → ℕ → (ℕ → ℕ) → ℕ → Type 0
-IsReached t i choice s = (k : ℕ) × (k < t.size) × (t.set k ≡ Some s) × Agrees choice (own_history t i k)
+abbrev pub IsReachedUnder : Tree → ℕ → (ℕ → ℕ) → ℕ → Type 0
+IsReachedUnder t i choice s = (k : ℕ) × (k < t.size) × (t.set k ≡ Some s) × Agrees choice (own_history t i k)
 
 -- A reduced strategy of player i: a choice list that has an action at a set exactly where the set is reached under it.
 pub record IsReduced (t : Tree) (i : ℕ) (choices : List ℕ) : Type 0 where
   pub one_for_each : length choices ≡ length (own_sets t i)
   pub are_actions : (s : ℕ) → choice_at (own_sets t i) choices s ≤ t.actions s
-  pub fixed_where_reached : (s : ℕ) → s < t.sets → t.owner s ≡ Some i → (0 < choice_at (own_sets t i) choices s) ↔ IsReached t i (choice_at (own_sets t i) choices) s
+  pub fixed_where_reached : (s : ℕ) → s < t.sets → t.owner s ≡ Some i → (0 < choice_at (own_sets t i) choices s) ↔ IsReachedUnder t i (choice_at (own_sets t i) choices) s
 
 -- the reduced strategies of player i: all of them, each once, in order; `*` stands before all actions
 pub record AreReducedStrategies (t : Tree) (i : ℕ) (strategies : List (List ℕ)) : Type 0 where

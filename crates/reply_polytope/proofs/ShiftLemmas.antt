@@ -8,12 +8,11 @@ use Rattle.answers.specs.Answers.{only}
 use Rattle.answers.proofs.AnswerLemmas.{only-single, single-exclude, single-value}
 use Rattle.rational.specs.Rational.{ℚ, ◌+ℚ◌, one_ℚ}
 use Rattle.game_theory.specs.Profiles.{Game, profile_count}
-use Rattle.frac128.specs.Steps.{AddFits, SubFits, unfit}
+use Rattle.frac128.specs.Steps.{AddFits, SubFits, unfit, Step, StepFits, IsFirstUnfit}
 use Rattle.frac128.specs.declared.steps.Op.TheVariants.{Add, Sub}
-use Rattle.pure_payoffs.specs.Steps.{Step, StepFits, IsFirstUnfit}
-use Rattle.pure_payoffs.specs.FirstUnfit.{Fits, IsFirstUnfitOf}
-use Rattle.pure_payoffs.proofs.StepRunLemmas.{first_unfit-following, first_unfit-here, one-fits}
-use Rattle.pure_payoffs.proofs.FirstUnfitLemmas.{first_unfit_here}
+use Rattle.frac128.specs.FirstUnfit.{StepsFit, IsFirstUnfitOf}
+use Rattle.frac128.proofs.StepRunLemmas.{first_unfit-following, first_unfit-here, one-fits}
+use Rattle.frac128.proofs.FirstUnfitLemmas.{first_unfit_here}
 use Rattle.extreme_equilibria.specs.Bimatrix.{shift_of}
 use Rattle.reply_polytope.specs.Shapes.{shifted_payoffs_in}
 use Rattle.reply_polytope.specs.Shifts.{IsLeast, shift_in, shift_steps}
@@ -44,18 +43,18 @@ module _ (u : ℕ → ℚ) (least : ℚ) (n : ℕ) where
   -- 1 less the least payoff does not fit
   pub unfit_difference : 0 < n → (SubFits one_ℚ least → ⊥) → IsFirstUnfitOf (shift_steps u least) profiles 0 (unfit Sub one_ℚ least)
   unfit_difference l refused =
-      first_unfit_here (shift_steps u least) profiles 0 0 (omega (arith, long, l)) (sym (is_there 0 0 l)) (unfit Sub one_ℚ least) (All-nil (Fits (shift_steps u least)))
+      first_unfit_here (shift_steps u least) profiles 0 0 (omega (arith, long, l)) (sym (is_there 0 0 l)) (unfit Sub one_ℚ least) (All-nil (StepsFit (shift_steps u least)))
       (first_unfit-here (unfit Sub one_ℚ least) (unfit Add (u 0) (shift_of least) ∷ []) refused)
 
   module _ (difference : SubFits one_ℚ least) where
-    fit_at : (k : ℕ) → AddFits (u k) (shift_of least) → Fits (shift_steps u least) k
+    fit_at : (k : ℕ) → AddFits (u k) (shift_of least) → StepsFit (shift_steps u least) k
     fit_at k sum = fit_both (unfit Sub one_ℚ least) (unfit Add (u k) (shift_of least)) (k == 0) difference sum
 
     -- the steps of the first k profiles fit
-    fit_before : (k : ℕ) → k ≤ n → ((j : ℕ) → j < k → AddFits (u j) (shift_of least)) → All (Fits (shift_steps u least)) (take k profiles)
+    fit_before : (k : ℕ) → k ≤ n → ((j : ℕ) → j < k → AddFits (u j) (shift_of least)) → All (StepsFit (shift_steps u least)) (take k profiles)
     fit_before k l sums =
         λ j d b. let before : j < k = omega (arith, b, length-take-le k profiles (omega (arith, long, l))) in
-        subst (Fits (shift_steps u least)) (sym (get_or-take k profiles j d before ∙ is_there j d (omega (arith, before, l)))) (fit_at j (sums j before))
+        subst (StepsFit (shift_steps u least)) (sym (get_or-take k profiles j d before ∙ is_there j d (omega (arith, before, l)))) (fit_at j (sums j before))
 
     -- and those of profile k do not
     pub unfit_sum : (k : ℕ) → k < n → ((j : ℕ) → j < k → AddFits (u j) (shift_of least)) → (AddFits (u k) (shift_of least) → ⊥) → IsFirstUnfitOf (shift_steps u least) profiles k (unfit Add (u k) (shift_of least))
@@ -64,9 +63,9 @@ module _ (u : ℕ → ℚ) (least : ℚ) (n : ℕ) where
         (unfit_second (unfit Sub one_ℚ least) (unfit Add (u k) (shift_of least)) (k == 0) difference refused)
 
     -- all steps fit
-    pub all_shifts_fit : ((k : ℕ) → k < n → AddFits (u k) (shift_of least)) → All (Fits (shift_steps u least)) profiles
+    pub all_shifts_fit : ((k : ℕ) → k < n → AddFits (u k) (shift_of least)) → All (StepsFit (shift_steps u least)) profiles
     all_shifts_fit sums =
-        λ k d b. let l : k < n = omega (arith, b, long) in subst (Fits (shift_steps u least)) (sym (is_there k d l)) (fit_at k (sums k l))
+        λ k d b. let l : k < n = omega (arith, b, long) in subst (StepsFit (shift_steps u least)) (sym (is_there k d l)) (fit_at k (sums k l))
 
 -- ---- the stages
 module _ (g : Game) (i : ℕ) (least : ℚ) (is_least : IsLeast (profile_count g.strategies) (g.pays i) least) where
@@ -77,7 +76,7 @@ module _ (g : Game) (i : ℕ) (least : ℚ) (is_least : IsLeast (profile_count g
   shift_stops k step other e h =
       inl (inr (least, is_least, inl ((k, other), h, ap (stops.Range i k) e)))
 
-  pub shift_goes : All (Fits (shift_steps (g.pays i) least)) all → (xs : List ℚ) → xs ≡ map (λ k. g.pays i k +ℚ shift_of least) all → shifted_payoffs_in g i (Ok xs)
+  pub shift_goes : All (StepsFit (shift_steps (g.pays i) least)) all → (xs : List ℚ) → xs ≡ map (λ k. g.pays i k +ℚ shift_of least) all → shifted_payoffs_in g i (Ok xs)
   shift_goes fit xs e = (least, (least, is_least, (tt, fit, refl)), ap Ok e)
 
 -- the shifted payoffs are the sums

@@ -7,7 +7,7 @@ use Rattle.rational.proofs.Field.{le_antisymm}
 use Rattle.linear_systems.specs.Tableau.{Tableau}
 use Rattle.linear_systems.proofs.AgreementLemmas.{alike_sym, alike_trans}
 use Rattle.game_theory.specs.Profiles.{Game}
-use Rattle.pure_payoffs.proofs.FirstUnfitLemmas.{all_fit-single}
+use Rattle.frac128.proofs.FirstUnfitLemmas.{all_fit-single}
 use Rattle.extreme_equilibria.specs.Bimatrix.{shifted, shift_of}
 use Rattle.extreme_equilibria.specs.TwoPlayers.{pays_against}
 use Rattle.extreme_equilibria.specs.Systems.{first_system, second_system}

@@ -5,10 +5,9 @@ use Rattle.std.specs.List.{range_with_len}
 use Rattle.answers.specs.Answers.{Answer, ◌>>=◌, ◌>>◌, only, refused_by}
 use Rattle.rational.specs.Rational.{ℚ, ◌≤ℚ◌, one_ℚ}
 use Rattle.game_theory.specs.Profiles.{Game, profile_count}
-use Rattle.frac128.specs.Steps.{unfit}
+use Rattle.frac128.specs.Steps.{unfit, Step}
 use Rattle.frac128.specs.declared.steps.Op.TheVariants.{Add, Sub}
-use Rattle.pure_payoffs.specs.Steps.{Step}
-use Rattle.pure_payoffs.specs.FirstUnfit.{all_fit}
+use Rattle.frac128.specs.FirstUnfit.{all_fit}
 use Rattle.extreme_equilibria.specs.Bimatrix.{shift_of}
 use Rattle.reply_polytope.specs.declared.stop.PolyStop.{PolyStop}
 use Rattle.reply_polytope.specs.declared.stop.PolyStop.TheVariants as stops

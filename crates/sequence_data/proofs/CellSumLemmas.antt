@@ -10,7 +10,7 @@ use Rattle.rational.proofs.Rules.{zero-+ℚ}
 use Rattle.sequence_forms.specs.Lists.{Entry, listed_at}
 use Rattle.sequence_data.specs.declared.types.Leaf.{Leaf}
 use Rattle.sequence_data.specs.declared.types.Cell.{Cell}
-use Rattle.sequence_data.specs.Cells.{total, cell_at, IsBefore, AreInOrder, IsAt, AreCells}
+use Rattle.sequence_data.specs.Cells.{total, cell_at, IsBefore, AreCellsInOrder, IsAt, AreCells}
 use Rattle.sequence_data.proofs.OrderLemmas.{order-tail}
 
 -- whether a row and a column are these
@@ -59,7 +59,7 @@ before-apart c d (inl rows) same = absurd (omega (arith, rows, same.0))
 before-apart c d (inr columns) same = absurd (omega (arith, columns.1, same.1))
 
 -- a cell that stands there is the only one
-listed-one : (g : Cell → ℚ) (cells : List Cell) (k : ℕ) (c : Cell) → AreInOrder cells → slice_get cells k ≡ Some c → listed_at (cell_entries g cells) c.row c.column ≡ g c
+listed-one : (g : Cell → ℚ) (cells : List Cell) (k : ℕ) (c : Cell) → AreCellsInOrder cells → slice_get cells k ≡ Some c → listed_at (cell_entries g cells) c.row c.column ≡ g c
 listed-one g [] k c order is = absurd (none-some c is)
 listed-one g (x ∷ cells) zero c order is =
     let same : x ≡ c = same_Some x c is in

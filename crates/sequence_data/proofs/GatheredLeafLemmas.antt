@@ -11,9 +11,9 @@ use Rattle.rational.specs.Rational.{ℚ, ◌+ℚ◌, zero_ℚ}
 use Rattle.rational.proofs.RationalRing.{+ℚ_assoc, +ℚ_comm, +ℚ-zero}
 use Rattle.sequence_data.specs.declared.types.Leaf.{Leaf}
 use Rattle.sequence_data.specs.declared.types.Cell.{Cell}
-use Rattle.sequence_data.specs.Cells.{total, chance_one, chance_two, cell_at, IsBefore, AreInOrder, IsAt, AreCells}
+use Rattle.sequence_data.specs.Cells.{total, chance_one, chance_two, cell_at, IsBefore, AreCellsInOrder, IsAt, AreCells}
 use Rattle.sequence_data.specs.Gathered.{cell_place, cell_in, ArePlaces, added_cell}
-use Rattle.sequence_data.specs.Steps.{AllFit, added_steps, cell_steps_after, cell_steps, IsUnfitStop}
+use Rattle.sequence_data.specs.Steps.{AllPlacedFit, added_steps, cell_steps_after, cell_steps, IsUnfitStop}
 use Rattle.sequence_data.specs.declared.stop.SeqStop.{SeqStop}
 use Rattle.sequence_data.proofs.PlacedStepLemmas.{fit-append, stop-more, stop-following}
 use Rattle.sequence_data.proofs.PlaceLemmas.{any_at, all-of_each, get_or-inside, rises, number-one, row-of_place, column-of_place, before-by_place}
@@ -128,7 +128,7 @@ cells-after columns places some up leaves n x l at within i inside is cells old 
     sym (cells-more columns places some up (take n leaves) x within i inside is cells cell are here) ∙ ap (λ xs. map (cell_in columns xs) places) (sym one)
 
 -- what stops a leaf's steps stops those of all leaves
-pub gather-stop : (leaves : List Leaf) (i : ℕ) (x : Leaf) (cell : Cell) (stop : SeqStop) → i < length leaves → x ≡ get_or leaves i x → cell ≡ cell_at (take i leaves) x.row x.column → AllFit (cell_steps (take i leaves)) → IsUnfitStop (added_steps cell x) stop → IsUnfitStop (cell_steps leaves) stop
+pub gather-stop : (leaves : List Leaf) (i : ℕ) (x : Leaf) (cell : Cell) (stop : SeqStop) → i < length leaves → x ≡ get_or leaves i x → cell ≡ cell_at (take i leaves) x.row x.column → AllPlacedFit (cell_steps (take i leaves)) → IsUnfitStop (added_steps cell x) stop → IsUnfitStop (cell_steps leaves) stop
 gather-stop leaves i x cell stop l is at fit h =
     let front = take i leaves in
     let rest = drop (suc i) leaves in
@@ -137,10 +137,10 @@ gather-stop leaves i x cell stop l is at fit h =
     subst (λ s. IsUnfitStop s stop) (sym (ap cell_steps (split_at leaves i x l is) ∙ steps-split [] front (x ∷ rest))) all
 
 -- the steps with one more leaf fit
-pub gather-fit : (leaves : List Leaf) (i : ℕ) (x : Leaf) (cell : Cell) → i < length leaves → x ≡ get_or leaves i x → cell ≡ cell_at (take i leaves) x.row x.column → AllFit (cell_steps (take i leaves)) → AllFit (added_steps cell x) → AllFit (cell_steps (take (i + 1) leaves))
+pub gather-fit : (leaves : List Leaf) (i : ℕ) (x : Leaf) (cell : Cell) → i < length leaves → x ≡ get_or leaves i x → cell ≡ cell_at (take i leaves) x.row x.column → AllPlacedFit (cell_steps (take i leaves)) → AllPlacedFit (added_steps cell x) → AllPlacedFit (cell_steps (take (i + 1) leaves))
 gather-fit leaves i x cell l is at fit h =
     let one : take (i + 1) leaves ≡ take i leaves ++ x ∷ [] = take_more leaves i x l ∙ ap (λ y. take i leaves ++ y ∷ []) (sym is) in
-    subst AllFit (sym (ap cell_steps one ∙ cell_steps-push (take i leaves) x)) (fit-append (cell_steps (take i leaves)) (added_steps (cell_at (take i leaves) x.row x.column) x) fit (subst (λ c. AllFit (added_steps c x)) at h))
+    subst AllPlacedFit (sym (ap cell_steps one ∙ cell_steps-push (take i leaves) x)) (fit-append (cell_steps (take i leaves)) (added_steps (cell_at (take i leaves) x.row x.column) x) fit (subst (λ c. AllPlacedFit (added_steps c x)) at h))
 
 -- the rows of places are those of leaves
 pub rows-few : (columns : ℕ) (leaves : List Leaf) (places : List ℕ) → All (λ l. l.row < 2 ^ 32) leaves → All (λ l. l.column < columns) leaves → ArePlaces columns leaves places → All (λ k. k / columns < 2 ^ 32) places
@@ -155,7 +155,7 @@ rows-few columns leaves places few within h = All-weaker (λ k. Any (λ l. cell_
 
 -- ---- the cells in the end
 -- cells at places that rise are in order
-in_order : (columns : ℕ) (leaves : List Leaf) (places : List ℕ) → 0 < columns → IsStrictlyIncreasing places → AreInOrder (map (cell_in columns leaves) places)
+in_order : (columns : ℕ) (leaves : List Leaf) (places : List ℕ) → 0 < columns → IsStrictlyIncreasing places → AreCellsInOrder (map (cell_in columns leaves) places)
 in_order columns leaves places some up i j c d l is_c is_d =
     let many = length-map places (cell_in columns leaves) in
     let in_i = slice_get_within (map (cell_in columns leaves) places) i c is_c in

@@ -10,9 +10,9 @@ use Rattle.rational.proofs.Field.{le_trans, le_antisymm}
 use Rattle.frac128.specs.Steps.{Step}
 use Rattle.sequence_data.specs.declared.types.Leaf.{Leaf}
 use Rattle.sequence_data.specs.declared.types.Cell.{Cell}
-use Rattle.sequence_data.specs.Cells.{cell_at, IsBefore, AreInOrder, IsAt, AreCells}
+use Rattle.sequence_data.specs.Cells.{cell_at, IsBefore, AreCellsInOrder, IsAt, AreCells}
 use Rattle.rational.specs.Extremes.{IsGreatest, IsLeast, IsGreater, IsLesser}
-use Rattle.sequence_data.specs.Steps.{PlacedStep, at_place, AllFit, IsFirstUnfitAt}
+use Rattle.sequence_data.specs.Steps.{PlacedStep, at_place, AllPlacedFit, IsFirstUnfitPlaced}
 use Rattle.sequence_data.proofs.PlacedStepLemmas.{PlacedFits}
 use Rattle.sequence_data.proofs.PlaceLemmas.{any_at}
 
@@ -29,11 +29,11 @@ abbrev AreAmong : List Cell → List Cell → Type 0
 AreAmong xs ys = (i : ℕ) (c : Cell) → slice_get xs i ≡ Some c → (j : ℕ) × (slice_get ys j ≡ Some c)
 
 -- the cells after the first are in order
-pub order-tail : (x : Cell) (xs : List Cell) → AreInOrder (x ∷ xs) → AreInOrder xs
+pub order-tail : (x : Cell) (xs : List Cell) → AreCellsInOrder (x ∷ xs) → AreCellsInOrder xs
 order-tail x xs h i j c d l at_i at_j = h (suc i) (suc j) c d (omega arith) at_i at_j
 
 -- in lists with the same cells the first is the same
-same_first : (x y : Cell) (xs ys : List Cell) → AreInOrder (x ∷ xs) → AreInOrder (y ∷ ys) → AreAmong (x ∷ xs) (y ∷ ys) → AreAmong (y ∷ ys) (x ∷ xs) → x ≡ y
+same_first : (x y : Cell) (xs ys : List Cell) → AreCellsInOrder (x ∷ xs) → AreCellsInOrder (y ∷ ys) → AreAmong (x ∷ xs) (y ∷ ys) → AreAmong (y ∷ ys) (x ∷ xs) → x ≡ y
 same_first x y xs ys p q h g = go (h 0 x refl) (g 0 y refl)
   where
     go : (j : ℕ) × (slice_get (y ∷ ys) j ≡ Some x) → (i : ℕ) × (slice_get (x ∷ xs) i ≡ Some y) → x ≡ y
@@ -42,7 +42,7 @@ same_first x y xs ys p q h g = go (h 0 x refl) (g 0 y refl)
     go (suc j, a) (suc i, b) = absurd (before-once x y (p 0 (suc i) x y (omega arith) refl b) (q 0 (suc j) y x (omega arith) refl a))
 
 -- the cells after the first are among the others after the first
-among-tail : (x y : Cell) (xs ys : List Cell) → x ≡ y → AreInOrder (x ∷ xs) → AreAmong (x ∷ xs) (y ∷ ys) → AreAmong xs ys
+among-tail : (x y : Cell) (xs ys : List Cell) → x ≡ y → AreCellsInOrder (x ∷ xs) → AreAmong (x ∷ xs) (y ∷ ys) → AreAmong xs ys
 among-tail x y xs ys e p h i c at = go (h (suc i) c at)
   where
     go : (j : ℕ) × (slice_get (y ∷ ys) j ≡ Some c) → (j : ℕ) × (slice_get ys j ≡ Some c)
@@ -50,7 +50,7 @@ among-tail x y xs ys e p h i c at = go (h (suc i) c at)
     go (suc j, a) = (j, a)
 
 -- lists in order with the same cells are the same
-same_list : (xs ys : List Cell) → AreInOrder xs → AreInOrder ys → AreAmong xs ys → AreAmong ys xs → xs ≡ ys
+same_list : (xs ys : List Cell) → AreCellsInOrder xs → AreCellsInOrder ys → AreAmong xs ys → AreAmong ys xs → xs ≡ ys
 same_list [] [] p q h g = refl
 same_list [] (y ∷ ys) p q h g = let found = g 0 y refl in absurd (none-some y found.1)
 same_list (x ∷ xs) [] p q h g = let found = h 0 x refl in absurd (none-some x found.1)
@@ -80,21 +80,21 @@ heads x y xs ys e = cc
 tails : (x y : PlacedStep) (xs ys : List PlacedStep) → x ∷ xs ≡ y ∷ ys → xs ≡ ys
 tails x y xs ys e = cc
 
-first-one : (b d : List PlacedStep) (s r : PlacedStep) (xs ys : List PlacedStep) → b ++ s ∷ xs ≡ d ++ r ∷ ys → AllFit b → AllFit d → (PlacedFits s → ⊥) → (PlacedFits r → ⊥) → s ≡ r
+first-one : (b d : List PlacedStep) (s r : PlacedStep) (xs ys : List PlacedStep) → b ++ s ∷ xs ≡ d ++ r ∷ ys → AllPlacedFit b → AllPlacedFit d → (PlacedFits s → ⊥) → (PlacedFits r → ⊥) → s ≡ r
 first-one [] [] s r xs ys e h g p q = heads s r xs ys e
 first-one [] (y ∷ d) s r xs ys e h g p q = absurd (p (subst PlacedFits (sym (heads s y xs (d ++ r ∷ ys) e)) (All-head PlacedFits y d g)))
 first-one (x ∷ b) [] s r xs ys e h g p q = absurd (q (subst PlacedFits (heads x r (b ++ s ∷ xs) ys e) (All-head PlacedFits x b h)))
 first-one (x ∷ b) (y ∷ d) s r xs ys e h g p q =
     first-one b d s r xs ys (tails x y (b ++ s ∷ xs) (d ++ r ∷ ys) e) (All-tail PlacedFits x b h) (All-tail PlacedFits y d g) p q
 
-pub unfit-one : (steps : List PlacedStep) (k m : ℕ) (step other : Step) → IsFirstUnfitAt steps k step → IsFirstUnfitAt steps m other → (k ≡ m) × (step ≡ other)
+pub unfit-one : (steps : List PlacedStep) (k m : ℕ) (step other : Step) → IsFirstUnfitPlaced steps k step → IsFirstUnfitPlaced steps m other → (k ≡ m) × (step ≡ other)
 unfit-one steps k m step other h g =
     let same = first-one h.before g.before (at_place k step) (at_place m other) h.following g.following (sym h.is_there ∙ g.is_there) h.earlier_fit g.earlier_fit h.does_not_fit g.does_not_fit in
     (ap (λ (s : PlacedStep). s.place) same, ap (λ (s : PlacedStep). s.step) same)
 
-pub unfit-none : (steps : List PlacedStep) (k : ℕ) (step : Step) → IsFirstUnfitAt steps k step → AllFit steps → ⊥
+pub unfit-none : (steps : List PlacedStep) (k : ℕ) (step : Step) → IsFirstUnfitPlaced steps k step → AllPlacedFit steps → ⊥
 unfit-none steps k step h fit =
-    let whole = subst AllFit h.is_there fit in
+    let whole = subst AllPlacedFit h.is_there fit in
     let inside : length h.before < length (h.before ++ at_place k step ∷ h.following) = omega (arith, length-append h.before (at_place k step ∷ h.following)) in
     h.does_not_fit (subst PlacedFits (get_or-append_seam h.before (at_place k step) h.following (at_place k step)) (All-get_or PlacedFits (h.before ++ at_place k step ∷ h.following) (length h.before) (at_place k step) inside whole))
 

@@ -9,22 +9,22 @@ use Rattle.sequence_data.specs.declared.types.Leaf.{Leaf}
 use Rattle.sequence_data.specs.declared.types.Cell.{Cell}
 use Rattle.sequence_data.specs.declared.stop.SeqStop.{SeqStop}
 use Rattle.sequence_data.specs.declared.stop.SeqStop.TheVariants as stops
-use Rattle.sequence_data.specs.Steps.{PlacedStep, at_place, AllFit, IsFirstUnfitAt, IsUnfitStop, product_steps, added_steps}
+use Rattle.sequence_data.specs.Steps.{PlacedStep, at_place, AllPlacedFit, IsFirstUnfitPlaced, IsUnfitStop, product_steps, added_steps}
 
 -- a step fits
 abbrev pub PlacedFits : PlacedStep → Type 0
 PlacedFits s = StepFits s.step
 
 -- a step that fits, alone
-pub one-fits : (k : ℕ) (step : Step) → StepFits step → AllFit (at_place k step ∷ [])
+pub one-fits : (k : ℕ) (step : Step) → StepFits step → AllPlacedFit (at_place k step ∷ [])
 one-fits k step fits = All-cons PlacedFits (at_place k step) [] fits (All-nil PlacedFits)
 
 -- a step that does not fit is the first of those from itself on
-pub here-first : (k : ℕ) (step : Step) (following : List PlacedStep) → (StepFits step → ⊥) → IsFirstUnfitAt (at_place k step ∷ following) k step
+pub here-first : (k : ℕ) (step : Step) (following : List PlacedStep) → (StepFits step → ⊥) → IsFirstUnfitPlaced (at_place k step ∷ following) k step
 here-first k step following refused = record { before = []; following = following; is_there = refl; earlier_fit = All-nil PlacedFits; does_not_fit = refused }
 
 -- steps that fit, and then others
-pub fit-append : (xs ys : List PlacedStep) → AllFit xs → AllFit ys → AllFit (xs ++ ys)
+pub fit-append : (xs ys : List PlacedStep) → AllPlacedFit xs → AllPlacedFit ys → AllPlacedFit (xs ++ ys)
 fit-append xs ys h g = All-append PlacedFits xs ys h g
 
 -- what stops stays so before further steps
@@ -35,7 +35,7 @@ stop-more xs ys (stops.Range place unfit) h =
 stop-more xs ys stops.Memory h = tt
 
 -- and after steps that fit
-pub stop-following : (xs ys : List PlacedStep) (stop : SeqStop) → AllFit xs → IsUnfitStop ys stop → IsUnfitStop (xs ++ ys) stop
+pub stop-following : (xs ys : List PlacedStep) (stop : SeqStop) → AllPlacedFit xs → IsUnfitStop ys stop → IsUnfitStop (xs ++ ys) stop
 stop-following xs ys (stops.NotTwoPlayers count) fit h = h
 stop-following xs ys (stops.Range place unfit) fit h =
     record { before = xs ++ h.before; following = h.following; is_there = ap (λ s. xs ++ s) h.is_there ∙ sym (append_assoc xs h.before (at_place place unfit ∷ h.following)); earlier_fit = All-append PlacedFits xs h.before fit h.earlier_fit; does_not_fit = h.does_not_fit }
@@ -50,7 +50,7 @@ if_err-then (Err stop) P Q h then = then stop h
 pub product-stop : (k : ℕ) (before chance payoff : ℚ) (stop : SeqStop) → IsUnfitStop (at_place k (unfit Mul chance payoff) ∷ []) stop → IsUnfitStop (product_steps k before chance payoff) stop
 product-stop k before chance payoff stop h = stop-more (at_place k (unfit Mul chance payoff) ∷ []) (at_place k (unfit Add before (chance *ℚ payoff)) ∷ []) stop h
 
-pub product-sum-stop : (k : ℕ) (before chance payoff part : ℚ) → part ≡ chance *ℚ payoff → AllFit (at_place k (unfit Mul chance payoff) ∷ []) → (stop : SeqStop) → IsUnfitStop (at_place k (unfit Add before part) ∷ []) stop → IsUnfitStop (product_steps k before chance payoff) stop
+pub product-sum-stop : (k : ℕ) (before chance payoff part : ℚ) → part ≡ chance *ℚ payoff → AllPlacedFit (at_place k (unfit Mul chance payoff) ∷ []) → (stop : SeqStop) → IsUnfitStop (at_place k (unfit Add before part) ∷ []) stop → IsUnfitStop (product_steps k before chance payoff) stop
 product-sum-stop k before chance payoff part is fit stop h =
     stop-following (at_place k (unfit Mul chance payoff) ∷ []) (at_place k (unfit Add before (chance *ℚ payoff)) ∷ []) stop fit (subst (λ v. IsUnfitStop (at_place k (unfit Add before v) ∷ []) stop) is h)
 
@@ -59,17 +59,17 @@ module _ (c : Cell) (l : Leaf) where
   pub chance-stop : (stop : SeqStop) → IsUnfitStop (at_place l.place (unfit Add c.weight l.chance) ∷ []) stop → IsUnfitStop (added_steps c l) stop
   chance-stop stop h = stop-more (at_place l.place (unfit Add c.weight l.chance) ∷ []) (product_steps l.place c.one l.chance l.one ++ product_steps l.place c.two l.chance l.two) stop h
 
-  pub one-stop : (stop : SeqStop) → AllFit (at_place l.place (unfit Add c.weight l.chance) ∷ []) → IsUnfitStop (product_steps l.place c.one l.chance l.one) stop → IsUnfitStop (added_steps c l) stop
+  pub one-stop : (stop : SeqStop) → AllPlacedFit (at_place l.place (unfit Add c.weight l.chance) ∷ []) → IsUnfitStop (product_steps l.place c.one l.chance l.one) stop → IsUnfitStop (added_steps c l) stop
   one-stop stop fit h =
       stop-following (at_place l.place (unfit Add c.weight l.chance) ∷ []) (product_steps l.place c.one l.chance l.one ++ product_steps l.place c.two l.chance l.two) stop fit
       (stop-more (product_steps l.place c.one l.chance l.one) (product_steps l.place c.two l.chance l.two) stop h)
 
-  pub two-stop : (stop : SeqStop) → AllFit (at_place l.place (unfit Add c.weight l.chance) ∷ []) → AllFit (product_steps l.place c.one l.chance l.one) → IsUnfitStop (product_steps l.place c.two l.chance l.two) stop → IsUnfitStop (added_steps c l) stop
+  pub two-stop : (stop : SeqStop) → AllPlacedFit (at_place l.place (unfit Add c.weight l.chance) ∷ []) → AllPlacedFit (product_steps l.place c.one l.chance l.one) → IsUnfitStop (product_steps l.place c.two l.chance l.two) stop → IsUnfitStop (added_steps c l) stop
   two-stop stop fit one h =
       stop-following (at_place l.place (unfit Add c.weight l.chance) ∷ []) (product_steps l.place c.one l.chance l.one ++ product_steps l.place c.two l.chance l.two) stop fit
       (stop-following (product_steps l.place c.one l.chance l.one) (product_steps l.place c.two l.chance l.two) stop one h)
 
-  pub all-added : AllFit (at_place l.place (unfit Add c.weight l.chance) ∷ []) → AllFit (product_steps l.place c.one l.chance l.one) → AllFit (product_steps l.place c.two l.chance l.two) → AllFit (added_steps c l)
+  pub all-added : AllPlacedFit (at_place l.place (unfit Add c.weight l.chance) ∷ []) → AllPlacedFit (product_steps l.place c.one l.chance l.one) → AllPlacedFit (product_steps l.place c.two l.chance l.two) → AllPlacedFit (added_steps c l)
   all-added fit one two =
       fit-append (at_place l.place (unfit Add c.weight l.chance) ∷ []) (product_steps l.place c.one l.chance l.one ++ product_steps l.place c.two l.chance l.two) fit
       (fit-append (product_steps l.place c.one l.chance l.one) (product_steps l.place c.two l.chance l.two) one two)

@@ -11,7 +11,7 @@ use Rattle.rational.proofs.RationalRing.{rational_ring}
 use Rattle.rational.proofs.Ring.{ring, num, ◌:+◌, A}
 use Rattle.sequence_forms.specs.Lists.{listed_at}
 use Rattle.sequence_data.specs.declared.types.Cell.{Cell}
-use Rattle.sequence_data.specs.Cells.{AreInOrder}
+use Rattle.sequence_data.specs.Cells.{AreCellsInOrder}
 use Rattle.sequence_data.specs.Matrices.{IsInside, placed, HoldsNumbers}
 
 -- rows of so many columns do not overlap
@@ -62,7 +62,7 @@ listed_one (c ∷ cells) (v ∷ numbers) r q (suc k) same l s other =
     ∙ ring rational_ring (get_or numbers k zero_ℚ ∷ []) (num 0 :+ A) A refl
 
 -- ---- cells in order
-module _ (cells : List Cell) (ordered : AreInOrder cells) where
+module _ (cells : List Cell) (ordered : AreCellsInOrder cells) where
   apart_below : (r q i j : ℕ) → i < j → j < length cells → Stands cells r q i → Stands cells r q j → ⊥
   apart_below r q i j h l s t =
       elim (ordered i j (cell_of cells i) (cell_of cells j) h (slice_get-get_or cells i nowhere (omega arith)) (slice_get-get_or cells j nowhere l)) [
@@ -102,7 +102,7 @@ pub record IsWritten (rows columns : ℕ) (cells : List Cell) (numbers : List �
 pub is_inside : (rows columns r q : ℕ) → r < rows → q < columns → r * columns + q < rows * columns
 is_inside rows columns r q h l = let m : suc r * columns ≤ rows * columns = mul-le-mul_right columns h in omega (arith, m)
 
-module _ (rows columns : ℕ) (cells : List Cell) (numbers : List ℚ) (inside : All (IsInside rows columns) cells) (ordered : AreInOrder cells) where
+module _ (rows columns : ℕ) (cells : List Cell) (numbers : List ℚ) (inside : All (IsInside rows columns) cells) (ordered : AreCellsInOrder cells) where
   pub inside_at : (k : ℕ) → k < length cells → ((cell_of cells k).row < rows) × ((cell_of cells k).column < columns)
   inside_at k l = inside k nowhere l
 

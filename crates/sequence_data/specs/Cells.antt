@@ -6,12 +6,12 @@ use Rattle.sequence_data.specs.declared.types.Leaf.{Leaf}
 use Rattle.sequence_data.specs.declared.types.Cell.{Cell}
 
 -- a number of each leaf, at its row and column
-abbrev pub entries : (Leaf → ℚ) → List Leaf → List Entry
-entries f leaves = map (λ l. (l.row, l.column, f l)) leaves
+abbrev pub placed_numbers : (Leaf → ℚ) → List Leaf → List Entry
+placed_numbers f leaves = map (λ l. (l.row, l.column, f l)) leaves
 
 -- its sum over the leaves at a row and column
 abbrev pub total : (Leaf → ℚ) → List Leaf → ℕ → ℕ → ℚ
-total f leaves r q = listed_at (entries f leaves) r q
+total f leaves r q = listed_at (placed_numbers f leaves) r q
 
 -- chance times the payoff of a player
 abbrev pub chance_one : Leaf → ℚ
@@ -29,8 +29,8 @@ abbrev pub IsBefore : Cell → Cell → Type 0
 IsBefore c d = (c.row < d.row) ⊎ ((c.row ≡ d.row) × (c.column < d.column))
 
 -- in ascending order, each once
-abbrev pub AreInOrder : List Cell → Type 0
-AreInOrder cells = (i j : ℕ) (c d : Cell) → i < j → slice_get cells i ≡ Some c → slice_get cells j ≡ Some d → IsBefore c d
+abbrev pub AreCellsInOrder : List Cell → Type 0
+AreCellsInOrder cells = (i j : ℕ) (c d : Cell) → i < j → slice_get cells i ≡ Some c → slice_get cells j ≡ Some d → IsBefore c d
 
 -- a leaf stands at a cell's row and column
 abbrev pub IsAt : Cell → Leaf → Type 0
@@ -38,7 +38,7 @@ IsAt c l = (l.row ≡ c.row) × (l.column ≡ c.column)
 
 -- one cell for each row and column of a leaf, in order: the sums of the leaves there
 pub record AreCells (leaves : List Leaf) (cells : List Cell) : Type 0 where
-  pub in_order : AreInOrder cells
+  pub in_order : AreCellsInOrder cells
   pub are_sums : All (λ c. c ≡ cell_at leaves c.row c.column) cells
   pub of_leaves : All (λ c. Any (IsAt c) leaves) cells
   pub of_each : All (λ l. Any (λ c. IsAt c l) cells) leaves

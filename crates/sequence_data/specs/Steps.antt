@@ -17,15 +17,15 @@ pub record PlacedStep : Type 0 where
 abbrev pub at_place : ℕ → Step → PlacedStep
 at_place k s = record { place = k; step = s }
 
-abbrev pub AllFit : List PlacedStep → Type 0
-AllFit steps = All (λ s. StepFits s.step) steps
+abbrev pub AllPlacedFit : List PlacedStep → Type 0
+AllPlacedFit steps = All (λ s. StepFits s.step) steps
 
 -- the first of these steps that does not fit
-pub record IsFirstUnfitAt (steps : List PlacedStep) (place : ℕ) (step : Step) : Type 0 where
+pub record IsFirstUnfitPlaced (steps : List PlacedStep) (place : ℕ) (step : Step) : Type 0 where
   pub before : List PlacedStep
   pub following : List PlacedStep
   pub is_there : steps ≡ before ++ at_place place step ∷ following
-  pub earlier_fit : AllFit before
+  pub earlier_fit : AllPlacedFit before
   pub does_not_fit : StepFits step → ⊥
 
 -- ---- into the cells
@@ -50,5 +50,5 @@ cell_steps leaves = cell_steps_after [] leaves
 -- the first of these steps that does not fit, or want of memory
 abbrev pub IsUnfitStop : List PlacedStep → SeqStop → Type 0
 IsUnfitStop steps (stops.NotTwoPlayers count) = ⊥
-IsUnfitStop steps (stops.Range place unfit) = IsFirstUnfitAt steps place unfit
+IsUnfitStop steps (stops.Range place unfit) = IsFirstUnfitPlaced steps place unfit
 IsUnfitStop steps stops.Memory = Unit {0}

@@ -3,7 +3,7 @@ ghost use Rattle.std.specs.Prelude.{◌≡◌, ◌<◌, ◌/◌, ◌^◌, [], Al
 ghost use Rattle.std.specs.List.Sorted.{IsStrictlyIncreasing};
 ghost use Rattle.sequence_data.specs.Cells.{AreCells};
 ghost use Rattle.sequence_data.specs.Gathered.{ArePlaces, added_cell, cell_in, cell_place};
-ghost use Rattle.sequence_data.specs.Steps.{AllFit, IsUnfitStop, added_steps, cell_steps};
+ghost use Rattle.sequence_data.specs.Steps.{AllPlacedFit, IsUnfitStop, added_steps, cell_steps};
 
 use crate::steps::{sum, with_product};
 use crate::stop::SeqStop;
@@ -78,7 +78,7 @@ fn cell_number(places: &[u64], columns: u32, leaf: Leaf) -> usize
 // A cell with one more leaf.
 fn with_leaf(cell: Cell, leaf: Leaf) -> Result<Cell, SeqStop>
     ensures cell { IfOk result (λ c. c ≡ added_cell cell leaf) }
-    ensures fits { OnOk result (AllFit (added_steps cell leaf)) }
+    ensures fits { OnOk result (AllPlacedFit (added_steps cell leaf)) }
     ensures stop { IfErr result (IsUnfitStop (added_steps cell leaf)) }
 {
     let weight = sum(leaf.place, cell.weight, leaf.chance)?;
@@ -104,7 +104,7 @@ pub(crate) fn gather(alloc: Global, leaves: &[Leaf], columns: u32) -> Result<Vec
     requires rows { All (λ l. l.row < 2 ^ 32) leaves.now }
     requires within { All (λ l. l.column < columns) leaves.now }
     ensures cells { IfOk result (λ cells. AreCells leaves.now cells.items) }
-    ensures fits { OnOk result (AllFit (cell_steps leaves.now)) }
+    ensures fits { OnOk result (AllPlacedFit (cell_steps leaves.now)) }
     ensures stop { IfErr result (IsUnfitStop (cell_steps leaves.now)) }
 {
     let places = cell_places(alloc, leaves, columns)?;

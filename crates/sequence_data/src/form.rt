@@ -1,7 +1,7 @@
 // A sequence form.
 ghost use Rattle.std.specs.Prelude.{◌≡◌, ◌<◌, length, All, IfOk, IfErr, OnOk};
 ghost use Rattle.sequence_data.specs.Data.{IsFormData, IsFormOf, IsSideData, LeafFits};
-ghost use Rattle.sequence_data.specs.Steps.{AllFit, IsUnfitStop, cell_steps};
+ghost use Rattle.sequence_data.specs.Steps.{AllPlacedFit, IsUnfitStop, cell_steps};
 
 use crate::cells::gather;
 use crate::payoffs::{Extremes, extreme_payoffs};
@@ -102,7 +102,7 @@ impl SeqForm {
         requires some_leaf { 0 < length leaves.items }
         requires leaves_fit { All (LeafFits first.sequences second.sequences) leaves.items }
         ensures form { IfOk result (IsFormOf first second leaves.items) }
-        ensures fits { OnOk result (AllFit (cell_steps leaves.items)) }
+        ensures fits { OnOk result (AllPlacedFit (cell_steps leaves.items)) }
         ensures stop { IfErr result (IsUnfitStop (cell_steps leaves.items)) }
     {
         let cells = gather(alloc, &leaves, second.sequences)?;

@@ -23,7 +23,7 @@ ghost use Rattle.sequence_data.specs.declared.types.Leaf.{Leaf};
 ghost use Rattle.sequence_data.specs.Cells.{AreCells};
 ghost use Rattle.sequence_data.specs.Data.{FormData, IsFormData, form};
 ghost use Rattle.rational.specs.Extremes.{IsGreatest, IsLeast};
-ghost use Rattle.sequence_data.specs.Steps.{AllFit, IsFirstUnfitAt, PlacedStep};
+ghost use Rattle.sequence_data.specs.Steps.{AllPlacedFit, IsFirstUnfitPlaced, PlacedStep};
 
 mod cells;
 mod form;
@@ -50,9 +50,9 @@ pub fn cells_are_one()
 /// One step is the first that does not fit, and there is none where all fit.
 pub fn stops_are_exact()
     ensures one { (steps : List PlacedStep) (k m : ℕ) (step other : Step)
-        → IsFirstUnfitAt steps k step → IsFirstUnfitAt steps m other → (k ≡ m) × (step ≡ other) }
-    ensures none { (steps : List PlacedStep) (k : ℕ) (step : Step) → IsFirstUnfitAt steps k step
-        → AllFit steps → ⊥ }
+        → IsFirstUnfitPlaced steps k step → IsFirstUnfitPlaced steps m other → (k ≡ m) × (step ≡ other) }
+    ensures none { (steps : List PlacedStep) (k : ℕ) (step : Step) → IsFirstUnfitPlaced steps k step
+        → AllPlacedFit steps → ⊥ }
 {}
 
 /// One number is the greatest, and one the least.

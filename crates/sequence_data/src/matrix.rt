@@ -1,6 +1,6 @@
 // Numbers of cells, row by row.
 ghost use Rattle.std.specs.Prelude.{◌≡◌, ◌*◌, ◌<◌, ◌^◌, All, length, IfOk};
-ghost use Rattle.sequence_data.specs.Cells.{AreInOrder};
+ghost use Rattle.sequence_data.specs.Cells.{AreCellsInOrder};
 ghost use Rattle.sequence_data.specs.Matrices.{HoldsNumbers, IsInside, placed};
 
 use crate::types::Cell;
@@ -17,7 +17,7 @@ pub fn dense(
 ) -> Result<Vec<Frac>, Memory>
     requires small { rows * columns < 2 ^ 32 }
     requires inside { All (IsInside rows columns) cells.now }
-    requires in_order { AreInOrder cells.now }
+    requires in_order { AreCellsInOrder cells.now }
     requires same { length numbers.now ≡ length cells.now }
     ensures length { IfOk result (λ matrix. length matrix.items ≡ rows * columns) }
     ensures entries { IfOk result

@@ -9,7 +9,7 @@ use Rattle.frac128.specs.Steps.{Step}
 use Rattle.sequence_data.specs.Cells.{AreCells}
 use Rattle.sequence_data.specs.Data.{FormData, IsOfLeaves}
 use Rattle.rational.specs.Extremes.{IsGreatest, IsLeast}
-use Rattle.sequence_data.specs.Steps.{PlacedStep, IsFirstUnfitAt, cell_steps}
+use Rattle.sequence_data.specs.Steps.{PlacedStep, IsFirstUnfitPlaced, cell_steps}
 use Rattle.sequence_data.specs.declared.stop.SeqStop.{SeqStop}
 use Rattle.sequence_data.specs.declared.stop.SeqStop.TheVariants as stops
 use Rattle.sequence_data.specs.declared.types.Leaf.{Leaf}
@@ -36,7 +36,7 @@ same_form f g first second leaves h k =
     map_two ls = map (λ l. l.two) ls
 
 -- first unfit steps of the same steps
-same_range : (steps : List PlacedStep) (k m : ℕ) (step other : Step) → IsFirstUnfitAt steps k step → IsFirstUnfitAt steps m other → (let one : Result FormData SeqStop = Err (stops.Range k step) in one) ≡ Err (stops.Range m other)
+same_range : (steps : List PlacedStep) (k m : ℕ) (step other : Step) → IsFirstUnfitPlaced steps k step → IsFirstUnfitPlaced steps m other → (let one : Result FormData SeqStop = Err (stops.Range k step) in one) ≡ Err (stops.Range m other)
 same_range steps k m step other h g = let same = unfit-one steps k m step other h g in λ i. Err (stops.Range (same.0 i) (same.1 i))
 
 pub tree_form-single : (t : GameTree) → IsSingle (tree_form t)

@@ -10,7 +10,7 @@ use Rattle.sequence_forms.proofs.SetOrderLemmas.{trees_ordered}
 use Rattle.sequence_data.specs.Data.{FormData, IsFormData, IsSideData, LeafFits, SideData}
 use Rattle.sequence_data.specs.declared.types.Leaf.{Leaf}
 use Rattle.sequence_form.specs.Forms.{IsTableForm, IsTreeForm}
-use Rattle.sequence_form.specs.Laws.{columns_of, rows_of}
+use Rattle.sequence_form.specs.Laws.{count_of_columns, count_of_rows}
 use Rattle.sequence_form.proofs.PathStepLemmas.{leaves-fit, some-leaf}
 use Rattle.sequence_form.proofs.SideLemmas.{side-is_data}
 use Rattle.sequence_form.proofs.TableLeafLemmas.{profiles-fit, some-columns, some-profile, some-rows, start-is_side}
@@ -34,11 +34,11 @@ pub table_form-valid : (t : GameTable) (f : FormData) → IsTable t → IsTableF
 table_form-valid t f w h =
     let rows = ap (λ (s : SideData). s.sequences) h.first_is in
     let columns = ap (λ (s : SideData). s.sequences) h.second_is in
-    let fit = subst (All (LeafFits (suc (rows_of t)) (suc (columns_of t)))) (sym h.leaves_are) (profiles-fit t w h.two_players) in
+    let fit = subst (All (LeafFits (suc (count_of_rows t)) (suc (count_of_columns t)))) (sym h.leaves_are) (profiles-fit t w h.two_players) in
     record {
-      first_is = subst IsSideData (sym h.first_is) (start-is_side (rows_of t) (some-rows t w h.two_players));
-      second_is = subst IsSideData (sym h.second_is) (start-is_side (columns_of t) (some-columns t w h.two_players));
+      first_is = subst IsSideData (sym h.first_is) (start-is_side (count_of_rows t) (some-rows t w h.two_players));
+      second_is = subst IsSideData (sym h.second_is) (start-is_side (count_of_columns t) (some-columns t w h.two_players));
       some_leaf = subst (λ (xs : List Leaf). 0 < length xs) (sym h.leaves_are) (some-profile t w h.two_players);
-      leaves_fit = subst (λ n. All (LeafFits f.first.sequences n) f.leaves) (sym columns) (subst (λ n. All (LeafFits n (suc (columns_of t))) f.leaves) (sym rows) fit);
+      leaves_fit = subst (λ n. All (LeafFits f.first.sequences n) f.leaves) (sym columns) (subst (λ n. All (LeafFits n (suc (count_of_columns t))) f.leaves) (sym rows) fit);
       of_leaves = h.of_leaves;
     }

@@ -20,7 +20,7 @@ use Rattle.sequence_data.specs.declared.types.Cell.{Cell}
 use Rattle.sequence_data.specs.declared.types.Leaf.{Leaf}
 use Rattle.sequence_data.proofs.CellSumLemmas.{cells-sum}
 use Rattle.sequence_form.specs.Forms.{IsTreeForm, profile_leaf, table_leaves, IsTableForm}
-use Rattle.sequence_form.specs.Laws.{TreeFormsStandForTrees, TreeFormsPayPlans, rows_of, columns_of, TableFormsStandForTables, TableFormsPayPlans}
+use Rattle.sequence_form.specs.Laws.{TreeFormsStandForTrees, TreeFormsPayPlans, count_of_rows, count_of_columns, TableFormsStandForTables, TableFormsPayPlans}
 use Rattle.sequence_form.specs.Paths.{leaf_at, tree_leaves}
 use Rattle.sequence_form.proofs.SideLemmas.{befores, counts}
 use Rattle.sequence_form.proofs.TableLeafLemmas.{two-strategies}
@@ -81,7 +81,7 @@ profile_pays t zero k h = one-*ℚ ((game_of t).pays 0 k)
 profile_pays t (suc zero) k h = one-*ℚ ((game_of t).pays 1 k)
 profile_pays t (suc (suc i)) k h = absurd (omega arith)
 
-table_lists : (t : GameTable) (f : FormData) → IsTable t → IsTableForm t f → AreListsOfTable (game_of t) (rows_of t) (columns_of t) (lists_of f)
+table_lists : (t : GameTable) (f : FormData) → IsTable t → IsTableForm t f → AreListsOfTable (game_of t) (count_of_rows t) (count_of_columns t) (lists_of f)
 table_lists t f valid h =
     let two = two-strategies t valid h.two_players in
     record {
@@ -89,23 +89,23 @@ table_lists t f valid h =
       row_counts = ap (λ (d : SideData). map (λ r. r.count) d.sets) h.first_is;
       column_befores = ap (λ (d : SideData). map (λ r. r.before) d.sets) h.second_is;
       column_counts = ap (λ (d : SideData). map (λ r. r.count) d.sets) h.second_is;
-      weights = λ r q. cells-sum (λ l. l.chance) (λ c. c.weight) f.leaves f.cells h.of_leaves.cells_are (λ c is. ap (λ (d : Cell). d.weight) is) r q ∙ table_total t (λ l. l.chance) f.leaves (rows_of t) (columns_of t) r q two h.leaves_are;
+      weights = λ r q. cells-sum (λ l. l.chance) (λ c. c.weight) f.leaves f.cells h.of_leaves.cells_are (λ c is. ap (λ (d : Cell). d.weight) is) r q ∙ table_total t (λ l. l.chance) f.leaves (count_of_rows t) (count_of_columns t) r q two h.leaves_are;
       pays = λ i r q m. cells-sum (pays_of i) (λ c. of_player i c.one c.two) f.leaves f.cells h.of_leaves.cells_are (cell_pays i f.leaves) r q
-          ∙ table_total t (pays_of i) f.leaves (rows_of t) (columns_of t) r q two h.leaves_are ∙ ap (λ (g : ℕ → ℚ). listed_at (profile_entries (rows_of t) (columns_of t) g) r q) (λ j k. profile_pays t i k m j);
+          ∙ table_total t (pays_of i) f.leaves (count_of_rows t) (count_of_columns t) r q two h.leaves_are ∙ ap (λ (g : ℕ → ℚ). listed_at (profile_entries (count_of_rows t) (count_of_columns t) g) r q) (λ j k. profile_pays t i k m j);
     }
 
 pub table_stands : TableFormsStandForTables
 table_stands t f valid h = record {
   strategies_are = two-strategies t valid h.two_players;
   lists = table_lists t f valid h;
-  alike = table_lists_make (game_of t) (rows_of t) (columns_of t) (lists_of f) (table_lists t f valid h);
+  alike = table_lists_make (game_of t) (count_of_rows t) (count_of_columns t) (lists_of f) (table_lists t f valid h);
 }
 
 pub table_pays : TableFormsPayPlans
 table_pays t f valid h =
     let stands = table_stands t f valid h in
-    let whole : SequenceForm = form_of_table (game_of t) (rows_of t) (columns_of t) in
+    let whole : SequenceForm = form_of_table (game_of t) (count_of_rows t) (count_of_columns t) in
     record {
-      pays = λ x y i m. table_plans_pay (game_of t) (rows_of t) (columns_of t) x y i stands.strategies_are ∙ sym (same_sums (form f) whole i x y stands.alike m);
-      weigh_one = (same_best_plans whole (form f) (alike_back (form f) whole stands.alike)).weigh_one (tables_have_forms (game_of t) (rows_of t) (columns_of t)).weigh_one;
+      pays = λ x y i m. table_plans_pay (game_of t) (count_of_rows t) (count_of_columns t) x y i stands.strategies_are ∙ sym (same_sums (form f) whole i x y stands.alike m);
+      weigh_one = (same_best_plans whole (form f) (alike_back (form f) whole stands.alike)).weigh_one (tables_have_forms (game_of t) (count_of_rows t) (count_of_columns t)).weigh_one;
     }

@@ -7,7 +7,7 @@ use Rattle.std.proofs.lemmas.Option.{none-some, same_Some, slice_get_within, get
 use Rattle.game_theory.specs.Trees.{Tree, IsTree as is_game_tree}
 use Rattle.game_theory.specs.Behaviour.{is_own}
 use Rattle.game_theory.specs.Recall.{own_history}
-use Rattle.game_core.specs.Tree.{GameTree, IsTree}
+use Rattle.game_core.specs.Tree.{GameTree, IsGameTree}
 use Rattle.game_core.specs.TreeGame.{game_of_tree}
 use Rattle.game_theory.specs.OwnSets.{own_sets}
 use Rattle.game_theory.proofs.OwnSetLemmas.{is_own-decides}
@@ -22,7 +22,7 @@ use Rattle.perfect_recall.specs.Found.{IsRecallOf, edge_before}
 use Rattle.perfect_recall.proofs.HistoryLemmas.{HasHistory, has_history, edge-none, edge-some}
 use Rattle.sequence_data.specs.Data.{SideData}
 use Rattle.sequence_data.specs.declared.types.SetRow.{SetRow}
-use Rattle.sequence_form.specs.Sequences.{next_sequence, own_actions, AreFirsts, set_row, tree_side}
+use Rattle.sequence_form.specs.Sequences.{next_sequence, own_actions, AreFirsts, own_set_row, tree_side}
 
 module _ (t : Tree) (i : ℕ) where
   -- ---- the place of an own set
@@ -89,11 +89,11 @@ module _ (t : Tree) (i : ℕ) where
   pub next-push : (n : ℕ) → n < t.sets → next_sequence t i (n + 1) ≡ next_sequence t i n + own_actions t i n
   next-push n below = let one : n + 1 ≡ suc n = omega arith in ap (next_sequence t i) one ∙ next-more n below
 
-  pub rows-own : (n : ℕ) → is_own t i n ≡ true → map (set_row t i) (own_numbers t.owner i (n + 1)) ≡ map (set_row t i) (own_numbers t.owner i n) ++ set_row t i n ∷ []
-  rows-own n own = let one : n + 1 ≡ suc n = omega arith in ap (λ m. map (set_row t i) (own_numbers t.owner i m)) one ∙ rw own (map-append (set_row t i) (own_numbers t.owner i n) (n ∷ []))
+  pub rows-own : (n : ℕ) → is_own t i n ≡ true → map (own_set_row t i) (own_numbers t.owner i (n + 1)) ≡ map (own_set_row t i) (own_numbers t.owner i n) ++ own_set_row t i n ∷ []
+  rows-own n own = let one : n + 1 ≡ suc n = omega arith in ap (λ m. map (own_set_row t i) (own_numbers t.owner i m)) one ∙ rw own (map-append (own_set_row t i) (own_numbers t.owner i n) (n ∷ []))
 
-  pub rows-other : (n : ℕ) → is_own t i n ≡ false → map (set_row t i) (own_numbers t.owner i (n + 1)) ≡ map (set_row t i) (own_numbers t.owner i n)
-  rows-other n other = let one : n + 1 ≡ suc n = omega arith in ap (λ m. map (set_row t i) (own_numbers t.owner i m)) one ∙ rw other refl
+  pub rows-other : (n : ℕ) → is_own t i n ≡ false → map (own_set_row t i) (own_numbers t.owner i (n + 1)) ≡ map (own_set_row t i) (own_numbers t.owner i n)
+  rows-other n other = let one : n + 1 ≡ suc n = omega arith in ap (λ m. map (own_set_row t i) (own_numbers t.owner i m)) one ∙ rw other refl
 
   pub count-own : (n : ℕ) → is_own t i n ≡ true → length (own_numbers t.owner i (n + 1)) ≡ length (own_numbers t.owner i n) + 1
   count-own n own = let one : n + 1 ≡ suc n = omega arith in ap (λ m. length (own_numbers t.owner i m)) one ∙ rw own (length_push (own_numbers t.owner i n) n)
@@ -102,23 +102,23 @@ module _ (t : Tree) (i : ℕ) where
   count-other n other = let one : n + 1 ≡ suc n = omega arith in ap (λ m. length (own_numbers t.owner i m)) one ∙ rw other refl
 
 -- ---- they fit 32 bits
-pub actions-few : (t : GameTree) (i s : ℕ) → IsTree t → s < length t.sets → own_actions (game_of_tree t) i s < 65536
+pub actions-few : (t : GameTree) (i s : ℕ) → IsGameTree t → s < length t.sets → own_actions (game_of_tree t) i s < 65536
 actions-few t i s valid below = go (is_own (game_of_tree t) i s) (actions-below t s valid below)
   where
     go : (b : Bool) → (game_of_tree t).actions s < length t.nodes → (if b then (game_of_tree t).actions s else 0) < 65536
     go true few = omega (arith, few, valid.few_nodes)
     go false few = omega arith
 
-next-below : (t : GameTree) (i n : ℕ) → IsTree t → n ≤ length t.sets → next_sequence (game_of_tree t) i n ≤ 1 + 65535 * n
+next-below : (t : GameTree) (i n : ℕ) → IsGameTree t → n ≤ length t.sets → next_sequence (game_of_tree t) i n ≤ 1 + 65535 * n
 next-below t i zero valid few = omega arith
 next-below t i (suc n) valid few =
     let before = next-below t i n valid (omega arith) in
     omega (arith, before, next-more (game_of_tree t) i n (omega arith), actions-few t i n valid (omega arith))
 
-pub next-few : (t : GameTree) (i n : ℕ) → IsTree t → n ≤ length t.sets → next_sequence (game_of_tree t) i n < 4294967296
+pub next-few : (t : GameTree) (i n : ℕ) → IsGameTree t → n ≤ length t.sets → next_sequence (game_of_tree t) i n < 4294967296
 next-few t i n valid few = omega (arith, next-below t i n valid few, valid.few_sets, valid.few_nodes)
 
-pub sequences-few : (t : GameTree) (i : ℕ) → IsTree t → sequences (side_of (game_of_tree t) i) < 4294967296
+pub sequences-few : (t : GameTree) (i : ℕ) → IsGameTree t → sequences (side_of (game_of_tree t) i) < 4294967296
 sequences-few t i valid = subst (λ n. n < 4294967296) (next-all (game_of_tree t) i) (next-few t i (length t.sets) valid (omega arith))
 
 -- ---- the sequence before an own set as it is computed
@@ -132,7 +132,7 @@ pub before-by_firsts : (t : Tree) (i s r a : ℕ) (firsts : List ℕ) → is_gam
 before-by_firsts t i s r a firsts w are some = let own = own-step t i s r a w some in ap (λ n. n + a) (first-at t i firsts r are (omega (arith, own.0))) ∙ sym (before-some t i s r a w some)
 
 -- how many actions a set has fits
-pub actions-cast : (t : GameTree) (s n : ℕ) → IsTree t → s < length t.sets → n ≡ (game_of_tree t).actions s → n < 65536
+pub actions-cast : (t : GameTree) (s n : ℕ) → IsGameTree t → s < length t.sets → n ≡ (game_of_tree t).actions s → n < 65536
 actions-cast t s n valid below is = let few = actions-below t s valid below in subst (λ x. x < 65536) (sym is) (omega (arith, few, valid.few_nodes))
 
 -- a row of a set
@@ -144,5 +144,5 @@ pub action-by_firsts : (t : Tree) (i s a : ℕ) (firsts : List ℕ) → is_game_
 action-by_firsts t i s a firsts w are below own = ap (λ n. n + a) (first-at t i firsts s are (omega (arith, below))) ∙ sym (sequence-is t i s a w below own)
 
 -- a side with these parts
-pub same_side : (t : Tree) (i n : ℕ) (rows : List SetRow) → n ≡ sequences (side_of t i) → rows ≡ map (set_row t i) (own_sets t i) → (let side : SideData = record { sequences = n; sets = rows } in side) ≡ tree_side t i
+pub same_side : (t : Tree) (i n : ℕ) (rows : List SetRow) → n ≡ sequences (side_of t i) → rows ≡ map (own_set_row t i) (own_sets t i) → (let side : SideData = record { sequences = n; sets = rows } in side) ≡ tree_side t i
 same_side t i n rows sequences_are rows_are = λ k. record { sequences = sequences_are k; sets = rows_are k }

@@ -16,7 +16,7 @@ use Rattle.sequence_forms.specs.Sides.{sequences}
 use Rattle.sequence_forms.proofs.SequenceLemmas.{last-below}
 use Rattle.sequence_forms.proofs.SignLemmas.{chance-not_negative, path_totals}
 use Rattle.sequence_data.specs.Data.{LeafFits}
-use Rattle.sequence_data.specs.Steps.{at_place, AllFit, IsUnfitStop}
+use Rattle.sequence_data.specs.Steps.{at_place, AllPlacedFit, IsUnfitStop}
 use Rattle.sequence_data.specs.declared.stop.SeqStop.{SeqStop}
 use Rattle.sequence_data.specs.declared.types.Leaf.{Leaf}
 use Rattle.sequence_data.proofs.PlacedStepLemmas.{fit-append, stop-more, stop-following}
@@ -29,14 +29,14 @@ module _ (t : Tree) (k : ℕ) where
   chance-stop stop h = stop-more (chance_steps t k (t.set (t.parent k))) (payoff_step t k 0 ∷ payoff_step t k 1 ∷ []) stop h
 
   -- then the payoff of player 0
-  pub one-stop : (stop : SeqStop) → AllFit (chance_steps t k (t.set (t.parent k))) → IsUnfitStop (payoff_step t k 0 ∷ []) stop → IsUnfitStop (child_steps t k) stop
+  pub one-stop : (stop : SeqStop) → AllPlacedFit (chance_steps t k (t.set (t.parent k))) → IsUnfitStop (payoff_step t k 0 ∷ []) stop → IsUnfitStop (child_steps t k) stop
   one-stop stop fit h = stop-following (chance_steps t k (t.set (t.parent k))) (payoff_step t k 0 ∷ payoff_step t k 1 ∷ []) stop fit (stop-more (payoff_step t k 0 ∷ []) (payoff_step t k 1 ∷ []) stop h)
 
   -- and that of player 1
-  pub two-stop : (stop : SeqStop) → AllFit (chance_steps t k (t.set (t.parent k))) → AllFit (payoff_step t k 0 ∷ []) → IsUnfitStop (payoff_step t k 1 ∷ []) stop → IsUnfitStop (child_steps t k) stop
+  pub two-stop : (stop : SeqStop) → AllPlacedFit (chance_steps t k (t.set (t.parent k))) → AllPlacedFit (payoff_step t k 0 ∷ []) → IsUnfitStop (payoff_step t k 1 ∷ []) stop → IsUnfitStop (child_steps t k) stop
   two-stop stop fit one h = stop-following (chance_steps t k (t.set (t.parent k))) (payoff_step t k 0 ∷ payoff_step t k 1 ∷ []) stop fit (stop-following (payoff_step t k 0 ∷ []) (payoff_step t k 1 ∷ []) stop one h)
 
-  pub all-fit : AllFit (chance_steps t k (t.set (t.parent k))) → AllFit (payoff_step t k 0 ∷ []) → AllFit (payoff_step t k 1 ∷ []) → AllFit (child_steps t k)
+  pub all-fit : AllPlacedFit (chance_steps t k (t.set (t.parent k))) → AllPlacedFit (payoff_step t k 0 ∷ []) → AllPlacedFit (payoff_step t k 1 ∷ []) → AllPlacedFit (child_steps t k)
   all-fit fit one two = fit-append (chance_steps t k (t.set (t.parent k))) (payoff_step t k 0 ∷ payoff_step t k 1 ∷ []) fit (fit-append (payoff_step t k 0 ∷ []) (payoff_step t k 1 ∷ []) one two)
 
 -- a step by the numbers of which it is made
@@ -80,8 +80,8 @@ node-child t (suc k) h = refl
 pub path-more : (t : Tree) (k : ℕ) → 0 < k → path_steps t (k + 1) ≡ path_steps t k ++ child_steps t k
 path-more t k h = let one : k + 1 ≡ suc k = omega arith in ap (path_steps t) one ∙ ap (λ s. path_steps t k ++ s) (node-child t k h)
 
-pub path-fit : (t : Tree) (k : ℕ) → 0 < k → AllFit (path_steps t k) → AllFit (child_steps t k) → AllFit (path_steps t (k + 1))
-path-fit t k h fit here = subst AllFit (sym (path-more t k h)) (fit-append (path_steps t k) (child_steps t k) fit here)
+pub path-fit : (t : Tree) (k : ℕ) → 0 < k → AllPlacedFit (path_steps t k) → AllPlacedFit (child_steps t k) → AllPlacedFit (path_steps t (k + 1))
+path-fit t k h fit here = subst AllPlacedFit (sym (path-more t k h)) (fit-append (path_steps t k) (child_steps t k) fit here)
 
 -- what stops the first nodes stops all
 path-stop_more : (t : Tree) (k n : ℕ) (stop : SeqStop) → IsUnfitStop (path_steps t k) stop → k ≤ n → IsUnfitStop (path_steps t n) stop
@@ -91,7 +91,7 @@ path-stop_more t k (suc n) stop h few = elim (cases_lt k (suc n)) [
   | inr whole ↦ (let same : k ≡ suc n = omega arith in subst (λ m. IsUnfitStop (path_steps t m) stop) same h)
 ]
 
-pub path-stop : (t : Tree) (k n : ℕ) (stop : SeqStop) → 0 < k → k < n → AllFit (path_steps t k) → IsUnfitStop (child_steps t k) stop → IsUnfitStop (path_steps t n) stop
+pub path-stop : (t : Tree) (k n : ℕ) (stop : SeqStop) → 0 < k → k < n → AllPlacedFit (path_steps t k) → IsUnfitStop (child_steps t k) stop → IsUnfitStop (path_steps t n) stop
 path-stop t k n stop h below fit here =
     path-stop_more t (k + 1) n stop (subst (λ s. IsUnfitStop s stop) (sym (path-more t k h)) (stop-following (path_steps t k) (child_steps t k) stop fit here)) (omega arith)
 

@@ -9,7 +9,7 @@ use Rattle.game_core.specs.Table.{GameTable, game_of, strategy_counts}
 use Rattle.game_core.specs.Tree.{GameTree}
 use Rattle.game_core.specs.TreeGame.{game_of_tree}
 use Rattle.sequence_data.specs.Data.{FormData, IsOfLeaves}
-use Rattle.sequence_data.specs.Steps.{PlacedStep, AllFit, IsFirstUnfitAt, cell_steps}
+use Rattle.sequence_data.specs.Steps.{PlacedStep, AllPlacedFit, IsFirstUnfitPlaced, cell_steps}
 use Rattle.sequence_data.specs.declared.stop.SeqStop.{SeqStop}
 use Rattle.sequence_data.specs.declared.stop.SeqStop.TheVariants as stops
 use Rattle.sequence_data.specs.declared.types.Leaf.{Leaf}
@@ -23,7 +23,7 @@ tree_steps t = path_steps t t.size ++ cell_steps (tree_leaves t)
 
 pub record IsTreeForm (t : Tree) (f : FormData) : Type 0 where
   pub two_players : t.players ≡ 2
-  pub steps_fit : AllFit (tree_steps t)
+  pub steps_fit : AllPlacedFit (tree_steps t)
   pub first_is : f.first ≡ tree_side t 0
   pub second_is : f.second ≡ tree_side t 1
   pub leaves_are : f.leaves ≡ tree_leaves t
@@ -33,7 +33,7 @@ pub record IsTreeForm (t : Tree) (f : FormData) : Type 0 where
 abbrev pub tree_form : GameTree → Answer SeqStop FormData
 tree_form t (Ok f) = IsTreeForm (game_of_tree t) f
 tree_form t (Err (stops.NotTwoPlayers count)) = (length t.players ≢ 2) × (count ≡ length t.players)
-tree_form t (Err (stops.Range place unfit)) = (length t.players ≡ 2) × IsFirstUnfitAt (tree_steps (game_of_tree t)) place unfit
+tree_form t (Err (stops.Range place unfit)) = (length t.players ≡ 2) × IsFirstUnfitPlaced (tree_steps (game_of_tree t)) place unfit
 tree_form t (Err stops.Memory) = ⊥
 
 -- ---- tables
@@ -48,7 +48,7 @@ table_leaves t = map (profile_leaf t) (range_with_len 0 (profile_count (strategy
 
 pub record IsTableForm (t : GameTable) (f : FormData) : Type 0 where
   pub two_players : length t.players ≡ 2
-  pub steps_fit : AllFit (cell_steps (table_leaves t))
+  pub steps_fit : AllPlacedFit (cell_steps (table_leaves t))
   pub first_is : f.first ≡ start_side (slice_index (strategy_counts t) 0)
   pub second_is : f.second ≡ start_side (slice_index (strategy_counts t) 1)
   pub leaves_are : f.leaves ≡ table_leaves t
@@ -58,5 +58,5 @@ pub record IsTableForm (t : GameTable) (f : FormData) : Type 0 where
 abbrev pub table_form : GameTable → Answer SeqStop FormData
 table_form t (Ok f) = IsTableForm t f
 table_form t (Err (stops.NotTwoPlayers count)) = (length t.players ≢ 2) × (count ≡ length t.players)
-table_form t (Err (stops.Range place unfit)) = (length t.players ≡ 2) × IsFirstUnfitAt (cell_steps (table_leaves t)) place unfit
+table_form t (Err (stops.Range place unfit)) = (length t.players ≡ 2) × IsFirstUnfitPlaced (cell_steps (table_leaves t)) place unfit
 table_form t (Err stops.Memory) = ⊥

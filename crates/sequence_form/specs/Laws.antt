@@ -6,7 +6,7 @@ use Rattle.game_theory.specs.Behaviour.{payoff}
 use Rattle.game_theory.specs.Trees.{Tree}
 use Rattle.game_core.specs.Table.{GameTable, IsTable, game_of, strategy_counts}
 use Rattle.sequence_forms.specs.Alike.{FormsAlike}
-use Rattle.sequence_forms.specs.Forms.{HasTwoWhoRecall, WeighsOne, cell_sum, form_of, form_of_table, mixed_of}
+use Rattle.sequence_forms.specs.Forms.{HasTwoWhoRecall, WeighsOne, cell_sum, form_of, form_of_table, mixed_of_plans}
 use Rattle.sequence_forms.specs.Lists.{AreListsOf, AreListsOfTable}
 use Rattle.sequence_forms.specs.PlanBehaviour.{behaviour_of, of_two}
 use Rattle.sequence_forms.specs.Sides.{IsRealisationPlan}
@@ -32,23 +32,23 @@ TreeFormsPayPlans = (t : Tree) (f : FormData) → HasTwoWhoRecall t → IsTreeFo
 
 -- ---- tables
 -- how many strategies the players have
-abbrev pub rows_of : GameTable → ℕ
-rows_of t = slice_index (strategy_counts t) 0
+abbrev pub count_of_rows : GameTable → ℕ
+count_of_rows t = slice_index (strategy_counts t) 0
 
-abbrev pub columns_of : GameTable → ℕ
-columns_of t = slice_index (strategy_counts t) 1
+abbrev pub count_of_columns : GameTable → ℕ
+count_of_columns t = slice_index (strategy_counts t) 1
 
 pub record StandsForTable (t : GameTable) (f : FormData) : Type 0 where
-  pub strategies_are : (game_of t).strategies ≡ rows_of t ∷ columns_of t ∷ []
-  pub lists : AreListsOfTable (game_of t) (rows_of t) (columns_of t) (lists_of f)
-  pub alike : FormsAlike (form f) (form_of_table (game_of t) (rows_of t) (columns_of t))
+  pub strategies_are : (game_of t).strategies ≡ count_of_rows t ∷ count_of_columns t ∷ []
+  pub lists : AreListsOfTable (game_of t) (count_of_rows t) (count_of_columns t) (lists_of f)
+  pub alike : FormsAlike (form f) (form_of_table (game_of t) (count_of_rows t) (count_of_columns t))
 
 abbrev pub TableFormsStandForTables : Type 0
 TableFormsStandForTables = (t : GameTable) (f : FormData) → IsTable t → IsTableForm t f → StandsForTable t f
 
 -- two plans pay by the cells what the strategies' weights in them pay, for either player, and they weigh the cells to 1
 pub record PlansPayOnTable (t : GameTable) (f : FormData) : Type 0 where
-  pub pays : (x y : ℕ → ℚ) (i : ℕ) → i < 2 → table_payoff (game_of t) (mixed_of (of_two x y)) i ≡ cell_sum (form f) ((form f).pays i) x y
+  pub pays : (x y : ℕ → ℚ) (i : ℕ) → i < 2 → table_payoff (game_of t) (mixed_of_plans (of_two x y)) i ≡ cell_sum (form f) ((form f).pays i) x y
   pub weigh_one : WeighsOne (form f)
 
 abbrev pub TableFormsPayPlans : Type 0

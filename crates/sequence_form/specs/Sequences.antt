@@ -25,12 +25,12 @@ AreFirsts t i firsts = firsts ≡ map (next_sequence t i) (range_with_len 0 (suc
 
 -- ---- a side as data
 -- player i's own set s: the sequence before it, that of its first action, and how many actions it has
-abbrev pub set_row : Tree → ℕ → ℕ → SetRow
-set_row t i s = record { before = sequence_before t i s; first = sequence t i (Some (s, 0)); count = t.actions s }
+abbrev pub own_set_row : Tree → ℕ → ℕ → SetRow
+own_set_row t i s = record { before = sequence_before t i s; first = sequence t i (Some (s, 0)); count = t.actions s }
 
 -- player i's sequences and own sets
 abbrev pub tree_side : Tree → ℕ → SideData
-tree_side t i = record { sequences = sequences (side_of t i); sets = map (set_row t i) (own_sets t i) }
+tree_side t i = record { sequences = sequences (side_of t i); sets = map (own_set_row t i) (own_sets t i) }
 
 -- one set, at the start, with n actions
 abbrev pub start_side : ℕ → SideData

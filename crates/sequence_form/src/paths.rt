@@ -4,7 +4,7 @@ ghost use Rattle.std.specs.List.{range_with_len};
 ghost use Rattle.game_core.specs.TreeGame.{game_of_tree};
 ghost use Rattle.sequence_forms.specs.Forms.{chance_of_path};
 ghost use Rattle.sequence_forms.specs.Sequences.{last_sequence};
-ghost use Rattle.sequence_data.specs.Steps.{AllFit, IsUnfitStop};
+ghost use Rattle.sequence_data.specs.Steps.{AllPlacedFit, IsUnfitStop};
 ghost use Rattle.sequence_form.specs.Paths.{chance_steps, child_steps, leaf_at, path_steps, tree_leaves};
 ghost use Rattle.sequence_form.specs.Sequences.{AreFirsts};
 
@@ -44,7 +44,7 @@ fn chance(tree: &Tree, above: Frac, node: usize) -> Result<Frac, SeqStop>
         ≡ chance_of_path (game_of_tree tree.now) ((game_of_tree tree.now).parent node) }
     ensures value { IfOk result (λ v. v ≡ chance_of_path (game_of_tree tree.now) node) }
     ensures fits { OnOk result
-        (let t = game_of_tree tree.now in AllFit (chance_steps t node (t.set (t.parent node)))) }
+        (let t = game_of_tree tree.now in AllPlacedFit (chance_steps t node (t.set (t.parent node)))) }
     ensures stop { IfErr result
         (let t = game_of_tree tree.now in IsUnfitStop
         (chance_steps t node (t.set (t.parent node)))) }
@@ -94,7 +94,7 @@ fn next_path(
     requires firsts_two { AreFirsts (game_of_tree tree.now) 1 firsts_two.now }
     requires above { above ≡ leaf_at (game_of_tree tree.now) ((game_of_tree tree.now).parent node) }
     ensures value { IfOk result (λ path. path ≡ leaf_at (game_of_tree tree.now) node) }
-    ensures fits { OnOk result (AllFit (child_steps (game_of_tree tree.now) node)) }
+    ensures fits { OnOk result (AllPlacedFit (child_steps (game_of_tree tree.now) node)) }
     ensures stop { IfErr result (IsUnfitStop (child_steps (game_of_tree tree.now) node)) }
 {
     stands_for_game_tree(tree);
@@ -125,7 +125,7 @@ pub(crate) fn paths(
     ensures paths { IfOk result (λ paths. paths.items
         ≡ map (leaf_at (game_of_tree tree.now)) (range_with_len 0 (length tree.now.nodes))) }
     ensures fits { OnOk result
-        (AllFit (path_steps (game_of_tree tree.now) (length tree.now.nodes))) }
+        (AllPlacedFit (path_steps (game_of_tree tree.now) (length tree.now.nodes))) }
     ensures stop { IfErr result
         (IsUnfitStop (path_steps (game_of_tree tree.now) (length tree.now.nodes))) }
 {

@@ -4,7 +4,7 @@ ghost use Rattle.game_theory.specs.Behaviour.{is_own};
 ghost use Rattle.game_core.specs.TreeGame.{game_of_tree};
 ghost use Rattle.perfect_recall.specs.Found.{IsRecallOf};
 ghost use Rattle.sequence_forms.specs.Sequences.{sequence_before};
-ghost use Rattle.sequence_form.specs.Sequences.{AreFirsts, own_actions, set_row, tree_side};
+ghost use Rattle.sequence_form.specs.Sequences.{AreFirsts, own_actions, own_set_row, tree_side};
 
 use answers::Memory;
 use game_core::Tree;
@@ -70,12 +70,12 @@ fn sequence_before(tree: &Tree, recall: &Recall, firsts: &[u32], player: u32, se
 }
 
 // A player's own set, with the sequence before it and its own.
-fn set_row(tree: &Tree, recall: &Recall, firsts: &[u32], player: u32, set: usize) -> SetRow
+fn own_set_row(tree: &Tree, recall: &Recall, firsts: &[u32], player: u32, set: usize) -> SetRow
     requires recall { IsRecallOf (game_of_tree tree.now) recall.now }
     requires firsts { AreFirsts (game_of_tree tree.now) player firsts.now }
     requires set { set < length tree.now.sets }
     requires own { (game_of_tree tree.now).owner set ≡ Some player }
-    ensures { result ≡ set_row (game_of_tree tree.now) player set }
+    ensures { result ≡ own_set_row (game_of_tree tree.now) player set }
 {
     stands_for_game_tree(tree);
     SetRow {
@@ -101,7 +101,7 @@ pub(crate) fn side(
     let mut rows = Vec::new(alloc);
     for set in 0..sets {
         if is_own(tree, set, player) {
-            rows.push(set_row(tree, recall, firsts, player, set))?;
+            rows.push(own_set_row(tree, recall, firsts, player, set))?;
         }
     }
     Ok(Side::new(firsts[sets], rows))

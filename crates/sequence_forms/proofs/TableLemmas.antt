@@ -14,7 +14,7 @@ use Rattle.game_theory.proofs.ReplyLemmas.{reply-at, reply-other, payoff-same}
 use Rattle.game_theory.proofs.SureStrategyLemmas.{zero_le_one, sure-not_negative, sum_to-sure}
 use Rattle.sequence_forms.specs.Sides.{first, IsOrderedSide, sequences, IsRealisationPlan}
 use Rattle.sequence_forms.specs.PlanBehaviour.{of_two}
-use Rattle.sequence_forms.specs.Forms.{cell_sum, one_set, after_both, form_of_table, mixed_of, WeighsOne}
+use Rattle.sequence_forms.specs.Forms.{cell_sum, one_set, after_both, form_of_table, mixed_of_plans, WeighsOne}
 use Rattle.sequence_forms.specs.TableLaws.{TablePlansPayTheCells, EveryTableHasAForm, BestPlansAreTableEquilibria}
 use Rattle.sequence_forms.proofs.SideLemmas.{first_pos}
 
@@ -49,7 +49,7 @@ mean_of_two m n p u =
 -- plans pay the cells
 pub table_plans_pay : TablePlansPayTheCells
 table_plans_pay g m n x y i e =
-    ap (λ ns. mean ns (mixed_of (of_two x y)) (g.pays i)) e ∙ mean_of_two m n (mixed_of (of_two x y)) (g.pays i)
+    ap (λ ns. mean ns (mixed_of_plans (of_two x y)) (g.pays i)) e ∙ mean_of_two m n (mixed_of_plans (of_two x y)) (g.pays i)
     ∙ sym (over_both g m n (λ r q. g.pays i (number_of (m ∷ n ∷ []) (r ∷ q ∷ []))) x y)
 
 -- a plan's strategies
@@ -88,48 +88,48 @@ sure_is_plan n s h = record { not_negative = signs; empty_is_one = refl; splits 
     splits (suc j) l = absurd (omega arith)
 
 -- a reply plays the plan of its strategy
-first_replies : (x y : ℕ → ℚ) (s j t : ℕ) → reply (mixed_of (of_two x y)) 0 s j t ≡ mixed_of (of_two (sure_plan s) y) j t
+first_replies : (x y : ℕ → ℚ) (s j t : ℕ) → reply (mixed_of_plans (of_two x y)) 0 s j t ≡ mixed_of_plans (of_two (sure_plan s) y) j t
 unfolding sure_plan
-first_replies x y s zero t = reply-at (mixed_of (of_two x y)) 0 s t
-first_replies x y s (suc j) t = reply-other (mixed_of (of_two x y)) 0 s (suc j) t (λ e. absurd (omega arith))
+first_replies x y s zero t = reply-at (mixed_of_plans (of_two x y)) 0 s t
+first_replies x y s (suc j) t = reply-other (mixed_of_plans (of_two x y)) 0 s (suc j) t (λ e. absurd (omega arith))
 
-second_replies : (x y : ℕ → ℚ) (s j t : ℕ) → j < 2 → reply (mixed_of (of_two x y)) 1 s j t ≡ mixed_of (of_two x (sure_plan s)) j t
+second_replies : (x y : ℕ → ℚ) (s j t : ℕ) → j < 2 → reply (mixed_of_plans (of_two x y)) 1 s j t ≡ mixed_of_plans (of_two x (sure_plan s)) j t
 unfolding sure_plan
-second_replies x y s zero t l = reply-other (mixed_of (of_two x y)) 1 s 0 t (λ e. absurd (omega arith))
-second_replies x y s (suc zero) t l = reply-at (mixed_of (of_two x y)) 1 s t
+second_replies x y s zero t l = reply-other (mixed_of_plans (of_two x y)) 1 s 0 t (λ e. absurd (omega arith))
+second_replies x y s (suc zero) t l = reply-at (mixed_of_plans (of_two x y)) 1 s t
 second_replies x y s (suc (suc j)) t l = absurd (omega arith)
 
 -- and pays what the plan pays
-pub first_replies_pay : (g : Game) (m n : ℕ) (x y : ℕ → ℚ) (s i : ℕ) → g.strategies ≡ m ∷ n ∷ [] → payoff g (reply (mixed_of (of_two x y)) 0 s) i ≡ cell_sum (form_of_table g m n) ((form_of_table g m n).pays i) (sure_plan s) y
+pub first_replies_pay : (g : Game) (m n : ℕ) (x y : ℕ → ℚ) (s i : ℕ) → g.strategies ≡ m ∷ n ∷ [] → payoff g (reply (mixed_of_plans (of_two x y)) 0 s) i ≡ cell_sum (form_of_table g m n) ((form_of_table g m n).pays i) (sure_plan s) y
 first_replies_pay g m n x y s i e =
-    payoff-same g (reply (mixed_of (of_two x y)) 0 s) (mixed_of (of_two (sure_plan s) y)) i (λ j t k h. first_replies x y s j t) ∙ table_plans_pay g m n (sure_plan s) y i e
+    payoff-same g (reply (mixed_of_plans (of_two x y)) 0 s) (mixed_of_plans (of_two (sure_plan s) y)) i (λ j t k h. first_replies x y s j t) ∙ table_plans_pay g m n (sure_plan s) y i e
 
-pub second_replies_pay : (g : Game) (m n : ℕ) (x y : ℕ → ℚ) (s i : ℕ) → g.strategies ≡ m ∷ n ∷ [] → payoff g (reply (mixed_of (of_two x y)) 1 s) i ≡ cell_sum (form_of_table g m n) ((form_of_table g m n).pays i) x (sure_plan s)
+pub second_replies_pay : (g : Game) (m n : ℕ) (x y : ℕ → ℚ) (s i : ℕ) → g.strategies ≡ m ∷ n ∷ [] → payoff g (reply (mixed_of_plans (of_two x y)) 1 s) i ≡ cell_sum (form_of_table g m n) ((form_of_table g m n).pays i) x (sure_plan s)
 second_replies_pay g m n x y s i e =
-    payoff-same g (reply (mixed_of (of_two x y)) 1 s) (mixed_of (of_two x (sure_plan s))) i (λ j t k h. second_replies x y s j t (subst (λ ns. j < length ns) e k)) ∙ table_plans_pay g m n x (sure_plan s) i e
+    payoff-same g (reply (mixed_of_plans (of_two x y)) 1 s) (mixed_of_plans (of_two x (sure_plan s))) i (λ j t k h. second_replies x y s j t (subst (λ ns. j < length ns) e k)) ∙ table_plans_pay g m n x (sure_plan s) i e
 
 -- best plans are an equilibrium
 pub best_plans_are_table_equilibria : BestPlansAreTableEquilibria
 best_plans_are_table_equilibria g m n x y e p =
-    record { valid = subst (λ ns. IsValid ns (mixed_of (of_two x y))) (sym e) (record { not_negative = signs; sum_is_one = sums }); no_better_reply = λ i s l b. better i s (subst (λ ns. i < length ns) e l) (subst (λ ns. s < slice_index ns i) e b) }
+    record { valid = subst (λ ns. IsValid ns (mixed_of_plans (of_two x y))) (sym e) (record { not_negative = signs; sum_is_one = sums }); no_better_reply = λ i s l b. better i s (subst (λ ns. i < length ns) e l) (subst (λ ns. s < slice_index ns i) e b) }
   where
     sign : (k : ℕ) (z : ℕ → ℚ) (s : ℕ) → IsRealisationPlan (one_set k) z → s < k → zero_ℚ ≤ℚ z (suc s)
     sign k z s pz h = pz.not_negative (suc s) (omega arith)
 
-    signs : (i s : ℕ) → i < length (m ∷ n ∷ []) → s < slice_index (m ∷ n ∷ []) i → zero_ℚ ≤ℚ mixed_of (of_two x y) i s
+    signs : (i s : ℕ) → i < length (m ∷ n ∷ []) → s < slice_index (m ∷ n ∷ []) i → zero_ℚ ≤ℚ mixed_of_plans (of_two x y) i s
     signs zero s l b = sign m x s p.row_plan b
     signs (suc zero) s l b = sign n y s p.column_plan b
     signs (suc (suc i)) s l b = absurd (omega arith)
 
-    sums : (i : ℕ) → i < length (m ∷ n ∷ []) → sum_to (slice_index (m ∷ n ∷ []) i) (mixed_of (of_two x y) i) ≡ one_ℚ
+    sums : (i : ℕ) → i < length (m ∷ n ∷ []) → sum_to (slice_index (m ∷ n ∷ []) i) (mixed_of_plans (of_two x y) i) ≡ one_ℚ
     sums zero l = strategies_sum m x p.row_plan
     sums (suc zero) l = strategies_sum n y p.column_plan
     sums (suc (suc i)) l = absurd (omega arith)
 
-    paid : (i : ℕ) → cell_sum (form_of_table g m n) ((form_of_table g m n).pays i) x y ≡ payoff g (mixed_of (of_two x y)) i
+    paid : (i : ℕ) → cell_sum (form_of_table g m n) ((form_of_table g m n).pays i) x y ≡ payoff g (mixed_of_plans (of_two x y)) i
     paid i = sym (table_plans_pay g m n x y i e)
 
-    better : (i s : ℕ) → i < length (m ∷ n ∷ []) → s < slice_index (m ∷ n ∷ []) i → payoff g (reply (mixed_of (of_two x y)) i s) i ≤ℚ payoff g (mixed_of (of_two x y)) i
+    better : (i s : ℕ) → i < length (m ∷ n ∷ []) → s < slice_index (m ∷ n ∷ []) i → payoff g (reply (mixed_of_plans (of_two x y)) i s) i ≤ℚ payoff g (mixed_of_plans (of_two x y)) i
     better zero s l b = subst₂ (λ u v. u ≤ℚ v) (sym (first_replies_pay g m n x y s 0 e)) (paid 0) (p.best_row (sure_plan s) (sure_is_plan m s b))
     better (suc zero) s l b = subst₂ (λ u v. u ≤ℚ v) (sym (second_replies_pay g m n x y s 1 e)) (paid 1) (p.best_column (sure_plan s) (sure_is_plan n s b))
     better (suc (suc i)) s l b = absurd (omega arith)

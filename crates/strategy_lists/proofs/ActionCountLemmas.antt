@@ -8,7 +8,7 @@ use Rattle.std.proofs.lemmas.Option.{none-some, slice_get_within, slice_get-get_
 use Rattle.game_theory.proofs.OwnSetLemmas.{is_index-decides}
 use Rattle.game_core.specs.declared.tree.Node.{Node}
 use Rattle.game_theory.specs.Behaviour.{is_index}
-use Rattle.game_core.specs.Tree.{GameTree, IsTree, InformationSet, OpenBranch, AreInPrefixOrder, action_count, branches_from, members_from, own_sets}
+use Rattle.game_core.specs.Tree.{GameTree, IsGameTree, InformationSet, OpenBranch, AreInPrefixOrder, action_count, branches_from, members_from, own_sets}
 use Rattle.game_core.specs.TreeGame.{game_of_tree}
 use Rattle.strategy_lists.proofs.OwnNumberLemmas.{own_from-own_sets, own_sets-numbers, own_numbers-length}
 use Rattle.strategy_lists.proofs.WalkStrategyLemmas.{own_set-tell}
@@ -45,7 +45,7 @@ pub actions-at : (t : GameTree) (s : ℕ) (set : InformationSet) → s < length 
 actions-at t s set below is = get_or-map (λ x. length x.actions) t.sets s set 0 below ∙ ap (λ x. length x.actions) (sym is)
 
 -- it is smaller than the number of nodes
-pub actions-below : (t : GameTree) (s : ℕ) → IsTree t → s < length t.sets → action_count t.sets (Some s) < length t.nodes
+pub actions-below : (t : GameTree) (s : ℕ) → IsGameTree t → s < length t.sets → action_count t.sets (Some s) < length t.nodes
 actions-below t s valid below =
     let set = get_or t.sets s (record { owner = None; label = 0; name = []; actions = []; members = [] }) in
     let fits = valid.sets_fit s set (slice_get-get_or t.sets s _ below) in
@@ -53,7 +53,7 @@ actions-below t s valid below =
     actions-few t.sets 0 0 s t.nodes _ valid.in_prefix_order some
 
 -- it fits 32 bits
-pub actions-fit : (t : GameTree) (s : ℕ) (set : InformationSet) → IsTree t → s < length t.sets → set ≡ get_or t.sets s set → length set.actions < 2 ^ 32
+pub actions-fit : (t : GameTree) (s : ℕ) (set : InformationSet) → IsGameTree t → s < length t.sets → set ≡ get_or t.sets s set → length set.actions < 2 ^ 32
 actions-fit t s set valid below is = omega (arith, actions-below t s valid below, actions-at t s set below is, valid.few_nodes)
 
 -- a set of the tree's lists that is one of the player's own is one of the sets
@@ -61,7 +61,7 @@ pub own_set-within : (t : GameTree) (i place s : ℕ) → slice_get (own_sets t 
 own_set-within t i place s h = (own_set-tell (game_of_tree t) i place s (ap (λ xs. slice_get xs place) (sym (own_from-own_sets t i)) ∙ h)).0
 
 -- a player has fewer own sets than a place can count
-pub own_sets-few : (t : GameTree) (i : ℕ) → IsTree t → length (own_sets t i) < 2 ^ 32
+pub own_sets-few : (t : GameTree) (i : ℕ) → IsGameTree t → length (own_sets t i) < 2 ^ 32
 own_sets-few t i valid =
     let short = own_numbers-length (game_of_tree t).owner i (length t.sets) in
     omega (arith, ap length (own_from-own_sets t i), ap length (own_sets-numbers (game_of_tree t) i), short, valid.few_sets, valid.few_nodes)

@@ -13,7 +13,7 @@ use Rattle.game_theory.proofs.OwnSetLemmas.{is_index-decides}
 use Rattle.lists.proofs.ElementLemmas.{slice_get-end}
 use Rattle.game_theory.specs.Trees.{Tree}
 use Rattle.game_theory.specs.Behaviour.{is_index}
-use Rattle.game_core.specs.Tree.{GameTree, IsTree, InformationSet, IsWithin, own_from}
+use Rattle.game_core.specs.Tree.{GameTree, IsGameTree, InformationSet, IsBelow, own_from}
 use Rattle.game_core.specs.TreeGame.{game_of_tree}
 use Rattle.reduced_strategies.specs.Places.{ArePlaces}
 use Rattle.strategy_lists.specs.OwnNumbers.{own_numbers, AreCounts, counted, ArePlacesBelow}
@@ -129,14 +129,14 @@ AreCounts-next owner n counts h = go (owner n) refl
     ]
 
 -- there is room for one more where the numbers are few
-pub counts-room : (owner : ℕ → Option ℕ) (n : ℕ) (counts : List ℕ) (o : Option ℕ) → AreCounts owner n counts → IsWithin (length counts) o → n + 1 < 2 ^ 32 → IfSome o (λ i. get_or counts i 0 + 1 < 2 ^ 32)
+pub counts-room : (owner : ℕ → Option ℕ) (n : ℕ) (counts : List ℕ) (o : Option ℕ) → AreCounts owner n counts → IsBelow (length counts) o → n + 1 < 2 ^ 32 → IfSome o (λ i. get_or counts i 0 + 1 < 2 ^ 32)
 counts-room owner n counts None h within few = tt
 counts-room owner n counts (Some i) h within few = omega (arith, h i within, own_numbers-length owner i n)
 
 -- a place that is an owner's count is the owner's place
-pub place-counted : (owner : ℕ → Option ℕ) (n place : ℕ) (counts : List ℕ) → AreCounts owner n counts → IsWithin (length counts) (owner n) → IfSome (owner n) (λ i. place ≡ get_or counts i 0) → (i : ℕ) → owner n ≡ Some i → place ≡ length (own_numbers owner i n)
+pub place-counted : (owner : ℕ → Option ℕ) (n place : ℕ) (counts : List ℕ) → AreCounts owner n counts → IsBelow (length counts) (owner n) → IfSome (owner n) (λ i. place ≡ get_or counts i 0) → (i : ℕ) → owner n ≡ Some i → place ≡ length (own_numbers owner i n)
 place-counted owner n place counts h within is i own =
-    subst (λ o. IfSome o (λ i. place ≡ get_or counts i 0)) own is ∙ h i (subst (IsWithin (length counts)) own within)
+    subst (λ o. IfSome o (λ i. place ≡ get_or counts i 0)) own is ∙ h i (subst (IsBelow (length counts)) own within)
 
 -- one more number has the place that its owner's count says
 pub ArePlacesBelow-next : (owner : ℕ → Option ℕ) (n place : ℕ) (places : List ℕ) → ((i : ℕ) → owner n ≡ Some i → place ≡ length (own_numbers owner i n)) → ArePlacesBelow owner n places → ArePlacesBelow owner (suc n) (places ++ place ∷ [])
@@ -165,9 +165,9 @@ ArePlaces-owners t owners places is h =
     ArePlaces-below (game_of_tree t) places (subst (λ n. ArePlacesBelow (game_of_tree t).owner n places) (length-map t.sets (λ set. set.owner)) by_sets)
 
 -- the owners of the sets are players
-pub owners-within : (t : GameTree) (owners : List (Option ℕ)) → IsTree t → owners ≡ map (λ set. set.owner) t.sets → All (IsWithin (length t.players)) owners
+pub owners-within : (t : GameTree) (owners : List (Option ℕ)) → IsGameTree t → owners ≡ map (λ set. set.owner) t.sets → All (IsBelow (length t.players)) owners
 owners-within t owners valid is =
-    rw is (All-map (IsWithin (length t.players)) (λ set. set.owner) t.sets (λ s d below. (valid.sets_fit s (get_or t.sets s d) (slice_get-get_or t.sets s d below)).owner_within))
+    rw is (All-map (IsBelow (length t.players)) (λ set. set.owner) t.sets (λ s d below. (valid.sets_fit s (get_or t.sets s d) (slice_get-get_or t.sets s d below)).owner_within))
 
 -- the test whether an owner is this player
 pub owner-decides : (o : Option ℕ) (i : ℕ) → Decides (option_eq eqb o (Some i)) (o ≡ Some i)

@@ -5,7 +5,7 @@ use Rattle.std.proofs.lemmas.List.{get_or-map}
 use Rattle.std.proofs.lemmas.Option.{MatchOption-at_none, MatchOption-at_some}
 use Rattle.game_theory.specs.Trees.{IsTree}
 use Rattle.game_core.specs.declared.tree.Node.{Node}
-use Rattle.game_core.specs.Tree.{GameTree, IsTree as is_game, InformationSet, OpenBranch, AreInPrefixOrder, action_count, branches_from}
+use Rattle.game_core.specs.Tree.{GameTree, IsGameTree as is_game, InformationSet, OpenBranch, AreInPrefixOrder, action_count, branches_from}
 use Rattle.game_core.specs.TreeGame.{game_of_tree, or_zero}
 
 -- places at nodes

@@ -9,7 +9,7 @@ use Rattle.game_theory.proofs.OwnSetLemmas.{own_sets-tell}
 use Rattle.lists.proofs.ElementLemmas.{element, all_at}
 use Rattle.game_theory.specs.Trees.{Tree}
 use Rattle.game_theory.specs.Recall.{own_history}
-use Rattle.reduced_strategies.specs.Choices.{choice_at, Agrees, IsReached as is_set_reached, IsReduced, AreReducedStrategies}
+use Rattle.reduced_strategies.specs.Choices.{choice_at, Agrees, IsReachedUnder as is_set_reached, IsReduced, AreReducedStrategies}
 use Rattle.reduced_strategies.proofs.SetLemmas.{choice_at-among, choice_at-first, choice_at-later}
 use Rattle.reduced_strategies.proofs.HistoryLemmas.{Agrees-append}
 use Rattle.choice_lists.specs.declared.decision.Decision.{Decision}

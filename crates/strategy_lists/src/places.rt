@@ -1,6 +1,6 @@
 // The places of sets among their owners' own sets.
 ghost use Rattle.std.specs.Prelude.{◌≡◌, ◌<◌, ◌+◌, ◌^◌, ℕ, All, IfOk, IfSome, length, map, slice_index, slice_index_or};
-ghost use Rattle.game_core.specs.Tree.{GameTree, IsWithin, own_sets as tree_sets};
+ghost use Rattle.game_core.specs.Tree.{GameTree, IsBelow, own_sets as tree_sets};
 ghost use Rattle.game_core.specs.TreeGame.{game_of_tree};
 ghost use Rattle.reduced_strategies.specs.Places.{ArePlaces};
 ghost use Rattle.strategy_lists.specs.OwnNumbers.{counted, ArePlacesBelow};
@@ -12,7 +12,7 @@ use std::alloc::Global;
 
 // The place of what comes next after all that was counted, where it has this owner.
 fn next_place(counts: &mut [u32], owner: Option<u32>) -> u32
-    requires within { IsWithin (length counts.old) owner }
+    requires within { IsBelow (length counts.old) owner }
     requires few { IfSome owner (λ i. slice_index counts.old i + 1 < 2 ^ 32) }
     ensures place { IfSome owner (λ i. result ≡ slice_index counts.old i) }
     ensures counts { counts.new ≡ counted counts.old owner }
@@ -30,7 +30,7 @@ fn next_place(counts: &mut [u32], owner: Option<u32>) -> u32
 // For each owner its place among the owners that are the same player, from 0; any number where there is none.
 fn places_among(alloc: Global, players: usize, owners: &[Option<u32>]) -> Result<Vec<u32>, Memory>
     requires few { length owners.now < 2 ^ 32 }
-    requires within { All (IsWithin players) owners.now }
+    requires within { All (IsBelow players) owners.now }
     ensures { IfOk result
         (λ places. ArePlacesBelow (λ k. slice_index_or owners.now k None)
         (length owners.now) places.items) }

@@ -5,14 +5,14 @@ use Rattle.answers.proofs.AnswerLemmas.{bind-single, only-single, refuse_where-s
 use Rattle.rational.specs.Rational.{ℚ}
 use Rattle.game_theory.specs.Lines.{line_text}
 use Rattle.game_core.specs.Table.{GameTable}
-use Rattle.game_core.specs.Tree.{GameTree, IsTree}
+use Rattle.game_core.specs.Tree.{GameTree, IsGameTree}
 use Rattle.game_core.specs.declared.game.Game.{Game}
 use Rattle.game_core.specs.declared.game.Game.TheVariants.{Strategic, Extensive}
 use Rattle.game_core.specs.declared.too_large.What.TheVariants as what
 use Rattle.behaviour_profile.specs.Plans.{plan_behaviour}
 use Rattle.behaviour_profile.proofs.PlanStopLemmas.{plan_behaviour-single}
 use Rattle.perfect_recall.specs.Found.{recall_of}
-use Rattle.reduced_form.specs.Stops.{form_of}
+use Rattle.reduced_form.specs.Stops.{reduced_form_of}
 use Rattle.reduced_form.proofs.OneFormLaws.{form_of-single}
 use Rattle.sequence_form.specs.Forms.{tree_form, table_form}
 use Rattle.sequence_form.specs.declared.counts.Counts.{Counts}
@@ -25,7 +25,7 @@ use Rattle.refusals.specs.declared.refusal.Refusal.TheVariants as refusal
 
 -- a tree has one recall
 abbrev pub RecallsAreSingle : Type 0
-RecallsAreSingle = (t : GameTree) → IsTree t → IsSingle (recall_of t)
+RecallsAreSingle = (t : GameTree) → IsGameTree t → IsSingle (recall_of t)
 
 -- ---- the number of players
 pub two_players-single : (game : Game) → IsSingle (two_players game)
@@ -51,8 +51,8 @@ pub form_in-single : (rows : Counts → ℕ) (strategic : Bool) (game : Game) �
 form_in-single rows true (Strategic t) recalls w = form_of_table-single rows t
 form_in-single rows false (Strategic t) recalls w = form_of_table-single rows t
 form_in-single rows true (Extensive t) recalls w =
-    bind-single (refused_by form_refusal (form_of t)) (λ form. form_of_table rows form.table)
-    (refused_by-single form_refusal (form_of t) (form_of-single t))
+    bind-single (refused_by form_refusal (reduced_form_of t)) (λ form. form_of_table rows form.table)
+    (refused_by-single form_refusal (reduced_form_of t) (form_of-single t))
     (λ form _. form_of_table-single rows form.table)
 form_in-single rows false (Extensive t) recalls w = form_of_tree-single rows t (recalls t w)
 

@@ -2,7 +2,7 @@
 use Rattle.std.proofs.Common.{ℕ, ◌≡◌, ◌∙◌, sym, subst, arith, Bool, true, false, Option, List, Ok}
 use Rattle.game_theory.specs.FirstNodes.{AreNumberedByFirstNodes}
 use Rattle.game_theory.specs.Trees.{IsTree as is_game_tree}
-use Rattle.game_core.specs.Tree.{GameTree, IsTree}
+use Rattle.game_core.specs.Tree.{GameTree, IsGameTree}
 use Rattle.game_core.specs.TreeGame.{game_of_tree}
 use Rattle.game_core.specs.declared.game.Game.{Game}
 use Rattle.game_core.specs.declared.game.Game.TheVariants.{Strategic, Extensive}
@@ -21,8 +21,8 @@ use Rattle.two_player_tools.specs.TwoPlayers.{form_in}
 
 -- what trees stand for
 pub record TreesAreGames : Type 0 where
-  pub game_tree : (t : GameTree) → IsTree t → is_game_tree (game_of_tree t)
-  pub numbered : (t : GameTree) → IsTree t → AreNumberedByFirstNodes (game_of_tree t)
+  pub game_tree : (t : GameTree) → IsGameTree t → is_game_tree (game_of_tree t)
+  pub numbered : (t : GameTree) → IsGameTree t → AreNumberedByFirstNodes (game_of_tree t)
 
 -- ---- forms
 -- the form of a game
@@ -33,7 +33,7 @@ form_in-valid rows true (Extensive t) f laws w h = table_form-valid h.0.table f 
 form_in-valid rows false (Extensive t) f laws w h = tree_form-valid (game_of_tree t) f (laws.game_tree t w) (laws.numbered t w) h.1.all_recall h.2.2
 
 -- a tree with a form has two players, who recall
-pub two_who_recall : (t : GameTree) (f : FormData) (before : List (Option (ℕ × ℕ))) → TreesAreGames → IsTree t → IsRecallOf (game_of_tree t) before → IsTreeForm (game_of_tree t) f → HasTwoWhoRecall (game_of_tree t)
+pub two_who_recall : (t : GameTree) (f : FormData) (before : List (Option (ℕ × ℕ))) → TreesAreGames → IsGameTree t → IsRecallOf (game_of_tree t) before → IsTreeForm (game_of_tree t) f → HasTwoWhoRecall (game_of_tree t)
 two_who_recall t f before laws w recall h = record {
   is_tree = laws.game_tree t w;
   two_players = h.two_players;

@@ -2,7 +2,7 @@
 use Rattle.std.proofs.Common.{ℕ, suc, ◌≡◌, ◌∙◌, sym, ap, subst, Bool, true, false, if◌then◌else◌, Option, List, [], ◌++◌, length, Result, Ok}
 use Rattle.game_theory.specs.Lines.{line_text}
 use Rattle.game_core.specs.Table.{GameTable, IsTable, game_of}
-use Rattle.game_core.specs.Tree.{GameTree, IsTree}
+use Rattle.game_core.specs.Tree.{GameTree, IsGameTree}
 use Rattle.game_core.specs.TreeGame.{game_of_tree}
 use Rattle.game_core.specs.declared.game.Game.{Game}
 use Rattle.game_core.specs.declared.game.Game.TheVariants.{Strategic, Extensive}
@@ -10,11 +10,11 @@ use Rattle.perfect_recall.specs.Found.{IsRecallOf}
 use Rattle.sequence_forms.specs.PriceLaws.{ProvesValueOfTree}
 use Rattle.sequence_forms.specs.TableLaws.{ProvesValueOfTable}
 use Rattle.sequence_data.specs.Data.{FormData, IsFormData, SideData, form}
-use Rattle.sequence_data.specs.Weights.{weight}
+use Rattle.sequence_data.specs.Weights.{weight_at}
 use Rattle.sequence_data.specs.declared.types.Leaf.{Leaf}
 use Rattle.sequence_form.specs.Counts.{size_of_program}
 use Rattle.sequence_form.specs.Forms.{IsTableForm, IsTreeForm, profile_leaf}
-use Rattle.sequence_form.specs.Laws.{columns_of, rows_of}
+use Rattle.sequence_form.specs.Laws.{count_of_columns, count_of_rows}
 use Rattle.sequence_form.specs.Paths.{leaf_at}
 use Rattle.sequence_form.proofs.Laws.{table_stands, tree_stands}
 use Rattle.zero_sum_lp.specs.Parts.{IsProgram, Program, first_prices, second_prices}
@@ -51,14 +51,14 @@ module _ (f : FormData) (p o : Program) (plans : PlanPair) (h : IsSolving f p o 
     proof = plans_prove (form f) f.least_one p o plans is_program is_of_form h.optimum h.planned;
   }
 
-  on_table : (t : GameTable) → IsTable t → IsTableForm t f → ProvesValueOfTable (game_of t) (weight plans.one) (weight plans.two) (solution f o plans).value
+  on_table : (t : GameTable) → IsTable t → IsTableForm t f → ProvesValueOfTable (game_of t) (weight_at plans.one) (weight_at plans.two) (solution f o plans).value
   on_table t w k =
       let none : Leaf = profile_leaf t 0 in
       let stands = table_stands t f w k in
       let sums = table_sums t f (constant_of f none) w k (sums_to f none h.valid h.program.2.2.1) in
-      plans_solve_tables (game_of t) (rows_of t) (columns_of t) (form f) f.least_one (constant_of f none) p o plans stands.strategies_are stands.alike sums is_program is_of_form h.optimum h.planned
+      plans_solve_tables (game_of t) (count_of_rows t) (count_of_columns t) (form f) f.least_one (constant_of f none) p o plans stands.strategies_are stands.alike sums is_program is_of_form h.optimum h.planned
 
-  on_tree : (t : GameTree) (before : List (Option (ℕ × ℕ))) → TreesAreGames → IsTree t → IsRecallOf (game_of_tree t) before → IsTreeForm (game_of_tree t) f → ProvesValueOfTree (game_of_tree t) (weight plans.one) (weight plans.two) (solution f o plans).value
+  on_tree : (t : GameTree) (before : List (Option (ℕ × ℕ))) → TreesAreGames → IsGameTree t → IsRecallOf (game_of_tree t) before → IsTreeForm (game_of_tree t) f → ProvesValueOfTree (game_of_tree t) (weight_at plans.one) (weight_at plans.two) (solution f o plans).value
   on_tree t before laws w recall k =
       let none : Leaf = leaf_at (game_of_tree t) 0 in
       let two = two_who_recall t f before laws w recall k in

@@ -1,10 +1,10 @@
 -- What the types of tables and trees keep of a game.
 use Rattle.game_core.specs.Table.{IsTable}
-use Rattle.game_core.specs.Tree.{IsTree}
+use Rattle.game_core.specs.Tree.{IsGameTree}
 use Rattle.game_core.specs.declared.game.Game.{Game}
 use Rattle.game_core.specs.declared.game.Game.TheVariants.{Strategic, Extensive}
 
 -- a table is one, and a tree is one
 abbrev pub IsGame : Game → Type 0
 IsGame (Strategic table) = IsTable table
-IsGame (Extensive tree) = IsTree tree
+IsGame (Extensive tree) = IsGameTree tree

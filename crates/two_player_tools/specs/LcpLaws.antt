@@ -9,11 +9,11 @@ use Rattle.game_core.specs.TreeGame.{game_of_tree}
 use Rattle.game_core.specs.declared.game.Game.{Game}
 use Rattle.game_core.specs.declared.game.Game.TheVariants.{Strategic, Extensive}
 use Rattle.reduced_form.specs.ReducedForm.{ReducedForm}
-use Rattle.reduced_form.specs.Stops.{form_of}
-use Rattle.sequence_forms.specs.Forms.{mixed_of}
+use Rattle.reduced_form.specs.Stops.{reduced_form_of}
+use Rattle.sequence_forms.specs.Forms.{mixed_of_plans}
 use Rattle.sequence_forms.specs.PlanBehaviour.{behaviour_of, of_two}
 use Rattle.sequence_data.specs.Data.{FormData}
-use Rattle.sequence_data.specs.Weights.{weight}
+use Rattle.sequence_data.specs.Weights.{weight_at}
 use Rattle.sequence_form.specs.Counts.{problem_rows}
 use Rattle.zero_sum_lp.specs.PlanPairs.{PlanPair}
 use Rattle.two_player_tools.specs.Entries.{entries_in}
@@ -23,7 +23,7 @@ use Rattle.two_player_tools.specs.TwoPlayers.{form_in}
 
 -- both players' weights
 abbrev pub weights_of : PlanPair → ℕ → ℕ → ℚ
-weights_of plans = of_two (weight plans.one) (weight plans.two)
+weights_of plans = of_two (weight_at plans.one) (weight_at plans.two)
 
 -- two plans are in equilibrium on the file's own game: on a tree by their behaviour, else on the
 -- strategic form
@@ -31,10 +31,10 @@ abbrev pub AreInEquilibrium : Bool → Game → PlanPair → Type 0
 AreInEquilibrium false (Extensive t) plans =
     IsEquilibrium (game_of_tree t) (behaviour_of (game_of_tree t) (weights_of plans))
 AreInEquilibrium true (Extensive t) plans =
-    (form : ReducedForm) × form_of t (Ok form)
-    × is_table_equilibrium (game_of form.table) (mixed_of (weights_of plans))
+    (form : ReducedForm) × reduced_form_of t (Ok form)
+    × is_table_equilibrium (game_of form.table) (mixed_of_plans (weights_of plans))
 AreInEquilibrium _ (Strategic t) plans =
-    is_table_equilibrium (game_of t) (mixed_of (weights_of plans))
+    is_table_equilibrium (game_of t) (mixed_of_plans (weights_of plans))
 
 -- a text is the line of plans in equilibrium, which have a weight for each sequence
 pub record IsEquilibriumText (strategic : Bool) (game : Game) (text : List ℕ) : Type 0 where

@@ -9,11 +9,11 @@ use Rattle.game_core.specs.declared.game.Game.{Game}
 use Rattle.game_core.specs.declared.game.Game.TheVariants.{Strategic, Extensive}
 use Rattle.game_core.specs.declared.too_large.What.TheVariants as what
 use Rattle.perfect_recall.specs.Found.{recall_of}
-use Rattle.reduced_form.specs.Stops.{form_of}
+use Rattle.reduced_form.specs.Stops.{reduced_form_of}
 use Rattle.sequence_data.specs.Data.{FormData}
 use Rattle.sequence_form.specs.Counts.{counts_of, problem_rows, size_of_program}
 use Rattle.sequence_form.specs.Forms.{tree_form, table_form}
-use Rattle.sequence_form.specs.Laws.{rows_of, columns_of}
+use Rattle.sequence_form.specs.Laws.{count_of_rows, count_of_columns}
 use Rattle.sequence_form.specs.Sequences.{tree_side, start_side}
 use Rattle.sequence_form.specs.declared.counts.Counts.{Counts}
 use Rattle.refusals.specs.Told.{form_refusal, recall_refusal, sequence_refusal}
@@ -43,7 +43,7 @@ within_rows rows = refuse_where (512 < rows) (refusal.TooLarge what.Rows rows 51
 
 -- the sizes of the sequence forms of a table and of a tree
 abbrev pub table_counts : GameTable → Counts
-table_counts t = counts_of (start_side (rows_of t)) (start_side (columns_of t))
+table_counts t = counts_of (start_side (count_of_rows t)) (start_side (count_of_columns t))
 
 abbrev pub tree_counts : GameTree → Counts
 tree_counts t = counts_of (tree_side (game_of_tree t) 0) (tree_side (game_of_tree t) 1)
@@ -66,10 +66,10 @@ form_of_tree rows t = do
 abbrev pub form_in : (Counts → ℕ) → Bool → Game → Answer Refusal FormData
 form_in rows strategic (Strategic t) = form_of_table rows t
 form_in rows true (Extensive t) = do
-  form ← refused_by form_refusal (form_of t)
+  form ← refused_by form_refusal (reduced_form_of t)
   form_of_table rows form.table
 form_in rows false (Extensive t) = form_of_tree rows t
 
 -- a form that a game has, whatever rows are counted
-abbrev pub IsFormOf : Bool → Game → FormData → Type 0
-IsFormOf strategic game form = (rows : Counts → ℕ) × form_in rows strategic game (Ok form)
+abbrev pub HasForm : Bool → Game → FormData → Type 0
+HasForm strategic game form = (rows : Counts → ℕ) × form_in rows strategic game (Ok form)

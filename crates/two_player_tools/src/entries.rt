@@ -6,7 +6,7 @@ ghost use Rattle.game_core.specs.TreeGame.{game_of_tree};
 ghost use Rattle.game_core.specs.declared.game.Game.TheVariants.{Extensive};
 ghost use Rattle.sequence_form.specs.Forms.{IsTreeForm};
 ghost use Rattle.two_player_tools.specs.Entries.{line_in};
-ghost use Rattle.two_player_tools.specs.TwoPlayers.{IsFormOf};
+ghost use Rattle.two_player_tools.specs.TwoPlayers.{HasForm};
 
 use behaviour_profile::Behaviour;
 use frac128::{Frac, Memory};
@@ -65,7 +65,7 @@ pub fn plans_line(
     one: &[Frac],
     two: &[Frac],
 ) -> Result<Vec<u8>, Refusal>
-    requires form { IsFormOf strategic game.now form.now }
+    requires form { HasForm strategic game.now form.now }
     requires one { length one.now ≡ form.now.first.sequences }
     requires two { length two.now ≡ form.now.second.sequences }
     ensures { Gives Refusal.Memory (line_in strategic game.now one.now two.now)

@@ -4,7 +4,7 @@ ghost use Rattle.two_player_tools.specs.Entries.{line_in};
 ghost use Rattle.two_player_tools.specs.Lp.{lp, solution_text};
 ghost use Rattle.two_player_tools.specs.LpLaws.{LpTextsAreSolutions};
 ghost use Rattle.two_player_tools.specs.Solved.{HasSizesOf, solution_of};
-ghost use Rattle.two_player_tools.specs.TwoPlayers.{IsFormOf};
+ghost use Rattle.two_player_tools.specs.TwoPlayers.{HasForm};
 
 use crate::entries::plans_line;
 use crate::forms::{Method, form_in, two_players};
@@ -23,7 +23,7 @@ fn solution_line(
     form: &SeqForm,
     solved: &Solved,
 ) -> Result<Vec<u8>, Refusal>
-    requires form { IsFormOf strategic game.now form.now }
+    requires form { HasForm strategic game.now form.now }
     requires sizes { HasSizesOf form.now solved.now }
     ensures { Gives Refusal.Memory
         (line_in strategic game.now solved.now.plans.one solved.now.plans.two)
@@ -42,7 +42,7 @@ fn solution_text(
     form: &SeqForm,
     solved: &Solved,
 ) -> Result<Vec<u8>, Refusal>
-    requires form { IsFormOf strategic game.now form.now }
+    requires form { HasForm strategic game.now form.now }
     requires sizes { HasSizesOf form.now solved.now }
     ensures { Gives Refusal.Memory
         (solution_text strategic asked game.now form.now (solution_of form.now solved.now))

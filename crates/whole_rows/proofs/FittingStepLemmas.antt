@@ -60,24 +60,6 @@ pub told : (a u b v x y : ℤ) (o : Option ℤ) → (x ≡ a *ℤ u) × PartFits
 told a u b v x y None p q h = λ f. h (subst PartFits (sym (ap₂ (λ x y. x -ℤ y) p.0 q.0)) ((less_fits (a *ℤ u) (b *ℤ v) (subst PartFits p.0 p.1) (subst PartFits q.0 q.1)).1 ((three-fit (times a u) (times b v) (less (a *ℤ u) (b *ℤ v))).0 f).2))
 told a u b v x y (Some d) p q h = (h.0 ∙ ap₂ (λ x y. x -ℤ y) p.0 q.0, h.1, all_fit a u b v (subst PartFits p.0 p.1) (subst PartFits q.0 q.1) (subst PartFits (h.0 ∙ ap₂ (λ x y. x -ℤ y) p.0 q.0) h.1))
 
--- the parts of a fraction in lowest terms are no larger than those it is made of
-pub frac_fits : (n : ℤ) (d : ℕ) → 0 < d → PartFits n → d < 2 ^ 127 → Fits (frac n d)
-unfolding frac
-frac_fits n zero p h g = absurd (omega arith)
-frac_fits n (suc d) p h g = record { num = subst (λ x. x < 2 ^ 127) (sym (nat_abs-div_ℤ n (gcd (nat_abs n) (suc d)))) (smaller (nat_abs n) (gcd (nat_abs n) (suc d)) h); den = smaller (suc d) (gcd (nat_abs n) (suc d)) g }
-  where
-    smaller : (x k : ℕ) → x < 2 ^ 127 → x / k < 2 ^ 127
-    smaller x k h = let q : x / k ≤ x = div-le_self x k in omega arith
-
-pub fraction_none : (n d : ℤ) → pos 0 <ℤ d → PartFits n → PartFits d → (d ≡ pos 0) ⊎ (¬ (Fits (quotient n d))) → ⊥
-fraction_none n (pos d) p h g (inl e) = omega (arith, ints)
-fraction_none n (pos d) p h g (inr f) = f (frac_fits n d (omega (arith, ints)) h g)
-fraction_none n (negsuc d) p h g o = omega (arith, ints)
-
-pub fraction_is : (n d : ℤ) → pos 0 <ℤ d → quotient n d ≡ frac n (nat_abs d)
-fraction_is n (pos d) p = refl
-fraction_is n (negsuc d) p = absurd (omega (arith, ints))
-
 pub not_first : (a u b v : ℤ) → ¬ (PartFits (a *ℤ u)) → All StepFits (times a u ∷ times b v ∷ less (a *ℤ u) (b *ℤ v) ∷ []) → ⊥
 not_first a u b v h f = h ((times_fits a u).1 ((three-fit (times a u) (times b v) (less (a *ℤ u) (b *ℤ v))).0 f).0)
 

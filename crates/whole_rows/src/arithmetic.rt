@@ -118,10 +118,7 @@ pub fn fraction(num: i128, den: i128) -> Frac
     requires den_fits { PartFits den }
     ensures { result ≡ frac num (nat_abs den) }
 {
-    match Frac::new(num, den) {
-        Some(fraction) => fraction,
-        None => Frac::zero(),
-    }
+    Frac::over(num, den.unsigned_abs())
 }
 
 // A product that does not fit, as a refusal.

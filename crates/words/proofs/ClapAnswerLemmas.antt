@@ -14,7 +14,7 @@ use Rattle.clap.specs.Simple.{built}
 use Rattle.clap.specs.declared.error.Error.{Error}
 use Rattle.clap.specs.declared.error.kind.ErrorKind.TheVariants as kind
 use Rattle.clap.specs.declared.parser.matches.ArgMatches.{ArgMatches}
-use Rattle.words.specs.Grammar.{Options, Part, has_letter, parts_of}
+use Rattle.words.specs.Grammar.{Options, Part, has_letter, word_parts}
 use Rattle.words.specs.Commands.{Says, SaysParts, app_with, is_ascii, is_counted, texts_at}
 use Rattle.words.proofs.RuleLemmas.{built_rules, fits}
 use Rattle.words.proofs.RunLemmas.{Sound}
@@ -57,11 +57,11 @@ module _ (o : Options) (words : List Text) where
   refused_by (Some ps) fault end agrees long = absurd (omega (arith, long, ap length agrees.0))
   refused_by None fault end agrees long = refl
 
-  pub told : (a : App) (m : ArgMatches) → a ≡ app_with o → is_ascii o ≡ true → AllUtf8 words → HasMatchesOf a words m → (is_simple_and_free a ≡ true → fault_of a words ≡ []) → SaysParts o (parts_of o words None) m
+  pub told : (a : App) (m : ArgMatches) → a ≡ app_with o → is_ascii o ≡ true → AllUtf8 words → HasMatchesOf a words m → (is_simple_and_free a ≡ true → fault_of a words ≡ []) → SaysParts o (word_parts o words None) m
   told a m is ascii utf8 matches passes =
       let free : is_simple_and_free a ≡ true = ap is_simple_and_free is ∙ simple_and_free o in
       let simple : is_simple a ≡ true = (and_parts (is_simple a) (is_free_app (built a)) free).0 in
-      told_by (parts_of o words None) _ _ m (words_agree o (built_rules o) (fits o) (sound o ascii) words utf8)
+      told_by (word_parts o words None) _ _ m (words_agree o (built_rules o) (fits o) (sound o ascii) words utf8)
       (sym (fault_is o words) ∙ ap (λ (b : App). fault_of b words) (sym is) ∙ passes free)
       ((matches simple).0 ∙ ap (λ (b : App). matches_of b words) is ∙ matches_are o words)
 
@@ -70,8 +70,8 @@ module _ (o : Options) (words : List Text) where
   some_kind [] e other (inr x) = absurd x
   some_kind (k ∷ ks) e other (inr x) = omega arith
 
-  pub refused_words : (a : App) (e : Error) → a ≡ app_with o → is_ascii o ≡ true → AllUtf8 words → (kind_of e ≡ kind.OutOfMemory → ⊥) → (is_simple_and_free a ≡ true → HasKind (fault_of a words) e) → parts_of o words None ≡ None
+  pub refused_words : (a : App) (e : Error) → a ≡ app_with o → is_ascii o ≡ true → AllUtf8 words → (kind_of e ≡ kind.OutOfMemory → ⊥) → (is_simple_and_free a ≡ true → HasKind (fault_of a words) e) → word_parts o words None ≡ None
   refused_words a e is ascii utf8 other fails =
       let free : is_simple_and_free a ≡ true = ap is_simple_and_free is ∙ simple_and_free o in
-      refused_by (parts_of o words None) _ _ (words_agree o (built_rules o) (fits o) (sound o ascii) words utf8)
+      refused_by (word_parts o words None) _ _ (words_agree o (built_rules o) (fits o) (sound o ascii) words utf8)
       (subst (λ ks. 0 < length ks) (ap (λ (b : App). fault_of b words) is ∙ fault_is o words) (some_kind (fault_of a words) e other (fails free)))

@@ -10,7 +10,7 @@ use Rattle.clap.specs.Lexer.{long_of as long_word_of}
 use Rattle.clap.specs.Walk.{Held, Row, Rule, Text, Walk, settled, walked}
 use Rattle.clap.specs.Kinds.{Kinds, or_else}
 use Rattle.clap.specs.Faults.{settle_fault, turn_fault, walk_fault}
-use Rattle.words.specs.Grammar.{Options, Part, Flag, Value, Prices, Plain, Reading, refused, gives, wants, has_letter, is_word, parts_of, parts_then, reading_of, values_of}
+use Rattle.words.specs.Grammar.{Options, Part, Flag, Value, Prices, Plain, Reading, refused, gives, wants, has_letter, is_word, word_parts, parts_then, reading_of, values_of}
 use Rattle.words.specs.Commands.{GivesHyphen, value_id}
 use Rattle.words.proofs.RuleLemmas.{Fits, plain, shape}
 use Rattle.words.proofs.RunLemmas.{Holds, Sound, ready, rows_append, rows_of}
@@ -98,20 +98,20 @@ module _ (o : Options) (c : List Rule) (fits : Fits o c) (sound : Sound o) where
 
   -- the walk from here on
   abbrev Calmly : List Text → Type 0
-  Calmly words = (h : Held) (b : Bool) (rows : List Row) → Holds c h rows → Agrees o (parts_of o words None) (total c (calm h b false) words) (final c (calm h b false) words) rows
+  Calmly words = (h : Held) (b : Bool) (rows : List Row) → Holds c h rows → Agrees o (word_parts o words None) (total c (calm h b false) words) (final c (calm h b false) words) rows
 
   abbrev Asked : List Text → Type 0
-  Asked words = (x : ℕ) (rows : List Row) → has_letter o.valued x ≡ true → Agrees o (parts_of o words (Some x)) (total c (asks x rows false) words) (final c (asks x rows false) words) rows
+  Asked words = (x : ℕ) (rows : List Row) → has_letter o.valued x ≡ true → Agrees o (word_parts o words (Some x)) (total c (asks x rows false) words) (final c (asks x rows false) words) rows
 
   -- a word other than `--`
   calm_step : (word : Text) (words : List Text) (h : Held) (b : Bool) (rows : List Row) → Calmly words → Asked words → (r : Reading)
       → TurnsTo o c r (turn_fault (shape c) [] (calm h b false) word) (walked c [] (calm h b false) word) rows
-      → Agrees o (parts_then r (parts_of o words)) (total c (calm h b false) (word ∷ words)) (final c (calm h b false) (word ∷ words)) rows
+      → Agrees o (parts_then r (word_parts o words)) (total c (calm h b false) (word ∷ words)) (final c (calm h b false) (word ∷ words)) rows
   calm_step word words h b rows calmly asked refused turn = inl (faulty (calm h b false) word words turn)
   calm_step word words h b rows calmly asked (gives ps) turn =
-      agrees_step ps (parts_of o words None) (calm h b false) (calm turn.1.0 turn.1.1 false) word words rows turn.0 turn.1.2 (calmly turn.1.0 turn.1.1 (rows_of ps rows) turn.1.3)
+      agrees_step ps (word_parts o words None) (calm h b false) (calm turn.1.0 turn.1.1 false) word words rows turn.0 turn.1.2 (calmly turn.1.0 turn.1.1 (rows_of ps rows) turn.1.3)
   calm_step word words h b rows calmly asked (wants ps x) turn =
-      agrees_step ps (parts_of o words (Some x)) (calm h b false) (asks x (rows_of ps rows) false) word words rows turn.0 turn.1 (asked x (rows_of ps rows) turn.2)
+      agrees_step ps (word_parts o words (Some x)) (calm h b false) (asks x (rows_of ps rows) false) word words rows turn.0 turn.1 (asked x (rows_of ps rows) turn.2)
 
   -- the word `--`
   calm_end : (words : List Text) (h : Held) (b : Bool) (rows : List Row) → Holds c h rows
@@ -123,24 +123,24 @@ module _ (o : Options) (c : List Rule) (fits : Fits o c) (sound : Sound o) where
   calm_word : (word : Text) (words : List Text) → IsUtf8 word → Calmly words → Asked words → Calmly (word ∷ words)
   calm_word word words u calmly asked h b rows holds = go (is_word word (codes "--")) refl
     where
-      go : (t : Bool) → is_word word (codes "--") ≡ t → Agrees o (parts_of o (word ∷ words) None) (total c (calm h b false) (word ∷ words)) (final c (calm h b false) (word ∷ words)) rows
+      go : (t : Bool) → is_word word (codes "--") ≡ t → Agrees o (word_parts o (word ∷ words) None) (total c (calm h b false) (word ∷ words)) (final c (calm h b false) (word ∷ words)) rows
       go true e = rw e (subst (λ w. Agrees o (Some (map Plain words)) (total c (calm h b false) (w ∷ words)) (final c (calm h b false) (w ∷ words)) rows)
           (sym ((bytes_eq-Decides word (codes "--")).0 e)) (calm_end words h b rows holds))
       go false e = rw e (calm_step word words h b rows calmly asked (reading_of o word) (turn_is o c fits sound word u e h b rows holds))
 
   -- the word after a letter that waits for its value
   asked_value : (word : Text) (words : List Text) (x : ℕ) (rows : List Row) → has_letter o.valued x ≡ true → Calmly words → bytes_eq word (45 ∷ 45 ∷ []) ≡ false → long_word_of word ≡ None → short_of word ≡ None
-      → Agrees o (option_map (λ more. Value x word ∷ more) (parts_of o words None)) (total c (asks x rows false) (word ∷ words)) (final c (asks x rows false) (word ∷ words)) rows
+      → Agrees o (option_map (λ more. Value x word ∷ more) (word_parts o words None)) (total c (asks x rows false) (word ∷ words)) (final c (asks x rows false) (word ∷ words)) rows
   asked_value word words x rows valued calmly e l s =
       let turn = value_turn o c fits sound x rows word valued e l s in
-      agrees_step (Value x word ∷ []) (parts_of o words None) (asks x rows false) (calm (whole (value_id x) word rows) false false) word words rows turn.0 turn.1
+      agrees_step (Value x word ∷ []) (word_parts o words None) (asks x rows false) (calm (whole (value_id x) word rows) false false) word words rows turn.0 turn.1
       (calmly (whole (value_id x) word rows) false (rows_of (Value x word ∷ []) rows) (value_holds o c fits sound x word rows valued))
 
   asked_hyphen : (words : List Text) (x : ℕ) (rows : List Row) → has_letter o.valued x ≡ true → Calmly words
       → Agrees o None (total c (asks x rows false) ((45 ∷ []) ∷ words)) (final c (asks x rows false) ((45 ∷ []) ∷ words)) rows
   asked_hyphen words x rows valued calmly =
       let turn = value_turn o c fits sound x rows (45 ∷ []) valued refl refl refl in
-      agrees_hyphen o x (parts_of o words None) _ _ rows valued
+      agrees_hyphen o x (word_parts o words None) _ _ rows valued
       (rw (step_total (asks x rows false) (calm (whole (value_id x) (45 ∷ []) rows) false false) (45 ∷ []) words turn.0 turn.1, step_final (asks x rows false) (calm (whole (value_id x) (45 ∷ []) rows) false false) (45 ∷ []) words turn.1)
       (calmly (whole (value_id x) (45 ∷ []) rows) false (rows_of (Value x (45 ∷ []) ∷ []) rows) (value_holds o c fits sound x (45 ∷ []) rows valued)))
 
@@ -170,5 +170,5 @@ module _ (o : Options) (c : List Rule) (fits : Fits o c) (sound : Sound o) where
       let later = both_ways words u.1 in
       (calm_word word words u.0 later.0 later.1, asked_word word words u.0 later.0)
 
-  pub words_agree : (words : List Text) → AllUtf8 words → Agrees o (parts_of o words None) (total c (calm (ready []) false false) words) (final c (calm (ready []) false false) words) []
+  pub words_agree : (words : List Text) → AllUtf8 words → Agrees o (word_parts o words None) (total c (calm (ready []) false false) words) (final c (calm (ready []) false false) words) []
   words_agree words u = (both_ways words u).0 (ready []) false [] (record { whole = refl; rows_are = refl })

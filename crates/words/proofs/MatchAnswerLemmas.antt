@@ -6,14 +6,14 @@ use Rattle.std.proofs.lemmas.Slice.Eq.{bytes_eq-Decides}
 use Rattle.clap.specs.Matches.{found_of}
 use Rattle.clap.specs.Walk.{Text, rows_of}
 use Rattle.clap.specs.declared.parser.matches.ArgMatches.{ArgMatches}
-use Rattle.words.specs.Grammar.{Options, Part, has_flag, has_letter, parts_of, plain_of, values_of}
+use Rattle.words.specs.Grammar.{Options, Part, has_flag, has_letter, word_parts, plain_of, values_of}
 use Rattle.words.specs.Commands.{GivesHyphen, Says, SaysParts, flag_id, has_hyphen, is_counted, texts_at, value_id}
 use Rattle.words.specs.Words.{Command, Lcp, answer, at_most_one, check_of, check_options, check_settings, convert_of, convert_options, convert_settings, enummixed_of, enummixed_options, enummixed_settings, enumpure_of, enumpure_options, enumpure_settings, is_one_or_none, layout_of, lcp_of, lcp_options, lcp_settings, lp_of, lp_options, lp_settings, make_of, make_options, make_settings, number_from, number_or, player_from}
 
 -- what the matches come to is the answer, where a value `-` is refused
-told_answer : (o : Options) (settings : List Part → Option Command) (words : List Text) (m : ArgMatches) → SaysParts o (parts_of o words None) m
+told_answer : (o : Options) (settings : List Part → Option Command) (words : List Text) (m : ArgMatches) → SaysParts o (word_parts o words None) m
     → ((ps : List Part) → GivesHyphen o ps → settings ps ≡ None) → (given : Option Command) → ((ps : List Part) → Says m ps → given ≡ settings ps) → given ≡ answer o settings words
-told_answer o settings words m tells refuses given same = go (parts_of o words None) tells
+told_answer o settings words m tells refuses given same = go (word_parts o words None) tells
   where
     go : (g : Option (List Part)) → SaysParts o g m → given ≡ option_and_then settings g
     go (Some ps) says = same ps says
@@ -57,7 +57,7 @@ none_after f (Some x) e = e x
 no_value : (o : Options) (settings : List Part → Option Command) → o.valued ≡ [] → (ps : List Part) → GivesHyphen o ps → settings ps ≡ None
 no_value o settings none ps h = let bad : has_letter [] h.0 ≡ true = subst (λ ls. has_letter ls h.0 ≡ true) none h.1 in absurd (true≢false (sym bad))
 
-pub enumpure_told : (words : List Text) (m : ArgMatches) (strategic : Bool) (plain : List Text) → SaysParts enumpure_options (parts_of enumpure_options words None) m
+pub enumpure_told : (words : List Text) (m : ArgMatches) (strategic : Bool) (plain : List Text) → SaysParts enumpure_options (word_parts enumpure_options words None) m
     → strategic ≡ is_counted (flag_id 83) (rows_of (found_of m)) → plain ≡ texts_at (codes "words") (rows_of (found_of m)) → enumpure_settings strategic plain ≡ answer enumpure_options enumpure_of words
 enumpure_told words m strategic plain tells s w = told_answer enumpure_options enumpure_of words m tells (no_value enumpure_options enumpure_of refl) (enumpure_settings strategic plain)
     (λ ps says i. enumpure_settings ((s ∙ says.flags 83) i) ((w ∙ says.plain) i))
@@ -66,7 +66,7 @@ enummixed_refuses : (ps : List Part) → GivesHyphen enummixed_options ps → en
 enummixed_refuses ps h = let at_j : has_hyphen (values_of 106 ps) ≡ true = subst (λ x. has_hyphen (values_of x ps) ≡ true) (sym (only 106 h.0 h.1)) h.2 in
     rw (hyphen_number 1 1 64 (values_of 106 ps) at_j) refl
 
-pub enummixed_told : (words : List Text) (m : ArgMatches) (all : Bool) (workers plain : List Text) → SaysParts enummixed_options (parts_of enummixed_options words None) m
+pub enummixed_told : (words : List Text) (m : ArgMatches) (all : Bool) (workers plain : List Text) → SaysParts enummixed_options (word_parts enummixed_options words None) m
     → all ≡ is_counted (flag_id 68) (rows_of (found_of m)) → workers ≡ texts_at (value_id 106) (rows_of (found_of m))
     → plain ≡ texts_at (codes "words") (rows_of (found_of m)) → enummixed_settings all workers plain ≡ answer enummixed_options enummixed_of words
 enummixed_told words m all workers plain tells d j w = told_answer enummixed_options enummixed_of words m tells enummixed_refuses (enummixed_settings all workers plain)
@@ -77,13 +77,13 @@ lcp_refuses ps h = let at_e : has_hyphen (values_of 101 ps) ≡ true = subst (λ
     hyphen_alone (λ e. if is_one_or_none e then option_map (Lcp (has_flag 83 ps)) (at_most_one (plain_of ps)) else None)
     (values_of 101 ps) at_e refl
 
-pub lcp_told : (words : List Text) (m : ArgMatches) (strategic : Bool) (equilibria plain : List Text) → SaysParts lcp_options (parts_of lcp_options words None) m
+pub lcp_told : (words : List Text) (m : ArgMatches) (strategic : Bool) (equilibria plain : List Text) → SaysParts lcp_options (word_parts lcp_options words None) m
     → strategic ≡ is_counted (flag_id 83) (rows_of (found_of m)) → equilibria ≡ texts_at (value_id 101) (rows_of (found_of m))
     → plain ≡ texts_at (codes "words") (rows_of (found_of m)) → lcp_settings strategic equilibria plain ≡ answer lcp_options lcp_of words
 lcp_told words m strategic equilibria plain tells s e w = told_answer lcp_options lcp_of words m tells lcp_refuses (lcp_settings strategic equilibria plain)
     (λ ps says i. lcp_settings ((s ∙ says.flags 83) i) ((e ∙ says.values 101) i) ((w ∙ says.plain) i))
 
-pub lp_told : (words : List Text) (m : ArgMatches) (strategic prices : Bool) (plain : List Text) → SaysParts lp_options (parts_of lp_options words None) m
+pub lp_told : (words : List Text) (m : ArgMatches) (strategic prices : Bool) (plain : List Text) → SaysParts lp_options (word_parts lp_options words None) m
     → strategic ≡ is_counted (flag_id 83) (rows_of (found_of m)) → prices ≡ is_counted (codes "prices") (rows_of (found_of m))
     → plain ≡ texts_at (codes "words") (rows_of (found_of m)) → lp_settings strategic prices plain ≡ answer lp_options lp_of words
 lp_told words m strategic prices plain tells s r w = told_answer lp_options lp_of words m tells (no_value lp_options lp_of refl) (lp_settings strategic prices plain)
@@ -106,13 +106,13 @@ convert_refuses ps h = first (first_or_rest 79 (codes "rc") h.0 h.1)
     first (inl e) = rw (hyphen_alone layout_of (values_of 79 ps) (at 79 e) refl) refl
     first (inr e) = second (first_or_rest 114 (codes "c") h.0 e)
 
-pub convert_told : (words : List Text) (m : ArgMatches) (layouts rows columns plain : List Text) → SaysParts convert_options (parts_of convert_options words None) m
+pub convert_told : (words : List Text) (m : ArgMatches) (layouts rows columns plain : List Text) → SaysParts convert_options (word_parts convert_options words None) m
     → layouts ≡ texts_at (value_id 79) (rows_of (found_of m)) → rows ≡ texts_at (value_id 114) (rows_of (found_of m)) → columns ≡ texts_at (value_id 99) (rows_of (found_of m))
     → plain ≡ texts_at (codes "words") (rows_of (found_of m)) → convert_settings layouts rows columns plain ≡ answer convert_options convert_of words
 convert_told words m layouts rows columns plain tells l r c w = told_answer convert_options convert_of words m tells convert_refuses (convert_settings layouts rows columns plain)
     (λ ps says i. convert_settings ((l ∙ says.values 79) i) ((r ∙ says.values 114) i) ((c ∙ says.values 99) i) ((w ∙ says.plain) i))
 
-pub check_told : (words : List Text) (m : ArgMatches) (strategic : Bool) (plain : List Text) → SaysParts check_options (parts_of check_options words None) m
+pub check_told : (words : List Text) (m : ArgMatches) (strategic : Bool) (plain : List Text) → SaysParts check_options (word_parts check_options words None) m
     → strategic ≡ is_counted (flag_id 83) (rows_of (found_of m)) → plain ≡ texts_at (codes "words") (rows_of (found_of m)) → check_settings strategic plain ≡ answer check_options check_of words
 check_told words m strategic plain tells s w = told_answer check_options check_of words m tells (no_value check_options check_of refl) (check_settings strategic plain)
     (λ ps says i. check_settings ((s ∙ says.flags 83) i) ((w ∙ says.plain) i))
@@ -121,7 +121,7 @@ make_refuses : (ps : List Part) → GivesHyphen make_options ps → make_of ps �
 make_refuses ps h = let at_j : has_hyphen (values_of 106 ps) ≡ true = subst (λ x. has_hyphen (values_of x ps) ≡ true) (sym (only 106 h.0 h.1)) h.2 in
     rw (hyphen_number 1 1 64 (values_of 106 ps) at_j) refl
 
-pub make_told : (words : List Text) (m : ArgMatches) (workers plain : List Text) → SaysParts make_options (parts_of make_options words None) m
+pub make_told : (words : List Text) (m : ArgMatches) (workers plain : List Text) → SaysParts make_options (word_parts make_options words None) m
     → workers ≡ texts_at (value_id 106) (rows_of (found_of m)) → plain ≡ texts_at (codes "words") (rows_of (found_of m)) → make_settings workers plain ≡ answer make_options make_of words
 make_told words m workers plain tells j w = told_answer make_options make_of words m tells make_refuses (make_settings workers plain)
     (λ ps says i. make_settings ((j ∙ says.values 106) i) ((w ∙ says.plain) i))

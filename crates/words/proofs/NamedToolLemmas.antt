@@ -2,8 +2,8 @@
 use Rattle.std.proofs.Common.{◌≡◌, ◌∙◌, ap, sym, subst, refl, ℕ, Bool, true, false, if◌then◌else◌, List, [], ◌∷◌, Option, Some, None, Result, Ok, Err, codes, IfOk}
 use Rattle.std.specs.Prelude.{option_and_then, option_map}
 use Rattle.std.proofs.lemmas.Slice.Eq.{bytes_eq-Decides}
-use Rattle.words.specs.Grammar.{has_flag, has_prices, is_word, parts_of, plain_of, values_of}
-use Rattle.words.specs.Words.{Command, Enumpure, Enummixed, Lcp, Lp, Convert, Check, Make, answer, command_from, at_most_one, check_of, check_options, check_settings, convert_of, convert_options, enummixed_of, enummixed_options, enumpure_of, enumpure_options, is_one_or_none, layout_of, lcp_of, lcp_options, lp_of, lp_options, make_of, make_options, number_of, player_from, table_settings, understood, workers_from}
+use Rattle.words.specs.Grammar.{has_flag, has_prices, is_word, word_parts, plain_of, values_of}
+use Rattle.words.specs.Words.{Command, Enumpure, Enummixed, Lcp, Lp, Convert, Check, Make, answer, command_from, at_most_one, check_of, check_options, check_settings, convert_of, convert_options, enummixed_of, enummixed_options, enumpure_of, enumpure_options, is_one_or_none, layout_of, lcp_of, lcp_options, lp_of, lp_options, make_of, make_options, number_in_range, player_from, table_settings, understood, workers_from}
 use Rattle.words.specs.declared.Usage.{Usage}
 
 -- the name of a command's tool
@@ -35,37 +35,37 @@ if_named name false o is = tt
 
 -- ---- the tools
 enumpure_named : (words : List (List ℕ)) → Named (codes "enumpure") (answer enumpure_options enumpure_of words)
-enumpure_named words = then_named _ enumpure_of (λ ps. map_named _ (Enumpure (has_flag 83 ps)) (λ file. refl) (at_most_one (plain_of ps))) (parts_of enumpure_options words None)
+enumpure_named words = then_named _ enumpure_of (λ ps. map_named _ (Enumpure (has_flag 83 ps)) (λ file. refl) (at_most_one (plain_of ps))) (word_parts enumpure_options words None)
 
 enummixed_named : (words : List (List ℕ)) → Named (codes "enummixed") (answer enummixed_options enummixed_of words)
 enummixed_named words = then_named _ enummixed_of (λ ps. then_named _ (λ n. option_map (Enummixed (has_flag 68 ps) n) (at_most_one (plain_of ps)))
-    (λ n. map_named _ (Enummixed (has_flag 68 ps) n) (λ file. refl) (at_most_one (plain_of ps))) (workers_from (values_of 106 ps))) (parts_of enummixed_options words None)
+    (λ n. map_named _ (Enummixed (has_flag 68 ps) n) (λ file. refl) (at_most_one (plain_of ps))) (workers_from (values_of 106 ps))) (word_parts enummixed_options words None)
 
 lcp_named : (words : List (List ℕ)) → Named (codes "lcp") (answer lcp_options lcp_of words)
 lcp_named words = then_named _ lcp_of (λ ps. then_named _ (λ e. if is_one_or_none e then option_map (Lcp (has_flag 83 ps)) (at_most_one (plain_of ps)) else None)
-    (λ e. if_named _ (is_one_or_none e) _ (map_named _ (Lcp (has_flag 83 ps)) (λ file. refl) (at_most_one (plain_of ps)))) (at_most_one (values_of 101 ps))) (parts_of lcp_options words None)
+    (λ e. if_named _ (is_one_or_none e) _ (map_named _ (Lcp (has_flag 83 ps)) (λ file. refl) (at_most_one (plain_of ps)))) (at_most_one (values_of 101 ps))) (word_parts lcp_options words None)
 
 lp_named : (words : List (List ℕ)) → Named (codes "lp") (answer lp_options lp_of words)
-lp_named words = then_named _ lp_of (λ ps. map_named _ (Lp (has_flag 83 ps) (has_prices ps)) (λ file. refl) (at_most_one (plain_of ps))) (parts_of lp_options words None)
+lp_named words = then_named _ lp_of (λ ps. map_named _ (Lp (has_flag 83 ps) (has_prices ps)) (λ file. refl) (at_most_one (plain_of ps))) (word_parts lp_options words None)
 
 convert_named : (words : List (List ℕ)) → Named (codes "convert") (answer convert_options convert_of words)
 convert_named words = then_named _ convert_of (λ ps. then_named _ _ (λ html. then_named _ _ (λ row. then_named _ _ (λ column.
     map_named _ (Convert html row column) (λ file. refl) (at_most_one (plain_of ps))) (player_from 2 (values_of 99 ps))) (player_from 1 (values_of 114 ps)))
-    (option_and_then layout_of (at_most_one (values_of 79 ps)))) (parts_of convert_options words None)
+    (option_and_then layout_of (at_most_one (values_of 79 ps)))) (word_parts convert_options words None)
 
 game_named : (strategic : Bool) (plain : List (List ℕ)) → Named (codes "check") (check_settings strategic plain)
 game_named strategic [] = tt
 game_named strategic (game ∷ plain) = map_named _ (Check strategic game) (λ lines. refl) (at_most_one plain)
 
 check_named : (words : List (List ℕ)) → Named (codes "check") (answer check_options check_of words)
-check_named words = then_named _ check_of (λ ps. game_named (has_flag 83 ps) (plain_of ps)) (parts_of check_options words None)
+check_named words = then_named _ check_of (λ ps. game_named (has_flag 83 ps) (plain_of ps)) (word_parts check_options words None)
 
 table_named : (workers : ℕ) (plain : List (List ℕ)) → Named (codes "make") (table_settings workers plain)
-table_named workers (number ∷ rows ∷ columns ∷ []) = then_named _ _ (λ n. then_named _ _ (λ r. map_named _ (λ c. Make n r c workers) (λ c. refl) (number_of 1 32 columns)) (number_of 1 32 rows)) (number_of 0 2147483647 number)
+table_named workers (number ∷ rows ∷ columns ∷ []) = then_named _ _ (λ n. then_named _ _ (λ r. map_named _ (λ c. Make n r c workers) (λ c. refl) (number_in_range 1 32 columns)) (number_in_range 1 32 rows)) (number_in_range 0 2147483647 number)
 table_named workers _ = tt
 
 make_named : (words : List (List ℕ)) → Named (codes "make") (answer make_options make_of words)
-make_named words = then_named _ make_of (λ ps. then_named _ (λ n. table_settings n (plain_of ps)) (λ n. table_named n (plain_of ps)) (workers_from (values_of 106 ps))) (parts_of make_options words None)
+make_named words = then_named _ make_of (λ ps. then_named _ (λ n. table_settings n (plain_of ps)) (λ n. table_named n (plain_of ps)) (workers_from (values_of 106 ps))) (word_parts make_options words None)
 
 -- ---- the whole line
 -- the first word names the tool of the line's command

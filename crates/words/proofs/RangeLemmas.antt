@@ -6,12 +6,12 @@ use Rattle.std.specs.Str.Parse.{digits_value}
 use Rattle.std.proofs.lemmas.Bool.{and_parts}
 use Rattle.std.proofs.lemmas.Option.{option_and_then_some}
 use Rattle.lists.proofs.OptionLemmas.{mapped_some}
-use Rattle.words.specs.Grammar.{parts_of, plain_of, values_of, has_flag}
-use Rattle.words.specs.Words.{Command, Enummixed, Make, answer, at_most_one, command_from, enummixed_of, enummixed_options, enummixed_settings, make_of, make_options, number_of, number_or, table_settings, understood, workers_from, IsFrom, IsWithinRanges}
+use Rattle.words.specs.Grammar.{word_parts, plain_of, values_of, has_flag}
+use Rattle.words.specs.Words.{Command, Enummixed, Make, answer, at_most_one, command_from, enummixed_of, enummixed_options, enummixed_settings, make_of, make_options, number_in_range, number_or, table_settings, understood, workers_from, IsFrom, IsWithinRanges}
 use Rattle.words.proofs.NamedToolLemmas.{NamedFirst, any_named}
 use Rattle.words.proofs.NumberLemmas.{passes}
 
-number_range : (least most : ℕ) (text : List ℕ) (n : ℕ) → number_of least most text ≡ Some n → IsFrom least most n
+number_range : (least most : ℕ) (text : List ℕ) (n : ℕ) → number_in_range least most text ≡ Some n → IsFrom least most n
 number_range least most text n e = go (passes least most text) refl e
   where
     go : (b : Bool) → passes least most text ≡ b → (if b then Some (digits_value 10 text) else None) ≡ Some n → IsFrom least most n
@@ -35,9 +35,9 @@ worker_count texts n e = option_and_then_some (number_or 1 1 64) (at_most_one te
 
 table_ranges : (workers : ℕ) (plain : List (List ℕ)) (command : Command) → IsFrom 1 64 workers → table_settings workers plain ≡ Some command → IsWithinRanges command
 table_ranges workers (number ∷ rows ∷ columns ∷ []) command w e =
-    option_and_then_some (λ n. option_and_then (λ r. option_map (λ c. Make n r c workers) (number_of 1 32 columns)) (number_of 1 32 rows)) (number_of 0 2147483647 number) command e
-    (λ n _ f. option_and_then_some (λ r. option_map (λ c. Make n r c workers) (number_of 1 32 columns)) (number_of 1 32 rows) command f
-    (λ r is g. (let h = mapped_some (λ c. Make n r c workers) (number_of 1 32 columns) command g in
+    option_and_then_some (λ n. option_and_then (λ r. option_map (λ c. Make n r c workers) (number_in_range 1 32 columns)) (number_in_range 1 32 rows)) (number_in_range 0 2147483647 number) command e
+    (λ n _ f. option_and_then_some (λ r. option_map (λ c. Make n r c workers) (number_in_range 1 32 columns)) (number_in_range 1 32 rows) command f
+    (λ r is g. (let h = mapped_some (λ c. Make n r c workers) (number_in_range 1 32 columns) command g in
     subst IsWithinRanges h.2 (number_range 1 32 rows r is, number_range 1 32 columns h.0 h.1, w))))
 table_ranges workers _ command w e = absurd cc
 
@@ -48,7 +48,7 @@ make_ranges words command e = go (answer make_options make_of words) refl e
     go None is e = absurd cc
     go (Some other) is e =
         let same : other ≡ command = cc in
-        option_and_then_some make_of (parts_of make_options words None) other is (λ ps _ f.
+        option_and_then_some make_of (word_parts make_options words None) other is (λ ps _ f.
         option_and_then_some (λ n. table_settings n (plain_of ps)) (workers_from (values_of 106 ps)) other f (λ n w g.
         subst IsWithinRanges same (table_ranges n (plain_of ps) other (worker_count (values_of 106 ps) n w) g)))
 
@@ -59,7 +59,7 @@ enummixed_ranges words command e = go (answer enummixed_options enummixed_of wor
     go None is e = absurd cc
     go (Some other) is e =
         let same : other ≡ command = cc in
-        option_and_then_some enummixed_of (parts_of enummixed_options words None) other is (λ ps _ f.
+        option_and_then_some enummixed_of (word_parts enummixed_options words None) other is (λ ps _ f.
         let flag : Bool = has_flag 68 ps in
         option_and_then_some (λ n. option_map (Enummixed flag n) (at_most_one (plain_of ps))) (workers_from (values_of 106 ps)) other f (λ n w g.
         let h = mapped_some (Enummixed flag n) (at_most_one (plain_of ps)) other g in

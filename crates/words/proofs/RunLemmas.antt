@@ -12,7 +12,7 @@ use Rattle.clap.specs.Walk.{Held, Outcome, Row, Rule, Text, attached_value, bund
 use Rattle.clap.specs.Kinds.{Kinds}
 use Rattle.clap.specs.Faults.{bundle_step_fault, flags_fault, react_fault, settle_fault, short_fault, use_fault}
 use Rattle.clap.specs.declared.builder.value_parser.ValueParser.TheVariants as vp
-use Rattle.words.specs.Grammar.{Options, Part, Flag, Value, Prices, Plain, Reading, refused, gives, wants, flag_then, has_letter, run_of, value_of}
+use Rattle.words.specs.Grammar.{Options, Part, Flag, Value, Prices, Plain, Reading, refused, gives, wants, flag_then, has_letter, run_of, value_reading}
 use Rattle.words.specs.Commands.{value_id}
 use Rattle.words.proofs.RuleLemmas.{Fits, flag, letter_rule, plain, prices, value}
 
@@ -129,7 +129,7 @@ react_passes c a values h rows holds passes = rw (holds.whole) (passes (settled 
 module _ (o : Options) (c : List Rule) (fits : Fits o c) (sound : Sound o) where
   -- a letter that takes a value
   value_runs : (x : ℕ) (rest : List ℕ) (h : Held) (rows : List Row) (next : Held → Kinds) (later : Held → Held × Outcome) → Holds c h rows → has_letter o.valued x ≡ true
-      → RunsTo o c (value_of x rest) (short_fault c false (Some (value x)) rest h next) (short_met c (Some (value x)) rest h later) rows
+      → RunsTo o c (value_reading x rest) (short_fault c false (Some (value x)) rest h next) (short_met c (Some (value x)) rest h later) rows
   value_runs x [] h rows next later holds valued = (holds.whole, ap (λ (g : Held). (record g { pending = Some (value_id x, []) }, waits (value_id x))) holds.rows_are, valued)
   value_runs x (b ∷ rest) h rows next later holds valued =
       let text = if b == 61 then rest else b ∷ rest in

@@ -9,7 +9,7 @@ use Rattle.words.specs.declared.SettingsStop.{SettingsStop}
 use Rattle.words.specs.declared.SettingsStop.TheVariants as stops
 use Rattle.words.specs.declared.Usage.{Usage}
 use Rattle.words.specs.declared.Usage.TheVariants.{NoTool, UnknownTool, Words}
-use Rattle.words.specs.Grammar.{Options, Part, has_flag, has_prices, is_word, parts_of, plain_of, values_of}
+use Rattle.words.specs.Grammar.{Options, Part, has_flag, has_prices, is_word, word_parts, plain_of, values_of}
 
 -- A tool and how it works; a file that is None is standard input. Where `all` is true, `enummixed` looks
 -- through all strategies, and else without the strictly dominated ones.
@@ -30,15 +30,15 @@ at_most_one (text ∷ []) = Some (Some text)
 at_most_one (text ∷ other ∷ texts) = None
 
 -- a number of one to ten digits, in its range
-abbrev pub number_of : (least most : ℕ) → List ℕ → Option ℕ
-number_of least most text =
+abbrev pub number_in_range : (least most : ℕ) → List ℕ → Option ℕ
+number_in_range least most text =
     if all_ascii_digits text && (nat_lt 0 (length text) && (nat_le (length text) 10
     && (nat_le least (digits_value 10 text) && nat_le (digits_value 10 text) most)))
     then Some (digits_value 10 text) else None
 
 abbrev pub number_or : ℕ → (least most : ℕ) → Option (List ℕ) → Option ℕ
 number_or default least most None = Some default
-number_or default least most (Some text) = number_of least most text
+number_or default least most (Some text) = number_in_range least most text
 
 -- the number that an option gives, or its default
 abbrev pub number_from : ℕ → (least most : ℕ) → List (List ℕ) → Option ℕ
@@ -131,7 +131,7 @@ make_options = record { flags = codes "q"; valued = codes "j"; prices = false }
 
 abbrev pub table_settings : (workers : ℕ) → List (List ℕ) → Option Command
 table_settings workers (number ∷ rows ∷ columns ∷ []) = option_and_then (λ n. option_and_then (λ r. option_map (λ c. Make n r c workers)
-    (number_of 1 32 columns)) (number_of 1 32 rows)) (number_of 0 2147483647 number)
+    (number_in_range 1 32 columns)) (number_in_range 1 32 rows)) (number_in_range 0 2147483647 number)
 table_settings workers plain = None
 
 abbrev pub make_settings : (workers plain : List (List ℕ)) → Option Command
@@ -144,7 +144,7 @@ make_of parts = make_settings (values_of (letter "j") parts) (plain_of parts)
 
 -- the words after the tool's
 abbrev pub answer : Options → (List Part → Option Command) → List (List ℕ) → Option Command
-answer options settings words = option_and_then settings (parts_of options words None)
+answer options settings words = option_and_then settings (word_parts options words None)
 
 abbrev pub understood : Option Command → Result Command Usage
 understood (Some command) = Ok command

@@ -6,7 +6,7 @@ ghost use Rattle.clap.specs.Simple.{app_of, with_rule};
 ghost use Rattle.clap.specs.Walk.{rows_of};
 ghost use Rattle.words.specs.Commands.{app_with, bare, is_ascii, flag_id, flag_rule, value_id, value_rule};
 ghost use Rattle.words.specs.Commands.{plain_rule, prices_rule, collected, is_counted, texts_at, SaysParts};
-ghost use Rattle.words.specs.Grammar.{parts_of, Options};
+ghost use Rattle.words.specs.Grammar.{word_parts, Options};
 ghost use Rattle.words.specs.Words.{enumpure_options, enummixed_options, lcp_options, lp_options};
 ghost use Rattle.words.specs.Words.{convert_options, check_options, make_options, IsRefused};
 
@@ -145,9 +145,9 @@ pub(crate) fn read_words<'a>(
     words: &'a [String],
 ) -> Result<ArgMatches<'a>, SettingsStop>
     ensures told { (o : Options) → app_of command.entry ≡ app_with o → is_ascii o ≡ true
-        → IfOk result (SaysParts o (parts_of o (map string_bytes words.now) None)) }
+        → IfOk result (SaysParts o (word_parts o (map string_bytes words.now) None)) }
     ensures stop { (o : Options) → app_of command.entry ≡ app_with o → is_ascii o ≡ true
-        → IfErr result (IsRefused (parts_of o (map string_bytes words.now) None)) }
+        → IfErr result (IsRefused (word_parts o (map string_bytes words.now) None)) }
 {
     match command.try_get_matches_from(words) {
         Ok(matches) => Ok(matches),

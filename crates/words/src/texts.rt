@@ -2,7 +2,7 @@
 
 ghost use Rattle.std.specs.Prelude.{◌≡◌, Some, option_map, string_bytes, IfOk, IfErr};
 ghost use Rattle.words.specs.Commands.{collected};
-ghost use Rattle.words.specs.Words.{at_most_one, is_one_or_none, layout_of, number_from, number_of, IsRefused};
+ghost use Rattle.words.specs.Words.{at_most_one, is_one_or_none, layout_of, number_from, number_in_range, IsRefused};
 
 use crate::{SettingsStop, Usage};
 use std::alloc::Global;
@@ -46,8 +46,8 @@ pub(crate) fn file_from(
 }
 
 /// A number of one to ten digits, in its range.
-pub(crate) fn number_of(text: &str, least: u32, most: u32) -> Option<u32>
-    ensures { result ≡ number_of least most text.now }
+pub(crate) fn number_in_range(text: &str, least: u32, most: u32) -> Option<u32>
+    ensures { result ≡ number_in_range least most text.now }
 {
     if text.starts_with('+') || text.len() > 10 {
         return None;
@@ -73,7 +73,7 @@ pub(crate) fn number_from(
     let Some(text) = at_most_one(texts)? else {
         return Ok(default);
     };
-    match number_of(text, least, most) {
+    match number_in_range(text, least, most) {
         Some(number) => Ok(number),
         None => Err(SettingsStop::Usage(Usage::Words)),
     }

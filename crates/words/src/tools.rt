@@ -12,7 +12,9 @@ ghost use Rattle.words.specs.Words.{check_of, check_options, check_settings};
 ghost use Rattle.words.specs.Words.{make_of, make_options, make_settings};
 
 use crate::commands::{self, given, is_given, read_words};
-use crate::texts::{at_most_one, file_from, is_one_or_none, layout_of, number_from, number_of};
+use crate::texts::{
+    at_most_one, file_from, is_one_or_none, layout_of, number_from, number_in_range,
+};
 use crate::{Settings, SettingsStop, Usage};
 use std::alloc::Global;
 
@@ -204,13 +206,13 @@ fn make(workers: Option<&[&str]>, plain: Option<&[&str]>) -> Result<Settings, Se
     let Some([number, rows, columns]) = plain else {
         return Err(SettingsStop::Usage(Usage::Words));
     };
-    let Some(number) = number_of(number, 0, 2147483647) else {
+    let Some(number) = number_in_range(number, 0, 2147483647) else {
         return Err(SettingsStop::Usage(Usage::Words));
     };
-    let Some(rows) = number_of(rows, 1, 32) else {
+    let Some(rows) = number_in_range(rows, 1, 32) else {
         return Err(SettingsStop::Usage(Usage::Words));
     };
-    let Some(columns) = number_of(columns, 1, 32) else {
+    let Some(columns) = number_in_range(columns, 1, 32) else {
         return Err(SettingsStop::Usage(Usage::Words));
     };
     Ok(Settings::Make {

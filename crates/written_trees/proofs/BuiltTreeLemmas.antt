@@ -8,7 +8,7 @@ use Rattle.written_trees.proofs.NumberedKeyLemmas.{sets_of, outcomes_of}
 use Rattle.lists.proofs.OptionLemmas.{bind_some, chosen, mapped_some}
 use Rattle.game_core.specs.declared.tree.Action.{Action}
 use Rattle.game_core.specs.declared.tree.Node.{Node}
-use Rattle.game_core.specs.Tree.{GameTree, InformationSet, IsWithin, ProbabilitiesFit, NodeFits, SetFits, IsPartialTree}
+use Rattle.game_core.specs.Tree.{GameTree, InformationSet, IsBelow, ProbabilitiesFit, NodeFits, SetFits, IsPartialTree}
 use Rattle.written_trees.specs.Written.{SetUse, OutcomeUse, WrittenNode}
 use Rattle.written_trees.specs.Described.{SetKey, key_of, same_set, set_uses, outcome_uses, uses_of_set, uses_of_outcome, described_set, described_outcome, IsFirstList, AgreeOnActions}
 use Rattle.written_trees.specs.Building.{PartialSet, PartialOutcome, outcome_place, repeats_payoffs, new_outcome, used_outcome, with_outcome_use, use_outcome, use_some_outcome, open_branches, PartialTree, root_alone, add_nodes, finished_set, finished_outcome, tree_so_far}
@@ -114,7 +114,7 @@ probabilities_fit (Some i) actions f h = h
 
 -- a set of one of so many players or of chance, with actions
 pub record IsGoodSet (players : ℕ) (set : PartialSet) : Type 0 where
-  pub owner_within : IsWithin players set.owner
+  pub owner_within : IsBelow players set.owner
   pub some_action : 0 < length set.actions
   pub probabilities : ProbabilitiesFit set.owner set.actions
 

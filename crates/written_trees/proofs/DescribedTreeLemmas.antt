@@ -5,7 +5,7 @@ use Rattle.std.proofs.lemmas.List.{length-map}
 use Rattle.written_trees.proofs.NumberedKeyLemmas.{sets_of, outcomes_of, AreNumberedFor}
 use Rattle.lists.specs.Options.{◌>>=◌}
 use Rattle.game_core.specs.declared.tree.Node.{Node}
-use Rattle.game_core.specs.Tree.{OpenBranch, IsWithin, LiesBelowRoot, most_nodes, most_depth}
+use Rattle.game_core.specs.Tree.{OpenBranch, IsBelow, LiesBelowRoot, most_nodes, most_depth}
 use Rattle.written_trees.specs.Written.{WrittenNode}
 use Rattle.written_trees.specs.Described.{key_of, same_set, set_uses, outcome_uses, uses_of_set, uses_of_outcome, described_set, described_outcome}
 use Rattle.written_trees.specs.Building.{PartialSet, Branching, PartialTree, root_alone, open_branches, take_branch, add_nodes, finished_set, tree_so_far}
@@ -36,7 +36,7 @@ pub record IsDescribed (written : List WrittenNode) (nodes : List Node) (free : 
 
 -- the nodes name sets that are partial
 name_so_far : (written : List WrittenNode) (nodes : List Node) → Stand written nodes written → NameSets (length (sets_so_far (set_uses written))) nodes
-name_so_far written nodes h = rw length-map (stand_all written (IsUsedIn written) (λ node. IsWithin (length (sets_of (set_uses written))) node.set) (λ node one s u. rw s.set_is (set_within (set_uses written) one.set u.set_used)) nodes written h (all_used written))
+name_so_far written nodes h = rw length-map (stand_all written (IsUsedIn written) (λ node. IsBelow (length (sets_of (set_uses written))) node.set) (λ node one s u. rw s.set_is (set_within (set_uses written) one.set u.set_used)) nodes written h (all_used written))
 
 -- the nodes before the last, whose place they leave free
 pub record Before (written : List WrittenNode) (one : WrittenNode) (nodes : List Node) : Type 0 where

@@ -6,13 +6,13 @@ use Rattle.std.proofs.lemmas.Option.{slice_get_within}
 use Rattle.lists.proofs.ElementLemmas.{test_in_front}
 use Rattle.game_core.specs.declared.tree.Node.{Node}
 use Rattle.game_theory.specs.Behaviour.{is_index}
-use Rattle.game_core.specs.Tree.{IsWithin, members_from}
+use Rattle.game_core.specs.Tree.{IsBelow, members_from}
 use Rattle.written_trees.specs.Building.{PartialSet}
 use Rattle.written_trees.proofs.ListLemmas.{slice_get-push_cases, slice_get-set_cases}
 
 -- each node names one of so many sets, if it names one
 abbrev pub NameSets : ℕ → List Node → Type 0
-NameSets n nodes = All (λ node. IsWithin n node.set) nodes
+NameSets n nodes = All (λ node. IsBelow n node.set) nodes
 
 -- the last node comes last
 members_from-push : (k s : ℕ) (nodes : List Node) (node : Node) → members_from k s (nodes ++ node ∷ []) ≡ members_from k s nodes ++ (cond (is_index node.set s) ((k + length nodes) ∷ []) [])
@@ -32,7 +32,7 @@ is_index-other : (s p : ℕ) → (s ≡ p → ⊥) → is_index (Some p) s ≡ f
 is_index-other s p h = grind (arith, nat_tests)
 
 -- no node names a set past the end
-past : (s : ℕ) (number : Option ℕ) → IsWithin s number → is_index number s ≡ false
+past : (s : ℕ) (number : Option ℕ) → IsBelow s number → is_index number s ≡ false
 past s None h = refl
 past s (Some p) h = is_index-other s p (λ e. omega arith)
 
@@ -40,7 +40,7 @@ past s (Some p) h = is_index-other s p (λ e. omega arith)
 no_members : (k s : ℕ) (nodes : List Node) → NameSets s nodes → members_from k s nodes ≡ []
 no_members k s [] h = refl
 no_members k s (node ∷ nodes) h =
-    let P = λ (one : Node). IsWithin s one.set in
+    let P = λ (one : Node). IsBelow s one.set in
     rw (past s node.set (All-head P node nodes h)) (no_members (suc k) s nodes (All-tail P node nodes h))
 
 -- the sets have the nodes that name them, and some

@@ -5,7 +5,7 @@ use Rattle.std.proofs.lemmas.List.Elements.{All-weaker, All-push}
 use Rattle.std.proofs.lemmas.Option.{slice_get_within, same_Some}
 use Rattle.lists.proofs.OptionLemmas.{bind_some, chosen}
 use Rattle.game_core.specs.declared.tree.Node.{Node}
-use Rattle.game_core.specs.Tree.{IsWithin, action_count}
+use Rattle.game_core.specs.Tree.{IsBelow, action_count}
 use Rattle.written_trees.specs.Written.{SetUse}
 use Rattle.written_trees.specs.Described.{key_of}
 use Rattle.written_trees.specs.Building.{PartialSet, set_place, may_be_first, repeats_actions, new_set, used_set, with_use, use_set, use_some_set, partial_count, finished_set}
@@ -26,7 +26,7 @@ pub record GrowsTo (k : ℕ) (sets : List PartialSet) (number : Option ℕ) (oth
   pub more : List ℕ
   pub counts_are : counts others ≡ counts sets ++ more
   pub few : length others ≤ suc (length sets)
-  pub within : IsWithin (length others) number
+  pub within : IsBelow (length others) number
   pub have_members : (nodes : List Node) (node : Node) → length nodes ≡ k → node.set ≡ number → NameSets (length sets) nodes → HaveMembers nodes sets → HaveMembers (nodes ++ node ∷ []) others
 
 -- the node uses a new set
@@ -79,7 +79,7 @@ grows k sets others None e = rw (← same_Some _ _ e) (grows-none k sets)
 grows k sets others (Some used) e = grows-use k sets others used e
 
 -- a set keeps the number of its actions
-pub same_count : (k : ℕ) (sets others : List PartialSet) (number : Option ℕ) → GrowsTo k sets number others → (named : Option ℕ) → IsWithin (length sets) named → partial_count sets named ≡ partial_count others named
+pub same_count : (k : ℕ) (sets others : List PartialSet) (number : Option ℕ) → GrowsTo k sets number others → (named : Option ℕ) → IsBelow (length sets) named → partial_count sets named ≡ partial_count others named
 same_count k sets others number g None h = refl
 same_count k sets others number g (Some s) h =
     let inside : s < length (counts sets) = omega (arith, length-map sets (λ set. length set.actions)) in
@@ -98,12 +98,12 @@ no_fewer k sets others number g =
     omega (arith, length-map sets L, length-map others L)
 
 -- a number below one bound is below a greater one
-pub within_more : (m n : ℕ) (number : Option ℕ) → m ≤ n → IsWithin m number → IsWithin n number
+pub within_more : (m n : ℕ) (number : Option ℕ) → m ≤ n → IsBelow m number → IsBelow n number
 within_more m n None le h = tt
 within_more m n (Some i) le h = omega arith
 
 -- each node names a set, also the new one
 pub name_sets_more : (k : ℕ) (sets others : List PartialSet) (nodes : List Node) (node : Node) → GrowsTo k sets node.set others → NameSets (length sets) nodes → NameSets (length others) (nodes ++ node ∷ [])
 name_sets_more k sets others nodes node g h =
-    let P = λ (one : Node). IsWithin (length others) one.set in
-    All-push P nodes node (All-weaker (λ one. IsWithin (length sets) one.set) P (λ one. within_more (length sets) (length others) one.set (no_fewer k sets others node.set g)) nodes h) g.within
+    let P = λ (one : Node). IsBelow (length others) one.set in
+    All-push P nodes node (All-weaker (λ one. IsBelow (length sets) one.set) P (λ one. within_more (length sets) (length others) one.set (no_fewer k sets others node.set g)) nodes h) g.within

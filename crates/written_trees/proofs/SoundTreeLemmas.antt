@@ -4,7 +4,7 @@ use Rattle.std.specs.List.{AllByRecursion}
 use Rattle.std.proofs.lemmas.Bool.Decides.{nat_tests}
 use Rattle.std.proofs.lemmas.List.Elements.{All-nil, All-weaker}
 use Rattle.game_core.specs.declared.tree.Node.{Node}
-use Rattle.game_core.specs.Tree.{IsWithin, OpenBranch, action_count, AreInPrefixOrder, most_nodes}
+use Rattle.game_core.specs.Tree.{IsBelow, OpenBranch, action_count, AreInPrefixOrder, most_nodes}
 use Rattle.written_trees.specs.Written.{WrittenNode}
 use Rattle.written_trees.specs.Building.{PartialSet, Branching, PartialTree, root_alone, open_branches, take_branch, add_branches, partial_count, finished_set, add_nodes}
 use Rattle.written_trees.proofs.DepthLemmas.{HangsAt, AllLie, hangs_longer, lies_new, all_lie_more}
@@ -60,20 +60,20 @@ abbrev pub AreInOrder : List PartialSet → List Node → List OpenBranch → Ty
 AreInOrder sets nodes free = AreInPrefixOrder (map finished_set sets) 0 nodes root_branch free
 
 -- a node keeps its actions when another makes more of the sets
-same_actions : (k : ℕ) (sets others : List PartialSet) (number : Option ℕ) → GrowsTo k sets number others → (node : Node) → IsWithin (length sets) node.set → action_count (map finished_set sets) node.set ≡ action_count (map finished_set others) node.set
+same_actions : (k : ℕ) (sets others : List PartialSet) (number : Option ℕ) → GrowsTo k sets number others → (node : Node) → IsBelow (length sets) node.set → action_count (map finished_set sets) node.set ≡ action_count (map finished_set others) node.set
 same_actions k sets others number g node h = count_is sets node.set ∙ same_count k sets others number g node.set h ∙ sym (count_is others node.set)
 
 -- so they stay in order
 pub order_stays : (k : ℕ) (sets others : List PartialSet) (number : Option ℕ) (nodes : List Node) (free : List OpenBranch) → GrowsTo k sets number others → NameSets (length sets) nodes → AreInOrder sets nodes free → AreInOrder others nodes free
 order_stays k sets others number nodes free g within h =
     let P = λ (node : Node). action_count (map finished_set sets) node.set ≡ action_count (map finished_set others) node.set in
-    order_same (map finished_set sets) (map finished_set others) 0 nodes root_branch free (All-weaker (λ node. IsWithin (length sets) node.set) P (same_actions k sets others number g) nodes within) h
+    order_same (map finished_set sets) (map finished_set others) 0 nodes root_branch free (All-weaker (λ node. IsBelow (length sets) node.set) P (same_actions k sets others number g) nodes within) h
 
 -- and were in order before
 pub order_stayed : (k : ℕ) (sets others : List PartialSet) (number : Option ℕ) (nodes : List Node) (free : List OpenBranch) → GrowsTo k sets number others → NameSets (length sets) nodes → AreInOrder others nodes free → AreInOrder sets nodes free
 order_stayed k sets others number nodes free g within h =
     let P = λ (node : Node). action_count (map finished_set others) node.set ≡ action_count (map finished_set sets) node.set in
-    order_same (map finished_set others) (map finished_set sets) 0 nodes root_branch free (All-weaker (λ node. IsWithin (length sets) node.set) P (λ node w. sym (same_actions k sets others number g node w)) nodes within) h
+    order_same (map finished_set others) (map finished_set sets) 0 nodes root_branch free (All-weaker (λ node. IsBelow (length sets) node.set) P (λ node w. sym (same_actions k sets others number g node w)) nodes within) h
 
 -- the nodes with one more leave its actions' places free
 order_grows : (sets : List PartialSet) (nodes : List Node) (node : Node) (b : Branching) (rest : List Branching) → b.next < b.count → node.parent ≡ b.node → node.branch ≡ b.next → AreInOrder sets nodes (open_branches (b ∷ rest))
@@ -99,7 +99,7 @@ sound-nothing : IsSound root_alone
 sound-nothing = record {
   few_nodes = omega arith;
   few_sets = omega arith;
-  name_sets = All-nil (λ node. IsWithin 0 node.set);
+  name_sets = All-nil (λ node. IsBelow 0 node.set);
   have_members = λ s set e. absurd (cc);
   in_order = refl;
   are_branchings = (record { some_branch = omega arith; hangs = refl }, tt);

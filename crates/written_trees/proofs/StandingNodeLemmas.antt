@@ -6,7 +6,7 @@ use Rattle.std.proofs.lemmas.List.Elements.{All-nil, All-cons, All-head, All-tai
 use Rattle.std.proofs.lemmas.Option.{slice_get_within, slice_get-map, get_or_from_slice_get}
 use Rattle.written_trees.proofs.NumberedKeyLemmas.{sets_of, outcomes_of, set_number, outcome_number, IsNumberedFor, AreNumberedFor}
 use Rattle.game_core.specs.declared.tree.Node.{Node}
-use Rattle.game_core.specs.Tree.{InformationSet, IsWithin, kind_of_owner, kind_at}
+use Rattle.game_core.specs.Tree.{InformationSet, IsBelow, kind_of_owner, kind_at}
 use Rattle.written_trees.specs.Written.{SetUse, OutcomeUse, WrittenNode}
 use Rattle.written_trees.specs.Described.{key_of, same_set, set_uses, outcome_uses, kind_of_use, SetKey, Names, AreFirstUses, StandsFor, StandForEach}
 use Rattle.written_trees.proofs.InsertedKeyLemmas.{slice_get-found}
@@ -125,12 +125,12 @@ pub key_there : (uses : List (ℕ × SetUse)) (u : SetUse) → IsUsedSet uses u 
 key_there uses u h = slice_get-found same_set same_set-Decides (sets_of uses) (key_of u) h
 
 -- the number of a used set is one of the sets'
-pub set_within : (uses : List (ℕ × SetUse)) (o : Option SetUse) → IfSome o (IsUsedSet uses) → IsWithin (length (sets_of uses)) (set_number (sets_of uses) o)
+pub set_within : (uses : List (ℕ × SetUse)) (o : Option SetUse) → IfSome o (IsUsedSet uses) → IsBelow (length (sets_of uses)) (set_number (sets_of uses) o)
 set_within uses None h = tt
 set_within uses (Some u) h = slice_get_within (sets_of uses) _ (key_of u) (key_there uses u h)
 
 -- the number of a used outcome is one of the outcomes'
-pub outcome_within : (uses : List (ℕ × OutcomeUse)) (o : Option OutcomeUse) → IfSome o (IsUsedOutcome uses) → IsWithin (length (outcomes_of uses)) (outcome_number (outcomes_of uses) o)
+pub outcome_within : (uses : List (ℕ × OutcomeUse)) (o : Option OutcomeUse) → IfSome o (IsUsedOutcome uses) → IsBelow (length (outcomes_of uses)) (outcome_number (outcomes_of uses) o)
 outcome_within uses None h = tt
 outcome_within uses (Some u) h = slice_get_within (outcomes_of uses) _ u.label (slice_get-found nat_eq Decides-eqb (outcomes_of uses) u.label h)
 

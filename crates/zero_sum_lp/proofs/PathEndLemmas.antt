@@ -12,7 +12,7 @@ use Rattle.frac128.specs.declared.steps.Unfit.{Unfit}
 use Rattle.frac128.specs.Steps.{StepFits, IsFirstUnfit}
 use Rattle.frac128.proofs.FirstUnfitLemmas.{unfit_among, unfit_once}
 use Rattle.lex_tableau.specs.Pivots.{pivot_number, steps_of_pivot}
-use Rattle.lex_tableau.specs.Ratio.{listed}
+use Rattle.lex_tableau.specs.Ratio.{variable_at}
 use Rattle.lex_tableau.specs.Rows.{Numbers, tableau, IsPivotOf, IsTableau}
 use Rattle.lex_tableau.proofs.TableauLemmas.{determined}
 use Rattle.zero_sum_lp.specs.declared.lp.LpEnd.TheVariants.{Optimal, Range}
@@ -27,7 +27,7 @@ module _ (m : Numbers) (v : IsTableau m) (c d r s : ℕ) (ec : IsEntering m.rate
   same_column = entering_once m.rated (tableau m) c d v.reached.reached.proper ec ed
 
   same_row : r ≡ s
-  same_row = lex_row_once m.rated (listed m.starts) (tableau m) d r s (subst (λ x. IsLeavingRow m x r) same_column lr) ls
+  same_row = lex_row_once m.rated (variable_at m.starts) (tableau m) d r s (subst (λ x. IsLeavingRow m x r) same_column lr) ls
 
 step_same : (m n o : Numbers) → IsTableau m → IsFittingPivot m n → IsFittingPivot m o → n ≡ o
 step_same m n o v a b =

@@ -9,7 +9,7 @@ use Rattle.zero_sum_lp.specs.Paths.{IsEntering, IsOptimal, IsAfter}
 use Rattle.zero_sum_lp.proofs.DeterminedPathLemmas.{after_on_path, after_leaves, path_is_short}
 use Rattle.frac128.specs.declared.steps.Unfit.{Unfit}
 use Rattle.lex_tableau.specs.Rows.{Numbers, tableau}
-use Rattle.lex_tableau.specs.Ratio.{listed}
+use Rattle.lex_tableau.specs.Ratio.{variable_at}
 use Rattle.frac128.specs.Steps.{IsFirstUnfit}
 use Rattle.lex_tableau.specs.Pivots.{pivot_number, steps_of_pivot}
 use Rattle.lex_tableau.proofs.PivotNumberLemmas.{pivot_number_next}
@@ -46,7 +46,7 @@ leads_after first n (suc k) s w =
           column = st.column;
           row = st.row;
           entering = subst (λ m. IsEntering m (tableau w.0) st.column) b.1 st.entering;
-          leaving = lex_row_by first.rated first.rated (listed first.starts) (tableau first).basic (tableau w.0) st.column st.row s.basics (subst₂ (λ m starts. IsLexicographicRow m m (listed starts) (tableau w.0) st.column st.row) b.1 b.0 st.leaving);
+          leaving = lex_row_by first.rated first.rated (variable_at first.starts) (tableau first).basic (tableau w.0) st.column st.row s.basics (subst₂ (λ m starts. IsLexicographicRow m m (variable_at starts) (tableau w.0) st.column st.row) b.1 b.0 st.leaving);
           turned = st.pivot.fractions;
         },
       ),
@@ -89,8 +89,8 @@ pub read_enters : (first now seen : Numbers) (past pivots number m n c : ℕ) �
 read_enters first now seen past pivots number m n c s u em en e f = found_enters first now u.count s u.path m n c em en (subst (λ x. IsEnteringOf m n (tableau x) c) e f)
 
 -- and the tableau that was read has its lexicographic row
-pub read_leaves : (now seen : Numbers) (c r : ℕ) → seen ≡ now → IsLexicographicRow seen.rated seen.rated (listed seen.starts) (tableau seen) c r → IsLexicographicRow now.rated now.rated (listed now.starts) (tableau now) c r
-read_leaves now seen c r e l = subst (λ x. IsLexicographicRow x.rated x.rated (listed x.starts) (tableau x) c r) e l
+pub read_leaves : (now seen : Numbers) (c r : ℕ) → seen ≡ now → IsLexicographicRow seen.rated seen.rated (variable_at seen.starts) (tableau seen) c r → IsLexicographicRow now.rated now.rated (variable_at now.starts) (tableau now) c r
+read_leaves now seen c r e l = subst (λ x. IsLexicographicRow x.rated x.rated (variable_at x.starts) (tableau x) c r) e l
 
 pub read_end : (first now seen : Numbers) (past pivots number m n : ℕ) → IsProgramStart first → IsUnderWay first now past pivots number → m ≡ first.rated → n ≡ length first.nonbasics → seen ≡ now → ((j : ℕ) → j < n → zero_ℚ ≤ℚ (tableau seen).cell m j) → EndsPath first now
 read_end first now seen past pivots number m n s u em en e f =
@@ -111,6 +111,6 @@ pub measure_falls : (a b c : ℕ) → c ≡ b + 1 → b < a → a - c < a - b
 measure_falls a b c e h = omega arith
 
 -- the pivot of a step that does not fit
-pub is_unfit : (first now : Numbers) (past pivots number variable c r : ℕ) (unfit : Unfit) → IsUnderWay first now past pivots number → IsEntering now.rated (tableau now) c → IsLexicographicRow now.rated now.rated (listed now.starts) (tableau now) c r → variable ≡ (tableau now).nonbasic c → IsFirstUnfit (steps_of_pivot now r c) unfit → IsUnfitPivot first number variable unfit
+pub is_unfit : (first now : Numbers) (past pivots number variable c r : ℕ) (unfit : Unfit) → IsUnderWay first now past pivots number → IsEntering now.rated (tableau now) c → IsLexicographicRow now.rated now.rated (variable_at now.starts) (tableau now) c r → variable ≡ (tableau now).nonbasic c → IsFirstUnfit (steps_of_pivot now r c) unfit → IsUnfitPivot first number variable unfit
 is_unfit first now past pivots number variable c r unfit u e l v f =
     record { count = u.count; before = now; path = u.path; column = c; row = r; enters = e; leaves = l; variable = v; is_number = u.is_number; first_unfit = f }

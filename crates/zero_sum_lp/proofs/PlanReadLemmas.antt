@@ -8,7 +8,7 @@ use Rattle.frac128.specs.Steps.{Step}
 use Rattle.lex_tableau.specs.Rows.{Numbers, tableau}
 use Rattle.sequence_forms.specs.Sides.{sequences, IsOrderedSide}
 use Rattle.sequence_data.specs.Data.{IsSideData, SideData, side_of}
-use Rattle.sequence_data.specs.Weights.{weight}
+use Rattle.sequence_data.specs.Weights.{weight_at}
 use Rattle.zero_sum_lp.specs.Parts.{HasShape, Program, IsOptimum, first_raw, second_raw}
 use Rattle.zero_sum_lp.specs.PlanLists.{AreWeights}
 use Rattle.zero_sum_lp.specs.PlanSteps.{IsFittingRaise, IsUnfitRaise, IsFittingCut, IsUnfitCut}
@@ -50,20 +50,20 @@ module _ (o : Program) (sets : SideData) (raw : List ℚ) (h : IsSideData sets) 
     first_ordered : IsOrderedSide (side_of o.first)
     first_ordered = (subst IsSideData e h).ordered
 
-    pub first_plan : (plan : List ℚ) → length plan ≡ length raw → IsFittingRaise (side_of sets) (weight raw) (weight plan) → IsFirstPlan o plan
+    pub first_plan : (plan : List ℚ) → length plan ≡ length raw → IsFittingRaise (side_of sets) (weight_at raw) (weight_at plan) → IsFirstPlan o plan
     first_plan plan c r =
-        record { count = c ∙ w.count; raised = fitting_raise_as (side_of o.first) first_ordered (weight raw) (first_raw o) (weight plan) (weight plan) w.same (λ q l. refl) (subst (λ s. IsFittingRaise (side_of s) (weight raw) (weight plan)) e r) }
+        record { count = c ∙ w.count; raised = fitting_raise_as (side_of o.first) first_ordered (weight_at raw) (first_raw o) (weight_at plan) (weight_at plan) w.same (λ q l. refl) (subst (λ s. IsFittingRaise (side_of s) (weight_at raw) (weight_at plan)) e r) }
 
-    pub first_stop : (u : Step) → IsUnfitRaise (side_of sets) (weight raw) u → IsUnfitRaise (side_of o.first) (first_raw o) u
-    first_stop u r = unfit_raise_as (side_of o.first) first_ordered (weight raw) (first_raw o) u w.same (subst (λ s. IsUnfitRaise (side_of s) (weight raw) u) e r)
+    pub first_stop : (u : Step) → IsUnfitRaise (side_of sets) (weight_at raw) u → IsUnfitRaise (side_of o.first) (first_raw o) u
+    first_stop u r = unfit_raise_as (side_of o.first) first_ordered (weight_at raw) (first_raw o) u w.same (subst (λ s. IsUnfitRaise (side_of s) (weight_at raw) u) e r)
 
   module _ (e : sets ≡ o.second) (w : AreWeights (sequences (side_of o.second)) (second_raw o) raw) where
     second_ordered : IsOrderedSide (side_of o.second)
     second_ordered = (subst IsSideData e h).ordered
 
-    pub second_plan : (plan : List ℚ) → length plan ≡ length raw → IsFittingCut (side_of sets) (weight raw) (weight plan) → IsSecondPlan o plan
+    pub second_plan : (plan : List ℚ) → length plan ≡ length raw → IsFittingCut (side_of sets) (weight_at raw) (weight_at plan) → IsSecondPlan o plan
     second_plan plan c r =
-        record { count = c ∙ w.count; cut = fitting_cut_as (side_of o.second) second_ordered (weight raw) (second_raw o) (weight plan) (weight plan) w.same (λ q l. refl) (subst (λ s. IsFittingCut (side_of s) (weight raw) (weight plan)) e r) }
+        record { count = c ∙ w.count; cut = fitting_cut_as (side_of o.second) second_ordered (weight_at raw) (second_raw o) (weight_at plan) (weight_at plan) w.same (λ q l. refl) (subst (λ s. IsFittingCut (side_of s) (weight_at raw) (weight_at plan)) e r) }
 
-    pub second_stop : (u : Step) → IsUnfitCut (side_of sets) (weight raw) u → IsUnfitCut (side_of o.second) (second_raw o) u
-    second_stop u r = unfit_cut_as (side_of o.second) second_ordered (weight raw) (second_raw o) u w.same (subst (λ s. IsUnfitCut (side_of s) (weight raw) u) e r)
+    pub second_stop : (u : Step) → IsUnfitCut (side_of sets) (weight_at raw) u → IsUnfitCut (side_of o.second) (second_raw o) u
+    second_stop u r = unfit_cut_as (side_of o.second) second_ordered (weight_at raw) (second_raw o) u w.same (subst (λ s. IsUnfitCut (side_of s) (weight_at raw) u) e r)

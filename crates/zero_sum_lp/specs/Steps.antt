@@ -6,7 +6,7 @@ use Rattle.linear_systems.specs.Rows.{IsLexicographicRow}
 use Rattle.zero_sum_lp.specs.Paths.{LinearProgram, IsLinearProgram, IsEntering, IsOptimal}
 use Rattle.frac128.specs.declared.steps.Unfit.{Unfit}
 use Rattle.lex_tableau.specs.Rows.{Numbers, tableau, IsPivotOf, IsTableau}
-use Rattle.lex_tableau.specs.Ratio.{listed}
+use Rattle.lex_tableau.specs.Ratio.{variable_at}
 use Rattle.frac128.specs.Steps.{StepFits, IsFirstUnfit}
 use Rattle.lex_tableau.specs.Pivots.{pivot_number, steps_of_pivot}
 
@@ -27,7 +27,7 @@ pub record IsProgramStart (n : Numbers) : Type 0 where
 -- the row that leaves where a column enters: the lexicographic one
 abbrev pub IsLeavingRow : Numbers → ℕ → ℕ → Type 0
 IsLeavingRow m column row =
-    IsLexicographicRow m.rated m.rated (listed m.starts) (tableau m) column row
+    IsLexicographicRow m.rated m.rated (variable_at m.starts) (tableau m) column row
 
 -- one step of the path: the entering column, its lexicographic row, and the pivot, all of whose
 -- steps of arithmetic fit

@@ -3,7 +3,7 @@ ghost use Rattle.std.specs.Prelude.{All, ◌≡◌, ◌+◌, ◌<◌, ◌≤◌,
 ghost use Rattle.frac128.specs.Steps.{StepFits};
 ghost use Rattle.sequence_forms.specs.Sides.{sequences};
 ghost use Rattle.sequence_data.specs.Data.{IsSideData, side_of};
-ghost use Rattle.sequence_data.specs.Weights.{weight};
+ghost use Rattle.sequence_data.specs.Weights.{weight_at};
 ghost use Rattle.zero_sum_lp.specs.PlanLists.{AreShares, IsUnfitShare, weights_from};
 ghost use Rattle.zero_sum_lp.specs.PlanSteps.{IsFittingCut, IsUnfitCut, rest_steps};
 
@@ -16,15 +16,15 @@ fn cut_set(weights: &mut [Frac], before: usize, first: usize, count: usize) -> R
     requires before_in { before < first }
     requires actions_in { first + count ≤ length weights.old }
     ensures length { length weights.new ≡ length weights.old }
-    ensures low { (q : ℕ) → q < first → weight weights.new q ≡ weight weights.old q }
+    ensures low { (q : ℕ) → q < first → weight_at weights.new q ≡ weight_at weights.old q }
     ensures high { OnOk result ((q : ℕ) → first + count ≤ q
-        → weight weights.new q ≡ weight weights.old q) }
-    ensures shares { OnOk result (AreShares (weight weights.old before)
+        → weight_at weights.new q ≡ weight_at weights.old q) }
+    ensures shares { OnOk result (AreShares (weight_at weights.old before)
         (weights_from weights.old first) (weights_from weights.new first) count) }
     ensures fits { OnOk result (All StepFits
-        (rest_steps (weight weights.old before) (weights_from weights.new first) count)) }
+        (rest_steps (weight_at weights.old before) (weights_from weights.new first) count)) }
     ensures unfit { IfErr result
-        (IsUnfitShare (weight weights.old before) (weights_from weights.old first) count) }
+        (IsUnfitShare (weight_at weights.old before) (weights_from weights.old first) count) }
 {
     let mut left = weight_at(weights, before);
     for action in 0..count {
@@ -45,8 +45,8 @@ pub fn cut(weights: &mut [Frac], side: &Side) -> Result<(), Unfit>
     requires shape { length weights.old ≡ sequences (side_of side.now) }
     ensures length { length weights.new ≡ length weights.old }
     ensures cut { OnOk result
-        (IsFittingCut (side_of side.now) (weight weights.old) (weight weights.new)) }
-    ensures unfit { IfErr result (IsUnfitCut (side_of side.now) (weight weights.old)) }
+        (IsFittingCut (side_of side.now) (weight_at weights.old) (weight_at weights.new)) }
+    ensures unfit { IfErr result (IsUnfitCut (side_of side.now) (weight_at weights.old)) }
 {
     set_weight(weights, 0, Frac::one());
     for j in 0..side.sets().len() {

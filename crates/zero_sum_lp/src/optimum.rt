@@ -4,7 +4,7 @@ ghost use Rattle.std.specs.Prelude.{◌≡◌, ◌≢◌, ◌≤◌, ◌<◌, �
 ghost use Rattle.sequence_forms.specs.Sides.{sequences};
 ghost use Rattle.answers.specs.Answers.{Gives};
 ghost use Rattle.zero_sum_lp.specs.declared.stop.PlanStop.TheVariants as plan_stops;
-ghost use Rattle.sequence_data.specs.Weights.{weight};
+ghost use Rattle.sequence_data.specs.Weights.{weight_at};
 ghost use Rattle.zero_sum_lp.specs.PlanLists.{AreWeights};
 ghost use Rattle.zero_sum_lp.specs.PlanSteps.{IsFittingCut, IsFittingRaise, IsUnfitCut, IsUnfitRaise};
 ghost use Rattle.zero_sum_lp.specs.PlanStops.{plans_of};
@@ -83,8 +83,8 @@ fn raised(weights: Vec<Frac>, side: &Side) -> Result<Vec<Frac>, Unfit>
     requires shape { length weights.items ≡ sequences (side_of side.now) }
     ensures length { IfOk result (λ plan. length plan.items ≡ length weights.items) }
     ensures raised { IfOk result (λ plan.
-        IsFittingRaise (side_of side.now) (weight weights.items) (weight plan.items)) }
-    ensures unfit { IfErr result (IsUnfitRaise (side_of side.now) (weight weights.items)) }
+        IsFittingRaise (side_of side.now) (weight_at weights.items) (weight_at plan.items)) }
+    ensures unfit { IfErr result (IsUnfitRaise (side_of side.now) (weight_at weights.items)) }
 {
     let mut weights = weights;
     raise(weights.as_mut_slice(), side)?;
@@ -97,8 +97,8 @@ fn lessened(weights: Vec<Frac>, side: &Side) -> Result<Vec<Frac>, Unfit>
     requires shape { length weights.items ≡ sequences (side_of side.now) }
     ensures length { IfOk result (λ plan. length plan.items ≡ length weights.items) }
     ensures cut { IfOk result (λ plan.
-        IsFittingCut (side_of side.now) (weight weights.items) (weight plan.items)) }
-    ensures unfit { IfErr result (IsUnfitCut (side_of side.now) (weight weights.items)) }
+        IsFittingCut (side_of side.now) (weight_at weights.items) (weight_at plan.items)) }
+    ensures unfit { IfErr result (IsUnfitCut (side_of side.now) (weight_at weights.items)) }
 {
     let mut weights = weights;
     cut(weights.as_mut_slice(), side)?;

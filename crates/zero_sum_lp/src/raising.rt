@@ -5,7 +5,7 @@ ghost use Rattle.rational.specs.Sum.{sum_to};
 ghost use Rattle.frac128.specs.Steps.{StepFits, IsFirstUnfit};
 ghost use Rattle.sequence_forms.specs.Sides.{sequences};
 ghost use Rattle.sequence_data.specs.Data.{IsSideData, side_of};
-ghost use Rattle.sequence_data.specs.Weights.{weight};
+ghost use Rattle.sequence_data.specs.Weights.{weight_at};
 ghost use Rattle.zero_sum_lp.specs.PlanLists.{weights_from};
 ghost use Rattle.zero_sum_lp.specs.PlanSteps.{IsFittingRaise, IsUnfitRaise, raise_steps, rest_steps};
 
@@ -18,11 +18,11 @@ fn remaining(weights: &[Frac], before: usize, first: usize, count: usize) -> Res
     requires before_in { before < length weights.now }
     requires actions_in { first + count ≤ length weights.now }
     ensures value { IfOk result (λ rest. rest
-        ≡ weight weights.now before -ℚ sum_to count (weights_from weights.now first)) }
+        ≡ weight_at weights.now before -ℚ sum_to count (weights_from weights.now first)) }
     ensures fits { OnOk result (All StepFits
-        (rest_steps (weight weights.now before) (weights_from weights.now first) count)) }
+        (rest_steps (weight_at weights.now before) (weights_from weights.now first) count)) }
     ensures unfit { IfErr result (IsFirstUnfit
-        (rest_steps (weight weights.now before) (weights_from weights.now first) count)) }
+        (rest_steps (weight_at weights.now before) (weights_from weights.now first) count)) }
 {
     let mut rest = weight_at(weights, before);
     for action in 0..count {
@@ -37,13 +37,13 @@ fn raise_set(weights: &mut [Frac], before: usize, first: usize, count: usize) ->
     requires some_action { 0 < count }
     requires actions_in { first + count ≤ length weights.old }
     ensures length { length weights.new ≡ length weights.old }
-    ensures raised { OnOk result (weight weights.new first ≡ weight weights.old first
-        +ℚ (weight weights.old before -ℚ sum_to count (weights_from weights.old first))) }
-    ensures others { (q : ℕ) → q ≢ first → weight weights.new q ≡ weight weights.old q }
+    ensures raised { OnOk result (weight_at weights.new first ≡ weight_at weights.old first
+        +ℚ (weight_at weights.old before -ℚ sum_to count (weights_from weights.old first))) }
+    ensures others { (q : ℕ) → q ≢ first → weight_at weights.new q ≡ weight_at weights.old q }
     ensures fits { OnOk result (All StepFits
-        (raise_steps (weight weights.old before) (weights_from weights.old first) count)) }
+        (raise_steps (weight_at weights.old before) (weights_from weights.old first) count)) }
     ensures unfit { IfErr result (IsFirstUnfit
-        (raise_steps (weight weights.old before) (weights_from weights.old first) count)) }
+        (raise_steps (weight_at weights.old before) (weights_from weights.old first) count)) }
 {
     let rest = remaining(weights, before, first, count)?;
     let raised = weight_at(weights, first).add(rest)?;
@@ -61,8 +61,8 @@ pub fn raise(weights: &mut [Frac], side: &Side) -> Result<(), Unfit>
     requires shape { length weights.old ≡ sequences (side_of side.now) }
     ensures length { length weights.new ≡ length weights.old }
     ensures raised { OnOk result
-        (IsFittingRaise (side_of side.now) (weight weights.old) (weight weights.new)) }
-    ensures unfit { IfErr result (IsUnfitRaise (side_of side.now) (weight weights.old)) }
+        (IsFittingRaise (side_of side.now) (weight_at weights.old) (weight_at weights.new)) }
+    ensures unfit { IfErr result (IsUnfitRaise (side_of side.now) (weight_at weights.old)) }
 {
     set_weight(weights, 0, Frac::one());
     for j in 0..side.sets().len() {

@@ -5,7 +5,7 @@ use Rattle.game_core.specs.TreeGame.{game_of_tree}
 use Rattle.game_theory.specs.OwnSets.{own_sets}
 use Rattle.sequence_data.specs.Data.{SideData}
 use Rattle.sequence_data.specs.declared.types.SetRow.{SetRow}
-use Rattle.sequence_form.specs.Sequences.{set_row}
+use Rattle.sequence_form.specs.Sequences.{own_set_row}
 use Rattle.behaviour_profile.proofs.BehaviourEntryLemmas.{place-below_sets}
 use Rattle.behaviour_profile.proofs.PlanShareLemmas.{own_within, row_is, before_within, after_within}
 use Rattle.behaviour_profile.proofs.PlanStopLemmas.{all_sets, next_set, set_stop}
@@ -51,4 +51,4 @@ pub returns-clause-added : goal.returns-clause-added
 returns-clause-added c = λ plans plan.
     let t = game_of_tree c.args.tree.now in
     let rows = c.sets-sets.ensures ∙ ap (λ (s : SideData). s.sets) c.requires.side in
-    all_sets c.args.tree.now c.args.player c.loop-place.place plans c.args.entries.now.items c.loop-place.entries.items (omega (arith, c.loop-place-test.false, ap (λ (rs : List SetRow). length rs) rows, length-map (own_sets t c.args.player) (set_row t c.args.player))) (c.loop-place.invariant plans plan)
+    all_sets c.args.tree.now c.args.player c.loop-place.place plans c.args.entries.now.items c.loop-place.entries.items (omega (arith, c.loop-place-test.false, ap (λ (rs : List SetRow). length rs) rows, length-map (own_sets t c.args.player) (own_set_row t c.args.player))) (c.loop-place.invariant plans plan)

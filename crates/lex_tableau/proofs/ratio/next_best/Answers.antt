@@ -1,7 +1,7 @@
 use Rattle.std.proofs.Common.{arith, subst, ◌+◌, ◌*◌, ◌≤ℤ◌, ◌<ℤ◌, pos, length}
 use Rattle.linear_systems.specs.Rows.{IsLexicographicRow}
 use Rattle.lex_tableau.specs.Rows.{tableau_of}
-use Rattle.lex_tableau.specs.Ratio.{IsBest, listed}
+use Rattle.lex_tableau.specs.Ratio.{IsBest, variable_at}
 use Rattle.whole_rows.proofs.FittingStepLemmas.{read_at}
 use Rattle.lex_tableau.proofs.RatioRowLemmas.{best_passed, best_first, best_taken, best_kept, cell_positive, cell_not_positive, number_positive}
 use Rattle.lex_tableau.proofs.ratio.next_best.Goals as goal
@@ -16,7 +16,7 @@ returns-in_default c =
 
 pub compare_rows-requires-clause-best_positive : goal.compare_rows-requires-clause-best_positive
 compare_rows-requires-clause-best_positive c =
-    let old : IsLexicographicRow c.args.row c.args.rated (listed c.args.starts.now) (tableau_of c.args.basics.now c.args.nonbasics.now c.args.numbers.now) c.args.column c.in-Some.old = subst (IsBest c.args.row c.args.rated c.args.starts.now (tableau_of c.args.basics.now c.args.nonbasics.now c.args.numbers.now) c.args.column) c.in-Some.is c.requires.best in
+    let old : IsLexicographicRow c.args.row c.args.rated (variable_at c.args.starts.now) (tableau_of c.args.basics.now c.args.nonbasics.now c.args.numbers.now) c.args.column c.in-Some.old = subst (IsBest c.args.row c.args.rated c.args.starts.now (tableau_of c.args.basics.now c.args.nonbasics.now c.args.numbers.now) c.args.column) c.in-Some.is c.requires.best in
     number_positive c.args.basics.now c.args.nonbasics.now c.args.numbers.now c.in-Some.old c.args.column (c.requires.are_rows c.in-Some.old (omega (arith, old.within, c.requires.row_in, c.requires.rows))).positive old.positive
 
 pub returns-in-Less : goal.returns-in-Less

@@ -1,7 +1,7 @@
 use Rattle.std.proofs.Common.{ap, subst}
 use Rattle.std.proofs.lemmas.Result.{err_from_is_err_and}
 use Rattle.game_core.specs.TreeGame.{game_of_tree}
-use Rattle.sequence_data.specs.Steps.{AllFit, IsUnfitStop}
+use Rattle.sequence_data.specs.Steps.{AllPlacedFit, IsUnfitStop}
 use Rattle.sequence_form.proofs.PathStepLemmas.{all-fit, one-stop, payoff-is, same_leaf, step-is, two-stop}
 use Rattle.sequence_form.proofs.paths.next_path.Goals as goal
 
@@ -18,7 +18,7 @@ returns-in_err-two-clause-stop c =
     let one = step-is g c.args.node 0 c.args.above.one c.pays.result (ap (λ l. l.one) c.requires.above) c.pays.ensures in
     let two = step-is g c.args.node 1 c.args.above.two c.pays-2.result (ap (λ l. l.two) c.requires.above) c.pays-2.ensures in
     let p = err_from_is_err_and c.from_residual-in_err-two.result c.from_residual-in_err-two.ensures.1 in
-    rw (p.1, p.2) (two-stop g c.args.node c.in_err-two.field-0.0 c.in_ok-chance.ensures.fits (subst AllFit one c.in_ok-one.ensures.fits) (subst (λ s. IsUnfitStop s c.in_err-two.field-0.0) two c.in_err-two.ensures.stop))
+    rw (p.1, p.2) (two-stop g c.args.node c.in_err-two.field-0.0 c.in_ok-chance.ensures.fits (subst AllPlacedFit one c.in_ok-one.ensures.fits) (subst (λ s. IsUnfitStop s c.in_err-two.field-0.0) two c.in_err-two.ensures.stop))
 
 pub returns-clause-value : goal.returns-clause-value
 returns-clause-value c =
@@ -32,4 +32,4 @@ returns-clause-fits c =
     let g = game_of_tree c.args.tree.now in
     let one = step-is g c.args.node 0 c.args.above.one c.pays.result (ap (λ l. l.one) c.requires.above) c.pays.ensures in
     let two = step-is g c.args.node 1 c.args.above.two c.pays-2.result (ap (λ l. l.two) c.requires.above) c.pays-2.ensures in
-    all-fit g c.args.node c.in_ok-chance.ensures.fits (subst AllFit one c.in_ok-one.ensures.fits) (subst AllFit two c.in_ok-two.ensures.fits)
+    all-fit g c.args.node c.in_ok-chance.ensures.fits (subst AllPlacedFit one c.in_ok-one.ensures.fits) (subst AllPlacedFit two c.in_ok-two.ensures.fits)

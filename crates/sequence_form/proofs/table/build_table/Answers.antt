@@ -1,7 +1,7 @@
 use Rattle.std.proofs.Common.{◌<◌, ◌∙◌, suc, All, List, ap, sym, subst, length, arith}
 use Rattle.sequence_data.specs.Data.{IsSideData, LeafFits}
 use Rattle.sequence_data.specs.declared.types.Leaf.{Leaf}
-use Rattle.sequence_form.specs.Laws.{columns_of, rows_of}
+use Rattle.sequence_form.specs.Laws.{count_of_columns, count_of_rows}
 use Rattle.sequence_form.specs.Sequences.{start_side}
 use Rattle.sequence_form.proofs.BuiltFormLemmas.{table-gives}
 use Rattle.game_core.proofs.TableCountLemmas.{few_players}
@@ -35,13 +35,13 @@ pub of_leaves-requires-clause-first : goal.of_leaves-requires-clause-first
 of_leaves-requires-clause-first c =
     let two = ap length (sym c.players-players.ensures.players) ∙ c.if-players-ne2.false in
     let is = c.in_ok-first.ensures ∙ ap start_side c.strategy_count.ensures.count in
-    subst IsSideData (sym is) (start-is_side (rows_of c.args.table.now) (some-rows c.args.table.now c.players-players.ensures.valid two))
+    subst IsSideData (sym is) (start-is_side (count_of_rows c.args.table.now) (some-rows c.args.table.now c.players-players.ensures.valid two))
 
 pub of_leaves-requires-clause-second : goal.of_leaves-requires-clause-second
 of_leaves-requires-clause-second c =
     let two = ap length (sym c.players-players.ensures.players) ∙ c.if-players-ne2.false in
     let is = c.in_ok-second.ensures ∙ ap start_side c.strategy_count-2.ensures.count in
-    subst IsSideData (sym is) (start-is_side (columns_of c.args.table.now) (some-columns c.args.table.now c.players-players.ensures.valid two))
+    subst IsSideData (sym is) (start-is_side (count_of_columns c.args.table.now) (some-columns c.args.table.now c.players-players.ensures.valid two))
 
 pub of_leaves-requires-clause-some_leaf : goal.of_leaves-requires-clause-some_leaf
 of_leaves-requires-clause-some_leaf c =
@@ -54,7 +54,7 @@ of_leaves-requires-clause-leaves_fit c =
     let two = ap length (sym c.players-players.ensures.players) ∙ c.if-players-ne2.false in
     let rows = ap (λ s. s.sequences) (c.in_ok-first.ensures ∙ ap start_side c.strategy_count.ensures.count) in
     let columns = ap (λ s. s.sequences) (c.in_ok-second.ensures ∙ ap start_side c.strategy_count-2.ensures.count) in
-    let fit = subst (λ n. All (LeafFits n (suc (columns_of t))) c.in_ok-leaves.leaves.items) (sym rows) (subst (All (LeafFits (suc (rows_of t)) (suc (columns_of t)))) (sym c.in_ok-leaves.ensures) (profiles-fit t c.players-players.ensures.valid two)) in
+    let fit = subst (λ n. All (LeafFits n (suc (count_of_columns t))) c.in_ok-leaves.leaves.items) (sym rows) (subst (All (LeafFits (suc (count_of_rows t)) (suc (count_of_columns t)))) (sym c.in_ok-leaves.ensures) (profiles-fit t c.players-players.ensures.valid two)) in
     subst (λ n. All (LeafFits c.in_ok-first.first.sequences n) c.in_ok-leaves.leaves.items) (sym columns) fit
 
 pub returns : goal.returns

@@ -1,11 +1,17 @@
-use Rattle.std.proofs.Common.{◌∙◌, refl}
-use Rattle.std.specs.Int.{w128}
-use Rattle.std.proofs.lemmas.Int.{to_z-of_z}
-use Rattle.whole_rows.proofs.FittingStepLemmas.{fraction_none, fraction_is}
+use Rattle.std.proofs.Common.{ap, ◌∙◌, ◌<◌, ◌^◌, subst, sym}
+use Rattle.rational.specs.Rational.{frac}
+use Rattle.rational.proofs.PartLemmas.{pos_abs}
+use Rattle.frac128.proofs.PartLemmas.{num_kept}
 use Rattle.whole_rows.proofs.arithmetic.fraction.Goals as goal
 
-pub returns-in-Some : goal.returns-in-Some
-returns-in-Some c = simp (to_z-of_z w128 c.args.num c.ranges.num, to_z-of_z w128 c.args.den c.ranges.den) at c.in-Some.ensures.value ∙ fraction_is c.args.num c.args.den c.requires.positive
+pub over-requires-clause-positive : goal.over-requires-clause-positive
+over-requires-clause-positive c =
+    subst (λ n. 0 < n) (sym (num_kept c.args.den c.unsigned_abs.result c.ranges.den c.unsigned_abs.ensures.value)) (pos_abs c.args.den c.requires.positive)
 
-pub returns-in-None : goal.returns-in-None
-returns-in-None c = absurd (fraction_none c.args.num c.args.den c.requires.positive c.requires.num_fits c.requires.den_fits (simp (to_z-of_z w128 c.args.num c.ranges.num, to_z-of_z w128 c.args.den c.ranges.den) at (c.in-None.ensures.none.0 refl)))
+pub over-requires-clause-den : goal.over-requires-clause-den
+over-requires-clause-den c =
+    subst (λ n. n < 2 ^ 127) (sym (num_kept c.args.den c.unsigned_abs.result c.ranges.den c.unsigned_abs.ensures.value)) c.requires.den_fits
+
+pub returns : goal.returns
+returns c =
+    c.over.ensures ∙ ap (frac c.args.num) (num_kept c.args.den c.unsigned_abs.result c.ranges.den c.unsigned_abs.ensures.value)

@@ -1,7 +1,7 @@
 use Rattle.std.proofs.Common.{arith}
 use Rattle.game_core.specs.TreeGame.{game_of_tree}
 use Rattle.sequence_form.proofs.NumberingLemmas.{actions-cast, first-at, firsts-length, same_row, sequence-is}
-use Rattle.sequence_form.proofs.sequences.set_row.Goals as goal
+use Rattle.sequence_form.proofs.sequences.own_set_row.Goals as goal
 
 pub bounds-firsts-set : goal.bounds-firsts-set
 bounds-firsts-set c = omega (arith, firsts-length (game_of_tree c.args.tree.now) c.args.player c.args.firsts.now c.requires.firsts, c.requires.set)
