@@ -1,14 +1,17 @@
 -- The tableaux of the next level, one after the other
-use Rattle.std.proofs.Common.{ℕ, ◌<◌, ◌≤◌, ◌≡◌, ◌+◌, refl, sym, ap, ◌∙◌, subst, subst₂, arith, inl, inr, List, [], ◌∷◌, ◌++◌, length, get_or, map, eq-or-lt_of_le, All}
+use Rattle.std.proofs.Common.{ℕ, ◌<◌, ◌≤◌, ◌≡◌, ◌+◌, refl, sym, ap, ◌∙◌, subst, subst₂, arith, inl, inr, List, [], ◌∷◌, ◌++◌, length, get_or, map, eq-or-lt_of_le, All, Result, Ok, Err}
+use Rattle.std.specs.Prelude.{IfOk, OnOk}
 use Rattle.std.proofs.Math.Seq.{get_or-append_seam}
 use Rattle.std.proofs.Math.ListN.{get_or-map}
 use Rattle.std.proofs.lemmas.List.{length-append, length-map, get_or_append_left, get_or_default}
 use Rattle.std.proofs.lemmas.List.Elements.{Contains-get_or}
 use Rattle.frac128.specs.declared.steps.Unfit.{Unfit}
-use Rattle.lex_tableau.specs.Rows.{Numbers}
+use Rattle.lex_tableau.specs.Rows.{Numbers, IsTableau, IsPivotOf}
+use Rattle.lex_tableau.specs.Pivots.{steps_of_pivot}
+use Rattle.lex_tableau.specs.declared.tableau.PivotStop.{PivotStop}
 use Rattle.frac128.specs.Steps.{StepFits, IsFirstUnfit}
 use Rattle.basis_enum.specs.Levels as L
-use Rattle.basis_enum.specs.Levels.{Levels, no_tableau, IsPivoted, AreNextMoves, IsNextLevel, count, most, steps_of}
+use Rattle.basis_enum.specs.Levels.{Levels, no_tableau, parent_of, IsPivoted, AreNextMoves, IsNextLevel, count, most, steps_of}
 use Rattle.basis_enum.specs.Ends.{IsAscendingListOf, IsFirstUnfitMove}
 use Rattle.basis_enum.specs.declared.children.ChildStop.{ChildStop}
 use Rattle.basis_enum.specs.declared.children.ChildStop.TheVariants as stops
@@ -21,6 +24,12 @@ use Rattle.basis_enum.specs.Found.{AreFoundIn}
 use Rattle.basis_enum.proofs.LevelMoveLemmas.{found_in_start, found_in_new}
 use Rattle.basis_enum.specs.Walks.{HaveEntering, IsUnfitMove}
 use Rattle.basis_enum.specs.Children.{AreChildren, AreMoves, IsChildStop, IsChildStopAt, IsMadeFrom, IsReachedAt}
+
+-- what a pivot of its parent makes
+pub made_child : (level : List Numbers) (m : L.Move) (parent : Numbers) (r : Result Numbers PivotStop) → parent ≡ parent_of level m → IfOk r (IsPivotOf parent m.row m.column) → IfOk r IsTableau → OnOk r (All StepFits (steps_of_pivot parent m.row m.column)) → IfOk r (IsPivoted level m)
+made_child level m parent (Ok new) is pivot valid fits =
+    record { is_tableau = valid; pivot = subst (λ t. IsPivotOf t m.row m.column new) is pivot; fits = subst (λ t. All StepFits (steps_of_pivot t m.row m.column)) is fits }
+made_child level m parent (Err stop) is pivot valid fits = pivot
 
 pub children_start : (level : List Numbers) (moves : List Move) → AreChildren level moves 0 []
 children_start level moves = record { within = omega arith; size = refl; each = λ i h. absurd (omega arith) }

@@ -1,16 +1,12 @@
 -- The shares of a set's weights in the weight before it, one by one.
-use Rattle.std.proofs.Common.{ℕ, ◌+◌, ◌<◌, ◌≤◌, ◌≡◌, ◌≢◌, ◌⊎◌, ◌^◌, ℤ, inl, inr, Ok, Err, Result, Bool, true, false, pos, List, [], ◌∷◌, ◌++◌, All, length, get_or, take, refl, sym, ap, ap₂, ◌∙◌, subst, subst₂, arith, lit<, zero-add}
+use Rattle.std.proofs.Common.{ℕ, ◌+◌, ◌<◌, ◌≤◌, ◌≡◌, ◌≢◌, Ok, Err, Result, Bool, true, false, pos, List, [], ◌∷◌, ◌++◌, All, length, get_or, take, refl, sym, ap, ap₂, ◌∙◌, subst, subst₂, arith, zero-add}
 use Rattle.std.specs.Prelude.{IfOk, IfErr, OnErr, if◌then◌else◌}
 use Rattle.std.proofs.lemmas.List.{take_all}
 use Rattle.std.proofs.lemmas.List.Elements.{All-nil}
 use Rattle.std.proofs.lemmas.List.FromFn.{get_or-range_with_len, length-range_with_len}
-use native.Mathlib.Nat.{eq-one_of_dvd-one}
-use Rattle.rational.specs.GcdLaws.{gcd-is}
 use Rattle.rational.specs.Rational.{ℚ, ◌*ℚ◌, inv_ℚ, frac, zero_ℚ}
 use Rattle.rational.specs.Tests.{eq_test}
 use Rattle.rational.proofs.Decide.{eq_test-true}
-use Rattle.rational.proofs.FractionLemmas.{frac-lowest}
-use Rattle.frac128.specs.Fraction.{PartFits, Fits, quotient}
 use Rattle.frac128.specs.Steps.{DivFits, unfit, Step, StepFits, IsFirstUnfit}
 use Rattle.frac128.specs.declared.steps.Op.TheVariants.{Div}
 use Rattle.game_theory.specs.Lines.{listed}

@@ -84,7 +84,7 @@ fn share(count: u32, before: Frac, after: Frac) -> Result<Frac, Unfit>
     ensures unfit { IfErr result (IsFirstUnfit (share_steps before after)) }
 {
     if before.is_zero() {
-        Ok(Frac::over(1, u128::from(count)))
+        Ok(Frac::over(1, count as u128))
     } else {
         after.div(before)
     }

@@ -39,9 +39,10 @@ pub(crate) struct Job<'a, R, F, G> {
 /// pieces that are left is enough for one; the worker and the helper then have half of the share
 /// each. The calling thread looks for helpers at the start, and each worker after every 16 pieces.
 /// Each helper is added again. Where some are idle at the start, a thread that does nothing is
-/// started first, and nobody waits for it. The workers claim the numbers from the claim word, and pass the gate
-/// before each piece. The pass has all 64 parts and has claimed nothing; whatever the answer, it has
-/// all parts again, and tells the numbers that were claimed. Refused for want of memory alone.
+/// started first, and nobody waits for it. The workers claim the numbers from the claim word, and
+/// pass the gate before each piece. The pass has all 64 parts and has claimed nothing; whatever the
+/// answer, it has all parts again, and tells the numbers that were claimed. Refused for want of
+/// memory alone.
 pub fn helped_map<R: Threads + Sync, T: Send + Drop, F: Fn(usize) -> T + Sync, G: Gate>(
     rt: &R,
     alloc: Global,

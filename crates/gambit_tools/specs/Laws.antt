@@ -1,4 +1,4 @@
--- What each text of a tool says of the game that the bytes of its input stand for.
+-- What each text of a tool says of the game that the bytes of its input stand for, or that is made.
 use Rattle.std.specs.Prelude.{ℕ, Bool, List, [], ◌∷◌, Ok}
 use Rattle.game_core.specs.declared.game.Game.{Game}
 use Rattle.game_core.specs.MadeTables.{made_game}

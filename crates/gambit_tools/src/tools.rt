@@ -200,8 +200,8 @@ pub fn answers_are_single()
     tree_checks_are_single();
 }
 
-/// Each text of `enumpure`, `enummixed`, `lcp`, `lp`, `check` and `make` says what is so of the game that
-/// the bytes of the input stand for.
+/// Each text of `enumpure`, `enummixed`, `lcp`, `lp` and `check` says what is so of the game that the
+/// bytes of the input stand for, and that of `make` what is so of the table that is made.
 pub fn texts_hold_for_the_game()
     ensures { TextsHoldForTheGame }
 {

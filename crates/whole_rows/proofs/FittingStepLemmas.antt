@@ -1,17 +1,15 @@
 -- When steps on whole numbers fit.
-use Rattle.std.proofs.Common.{ℕ, ℤ, pos, negsuc, zero, suc, ◌≡◌, ◌<◌, ◌≤◌, ◌^◌, ◌↔◌, ◌*ℤ◌, ◌-ℤ◌, neg_ℤ, nat_abs, ◌<ℤ◌, ◌/◌, refl, sym, ap, ap₂, ◌∙◌, subst, subst₂, List, [], ◌∷◌, arith, ◌⊎◌, inl, inr, Option, Some, None, MatchOption, to_z, of_z, get_or, slice_index_or, ◌+◌, All}
-use Rattle.std.proofs.Math.Nat.{div-le_self}
+use Rattle.std.proofs.Common.{ℕ, ℤ, pos, ◌≡◌, ◌↔◌, ◌*ℤ◌, ◌-ℤ◌, neg_ℤ, nat_abs, ◌/◌, refl, sym, ap, ap₂, ◌∙◌, subst, subst₂, List, [], ◌∷◌, arith, Option, Some, None, MatchOption, to_z, of_z, get_or, slice_index_or, ◌+◌, All}
 use Rattle.std.specs.Int.{w128}
-use Rattle.std.proofs.lemmas.Int.{ints, to_z-of_z, fits_signed_from_abs}
+use Rattle.std.proofs.lemmas.Int.{to_z-of_z, fits_signed_from_abs}
 use Rattle.frac128.proofs.DifferenceLemmas.{neg_fits}
 use Rattle.rational.specs.Gcd.{gcd}
-use Rattle.rational.specs.Rational.{ℚ, whole, frac, ◌+ℚ◌, ◌-ℚ◌}
+use Rattle.rational.specs.Rational.{ℚ, whole, ◌+ℚ◌, ◌-ℚ◌}
 use Rattle.rational.proofs.IntegerRing.{integer_ring}
 use Rattle.rational.proofs.Ring.{ring, num, ◌:*◌, ◌:-◌, :neg, A}
 use Rattle.rational.proofs.PartLemmas.{whole-num, whole-den, whole-mul, whole-neg, whole-add}
-use Rattle.rational.specs.LowestTerms.{nat_abs-div_ℤ}
 use Rattle.frac128.specs.declared.steps.Unfit.{Unfit}
-use Rattle.frac128.specs.Fraction.{PartFits, Fits, quotient}
+use Rattle.frac128.specs.Fraction.{PartFits, Fits}
 use Rattle.frac128.specs.Steps.{num_beside, StepFits, IsFirstUnfit}
 use Rattle.frac128.proofs.StepRunLemmas.{three-fit, first_unfit-next, first_unfit-same}
 use Rattle.whole_rows.specs.Steps.{times, less}

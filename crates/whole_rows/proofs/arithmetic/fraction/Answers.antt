@@ -1,4 +1,6 @@
-use Rattle.std.proofs.Common.{ap, ◌∙◌, ◌<◌, ◌^◌, subst, sym}
+use Rattle.std.proofs.Common.{ap₂, ◌∙◌, ◌<◌, ◌^◌, subst, sym}
+use Rattle.std.specs.Int.{w128}
+use Rattle.std.proofs.lemmas.Int.{to_z-of_z}
 use Rattle.rational.specs.Rational.{frac}
 use Rattle.rational.proofs.PartLemmas.{pos_abs}
 use Rattle.frac128.proofs.PartLemmas.{num_kept}
@@ -14,4 +16,4 @@ over-requires-clause-den c =
 
 pub returns : goal.returns
 returns c =
-    c.over.ensures ∙ ap (frac c.args.num) (num_kept c.args.den c.unsigned_abs.result c.ranges.den c.unsigned_abs.ensures.value)
+    c.over.ensures ∙ ap₂ frac (to_z-of_z w128 c.args.num c.ranges.num) (num_kept c.args.den c.unsigned_abs.result c.ranges.den c.unsigned_abs.ensures.value)
