@@ -72,7 +72,7 @@ held_digits s t e h v k = enumerable_digits s e v (h.reached.variables v k)
 -- all tableaux of the levels
 pub level_held : (s : Parts) (k : ℕ) (l : Levels) → IsSystem s → IsEnumerable s → IsLevel s k l → (t : Numbers) → Contains (l.before ++ l.level) t → Held s t
 level_held s zero l h e first t c = elim (in_cases first.start t [] (subst (λ xs. Contains xs t) (ap₂ (λ b x. b ++ x) first.before first.level) c)) [
-  | inl q ↦ subst (Held s) q (held_start s first.start h e first.is_tableau first.is_start)
+  | inl q ↦ subst (Held s) q (held_start s first.start h e first.started.valid first.started.start)
   | inr x ↦ absurd (omega (arith, x.1))
 ]
 level_held s (suc k) l h e (p, hp, n) t c = go (level_held s k p h e hp) (Contains-append_cases l.before l.level t c)

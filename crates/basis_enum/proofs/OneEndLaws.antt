@@ -13,6 +13,7 @@ use Rattle.basis_enum.specs.Levels.{Levels, Move, no_move, no_tableau, parent_of
 use Rattle.basis_enum.specs.Ends.{End, complete, start, range, too_many, IsAscendingListOf, IsFirstUnfitMove, IsClosedAt, IsPassedAt, IsUnfitChild, EndsAt, EndsAtLevel, IsEnd}
 use Rattle.basis_enum.proofs.AscendingNumberLemmas.{increasing_same, in_cases}
 use Rattle.lex_tableau.proofs.TableauLemmas.{determined, alike_both}
+use Rattle.lex_tableau.proofs.SystemLemmas.{starts_same}
 use Rattle.frac128.proofs.FirstUnfitLemmas.{unfit_among, unfit_once}
 use Rattle.whole_rows.proofs.FirstUnfitLemmas.{no_unfit_row, one_unfit_row}
 use Rattle.basis_enum.proofs.NextPivotLemmas.{moves_once}
@@ -25,7 +26,7 @@ child_once level m a b p q = determined a b p.is_tableau q.is_tableau (p.pivot.s
 
 -- ---- the tableaux of a level are tableaux
 pub level_valid : (s : Parts) (k : ℕ) (l : Levels) → IsLevel s k l → (t : Numbers) → Contains l.level t → IsTableau t
-level_valid s zero l h t c = elim (in_cases h.start t [] (subst (λ xs. Contains xs t) h.level c)) [ inl e ↦ subst IsTableau e h.is_tableau | inr x ↦ absurd (omega (arith, x.1)) ]
+level_valid s zero l h t c = elim (in_cases h.start t [] (subst (λ xs. Contains xs t) h.level c)) [ inl e ↦ subst IsTableau e h.started.valid | inr x ↦ absurd (omega (arith, x.1)) ]
 level_valid s (suc k) l (p, hp, n) t c =
     subst IsTableau (get_or_default l.level c.0 no_tableau t c.1 ∙ c.2) (n.children c.0 (let e : length l.level ≡ length n.moves = n.size in let w : c.0 < length l.level = c.1 in omega arith)).is_tableau
 
@@ -52,7 +53,7 @@ level_once : (s : Parts) (k : ℕ) (l m : Levels) → IsLevel s k l → IsLevel 
 level_once s zero l m h g = levels_same l m (h.before ∙ sym g.before) (h.level ∙ ap (λ t. t ∷ []) starts ∙ sym g.level)
   where
     starts : h.start ≡ g.start
-    starts = determined h.start g.start h.is_tableau g.is_tableau (h.is_start.starts ∙ sym g.is_start.starts) (h.is_start.rated ∙ sym g.is_start.rated) (alike_both _ _ _ h.is_start.fractions g.is_start.fractions)
+    starts = starts_same s h.start g.start h.started.valid g.started.valid h.started.start g.started.start
 level_once s (suc k) l m (p, hp, n) (q, hq, o) = next_once q l m (level_valid s k q hq) (subst (λ p. IsNextLevel p l) (level_once s k p q hp hq) n) o
 
 -- there are not too many bases
@@ -164,7 +165,7 @@ not_later s k j l m e hl he hm less =
 
 -- a system whose start has a row that does not fit has no level
 starts_fit : (s : Parts) (k : ℕ) (l : Levels) → IsLevel s k l → StartFits s
-starts_fit s zero l h = h.fits
+starts_fit s zero l h = h.started.fits
 starts_fit s (suc k) l (p, hp, n) = starts_fit s k p hp
 
 no_level : (s : Parts) (k row : ℕ) (l : Levels) (e : Unfit) → IsFirstUnfitRow (length s.basics) (length s.nonbasics + 1) s.cells row e → IsLevel s k l → ⊥

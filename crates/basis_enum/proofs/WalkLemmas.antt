@@ -11,6 +11,7 @@ use Rattle.frac128.specs.declared.steps.Unfit.{Unfit}
 use Rattle.linear_systems.specs.Reached.{in_column}
 use Rattle.lex_tableau.specs.Rows.{Numbers}
 use Rattle.lex_tableau.specs.Starts.{Parts, IsSystem}
+use Rattle.lex_tableau.specs.StartStops.{IsStarted}
 use Rattle.basis_enum.specs.Bases.{basis_of, AreVariables}
 use Rattle.basis_enum.specs.Levels.{Levels, IsPivoted, IsLevel, IsMove, IsNextLevel, AreNextMoves, bases_of, most, no_tableau, parent_of}
 use Rattle.basis_enum.specs.Systems.{IsEnumerable, variable_count}
@@ -30,7 +31,7 @@ use Rattle.basis_enum.specs.Marks.{AreInOrder, AreMarksOf, AreUpTo, IsVertexOf}
 use Rattle.basis_enum.specs.Merged.{IsMerged}
 use Rattle.basis_enum.specs.Next.{AreNewMoves, move_of, no_move, target_of}
 use Rattle.basis_enum.specs.Vertices.{VertexList, mark_of, marks_of}
-use Rattle.basis_enum.specs.Walks.{levels_of, IsFirst, IsWalkAt, IsWalkToEnd, HaveEntering, IsMoveStop, IsCountStop, IsLimitStop, IsUnfitMove, AddsMoreVertices, AddsVertices}
+use Rattle.basis_enum.specs.Walks.{levels_of, IsWalkAt, IsWalkToEnd, HaveEntering, IsMoveStop, IsCountStop, IsLimitStop, IsUnfitMove, AddsMoreVertices, AddsVertices}
 use Rattle.basis_enum.proofs.LevelMoveLemmas.{basis_at, found_in_start, found_in_more, move_is, target_is_there, entering_is, next_are}
 use Rattle.basis_enum.proofs.NextLevelLemmas.{next_level}
 use Rattle.basis_enum.proofs.VertexMarkLemmas.{reached_numbered, no_marks, marks_more, are_vertices}
@@ -237,19 +238,19 @@ system_variables s h e =
     bounds : (v : ℕ) → Contains s.nonbasics v → (0 < v) × (v ≤ variable_count s)
     bounds v c = (e.numbered v).0 (in_column c.0 c.1 (get_or_default s.nonbasics c.0 0 v c.1 ∙ c.2))
 
-first_nonbasics : (s : Parts) (t : Numbers) → IsFirst s t → s.nonbasics ≡ t.nonbasics
-first_nonbasics s t f = same_number_lists s.nonbasics t.nonbasics f.is_start.fractions.width (λ j h. f.is_start.fractions.nonbasic j h)
+first_nonbasics : (s : Parts) (t : Numbers) → IsStarted s t → s.nonbasics ≡ t.nonbasics
+first_nonbasics s t f = same_number_lists s.nonbasics t.nonbasics f.start.fractions.width (λ j h. f.start.fractions.nonbasic j h)
 
-first_held : (s : Parts) (t : Numbers) → IsSystem s → IsEnumerable s → IsFirst s t → Held s t
-first_held s t h e f = held_start s t h e f.is_tableau f.is_start
+first_held : (s : Parts) (t : Numbers) → IsSystem s → IsEnumerable s → IsStarted s t → Held s t
+first_held s t h e f = held_start s t h e f.valid f.start
 
-pub first_ready : (s : Parts) (t : Numbers) → IsSystem s → IsEnumerable s → IsFirst s t → IsReady t
+pub first_ready : (s : Parts) (t : Numbers) → IsSystem s → IsEnumerable s → IsStarted s t → IsReady t
 first_ready s t h e f = ready s t e (first_held s t h e f)
 
-pub first_numbered : (s : Parts) (t : Numbers) → IsSystem s → IsEnumerable s → IsFirst s t → AreUpTo (variable_count s) t.basics
+pub first_numbered : (s : Parts) (t : Numbers) → IsSystem s → IsEnumerable s → IsStarted s t → AreUpTo (variable_count s) t.basics
 first_numbered s t h e f = reached_numbered s t e (first_held s t h e f).reached
 
-pub first_basis : (s : Parts) (t : Numbers) → IsFirst s t → basis_of s.nonbasics ≡ basis_of t.nonbasics
+pub first_basis : (s : Parts) (t : Numbers) → IsStarted s t → basis_of s.nonbasics ≡ basis_of t.nonbasics
 first_basis s t f = ap basis_of (first_nonbasics s t f)
 
 pub first_found : (t : Numbers) (known : List ℕ) (found : List Move) → AreFound t 0 known (length t.nonbasics) found → AreFoundIn (t ∷ []) known found
@@ -259,13 +260,13 @@ pub first_all_ready : (t : Numbers) → IsReady t → AreReady (t ∷ [])
 first_all_ready t r i hi = let first : i ≡ 0 = omega arith in subst (λ i. IsReady (get_or (t ∷ []) i no_tableau)) (sym first) r
 
 pub walk_start : (s : Parts) (t : Numbers) (w : Walk) (vertex : Option Vertex) → IsSystem s
-    → IsFirst s t → w.level.items ≡ t ∷ [] → w.known.items ≡ basis_of s.nonbasics ∷ []
+    → IsStarted s t → w.level.items ≡ t ∷ [] → w.known.items ≡ basis_of s.nonbasics ∷ []
     → w.vertices.items ≡ option_to_list vertex → IsVertexOf s t vertex → IsWalkAt s 0 w
 walk_start s t w vertex valid f level known vertices is =
     record {
       valid = valid;
       before = [];
-      is_level = record { start = t; is_tableau = f.is_tableau; is_start = f.is_start; fits = f.fits; before = refl; level = level };
+      is_level = record { start = t; started = f; before = refl; level = level };
       known = record { all = λ b c. subst (λ xs. Contains xs b) (sym (known ∙ told)) c; only = λ b c. subst (λ xs. Contains xs b) (known ∙ told) c };
       ascending = subst IsStrictlyIncreasing (sym known) (λ k h. absurd (omega arith));
       count = ap length known ∙ sym (ap length level);

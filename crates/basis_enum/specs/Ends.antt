@@ -1,12 +1,13 @@
 -- How the enumeration of a system ends
-use Rattle.std.specs.Prelude.{ℕ, ◌+◌, ◌<◌, ◌≤◌, ◌≡◌, List, [], ◌++◌, length, get_or, All}
+use Rattle.std.specs.Prelude.{ℕ, ◌<◌, ◌≤◌, ◌≡◌, List, [], ◌++◌, length, get_or, All}
 use Rattle.std.specs.List.{Contains}
 use Rattle.std.specs.List.Sorted.{IsStrictlyIncreasing}
-use Rattle.frac128.specs.declared.steps.Unfit.{Unfit}
-use Rattle.whole_rows.specs.StartRows.{IsFirstUnfitRow}
 use Rattle.frac128.specs.Steps.{StepFits, IsFirstUnfit}
+use Rattle.frac128.specs.declared.steps.Unfit.{Unfit}
 use Rattle.lex_tableau.specs.Rows.{Numbers}
 use Rattle.lex_tableau.specs.Starts.{Parts}
+use Rattle.lex_tableau.specs.StartStops.{IsStartStop}
+use Rattle.lex_tableau.specs.declared.tableau.StartStop.TheVariants as starts
 use Rattle.basis_enum.specs.Levels.{Levels, Move, no_move, parent_of, entering, AreNextMoves, steps_of, count, most, IsLevel}
 
 -- all reached tableaux, level after level; a row of the start with a step that does not fit; a
@@ -70,6 +71,5 @@ pub record EndsAtLevel (s : Parts) (end : End) : Type 0 where
 
 -- the enumeration of a system ends so, whatever the number of workers
 abbrev pub IsEnd : Parts → End → Type 0
-IsEnd s (start row unfit) =
-    IsFirstUnfitRow (length s.basics) (length s.nonbasics + 1) s.cells row unfit
+IsEnd s (start row unfit) = IsStartStop s (starts.Unfit row unfit)
 IsEnd s end = EndsAtLevel s end

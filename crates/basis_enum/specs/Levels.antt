@@ -7,7 +7,8 @@ use Rattle.linear_systems.specs.Rows.{IsLexicographicRow}
 use Rattle.frac128.specs.Steps.{Step, StepFits}
 use Rattle.lex_tableau.specs.Ratio.{variable_at}
 use Rattle.lex_tableau.specs.Rows.{Numbers, tableau, IsTableau, IsPivotOf}
-use Rattle.lex_tableau.specs.Starts.{Parts, IsStartOf, StartFits}
+use Rattle.lex_tableau.specs.Starts.{Parts}
+use Rattle.lex_tableau.specs.StartStops.{IsStarted}
 use Rattle.lex_tableau.specs.Pivots.{steps_of_pivot}
 use Rattle.basis_enum.specs.Bases.{basis_of, neighbour_of}
 
@@ -93,9 +94,7 @@ most = 20000
 -- level 0
 pub record IsFirstLevel (s : Parts) (l : Levels) : Type 0 where
   pub start : Numbers
-  pub is_tableau : IsTableau start
-  pub is_start : IsStartOf s start
-  pub fits : StartFits s
+  pub started : IsStarted s start
   pub before : l.before ≡ []
   pub level : l.level ≡ start ∷ []
 

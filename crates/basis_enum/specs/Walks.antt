@@ -3,8 +3,8 @@ use Rattle.std.specs.Prelude.{ℕ, ◌<◌, ◌≡◌, ◌⊎◌, List, [], ◌+
 use Rattle.std.specs.List.{Contains}
 use Rattle.std.specs.List.Sorted.{IsStrictlyIncreasing}
 use Rattle.frac128.specs.declared.steps.Unfit.{Unfit}
-use Rattle.lex_tableau.specs.Rows.{Numbers, IsTableau}
-use Rattle.lex_tableau.specs.Starts.{Parts, IsSystem, IsStartOf, StartFits}
+use Rattle.lex_tableau.specs.Rows.{Numbers}
+use Rattle.lex_tableau.specs.Starts.{Parts, IsSystem}
 use Rattle.basis_enum.specs.Levels as L
 use Rattle.basis_enum.specs.Levels.{Levels, IsLevel, most, parent_of}
 use Rattle.basis_enum.specs.Ends.{IsAscendingListOf, IsFirstUnfitMove}
@@ -18,12 +18,6 @@ use Rattle.basis_enum.specs.Found.{AreKnown}
 use Rattle.basis_enum.specs.Marks.{AreMarksOf}
 use Rattle.basis_enum.specs.Next.{AreNewMoves, move_of}
 use Rattle.basis_enum.specs.Vertices.{marks_of}
-
--- the start of a system
-pub record IsFirst (s : Parts) (t : Numbers) : Type 0 where
-  pub is_tableau : IsTableau t
-  pub is_start : IsStartOf s t
-  pub fits : StartFits s
 
 -- a level, and those before it
 abbrev pub levels_of : List Numbers → List Numbers → Levels

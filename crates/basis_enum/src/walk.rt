@@ -2,6 +2,7 @@
 ghost use Rattle.std.specs.Prelude.{◌≡◌, ◌<◌, ◌≤◌, ◌+◌, ℕ, [], ◌∷◌, length, map, IfErr, IfOk, OnOk};
 ghost use Rattle.std.specs.List.{Contains};
 ghost use Rattle.std.specs.List.Sorted.{IsStrictlyIncreasing};
+ghost use Rattle.lex_tableau.specs.StartStops.{IsStarted};
 ghost use Rattle.basis_enum.specs.Ends.{IsAscendingListOf};
 ghost use Rattle.basis_enum.specs.Systems.{IsEnumerable};
 ghost use Rattle.basis_enum.specs.Children.{AreAllChildren, IsChildStop, IsExpandable};
@@ -9,7 +10,7 @@ ghost use Rattle.basis_enum.specs.Enumeration.{IsEnumStop};
 ghost use Rattle.basis_enum.specs.Found.{AreFoundIn};
 ghost use Rattle.basis_enum.specs.Merged.{IsMerged};
 ghost use Rattle.basis_enum.specs.Next.{AreNewMoves, target_of};
-ghost use Rattle.basis_enum.specs.Walks.{AddsVertices, HaveEntering, IsCountStop, IsFirst, IsLimitStop, IsMoveStop, IsWalkAt, IsWalkToEnd};
+ghost use Rattle.basis_enum.specs.Walks.{AddsVertices, HaveEntering, IsCountStop, IsLimitStop, IsMoveStop, IsWalkAt, IsWalkToEnd};
 
 use crate::bases::{basis, merged};
 use crate::children::{ChildStop, Expansion, children};
@@ -43,7 +44,7 @@ pub(crate) struct Walk {
 
 // The start of the system.
 fn first(alloc: Global, system: &System) -> Result<Tableau, EnumStop>
-    ensures first { IfOk result (IsFirst system.now) }
+    ensures first { IfOk result (IsStarted system.now) }
     ensures stop { IfErr result (IsEnumStop system.now) }
 {
     match Tableau::start(alloc, system) {

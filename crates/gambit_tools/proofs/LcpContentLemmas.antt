@@ -7,7 +7,7 @@ use Rattle.sequence_form.specs.Counts.{problem_rows}
 use Rattle.lex_tableau.specs.declared.tableau.StartStop.{StartStop}
 use Rattle.lex_tableau.specs.declared.tableau.StartStop.TheVariants as start_stop
 use Rattle.zero_sum_lp.specs.PlanPairs.{PlanPair}
-use Rattle.lemke_pivot.specs.FormProblems.{problem_in, start_at, told_start}
+use Rattle.lemke_pivot.specs.FormProblems.{problem_in, form_start, told_start}
 use Rattle.lemke_pivot.specs.Parts.{Problem}
 use Rattle.lemke_pivot.specs.declared.stop.LcpStop.{LcpStop}
 use Rattle.two_player_tools.specs.Entries.{line_in}
@@ -18,9 +18,10 @@ use Rattle.two_player_tools.specs.TwoPlayers.{form_in, two_players}
 use Rattle.refusals.specs.declared.refusal.Refusal.{Refusal}
 use Rattle.gambit_tools.proofs.FormContentLemmas.{AreContents, form_in-contents, line_in-contents, only-contents, then-contents, told-contents, two_players-contents}
 
-start-contents : (f : FormData) (stop : StartStop) → start_at f (Err stop) → origin (problem_refusal (told_start stop)) ≡ Contents
+start-contents : (f : FormData) (stop : StartStop) → form_start f (Err stop) → origin (problem_refusal (told_start stop)) ≡ Contents
 start-contents f (start_stop.Unfit row step) h = refl
-start-contents f start_stop.Memory h = absurd h.1.1
+start-contents f start_stop.Memory (_, (_, inl h)) = absurd h
+start-contents f start_stop.Memory (_, (_, inr h)) = cc (h.2)
 
 problem-contents : (f : FormData) (stop : LcpStop) → problem_in f (Err stop) → origin (problem_refusal stop) ≡ Contents
 problem-contents f stop (inl h) = ap (λ s. origin (problem_refusal s)) h.1

@@ -9,7 +9,7 @@ use Rattle.sequence_data.specs.Data.{FormData}
 use Rattle.sequence_form.specs.Counts.{size_of_program}
 use Rattle.lex_tableau.specs.declared.tableau.StartStop.{StartStop}
 use Rattle.lex_tableau.specs.declared.tableau.StartStop.TheVariants as start_stop
-use Rattle.zero_sum_lp.specs.FormPrograms.{program_in, start_of, told_start}
+use Rattle.zero_sum_lp.specs.FormPrograms.{program_in, form_start, told_start}
 use Rattle.zero_sum_lp.specs.Parts.{Program}
 use Rattle.zero_sum_lp.specs.PlanStops.{plans_of}
 use Rattle.zero_sum_lp.specs.declared.stop.LpStop.{LpStop}
@@ -30,9 +30,10 @@ plan-contents : (o : Program) (stop : PlanStop) → plans_of o (Err stop) → or
 plan-contents o (plan_stop.Range player step) h = refl
 plan-contents o plan_stop.Memory h = absurd h
 
-start-contents : (f : FormData) (stop : StartStop) → start_of f (Err stop) → origin (program_refusal (told_start stop)) ≡ Contents
+start-contents : (f : FormData) (stop : StartStop) → form_start f (Err stop) → origin (program_refusal (told_start stop)) ≡ Contents
 start-contents f (start_stop.Unfit row step) h = refl
-start-contents f start_stop.Memory h = absurd h.1.1
+start-contents f start_stop.Memory (_, (_, inl h)) = absurd h
+start-contents f start_stop.Memory (_, (_, inr h)) = cc (h.2)
 
 program-contents : (f : FormData) (stop : LpStop) → program_in f (Err stop) → origin (program_refusal stop) ≡ Contents
 program-contents f stop (inl h) = ap (λ s. origin (program_refusal s)) h.1

@@ -1,5 +1,5 @@
 -- What the stages before keep of a sequence form and an optimum.
-use Rattle.std.proofs.Common.{ℕ, ◌≡◌, ◌∙◌, sym, subst, arith, Bool, true, false, Option, List, Ok}
+use Rattle.std.proofs.Common.{ℕ, ◌≡◌, ◌∙◌, sym, ap, subst, arith, Bool, true, false, Option, List, Ok}
 use Rattle.game_theory.specs.FirstNodes.{AreNumberedByFirstNodes}
 use Rattle.game_theory.specs.Trees.{IsTree as is_game_tree}
 use Rattle.game_core.specs.Tree.{GameTree, IsGameTree}
@@ -12,7 +12,7 @@ use Rattle.sequence_data.specs.Data.{FormData, IsFormData, IsSideData}
 use Rattle.sequence_form.specs.Forms.{IsTreeForm}
 use Rattle.sequence_form.specs.declared.counts.Counts.{Counts}
 use Rattle.sequence_form.proofs.KeptFormLemmas.{table_form-valid, tree_form-valid}
-use Rattle.zero_sum_lp.specs.FormPrograms.{program_in}
+use Rattle.zero_sum_lp.specs.FormPrograms.{program_in, with_start}
 use Rattle.zero_sum_lp.specs.Parts.{IsOptimumOf, IsProgram, Program}
 use Rattle.zero_sum_lp.specs.PlanPairs.{PlanPair}
 use Rattle.zero_sum_lp.specs.PlanStops.{plans_of}
@@ -56,8 +56,11 @@ pub optimum-second : (p o : Program) → IsProgram p → IsOptimumOf p o → IsS
 optimum-second p o h k = subst IsSideData (sym k.second) h.second
 
 module _ (f : FormData) (p o : Program) (plans : PlanPair) (h : IsSolving f p o plans) where
+  starts_so : with_start f h.program.2.2.2.2.1.1.0 ≡ p
+  starts_so = cc (h.program.2.2.2.2.1.1.2)
+
   pub first-same : o.first ≡ f.first
-  first-same = h.optimum.first ∙ h.program.2.2.2.2.1.1.first
+  first-same = h.optimum.first ∙ sym (ap (λ (x : Program). x.first) starts_so)
 
   pub second-same : o.second ≡ f.second
-  second-same = h.optimum.second ∙ h.program.2.2.2.2.1.1.second
+  second-same = h.optimum.second ∙ sym (ap (λ (x : Program). x.second) starts_so)

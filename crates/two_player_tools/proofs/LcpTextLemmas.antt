@@ -22,7 +22,7 @@ use Rattle.sequence_form.specs.Laws.{count_of_columns, count_of_rows}
 use Rattle.sequence_form.proofs.Laws.{table_stands, tree_stands}
 use Rattle.zero_sum_lp.specs.PlanPairs.{PlanPair}
 use Rattle.lemke_pivot.specs.Ends.{IsSolutionOf}
-use Rattle.lemke_pivot.specs.FormProblems.{problem_in}
+use Rattle.lemke_pivot.specs.FormProblems.{problem_in, with_start}
 use Rattle.lemke_pivot.specs.Parts.{IsProblem, IsProblemOfForm, Problem, plan_one, plan_two}
 use Rattle.lemke_pivot.proofs.FormProblemLemmas.{problems_of_forms}
 use Rattle.lemke_pivot.proofs.PathStartLemmas.{solves_the_form}
@@ -41,11 +41,14 @@ pub record IsPivoting (f : FormData) (p s : Problem) : Type 0 where
   pub solution : IsSolutionOf p s
 
 module _ (f : FormData) (p s : Problem) (h : IsPivoting f p s) where
+  starts_so : with_start f h.problem.2.2.1.1.0 ≡ p
+  starts_so = cc (h.problem.2.2.1.1.2)
+
   pub first-is : s.first ≡ f.first
-  first-is = h.solution.first ∙ h.problem.2.2.1.1.first
+  first-is = h.solution.first ∙ sym (ap (λ (x : Problem). x.first) starts_so)
 
   pub second-is : s.second ≡ f.second
-  second-is = h.solution.second ∙ h.problem.2.2.1.1.second
+  second-is = h.solution.second ∙ sym (ap (λ (x : Problem). x.second) starts_so)
 
   pub first-count : f.first.sequences ≡ sequences (side_of s.first)
   first-count = h.valid.first_is.sequences_are ∙ sym (ap (λ (d : SideData). sequences (side_of d)) first-is)
