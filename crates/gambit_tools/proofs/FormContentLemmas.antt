@@ -16,6 +16,7 @@ use Rattle.perfect_recall.specs.declared.recall.RecallStop.TheVariants as recall
 use Rattle.reduced_form.specs.Stops.{reduced_form_of}
 use Rattle.reduced_form.specs.declared.stop.ReduceStop.{ReduceStop}
 use Rattle.reduced_form.specs.declared.stop.ReduceStop.TheVariants as reduce_stop
+use Rattle.reduced_form.proofs.FormAnswerLemmas.{form_not_memory}
 use Rattle.sequence_data.specs.declared.stop.SeqStop.{SeqStop}
 use Rattle.sequence_data.specs.declared.stop.SeqStop.TheVariants as sequence_stop
 use Rattle.sequence_form.specs.Forms.{tree_form, table_form}
@@ -70,7 +71,7 @@ recall-contents t recall_stop.Memory h = absurd h
 pub form_origin : (tree : GameTree) (stop : ReduceStop) → reduced_form_of tree (Err stop) → origin (form_refusal stop) ≡ Contents
 form_origin tree (reduce_stop.TooLarge limit) h = refl
 form_origin tree (reduce_stop.Range profile player step) h = refl
-form_origin tree reduce_stop.Memory h = absurd h
+form_origin tree reduce_stop.Memory h = absurd (form_not_memory tree h)
 
 tree_form-contents : (t : GameTree) (stop : SeqStop) → tree_form t (Err stop) → origin (sequence_refusal stop) ≡ Contents
 tree_form-contents t (sequence_stop.NotTwoPlayers count) h = refl

@@ -7,6 +7,7 @@ use Rattle.game_core.specs.declared.game.Game.{Game}
 use Rattle.game_core.specs.declared.game.Game.TheVariants.{Strategic, Extensive}
 use Rattle.reduced_form.specs.Kept.{kept_of}
 use Rattle.reduced_form.specs.Stops.{reduced_form_of}
+use Rattle.reduced_form.proofs.FormAnswerLemmas.{form_of}
 use Rattle.reduced_form.proofs.OneFormLaws.{form_of-single}
 use Rattle.reduced_form.proofs.KeptSingleLemmas.{kept_of-single}
 use Rattle.enummixed.specs.ExtremeText.{extreme_text, kept_text}
@@ -28,7 +29,7 @@ strategic_text-single : (all : Bool) (game : Game) → IsGame game → IsSingle 
 strategic_text-single all (Strategic table) w = table_text-single all table w
 strategic_text-single all (Extensive tree) w =
     bind-single (refused_by form_refusal (reduced_form_of tree)) (λ form. table_text all form.table)
-    (refused_by-single form_refusal (reduced_form_of tree) (form_of-single tree)) (λ form h. table_text-single all form.table h.0.is_table)
+    (refused_by-single form_refusal (reduced_form_of tree) (form_of-single tree)) (λ form h. table_text-single all form.table (form_of tree form h).is_table)
 
 pub enummixed-single : (all : Bool) (game : Game) → IsGame game → IsSingle (enummixed all game)
 enummixed-single all game w =

@@ -1,25 +1,20 @@
 -- The table of a reduced form, and that its cells are those of the strategic form.
-use Rattle.std.proofs.Common.{ℕ, ◌+◌, ◌*◌, ◌<◌, ◌≤◌, ◌≡◌, List, [], ◌∷◌, length, map, get_or, All, inl, inr, refl, sym, ap, ap₂, ◌∙◌, subst, arith}
+use Rattle.std.proofs.Common.{ℕ, ◌+◌, ◌*◌, ◌<◌, ◌≤◌, ◌≡◌, List, [], ◌∷◌, length, map, get_or, All, refl, sym, ap, ap₂, ◌∙◌, subst, arith}
 use Rattle.std.proofs.lemmas.List.{length-map, get_or-map, get_or_default}
 use native.Mathlib.Nat as N
 use Rattle.rational.specs.Rational.{ℚ}
 use Rattle.game_theory.specs.Profiles.{profile_count, number_of}
 use Rattle.game_theory.proofs.ProfileNumberLemmas.{number_of-below, profile_at-number_of}
-use Rattle.game_theory.specs.Trees.{Tree, IsTree as is_game_tree}
+use Rattle.game_theory.specs.Trees.{IsTree as is_game_tree}
 use Rattle.game_theory.specs.Behaviour.{payoff, pure}
 use Rattle.reduced_strategies.specs.StrategicForm.{AreStrategies, completed}
 use Rattle.reduced_strategies.proofs.CompletionLemmas.{completions-pay}
 use Rattle.game_core.specs.Table.{GameTable, IsTable, most_payoffs}
 use Rattle.game_core.specs.Tree.{GameTree}
 use Rattle.game_core.specs.TreeGame.{game_of_tree}
-use Rattle.reduced_form.specs.Cells.{AreCells, IsCellStop}
-use Rattle.reduced_form.specs.Counts.{AreCounted, choices_by}
-use Rattle.reduced_form.specs.Limits.{AreFew, AllCellsFit, most_choices}
+use Rattle.reduced_form.specs.Cells.{AreCells}
 use Rattle.reduced_form.specs.ReducedForm.{ReducedForm, IsReducedForm, PaysCompletions, strategy_name}
-use Rattle.reduced_form.specs.Stops.{IsReduceStop}
-use Rattle.reduced_form.specs.declared.stop.ReduceStop.{ReduceStop}
-use Rattle.reduced_form.specs.declared.stop.ReduceStop.TheVariants as stops
-use Rattle.reduced_form.proofs.FormCountLemmas.{profile_count-player, counts-positive, counted-same, choice_count-by}
+use Rattle.reduced_form.proofs.FormCountLemmas.{profile_count-player, counts-positive}
 
 -- ---- sizes
 -- there are no more profiles than payoffs may be
@@ -73,10 +68,6 @@ form-is_form t strategies payoffs table w a is long few cells = subst (λ (x : G
   pays = λ i k l h. (cells k i l (omega (arith, cell_place (length t.players) (profile_count (map length strategies)) k i h l))).value_is;
 })
 
--- all steps of its cells fit
-pub form-all_fit : (t : Tree) (strategies : List (List (List ℕ))) (payoffs : List ℚ) → length payoffs ≡ t.players * profile_count (map length strategies) → AreCells t strategies payoffs → AllCellsFit t strategies
-form-all_fit t strategies payoffs long cells k i h l = (cells k i l (omega (arith, cell_place t.players (profile_count (map length strategies)) k i h l))).steps_fit
-
 -- each cell is what every completion pays
 pub form-pays_completions : (t : GameTree) (form : ReducedForm) → is_game_tree (game_of_tree t) → IsReducedForm t form → PaysCompletions t form
 form-pays_completions t form w f profile choice i p c l =
@@ -84,15 +75,3 @@ form-pays_completions t form w f profile choice i p c l =
     completions-pay (game_of_tree t) form.choices profile choice i w f.are_strategies p c
     ∙ ap (λ x. payoff (game_of_tree t) (pure (completed (game_of_tree t) form.choices x)) i) (sym (profile_at-number_of ns profile p))
     ∙ sym (f.pays i (number_of ns profile) l (number_of-below ns profile p))
-
--- both counts are within their limits
-pub form-few : (t : Tree) (counts : List ℕ) (strategies : List (List (List ℕ))) → AreCounted t counts → AreStrategies t strategies → t.players * profile_count counts ≤ most_payoffs → choices_by t 0 counts ≤ most_choices → AreFew t strategies
-form-few t counts strategies h a payoffs choices =
-    let same = counted-same t counts strategies h a in
-    record { few_payoffs = subst (λ ns. t.players * profile_count ns ≤ most_payoffs) same payoffs; few_choices = omega (arith, choice_count-by t strategies counts same) }
-
--- a stop of the cells is one of the form
-pub cell_stop-is_stop : (t : Tree) (strategies : List (List (List ℕ))) (stop : ReduceStop) → AreStrategies t strategies → AreFew t strategies → IsCellStop t strategies stop → IsReduceStop t stop
-cell_stop-is_stop t strategies (stops.TooLarge limit) a few h = absurd h
-cell_stop-is_stop t strategies (stops.Range profile player step) a few h = inr (record { strategies = strategies; are_strategies = a; are_few = few; is_first = h })
-cell_stop-is_stop t strategies stops.Memory a few h = inl refl

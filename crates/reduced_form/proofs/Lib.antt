@@ -1,6 +1,7 @@
 mod ActionTextLemmas
 mod CellRowLemmas
 pub mod EliminationLemmas
+pub mod FormAnswerLemmas
 pub mod FormCountLemmas
 pub mod FormLaws
 pub mod KeptCellLemmas

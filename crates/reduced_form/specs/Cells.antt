@@ -1,14 +1,12 @@
 -- The payoffs of a reduced form as they are computed, profile after profile and in each player after player.
-use Rattle.std.specs.Prelude.{ℕ, ◌+◌, ◌*◌, ◌<◌, ◌≡◌, ⊤, List, length, map, slice_index_or, All}
+use Rattle.std.specs.Prelude.{ℕ, ◌+◌, ◌*◌, ◌<◌, ◌≡◌, List, length, map, slice_index_or, All}
 use Rattle.rational.specs.Rational.{ℚ, zero_ℚ}
 use Rattle.game_theory.specs.Profiles.{profile_at}
 use Rattle.game_theory.specs.Trees.{Tree}
 use Rattle.game_theory.specs.Behaviour.{payoff, pure}
 use Rattle.reduced_strategies.specs.StrategicForm.{completed}
 use Rattle.frac128.specs.Steps.{StepFits}
-use Rattle.reduced_form.specs.declared.stop.ReduceStop.{ReduceStop}
-use Rattle.reduced_form.specs.declared.stop.ReduceStop.TheVariants as stops
-use Rattle.reduced_form.specs.Limits.{cell_steps, IsFirstUnfitCell}
+use Rattle.reduced_form.specs.Limits.{cell_steps}
 
 -- what the profile with number k pays player i
 abbrev pub cell : Tree → List (List (List ℕ)) → ℕ → ℕ → ℚ
@@ -23,9 +21,3 @@ pub record IsCell (t : Tree) (strategies : List (List (List ℕ))) (k i : ℕ) (
 abbrev pub AreCells : Tree → List (List (List ℕ)) → List ℚ → Type 0
 AreCells t strategies payoffs =
     (k i : ℕ) → i < t.players → k * t.players + i < length payoffs → IsCell t strategies k i (slice_index_or payoffs (k * t.players + i) zero_ℚ)
-
--- a step of a cell does not fit, or memory ran out
-abbrev pub IsCellStop : Tree → List (List (List ℕ)) → ReduceStop → Type 0
-IsCellStop t strategies (stops.TooLarge limit) = ⊥
-IsCellStop t strategies (stops.Range profile player unfit) = IsFirstUnfitCell t strategies profile player unfit
-IsCellStop t strategies stops.Memory = ⊤

@@ -1,9 +1,12 @@
 -- The numbers of the players' reduced strategies, and the sizes of the form by them.
 use Rattle.std.specs.Prelude.{ℕ, suc, ◌+◌, ◌*◌, ◌<◌, ◌≡◌, List, [], ◌∷◌, length, map, slice_index}
+use Rattle.answers.specs.Answers.{Answer, ◌>>=◌}
 use Rattle.game_theory.specs.OwnSets.{own_sets}
 use Rattle.game_theory.specs.Trees.{Tree}
 use Rattle.reduced_strategies.specs.StrategicForm.{AreStrategies}
 use Rattle.strategy_lists.specs.Decisions.{HasCount}
+use Rattle.reduced_form.specs.Stops.{strategies_of, within_limits}
+use Rattle.reduced_form.specs.declared.stop.ReduceStop.{ReduceStop}
 
 -- the numbers of strategies of the first players
 abbrev pub AreCounts : Tree → List ℕ → Type 0
@@ -19,3 +22,7 @@ pub record AreCounted (t : Tree) (counts : List ℕ) : Type 0 where
   pub strategies : List (List (List ℕ))
   pub are_strategies : AreStrategies t strategies
   pub counts_are : counts ≡ map length strategies
+
+-- both counts of the form over a tree's strategies are within their limits
+abbrev pub counts_in : Tree → Answer ReduceStop (Unit {0})
+counts_in t = strategies_of t >>= within_limits t

@@ -1,6 +1,6 @@
--- Why a tree has no reduced form within the limits.
-use Rattle.std.specs.Prelude.{ℕ, ◌<◌, ◌≤◌, ◌≡◌, ◌⊎◌, List, Ok, Err}
-use Rattle.answers.specs.Answers.{Answer}
+-- Why a tree has no reduced form within the limits. Players and profiles count from 0.
+use Rattle.std.specs.Prelude.{ℕ, ◌<◌, ◌≡◌, List, Ok, Err}
+use Rattle.answers.specs.Answers.{Answer, ◌>>=◌, ◌>>◌, refuse_where, refused_by}
 use Rattle.game_theory.specs.Trees.{Tree}
 use Rattle.reduced_strategies.specs.StrategicForm.{AreStrategies}
 use Rattle.game_core.specs.Table.{most_payoffs}
@@ -8,8 +8,8 @@ use Rattle.game_core.specs.Tree.{GameTree}
 use Rattle.game_core.specs.TreeGame.{game_of_tree}
 use Rattle.game_core.specs.declared.too_large.TooLarge.{TooLarge}
 use Rattle.game_core.specs.declared.too_large.What.TheVariants as what
-use Rattle.frac128.specs.Steps.{Step}
-use Rattle.reduced_form.specs.Limits.{payoff_count, choice_count, most_choices, AreFew, AllCellsFit, IsFirstUnfitCell}
+use Rattle.frac128.specs.FirstUnfit.{all_fit}
+use Rattle.reduced_form.specs.Limits.{cell_steps, cells, choice_count, most_choices, payoff_count}
 use Rattle.reduced_form.specs.ReducedForm.{ReducedForm, IsReducedForm}
 use Rattle.reduced_form.specs.declared.stop.ReduceStop.{ReduceStop}
 use Rattle.reduced_form.specs.declared.stop.ReduceStop.TheVariants as stops
@@ -21,38 +21,32 @@ too_many_payoffs = record { what = what.Payoffs; count = 1048577; limit = 104857
 abbrev pub too_many_choices : TooLarge
 too_many_choices = record { what = what.Choices; count = 67108865; limit = 67108864 }
 
--- the form has more payoffs than it may
-pub record HasTooManyPayoffs (t : Tree) : Type 0 where
-  pub strategies : List (List (List ℕ))
-  pub are_strategies : AreStrategies t strategies
-  pub many : most_payoffs < payoff_count t strategies
+-- the reduced strategies of all players
+abbrev pub strategies_of : Tree → Answer ReduceStop (List (List (List ℕ)))
+strategies_of t (Ok strategies) = AreStrategies t strategies
+strategies_of t (Err stop) = ⊥
 
--- the form has no more payoffs than it may, but more choices
-pub record HasTooManyChoices (t : Tree) : Type 0 where
-  pub strategies : List (List (List ℕ))
-  pub are_strategies : AreStrategies t strategies
-  pub few_payoffs : payoff_count t strategies ≤ most_payoffs
-  pub many : most_choices < choice_count t strategies
+-- both counts are within their limits, that of payoffs first
+abbrev pub within_limits : Tree → List (List (List ℕ)) → Answer ReduceStop (Unit {0})
+within_limits t strategies =
+    refuse_where (most_payoffs < payoff_count t strategies) (stops.TooLarge too_many_payoffs)
+    >> refuse_where (most_choices < choice_count t strategies) (stops.TooLarge too_many_choices)
 
--- both counts are within their limits, and this is the first step that does not fit
-pub record HasUnfitStep (t : Tree) (profile player : ℕ) (step : Step) : Type 0 where
-  pub strategies : List (List (List ℕ))
-  pub are_strategies : AreStrategies t strategies
-  pub are_few : AreFew t strategies
-  pub is_first : IsFirstUnfitCell t strategies profile player step
+-- the steps of all cells fit; or the first that does not, with its profile and player
+abbrev pub cells_in : Tree → List (List (List ℕ)) → Answer ReduceStop (Unit {0})
+cells_in t strategies =
+    refused_by (λ stop. stops.Range stop.0.0 stop.0.1 stop.1)
+    (all_fit (λ cell. cell_steps t strategies cell.0 cell.1) (cells t strategies))
 
--- why a tree has no reduced form: a count is too large, first that of payoffs and then that of choices; or a step does not fit
-abbrev pub IsReason : Tree → ReduceStop → Type 0
-IsReason t (stops.TooLarge limit) = (HasTooManyPayoffs t × (limit ≡ too_many_payoffs)) ⊎ (HasTooManyChoices t × (limit ≡ too_many_choices))
-IsReason t (stops.Range profile player unfit) = HasUnfitStep t profile player unfit
-IsReason t stops.Memory = ⊥
+-- the form over these strategies
+abbrev pub form_over : GameTree → List (List (List ℕ)) → Answer ReduceStop ReducedForm
+form_over tree strategies (Ok form) = IsReducedForm tree form × (form.choices ≡ strategies)
+form_over tree strategies (Err stop) = ⊥
 
--- a reason, or want of memory
-abbrev pub IsReduceStop : Tree → ReduceStop → Type 0
-IsReduceStop t stop = (stop ≡ stops.Memory) ⊎ IsReason t stop
-
--- The reduced form of a tree, whose counts are within their limits and whose payoffs are computed in steps that all fit; or why it
--- has none.
+-- The reduced form of a tree, whose counts are within their limits and whose payoffs are computed
+-- in steps that all fit; or why it has none.
 abbrev pub reduced_form_of : GameTree → Answer ReduceStop ReducedForm
-reduced_form_of tree (Ok form) = IsReducedForm tree form × AreFew (game_of_tree tree) form.choices × AllCellsFit (game_of_tree tree) form.choices
-reduced_form_of tree (Err stop) = IsReason (game_of_tree tree) stop
+reduced_form_of tree =
+    strategies_of (game_of_tree tree) >>= (λ strategies.
+    within_limits (game_of_tree tree) strategies
+    >> (cells_in (game_of_tree tree) strategies >> form_over tree strategies))

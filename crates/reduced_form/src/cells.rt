@@ -1,5 +1,6 @@
 // The payoffs of a reduced form.
-ghost use Rattle.std.specs.Prelude.{◌≡◌, ◌<◌, ◌≤◌, ◌*◌, ◌+◌, suc, length, map, IfOk, IfErr, OnOk, All};
+ghost use Rattle.std.specs.Prelude.{◌≡◌, ◌<◌, ◌≤◌, ◌*◌, ◌+◌, suc, length, map, Err, IfOk, IfErr, OnOk, All};
+ghost use Rattle.answers.specs.Answers.{Gives, map_ok};
 ghost use Rattle.game_theory.specs.Profiles.{profile_count, profile_at};
 ghost use Rattle.game_core.specs.Table.{most_payoffs};
 ghost use Rattle.game_core.specs.TreeGame.{game_of_tree};
@@ -7,7 +8,9 @@ ghost use Rattle.pure_payoffs.specs.Plays.{game_of, strategies_of, choice_of};
 ghost use Rattle.pure_payoffs.specs.Shortcuts.{HasRoom, KeepShortcuts};
 ghost use Rattle.reduced_strategies.specs.Places.{ArePlaces};
 ghost use Rattle.reduced_strategies.specs.StrategicForm.{AreStrategies};
-ghost use Rattle.reduced_form.specs.Cells.{AreCells, IsCellStop};
+ghost use Rattle.reduced_form.specs.Cells.{AreCells};
+ghost use Rattle.reduced_form.specs.Stops.{cells_in};
+ghost use Rattle.reduced_form.specs.declared.stop.ReduceStop.TheVariants as stops;
 ghost use Rattle.game_theory.specs.Children.{AreChildren};
 
 use crate::stop::ReduceStop;
@@ -39,7 +42,8 @@ fn push_cells(
         ≡ suc number * length play.now.tree.now.players) }
     ensures cells { OnOk result
         (AreCells (game_of play.now) (strategies_of play.now) payoffs.new.items) }
-    ensures stop { IfErr result (IsCellStop (game_of play.now) (strategies_of play.now)) }
+    ensures stop { IfErr result (λ stop. Gives stops.Memory
+        (cells_in (game_of play.now) (strategies_of play.now)) (Err stop)) }
 {
     for player in 0..play.tree.players().len() as u32 {
         match play.payoff(shortcuts, player) {
@@ -73,7 +77,8 @@ pub fn cells(
         ≡ length tree.now.players * profile_count counts.now) }
     ensures cells { IfOk result
         (λ payoffs. AreCells (game_of_tree tree.now) strategies.now payoffs.items) }
-    ensures stop { IfErr result (IsCellStop (game_of_tree tree.now) strategies.now) }
+    ensures fit { Gives stops.Memory (cells_in (game_of_tree tree.now) strategies.now)
+        (map_ok result (λ _. tt)) }
 {
     trees_are_game_trees();
     let players = tree.players().len();

@@ -6,8 +6,8 @@
 //! Definitions: `specs::ReducedForm` has the form and the names of strategies, `Limits` its limits,
 //! `Stops` what a tree answers (`reduced_form_of`), `Kept` what a table answers (`kept_of`).
 //! Private words: `specs::Counts` and `Cells`, how the code counts and fills tables.
-//! Lemmas for callers: `proofs::FormLaws` and `FormCountLemmas` on the table, `OneFormLaws` and
-//! `KeptSingleLemmas`.
+//! Lemmas for callers: `proofs::FormAnswerLemmas` on what a tree answers, `FormLaws` and
+//! `FormCountLemmas` on the table, `OneFormLaws` and `KeptSingleLemmas`.
 //! A change here touches: `behaviour_profile`, `enumpure_trees`, `enummixed`, `gambit_tools`.
 #![tactic(auto)]
 

@@ -1,13 +1,14 @@
 // The sizes of a reduced form, counted before it is built.
-ghost use Rattle.std.specs.Prelude.{◌≡◌, ◌<◌, ◌≤◌, ◌*◌, ◌+◌, ◌^◌, length, map, IfOk, IfErr, OnOk};
+ghost use Rattle.std.specs.Prelude.{◌≡◌, ◌<◌, ◌≤◌, ◌*◌, ◌+◌, ◌^◌, length, map, Err, IfOk, IfErr, OnOk};
+ghost use Rattle.answers.specs.Answers.{Gives};
 ghost use Rattle.game_theory.specs.Profiles.{profile_count};
 ghost use Rattle.game_core.specs.Table.{most_payoffs};
 ghost use Rattle.game_core.specs.Tree.{own_sets as tree_sets};
 ghost use Rattle.game_core.specs.TreeGame.{game_of_tree};
 ghost use Rattle.reduced_form.specs.declared.stop.ReduceStop.TheVariants as stops;
-ghost use Rattle.reduced_form.specs.Counts.{AreCounted, choices_by};
+ghost use Rattle.reduced_form.specs.Counts.{AreCounted, choices_by, counts_in};
 ghost use Rattle.reduced_form.specs.Limits.{most_choices};
-ghost use Rattle.reduced_form.specs.Stops.{IsReduceStop, too_many_payoffs, too_many_choices};
+ghost use Rattle.reduced_form.specs.Stops.{too_many_payoffs, too_many_choices};
 ghost use Rattle.game_theory.specs.OwnSets.{own_sets};
 
 use crate::stop::ReduceStop;
@@ -44,7 +45,8 @@ pub fn count_all(alloc: Global, decisions: &Decisions) -> Result<Vec<usize>, Red
     ensures counted { IfOk result (λ counts. AreCounted (game_of_tree decisions.now) counts.items) }
     ensures few { IfOk result
         (λ counts. length decisions.now.players * profile_count counts.items ≤ most_payoffs) }
-    ensures stop { IfErr result (IsReduceStop (game_of_tree decisions.now)) }
+    ensures stop { IfErr result
+        (λ stop. Gives stops.Memory (counts_in (game_of_tree decisions.now)) (Err stop)) }
 {
     trees_are_game_trees();
     let players = decisions.tree().players().len();
@@ -83,7 +85,8 @@ pub fn check_choices(tree: &Tree, counts: &[usize]) -> Result<(), ReduceStop>
     requires counted { AreCounted (game_of_tree tree.now) counts.now }
     requires few { length tree.now.players * profile_count counts.now ≤ most_payoffs }
     ensures few { OnOk result (choices_by (game_of_tree tree.now) 0 counts.now ≤ most_choices) }
-    ensures stop { IfErr result (IsReduceStop (game_of_tree tree.now)) }
+    ensures stop { IfErr result
+        (λ stop. Gives stops.Memory (counts_in (game_of_tree tree.now)) (Err stop)) }
 {
     trees_are_game_trees();
     own_sets_are_those_of_the_tree();

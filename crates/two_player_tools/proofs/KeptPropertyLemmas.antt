@@ -7,6 +7,7 @@ use Rattle.game_core.specs.TreeGame.{game_of_tree}
 use Rattle.game_core.specs.declared.game.Game.{Game}
 use Rattle.game_core.specs.declared.game.Game.TheVariants.{Strategic, Extensive}
 use Rattle.perfect_recall.specs.Found.{IsRecallOf}
+use Rattle.reduced_form.proofs.FormAnswerLemmas.{form_of}
 use Rattle.sequence_forms.specs.Forms.{HasTwoWhoRecall}
 use Rattle.sequence_data.specs.Data.{FormData, IsFormData, IsSideData}
 use Rattle.sequence_form.specs.Forms.{IsTreeForm}
@@ -29,7 +30,7 @@ pub record TreesAreGames : Type 0 where
 pub form_in-valid : (rows : Counts → ℕ) (strategic : Bool) (game : Game) (f : FormData) → TreesAreGames → IsGame game → form_in rows strategic game (Ok f) → IsFormData f
 form_in-valid rows true (Strategic t) f laws w h = table_form-valid t f w h.2
 form_in-valid rows false (Strategic t) f laws w h = table_form-valid t f w h.2
-form_in-valid rows true (Extensive t) f laws w h = table_form-valid h.0.table f h.1.0.is_table h.2.2
+form_in-valid rows true (Extensive t) f laws w h = table_form-valid h.0.table f (form_of t h.0 h.1).is_table h.2.2
 form_in-valid rows false (Extensive t) f laws w h = tree_form-valid (game_of_tree t) f (laws.game_tree t w) (laws.numbered t w) h.1.all_recall h.2.2
 
 -- a tree with a form has two players, who recall

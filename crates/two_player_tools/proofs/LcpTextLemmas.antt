@@ -10,6 +10,7 @@ use Rattle.game_core.specs.TreeGame.{game_of_tree}
 use Rattle.game_core.specs.declared.game.Game.{Game}
 use Rattle.game_core.specs.declared.game.Game.TheVariants.{Strategic, Extensive}
 use Rattle.perfect_recall.specs.Found.{IsRecallOf}
+use Rattle.reduced_form.proofs.FormAnswerLemmas.{form_of}
 use Rattle.sequence_forms.specs.Forms.{mixed_of_plans}
 use Rattle.sequence_forms.specs.PlanBehaviour.{behaviour_of}
 use Rattle.sequence_forms.specs.Sides.{sequences}
@@ -79,7 +80,7 @@ module _ (f : FormData) (p s : Problem) (h : IsPivoting f p s) where
   equilibrium : (strategic : Bool) (game : Game) → TreesAreGames → IsGame game → form_in problem_rows strategic game (Ok f) → AreInEquilibrium strategic game (plans_at s)
   equilibrium true (Strategic t) laws w k = on_table t w k.2
   equilibrium false (Strategic t) laws w k = on_table t w k.2
-  equilibrium true (Extensive t) laws w k = (k.0, k.1, on_table k.0.table k.1.0.is_table k.2.2)
+  equilibrium true (Extensive t) laws w k = (k.0, k.1, on_table k.0.table (form_of t k.0 k.1).is_table k.2.2)
   equilibrium false (Extensive t) laws w k = on_tree t k.0 laws w k.1 k.2.2
 
 -- two plans of one answer

@@ -7,6 +7,7 @@ use Rattle.game_core.specs.TreeGame.{game_of_tree}
 use Rattle.game_core.specs.declared.game.Game.{Game}
 use Rattle.game_core.specs.declared.game.Game.TheVariants.{Strategic, Extensive}
 use Rattle.perfect_recall.specs.Found.{IsRecallOf}
+use Rattle.reduced_form.proofs.FormAnswerLemmas.{form_of}
 use Rattle.sequence_forms.specs.PriceLaws.{ProvesValueOfTree}
 use Rattle.sequence_forms.specs.TableLaws.{ProvesValueOfTable}
 use Rattle.sequence_data.specs.Data.{FormData, IsFormData, SideData, form}
@@ -68,7 +69,7 @@ module _ (f : FormData) (p o : Program) (plans : PlanPair) (h : IsSolving f p o 
   holds : (strategic : Bool) (game : Game) → TreesAreGames → IsGame game → form_in size_of_program strategic game (Ok f) → HoldsOn strategic game (solution f o plans)
   holds true (Strategic t) laws w k = on_table t w k.2
   holds false (Strategic t) laws w k = on_table t w k.2
-  holds true (Extensive t) laws w k = (k.0, k.1, on_table k.0.table k.1.0.is_table k.2.2)
+  holds true (Extensive t) laws w k = (k.0, k.1, on_table k.0.table (form_of t k.0 k.1).is_table k.2.2)
   holds false (Extensive t) laws w k = on_tree t k.0 laws w k.1 k.2.2
 
 -- ---- texts

@@ -1,4 +1,4 @@
-use Rattle.std.proofs.Common.{ℕ, ◌<◌, List, length, map, All, sym, ap, ◌∙◌, subst, arith}
+use Rattle.std.proofs.Common.{ℕ, ◌<◌, inr, List, length, map, All, sym, ap, ◌∙◌, subst, arith}
 use Rattle.std.proofs.lemmas.List.{length_push}
 use Rattle.game_theory.specs.Profiles.{IsProfile}
 use Rattle.game_theory.proofs.ProfileNumberLemmas.{IsProfile-profile_at}
@@ -8,7 +8,7 @@ use Rattle.reduced_strategies.specs.StrategicForm.{completed}
 use Rattle.frac128.specs.Steps.{StepFits, IsFirstUnfit}
 use Rattle.pure_payoffs.specs.Steps.{payoff_steps}
 use Rattle.reduced_form.specs.Cells.{AreCells}
-use Rattle.reduced_form.proofs.CellRowLemmas.{cells-earlier, cells-push}
+use Rattle.reduced_form.proofs.CellRowLemmas.{cells-push, cells-stop}
 use Rattle.reduced_form.proofs.cells.push_cells.Goals as goal
 
 pub payoff-requires-clause-profile : goal.payoff-requires-clause-profile
@@ -20,12 +20,8 @@ pub returns-in-Err-clause-stop : goal.returns-in-Err-clause-stop
 returns-in-Err-clause-stop c =
     let t = game_of_tree c.args.play.now.tree.now in
     let strategies = map (λ v. map (λ w. w.items) v.items) c.args.play.now.strategies.now in
-    record {
-      is_profile = c.requires.number;
-      is_player = omega (arith, ap length c.players.ensures.players);
-      earlier_fit = cells-earlier t strategies c.loop-player.payoffs.items c.args.number c.loop-player.player c.loop-player.invariant.so_many c.loop-player.invariant.cells;
-      is_first = subst (λ (p : List ℕ). IsFirstUnfit (payoff_steps t (completed t strategies p) c.loop-player.player) c.in-Err.unfit) c.requires.profile (c.in-Err.ensures {u = tt}).gives;
-    }
+    inr (cells-stop t strategies c.loop-player.payoffs.items c.loop-player.invariant.cells c.args.number c.loop-player.player c.in-Err.unfit c.requires.number (omega (arith, ap length c.players.ensures.players)) c.loop-player.invariant.so_many
+    (subst (λ (p : List ℕ). IsFirstUnfit (payoff_steps t (completed t strategies p) c.loop-player.player) c.in-Err.unfit) c.requires.profile (c.in-Err.ensures {u = tt}).gives))
 
 pub loop-player-preserved : goal.loop-player-preserved
 loop-player-preserved c =

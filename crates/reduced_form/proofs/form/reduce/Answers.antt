@@ -1,14 +1,16 @@
-use Rattle.std.proofs.Common.{ℕ, ◌*◌, ◌≡◌, ◌≤◌, List, length, map, ap, ◌∙◌, subst}
+use Rattle.std.proofs.Common.{ℕ, ◌*◌, ◌≡◌, ◌≤◌, Ok, List, length, map, refl, ap, ◌∙◌, subst}
 use Rattle.game_theory.specs.Profiles.{profile_count}
 use Rattle.game_core.specs.Table.{GameTable}
 use Rattle.game_core.specs.TreeGame.{game_of_tree}
 use Rattle.reduced_strategies.specs.StrategicForm.{AreStrategies}
 use Rattle.reduced_form.specs.Cells.{AreCells}
 use Rattle.reduced_form.specs.Counts.{AreCounted, choices_by}
-use Rattle.reduced_form.specs.Limits.{AreFew, most_choices}
+use Rattle.reduced_form.specs.Limits.{most_choices}
 use Rattle.reduced_form.specs.ReducedForm.{IsReducedForm}
+use Rattle.reduced_form.specs.Stops.{within_limits}
 use Rattle.reduced_form.proofs.FormCountLemmas.{counted-same}
-use Rattle.reduced_form.proofs.FormLaws.{cell_stop-is_stop, form-all_fit, form-few, form-is_form, form-pays_completions, form_table, form_table-is_table}
+use Rattle.reduced_form.proofs.FormAnswerLemmas.{cells_stop, few_payoffs, form-within}
+use Rattle.reduced_form.proofs.FormLaws.{form-is_form, form-pays_completions, form_table, form_table-is_table}
 use Rattle.reduced_form.proofs.form.reduce.Goals as goal
 use Rattle.reduced_form.proofs.form.reduce.Goals.{In_ok-choices, In-Ok}
 
@@ -24,9 +26,9 @@ same : (c : In_ok-choices) → c.in_ok-counts.counts.items ≡ map length c.in_o
 same c = counted-same (game_of_tree c.args.tree.now) c.in_ok-counts.counts.items c.in_ok-choices.choices (counted c) (listed c)
 
 -- both counts are within their limits
-few : (c : In_ok-choices) → AreFew (game_of_tree c.args.tree.now) c.in_ok-choices.choices
+few : (c : In_ok-choices) → within_limits (game_of_tree c.args.tree.now) c.in_ok-choices.choices (Ok tt)
 few c =
-    form-few (game_of_tree c.args.tree.now) c.in_ok-counts.counts.items c.in_ok-choices.choices (counted c) (listed c) (rw c.in_ok-decisions.ensures at (c.in_ok-counts.ensures {u = tt}).few)
+    form-within (game_of_tree c.args.tree.now) c.in_ok-counts.counts.items c.in_ok-choices.choices (counted c) (listed c) (rw c.in_ok-decisions.ensures at (c.in_ok-counts.ensures {u = tt}).few)
     (subst (λ (ns : List ℕ). choices_by (game_of_tree c.args.tree.now) 0 ns ≤ most_choices) c.deref-2.ensures.value (c.in_ok-check_choices.ensures {u = tt}).few)
 
 -- there is a payoff for each cell
@@ -45,7 +47,7 @@ pub returns-in-Err-clause-answer : goal.returns-in-Err-clause-answer
 returns-in-Err-clause-answer c =
     let t = game_of_tree c.args.tree.now in
     let d = (goal.at.returns-in-Err-clause-answer c).In_ok-choices in
-    cell_stop-is_stop t d.in_ok-choices.choices c.in-Err.stop (listed d) (few d) (c.in-Err.ensures {u = tt}).stop
+    cells_stop c.args.tree.now d.in_ok-choices.choices c.in-Err.stop (listed d) (few d) c.in-Err.ensures.fit
 
 pub table_of-requires : goal.table_of-requires
 table_of-requires c =
@@ -53,23 +55,23 @@ table_of-requires c =
     let d = (goal.at.table_of-requires c).In-Ok in
     let choices = (goal.at.table_of-requires c).In_ok-choices in
     let valid = c.trees_are_game_trees.ensures t c.players-players.ensures.valid in
-    form_table-is_table t c.in_ok-choices.choices c.in-Ok.payoffs.items valid (listed choices) (long d (same choices)) (few choices).few_payoffs
+    form_table-is_table t c.in_ok-choices.choices c.in-Ok.payoffs.items valid (listed choices) (long d (same choices)) (few_payoffs (game_of_tree t) c.in_ok-choices.choices (few choices))
 
 -- the form
-made : (c : In-Ok) → AreStrategies (game_of_tree c.args.tree.now) c.in_ok-choices.choices → c.in_ok-counts.counts.items ≡ map length c.in_ok-choices.choices → AreFew (game_of_tree c.args.tree.now) c.in_ok-choices.choices
+made : (c : In-Ok) → AreStrategies (game_of_tree c.args.tree.now) c.in_ok-choices.choices → c.in_ok-counts.counts.items ≡ map length c.in_ok-choices.choices → within_limits (game_of_tree c.args.tree.now) c.in_ok-choices.choices (Ok tt)
     → (table : GameTable) → table ≡ form_table c.args.tree.now c.in_ok-choices.choices c.in-Ok.payoffs.items
     → IsReducedForm c.args.tree.now (record { choices = c.in_ok-choices.choices; table = table })
 made c listed counts few table is =
     let t = c.args.tree.now in
     let valid = c.trees_are_game_trees.ensures t c.players-players.ensures.valid in
-    form-is_form t c.in_ok-choices.choices c.in-Ok.payoffs.items table valid listed is (long c counts) few.few_payoffs (paid c)
+    form-is_form t c.in_ok-choices.choices c.in-Ok.payoffs.items table valid listed is (long c counts) (few_payoffs (game_of_tree t) c.in_ok-choices.choices few) (paid c)
 
 pub returns-clause-answer : goal.returns-clause-answer
 returns-clause-answer c =
     let t = c.args.tree.now in
     let d = (goal.at.returns-clause-answer c).In-Ok in
     let choices = (goal.at.returns-clause-answer c).In_ok-choices in
-    (made d (listed choices) (same choices) (few choices) c.in_ok-table.table (c.in_ok-table.ensures {u = tt}), few choices, form-all_fit (game_of_tree t) c.in_ok-choices.choices c.in-Ok.payoffs.items (long d (same choices)) (paid d))
+    (c.in_ok-choices.choices, listed choices, (tt, few choices, (tt, d.in-Ok.ensures.fit, (made d (listed choices) (same choices) (few choices) c.in_ok-table.table (c.in_ok-table.ensures {u = tt}), refl))))
 
 pub returns-clause-completions : goal.returns-clause-completions
 returns-clause-completions c =

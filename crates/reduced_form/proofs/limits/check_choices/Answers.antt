@@ -1,7 +1,9 @@
-use Rattle.std.proofs.Common.{◌+◌, ◌*◌, ◌<◌, ◌≤◌, inr, length, get_or, refl, sym, ap, ◌∙◌, subst, arith}
+use Rattle.std.proofs.Common.{◌+◌, ◌*◌, ◌<◌, ◌≤◌, inr, Err, length, get_or, sym, ap, ◌∙◌, subst, arith}
+use Rattle.answers.specs.Answers.{Gives}
 use Rattle.game_core.specs.TreeGame.{game_of_tree}
+use Rattle.reduced_form.specs.Counts.{counts_in}
 use Rattle.reduced_form.specs.Limits.{most_choices}
-use Rattle.reduced_form.specs.Stops.{IsReduceStop}
+use Rattle.reduced_form.specs.declared.stop.ReduceStop.TheVariants as stops
 use Rattle.reduced_form.proofs.FormCountLemmas.{choices-step, few_choices, few_strategies, many-choices}
 use Rattle.reduced_form.proofs.SetCountLemmas.{own_sets-short}
 use Rattle.reduced_form.proofs.limits.check_choices.Goals as goal
@@ -27,7 +29,7 @@ returns-then-choices-gt-MOST_CHOICES-clause-stop c =
     let own = c.own_set_count.ensures ∙ ap length (c.own_sets_are_those_of_the_tree.ensures c.args.tree.now c.loop-player.player) in
     let next = choices-step t c.args.counts.now c.loop-player.player c.loop-player.choices c.own_set_count.result c.requires.counted (omega (arith, ap length c.players-player-end.ensures.players)) c.loop-player.invariant.choices_are own in
     let many = many-choices t c.args.counts.now (c.loop-player.player + 1) c.requires.counted c.requires.few (subst (λ x. most_choices < x) next c.if-choices-gt-MOST_CHOICES.true) in
-    subst (IsReduceStop t) (sym c.too_many_choices.ensures) (inr (inr (many, refl)))
+    subst (λ stop. Gives stops.Memory (counts_in t) (Err stop)) (sym c.too_many_choices.ensures) (inr many)
 
 pub loop-player-preserved : goal.loop-player-preserved
 loop-player-preserved c =
