@@ -12,6 +12,11 @@ Answer E Y = Result Y E → Type 0
 abbrev pub only : {E Y : Type 0} → Y → Answer E Y
 only y answer = answer ≡ Ok y
 
+-- a value with this property, and no refusal
+abbrev pub such_that : {E Y : Type 0} → (Y → Type 0) → Answer E Y
+such_that P (Ok y) = P y
+such_that P (Err r) = ⊥
+
 -- nothing but a refusal, where P holds
 abbrev pub refuse_where : {E : Type 0} → Type 0 → E → Answer E (Unit {0})
 refuse_where P refusal (Ok _) = ¬ P

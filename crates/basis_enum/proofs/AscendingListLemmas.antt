@@ -6,7 +6,7 @@ use Rattle.std.specs.Ordering.{nat_cmp}
 use Rattle.std.proofs.lemmas.List.Kept.{Contains-dedup_nat, Contains-from_dedup}
 use Rattle.std.proofs.lemmas.List.Sorted.{Contains-permutation, IsPermutation-sym}
 use Rattle.std.proofs.lemmas.Map.Keys.{IsStrictlyIncreasing-dedup}
-use Rattle.basis_enum.specs.Ends.{IsAscendingListOf}
+use Rattle.basis_enum.specs.Bases.{IsAscendingListOf}
 
 pub ascending_is : (xs sorted list : List ℕ) → IsPermutation xs sorted → IsSorted nat_cmp sorted → list ≡ dedup eqb sorted → IsAscendingListOf xs list
 ascending_is xs sorted list p order e =

@@ -1,9 +1,9 @@
 -- Where the enumeration is complete, the reached tableaux are closed under lexicographic pivots
-use Rattle.std.proofs.Common.{ℕ, suc, zero, ◌<◌, ◌≤◌, ◌≡◌, ◌≢◌, ◌+◌, eqb, cond, refl, sym, ap, ap₂, ◌∙◌, subst, arith, ◌⊎◌, inl, inr, List, [], ◌∷◌, ◌++◌, length, get_or, slice_set}
+use Rattle.std.proofs.Common.{ℕ, suc, zero, ◌<◌, ◌≤◌, ◌≡◌, ◌≢◌, ◌+◌, eqb, cond, refl, sym, ap, ap₂, ◌∙◌, subst, arith, ◌⊎◌, inl, inr, List, [], ◌∷◌, ◌++◌, length, get_or, slice_set, Ok}
 use Rattle.std.proofs.lemmas.Bool.{cases_eq}
 use Rattle.std.specs.List.{Contains}
 use Rattle.std.proofs.lemmas.Grind.{same_number_lists}
-use Rattle.std.proofs.lemmas.List.{get_or_default, length-append, length-set, map-append}
+use Rattle.std.proofs.lemmas.List.{get_or_default, length-set, map-append}
 use Rattle.std.proofs.lemmas.List.Elements.{Contains-append_left, Contains-append_right, Contains-append_cases, Contains-get_or}
 use Rattle.rational.specs.Rational.{ℚ}
 use Rattle.linear_systems.specs.Rows.{basic_solution, IsLexicographicRow}
@@ -19,9 +19,10 @@ use Rattle.linear_systems.proofs.StartLemmas.{start_reached, alike_reached, pivo
 use Rattle.linear_systems.proofs.SolutionLemmas.{solution_extreme}
 use Rattle.linear_systems.proofs.CoverLemmas.{covers}
 use Rattle.basis_enum.specs.Bases.{basis_of, neighbour_of, HaveDigits}
-use Rattle.basis_enum.specs.Levels.{Levels, Move, no_move, no_tableau, parent_of, target, IsLexRowOf, IsMove, IsNextLevel, IsLevel, bases_of}
+use Rattle.basis_enum.specs.Levels.{Levels, Move, no_move, no_tableau, parent_of, target, IsLexRowOf, IsMove, bases_of}
 use Rattle.basis_enum.specs.Systems.{IsEnumerable}
-use Rattle.basis_enum.specs.Ends.{complete, IsEnd}
+use Rattle.basis_enum.specs.Reached.{level_of, reached_in}
+use Rattle.basis_enum.proofs.LevelLemmas.{IsNext, first_read, next_read, level_many}
 use Rattle.basis_enum.proofs.DigitLemmas.{basis_tells}
 use Rattle.basis_enum.proofs.AscendingNumberLemmas.{in_cases, first_in, rest_in, mapped, unmapped}
 use Rattle.basis_enum.proofs.NeighbourLemmas.{place_of, nonbasics_are, exchanged_at, exchanged_are}
@@ -70,22 +71,25 @@ pub held_digits : (s : Parts) (t : Numbers) → IsEnumerable s → Held s t → 
 held_digits s t e h v k = enumerable_digits s e v (h.reached.variables v k)
 
 -- all tableaux of the levels
-pub level_held : (s : Parts) (k : ℕ) (l : Levels) → IsSystem s → IsEnumerable s → IsLevel s k l → (t : Numbers) → Contains (l.before ++ l.level) t → Held s t
-level_held s zero l h e first t c = elim (in_cases first.start t [] (subst (λ xs. Contains xs t) (ap₂ (λ b x. b ++ x) first.before first.level) c)) [
+pub level_held : (s : Parts) (k : ℕ) (l : Levels) → IsSystem s → IsEnumerable s → level_of s k (Ok l) → (t : Numbers) → Contains (l.before ++ l.level) t → Held s t
+level_held s zero l h e is t c = let first = first_read s l is in elim (in_cases first.start t [] (subst (λ xs. Contains xs t) (ap₂ (λ b x. b ++ x) first.before first.level) c)) [
   | inl q ↦ subst (Held s) q (held_start s first.start h e first.started.valid first.started.start)
   | inr x ↦ absurd (omega (arith, x.1))
 ]
-level_held s (suc k) l h e (p, hp, n) t c = go (level_held s k p h e hp) (Contains-append_cases l.before l.level t c)
+level_held s (suc k) l h e (p, hp, q) t c = go (level_held s k p h e hp) (Contains-append_cases l.before l.level t c)
   where
+    n : IsNext p l
+    n = next_read k p l q
+
     go : ((t : Numbers) → Contains (p.before ++ p.level) t → Held s t) → Contains l.before t ⊎ Contains l.level t → Held s t
-    go ih (inl a) = ih t (subst (λ xs. Contains xs t) n.before a)
+    go ih (inl a) = ih t (subst (λ xs. Contains xs t) n.next.before a)
     go ih (inr b) =
         let i = b.0 in
-        let size : length l.level ≡ length n.moves = n.size in
+        let size : length l.level ≡ length n.moves = n.next.size in
         let within : i < length l.level = b.1 in
         let m = get_or n.moves i no_move in
         let x = n.are.each m (Contains-get_or n.moves i no_move (omega arith)) in
-        let y = n.children i (omega arith) in
+        let y = n.next.tableaux i (omega arith) in
         subst (Held s) (get_or_default l.level i no_tableau t within ∙ b.2) (held_child s (parent_of p.level m) (get_or l.level i no_tableau) m.row m.column h e (ih (parent_of p.level m) (Contains-append_right p.before p.level _ (Contains-get_or p.level m.parent no_tableau x.parent))) x.column x.row y.is_tableau y.pivot)
 
 -- ---- a child has the basis of its pivot
@@ -121,19 +125,19 @@ move_at : (level : List Numbers) (t : Numbers) (c r : ℕ) → (k : Contains lev
 move_at level t c r k hc x = let e : get_or level k.0 no_tableau ≡ t = get_or_default level k.0 no_tableau t k.1 ∙ k.2 in
     (record { parent = k.1; column = subst (λ u. c < length u.nonbasics) (sym e) hc; row = subst (λ u. IsLexRowOf u c r) (sym e) x }, ap (λ u. neighbour_of u r c) e)
 
-covered_next : (p l : Levels) → IsNextLevel p l → IsCovered p p.before → IsCovered l l.before
+covered_next : (p l : Levels) → IsNext p l → IsCovered p p.before → IsCovered l l.before
 unfolding IsCovered
-covered_next p l n ih t c column r hc x = subst (λ b. Contains (bases_of (b ++ l.level)) (neighbour_of t r column)) (sym n.before) (go (Contains-append_cases p.before p.level t (subst (λ xs. Contains xs t) n.before c)))
+covered_next p l n ih t c column r hc x = subst (λ b. Contains (bases_of (b ++ l.level)) (neighbour_of t r column)) (sym n.next.before) (go (Contains-append_cases p.before p.level t (subst (λ xs. Contains xs t) n.next.before c)))
   where
     new_one : (m : Move) → IsMove p.level m → (Contains (bases_of (p.before ++ p.level)) (target p.level m) → ⊥) → Contains (bases_of l.level) (target p.level m)
     new_one m h away =
         let z = unmapped (target p.level) (target p.level m) n.moves (n.are.all m h away) in
         let i = (z.1).0 in
         let within : i < length n.moves = (z.1).1 in
-        let size : length l.level ≡ length n.moves = n.size in
+        let size : length l.level ≡ length n.moves = n.next.size in
         let k = get_or n.moves i no_move in
         let same : k ≡ z.0 = get_or_default n.moves i no_move z.0 within ∙ (z.1).2 in
-        let child = n.children i within in
+        let child = n.next.tableaux i within in
         subst (Contains (bases_of l.level)) (ap basis_of (pivoted_nonbasics (parent_of p.level k) (get_or l.level i no_tableau) k.row k.column (n.are.each k (Contains-get_or n.moves i no_move within)).column child.pivot) ∙ ap (target p.level) same ∙ z.2)
         (mapped (λ t. basis_of t.nonbasics) (get_or l.level i no_tableau) l.level (Contains-get_or l.level i no_tableau (omega arith)))
 
@@ -144,10 +148,10 @@ covered_next p l n ih t c column r hc x = subst (λ b. Contains (bases_of (b ++ 
       | inr away ↦ bases_right (p.before ++ p.level) l.level _ (subst (Contains (bases_of l.level)) m.1 (new_one _ m.0 (λ k. away (subst (Contains (bases_of (p.before ++ p.level))) m.1 k))))
     ]
 
-level_covered : (s : Parts) (k : ℕ) (l : Levels) → IsLevel s k l → IsCovered l l.before
+level_covered : (s : Parts) (k : ℕ) (l : Levels) → level_of s k (Ok l) → IsCovered l l.before
 unfolding IsCovered
-level_covered s zero l h = λ t c column r hc x. let z = subst (λ xs. Contains xs t) h.before c in absurd (omega (arith, z.1))
-level_covered s (suc k) l (p, hp, n) = covered_next p l n (level_covered s k p hp)
+level_covered s zero l h = λ t c column r hc x. let z = subst (λ xs. Contains xs t) (first_read s l h).before c in absurd (omega (arith, z.1))
+level_covered s (suc k) l (p, hp, q) = covered_next p l (next_read k p l q) (level_covered s k p hp)
 
 -- ---- equal bases are those of neighbours
 is_neighbour : (s : Parts) (t u : Numbers) (r c : ℕ) → IsEnumerable s → Held s t → Held s u → r < length t.basics → c < length t.nonbasics → basis_of u.nonbasics ≡ neighbour_of t r c → IsNeighbour (tableau t) r c (tableau u)
@@ -179,17 +183,17 @@ is_neighbour s t u r c e ht hu hr hc same = record { entered = basic_in (get_or 
     ]
 
 -- ---- at the end
-closed : (s : Parts) (ts : List Numbers) → IsSystem s → IsEnumerable s → IsEnd s (complete ts) → IsClosed (system_of s) (length ts) (λ k. tableau (get_or ts k no_tableau))
+closed : (s : Parts) (ts : List Numbers) → IsSystem s → IsEnumerable s → reached_in s (Ok ts) → IsClosed (system_of s) (length ts) (λ k. tableau (get_or ts k no_tableau))
 unfolding IsCovered
 closed s ts h e z = record { to = to }
   where
     held : (t : Numbers) → Contains ts t → Held s t
-    held t c = level_held s z.number z.levels h e z.is_level t (subst (λ xs. Contains xs t) z.ends.all c)
+    held t c = level_held s z.number z.levels h e z.is_level t (subst (λ xs. Contains xs t) z.all c)
 
     known : (t : Numbers) (c r : ℕ) → Contains ts t → c < length t.nonbasics → IsLexRowOf t c r → Contains (bases_of ts) (neighbour_of t r c)
-    known t c r k hc x = subst (λ xs. Contains (bases_of xs) (neighbour_of t r c)) (sym z.ends.all) (elim (Contains-append_cases z.levels.before z.levels.level t (subst (λ xs. Contains xs t) z.ends.all k)) [
+    known t c r k hc x = subst (λ xs. Contains (bases_of xs) (neighbour_of t r c)) (sym z.all) (elim (Contains-append_cases z.levels.before z.levels.level t (subst (λ xs. Contains xs t) z.all k)) [
       | inl a ↦ level_covered s z.number z.levels z.is_level t a c r hc x
-      | inr b ↦ (let m = move_at z.levels.level t c r b hc x in elim (contains_or (bases_of (z.levels.before ++ z.levels.level)) (neighbour_of t r c)) [ inl there ↦ there | inr away ↦ (let w = z.ends.none.all _ m.0 (λ k. away (subst (Contains (bases_of (z.levels.before ++ z.levels.level))) m.1 k)) in absurd (omega (arith, w.1))) ])
+      | inr b ↦ (let m = move_at z.levels.level t c r b hc x in elim (contains_or (bases_of (z.levels.before ++ z.levels.level)) (neighbour_of t r c)) [ inl there ↦ there | inr away ↦ (let w = z.none.all _ m.0 (λ k. away (subst (Contains (bases_of (z.levels.before ++ z.levels.level))) m.1 k)) in absurd (omega (arith, w.1))) ])
     ])
 
     to : (k : ℕ) → k < length ts → (r c : ℕ) → c < length s.nonbasics → IsLexicographicRow (length s.basics) (length s.basics) (variable_at s.basics) (tableau (get_or ts k no_tableau)) c r → HasNeighbour (length ts) (λ k. tableau (get_or ts k no_tableau)) (tableau (get_or ts k no_tableau)) r c
@@ -204,12 +208,11 @@ closed s ts h e z = record { to = to }
         let same : get_or ts (y.1).0 no_tableau ≡ y.0 = get_or_default ts (y.1).0 no_tableau y.0 (y.1).1 ∙ (y.1).2 in
         record { place = (y.1).0; within = (y.1).1; neighbour = subst (λ u. IsNeighbour (tableau t) r c (tableau u)) (sym same) (is_neighbour s t y.0 r c e ht (held y.0 y.1) (omega arith) (omega arith) y.2) }
 
-some_level : (s : Parts) (k : ℕ) (l : Levels) → IsLevel s k l → 0 < length (l.before ++ l.level)
-some_level s zero l h = subst (λ n. 0 < n) (sym (ap₂ (λ b x. length (b ++ x)) h.before h.level)) (omega arith)
-some_level s (suc k) l (p, hp, n) = let e : length (l.before ++ l.level) ≡ length l.before + length l.level = length-append l.before l.level in let f : length l.level ≡ length n.moves = n.size in let g : 0 < length n.moves = n.some in omega arith
+some_level : (s : Parts) (k : ℕ) (l : Levels) → level_of s k (Ok l) → 0 < length (l.before ++ l.level)
+some_level s k l h = let many : k < length (l.before ++ l.level) = level_many s k l h in omega arith
 
-pub complete_cover : (s : Parts) (ts : List Numbers) (p : ℕ → ℚ) → IsSystem s → IsEnumerable s → IsEnd s (complete ts) → IsExtremePoint (system_of s) p → HasPoint (system_of s) (length ts) (λ k. tableau (get_or ts k no_tableau)) p
-complete_cover s ts p h e z ex = covers 129 (system_of s) (length ts) (λ k. tableau (get_or ts k no_tableau)) p (feasible s h e) (subst (λ xs. 0 < length xs) (sym z.ends.all) (some_level s z.number z.levels z.is_level)) (λ k hk. (level_held s z.number z.levels h e z.is_level (get_or ts k no_tableau) (subst (λ xs. Contains xs (get_or ts k no_tableau)) z.ends.all (Contains-get_or ts k no_tableau hk))).reached) (closed s ts h e z) ex
+pub complete_cover : (s : Parts) (ts : List Numbers) (p : ℕ → ℚ) → IsSystem s → IsEnumerable s → reached_in s (Ok ts) → IsExtremePoint (system_of s) p → HasPoint (system_of s) (length ts) (λ k. tableau (get_or ts k no_tableau)) p
+complete_cover s ts p h e z ex = covers 129 (system_of s) (length ts) (λ k. tableau (get_or ts k no_tableau)) p (feasible s h e) (subst (λ xs. 0 < length xs) (sym z.all) (some_level s z.number z.levels z.is_level)) (λ k hk. (level_held s z.number z.levels h e z.is_level (get_or ts k no_tableau) (subst (λ xs. Contains xs (get_or ts k no_tableau)) z.all (Contains-get_or ts k no_tableau hk))).reached) (closed s ts h e z) ex
 
-pub complete_extreme : (s : Parts) (ts : List Numbers) (k : ℕ) → IsSystem s → IsEnumerable s → IsEnd s (complete ts) → k < length ts → IsExtremePoint (system_of s) (basic_solution (tableau (get_or ts k no_tableau)))
-complete_extreme s ts k h e z hk = solution_extreme 129 (system_of s) (tableau (get_or ts k no_tableau)) (level_held s z.number z.levels h e z.is_level (get_or ts k no_tableau) (subst (λ xs. Contains xs (get_or ts k no_tableau)) z.ends.all (Contains-get_or ts k no_tableau hk))).reached
+pub complete_extreme : (s : Parts) (ts : List Numbers) (k : ℕ) → IsSystem s → IsEnumerable s → reached_in s (Ok ts) → k < length ts → IsExtremePoint (system_of s) (basic_solution (tableau (get_or ts k no_tableau)))
+complete_extreme s ts k h e z hk = solution_extreme 129 (system_of s) (tableau (get_or ts k no_tableau)) (level_held s z.number z.levels h e z.is_level (get_or ts k no_tableau) (subst (λ xs. Contains xs (get_or ts k no_tableau)) z.all (Contains-get_or ts k no_tableau hk))).reached

@@ -5,6 +5,7 @@ pub mod CompleteLevelLaws
 pub mod DigitLemmas
 pub mod FirstMoveLemmas
 pub mod FoundMoveLemmas
+pub mod LevelLemmas
 pub mod LevelMoveLemmas
 pub mod MaskLemmas
 pub mod MergedListLemmas
@@ -12,7 +13,7 @@ pub mod NeighbourLemmas
 pub mod NextLevelLemmas
 pub mod NextPivotLemmas
 pub mod OneAnswerLaws
-pub mod OneEndLaws
+pub mod OneReachedLaws
 pub mod OrderLemmas
 pub mod SearchLemmas
 pub mod VertexMarkLemmas

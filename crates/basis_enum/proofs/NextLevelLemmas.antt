@@ -1,18 +1,22 @@
 -- The tableaux of the next level, one after the other
-use Rattle.std.proofs.Common.{ℕ, ◌<◌, ◌≤◌, ◌≡◌, ◌+◌, refl, sym, ap, ◌∙◌, subst, subst₂, arith, inl, inr, List, [], ◌∷◌, ◌++◌, length, get_or, map, eq-or-lt_of_le, All, Result, Ok, Err}
+use Rattle.std.proofs.Common.{ℕ, ◌<◌, ◌≤◌, ◌≡◌, ◌+◌, refl, sym, ap, ◌∙◌, subst, subst₂, arith, inl, inr, List, [], ◌∷◌, ◌++◌, length, get_or, map, take, eq-or-lt_of_le, All, Result, Ok, Err}
 use Rattle.std.specs.Prelude.{IfOk, OnOk}
 use Rattle.std.proofs.Math.Seq.{get_or-append_seam}
 use Rattle.std.proofs.Math.ListN.{get_or-map}
-use Rattle.std.proofs.lemmas.List.{length-append, length-map, get_or_append_left, get_or_default}
+use Rattle.std.proofs.lemmas.List.{length-append, length-map, length-take-le, get_or_append_left, get_or_default, get_or-take}
 use Rattle.std.proofs.lemmas.List.Elements.{Contains-get_or}
 use Rattle.frac128.specs.declared.steps.Unfit.{Unfit}
 use Rattle.lex_tableau.specs.Rows.{Numbers, IsTableau, IsPivotOf}
 use Rattle.lex_tableau.specs.Pivots.{steps_of_pivot}
 use Rattle.lex_tableau.specs.declared.tableau.PivotStop.{PivotStop}
 use Rattle.frac128.specs.Steps.{StepFits, IsFirstUnfit}
+use Rattle.frac128.specs.FirstUnfit.{StepsFit, IsFirstUnfitOf}
+use Rattle.frac128.proofs.FirstUnfitLemmas.{first_unfit_here}
 use Rattle.basis_enum.specs.Levels as L
-use Rattle.basis_enum.specs.Levels.{Levels, no_tableau, parent_of, IsPivoted, AreNextMoves, IsNextLevel, count, most, steps_of}
-use Rattle.basis_enum.specs.Ends.{IsAscendingListOf, IsFirstUnfitMove}
+use Rattle.basis_enum.specs.Levels.{Levels, no_tableau, parent_of, AreNextMoves, IsAfterPivot, IsNextLevel, count, most, steps_of}
+use Rattle.basis_enum.specs.Bases.{IsAscendingListOf}
+use Rattle.basis_enum.specs.Reached.{IsUnfitMove, next_level}
+use Rattle.basis_enum.specs.declared.stop.EnumStop.TheVariants.{Range}
 use Rattle.basis_enum.specs.declared.children.ChildStop.{ChildStop}
 use Rattle.basis_enum.specs.declared.children.ChildStop.TheVariants as stops
 use Rattle.basis_enum.specs.declared.children.Expansion.{Expansion}
@@ -22,8 +26,8 @@ use Rattle.basis_enum.specs.declared.children.Made.{Made}
 use Rattle.basis_enum.specs.declared.children.Reached.{Reached}
 use Rattle.basis_enum.specs.Found.{AreFoundIn}
 use Rattle.basis_enum.proofs.LevelMoveLemmas.{found_in_start, found_in_new}
-use Rattle.basis_enum.specs.Walks.{HaveEntering, IsUnfitMove}
-use Rattle.basis_enum.specs.Children.{AreChildren, AreMoves, IsChildStop, IsChildStopAt, IsMadeFrom, IsReachedAt}
+use Rattle.basis_enum.specs.Walks.{HaveEntering}
+use Rattle.basis_enum.specs.Children.{AreChildren, AreMoves, IsChildStop, IsChildStopAt, IsMadeFrom, IsPivoted, IsReachedAt}
 
 -- what a pivot of its parent makes
 pub made_child : (level : List Numbers) (m : L.Move) (parent : Numbers) (r : Result Numbers PivotStop) → parent ≡ parent_of level m → IfOk r (IsPivotOf parent m.row m.column) → IfOk r IsTableau → OnOk r (All StepFits (steps_of_pivot parent m.row m.column)) → IfOk r (IsPivoted level m)
@@ -52,32 +56,40 @@ children_new level moves n m next new t w more pushed c h = subst₂ (AreChildre
 moved_at : (moves : List Move) (i : ℕ) → get_or (map move_of moves) i L.no_move ≡ move_of (get_or moves i no_move)
 moved_at moves i = get_or-map move_of moves i no_move
 
-first_unfit : (level : List Numbers) (moves : List Move) (n : ℕ) (next : List Numbers) (unfit : Unfit) → n < length moves → AreChildren level moves n next → IsFirstUnfit (steps_of level (move_of (get_or moves n no_move))) unfit → IsFirstUnfitMove level (map move_of moves) n unfit
-first_unfit level moves n next unfit w c h =
-    record {
-      within = (let e : length (map move_of moves) ≡ length moves = length-map moves move_of in omega arith);
-      before = λ j l. subst (λ m. All StepFits (steps_of level m)) (sym (moved_at moves j)) (c.each j l).fits;
-      here = subst (λ m. IsFirstUnfit (steps_of level m) unfit) (sym (moved_at moves n)) h;
-    }
+-- the first n pivots have children, and the next one a step that does not fit
+first_unfit : (level : List Numbers) (moves : List Move) (n : ℕ) (next : List Numbers) (unfit : Unfit) → n < length moves → AreChildren level moves n next → IsFirstUnfit (steps_of level (move_of (get_or moves n no_move))) unfit → IsFirstUnfitOf (steps_of level) (map move_of moves) (move_of (get_or moves n no_move)) unfit
+first_unfit level moves n next unfit w c h = first_unfit_here (steps_of level) (map move_of moves) n (move_of (get_or moves n no_move)) long at unfit fit h
+  where
+    long : n < length (map move_of moves)
+    long = subst (λ k. n < k) (sym (length-map moves move_of)) w
+
+    at : move_of (get_or moves n no_move) ≡ get_or (map move_of moves) n (move_of (get_or moves n no_move))
+    at = sym (get_or_default (map move_of moves) n (move_of (get_or moves n no_move)) L.no_move long ∙ moved_at moves n)
+
+    fit : All (StepsFit (steps_of level)) (take n (map move_of moves))
+    fit j d b =
+        let l : j < n = omega (arith, b, length-take-le n (map move_of moves) (omega (arith, long))) in
+        subst (StepsFit (steps_of level)) (sym (get_or-take n (map move_of moves) j d l ∙ get_or_default (map move_of moves) j d L.no_move (omega (arith, l, long)) ∙ moved_at moves j)) (c.each j l).fits
 
 -- the stop of a pivot whose children before it are there
 stop_at : (e : Expansion) (n : ℕ) (next : List Numbers) (stop : ChildStop) → n < length e.moves.now → AreChildren e.level.now e.moves.now n next → IsChildStopAt e n stop → IsChildStop e stop
-stop_at e n next (stops.Unfit place unfit) w c h = subst (λ p. IsFirstUnfitMove e.level.now (map move_of e.moves.now) p unfit) (sym h.0) (first_unfit e.level.now e.moves.now n next unfit w c h.1)
+stop_at e n next (stops.Unfit place unfit) w c h =
+    subst (λ p. IsChildStop e (stops.Unfit p unfit)) (sym h.0) (w, first_unfit e.level.now e.moves.now n next unfit w c h.1)
 stop_at e n next stops.Memory w c h = tt
 
 -- the pivot that does not fit goes from this basis, with this variable entering it
-pub unfit_move : (e : Expansion) (place : ℕ) (unfit : Unfit) (t : Numbers) (basics basis : List ℕ) → AreMoves e.level.now e.moves.now → HaveEntering e.level.now e.moves.now → IsChildStop e (stops.Unfit place unfit) → basics ≡ (get_or e.level.now (get_or e.moves.now place no_move).parent t).basics → IsAscendingListOf basics basis → IsUnfitMove e.level.now e.moves.now basis (get_or e.moves.now place no_move).entering unfit
-unfit_move e place unfit t basics basis are enter stop is ascending =
-    let moves = e.moves.now in
-    let within : place < length moves = subst (λ n. place < n) (length-map moves move_of) stop.within in
-    let m = get_or moves place no_move in
-    let among = Contains-get_or moves place no_move within in
+pub unfit_move : (e : Expansion) (k place : ℕ) (unfit : Unfit) (t : Numbers) (basics basis : List ℕ) → AreMoves e.level.now e.moves.now → HaveEntering e.level.now e.moves.now → IsChildStop e (stops.Unfit place unfit) → basics ≡ (get_or e.level.now (get_or e.moves.now place no_move).parent t).basics → IsAscendingListOf basics basis → IsUnfitMove k e.level.now (map move_of e.moves.now) (Range k basis (get_or e.moves.now place no_move).entering unfit)
+unfit_move e k place unfit t basics basis are enter stop is ascending =
+    let m = get_or e.moves.now place no_move in
+    let among = Contains-get_or e.moves.now place no_move stop.0 in
     let parent = get_or_default e.level.now m.parent t no_tableau (are m among).parent in
     record {
-      place = place;
-      first = stop;
-      basis_is = subst (λ k. IsAscendingListOf (L.parent_of e.level.now k).basics basis) (sym (moved_at moves place)) (subst (λ b. IsAscendingListOf b basis) (is ∙ ap (λ u. u.basics) parent) ascending);
-      variable_is = enter m among ∙ ap (L.entering e.level.now) (sym (moved_at moves place));
+      move = move_of m;
+      step = unfit;
+      first = stop.1;
+      basis = basis;
+      ascending = subst (λ b. IsAscendingListOf b basis) (is ∙ ap (λ u. u.basics) parent) ascending;
+      told = ap (λ v. Range k basis v unfit) (enter m among);
     }
 
 -- nothing is made at first
@@ -99,15 +111,23 @@ made_more e old new n r is within pushed added m reached = record {
 }
 
 -- the children of all next pivots are the next level
-pub next_level : (p : Levels) (moves : List Move) (next : List Numbers) → AreNextMoves p (map move_of moves) → 0 < length moves → count p (map move_of moves) ≤ most → AreChildren p.level moves (length moves) next → IsNextLevel p (record { before = p.before ++ p.level; level = next })
-next_level p moves next are some few c =
-    let size : length (map move_of moves) ≡ length moves = length-map moves move_of in
-    record {
-      moves = map move_of moves;
-      are = are;
-      some = omega arith;
-      few = few;
+pub next_level_is : (k : ℕ) (p : Levels) (moves : List Move) (next : List Numbers) → AreNextMoves p (map move_of moves) → 0 < length moves → count p (map move_of moves) ≤ most → AreChildren p.level moves (length moves) next → next_level k p (Ok (record { before = p.before ++ p.level; level = next }))
+next_level_is k p moves next are some few c =
+    (map move_of moves, (are, subst (λ n. 0 < n) (sym (length-map moves move_of)) some), (tt, within, (tt, fit, after)))
+  where
+    size : length (map move_of moves) ≡ length moves
+    size = length-map moves move_of
+
+    within : most < count p (map move_of moves) → ⊥
+    within over = omega (arith, over, few)
+
+    fit : All (StepsFit (steps_of p.level)) (map move_of moves)
+    fit i d h =
+        subst (StepsFit (steps_of p.level)) (sym (get_or_default (map move_of moves) i d L.no_move h ∙ moved_at moves i)) (c.each i (omega (arith, h, size))).fits
+
+    after : IsNextLevel p (map move_of moves) (record { before = p.before ++ p.level; level = next })
+    after = record {
       before = refl;
       size = c.size ∙ sym (length-map moves move_of);
-      children = λ i h. subst (λ m. IsPivoted p.level m (get_or next i no_tableau)) (sym (moved_at moves i)) (c.each i (omega arith));
+      tableaux = λ i h. let child = c.each i (omega (arith, h, size)) in subst (λ m. IsAfterPivot p.level m (get_or next i no_tableau)) (sym (moved_at moves i)) (record { is_tableau = child.is_tableau; pivot = child.pivot });
     }

@@ -1,5 +1,5 @@
 -- The marks of basic solutions, and that those of all reached tableaux are the vertices
-use Rattle.std.proofs.Common.{ℕ, zero, suc, ◌<◌, ◌≤◌, ◌≡◌, ◌≢◌, ◌+◌, ◌-◌, ◌/◌, ◌%◌, ◌^◌, min, refl, sym, ap, ◌∙◌, subst, arith, ◌⊎◌, inl, inr, List, [], ◌∷◌, ◌++◌, length, get_or, map, lit<}
+use Rattle.std.proofs.Common.{ℕ, zero, suc, ◌<◌, ◌≤◌, ◌≡◌, ◌≢◌, ◌+◌, ◌-◌, ◌/◌, ◌%◌, ◌^◌, min, refl, sym, ap, ◌∙◌, subst, arith, ◌⊎◌, inl, inr, List, [], ◌∷◌, ◌++◌, length, get_or, map, lit<, Ok}
 use Rattle.std.specs.Int.{bit_at}
 use Rattle.std.specs.Prelude.{Option, Some, None, option_to_list}
 use Rattle.std.specs.List.{All, Any, Contains, dedup}
@@ -22,7 +22,7 @@ use Rattle.linear_systems.specs.Vertices.{MarkedPoint, IsZeroWord, IsMarkOf, IsV
 use Rattle.linear_systems.proofs.SmallStepLemmas.{extreme_alone}
 use Rattle.basis_enum.specs.Levels.{no_tableau}
 use Rattle.basis_enum.specs.Systems.{IsEnumerable, variable_count}
-use Rattle.basis_enum.specs.Ends.{complete, IsEnd}
+use Rattle.basis_enum.specs.Reached.{reached_in}
 use Rattle.basis_enum.proofs.CompleteLevelLaws.{complete_cover, complete_extreme}
 use Rattle.basis_enum.specs.declared.vertex.Vertex.{Vertex}
 use Rattle.basis_enum.specs.Marks.{AreUpTo, IsVertexOf, IsMarkIn, AreMarksOf, AreInOrder}
@@ -206,7 +206,7 @@ nonzero_equal s x y e h =
 
 -- ---- the marks of all reached tableaux, sorted, are the vertices
 extreme_in : (s : Parts) (ts : List Numbers) (t : Numbers) → IsSystem s → IsEnumerable s
-    → IsEnd s (complete ts) → Contains ts t
+    → reached_in s (Ok ts) → Contains ts t
     → IsExtremePoint (system_of s) (basic_solution (tableau t))
 extreme_in s ts t h e end c =
     subst (λ u. IsExtremePoint (system_of s) (basic_solution (tableau u)))
@@ -214,7 +214,7 @@ extreme_in s ts t h e end c =
     (complete_extreme s ts c.0 h e end c.1)
 
 pub are_vertices : (s : Parts) (ts : List Numbers) (marks list : List MarkedPoint) → IsSystem s
-    → IsEnumerable s → IsEnd s (complete ts) → AreMarksOf s ts marks → AreInOrder marks list
+    → IsEnumerable s → reached_in s (Ok ts) → AreMarksOf s ts marks → AreInOrder marks list
     → AreVertices (variable_count s) (system_of s) list
 are_vertices s ts marks list h e end noted order =
     record {

@@ -1,5 +1,5 @@
 -- From level to level
-use Rattle.std.proofs.Common.{ℕ, suc, zero, ◌<◌, ◌≤◌, ◌≡◌, ◌+◌, refl, sym, ap, ap₂, ◌∙◌, subst, subst₂, arith, inl, inr, List, [], ◌∷◌, ◌++◌, length, get_or, map, append_assoc}
+use Rattle.std.proofs.Common.{ℕ, suc, ◌<◌, ◌≤◌, ◌≡◌, ◌+◌, refl, sym, ap, ap₂, ◌∙◌, subst, subst₂, arith, inl, inr, List, [], ◌∷◌, ◌++◌, length, get_or, map, append_assoc, Ok, Err}
 use Rattle.std.specs.List.{Contains}
 use Rattle.std.specs.Prelude.{Option, option_to_list}
 use Rattle.std.specs.List.Sorted.{IsStrictlyIncreasing}
@@ -7,33 +7,37 @@ use Rattle.std.proofs.lemmas.Grind.{same_number_lists}
 use Rattle.std.proofs.lemmas.List.{append-nil, length-append, length-map, map-append, get_or_default}
 use Rattle.std.proofs.lemmas.List.Elements.{Contains-append_left, Contains-append_right, Contains-append_cases, Contains-get_or}
 use Rattle.std.proofs.Math.ListN.{get_or-map}
-use Rattle.frac128.specs.declared.steps.Unfit.{Unfit}
+use Rattle.answers.specs.Answers.{Gives, such_that}
+use Rattle.answers.proofs.AnswerLemmas.{gives_first}
+use Rattle.linear_systems.specs.Vertices.{AreVertices}
 use Rattle.linear_systems.specs.Reached.{in_column}
 use Rattle.lex_tableau.specs.Rows.{Numbers}
-use Rattle.lex_tableau.specs.Starts.{Parts, IsSystem}
-use Rattle.lex_tableau.specs.StartStops.{IsStarted}
+use Rattle.lex_tableau.specs.Starts.{Parts, IsSystem, system_of}
+use Rattle.lex_tableau.specs.StartStops.{start_in, IsStarted}
+use Rattle.lex_tableau.specs.declared.tableau.StartStop.{StartStop}
+use Rattle.lex_tableau.specs.declared.tableau.StartStop.TheVariants as starts
 use Rattle.basis_enum.specs.Bases.{basis_of, AreVariables}
-use Rattle.basis_enum.specs.Levels.{Levels, IsPivoted, IsLevel, IsMove, IsNextLevel, AreNextMoves, bases_of, most, no_tableau, parent_of}
+use Rattle.basis_enum.specs.Levels.{Levels, IsMove, AreNextMoves, bases_of, count, no_tableau, parent_of}
 use Rattle.basis_enum.specs.Systems.{IsEnumerable, variable_count}
-use Rattle.basis_enum.specs.Ends.{complete, IsEnd, IsUnfitChild}
+use Rattle.basis_enum.specs.Reached.{bases_within, level_of, next_level, next_moves, reached_in, told_start}
 use Rattle.basis_enum.proofs.CompleteLevelLaws.{Held, held_start, held_child, held_digits, level_held, pivoted_nonbasics}
 use Rattle.basis_enum.proofs.AscendingNumberLemmas.{unmapped}
-use Rattle.basis_enum.proofs.OneEndLaws.{level_few}
+use Rattle.basis_enum.proofs.LevelLemmas.{level_few, level_many}
 use Rattle.basis_enum.specs.declared.moves.Move.{Move}
 use Rattle.basis_enum.specs.declared.stop.EnumStop.{EnumStop}
 use Rattle.basis_enum.specs.declared.stop.EnumStop.TheVariants as stops
 use Rattle.basis_enum.specs.declared.vertex.Vertex.{Vertex}
 use Rattle.basis_enum.specs.declared.walk.Walk.{Walk}
-use Rattle.basis_enum.specs.Children.{AreMoves, AreChildren, LeadToReady}
-use Rattle.basis_enum.specs.Enumeration.{AreVerticesOf, IsEnumStop}
+use Rattle.basis_enum.specs.Children.{AreMoves, AreChildren, IsPivoted, LeadToReady}
+use Rattle.basis_enum.specs.Enumeration.{IsVertexListOf, vertices_in}
 use Rattle.basis_enum.specs.Found.{AreFound, AreFoundIn, IsFoundIn, IsReady, AreReady, AreKnown}
 use Rattle.basis_enum.specs.Marks.{AreInOrder, AreMarksOf, AreUpTo, IsVertexOf}
 use Rattle.basis_enum.specs.Merged.{IsMerged}
 use Rattle.basis_enum.specs.Next.{AreNewMoves, move_of, no_move, target_of}
 use Rattle.basis_enum.specs.Vertices.{VertexList, mark_of, marks_of}
-use Rattle.basis_enum.specs.Walks.{levels_of, IsWalkAt, IsWalkToEnd, HaveEntering, IsMoveStop, IsCountStop, IsLimitStop, IsUnfitMove, AddsMoreVertices, AddsVertices}
+use Rattle.basis_enum.specs.Walks.{levels_of, IsWalkAt, IsWalkToEnd, HaveEntering, IsMoveStop, IsCountStop, IsEnumStop, AddsMoreVertices, AddsVertices}
 use Rattle.basis_enum.proofs.LevelMoveLemmas.{basis_at, found_in_start, found_in_more, move_is, target_is_there, entering_is, next_are}
-use Rattle.basis_enum.proofs.NextLevelLemmas.{next_level}
+use Rattle.basis_enum.proofs.NextLevelLemmas.{next_level_is}
 use Rattle.basis_enum.proofs.VertexMarkLemmas.{reached_numbered, no_marks, marks_more, are_vertices}
 
 -- ---- the tableaux of a level
@@ -153,9 +157,9 @@ known_next before level next known all k m =
       ]);
     }
 
-walk_next_level : (s : Parts) (k : ℕ) (w : Walk) (moves : List Move) (next : List Numbers) → (h : IsWalkAt s k w) → AreNewMoves w.level.items w.known.items moves → 0 < length moves → length w.known.items + length moves ≤ 20000 → AreChildren w.level.items moves (length moves) next → IsNextLevel (levels_of h.before w.level.items) (levels_of (h.before ++ w.level.items) next)
+walk_next_level : (s : Parts) (k : ℕ) (w : Walk) (moves : List Move) (next : List Numbers) → (h : IsWalkAt s k w) → AreNewMoves w.level.items w.known.items moves → 0 < length moves → length w.known.items + length moves ≤ 20000 → AreChildren w.level.items moves (length moves) next → next_level k (levels_of h.before w.level.items) (Ok (levels_of (h.before ++ w.level.items) next))
 walk_next_level s k w moves next h n some few c =
-    next_level (levels_of h.before w.level.items) moves next (walk_moves s k w moves h n) some
+    next_level_is k (levels_of h.before w.level.items) moves next (walk_moves s k w moves h n) some
     (let sizes : length (map move_of moves) ≡ length moves = length-map moves move_of in let counts : length w.known.items ≡ length (h.before ++ w.level.items) = h.count in omega arith) c
 
 pub walk_next : (s : Parts) (k : ℕ) (w new : Walk) (moves : List Move) (bases : List ℕ) → IsEnumerable s → IsWalkAt s k w → AreNewMoves w.level.items w.known.items moves → 0 < length moves → length w.known.items + length moves ≤ 20000 → AreChildren w.level.items moves (length moves) new.level.items → bases ≡ map target_of moves → IsMerged w.known.items bases new.known.items → AddsVertices s new.level.items w.vertices.items new.vertices.items → IsWalkAt s (k + 1) new
@@ -163,7 +167,7 @@ walk_next s k w new moves bases enumerable h n some few c e m adds =
     record {
       valid = h.valid;
       before = h.before ++ w.level.items;
-      is_level = subst (λ j. IsLevel s j (levels_of (h.before ++ w.level.items) new.level.items)) (let q : suc k ≡ k + 1 = omega arith in q) (levels_of h.before w.level.items, h.is_level, walk_next_level s k w moves new.level.items h n some few c);
+      is_level = subst (λ j. level_of s j (Ok (levels_of (h.before ++ w.level.items) new.level.items))) (let q : suc k ≡ k + 1 = omega arith in q) (levels_of h.before w.level.items, h.is_level, walk_next_level s k w moves new.level.items h n some few c);
       known = known_next h.before w.level.items new.level.items w.known.items new.known.items h.known merged;
       ascending = m.ascending;
       count = m.size ∙ ap₂ (λ x y. x + y) h.count (ap length told ∙ length-map new.level.items (λ t. basis_of t.nonbasics)) ∙ sym (length-append (h.before ++ w.level.items) new.level.items);
@@ -176,48 +180,33 @@ walk_next s k w new moves bases enumerable h n some few c e m adds =
     merged : IsMerged w.known.items (bases_of new.level.items) new.known.items
     merged = subst (λ xs. IsMerged w.known.items xs new.known.items) told m
 
--- ---- the ends
-limit_stop : (s : Parts) (k : ℕ) (w : Walk) (moves : List Move) (e : EnumStop) → IsWalkAt s k w → AreNewMoves w.level.items w.known.items moves → IsLimitStop (length w.known.items + length moves) e → IsEnumStop s e
-limit_stop s k w moves (stops.TooLarge limit) h n p =
-    let counts : length w.known.items ≡ length (h.before ++ w.level.items) = h.count in
-    let sizes : length (map move_of moves) ≡ length moves = length-map moves move_of in
-    let over : most < length w.known.items + length moves = p.0 in
-    inr (record {
-      count = length w.known.items + length moves;
-      end = record { number = k; levels = levels_of h.before w.level.items; is_level = h.is_level; ends = record { moves = map move_of moves; are = walk_moves s k w moves h n; over = omega arith; total_is = omega arith } };
-      limit_is = p.1;
-    })
-limit_stop s k w moves (stops.Start row unfit) h n p = absurd p
-limit_stop s k w moves (stops.Range number basis variable unfit) h n p = absurd p
-limit_stop s k w moves stops.Memory h n p = absurd p
+-- ---- the refusals
+-- the start's
+pub start_stop : (s : Parts) (stop : StartStop) → Gives starts.Memory (start_in s) (Err stop) → IsEnumStop s (told_start stop)
+start_stop s stop (inl memory) = inl (ap told_start memory)
+start_stop s stop (inr h) = inr (0, inl (stop, h, refl))
 
-pub count_stop : (s : Parts) (k : ℕ) (w : Walk) (moves : List Move) (e : EnumStop) → IsWalkAt s k w → AreNewMoves w.level.items w.known.items moves → IsCountStop (length w.known.items + length moves) e → IsEnumStop s e
-count_stop s k w moves e h n (inl memory) = inl memory
-count_stop s k w moves e h n (inr past) = limit_stop s k w moves e h n past
+module _ (s : Parts) (k : ℕ) (w : Walk) (moves : List Move) (stop : EnumStop) (h : IsWalkAt s k w) (n : AreNewMoves w.level.items w.known.items moves) (some : 0 < length moves) where
+  abbrev l : Levels
+  l = levels_of h.before w.level.items
 
-stopped : (s : Parts) (k : ℕ) (w : Walk) (moves : List Move) (basis : List ℕ) (variable : ℕ) (unfit : Unfit) → (h : IsWalkAt s k w) → AreNewMoves w.level.items w.known.items moves → length w.known.items + length moves ≤ 20000 → IsUnfitMove w.level.items moves basis variable unfit → IsUnfitChild (levels_of h.before w.level.items) basis variable unfit
-stopped s k w moves basis variable unfit h n few u =
-    let counts : length w.known.items ≡ length (h.before ++ w.level.items) = h.count in
-    let sizes : length (map move_of moves) ≡ length moves = length-map moves move_of in
-    record { moves = map move_of moves; are = walk_moves s k w moves h n; few = omega arith; place = u.place; first = u.first; basis_is = u.basis_is; variable_is = u.variable_is }
+  bases_are : length w.known.items + length moves ≡ count l (map move_of moves)
+  bases_are = ap₂ (λ x y. x + y) h.count (sym (length-map moves move_of))
 
-pub move_stop : (s : Parts) (k : ℕ) (w : Walk) (moves : List Move) (e : EnumStop) → IsWalkAt s k w → AreNewMoves w.level.items w.known.items moves → length w.known.items + length moves ≤ 20000 → IsMoveStop w.level.items moves k e → IsEnumStop s e
-move_stop s k w moves (stops.Range number basis variable unfit) h n few p =
-    inr (record { number = k; levels = levels_of h.before w.level.items; is_level = h.is_level; ends = (p.0, stopped s k w moves basis variable unfit h n few p.1) })
-move_stop s k w moves stops.Memory h n few p = inl refl
-move_stop s k w moves (stops.Start row unfit) h n few p = absurd p
-move_stop s k w moves (stops.TooLarge limit) h n few p = absurd p
+  next_are_some : next_moves l (Ok (map move_of moves))
+  next_are_some = (walk_moves s k w moves h n, subst (λ n. 0 < n) (sym (length-map moves move_of)) some)
 
--- each level has a basis, so that levels are as few as bases
-level_many : (s : Parts) (k : ℕ) (l : Levels) → IsLevel s k l → k < length (l.before ++ l.level)
-level_many s zero l h = subst (λ n. 0 < n) (sym (ap₂ (λ b x. length (b ++ x)) h.before h.level)) (omega arith)
-level_many s (suc k) l (p, hp, n) =
-    let ih : k < length (p.before ++ p.level) = level_many s k p hp in
-    let sum : length (l.before ++ l.level) ≡ length l.before + length l.level = length-append l.before l.level in
-    let before : length l.before ≡ length (p.before ++ p.level) = ap length n.before in
-    let size : length l.level ≡ length n.moves = n.size in
-    let some : 0 < length n.moves = n.some in
-    omega arith
+  -- so many bases are too many
+  pub count_stop : IsCountStop (length w.known.items + length moves) stop → IsEnumStop s stop
+  count_stop (inl memory) = inl memory
+  count_stop (inr past) =
+      inr (suc k, inr (l, h.is_level, inr (map move_of moves, next_are_some, inl (subst (λ bases. bases_within bases (Err stop)) bases_are past))))
+
+  -- a pivot does not fit
+  pub move_stop : length w.known.items + length moves ≤ 20000 → IsMoveStop w.level.items moves k stop → IsEnumStop s stop
+  move_stop few (inl memory) = inl memory
+  move_stop few (inr unfit) =
+      inr (suc k, inr (l, h.is_level, inr (map move_of moves, next_are_some, inr (tt, λ over. omega (arith, over, few, bases_are), inl unfit))))
 
 pub walk_early : (s : Parts) (k : ℕ) (w : Walk) → IsWalkAt s k w → k < 20000
 walk_early s k w h =
@@ -260,13 +249,13 @@ pub first_all_ready : (t : Numbers) → IsReady t → AreReady (t ∷ [])
 first_all_ready t r i hi = let first : i ≡ 0 = omega arith in subst (λ i. IsReady (get_or (t ∷ []) i no_tableau)) (sym first) r
 
 pub walk_start : (s : Parts) (t : Numbers) (w : Walk) (vertex : Option Vertex) → IsSystem s
-    → IsStarted s t → w.level.items ≡ t ∷ [] → w.known.items ≡ basis_of s.nonbasics ∷ []
+    → start_in s (Ok t) → w.level.items ≡ t ∷ [] → w.known.items ≡ basis_of s.nonbasics ∷ []
     → w.vertices.items ≡ option_to_list vertex → IsVertexOf s t vertex → IsWalkAt s 0 w
 walk_start s t w vertex valid f level known vertices is =
     record {
       valid = valid;
       before = [];
-      is_level = record { start = t; started = f; before = refl; level = level };
+      is_level = (t, f, ap (λ level. Ok (levels_of [] level)) level);
       known = record { all = λ b c. subst (λ xs. Contains xs b) (sym (known ∙ told)) c; only = λ b c. subst (λ xs. Contains xs b) (known ∙ told) c };
       ascending = subst IsStrictlyIncreasing (sym known) (λ k h. absurd (omega arith));
       count = ap length known ∙ sym (ap length level);
@@ -274,17 +263,18 @@ walk_start s t w vertex valid f level known vertices is =
     }
   where
     told : basis_of s.nonbasics ∷ [] ≡ bases_of w.level.items
-    told = ap (λ b. b ∷ []) (first_basis s t f) ∙ sym (ap bases_of level)
+    told = ap (λ b. b ∷ []) (first_basis s t f.2) ∙ sym (ap bases_of level)
 
 -- ---- at the last level
-pub walk_vertices : (s : Parts) (w : Walk) (v : VertexList) → IsEnumerable s → IsWalkToEnd s w → v.bases ≡ length w.known.items → AreInOrder (marks_of w.vertices.items) v.list → AreVerticesOf s v
-walk_vertices s w v e h bases order =
-    record {
-      reached = h.walk.before ++ w.level.items;
-      end = end;
-      bases = bases ∙ h.walk.count;
-      list = are_vertices s (h.walk.before ++ w.level.items) (marks_of w.vertices.items) v.list h.walk.valid e end h.walk.marks order;
-    }
+pub walk_vertices : (s : Parts) (w : Walk) (v : VertexList) → IsEnumerable s → IsWalkToEnd s w → v.bases ≡ length w.known.items → AreInOrder (marks_of w.vertices.items) v.list → vertices_in s (Ok v)
+walk_vertices s w v e h bases order = (h.walk.before ++ w.level.items, reached, record { bases = bases ∙ h.walk.count; list = list })
   where
-    end : IsEnd s (complete (h.walk.before ++ w.level.items))
-    end = record { number = h.number; levels = levels_of h.walk.before w.level.items; is_level = h.walk.is_level; ends = record { none = walk_moves s h.number w [] h.walk h.none; all = refl } }
+    reached : reached_in s (Ok (h.walk.before ++ w.level.items))
+    reached = record { number = h.number; levels = levels_of h.walk.before w.level.items; is_level = h.walk.is_level; none = walk_moves s h.number w [] h.walk h.none; all = refl }
+
+    list : AreVertices (variable_count s) (system_of s) v.list
+    list = are_vertices s (h.walk.before ++ w.level.items) (marks_of w.vertices.items) v.list h.walk.valid e reached h.walk.marks order
+
+-- why not all are reached is why there are no vertices
+pub reached_stop : (s : Parts) (stop : EnumStop) → IsEnumStop s stop → Gives stops.Memory (vertices_in s) (Err stop)
+reached_stop s stop h = gives_first {Z = VertexList} stops.Memory (reached_in s) (λ reached. such_that (IsVertexListOf s reached)) stop h

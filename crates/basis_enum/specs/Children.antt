@@ -1,14 +1,14 @@
 -- The tableaux of the next level
-use Rattle.std.specs.Prelude.{ℕ, ◌+◌, ◌^◌, ◌<◌, ◌≤◌, ◌≡◌, List, Option, length, get_or, map, IfSome}
+use Rattle.std.specs.Prelude.{ℕ, ◌+◌, ◌^◌, ◌<◌, ◌≤◌, ◌≡◌, List, Option, length, get_or, map, IfSome, All}
 use Rattle.std.specs.Global.{Box}
 use Rattle.std.specs.List.{Contains}
 use Rattle.std.specs.List.Sorted.{IsStrictlyIncreasing}
-use Rattle.lex_tableau.specs.Rows.{Numbers}
+use Rattle.lex_tableau.specs.Rows.{Numbers, IsTableau, IsPivotOf}
 use Rattle.lex_tableau.specs.Starts.{Parts}
-use Rattle.frac128.specs.Steps.{IsFirstUnfit}
+use Rattle.frac128.specs.Steps.{StepFits, IsFirstUnfit}
+use Rattle.frac128.specs.FirstUnfit.{IsFirstUnfitOf}
 use Rattle.basis_enum.specs.Levels as L
-use Rattle.basis_enum.specs.Levels.{no_tableau, IsMove, IsPivoted, steps_of}
-use Rattle.basis_enum.specs.Ends.{IsFirstUnfitMove}
+use Rattle.basis_enum.specs.Levels.{no_tableau, parent_of, IsMove, steps_of}
 use Rattle.basis_enum.specs.declared.moves.Move.{Move}
 use Rattle.basis_enum.specs.declared.children.ChildStop.{ChildStop}
 use Rattle.basis_enum.specs.declared.children.Expansion.{Expansion}
@@ -20,6 +20,12 @@ use Rattle.basis_enum.specs.Found.{AreFound, AreFoundIn, AreReady, IsReady}
 use Rattle.basis_enum.specs.Marks.{AreUpTo, IsVertexOf}
 use Rattle.basis_enum.specs.Next.{no_move, move_of}
 use Rattle.basis_enum.specs.Systems.{variable_count}
+
+-- new is the tableau after the pivot, all of whose steps fit
+pub record IsPivoted (level : List Numbers) (m : L.Move) (new : Numbers) : Type 0 where
+  pub is_tableau : IsTableau new
+  pub pivot : IsPivotOf (parent_of level m) m.row m.column new
+  pub fits : All StepFits (steps_of level m)
 
 -- pivots from the level
 abbrev pub AreMoves : List Numbers → List Move → Type 0
@@ -71,8 +77,8 @@ pub record ArePiecesFrom (e : Expansion) (first : ℕ) (pieces : List (Option (B
 
 -- the first pivot with a step that does not fit, or no memory, of which nothing is said
 abbrev pub IsChildStop : Expansion → ChildStop → Type 0
-IsChildStop e (Unfit place unfit) =
-    IsFirstUnfitMove e.level.now (map move_of e.moves.now) place unfit
+IsChildStop e (Unfit place unfit) = (place < length e.moves.now)
+    × IsFirstUnfitOf (steps_of e.level.now) (map move_of e.moves.now) (move_at e place) unfit
 IsChildStop e Memory = Unit {0}
 
 -- what a pivot leads to is ready, with variables of the system, and has the pivot's target

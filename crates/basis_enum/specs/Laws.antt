@@ -1,5 +1,5 @@
 -- The laws of levels, as statements. Each is proved by a function of src/lib.rt.
-use Rattle.std.specs.Prelude.{ℕ, ◌<◌, ◌≡◌, List, length, get_or}
+use Rattle.std.specs.Prelude.{ℕ, ◌<◌, ◌≡◌, List, length, get_or, Ok}
 use Rattle.std.specs.List.{Contains}
 use Rattle.rational.specs.Rational.{ℚ}
 use Rattle.linear_systems.specs.Points.{IsExtremePoint}
@@ -10,25 +10,20 @@ use Rattle.lex_tableau.specs.Starts.{Parts, system_of, IsSystem}
 use Rattle.basis_enum.specs.Bases.{basis_of, AreVariables, ComesFirst}
 use Rattle.basis_enum.specs.Levels.{no_tableau}
 use Rattle.basis_enum.specs.Systems.{IsEnumerable}
-use Rattle.basis_enum.specs.Ends.{End, complete, IsEnd}
+use Rattle.basis_enum.specs.Reached.{reached_in}
 
--- The enumeration of a system ends in one way.
-abbrev pub EndsOnce : Type 0
-EndsOnce = (s : Parts) (e f : End) → IsEnd s e → IsEnd s f → e ≡ f
-
--- Where the enumeration is complete, each extreme point is the basic solution of a reached tableau,
--- degenerate ones too, ..
+-- Each extreme point is the basic solution of a reached tableau, degenerate ones too, ..
 abbrev pub CompleteLevelsCover : Type 0
 CompleteLevelsCover =
     (s : Parts) (ts : List Numbers) (p : ℕ → ℚ) → IsSystem s → IsEnumerable s
-    → IsEnd s (complete ts) → IsExtremePoint (system_of s) p
+    → reached_in s (Ok ts) → IsExtremePoint (system_of s) p
     → HasPoint (system_of s) (length ts) (λ k. tableau (get_or ts k no_tableau)) p
 
 -- .. and the basic solutions are extreme points.
 abbrev pub CompleteLevelsAreExtreme : Type 0
 CompleteLevelsAreExtreme =
     (s : Parts) (ts : List Numbers) (k : ℕ) → IsSystem s → IsEnumerable s
-    → IsEnd s (complete ts) → k < length ts
+    → reached_in s (Ok ts) → k < length ts
     → IsExtremePoint (system_of s) (basic_solution (tableau (get_or ts k no_tableau)))
 
 -- The less of two bases is the one that has the first variable in which they differ: numbers are in

@@ -1,14 +1,11 @@
--- The levels of bases: level 0 is the start's basis, and a level's new neighbours are the next
--- level
-use Rattle.std.specs.Prelude.{ℕ, zero, suc, ◌+◌, ◌<◌, ◌≤◌, ◌≡◌, ◌⊎◌, List, [], ◌∷◌, ◌++◌, length, get_or, map, All}
+-- Levels of bases, and the pivots from one to the next
+use Rattle.std.specs.Prelude.{ℕ, ◌+◌, ◌<◌, ◌≡◌, ◌⊎◌, List, [], ◌∷◌, ◌++◌, length, get_or, map}
 use Rattle.std.specs.List.{Contains}
 use Rattle.std.specs.List.Sorted.{IsStrictlyIncreasing}
 use Rattle.linear_systems.specs.Rows.{IsLexicographicRow}
-use Rattle.frac128.specs.Steps.{Step, StepFits}
+use Rattle.frac128.specs.Steps.{Step}
 use Rattle.lex_tableau.specs.Ratio.{variable_at}
 use Rattle.lex_tableau.specs.Rows.{Numbers, tableau, IsTableau, IsPivotOf}
-use Rattle.lex_tableau.specs.Starts.{Parts}
-use Rattle.lex_tableau.specs.StartStops.{IsStarted}
 use Rattle.lex_tableau.specs.Pivots.{steps_of_pivot}
 use Rattle.basis_enum.specs.Bases.{basis_of, neighbour_of}
 
@@ -77,12 +74,6 @@ pub record AreNextMoves (l : Levels) (moves : List Move) : Type 0 where
 abbrev pub steps_of : List Numbers → Move → List Step
 steps_of level m = steps_of_pivot (parent_of level m) m.row m.column
 
--- new is the tableau after the pivot, all of whose steps fit
-pub record IsPivoted (level : List Numbers) (m : Move) (new : Numbers) : Type 0 where
-  pub is_tableau : IsTableau new
-  pub pivot : IsPivotOf (parent_of level m) m.row m.column new
-  pub fits : All StepFits (steps_of level m)
-
 -- how many bases the levels and these pivots have
 abbrev pub count : Levels → List Move → ℕ
 count l moves = length (l.before ++ l.level) + length moves
@@ -91,25 +82,18 @@ count l moves = length (l.before ++ l.level) + length moves
 abbrev pub most : ℕ
 most = 20000
 
--- level 0
-pub record IsFirstLevel (s : Parts) (l : Levels) : Type 0 where
-  pub start : Numbers
-  pub started : IsStarted s start
-  pub before : l.before ≡ []
-  pub level : l.level ≡ start ∷ []
+-- new is the tableau after the pivot
+pub record IsAfterPivot (level : List Numbers) (m : Move) (new : Numbers) : Type 0 where
+  pub is_tableau : IsTableau new
+  pub pivot : IsPivotOf (parent_of level m) m.row m.column new
 
--- l has the next level
-pub record IsNextLevel (p l : Levels) : Type 0 where
-  pub moves : List Move
-  pub are : AreNextMoves p moves
-  pub some : 0 < length moves
-  pub few : count p moves ≤ most
+-- level 0, of the start alone
+abbrev pub first_level : Numbers → Levels
+first_level start = record { before = []; level = start ∷ [] }
+
+-- l has the level after p: the tableaux after these pivots
+pub record IsNextLevel (p : Levels) (moves : List Move) (l : Levels) : Type 0 where
   pub before : l.before ≡ p.before ++ p.level
   pub size : length l.level ≡ length moves
-  pub children : (i : ℕ) → i < length moves
-      → IsPivoted p.level (get_or moves i no_move) (get_or l.level i no_tableau)
-
--- l has level k of the system
-abbrev pub IsLevel : Parts → ℕ → Levels → Type 0
-IsLevel s zero l = IsFirstLevel s l
-IsLevel s (suc k) l = (p : Levels) × IsLevel s k p × IsNextLevel p l
+  pub tableaux : (i : ℕ) → i < length moves
+      → IsAfterPivot p.level (get_or moves i no_move) (get_or l.level i no_tableau)

@@ -1,6 +1,5 @@
 pub mod Bases
 pub mod Children
-pub mod Ends
 pub mod Enumeration
 pub mod Found
 pub mod Laws
@@ -8,6 +7,7 @@ pub mod Levels
 pub mod Marks
 pub mod Merged
 pub mod Next
+pub mod Reached
 pub mod Systems
 pub mod Vertices
 pub mod Walks

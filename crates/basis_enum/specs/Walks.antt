@@ -1,19 +1,18 @@
 -- The enumeration on its way, level after level
-use Rattle.std.specs.Prelude.{ℕ, ◌<◌, ◌≡◌, ◌⊎◌, List, [], ◌++◌, length, get_or, map}
+use Rattle.std.specs.Prelude.{ℕ, ◌≡◌, List, [], ◌++◌, length, map, Err, Ok}
+use Rattle.answers.specs.Answers.{Gives}
 use Rattle.std.specs.List.{Contains}
 use Rattle.std.specs.List.Sorted.{IsStrictlyIncreasing}
-use Rattle.frac128.specs.declared.steps.Unfit.{Unfit}
 use Rattle.lex_tableau.specs.Rows.{Numbers}
 use Rattle.lex_tableau.specs.Starts.{Parts, IsSystem}
 use Rattle.basis_enum.specs.Levels as L
-use Rattle.basis_enum.specs.Levels.{Levels, IsLevel, most, parent_of}
-use Rattle.basis_enum.specs.Ends.{IsAscendingListOf, IsFirstUnfitMove}
+use Rattle.basis_enum.specs.Levels.{Levels}
+use Rattle.basis_enum.specs.Reached.{bases_within, level_of, pivots_fit, reached_in}
 use Rattle.basis_enum.specs.declared.moves.Move.{Move}
 use Rattle.basis_enum.specs.declared.stop.EnumStop.{EnumStop}
-use Rattle.basis_enum.specs.declared.stop.EnumStop.TheVariants.{Start, Range, TooLarge, Memory}
+use Rattle.basis_enum.specs.declared.stop.EnumStop.TheVariants.{Memory}
 use Rattle.basis_enum.specs.declared.vertex.Vertex.{Vertex}
 use Rattle.basis_enum.specs.declared.walk.Walk.{Walk}
-use Rattle.basis_enum.specs.Enumeration.{limit_of}
 use Rattle.basis_enum.specs.Found.{AreKnown}
 use Rattle.basis_enum.specs.Marks.{AreMarksOf}
 use Rattle.basis_enum.specs.Next.{AreNewMoves, move_of}
@@ -28,7 +27,7 @@ levels_of before level = record { before = before; level = level }
 pub record IsWalkAt (s : Parts) (k : ℕ) (w : Walk) : Type 0 where
   pub valid : IsSystem s
   pub before : List Numbers
-  pub is_level : IsLevel s k (levels_of before w.level.items)
+  pub is_level : level_of s k (Ok (levels_of before w.level.items))
   pub known : AreKnown (levels_of before w.level.items) w.known.items
   pub ascending : IsStrictlyIncreasing w.known.items
   pub count : length w.known.items ≡ length (before ++ w.level.items)
@@ -45,33 +44,17 @@ abbrev pub HaveEntering : List Numbers → List Move → Type 0
 HaveEntering level moves =
     (m : Move) → Contains moves m → m.entering ≡ L.entering level (move_of m)
 
--- the first of these pivots that does not fit goes from this basis, with this variable entering it
-pub record IsUnfitMove (level : List Numbers) (moves : List Move) (basis : List ℕ) (variable : ℕ)
-    (unfit : Unfit) : Type 0 where
-  pub place : ℕ
-  pub first : IsFirstUnfitMove level (map move_of moves) place unfit
-  pub basis_is : IsAscendingListOf
-      (parent_of level (get_or (map move_of moves) place L.no_move)).basics basis
-  pub variable_is : variable ≡ L.entering level (get_or (map move_of moves) place L.no_move)
-
--- why there is no next level after level k: that pivot, or no memory, of which nothing is said
+-- why not all pivots from level k fit, or no memory
 abbrev pub IsMoveStop : List Numbers → List Move → ℕ → EnumStop → Type 0
-IsMoveStop level moves k (Start row unfit) = ⊥
-IsMoveStop level moves k (Range number basis variable unfit) =
-    (number ≡ k) × IsUnfitMove level moves basis variable unfit
-IsMoveStop level moves k (TooLarge limit) = ⊥
-IsMoveStop level moves k Memory = Unit {0}
+IsMoveStop level moves k stop = Gives Memory (pivots_fit k level (map move_of moves)) (Err stop)
 
--- so many bases are too many
-abbrev pub IsLimitStop : ℕ → EnumStop → Type 0
-IsLimitStop count (TooLarge limit) = (most < count) × (limit ≡ limit_of count)
-IsLimitStop count (Start row unfit) = ⊥
-IsLimitStop count (Range number basis variable unfit) = ⊥
-IsLimitStop count Memory = ⊥
-
--- so many bases are too many, or no memory, of which nothing is said
+-- so many bases are too many, or no memory
 abbrev pub IsCountStop : ℕ → EnumStop → Type 0
-IsCountStop count e = (e ≡ Memory) ⊎ IsLimitStop count e
+IsCountStop bases stop = Gives Memory (bases_within bases) (Err stop)
+
+-- why the bases are not all reached, or no memory
+abbrev pub IsEnumStop : Parts → EnumStop → Type 0
+IsEnumStop s stop = Gives Memory (reached_in s) (Err stop)
 
 -- the vertices of these tableaux come to those of any others
 abbrev pub AddsVertices : Parts → List Numbers → List Vertex → List Vertex → Type 0

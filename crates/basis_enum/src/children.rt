@@ -1,8 +1,8 @@
 // The tableaux of the next level.
 ghost use Rattle.std.specs.Prelude.{◌≡◌, ◌<◌, ◌≤◌, ◌+◌, ◌++◌, ◌∷◌, [], length, option_to_list, IfOk, IfErr, IfSome, MatchResult, OnOk};
 ghost use Rattle.lex_tableau.specs.PivotStops.{IsPivotStop};
-ghost use Rattle.basis_enum.specs.Levels.{IsPivoted, IsMove, parent_of};
-ghost use Rattle.basis_enum.specs.Children.{AreAllChildren, ArePiecesFrom, IsChildAt, IsChildStop, IsChildStopAt, IsExpandable, IsMadeFrom, IsReachedAt};
+ghost use Rattle.basis_enum.specs.Levels.{IsMove, parent_of};
+ghost use Rattle.basis_enum.specs.Children.{AreAllChildren, ArePiecesFrom, IsChildAt, IsChildStop, IsChildStopAt, IsExpandable, IsMadeFrom, IsPivoted, IsReachedAt};
 ghost use Rattle.basis_enum.specs.Found.{AreFoundIn, AreReady};
 ghost use Rattle.basis_enum.specs.Next.{move_of};
 ghost use Rattle.basis_enum.specs.Walks.{AddsVertices, AddsMoreVertices};

@@ -5,8 +5,9 @@
 //! of bases, or the first step that does not fit, or the limit; the pivots that are counted are one
 //! fewer than the bases. `enumerate_with` gives the same by `Helpers`, idle workers that several
 //! enumerations share.
-//! Definitions: `specs::Levels` has the levels of bases, `Bases` bases as numbers, `Ends` how an
-//! enumeration ends, `Enumeration` what a system answers; `linear_systems` says what vertices are.
+//! Definitions: `specs::Reached` has the bases of a system in stages, level by level, `Levels` what
+//! levels are, `Bases` bases as numbers, `Enumeration` what a system answers; `linear_systems` says
+//! what vertices are.
 //! Private words: `specs::Children`, `Found`, `Marks`, `Merged`, `Next` and `Walks`.
 //! Lemmas for callers: `proofs::OneAnswerLaws`, that there is one answer; `CompleteLevelLaws` on
 //! reached bases.
@@ -14,7 +15,8 @@
 #![tactic(auto)]
 
 ghost use Rattle.basis_enum.specs.Enumeration.{VerticesAreSingle};
-ghost use Rattle.basis_enum.specs.Laws.{EndsOnce, NumbersOrderBases, CompleteLevelsCover, CompleteLevelsAreExtreme};
+ghost use Rattle.basis_enum.specs.Laws.{NumbersOrderBases, CompleteLevelsCover, CompleteLevelsAreExtreme};
+ghost use Rattle.basis_enum.specs.Reached.{ReachedAreSingle};
 
 mod bases;
 mod children;
@@ -35,9 +37,9 @@ pub fn vertices_are_single()
     ensures { VerticesAreSingle }
 {}
 
-/// The enumeration of a system ends in one way.
-pub fn ends_once()
-    ensures { EndsOnce }
+/// A system reaches its bases in one way: all of them, or one reason why not.
+pub fn reached_are_single()
+    ensures { ReachedAreSingle }
 {}
 
 /// Bases as numbers have the order of the ascending lists of basic variables.

@@ -1,16 +1,16 @@
 // The enumeration on its way, level after level.
-ghost use Rattle.std.specs.Prelude.{◌≡◌, ◌<◌, ◌≤◌, ◌+◌, ℕ, [], ◌∷◌, length, map, IfErr, IfOk, OnOk};
+ghost use Rattle.std.specs.Prelude.{◌≡◌, ◌<◌, ◌≤◌, ◌+◌, ℕ, [], ◌∷◌, length, map, IfErr, IfOk, OnOk, Ok, Err};
 ghost use Rattle.std.specs.List.{Contains};
 ghost use Rattle.std.specs.List.Sorted.{IsStrictlyIncreasing};
-ghost use Rattle.lex_tableau.specs.StartStops.{IsStarted};
-ghost use Rattle.basis_enum.specs.Ends.{IsAscendingListOf};
+ghost use Rattle.lex_tableau.specs.StartStops.{start_in};
+ghost use Rattle.basis_enum.specs.Bases.{IsAscendingListOf};
 ghost use Rattle.basis_enum.specs.Systems.{IsEnumerable};
 ghost use Rattle.basis_enum.specs.Children.{AreAllChildren, IsChildStop, IsExpandable};
-ghost use Rattle.basis_enum.specs.Enumeration.{IsEnumStop};
 ghost use Rattle.basis_enum.specs.Found.{AreFoundIn};
 ghost use Rattle.basis_enum.specs.Merged.{IsMerged};
 ghost use Rattle.basis_enum.specs.Next.{AreNewMoves, target_of};
-ghost use Rattle.basis_enum.specs.Walks.{AddsVertices, HaveEntering, IsCountStop, IsLimitStop, IsMoveStop, IsWalkAt, IsWalkToEnd};
+ghost use Rattle.basis_enum.specs.Reached.{bases_within};
+ghost use Rattle.basis_enum.specs.Walks.{AddsVertices, HaveEntering, IsCountStop, IsEnumStop, IsMoveStop, IsWalkAt, IsWalkToEnd};
 
 use crate::bases::{basis, merged};
 use crate::children::{ChildStop, Expansion, children};
@@ -44,7 +44,7 @@ pub(crate) struct Walk {
 
 // The start of the system.
 fn first(alloc: Global, system: &System) -> Result<Tableau, EnumStop>
-    ensures first { IfOk result (IsStarted system.now) }
+    ensures first { IfOk result (λ tableau. start_in system.now (Ok tableau)) }
     ensures stop { IfErr result (IsEnumStop system.now) }
 {
     match Tableau::start(alloc, system) {
@@ -155,7 +155,7 @@ fn next_level<R: Threads + Sync, G: Gate, L: Ledger>(
 fn check_count(bases: usize, moves: &[Move]) -> Result<(), EnumStop>
     requires { bases ≤ 20000 }
     ensures few { OnOk result (bases + length moves.now ≤ 20000) }
-    ensures stop { IfErr result (IsLimitStop (bases + length moves.now)) }
+    ensures stop { IfErr result (λ stop. bases_within (bases + length moves.now) (Err stop)) }
 {
     let count = bases + moves.len();
     if count > MOST_BASES {

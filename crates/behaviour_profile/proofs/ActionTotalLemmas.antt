@@ -13,7 +13,7 @@ use Rattle.strategy_lists.proofs.ActionCountLemmas.{actions-below}
 use Rattle.strategy_lists.proofs.OwnNumberLemmas.{own_sets-numbers}
 use Rattle.behaviour_profile.specs.EntryTests.{own_counts, action_counts}
 use Rattle.behaviour_profile.proofs.GroupListLemmas.{sum-append, sum-cons, sum-nil}
-use Rattle.behaviour_profile.proofs.GroupTestLemmas.{made-next}
+use Rattle.lists.proofs.ElementLemmas.{made-next}
 
 -- ---- a set counts for one player at most
 -- what a set with n actions adds to the counts of the players before p

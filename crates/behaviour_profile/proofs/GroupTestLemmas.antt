@@ -1,10 +1,10 @@
 -- The tests of a group, entry by entry.
-use Rattle.std.proofs.Common.{ℕ, zero, suc, ℤ, pos, negsuc, ◌≤ℤ◌, ◌<ℤ◌, ◌+◌, ◌<◌, ◌≤◌, ◌≡◌, inl, inr, List, [], ◌∷◌, ◌++◌, All, refl, sym, ap, ap₂, ◌∙◌, subst, append_assoc, add-one, add-zero, zero-add, arith, eq-or-lt_of_le, le_of_suc-le-suc}
+use Rattle.std.proofs.Common.{ℕ, zero, suc, ℤ, pos, negsuc, ◌≤ℤ◌, ◌<ℤ◌, ◌+◌, ◌<◌, ◌≤◌, ◌≡◌, inl, inr, List, [], ◌∷◌, All, refl, sym, ap, ap₂, ◌∙◌, subst, add-one, arith, eq-or-lt_of_le, le_of_suc-le-suc}
 use Rattle.std.specs.List.{range_with_len, flat_map}
 use Rattle.std.specs.Int.{int_signum}
 use Rattle.std.proofs.lemmas.Int.{ints}
-use Rattle.std.proofs.lemmas.List.{append-nil}
 use Rattle.std.proofs.lemmas.List.Elements.{All-nil, All-cons, All-append}
+use Rattle.lists.proofs.ElementLemmas.{made-next}
 use Rattle.rational.specs.Rational.{ℚ, ◌+ℚ◌, ◌≤ℚ◌, zero_ℚ, one_ℚ}
 use Rattle.rational.specs.Sum.{sum_to}
 use Rattle.rational.specs.Tests.{sign_of}
@@ -23,16 +23,6 @@ negative_by_sign q sign is h l = go q.num ((nonneg-num q).0 l) (subst (λ z. z <
     go : (z : ℤ) → pos 0 ≤ℤ z → int_signum z <ℤ pos 0 → ⊥
     go (pos n) k s = omega (arith, ints)
     go (negsuc n) k s = omega (arith, ints)
-
--- what is made of the first n numbers from a on, and of the next
-pub made-more : {X : Type 0} (f : ℕ → List X) (a n : ℕ) → flat_map f (range_with_len a (suc n)) ≡ flat_map f (range_with_len a n) ++ f (a + n)
-made-more f a zero = append-nil (f a) ∙ ap f (sym (add-zero a))
-made-more f a (suc n) =
-    ap (λ v. f a ++ v) (made-more f (a + 1) n ∙ ap (λ k. flat_map f (range_with_len (a + 1) n) ++ f k) (let e : a + 1 + n ≡ a + suc n = omega arith in e))
-    ∙ sym (append_assoc (f a) (flat_map f (range_with_len (a + 1) n)) (f (a + suc n)))
-
-pub made-next : {X : Type 0} (f : ℕ → List X) (n : ℕ) → flat_map f (range_with_len 0 (suc n)) ≡ flat_map f (range_with_len 0 n) ++ f n
-made-next f n = made-more f 0 n ∙ ap (λ k. flat_map f (range_with_len 0 n) ++ f k) (zero-add n)
 
 module _ (entries : List ℚ) (place : ℕ) where
   abbrev pub tests_below : ℕ → List Test

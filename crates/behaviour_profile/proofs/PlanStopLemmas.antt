@@ -1,30 +1,30 @@
 -- The behaviour of two plans, player by player, and what stops it.
-use Rattle.std.proofs.Common.{ℕ, ◌+◌, ◌<◌, ◌≤◌, ◌≡◌, inl, inr, Ok, Err, Result, Some, List, [], ◌++◌, All, length, get_or, slice_get, take, refl, sym, ap, ◌∙◌, subst}
+use Rattle.std.proofs.Common.{ℕ, ◌+◌, ◌<◌, ◌≤◌, ◌≡◌, inl, inr, Ok, Err, Some, List, [], ◌++◌, All, length, get_or, slice_get, take, refl, sym, ap, ap₂, ◌∙◌, subst}
 use Rattle.std.specs.List.{flat_map}
 use Rattle.std.proofs.lemmas.List.{append-nil, take_all}
 use Rattle.std.proofs.lemmas.List.Elements.{All-append}
-use Rattle.std.proofs.lemmas.Option.{same_Some, slice_get-get_or}
-use Rattle.answers.specs.Answers.{Gives, IsSingle}
+use Rattle.std.proofs.lemmas.Option.{slice_get-get_or}
+use Rattle.answers.specs.Answers.{Gives, IsSingle, only}
+use Rattle.answers.proofs.AnswerLemmas.{bind-single, only-single, refused_by-single}
 use Rattle.rational.specs.Rational.{ℚ}
 use Rattle.game_theory.specs.Lines.{listed}
 use Rattle.game_theory.specs.Trees.{Tree}
 use Rattle.game_theory.specs.OwnSets.{own_sets}
-use Rattle.game_theory.specs.TreeEntries.{own_entries, entries_from}
+use Rattle.game_theory.specs.TreeEntries.{own_entries, entries_from, tree_entries}
 use Rattle.sequence_forms.specs.PlanBehaviour.{behaviour_of}
 use Rattle.sequence_forms.proofs.SequenceLemmas.{own_set-is}
-use Rattle.game_core.specs.Tree.{GameTree, InformationSet}
+use Rattle.game_core.specs.Tree.{GameTree}
 use Rattle.game_core.specs.TreeGame.{game_of_tree}
-use Rattle.frac128.specs.Steps.{Step}
 use Rattle.frac128.specs.FirstUnfit.{StepsFit}
-use Rattle.frac128.proofs.FirstUnfitLemmas.{same_stop, no_stop}
+use Rattle.frac128.proofs.FirstUnfitLemmas.{all_fit-single}
 use Rattle.sequence_data.specs.Weights.{weight_at}
 use Rattle.sequence_data.specs.declared.types.SetRow.{SetRow}
 use Rattle.sequence_form.specs.Sequences.{own_set_row}
 use Rattle.behaviour_profile.specs.declared.plans.BehaviourStop.{BehaviourStop}
 use Rattle.behaviour_profile.specs.declared.plans.BehaviourStop.TheVariants as stops
 use Rattle.behaviour_profile.specs.FirstActions.{entries_at}
-use Rattle.behaviour_profile.specs.Plans.{OwnAction, actions_at, own_actions, both_actions, both_plans, quotient_steps, plan_behaviour, IsUnfitQuotient}
-use Rattle.behaviour_profile.specs.Shares.{AddsPlan, IsLabelOf, IsPlanStop, IsShareStop, actions_of, share_at, steps_at}
+use Rattle.behaviour_profile.specs.Plans.{actions_at, both_actions, both_plans, label_of, own_actions, plan_behaviour, quotient_steps, quotient_stop, quotients_in}
+use Rattle.behaviour_profile.specs.Shares.{AddsPlan, IsPlanStop, IsShareStop, actions_of, share_at, steps_at}
 use Rattle.behaviour_profile.proofs.BehaviourEntryLemmas.{entries_at-push}
 use Rattle.behaviour_profile.proofs.PlanShareLemmas.{shares_are, quotients_fit, first_quotient}
 use Rattle.frac128.proofs.UnfitListLemmas.{first_of-more, first_of-following, parts_fit, first_of-part}
@@ -61,7 +61,7 @@ all_sets t i n plans old new l a =
 
 -- a set stops its player's plan
 pub set_stop : (t : GameTree) (i place label : ℕ) (row : SetRow) (weights : List ℚ) (plans : ℕ → ℕ → ℚ) (old now : List ℚ) (stop : BehaviourStop) → place < length (own_sets (game_of_tree t) i) → row ≡ own_set_row (game_of_tree t) i (get_or (own_sets (game_of_tree t) i) place 0)
-    → plans i ≡ weight_at weights → AddsSets (game_of_tree t) i plans place old now → IsLabelOf t (get_or (own_sets (game_of_tree t) i) place 0) label → IsShareStop weights row i label stop → IsPlanStop t i plans stop
+    → plans i ≡ weight_at weights → AddsSets (game_of_tree t) i plans place old now → label ≡ label_of t (get_or (own_sets (game_of_tree t) i) place 0) → IsShareStop weights row i label stop → IsPlanStop t i plans stop
 set_stop t i place label row weights plans old now (stops.Range player set step) l is plan so_far labelled h =
     let g : Tree = game_of_tree t in
     let s : ℕ = get_or (own_sets g i) place 0 in
@@ -69,33 +69,21 @@ set_stop t i place label row weights plans old now (stops.Range player set step)
       at = record { player = i; set = s; action = h.2.0 };
       first = first_of-part (quotient_steps g plans) (actions_at g i) (own_sets g i) place s (slice_get-get_or (own_sets g i) place 0 l) _ step so_far.all_fit (first_quotient g i s row weights plans is plan (own_set-is g i place l).1 h.2.0 step h.2.1);
       player_is = h.0;
-      label_is = record { set = labelled.set; stands_at = labelled.stands_at; label_is = h.1 ∙ labelled.label_is };
+      label_is = h.1 ∙ labelled;
     }
 set_stop t i place label row weights plans old now stops.Memory l is plan so_far labelled h = tt
 
 -- ---- two players
 -- what stops the first
 pub first_stop : (t : GameTree) (one two : List ℚ) (stop : BehaviourStop) → IsPlanStop t 0 (both_plans one two) stop → Gives stops.Memory (plan_behaviour t one two) (Err stop)
-first_stop t one two (stops.Range player label step) h = inr (record {
-  at = h.at;
-  first = first_of-more (quotient_steps (game_of_tree t) (both_plans one two)) (own_actions (game_of_tree t) 0) (own_actions (game_of_tree t) 1) h.at step h.first;
-  player_is = h.player_is;
-  set = h.label_is.set;
-  stands_at = h.label_is.stands_at;
-  label_is = h.label_is.label_is;
-})
+first_stop t one two (stops.Range player label step) h =
+    inr (inl ((h.at, step), first_of-more (quotient_steps (game_of_tree t) (both_plans one two)) (own_actions (game_of_tree t) 0) (own_actions (game_of_tree t) 1) h.at step h.first, ap₂ (λ i l. stops.Range i l step) h.player_is h.label_is))
 first_stop t one two stops.Memory h = inl refl
 
 -- what stops the second
 pub second_stop : (t : GameTree) (one two old new : List ℚ) (stop : BehaviourStop) → AddsPlan t 0 (both_plans one two) old new → IsPlanStop t 1 (both_plans one two) stop → Gives stops.Memory (plan_behaviour t one two) (Err stop)
-second_stop t one two old new (stops.Range player label step) a h = inr (record {
-  at = h.at;
-  first = first_of-following (quotient_steps (game_of_tree t) (both_plans one two)) (own_actions (game_of_tree t) 0) (own_actions (game_of_tree t) 1) h.at step a.all_fit h.first;
-  player_is = h.player_is;
-  set = h.label_is.set;
-  stands_at = h.label_is.stands_at;
-  label_is = h.label_is.label_is;
-})
+second_stop t one two old new (stops.Range player label step) a h =
+    inr (inl ((h.at, step), first_of-following (quotient_steps (game_of_tree t) (both_plans one two)) (own_actions (game_of_tree t) 0) (own_actions (game_of_tree t) 1) h.at step a.all_fit h.first, ap₂ (λ i l. stops.Range i l step) h.player_is h.label_is))
 second_stop t one two old new stops.Memory a h = inl refl
 
 -- and what is made where nothing does
@@ -103,37 +91,21 @@ pub both_made : (t : GameTree) (one two old now new : List ℚ) → length t.pla
 both_made t one two old now new two_players none a b =
     let g : Tree = game_of_tree t in
     let behaviour = behaviour_of g (both_plans one two) in (
+      tt,
       All-append (StepsFit (quotient_steps g (both_plans one two))) (own_actions g 0) (own_actions g 1) a.all_fit b.all_fit,
-      b.entries_are ∙ ap (λ v. v ++ own_entries g behaviour 1) (a.entries_are ∙ ap (λ v. v ++ own_entries g behaviour 0) none)
-          ∙ ap (λ v. own_entries g behaviour 0 ++ v) (sym (append-nil (own_entries g behaviour 1))) ∙ ap (entries_from g behaviour 0) (sym two_players),
+      ap Ok (b.entries_are ∙ ap (λ v. v ++ own_entries g behaviour 1) (a.entries_are ∙ ap (λ v. v ++ own_entries g behaviour 0) none)
+          ∙ ap (λ v. own_entries g behaviour 0 ++ v) (sym (append-nil (own_entries g behaviour 1))) ∙ ap (entries_from g behaviour 0) (sym two_players)),
     )
 
 -- ---- one answer
--- a first quotient that does not fit is one
-same_quotient : (t : GameTree) (plans : ℕ → ℕ → ℚ) (i j label number : ℕ) (step other : Step) → IsUnfitQuotient t plans i label step → IsUnfitQuotient t plans j number other → (let one : Result (List ℚ) BehaviourStop = Err (stops.Range i label step) in one) ≡ Err (stops.Range j number other)
-same_quotient t plans i j label number step other h g = λ k. Err (stops.Range (player_same k) (label_same k) (same.1 k))
-  where
-    same : (h.at ≡ g.at) × (step ≡ other)
-    same = same_stop (quotient_steps (game_of_tree t) plans) (both_actions t) h.at g.at step other h.first g.first
-
-    player_same : i ≡ j
-    player_same = h.player_is ∙ ap (λ (a : OwnAction). a.player) same.0 ∙ sym g.player_is
-
-    set_same : h.set ≡ g.set
-    set_same = same_Some h.set g.set (sym h.stands_at ∙ ap (λ (a : OwnAction). slice_get t.sets a.set) same.0 ∙ g.stands_at)
-
-    label_same : label ≡ number
-    label_same = h.label_is ∙ ap (λ (s : InformationSet). s.label) set_same ∙ sym g.label_is
-
--- there is none where all fit
-no_quotient : (t : GameTree) (plans : ℕ → ℕ → ℚ) (i label : ℕ) (step : Step) → All (StepsFit (quotient_steps (game_of_tree t) plans)) (both_actions t) → IsUnfitQuotient t plans i label step → ⊥
-no_quotient t plans i label step fit h = no_stop (quotient_steps (game_of_tree t) plans) (both_actions t) h.at step h.first fit
-
 pub plan_behaviour-single : (t : GameTree) (one two : List ℚ) → IsSingle (plan_behaviour t one two)
-plan_behaviour-single t one two (Ok x) (Ok y) h g = ap Ok (h.1 ∙ sym g.1)
-plan_behaviour-single t one two (Ok x) (Err (stops.Range i label step)) h g = absurd (no_quotient t (both_plans one two) i label step h.0 g)
-plan_behaviour-single t one two (Ok x) (Err stops.Memory) h g = absurd g
-plan_behaviour-single t one two (Err (stops.Range i label step)) (Ok y) h g = absurd (no_quotient t (both_plans one two) i label step g.0 h)
-plan_behaviour-single t one two (Err (stops.Range i label step)) (Err (stops.Range j number other)) h g = same_quotient t (both_plans one two) i j label number step other h g
-plan_behaviour-single t one two (Err (stops.Range i label step)) (Err stops.Memory) h g = absurd g
-plan_behaviour-single t one two (Err stops.Memory) other h g = absurd h
+plan_behaviour-single t one two =
+    let g : Tree = game_of_tree t in
+    let plans = both_plans one two in
+    bind-single (quotients_in t plans) (λ _. only (tree_entries g (behaviour_of g plans))) (refused_by-single (quotient_stop t) _ (all_fit-single (quotient_steps g plans) (both_actions t)))
+    (λ _ _. only-single (tree_entries g (behaviour_of g plans)))
+
+-- want of memory is no reason
+pub behaviour_not_memory : (t : GameTree) (one two : List ℚ) → plan_behaviour t one two (Err stops.Memory) → ⊥
+behaviour_not_memory t one two (inl (_, _, e)) = cc
+behaviour_not_memory t one two (inr (_, _, e)) = cc

@@ -19,7 +19,7 @@ use Rattle.behaviour_profile.specs.EntryTests.{own_counts, action_counts, profil
 use Rattle.behaviour_profile.specs.EntryLaws.{AdditionsFit, TestedEntriesAreBehaviours}
 use Rattle.behaviour_profile.specs.FirstActions.{entries_at}
 use Rattle.behaviour_profile.proofs.BehaviourEntryLemmas.{entries_from-next}
-use Rattle.behaviour_profile.proofs.GroupTestLemmas.{made-next}
+use Rattle.lists.proofs.ElementLemmas.{made-next}
 use Rattle.behaviour_profile.proofs.TestedEntryLemmas.{tested_entries}
 
 -- ---- lists without repetition

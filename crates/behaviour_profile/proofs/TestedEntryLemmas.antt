@@ -3,6 +3,7 @@ use Rattle.std.proofs.Common.{ℕ, zero, suc, ◌+◌, ◌<◌, ◌≤◌, ◌�
 use Rattle.std.specs.Prelude.{sum}
 use Rattle.std.proofs.lemmas.List.{get_or-append-add, get_or_append_left, take-append-drop}
 use Rattle.std.proofs.lemmas.List.Elements.{All-nil, All-cons, All-append, All-head, All-tail}
+use Rattle.lists.proofs.ElementLemmas.{All-left, All-right, made-next}
 use Rattle.rational.specs.Rational.{ℚ, ◌≤ℚ◌, zero_ℚ, one_ℚ}
 use Rattle.rational.specs.Sum.{sum_to}
 use Rattle.rational.proofs.SumLemmas.{sum_to-same}
@@ -12,16 +13,7 @@ use Rattle.game_theory.proofs.ProfileLineLemmas.{entries-same, length-entries, l
 use Rattle.behaviour_profile.specs.EntryTests.{mixed_of, SumsToOne, Passes, entry_at, entry_tests, group_tests, tests_from, profile_in}
 use Rattle.behaviour_profile.specs.EntryLaws.{AdditionFits, TestedEntriesAreProfiles}
 use Rattle.behaviour_profile.proofs.GroupListLemmas.{sum-cons, sum-nil}
-use Rattle.behaviour_profile.proofs.GroupTestLemmas.{made-next, addition_at, sign_at, tests_below, sum_below}
-
--- ---- parts of lists of which all have something
-pub All-left : {X : Type 0} (P : X → Type 0) (xs ys : List X) → All P (xs ++ ys) → All P xs
-All-left P [] ys h = All-nil P
-All-left P (x ∷ xs) ys h = All-cons P x xs (All-head P x (xs ++ ys) h) (All-left P xs ys (All-tail P x (xs ++ ys) h))
-
-pub All-right : {X : Type 0} (P : X → Type 0) (xs ys : List X) → All P (xs ++ ys) → All P ys
-All-right P [] ys h = h
-All-right P (x ∷ xs) ys h = All-right P xs ys (All-tail P x (xs ++ ys) h)
+use Rattle.behaviour_profile.proofs.GroupTestLemmas.{addition_at, sign_at, tests_below, sum_below}
 
 -- ---- a group
 -- the numbers below n are not negative, and sum to 1

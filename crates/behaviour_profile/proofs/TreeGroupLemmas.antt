@@ -16,7 +16,7 @@ use Rattle.behaviour_profile.specs.declared.entries.ProfileFault.{ProfileFault}
 use Rattle.behaviour_profile.specs.EntryTests.{IsFirstProfileFault, Passes, action_counts, own_counts, tests_from}
 use Rattle.behaviour_profile.proofs.BehaviourEntryLemmas.{actions-counted, own_set-below, place-found}
 use Rattle.behaviour_profile.proofs.GroupListLemmas.{fault-longer, groups_fault, groups_pass, sum-append, sum-cons, sum-nil}
-use Rattle.behaviour_profile.proofs.GroupTestLemmas.{made-next}
+use Rattle.lists.proofs.ElementLemmas.{made-next}
 
 -- the own set that is read at a place
 module _ (t : GameTree) (i k : ℕ) (read : Option ℕ) (is : read ≡ slice_get (own_sets_of t i) k) (same : own_sets_of t i ≡ own_sets (game_of_tree t) i) where

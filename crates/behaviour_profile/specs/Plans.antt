@@ -1,7 +1,7 @@
 -- The behaviour of two plans on a tree, and the first of its quotients that does not fit. Source: von Stengel 1996.
-use Rattle.std.specs.Prelude.{ℕ, ◌≡◌, List, [], ◌∷◌, ◌++◌, All, map, slice_get, if◌then◌else◌, Some, Ok, Err}
+use Rattle.std.specs.Prelude.{ℕ, List, [], ◌∷◌, ◌++◌, get_or, map, if◌then◌else◌, Some}
 use Rattle.std.specs.List.{range_with_len, flat_map}
-use Rattle.answers.specs.Answers.{Answer}
+use Rattle.answers.specs.Answers.{Answer, ◌>>◌, only, refused_by}
 use Rattle.rational.specs.Rational.{ℚ, zero_ℚ}
 use Rattle.rational.specs.Tests.{eq_test}
 use Rattle.frac128.specs.Steps.{unfit, Step}
@@ -11,9 +11,9 @@ use Rattle.game_theory.specs.OwnSets.{own_sets}
 use Rattle.game_theory.specs.TreeEntries.{tree_entries}
 use Rattle.sequence_forms.specs.PlanBehaviour.{of_two, behaviour_of}
 use Rattle.sequence_forms.specs.Sequences.{sequence, sequence_before}
-use Rattle.game_core.specs.Tree.{GameTree, InformationSet}
+use Rattle.game_core.specs.Tree.{GameTree}
 use Rattle.game_core.specs.TreeGame.{game_of_tree}
-use Rattle.frac128.specs.FirstUnfit.{StepsFit, IsFirstUnfitOf}
+use Rattle.frac128.specs.FirstUnfit.{all_fit}
 use Rattle.sequence_data.specs.Weights.{weight_at}
 use Rattle.behaviour_profile.specs.declared.plans.BehaviourStop.{BehaviourStop}
 use Rattle.behaviour_profile.specs.declared.plans.BehaviourStop.TheVariants as stops
@@ -48,19 +48,21 @@ both_plans one two = of_two (weight_at one) (weight_at two)
 abbrev pub both_actions : GameTree → List OwnAction
 both_actions t = own_actions (game_of_tree t) 0 ++ own_actions (game_of_tree t) 1
 
--- the first quotient that does not fit: its player, and its set as a file numbers it
-pub record IsUnfitQuotient (t : GameTree) (plans : ℕ → ℕ → ℚ) (player label : ℕ) (step : Step) : Type 0 where
-  pub at : OwnAction
-  pub first : IsFirstUnfitOf (quotient_steps (game_of_tree t) plans) (both_actions t) at step
-  pub player_is : player ≡ at.player
-  pub set : InformationSet
-  pub stands_at : slice_get t.sets at.set ≡ Some set
-  pub label_is : label ≡ set.label
+-- the number that the file gives set s; 0 where there is no such set
+abbrev pub label_of : GameTree → ℕ → ℕ
+label_of t s = get_or (map (λ set. set.label) t.sets) s 0
+
+-- a quotient that does not fit is told by its player, its set as the file numbers it, and its step
+abbrev pub quotient_stop : GameTree → OwnAction × Step → BehaviourStop
+quotient_stop t unfit = stops.Range unfit.0.player (label_of t unfit.0.set) unfit.1
+
+-- the quotients of two plans all fit; or the first that does not
+abbrev pub quotients_in : GameTree → (ℕ → ℕ → ℚ) → Answer BehaviourStop (Unit {0})
+quotients_in t plans =
+    refused_by (quotient_stop t) (all_fit (quotient_steps (game_of_tree t) plans) (both_actions t))
 
 -- The entries of the behaviour of two plans, all quotients of which fit; or the first that does not.
 abbrev pub plan_behaviour : GameTree → List ℚ → List ℚ → Answer BehaviourStop (List ℚ)
-plan_behaviour t one two (Ok entries) =
-    All (StepsFit (quotient_steps (game_of_tree t) (both_plans one two))) (both_actions t)
-    × (entries ≡ tree_entries (game_of_tree t) (behaviour_of (game_of_tree t) (both_plans one two)))
-plan_behaviour t one two (Err (stops.Range player label step)) = IsUnfitQuotient t (both_plans one two) player label step
-plan_behaviour t one two (Err stops.Memory) = ⊥
+plan_behaviour t one two =
+    quotients_in t (both_plans one two)
+    >> only (tree_entries (game_of_tree t) (behaviour_of (game_of_tree t) (both_plans one two)))

@@ -1,5 +1,5 @@
 -- The shares of a player's plan, set by set, and the first that does not fit.
-use Rattle.std.specs.Prelude.{ℕ, ◌+◌, ◌≡◌, List, [], ◌∷◌, ◌++◌, All, slice_get, if◌then◌else◌, Some}
+use Rattle.std.specs.Prelude.{ℕ, ◌+◌, ◌≡◌, List, [], ◌∷◌, ◌++◌, All, if◌then◌else◌}
 use Rattle.std.specs.List.{range_with_len}
 use Rattle.rational.specs.Rational.{ℚ, zero_ℚ}
 use Rattle.rational.specs.Tests.{eq_test}
@@ -7,12 +7,12 @@ use Rattle.frac128.specs.Steps.{unfit, Step}
 use Rattle.frac128.specs.declared.steps.Op.TheVariants.{Div}
 use Rattle.game_theory.specs.TreeEntries.{own_entries}
 use Rattle.sequence_forms.specs.PlanBehaviour.{behaviour_of, share}
-use Rattle.game_core.specs.Tree.{GameTree, InformationSet}
+use Rattle.game_core.specs.Tree.{GameTree}
 use Rattle.game_core.specs.TreeGame.{game_of_tree}
 use Rattle.frac128.specs.FirstUnfit.{StepsFit, IsFirstUnfitOf}
 use Rattle.sequence_data.specs.Weights.{weight_at}
 use Rattle.sequence_data.specs.declared.types.SetRow.{SetRow}
-use Rattle.behaviour_profile.specs.Plans.{OwnAction, own_actions, quotient_steps}
+use Rattle.behaviour_profile.specs.Plans.{OwnAction, label_of, own_actions, quotient_steps}
 use Rattle.behaviour_profile.specs.declared.plans.BehaviourStop.{BehaviourStop}
 use Rattle.behaviour_profile.specs.declared.plans.BehaviourStop.TheVariants as stops
 
@@ -33,12 +33,6 @@ steps_at weights row a = share_steps (weight_at weights row.before) (weight_at w
 abbrev pub actions_of : SetRow → List ℕ
 actions_of row = range_with_len 0 row.count
 
--- set s has this number in the file
-pub record IsLabelOf (t : GameTree) (s label : ℕ) : Type 0 where
-  pub set : InformationSet
-  pub stands_at : slice_get t.sets s ≡ Some set
-  pub label_is : label ≡ set.label
-
 -- the first share of a set of player i that does not fit
 abbrev pub IsShareStop : List ℚ → SetRow → ℕ → ℕ → BehaviourStop → Type 0
 IsShareStop weights row i label (stops.Range player set step) = (player ≡ i) × (set ≡ label) × ((a : ℕ) × IsFirstUnfitOf (steps_at weights row) (actions_of row) a step)
@@ -55,7 +49,7 @@ pub record IsUnfitOwn (t : GameTree) (i : ℕ) (plans : ℕ → ℕ → ℚ) (pl
   pub at : OwnAction
   pub first : IsFirstUnfitOf (quotient_steps (game_of_tree t) plans) (own_actions (game_of_tree t) i) at step
   pub player_is : player ≡ at.player
-  pub label_is : IsLabelOf t at.set label
+  pub label_is : label ≡ label_of t at.set
 
 -- what stops player i's plan
 abbrev pub IsPlanStop : GameTree → ℕ → (ℕ → ℕ → ℚ) → BehaviourStop → Type 0

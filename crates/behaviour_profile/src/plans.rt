@@ -14,6 +14,7 @@ ghost use Rattle.std.specs.Prelude.{
   IfOk,
   IfErr,
   OnOk,
+  Ok,
 };
 ghost use Rattle.answers.specs.Answers.{Gives, IsSingle};
 ghost use Rattle.rational.specs.Rational.{ℚ, frac};
@@ -25,13 +26,12 @@ ghost use Rattle.game_core.specs.TreeGame.{game_of_tree};
 ghost use Rattle.frac128.specs.FirstUnfit.{StepsFit};
 ghost use Rattle.frac128.specs.Steps.{StepFits, IsFirstUnfit};
 ghost use Rattle.sequence_data.specs.Weights.{weight_at};
-ghost use Rattle.sequence_form.specs.Forms.{IsTreeForm};
+ghost use Rattle.sequence_form.specs.Forms.{tree_form};
 ghost use Rattle.sequence_form.specs.Sequences.{tree_side};
 ghost use Rattle.behaviour_profile.specs.declared.plans.BehaviourStop.TheVariants as stops;
-ghost use Rattle.behaviour_profile.specs.Plans.{plan_behaviour};
+ghost use Rattle.behaviour_profile.specs.Plans.{label_of, plan_behaviour};
 ghost use Rattle.behaviour_profile.specs.Shares.{
   AddsPlan,
-  IsLabelOf,
   IsPlanStop,
   IsShareStop,
   actions_of,
@@ -126,7 +126,7 @@ fn push_shares(
 fn label(tree: &Tree, player: u32, place: u32) -> u64
     requires { place < length (own_sets (game_of_tree tree.now) player) }
     ensures { let sets = own_sets (game_of_tree tree.now) player in
-        IsLabelOf tree.now (slice_index sets place) result }
+        result ≡ label_of tree.now (slice_index sets place) }
 {
     own_sets_are_those_of_the_tree();
     match tree.own_sets(player, place) {
@@ -175,7 +175,7 @@ impl Behaviour {
         one: &[Frac],
         two: &[Frac],
     ) -> Result<Behaviour, BehaviourStop>
-        requires form { IsTreeForm (game_of_tree tree.now) form.now }
+        requires form { tree_form tree.now (Ok form.now) }
         requires one { length one.now ≡ form.now.first.sequences }
         requires two { length two.now ≡ form.now.second.sequences }
         ensures { Gives stops.Memory (plan_behaviour tree.now one.now two.now) result }

@@ -5,7 +5,7 @@ ghost use Rattle.std.specs.List.{flat_map};
 ghost use Rattle.std.specs.Result.{IsErrOf};
 ghost use Rattle.game_theory.specs.Profiles.{IsProfile};
 ghost use Rattle.game_core.specs.Table.{strategy_counts};
-ghost use Rattle.game_core.specs.TextLimit.{most_text};
+ghost use Rattle.game_core.specs.Limits.{most_text};
 ghost use Rattle.convert_tables.specs.declared.marks.Mark.TheVariants.{TableEnd};
 ghost use Rattle.convert_tables.specs.Marks.{mark_text};
 ghost use Rattle.convert_tables.specs.Names.{name_text};

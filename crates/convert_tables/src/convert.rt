@@ -3,7 +3,7 @@ ghost use Rattle.std.specs.Prelude.{◌≡◌, ◌≢◌, ◌-◌, ◌<◌, ◌�
 ghost use Rattle.std.specs.Result.{IsErrOf};
 ghost use Rattle.answers.specs.Answers.{Gives, IsSingle, map_ok};
 ghost use Rattle.game_core.specs.Table.{GameTable};
-ghost use Rattle.game_core.specs.TextLimit.{most_text, too_long_text};
+ghost use Rattle.game_core.specs.Limits.{most_text};
 ghost use Rattle.convert_tables.specs.Examples.{PrisonersDilemmaIsLaidOut};
 ghost use Rattle.convert_tables.specs.Layouts.{other_players, others_counts, title_text, layout};
 ghost use Rattle.convert_tables.specs.declared.marks.Style.TheVariants.{Html};

@@ -1,7 +1,8 @@
 -- What the tokens of a tree answer: the tree, or why it is not read.
 use Rattle.std.specs.Prelude.{ℕ, zero, suc, ◌≡◌, ◌⊎◌, List, Ok, Err}
 use Rattle.answers.specs.Answers.{Answer}
-use Rattle.game_core.specs.Tree.{GameTree}
+use Rattle.game_core.specs.Limits.{first_above}
+use Rattle.game_core.specs.Tree.{GameTree, most_depth, most_nodes}
 use Rattle.game_core.specs.declared.too_large.TooLarge.{TooLarge}
 use Rattle.game_core.specs.declared.too_large.What.{What}
 use Rattle.game_core.specs.declared.too_large.What.TheVariants.{Nodes, Depth}
@@ -19,16 +20,11 @@ use Rattle.efg_reader.specs.declared.nodes.Stop.{Stop}
 use Rattle.efg_reader.specs.declared.nodes.Stop.TheVariants.{Refused, Passed}
 use Rattle.efg_reader.specs.declared.fault.EfgStop.TheVariants as stops
 
--- the counts that are named: each is the first number above its limit
-abbrev pub too_many_nodes : TooLarge
-too_many_nodes = record { what = Nodes; count = 65537; limit = 65536 }
-
-abbrev pub too_deep : TooLarge
-too_deep = record { what = Depth; count = 1025; limit = 1024 }
-
 -- a limit is passed, by the number of nodes or by the depth
 abbrev pub IsPassed : List Token → TooLarge → Type 0
-IsPassed tokens limit = ((limit ≡ too_many_nodes) × PassesLimit tokens Nodes) ⊎ ((limit ≡ too_deep) × PassesLimit tokens Depth)
+IsPassed tokens limit =
+    ((limit ≡ first_above Nodes most_nodes) × PassesLimit tokens Nodes)
+    ⊎ ((limit ≡ first_above Depth most_depth) × PassesLimit tokens Depth)
 
 -- The tree of a file, within the limits of trees. A fault comes with its offset and its kind, where the tokens have one and pass no
 -- limit; a limit comes where it is passed.
@@ -52,5 +48,5 @@ kind_in_nodes kind (suc left) = kind
 abbrev pub IsNodesStop : Stop → TokenList → EfgStop → Type 0
 IsNodesStop (Refused (refusals.Unexpected kind left)) tokens stop = stop ≡ stops.Fault (record { at = offset_of tokens left; kind = kind_in_nodes kind left })
 IsNodesStop (Refused refusals.Memory) tokens stop = stop ≡ stops.Memory
-IsNodesStop (Passed Nodes) tokens stop = stop ≡ stops.TooLarge too_many_nodes
-IsNodesStop (Passed _) tokens stop = stop ≡ stops.TooLarge too_deep
+IsNodesStop (Passed Nodes) tokens stop = stop ≡ stops.TooLarge (first_above Nodes most_nodes)
+IsNodesStop (Passed _) tokens stop = stop ≡ stops.TooLarge (first_above Depth most_depth)

@@ -42,16 +42,12 @@ fn nodes_stop(stopped: Stop, tokens: &Tokens) -> EfgStop
             tokens,
         ),
         Stop::Refused(refusal) => stop(refusal, tokens),
-        Stop::Passed(What::Nodes) => EfgStop::TooLarge(TooLarge {
-            what: What::Nodes,
-            count: MOST_NODES as u64 + 1,
-            limit: MOST_NODES as u64,
-        }),
-        Stop::Passed(_) => EfgStop::TooLarge(TooLarge {
-            what: What::Depth,
-            count: MOST_DEPTH as u64 + 1,
-            limit: MOST_DEPTH as u64,
-        }),
+        Stop::Passed(What::Nodes) => {
+            EfgStop::TooLarge(TooLarge::first_above(What::Nodes, MOST_NODES as u64))
+        }
+        Stop::Passed(_) => {
+            EfgStop::TooLarge(TooLarge::first_above(What::Depth, MOST_DEPTH as u64))
+        }
     }
 }
 

@@ -29,6 +29,7 @@ use Rattle.extreme_equilibria.proofs.MappedListLemmas.{from-map, into-map}
 use Rattle.extreme_equilibria.proofs.PairLineLemmas.{pair_lines_are_extreme_equilibria, listed_vertices_scale_differently}
 use Rattle.lex_tableau.specs.Starts.{Parts, system_of}
 use Rattle.reply_polytope.proofs.EnumerableLemmas.{first_count, second_count}
+use Rattle.reply_polytope.proofs.LeastLemmas.{least_below}
 use Rattle.reply_polytope.proofs.PolytopeLemmas.{ArePolytopesOf}
 use Rattle.basis_enum.specs.Systems.{variable_count}
 use Rattle.label_pairing.specs.Laws.{IsPair}
@@ -71,10 +72,10 @@ module _ (g : Game) (one two : Parts) (p : ArePolytopesOf g one two) where
       subst (λ ns. number_of ns (i ∷ j ∷ []) < profile_count ns) (sym p.strategies) (number_of-below (p.m ∷ p.n ∷ []) (i ∷ j ∷ []) (h, (l, tt)))
 
   first-below : IsBelowAll p.m p.n (pays_against g 0) p.least
-  first-below i j h l = p.is_least.below (number_of g.strategies (i ∷ j ∷ [])) (number-below i j h l)
+  first-below i j h l = least_below g 0 p.least p.is_least (number_of g.strategies (i ∷ j ∷ [])) (number-below i j h l)
 
   second-below : IsBelowAll p.n p.m (pays_against g 1) p.least'
-  second-below j i l h = p.is_least'.below (number_of g.strategies (i ∷ j ∷ [])) (number-below i j h l)
+  second-below j i l h = least_below g 1 p.least' p.is_least' (number_of g.strategies (i ∷ j ∷ [])) (number-below i j h l)
 
 -- ---- points
 -- the mark at a place is of a point with so many entries

@@ -20,7 +20,9 @@ use Rattle.reply_polytope.proofs.PolytopeLemmas.{polytopes_of}
 use Rattle.enummixed.specs.ExtremeText.{VertexPairs, IsExtremeEquilibriaText, extreme_pairs}
 use Rattle.enummixed.specs.Order.{line_of, pair_order}
 use Rattle.enummixed.specs.Spread.{AreSpreadPoints}
-use Rattle.enummixed.specs.Used.{occurs, scaled_used}
+use Rattle.basis_enum.specs.Systems.{variable_count}
+use Rattle.label_pairing.proofs.StopLemmas.{pairs_are}
+use Rattle.enummixed.specs.Used.{all_labels, occurs, scaled_used}
 use Rattle.enummixed.proofs.ExtremeLineLemmas.{ArePointsOf, point-lengths, extreme-lines}
 use Rattle.enummixed.proofs.VertexPairLemmas.{parts_same}
 
@@ -71,7 +73,7 @@ module _ (g h : Game) (first second : List ℕ) (m n : ℕ) (are : g.strategies 
         lines = map (line_of wide wide') sorted;
         are_extreme_equilibria = wide-lines sorted
             (λ q c. subst (λ a. ArePointsOf a (length second) firsts seconds q) lengths.0 (subst (λ b. ArePointsOf p.m b firsts seconds q) lengths.1
-            (point-lengths h x.0.0 x.0.1 p x.2.0.list x.2.2.0.list x.2.1.list x.2.2.1.list firsts seconds x.2.2.2.0 x.2.2.2.1.0 f s q (Contains-permutation sorted x.2.2.2.0 q (IsPermutation-sym x.2.2.2.0 sorted permuted) c))))
-            (extreme-lines h x.0.0 x.0.1 p x.2.0.list x.2.2.0.list x.2.1.list x.2.2.1.list firsts seconds x.2.2.2.0 sorted x.2.2.2.1.0 f s permuted ordered);
+            (point-lengths h x.0.0 x.0.1 p x.2.0.list x.2.2.0.list x.2.1.2.list x.2.2.1.2.list firsts seconds x.2.2.2.0 (pairs_are (all_labels (variable_count x.0.0)) x.2.0.list x.2.2.0.list x.2.2.2.0 x.2.2.2.1) f s q (Contains-permutation sorted x.2.2.2.0 q (IsPermutation-sym x.2.2.2.0 sorted permuted) c))))
+            (extreme-lines h x.0.0 x.0.1 p x.2.0.list x.2.2.0.list x.2.1.2.list x.2.2.1.2.list firsts seconds x.2.2.2.0 sorted (pairs_are (all_labels (variable_count x.0.0)) x.2.0.list x.2.2.0.list x.2.2.2.0 x.2.2.2.1) f s permuted ordered);
         is_text = refl;
       })

@@ -14,6 +14,7 @@ use Rattle.frac128.specs.FirstUnfit.{StepsFit, IsFirstUnfitOf}
 use Rattle.label_pairing.specs.Pairs.{mark_at}
 use Rattle.label_pairing.specs.Scaling.{scale_steps}
 use Rattle.label_pairing.proofs.RowLemmas.{range_more}
+use Rattle.label_pairing.proofs.StopLemmas.{scaled_not_memory, scaled_unfit}
 use Rattle.label_pairing.specs.Stops.{scaled_in}
 use Rattle.label_pairing.specs.declared.scaling.ScaleStop.{ScaleStop}
 use Rattle.label_pairing.specs.declared.scaling.ScaleStop.TheVariants as stops
@@ -95,9 +96,10 @@ scaled-next point used n points new p b is before push e =
 -- the stop of a vertex is that of the list
 pub stop_here : (list : List MarkedPoint) (used : ℕ → Bool) (n : ℕ) (p : List ℚ) (stop : ScaleStop) → n < length list → used n ≡ true → All (StepsFit scale_steps) (map (λ i. (mark_at list i).point) (filter used (range_with_len 0 n))) → p ≡ (mark_at list n).point → Gives stops.Memory (scaled_in p) (Err stop) → Gives stops.Memory (scaling_in (used_points list used)) (Err stop)
 stop_here list used n p stop l is h e (inl m) = inl m
-stop_here list used n p (stops.Range step) l is h e (inr f) =
+stop_here list used n p (stops.Range step) l is h e (inr g) =
+    let f = scaled_unfit p step g in
     inr (((mark_at list n).point, step), unfit-here (λ i. (mark_at list i).point) used n (length list) step l is h (subst (λ q. IsFirstUnfit (scale_steps q) step) e f), refl)
-stop_here list used n p stops.Memory l is h e (inr f) = absurd f
+stop_here list used n p stops.Memory l is h e (inr g) = absurd (scaled_not_memory p g)
 
 plus : (k : ℕ) → 0 + k ≡ k
 plus k = omega arith

@@ -1,5 +1,5 @@
 -- There are no more vertices than reached bases
-use Rattle.std.proofs.Common.{ℕ, suc, ◌+◌, ◌*◌, ◌^◌, ◌<◌, ◌≤◌, ◌≡◌, ◌⊎◌, inl, inr, true, false, eqb, List, [], length, map, get_or, sym, ap, ap₂, ◌∙◌, subst, arith, tests}
+use Rattle.std.proofs.Common.{ℕ, suc, ◌+◌, ◌*◌, ◌^◌, ◌<◌, ◌≤◌, ◌≡◌, ◌⊎◌, inl, inr, true, false, eqb, List, [], length, map, get_or, sym, ap, ap₂, ◌∙◌, subst, arith, tests, Ok}
 use Rattle.std.specs.List.{IsDistinct, list_any, range_with_len}
 use Rattle.std.proofs.lemmas.List.FromFn.{length-map-range_with_len, get_or-map-range_with_len}
 use Rattle.std.proofs.lemmas.Bool.{cases_lt}
@@ -11,13 +11,13 @@ use Rattle.linear_systems.specs.Rows.{basic_solution}
 use Rattle.linear_systems.specs.ExtremePointLaws.{HasPoint}
 use Rattle.linear_systems.specs.Vertices.{MarkedPoint, IsVertexMark}
 use Rattle.linear_systems.proofs.VertexListLemmas.{same_mask, place_once}
-use Rattle.lex_tableau.specs.Rows.{tableau}
+use Rattle.lex_tableau.specs.Rows.{Numbers, tableau}
 use Rattle.lex_tableau.specs.Starts.{Parts, system_of, IsSystem}
 use Rattle.basis_enum.specs.Systems.{variable_count, IsEnumerable}
 use Rattle.basis_enum.specs.Levels.{no_tableau}
 use Rattle.basis_enum.proofs.CompleteLevelLaws.{complete_cover}
 use Rattle.basis_enum.specs.Vertices.{VertexList}
-use Rattle.basis_enum.specs.Enumeration.{AreVerticesOf}
+use Rattle.basis_enum.specs.Enumeration.{vertices_in}
 
 -- a test that some element passes tells one
 some_equal : (q : ℕ) (xs : List ℕ) (P : ℕ → Type 0) → ((k : ℕ) → k < length xs → P (get_or xs k 0)) → list_any (eqb q) xs ≡ true → P q
@@ -31,29 +31,32 @@ some_equal q xs P h e =
 apart : (a b : ℕ) → (a ≡ b → ⊥) → eqb a b ≡ false
 apart a b h = grind (arith, tests)
 
-module _ (s : Parts) (v : VertexList) (valid : IsSystem s) (enumerable : IsEnumerable s) (h : AreVerticesOf s v) where
+module _ (s : Parts) (v : VertexList) (valid : IsSystem s) (enumerable : IsEnumerable s) (h : vertices_in s (Ok v)) where
+  abbrev reached : List Numbers
+  reached = h.0
+
   abbrev none : MarkedPoint
   none = record { low = 0; high = 0; point = [] }
 
   mark-is : (k : ℕ) → k < length v.list → IsVertexMark (variable_count s) (system_of s) (get_or v.list k none)
-  mark-is k l = h.list.sound k none l
+  mark-is k l = h.2.list.sound k none l
 
-  here : (k : ℕ) (l : k < length v.list) → HasPoint (system_of s) (length h.reached) (λ i. tableau (get_or h.reached i no_tableau)) (mark-is k l).solution
-  here k l = complete_cover s h.reached (mark-is k l).solution valid enumerable h.end (mark-is k l).extreme
+  here : (k : ℕ) (l : k < length v.list) → HasPoint (system_of s) (length reached) (λ i. tableau (get_or reached i no_tableau)) (mark-is k l).solution
+  here k l = complete_cover s reached (mark-is k l).solution valid enumerable h.1 (mark-is k l).extreme
 
   -- equal bases have equal points
   once : (i j : ℕ) (l : i < length v.list) (m : j < length v.list) → (here i l).place ≡ (here j m).place → i ≡ j
   once i j l m e =
       let f = mark-is i l in
       let g = mark-is j m in
-      let masks = same_mask (variable_count s) (system_of s) (system_of s) f.solution g.solution (get_or v.list i none) (get_or v.list j none) (λ k b. let d = (enumerable.numbered (suc k)).1 (omega arith, omega arith) in (here i l).same (suc k) d ∙ ap (λ p. basic_solution (tableau (get_or h.reached p no_tableau)) (suc k)) e ∙ sym ((here j m).same (suc k) d)) f.marked g.marked in
-      place_once v.list h.list.ascending i j none l m (ap₂ (λ x y. x + 2 ^ 64 * y) masks.0 masks.1)
+      let masks = same_mask (variable_count s) (system_of s) (system_of s) f.solution g.solution (get_or v.list i none) (get_or v.list j none) (λ k b. let d = (enumerable.numbered (suc k)).1 (omega arith, omega arith) in (here i l).same (suc k) d ∙ ap (λ p. basic_solution (tableau (get_or reached p no_tableau)) (suc k)) e ∙ sym ((here j m).same (suc k) d)) f.marked g.marked in
+      place_once v.list h.2.list.ascending i j none l m (ap₂ (λ x y. x + 2 ^ 64 * y) masks.0 masks.1)
 
   place_of : (k : ℕ) → (k < length v.list) ⊎ (length v.list ≤ k) → ℕ
   place_of k (inl l) = (here k l).place
   place_of k (inr l) = 0
 
-  place_within : (k : ℕ) (c : (k < length v.list) ⊎ (length v.list ≤ k)) → k < length v.list → place_of k c < length h.reached
+  place_within : (k : ℕ) (c : (k < length v.list) ⊎ (length v.list ≤ k)) → k < length v.list → place_of k c < length reached
   unfolding place_of here
   place_within k (inl l) _ = (here k l).within
   place_within k (inr r) l = absurd (omega arith)
@@ -79,5 +82,5 @@ module _ (s : Parts) (v : VertexList) (valid : IsSystem s) (enumerable : IsEnume
   pub vertices-few : length v.list ≤ v.bases
   vertices-few =
       let distinct : IsDistinct eqb places = IsDistinct-from_apart eqb places (λ i j d a b. let c : j < length v.list = omega (arith, long) in apart _ _ (λ e. place_apart i j (cases_lt i (length v.list)) (cases_lt j (length v.list)) a c (sym (read i d (omega arith)) ∙ e ∙ read j d c))) in
-      let below : (q : ℕ) → list_any (eqb q) places ≡ true → q < length h.reached = λ q e. some_equal q places (λ p. p < length h.reached) (λ k l. let c : k < length v.list = omega (arith, long) in subst (λ p. p < length h.reached) (sym (read k 0 c)) (place_within k (cases_lt k (length v.list)) c)) e in
-      omega (arith, long, length-le_from_distinct_below places (length h.reached) distinct below, h.bases)
+      let below : (q : ℕ) → list_any (eqb q) places ≡ true → q < length reached = λ q e. some_equal q places (λ p. p < length reached) (λ k l. let c : k < length v.list = omega (arith, long) in subst (λ p. p < length reached) (sym (read k 0 c)) (place_within k (cases_lt k (length v.list)) c)) e in
+      omega (arith, long, length-le_from_distinct_below places (length reached) distinct below, h.2.bases)

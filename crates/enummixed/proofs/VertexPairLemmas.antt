@@ -23,6 +23,7 @@ use Rattle.reply_polytope.proofs.SingleLemmas.{polytopes_single}
 use Rattle.basis_enum.specs.Systems.{variable_count}
 use Rattle.label_pairing.specs.Scaling.{scale_steps}
 use Rattle.label_pairing.proofs.AllPairLemmas.{pairs_single}
+use Rattle.label_pairing.proofs.StopLemmas.{pairs_are}
 use Rattle.enummixed.specs.Laws.{ExtremePairsAreSingle, ExtremeTextsAreSingle, PairsAreAsManyAsExtremeEquilibria}
 use Rattle.enummixed.specs.Told.{polytopes_stop, enumeration_stop, pairs_stop, scale_stop, text_stop}
 use Rattle.enummixed.specs.Used.{all_labels, used_points, scaling_in}
@@ -52,7 +53,7 @@ sorted-text game e h firsts seconds sorted =
     (sym (parts_same _ _ h.2.2.2.2.2.2))
     (λ f s permuted ordered. record {
       lines = map (line_of firsts seconds) sorted;
-      are_extreme_equilibria = extreme-lines game h.0.0 h.0.1 (polytopes_of game h.0.0 h.0.1 h.1) h.2.0.list h.2.2.0.list h.2.1.list h.2.2.1.list firsts seconds h.2.2.2.0 sorted h.2.2.2.1.0 f s permuted ordered;
+      are_extreme_equilibria = extreme-lines game h.0.0 h.0.1 (polytopes_of game h.0.0 h.0.1 h.1) h.2.0.list h.2.2.0.list h.2.1.2.list h.2.2.1.2.list firsts seconds h.2.2.2.0 sorted (pairs_are (all_labels (variable_count h.0.0)) h.2.0.list h.2.2.0.list h.2.2.2.0 h.2.2.2.1) f s permuted ordered;
       is_text = refl;
     })
 
@@ -63,14 +64,14 @@ pairs-counted game found h =
     let firsts : List (List ℚ) = scaled_used h.2.0.list (occurs (map (λ p. p.0) pairs)) in
     let seconds : List (List ℚ) = scaled_used h.2.2.0.list (occurs (map (λ p. p.1) pairs)) in
     let s = sorted (λ p q. is_lt (pair_order firsts seconds p q)) (pairs-ordered firsts seconds) pairs in
-    (map (line_of firsts seconds) s.0, extreme-lines game h.0.0 h.0.1 (polytopes_of game h.0.0 h.0.1 h.1) h.2.0.list h.2.2.0.list h.2.1.list h.2.2.1.list firsts seconds pairs s.0 h.2.2.2.1.0 refl refl s.1 s.2, length-map s.0 (line_of firsts seconds) ∙ length_permutation pairs s.0 s.1 ∙ ap (λ e. length e.pairs) (sym (parts_same _ _ h.2.2.2.2.2.2)))
+    (map (line_of firsts seconds) s.0, extreme-lines game h.0.0 h.0.1 (polytopes_of game h.0.0 h.0.1 h.1) h.2.0.list h.2.2.0.list h.2.1.2.list h.2.2.1.2.list firsts seconds pairs s.0 (pairs_are (all_labels (variable_count h.0.0)) h.2.0.list h.2.2.0.list h.2.2.2.0 h.2.2.2.1) refl refl s.1 s.2, length-map s.0 (line_of firsts seconds) ∙ length_permutation pairs s.0 s.1 ∙ ap (λ e. length e.pairs) (sym (parts_same _ _ h.2.2.2.2.2.2)))
 
 -- a text of which more is said
 pub within-weaker : (P Q : List ℕ → Type 0) → ((text : List ℕ) → P text → Q text) → (r : Result (List ℕ) ListStop) → Gives list_stops.Memory (within_text_limit P) r → Gives list_stops.Memory (within_text_limit Q) r
-within-weaker P Q more (Ok text) h = (more text h.0, h.1)
+within-weaker P Q more (Ok text) h = (h.0, more h.0 h.1, h.2)
 within-weaker P Q more (Err stop) (inl m) = inl m
-within-weaker P Q more (Err (list_stops.TooLarge limit)) (inr h) = inr ((h.0.0, more h.0.0 h.0.1, h.0.2), h.1)
-within-weaker P Q more (Err list_stops.Memory) (inr h) = absurd h
+within-weaker P Q more (Err stop) (inr (inl h)) = absurd h
+within-weaker P Q more (Err stop) (inr (inr h)) = inr (inr (h.0, more h.0 h.1, h.2))
 
 -- the stages of a text are single
 text-same : (game : Game) (one other : List ℕ) → IsExtremeEquilibriaText game one → IsExtremeEquilibriaText game other → one ≡ other

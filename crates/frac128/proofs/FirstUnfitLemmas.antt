@@ -5,8 +5,7 @@ use Rattle.std.proofs.lemmas.List.{take-append-drop, map-append}
 use Rattle.std.proofs.lemmas.List.Elements.{All-nil, All-cons, All-append}
 use Rattle.answers.specs.Answers.{IsSingle}
 use Rattle.frac128.specs.Steps.{Step, StepFits, IsFirstUnfit}
-use Rattle.frac128.proofs.StepRunLemmas.{first_unfit-more}
-use Rattle.frac128.specs.FirstUnfit.{StepsFit, IsFirstUnfitOf, all_fit}
+use Rattle.frac128.specs.FirstUnfit.{StepsFit, IsFirstUnfitOf, all_fit, all_steps_fit}
 
 -- what holds of all holds of each
 pub front_has : {X : Type 0} (P : X → Type 0) (before after : List X) (x : X) → All P (before ++ x ∷ after) → P x
@@ -30,35 +29,26 @@ unfit_once steps one other h g =
 pub unfit_among : (steps : List Step) (step : Step) → IsFirstUnfit steps step → All StepFits steps → ⊥
 unfit_among steps step h fit = h.does_not_fit (front_has StepFits h.before h.following step (subst (All StepFits) h.is_there fit))
 
--- of two lists of steps that begin in the same way
-pub unfit_begins : (steps more : List Step) (one other : Step) → IsFirstUnfit steps one → IsFirstUnfit (steps ++ more) other → one ≡ other
-unfit_begins steps more one other h g =
-    let f = first_unfit-more steps more one h in
-    front_one StepFits f.before g.before f.following g.following one other (sym f.is_there ∙ g.is_there) f.earlier_fit g.earlier_fit f.does_not_fit g.does_not_fit
-
-pub unfit_excludes : (steps more : List Step) (one : Step) → IsFirstUnfit steps one → All StepFits (steps ++ more) → ⊥
-unfit_excludes steps more one h fit =
-    let f = first_unfit-more steps more one h in
-    f.does_not_fit (front_has StepFits f.before f.following one (subst (All StepFits) f.is_there fit))
-
-append_none : {X : Type 0} (xs : List X) → xs ++ [] ≡ xs
-append_none [] = refl
-append_none (x ∷ xs) = ap (λ ys. x ∷ ys) (append_none xs)
+-- steps all fit, or one is the first that does not
+pub all_steps_fit-single : (steps : List Step) → IsSingle (all_steps_fit steps)
+all_steps_fit-single steps (Ok _) (Ok _) h g = refl
+all_steps_fit-single steps (Ok _) (Err step) h g = absurd (unfit_among steps step g h)
+all_steps_fit-single steps (Err step) (Ok _) h g = absurd (unfit_among steps step h g)
+all_steps_fit-single steps (Err one) (Err other) h g = ap Err (unfit_once steps one other h g)
 
 -- the first thing and its step are one
 pub same_stop : {X : Type 0} (steps : X → List Step) (xs : List X) (x y : X) (one other : Step) → IsFirstUnfitOf steps xs x one → IsFirstUnfitOf steps xs y other → (x ≡ y) × (one ≡ other)
-same_stop steps xs x y one other h g = (same, unfit_begins (steps x) [] one other h.first_unfit (subst (λ ss. IsFirstUnfit ss other) (sym (append_none (steps x))) (subst (λ z. IsFirstUnfit (steps z) other) (sym same) g.first_unfit)))
+same_stop steps xs x y one other h g = (same, unfit_once (steps x) one other h.first_unfit (subst (λ z. IsFirstUnfit (steps z) other) (sym same) g.first_unfit))
   where
     same : x ≡ y
     same =
         front_one (StepsFit steps) h.before g.before h.after g.after x y (sym h.is_there ∙ g.is_there) h.earlier_fit g.earlier_fit
-        (λ fit. unfit_excludes (steps x) [] one h.first_unfit (subst (All StepFits) (sym (append_none (steps x))) fit))
-        (λ fit. unfit_excludes (steps y) [] other g.first_unfit (subst (All StepFits) (sym (append_none (steps y))) fit))
+        (unfit_among (steps x) one h.first_unfit) (unfit_among (steps y) other g.first_unfit)
 
 -- there is none where the steps of all fit
 pub no_stop : {X : Type 0} (steps : X → List Step) (xs : List X) (x : X) (one : Step) → IsFirstUnfitOf steps xs x one → All (StepsFit steps) xs → ⊥
 no_stop steps xs x one h fit =
-    unfit_excludes (steps x) [] one h.first_unfit (subst (All StepFits) (sym (append_none (steps x))) (front_has (StepsFit steps) h.before h.after x (subst (All (StepsFit steps)) h.is_there fit)))
+    unfit_among (steps x) one h.first_unfit (front_has (StepsFit steps) h.before h.after x (subst (All (StepsFit steps)) h.is_there fit))
 
 pub all_fit-single : {X : Type 0} (steps : X → List Step) (xs : List X) → IsSingle (all_fit steps xs)
 all_fit-single steps xs (Ok _) (Ok _) h g = refl

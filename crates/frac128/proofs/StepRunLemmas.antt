@@ -1,7 +1,11 @@
--- Steps one after another: all of them fit, or one is the first that does not.
-use Rattle.std.proofs.Common.{◌≡◌, ◌↔◌, List, [], ◌∷◌, ◌++◌, All, refl, sym, ap, ◌∙◌, subst, append_assoc}
+-- Steps one after another: all of them fit, or one is the first that does not, and what they give.
+use Rattle.std.proofs.Common.{◌≡◌, ◌↔◌, List, [], ◌∷◌, ◌++◌, All, Result, Ok, Err, refl, sym, ap, ◌∙◌, subst, append_assoc}
+use Rattle.std.specs.Prelude.{IfOk, IfErr, OnOk, OnErr}
 use Rattle.std.proofs.lemmas.List.Elements.{All-nil, All-cons, All-head, All-tail, All-append}
-use Rattle.frac128.specs.Steps.{Step, StepFits, IsFirstUnfit}
+use Rattle.rational.specs.Rational.{ℚ, ◌+ℚ◌, ◌*ℚ◌}
+use Rattle.frac128.specs.Steps.{AddFits, MulFits, unfit, Step, StepFits, IsFirstUnfit, StepsGive}
+use Rattle.frac128.specs.declared.steps.Op.TheVariants.{Add, Mul}
+use Rattle.frac128.specs.declared.steps.Unfit.{Unfit}
 
 -- a step that fits stands alone
 pub one-fits : (step : Step) → StepFits step → All StepFits (step ∷ [])
@@ -45,3 +49,18 @@ first_unfit-same step following u refused is = subst (IsFirstUnfit (step ∷ fol
 -- one more step that does not fit
 pub unfit-more : (steps : List Step) (step u : Step) → All StepFits steps → (StepFits step → ⊥) → u ≡ step → IsFirstUnfit (steps ++ step ∷ []) u
 unfit-more steps step u h refused is = first_unfit-following steps (step ∷ []) u h (first_unfit-same step [] u refused is)
+
+-- what an addition gives
+pub added-gives : (a b : ℚ) (r : Result ℚ Unfit) → IfOk r (λ f. f ≡ a +ℚ b) → OnOk r (AddFits a b) → IfErr r (λ e. e ≡ unfit Add a b) → OnErr r (AddFits a b → ⊥) → StepsGive (unfit Add a b ∷ []) (a +ℚ b) r
+added-gives a b (Ok v) value fits step refused = (value, one-fits (unfit Add a b) fits)
+added-gives a b (Err u) value fits step refused = first_unfit-same (unfit Add a b) [] u refused step
+
+-- what a product gives
+pub product-gives : (a b : ℚ) (r : Result ℚ Unfit) → IfOk r (λ f. f ≡ a *ℚ b) → OnOk r (MulFits a b) → IfErr r (λ e. e ≡ unfit Mul a b) → OnErr r (MulFits a b → ⊥) → StepsGive (unfit Mul a b ∷ []) (a *ℚ b) r
+product-gives a b (Ok v) value fits step refused = (value, one-fits (unfit Mul a b) fits)
+product-gives a b (Err u) value fits step refused = first_unfit-same (unfit Mul a b) [] u refused step
+
+-- steps that fit change nothing in what those after them give
+pub following-gives : (steps rest : List Step) (v : ℚ) (r : Result ℚ Unfit) → All StepFits steps → StepsGive rest v r → StepsGive (steps ++ rest) v r
+following-gives steps rest v (Ok x) fit g = (g.0, All-append StepFits steps rest fit g.1)
+following-gives steps rest v (Err u) fit g = first_unfit-following steps rest u fit g

@@ -1,8 +1,14 @@
--- Things with steps of arithmetic, and the first of them with a step that does not fit.
+-- Steps of arithmetic that all fit, or the first that does not: in a list, and in things one after another.
 use Rattle.std.specs.Prelude.{◌≡◌, List, ◌∷◌, ◌++◌, All, Ok, Err}
 use Rattle.answers.specs.Answers.{Answer}
 use Rattle.frac128.specs.Steps.{Step, StepFits, IsFirstUnfit}
 
+-- these steps all fit; or the first that does not
+abbrev pub all_steps_fit : List Step → Answer Step (Unit {0})
+all_steps_fit steps (Ok _) = All StepFits steps
+all_steps_fit steps (Err step) = IsFirstUnfit steps step
+
+-- ---- things with steps
 -- all steps of a thing fit
 abbrev pub StepsFit : {X : Type 0} → (X → List Step) → X → Type 0
 StepsFit steps x = All StepFits (steps x)

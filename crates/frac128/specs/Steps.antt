@@ -1,5 +1,5 @@
 -- when a step on two fractions fits, and the first of several that does not
-use Rattle.std.specs.Prelude.{pos, ℤ, ◌*ℤ◌, ◌+ℤ◌, ◌-ℤ◌, ◌/◌, ◌≡◌, List, ◌∷◌, ◌++◌, All}
+use Rattle.std.specs.Prelude.{pos, ℤ, ◌*ℤ◌, ◌+ℤ◌, ◌-ℤ◌, ◌/◌, ◌≡◌, List, ◌∷◌, ◌++◌, All, Result, MatchResult}
 use Rattle.rational.specs.Gcd.{gcd}
 use Rattle.rational.specs.Rational.{ℚ, ◌+ℚ◌, ◌-ℚ◌, ◌*ℚ◌, inv_ℚ}
 use Rattle.frac128.specs.Fraction.{PartFits, Fits}
@@ -43,6 +43,7 @@ unfit op a b = record { op = op; left = a; right = b }
 abbrev pub Step : Type 0
 Step = Unfit
 
+-- such an operation on two numbers fits
 abbrev pub OperationFits : Op → ℚ → ℚ → Type 0
 OperationFits Add a b = AddFits a b
 OperationFits Sub a b = SubFits a b
@@ -60,3 +61,8 @@ pub record IsFirstUnfit (steps : List Step) (step : Step) : Type 0 where
   pub is_there : steps ≡ before ++ step ∷ following
   pub earlier_fit : All StepFits before
   pub does_not_fit : StepFits step → ⊥
+
+-- what these steps give: a value where all fit, and else the first that does not
+abbrev pub StepsGive : List Step → ℚ → Result ℚ Unfit → Type 0
+StepsGive steps v result =
+    MatchResult result (λ x. (x ≡ v) × All StepFits steps) (IsFirstUnfit steps)

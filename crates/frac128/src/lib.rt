@@ -3,11 +3,12 @@
 //! Callers may rely on: `Frac::add`, `sub`, `mul` and `div` give the exact value, or `Unfit` with
 //! the operation and both operands exactly where the step does not fit; nothing here takes memory.
 //! Definitions: a `Frac` is a `ℚ` to contracts; `specs::Fraction` says which fit (parts up to 2^127
-//! - 1 in size), `specs::Short` which are short, `specs::Steps` when a step fits and which of many
-//! is the first that does not, `specs::FirstUnfit` the first thing with such a step.
+//! - 1 in size), `specs::Short` which are short, `specs::Steps` when a step fits, which of many is
+//! the first that does not, and what they give, `specs::FirstUnfit` the first thing with such a
+//! step.
 //! Private words: what `euclid`, `fitting`, `products` and `sums` do not hand on.
 //! Lemmas for callers: `proofs::PartLemmas` and `ReductionLemmas` on parts, `ComparisonLemmas` and
-//! `SignLemmas`; `StepRunLemmas` and `FirstUnfitLemmas` on steps.
+//! `SignLemmas`; `StepRunLemmas`, `StepPartLemmas` and `FirstUnfitLemmas` on steps.
 //! A change here touches: which steps fit, and so every refusal `Range`.
 #![tactic(auto)]
 

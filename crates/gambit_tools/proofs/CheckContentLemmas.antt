@@ -4,6 +4,7 @@ use Rattle.answers.specs.Answers.{Answer, IsSingle, ◌>>=◌, ◌>>◌, only, r
 use Rattle.answers.proofs.AnswerLemmas.{bind-single, refuse_where-single, refused_by-single}
 use Rattle.rational.specs.Rational.{ℚ}
 use Rattle.game_core.specs.Table.{GameTable, strategy_counts}
+use Rattle.game_core.specs.Limits.{limited_text}
 use Rattle.game_core.specs.Tree.{GameTree}
 use Rattle.game_core.specs.TreeGame.{game_of_tree}
 use Rattle.game_core.specs.declared.game.Game.{Game}
@@ -11,29 +12,26 @@ use Rattle.game_core.specs.declared.game.Game.TheVariants.{Strategic, Extensive}
 use Rattle.behaviour_profile.specs.EntryTests.{action_counts, profile_in}
 use Rattle.behaviour_profile.specs.declared.entries.ProfileFault.{ProfileFault}
 use Rattle.behaviour_profile.specs.declared.entries.ProfileFault.TheVariants as fault
-use Rattle.enumpure.specs.Stops.{within_text_limit}
-use Rattle.enumpure.specs.declared.listing.ListStop.{ListStop}
-use Rattle.enumpure.specs.declared.listing.ListStop.TheVariants as list_stop
 use Rattle.ne_printer.specs.ReadLines.{line_in}
 use Rattle.ne_printer.specs.declared.reading.LineStop.{LineStop}
 use Rattle.ne_printer.specs.declared.reading.LineStop.TheVariants as line_stop
-use Rattle.ne_checker.specs.LineChecks.{TableChecksAreSingle, TreeChecksAreSingle, faulty, limited, line_entries, table_check, table_judged, table_line, text_stop, tree_check, tree_judged, tree_line, unread}
+use Rattle.ne_checker.specs.LineChecks.{TableChecksAreSingle, TreeChecksAreSingle, faulty, limited, line_entries, table_check, table_judged, table_line, tree_check, tree_judged, tree_line, unread}
 use Rattle.ne_checker.specs.Lines.{lines_answer}
 use Rattle.ne_printer.specs.TextLines.{lines_of}
 use Rattle.ne_checker.specs.declared.stops.CheckStop.{CheckStop}
 use Rattle.ne_checker.specs.declared.stops.CheckStop.TheVariants as check_stop
 use Rattle.perfect_recall.specs.Found.{recall_of}
-use Rattle.reduced_form.specs.Stops.{reduced_form_of}
-use Rattle.reduced_form.proofs.OneFormLaws.{form_of-single}
-use Rattle.refusals.specs.Told.{check_refusal, form_refusal, recall_refusal}
+use Rattle.refusals.specs.Told.{check_refusal, recall_refusal}
 use Rattle.refusals.specs.declared.refusal.Refusal.{Refusal}
 use Rattle.refusals.specs.declared.refusal.Refusal.TheVariants as refusal
-use Rattle.gambit_tools.specs.Check.{check, verdicts, within_bytes}
+use Rattle.two_player_tools.specs.StrategicForms.{strategic_form}
+use Rattle.two_player_tools.proofs.StrategicFormLemmas.{strategic_form-single}
+use Rattle.gambit_tools.specs.Check.{check, verdicts}
 use Rattle.two_player_tools.specs.GameTypes.{IsGame}
-use Rattle.gambit_tools.specs.Games.{game_in}
+use Rattle.gambit_tools.specs.Games.{game_in, within_bytes}
 use Rattle.gambit_tools.specs.Input.{most_bytes}
 use Rattle.gambit_tools.specs.Origins.{Contents, origin}
-use Rattle.gambit_tools.proofs.FormContentLemmas.{AreReasons, form_origin, inner-reasons, only-reasons, recall-contents, then-contents, then-reasons, told-contents}
+use Rattle.gambit_tools.proofs.FormContentLemmas.{AreContents, AreReasons, inner-reasons, only-reasons, recall-contents, strategic_form-contents, then-contents, then-reasons, told-contents}
 use Rattle.two_player_tools.proofs.FormSingleLemmas.{RecallsAreSingle}
 use Rattle.gambit_tools.proofs.ReadGameLemmas.{game_in-valid}
 use Rattle.gambit_tools.proofs.GameSingleLemmas.{game_in-single}
@@ -84,11 +82,7 @@ lines-reasons judge each number (line ∷ lines) =
     (λ text. then-reasons check_refusal (lines_answer judge (number + 1) lines) (λ texts. only (text ++ texts)) (lines-reasons judge each (number + 1) lines) (λ texts. only-reasons check_refusal (text ++ texts)))
 
 limited-reasons : (judged : List ℕ) → AreReasons check_refusal (limited judged)
-limited-reasons judged = inner-reasons check_refusal text_stop (within_text_limit (λ text. text ≡ judged)) each
-  where
-    each : (stop : ListStop) → within_text_limit (λ text. text ≡ judged) (Err stop) → origin (check_refusal (text_stop stop)) ≡ Contents
-    each (list_stop.TooLarge limit) h = refl
-    each list_stop.Memory h = absurd h
+limited-reasons judged = inner-reasons check_refusal check_stop.TooLarge (limited_text judged) (λ limit h. refl)
 
 table_check-reasons : (table : GameTable) (text : List ℕ) → AreReasons check_refusal (table_check table text)
 table_check-reasons table text =
@@ -98,12 +92,15 @@ tree_check-reasons : (tree : GameTree) (text : List ℕ) → AreReasons check_re
 tree_check-reasons tree text =
     then-reasons check_refusal (lines_answer (tree_line tree) 1 (lines_of text)) limited (lines-reasons (tree_line tree) (tree_line-reasons tree) 1 (lines_of text)) limited-reasons
 
+strategic-contents : (game : Game) (lines : List ℕ) → AreContents (strategic_form game >>= λ table. refused_by check_refusal (table_check table lines))
+strategic-contents game lines =
+    then-contents (strategic_form game) (λ table. refused_by check_refusal (table_check table lines)) (strategic_form-contents game)
+    (λ table. told-contents check_refusal (table_check table lines) (table_check-reasons table lines))
+
 pub verdicts-origin : (strategic : Bool) (game : Game) (lines : List ℕ) (r : Refusal) → verdicts strategic game lines (Err r) → origin r ≡ Contents
-verdicts-origin true (Strategic table) lines = told-contents check_refusal (table_check table lines) (table_check-reasons table lines)
-verdicts-origin false (Strategic table) lines = told-contents check_refusal (table_check table lines) (table_check-reasons table lines)
-verdicts-origin true (Extensive tree) lines =
-    then-contents (refused_by form_refusal (reduced_form_of tree)) (λ form. refused_by check_refusal (table_check form.table lines))
-    (told-contents form_refusal (reduced_form_of tree) (form_origin tree)) (λ form. told-contents check_refusal (table_check form.table lines) (table_check-reasons form.table lines))
+verdicts-origin true (Strategic table) lines = strategic-contents (Strategic table) lines
+verdicts-origin false (Strategic table) lines = strategic-contents (Strategic table) lines
+verdicts-origin true (Extensive tree) lines = strategic-contents (Extensive tree) lines
 verdicts-origin false (Extensive tree) lines =
     then-contents (refused_by recall_refusal (recall_of tree)) (λ _. refused_by check_refusal (tree_check tree lines))
     (told-contents recall_refusal (recall_of tree) (recall-contents tree)) (λ _. told-contents check_refusal (tree_check tree lines) (tree_check-reasons tree lines))
@@ -114,13 +111,15 @@ pub record ChecksAreSingle : Type 0 where
   pub tables : TableChecksAreSingle
   pub trees : TreeChecksAreSingle
 
+strategic-single : ChecksAreSingle → (game : Game) (lines : List ℕ) → IsSingle (strategic_form game >>= λ table. refused_by check_refusal (table_check table lines))
+strategic-single checks game lines =
+    bind-single (strategic_form game) (λ table. refused_by check_refusal (table_check table lines)) (strategic_form-single game)
+    (λ table _. refused_by-single check_refusal (table_check table lines) (checks.tables table lines))
+
 verdicts-single : RecallsAreSingle → ChecksAreSingle → (strategic : Bool) (game : Game) (lines : List ℕ) → IsGame game → IsSingle (verdicts strategic game lines)
-verdicts-single recalls checks true (Strategic table) lines w = refused_by-single check_refusal (table_check table lines) (checks.tables table lines)
-verdicts-single recalls checks false (Strategic table) lines w = refused_by-single check_refusal (table_check table lines) (checks.tables table lines)
-verdicts-single recalls checks true (Extensive tree) lines w =
-    bind-single (refused_by form_refusal (reduced_form_of tree)) (λ form. refused_by check_refusal (table_check form.table lines))
-    (refused_by-single form_refusal (reduced_form_of tree) (form_of-single tree))
-    (λ form _. refused_by-single check_refusal (table_check form.table lines) (checks.tables form.table lines))
+verdicts-single recalls checks true (Strategic table) lines w = strategic-single checks (Strategic table) lines
+verdicts-single recalls checks false (Strategic table) lines w = strategic-single checks (Strategic table) lines
+verdicts-single recalls checks true (Extensive tree) lines w = strategic-single checks (Extensive tree) lines
 verdicts-single recalls checks false (Extensive tree) lines w =
     bind-single (refused_by recall_refusal (recall_of tree)) (λ _. refused_by check_refusal (tree_check tree lines))
     (refused_by-single recall_refusal (recall_of tree) (recalls tree w))

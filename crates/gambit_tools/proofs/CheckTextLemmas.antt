@@ -8,7 +8,7 @@ use Rattle.gambit_tools.specs.Check.{IsCheckText, verdicts}
 
 -- a tree whose recall is found recalls
 pub verdicts-tell : TableChecksTell → TreeChecksTell → (strategic : Bool) (game : Game) (lines text : List ℕ) → IsGame game → verdicts strategic game lines (Ok text) → IsCheckText strategic game lines text
-verdicts-tell tables trees true (Strategic table) lines text w h = tables table lines text h
-verdicts-tell tables trees false (Strategic table) lines text w h = tables table lines text h
-verdicts-tell tables trees true (Extensive tree) lines text w h = (h.0, h.1, tables h.0.table lines text h.2)
+verdicts-tell tables trees true (Strategic table) lines text w h = (h.0, h.1, tables h.0 lines text h.2)
+verdicts-tell tables trees false (Strategic table) lines text w h = (h.0, h.1, tables h.0 lines text h.2)
+verdicts-tell tables trees true (Extensive tree) lines text w h = (h.0, h.1, tables h.0 lines text h.2)
 verdicts-tell tables trees false (Extensive tree) lines text w h = trees tree lines text w h.1.all_recall h.2

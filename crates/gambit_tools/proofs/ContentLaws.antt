@@ -1,9 +1,9 @@
 -- Refusals by the contents of an input come from there.
 use Rattle.std.proofs.Common.{ℕ, ◌≡◌, ◌≤◌, ◌<◌, ◌∙◌, inl, inr, ap, refl, arith, Bool, true, false, List, length, Err}
-use Rattle.answers.specs.Answers.{only}
+use Rattle.answers.specs.Answers.{only, refused_by, ◌>>=◌}
 use Rattle.game_core.specs.declared.game.Game.{Game}
 use Rattle.game_core.specs.declared.game.Game.TheVariants.{Strategic, Extensive}
-use Rattle.game_core.specs.Tree.{GameTree}
+use Rattle.game_core.specs.Table.{game_of}
 use Rattle.game_core.specs.TokenList.{TokenList}
 use Rattle.game_text.specs.Stops.{tokens_of}
 use Rattle.game_text.specs.declared.reading.TextStop.{TextStop}
@@ -14,21 +14,21 @@ use Rattle.nfg_reader.specs.declared.reading.NfgStop.TheVariants as nfg_stop
 use Rattle.efg_reader.specs.Stops.{tree_in}
 use Rattle.efg_reader.specs.declared.fault.EfgStop.{EfgStop}
 use Rattle.efg_reader.specs.declared.fault.EfgStop.TheVariants as efg_stop
-use Rattle.reduced_form.specs.ReducedForm.{ReducedForm}
-use Rattle.enumpure.specs.Stops.{within_text_limit}
+use Rattle.enumpure.specs.Stops.{pure_text, within_text_limit}
 use Rattle.enumpure.specs.declared.listing.ListStop.{ListStop}
 use Rattle.enumpure.specs.declared.listing.ListStop.TheVariants as list_stop
 use Rattle.words.specs.Words.{Command, Enumpure, Enummixed, Lcp, Lp, Convert}
 use Rattle.gambit_tools.specs.Input.{most_bytes}
 use Rattle.refusals.specs.Told.{text_refusal, nfg_refusal, efg_refusal, list_refusal}
+use Rattle.two_player_tools.specs.StrategicForms.{strategic_form}
 use Rattle.gambit_tools.specs.Games.{game_of_tokens, game_in}
-use Rattle.gambit_tools.specs.Enumpure.{form_text, enumpure}
+use Rattle.gambit_tools.specs.Enumpure.{enumpure}
 use Rattle.gambit_tools.specs.Commands.{tool_of}
 use Rattle.gambit_tools.specs.Origins.{Contents, origin}
 use Rattle.refusals.specs.declared.refusal.Refusal.{Refusal}
 use Rattle.refusals.specs.declared.refusal.Refusal.TheVariants as refusal
 use Rattle.gambit_tools.proofs.ConvertLaws.{convert-origin}
-use Rattle.gambit_tools.proofs.FormContentLemmas.{form_origin}
+use Rattle.gambit_tools.proofs.FormContentLemmas.{AreContents, form_origin, strategic_form-contents, then-contents, told-contents}
 use Rattle.gambit_tools.proofs.LcpContentLemmas.{lcp-origin}
 use Rattle.gambit_tools.proofs.LpContentLemmas.{lp-origin}
 use Rattle.gambit_tools.proofs.MixedContentLemmas.{enummixed-origin}
@@ -49,11 +49,8 @@ tree_origin tokens efg_stop.Memory h = absurd h
 
 list_origin : (P : List ℕ → Type 0) (stop : ListStop) → within_text_limit P (Err stop) → origin (list_refusal stop) ≡ Contents
 list_origin P (list_stop.TooLarge limit) h = refl
-list_origin P list_stop.Memory h = absurd h
-
-form_text_origin : (strategic : Bool) (tree : GameTree) (form : ReducedForm) (stop : ListStop) → form_text strategic tree form (Err stop) → origin (list_refusal stop) ≡ Contents
-form_text_origin true tree form stop h = list_origin _ stop h
-form_text_origin false tree form stop h = list_origin _ stop h
+list_origin P list_stop.Memory (inl h) = absurd h
+list_origin P list_stop.Memory (inr h) = cc
 
 no_game : (game : Game) (r : Refusal) → only game (Err r) → ⊥
 no_game game r e = cc
@@ -76,10 +73,17 @@ pub game_in-too_long : (bytes : List ℕ) → most_bytes < length bytes → game
 game_in-too_long bytes long = inl (inl (long, refl))
 
 -- ---- the tool `enumpure`
+table_text_origin : (game : Game) → AreContents (strategic_form game >>= λ table. refused_by list_refusal (pure_text (game_of table)))
+table_text_origin game =
+    then-contents (strategic_form game) (λ table. refused_by list_refusal (pure_text (game_of table))) (strategic_form-contents game)
+    (λ table. told-contents list_refusal (pure_text (game_of table)) (list_origin _))
+
 enumpure_origin : (strategic : Bool) (game : Game) (r : Refusal) → enumpure strategic game (Err r) → origin r ≡ Contents
-enumpure_origin strategic (Strategic table) r h = ap origin h.2 ∙ list_origin _ h.0 h.1
-enumpure_origin strategic (Extensive tree) r (inl h) = ap origin h.2 ∙ form_origin tree h.0 h.1
-enumpure_origin strategic (Extensive tree) r (inr h) = ap origin h.2.2 ∙ form_text_origin strategic tree h.0 h.2.0 h.2.1
+enumpure_origin true (Strategic table) r h = table_text_origin (Strategic table) r h
+enumpure_origin false (Strategic table) r h = table_text_origin (Strategic table) r h
+enumpure_origin true (Extensive tree) r h = table_text_origin (Extensive tree) r h
+enumpure_origin false (Extensive tree) r (inl h) = ap origin h.2 ∙ form_origin tree h.0 h.1
+enumpure_origin false (Extensive tree) r (inr h) = ap origin h.2.2 ∙ list_origin _ h.2.0 h.2.1
 
 -- ---- commands
 -- each tool that is built has a line

@@ -1,25 +1,24 @@
 -- The tool `convert` has at most one answer, and its refusals come from the contents of its input.
-use Rattle.std.proofs.Common.{ℕ, ◌-◌, ◌<◌, ◌≡◌, refl, Bool, true, false, length, Err}
-use Rattle.answers.specs.Answers.{Answer, IsSingle, ◌>>◌, only, refuse_where, refused_by}
+use Rattle.std.proofs.Common.{ℕ, ◌-◌, ◌≡◌, refl, Bool, true, false, Err}
+use Rattle.answers.specs.Answers.{Answer, IsSingle, ◌>>◌, refuse_where, refused_by}
 use Rattle.answers.proofs.AnswerLemmas.{bind-single, refused_by-single}
 use Rattle.game_core.specs.Table.{GameTable}
 use Rattle.game_core.specs.declared.game.Game.{Game}
-use Rattle.game_core.specs.declared.game.Game.TheVariants.{Strategic, Extensive}
-use Rattle.reduced_form.specs.Stops.{reduced_form_of}
-use Rattle.reduced_form.proofs.OneFormLaws.{form_of-single}
-use Rattle.convert_tables.specs.Converted.{IsPlayer, laid_out, within_limit}
+use Rattle.convert_tables.specs.Converted.{IsPlayer, laid_out}
 use Rattle.convert_tables.specs.Layouts.{layout}
 use Rattle.convert_tables.specs.declared.marks.Style.{Style}
 use Rattle.convert_tables.specs.declared.marks.Style.TheVariants.{Html, Sgame}
 use Rattle.convert_tables.specs.declared.stops.ConvertStop.{ConvertStop}
 use Rattle.convert_tables.specs.declared.stops.ConvertStop.TheVariants as convert_stop
 use Rattle.convert_tables.proofs.OneLayoutLaws.{laid_out-single}
-use Rattle.game_core.specs.TextLimit.{most_text, too_long_text}
-use Rattle.refusals.specs.Told.{convert_refusal, form_refusal}
+use Rattle.game_core.specs.Limits.{limited_text}
+use Rattle.refusals.specs.Told.{convert_refusal}
 use Rattle.refusals.specs.declared.refusal.Refusal.{Refusal}
+use Rattle.two_player_tools.specs.StrategicForms.{strategic_form}
+use Rattle.two_player_tools.proofs.StrategicFormLemmas.{strategic_form-single}
 use Rattle.gambit_tools.specs.Convert.{convert, layout_in}
 use Rattle.gambit_tools.specs.Origins.{Contents, origin}
-use Rattle.gambit_tools.proofs.FormContentLemmas.{AreReasons, form_origin, only-reasons, then-contents, then-reasons, told-contents, where-reasons}
+use Rattle.gambit_tools.proofs.FormContentLemmas.{AreReasons, inner-reasons, strategic_form-contents, then-contents, then-reasons, told-contents, where-reasons}
 
 -- ---- one answer
 layout_in-single : (html : Bool) (table : GameTable) (row column : ℕ) → IsSingle (layout_in html table row column)
@@ -27,11 +26,9 @@ layout_in-single true table row column = laid_out-single Html table row column
 layout_in-single false table row column = laid_out-single Sgame table row column
 
 pub convert-single : (html : Bool) (row column : ℕ) (game : Game) → IsSingle (convert html row column game)
-convert-single html row column (Strategic table) = refused_by-single convert_refusal (layout_in html table row column) (layout_in-single html table row column)
-convert-single html row column (Extensive tree) =
-    bind-single (refused_by form_refusal (reduced_form_of tree)) (λ form. refused_by convert_refusal (layout_in html form.table row column))
-    (refused_by-single form_refusal (reduced_form_of tree) (form_of-single tree))
-    (λ form _. refused_by-single convert_refusal (layout_in html form.table row column) (layout_in-single html form.table row column))
+convert-single html row column game =
+    bind-single (strategic_form game) (λ table. refused_by convert_refusal (layout_in html table row column)) (strategic_form-single game)
+    (λ table _. refused_by-single convert_refusal (layout_in html table row column) (layout_in-single html table row column))
 
 -- ---- origins
 laid_out-reasons : (style : Style) (t : GameTable) (row column : ℕ) → AreReasons convert_refusal (laid_out style t row column)
@@ -40,22 +37,18 @@ laid_out-reasons style t row column =
     let rows : Answer ConvertStop (Unit {0}) = refuse_where (¬ (IsPlayer t row)) (convert_stop.NoSuchPlayer row) in
     let columns : Answer ConvertStop (Unit {0}) = refuse_where (¬ (IsPlayer t column)) (convert_stop.NoSuchPlayer column) in
     let apart : Answer ConvertStop (Unit {0}) = refuse_where (row ≡ column) (convert_stop.SamePlayer row) in
-    let long : Answer ConvertStop (Unit {0}) = refuse_where (most_text < length text) (convert_stop.TooLarge too_long_text) in
-    then-reasons convert_refusal ((rows >> columns) >> apart) (λ _. within_limit text)
+    then-reasons convert_refusal ((rows >> columns) >> apart) (λ _. refused_by convert_stop.TooLarge (limited_text text))
     (then-reasons convert_refusal (rows >> columns) (λ _. apart)
     (then-reasons convert_refusal rows (λ _. columns) (where-reasons convert_refusal (¬ (IsPlayer t row)) (convert_stop.NoSuchPlayer row) refl)
     (λ _. where-reasons convert_refusal (¬ (IsPlayer t column)) (convert_stop.NoSuchPlayer column) refl))
     (λ _. where-reasons convert_refusal (row ≡ column) (convert_stop.SamePlayer row) refl))
-    (λ _. then-reasons convert_refusal long (λ _. only text) (where-reasons convert_refusal (most_text < length text) (convert_stop.TooLarge too_long_text) refl)
-    (λ _. only-reasons convert_refusal text))
+    (λ _. inner-reasons convert_refusal convert_stop.TooLarge (limited_text text) (λ limit h. refl))
 
 layout_in-reasons : (html : Bool) (table : GameTable) (row column : ℕ) → AreReasons convert_refusal (layout_in html table row column)
 layout_in-reasons true table row column = laid_out-reasons Html table row column
 layout_in-reasons false table row column = laid_out-reasons Sgame table row column
 
 pub convert-origin : (html : Bool) (row column : ℕ) (game : Game) (r : Refusal) → convert html row column game (Err r) → origin r ≡ Contents
-convert-origin html row column (Strategic table) = told-contents convert_refusal (layout_in html table row column) (layout_in-reasons html table row column)
-convert-origin html row column (Extensive tree) =
-    then-contents (refused_by form_refusal (reduced_form_of tree)) (λ form. refused_by convert_refusal (layout_in html form.table row column))
-    (told-contents form_refusal (reduced_form_of tree) (form_origin tree))
-    (λ form. told-contents convert_refusal (layout_in html form.table row column) (layout_in-reasons html form.table row column))
+convert-origin html row column game =
+    then-contents (strategic_form game) (λ table. refused_by convert_refusal (layout_in html table row column)) (strategic_form-contents game)
+    (λ table. told-contents convert_refusal (layout_in html table row column) (layout_in-reasons html table row column))

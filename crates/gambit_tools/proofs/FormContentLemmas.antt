@@ -1,15 +1,21 @@
 -- Refusals of what the tools for two players make of a game, and print of two plans, come from the contents of the input.
-use Rattle.std.proofs.Common.{ℕ, ◌≡◌, ◌∙◌, inl, inr, ap, refl, Bool, true, false, List, Err}
-use Rattle.answers.specs.Answers.{Answer, only, refuse_where, ◌>>=◌, ◌>>◌, refused_by}
+use Rattle.std.proofs.Common.{ℕ, ◌≡◌, ◌≢◌, ◌∙◌, inl, inr, ap, refl, Bool, true, false, List, length, Err}
+use Rattle.std.specs.List.{range_with_len}
+use Rattle.answers.specs.Answers.{Answer, only, such_that, refuse_where, ◌>>=◌, ◌>>◌, refused_by}
+use Rattle.frac128.specs.FirstUnfit.{all_fit}
 use Rattle.rational.specs.Rational.{ℚ}
 use Rattle.game_theory.specs.Lines.{line_text}
 use Rattle.game_core.specs.declared.game.Game.{Game}
 use Rattle.game_core.specs.declared.game.Game.TheVariants.{Strategic, Extensive}
+use Rattle.game_core.specs.Limits.{most_rows, within}
 use Rattle.game_core.specs.Table.{GameTable}
 use Rattle.game_core.specs.Tree.{GameTree}
+use Rattle.game_core.specs.TreeGame.{game_of_tree}
+use Rattle.game_core.specs.declared.too_large.What.TheVariants as what
 use Rattle.behaviour_profile.specs.Plans.{plan_behaviour}
 use Rattle.behaviour_profile.specs.declared.plans.BehaviourStop.{BehaviourStop}
 use Rattle.behaviour_profile.specs.declared.plans.BehaviourStop.TheVariants as behaviour_stop
+use Rattle.behaviour_profile.proofs.PlanStopLemmas.{behaviour_not_memory}
 use Rattle.perfect_recall.specs.Found.{recall_of}
 use Rattle.perfect_recall.specs.declared.recall.RecallStop.{RecallStop}
 use Rattle.perfect_recall.specs.declared.recall.RecallStop.TheVariants as recall_stop
@@ -17,14 +23,20 @@ use Rattle.reduced_form.specs.Stops.{reduced_form_of}
 use Rattle.reduced_form.specs.declared.stop.ReduceStop.{ReduceStop}
 use Rattle.reduced_form.specs.declared.stop.ReduceStop.TheVariants as reduce_stop
 use Rattle.reduced_form.proofs.FormAnswerLemmas.{form_not_memory}
-use Rattle.sequence_data.specs.declared.stop.SeqStop.{SeqStop}
+use Rattle.sequence_data.specs.Data.{IsFormOf, SideData, form_of_leaves}
+use Rattle.sequence_data.specs.Steps.{gathering_in, leaf_steps, numbered}
 use Rattle.sequence_data.specs.declared.stop.SeqStop.TheVariants as sequence_stop
-use Rattle.sequence_form.specs.Forms.{tree_form, table_form}
+use Rattle.sequence_data.specs.declared.types.Leaf.{Leaf}
+use Rattle.sequence_form.specs.Forms.{of_two_players, table_form, table_leaves, tree_form}
+use Rattle.sequence_form.specs.Laws.{count_of_columns, count_of_rows}
+use Rattle.sequence_form.specs.Paths.{node_steps, paths_in, tree_leaves}
+use Rattle.sequence_form.specs.Sequences.{start_side, tree_side}
 use Rattle.sequence_form.specs.declared.counts.Counts.{Counts}
 use Rattle.two_player_tools.specs.Entries.{entries_in, line_in}
 use Rattle.gambit_tools.specs.Origins.{Contents, origin}
-use Rattle.two_player_tools.specs.TwoPlayers.{form_in, form_of_table, form_of_tree, table_counts, tree_counts, two_players, within_rows}
-use Rattle.refusals.specs.Told.{behaviour_refusal, form_refusal, recall_refusal, sequence_refusal}
+use Rattle.two_player_tools.specs.StrategicForms.{strategic_form}
+use Rattle.two_player_tools.specs.TwoPlayers.{form_in, form_of_table, form_of_tree, table_counts, tree_counts, two_players}
+use Rattle.refusals.specs.Told.{behaviour_refusal, form_refusal, limit_refusal, recall_refusal, sequence_refusal}
 use Rattle.refusals.specs.declared.refusal.Refusal.{Refusal}
 
 -- all refusals of a stage come from the contents
@@ -73,43 +85,66 @@ form_origin tree (reduce_stop.TooLarge limit) h = refl
 form_origin tree (reduce_stop.Range profile player step) h = refl
 form_origin tree reduce_stop.Memory h = absurd (form_not_memory tree h)
 
-tree_form-contents : (t : GameTree) (stop : SeqStop) → tree_form t (Err stop) → origin (sequence_refusal stop) ≡ Contents
-tree_form-contents t (sequence_stop.NotTwoPlayers count) h = refl
-tree_form-contents t (sequence_stop.Range place step) h = refl
-tree_form-contents t sequence_stop.Memory h = absurd h
+-- two players
+players-reasons : (n : ℕ) → AreReasons sequence_refusal (of_two_players n)
+players-reasons n = where-reasons sequence_refusal (n ≢ 2) (sequence_stop.NotTwoPlayers n) refl
 
-table_form-contents : (t : GameTable) (stop : SeqStop) → table_form t (Err stop) → origin (sequence_refusal stop) ≡ Contents
-table_form-contents t (sequence_stop.NotTwoPlayers count) h = refl
-table_form-contents t (sequence_stop.Range place step) h = refl
-table_form-contents t sequence_stop.Memory h = absurd h
+-- a form over sides and leaves
+leaves-reasons : (first second : SideData) (leaves : List Leaf) → AreReasons sequence_refusal (form_of_leaves first second leaves)
+leaves-reasons first second leaves =
+    then-reasons sequence_refusal (gathering_in leaves) (λ _. such_that (IsFormOf first second leaves))
+    (inner-reasons sequence_refusal (λ stop. sequence_stop.Range stop.0.1.place stop.1) (all_fit (leaf_steps leaves) (numbered 0 leaves)) (λ _ _. refl))
+    (λ _ stop h. absurd h)
+
+tree_form-contents : (t : GameTree) → AreReasons sequence_refusal (tree_form t)
+tree_form-contents t =
+    let g = game_of_tree t in
+    let form = form_of_leaves (tree_side g 0) (tree_side g 1) (tree_leaves g) in
+    then-reasons sequence_refusal (of_two_players (length t.players)) (λ _. paths_in g >> form) (players-reasons (length t.players))
+    (λ _. then-reasons sequence_refusal (paths_in g) (λ _. form)
+    (inner-reasons sequence_refusal (λ stop. sequence_stop.Range stop.0 stop.1) (all_fit (node_steps g) (range_with_len 0 g.size)) (λ _ _. refl))
+    (λ _. leaves-reasons (tree_side g 0) (tree_side g 1) (tree_leaves g)))
+
+table_form-contents : (t : GameTable) → AreReasons sequence_refusal (table_form t)
+table_form-contents t =
+    let rows = start_side (count_of_rows t) in
+    let columns = start_side (count_of_columns t) in
+    then-reasons sequence_refusal (of_two_players (length t.players)) (λ _. form_of_leaves rows columns (table_leaves t)) (players-reasons (length t.players))
+    (λ _. leaves-reasons rows columns (table_leaves t))
 
 behaviour-contents : (t : GameTree) (one two : List ℚ) (stop : BehaviourStop) → plan_behaviour t one two (Err stop) → origin (behaviour_refusal stop) ≡ Contents
 behaviour-contents t one two (behaviour_stop.Range player set step) h = refl
-behaviour-contents t one two behaviour_stop.Memory h = absurd h
+behaviour-contents t one two behaviour_stop.Memory h = absurd (behaviour_not_memory t one two h)
 
 -- ---- the number of players
 pub two_players-contents : (game : Game) → AreContents (two_players game)
 two_players-contents game = where-contents _ _ refl
 
 -- ---- the form
+pub strategic_form-contents : (game : Game) → AreContents (strategic_form game)
+strategic_form-contents (Strategic table) = only-contents table
+strategic_form-contents (Extensive tree) =
+    then-contents (refused_by form_refusal (reduced_form_of tree)) (λ form. only form.table) (told-contents form_refusal (reduced_form_of tree) (form_origin tree)) (λ form. only-contents form.table)
+
 form_of_table-contents : (rows : Counts → ℕ) (t : GameTable) → AreContents (form_of_table rows t)
 form_of_table-contents rows t =
-    then-contents (within_rows (rows (table_counts t))) (λ _. refused_by sequence_refusal (table_form t))
-    (where-contents _ _ refl) (λ _. told-contents sequence_refusal (table_form t) (table_form-contents t))
+    then-contents (refused_by limit_refusal (within what.Rows most_rows (rows (table_counts t)))) (λ _. refused_by sequence_refusal (table_form t))
+    (told-contents limit_refusal (within what.Rows most_rows (rows (table_counts t))) (λ stop h. refl)) (λ _. told-contents sequence_refusal (table_form t) (table_form-contents t))
 
 form_of_tree-contents : (rows : Counts → ℕ) (t : GameTree) → AreContents (form_of_tree rows t)
 form_of_tree-contents rows t =
-    then-contents (refused_by recall_refusal (recall_of t)) (λ _. within_rows (rows (tree_counts t)) >> refused_by sequence_refusal (tree_form t))
+    then-contents (refused_by recall_refusal (recall_of t)) (λ _. refused_by limit_refusal (within what.Rows most_rows (rows (tree_counts t))) >> refused_by sequence_refusal (tree_form t))
     (told-contents recall_refusal (recall_of t) (recall-contents t))
-    (λ _. then-contents (within_rows (rows (tree_counts t))) (λ _. refused_by sequence_refusal (tree_form t))
-    (where-contents _ _ refl) (λ _. told-contents sequence_refusal (tree_form t) (tree_form-contents t)))
+    (λ _. then-contents (refused_by limit_refusal (within what.Rows most_rows (rows (tree_counts t)))) (λ _. refused_by sequence_refusal (tree_form t))
+    (told-contents limit_refusal (within what.Rows most_rows (rows (tree_counts t))) (λ stop h. refl)) (λ _. told-contents sequence_refusal (tree_form t) (tree_form-contents t)))
+
+strategic-contents : (rows : Counts → ℕ) (game : Game) → AreContents (strategic_form game >>= form_of_table rows)
+strategic-contents rows game = then-contents (strategic_form game) (form_of_table rows) (strategic_form-contents game) (form_of_table-contents rows)
 
 pub form_in-contents : (rows : Counts → ℕ) (strategic : Bool) (game : Game) → AreContents (form_in rows strategic game)
-form_in-contents rows true (Strategic t) = form_of_table-contents rows t
-form_in-contents rows false (Strategic t) = form_of_table-contents rows t
-form_in-contents rows true (Extensive t) =
-    then-contents (refused_by form_refusal (reduced_form_of t)) (λ form. form_of_table rows form.table)
-    (told-contents form_refusal (reduced_form_of t) (form_origin t)) (λ form. form_of_table-contents rows form.table)
+form_in-contents rows true (Strategic t) = strategic-contents rows (Strategic t)
+form_in-contents rows false (Strategic t) = strategic-contents rows (Strategic t)
+form_in-contents rows true (Extensive t) = strategic-contents rows (Extensive t)
 form_in-contents rows false (Extensive t) = form_of_tree-contents rows t
 
 -- ---- the line

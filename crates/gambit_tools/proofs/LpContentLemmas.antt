@@ -9,17 +9,18 @@ use Rattle.sequence_data.specs.Data.{FormData}
 use Rattle.sequence_form.specs.Counts.{size_of_program}
 use Rattle.lex_tableau.specs.declared.tableau.StartStop.{StartStop}
 use Rattle.lex_tableau.specs.declared.tableau.StartStop.TheVariants as start_stop
+use Rattle.lex_tableau.proofs.SystemLemmas.{start_not_memory}
+use Rattle.zero_sum_lp.specs.Ends.{optimum_in}
 use Rattle.zero_sum_lp.specs.FormPrograms.{program_in, form_start, told_start}
 use Rattle.zero_sum_lp.specs.Parts.{Program}
 use Rattle.zero_sum_lp.specs.PlanStops.{plans_of}
 use Rattle.zero_sum_lp.specs.declared.stop.LpStop.{LpStop}
 use Rattle.zero_sum_lp.specs.declared.stop.PlanStop.{PlanStop}
-use Rattle.zero_sum_lp.specs.declared.stop.PlanStop.TheVariants as plan_stop
 use Rattle.two_player_tools.specs.Entries.{entries_in}
-use Rattle.two_player_tools.specs.Lp.{Solution, first_price, lp, optimum_of, prices_in, prices_text, solution, solution_in, solution_text}
+use Rattle.two_player_tools.specs.Lp.{Solution, first_price, lp, prices_in, prices_text, solution, solution_in, solution_text}
 use Rattle.gambit_tools.specs.Origins.{Contents, origin}
 use Rattle.two_player_tools.specs.TwoPlayers.{form_in, two_players}
-use Rattle.refusals.specs.Told.{plan_refusal, program_refusal}
+use Rattle.refusals.specs.Told.{pivot_refusal, plan_refusal, program_refusal}
 use Rattle.refusals.specs.declared.refusal.Refusal.{Refusal}
 use Rattle.refusals.specs.declared.refusal.Refusal.TheVariants as refusal
 use Rattle.refusals.specs.declared.refusal.Site.TheVariants as site
@@ -27,16 +28,17 @@ use Rattle.gambit_tools.proofs.FormContentLemmas.{AreContents, entries-contents,
 
 -- ---- reasons to stop
 plan-contents : (o : Program) (stop : PlanStop) → plans_of o (Err stop) → origin (plan_refusal stop) ≡ Contents
-plan-contents o (plan_stop.Range player step) h = refl
-plan-contents o plan_stop.Memory h = absurd h
+plan-contents o stop (inl h) = ap (λ s. origin (plan_refusal s)) h.2
+plan-contents o stop (inr (_, _, inl h)) = ap (λ s. origin (plan_refusal s)) h.2
+plan-contents o stop (inr (_, _, inr (_, _, h))) = cc (h)
 
 start-contents : (f : FormData) (stop : StartStop) → form_start f (Err stop) → origin (program_refusal (told_start stop)) ≡ Contents
 start-contents f (start_stop.Unfit row step) h = refl
-start-contents f start_stop.Memory (_, (_, inl h)) = absurd h
+start-contents f start_stop.Memory (s, (_, inl h)) = absurd (start_not_memory s h)
 start-contents f start_stop.Memory (_, (_, inr h)) = cc (h.2)
 
 program-contents : (f : FormData) (stop : LpStop) → program_in f (Err stop) → origin (program_refusal stop) ≡ Contents
-program-contents f stop (inl h) = ap (λ s. origin (program_refusal s)) h.1
+program-contents f stop (inl h) = ap (λ s. origin (program_refusal s)) h.2
 program-contents f stop (inr (_, _, inl h)) = ap (λ s. origin (program_refusal s)) h.2
 program-contents f stop (inr (_, _, inr (_, _, inl h))) = ap (λ s. origin (program_refusal s)) h.2
 program-contents f stop (inr (_, _, inr (_, _, inr (_, _, inl h)))) = ap (λ s. origin (program_refusal s)) h.2
@@ -44,14 +46,11 @@ program-contents f stop (inr (_, _, inr (_, _, inr (_, _, inr (_, _, h))))) =
     ap (λ s. origin (program_refusal s)) h.2 ∙ start-contents f h.0 h.1
 
 -- ---- the solution
-optimum-contents : (p : Program) → AreContents (optimum_of p)
-optimum-contents p r h = ap origin h.is
-
 solution_in-contents : (f : FormData) → AreContents (solution_in f)
 solution_in-contents f =
-    then-contents (refused_by program_refusal (program_in f)) (λ p. optimum_of p >>= λ o. (refused_by plan_refusal (plans_of o) >>= λ plans. only (solution f o plans)))
+    then-contents (refused_by program_refusal (program_in f)) (λ p. refused_by pivot_refusal (optimum_in p) >>= λ o. (refused_by plan_refusal (plans_of o) >>= λ plans. only (solution f o plans)))
     (told-contents program_refusal (program_in f) (program-contents f))
-    (λ p. then-contents (optimum_of p) (λ o. refused_by plan_refusal (plans_of o) >>= λ plans. only (solution f o plans)) (optimum-contents p)
+    (λ p. then-contents (refused_by pivot_refusal (optimum_in p)) (λ o. refused_by plan_refusal (plans_of o) >>= λ plans. only (solution f o plans)) (told-contents pivot_refusal (optimum_in p) (λ stop h. refl))
     (λ o. then-contents (refused_by plan_refusal (plans_of o)) (λ plans. only (solution f o plans))
     (told-contents plan_refusal (plans_of o) (plan-contents o)) (λ plans. only-contents (solution f o plans))))
 

@@ -1,15 +1,14 @@
 -- Refusals of the tool `enummixed` come from the contents of its input.
 use Rattle.std.proofs.Common.{ℕ, ◌≡◌, inl, inr, refl, Bool, true, false, List, Err, map}
-use Rattle.answers.specs.Answers.{refused_by}
+use Rattle.answers.specs.Answers.{refused_by, ◌>>=◌}
 use Rattle.rational.specs.Rational.{ℚ}
 use Rattle.game_theory.specs.Profiles.{Game as TableGame}
 use Rattle.game_core.specs.Table.{GameTable, game_of}
 use Rattle.game_core.specs.declared.game.Game.{Game}
-use Rattle.game_core.specs.declared.game.Game.TheVariants.{Strategic, Extensive}
 use Rattle.linear_systems.specs.Vertices.{MarkedPoint}
 use Rattle.lex_tableau.specs.Starts.{Parts}
 use Rattle.reduced_form.specs.Kept.{kept_of}
-use Rattle.reduced_form.specs.Stops.{reduced_form_of}
+use Rattle.reduced_form.proofs.KeptSingleLemmas.{kept_not_memory}
 use Rattle.reduced_form.specs.declared.kept_stop.KeptStop.{KeptStop}
 use Rattle.reduced_form.specs.declared.kept_stop.KeptStop.TheVariants as kept_stop
 use Rattle.enumpure.specs.Stops.{within_text_limit}
@@ -20,10 +19,12 @@ use Rattle.reply_polytope.specs.declared.stop.PolyStop.{PolyStop}
 use Rattle.reply_polytope.specs.declared.stop.PolyStop.TheVariants as poly_stop
 use Rattle.reply_polytope.proofs.PolytopeLemmas.{polytopes_not_memory}
 use Rattle.basis_enum.specs.Enumeration.{vertices_in}
+use Rattle.basis_enum.proofs.OneAnswerLaws.{vertices_not_memory}
 use Rattle.basis_enum.specs.declared.stop.EnumStop.{EnumStop}
 use Rattle.basis_enum.specs.declared.stop.EnumStop.TheVariants as enum_stop
 use Rattle.basis_enum.specs.Systems.{variable_count}
 use Rattle.label_pairing.specs.Stops.{pairs_in}
+use Rattle.label_pairing.proofs.StopLemmas.{pairs_not_memory}
 use Rattle.label_pairing.specs.declared.pairing.PairStop.{PairStop}
 use Rattle.label_pairing.specs.declared.pairing.PairStop.TheVariants as pair_stop
 use Rattle.label_pairing.specs.declared.scaling.ScaleStop.{ScaleStop}
@@ -31,12 +32,13 @@ use Rattle.label_pairing.specs.declared.scaling.ScaleStop.TheVariants as scaling
 use Rattle.enummixed.specs.ExtremeText.{IsExtremeEquilibriaText, extreme_pairs, extreme_text, kept_text}
 use Rattle.enummixed.specs.Told.{polytopes_stop, enumeration_stop, pairs_stop, scale_stop, text_stop}
 use Rattle.enummixed.specs.Used.{all_labels, occurs, used_points, scaling_in}
-use Rattle.refusals.specs.Told.{form_refusal, kept_refusal, mixed_refusal}
+use Rattle.refusals.specs.Told.{kept_refusal, mixed_refusal}
 use Rattle.refusals.specs.declared.refusal.Refusal.{Refusal}
-use Rattle.gambit_tools.specs.Enummixed.{enummixed, strategic_text, table_text}
+use Rattle.gambit_tools.specs.Enummixed.{enummixed, table_text}
 use Rattle.gambit_tools.specs.Origins.{Contents, origin}
+use Rattle.two_player_tools.specs.StrategicForms.{strategic_form}
 use Rattle.two_player_tools.specs.TwoPlayers.{two_players}
-use Rattle.gambit_tools.proofs.FormContentLemmas.{AreContents, AreReasons, form_origin, inner-reasons, only-reasons, then-contents, then-reasons, told-contents, two_players-contents}
+use Rattle.gambit_tools.proofs.FormContentLemmas.{AreContents, AreReasons, inner-reasons, only-reasons, strategic_form-contents, then-contents, then-reasons, told-contents, two_players-contents}
 
 -- ---- stages of the enumeration
 polytopes-reasons : (g : TableGame) (stop : PolyStop) → polytopes_in g (Err stop) → origin (mixed_refusal (polytopes_stop stop)) ≡ Contents
@@ -49,11 +51,11 @@ vertices-reasons : (polytope : ℕ) (s : Parts) (stop : EnumStop) → vertices_i
 vertices-reasons polytope s (enum_stop.Start row step) h = refl
 vertices-reasons polytope s (enum_stop.Range level basis entering step) h = refl
 vertices-reasons polytope s (enum_stop.TooLarge limit) h = refl
-vertices-reasons polytope s enum_stop.Memory h = absurd h
+vertices-reasons polytope s enum_stop.Memory h = absurd (vertices_not_memory s h)
 
 pairs-reasons : (all : List ℕ) (first second : List MarkedPoint) (stop : PairStop) → pairs_in all first second (Err stop) → origin (mixed_refusal (pairs_stop stop)) ≡ Contents
 pairs-reasons all first second (pair_stop.TooLarge limit) h = refl
-pairs-reasons all first second pair_stop.Memory h = absurd h
+pairs-reasons all first second pair_stop.Memory h = absurd (pairs_not_memory all first second h)
 
 scaling-reasons : (polytope : ℕ) (points : List (List ℚ)) (stop : ScaleStop) → scaling_in points (Err stop) → origin (mixed_refusal (scale_stop polytope stop)) ≡ Contents
 scaling-reasons polytope points (scaling_stop.Range step) h = refl
@@ -61,7 +63,8 @@ scaling-reasons polytope points scaling_stop.Memory h = cc
 
 text-reasons : (P : List ℕ → Type 0) (stop : ListStop) → within_text_limit P (Err stop) → origin (mixed_refusal (text_stop stop)) ≡ Contents
 text-reasons P (list_stop.TooLarge limit) h = refl
-text-reasons P list_stop.Memory h = absurd h
+text-reasons P list_stop.Memory (inl h) = absurd h
+text-reasons P list_stop.Memory (inr h) = cc
 
 pub pairs-contents : (g : TableGame) → AreReasons mixed_refusal (extreme_pairs g)
 pairs-contents g stop (inl h) = inner-reasons mixed_refusal polytopes_stop (polytopes_in g) (polytopes-reasons g) stop h
@@ -87,7 +90,7 @@ text-contents g kept =
 kept-contents : (table : GameTable) (stop : KeptStop) → kept_of table (Err stop) → origin (kept_refusal stop) ≡ Contents
 kept-contents table (kept_stop.NotTwoPlayers count) h = refl
 kept-contents table (kept_stop.TooLarge limit) h = refl
-kept-contents table kept_stop.Memory h = absurd h
+kept-contents table kept_stop.Memory h = absurd (kept_not_memory table h)
 
 table_text-contents : (all : Bool) (table : GameTable) → AreContents (table_text all table)
 table_text-contents true table = told-contents mixed_refusal (extreme_text (game_of table)) (text-contents (game_of table) (game_of table))
@@ -96,12 +99,7 @@ table_text-contents false table =
     (told-contents kept_refusal (kept_of table) (kept-contents table))
     (λ kept. told-contents mixed_refusal (kept_text (game_of table) (game_of kept.table)) (text-contents (game_of table) (game_of kept.table)))
 
-strategic_text-contents : (all : Bool) (game : Game) → AreContents (strategic_text all game)
-strategic_text-contents all (Strategic table) = table_text-contents all table
-strategic_text-contents all (Extensive tree) =
-    then-contents (refused_by form_refusal (reduced_form_of tree)) (λ form. table_text all form.table)
-    (told-contents form_refusal (reduced_form_of tree) (form_origin tree)) (λ form. table_text-contents all form.table)
-
 pub enummixed-origin : (all : Bool) (game : Game) (r : Refusal) → enummixed all game (Err r) → origin r ≡ Contents
 enummixed-origin all game =
-    then-contents (two_players game) (λ _. strategic_text all game) (two_players-contents game) (λ _. strategic_text-contents all game)
+    then-contents (two_players game) (λ _. strategic_form game >>= table_text all) (two_players-contents game)
+    (λ _. then-contents (strategic_form game) (table_text all) (strategic_form-contents game) (table_text-contents all))

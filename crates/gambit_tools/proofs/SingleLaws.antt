@@ -1,15 +1,14 @@
 -- Each stage has at most one answer.
 use Rattle.std.proofs.Common.{ℕ, Bool, true, false, List, [], slice_index_or}
-use Rattle.answers.specs.Answers.{IsSingle, refused_by}
+use Rattle.answers.specs.Answers.{IsSingle, refused_by, ◌>>=◌}
 use Rattle.answers.proofs.AnswerLemmas.{bind-single, refused_by-single}
 use Rattle.game_core.specs.Table.{game_of as game_of_table}
-use Rattle.game_core.specs.Tree.{GameTree}
 use Rattle.game_core.specs.TreeGame.{game_of_tree}
 use Rattle.game_core.specs.declared.game.Game.{Game}
 use Rattle.game_core.specs.declared.game.Game.TheVariants.{Strategic, Extensive}
-use Rattle.reduced_form.specs.ReducedForm.{ReducedForm}
 use Rattle.reduced_form.specs.Stops.{reduced_form_of}
 use Rattle.reduced_form.proofs.OneFormLaws.{form_of-single}
+use Rattle.enumpure_trees.specs.Stops.{behaviour_text}
 use Rattle.enumpure_trees.specs.TreeEquilibria.{IsTreeEquilibriaText}
 use Rattle.enumpure_trees.proofs.EquilibriumLineLemmas.{text-determined}
 use Rattle.enumpure.specs.Stops.{pure_text}
@@ -17,8 +16,10 @@ use Rattle.enumpure.proofs.OneTextLaws.{pure_text-single, within_text_limit-sing
 use Rattle.words.specs.Words.{Command, Enumpure, Enummixed, Lcp, Lp, Convert, Check, Make}
 use Rattle.refusals.specs.Told.{form_refusal, list_refusal}
 use Rattle.two_player_tools.specs.GameTypes.{IsGame}
+use Rattle.two_player_tools.specs.StrategicForms.{strategic_form}
+use Rattle.two_player_tools.proofs.StrategicFormLemmas.{strategic_form-single}
 use Rattle.gambit_tools.specs.Games.{game_in}
-use Rattle.gambit_tools.specs.Enumpure.{form_text, enumpure}
+use Rattle.gambit_tools.specs.Enumpure.{enumpure}
 use Rattle.gambit_tools.specs.Commands.{tool_of, game_answer, answer_of}
 use Rattle.gambit_tools.proofs.CheckContentLemmas.{ChecksAreSingle, check-single}
 use Rattle.gambit_tools.proofs.ConvertLaws.{convert-single}
@@ -32,22 +33,25 @@ use Rattle.gambit_tools.proofs.MakeLaws.{make-single}
 use Rattle.gambit_tools.proofs.MixedSingleLemmas.{enummixed-single}
 
 -- ---- the tool `enumpure`
-form_text-single : (strategic : Bool) (tree : GameTree) (form : ReducedForm) → IsSingle (form_text strategic tree form)
-form_text-single true tree form = pure_text-single (game_of_table form.table)
-form_text-single false tree form = within_text_limit-single (IsTreeEquilibriaText (game_of_tree tree) form.choices) (text-determined (game_of_tree tree) form.choices)
+table_text-single : (game : Game) → IsSingle (strategic_form game >>= λ table. refused_by list_refusal (pure_text (game_of_table table)))
+table_text-single game =
+    bind-single (strategic_form game) (λ table. refused_by list_refusal (pure_text (game_of_table table))) (strategic_form-single game)
+    (λ table _. refused_by-single list_refusal (pure_text (game_of_table table)) (pure_text-single (game_of_table table)))
 
 enumpure-single : (strategic : Bool) (game : Game) → IsSingle (enumpure strategic game)
-enumpure-single strategic (Strategic table) = refused_by-single list_refusal (pure_text (game_of_table table)) (pure_text-single (game_of_table table))
-enumpure-single strategic (Extensive tree) =
-    bind-single (refused_by form_refusal (reduced_form_of tree)) (λ form. refused_by list_refusal (form_text strategic tree form))
+enumpure-single true (Strategic table) = table_text-single (Strategic table)
+enumpure-single false (Strategic table) = table_text-single (Strategic table)
+enumpure-single true (Extensive tree) = table_text-single (Extensive tree)
+enumpure-single false (Extensive tree) =
+    bind-single (refused_by form_refusal (reduced_form_of tree)) (λ form. refused_by list_refusal (behaviour_text (game_of_tree tree) form.choices))
     (refused_by-single form_refusal (reduced_form_of tree) (form_of-single tree))
-    (λ form _. refused_by-single list_refusal (form_text strategic tree form) (form_text-single strategic tree form))
+    (λ form _. refused_by-single list_refusal (behaviour_text (game_of_tree tree) form.choices) (within_text_limit-single (IsTreeEquilibriaText (game_of_tree tree) form.choices) (text-determined (game_of_tree tree) form.choices)))
 
 -- ---- commands
 -- each tool that is built has a line
 tool_of-single : (command : Command) (game : Game) → TreesAreGames → RecallsAreSingle → IsGame game → IsSingle (tool_of command game)
 tool_of-single (Enumpure strategic file) game laws recalls w = enumpure-single strategic game
-tool_of-single (Enummixed all workers file) game laws recalls w = enummixed-single all game w
+tool_of-single (Enummixed all workers file) game laws recalls w = enummixed-single all game
 tool_of-single (Lcp strategic file) game laws recalls w = lcp-single strategic game laws recalls w
 tool_of-single (Lp strategic prices file) game laws recalls w = lp-single strategic prices game laws recalls w
 tool_of-single (Convert html row column file) game laws recalls w = convert-single html row column game

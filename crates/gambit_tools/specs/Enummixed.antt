@@ -1,16 +1,14 @@
 -- The tool `enummixed`: the text of the extreme equilibria of a game of two players, by strategies.
 -- Source: Avis, Rosenberg, Savani and von Stengel 2010; Luce and Raiffa 1957.
-use Rattle.std.specs.Prelude.{ℕ, ◌≡◌, Bool, true, false, List, Ok}
+use Rattle.std.specs.Prelude.{ℕ, Bool, true, false, List, Ok}
 use Rattle.answers.specs.Answers.{Answer, ◌>>=◌, ◌>>◌, refused_by}
 use Rattle.game_core.specs.Table.{GameTable, game_of}
 use Rattle.game_core.specs.declared.game.Game.{Game}
-use Rattle.game_core.specs.declared.game.Game.TheVariants.{Strategic, Extensive}
 use Rattle.reduced_form.specs.Kept.{kept_of}
-use Rattle.reduced_form.specs.ReducedForm.{ReducedForm}
-use Rattle.reduced_form.specs.Stops.{reduced_form_of}
 use Rattle.enummixed.specs.ExtremeText.{IsExtremeEquilibriaText, extreme_text, kept_text}
+use Rattle.two_player_tools.specs.StrategicForms.{strategic_form}
 use Rattle.two_player_tools.specs.TwoPlayers.{two_players}
-use Rattle.refusals.specs.Told.{form_refusal, kept_refusal, mixed_refusal}
+use Rattle.refusals.specs.Told.{kept_refusal, mixed_refusal}
 use Rattle.refusals.specs.declared.refusal.Refusal.{Refusal}
 
 -- The text of the extreme equilibria of a table. They are looked for among all strategies where these
@@ -21,30 +19,19 @@ table_text false table = do
   kept ← refused_by kept_refusal (kept_of table)
   refused_by mixed_refusal (kept_text (game_of table) (game_of kept.table))
 
--- the text of the extreme equilibria of a game's strategic form: that of a table is the table itself
-abbrev pub strategic_text : Bool → Game → Answer Refusal (List ℕ)
-strategic_text all (Strategic table) = table_text all table
-strategic_text all (Extensive tree) = do
-  form ← refused_by form_refusal (reduced_form_of tree)
-  table_text all form.table
-
 -- the answer of `enummixed`
 abbrev pub enummixed : Bool → Game → Answer Refusal (List ℕ)
 enummixed all game = do
   two_players game
-  strategic_text all game
+  table ← strategic_form game
+  table_text all table
 
 -- ---- what each text is
--- the table is the strategic form of the game: a table itself, and the reduced form of a tree
-abbrev pub IsStrategicForm : Game → GameTable → Type 0
-IsStrategicForm (Strategic t) table = table ≡ t
-IsStrategicForm (Extensive tree) table =
-    (form : ReducedForm) × reduced_form_of tree (Ok form) × (table ≡ form.table)
 
 -- a text has the lines of exactly the extreme equilibria of the game's strategic form, in order
 pub record IsExtremeText (game : Game) (text : List ℕ) : Type 0 where
   pub table : GameTable
-  pub is_form : IsStrategicForm game table
+  pub is_form : strategic_form game (Ok table)
   pub is_text : IsExtremeEquilibriaText (game_of table) text
 
 -- Each text of `enummixed` is so.

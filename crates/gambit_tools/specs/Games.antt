@@ -14,10 +14,14 @@ use Rattle.refusals.specs.Told.{text_refusal, nfg_refusal, efg_refusal}
 use Rattle.refusals.specs.declared.refusal.Refusal.{Refusal}
 use Rattle.refusals.specs.declared.refusal.Refusal.TheVariants as refusal
 
+-- nothing, but of an input within the limit
+abbrev pub within_bytes : List ℕ → Answer Refusal (Unit {0})
+within_bytes bytes = refuse_where (most_bytes < length bytes) refusal.TooLong
+
 -- the tokens of bytes within the limit on inputs
 abbrev pub tokens_in : List ℕ → Answer Refusal TokenList
 tokens_in bytes = do
-  refuse_where (most_bytes < length bytes) refusal.TooLong
+  within_bytes bytes
   refused_by text_refusal (tokens_of bytes)
 
 -- the tokens begin as those of a file of a tree

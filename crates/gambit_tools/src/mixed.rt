@@ -1,8 +1,9 @@
 // The tool `enummixed`.
 ghost use Rattle.std.specs.Prelude.{false, option_map, string_bytes};
-ghost use Rattle.answers.specs.Answers.{Gives, map_ok};
+ghost use Rattle.answers.specs.Answers.{Gives, map_ok, then};
 ghost use Rattle.words.specs.Words.{Enummixed, IsFrom};
-ghost use Rattle.gambit_tools.specs.Enummixed.{enummixed, strategic_text, table_text, EnummixedTextsAreExtreme};
+ghost use Rattle.two_player_tools.specs.StrategicForms.{strategic_form};
+ghost use Rattle.gambit_tools.specs.Enummixed.{enummixed, table_text, EnummixedTextsAreExtreme};
 ghost use Rattle.gambit_tools.specs.Outcome.{IsComputed};
 
 use crate::games::read_game;
@@ -63,7 +64,7 @@ fn strategic_text<R: Threads + Sync, G: Gate>(
     gate: &G,
 ) -> Result<Vec<u8>, Refusal>
     requires { IsFrom 1 64 workers }
-    ensures { Gives Refusal.Memory (strategic_text all game.now)
+    ensures { Gives Refusal.Memory (then (strategic_form game.now) (table_text all))
         (map_ok result (λ text. text.items)) }
 {
     match game {

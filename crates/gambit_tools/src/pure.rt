@@ -1,38 +1,18 @@
 // The tool `enumpure`.
 ghost use Rattle.std.specs.Prelude.{option_map, string_bytes};
 ghost use Rattle.answers.specs.Answers.{Gives, map_ok};
-ghost use Rattle.reduced_form.specs.ReducedForm.{IsReducedForm};
-ghost use Rattle.enumpure.specs.declared.listing.ListStop.TheVariants as list_stop;
 ghost use Rattle.words.specs.Words.{Enumpure};
-ghost use Rattle.gambit_tools.specs.Enumpure.{form_text, enumpure};
+ghost use Rattle.gambit_tools.specs.Enumpure.{enumpure};
 ghost use Rattle.gambit_tools.specs.Outcome.{IsComputed};
 
 use crate::games::read_game;
-use enumpure::{ListStop, list_pure_equilibria};
+use enumpure::list_pure_equilibria;
 use enumpure_trees::list_pure_behaviours;
-use game_core::{Game, Tree};
+use game_core::Game;
 use outside::Inputs;
-use reduced_form::{Reduced, reduce};
+use reduced_form::reduce;
 use refusals::Refusal;
 use std::alloc::Global;
-
-/// The text of the pure equilibria of a tree with this reduced form, by strategies or as behaviour.
-fn form_text(
-    alloc: Global,
-    strategic: bool,
-    tree: &Tree,
-    reduced: &Reduced,
-) -> Result<Vec<u8>, ListStop>
-    requires form { IsReducedForm tree.now reduced.now }
-    ensures { Gives list_stop.Memory (form_text strategic tree.now reduced.now)
-        (map_ok result (λ text. text.items)) }
-{
-    if strategic {
-        list_pure_equilibria(alloc, reduced.table())
-    } else {
-        list_pure_behaviours(alloc, tree, reduced)
-    }
-}
 
 /// The text of the pure equilibria of a game; those of a tree by strategies or as behaviour.
 fn pure_equilibria(alloc: Global, strategic: bool, game: &Game) -> Result<Vec<u8>, Refusal>
@@ -41,9 +21,13 @@ fn pure_equilibria(alloc: Global, strategic: bool, game: &Game) -> Result<Vec<u8
 {
     match game {
         Game::Strategic(table) => Ok(list_pure_equilibria(alloc, table)?),
+        Game::Extensive(tree) if strategic => {
+            let reduced = reduce(alloc, tree)?;
+            Ok(list_pure_equilibria(alloc, reduced.table())?)
+        }
         Game::Extensive(tree) => {
             let reduced = reduce(alloc, tree)?;
-            Ok(form_text(alloc, strategic, tree, &reduced)?)
+            Ok(list_pure_behaviours(alloc, tree, &reduced)?)
         }
     }
 }

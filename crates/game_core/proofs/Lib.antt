@@ -1,6 +1,7 @@
 pub mod DrawLemmas
 pub mod FirstUseLemmas
 pub mod GameLemmas
+pub mod LimitLemmas
 mod NumberLemmas
 mod PlayerSetLemmas
 mod PrefixOrderLemmas

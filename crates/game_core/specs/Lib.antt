@@ -1,9 +1,9 @@
+pub mod Limits
 pub mod Spacing
 pub mod MadeTableLaws
 pub mod MadeTables
 pub mod OwnSets
 pub mod Table
-pub mod TextLimit
 pub mod TokenList
 pub mod Tree
 pub mod TreeCodes

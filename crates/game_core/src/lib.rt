@@ -4,7 +4,8 @@
 //! Callers may rely on: a `Table` and a `Tree` keep their invariants; `trees_are_game_trees`;
 //! `tree_parts` has the parts of its game; `made_games_pay_draws`, of `make_table`.
 //! Definitions: `specs::Table` and `TreeGame` say what a table and a tree stand for (`game_of`,
-//! `game_of_tree`), `Tree` what makes one, `Spacing` what tokens keep.
+//! `game_of_tree`), `Tree` what makes one, `Limits` when a count is within its limit, `Spacing` what
+//! tokens keep.
 //! Private words: `specs::OwnSets` and `TreeCodes`, how a tree keeps its parts.
 //! Lemmas for callers: `proofs::TableCountLemmas` on counts of strategies, `StrideLemmas`.
 //! A change here touches: all contracts that name a game, from the readers to `run`.
@@ -33,7 +34,7 @@ pub use profiles::{profile_count, set_profile};
 pub use table::{MOST_PAYOFFS, Table};
 pub use text_limit::{MOST_TEXT, too_long_text};
 pub use token::{Spanned, Token, Tokens};
-pub use too_large::{TooLarge, What};
+pub use too_large::{MOST_ROWS, TooLarge, What};
 pub use tree::{
     Action, InfoSet, Kind, Node, Outcome, Tree, sets_are_numbered_by_first_nodes,
     trees_are_game_trees,

@@ -1,4 +1,10 @@
-// Counts that passed a limit.
+// Counts and their limits.
+ghost use Rattle.std.specs.Prelude.{◌≡◌, ◌+◌, ◌<◌, ◌^◌};
+ghost use Rattle.game_core.specs.Limits.{first_above, within};
+
+/// The most rows of a complementarity problem, and the most rows and columns of a linear program
+/// together.
+pub const MOST_ROWS: u64 = 512;
 
 /// What is counted against a limit.
 #[derive(Clone, Copy, Debug, PartialEq, Eq)]
@@ -32,4 +38,32 @@ pub struct TooLarge {
     pub count: u64,
     /// The limit.
     pub limit: u64,
+}
+
+impl TooLarge {
+    /// Refuses a count above its limit. Takes no memory.
+    ///
+    /// # Errors
+    ///
+    /// The count, exactly where it is above the limit.
+    pub fn within(what: What, limit: u64, count: u64) -> Result<(), TooLarge>
+        ensures { within what limit count result }
+    {
+        if count > limit {
+            return Err(TooLarge { what, count, limit });
+        }
+        Ok(())
+    }
+
+    /// What is told where counting stops at the first number above a limit.
+    pub fn first_above(what: What, limit: u64) -> TooLarge
+        requires some_above { limit + 1 < 2 ^ 64 }
+        ensures { result ≡ first_above what limit }
+    {
+        TooLarge {
+            what,
+            count: limit + 1,
+            limit,
+        }
+    }
 }

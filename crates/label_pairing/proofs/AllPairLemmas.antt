@@ -1,13 +1,17 @@
 -- All pairs are exactly the pairs, and none stands twice
-use Rattle.std.proofs.Common.{ℕ, zero, suc, ◌<◌, ◌≡◌, ◌≢◌, inl, inr, Bool, true, false, cond, List, [], ◌∷◌, ◌++◌, All, Ok, Err, length, map, get_or, sym, ap, ◌∙◌, subst, arith}
+use Rattle.std.proofs.Common.{ℕ, zero, suc, ◌<◌, ◌≡◌, ◌≢◌, inl, inr, Bool, true, false, cond, List, [], ◌∷◌, ◌++◌, All, length, map, get_or, sym, ap, ◌∙◌, subst, arith}
 use Rattle.std.specs.Prelude.{Contains}
 use Rattle.std.specs.List.{AllPairs, filter, range_with_len}
 use Rattle.std.proofs.lemmas.Bool.{cases_lt}
 use Rattle.std.proofs.lemmas.List.Elements.{All-append, All-filter, All-contains, All-contains_itself, filter_passes, Contains-get_or, Contains-append_left, Contains-append_right, Contains-append_cases}
 use Rattle.std.proofs.lemmas.List.FromFn.{length-map-range_with_len, get_or-map-range_with_len}
 use Rattle.std.proofs.lemmas.List.Kept.{AllPairs-cons, AllPairs-filter}
+use Rattle.answers.specs.Answers.{only, refused_by}
+use Rattle.answers.proofs.AnswerLemmas.{bind-single, only-single, refuse_where-single, refused_by-single}
 use Rattle.linear_systems.specs.Vertices.{MarkedPoint}
-use Rattle.label_pairing.specs.Pairs.{are_together, mark_at, places, all_pairs}
+use Rattle.game_core.specs.Limits.{within}
+use Rattle.game_core.specs.declared.too_large.What.TheVariants as what
+use Rattle.label_pairing.specs.Pairs.{are_together, mark_at, places, all_pairs, most_pairs}
 use Rattle.label_pairing.specs.declared.pairing.PairStop.TheVariants as stops
 use Rattle.label_pairing.specs.Laws.{IsPair, PairsAreTheTogether, PairsAreSingle}
 use Rattle.label_pairing.proofs.RowLemmas.{places-next}
@@ -101,10 +105,6 @@ pairs_together = record {
 }
 
 pub pairs_single : PairsAreSingle
-pairs_single all first second (Ok a) (Ok b) h g = ap Ok (h.0 ∙ sym g.0)
-pairs_single all first second (Ok a) (Err (stops.TooLarge l)) h g = absurd (omega (arith, ap length h.0, h.1, g.0))
-pairs_single all first second (Err (stops.TooLarge l)) (Ok a) g h = absurd (omega (arith, ap length h.0, h.1, g.0))
-pairs_single all first second (Err (stops.TooLarge l)) (Err (stops.TooLarge k)) h g = ap (λ x. Err (stops.TooLarge x)) (h.1 ∙ sym g.1)
-pairs_single all first second (Ok a) (Err stops.Memory) h g = absurd g
-pairs_single all first second (Err (stops.TooLarge l)) (Err stops.Memory) h g = absurd g
-pairs_single all first second (Err stops.Memory) other h g = absurd h
+pairs_single all first second =
+    let limit = within what.Pairs most_pairs (length (all_pairs all first second)) in
+    bind-single (refused_by stops.TooLarge limit) (λ _. only (all_pairs all first second)) (refused_by-single stops.TooLarge limit (refuse_where-single _ _)) (λ _ _. only-single (all_pairs all first second))

@@ -5,7 +5,8 @@
 //! Definitions: `specs::Pairs` has the pairs of marked points, `Matches` the masks that complete a
 //! mask, `Scaling` the steps of scaling, `Stops` what is answered.
 //! Private words: the module `counting`, which counts the pairs before they are listed.
-//! Lemmas for callers: `proofs::AllPairLemmas` and `RowLemmas` on the list of pairs.
+//! Lemmas for callers: `proofs::AllPairLemmas` and `RowLemmas` on the list of pairs; `StopLemmas`
+//! on the answers.
 //! A change here touches: `enummixed`, the limit on pairs and the counts of `make`.
 #![tactic(auto)]
 

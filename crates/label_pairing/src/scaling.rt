@@ -2,7 +2,7 @@
 ghost use Rattle.std.specs.Prelude.{length};
 ghost use Rattle.rational.specs.Sum.{sum_to};
 ghost use Rattle.answers.specs.Answers.{Gives, map_ok};
-ghost use Rattle.pure_payoffs.specs.Plays.{Give};
+ghost use Rattle.frac128.specs.Steps.{StepsGive};
 ghost use Rattle.label_pairing.specs.Scaling.{entry_of, IsScalable, sum_steps};
 ghost use Rattle.label_pairing.specs.Stops.{scaled_in};
 ghost use Rattle.label_pairing.specs.declared.scaling.ScaleStop.TheVariants as stops;
@@ -47,7 +47,8 @@ impl<T: Drop> From<AllocFailed<T>> for ScaleStop {
 
 // The sum of the entries of a point.
 fn sum(point: &[Frac]) -> Result<Frac, Unfit>
-    ensures { Give (sum_steps point.now) (sum_to (length point.now) (entry_of point.now)) result }
+    ensures { StepsGive (sum_steps point.now) (sum_to (length point.now) (entry_of point.now))
+        result }
 {
     let mut sum = Frac::zero();
     for i in 0..point.len() {

@@ -1,23 +1,27 @@
 -- What the stages of a form's problem give together.
-use Rattle.std.proofs.Common.{◌<◌, ◌≡◌, Result, Ok, Err, refl, subst, arith}
-use Rattle.answers.specs.Answers.{Answer, Gives, ◌>>◌, refuse_where}
+use Rattle.std.proofs.Common.{◌<◌, ◌≡◌, inl, inr, Result, Ok, Err, refl, ap, ap₂, subst, arith}
+use Rattle.answers.specs.Answers.{Answer, Gives, ◌>>◌, refused_by}
 use Rattle.answers.proofs.AnswerLemmas.{gives_bind, gives_first}
 use Rattle.linear_systems.proofs.AgreementLemmas.{alike_trans}
 use Rattle.lex_tableau.specs.Rows.{tableau}
-use Rattle.lex_tableau.specs.StartStops.{IsStarted}
-use Rattle.lex_tableau.specs.Starts.{system_of}
+use Rattle.lex_tableau.specs.StartStops.{start_in, IsStarted}
+use Rattle.lex_tableau.specs.declared.tableau.StartStop.{StartStop}
+use Rattle.lex_tableau.specs.declared.tableau.StartStop.TheVariants as starts
+use Rattle.lex_tableau.specs.Starts.{Parts, system_of}
+use Rattle.game_core.specs.Limits.{most_rows, within}
+use Rattle.game_core.specs.declared.too_large.What.TheVariants as what
 use Rattle.sequence_forms.specs.Prices.{costs}
 use Rattle.sequence_data.specs.Data.{FormData, form, side_of}
 use Rattle.lemke_pivot.specs.declared.stop.LcpStop.{LcpStop}
 use Rattle.lemke_pivot.specs.declared.stop.LcpStop.TheVariants as stops
-use Rattle.lemke_pivot.specs.FormProblems.{IsSystemOf, ProblemsAreOfForms, costs_in, form_size, problem_in, form_start_in, too_many_rows, with_start}
+use Rattle.lemke_pivot.specs.FormProblems.{IsSystemOf, ProblemsAreOfForms, costs_in, form_size, problem_in, form_start_in, told_start, with_start}
 use Rattle.lemke_pivot.specs.Parts.{IsProblem, IsProblemOfForm, IsStartFor, Problem, start_of}
 use Rattle.lemke_pivot.proofs.FormSystemLemmas.{for_sides}
 use Rattle.lemke_pivot.proofs.PathStartLemmas.{starts_for}
 
-module _ (f : FormData) (few : 512 < form_size f → ⊥) where
+module _ (f : FormData) (few : most_rows < form_size f → ⊥) where
   abbrev size_stage : Answer LcpStop (Unit {0})
-  size_stage = refuse_where (512 < form_size f) (stops.TooLarge (too_many_rows f))
+  size_stage = refused_by stops.TooLarge (within what.Rows most_rows (form_size f))
 
   abbrev cost_stage : Answer LcpStop (Unit {0})
   cost_stage = costs_in f.greatest_one f.greatest_two f.cells
@@ -30,6 +34,16 @@ module _ (f : FormData) (few : 512 < form_size f → ⊥) where
   start_gives answer h g =
       gives_bind {Z = Problem} stops.Memory size_stage (λ _. cost_stage >> form_start_in f) tt answer few (gives_bind {Z = Problem} stops.Memory cost_stage (λ _. form_start_in f) tt answer h g)
 
+-- ---- the start
+module _ (f : FormData) (s : Parts) (is_system : IsSystemOf f s) where
+  pub start_stop : (stop : StartStop) → Gives starts.Memory (start_in s) (Err stop) → Gives stops.Memory (form_start_in f) (Err (told_start stop))
+  start_stop stop (inl m) = inl (ap told_start m)
+  start_stop stop (inr h) = inr (stop, (s, (is_system, inl h)), refl)
+
+  pub start_goes : (p : Problem) → start_in s (Ok p.tableau) → p.first ≡ f.first → p.second ≡ f.second → form_start_in f (Ok p)
+  start_goes p h one two =
+      (s, (is_system, (p.tableau, h, ap₂ (λ a b. Ok (record { first = a; second = b; tableau = p.tableau })) one two)))
+
 -- ---- read off the stages
 pub problems_of_forms : ProblemsAreOfForms
 problems_of_forms f p valid stages =
@@ -38,7 +52,7 @@ problems_of_forms f p valid stages =
     let s = last.0 in
     let n = last.1.1.0 in
     let is_system : IsSystemOf f s = last.1.0 in
-    let start : IsStarted s n = last.1.1.1 in
+    let start : IsStarted s n = last.1.1.1.2 in
     let same : with_start f n ≡ p = cc (last.1.1.2) in
     let begins : IsStartFor f.first f.second n = starts_for f.first f.second s n (for_sides f s f.first f.second valid refl refl is_system) start.start start.valid in
     subst (λ p. IsProblem p × IsProblemOfForm (form f) f.greatest_one f.greatest_two p) same (

@@ -10,6 +10,7 @@ use Rattle.rational.proofs.RationalRing.{rational_ring}
 use Rattle.rational.proofs.Ring.{ring, num, ◌:+◌, ◌:-◌, ◌:*◌, A, B, C, D, E}
 use Rattle.linear_systems.specs.Rows.{Alike}
 use Rattle.linear_systems.proofs.AgreementLemmas.{alike_trans}
+use Rattle.game_core.specs.Limits.{most_rows}
 use Rattle.sequence_forms.specs.Lists.{listed_at}
 use Rattle.sequence_forms.specs.Prices.{costs}
 use Rattle.sequence_forms.specs.Sides.{Side, sequences}
@@ -89,7 +90,7 @@ module _ (f : FormData) (valid : IsFormData f) where
   second_count : f.second.sequences ≡ sequences (side_of f.second)
   second_count = valid.second_is.sequences_are
 
-  pub few_costs : form_size f ≤ 512 → f.first.sequences * f.second.sequences < 2 ^ 32
+  pub few_costs : form_size f ≤ most_rows → f.first.sequences * f.second.sequences < 2 ^ 32
   few_costs few =
       let x : f.first.sequences ≤ 512 = omega (arith, few, first_count) in
       let y : f.second.sequences ≤ 512 = omega (arith, few, second_count) in

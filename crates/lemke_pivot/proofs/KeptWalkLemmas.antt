@@ -124,5 +124,5 @@ module _ (n r : ℕ) (m : Numbers) (S : IsPathStart n r m) where
               rated = p.rated ∙ o.rated;
             }
 
-        pub walk_stops : (number : ℕ) (u : Unfit) → number ≡ pivot_number (suc (suc (length o.earlier))) → IsFirstUnfit (steps_of_pivot t row col) u → EndsUnfit m n r number c u
+        pub walk_stops : (number : ℕ) (u : Unfit) → number ≡ pivot_number (suc (suc (length o.earlier))) → IsFirstUnfit (steps_of_pivot t row col) u → EndsUnfit m n r (record { number = number; entering = c; unfit = u })
         walk_stops number u k f = inr (o.earlier, t, record { path = o.path; goes_on = ne; valid = valid; col = col; row = row; col_in = subst (λ k. col < k) columns_are h; entering_is = e; chosen = L; unfit = f; number = k })

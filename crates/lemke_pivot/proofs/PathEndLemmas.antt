@@ -1,5 +1,5 @@
 -- The path has one end.
-use Rattle.std.proofs.Common.{ℕ, suc, ◌<◌, ◌≡◌, ◌≢◌, inl, inr, List, [], ◌∷◌, length, sym, ap, ◌∙◌, subst, subst₂, arith, All}
+use Rattle.std.proofs.Common.{ℕ, suc, ◌<◌, ◌≡◌, ◌≢◌, inl, inr, List, [], ◌∷◌, Ok, Err, length, sym, ap, ◌∙◌, subst, subst₂, arith, All}
 use Rattle.std.proofs.lemmas.Bool.{cases_lt}
 use Rattle.rational.specs.Rational.{ℚ, zero_ℚ}
 use Rattle.rational.proofs.Field.{not_lt_of_le}
@@ -7,14 +7,13 @@ use Rattle.linear_systems.specs.Tableau.{pivot}
 use Rattle.linear_systems.specs.Rows.{basic_solution, IsLexicographicRow}
 use Rattle.linear_systems.proofs.AgreementLemmas.{alike_sym, alike_trans}
 use Rattle.linear_systems.proofs.LexRowLemmas.{lex_row_once, below_cases}
-use Rattle.frac128.specs.declared.steps.Unfit.{Unfit}
 use Rattle.frac128.specs.Steps.{StepFits, IsFirstUnfit}
 use Rattle.frac128.proofs.FirstUnfitLemmas.{unfit_among, unfit_once}
 use Rattle.lex_tableau.specs.Pivots.{pivot_number, steps_of_pivot}
+use Rattle.lex_tableau.specs.declared.unfit_pivot.UnfitPivot.{UnfitPivot}
 use Rattle.lex_tableau.specs.Rows.{Numbers, tableau, IsPivotOf, IsTableau}
 use Rattle.lex_tableau.proofs.TableauLemmas.{determined}
 use Rattle.lemke_pivot.specs.ProblemPaths.{complement, w_of, z0_of}
-use Rattle.lemke_pivot.specs.declared.lcp.LemkeEnd.TheVariants.{Solved, Range}
 use Rattle.lemke_pivot.specs.Ends.{EndsAreSingle}
 use Rattle.lemke_pivot.specs.Parts.{Problem, IsLeastRow, size_of}
 use Rattle.lemke_pivot.specs.Paths.{EndsSolved, EndsUnfit, ExactPathTo, ReplacesExactly, StopsAt}
@@ -98,13 +97,13 @@ module _ (m : Numbers) (n r : ℕ) where
       let s = path_same a.0 g.earlier t g.before a.1 g.enters a.2 g.path (sym g.length_is) a.4 g.step.valid in
       g.not_zero (sym (ap (λ (x : Numbers). basic_solution (tableau x) (z0_of n)) s.0) ∙ a.3)
 
-  stop_ends : (step entering : ℕ) (e : Unfit) (earlier : List Numbers) (t : Numbers) → StopsAt m n r step entering e earlier t → GoesOn m n r (length earlier) → ⊥
-  stop_ends step entering e earlier t a g =
-      let s = path_same earlier g.earlier t g.before entering g.enters a.path g.path (sym g.length_is) a.valid g.step.valid in
-      let q : ReplacesExactly n t entering g.leaves g.after = subst₂ (λ x y. ReplacesExactly n x y g.leaves g.after) (sym s.0) (sym s.1) g.step in
-      let col : q.replaces.col ≡ a.col = same_column n t a.valid entering q.replaces.col a.col q.replaces.row a.row q.replaces.col_in a.col_in q.replaces.c_is a.entering_is q.replaces.chosen a.chosen in
-      let row : q.replaces.row ≡ a.row = same_row n t a.valid entering q.replaces.col a.col q.replaces.row a.row q.replaces.col_in a.col_in q.replaces.c_is a.entering_is q.replaces.chosen a.chosen in
-      unfit_among (steps_of_pivot t a.row a.col) e a.unfit (subst₂ (λ x y. All StepFits (steps_of_pivot t x y)) row col q.fits)
+  stop_ends : (stop : UnfitPivot) (earlier : List Numbers) (t : Numbers) → StopsAt m n r stop earlier t → GoesOn m n r (length earlier) → ⊥
+  stop_ends stop earlier t a g =
+      let s = path_same earlier g.earlier t g.before stop.entering g.enters a.path g.path (sym g.length_is) a.valid g.step.valid in
+      let q : ReplacesExactly n t stop.entering g.leaves g.after = subst₂ (λ x y. ReplacesExactly n x y g.leaves g.after) (sym s.0) (sym s.1) g.step in
+      let col : q.replaces.col ≡ a.col = same_column n t a.valid stop.entering q.replaces.col a.col q.replaces.row a.row q.replaces.col_in a.col_in q.replaces.c_is a.entering_is q.replaces.chosen a.chosen in
+      let row : q.replaces.row ≡ a.row = same_row n t a.valid stop.entering q.replaces.col a.col q.replaces.row a.row q.replaces.col_in a.col_in q.replaces.c_is a.entering_is q.replaces.chosen a.chosen in
+      unfit_among (steps_of_pivot t a.row a.col) stop.unfit a.unfit (subst₂ (λ x y. All StepFits (steps_of_pivot t x y)) row col q.fits)
 
   solved_same : (t u : Numbers) → EndsSolved m n r t → EndsSolved m n r u → t ≡ u
   solved_same t u a b = elim (cases_lt (length a.0) (length b.0)) [
@@ -115,46 +114,51 @@ module _ (m : Numbers) (n r : ℕ) where
     ]
   ]
 
-  solved_stops : (t : Numbers) (step entering : ℕ) (e : Unfit) (earlier : List Numbers) (u : Numbers) → EndsSolved m n r t → StopsAt m n r step entering e earlier u → ⊥
-  solved_stops t step entering e earlier u a b = elim (cases_lt (length a.0) (length earlier)) [
-    | inl l ↦ solved_ends t a (goes_on earlier u entering (length a.0) l b.path)
+  solved_stops : (t : Numbers) (stop : UnfitPivot) (earlier : List Numbers) (u : Numbers) → EndsSolved m n r t → StopsAt m n r stop earlier u → ⊥
+  solved_stops t stop earlier u a b = elim (cases_lt (length a.0) (length earlier)) [
+    | inl l ↦ solved_ends t a (goes_on earlier u stop.entering (length a.0) l b.path)
     | inr l ↦ elim (cases_lt (length earlier) (length a.0)) [
-      | inl k ↦ stop_ends step entering e earlier u b (goes_on a.0 t a.1 (length earlier) k a.2)
-      | inr k ↦ b.goes_on (sym (ap (λ (x : Numbers). basic_solution (tableau x) (z0_of n)) (path_same a.0 earlier t u a.1 entering a.2 b.path (omega (arith, l, k)) a.4 b.valid).0) ∙ a.3)
+      | inl k ↦ stop_ends stop earlier u b (goes_on a.0 t a.1 (length earlier) k a.2)
+      | inr k ↦ b.goes_on (sym (ap (λ (x : Numbers). basic_solution (tableau x) (z0_of n)) (path_same a.0 earlier t u a.1 stop.entering a.2 b.path (omega (arith, l, k)) a.4 b.valid).0) ∙ a.3)
     ]
   ]
 
-  not_both : (t : Numbers) (step entering : ℕ) (e : Unfit) → EndsSolved m n r t → EndsUnfit m n r step entering e → ⊥
-  not_both t step entering e a (inl b) = unfit_among (steps_of_pivot m r n) e b.3 (begins_fit a.0 t a.1 a.2)
-  not_both t step entering e a (inr b) = solved_stops t step entering e b.0 b.1 a b.2
+  not_both : (t : Numbers) (stop : UnfitPivot) → EndsSolved m n r t → EndsUnfit m n r stop → ⊥
+  not_both t stop a (inl b) = unfit_among (steps_of_pivot m r n) stop.unfit b.3 (begins_fit a.0 t a.1 a.2)
+  not_both t stop a (inr b) = solved_stops t stop b.0 b.1 a b.2
 
-  stops_here : (step entering : ℕ) (e : Unfit) (ss : List Numbers) (t : Numbers) (step' entering' : ℕ) (e' : Unfit) (us : List Numbers) (u : Numbers) → StopsAt m n r step entering e ss t → StopsAt m n r step' entering' e' us u → length ss ≡ length us → (step ≡ step') × ((entering ≡ entering') × (e ≡ e'))
-  stops_here step entering e ss t step' entering' e' us u a b q =
-      let s = path_same ss us t u entering entering' a.path b.path q a.valid b.valid in
-      let nonbasic : (tableau u).nonbasic a.col ≡ entering' = sym (ap (λ (x : Numbers). (tableau x).nonbasic a.col) s.0) ∙ a.entering_is ∙ s.1 in
+  stops_here : (stop : UnfitPivot) (ss : List Numbers) (t : Numbers) (last : UnfitPivot) (us : List Numbers) (u : Numbers) → StopsAt m n r stop ss t → StopsAt m n r last us u → length ss ≡ length us → stop ≡ last
+  stops_here stop ss t last us u a b q =
+      let s = path_same ss us t u stop.entering last.entering a.path b.path q a.valid b.valid in
+      let nonbasic : (tableau u).nonbasic a.col ≡ last.entering = sym (ap (λ (x : Numbers). (tableau x).nonbasic a.col) s.0) ∙ a.entering_is ∙ s.1 in
       let col_in : a.col < (tableau u).width = subst (λ x. a.col < (tableau x).width) s.0 a.col_in in
       let chosen : IsLexicographicRow n n w_of (tableau u) a.col a.row = subst (λ x. IsLexicographicRow n n w_of (tableau x) a.col a.row) s.0 a.chosen in
-      let col = same_column n u b.valid entering' a.col b.col a.row b.row col_in b.col_in nonbasic b.entering_is chosen b.chosen in
-      let row = same_row n u b.valid entering' a.col b.col a.row b.row col_in b.col_in nonbasic b.entering_is chosen b.chosen in
-      let unfit : IsFirstUnfit (steps_of_pivot u b.row b.col) e = subst₂ (λ x y. IsFirstUnfit (steps_of_pivot u x y) e) row col (subst (λ x. IsFirstUnfit (steps_of_pivot x a.row a.col) e) s.0 a.unfit) in (
-        a.number ∙ ap (λ k. pivot_number (suc (suc k))) q ∙ sym b.number,
-        (s.1, unfit_once (steps_of_pivot u b.row b.col) e e' unfit b.unfit),
-      )
+      let col = same_column n u b.valid last.entering a.col b.col a.row b.row col_in b.col_in nonbasic b.entering_is chosen b.chosen in
+      let row = same_row n u b.valid last.entering a.col b.col a.row b.row col_in b.col_in nonbasic b.entering_is chosen b.chosen in
+      let here : IsFirstUnfit (steps_of_pivot u b.row b.col) stop.unfit = subst₂ (λ x y. IsFirstUnfit (steps_of_pivot u x y) stop.unfit) row col (subst (λ x. IsFirstUnfit (steps_of_pivot x a.row a.col) stop.unfit) s.0 a.unfit) in
+      let number : stop.number ≡ last.number = a.number ∙ ap (λ k. pivot_number (suc (suc k))) q ∙ sym b.number in
+      let entering : stop.entering ≡ last.entering = s.1 in
+      let unfit : stop.unfit ≡ last.unfit = unfit_once (steps_of_pivot u b.row b.col) stop.unfit last.unfit here b.unfit in
+      λ i. record { number = number i; entering = entering i; unfit = unfit i }
 
-  stops_same : (step entering : ℕ) (e : Unfit) (ss : List Numbers) (t : Numbers) (step' entering' : ℕ) (e' : Unfit) (us : List Numbers) (u : Numbers) → StopsAt m n r step entering e ss t → StopsAt m n r step' entering' e' us u → (step ≡ step') × ((entering ≡ entering') × (e ≡ e'))
-  stops_same step entering e ss t step' entering' e' us u a b = elim (cases_lt (length ss) (length us)) [
-    | inl l ↦ absurd (stop_ends step entering e ss t a (goes_on us u entering' (length ss) l b.path))
+  stops_same : (stop : UnfitPivot) (ss : List Numbers) (t : Numbers) (last : UnfitPivot) (us : List Numbers) (u : Numbers) → StopsAt m n r stop ss t → StopsAt m n r last us u → stop ≡ last
+  stops_same stop ss t last us u a b = elim (cases_lt (length ss) (length us)) [
+    | inl l ↦ absurd (stop_ends stop ss t a (goes_on us u last.entering (length ss) l b.path))
     | inr l ↦ elim (cases_lt (length us) (length ss)) [
-      | inl k ↦ absurd (stop_ends step' entering' e' us u b (goes_on ss t entering (length us) k a.path))
-      | inr k ↦ stops_here step entering e ss t step' entering' e' us u a b (omega (arith, l, k))
+      | inl k ↦ absurd (stop_ends last us u b (goes_on ss t stop.entering (length us) k a.path))
+      | inr k ↦ stops_here stop ss t last us u a b (omega (arith, l, k))
     ]
   ]
 
-  unfit_same : (step entering : ℕ) (e : Unfit) (step' entering' : ℕ) (e' : Unfit) → EndsUnfit m n r step entering e → EndsUnfit m n r step' entering' e' → (step ≡ step') × ((entering ≡ entering') × (e ≡ e'))
-  unfit_same step entering e step' entering' e' (inl a) (inl b) = (a.0 ∙ sym b.0, (a.1 ∙ sym b.1, unfit_once (steps_of_pivot m r n) e e' a.3 b.3))
-  unfit_same step entering e step' entering' e' (inl a) (inr b) = absurd (unfit_among (steps_of_pivot m r n) e a.3 (begins_fit b.0 b.1 entering' b.2.path))
-  unfit_same step entering e step' entering' e' (inr a) (inl b) = absurd (unfit_among (steps_of_pivot m r n) e' b.3 (begins_fit a.0 a.1 entering a.2.path))
-  unfit_same step entering e step' entering' e' (inr a) (inr b) = stops_same step entering e a.0 a.1 step' entering' e' b.0 b.1 a.2 b.2
+  unfit_same : (stop last : UnfitPivot) → EndsUnfit m n r stop → EndsUnfit m n r last → stop ≡ last
+  unfit_same stop last (inl a) (inl b) =
+      (let number : stop.number ≡ last.number = a.0 ∙ sym b.0 in
+      let entering : stop.entering ≡ last.entering = a.1 ∙ sym b.1 in
+      let unfit : stop.unfit ≡ last.unfit = unfit_once (steps_of_pivot m r n) stop.unfit last.unfit a.3 b.3 in
+      λ i. record { number = number i; entering = entering i; unfit = unfit i })
+  unfit_same stop last (inl a) (inr b) = absurd (unfit_among (steps_of_pivot m r n) stop.unfit a.3 (begins_fit b.0 b.1 last.entering b.2.path))
+  unfit_same stop last (inr a) (inl b) = absurd (unfit_among (steps_of_pivot m r n) last.unfit b.3 (begins_fit a.0 a.1 stop.entering a.2.path))
+  unfit_same stop last (inr a) (inr b) = stops_same stop a.0 a.1 last b.0 b.1 a.2 b.2
 
 -- a problem by its parts
 problem_same : (a b : Problem) → a.first ≡ b.first → a.second ≡ b.second → a.tableau ≡ b.tableau → a ≡ b
@@ -165,16 +169,15 @@ module _ (p : Problem) where
   row_once r s h k = least_once (size_of p) (tableau p.tableau).right s r k h
 
 pub ends_same : EndsAreSingle
-ends_same p (Solved a) (Solved b) h one other =
+ends_same p h (Ok a) (Ok b) one other =
     (let path : EndsSolved p.tableau (size_of p) one.row b.tableau = subst (λ r. EndsSolved p.tableau (size_of p) r b.tableau) (row_once p one.row other.row one.begins other.begins) other.path in
-    ap Solved (problem_same a b (one.first ∙ sym other.first) (one.second ∙ sym other.second) (solved_same p.tableau (size_of p) one.row a.tableau b.tableau one.path path)))
-ends_same p (Solved a) (Range step entering unfit) h one other =
-    (let path : EndsUnfit p.tableau (size_of p) one.row step entering unfit = subst (λ r. EndsUnfit p.tableau (size_of p) r step entering unfit) (row_once p one.row other.row one.begins other.begins) other.path in
-    absurd (not_both p.tableau (size_of p) one.row a.tableau step entering unfit one.path path))
-ends_same p (Range step entering unfit) (Solved b) h one other =
-    (let path : EndsUnfit p.tableau (size_of p) other.row step entering unfit = subst (λ r. EndsUnfit p.tableau (size_of p) r step entering unfit) (row_once p other.row one.row other.begins one.begins) one.path in
-    absurd (not_both p.tableau (size_of p) other.row b.tableau step entering unfit other.path path))
-ends_same p (Range step entering unfit) (Range step' entering' unfit') h one other =
-    (let path : EndsUnfit p.tableau (size_of p) one.row step' entering' unfit' = subst (λ r. EndsUnfit p.tableau (size_of p) r step' entering' unfit') (row_once p one.row other.row one.begins other.begins) other.path in
-    let s = unfit_same p.tableau (size_of p) one.row step entering unfit step' entering' unfit' one.path path in
-    λ i. Range (s.0 i) (s.1.0 i) (s.1.1 i))
+    ap Ok (problem_same a b (one.first ∙ sym other.first) (one.second ∙ sym other.second) (solved_same p.tableau (size_of p) one.row a.tableau b.tableau one.path path)))
+ends_same p h (Ok a) (Err stop) one other =
+    (let path : EndsUnfit p.tableau (size_of p) one.row stop = subst (λ r. EndsUnfit p.tableau (size_of p) r stop) (row_once p one.row other.row one.begins other.begins) other.path in
+    absurd (not_both p.tableau (size_of p) one.row a.tableau stop one.path path))
+ends_same p h (Err stop) (Ok b) one other =
+    (let path : EndsUnfit p.tableau (size_of p) other.row stop = subst (λ r. EndsUnfit p.tableau (size_of p) r stop) (row_once p other.row one.row other.begins one.begins) one.path in
+    absurd (not_both p.tableau (size_of p) other.row b.tableau stop other.path path))
+ends_same p h (Err stop) (Err last) one other =
+    (let path : EndsUnfit p.tableau (size_of p) one.row last = subst (λ r. EndsUnfit p.tableau (size_of p) r last) (row_once p one.row other.row one.begins other.begins) other.path in
+    ap Err (unfit_same p.tableau (size_of p) one.row stop last one.path path))

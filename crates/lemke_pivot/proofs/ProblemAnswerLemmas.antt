@@ -1,15 +1,17 @@
 -- A form has one problem, or one reason why it has none.
 use Rattle.std.proofs.Common.{◌≡◌, ◌∙◌, ◌<◌, sym}
-use Rattle.answers.specs.Answers.{◌>>◌, IsSingle, refuse_where}
+use Rattle.answers.specs.Answers.{◌>>◌, IsSingle, refused_by}
 use Rattle.answers.proofs.AnswerLemmas.{bind-single, refuse_where-single, refused_by-single}
 use Rattle.linear_systems.proofs.AgreementLemmas.{alike_sym, alike_trans}
 use Rattle.lex_tableau.specs.Starts.{Parts, system_of}
 use Rattle.lex_tableau.proofs.SystemLemmas.{systems_determined, start_for-single}
 use Rattle.frac128.proofs.FirstUnfitLemmas.{all_fit-single}
+use Rattle.game_core.specs.Limits.{most_rows, too_large, within}
+use Rattle.game_core.specs.declared.too_large.What.TheVariants as what
 use Rattle.sequence_forms.specs.Prices.{costs}
 use Rattle.sequence_data.specs.Data.{FormData, form, side_of}
 use Rattle.lemke_pivot.specs.declared.stop.LcpStop.TheVariants as stops
-use Rattle.lemke_pivot.specs.FormProblems.{IsSystemOf, ProblemsAreSingle, both_costs, costs_in, form_size, form_start, form_start_in, steps_at, told_cost, told_start, too_many_rows, with_start}
+use Rattle.lemke_pivot.specs.FormProblems.{IsSystemOf, ProblemsAreSingle, both_costs, costs_in, form_size, form_start, form_start_in, steps_at, told_cost, told_start, with_start}
 use Rattle.lemke_pivot.specs.Parts.{start_of}
 
 -- ---- the start
@@ -26,7 +28,7 @@ module _ (f : FormData) where
 pub problems_single : ProblemsAreSingle
 problems_single f =
     let numbers = costs_in f.greatest_one f.greatest_two f.cells in
-    let size = refuse_where (512 < form_size f) (stops.TooLarge (too_many_rows f)) in
-    bind-single size (λ _. numbers >> form_start_in f) (refuse_where-single (512 < form_size f) (stops.TooLarge (too_many_rows f)))
+    let size = refused_by stops.TooLarge (within what.Rows most_rows (form_size f)) in
+    bind-single size (λ _. numbers >> form_start_in f) (refused_by-single stops.TooLarge _ (refuse_where-single (most_rows < form_size f) (too_large what.Rows most_rows (form_size f))))
     (λ _ _. bind-single numbers (λ _. form_start_in f) (refused_by-single told_cost _ (all_fit-single (steps_at f.greatest_one f.greatest_two) (both_costs f.cells)))
     (λ _ _. refused_by-single told_start _ (form_start-single f)))

@@ -8,6 +8,7 @@ use Rattle.linear_systems.specs.Tableau.{Tableau}
 use Rattle.linear_systems.proofs.AgreementLemmas.{alike_distinct}
 use Rattle.lemke_pivot.specs.Problems.{costs_of, matrix, right_sides}
 use Rattle.lemke_pivot.proofs.KeyLemmas.{is_start}
+use Rattle.game_core.specs.Limits.{most_rows}
 use Rattle.lex_tableau.specs.Entries.{AreEntries, AreNumbered}
 use Rattle.lex_tableau.specs.Starts.{parts_of, system_of, IsSystem}
 use Rattle.lex_tableau.proofs.EntryLemmas.{cell_at, right_at}
@@ -22,7 +23,7 @@ numbered_small first count xs w h i = elim (cases_lt i count) [
   | inr l ↦ (let e = get_or_past xs i 0 (let c : length xs ≡ count = w.length_is in omega (arith, c, l)) in omega (arith, e, h))
 ]
 
-module _ (first second : SideData) (one two : ℕ → ℕ → ℚ) (n : ℕ) (basics nonbasics : List ℕ) (cells : List ℚ) (n_is : n ≡ problem_size (side_of first) (side_of second)) (few : n ≤ 512) (basics_are : AreNumbered 1 n basics) (nonbasics_are : AreNumbered (n + 1) (n + 1) nonbasics) (cells_are : AreEntries (start_of (side_of first) (side_of second) one two) (n + 2) (n * (n + 2)) cells) where
+module _ (first second : SideData) (one two : ℕ → ℕ → ℚ) (n : ℕ) (basics nonbasics : List ℕ) (cells : List ℚ) (n_is : n ≡ problem_size (side_of first) (side_of second)) (few : n ≤ most_rows) (basics_are : AreNumbered 1 n basics) (nonbasics_are : AreNumbered (n + 1) (n + 1) nonbasics) (cells_are : AreEntries (start_of (side_of first) (side_of second) one two) (n + 2) (n * (n + 2)) cells) where
   abbrev t : Tableau
   t = start_of (side_of first) (side_of second) one two
 

@@ -1,9 +1,8 @@
--- The ends of a path.
-use Rattle.std.specs.Prelude.{ℕ, ◌≡◌}
-use Rattle.frac128.specs.declared.steps.Unfit.{Unfit}
+-- The end of the path of a problem.
+use Rattle.std.specs.Prelude.{ℕ, ◌≡◌, Ok, Err}
+use Rattle.answers.specs.Answers.{Answer, IsSingle}
 use Rattle.lex_tableau.specs.Rows.{tableau}
-use Rattle.lemke_pivot.specs.declared.lcp.LemkeEnd.{LemkeEnd}
-use Rattle.lemke_pivot.specs.declared.lcp.LemkeEnd.TheVariants.{Solved, Range}
+use Rattle.lex_tableau.specs.declared.unfit_pivot.UnfitPivot.{UnfitPivot}
 use Rattle.lemke_pivot.specs.Parts.{Problem, IsLeastRow, IsProblem, size_of}
 use Rattle.lemke_pivot.specs.Paths.{EndsSolved, EndsUnfit}
 
@@ -19,20 +18,18 @@ pub record IsSolutionOf (p s : Problem) : Type 0 where
   pub begins : BeginsAt p row
   pub path : EndsSolved p.tableau (size_of p) row s.tableau
 
--- the first step of the path that does not fit: the number of its pivot, the entering variable, and
--- the step
-pub record IsUnfitPivot (p : Problem) (step entering : ℕ) (unfit : Unfit) : Type 0 where
+-- the first pivot of the path that has a step that does not fit
+pub record IsUnfitPivot (p : Problem) (stop : UnfitPivot) : Type 0 where
   pub row : ℕ
   pub begins : BeginsAt p row
-  pub path : EndsUnfit p.tableau (size_of p) row step entering unfit
+  pub path : EndsUnfit p.tableau (size_of p) row stop
 
--- the solution, where each step fits; and else the first step of the path that does not
-abbrev pub IsEndOf : Problem → LemkeEnd → Type 0
-IsEndOf p (Solved s) = IsSolutionOf p s
-IsEndOf p (Range step entering unfit) = IsUnfitPivot p step entering unfit
+-- the solution of a problem, where all steps of its path fit; or the first pivot with one that does
+-- not
+abbrev pub solved_in : Problem → Answer UnfitPivot Problem
+solved_in p (Ok s) = IsSolutionOf p s
+solved_in p (Err stop) = IsUnfitPivot p stop
 
 -- A problem's path has one end.
 abbrev pub EndsAreSingle : Type 0
-EndsAreSingle =
-    (p : Problem) (one other : LemkeEnd) → IsProblem p → IsEndOf p one → IsEndOf p other
-    → one ≡ other
+EndsAreSingle = (p : Problem) → IsProblem p → IsSingle (solved_in p)

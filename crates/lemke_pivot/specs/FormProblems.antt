@@ -1,6 +1,6 @@
 -- The problem of a sequence form in stages, and why there is none.
-use Rattle.std.specs.Prelude.{ℕ, ◌<◌, List, [], ◌∷◌, Ok}
-use Rattle.answers.specs.Answers.{Answer, ◌>>=◌, ◌>>◌, only, IsSingle, refuse_where, refused_by}
+use Rattle.std.specs.Prelude.{ℕ, List, [], ◌∷◌, Ok}
+use Rattle.answers.specs.Answers.{Answer, ◌>>=◌, ◌>>◌, only, IsSingle, refused_by}
 use Rattle.rational.specs.Rational.{ℚ, ◌-ℚ◌, ◌*ℚ◌}
 use Rattle.frac128.specs.Steps.{unfit, Step}
 use Rattle.frac128.specs.declared.steps.Op.TheVariants.{Sub, Mul}
@@ -9,7 +9,7 @@ use Rattle.lex_tableau.specs.Starts.{Parts}
 use Rattle.lex_tableau.specs.StartStops.{start_in}
 use Rattle.lex_tableau.specs.declared.tableau.StartStop.{StartStop}
 use Rattle.lex_tableau.specs.declared.tableau.StartStop.TheVariants as starts
-use Rattle.game_core.specs.declared.too_large.TooLarge.{TooLarge}
+use Rattle.game_core.specs.Limits.{most_rows, within}
 use Rattle.game_core.specs.declared.too_large.What.TheVariants as what
 use Rattle.frac128.specs.FirstUnfit.{all_fit}
 use Rattle.sequence_forms.specs.Prices.{costs}
@@ -21,11 +21,9 @@ use Rattle.lemke_pivot.specs.declared.stop.LcpStop.{LcpStop}
 use Rattle.lemke_pivot.specs.declared.stop.LcpStop.TheVariants as stops
 
 -- ---- the size
+-- the rows of a form's problem
 abbrev pub form_size : FormData → ℕ
 form_size f = problem_size (side_of f.first) (side_of f.second)
-
-abbrev pub too_many_rows : FormData → TooLarge
-too_many_rows f = record { what = what.Rows; count = form_size f; limit = 512 }
 
 -- ---- the costs
 -- the cost of a payoff: the greatest payoff times the weight, less the payoff; the product first
@@ -96,7 +94,7 @@ form_start_in f = refused_by told_start (form_start f)
 -- The problem of a sequence form within the limit, whose steps all fit; or why there is none.
 abbrev pub problem_in : FormData → Answer LcpStop Problem
 problem_in f =
-    refuse_where (512 < form_size f) (stops.TooLarge (too_many_rows f))
+    refused_by stops.TooLarge (within what.Rows most_rows (form_size f))
     >> (costs_in f.greatest_one f.greatest_two f.cells >> form_start_in f)
 
 -- A form has one problem, or one reason why it has none.

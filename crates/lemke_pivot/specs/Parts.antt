@@ -3,6 +3,7 @@ use Rattle.std.specs.Prelude.{ℕ, suc, ◌+◌, ◌<◌, ◌≤◌, ◌≡◌, 
 use Rattle.rational.specs.Rational.{ℚ, ◌≤ℚ◌, ◌<ℚ◌}
 use Rattle.linear_systems.specs.Tableau.{Tableau}
 use Rattle.linear_systems.specs.Rows.{basic_solution, Alike}
+use Rattle.game_core.specs.Limits.{most_rows}
 use Rattle.sequence_forms.specs.Forms.{SequenceForm}
 use Rattle.sequence_forms.specs.Prices.{costs}
 use Rattle.sequence_forms.specs.Sides.{Side, sequences}
@@ -65,11 +66,11 @@ pub record IsStartFor (first second : SideData) (n : Numbers) : Type 0 where
   pub rated : n.rated ≡ problem_size (side_of first) (side_of second)
   pub valid : IsTableau n
 
--- a problem: both players' sides, and the start; at most 512 rows
+-- a problem: both players' sides, and the start; its rows are within the limit
 pub record IsProblem (p : Problem) : Type 0 where
   pub first : IsSideData p.first
   pub second : IsSideData p.second
-  pub few : size_of p ≤ 512
+  pub few : size_of p ≤ most_rows
   pub start : IsStartFor p.first p.second p.tableau
 
 -- a problem is that of a sequence form with these greatest payoffs

@@ -3,7 +3,8 @@
 use Rattle.std.specs.Prelude.{ℕ, suc, ◌<◌, ◌≤◌, ◌≡◌, ◌≢◌, ◌⊎◌, List, [], ◌∷◌, length, get_or, All}
 use Rattle.rational.specs.Rational.{ℚ, zero_ℚ}
 use Rattle.linear_systems.specs.Rows.{basic_solution, IsLexicographicRow, Alike}
-use Rattle.frac128.specs.declared.steps.Unfit.{Unfit}
+use Rattle.game_core.specs.Limits.{most_rows}
+use Rattle.lex_tableau.specs.declared.unfit_pivot.UnfitPivot.{UnfitPivot}
 use Rattle.lex_tableau.specs.Rows.{Numbers, tableau, IsTableau, IsPivotOf}
 use Rattle.frac128.specs.Steps.{StepFits, IsFirstUnfit}
 use Rattle.lex_tableau.specs.Pivots.{pivot_number, steps_of_pivot}
@@ -39,30 +40,31 @@ EndsSolved m n r t =
     (earlier : List Numbers) × (c : ℕ) × ExactPathTo m n r earlier t c
     × (basic_solution (tableau t) (z0_of n) ≡ zero_ℚ) × IsTableau t
 
--- the path has come to t, where the next pivot has a step that does not fit, and e is the first
-pub record StopsAt (m : Numbers) (n r step entering : ℕ) (e : Unfit)
+-- the path has come to t, where the next pivot has a step that does not fit
+pub record StopsAt (m : Numbers) (n r : ℕ) (stop : UnfitPivot)
     (earlier : List Numbers) (t : Numbers) : Type 0 where
-  pub path : ExactPathTo m n r earlier t entering
+  pub path : ExactPathTo m n r earlier t stop.entering
   pub goes_on : basic_solution (tableau t) (z0_of n) ≢ zero_ℚ
   pub valid : IsTableau t
   pub col : ℕ
   pub row : ℕ
   pub col_in : col < (tableau t).width
-  pub entering_is : (tableau t).nonbasic col ≡ entering
+  pub entering_is : (tableau t).nonbasic col ≡ stop.entering
   pub chosen : IsLexicographicRow n n w_of (tableau t) col row
-  pub unfit : IsFirstUnfit (steps_of_pivot t row col) e
-  pub number : step ≡ pivot_number (suc (suc (length earlier)))
+  pub unfit : IsFirstUnfit (steps_of_pivot t row col) stop.unfit
+  pub number : stop.number ≡ pivot_number (suc (suc (length earlier)))
 
 -- A step that does not fit ends the path: in the first pivot, by which z0 enters, or in a later
 -- one. Pivots count from 1.
-abbrev pub EndsUnfit : Numbers → ℕ → ℕ → ℕ → ℕ → Unfit → Type 0
-EndsUnfit m n r step entering e =
-    ((step ≡ 1) × (entering ≡ z0_of n) × IsTableau m × IsFirstUnfit (steps_of_pivot m r n) e)
-    ⊎ ((earlier : List Numbers) × (t : Numbers) × StopsAt m n r step entering e earlier t)
+abbrev pub EndsUnfit : Numbers → ℕ → ℕ → UnfitPivot → Type 0
+EndsUnfit m n r stop =
+    ((stop.number ≡ 1) × (stop.entering ≡ z0_of n) × IsTableau m
+    × IsFirstUnfit (steps_of_pivot m r n) stop.unfit)
+    ⊎ ((earlier : List Numbers) × (t : Numbers) × StopsAt m n r stop earlier t)
 
 -- m is the start of a copositive problem with n rows, and z0 enters at row r
 pub record IsPathStart (n r : ℕ) (m : Numbers) : Type 0 where
-  pub few : n ≤ 512
+  pub few : n ≤ most_rows
   pub matrix : ℕ → ℕ → ℚ
   pub right : ℕ → ℚ
   pub alike : Alike (start n matrix right) (tableau m)

@@ -1,6 +1,7 @@
 // The problem of a sequence form.
 ghost use Rattle.std.specs.Prelude.{◌≡◌, ◌≤◌, map, IfOk};
 ghost use Rattle.answers.specs.Answers.{Gives};
+ghost use Rattle.game_core.specs.Limits.{most_rows};
 ghost use Rattle.lemke_pivot.specs.declared.stop.LcpStop.TheVariants as stops;
 ghost use Rattle.lemke_pivot.specs.FormProblems.{IsSystemOf, cost_one, cost_two, form_size, problem_in, form_start_in};
 
@@ -9,13 +10,10 @@ use crate::lcp::{Lcp, row_count};
 use crate::stop::LcpStop;
 use crate::system::system;
 use frac128::{Frac, Memory};
-use game_core::{TooLarge, What};
+use game_core::{MOST_ROWS, TooLarge, What};
 use lex_tableau::{StartStop, System};
 use sequence_data::{SeqForm, SetRow, Side, dense};
 use std::alloc::Global;
-
-// The most rows.
-const LIMIT: u64 = 512;
 
 // A copy of a side.
 fn copied(alloc: Global, side: &Side) -> Result<Side, Memory>
@@ -36,7 +34,7 @@ fn system_of_form(
     one: &[Frac],
     two: &[Frac],
 ) -> Result<System, Memory>
-    requires few { form_size form.now ≤ 512 }
+    requires few { form_size form.now ≤ most_rows }
     requires one { one.now ≡ map (cost_one form.now.greatest_one) form.now.cells }
     requires two { two.now ≡ map (cost_two form.now.greatest_two) form.now.cells }
     ensures { IfOk result (IsSystemOf form.now) }
@@ -50,7 +48,7 @@ fn system_of_form(
 
 // The problem of a form with its system, and the room of its path.
 fn started(alloc: Global, form: &SeqForm, system: &System) -> Result<Lcp, LcpStop>
-    requires few { form_size form.now ≤ 512 }
+    requires few { form_size form.now ≤ most_rows }
     requires system { IsSystemOf form.now system.now }
     ensures { Gives stops.Memory (form_start_in form.now) result }
 {
@@ -74,11 +72,11 @@ pub fn problem(alloc: Global, form: &SeqForm) -> Result<Lcp, LcpStop>
     ensures { Gives stops.Memory (problem_in form.now) result }
 {
     let count = row_count(form.first(), form.second());
-    if count > LIMIT {
+    if count > MOST_ROWS {
         return Err(LcpStop::TooLarge(TooLarge {
             what: What::Rows,
             count,
-            limit: LIMIT,
+            limit: MOST_ROWS,
         }));
     }
     let costs = costs(

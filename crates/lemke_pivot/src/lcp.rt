@@ -1,16 +1,18 @@
 // The problem and its path.
-ghost use Rattle.std.specs.Prelude.{◌≡◌, ◌+◌, ◌<◌, ◌≤◌, ◌^◌, length, true, false, IfOk, IfErr, OnOk};
+ghost use Rattle.std.specs.Prelude.{◌≡◌, ◌+◌, ◌<◌, ◌≤◌, ◌^◌, length, true, false, IfOk};
+ghost use Rattle.answers.specs.Answers.{Gives, map_ok};
 ghost use Rattle.sequence_data.specs.Data.{IsSideData, side_of};
 ghost use Rattle.sequence_forms.specs.Sides.{sequences};
+ghost use Rattle.game_core.specs.Limits.{most_rows};
 ghost use Rattle.lex_tableau.specs.Rows.{IsTableau, tableau};
-ghost use Rattle.lex_tableau.specs.Starts.{IsStartOf, StartFits};
-ghost use Rattle.lex_tableau.specs.StartStops.{IsStartStop};
-ghost use Rattle.lemke_pivot.specs.Ends.{IsEndOf};
+ghost use Rattle.lex_tableau.specs.StartStops.{start_in};
+ghost use Rattle.lex_tableau.specs.declared.tableau.StartStop.TheVariants as start_stops;
+ghost use Rattle.lemke_pivot.specs.Ends.{solved_in};
 ghost use Rattle.lemke_pivot.specs.Parts.{IsLeastRow, IsProblemSystem, plan_one, plan_two, problem_size};
 
 use crate::path::walk;
-use frac128::{Frac, Unfit};
-use lex_tableau::{PivotCount, StartStop, System, Tableau, Work};
+use frac128::Frac;
+use lex_tableau::{PivotCount, StartStop, System, Tableau, UnfitPivot, Work};
 use sequence_data::Side;
 use std::alloc::Global;
 use std::marker::Model;
@@ -51,6 +53,7 @@ pub struct Solution {
 
 impl Model for Solution {
     ghost use Rattle.std.specs.Prelude.{◌≡◌, ◌≤◌};
+    ghost use Rattle.game_core.specs.Limits.{most_rows};
     ghost use Rattle.sequence_data.specs.Data.{IsSideData, side_of};
     ghost use Rattle.lemke_pivot.specs.Parts.{Problem, problem_size};
 
@@ -59,21 +62,8 @@ impl Model for Solution {
     ghost view = { λ s. record { first = s.first; second = s.second; tableau = s.work } };
 
     ghost invariant = { λ s.
-        IsSideData s.first × IsSideData s.second × (s.size ≤ 512)
+        IsSideData s.first × IsSideData s.second × (s.size ≤ most_rows)
         × (s.size ≡ problem_size (side_of s.first) (side_of s.second)) };
-}
-
-/// The end of the path: the solution, or the first step that does not fit, with the number of its
-/// pivot, counted from 1, and the entering variable. The number 2^64 - 1 also stands for every
-/// later pivot.
-#[derive(Debug, Drop)]
-pub enum LemkeEnd {
-    Solved(Solution),
-    Range {
-        step: u64,
-        entering: u32,
-        unfit: Unfit,
-    },
 }
 
 // The last of the rows with the least right side.
@@ -120,14 +110,12 @@ impl Lcp {
     ) -> Result<Lcp, StartStop>
         requires first_side { IsSideData first }
         requires second_side { IsSideData second }
-        requires few { problem_size (side_of first) (side_of second) ≤ 512 }
+        requires few { problem_size (side_of first) (side_of second) ≤ most_rows }
         requires problem { IsProblemSystem first second system.now }
         ensures first { IfOk result (λ lcp. lcp.first ≡ first) }
         ensures second { IfOk result (λ lcp. lcp.second ≡ second) }
-        ensures start { IfOk result (λ lcp. IsStartOf system.now lcp.tableau) }
-        ensures valid { IfOk result (λ lcp. IsTableau lcp.tableau) }
-        ensures fits { OnOk result (StartFits system.now) }
-        ensures unfit { IfErr result (IsStartStop system.now) }
+        ensures start { Gives start_stops.Memory (start_in system.now)
+            (map_ok result (λ lcp. lcp.tableau)) }
     {
         match Work::new(alloc, system) {
             Ok(work) => {
@@ -143,9 +131,13 @@ impl Lcp {
         }
     }
 
-    /// Follows the path to its end. Takes no memory. There is never a ray.
-    pub fn solve<L: Ledger>(self, pivots: &mut PivotCount<L>) -> LemkeEnd
-        ensures { IsEndOf self result }
+    /// Follows the path to the solution. Takes no memory. There is never a ray.
+    ///
+    /// # Errors
+    ///
+    /// The first pivot of the path that has a step that does not fit.
+    pub fn solve<L: Ledger>(self, pivots: &mut PivotCount<L>) -> Result<Solution, UnfitPivot>
+        ensures { solved_in self result }
     {
         let Lcp {
             first,
@@ -155,17 +147,13 @@ impl Lcp {
         } = self;
         let row = least_row(work.now(), size);
         match walk(&mut work, size, row, pivots) {
-            Ok(()) => LemkeEnd::Solved(Solution {
+            Ok(()) => Ok(Solution {
                 first,
                 second,
                 size,
                 work,
             }),
-            Err(stop) => LemkeEnd::Range {
-                step: stop.step,
-                entering: stop.entering,
-                unfit: stop.unfit,
-            },
+            Err(stop) => Err(stop),
         }
     }
 }

@@ -3,7 +3,7 @@
 //! Callers may rely on: `problem` and `Lcp::solve` give the one problem and the one end of its
 //! path: a solution or the first step that does not fit, and no ray; `solutions_solve_trees`.
 //! Definitions: `specs::Problems` has problems w = b + M z and that of two sides, `ProblemPaths`
-//! the path of complementary pivots, `FormProblems` what a form answers, `Ends` the ends of a path;
+//! the path of complementary pivots, `FormProblems` what a form answers, `Ends` the end of a path;
 //! `Systems`, `Vectors` and `Values` have the rows of a problem and what a tableau gives.
 //! Private words: `specs::Walks` and `Bases`.
 //! Lemmas for callers: `proofs::ProblemAnswerLemmas` and `PathEndLemmas`, that each is one;
@@ -27,7 +27,7 @@ pub use laws::{
     ends_are_single, problems_are_of_forms, problems_are_single, solutions_solve_tables,
     solutions_solve_the_form, solutions_solve_trees,
 };
-pub use lcp::{Lcp, LemkeEnd, Solution};
+pub use lcp::{Lcp, Solution};
 pub use stop::LcpStop;
 
 /// No basis of the path occurs twice.

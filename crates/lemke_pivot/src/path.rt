@@ -1,25 +1,16 @@
 // The path over a tableau that is pivoted in place.
-ghost use Rattle.std.specs.Prelude.{◌≡◌, ◌≢◌, ◌+◌, ◌<◌, ◌≤◌, suc, length, IfErr, OnOk};
+ghost use Rattle.std.specs.Prelude.{◌≡◌, ◌≢◌, ◌+◌, ◌<◌, ◌≤◌, length, IfErr, OnOk};
+ghost use Rattle.game_core.specs.Limits.{most_rows};
 ghost use Rattle.lex_tableau.specs.Rows.{tableau};
 ghost use Rattle.lemke_pivot.specs.ProblemPaths.{complement};
-ghost use Rattle.lex_tableau.specs.Pivots.{pivot_number};
 ghost use Rattle.lemke_pivot.specs.Paths.{EndsSolved, EndsUnfit, IsPathStart, IsNonbasic};
 
-use frac128::Unfit;
-use lex_tableau::{PivotCount, Tableau, Work};
+use lex_tableau::{PivotCount, Tableau, UnfitPivot, Work};
 use std::sync::ledger::Ledger;
-
-/// The pivot with the first step that does not fit, and the variable that was to enter.
-#[derive(Debug, Drop)]
-pub(crate) struct PathStop {
-    pub(crate) step: u64,
-    pub(crate) entering: u32,
-    pub(crate) unfit: Unfit,
-}
 
 // The complement of a variable.
 fn complement_of(size: usize, variable: u32) -> u32
-    requires few { size ≤ 512 }
+    requires few { size ≤ most_rows }
     requires positive { 0 < variable }
     ensures { result ≡ complement size variable }
 {
@@ -31,13 +22,6 @@ fn complement_of(size: usize, variable: u32) -> u32
     } else {
         variable
     }
-}
-
-// The number of the next pivot.
-fn next_step(step: u64) -> u64
-    ensures { result ≡ pivot_number (suc step) }
-{
-    if step < u64::MAX { step + 1 } else { step }
 }
 
 // The column of a nonbasic variable.
@@ -59,22 +43,21 @@ fn column_of(table: &Tableau, columns: usize, variable: u32) -> usize
 ///
 /// # Errors
 ///
-/// The first step that does not fit.
+/// The first pivot that has a step that does not fit.
 pub(crate) fn walk<L: Ledger>(
     work: &mut Work,
     size: usize,
     first: usize,
     pivots: &mut PivotCount<L>,
-) -> Result<(), PathStop>
+) -> Result<(), UnfitPivot>
     requires start { IsPathStart size first work.old }
     ensures solved { OnOk result (EndsSolved work.old size first work.new) }
-    ensures unfit { IfErr result (λ stop.
-        EndsUnfit work.old size first stop.step stop.entering stop.unfit) }
+    ensures unfit { IfErr result (EndsUnfit work.old size first) }
 {
     let z0 = (size + size + 1) as u32;
     if let Err(unfit) = work.pivot(first, size, pivots) {
-        return Err(PathStop {
-            step: 1,
+        return Err(UnfitPivot {
+            number: 1,
             entering: z0,
             unfit,
         });
@@ -90,10 +73,10 @@ pub(crate) fn walk<L: Ledger>(
             unreachable!()
         };
         let leaving = work.now().basic(row);
-        step = next_step(step);
+        step = step.saturating_add(1);
         if let Err(unfit) = work.pivot(row, col, pivots) {
-            return Err(PathStop {
-                step,
+            return Err(UnfitPivot {
+                number: step,
                 entering,
                 unfit,
             });

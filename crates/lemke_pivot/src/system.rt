@@ -2,6 +2,7 @@
 ghost use Rattle.std.specs.Prelude.{◌≡◌, ◌+◌, ◌*◌, ◌<◌, ◌≤◌, length, IfOk};
 ghost use Rattle.sequence_data.specs.Data.{IsSideData, side_of};
 ghost use Rattle.sequence_forms.specs.Sides.{sequences};
+ghost use Rattle.game_core.specs.Limits.{most_rows};
 ghost use Rattle.lex_tableau.specs.Entries.{AreEntries, entry_of};
 ghost use Rattle.lemke_pivot.specs.Parts.{problem_size};
 ghost use Rattle.lemke_pivot.specs.Systems.{IsSystemFor, cost_count, listed_start, number_of};
@@ -54,7 +55,7 @@ fn entries(
     requires costs_one { length one.now ≡ cost_count first.now second.now }
     requires costs_two { length two.now ≡ cost_count first.now second.now }
     requires size { size ≡ problem_size (side_of first.now) (side_of second.now) }
-    requires few { size ≤ 512 }
+    requires few { size ≤ most_rows }
     ensures { IfOk result (λ cells. AreEntries (listed_start first.now second.now one.now two.now)
         (size + 2) (size * (size + 2)) cells.items) }
 {
@@ -79,7 +80,7 @@ pub(crate) fn system(
     requires second_side { IsSideData second.now }
     requires costs_one { length one.now ≡ cost_count first.now second.now }
     requires costs_two { length two.now ≡ cost_count first.now second.now }
-    requires few { problem_size (side_of first.now) (side_of second.now) ≤ 512 }
+    requires few { problem_size (side_of first.now) (side_of second.now) ≤ most_rows }
     ensures { IfOk result (IsSystemFor first.now second.now
         (number_of one.now (sequences (side_of second.now)))
         (number_of two.now (sequences (side_of second.now)))) }

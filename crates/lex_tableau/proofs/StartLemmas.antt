@@ -1,12 +1,17 @@
 -- The start of a system
-use Rattle.std.proofs.Common.{ℕ, ℤ, ◌≡◌, ◌<◌, ◌^◌, ◌+◌, ◌*◌, refl, sym, ap, ap₂, ◌∙◌, subst, List, ◌++◌, arith, length, take}
+use Rattle.std.proofs.Common.{ℕ, ℤ, inl, inr, Result, Ok, Err, ◌≡◌, ◌<◌, ◌^◌, ◌+◌, ◌*◌, refl, sym, ap, ap₂, ◌∙◌, subst, List, ◌++◌, arith, length, take}
+use Rattle.answers.specs.Answers.{Gives}
+use Rattle.rational.specs.Rational.{ℚ}
+use Rattle.frac128.specs.Steps.{Step}
 use Rattle.linear_systems.specs.Rows.{Alike}
 use Rattle.linear_systems.specs.Reached.{IsStart}
 use Rattle.linear_systems.proofs.ReachedTableauLemmas.{reached_start, reached_alike}
 use Rattle.whole_rows.specs.Rows.{fraction, from_place, IsRow}
 use Rattle.lex_tableau.specs.Rows.{Numbers, tableau, IsTableau}
 use Rattle.lex_tableau.specs.Starts.{Parts, system_of, IsSystem, IsStartOf}
-use Rattle.whole_rows.specs.StartRows.{cells_from, IsStartRow}
+use Rattle.whole_rows.specs.StartRows.{cells_from, start_rows_fit, IsStartRow}
+use Rattle.lex_tableau.specs.StartStops.{rows_in, start_in}
+use Rattle.lex_tableau.specs.declared.tableau.StartStop.TheVariants.{Unfit, Memory}
 use Rattle.std.proofs.Math.Seq.{take-append_seam}
 
 -- ---- the whole start
@@ -54,3 +59,16 @@ start_shape n rows w r k e f g = e ∙ ap₂ (λ a b. a * b) f (two w k g)
 
 pub take_all : (xs ys : List ℤ) (n : ℕ) → length xs ≡ n → take n (xs ++ ys) ≡ xs
 take_all xs ys n e = ap (λ n. take n (xs ++ ys)) (sym e) ∙ take-append_seam xs ys
+
+-- ---- the stages
+-- the rows are those of the system
+pub rows_read : (s : Parts) (rows count : ℕ) (cells : List ℚ) (answer : Result (Unit {0}) (ℕ × Step)) → rows ≡ length s.basics → count ≡ length s.nonbasics → cells ≡ s.cells → start_rows_fit rows (count + 1) cells answer → start_rows_fit (length s.basics) (length s.nonbasics + 1) s.cells answer
+rows_read s rows count cells answer e f g h =
+    subst (λ r. start_rows_fit r (length s.nonbasics + 1) s.cells answer) e
+    (subst (λ n. start_rows_fit rows (n + 1) s.cells answer) f (subst (λ xs. start_rows_fit rows (count + 1) xs answer) g h))
+
+pub start_given : (s t : Parts) (n : Numbers) → s ≡ t → start_rows_fit (length s.basics) (length s.nonbasics + 1) s.cells (Ok tt) → IsStartOf s n → IsTableau n → start_in t (Ok n)
+start_given s t n e h start valid = subst (λ t. start_in t (Ok n)) e (tt, h, record { start = start; valid = valid })
+
+pub start_stopped : (s t : Parts) (row : ℕ) (step : Step) → s ≡ t → start_rows_fit (length s.basics) (length s.nonbasics + 1) s.cells (Err (row, step)) → Gives Memory (start_in t) (Err (Unfit row step))
+start_stopped s t row step e h = inr (inl (subst (λ t. rows_in t (Err (Unfit row step))) e ((row, step), h, refl)))

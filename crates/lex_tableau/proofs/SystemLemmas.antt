@@ -1,18 +1,19 @@
 -- A system is determined by its fractions, and has one start.
-use Rattle.std.proofs.Common.{ℕ, Ok, Err, ◌≡◌, ◌<◌, ◌+◌, ◌*◌, ◌/◌, ◌%◌, inl, inr, ◌≤◌, length, get_or, sym, ap, ap₂, ◌∙◌, subst, arith, div-add-mod', eq-or-lt_of_le}
+use Rattle.std.proofs.Common.{ℕ, Err, ◌≡◌, ◌<◌, ◌+◌, ◌*◌, ◌/◌, ◌%◌, inl, inr, ◌≤◌, length, get_or, sym, ap, ap₂, ◌∙◌, subst, arith, div-add-mod', eq-or-lt_of_le}
+use Rattle.std.specs.List.{range_with_len}
 use Rattle.std.proofs.lemmas.Grind.{same_number_lists}
 use Rattle.std.proofs.lemmas.List.{ext_get_or}
 use native.Mathlib.Nat.{div-lt_iff_lt-mul, mod-lt}
-use Rattle.answers.specs.Answers.{◌>>=◌, only, IsSingle}
-use Rattle.answers.proofs.AnswerLemmas.{bind-single, only-single}
+use Rattle.answers.specs.Answers.{◌>>=◌, only, such_that, IsSingle}
+use Rattle.answers.proofs.AnswerLemmas.{bind-single, only-single, refused_by-single, such_that-single}
 use Rattle.rational.specs.Rational.{zero_ℚ}
 use Rattle.linear_systems.specs.Rows.{Alike}
 use Rattle.lex_tableau.specs.Rows.{Numbers, tableau, IsTableau}
-use Rattle.lex_tableau.specs.Starts.{Parts, system_of, IsSystem, IsStartOf, cells_from}
-use Rattle.lex_tableau.specs.StartStops.{start_in}
+use Rattle.lex_tableau.specs.Starts.{Parts, system_of, IsSystem, IsStartOf, cells_from, start_steps, start_rows_fit}
+use Rattle.lex_tableau.specs.StartStops.{rows_in, start_in, IsStarted}
 use Rattle.lex_tableau.specs.declared.tableau.StartStop.{StartStop}
 use Rattle.lex_tableau.specs.declared.tableau.StartStop.TheVariants.{Unfit, Memory}
-use Rattle.whole_rows.proofs.FirstUnfitLemmas.{no_unfit_row, one_unfit_row}
+use Rattle.frac128.proofs.FirstUnfitLemmas.{all_fit-single}
 use Rattle.lex_tableau.proofs.TableauLemmas.{alike_both, determined}
 
 parts_same : (a b : Parts) → a.basics ≡ b.basics → a.nonbasics ≡ b.nonbasics → a.cells ≡ b.cells → a.rated ≡ b.rated → a ≡ b
@@ -56,13 +57,15 @@ starts_same s m n hm hn p q =
 
 -- a system has one start, or one step that is the first that does not fit
 pub start_in-single : (s : Parts) → IsSingle (start_in s)
-start_in-single s (Ok m) (Ok n) h g = ap Ok (starts_same s m n h.valid g.valid h.start g.start)
-start_in-single s (Ok n) (Err (Unfit row unfit)) h g = absurd (no_unfit_row _ _ s.cells row unfit h.fits g)
-start_in-single s (Err (Unfit row unfit)) (Ok n) h g = absurd (no_unfit_row _ _ s.cells row unfit g.fits h)
-start_in-single s (Err (Unfit row unfit)) (Err (Unfit other next)) h g =
-    (let same = one_unfit_row _ _ s.cells row other unfit next h g in λ i. Err (Unfit (same.0 i) (same.1 i)))
-start_in-single s (Err Memory) other h g = absurd h
-start_in-single s one (Err Memory) h g = absurd g
+start_in-single s =
+    bind-single (rows_in s) (λ _. such_that (IsStarted s))
+    (refused_by-single (λ stop. Unfit stop.0 stop.1) (start_rows_fit (length s.basics) (length s.nonbasics + 1) s.cells) (all_fit-single (start_steps (length s.nonbasics + 1) s.cells) (range_with_len 0 (length s.basics))))
+    (λ _ _. such_that-single (IsStarted s) (λ m n h g. starts_same s m n h.valid g.valid h.start g.start))
+
+-- want of memory is no reason why a system has no start
+pub start_not_memory : (s : Parts) → start_in s (Err Memory) → ⊥
+start_not_memory s (inl (_, _, e)) = cc
+start_not_memory s (inr (_, _, h)) = h
 
 -- the start of the one system for which a condition holds, as the value that it stands for
 pub start_for-single : {Y : Type 0} (P : Parts → Type 0) (view : Numbers → Y) → ((s t : Parts) → P s → P t → s ≡ t) → IsSingle {E = StartStop} {Y = Y} (λ answer. (s : Parts) × (P s × (start_in s >>= (λ n. only (view n))) answer))

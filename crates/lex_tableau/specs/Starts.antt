@@ -5,7 +5,7 @@ use Rattle.rational.specs.Rational.{ℚ}
 use Rattle.rational.proofs.CodeLemmas.{code_ℚ}
 use Rattle.linear_systems.specs.Tableau.{Tableau}
 use Rattle.linear_systems.specs.Rows.{HasDistinctVariables, Alike}
-pub use Rattle.whole_rows.specs.StartRows.{cells_from, start_row_steps, RowsFit, IsFirstUnfitRow}
+pub use Rattle.whole_rows.specs.StartRows.{cells_from, start_steps, start_rows_fit}
 use Rattle.lex_tableau.specs.Rows.{Numbers, tableau}
 
 -- what contracts see of a system: its variables, its cells row by row with the right side last in
@@ -56,7 +56,3 @@ pub record IsStartOf (s : Parts) (n : Numbers) : Type 0 where
   pub fractions : Alike (system_of s) (tableau n)
   pub starts : n.starts ≡ s.basics
   pub rated : n.rated ≡ s.rated
-
--- all steps of the start fit
-abbrev pub StartFits : Parts → Type 0
-StartFits s = RowsFit (length s.basics) (length s.nonbasics + 1) s.cells

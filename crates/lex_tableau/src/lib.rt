@@ -16,11 +16,13 @@ mod pivot_count;
 mod ratio;
 mod system;
 mod tableau;
+mod unfit_pivot;
 mod work;
 
 pub use pivot_count::PivotCount;
 pub use system::{System, numbered};
 pub use tableau::{PivotStop, StartStop, Tableau};
+pub use unfit_pivot::UnfitPivot;
 pub use work::Work;
 
 /// The whole numbers of a tableau are determined by its fractions.

@@ -1,13 +1,14 @@
 // Tableaux of whole numbers.
 ghost use Rattle.std.specs.Prelude.{◌≡◌, ◌≢◌, ◌+◌, ◌<◌, ◌<ℤ◌, pos, length, IfOk, IfErr, OnOk, All};
+ghost use Rattle.answers.specs.Answers.{Gives};
 ghost use Rattle.rational.specs.Rational.{zero_ℚ};
 ghost use Rattle.linear_systems.specs.Rows.{basic_solution};
 ghost use Rattle.lex_tableau.specs.PivotStops.{IsPivotStop};
 ghost use Rattle.lex_tableau.specs.Pivots.{HasOtherRows, HasPivotRow, steps_of_pivot};
 ghost use Rattle.lex_tableau.specs.Ratio.{IsRatioRow, KeepsPositiveKeys};
 ghost use Rattle.lex_tableau.specs.Rows.{HasSolutionsOf, IsPivotOf, IsTableau, tableau, with_variables_exchanged};
-ghost use Rattle.lex_tableau.specs.StartStops.{IsStartStop};
-ghost use Rattle.lex_tableau.specs.Starts.{IsStartOf, StartFits};
+ghost use Rattle.lex_tableau.specs.StartStops.{start_in};
+ghost use Rattle.lex_tableau.specs.declared.tableau.StartStop.TheVariants as start_stops;
 ghost use Rattle.whole_rows.specs.Lists.{AllPartsFit};
 ghost use Rattle.whole_rows.specs.Rows.{fraction as fraction_of, from_place};
 ghost use Rattle.frac128.specs.Steps.{StepFits, IsFirstUnfit};
@@ -177,10 +178,7 @@ impl Tableau {
     ///
     /// The first step that does not fit, with its row; or no memory.
     pub fn start(alloc: Global, system: &System) -> Result<Tableau, StartStop>
-        ensures start { IfOk result (IsStartOf system.now) }
-        ensures valid { IfOk result IsTableau }
-        ensures fits { OnOk result (StartFits system.now) }
-        ensures unfit { IfErr result (IsStartStop system.now) }
+        ensures { Gives start_stops.Memory (start_in system.now) result }
     {
         let rows = system.basics.len();
         let count = system.nonbasics.len() + 1;

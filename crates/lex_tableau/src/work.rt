@@ -1,11 +1,12 @@
 // A tableau that is pivoted in place.
-ghost use Rattle.std.specs.Prelude.{◌≡◌, ◌≢◌, ◌+◌, ◌<◌, length, IfOk, IfErr, OnOk, OnErr, All};
+ghost use Rattle.std.specs.Prelude.{◌≡◌, ◌≢◌, ◌+◌, ◌<◌, length, IfErr, OnOk, OnErr, All};
+ghost use Rattle.answers.specs.Answers.{Gives};
 ghost use Rattle.rational.specs.Rational.{zero_ℚ};
 ghost use Rattle.lex_tableau.specs.Pivots.{steps_of_pivot};
 ghost use Rattle.lex_tableau.specs.Ratio.{KeepsPositiveKeys};
 ghost use Rattle.lex_tableau.specs.Rows.{HasSolutionsOf, IsPivotOf, IsTableau, tableau};
-ghost use Rattle.lex_tableau.specs.StartStops.{IsStartStop};
-ghost use Rattle.lex_tableau.specs.Starts.{IsStartOf, StartFits};
+ghost use Rattle.lex_tableau.specs.StartStops.{start_in};
+ghost use Rattle.lex_tableau.specs.declared.tableau.StartStop.TheVariants as start_stops;
 ghost use Rattle.frac128.specs.Steps.{StepFits, IsFirstUnfit};
 
 use crate::pivot_count::PivotCount;
@@ -42,10 +43,7 @@ impl Work {
     ///
     /// Those of `Tableau::start`.
     pub fn new(alloc: Global, system: &System) -> Result<Work, StartStop>
-        ensures start { IfOk result (IsStartOf system.now) }
-        ensures valid { IfOk result IsTableau }
-        ensures fits { OnOk result (StartFits system.now) }
-        ensures unfit { IfErr result (IsStartStop system.now) }
+        ensures { Gives start_stops.Memory (start_in system.now) result }
     {
         let tableau = Tableau::start(alloc, system)?;
         let spare = tableau.room(alloc)?;

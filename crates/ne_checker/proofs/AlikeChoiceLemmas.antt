@@ -4,6 +4,7 @@ use Rattle.std.specs.Prelude.{◌&&◌, if◌then◌else◌, nat_lt, reverse}
 use Rattle.std.specs.List.{flat_map, range_with_len}
 use Rattle.std.proofs.lemmas.List.Elements.{All-filter, filter_passes}
 use Rattle.std.proofs.lemmas.List.FromFn.{length-range_with_len, get_or-range_with_len}
+use Rattle.lists.proofs.ElementLemmas.{made-next}
 use Rattle.rational.specs.Rational.{ℚ, ◌*ℚ◌}
 use Rattle.rational.specs.Sum.{sum_to}
 use Rattle.rational.proofs.SumLemmas.{sum_to-same}
@@ -23,7 +24,6 @@ use Rattle.pure_payoffs.specs.Steps.{chance_steps}
 use Rattle.ne_checker.specs.TreeSteps.{sum_steps, child_value, after_steps, after_sum, reply_steps_to, reply_steps, members, member_child, action_steps, decision_steps, player_steps, now_node_steps, now_steps_to, has_factor, weight_step, weight_steps}
 use Rattle.ne_checker.proofs.AlikeBehaviourLemmas.{AreAlike, branch-alike, probability-alike, reply_value-alike, value-alike, weight-alike}
 use Rattle.ne_checker.proofs.TreeOwnSetLemmas.{turned}
-use Rattle.ne_checker.proofs.TreePartLemmas.{parts-suc}
 
 -- ---- lists of steps
 -- sums of the same numbers
@@ -52,7 +52,7 @@ chances-alike (suc n) p q v u f g d e h =
 -- parts of the numbers from 0 on
 parts-alike : (n : ℕ) (f g : ℕ → List Step) → ((a : ℕ) → a < n → f a ≡ g a) → flat_map f (range_with_len 0 n) ≡ flat_map g (range_with_len 0 n)
 parts-alike zero f g h = refl
-parts-alike (suc n) f g h = parts-suc f n ∙ ap₂ (λ x y. x ++ y) (parts-alike n f g (λ a l. h a (omega arith))) (h n (omega arith)) ∙ sym (parts-suc g n)
+parts-alike (suc n) f g h = made-next f n ∙ ap₂ (λ x y. x ++ y) (parts-alike n f g (λ a l. h a (omega arith))) (h n (omega arith)) ∙ sym (made-next g n)
 
 -- parts of a list from its last element on
 turned-alike : (xs : List ℕ) (f g : ℕ → List Step) → ((x : ℕ) → IsAmong xs x → f x ≡ g x) → flat_map f (reverse xs) ≡ flat_map g (reverse xs)

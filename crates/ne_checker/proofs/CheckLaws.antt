@@ -14,6 +14,7 @@ use Rattle.behaviour_profile.specs.EntryTests.{profile_in}
 use Rattle.ne_printer.specs.ReadLines.{line_in}
 use Rattle.ne_printer.specs.TextLines.{lines_of}
 use Rattle.ne_checker.specs.CheckLaws.{TableChecksTell, TellsOfBehaviour, TellsOfLines, TellsOfMixed, TellsOfTableLine, TellsOfTreeLine, TreeChecksTell}
+use Rattle.game_core.proofs.LimitLemmas.{text-same}
 use Rattle.ne_checker.specs.LineChecks.{limited, table_line, tree_line}
 use Rattle.ne_checker.specs.Lines.{lines_answer}
 use Rattle.ne_checker.specs.TableChecks.{IsTableVerdict}
@@ -40,7 +41,7 @@ module _ (judge : ℕ → List ℕ → Answer CheckStop (List ℕ)) (Tells : Lis
       (h.0, h.2.0, each number line h.0 h.1, lines-tell (number + 1) lines h.2.0 h.2.1, whole)
 
   checks-tell : (lines text : List ℕ) → (lines_answer judge 1 (lines_of lines) >>= limited) (Ok text) → TellsOfLines Tells (lines_of lines) text
-  checks-tell lines text h = subst (TellsOfLines Tells (lines_of lines)) (sym h.2.0) (lines-tell 1 (lines_of lines) h.0 h.1)
+  checks-tell lines text h = subst (TellsOfLines Tells (lines_of lines)) (sym (text-same h.0 text h.2)) (lines-tell 1 (lines_of lines) h.0 h.1)
 
 -- ---- tables
 module _ (law : TableVerdictsFindEquilibria) where

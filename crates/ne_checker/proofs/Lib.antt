@@ -10,7 +10,6 @@ pub mod SameEntryLemmas
 pub mod TableBlockLemmas
 pub mod TableOtherLemmas
 pub mod TablePartLemmas
-pub mod TableRunLemmas
 pub mod TableSingleLemmas
 pub mod TableStepLemmas
 pub mod TableVerdictLemmas
@@ -20,7 +19,6 @@ pub mod TreeLineLemmas
 pub mod TreeMemberLemmas
 pub mod TreeNowStepLemmas
 pub mod TreeOwnSetLemmas
-pub mod TreePartLemmas
 pub mod TreeReplyLemmas
 pub mod TreeReplyStepLemmas
 pub mod TreeSidePartLemmas

@@ -3,7 +3,7 @@ use Rattle.std.proofs.Common.{ℕ, ◌+◌, ◌<◌, ◌≤◌, ◌≡◌, List,
 use Rattle.std.specs.Result.{IsErrAnd}
 use Rattle.answers.specs.Answers.{Answer, Gives, ◌>>=◌, map_ok}
 use Rattle.answers.proofs.AnswerLemmas.{gives_bind_as, gives_exit}
-use Rattle.game_core.specs.TextLimit.{most_text}
+use Rattle.game_core.specs.Limits.{most_text}
 use Rattle.ne_checker.specs.LineChecks.{limited}
 use Rattle.ne_checker.specs.Lines.{IsEnoughOf, lines_answer}
 use Rattle.ne_printer.specs.TextLines.{lines_of}

@@ -9,8 +9,8 @@ use Rattle.game_core.specs.TreeGame.{game_of_tree}
 use Rattle.behaviour_profile.specs.EntryTests.{action_counts, profile_in}
 use Rattle.ne_printer.specs.ReadLines.{line_in}
 use Rattle.ne_printer.proofs.LinesReadLemmas.{line_told}
-use Rattle.enumpure.specs.Stops.{within_text_limit}
-use Rattle.enumpure.proofs.OneTextLaws.{within_text_limit-single}
+use Rattle.game_core.specs.Limits.{limited_text}
+use Rattle.game_core.proofs.LimitLemmas.{limited_text-single}
 use Rattle.ne_checker.specs.TreeVerdicts.{tree_verdict}
 use Rattle.ne_checker.specs.TreeVerdictLaws.{TreeVerdictsAreSingle}
 use Rattle.ne_checker.specs.declared.tables.TableVerdict.{TableVerdict}
@@ -18,7 +18,7 @@ use Rattle.ne_checker.specs.declared.tables.TableVerdict.TheVariants as table_ve
 use Rattle.ne_checker.specs.declared.trees.TreeVerdict.{TreeVerdict}
 use Rattle.ne_checker.specs.declared.trees.TreeVerdict.TheVariants as tree_verdicts
 use Rattle.ne_checker.proofs.TableSingleLemmas.{verdict_once}
-use Rattle.ne_checker.specs.LineChecks.{faulty, limited, line_entries, table_judged, table_line, text_stop, tree_judged, tree_line, unread, TableChecksAreSingle, TreeChecksAreSingle}
+use Rattle.ne_checker.specs.LineChecks.{faulty, limited, line_entries, table_judged, table_line, tree_judged, tree_line, unread, TableChecksAreSingle, TreeChecksAreSingle}
 use Rattle.ne_checker.specs.Lines.{lines_answer}
 use Rattle.ne_printer.specs.TextLines.{lines_of}
 use Rattle.ne_checker.specs.Texts.{IsTableText, IsTreeText}
@@ -33,8 +33,7 @@ lines_once judge each number (line ∷ lines) =
     bind-single (judge number line) (λ text. lines_answer judge (number + 1) lines >>= λ texts. only (text ++ texts)) (each number line) (λ text h. bind-single (lines_answer judge (number + 1) lines) (λ texts. only (text ++ texts)) (lines_once judge each (number + 1) lines) (λ texts k. only-single (text ++ texts)))
 
 limited_once : (judged : List ℕ) → IsSingle (limited judged)
-limited_once judged =
-    refused_by-single text_stop (within_text_limit (λ text. text ≡ judged)) (within_text_limit-single (λ text. text ≡ judged) (λ one other h k. h ∙ sym k))
+limited_once judged = refused_by-single stops.TooLarge (limited_text judged) (limited_text-single judged)
 
 -- the check of a text has one answer, where that of a line has
 check_once : (judge : ℕ → List ℕ → Answer CheckStop (List ℕ)) → ((number : ℕ) (line : List ℕ) → IsSingle (judge number line)) → (text : List ℕ) → IsSingle (lines_answer judge 1 (lines_of text) >>= limited)

@@ -14,7 +14,7 @@ use Rattle.frac128.specs.Steps.{Step, StepFits, IsFirstUnfit}
 use Rattle.frac128.proofs.StepRunLemmas.{first_unfit-more, first_unfit-following}
 use Rattle.best_replies.specs.Strategies.{strategy_value, weight}
 use Rattle.ne_checker.specs.TableChecks.{others_probabilities, product_steps, profile_steps, steps_at, strategy_steps, value_below, weighed_steps}
-use Rattle.ne_checker.proofs.TableRunLemmas.{fits-joined, none-more, steps_of, unfit-joined}
+use Rattle.frac128.proofs.StepPartLemmas.{fits-joined, none-more, steps_of, unfit-joined}
 
 -- the profiles are the stride times those of the players from one on
 count-split : (ns : List ℕ) (i : ℕ) → profile_count ns ≡ stride ns i * profile_count (drop i ns)

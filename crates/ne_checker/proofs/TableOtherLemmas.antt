@@ -5,14 +5,12 @@ use Rattle.std.proofs.lemmas.Bool.Decides.{Decides-eqb}
 use Rattle.rational.specs.Rational.{ℚ, ◌*ℚ◌, one_ℚ}
 use Rattle.rational.proofs.RationalRing.{*ℚ_assoc, *ℚ-one}
 use Rattle.rational.proofs.Rules.{one-*ℚ}
-use Rattle.frac128.specs.Steps.{MulFits, unfit, Step, IsFirstUnfit}
+use Rattle.frac128.specs.Steps.{MulFits, unfit, Step, IsFirstUnfit, StepsGive}
 use Rattle.frac128.specs.declared.steps.Op.TheVariants.{Mul}
 use Rattle.frac128.specs.declared.steps.Unfit.{Unfit}
 use Rattle.game_theory.specs.Profiles.{profile_at}
 use Rattle.game_theory.specs.Mixed.{Mixed, later, probability}
-use Rattle.pure_payoffs.specs.Plays.{Give}
-use Rattle.frac128.proofs.StepRunLemmas.{first_unfit-here, one-fits}
-use Rattle.pure_payoffs.proofs.StepRunLemmas.{following-gives}
+use Rattle.frac128.proofs.StepRunLemmas.{first_unfit-here, one-fits, following-gives}
 use Rattle.best_replies.specs.Strategies.{own_as_one, weight}
 use Rattle.ne_checker.specs.TableChecks.{others_from, others_probabilities, product_steps}
 
@@ -23,13 +21,13 @@ from m j k s = m (j + k) s
 module _ (m : Mixed) (i : ℕ) where
   -- the factors of the players from j on, where they play these strategies, are still to come
   abbrev pub GiveFrom : ℕ → List ℕ → ℚ → Result ℚ Unfit → Type 0
-  GiveFrom j strategies product r = Give (product_steps product (others_from m i j strategies)) (product *ℚ probability (from (own_as_one m i) j) strategies) r
+  GiveFrom j strategies product r = StepsGive (product_steps product (others_from m i j strategies)) (product *ℚ probability (from (own_as_one m i) j) strategies) r
 
   -- at the first player these are all
-  pub all-left : (strategies : List ℕ) (r : Result ℚ Unfit) → GiveFrom 0 strategies one_ℚ r → Give (product_steps one_ℚ (others_probabilities m i strategies)) (weight m i strategies) r
+  pub all-left : (strategies : List ℕ) (r : Result ℚ Unfit) → GiveFrom 0 strategies one_ℚ r → StepsGive (product_steps one_ℚ (others_probabilities m i strategies)) (weight m i strategies) r
   all-left strategies r h =
       (let start : from (own_as_one m i) 0 ≡ own_as_one m i = λ d k s. own_as_one m i ((let e : 0 + k ≡ k = omega arith in e) d) s in
-      subst (λ v. Give (product_steps one_ℚ (others_probabilities m i strategies)) v r) (one-*ℚ _ ∙ ap (λ x. probability x strategies) start) h)
+      subst (λ v. StepsGive (product_steps one_ℚ (others_probabilities m i strategies)) v r) (one-*ℚ _ ∙ ap (λ x. probability x strategies) start) h)
 
   -- after the last player there are none
   pub none-left : (j : ℕ) (product : ℚ) → GiveFrom j [] product (Ok product)
@@ -50,24 +48,24 @@ module _ (m : Mixed) (i : ℕ) where
     own-left product r e h = go (j == i) (Decides-eqb j i) value
       where
         go : (b : Bool) → Decides b (j ≡ i) → probability (from (own_as_one m i) j) (s ∷ strategies) ≡ (if b then one_ℚ else m j s) *ℚ probability (from (own_as_one m i) (suc j)) strategies
-            → Give (product_steps product ((if b then [] else m j s ∷ []) ++ others_from m i (suc j) strategies)) (product *ℚ probability (from (own_as_one m i) j) (s ∷ strategies)) r
-        go true d v = subst (λ x. Give (product_steps product (others_from m i (suc j) strategies)) (product *ℚ x) r) (sym (v ∙ one-*ℚ _)) h
+            → StepsGive (product_steps product ((if b then [] else m j s ∷ []) ++ others_from m i (suc j) strategies)) (product *ℚ probability (from (own_as_one m i) j) (s ∷ strategies)) r
+        go true d v = subst (λ x. StepsGive (product_steps product (others_from m i (suc j) strategies)) (product *ℚ x) r) (sym (v ∙ one-*ℚ _)) h
         go false d v = absurd (let yes = d.1 e in cc)
 
     -- another's probability is a factor
     pub other-left : (product q next : ℚ) (r : Result ℚ Unfit) → j ≢ i → q ≡ m j s → MulFits product q → next ≡ product *ℚ q → GiveFrom (suc j) strategies next r → GiveFrom j (s ∷ strategies) product r
     other-left product q next r ne is fits next_is h = go (j == i) (Decides-eqb j i) value
       where
-        there : Give (product_steps (product *ℚ m j s) (others_from m i (suc j) strategies)) ((product *ℚ m j s) *ℚ probability (from (own_as_one m i) (suc j)) strategies) r
+        there : StepsGive (product_steps (product *ℚ m j s) (others_from m i (suc j) strategies)) ((product *ℚ m j s) *ℚ probability (from (own_as_one m i) (suc j)) strategies) r
         there = subst (λ x. GiveFrom (suc j) strategies x r) (next_is ∙ ap (λ x. product *ℚ x) is) h
 
         go : (b : Bool) → Decides b (j ≡ i) → probability (from (own_as_one m i) j) (s ∷ strategies) ≡ (if b then one_ℚ else m j s) *ℚ probability (from (own_as_one m i) (suc j)) strategies
-            → Give (product_steps product ((if b then [] else m j s ∷ []) ++ others_from m i (suc j) strategies)) (product *ℚ probability (from (own_as_one m i) j) (s ∷ strategies)) r
+            → StepsGive (product_steps product ((if b then [] else m j s ∷ []) ++ others_from m i (suc j) strategies)) (product *ℚ probability (from (own_as_one m i) j) (s ∷ strategies)) r
         go true d v = absurd (ne (d.0 refl))
         go false d v =
             following-gives (unfit Mul product (m j s) ∷ []) (product_steps (product *ℚ m j s) (others_from m i (suc j) strategies)) (product *ℚ probability (from (own_as_one m i) j) (s ∷ strategies)) r
             (one-fits (unfit Mul product (m j s)) (subst (MulFits product) is fits))
-            (subst (λ x. Give (product_steps (product *ℚ m j s) (others_from m i (suc j) strategies)) x r) (*ℚ_assoc product (m j s) _ ∙ ap (λ x. product *ℚ x) (sym v)) there)
+            (subst (λ x. StepsGive (product_steps (product *ℚ m j s) (others_from m i (suc j) strategies)) x r) (*ℚ_assoc product (m j s) _ ∙ ap (λ x. product *ℚ x) (sym v)) there)
 
     -- or the product with it is the first step that does not fit
     pub other-unfit : (product q : ℚ) (u : Step) → j ≢ i → q ≡ m j s → u ≡ unfit Mul product q → (MulFits product q → ⊥) → GiveFrom j (s ∷ strategies) product (Err u)

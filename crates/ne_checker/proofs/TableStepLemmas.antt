@@ -7,12 +7,10 @@ use Rattle.rational.specs.Tests.{eq_test}
 use Rattle.rational.proofs.Decide.{eq_test-true}
 use Rattle.rational.proofs.RationalRing.{+ℚ-zero}
 use Rattle.rational.proofs.Rules.{zero-*ℚ}
-use Rattle.frac128.specs.Steps.{AddFits, MulFits, unfit, Step, StepFits, IsFirstUnfit}
+use Rattle.frac128.specs.Steps.{AddFits, MulFits, unfit, Step, StepFits, IsFirstUnfit, StepsGive}
 use Rattle.frac128.specs.declared.steps.Op.TheVariants.{Add, Mul}
 use Rattle.frac128.specs.declared.steps.Unfit.{Unfit}
-use Rattle.pure_payoffs.specs.Plays.{Give}
-use Rattle.frac128.proofs.StepRunLemmas.{first_unfit-here, one-fits}
-use Rattle.pure_payoffs.proofs.StepRunLemmas.{added-gives, following-gives}
+use Rattle.frac128.proofs.StepRunLemmas.{first_unfit-here, one-fits, added-gives, following-gives}
 use Rattle.ne_checker.specs.TableChecks.{weighed_steps}
 
 not_true : (b : Bool) → (b ≡ true → ⊥) → b ≡ false
@@ -30,7 +28,7 @@ module _ (sum weight number : ℚ) where
   weighed-some : weight ≢ zero_ℚ → weighed_steps weight number sum ≡ both
   weighed-some ne = ap (λ b. if b then [] else both) (not_true (eq_test weight zero_ℚ) (λ e. ne ((eq_test-true weight zero_ℚ).0 e)))
 
-  pub nothing-added : weight ≡ zero_ℚ → Give (weighed_steps weight number sum) (sum +ℚ (weight *ℚ number)) (Ok sum)
+  pub nothing-added : weight ≡ zero_ℚ → StepsGive (weighed_steps weight number sum) (sum +ℚ (weight *ℚ number)) (Ok sum)
   nothing-added e =
       (sym (ap (λ x. sum +ℚ (x *ℚ number)) e ∙ ap (λ x. sum +ℚ x) (zero-*ℚ number) ∙ +ℚ-zero sum), subst (All StepFits) (sym (weighed-none e)) (All-nil StepFits))
 
@@ -42,8 +40,8 @@ module _ (sum weight number : ℚ) where
 
   pub product-added : (product : ℚ) (r : Result ℚ Unfit) → weight ≢ zero_ℚ → product ≡ weight *ℚ number → MulFits weight number
       → IfOk r (λ v. v ≡ sum +ℚ product) → OnOk r (AddFits sum product) → IfErr r (λ e. e ≡ unfit Add sum product) → OnErr r (AddFits sum product → ⊥)
-      → Give (weighed_steps weight number sum) (sum +ℚ (weight *ℚ number)) r
+      → StepsGive (weighed_steps weight number sum) (sum +ℚ (weight *ℚ number)) r
   product-added product r ne is fits value added step refused =
-      subst (λ s. Give s (sum +ℚ (weight *ℚ number)) r) (sym (weighed-some ne))
+      subst (λ s. StepsGive s (sum +ℚ (weight *ℚ number)) r) (sym (weighed-some ne))
       (following-gives (unfit Mul weight number ∷ []) (unfit Add sum (weight *ℚ number) ∷ []) (sum +ℚ (weight *ℚ number)) r (one-fits (unfit Mul weight number) fits)
-      (subst (λ p. Give (unfit Add sum p ∷ []) (sum +ℚ p) r) is (added-gives sum product r value added step refused)))
+      (subst (λ p. StepsGive (unfit Add sum p ∷ []) (sum +ℚ p) r) is (added-gives sum product r value added step refused)))

@@ -15,7 +15,7 @@ use Rattle.best_replies.proofs.WeightLemmas.{step-to}
 use Rattle.frac128.specs.Steps.{StepFits}
 use Rattle.ne_checker.specs.TreeSides.{AreDecided, IsComputed}
 use Rattle.ne_checker.specs.TreeSteps.{action_steps, decision_steps}
-use Rattle.ne_checker.proofs.TreePartLemmas.{parts-more}
+use Rattle.frac128.proofs.StepPartLemmas.{parts-more}
 
 module _ (t : Tree) (b : Behaviour) (i : ℕ) (choice : ℕ → ℕ) (weights : List ℚ) where
   -- the first n actions of set s are weighed, and this is the first of the greatest

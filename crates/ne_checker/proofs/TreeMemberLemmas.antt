@@ -6,6 +6,7 @@ use Rattle.std.proofs.Math.Seq.{get_or-append_seam}
 use Rattle.std.proofs.lemmas.Bool.{cases_eq, cases_lt}
 use Rattle.std.proofs.lemmas.List.{get_or_append_left, get_or-map, length_push, get_or-set_same, get_or-set_other, append-nil}
 use Rattle.std.proofs.lemmas.List.Elements.{filter-append}
+use Rattle.lists.proofs.ElementLemmas.{range-last}
 use Rattle.rational.specs.Rational.{ℚ, ◌+ℚ◌, zero_ℚ}
 use Rattle.rational.specs.Sum.{sum_to}
 use Rattle.rational.proofs.RationalRing.{+ℚ-zero}
@@ -44,14 +45,6 @@ members-listed t sets s set valid same below is =
     ((valid.sets_fit s set at.0).members_are ∙ members_from-filter (is_member (game_of_tree t) s) 0 s t.nodes (λ j d l. ap (is_member (game_of_tree t) s) (omega arith) ∙ ap (λ o. is_index o s) (get_or-map (λ node. node.set) t.nodes j d None l)), at.1)
 
 -- ---- sums over members
--- the numbers from 0 on end with the last one
-pub range-last : (n : ℕ) → range_with_len 0 (suc n) ≡ range_with_len 0 n ++ n ∷ []
-range-last n = go 0 n ∙ ap (λ x. range_with_len 0 n ++ x ∷ []) (omega arith)
-  where
-    go : (a m : ℕ) → range_with_len a (suc m) ≡ range_with_len a m ++ (a + m) ∷ []
-    go a zero = ap (λ x. x ∷ []) (sym (add-zero a))
-    go a (suc m) = ap (λ xs. a ∷ xs) (go (a + 1) m ∙ ap (λ x. range_with_len (a + 1) m ++ x ∷ []) (omega arith))
-
 module _ (g : ℕ → ℚ) where
   abbrev over : List ℕ → ℚ
   over xs = sum_to (length xs) (λ j. g (get_or xs j 0))

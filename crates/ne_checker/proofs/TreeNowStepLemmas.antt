@@ -3,7 +3,7 @@ use Rattle.std.proofs.Common.{ℕ, ◌<◌, ◌≡◌, Option, Some, None, List,
 use Rattle.std.specs.Prelude.{IfOk, IfErr, OnOk, OnErr}
 use Rattle.std.proofs.lemmas.List.Elements.{All-nil}
 use Rattle.rational.specs.Rational.{ℚ, ◌+ℚ◌}
-use Rattle.frac128.specs.Steps.{AddFits, unfit, Step, StepFits, IsFirstUnfit}
+use Rattle.frac128.specs.Steps.{AddFits, unfit, Step, StepFits, IsFirstUnfit, StepsGive}
 use Rattle.frac128.specs.declared.steps.Op.TheVariants.{Add}
 use Rattle.frac128.specs.declared.steps.Unfit.{Unfit}
 use Rattle.game_theory.specs.Children.{child}
@@ -11,10 +11,8 @@ use Rattle.game_theory.specs.Trees.{Tree, IsTree}
 use Rattle.game_theory.specs.Behaviour.{Behaviour, action_probability, value}
 use Rattle.game_theory.proofs.NamedChildLemmas.{child-is_child, child-later}
 use Rattle.game_theory.proofs.ValueLemmas.{value-by_actions, value-end}
-use Rattle.pure_payoffs.specs.Plays.{Give}
 use Rattle.pure_payoffs.proofs.NodeStepLemmas.{chance_steps-same}
-use Rattle.frac128.proofs.StepRunLemmas.{first_unfit-more}
-use Rattle.pure_payoffs.proofs.StepRunLemmas.{added-gives, following-gives}
+use Rattle.frac128.proofs.StepRunLemmas.{first_unfit-more, added-gives, following-gives}
 use Rattle.ne_checker.specs.TreeSteps.{now_node_steps, now_steps_to, now_steps_at, now_steps_after, now_value_after}
 use Rattle.ne_checker.proofs.TreeDepthLemmas.{told-recurs}
 
@@ -35,7 +33,7 @@ module _ (t : Tree) (b : Behaviour) (i : ℕ) (w : IsTree t) where
 
   module _ (k : ℕ) (l : k < t.size) where
     -- an end gives what its outcome pays
-    pub now-end : (p : ℚ) → t.set k ≡ None → p ≡ t.pays k i → Give (now_steps_at t b i k) (value t b i k) (Ok p)
+    pub now-end : (p : ℚ) → t.set k ≡ None → p ≡ t.pays k i → StepsGive (now_steps_at t b i k) (value t b i k) (Ok p)
     now-end p e is =
         (is ∙ sym (value-end t b i k w l e), subst (All StepFits) (sym (steps-recur k l ∙ ap (now_node_steps t b i (now_steps_at t b i) k) e)) (All-nil StepFits))
 
@@ -53,7 +51,7 @@ module _ (t : Tree) (b : Behaviour) (i : ℕ) (w : IsTree t) where
 
       -- what the addition to the outcome's payoff gives is what the node gives
       pub now-added : (p x : ℚ) (r : Result ℚ Unfit) → p ≡ t.pays k i → x ≡ now_value_after t b i k s → All StepFits (now_steps_after t b i k s)
-          → IfOk r (λ f. f ≡ p +ℚ x) → OnOk r (AddFits p x) → IfErr r (λ u. u ≡ unfit Add p x) → OnErr r (AddFits p x → ⊥) → Give (now_steps_at t b i k) (value t b i k) r
+          → IfOk r (λ f. f ≡ p +ℚ x) → OnOk r (AddFits p x) → IfErr r (λ u. u ≡ unfit Add p x) → OnErr r (AddFits p x → ⊥) → StepsGive (now_steps_at t b i k) (value t b i k) r
       now-added p x r pays is fit sum fits step refused =
           let whole = following-gives (now_steps_after t b i k s) (unfit Add p x ∷ []) (p +ℚ x) r fit (added-gives p x r sum fits step refused) in
           rw (steps-inner, value-inner, ← is, ← pays) whole

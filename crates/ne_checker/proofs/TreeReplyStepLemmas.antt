@@ -5,7 +5,7 @@ use Rattle.std.proofs.lemmas.List.Elements.{All-nil}
 use Rattle.rational.specs.Rational.{ℚ, ◌+ℚ◌, ◌*ℚ◌, zero_ℚ}
 use Rattle.rational.proofs.RationalRing.{+ℚ-zero}
 use Rattle.rational.proofs.Rules.{zero-+ℚ}
-use Rattle.frac128.specs.Steps.{AddFits, MulFits, unfit, Step, StepFits, IsFirstUnfit}
+use Rattle.frac128.specs.Steps.{AddFits, MulFits, unfit, Step, StepFits, IsFirstUnfit, StepsGive}
 use Rattle.frac128.specs.declared.steps.Op.TheVariants.{Add, Mul}
 use Rattle.frac128.specs.declared.steps.Unfit.{Unfit}
 use Rattle.game_theory.specs.Children.{child}
@@ -16,9 +16,7 @@ use Rattle.best_replies.specs.Reaching.{weight}
 use Rattle.best_replies.specs.Replies.{reply_value}
 use Rattle.best_replies.proofs.ReplyValueLemmas.{reply_values-recur}
 use Rattle.best_replies.proofs.WeightLemmas.{own_or_not, if_own, if_other}
-use Rattle.pure_payoffs.specs.Plays.{Give}
-use Rattle.frac128.proofs.StepRunLemmas.{first_unfit-more, first_unfit-following, first_unfit-here, one-fits}
-use Rattle.pure_payoffs.proofs.StepRunLemmas.{added-gives, following-gives}
+use Rattle.frac128.proofs.StepRunLemmas.{first_unfit-more, first_unfit-following, first_unfit-here, one-fits, added-gives, following-gives}
 use Rattle.ne_checker.specs.TreeSteps.{sum_steps, child_value, after_steps, after_sum, own_steps, reply_steps_to, reply_steps, after_steps_at, after_sum_at, children_steps, children_sum}
 use Rattle.ne_checker.proofs.TreeDepthLemmas.{told-recurs}
 use Rattle.ne_checker.proofs.TreeSumLemmas.{sum_steps-same}
@@ -58,18 +56,18 @@ module _ (t : Tree) (b : Behaviour) (i : ℕ) (choice : ℕ → ℕ) (w : IsTree
   )
 
   -- after an end there is nothing
-  pub following-end : (k : ℕ) → t.set k ≡ None → Give (after_steps_at t b i choice k) (after_sum_at t b i choice k) (Ok zero_ℚ)
+  pub following-end : (k : ℕ) → t.set k ≡ None → StepsGive (after_steps_at t b i choice k) (after_sum_at t b i choice k) (Ok zero_ℚ)
   following-end k e = rw e (refl, All-nil StepFits)
 
   -- the sum at an own node
   pub own-gives : (k s : ℕ) (z x : ℚ) (r : Result ℚ Unfit) → t.set k ≡ Some s → t.owner s ≡ Some i → z ≡ zero_ℚ → x ≡ child_value t b i choice k (choice s)
-      → IfOk r (λ f. f ≡ z +ℚ x) → OnOk r (AddFits z x) → IfErr r (λ u. u ≡ unfit Add z x) → OnErr r (AddFits z x → ⊥) → Give (after_steps_at t b i choice k) (after_sum_at t b i choice k) r
+      → IfOk r (λ f. f ≡ z +ℚ x) → OnOk r (AddFits z x) → IfErr r (λ u. u ≡ unfit Add z x) → OnErr r (AddFits z x → ⊥) → StepsGive (after_steps_at t b i choice k) (after_sum_at t b i choice k) r
   own-gives k s z x r e o zero_is is sum fits step refused =
       let parts = following-own k s e o in
       rw (parts.0, parts.1, ← is, ← zero_is) (added-gives z x r sum fits step refused)
 
   -- the sum at any other node with a set
-  pub other-gives : (k s : ℕ) (r : Result ℚ Unfit) → t.set k ≡ Some s → t.owner s ≢ Some i → Give (children_steps t b i choice k s) (children_sum t b i choice k s) r → Give (after_steps_at t b i choice k) (after_sum_at t b i choice k) r
+  pub other-gives : (k s : ℕ) (r : Result ℚ Unfit) → t.set k ≡ Some s → t.owner s ≢ Some i → StepsGive (children_steps t b i choice k s) (children_sum t b i choice k s) r → StepsGive (after_steps_at t b i choice k) (after_sum_at t b i choice k) r
   other-gives k s r e o h = let parts = following-other k s e o in rw (parts.0, parts.1) h
 
   module _ (chosen : (s : ℕ) → s < t.sets → t.owner s ≡ Some i → choice s < t.actions s) (k : ℕ) (l : k < t.size) where
@@ -100,9 +98,9 @@ module _ (t : Tree) (b : Behaviour) (i : ℕ) (choice : ℕ → ℕ) (w : IsTree
 
       -- what the last addition gives is what the node gives
       pub reply-added : (x y : ℚ) (r : Result ℚ Unfit) → x ≡ after_sum_at t b i choice k → y ≡ wt *ℚ p → MulFits wt p
-          → IfOk r (λ f. f ≡ y +ℚ x) → OnOk r (AddFits y x) → IfErr r (λ u. u ≡ unfit Add y x) → OnErr r (AddFits y x → ⊥) → Give (reply_steps t b i choice k) (reply_value t b i choice k) r
+          → IfOk r (λ f. f ≡ y +ℚ x) → OnOk r (AddFits y x) → IfErr r (λ u. u ≡ unfit Add y x) → OnErr r (AddFits y x → ⊥) → StepsGive (reply_steps t b i choice k) (reply_value t b i choice k) r
       reply-added x y r is product fits sum sum_fits step refused =
-          let last : Give (unfit Add y x ∷ []) (y +ℚ x) r = added-gives y x r sum sum_fits step refused in
+          let last : StepsGive (unfit Add y x ∷ []) (y +ℚ x) r = added-gives y x r sum sum_fits step refused in
           let both = following-gives (unfit Mul wt p ∷ []) (unfit Add y x ∷ []) (y +ℚ x) r (one-fits (unfit Mul wt p) fits) last in
           let whole = following-gives (after_steps_at t b i choice k) (unfit Mul wt p ∷ unfit Add y x ∷ []) (y +ℚ x) r fit both in
           rw (steps-at k l, value-at, ← is, ← weight_is, ← pays_is, ← product) whole

@@ -1,27 +1,21 @@
 -- The steps of the weights.
-use Rattle.std.proofs.Common.{ℕ, ◌+◌, ◌<◌, ◌≡◌, ◌≢◌, inl, inr, Bool, true, false, Some, List, [], ◌∷◌, length, get_or, set, All, Result, Ok, Err, sym, ap, ap₂, ◌∙◌, subst, arith}
+use Rattle.std.proofs.Common.{ℕ, ◌+◌, ◌<◌, ◌≡◌, ◌≢◌, inl, inr, Bool, true, false, Some, List, [], ◌∷◌, length, get_or, set, All, Result, Ok, sym, ap, ap₂, ◌∙◌, subst, arith}
 use Rattle.std.specs.Prelude.{◌&&◌, if◌then◌else◌, IfOk, IfErr, OnOk, OnErr}
 use Rattle.std.proofs.lemmas.Bool.{cases_eq}
 use Rattle.std.proofs.lemmas.Bool.Decides.{Decides-ltb}
 use Rattle.std.proofs.lemmas.List.{get_or_default, get_or-set_same, get_or-set_other}
 use Rattle.std.proofs.lemmas.List.Elements.{All-nil}
 use Rattle.rational.specs.Rational.{ℚ, ◌*ℚ◌, zero_ℚ}
-use Rattle.frac128.specs.Steps.{MulFits, unfit, Step, StepFits, IsFirstUnfit}
+use Rattle.frac128.specs.Steps.{MulFits, unfit, Step, StepFits, StepsGive}
 use Rattle.frac128.specs.declared.steps.Op.TheVariants.{Mul}
 use Rattle.frac128.specs.declared.steps.Unfit.{Unfit}
 use Rattle.game_theory.specs.Trees.{Tree, IsTree}
 use Rattle.game_theory.specs.Behaviour.{Behaviour, action_probability, branch_probability}
 use Rattle.best_replies.specs.Reaching.{weight}
 use Rattle.best_replies.proofs.WeightLemmas.{branch-at, weight-own, weight-other, if_own, if_other}
-use Rattle.pure_payoffs.specs.Plays.{Give}
-use Rattle.frac128.proofs.StepRunLemmas.{first_unfit-here, one-fits}
+use Rattle.frac128.proofs.StepRunLemmas.{product-gives}
 use Rattle.ne_checker.specs.TreeSteps.{has_factor, weight_step}
 use Rattle.ne_checker.specs.TreeWeights.{AreWeights}
-
--- what a product gives
-product-gives : (a b : ℚ) (r : Result ℚ Unfit) → IfOk r (λ f. f ≡ a *ℚ b) → OnOk r (MulFits a b) → IfErr r (λ e. e ≡ unfit Mul a b) → OnErr r (MulFits a b → ⊥) → Give (unfit Mul a b ∷ []) (a *ℚ b) r
-product-gives a b (Ok v) value fits step refused = (value, one-fits (unfit Mul a b) fits)
-product-gives a b (Err u) value fits step refused = subst (IsFirstUnfit (unfit Mul a b ∷ [])) (sym step) (first_unfit-here (unfit Mul a b) [] refused)
 
 module _ (t : Tree) (b : Behaviour) (i c s : ℕ) (w : IsTree t) (p : 0 < c) (l : c < t.size) (e : t.set (t.parent c) ≡ Some s) where
   -- the step by whether there is a factor
@@ -32,12 +26,12 @@ module _ (t : Tree) (b : Behaviour) (i c s : ℕ) (w : IsTree t) (p : 0 < c) (l 
   step-is x h = ap step_if (ap₂ (λ y z. y && z) ((Decides-ltb 0 c).1 p) (ap (has_factor t i) e ∙ h))
 
   -- after an own node the weight stays
-  pub weight-kept : (x : ℚ) → t.owner s ≡ Some i → x ≡ weight t b i (t.parent c) → Give (weight_step t b i c) (weight t b i c) (Ok x)
+  pub weight-kept : (x : ℚ) → t.owner s ≡ Some i → x ≡ weight t b i (t.parent c) → StepsGive (weight_step t b i c) (weight t b i c) (Ok x)
   weight-kept x o is = (is ∙ sym (weight-own t b i c s w p l e o), subst (All StepFits) (sym (step-is false (if_own t i s false true o))) (All-nil StepFits))
 
   -- after any other it has the factor
   pub weight-more : (wt prob : ℚ) (r : Result ℚ Unfit) → t.owner s ≢ Some i → wt ≡ weight t b i (t.parent c) → prob ≡ action_probability t b s (t.branch c)
-      → IfOk r (λ f. f ≡ wt *ℚ prob) → OnOk r (MulFits wt prob) → IfErr r (λ u. u ≡ unfit Mul wt prob) → OnErr r (MulFits wt prob → ⊥) → Give (weight_step t b i c) (weight t b i c) r
+      → IfOk r (λ f. f ≡ wt *ℚ prob) → OnOk r (MulFits wt prob) → IfErr r (λ u. u ≡ unfit Mul wt prob) → OnErr r (MulFits wt prob → ⊥) → StepsGive (weight_step t b i c) (weight t b i c) r
   weight-more wt prob r o weight_is prob_is value fits step refused =
       let prob_of : prob ≡ branch_probability t b c = prob_is ∙ sym (branch-at t b c s e) in
       let steps : weight_step t b i c ≡ unfit Mul (weight t b i (t.parent c)) (branch_probability t b c) ∷ [] = step-is true (if_other t i s false true o) in

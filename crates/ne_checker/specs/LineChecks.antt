@@ -3,6 +3,7 @@ use Rattle.std.specs.Prelude.{ℕ, ◌≡◌, List, [], Ok, Err}
 use Rattle.answers.specs.Answers.{Answer, IsSingle, ◌>>=◌, refused_by}
 use Rattle.rational.specs.Rational.{ℚ}
 use Rattle.game_core.specs.Table.{GameTable, strategy_counts}
+use Rattle.game_core.specs.Limits.{limited_text}
 use Rattle.game_core.specs.Tree.{GameTree, IsGameTree}
 use Rattle.game_core.specs.TreeGame.{game_of_tree}
 use Rattle.behaviour_profile.specs.EntryTests.{action_counts, profile_in}
@@ -11,9 +12,6 @@ use Rattle.behaviour_profile.specs.declared.entries.ProfileFault.TheVariants as 
 use Rattle.ne_printer.specs.ReadLines.{line_in}
 use Rattle.ne_printer.specs.declared.reading.LineStop.{LineStop}
 use Rattle.ne_printer.specs.declared.reading.LineStop.TheVariants as line_stops
-use Rattle.enumpure.specs.Stops.{within_text_limit}
-use Rattle.enumpure.specs.declared.listing.ListStop.{ListStop}
-use Rattle.enumpure.specs.declared.listing.ListStop.TheVariants as list_stops
 use Rattle.ne_checker.specs.TableChecks.{table_verdict}
 use Rattle.ne_checker.specs.TreeVerdicts.{tree_verdict}
 use Rattle.ne_checker.specs.TreeVerdictLaws.{AllRecall}
@@ -81,14 +79,9 @@ tree_line tree number line = do
   tree_judged number tree entries
 
 -- ---- all lines
--- the texts are too long
-abbrev pub text_stop : ListStop → CheckStop
-text_stop (list_stops.TooLarge limit) = stops.TooLarge limit
-text_stop list_stops.Memory = stops.Memory
-
--- this text, or the limit where it is longer
+-- this text, where it is within the limit on texts
 abbrev pub limited : List ℕ → Answer CheckStop (List ℕ)
-limited judged = refused_by text_stop (within_text_limit (λ text. text ≡ judged))
+limited judged = refused_by stops.TooLarge (limited_text judged)
 
 -- All lines with profiles of a table are judged, before the length of the text is tested.
 abbrev pub table_check : GameTable → List ℕ → Answer CheckStop (List ℕ)

@@ -1,7 +1,7 @@
 -- What is told of lines one after another.
 use Rattle.std.specs.Prelude.{ℕ, ◌+◌, ◌≡◌, ◌⊎◌, ◌<◌, ◌≤◌, List, [], ◌∷◌, ◌++◌, length}
 use Rattle.answers.specs.Answers.{Answer, ◌>>=◌, only}
-use Rattle.game_core.specs.TextLimit.{most_text}
+use Rattle.game_core.specs.Limits.{most_text}
 use Rattle.ne_checker.specs.declared.stops.CheckStop.{CheckStop}
 
 -- the texts of lines, of which the first has this number, one after another

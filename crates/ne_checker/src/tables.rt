@@ -25,8 +25,7 @@ ghost use Rattle.rational.specs.Rational.{◌+ℚ◌, ◌*ℚ◌, ◌<ℚ◌, on
 ghost use Rattle.game_theory.specs.Mixed.{payoff as payoff_of};
 ghost use Rattle.game_theory.specs.Profiles.{profile_at, profile_count};
 ghost use Rattle.game_core.specs.Table.{IsTable, game_of, strategy_counts};
-ghost use Rattle.pure_payoffs.specs.Plays.{Give};
-ghost use Rattle.frac128.specs.Steps.{IsFirstUnfit, StepFits};
+ghost use Rattle.frac128.specs.Steps.{IsFirstUnfit, StepFits, StepsGive};
 ghost use Rattle.best_replies.specs.Strategies.{
   IsBestStrategy,
   strategy_value as value_of,
@@ -101,7 +100,7 @@ fn first_entry(table: &Table, player: usize) -> usize
 
 // Adds the product of a weight and a number to a sum; a weight of 0 adds nothing.
 fn add_weighed(sum: Frac, weight: Frac, number: Frac) -> Result<Frac, Unfit>
-    ensures { Give (weighed_steps weight number sum) (sum +ℚ (weight *ℚ number)) result }
+    ensures { StepsGive (weighed_steps weight number sum) (sum +ℚ (weight *ℚ number)) result }
 {
     if weight.is_zero() {
         return Ok(sum);
@@ -116,7 +115,7 @@ fn others_weight(table: &Table, mixed: &Mixed, player: usize, profile: usize) ->
     ensures { let counts = strategy_counts table.now in
         let m = mixed_of counts mixed.now in
         let strategies = profile_at counts profile in
-        Give (weight_steps m player strategies) (weight m player strategies) result }
+        StepsGive (weight_steps m player strategies) (weight m player strategies) result }
 {
     let entries = mixed.entries();
     let mut product = Frac::one();
@@ -154,7 +153,7 @@ fn add_profiles(
     ensures { let m = mixed_of (strategy_counts table.now) mixed.now in
         let g = game_of table.now in
         let value = value_below g m player strategy (first + count) in
-        Give (block_steps g m player strategy first count) value result }
+        StepsGive (block_steps g m player strategy first count) value result }
 {
     let mut value = so_far;
     for profile in first..first + count {
@@ -176,7 +175,7 @@ fn strategy_value(
     requires strategy { strategy < slice_index (strategy_counts table.now) player }
     ensures { let m = mixed_of (strategy_counts table.now) mixed.now in
         let g = game_of table.now in
-        Give (strategy_steps g m player strategy) (value_of g m player strategy) result }
+        StepsGive (strategy_steps g m player strategy) (value_of g m player strategy) result }
 {
     let stride = table.stride(player);
     let profiles = table.payoffs().len() / table.players().len();
@@ -227,7 +226,7 @@ fn payoff(table: &Table, mixed: &Mixed, player: usize) -> Result<Frac, Unfit>
         All StepFits (value_steps (game_of table.now) m player) }
     ensures { let m = mixed_of (strategy_counts table.now) mixed.now in
         let g = game_of table.now in
-        Give (payoff_steps g m player) (payoff_of g m player) result }
+        StepsGive (payoff_steps g m player) (payoff_of g m player) result }
 {
     let first = first_entry(table, player);
     let mut payoff = Frac::zero();

@@ -25,8 +25,8 @@ impl<'a> Board<'a> {
     ghost use Rattle.std.specs.Prelude.{◌≡◌, ◌<◌, length, All, MatchResult, Some};
     ghost use Rattle.rational.specs.Rational.{◌+ℚ◌, ◌*ℚ◌};
     ghost use Rattle.game_theory.specs.Behaviour.{Behaviour, action_probability, value};
-    ghost use Rattle.pure_payoffs.specs.Plays.{Give, branch_steps};
-    ghost use Rattle.frac128.specs.Steps.{StepFits, IsFirstUnfit};
+    ghost use Rattle.pure_payoffs.specs.Plays.{branch_steps};
+    ghost use Rattle.frac128.specs.Steps.{StepFits, IsFirstUnfit, StepsGive};
     ghost use Rattle.best_replies.specs.Reaching.{weight};
     ghost use Rattle.ne_checker.specs.TreeBoards.{IsOnBoard, Reads, game_of};
     ghost use Rattle.ne_checker.specs.TreeSteps.{
@@ -63,7 +63,7 @@ impl<'a> Board<'a> {
         requires node { node < length self.now.tree.now.nodes }
         requires player { player < length self.now.tree.now.players }
         ensures { (b : Behaviour) → Reads self.now b → let t = game_of self.now in
-            Give (now_steps_at t b player node) (value t b player node) result }
+            StepsGive (now_steps_at t b player node) (value t b player node) result }
     {
         let pays = pays(self.tree, node, player as usize);
         match set(self.tree, node) {
@@ -80,7 +80,7 @@ impl<'a> Board<'a> {
         requires player { player < length self.now.tree.now.players }
         requires set { (game_of self.now).set node ≡ Some set }
         ensures { (b : Behaviour) → Reads self.now b → let t = game_of self.now in
-            Give (now_steps_after t b player node set) (now_value_after t b player node set)
+            StepsGive (now_steps_after t b player node set) (now_value_after t b player node set)
             result }
     {
         let mut sum = Frac::zero();
@@ -100,7 +100,7 @@ impl<'a> Board<'a> {
         requires player { player < length self.now.tree.now.players }
         ensures { (b : Behaviour) → Reads self.now b → let t = game_of self.now in
             let v = value t b player child in
-            Give (branch_steps prob sum v (now_steps_at t b player child)) (sum +ℚ prob *ℚ v)
+            StepsGive (branch_steps prob sum v (now_steps_at t b player child)) (sum +ℚ prob *ℚ v)
             result }
     {
         if prob.is_zero() {
@@ -117,7 +117,7 @@ impl<'a> Board<'a> {
         requires node { node < length self.now.tree.now.nodes }
         ensures { (b : Behaviour) → Reads self.now b → let t = game_of self.now in
             AreWeights t b player weights.now node
-            → Give (weight_step t b player node) (weight t b player node) result }
+            → StepsGive (weight_step t b player node) (weight t b player node) result }
     {
         if node == 0 {
             return Ok(Frac::one());

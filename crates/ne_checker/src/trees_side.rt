@@ -45,8 +45,7 @@ fn is_greater(action: usize, most: Frac, value: Frac) -> bool
 impl<'a> Side<'a> {
     ghost use Rattle.std.specs.Prelude.{◌≡◌, ◌<◌, ℕ, suc, length, All, MatchResult, Some};
     ghost use Rattle.game_theory.specs.Behaviour.{Behaviour};
-    ghost use Rattle.pure_payoffs.specs.Plays.{Give};
-    ghost use Rattle.frac128.specs.Steps.{StepFits, IsFirstUnfit};
+    ghost use Rattle.frac128.specs.Steps.{StepFits, IsFirstUnfit, StepsGive};
     ghost use Rattle.best_replies.specs.Replies.{action_value, reply_value};
     ghost use Rattle.ne_checker.specs.TreeSides.{
       AreChoices,
@@ -82,7 +81,7 @@ impl<'a> Side<'a> {
             let i = self.now.player in
             AreDecided t b i choice self.now.weights.now choices.now values.now first 0
             → OwnSetsFrom t i node first
-            → Give (reply_steps t b i choice node) (reply_value t b i choice node) result }
+            → StepsGive (reply_steps t b i choice node) (reply_value t b i choice node) result }
     {
         let following = self.value_after(choices, values, node)?;
         let worth = self.weights[node].mul(pays(self.tree, node, self.player as usize))?;
@@ -100,7 +99,7 @@ impl<'a> Side<'a> {
             let i = self.now.player in
             AreDecided t b i choice self.now.weights.now choices.now values.now first 0
             → OwnSetsFrom t i node first
-            → Give (after_steps_at t b i choice node) (after_sum_at t b i choice node) result }
+            → StepsGive (after_steps_at t b i choice node) (after_sum_at t b i choice node) result }
     {
         let Some(set) = set(self.tree, node) else {
             return Ok(Frac::zero());
@@ -131,7 +130,7 @@ impl<'a> Side<'a> {
             let i = self.now.player in
             AreDecided t b i choice self.now.weights.now choices.now values.now first 0
             → OwnSetsFrom t i node first
-            → Give (children_steps t b i choice node set) (children_sum t b i choice node set)
+            → StepsGive (children_steps t b i choice node set) (children_sum t b i choice node set)
             result }
     {
         let mut sum = Frac::zero();

@@ -1,8 +1,8 @@
 -- What the tokens of a table answer: the table, or why it is not read.
 use Rattle.std.specs.Prelude.{◌≡◌, Ok, Err}
 use Rattle.answers.specs.Answers.{Answer}
-use Rattle.game_core.specs.Table.{GameTable, IsTable}
-use Rattle.game_core.specs.declared.too_large.TooLarge.{TooLarge}
+use Rattle.game_core.specs.Limits.{first_above}
+use Rattle.game_core.specs.Table.{GameTable, IsTable, most_payoffs}
 use Rattle.game_core.specs.declared.too_large.What.TheVariants.{Payoffs}
 use Rattle.game_core.specs.TokenList.{TokenList, bare}
 use Rattle.file_parts.specs.Reading.{offset_of}
@@ -14,16 +14,13 @@ use Rattle.nfg_reader.specs.declared.reading.NfgKind.{NfgKind}
 use Rattle.nfg_reader.specs.declared.reading.NfgStop.{NfgStop}
 use Rattle.nfg_reader.specs.declared.reading.NfgStop.TheVariants as stops
 
--- the count of payoffs that is named: it stops at the first number above the limit
-abbrev pub too_many_payoffs : TooLarge
-too_many_payoffs = record { what = Payoffs; count = 1048577; limit = 1048576 }
-
 -- The table of a file, within the limit on payoffs. A fault comes with its kind and offset where the tokens have one and do not
 -- pass the limit; the limit comes where it is passed.
 abbrev pub table_in : TokenList → Answer NfgStop GameTable
 table_in tokens (Ok table) = IsTableFile (bare tokens) table × IsTable table
 table_in tokens (Err (stops.Fault fault)) = IsFault tokens fault.kind fault.at × ¬ (HasTooManyPayoffs (bare tokens))
-table_in tokens (Err (stops.TooLarge limit)) = HasTooManyPayoffs (bare tokens) × (limit ≡ too_many_payoffs)
+table_in tokens (Err (stops.TooLarge limit)) =
+    HasTooManyPayoffs (bare tokens) × (limit ≡ first_above Payoffs most_payoffs)
 table_in tokens (Err stops.Memory) = ⊥
 
 -- the stop that a refusal of a part becomes

@@ -105,11 +105,7 @@ pub fn read(alloc: Global, tokens: &Tokens) -> Result<Table, NfgStop>
     };
     let players = front.players.len();
     let Some(profiles) = profile_count(alloc, players, &front.strategies)? else {
-        return Err(NfgStop::TooLarge(TooLarge {
-            what: What::Payoffs,
-            count: MOST_PAYOFFS as u64 + 1,
-            limit: MOST_PAYOFFS as u64,
-        }));
+        return Err(NfgStop::TooLarge(TooLarge::first_above(What::Payoffs, MOST_PAYOFFS as u64)));
     };
     match last_payoffs(alloc, rest, players, profiles) {
         Ok(payoffs) => Ok(table(alloc, front, payoffs)?),

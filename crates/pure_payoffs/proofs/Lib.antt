@@ -8,5 +8,4 @@ pub mod PlaceLemmas
 pub mod SettledNodeLemmas
 pub mod SettledPlaceLemmas
 pub mod StandInLemmas
-pub mod StepRunLemmas
 pub mod TreePartLemmas

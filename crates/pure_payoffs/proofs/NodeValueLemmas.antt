@@ -4,23 +4,22 @@ use Rattle.std.specs.Prelude.{IfOk, IfErr, OnOk, OnErr}
 use Rattle.std.proofs.lemmas.List.Elements.{All-nil}
 use Rattle.game_theory.specs.Children.{child}
 use Rattle.rational.specs.Rational.{ℚ, ◌+ℚ◌}
-use Rattle.frac128.specs.Steps.{AddFits, unfit, Step, StepFits, IsFirstUnfit}
+use Rattle.frac128.specs.Steps.{AddFits, unfit, Step, StepFits, IsFirstUnfit, StepsGive}
 use Rattle.frac128.specs.declared.steps.Op.TheVariants.{Add}
 use Rattle.frac128.specs.declared.steps.Unfit.{Unfit}
 use Rattle.game_theory.specs.Trees.{Tree, IsTree}
 use Rattle.game_theory.specs.Behaviour.{value, pure}
-use Rattle.pure_payoffs.specs.Plays.{Give, steps_at, steps_after, value_after}
+use Rattle.pure_payoffs.specs.Plays.{steps_at, steps_after, value_after}
 use Rattle.pure_payoffs.proofs.NodeStepLemmas.{steps_at-end, steps_at-inner, value-inner, value-last}
-use Rattle.frac128.proofs.StepRunLemmas.{first_unfit-more}
-use Rattle.pure_payoffs.proofs.StepRunLemmas.{added-gives, following-gives}
+use Rattle.frac128.proofs.StepRunLemmas.{first_unfit-more, added-gives, following-gives}
 
 -- what a child gives is what comes after a player's node
-pub owned-gives : (t : Tree) (choice : ℕ → ℕ) (i k s j c : ℕ) (o : Option ℕ) (r : Result ℚ Unfit) → o ≡ Some j → c ≡ child t k (choice s) → Give (steps_at t choice i c) (value t (pure choice) i c) r → Give (steps_after t choice i k s o) (value_after t choice i k s o) r
-owned-gives t choice i k s j c o r owner e g = rw owner (subst (λ x. Give (steps_at t choice i x) (value t (pure choice) i x) r) e g)
+pub owned-gives : (t : Tree) (choice : ℕ → ℕ) (i k s j c : ℕ) (o : Option ℕ) (r : Result ℚ Unfit) → o ≡ Some j → c ≡ child t k (choice s) → StepsGive (steps_at t choice i c) (value t (pure choice) i c) r → StepsGive (steps_after t choice i k s o) (value_after t choice i k s o) r
+owned-gives t choice i k s j c o r owner e g = rw owner (subst (λ x. StepsGive (steps_at t choice i x) (value t (pure choice) i x) r) e g)
 
 module _ (t : Tree) (choice : ℕ → ℕ) (i : ℕ) (w : IsTree t) (chosen : (s j : ℕ) → s < t.sets → t.owner s ≡ Some j → choice s < t.actions s) (k : ℕ) (l : k < t.size) where
   -- an end gives what its outcome pays
-  pub end-gives : (p : ℚ) → t.set k ≡ None → p ≡ t.pays k i → Give (steps_at t choice i k) (value t (pure choice) i k) (Ok p)
+  pub end-gives : (p : ℚ) → t.set k ≡ None → p ≡ t.pays k i → StepsGive (steps_at t choice i k) (value t (pure choice) i k) (Ok p)
   end-gives p e is = (is ∙ sym (value-last t choice i w chosen k l e), subst (All StepFits) (sym (steps_at-end t choice i w chosen k l e)) (All-nil StepFits))
 
   module _ (s : ℕ) (e : t.set k ≡ Some s) where
@@ -30,7 +29,7 @@ module _ (t : Tree) (choice : ℕ → ℕ) (i : ℕ) (w : IsTree t) (chosen : (s
 
     -- what the addition to the outcome's payoff gives is what the node gives
     pub node-added : (p x : ℚ) (r : Result ℚ Unfit) → p ≡ t.pays k i → x ≡ value_after t choice i k s (t.owner s) → All StepFits (steps_after t choice i k s (t.owner s))
-        → IfOk r (λ f. f ≡ p +ℚ x) → OnOk r (AddFits p x) → IfErr r (λ u. u ≡ unfit Add p x) → OnErr r (AddFits p x → ⊥) → Give (steps_at t choice i k) (value t (pure choice) i k) r
+        → IfOk r (λ f. f ≡ p +ℚ x) → OnOk r (AddFits p x) → IfErr r (λ u. u ≡ unfit Add p x) → OnErr r (AddFits p x → ⊥) → StepsGive (steps_at t choice i k) (value t (pure choice) i k) r
     node-added p x r pays is fit sum fits step refused =
         let whole = following-gives (steps_after t choice i k s (t.owner s)) (unfit Add p x ∷ []) (p +ℚ x) r fit (added-gives p x r sum fits step refused) in
         rw (steps_at-inner t choice i w chosen k s l e, value-inner t choice i w chosen k s l e, ← is, ← pays) whole

@@ -7,7 +7,8 @@ use Rattle.frac128.proofs.LikeSumLemmas.{left_zero}
 use Rattle.frac128.specs.declared.steps.Unfit.{Unfit}
 use Rattle.game_theory.specs.Trees.{Tree, IsTree}
 use Rattle.game_theory.specs.Behaviour.{value, pure}
-use Rattle.pure_payoffs.specs.Plays.{Give, steps_at}
+use Rattle.frac128.specs.Steps.{StepsGive}
+use Rattle.pure_payoffs.specs.Plays.{steps_at}
 use Rattle.pure_payoffs.specs.Shortcuts.{OnlyLeadsTo, StandsFor}
 use Rattle.pure_payoffs.proofs.NodeValueLemmas.{owned-gives, following-refused, node-added}
 
@@ -18,7 +19,7 @@ module _ (t : Tree) (choice : ℕ → ℕ) (w : IsTree t) (chosen : (s j : ℕ) 
   StandsFor-self k l = record { not_before = omega arith; within = l; gives = λ i r fits g. g }
 
   -- what the node after gives
-  only-gives : (k c : ℕ) → k < t.size → OnlyLeadsTo t choice k c → (i : ℕ) (r : Result ℚ Unfit) → IfOk r Fits → Give (steps_at t choice i c) (value t (pure choice) i c) r → Give (steps_at t choice i k) (value t (pure choice) i k) r
+  only-gives : (k c : ℕ) → k < t.size → OnlyLeadsTo t choice k c → (i : ℕ) (r : Result ℚ Unfit) → IfOk r Fits → StepsGive (steps_at t choice i c) (value t (pure choice) i c) r → StepsGive (steps_at t choice i k) (value t (pure choice) i k) r
   only-gives k c l o i (Ok x) fits g =
       let following = owned-gives t choice i k o.set o.owner c (t.owner o.set) (Ok x) o.own o.leads g in
       node-added t choice i w chosen k l o.set o.at_set zero_ℚ x (Ok x) (sym (o.pays_nothing i)) following.0 following.1 (left_zero zero_ℚ x refl fits).0 (left_zero zero_ℚ x refl fits).1 tt tt

@@ -1,10 +1,10 @@
 -- What the steps of a play are computed from.
-use Rattle.std.specs.Prelude.{ℕ, ◌≡◌, List, [], ◌∷◌, ◌++◌, if◌then◌else◌, map, length, All, Option, Some, None, Result, MatchResult}
+use Rattle.std.specs.Prelude.{ℕ, List, [], ◌∷◌, ◌++◌, if◌then◌else◌, map, length, Option, Some, None, Result}
 use Rattle.game_theory.specs.Children.{AreChildren, child}
 use Rattle.rational.specs.Tests.{eq_ℚ}
 use Rattle.rational.specs.Rational.{ℚ, ◌*ℚ◌, zero_ℚ}
 use Rattle.rational.specs.Sum.{sum_to}
-use Rattle.frac128.specs.Steps.{unfit, Step, StepFits, IsFirstUnfit}
+use Rattle.frac128.specs.Steps.{unfit, Step, StepsGive}
 use Rattle.frac128.specs.declared.steps.Op.TheVariants.{Add, Mul}
 use Rattle.frac128.specs.declared.steps.Unfit.{Unfit}
 use Rattle.game_theory.specs.Profiles.{IsProfile}
@@ -40,17 +40,13 @@ choice_of play = completed (game_of play) (strategies_of play) play.profile.now
 abbrev pub IsPlayed : Play → Type 0
 IsPlayed play = IsPlay (game_of play) (map (λ v. v.items) play.children.now) play.places.now (strategies_of play) play.profile.now
 
--- what these steps give: a value where all fit, and else the first that does not
-abbrev pub Give : List Step → ℚ → Result ℚ Unfit → Type 0
-Give steps v result = MatchResult result (λ x. (x ≡ v) × All StepFits steps) (IsFirstUnfit steps)
-
 -- the steps of a node's value
 abbrev pub steps_at : Tree → (ℕ → ℕ) → ℕ → ℕ → List Step
 steps_at t choice i k = steps_to t choice i t.size k
 
 -- what the steps of node k's value for player i give
 abbrev pub GiveAt : Tree → (ℕ → ℕ) → ℕ → ℕ → Result ℚ Unfit → Type 0
-GiveAt t choice i k result = Give (steps_at t choice i k) (value t (pure choice) i k) result
+GiveAt t choice i k result = StepsGive (steps_at t choice i k) (value t (pure choice) i k) result
 
 -- The steps with which a child's product with its probability is added to a sum: none where the probability is 0, and else those of
 -- the child, the product and the addition.

@@ -7,7 +7,8 @@ use Rattle.frac128.specs.declared.steps.Unfit.{Unfit}
 use Rattle.game_theory.specs.Trees.{Tree}
 use Rattle.game_theory.specs.Behaviour.{value, pure}
 use Rattle.pure_payoffs.specs.declared.shortcuts.Shortcuts.{Shortcuts}
-use Rattle.pure_payoffs.specs.Plays.{Give, steps_at}
+use Rattle.frac128.specs.Steps.{StepsGive}
+use Rattle.pure_payoffs.specs.Plays.{steps_at}
 use Rattle.pure_payoffs.specs.Settled.{KeepValues}
 
 -- at node k a player chooses and nothing is paid, and the choice leads to node c
@@ -26,7 +27,8 @@ pub record StandsFor (t : Tree) (choice : ℕ → ℕ) (k s : ℕ) : Type 0 wher
   pub not_before : k ≤ s
   pub within : s < t.size
   pub gives : (i : ℕ) (result : Result ℚ Unfit) → IfOk result Fits
-      → Give (steps_at t choice i s) (value t (pure choice) i s) result → Give (steps_at t choice i k) (value t (pure choice) i k) result
+      → StepsGive (steps_at t choice i s) (value t (pure choice) i s) result
+      → StepsGive (steps_at t choice i k) (value t (pure choice) i k) result
 
 -- there is room for the nodes, no entry is from a later round, and the values that are kept are right for every profile
 pub record HasRoom (t : Tree) (shortcuts : Shortcuts) : Type 0 where

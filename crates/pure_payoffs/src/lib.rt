@@ -3,11 +3,12 @@
 //!
 //! Callers may rely on: `Play::payoff` gives what a profile pays, or the first step in the order of
 //! `specs::Steps` that does not fit; `children_of_all`, the children of each node.
-//! Definitions: `specs::Steps` has the steps of a payoff in order, `Plays` what they start from,
-//! `Shortcuts` what is kept between payoffs.
+//! Definitions: `specs::Steps` has the steps of a payoff in order, `Plays` what they start from and
+//! the steps of one branch of chance, `Shortcuts` what is kept between payoffs.
 //! Private words: `specs::Settled`, nodes whose value no profile changes, and `specs::Filled`.
-//! Lemmas for callers: `proofs::StepRunLemmas` on what steps give, `NodeStepLemmas` on a node.
-//! A change here touches: `reduced_form` and `ne_checker`.
+//! Lemmas for callers: `proofs::NodeStepLemmas` on the steps of a node, `BranchStepLemmas` on those
+//! of a branch of chance, `ChoiceLemmas` on choices, `PlaceLemmas` on children and strategies.
+//! A change here touches: `reduced_form`, `behaviour_profile` and `ne_checker`.
 #![tactic(auto)]
 
 mod children;

@@ -52,9 +52,9 @@ impl<'a> Play<'a> {
     ghost use Rattle.game_core.specs.Tree.{kind_of_owner};
     ghost use Rattle.reduced_strategies.specs.Places.{ArePlaces};
     ghost use Rattle.reduced_strategies.specs.StrategicForm.{AreStrategies};
-    ghost use Rattle.pure_payoffs.specs.Plays.{IsPlayed, Give, game_of, strategies_of, choice_of, steps_at, branch_steps, steps_after, value_after};
+    ghost use Rattle.pure_payoffs.specs.Plays.{IsPlayed, game_of, strategies_of, choice_of, steps_at, branch_steps, steps_after, value_after};
     ghost use Rattle.pure_payoffs.specs.Shortcuts.{KeepShortcuts};
-    ghost use Rattle.frac128.specs.Steps.{StepFits, IsFirstUnfit};
+    ghost use Rattle.frac128.specs.Steps.{StepFits, IsFirstUnfit, StepsGive};
     ghost use Rattle.pure_payoffs.specs.Steps.{payoff_steps};
 
     /// What the profile pays a player, where the first action is taken at each set to which the player's strategy
@@ -93,7 +93,7 @@ impl<'a> Play<'a> {
         ensures keep { KeepShortcuts (game_of self.now) (choice_of self.now) shortcuts.new }
         ensures gives { let t = game_of self.now in
             let choice = choice_of self.now in
-            Give (steps_at t choice player node) (value t (pure choice) player node) result }
+            StepsGive (steps_at t choice player node) (value t (pure choice) player node) result }
     {
         let target = shortcuts.take(self, node);
         if let Some(value) = shortcuts.settled_value(self, target, player) {
@@ -116,7 +116,7 @@ impl<'a> Play<'a> {
         ensures keep { KeepShortcuts (game_of self.now) (choice_of self.now) shortcuts.new }
         ensures gives { let t = game_of self.now in
             let choice = choice_of self.now in
-            Give (steps_at t choice player node) (value t (pure choice) player node) result }
+            StepsGive (steps_at t choice player node) (value t (pure choice) player node) result }
     {
         let here = self.tree.nodes()[node as usize];
         let pays = outcome_payoff(self.tree, here.outcome, player);
@@ -145,7 +145,7 @@ impl<'a> Play<'a> {
         ensures keep { KeepShortcuts (game_of self.now) (choice_of self.now) shortcuts.new }
         ensures gives { let t = game_of self.now in
             let choice = choice_of self.now in
-            Give (steps_after t choice player node set (t.owner set))
+            StepsGive (steps_after t choice player node set (t.owner set))
             (value_after t choice player node set (t.owner set)) result }
     {
         match kind {
@@ -174,7 +174,7 @@ impl<'a> Play<'a> {
         ensures keep { KeepShortcuts (game_of self.now) (choice_of self.now) shortcuts.new }
         ensures gives { let t = game_of self.now in
             let choice = choice_of self.now in
-            Give (steps_after t choice player node set None)
+            StepsGive (steps_after t choice player node set None)
             (value_after t choice player node set None) result }
     {
         let actions = self.tree.sets()[set as usize].actions();
@@ -204,7 +204,8 @@ impl<'a> Play<'a> {
         ensures keep { KeepShortcuts (game_of self.now) (choice_of self.now) shortcuts.new }
         ensures gives { let t = game_of self.now in
             let choice = choice_of self.now in
-            Give (branch_steps prob sum (value t (pure choice) player child) (steps_at t choice player child))
+            StepsGive (branch_steps prob sum (value t (pure choice) player child)
+            (steps_at t choice player child))
             (sum +ℚ prob *ℚ value t (pure choice) player child) result }
     {
         if prob.is_zero() {

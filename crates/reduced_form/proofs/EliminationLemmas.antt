@@ -1,15 +1,18 @@
 -- The strategies of a list that are not dominated, as they are found one after another.
-use Rattle.std.proofs.Common.{ℕ, ◌+◌, ◌<◌, ◌≡◌, ◌⊎◌, inl, inr, All, List, [], ◌∷◌, ◌++◌, length, take, get_or, sym, ap, ◌∙◌, subst, arith}
+use Rattle.std.proofs.Common.{ℕ, ◌+◌, ◌<◌, ◌≤◌, ◌≡◌, ◌⊎◌, inl, inr, All, List, [], ◌∷◌, ◌++◌, length, take, get_or, sum, sym, ap, ◌∙◌, subst, arith}
 use Rattle.std.specs.Prelude.{Contains}
 use Rattle.std.specs.List.Sorted.{IsStrictlyIncreasing}
 use Rattle.std.proofs.lemmas.List.{get_or-take, length-take-le, length_push, take_more}
 use Rattle.std.proofs.lemmas.List.Elements.{Contains-get_or, Contains-append_left, Contains-push, Contains-push_cases}
 use Rattle.std.proofs.lemmas.List.Kept.{AllPairs-from_increasing}
-use Rattle.game_core.specs.Table.{GameTable, game_of, strategy_counts}
+use Rattle.lists.proofs.ElementLemmas.{two-elements}
+use Rattle.game_core.specs.Table.{GameTable, IsTable, game_of, strategy_counts}
+use Rattle.game_core.proofs.TableCountLemmas.{length-strategy_counts}
 use Rattle.game_theory.specs.Profiles.{Game}
 use Rattle.extreme_equilibria.specs.Elimination.{AreListed, IsDominated, AreKept, AreKeptAfter}
 use Rattle.extreme_equilibria.proofs.RoundLemmas.{kept-within}
 use Rattle.extreme_equilibria.proofs.KeptListLemmas.{place, listed-push, listed-same}
+use Rattle.reduced_form.specs.Kept.{most_strategies}
 
 -- at first there is none
 pub none-listed : (xs : List ℕ) → xs ≡ [] → AreListed (λ s. s < 0) xs
@@ -22,6 +25,12 @@ within-all t n i xs ys h e = subst (All (λ s. s < get_or (strategy_counts t) i 
 -- and so are those that are kept
 pub kept-all : (t : GameTable) (i : ℕ) (xs ys : List ℕ) → AreKept (game_of t) i xs → ys ≡ xs → All (λ s. s < get_or (strategy_counts t) i 0) ys
 kept-all t i xs ys h e = subst (All (λ s. s < get_or (strategy_counts t) i 0)) (sym e) (λ k d l. kept-within (game_of t) 0 i (get_or xs k d) (h.sound (get_or xs k d) (Contains-get_or xs k d l) 0))
+
+-- the numbers of strategies of two players whose strategies together are few
+pub few_of_two : (t : GameTable) → IsTable t → length t.players ≡ 2 → sum (strategy_counts t) ≤ most_strategies → get_or (strategy_counts t) 0 0 + get_or (strategy_counts t) 1 0 ≤ most_strategies
+few_of_two t valid two few =
+    let e = ap sum (two-elements (strategy_counts t) (length-strategy_counts t valid ∙ two)) in
+    omega (arith, e, few)
 
 -- a round's list of a player
 abbrev pub Round : Game → ℕ → List ℕ → List ℕ → List ℕ → Type 0

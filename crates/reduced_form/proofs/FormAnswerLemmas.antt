@@ -7,10 +7,10 @@ use Rattle.reduced_strategies.specs.StrategicForm.{AreStrategies}
 use Rattle.game_core.specs.Table.{most_payoffs}
 use Rattle.game_core.specs.Tree.{GameTree}
 use Rattle.game_core.specs.TreeGame.{game_of_tree}
-use Rattle.reduced_form.specs.Counts.{AreCounted, choices_by}
+use Rattle.reduced_form.specs.Counts.{AreCounted, choices_by, counts_in}
 use Rattle.reduced_form.specs.Limits.{most_choices}
 use Rattle.reduced_form.specs.ReducedForm.{ReducedForm, IsReducedForm}
-use Rattle.reduced_form.specs.Stops.{cells_in, reduced_form_of, too_many_choices, within_limits}
+use Rattle.reduced_form.specs.Stops.{cells_in, reduced_form_of, within_limits}
 use Rattle.reduced_form.specs.declared.stop.ReduceStop.{ReduceStop}
 use Rattle.reduced_form.specs.declared.stop.ReduceStop.TheVariants as stops
 use Rattle.reduced_form.proofs.FormCountLemmas.{choice_count-by, counted-same}
@@ -22,8 +22,7 @@ form_of tree form h = h.2.2.2.0
 -- want of memory is no reason
 pub form_not_memory : (tree : GameTree) → reduced_form_of tree (Err stops.Memory) → ⊥
 form_not_memory tree (inl h) = h
-form_not_memory tree (inr (_, _, inl (inl (_, e)))) = cc
-form_not_memory tree (inr (_, _, inl (inr (_, _, h)))) = (let e : stops.Memory ≡ stops.TooLarge too_many_choices = h.1 in cc)
+form_not_memory tree (inr (_, _, inl (_, _, e))) = cc
 form_not_memory tree (inr (_, _, inr (_, _, inl (_, _, e)))) = cc
 form_not_memory tree (inr (_, _, inr (_, _, inr (_, _, h)))) = h
 
@@ -38,6 +37,12 @@ form-within t counts strategies h a payoffs choices =
 -- so there are no more payoffs than may be
 pub few_payoffs : (t : Tree) (strategies : List (List (List ℕ))) → within_limits t strategies (Ok tt) → t.players * profile_count (map length strategies) ≤ most_payoffs
 few_payoffs t strategies h = omega (arith, h.1)
+
+-- a stop of the counts is one of the form
+pub counts_stop : (tree : GameTree) (stop : ReduceStop) → Gives stops.Memory (counts_in (game_of_tree tree)) (Err stop) → Gives stops.Memory (reduced_form_of tree) (Err stop)
+counts_stop tree stop (inl e) = inl e
+counts_stop tree stop (inr (inl h)) = absurd h
+counts_stop tree stop (inr (inr (strategies, a, h))) = inr (inr (strategies, a, inl h))
 
 -- a stop of the cells is one of the form
 pub cells_stop : (tree : GameTree) (strategies : List (List (List ℕ))) (stop : ReduceStop) → AreStrategies (game_of_tree tree) strategies → within_limits (game_of_tree tree) strategies (Ok tt)

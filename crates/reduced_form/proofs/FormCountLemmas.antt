@@ -19,7 +19,8 @@ use Rattle.game_core.specs.Table.{most_payoffs}
 use Rattle.strategy_lists.specs.Decisions.{HasCount}
 use Rattle.reduced_form.specs.Counts.{AreCounts, AreCounted, choices_by, counts_in}
 use Rattle.reduced_form.specs.Limits.{choice_count, choices_from, most_choices}
-use Rattle.reduced_form.specs.Stops.{too_many_choices, too_many_payoffs}
+use Rattle.game_core.specs.Limits.{first_above}
+use Rattle.game_core.specs.declared.too_large.What.TheVariants as what
 use Rattle.reduced_form.specs.declared.stop.ReduceStop.TheVariants as stops
 
 -- ---- products
@@ -104,11 +105,11 @@ counts-front t strategies counts w a h l =
     subst (λ x. x ≤ profile_count (map length strategies)) (sym (ap profile_count (counts_are t strategies counts a h l))) (profile_count-front (length counts) (map length strategies) (counts-positive t strategies w a))
 
 -- the first players alone have too many profiles
-pub many-front : (t : Tree) (counts : List ℕ) → IsTree t → AreCounts t counts → length counts ≤ t.players → most_payoffs < t.players * profile_count counts → counts_in t (Err (stops.TooLarge too_many_payoffs))
+pub many-front : (t : Tree) (counts : List ℕ) → IsTree t → AreCounts t counts → length counts ≤ t.players → most_payoffs < t.players * profile_count counts → counts_in t (Err (stops.TooLarge (first_above what.Payoffs most_payoffs)))
 many-front t counts w h l many =
     let s = all_strategies t w in
     let more : t.players * profile_count counts ≤ t.players * profile_count (map length s.0) = N.mul-le-mul_left t.players (counts-front t s.0 counts w s.1 h l) in
-    inr (s.0, s.1, inl (omega arith, refl))
+    inr (s.0, s.1, (first_above what.Payoffs most_payoffs, inl (omega arith, refl), refl))
 
 -- a count above the quotient of the limit takes the product above the limit
 above_quotient : (limit payoffs count : ℕ) → 0 < payoffs → limit / payoffs < count → limit < payoffs * count
@@ -119,7 +120,7 @@ above_quotient limit payoffs count p h =
 
 -- one more player takes the number of payoffs above the limit
 pub many-next : (t : Tree) (counts : List ℕ) (payoffs all : ℕ) → IsTree t → AreCounts t counts → HasCount t (length counts) all → length counts < t.players
-    → payoffs ≡ t.players * profile_count counts → 0 < payoffs → most_payoffs / payoffs < all → counts_in t (Err (stops.TooLarge too_many_payoffs))
+    → payoffs ≡ t.players * profile_count counts → 0 < payoffs → most_payoffs / payoffs < all → counts_in t (Err (stops.TooLarge (first_above what.Payoffs most_payoffs)))
 many-next t counts payoffs all w h last l is p above =
     let product : t.players * profile_count (counts ++ all ∷ []) ≡ payoffs * all = ap (λ x. t.players * x) (profile_count-push counts all) ∙ sym (N.mul_assoc t.players (profile_count counts) all) ∙ ap (λ x. x * all) (sym is) in
     let many : most_payoffs < payoffs * all = above_quotient most_payoffs payoffs all p above in
@@ -168,12 +169,12 @@ pub choice_count-by : (t : Tree) (strategies : List (List (List ℕ))) (counts :
 choice_count-by t strategies counts e = choices_from-by t 0 strategies ∙ ap (choices_by t 0) (sym e)
 
 -- the first players alone have too many choices
-pub many-choices : (t : Tree) (counts : List ℕ) (k : ℕ) → AreCounted t counts → t.players * profile_count counts ≤ most_payoffs → most_choices < choices_by t 0 (take k counts) → counts_in t (Err (stops.TooLarge too_many_choices))
+pub many-choices : (t : Tree) (counts : List ℕ) (k : ℕ) → AreCounted t counts → t.players * profile_count counts ≤ most_payoffs → most_choices < choices_by t 0 (take k counts) → counts_in t (Err (stops.TooLarge (first_above what.Choices most_choices)))
 many-choices t counts k h few many =
     let front = choices_by-front t 0 k counts in
     let whole = choice_count-by t h.strategies counts h.counts_are in
     let payoffs = subst (λ x. t.players * profile_count x ≤ most_payoffs) h.counts_are few in
-    inr (h.strategies, h.are_strategies, inr (tt, (λ more. omega arith), (omega arith, refl)))
+    inr (h.strategies, h.are_strategies, (first_above what.Choices most_choices, inr (tt, (λ more. omega arith), (omega arith, refl)), refl))
 
 -- ---- steps of the counts
 -- a count that stops above a number, and is above it
@@ -212,7 +213,7 @@ AreCountedSoFar-step t player payoffs count all counts new w h l pushed has is b
 
 -- one more player has too many strategies
 pub AreCountedSoFar-many : (t : Tree) (player payoffs count all : ℕ) (counts : List ℕ) → IsTree t → AreCountedSoFar t player payoffs counts → player < t.players
-    → HasCount t player all → count ≡ min all (most_payoffs / payoffs + 1) → most_payoffs / payoffs < count → counts_in t (Err (stops.TooLarge too_many_payoffs))
+    → HasCount t player all → count ≡ min all (most_payoffs / payoffs + 1) → most_payoffs / payoffs < count → counts_in t (Err (stops.TooLarge (first_above what.Payoffs most_payoffs)))
 AreCountedSoFar-many t player payoffs count all counts w h l has is above =
     many-next t counts payoffs all w h.are_counts (subst (λ k. HasCount t k all) (sym h.one_for_each) has) (omega (arith, h.one_for_each)) h.payoffs_are (h.some (omega arith)) (above_min count all (most_payoffs / payoffs) is above)
 

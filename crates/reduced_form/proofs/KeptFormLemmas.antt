@@ -1,5 +1,5 @@
 -- The table over the kept strategies of two players.
-use Rattle.std.proofs.Common.{ℕ, zero, suc, ◌+◌, ◌*◌, ◌<◌, ◌≤◌, ◌≡◌, All, List, [], ◌∷◌, length, map, get_or, refl, sym, ap, ap₂, ◌∙◌, subst, arith}
+use Rattle.std.proofs.Common.{ℕ, zero, suc, ◌+◌, ◌*◌, ◌<◌, ◌≤◌, ◌≡◌, All, List, [], ◌∷◌, length, map, get_or, sum, refl, sym, ap, ap₂, ◌∙◌, subst, arith}
 use Rattle.std.proofs.lemmas.List.{length-map, get_or_default}
 use Rattle.std.proofs.Math.Nat.{mul-le-mul}
 use native.Mathlib.Nat as N
@@ -7,12 +7,11 @@ use Rattle.lists.proofs.NumberLemmas.{below_two}
 use Rattle.rational.specs.Rational.{ℚ, zero_ℚ}
 use Rattle.game_theory.specs.Profiles.{profile_count}
 use Rattle.game_core.specs.Table.{GameTable, IsTable, game_of, strategy_counts}
-use Rattle.game_core.proofs.TableCountLemmas.{length-strategy_counts}
 use Rattle.extreme_equilibria.specs.KeptTable.{AreKeptLists, kept_table}
 use Rattle.extreme_equilibria.proofs.KeptListLemmas.{ascending-short}
 use Rattle.extreme_equilibria.proofs.KeptStrategyLemmas.{some-kept}
-use Rattle.reduced_form.specs.Kept.{IsKeptForm, HasFewStrategies, most_strategies, kept_names}
-use Rattle.reduced_form.proofs.EliminationLemmas.{kept-all}
+use Rattle.reduced_form.specs.Kept.{IsKeptForm, most_strategies, kept_names}
+use Rattle.reduced_form.proofs.EliminationLemmas.{few_of_two, kept-all}
 
 -- the table over these strategies with these payoffs
 abbrev pub made_table : GameTable → List ℕ → List ℕ → List ℚ → GameTable
@@ -30,22 +29,16 @@ names-two (a ∷ b ∷ c ∷ lists) first second e = absurd (omega (arith, e))
 few-payoffs : (m n : ℕ) → m + n ≤ 512 → m * n * 2 ≤ 1048576
 few-payoffs m n h = let one : m ≤ 512 = omega arith in let two : n ≤ 512 = omega arith in let room : m * n ≤ 512 * 512 = mul-le-mul one two in omega (arith, room)
 
-module _ (t : GameTable) (valid : IsTable t) (few : HasFewStrategies t) (first second : List ℕ) (kept : AreKeptLists (game_of t) (first ∷ second ∷ [])) where
-  pub two-counts : length (strategy_counts t) ≡ 2
-  two-counts = ap length few.strategies
-
-  pub two-of_players : length t.players ≡ 2
-  two-of_players = sym (length-strategy_counts t valid) ∙ two-counts
-
+module _ (t : GameTable) (valid : IsTable t) (two : length t.players ≡ 2) (few : sum (strategy_counts t) ≤ most_strategies) (first second : List ℕ) (kept : AreKeptLists (game_of t) (first ∷ second ∷ [])) where
   two-names : length t.strategies ≡ 2
-  two-names = valid.strategies_of_each ∙ two-of_players
+  two-names = valid.strategies_of_each ∙ two
 
   -- no more strategies are kept than there are
   pub few-kept : length first + length second ≤ most_strategies
   few-kept =
       let one = ascending-short first (get_or (strategy_counts t) 0 0) (kept.are_kept 0 (omega arith)).ascending (λ j l. kept-all t 0 first first (kept.are_kept 0 (omega arith)) refl j 0 l) in
-      let two = ascending-short second (get_or (strategy_counts t) 1 0) (kept.are_kept 1 (omega arith)).ascending (λ j l. kept-all t 1 second second (kept.are_kept 1 (omega arith)) refl j 0 l) in
-      omega (arith, one, two, few.few, ap (λ ns. get_or ns 0 0) few.strategies, ap (λ ns. get_or ns 1 0) few.strategies)
+      let other = ascending-short second (get_or (strategy_counts t) 1 0) (kept.are_kept 1 (omega arith)).ascending (λ j l. kept-all t 1 second second (kept.are_kept 1 (omega arith)) refl j 0 l) in
+      omega (arith, one, other, few_of_two t valid two few)
 
   -- each player has some strategy
   some : (i : ℕ) → i < 2 → 0 < get_or (strategy_counts t) i 0
@@ -71,12 +64,12 @@ module _ (t : GameTable) (valid : IsTable t) (few : HasFewStrategies t) (first s
     module _ (long : length payoffs ≡ length first * length second * 2) where
       pub made-is_table : IsTable made
       made-is_table = record {
-        strategies_of_each = ap length (names-two t.strategies first second two-names) ∙ sym two-of_players;
+        strategies_of_each = ap length (names-two t.strategies first second two-names) ∙ sym two;
         some_strategy = subst (All (λ names. 0 < length names)) (sym (names-two t.strategies first second two-names)) (λ k d l.
             subst (λ x. 0 < length x) (get_or_default (map (λ p. get_or (get_or t.strategies 0 []) p []) first ∷ map (λ p. get_or (get_or t.strategies 1 []) p []) second ∷ []) k [] d l) (below_two (λ k. 0 < length (get_or (map (λ p. get_or (get_or t.strategies 0 []) p []) first ∷ map (λ p. get_or (get_or t.strategies 1 []) p []) second ∷ []) k []))
             (subst (λ n. 0 < n) (sym (length-map first (λ p. get_or (get_or t.strategies 0 []) p []))) (some-kept (game_of t) some 0 first (omega arith) (kept.are_kept 0 (omega arith))))
             (subst (λ n. 0 < n) (sym (length-map second (λ p. get_or (get_or t.strategies 1 []) p []))) (some-kept (game_of t) some 1 second (omega arith) (kept.are_kept 1 (omega arith)))) k l));
-        payoffs_of_each = long ∙ N.mul_comm (length first * length second) 2 ∙ ap₂ (λ p n. p * n) (sym two-of_players) (sym (ap profile_count counts-made ∙ ap (λ n. length first * n) (N.mul-one (length second))));
+        payoffs_of_each = long ∙ N.mul_comm (length first * length second) 2 ∙ ap₂ (λ p n. p * n) (sym two) (sym (ap profile_count counts-made ∙ ap (λ n. length first * n) (N.mul-one (length second))));
         few_payoffs = omega (arith, long, few-payoffs (length first) (length second) few-kept);
       }
 
@@ -91,7 +84,7 @@ module _ (t : GameTable) (valid : IsTable t) (few : HasFewStrategies t) (first s
         names_are = refl;
         same_cells = record {
           strategies = counts-made;
-          cells = λ i k l b. subst (λ n. get_or payoffs (k * n + i) zero_ℚ ≡ (kept_table (game_of t) (first ∷ second ∷ [])).pays i k) (sym two-of_players)
+          cells = λ i k l b. subst (λ n. get_or payoffs (k * n + i) zero_ℚ ≡ (kept_table (game_of t) (first ∷ second ∷ [])).pays i k) (sym two)
               (cells i k (omega (arith, l, ap length counts-made)) (omega (arith, b, ap profile_count counts-made, ap (λ n. length first * n) (N.mul-one (length second)))));
         };
       }

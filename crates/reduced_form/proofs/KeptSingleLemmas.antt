@@ -1,16 +1,17 @@
--- A table has one list of kept strategies of each player, and one table over them.
-use Rattle.std.proofs.Common.{ℕ, ◌+◌, ◌*◌, ◌<◌, ◌≡◌, Ok, Err, List, [], ◌∷◌, length, map, get_or, sym, ap, ap₂, ◌∙◌, subst, arith}
-use Rattle.answers.specs.Answers.{IsSingle}
+-- A table has one list of kept strategies of each player, and one table over them; want of memory is
+-- no reason why there is none.
+use Rattle.std.proofs.Common.{ℕ, ◌+◌, ◌*◌, ◌<◌, ◌≡◌, ◌≢◌, inl, inr, Err, List, [], ◌∷◌, length, map, get_or, sum, sym, ap, ap₂, ◌∙◌, subst, arith}
+use Rattle.answers.specs.Answers.{◌>>◌, IsSingle, refuse_where, refused_by, such_that}
+use Rattle.answers.proofs.AnswerLemmas.{bind-single, refuse_where-single, refused_by-single, such_that-single}
 use Rattle.rational.specs.Rational.{zero_ℚ}
 use Rattle.game_theory.specs.Profiles.{profile_count}
-use Rattle.game_core.specs.Table.{GameTable, IsTable, game_of, strategy_counts}
-use Rattle.game_core.specs.declared.too_large.TooLarge.{TooLarge}
+use Rattle.game_core.specs.Table.{GameTable, game_of, strategy_counts}
+use Rattle.game_core.specs.Limits.{within}
 use Rattle.game_core.specs.declared.too_large.What.TheVariants as what
 use Rattle.game_core.proofs.TableCountLemmas.{length-strategy_counts}
 use Rattle.extreme_equilibria.specs.KeptTable.{kept_table}
 use Rattle.extreme_equilibria.proofs.KeptListLemmas.{one_list}
-use Rattle.reduced_form.specs.Kept.{KeptForm, IsKeptForm, HasFewStrategies, HasTooManyStrategies, most_strategies, kept_lists, kept_of, kept_names}
-use Rattle.reduced_form.specs.declared.kept_stop.KeptStop.{KeptStop}
+use Rattle.reduced_form.specs.Kept.{KeptForm, IsKeptForm, most_strategies, kept_lists, kept_of, kept_names}
 use Rattle.reduced_form.specs.declared.kept_stop.KeptStop.TheVariants as stops
 use Rattle.reduced_form.proofs.OneFormLaws.{payoffs-same, tables-same}
 
@@ -41,41 +42,16 @@ forms-same t one other h g =
     left ∙ ap (λ x. (kept_table (game_of t) x).pays i k) lists ∙ sym moved in
     forms-as one other first second (tables-same one.table other.table (h.title_is ∙ sym g.title_is) players names (payoffs-same count profiles one.table.payoffs other.table.payoffs h.is_table.payoffs_of_each short same))
 
--- ---- reasons
-abbrev too_many : ℕ → TooLarge
-too_many count = record { what = what.Labels; count = count; limit = most_strategies }
-
--- two players have few enough strategies or too many
-few-many : (t : GameTable) (limit : TooLarge) → HasFewStrategies t → HasTooManyStrategies t limit → ⊥
-few-many t limit h g =
-    let e = sym h.strategies ∙ g.strategies in
-    omega (arith, h.few, g.many, ap (λ ns. get_or ns 0 0) e, ap (λ ns. get_or ns 1 0) e)
-
--- the players of a table with so many strategies
-two-players : (t : GameTable) (m n : ℕ) → IsTable t → strategy_counts t ≡ m ∷ n ∷ [] → length t.players ≡ 2
-two-players t m n h e = sym (length-strategy_counts t h) ∙ ap length e
-
--- there is one reason
-reasons-same : (t : GameTable) (one other : KeptStop) → IsTable t → kept_of t (Err one) → kept_of t (Err other) → one ≡ other
-reasons-same t stops.Memory other w h g = absurd h
-reasons-same t one stops.Memory w h g = absurd g
-reasons-same t (stops.NotTwoPlayers a) (stops.NotTwoPlayers b) w h g = ap stops.NotTwoPlayers (h.1 ∙ sym g.1)
-reasons-same t (stops.NotTwoPlayers a) (stops.TooLarge r) w h g = absurd (h.0 (two-players t g.m g.n w g.strategies))
-reasons-same t (stops.TooLarge l) (stops.NotTwoPlayers b) w h g = absurd (g.0 (two-players t h.m h.n w h.strategies))
-reasons-same t (stops.TooLarge l) (stops.TooLarge r) w h g =
-    let e = sym h.strategies ∙ g.strategies in
-    let sum : h.m + h.n ≡ g.m + g.n = omega (arith, ap (λ ns. get_or ns 0 0) e, ap (λ ns. get_or ns 1 0) e) in
-    ap stops.TooLarge (h.is_limit ∙ ap too_many sum ∙ sym g.is_limit)
-
--- and then nothing is kept
-reason-no_form : (t : GameTable) (stop : KeptStop) → IsTable t → HasFewStrategies t → kept_of t (Err stop) → ⊥
-reason-no_form t (stops.NotTwoPlayers count) w h g = g.0 (two-players t h.m h.n w h.strategies)
-reason-no_form t (stops.TooLarge limit) w h g = few-many t limit h g
-reason-no_form t stops.Memory w h g = g
-
 -- ---- one answer
-pub kept_of-single : (t : GameTable) → IsTable t → IsSingle (kept_of t)
-kept_of-single t w (Ok one) (Ok other) h g = ap Ok (forms-same t one other h.1 g.1)
-kept_of-single t w (Ok one) (Err stop) h g = absurd (reason-no_form t stop w h.0 g)
-kept_of-single t w (Err stop) (Ok other) h g = absurd (reason-no_form t stop w g.0 h)
-kept_of-single t w (Err one) (Err other) h g = ap Err (reasons-same t one other w h g)
+pub kept_of-single : (t : GameTable) → IsSingle (kept_of t)
+kept_of-single t =
+    let limit = within what.Labels most_strategies (sum (strategy_counts t)) in
+    bind-single (refuse_where (length t.players ≢ 2) (stops.NotTwoPlayers (length t.players))) (λ _. refused_by stops.TooLarge limit >> such_that (IsKeptForm t)) (refuse_where-single _ _)
+    (λ _ _. bind-single (refused_by stops.TooLarge limit) (λ _. such_that (IsKeptForm t)) (refused_by-single stops.TooLarge limit (refuse_where-single _ _))
+    (λ _ _. such_that-single (IsKeptForm t) (forms-same t)))
+
+-- ---- want of memory
+pub kept_not_memory : (t : GameTable) → kept_of t (Err stops.Memory) → ⊥
+kept_not_memory t (inl (_, e)) = cc
+kept_not_memory t (inr (_, _, inl (_, _, e))) = cc
+kept_not_memory t (inr (_, _, inr (_, _, h))) = h

@@ -1,24 +1,26 @@
 -- A tree has one reduced form, or one reason at most why it has none.
-use Rattle.std.proofs.Common.{ℕ, ◌+◌, ◌*◌, ◌/◌, ◌%◌, ◌<◌, ◌≡◌, Ok, Err, List, [], length, map, get_or, sym, ap, ap₂, ◌∙◌, subst, arith}
+use Rattle.std.proofs.Common.{ℕ, ◌+◌, ◌*◌, ◌/◌, ◌%◌, ◌<◌, ◌≡◌, List, [], length, map, get_or, sym, ap, ap₂, ◌∙◌, subst, arith}
 use Rattle.std.proofs.Math.Nat.{mod-lt, mul_comm}
 use Rattle.std.proofs.lemmas.Nat.{div_below, div-add-mod'}
 use Rattle.std.proofs.lemmas.List.{ext_get_or}
 use Rattle.std.proofs.lemmas.Option.{slice_get-get_or}
 use Rattle.lists.proofs.NumberLemmas.{positive_factor}
-use Rattle.answers.specs.Answers.{◌>>◌, IsSingle, refuse_where}
-use Rattle.answers.proofs.AnswerLemmas.{bind-single, refuse_where-single, refused_by-single}
+use Rattle.answers.specs.Answers.{◌>>◌, IsSingle}
+use Rattle.answers.proofs.AnswerLemmas.{bind-single, refuse_where-single, refused_by-single, such_that-single}
 use Rattle.rational.specs.Rational.{ℚ, zero_ℚ}
 use Rattle.game_theory.specs.Profiles.{profile_count}
 use Rattle.game_theory.specs.Trees.{Tree}
 use Rattle.reduced_strategies.specs.StrategicForm.{AreStrategies, strategic_form}
 use Rattle.reduced_strategies.proofs.StrategyOrderLemmas.{strategies-determined}
+use Rattle.game_core.specs.Limits.{counted_within}
 use Rattle.game_core.specs.Table.{GameTable, most_payoffs}
 use Rattle.game_core.specs.Tree.{GameTree}
 use Rattle.game_core.specs.TreeGame.{game_of_tree}
+use Rattle.game_core.specs.declared.too_large.What.TheVariants as what
 use Rattle.frac128.proofs.FirstUnfitLemmas.{all_fit-single}
 use Rattle.reduced_form.specs.Limits.{cell_steps, cells, choice_count, most_choices, payoff_count}
 use Rattle.reduced_form.specs.ReducedForm.{ReducedForm, IsReducedForm, strategy_name}
-use Rattle.reduced_form.specs.Stops.{cells_in, form_over, reduced_form_of, strategies_of, too_many_choices, too_many_payoffs, within_limits}
+use Rattle.reduced_form.specs.Stops.{cells_in, form_over, reduced_form_of, strategies_of, within_limits}
 use Rattle.reduced_form.specs.declared.stop.ReduceStop.TheVariants as stops
 use Rattle.reduced_form.proofs.FormLaws.{counts-named}
 
@@ -72,17 +74,14 @@ forms-same t one other h g =
 -- ---- one answer
 module _ (t : Tree) where
   strategies-single : IsSingle (strategies_of t)
-  strategies-single (Ok one) (Ok other) h g = ap Ok (strategies-same t one other h g)
-  strategies-single (Ok one) (Err stop) h g = absurd g
-  strategies-single (Err stop) other h g = absurd h
+  strategies-single = such_that-single (AreStrategies t) (strategies-same t)
 
   module _ (strategies : List (List (List ℕ))) where
     within-single : IsSingle (within_limits t strategies)
     within-single =
-        let choices = refuse_where (most_choices < choice_count t strategies) (stops.TooLarge too_many_choices) in
-        bind-single (refuse_where (most_payoffs < payoff_count t strategies) (stops.TooLarge too_many_payoffs)) (λ _. choices)
-        (refuse_where-single (most_payoffs < payoff_count t strategies) (stops.TooLarge too_many_payoffs))
-        (λ _ _. refuse_where-single (most_choices < choice_count t strategies) (stops.TooLarge too_many_choices))
+        let payoffs = counted_within what.Payoffs most_payoffs (payoff_count t strategies) in
+        let choices = counted_within what.Choices most_choices (choice_count t strategies) in
+        refused_by-single stops.TooLarge (payoffs >> choices) (bind-single payoffs (λ _. choices) (refuse_where-single _ _) (λ _ _. refuse_where-single _ _))
 
     cells-single : IsSingle (cells_in t strategies)
     cells-single =
@@ -90,9 +89,8 @@ module _ (t : Tree) where
         (all_fit-single (λ cell. cell_steps t strategies cell.0 cell.1) (cells t strategies))
 
 over-single : (t : GameTree) (strategies : List (List (List ℕ))) → IsSingle (form_over t strategies)
-over-single t strategies (Ok one) (Ok other) h g = ap Ok (forms-same t one other h.0 g.0)
-over-single t strategies (Ok one) (Err stop) h g = absurd g
-over-single t strategies (Err stop) other h g = absurd h
+over-single t strategies =
+    such_that-single (λ form. IsReducedForm t form × (form.choices ≡ strategies)) (λ one other h g. forms-same t one other h.0 g.0)
 
 pub form_of-single : (t : GameTree) → IsSingle (reduced_form_of t)
 form_of-single t =

@@ -1,11 +1,11 @@
 -- The table over the strategies that are kept where strictly dominated ones are removed, and why
 -- there is none. Source: Luce and Raiffa 1957. Players, strategies and profiles count from 0.
-use Rattle.std.specs.Prelude.{ℕ, ◌+◌, ◌<◌, ◌≤◌, ◌≡◌, ◌≢◌, List, [], ◌∷◌, length, map, get_or, Ok, Err, refl}
+use Rattle.std.specs.Prelude.{ℕ, ◌≡◌, ◌≢◌, List, [], ◌∷◌, length, map, get_or, sum, refl}
 use Rattle.std.specs.Coded.{Coded, code_by, coded×, coded_ℕ, coded_list}
-use Rattle.answers.specs.Answers.{Answer}
+use Rattle.answers.specs.Answers.{Answer, ◌>>◌, refuse_where, refused_by, such_that}
 use Rattle.extreme_equilibria.specs.KeptTable.{AreKeptLists, kept_table, HaveSameCells}
 use Rattle.game_core.specs.Table.{GameTable, IsTable, code_of_table, game_of, strategy_counts}
-use Rattle.game_core.specs.declared.too_large.TooLarge.{TooLarge}
+use Rattle.game_core.specs.Limits.{within}
 use Rattle.game_core.specs.declared.too_large.What.TheVariants as what
 use Rattle.reduced_form.specs.declared.kept_stop.KeptStop.{KeptStop}
 use Rattle.reduced_form.specs.declared.kept_stop.KeptStop.TheVariants as stops
@@ -48,26 +48,10 @@ pub record IsKeptForm (table : GameTable) (kept : KeptForm) : Type 0 where
 abbrev pub most_strategies : ℕ
 most_strategies = 512
 
--- two players have few enough strategies together
-pub record HasFewStrategies (table : GameTable) : Type 0 where
-  pub m : ℕ
-  pub n : ℕ
-  pub strategies : strategy_counts table ≡ m ∷ n ∷ []
-  pub few : m + n ≤ most_strategies
-
--- two players have too many
-pub record HasTooManyStrategies (table : GameTable) (limit : TooLarge) : Type 0 where
-  pub m : ℕ
-  pub n : ℕ
-  pub strategies : strategy_counts table ≡ m ∷ n ∷ []
-  pub many : most_strategies < m + n
-  pub is_limit : limit ≡ record { what = what.Labels; count = m + n; limit = most_strategies }
-
--- The kept strategies of a table of two players with few enough strategies, or why they are not
--- looked for.
+-- The table over the kept strategies of a table of two players, who together have few enough; or why
+-- they are not looked for.
 abbrev pub kept_of : GameTable → Answer KeptStop KeptForm
-kept_of table (Ok kept) = HasFewStrategies table × IsKeptForm table kept
-kept_of table (Err (stops.NotTwoPlayers count)) =
-    (length table.players ≢ 2) × (count ≡ length table.players)
-kept_of table (Err (stops.TooLarge limit)) = HasTooManyStrategies table limit
-kept_of table (Err stops.Memory) = ⊥
+kept_of table =
+    refuse_where (length table.players ≢ 2) (stops.NotTwoPlayers (length table.players))
+    >> (refused_by stops.TooLarge (within what.Labels most_strategies (sum (strategy_counts table)))
+    >> such_that (IsKeptForm table))

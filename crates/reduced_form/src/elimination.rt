@@ -1,13 +1,13 @@
 // Elimination of strictly dominated strategies, round by round. Players and strategies count from
 // 0.
-ghost use Rattle.std.specs.Prelude.{◌≡◌, ◌<◌, ◌≤◌, ◌⊎◌, ◌↔◌, ℕ, [], ◌∷◌, All, Contains, IfOk, IsTrue, length, slice_index};
+ghost use Rattle.std.specs.Prelude.{◌≡◌, ◌<◌, ◌≤◌, ◌⊎◌, ◌↔◌, ℕ, [], ◌∷◌, All, Contains, IfOk, IsTrue, length, slice_index, sum};
 ghost use Rattle.std.specs.List.Sorted.{IsStrictlyIncreasing};
 ghost use Rattle.rational.specs.Rational.{◌<ℚ◌};
 ghost use Rattle.extreme_equilibria.specs.Elimination.{AreListed, IsDominated, AreKeptAfter};
 ghost use Rattle.extreme_equilibria.specs.KeptTable.{AreKeptLists};
 ghost use Rattle.extreme_equilibria.specs.TwoPlayers.{other, pays_against};
 ghost use Rattle.game_core.specs.Table.{game_of, strategy_counts, IsTable};
-ghost use Rattle.reduced_form.specs.Kept.{HasFewStrategies, most_strategies};
+ghost use Rattle.reduced_form.specs.Kept.{most_strategies};
 
 use frac128::{Frac, Memory};
 use game_core::Table;
@@ -119,7 +119,8 @@ fn all_strategies(alloc: Global, table: &Table, player: u32) -> Result<Vec<u32>,
 /// are found before any is made.
 pub fn kept_strategies(alloc: Global, table: &Table) -> Result<(Vec<u32>, Vec<u32>), Memory>
     requires valid { IsTable table.now }
-    requires few { HasFewStrategies table.now }
+    requires two { length table.now.players ≡ 2 }
+    requires few { sum (strategy_counts table.now) ≤ most_strategies }
     ensures { IfOk result
         (λ kept. AreKeptLists (game_of table.now) (kept.0.items ∷ kept.1.items ∷ [])) }
 {

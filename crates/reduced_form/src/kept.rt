@@ -1,11 +1,11 @@
 // The kept strategies of a table of two players, and the table over them.
-ghost use Rattle.std.specs.Prelude.{◌≡◌, ◌+◌, ◌*◌, ◌<◌, ◌≤◌, ℕ, [], ◌∷◌, All, IfOk, length, map, get_or, slice_index, slice_index_or};
+ghost use Rattle.std.specs.Prelude.{◌≡◌, ◌+◌, ◌*◌, ◌<◌, ◌≤◌, ℕ, [], ◌∷◌, All, IfOk, length, map, get_or, slice_index, slice_index_or, sum};
 ghost use Rattle.answers.specs.Answers.{Gives, IsSingle};
 ghost use Rattle.rational.specs.Rational.{zero_ℚ};
 ghost use Rattle.extreme_equilibria.specs.KeptTable.{AreKeptLists, kept_table};
 ghost use Rattle.game_core.specs.Table.{GameTable, IsTable, game_of, strategy_counts};
 ghost use Rattle.reduced_form.specs.declared.kept_stop.KeptStop.TheVariants as stops;
-ghost use Rattle.reduced_form.specs.Kept.{HasFewStrategies, IsKeptForm, kept_of, most_strategies};
+ghost use Rattle.reduced_form.specs.Kept.{IsKeptForm, kept_of, most_strategies};
 
 use crate::elimination::kept_strategies;
 use crate::kept_stop::KeptStop;
@@ -112,7 +112,8 @@ fn kept_form(
     second: Vec<u32>,
 ) -> Result<Kept, Memory>
     requires valid { IsTable table.now }
-    requires few { HasFewStrategies table.now }
+    requires two { length table.now.players ≡ 2 }
+    requires few { sum (strategy_counts table.now) ≤ most_strategies }
     requires kept { AreKeptLists (game_of table.now) (first.items ∷ second.items ∷ []) }
     ensures { IfOk result (IsKeptForm table.now) }
 {
@@ -163,5 +164,5 @@ pub fn undominated(alloc: Global, table: &Table) -> Result<Kept, KeptStop>
 /// A table has one list of kept strategies of each player, or one reason why they are not looked
 /// for.
 pub fn kept_forms_are_single()
-    ensures { (table : GameTable) → IsTable table → IsSingle (kept_of table) }
+    ensures { (table : GameTable) → IsSingle (kept_of table) }
 {}

@@ -8,7 +8,8 @@ ghost use Rattle.game_core.specs.TreeGame.{game_of_tree};
 ghost use Rattle.reduced_form.specs.declared.stop.ReduceStop.TheVariants as stops;
 ghost use Rattle.reduced_form.specs.Counts.{AreCounted, choices_by, counts_in};
 ghost use Rattle.reduced_form.specs.Limits.{most_choices};
-ghost use Rattle.reduced_form.specs.Stops.{too_many_payoffs, too_many_choices};
+ghost use Rattle.game_core.specs.Limits.{first_above};
+ghost use Rattle.game_core.specs.declared.too_large.What.TheVariants as what;
 ghost use Rattle.game_theory.specs.OwnSets.{own_sets};
 
 use crate::stop::ReduceStop;
@@ -20,23 +21,15 @@ use strategy_lists::{Decisions, own_sets_are_those_of_the_tree};
 const MOST_CHOICES: u64 = 67_108_864;
 
 fn too_many_payoffs() -> ReduceStop
-    ensures { result ≡ stops.TooLarge too_many_payoffs }
+    ensures { result ≡ stops.TooLarge (first_above what.Payoffs most_payoffs) }
 {
-    ReduceStop::TooLarge(TooLarge {
-        what: What::Payoffs,
-        count: MOST_PAYOFFS as u64 + 1,
-        limit: MOST_PAYOFFS as u64,
-    })
+    ReduceStop::TooLarge(TooLarge::first_above(What::Payoffs, MOST_PAYOFFS as u64))
 }
 
 fn too_many_choices() -> ReduceStop
-    ensures { result ≡ stops.TooLarge too_many_choices }
+    ensures { result ≡ stops.TooLarge (first_above what.Choices most_choices) }
 {
-    ReduceStop::TooLarge(TooLarge {
-        what: What::Choices,
-        count: MOST_CHOICES + 1,
-        limit: MOST_CHOICES,
-    })
+    ReduceStop::TooLarge(TooLarge::first_above(What::Choices, MOST_CHOICES))
 }
 
 /// How many reduced strategies each player has, where the form has no more payoffs than it may. Nothing is

@@ -15,6 +15,7 @@ use Rattle.perfect_recall.specs.declared.recall.RecallStop.{RecallStop}
 use Rattle.perfect_recall.specs.declared.recall.RecallStop.TheVariants as recall_stop
 use Rattle.sequence_data.specs.declared.stop.SeqStop.{SeqStop}
 use Rattle.sequence_data.specs.declared.stop.SeqStop.TheVariants as sequence_stop
+use Rattle.lex_tableau.specs.declared.unfit_pivot.UnfitPivot.{UnfitPivot}
 use Rattle.zero_sum_lp.specs.declared.stop.LpStop.{LpStop}
 use Rattle.zero_sum_lp.specs.declared.stop.LpStop.TheVariants as lp_stop
 use Rattle.zero_sum_lp.specs.declared.stop.PlanStop.{PlanStop}
@@ -78,6 +79,9 @@ program_refusal (lp_stop.NotConstant n) =
 program_refusal (lp_stop.GainRange row column step) = refusal.Range (site.Gain row column) step
 program_refusal (lp_stop.Start row step) = refusal.Range (site.Start row) step
 program_refusal lp_stop.Memory = refusal.Memory
+
+abbrev pub pivot_refusal : UnfitPivot → Refusal
+pivot_refusal stop = refusal.Range (site.Step stop.number stop.entering) stop.unfit
 
 abbrev pub plan_refusal : PlanStop → Refusal
 plan_refusal (plan_stop.Range player step) = refusal.Range (site.Plan player) step

@@ -9,6 +9,7 @@ use enumpure::ListStop;
 use game_core::TooLarge;
 use game_text::TextStop;
 use lemke_pivot::LcpStop;
+use lex_tableau::UnfitPivot;
 use ne_checker::CheckStop;
 use nfg_reader::NfgStop;
 use perfect_recall::RecallStop;
@@ -199,6 +200,23 @@ impl From<LpStop> for Refusal {
                 unfit,
             },
             LpStop::Memory => Refusal::Memory,
+        }
+    }
+}
+
+impl From<UnfitPivot> for Refusal {
+    ghost use Rattle.std.specs.Prelude.{◌≡◌};
+    ghost use Rattle.refusals.specs.Told.{pivot_refusal};
+
+    ghost from_gives = { λ stop r. r ≡ pivot_refusal stop };
+
+    fn from(stop: UnfitPivot) -> Refusal {
+        Refusal::Range {
+            site: Site::Step {
+                step: stop.number,
+                entering: stop.entering,
+            },
+            unfit: stop.unfit,
         }
     }
 }

@@ -3,13 +3,14 @@ use Rattle.std.proofs.Common.{ℕ, ◌+◌, ◌<◌, ◌≤◌, ◌≡◌, inl, 
 use Rattle.answers.specs.Answers.{only}
 use Rattle.answers.proofs.AnswerLemmas.{only-single, single-exclude, single-value}
 use Rattle.rational.specs.Rational.{ℚ}
-use Rattle.game_theory.specs.Profiles.{Game, profile_count}
+use Rattle.rational.specs.Extremes.{IsLeast}
+use Rattle.game_theory.specs.Profiles.{Game}
 use Rattle.extreme_equilibria.specs.TwoPlayers.{pays_against}
 use Rattle.extreme_equilibria.specs.Bimatrix.{shifted, shift_of}
 use Rattle.extreme_equilibria.specs.Systems.{first_system, second_system}
 use Rattle.lex_tableau.specs.Starts.{Parts}
 use Rattle.reply_polytope.specs.Polytopes.{IsRatedSystem, most_labels}
-use Rattle.reply_polytope.specs.Shifts.{IsLeast, shift_in}
+use Rattle.reply_polytope.specs.Shifts.{payoffs_of, shift_in}
 use Rattle.reply_polytope.specs.Stops.{polytopes_in}
 use Rattle.reply_polytope.specs.declared.stop.PolyStop.{PolyStop}
 use Rattle.reply_polytope.specs.declared.stop.PolyStop.TheVariants as stops
@@ -22,16 +23,16 @@ pub record ArePolytopesOf (g : Game) (first second : Parts) : Type 0 where
   pub few_labels : m + n ≤ most_labels
   pub least : ℚ
   pub least' : ℚ
-  pub is_least : IsLeast (profile_count g.strategies) (g.pays 0) least
-  pub is_least' : IsLeast (profile_count g.strategies) (g.pays 1) least'
+  pub is_least : IsLeast (payoffs_of g 0) least
+  pub is_least' : IsLeast (payoffs_of g 1) least'
   pub is_first : IsRatedSystem
       (first_system m n (shifted (shift_of least') (pays_against g 1))) first
   pub is_second : IsRatedSystem
       (second_system m n (shifted (shift_of least) (pays_against g 0))) second
 
 -- a shift is by the least payoff
-shift_is_by_least : (g : Game) (i : ℕ) (least : ℚ) → shift_in g i (Ok least) → IsLeast (profile_count g.strategies) (g.pays i) least
-shift_is_by_least g i least h = subst (IsLeast (profile_count g.strategies) (g.pays i)) (sym (single-value {E = PolyStop} (only h.0) least h.0 (only-single h.0) h.2.2 refl)) h.1
+shift_is_by_least : (g : Game) (i : ℕ) (least : ℚ) → shift_in g i (Ok least) → IsLeast (payoffs_of g i) least
+shift_is_by_least g i least h = subst (IsLeast (payoffs_of g i)) (sym (single-value {E = PolyStop} (only h.0) least h.0 (only-single h.0) h.2.2 refl)) h.1
 
 pub polytopes_of : (g : Game) (first second : Parts) → polytopes_in g (Ok (first, second)) → ArePolytopesOf g first second
 polytopes_of g first second h =
@@ -62,7 +63,7 @@ shift_not_memory g i (inr (least, _, inr (_, _, e))) = single-exclude (only leas
 
 pub polytopes_not_memory : (g : Game) → polytopes_in g (Err stops.Memory) → ⊥
 polytopes_not_memory g (inl (_, e)) = cc
-polytopes_not_memory g (inr (_, _, inl (_, e))) = cc
+polytopes_not_memory g (inr (_, _, inl (limit, _, e))) = cc
 polytopes_not_memory g (inr (_, _, inr (_, _, inl s))) = shift_not_memory g 0 s
 polytopes_not_memory g (inr (_, _, inr (_, _, inr (one, _, inl s)))) = shift_not_memory g 1 s
 polytopes_not_memory g (inr (_, _, inr (_, _, inr (one, _, inr (two, _, h))))) = h

@@ -7,6 +7,7 @@ use Rattle.std.proofs.lemmas.List.FromFn.{length-range_with_len, get_or-range_wi
 use Rattle.answers.specs.Answers.{only}
 use Rattle.answers.proofs.AnswerLemmas.{only-single, single-exclude, single-value}
 use Rattle.rational.specs.Rational.{ℚ, ◌+ℚ◌, one_ℚ}
+use Rattle.rational.specs.Extremes.{IsLeast}
 use Rattle.game_theory.specs.Profiles.{Game, profile_count}
 use Rattle.frac128.specs.Steps.{AddFits, SubFits, unfit, Step, StepFits, IsFirstUnfit}
 use Rattle.frac128.specs.declared.steps.Op.TheVariants.{Add, Sub}
@@ -15,7 +16,7 @@ use Rattle.frac128.proofs.StepRunLemmas.{first_unfit-following, first_unfit-here
 use Rattle.frac128.proofs.FirstUnfitLemmas.{first_unfit_here}
 use Rattle.extreme_equilibria.specs.Bimatrix.{shift_of}
 use Rattle.reply_polytope.specs.Shapes.{shifted_payoffs_in}
-use Rattle.reply_polytope.specs.Shifts.{IsLeast, shift_in, shift_steps}
+use Rattle.reply_polytope.specs.Shifts.{payoffs_of, shift_in, shift_steps}
 use Rattle.reply_polytope.specs.declared.stop.PolyStop.{PolyStop}
 use Rattle.reply_polytope.specs.declared.stop.PolyStop.TheVariants as stops
 
@@ -68,7 +69,7 @@ module _ (u : ℕ → ℚ) (least : ℚ) (n : ℕ) where
         λ k d b. let l : k < n = omega (arith, b, long) in subst (StepsFit (shift_steps u least)) (sym (is_there k d l)) (fit_at k (sums k l))
 
 -- ---- the stages
-module _ (g : Game) (i : ℕ) (least : ℚ) (is_least : IsLeast (profile_count g.strategies) (g.pays i) least) where
+module _ (g : Game) (i : ℕ) (least : ℚ) (is_least : IsLeast (payoffs_of g i) least) where
   abbrev all : List ℕ
   all = range_with_len 0 (profile_count g.strategies)
 

@@ -1,34 +1,30 @@
 -- A game has one pair of systems, or one reason why it has none.
-use Rattle.std.proofs.Common.{ℕ, ◌<◌, ◌≡◌, ◌≢◌, Ok, Err, [], ◌∷◌, length, sym, ap, ap₂, ◌∙◌, subst}
-use Rattle.answers.specs.Answers.{◌>>=◌, ◌>>◌, IsSingle, only, refuse_where}
-use Rattle.answers.proofs.AnswerLemmas.{bind-single, only-single, refuse_where-single, refused_by-single}
-use Rattle.rational.specs.Rational.{ℚ, ◌≤ℚ◌}
-use Rattle.rational.proofs.Field.{le_antisymm}
+use Rattle.std.proofs.Common.{ℕ, ◌≡◌, ◌≢◌, [], ◌∷◌, length, sym, ap₂, ◌∙◌, subst}
+use Rattle.answers.specs.Answers.{◌>>=◌, ◌>>◌, IsSingle, only, refuse_where, refused_by}
+use Rattle.answers.proofs.AnswerLemmas.{bind-single, only-single, such_that-single, refuse_where-single, refused_by-single}
+use Rattle.rational.specs.Rational.{ℚ}
+use Rattle.rational.specs.Extremes.{IsLeast}
 use Rattle.linear_systems.specs.Tableau.{Tableau}
 use Rattle.linear_systems.proofs.AgreementLemmas.{alike_sym, alike_trans}
 use Rattle.game_theory.specs.Profiles.{Game}
 use Rattle.frac128.proofs.FirstUnfitLemmas.{all_fit-single}
+use Rattle.game_core.specs.Limits.{within}
+use Rattle.game_core.specs.declared.too_large.What.TheVariants as what
 use Rattle.extreme_equilibria.specs.Bimatrix.{shifted, shift_of}
 use Rattle.extreme_equilibria.specs.TwoPlayers.{pays_against}
 use Rattle.extreme_equilibria.specs.Systems.{first_system, second_system}
 use Rattle.lex_tableau.specs.Starts.{Parts, system_of}
 use Rattle.lex_tableau.proofs.SystemLemmas.{systems_determined}
 use Rattle.reply_polytope.specs.Polytopes.{IsRatedSystem, ArePolytopes, most_labels}
-use Rattle.reply_polytope.specs.Shifts.{IsLeast, least_of, shift_in, shift_steps, shifts_in}
-use Rattle.reply_polytope.specs.Stops.{PolytopesAreSingle, label_count, systems_of, too_many_labels}
+use Rattle.reply_polytope.specs.Shifts.{least_of, payoffs_of, shift_in, shift_steps, shifts_in}
+use Rattle.reply_polytope.specs.Stops.{PolytopesAreSingle, label_count, systems_of}
 use Rattle.reply_polytope.specs.declared.stop.PolyStop.TheVariants as stops
+use Rattle.reply_polytope.proofs.LeastLemmas.{one_least}
 
 -- ---- shifts
--- there is one least payoff
-one_least : (n : ℕ) (u : ℕ → ℚ) (x y : ℚ) → IsLeast n u x → IsLeast n u y → x ≡ y
-one_least n u x y h g =
-    le_antisymm x y (subst (λ v. x ≤ℚ v) (sym g.is_there) (h.below g.place g.within)) (subst (λ v. y ≤ℚ v) (sym h.is_there) (g.below h.place h.within))
-
 module _ (g : Game) where
   least-single : (i : ℕ) → IsSingle (least_of g i)
-  least-single i (Ok x) (Ok y) h k = ap Ok (one_least _ _ x y h k)
-  least-single i (Ok x) (Err stop) h k = absurd k
-  least-single i (Err stop) other h k = absurd h
+  least-single i = such_that-single (IsLeast (payoffs_of g i)) (one_least g i)
 
   shift-single : (i : ℕ) → IsSingle (shift_in g i)
   shift-single i =
@@ -54,18 +50,18 @@ module _ (g : Game) (least least' : ℚ) where
       (one_system _ _ a c (ap₂ (λ m n. first_system m n (shifted (shift_of least') (pays_against g 1))) sizes.0 sizes.1) h.is_first k.is_first, one_system _ _ b d (ap₂ (λ m n. second_system m n (shifted (shift_of least) (pays_against g 0))) sizes.0 sizes.1) h.is_second k.is_second)
 
   systems-single : IsSingle (systems_of g least least')
-  systems-single (Ok a) (Ok b) h k = let same = one_pair a.0 a.1 b.0 b.1 h k in ap₂ (λ x y. Ok (x, y)) same.0 same.1
-  systems-single (Ok a) (Err stop) h k = absurd k
-  systems-single (Err stop) other h k = absurd h
+  systems-single =
+      such_that-single (λ systems. ArePolytopes g least least' systems.0 systems.1)
+      (λ a b h k. let same = one_pair a.0 a.1 b.0 b.1 h k in ap₂ (λ x y. (x, y)) same.0 same.1)
 
 -- ---- all stages
 pub polytopes_single : PolytopesAreSingle
 polytopes_single g =
     let systems = shift_in g 0 >>= (λ one. shift_in g 1 >>= (λ two. systems_of g one two)) in
-    let labels = refuse_where (most_labels < label_count g) (stops.TooLarge (too_many_labels g)) in
+    let labels = refused_by stops.TooLarge (within what.Labels most_labels (label_count g)) in
     let players = refuse_where (length g.strategies ≢ 2) (stops.NotTwoPlayers (length g.strategies)) in
     bind-single players (λ _. labels >> systems) (refuse_where-single (length g.strategies ≢ 2) (stops.NotTwoPlayers (length g.strategies)))
-    (λ _ _. bind-single labels (λ _. systems) (refuse_where-single (most_labels < label_count g) (stops.TooLarge (too_many_labels g)))
+    (λ _ _. bind-single labels (λ _. systems) (refused_by-single stops.TooLarge (within what.Labels most_labels (label_count g)) (refuse_where-single _ _))
     (λ _ _. bind-single (shift_in g 0) (λ one. shift_in g 1 >>= (λ two. systems_of g one two)) (shift-single g 0)
     (λ one _. bind-single (shift_in g 1) (λ two. systems_of g one two) (shift-single g 1)
     (λ two _. systems-single g one two))))

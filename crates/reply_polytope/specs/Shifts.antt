@@ -1,9 +1,10 @@
 -- The shift of a player's payoffs: 1 less the least of them is added to each.
 -- Profiles count from 0.
-use Rattle.std.specs.Prelude.{ℕ, ◌<◌, ◌≡◌, ◌==◌, if◌then◌else◌, List, [], ◌∷◌, ◌++◌, Ok, Err}
+use Rattle.std.specs.Prelude.{ℕ, ◌==◌, if◌then◌else◌, List, [], ◌∷◌, ◌++◌, map}
 use Rattle.std.specs.List.{range_with_len}
-use Rattle.answers.specs.Answers.{Answer, ◌>>=◌, ◌>>◌, only, refused_by}
-use Rattle.rational.specs.Rational.{ℚ, ◌≤ℚ◌, one_ℚ}
+use Rattle.answers.specs.Answers.{Answer, ◌>>=◌, ◌>>◌, only, such_that, refused_by}
+use Rattle.rational.specs.Rational.{ℚ, one_ℚ}
+use Rattle.rational.specs.Extremes.{IsLeast}
 use Rattle.game_theory.specs.Profiles.{Game, profile_count}
 use Rattle.frac128.specs.Steps.{unfit, Step}
 use Rattle.frac128.specs.declared.steps.Op.TheVariants.{Add, Sub}
@@ -12,17 +13,13 @@ use Rattle.extreme_equilibria.specs.Bimatrix.{shift_of}
 use Rattle.reply_polytope.specs.declared.stop.PolyStop.{PolyStop}
 use Rattle.reply_polytope.specs.declared.stop.PolyStop.TheVariants as stops
 
--- the least of n payoffs
-pub record IsLeast (n : ℕ) (u : ℕ → ℚ) (least : ℚ) : Type 0 where
-  pub place : ℕ
-  pub within : place < n
-  pub is_there : least ≡ u place
-  pub below : (k : ℕ) → k < n → least ≤ℚ u k
+-- the payoffs of player i, profile by profile
+abbrev pub payoffs_of : Game → ℕ → List ℚ
+payoffs_of g i = map (g.pays i) (range_with_len 0 (profile_count g.strategies))
 
 -- the least payoff of player i
 abbrev pub least_of : Game → ℕ → Answer PolyStop ℚ
-least_of g i (Ok least) = IsLeast (profile_count g.strategies) (g.pays i) least
-least_of g i (Err stop) = ⊥
+least_of g i = such_that (IsLeast (payoffs_of g i))
 
 -- the steps at profile k: at the first one 1 less the least payoff, and then the payoff plus this
 abbrev pub shift_steps : (ℕ → ℚ) → ℚ → ℕ → List Step

@@ -1,9 +1,9 @@
 -- The systems of a game, or why it has none. Players count from 0.
-use Rattle.std.specs.Prelude.{ℕ, ◌<◌, ◌≢◌, length, sum, Ok, Err}
-use Rattle.answers.specs.Answers.{Answer, ◌>>=◌, ◌>>◌, IsSingle, refuse_where}
+use Rattle.std.specs.Prelude.{ℕ, ◌≢◌, length, sum}
+use Rattle.answers.specs.Answers.{Answer, ◌>>=◌, ◌>>◌, IsSingle, such_that, refuse_where, refused_by}
 use Rattle.rational.specs.Rational.{ℚ}
 use Rattle.game_theory.specs.Profiles.{Game}
-use Rattle.game_core.specs.declared.too_large.TooLarge.{TooLarge}
+use Rattle.game_core.specs.Limits.{within}
 use Rattle.game_core.specs.declared.too_large.What.TheVariants as what
 use Rattle.lex_tableau.specs.Starts.{Parts}
 use Rattle.reply_polytope.specs.Polytopes.{most_labels, ArePolytopes}
@@ -15,21 +15,17 @@ use Rattle.reply_polytope.specs.declared.stop.PolyStop.TheVariants as stops
 abbrev pub label_count : Game → ℕ
 label_count g = sum g.strategies
 
-abbrev pub too_many_labels : Game → TooLarge
-too_many_labels g =
-    record { what = what.Labels; count = label_count g; limit = most_labels }
-
 -- the systems of a game of two players whose least payoffs are these
 abbrev pub systems_of : Game → ℚ → ℚ → Answer PolyStop (Parts × Parts)
-systems_of g least least' (Ok systems) = ArePolytopes g least least' systems.0 systems.1
-systems_of g least least' (Err stop) = ⊥
+systems_of g least least' =
+    such_that (λ systems. ArePolytopes g least least' systems.0 systems.1)
 
 -- The two systems of a game, or why there are none: another number of players, too many labels, or
 -- a step that does not fit, the first player's before the second's.
 abbrev pub polytopes_in : Game → Answer PolyStop (Parts × Parts)
 polytopes_in g =
     refuse_where (length g.strategies ≢ 2) (stops.NotTwoPlayers (length g.strategies))
-    >> (refuse_where (most_labels < label_count g) (stops.TooLarge (too_many_labels g))
+    >> (refused_by stops.TooLarge (within what.Labels most_labels (label_count g))
     >> (shift_in g 0 >>= (λ one. shift_in g 1 >>= (λ two. systems_of g one two))))
 
 -- A game has one pair of systems, or one reason why it has none.

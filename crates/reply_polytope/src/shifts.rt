@@ -1,11 +1,12 @@
 // The shift of a player's payoffs.
 ghost use Rattle.std.specs.Prelude.{◌≡◌, ◌<◌, length};
 ghost use Rattle.answers.specs.Answers.{Gives, map_ok};
+ghost use Rattle.rational.specs.Extremes.{IsLeast};
 ghost use Rattle.game_theory.specs.Profiles.{profile_count};
 ghost use Rattle.game_core.specs.Table.{game_of, strategy_counts, IsTable};
 ghost use Rattle.reply_polytope.specs.declared.stop.PolyStop.TheVariants as stops;
 ghost use Rattle.reply_polytope.specs.Shapes.{shifted_payoffs_in};
-ghost use Rattle.reply_polytope.specs.Shifts.{IsLeast};
+ghost use Rattle.reply_polytope.specs.Shifts.{payoffs_of};
 
 use crate::stop::PolyStop;
 use frac128::Frac;
@@ -17,7 +18,7 @@ fn least_payoff(table: &Table, player: usize, profiles: usize) -> Frac
     requires player { player < length table.now.players }
     requires profiles { profiles ≡ profile_count (strategy_counts table.now) }
     requires some { 0 < profiles }
-    ensures { IsLeast profiles ((game_of table.now).pays player) result }
+    ensures { IsLeast (payoffs_of (game_of table.now) player) result }
 {
     let mut least = table.payoff_at(0, player);
     for profile in 1..profiles {

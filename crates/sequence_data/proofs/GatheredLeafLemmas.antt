@@ -1,21 +1,23 @@
 -- Leaves go into the cells one after another.
-use Rattle.std.proofs.Common.{ℕ, zero, suc, ◌+◌, ◌*◌, ◌/◌, ◌%◌, ◌^◌, ◌<◌, ◌≡◌, ◌≢◌, Bool, true, false, Decides, List, [], ◌∷◌, ◌++◌, length, map, take, drop, get_or, set, All, refl, sym, ap, ap₂, ◌∙◌, subst, append_assoc, arith}
+use Rattle.std.proofs.Common.{ℕ, zero, suc, ◌+◌, ◌*◌, ◌/◌, ◌%◌, ◌^◌, ◌<◌, ◌≡◌, ◌≢◌, Bool, true, false, Decides, List, [], ◌∷◌, ◌++◌, length, map, take, get_or, set, All, refl, sym, ap, ap₂, ◌∙◌, subst, Ok, Err, arith}
 use Rattle.std.specs.Prelude.{◌==◌, ◌&&◌, if◌then◌else◌, Any, Contains}
 use Rattle.std.specs.List.Sorted.{IsStrictlyIncreasing}
 use Rattle.std.proofs.lemmas.Bool.Decides.{Decides-eqb, Decides-and, not_from_Decides}
-use Rattle.std.proofs.lemmas.List.{length-map, get_or-map, take_more, append-nil}
+use Rattle.std.proofs.lemmas.List.{length-map, get_or-map, take_all, take_more}
 use Rattle.std.proofs.lemmas.List.Elements.{All-map, All-get_or, All-from_get_or, All-weaker}
 use Rattle.std.proofs.lemmas.Option.{slice_get_within, get_or_from_slice_get}
 use Rattle.std.proofs.lemmas.Nat.{div-add-mod'}
 use Rattle.rational.specs.Rational.{ℚ, ◌+ℚ◌, zero_ℚ}
 use Rattle.rational.proofs.RationalRing.{+ℚ_assoc, +ℚ_comm, +ℚ-zero}
+use Rattle.frac128.specs.FirstUnfit.{StepsFit}
+use Rattle.frac128.specs.Steps.{StepFits, IsFirstUnfit}
+use Rattle.frac128.proofs.FirstUnfitLemmas.{fits_next, first_unfit_here}
 use Rattle.sequence_data.specs.declared.types.Leaf.{Leaf}
 use Rattle.sequence_data.specs.declared.types.Cell.{Cell}
 use Rattle.sequence_data.specs.Cells.{total, chance_one, chance_two, cell_at, IsBefore, AreCellsInOrder, IsAt, AreCells}
 use Rattle.sequence_data.specs.Gathered.{cell_place, cell_in, ArePlaces, added_cell}
-use Rattle.sequence_data.specs.Steps.{AllPlacedFit, added_steps, cell_steps_after, cell_steps, IsUnfitStop}
+use Rattle.sequence_data.specs.Steps.{added_steps, gathering_in, fit_at, leaf_steps, numbered}
 use Rattle.sequence_data.specs.declared.stop.SeqStop.{SeqStop}
-use Rattle.sequence_data.proofs.PlacedStepLemmas.{fit-append, stop-more, stop-following}
 use Rattle.sequence_data.proofs.PlaceLemmas.{any_at, all-of_each, get_or-inside, rises, number-one, row-of_place, column-of_place, before-by_place}
 
 -- ---- sums with one more leaf
@@ -95,29 +97,6 @@ module _ (columns : ℕ) (places : List ℕ) (some : 0 < columns) (up : IsStrict
       let old : get_or cells i cell ≡ cell_in columns xs (get_or places i 0) = ap (λ c. get_or c i cell) are ∙ get_or-map (cell_in columns xs) places i 0 cell inside in
       map_changed (cell_in columns xs) (cell_in columns (xs ++ x ∷ [])) places i cell 0 inside (cell-own ∙ sym (made ∙ ap (λ c. added_cell c x) old)) cell-kept ∙ ap (λ c. set c i cell) (sym are)
 
--- ---- the steps with one more leaf
-steps-push : (earlier xs : List Leaf) (x : Leaf) → cell_steps_after earlier (xs ++ x ∷ []) ≡ cell_steps_after earlier xs ++ added_steps (cell_at (earlier ++ xs) x.row x.column) x
-steps-push earlier [] x = append-nil (added_steps (cell_at earlier x.row x.column) x) ∙ ap (λ e. added_steps (cell_at e x.row x.column) x) (sym (append-nil earlier))
-steps-push earlier (y ∷ xs) x =
-    ap (λ s. added_steps (cell_at earlier y.row y.column) y ++ s) (steps-push (earlier ++ y ∷ []) xs x ∙ ap (λ e. cell_steps_after (earlier ++ y ∷ []) xs ++ added_steps (cell_at e x.row x.column) x) (append_assoc earlier (y ∷ []) xs))
-    ∙ sym (append_assoc (added_steps (cell_at earlier y.row y.column) y) (cell_steps_after (earlier ++ y ∷ []) xs) (added_steps (cell_at (earlier ++ y ∷ xs) x.row x.column) x))
-
-pub cell_steps-push : (xs : List Leaf) (x : Leaf) → cell_steps (xs ++ x ∷ []) ≡ cell_steps xs ++ added_steps (cell_at xs x.row x.column) x
-cell_steps-push xs x = steps-push [] xs x
-
--- and with more leaves
-pub steps-split : (earlier xs ys : List Leaf) → cell_steps_after earlier (xs ++ ys) ≡ cell_steps_after earlier xs ++ cell_steps_after (earlier ++ xs) ys
-steps-split earlier [] ys = ap (λ e. cell_steps_after e ys) (sym (append-nil earlier))
-steps-split earlier (x ∷ xs) ys =
-    ap (λ s. added_steps (cell_at earlier x.row x.column) x ++ s) (steps-split (earlier ++ x ∷ []) xs ys ∙ ap (λ e. cell_steps_after (earlier ++ x ∷ []) xs ++ cell_steps_after e ys) (append_assoc earlier (x ∷ []) xs))
-    ∙ sym (append_assoc (added_steps (cell_at earlier x.row x.column) x) (cell_steps_after (earlier ++ x ∷ []) xs) (cell_steps_after (earlier ++ x ∷ xs) ys))
-
--- the first leaves, one more, and the rest
-split_at : (leaves : List Leaf) (i : ℕ) (x : Leaf) → i < length leaves → x ≡ get_or leaves i x → leaves ≡ take i leaves ++ x ∷ drop (suc i) leaves
-split_at [] i x l is = absurd (omega arith)
-split_at (y ∷ leaves) zero x l is = ap (λ z. z ∷ leaves) (sym is)
-split_at (y ∷ leaves) (suc i) x l is = ap (λ zs. y ∷ zs) (split_at leaves i x (omega arith) is)
-
 -- all cells after one leaf more
 pub cells-after : (columns : ℕ) (places : List ℕ) → 0 < columns → IsStrictlyIncreasing places → (leaves : List Leaf) (n : ℕ) (x : Leaf) → n < length leaves → x ≡ get_or leaves n x → x.column < columns
     → (i : ℕ) → i < length places → get_or places i 0 ≡ cell_place columns x → (cells : List Cell) (old cell : Cell) → cells ≡ map (cell_in columns (take n leaves)) places → old ≡ get_or cells i old → cell ≡ added_cell old x
@@ -127,20 +106,37 @@ cells-after columns places some up leaves n x l at within i inside is cells old 
     let here : cell ≡ added_cell (get_or cells i cell) x = made ∙ ap (λ c. added_cell c x) (old_is ∙ get_or-inside cells i old cell (omega (arith, ap length are, length-map places (cell_in columns (take n leaves)), inside))) in
     sym (cells-more columns places some up (take n leaves) x within i inside is cells cell are here) ∙ ap (λ xs. map (cell_in columns xs) places) (sym one)
 
--- what stops a leaf's steps stops those of all leaves
-pub gather-stop : (leaves : List Leaf) (i : ℕ) (x : Leaf) (cell : Cell) (stop : SeqStop) → i < length leaves → x ≡ get_or leaves i x → cell ≡ cell_at (take i leaves) x.row x.column → AllPlacedFit (cell_steps (take i leaves)) → IsUnfitStop (added_steps cell x) stop → IsUnfitStop (cell_steps leaves) stop
-gather-stop leaves i x cell stop l is at fit h =
-    let front = take i leaves in
-    let rest = drop (suc i) leaves in
-    let later = stop-more (added_steps (cell_at front x.row x.column) x) (cell_steps_after (front ++ x ∷ []) rest) stop (subst (λ c. IsUnfitStop (added_steps c x) stop) at h) in
-    let all = stop-following (cell_steps front) (cell_steps_after front (x ∷ rest)) stop fit later in
-    subst (λ s. IsUnfitStop s stop) (sym (ap cell_steps (split_at leaves i x l is) ∙ steps-split [] front (x ∷ rest))) all
+-- ---- the steps of the leaves
+-- there is a number for each leaf
+length-numbered : (n : ℕ) (leaves : List Leaf) → length (numbered n leaves) ≡ length leaves
+length-numbered n [] = refl
+length-numbered n (l ∷ leaves) = ap suc (length-numbered (suc n) leaves)
 
--- the steps with one more leaf fit
-pub gather-fit : (leaves : List Leaf) (i : ℕ) (x : Leaf) (cell : Cell) → i < length leaves → x ≡ get_or leaves i x → cell ≡ cell_at (take i leaves) x.row x.column → AllPlacedFit (cell_steps (take i leaves)) → AllPlacedFit (added_steps cell x) → AllPlacedFit (cell_steps (take (i + 1) leaves))
-gather-fit leaves i x cell l is at fit h =
-    let one : take (i + 1) leaves ≡ take i leaves ++ x ∷ [] = take_more leaves i x l ∙ ap (λ y. take i leaves ++ y ∷ []) (sym is) in
-    subst AllPlacedFit (sym (ap cell_steps one ∙ cell_steps-push (take i leaves) x)) (fit-append (cell_steps (take i leaves)) (added_steps (cell_at (take i leaves) x.row x.column) x) fit (subst (λ c. AllPlacedFit (added_steps c x)) at h))
+-- a leaf with its number
+numbered-at : (n : ℕ) (leaves : List Leaf) (i : ℕ) (x : Leaf) (d : ℕ × Leaf) → i < length leaves → x ≡ get_or leaves i x → get_or (numbered n leaves) i d ≡ (n + i, x)
+numbered-at n [] i x d l is = absurd (omega arith)
+numbered-at n (y ∷ leaves) zero x d l is = ap₂ (λ k z. (k, z)) (omega arith) (sym is)
+numbered-at n (y ∷ leaves) (suc i) x d l is = numbered-at (suc n) leaves i x d (omega arith) is ∙ ap (λ k. (k, x)) (omega arith)
+
+module _ (leaves : List Leaf) (i : ℕ) (x : Leaf) (cell : Cell) (l : i < length leaves) (is : x ≡ get_or leaves i x) (at : cell ≡ cell_at (take i leaves) x.row x.column) (fit : All (StepsFit (leaf_steps leaves)) (take i (numbered 0 leaves))) where
+  within : i < length (numbered 0 leaves)
+  within = omega (arith, l, length-numbered 0 leaves)
+
+  here : (i, x) ≡ get_or (numbered 0 leaves) i (i, x)
+  here = sym (numbered-at 0 leaves i x (i, x) l is ∙ ap (λ k. (k, x)) (omega arith))
+
+  -- what stops a leaf's steps stops those of all leaves
+  pub gather-stop : (stop : SeqStop) → fit_at x.place (added_steps cell x) (Err stop) → gathering_in leaves (Err stop)
+  gather-stop stop (step, h, told) =
+      (((i, x), step), first_unfit_here (leaf_steps leaves) (numbered 0 leaves) i (i, x) within here step fit (subst (λ c. IsFirstUnfit (added_steps c x) step) at h), told)
+
+  -- the steps with one more leaf fit
+  pub gather-fit : All StepFits (added_steps cell x) → All (StepsFit (leaf_steps leaves)) (take (i + 1) (numbered 0 leaves))
+  gather-fit h = fits_next (leaf_steps leaves) (numbered 0 leaves) i (i, x) within here fit (subst (λ c. All StepFits (added_steps c x)) at h)
+
+-- the steps of all leaves fit
+pub gather-all : (leaves : List Leaf) (n : ℕ) → n ≡ length leaves → All (StepsFit (leaf_steps leaves)) (take n (numbered 0 leaves)) → gathering_in leaves (Ok tt)
+gather-all leaves n is fit = subst (All (StepsFit (leaf_steps leaves))) (take_all n (numbered 0 leaves) (omega (arith, is, length-numbered 0 leaves))) fit
 
 -- the rows of places are those of leaves
 pub rows-few : (columns : ℕ) (leaves : List Leaf) (places : List ℕ) → All (λ l. l.row < 2 ^ 32) leaves → All (λ l. l.column < columns) leaves → ArePlaces columns leaves places → All (λ k. k / columns < 2 ^ 32) places

@@ -1,8 +1,9 @@
 pub mod CellSumLemmas
 pub mod GainLemmas
 mod GatheredLeafLemmas
+pub mod OneFormLemmas
 pub mod OrderLemmas
 pub mod PlaceLemmas
-pub mod PlacedStepLemmas
 pub mod SetEntryLemmas
+pub mod StepStageLemmas
 pub mod WrittenCellLemmas

@@ -1,19 +1,16 @@
--- The cells of leaves are one list; one step is the first that does not fit; extremes are one.
-use Rattle.std.proofs.Common.{ℕ, zero, suc, ◌+◌, ◌<◌, ◌≡◌, inl, inr, Some, List, [], ◌∷◌, ◌++◌, length, map, take, get_or, slice_get, All, refl, sym, ap, ap₂, ◌∙◌, subst, arith}
+-- The cells of leaves are one list, and extremes are one.
+use Rattle.std.proofs.Common.{ℕ, zero, suc, ◌+◌, ◌<◌, ◌≡◌, inl, inr, Some, List, [], ◌∷◌, length, map, take, get_or, slice_get, All, refl, sym, ap, ap₂, ◌∙◌, subst, arith}
 use Rattle.std.specs.Prelude.{Any}
-use Rattle.std.proofs.Math.Seq.{get_or-append_seam, take-length}
-use Rattle.std.proofs.lemmas.List.{length-append, length-map, get_or-map}
-use Rattle.std.proofs.lemmas.List.Elements.{All-nil, All-get_or, All-head, All-tail, All-more, All-weaker, All-map}
+use Rattle.std.proofs.Math.Seq.{take-length}
+use Rattle.std.proofs.lemmas.List.{length-map, get_or-map}
+use Rattle.std.proofs.lemmas.List.Elements.{All-nil, All-get_or, All-more, All-weaker, All-map}
 use Rattle.std.proofs.lemmas.Option.{none-some, same_Some, slice_get_within, slice_get-get_or, get_or_from_slice_get}
 use Rattle.rational.specs.Rational.{ℚ, ◌≤ℚ◌}
 use Rattle.rational.proofs.Field.{le_trans, le_antisymm}
-use Rattle.frac128.specs.Steps.{Step}
 use Rattle.sequence_data.specs.declared.types.Leaf.{Leaf}
 use Rattle.sequence_data.specs.declared.types.Cell.{Cell}
 use Rattle.sequence_data.specs.Cells.{cell_at, IsBefore, AreCellsInOrder, IsAt, AreCells}
 use Rattle.rational.specs.Extremes.{IsGreatest, IsLeast, IsGreater, IsLesser}
-use Rattle.sequence_data.specs.Steps.{PlacedStep, at_place, AllPlacedFit, IsFirstUnfitPlaced}
-use Rattle.sequence_data.proofs.PlacedStepLemmas.{PlacedFits}
 use Rattle.sequence_data.proofs.PlaceLemmas.{any_at}
 
 -- ---- cells
@@ -72,31 +69,6 @@ cells-among leaves xs ys h g i c at =
 
 pub cells-one : (leaves : List Leaf) (xs ys : List Cell) → AreCells leaves xs → AreCells leaves ys → xs ≡ ys
 cells-one leaves xs ys h g = same_list xs ys h.in_order g.in_order (cells-among leaves xs ys h g) (cells-among leaves ys xs g h)
-
--- ---- steps
-heads : (x y : PlacedStep) (xs ys : List PlacedStep) → x ∷ xs ≡ y ∷ ys → x ≡ y
-heads x y xs ys e = cc
-
-tails : (x y : PlacedStep) (xs ys : List PlacedStep) → x ∷ xs ≡ y ∷ ys → xs ≡ ys
-tails x y xs ys e = cc
-
-first-one : (b d : List PlacedStep) (s r : PlacedStep) (xs ys : List PlacedStep) → b ++ s ∷ xs ≡ d ++ r ∷ ys → AllPlacedFit b → AllPlacedFit d → (PlacedFits s → ⊥) → (PlacedFits r → ⊥) → s ≡ r
-first-one [] [] s r xs ys e h g p q = heads s r xs ys e
-first-one [] (y ∷ d) s r xs ys e h g p q = absurd (p (subst PlacedFits (sym (heads s y xs (d ++ r ∷ ys) e)) (All-head PlacedFits y d g)))
-first-one (x ∷ b) [] s r xs ys e h g p q = absurd (q (subst PlacedFits (heads x r (b ++ s ∷ xs) ys e) (All-head PlacedFits x b h)))
-first-one (x ∷ b) (y ∷ d) s r xs ys e h g p q =
-    first-one b d s r xs ys (tails x y (b ++ s ∷ xs) (d ++ r ∷ ys) e) (All-tail PlacedFits x b h) (All-tail PlacedFits y d g) p q
-
-pub unfit-one : (steps : List PlacedStep) (k m : ℕ) (step other : Step) → IsFirstUnfitPlaced steps k step → IsFirstUnfitPlaced steps m other → (k ≡ m) × (step ≡ other)
-unfit-one steps k m step other h g =
-    let same = first-one h.before g.before (at_place k step) (at_place m other) h.following g.following (sym h.is_there ∙ g.is_there) h.earlier_fit g.earlier_fit h.does_not_fit g.does_not_fit in
-    (ap (λ (s : PlacedStep). s.place) same, ap (λ (s : PlacedStep). s.step) same)
-
-pub unfit-none : (steps : List PlacedStep) (k : ℕ) (step : Step) → IsFirstUnfitPlaced steps k step → AllPlacedFit steps → ⊥
-unfit-none steps k step h fit =
-    let whole = subst AllPlacedFit h.is_there fit in
-    let inside : length h.before < length (h.before ++ at_place k step ∷ h.following) = omega (arith, length-append h.before (at_place k step ∷ h.following)) in
-    h.does_not_fit (subst PlacedFits (get_or-append_seam h.before (at_place k step) h.following (at_place k step)) (All-get_or PlacedFits (h.before ++ at_place k step ∷ h.following) (length h.before) (at_place k step) inside whole))
 
 -- ---- extremes
 -- what holds of each number holds of one of them

@@ -2,6 +2,7 @@
 use Rattle.std.specs.Prelude.{ℕ, zero, suc, ◌<◌, ◌≡◌, List, length, map, All, refl}
 use Rattle.std.specs.Coded.{Coded, code_by, coded×, coded_ℕ, coded_list}
 use Rattle.std.specs.List.{range_with_len}
+use Rattle.answers.specs.Answers.{Answer, such_that, ◌>>◌}
 use Rattle.rational.specs.Rational.{ℚ, ◌≤ℚ◌, zero_ℚ}
 use Rattle.rational.proofs.CodeLemmas.{code_ℚ}
 use Rattle.sequence_forms.specs.Forms.{SequenceForm}
@@ -10,7 +11,9 @@ use Rattle.sequence_forms.specs.Sides.{Side, first, sequences, IsOrderedSide}
 use Rattle.sequence_data.specs.declared.types.Cell.{Cell}
 use Rattle.sequence_data.specs.declared.types.Leaf.{Leaf}
 use Rattle.sequence_data.specs.declared.types.SetRow.{SetRow}
+use Rattle.sequence_data.specs.declared.stop.SeqStop.{SeqStop}
 use Rattle.sequence_data.specs.Cells.{AreCells}
+use Rattle.sequence_data.specs.Steps.{gathering_in}
 use Rattle.rational.specs.Extremes.{IsGreatest, IsLeast}
 
 -- how many sequences a player has, and the player's own sets in order
@@ -80,12 +83,16 @@ pub record IsFormData (f : FormData) : Type 0 where
   pub leaves_fit : All (LeafFits f.first.sequences f.second.sequences) f.leaves
   pub of_leaves : IsOfLeaves f
 
--- the form of these sides and leaves
+-- the form over these sides and leaves
 pub record IsFormOf (first second : SideData) (leaves : List Leaf) (f : FormData) : Type 0 where
   pub first_is : f.first ≡ first
   pub second_is : f.second ≡ second
   pub leaves_are : f.leaves ≡ leaves
-  pub valid : IsFormData f
+  pub of_leaves : IsOfLeaves f
+
+-- this form, whose steps all fit; or the first that does not
+abbrev pub form_of_leaves : SideData → SideData → List Leaf → Answer SeqStop FormData
+form_of_leaves first second leaves = gathering_in leaves >> such_that (IsFormOf first second leaves)
 
 -- ---- how they are stored
 abbrev pub code_of_row : Coded SetRow

@@ -1,9 +1,11 @@
 // The cells of a form: the leaves go into them one after another.
-ghost use Rattle.std.specs.Prelude.{◌≡◌, ◌<◌, ◌/◌, ◌^◌, [], All, Contains, map, length, slice_index, IfOk, IfErr, OnOk};
+ghost use Rattle.std.specs.Prelude.{◌≡◌, ◌<◌, ◌/◌, ◌^◌, [], All, Contains, map, length, slice_index, IfOk};
 ghost use Rattle.std.specs.List.Sorted.{IsStrictlyIncreasing};
+ghost use Rattle.answers.specs.Answers.{Gives, map_ok};
 ghost use Rattle.sequence_data.specs.Cells.{AreCells};
 ghost use Rattle.sequence_data.specs.Gathered.{ArePlaces, added_cell, cell_in, cell_place};
-ghost use Rattle.sequence_data.specs.Steps.{AllPlacedFit, IsUnfitStop, added_steps, cell_steps};
+ghost use Rattle.sequence_data.specs.Steps.{added_steps, gathering_in, fit_at};
+ghost use Rattle.sequence_data.specs.declared.stop.SeqStop.TheVariants as stops;
 
 use crate::steps::{sum, with_product};
 use crate::stop::SeqStop;
@@ -78,8 +80,7 @@ fn cell_number(places: &[u64], columns: u32, leaf: Leaf) -> usize
 // A cell with one more leaf.
 fn with_leaf(cell: Cell, leaf: Leaf) -> Result<Cell, SeqStop>
     ensures cell { IfOk result (λ c. c ≡ added_cell cell leaf) }
-    ensures fits { OnOk result (AllPlacedFit (added_steps cell leaf)) }
-    ensures stop { IfErr result (IsUnfitStop (added_steps cell leaf)) }
+    ensures steps { fit_at leaf.place (added_steps cell leaf) (map_ok result (λ _. tt)) }
 {
     let weight = sum(leaf.place, cell.weight, leaf.chance)?;
     let one = with_product(leaf.place, cell.one, leaf.chance, leaf.one)?;
@@ -104,8 +105,7 @@ pub(crate) fn gather(alloc: Global, leaves: &[Leaf], columns: u32) -> Result<Vec
     requires rows { All (λ l. l.row < 2 ^ 32) leaves.now }
     requires within { All (λ l. l.column < columns) leaves.now }
     ensures cells { IfOk result (λ cells. AreCells leaves.now cells.items) }
-    ensures fits { OnOk result (AllPlacedFit (cell_steps leaves.now)) }
-    ensures stop { IfErr result (IsUnfitStop (cell_steps leaves.now)) }
+    ensures steps { Gives stops.Memory (gathering_in leaves.now) (map_ok result (λ _. tt)) }
 {
     let places = cell_places(alloc, leaves, columns)?;
     let mut cells = empty_cells(alloc, &places, columns)?;

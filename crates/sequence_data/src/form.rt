@@ -1,7 +1,8 @@
 // A sequence form.
-ghost use Rattle.std.specs.Prelude.{◌≡◌, ◌<◌, length, All, IfOk, IfErr, OnOk};
-ghost use Rattle.sequence_data.specs.Data.{IsFormData, IsFormOf, IsSideData, LeafFits};
-ghost use Rattle.sequence_data.specs.Steps.{AllPlacedFit, IsUnfitStop, cell_steps};
+ghost use Rattle.std.specs.Prelude.{◌≡◌, ◌<◌, length, All};
+ghost use Rattle.answers.specs.Answers.{Gives};
+ghost use Rattle.sequence_data.specs.Data.{IsFormData, IsSideData, LeafFits, form_of_leaves};
+ghost use Rattle.sequence_data.specs.declared.stop.SeqStop.TheVariants as stops;
 
 use crate::cells::gather;
 use crate::payoffs::{Extremes, extreme_payoffs};
@@ -101,9 +102,7 @@ impl SeqForm {
         requires second { IsSideData second }
         requires some_leaf { 0 < length leaves.items }
         requires leaves_fit { All (LeafFits first.sequences second.sequences) leaves.items }
-        ensures form { IfOk result (IsFormOf first second leaves.items) }
-        ensures fits { OnOk result (AllPlacedFit (cell_steps leaves.items)) }
-        ensures stop { IfErr result (IsUnfitStop (cell_steps leaves.items)) }
+        ensures { Gives stops.Memory (form_of_leaves first second leaves.items) result }
     {
         let cells = gather(alloc, &leaves, second.sequences)?;
         let extremes = extreme_payoffs(&leaves);

@@ -5,25 +5,25 @@
 //! the first step that does not fit; `gains_are_not_negative` and `costs_are_not_negative`; `set_at`
 //! and `set_entry` give a set's row and its entries, and `dense` the matrix of the numbers of cells.
 //! Definitions: `specs::Data` says what each form keeps and which sequence form it stands for,
-//! `Cells` what the cells are, `Steps` the order of all steps, `Weights` a plan as a list, `Matrices`
-//! numbers of cells as a matrix; `sequence_forms` has the rows of plans.
+//! `Cells` what the cells are, `Steps` whether the steps of leaves fit, `Weights` a plan as a
+//! list, `Matrices` numbers of cells as a matrix; `sequence_forms` has the rows of plans.
 //! Private words: `specs::Gathered`, cells while they are summed up.
 //! Lemmas for callers: `proofs::GainLemmas` on gains and costs, `CellSumLemmas` and `OrderLemmas`
-//! on cells.
+//! on cells, `StepStageLemmas` on steps, `OneFormLemmas`, that there is one form over leaves.
 //! A change here touches: `sequence_form`, `zero_sum_lp`, `lemke_pivot` and
 //! `behaviour_profile`.
 #![tactic(auto)]
 
 ghost use Rattle.std.specs.Prelude.{◌≡◌, ℕ, List};
+ghost use Rattle.answers.specs.Answers.{IsSingle};
 ghost use Rattle.rational.specs.Rational.{ℚ, ◌≤ℚ◌, zero_ℚ};
-ghost use Rattle.frac128.specs.Steps.{Step};
 ghost use Rattle.sequence_forms.specs.Prices.{costs, gains};
 ghost use Rattle.sequence_data.specs.declared.types.Cell.{Cell};
 ghost use Rattle.sequence_data.specs.declared.types.Leaf.{Leaf};
 ghost use Rattle.sequence_data.specs.Cells.{AreCells};
 ghost use Rattle.sequence_data.specs.Data.{FormData, IsFormData, form};
 ghost use Rattle.rational.specs.Extremes.{IsGreatest, IsLeast};
-ghost use Rattle.sequence_data.specs.Steps.{AllPlacedFit, IsFirstUnfitPlaced, PlacedStep};
+ghost use Rattle.sequence_data.specs.Steps.{gathering_in};
 
 mod cells;
 mod form;
@@ -47,12 +47,9 @@ pub fn cells_are_one()
         → AreCells leaves other → one ≡ other }
 {}
 
-/// One step is the first that does not fit, and there is none where all fit.
+/// The steps of leaves all fit, or one of them is the first that does not.
 pub fn stops_are_exact()
-    ensures one { (steps : List PlacedStep) (k m : ℕ) (step other : Step)
-        → IsFirstUnfitPlaced steps k step → IsFirstUnfitPlaced steps m other → (k ≡ m) × (step ≡ other) }
-    ensures none { (steps : List PlacedStep) (k : ℕ) (step : Step) → IsFirstUnfitPlaced steps k step
-        → AllPlacedFit steps → ⊥ }
+    ensures { (leaves : List Leaf) → IsSingle (gathering_in leaves) }
 {}
 
 /// One number is the greatest, and one the least.

@@ -1,9 +1,10 @@
 // Steps at a node or a profile.
-ghost use Rattle.std.specs.Prelude.{◌≡◌, [], ◌∷◌, IfOk, IfErr, OnOk};
+ghost use Rattle.std.specs.Prelude.{◌≡◌, [], ◌∷◌, IfOk};
+ghost use Rattle.answers.specs.Answers.{map_ok};
 ghost use Rattle.rational.specs.Rational.{◌+ℚ◌, ◌*ℚ◌};
 ghost use Rattle.frac128.specs.Steps.{unfit};
 ghost use Rattle.frac128.specs.declared.steps.Op.TheVariants.{Add, Mul};
-ghost use Rattle.sequence_data.specs.Steps.{AllPlacedFit, IsUnfitStop, at_place, product_steps};
+ghost use Rattle.sequence_data.specs.Steps.{fit_at, product_steps};
 
 use crate::stop::SeqStop;
 use frac128::Frac;
@@ -15,8 +16,7 @@ use frac128::Frac;
 /// `Range` exactly where it does not fit.
 pub fn sum(place: u32, left: Frac, right: Frac) -> Result<Frac, SeqStop>
     ensures value { IfOk result (λ v. v ≡ left +ℚ right) }
-    ensures fits { OnOk result (AllPlacedFit (at_place place (unfit Add left right) ∷ [])) }
-    ensures stop { IfErr result (IsUnfitStop (at_place place (unfit Add left right) ∷ [])) }
+    ensures steps { fit_at place (unfit Add left right ∷ []) (map_ok result (λ _. tt)) }
 {
     match left.add(right) {
         Ok(value) => Ok(value),
@@ -31,8 +31,7 @@ pub fn sum(place: u32, left: Frac, right: Frac) -> Result<Frac, SeqStop>
 /// `Range` exactly where it does not fit.
 pub fn product(place: u32, left: Frac, right: Frac) -> Result<Frac, SeqStop>
     ensures value { IfOk result (λ v. v ≡ left *ℚ right) }
-    ensures fits { OnOk result (AllPlacedFit (at_place place (unfit Mul left right) ∷ [])) }
-    ensures stop { IfErr result (IsUnfitStop (at_place place (unfit Mul left right) ∷ [])) }
+    ensures steps { fit_at place (unfit Mul left right ∷ []) (map_ok result (λ _. tt)) }
 {
     match left.mul(right) {
         Ok(value) => Ok(value),
@@ -48,8 +47,7 @@ pub(crate) fn with_product(
     payoff: Frac,
 ) -> Result<Frac, SeqStop>
     ensures value { IfOk result (λ v. v ≡ before +ℚ (chance *ℚ payoff)) }
-    ensures fits { OnOk result (AllPlacedFit (product_steps place before chance payoff)) }
-    ensures stop { IfErr result (IsUnfitStop (product_steps place before chance payoff)) }
+    ensures steps { fit_at place (product_steps before chance payoff) (map_ok result (λ _. tt)) }
 {
     let part = product(place, chance, payoff)?;
     sum(place, before, part)

@@ -6,7 +6,7 @@ use Rattle.rational.specs.Rational.{ℚ, ◌*ℚ◌}
 use Rattle.rational.proofs.Rules.{one-*ℚ}
 use Rattle.game_theory.specs.Profiles.{profile_count, profile_at}
 use Rattle.game_theory.specs.Trees.{Tree}
-use Rattle.game_core.specs.Table.{GameTable, IsTable, game_of, strategy_counts}
+use Rattle.game_core.specs.Table.{GameTable, game_of, strategy_counts}
 use Rattle.sequence_forms.specs.Forms.{SequenceForm, form_of, form_of_table, chance_of_path, payoff_of_path}
 use Rattle.sequence_forms.specs.Lists.{Entry, listed_at, leaf_entries, leaves, AreListsOf, profile_entries, AreListsOfTable}
 use Rattle.sequence_forms.proofs.AlikeFormLemmas.{alike_back, same_best_plans, same_plans, same_sums}
@@ -22,6 +22,7 @@ use Rattle.sequence_data.proofs.CellSumLemmas.{cells-sum}
 use Rattle.sequence_form.specs.Forms.{IsTreeForm, profile_leaf, table_leaves, IsTableForm}
 use Rattle.sequence_form.specs.Laws.{TreeFormsStandForTrees, TreeFormsPayPlans, count_of_rows, count_of_columns, TableFormsStandForTables, TableFormsPayPlans}
 use Rattle.sequence_form.specs.Paths.{leaf_at, tree_leaves}
+use Rattle.sequence_form.proofs.FormLemmas.{table_form-is, table_form-two}
 use Rattle.sequence_form.proofs.SideLemmas.{befores, counts}
 use Rattle.sequence_form.proofs.TableLeafLemmas.{two-strategies}
 
@@ -81,25 +82,22 @@ profile_pays t zero k h = one-*ℚ ((game_of t).pays 0 k)
 profile_pays t (suc zero) k h = one-*ℚ ((game_of t).pays 1 k)
 profile_pays t (suc (suc i)) k h = absurd (omega arith)
 
-table_lists : (t : GameTable) (f : FormData) → IsTable t → IsTableForm t f → AreListsOfTable (game_of t) (count_of_rows t) (count_of_columns t) (lists_of f)
-table_lists t f valid h =
-    let two = two-strategies t valid h.two_players in
-    record {
-      row_befores = ap (λ (d : SideData). map (λ r. r.before) d.sets) h.first_is;
-      row_counts = ap (λ (d : SideData). map (λ r. r.count) d.sets) h.first_is;
-      column_befores = ap (λ (d : SideData). map (λ r. r.before) d.sets) h.second_is;
-      column_counts = ap (λ (d : SideData). map (λ r. r.count) d.sets) h.second_is;
-      weights = λ r q. cells-sum (λ l. l.chance) (λ c. c.weight) f.leaves f.cells h.of_leaves.cells_are (λ c is. ap (λ (d : Cell). d.weight) is) r q ∙ table_total t (λ l. l.chance) f.leaves (count_of_rows t) (count_of_columns t) r q two h.leaves_are;
-      pays = λ i r q m. cells-sum (pays_of i) (λ c. of_player i c.one c.two) f.leaves f.cells h.of_leaves.cells_are (cell_pays i f.leaves) r q
-          ∙ table_total t (pays_of i) f.leaves (count_of_rows t) (count_of_columns t) r q two h.leaves_are ∙ ap (λ (g : ℕ → ℚ). listed_at (profile_entries (count_of_rows t) (count_of_columns t) g) r q) (λ j k. profile_pays t i k m j);
-    }
+table_lists : (t : GameTable) (f : FormData) → strategy_counts t ≡ count_of_rows t ∷ count_of_columns t ∷ [] → IsTableForm t f → AreListsOfTable (game_of t) (count_of_rows t) (count_of_columns t) (lists_of f)
+table_lists t f two h = record {
+  row_befores = ap (λ (d : SideData). map (λ r. r.before) d.sets) h.first_is;
+  row_counts = ap (λ (d : SideData). map (λ r. r.count) d.sets) h.first_is;
+  column_befores = ap (λ (d : SideData). map (λ r. r.before) d.sets) h.second_is;
+  column_counts = ap (λ (d : SideData). map (λ r. r.count) d.sets) h.second_is;
+  weights = λ r q. cells-sum (λ l. l.chance) (λ c. c.weight) f.leaves f.cells h.of_leaves.cells_are (λ c is. ap (λ (d : Cell). d.weight) is) r q ∙ table_total t (λ l. l.chance) f.leaves (count_of_rows t) (count_of_columns t) r q two h.leaves_are;
+  pays = λ i r q m. cells-sum (pays_of i) (λ c. of_player i c.one c.two) f.leaves f.cells h.of_leaves.cells_are (cell_pays i f.leaves) r q
+      ∙ table_total t (pays_of i) f.leaves (count_of_rows t) (count_of_columns t) r q two h.leaves_are ∙ ap (λ (g : ℕ → ℚ). listed_at (profile_entries (count_of_rows t) (count_of_columns t) g) r q) (λ j k. profile_pays t i k m j);
+}
 
 pub table_stands : TableFormsStandForTables
-table_stands t f valid h = record {
-  strategies_are = two-strategies t valid h.two_players;
-  lists = table_lists t f valid h;
-  alike = table_lists_make (game_of t) (count_of_rows t) (count_of_columns t) (lists_of f) (table_lists t f valid h);
-}
+table_stands t f valid h =
+    let two = two-strategies t valid (table_form-two t f h) in
+    let lists = table_lists t f two (table_form-is t f h) in
+    record { strategies_are = two; lists = lists; alike = table_lists_make (game_of t) (count_of_rows t) (count_of_columns t) (lists_of f) lists }
 
 pub table_pays : TableFormsPayPlans
 table_pays t f valid h =

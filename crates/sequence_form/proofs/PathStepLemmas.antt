@@ -1,47 +1,55 @@
 -- The paths of a tree, node by node: steps, values and leaves.
-use Rattle.std.proofs.Common.{ℕ, zero, suc, ◌+◌, ◌<◌, ◌≤◌, ◌≡◌, inl, inr, true, false, Option, Some, None, List, [], ◌∷◌, ◌++◌, length, map, All, refl, sym, ap, ap₂, subst, ◌∙◌, append_assoc, arith}
+use Rattle.std.proofs.Common.{ℕ, zero, suc, ◌+◌, ◌<◌, ◌≤◌, ◌≡◌, true, false, Option, Some, None, List, [], ◌∷◌, ◌++◌, length, map, take, get_or, All, Result, Ok, Err, refl, sym, ap, ap₂, subst, ◌∙◌, append_assoc, arith}
+use Rattle.std.specs.List.{range_with_len}
 use Rattle.std.specs.Option.{is_some}
-use Rattle.std.proofs.lemmas.Bool.{cases_lt}
-use Rattle.std.proofs.lemmas.List.{map-append, length_push}
+use Rattle.std.proofs.lemmas.List.{map-append, length_push, take_all}
 use Rattle.std.proofs.lemmas.List.Elements.{All-nil, All-cons, All-map}
+use Rattle.std.proofs.lemmas.List.FromFn.{get_or-range_with_len, length-range_with_len}
 use Rattle.std.proofs.lemmas.Option.{none-some, same_Some}
 use Rattle.rational.specs.Rational.{ℚ, ◌+ℚ◌}
-use Rattle.frac128.specs.Steps.{unfit}
-use Rattle.frac128.specs.declared.steps.Op.TheVariants.{Add}
+use Rattle.frac128.specs.FirstUnfit.{StepsFit}
+use Rattle.frac128.specs.Steps.{unfit, Step, StepFits, IsFirstUnfit}
+use Rattle.frac128.specs.declared.steps.Op.TheVariants.{Add, Mul}
+use Rattle.frac128.proofs.FirstUnfitLemmas.{fits_next, first_unfit_here}
 use Rattle.game_theory.specs.Trees.{Tree, IsTree}
-use Rattle.sequence_forms.specs.Forms.{payoff_of_path}
+use Rattle.sequence_forms.specs.Forms.{chance_of_path, payoff_of_path}
 use Rattle.sequence_forms.specs.Lists.{leaf_first, leaves_below, leaves}
 use Rattle.sequence_forms.specs.Sequences.{side_of}
 use Rattle.sequence_forms.specs.Sides.{sequences}
 use Rattle.sequence_forms.proofs.SequenceLemmas.{last-below}
 use Rattle.sequence_forms.proofs.SignLemmas.{chance-not_negative, path_totals}
 use Rattle.sequence_data.specs.Data.{LeafFits}
-use Rattle.sequence_data.specs.Steps.{at_place, AllPlacedFit, IsUnfitStop}
+use Rattle.sequence_data.specs.Steps.{fit_at}
 use Rattle.sequence_data.specs.declared.stop.SeqStop.{SeqStop}
 use Rattle.sequence_data.specs.declared.types.Leaf.{Leaf}
-use Rattle.sequence_data.proofs.PlacedStepLemmas.{fit-append, stop-more, stop-following}
-use Rattle.sequence_form.specs.Paths.{leaf_at, tree_leaves, chance_steps, payoff_step, child_steps, node_steps, path_steps}
+use Rattle.sequence_data.proofs.StepStageLemmas.{fit_at-following, fit_at-more}
+use Rattle.sequence_form.specs.Paths.{leaf_at, tree_leaves, chance_step, chance_steps, payoff_step, child_steps, node_steps, paths_in}
 
 -- ---- a node
 module _ (t : Tree) (k : ℕ) where
   -- the chance comes first
-  pub chance-stop : (stop : SeqStop) → IsUnfitStop (chance_steps t k (t.set (t.parent k))) stop → IsUnfitStop (child_steps t k) stop
-  chance-stop stop h = stop-more (chance_steps t k (t.set (t.parent k))) (payoff_step t k 0 ∷ payoff_step t k 1 ∷ []) stop h
+  abbrev firsts : List Step
+  firsts = chance_steps t k (t.set (t.parent k))
+
+  pub chance-stop : (stop : SeqStop) → fit_at k firsts (Err stop) → fit_at k (child_steps t k) (Err stop)
+  chance-stop stop h = fit_at-more k firsts (payoff_step t k 0 ∷ payoff_step t k 1 ∷ []) stop h
 
   -- then the payoff of player 0
-  pub one-stop : (stop : SeqStop) → AllPlacedFit (chance_steps t k (t.set (t.parent k))) → IsUnfitStop (payoff_step t k 0 ∷ []) stop → IsUnfitStop (child_steps t k) stop
-  one-stop stop fit h = stop-following (chance_steps t k (t.set (t.parent k))) (payoff_step t k 0 ∷ payoff_step t k 1 ∷ []) stop fit (stop-more (payoff_step t k 0 ∷ []) (payoff_step t k 1 ∷ []) stop h)
+  pub one-stop : (stop : SeqStop) → All StepFits firsts → fit_at k (payoff_step t k 0 ∷ []) (Err stop) → fit_at k (child_steps t k) (Err stop)
+  one-stop stop fit h = fit_at-following k firsts (payoff_step t k 0 ∷ payoff_step t k 1 ∷ []) (Err stop) fit (fit_at-more k (payoff_step t k 0 ∷ []) (payoff_step t k 1 ∷ []) stop h)
 
   -- and that of player 1
-  pub two-stop : (stop : SeqStop) → AllPlacedFit (chance_steps t k (t.set (t.parent k))) → AllPlacedFit (payoff_step t k 0 ∷ []) → IsUnfitStop (payoff_step t k 1 ∷ []) stop → IsUnfitStop (child_steps t k) stop
-  two-stop stop fit one h = stop-following (chance_steps t k (t.set (t.parent k))) (payoff_step t k 0 ∷ payoff_step t k 1 ∷ []) stop fit (stop-following (payoff_step t k 0 ∷ []) (payoff_step t k 1 ∷ []) stop one h)
+  pub two-answer : (answer : Result (Unit {0}) SeqStop) → All StepFits firsts → All StepFits (payoff_step t k 0 ∷ []) → fit_at k (payoff_step t k 1 ∷ []) answer → fit_at k (child_steps t k) answer
+  two-answer answer fit one h = fit_at-following k firsts (payoff_step t k 0 ∷ payoff_step t k 1 ∷ []) answer fit (fit_at-following k (payoff_step t k 0 ∷ []) (payoff_step t k 1 ∷ []) answer one h)
 
-  pub all-fit : AllPlacedFit (chance_steps t k (t.set (t.parent k))) → AllPlacedFit (payoff_step t k 0 ∷ []) → AllPlacedFit (payoff_step t k 1 ∷ []) → AllPlacedFit (child_steps t k)
-  all-fit fit one two = fit-append (chance_steps t k (t.set (t.parent k))) (payoff_step t k 0 ∷ payoff_step t k 1 ∷ []) fit (fit-append (payoff_step t k 0 ∷ []) (payoff_step t k 1 ∷ []) one two)
+-- the step of chance by the numbers of which it is made
+pub chance-is : (t : Tree) (k s : ℕ) (a b : ℚ) → t.set (t.parent k) ≡ Some s → t.owner s ≡ None → a ≡ chance_of_path t (t.parent k) → b ≡ t.chance s (t.branch k) → (unfit Mul a b ∷ []) ≡ chance_steps t k (t.set (t.parent k))
+chance-is t k s a b at none left right =
+    ap₂ (λ u v. unfit Mul u v ∷ []) left right ∙ ap (chance_step t k s) (sym none) ∙ ap (chance_steps t k) (sym at)
 
 -- a step by the numbers of which it is made
-pub step-is : (t : Tree) (k i : ℕ) (a b : ℚ) → a ≡ payoff_of_path t i (t.parent k) → b ≡ t.pays k i → (at_place k (unfit Add a b) ∷ []) ≡ (payoff_step t k i ∷ [])
-step-is t k i a b left right = ap₂ (λ u v. at_place k (unfit Add u v) ∷ []) left right
+pub step-is : (t : Tree) (k i : ℕ) (a b : ℚ) → a ≡ payoff_of_path t i (t.parent k) → b ≡ t.pays k i → (unfit Add a b ∷ []) ≡ (payoff_step t k i ∷ [])
+step-is t k i a b left right = ap₂ (λ u v. unfit Add u v ∷ []) left right
 
 -- the sum of that step
 pub payoff-is : (t : Tree) (k i : ℕ) (a b v : ℚ) → IsTree t → 0 < k → k < t.size → a ≡ payoff_of_path t i (t.parent k) → b ≡ t.pays k i → v ≡ a +ℚ b → v ≡ payoff_of_path t i k
@@ -77,23 +85,33 @@ pub node-child : (t : Tree) (k : ℕ) → 0 < k → node_steps t k ≡ child_ste
 node-child t zero h = absurd (omega arith)
 node-child t (suc k) h = refl
 
-pub path-more : (t : Tree) (k : ℕ) → 0 < k → path_steps t (k + 1) ≡ path_steps t k ++ child_steps t k
-path-more t k h = let one : k + 1 ≡ suc k = omega arith in ap (path_steps t) one ∙ ap (λ s. path_steps t k ++ s) (node-child t k h)
+module _ (t : Tree) where
+  abbrev nodes : List ℕ
+  nodes = range_with_len 0 t.size
 
-pub path-fit : (t : Tree) (k : ℕ) → 0 < k → AllPlacedFit (path_steps t k) → AllPlacedFit (child_steps t k) → AllPlacedFit (path_steps t (k + 1))
-path-fit t k h fit here = subst AllPlacedFit (sym (path-more t k h)) (fit-append (path_steps t k) (child_steps t k) fit here)
+  module _ (k : ℕ) (l : k < t.size) (fit : All (StepsFit (node_steps t)) (take k nodes)) where
+    within : k < length nodes
+    within = omega (arith, l, length-range_with_len 0 t.size)
 
--- what stops the first nodes stops all
-path-stop_more : (t : Tree) (k n : ℕ) (stop : SeqStop) → IsUnfitStop (path_steps t k) stop → k ≤ n → IsUnfitStop (path_steps t n) stop
-path-stop_more t k zero stop h few = let same : k ≡ zero = omega arith in subst (λ m. IsUnfitStop (path_steps t m) stop) same h
-path-stop_more t k (suc n) stop h few = elim (cases_lt k (suc n)) [
-  | inl less ↦ stop-more (path_steps t n) (node_steps t n) stop (path-stop_more t k n stop h (omega arith))
-  | inr whole ↦ (let same : k ≡ suc n = omega arith in subst (λ m. IsUnfitStop (path_steps t m) stop) same h)
-]
+    here : k ≡ get_or nodes k k
+    here = omega (arith, get_or-range_with_len 0 t.size k k l)
 
-pub path-stop : (t : Tree) (k n : ℕ) (stop : SeqStop) → 0 < k → k < n → AllPlacedFit (path_steps t k) → IsUnfitStop (child_steps t k) stop → IsUnfitStop (path_steps t n) stop
-path-stop t k n stop h below fit here =
-    path-stop_more t (k + 1) n stop (subst (λ s. IsUnfitStop s stop) (sym (path-more t k h)) (stop-following (path_steps t k) (child_steps t k) stop fit here)) (omega arith)
+    -- the steps of one node more fit
+    pub path-fit : 0 < k → All StepFits (child_steps t k) → All (StepsFit (node_steps t)) (take (k + 1) nodes)
+    path-fit h f = fits_next (node_steps t) nodes k k within here fit (subst (All StepFits) (sym (node-child t k h)) f)
+
+    -- what stops a node stops all
+    pub path-stop : 0 < k → (stop : SeqStop) → fit_at k (child_steps t k) (Err stop) → paths_in t (Err stop)
+    path-stop h stop (step, u, told) =
+        ((k, step), first_unfit_here (node_steps t) nodes k k within here step fit (subst (λ s. IsFirstUnfit s step) (sym (node-child t k h)) u), told)
+
+  -- the root has no steps
+  pub path-start : 0 < t.size → All (StepsFit (node_steps t)) (take 1 nodes)
+  path-start l = fits_next (node_steps t) nodes 0 0 (omega (arith, l, length-range_with_len 0 t.size)) (omega (arith, get_or-range_with_len 0 t.size 0 0 l)) (All-nil (StepsFit (node_steps t))) (All-nil StepFits)
+
+  -- the steps of all nodes fit
+  pub path-all : (n : ℕ) → t.size ≤ n → All (StepsFit (node_steps t)) (take n nodes) → paths_in t (Ok tt)
+  path-all n l fit = subst (All (StepsFit (node_steps t))) (take_all n nodes (omega (arith, l, length-range_with_len 0 t.size))) fit
 
 -- ---- the leaves
 -- the leaves below n, and then others

@@ -1,5 +1,5 @@
 -- What the forms of trees and tables stand for, and what plans pay by them.
-use Rattle.std.specs.Prelude.{ℕ, ◌<◌, ◌≡◌, [], ◌∷◌, slice_index}
+use Rattle.std.specs.Prelude.{ℕ, ◌<◌, ◌≡◌, [], ◌∷◌, slice_index, Ok}
 use Rattle.rational.specs.Rational.{ℚ}
 use Rattle.game_theory.specs.Mixed.{payoff as table_payoff}
 use Rattle.game_theory.specs.Behaviour.{payoff}
@@ -11,7 +11,7 @@ use Rattle.sequence_forms.specs.Lists.{AreListsOf, AreListsOfTable}
 use Rattle.sequence_forms.specs.PlanBehaviour.{behaviour_of, of_two}
 use Rattle.sequence_forms.specs.Sides.{IsRealisationPlan}
 use Rattle.sequence_data.specs.Data.{FormData, form, lists_of}
-use Rattle.sequence_form.specs.Forms.{IsTreeForm, IsTableForm}
+use Rattle.sequence_form.specs.Forms.{IsTreeForm, table_form}
 
 -- ---- trees
 -- the lists of a form are those of the tree, and it is the tree's sequence form within its bounds
@@ -44,7 +44,7 @@ pub record StandsForTable (t : GameTable) (f : FormData) : Type 0 where
   pub alike : FormsAlike (form f) (form_of_table (game_of t) (count_of_rows t) (count_of_columns t))
 
 abbrev pub TableFormsStandForTables : Type 0
-TableFormsStandForTables = (t : GameTable) (f : FormData) → IsTable t → IsTableForm t f → StandsForTable t f
+TableFormsStandForTables = (t : GameTable) (f : FormData) → IsTable t → table_form t (Ok f) → StandsForTable t f
 
 -- two plans pay by the cells what the strategies' weights in them pay, for either player, and they weigh the cells to 1
 pub record PlansPayOnTable (t : GameTable) (f : FormData) : Type 0 where
@@ -52,4 +52,4 @@ pub record PlansPayOnTable (t : GameTable) (f : FormData) : Type 0 where
   pub weigh_one : WeighsOne (form f)
 
 abbrev pub TableFormsPayPlans : Type 0
-TableFormsPayPlans = (t : GameTable) (f : FormData) → IsTable t → IsTableForm t f → PlansPayOnTable t f
+TableFormsPayPlans = (t : GameTable) (f : FormData) → IsTable t → table_form t (Ok f) → PlansPayOnTable t f

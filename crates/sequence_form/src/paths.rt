@@ -1,11 +1,13 @@
 // What the paths of a tree lead to, node by node, each after its parent.
-ghost use Rattle.std.specs.Prelude.{◌≡◌, ◌<◌, length, map, IfOk, IfErr, OnOk};
+ghost use Rattle.std.specs.Prelude.{◌≡◌, ◌<◌, length, map, IfOk};
 ghost use Rattle.std.specs.List.{range_with_len};
+ghost use Rattle.answers.specs.Answers.{Gives, map_ok};
 ghost use Rattle.game_core.specs.TreeGame.{game_of_tree};
 ghost use Rattle.sequence_forms.specs.Forms.{chance_of_path};
 ghost use Rattle.sequence_forms.specs.Sequences.{last_sequence};
-ghost use Rattle.sequence_data.specs.Steps.{AllPlacedFit, IsUnfitStop};
-ghost use Rattle.sequence_form.specs.Paths.{chance_steps, child_steps, leaf_at, path_steps, tree_leaves};
+ghost use Rattle.sequence_data.specs.Steps.{fit_at};
+ghost use Rattle.sequence_data.specs.declared.stop.SeqStop.TheVariants as stops;
+ghost use Rattle.sequence_form.specs.Paths.{chance_steps, child_steps, leaf_at, paths_in, tree_leaves};
 ghost use Rattle.sequence_form.specs.Sequences.{AreFirsts};
 
 use answers::Memory;
@@ -43,11 +45,8 @@ fn chance(tree: &Tree, above: Frac, node: usize) -> Result<Frac, SeqStop>
     requires above { above
         ≡ chance_of_path (game_of_tree tree.now) ((game_of_tree tree.now).parent node) }
     ensures value { IfOk result (λ v. v ≡ chance_of_path (game_of_tree tree.now) node) }
-    ensures fits { OnOk result
-        (let t = game_of_tree tree.now in AllPlacedFit (chance_steps t node (t.set (t.parent node)))) }
-    ensures stop { IfErr result
-        (let t = game_of_tree tree.now in IsUnfitStop
-        (chance_steps t node (t.set (t.parent node)))) }
+    ensures steps { let t = game_of_tree tree.now in fit_at node
+        (chance_steps t node (t.set (t.parent node))) (map_ok result (λ _. tt)) }
 {
     stands_for_game_tree(tree);
     paths_add_up();
@@ -94,8 +93,8 @@ fn next_path(
     requires firsts_two { AreFirsts (game_of_tree tree.now) 1 firsts_two.now }
     requires above { above ≡ leaf_at (game_of_tree tree.now) ((game_of_tree tree.now).parent node) }
     ensures value { IfOk result (λ path. path ≡ leaf_at (game_of_tree tree.now) node) }
-    ensures fits { OnOk result (AllPlacedFit (child_steps (game_of_tree tree.now) node)) }
-    ensures stop { IfErr result (IsUnfitStop (child_steps (game_of_tree tree.now) node)) }
+    ensures steps { fit_at node (child_steps (game_of_tree tree.now) node)
+        (map_ok result (λ _. tt)) }
 {
     stands_for_game_tree(tree);
     paths_add_up();
@@ -124,10 +123,8 @@ pub(crate) fn paths(
     requires firsts_two { AreFirsts (game_of_tree tree.now) 1 firsts_two.now }
     ensures paths { IfOk result (λ paths. paths.items
         ≡ map (leaf_at (game_of_tree tree.now)) (range_with_len 0 (length tree.now.nodes))) }
-    ensures fits { OnOk result
-        (AllPlacedFit (path_steps (game_of_tree tree.now) (length tree.now.nodes))) }
-    ensures stop { IfErr result
-        (IsUnfitStop (path_steps (game_of_tree tree.now) (length tree.now.nodes))) }
+    ensures steps { Gives stops.Memory (paths_in (game_of_tree tree.now))
+        (map_ok result (λ _. tt)) }
 {
     stands_for_game_tree(tree);
     let nodes = tree.nodes().len();

@@ -14,9 +14,10 @@ use Rattle.sequence_forms.specs.Prices.{HasConstantSum}
 use Rattle.sequence_forms.proofs.SignLemmas.{table_cells}
 use Rattle.sequence_data.specs.Data.{FormData, IsFormData}
 use Rattle.sequence_data.specs.declared.types.Leaf.{Leaf}
-use Rattle.sequence_form.specs.Forms.{IsTableForm, IsTreeForm, profile_leaf, table_leaves}
+use Rattle.sequence_form.specs.Forms.{IsTreeForm, profile_leaf, table_form, table_leaves}
 use Rattle.sequence_form.specs.Laws.{count_of_columns, count_of_rows}
 use Rattle.sequence_form.specs.Paths.{leaf_at}
+use Rattle.sequence_form.proofs.FormLemmas.{table_form-is, table_form-two}
 use Rattle.sequence_form.proofs.TableLeafLemmas.{two-strategies}
 use Rattle.zero_sum_lp.specs.FormPrograms.{is_constant, sum_at}
 
@@ -67,11 +68,11 @@ profile_sums t c k sums l =
     subst (λ d. sum_at d ≡ c) (get_or-map-range_with_len (profile_leaf t) 0 n k k (profile_leaf t k) l (omega arith))
     (All-get_or (λ d. sum_at d ≡ c) (table_leaves t) k (profile_leaf t k) within sums)
 
-pub table_sums : (t : GameTable) (f : FormData) (c : ℚ) → IsTable t → IsTableForm t f → SumsTo f.leaves c → HasConstantSum (form_of_table (game_of t) (count_of_rows t) (count_of_columns t)) c
+pub table_sums : (t : GameTable) (f : FormData) (c : ℚ) → IsTable t → table_form t (Ok f) → SumsTo f.leaves c → HasConstantSum (form_of_table (game_of t) (count_of_rows t) (count_of_columns t)) c
 table_sums t f c w h sums =
     let m = count_of_rows t in
     let n = count_of_columns t in
-    let two = two-strategies t w h.two_players in
-    let listed : SumsTo (table_leaves t) c = subst (λ (ls : List Leaf). SumsTo ls c) h.leaves_are sums in
+    let two = two-strategies t w (table_form-two t f h) in
+    let listed : SumsTo (table_leaves t) c = subst (λ (ls : List Leaf). SumsTo ls c) (table_form-is t f h).leaves_are sums in
     (table_cells (game_of t) m n).sums c (λ r q j l. profile_sums t c (number_of (m ∷ n ∷ []) (r ∷ q ∷ [])) listed
     (subst (λ ns. number_of (m ∷ n ∷ []) (r ∷ q ∷ []) < profile_count ns) (sym two) (number_of-below (m ∷ n ∷ []) (r ∷ q ∷ []) (j, (l, tt)))))

@@ -1,9 +1,10 @@
 -- What the tools for two players make of a game, and print of two plans, is single.
 use Rattle.std.proofs.Common.{ℕ, ◌<◌, ◌≢◌, Bool, true, false, List}
-use Rattle.answers.specs.Answers.{IsSingle, ◌>>◌, only, refused_by}
+use Rattle.answers.specs.Answers.{IsSingle, ◌>>=◌, ◌>>◌, only, refused_by}
 use Rattle.answers.proofs.AnswerLemmas.{bind-single, only-single, refuse_where-single, refused_by-single}
 use Rattle.rational.specs.Rational.{ℚ}
 use Rattle.game_theory.specs.Lines.{line_text}
+use Rattle.game_core.specs.Limits.{most_rows, too_large, within}
 use Rattle.game_core.specs.Table.{GameTable}
 use Rattle.game_core.specs.Tree.{GameTree, IsGameTree}
 use Rattle.game_core.specs.declared.game.Game.{Game}
@@ -12,15 +13,15 @@ use Rattle.game_core.specs.declared.too_large.What.TheVariants as what
 use Rattle.behaviour_profile.specs.Plans.{plan_behaviour}
 use Rattle.behaviour_profile.proofs.PlanStopLemmas.{plan_behaviour-single}
 use Rattle.perfect_recall.specs.Found.{recall_of}
-use Rattle.reduced_form.specs.Stops.{reduced_form_of}
-use Rattle.reduced_form.proofs.OneFormLaws.{form_of-single}
 use Rattle.sequence_form.specs.Forms.{tree_form, table_form}
 use Rattle.sequence_form.specs.declared.counts.Counts.{Counts}
 use Rattle.sequence_form.proofs.FormLemmas.{table_form-single, tree_form-single}
 use Rattle.two_player_tools.specs.Entries.{entries_in, line_in}
 use Rattle.two_player_tools.specs.GameTypes.{IsGame}
-use Rattle.refusals.specs.Told.{behaviour_refusal, form_refusal, recall_refusal, sequence_refusal}
-use Rattle.two_player_tools.specs.TwoPlayers.{form_in, form_of_table, form_of_tree, players_of, table_counts, tree_counts, two_players, within_rows}
+use Rattle.refusals.specs.Told.{behaviour_refusal, limit_refusal, recall_refusal, sequence_refusal}
+use Rattle.two_player_tools.specs.StrategicForms.{strategic_form}
+use Rattle.two_player_tools.proofs.StrategicFormLemmas.{strategic_form-single}
+use Rattle.two_player_tools.specs.TwoPlayers.{form_in, form_of_table, form_of_tree, players_of, table_counts, tree_counts, two_players}
 use Rattle.refusals.specs.declared.refusal.Refusal.TheVariants as refusal
 
 -- a tree has one recall
@@ -32,28 +33,28 @@ pub two_players-single : (game : Game) → IsSingle (two_players game)
 two_players-single game = refuse_where-single (players_of game ≢ 2) (refusal.NotTwoPlayers (players_of game))
 
 -- ---- the form
-within_rows-single : (count : ℕ) → IsSingle (within_rows count)
-within_rows-single count = refuse_where-single (512 < count) (refusal.TooLarge what.Rows count 512)
+within_rows-single : (rows : ℕ) → IsSingle (refused_by limit_refusal (within what.Rows most_rows rows))
+within_rows-single rows = refused_by-single limit_refusal _ (refuse_where-single (most_rows < rows) (too_large what.Rows most_rows rows))
 
 form_of_table-single : (rows : Counts → ℕ) (t : GameTable) → IsSingle (form_of_table rows t)
 form_of_table-single rows t =
-    bind-single (within_rows (rows (table_counts t))) (λ _. refused_by sequence_refusal (table_form t)) (within_rows-single (rows (table_counts t)))
+    bind-single (refused_by limit_refusal (within what.Rows most_rows (rows (table_counts t)))) (λ _. refused_by sequence_refusal (table_form t)) (within_rows-single (rows (table_counts t)))
     (λ _ _. refused_by-single sequence_refusal (table_form t) (table_form-single t))
 
 form_of_tree-single : (rows : Counts → ℕ) (t : GameTree) → IsSingle (recall_of t) → IsSingle (form_of_tree rows t)
 form_of_tree-single rows t single =
-    bind-single (refused_by recall_refusal (recall_of t)) (λ _. within_rows (rows (tree_counts t)) >> refused_by sequence_refusal (tree_form t))
+    bind-single (refused_by recall_refusal (recall_of t)) (λ _. refused_by limit_refusal (within what.Rows most_rows (rows (tree_counts t))) >> refused_by sequence_refusal (tree_form t))
     (refused_by-single recall_refusal (recall_of t) single)
-    (λ _ _. bind-single (within_rows (rows (tree_counts t))) (λ _. refused_by sequence_refusal (tree_form t)) (within_rows-single (rows (tree_counts t)))
+    (λ _ _. bind-single (refused_by limit_refusal (within what.Rows most_rows (rows (tree_counts t)))) (λ _. refused_by sequence_refusal (tree_form t)) (within_rows-single (rows (tree_counts t)))
     (λ _ _. refused_by-single sequence_refusal (tree_form t) (tree_form-single t)))
 
+strategic-single : (rows : Counts → ℕ) (game : Game) → IsSingle (strategic_form game >>= form_of_table rows)
+strategic-single rows game = bind-single (strategic_form game) (form_of_table rows) (strategic_form-single game) (λ table _. form_of_table-single rows table)
+
 pub form_in-single : (rows : Counts → ℕ) (strategic : Bool) (game : Game) → RecallsAreSingle → IsGame game → IsSingle (form_in rows strategic game)
-form_in-single rows true (Strategic t) recalls w = form_of_table-single rows t
-form_in-single rows false (Strategic t) recalls w = form_of_table-single rows t
-form_in-single rows true (Extensive t) recalls w =
-    bind-single (refused_by form_refusal (reduced_form_of t)) (λ form. form_of_table rows form.table)
-    (refused_by-single form_refusal (reduced_form_of t) (form_of-single t))
-    (λ form _. form_of_table-single rows form.table)
+form_in-single rows true (Strategic t) recalls w = strategic-single rows (Strategic t)
+form_in-single rows false (Strategic t) recalls w = strategic-single rows (Strategic t)
+form_in-single rows true (Extensive t) recalls w = strategic-single rows (Extensive t)
 form_in-single rows false (Extensive t) recalls w = form_of_tree-single rows t (recalls t w)
 
 -- ---- the line

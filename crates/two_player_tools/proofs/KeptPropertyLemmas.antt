@@ -7,11 +7,11 @@ use Rattle.game_core.specs.TreeGame.{game_of_tree}
 use Rattle.game_core.specs.declared.game.Game.{Game}
 use Rattle.game_core.specs.declared.game.Game.TheVariants.{Strategic, Extensive}
 use Rattle.perfect_recall.specs.Found.{IsRecallOf}
-use Rattle.reduced_form.proofs.FormAnswerLemmas.{form_of}
 use Rattle.sequence_forms.specs.Forms.{HasTwoWhoRecall}
 use Rattle.sequence_data.specs.Data.{FormData, IsFormData, IsSideData}
-use Rattle.sequence_form.specs.Forms.{IsTreeForm}
+use Rattle.sequence_form.specs.Forms.{tree_form}
 use Rattle.sequence_form.specs.declared.counts.Counts.{Counts}
+use Rattle.sequence_form.proofs.FormLemmas.{tree_form-two}
 use Rattle.sequence_form.proofs.KeptFormLemmas.{table_form-valid, tree_form-valid}
 use Rattle.zero_sum_lp.specs.FormPrograms.{program_in, with_start}
 use Rattle.zero_sum_lp.specs.Parts.{IsOptimumOf, IsProgram, Program}
@@ -19,6 +19,7 @@ use Rattle.zero_sum_lp.specs.PlanPairs.{PlanPair}
 use Rattle.zero_sum_lp.specs.PlanStops.{plans_of}
 use Rattle.two_player_tools.specs.GameTypes.{IsGame}
 use Rattle.two_player_tools.specs.TwoPlayers.{form_in}
+use Rattle.two_player_tools.proofs.StrategicFormLemmas.{strategic_form-table}
 
 -- what trees stand for
 pub record TreesAreGames : Type 0 where
@@ -28,19 +29,21 @@ pub record TreesAreGames : Type 0 where
 -- ---- forms
 -- the form of a game
 pub form_in-valid : (rows : Counts → ℕ) (strategic : Bool) (game : Game) (f : FormData) → TreesAreGames → IsGame game → form_in rows strategic game (Ok f) → IsFormData f
-form_in-valid rows true (Strategic t) f laws w h = table_form-valid t f w h.2
-form_in-valid rows false (Strategic t) f laws w h = table_form-valid t f w h.2
-form_in-valid rows true (Extensive t) f laws w h = table_form-valid h.0.table f (form_of t h.0 h.1).is_table h.2.2
-form_in-valid rows false (Extensive t) f laws w h = tree_form-valid (game_of_tree t) f (laws.game_tree t w) (laws.numbered t w) h.1.all_recall h.2.2
+form_in-valid rows true (Strategic t) f laws w h = table_form-valid h.0 f (strategic_form-table (Strategic t) h.0 w h.1) h.2.2
+form_in-valid rows false (Strategic t) f laws w h = table_form-valid h.0 f (strategic_form-table (Strategic t) h.0 w h.1) h.2.2
+form_in-valid rows true (Extensive t) f laws w h = table_form-valid h.0 f (strategic_form-table (Extensive t) h.0 w h.1) h.2.2
+form_in-valid rows false (Extensive t) f laws w h = tree_form-valid t f (laws.game_tree t w) (laws.numbered t w) h.1.all_recall h.2.2
 
 -- a tree with a form has two players, who recall
-pub two_who_recall : (t : GameTree) (f : FormData) (before : List (Option (ℕ × ℕ))) → TreesAreGames → IsGameTree t → IsRecallOf (game_of_tree t) before → IsTreeForm (game_of_tree t) f → HasTwoWhoRecall (game_of_tree t)
-two_who_recall t f before laws w recall h = record {
-  is_tree = laws.game_tree t w;
-  two_players = h.two_players;
-  first_recalls = recall.all_recall 0 (omega (arith, h.two_players));
-  second_recalls = recall.all_recall 1 (omega (arith, h.two_players));
-}
+pub two_who_recall : (t : GameTree) (f : FormData) (before : List (Option (ℕ × ℕ))) → TreesAreGames → IsGameTree t → IsRecallOf (game_of_tree t) before → tree_form t (Ok f) → HasTwoWhoRecall (game_of_tree t)
+two_who_recall t f before laws w recall h =
+    let two = tree_form-two t f h in
+    record {
+      is_tree = laws.game_tree t w;
+      two_players = two;
+      first_recalls = recall.all_recall 0 (omega (arith, two));
+      second_recalls = recall.all_recall 1 (omega (arith, two));
+    }
 
 -- ---- programs and optima
 -- how a form is solved: its program, the program's optimum and the plans

@@ -10,7 +10,6 @@ use Rattle.game_core.specs.TreeGame.{game_of_tree}
 use Rattle.game_core.specs.declared.game.Game.{Game}
 use Rattle.game_core.specs.declared.game.Game.TheVariants.{Strategic, Extensive}
 use Rattle.perfect_recall.specs.Found.{IsRecallOf}
-use Rattle.reduced_form.proofs.FormAnswerLemmas.{form_of}
 use Rattle.sequence_forms.specs.Forms.{mixed_of_plans}
 use Rattle.sequence_forms.specs.PlanBehaviour.{behaviour_of}
 use Rattle.sequence_forms.specs.Sides.{sequences}
@@ -18,8 +17,9 @@ use Rattle.sequence_forms.proofs.EndLemmas.{solutions_on_tables, solutions_on_tr
 use Rattle.sequence_data.specs.Data.{FormData, IsFormData, SideData, form, side_of}
 use Rattle.sequence_data.specs.Weights.{weight_at}
 use Rattle.sequence_form.specs.Counts.{problem_rows}
-use Rattle.sequence_form.specs.Forms.{IsTableForm, IsTreeForm}
+use Rattle.sequence_form.specs.Forms.{table_form, tree_form}
 use Rattle.sequence_form.specs.Laws.{count_of_columns, count_of_rows}
+use Rattle.sequence_form.proofs.FormLemmas.{tree_form-is}
 use Rattle.sequence_form.proofs.Laws.{table_stands, tree_stands}
 use Rattle.zero_sum_lp.specs.PlanPairs.{PlanPair}
 use Rattle.lemke_pivot.specs.Ends.{IsSolutionOf}
@@ -32,6 +32,7 @@ use Rattle.two_player_tools.specs.Lcp.{plans_at}
 use Rattle.two_player_tools.specs.LcpLaws.{AreInEquilibrium, LcpTextsAreEquilibria, weights_of}
 use Rattle.two_player_tools.specs.TwoPlayers.{form_in}
 use Rattle.refusals.specs.declared.refusal.Refusal.{Refusal}
+use Rattle.two_player_tools.proofs.StrategicFormLemmas.{strategic_form-table}
 use Rattle.two_player_tools.proofs.KeptPropertyLemmas.{TreesAreGames, form_in-valid, two_who_recall}
 use Rattle.two_player_tools.proofs.LcpPlanLemmas.{HavePrices, have_prices}
 
@@ -68,19 +69,19 @@ module _ (f : FormData) (p s : Problem) (h : IsPivoting f p s) where
       have_prices (form f) f.greatest_one f.greatest_two s (is_of_form.rows ∙ ap side_of (sym h.solution.first)) (is_of_form.columns ∙ ap side_of (sym h.solution.second))
       (solves_the_form (form f) f.greatest_one f.greatest_two p s is_problem is_of_form h.solution)
 
-  on_table : (t : GameTable) → IsTable t → IsTableForm t f → is_table_equilibrium (game_of t) (mixed_of_plans (weights_of (plans_at s)))
+  on_table : (t : GameTable) → IsTable t → table_form t (Ok f) → is_table_equilibrium (game_of t) (mixed_of_plans (weights_of (plans_at s)))
   on_table t w k =
       let stands = table_stands t f w k in
       solutions_on_tables (game_of t) (count_of_rows t) (count_of_columns t) (form f) f.greatest_one f.greatest_two (weight_at (plans_at s).one) (weight_at (plans_at s).two) solved.P solved.P' solved.Q solved.Q' stands.strategies_are stands.alike solved.solves
 
-  on_tree : (t : GameTree) (before : List (Option (ℕ × ℕ))) → TreesAreGames → IsGameTree t → IsRecallOf (game_of_tree t) before → IsTreeForm (game_of_tree t) f → IsEquilibrium (game_of_tree t) (behaviour_of (game_of_tree t) (weights_of (plans_at s)))
+  on_tree : (t : GameTree) (before : List (Option (ℕ × ℕ))) → TreesAreGames → IsGameTree t → IsRecallOf (game_of_tree t) before → tree_form t (Ok f) → IsEquilibrium (game_of_tree t) (behaviour_of (game_of_tree t) (weights_of (plans_at s)))
   on_tree t before laws w recall k =
-      solutions_on_trees (game_of_tree t) (form f) f.greatest_one f.greatest_two (weight_at (plans_at s).one) (weight_at (plans_at s).two) solved.P solved.P' solved.Q solved.Q' (two_who_recall t f before laws w recall k) (tree_stands (game_of_tree t) f k).alike solved.solves
+      solutions_on_trees (game_of_tree t) (form f) f.greatest_one f.greatest_two (weight_at (plans_at s).one) (weight_at (plans_at s).two) solved.P solved.P' solved.Q solved.Q' (two_who_recall t f before laws w recall k) (tree_stands (game_of_tree t) f (tree_form-is t f k)).alike solved.solves
 
   equilibrium : (strategic : Bool) (game : Game) → TreesAreGames → IsGame game → form_in problem_rows strategic game (Ok f) → AreInEquilibrium strategic game (plans_at s)
-  equilibrium true (Strategic t) laws w k = on_table t w k.2
-  equilibrium false (Strategic t) laws w k = on_table t w k.2
-  equilibrium true (Extensive t) laws w k = (k.0, k.1, on_table k.0.table (form_of t k.0 k.1).is_table k.2.2)
+  equilibrium true (Strategic t) laws w k = (k.0, k.1, on_table k.0 (strategic_form-table (Strategic t) k.0 w k.1) k.2.2)
+  equilibrium false (Strategic t) laws w k = (k.0, k.1, on_table k.0 (strategic_form-table (Strategic t) k.0 w k.1) k.2.2)
+  equilibrium true (Extensive t) laws w k = (k.0, k.1, on_table k.0 (strategic_form-table (Extensive t) k.0 w k.1) k.2.2)
   equilibrium false (Extensive t) laws w k = on_tree t k.0 laws w k.1 k.2.2
 
 -- two plans of one answer

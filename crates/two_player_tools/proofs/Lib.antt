@@ -6,3 +6,4 @@ pub mod LcpSingleLemmas
 pub mod LcpTextLemmas
 pub mod LpSingleLemmas
 pub mod LpTextLemmas
+pub mod StrategicFormLemmas

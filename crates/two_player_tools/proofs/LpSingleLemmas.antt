@@ -1,59 +1,33 @@
 -- The tool `lp` has at most one answer.
-use Rattle.std.proofs.Common.{ℕ, ◌≡◌, ◌∙◌, ap, sym, Bool, true, false, [], ◌++◌, Ok, Err}
+use Rattle.std.proofs.Common.{Bool, true, false, [], ◌++◌}
 use Rattle.answers.specs.Answers.{IsSingle, ◌>>=◌, only, refuse_where, refused_by}
 use Rattle.answers.proofs.AnswerLemmas.{bind-single, only-single, refuse_where-single, refused_by-single}
 use Rattle.frac128.specs.Steps.{AddFits, unfit}
 use Rattle.frac128.specs.declared.steps.Op.TheVariants.{Add}
-use Rattle.frac128.specs.declared.steps.Unfit.{Unfit}
 use Rattle.game_theory.specs.Lines.{line_text}
 use Rattle.game_core.specs.declared.game.Game.{Game}
 use Rattle.sequence_data.specs.Data.{FormData, IsFormData}
 use Rattle.sequence_form.specs.Counts.{size_of_program}
+use Rattle.zero_sum_lp.specs.Ends.{optimum_in}
 use Rattle.zero_sum_lp.specs.FormPrograms.{program_in}
-use Rattle.zero_sum_lp.specs.Parts.{IsProgram, Program}
+use Rattle.zero_sum_lp.specs.Parts.{IsOptimumOf, IsProgram, Program}
 use Rattle.zero_sum_lp.specs.PlanStops.{plans_of}
-use Rattle.zero_sum_lp.specs.declared.lp.LpEnd.{LpEnd}
-use Rattle.zero_sum_lp.specs.declared.lp.LpEnd.TheVariants.{Optimal, Range}
 use Rattle.zero_sum_lp.proofs.FormLaws.{programs_of_forms}
 use Rattle.zero_sum_lp.proofs.PathEndLemmas.{ends_same}
 use Rattle.zero_sum_lp.proofs.PlanAnswerLemmas.{plans_single}
 use Rattle.zero_sum_lp.proofs.ProgramAnswerLemmas.{programs_single}
 use Rattle.two_player_tools.specs.Entries.{entries_in}
 use Rattle.two_player_tools.specs.GameTypes.{IsGame}
-use Rattle.two_player_tools.specs.Lp.{IsPathRefusal, Solution, first_price, lp, optimum_of, prices_in, prices_text, solution, solution_in, solution_text}
-use Rattle.refusals.specs.Told.{plan_refusal, program_refusal}
+use Rattle.two_player_tools.specs.Lp.{Solution, first_price, lp, prices_in, prices_text, solution, solution_in, solution_text}
+use Rattle.refusals.specs.Told.{pivot_refusal, plan_refusal, program_refusal}
 use Rattle.two_player_tools.specs.TwoPlayers.{form_in, two_players}
-use Rattle.refusals.specs.declared.refusal.Refusal.{Refusal}
 use Rattle.refusals.specs.declared.refusal.Refusal.TheVariants as refusal
 use Rattle.refusals.specs.declared.refusal.Site.TheVariants as site
 use Rattle.two_player_tools.proofs.FormSingleLemmas.{RecallsAreSingle, entries_in-single, form_in-single, two_players-single}
 use Rattle.two_player_tools.proofs.KeptPropertyLemmas.{TreesAreGames, form_in-valid, optimum-first, optimum-second}
 
 -- ---- the solution
--- the optima at the end of a path
-optima_same : (a b : Program) → Optimal a ≡ Optimal b → a ≡ b
-optima_same a b e = cc
-
--- an optimum is no step that does not fit
-never_both : (p a : Program) (r : Refusal) → IsProgram p → optimum_of p (Ok a) → IsPathRefusal p r → ⊥
-never_both p a r h one other = let e = ends_same p (Optimal a) (Range other.step other.entering other.unfit) h one other.is_unfit in apart a other.step other.entering other.unfit e
-  where
-    apart : (a : Program) (step entering : ℕ) (unfit : Unfit) → Optimal a ≡ Range step entering unfit → ⊥
-    apart a step entering unfit e = cc
-
--- the refusal of a path's step
-abbrev told_step : LpEnd → Refusal
-told_step (Optimal a) = refusal.Memory
-told_step (Range step entering unfit) = refusal.Range (site.Step step entering) unfit
-
-optimum_of-single : (p : Program) → IsProgram p → IsSingle (optimum_of p)
-optimum_of-single p h (Ok a) (Ok b) one other = ap Ok (optima_same a b (ends_same p (Optimal a) (Optimal b) h one other))
-optimum_of-single p h (Ok a) (Err r) one other = absurd (never_both p a r h one other)
-optimum_of-single p h (Err r) (Ok b) one other = absurd (never_both p b r h other one)
-optimum_of-single p h (Err r) (Err q) one other =
-    ap Err (one.is ∙ ap told_step (ends_same p (Range one.step one.entering one.unfit) (Range other.step other.entering other.unfit) h one.is_unfit other.is_unfit) ∙ sym other.is)
-
-plans-single : (f : FormData) (p o : Program) → IsProgram p → optimum_of p (Ok o) → IsSingle (refused_by plan_refusal (plans_of o) >>= λ plans. only (solution f o plans))
+plans-single : (f : FormData) (p o : Program) → IsProgram p → IsOptimumOf p o → IsSingle (refused_by plan_refusal (plans_of o) >>= λ plans. only (solution f o plans))
 plans-single f p o h k =
     bind-single (refused_by plan_refusal (plans_of o)) (λ plans. only (solution f o plans))
     (refused_by-single plan_refusal (plans_of o) (plans_single o (optimum-first p o h k) (optimum-second p o h k)))
@@ -61,10 +35,10 @@ plans-single f p o h k =
 
 solution_in-single : (f : FormData) → IsFormData f → IsSingle (solution_in f)
 solution_in-single f w =
-    bind-single (refused_by program_refusal (program_in f)) (λ p. optimum_of p >>= λ o. (refused_by plan_refusal (plans_of o) >>= λ plans. only (solution f o plans)))
+    bind-single (refused_by program_refusal (program_in f)) (λ p. refused_by pivot_refusal (optimum_in p) >>= λ o. (refused_by plan_refusal (plans_of o) >>= λ plans. only (solution f o plans)))
     (refused_by-single program_refusal (program_in f) (programs_single f))
     (λ p k. let h : IsProgram p = (programs_of_forms f p w k).0 in
-    bind-single (optimum_of p) (λ o. refused_by plan_refusal (plans_of o) >>= λ plans. only (solution f o plans)) (optimum_of-single p h) (λ o l. plans-single f p o h l))
+    bind-single (refused_by pivot_refusal (optimum_in p)) (λ o. refused_by plan_refusal (plans_of o) >>= λ plans. only (solution f o plans)) (refused_by-single pivot_refusal (optimum_in p) (ends_same p h)) (λ o l. plans-single f p o h l))
 
 -- ---- the text
 prices_in-single : (asked : Bool) (f : FormData) (s : Solution) → IsSingle (prices_in asked f s)

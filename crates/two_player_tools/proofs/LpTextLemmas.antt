@@ -7,16 +7,16 @@ use Rattle.game_core.specs.TreeGame.{game_of_tree}
 use Rattle.game_core.specs.declared.game.Game.{Game}
 use Rattle.game_core.specs.declared.game.Game.TheVariants.{Strategic, Extensive}
 use Rattle.perfect_recall.specs.Found.{IsRecallOf}
-use Rattle.reduced_form.proofs.FormAnswerLemmas.{form_of}
 use Rattle.sequence_forms.specs.PriceLaws.{ProvesValueOfTree}
 use Rattle.sequence_forms.specs.TableLaws.{ProvesValueOfTable}
 use Rattle.sequence_data.specs.Data.{FormData, IsFormData, SideData, form}
 use Rattle.sequence_data.specs.Weights.{weight_at}
 use Rattle.sequence_data.specs.declared.types.Leaf.{Leaf}
 use Rattle.sequence_form.specs.Counts.{size_of_program}
-use Rattle.sequence_form.specs.Forms.{IsTableForm, IsTreeForm, profile_leaf}
+use Rattle.sequence_form.specs.Forms.{profile_leaf, table_form, tree_form}
 use Rattle.sequence_form.specs.Laws.{count_of_columns, count_of_rows}
 use Rattle.sequence_form.specs.Paths.{leaf_at}
+use Rattle.sequence_form.proofs.FormLemmas.{tree_form-is}
 use Rattle.sequence_form.proofs.Laws.{table_stands, tree_stands}
 use Rattle.zero_sum_lp.specs.Parts.{IsProgram, Program, first_prices, second_prices}
 use Rattle.zero_sum_lp.specs.PlanPairs.{PlanPair}
@@ -29,6 +29,7 @@ use Rattle.two_player_tools.specs.LpLaws.{HoldsOn, IsSolved, LpTextsAreSolutions
 use Rattle.two_player_tools.specs.TwoPlayers.{form_in}
 use Rattle.refusals.specs.declared.refusal.Refusal.{Refusal}
 use Rattle.two_player_tools.proofs.ConstantSumLemmas.{constant_of, sums_to, table_sums, tree_sums}
+use Rattle.two_player_tools.proofs.StrategicFormLemmas.{strategic_form-table}
 use Rattle.two_player_tools.proofs.KeptPropertyLemmas.{IsSolving, TreesAreGames, first-same, form_in-valid, second-same, two_who_recall}
 
 -- two values of one answer
@@ -52,24 +53,24 @@ module _ (f : FormData) (p o : Program) (plans : PlanPair) (h : IsSolving f p o 
     proof = plans_prove (form f) f.least_one p o plans is_program is_of_form h.optimum h.planned;
   }
 
-  on_table : (t : GameTable) → IsTable t → IsTableForm t f → ProvesValueOfTable (game_of t) (weight_at plans.one) (weight_at plans.two) (solution f o plans).value
+  on_table : (t : GameTable) → IsTable t → table_form t (Ok f) → ProvesValueOfTable (game_of t) (weight_at plans.one) (weight_at plans.two) (solution f o plans).value
   on_table t w k =
       let none : Leaf = profile_leaf t 0 in
       let stands = table_stands t f w k in
       let sums = table_sums t f (constant_of f none) w k (sums_to f none h.valid h.program.2.2.1) in
       plans_solve_tables (game_of t) (count_of_rows t) (count_of_columns t) (form f) f.least_one (constant_of f none) p o plans stands.strategies_are stands.alike sums is_program is_of_form h.optimum h.planned
 
-  on_tree : (t : GameTree) (before : List (Option (ℕ × ℕ))) → TreesAreGames → IsGameTree t → IsRecallOf (game_of_tree t) before → IsTreeForm (game_of_tree t) f → ProvesValueOfTree (game_of_tree t) (weight_at plans.one) (weight_at plans.two) (solution f o plans).value
+  on_tree : (t : GameTree) (before : List (Option (ℕ × ℕ))) → TreesAreGames → IsGameTree t → IsRecallOf (game_of_tree t) before → tree_form t (Ok f) → ProvesValueOfTree (game_of_tree t) (weight_at plans.one) (weight_at plans.two) (solution f o plans).value
   on_tree t before laws w recall k =
       let none : Leaf = leaf_at (game_of_tree t) 0 in
       let two = two_who_recall t f before laws w recall k in
-      let sums = tree_sums (game_of_tree t) f (constant_of f none) k (sums_to f none h.valid h.program.2.2.1) in
-      plans_solve_trees (game_of_tree t) (form f) f.least_one (constant_of f none) p o plans two (tree_stands (game_of_tree t) f k).alike sums is_program is_of_form h.optimum h.planned
+      let sums = tree_sums (game_of_tree t) f (constant_of f none) (tree_form-is t f k) (sums_to f none h.valid h.program.2.2.1) in
+      plans_solve_trees (game_of_tree t) (form f) f.least_one (constant_of f none) p o plans two (tree_stands (game_of_tree t) f (tree_form-is t f k)).alike sums is_program is_of_form h.optimum h.planned
 
   holds : (strategic : Bool) (game : Game) → TreesAreGames → IsGame game → form_in size_of_program strategic game (Ok f) → HoldsOn strategic game (solution f o plans)
-  holds true (Strategic t) laws w k = on_table t w k.2
-  holds false (Strategic t) laws w k = on_table t w k.2
-  holds true (Extensive t) laws w k = (k.0, k.1, on_table k.0.table (form_of t k.0 k.1).is_table k.2.2)
+  holds true (Strategic t) laws w k = (k.0, k.1, on_table k.0 (strategic_form-table (Strategic t) k.0 w k.1) k.2.2)
+  holds false (Strategic t) laws w k = (k.0, k.1, on_table k.0 (strategic_form-table (Strategic t) k.0 w k.1) k.2.2)
+  holds true (Extensive t) laws w k = (k.0, k.1, on_table k.0 (strategic_form-table (Extensive t) k.0 w k.1) k.2.2)
   holds false (Extensive t) laws w k = on_tree t k.0 laws w k.1 k.2.2
 
 -- ---- texts

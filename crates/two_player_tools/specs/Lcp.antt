@@ -1,37 +1,21 @@
 -- The tool `lcp`: an equilibrium of a game of two players, at the end of a path of complementary
 -- pivots.
 -- Source: Lemke 1965; Koller, Megiddo and von Stengel 1996.
-use Rattle.std.specs.Prelude.{ℕ, ◌≡◌, Bool, List, Ok, Err}
+use Rattle.std.specs.Prelude.{ℕ, Bool, List}
 use Rattle.answers.specs.Answers.{Answer, only, ◌>>=◌, ◌>>◌, refused_by}
-use Rattle.frac128.specs.declared.steps.Unfit.{Unfit}
 use Rattle.game_theory.specs.Lines.{line_text, listed}
 use Rattle.game_core.specs.declared.game.Game.{Game}
 use Rattle.sequence_forms.specs.Sides.{sequences}
 use Rattle.sequence_data.specs.Data.{FormData, side_of}
 use Rattle.sequence_form.specs.Counts.{problem_rows}
 use Rattle.zero_sum_lp.specs.PlanPairs.{PlanPair}
-use Rattle.lemke_pivot.specs.Ends.{IsSolutionOf, IsUnfitPivot}
+use Rattle.lemke_pivot.specs.Ends.{solved_in}
 use Rattle.lemke_pivot.specs.FormProblems.{problem_in}
 use Rattle.lemke_pivot.specs.Parts.{Problem, plan_one, plan_two}
 use Rattle.two_player_tools.specs.Entries.{entries_in}
-use Rattle.refusals.specs.Told.{problem_refusal}
+use Rattle.refusals.specs.Told.{pivot_refusal, problem_refusal}
 use Rattle.two_player_tools.specs.TwoPlayers.{two_players, form_in}
 use Rattle.refusals.specs.declared.refusal.Refusal.{Refusal}
-use Rattle.refusals.specs.declared.refusal.Refusal.TheVariants as refusal
-use Rattle.refusals.specs.declared.refusal.Site.TheVariants as site
-
--- the step of a path of complementary pivots that does not fit
-pub record IsPathRefusal (p : Problem) (r : Refusal) : Type 0 where
-  pub step : ℕ
-  pub entering : ℕ
-  pub unfit : Unfit
-  pub is_unfit : IsUnfitPivot p step entering unfit
-  pub is : r ≡ refusal.Range (site.Step step entering) unfit
-
--- the solution at the end of a problem's path, or the first step of the path that does not fit
-abbrev pub end_of : Problem → Answer Refusal Problem
-end_of p (Ok s) = IsSolutionOf p s
-end_of p (Err r) = IsPathRefusal p r
 
 -- the weights of both players' sequences in a solution
 abbrev pub plans_at : Problem → PlanPair
@@ -44,7 +28,7 @@ plans_at s = record {
 abbrev pub equilibrium_in : FormData → Answer Refusal PlanPair
 equilibrium_in f = do
   problem ← refused_by problem_refusal (problem_in f)
-  solution ← end_of problem
+  solution ← refused_by pivot_refusal (solved_in problem)
   only (plans_at solution)
 
 -- the answer of `lcp`, with a tree's strategies or its behaviour

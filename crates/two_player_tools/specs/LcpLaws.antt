@@ -1,15 +1,13 @@
 -- What each text of `lcp` is: the line of an equilibrium of the file's own game.
-use Rattle.std.specs.Prelude.{ℕ, ◌≡◌, Bool, true, false, List, length, Ok}
+use Rattle.std.specs.Prelude.{ℕ, ◌≡◌, Bool, false, List, length, Ok}
 use Rattle.rational.specs.Rational.{ℚ}
 use Rattle.game_theory.specs.Equilibrium.{IsEquilibrium as is_table_equilibrium}
 use Rattle.game_theory.specs.Lines.{line_text}
 use Rattle.game_theory.specs.TreeEquilibrium.{IsEquilibrium}
-use Rattle.game_core.specs.Table.{game_of}
+use Rattle.game_core.specs.Table.{GameTable, game_of}
 use Rattle.game_core.specs.TreeGame.{game_of_tree}
 use Rattle.game_core.specs.declared.game.Game.{Game}
-use Rattle.game_core.specs.declared.game.Game.TheVariants.{Strategic, Extensive}
-use Rattle.reduced_form.specs.ReducedForm.{ReducedForm}
-use Rattle.reduced_form.specs.Stops.{reduced_form_of}
+use Rattle.game_core.specs.declared.game.Game.TheVariants.{Extensive}
 use Rattle.sequence_forms.specs.Forms.{mixed_of_plans}
 use Rattle.sequence_forms.specs.PlanBehaviour.{behaviour_of, of_two}
 use Rattle.sequence_data.specs.Data.{FormData}
@@ -19,6 +17,7 @@ use Rattle.zero_sum_lp.specs.PlanPairs.{PlanPair}
 use Rattle.two_player_tools.specs.Entries.{entries_in}
 use Rattle.two_player_tools.specs.GameTypes.{IsGame}
 use Rattle.two_player_tools.specs.Lcp.{lcp}
+use Rattle.two_player_tools.specs.StrategicForms.{strategic_form}
 use Rattle.two_player_tools.specs.TwoPlayers.{form_in}
 
 -- both players' weights
@@ -30,11 +29,9 @@ weights_of plans = of_two (weight_at plans.one) (weight_at plans.two)
 abbrev pub AreInEquilibrium : Bool → Game → PlanPair → Type 0
 AreInEquilibrium false (Extensive t) plans =
     IsEquilibrium (game_of_tree t) (behaviour_of (game_of_tree t) (weights_of plans))
-AreInEquilibrium true (Extensive t) plans =
-    (form : ReducedForm) × reduced_form_of t (Ok form)
-    × is_table_equilibrium (game_of form.table) (mixed_of_plans (weights_of plans))
-AreInEquilibrium _ (Strategic t) plans =
-    is_table_equilibrium (game_of t) (mixed_of_plans (weights_of plans))
+AreInEquilibrium _ game plans =
+    (table : GameTable) × strategic_form game (Ok table)
+    × is_table_equilibrium (game_of table) (mixed_of_plans (weights_of plans))
 
 -- a text is the line of plans in equilibrium, which have a weight for each sequence
 pub record IsEquilibriumText (strategic : Bool) (game : Game) (text : List ℕ) : Type 0 where

@@ -6,4 +6,5 @@ pub mod Lp
 pub mod LpLaws
 pub mod PlanWeights
 pub mod Solved
+pub mod StrategicForms
 pub mod TwoPlayers

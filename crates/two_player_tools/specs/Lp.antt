@@ -1,42 +1,27 @@
 -- The tool `lp`: an equilibrium of a game of two players with constant sum, and the prices that prove its value.
 -- Source: Koller, Megiddo and von Stengel 1996.
-use Rattle.std.specs.Prelude.{ℕ, suc, ◌≡◌, Bool, true, false, List, [], ◌∷◌, ◌++◌, length, map, slice_index_or, codes, Ok, Err}
+use Rattle.std.specs.Prelude.{ℕ, suc, Bool, true, false, List, [], ◌∷◌, ◌++◌, length, map, slice_index_or, codes}
 use Rattle.std.specs.List.{range_with_len}
 use Rattle.answers.specs.Answers.{Answer, only, refuse_where, ◌>>=◌, ◌>>◌, refused_by}
 use Rattle.rational.specs.Rational.{ℚ, ◌+ℚ◌, zero_ℚ}
 use Rattle.frac128.specs.Steps.{AddFits, unfit}
 use Rattle.frac128.specs.declared.steps.Op.TheVariants.{Add}
-use Rattle.frac128.specs.declared.steps.Unfit.{Unfit}
 use Rattle.game_theory.specs.Lines.{line_text}
 use Rattle.game_core.specs.declared.game.Game.{Game}
 use Rattle.ne_printer.specs.Entries.{numbers_line}
 use Rattle.sequence_data.specs.Data.{FormData}
 use Rattle.sequence_form.specs.Counts.{size_of_program}
+use Rattle.zero_sum_lp.specs.Ends.{optimum_in}
 use Rattle.zero_sum_lp.specs.FormPrograms.{program_in}
-use Rattle.zero_sum_lp.specs.Parts.{Program, IsOptimumOf, first_prices, second_prices}
+use Rattle.zero_sum_lp.specs.Parts.{Program, first_prices, second_prices}
 use Rattle.zero_sum_lp.specs.PlanPairs.{PlanPair}
 use Rattle.zero_sum_lp.specs.PlanStops.{plans_of}
-use Rattle.zero_sum_lp.specs.Steps.{IsUnfitPivot}
 use Rattle.two_player_tools.specs.Entries.{entries_in}
-use Rattle.refusals.specs.Told.{program_refusal, plan_refusal}
+use Rattle.refusals.specs.Told.{pivot_refusal, program_refusal, plan_refusal}
 use Rattle.two_player_tools.specs.TwoPlayers.{two_players, form_in}
 use Rattle.refusals.specs.declared.refusal.Refusal.{Refusal}
 use Rattle.refusals.specs.declared.refusal.Refusal.TheVariants as refusal
 use Rattle.refusals.specs.declared.refusal.Site.TheVariants as site
-
--- ---- the path
--- the step of a path that does not fit
-pub record IsPathRefusal (p : Program) (r : Refusal) : Type 0 where
-  pub step : ℕ
-  pub entering : ℕ
-  pub unfit : Unfit
-  pub is_unfit : IsUnfitPivot p.tableau step entering unfit
-  pub is : r ≡ refusal.Range (site.Step step entering) unfit
-
--- the optimum of a program, or the first step of its path that does not fit
-abbrev pub optimum_of : Program → Answer Refusal Program
-optimum_of p (Ok o) = IsOptimumOf p o
-optimum_of p (Err r) = IsPathRefusal p r
 
 -- ---- the solution
 -- the weights of both players' sequences, their prices, of which the first is that of the whole game
@@ -66,7 +51,7 @@ solution f o plans = record {
 abbrev pub solution_in : FormData → Answer Refusal Solution
 solution_in f = do
   program ← refused_by program_refusal (program_in f)
-  optimum ← optimum_of program
+  optimum ← refused_by pivot_refusal (optimum_in program)
   plans ← refused_by plan_refusal (plans_of optimum)
   only (solution f optimum plans)
 

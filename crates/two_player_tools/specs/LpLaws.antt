@@ -1,13 +1,11 @@
 -- What each text of `lp` is: an equilibrium of the file's own game, with the prices that prove its value.
-use Rattle.std.specs.Prelude.{ℕ, suc, ◌≡◌, Bool, true, false, if◌then◌else◌, List, [], ◌++◌, length, Ok}
+use Rattle.std.specs.Prelude.{ℕ, suc, ◌≡◌, Bool, false, if◌then◌else◌, List, [], ◌++◌, length, Ok}
 use Rattle.rational.specs.Rational.{ℚ}
 use Rattle.game_theory.specs.Lines.{line_text}
-use Rattle.game_core.specs.Table.{game_of}
+use Rattle.game_core.specs.Table.{GameTable, game_of}
 use Rattle.game_core.specs.TreeGame.{game_of_tree}
 use Rattle.game_core.specs.declared.game.Game.{Game}
-use Rattle.game_core.specs.declared.game.Game.TheVariants.{Strategic, Extensive}
-use Rattle.reduced_form.specs.ReducedForm.{ReducedForm}
-use Rattle.reduced_form.specs.Stops.{reduced_form_of}
+use Rattle.game_core.specs.declared.game.Game.TheVariants.{Extensive}
 use Rattle.sequence_forms.specs.PriceLaws.{ProvesValueOfTree}
 use Rattle.sequence_forms.specs.Prices.{IsValueProof}
 use Rattle.sequence_forms.specs.TableLaws.{ProvesValueOfTable}
@@ -17,6 +15,7 @@ use Rattle.sequence_form.specs.Counts.{size_of_program}
 use Rattle.two_player_tools.specs.Entries.{entries_in}
 use Rattle.two_player_tools.specs.GameTypes.{IsGame}
 use Rattle.two_player_tools.specs.Lp.{Solution, listed_prices, lp, prices_text}
+use Rattle.two_player_tools.specs.StrategicForms.{strategic_form}
 use Rattle.two_player_tools.specs.TwoPlayers.{form_in}
 
 -- plans and value of a solution hold on the file's own game: on a tree by its behaviour, else on the
@@ -24,10 +23,9 @@ use Rattle.two_player_tools.specs.TwoPlayers.{form_in}
 abbrev pub HoldsOn : Bool → Game → Solution → Type 0
 HoldsOn false (Extensive t) s =
     ProvesValueOfTree (game_of_tree t) (weight_at s.one) (weight_at s.two) s.value
-HoldsOn true (Extensive t) s =
-    (form : ReducedForm) × reduced_form_of t (Ok form)
-    × ProvesValueOfTable (game_of form.table) (weight_at s.one) (weight_at s.two) s.value
-HoldsOn _ (Strategic t) s = ProvesValueOfTable (game_of t) (weight_at s.one) (weight_at s.two) s.value
+HoldsOn _ game s =
+    (table : GameTable) × strategic_form game (Ok table)
+    × ProvesValueOfTable (game_of table) (weight_at s.one) (weight_at s.two) s.value
 
 -- prices and plans prove the value by the form
 pub record ProvesValue (f : FormData) (s : Solution) : Type 0 where

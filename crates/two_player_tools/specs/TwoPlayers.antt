@@ -1,7 +1,8 @@
 -- What the tools for two players need of a game: two players, and a sequence form whose problem is
 -- within the limit.
-use Rattle.std.specs.Prelude.{ℕ, ◌<◌, ◌≢◌, Bool, true, false, length, Ok}
+use Rattle.std.specs.Prelude.{ℕ, ◌≢◌, Bool, false, length, Ok}
 use Rattle.answers.specs.Answers.{Answer, refuse_where, ◌>>=◌, ◌>>◌, refused_by}
+use Rattle.game_core.specs.Limits.{most_rows, within}
 use Rattle.game_core.specs.Table.{GameTable}
 use Rattle.game_core.specs.Tree.{GameTree}
 use Rattle.game_core.specs.TreeGame.{game_of_tree}
@@ -9,16 +10,16 @@ use Rattle.game_core.specs.declared.game.Game.{Game}
 use Rattle.game_core.specs.declared.game.Game.TheVariants.{Strategic, Extensive}
 use Rattle.game_core.specs.declared.too_large.What.TheVariants as what
 use Rattle.perfect_recall.specs.Found.{recall_of}
-use Rattle.reduced_form.specs.Stops.{reduced_form_of}
 use Rattle.sequence_data.specs.Data.{FormData}
 use Rattle.sequence_form.specs.Counts.{counts_of, problem_rows, size_of_program}
 use Rattle.sequence_form.specs.Forms.{tree_form, table_form}
 use Rattle.sequence_form.specs.Laws.{count_of_rows, count_of_columns}
 use Rattle.sequence_form.specs.Sequences.{tree_side, start_side}
 use Rattle.sequence_form.specs.declared.counts.Counts.{Counts}
-use Rattle.refusals.specs.Told.{form_refusal, recall_refusal, sequence_refusal}
+use Rattle.refusals.specs.Told.{limit_refusal, recall_refusal, sequence_refusal}
 use Rattle.refusals.specs.declared.refusal.Refusal.{Refusal}
 use Rattle.refusals.specs.declared.refusal.Refusal.TheVariants as refusal
+use Rattle.two_player_tools.specs.StrategicForms.{strategic_form}
 use Rattle.two_player_tools.specs.declared.forms.Method.{Method}
 use Rattle.two_player_tools.specs.declared.forms.Method.TheVariants.{LinearProgram, Complementarity}
 
@@ -37,10 +38,6 @@ abbrev pub rows_by : Method → Counts → ℕ
 rows_by LinearProgram = size_of_program
 rows_by Complementarity = problem_rows
 
--- nothing, but of a problem with at most 512 rows
-abbrev pub within_rows : ℕ → Answer Refusal (Unit {0})
-within_rows rows = refuse_where (512 < rows) (refusal.TooLarge what.Rows rows 512)
-
 -- the sizes of the sequence forms of a table and of a tree
 abbrev pub table_counts : GameTable → Counts
 table_counts t = counts_of (start_side (count_of_rows t)) (start_side (count_of_columns t))
@@ -51,24 +48,23 @@ tree_counts t = counts_of (tree_side (game_of_tree t) 0) (tree_side (game_of_tre
 -- the sequence form of a table, where its problem, whose rows are counted so, is within the limit
 abbrev pub form_of_table : (Counts → ℕ) → GameTable → Answer Refusal FormData
 form_of_table rows t = do
-  within_rows (rows (table_counts t))
+  refused_by limit_refusal (within what.Rows most_rows (rows (table_counts t)))
   refused_by sequence_refusal (table_form t)
 
 -- the sequence form of a tree in which all players recall, where its problem is within the limit
 abbrev pub form_of_tree : (Counts → ℕ) → GameTree → Answer Refusal FormData
 form_of_tree rows t = do
   refused_by recall_refusal (recall_of t)
-  within_rows (rows (tree_counts t))
+  refused_by limit_refusal (within what.Rows most_rows (rows (tree_counts t)))
   refused_by sequence_refusal (tree_form t)
 
--- The sequence form on which a tool works: of a table; of a tree; or, by strategies, of the tree's
--- reduced strategic form.
+-- The sequence form on which a tool works: that of the game's strategic form; but of a tree its own,
+-- unless strategies are asked for.
 abbrev pub form_in : (Counts → ℕ) → Bool → Game → Answer Refusal FormData
-form_in rows strategic (Strategic t) = form_of_table rows t
-form_in rows true (Extensive t) = do
-  form ← refused_by form_refusal (reduced_form_of t)
-  form_of_table rows form.table
 form_in rows false (Extensive t) = form_of_tree rows t
+form_in rows _ game = do
+  table ← strategic_form game
+  form_of_table rows table
 
 -- a form that a game has, whatever rows are counted
 abbrev pub HasForm : Bool → Game → FormData → Type 0

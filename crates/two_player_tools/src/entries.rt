@@ -1,10 +1,9 @@
 // The line of two plans.
-ghost use Rattle.std.specs.Prelude.{◌≡◌, ◌++◌, false, drop, length, IfOk};
+ghost use Rattle.std.specs.Prelude.{◌≡◌, ◌++◌, false, drop, length, IfOk, Ok};
 ghost use Rattle.answers.specs.Answers.{Gives, map_ok};
 ghost use Rattle.game_theory.specs.Lines.{line_text};
-ghost use Rattle.game_core.specs.TreeGame.{game_of_tree};
 ghost use Rattle.game_core.specs.declared.game.Game.TheVariants.{Extensive};
-ghost use Rattle.sequence_form.specs.Forms.{IsTreeForm};
+ghost use Rattle.sequence_form.specs.Forms.{tree_form};
 ghost use Rattle.two_player_tools.specs.Entries.{line_in};
 ghost use Rattle.two_player_tools.specs.TwoPlayers.{HasForm};
 
@@ -46,7 +45,7 @@ fn behaviour_line(
     one: &[Frac],
     two: &[Frac],
 ) -> Result<Vec<u8>, Refusal>
-    requires form { IsTreeForm (game_of_tree tree.now) form.now }
+    requires form { tree_form tree.now (Ok form.now) }
     requires one { length one.now ≡ form.now.first.sequences }
     requires two { length two.now ≡ form.now.second.sequences }
     ensures { Gives Refusal.Memory (line_in false (Extensive tree.now) one.now two.now)

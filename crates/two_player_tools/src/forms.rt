@@ -1,10 +1,12 @@
 // What the tools for two players need of a game.
 ghost use Rattle.std.specs.Prelude.{◌≡◌, length};
-ghost use Rattle.answers.specs.Answers.{Gives};
+ghost use Rattle.answers.specs.Answers.{Gives, refused_by};
+ghost use Rattle.game_core.specs.Limits.{most_rows, within};
+ghost use Rattle.refusals.specs.Told.{limit_refusal};
 ghost use Rattle.sequence_form.specs.Counts.{AreFew};
-ghost use Rattle.two_player_tools.specs.TwoPlayers.{players_of, two_players, rows_by, within_rows, form_of_table, form_of_tree, form_in};
+ghost use Rattle.two_player_tools.specs.TwoPlayers.{players_of, two_players, rows_by, form_of_table, form_of_tree, form_in};
 
-use game_core::{Game, Table, Tree, What};
+use game_core::{Game, MOST_ROWS, Table, TooLarge, Tree, What};
 use perfect_recall::find_recall;
 use reduced_form::reduce;
 use refusals::Refusal;
@@ -12,9 +14,6 @@ use sequence_form::{
     Counts, SeqForm, build, build_table, counts_table, counts_tree, program_size, rows,
 };
 use std::alloc::Global;
-
-/// The most rows of a problem, or rows and columns of a program together.
-const MOST_ROWS: u64 = 512;
 
 /// How a sequence form is solved: by its linear program, or by its complementarity problem.
 #[derive(Clone, Copy, Debug, PartialEq, Eq)]
@@ -59,16 +58,9 @@ fn row_count(method: Method, sizes: &Counts) -> u64
 
 /// Refuses a problem with more rows than there may be. Takes no memory.
 fn within_rows(rows: u64) -> Result<(), Refusal>
-    ensures { within_rows rows result }
+    ensures { refused_by limit_refusal (within What.Rows most_rows rows) result }
 {
-    if rows <= MOST_ROWS {
-        return Ok(());
-    }
-    Err(Refusal::TooLarge {
-        what: What::Rows,
-        count: rows,
-        limit: MOST_ROWS,
-    })
+    Ok(TooLarge::within(What::Rows, MOST_ROWS, rows)?)
 }
 
 /// The sequence form of a table, where the rows that the method counts are within the limit.

@@ -4,8 +4,9 @@
 //! Callers may rely on: `lp_text` and `lcp_text` give the text that is defined, or the refusal that
 //! the first failing stage gives; `two_players` refuses other games; `lp_texts_are_solutions` and
 //! `lcp_texts_are_equilibria` say what each text is, and `solutions_are_single` that there is one.
-//! Definitions: `specs::TwoPlayers` says which sequence form a tool works on, `Lp` and `Lcp` what each
-//! answers, `Entries` the line of two plans; `LpLaws` and `LcpLaws` what holds of each text.
+//! Definitions: `specs::StrategicForms` has the strategic form that all tools take; `TwoPlayers` says
+//! which sequence form a tool works on, `Lp` and `Lcp` what each answers, `Entries` the line of two
+//! plans; `LpLaws` and `LcpLaws` what holds of each text.
 //! Private words: `specs::Solved` and `PlanWeights`, for code between stages.
 //! Lemmas for callers: `proofs::FormSingleLemmas`, `LpSingleLemmas`, `LcpSingleLemmas`.
 //! A change here touches: `gambit_tools`, docs/THEOREM.md.

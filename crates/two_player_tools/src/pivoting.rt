@@ -4,14 +4,15 @@ ghost use Rattle.answers.specs.Answers.{Gives, map_ok};
 ghost use Rattle.game_theory.specs.Lines.{listed};
 ghost use Rattle.sequence_forms.specs.Sides.{sequences};
 ghost use Rattle.sequence_data.specs.Data.{side_of};
+ghost use Rattle.lemke_pivot.specs.Ends.{solved_in};
 ghost use Rattle.lemke_pivot.specs.Parts.{plan_one, plan_two};
-ghost use Rattle.two_player_tools.specs.Lcp.{end_of, equilibrium_in};
+ghost use Rattle.two_player_tools.specs.Lcp.{equilibrium_in};
 ghost use Rattle.two_player_tools.specs.PlanWeights.{plans_of};
 
 use frac128::{Frac, Memory};
-use lemke_pivot::{Lcp, LemkeEnd, Solution, problem};
-use lex_tableau::PivotCount;
-use refusals::{Refusal, Site};
+use lemke_pivot::{Lcp, Solution, problem};
+use lex_tableau::{PivotCount, UnfitPivot};
+use refusals::Refusal;
 use sequence_form::SeqForm;
 use std::alloc::Global;
 use std::marker::Brand;
@@ -25,27 +26,17 @@ pub struct PlanWeights {
 }
 
 // The end of a problem's path, whose steps are counted on a blank. The count is not used.
-fn follow<L: Ledger>(lcp: Lcp, blank: Blank) -> Result<Solution, Refusal>
+fn follow<L: Ledger>(lcp: Lcp, blank: Blank) -> Result<Solution, UnfitPivot>
     requires { (L.parts ≡ blank.parts) × (L.name ≡ blank.name) × (0 < blank.parts) }
-    ensures { end_of lcp result }
+    ensures { solved_in lcp result }
 {
     let mut pivots = PivotCount::<L>::new(blank);
-    match lcp.solve(&mut pivots) {
-        LemkeEnd::Solved(solution) => Ok(solution),
-        LemkeEnd::Range {
-            step,
-            entering,
-            unfit,
-        } => Err(Refusal::Range {
-            site: Site::Step { step, entering },
-            unfit,
-        }),
-    }
+    lcp.solve(&mut pivots)
 }
 
-// The solution of a problem, or the step of its path that does not fit. Takes no memory.
-fn end_of(lcp: Lcp) -> Result<Solution, Refusal>
-    ensures { end_of lcp result }
+// The solution of a problem, or the pivot of its path that does not fit. Takes no memory.
+fn solved_in(lcp: Lcp) -> Result<Solution, UnfitPivot>
+    ensures { solved_in lcp result }
 {
     follow::<Brand>(lcp, Blank::new(1))
 }
@@ -81,7 +72,7 @@ pub fn equilibrium_in(alloc: Global, form: &SeqForm) -> Result<PlanWeights, Refu
     ensures two { IfOk result (λ plans. length plans.two.items ≡ form.now.second.sequences) }
 {
     let lcp = problem(alloc, form)?;
-    let solution = end_of(lcp)?;
+    let solution = solved_in(lcp)?;
     let one = first_plan(alloc, &solution, form.first().sequences())?;
     let two = second_plan(alloc, &solution, form.second().sequences())?;
     Ok(PlanWeights { one, two })

@@ -3,6 +3,7 @@ ghost use Rattle.std.specs.Prelude.{◌≡◌, ◌≤◌, suc, length, IfOk};
 ghost use Rattle.answers.specs.Answers.{Gives, map_ok, refuse_where};
 ghost use Rattle.rational.specs.Rational.{◌+ℚ◌};
 ghost use Rattle.frac128.specs.Steps.{AddFits, unfit};
+ghost use Rattle.game_core.specs.Limits.{most_rows};
 ghost use Rattle.zero_sum_lp.specs.Parts.{first_prices, second_prices};
 ghost use Rattle.two_player_tools.specs.Lp.{listed_prices, prices_in, prices_text};
 ghost use Rattle.two_player_tools.specs.Solved.{HasSizesOf, solution_of};
@@ -34,7 +35,7 @@ fn value(price: Frac, least: Frac) -> Result<Frac, Refusal>
 // so many.
 fn first_prices(alloc: Global, optimum: &Optimum, sets: u32) -> Result<Vec<Frac>, Memory>
     requires sets { sets ≡ length optimum.now.first.sets }
-    requires few { sets ≤ 512 }
+    requires few { sets ≤ most_rows }
     ensures { IfOk result (λ prices.
         prices.items ≡ listed_prices (suc sets) (first_prices optimum.now)) }
 {
@@ -48,7 +49,7 @@ fn first_prices(alloc: Global, optimum: &Optimum, sets: u32) -> Result<Vec<Frac>
 // The prices of player two.
 fn second_prices(alloc: Global, optimum: &Optimum, sets: u32) -> Result<Vec<Frac>, Memory>
     requires sets { sets ≡ length optimum.now.second.sets }
-    requires few { sets ≤ 512 }
+    requires few { sets ≤ most_rows }
     ensures { IfOk result (λ prices.
         prices.items ≡ listed_prices (suc sets) (second_prices optimum.now)) }
 {

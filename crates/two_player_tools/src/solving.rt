@@ -1,16 +1,17 @@
 // The solution of a sequence form, by its linear program.
 ghost use Rattle.std.specs.Prelude.{◌≡◌, ◌<◌, IfOk};
 ghost use Rattle.answers.specs.Answers.{Gives, map_ok};
-ghost use Rattle.two_player_tools.specs.Lp.{optimum_of, solution_in};
+ghost use Rattle.zero_sum_lp.specs.Ends.{optimum_in};
+ghost use Rattle.two_player_tools.specs.Lp.{solution_in};
 ghost use Rattle.two_player_tools.specs.Solved.{HasSizesOf, solution_of};
 
-use lex_tableau::PivotCount;
-use refusals::{Refusal, Site};
+use lex_tableau::{PivotCount, UnfitPivot};
+use refusals::Refusal;
 use sequence_form::SeqForm;
 use std::alloc::Global;
 use std::marker::Brand;
 use std::sync::ledger::{Blank, Ledger};
-use zero_sum_lp::{Lp, LpEnd, Optimum, Plans, program};
+use zero_sum_lp::{Lp, Optimum, Plans, program};
 
 /// A form's solution: the optimum of its program, which has the prices, and both players' plans.
 #[derive(Debug, Drop)]
@@ -20,27 +21,17 @@ pub struct Solved {
 }
 
 // The end of a program's path, whose steps are counted on a blank. The count is not used.
-fn follow<L: Ledger>(lp: Lp, blank: Blank) -> Result<Optimum, Refusal>
+fn follow<L: Ledger>(lp: Lp, blank: Blank) -> Result<Optimum, UnfitPivot>
     requires { (L.parts ≡ blank.parts) × (L.name ≡ blank.name) × (0 < blank.parts) }
-    ensures { optimum_of lp result }
+    ensures { optimum_in lp result }
 {
     let mut pivots = PivotCount::<L>::new(blank);
-    match lp.solve(&mut pivots) {
-        LpEnd::Optimal(optimum) => Ok(optimum),
-        LpEnd::Range {
-            step,
-            entering,
-            unfit,
-        } => Err(Refusal::Range {
-            site: Site::Step { step, entering },
-            unfit,
-        }),
-    }
+    lp.solve(&mut pivots)
 }
 
-// The optimum of a program, or the step of its path that does not fit. Takes no memory.
-fn optimum_of(lp: Lp) -> Result<Optimum, Refusal>
-    ensures { optimum_of lp result }
+// The optimum of a program, or the pivot of its path that does not fit. Takes no memory.
+fn optimum_in(lp: Lp) -> Result<Optimum, UnfitPivot>
+    ensures { optimum_in lp result }
 {
     follow::<Brand>(lp, Blank::new(1))
 }
@@ -53,7 +44,7 @@ pub fn solve(alloc: Global, form: &SeqForm) -> Result<Solved, Refusal>
 {
     let _side = form.first();
     let lp = program(alloc, form)?;
-    let optimum = optimum_of(lp)?;
+    let optimum = optimum_in(lp)?;
     let plans = optimum.plans(alloc)?;
     Ok(Solved { optimum, plans })
 }

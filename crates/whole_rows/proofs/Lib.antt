@@ -1,8 +1,8 @@
 pub mod DeterminedRowLemmas
-pub mod FirstUnfitLemmas
 pub mod FittingStepLemmas
 pub mod PlaceStepLemmas
 pub mod QuotientLemmas
+pub mod RowFitLemmas
 pub mod RowFrameLemmas
 pub mod RowValueLemmas
 pub mod RowWriteLemmas

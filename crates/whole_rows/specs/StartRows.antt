@@ -1,11 +1,13 @@
 -- The rows of a system of fractions as whole numbers, and the steps by which they become so
 use Rattle.std.specs.Prelude.{ℕ, ℤ, pos, zero, suc, ◌+◌, ◌*◌, ◌/◌, ◌<◌, ◌≡◌, List, [], ◌∷◌, ◌++◌, get_or, All}
+use Rattle.std.specs.List.{range_with_len}
+use Rattle.answers.specs.Answers.{Answer}
 use Rattle.rational.specs.Gcd.{gcd}
 use Rattle.rational.specs.Rational.{ℚ, zero_ℚ}
 use Rattle.frac128.specs.Fraction.{PartFits}
-use Rattle.frac128.specs.declared.steps.Unfit.{Unfit}
 use Rattle.whole_rows.specs.Rows.{IsRow, fraction}
-use Rattle.frac128.specs.Steps.{Step, StepFits, IsFirstUnfit}
+use Rattle.frac128.specs.Steps.{Step, StepFits}
+use Rattle.frac128.specs.FirstUnfit.{all_fit}
 use Rattle.whole_rows.specs.Steps.{times}
 
 -- the fractions from a place of a list on
@@ -48,13 +50,10 @@ pub record IsStartRow (count : ℕ) (cells : ℕ → ℚ) (new : ℕ → ℤ) : 
   pub is_row : IsRow (count + 1) new
   pub same : (k : ℕ) → k < count → fraction new (k + 1) ≡ cells k
 
--- all rows of so many cells fit
-abbrev pub RowsFit : ℕ → ℕ → List ℚ → Type 0
-RowsFit rows count cells =
-    (i : ℕ) → i < rows → All StepFits (start_row_steps count (cells_from cells (i * count)))
+-- the steps of row i of a list, each of whose rows has so many cells
+abbrev pub start_steps : ℕ → List ℚ → ℕ → List Step
+start_steps count cells i = start_row_steps count (cells_from cells (i * count))
 
--- row i is the first with a step that does not fit, and e that step
-pub record IsFirstUnfitRow (rows count : ℕ) (cells : List ℚ) (i : ℕ) (e : Unfit) : Type 0 where
-  pub within : i < rows
-  pub before : (j : ℕ) → j < i → All StepFits (start_row_steps count (cells_from cells (j * count)))
-  pub here : IsFirstUnfit (start_row_steps count (cells_from cells (i * count))) e
+-- the steps of all rows fit; or the first row with one that does not, and that step
+abbrev pub start_rows_fit : ℕ → ℕ → List ℚ → Answer (ℕ × Step) (Unit {0})
+start_rows_fit rows count cells = all_fit (start_steps count cells) (range_with_len 0 rows)

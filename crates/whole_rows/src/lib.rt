@@ -5,7 +5,7 @@
 //! Definitions: `specs::Rows` has rows and their fractions, `Steps` the steps, `StartRows` and
 //! `Pivots` their order, and `PivotedRows` what a pivot makes of a row.
 //! Private words: `specs::Shorts`, and the modules `divisors`, `places` and `rows`.
-//! Lemmas for callers: `proofs::FirstUnfitLemmas`, that one row is the first unfit;
+//! Lemmas for callers: `proofs::RowFitLemmas`, that rows fit or one is the first that does not;
 //! `RowValueLemmas`.
 //! A change here touches: `lex_tableau`; the order of steps also touches `basis_enum`,
 //! `zero_sum_lp` and `lemke_pivot`.

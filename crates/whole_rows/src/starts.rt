@@ -1,9 +1,9 @@
 // The rows of a system as whole numbers.
-ghost use Rattle.std.specs.Prelude.{◌≡◌, ◌≢◌, ◌+◌, ◌*◌, ◌/◌, ◌<◌, ◌≤◌, ◌<ℤ◌, pos, nat_abs, length, IfOk, IfErr, OnOk, All};
+ghost use Rattle.std.specs.Prelude.{◌≡◌, ◌≢◌, ◌+◌, ◌*◌, ◌/◌, ◌<◌, ◌≤◌, ◌<ℤ◌, pos, nat_abs, length, IfOk, IfErr, OnOk, Ok, Err, All};
 ghost use Rattle.rational.specs.Gcd.{gcd as gcd_of};
 ghost use Rattle.frac128.specs.Fraction.{PartFits};
 ghost use Rattle.whole_rows.specs.Lists.{AgreeOutside, AreStartRows, IsStartRowAt};
-ghost use Rattle.whole_rows.specs.StartRows.{IsCommonDenominator, IsFirstUnfitRow, RowsFit, cells_from, common_to, denominator_steps, over_steps, start_row_steps};
+ghost use Rattle.whole_rows.specs.StartRows.{IsCommonDenominator, cells_from, common_to, denominator_steps, over_steps, start_rows_fit, start_row_steps};
 ghost use Rattle.frac128.specs.Steps.{StepFits, IsFirstUnfit};
 
 use crate::arithmetic::{exact_quotient, product, unfit_product};
@@ -116,8 +116,8 @@ pub fn write_starts(
     requires shape { length numbers.old ≡ rows * (count + 1) }
     ensures length { length numbers.new ≡ length numbers.old }
     ensures written { OnOk result (AreStartRows cells.now rows count numbers.new) }
-    ensures fits { OnOk result (RowsFit rows count cells.now) }
-    ensures unfit { IfErr result (λ e. IsFirstUnfitRow rows count cells.now e.row e.unfit) }
+    ensures fits { OnOk result (start_rows_fit rows count cells.now (Ok tt)) }
+    ensures unfit { IfErr result (λ e. start_rows_fit rows count cells.now (Err (e.row, e.unfit))) }
 {
     for i in 0..rows {
         match write_start_row(cells, numbers, i * count, i * (count + 1), count) {

@@ -1,5 +1,5 @@
 -- Raw weights make one plan where they are raised, and one where they are cut.
-use Rattle.std.proofs.Common.{ℕ, zero, suc, ◌+◌, ◌-◌, ◌<◌, ◌≤◌, ◌≡◌, inl, inr, All, cond, ltb, refl, sym, ap, ap₂, ◌∙◌, subst, subst₂, arith, add-one}
+use Rattle.std.proofs.Common.{ℕ, zero, suc, ◌+◌, ◌-◌, ◌<◌, ◌≤◌, ◌≡◌, inl, inr, cond, ltb, refl, sym, ap, ap₂, ◌∙◌, subst, subst₂, arith, add-one}
 use Rattle.std.proofs.lemmas.Bool.{cases_eq, cases_lt, cond-true, cond-false, lt-ltb, le-ltb}
 use Rattle.rational.specs.Extremes.{IsLesser}
 use Rattle.rational.specs.Rational.{ℚ, ◌+ℚ◌, ◌-ℚ◌, one_ℚ}
@@ -7,14 +7,11 @@ use Rattle.rational.specs.Sum.{sum_to}
 use Rattle.rational.proofs.Field.{le_refl, le_total}
 use Rattle.rational.proofs.SumLemmas.{sum_to-same}
 use Rattle.linear_systems.proofs.LexRowLemmas.{below_cases}
-use Rattle.frac128.specs.Steps.{Step, StepFits, IsFirstUnfit}
-use Rattle.frac128.proofs.FirstUnfitLemmas.{unfit_among, unfit_once}
 use Rattle.sequence_forms.specs.Sides.{Side, first, sequences, IsOrderedSide}
 use Rattle.sequence_forms.proofs.SideLemmas.{first_up, first_pos, sequence_below}
 use Rattle.zero_sum_lp.specs.Plans.{IsRaised, IsCut}
 use Rattle.zero_sum_lp.specs.PlanLists.{AreShares}
-use Rattle.zero_sum_lp.specs.PlanSteps.{IsFittingRaise, IsUnfitRaise, IsFittingCut, IsUnfitCut, raising_steps, cutting_steps}
-use Rattle.zero_sum_lp.proofs.PlanStepLemmas.{Agree, before_below, cutting_same, raising_same, rest_begins, rest_next}
+use Rattle.zero_sum_lp.proofs.PlanStepLemmas.{Agree, before_below, rest_begins, rest_next}
 use Rattle.zero_sum_lp.proofs.PlanWeightLemmas.{each_sequence, lesser_once}
 
 -- ---- weights set by set
@@ -135,7 +132,7 @@ module _ (d : Side) (o : IsOrderedSide d) where
         | inr ne ↦ (let some : 0 < a = omega (arith, ne) in r.others j a h some l ∙ sym (s.others j a h some l))
       ])
 
-  raised_as : (x y z z' : ℕ → ℚ) → Agree d x y → Agree d z z' → IsRaised d x z → IsRaised d y z'
+  pub raised_as : (x y z z' : ℕ → ℚ) → Agree d x y → Agree d z z' → IsRaised d x z → IsRaised d y z'
   raised_as x y z z' e f r =
       record {
         empty = sym (f 0 (first_pos d.count d.sets)) ∙ r.empty;
@@ -146,23 +143,6 @@ module _ (d : Side) (o : IsOrderedSide d) where
       at : (j : ℕ) → j < d.sets → first d j < sequences d
       at j h = let b = sequence_below d j 0 h (o.some_action j h) in omega arith
 
-  -- one list of steps
-  raising_once : (x z z' : ℕ → ℚ) → IsRaised d x z → IsRaised d x z' → raising_steps d x z ≡ raising_steps d x z'
-  raising_once x z z' r s = raising_same d o x x z z' (λ q l. refl) (raised_once x z z' r s)
-
-  pub fitting_raise_as : (x y z z' : ℕ → ℚ) → Agree d x y → Agree d z z' → IsFittingRaise d x z → IsFittingRaise d y z'
-  fitting_raise_as x y z z' e f h = record { raised = raised_as x y z z' e f h.raised; fits = subst (All StepFits) (raising_same d o x y z z' e f) h.fits }
-
-  pub unfit_raise_as : (x y : ℕ → ℚ) (u : Step) → Agree d x y → IsUnfitRaise d x u → IsUnfitRaise d y u
-  unfit_raise_as x y u e h = record { plan = h.plan; raised = raised_as x y h.plan h.plan e (λ q l. refl) h.raised; first_unfit = subst (λ ss. IsFirstUnfit ss u) (raising_same d o x y h.plan h.plan e (λ q l. refl)) h.first_unfit }
-
-  -- where all steps fit there is none that does not, and else there is one first step
-  pub no_unfit_raise : (x z : ℕ → ℚ) (u : Step) → IsFittingRaise d x z → IsUnfitRaise d x u → ⊥
-  no_unfit_raise x z u h g = unfit_among (raising_steps d x g.plan) u g.first_unfit (subst (All StepFits) (raising_once x z g.plan h.raised g.raised) h.fits)
-
-  pub unfit_raise_once : (x : ℕ → ℚ) (u v : Step) → IsUnfitRaise d x u → IsUnfitRaise d x v → u ≡ v
-  unfit_raise_once x u v h g = unfit_once (raising_steps d x g.plan) u v (subst (λ ss. IsFirstUnfit ss u) (raising_once x h.plan g.plan h.raised g.raised) h.first_unfit) g.first_unfit
-
   -- ---- cut plans
   pub cut_once : (x z z' : ℕ → ℚ) → IsCut d x z → IsCut d x z' → Agree d z z'
   cut_once x z z' r s =
@@ -170,24 +150,9 @@ module _ (d : Side) (o : IsOrderedSide d) where
       shares_once (z (d.before j)) (λ a. x (first d j + a)) (λ a. z (first d j + a)) (λ a. z' (first d j + a)) (d.count j) (λ a l. r.shares j a h l)
       (λ a l. subst (λ w. IsLesser (x (first d j + a)) (w -ℚ sum_to a (λ b. z' (first d j + b))) (z' (first d j + a))) (sym before) (s.shares j a h l)))
 
-  cut_as : (x y z z' : ℕ → ℚ) → Agree d x y → Agree d z z' → IsCut d x z → IsCut d y z'
+  pub cut_as : (x y z z' : ℕ → ℚ) → Agree d x y → Agree d z z' → IsCut d x z → IsCut d y z'
   cut_as x y z z' e f r =
       record {
         empty = sym (f 0 (first_pos d.count d.sets)) ∙ r.empty;
         shares = λ j a h l. subst (λ b. IsLesser b (z' (d.before j) -ℚ sum_to a (λ b. z' (first d j + b))) (z' (first d j + a))) (e (first d j + a) (sequence_below d j a h l)) (subst₂ (λ b c. IsLesser (x (first d j + a)) b c) (ap₂ (λ b c. b -ℚ c) (f (d.before j) (before_below d o j h)) (sum_to-same a _ _ (λ b k. f (first d j + b) (sequence_below d j b h (omega (arith, k, l)))))) (f (first d j + a) (sequence_below d j a h l)) (r.shares j a h l));
       }
-
-  cutting_once : (x z z' : ℕ → ℚ) → IsCut d x z → IsCut d x z' → cutting_steps d z ≡ cutting_steps d z'
-  cutting_once x z z' r s = cutting_same d o z z' (cut_once x z z' r s)
-
-  pub fitting_cut_as : (x y z z' : ℕ → ℚ) → Agree d x y → Agree d z z' → IsFittingCut d x z → IsFittingCut d y z'
-  fitting_cut_as x y z z' e f h = record { cut = cut_as x y z z' e f h.cut; fits = subst (All StepFits) (cutting_same d o z z' f) h.fits }
-
-  pub unfit_cut_as : (x y : ℕ → ℚ) (u : Step) → Agree d x y → IsUnfitCut d x u → IsUnfitCut d y u
-  unfit_cut_as x y u e h = record { plan = h.plan; cut = cut_as x y h.plan h.plan e (λ q l. refl) h.cut; first_unfit = h.first_unfit }
-
-  pub no_unfit_cut : (x z : ℕ → ℚ) (u : Step) → IsFittingCut d x z → IsUnfitCut d x u → ⊥
-  no_unfit_cut x z u h g = unfit_among (cutting_steps d g.plan) u g.first_unfit (subst (All StepFits) (cutting_once x z g.plan h.cut g.cut) h.fits)
-
-  pub unfit_cut_once : (x : ℕ → ℚ) (u v : Step) → IsUnfitCut d x u → IsUnfitCut d x v → u ≡ v
-  unfit_cut_once x u v h g = unfit_once (cutting_steps d g.plan) u v (subst (λ ss. IsFirstUnfit ss u) (cutting_once x h.plan g.plan h.cut g.cut) h.first_unfit) g.first_unfit

@@ -15,7 +15,7 @@ programs_of_forms f p valid stages =
     let s = last.0 in
     let n = last.1.1.0 in
     let is_system : IsSystemOf f s = last.1.0 in
-    let start : IsStarted s n = last.1.1.1 in
+    let start : IsStarted s n = last.1.1.1.2 in
     let same : with_start f n ≡ p = cc (last.1.1.2) in
     let begins : IsStartFor f.first f.second n = starts_for f.first f.second s n (record { gain = gains (form f) f.least_one; start = is_system.program; rated = is_system.rated }) start.start start.valid in
     subst (λ p. IsProgram p × IsProgramOfForm (form f) f.least_one p) same (

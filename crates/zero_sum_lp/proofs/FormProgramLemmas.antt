@@ -1,12 +1,18 @@
 -- What the stages of a form's program give together.
-use Rattle.std.proofs.Common.{◌<◌, Result, Ok, Err, inr, refl}
-use Rattle.answers.specs.Answers.{Answer, Gives, ◌>>◌, refuse_where, refused_by}
+use Rattle.std.proofs.Common.{◌<◌, ◌≡◌, Result, Ok, Err, inl, inr, refl, ap, ap₂}
+use Rattle.answers.specs.Answers.{Answer, Gives, ◌>>◌, refused_by}
 use Rattle.answers.proofs.AnswerLemmas.{gives_bind, gives_first}
+use Rattle.lex_tableau.specs.Starts.{Parts}
+use Rattle.lex_tableau.specs.StartStops.{start_in}
+use Rattle.lex_tableau.specs.declared.tableau.StartStop.{StartStop}
+use Rattle.lex_tableau.specs.declared.tableau.StartStop.TheVariants as starts
+use Rattle.game_core.specs.Limits.{most_rows, within}
+use Rattle.game_core.specs.declared.too_large.What.TheVariants as what
 use Rattle.sequence_data.specs.Data.{FormData}
 use Rattle.zero_sum_lp.specs.declared.stop.LpStop.{LpStop}
 use Rattle.zero_sum_lp.specs.declared.stop.LpStop.TheVariants as stops
 use Rattle.zero_sum_lp.specs.declared.stop.NotConstant.{NotConstant}
-use Rattle.zero_sum_lp.specs.FormPrograms.{gains_in, is_constant, program_in, size_of, form_start_in, sums_in, too_many_rows}
+use Rattle.zero_sum_lp.specs.FormPrograms.{IsSystemOf, gains_in, is_constant, program_in, size_of, form_start_in, sums_in, told_start}
 use Rattle.zero_sum_lp.specs.Parts.{Program}
 
 -- one stage more
@@ -16,9 +22,20 @@ go_on p q answer h g = gives_bind {Z = Program} stops.Memory p (λ _. q) tt answ
 leave : (p : Answer LpStop (Unit {0})) (q : Answer LpStop Program) (r : LpStop) → Gives stops.Memory p (Err r) → Gives stops.Memory (p >> q) (Err r)
 leave p q r g = gives_first {Z = Program} stops.Memory p (λ _. q) r g
 
+-- ---- the start
+module _ (f : FormData) (s : Parts) (is_system : IsSystemOf f s) where
+  pub start_stop : (stop : StartStop) → Gives starts.Memory (start_in s) (Err stop) → Gives stops.Memory (form_start_in f) (Err (told_start stop))
+  start_stop stop (inl m) = inl (ap told_start m)
+  start_stop stop (inr h) = inr (stop, (s, (is_system, inl h)), refl)
+
+  pub start_goes : (p : Program) → start_in s (Ok p.tableau) → p.first ≡ f.first → p.second ≡ f.second → form_start_in f (Ok p)
+  start_goes p h one two =
+      (s, (is_system, (p.tableau, h, ap₂ (λ a b. Ok (record { first = a; second = b; tableau = p.tableau })) one two)))
+
+-- ---- all stages
 module _ (f : FormData) where
   abbrev size_stage : Answer LpStop (Unit {0})
-  size_stage = refuse_where (512 < size_of f) (stops.TooLarge (too_many_rows f))
+  size_stage = refused_by stops.TooLarge (within what.Rows most_rows (size_of f))
 
   abbrev constant_stage : Answer LpStop (Unit {0})
   constant_stage = refused_by stops.NotConstant (is_constant f.leaves)
@@ -32,7 +49,7 @@ module _ (f : FormData) where
   abbrev from_sums : Answer LpStop Program
   from_sums = sums_in f.leaves >> from_constant
 
-  module _ (few : 512 < size_of f → ⊥) where
+  module _ (few : most_rows < size_of f → ⊥) where
     pub sums_stop : (r : LpStop) → Gives stops.Memory (sums_in f.leaves) (Err r) → Gives stops.Memory (program_in f) (Err r)
     sums_stop r g = go_on size_stage from_sums (Err r) few (leave (sums_in f.leaves) from_constant r g)
 

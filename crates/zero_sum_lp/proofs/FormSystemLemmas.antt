@@ -10,6 +10,7 @@ use Rattle.linear_systems.specs.Rows.{Alike}
 use Rattle.zero_sum_lp.specs.Programs.{constraints, program_of, reply_cell}
 use Rattle.linear_systems.proofs.AgreementLemmas.{alike_trans}
 use Rattle.lex_tableau.specs.Starts.{Parts, system_of}
+use Rattle.game_core.specs.Limits.{most_rows}
 use Rattle.sequence_forms.specs.Lists.{listed_at}
 use Rattle.sequence_forms.specs.Prices.{gains}
 use Rattle.sequence_forms.specs.Sides.{Side, sequences}
@@ -60,7 +61,7 @@ module _ (f : FormData) (valid : IsFormData f) where
   second_count : f.second.sequences ≡ sequences (side_of f.second)
   second_count = valid.second_is.sequences_are
 
-  pub small : size_of f ≤ 512 → f.first.sequences * f.second.sequences < 2 ^ 32
+  pub small : size_of f ≤ most_rows → f.first.sequences * f.second.sequences < 2 ^ 32
   small few =
       let x : f.first.sequences ≤ 512 = omega (arith, few, first_count) in
       let y : f.second.sequences ≤ 512 = omega (arith, few, second_count) in

@@ -18,6 +18,7 @@ pub mod PathWalkLemmas
 pub mod PlanAnswerLemmas
 pub mod PlanListLemmas
 pub mod PlanReadLemmas
+pub mod PlanStageLemmas
 pub mod PlanStepLemmas
 pub mod PlanWeightLemmas
 pub mod ProgramAnswerLemmas

@@ -1,5 +1,5 @@
 -- The path has one end.
-use Rattle.std.proofs.Common.{ℕ, zero, suc, ◌<◌, ◌≡◌, inl, inr, sym, ap, ap₂, ◌∙◌, subst, subst₂, arith, All}
+use Rattle.std.proofs.Common.{ℕ, zero, suc, ◌<◌, ◌≡◌, inl, inr, Ok, Err, sym, ap, ap₂, ◌∙◌, subst, subst₂, arith, All}
 use Rattle.std.proofs.lemmas.Bool.{cases_lt}
 use Rattle.rational.specs.Rational.{zero_ℚ}
 use Rattle.rational.proofs.Field.{not_lt_of_le}
@@ -8,14 +8,13 @@ use Rattle.linear_systems.proofs.LexRowLemmas.{lex_row_once, below_cases}
 use Rattle.zero_sum_lp.specs.Paths.{IsEntering, IsOptimal}
 use Rattle.linear_systems.proofs.AgreementLemmas.{alike_sym, alike_trans}
 use Rattle.zero_sum_lp.proofs.DeterminedPathLemmas.{entering_once}
-use Rattle.frac128.specs.declared.steps.Unfit.{Unfit}
 use Rattle.frac128.specs.Steps.{StepFits, IsFirstUnfit}
 use Rattle.frac128.proofs.FirstUnfitLemmas.{unfit_among, unfit_once}
 use Rattle.lex_tableau.specs.Pivots.{pivot_number, steps_of_pivot}
 use Rattle.lex_tableau.specs.Ratio.{variable_at}
+use Rattle.lex_tableau.specs.declared.unfit_pivot.UnfitPivot.{UnfitPivot}
 use Rattle.lex_tableau.specs.Rows.{Numbers, tableau, IsPivotOf, IsTableau}
 use Rattle.lex_tableau.proofs.TableauLemmas.{determined}
-use Rattle.zero_sum_lp.specs.declared.lp.LpEnd.TheVariants.{Optimal, Range}
 use Rattle.zero_sum_lp.specs.Ends.{EndsAreSingle}
 use Rattle.zero_sum_lp.specs.Parts.{Program}
 use Rattle.zero_sum_lp.specs.Steps.{IsFittingPivot, IsLeavingRow, LeadsTo, EndsPath, IsUnfitPivot}
@@ -68,13 +67,13 @@ module _ (first : Numbers) (v : IsTableau first) where
   ended_goes_on : (n o : Numbers) (k j : ℕ) → k < j → LeadsTo first k n → IsOptimal n.rated (tableau n) → LeadsTo first j o → ⊥
   ended_goes_on n o k j l w opt x = let s = step_from n o k j l w x in not_optimal n s.1.column opt s.1.entering
 
-  unfit_goes_on : (number entering : ℕ) (unfit : Unfit) (u : IsUnfitPivot first number entering unfit) (o : Numbers) (j : ℕ) → u.count < j → LeadsTo first j o → ⊥
-  unfit_goes_on number entering unfit u o j l x =
+  unfit_goes_on : (stop : UnfitPivot) (u : IsUnfitPivot first stop) (o : Numbers) (j : ℕ) → u.count < j → LeadsTo first j o → ⊥
+  unfit_goes_on stop u o j l x =
       let s = step_from u.before o u.count j l u.path x in
       let w = valid_at first u.before u.count v u.path in
       let c = same_column u.before w s.1.column u.column s.1.row u.row s.1.entering u.enters s.1.leaving u.leaves in
       let r = same_row u.before w s.1.column u.column s.1.row u.row s.1.entering u.enters s.1.leaving u.leaves in
-      unfit_among (steps_of_pivot u.before u.row u.column) unfit u.first_unfit (subst₂ (λ a b. All StepFits (steps_of_pivot u.before a b)) r c s.1.fits)
+      unfit_among (steps_of_pivot u.before u.row u.column) stop.unfit u.first_unfit (subst₂ (λ a b. All StepFits (steps_of_pivot u.before a b)) r c s.1.fits)
 
   optima_same : (n o : Numbers) → EndsPath first n → EndsPath first o → n ≡ o
   optima_same n o a b = elim (cases_lt a.count b.count) [
@@ -85,25 +84,25 @@ module _ (first : Numbers) (v : IsTableau first) where
     ]
   ]
 
-  not_both : (n : Numbers) (number entering : ℕ) (unfit : Unfit) → EndsPath first n → IsUnfitPivot first number entering unfit → ⊥
-  not_both n number entering unfit a u = elim (cases_lt a.count u.count) [
+  not_both : (n : Numbers) (stop : UnfitPivot) → EndsPath first n → IsUnfitPivot first stop → ⊥
+  not_both n stop a u = elim (cases_lt a.count u.count) [
     | inl l ↦ ended_goes_on n u.before a.count u.count l a.path a.optimal u.path
     | inr l ↦ elim (cases_lt u.count a.count) [
-      | inl k ↦ unfit_goes_on number entering unfit u n a.count k a.path
+      | inl k ↦ unfit_goes_on stop u n a.count k a.path
       | inr k ↦ (let e : n ≡ u.before = path_same first n u.before u.count v (subst (λ i. LeadsTo first i n) (let q : a.count ≡ u.count = omega (arith, l, k) in q) a.path) u.path in not_optimal u.before u.column (subst (λ m. IsOptimal m.rated (tableau m)) e a.optimal) u.enters)
     ]
   ]
 
-  unfit_same : (number entering number' entering' : ℕ) (unfit unfit' : Unfit) → (u : IsUnfitPivot first number entering unfit) → (w : IsUnfitPivot first number' entering' unfit') → (number ≡ number') × ((entering ≡ entering') × (unfit ≡ unfit'))
-  unfit_same number entering number' entering' unfit unfit' u w = elim (cases_lt u.count w.count) [
-    | inl l ↦ absurd (unfit_goes_on number entering unfit u w.before w.count l w.path)
+  unfit_same : (stop other : UnfitPivot) → (u : IsUnfitPivot first stop) → (w : IsUnfitPivot first other) → stop ≡ other
+  unfit_same stop other u w = elim (cases_lt u.count w.count) [
+    | inl l ↦ absurd (unfit_goes_on stop u w.before w.count l w.path)
     | inr l ↦ elim (cases_lt w.count u.count) [
-      | inl k ↦ absurd (unfit_goes_on number' entering' unfit' w u.before u.count k u.path)
+      | inl k ↦ absurd (unfit_goes_on other w u.before u.count k u.path)
       | inr k ↦ same_here (let q : u.count ≡ w.count = omega (arith, l, k) in q)
     ]
   ]
     where
-      same_here : u.count ≡ w.count → (number ≡ number') × ((entering ≡ entering') × (unfit ≡ unfit'))
+      same_here : u.count ≡ w.count → stop ≡ other
       same_here q =
           let e : u.before ≡ w.before = path_same first u.before w.before w.count v (subst (λ i. LeadsTo first i u.before) q u.path) w.path in
           let valid = valid_at first w.before w.count v w.path in
@@ -111,19 +110,19 @@ module _ (first : Numbers) (v : IsTableau first) where
           let leaves : IsLeavingRow w.before u.column u.row = subst (λ m. IsLeavingRow m u.column u.row) e u.leaves in
           let c = same_column w.before valid u.column w.column u.row w.row enters w.enters leaves w.leaves in
           let r = same_row w.before valid u.column w.column u.row w.row enters w.enters leaves w.leaves in
-          let here : IsFirstUnfit (steps_of_pivot w.before w.row w.column) unfit = subst₂ (λ a b. IsFirstUnfit (steps_of_pivot w.before a b) unfit) r c (subst (λ m. IsFirstUnfit (steps_of_pivot m u.row u.column) unfit) e u.first_unfit) in (
-            u.is_number ∙ ap (λ i. pivot_number (suc i)) q ∙ sym w.is_number,
-            (u.variable ∙ ap₂ (λ (m : Numbers) (i : ℕ). (tableau m).nonbasic i) e c ∙ sym w.variable, unfit_once (steps_of_pivot w.before w.row w.column) unfit unfit' here w.first_unfit),
-          )
+          let here : IsFirstUnfit (steps_of_pivot w.before w.row w.column) stop.unfit = subst₂ (λ a b. IsFirstUnfit (steps_of_pivot w.before a b) stop.unfit) r c (subst (λ m. IsFirstUnfit (steps_of_pivot m u.row u.column) stop.unfit) e u.first_unfit) in
+          let number : stop.number ≡ other.number = u.is_number ∙ ap (λ i. pivot_number (suc i)) q ∙ sym w.is_number in
+          let entering : stop.entering ≡ other.entering = u.variable ∙ ap₂ (λ (m : Numbers) (i : ℕ). (tableau m).nonbasic i) e c ∙ sym w.variable in
+          let unfit : stop.unfit ≡ other.unfit = unfit_once (steps_of_pivot w.before w.row w.column) stop.unfit other.unfit here w.first_unfit in
+          λ i. record { number = number i; entering = entering i; unfit = unfit i }
 
 -- a program by its parts
 program_same : (a b : Program) → a.first ≡ b.first → a.second ≡ b.second → a.tableau ≡ b.tableau → a ≡ b
 program_same a b e f g = λ i. record { first = e i; second = f i; tableau = g i }
 
 pub ends_same : EndsAreSingle
-ends_same p (Optimal a) (Optimal b) h one other =
-    ap Optimal (program_same a b (one.first ∙ sym other.first) (one.second ∙ sym other.second) (optima_same p.tableau h.start.valid a.tableau b.tableau one.path other.path))
-ends_same p (Optimal a) (Range step entering unfit) h one other = absurd (not_both p.tableau h.start.valid a.tableau step entering unfit one.path other)
-ends_same p (Range step entering unfit) (Optimal b) h one other = absurd (not_both p.tableau h.start.valid b.tableau step entering unfit other.path one)
-ends_same p (Range step entering unfit) (Range step' entering' unfit') h one other =
-    (let s = unfit_same p.tableau h.start.valid step entering step' entering' unfit unfit' one other in λ i. Range (s.0 i) (s.1.0 i) (s.1.1 i))
+ends_same p h (Ok a) (Ok b) one other =
+    ap Ok (program_same a b (one.first ∙ sym other.first) (one.second ∙ sym other.second) (optima_same p.tableau h.start.valid a.tableau b.tableau one.path other.path))
+ends_same p h (Ok a) (Err stop) one other = absurd (not_both p.tableau h.start.valid a.tableau stop one.path other)
+ends_same p h (Err stop) (Ok b) one other = absurd (not_both p.tableau h.start.valid b.tableau stop other.path one)
+ends_same p h (Err stop) (Err last) one other = ap Err (unfit_same p.tableau h.start.valid stop last one other)

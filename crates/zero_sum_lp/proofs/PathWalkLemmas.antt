@@ -111,6 +111,6 @@ pub measure_falls : (a b c : ℕ) → c ≡ b + 1 → b < a → a - c < a - b
 measure_falls a b c e h = omega arith
 
 -- the pivot of a step that does not fit
-pub is_unfit : (first now : Numbers) (past pivots number variable c r : ℕ) (unfit : Unfit) → IsUnderWay first now past pivots number → IsEntering now.rated (tableau now) c → IsLexicographicRow now.rated now.rated (variable_at now.starts) (tableau now) c r → variable ≡ (tableau now).nonbasic c → IsFirstUnfit (steps_of_pivot now r c) unfit → IsUnfitPivot first number variable unfit
+pub is_unfit : (first now : Numbers) (past pivots number variable c r : ℕ) (unfit : Unfit) → IsUnderWay first now past pivots number → IsEntering now.rated (tableau now) c → IsLexicographicRow now.rated now.rated (variable_at now.starts) (tableau now) c r → variable ≡ (tableau now).nonbasic c → IsFirstUnfit (steps_of_pivot now r c) unfit → IsUnfitPivot first (record { number = number; entering = variable; unfit = unfit })
 is_unfit first now past pivots number variable c r unfit u e l v f =
     record { count = u.count; before = now; path = u.path; column = c; row = r; enters = e; leaves = l; variable = v; is_number = u.is_number; first_unfit = f }

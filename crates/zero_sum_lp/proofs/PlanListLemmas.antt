@@ -1,5 +1,5 @@
 -- Plans in lists, set by set.
-use Rattle.std.proofs.Common.{ℕ, ◌<◌, ◌≤◌, ◌≡◌, ◌≢◌, ◌+◌, ◌-◌, inl, inr, All, List, length, refl, sym, ap, ap₂, ◌∙◌, subst, subst₂, arith, add-one}
+use Rattle.std.proofs.Common.{ℕ, ◌<◌, ◌≤◌, ◌≡◌, ◌≢◌, ◌+◌, ◌-◌, inl, inr, All, List, Ok, Err, length, sym, ap, ap₂, ◌∙◌, subst, subst₂, arith, add-one}
 use Rattle.std.proofs.lemmas.Bool.{cases_eq, cases_lt}
 use Rattle.std.proofs.lemmas.List.{length-map}
 use Rattle.std.proofs.lemmas.List.Elements.{All-nil}
@@ -10,9 +10,12 @@ use Rattle.frac128.specs.Steps.{Step, StepFits, IsFirstUnfit}
 use Rattle.sequence_forms.specs.Sides.{Side, first, sequences, IsOrderedSide}
 use Rattle.sequence_forms.proofs.SideLemmas.{first_up}
 use Rattle.sequence_data.specs.Data.{SideData, side_of}
+use Rattle.sequence_data.specs.Weights.{weight_at}
 use Rattle.zero_sum_lp.specs.Plans.{IsRaised}
-use Rattle.zero_sum_lp.specs.PlanSteps.{raise_steps, IsFittingRaise, IsUnfitRaise}
-use Rattle.zero_sum_lp.proofs.ExactPlanLemmas.{raised_plan, is_raised, fitting_raise_as}
+use Rattle.zero_sum_lp.specs.PlanSteps.{raise_steps}
+use Rattle.zero_sum_lp.specs.PlanStops.{raised_in}
+use Rattle.zero_sum_lp.proofs.ExactPlanLemmas.{raised_plan, is_raised}
+use Rattle.zero_sum_lp.proofs.PlanStageLemmas.{raised_in-made, raised_in-stop}
 use Rattle.zero_sum_lp.proofs.PlanStepLemmas.{fits_next, raise_same, steps_to, unfit_next}
 
 -- ---- sets that are read
@@ -111,15 +114,12 @@ raise_begins d o x w e h = made_begins d x (raised_plan d x) w _ (is_raised d o 
 pub raise_next : (d : Side) (o : IsOrderedSide d) (n before f count : ℕ) (x w w' : ℕ → ℚ) → IsSetOf d n before f count → IsRaisedTo d n x w → Raises w w' before f count → IsRaisedTo d (n + 1) x w'
 raise_next d o n before f count x w w' s m k = raised_next d o n s.within x (raised_plan d x) w (is_raised d o x) m w' (at_set d n before f count (Raises w w') s k)
 
-pub raise_ends : (d : Side) (o : IsOrderedSide d) (n : ℕ) (x w : ℕ → ℚ) → n ≡ d.sets → IsRaisedTo d n x w → IsFittingRaise d x w
-raise_ends d o n x w e m =
-    let all : IsRaisedTo d d.sets x w = subst (λ k. IsRaisedTo d k x w) e m in
-    fitting_raise_as d o x x (raised_plan d x) w (λ q l. refl) (λ q l. sym (all.made q l)) (record { raised = is_raised d o x; fits = all.fits })
+pub raise_ends : (d : Side) (o : IsOrderedSide d) (n : ℕ) (x : ℕ → ℚ) (w : List ℚ) → n ≡ d.sets → length w ≡ sequences d → IsRaisedTo d n x (weight_at w) → raised_in d x (Ok w)
+raise_ends d o n x w e c m =
+    let all : IsRaisedTo d d.sets x (weight_at w) = subst (λ k. IsRaisedTo d k x (weight_at w)) e m in
+    raised_in-made d o x (raised_plan d x) w c (λ q l. sym (all.made q l)) (is_raised d o x) all.fits
 
-pub raise_stops : (d : Side) (o : IsOrderedSide d) (n before f count : ℕ) (x w : ℕ → ℚ) (u : Step) → IsSetOf d n before f count → IsRaisedTo d n x w → IsFirstUnfit (raise_steps (w before) (λ a. w (f + a)) count) u → IsUnfitRaise d x u
+pub raise_stops : (d : Side) (o : IsOrderedSide d) (n before f count : ℕ) (x w : ℕ → ℚ) (u : Step) → IsSetOf d n before f count → IsRaisedTo d n x w → IsFirstUnfit (raise_steps (w before) (λ a. w (f + a)) count) u → raised_in d x (Err u)
 raise_stops d o n before f count x w u s m k =
-    record {
-      plan = raised_plan d x;
-      raised = is_raised d o x;
-      first_unfit = unfit_next _ n d.sets u s.within m.fits (subst (λ ss. IsFirstUnfit ss u) (raise_there d o n s.within x (raised_plan d x) w (is_raised d o x) m) (at_set d n before f count (λ b q c. IsFirstUnfit (raise_steps (w b) (λ a. w (q + a)) c) u) s k));
-    }
+    raised_in-stop d o x (raised_plan d x) u (is_raised d o x)
+    (unfit_next _ n d.sets u s.within m.fits (subst (λ ss. IsFirstUnfit ss u) (raise_there d o n s.within x (raised_plan d x) w (is_raised d o x) m) (at_set d n before f count (λ b q c. IsFirstUnfit (raise_steps (w b) (λ a. w (q + a)) c) u) s k)))

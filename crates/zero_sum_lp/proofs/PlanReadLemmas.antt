@@ -1,21 +1,20 @@
 -- The raw weights as lists, and the plans made of them.
-use Rattle.std.proofs.Common.{ℕ, suc, ◌<◌, ◌≡◌, ◌+◌, ◌-◌, inl, inr, List, [], ◌∷◌, ◌++◌, length, refl, sym, ap, ap₂, ◌∙◌, subst, arith}
+use Rattle.std.proofs.Common.{ℕ, suc, ◌<◌, ◌≡◌, ◌+◌, ◌-◌, inl, inr, List, [], ◌∷◌, ◌++◌, Result, length, sym, ap, ap₂, ◌∙◌, subst, arith}
 use Rattle.std.proofs.lemmas.List.{length_push, get_or_push, get_or_append_left}
 use Rattle.rational.specs.Rational.{ℚ, zero_ℚ}
 use Rattle.linear_systems.specs.Rows.{basic_solution, coefficient}
 use Rattle.linear_systems.proofs.LexRowLemmas.{below_cases}
 use Rattle.frac128.specs.Steps.{Step}
 use Rattle.lex_tableau.specs.Rows.{Numbers, tableau}
-use Rattle.sequence_forms.specs.Sides.{sequences, IsOrderedSide}
+use Rattle.sequence_forms.specs.Sides.{sequences}
 use Rattle.sequence_data.specs.Data.{IsSideData, SideData, side_of}
 use Rattle.sequence_data.specs.Weights.{weight_at}
 use Rattle.zero_sum_lp.specs.Parts.{HasShape, Program, IsOptimum, first_raw, second_raw}
 use Rattle.zero_sum_lp.specs.PlanLists.{AreWeights}
-use Rattle.zero_sum_lp.specs.PlanSteps.{IsFittingRaise, IsUnfitRaise, IsFittingCut, IsUnfitCut}
-use Rattle.zero_sum_lp.specs.PlanStops.{IsFirstPlan, IsSecondPlan}
+use Rattle.zero_sum_lp.specs.PlanStops.{cut_in, raised_in}
 use Rattle.zero_sum_lp.specs.Programs.{constraints, raw_one, raw_two}
-use Rattle.zero_sum_lp.proofs.ExactPlanLemmas.{fitting_cut_as, fitting_raise_as, unfit_cut_as, unfit_raise_as}
 use Rattle.zero_sum_lp.proofs.OptimumLemmas.{sets_are}
+use Rattle.zero_sum_lp.proofs.PlanStageLemmas.{cut_in-as, raised_in-as}
 
 -- ---- lists of weights
 pub weights_push : (n : ℕ) (x : ℕ → ℚ) (xs ys : List ℚ) (v : ℚ) → AreWeights n x xs → v ≡ x n → ys ≡ xs ++ v ∷ [] → AreWeights (n + 1) x ys
@@ -45,25 +44,9 @@ slack_variable first second objective width len k s e l =
     (omega arith, omega arith)
 
 -- ---- plans
-module _ (o : Program) (sets : SideData) (raw : List ℚ) (h : IsSideData sets) where
-  module _ (e : sets ≡ o.first) (w : AreWeights (sequences (side_of o.first)) (first_raw o) raw) where
-    first_ordered : IsOrderedSide (side_of o.first)
-    first_ordered = (subst IsSideData e h).ordered
+module _ (o : Program) (sets : SideData) (raw : List ℚ) (h : IsSideData sets) (answer : Result (List ℚ) Step) where
+  pub first_answer : sets ≡ o.first → AreWeights (sequences (side_of o.first)) (first_raw o) raw → raised_in (side_of sets) (weight_at raw) answer → raised_in (side_of o.first) (first_raw o) answer
+  first_answer e w r = raised_in-as (side_of o.first) (subst IsSideData e h).ordered (weight_at raw) (first_raw o) answer w.same (subst (λ s. raised_in (side_of s) (weight_at raw) answer) e r)
 
-    pub first_plan : (plan : List ℚ) → length plan ≡ length raw → IsFittingRaise (side_of sets) (weight_at raw) (weight_at plan) → IsFirstPlan o plan
-    first_plan plan c r =
-        record { count = c ∙ w.count; raised = fitting_raise_as (side_of o.first) first_ordered (weight_at raw) (first_raw o) (weight_at plan) (weight_at plan) w.same (λ q l. refl) (subst (λ s. IsFittingRaise (side_of s) (weight_at raw) (weight_at plan)) e r) }
-
-    pub first_stop : (u : Step) → IsUnfitRaise (side_of sets) (weight_at raw) u → IsUnfitRaise (side_of o.first) (first_raw o) u
-    first_stop u r = unfit_raise_as (side_of o.first) first_ordered (weight_at raw) (first_raw o) u w.same (subst (λ s. IsUnfitRaise (side_of s) (weight_at raw) u) e r)
-
-  module _ (e : sets ≡ o.second) (w : AreWeights (sequences (side_of o.second)) (second_raw o) raw) where
-    second_ordered : IsOrderedSide (side_of o.second)
-    second_ordered = (subst IsSideData e h).ordered
-
-    pub second_plan : (plan : List ℚ) → length plan ≡ length raw → IsFittingCut (side_of sets) (weight_at raw) (weight_at plan) → IsSecondPlan o plan
-    second_plan plan c r =
-        record { count = c ∙ w.count; cut = fitting_cut_as (side_of o.second) second_ordered (weight_at raw) (second_raw o) (weight_at plan) (weight_at plan) w.same (λ q l. refl) (subst (λ s. IsFittingCut (side_of s) (weight_at raw) (weight_at plan)) e r) }
-
-    pub second_stop : (u : Step) → IsUnfitCut (side_of sets) (weight_at raw) u → IsUnfitCut (side_of o.second) (second_raw o) u
-    second_stop u r = unfit_cut_as (side_of o.second) second_ordered (weight_at raw) (second_raw o) u w.same (subst (λ s. IsUnfitCut (side_of s) (weight_at raw) u) e r)
+  pub second_answer : sets ≡ o.second → AreWeights (sequences (side_of o.second)) (second_raw o) raw → cut_in (side_of sets) (weight_at raw) answer → cut_in (side_of o.second) (second_raw o) answer
+  second_answer e w r = cut_in-as (side_of o.second) (subst IsSideData e h).ordered (weight_at raw) (second_raw o) answer w.same (subst (λ s. cut_in (side_of s) (weight_at raw) answer) e r)

@@ -7,6 +7,7 @@ use Rattle.rational.proofs.RationalRing.{rational_ring}
 use Rattle.rational.proofs.Ring.{ring, num, :neg}
 use Rattle.linear_systems.specs.Tableau.{Tableau}
 use Rattle.linear_systems.specs.Rows.{Alike}
+use Rattle.game_core.specs.Limits.{most_rows}
 use Rattle.sequence_forms.specs.Matrices.{right_side}
 use Rattle.sequence_forms.specs.Sides.{Side, sequences}
 use Rattle.zero_sum_lp.specs.Programs.{columns_of, constraints, objective_cell, program_of}
@@ -46,7 +47,7 @@ past_end : (xs : List ℕ) (i : ℕ) → length xs ≤ i → get_or xs i 0 ≡ 0
 past_end xs i h = get_or_past xs i 0 h
 
 -- ---- the system
-module _ (first second : SideData) (gain : ℕ → ℕ → ℚ) (m n : ℕ) (basics others nonbasics : List ℕ) (cells : List ℚ) (m_is : m ≡ constraints (side_of first) (side_of second)) (n_is : n ≡ columns_of (side_of first) (side_of second)) (few : m + n ≤ 512) (slacks : AreNumbered 1 m others) (basics_are : basics ≡ others ++ (m + n + 1) ∷ []) (nonbasics_are : AreNumbered (m + 1) n nonbasics) (cells_are : AreEntries (program_of (side_of first) (side_of second) gain) (n + 1) ((m + 1) * (n + 1)) cells) where
+module _ (first second : SideData) (gain : ℕ → ℕ → ℚ) (m n : ℕ) (basics others nonbasics : List ℕ) (cells : List ℚ) (m_is : m ≡ constraints (side_of first) (side_of second)) (n_is : n ≡ columns_of (side_of first) (side_of second)) (few : m + n ≤ most_rows) (slacks : AreNumbered 1 m others) (basics_are : basics ≡ others ++ (m + n + 1) ∷ []) (nonbasics_are : AreNumbered (m + 1) n nonbasics) (cells_are : AreEntries (program_of (side_of first) (side_of second) gain) (n + 1) ((m + 1) * (n + 1)) cells) where
   abbrev t : Tableau
   t = program_of (side_of first) (side_of second) gain
 

@@ -6,6 +6,7 @@ use Rattle.linear_systems.specs.Rows.{Alike}
 use Rattle.zero_sum_lp.specs.Programs.{constraints, program_of, IsProgramOf}
 use Rattle.zero_sum_lp.specs.Steps.{linear_program}
 use Rattle.linear_systems.proofs.AgreementLemmas.{alike_trans}
+use Rattle.game_core.specs.Limits.{most_rows}
 use Rattle.lex_tableau.specs.Rows.{Numbers, tableau, IsTableau}
 use Rattle.lex_tableau.specs.Starts.{Parts, system_of, IsStartOf}
 use Rattle.sequence_data.specs.Data.{SideData, side_of}
@@ -31,7 +32,7 @@ starts_for first second s n p h valid =
         let a : suc (constraints (side_of first) (side_of second)) ≡ length s.basics = p.start.rows in
         omega arith
 
-pub shape_is : (first second : SideData) (x y a b : ℕ) → x ≡ sequences (side_of first) → y ≡ sequences (side_of second) → a ≡ length first.sets → b ≡ length second.sets → constraints (side_of first) (side_of second) + (sequences (side_of first) + suc (side_of second).sets) ≤ 512 → HasShape first second (1 + a + y) (x + 1 + b)
+pub shape_is : (first second : SideData) (x y a b : ℕ) → x ≡ sequences (side_of first) → y ≡ sequences (side_of second) → a ≡ length first.sets → b ≡ length second.sets → constraints (side_of first) (side_of second) + (sequences (side_of first) + suc (side_of second).sets) ≤ most_rows → HasShape first second (1 + a + y) (x + 1 + b)
 shape_is first second x y a b ex ey ea eb few =
     let f = sets_are first in
     let s = sets_are second in

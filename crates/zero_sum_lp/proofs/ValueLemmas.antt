@@ -15,15 +15,17 @@ use Rattle.zero_sum_lp.specs.Steps.{linear_program}
 use Rattle.zero_sum_lp.specs.ValueLaws.{OptimalPlansProveTheValue, OptimalPlansSolveTrees, OptimalPlansSolveTables}
 use Rattle.zero_sum_lp.proofs.OptimumLemmas.{program_starts}
 use Rattle.zero_sum_lp.proofs.PathWalkLemmas.{kept, leads_after}
+use Rattle.zero_sum_lp.proofs.PlanAnswerLemmas.{plans_made}
 
 pub plans_prove : OptimalPlansProveTheValue
 plans_prove f least p o pair h form opt plans =
     let rows : f.rows ≡ side_of o.first = form.rows ∙ ap side_of (sym opt.first) in
     let columns : f.columns ≡ side_of o.second = form.columns ∙ ap side_of (sym opt.second) in
+    let made = plans_made o pair plans in
     let after : IsAfter (linear_program p.tableau) opt.path.count (tableau o.tableau) = leads_after p.tableau o.tableau opt.path.count (program_starts p h) opt.path.path in
     let optimal : IsOptimal p.tableau.rated (tableau o.tableau) = subst (λ m. IsOptimal m (tableau o.tableau)) (kept p.tableau o.tableau opt.path.count opt.path.path).1 opt.path.optimal in
-    let raised : IsRaised f.rows (raw_one f.rows f.columns (tableau o.tableau)) (weight_at pair.one) = subst₂ (λ a b. IsRaised a (raw_one a b (tableau o.tableau)) (weight_at pair.one)) (sym rows) (sym columns) plans.0.raised.raised in
-    let cut : IsCut f.columns (raw_two f.rows f.columns (tableau o.tableau)) (weight_at pair.two) = subst₂ (λ a b. IsCut b (raw_two a b (tableau o.tableau)) (weight_at pair.two)) (sym rows) (sym columns) plans.1.cut.cut in
+    let raised : IsRaised f.rows (raw_one f.rows f.columns (tableau o.tableau)) (weight_at pair.one) = subst₂ (λ a b. IsRaised a (raw_one a b (tableau o.tableau)) (weight_at pair.one)) (sym rows) (sym columns) made.0 in
+    let cut : IsCut f.columns (raw_two f.rows f.columns (tableau o.tableau)) (weight_at pair.two) = subst₂ (λ a b. IsCut b (raw_two a b (tableau o.tableau)) (weight_at pair.two)) (sym rows) (sym columns) made.1 in
     subst₂ (λ a b. IsValueProof f least (weight_at pair.one) (weight_at pair.two) (price_one a b (tableau o.tableau)) (price_two a b (tableau o.tableau)) (price_two a b (tableau o.tableau) 0 +ℚ least)) rows columns (value_proved f least (linear_program p.tableau) opt.path.count (tableau o.tableau) (subst IsOrderedSide (sym form.rows) h.first.ordered) (subst IsOrderedSide (sym form.columns) h.second.ordered) form.program after optimal (weight_at pair.one) (weight_at pair.two) form.gains_not_negative raised cut)
 
 pub plans_solve_trees : OptimalPlansSolveTrees

@@ -1,6 +1,6 @@
 -- The program of a sequence form in stages, and why there is none.
-use Rattle.std.specs.Prelude.{ℕ, ◌≡◌, ◌≢◌, ◌<◌, List, [], ◌∷◌, ◌++◌, All, Ok, Err}
-use Rattle.answers.specs.Answers.{Answer, ◌>>=◌, ◌>>◌, only, IsSingle, refuse_where, refused_by}
+use Rattle.std.specs.Prelude.{ℕ, ◌≡◌, ◌≢◌, List, [], ◌∷◌, ◌++◌, All, Ok, Err}
+use Rattle.answers.specs.Answers.{Answer, ◌>>=◌, ◌>>◌, only, IsSingle, refused_by}
 use Rattle.rational.specs.Rational.{ℚ, ◌+ℚ◌, ◌-ℚ◌, ◌*ℚ◌}
 use Rattle.frac128.specs.Steps.{unfit, Step}
 use Rattle.frac128.specs.declared.steps.Op.TheVariants.{Add, Sub, Mul}
@@ -9,7 +9,7 @@ use Rattle.lex_tableau.specs.Starts.{Parts}
 use Rattle.lex_tableau.specs.StartStops.{start_in}
 use Rattle.lex_tableau.specs.declared.tableau.StartStop.{StartStop}
 use Rattle.lex_tableau.specs.declared.tableau.StartStop.TheVariants as starts
-use Rattle.game_core.specs.declared.too_large.TooLarge.{TooLarge}
+use Rattle.game_core.specs.Limits.{most_rows, within}
 use Rattle.game_core.specs.declared.too_large.What.TheVariants as what
 use Rattle.sequence_forms.specs.Prices.{gains}
 use Rattle.sequence_data.specs.declared.types.Cell.{Cell}
@@ -23,11 +23,9 @@ use Rattle.zero_sum_lp.specs.declared.stop.NotConstant.{NotConstant}
 use Rattle.zero_sum_lp.specs.Parts.{Program, program_size}
 
 -- ---- the size
+-- the rows and columns of a form's program together
 abbrev pub size_of : FormData → ℕ
 size_of f = program_size (side_of f.first) (side_of f.second)
-
-abbrev pub too_many_rows : FormData → TooLarge
-too_many_rows f = record { what = what.Rows; count = size_of f; limit = 512 }
 
 -- ---- the sums of both players' payoffs
 abbrev pub sum_at : Leaf → ℚ
@@ -107,7 +105,7 @@ form_start_in f = refused_by told_start (form_start f)
 -- leaf and whose steps all fit; or why there is none.
 abbrev pub program_in : FormData → Answer LpStop Program
 program_in f =
-    refuse_where (512 < size_of f) (stops.TooLarge (too_many_rows f))
+    refused_by stops.TooLarge (within what.Rows most_rows (size_of f))
     >> (sums_in f.leaves
     >> (refused_by stops.NotConstant (is_constant f.leaves)
     >> (gains_in f.least_one f.cells >> form_start_in f)))

@@ -2,6 +2,7 @@
 use Rattle.std.specs.Prelude.{ℕ, ◌+◌, ◌<◌, ◌≤◌, ◌≡◌, get_or}
 use Rattle.rational.specs.Rational.{ℚ}
 use Rattle.linear_systems.specs.Rows.{Alike}
+use Rattle.game_core.specs.Limits.{most_rows}
 use Rattle.sequence_forms.specs.Sides.{Side}
 use Rattle.sequence_data.specs.Data.{SideData, side_of, IsSideData}
 use Rattle.zero_sum_lp.specs.Programs.{constraints, columns_of, program_of, IsProgramOf, price_one, price_two, raw_one, raw_two}
@@ -60,11 +61,12 @@ pub record IsOptimumOf (p o : Program) : Type 0 where
   pub second : o.second ≡ p.second
   pub path : EndsPath p.tableau o.tableau
 
--- the constraints' number, which is the objective row's, and that of columns; at most 512 together
+-- the constraints' number, which is the objective row's, and that of columns; together they are
+-- within the limit
 pub record HasShape (first second : SideData) (objective width : ℕ) : Type 0 where
   pub rows : objective ≡ constraints (side_of first) (side_of second)
   pub columns : width ≡ columns_of (side_of first) (side_of second)
-  pub few : objective + width ≤ 512
+  pub few : objective + width ≤ most_rows
 
 -- an optimum: that of some program
 pub record IsOptimum (o : Program) : Type 0 where

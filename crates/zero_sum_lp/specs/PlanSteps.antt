@@ -1,12 +1,11 @@
--- The steps in which plans are made of raw weights, and the first of them that does not fit.
-use Rattle.std.specs.Prelude.{ℕ, zero, suc, ◌+◌, All, List, [], ◌∷◌, ◌++◌}
+-- The steps in which plans are made of raw weights.
+use Rattle.std.specs.Prelude.{ℕ, zero, suc, ◌+◌, List, [], ◌∷◌, ◌++◌}
 use Rattle.std.specs.List.{flat_map, range_with_len}
 use Rattle.rational.specs.Rational.{ℚ, ◌-ℚ◌}
 use Rattle.rational.specs.Sum.{sum_to}
-use Rattle.frac128.specs.Steps.{unfit, Step, StepFits, IsFirstUnfit}
+use Rattle.frac128.specs.Steps.{unfit, Step}
 use Rattle.frac128.specs.declared.steps.Op.TheVariants.{Add, Sub}
 use Rattle.sequence_forms.specs.Sides.{Side, first}
-use Rattle.zero_sum_lp.specs.Plans.{IsRaised, IsCut}
 
 -- ---- a set
 -- the weights of n actions are subtracted from w one by one
@@ -30,26 +29,3 @@ abbrev pub cutting_steps : Side → (ℕ → ℚ) → List Step
 cutting_steps d z =
     flat_map (λ j. rest_steps (z (d.before j)) (λ a. z (first d j + a)) (d.count j))
     (range_with_len 0 d.sets)
-
--- ---- plans
--- z is x raised, and all steps fit
-pub record IsFittingRaise (d : Side) (x z : ℕ → ℚ) : Type 0 where
-  pub raised : IsRaised d x z
-  pub fits : All StepFits (raising_steps d x z)
-
--- the first step of raising x that does not fit
-pub record IsUnfitRaise (d : Side) (x : ℕ → ℚ) (e : Step) : Type 0 where
-  pub plan : ℕ → ℚ
-  pub raised : IsRaised d x plan
-  pub first_unfit : IsFirstUnfit (raising_steps d x plan) e
-
--- z is x cut, and all steps fit
-pub record IsFittingCut (d : Side) (x z : ℕ → ℚ) : Type 0 where
-  pub cut : IsCut d x z
-  pub fits : All StepFits (cutting_steps d z)
-
--- the first step of cutting x that does not fit
-pub record IsUnfitCut (d : Side) (x : ℕ → ℚ) (e : Step) : Type 0 where
-  pub plan : ℕ → ℚ
-  pub cut : IsCut d x plan
-  pub first_unfit : IsFirstUnfit (cutting_steps d plan) e

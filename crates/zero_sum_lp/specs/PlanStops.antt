@@ -1,35 +1,49 @@
--- The plans of an optimum, and why there are none.
-use Rattle.std.specs.Prelude.{◌≡◌, ◌⊎◌, List, length, Ok, Err}
-use Rattle.answers.specs.Answers.{Answer, IsSingle}
+-- The plans of an optimum in stages, and why there are none.
+use Rattle.std.specs.Prelude.{ℕ, ◌≡◌, List, length}
+use Rattle.answers.specs.Answers.{Answer, ◌>>=◌, ◌>>◌, only, such_that, IsSingle, refused_by}
 use Rattle.rational.specs.Rational.{ℚ}
-use Rattle.sequence_forms.specs.Sides.{sequences}
+use Rattle.frac128.specs.FirstUnfit.{all_steps_fit}
+use Rattle.frac128.specs.Steps.{Step}
+use Rattle.sequence_forms.specs.Sides.{Side, sequences}
 use Rattle.sequence_data.specs.Data.{IsSideData, side_of}
 use Rattle.sequence_data.specs.Weights.{weight_at}
 use Rattle.zero_sum_lp.specs.declared.stop.PlanStop.{PlanStop}
-use Rattle.zero_sum_lp.specs.declared.stop.PlanStop.TheVariants.{Range, Memory}
+use Rattle.zero_sum_lp.specs.declared.stop.PlanStop.TheVariants.{Range}
 use Rattle.zero_sum_lp.specs.Parts.{Program, first_raw, second_raw}
 use Rattle.zero_sum_lp.specs.PlanPairs.{PlanPair}
-use Rattle.zero_sum_lp.specs.PlanSteps.{IsFittingRaise, IsUnfitRaise, IsFittingCut, IsUnfitCut}
+use Rattle.zero_sum_lp.specs.Plans.{IsRaised, IsCut}
+use Rattle.zero_sum_lp.specs.PlanSteps.{raising_steps, cutting_steps}
 
--- the first player's plan: the raw weights, raised
-pub record IsFirstPlan (o : Program) (plan : List ℚ) : Type 0 where
-  pub count : length plan ≡ sequences (side_of o.first)
-  pub raised : IsFittingRaise (side_of o.first) (first_raw o) (weight_at plan)
+-- the plan with this property, all of whose steps fit; or the first step that does not
+abbrev pub plan_in : (List ℚ → Type 0) → (List ℚ → List Step) → Answer Step (List ℚ)
+plan_in is_plan steps = do
+  plan ← such_that is_plan
+  all_steps_fit (steps plan)
+  only plan
 
--- the second player's plan: the raw weights, cut
-pub record IsSecondPlan (o : Program) (plan : List ℚ) : Type 0 where
-  pub count : length plan ≡ sequences (side_of o.second)
-  pub cut : IsFittingCut (side_of o.second) (second_raw o) (weight_at plan)
+-- a weight for each sequence, made of raw weights by raising
+abbrev pub IsRaisedPlan : Side → (ℕ → ℚ) → List ℚ → Type 0
+IsRaisedPlan d raw plan = (length plan ≡ sequences d) × IsRaised d raw (weight_at plan)
 
--- The plans of an optimum; or the player, 0 or 1, with the first step that does not fit: of the
--- second player's plan where all steps of the first's fit.
+-- the raised plan, or the first step that does not fit
+abbrev pub raised_in : Side → (ℕ → ℚ) → Answer Step (List ℚ)
+raised_in d raw = plan_in (IsRaisedPlan d raw) (λ plan. raising_steps d raw (weight_at plan))
+
+-- a weight for each sequence, made of raw weights by cutting
+abbrev pub IsCutPlan : Side → (ℕ → ℚ) → List ℚ → Type 0
+IsCutPlan d raw plan = (length plan ≡ sequences d) × IsCut d raw (weight_at plan)
+
+-- the cut plan, or the first step that does not fit
+abbrev pub cut_in : Side → (ℕ → ℚ) → Answer Step (List ℚ)
+cut_in d raw = plan_in (IsCutPlan d raw) (λ plan. cutting_steps d (weight_at plan))
+
+-- The plans of an optimum, the first player's raised and the second's cut; or the player, 0 or 1,
+-- with the first step that does not fit.
 abbrev pub plans_of : Program → Answer PlanStop PlanPair
-plans_of o (Ok plans) = IsFirstPlan o plans.one × IsSecondPlan o plans.two
-plans_of o (Err (Range player unfit)) =
-    ((player ≡ 0) × IsUnfitRaise (side_of o.first) (first_raw o) unfit)
-    ⊎ ((player ≡ 1) × ((plan : List ℚ) × IsFirstPlan o plan)
-    × IsUnfitCut (side_of o.second) (second_raw o) unfit)
-plans_of o (Err Memory) = ⊥
+plans_of o = do
+  first ← refused_by (Range 0) (raised_in (side_of o.first) (first_raw o))
+  second ← refused_by (Range 1) (cut_in (side_of o.second) (second_raw o))
+  only (record { one = first; two = second })
 
 -- There is one pair of plans, or one first step that does not fit.
 abbrev pub PlansAreSingle : Type 0

@@ -4,7 +4,7 @@ use Rattle.rational.specs.Rational.{zero_ℚ, ◌≤ℚ◌, ◌<ℚ◌}
 use Rattle.linear_systems.specs.Tableau.{Tableau}
 use Rattle.linear_systems.specs.Rows.{IsLexicographicRow}
 use Rattle.zero_sum_lp.specs.Paths.{LinearProgram, IsLinearProgram, IsEntering, IsOptimal}
-use Rattle.frac128.specs.declared.steps.Unfit.{Unfit}
+use Rattle.lex_tableau.specs.declared.unfit_pivot.UnfitPivot.{UnfitPivot}
 use Rattle.lex_tableau.specs.Rows.{Numbers, tableau, IsPivotOf, IsTableau}
 use Rattle.lex_tableau.specs.Ratio.{variable_at}
 use Rattle.frac128.specs.Steps.{StepFits, IsFirstUnfit}
@@ -51,9 +51,8 @@ pub record EndsPath (first n : Numbers) : Type 0 where
   pub path : LeadsTo first count n
   pub optimal : IsOptimal n.rated (tableau n)
 
--- the first step of the path that does not fit: its number, the entering variable, and the first
--- step of its arithmetic that does not fit
-pub record IsUnfitPivot (first : Numbers) (number entering : ℕ) (unfit : Unfit) : Type 0 where
+-- the first pivot of the path that has a step that does not fit
+pub record IsUnfitPivot (first : Numbers) (stop : UnfitPivot) : Type 0 where
   pub count : ℕ
   pub before : Numbers
   pub path : LeadsTo first count before
@@ -61,9 +60,9 @@ pub record IsUnfitPivot (first : Numbers) (number entering : ℕ) (unfit : Unfit
   pub row : ℕ
   pub enters : IsEntering before.rated (tableau before) column
   pub leaves : IsLeavingRow before column row
-  pub variable : entering ≡ (tableau before).nonbasic column
-  pub is_number : number ≡ pivot_number (suc count)
-  pub first_unfit : IsFirstUnfit (steps_of_pivot before row column) unfit
+  pub variable : stop.entering ≡ (tableau before).nonbasic column
+  pub is_number : stop.number ≡ pivot_number (suc count)
+  pub first_unfit : IsFirstUnfit (steps_of_pivot before row column) stop.unfit
 
 -- where a walk along the path is: after pivots that were counted from `past` on, and before the pivot
 -- of this number

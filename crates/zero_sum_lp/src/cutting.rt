@@ -1,11 +1,13 @@
 // The second player's plan out of raw weights.
 ghost use Rattle.std.specs.Prelude.{All, ◌≡◌, ◌+◌, ◌<◌, ◌≤◌, ℕ, length, IfErr, OnOk};
+ghost use Rattle.answers.specs.Answers.{map_ok};
 ghost use Rattle.frac128.specs.Steps.{StepFits};
 ghost use Rattle.sequence_forms.specs.Sides.{sequences};
 ghost use Rattle.sequence_data.specs.Data.{IsSideData, side_of};
 ghost use Rattle.sequence_data.specs.Weights.{weight_at};
 ghost use Rattle.zero_sum_lp.specs.PlanLists.{AreShares, IsUnfitShare, weights_from};
-ghost use Rattle.zero_sum_lp.specs.PlanSteps.{IsFittingCut, IsUnfitCut, rest_steps};
+ghost use Rattle.zero_sum_lp.specs.PlanSteps.{rest_steps};
+ghost use Rattle.zero_sum_lp.specs.PlanStops.{cut_in};
 
 use crate::weights::{set_weight, weight_at};
 use frac128::{Frac, Unfit};
@@ -44,9 +46,8 @@ pub fn cut(weights: &mut [Frac], side: &Side) -> Result<(), Unfit>
     requires side { IsSideData side.now }
     requires shape { length weights.old ≡ sequences (side_of side.now) }
     ensures length { length weights.new ≡ length weights.old }
-    ensures cut { OnOk result
-        (IsFittingCut (side_of side.now) (weight_at weights.old) (weight_at weights.new)) }
-    ensures unfit { IfErr result (IsUnfitCut (side_of side.now) (weight_at weights.old)) }
+    ensures stage { cut_in (side_of side.now) (weight_at weights.old)
+        (map_ok result (λ _. weights.new)) }
 {
     set_weight(weights, 0, Frac::one());
     for j in 0..side.sets().len() {

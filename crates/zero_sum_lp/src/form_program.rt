@@ -1,6 +1,7 @@
 // The program of a sequence form.
 ghost use Rattle.std.specs.Prelude.{◌≡◌, ◌≤◌, map, IfOk};
 ghost use Rattle.answers.specs.Answers.{Gives};
+ghost use Rattle.game_core.specs.Limits.{most_rows};
 ghost use Rattle.zero_sum_lp.specs.declared.stop.LpStop.TheVariants as lp_stops;
 ghost use Rattle.zero_sum_lp.specs.FormPrograms.{IsSystemOf, gain_at, program_in, size_of, form_start_in};
 
@@ -10,13 +11,10 @@ use crate::stop::LpStop;
 use crate::sums::{sums, test_constant};
 use crate::system::system;
 use frac128::{Frac, Memory};
-use game_core::{TooLarge, What};
+use game_core::{MOST_ROWS, TooLarge, What};
 use lex_tableau::{StartStop, System};
 use sequence_data::{SeqForm, SetRow, Side, dense};
 use std::alloc::Global;
-
-// The most rows and columns together.
-const LIMIT: u64 = 512;
 
 // How many rows and columns the program has.
 fn size(form: &SeqForm) -> u64
@@ -40,7 +38,7 @@ fn copied(alloc: Global, side: &Side) -> Result<Side, Memory>
 
 // The system with the gains of the cells.
 fn system_of_form(alloc: Global, form: &SeqForm, gains: &[Frac]) -> Result<System, Memory>
-    requires few { size_of form.now ≤ 512 }
+    requires few { size_of form.now ≤ most_rows }
     requires gains { gains.now ≡ map (gain_at form.now.least_one) form.now.cells }
     ensures { IfOk result (IsSystemOf form.now) }
 {
@@ -52,7 +50,7 @@ fn system_of_form(alloc: Global, form: &SeqForm, gains: &[Frac]) -> Result<Syste
 
 // The program of a form with its system, and the room of its path.
 fn started(alloc: Global, form: &SeqForm, system: &System) -> Result<Lp, LpStop>
-    requires few { size_of form.now ≤ 512 }
+    requires few { size_of form.now ≤ most_rows }
     requires system { IsSystemOf form.now system.now }
     ensures { Gives lp_stops.Memory (form_start_in form.now) result }
 {
@@ -78,11 +76,11 @@ pub fn program(alloc: Global, form: &SeqForm) -> Result<Lp, LpStop>
     ensures { Gives lp_stops.Memory (program_in form.now) result }
 {
     let count = size(form);
-    if count > LIMIT {
+    if count > MOST_ROWS {
         return Err(LpStop::TooLarge(TooLarge {
             what: What::Rows,
             count,
-            limit: LIMIT,
+            limit: MOST_ROWS,
         }));
     }
     let sums = sums(alloc, form.leaves())?;

@@ -32,7 +32,7 @@ pub use laws::{
     ends_are_single, optimal_plans_prove_the_value, optimal_plans_solve_tables,
     optimal_plans_solve_trees, plans_are_single, programs_are_of_forms, programs_are_single,
 };
-pub use lp::{Lp, LpEnd};
+pub use lp::Lp;
 pub use optimum::{Optimum, Plans};
 pub use stop::{LpStop, NotConstant, PlanStop};
 

@@ -1,17 +1,17 @@
 // The program and its path.
 ghost use Rattle.sequence_data.specs.Data.{IsSideData, side_of};
-ghost use Rattle.std.specs.Prelude.{◌≡◌, ◌+◌, ◌≤◌, ◌^◌, IfOk, IfErr, OnOk};
-ghost use Rattle.lex_tableau.specs.Rows.{IsTableau};
-ghost use Rattle.lex_tableau.specs.Starts.{IsStartOf, StartFits};
-ghost use Rattle.lex_tableau.specs.StartStops.{IsStartStop};
+ghost use Rattle.std.specs.Prelude.{◌≡◌, ◌+◌, ◌≤◌, ◌^◌, IfOk};
+ghost use Rattle.answers.specs.Answers.{Gives, map_ok};
+ghost use Rattle.game_core.specs.Limits.{most_rows};
+ghost use Rattle.lex_tableau.specs.StartStops.{start_in};
+ghost use Rattle.lex_tableau.specs.declared.tableau.StartStop.TheVariants as start_stops;
 ghost use Rattle.zero_sum_lp.specs.Parts.{IsProgramSystem, program_size};
-ghost use Rattle.zero_sum_lp.specs.Ends.{IsEndOf};
+ghost use Rattle.zero_sum_lp.specs.Ends.{optimum_in};
 ghost use Rattle.zero_sum_lp.specs.Steps.{linear_program};
 
 use crate::optimum::Optimum;
 use crate::path::follow;
-use frac128::Unfit;
-use lex_tableau::{PivotCount, StartStop, System, Work};
+use lex_tableau::{PivotCount, StartStop, System, UnfitPivot, Work};
 use sequence_data::Side;
 use std::alloc::Global;
 use std::marker::Model;
@@ -40,19 +40,6 @@ impl Model for Lp {
         × HasShape l.first l.second l.objective l.width };
 }
 
-/// The end of the path: the optimum, or the first step that does not fit, with the number of its
-/// pivot, counted from 1, and the entering variable. The number 2^64 - 1 also stands for every later
-/// pivot.
-#[derive(Debug, Drop)]
-pub enum LpEnd {
-    Optimal(Optimum),
-    Range {
-        step: u64,
-        entering: u32,
-        unfit: Unfit,
-    },
-}
-
 impl Lp {
     /// The program of two players' sets with a system, and the room of its path.
     ///
@@ -67,14 +54,12 @@ impl Lp {
     ) -> Result<Lp, StartStop>
         requires first_side { IsSideData first }
         requires second_side { IsSideData second }
-        requires few { program_size (side_of first) (side_of second) ≤ 512 }
+        requires few { program_size (side_of first) (side_of second) ≤ most_rows }
         requires program { IsProgramSystem first second system.now }
         ensures first { IfOk result (λ lp. lp.first ≡ first) }
         ensures second { IfOk result (λ lp. lp.second ≡ second) }
-        ensures start { IfOk result (λ lp. IsStartOf system.now lp.tableau) }
-        ensures valid { IfOk result (λ lp. IsTableau lp.tableau) }
-        ensures fits { OnOk result (StartFits system.now) }
-        ensures unfit { IfErr result (IsStartStop system.now) }
+        ensures start { Gives start_stops.Memory (start_in system.now)
+            (map_ok result (λ lp. lp.tableau)) }
     {
         match Work::new(alloc, system) {
             Ok(work) => {
@@ -92,9 +77,13 @@ impl Lp {
         }
     }
 
-    /// Follows the path to its end. Takes no memory. There is always an optimum.
-    pub fn solve<L: Ledger>(self, pivots: &mut PivotCount<L>) -> LpEnd
-        ensures end { IsEndOf self result }
+    /// Follows the path to the optimum. Takes no memory. There is always an optimum.
+    ///
+    /// # Errors
+    ///
+    /// The first pivot of the path that has a step that does not fit.
+    pub fn solve<L: Ledger>(self, pivots: &mut PivotCount<L>) -> Result<Optimum, UnfitPivot>
+        ensures end { optimum_in self result }
         ensures cost { pivots.new ≤ pivots.old + 2 ^ (linear_program self.tableau).bound }
     {
         let Lp {
@@ -106,12 +95,8 @@ impl Lp {
         } = self;
         let mut work = work;
         match follow(&mut work, objective, width, pivots) {
-            Ok(()) => LpEnd::Optimal(Optimum::new(first, second, objective, width, work)),
-            Err(stop) => LpEnd::Range {
-                step: stop.step,
-                entering: stop.entering,
-                unfit: stop.unfit,
-            },
+            Ok(()) => Ok(Optimum::new(first, second, objective, width, work)),
+            Err(stop) => Err(stop),
         }
     }
 }

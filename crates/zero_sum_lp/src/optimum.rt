@@ -1,13 +1,12 @@
 // The optimum of a program.
 ghost use Rattle.sequence_data.specs.Data.{IsSideData, side_of};
-ghost use Rattle.std.specs.Prelude.{◌≡◌, ◌≢◌, ◌≤◌, ◌<◌, ◌+◌, length, IfOk, IfErr};
+ghost use Rattle.std.specs.Prelude.{◌≡◌, ◌≢◌, ◌≤◌, ◌<◌, ◌+◌, length, IfOk};
 ghost use Rattle.sequence_forms.specs.Sides.{sequences};
-ghost use Rattle.answers.specs.Answers.{Gives};
+ghost use Rattle.answers.specs.Answers.{Gives, map_ok};
 ghost use Rattle.zero_sum_lp.specs.declared.stop.PlanStop.TheVariants as plan_stops;
 ghost use Rattle.sequence_data.specs.Weights.{weight_at};
 ghost use Rattle.zero_sum_lp.specs.PlanLists.{AreWeights};
-ghost use Rattle.zero_sum_lp.specs.PlanSteps.{IsFittingCut, IsFittingRaise, IsUnfitCut, IsUnfitRaise};
-ghost use Rattle.zero_sum_lp.specs.PlanStops.{plans_of};
+ghost use Rattle.zero_sum_lp.specs.PlanStops.{cut_in, plans_of, raised_in};
 ghost use Rattle.linear_systems.specs.Rows.{coefficient, HasDistinctVariables};
 ghost use Rattle.lex_tableau.specs.Rows.{tableau};
 ghost use Rattle.zero_sum_lp.specs.Parts.{HasShape, IsOptimum, first_prices, first_raw, second_prices, second_raw};
@@ -81,10 +80,8 @@ impl Plans {
 fn raised(weights: Vec<Frac>, side: &Side) -> Result<Vec<Frac>, Unfit>
     requires side { IsSideData side.now }
     requires shape { length weights.items ≡ sequences (side_of side.now) }
-    ensures length { IfOk result (λ plan. length plan.items ≡ length weights.items) }
-    ensures raised { IfOk result (λ plan.
-        IsFittingRaise (side_of side.now) (weight_at weights.items) (weight_at plan.items)) }
-    ensures unfit { IfErr result (IsUnfitRaise (side_of side.now) (weight_at weights.items)) }
+    ensures { raised_in (side_of side.now) (weight_at weights.items)
+        (map_ok result (λ plan. plan.items)) }
 {
     let mut weights = weights;
     raise(weights.as_mut_slice(), side)?;
@@ -95,10 +92,8 @@ fn raised(weights: Vec<Frac>, side: &Side) -> Result<Vec<Frac>, Unfit>
 fn lessened(weights: Vec<Frac>, side: &Side) -> Result<Vec<Frac>, Unfit>
     requires side { IsSideData side.now }
     requires shape { length weights.items ≡ sequences (side_of side.now) }
-    ensures length { IfOk result (λ plan. length plan.items ≡ length weights.items) }
-    ensures cut { IfOk result (λ plan.
-        IsFittingCut (side_of side.now) (weight_at weights.items) (weight_at plan.items)) }
-    ensures unfit { IfErr result (IsUnfitCut (side_of side.now) (weight_at weights.items)) }
+    ensures { cut_in (side_of side.now) (weight_at weights.items)
+        (map_ok result (λ plan. plan.items)) }
 {
     let mut weights = weights;
     cut(weights.as_mut_slice(), side)?;

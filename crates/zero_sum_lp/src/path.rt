@@ -2,21 +2,10 @@
 ghost use Rattle.std.specs.Prelude.{◌≡◌, ◌+◌, ◌^◌, ◌<◌, ◌≤◌, suc, length, true, false, IfErr, OnOk};
 ghost use Rattle.rational.specs.Rational.{zero_ℚ, ◌≤ℚ◌, ◌<ℚ◌};
 ghost use Rattle.lex_tableau.specs.Rows.{tableau};
-ghost use Rattle.lex_tableau.specs.Pivots.{pivot_number};
 ghost use Rattle.zero_sum_lp.specs.Steps.{linear_program, IsProgramStart, EntersFirst, EndsPath, IsUnfitPivot};
 
-use frac128::Unfit;
-use lex_tableau::{PivotCount, Tableau, Work};
+use lex_tableau::{PivotCount, Tableau, UnfitPivot, Work};
 use std::sync::ledger::Ledger;
-
-/// The pivot of a path with the first step that does not fit: its number, counted from 1, the
-/// entering variable, and the step.
-#[derive(Debug, Drop)]
-pub struct UnfitPivot {
-    pub step: u64,
-    pub entering: u32,
-    pub unfit: Unfit,
-}
 
 // Whether the entry of a row in a column is below 0.
 fn is_negative(current: &Tableau, row: usize, col: usize) -> bool
@@ -66,22 +55,11 @@ fn entering(current: &Tableau, objective: usize, width: usize) -> Option<usize>
     best
 }
 
-// The number of the step after this one.
-fn next_number(number: u64) -> u64
-    ensures { result ≡ pivot_number (suc number) }
-{
-    if number == u64::MAX {
-        number
-    } else {
-        number + 1
-    }
-}
-
 /// Follows the path to its end.
 ///
 /// # Errors
 ///
-/// The first step that does not fit.
+/// The first pivot that has a step that does not fit.
 pub fn follow<L: Ledger>(
     work: &mut Work,
     objective: usize,
@@ -92,7 +70,7 @@ pub fn follow<L: Ledger>(
     requires objective_is { objective ≡ work.old.rated }
     requires width_is { width ≡ length work.old.nonbasics }
     ensures end { OnOk result (EndsPath work.old work.new) }
-    ensures unfit { IfErr result (λ e. IsUnfitPivot work.old e.step e.entering e.unfit) }
+    ensures unfit { IfErr result (IsUnfitPivot work.old) }
     ensures cost { pivots.new ≤ pivots.old + 2 ^ (linear_program work.old).bound }
 {
     let mut number: u64 = 1;
@@ -105,13 +83,13 @@ pub fn follow<L: Ledger>(
             Ok(()) => {}
             Err(unfit) => {
                 return Err(UnfitPivot {
-                    step: number,
+                    number,
                     entering: variable,
                     unfit,
                 });
             }
         }
-        number = next_number(number);
+        number = number.saturating_add(1);
     }
     Ok(())
 }

@@ -1,5 +1,6 @@
 // The first player's plan out of raw weights.
 ghost use Rattle.std.specs.Prelude.{All, ◌≡◌, ◌≢◌, ◌+◌, ◌<◌, ◌≤◌, ℕ, length, IfOk, IfErr, OnOk};
+ghost use Rattle.answers.specs.Answers.{map_ok};
 ghost use Rattle.rational.specs.Rational.{◌+ℚ◌, ◌-ℚ◌};
 ghost use Rattle.rational.specs.Sum.{sum_to};
 ghost use Rattle.frac128.specs.Steps.{StepFits, IsFirstUnfit};
@@ -7,7 +8,8 @@ ghost use Rattle.sequence_forms.specs.Sides.{sequences};
 ghost use Rattle.sequence_data.specs.Data.{IsSideData, side_of};
 ghost use Rattle.sequence_data.specs.Weights.{weight_at};
 ghost use Rattle.zero_sum_lp.specs.PlanLists.{weights_from};
-ghost use Rattle.zero_sum_lp.specs.PlanSteps.{IsFittingRaise, IsUnfitRaise, raise_steps, rest_steps};
+ghost use Rattle.zero_sum_lp.specs.PlanSteps.{raise_steps, rest_steps};
+ghost use Rattle.zero_sum_lp.specs.PlanStops.{raised_in};
 
 use crate::weights::{set_weight, weight_at};
 use frac128::{Frac, Unfit};
@@ -60,9 +62,8 @@ pub fn raise(weights: &mut [Frac], side: &Side) -> Result<(), Unfit>
     requires side { IsSideData side.now }
     requires shape { length weights.old ≡ sequences (side_of side.now) }
     ensures length { length weights.new ≡ length weights.old }
-    ensures raised { OnOk result
-        (IsFittingRaise (side_of side.now) (weight_at weights.old) (weight_at weights.new)) }
-    ensures unfit { IfErr result (IsUnfitRaise (side_of side.now) (weight_at weights.old)) }
+    ensures stage { raised_in (side_of side.now) (weight_at weights.old)
+        (map_ok result (λ _. weights.new)) }
 {
     set_weight(weights, 0, Frac::one());
     for j in 0..side.sets().len() {

@@ -1,5 +1,6 @@
 // The system of a form's program.
 ghost use Rattle.std.specs.Prelude.{◌≡◌, ◌+◌, ◌*◌, ◌<◌, ◌≤◌, ◌^◌, ℕ, suc, length, get_or, IfOk};
+ghost use Rattle.game_core.specs.Limits.{most_rows};
 ghost use Rattle.zero_sum_lp.specs.Programs.{columns_of, constraints, objective_cell, plan_cell};
 ghost use Rattle.sequence_data.specs.Data.{IsSideData, side_of};
 ghost use Rattle.sequence_forms.specs.Sides.{sequences};
@@ -106,7 +107,7 @@ pub fn system(alloc: Global, first: &Side, second: &Side, gains: &[Frac]) -> Res
     requires first_side { IsSideData first.now }
     requires second_side { IsSideData second.now }
     requires gains { length gains.now ≡ gain_count first.now second.now }
-    requires few { program_size (side_of first.now) (side_of second.now) ≤ 512 }
+    requires few { program_size (side_of first.now) (side_of second.now) ≤ most_rows }
     ensures { IfOk result (IsSystemFor first.now second.now (listed_gain second.now gains.now)) }
 {
     let rated = 1 + first.sets().len() + second.sequences() as usize;

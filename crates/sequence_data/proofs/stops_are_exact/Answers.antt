@@ -1,8 +1,5 @@
-use Rattle.sequence_data.proofs.OrderLemmas.{unfit-none, unfit-one}
+use Rattle.sequence_data.proofs.StepStageLemmas.{gathering_in-single}
 use Rattle.sequence_data.proofs.stops_are_exact.Goals as goal
 
-pub returns-clause-one : goal.returns-clause-one
-returns-clause-one c = unfit-one
-
-pub returns-clause-none : goal.returns-clause-none
-returns-clause-none c = unfit-none
+pub returns : goal.returns
+returns c = gathering_in-single

@@ -27,7 +27,7 @@ known_after-requires-clause-new g c = λ b k n.
 pub returns-in_err-known-clause-stop : goal.returns-in_err-known-clause-stop
 returns-in_err-known-clause-stop g c =
     let p = err_from_is_err_and c.from_residual.result c.from_residual.ensures.1 in
-    rw (p.1, p.2) (count_stop c.args.system.now c.args.number c.args.walk.now c.args.moves.now c.in_err-known.field-0.0 c.requires.walk c.requires.moves (subst (λ xs. IsCountStop (length xs + length c.args.moves.now) c.in_err-known.field-0.0) c.as_slice.ensures.value c.in_err-known.ensures.stop))
+    rw (p.1, p.2) (count_stop c.args.system.now c.args.number c.args.walk.now c.args.moves.now c.in_err-known.field-0.0 c.requires.walk c.requires.moves c.requires.some (subst (λ xs. IsCountStop (length xs + length c.args.moves.now) c.in_err-known.field-0.0) c.as_slice.ensures.value c.in_err-known.ensures.stop))
 
 pub returns-in_err-known-clause-bounded : goal.returns-in_err-known-clause-bounded
 returns-in_err-known-clause-bounded g c =
@@ -58,7 +58,7 @@ pub returns-in_err-level-clause-stop : goal.returns-in_err-level-clause-stop
 returns-in_err-level-clause-stop g c =
     let few = subst (λ xs. length xs + length c.args.moves.now ≤ 20000) c.as_slice.ensures.value c.in_ok-known.ensures.few in
     let p = err_from_is_err_and c.from_residual-in_err-level.result c.from_residual-in_err-level.ensures.1 in
-    rw (p.1, p.2) (move_stop c.args.system.now c.args.number c.args.walk.now c.args.moves.now c.in_err-level.field-0.0 c.requires.walk c.requires.moves few (subst (λ l. IsMoveStop l c.args.moves.now c.args.number c.in_err-level.field-0.0) c.as_slice-2.ensures.value c.in_err-level.ensures.stop))
+    rw (p.1, p.2) (move_stop c.args.system.now c.args.number c.args.walk.now c.args.moves.now c.in_err-level.field-0.0 c.requires.walk c.requires.moves c.requires.some few (subst (λ l. IsMoveStop l c.args.moves.now c.args.number c.in_err-level.field-0.0) c.as_slice-2.ensures.value c.in_err-level.ensures.stop))
 
 pub next_moves-requires : goal.next_moves-requires
 next_moves-requires g c =

@@ -5,4 +5,4 @@ pub returns-clause-few : goal.returns-clause-few
 returns-clause-few c = c.if-count-gt-MOST_BASES.false
 
 pub returns-then-count-gt-MOST_BASES-clause-stop : goal.returns-then-count-gt-MOST_BASES-clause-stop
-returns-then-count-gt-MOST_BASES-clause-stop c = (c.if-count-gt-MOST_BASES.true, refl)
+returns-then-count-gt-MOST_BASES-clause-stop c = (_, (c.if-count-gt-MOST_BASES.true, refl), refl)

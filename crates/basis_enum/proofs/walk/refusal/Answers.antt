@@ -1,6 +1,6 @@
-use Rattle.std.proofs.Common.{refl, sym, subst}
+use Rattle.std.proofs.Common.{inr, sym, subst}
 use Rattle.basis_enum.specs.Children.{IsChildStop}
-use Rattle.basis_enum.specs.Ends.{IsAscendingListOf}
+use Rattle.basis_enum.specs.Bases.{IsAscendingListOf}
 use Rattle.basis_enum.proofs.NextLevelLemmas.{unfit_move}
 use Rattle.basis_enum.proofs.walk.refusal.Goals as goal
 
@@ -9,4 +9,4 @@ returns-in-Ok c =
     let e = c.args.expansion.now in
     let stop = subst (IsChildStop e) c.in-Unfit.is c.requires.stop in
     let ascending = subst (IsAscendingListOf c.basics.result.now) (sym c.new.ensures) c.in-Ok.ensures in
-    (refl, unfit_move e c.in-Unfit.place c.in-Unfit.unfit _ c.basics.result.now c.new.result c.requires.expandable.moves_are c.requires.entering stop c.basics.ensures ascending)
+    inr (unfit_move e c.args.number c.in-Unfit.place c.in-Unfit.unfit _ c.basics.result.now c.new.result c.requires.expandable.moves_are c.requires.entering stop c.basics.ensures ascending)

@@ -11,13 +11,13 @@ pub basis-basis-requires : goal.basis-basis-requires
 basis-basis-requires g c = subst AreVariables (sym c.nonbasics.ensures.value) (system_variables c.args.system.now c.nonbasics.ensures.valid c.requires.enumerable)
 
 pub found_from-requires-clause-numbered : goal.found_from-requires-clause-numbered
-found_from-requires-clause-numbered g c = first_numbered c.args.system.now c.in_ok-tableau.tableau c.nonbasics.ensures.valid c.requires.enumerable c.in_ok-tableau.ensures.first
+found_from-requires-clause-numbered g c = first_numbered c.args.system.now c.in_ok-tableau.tableau c.nonbasics.ensures.valid c.requires.enumerable c.in_ok-tableau.ensures.first.2
 
 pub found_from-requires-clause-ready : goal.found_from-requires-clause-ready
-found_from-requires-clause-ready g c = first_ready c.args.system.now c.in_ok-tableau.tableau c.nonbasics.ensures.valid c.requires.enumerable c.in_ok-tableau.ensures.first
+found_from-requires-clause-ready g c = first_ready c.args.system.now c.in_ok-tableau.tableau c.nonbasics.ensures.valid c.requires.enumerable c.in_ok-tableau.ensures.first.2
 
 pub found_from-requires-clause-basis : goal.found_from-requires-clause-basis
-found_from-requires-clause-basis g c = c.basis-basis.ensures ∙ ap basis_of c.nonbasics.ensures.value ∙ first_basis c.args.system.now c.in_ok-tableau.tableau c.in_ok-tableau.ensures.first
+found_from-requires-clause-basis g c = c.basis-basis.ensures ∙ ap basis_of c.nonbasics.ensures.value ∙ first_basis c.args.system.now c.in_ok-tableau.tableau c.in_ok-tableau.ensures.first.2
 
 pub found_from-requires-clause-known : goal.found_from-requires-clause-known
 found_from-requires-clause-known g c =
@@ -27,7 +27,7 @@ pub next_moves-moves-requires : goal.next_moves-moves-requires
 next_moves-moves-requires g c =
     let s = c.args.system.now in
     let t = c.in_ok-tableau.tableau in
-    let ready = first_ready s t c.nonbasics.ensures.valid c.requires.enumerable c.in_ok-tableau.ensures.first in
+    let ready = first_ready s t c.nonbasics.ensures.valid c.requires.enumerable c.in_ok-tableau.ensures.first.2 in
     found_small (t ∷ []) c.as_slice.result.now c.in_ok-found.found.moves.items (first_all_ready t ready) (omega arith)
     (first_found t c.as_slice.result.now c.in_ok-found.found.moves.items c.in_ok-found.ensures.moves)
 
@@ -44,7 +44,7 @@ pub returns-clause-moves : goal.returns-clause-moves
 returns-clause-moves g c =
     let s = c.args.system.now in
     let t = c.in_ok-tableau.tableau in
-    let ready = first_ready s t c.nonbasics.ensures.valid c.requires.enumerable c.in_ok-tableau.ensures.first in
+    let ready = first_ready s t c.nonbasics.ensures.valid c.requires.enumerable c.in_ok-tableau.ensures.first.2 in
     subst₂ (λ level known. AreNewMoves level known c.next_moves-moves.result.items) (sym c.in_ok-level.ensures) c.as_slice.ensures.value
     (new_moves_are (t ∷ []) c.as_slice.result.now c.in_ok-found.found.moves.items c.next_moves-moves.result.items (first_all_ready t ready) (omega arith)
     (first_found t c.as_slice.result.now c.in_ok-found.found.moves.items c.in_ok-found.ensures.moves) c.next_moves-moves.ensures)

@@ -1,5 +1,6 @@
 use Rattle.std.proofs.Common.{refl}
 use Rattle.std.proofs.lemmas.Result.{err_from_is_err_and}
+use Rattle.sequence_form.proofs.FormLemmas.{tree_form-two}
 use Rattle.behaviour_profile.specs.Plans.{both_plans}
 use Rattle.behaviour_profile.proofs.PlanStopLemmas.{first_stop, second_stop, both_made}
 use Rattle.behaviour_profile.proofs.Behaviour.from_plans.Goals as goal
@@ -18,4 +19,4 @@ returns-in_err-push_plan-2 c =
 pub returns : goal.returns
 returns c =
     let plans = both_plans c.args.one.now c.args.two.now in
-    both_made c.args.tree.now c.args.one.now c.args.two.now c.new-entries.result.items c.push_plan.new.entries.items c.push_plan-2.new.entries.items c.requires.form.two_players c.new-entries.ensures.items (c.in_ok-push_plan.ensures.added plans refl) (c.in_ok-push_plan-2.ensures.added plans refl)
+    both_made c.args.tree.now c.args.one.now c.args.two.now c.new-entries.result.items c.push_plan.new.entries.items c.push_plan-2.new.entries.items (tree_form-two c.args.tree.now c.args.form.now c.requires.form) c.new-entries.ensures.items (c.in_ok-push_plan.ensures.added plans refl) (c.in_ok-push_plan-2.ensures.added plans refl)

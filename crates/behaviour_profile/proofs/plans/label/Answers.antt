@@ -1,8 +1,10 @@
-use Rattle.std.proofs.Common.{◌<◌, ◌≡◌, ◌∙◌, Some, List, sym, ap, length, slice_get, arith}
-use Rattle.std.proofs.lemmas.Option.{slice_get-get_or, get_or_from_slice_get}
+use Rattle.std.proofs.Common.{◌<◌, ◌≡◌, ◌∙◌, Some, List, sym, ap, length, get_or, map, slice_get, arith}
+use Rattle.std.proofs.lemmas.List.{get_or-map}
+use Rattle.std.proofs.lemmas.Option.{get_or_from_slice_get}
 use Rattle.game_theory.specs.OwnSets.{own_sets}
 use Rattle.game_core.specs.Tree.{InformationSet}
 use Rattle.game_core.specs.TreeGame.{game_of_tree}
+use Rattle.behaviour_profile.specs.Plans.{label_of}
 use Rattle.behaviour_profile.proofs.BehaviourEntryLemmas.{own_set-below, place-found}
 use Rattle.behaviour_profile.proofs.plans.label.Goals as goal
 
@@ -18,11 +20,10 @@ returns-in-Some c =
     let s = c.in-Some.set in
     let at : slice_get (own_sets t c.args.player) c.args.place ≡ Some s = sym (c.own_sets.ensures ∙ ap (λ v. slice_get v c.args.place) (c.own_sets_are_those_of_the_tree.ensures c.args.tree.now c.args.player)) ∙ c.in-Some.is in
     let below : s < length c.sets.result.now = omega (arith, own_set-below t c.args.player c.args.place s at, ap (λ (v : List InformationSet). length v) c.sets.ensures.sets) in
-    record {
-      set = c.index-sets-set.result;
-      stands_at = ap (slice_get c.args.tree.now.sets) (get_or_from_slice_get (own_sets t c.args.player) c.args.place s 0 at) ∙ ap (λ (v : List InformationSet). slice_get v s) (sym c.sets.ensures.sets) ∙ slice_get-get_or c.sets.result.now s c.index-sets-set.result below ∙ ap Some (sym c.index-sets-set.is);
-      label_is = c.label.ensures;
-    }
+    c.label.ensures ∙ ap (λ (set : InformationSet). set.label) c.index-sets-set.is
+    ∙ sym (get_or-map (λ (set : InformationSet). set.label) c.sets.result.now s c.index-sets-set.result 0 below)
+    ∙ ap (λ (v : List InformationSet). get_or (map (λ set. set.label) v) s 0) c.sets.ensures.sets
+    ∙ ap (label_of c.args.tree.now) (sym (get_or_from_slice_get (own_sets t c.args.player) c.args.place s 0 at))
 
 pub returns-in-None : goal.returns-in-None
 returns-in-None c =

@@ -1,6 +1,6 @@
 use Rattle.std.proofs.Common.{◌<◌, ◌≤◌, ◌≡◌, ◌+◌, ◌++◌, length, ap, ◌∙◌, arith}
 use Rattle.std.specs.List.{flat_map, range_with_len}
-use Rattle.game_core.specs.TextLimit.{most_text}
+use Rattle.game_core.specs.Limits.{most_text}
 use Rattle.convert_tables.specs.Layouts.{row_text, strategy_count}
 use Rattle.convert_tables.proofs.NumberedTextLemmas.{each-next, each-long}
 use Rattle.convert_tables.proofs.cells.push_rows.Goals as goal

@@ -1,7 +1,7 @@
 use Rattle.std.proofs.Common.{ℕ, List, rules, refl, ◌<◌, ◌≤◌, ◌≡◌, ◌+◌, ◌++◌, length, sym, ap, ◌∙◌, subst, arith}
 use Rattle.std.specs.List.{flat_map, range_with_len}
 use Rattle.std.specs.Result.{IsErrOf}
-use Rattle.game_core.specs.TextLimit.{most_text}
+use Rattle.game_core.specs.Limits.{most_text}
 use Rattle.convert_tables.specs.declared.stops.TextStop.TheVariants as text_stops
 use Rattle.game_theory.specs.Profiles.{IsProfile, profile_count, profile_at}
 use Rattle.game_theory.proofs.ProfileNumberLemmas.{IsProfile-profile_at}

@@ -12,6 +12,7 @@ use Rattle.label_pairing.specs.Pairs.{mark_at}
 use Rattle.label_pairing.specs.Scaling.{IsScalable, scale_steps}
 use Rattle.label_pairing.specs.Stops.{pairs_in}
 use Rattle.label_pairing.specs.declared.pairing.PairStop.TheVariants as pair_stops
+use Rattle.label_pairing.proofs.StopLemmas.{pairs_are}
 use Rattle.enummixed.specs.Pairs.{pairs_of}
 use Rattle.enummixed.specs.Told.{pairs_stop, scale_stop}
 use Rattle.enummixed.specs.Used.{all_labels, occurs, used_points, scaled_used, scaling_in}
@@ -69,12 +70,12 @@ scaled-requires-clause-places g c =
     let pairs = c.in_ok-pairs.pairs.items in
     let all : pairs_in (all_labels (variable_count one)) first.list second.list (Ok pairs) = pairs-as _ _ _ _ _ _ (Ok pairs) labels (ap marks_of c.deref.ensures.value) (ap marks_of c.deref-2.ensures.value) c.in_ok-pairs.ensures in
     let used : c.deref-5.result.now ≡ map (λ p. p.0) pairs = c.deref-5.ensures.value ∙ c.in_ok-first_used.ensures ∙ ap (map (λ p. p.0)) c.deref-3.ensures.value in
-    subst₂ (λ n ps. All (λ i. i < n) ps) (length-map c.in_ok-first.first.list.items mark_of ∙ ap length (sym c.deref-4.ensures.value)) (sym used) (first-places-in (all_labels (variable_count one)) first.list second.list pairs all.0)
+    subst₂ (λ n ps. All (λ i. i < n) ps) (length-map c.in_ok-first.first.list.items mark_of ∙ ap length (sym c.deref-4.ensures.value)) (sym used) (first-places-in (all_labels (variable_count one)) first.list second.list pairs (pairs_are (all_labels (variable_count one)) first.list second.list pairs all))
 
 pub scaled-requires-clause-scalable : goal.scaled-requires-clause-scalable
 scaled-requires-clause-scalable g c = λ i l.
     let e = c.deref-4.ensures.value in
-    subst (λ vs. IsScalable (mark_at (marks_of vs) i).point) (sym e) (scalable (variable_count c.in_ok-one.one) (system_of c.in_ok-one.one) (marks_of c.in_ok-first.first.list.items) (both-first c.in_ok-one.one c.in_ok-one.two (vertex_list c.in_ok-first.first) (vertex_list c.in_ok-first.second) c.in_ok-first.ensures.vertices).list i (omega (arith, l, ap length e, length-map c.in_ok-first.first.list.items mark_of)))
+    subst (λ vs. IsScalable (mark_at (marks_of vs) i).point) (sym e) (scalable (variable_count c.in_ok-one.one) (system_of c.in_ok-one.one) (marks_of c.in_ok-first.first.list.items) (both-first c.in_ok-one.one c.in_ok-one.two (vertex_list c.in_ok-first.first) (vertex_list c.in_ok-first.second) c.in_ok-first.ensures.vertices).2.list i (omega (arith, l, ap length e, length-map c.in_ok-first.first.list.items mark_of)))
 
 pub returns-in_err-firsts-clause-answer : goal.returns-in_err-firsts-clause-answer
 returns-in_err-firsts-clause-answer g c =
@@ -101,12 +102,12 @@ scaled-requires-2-clause-places g c =
     let pairs = c.in_ok-pairs.pairs.items in
     let all : pairs_in (all_labels (variable_count one)) first.list second.list (Ok pairs) = pairs-as _ _ _ _ _ _ (Ok pairs) labels (ap marks_of c.deref.ensures.value) (ap marks_of c.deref-2.ensures.value) c.in_ok-pairs.ensures in
     let used' : c.deref-8.result.now ≡ map (λ p. p.1) pairs = c.deref-8.ensures.value ∙ c.in_ok-second_used.ensures ∙ ap (map (λ p. p.1)) c.deref-6.ensures.value in
-    subst₂ (λ n ps. All (λ i. i < n) ps) (length-map c.in_ok-first.second.list.items mark_of ∙ ap length (sym c.deref-7.ensures.value)) (sym used') (second-places-in (all_labels (variable_count one)) first.list second.list pairs all.0)
+    subst₂ (λ n ps. All (λ i. i < n) ps) (length-map c.in_ok-first.second.list.items mark_of ∙ ap length (sym c.deref-7.ensures.value)) (sym used') (second-places-in (all_labels (variable_count one)) first.list second.list pairs (pairs_are (all_labels (variable_count one)) first.list second.list pairs all))
 
 pub scaled-requires-2-clause-scalable : goal.scaled-requires-2-clause-scalable
 scaled-requires-2-clause-scalable g c = λ i l.
     let e = c.deref-7.ensures.value in
-    subst (λ vs. IsScalable (mark_at (marks_of vs) i).point) (sym e) (scalable (variable_count c.in_ok-one.two) (system_of c.in_ok-one.two) (marks_of c.in_ok-first.second.list.items) (both-second c.in_ok-one.one c.in_ok-one.two (vertex_list c.in_ok-first.first) (vertex_list c.in_ok-first.second) c.in_ok-first.ensures.vertices).list i (omega (arith, l, ap length e, length-map c.in_ok-first.second.list.items mark_of)))
+    subst (λ vs. IsScalable (mark_at (marks_of vs) i).point) (sym e) (scalable (variable_count c.in_ok-one.two) (system_of c.in_ok-one.two) (marks_of c.in_ok-first.second.list.items) (both-second c.in_ok-one.one c.in_ok-one.two (vertex_list c.in_ok-first.first) (vertex_list c.in_ok-first.second) c.in_ok-first.ensures.vertices).2.list i (omega (arith, l, ap length e, length-map c.in_ok-first.second.list.items mark_of)))
 
 pub returns-in_err-seconds-clause-answer : goal.returns-in_err-seconds-clause-answer
 returns-in_err-seconds-clause-answer g c =

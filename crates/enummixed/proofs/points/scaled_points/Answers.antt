@@ -7,6 +7,7 @@ use Rattle.extreme_equilibria.specs.PairLines.{scaled_point}
 use Rattle.frac128.specs.FirstUnfit.{StepsFit}
 use Rattle.label_pairing.specs.Pairs.{mark_at}
 use Rattle.label_pairing.specs.Scaling.{IsScalable, scale_steps}
+use Rattle.label_pairing.proofs.StopLemmas.{scaled_fits, scaled_is}
 use Rattle.enummixed.specs.Used.{is_set}
 use Rattle.enummixed.proofs.UsedPointLemmas.{point-read, fit-next, fit-same, scaled-next, stop_here}
 use Rattle.enummixed.proofs.points.scaled_points.Goals as goal
@@ -32,8 +33,8 @@ loop-i-preserved c =
           let push : c.if-used-i.points.items ≡ xs ++ w.in-Ok.point ∷ [] = ap (λ v. v.items) w.points-is ∙ w.in_ok-push-in-Ok.ensures.items in
           let read = point-read vs n w.index-vertices-i.result c.loop-i-test.true w.index-vertices-i.is in
           record {
-            fit = fit-next point used n w.if-used-i.true c.loop-i.invariant.fit (subst (StepsFit scale_steps) read w.in-Ok.ensures.1);
-            scaled = scaled-next point used n (map (λ v. v.items) xs) (map (λ v. v.items) c.if-used-i.points.items) w.in-Ok.point.items true w.if-used-i.true c.loop-i.invariant.scaled (ap (map (λ v. v.items)) push ∙ map_push (λ v. v.items) xs w.in-Ok.point) (w.in-Ok.ensures.0 ∙ ap scaled_point read);
+            fit = fit-next point used n w.if-used-i.true c.loop-i.invariant.fit (subst (StepsFit scale_steps) read (scaled_fits w.index-vertices-i.result.point.items w.in-Ok.point.items w.in-Ok.ensures));
+            scaled = scaled-next point used n (map (λ v. v.items) xs) (map (λ v. v.items) c.if-used-i.points.items) w.in-Ok.point.items true w.if-used-i.true c.loop-i.invariant.scaled (ap (map (λ v. v.items)) push ∙ map_push (λ v. v.items) xs w.in-Ok.point) (scaled_is w.index-vertices-i.result.point.items w.in-Ok.point.items w.in-Ok.ensures ∙ ap scaled_point read);
           }
       | else-used-i+in_ok-push w ↦
           let push : c.if-used-i.points.items ≡ xs ++ w.new.result ∷ [] = ap (λ v. v.items) w.points-is ∙ w.in_ok-push.ensures.items in

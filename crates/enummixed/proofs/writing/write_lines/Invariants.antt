@@ -1,6 +1,6 @@
 use Rattle.std.proofs.Common.{◌≡◌, ◌≤◌, length, map, take}
 use Rattle.game_theory.specs.Lines.{lines_text}
-use Rattle.game_core.specs.TextLimit.{most_text}
+use Rattle.game_core.specs.Limits.{most_text}
 use Rattle.enummixed.specs.Order.{line_of}
 use Rattle.enummixed.proofs.writing.write_lines.Given as goal
 

@@ -1,12 +1,14 @@
 use Rattle.std.proofs.Common.{◌*◌, ◌≡◌, inr, length, map, refl, sym, ap, ap₂, ◌∙◌, subst, arith, rules}
 use Rattle.std.proofs.Math.ListN.{replicate}
 use Rattle.std.specs.List.{count_by}
-use Rattle.game_core.specs.TextLimit.{most_text}
+use Rattle.game_core.specs.Limits.{most_text}
 use Rattle.game_theory.specs.Profiles.{IsProfile}
 use Rattle.game_theory.specs.Lines.{lines_text}
 use Rattle.game_core.specs.Table.{game_of}
 use Rattle.game_core.specs.TreeGame.{game_of_tree}
 use Rattle.enumpure.specs.Replies.{plays_best, AreMutualBestReplies}
+use Rattle.enumpure.proofs.OneTextLaws.{text-kept, text-refused}
+use Rattle.enumpure_trees.specs.TreeEquilibria.{IsTreeEquilibriaText}
 use Rattle.enumpure_trees.specs.Orders.{AreOrders}
 use Rattle.enumpure_trees.specs.Ranks.{lines_below}
 use Rattle.enumpure_trees.proofs.FormSizeLemmas.{IsProfile-first}
@@ -42,7 +44,8 @@ returns-then-count-each c =
     let long = length-listed tree form orders best_replies c.in_ok-each.each listed (c.in_ok-each.ensures {u = tt}).each in
     let above = above_limit most_text c.in_ok-each.each c.count-count.result (c.in_ok-each.ensures {u = tt}).some c.if-count-each.true in
     let same = ap (λ n. n * c.in_ok-each.each) (counted ∙ ap (count_by (λ b. b)) c.deref-2.ensures.value) in
-    inr ((lines_text (lines_below (game_of_tree tree) form.choices orders (plays_best best_replies) (length best_replies)), IsTreeEquilibriaText-listed tree form orders best_replies _ listed refl, omega (arith, long, above, same)), c.too_long_text.ensures)
+    let text = lines_text (lines_below (game_of_tree tree) form.choices orders (plays_best best_replies) (length best_replies)) in
+    inr (text-refused (IsTreeEquilibriaText (game_of_tree tree) form.choices) text _ (IsTreeEquilibriaText-listed tree form orders best_replies _ listed refl) (omega (arith, long, above, same)) c.too_long_text.ensures)
 
 pub returns : goal.returns
 returns c =
@@ -56,4 +59,4 @@ returns c =
     let long = length-listed tree form orders best_replies c.in_ok-each.each listed (c.in_ok-each.ensures {u = tt}).each in
     let below = below_limit most_text c.in_ok-each.each c.count-count.result (c.in_ok-each.ensures {u = tt}).some c.if-count-each.false in
     let same = ap (λ n. n * c.in_ok-each.each) (counted ∙ ap (count_by (λ b. b)) c.deref-2.ensures.value) in
-    (IsTreeEquilibriaText-listed tree form orders best_replies c.in_ok-text.field-0.items listed text, omega (arith, ap length text, long, below, same))
+    text-kept (IsTreeEquilibriaText (game_of_tree tree) form.choices) c.in_ok-text.field-0.items (IsTreeEquilibriaText-listed tree form orders best_replies c.in_ok-text.field-0.items listed text) (omega (arith, ap length text, long, below, same))

@@ -3,6 +3,7 @@ use Rattle.game_core.specs.MadeTables.{made_game}
 use Rattle.game_core.specs.declared.game.Game.{Game}
 use Rattle.game_core.specs.declared.game.Game.TheVariants.{Strategic, Extensive}
 use Rattle.refusals.specs.declared.refusal.Refusal.{Refusal}
+use Rattle.enumpure.proofs.OneTextLaws.{text-is}
 use Rattle.gambit_tools.specs.Enumpure.{IsPureText, enumpure}
 use Rattle.gambit_tools.specs.Make.{counts_text}
 use Rattle.gambit_tools.proofs.ReadGameLemmas.{game_in-valid}
@@ -13,10 +14,10 @@ text_same : (a b : List ℕ) → ◌≡◌ {A = Result (List ℕ) Refusal} (Ok a
 text_same a b e = cc
 
 pure_said : (strategic : Bool) (game : Game) (text : List ℕ) → enumpure strategic game (Ok text) → IsPureText strategic game text
-pure_said true (Strategic table) text h = h.0
-pure_said false (Strategic table) text h = h.0
-pure_said true (Extensive tree) text h = (h.0, h.1, h.2.0)
-pure_said false (Extensive tree) text h = (h.0, h.1, h.2.0)
+pure_said true (Strategic table) text h = (h.0, h.1, text-is _ text h.2)
+pure_said false (Strategic table) text h = (h.0, h.1, text-is _ text h.2)
+pure_said true (Extensive tree) text h = (h.0, h.1, text-is _ text h.2)
+pure_said false (Extensive tree) text h = (h.0, h.1, text-is _ text h.2)
 
 pub returns : goal.returns
 returns c = record {

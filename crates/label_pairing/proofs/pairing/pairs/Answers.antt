@@ -1,11 +1,13 @@
-use Rattle.std.proofs.Common.{◌≡◌, ◌≤◌, ◌<◌, ◌^◌, ◌∙◌, inr, length, map, get_or, sym, ap, ap₂, subst, arith}
+use Rattle.std.proofs.Common.{◌≡◌, ◌<◌, ◌^◌, ◌∙◌, inl, inr, Ok, refl, length, map, get_or, sym, ap, ap₂, subst, arith}
 use Rattle.std.specs.Prelude.{sum}
 use Rattle.std.proofs.lemmas.List.{length-map}
 use Rattle.basis_enum.specs.Vertices.{marks_of}
 use Rattle.basis_enum.specs.declared.vertex.Vertex.{Vertex}
 use Rattle.label_pairing.specs.Matches.{partner_count}
 use Rattle.label_pairing.specs.Pairs.{all_pairs, most_pairs}
-use Rattle.label_pairing.specs.Stops.{pair_limit}
+use Rattle.game_core.specs.Limits.{too_large}
+use Rattle.game_core.specs.declared.too_large.What.TheVariants as what
+use Rattle.label_pairing.specs.declared.pairing.PairStop.TheVariants as stops
 use Rattle.label_pairing.proofs.PartnerLemmas.{partners_fit, pairs-counted}
 use Rattle.label_pairing.proofs.RowLemmas.{words_of}
 use Rattle.label_pairing.proofs.pairing.pairs.Goals as goal
@@ -24,11 +26,11 @@ pub returns-then-count-gt-MOST_PAIRS : goal.returns-then-count-gt-MOST_PAIRS
 returns-then-count-gt-MOST_PAIRS g c =
     let marks = marks_of c.args.second.now in
     let so_many : c.pair_count-count.result ≡ length (all_pairs c.args.all (marks_of c.args.first.now) marks) = c.pair_count-count.ensures ∙ ap sum (c.deref-3.ensures.value ∙ c.in_ok-counts.ensures) ∙ pairs-counted c.args.all c.deref.result.now c.deref-2.result.now marks (words_of c.args.second.now c.deref.result.now c.deref-2.result.now (c.deref.ensures.value ∙ c.in_ok-low.ensures) (c.deref-2.ensures.value ∙ c.in_ok-high.ensures)) c.args.first.now in
-    inr (subst (λ n. most_pairs < n) so_many c.if-count-gt-MOST_PAIRS.true, ap pair_limit so_many)
+    inr (inl (too_large what.Pairs most_pairs (length (all_pairs c.args.all (marks_of c.args.first.now) marks)), (subst (λ n. most_pairs < n) so_many c.if-count-gt-MOST_PAIRS.true, refl), ap (λ n. stops.TooLarge (too_large what.Pairs most_pairs n)) so_many))
 
 pub returns : goal.returns
 returns g c =
     let marks = marks_of c.args.second.now in
     let so_many : c.pair_count-count.result ≡ length (all_pairs c.args.all (marks_of c.args.first.now) marks) = c.pair_count-count.ensures ∙ ap sum (c.deref-3.ensures.value ∙ c.in_ok-counts.ensures) ∙ pairs-counted c.args.all c.deref.result.now c.deref-2.result.now marks (words_of c.args.second.now c.deref.result.now c.deref-2.result.now (c.deref.ensures.value ∙ c.in_ok-low.ensures) (c.deref-2.ensures.value ∙ c.in_ok-high.ensures)) c.args.first.now in
     let are_all : c.in_ok-collected.field-0.items ≡ all_pairs c.args.all (marks_of c.args.first.now) marks = c.in_ok-collected.ensures marks (words_of c.args.second.now c.deref-4.result.now c.deref-5.result.now (c.deref-4.ensures.value ∙ c.in_ok-low.ensures) (c.deref-5.ensures.value ∙ c.in_ok-high.ensures)) in
-    (are_all, subst (λ n. n ≤ most_pairs) (so_many ∙ ap length (sym are_all)) c.if-count-gt-MOST_PAIRS.false)
+    (tt, (λ more. omega (arith, so_many, c.if-count-gt-MOST_PAIRS.false)), ap Ok are_all)

@@ -1,4 +1,4 @@
-use Rattle.std.proofs.Common.{◌∙◌, ◌≡◌, [], inr, length, sym, ap, ap₂, subst₂, arith}
+use Rattle.std.proofs.Common.{◌∙◌, ◌≡◌, [], inl, inr, Ok, refl, length, sym, ap, ap₂, subst₂, arith}
 use Rattle.std.proofs.lemmas.List.{get_or_default}
 use Rattle.std.proofs.lemmas.List.Elements.{All-append}
 use Rattle.rational.specs.Rational.{◌*ℚ◌, inv_ℚ, zero_ℚ}
@@ -22,10 +22,10 @@ pub returns-in-Err-div : goal.returns-in-Err-div
 returns-in-Err-div c =
     let p = c.args.point.now in
     let read : c.index-point-i.result ≡ entry_of p c.loop-i.i = c.index-point-i.is ∙ get_or_default p c.loop-i.i c.index-point-i.result zero_ℚ c.loop-i-test.true in
-    inr (first_unfit-following (sum_steps p) _ c.in-Err-div.unfit c.in-Ok.ensures.1 (unfit-first (division p) (length p) c.loop-i.i c.loop-i-test.true c.in-Err-div.unfit c.loop-i.invariant.fits (λ f. c.in-Err-div.ensures.unfit (subst₂ DivFits (sym read) (sym c.in-Ok.ensures.0) f)) (c.in-Err-div.ensures.step ∙ ap₂ (λ x y. unfit Div x y) read c.in-Ok.ensures.0)))
+    inr (inl (c.in-Err-div.unfit, first_unfit-following (sum_steps p) _ c.in-Err-div.unfit c.in-Ok.ensures.1 (unfit-first (division p) (length p) c.loop-i.i c.loop-i-test.true c.in-Err-div.unfit c.loop-i.invariant.fits (λ f. c.in-Err-div.ensures.unfit (subst₂ DivFits (sym read) (sym c.in-Ok.ensures.0) f)) (c.in-Err-div.ensures.step ∙ ap₂ (λ x y. unfit Div x y) read c.in-Ok.ensures.0)), refl))
 
 pub returns-in-Err : goal.returns-in-Err
-returns-in-Err c = inr (first_unfit-more (sum_steps c.args.point.now) _ c.in-Err.unfit c.in-Err.ensures)
+returns-in-Err c = inr (inl (c.in-Err.unfit, first_unfit-more (sum_steps c.args.point.now) _ c.in-Err.unfit c.in-Err.ensures, refl))
 
 pub loop-i-preserved : goal.loop-i-preserved
 loop-i-preserved c =
@@ -40,4 +40,4 @@ pub returns : goal.returns
 returns c =
     let p = c.args.point.now in
     let end : c.loop-i.i ≡ length p = omega arith in
-    (c.loop-i.invariant.value ∙ ap (λ n. listed n (scaled (length p) (entry_of p))) end, All-append StepFits (sum_steps p) _ c.in-Ok.ensures.1 (fits-all (division p) (length p) c.loop-i.i c.loop-i-test.false c.loop-i.invariant.fits))
+    (tt, All-append StepFits (sum_steps p) _ c.in-Ok.ensures.1 (fits-all (division p) (length p) c.loop-i.i c.loop-i-test.false c.loop-i.invariant.fits), ap Ok (c.loop-i.invariant.value ∙ ap (λ n. listed n (scaled (length p) (entry_of p))) end))

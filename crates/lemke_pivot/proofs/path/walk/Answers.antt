@@ -1,4 +1,4 @@
-use Rattle.std.proofs.Common.{◌≢◌, ◌+◌, ◌<◌, suc, sym, ap, ◌∙◌, subst, length, true≢false, arith}
+use Rattle.std.proofs.Common.{◌≢◌, ◌+◌, ◌<◌, add-one, suc, sym, ap, ◌∙◌, subst, length, true≢false, arith}
 use Rattle.rational.specs.Rational.{zero_ℚ}
 use Rattle.rational.proofs.InverseLemmas.{ne_zero_of_pos}
 use Rattle.linear_systems.specs.Rows.{basic_solution}
@@ -63,7 +63,7 @@ returns-in-Err-pivot-clause-unfit g c =
     let ne : basic_solution (tableau l.work) (z0_of c.args.size) ≢ zero_ℚ = λ e. true≢false (sym (c.is_zero.ensures.1 (v ∙ e)) ∙ c.if-is_zero.false) in
     walk_stops c.args.size c.args.first c.args.work.now c.requires.start l.work l.entering c.args.pivots.now l.pivots l.step o ne c.column_of-col.result c.in-Some.row c.column_of-col.ensures.within (sym (ap (λ (m : Numbers). (tableau m).nonbasic c.column_of-col.result) c.now-in-loop-size.ensures.value) ∙ c.column_of-col.ensures.is)
     (walk_best c.args.size c.args.first c.args.work.now c.requires.start l.work l.entering c.args.pivots.now l.pivots l.step o ne c.now-in-loop-size-2.result.now c.column_of-col.result c.in-Some.row c.ratio_row.result c.now-in-loop-size-2.ensures.value c.in-Some.is c.ratio_row.ensures.best)
-    (subst IsTableau c.now.ensures.value c.value.ensures.valid) c.next_step-step.result c.in-Err-pivot.unfit (c.next_step-step.ensures ∙ ap (λ k. pivot_number (suc k)) o.number ∙ pivot_number_next (suc (length o.earlier))) c.in-Err-pivot.ensures.unfit
+    (subst IsTableau c.now.ensures.value c.value.ensures.valid) c.saturating_add-step.result c.in-Err-pivot.unfit (c.saturating_add-step.ensures ∙ ap pivot_number (add-one l.step) ∙ ap (λ k. pivot_number (suc k)) o.number ∙ pivot_number_next (suc (length o.earlier))) c.in-Err-pivot.ensures.unfit
 
 pub complement_of-entering-requires-clause-positive : goal.complement_of-entering-requires-clause-positive
 complement_of-entering-requires-clause-positive g c =
@@ -85,12 +85,12 @@ loop-size-preserved g c =
       few = l.invariant.few;
       z0 = l.invariant.z0;
       path = walk_next c.args.size c.args.first c.args.work.now c.requires.start l.work l.entering c.args.pivots.now l.pivots l.step o ne c.column_of-col.result c.in-Some.row c.column_of-col.ensures.within (sym (ap (λ (m : Numbers). (tableau m).nonbasic c.column_of-col.result) c.now-in-loop-size.ensures.value) ∙ c.column_of-col.ensures.is) L (subst IsTableau c.now.ensures.value c.value.ensures.valid)
-          c.pivot-in-loop-size.new.self c.complement_of-entering.result c.pivot-in-loop-size.new.pivots c.next_step-step.result c.in_default-pivot.ensures.pivot c.in_default-pivot.ensures.fits (c.complement_of-entering.ensures ∙ ap (complement c.args.size) left) c.pivot-in-loop-size.ensures.counted (c.next_step-step.ensures ∙ ap (λ k. pivot_number (suc k)) o.number ∙ pivot_number_next (suc (length o.earlier)));
+          c.pivot-in-loop-size.new.self c.complement_of-entering.result c.pivot-in-loop-size.new.pivots c.saturating_add-step.result c.in_default-pivot.ensures.pivot c.in_default-pivot.ensures.fits (c.complement_of-entering.ensures ∙ ap (complement c.args.size) left) c.pivot-in-loop-size.ensures.counted (c.saturating_add-step.ensures ∙ ap pivot_number (add-one l.step) ∙ ap (λ k. pivot_number (suc k)) o.number ∙ pivot_number_next (suc (length o.earlier)));
     }
 
 pub loop-size-smaller : goal.loop-size-smaller
 loop-size-smaller g c =
     let l = c.loop-size in let o = l.invariant.path in
-    let b = walk_bound c.args.size c.args.first c.args.work.now c.requires.start c.pivot-in-loop-size.new.self c.complement_of-entering.result c.args.pivots.now c.pivot-in-loop-size.new.pivots c.next_step-step.result (loop-size-preserved g c).path in
+    let b = walk_bound c.args.size c.args.first c.args.work.now c.requires.start c.pivot-in-loop-size.new.self c.complement_of-entering.result c.args.pivots.now c.pivot-in-loop-size.new.pivots c.saturating_add-step.result (loop-size-preserved g c).path in
     let e = c.pivot-in-loop-size.ensures.counted in
     omega (arith, b, e)

@@ -8,7 +8,7 @@ use Rattle.frac128.specs.Steps.{StepFits, IsFirstUnfit}
 use Rattle.behaviour_profile.specs.EntryTests.{mixed_of}
 use Rattle.ne_checker.specs.TableChecks.{steps_at, value_below}
 use Rattle.ne_checker.proofs.TableBlockLemmas.{profile-fits, profile-value, sum-unfit, weight-unfit}
-use Rattle.ne_checker.proofs.TableRunLemmas.{fits-next, unfit-next}
+use Rattle.frac128.proofs.StepPartLemmas.{part-fits, part-unfit}
 use Rattle.ne_checker.proofs.tables.add_profiles.Goals as goal
 
 pub overflow_add-profile-end : goal.overflow_add-profile-end
@@ -30,7 +30,7 @@ returns-in_err-weight c =
     let f = steps_at g m c.args.player c.args.strategy in
     let at : c.args.first + (k - c.args.first) ≡ k = omega (arith, c.loop-profile.auto.profile) in
     let p = err_from_is_err_and c.from_residual.result c.from_residual.ensures.1 in
-    rw (p.1, p.2) (unfit-next f c.args.first (k - c.args.first) c.args.count c.in_err-weight.field-0.0 (omega (arith, c.loop-profile-test.true, c.loop-profile.auto.profile)) c.loop-profile.invariant.fit
+    rw (p.1, p.2) (part-unfit f c.args.first (k - c.args.first) c.args.count c.in_err-weight.field-0.0 (omega (arith, c.loop-profile-test.true, c.loop-profile.auto.profile)) c.loop-profile.invariant.fit
     (subst (λ j. IsFirstUnfit (f j) c.in_err-weight.field-0.0) (sym at) (weight-unfit g m c.args.player c.args.strategy k c.in_err-weight.field-0.0 (c.requires.played k (omega (arith, c.loop-profile.auto.profile)) (omega (arith, c.loop-profile-test.true))) c.in_err-weight.ensures)))
 
 pub returns-in_err-value : goal.returns-in_err-value
@@ -41,7 +41,7 @@ returns-in_err-value c =
     let f = steps_at g m c.args.player c.args.strategy in
     let at : c.args.first + (k - c.args.first) ≡ k = omega (arith, c.loop-profile.auto.profile) in
     let p = err_from_is_err_and c.from_residual-in_err-value.result c.from_residual-in_err-value.ensures.1 in
-    rw (p.1, p.2) (unfit-next f c.args.first (k - c.args.first) c.args.count c.in_err-value.field-0.0 (omega (arith, c.loop-profile-test.true, c.loop-profile.auto.profile)) c.loop-profile.invariant.fit
+    rw (p.1, p.2) (part-unfit f c.args.first (k - c.args.first) c.args.count c.in_err-value.field-0.0 (omega (arith, c.loop-profile-test.true, c.loop-profile.auto.profile)) c.loop-profile.invariant.fit
     (subst (λ j. IsFirstUnfit (f j) c.in_err-value.field-0.0) (sym at)
     (sum-unfit g m c.args.player c.args.strategy k c.in_ok-weight.weight c.payoff_at.result c.loop-profile.value c.in_err-value.field-0.0 (c.requires.played k (omega (arith, c.loop-profile.auto.profile)) (omega (arith, c.loop-profile-test.true)))
     c.in_ok-weight.ensures.0 c.payoff_at.ensures c.loop-profile.invariant.value c.in_ok-weight.ensures.1 c.in_err-value.ensures)))
@@ -59,7 +59,7 @@ loop-profile-preserved c =
       value = profile-value g m c.args.player c.args.strategy k c.in_ok-weight.weight c.payoff_at.result c.loop-profile.value c.in_ok-value.value played c.in_ok-weight.ensures.0 c.payoff_at.ensures c.loop-profile.invariant.value c.in_ok-value.ensures.0
           ∙ ap (value_below g m c.args.player c.args.strategy) (sym (add-one k));
       fit = subst (λ n. All StepFits (flat_map f (range_with_len c.args.first n))) more
-          (fits-next f c.args.first (k - c.args.first) c.loop-profile.invariant.fit
+          (part-fits f c.args.first (k - c.args.first) c.loop-profile.invariant.fit
           (subst (λ j. All StepFits (f j)) (sym at)
           (profile-fits g m c.args.player c.args.strategy k c.in_ok-weight.weight c.payoff_at.result c.loop-profile.value played c.in_ok-weight.ensures.0 c.payoff_at.ensures c.loop-profile.invariant.value c.in_ok-weight.ensures.1 c.in_ok-value.ensures.1)));
     }

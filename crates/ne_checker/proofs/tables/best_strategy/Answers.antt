@@ -12,7 +12,7 @@ use Rattle.best_replies.proofs.FirstGreatestLemmas.{first_greatest-kept, first_g
 use Rattle.behaviour_profile.specs.EntryTests.{mixed_of}
 use Rattle.ne_checker.specs.TableChecks.{strategy_steps}
 use Rattle.ne_checker.proofs.TablePartLemmas.{entries-within, some_strategy, strategies-few}
-use Rattle.ne_checker.proofs.TableRunLemmas.{fits-next, steps_of, unfit-next}
+use Rattle.frac128.proofs.StepPartLemmas.{part-fits, steps_of, part-unfit}
 use Rattle.ne_checker.proofs.tables.best_strategy.Goals as goal
 use Rattle.ne_checker.proofs.tables.best_strategy.Goals.{After-strategy_count-count, then-is_less, else-is_less}
 
@@ -33,7 +33,7 @@ returns-in_err-best-clause-unfit c =
     let g = game_of c.args.table.now in
     let m = mixed_of (strategy_counts c.args.table.now) c.args.mixed.now in
     let p = err_from_is_err_and c.from_residual.result c.from_residual.ensures.1 in
-    rw (p.1, p.2) (unfit-next (strategy_steps g m c.args.player) 0 0 (get_or (strategy_counts c.args.table.now) c.args.player 0) c.in_err-best.field-0.0
+    rw (p.1, p.2) (part-unfit (strategy_steps g m c.args.player) 0 0 (get_or (strategy_counts c.args.table.now) c.args.player 0) c.in_err-best.field-0.0
     (some_strategy c.args.table.now c.strategy_count-count.ensures.valid c.args.player c.requires.player) (All-nil StepFits) c.in_err-best.ensures)
 
 pub loop-strategy-init : goal.loop-strategy-init
@@ -47,7 +47,7 @@ loop-strategy-init c =
         first = λ k l. absurd (omega (arith, l));
       };
       value = c.in_ok-best.ensures.0;
-      fit = fits-next (strategy_steps g m c.args.player) 0 0 (All-nil StepFits) c.in_ok-best.ensures.1;
+      fit = part-fits (strategy_steps g m c.args.player) 0 0 (All-nil StepFits) c.in_ok-best.ensures.1;
     }
 
 pub returns-in_err-value-clause-unfit : goal.returns-in_err-value-clause-unfit
@@ -56,7 +56,7 @@ returns-in_err-value-clause-unfit c =
     let m = mixed_of (strategy_counts c.args.table.now) c.args.mixed.now in
     let at : 0 + c.loop-strategy.strategy ≡ c.loop-strategy.strategy = omega arith in
     let p = err_from_is_err_and c.from_residual-in_err-value.result c.from_residual-in_err-value.ensures.1 in
-    rw (p.1, p.2) (unfit-next (strategy_steps g m c.args.player) 0 c.loop-strategy.strategy (get_or (strategy_counts c.args.table.now) c.args.player 0) c.in_err-value.field-0.0
+    rw (p.1, p.2) (part-unfit (strategy_steps g m c.args.player) 0 c.loop-strategy.strategy (get_or (strategy_counts c.args.table.now) c.args.player 0) c.in_err-value.field-0.0
     (omega (arith, c.loop-strategy-test.true, c.strategy_count-count.ensures.count)) c.loop-strategy.invariant.fit
     (subst (λ j. IsFirstUnfit (strategy_steps g m c.args.player j) c.in_err-value.field-0.0) (sym at) c.in_err-value.ensures))
 
@@ -89,7 +89,7 @@ loop-strategy-preserved c =
         | else-is_less w ↦ w.best-is ∙ was ∙ ap v (sym w.reply-is)
       ];
       fit = subst (λ n. All StepFits (steps_of (strategy_steps g m c.args.player) 0 n)) (sym (add-one k))
-          (fits-next (strategy_steps g m c.args.player) 0 k c.loop-strategy.invariant.fit (subst (λ j. All StepFits (strategy_steps g m c.args.player j)) (sym at) c.in_ok-value.ensures.1));
+          (part-fits (strategy_steps g m c.args.player) 0 k c.loop-strategy.invariant.fit (subst (λ j. All StepFits (strategy_steps g m c.args.player j)) (sym at) c.in_ok-value.ensures.1));
     }
 
 end : (c : After-strategy_count-count) → (k : ℕ) → (1 ≤ c.strategy_count-count.result → k ≤ c.strategy_count-count.result) → c.strategy_count-count.result ≤ k → k ≡ get_or (strategy_counts c.args.table.now) c.args.player 0

@@ -4,7 +4,7 @@ use Rattle.rational.specs.Rational.{ℚ, one_ℚ}
 use Rattle.frac128.specs.declared.steps.Unfit.{Unfit}
 use Rattle.game_theory.specs.Profiles.{profile_at}
 use Rattle.game_core.specs.Table.{strategy_counts}
-use Rattle.pure_payoffs.specs.Plays.{Give}
+use Rattle.frac128.specs.Steps.{StepsGive}
 use Rattle.best_replies.specs.Strategies.{weight}
 use Rattle.behaviour_profile.specs.EntryTests.{mixed_of}
 use Rattle.ne_checker.specs.TableChecks.{others_probabilities, product_steps}
@@ -19,5 +19,5 @@ invariant-loop-other l =
     let strategies = profile_at counts l.profile in
     record {
       first : l.first ≡ sum (take l.other counts);
-      left : (r : Result ℚ Unfit) → GiveFrom m l.player l.other (profile_at (drop l.other counts) l.rest) l.product r → Give (product_steps one_ℚ (others_probabilities m l.player strategies)) (weight m l.player strategies) r;
+      left : (r : Result ℚ Unfit) → GiveFrom m l.player l.other (profile_at (drop l.other counts) l.rest) l.product r → StepsGive (product_steps one_ℚ (others_probabilities m l.player strategies)) (weight m l.player strategies) r;
     }

@@ -11,7 +11,7 @@ use Rattle.best_replies.proofs.StrategyLemmas.{payoff-strategies}
 use Rattle.behaviour_profile.specs.EntryTests.{mixed_of}
 use Rattle.ne_checker.specs.TableChecks.{payoff_below, strategy_steps, weighed_steps}
 use Rattle.ne_checker.proofs.TablePartLemmas.{entries-within, player-within}
-use Rattle.ne_checker.proofs.TableRunLemmas.{fits-at, fits-next, steps_of, unfit-next}
+use Rattle.frac128.proofs.StepPartLemmas.{fits-at, part-fits, steps_of, part-unfit}
 use Rattle.ne_checker.proofs.tables.payoff.Goals as goal
 use Rattle.ne_checker.proofs.tables.payoff.Goals.{In-loop-strategy, In_ok-value}
 
@@ -49,7 +49,7 @@ returns-in_err-payoff c =
     let a = (goal.at.returns-in_err-payoff c).In_ok-value in
     let within = place (goal.at.returns-in_err-payoff c).In-loop-strategy in
     let p = err_from_is_err_and c.from_residual-in_err-payoff.result c.from_residual-in_err-payoff.ensures.1 in
-    rw (p.1, p.2) (unfit-next (steps a) 0 c.loop-strategy.strategy (get_or (strategy_counts c.args.table.now) c.args.player 0) c.in_err-payoff.field-0.0
+    rw (p.1, p.2) (part-unfit (steps a) 0 c.loop-strategy.strategy (get_or (strategy_counts c.args.table.now) c.args.player 0) c.in_err-payoff.field-0.0
     (omega (arith, c.loop-strategy-test.true, c.strategy_count-strategy-end.ensures.count)) c.loop-strategy.invariant.fit
     (subst (λ ss. IsFirstUnfit ss c.in_err-payoff.field-0.0) (step_is a within) c.in_err-payoff.ensures))
 
@@ -62,7 +62,7 @@ loop-strategy-preserved c =
     record {
       payoff = c.in_ok-payoff.ensures.0 ∙ (λ j. c.loop-strategy.invariant.payoff j +ℚ (entry a within j *ℚ c.in_ok-value.ensures.0 j)) ∙ ap (payoff_below g m c.args.player) (sym (add-one c.loop-strategy.strategy));
       fit = subst (λ n. All StepFits (steps_of (steps a) 0 n)) (sym (add-one c.loop-strategy.strategy))
-          (fits-next (steps a) 0 c.loop-strategy.strategy c.loop-strategy.invariant.fit (subst (All StepFits) (step_is a within) c.in_ok-payoff.ensures.1));
+          (part-fits (steps a) 0 c.loop-strategy.strategy c.loop-strategy.invariant.fit (subst (All StepFits) (step_is a within) c.in_ok-payoff.ensures.1));
     }
 
 pub returns : goal.returns

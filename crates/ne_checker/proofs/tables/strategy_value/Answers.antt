@@ -11,7 +11,7 @@ use Rattle.frac128.specs.Steps.{IsFirstUnfit, StepFits}
 use Rattle.ne_checker.specs.TableChecks.{steps_at, value_below}
 use Rattle.ne_checker.proofs.TableBlockLemmas.{IsReached, start, at_first, block-within, block-played, next, block-unfit, done}
 use Rattle.ne_checker.proofs.TablePartLemmas.{player-within, profiles-are}
-use Rattle.ne_checker.proofs.TableRunLemmas.{steps_of}
+use Rattle.frac128.proofs.StepPartLemmas.{steps_of}
 use Rattle.ne_checker.proofs.tables.strategy_value.Goals as goal
 use Rattle.ne_checker.proofs.tables.strategy_value.Goals.{After-zero-value, In-loop-first}
 

@@ -1,7 +1,7 @@
 use Rattle.std.proofs.Common.{arith}
 use Rattle.std.proofs.lemmas.Result.{err_from_is_err_and}
 use Rattle.ne_checker.specs.TreeBoards.{game_of}
-use Rattle.ne_checker.proofs.TreePartLemmas.{first-refused, second-refused, third-gives}
+use Rattle.frac128.proofs.StepPartLemmas.{first-refused, second-refused, third-gives}
 use Rattle.ne_checker.proofs.TreeReplyLemmas.{decided-none}
 use Rattle.ne_checker.proofs.trees_player.best_payoff.Goals as goal
 

@@ -1,4 +1,4 @@
-use Rattle.std.proofs.Common.{inr, ◌≡◌, ◌*◌, ◌<◌, ◌≤◌, Ok, List, length, refl, arith}
+use Rattle.std.proofs.Common.{inr, ◌≡◌, ◌*◌, ◌<◌, ◌≤◌, Ok, List, length, arith}
 use Rattle.game_core.specs.Table.{most_payoffs}
 use Rattle.game_core.specs.declared.token.Token.{Token}
 use Rattle.file_parts.specs.Reading.{kinds}
@@ -29,7 +29,7 @@ returns-in_default c =
     let players : c.len-players.result ≡ length v.items = omega (arith, c.len-players.ensures, v.ok.0) in
     let read : parse_front tokens ≡ Ok front = rw c.list.ensures.list at c.in-Ok.ensures in
     let long : most_payoffs < c.len-players.result * profiles (front_of c.in-Ok.read.0) = rw c.in_default.is at c.in_ok-profiles.ensures in
-    inr (too_many_next tokens front (front_value tokens front read) (rw players at long), refl)
+    inr (too_many_next tokens front (front_value tokens front read) (rw players at long), c.first_above.ensures)
 
 pub table-requires : goal.table-requires
 table-requires c =

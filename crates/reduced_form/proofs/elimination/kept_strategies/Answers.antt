@@ -1,10 +1,11 @@
-use Rattle.std.proofs.Common.{ℕ, suc, ◌<◌, ◌≡◌, ◌⊎◌, List, [], ◌∷◌, length, get_or, sym, ap, subst, subst₂, arith}
+use Rattle.std.proofs.Common.{ℕ, suc, ◌<◌, ◌≡◌, ◌⊎◌, List, [], ◌∷◌, length, get_or, sym, ◌∙◌, subst, subst₂, arith}
 use Rattle.std.specs.Prelude.{Contains}
 use Rattle.lists.proofs.NumberLemmas.{below_two}
 use Rattle.game_core.specs.Table.{game_of}
+use Rattle.game_core.proofs.TableCountLemmas.{length-strategy_counts}
 use Rattle.extreme_equilibria.specs.Elimination.{IsDominated, AreKept}
 use Rattle.extreme_equilibria.proofs.KeptListLemmas.{last-lists, next-round}
-use Rattle.reduced_form.proofs.EliminationLemmas.{Round, within-all, none-dominated}
+use Rattle.reduced_form.proofs.EliminationLemmas.{Round, few_of_two, within-all, none-dominated}
 use Rattle.reduced_form.proofs.elimination.kept_strategies.Goals as goal
 use Rattle.reduced_form.proofs.elimination.kept_strategies.Goals.{In_ok-next_second}
 
@@ -23,6 +24,12 @@ undominated_among-requires-in-loop-second-clause-own c =
 pub undominated_among-requires-in-loop-second-clause-others : goal.undominated_among-requires-in-loop-second-clause-others
 undominated_among-requires-in-loop-second-clause-others c =
     within-all c.args.table.now c.loop-second.invariant.0 0 c.loop-second.first.items c.deref-in-loop-second-3.result.now c.loop-second.invariant.1 c.deref-in-loop-second-3.ensures.value
+
+pub all_strategies-requires-clause-few : goal.all_strategies-requires-clause-few
+all_strategies-requires-clause-few c = omega (arith, few_of_two c.args.table.now c.requires.valid c.requires.two c.requires.few)
+
+pub all_strategies-requires-2-clause-few : goal.all_strategies-requires-2-clause-few
+all_strategies-requires-2-clause-few c = omega (arith, few_of_two c.args.table.now c.requires.valid c.requires.two c.requires.few)
 
 -- the first player's round
 first-round : (c : In_ok-next_second) → Round (game_of c.args.table.now) 0 c.loop-second.first.items c.loop-second.second.items c.in_ok-next_first.next_first.items
@@ -48,7 +55,7 @@ returns-then-len-2 c =
     let stays_second = none-dominated (IsDominated g 1 (Contains second) (Contains first)) second next_second (second-round d) (subst (λ own. (next_second ≡ own) ⊎ (length next_second < length own)) c.deref-in-loop-second-2.ensures.value (c.in_ok-next_second.ensures {u = tt}).all_or_fewer) two in
     let kept = last-lists g c.loop-second.invariant.0 first second c.loop-second.invariant.1 c.loop-second.invariant.2 stays_first stays_second in
     record {
-      one_for_each = sym (ap length c.requires.few.strategies);
+      one_for_each = sym (length-strategy_counts c.args.table.now c.requires.valid ∙ c.requires.two);
       are_kept = λ i l. below_two (λ i. AreKept g i (get_or (first ∷ second ∷ []) i [])) kept.0 kept.1 i l;
     }
 

@@ -1,4 +1,5 @@
 use Rattle.std.proofs.Common.{ℕ, ◌*◌, ◌≡◌, ◌≤◌, Ok, List, length, map, refl, ap, ◌∙◌, subst}
+use Rattle.std.proofs.lemmas.Result.{err_from_is_err_and}
 use Rattle.game_theory.specs.Profiles.{profile_count}
 use Rattle.game_core.specs.Table.{GameTable}
 use Rattle.game_core.specs.TreeGame.{game_of_tree}
@@ -9,7 +10,7 @@ use Rattle.reduced_form.specs.Limits.{most_choices}
 use Rattle.reduced_form.specs.ReducedForm.{IsReducedForm}
 use Rattle.reduced_form.specs.Stops.{within_limits}
 use Rattle.reduced_form.proofs.FormCountLemmas.{counted-same}
-use Rattle.reduced_form.proofs.FormAnswerLemmas.{cells_stop, few_payoffs, form-within}
+use Rattle.reduced_form.proofs.FormAnswerLemmas.{cells_stop, counts_stop, few_payoffs, form-within}
 use Rattle.reduced_form.proofs.FormLaws.{form-is_form, form-pays_completions, form_table, form_table-is_table}
 use Rattle.reduced_form.proofs.form.reduce.Goals as goal
 use Rattle.reduced_form.proofs.form.reduce.Goals.{In_ok-choices, In-Ok}
@@ -38,6 +39,11 @@ long c same = (c.in-Ok.ensures {u = tt}).so_many ∙ ap (λ ns. length c.args.tr
 -- the payoffs are those of the cells
 paid : (c : In-Ok) → AreCells (game_of_tree c.args.tree.now) c.in_ok-choices.choices c.in-Ok.payoffs.items
 paid c = (c.in-Ok.ensures {u = tt}).cells
+
+pub returns-in_err-counts-clause-answer : goal.returns-in_err-counts-clause-answer
+returns-in_err-counts-clause-answer c =
+    let p = err_from_is_err_and c.from_residual-in_err-counts.result c.from_residual-in_err-counts.ensures.1 in
+    rw (p.1, p.2) (counts_stop c.args.tree.now c.in_err-counts.field-0.0 (rw c.in_ok-decisions.ensures at c.in_err-counts.ensures.stop))
 
 pub cells-requires-clause-counts : goal.cells-requires-clause-counts
 cells-requires-clause-counts c =

@@ -7,7 +7,7 @@ use Rattle.reduced_form.specs.Kept.{IsKeptForm}
 use Rattle.game_core.proofs.TableCountLemmas.{strategy_count-names}
 use Rattle.reduced_form.proofs.OneFormLaws.{tables-same}
 use Rattle.reduced_form.proofs.EliminationLemmas.{kept-all}
-use Rattle.reduced_form.proofs.KeptFormLemmas.{made_table, made-is_table, made-is_form, names-two, few-kept, two-of_players}
+use Rattle.reduced_form.proofs.KeptFormLemmas.{made_table, made-is_table, made-is_form, names-two, few-kept}
 use Rattle.reduced_form.proofs.kept.kept_form.Goals as goal
 use Rattle.reduced_form.proofs.kept.kept_form.Goals.{In_ok-push-2}
 
@@ -29,7 +29,7 @@ payoffs_at-requires-clause-second c =
 
 pub payoffs_at-requires-clause-few : goal.payoffs_at-requires-clause-few
 payoffs_at-requires-clause-few c =
-    omega (arith, few-kept c.args.table.now c.requires.valid c.requires.few c.args.first.items c.args.second.items c.requires.kept, ap length c.deref-3.ensures.value, ap length c.deref-4.ensures.value)
+    omega (arith, few-kept c.args.table.now c.requires.valid c.requires.two c.requires.few c.args.first.items c.args.second.items c.requires.kept, ap length c.deref-3.ensures.value, ap length c.deref-4.ensures.value)
 
 -- there are two payoffs for each profile
 long : (c : In_ok-push-2) → length c.in_ok-payoffs.payoffs.items ≡ length c.args.first.items * length c.args.second.items * 2
@@ -45,12 +45,12 @@ parts c =
     let one = (c.in_ok-first_names.ensures {u = tt}) ∙ ap₂ (λ names places. map (λ p. get_or names p []) places) (sym (get_or_from_slice_get t.strategies 0 c.strategies.result.now [] c.strategies.ensures.strategies)) c.deref.ensures.value in
     let two = (c.in_ok-second_names.ensures {u = tt}) ∙ ap₂ (λ names places. map (λ p. get_or names p []) places) (sym (get_or_from_slice_get t.strategies 1 c.strategies-2.result.now [] c.strategies-2.ensures.strategies)) c.deref-2.ensures.value in
     let items = (c.in_ok-push-2.ensures {u = tt}).items ∙ ap (λ xs. xs ++ c.in_ok-second_names.second_names ∷ []) ((c.in_ok-push.ensures {u = tt}).items ∙ ap (λ xs. xs ++ c.in_ok-first_names.first_names ∷ []) (c.in_ok-strategies.ensures {u = tt}).items) in
-    let lists = ap (map (λ v. v.items)) items ∙ ap₂ (λ x y. x ∷ y ∷ []) one two ∙ sym (names-two t.strategies first second (c.requires.valid.strategies_of_each ∙ two-of_players t c.requires.valid c.requires.few first second c.requires.kept)) in
+    let lists = ap (map (λ v. v.items)) items ∙ ap₂ (λ x y. x ∷ y ∷ []) one two ∙ sym (names-two t.strategies first second (c.requires.valid.strategies_of_each ∙ c.requires.two)) in
     tables-same _ _ ((c.in_ok-title.ensures {u = tt}) ∙ c.title.ensures.title) ((c.in_ok-players.ensures {u = tt}) ∙ c.players.ensures.players) lists refl
 
 pub new-table-requires : goal.new-table-requires
 new-table-requires c =
-    subst IsTable (sym (parts c)) (made-is_table c.args.table.now c.requires.valid c.requires.few c.args.first.items c.args.second.items c.requires.kept c.in_ok-payoffs.payoffs.items (long c))
+    subst IsTable (sym (parts c)) (made-is_table c.args.table.now c.requires.valid c.requires.two c.requires.few c.args.first.items c.args.second.items c.requires.kept c.in_ok-payoffs.payoffs.items (long c))
 
 pub returns : goal.returns
 returns c =
@@ -60,4 +60,4 @@ returns c =
     let second : List ℕ = c.args.second.items in
     let payoffs = c.in_ok-payoffs.payoffs.items in
     let cells = subst₂ (λ xs ys. (i k : ℕ) → i < 2 → k < length xs * length ys → get_or payoffs (k * 2 + i) zero_ℚ ≡ (kept_table (game_of t) (xs ∷ ys ∷ [])).pays i k) c.deref-3.ensures.value c.deref-4.ensures.value (c.in_ok-payoffs.ensures {u = tt}).cells in
-    subst (λ (x : GameTable). IsKeptForm t (record { first = first; second = second; table = x })) (sym (c.new-table.ensures ∙ parts d)) (made-is_form t c.requires.valid c.requires.few first second c.requires.kept payoffs (long d) cells)
+    subst (λ (x : GameTable). IsKeptForm t (record { first = first; second = second; table = x })) (sym (c.new-table.ensures ∙ parts d)) (made-is_form t c.requires.valid c.requires.two c.requires.few first second c.requires.kept payoffs (long d) cells)

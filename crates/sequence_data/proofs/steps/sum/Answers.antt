@@ -1,11 +1,8 @@
-use Rattle.std.proofs.Common.{sym, subst, [], ◌∷◌}
+use Rattle.std.proofs.Common.{[], refl}
 use Rattle.frac128.specs.Steps.{unfit}
 use Rattle.frac128.specs.declared.steps.Op.TheVariants.{Add}
-use Rattle.sequence_data.specs.Steps.{IsFirstUnfitPlaced, at_place}
-use Rattle.sequence_data.proofs.PlacedStepLemmas.{here-first}
+use Rattle.frac128.proofs.StepRunLemmas.{first_unfit-same}
 use Rattle.sequence_data.proofs.steps.sum.Goals as goal
 
-pub returns-in-Err-clause-stop : goal.returns-in-Err-clause-stop
-returns-in-Err-clause-stop c =
-    let here = here-first c.args.place (unfit Add c.args.left c.args.right) [] c.in-Err.ensures.unfit in
-    subst (IsFirstUnfitPlaced (at_place c.args.place (unfit Add c.args.left c.args.right) ∷ []) c.args.place) (sym c.in-Err.ensures.step) here
+pub returns-in-Err-clause-steps : goal.returns-in-Err-clause-steps
+returns-in-Err-clause-steps c = (c.in-Err.unfit, first_unfit-same (unfit Add c.args.left c.args.right) [] c.in-Err.unfit c.in-Err.ensures.unfit c.in-Err.ensures.step, refl)

@@ -1,8 +1,10 @@
-use Rattle.std.proofs.Common.{◌≡◌, ◌∙◌, ap, ap₂, sym}
+use Rattle.std.proofs.Common.{◌≡◌, ◌∙◌, ap, ap₂, sym, subst}
+use Rattle.answers.specs.Answers.{map_ok}
 use Rattle.rational.specs.Rational.{◌*ℚ◌}
 use Rattle.game_core.specs.TreeGame.{game_of_tree}
 use Rattle.sequence_forms.specs.Forms.{chance_of_path}
-use Rattle.sequence_form.proofs.PathStepLemmas.{branch-below, parent-chooses, parent-set}
+use Rattle.sequence_data.specs.Steps.{fit_at}
+use Rattle.sequence_form.proofs.PathStepLemmas.{branch-below, chance-is, parent-chooses, parent-set}
 use Rattle.sequence_form.proofs.paths.chance.Goals as goal
 use Rattle.lists.proofs.OptionLemmas.{if_ok-then}
 
@@ -27,3 +29,10 @@ returns-in-None-clause-value c =
     let whole = (c.paths_add_up.ensures g c.stands_for_game_tree.ensures.game).after_chance c.args.node c.in-Some.set c.requires.later c.requires.node at (sym c.owner.ensures ∙ c.in-None.is) in
     let prob = c.probability-prob.ensures ∙ ap (g.chance c.in-Some.set) c.branch-tree.ensures in
     if_ok-then c.product.result (λ v. v ≡ c.args.above *ℚ c.probability-prob.result) (λ v. v ≡ chance_of_path g c.args.node) c.product.ensures.value (λ v is. is ∙ ap₂ (λ x y. x *ℚ y) c.requires.above prob ∙ sym whole)
+
+pub returns-in-None-clause-steps : goal.returns-in-None-clause-steps
+returns-in-None-clause-steps c =
+    let g = game_of_tree c.args.tree.now in
+    let at = parent-set g c.args.node c.parent.result c.stands_for_game_tree.ensures.game c.requires.later c.requires.node c.parent.ensures c.set.result c.in-Some.set c.set.ensures c.in-Some.is in
+    let prob = c.probability-prob.ensures ∙ ap (g.chance c.in-Some.set) c.branch-tree.ensures in
+    subst (λ steps. fit_at c.args.node steps (map_ok c.product.result (λ _. tt))) (chance-is g c.args.node c.in-Some.set _ _ at (sym c.owner.ensures ∙ c.in-None.is) c.requires.above prob) c.product.ensures.steps

@@ -63,4 +63,4 @@ returns c =
     let two = ap length (sym c.players-players.ensures.players) ∙ c.if-players-ne2.false in
     let first = c.in_ok-first.ensures ∙ ap start_side c.strategy_count.ensures.count in
     let second = c.in_ok-second.ensures ∙ ap start_side c.strategy_count-2.ensures.count in
-    table-gives t c.in_ok-first.first c.in_ok-second.second c.in_ok-leaves.leaves.items c.of_leaves.result two first second c.in_ok-leaves.ensures c.of_leaves.ensures.form c.of_leaves.ensures.fits c.of_leaves.ensures.stop
+    table-gives t c.in_ok-first.first c.in_ok-second.second c.in_ok-leaves.leaves.items c.of_leaves.result two first second c.in_ok-leaves.ensures c.of_leaves.ensures

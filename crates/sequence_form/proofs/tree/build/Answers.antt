@@ -1,11 +1,12 @@
 use Rattle.std.proofs.Common.{◌<◌, ◌∙◌, All, List, ap, sym, subst, length, arith}
+use Rattle.std.proofs.lemmas.Result.{err_from_is_err_and}
 use Rattle.game_core.specs.TreeGame.{game_of_tree}
 use Rattle.sequence_forms.specs.Sequences.{side_of}
 use Rattle.sequence_forms.specs.Sides.{sequences}
 use Rattle.sequence_forms.proofs.SetOrderLemmas.{trees_ordered}
 use Rattle.sequence_data.specs.Data.{IsSideData, LeafFits}
 use Rattle.sequence_data.specs.declared.types.Leaf.{Leaf}
-use Rattle.sequence_form.proofs.BuiltFormLemmas.{tree-gives}
+use Rattle.sequence_form.proofs.BuiltFormLemmas.{tree-gives, tree-stop}
 use Rattle.sequence_form.proofs.PathStepLemmas.{leaves-fit, some-leaf}
 use Rattle.sequence_form.proofs.SideLemmas.{side-is_data}
 use Rattle.sequence_form.proofs.tree.build.Goals as goal
@@ -35,7 +36,13 @@ of_leaves-requires-clause-leaves_fit c =
     let fit = subst (λ n. All (LeafFits n (sequences (side_of g 1))) c.in_ok-leaves.leaves.items) (sym rows) (subst (All (LeafFits (sequences (side_of g 0)) (sequences (side_of g 1)))) (sym c.in_ok-leaves.ensures) (leaves-fit g c.stands_for_game_tree.ensures.game)) in
     subst (λ n. All (LeafFits c.in_ok-first.first.sequences n) c.in_ok-leaves.leaves.items) (sym columns) fit
 
+pub returns-in_err-paths : goal.returns-in_err-paths
+returns-in_err-paths c =
+    let two = ap length (sym c.players-players.ensures.players) ∙ c.if-players-ne2.false in
+    let p = err_from_is_err_and c.from_residual-in_err-paths.result c.from_residual-in_err-paths.ensures.1 in
+    rw (p.1, p.2) (tree-stop c.args.tree.now two c.in_err-paths.field-0.0 c.in_err-paths.ensures.steps)
+
 pub returns : goal.returns
 returns c =
     let two = ap length (sym c.players-players.ensures.players) ∙ c.if-players-ne2.false in
-    tree-gives c.args.tree.now c.in_ok-first.first c.in_ok-second.second c.in_ok-leaves.leaves.items c.of_leaves.result two c.in_ok-first.ensures c.in_ok-second.ensures c.in_ok-leaves.ensures c.in_ok-paths.ensures.fits c.of_leaves.ensures.form c.of_leaves.ensures.fits c.of_leaves.ensures.stop
+    tree-gives c.args.tree.now two c.in_ok-first.first c.in_ok-second.second c.in_ok-leaves.leaves.items c.of_leaves.result c.in_ok-first.ensures c.in_ok-second.ensures c.in_ok-leaves.ensures c.in_ok-paths.ensures.steps c.of_leaves.ensures

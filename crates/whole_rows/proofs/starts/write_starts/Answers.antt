@@ -4,6 +4,7 @@ use Rattle.whole_rows.specs.Rows.{from_place}
 use Rattle.frac128.specs.Steps.{StepFits}
 use Rattle.whole_rows.specs.StartRows.{cells_from, start_row_steps, IsStartRow}
 use Rattle.whole_rows.proofs.RowFrameLemmas.{row_kept}
+use Rattle.whole_rows.proofs.RowFitLemmas.{each_row_fits, row_unfit}
 use Rattle.whole_rows.proofs.StartRowLemmas.{start_same}
 use Rattle.whole_rows.proofs.starts.write_starts.Goals as goal
 
@@ -19,3 +20,9 @@ loop-i-preserved c =
         | inr n ↦ c.loop-i.invariant.fits j (omega arith)
       ];
     }
+
+pub returns-clause-fits : goal.returns-clause-fits
+returns-clause-fits c = each_row_fits c.args.rows c.args.count c.args.cells.now (λ i l. c.loop-i.invariant.fits i (omega (arith, l, c.loop-i-test.false)))
+
+pub returns-in-Err-clause-unfit : goal.returns-in-Err-clause-unfit
+returns-in-Err-clause-unfit c = row_unfit c.args.rows c.args.count c.args.cells.now c.loop-i.i c.in-Err.unfit c.loop-i-test.true c.loop-i.invariant.fits c.in-Err.ensures.unfit

@@ -35,14 +35,14 @@ loop-j-preserved c =
       cut = cut_next (side_of c.args.side.now) c.requires.side.ordered c.loop-j.j c.set_at-set.result.before c.set_at-set.result.first c.set_at-set.result.count (weight_at c.args.weights.now) (weight_at c.loop-j.weights) (weight_at c.cut_set.new.weights) (read a) c.loop-j.invariant.cut (record { low = c.cut_set.ensures.low; high = c.in_ok-cut_set.ensures.high; shares = c.in_ok-cut_set.ensures.shares; fits = c.in_ok-cut_set.ensures.fits });
     }
 
-pub returns-in_err-cut_set-clause-unfit : goal.returns-in_err-cut_set-clause-unfit
-returns-in_err-cut_set-clause-unfit c =
-    let a = (goal.at.returns-in_err-cut_set-clause-unfit c).After-set_at-set in
+pub returns-in_err-cut_set-clause-stage : goal.returns-in_err-cut_set-clause-stage
+returns-in_err-cut_set-clause-stage c =
+    let a = (goal.at.returns-in_err-cut_set-clause-stage c).After-set_at-set in
     let p = err_from_is_err_and c.from_residual.result c.from_residual.ensures.1 in
     rw (p.1, p.2) (cut_stops (side_of c.args.side.now) c.requires.side.ordered c.loop-j.j c.set_at-set.result.before c.set_at-set.result.first c.set_at-set.result.count (weight_at c.args.weights.now) (weight_at c.loop-j.weights) c.in_err-cut_set.field-0.0 (read a) c.loop-j.invariant.cut c.in_err-cut_set.ensures.unfit)
 
-pub returns-clause-cut : goal.returns-clause-cut
-returns-clause-cut c =
+pub returns-clause-stage : goal.returns-clause-stage
+returns-clause-stage c =
     let all = sets_are c.args.side.now in
     let end = ap (λ (xs : List SetRow). length xs) c.sets-j-end.ensures in
-    cut_ends (side_of c.args.side.now) c.requires.side.ordered c.loop-j.j (weight_at c.args.weights.now) (weight_at c.loop-j.weights) (omega arith) c.loop-j.invariant.cut
+    cut_ends (side_of c.args.side.now) c.requires.side.ordered c.loop-j.j (weight_at c.args.weights.now) c.loop-j.weights (omega arith) (c.loop-j.invariant.shape ∙ c.requires.shape) c.loop-j.invariant.cut

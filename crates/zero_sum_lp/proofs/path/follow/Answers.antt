@@ -1,5 +1,6 @@
-use Rattle.std.proofs.Common.{ℕ, arith, ◌<◌, ◌≡◌, length, subst, sym, ◌∙◌}
+use Rattle.std.proofs.Common.{ℕ, add-one, ap, arith, ◌<◌, ◌≡◌, length, subst, sym, ◌∙◌}
 use Rattle.rational.specs.Rational.{zero_ℚ, ◌≤ℚ◌}
+use Rattle.lex_tableau.specs.Pivots.{pivot_number}
 use Rattle.lex_tableau.specs.Rows.{Numbers, tableau}
 use Rattle.zero_sum_lp.proofs.PathWalkLemmas.{objective_in, width_kept, some_leaves, read_enters, read_leaves, read_end, under_way_next, under_way_less, measure_falls, is_unfit}
 use Rattle.zero_sum_lp.proofs.path.follow.Goals as goal
@@ -48,7 +49,7 @@ loop-col-smaller g c = measure_falls _ c.loop-col.pivots c.pivot.new.pivots c.pi
 
 pub loop-col-preserved : goal.loop-col-preserved
 loop-col-preserved g c =
-    under_way_next c.args.work.now c.loop-col.work c.pivot.new.self c.args.pivots.now c.loop-col.pivots c.pivot.new.pivots c.loop-col.number c.next_number-number.result c.loop-col.invariant (record { column = c.in-Some.col; row = c.in-Some-ratio_row.row; entering = (read_enters c.args.work.now c.loop-col.work c.now.result.now c.args.pivots.now c.loop-col.pivots c.loop-col.number c.args.objective c.args.width c.in-Some.col c.requires.start c.loop-col.invariant c.requires.objective_is c.requires.width_is c.now.ensures.value c.in-Some.ensures); leaving = (read_leaves c.loop-col.work c.now-in-Some.result.now c.in-Some.col c.in-Some-ratio_row.row c.now-in-Some.ensures.value c.in-Some-ratio_row.ensures.best); fits = c.in-Ok.ensures.fits; pivot = c.in-Ok.ensures.pivot; valid = c.pivot.ensures.valid }) c.pivot.ensures.counted c.next_number-number.ensures
+    under_way_next c.args.work.now c.loop-col.work c.pivot.new.self c.args.pivots.now c.loop-col.pivots c.pivot.new.pivots c.loop-col.number c.saturating_add-number.result c.loop-col.invariant (record { column = c.in-Some.col; row = c.in-Some-ratio_row.row; entering = (read_enters c.args.work.now c.loop-col.work c.now.result.now c.args.pivots.now c.loop-col.pivots c.loop-col.number c.args.objective c.args.width c.in-Some.col c.requires.start c.loop-col.invariant c.requires.objective_is c.requires.width_is c.now.ensures.value c.in-Some.ensures); leaving = (read_leaves c.loop-col.work c.now-in-Some.result.now c.in-Some.col c.in-Some-ratio_row.row c.now-in-Some.ensures.value c.in-Some-ratio_row.ensures.best); fits = c.in-Ok.ensures.fits; pivot = c.in-Ok.ensures.pivot; valid = c.pivot.ensures.valid }) c.pivot.ensures.counted (c.saturating_add-number.ensures ∙ ap pivot_number (add-one c.loop-col.number))
 
 pub returns-clause-end : goal.returns-clause-end
 returns-clause-end g c =

@@ -27,6 +27,6 @@ returns-in-Err g c =
     let i = c.self.inside in
     let l : IsLeastRow (problem_size (side_of i.first) (side_of i.second)) (tableau i.work).right c.least_row-row.result =
     subst (λ k. IsLeastRow k (tableau i.work).right c.least_row-row.result) c.self.invariant.1 (subst (λ (m : Numbers). IsLeastRow i.size (tableau m).right c.least_row-row.result) c.now.ensures.value c.least_row-row.ensures.least) in
-    let e : EndsUnfit i.work (problem_size (side_of i.first) (side_of i.second)) c.least_row-row.result c.in-Err.stop.step c.in-Err.stop.entering c.in-Err.stop.unfit =
-    subst (λ k. EndsUnfit i.work k c.least_row-row.result c.in-Err.stop.step c.in-Err.stop.entering c.in-Err.stop.unfit) c.self.invariant.1 c.in-Err.ensures.unfit in
-    subst (λ (q : Problem). IsUnfitPivot q c.in-Err.stop.step c.in-Err.stop.entering c.in-Err.stop.unfit) c.self.view_is (record { row = c.least_row-row.result; begins = l; path = e })
+    let e : EndsUnfit i.work (problem_size (side_of i.first) (side_of i.second)) c.least_row-row.result c.in-Err.stop =
+    subst (λ k. EndsUnfit i.work k c.least_row-row.result c.in-Err.stop) c.self.invariant.1 c.in-Err.ensures.unfit in
+    subst (λ (q : Problem). IsUnfitPivot q c.in-Err.stop) c.self.view_is (record { row = c.least_row-row.result; begins = l; path = e })

@@ -2,7 +2,7 @@ use Rattle.std.proofs.Common.{◌<◌, ◌∙◌, ap, length, arith}
 use Rattle.std.proofs.lemmas.List.{length-set}
 use Rattle.std.proofs.lemmas.Result.{err_from_is_err_and}
 use Rattle.ne_checker.specs.TreeBoards.{game_of}
-use Rattle.ne_checker.proofs.TreePartLemmas.{parts-more, part-refused}
+use Rattle.frac128.proofs.StepPartLemmas.{parts-more, part-refused}
 use Rattle.ne_checker.proofs.TreeWeightStepLemmas.{weights-more}
 use Rattle.ne_checker.proofs.trees_board.Board.set_weights.Goals as goal
 

@@ -3,7 +3,7 @@ use Rattle.std.proofs.lemmas.Result.{err_from_is_err_and}
 use Rattle.strategy_lists.proofs.ActionCountLemmas.{actions-below}
 use Rattle.ne_checker.specs.TreeSides.{game_at}
 use Rattle.ne_checker.proofs.TreeDecisionLemmas.{weighed-greater, weighed-other, weighed-all}
-use Rattle.ne_checker.proofs.TreePartLemmas.{part-refused}
+use Rattle.frac128.proofs.StepPartLemmas.{part-refused}
 use Rattle.ne_checker.proofs.trees_side.Side.decide.Goals as goal
 use Rattle.ne_checker.proofs.trees_side.Side.decide.Goals.{then-is_greater, else-is_greater}
 

@@ -1,4 +1,4 @@
-use Rattle.two_player_tools.proofs.pivoting.end_of.Given as goal
+use Rattle.two_player_tools.proofs.solving.optimum_in.Given as goal
 
 abbrev pub ghosts-follow : goal.ghosts-follow
 ghosts-follow a = record { name = a.blank.name; parts = a.blank.parts }

@@ -1,4 +1,4 @@
-use Rattle.two_player_tools.proofs.solving.optimum_of.Given as goal
+use Rattle.two_player_tools.proofs.pivoting.solved_in.Given as goal
 
 abbrev pub ghosts-follow : goal.ghosts-follow
 ghosts-follow a = record { name = a.blank.name; parts = a.blank.parts }

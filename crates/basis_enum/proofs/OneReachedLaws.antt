@@ -1,0 +1,150 @@
+-- A system reaches its bases in one way
+use Rattle.std.proofs.Common.{ℕ, suc, zero, ◌≡◌, ◌<◌, ◌≤◌, refl, sym, ap, ap₂, ◌∙◌, subst, arith, inl, inr, List, [], ◌++◌, length, get_or, eq-or-lt_of_le, le_of_suc-le-suc, Result, Ok, Err}
+use Rattle.std.proofs.lemmas.Bool.{cases_lt, cases_order}
+use Rattle.std.proofs.lemmas.List.{same_lists, get_or_default}
+use Rattle.std.specs.List.{Contains}
+use Rattle.answers.specs.Answers.{Answer, ◌>>◌, only, such_that, refused_by, IsSingle}
+use Rattle.answers.proofs.AnswerLemmas.{bind-single, only-single, refuse_where-single, refused_by-single, single-exclude, single-value, such_that-single}
+use Rattle.frac128.proofs.FirstUnfitLemmas.{no_stop, same_stop}
+use Rattle.game_core.specs.Limits.{too_large, within}
+use Rattle.game_core.specs.declared.too_large.What.TheVariants as what
+use Rattle.lex_tableau.specs.Rows.{Numbers, IsTableau}
+use Rattle.lex_tableau.specs.Starts.{Parts}
+use Rattle.lex_tableau.specs.StartStops.{start_in}
+use Rattle.lex_tableau.proofs.TableauLemmas.{determined, alike_both}
+use Rattle.lex_tableau.proofs.SystemLemmas.{start_in-single}
+use Rattle.basis_enum.specs.Bases.{IsAscendingListOf}
+use Rattle.basis_enum.specs.Levels.{Levels, Move, AreNextMoves, IsAfterPivot, IsNextLevel, no_move, no_tableau, parent_of, entering, steps_of, count, most, first_level}
+use Rattle.basis_enum.specs.Reached.{AreReached, IsUnfitMove, ReachedAreSingle, bases_within, level_of, next_level, next_moves, pivots_fit, told_start}
+use Rattle.basis_enum.specs.declared.stop.EnumStop.{EnumStop}
+use Rattle.basis_enum.specs.declared.stop.EnumStop.TheVariants.{Range, TooLarge}
+use Rattle.basis_enum.proofs.AscendingNumberLemmas.{increasing_same}
+use Rattle.basis_enum.proofs.LevelLemmas.{level_valid}
+use Rattle.basis_enum.proofs.NextPivotLemmas.{moves_once}
+
+-- ---- one level is next
+levels_same : (l m : Levels) → l.before ≡ m.before → l.level ≡ m.level → l ≡ m
+levels_same l m p q = ap₂ (λ x y. record { before = x; level = y }) p q
+
+after_once : (level : List Numbers) (m : Move) (a b : Numbers) → IsAfterPivot level m a → IsAfterPivot level m b → a ≡ b
+after_once level m a b p q = determined a b p.is_tableau q.is_tableau (p.pivot.starts ∙ sym q.pivot.starts) (p.pivot.rated ∙ sym q.pivot.rated) (alike_both _ _ _ p.pivot.fractions q.pivot.fractions)
+
+tableaux_once : (p : Levels) (moves : List Move) (l m : Levels) → IsNextLevel p moves l → IsNextLevel p moves m → l ≡ m
+tableaux_once p moves l m h g = levels_same l m (h.before ∙ sym g.before) (same_lists l.level m.level (h.size ∙ sym g.size) each)
+  where
+    each : (i : ℕ) (d : Numbers) → i < length l.level → get_or l.level i d ≡ get_or m.level i d
+    each i d w =
+        let first : length l.level ≡ length moves = h.size in
+        let second : length m.level ≡ length moves = g.size in
+        get_or_default l.level i d no_tableau w
+        ∙ after_once p.level (get_or moves i no_move) _ _ (h.tableaux i (omega arith)) (g.tableaux i (omega arith))
+        ∙ get_or_default m.level i no_tableau d (omega arith)
+
+-- ---- one pivot is the first that does not fit
+list_once : (vs xs ys : List ℕ) → IsAscendingListOf vs xs → IsAscendingListOf vs ys → xs ≡ ys
+list_once vs xs ys p q = increasing_same xs ys p.ascending q.ascending (λ v h. q.listed v (p.only v h)) (λ v h. p.listed v (q.only v h))
+
+told_once : (k : ℕ) (level : List Numbers) (moves : List Move) (a b : EnumStop) → IsUnfitMove k level moves a → IsUnfitMove k level moves b → a ≡ b
+told_once k level moves a b h g =
+    let same = same_stop (steps_of level) moves h.move g.move h.step g.step h.first g.first in
+    let lists : h.basis ≡ g.basis = list_once (parent_of level g.move).basics h.basis g.basis (subst (λ m. IsAscendingListOf (parent_of level m).basics h.basis) same.0 h.ascending) g.ascending in
+    h.told ∙ ap (λ b. Range k b (entering level h.move) h.step) lists ∙ ap₂ (λ m step. Range k g.basis (entering level m) step) same.0 same.1 ∙ sym g.told
+
+pivots_fit-single : (k : ℕ) (level : List Numbers) (moves : List Move) → IsSingle (pivots_fit k level moves)
+pivots_fit-single k level moves (Ok _) (Ok _) h g = refl
+pivots_fit-single k level moves (Ok _) (Err stop) h g = absurd (no_stop (steps_of level) moves g.move g.step g.first h)
+pivots_fit-single k level moves (Err stop) (Ok _) h g = absurd (no_stop (steps_of level) moves h.move h.step h.first g)
+pivots_fit-single k level moves (Err a) (Err b) h g = ap Err (told_once k level moves a b h g)
+
+bases_within-single : (n : ℕ) → IsSingle (bases_within n)
+bases_within-single n = refused_by-single TooLarge (within what.Bases most n) (refuse_where-single (most < n) (too_large what.Bases most n))
+
+-- ---- each level is one
+module _ (k : ℕ) (l : Levels) where
+  abbrev from_steps : List Move → Answer EnumStop Levels
+  from_steps moves = pivots_fit k l.level moves >> such_that (IsNextLevel l moves)
+
+  abbrev from_count : List Move → Answer EnumStop Levels
+  from_count moves = bases_within (count l moves) >> from_steps moves
+
+  abbrev AreMoves : List Move → Type 0
+  AreMoves moves = AreNextMoves l moves × (0 < length moves)
+
+  module _ (valid : (t : Numbers) → Contains l.level t → IsTableau t) where
+    next_level-single : IsSingle (next_level k l)
+    next_level-single =
+        bind-single (next_moves l) from_count (such_that-single AreMoves (λ a b h g. moves_once l a b valid h.0 g.0))
+        (λ moves _. bind-single (bases_within (count l moves)) (λ _. from_steps moves) (bases_within-single (count l moves))
+        (λ _ _. bind-single (pivots_fit k l.level moves) (λ _. such_that (IsNextLevel l moves)) (pivots_fit-single k l.level moves)
+        (λ _ _. such_that-single (IsNextLevel l moves) (tableaux_once l moves))))
+
+    -- where no basis is next there is no next level
+    none_next : AreNextMoves l [] → (answer : Result Levels EnumStop) → next_level k l answer → ⊥
+    none_next none (Ok m) (moves, (are, some), _) =
+        let c : 0 ≡ length moves = ap length (moves_once l [] moves valid none are) in omega arith
+    none_next none (Err r) (inl h) = h
+    none_next none (Err r) (inr (moves, (are, some), _)) =
+        let c : 0 ≡ length moves = ap length (moves_once l [] moves valid none are) in omega arith
+
+module _ (s : Parts) where
+  level_of-single : (k : ℕ) → IsSingle (level_of s k)
+  level_of-single zero =
+      bind-single (refused_by told_start (start_in s)) (λ start. only (first_level start)) (refused_by-single told_start (start_in s) (start_in-single s)) (λ start _. only-single (first_level start))
+  level_of-single (suc k) =
+      bind-single (level_of s k) (next_level k) (level_of-single k) (λ l h. next_level-single k l (level_valid s k l h))
+
+  -- ---- a refusal is that of all later levels
+  refused_later : (k j : ℕ) (stop : EnumStop) → level_of s k (Err stop) → k ≤ j → level_of s j (Err stop)
+  refused_later k zero stop h l = (let first : k ≡ 0 = omega arith in subst (λ i. level_of s i (Err stop)) first h)
+  refused_later k (suc j) stop h l = elim (eq-or-lt_of_le l) [
+    | inl e ↦ subst (λ i. level_of s i (Err stop)) e h
+    | inr m ↦ inl (refused_later k j stop h (le_of_suc-le-suc m))
+  ]
+
+  refusals_once : (k j : ℕ) (r q : EnumStop) → level_of s k (Err r) → level_of s j (Err q) → k ≤ j → r ≡ q
+  refusals_once k j r q h g l =
+      let same : ◌≡◌ {A = Result Levels EnumStop} (Err r) (Err q) = level_of-single j (Err r) (Err q) (refused_later k j r h l) g in cc same
+
+  -- ---- after the last level there is nothing
+  level_before : (j : ℕ) (answer : Result Levels EnumStop) → level_of s (suc j) answer → (earlier : Result Levels EnumStop) × level_of s j earlier
+  level_before j (Ok m) (p, hp, _) = (Ok p, hp)
+  level_before j (Err r) (inl h) = (Err r, h)
+  level_before j (Err r) (inr (p, hp, _)) = (Ok p, hp)
+
+  module _ (k : ℕ) (l : Levels) (h : level_of s k (Ok l)) (none : AreNextMoves l []) where
+    last_next : (answer : Result Levels EnumStop) → level_of s (suc k) answer → ⊥
+    last_next (Ok m) (p, hp, q) =
+        none_next k l (level_valid s k l h) none (Ok m) (subst (λ p. next_level k p (Ok m)) (single-value (level_of s k) p l (level_of-single k) hp h) q)
+    last_next (Err r) (inl g) = single-exclude (level_of s k) l r (level_of-single k) h g
+    last_next (Err r) (inr (p, hp, q)) =
+        none_next k l (level_valid s k l h) none (Err r) (subst (λ p. next_level k p (Err r)) (single-value (level_of s k) p l (level_of-single k) hp h) q)
+
+    nothing_after : (j : ℕ) → k < j → (answer : Result Levels EnumStop) → level_of s j answer → ⊥
+    nothing_after zero less answer g = omega arith
+    nothing_after (suc j) less answer g = elim (eq-or-lt_of_le (le_of_suc-le-suc less)) [
+      | inl e ↦ last_next answer (subst (λ i. level_of s (suc i) answer) (sym e) g)
+      | inr m ↦ (let b = level_before j answer g in nothing_after j m b.0 b.1)
+    ]
+
+  -- ---- what is reached
+  lists_once : (a b : List Numbers) → AreReached s a → AreReached s b → a ≡ b
+  lists_once a b h g = elim (cases_order h.number g.number) [
+    | inl same ↦ h.all ∙ ap (λ (l : Levels). l.before ++ l.level) (single-value (level_of s h.number) h.levels g.levels (level_of-single h.number) h.is_level (subst (λ i. level_of s i (Ok g.levels)) (sym same) g.is_level)) ∙ sym g.all
+    | inr (inl l) ↦ absurd (nothing_after h.number h.levels h.is_level h.none g.number l (Ok g.levels) g.is_level)
+    | inr (inr l) ↦ absurd (nothing_after g.number g.levels g.is_level g.none h.number l (Ok h.levels) h.is_level)
+  ]
+
+  no_both : (a : List Numbers) (r : EnumStop) → AreReached s a → (k : ℕ) → level_of s k (Err r) → ⊥
+  no_both a r h k g = elim (cases_lt h.number k) [
+    | inl l ↦ nothing_after h.number h.levels h.is_level h.none k l (Err r) g
+    | inr l ↦ single-exclude (level_of s h.number) h.levels r (level_of-single h.number) h.is_level (refused_later k h.number r g l)
+  ]
+
+pub reached_once : ReachedAreSingle
+reached_once s (Ok a) (Ok b) h g = ap Ok (lists_once s a b h g)
+reached_once s (Ok a) (Err r) h (k, g) = absurd (no_both s a r h k g)
+reached_once s (Err r) (Ok b) (k, h) g = absurd (no_both s b r g k h)
+reached_once s (Err r) (Err q) (k, h) (j, g) = elim (cases_lt k j) [
+  | inl l ↦ ap Err (refusals_once s k j r q h g (omega (arith, l)))
+  | inr l ↦ ap Err (sym (refusals_once s j k q r g h l))
+]

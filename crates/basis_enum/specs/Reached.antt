@@ -1,0 +1,82 @@
+-- The bases of a system in stages: level 0 is the start's basis, and a level's new neighbours are
+-- the next level. Levels count from 0.
+use Rattle.std.specs.Prelude.{ℕ, zero, suc, ◌<◌, ◌≡◌, List, [], ◌++◌, length, Ok, Err}
+use Rattle.answers.specs.Answers.{Answer, ◌>>=◌, ◌>>◌, only, such_that, refused_by, IsSingle}
+use Rattle.frac128.specs.Steps.{Step}
+use Rattle.frac128.specs.FirstUnfit.{IsFirstUnfitOf, all_fit}
+use Rattle.game_core.specs.Limits.{within}
+use Rattle.game_core.specs.declared.too_large.What.TheVariants as what
+use Rattle.lex_tableau.specs.Rows.{Numbers}
+use Rattle.lex_tableau.specs.Starts.{Parts}
+use Rattle.lex_tableau.specs.StartStops.{start_in}
+use Rattle.lex_tableau.specs.declared.tableau.StartStop.{StartStop}
+use Rattle.lex_tableau.specs.declared.tableau.StartStop.TheVariants as starts
+use Rattle.basis_enum.specs.Bases.{IsAscendingListOf}
+use Rattle.basis_enum.specs.Levels.{Levels, Move, AreNextMoves, IsNextLevel, parent_of, entering, steps_of, count, most, first_level}
+use Rattle.basis_enum.specs.declared.stop.EnumStop.{EnumStop}
+use Rattle.basis_enum.specs.declared.stop.EnumStop.TheVariants.{Start, Range, TooLarge, Memory}
+
+-- ---- level 0
+-- a stop of the start as one of the enumeration
+abbrev pub told_start : StartStop → EnumStop
+told_start (starts.Unfit row unfit) = Start row unfit
+told_start starts.Memory = Memory
+
+-- the start's basis
+abbrev pub start_level : Parts → Answer EnumStop Levels
+start_level s = refused_by told_start (start_in s) >>= (λ start. only (first_level start))
+
+-- ---- the level after level k
+-- the pivots to it, where there are any
+abbrev pub next_moves : Levels → Answer EnumStop (List Move)
+next_moves l = such_that (λ moves. AreNextMoves l moves × (0 < length moves))
+
+-- so many bases are not too many
+abbrev pub bases_within : ℕ → Answer EnumStop (Unit {0})
+bases_within bases = refused_by TooLarge (within what.Bases most bases)
+
+-- the first of these pivots with a step that does not fit is told by its level and basis, the
+-- variable that enters and the step
+pub record IsUnfitMove (k : ℕ) (level : List Numbers) (moves : List Move) (stop : EnumStop)
+    : Type 0 where
+  pub move : Move
+  pub step : Step
+  pub first : IsFirstUnfitOf (steps_of level) moves move step
+  pub basis : List ℕ
+  pub ascending : IsAscendingListOf (parent_of level move).basics basis
+  pub told : stop ≡ Range k basis (entering level move) step
+
+-- the steps of these pivots from level k all fit
+abbrev pub pivots_fit : ℕ → List Numbers → List Move → Answer EnumStop (Unit {0})
+pivots_fit k level moves (Ok _) = all_fit (steps_of level) moves (Ok tt)
+pivots_fit k level moves (Err stop) = IsUnfitMove k level moves stop
+
+-- the pivots, the number of bases, the steps, and the tableaux after the pivots
+abbrev pub next_level : ℕ → Levels → Answer EnumStop Levels
+next_level k l =
+    next_moves l
+    >>= (λ moves. bases_within (count l moves)
+    >> (pivots_fit k l.level moves >> such_that (IsNextLevel l moves)))
+
+-- ---- all levels
+-- level k, and those before it
+abbrev pub level_of : Parts → ℕ → Answer EnumStop Levels
+level_of s zero = start_level s
+level_of s (suc k) = level_of s k >>= next_level k
+
+-- no basis is next to this level, and these are the tableaux of all levels
+pub record AreReached (s : Parts) (reached : List Numbers) : Type 0 where
+  pub number : ℕ
+  pub levels : Levels
+  pub is_level : level_of s number (Ok levels)
+  pub none : AreNextMoves levels []
+  pub all : reached ≡ levels.before ++ levels.level
+
+-- the tableaux of all levels; or why one of them is not reached
+abbrev pub reached_in : Parts → Answer EnumStop (List Numbers)
+reached_in s (Ok reached) = AreReached s reached
+reached_in s (Err stop) = (k : ℕ) × level_of s k (Err stop)
+
+-- A system reaches its bases in one way.
+abbrev pub ReachedAreSingle : Type 0
+ReachedAreSingle = (s : Parts) → IsSingle (reached_in s)

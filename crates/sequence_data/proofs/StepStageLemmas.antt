@@ -1,0 +1,26 @@
+-- Steps at a node or a profile, one after another, and those of leaves.
+use Rattle.std.proofs.Common.{ℕ, List, ◌++◌, All, Result, Ok, Err}
+use Rattle.std.proofs.lemmas.List.Elements.{All-append}
+use Rattle.answers.specs.Answers.{IsSingle}
+use Rattle.answers.proofs.AnswerLemmas.{refused_by-single}
+use Rattle.frac128.specs.Steps.{Step, StepFits}
+use Rattle.frac128.proofs.FirstUnfitLemmas.{all_fit-single}
+use Rattle.frac128.proofs.StepRunLemmas.{first_unfit-more, first_unfit-following}
+use Rattle.sequence_data.specs.Steps.{gathering_in, fit_at, leaf_steps, numbered}
+use Rattle.sequence_data.specs.declared.stop.SeqStop.{SeqStop}
+use Rattle.sequence_data.specs.declared.stop.SeqStop.TheVariants as stops
+use Rattle.sequence_data.specs.declared.types.Leaf.{Leaf}
+
+module _ (place : ℕ) (xs ys : List Step) where
+  -- what stops the first steps stops all
+  pub fit_at-more : (stop : SeqStop) → fit_at place xs (Err stop) → fit_at place (xs ++ ys) (Err stop)
+  fit_at-more stop (step, h, is) = (step, first_unfit-more xs ys step h, is)
+
+  -- where the first fit the others tell the answer
+  pub fit_at-following : (answer : Result (Unit {0}) SeqStop) → All StepFits xs → fit_at place ys answer → fit_at place (xs ++ ys) answer
+  fit_at-following (Ok _) fit h = All-append StepFits xs ys fit h
+  fit_at-following (Err stop) fit (step, h, is) = (step, first_unfit-following xs ys step fit h, is)
+
+-- the steps of leaves have one answer
+pub gathering_in-single : (leaves : List Leaf) → IsSingle (gathering_in leaves)
+gathering_in-single leaves = refused_by-single (λ stop. stops.Range stop.0.1.place stop.1) _ (all_fit-single (leaf_steps leaves) (numbered 0 leaves))
