@@ -12,20 +12,8 @@ use crate::system::system;
 use frac128::{Frac, Memory};
 use game_core::{MOST_ROWS, TooLarge, What};
 use lex_tableau::{StartStop, System};
-use sequence_data::{SeqForm, SetRow, Side, dense};
+use sequence_data::{SeqForm, dense};
 use std::alloc::Global;
-
-// A copy of a side.
-fn copied(alloc: Global, side: &Side) -> Result<Side, Memory>
-    ensures { IfOk result (λ copy. copy ≡ side.now) }
-{
-    let mut sets: Vec<SetRow> = Vec::new(alloc);
-    let rows = side.sets();
-    for set in rows {
-        sets.push(*set)?;
-    }
-    Ok(Side::new(side.sequences(), sets))
-}
 
 // The system with the costs of the cells.
 fn system_of_form(
@@ -52,8 +40,8 @@ fn started(alloc: Global, form: &SeqForm, system: &System) -> Result<Lcp, LcpSto
     requires system { IsSystemOf form.now system.now }
     ensures { Gives stops.Memory (form_start_in form.now) result }
 {
-    let first = copied(alloc, form.first())?;
-    let second = copied(alloc, form.second())?;
+    let first = form.first().copied(alloc)?;
+    let second = form.second().copied(alloc)?;
     match Lcp::new(alloc, first, second, system) {
         Ok(lcp) => Ok(lcp),
         Err(StartStop::Unfit { row, unfit }) => Err(LcpStop::Start { row, unfit }),

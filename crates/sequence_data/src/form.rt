@@ -1,5 +1,5 @@
 // A sequence form.
-ghost use Rattle.std.specs.Prelude.{◌≡◌, ◌<◌, length, All};
+ghost use Rattle.std.specs.Prelude.{◌≡◌, ◌<◌, length, All, IfOk};
 ghost use Rattle.answers.specs.Answers.{Gives};
 ghost use Rattle.sequence_data.specs.Data.{IsFormData, IsSideData, LeafFits, form_of_leaves};
 ghost use Rattle.sequence_data.specs.declared.stop.SeqStop.TheVariants as stops;
@@ -9,7 +9,7 @@ use crate::payoffs::{Extremes, extreme_payoffs};
 use crate::stop::SeqStop;
 use crate::types::{Cell, Leaf, SetRow};
 use frac128::Frac;
-use std::alloc::Global;
+use std::alloc::{AllocError, Global};
 use std::marker::Model;
 
 /// A player's sequences: the empty one, numbered 0, and then, own set by own set, one for each action.
@@ -49,6 +49,18 @@ impl Side {
         ensures { result.now ≡ self.now.sets }
     {
         self.sets.as_slice()
+    }
+
+    /// A side of its own with the same sequences and sets.
+    ///
+    /// # Errors
+    ///
+    /// Memory ran out.
+    pub fn copied(&self, alloc: Global) -> Result<Side, AllocError>
+        ensures { IfOk result (λ copy. copy ≡ self.now) }
+    {
+        let sets = Vec::from_slice(alloc, self.sets())?;
+        Ok(Side::new(self.sequences, sets))
     }
 }
 

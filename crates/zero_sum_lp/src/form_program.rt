@@ -13,7 +13,7 @@ use crate::system::system;
 use frac128::{Frac, Memory};
 use game_core::{MOST_ROWS, TooLarge, What};
 use lex_tableau::{StartStop, System};
-use sequence_data::{SeqForm, SetRow, Side, dense};
+use sequence_data::{SeqForm, dense};
 use std::alloc::Global;
 
 // How many rows and columns the program has.
@@ -22,18 +22,6 @@ fn size(form: &SeqForm) -> u64
 {
     let sets = form.first().sets().len() as u64 + form.second().sets().len() as u64;
     sets + form.first().sequences() as u64 + form.second().sequences() as u64 + 2
-}
-
-// A copy of a side.
-fn copied(alloc: Global, side: &Side) -> Result<Side, Memory>
-    ensures { IfOk result (λ copy. copy ≡ side.now) }
-{
-    let mut sets: Vec<SetRow> = Vec::new(alloc);
-    let rows = side.sets();
-    for set in rows {
-        sets.push(*set)?;
-    }
-    Ok(Side::new(side.sequences(), sets))
 }
 
 // The system with the gains of the cells.
@@ -54,8 +42,8 @@ fn started(alloc: Global, form: &SeqForm, system: &System) -> Result<Lp, LpStop>
     requires system { IsSystemOf form.now system.now }
     ensures { Gives lp_stops.Memory (form_start_in form.now) result }
 {
-    let first = copied(alloc, form.first())?;
-    let second = copied(alloc, form.second())?;
+    let first = form.first().copied(alloc)?;
+    let second = form.second().copied(alloc)?;
     match Lp::new(alloc, first, second, system) {
         Ok(lp) => Ok(lp),
         Err(StartStop::Unfit { row, unfit }) => Err(LpStop::Start { row, unfit }),
