@@ -3,7 +3,8 @@
 //!
 //! Callers may rely on: `lp_text` and `lcp_text` give the text that is defined, or the refusal that
 //! the first failing stage gives; `two_players` refuses other games; `lp_texts_are_solutions` and
-//! `lcp_texts_are_equilibria` say what each text is, and `solutions_are_single` that there is one.
+//! `lcp_texts_are_equilibria` say what each text is, and `solutions_are_single` that there is one,
+//! as `strategic_forms_are_single` of the strategic form.
 //! Definitions: `specs::StrategicForms` has the strategic form that all tools take; `TwoPlayers` says
 //! which sequence form a tool works on, `Lp` and `Lcp` what each answers, `Entries` the line of two
 //! plans; `LpLaws` and `LcpLaws` what holds of each text.
@@ -18,6 +19,7 @@ ghost use Rattle.game_core.specs.declared.game.Game.{Game};
 ghost use Rattle.two_player_tools.specs.GameTypes.{IsGame};
 ghost use Rattle.two_player_tools.specs.Lcp.{lcp};
 ghost use Rattle.two_player_tools.specs.Lp.{lp};
+ghost use Rattle.two_player_tools.specs.StrategicForms.{strategic_form};
 
 use game_core::{sets_are_numbered_by_first_nodes, trees_are_game_trees};
 use perfect_recall::recalls_are_single;
@@ -33,6 +35,11 @@ mod solving;
 pub use forms::two_players;
 pub use lcp::{lcp_text, lcp_texts_are_equilibria};
 pub use lp::{lp_text, lp_texts_are_solutions};
+
+/// A game has one strategic form, or one reason why it has none.
+pub fn strategic_forms_are_single()
+    ensures { (game : Game) → IsSingle (strategic_form game) }
+{}
 
 /// A game has at most one answer by each tool.
 pub fn solutions_are_single()
