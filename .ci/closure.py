@@ -20,7 +20,7 @@ CLAUSE = re.compile(r"\b(?:requires|ensures)(?: \w+)? \{|\bghost \w+(?::| =) \{"
 
 def item_of(module_name, name):
     """The item that a name in a module of specifications stands for."""
-    if ".declared." in module_name:
+    if ".declared." in module_name and Path("crates", module_name.split(".")[1]).exists():
         return declared_type(module_name)
     known = module(module_name)
     if known is None:
@@ -39,7 +39,7 @@ def item_of(module_name, name):
 
 def declared_type(module_name):
     """The type of a source that a module of declared types stands for."""
-    _, crate, _, _, *path = module_name.removesuffix(".TheVariants").split(".")
+    _, crate, _, _, *path = re.sub(r"\.The(?:Variants|Inside)$", "", module_name).split(".")
     item = source_item(source_file(crate, path[:-1]), path[-1])
     if item is None:
         raise Unknown(f"the type of {module_name}")
@@ -74,7 +74,7 @@ def source_imports(path):
 
 def source_item(path, name):
     """The type or trait that a name of a source stands for, or None where it is no type that is looked into."""
-    if re.search(rf"^(?:pub )?(?:struct|enum|trait|type) {name}\b", source(path), re.M):
+    if re.search(rf"^(?:pub(?:\(crate\))? )?(?:struct|enum|trait|type) {name}\b", source(path), re.M):
         return Item("type", str(path), name)
     first, *others = source_imports(path).get(name, [""])
     if not others:
@@ -127,7 +127,7 @@ def used_by_text(path, text):
 
 def type_text(path, name):
     """The declaration of a type or trait of a source."""
-    return block(source(path), re.search(rf"^(?:pub )?(?:struct|enum|trait|type) {name}\b", source(path), re.M).start())
+    return block(source(path), re.search(rf"^(?:pub(?:\(crate\))? )?(?:struct|enum|trait|type) {name}\b", source(path), re.M).start())
 
 
 def implemented(path, name):

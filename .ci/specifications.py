@@ -13,8 +13,8 @@ BUILT_IN = set("Type → × λ : = ← ↦ ∷ ⊥ ⊤ Unit ¬ _ do record elim 
 HEADER = re.compile(r"(?:(?:abbrev|unfoldable) )?(?:pub )?(record |data )?([^\s:({]+)((?: [({].*?[)}])*) : ")
 BROKEN_HEADER = re.compile(r"^((?:abbrev|unfoldable|pub) [^\n]*)\n    (?=: |\([^\n]*where$)", re.M)
 FIELD = re.compile(r"  (?:pub )?([^\s(){}:]+(?: [^\s(){}:]+)*) :(?= |$)", re.M)
-FACT = re.compile(r"(?:: |→ )T \([^→]*$")
-IMPORT = re.compile(r"\buse ([\w.]+?)(?:\.\{(.*)\}| as ([\w']+))")
+FACT = re.compile(r"(?:: |→ )(?:T \(|[^→]* ≡ )[^→]*$")
+IMPORT = re.compile(r"\buse ([\w.]+?)(?:\.\{([^}]*)\}| as ([\w']+))")
 TOKEN = re.compile(r'\n|"(?:[^"\\]|\\.)*"|[(){}\[\];,.]|[^\s(){}\[\];,."]+')
 
 # What a file defines: texts by name, the data type of each constructor, what names stand for that others define, the

@@ -6,7 +6,20 @@ use Rattle.std.proofs.lemmas.List.{length-append}
 use Rattle.std.proofs.lemmas.List.Elements.{Contains-append_left, Contains-append_right, Contains-append_cases, Contains-get_or}
 use Rattle.basis_enum.proofs.AscendingNumberLemmas.{first_in, in_cases, increasing_push}
 use Rattle.basis_enum.proofs.NeighbourLemmas.{place_of}
-use Rattle.basis_enum.specs.Merged.{IsMerged, TakesFirst, AreMerged}
+use Rattle.basis_enum.specs.Merged.{IsMerged, TakesFirst}
+use Rattle.std.specs.Prelude.{◌⊎◌}
+
+-- all has the first i numbers of xs and the first k of ys, which are below the others
+pub record AreMerged (xs ys : List ℕ) (i k : ℕ) (all : List ℕ) : Type 0 where
+  pub first_in : i ≤ length xs
+  pub second_in : k ≤ length ys
+  pub ascending : IsStrictlyIncreasing all
+  pub size : length all ≡ i + k
+  pub first : (n : ℕ) → n < i → Contains all (get_or xs n 0)
+  pub second : (n : ℕ) → n < k → Contains all (get_or ys n 0)
+  pub only : (v : ℕ) → Contains all v → Contains xs v ⊎ Contains ys v
+  pub first_above : i < length xs → (v : ℕ) → Contains all v → v < get_or xs i 0
+  pub second_above : k < length ys → (v : ℕ) → Contains all v → v < get_or ys k 0
 
 pub merged_start : (xs ys : List ℕ) → AreMerged xs ys 0 0 []
 merged_start xs ys =

@@ -15,15 +15,3 @@ pub record IsMerged (xs ys all : List ℕ) : Type 0 where
 pub record TakesFirst (xs ys : List ℕ) (i k : ℕ) : Type 0 where
   pub within : i < length xs
   pub least : k < length ys → get_or xs i 0 ≤ get_or ys k 0
-
--- all has the first i numbers of xs and the first k of ys, which are below the others
-pub record AreMerged (xs ys : List ℕ) (i k : ℕ) (all : List ℕ) : Type 0 where
-  pub first_in : i ≤ length xs
-  pub second_in : k ≤ length ys
-  pub ascending : IsStrictlyIncreasing all
-  pub size : length all ≡ i + k
-  pub first : (n : ℕ) → n < i → Contains all (get_or xs n 0)
-  pub second : (n : ℕ) → n < k → Contains all (get_or ys n 0)
-  pub only : (v : ℕ) → Contains all v → Contains xs v ⊎ Contains ys v
-  pub first_above : i < length xs → (v : ℕ) → Contains all v → v < get_or xs i 0
-  pub second_above : k < length ys → (v : ℕ) → Contains all v → v < get_or ys k 0

@@ -18,7 +18,12 @@ use Rattle.reduced_strategies.specs.StrategicForm.{AreStrategies, list_of, compl
 use Rattle.reduced_strategies.proofs.StrategyProfileLemmas.{given_at-own, list_of-reduced, place-below}
 use Rattle.pure_payoffs.proofs.ChoiceLemmas.{choice_at-place}
 use Rattle.pure_payoffs.proofs.PlaceLemmas.{strategy-read}
-use Rattle.behaviour_profile.specs.FirstActions.{first_for_none, entries_at}
+use Rattle.behaviour_profile.specs.FirstActions.{first_for_none}
+use Rattle.std.specs.List.{flat_map}
+
+-- the entries at some sets
+abbrev pub entries_at : Tree → Behaviour → List ℕ → List ℚ
+entries_at t b sets = flat_map (λ s. listed (t.actions s) (b s)) sets
 
 -- the entries of one set more
 pub entries_at-push : (t : Tree) (b : Behaviour) (all now old : List ℚ) (sets : List ℕ) (place s : ℕ) → slice_get sets place ≡ Some s → now ≡ old ++ entries_at t b (take place sets) → all ≡ now ++ listed (t.actions s) (b s)

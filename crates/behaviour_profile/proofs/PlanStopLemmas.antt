@@ -22,7 +22,7 @@ use Rattle.sequence_data.specs.declared.types.SetRow.{SetRow}
 use Rattle.sequence_form.specs.Sequences.{own_set_row}
 use Rattle.behaviour_profile.specs.declared.plans.BehaviourStop.{BehaviourStop}
 use Rattle.behaviour_profile.specs.declared.plans.BehaviourStop.TheVariants as stops
-use Rattle.behaviour_profile.specs.FirstActions.{entries_at}
+use Rattle.behaviour_profile.proofs.BehaviourEntryLemmas.{entries_at}
 use Rattle.behaviour_profile.specs.Plans.{actions_at, both_actions, both_plans, label_of, own_actions, plan_behaviour, quotient_steps, quotient_stop, quotients_in}
 use Rattle.behaviour_profile.specs.Shares.{AddsPlan, IsPlanStop, IsShareStop, actions_of, share_at, steps_at}
 use Rattle.behaviour_profile.proofs.BehaviourEntryLemmas.{entries_at-push}

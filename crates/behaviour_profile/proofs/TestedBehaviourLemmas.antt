@@ -17,7 +17,7 @@ use Rattle.game_theory.specs.TreeEntries.{tree_entries, entries_from}
 use Rattle.game_theory.proofs.OwnSetLemmas.{AscendFrom, IsAmong, IsAmong-from, IsAmong-left, IsAmong-parts, IsAmong-right, own_sets-ascend, own_sets-has, own_sets-tell}
 use Rattle.behaviour_profile.specs.EntryTests.{own_counts, action_counts, profile_in}
 use Rattle.behaviour_profile.specs.EntryLaws.{AdditionsFit, TestedEntriesAreBehaviours}
-use Rattle.behaviour_profile.specs.FirstActions.{entries_at}
+use Rattle.behaviour_profile.proofs.BehaviourEntryLemmas.{entries_at}
 use Rattle.behaviour_profile.proofs.BehaviourEntryLemmas.{entries_from-next}
 use Rattle.lists.proofs.ElementLemmas.{made-next}
 use Rattle.behaviour_profile.proofs.TestedEntryLemmas.{tested_entries}

@@ -1,17 +1,9 @@
 -- A player's strategy, completed, and the entries of some sets.
 use Rattle.std.specs.Prelude.{ℕ, ◌-◌, List}
-use Rattle.std.specs.List.{flat_map}
 use Rattle.game_theory.specs.OwnSets.{own_sets}
-use Rattle.rational.specs.Rational.{ℚ}
-use Rattle.game_theory.specs.Lines.{listed}
 use Rattle.game_theory.specs.Trees.{Tree}
-use Rattle.game_theory.specs.Behaviour.{Behaviour}
 use Rattle.reduced_strategies.specs.Choices.{choice_at}
 
 -- the action, from 0, that player i's choices give each own set, and the first where they give none
 abbrev pub first_for_none : Tree → ℕ → List ℕ → ℕ → ℕ
 first_for_none t i choices s = choice_at (own_sets t i) choices s - 1
-
--- the entries at some sets
-abbrev pub entries_at : Tree → Behaviour → List ℕ → List ℚ
-entries_at t b sets = flat_map (λ s. listed (t.actions s) (b s)) sets

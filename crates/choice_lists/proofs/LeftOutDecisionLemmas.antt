@@ -13,9 +13,14 @@ use Rattle.choice_lists.specs.Ends.{is_led_to, branches, ends}
 use Rattle.choice_lists.proofs.ReachedDecisionLemmas.{below_or_last, last_entry, one_decision, place-within}
 use Rattle.choice_lists.proofs.EndListLemmas.{AreRest, AreRest-first, AreRest-later, AreRest-all, branches_or_passes, ends-nil, ends-branch, ends-pass, ends_with, all_ends}
 use Rattle.choice_lists.proofs.StepLemmas.{drop-first}
-use Rattle.choice_lists.specs.LeftOut.{is_kept, kept_below, renumbered_edge, renumbered, kept_from, marked, AreEnough, AreShared}
+use Rattle.choice_lists.specs.LeftOut.{is_kept, kept_below, renumbered_edge, renumbered, marked, AreEnough, AreShared}
 use Rattle.choice_lists.specs.Ways.{AreApart}
 use Rattle.choice_lists.proofs.WayProductLemmas.{length-branches, sum-same}
+
+-- the kept ones of these decisions, which are numbered from n
+abbrev pub kept_from : List Bool → ℕ → List Decision → List Decision
+kept_from kept n [] = []
+kept_from kept n (d ∷ ds) = if is_kept kept n then renumbered kept d ∷ kept_from kept (suc n) ds else kept_from kept (suc n) ds
 
 -- it does not do both
 not_both : (b : Bool) → b ≡ true → b ≡ false → ⊥

@@ -9,9 +9,14 @@ use Rattle.std.proofs.lemmas.Option.{slice_get_within}
 use Rattle.choice_lists.specs.declared.decision.Decision.{Decision}
 use Rattle.choice_lists.specs.declared.decision.Edge.{Edge}
 use Rattle.choice_lists.specs.Walks.{ComesFrom, AreLinked}
-use Rattle.choice_lists.specs.Ways.{AreAfter, is_first, leads_from, product_where, sum_branches, ways_from, ways_where}
+use Rattle.choice_lists.specs.Ways.{AreAfter, leads_from, product_where, sum_branches, ways_from, ways_where}
 use Rattle.choice_lists.proofs.ReachedDecisionLemmas.{one_decision, below_or_last}
 use Rattle.choice_lists.proofs.StepLemmas.{drop-first}
+
+-- whether nothing comes before a decision
+abbrev pub is_first : Option Edge → Bool
+is_first None = true
+is_first (Some edge) = false
 
 -- ---- numbers up to a limit
 -- a product whose first factor is above the limit

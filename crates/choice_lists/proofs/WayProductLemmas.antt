@@ -8,7 +8,8 @@ use Rattle.choice_lists.specs.declared.decision.Decision.{Decision}
 use Rattle.choice_lists.specs.declared.decision.Edge.{Edge}
 use Rattle.choice_lists.specs.Walks.{ComesFrom, AreLinked}
 use Rattle.choice_lists.specs.Ends.{is_led_to, branches, ends}
-use Rattle.choice_lists.specs.Ways.{AreApart, leads_from, is_first, product_where, sum_branches, ways_from}
+use Rattle.choice_lists.specs.Ways.{AreApart, leads_from, product_where, sum_branches, ways_from}
+use Rattle.choice_lists.proofs.WayCountLemmas.{is_first}
 use Rattle.choice_lists.proofs.ReachedDecisionLemmas.{last_entry, one_decision, place-within}
 use Rattle.choice_lists.proofs.EndListLemmas.{AreRest, AreRest-first, AreRest-later, AreRest-all, ends-nil, ends-branch, ends-pass, ends_with, all_ends}
 

@@ -1,5 +1,5 @@
 -- Decisions that add no end to the walk are left out.
-use Rattle.std.specs.Prelude.{ℕ, zero, suc, ◌≡◌, Bool, true, false, if◌then◌else◌, List, [], ◌∷◌, length, slice_get, slice_index, slice_index_or, slice_set, replicate, Option, Some, None}
+use Rattle.std.specs.Prelude.{ℕ, zero, suc, ◌≡◌, Bool, true, false, if◌then◌else◌, List, [], length, slice_get, slice_index, slice_index_or, slice_set, replicate, Option, Some, None}
 use Rattle.choice_lists.specs.declared.decision.Decision.{Decision}
 use Rattle.choice_lists.specs.declared.decision.Edge.{Edge}
 use Rattle.choice_lists.specs.Ends.{ends}
@@ -24,11 +24,6 @@ renumbered_edge kept (Some edge) = Some (record { decision = kept_below kept edg
 
 abbrev pub renumbered : List Bool → Decision → Decision
 renumbered kept d = record { place = d.place; before = renumbered_edge kept d.before }
-
--- the kept ones of these decisions, which are numbered from n
-abbrev pub kept_from : List Bool → ℕ → List Decision → List Decision
-kept_from kept n [] = []
-kept_from kept n (d ∷ ds) = if is_kept kept n then renumbered kept d ∷ kept_from kept (suc n) ds else kept_from kept (suc n) ds
 
 -- A decision is left out only where its set has one action and no other decision; and a decision after which another is kept is
 -- kept.

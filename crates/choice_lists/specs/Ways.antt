@@ -1,5 +1,5 @@
 -- In how many ways the walk goes on from each decision, where no set has two of them.
-use Rattle.std.specs.Prelude.{ℕ, zero, suc, ◌+◌, ◌*◌, ◌<◌, ◌≡◌, ◌==◌, ◌&&◌, Bool, true, false, if◌then◌else◌, min, List, [], ◌∷◌, length, slice_get, slice_index, slice_index_or, drop, Option, Some, None}
+use Rattle.std.specs.Prelude.{ℕ, zero, suc, ◌+◌, ◌*◌, ◌<◌, ◌≡◌, ◌==◌, ◌&&◌, Bool, false, if◌then◌else◌, min, List, [], ◌∷◌, length, slice_get, slice_index, slice_index_or, drop, Option, Some, None}
 use Rattle.choice_lists.specs.declared.decision.Decision.{Decision}
 use Rattle.choice_lists.specs.declared.decision.Edge.{Edge}
 
@@ -11,11 +11,6 @@ AreApart decisions = (j k : ℕ) (d e : Decision) → slice_get decisions j ≡ 
 abbrev pub leads_from : ℕ → ℕ → Option Edge → Bool
 leads_from n action None = false
 leads_from n action (Some edge) = (edge.decision == n) && (action == suc edge.action)
-
--- whether nothing comes before a decision
-abbrev pub is_first : Option Edge → Bool
-is_first None = true
-is_first (Some edge) = false
 
 -- the product of the decisions' numbers over those to which a passing edge leads
 abbrev pub product_where : (Option Edge → Bool) → List Decision → List ℕ → ℕ

@@ -1,5 +1,5 @@
 // A word from which passes claim numbers, over a table of one atomic word.
-ghost use Rattle.std.specs.Prelude.{◌≡◌, ◌<◌, ◌≤◌, ◌+◌, ◌-◌, ◌^◌, ◌++◌, ℕ, [], ◌∷◌, length, IfOk};
+ghost use Rattle.std.specs.Prelude.{◌≡◌, ◌<◌, ◌≤◌, ◌+◌, ◌-◌, ◌++◌, ℕ, [], ◌∷◌, IfOk};
 ghost use Rattle.claims.specs.ClaimWord.{KnowsWhole, pass_state};
 
 use answers::Memory;

@@ -5,7 +5,7 @@ ghost use Rattle.std.specs.Result.{IsErrOf};
 ghost use Rattle.game_theory.specs.Profiles.{IsProfile, profile_count, stride};
 ghost use Rattle.game_core.specs.Table.{IsTable, strategy_counts};
 ghost use Rattle.game_core.specs.Limits.{most_text};
-ghost use Rattle.convert_tables.specs.Layouts.{other_players, others_counts, payoff_text, later_payoff_text, cell_text, cells_text, row_end, row_text, rows_text, strategy_count};
+ghost use Rattle.convert_tables.specs.Layouts.{other_players, others_counts, payoff_text, later_payoff_text, cell_text, row_end, row_text, rows_text, strategy_count};
 
 use crate::marks::{Mark, Style, mark_text};
 use crate::names::push_marked;

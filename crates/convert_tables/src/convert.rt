@@ -1,11 +1,11 @@
 // The layouts of a table.
-ghost use Rattle.std.specs.Prelude.{◌≡◌, ◌≢◌, ◌-◌, ◌<◌, ◌≤◌, ◌++◌, ◌↔◌, IsTrue, ℕ, length, map, IfOk, OnOk};
+ghost use Rattle.std.specs.Prelude.{◌≡◌, ◌≢◌, ◌-◌, ◌<◌, ◌≤◌, ◌++◌, ◌↔◌, IsTrue, ℕ, length, IfOk, OnOk};
 ghost use Rattle.std.specs.Result.{IsErrOf};
 ghost use Rattle.answers.specs.Answers.{Gives, IsSingle, map_ok};
 ghost use Rattle.game_core.specs.Table.{GameTable};
 ghost use Rattle.game_core.specs.Limits.{most_text};
 ghost use Rattle.convert_tables.specs.Examples.{PrisonersDilemmaIsLaidOut};
-ghost use Rattle.convert_tables.specs.Layouts.{other_players, others_counts, title_text, layout};
+ghost use Rattle.convert_tables.specs.Layouts.{other_players, title_text, layout};
 ghost use Rattle.convert_tables.specs.declared.marks.Style.TheVariants.{Html};
 ghost use Rattle.convert_tables.specs.Converted.{IsPlayer, laid_out, html_text, sgame_text};
 ghost use Rattle.convert_tables.specs.declared.stops.ConvertStop.TheVariants as stops;

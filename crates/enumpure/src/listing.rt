@@ -1,7 +1,7 @@
 // The text of the pure equilibria of a table.
-ghost use Rattle.std.specs.Prelude.{◌≡◌, ◌<◌, ◌≤◌, ◌^◌, ◌++◌, length, IfOk, OnOk};
+ghost use Rattle.std.specs.Prelude.{◌≡◌, ◌<◌, ◌≤◌, ◌++◌, length, IfOk, OnOk};
 ghost use Rattle.answers.specs.Answers.{Gives, IsSingle, map_ok};
-ghost use Rattle.game_theory.specs.Profiles.{Game, IsProfile, profile_count, number_of};
+ghost use Rattle.game_theory.specs.Profiles.{Game, IsProfile, profile_count};
 ghost use Rattle.game_theory.specs.Mixed.{sure, pure};
 ghost use Rattle.game_theory.specs.Lines.{listed, entries as entries_of, lines_text};
 ghost use Rattle.game_core.specs.Table.{game_of, strategy_counts, most_payoffs};

@@ -13,7 +13,8 @@ use Rattle.reduced_strategies.specs.StrategicForm.{AreStrategies}
 use Rattle.reduced_strategies.proofs.TreeEquilibriaLemmas.{equilibria-same}
 use Rattle.enumpure_trees.specs.Orders.{AreOrders, ordered}
 use Rattle.game_theory.specs.Ranks.{ranked}
-use Rattle.enumpure_trees.specs.Ranks.{ranked_profile, ranked_plays_best, rank_line, listed_below, lines_below, AreEquilibria}
+use Rattle.enumpure_trees.specs.Ranks.{ranked_profile, ranked_plays_best, rank_line, listed_below, lines_below}
+use Rattle.enumpure_trees.proofs.MutualReplyLemmas.{AreEquilibria}
 use Rattle.enumpure_trees.specs.TreeEquilibria.{profile_line, IsFormEquilibrium, IsTreeEquilibriumLine, AreTreeEquilibria}
 use Rattle.enumpure_trees.proofs.OrderedLineLemmas.{ordered-before}
 use Rattle.enumpure_trees.proofs.OrderedProfileLemmas.{IsProfile-ordered, profile-has_places}

@@ -13,8 +13,14 @@ use Rattle.reduced_form.specs.ReducedForm.{ReducedForm, IsReducedForm}
 use Rattle.enumpure.specs.Replies.{exchanged, PlaysBestReply, plays_best, AreMutualBestReplies}
 use Rattle.enumpure.proofs.ExchangeLemmas.{exchanged-below}
 use Rattle.enumpure.proofs.ListedProfileLemmas.{IsEquilibrium-plays_best, plays_best-equilibrium}
-use Rattle.enumpure_trees.specs.Ranks.{AreEquilibria}
 use Rattle.enumpure_trees.proofs.FormSizeLemmas.{form-counts, form-players}
+use Rattle.game_theory.specs.Trees.{Tree}
+use Rattle.enumpure_trees.specs.TreeEquilibria.{IsFormEquilibrium}
+
+-- these profiles are the equilibria of the strategic form
+abbrev pub AreEquilibria : Tree → List (List (List ℕ)) → (ℕ → Bool) → Type 0
+AreEquilibria t strategies plays_best =
+    (k : ℕ) → k < profile_count (map length strategies) → IsTrue (plays_best k) ↔ IsFormEquilibrium t strategies (profile_at (map length strategies) k)
 
 -- a game with these numbers of strategies and payoffs
 abbrev game : List ℕ → (ℕ → ℕ → ℚ) → Game

@@ -1,11 +1,11 @@
 -- The ranks of pure profiles in the order of their lines, from 0, and the lines of profiles of best replies.
-use Rattle.std.specs.Prelude.{ℕ, zero, suc, ◌<◌, ◌↔◌, Bool, cond, IsTrue, List, [], ◌∷◌, ◌++◌, length, map}
+use Rattle.std.specs.Prelude.{ℕ, zero, suc, Bool, cond, List, [], ◌∷◌, ◌++◌, length, map}
 use Rattle.rational.specs.Rational.{ℚ}
-use Rattle.game_theory.specs.Profiles.{profile_count, number_of, profile_at}
+use Rattle.game_theory.specs.Profiles.{number_of}
 use Rattle.game_theory.specs.Ranks.{ranked}
 use Rattle.game_theory.specs.Trees.{Tree}
 use Rattle.enumpure_trees.specs.Orders.{ordered}
-use Rattle.enumpure_trees.specs.TreeEquilibria.{profile_line, IsFormEquilibrium}
+use Rattle.enumpure_trees.specs.TreeEquilibria.{profile_line}
 
 -- the profile with a rank
 abbrev pub ranked_profile : List (List (List ℕ)) → List (List ℕ) → ℕ → List ℕ
@@ -27,8 +27,3 @@ listed_below line plays_best (suc r) = listed_below line plays_best r ++ cond (p
 -- the lines of the profiles of best replies with ranks below r
 abbrev pub lines_below : Tree → List (List (List ℕ)) → List (List ℕ) → (ℕ → Bool) → ℕ → List (List ℚ)
 lines_below t strategies orders plays_best r = listed_below (rank_line t strategies orders) (ranked_plays_best strategies orders plays_best) r
-
--- these profiles are the equilibria of the strategic form
-abbrev pub AreEquilibria : Tree → List (List (List ℕ)) → (ℕ → Bool) → Type 0
-AreEquilibria t strategies plays_best =
-    (k : ℕ) → k < profile_count (map length strategies) → IsTrue (plays_best k) ↔ IsFormEquilibrium t strategies (profile_at (map length strategies) k)

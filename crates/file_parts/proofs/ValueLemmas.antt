@@ -1,11 +1,41 @@
 -- Reading with places of faults gives what reading without them does.
 use Rattle.std.proofs.Common.{◌≡◌, ℕ, zero, suc, Bool, true, false, if◌then◌else◌, nat_eq, List, length, Option, Some, None, refl}
-use Rattle.std.specs.Prelude.{Result, Ok, Err}
+use Rattle.std.specs.Prelude.{Result, Ok, Err, [], ◌∷◌}
 use Rattle.lists.specs.Options.{◌>>=◌}
 use Rattle.game_core.specs.declared.token.Token.{Token}
-use Rattle.file_parts.specs.Reading.{left_at, right_at, text_at, number_at, after_word, version_at, letter_at, title_at, texts_at, names_at, payoff_start, payoff_at, payoffs_at, repeat_at}
+use Rattle.file_parts.specs.Reading.{left_at, right_at, text_at, number_at, after_word, version_at, letter_at, texts_at, payoff_start, payoff_at}
 use Rattle.file_parts.specs.Parsing.{Parsed, wanted, passed, parse_each, parse_names, parse_payoff, parse_payoffs, parse_title}
 use Rattle.file_parts.proofs.ReaderLemmas.{chain}
+use Rattle.rational.specs.Rational.{ℚ}
+
+-- ---- many in a row
+-- this many parts, which are numbered from a first number on
+abbrev pub repeat_at : {X : Type 0} → (ℕ → List Token → Option (X × List Token)) → ℕ → ℕ → List Token → Option (List X × List Token)
+repeat_at part first zero tokens = Some ([], tokens)
+repeat_at part first (suc n) tokens = do
+  one ← part first tokens
+  more ← repeat_at part (suc first) n one.1
+  Some (one.0 ∷ more.0, more.1)
+
+-- one or more texts in braces
+unfoldable pub names_at : List Token → Option (List (List ℕ) × List Token)
+names_at tokens = do
+  inner ← left_at tokens
+  names ← if nat_eq (length (texts_at inner).0) 0 then None else Some (texts_at inner)
+  rest ← right_at names.1
+  Some (names.0, rest)
+
+-- this many payoffs
+abbrev pub payoffs_at : ℕ → List Token → Option (List ℚ × List Token)
+payoffs_at n tokens = repeat_at payoff_at 0 n tokens
+
+-- this word, a number of this version's value, `R` or `D`, and the title
+unfoldable pub title_at : List ℕ → ℕ → List Token → Option (List ℕ × List Token)
+title_at word version tokens = do
+  tokens ← after_word word tokens
+  tokens ← version_at version tokens
+  tokens ← letter_at tokens
+  text_at tokens
 
 -- the value, where there is no fault
 abbrev pub value : {A E : Type 0} → Result A E → Option A

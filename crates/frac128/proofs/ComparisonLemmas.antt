@@ -7,7 +7,8 @@ use Rattle.std.specs.Ordering.{MatchOrdering}
 use Rattle.std.proofs.lemmas.Bool.Decides.{Decides-eqb}
 use Rattle.std.specs.Cmp.{int_cmp_is, int_ranks}
 use Rattle.rational.specs.Tests.{cmp_ℚ}
-use Rattle.rational.specs.Rational.{ℚ, den_pos, ◌<ℚ◌}
+use Rattle.rational.specs.Rational.{ℚ, ◌<ℚ◌}
+use Rattle.rational.proofs.DenominatorLemmas.{den_pos}
 use Rattle.rational.proofs.OrderLemmas.{lt-times}
 use Rattle.rational.proofs.FractionLemmas.{equal_by_cross, equal_by_parts}
 use Rattle.frac128.specs.Fraction.{Fits}

@@ -5,7 +5,8 @@ use lib.IntN.{sub_ℕ}
 use Rattle.std.proofs.lemmas.Int.{unsigned_abs-mul}
 use Rattle.std.specs.Int.{◌∣◌}
 use Rattle.rational.specs.Gcd.{gcd}
-use Rattle.rational.specs.GcdLaws.{gcd-is, gcd-multiple, gauss}
+use Rattle.rational.specs.GcdLaws.{gcd-is}
+use Rattle.rational.proofs.GcdLemmas.{gcd-multiple, gauss}
 
 -- the product of two numbers that share nothing with a third
 pub coprime-mul : (a b c : ℕ) → gcd a c ≡ 1 → gcd b c ≡ 1 → gcd (a * b) c ≡ 1

@@ -4,7 +4,8 @@ use Rattle.std.proofs.Math.IntN.{zero-*ℤ}
 use lib.IntN.{+ℤ_comm}
 use native.Mathlib.Nat.{div_self}
 use Rattle.rational.specs.Gcd.{gcd}
-use Rattle.rational.specs.Rational.{ℚ, ◌+ℚ◌, zero_ℚ, den_pos}
+use Rattle.rational.specs.Rational.{ℚ, ◌+ℚ◌, zero_ℚ}
+use Rattle.rational.proofs.DenominatorLemmas.{den_pos}
 use Rattle.rational.proofs.IntegerRing.{integer_ring}
 use Rattle.rational.proofs.RationalRing.{+ℚ_comm, +ℚ-zero}
 use Rattle.rational.proofs.Ring.{ring, ◌:*◌, ◌:+◌, num, A}

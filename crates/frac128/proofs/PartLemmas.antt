@@ -7,7 +7,8 @@ use Rattle.rational.proofs.PartLemmas.{abs-neg, neg-parts}
 use native.Mathlib.Nat.{dvd_antisymm, dvd-zero, dvd_refl}
 use Rattle.rational.specs.Gcd.{gcd}
 use Rattle.rational.specs.GcdLaws.{gcd-is}
-use Rattle.rational.specs.Rational.{ℚ, frac, zero_ℚ, neg_ℚ, den_pos, lowest}
+use Rattle.rational.specs.Rational.{ℚ, frac, zero_ℚ, neg_ℚ}
+use Rattle.rational.proofs.DenominatorLemmas.{den_pos, lowest}
 use Rattle.rational.proofs.FractionLemmas.{frac-lowest, equal_by_parts}
 use Rattle.frac128.specs.Fraction.{value_of, PartFits, Fits, InLowestTerms, fields_of, fields_of_value}
 use Rattle.frac128.specs.declared.frac.Frac.TheInside.{Inside}

@@ -6,7 +6,8 @@ use Rattle.std.proofs.Math.Nat.{div-le_self}
 use Rattle.std.proofs.lemmas.Int.{to_z-of_z}
 use Rattle.rational.specs.Gcd.{gcd, div_ℤ}
 use Rattle.rational.specs.GcdLaws.{gcd_pos, gcd-parts}
-use Rattle.rational.specs.Rational.{ℚ, zero_ℚ, frac, den_pos}
+use Rattle.rational.specs.Rational.{ℚ, zero_ℚ, frac}
+use Rattle.rational.proofs.DenominatorLemmas.{den_pos}
 use Rattle.rational.proofs.FractionLemmas.{equal_by_parts, frac-lowest, StandsFor, StandsFor-frac, equal_by}
 use Rattle.rational.proofs.Linear.{zero-over}
 use Rattle.frac128.proofs.PartLemmas.{zero-num, zero-den}

@@ -3,7 +3,8 @@ use Rattle.std.proofs.Common.{◌≡◌, ◌↔◌, ℤ, pos, negsuc, ◌<ℤ◌
 use Rattle.std.specs.Int.{int_signum}
 use Rattle.std.proofs.lemmas.Int.{ints}
 use Rattle.rational.specs.Tests.{sign_of}
-use Rattle.rational.specs.Rational.{ℚ, zero_ℚ, den_pos, ◌<ℚ◌}
+use Rattle.rational.specs.Rational.{ℚ, zero_ℚ, ◌<ℚ◌}
+use Rattle.rational.proofs.DenominatorLemmas.{den_pos}
 use Rattle.rational.proofs.FractionLemmas.{StandsFor-self}
 use Rattle.rational.proofs.Linear.{zero-over}
 use Rattle.rational.proofs.OrderLemmas.{lt_by, by_lt}

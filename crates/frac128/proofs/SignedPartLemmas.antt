@@ -2,7 +2,8 @@
 use Rattle.std.proofs.Common.{ℕ, zero, suc, ◌≡◌, ◌≢◌, ◌*◌, ◌<◌, ℤ, pos, negsuc, neg_ℤ, nat_abs, ◌*ℤ◌, Bool, true, false, not, int_lt, arith, refl, sym, ap, ap₂, ◌∙◌, subst, mul-pos, mul-zero, pos_of_ne-zero, Option, Some, None, MatchOption}
 use mathlib.Core.Bool.{beq}
 use Rattle.rational.specs.Gcd.{gcd}
-use Rattle.rational.specs.Rational.{ℚ, ◌*ℚ◌, inv_ℚ, zero_ℚ, frac, den_pos, lowest}
+use Rattle.rational.specs.Rational.{ℚ, ◌*ℚ◌, inv_ℚ, zero_ℚ, frac}
+use Rattle.rational.proofs.DenominatorLemmas.{den_pos, lowest}
 use Rattle.rational.proofs.FractionLemmas.{StandsFor, StandsFor-self, StandsFor-frac, StandsFor-mul, equal_by}
 use Rattle.frac128.specs.Fraction.{Fits, with_sign}
 use Rattle.frac128.specs.Steps.{MulFits, DivFits}

@@ -8,7 +8,8 @@ use Rattle.rational.proofs.PartLemmas.{frac_num_size}
 use lib.IntN.{+ℤ_comm}
 use Rattle.rational.specs.Gcd.{gcd}
 use Rattle.rational.specs.GcdLaws.{gcd-is, gcd-parts, gcd_pos}
-use Rattle.rational.specs.Rational.{ℚ, ◌+ℚ◌, frac, den_pos, lowest}
+use Rattle.rational.specs.Rational.{ℚ, ◌+ℚ◌, frac}
+use Rattle.rational.proofs.DenominatorLemmas.{den_pos, lowest}
 use Rattle.rational.proofs.FractionLemmas.{StandsFor-self, StandsFor-frac, StandsFor-add, equal_by}
 use Rattle.rational.proofs.IntegerRing.{integer_ring}
 use Rattle.rational.proofs.Ring.{ring, ◌:*◌, ◌:+◌, A, B, C, D, E}

@@ -1,5 +1,5 @@
 // The top call.
-ghost use Rattle.std.specs.Prelude.{option_map, ◌≡◌, ℕ, ◌<◌, ◌≤◌, ◌⊎◌, List, [], ◌∷◌, Option, None, Some, length, map, string_bytes, IfOk, IfErr};
+ghost use Rattle.std.specs.Prelude.{◌≡◌, ℕ, ◌<◌, List, None, Some, map, string_bytes};
 ghost use Rattle.std.specs.Result.{result_err};
 ghost use Rattle.answers.specs.Answers.{map_ok, IsSingle};
 ghost use Rattle.outside.specs.Inputs.{InputName};

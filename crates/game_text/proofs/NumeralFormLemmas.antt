@@ -11,9 +11,13 @@ use Rattle.lists.proofs.OptionLemmas.{either}
 use Rattle.frac128.specs.Fraction.{with_sign}
 use Rattle.game_text.specs.Digits.{AreDigits, digits_value}
 use Rattle.game_text.specs.Numbers.{NumberForm, Fraction, Decimal, IsSign, IsMantissa, IsExponent, IsWritten}
-use Rattle.game_text.specs.NumberReading.{is_minus, after_sign, leading, following, is_zero, are_digits, power_of, with_power, decimal_of, fraction_of, form_with, form_of}
+use Rattle.game_text.specs.NumberReading.{is_minus, after_sign, leading, following, is_zero, are_digits, power_of, with_power, decimal_of, fraction_of, form_with}
 use Rattle.game_text.proofs.DigitLemmas.{passes_digits, digits_pass, each_passes, front_digits, zeros_value, others_value}
 use Rattle.game_text.proofs.PrefixLemmas.{Stops, leading-following, leading-is, following-is}
+
+-- the form of a text, where it has one
+unfoldable pub form_of : List ℕ → Option NumberForm
+form_of text = form_with (is_minus text) (leading is_ascii_digit (after_sign text)) (following is_ascii_digit (after_sign text))
 
 -- no answer is no value
 none_some : {A B : Type 0} (x : A) → None ≡ Some x → B

@@ -9,8 +9,9 @@ use Rattle.std.specs.Int.{◌∣◌}
 use Rattle.frac128.proofs.ProductSizeLemmas.{with_sign-mul}
 use Rattle.rational.proofs.IntegerRing.{integer_ring}
 use Rattle.rational.proofs.Ring.{ring, num, ◌:*◌, A, B, C, D}
-use Rattle.rational.specs.GcdLaws.{gauss}
-use Rattle.rational.specs.Rational.{ℚ, frac, whole, ◌*ℚ◌, den_pos, lowest}
+use Rattle.rational.proofs.GcdLemmas.{gauss}
+use Rattle.rational.specs.Rational.{ℚ, frac, whole, ◌*ℚ◌}
+use Rattle.rational.proofs.DenominatorLemmas.{den_pos, lowest}
 use Rattle.rational.proofs.FractionLemmas.{StandsFor-frac, equal_by, cancel_pos, frac_self}
 use Rattle.rational.proofs.PartLemmas.{whole-num, frac-mul, frac-scale}
 use Rattle.frac128.specs.Fraction.{with_sign, PartFits}

@@ -71,10 +71,6 @@ form_with negative before (b ∷ bytes) =
     if b == 47 then fraction_of negative before bytes
     else (if b == 46 then decimal_of negative before (leading is_ascii_digit bytes) (following is_ascii_digit bytes) else decimal_of negative before [] (b ∷ bytes))
 
--- the form of a text, where it has one
-unfoldable pub form_of : List ℕ → Option NumberForm
-form_of text = form_with (is_minus text) (leading is_ascii_digit (after_sign text)) (following is_ascii_digit (after_sign text))
-
 -- ---- answers
 -- the number that digits stand for, exactly where no more than 36 of them count
 abbrev pub GivesSize : List ℕ → Option ℕ → Type 0

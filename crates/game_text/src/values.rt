@@ -1,5 +1,5 @@
 // The values of numbers, where both parts in lowest terms are below 2^63.
-ghost use Rattle.std.specs.Prelude.{◌≡◌, ◌↔◌, ◌<◌, ◌≤◌, ◌+◌, ◌*◌, ◌^◌, nat_abs, pos, IsTrue};
+ghost use Rattle.std.specs.Prelude.{◌≡◌, ◌<◌, ◌≤◌, ◌+◌, ◌*◌, ◌^◌};
 ghost use Rattle.rational.specs.Rational.{frac, whole, ◌*ℚ◌};
 ghost use Rattle.frac128.specs.Fraction.{with_sign};
 ghost use Rattle.game_text.specs.Numbers.{ten_to};

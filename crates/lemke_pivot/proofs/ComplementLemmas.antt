@@ -1,7 +1,7 @@
 -- which variables are complements
 use Rattle.std.proofs.Common.{ℕ, suc, ◌<◌, ◌≤◌, ◌≡◌, ◌≢◌, ◌+◌, ◌-◌, ◌⊎◌, inl, inr, eqb, leb, true, false, cond, ap, ap₂, ◌∙◌, arith, tests}
 use Rattle.std.proofs.lemmas.Bool.{cases_lt, cases_eq}
-use Rattle.lemke_pivot.specs.Bases.{Labels}
+use Rattle.lemke_pivot.proofs.EdgeLemmas.{Labels}
 use Rattle.lemke_pivot.specs.ProblemPaths.{is_w, complement, w_of, z_of, z0_of}
 
 -- where a variable stands: it is a w, a z, or neither

@@ -16,8 +16,10 @@ use Rattle.lemke_pivot.specs.Vectors.{image}
 use Rattle.lemke_pivot.specs.Problems.{IsCopositive}
 use Rattle.linear_systems.proofs.SolutionLemmas.{solution_basic, solution_solves}
 use Rattle.lemke_pivot.specs.Values.{direction, is_basic}
-use Rattle.lemke_pivot.specs.Bases.{swap, Almost}
-use Rattle.lemke_pivot.specs.ProblemPaths.{w_of, z_of, z0_of, complement, HasPositiveKeys, basis_without, IsFirstRow, SolvesAt, IsRayAt}
+use Rattle.lemke_pivot.proofs.EdgeLemmas.{swap, Almost}
+use Rattle.lemke_pivot.specs.ProblemPaths.{w_of, z_of, z0_of, complement, IsFirstRow, SolvesAt, IsRayAt}
+use Rattle.lemke_pivot.proofs.KeyLemmas.{HasPositiveKeys}
+use Rattle.lemke_pivot.proofs.FirstBasisLemmas.{basis_without}
 use Rattle.lemke_pivot.proofs.VectorLemmas.{dot-two}
 use Rattle.lemke_pivot.proofs.NoRayLemmas.{no_ray}
 use Rattle.lemke_pivot.proofs.EdgeLemmas.{At, at_first, swap_out, swap_other}

@@ -17,12 +17,18 @@ use Rattle.linear_systems.proofs.RowLemmas.{unit_self, unit_other, key_alike}
 use Rattle.linear_systems.proofs.ReachedTableauLemmas.{reached_start, reached_pivot, reached_alike}
 use Rattle.lemke_pivot.specs.Vectors.{image}
 use Rattle.lemke_pivot.specs.Values.{is_basic}
-use Rattle.lemke_pivot.specs.Bases.{swap, Almost, Start}
-use Rattle.lemke_pivot.specs.ProblemPaths.{is_w, w_of, z_of, z0_of, complement, start, HasPositiveKeys, basis_without, IsFirstRow}
+use Rattle.lemke_pivot.proofs.EdgeLemmas.{swap, Almost, Start}
+use Rattle.lemke_pivot.specs.ProblemPaths.{is_w, w_of, z_of, z0_of, complement, start, IsFirstRow}
+use Rattle.lemke_pivot.proofs.KeyLemmas.{HasPositiveKeys}
 use Rattle.lemke_pivot.proofs.ValueLemmas.{row_of, basic_yes, basic_no, basic_which, nonbasic_no, left_out, left_one}
 use Rattle.lemke_pivot.proofs.ComplementLemmas.{Which, which, complement_w, complement_z, complement_neither, complement_of_z, labels}
 use Rattle.lemke_pivot.proofs.PivotLemmas.{lex_opposite, basic_swap}
 use Rattle.lemke_pivot.proofs.KeyLemmas.{Reaches, is_start, row_in, row_out, solves, nonbasic_which, pivots}
+use Rattle.std.specs.Prelude.{Bool}
+
+-- all w but that of row s, and z0
+abbrev pub basis_without : ℕ → ℕ → ℕ → Bool
+basis_without n s = swap (is_w n) (z0_of n) (w_of s)
 
 -- ---- the start's rows as equations
 start_left : (n : ℕ) (M : ℕ → ℕ → ℚ) (b x : ℕ → ℚ) (i : ℕ) → left (start n M b) x i ≡ (x (w_of i) -ℚ image n M (λ j. x (z_of n j)) i) -ℚ x (z0_of n)

@@ -10,7 +10,8 @@ use Rattle.lex_tableau.specs.Rows.{Numbers, tableau, IsTableau, IsPivotOf}
 use Rattle.lex_tableau.specs.Ratio.{variable_at, IsBest}
 use Rattle.frac128.specs.Steps.{StepFits, IsFirstUnfit}
 use Rattle.lex_tableau.specs.Pivots.{pivot_number, steps_of_pivot}
-use Rattle.lemke_pivot.specs.ProblemPaths.{w_of, z_of, z0_of, complement, start, HasPositiveKeys, PathTo}
+use Rattle.lemke_pivot.specs.ProblemPaths.{w_of, z_of, z0_of, complement, start, PathTo}
+use Rattle.lemke_pivot.proofs.KeyLemmas.{HasPositiveKeys}
 use Rattle.linear_systems.proofs.AgreementLemmas.{alike_trans, alike_pivot}
 use Rattle.lemke_pivot.proofs.KeyLemmas.{nonbasic_which}
 use Rattle.lemke_pivot.proofs.FirstBasisLemmas.{entry_not}

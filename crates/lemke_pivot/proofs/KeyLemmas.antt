@@ -6,18 +6,24 @@ use Rattle.rational.proofs.RationalRing.{rational_ring}
 use Rattle.rational.proofs.Ring.{ring, combine, ◌times◌is◌, num, ◌:+◌, ◌:*◌, :neg, A, B, C}
 use Rattle.rational.proofs.SumLemmas.{sum_to-zeros}
 use Rattle.linear_systems.specs.Tableau.{Tableau, left, Solves, pivot}
-use Rattle.linear_systems.specs.Rows.{Alike, row}
+use Rattle.linear_systems.specs.Rows.{Alike, row, key}
 use Rattle.linear_systems.specs.Reached.{IsReached, IsStart, IsVariableOf, in_row, in_column, IsCombination}
 use Rattle.rational.proofs.InverseLemmas.{ne_zero_of_pos}
 use Rattle.linear_systems.proofs.AgreementLemmas.{alike_refl, alike_lex_row}
 use Rattle.linear_systems.proofs.LexRowLemmas.{keys_stay_alike}
 use Rattle.linear_systems.proofs.ReachedTableauLemmas.{reached_pivot, reached_alike}
 use Rattle.lemke_pivot.specs.Values.{is_basic}
-use Rattle.lemke_pivot.specs.Bases.{swap, Pivots}
-use Rattle.lemke_pivot.specs.ProblemPaths.{w_of, start, HasPositiveKeys, Replaces}
+use Rattle.lemke_pivot.proofs.EdgeLemmas.{swap, Pivots}
+use Rattle.lemke_pivot.specs.ProblemPaths.{w_of, start, Replaces}
 use Rattle.lemke_pivot.proofs.AlikeTableauLemmas.{into_width, alike_basic}
 use Rattle.lemke_pivot.proofs.ValueLemmas.{basic_yes, basic_no, nonbasic_no}
 use Rattle.lemke_pivot.proofs.PivotLemmas.{basic_r, nonbasic_c, basic_swap, undone, same_leaves}
+use Rattle.linear_systems.specs.Lex.{IsLexPositive}
+
+-- a tableau of this system, with positive keys
+pub record HasPositiveKeys (n : ℕ) (M : ℕ → ℕ → ℚ) (b : ℕ → ℚ) (t : Tableau) : Type 0 where
+  pub reached : IsReached (suc (suc (n + n))) n (start n M b) t
+  pub positive : (i : ℕ) → i < n → IsLexPositive (suc n) (key w_of t i)
 
 abbrev pub Reaches : ℕ → (ℕ → ℕ → ℚ) → (ℕ → ℚ) → Tableau → Type 0
 Reaches n M b t = IsReached (suc (suc (n + n))) n (start n M b) t

@@ -13,9 +13,10 @@ use Rattle.linear_systems.proofs.LexRowLemmas.{lex_row_once, lex_row_is}
 use Rattle.lemke_pivot.specs.Vectors.{zeros}
 use Rattle.lemke_pivot.specs.Problems.{costs_of, size, matrix, right_sides, IsCopositive}
 use Rattle.lemke_pivot.specs.Walks.{Apart, Distinct}
-use Rattle.lemke_pivot.specs.Bases.{swap}
+use Rattle.lemke_pivot.proofs.EdgeLemmas.{swap}
 use Rattle.lemke_pivot.specs.Values.{is_basic}
-use Rattle.lemke_pivot.specs.ProblemPaths.{w_of, z_of, z0_of, complement, SolvesAt, IsRayAt, start, IsFirstRow, HasPositiveKeys, Replaces, PathTo}
+use Rattle.lemke_pivot.specs.ProblemPaths.{w_of, z_of, z0_of, complement, SolvesAt, IsRayAt, start, IsFirstRow, Replaces, PathTo}
+use Rattle.lemke_pivot.proofs.KeyLemmas.{HasPositiveKeys}
 use Rattle.lemke_pivot.specs.ProblemLaws.{NoBasisOccursTwice, PathsAreShort, PathsAreUnique, PathsEndSolved, PathsEndInRays, FirstRowsExist, AlwaysALeavingRow, LeastIsNegative}
 use Rattle.lemke_pivot.proofs.ProblemBlockLemmas.{six_p}
 use Rattle.lemke_pivot.proofs.CopositiveLemmas.{sides_copositive}

@@ -6,7 +6,8 @@ use Rattle.rational.proofs.Ring.{ring, num, ◌:+◌, ◌:*◌, ◌:-◌, :neg, 
 use Rattle.sequence_forms.specs.Forms.{SequenceForm}
 use Rattle.sequence_forms.specs.Prices.{costs}
 use Rattle.sequence_forms.specs.Matrices.{SolvesProblem, row_slack, column_slack}
-use Rattle.lemke_pivot.specs.Vectors.{image, transpose, zeros}
+use Rattle.lemke_pivot.specs.Vectors.{image, zeros}
+use Rattle.lemke_pivot.proofs.ProblemBlockLemmas.{transpose}
 use Rattle.lemke_pivot.specs.Problems.{Costs, costs_of, size, at_y, at_p, at_p', at_q, at_q', matrix, right_sides, IsSolution}
 use Rattle.lemke_pivot.specs.ProblemLaws.{SolutionsHavePlans}
 use Rattle.lemke_pivot.proofs.VectorLemmas.{dot_comm}

@@ -1,6 +1,25 @@
 -- a walk that never turns back at once meets no vertex twice
 use Rattle.std.proofs.Common.{◌≡◌, ◌⊎◌, inl, inr, List, [], ◌∷◌, sym, subst, ◌∙◌}
-use Rattle.lemke_pivot.specs.Walks.{FewNeighbours, Apart, Distinct, Walk}
+use Rattle.lemke_pivot.specs.Walks.{Apart, Distinct}
+use Rattle.std.specs.Prelude.{◌≢◌}
+
+-- the neighbours of a graph whose vertices are those of V
+pub record FewNeighbours {V : Type 0} (Adj : V → V → Type 0) (start : V) : Type 0 where
+  pub both : (a b : V) → Adj a b → Adj b a
+  pub apart : (a b : V) → Adj a b → a ≢ b
+  pub two : (a b c d : V) → Adj a b → Adj a c → Adj a d → (b ≡ c) ⊎ (b ≡ d) ⊎ (c ≡ d)
+  pub one : (a b : V) → Adj start a → Adj start b → a ≡ b
+
+-- b is not the head of the list
+abbrev pub Turns : {V : Type 0} → V → List V → Type 0
+Turns b [] = Unit {0}
+Turns b (x ∷ xs) = b ≢ x
+
+-- a walk from the start that never turns back at once, its last vertex first
+abbrev pub Walk : {V : Type 0} → (V → V → Type 0) → V → List V → Type 0
+Walk Adj start [] = ⊥
+Walk Adj start (a ∷ []) = a ≡ start
+Walk Adj start (b ∷ (a ∷ xs)) = Adj a b × Turns b xs × Walk Adj start (a ∷ xs)
 
 module _ {V : Type 0} (Adj : V → V → Type 0) (start : V) (G : FewNeighbours Adj start) where
   -- a neighbour b of a lies nowhere on a walk that a is not on, but at its end

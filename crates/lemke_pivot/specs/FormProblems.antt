@@ -6,7 +6,7 @@ use Rattle.frac128.specs.Steps.{unfit, Step}
 use Rattle.frac128.specs.declared.steps.Op.TheVariants.{Sub, Mul}
 use Rattle.lex_tableau.specs.Rows.{Numbers}
 use Rattle.lex_tableau.specs.Starts.{Parts}
-use Rattle.lex_tableau.specs.StartStops.{start_in}
+use Rattle.lex_tableau.specs.StartStops.{start_of}
 use Rattle.lex_tableau.specs.declared.tableau.StartStop.{StartStop}
 use Rattle.lex_tableau.specs.declared.tableau.StartStop.TheVariants as starts
 use Rattle.game_core.specs.Limits.{most_rows, within}
@@ -76,19 +76,16 @@ IsSystemOf f s =
 abbrev pub with_start : FormData → Numbers → Problem
 with_start f n = record { first = f.first; second = f.second; tableau = n }
 
--- the problem with the start of its system, all steps of which fit; or the first step that does
--- not, with its row
-abbrev pub form_start : FormData → Answer StartStop Problem
-form_start f answer =
-    (s : Parts) × (IsSystemOf f s × (start_in s >>= (λ n. only (with_start f n))) answer)
-
 -- a stop of the start as one of the problem
 abbrev pub told_start : StartStop → LcpStop
 told_start (starts.Unfit row unfit) = stops.Start row unfit
 told_start starts.Memory = stops.Memory
 
+-- the problem with the start of its system, all steps of which fit; or the first step that does
+-- not, with its row
 abbrev pub form_start_in : FormData → Answer LcpStop Problem
-form_start_in f = refused_by told_start (form_start f)
+form_start_in f =
+    refused_by told_start (start_of (IsSystemOf f)) >>= (λ start. only (with_start f start))
 
 -- ---- all
 -- The problem of a sequence form within the limit, whose steps all fit; or why there is none.

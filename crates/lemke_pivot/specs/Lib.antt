@@ -1,4 +1,3 @@
-pub mod Bases
 pub mod Ends
 pub mod FormProblems
 pub mod Parts

@@ -4,10 +4,7 @@
 use Rattle.std.specs.Prelude.{ℕ, suc, ◌<◌, ◌≡◌, ◌≢◌, ◌+◌, ◌-◌, eqb, leb, cond, Bool, false, List, [], ◌∷◌}
 use Rattle.rational.specs.Rational.{ℚ, neg_ℚ, zero_ℚ, one_ℚ, ◌≤ℚ◌, ◌<ℚ◌}
 use Rattle.linear_systems.specs.Tableau.{Tableau, pivot}
-use Rattle.linear_systems.specs.Lex.{IsLexPositive}
-use Rattle.linear_systems.specs.Rows.{basic_solution, key, IsLexicographicRow, Alike}
-use Rattle.linear_systems.specs.Reached.{IsReached}
-use Rattle.lemke_pivot.specs.Bases.{swap}
+use Rattle.linear_systems.specs.Rows.{basic_solution, IsLexicographicRow, Alike}
 use Rattle.lemke_pivot.specs.Values.{direction}
 use Rattle.lemke_pivot.specs.Problems.{IsSolution, IsRay}
 
@@ -39,11 +36,6 @@ start n M b =
       cell = λ i j. cond (eqb j n) (neg_ℚ one_ℚ) (neg_ℚ (M i j));
       right = b;
     }
-
--- a tableau of this system, with positive keys
-pub record HasPositiveKeys (n : ℕ) (M : ℕ → ℕ → ℚ) (b : ℕ → ℚ) (t : Tableau) : Type 0 where
-  pub reached : IsReached (suc (suc (n + n))) n (start n M b) t
-  pub positive : (i : ℕ) → i < n → IsLexPositive (suc n) (key w_of t i)
 
 -- the row at which z0 enters: the last of those with the least right side, which is negative
 pub record IsFirstRow (n : ℕ) (b : ℕ → ℚ) (r : ℕ) : Type 0 where
@@ -81,7 +73,3 @@ IsRayAt n M b t col =
     IsRay n M b (λ i. basic_solution t (w_of i)) (λ i. basic_solution t (z_of n i))
     (λ i. direction t col (w_of i)) (λ i. direction t col (z_of n i))
     (basic_solution t (z0_of n)) (direction t col (z0_of n))
-
--- all w but that of row s, and z0
-abbrev pub basis_without : ℕ → ℕ → ℕ → Bool
-basis_without n s = swap (is_w n) (z0_of n) (w_of s)

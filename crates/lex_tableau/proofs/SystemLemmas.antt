@@ -4,14 +4,13 @@ use Rattle.std.specs.List.{range_with_len}
 use Rattle.std.proofs.lemmas.Grind.{same_number_lists}
 use Rattle.std.proofs.lemmas.List.{ext_get_or}
 use native.Mathlib.Nat.{div-lt_iff_lt-mul, mod-lt}
-use Rattle.answers.specs.Answers.{◌>>=◌, only, such_that, IsSingle}
-use Rattle.answers.proofs.AnswerLemmas.{bind-single, only-single, refused_by-single, such_that-single}
+use Rattle.answers.specs.Answers.{such_that, IsSingle}
+use Rattle.answers.proofs.AnswerLemmas.{bind-single, refused_by-single, such_that-single}
 use Rattle.rational.specs.Rational.{zero_ℚ}
 use Rattle.linear_systems.specs.Rows.{Alike}
 use Rattle.lex_tableau.specs.Rows.{Numbers, tableau, IsTableau}
 use Rattle.lex_tableau.specs.Starts.{Parts, system_of, IsSystem, IsStartOf, cells_from, start_steps, start_rows_fit}
-use Rattle.lex_tableau.specs.StartStops.{rows_in, start_in, IsStarted}
-use Rattle.lex_tableau.specs.declared.tableau.StartStop.{StartStop}
+use Rattle.lex_tableau.specs.StartStops.{rows_in, start_in, start_of, IsStarted}
 use Rattle.lex_tableau.specs.declared.tableau.StartStop.TheVariants.{Unfit, Memory}
 use Rattle.frac128.proofs.FirstUnfitLemmas.{all_fit-single}
 use Rattle.lex_tableau.proofs.TableauLemmas.{alike_both, determined}
@@ -67,8 +66,7 @@ pub start_not_memory : (s : Parts) → start_in s (Err Memory) → ⊥
 start_not_memory s (inl (_, _, e)) = cc
 start_not_memory s (inr (_, _, h)) = h
 
--- the start of the one system for which a condition holds, as the value that it stands for
-pub start_for-single : {Y : Type 0} (P : Parts → Type 0) (view : Numbers → Y) → ((s t : Parts) → P s → P t → s ≡ t) → IsSingle {E = StartStop} {Y = Y} (λ answer. (s : Parts) × (P s × (start_in s >>= (λ n. only (view n))) answer))
-start_for-single P view same one other h g =
-    bind-single (start_in g.0) (λ n. only (view n)) (start_in-single g.0) (λ n _. only-single (view n)) one other
-    (subst (λ s. (start_in s >>= (λ n. only (view n))) one) (same h.0 g.0 h.1.0 g.1.0) h.1.1) g.1.1
+-- the one system that is described has one start
+pub start_of-single : (Describes : Parts → Type 0) → ((s t : Parts) → Describes s → Describes t → s ≡ t) → IsSingle (start_of Describes)
+start_of-single Describes same one other h g =
+    start_in-single g.0 one other (subst (λ s. start_in s one) (same h.0 g.0 h.1.0 g.1.0) h.1.1) g.1.1

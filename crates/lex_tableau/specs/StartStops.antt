@@ -21,3 +21,7 @@ pub record IsStarted (s : Parts) (n : Numbers) : Type 0 where
 -- the start of a system, all steps of which fit
 abbrev pub start_in : Parts → Answer StartStop Numbers
 start_in s = rows_in s >> such_that (IsStarted s)
+
+-- the start of the system that is described
+abbrev pub start_of : (Parts → Type 0) → Answer StartStop Numbers
+start_of Describes answer = (s : Parts) × (Describes s × start_in s answer)

@@ -10,7 +10,7 @@
 //! `enummixed`.
 #![tactic(auto)]
 
-ghost use Rattle.lex_tableau.specs.Laws.{TableauxAreDetermined};
+ghost use Rattle.lex_tableau.specs.Laws.{StartsAreSingle, TableauxAreDetermined};
 
 mod pivot_count;
 mod ratio;
@@ -28,4 +28,9 @@ pub use work::Work;
 /// The whole numbers of a tableau are determined by its fractions.
 pub fn tableaux_are_determined()
     ensures { TableauxAreDetermined }
+{}
+
+/// A system has one start, or one step of its rows is the first that does not fit.
+pub fn starts_are_single()
+    ensures { StartsAreSingle }
 {}

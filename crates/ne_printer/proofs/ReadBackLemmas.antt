@@ -10,7 +10,8 @@ use Rattle.std.proofs.lemmas.Int.{ints}
 use Rattle.std.proofs.lemmas.List.{append-nil, append_cancel_right}
 use Rattle.std.proofs.lemmas.List.Elements.{All-head, All-tail}
 use Rattle.std.proofs.lemmas.Str.Parse.{digit_from_value}
-use Rattle.rational.specs.Rational.{ℚ, frac, whole, den_pos}
+use Rattle.rational.specs.Rational.{ℚ, frac, whole}
+use Rattle.rational.proofs.DenominatorLemmas.{den_pos}
 use Rattle.rational.proofs.FractionLemmas.{frac_self}
 use Rattle.rational.proofs.PartLemmas.{whole-own_num}
 use Rattle.game_text.proofs.DigitLemmas.{digits_pass}

@@ -20,7 +20,8 @@ use Rattle.file_parts.proofs.TokenReaderLemmas.{wanted_faults, passed_faults, so
 use Rattle.file_parts.proofs.PartReaderLemmas.{title_reader, names_reader, payoffs_reader, title_faults, names_faults, payoffs_faults}
 use Rattle.file_parts.proofs.ValueLemmas.{value, value_title, value_names, value_payoffs, value_each}
 use Rattle.nfg_reader.specs.TableFile.{counted_names, outcome_payoffs, IsFront, AreOutcomes, AreStrategyTokens}
-use Rattle.nfg_reader.specs.TableReading.{FrontPart, profiles, table_of, outcome_number_at}
+use Rattle.nfg_reader.specs.Fronts.{FrontPart, profiles, table_of}
+use Rattle.nfg_reader.proofs.TableValueLemmas.{outcome_number_at}
 use Rattle.nfg_reader.specs.TableParsing.{parse_count, parse_counted, parse_named, parse_strategies, parse_front, parse_outcome, parse_outcomes, parse_number, parse_outcome_body, parse_body}
 use Rattle.nfg_reader.specs.Faults.{IsTitle, ArePlayers, AreStrategiesOf, ArePayoffsOf, AreClosedOutcomes, AreNumbersOf, StopsInStrategies, HasBody, StopsInOutcomes, StopsInNumbers, StopsInPayoffs, WholeComes, IsKind}
 use Rattle.nfg_reader.specs.declared.reading.NfgKind.{NfgKind}

@@ -11,7 +11,8 @@ use Rattle.game_theory.specs.Profiles.{profile_count}
 use Rattle.game_core.specs.Table.{GameTable, IsTable, most_payoffs, strategy_counts}
 use Rattle.game_core.specs.declared.token.Token.{Token}
 use Rattle.nfg_reader.specs.TableFile.{AreStrategyTokens, AreOutcomes, outcome_payoffs, IsPayoffBody, IsOutcomeBody, IsTableFile, HasTooManyPayoffs}
-use Rattle.nfg_reader.specs.TableReading.{front_at, rest_at, table_at, FrontPart, profiles, table_of, IsTooLong}
+use Rattle.nfg_reader.specs.Fronts.{FrontPart, profiles, table_of}
+use Rattle.nfg_reader.proofs.TableValueLemmas.{front_at, rest_at, table_at, IsTooLong}
 use Rattle.nfg_reader.proofs.CountedNameLemmas.{lengths_counted}
 use Rattle.nfg_reader.proofs.FrontLaws.{front_is, front_again}
 use Rattle.nfg_reader.proofs.BodyLaws.{rest_is, rest_again}

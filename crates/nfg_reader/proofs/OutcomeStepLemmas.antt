@@ -16,7 +16,7 @@ use Rattle.file_parts.proofs.ReaderLemmas.{err_same}
 use Rattle.file_parts.proofs.ValueLemmas.{value, value_payoffs}
 use Rattle.std.specs.Prelude.{Ok, Err}
 use Rattle.nfg_reader.specs.TableFile.{outcome_payoffs}
-use Rattle.nfg_reader.specs.TableReading.{outcomes_at}
+use Rattle.nfg_reader.proofs.TableValueLemmas.{outcomes_at}
 use Rattle.nfg_reader.specs.TableParsing.{parse_outcome, parse_outcomes, parse_number, parse_outcome_body}
 use Rattle.nfg_reader.specs.declared.reading.NfgKind.{NfgKind}
 use Rattle.nfg_reader.specs.declared.reading.NfgKind.TheVariants.{Outcome}

@@ -13,7 +13,8 @@ use Rattle.file_parts.specs.Parsing.{counted, IsRefusal}
 use Rattle.file_parts.proofs.ReaderLemmas.{err_same}
 use Rattle.file_parts.proofs.ValueLemmas.{value}
 use Rattle.nfg_reader.specs.TableFile.{HasTooManyPayoffs}
-use Rattle.nfg_reader.specs.TableReading.{FrontPart, profiles, front_at, rest_at}
+use Rattle.nfg_reader.specs.Fronts.{FrontPart, profiles}
+use Rattle.nfg_reader.proofs.TableValueLemmas.{front_at, rest_at}
 use Rattle.nfg_reader.specs.TableParsing.{parse_front, parse_rest, parse_table}
 use Rattle.nfg_reader.specs.Stops.{table_in, IsNfgStop}
 use Rattle.nfg_reader.specs.declared.reading.NfgKind.{NfgKind}

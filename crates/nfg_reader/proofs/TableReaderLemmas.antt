@@ -16,7 +16,7 @@ use Rattle.file_parts.proofs.TokenLaws.{names_is, whole_again, le_passes}
 use Rattle.file_parts.proofs.TokenReaderLemmas.{whole_is_head, left_reader, right_reader, text_reader, count_reader, opens_first}
 use Rattle.file_parts.proofs.PartReaderLemmas.{title_reader, names_reader, payoffs_reader}
 use Rattle.nfg_reader.specs.TableFile.{counted_names, outcome_payoffs}
-use Rattle.nfg_reader.specs.TableReading.{FrontPart, profiles, table_of}
+use Rattle.nfg_reader.specs.Fronts.{FrontPart, profiles, table_of}
 use Rattle.nfg_reader.specs.TableParsing.{parse_count, parse_counted, parse_named, parse_strategies, parse_front, parse_outcome, parse_outcomes, parse_number, parse_outcome_body, parse_body}
 use Rattle.nfg_reader.proofs.FileLaws.{front_some}
 use Rattle.nfg_reader.proofs.ProductLemmas.{some_profile}

@@ -1,14 +1,98 @@
 -- Reading a table with places of faults gives what reading it without them does.
 use Rattle.std.proofs.Common.{◌≡◌, ℕ, zero, suc, ◌*◌, nat_le, List, [], ◌∷◌, length, Some, None, refl}
-use Rattle.std.specs.Prelude.{Ok, Err, codes}
+use Rattle.std.specs.Prelude.{Ok, Err, codes, ◌<◌, if◌then◌else◌, map, Option}
 use Rattle.game_core.specs.declared.token.Token.{Token}
-use Rattle.file_parts.specs.Reading.{left_at, right_at, text_at, after_text, opens, ends, whole_at, count_at, names_at, payoffs_at}
+use Rattle.file_parts.specs.Reading.{left_at, right_at, text_at, after_text, opens, ends, whole_at, count_at}
+use Rattle.file_parts.proofs.ValueLemmas.{names_at, payoffs_at, repeat_at, title_at}
 use Rattle.file_parts.specs.Parsing.{wanted, parse_each, parse_names, parse_payoffs, parse_title}
 use Rattle.file_parts.proofs.ReaderLemmas.{chain}
 use Rattle.file_parts.proofs.ValueLemmas.{value, value_wanted, value_passed, value_chain, value_if, value_each, value_names, value_payoffs, value_title}
-use Rattle.nfg_reader.specs.TableReading.{profiles, counted_at, named_at, strategies_at, front_at, outcome_at, outcomes_at, outcome_number_at, outcome_body_at, body_at, rest_at, table_at}
+use Rattle.nfg_reader.specs.Fronts.{profiles, FrontPart, table_of}
 use Rattle.nfg_reader.specs.TableParsing.{parse_count, parse_counted, parse_named, parse_strategies, parse_front, parse_outcome, parse_outcomes, parse_number, parse_outcome_body, parse_body, parse_rest, parse_table}
 use Rattle.nfg_reader.specs.declared.reading.NfgKind.TheVariants.{Header, Players, Strategies, Outcome, PayoffCount, Trailing}
+use Rattle.std.specs.List.{flat_map}
+use Rattle.lists.specs.Options.{◌>>=◌}
+use Rattle.rational.specs.Rational.{ℚ}
+use Rattle.game_core.specs.Table.{GameTable, most_payoffs}
+use Rattle.nfg_reader.specs.TableFile.{counted_names, outcome_payoffs}
+
+-- the number of an outcome, or 0, where there are so many outcomes
+unfoldable pub outcome_number_at : ℕ → List Token → Option (ℕ × List Token)
+outcome_number_at outcomes tokens = do
+  number ← whole_at tokens
+  if nat_le number.0 outcomes then Some number else None
+
+-- counts, closed by a brace
+unfoldable pub counted_at : ℕ → List Token → Option (List (List (List ℕ)) × List Token)
+counted_at players tokens = do
+  counts ← repeat_at (λ _. count_at) 0 players tokens
+  rest ← right_at counts.1
+  Some (map counted_names counts.0, rest)
+
+-- lists of names, closed by a brace
+unfoldable pub named_at : ℕ → List Token → Option (List (List (List ℕ)) × List Token)
+named_at players tokens = do
+  lists ← repeat_at (λ _. names_at) 0 players tokens
+  rest ← right_at lists.1
+  Some (lists.0, rest)
+
+-- the strategies of this many players
+unfoldable pub strategies_at : ℕ → List Token → Option (List (List (List ℕ)) × List Token)
+strategies_at players tokens = do
+  inner ← left_at tokens
+  if opens inner then named_at players inner else counted_at players inner
+
+-- an outcome for this many players
+unfoldable pub outcome_at : ℕ → List Token → Option (List ℚ × List Token)
+outcome_at players tokens = do
+  inner ← left_at tokens
+  name ← text_at inner
+  payoffs ← payoffs_at players name.1
+  rest ← right_at payoffs.1
+  Some (payoffs.0, rest)
+
+-- as many outcomes as come, and at most so many
+abbrev pub outcomes_at : ℕ → ℕ → List Token → Option (List (List ℚ) × List Token)
+outcomes_at players zero tokens = Some ([], tokens)
+outcomes_at players (suc most) tokens = if opens tokens then (outcome_at players tokens >>= λ one. outcomes_at players most one.1 >>= λ more. Some (one.0 ∷ more.0, more.1)) else Some ([], tokens)
+
+-- outcomes in braces, and the number of one for each of this many profiles
+unfoldable pub outcome_body_at : ℕ → ℕ → List Token → Option (List ℚ × List Token)
+outcome_body_at players profiles tokens = do
+  inner ← left_at tokens
+  outcomes ← outcomes_at players (length inner) inner
+  rest ← right_at outcomes.1
+  numbers ← repeat_at (λ _. outcome_number_at (length outcomes.0)) 0 profiles rest
+  Some (flat_map (outcome_payoffs players outcomes.0) numbers.0, numbers.1)
+
+-- the payoffs of this many players at each of this many profiles
+unfoldable pub body_at : ℕ → ℕ → List Token → Option (List ℚ × List Token)
+body_at players profiles tokens = if opens tokens then outcome_body_at players profiles tokens else payoffs_at (players * profiles) tokens
+
+-- more payoffs than a table may have
+abbrev pub IsTooLong : FrontPart → Type 0
+IsTooLong front = most_payoffs < length front.players * profiles front
+
+-- the part up to the strategies
+unfoldable pub front_at : List Token → Option (FrontPart × List Token)
+front_at tokens = do
+  title ← title_at (codes "NFG") 1 tokens
+  players ← names_at title.1
+  strategies ← strategies_at (length players.0) players.1
+  Some (record { title = title.0; players = players.0; strategies = strategies.0 }, strategies.1)
+
+-- the payoffs, with which the file ends, after an optional comment
+unfoldable pub rest_at : ℕ → ℕ → List Token → Option (List ℚ)
+rest_at players profiles tokens = do
+  payoffs ← body_at players profiles (after_text tokens)
+  if ends payoffs.1 then Some payoffs.0 else None
+
+-- the table of a file
+unfoldable pub table_at : List Token → Option GameTable
+table_at tokens = do
+  front ← front_at tokens
+  payoffs ← rest_at (length front.0.players) (profiles front.0) front.1
+  Some (table_of front.0 payoffs)
 
 value_counted : (n : ℕ) (tokens : List Token) → value (parse_counted n tokens) ≡ counted_at n tokens
 unfolding parse_counted counted_at

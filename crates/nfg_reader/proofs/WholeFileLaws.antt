@@ -12,7 +12,8 @@ use Rattle.file_parts.specs.Parsing.{Parsed, ◌>>=◌}
 use Rattle.file_parts.proofs.ReaderLemmas.{IsStuck, result_of, ok_same, ok_err, bind_ok, reads_alone, cut}
 use Rattle.file_parts.proofs.ValueLemmas.{value, value_some}
 use Rattle.nfg_reader.specs.TableFile.{IsTableFile}
-use Rattle.nfg_reader.specs.TableReading.{FrontPart, profiles, table_of, front_at, rest_at, table_at}
+use Rattle.nfg_reader.specs.Fronts.{FrontPart, profiles, table_of}
+use Rattle.nfg_reader.proofs.TableValueLemmas.{front_at, rest_at, table_at}
 use Rattle.nfg_reader.specs.TableParsing.{parse_front, parse_rest, parse_table}
 use Rattle.nfg_reader.specs.Faults.{BeginsFile, CannotCome}
 use Rattle.nfg_reader.specs.declared.reading.NfgKind.{NfgKind}

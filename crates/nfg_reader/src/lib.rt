@@ -4,7 +4,7 @@
 //! limit on payoffs, comes exactly where the tokens are no file; tokens have one answer.
 //! Definitions: `specs::TableFile` has the grammar, `specs::Faults` the faults of tokens that are
 //! no file, `specs::Stops` what tokens answer (`table_in`).
-//! Private words: `specs::TableReading`, what is taken off the tokens.
+//! Private words: `specs::Fronts`, what the code keeps of a front.
 //! Lemmas for callers: `proofs::OneAnswerLaws`, that tokens have one answer.
 //! A change here touches: the tables of docs/FORMAT.md, `gambit_tools` and `refusals`.
 #![tactic(auto)]

@@ -7,7 +7,7 @@ ghost use Rattle.game_core.specs.declared.token.Token.{Token as token};
 ghost use Rattle.nfg_reader.specs.TableFile.{IsTableFile};
 ghost use Rattle.nfg_reader.specs.Faults.{IsFile, IsFault};
 ghost use Rattle.nfg_reader.specs.TableParsing.{parse_table};
-ghost use Rattle.nfg_reader.specs.TableReading.{front_of, table_of};
+ghost use Rattle.nfg_reader.specs.Fronts.{front_of, table_of};
 ghost use Rattle.nfg_reader.specs.Stops.{IsNfgStop, table_in};
 ghost use Rattle.nfg_reader.specs.declared.reading.NfgStop.TheVariants.{Memory};
 

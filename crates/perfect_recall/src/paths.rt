@@ -1,5 +1,5 @@
 // The players' last own edges on the paths of a tree.
-ghost use Rattle.std.specs.Prelude.{◌≡◌, ◌<◌, ◌≤◌, ◌+◌, None, Some, length, IfOk, MatchOption};
+ghost use Rattle.std.specs.Prelude.{◌≡◌, ◌<◌, None, Some, length, IfOk, MatchOption};
 ghost use Rattle.game_theory.specs.Trees.{IsWithin};
 ghost use Rattle.game_core.specs.TreeGame.{game_of_tree};
 ghost use Rattle.perfect_recall.specs.LastEdges.{AreLast, AreLastEdges, Chooses, IsEdgeBefore, NobodyChooses};

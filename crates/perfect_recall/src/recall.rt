@@ -1,5 +1,5 @@
 // What is found of perfect recall.
-ghost use Rattle.std.specs.Prelude.{◌≡◌, Err};
+ghost use Rattle.std.specs.Prelude.{◌≡◌};
 
 use answers::Memory;
 use std::marker::Model;

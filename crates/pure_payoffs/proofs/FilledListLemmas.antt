@@ -5,7 +5,13 @@ use Rattle.std.proofs.lemmas.List.{length-set, length-map, get_or-map, get_or-se
 use Rattle.std.proofs.lemmas.Option.{slice_get-get_or}
 use Rattle.game_theory.specs.Children.{AreChildren}
 use Rattle.game_theory.specs.Trees.{Tree, IsTree}
-use Rattle.pure_payoffs.specs.Filled.{HaveRoom, AreFilled}
+use Rattle.pure_payoffs.specs.Filled.{HaveRoom}
+use Rattle.std.specs.Prelude.{slice_index, slice_index_or}
+
+-- the lists have room for all children, and those before node n stand in them
+pub record AreFilled (t : Tree) (n : ℕ) (lists : List (List ℕ)) : Type 0 where
+  pub has_room : HaveRoom t t.size lists
+  pub filled : (c : ℕ) → 0 < c → c < n → c < t.size → slice_index (slice_index_or lists (t.parent c) []) (t.branch c) ≡ c
 
 -- at last the lists have the children
 pub filled-all : (t : Tree) (n : ℕ) (lists : List (List ℕ)) → IsTree t → t.size ≤ n → AreFilled t n lists → AreChildren t lists

@@ -1,5 +1,5 @@
 -- Nodes in whose subtrees no player moves: what they give is the same for every profile.
-use Rattle.std.specs.Prelude.{ℕ, ◌<◌, ◌≤◌, ◌≡◌, Bool, true, false, List, [], length, map, slice_index_or, Option, Some, None, IfSome, Ok}
+use Rattle.std.specs.Prelude.{ℕ, ◌<◌, ◌≡◌, Bool, true, false, List, [], length, map, slice_index_or, Option, Some, None, IfSome, Ok}
 use Rattle.rational.specs.Rational.{ℚ}
 use Rattle.game_theory.specs.Trees.{Tree, IsWithin}
 use Rattle.pure_payoffs.specs.declared.settled.Settled.{Settled}
@@ -21,11 +21,6 @@ Settles t i k v = (choice : ℕ → ℕ) → GiveAt t choice i k (Ok v)
 pub record AreWithoutPlayers (t : Tree) (n : ℕ) (idle : List Bool) : Type 0 where
   pub one_for_each : length idle ≡ n
   pub no_player : (k : ℕ) → k < n → slice_index_or idle k false ≡ true → NoPlayerAt t k
-
--- for each node as before, and from node n on the children of idle nodes are idle
-pub record ArePassedUp (t : Tree) (n : ℕ) (idle : List Bool) : Type 0 where
-  pub tell : AreWithoutPlayers t t.size idle
-  pub pass : (c : ℕ) → n ≤ c → 0 < c → c < t.size → slice_index_or idle (t.parent c) false ≡ true → slice_index_or idle c false ≡ true
 
 -- for each node whether it is idle; in the subtrees of idle nodes no player moves
 pub record AreSettledNodes (t : Tree) (idle : List Bool) : Type 0 where

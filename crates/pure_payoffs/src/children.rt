@@ -1,9 +1,9 @@
 // The children of nodes.
-ghost use Rattle.std.specs.Prelude.{◌≡◌, ◌<◌, ℕ, Some, slice_get, length, map, IfOk};
+ghost use Rattle.std.specs.Prelude.{◌≡◌, Some, length, map, IfOk};
 ghost use Rattle.game_theory.specs.Trees.{IsTree};
-ghost use Rattle.game_core.specs.Tree.{GameTree, action_count, IsBelow};
+ghost use Rattle.game_core.specs.Tree.{action_count, IsBelow};
 ghost use Rattle.game_core.specs.TreeGame.{game_of_tree};
-ghost use Rattle.pure_payoffs.specs.Filled.{AreFilled, HaveRoom};
+ghost use Rattle.pure_payoffs.specs.Filled.{HaveRoom};
 ghost use Rattle.game_theory.specs.Children.{AreChildren};
 
 use answers::Memory;

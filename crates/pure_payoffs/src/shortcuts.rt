@@ -1,5 +1,5 @@
 // Shortcuts past nodes at which a profile only leads on.
-ghost use Rattle.std.specs.Prelude.{◌≡◌, ◌<◌, ℕ, length, MatchOption, ⊤, IfOk, IfSome, Ok};
+ghost use Rattle.std.specs.Prelude.{◌<◌, ℕ, length, MatchOption, ⊤, IfOk, IfSome, Ok};
 ghost use Rattle.game_theory.specs.Trees.{Tree as game_tree};
 ghost use Rattle.game_core.specs.TreeGame.{game_of_tree};
 ghost use Rattle.pure_payoffs.specs.Plays.{IsPlayed, GiveAt, game_of, choice_of};

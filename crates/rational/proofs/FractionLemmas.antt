@@ -8,9 +8,11 @@ use lib.Dec.{T, T_prop}
 use mathlib.Core.HLevel.{is_prop→PathP}
 use Rattle.std.specs.Int.{◌∣◌}
 use Rattle.rational.specs.Gcd.{gcd, div_ℤ}
-use Rattle.rational.specs.GcdLaws.{gcd-is, lowest_unique}
-use Rattle.rational.specs.LowestTerms.{div_ℤ-mul}
-use Rattle.rational.specs.Rational.{ℚ, is_lowest, lowest-in, den_pos, lowest, frac, ◌+ℚ◌, ◌*ℚ◌, neg_ℚ}
+use Rattle.rational.specs.GcdLaws.{gcd-is}
+use Rattle.rational.proofs.GcdLemmas.{lowest_unique}
+use Rattle.rational.proofs.GcdLemmas.{div_ℤ-mul}
+use Rattle.rational.specs.Rational.{ℚ, is_lowest, frac, ◌+ℚ◌, ◌*ℚ◌, neg_ℚ}
+use Rattle.rational.proofs.DenominatorLemmas.{lowest-in, den_pos, lowest}
 use Rattle.rational.proofs.IntegerRing.{integer_ring, up-mul, down-mul}
 use Rattle.rational.proofs.Ring.{ring, ◌:+◌, ◌:*◌, :neg, A, B, C, D, E, F}
 

@@ -1,9 +1,12 @@
 pub mod CodeLemmas
 pub mod CommutativeRing
 pub mod Decide
+pub mod DenominatorLemmas
 pub mod Examples
+pub mod ExtremeLemmas
 pub mod Field
 pub mod FractionLemmas
+pub mod GcdLemmas
 pub mod IntegerRing
 pub mod InverseLemmas
 pub mod Linear

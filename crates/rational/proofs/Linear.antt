@@ -1,7 +1,8 @@
 -- Linear arithmetic over the rationals. The numbers in play are put over one denominator, and what is left is a statement about whole numbers, which `omega (arith, ints)` proves.
 use Rattle.std.proofs.Common.{ℕ, suc, zero, ◌*◌, ◌<◌, ◌≡◌, ℤ, pos, neg_ℤ, ◌*ℤ◌, ◌+ℤ◌, ◌≤ℤ◌, ◌<ℤ◌, refl, List, [], ◌∷◌, lit<, arith, mul-pos}
 use borrow.Author.Differences.{below_in}
-use Rattle.rational.specs.Rational.{ℚ, den_pos, whole, ◌+ℚ◌, ◌*ℚ◌, neg_ℚ, zero_ℚ, ◌≤ℚ◌, ◌<ℚ◌}
+use Rattle.rational.specs.Rational.{ℚ, whole, ◌+ℚ◌, ◌*ℚ◌, neg_ℚ, zero_ℚ, ◌≤ℚ◌, ◌<ℚ◌}
+use Rattle.rational.proofs.DenominatorLemmas.{den_pos}
 use Rattle.rational.proofs.IntegerRing.{integer_ring}
 use Rattle.rational.proofs.FractionLemmas.{StandsFor, StandsFor-self, StandsFor-also, StandsFor-frac, StandsFor-add, StandsFor-mul, StandsFor-neg}
 use Rattle.rational.proofs.OrderLemmas.{le_by, by_le, lt_by, by_lt, eq_by, by_eq}

@@ -3,7 +3,6 @@ use Rattle.std.proofs.Common.{◌≡◌, ◌↔◌, ap, ◌∙◌, pos, [], ◌�
 use Rattle.std.proofs.lemmas.Int.{ints}
 use Rattle.rational.specs.Rational.{ℚ, ◌+ℚ◌, zero_ℚ, ◌<ℚ◌}
 use Rattle.rational.specs.Midpoint.{half, midpoint}
-use Rattle.rational.proofs.Ring.{◌:+◌, ◌:*◌}
 use Rattle.rational.proofs.Linear.{linear, at, lit, ◌⟨+⟩◌, ◌⟨<⟩◌, ◌⟨=⟩◌}
 use Rattle.rational.proofs.Field.{two_halves, half_twice}
 

@@ -1,7 +1,8 @@
 -- The order of the rationals, by any pairs over one denominator.
 use Rattle.std.proofs.Common.{ℕ, ◌*◌, ◌+◌, ◌<◌, ◌≡◌, ℤ, pos, ◌*ℤ◌, ◌≤ℤ◌, ◌<ℤ◌, refl, sym, ap, ◌∙◌, [], ◌∷◌, arith, mul-le-mul_right, le_of_mul-le-mul_right, lt_of_mul-lt-mul_right, mul-lt-mul_of_pos_right, subst₂, mul-pos}
 use borrow.Author.Differences.{up, down, at_most_in, below_in, le_out, lt_out}
-use Rattle.rational.specs.Rational.{ℚ, den_pos, ◌≤ℚ◌, ◌<ℚ◌}
+use Rattle.rational.specs.Rational.{ℚ, ◌≤ℚ◌, ◌<ℚ◌}
+use Rattle.rational.proofs.DenominatorLemmas.{den_pos}
 use Rattle.rational.proofs.IntegerRing.{integer_ring, up-mul, down-mul}
 use Rattle.rational.proofs.FractionLemmas.{cancel_pos, StandsFor, equal_by}
 use Rattle.rational.proofs.Ring.{ring, ◌:*◌, A, B, C}

@@ -4,7 +4,8 @@ use Rattle.std.proofs.lemmas.Int.{ints}
 use Rattle.std.proofs.Math.Nat.{not-suc-le-zero, div-le_self}
 use Rattle.rational.specs.LowestTerms.{nat_abs-div_ℤ}
 use Rattle.rational.specs.Gcd.{gcd}
-use Rattle.rational.specs.Rational.{ℚ, frac, den_pos, lowest, whole, ◌+ℚ◌, ◌*ℚ◌, neg_ℚ, zero_ℚ, ◌≤ℚ◌, ◌<ℚ◌}
+use Rattle.rational.specs.Rational.{ℚ, frac, whole, ◌+ℚ◌, ◌*ℚ◌, neg_ℚ, zero_ℚ, ◌≤ℚ◌, ◌<ℚ◌}
+use Rattle.rational.proofs.DenominatorLemmas.{den_pos, lowest}
 use Rattle.rational.proofs.IntegerRing.{integer_ring}
 use Rattle.rational.proofs.FractionLemmas.{equal_by_parts, StandsFor, StandsFor-self, StandsFor-also, StandsFor-frac, StandsFor-add, StandsFor-mul, StandsFor-neg, equal_by, frac-lowest}
 use Rattle.rational.proofs.OrderLemmas.{le_by, by_le, lt_by, by_lt, eq_by, by_eq}

@@ -1,12 +1,12 @@
--- What the greatest common divisor divides, and Gauss's law.
-use Rattle.std.proofs.Common.{ℕ, zero, suc, ◌%◌, ◌/◌, ◌*◌, ◌+◌, ◌-◌, ◌≤◌, ◌<◌, ◌≡◌, Bool, true, false, eqb, eqb→eq, arith, refl, sym, ap, subst, T, tests, div-add-mod'}
-use native.Mathlib.Nat.{dvd-sub, dvd_antisymm, dvd-mul_right, dvd-mul_left, dvd-mul_left_of_dvd, eq-one_of_dvd-one, div-mul_cancel, one-mul, pos_of_dvd_of_pos, dvd_of_mul-dvd-mul_right, mul-dvd-mul_right}
+-- What the greatest common divisor divides, and the parts that are left when it is divided away. The definition of fractions asks for it.
+use Rattle.std.proofs.Common.{ℕ, zero, suc, ◌%◌, ◌/◌, ◌*◌, ◌≤◌, ◌<◌, ◌≡◌, Bool, true, false, eqb, eqb→eq, arith, refl, sym, subst, T, tests}
+use native.Mathlib.Nat.{eq-one_of_dvd-one, div-mul_cancel, one-mul, pos_of_dvd_of_pos, dvd_of_mul-dvd-mul_right, mul-dvd-mul_right}
 use Rattle.std.specs.Int.{IsGcd, ◌∣◌}
 use Rattle.std.proofs.lemmas.Nat.Gcd.{IsGcd-from_zero, IsGcd-from_mod}
 use Rattle.rational.specs.Gcd.{gcd, gcd_steps}
 
 -- a remainder is below the divisor
-mod_small : (k a b : ℕ) → b ≤ suc k → eqb b 0 ≡ false → a % b ≤ k
+pub mod_small : (k a b : ℕ) → b ≤ suc k → eqb b 0 ≡ false → a % b ≤ k
 mod_small k a b h e = grind (arith, tests)
 
 -- Euclid's steps find the greatest common divisor
@@ -23,27 +23,6 @@ pub gcd-is : (a b : ℕ) → IsGcd a b (gcd a b)
 unfolding gcd
 gcd-is a b = gcd_steps_is b a b (omega arith)
 
--- a common divisor of two multiples divides the multiple of the greatest one
-gcd_steps_multiple : (k a b c d : ℕ) → b ≤ k → d ∣ a * c → d ∣ b * c → d ∣ gcd_steps k a b * c
-gcd_steps_multiple zero a b c d h p q = p
-gcd_steps_multiple (suc k) a b c d h p q = go (eqb b 0) refl (gcd_steps_multiple k b (a % b) c d)
-  where
-    less : (a % b) * c ≡ a * c - (a / b) * (b * c)
-    less = let e : (a / b * b + a % b) * c ≡ a * c = ap (λ x. x * c) (div-add-mod' a b) in omega (arith, e)
-
-    go : (t : Bool) → eqb b 0 ≡ t → (a % b ≤ k → d ∣ b * c → d ∣ a % b * c → d ∣ gcd_steps k b (a % b) * c) → d ∣ (elim t [ true ↦ a | false ↦ gcd_steps k b (a % b) ]) * c
-    go true e ih = p
-    go false e ih = ih (mod_small k a b h e) q (subst (λ x. d ∣ x) (sym less) (dvd-sub d p (dvd-mul_left_of_dvd d q (a / b))))
-
--- a common divisor of two multiples divides that multiple of the greatest common divisor
-pub gcd-multiple : (a b c d : ℕ) → d ∣ a * c → d ∣ b * c → d ∣ gcd a b * c
-unfolding gcd
-gcd-multiple a b c d p q = gcd_steps_multiple b a b c d (omega arith) p q
-
--- Gauss: what divides a product and shares no divisor with one factor divides the other
-pub gauss : (a b c : ℕ) → gcd a b ≡ 1 → b ∣ a * c → b ∣ c
-gauss a b c e p = rw (e, one-mul) at (gcd-multiple a b c b p (dvd-mul_right b c))
-
 -- the greatest common divisor with a positive number is positive
 pub gcd_pos : (a b : ℕ) → 0 < b → 0 < gcd a b
 gcd_pos a b h = pos_of_dvd_of_pos (gcd-is a b).1 h
@@ -55,8 +34,3 @@ gcd-parts a b h =
   where
     whole : (x : ℕ) → gcd a b ∣ x → gcd (a / gcd a b) (b / gcd a b) ∣ x / gcd a b → gcd (a / gcd a b) (b / gcd a b) * gcd a b ∣ x
     whole x p q = subst (λ y. gcd (a / gcd a b) (b / gcd a b) * gcd a b ∣ y) (div-mul_cancel (gcd a b) p) (mul-dvd-mul_right _ q (gcd a b))
-
--- lowest terms are unique
-pub lowest_unique : (a b c d : ℕ) → gcd a b ≡ 1 → gcd c d ≡ 1 → a * d ≡ c * b → b ≡ d
-lowest_unique a b c d e f h =
-    dvd_antisymm (gauss a b d e (subst (λ x. b ∣ x) (sym h) (dvd-mul_left b c))) (gauss c d b f (subst (λ x. d ∣ x) h (dvd-mul_left d a)))

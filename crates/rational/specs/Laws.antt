@@ -1,8 +1,9 @@
 -- The laws of the rational numbers, as statements. Those of a commutative ring and of an ordered field are the usual axioms; each is proved by a function of src/lib.rt.
-use Rattle.std.specs.Prelude.{ℕ, suc, ◌+◌, ◌*◌, ◌<◌, ◌≡◌, ◌≢◌, ◌⊎◌, ◌↔◌, IsTrue, ℤ, pos, neg_ℤ, ◌+ℤ◌, ◌*ℤ◌, ◌≤ℤ◌, ◌<ℤ◌, nat_abs}
+use Rattle.std.specs.Prelude.{ℕ, suc, ◌+◌, ◌*◌, ◌<◌, ◌≡◌, ◌≢◌, ◌⊎◌, ◌↔◌, IsTrue, ℤ, pos, neg_ℤ, ◌+ℤ◌, ◌*ℤ◌, ◌≤ℤ◌, ◌<ℤ◌, nat_abs, List}
 use Rattle.std.specs.Int.{◌∣◌}
 use Rattle.rational.specs.Gcd.{gcd}
 use Rattle.rational.specs.Rational.{ℚ, frac, ◌+ℚ◌, ◌*ℚ◌, neg_ℚ, inv_ℚ, zero_ℚ, one_ℚ, ◌≤ℚ◌, ◌<ℚ◌}
+use Rattle.rational.specs.Extremes.{IsGreatest, IsLeast}
 use Rattle.rational.specs.Midpoint.{midpoint}
 use Rattle.rational.specs.Sum.{sum_to}
 use Rattle.rational.specs.Tests.{le_test, lt_test, eq_test}
@@ -63,6 +64,11 @@ pub record MidpointsLieBetween : Type 0 where
   pub above : (a b : ℚ) → a <ℚ b → a <ℚ midpoint a b
   pub below : (a b : ℚ) → a <ℚ b → midpoint a b <ℚ b
   pub halfway : (a b m : ℚ) → (m ≡ midpoint a b) ↔ (m +ℚ m ≡ a +ℚ b)
+
+-- Of numbers one is the greatest, and one the least.
+pub record ExtremesAreSingle : Type 0 where
+  pub greatest : (numbers : List ℚ) (v w : ℚ) → IsGreatest numbers v → IsGreatest numbers w → v ≡ w
+  pub least : (numbers : List ℚ) (v w : ℚ) → IsLeast numbers v → IsLeast numbers w → v ≡ w
 
 -- The laws of sums over the numbers below a bound.
 pub record SumsAddUp : Type 0 where

@@ -1,7 +1,6 @@
 -- What is needed to bring a pair to lowest terms.
-use Rattle.std.proofs.Common.{ℕ, zero, suc, ◌/◌, ◌*◌, ◌<◌, ◌≡◌, ℤ, pos, negsuc, neg_ℤ, nat_abs, ◌*ℤ◌, arith, refl, sym, ap, ◌∙◌, zero-lt-suc, zero-mul}
+use Rattle.std.proofs.Common.{ℕ, zero, suc, ◌/◌, ◌*◌, ◌<◌, ◌≡◌, ℤ, pos, negsuc, neg_ℤ, nat_abs, arith, refl, zero-lt-suc}
 use native.Mathlib.Nat.{div-mul_cancel}
-use Rattle.std.specs.Int.{◌∣◌}
 use Rattle.rational.specs.Gcd.{gcd, div_ℤ}
 use Rattle.rational.specs.GcdLaws.{gcd-is, gcd-parts}
 
@@ -14,16 +13,6 @@ abs_neg_pos (suc n) = refl
 pub nat_abs-div_ℤ : (n : ℤ) (g : ℕ) → nat_abs (div_ℤ n g) ≡ nat_abs n / g
 nat_abs-div_ℤ (pos n) g = refl
 nat_abs-div_ℤ (negsuc n) g = abs_neg_pos (suc n / g)
-
--- a negated natural times another
-neg_pos-mul : (a b : ℕ) → neg_ℤ (pos a) *ℤ pos b ≡ neg_ℤ (pos (a * b))
-neg_pos-mul zero b = ap (λ x. pos x) (zero-mul b) ∙ ap (λ x. neg_ℤ (pos x)) (sym (zero-mul b))
-neg_pos-mul (suc a) b = refl
-
--- what divides an integer gives it back
-pub div_ℤ-mul : (n : ℤ) (g : ℕ) → g ∣ nat_abs n → div_ℤ n g *ℤ pos g ≡ n
-div_ℤ-mul (pos n) g p = ap pos (div-mul_cancel g p)
-div_ℤ-mul (negsuc n) g p = neg_pos-mul (suc n / g) g ∙ ap (λ x. neg_ℤ (pos x)) (div-mul_cancel g p)
 
 -- a factor of a positive number is positive
 pos_of_factor : (x g n : ℕ) → x * g ≡ suc n → 0 < x

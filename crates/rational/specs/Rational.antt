@@ -1,6 +1,6 @@
 -- The rational numbers: a numerator over a positive denominator, in lowest terms, so that equal numbers are one record.
-use Rattle.std.specs.Prelude.{ℕ, zero, suc, ◌*◌, ◌<◌, ◌≡◌, ℤ, pos, negsuc, ◌+ℤ◌, ◌*ℤ◌, neg_ℤ, nat_abs, ◌≤ℤ◌, ◌<ℤ◌, ◌/◌, Bool, T, nat_lt, nat_eq, ◌&&◌}
-use Rattle.std.proofs.Common.{rules, arith, tests}
+use Rattle.std.specs.Prelude.{ℕ, zero, suc, ◌*◌, ℤ, pos, negsuc, ◌+ℤ◌, ◌*ℤ◌, neg_ℤ, nat_abs, ◌≤ℤ◌, ◌<ℤ◌, ◌/◌, Bool, T, nat_lt, nat_eq, ◌&&◌}
+use Rattle.std.proofs.Common.{rules, arith}
 use Rattle.rational.specs.Gcd.{gcd, div_ℤ}
 use Rattle.rational.specs.LowestTerms.{den-pos, div_ℤ-lowest}
 
@@ -29,24 +29,6 @@ unfoldable pub frac : ℤ → ℕ → ℚ
 frac n zero = record { num = pos 0; den = 1; ok = IsLowest-zero }
 frac n (suc d) =
     record { num = div_ℤ n (gcd (nat_abs n) (suc d)); den = suc d / gcd (nat_abs n) (suc d); ok = IsLowest-frac n d }
-
--- what the test of lowest terms tells
-lowest-out : (n : ℤ) (d : ℕ) → T (is_lowest n d) → (0 < d) × (gcd (nat_abs n) d ≡ 1)
-unfolding is_lowest
-lowest-out n d t = grind (arith, tests)
-
--- a pair with these two facts passes the test
-pub lowest-in : (n : ℤ) (d : ℕ) → 0 < d → gcd (nat_abs n) d ≡ 1 → T (is_lowest n d)
-unfolding is_lowest
-lowest-in n d h e = search (rules, arith)
-
--- a denominator is positive
-pub den_pos : (q : ℚ) → 0 < q.den
-den_pos q = (lowest-out q.num q.den q.ok).0
-
--- numerator and denominator share no divisor
-pub lowest : (q : ℚ) → gcd (nat_abs q.num) q.den ≡ 1
-lowest q = (lowest-out q.num q.den q.ok).1
 
 infixl 60 ◌+ℚ◌ ◌-ℚ◌
 infixl 70 ◌*ℚ◌

@@ -1,7 +1,7 @@
 //! The rational numbers, for contracts and proofs.
 //!
 //! Callers may rely on: the functions without a body, each a law: lowest terms, a commutative ring,
-//! an ordered field, decided order, midpoints, sums and means.
+//! an ordered field, decided order, the greatest and the least, midpoints, sums and means.
 //! Definitions: `specs::Rational` has `ℚ` in lowest terms, so that equality is `≡`, with `frac` and
 //! `whole`; `Sum` sums below a bound, `Extremes` the greatest and the least of numbers, `Tests` tests
 //! that compute, `Laws` the laws.
@@ -11,7 +11,7 @@
 //! crates stand on it.
 #![tactic(auto)]
 
-ghost use Rattle.rational.specs.Laws.{GcdIsGreatest, FractionsStandForNumbers, IsCommutativeRing, IsOrderedField, OrderIsDecidable, MidpointsLieBetween, SumsAddUp, MeansStayBelow};
+ghost use Rattle.rational.specs.Laws.{GcdIsGreatest, FractionsStandForNumbers, IsCommutativeRing, IsOrderedField, OrderIsDecidable, ExtremesAreSingle, MidpointsLieBetween, SumsAddUp, MeansStayBelow};
 ghost use Rattle.rational.specs.RingLaws.{WholeNumbersAreARing};
 
 /// The greatest common divisor of two numbers divides both, and each common divisor divides it.
@@ -38,6 +38,11 @@ pub fn is_an_ordered_field()
 /// Order and equality of rationals are decided by tests that compute.
 pub fn order_is_decidable()
     ensures { OrderIsDecidable }
+{}
+
+/// Of numbers one is the greatest, and one the least.
+pub fn extremes_are_single()
+    ensures { ExtremesAreSingle }
 {}
 
 /// Between two different rationals lies their midpoint.

@@ -1,6 +1,6 @@
 -- The sizes of a reduced form by the numbers of strategies.
 use Rattle.std.proofs.Common.{ℕ, zero, suc, ◌+◌, ◌*◌, ◌/◌, ◌<◌, ◌≤◌, ◌≡◌, inl, inr, Some, Err, List, [], ◌∷◌, ◌++◌, length, map, take, get_or, All, refl, sym, ap, ap₂, ◌∙◌, subst, arith, min, below_more, mul-pos}
-use Rattle.std.specs.Prelude.{slice_get}
+use Rattle.std.specs.Prelude.{slice_get, slice_index}
 use Rattle.std.proofs.lemmas.List.{length-map, length_push, length-take-le, take_all, take_more, get_or_append_left, get_or_push, ext_get_or, get_or-take, get_or-map}
 use Rattle.std.proofs.lemmas.Option.{slice_get-get_or}
 use Rattle.std.proofs.Math.Nat.{lt-div-mul-add, mul-div-le, min-le_left, min-eq_left, min-eq_right}
@@ -17,11 +17,15 @@ use Rattle.reduced_strategies.proofs.StrategyOrderLemmas.{strategies-determined}
 use Rattle.reduced_strategies.proofs.ExistenceLemmas.{strategies-exist}
 use Rattle.game_core.specs.Table.{most_payoffs}
 use Rattle.strategy_lists.specs.Decisions.{HasCount}
-use Rattle.reduced_form.specs.Counts.{AreCounts, AreCounted, choices_by, counts_in}
+use Rattle.reduced_form.specs.Counts.{AreCounted, choices_by, counts_in}
 use Rattle.reduced_form.specs.Limits.{choice_count, choices_from, most_choices}
 use Rattle.game_core.specs.Limits.{first_above}
 use Rattle.game_core.specs.declared.too_large.What.TheVariants as what
 use Rattle.reduced_form.specs.declared.stop.ReduceStop.TheVariants as stops
+
+-- the numbers of strategies of the first players
+abbrev pub AreCounts : Tree → List ℕ → Type 0
+AreCounts t counts = (i : ℕ) → i < length counts → HasCount t i (slice_index counts i)
 
 -- ---- products
 -- and no player has more strategies than there are profiles

@@ -1,16 +1,11 @@
 -- The numbers of the players' reduced strategies, and the sizes of the form by them.
-use Rattle.std.specs.Prelude.{ℕ, suc, ◌+◌, ◌*◌, ◌<◌, ◌≡◌, List, [], ◌∷◌, length, map, slice_index}
+use Rattle.std.specs.Prelude.{ℕ, suc, ◌+◌, ◌*◌, ◌≡◌, List, [], ◌∷◌, length, map}
 use Rattle.answers.specs.Answers.{Answer, ◌>>=◌}
 use Rattle.game_theory.specs.OwnSets.{own_sets}
 use Rattle.game_theory.specs.Trees.{Tree}
 use Rattle.reduced_strategies.specs.StrategicForm.{AreStrategies}
-use Rattle.strategy_lists.specs.Decisions.{HasCount}
 use Rattle.reduced_form.specs.Stops.{strategies_of, within_limits}
 use Rattle.reduced_form.specs.declared.stop.ReduceStop.{ReduceStop}
-
--- the numbers of strategies of the first players
-abbrev pub AreCounts : Tree → List ℕ → Type 0
-AreCounts t counts = (i : ℕ) → i < length counts → HasCount t i (slice_index counts i)
 
 -- strategies times own sets, added over the players from player i on, by the numbers of strategies
 abbrev pub choices_by : Tree → ℕ → List ℕ → ℕ

@@ -1,7 +1,6 @@
 // The texts of refusals.
-ghost use Rattle.std.specs.Prelude.{◌≡◌, ◌++◌, IfOk, codes, string_bytes};
+ghost use Rattle.std.specs.Prelude.{◌≡◌, ◌++◌, IfOk, string_bytes};
 ghost use Rattle.std.specs.Fmt.{decimal};
-ghost use Rattle.game_theory.specs.Lines.{number_text};
 ghost use Rattle.tree_grammar.specs.declared.kinds.EfgKind.TheVariants.{Probability, ProbabilityRange};
 ghost use Rattle.refusals.specs.Refusals.{text_kind_text, nfg_kind_text, efg_kind_text, op_text, site_text, spaced, what_text, refusal_line};
 ghost use Rattle.refusals.specs.declared.refusal.Refusal.TheVariants as refusal;

@@ -1,13 +1,12 @@
 -- The least of payoffs, one payoff at a time.
 use Rattle.std.proofs.Common.{ℕ, ◌+◌, ◌<◌, ◌≡◌, List, [], ◌∷◌, ◌++◌, length, map, refl, sym, ap, ◌∙◌, subst, arith}
-use Rattle.std.specs.Prelude.{Any, All}
 use Rattle.std.specs.List.{range_with_len}
 use Rattle.std.proofs.lemmas.List.{get_or_append_left, get_or_push, length_push}
 use Rattle.std.proofs.lemmas.List.Elements.{All-cons, All-nil, All-push, All-weaker}
 use Rattle.std.proofs.lemmas.List.FromFn.{get_or-map-range_with_len, length-map-range_with_len, map-range_with_len_more}
 use Rattle.rational.specs.Rational.{ℚ, ◌≤ℚ◌, ◌<ℚ◌}
 use Rattle.rational.specs.Extremes.{IsLeast}
-use Rattle.rational.proofs.Field.{le_antisymm, le_refl, le_trans, le_of_lt, le_of_not_lt}
+use Rattle.rational.proofs.Field.{le_refl, le_trans, le_of_lt, le_of_not_lt}
 use Rattle.game_theory.specs.Profiles.{Game, profile_count}
 use Rattle.reply_polytope.specs.Shifts.{payoffs_of}
 
@@ -52,10 +51,3 @@ module _ (g : Game) (i : ℕ) where
   least_below x h k l =
       subst (λ y. x ≤ℚ y) (get_or-map-range_with_len (g.pays i) 0 (profile_count g.strategies) k k x l (omega arith))
       (h.least k x (omega (arith, l, length-map-range_with_len (g.pays i) 0 (profile_count g.strategies))))
-
-  -- there is one
-  pub one_least : (x y : ℚ) → IsLeast (payoffs_of g i) x → IsLeast (payoffs_of g i) y → x ≡ y
-  one_least x y h k = le_antisymm x y (below y k.is_one x h.least) (below x h.is_one y k.least)
-    where
-      below : (v : ℚ) → Any (λ z. z ≡ v) (payoffs_of g i) → (w : ℚ) → All (λ z. w ≤ℚ z) (payoffs_of g i) → w ≤ℚ v
-      below v found w all = subst (λ z. w ≤ℚ z) (found.3 ∙ found.4) (all found.0 found.1 found.2)

@@ -4,6 +4,7 @@ use Rattle.answers.specs.Answers.{◌>>=◌, ◌>>◌, IsSingle, only, refuse_wh
 use Rattle.answers.proofs.AnswerLemmas.{bind-single, only-single, such_that-single, refuse_where-single, refused_by-single}
 use Rattle.rational.specs.Rational.{ℚ}
 use Rattle.rational.specs.Extremes.{IsLeast}
+use Rattle.rational.proofs.ExtremeLemmas.{least-single}
 use Rattle.linear_systems.specs.Tableau.{Tableau}
 use Rattle.linear_systems.proofs.AgreementLemmas.{alike_sym, alike_trans}
 use Rattle.game_theory.specs.Profiles.{Game}
@@ -19,16 +20,15 @@ use Rattle.reply_polytope.specs.Polytopes.{IsRatedSystem, ArePolytopes, most_lab
 use Rattle.reply_polytope.specs.Shifts.{least_of, payoffs_of, shift_in, shift_steps, shifts_in}
 use Rattle.reply_polytope.specs.Stops.{PolytopesAreSingle, label_count, systems_of}
 use Rattle.reply_polytope.specs.declared.stop.PolyStop.TheVariants as stops
-use Rattle.reply_polytope.proofs.LeastLemmas.{one_least}
 
 -- ---- shifts
 module _ (g : Game) where
-  least-single : (i : ℕ) → IsSingle (least_of g i)
-  least-single i = such_that-single (IsLeast (payoffs_of g i)) (one_least g i)
+  least_of-single : (i : ℕ) → IsSingle (least_of g i)
+  least_of-single i = such_that-single (IsLeast (payoffs_of g i)) (least-single (payoffs_of g i))
 
   shift-single : (i : ℕ) → IsSingle (shift_in g i)
   shift-single i =
-      bind-single (least_of g i) (λ least. shifts_in g i least >> only least) (least-single i)
+      bind-single (least_of g i) (λ least. shifts_in g i least >> only least) (least_of-single i)
       (λ least _. bind-single (shifts_in g i least) (λ _. only least) (refused_by-single (λ stop. stops.Range i stop.0 stop.1) _ (all_fit-single (shift_steps (g.pays i) least) _))
       (λ _ _. only-single least))
 

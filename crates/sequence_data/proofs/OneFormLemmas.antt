@@ -8,7 +8,8 @@ use Rattle.sequence_data.specs.Cells.{AreCells}
 use Rattle.sequence_data.specs.Data.{FormData, IsFormOf, IsOfLeaves, SideData, form_of_leaves}
 use Rattle.sequence_data.specs.Steps.{gathering_in}
 use Rattle.sequence_data.specs.declared.types.Leaf.{Leaf}
-use Rattle.sequence_data.proofs.OrderLemmas.{cells-one, greatest-one, least-one}
+use Rattle.rational.proofs.ExtremeLemmas.{greatest-single, least-single}
+use Rattle.sequence_data.proofs.OrderLemmas.{cells-one}
 use Rattle.sequence_data.proofs.StepStageLemmas.{gathering_in-single}
 
 -- forms with the same parts
@@ -20,9 +21,9 @@ same_form : (f g : FormData) → f.first ≡ g.first → f.second ≡ g.second �
 same_form f g first second leaves h k =
     same_parts f g first second leaves
     (cells-one g.leaves f.cells g.cells (subst (λ ls. AreCells ls f.cells) leaves h.cells_are) k.cells_are)
-    (greatest-one _ f.greatest_one g.greatest_one h.greatest_one_is (subst (λ ls. IsGreatest (map_one ls) g.greatest_one) (sym leaves) k.greatest_one_is))
-    (greatest-one _ f.greatest_two g.greatest_two h.greatest_two_is (subst (λ ls. IsGreatest (map_two ls) g.greatest_two) (sym leaves) k.greatest_two_is))
-    (least-one _ f.least_one g.least_one h.least_one_is (subst (λ ls. IsLeast (map_one ls) g.least_one) (sym leaves) k.least_one_is))
+    (greatest-single _ f.greatest_one g.greatest_one h.greatest_one_is (subst (λ ls. IsGreatest (map_one ls) g.greatest_one) (sym leaves) k.greatest_one_is))
+    (greatest-single _ f.greatest_two g.greatest_two h.greatest_two_is (subst (λ ls. IsGreatest (map_two ls) g.greatest_two) (sym leaves) k.greatest_two_is))
+    (least-single _ f.least_one g.least_one h.least_one_is (subst (λ ls. IsLeast (map_one ls) g.least_one) (sym leaves) k.least_one_is))
   where
     map_one : List Leaf → List ℚ
     map_one ls = map (λ l. l.one) ls

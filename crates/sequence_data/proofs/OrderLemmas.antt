@@ -1,4 +1,4 @@
--- The cells of leaves are one list, and extremes are one.
+-- The cells of leaves are one list; the extremes of leaves, one leaf at a time.
 use Rattle.std.proofs.Common.{ℕ, zero, suc, ◌+◌, ◌<◌, ◌≡◌, inl, inr, Some, List, [], ◌∷◌, length, map, take, get_or, slice_get, All, refl, sym, ap, ap₂, ◌∙◌, subst, arith}
 use Rattle.std.specs.Prelude.{Any}
 use Rattle.std.proofs.Math.Seq.{take-length}
@@ -6,7 +6,7 @@ use Rattle.std.proofs.lemmas.List.{length-map, get_or-map}
 use Rattle.std.proofs.lemmas.List.Elements.{All-nil, All-get_or, All-more, All-weaker, All-map}
 use Rattle.std.proofs.lemmas.Option.{none-some, same_Some, slice_get_within, slice_get-get_or, get_or_from_slice_get}
 use Rattle.rational.specs.Rational.{ℚ, ◌≤ℚ◌}
-use Rattle.rational.proofs.Field.{le_trans, le_antisymm}
+use Rattle.rational.proofs.Field.{le_trans}
 use Rattle.sequence_data.specs.declared.types.Leaf.{Leaf}
 use Rattle.sequence_data.specs.declared.types.Cell.{Cell}
 use Rattle.sequence_data.specs.Cells.{cell_at, IsBefore, AreCellsInOrder, IsAt, AreCells}
@@ -71,16 +71,6 @@ pub cells-one : (leaves : List Leaf) (xs ys : List Cell) → AreCells leaves xs 
 cells-one leaves xs ys h g = same_list xs ys h.in_order g.in_order (cells-among leaves xs ys h g) (cells-among leaves ys xs g h)
 
 -- ---- extremes
--- what holds of each number holds of one of them
-of_one : (P : ℚ → Type 0) (numbers : List ℚ) (v : ℚ) → Any (λ x. x ≡ v) numbers → All P numbers → P v
-of_one P numbers v found all = subst P (found.3 ∙ found.4) (All-get_or P numbers found.0 found.1 found.2 all)
-
-pub greatest-one : (numbers : List ℚ) (v w : ℚ) → IsGreatest numbers v → IsGreatest numbers w → v ≡ w
-greatest-one numbers v w h g = le_antisymm v w (of_one (λ x. x ≤ℚ w) numbers v h.is_one g.greatest) (of_one (λ x. x ≤ℚ v) numbers w g.is_one h.greatest)
-
-pub least-one : (numbers : List ℚ) (v w : ℚ) → IsLeast numbers v → IsLeast numbers w → v ≡ w
-least-one numbers v w h g = le_antisymm v w (of_one (λ x. v ≤ℚ x) numbers w g.is_one h.least) (of_one (λ x. w ≤ℚ x) numbers v h.is_one g.least)
-
 -- v is one of the leaves' numbers, and the greatest of the first n, or the least
 pub record IsGreatestOf (f : Leaf → ℚ) (leaves : List Leaf) (n : ℕ) (v : ℚ) : Type 0 where
   pub is_one : Any (λ x. x ≡ v) (map f leaves)

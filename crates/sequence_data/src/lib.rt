@@ -16,13 +16,12 @@
 
 ghost use Rattle.std.specs.Prelude.{◌≡◌, ℕ, List};
 ghost use Rattle.answers.specs.Answers.{IsSingle};
-ghost use Rattle.rational.specs.Rational.{ℚ, ◌≤ℚ◌, zero_ℚ};
+ghost use Rattle.rational.specs.Rational.{◌≤ℚ◌, zero_ℚ};
 ghost use Rattle.sequence_forms.specs.Prices.{costs, gains};
 ghost use Rattle.sequence_data.specs.declared.types.Cell.{Cell};
 ghost use Rattle.sequence_data.specs.declared.types.Leaf.{Leaf};
 ghost use Rattle.sequence_data.specs.Cells.{AreCells};
 ghost use Rattle.sequence_data.specs.Data.{FormData, IsFormData, form};
-ghost use Rattle.rational.specs.Extremes.{IsGreatest, IsLeast};
 ghost use Rattle.sequence_data.specs.Steps.{gathering_in};
 
 mod cells;
@@ -48,15 +47,8 @@ pub fn cells_are_one()
 {}
 
 /// The steps of leaves all fit, or one of them is the first that does not.
-pub fn stops_are_exact()
+pub fn gatherings_are_single()
     ensures { (leaves : List Leaf) → IsSingle (gathering_in leaves) }
-{}
-
-/// One number is the greatest, and one the least.
-pub fn extremes_are_one()
-    ensures greatest { (numbers : List ℚ) (v w : ℚ) → IsGreatest numbers v → IsGreatest numbers w
-        → v ≡ w }
-    ensures least { (numbers : List ℚ) (v w : ℚ) → IsLeast numbers v → IsLeast numbers w → v ≡ w }
 {}
 
 /// No gain over the least payoff is negative.

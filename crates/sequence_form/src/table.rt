@@ -1,8 +1,8 @@
 // The sequence form of a table.
-ghost use Rattle.std.specs.Prelude.{◌≡◌, ◌<◌, ◌+◌, ◌^◌, length, slice_index, IfOk};
+ghost use Rattle.std.specs.Prelude.{◌≡◌, ◌<◌, ◌+◌, ◌^◌, length, IfOk};
 ghost use Rattle.answers.specs.Answers.{Gives};
 ghost use Rattle.game_theory.specs.Profiles.{profile_count};
-ghost use Rattle.game_core.specs.Table.{IsTable, strategy_counts};
+ghost use Rattle.game_core.specs.Table.{strategy_counts};
 ghost use Rattle.sequence_data.specs.declared.stop.SeqStop.TheVariants as stops;
 ghost use Rattle.sequence_form.specs.Forms.{profile_leaf, table_form, table_leaves};
 ghost use Rattle.sequence_form.specs.Sequences.{start_side};

@@ -1,7 +1,7 @@
 -- Numbers that are a player's own, and the place of each of them.
 use Rattle.std.proofs.Common.{ℕ, zero, suc, ◌+◌, ◌^◌, eqb, ◌<◌, ◌≤◌, ◌≡◌, ◌⊎◌, inl, inr, Bool, true, false, Decides, Option, Some, None, List, [], ◌∷◌, ◌++◌, length, map, get_or, slice_get, All, refl, sym, ap, subst, ◌∙◌, arith}
 use Rattle.std.specs.Option.{option_eq}
-use Rattle.std.specs.Prelude.{◌==◌, if◌then◌else◌, IfSome}
+use Rattle.std.specs.Prelude.{◌==◌, if◌then◌else◌, IfSome, slice_index}
 use Rattle.std.proofs.lemmas.Bool.Decides.{Decides-eqb, Decides-like}
 use Rattle.std.proofs.Math.Nat.{add-zero}
 use Rattle.std.proofs.lemmas.Bool.{cases_lt, cases_eq, false_from_ne_true}
@@ -16,7 +16,11 @@ use Rattle.game_theory.specs.Behaviour.{is_index}
 use Rattle.game_core.specs.Tree.{GameTree, IsGameTree, InformationSet, IsBelow, own_from}
 use Rattle.game_core.specs.TreeGame.{game_of_tree}
 use Rattle.reduced_strategies.specs.Places.{ArePlaces}
-use Rattle.strategy_lists.specs.OwnNumbers.{own_numbers, AreCounts, counted, ArePlacesBelow}
+use Rattle.strategy_lists.specs.OwnNumbers.{own_numbers, counted, ArePlacesBelow}
+
+-- so many of each player's own numbers are below n
+abbrev pub AreCounts : (ℕ → Option ℕ) → ℕ → List ℕ → Type 0
+AreCounts owner n counts = (i : ℕ) → i < length counts → slice_index counts i ≡ length (own_numbers owner i n)
 
 -- ---- lists
 -- an earlier element keeps its place

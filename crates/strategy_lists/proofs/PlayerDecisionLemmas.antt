@@ -1,6 +1,6 @@
 -- The lists of the players' decisions, one node after another.
 use Rattle.std.proofs.Common.{ℕ, zero, suc, ◌+◌, ◌<◌, ◌≤◌, ◌≡◌, inl, inr, Option, Some, None, List, [], ◌∷◌, ◌++◌, length, map, get_or, slice_get, set, All, ◌⊎◌, refl, sym, ap, subst, ◌∙◌, arith, option_map}
-use Rattle.std.specs.Prelude.{IfSome}
+use Rattle.std.specs.Prelude.{IfSome, slice_index, slice_index_or}
 use Rattle.std.proofs.lemmas.Bool.{cases_lt, cases_eq}
 use Rattle.std.proofs.lemmas.List.{length-map, length-set, length_push, get_or-set_same, get_or-set_other, get_or_append_left, get_or_push}
 use Rattle.std.proofs.lemmas.List.Elements.{All-map}
@@ -13,10 +13,27 @@ use Rattle.choice_lists.specs.declared.decision.Decision.{Decision}
 use Rattle.choice_lists.specs.declared.decision.Edge.{Edge}
 use Rattle.choice_lists.specs.Walks.{AreLinked, ComesFrom}
 use Rattle.strategy_lists.specs.Decisions.{action_counts, history_by, IsDecisionAt, AreDecisions, AreDecisionsOfAll}
-use Rattle.strategy_lists.specs.Made.{mover, IsMove, IsEdgeTo, LeadsTo, IsMadeAt, HasTaken, AreMade, AreMadeByAll}
+use Rattle.strategy_lists.specs.Made.{mover, IsMove, IsEdgeTo, LeadsTo, IsMadeAt, HasTaken}
 use Rattle.strategy_lists.proofs.OwnNumberLemmas.{slice_get-push, slice_get-push_cases}
 use Rattle.strategy_lists.proofs.MoveLemmas.{mover-move, mover-within}
 use Rattle.strategy_lists.proofs.WalkStrategyLemmas.{own_set-place, own_set-tell}
+
+-- the decisions of player i at the nodes below n, their numbers by node, and by set the number of one of them, where there is one
+pub record AreMade (t : Tree) (n i : ℕ) (numbers : List ℕ) (latest : List (Option ℕ)) (decisions : List Decision) : Type 0 where
+  pub nodes : List ℕ
+  pub one_for_each : length nodes ≡ length decisions
+  pub are_decisions : (j k : ℕ) (decision : Decision) → slice_get decisions j ≡ Some decision → slice_get nodes j ≡ Some k → IsDecisionAt t i nodes decision k
+  pub all : (k : ℕ) → k < n → mover t k ≡ Some i → (decision : Decision) × (slice_get decisions (slice_index numbers k) ≡ Some decision) × IsDecisionAt t i nodes decision k
+  pub come_from : (j : ℕ) (decision : Decision) → slice_get decisions j ≡ Some decision → ComesFrom decisions j decision.before
+  pub latest_within : (s j : ℕ) → t.owner s ≡ Some i → slice_index_or latest s None ≡ Some j → j < length decisions
+
+-- the decisions of each player at the nodes below n
+pub record AreMadeByAll (t : Tree) (n : ℕ) (numbers : List ℕ) (latest : List (Option ℕ)) (lists : List (List Decision)) : Type 0 where
+  pub list_for_each : length lists ≡ t.players
+  pub number_for_each : length numbers ≡ n
+  pub latest_for_each : length latest ≡ t.sets
+  pub few : (i : ℕ) (decisions : List Decision) → slice_get lists i ≡ Some decisions → length decisions ≤ n
+  pub are_made : (i : ℕ) (decisions : List Decision) → slice_get lists i ≡ Some decisions → AreMade t n i numbers latest decisions
 
 -- the list at a place
 pub list-at : {V X : Type 0} (items : V → List X) (lists : List V) (k : ℕ) (v : V) → k < length lists → v ≡ get_or lists k v → slice_get (map items lists) k ≡ Some (items v)

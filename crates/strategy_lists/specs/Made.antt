@@ -1,5 +1,5 @@
 -- The decisions of the players, one node of a game tree after another.
-use Rattle.std.specs.Prelude.{ℕ, ◌<◌, ◌≤◌, ◌≡◌, ◌⊎◌, List, [], ◌∷◌, ◌++◌, length, slice_index, slice_index_or, slice_get, Option, Some, None}
+use Rattle.std.specs.Prelude.{ℕ, ◌<◌, ◌≡◌, ◌⊎◌, List, [], ◌∷◌, ◌++◌, slice_index, slice_get, Option, Some, None}
 use Rattle.game_theory.specs.OwnSets.{own_sets}
 use Rattle.game_theory.specs.Trees.{Tree}
 use Rattle.game_theory.specs.Recall.{own_history}
@@ -7,8 +7,6 @@ use Rattle.game_core.specs.declared.tree.Kind.{Kind}
 use Rattle.game_core.specs.declared.tree.Kind.TheVariants.{Chance, Move, End}
 use Rattle.choice_lists.specs.declared.decision.Decision.{Decision}
 use Rattle.choice_lists.specs.declared.decision.Edge.{Edge}
-use Rattle.choice_lists.specs.Walks.{ComesFrom}
-use Rattle.strategy_lists.specs.Decisions.{IsDecisionAt}
 
 -- the player who moves at a node of this kind
 abbrev pub mover_of : Kind → Option ℕ
@@ -59,20 +57,3 @@ pub record IsMadeAt (t : Tree) (i : ℕ) (numbers : List ℕ) (k : ℕ) (decisio
 -- a list has a decision at this number, which it had before or which came after the others
 abbrev pub HasTaken : List Decision → List Decision → Decision → ℕ → Type 0
 HasTaken old new decision number = (slice_get new number ≡ Some decision) × ((new ≡ old) ⊎ (new ≡ old ++ decision ∷ []))
-
--- the decisions of player i at the nodes below n, their numbers by node, and by set the number of one of them, where there is one
-pub record AreMade (t : Tree) (n i : ℕ) (numbers : List ℕ) (latest : List (Option ℕ)) (decisions : List Decision) : Type 0 where
-  pub nodes : List ℕ
-  pub one_for_each : length nodes ≡ length decisions
-  pub are_decisions : (j k : ℕ) (decision : Decision) → slice_get decisions j ≡ Some decision → slice_get nodes j ≡ Some k → IsDecisionAt t i nodes decision k
-  pub all : (k : ℕ) → k < n → mover t k ≡ Some i → (decision : Decision) × (slice_get decisions (slice_index numbers k) ≡ Some decision) × IsDecisionAt t i nodes decision k
-  pub come_from : (j : ℕ) (decision : Decision) → slice_get decisions j ≡ Some decision → ComesFrom decisions j decision.before
-  pub latest_within : (s j : ℕ) → t.owner s ≡ Some i → slice_index_or latest s None ≡ Some j → j < length decisions
-
--- the decisions of each player at the nodes below n
-pub record AreMadeByAll (t : Tree) (n : ℕ) (numbers : List ℕ) (latest : List (Option ℕ)) (lists : List (List Decision)) : Type 0 where
-  pub list_for_each : length lists ≡ t.players
-  pub number_for_each : length numbers ≡ n
-  pub latest_for_each : length latest ≡ t.sets
-  pub few : (i : ℕ) (decisions : List Decision) → slice_get lists i ≡ Some decisions → length decisions ≤ n
-  pub are_made : (i : ℕ) (decisions : List Decision) → slice_get lists i ≡ Some decisions → AreMade t n i numbers latest decisions

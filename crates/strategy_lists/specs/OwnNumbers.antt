@@ -7,10 +7,6 @@ abbrev pub own_numbers : (ℕ → Option ℕ) → ℕ → ℕ → List ℕ
 own_numbers owner i zero = []
 own_numbers owner i (suc n) = if is_index (owner n) i then own_numbers owner i n ++ n ∷ [] else own_numbers owner i n
 
--- so many of each player's own numbers are below n
-abbrev pub AreCounts : (ℕ → Option ℕ) → ℕ → List ℕ → Type 0
-AreCounts owner n counts = (i : ℕ) → i < length counts → slice_index counts i ≡ length (own_numbers owner i n)
-
 -- one more number counts as its owner's
 abbrev pub counted : List ℕ → Option ℕ → List ℕ
 counted counts None = counts

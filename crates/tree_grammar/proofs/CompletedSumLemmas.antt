@@ -6,7 +6,8 @@ use Rattle.std.proofs.lemmas.Nat.Gcd.{IsGcd-swap, IsGcd-from_sub, same_from_IsGc
 use native.Mathlib.Nat.{div_self}
 use Rattle.rational.specs.Gcd.{gcd}
 use Rattle.rational.specs.GcdLaws.{gcd-is}
-use Rattle.rational.specs.Rational.{ℚ, frac, zero_ℚ, one_ℚ, ◌+ℚ◌, ◌≤ℚ◌, den_pos, lowest}
+use Rattle.rational.specs.Rational.{ℚ, frac, zero_ℚ, one_ℚ, ◌+ℚ◌, ◌≤ℚ◌}
+use Rattle.rational.proofs.DenominatorLemmas.{den_pos, lowest}
 use Rattle.rational.proofs.FractionLemmas.{frac_self, frac-lowest}
 use Rattle.rational.proofs.PartLemmas.{frac-add, frac-eq, frac-le, nonneg-num}
 use Rattle.frac128.specs.Fraction.{PartFits}

@@ -5,7 +5,8 @@ use Rattle.std.specs.Prelude.{codes}
 use Rattle.game_core.specs.declared.too_large.What.{What}
 use Rattle.game_core.specs.Tree.{GameTree, OpenBranch}
 use Rattle.file_parts.specs.Parts.{whole_number, braced_texts}
-use Rattle.file_parts.specs.Reading.{optional_text_at, after_text, names_at, title_at}
+use Rattle.file_parts.specs.Reading.{optional_text_at, after_text}
+use Rattle.file_parts.proofs.ValueLemmas.{names_at, title_at}
 use Rattle.file_parts.proofs.TokenLaws.{names_is, names_again, comment_is, over_comment}
 use Rattle.file_parts.proofs.HeaderLaws.{title_is, title_again}
 use Rattle.written_trees.specs.Written.{WrittenNode}

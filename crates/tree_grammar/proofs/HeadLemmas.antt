@@ -5,7 +5,8 @@ use Rattle.std.specs.Prelude.{Ok, Err, codes}
 use Rattle.game_core.specs.declared.token.Token.{Token}
 use Rattle.game_core.specs.declared.token.Token.TheVariants.{Left, Right, Text, Word}
 use Rattle.file_parts.specs.Parts.{whole_number, braced_texts, IsLetter, IsComment}
-use Rattle.file_parts.specs.Reading.{right_at, texts_at, after_text, names_at, title_at}
+use Rattle.file_parts.specs.Reading.{right_at, texts_at, after_text}
+use Rattle.file_parts.proofs.ValueLemmas.{names_at, title_at}
 use Rattle.file_parts.specs.Parsing.{Parsed, ◌>>=◌, passed, parse_title, parse_names}
 use Rattle.file_parts.proofs.HeaderLaws.{title_is, title_again}
 use Rattle.file_parts.proofs.PartReaderLemmas.{title_reader, names_reader}

@@ -3,7 +3,8 @@ use Rattle.std.proofs.Common.{◌≡◌, ℕ, ◌≤◌, false, List, [], ◌∷
 use Rattle.std.proofs.lemmas.Bool.Decides.{Decides-eqb}
 use Rattle.rational.specs.Rational.{ℚ}
 use Rattle.file_parts.specs.Parts.{whole_number, AreNumbers, optional_text}
-use Rattle.file_parts.specs.Reading.{left_at, right_at, whole_at, optional_text_at, payoffs_at, opens}
+use Rattle.file_parts.specs.Reading.{left_at, right_at, whole_at, optional_text_at, opens}
+use Rattle.file_parts.proofs.ValueLemmas.{payoffs_at}
 use Rattle.file_parts.proofs.TokenLaws.{left_is, right_is, whole_is, whole_again, optional_text_is}
 use Rattle.file_parts.proofs.NumberLaws.{payoffs_are, payoffs_again}
 use Rattle.written_trees.specs.Written.{OutcomeUse}

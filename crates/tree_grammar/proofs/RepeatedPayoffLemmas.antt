@@ -5,7 +5,8 @@ use Rattle.std.specs.Cmp.Lexicographic.{pointwise}
 use Rattle.rational.specs.Rational.{ℚ}
 use Rattle.game_core.specs.declared.token.Token.{Token}
 use Rattle.game_core.specs.declared.token.Token.TheVariants.{Left}
-use Rattle.file_parts.specs.Reading.{left_at, right_at, payoff_at, payoffs_at, repeat_at}
+use Rattle.file_parts.specs.Reading.{left_at, right_at, payoff_at}
+use Rattle.file_parts.proofs.ValueLemmas.{payoffs_at, repeat_at}
 use Rattle.file_parts.proofs.TokenLaws.{left_is}
 use Rattle.written_trees.specs.Building.{repeats_payoffs}
 use Rattle.tree_grammar.specs.TreeReading.{payoff_list_at, payoffs_repeated_at, later_payoffs_at}

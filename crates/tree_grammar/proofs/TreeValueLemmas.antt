@@ -10,7 +10,8 @@ use Rattle.frac128.specs.declared.steps.Op.TheVariants.{Add}
 use Rattle.game_core.specs.declared.tree.Action.{Action}
 use Rattle.game_core.specs.declared.token.Token.{Token}
 use Rattle.game_core.specs.declared.token.Token.TheVariants.{Left, Text, Number}
-use Rattle.file_parts.specs.Reading.{left_at, right_at, number_at, whole_at, optional_text_at, payoff_start, payoff_at, payoffs_at, texts_at}
+use Rattle.file_parts.specs.Reading.{left_at, right_at, number_at, whole_at, optional_text_at, payoff_start, payoff_at, texts_at}
+use Rattle.file_parts.proofs.ValueLemmas.{payoffs_at}
 use Rattle.file_parts.specs.Parsing.{passed, parse_each}
 use Rattle.file_parts.proofs.TokenReaderLemmas.{some_or_none}
 use Rattle.file_parts.proofs.ValueLemmas.{value, value_wanted, value_passed, value_chain, value_if, value_each}

@@ -7,7 +7,8 @@ use Rattle.game_core.specs.declared.tree.Action.{Action}
 use Rattle.game_core.specs.declared.too_large.What.{What}
 use Rattle.game_core.specs.declared.tree.Kind.{Kind}
 use Rattle.game_core.specs.Tree.{kind_of_owner}
-use Rattle.file_parts.specs.Reading.{left_at, right_at, text_at, word_at, number_at, whole_at, optional_text_at, after_text, names_at, texts_at, payoff_at, payoffs_at, title_at, opens, ends}
+use Rattle.file_parts.specs.Reading.{left_at, right_at, text_at, word_at, number_at, whole_at, optional_text_at, after_text, texts_at, payoff_at, opens, ends}
+use Rattle.file_parts.proofs.ValueLemmas.{names_at, payoffs_at, title_at}
 use Rattle.written_trees.specs.Written.{SetUse, OutcomeUse, WrittenNode}
 use Rattle.written_trees.specs.Described.{key_of, kind_of_use}
 use Rattle.written_trees.specs.Building.{PartialTree, use_some_set, use_some_outcome, may_be_first, repeats_actions, repeats_payoffs, PartialSet, PartialOutcome, add_node, use_set, set_place, outcome_place, may_follow, passed, root_alone, Branching, partial_count, take_branch, add_branches}

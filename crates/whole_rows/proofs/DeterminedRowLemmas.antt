@@ -4,7 +4,8 @@ use Rattle.std.specs.Int.{◌∣◌}
 use Rattle.std.proofs.lemmas.Int.{ints, unsigned_abs-mul}
 use native.Mathlib.Nat.{dvd-mul_right, dvd-mul_left, div-mul_cancel, dvd_of_mul-dvd-mul_right, dvd_antisymm, one-mul}
 use Rattle.rational.specs.Gcd.{gcd}
-use Rattle.rational.specs.GcdLaws.{gcd-is, gcd_pos, gcd-multiple}
+use Rattle.rational.specs.GcdLaws.{gcd-is, gcd_pos}
+use Rattle.rational.proofs.GcdLemmas.{gcd-multiple}
 use Rattle.rational.proofs.PartLemmas.{frac-eq}
 use Rattle.rational.proofs.FractionLemmas.{cancel_pos}
 use Rattle.whole_rows.specs.Rows.{IsRow, fraction}

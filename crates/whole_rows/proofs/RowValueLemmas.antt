@@ -6,7 +6,8 @@ use Rattle.std.proofs.lemmas.Bool.{cases_eq}
 use native.Mathlib.Nat.{eq-one_of_dvd-one, one-mul, pos_of_dvd_of_pos, le_of_dvd, dvd-mul_left, dvd_of_mul-dvd-mul_right, mul-dvd-mul_right}
 use Rattle.rational.specs.Gcd.{gcd, div_ℤ}
 use Rattle.rational.specs.GcdLaws.{gcd-is}
-use Rattle.rational.specs.LowestTerms.{div_ℤ-mul, nat_abs-div_ℤ}
+use Rattle.rational.specs.LowestTerms.{nat_abs-div_ℤ}
+use Rattle.rational.proofs.GcdLemmas.{div_ℤ-mul}
 use Rattle.std.proofs.Math.Nat.{div-le_self}
 use Rattle.rational.specs.Rational.{ℚ, frac, whole, zero_ℚ, neg_ℚ, inv_ℚ, ◌*ℚ◌, ◌-ℚ◌}
 use Rattle.rational.proofs.RationalRing.{rational_ring}

@@ -9,8 +9,10 @@ use Rattle.std.proofs.lemmas.List.Elements.{All-append}
 use native.Mathlib.Nat.{dvd-mul_right, div-mul_cancel, mul-dvd-mul_right, dvd_of_mul-dvd-mul_right, eq-one_of_dvd-one, one-mul}
 use Rattle.rational.specs.Gcd.{gcd, div_ℤ}
 use Rattle.whole_rows.specs.Pivots.{signed_by}
-use Rattle.rational.specs.GcdLaws.{gcd-is, gcd_pos, gcd-multiple, gauss}
-use Rattle.rational.specs.Rational.{ℚ, frac, den_pos, lowest, zero_ℚ}
+use Rattle.rational.specs.GcdLaws.{gcd-is, gcd_pos}
+use Rattle.rational.proofs.GcdLemmas.{gcd-multiple, gauss}
+use Rattle.rational.specs.Rational.{ℚ, frac, zero_ℚ}
+use Rattle.rational.proofs.DenominatorLemmas.{den_pos, lowest}
 use Rattle.rational.proofs.PartLemmas.{frac-scale}
 use Rattle.rational.proofs.FractionLemmas.{frac_self, cancel_pos}
 use Rattle.frac128.specs.Fraction.{PartFits}

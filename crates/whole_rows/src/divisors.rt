@@ -1,5 +1,5 @@
 // Division by a number that probably divides.
-ghost use Rattle.std.specs.Prelude.{◌≡◌, ◌<◌, ◌*◌, ◌*ℤ◌, ◌<ℤ◌, ℤ, pos, nat_abs, IfSome};
+ghost use Rattle.std.specs.Prelude.{◌≡◌, ◌<◌, ◌*◌, ◌*ℤ◌, ◌<ℤ◌, pos, nat_abs, IfSome};
 ghost use Rattle.std.specs.Int.{◌∣◌};
 ghost use Rattle.frac128.specs.Fraction.{PartFits};
 

@@ -1,5 +1,5 @@
 // The rows of a system as whole numbers.
-ghost use Rattle.std.specs.Prelude.{◌≡◌, ◌≢◌, ◌+◌, ◌*◌, ◌/◌, ◌<◌, ◌≤◌, ◌<ℤ◌, pos, nat_abs, length, IfOk, IfErr, OnOk, Ok, Err, All};
+ghost use Rattle.std.specs.Prelude.{◌≡◌, ◌≢◌, ◌+◌, ◌*◌, ◌/◌, ◌≤◌, ◌<ℤ◌, pos, nat_abs, length, IfOk, IfErr, OnOk, Ok, Err, All};
 ghost use Rattle.rational.specs.Gcd.{gcd as gcd_of};
 ghost use Rattle.frac128.specs.Fraction.{PartFits};
 ghost use Rattle.whole_rows.specs.Lists.{AgreeOutside, AreStartRows, IsStartRowAt};

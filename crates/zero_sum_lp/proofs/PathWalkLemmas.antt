@@ -13,7 +13,15 @@ use Rattle.lex_tableau.specs.Ratio.{variable_at}
 use Rattle.frac128.specs.Steps.{IsFirstUnfit}
 use Rattle.lex_tableau.specs.Pivots.{pivot_number, steps_of_pivot}
 use Rattle.lex_tableau.proofs.PivotNumberLemmas.{pivot_number_next}
-use Rattle.zero_sum_lp.specs.Steps.{linear_program, IsProgramStart, IsFittingPivot, LeadsTo, EndsPath, IsUnfitPivot, IsUnderWay, IsEnteringOf}
+use Rattle.zero_sum_lp.specs.Steps.{linear_program, IsProgramStart, IsFittingPivot, LeadsTo, EndsPath, IsUnfitPivot, IsEnteringOf}
+
+-- where a walk along the path is: after pivots that were counted from `past` on, and before the pivot
+-- of this number
+pub record IsUnderWay (first now : Numbers) (past pivots number : ℕ) : Type 0 where
+  pub count : ℕ
+  pub path : LeadsTo first count now
+  pub counted : pivots ≡ count + past
+  pub is_number : number ≡ pivot_number (suc count)
 
 -- keys by the same variables
 key_by : (m : ℕ) (b d : ℕ → ℕ) (t : Tableau) (i p : ℕ) → ((q : ℕ) → q < m → b q ≡ d q) → p < suc m → key b t i p ≡ key d t i p

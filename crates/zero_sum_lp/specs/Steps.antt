@@ -64,14 +64,6 @@ pub record IsUnfitPivot (first : Numbers) (stop : UnfitPivot) : Type 0 where
   pub is_number : stop.number ≡ pivot_number (suc count)
   pub first_unfit : IsFirstUnfit (steps_of_pivot before row column) stop.unfit
 
--- where a walk along the path is: after pivots that were counted from `past` on, and before the pivot
--- of this number
-pub record IsUnderWay (first now : Numbers) (past pivots number : ℕ) : Type 0 where
-  pub count : ℕ
-  pub path : LeadsTo first count now
-  pub counted : pivots ≡ count + past
-  pub is_number : number ≡ pivot_number (suc count)
-
 -- the least-numbered nonbasic variable with a negative entry in row m among the first n columns, or
 -- none
 pub record IsEnteringOf (m n : ℕ) (t : Tableau) (c : ℕ) : Type 0 where

@@ -1,4 +1,4 @@
-use Rattle.rational.specs.Rational.{den_pos, lowest}
+use Rattle.rational.proofs.DenominatorLemmas.{den_pos, lowest}
 use Rattle.rational.proofs.FractionLemmas.{frac_self}
 use Rattle.rational.proofs.InverseLemmas.{frac-inv, frac-inv_neg}
 use Rattle.rational.proofs.PartLemmas.{frac-eq, frac-le, frac-lt, frac-add, frac-mul, frac-neg}

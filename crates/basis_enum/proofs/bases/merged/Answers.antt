@@ -1,5 +1,5 @@
 use Rattle.std.proofs.Common.{rules, refl, sym, subst, ◌+◌}
-use Rattle.basis_enum.specs.Merged.{AreMerged}
+use Rattle.basis_enum.proofs.MergedListLemmas.{AreMerged}
 use Rattle.basis_enum.proofs.MergedListLemmas.{merged_first, merged_second, merged_all}
 use Rattle.basis_enum.proofs.bases.merged.Goals as goal
 

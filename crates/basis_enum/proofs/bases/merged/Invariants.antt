@@ -1,5 +1,5 @@
 use Rattle.std.proofs.Common.{◌+◌, ◌-◌, length}
-use Rattle.basis_enum.specs.Merged.{AreMerged}
+use Rattle.basis_enum.proofs.MergedListLemmas.{AreMerged}
 use Rattle.basis_enum.proofs.bases.merged.Given as goal
 
 abbrev pub invariant-loop-first : goal.invariant-loop-first

@@ -2,7 +2,8 @@ use Rattle.std.proofs.Common.{suc, ◌-◌, ◌<◌, ◌≡◌, None, length, ma
 use Rattle.std.proofs.lemmas.List.{length-map}
 use Rattle.std.proofs.lemmas.Option.{slice_get-get_or}
 use Rattle.choice_lists.specs.declared.decision.Decision.{Decision}
-use Rattle.choice_lists.specs.Ways.{AreAfter, is_first, ways_where}
+use Rattle.choice_lists.specs.Ways.{AreAfter, ways_where}
+use Rattle.choice_lists.proofs.WayCountLemmas.{is_first}
 use Rattle.choice_lists.proofs.WayProductLemmas.{all_ends-counted}
 use Rattle.choice_lists.proofs.WayCountLemmas.{first-start, first-more, first-stays, ways-summed, edge-before, AreAfter-first, AreAfter-multiplied}
 use Rattle.choice_lists.proofs.count.count_apart.Goals as goal

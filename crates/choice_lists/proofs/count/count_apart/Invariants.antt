@@ -1,5 +1,6 @@
 use Rattle.std.proofs.Common.{◌≡◌, ◌≤◌, length, map, min}
-use Rattle.choice_lists.specs.Ways.{AreAfter, is_first, ways_where}
+use Rattle.choice_lists.specs.Ways.{AreAfter, ways_where}
+use Rattle.choice_lists.proofs.WayCountLemmas.{is_first}
 use Rattle.choice_lists.proofs.count.count_apart.Given as goal
 
 abbrev pub invariant-loop-left : goal.invariant-loop-left

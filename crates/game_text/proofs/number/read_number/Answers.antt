@@ -5,7 +5,8 @@ use Rattle.rational.specs.Rational.{ℚ}
 use Rattle.game_text.specs.declared.number.NumberFault.{NumberFault}
 use Rattle.game_text.specs.declared.number.NumberFault.TheVariants.{Bad, TooLarge}
 use Rattle.game_text.specs.Numbers.{NumberForm, IsNumber, IsTooLarge, IsNoNumber}
-use Rattle.game_text.specs.NumberReading.{Answers, is_minus, after_sign, leading, following, form_of, form_with}
+use Rattle.game_text.specs.NumberReading.{Answers, is_minus, after_sign, leading, following, form_with}
+use Rattle.game_text.proofs.NumeralFormLemmas.{form_of}
 use Rattle.game_text.proofs.NumeralFormLemmas.{form_found, form_again}
 use Rattle.game_text.proofs.number.read_number.Goals as goal
 

@@ -2,7 +2,7 @@ use Rattle.std.proofs.Common.{inr, ◌≡◌, ◌*◌, ◌<◌, ◌≤◌, Ok, L
 use Rattle.game_core.specs.Table.{most_payoffs}
 use Rattle.game_core.specs.declared.token.Token.{Token}
 use Rattle.file_parts.specs.Reading.{kinds}
-use Rattle.nfg_reader.specs.TableReading.{FrontPart, front_of, profiles}
+use Rattle.nfg_reader.specs.Fronts.{FrontPart, front_of, profiles}
 use Rattle.nfg_reader.specs.TableParsing.{parse_front}
 use Rattle.nfg_reader.proofs.ReadStopLemmas.{front_value, rest_value, front_stop, rest_stop}
 use Rattle.nfg_reader.proofs.FileLaws.{front_some, too_many_next, finished}

@@ -1,5 +1,5 @@
 use Rattle.game_core.specs.TreeGame.{game_of_tree}
-use Rattle.pure_payoffs.specs.Settled.{ArePassedUp}
+use Rattle.pure_payoffs.proofs.IdleNodeLemmas.{ArePassedUp}
 use Rattle.pure_payoffs.proofs.settled.settled_nodes.Given as goal
 
 -- from this node on idle nodes are passed up

@@ -1,6 +1,6 @@
 use Rattle.std.proofs.Common.{map}
 use Rattle.game_core.specs.TreeGame.{game_of_tree}
-use Rattle.strategy_lists.specs.Made.{AreMadeByAll}
+use Rattle.strategy_lists.proofs.PlayerDecisionLemmas.{AreMadeByAll}
 use Rattle.strategy_lists.proofs.decisions.decisions_of_all.Given as goal
 
 -- the decisions at the nodes before this one

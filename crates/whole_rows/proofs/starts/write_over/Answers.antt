@@ -1,6 +1,6 @@
 use Rattle.std.proofs.Common.{◌∙◌, ◌≡◌, ◌*ℤ◌, ap₂, length, subst, sym, arith, inl, inr}
 use Rattle.std.proofs.lemmas.List.{length-set}
-use Rattle.rational.specs.Rational.{den_pos}
+use Rattle.rational.proofs.DenominatorLemmas.{den_pos}
 use Rattle.frac128.specs.Fraction.{PartFits}
 use Rattle.whole_rows.specs.Rows.{from_place}
 use Rattle.whole_rows.specs.Steps.{times}

@@ -1,4 +1,4 @@
-use Rattle.rational.specs.Rational.{den_pos}
+use Rattle.rational.proofs.DenominatorLemmas.{den_pos}
 use Rattle.frac128.proofs.PartLemmas.{read_den, read_fits}
 use Rattle.frac128.proofs.frac.Frac.den.Goals as goal
 
