@@ -9,7 +9,7 @@ use Rattle.rational.specs.Rational.{ℚ}
 use Rattle.linear_systems.specs.Rows.{basic_solution, IsLexicographicRow}
 use Rattle.linear_systems.specs.Reached.{IsVariableOf, in_row, in_column}
 use Rattle.linear_systems.proofs.PivotLemmas.{eqb_same, eqb_apart}
-use Rattle.lex_tableau.specs.Ratio.{variable_at}
+use Rattle.lex_tableau.specs.Ratio.{variable_at, IsLeavingRow}
 use Rattle.lex_tableau.specs.Rows.{Numbers, tableau, IsTableau, IsPivotOf}
 use Rattle.lex_tableau.specs.Starts.{Parts, system_of, IsSystem, IsStartOf}
 use Rattle.linear_systems.specs.Points.{IsExtremePoint}
@@ -19,7 +19,7 @@ use Rattle.linear_systems.proofs.StartLemmas.{start_reached, alike_reached, pivo
 use Rattle.linear_systems.proofs.SolutionLemmas.{solution_extreme}
 use Rattle.linear_systems.proofs.CoverLemmas.{covers}
 use Rattle.basis_enum.specs.Bases.{basis_of, neighbour_of, HaveDigits}
-use Rattle.basis_enum.specs.Levels.{Levels, Move, no_move, no_tableau, parent_of, target, IsLexRowOf, IsMove, bases_of}
+use Rattle.basis_enum.specs.Levels.{Levels, Move, no_move, no_tableau, parent_of, target, IsMove, bases_of}
 use Rattle.basis_enum.specs.Systems.{IsEnumerable}
 use Rattle.basis_enum.specs.Reached.{level_of, reached_in}
 use Rattle.basis_enum.proofs.LevelLemmas.{IsNext, first_read, next_read, level_many}
@@ -56,13 +56,13 @@ pub held_start : (s : Parts) (n : Numbers) → IsSystem s → IsEnumerable s →
 held_start s n h e t st = let f = feasible s h e in record { is_tableau = t; reached = alike_reached 129 (system_of s) (system_of s) (tableau n) f st.fractions (start_reached 129 (system_of s) f); starts = st.starts; rated = st.rated ∙ e.rated }
 
 -- the lexicographic row, in the start's words and in the tableau's
-row_of_start : (s : Parts) (t : Numbers) (c r : ℕ) → Held s t → IsLexRowOf t c r → IsLexicographicRow (length s.basics) (length s.basics) (variable_at s.basics) (tableau t) c r
+row_of_start : (s : Parts) (t : Numbers) (c r : ℕ) → Held s t → IsLeavingRow t c r → IsLexicographicRow (length s.basics) (length s.basics) (variable_at s.basics) (tableau t) c r
 row_of_start s t c r h x = subst (λ m. IsLexicographicRow m m (variable_at s.basics) (tableau t) c r) h.rated (subst (λ b. IsLexicographicRow t.rated t.rated (variable_at b) (tableau t) c r) h.starts x)
 
-row_of_tableau : (s : Parts) (t : Numbers) (c r : ℕ) → Held s t → IsLexicographicRow (length s.basics) (length s.basics) (variable_at s.basics) (tableau t) c r → IsLexRowOf t c r
+row_of_tableau : (s : Parts) (t : Numbers) (c r : ℕ) → Held s t → IsLexicographicRow (length s.basics) (length s.basics) (variable_at s.basics) (tableau t) c r → IsLeavingRow t c r
 row_of_tableau s t c r h x = subst (λ b. IsLexicographicRow t.rated t.rated (variable_at b) (tableau t) c r) (sym h.starts) (subst (λ m. IsLexicographicRow m m (variable_at s.basics) (tableau t) c r) (sym h.rated) x)
 
-pub held_child : (s : Parts) (t n : Numbers) (r c : ℕ) → IsSystem s → IsEnumerable s → Held s t → c < length t.nonbasics → IsLexRowOf t c r → IsTableau n → IsPivotOf t r c n → Held s n
+pub held_child : (s : Parts) (t n : Numbers) (r c : ℕ) → IsSystem s → IsEnumerable s → Held s t → c < length t.nonbasics → IsLeavingRow t c r → IsTableau n → IsPivotOf t r c n → Held s n
 held_child s t n r c h e p hc x nt q =
     let width : length t.nonbasics ≡ length s.nonbasics = p.reached.reached.width in
     record { is_tableau = nt; reached = pivot_reached 129 (system_of s) (tableau t) (tableau n) r c (feasible s h e) p.reached (omega arith) (row_of_start s t c r p x) q.fractions; starts = q.starts ∙ p.starts; rated = q.rated ∙ p.rated }
@@ -104,7 +104,7 @@ pivoted_nonbasics t n r c hc p = sym (same_number_lists (slice_set t.nonbasics c
 
 -- ---- the levels before have all their neighbours
 IsCovered : Levels → List Numbers → Type 0
-IsCovered l ts = (t : Numbers) → Contains ts t → (c r : ℕ) → c < length t.nonbasics → IsLexRowOf t c r → Contains (bases_of (l.before ++ l.level)) (neighbour_of t r c)
+IsCovered l ts = (t : Numbers) → Contains ts t → (c r : ℕ) → c < length t.nonbasics → IsLeavingRow t c r → Contains (bases_of (l.before ++ l.level)) (neighbour_of t r c)
 
 contains_or : (xs : List ℕ) (v : ℕ) → Contains xs v ⊎ (Contains xs v → ⊥)
 contains_or [] v = inr (λ c. omega (arith, c.1))
@@ -121,9 +121,9 @@ bases_right : (xs ys : List Numbers) (b : ℕ) → Contains (bases_of ys) b → 
 bases_right xs ys b c = subst (λ zs. Contains zs b) (sym (map-append (λ t. basis_of t.nonbasics) xs ys)) (Contains-append_right (bases_of xs) (bases_of ys) b c)
 
 -- a tableau of the level, as the parent of a pivot
-move_at : (level : List Numbers) (t : Numbers) (c r : ℕ) → (k : Contains level t) → c < length t.nonbasics → IsLexRowOf t c r → IsMove level (record { parent = k.0; row = r; column = c }) × (target level (record { parent = k.0; row = r; column = c }) ≡ neighbour_of t r c)
+move_at : (level : List Numbers) (t : Numbers) (c r : ℕ) → (k : Contains level t) → c < length t.nonbasics → IsLeavingRow t c r → IsMove level (record { parent = k.0; row = r; column = c }) × (target level (record { parent = k.0; row = r; column = c }) ≡ neighbour_of t r c)
 move_at level t c r k hc x = let e : get_or level k.0 no_tableau ≡ t = get_or_default level k.0 no_tableau t k.1 ∙ k.2 in
-    (record { parent = k.1; column = subst (λ u. c < length u.nonbasics) (sym e) hc; row = subst (λ u. IsLexRowOf u c r) (sym e) x }, ap (λ u. neighbour_of u r c) e)
+    (record { parent = k.1; column = subst (λ u. c < length u.nonbasics) (sym e) hc; row = subst (λ u. IsLeavingRow u c r) (sym e) x }, ap (λ u. neighbour_of u r c) e)
 
 covered_next : (p l : Levels) → IsNext p l → IsCovered p p.before → IsCovered l l.before
 unfolding IsCovered
@@ -190,7 +190,7 @@ closed s ts h e z = record { to = to }
     held : (t : Numbers) → Contains ts t → Held s t
     held t c = level_held s z.number z.levels h e z.is_level t (subst (λ xs. Contains xs t) z.all c)
 
-    known : (t : Numbers) (c r : ℕ) → Contains ts t → c < length t.nonbasics → IsLexRowOf t c r → Contains (bases_of ts) (neighbour_of t r c)
+    known : (t : Numbers) (c r : ℕ) → Contains ts t → c < length t.nonbasics → IsLeavingRow t c r → Contains (bases_of ts) (neighbour_of t r c)
     known t c r k hc x = subst (λ xs. Contains (bases_of xs) (neighbour_of t r c)) (sym z.all) (elim (Contains-append_cases z.levels.before z.levels.level t (subst (λ xs. Contains xs t) z.all k)) [
       | inl a ↦ level_covered s z.number z.levels z.is_level t a c r hc x
       | inr b ↦ (let m = move_at z.levels.level t c r b hc x in elim (contains_or (bases_of (z.levels.before ++ z.levels.level)) (neighbour_of t r c)) [ inl there ↦ there | inr away ↦ (let w = z.none.all _ m.0 (λ k. away (subst (Contains (bases_of (z.levels.before ++ z.levels.level))) m.1 k)) in absurd (omega (arith, w.1))) ])

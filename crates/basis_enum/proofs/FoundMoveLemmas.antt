@@ -4,12 +4,11 @@ use Rattle.std.specs.List.{Contains}
 use Rattle.linear_systems.specs.Reached.{in_row, in_column}
 use Rattle.lex_tableau.specs.Rows.{Numbers, tableau, IsTableau}
 use Rattle.basis_enum.specs.Bases.{digit, basis_of, neighbour_of, HaveDigits}
-use Rattle.basis_enum.specs.Levels.{IsLexRowOf}
+use Rattle.lex_tableau.specs.Ratio.{IsLeavingRow, variable_at}
 use Rattle.basis_enum.proofs.NeighbourLemmas.{neighbour_is, neighbour_below}
 use Rattle.rational.specs.Rational.{zero_ℚ, ◌≤ℚ◌}
 use Rattle.rational.proofs.Field.{not_lt_of_le}
 use Rattle.linear_systems.proofs.LexRowLemmas.{lex_row_once}
-use Rattle.lex_tableau.specs.Ratio.{variable_at}
 use Rattle.basis_enum.proofs.AscendingNumberLemmas.{first_in, in_cases}
 use Rattle.std.proofs.lemmas.List.Elements.{Contains-append_left, Contains-append_right, Contains-append_cases}
 use Rattle.basis_enum.specs.declared.moves.Move.{Move}
@@ -29,7 +28,7 @@ target_fits t r c basis leaving entering h d hr hc p q e =
     let m : digit entering ≡ digit (get_or t.nonbasics c 0) = ap digit e in
     omega arith
 
-pub leads_back : (t : Numbers) (known : List ℕ) (c r : ℕ) → IsLexRowOf t c r → Contains known (neighbour_of t r c) → HasNone t known c
+pub leads_back : (t : Numbers) (known : List ℕ) (c r : ℕ) → IsLeavingRow t c r → Contains known (neighbour_of t r c) → HasNone t known c
 leads_back t known c r h k = record { leads_back = λ q x. subst (λ n. Contains known (neighbour_of t n c)) (lex_row_once t.rated (variable_at t.starts) (tableau t) c r q h x) k }
 
 -- a column without a positive entry has no lexicographic row
@@ -45,7 +44,7 @@ found_none t place known n moves f none =
     record {
       each = λ m c. let z = f.each m c in record { column = z.column; within = (let w : z.column < n = z.within in omega arith); found = z.found };
       all = λ column r h x new. elim (eq-or-lt_of_le (let l : column ≤ n = omega arith in l)) [
-        | inl e ↦ absurd (subst (λ k. ¬ (Contains known (neighbour_of t r k))) e new (none.leads_back r (subst (λ k. IsLexRowOf t k r) e x)))
+        | inl e ↦ absurd (subst (λ k. ¬ (Contains known (neighbour_of t r k))) e new (none.leads_back r (subst (λ k. IsLeavingRow t k r) e x)))
         | inr l ↦ f.all column r l x new
       ];
     }

@@ -8,7 +8,8 @@ use Rattle.std.proofs.lemmas.List.Elements.{Contains-append_left, Contains-appen
 use Rattle.lex_tableau.specs.Rows.{Numbers}
 use Rattle.basis_enum.specs.Bases.{basis_of, neighbour_of}
 use Rattle.basis_enum.specs.Levels as L
-use Rattle.basis_enum.specs.Levels.{Levels, no_tableau, bases_of, IsLexRowOf, IsMove, AreNextMoves, IsNew, IsEarlierMove}
+use Rattle.basis_enum.specs.Levels.{Levels, no_tableau, bases_of, IsMove, AreNextMoves, IsNew, IsEarlierMove}
+use Rattle.lex_tableau.specs.Ratio.{IsLeavingRow}
 use Rattle.basis_enum.proofs.AscendingNumberLemmas.{mapped, once_in, first_in, rest_in, in_cases}
 use Rattle.basis_enum.specs.declared.moves.Move.{Move}
 use Rattle.basis_enum.specs.Found.{IsFoundBelow, AreFound, HasAllFound, IsFoundIn, AreFoundIn, AreReady, AreKnown}
@@ -70,7 +71,7 @@ move_is level known m f =
     record {
       parent = subst (λ p. p < length level) (sym f.below.found.parent) f.within;
       column = subst (λ p. m.column < length (get_or level p no_tableau).nonbasics) (sym f.below.found.parent) (subst (λ c. c < length (get_or level f.place no_tableau).nonbasics) (sym f.below.found.column) f.below.within);
-      row = subst (λ p. IsLexRowOf (get_or level p no_tableau) m.column m.row) (sym f.below.found.parent) (subst (λ c. IsLexRowOf (get_or level f.place no_tableau) c m.row) (sym f.below.found.column) f.below.found.row);
+      row = subst (λ p. IsLeavingRow (get_or level p no_tableau) m.column m.row) (sym f.below.found.parent) (subst (λ c. IsLeavingRow (get_or level f.place no_tableau) c m.row) (sym f.below.found.column) f.below.found.row);
     }
 
 pub target_is_there : (level : List Numbers) (known : List ℕ) (m : Move) → IsFoundIn level known m → m.target ≡ L.target level (move_of m)

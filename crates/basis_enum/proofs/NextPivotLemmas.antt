@@ -4,9 +4,9 @@ use Rattle.std.proofs.lemmas.Bool.{cases_order}
 use Rattle.std.specs.List.{Contains}
 use Rattle.std.proofs.lemmas.List.Elements.{Contains-get_or}
 use Rattle.linear_systems.proofs.LexRowLemmas.{lex_row_once}
-use Rattle.lex_tableau.specs.Ratio.{variable_at}
+use Rattle.lex_tableau.specs.Ratio.{variable_at, IsLeavingRow}
 use Rattle.lex_tableau.specs.Rows.{Numbers, tableau, IsTableau}
-use Rattle.basis_enum.specs.Levels.{Levels, Move, no_tableau, parent_of, entering, target, IsLexRowOf, IsMove, IsEarlierMove, AreNextMoves}
+use Rattle.basis_enum.specs.Levels.{Levels, Move, no_tableau, parent_of, entering, target, IsMove, IsEarlierMove, AreNextMoves}
 use Rattle.basis_enum.proofs.AscendingNumberLemmas.{increasing_same, unmapped, told_by}
 
 move_same : (m k : Move) → m.parent ≡ k.parent → m.row ≡ k.row → m.column ≡ k.column → m ≡ k
@@ -28,7 +28,7 @@ move_by level m k valid hm hk p e = move_same m k p row column
     row : m.row ≡ k.row
     row =
         lex_row_once (parent_of level k).rated (variable_at (parent_of level k).starts) (tableau (parent_of level k)) k.column m.row k.row
-        (subst (λ c. IsLexRowOf (parent_of level k) c m.row) column (subst (λ t. IsLexRowOf t m.column m.row) parents hm.row)) hk.row
+        (subst (λ c. IsLeavingRow (parent_of level k) c m.row) column (subst (λ t. IsLeavingRow t m.column m.row) parents hm.row)) hk.row
 
 -- of two moves one comes first, or they are one
 order : (level : List Numbers) (m k : Move) → IsEarlierMove level m k ⊎ (((m.parent ≡ k.parent) × (entering level m ≡ entering level k)) ⊎ IsEarlierMove level k m)

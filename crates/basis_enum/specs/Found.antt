@@ -3,7 +3,8 @@ use Rattle.std.specs.Prelude.{ℕ, ◌^◌, ◌<◌, ◌≡◌, ◌++◌, List, 
 use Rattle.std.specs.List.{Contains}
 use Rattle.lex_tableau.specs.Rows.{Numbers, IsTableau}
 use Rattle.basis_enum.specs.Bases.{neighbour_of, HaveDigits}
-use Rattle.basis_enum.specs.Levels.{Levels, IsLexRowOf, no_tableau, bases_of}
+use Rattle.basis_enum.specs.Levels.{Levels, no_tableau, bases_of}
+use Rattle.lex_tableau.specs.Ratio.{IsLeavingRow}
 use Rattle.basis_enum.specs.declared.moves.Move.{Move}
 
 -- all rows are rated, and rows and columns have numbers of 32 bits
@@ -16,14 +17,14 @@ pub record IsWhole (t : Numbers) : Type 0 where
 pub record IsFound (t : Numbers) (place : ℕ) (known : List ℕ) (col : ℕ) (m : Move) : Type 0 where
   pub parent : m.parent ≡ place
   pub column : m.column ≡ col
-  pub row : IsLexRowOf t col m.row
+  pub row : IsLeavingRow t col m.row
   pub entering : m.entering ≡ get_or t.nonbasics col 0
   pub target : m.target ≡ neighbour_of t m.row col
   pub new : ¬ (Contains known m.target)
 
 -- the pivot in this column, where there is one, leads to a known basis
 pub record HasNone (t : Numbers) (known : List ℕ) (column : ℕ) : Type 0 where
-  pub leads_back : (r : ℕ) → IsLexRowOf t column r → Contains known (neighbour_of t r column)
+  pub leads_back : (r : ℕ) → IsLeavingRow t column r → Contains known (neighbour_of t r column)
 
 -- among the moves is the pivot in this column
 abbrev pub HasFound : Numbers → ℕ → List ℕ → List Move → ℕ → Type 0
@@ -41,13 +42,13 @@ pub record IsFoundBelow (t : Numbers) (place : ℕ) (known : List ℕ) (bound : 
 pub record AreFound (t : Numbers) (place : ℕ) (known : List ℕ) (bound : ℕ) (moves : List Move)
     : Type 0 where
   pub each : (m : Move) → Contains moves m → IsFoundBelow t place known bound m
-  pub all : (column r : ℕ) → column < bound → IsLexRowOf t column r
+  pub all : (column r : ℕ) → column < bound → IsLeavingRow t column r
       → ¬ (Contains known (neighbour_of t r column)) → HasFound t place known moves column
 
 -- of each of its columns the pivot is among the moves, or leads to a known basis
 abbrev pub HasAllFound : Numbers → ℕ → List ℕ → List Move → Type 0
 HasAllFound t place known moves =
-    (column r : ℕ) → column < length t.nonbasics → IsLexRowOf t column r
+    (column r : ℕ) → column < length t.nonbasics → IsLeavingRow t column r
     → ¬ (Contains known (neighbour_of t r column)) → HasFound t place known moves column
 
 -- a tableau of the level and a column, with such a pivot

@@ -2,10 +2,9 @@
 use Rattle.std.specs.Prelude.{ℕ, ◌+◌, ◌<◌, ◌≡◌, ◌⊎◌, List, [], ◌∷◌, ◌++◌, length, get_or, map}
 use Rattle.std.specs.List.{Contains}
 use Rattle.std.specs.List.Sorted.{IsStrictlyIncreasing}
-use Rattle.linear_systems.specs.Rows.{IsLexicographicRow}
 use Rattle.frac128.specs.Steps.{Step}
-use Rattle.lex_tableau.specs.Ratio.{variable_at}
-use Rattle.lex_tableau.specs.Rows.{Numbers, tableau, IsTableau, IsPivotOf}
+use Rattle.lex_tableau.specs.Ratio.{IsLeavingRow}
+use Rattle.lex_tableau.specs.Rows.{Numbers, IsTableau, IsPivotOf}
 use Rattle.lex_tableau.specs.Pivots.{steps_of_pivot}
 use Rattle.basis_enum.specs.Bases.{basis_of, neighbour_of}
 
@@ -31,15 +30,11 @@ entering level m = get_or (parent_of level m).nonbasics m.column 0
 abbrev pub target : List Numbers → Move → ℕ
 target level m = neighbour_of (parent_of level m) m.row m.column
 
--- r is the lexicographic row of column c
-abbrev pub IsLexRowOf : Numbers → ℕ → ℕ → Type 0
-IsLexRowOf t c r = IsLexicographicRow t.rated t.rated (variable_at t.starts) (tableau t) c r
-
 -- a pivot of a tableau of the level on the lexicographic row of a column
 pub record IsMove (level : List Numbers) (m : Move) : Type 0 where
   pub parent : m.parent < length level
   pub column : m.column < length (parent_of level m).nonbasics
-  pub row : IsLexRowOf (parent_of level m) m.column m.row
+  pub row : IsLeavingRow (parent_of level m) m.column m.row
 
 -- by the parent's place in the level, and then by the entering variable
 abbrev pub IsEarlierMove : List Numbers → Move → Move → Type 0

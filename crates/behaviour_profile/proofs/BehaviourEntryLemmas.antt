@@ -1,5 +1,6 @@
 -- The entries of behaviour, as they grow set by set and player by player.
 use Rattle.std.proofs.Common.{ℕ, zero, suc, ◌+◌, ◌-◌, ◌<◌, ◌≤◌, ◌≡◌, ◌≢◌, inl, inr, None, Some, List, [], ◌∷◌, ◌++◌, length, map, get_or, slice_get, take, refl, sym, ap, ap₂, ◌∙◌, subst, arith, add-zero, add-one, append_assoc}
+use Rattle.std.specs.List.{flat_map}
 use Rattle.std.proofs.lemmas.Grind.{flat_map-append}
 use Rattle.std.proofs.lemmas.List.{append-nil, take_more, get_or-map, length-map}
 use Rattle.std.proofs.lemmas.Option.{none-some, same_Some, slice_get-get_or, slice_get_within, get_or_from_slice_get}
@@ -19,7 +20,6 @@ use Rattle.reduced_strategies.proofs.StrategyProfileLemmas.{given_at-own, list_o
 use Rattle.pure_payoffs.proofs.ChoiceLemmas.{choice_at-place}
 use Rattle.pure_payoffs.proofs.PlaceLemmas.{strategy-read}
 use Rattle.behaviour_profile.specs.FirstActions.{first_for_none}
-use Rattle.std.specs.List.{flat_map}
 
 -- the entries at some sets
 abbrev pub entries_at : Tree → Behaviour → List ℕ → List ℚ

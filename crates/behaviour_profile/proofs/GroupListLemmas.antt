@@ -1,5 +1,5 @@
 -- The tests of groups one after another.
-use Rattle.std.proofs.Common.{ℕ, suc, ◌+◌, ◌<◌, ◌≤◌, ◌≡◌, List, [], ◌∷◌, ◌++◌, All, length, slice_get, take, drop, Some, refl, sym, ap, ap₂, ◌∙◌, subst, append_assoc, arith}
+use Rattle.std.proofs.Common.{ℕ, suc, ◌+◌, ◌<◌, ◌≤◌, ◌≡◌, List, [], ◌∷◌, ◌++◌, All, length, slice_get, take, drop, Err, Some, refl, sym, ap, ap₂, ◌∙◌, subst, append_assoc, arith}
 use Rattle.std.specs.Prelude.{sum}
 use Rattle.std.proofs.lemmas.List.{take_more, length-take-le, take-append-drop}
 use Rattle.std.proofs.lemmas.List.Elements.{All-append}
@@ -8,8 +8,8 @@ use Rattle.std.proofs.lemmas.List.Sums.{sum_by-cons}
 use Rattle.std.proofs.lemmas.Option.{slice_get_within, get_or_from_slice_get}
 use Rattle.rational.specs.Rational.{ℚ}
 use Rattle.behaviour_profile.specs.declared.entries.ProfileFault.{ProfileFault}
-use Rattle.behaviour_profile.specs.EntryTests.{Passes, IsFirstProfileFault, group_tests, tests_from}
-use Rattle.behaviour_profile.proofs.FirstFaultLemmas.{fault-more, fault-following}
+use Rattle.behaviour_profile.specs.EntryTests.{Passes, group_tests, tests_from}
+use Rattle.behaviour_profile.proofs.FirstFaultLemmas.{fault-more, fault-following, tests_in}
 
 pub sum-nil : sum [] ≡ 0
 sum-nil = refl
@@ -37,12 +37,12 @@ module _ (entries : List ℚ) where
     groups_pass h = subst (All Passes) (sym (tests-append place group xs ys)) (All-append Passes _ _ passed h)
 
     -- and the first fault after groups that pass is the first of all
-    pub groups_fault : (fault : ProfileFault) → IsFirstProfileFault (tests_from entries (place + sum xs) (group + length xs) ys) fault → IsFirstProfileFault (tests_from entries place group (xs ++ ys)) fault
-    groups_fault fault h = subst (λ tests. IsFirstProfileFault tests fault) (sym (tests-append place group xs ys)) (fault-following _ _ fault passed h)
+    pub groups_fault : (fault : ProfileFault) → tests_in (tests_from entries (place + sum xs) (group + length xs) ys) (Err fault) → tests_in (tests_from entries place group (xs ++ ys)) (Err fault)
+    groups_fault fault h = subst (λ tests. tests_in tests (Err fault)) (sym (tests-append place group xs ys)) (fault-following _ _ fault passed h)
 
   -- it stays the first before further groups
-  pub fault-longer : (place group : ℕ) (xs ys : List ℕ) (fault : ProfileFault) → IsFirstProfileFault (tests_from entries place group xs) fault → IsFirstProfileFault (tests_from entries place group (xs ++ ys)) fault
-  fault-longer place group xs ys fault h = subst (λ tests. IsFirstProfileFault tests fault) (sym (tests-append place group xs ys)) (fault-more _ _ fault h)
+  pub fault-longer : (place group : ℕ) (xs ys : List ℕ) (fault : ProfileFault) → tests_in (tests_from entries place group xs) (Err fault) → tests_in (tests_from entries place group (xs ++ ys)) (Err fault)
+  fault-longer place group xs ys fault h = subst (λ tests. tests_in tests (Err fault)) (sym (tests-append place group xs ys)) (fault-more _ _ fault h)
 
 -- ---- the groups before one
 module _ (sizes : List ℕ) (k n : ℕ) (at : slice_get sizes k ≡ Some n) where
@@ -80,8 +80,8 @@ module _ (sizes : List ℕ) (k n : ℕ) (at : slice_get sizes k ≡ Some n) wher
     pub next_passes : All Passes (group_tests entries p g n) → All Passes (tests_from entries place group (take (k + 1) sizes))
     next_passes h = subst (λ v. All Passes (tests_from entries place group v)) (sym taken) (groups_pass entries place group (take k sizes) (n ∷ []) passed (subst (All Passes) one_group h))
 
-    pub next_fault : (fault : ProfileFault) → IsFirstProfileFault (group_tests entries p g n) fault → IsFirstProfileFault (tests_from entries place group sizes) fault
+    pub next_fault : (fault : ProfileFault) → tests_in (group_tests entries p g n) (Err fault) → tests_in (tests_from entries place group sizes) (Err fault)
     next_fault fault h =
-        subst (λ v. IsFirstProfileFault (tests_from entries place group v) fault) (sym split)
+        subst (λ v. tests_in (tests_from entries place group v) (Err fault)) (sym split)
         (fault-longer entries place group (take k sizes ++ n ∷ []) (drop (k + 1) sizes) fault
-        (groups_fault entries place group (take k sizes) (n ∷ []) passed fault (subst (λ tests. IsFirstProfileFault tests fault) one_group h)))
+        (groups_fault entries place group (take k sizes) (n ∷ []) passed fault (subst (λ tests. tests_in tests (Err fault)) one_group h)))

@@ -1,5 +1,5 @@
 -- The tests of a group, entry by entry.
-use Rattle.std.proofs.Common.{ℕ, zero, suc, ℤ, pos, negsuc, ◌≤ℤ◌, ◌<ℤ◌, ◌+◌, ◌<◌, ◌≤◌, ◌≡◌, inl, inr, List, [], ◌∷◌, All, refl, sym, ap, ap₂, ◌∙◌, subst, add-one, arith, eq-or-lt_of_le, le_of_suc-le-suc}
+use Rattle.std.proofs.Common.{ℕ, zero, suc, ℤ, pos, negsuc, ◌≤ℤ◌, ◌<ℤ◌, ◌+◌, ◌<◌, ◌≤◌, ◌≡◌, inl, inr, Err, List, [], ◌∷◌, All, refl, sym, ap, ap₂, ◌∙◌, subst, add-one, arith, eq-or-lt_of_le, le_of_suc-le-suc}
 use Rattle.std.specs.List.{range_with_len, flat_map}
 use Rattle.std.specs.Int.{int_signum}
 use Rattle.std.proofs.lemmas.Int.{ints}
@@ -13,8 +13,8 @@ use Rattle.frac128.specs.Steps.{AddFits, unfit, Step}
 use Rattle.frac128.specs.declared.steps.Op.TheVariants.{Add}
 use Rattle.behaviour_profile.specs.declared.entries.ProfileFault.{ProfileFault}
 use Rattle.behaviour_profile.specs.declared.entries.ProfileFault.TheVariants as faults
-use Rattle.behaviour_profile.specs.EntryTests.{Test, IsNotNegative, CanBeAdded, SumsToOne, Passes, IsFirstProfileFault, entry_at, entry_tests, group_tests}
-use Rattle.behaviour_profile.proofs.FirstFaultLemmas.{fault-more, fault-following, fault-here}
+use Rattle.behaviour_profile.specs.EntryTests.{Test, IsNotNegative, CanBeAdded, SumsToOne, Passes, entry_at, entry_tests, group_tests}
+use Rattle.behaviour_profile.proofs.FirstFaultLemmas.{fault-more, fault-following, fault-here, tests_in}
 
 -- a number with a negative sign is negative
 pub negative_by_sign : (q : ℚ) (sign : ℤ) → sign ≡ sign_of q → sign <ℤ pos 0 → zero_ℚ ≤ℚ q → ⊥
@@ -39,28 +39,28 @@ module _ (entries : List ℚ) (place : ℕ) where
   addition_at k = CanBeAdded (unfit Add (sum_below k) (entry_at entries (place + k)))
 
   -- a fault among the first tests is the first of the group
-  longer : (m n : ℕ) (fault : ProfileFault) → m ≤ n → IsFirstProfileFault (tests_below m) fault → IsFirstProfileFault (tests_below n) fault
-  longer m zero fault l h = let e : m ≡ 0 = omega arith in subst (λ k. IsFirstProfileFault (tests_below k) fault) e h
+  longer : (m n : ℕ) (fault : ProfileFault) → m ≤ n → tests_in (tests_below m) (Err fault) → tests_in (tests_below n) (Err fault)
+  longer m zero fault l h = let e : m ≡ 0 = omega arith in subst (λ k. tests_in (tests_below k) (Err fault)) e h
   longer m (suc n) fault l h = elim (eq-or-lt_of_le l) [
-    | inl e ↦ subst (λ k. IsFirstProfileFault (tests_below k) fault) e h
-    | inr b ↦ subst (λ tests. IsFirstProfileFault tests fault) (sym (made-next (entry_tests entries place) n)) (fault-more (tests_below n) (entry_tests entries place n) fault (longer m n fault (le_of_suc-le-suc b) h))
+    | inl e ↦ subst (λ k. tests_in (tests_below k) (Err fault)) e h
+    | inr b ↦ subst (λ tests. tests_in tests (Err fault)) (sym (made-next (entry_tests entries place) n)) (fault-more (tests_below n) (entry_tests entries place n) fault (longer m n fault (le_of_suc-le-suc b) h))
   ]
 
   module _ (k : ℕ) (entry sum : ℚ) (is : entry ≡ entry_at entries (place + k)) (so_far : sum ≡ sum_below k) (passed : All Passes (tests_below k)) where
     -- a fault at entry k is the first of the group
-    at-entry : (group n : ℕ) (fault : ProfileFault) → k < n → IsFirstProfileFault (entry_tests entries place k) fault → IsFirstProfileFault (group_tests entries place group n) fault
+    at-entry : (group n : ℕ) (fault : ProfileFault) → k < n → tests_in (entry_tests entries place k) (Err fault) → tests_in (group_tests entries place group n) (Err fault)
     at-entry group n fault l h =
         fault-more (tests_below n) (SumsToOne group (sum_below n) ∷ []) fault
-        (longer (suc k) n fault (omega arith) (subst (λ tests. IsFirstProfileFault tests fault) (sym (made-next (entry_tests entries place) k)) (fault-following (tests_below k) (entry_tests entries place k) fault passed h)))
+        (longer (suc k) n fault (omega arith) (subst (λ tests. tests_in tests (Err fault)) (sym (made-next (entry_tests entries place) k)) (fault-following (tests_below k) (entry_tests entries place k) fault passed h)))
 
-    pub negative_here : (group n at : ℕ) → k < n → at ≡ place + k → (zero_ℚ ≤ℚ entry → ⊥) → IsFirstProfileFault (group_tests entries place group n) (faults.Negative at)
+    pub negative_here : (group n at : ℕ) → k < n → at ≡ place + k → (zero_ℚ ≤ℚ entry → ⊥) → tests_in (group_tests entries place group n) (Err (faults.Negative at))
     negative_here group n at l at_is fails =
         at-entry group n (faults.Negative at) l (fault-here (sign_at k) (addition_at k ∷ []) (faults.Negative at) (subst (λ x. zero_ℚ ≤ℚ x → ⊥) is fails) (ap faults.Negative at_is))
 
     step_is : unfit Add sum entry ≡ unfit Add (sum_below k) (entry_at entries (place + k))
     step_is = ap₂ (unfit Add) so_far is
 
-    pub unfit_here : (group n : ℕ) (step : Step) → k < n → zero_ℚ ≤ℚ entry → step ≡ unfit Add sum entry → (AddFits sum entry → ⊥) → IsFirstProfileFault (group_tests entries place group n) (faults.Unfit step)
+    pub unfit_here : (group n : ℕ) (step : Step) → k < n → zero_ℚ ≤ℚ entry → step ≡ unfit Add sum entry → (AddFits sum entry → ⊥) → tests_in (group_tests entries place group n) (Err (faults.Unfit step))
     unfit_here group n step l positive step_was fails =
         at-entry group n (faults.Unfit step) l
         (fault-following (sign_at k ∷ []) (addition_at k ∷ []) (faults.Unfit step)
@@ -86,7 +86,7 @@ module _ (entries : List ℚ) (place : ℕ) where
   group-passed group n sum so_far passed is =
       All-append Passes (tests_below n) (SumsToOne group (sum_below n) ∷ []) passed (All-cons Passes (SumsToOne group (sum_below n)) [] (sym so_far ∙ is) (All-nil Passes))
 
-  pub sum_here : (group n : ℕ) (sum : ℚ) → sum ≡ sum_below n → All Passes (tests_below n) → (sum ≡ one_ℚ → ⊥) → IsFirstProfileFault (group_tests entries place group n) (faults.Sum group)
+  pub sum_here : (group n : ℕ) (sum : ℚ) → sum ≡ sum_below n → All Passes (tests_below n) → (sum ≡ one_ℚ → ⊥) → tests_in (group_tests entries place group n) (Err (faults.Sum group))
   sum_here group n sum so_far passed fails =
       fault-following (tests_below n) (SumsToOne group (sum_below n) ∷ []) (faults.Sum group) passed
       (fault-here (SumsToOne group (sum_below n)) [] (faults.Sum group) (λ e. fails (so_far ∙ e)) refl)

@@ -5,7 +5,7 @@ pub mod GroupListLemmas
 pub mod GroupTestLemmas
 pub mod PlanShareLemmas
 pub mod PlanStopLemmas
-mod ProfileAnswerLemmas
+pub mod ProfileAnswerLemmas
 pub mod TakenShareLemmas
 mod TestedBehaviourLemmas
 pub mod TestedEntryLemmas

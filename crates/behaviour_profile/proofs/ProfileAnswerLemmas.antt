@@ -1,24 +1,41 @@
 -- What is answered of entries.
-use Rattle.std.proofs.Common.{ℕ, ◌≡◌, inl, inr, List, Ok, Err, sym, ap, ◌∙◌}
-use Rattle.answers.specs.Answers.{IsSingle}
+use Rattle.std.proofs.Common.{ℕ, ◌≡◌, ◌≢◌, inl, inr, List, All, Ok, Err, length, refl}
+use Rattle.std.specs.Prelude.{sum}
+use Rattle.std.proofs.lemmas.Bool.{cases_eq}
+use Rattle.answers.specs.Answers.{◌>>◌, IsSingle, only, refuse_where}
+use Rattle.answers.proofs.AnswerLemmas.{bind-single, only-single, refuse_where-single, refused_by-single}
 use Rattle.rational.specs.Rational.{ℚ}
 use Rattle.behaviour_profile.specs.declared.entries.ProfileFault.{ProfileFault}
-use Rattle.behaviour_profile.specs.EntryTests.{tests_from, IsProfileFault, profile_in}
-use Rattle.behaviour_profile.proofs.FirstFaultLemmas.{fault_once, fault_among}
+use Rattle.behaviour_profile.specs.declared.entries.ProfileFault.TheVariants as faults
+use Rattle.behaviour_profile.specs.EntryTests.{Passes, all_pass, fault_of, profile_in, tests_from}
+use Rattle.behaviour_profile.proofs.FirstFaultLemmas.{all_pass-single, tests_in}
 
-same_fault : (sizes : List ℕ) (entries : List ℚ) (one other : ProfileFault) → IsProfileFault sizes entries one → IsProfileFault sizes entries other → one ≡ other
-same_fault sizes entries one other (inl h) (inl g) = h.1 ∙ sym g.1
-same_fault sizes entries one other (inl h) (inr g) = absurd (h.0 g.0)
-same_fault sizes entries one other (inr h) (inl g) = absurd (g.0 h.0)
-same_fault sizes entries one other (inr h) (inr g) = fault_once (tests_from entries 0 0 sizes) one other h.1 g.1
+module _ (sizes : List ℕ) (entries : List ℚ) where
+  pub profile_once : IsSingle (profile_in sizes entries)
+  profile_once =
+      let tests = tests_from entries 0 0 sizes in
+      bind-single (refuse_where (length entries ≢ sum sizes) faults.Count) (λ _. tests_in tests >> only entries) (refuse_where-single (length entries ≢ sum sizes) faults.Count)
+      (λ _ _. bind-single (tests_in tests) (λ _. only entries) (refused_by-single fault_of (all_pass tests) (all_pass-single tests)) (λ _ _. only-single entries))
 
--- entries that pass have no fault
-no_fault : (sizes : List ℕ) (entries tested : List ℚ) (fault : ProfileFault) → profile_in sizes entries (Ok tested) → IsProfileFault sizes entries fault → ⊥
-no_fault sizes entries tested fault h (inl g) = g.0 h.0
-no_fault sizes entries tested fault h (inr g) = fault_among (tests_from entries 0 0 sizes) fault g.1 h.1
+  -- ---- what is answered
+  -- entries with a fault
+  pub tests_refused : (fault : ProfileFault) → length entries ≡ sum sizes → tests_in (tests_from entries 0 0 sizes) (Err fault) → profile_in sizes entries (Err fault)
+  tests_refused fault right h = inr (tt, (λ wrong. wrong right), inl h)
 
-pub profile_once : (sizes : List ℕ) (entries : List ℚ) → IsSingle (profile_in sizes entries)
-profile_once sizes entries (Ok one) (Ok other) h g = ap Ok (h.2 ∙ sym g.2)
-profile_once sizes entries (Ok one) (Err fault) h g = absurd (no_fault sizes entries one fault h g)
-profile_once sizes entries (Err fault) (Ok other) h g = absurd (no_fault sizes entries other fault g h)
-profile_once sizes entries (Err one) (Err other) h g = ap Err (same_fault sizes entries one other h g)
+  -- entries that pass
+  pub entries_pass : length entries ≡ sum sizes → All Passes (tests_from entries 0 0 sizes) → profile_in sizes entries (Ok entries)
+  entries_pass right passed = (tt, (λ wrong. wrong right), (tt, passed, refl))
+
+  -- ---- what an answer tells
+  pub passed_count : (tested : List ℚ) → profile_in sizes entries (Ok tested) → length entries ≡ sum sizes
+  passed_count tested h = elim (cases_eq (length entries) (sum sizes)) [
+    | inl right ↦ right
+    | inr wrong ↦ absurd (h.1 wrong)
+  ]
+
+  pub passed_tests : (tested : List ℚ) → profile_in sizes entries (Ok tested) → All Passes (tests_from entries 0 0 sizes)
+  passed_tests tested h = h.2.1
+
+  -- the entries are answered themselves
+  pub passed_same : (tested : List ℚ) → profile_in sizes entries (Ok tested) → tested ≡ entries
+  passed_same tested h = (let e = h.2.2 in cc)

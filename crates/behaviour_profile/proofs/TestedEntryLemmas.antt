@@ -13,6 +13,7 @@ use Rattle.game_theory.proofs.ProfileLineLemmas.{entries-same, length-entries, l
 use Rattle.behaviour_profile.specs.EntryTests.{mixed_of, SumsToOne, Passes, entry_at, entry_tests, group_tests, tests_from, profile_in}
 use Rattle.behaviour_profile.specs.EntryLaws.{AdditionFits, TestedEntriesAreProfiles}
 use Rattle.behaviour_profile.proofs.GroupListLemmas.{sum-cons, sum-nil}
+use Rattle.behaviour_profile.proofs.ProfileAnswerLemmas.{entries_pass, passed_count, passed_tests}
 use Rattle.behaviour_profile.proofs.GroupTestLemmas.{addition_at, sign_at, tests_below, sum_below}
 
 -- ---- a group
@@ -165,8 +166,8 @@ tested_entries = record { sound = sound; complete = complete }
   where
     sound : (sizes : List ℕ) (list : List ℚ) → profile_in sizes list (Ok list) → (m : Mixed) × (list ≡ entries sizes m) × IsValid sizes m
     sound sizes list h =
-        (let e = entries-profile_of sizes list h.0 in
-        (profile_of sizes list, sym e, passed-valid sizes [] 0 (profile_of sizes list) (subst (λ l. All Passes (tests_from l 0 0 sizes)) (sym e) h.1)))
+        (let e = entries-profile_of sizes list (passed_count sizes list list h) in
+        (profile_of sizes list, sym e, passed-valid sizes [] 0 (profile_of sizes list) (subst (λ l. All Passes (tests_from l 0 0 sizes)) (sym e) (passed_tests sizes list list h))))
 
     complete : (sizes : List ℕ) (m : Mixed) → IsValid sizes m → All AdditionFits (tests_from (entries sizes m) 0 0 sizes) → profile_in sizes (entries sizes m) (Ok (entries sizes m))
-    complete sizes m v fit = (length-entries sizes m, valid-passed sizes [] 0 m v fit, refl)
+    complete sizes m v fit = entries_pass sizes (entries sizes m) (length-entries sizes m) (valid-passed sizes [] 0 m v fit)

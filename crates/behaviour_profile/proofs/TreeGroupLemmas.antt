@@ -1,5 +1,5 @@
 -- A player's own sets as groups, and those of all players.
-use Rattle.std.proofs.Common.{ℕ, zero, suc, ◌+◌, ◌<◌, ◌≤◌, ◌≡◌, ◌^◌, inl, inr, Option, Some, None, List, [], ◌∷◌, ◌++◌, All, length, map, get_or, slice_get, take, refl, sym, ap, ap₂, ◌∙◌, subst, add-one, arith, length-append, eq-or-lt_of_le, le_of_suc-le-suc}
+use Rattle.std.proofs.Common.{ℕ, zero, suc, ◌+◌, ◌<◌, ◌≤◌, ◌≡◌, ◌^◌, inl, inr, Option, Some, None, Err, List, [], ◌∷◌, ◌++◌, All, length, map, get_or, slice_get, take, refl, sym, ap, ap₂, ◌∙◌, subst, add-one, arith, length-append, eq-or-lt_of_le, le_of_suc-le-suc}
 use Rattle.std.specs.Prelude.{option_map, sum}
 use Rattle.std.specs.List.{range_with_len, flat_map}
 use Rattle.std.proofs.lemmas.Bool.{cases_lt}
@@ -13,8 +13,10 @@ use Rattle.game_core.specs.Tree.{GameTree, IsGameTree, InformationSet, own_sets 
 use Rattle.game_core.specs.TreeGame.{game_of_tree}
 use Rattle.strategy_lists.proofs.ActionCountLemmas.{actions-below}
 use Rattle.behaviour_profile.specs.declared.entries.ProfileFault.{ProfileFault}
-use Rattle.behaviour_profile.specs.EntryTests.{IsFirstProfileFault, Passes, action_counts, own_counts, tests_from}
+use Rattle.behaviour_profile.specs.EntryTests.{Passes, action_counts, tests_from}
+use Rattle.strategy_lists.specs.Decisions.{own_counts}
 use Rattle.behaviour_profile.proofs.BehaviourEntryLemmas.{actions-counted, own_set-below, place-found}
+use Rattle.behaviour_profile.proofs.FirstFaultLemmas.{tests_in}
 use Rattle.behaviour_profile.proofs.GroupListLemmas.{fault-longer, groups_fault, groups_pass, sum-append, sum-cons, sum-nil}
 use Rattle.lists.proofs.ElementLemmas.{made-next}
 
@@ -99,11 +101,11 @@ module _ (t : Tree) where
 
   -- ---- their tests
   module _ (entries : List ℚ) where
-    later-fault : (p n : ℕ) (fault : ProfileFault) → p ≤ n → IsFirstProfileFault (tests_from entries 0 0 (counts_below p)) fault → IsFirstProfileFault (tests_from entries 0 0 (counts_below n)) fault
-    later-fault p zero fault l h = let e : p ≡ 0 = omega arith in subst (λ k. IsFirstProfileFault (tests_from entries 0 0 (counts_below k)) fault) e h
+    later-fault : (p n : ℕ) (fault : ProfileFault) → p ≤ n → tests_in (tests_from entries 0 0 (counts_below p)) (Err fault) → tests_in (tests_from entries 0 0 (counts_below n)) (Err fault)
+    later-fault p zero fault l h = let e : p ≡ 0 = omega arith in subst (λ k. tests_in (tests_from entries 0 0 (counts_below k)) (Err fault)) e h
     later-fault p (suc n) fault l h = elim (eq-or-lt_of_le l) [
-      | inl e ↦ subst (λ k. IsFirstProfileFault (tests_from entries 0 0 (counts_below k)) fault) e h
-      | inr b ↦ subst (λ v. IsFirstProfileFault (tests_from entries 0 0 v) fault) (sym (made-next (own_counts t) n)) (fault-longer entries 0 0 (counts_below n) (own_counts t n) fault (later-fault p n fault (le_of_suc-le-suc b) h))
+      | inl e ↦ subst (λ k. tests_in (tests_from entries 0 0 (counts_below k)) (Err fault)) e h
+      | inr b ↦ subst (λ v. tests_in (tests_from entries 0 0 v) (Err fault)) (sym (made-next (own_counts t) n)) (fault-longer entries 0 0 (counts_below n) (own_counts t n) fault (later-fault p n fault (le_of_suc-le-suc b) h))
     ]
 
     module _ (p place group : ℕ) (place_is : place ≡ sum (counts_below p)) (group_is : group ≡ length (counts_below p)) (passed : All Passes (tests_from entries 0 0 (counts_below p))) where
@@ -113,7 +115,7 @@ module _ (t : Tree) where
       pub player_passes : All Passes (tests_from entries place group (own_counts t p)) → All Passes (tests_from entries 0 0 (counts_below (p + 1)))
       player_passes h = subst (λ v. All Passes (tests_from entries 0 0 v)) (sym (counts-next p)) (groups_pass entries 0 0 (counts_below p) (own_counts t p) passed (subst (All Passes) own_tests h))
 
-      pub player_fault : (fault : ProfileFault) → p < t.players → IsFirstProfileFault (tests_from entries place group (own_counts t p)) fault → IsFirstProfileFault (tests_from entries 0 0 (action_counts t)) fault
+      pub player_fault : (fault : ProfileFault) → p < t.players → tests_in (tests_from entries place group (own_counts t p)) (Err fault) → tests_in (tests_from entries 0 0 (action_counts t)) (Err fault)
       player_fault fault l h =
           later-fault (p + 1) t.players fault (omega (arith, l))
-          (subst (λ v. IsFirstProfileFault (tests_from entries 0 0 v) fault) (sym (counts-next p)) (groups_fault entries 0 0 (counts_below p) (own_counts t p) passed fault (subst (λ tests. IsFirstProfileFault tests fault) own_tests h)))
+          (subst (λ v. tests_in (tests_from entries 0 0 v) (Err fault)) (sym (counts-next p)) (groups_fault entries 0 0 (counts_below p) (own_counts t p) passed fault (subst (λ tests. tests_in tests (Err fault)) own_tests h)))

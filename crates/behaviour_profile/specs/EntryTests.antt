@@ -1,15 +1,15 @@
 -- Entries in groups, and what is tested of them: a group is one player's strategies, or the actions
 -- of one set.
-use Rattle.std.specs.Prelude.{ℕ, suc, ◌+◌, ◌≡◌, ◌≢◌, ◌⊎◌, List, [], ◌∷◌, ◌++◌, length, map, slice_index_or, sum, take, All, Ok, Err}
+use Rattle.std.specs.Prelude.{ℕ, suc, ◌+◌, ◌≡◌, ◌≢◌, List, [], ◌∷◌, ◌++◌, length, slice_index_or, sum, take, All, Ok, Err}
 use Rattle.std.specs.List.{range_with_len, flat_map}
-use Rattle.answers.specs.Answers.{Answer}
+use Rattle.answers.specs.Answers.{Answer, ◌>>◌, only, refuse_where, refused_by}
 use Rattle.rational.specs.Rational.{ℚ, ◌≤ℚ◌, zero_ℚ, one_ℚ}
 use Rattle.rational.specs.Sum.{sum_to}
 use Rattle.frac128.specs.Steps.{unfit, Step, StepFits}
 use Rattle.frac128.specs.declared.steps.Op.TheVariants.{Add}
 use Rattle.game_theory.specs.Mixed.{Mixed}
 use Rattle.game_theory.specs.Trees.{Tree}
-use Rattle.game_theory.specs.OwnSets.{own_sets}
+use Rattle.strategy_lists.specs.Decisions.{own_counts}
 use Rattle.behaviour_profile.specs.declared.entries.ProfileFault.{ProfileFault}
 use Rattle.behaviour_profile.specs.declared.entries.ProfileFault.TheVariants as faults
 
@@ -66,36 +66,28 @@ pub record IsFirstFailed (tests : List Test) (test : Test) : Type 0 where
   pub earlier_pass : All Passes before
   pub fails : Passes test → ⊥
 
--- what is wrong at the first of these tests that is not passed
-pub record IsFirstProfileFault (tests : List Test) (fault : ProfileFault) : Type 0 where
-  pub test : Test
-  pub is_first : IsFirstFailed tests test
-  pub fault_is : fault ≡ fault_of test
+-- these tests are all passed; or the first that is not
+abbrev pub all_pass : List Test → Answer Test (Unit {0})
+all_pass tests (Ok _) = All Passes tests
+all_pass tests (Err test) = IsFirstFailed tests test
+
+-- the tests of a group are all passed; or what is wrong at the first that is not
+abbrev pub group_in : List ℚ → ℕ → ℕ → ℕ → Answer ProfileFault (Unit {0})
+group_in entries place group n = refused_by fault_of (all_pass (group_tests entries place group n))
 
 -- ---- profiles
--- The first thing that is wrong with entries in groups of these sizes: their count, and else the
--- first test that is not passed.
-abbrev pub IsProfileFault : List ℕ → List ℚ → ProfileFault → Type 0
-IsProfileFault sizes entries fault =
-    ((length entries ≢ sum sizes) × (fault ≡ faults.Count))
-    ⊎ ((length entries ≡ sum sizes) × IsFirstProfileFault (tests_from entries 0 0 sizes) fault)
-
 -- Entries in groups of these sizes, whose count is right and whose tests are all passed; or what
 -- is wrong first.
 abbrev pub profile_in : List ℕ → List ℚ → Answer ProfileFault (List ℚ)
-profile_in sizes entries (Ok tested) =
-    (length entries ≡ sum sizes) × All Passes (tests_from entries 0 0 sizes) × (tested ≡ entries)
-profile_in sizes entries (Err fault) = IsProfileFault sizes entries fault
+profile_in sizes entries =
+    refuse_where (length entries ≢ sum sizes) faults.Count
+    >> (refused_by fault_of (all_pass (tests_from entries 0 0 sizes)) >> only entries)
 
 -- the mixed profile with these entries, where the players have so many strategies
 abbrev pub mixed_of : List ℕ → List ℚ → Mixed
 mixed_of sizes entries i s = entry_at entries (sum (take i sizes) + s)
 
 -- ---- trees
--- how many actions each own set of player i has
-abbrev pub own_counts : Tree → ℕ → List ℕ
-own_counts t i = map t.actions (own_sets t i)
-
 -- how many actions each player's set has, player by player
 abbrev pub action_counts : Tree → List ℕ
 action_counts t = flat_map (own_counts t) (range_with_len 0 t.players)

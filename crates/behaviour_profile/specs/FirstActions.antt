@@ -1,4 +1,4 @@
--- A player's strategy, completed, and the entries of some sets.
+-- A player's strategy, completed.
 use Rattle.std.specs.Prelude.{ℕ, ◌-◌, List}
 use Rattle.game_theory.specs.OwnSets.{own_sets}
 use Rattle.game_theory.specs.Trees.{Tree}

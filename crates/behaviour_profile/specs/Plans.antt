@@ -1,5 +1,5 @@
 -- The behaviour of two plans on a tree, and the first of its quotients that does not fit. Source: von Stengel 1996.
-use Rattle.std.specs.Prelude.{ℕ, List, [], ◌∷◌, ◌++◌, get_or, map, if◌then◌else◌, Some}
+use Rattle.std.specs.Prelude.{ℕ, List, [], ◌∷◌, get_or, map, if◌then◌else◌, Some}
 use Rattle.std.specs.List.{range_with_len, flat_map}
 use Rattle.answers.specs.Answers.{Answer, ◌>>◌, only, refused_by}
 use Rattle.rational.specs.Rational.{ℚ, zero_ℚ}
@@ -44,10 +44,6 @@ quotient_steps t plans k =
 abbrev pub both_plans : List ℚ → List ℚ → ℕ → ℕ → ℚ
 both_plans one two = of_two (weight_at one) (weight_at two)
 
--- the actions of both players of a tree
-abbrev pub both_actions : GameTree → List OwnAction
-both_actions t = own_actions (game_of_tree t) 0 ++ own_actions (game_of_tree t) 1
-
 -- the number that the file gives set s; 0 where there is no such set
 abbrev pub label_of : GameTree → ℕ → ℕ
 label_of t s = get_or (map (λ set. set.label) t.sets) s 0
@@ -56,13 +52,15 @@ label_of t s = get_or (map (λ set. set.label) t.sets) s 0
 abbrev pub quotient_stop : GameTree → OwnAction × Step → BehaviourStop
 quotient_stop t unfit = stops.Range unfit.0.player (label_of t unfit.0.set) unfit.1
 
--- the quotients of two plans all fit; or the first that does not
-abbrev pub quotients_in : GameTree → (ℕ → ℕ → ℚ) → Answer BehaviourStop (Unit {0})
-quotients_in t plans =
-    refused_by (quotient_stop t) (all_fit (quotient_steps (game_of_tree t) plans) (both_actions t))
+-- the quotients of player i all fit; or the first that does not
+abbrev pub own_quotients_in : GameTree → (ℕ → ℕ → ℚ) → ℕ → Answer BehaviourStop (Unit {0})
+own_quotients_in t plans i =
+    refused_by (quotient_stop t) (all_fit (quotient_steps (game_of_tree t) plans) (own_actions (game_of_tree t) i))
 
--- The entries of the behaviour of two plans, all quotients of which fit; or the first that does not.
+-- The entries of the behaviour of two plans, all quotients of which fit, player 0's and then
+-- player 1's; or the first that does not.
 abbrev pub plan_behaviour : GameTree → List ℚ → List ℚ → Answer BehaviourStop (List ℚ)
 plan_behaviour t one two =
-    quotients_in t (both_plans one two)
-    >> only (tree_entries (game_of_tree t) (behaviour_of (game_of_tree t) (both_plans one two)))
+    own_quotients_in t (both_plans one two) 0
+    >> (own_quotients_in t (both_plans one two) 1
+    >> only (tree_entries (game_of_tree t) (behaviour_of (game_of_tree t) (both_plans one two))))

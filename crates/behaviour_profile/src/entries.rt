@@ -7,29 +7,26 @@ ghost use Rattle.std.specs.Prelude.{
   ◌↔◌,
   ◌^◌,
   ℕ,
-  All,
   List,
   length,
   sum,
   IfOk,
-  IfErr,
   IsTrue,
   MatchOption,
-  OnOk,
 };
-ghost use Rattle.answers.specs.Answers.{IsSingle};
+ghost use Rattle.answers.specs.Answers.{IsSingle, map_ok, refused_by};
 ghost use Rattle.rational.specs.Rational.{ℚ};
 ghost use Rattle.game_core.specs.TreeGame.{game_of_tree};
+ghost use Rattle.strategy_lists.specs.Decisions.{own_counts};
 ghost use Rattle.behaviour_profile.specs.EntryLaws.{
   TestedEntriesAreBehaviours,
   TestedEntriesAreProfiles,
 };
 ghost use Rattle.behaviour_profile.specs.EntryTests.{
-  IsFirstProfileFault,
-  Passes,
   action_counts,
-  group_tests,
-  own_counts,
+  all_pass,
+  fault_of,
+  group_in,
   profile_in,
   tests_from,
 };
@@ -70,8 +67,7 @@ struct Position {
 pub fn test_group(entries: &[Frac], place: u32, group: u32, count: u32) -> Result<(), ProfileFault>
     requires within { place + count ≤ length entries.now }
     requires few { place + count < 2 ^ 32 }
-    ensures passed { OnOk result (All Passes (group_tests entries.now place group count)) }
-    ensures fault { IfErr result (IsFirstProfileFault (group_tests entries.now place group count)) }
+    ensures { group_in entries.now place group count result }
 {
     let mut sum = Frac::zero();
     for k in 0..count {
@@ -136,10 +132,9 @@ fn test_player(
         IfOk result (λ following. following.place ≡ place + sum own) }
     ensures group { let own = own_counts (game_of_tree tree.now) player in
         IfOk result (λ following. following.group ≡ group + length own) }
-    ensures passed { let own = own_counts (game_of_tree tree.now) player in
-        OnOk result (All Passes (tests_from entries.now place group own)) }
-    ensures fault { let own = own_counts (game_of_tree tree.now) player in
-        IfErr result (IsFirstProfileFault (tests_from entries.now place group own)) }
+    ensures tests { let own = own_counts (game_of_tree tree.now) player in
+        refused_by fault_of (all_pass (tests_from entries.now place group own))
+        (map_ok result (λ _. tt)) }
 {
     own_sets_are_those_of_the_tree();
     let mut here = place;
@@ -161,10 +156,8 @@ fn test_player(
 // Tests the entries of all players.
 fn test_players(tree: &Tree, entries: &[Frac]) -> Result<(), ProfileFault>
     requires { length entries.now ≡ sum (action_counts (game_of_tree tree.now)) }
-    ensures passed { let counts = action_counts (game_of_tree tree.now) in
-        OnOk result (All Passes (tests_from entries.now 0 0 counts)) }
-    ensures fault { let counts = action_counts (game_of_tree tree.now) in
-        IfErr result (IsFirstProfileFault (tests_from entries.now 0 0 counts)) }
+    ensures { let counts = action_counts (game_of_tree tree.now) in
+        refused_by fault_of (all_pass (tests_from entries.now 0 0 counts)) result }
 {
     stands_for_game_tree(tree);
     let mut position = Position { place: 0, group: 0 };

@@ -5,8 +5,8 @@
 //! Definitions: `specs::EntryTests` has groups of entries and their tests, `EntryLaws` what holds
 //! of tested entries, `Plans` the behaviour of two plans and its steps.
 //! Private words: `specs::FirstActions` and `specs::Shares`, how entries are made.
-//! Lemmas for callers: `proofs::GroupListLemmas`, `TestedEntryLemmas` and `BehaviourEntryLemmas` on
-//! entries, `PlanStopLemmas` on plans.
+//! Lemmas for callers: `proofs::GroupListLemmas`, `FirstFaultLemmas`, `ProfileAnswerLemmas`,
+//! `TestedEntryLemmas` and `BehaviourEntryLemmas` on entries, `PlanStopLemmas` on plans.
 //! A change here touches: `enumpure_trees`, `ne_checker`, `lp` and `lcp`.
 #![tactic(auto)]
 

@@ -6,39 +6,26 @@ ghost use Rattle.std.specs.Prelude.{
   ◌≤◌,
   ◌++◌,
   ℕ,
-  All,
   List,
   length,
-  pos,
   slice_index,
-  IfOk,
-  IfErr,
   OnOk,
   Ok,
 };
 ghost use Rattle.answers.specs.Answers.{Gives, IsSingle};
-ghost use Rattle.rational.specs.Rational.{ℚ, frac};
+ghost use Rattle.rational.specs.Rational.{ℚ};
 ghost use Rattle.game_theory.specs.Lines.{listed};
 ghost use Rattle.game_theory.specs.OwnSets.{own_sets};
-ghost use Rattle.sequence_forms.specs.PlanBehaviour.{share};
+ghost use Rattle.game_theory.specs.TreeEntries.{own_entries};
+ghost use Rattle.sequence_forms.specs.PlanBehaviour.{behaviour_of};
 ghost use Rattle.game_core.specs.Tree.{GameTree};
 ghost use Rattle.game_core.specs.TreeGame.{game_of_tree};
-ghost use Rattle.frac128.specs.FirstUnfit.{StepsFit};
-ghost use Rattle.frac128.specs.Steps.{StepFits, IsFirstUnfit};
 ghost use Rattle.sequence_data.specs.Weights.{weight_at};
 ghost use Rattle.sequence_form.specs.Forms.{tree_form};
 ghost use Rattle.sequence_form.specs.Sequences.{tree_side};
 ghost use Rattle.behaviour_profile.specs.declared.plans.BehaviourStop.TheVariants as stops;
-ghost use Rattle.behaviour_profile.specs.Plans.{label_of, plan_behaviour};
-ghost use Rattle.behaviour_profile.specs.Shares.{
-  AddsPlan,
-  IsPlanStop,
-  IsShareStop,
-  actions_of,
-  share_at,
-  share_steps,
-  steps_at,
-};
+ghost use Rattle.behaviour_profile.specs.Plans.{label_of, own_quotients_in, plan_behaviour};
+ghost use Rattle.behaviour_profile.specs.Shares.{share_at, share_in, shares_in};
 
 use crate::Behaviour;
 use frac128::{Frac, Unfit};
@@ -79,9 +66,7 @@ impl<T: Drop> From<AllocFailed<T>> for BehaviourStop {
 // actions.
 fn share(count: u32, before: Frac, after: Frac) -> Result<Frac, Unfit>
     requires { 0 < count }
-    ensures value { IfOk result (λ v. v ≡ share count before after) }
-    ensures fits { OnOk result (All StepFits (share_steps before after)) }
-    ensures unfit { IfErr result (IsFirstUnfit (share_steps before after)) }
+    ensures { share_in count before after result }
 {
     if before.is_zero() {
         Ok(Frac::over(1, count as u128))
@@ -102,8 +87,7 @@ fn push_shares(
     requires after { row.first + row.count ≤ length plan.now }
     ensures shares { OnOk result
         (entries.new.items ≡ entries.old.items ++ listed row.count (share_at plan.now row)) }
-    ensures fits { OnOk result (All (StepsFit (steps_at plan.now row)) (actions_of row)) }
-    ensures stop { IfErr result (IsShareStop plan.now row player label) }
+    ensures steps { Gives stops.Memory (shares_in plan.now row player label) result }
 {
     let before = plan[row.before as usize];
     let first = row.first as usize;
@@ -145,10 +129,11 @@ fn push_plan(
 ) -> Result<(), BehaviourStop>
     requires side { side.now ≡ tree_side (game_of_tree tree.now) player }
     requires plan { length plan.now ≡ side.now.sequences }
-    ensures added { (plans : ℕ → ℕ → ℚ) → plans player ≡ weight_at plan.now
-        → OnOk result (AddsPlan tree.now player plans entries.old.items entries.new.items) }
-    ensures stop { (plans : ℕ → ℕ → ℚ) → plans player ≡ weight_at plan.now
-        → IfErr result (IsPlanStop tree.now player plans) }
+    ensures added { let t = game_of_tree tree.now in
+        (plans : ℕ → ℕ → ℚ) → plans player ≡ weight_at plan.now → OnOk result
+        (entries.new.items ≡ entries.old.items ++ own_entries t (behaviour_of t plans) player) }
+    ensures steps { (plans : ℕ → ℕ → ℚ) → plans player ≡ weight_at plan.now
+        → Gives stops.Memory (own_quotients_in tree.now plans player) result }
 {
     stands_for_game_tree(tree);
     let sets = side.sets();

@@ -14,15 +14,19 @@ own_as_one m i j s = if j == i then one_ℚ else m j s
 abbrev pub weight : Mixed → ℕ → List ℕ → ℚ
 weight m i profile = probability (own_as_one m i) profile
 
--- what strategy s of player i is worth: the sum over the profiles in which it is played of weight
--- times payoff
-abbrev pub strategy_value : Game → Mixed → ℕ → ℕ → ℚ
-strategy_value g m i s =
-    sum_to (profile_count g.strategies) (λ k.
+-- what strategy s of player i is worth at the first n profiles: the sum, over those in which it is
+-- played, of weight times payoff
+abbrev pub value_below : Game → Mixed → ℕ → ℕ → ℕ → ℚ
+value_below g m i s n =
+    sum_to n (λ k.
     elim (slice_index (profile_at g.strategies k) i == s) [
       | true ↦ weight m i (profile_at g.strategies k) *ℚ g.pays i k
       | false ↦ zero_ℚ
     ])
+
+-- what strategy s of player i is worth: that at all profiles
+abbrev pub strategy_value : Game → Mixed → ℕ → ℕ → ℚ
+strategy_value g m i s = value_below g m i s (profile_count g.strategies)
 
 -- the first strategy of player i that is worth most
 abbrev pub IsBestStrategy : Game → Mixed → ℕ → ℕ → Type 0

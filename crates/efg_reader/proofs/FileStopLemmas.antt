@@ -13,23 +13,20 @@ use Rattle.file_parts.specs.Parsing.{counted, IsRefusal}
 use Rattle.file_parts.specs.declared.refusal.Refusal.{Refusal}
 use Rattle.file_parts.specs.declared.refusal.Refusal.TheVariants as refusals
 use Rattle.file_parts.proofs.ReaderLemmas.{err_same}
-use Rattle.file_parts.proofs.ValueLemmas.{value}
 use Rattle.written_trees.specs.Building.{PartialTree, tree_so_far}
 use Rattle.tree_grammar.specs.declared.kinds.EfgKind.{EfgKind}
 use Rattle.efg_reader.specs.declared.fault.EfgStop.{EfgStop}
 use Rattle.efg_reader.specs.declared.fault.EfgStop.TheVariants as stops
 use Rattle.efg_reader.specs.declared.nodes.Stop.{Stop}
 use Rattle.efg_reader.specs.declared.nodes.Stop.TheVariants.{Refused, Passed}
-use Rattle.efg_reader.specs.States.{RefusesNodes}
+use Rattle.efg_reader.specs.States.{IsStop}
 use Rattle.efg_reader.specs.Stops.{IsPassed, IsEfgStop, kind_in_nodes, IsNodesStop, tree_in}
 use Rattle.tree_grammar.specs.TreeFile.{IsTreeFile, PassesLimit}
-use Rattle.tree_grammar.specs.TreeReading.{Head}
-use Rattle.tree_grammar.specs.TreeParsing.{parse_head, parse_all_nodes, in_nodes, parse_tree}
+use Rattle.tree_grammar.specs.TreeParsing.{Head, parse_head, parse_all_nodes, in_nodes, parse_tree}
 use Rattle.tree_grammar.specs.TreeFaults.{IsFile}
 use Rattle.tree_grammar.specs.FaultKinds.{IsFault}
 use Rattle.tree_grammar.proofs.FileLaws.{read_is_file, met_is_passed, no_front_is_nothing, no_nodes_are_nothing, one_tree, not_passed, one_limit}
-use Rattle.tree_grammar.proofs.HeadLemmas.{value_head, head_front}
-use Rattle.tree_grammar.proofs.WholeFileLaws.{few_players, whole_same}
+use Rattle.tree_grammar.proofs.WholeFileLaws.{few_players}
 use Rattle.tree_grammar.proofs.FaultLaws.{stop_is_fault, file_is_faultless, fault_or_file, one_fault}
 use Rattle.game_core.specs.TokenList.{TokenList, bare}
 use Rattle.game_core.specs.declared.token.Spanned.{Spanned}
@@ -51,12 +48,12 @@ counted_fault {Y} (Err fault) kind left e =
     (fault.1, ap (λ (k : EfgKind). Err (k, fault.1)) (ap (λ (f : EfgKind × ℕ). f.0) same), ap (λ (f : EfgKind × ℕ). f.1) same)
 
 -- a fault of the file, which passes no limit
-fault_stop : (tokens : TokenList) (kind : EfgKind) (rest : List Token) (stop : EfgStop) → length (bare tokens) < 2 ^ 32 → parse_tree (bare tokens) ≡ Err (kind, rest) → ((what : What) → PassesLimit (bare tokens) what → ⊥)
+fault_stop : (tokens : TokenList) (kind : EfgKind) (rest : List Token) (stop : EfgStop) → length (bare tokens) < 2 ^ 32 → parse_tree (bare tokens) ≡ Err (inl (kind, rest)) → ((what : What) → PassesLimit (bare tokens) what → ⊥)
     → stop ≡ stops.Fault (record { at = offset_of tokens (length rest); kind = kind }) → Gives stops.Memory (tree_in tokens) (Err stop)
 fault_stop tokens kind rest stop few e none s = subst (λ x. Gives stops.Memory (tree_in tokens) (Err x)) (sym s) (inr ((rest, stop_is_fault (bare tokens) kind rest few e, refl), none))
 
 -- a fault of the head is one of the file
-head_fault : (tokens : List Token) (kind : EfgKind) (rest : List Token) → parse_head tokens ≡ Err (kind, rest) → parse_tree tokens ≡ Err (kind, rest)
+head_fault : (tokens : List Token) (kind : EfgKind) (rest : List Token) → parse_head tokens ≡ Err (kind, rest) → parse_tree tokens ≡ Err (inl (kind, rest))
 unfolding parse_tree
 head_fault tokens kind rest e = rw e refl
 
@@ -65,7 +62,7 @@ pub front_stop : (tokens : TokenList) (refusal : Refusal EfgKind) (stop : EfgSto
 front_stop tokens refusals.Memory stop few r s = inl s
 front_stop tokens (refusals.Unexpected kind left) stop few r s =
     let f = counted_fault (parse_head (bare tokens)) kind left r in
-    let none = no_front_is_nothing (bare tokens) (sym (value_head (bare tokens)) ∙ ap value f.1) in
+    let none = no_front_is_nothing (bare tokens) (kind, f.0) f.1 in
     let t = head_fault (bare tokens) kind f.0 f.1 in
     fault_stop tokens kind f.0 stop (rw (length-map tokens.list (λ s. s.token)) few) t none.no_limit (s ∙ ap (λ (n : ℕ). stops.Fault (record { at = offset_of tokens n; kind = kind })) (sym f.2))
 
@@ -76,28 +73,27 @@ passed_stop tokens what.Depth stop p s = subst (λ x. Gives stops.Memory (tree_i
 passed_stop tokens _ stop p s = absurd p.passes
 
 -- the fault of nodes
-in_nodes_at : (kind : EfgKind) (rest : List Token) (left : ℕ) → length rest ≡ left → in_nodes {X = PartialTree} (Err (kind, rest)) ≡ Err (kind_in_nodes kind left, rest)
+in_nodes_at : (kind : EfgKind) (rest : List Token) (left : ℕ) → length rest ≡ left → in_nodes {X = PartialTree} (Err (inl (kind, rest))) ≡ Err (inl (kind_in_nodes kind left, rest))
 in_nodes_at kind [] zero e = refl
 in_nodes_at kind [] (suc left) e = absurd (omega arith)
 in_nodes_at kind (t ∷ rest) zero e = absurd (omega arith)
 in_nodes_at kind (t ∷ rest) (suc left) e = refl
 
 -- and so is one of the nodes
-body_fault : (tokens : List Token) (x : Head × List Token) (kind : EfgKind) (rest : List Token) (left : ℕ) → parse_head tokens ≡ Ok x → parse_all_nodes (length x.0.1) x.1 ≡ Err (kind, rest) → length rest ≡ left → parse_tree tokens ≡ Err (kind_in_nodes kind left, rest)
+body_fault : (tokens : List Token) (x : Head × List Token) (kind : EfgKind) (rest : List Token) (left : ℕ) → parse_head tokens ≡ Ok x → parse_all_nodes (length x.0.1) x.1 ≡ Err (inl (kind, rest)) → length rest ≡ left → parse_tree tokens ≡ Err (inl (kind_in_nodes kind left, rest))
 unfolding parse_tree
 body_fault tokens x kind rest left e f n = rw (e, f, in_nodes_at kind rest left n) refl
 
 -- a stop for nodes that are not read
 pub nodes_stop : (tokens : TokenList) (x : Head × List Token) (stopped : Stop) (stop : EfgStop) → length tokens.list < 2 ^ 32 → parse_head (bare tokens) ≡ Ok x
-    → RefusesNodes stopped (length x.0.1) x.1 → IsNodesStop stopped tokens stop → Gives stops.Memory (tree_in tokens) (Err stop)
+    → IsStop stopped (parse_all_nodes (length x.0.1) x.1) → IsNodesStop stopped tokens stop → Gives stops.Memory (tree_in tokens) (Err stop)
 nodes_stop tokens x (Refused refusals.Memory) stop few e h s = inl s
 nodes_stop tokens x (Refused (refusals.Unexpected kind left)) stop few e h s =
-    let f = counted_fault (parse_all_nodes (length x.0.1) x.1) kind left h.0 in
-    let none = no_nodes_are_nothing (bare tokens) x (head_front (bare tokens) x e) h.1 in
-    let t = body_fault (bare tokens) x kind f.0 left e f.1 f.2 in
-    fault_stop tokens (kind_in_nodes kind left) f.0 stop (rw (length-map tokens.list (λ s. s.token)) few) t none.no_limit (s ∙ ap (λ (n : ℕ). stops.Fault (record { at = offset_of tokens n; kind = kind_in_nodes kind left })) (sym f.2))
+    let none = no_nodes_are_nothing (bare tokens) x (kind, h.0) e h.1 in
+    let t = body_fault (bare tokens) x kind h.0 left e h.1 h.2 in
+    fault_stop tokens (kind_in_nodes kind left) h.0 stop (rw (length-map tokens.list (λ s. s.token)) few) t none.no_limit (s ∙ ap (λ (n : ℕ). stops.Fault (record { at = offset_of tokens n; kind = kind_in_nodes kind left })) (sym h.2))
 nodes_stop tokens x (Passed passed) stop few e h s =
-    passed_stop tokens passed stop (met_is_passed (bare tokens) x passed (few_players (bare tokens) x (rw (length-map tokens.list (λ s. s.token)) few) e) (head_front (bare tokens) x e) h) s
+    passed_stop tokens passed stop (met_is_passed (bare tokens) x passed (few_players (bare tokens) x (rw (length-map tokens.list (λ s. s.token)) few) e) e h) s
 
 -- ---- the tree
 -- so players are few
@@ -106,7 +102,7 @@ few_of list x few e = few_players (map (λ s. s.token) list) x (rw (length-map l
 
 -- what is read is a file, and so a tree
 pub read_file : (list : List Spanned) (x : Head × List Token) (partial : PartialTree) → length list < 2 ^ 32 → parse_head (map (λ s. s.token) list) ≡ Ok x → parse_all_nodes (length x.0.1) x.1 ≡ Ok partial → IsTreeFile (map (λ s. s.token) list) (tree_so_far x.0.0 x.0.1 partial)
-read_file list x partial few e f = read_is_file (map (λ s. s.token) list) x partial (few_of list x few e) (head_front (map (λ s. s.token) list) x e) (whole_same (length x.0.1) x.1 partial f)
+read_file list x partial few e f = read_is_file (map (λ s. s.token) list) x partial (few_of list x few e) e f
 
 pub read_tree : (list : List Spanned) (x : Head × List Token) (partial : PartialTree) → length list < 2 ^ 32 → parse_head (map (λ s. s.token) list) ≡ Ok x → parse_all_nodes (length x.0.1) x.1 ≡ Ok partial → IsGameTree (tree_so_far x.0.0 x.0.1 partial)
 read_tree list x partial few e f = (read_file list x partial few e f).describe.partial

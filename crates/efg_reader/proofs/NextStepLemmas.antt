@@ -1,18 +1,22 @@
 -- A further node as the code reads it.
 use Rattle.std.proofs.Common.{◌≡◌, ◌≢◌, ℕ, suc, ◌≤◌, nat_eq, true, false, List, [], ◌∷◌, ◌++◌, length, Option, Some, None, slice_get, slice_set, inl, inr, refl, sym, ap, ◌∙◌, length-append, arith}
 use Rattle.std.proofs.lemmas.List.{length-set}
-use Rattle.std.specs.Prelude.{Ok, Err, codes}
+use Rattle.std.specs.Prelude.{Result, Ok, Err, codes}
 use Rattle.game_core.specs.declared.tree.Kind.TheVariants.{End}
 use Rattle.file_parts.specs.declared.refusal.Refusal.{Refusal}
-use Rattle.file_parts.specs.declared.refusal.Refusal.TheVariants.{Unexpected}
-use Rattle.file_parts.specs.Reading.{word_at, text_at, whole_at, optional_text_at}
+use Rattle.file_parts.specs.declared.refusal.Refusal.TheVariants as refusals
+use Rattle.game_core.specs.declared.too_large.What.{What}
+use Rattle.efg_reader.specs.declared.nodes.Stop.TheVariants.{Refused}
+use Rattle.efg_reader.specs.States.{IsStop}
+use Rattle.tree_grammar.proofs.NodeStopLemmas.{MayStand, at_is, unlimited_ok}
+use Rattle.file_parts.specs.Reading.{word_at, text_at, whole_at, optional_text_at, count_at}
 use Rattle.file_parts.specs.Parsing.{Parsed, IsRefusal, wanted}
 use Rattle.file_parts.proofs.ParseLemmas.{refused_first}
-use Rattle.file_parts.proofs.ReaderLemmas.{bind_ok, ok_same, ok_err}
+use Rattle.file_parts.proofs.ReaderLemmas.{bind_ok, ok_same, err_same, ok_err}
 use Rattle.written_trees.specs.Written.{SetUse, OutcomeUse}
 use Rattle.written_trees.specs.Building.{PartialTree, Branching, PartialSet, PartialOutcome, set_place, outcome_place, passed, new_set, used_set, new_outcome, used_outcome}
-use Rattle.tree_grammar.specs.TreeReading.{begins_node, is_word, positive_at, grown_at, grown}
-use Rattle.tree_grammar.specs.TreeParsing.{Choice, bare_use, parse_first_list, parse_later_list, parse_use, parse_set, parse_player, parse_set_choice, parse_own_choice, parse_after, parse_choice, bare_outcome_use, parse_first_payoffs, parse_later_payoffs, parse_outcome_use, parse_named, parse_outcome, with_parts, parse_next, parse_at}
+use Rattle.tree_grammar.specs.TreePieces.{begins_node, is_word}
+use Rattle.tree_grammar.specs.TreeParsing.{grown_at, grown, Choice, bare_use, parse_first_list, parse_later_list, parse_use, parse_set, parse_player, parse_set_choice, parse_own_choice, parse_after, parse_choice, bare_outcome_use, parse_first_payoffs, parse_later_payoffs, parse_outcome_use, parse_named, parse_outcome, with_parts, parse_next, parse_at, within_limit}
 use Rattle.tree_grammar.specs.declared.kinds.EfgKind.{EfgKind}
 use Rattle.tree_grammar.specs.declared.kinds.EfgKind.TheVariants.{Node}
 use Rattle.tree_grammar.proofs.NodeStepLemmas.{with_uses}
@@ -21,45 +25,56 @@ use Rattle.game_core.specs.declared.token.Token.{Token}
 use Rattle.std.proofs.lemmas.Bool.{cases_Bool}
 
 -- no node's word comes
-pub no_word : (players : ℕ) (partial : PartialTree) (branchings : List Branching) (tokens : List Token) (refusal : Refusal EfgKind) → begins_node tokens ≡ false → refusal ≡ Unexpected Node (length tokens) → IsRefusal refusal (parse_at players partial branchings tokens)
-no_word players partial [] tokens refusal n u = rw u refl
-no_word players partial (b ∷ branchings) tokens refusal n u = rw (u, n) refl
+pub no_word : (players : ℕ) (partial : PartialTree) (branchings : List Branching) (tokens : List Token) (refusal : Refusal EfgKind) → begins_node tokens ≡ false → refusal ≡ refusals.Unexpected Node (length tokens) → IsStop (Refused refusal) (parse_at players partial branchings tokens)
+no_word players partial [] tokens refusal n u = rw u (tokens, refl, refl)
+no_word players partial (b ∷ branchings) tokens refusal n u = rw u (tokens, rw n refl, refl)
+
+-- a limit is passed
+beyond_at : (players : ℕ) (partial : PartialTree) (branchings : List Branching) (tokens : List Token) (what : What) → branchings ≢ [] → begins_node tokens ≡ true → passed partial ≡ Some what → parse_at players partial branchings tokens ≡ Err (inr what)
+beyond_at players partial [] tokens what some n limit = absurd (some refl)
+beyond_at players partial (b ∷ branchings) tokens what some n limit = rw (n, limit) refl
+
+pub beyond : (players : ℕ) (partial : PartialTree) (tokens : List Token) (what : What) → partial.branchings ≢ [] → begins_node tokens ≡ true → passed partial ≡ Some what → parse_at players partial partial.branchings tokens ≡ Err (inr what)
+beyond players partial tokens what some n limit = beyond_at players partial partial.branchings tokens what some n limit
 
 -- ---- the node
--- where a node may come, it is read at the first open branch
-pub record MayCome (players : ℕ) (partial : PartialTree) (tokens : List Token) : Type 0 where
-  pub first : Branching
-  pub others : List Branching
-  pub free : partial.branchings ≡ first ∷ others
-  pub is : parse_at players partial partial.branchings tokens ≡ parse_next players partial first others tokens
+-- a refusal of a part is one of the nodes
+refused_stop : {Y : Type 0} (refusal : Refusal EfgKind) (reading : Result Y (EfgKind × List Token)) → IsRefusal refusal reading → IsStop (Refused refusal) (within_limit None reading)
+refused_stop (refusals.Unexpected kind left) (Ok x) r = cc
+refused_stop (refusals.Unexpected kind left) (Err fault) r =
+    let same = err_same (fault.0, length fault.1) (kind, left) r in
+    (fault.1, ap (λ (k : EfgKind). Err (inl (k, fault.1))) (ap (λ (f : EfgKind × ℕ). f.0) same), ap (λ (f : EfgKind × ℕ). f.1) same)
+refused_stop refusals.Memory reading r = tt
 
-may_by : (players : ℕ) (partial : PartialTree) (branchings : List Branching) (tokens : List Token) → partial.branchings ≡ branchings → branchings ≢ [] → begins_node tokens ≡ true → passed partial ≡ None → MayCome players partial tokens
-may_by players partial [] tokens e some n room = absurd (some refl)
-may_by players partial (b ∷ rest) tokens e some n room =
-    let here : parse_at players partial (b ∷ rest) tokens ≡ parse_next players partial b rest tokens = rw (n, room) refl in
-    record { first = b; others = rest; free = e; is = ap (λ (branchings : List Branching). parse_at players partial branchings tokens) e ∙ here }
+-- where a node may stand
+may_by : (partial : PartialTree) (branchings : List Branching) (tokens : List Token) → branchings ≢ [] → begins_node tokens ≡ true → passed partial ≡ None → MayStand partial branchings tokens
+may_by partial [] tokens some n room = absurd (some refl)
+may_by partial (b ∷ rest) tokens some n room = record { first = b; others = rest; are = refl; begins = n; room = room }
 
-pub may_come : (players : ℕ) (partial : PartialTree) (tokens : List Token) → partial.branchings ≢ [] → begins_node tokens ≡ true → passed partial ≡ None → MayCome players partial tokens
-may_come players partial tokens some n room = may_by players partial partial.branchings tokens refl some n room
+pub may_stand : (partial : PartialTree) (tokens : List Token) → partial.branchings ≢ [] → begins_node tokens ≡ true → passed partial ≡ None → MayStand partial partial.branchings tokens
+may_stand partial tokens some n room = may_by partial partial.branchings tokens some n room
 
 -- the choice is not read
-pub choice_refused : (players : ℕ) (partial : PartialTree) (tokens : List Token) (refusal : Refusal EfgKind) → MayCome players partial tokens → IsRefusal refusal (parse_choice players (length partial.nodes) partial.sets tokens) → IsRefusal refusal (parse_at players partial partial.branchings tokens)
+pub choice_refused : (players : ℕ) (partial : PartialTree) (tokens : List Token) (refusal : Refusal EfgKind) → MayStand partial partial.branchings tokens → IsRefusal refusal (parse_choice players (length partial.nodes) partial.sets tokens) → IsStop (Refused refusal) (parse_at players partial partial.branchings tokens)
 unfolding parse_next
-choice_refused players partial tokens refusal m r = rw m.is (refused_first refusal (parse_choice players (length partial.nodes) partial.sets tokens) _ r)
+choice_refused players partial tokens refusal m r = rw (at_is players partial partial.branchings tokens m) (refused_stop refusal (parse_next players partial m.first m.others tokens) (refused_first refusal (parse_choice players (length partial.nodes) partial.sets tokens) _ r))
 
 -- the outcome is not read
-pub outcome_refused : (players : ℕ) (partial : PartialTree) (tokens : List Token) (refusal : Refusal EfgKind) (c : Choice × List Token) → MayCome players partial tokens → parse_choice players (length partial.nodes) partial.sets tokens ≡ Ok c → IsRefusal refusal (parse_outcome players partial.outcomes c.1) → IsRefusal refusal (parse_at players partial partial.branchings tokens)
+pub outcome_refused : (players : ℕ) (partial : PartialTree) (tokens : List Token) (refusal : Refusal EfgKind) (c : Choice × List Token) → MayStand partial partial.branchings tokens → parse_choice players (length partial.nodes) partial.sets tokens ≡ Ok c → IsRefusal refusal (parse_outcome players partial.outcomes c.1) → IsStop (Refused refusal) (parse_at players partial partial.branchings tokens)
 unfolding parse_next
-outcome_refused players partial tokens refusal c m e r = rw (m.is, e) (refused_first refusal (parse_outcome players partial.outcomes c.1) _ r)
+outcome_refused players partial tokens refusal c m e r =
+    let refused : IsRefusal refusal (parse_next players partial m.first m.others tokens) = rw e (refused_first refusal (parse_outcome players partial.outcomes c.1) _ r) in
+    rw (at_is players partial partial.branchings tokens m) (refused_stop refusal (parse_next players partial m.first m.others tokens) refused)
 
 -- both are read, and the tree grows
-pub node_added : (players : ℕ) (partial more : PartialTree) (tokens : List Token) (c : Choice × List Token) (o : (List PartialOutcome × Option ℕ) × List Token) → MayCome players partial tokens → parse_choice players (length partial.nodes) partial.sets tokens ≡ Ok c → parse_outcome players partial.outcomes c.1 ≡ Ok o
+pub node_added : (players : ℕ) (partial more : PartialTree) (tokens : List Token) (c : Choice × List Token) (o : (List PartialOutcome × Option ℕ) × List Token) → MayStand partial partial.branchings tokens → parse_choice players (length partial.nodes) partial.sets tokens ≡ Ok c → parse_outcome players partial.outcomes c.1 ≡ Ok o
     → grown (with_uses partial c.0.0 o.0.0) c.0.1.0 c.0.1.1 o.0.1 ≡ Some more → parse_at players partial partial.branchings tokens ≡ Ok (more, o.1)
 unfolding parse_next
 node_added players partial more tokens c o m e f g =
-    let here : grown_at (with_uses partial c.0.0 o.0.0) c.0.1.0 c.0.1.1 o.0.1 (m.first ∷ m.others) ≡ Some more = ap (grown_at (with_uses partial c.0.0 o.0.0) c.0.1.0 c.0.1.1 o.0.1) (sym m.free) ∙ g in
+    let here : grown_at (with_uses partial c.0.0 o.0.0) c.0.1.0 c.0.1.1 o.0.1 (m.first ∷ m.others) ≡ Some more = ap (grown_at (with_uses partial c.0.0 o.0.0) c.0.1.0 c.0.1.1 o.0.1) (sym m.are) ∙ g in
     let same : with_parts partial m.first m.others c.0 o.0 ≡ more = same_Some _ _ here in
-    rw (m.is, e, f) (ap (λ (b : PartialTree). Ok (b, o.1)) same)
+    let read : parse_next players partial m.first m.others tokens ≡ Ok (more, o.1) = rw (e, f) (ap (λ (b : PartialTree). Ok (b, o.1)) same) in
+    at_is players partial partial.branchings tokens m ∙ unlimited_ok (parse_next players partial m.first m.others tokens) (more, o.1) read
 
 -- ---- how many sets and outcomes there are
 -- one more set at most
@@ -79,7 +94,7 @@ use_adds k sets used (Some set) tokens x e =
 set_adds : (k : ℕ) (sets : List PartialSet) (owner : Option ℕ) (tokens : List Token) (x : (List PartialSet × ℕ) × List Token) → parse_set k sets owner tokens ≡ Ok x → length x.0.0 ≤ suc (length sets)
 unfolding parse_set
 set_adds k sets owner tokens x e =
-    let a = bind_ok (wanted Node tokens (positive_at tokens)) _ x e in
+    let a = bind_ok (wanted Node tokens (count_at tokens)) _ x e in
     let used = bare_use owner a.0.0 (optional_text_at a.0.1).0 in
     let found = slice_get sets (set_place sets (owner, a.0.0)) in
     let b = bind_ok (parse_use k sets used found (optional_text_at a.0.1).1) _ x a.2 in

@@ -14,7 +14,7 @@ use Rattle.written_trees.specs.Building.{PartialTree, PartialSet, PartialOutcome
 use Rattle.efg_reader.specs.declared.builder.Branching.{Branching as Kept}
 use Rattle.efg_reader.specs.States.{branching_of, branchings_of, nodes_of, tree_of, IsNear, HasTaken}
 use Rattle.efg_reader.specs.PartialCodes.{PartialNodes}
-use Rattle.tree_grammar.specs.TreeReading.{grown_at, grown}
+use Rattle.tree_grammar.specs.TreeParsing.{grown_at, grown}
 
 -- ---- a list kept in reverse
 -- the last one kept is the first branching

@@ -1,15 +1,14 @@
 -- What the reader keeps while it reads, in the words of the tree that is partial.
-use Rattle.std.specs.Prelude.{ℕ, suc, ◌≤◌, ◌≡◌, List, [], ◌∷◌, length, map, reverse, true, Option, None, Some, Result, Ok, Err}
+use Rattle.std.specs.Prelude.{ℕ, suc, ◌≤◌, ◌≡◌, List, [], ◌∷◌, length, map, reverse, Option, None, Some, Result, Ok, Err}
+use mathlib.Core.Logic.{inl, inr}
 use Rattle.std.specs.List.{AllByRecursion}
 use Rattle.game_core.specs.Tree.{most_nodes, most_depth}
 use Rattle.game_core.specs.declared.token.Token.{Token}
 use Rattle.game_core.specs.declared.tree.Node.{Node}
 use Rattle.file_parts.specs.declared.refusal.Refusal.TheVariants as refusals
-use Rattle.file_parts.specs.Parsing.{counted, IsRefusal}
-use Rattle.written_trees.specs.Building.{PartialTree, PartialSet, PartialOutcome, Branching, take_branch, passed}
+use Rattle.written_trees.specs.Building.{PartialTree, PartialSet, PartialOutcome, Branching, take_branch}
 use Rattle.efg_reader.specs.PartialCodes.{PartialNodes}
-use Rattle.tree_grammar.specs.TreeReading.{begins_node, whole_nodes_at}
-use Rattle.tree_grammar.specs.TreeParsing.{parse_at, parse_all_nodes}
+use Rattle.tree_grammar.specs.TreeParsing.{NodeStop}
 use Rattle.efg_reader.specs.declared.builder.Branching.{Branching as Kept}
 use Rattle.efg_reader.specs.declared.nodes.Stop.{Stop}
 use Rattle.efg_reader.specs.declared.nodes.Stop.TheVariants.{Refused, Passed}
@@ -51,23 +50,13 @@ HasTaken [] taken after = (taken ≡ None) × (after ≡ [])
 HasTaken (b ∷ rest) None after = ⊥
 HasTaken (b ∷ rest) (Some taken) after = (branching_of taken ≡ b) × (after ≡ take_branch b rest)
 
--- why a further node is not read: it does not fit, or memory ran out, or it would pass a limit
-abbrev pub RefusesNode : Stop → ℕ → PartialTree → List Token → Type 0
-RefusesNode (Refused refusal) players partial tokens = IsRefusal refusal (parse_at players partial partial.branchings tokens) × (begins_node tokens ≡ true → passed partial ≡ None)
-RefusesNode (Passed what) players partial tokens = (begins_node tokens ≡ true) × (passed partial ≡ Some what)
+-- a stop is the reading's reason, unless memory ran out
+abbrev pub IsStop : {Y : Type 0} → Stop → Result Y NodeStop → Type 0
+IsStop (Refused (refusals.Unexpected kind left)) reading = (rest : List Token) × (reading ≡ Err (inl (kind, rest))) × (length rest ≡ left)
+IsStop (Refused refusals.Memory) reading = Unit {0}
+IsStop (Passed what) reading = reading ≡ Err (inr what)
 
--- what a function of the code answered, seen by view, is the reading of a further node, unless memory ran out
-abbrev pub ReadsNode : {X : Type 0} → (X → PartialTree × List Token) → Result X Stop → ℕ → PartialTree → List Token → Type 0
-ReadsNode view (Ok x) players partial tokens = parse_at players partial partial.branchings tokens ≡ Ok (view x)
-ReadsNode view (Err stop) players partial tokens = RefusesNode stop players partial tokens
-
--- why nodes are not read: a token does not fit, with its kind and offset, or memory ran out, or a limit is passed
-abbrev pub RefusesNodes : Stop → ℕ → List Token → Type 0
-RefusesNodes (Refused (refusals.Unexpected kind left)) players tokens = (counted (parse_all_nodes players tokens) ≡ Err (kind, left)) × (whole_nodes_at players tokens ≡ Err None)
-RefusesNodes (Refused refusals.Memory) players tokens = Unit {0}
-RefusesNodes (Passed what) players tokens = whole_nodes_at players tokens ≡ Err (Some what)
-
--- what a function of the code answered, seen by view, is the reading of all nodes, unless memory ran out
-abbrev pub ReadsNodes : {X : Type 0} → (X → PartialTree) → Result X Stop → ℕ → List Token → Type 0
-ReadsNodes view (Ok x) players tokens = parse_all_nodes players tokens ≡ Ok (view x)
-ReadsNodes view (Err stop) players tokens = RefusesNodes stop players tokens
+-- what a function of the code answered, seen by view, is what the reading gives, unless memory ran out
+abbrev pub ParsesNodes : {X Y : Type 0} → (X → Y) → Result X Stop → Result Y NodeStop → Type 0
+ParsesNodes view (Ok x) reading = reading ≡ Ok (view x)
+ParsesNodes view (Err stop) reading = IsStop stop reading

@@ -1,7 +1,7 @@
 // The tree as far as it is partial.
 ghost use Rattle.std.specs.Prelude.{◌≡◌, ◌≢◌, ◌<◌, suc, List, [], None, Some, All, length, IfOk, OnOk};
 ghost use Rattle.written_trees.specs.Building.{PartialOutcome, passed, root_alone, add_branches};
-ghost use Rattle.tree_grammar.specs.TreeReading.{grown, is_whole};
+ghost use Rattle.tree_grammar.specs.TreeParsing.{grown, is_whole};
 ghost use Rattle.efg_reader.specs.States.{branchings_of, tree_of, HasTaken};
 
 use game_core::{Kind, Node, What};

@@ -5,9 +5,9 @@ ghost use Rattle.game_core.specs.Spacing.{IsShortToken};
 ghost use Rattle.file_parts.specs.Reading.{kinds};
 ghost use Rattle.file_parts.specs.Parsing.{Parses};
 ghost use Rattle.game_core.specs.Tree.{kind_of_owner};
-ghost use Rattle.efg_reader.specs.States.{ReadsNode, ReadsNodes};
-ghost use Rattle.tree_grammar.specs.TreeReading.{is_word, begins_node};
-ghost use Rattle.tree_grammar.specs.TreeParsing.{parse_set_choice, parse_own_choice, parse_choice, parse_at};
+ghost use Rattle.efg_reader.specs.States.{ParsesNodes};
+ghost use Rattle.tree_grammar.specs.TreePieces.{is_word, begins_node};
+ghost use Rattle.tree_grammar.specs.TreeParsing.{parse_set_choice, parse_own_choice, parse_choice, parse_at, parse_all_nodes};
 ghost use Rattle.written_trees.specs.Building.{passed};
 
 use crate::builder::{Builder, Choice};
@@ -153,12 +153,12 @@ fn next<'a>(
     builder: Builder,
     players: u32,
     tokens: &'a [Spanned],
-) -> Result<(Builder, &'a [Spanned]), Refusal<EfgKind>>
+) -> Result<(Builder, &'a [Spanned]), Stop>
     requires begins { begins_node (kinds tokens.now) ≡ true }
     requires room { passed builder ≡ None }
     requires free { builder.branchings ≢ [] }
     requires short { AllByRecursion IsShortToken (kinds tokens.now) }
-    ensures { Parses (λ x. (x.0, kinds x.1.now)) result
+    ensures { ParsesNodes (λ x. (x.0, kinds x.1.now)) result
         (parse_at players builder builder.branchings (kinds tokens.now)) }
 {
     let Builder {
@@ -174,7 +174,7 @@ fn next<'a>(
         tokens,
     ) {
         Ok(read) => read,
-        Err(refusal) => return Err(refusal),
+        Err(refusal) => return Err(Stop::Refused(refusal)),
     };
     let (outcomes, outcome, rest) = match read_outcome(
         alloc,
@@ -183,7 +183,7 @@ fn next<'a>(
         following,
     ) {
         Ok(read) => read,
-        Err(refusal) => return Err(refusal),
+        Err(refusal) => return Err(Stop::Refused(refusal)),
     };
     match nodes.add(&sets, choice, outcome) {
         Ok(nodes) => Ok((
@@ -194,12 +194,12 @@ fn next<'a>(
             },
             rest,
         )),
-        Err(_) => Err(Refusal::Memory),
+        Err(_) => Err(Stop::Refused(Refusal::Memory)),
     }
 }
 
 // The tree with a further node, and the tokens after it.
-#[tactic(auto, using(crate::proofs::NextStepLemmas::no_word))]
+#[tactic(auto, using(crate::proofs::NextStepLemmas::no_word, crate::proofs::NextStepLemmas::beyond))]
 fn one_more<'a>(
     alloc: Global,
     builder: Builder,
@@ -208,7 +208,8 @@ fn one_more<'a>(
 ) -> Result<(Builder, &'a [Spanned]), Stop>
     requires free { builder.branchings ≢ [] }
     requires short { AllByRecursion IsShortToken (kinds tokens.now) }
-    ensures { ReadsNode (λ x. (x.0, kinds x.1.now)) result players builder (kinds tokens.now) }
+    ensures { ParsesNodes (λ x. (x.0, kinds x.1.now)) result
+        (parse_at players builder builder.branchings (kinds tokens.now)) }
 {
     if !begins_node(tokens) {
         return Err(Stop::Refused(unexpected(EfgKind::Node, tokens)));
@@ -216,16 +217,13 @@ fn one_more<'a>(
     if let Some(what) = builder.passed() {
         return Err(Stop::Passed(what));
     }
-    match next(alloc, builder, players, tokens) {
-        Ok(read) => Ok(read),
-        Err(refusal) => Err(Stop::Refused(refusal)),
-    }
+    next(alloc, builder, players, tokens)
 }
 
 /// The tree of all nodes of a file, after which it ends.
 pub fn read_nodes(alloc: Global, players: u32, tokens: &[Spanned]) -> Result<Builder, Stop>
     requires short { AllByRecursion IsShortToken (kinds tokens.now) }
-    ensures { ReadsNodes (λ builder. builder) result players (kinds tokens.now) }
+    ensures { ParsesNodes (λ builder. builder) result (parse_all_nodes players (kinds tokens.now)) }
 {
     let mut builder = Builder::new(alloc)?;
     let mut rest = tokens;

@@ -4,6 +4,7 @@ use Rattle.rational.specs.Rational.{ℚ, ◌≤ℚ◌}
 use Rattle.game_theory.specs.Profiles.{Game, profile_count, profile_at}
 use Rattle.game_theory.specs.Mixed.{pure}
 use Rattle.game_theory.specs.Equilibrium.{IsEquilibrium}
+use Rattle.game_theory.specs.Trees.{Tree}
 use Rattle.game_theory.proofs.ProfileNumberLemmas.{number_of-profile_at, IsProfile-profile_at}
 use Rattle.game_core.specs.Table.{game_of}
 use Rattle.game_core.specs.Tree.{GameTree}
@@ -13,9 +14,8 @@ use Rattle.reduced_form.specs.ReducedForm.{ReducedForm, IsReducedForm}
 use Rattle.enumpure.specs.Replies.{exchanged, PlaysBestReply, plays_best, AreMutualBestReplies}
 use Rattle.enumpure.proofs.ExchangeLemmas.{exchanged-below}
 use Rattle.enumpure.proofs.ListedProfileLemmas.{IsEquilibrium-plays_best, plays_best-equilibrium}
-use Rattle.enumpure_trees.proofs.FormSizeLemmas.{form-counts, form-players}
-use Rattle.game_theory.specs.Trees.{Tree}
 use Rattle.enumpure_trees.specs.TreeEquilibria.{IsFormEquilibrium}
+use Rattle.enumpure_trees.proofs.FormSizeLemmas.{form-counts, form-players}
 
 -- these profiles are the equilibria of the strategic form
 abbrev pub AreEquilibria : Tree → List (List (List ℕ)) → (ℕ → Bool) → Type 0

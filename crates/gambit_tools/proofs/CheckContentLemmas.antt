@@ -1,6 +1,6 @@
 -- Refusals of the tool `check` come from the contents of its inputs, and it has at most one answer.
-use Rattle.std.proofs.Common.{ℕ, ◌+◌, ◌≡◌, ◌<◌, refl, Bool, true, false, List, [], ◌∷◌, ◌++◌, length, Err}
-use Rattle.answers.specs.Answers.{Answer, IsSingle, ◌>>=◌, ◌>>◌, only, refused_by}
+use Rattle.std.proofs.Common.{ℕ, ◌+◌, ◌≡◌, ◌∙◌, ◌<◌, ap, refl, Bool, true, false, List, [], ◌∷◌, ◌++◌, length, Err}
+use Rattle.answers.specs.Answers.{Answer, IsSingle, ◌>>=◌, ◌>>◌, only, refused_by, such_that}
 use Rattle.answers.proofs.AnswerLemmas.{bind-single, refuse_where-single, refused_by-single}
 use Rattle.rational.specs.Rational.{ℚ}
 use Rattle.game_core.specs.Table.{GameTable, strategy_counts}
@@ -17,9 +17,16 @@ use Rattle.ne_printer.specs.declared.reading.LineStop.{LineStop}
 use Rattle.ne_printer.specs.declared.reading.LineStop.TheVariants as line_stop
 use Rattle.ne_checker.specs.LineChecks.{TableChecksAreSingle, TreeChecksAreSingle, faulty, limited, line_entries, table_check, table_judged, table_line, tree_check, tree_judged, tree_line, unread}
 use Rattle.ne_checker.specs.Lines.{lines_answer}
+use Rattle.ne_checker.specs.TableChecks.{table_verdict}
+use Rattle.ne_checker.specs.Texts.{better_text, equilibrium_text, refused, table_told, tree_told}
+use Rattle.ne_checker.specs.TreeVerdicts.{tree_verdict}
 use Rattle.ne_printer.specs.TextLines.{lines_of}
 use Rattle.ne_checker.specs.declared.stops.CheckStop.{CheckStop}
 use Rattle.ne_checker.specs.declared.stops.CheckStop.TheVariants as check_stop
+use Rattle.ne_checker.specs.declared.tables.TableVerdict.{TableVerdict}
+use Rattle.ne_checker.specs.declared.tables.TableVerdict.TheVariants as table_verdicts
+use Rattle.ne_checker.specs.declared.trees.TreeVerdict.{TreeVerdict}
+use Rattle.ne_checker.specs.declared.trees.TreeVerdict.TheVariants as tree_verdicts
 use Rattle.perfect_recall.specs.Found.{recall_of}
 use Rattle.refusals.specs.Told.{check_refusal, recall_refusal}
 use Rattle.refusals.specs.declared.refusal.Refusal.{Refusal}
@@ -53,17 +60,28 @@ entries-reasons number sizes line =
     (inner-reasons check_refusal (unread number) (line_in line) (unread-reasons number line))
     (λ entries. inner-reasons check_refusal (faulty number) (profile_in sizes entries) (λ fault _. faulty-reasons number fault))
 
+refused-reasons : (stop : CheckStop) → origin (check_refusal stop) ≡ Contents → AreReasons check_refusal (refused stop)
+refused-reasons stop e other h =
+    let same : other ≡ stop = cc h in
+    ap (λ r. origin (check_refusal r)) same ∙ e
+
+table_told-reasons : (number : ℕ) (verdict : TableVerdict) → AreReasons check_refusal (table_told number verdict)
+table_told-reasons number table_verdicts.Equilibrium = only-reasons check_refusal equilibrium_text
+table_told-reasons number (table_verdicts.Better player payoff best reply) = only-reasons check_refusal (better_text player payoff best (reply ∷ []))
+table_told-reasons number (table_verdicts.Range step) = refused-reasons (check_stop.Range number step) refl
+
 table_judged-reasons : (number : ℕ) (table : GameTable) (entries : List ℚ) → AreReasons check_refusal (table_judged number table entries)
-table_judged-reasons number table entries (check_stop.Range line step) h = refl
-table_judged-reasons number table entries (check_stop.BadLine line) h = refl
-table_judged-reasons number table entries (check_stop.TooLarge limit) h = refl
-table_judged-reasons number table entries check_stop.Memory h = absurd h
+table_judged-reasons number table entries =
+    then-reasons check_refusal (such_that (table_verdict table entries)) (table_told number) (λ stop h. absurd h) (table_told-reasons number)
+
+tree_told-reasons : (number : ℕ) (verdict : TreeVerdict × List ℕ) → AreReasons check_refusal (tree_told number verdict)
+tree_told-reasons number (tree_verdicts.Equilibrium, reply) = only-reasons check_refusal equilibrium_text
+tree_told-reasons number (tree_verdicts.Better player payoff best, reply) = only-reasons check_refusal (better_text player payoff best reply)
+tree_told-reasons number (tree_verdicts.Range step, reply) = refused-reasons (check_stop.Range number step) refl
 
 tree_judged-reasons : (number : ℕ) (tree : GameTree) (entries : List ℚ) → AreReasons check_refusal (tree_judged number tree entries)
-tree_judged-reasons number tree entries (check_stop.Range line step) h = refl
-tree_judged-reasons number tree entries (check_stop.BadLine line) h = refl
-tree_judged-reasons number tree entries (check_stop.TooLarge limit) h = refl
-tree_judged-reasons number tree entries check_stop.Memory h = absurd h
+tree_judged-reasons number tree entries =
+    then-reasons check_refusal (such_that (λ v. tree_verdict tree entries v.0 v.1)) (tree_told number) (λ stop h. absurd h) (tree_told-reasons number)
 
 table_line-reasons : (table : GameTable) (number : ℕ) (line : List ℕ) → AreReasons check_refusal (table_line table number line)
 table_line-reasons table number line =

@@ -17,7 +17,7 @@ use std::alloc::Global;
 use std::thread::Threads;
 
 // The most pairs.
-const MOST_PAIRS: usize = 1_048_576;
+const MOST_PAIRS: u64 = 1_048_576;
 
 /// Why the pairs were not listed.
 #[derive(Clone, Copy, Debug, PartialEq, Eq)]
@@ -26,6 +26,17 @@ pub enum PairStop {
     TooLarge(TooLarge),
     /// Memory ran out.
     Memory,
+}
+
+impl From<TooLarge> for PairStop {
+    ghost use Rattle.std.specs.Prelude.{◌≡◌};
+    ghost use Rattle.label_pairing.specs.declared.pairing.PairStop.TheVariants as stops;
+
+    ghost from_gives = { λ limit e. e ≡ stops.TooLarge limit };
+
+    fn from(limit: TooLarge) -> PairStop {
+        PairStop::TooLarge(limit)
+    }
 }
 
 impl From<Memory> for PairStop {
@@ -153,12 +164,6 @@ pub fn pairs<R: Threads + Sync>(
     let high = words(alloc, second, 1)?;
     let counts = partner_counts(rt, alloc, first, all, &low, &high)?;
     let count = pair_count(&counts);
-    if count > MOST_PAIRS {
-        return Err(PairStop::TooLarge(TooLarge {
-            what: What::Pairs,
-            count: count as u64,
-            limit: MOST_PAIRS as u64,
-        }));
-    }
+    TooLarge::within(What::Pairs, MOST_PAIRS, count as u64)?;
     Ok(collected(alloc, first, all, &low, &high, &counts, count)?)
 }

@@ -10,10 +10,9 @@ use Rattle.sequence_forms.specs.Matrices.{AreNotNegative, set_row, right_side}
 use Rattle.sequence_forms.specs.PriceLaws.{HasFlow}
 use Rattle.sequence_forms.proofs.MatrixLemmas.{plans_solve}
 use Rattle.lemke_pivot.specs.Vectors.{dot, image, bilinear, zeros}
-use Rattle.lemke_pivot.proofs.ProblemBlockLemmas.{transpose}
+use Rattle.lemke_pivot.proofs.VectorLemmas.{transpose, dot-nonneg, dot-zeros, dot-neg, dot-neg_right, dot-three, dot-two, dot_right, dot_none, dot_comm, bilinear_swap}
 use Rattle.lemke_pivot.specs.Problems.{Costs, costs_of, size, at_y, at_p, at_p', at_q, at_q', matrix, right_sides, IsCopositive}
 use Rattle.lemke_pivot.specs.ProblemLaws.{CostsAreNotNegative, NoRay}
-use Rattle.lemke_pivot.proofs.VectorLemmas.{dot-nonneg, dot-zeros, dot-neg, dot-neg_right, dot-three, dot-two, dot_right, dot_none, dot_comm, bilinear_swap}
 use Rattle.lemke_pivot.proofs.ProblemBlockLemmas.{sum-six, six-dot, row-x, row-y, row-p, row-p', row-q, row-q'}
 use Rattle.lemke_pivot.proofs.NoRayLemmas.{no_ray}
 

@@ -1,11 +1,9 @@
--- the bases of the path and its edges
-use Rattle.std.proofs.Common.{ℕ, ◌≡◌, ◌≢◌, ◌⊎◌, inl, inr, Bool, true, false, not, List, [], ◌∷◌, refl, sym, ap, ap₂, subst, ◌∙◌, true≢false, tests, arith}
+-- The path of complementary pivots, over what it needs of tableaux: its bases and its edges
+use Rattle.std.proofs.Common.{ℕ, ◌≡◌, ◌≢◌, ◌⊎◌, inl, inr, Bool, true, false, not, cond, eqb, List, [], ◌∷◌, refl, sym, ap, ap₂, subst, ◌∙◌, true≢false, tests, arith}
 use Rattle.std.proofs.lemmas.Bool.{cases_eq}
 use Rattle.std.proofs.Math.Path.{fun_ext}
 use Rattle.lemke_pivot.specs.Walks.{Apart, Distinct}
-use Rattle.lemke_pivot.proofs.WalkLemmas.{FewNeighbours, Turns, Walk}
-use Rattle.lemke_pivot.proofs.WalkLemmas.{walk_distinct}
-use Rattle.std.specs.Prelude.{cond, eqb}
+use Rattle.lemke_pivot.proofs.WalkLemmas.{FewNeighbours, Turns, Walk, walk_distinct}
 
 -- b after c has entered and l has left
 abbrev pub swap : (ℕ → Bool) → ℕ → ℕ → ℕ → Bool

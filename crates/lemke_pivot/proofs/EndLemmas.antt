@@ -16,17 +16,14 @@ use Rattle.lemke_pivot.specs.Vectors.{image}
 use Rattle.lemke_pivot.specs.Problems.{IsCopositive}
 use Rattle.linear_systems.proofs.SolutionLemmas.{solution_basic, solution_solves}
 use Rattle.lemke_pivot.specs.Values.{direction, is_basic}
-use Rattle.lemke_pivot.proofs.EdgeLemmas.{swap, Almost}
+use Rattle.lemke_pivot.proofs.EdgeLemmas.{swap, Almost, At, at_first, swap_out, swap_other}
 use Rattle.lemke_pivot.specs.ProblemPaths.{w_of, z_of, z0_of, complement, IsFirstRow, SolvesAt, IsRayAt}
-use Rattle.lemke_pivot.proofs.KeyLemmas.{HasPositiveKeys}
-use Rattle.lemke_pivot.proofs.FirstBasisLemmas.{basis_without}
+use Rattle.lemke_pivot.proofs.KeyLemmas.{HasPositiveKeys, pivots, row_out, solves_back, basic_past}
+use Rattle.lemke_pivot.proofs.FirstBasisLemmas.{basis_without, solves_start, without_z0, without_s, without_w, without_z, without_0, one_row, first, first_basis, first_keys, beginning}
 use Rattle.lemke_pivot.proofs.VectorLemmas.{dot-two}
 use Rattle.lemke_pivot.proofs.NoRayLemmas.{no_ray}
-use Rattle.lemke_pivot.proofs.EdgeLemmas.{At, at_first, swap_out, swap_other}
 use Rattle.lemke_pivot.proofs.ValueLemmas.{row_of, basic_which, value_out, direction_basic, direction_out, direction_self, direction_level, left_add}
 use Rattle.lemke_pivot.proofs.ComplementLemmas.{Which, which, complement_of_w, complement_of_z, complement_twice, complement_neither, labels}
-use Rattle.lemke_pivot.proofs.KeyLemmas.{pivots, row_out, solves_back, basic_past}
-use Rattle.lemke_pivot.proofs.FirstBasisLemmas.{solves_start, without_z0, without_s, without_w, without_z, without_0, one_row, first, first_basis, first_keys, beginning}
 
 lex_first : (n : ℕ) (f : ℕ → ℚ) → IsLexPositive n f → zero_ℚ ≤ℚ f 0
 lex_first n f p = go p.place refl

@@ -1,5 +1,5 @@
 -- the bases that have z0 and all w but one: their rows, and the beginning of the path
-use Rattle.std.proofs.Common.{ℕ, zero, suc, pos, ◌<◌, ◌≤◌, ◌≡◌, ◌≢◌, ◌+◌, ◌-◌, ◌⊎◌, inl, inr, eqb, ltb, true, false, not, cond, [], ◌∷◌, refl, sym, ap, ap₂, ◌∙◌, subst, arith, tests, true≢false}
+use Rattle.std.proofs.Common.{ℕ, zero, suc, pos, ◌<◌, ◌≤◌, ◌≡◌, ◌≢◌, ◌+◌, ◌-◌, ◌⊎◌, inl, inr, eqb, ltb, true, false, not, cond, [], ◌∷◌, refl, sym, ap, ap₂, ◌∙◌, subst, arith, tests, true≢false, Bool}
 use Rattle.std.proofs.lemmas.Int.{ints}
 use Rattle.std.proofs.lemmas.Bool.{cases_eq, cases_lt}
 use Rattle.std.proofs.Math.Path.{fun_ext}
@@ -19,12 +19,10 @@ use Rattle.lemke_pivot.specs.Vectors.{image}
 use Rattle.lemke_pivot.specs.Values.{is_basic}
 use Rattle.lemke_pivot.proofs.EdgeLemmas.{swap, Almost, Start}
 use Rattle.lemke_pivot.specs.ProblemPaths.{is_w, w_of, z_of, z0_of, complement, start, IsFirstRow}
-use Rattle.lemke_pivot.proofs.KeyLemmas.{HasPositiveKeys}
+use Rattle.lemke_pivot.proofs.KeyLemmas.{HasPositiveKeys, Reaches, is_start, row_in, row_out, solves, nonbasic_which, pivots}
 use Rattle.lemke_pivot.proofs.ValueLemmas.{row_of, basic_yes, basic_no, basic_which, nonbasic_no, left_out, left_one}
 use Rattle.lemke_pivot.proofs.ComplementLemmas.{Which, which, complement_w, complement_z, complement_neither, complement_of_z, labels}
 use Rattle.lemke_pivot.proofs.PivotLemmas.{lex_opposite, basic_swap}
-use Rattle.lemke_pivot.proofs.KeyLemmas.{Reaches, is_start, row_in, row_out, solves, nonbasic_which, pivots}
-use Rattle.std.specs.Prelude.{Bool}
 
 -- all w but that of row s, and z0
 abbrev pub basis_without : ℕ → ℕ → ℕ → Bool

@@ -9,6 +9,7 @@ use Rattle.lex_tableau.specs.declared.tableau.StartStop.{StartStop}
 use Rattle.lex_tableau.specs.declared.tableau.StartStop.TheVariants as starts
 use Rattle.lex_tableau.specs.Starts.{Parts, system_of}
 use Rattle.game_core.specs.Limits.{most_rows, within}
+use Rattle.game_core.specs.declared.too_large.TooLarge.{TooLarge}
 use Rattle.game_core.specs.declared.too_large.What.TheVariants as what
 use Rattle.sequence_forms.specs.Prices.{costs}
 use Rattle.sequence_data.specs.Data.{FormData, form, side_of}
@@ -19,41 +20,45 @@ use Rattle.lemke_pivot.specs.Parts.{IsProblem, IsProblemOfForm, IsStartFor, Prob
 use Rattle.lemke_pivot.proofs.FormSystemLemmas.{for_sides}
 use Rattle.lemke_pivot.proofs.PathStartLemmas.{starts_for}
 
-module _ (f : FormData) (few : most_rows < form_size f → ⊥) where
+module _ (f : FormData) where
   abbrev size_stage : Answer LcpStop (Unit {0})
   size_stage = refused_by stops.TooLarge (within what.Rows most_rows (form_size f))
 
   abbrev cost_stage : Answer LcpStop (Unit {0})
   cost_stage = costs_in f.greatest_one f.greatest_two f.cells
 
-  pub costs_stop : (r : LcpStop) → Gives stops.Memory cost_stage (Err r) → Gives stops.Memory (problem_in f) (Err r)
-  costs_stop r g =
+  pub size_stop : (limit : TooLarge) → within what.Rows most_rows (form_size f) (Err limit) → Gives stops.Memory (problem_in f) (Err (stops.TooLarge limit))
+  size_stop limit h =
+      gives_first {Z = Problem} stops.Memory size_stage (λ _. cost_stage >> form_start_in f) (stops.TooLarge limit) (inr (limit, h, refl))
+
+  pub costs_stop : (few : most_rows < form_size f → ⊥) (r : LcpStop) → Gives stops.Memory cost_stage (Err r) → Gives stops.Memory (problem_in f) (Err r)
+  costs_stop few r g =
       gives_bind {Z = Problem} stops.Memory size_stage (λ _. cost_stage >> form_start_in f) tt (Err r) few (gives_first {Z = Problem} stops.Memory cost_stage (λ _. form_start_in f) r g)
 
-  pub start_gives : (answer : Result Problem LcpStop) → cost_stage (Ok tt) → Gives stops.Memory (form_start_in f) answer → Gives stops.Memory (problem_in f) answer
-  start_gives answer h g =
+  pub start_gives : (few : most_rows < form_size f → ⊥) (answer : Result Problem LcpStop) → cost_stage (Ok tt) → Gives stops.Memory (form_start_in f) answer → Gives stops.Memory (problem_in f) answer
+  start_gives few answer h g =
       gives_bind {Z = Problem} stops.Memory size_stage (λ _. cost_stage >> form_start_in f) tt answer few (gives_bind {Z = Problem} stops.Memory cost_stage (λ _. form_start_in f) tt answer h g)
 
 -- ---- the start
 module _ (f : FormData) (s : Parts) (is_system : IsSystemOf f s) where
   pub start_stop : (stop : StartStop) → Gives starts.Memory (start_in s) (Err stop) → Gives stops.Memory (form_start_in f) (Err (told_start stop))
   start_stop stop (inl m) = inl (ap told_start m)
-  start_stop stop (inr h) = inr (stop, (s, (is_system, inl h)), refl)
+  start_stop stop (inr h) = inr (inl (stop, (s, (is_system, h)), refl))
 
   pub start_goes : (p : Problem) → start_in s (Ok p.tableau) → p.first ≡ f.first → p.second ≡ f.second → form_start_in f (Ok p)
   start_goes p h one two =
-      (s, (is_system, (p.tableau, h, ap₂ (λ a b. Ok (record { first = a; second = b; tableau = p.tableau })) one two)))
+      (p.tableau, (s, (is_system, h)), ap₂ (λ a b. Ok (record { first = a; second = b; tableau = p.tableau })) one two)
 
 -- ---- read off the stages
 pub problems_of_forms : ProblemsAreOfForms
 problems_of_forms f p valid stages =
     let few = stages.1 in
     let last = stages.2.2 in
-    let s = last.0 in
-    let n = last.1.1.0 in
-    let is_system : IsSystemOf f s = last.1.0 in
+    let n = last.0 in
+    let s = last.1.0 in
+    let is_system : IsSystemOf f s = last.1.1.0 in
     let start : IsStarted s n = last.1.1.1.2 in
-    let same : with_start f n ≡ p = cc (last.1.1.2) in
+    let same : with_start f n ≡ p = cc (last.2) in
     let begins : IsStartFor f.first f.second n = starts_for f.first f.second s n (for_sides f s f.first f.second valid refl refl is_system) start.start start.valid in
     subst (λ p. IsProblem p × IsProblemOfForm (form f) f.greatest_one f.greatest_two p) same (
       record { first = valid.first_is; second = valid.second_is; few = omega (arith, few); start = begins },

@@ -19,10 +19,10 @@ use Rattle.lex_tableau.specs.Starts.{Parts, system_of}
 use Rattle.sequence_data.specs.declared.types.Cell.{Cell}
 use Rattle.sequence_data.specs.Data.{FormData, IsFormData, LeafFits, SideData, form, side_of}
 use Rattle.sequence_data.proofs.GainLemmas.{costs_positive_one, costs_positive_two}
-use Rattle.sequence_data.specs.Matrices.{IsInside, placed, HoldsNumbers}
+use Rattle.sequence_data.specs.Matrices.{IsInside, placed, HoldsNumbers, number_at}
 use Rattle.lemke_pivot.specs.FormProblems.{IsSystemOf, cost_at, cost_one, cost_two, form_size}
 use Rattle.lemke_pivot.specs.Parts.{IsProblemSystem, start_of}
-use Rattle.lemke_pivot.specs.Systems.{IsSystemFor, number_of}
+use Rattle.lemke_pivot.specs.Systems.{IsSystemFor}
 
 -- ---- costs of cells
 cost_head : (b : Bool) (most weight payoff x y : ℚ) → (if b then cost_at most weight payoff else zero_ℚ) +ℚ ((most *ℚ y) -ℚ x) ≡ (most *ℚ ((if b then weight else zero_ℚ) +ℚ y)) -ℚ ((if b then payoff else zero_ℚ) +ℚ x)
@@ -97,17 +97,17 @@ module _ (f : FormData) (valid : IsFormData f) where
       let a : f.first.sequences * f.second.sequences ≤ 512 * f.second.sequences = mul-le-mul_right f.second.sequences x in
       omega (arith, a, y)
 
-  costs_are : (payoff : Cell → ℚ) (most : ℚ) (numbers held : List ℚ) → numbers ≡ map (λ c. cost_at most c.weight (payoff c)) f.cells → HoldsNumbers f.first.sequences f.second.sequences (placed f.cells numbers) held → (r q : ℕ) → r < sequences (side_of f.first) → q < sequences (side_of f.second) → number_of held (sequences (side_of f.second)) r q ≡ (most *ℚ listed_at (map (λ c. (c.row, c.column, c.weight)) f.cells) r q) -ℚ listed_at (map (λ c. (c.row, c.column, payoff c)) f.cells) r q
+  costs_are : (payoff : Cell → ℚ) (most : ℚ) (numbers held : List ℚ) → numbers ≡ map (λ c. cost_at most c.weight (payoff c)) f.cells → HoldsNumbers f.first.sequences f.second.sequences (placed f.cells numbers) held → (r q : ℕ) → r < sequences (side_of f.first) → q < sequences (side_of f.second) → number_at held (sequences (side_of f.second)) r q ≡ (most *ℚ listed_at (map (λ c. (c.row, c.column, c.weight)) f.cells) r q) -ℚ listed_at (map (λ c. (c.row, c.column, payoff c)) f.cells) r q
   costs_are payoff most numbers held e holds r q hr hq =
       ap (λ n. get_or held (r * n + q) zero_ℚ) (sym second_count) ∙ holds r q (subst (λ n. r < n) (sym first_count) hr) (subst (λ n. q < n) (sym second_count) hq) ∙ ap (λ xs. listed_at (placed f.cells xs) r q) e ∙ placed_costs payoff most f.cells r q
 
-  system_has_costs : (one two held_one held_two : List ℚ) (s : Parts) → one ≡ map (cost_one f.greatest_one) f.cells → two ≡ map (cost_two f.greatest_two) f.cells → HoldsNumbers f.first.sequences f.second.sequences (placed f.cells one) held_one → HoldsNumbers f.first.sequences f.second.sequences (placed f.cells two) held_two → IsSystemFor f.first f.second (number_of held_one (sequences (side_of f.second))) (number_of held_two (sequences (side_of f.second))) s → IsSystemOf f s
+  system_has_costs : (one two held_one held_two : List ℚ) (s : Parts) → one ≡ map (cost_one f.greatest_one) f.cells → two ≡ map (cost_two f.greatest_two) f.cells → HoldsNumbers f.first.sequences f.second.sequences (placed f.cells one) held_one → HoldsNumbers f.first.sequences f.second.sequences (placed f.cells two) held_two → IsSystemFor f.first f.second (number_at held_one (sequences (side_of f.second))) (number_at held_two (sequences (side_of f.second))) s → IsSystemOf f s
   system_has_costs one two held_one held_two s e g holds_one holds_two w =
       record {
         valid = w.valid;
         rated = w.rated;
-        begins = alike_trans (start_of (side_of f.first) (side_of f.second) (costs (form f) 0 f.greatest_one) (costs (form f) 1 f.greatest_two)) (start_of (side_of f.first) (side_of f.second) (number_of held_one (sequences (side_of f.second))) (number_of held_two (sequences (side_of f.second)))) (system_of s)
-            (starts_same (side_of f.first) (side_of f.second) (costs (form f) 0 f.greatest_one) (costs (form f) 1 f.greatest_two) (number_of held_one (sequences (side_of f.second))) (number_of held_two (sequences (side_of f.second)))
+        begins = alike_trans (start_of (side_of f.first) (side_of f.second) (costs (form f) 0 f.greatest_one) (costs (form f) 1 f.greatest_two)) (start_of (side_of f.first) (side_of f.second) (number_at held_one (sequences (side_of f.second))) (number_at held_two (sequences (side_of f.second)))) (system_of s)
+            (starts_same (side_of f.first) (side_of f.second) (costs (form f) 0 f.greatest_one) (costs (form f) 1 f.greatest_two) (number_at held_one (sequences (side_of f.second))) (number_at held_two (sequences (side_of f.second)))
             (λ r q hr hq. sym (costs_are (λ c. c.one) f.greatest_one one held_one e holds_one r q hr hq)) (λ r q hr hq. sym (costs_are (λ c. c.two) f.greatest_two two held_two g holds_two r q hr hq))) w.begins;
       }
 
@@ -126,11 +126,11 @@ module _ (f : FormData) (valid : IsFormData f) (cells : List Cell) (x y : ℕ) (
   held numbers found h = subst₂ (λ a b. HoldsNumbers a b (placed f.cells numbers) found) ex ey (subst (λ xs. HoldsNumbers x y (placed xs numbers) found) ec h)
 
   module _ (one two held_one held_two seen_one seen_two : List ℚ) (one_is : one ≡ map (cost_one f.greatest_one) f.cells) (two_is : two ≡ map (cost_two f.greatest_two) f.cells) (holds_one : HoldsNumbers x y (placed cells one) held_one) (holds_two : HoldsNumbers x y (placed cells two) held_two) (seen_one_is : seen_one ≡ held_one) (seen_two_is : seen_two ≡ held_two) where
-    pub system_read : {R : Type 0} (r : Result Parts R) (first second : SideData) → first ≡ f.first → second ≡ f.second → IfOk r (IsSystemFor first second (number_of seen_one (sequences (side_of second))) (number_of seen_two (sequences (side_of second)))) → IfOk r (IsSystemOf f)
+    pub system_read : {R : Type 0} (r : Result Parts R) (first second : SideData) → first ≡ f.first → second ≡ f.second → IfOk r (IsSystemFor first second (number_at seen_one (sequences (side_of second))) (number_at seen_two (sequences (side_of second)))) → IfOk r (IsSystemOf f)
     system_read r first second e g w =
-        let found : IfOk r (IsSystemFor f.first f.second (number_of held_one (sequences (side_of f.second))) (number_of held_two (sequences (side_of f.second)))) =
-        subst₂ (λ a b. IfOk r (IsSystemFor a b (number_of held_one (sequences (side_of b))) (number_of held_two (sequences (side_of b))))) e g
-        (subst₂ (λ a b. IfOk r (IsSystemFor first second (number_of a (sequences (side_of second))) (number_of b (sequences (side_of second))))) seen_one_is seen_two_is w) in
+        let found : IfOk r (IsSystemFor f.first f.second (number_at held_one (sequences (side_of f.second))) (number_at held_two (sequences (side_of f.second)))) =
+        subst₂ (λ a b. IfOk r (IsSystemFor a b (number_at held_one (sequences (side_of b))) (number_at held_two (sequences (side_of b))))) e g
+        (subst₂ (λ a b. IfOk r (IsSystemFor first second (number_at a (sequences (side_of second))) (number_at b (sequences (side_of second))))) seen_one_is seen_two_is w) in
         if_ok-then r _ (IsSystemOf f) found (λ s k. system_has_costs f valid one two held_one held_two s one_is two_is (held one held_one holds_one) (held two held_two holds_two) k)
 
 -- the system of a form is that of a problem

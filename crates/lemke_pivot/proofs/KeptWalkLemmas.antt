@@ -11,9 +11,8 @@ use Rattle.lex_tableau.specs.Ratio.{variable_at, IsBest}
 use Rattle.frac128.specs.Steps.{StepFits, IsFirstUnfit}
 use Rattle.lex_tableau.specs.Pivots.{pivot_number, steps_of_pivot}
 use Rattle.lemke_pivot.specs.ProblemPaths.{w_of, z_of, z0_of, complement, start, PathTo}
-use Rattle.lemke_pivot.proofs.KeyLemmas.{HasPositiveKeys}
+use Rattle.lemke_pivot.proofs.KeyLemmas.{HasPositiveKeys, nonbasic_which}
 use Rattle.linear_systems.proofs.AgreementLemmas.{alike_trans, alike_pivot}
-use Rattle.lemke_pivot.proofs.KeyLemmas.{nonbasic_which}
 use Rattle.lemke_pivot.proofs.FirstBasisLemmas.{entry_not}
 use Rattle.lemke_pivot.proofs.ProblemPathLemmas.{keys, short, leaving_row, next_is_out, basic_is_variable}
 use Rattle.lemke_pivot.specs.Paths.{ExactPathTo, EndsSolved, EndsUnfit, IsPathStart, IsNonbasic}

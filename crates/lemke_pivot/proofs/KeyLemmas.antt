@@ -6,6 +6,7 @@ use Rattle.rational.proofs.RationalRing.{rational_ring}
 use Rattle.rational.proofs.Ring.{ring, combine, ◌times◌is◌, num, ◌:+◌, ◌:*◌, :neg, A, B, C}
 use Rattle.rational.proofs.SumLemmas.{sum_to-zeros}
 use Rattle.linear_systems.specs.Tableau.{Tableau, left, Solves, pivot}
+use Rattle.linear_systems.specs.Lex.{IsLexPositive}
 use Rattle.linear_systems.specs.Rows.{Alike, row, key}
 use Rattle.linear_systems.specs.Reached.{IsReached, IsStart, IsVariableOf, in_row, in_column, IsCombination}
 use Rattle.rational.proofs.InverseLemmas.{ne_zero_of_pos}
@@ -18,7 +19,6 @@ use Rattle.lemke_pivot.specs.ProblemPaths.{w_of, start, Replaces}
 use Rattle.lemke_pivot.proofs.AlikeTableauLemmas.{into_width, alike_basic}
 use Rattle.lemke_pivot.proofs.ValueLemmas.{basic_yes, basic_no, nonbasic_no}
 use Rattle.lemke_pivot.proofs.PivotLemmas.{basic_r, nonbasic_c, basic_swap, undone, same_leaves}
-use Rattle.linear_systems.specs.Lex.{IsLexPositive}
 
 -- a tableau of this system, with positive keys
 pub record HasPositiveKeys (n : ℕ) (M : ℕ → ℕ → ℚ) (b : ℕ → ℚ) (t : Tableau) : Type 0 where

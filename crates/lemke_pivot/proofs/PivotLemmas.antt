@@ -17,8 +17,7 @@ use Rattle.linear_systems.proofs.RowLemmas.{key_same, key_other}
 use Rattle.linear_systems.proofs.ReachedTableauLemmas.{proper_pivot}
 use Rattle.linear_systems.proofs.BasisLemmas.{same_key, same_cell}
 use Rattle.lemke_pivot.specs.Values.{is_basic}
-use Rattle.lemke_pivot.proofs.EdgeLemmas.{swap}
-use Rattle.lemke_pivot.proofs.EdgeLemmas.{swap_in, swap_out, swap_other}
+use Rattle.lemke_pivot.proofs.EdgeLemmas.{swap, swap_in, swap_out, swap_other}
 use Rattle.lemke_pivot.proofs.ValueLemmas.{row_of, basic_yes, basic_no, basic_which, nonbasic_no}
 
 -- no row of numbers and its opposite are both lexicographically positive

@@ -1,17 +1,18 @@
 -- A form has one problem, or one reason why it has none.
 use Rattle.std.proofs.Common.{◌≡◌, ◌∙◌, ◌<◌, sym}
-use Rattle.answers.specs.Answers.{◌>>◌, IsSingle, refused_by}
-use Rattle.answers.proofs.AnswerLemmas.{bind-single, refuse_where-single, refused_by-single}
+use Rattle.answers.specs.Answers.{◌>>◌, IsSingle, only, refused_by}
+use Rattle.answers.proofs.AnswerLemmas.{bind-single, only-single, refuse_where-single, refused_by-single}
 use Rattle.linear_systems.proofs.AgreementLemmas.{alike_sym, alike_trans}
 use Rattle.lex_tableau.specs.Starts.{Parts, system_of}
-use Rattle.lex_tableau.proofs.SystemLemmas.{systems_determined, start_for-single}
+use Rattle.lex_tableau.specs.StartStops.{start_of as start_of_system}
+use Rattle.lex_tableau.proofs.SystemLemmas.{systems_determined, start_of-single}
 use Rattle.frac128.proofs.FirstUnfitLemmas.{all_fit-single}
 use Rattle.game_core.specs.Limits.{most_rows, too_large, within}
 use Rattle.game_core.specs.declared.too_large.What.TheVariants as what
 use Rattle.sequence_forms.specs.Prices.{costs}
 use Rattle.sequence_data.specs.Data.{FormData, form, side_of}
 use Rattle.lemke_pivot.specs.declared.stop.LcpStop.TheVariants as stops
-use Rattle.lemke_pivot.specs.FormProblems.{IsSystemOf, ProblemsAreSingle, both_costs, costs_in, form_size, form_start, form_start_in, steps_at, told_cost, told_start, with_start}
+use Rattle.lemke_pivot.specs.FormProblems.{IsSystemOf, ProblemsAreSingle, both_costs, costs_in, form_size, form_start_in, steps_at, told_cost, told_start, with_start}
 use Rattle.lemke_pivot.specs.Parts.{start_of}
 
 -- ---- the start
@@ -21,8 +22,10 @@ module _ (f : FormData) where
       let begin = start_of (side_of f.first) (side_of f.second) (costs (form f) 0 f.greatest_one) (costs (form f) 1 f.greatest_two) in
       systems_determined s t h.valid g.valid (alike_trans (system_of s) begin (system_of t) (alike_sym begin (system_of s) h.begins) g.begins) (h.rated ∙ sym g.rated)
 
-  form_start-single : IsSingle (form_start f)
-  form_start-single = start_for-single (IsSystemOf f) (with_start f) one_system
+  form_start_in-single : IsSingle (form_start_in f)
+  form_start_in-single =
+      let stage = refused_by told_start (start_of_system (IsSystemOf f)) in
+      bind-single stage (λ start. only (with_start f start)) (refused_by-single told_start (start_of_system (IsSystemOf f)) (start_of-single (IsSystemOf f) one_system)) (λ start _. only-single (with_start f start))
 
 -- ---- all stages
 pub problems_single : ProblemsAreSingle
@@ -31,4 +34,4 @@ problems_single f =
     let size = refused_by stops.TooLarge (within what.Rows most_rows (form_size f)) in
     bind-single size (λ _. numbers >> form_start_in f) (refused_by-single stops.TooLarge _ (refuse_where-single (most_rows < form_size f) (too_large what.Rows most_rows (form_size f))))
     (λ _ _. bind-single numbers (λ _. form_start_in f) (refused_by-single told_cost _ (all_fit-single (steps_at f.greatest_one f.greatest_two) (both_costs f.cells)))
-    (λ _ _. refused_by-single told_start _ (form_start-single f)))
+    (λ _ _. form_start_in-single f))

@@ -7,10 +7,7 @@ use Rattle.rational.proofs.Ring.{ring, combine, ◌times◌is◌, num, ◌:+◌,
 use Rattle.rational.proofs.SumLemmas.{sum_to-append}
 use Rattle.lemke_pivot.specs.Vectors.{dot, image, zeros, joined}
 use Rattle.lemke_pivot.specs.Problems.{Costs, size, in_blocks, at_y, at_p, at_p', at_q, at_q', rows_x, rows_y, rows_p, rows_p', rows_q, rows_q', matrix}
-use Rattle.lemke_pivot.proofs.VectorLemmas.{joined_low, joined_high, dot_joined, dot-zeros, dot-neg}
-
-abbrev pub transpose : (ℕ → ℕ → ℚ) → ℕ → ℕ → ℚ
-transpose A j i = A i j
+use Rattle.lemke_pivot.proofs.VectorLemmas.{transpose, joined_low, joined_high, dot_joined, dot-zeros, dot-neg}
 
 pub six-dot : (s : Costs) (x y p p' q q' z : ℕ → ℚ) → dot (size s) (in_blocks s x y p p' q q') z ≡ dot s.X x z +ℚ (dot s.Y y (at_y s z) +ℚ (dot s.h p (at_p s z) +ℚ (dot s.h p' (at_p' s z) +ℚ (dot s.k q (at_q s z) +ℚ dot s.k q' (at_q' s z)))))
 six-dot s x y p p' q q' z =

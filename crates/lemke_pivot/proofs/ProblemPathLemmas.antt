@@ -13,19 +13,17 @@ use Rattle.linear_systems.proofs.LexRowLemmas.{lex_row_once, lex_row_is}
 use Rattle.lemke_pivot.specs.Vectors.{zeros}
 use Rattle.lemke_pivot.specs.Problems.{costs_of, size, matrix, right_sides, IsCopositive}
 use Rattle.lemke_pivot.specs.Walks.{Apart, Distinct}
-use Rattle.lemke_pivot.proofs.EdgeLemmas.{swap}
+use Rattle.lemke_pivot.proofs.EdgeLemmas.{swap, At, at_begin, at_next, no_basis_twice, swap_out}
 use Rattle.lemke_pivot.specs.Values.{is_basic}
 use Rattle.lemke_pivot.specs.ProblemPaths.{w_of, z_of, z0_of, complement, SolvesAt, IsRayAt, start, IsFirstRow, Replaces, PathTo}
-use Rattle.lemke_pivot.proofs.KeyLemmas.{HasPositiveKeys}
+use Rattle.lemke_pivot.proofs.KeyLemmas.{HasPositiveKeys, is_start, row_in, pivots, next_keys, after, basic_past}
 use Rattle.lemke_pivot.specs.ProblemLaws.{NoBasisOccursTwice, PathsAreShort, PathsAreUnique, PathsEndSolved, PathsEndInRays, FirstRowsExist, AlwaysALeavingRow, LeastIsNegative}
 use Rattle.lemke_pivot.proofs.ProblemBlockLemmas.{six_p}
 use Rattle.lemke_pivot.proofs.CopositiveLemmas.{sides_copositive}
-use Rattle.lemke_pivot.proofs.EdgeLemmas.{At, at_begin, at_next, no_basis_twice, swap_out}
 use Rattle.lemke_pivot.proofs.SetCountLemmas.{AllBelow, sets-bound}
 use Rattle.lemke_pivot.proofs.ValueLemmas.{value_out, basic_yes}
 use Rattle.lemke_pivot.proofs.ComplementLemmas.{Which, which, complement_neither, labels}
 use Rattle.lemke_pivot.proofs.AlikeTableauLemmas.{into_width, alike_basic}
-use Rattle.lemke_pivot.proofs.KeyLemmas.{is_start, row_in, pivots, next_keys, after, basic_past}
 use Rattle.lemke_pivot.proofs.FirstBasisLemmas.{first, first_keys, beginning, keys_alike}
 use Rattle.lemke_pivot.proofs.EndLemmas.{OnPath, path_ray, path_goes_on, path_solved, path_left, value_sign}
 

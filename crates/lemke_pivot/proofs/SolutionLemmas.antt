@@ -7,10 +7,9 @@ use Rattle.sequence_forms.specs.Forms.{SequenceForm}
 use Rattle.sequence_forms.specs.Prices.{costs}
 use Rattle.sequence_forms.specs.Matrices.{SolvesProblem, row_slack, column_slack}
 use Rattle.lemke_pivot.specs.Vectors.{image, zeros}
-use Rattle.lemke_pivot.proofs.ProblemBlockLemmas.{transpose}
+use Rattle.lemke_pivot.proofs.VectorLemmas.{transpose, dot_comm}
 use Rattle.lemke_pivot.specs.Problems.{Costs, costs_of, size, at_y, at_p, at_p', at_q, at_q', matrix, right_sides, IsSolution}
 use Rattle.lemke_pivot.specs.ProblemLaws.{SolutionsHavePlans}
-use Rattle.lemke_pivot.proofs.VectorLemmas.{dot_comm}
 use Rattle.lemke_pivot.proofs.ProblemBlockLemmas.{six_x, six_y, six_p, six_p', six_q, six_q', row-x, row-y, row-p, row-p', row-q, row-q'}
 
 module _ (s : Costs) (w z : ℕ → ℚ) (c : IsSolution (size s) (matrix s) (right_sides s) w z) where

@@ -8,7 +8,10 @@ use Rattle.rational.proofs.Field.{nonneg-mul}
 use Rattle.rational.proofs.SumLemmas.{sum_to-same, sum_to-add, sum_to-scale, sum_to-exchange, sum_to-append, sum_to-neg, sum_to-zeros, sum_to-nonneg}
 use Rattle.sequence_forms.specs.Matrices.{AreNotNegative}
 use Rattle.lemke_pivot.specs.Vectors.{dot, bilinear, zeros, joined}
-use Rattle.lemke_pivot.proofs.ProblemBlockLemmas.{transpose}
+
+-- the columns as rows
+abbrev pub transpose : (ℕ → ℕ → ℚ) → ℕ → ℕ → ℚ
+transpose A j i = A i j
 
 pub dot-nonneg : (n : ℕ) (u v : ℕ → ℚ) → AreNotNegative n u → AreNotNegative n v → zero_ℚ ≤ℚ dot n u v
 dot-nonneg n u v h g = sum_to-nonneg n (λ i. u i *ℚ v i) (λ i k. nonneg-mul (u i) (v i) (h i k) (g i k))

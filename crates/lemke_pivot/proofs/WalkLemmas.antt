@@ -1,9 +1,9 @@
--- a walk that never turns back at once meets no vertex twice
-use Rattle.std.proofs.Common.{◌≡◌, ◌⊎◌, inl, inr, List, [], ◌∷◌, sym, subst, ◌∙◌}
+-- Walks in a graph in which no vertex has more than two neighbours and the first has at most one:
+-- one that never turns back at once meets no vertex twice
+use Rattle.std.proofs.Common.{◌≡◌, ◌≢◌, ◌⊎◌, inl, inr, List, [], ◌∷◌, sym, subst, ◌∙◌}
 use Rattle.lemke_pivot.specs.Walks.{Apart, Distinct}
-use Rattle.std.specs.Prelude.{◌≢◌}
 
--- the neighbours of a graph whose vertices are those of V
+-- a graph whose vertices are those of V, and its first vertex
 pub record FewNeighbours {V : Type 0} (Adj : V → V → Type 0) (start : V) : Type 0 where
   pub both : (a b : V) → Adj a b → Adj b a
   pub apart : (a b : V) → Adj a b → a ≢ b

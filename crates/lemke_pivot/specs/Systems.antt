@@ -1,33 +1,26 @@
 -- The system of a problem, entry by entry.
-use Rattle.std.specs.Prelude.{ℕ, ◌≡◌, ◌+◌, ◌*◌, List, get_or}
-use Rattle.rational.specs.Rational.{ℚ, zero_ℚ}
+use Rattle.std.specs.Prelude.{ℕ, ◌≡◌, List}
+use Rattle.rational.specs.Rational.{ℚ}
 use Rattle.linear_systems.specs.Rows.{Alike}
 use Rattle.linear_systems.specs.Tableau.{Tableau}
 use Rattle.sequence_forms.specs.Sides.{sequences}
 use Rattle.lemke_pivot.specs.Problems.{Costs, costs_of}
 use Rattle.lex_tableau.specs.Starts.{Parts, IsSystem, system_of}
 use Rattle.sequence_data.specs.Data.{SideData, side_of}
+use Rattle.sequence_data.specs.Matrices.{number_at}
 use Rattle.lemke_pivot.specs.Parts.{problem_size, start_of}
-
--- the number at row r and column q, where each row has so many numbers
-abbrev pub number_of : List ℚ → ℕ → ℕ → ℕ → ℚ
-number_of numbers count r q = get_or numbers (r * count + q) zero_ℚ
-
--- how many costs each player of two sides has
-abbrev pub cost_count : SideData → SideData → ℕ
-cost_count first second = sequences (side_of first) * sequences (side_of second)
 
 -- the costs of two sides, row by row
 abbrev pub listed_costs : SideData → SideData → List ℚ → List ℚ → Costs
 listed_costs first second one two =
-    costs_of (side_of first) (side_of second) (number_of one (sequences (side_of second)))
-    (number_of two (sequences (side_of second)))
+    costs_of (side_of first) (side_of second) (number_at one (sequences (side_of second)))
+    (number_at two (sequences (side_of second)))
 
 -- the start of the problem of two sides with these costs
 abbrev pub listed_start : SideData → SideData → List ℚ → List ℚ → Tableau
 listed_start first second one two =
-    start_of (side_of first) (side_of second) (number_of one (sequences (side_of second)))
-    (number_of two (sequences (side_of second)))
+    start_of (side_of first) (side_of second) (number_at one (sequences (side_of second)))
+    (number_at two (sequences (side_of second)))
 
 -- the system of the problem of these sides with these costs
 pub record IsSystemFor (first second : SideData) (one two : ℕ → ℕ → ℚ) (s : Parts) : Type 0 where

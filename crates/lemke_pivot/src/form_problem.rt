@@ -11,7 +11,7 @@ use crate::stop::LcpStop;
 use crate::system::system;
 use frac128::{Frac, Memory};
 use game_core::{MOST_ROWS, TooLarge, What};
-use lex_tableau::{StartStop, System};
+use lex_tableau::System;
 use sequence_data::{SeqForm, dense};
 use std::alloc::Global;
 
@@ -42,11 +42,7 @@ fn started(alloc: Global, form: &SeqForm, system: &System) -> Result<Lcp, LcpSto
 {
     let first = form.first().copied(alloc)?;
     let second = form.second().copied(alloc)?;
-    match Lcp::new(alloc, first, second, system) {
-        Ok(lcp) => Ok(lcp),
-        Err(StartStop::Unfit { row, unfit }) => Err(LcpStop::Start { row, unfit }),
-        Err(StartStop::Memory) => Err(LcpStop::Memory),
-    }
+    Ok(Lcp::new(alloc, first, second, system)?)
 }
 
 /// The linear complementarity problem of a sequence form, with the room of its path.
@@ -60,13 +56,7 @@ pub fn problem(alloc: Global, form: &SeqForm) -> Result<Lcp, LcpStop>
     ensures { Gives stops.Memory (problem_in form.now) result }
 {
     let count = row_count(form.first(), form.second());
-    if count > MOST_ROWS {
-        return Err(LcpStop::TooLarge(TooLarge {
-            what: What::Rows,
-            count,
-            limit: MOST_ROWS,
-        }));
-    }
+    TooLarge::within(What::Rows, MOST_ROWS, count)?;
     let costs = costs(
         alloc,
         form.greatest_one(),

@@ -117,18 +117,14 @@ impl Lcp {
         ensures start { Gives start_stops.Memory (start_in system.now)
             (map_ok result (λ lcp. lcp.tableau)) }
     {
-        match Work::new(alloc, system) {
-            Ok(work) => {
-                let size = row_count(&first, &second) as usize;
-                Ok(Lcp {
-                    first,
-                    second,
-                    size,
-                    work,
-                })
-            }
-            Err(stop) => Err(stop),
-        }
+        let work = Work::new(alloc, system)?;
+        let size = row_count(&first, &second) as usize;
+        Ok(Lcp {
+            first,
+            second,
+            size,
+            work,
+        })
     }
 
     /// Follows the path to the solution. Takes no memory. There is never a ray.
@@ -146,15 +142,13 @@ impl Lcp {
             mut work,
         } = self;
         let row = least_row(work.now(), size);
-        match walk(&mut work, size, row, pivots) {
-            Ok(()) => Ok(Solution {
-                first,
-                second,
-                size,
-                work,
-            }),
-            Err(stop) => Err(stop),
-        }
+        walk(&mut work, size, row, pivots)?;
+        Ok(Solution {
+            first,
+            second,
+            size,
+            work,
+        })
     }
 }
 

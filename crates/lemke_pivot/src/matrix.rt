@@ -6,7 +6,8 @@ ghost use Rattle.sequence_data.specs.Data.{IsSideData, side_of};
 ghost use Rattle.sequence_forms.specs.Matrices.{right_side};
 ghost use Rattle.sequence_forms.specs.Sides.{sequences};
 ghost use Rattle.lemke_pivot.specs.Parts.{problem_size};
-ghost use Rattle.lemke_pivot.specs.Systems.{cost_count, listed_costs};
+ghost use Rattle.lemke_pivot.specs.Systems.{listed_costs};
+ghost use Rattle.sequence_data.specs.Matrices.{matrix_size};
 
 use frac128::Frac;
 use sequence_data::{Side, set_entry};
@@ -15,7 +16,7 @@ use sequence_data::{Side, set_entry};
 fn entry_x(first: &Side, second: &Side, one: &[Frac], two: &[Frac], row: usize, col: usize) -> Frac
     requires first_side { IsSideData first.now }
     requires second_side { IsSideData second.now }
-    requires costs { length one.now ≡ cost_count first.now second.now }
+    requires costs { length one.now ≡ matrix_size first.now second.now }
     requires row { row < sequences (side_of first.now) }
     ensures { result ≡ rows_x (listed_costs first.now second.now one.now two.now) row col }
 {
@@ -43,7 +44,7 @@ fn entry_x(first: &Side, second: &Side, one: &[Frac], two: &[Frac], row: usize, 
 fn entry_y(first: &Side, second: &Side, one: &[Frac], two: &[Frac], row: usize, col: usize) -> Frac
     requires first_side { IsSideData first.now }
     requires second_side { IsSideData second.now }
-    requires costs { length two.now ≡ cost_count first.now second.now }
+    requires costs { length two.now ≡ matrix_size first.now second.now }
     requires row { row < sequences (side_of second.now) }
     requires col { col < problem_size (side_of first.now) (side_of second.now) }
     ensures { result ≡ rows_y (listed_costs first.now second.now one.now two.now) row col }
@@ -107,8 +108,8 @@ pub(crate) fn matrix_entry(
 ) -> Frac
     requires first_side { IsSideData first.now }
     requires second_side { IsSideData second.now }
-    requires costs_one { length one.now ≡ cost_count first.now second.now }
-    requires costs_two { length two.now ≡ cost_count first.now second.now }
+    requires costs_one { length one.now ≡ matrix_size first.now second.now }
+    requires costs_two { length two.now ≡ matrix_size first.now second.now }
     requires row { row < problem_size (side_of first.now) (side_of second.now) }
     requires col { col < problem_size (side_of first.now) (side_of second.now) }
     ensures { result ≡ matrix (listed_costs first.now second.now one.now two.now) row col }

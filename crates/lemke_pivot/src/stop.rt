@@ -1,6 +1,7 @@
 // Why there is no problem.
 use frac128::{Memory, Unfit};
 use game_core::TooLarge;
+use lex_tableau::StartStop;
 use std::alloc::{AllocError, AllocFailed};
 
 /// Why a sequence form has no problem here.
@@ -28,6 +29,31 @@ pub enum LcpStop {
     },
     /// Memory ran out.
     Memory,
+}
+
+impl From<TooLarge> for LcpStop {
+    ghost use Rattle.std.specs.Prelude.{◌≡◌};
+    ghost use Rattle.lemke_pivot.specs.declared.stop.LcpStop.TheVariants as stops;
+
+    ghost from_gives = { λ limit e. e ≡ stops.TooLarge limit };
+
+    fn from(limit: TooLarge) -> LcpStop {
+        LcpStop::TooLarge(limit)
+    }
+}
+
+impl From<StartStop> for LcpStop {
+    ghost use Rattle.std.specs.Prelude.{◌≡◌};
+    ghost use Rattle.lemke_pivot.specs.FormProblems.{told_start};
+
+    ghost from_gives = { λ stop e. e ≡ told_start stop };
+
+    fn from(stop: StartStop) -> LcpStop {
+        match stop {
+            StartStop::Unfit { row, unfit } => LcpStop::Start { row, unfit },
+            StartStop::Memory => LcpStop::Memory,
+        }
+    }
 }
 
 impl From<Memory> for LcpStop {

@@ -5,7 +5,8 @@ ghost use Rattle.sequence_forms.specs.Sides.{sequences};
 ghost use Rattle.game_core.specs.Limits.{most_rows};
 ghost use Rattle.lex_tableau.specs.Entries.{AreEntries, entry_of};
 ghost use Rattle.lemke_pivot.specs.Parts.{problem_size};
-ghost use Rattle.lemke_pivot.specs.Systems.{IsSystemFor, cost_count, listed_start, number_of};
+ghost use Rattle.lemke_pivot.specs.Systems.{IsSystemFor, listed_start};
+ghost use Rattle.sequence_data.specs.Matrices.{matrix_size, number_at};
 
 use crate::lcp::row_count;
 use crate::matrix::{matrix_entry, right_entry};
@@ -26,8 +27,8 @@ fn entry(
 ) -> Frac
     requires first_side { IsSideData first.now }
     requires second_side { IsSideData second.now }
-    requires costs_one { length one.now ≡ cost_count first.now second.now }
-    requires costs_two { length two.now ≡ cost_count first.now second.now }
+    requires costs_one { length one.now ≡ matrix_size first.now second.now }
+    requires costs_two { length two.now ≡ matrix_size first.now second.now }
     requires size { size ≡ problem_size (side_of first.now) (side_of second.now) }
     requires row { row < size }
     ensures { result ≡ entry_of (listed_start first.now second.now one.now two.now) row col }
@@ -52,8 +53,8 @@ fn entries(
 ) -> Result<Vec<Frac>, Memory>
     requires first_side { IsSideData first.now }
     requires second_side { IsSideData second.now }
-    requires costs_one { length one.now ≡ cost_count first.now second.now }
-    requires costs_two { length two.now ≡ cost_count first.now second.now }
+    requires costs_one { length one.now ≡ matrix_size first.now second.now }
+    requires costs_two { length two.now ≡ matrix_size first.now second.now }
     requires size { size ≡ problem_size (side_of first.now) (side_of second.now) }
     requires few { size ≤ most_rows }
     ensures { IfOk result (λ cells. AreEntries (listed_start first.now second.now one.now two.now)
@@ -78,12 +79,12 @@ pub(crate) fn system(
 ) -> Result<System, Memory>
     requires first_side { IsSideData first.now }
     requires second_side { IsSideData second.now }
-    requires costs_one { length one.now ≡ cost_count first.now second.now }
-    requires costs_two { length two.now ≡ cost_count first.now second.now }
+    requires costs_one { length one.now ≡ matrix_size first.now second.now }
+    requires costs_two { length two.now ≡ matrix_size first.now second.now }
     requires few { problem_size (side_of first.now) (side_of second.now) ≤ most_rows }
     ensures { IfOk result (IsSystemFor first.now second.now
-        (number_of one.now (sequences (side_of second.now)))
-        (number_of two.now (sequences (side_of second.now)))) }
+        (number_at one.now (sequences (side_of second.now)))
+        (number_at two.now (sequences (side_of second.now)))) }
 {
     let size = row_count(first, second) as usize;
     let basics = numbered(alloc, 1, size as u32)?;

@@ -39,6 +39,11 @@ IsBest k m starts t c o =
 abbrev pub IsRatioRow : Numbers → ℕ → Option ℕ → Type 0
 IsRatioRow n col o = IsBest n.rated n.rated n.starts (tableau n) col o
 
+-- the rated row that leaves where a column enters: the lexicographic one
+abbrev pub IsLeavingRow : Numbers → ℕ → ℕ → Type 0
+IsLeavingRow n column row =
+    IsLexicographicRow n.rated n.rated (variable_at n.starts) (tableau n) column row
+
 -- the keys of the rated rows are lexicographically positive
 abbrev pub HasPositiveKeys : Numbers → Type 0
 HasPositiveKeys n =

@@ -12,8 +12,8 @@ use Rattle.game_theory.specs.Mixed.{Mixed}
 use Rattle.game_theory.proofs.ProfileNumberLemmas.{quotient-of, remainder-of, strategy-profile_at}
 use Rattle.frac128.specs.Steps.{Step, StepFits, IsFirstUnfit}
 use Rattle.frac128.proofs.StepRunLemmas.{first_unfit-more, first_unfit-following}
-use Rattle.best_replies.specs.Strategies.{strategy_value, weight}
-use Rattle.ne_checker.specs.TableChecks.{others_probabilities, product_steps, profile_steps, steps_at, strategy_steps, value_below, weighed_steps}
+use Rattle.best_replies.specs.Strategies.{strategy_value, weight, value_below}
+use Rattle.ne_checker.specs.TableChecks.{others_probabilities, product_steps, profile_steps, steps_at, strategy_steps, weighed_steps}
 use Rattle.frac128.proofs.StepPartLemmas.{fits-joined, none-more, steps_of, unfit-joined}
 
 -- the profiles are the stride times those of the players from one on

@@ -13,9 +13,9 @@ use Rattle.game_theory.proofs.ProfileNumberLemmas.{IsProfile-profile_at, length-
 use Rattle.game_core.specs.Table.{game_of, strategy_counts}
 use Rattle.frac128.specs.Steps.{Step, StepFits, IsFirstUnfit}
 use Rattle.frac128.proofs.FirstUnfitLemmas.{unfit_among, unfit_once}
-use Rattle.best_replies.specs.Strategies.{own_as_one, strategy_value, weight}
+use Rattle.best_replies.specs.Strategies.{own_as_one, strategy_value, weight, value_below}
 use Rattle.best_replies.proofs.FirstGreatestLemmas.{IsFirstGreatest-same, first_greatest-unique}
-use Rattle.ne_checker.specs.TableChecks.{HasNoBetter, IsBetterReply, IsFirstBetter, IsRangeStop, IsTableVerdict, others_from, payoff_below, payoff_steps, player_steps, product_steps, steps_at, strategy_steps, value_below, value_steps, weighed_steps}
+use Rattle.ne_checker.specs.TableChecks.{HasNoBetter, IsBetterReply, IsFirstBetter, IsRangeStop, IsTableVerdict, others_from, payoff_below, payoff_steps, player_steps, product_steps, steps_at, strategy_steps, value_steps, weighed_steps}
 use Rattle.ne_checker.specs.TableLaws.{TableVerdictsAreSingle}
 use Rattle.ne_checker.specs.declared.tables.TableVerdict.{TableVerdict}
 use Rattle.ne_checker.specs.declared.tables.TableVerdict.TheVariants.{Equilibrium, Better, Range}

@@ -9,26 +9,28 @@ use Rattle.game_core.specs.Tree.{GameTree}
 use Rattle.game_core.specs.TreeGame.{game_of_tree}
 use Rattle.behaviour_profile.specs.EntryLaws.{TestedEntriesAreBehaviours}
 use Rattle.behaviour_profile.specs.EntryTests.{action_counts, profile_in}
+use Rattle.behaviour_profile.proofs.ProfileAnswerLemmas.{passed_same}
 use Rattle.ne_printer.specs.ReadLines.{IsLine}
 use Rattle.ne_checker.specs.TreeVerdicts.{tree_verdict}
 use Rattle.ne_checker.specs.declared.trees.TreeVerdict.{TreeVerdict}
 use Rattle.ne_checker.specs.declared.trees.TreeVerdict.TheVariants as verdicts
 use Rattle.ne_checker.specs.LineChecks.{tree_line}
-use Rattle.ne_checker.specs.Texts.{IsTreeText}
+use Rattle.ne_checker.specs.Texts.{tree_told}
 use Rattle.ne_checker.specs.declared.stops.CheckStop.TheVariants as stops
 
 -- tested entries are those of valid behaviour
 pub tested_behaviour : TestedEntriesAreBehaviours → (tree : GameTree) (entries tested : List ℚ) → is_game_tree (game_of_tree tree) → profile_in (action_counts (game_of_tree tree)) entries (Ok tested) → (b : Behaviour) × (tested ≡ tree_entries (game_of_tree tree) b) × IsValid (game_of_tree tree) b
 tested_behaviour law tree entries tested valid h =
-    let found = law.sound (game_of_tree tree) entries valid (subst (λ list. profile_in (action_counts (game_of_tree tree)) entries (Ok list)) h.2 h) in
-    (found.0, h.2 ∙ found.1, found.2)
+    let same = passed_same (action_counts (game_of_tree tree)) entries tested h in
+    let found = law.sound (game_of_tree tree) entries valid (subst (λ list. profile_in (action_counts (game_of_tree tree)) entries (Ok list)) same h) in
+    (found.0, same ∙ found.1, found.2)
 
--- the text of a line is that of its verdict
-pub line_told : (tree : GameTree) (number : ℕ) (line : List ℕ) (entries tested : List ℚ) (verdict : TreeVerdict) (reply text : List ℕ) → IsLine line entries → profile_in (action_counts (game_of_tree tree)) entries (Ok tested) → tree_verdict tree tested verdict reply → IsTreeText verdict reply text → tree_line tree number line (Ok text)
+-- the answer of a line is what is told of its verdict
+pub line_told : (tree : GameTree) (number : ℕ) (line : List ℕ) (entries tested : List ℚ) (verdict : TreeVerdict) (reply text : List ℕ) → IsLine line entries → profile_in (action_counts (game_of_tree tree)) entries (Ok tested) → tree_verdict tree tested verdict reply → tree_told number (verdict, reply) (Ok text) → tree_line tree number line (Ok text)
 line_told tree number line entries tested verdict reply text is profile judged told =
-    (tested, (entries, is, profile), (verdict, reply, judged, told))
+    (tested, (entries, is, profile), ((verdict, reply), judged, told))
 
 -- so is the refusal of a line with a step that does not fit
 pub line_out_of_range : (tree : GameTree) (number : ℕ) (line : List ℕ) (entries tested : List ℚ) (step : Unfit) (reply : List ℕ) → IsLine line entries → profile_in (action_counts (game_of_tree tree)) entries (Ok tested) → tree_verdict tree tested (verdicts.Range step) reply → tree_line tree number line (Err (stops.Range number step))
 line_out_of_range tree number line entries tested step reply is profile judged =
-    inr (tested, (entries, is, profile), (refl, subst (tree_verdict tree tested (verdicts.Range step)) judged.2.1 judged))
+    inr (tested, (entries, is, profile), inr ((verdicts.Range step, reply), judged, refl))

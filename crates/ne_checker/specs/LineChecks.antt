@@ -1,6 +1,6 @@
 -- The check of lines: each has the entries of a profile, which is judged.
-use Rattle.std.specs.Prelude.{ℕ, ◌≡◌, List, [], Ok, Err}
-use Rattle.answers.specs.Answers.{Answer, IsSingle, ◌>>=◌, refused_by}
+use Rattle.std.specs.Prelude.{ℕ, List}
+use Rattle.answers.specs.Answers.{Answer, IsSingle, ◌>>=◌, refused_by, such_that}
 use Rattle.rational.specs.Rational.{ℚ}
 use Rattle.game_core.specs.Table.{GameTable, strategy_counts}
 use Rattle.game_core.specs.Limits.{limited_text}
@@ -15,13 +15,9 @@ use Rattle.ne_printer.specs.declared.reading.LineStop.TheVariants as line_stops
 use Rattle.ne_checker.specs.TableChecks.{table_verdict}
 use Rattle.ne_checker.specs.TreeVerdicts.{tree_verdict}
 use Rattle.ne_checker.specs.TreeVerdictLaws.{AllRecall}
-use Rattle.ne_checker.specs.declared.tables.TableVerdict.{TableVerdict}
-use Rattle.ne_checker.specs.declared.tables.TableVerdict.TheVariants as table_verdicts
-use Rattle.ne_checker.specs.declared.trees.TreeVerdict.{TreeVerdict}
-use Rattle.ne_checker.specs.declared.trees.TreeVerdict.TheVariants as tree_verdicts
 use Rattle.ne_checker.specs.Lines.{lines_answer}
 use Rattle.ne_printer.specs.TextLines.{lines_of}
-use Rattle.ne_checker.specs.Texts.{IsTableText, IsTreeText}
+use Rattle.ne_checker.specs.Texts.{table_told, tree_told}
 use Rattle.ne_checker.specs.declared.stops.CheckStop.{CheckStop}
 use Rattle.ne_checker.specs.declared.stops.CheckStop.TheVariants as stops
 
@@ -45,26 +41,17 @@ line_entries number sizes line = do
   refused_by (faulty number) (profile_in sizes entries)
 
 -- ---- the verdict on a line
--- the text of the verdict of a table on entries
+-- the text of the verdict of a table on entries; or the step that does not fit
 abbrev pub table_judged : ℕ → GameTable → List ℚ → Answer CheckStop (List ℕ)
-table_judged number table entries (Ok text) =
-    (verdict : TableVerdict) × table_verdict table entries verdict × IsTableText verdict text
-table_judged number table entries (Err (stops.Range line step)) =
-    (line ≡ number) × table_verdict table entries (table_verdicts.Range step)
-table_judged number table entries (Err (stops.BadLine line)) = ⊥
-table_judged number table entries (Err (stops.TooLarge limit)) = ⊥
-table_judged number table entries (Err stops.Memory) = ⊥
+table_judged number table entries = do
+  verdict ← such_that (table_verdict table entries)
+  table_told number verdict
 
 -- that of a tree
 abbrev pub tree_judged : ℕ → GameTree → List ℚ → Answer CheckStop (List ℕ)
-tree_judged number tree entries (Ok text) =
-    (verdict : TreeVerdict) × (reply : List ℕ) × tree_verdict tree entries verdict reply
-    × IsTreeText verdict reply text
-tree_judged number tree entries (Err (stops.Range line step)) =
-    (line ≡ number) × tree_verdict tree entries (tree_verdicts.Range step) []
-tree_judged number tree entries (Err (stops.BadLine line)) = ⊥
-tree_judged number tree entries (Err (stops.TooLarge limit)) = ⊥
-tree_judged number tree entries (Err stops.Memory) = ⊥
+tree_judged number tree entries = do
+  verdict ← such_that (λ v. tree_verdict tree entries v.0 v.1)
+  tree_told number verdict
 
 -- a line with a profile of a table
 abbrev pub table_line : GameTable → ℕ → List ℕ → Answer CheckStop (List ℕ)

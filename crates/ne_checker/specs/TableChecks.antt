@@ -1,6 +1,6 @@
 -- Whether a mixed profile of a table is an equilibrium, and the steps of arithmetic in which that
 -- is tested. Source: Nash 1951.
-use Rattle.std.specs.Prelude.{ℕ, suc, ◌<◌, ◌≡◌, ◌==◌, if◌then◌else◌, true, false, List, [], ◌∷◌, ◌++◌, length, slice_index, All, Option, Some, None}
+use Rattle.std.specs.Prelude.{ℕ, suc, ◌<◌, ◌≡◌, ◌==◌, if◌then◌else◌, List, [], ◌∷◌, ◌++◌, length, slice_index, All, Option, Some, None}
 use Rattle.std.specs.List.{range_with_len, flat_map}
 use Rattle.rational.specs.Rational.{ℚ, ◌*ℚ◌, ◌≤ℚ◌, ◌<ℚ◌, zero_ℚ, one_ℚ}
 use Rattle.rational.specs.Sum.{sum_to}
@@ -11,7 +11,7 @@ use Rattle.game_theory.specs.Profiles.{Game, profile_count, profile_at}
 use Rattle.game_theory.specs.Mixed.{Mixed, payoff as payoff_of}
 use Rattle.game_theory.specs.Lines.{entries}
 use Rattle.game_core.specs.Table.{GameTable, game_of, strategy_counts}
-use Rattle.best_replies.specs.Strategies.{weight, strategy_value, IsBestStrategy}
+use Rattle.best_replies.specs.Strategies.{weight, value_below, strategy_value, IsBestStrategy}
 use Rattle.ne_checker.specs.declared.tables.BetterReply.{BetterReply}
 use Rattle.ne_checker.specs.declared.tables.TableVerdict.{TableVerdict}
 use Rattle.ne_checker.specs.declared.tables.TableVerdict.TheVariants.{Equilibrium, Better, Range}
@@ -40,15 +40,6 @@ others_probabilities m i profile = others_from m i 0 profile
 -- those are multiplied, from 1 on
 abbrev pub weight_steps : Mixed → ℕ → List ℕ → List Step
 weight_steps m i profile = product_steps one_ℚ (others_probabilities m i profile)
-
--- what strategy s of player i is worth at the first n profiles
-abbrev pub value_below : Game → Mixed → ℕ → ℕ → ℕ → ℚ
-value_below g m i s n =
-    sum_to n (λ k.
-    elim (slice_index (profile_at g.strategies k) i == s) [
-      | true ↦ weight m i (profile_at g.strategies k) *ℚ g.pays i k
-      | false ↦ zero_ℚ
-    ])
 
 -- the steps at profile k: those of its weight, and its payoff counts with that weight
 abbrev pub profile_steps : Game → Mixed → ℕ → ℕ → ℕ → List Step

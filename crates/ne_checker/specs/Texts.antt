@@ -1,9 +1,12 @@
--- The texts of verdicts. Players, strategies and actions count from 1.
-use Rattle.std.specs.Prelude.{ℕ, ◌+◌, ◌≡◌, List, [], ◌∷◌, ◌++◌, codes}
+-- The texts of verdicts, and what is told of one. Players, strategies and actions count from 1.
+use Rattle.std.specs.Prelude.{ℕ, ◌+◌, ◌≡◌, List, [], ◌∷◌, ◌++◌, codes, Err}
 use Rattle.std.specs.Fmt.{decimal}
 use Rattle.std.specs.List.{flat_map}
+use Rattle.answers.specs.Answers.{Answer, only}
 use Rattle.rational.specs.Rational.{ℚ}
 use Rattle.game_theory.specs.Lines.{number_text}
+use Rattle.ne_checker.specs.declared.stops.CheckStop.{CheckStop}
+use Rattle.ne_checker.specs.declared.stops.CheckStop.TheVariants as stops
 use Rattle.ne_checker.specs.declared.tables.TableVerdict.{TableVerdict}
 use Rattle.ne_checker.specs.declared.tables.TableVerdict.TheVariants as table_verdicts
 use Rattle.ne_checker.specs.declared.trees.TreeVerdict.{TreeVerdict}
@@ -28,16 +31,22 @@ abbrev pub better_text : ℕ → ℚ → ℚ → List ℕ → List ℕ
 better_text player payoff best reply =
     better_start player payoff best ++ flat_map choice_text reply ++ 10 ∷ []
 
--- the text of a verdict on a mixed profile
-abbrev pub IsTableText : TableVerdict → List ℕ → Type 0
-IsTableText table_verdicts.Equilibrium text = text ≡ equilibrium_text
-IsTableText (table_verdicts.Better player payoff best reply) text =
-    text ≡ better_text player payoff best (reply ∷ [])
-IsTableText (table_verdicts.Range step) text = ⊥
+-- ---- what is told of a verdict
+-- this reason to stop and nothing else
+abbrev pub refused : CheckStop → Answer CheckStop (List ℕ)
+refused stop answer = answer ≡ Err stop
 
--- the text of a verdict on behaviour, and of the reply that comes with it
-abbrev pub IsTreeText : TreeVerdict → List ℕ → List ℕ → Type 0
-IsTreeText tree_verdicts.Equilibrium reply text = text ≡ equilibrium_text
-IsTreeText (tree_verdicts.Better player payoff best) reply text =
-    text ≡ better_text player payoff best reply
-IsTreeText (tree_verdicts.Range step) reply text = ⊥
+-- what is told of a verdict on the mixed profile of the line with this number: its text; or the
+-- step that does not fit
+abbrev pub table_told : ℕ → TableVerdict → Answer CheckStop (List ℕ)
+table_told number table_verdicts.Equilibrium = only equilibrium_text
+table_told number (table_verdicts.Better player payoff best reply) =
+    only (better_text player payoff best (reply ∷ []))
+table_told number (table_verdicts.Range step) = refused (stops.Range number step)
+
+-- likewise of a verdict on behaviour with the reply that comes with it
+abbrev pub tree_told : ℕ → TreeVerdict × List ℕ → Answer CheckStop (List ℕ)
+tree_told number (tree_verdicts.Equilibrium, reply) = only equilibrium_text
+tree_told number (tree_verdicts.Better player payoff best, reply) =
+    only (better_text player payoff best reply)
+tree_told number (tree_verdicts.Range step, reply) = refused (stops.Range number step)

@@ -1,12 +1,8 @@
 // Mixed profiles of tables, by their entries.
-ghost use Rattle.std.specs.Prelude.{◌≡◌, ◌<◌, ◌^◌, All, length, sum, IfErr, OnOk};
+ghost use Rattle.std.specs.Prelude.{◌≡◌, ◌<◌, ◌^◌, length, sum};
+ghost use Rattle.answers.specs.Answers.{refused_by};
 ghost use Rattle.game_core.specs.Table.{strategy_counts};
-ghost use Rattle.behaviour_profile.specs.EntryTests.{
-  IsFirstProfileFault,
-  Passes,
-  profile_in,
-  tests_from,
-};
+ghost use Rattle.behaviour_profile.specs.EntryTests.{all_pass, fault_of, profile_in, tests_from};
 
 use behaviour_profile::{ProfileFault, test_group};
 use frac128::Frac;
@@ -49,10 +45,8 @@ fn entry_count(table: &Table) -> usize
 fn test_players(table: &Table, entries: &[Frac]) -> Result<(), ProfileFault>
     requires entries { length entries.now ≡ sum (strategy_counts table.now) }
     requires few { length entries.now < 2 ^ 32 }
-    ensures passed { let counts = strategy_counts table.now in
-        OnOk result (All Passes (tests_from entries.now 0 0 counts)) }
-    ensures fault { let counts = strategy_counts table.now in
-        IfErr result (IsFirstProfileFault (tests_from entries.now 0 0 counts)) }
+    ensures { let counts = strategy_counts table.now in
+        refused_by fault_of (all_pass (tests_from entries.now 0 0 counts)) result }
 {
     let mut place = 0;
     for player in 0..table.players().len() {

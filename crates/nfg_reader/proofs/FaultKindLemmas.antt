@@ -9,7 +9,7 @@ use Rattle.lists.proofs.OptionLemmas.{some-none}
 use Rattle.rational.specs.Rational.{ℚ}
 use Rattle.game_core.specs.declared.token.Token.{Token}
 use Rattle.game_core.specs.declared.token.Token.TheVariants.{Left, Right, Word}
-use Rattle.file_parts.specs.Parts.{whole_number, IsComment, IsOpen}
+use Rattle.file_parts.specs.Parts.{whole_number, IsComment, IsOpen, ArePlayers}
 use Rattle.file_parts.specs.Reading.{left_at, right_at, text_at, whole_at, count_at, opens, after_text}
 use Rattle.file_parts.specs.Parsing.{Parsed, ◌>>=◌, wanted, passed, parse_each, parse_names, parse_payoffs, parse_title}
 use Rattle.file_parts.proofs.TokenLaws.{names_is, right_is, comment_is, whole_is, whole_again}
@@ -23,7 +23,8 @@ use Rattle.nfg_reader.specs.TableFile.{counted_names, outcome_payoffs, IsFront, 
 use Rattle.nfg_reader.specs.Fronts.{FrontPart, profiles, table_of}
 use Rattle.nfg_reader.proofs.TableValueLemmas.{outcome_number_at}
 use Rattle.nfg_reader.specs.TableParsing.{parse_count, parse_counted, parse_named, parse_strategies, parse_front, parse_outcome, parse_outcomes, parse_number, parse_outcome_body, parse_body}
-use Rattle.nfg_reader.specs.Faults.{IsTitle, ArePlayers, AreStrategiesOf, ArePayoffsOf, AreClosedOutcomes, AreNumbersOf, StopsInStrategies, HasBody, StopsInOutcomes, StopsInNumbers, StopsInPayoffs, WholeComes, IsKind}
+use Rattle.nfg_reader.specs.Faults.{IsTitle, AreStrategiesOf, ArePayoffsOf, AreClosedOutcomes, AreNumbersOf, StopsInStrategies, HasBody, StopsInOutcomes, StopsInNumbers, StopsInPayoffs, IsKind}
+use Rattle.file_parts.specs.Faults.{WholeComes}
 use Rattle.nfg_reader.specs.declared.reading.NfgKind.{NfgKind}
 use Rattle.nfg_reader.specs.declared.reading.NfgKind.TheVariants.{Header, Players, Strategies, Outcome, PayoffCount}
 use Rattle.nfg_reader.proofs.FrontLaws.{front_is, strategies_are}

@@ -15,12 +15,17 @@ use Rattle.nfg_reader.specs.TableFile.{IsTableFile}
 use Rattle.nfg_reader.specs.Fronts.{FrontPart, profiles, table_of}
 use Rattle.nfg_reader.proofs.TableValueLemmas.{front_at, rest_at, table_at}
 use Rattle.nfg_reader.specs.TableParsing.{parse_front, parse_rest, parse_table}
-use Rattle.nfg_reader.specs.Faults.{BeginsFile, CannotCome}
+use Rattle.file_parts.specs.Faults.{CannotCome as CannotComeIn}
+use Rattle.nfg_reader.specs.Faults.{IsFile, BeginsFile}
 use Rattle.nfg_reader.specs.declared.reading.NfgKind.{NfgKind}
 use Rattle.nfg_reader.specs.declared.reading.NfgKind.TheVariants.{Trailing}
 use Rattle.nfg_reader.proofs.FileLaws.{table_next, table_again}
 use Rattle.nfg_reader.proofs.TableValueLemmas.{value_table}
 use Rattle.nfg_reader.proofs.TableReaderLemmas.{after_strategies, parse_all, all_reader}
+
+-- what comes cannot come in a file of a table
+abbrev pub CannotCome : List Token → List Token → Type 0
+CannotCome = CannotComeIn IsFile BeginsFile
 
 -- ---- the table and the end
 -- the end

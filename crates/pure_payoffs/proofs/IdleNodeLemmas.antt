@@ -1,8 +1,8 @@
 -- Idle nodes, from the children up to the parents.
 use Rattle.std.proofs.Common.{ℕ, zero, suc, ◌<◌, ◌≤◌, ◌≡◌, Bool, true, false, List, get_or, sym, ap, ◌∙◌, arith}
+use Rattle.std.specs.Prelude.{slice_index_or}
 use Rattle.game_theory.specs.Trees.{Tree, IsTree, IsAbove}
 use Rattle.pure_payoffs.specs.Settled.{AreSettledNodes, AreWithoutPlayers}
-use Rattle.std.specs.Prelude.{slice_index_or}
 
 -- for each node as before, and from node n on the children of idle nodes are idle
 pub record ArePassedUp (t : Tree) (n : ℕ) (idle : List Bool) : Type 0 where

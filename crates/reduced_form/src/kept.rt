@@ -16,7 +16,7 @@ use std::alloc::Global;
 use std::marker::Model;
 
 /// The most strategies of both players together.
-pub const MOST_STRATEGIES: usize = 512;
+pub const MOST_STRATEGIES: u64 = 512;
 
 /// The strategies of two players that are kept where strictly dominated ones are removed, round by
 /// round, and the table over them. Strategies are numbered from 0.
@@ -150,13 +150,7 @@ pub fn undominated(alloc: Global, table: &Table) -> Result<Kept, KeptStop>
         });
     }
     let strategies = table.strategy_count(0) + table.strategy_count(1);
-    if strategies > MOST_STRATEGIES {
-        return Err(KeptStop::TooLarge(TooLarge {
-            what: What::Labels,
-            count: strategies as u64,
-            limit: MOST_STRATEGIES as u64,
-        }));
-    }
+    TooLarge::within(What::Labels, MOST_STRATEGIES, strategies as u64)?;
     let (first, second) = kept_strategies(alloc, table)?;
     Ok(kept_form(alloc, table, first, second)?)
 }

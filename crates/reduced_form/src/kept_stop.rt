@@ -16,6 +16,17 @@ pub enum KeptStop {
     Memory,
 }
 
+impl From<TooLarge> for KeptStop {
+    ghost use Rattle.std.specs.Prelude.{◌≡◌};
+    ghost use Rattle.reduced_form.specs.declared.kept_stop.KeptStop.TheVariants as stops;
+
+    ghost from_gives = { λ limit e. e ≡ stops.TooLarge limit };
+
+    fn from(limit: TooLarge) -> KeptStop {
+        KeptStop::TooLarge(limit)
+    }
+}
+
 impl From<Memory> for KeptStop {
     ghost use Rattle.std.specs.Prelude.{◌≡◌};
     ghost use Rattle.reduced_form.specs.declared.kept_stop.KeptStop.TheVariants as stops;

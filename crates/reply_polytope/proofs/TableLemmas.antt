@@ -10,6 +10,9 @@ use Rattle.linear_systems.specs.Rows.{Alike}
 use Rattle.linear_systems.proofs.AgreementLemmas.{alike_trans}
 use Rattle.game_theory.specs.Profiles.{profile_count, number_of}
 use Rattle.game_core.specs.Table.{GameTable, game_of, strategy_counts, IsTable}
+use Rattle.game_core.specs.Limits.{within}
+use Rattle.game_core.specs.declared.too_large.TooLarge.{TooLarge}
+use Rattle.game_core.specs.declared.too_large.What.TheVariants as what
 use Rattle.game_core.proofs.TableCountLemmas.{length-strategy_counts}
 use Rattle.extreme_equilibria.specs.TwoPlayers.{pays_against}
 use Rattle.extreme_equilibria.specs.Bimatrix.{shifted, shift_of}
@@ -17,7 +20,7 @@ use Rattle.extreme_equilibria.specs.Systems.{first_system, second_system}
 use Rattle.lex_tableau.specs.Starts.{Parts, system_of}
 use Rattle.reply_polytope.specs.Polytopes.{IsRatedSystem, ArePolytopes, most_labels}
 use Rattle.reply_polytope.specs.Shapes.{cell_in, shifted_payoffs_in}
-use Rattle.reply_polytope.specs.Stops.{polytopes_in}
+use Rattle.reply_polytope.specs.Stops.{label_count, polytopes_in}
 use Rattle.reply_polytope.specs.declared.stop.PolyStop.{PolyStop}
 use Rattle.reply_polytope.specs.declared.stop.PolyStop.TheVariants as stops
 use Rattle.reply_polytope.proofs.ShiftLemmas.{shift_refused, shifted_are}
@@ -90,12 +93,21 @@ module _ (t : GameTable) (h : IsTable t) (two : length t.players ≡ 2) (m n : �
           record { rows = refl; width = refl; basic = λ i b. refl; nonbasic = λ j b. refl; cell = second-cell; right = λ i b. refl }
 
   -- ---- the stages
-  module _ (few : m + n ≤ most_labels) where
-    are-two : (length (game_of t).strategies ≢ 2) → ⊥
-    are-two differ = differ (ap length strategies-are)
+  are-two : (length (game_of t).strategies ≢ 2) → ⊥
+  are-two differ = differ (ap length strategies-are)
 
-    are-few : most_labels < sum (game_of t).strategies → ⊥
-    are-few l = let e = ap sum strategies-are in omega (arith, e, few, l)
+  labels-are : m + n ≡ label_count (game_of t)
+  labels-are = let e = ap sum strategies-are in omega (arith, e)
+
+  -- the labels are too many
+  pub labels-stop : (limit : TooLarge) (r : Result (Parts × Parts) PolyStop) → within what.Labels most_labels (m + n) (Err limit) → IsErrAnd r (λ q. q ≡ stops.TooLarge limit) → Gives stops.Memory (polytopes_in (game_of t)) r
+  labels-stop limit (Ok systems) h e = absurd e
+  labels-stop limit (Err q) h e =
+      inr (subst (λ s. polytopes_in (game_of t) (Err s)) (sym e) (inr (tt, are-two, inl (limit, subst (λ k. within what.Labels most_labels k (Err limit)) labels-are h, refl))))
+
+  module _ (few : most_labels < m + n → ⊥) where
+    are-few : most_labels < label_count (game_of t) → ⊥
+    are-few = subst (λ k. most_labels < k → ⊥) labels-are few
 
     -- the first player's shift is refused
     pub first-stop : (stop : PolyStop) (r : Result (Parts × Parts) PolyStop) → Gives stops.Memory (shifted_payoffs_in (game_of t) 0) (Err stop) → IsErrAnd r (λ q. q ≡ stop) → Gives stops.Memory (polytopes_in (game_of t)) r

@@ -27,6 +27,17 @@ pub enum PolyStop {
     Memory,
 }
 
+impl From<TooLarge> for PolyStop {
+    ghost use Rattle.std.specs.Prelude.{◌≡◌};
+    ghost use Rattle.reply_polytope.specs.declared.stop.PolyStop.TheVariants as stops;
+
+    ghost from_gives = { λ limit e. e ≡ stops.TooLarge limit };
+
+    fn from(limit: TooLarge) -> PolyStop {
+        PolyStop::TooLarge(limit)
+    }
+}
+
 impl From<Memory> for PolyStop {
     ghost use Rattle.std.specs.Prelude.{◌≡◌};
     ghost use Rattle.reply_polytope.specs.declared.stop.PolyStop.TheVariants as stops;

@@ -12,7 +12,7 @@ use lex_tableau::System;
 use std::alloc::Global;
 
 // The most labels.
-const MOST_LABELS: usize = 128;
+const MOST_LABELS: u64 = 128;
 
 /// The systems of the polytopes of both players' best replies. Variables are labels, numbered from
 /// 1: first the first player's strategies and then the second's. The first system has a row for each
@@ -35,13 +35,7 @@ pub fn polytopes(alloc: Global, table: &Table) -> Result<(System, System), PolyS
     }
     let rows = table.strategy_count(0);
     let columns = table.strategy_count(1);
-    if rows + columns > MOST_LABELS {
-        return Err(PolyStop::TooLarge(TooLarge {
-            what: What::Labels,
-            count: (rows + columns) as u64,
-            limit: MOST_LABELS as u64,
-        }));
-    }
+    TooLarge::within(What::Labels, MOST_LABELS, (rows + columns) as u64)?;
     let first = shifted_payoffs(alloc, table, 0, rows * columns)?;
     let second = shifted_payoffs(alloc, table, 1, rows * columns)?;
     let one = first_reply_system(alloc, rows, columns, &second)?;

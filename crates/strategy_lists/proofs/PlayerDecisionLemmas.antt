@@ -12,7 +12,7 @@ use Rattle.game_theory.specs.Recall.{own_history}
 use Rattle.choice_lists.specs.declared.decision.Decision.{Decision}
 use Rattle.choice_lists.specs.declared.decision.Edge.{Edge}
 use Rattle.choice_lists.specs.Walks.{AreLinked, ComesFrom}
-use Rattle.strategy_lists.specs.Decisions.{action_counts, history_by, IsDecisionAt, AreDecisions, AreDecisionsOfAll}
+use Rattle.strategy_lists.specs.Decisions.{own_counts, history_by, IsDecisionAt, AreDecisions, AreDecisionsOfAll}
 use Rattle.strategy_lists.specs.Made.{mover, IsMove, IsEdgeTo, LeadsTo, IsMadeAt, HasTaken}
 use Rattle.strategy_lists.proofs.OwnNumberLemmas.{slice_get-push, slice_get-push_cases}
 use Rattle.strategy_lists.proofs.MoveLemmas.{mover-move, mover-within}
@@ -321,7 +321,7 @@ AreDecisions-made t i numbers latest decisions valid h = record {
   linked = linked;
 }
   where
-    linked : AreLinked decisions (action_counts t i)
+    linked : AreLinked decisions (own_counts t i)
     linked = record {
       some_action = All-map (λ n. 0 < n) t.actions (own_sets t i) (λ place d inside. valid.some_action _ (own_set-tell t i place _ (slice_get-get_or (own_sets t i) place d inside)).0);
       places_within = λ j d inside.

@@ -15,7 +15,7 @@ use Rattle.reduced_strategies.proofs.HistoryLemmas.{Agrees-append}
 use Rattle.choice_lists.specs.declared.decision.Decision.{Decision}
 use Rattle.choice_lists.specs.declared.decision.Edge.{Edge}
 use Rattle.choice_lists.specs.Walks.{ComesFrom, IsLedTo, IsReachedWithin, IsPlaceReached, IsWalk, AreWalks}
-use Rattle.strategy_lists.specs.Decisions.{action_counts, history_by, IsDecisionAt, AreDecisions}
+use Rattle.strategy_lists.specs.Decisions.{own_counts, history_by, IsDecisionAt, AreDecisions}
 use Rattle.strategy_lists.specs.OwnNumbers.{own_numbers}
 use Rattle.strategy_lists.proofs.OwnNumberLemmas.{own_sets-numbers, own_numbers-at, own_numbers-tell, own_numbers-place}
 
@@ -51,7 +51,7 @@ choice-at_set : (t : Tree) (i : ℕ) (choices : List ℕ) (place s : ℕ) → sl
 choice-at_set t i choices place s h = choice_at-place (own_sets t i) choices place s (own_set-place t i s) h
 
 -- the number of actions at a place is that of the set there
-actions-at_set : (t : Tree) (i place s : ℕ) → slice_get (own_sets t i) place ≡ Some s → get_or (action_counts t i) place 0 ≡ t.actions s
+actions-at_set : (t : Tree) (i place s : ℕ) → slice_get (own_sets t i) place ≡ Some s → get_or (own_counts t i) place 0 ≡ t.actions s
 actions-at_set t i place s h = value_at t.actions (own_sets t i) place s h
 
 -- ---- decisions that are reached
@@ -86,7 +86,7 @@ module _ (t : Tree) (i : ℕ) (decisions : List Decision) (are : AreDecisions t 
         let less : edge.decision < j = comes.0 in
         let k = get_or are.nodes edge.decision 0 in
         let at_k : slice_get are.nodes edge.decision ≡ Some k = slice_get-get_or are.nodes edge.decision 0 (omega arith) in
-        let within = all_at (λ d. d.place < length (action_counts t i)) decisions edge.decision comes.1 are.linked.places_within comes.2 in
+        let within = all_at (λ d. d.place < length (own_counts t i)) decisions edge.decision comes.1 are.linked.places_within comes.2 in
         let place_inside : edge.place < length (own_sets t i) = omega (arith, comes.3, length-map (own_sets t i) t.actions) in
         let s = get_or (own_sets t i) edge.place 0 in
         let choice : chosen s ≡ get_or choices edge.place 0 = choice-at_set t i choices edge.place s (slice_get-get_or (own_sets t i) edge.place 0 place_inside) in
@@ -123,7 +123,7 @@ module _ (t : Tree) (i : ℕ) (decisions : List Decision) (are : AreDecisions t 
             (found.number, found.decision, found.stands_at, place_is, (reached_by_history (suc found.number) found.number (omega arith) node.0 node.1).1 (subst (Agrees chosen) history h.3))
 
     -- a walk is a reduced strategy
-    walk-reduced : IsWalk decisions (action_counts t i) choices → IsReduced t i choices
+    walk-reduced : IsWalk decisions (own_counts t i) choices → IsReduced t i choices
     walk-reduced w = record {
       one_for_each = w.one_for_each ∙ length-map (own_sets t i) t.actions;
       are_actions = are_actions;
@@ -131,14 +131,14 @@ module _ (t : Tree) (i : ℕ) (decisions : List Decision) (are : AreDecisions t 
     }
       where
         -- the place of an own set is one of the walk's
-        inside : (place s : ℕ) → slice_get (own_sets t i) place ≡ Some s → place < length (action_counts t i)
+        inside : (place s : ℕ) → slice_get (own_sets t i) place ≡ Some s → place < length (own_counts t i)
         inside place s at_place = rw length-map (slice_get_within (own_sets t i) place s at_place)
 
         at_own : (place s : ℕ) → slice_get (own_sets t i) place ≡ Some s → chosen s ≤ t.actions s
         at_own place s at_place =
             let choice : chosen s ≡ get_or choices place 0 = choice-at_set t i choices place s at_place in
-            let count : get_or (action_counts t i) place 0 ≡ t.actions s = actions-at_set t i place s at_place in
-            let within : get_or choices place 0 ≤ get_or (action_counts t i) place 0 = w.are_actions place (inside place s at_place) in
+            let count : get_or (own_counts t i) place 0 ≡ t.actions s = actions-at_set t i place s at_place in
+            let within : get_or choices place 0 ≤ get_or (own_counts t i) place 0 = w.are_actions place (inside place s at_place) in
             omega arith
 
         are_actions : (s : ℕ) → chosen s ≤ t.actions s
@@ -159,7 +159,7 @@ module _ (t : Tree) (i : ℕ) (decisions : List Decision) (are : AreDecisions t 
             (λ h. reached.0 (here.0 (omega arith)), λ h. let given : 0 < get_or choices place.0 0 = here.1 (reached.1 h) in omega arith)
 
     -- a reduced strategy is a walk
-    reduced-walk : IsReduced t i choices → IsWalk decisions (action_counts t i) choices
+    reduced-walk : IsReduced t i choices → IsWalk decisions (own_counts t i) choices
     reduced-walk r = record {
       one_for_each = r.one_for_each ∙ sym (length-map (own_sets t i) t.actions);
       are_actions = are_actions;
@@ -167,18 +167,18 @@ module _ (t : Tree) (i : ℕ) (decisions : List Decision) (are : AreDecisions t 
     }
       where
         -- the set at a place
-        set_at : (place : ℕ) → place < length (action_counts t i) → (s : ℕ) × (slice_get (own_sets t i) place ≡ Some s)
+        set_at : (place : ℕ) → place < length (own_counts t i) → (s : ℕ) × (slice_get (own_sets t i) place ≡ Some s)
         set_at place inside = element (own_sets t i) place (rw length-map at inside)
 
-        are_actions : (place : ℕ) → place < length (action_counts t i) → get_or choices place 0 ≤ get_or (action_counts t i) place 0
+        are_actions : (place : ℕ) → place < length (own_counts t i) → get_or choices place 0 ≤ get_or (own_counts t i) place 0
         are_actions place inside =
             let s = set_at place inside in
             let choice : chosen s.0 ≡ get_or choices place 0 = choice-at_set t i choices place s.0 s.1 in
-            let count : get_or (action_counts t i) place 0 ≡ t.actions s.0 = actions-at_set t i place s.0 s.1 in
+            let count : get_or (own_counts t i) place 0 ≡ t.actions s.0 = actions-at_set t i place s.0 s.1 in
             let within : chosen s.0 ≤ t.actions s.0 = r.are_actions s.0 in
             omega arith
 
-        fixed : (place : ℕ) → place < length (action_counts t i) → (0 < get_or choices place 0) ↔ IsPlaceReached decisions choices place
+        fixed : (place : ℕ) → place < length (own_counts t i) → (0 < get_or choices place 0) ↔ IsPlaceReached decisions choices place
         fixed place inside =
             let s = set_at place inside in
             let own = own_set-tell t i place s.0 s.1 in
@@ -188,9 +188,9 @@ module _ (t : Tree) (i : ℕ) (decisions : List Decision) (are : AreDecisions t 
             (λ h. reached.1 (here.0 (omega arith)), λ h. let given : 0 < chosen s.0 = here.1 (reached.0 h) in omega arith)
 
   -- all walks are all reduced strategies
-  pub walks-strategies : (lists : List (List ℕ)) → AreWalks decisions (action_counts t i) lists → AreReducedStrategies t i lists
+  pub walks-strategies : (lists : List (List ℕ)) → AreWalks decisions (own_counts t i) lists → AreReducedStrategies t i lists
   walks-strategies lists w = record {
     ascending = w.ascending;
-    sound = All-weaker (IsWalk decisions (action_counts t i)) (IsReduced t i) walk-reduced lists w.sound;
+    sound = All-weaker (IsWalk decisions (own_counts t i)) (IsReduced t i) walk-reduced lists w.sound;
     complete = λ choices r. w.complete choices (reduced-walk choices r);
   }

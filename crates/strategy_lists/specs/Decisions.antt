@@ -9,8 +9,8 @@ use Rattle.choice_lists.specs.declared.decision.Edge.{Edge}
 use Rattle.choice_lists.specs.Walks.{AreLinked}
 
 -- how many actions each of player i's own sets has
-abbrev pub action_counts : Tree → ℕ → List ℕ
-action_counts t i = map t.actions (own_sets t i)
+abbrev pub own_counts : Tree → ℕ → List ℕ
+own_counts t i = map t.actions (own_sets t i)
 
 -- the own history of the decision to which an edge leads, where these nodes are the decisions'
 abbrev pub history_by : Tree → ℕ → List ℕ → Option Edge → List (ℕ × ℕ)
@@ -39,7 +39,7 @@ pub record AreDecisions (t : Tree) (i : ℕ) (decisions : List Decision) : Type 
   pub one_for_each : length nodes ≡ length decisions
   pub are_decisions : (j k : ℕ) (decision : Decision) → slice_get decisions j ≡ Some decision → slice_get nodes j ≡ Some k → IsDecisionAt t i nodes decision k
   pub all : (k s : ℕ) → k < t.size → t.set k ≡ Some s → t.owner s ≡ Some i → HasDecision t i nodes decisions k
-  pub linked : AreLinked decisions (action_counts t i)
+  pub linked : AreLinked decisions (own_counts t i)
 
 -- the decisions of each player
 pub record AreDecisionsOfAll (t : Tree) (lists : List (List Decision)) : Type 0 where

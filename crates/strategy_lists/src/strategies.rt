@@ -3,7 +3,7 @@ ghost use Rattle.std.specs.Prelude.{◌≡◌, ◌<◌, ◌+◌, ◌^◌, ℕ, l
 ghost use Rattle.game_core.specs.TreeGame.{game_of_tree};
 ghost use Rattle.reduced_strategies.specs.Choices.{AreReducedStrategies};
 ghost use Rattle.reduced_strategies.specs.Places.{ArePlaces};
-ghost use Rattle.strategy_lists.specs.Decisions.{action_counts, AreDecisions, HasCount};
+ghost use Rattle.strategy_lists.specs.Decisions.{own_counts, AreDecisions, HasCount};
 
 use crate::decisions::decisions_of_all;
 use answers::Memory;
@@ -14,7 +14,7 @@ use std::marker::Model;
 
 // How many actions each of a player's own sets has.
 fn own_action_counts(alloc: Global, tree: &Tree, player: u32) -> Result<Vec<u32>, Memory>
-    ensures { IfOk result (λ counts. counts.items ≡ action_counts (game_of_tree tree.now) player) }
+    ensures { IfOk result (λ counts. counts.items ≡ own_counts (game_of_tree tree.now) player) }
 {
     let sets = tree.sets();
     let mut counts = Vec::new(alloc);

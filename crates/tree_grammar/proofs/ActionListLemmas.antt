@@ -14,7 +14,8 @@ use Rattle.file_parts.proofs.TokenLaws.{left_is, le_passes}
 use Rattle.written_trees.specs.Building.{may_follow, adds_up, may_be_first, repeats_actions}
 use Rattle.written_trees.specs.Laws.{HasNoProbability, IsActionList}
 use Rattle.written_trees.proofs.InsertedKeyLemmas.{eq_self}
-use Rattle.tree_grammar.specs.TreeReading.{chance_actions_at, actions_at, closed_at, action_list_at, summed_at, first_list_at, all_repeated_at, later_list_at}
+use Rattle.tree_grammar.specs.TreePieces.{closed_at}
+use Rattle.tree_grammar.proofs.PartValueLemmas.{chance_actions_at, actions_at, action_list_at, summed_at, first_list_at, all_repeated_at, later_list_at}
 
 -- a reading of actions and their sum
 abbrev pub Summed : Type 0

@@ -12,8 +12,7 @@ use Rattle.file_parts.specs.Parsing.{Parsed, ◌>>=◌, IsRefusal}
 use Rattle.file_parts.proofs.ParseLemmas.{refused_first}
 use Rattle.file_parts.proofs.ReaderLemmas.{chain, ok_same}
 use Rattle.file_parts.proofs.TokenLaws.{text_is, number_is}
-use Rattle.tree_grammar.specs.TreeReading.{own_action}
-use Rattle.tree_grammar.specs.TreeParsing.{sum_with, parse_chances, parse_closed, parse_own_list, parse_chance_list, parse_first_list, parse_repeated, parse_all_repeated}
+use Rattle.tree_grammar.specs.TreeParsing.{own_action, sum_with, parse_chances, parse_closed, parse_own_list, parse_chance_list, parse_first_list, parse_repeated, parse_all_repeated}
 use Rattle.tree_grammar.specs.declared.kinds.EfgKind.{EfgKind}
 use Rattle.tree_grammar.specs.declared.kinds.EfgKind.TheVariants.{Node, SetMismatch, Probability}
 use Rattle.game_core.specs.declared.token.Token.{Token}

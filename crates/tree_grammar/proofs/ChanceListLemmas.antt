@@ -19,7 +19,7 @@ use Rattle.file_parts.proofs.TokenLaws.{le_passes}
 use Rattle.written_trees.specs.Building.{add_test}
 use Rattle.written_trees.proofs.ChanceLemmas.{add_test-Decides, sum_onward}
 use Rattle.tree_grammar.specs.TreeFile.{action_tokens}
-use Rattle.tree_grammar.specs.TreeReading.{closed_at}
+use Rattle.tree_grammar.specs.TreePieces.{closed_at}
 use Rattle.tree_grammar.specs.TreeParsing.{sum_with, at_tokens, parse_chances, parse_closed, parse_chance_list, parse_first_list}
 use Rattle.tree_grammar.specs.TreeFaults.{HasActions, WantsProbability}
 use Rattle.tree_grammar.specs.FaultKinds.{NumberComes, BraceComes, sum_of}

@@ -7,17 +7,18 @@ use Rattle.game_core.specs.declared.tree.Kind.{Kind}
 use Rattle.game_core.specs.declared.tree.Kind.TheVariants.{End}
 use Rattle.game_core.specs.Tree.{kind_of_owner}
 use Rattle.game_core.specs.declared.token.Token.{Token}
-use Rattle.file_parts.specs.Reading.{word_at, text_at, optional_text_at}
+use Rattle.file_parts.specs.Reading.{word_at, text_at, optional_text_at, count_at}
 use Rattle.written_trees.specs.Written.{SetUse}
 use Rattle.written_trees.specs.Described.{key_of, kind_of_use}
 use Rattle.written_trees.specs.Building.{PartialSet, use_set, use_some_set, set_place}
-use Rattle.tree_grammar.specs.TreeReading.{choice_at, choice_after, choice_part_at, action_list_at, optional_at, positive_at, set_use_at, set_part_at, set_choice_at, own_choice_at, own_use_at, chance_use_at, player_at, is_word}
+use Rattle.tree_grammar.specs.TreePieces.{is_word}
+use Rattle.tree_grammar.proofs.PartValueLemmas.{choice_at, choice_after, choice_part_at, action_list_at, optional_at, set_use_at, set_part_at, set_choice_at, own_choice_at, own_use_at, chance_use_at, player_at}
 
 -- a set's use is of the owner for whom it is read
 use_owner : (owner : Option ℕ) (tokens : List Token) (x : SetUse × List Token) → set_use_at owner tokens ≡ Some x → x.0.owner ≡ owner
 unfolding set_use_at
 use_owner owner tokens x e =
-    let label = bind_some (positive_at tokens) _ x e in
+    let label = bind_some (count_at tokens) _ x e in
     let list = bind_some (optional_at (action_list_at owner) (optional_text_at label.0.1).1) _ x label.2 in
     ap (λ (y : SetUse × List Token). y.0.owner) (sym (same_Some _ _ list.2))
 

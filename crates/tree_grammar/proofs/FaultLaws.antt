@@ -6,7 +6,7 @@ use Rattle.rational.specs.Rational.{ℚ}
 use Rattle.game_core.specs.Tree.{GameTree, OpenBranch}
 use Rattle.game_core.specs.declared.token.Token.{Token}
 use Rattle.game_core.specs.declared.token.Token.TheVariants.{Right, Text, Word, Number}
-use Rattle.file_parts.specs.Parts.{whole_number, braced_texts, IsOpen}
+use Rattle.file_parts.specs.Parts.{whole_number, braced_texts, IsOpen, NamesPlayers}
 use Rattle.file_parts.specs.Parsing.{Parsed, parse_title, parse_names}
 use Rattle.file_parts.proofs.PartReaderLemmas.{title_reader, names_reader, title_faults, names_faults}
 use Rattle.file_parts.proofs.ReaderLemmas.{ReadsAs, reads_alone, result_of, bind_err, ok_same, err_same, ok_err, ends_early, same_front}
@@ -19,21 +19,27 @@ use Rattle.written_trees.specs.Building.{PartialTree, root_alone, tree_so_far, o
 use Rattle.written_trees.proofs.BuiltTreeLemmas.{built_is_so}
 use Rattle.tree_grammar.specs.TreeFile.{IsFront, IsPartialFile, IsTreeFile}
 use Rattle.file_parts.proofs.HeaderLaws.{title_is}
-use Rattle.tree_grammar.specs.TreeReading.{Head}
-use Rattle.tree_grammar.specs.TreeParsing.{parse_head, parse_nodes, parse_all_nodes, in_nodes, parse_tree}
-use Rattle.tree_grammar.specs.TreeFaults.{IsFile, BeginsFile, CannotCome, IsTitle, ArePlayers, StopsInPlayers, StopsAtSet, StopsAtOutcome, HasActions, WantsProbability}
-use Rattle.tree_grammar.specs.FaultKinds.{TextComes, BraceComes, NumberComes, IsNodeKind, IsKind, IsFaultFrom}
+use Rattle.tree_grammar.specs.TreeParsing.{Head, parse_head, parse_tree}
+use Rattle.tree_grammar.specs.TreeFaults.{IsFile, BeginsFile, IsTitle, StopsInPlayers, StopsAtSet, StopsAtOutcome, HasActions, WantsProbability}
+use Rattle.tree_grammar.specs.FaultKinds.{TextComes, BraceComes, NumberComes, IsNodeKind, IsKind}
 use Rattle.tree_grammar.specs.declared.kinds.EfgKind.{EfgKind}
 use Rattle.tree_grammar.specs.declared.kinds.EfgKind.TheVariants.{Header, Players, Node, UnknownPlayer, SetMismatch, Probability, ProbabilityRange, OutcomeMismatch, Unfinished, Trailing}
 use Rattle.tree_grammar.proofs.FileLaws.{partial_front}
-use Rattle.tree_grammar.proofs.NodesLaws.{nodes_are, no_branching, all_written}
-use Rattle.tree_grammar.proofs.MarkedLaws.{nodes_same}
-use Rattle.tree_grammar.proofs.HeadLemmas.{ReadsHead, head_some, title_again_so, names_again_so, names_go_on, head_stops}
-use Rattle.tree_grammar.proofs.WholeFileLaws.{nothing_keeps, at_end, nodes_begin, few_players, few_is_file, read_is_file, file_is_read, inner_fault, body_stops}
+use Rattle.tree_grammar.proofs.NodesLaws.{no_branching, all_written}
+use Rattle.tree_grammar.proofs.NodesReadLaws.{nothing_keeps, nodes_are}
+use Rattle.tree_grammar.proofs.HeadLemmas.{names_go_on, head_stops, CannotCome}
+use Rattle.tree_grammar.proofs.HeadLaws.{ReadsHead, title_again_so, names_again_so}
+use Rattle.tree_grammar.proofs.WholeFileLaws.{nodes_begin, few_players, few_is_file, read_is_file, file_is_located, inner_fault, body_stops}
 use Rattle.tree_grammar.proofs.NodeKindLemmas.{node_kind_told}
 use Rattle.tree_grammar.proofs.NodePointLemmas.{nodes_stops}
 use Rattle.tree_grammar.proofs.PointKindLemmas.{KindBefore, node_kind_at}
 use Rattle.tree_grammar.proofs.TrailingTokenLemmas.{file_trails}
+use Rattle.tree_grammar.proofs.LocatedReadingLemmas.{located_nodes, located_end, located_all_nodes, in_located, located_tree, nodes_read_back, tree_read_back, fault_located}
+use Rattle.file_parts.specs.Faults.{IsFaultFrom as IsFaultFromIn}
+
+-- a fault of this kind, from these last tokens on
+abbrev pub IsFaultFrom : List Token → EfgKind → List Token → Type 0
+IsFaultFrom = IsFaultFromIn IsFile BeginsFile IsKind
 
 -- ---- where reading stops is a fault
 -- some tokens are not none
@@ -65,7 +71,7 @@ head_kind tokens kind rest e = elim (bind_err (parse_title Header (codes "EFG") 
     | inl f ↦
         let t = title_whole tokens a.0.1 a.0.0 a.1 in
         let g = names_go_on a.0.1 (kind, rest) f in
-        let partial : IsOpen ArePlayers g.before = (g.next, g.more, (g.players, g.some, g.go_on)) in
+        let partial : IsOpen NamesPlayers g.before = (g.next, g.more, (g.players, (g.some, g.go_on))) in
         (t.0 ++ g.before, t.1 ∙ ap (λ (r : List Token). t.0 ++ r) g.is ∙ sym (append_assoc t.0 g.before rest), subst (λ (k : EfgKind). IsKind k (t.0 ++ g.before) rest) (sym (names_faults Players a.0.1 (kind, rest) f)) (t.0, g.before, refl, t.2, partial))
     | inr b ↦ absurd (ok_err ((a.0.0, b.0.0), after_text b.0.1) (kind, rest) b.2)
   ]
@@ -74,7 +80,7 @@ head_kind tokens kind rest e = elim (bind_err (parse_title Header (codes "EFG") 
 -- ---- after the head
 -- the title and the players are whole
 abbrev IsAfterHead : List Token → Type 0
-IsAfterHead tokens = (title names more : List Token) × (tokens ≡ title ++ names ++ more) × IsTitle title × ArePlayers names
+IsAfterHead tokens = (title names more : List Token) × (tokens ≡ title ++ names ++ more) × IsTitle title × NamesPlayers names
 
 -- tokens after a front stop after the head
 after_front : (front inner : List Token) (title : List ℕ) (players : List (List ℕ)) → IsFront front title players → IsAfterHead (front ++ inner)
@@ -84,7 +90,7 @@ after_front front inner title players f =
     let header : List Token = Word (codes "EFG") ∷ whole_number 2 ∷ Word h.0 ∷ [] in
     let all : front ++ inner ≡ Word (codes "EFG") ∷ whole_number 2 ∷ Word h.0 ∷ Text title ∷ (names ++ (f.comment ++ inner)) =
     rw (f.is_front, h.2) (ap (λ (r : List Token). Word (codes "EFG") ∷ whole_number 2 ∷ Word h.0 ∷ Text title ∷ r) (append_assoc names f.comment inner)) in
-    (header ++ Text title ∷ [], names, f.comment ++ inner, all, (header, title, (h.0, h.1, refl), refl), (players, f.some_player, refl))
+    (header ++ Text title ∷ [], names, f.comment ++ inner, all, (header, title, (h.0, h.1, refl), refl), (players, (f.some_player, refl)))
 
 -- and so after a partial file
 after_file : (tokens partial tail : List Token) (tree : GameTree) (free : List OpenBranch) → IsPartialFile partial tree free → tokens ≡ partial ++ tail → IsAfterHead tokens
@@ -103,7 +109,7 @@ as_kind Trailing before rest h = absurd h
 as_kind _ before rest h = h
 
 -- the others are ones of the node's form
-node_kind : (before : List Token) (t : Token) (r : List Token) → IsAfterHead before → parse_tree (before ++ t ∷ r) ≡ Err (Node, t ∷ r) → IsKind Node before (t ∷ r)
+node_kind : (before : List Token) (t : Token) (r : List Token) → IsAfterHead before → located_tree (before ++ t ∷ r) ≡ Err (Node, t ∷ r) → IsKind Node before (t ∷ r)
 node_kind before t r inside e = (
   (inside, λ file. let same = file_trails before t r Node file e in cc),
   some_token t r,
@@ -111,16 +117,16 @@ node_kind before t r inside e = (
 )
 
 -- nodes that leave no branch open are a file
-whole_file : (tokens : List Token) (x : Head × List Token) (h : ReadsHead tokens x) (partial : PartialTree) (left : List Token) → length x.0.1 < 2 ^ 32 → parse_nodes (suc (length x.1)) (length x.0.1) root_alone x.1 ≡ Ok (partial, left) → (before : List Token) × (tokens ≡ before ++ left) × IsFile before
+whole_file : (tokens : List Token) (x : Head × List Token) (h : ReadsHead tokens x) (partial : PartialTree) (left : List Token) → length x.0.1 < 2 ^ 32 → located_nodes (suc (length x.1)) (length x.0.1) root_alone x.1 ≡ Ok (partial, left) → (before : List Token) × (tokens ≡ before ++ left) × IsFile before
 whole_file tokens x h partial left few e =
     let players = length x.0.1 in
-    let n = nodes_are (suc (length x.1)) players root_alone x.1 (partial, left) (nodes_same (suc (length x.1)) players root_alone x.1 (partial, left) (nothing_keeps players) e) in
+    let n = nodes_are (suc (length x.1)) players root_alone x.1 (partial, left) (nothing_keeps players) (nodes_read_back (suc (length x.1)) players root_alone x.1 (partial, left) e) in
     let file = nodes_begin h.front n.0.nodes x.0 partial n.0.written h.is_front few n.0.are_nodes n.0.added in
     let whole : IsTreeFile (h.front ++ n.0.nodes) (tree_so_far x.0.0 x.0.1 partial) = subst (IsPartialFile (h.front ++ n.0.nodes) (tree_so_far x.0.0 x.0.1 partial)) (no_branching partial.branchings n.1) file in
     (h.front ++ n.0.nodes, h.is ∙ ap (λ (q : List Token). h.front ++ q) n.0.is ∙ sym (append_assoc h.front n.0.nodes left), (tree_so_far x.0.0 x.0.1 partial, whole))
 
 -- where nodes stop, their point has a kind, or the kind is that of the node's form
-point_kind : (tokens : List Token) (x : Head × List Token) (h : ReadsHead tokens x) (kind : EfgKind) (t : Token) (r : List Token) → length x.0.1 < 2 ^ 32 → parse_nodes (suc (length x.1)) (length x.0.1) root_alone x.1 ≡ Err (kind, t ∷ r) → (kind ≡ Node) ⊎ KindBefore tokens kind (t ∷ r)
+point_kind : (tokens : List Token) (x : Head × List Token) (h : ReadsHead tokens x) (kind : EfgKind) (t : Token) (r : List Token) → length x.0.1 < 2 ^ 32 → located_nodes (suc (length x.1)) (length x.0.1) root_alone x.1 ≡ Err (kind, t ∷ r) → (kind ≡ Node) ⊎ KindBefore tokens kind (t ∷ r)
 point_kind tokens x h kind t r few e = elim (nodes_stops (suc (length x.1)) (length x.0.1) root_alone x.1 (kind, t ∷ r) (nothing_keeps (length x.0.1)) (omega arith) e) [
   | inl n ↦ inl n
   | inr s ↦
@@ -141,12 +147,12 @@ point_kind tokens x h kind t r few e = elim (nodes_stops (suc (length x.1)) (len
 ]
 
 -- where all nodes stop before a token
-stop_kind_is : (tokens : List Token) (x : Head × List Token) (h : ReadsHead tokens x) (kind : EfgKind) (t : Token) (r before : List Token) → length x.0.1 < 2 ^ 32 → tokens ≡ before ++ t ∷ r → IsAfterHead before → parse_tree tokens ≡ Err (kind, t ∷ r) → parse_all_nodes (length x.0.1) x.1 ≡ Err (kind, t ∷ r) → IsKind kind before (t ∷ r)
-unfolding parse_all_nodes
-stop_kind_is tokens x h kind t r before few are inside e f = elim (bind_err (parse_nodes (suc (length x.1)) (length x.0.1) root_alone x.1) at_end (kind, t ∷ r) f) [
+stop_kind_is : (tokens : List Token) (x : Head × List Token) (h : ReadsHead tokens x) (kind : EfgKind) (t : Token) (r before : List Token) → length x.0.1 < 2 ^ 32 → tokens ≡ before ++ t ∷ r → IsAfterHead before → located_tree tokens ≡ Err (kind, t ∷ r) → located_all_nodes (length x.0.1) x.1 ≡ Err (kind, t ∷ r) → IsKind kind before (t ∷ r)
+unfolding located_all_nodes
+stop_kind_is tokens x h kind t r before few are inside e f = elim (bind_err (located_nodes (suc (length x.1)) (length x.0.1) root_alone x.1) located_end (kind, t ∷ r) f) [
   | inl g ↦ elim (point_kind tokens x h kind t r few g) [
     | inl n ↦
-        let there : parse_tree (before ++ t ∷ r) ≡ Err (Node, t ∷ r) = ap parse_tree (sym are) ∙ e ∙ ap (λ (k : EfgKind). Err (k, t ∷ r)) n in
+        let there : located_tree (before ++ t ∷ r) ≡ Err (Node, t ∷ r) = ap located_tree (sym are) ∙ e ∙ ap (λ (k : EfgKind). Err (k, t ∷ r)) n in
         subst (λ (k : EfgKind). IsKind k before (t ∷ r)) (sym n) (node_kind before t r inside there)
     | inr k ↦
         let same : k.0 ≡ before = same_front k.0 before (t ∷ r) (sym k.1 ∙ are) in
@@ -155,7 +161,7 @@ stop_kind_is tokens x h kind t r before few are inside e f = elim (bind_err (par
   | inr a ↦ following a.0 a.1 a.2
 ]
   where
-    following : (y : PartialTree × List Token) → parse_nodes (suc (length x.1)) (length x.0.1) root_alone x.1 ≡ Ok y → at_end y ≡ Err (kind, t ∷ r) → IsKind kind before (t ∷ r)
+    following : (y : PartialTree × List Token) → located_nodes (suc (length x.1)) (length x.0.1) root_alone x.1 ≡ Ok y → located_end y ≡ Err (kind, t ∷ r) → IsKind kind before (t ∷ r)
     following (partial, []) g o = absurd (ok_err partial (kind, t ∷ r) o)
     following (partial, u ∷ left) g o =
         let same = err_same {A = PartialTree} (Trailing, u ∷ left) (kind, t ∷ r) o in
@@ -165,10 +171,10 @@ stop_kind_is tokens x h kind t r before few are inside e f = elim (bind_err (par
         subst (λ (k : EfgKind). IsKind k before (t ∷ r)) (ap (λ (z : EfgKind × List Token). z.0) same) (subst IsFile front w.2)
 
 -- where reading stops after a head is a fault
-inner_stop : (tokens : List Token) (x : Head × List Token) (kind : EfgKind) (rest : List Token) → length x.0.1 < 2 ^ 32 → parse_head tokens ≡ Ok x → parse_tree tokens ≡ Err (kind, rest) → in_nodes (parse_all_nodes (length x.0.1) x.1) ≡ Err (kind, rest) → IsFaultFrom tokens kind rest
+inner_stop : (tokens : List Token) (x : Head × List Token) (kind : EfgKind) (rest : List Token) → length x.0.1 < 2 ^ 32 → parse_head tokens ≡ Ok x → located_tree tokens ≡ Err (kind, rest) → in_located (located_all_nodes (length x.0.1) x.1) ≡ Err (kind, rest) → IsFaultFrom tokens kind rest
 inner_stop tokens x kind rest few head e f =
-    let i = inner_fault (parse_all_nodes (length x.0.1) x.1) kind rest f in
-    let no_file : IsFile tokens → ⊥ = λ file. absurd (ok_err file.0 (kind, rest) (sym (file_is_read tokens file.0 file.1) ∙ e)) in
+    let i = inner_fault (located_all_nodes (length x.0.1) x.1) kind rest f in
+    let no_file : IsFile tokens → ⊥ = λ file. absurd (ok_err file.0 (kind, rest) (sym (file_is_located tokens file.0 file.1) ∙ e)) in
     let b = body_stops tokens x i.0 rest few head i.1 no_file in
     let s = b.1 in
     let inside : IsAfterHead s.before = subst IsAfterHead (sym b.3) (after_front b.0.front b.2 x.0.0 x.0.1 b.0.is_front) in
@@ -179,32 +185,36 @@ inner_stop tokens x kind rest few head e f =
       | inr there ↦
           let t = there.1 in
           let r = there.2 in
-          let stops : parse_tree tokens ≡ Err (kind, t ∷ r) = e ∙ ap (λ (q : List Token). Err (kind, q)) there.3 in
-          let own : parse_all_nodes (length x.0.1) x.1 ≡ Err (kind, t ∷ r) = i.1 ∙ ap (λ (k : EfgKind). Err (k, rest)) (sym there.0) ∙ ap (λ (q : List Token). Err (kind, q)) there.3 in
+          let stops : located_tree tokens ≡ Err (kind, t ∷ r) = e ∙ ap (λ (q : List Token). Err (kind, q)) there.3 in
+          let own : located_all_nodes (length x.0.1) x.1 ≡ Err (kind, t ∷ r) = i.1 ∙ ap (λ (k : EfgKind). Err (k, rest)) (sym there.0) ∙ ap (λ (q : List Token). Err (kind, q)) there.3 in
           subst (IsKind kind s.before) (sym there.3) (stop_kind_is tokens x b.0 kind t r s.before few (s.are_tokens ∙ ap (λ (q : List Token). s.before ++ q) there.3) inside stops own)
     ] in
     record { before = s.before; are_tokens = s.are_tokens; begins = s.begins; stops = s.stops; is_kind = is_kind }
 
 -- where reading stops is a fault
-pub stop_is_fault : (tokens : List Token) (kind : EfgKind) (rest : List Token) → length tokens < 2 ^ 32 → parse_tree tokens ≡ Err (kind, rest) → IsFaultFrom tokens kind rest
-unfolding parse_tree
-stop_is_fault tokens kind rest short e = elim (bind_err (parse_head tokens) _ (kind, rest) e) [
+located_is_fault : (tokens : List Token) (kind : EfgKind) (rest : List Token) → length tokens < 2 ^ 32 → located_tree tokens ≡ Err (kind, rest) → IsFaultFrom tokens kind rest
+unfolding located_tree
+located_is_fault tokens kind rest short e = elim (bind_err (parse_head tokens) _ (kind, rest) e) [
   | inl f ↦
       let s = head_stops tokens kind rest short f in
       let k = head_kind tokens kind rest f in
       let same : k.0 ≡ s.before = same_front k.0 s.before rest (sym k.1 ∙ s.are_tokens) in
       record { before = s.before; are_tokens = s.are_tokens; begins = s.begins; stops = s.stops; is_kind = subst (λ (q : List Token). IsKind kind q rest) same k.2 }
-  | inr a ↦ elim (bind_err (in_nodes (parse_all_nodes (length a.0.0.1) a.0.1)) _ (kind, rest) a.2) [
+  | inr a ↦ elim (bind_err (in_located (located_all_nodes (length a.0.0.1) a.0.1)) _ (kind, rest) a.2) [
     | inl f ↦ inner_stop tokens a.0 kind rest (few_players tokens a.0 short a.1) a.1 e f
     | inr x ↦ absurd (ok_err _ (kind, rest) x.2)
   ]
 ]
 
+-- so is what is read as one
+pub stop_is_fault : (tokens : List Token) (kind : EfgKind) (rest : List Token) → length tokens < 2 ^ 32 → parse_tree tokens ≡ Err (inl (kind, rest)) → IsFaultFrom tokens kind rest
+stop_is_fault tokens kind rest short e = located_is_fault tokens kind rest short (fault_located tokens (kind, rest) e)
+
 -- a list of tokens has a fault or is a file
 pub fault_or_file : (tokens : List Token) → length tokens < 2 ^ 32 → IsFile tokens ⊎ ((kind : EfgKind) × (rest : List Token) × IsFaultFrom tokens kind rest)
-fault_or_file tokens short = elim (result_of (parse_tree tokens)) [
-  | inl x ↦ inl (x.0, read_is_file tokens x.0 short x.1)
-  | inr f ↦ inr (f.0.0, f.0.1, stop_is_fault tokens f.0.0 f.0.1 short f.1)
+fault_or_file tokens short = elim (result_of (located_tree tokens)) [
+  | inl x ↦ inl (x.0, read_is_file tokens x.0 short (tree_read_back tokens x.0 x.1))
+  | inr f ↦ inr (f.0.0, f.0.1, located_is_fault tokens f.0.0 f.0.1 short f.1)
 ]
 
 -- ---- one place
@@ -241,8 +251,8 @@ title_as part h =
     let all : (rest : List Token) → part ++ rest ≡ Word (codes "EFG") ∷ whole_number 2 ∷ Word h.2.0 ∷ Text h.1 ∷ rest = λ rest. rw (h.3, h.2.2) refl in
     (h.1, λ rest. ap (parse_title Header (codes "EFG") 2) (all rest) ∙ title_again_so h.2.0 h.1 rest h.2.1)
 
-players_as : (part : List Token) (h : ArePlayers part) → ReadsAs (parse_names Players) part h.0
-players_as part h rest = ap (λ (q : List Token). parse_names Players (q ++ rest)) h.2 ∙ names_again_so h.0 rest h.1
+players_as : (part : List Token) (h : NamesPlayers part) → ReadsAs (parse_names Players) part h.0
+players_as part h rest = ap (λ (q : List Token). parse_names Players (q ++ rest)) h.1.1 ∙ names_again_so h.0 rest h.1.0
 
 -- the head is whole, whatever follows
 head_whole : (before rest : List Token) (h : IsAfterHead before) → (left : List Token) × (parse_head (before ++ rest) ≡ Ok (((title_as h.0 h.4).0, h.5.0), left))
@@ -349,18 +359,18 @@ few_after : (before : List Token) (h : IsAfterHead before) → BeginsFile before
 few_after before h b =
     let all : List Token = before ++ b.0 in
     let w = head_whole before b.0 h in
-    let read = head_some all ((b.1.title, b.1.players), b.3.nodes ++ []) (partial_front all all [] b.1 b.2 b.3 (sym (append-nil all)) (record { no_text = refl; no_list = refl })) in
+    let read = partial_front all all [] b.1 b.2 b.3 (sym (append-nil all)) (record { no_text = refl; no_list = refl }) in
     let same : length b.1.players ≡ length h.5.0 = ap (λ (z : Head × List Token). length z.0.1) (ok_same ((b.1.title, b.1.players), b.3.nodes ++ []) (((title_as h.0 h.4).0, h.5.0), w.0) (sym read ∙ w.1)) in
     subst (λ (n : ℕ). n < 2 ^ 32) same b.3.describe.partial.few_players
 
 -- after the head reading stops at the place of a fault
-inner_run : (tokens : List Token) (kind : EfgKind) (rest : List Token) (f : IsFaultFrom tokens kind rest) → IsAfterHead f.before → (own : EfgKind) × (parse_tree tokens ≡ Err (own, rest)) × IsKind own f.before rest
-unfolding parse_tree
-inner_run tokens kind rest f h = elim (result_of (parse_tree tokens)) [
-  | inl y ↦ absurd (file_is_faultless tokens kind rest (y.0, few_is_file tokens y.0 few y.1) f)
+inner_run : (tokens : List Token) (kind : EfgKind) (rest : List Token) (f : IsFaultFrom tokens kind rest) → IsAfterHead f.before → (own : EfgKind) × (located_tree tokens ≡ Err (own, rest)) × IsKind own f.before rest
+unfolding located_tree
+inner_run tokens kind rest f h = elim (result_of (located_tree tokens)) [
+  | inl y ↦ absurd (file_is_faultless tokens kind rest (y.0, few_is_file tokens y.0 few (tree_read_back tokens y.0 y.1)) f)
   | inr g ↦ elim (bind_err (parse_head tokens) _ g.0 g.1) [
     | inl e ↦ absurd (ok_err _ g.0 (sym head ∙ e))
-    | inr a ↦ elim (bind_err (in_nodes (parse_all_nodes (length a.0.0.1) a.0.1)) _ g.0 a.2) [
+    | inr a ↦ elim (bind_err (in_located (located_all_nodes (length a.0.0.1) a.0.1)) _ g.0 a.2) [
       | inl e ↦
           let s = inner_stop tokens a.0 g.0.0 g.0.1 (few a.0 a.1) a.1 g.1 e in
           let place : g.0.1 ≡ rest = one_place tokens g.0.0 kind g.0.1 rest s f in
@@ -390,7 +400,7 @@ only_node Trailing before rest h n p = absurd (n.0.1 h)
 only_node own before rest h n p = absurd (n.2 own h)
 
 -- the kind is the one that reading names
-kind_told : (kind own : EfgKind) (before : List Token) (t : Token) (r : List Token) → IsKind kind before (t ∷ r) → part_of kind ≡ Node → IsKind own before (t ∷ r) → part_of own ≡ Node → parse_tree (before ++ t ∷ r) ≡ Err (own, t ∷ r) → own ≡ kind
+kind_told : (kind own : EfgKind) (before : List Token) (t : Token) (r : List Token) → IsKind kind before (t ∷ r) → part_of kind ≡ Node → IsKind own before (t ∷ r) → part_of own ≡ Node → located_tree (before ++ t ∷ r) ≡ Err (own, t ∷ r) → own ≡ kind
 kind_told Header own before t r h p k o e = cc
 kind_told Players own before t r h p k o e = cc
 kind_told Unfinished own before t r h p k o e = cc
@@ -403,7 +413,7 @@ inner_same : (tokens : List Token) (kind other : EfgKind) (rest : List Token) (f
 inner_same tokens kind other [] f g p q = absurd ((inner_after kind f.before [] f.stops f.is_kind p).1 refl)
 inner_same tokens kind other (t ∷ r) f g p q =
     let run = inner_run tokens kind (t ∷ r) f (inner_after kind f.before (t ∷ r) f.stops f.is_kind p).0 in
-    let e : parse_tree (f.before ++ t ∷ r) ≡ Err (run.0, t ∷ r) = ap parse_tree (sym f.are_tokens) ∙ run.1 in
+    let e : located_tree (f.before ++ t ∷ r) ≡ Err (run.0, t ∷ r) = ap located_tree (sym f.are_tokens) ∙ run.1 in
     let o : part_of run.0 ≡ Node = sym (part_told run.0 f.before (t ∷ r) f.stops run.2) ∙ part_told kind f.before (t ∷ r) f.stops f.is_kind ∙ p in
     sym (kind_told kind run.0 f.before t r f.is_kind p run.2 o e) ∙ kind_told other run.0 f.before t r g q run.2 o e
 

@@ -1,19 +1,14 @@
 -- What is read of a whole file is what its tokens stand for.
-use Rattle.std.proofs.Common.{◌≡◌, ℕ, ◌<◌, ◌^◌, List, [], ◌∷◌, ◌++◌, length, Option, Some, None, Result, Ok, Err, refl, sym, ap, ap₂, ◌∙◌, subst, append_assoc}
+use Rattle.std.proofs.Common.{◌≡◌, ℕ, ◌<◌, ◌^◌, List, [], ◌∷◌, ◌++◌, length, Option, Some, Result, Ok, Err, inl, inr, refl, sym, ap, ap₂, ◌∙◌, subst, append_assoc}
 use Rattle.std.proofs.lemmas.List.{append-nil}
-use Rattle.std.specs.Prelude.{codes}
 use Rattle.game_core.specs.declared.too_large.What.{What}
 use Rattle.game_core.specs.Tree.{GameTree, OpenBranch}
-use Rattle.file_parts.specs.Parts.{whole_number, braced_texts}
 use Rattle.file_parts.specs.Reading.{optional_text_at, after_text}
-use Rattle.file_parts.proofs.ValueLemmas.{names_at, title_at}
-use Rattle.file_parts.proofs.TokenLaws.{names_is, names_again, comment_is, over_comment}
-use Rattle.file_parts.proofs.HeaderLaws.{title_is, title_again}
 use Rattle.written_trees.specs.Written.{WrittenNode}
 use Rattle.written_trees.specs.Building.{PartialTree, root_alone, passed, tree_so_far, open_branches}
 use Rattle.written_trees.specs.Laws.{PassesAt, IsBuilt}
-use Rattle.tree_grammar.specs.TreeFile.{IsFront, IsPartialFile, IsTreeFile, PassesLimit}
-use Rattle.tree_grammar.specs.TreeReading.{Head, front_at, whole_nodes_at}
+use Rattle.tree_grammar.specs.TreeFile.{IsPartialFile, IsTreeFile, PassesLimit}
+use Rattle.tree_grammar.specs.TreeParsing.{Head, NodeStop, parse_head, parse_all_nodes}
 use Rattle.written_trees.proofs.BuiltTreeLemmas.{built_is_so}
 use Rattle.written_trees.proofs.LimitLemmas.{limits_are_so}
 use Rattle.written_trees.proofs.DescribedTreeLemmas.{described_is_so}
@@ -21,45 +16,12 @@ use Rattle.written_trees.proofs.SoundTreeLemmas.{sound}
 use Rattle.tree_grammar.proofs.FileStatementLemmas.{ReadIsFile, MetIsPassed, NoFrontIsNothing, NoNodesAreNothing, OneTree, NotPassed, OneLimit}
 use Rattle.tree_grammar.proofs.SetLaws.{IsBare}
 use Rattle.tree_grammar.proofs.NodeLaws.{beginning_is}
-use Rattle.tree_grammar.proofs.NodesLaws.{BeginsWithNodes, nodes_bare, whole_again, all_written, whole_nodes_are, whole_nodes_met, whole_nodes_again, whole_nodes_stop}
-use Rattle.std.proofs.lemmas.Option.{same_Some}
-use Rattle.lists.proofs.OptionLemmas.{bind_some}
+use Rattle.tree_grammar.proofs.NodesLaws.{BeginsWithNodes, nodes_bare, whole_again, all_written}
+use Rattle.tree_grammar.proofs.NodesReadLaws.{all_nodes_are, all_nodes_met, all_nodes_again, all_nodes_beyond}
+use Rattle.tree_grammar.proofs.HeadLaws.{head_is, head_again}
+use Rattle.file_parts.proofs.ReaderLemmas.{ok_same, ok_err}
 use Rattle.game_core.specs.declared.token.Token.{Token}
 use Rattle.game_core.specs.declared.token.Token.TheVariants.{Text, Word}
-
--- ---- the front
--- the front's tokens come first
-abbrev pub BeginsWithFront : List Token → Head × List Token → Type 0
-BeginsWithFront tokens x = (front : List Token) × IsFront front x.0.0 x.0.1 × (tokens ≡ front ++ x.1)
-
--- what is read up to the nodes is a front
-front_is : (tokens : List Token) (x : Head × List Token) → front_at tokens ≡ Some x → BeginsWithFront tokens x
-unfolding front_at
-front_is tokens x e =
-    let a = bind_some (title_at (codes "EFG") 2 tokens) _ x e in
-    let b = bind_some (names_at a.0.1) _ x a.2 in
-    let t = title_is (codes "EFG") 2 tokens a.0 a.1 in
-    let p = names_is a.0.1 b.0 b.1 in
-    let c = comment_is b.0.1 in
-    let rest : List Token = after_text b.0.1 in
-    let header : List Token = Word (codes "EFG") ∷ whole_number 2 ∷ Word t.0 ∷ [] in
-    let players : List Token = braced_texts b.0.0 in
-    let following : a.0.1 ≡ (players ++ c.0) ++ rest = p.1 ∙ ap (λ (r : List Token). players ++ r) c.2 ∙ sym (append_assoc players c.0 rest) in
-    let front : List Token = header ++ (Text a.0.0 ∷ (players ++ c.0)) in
-    let is : IsFront front a.0.0 b.0.0 = record { header = header; is_header = (t.0, t.1, refl); some_player = p.0; comment = c.0; is_comment = c.1; is_front = refl } in
-    subst (BeginsWithFront tokens) (same_Some _ _ b.2) (front, is, t.2 ∙ ap (λ (r : List Token). header ++ (Text a.0.0 ∷ r)) following)
-
--- a front is read
-front_again : (front rest : List Token) (title : List ℕ) (players : List (List ℕ)) → IsFront front title players → after_text rest ≡ rest → front_at (front ++ rest) ≡ Some ((title, players), rest)
-unfolding front_at
-front_again front rest title players f bare =
-    let h = f.is_header in
-    let names : List Token = braced_texts players in
-    let tokens : front ++ rest ≡ Word (codes "EFG") ∷ whole_number 2 ∷ Word h.0 ∷ Text title ∷ (names ++ (f.comment ++ rest)) =
-    rw (f.is_front, h.2) (ap (λ (r : List Token). Word (codes "EFG") ∷ whole_number 2 ∷ Word h.0 ∷ Text title ∷ r) (append_assoc names f.comment rest)) in
-    let t = title_again (codes "EFG") 2 h.0 title (names ++ (f.comment ++ rest)) h.1 in
-    let p = names_again players (f.comment ++ rest) f.some_player in
-    rw (tokens, t, p, over_comment f.comment rest f.is_comment bare) refl
 
 -- ---- what was read is a file
 -- a file that is partial comes first
@@ -67,25 +29,25 @@ abbrev pub BeginsWithFile : List Token → Head → PartialTree × List Token �
 BeginsWithFile tokens head y = (partial : List Token) × IsPartialFile partial (tree_so_far head.0 head.1 y.0) (open_branches y.0.branchings) × (tokens ≡ partial ++ y.1)
 
 -- a front and nodes after it begin a file
-pub partial_is : (tokens : List Token) (x : Head × List Token) (y : PartialTree × List Token) → length x.0.1 < 2 ^ 32 → front_at tokens ≡ Some x → BeginsWithNodes (length x.0.1) root_alone x.1 y → BeginsWithFile tokens x.0 y
+pub partial_is : (tokens : List Token) (x : Head × List Token) (y : PartialTree × List Token) → length x.0.1 < 2 ^ 32 → parse_head tokens ≡ Ok x → BeginsWithNodes (length x.0.1) root_alone x.1 y → BeginsWithFile tokens x.0 y
 partial_is tokens x y few e n =
-    let f = front_is tokens x e in
-    let is : IsPartialFile (f.0 ++ n.nodes) (tree_so_far x.0.0 x.0.1 y.0) (open_branches y.0.branchings) = record {
-      front = f.0;
-      is_front = f.1;
+    let f = head_is tokens x e in
+    let is : IsPartialFile (f.front ++ n.nodes) (tree_so_far x.0.0 x.0.1 y.0) (open_branches y.0.branchings) = record {
+      front = f.front;
+      is_front = f.is_front;
       written = n.written;
       nodes = n.nodes;
       are_nodes = n.are_nodes;
       describe = built_is_so x.0.0 x.0.1 n.written y.0 few (all_written (length x.0.1) n.nodes n.written n.are_nodes) n.added;
       are_tokens = refl;
     } in
-    (f.0 ++ n.nodes, is, f.2 ∙ ap (λ (r : List Token). f.0 ++ r) n.is ∙ sym (append_assoc f.0 n.nodes y.1))
+    (f.front ++ n.nodes, is, f.is ∙ ap (λ (r : List Token). f.front ++ r) n.is ∙ sym (append_assoc f.front n.nodes y.1))
 
 -- what is read is a file of the tree
 pub read_is_file : ReadIsFile
 read_is_file tokens x partial few front nodes =
     let t = tree_so_far x.0.0 x.0.1 partial in
-    let n = whole_nodes_are (length x.0.1) x.1 partial nodes in
+    let n = all_nodes_are (length x.0.1) x.1 partial nodes in
     let f = partial_is tokens x (partial, []) few front n.0 in
     let same : f.0 ≡ tokens = sym (f.2 ∙ append-nil f.0) in
     subst (λ (all : List Token). IsTreeFile all t) same (subst (λ (free : List OpenBranch). IsPartialFile f.0 t free) n.1 f.1)
@@ -93,7 +55,7 @@ read_is_file tokens x partial few front nodes =
 -- a limit that is met is passed
 pub met_is_passed : MetIsPassed
 met_is_passed tokens x what few front nodes =
-    let b = whole_nodes_met (length x.0.1) x.1 what nodes in
+    let b = all_nodes_met (length x.0.1) x.1 what nodes in
     let f = partial_is tokens x b.x few front b.nodes in
     let word = beginning_is b.x.1 b.begins in
     record {
@@ -115,31 +77,31 @@ bare_after (Text text ∷ tokens) = refl
 bare_after _ = refl
 
 -- the front of a file that is partial is read
-pub partial_front : (tokens partial rest : List Token) (t : GameTree) (free : List OpenBranch) (f : IsPartialFile partial t free) → tokens ≡ partial ++ rest → IsBare rest → front_at tokens ≡ Some ((t.title, t.players), f.nodes ++ rest)
+pub partial_front : (tokens partial rest : List Token) (t : GameTree) (free : List OpenBranch) (f : IsPartialFile partial t free) → tokens ≡ partial ++ rest → IsBare rest → parse_head tokens ≡ Ok ((t.title, t.players), f.nodes ++ rest)
 partial_front tokens partial rest t free f e bare =
     let all : tokens ≡ f.front ++ (f.nodes ++ rest) = e ∙ ap (λ (r : List Token). r ++ rest) f.are_tokens ∙ append_assoc f.front f.nodes rest in
     let no_text = (nodes_bare (length t.players) f.nodes rest f.written f.are_nodes bare).no_text in
     let following : after_text (f.nodes ++ rest) ≡ f.nodes ++ rest = sym (bare_after (f.nodes ++ rest)) ∙ ap (λ (y : Option (List ℕ) × List Token). y.1) no_text in
-    rw all (front_again f.front (f.nodes ++ rest) t.title t.players f.is_front following)
+    rw all (head_again f.front (f.nodes ++ rest) t.title t.players f.is_front following)
 
 -- the front of a tree's file
-pub tree_front : (tokens : List Token) (t : GameTree) (f : IsTreeFile tokens t) → front_at tokens ≡ Some ((t.title, t.players), f.nodes ++ [])
+pub tree_front : (tokens : List Token) (t : GameTree) (f : IsTreeFile tokens t) → parse_head tokens ≡ Ok ((t.title, t.players), f.nodes ++ [])
 tree_front tokens t f = partial_front tokens tokens [] t [] f (sym (append-nil tokens)) (record { no_text = refl; no_list = refl })
 
 -- the front of a file that passes a limit
-passed_front : (tokens : List Token) (what : What) (p : PassesLimit tokens what) → front_at tokens ≡ Some ((p.tree.title, p.tree.players), p.is_partial.nodes ++ (Word p.word ∷ p.rest))
+passed_front : (tokens : List Token) (what : What) (p : PassesLimit tokens what) → parse_head tokens ≡ Ok ((p.tree.title, p.tree.players), p.is_partial.nodes ++ (Word p.word ∷ p.rest))
 passed_front tokens what p = partial_front tokens p.partial (Word p.word ∷ p.rest) p.tree p.free p.is_partial p.are_tokens (record { no_text = refl; no_list = refl })
 
 -- tokens of which no front is read stand for nothing
 pub no_front_is_nothing : NoFrontIsNothing
-no_front_is_nothing tokens e = record { no_tree = λ t f. let read = tree_front tokens t f in cc; no_limit = λ what p. let read = passed_front tokens what p in cc }
+no_front_is_nothing tokens fault e = record { no_tree = λ t f. absurd (ok_err _ fault (sym (tree_front tokens t f) ∙ e)); no_limit = λ what p. absurd (ok_err _ fault (sym (passed_front tokens what p) ∙ e)) }
 
 -- what is read of a tree's file
 pub record IsRead (tokens : List Token) (t : GameTree) : Type 0 where
   pub x : Head × List Token
-  pub is_front : front_at tokens ≡ Some x
+  pub is_front : parse_head tokens ≡ Ok x
   pub partial : PartialTree
-  pub are_nodes : whole_nodes_at (length x.0.1) x.1 ≡ Ok partial
+  pub are_nodes : parse_all_nodes (length x.0.1) x.1 ≡ Ok partial
   pub tree_is : t ≡ tree_so_far x.0.0 x.0.1 partial
 
 -- a tree's file is read
@@ -151,15 +113,15 @@ tree_read tokens t f =
       x = ((t.title, t.players), f.nodes ++ []);
       is_front = tree_front tokens t f;
       partial = built.partial;
-      are_nodes = whole_nodes_again (length t.players) built.partial f.nodes f.written f.are_nodes built.is_built whole;
+      are_nodes = all_nodes_again (length t.players) built.partial f.nodes f.written f.are_nodes built.is_built whole;
       tree_is = built.tree_is;
     }
 
 -- what is read of a file that passes a limit
 record IsStopped (tokens : List Token) (what : What) : Type 0 where
   x : Head × List Token
-  is_front : front_at tokens ≡ Some x
-  is_met : whole_nodes_at (length x.0.1) x.1 ≡ Err (Some what)
+  is_front : parse_head tokens ≡ Ok x
+  is_met : parse_all_nodes (length x.0.1) x.1 ≡ Err (inr what)
 
 -- what passes by the tree passes by what was built
 limit_built : (written : List WrittenNode) (t : GameTree) (free : List OpenBranch) (what : What) (built : IsBuilt written t free) → PassesAt t free what → passed built.partial ≡ Some what
@@ -179,19 +141,19 @@ stop_read tokens what p =
     record {
       x = ((t.title, t.players), f.nodes ++ following);
       is_front = passed_front tokens what p;
-      is_met = whole_nodes_stop (length t.players) built.partial f.nodes f.written p.word p.rest what f.are_nodes built.is_built p.is_word (limit_built f.written t p.free what built p.passes);
+      is_met = all_nodes_beyond (length t.players) built.partial f.nodes f.written p.word p.rest what f.are_nodes built.is_built p.is_word (limit_built f.written t p.free what built p.passes);
     }
 
 -- ---- tokens stand for one thing at most
 -- one reading gives one answer
-one_answer : (tokens : List Token) (x y : Head × List Token) (r s : Result PartialTree (Option What)) → front_at tokens ≡ Some x → front_at tokens ≡ Some y → whole_nodes_at (length x.0.1) x.1 ≡ r → whole_nodes_at (length y.0.1) y.1 ≡ s → r ≡ s
-one_answer tokens x y r s e f g h = sym g ∙ ap (λ (z : Head × List Token). whole_nodes_at (length z.0.1) z.1) (same_Some x y (sym e ∙ f)) ∙ h
+one_answer : (tokens : List Token) (x y : Head × List Token) (r s : Result PartialTree NodeStop) → parse_head tokens ≡ Ok x → parse_head tokens ≡ Ok y → parse_all_nodes (length x.0.1) x.1 ≡ r → parse_all_nodes (length y.0.1) y.1 ≡ s → r ≡ s
+one_answer tokens x y r s e f g h = sym g ∙ ap (λ (z : Head × List Token). parse_all_nodes (length z.0.1) z.1) (ok_same x y (sym e ∙ f)) ∙ h
 
 -- tokens of which no nodes are read stand for nothing
 pub no_nodes_are_nothing : NoNodesAreNothing
-no_nodes_are_nothing tokens x front none = record {
-  no_tree = λ t f. let r = tree_read tokens t f in let same = one_answer tokens x r.x (Err None) (Ok r.partial) front r.is_front none r.are_nodes in cc;
-  no_limit = λ what p. let s = stop_read tokens what p in let same = one_answer tokens x s.x (Err None) (Err (Some what)) front s.is_front none s.is_met in cc;
+no_nodes_are_nothing tokens x fault front none = record {
+  no_tree = λ t f. let r = tree_read tokens t f in let same = one_answer tokens x r.x (Err (inl fault)) (Ok r.partial) front r.is_front none r.are_nodes in cc;
+  no_limit = λ what p. let s = stop_read tokens what p in let same = one_answer tokens x s.x (Err (inl fault)) (Err (inr what)) front s.is_front none s.is_met in cc;
 }
 
 -- tokens stand for one tree at most
@@ -199,7 +161,7 @@ pub one_tree : OneTree
 one_tree tokens one other f g =
     let r = tree_read tokens one f in
     let s = tree_read tokens other g in
-    let fronts : r.x ≡ s.x = same_Some r.x s.x (sym r.is_front ∙ s.is_front) in
+    let fronts : r.x ≡ s.x = ok_same r.x s.x (sym r.is_front ∙ s.is_front) in
     let nodes : r.partial ≡ s.partial = let same = one_answer tokens r.x s.x (Ok r.partial) (Ok s.partial) r.is_front s.is_front r.are_nodes s.are_nodes in cc in
     r.tree_is ∙ ap₂ (λ (x : Head × List Token) (b : PartialTree). tree_so_far x.0.0 x.0.1 b) fronts nodes ∙ sym s.tree_is
 
@@ -208,7 +170,7 @@ pub not_passed : NotPassed
 not_passed tokens t what f p =
     let r = tree_read tokens t f in
     let s = stop_read tokens what p in
-    let same = one_answer tokens r.x s.x (Ok r.partial) (Err (Some what)) r.is_front s.is_front r.are_nodes s.is_met in
+    let same = one_answer tokens r.x s.x (Ok r.partial) (Err (inr what)) r.is_front s.is_front r.are_nodes s.is_met in
     cc
 
 -- tokens pass one limit at most
@@ -216,5 +178,5 @@ pub one_limit : OneLimit
 one_limit tokens one other p q =
     let r = stop_read tokens one p in
     let s = stop_read tokens other q in
-    let same = one_answer tokens r.x s.x (Err (Some one)) (Err (Some other)) r.is_front s.is_front r.is_met s.is_met in
+    let same = one_answer tokens r.x s.x (Err (inr one)) (Err (inr other)) r.is_front s.is_front r.is_met s.is_met in
     cc

@@ -1,115 +1,38 @@
--- The title and the players are read, and where their reading stops the tokens so far begin a file, and no more of them do.
-use Rattle.std.proofs.Common.{◌≡◌, ℕ, suc, ◌+◌, ◌<◌, ◌≤◌, ◌^◌, nat_eq, List, [], ◌∷◌, ◌++◌, length, map, false, Some, inl, inr, refl, sym, ap, ◌∙◌, subst, append_assoc, length-append, arith}
+-- Where the reading of the title and the players stops, the tokens so far begin a file, and no more of them do.
+use Rattle.std.proofs.Common.{◌≡◌, ℕ, suc, ◌+◌, ◌<◌, ◌≤◌, ◌^◌, nat_eq, List, [], ◌∷◌, ◌++◌, length, map, inl, inr, refl, sym, ap, ◌∙◌, subst, append_assoc, length-append, arith}
 use Rattle.std.proofs.lemmas.List.{append-nil, length-map, map-append}
 use Rattle.std.specs.Prelude.{Ok, Err, codes}
 use Rattle.game_core.specs.declared.token.Token.{Token}
-use Rattle.game_core.specs.declared.token.Token.TheVariants.{Left, Right, Text, Word}
-use Rattle.file_parts.specs.Parts.{whole_number, braced_texts, IsLetter, IsComment}
+use Rattle.game_core.specs.declared.token.Token.TheVariants.{Left, Right, Text}
+use Rattle.file_parts.specs.Parts.{braced_texts}
 use Rattle.file_parts.specs.Reading.{right_at, texts_at, after_text}
-use Rattle.file_parts.proofs.ValueLemmas.{names_at, title_at}
 use Rattle.file_parts.specs.Parsing.{Parsed, ◌>>=◌, passed, parse_title, parse_names}
-use Rattle.file_parts.proofs.HeaderLaws.{title_is, title_again}
+use Rattle.file_parts.proofs.HeaderLaws.{title_is}
 use Rattle.file_parts.proofs.PartReaderLemmas.{title_reader, names_reader}
-use Rattle.file_parts.proofs.ReaderLemmas.{chain, bind_ok, bind_err, ok_same, err_same, ok_err, same_front, cut}
-use Rattle.file_parts.proofs.TokenLaws.{names_is, names_again, texts_is}
-use Rattle.file_parts.proofs.ValueLemmas.{value, value_some, value_chain, value_title, value_names}
+use Rattle.file_parts.proofs.ReaderLemmas.{chain, bind_err, err_same, ok_err, same_front, cut}
+use Rattle.file_parts.proofs.TokenLaws.{texts_is}
+use Rattle.file_parts.proofs.ValueLemmas.{value, value_title}
 use Rattle.written_trees.specs.Building.{root_alone, tree_so_far, open_branches}
-use Rattle.tree_grammar.specs.TreeFile.{IsFront, IsPartialFile}
-use Rattle.tree_grammar.specs.TreeReading.{Head, front_at}
-use Rattle.tree_grammar.specs.TreeParsing.{has_text, parse_head}
-use Rattle.tree_grammar.specs.TreeFaults.{BeginsFile, CannotCome}
+use Rattle.tree_grammar.specs.TreeFile.{IsPartialFile}
+use Rattle.tree_grammar.specs.TreeParsing.{Head, parse_head}
+use Rattle.file_parts.specs.Faults.{CannotCome as CannotComeIn}
+use Rattle.tree_grammar.specs.TreeFaults.{IsFile, BeginsFile}
 use Rattle.tree_grammar.specs.declared.kinds.EfgKind.{EfgKind}
 use Rattle.tree_grammar.specs.declared.kinds.EfgKind.TheVariants.{Header, Players}
 use Rattle.tree_grammar.proofs.FileLaws.{partial_is, partial_front, tree_front}
 use Rattle.tree_grammar.proofs.NodesLaws.{none_more}
+use Rattle.tree_grammar.proofs.HeadLaws.{names_again_so}
 use Rattle.std.proofs.lemmas.Bool.{cases_Bool}
 
--- ---- the values
-pub value_head : (tokens : List Token) → value (parse_head tokens) ≡ front_at tokens
-unfolding parse_head front_at
-value_head tokens =
-    value_chain (parse_title Header (codes "EFG") 2 tokens) (title_at (codes "EFG") 2 tokens) _ _ (value_title Header (codes "EFG") 2 tokens) (λ title.
-    value_chain (parse_names Players title.1) (names_at title.1) _ _ (value_names Players title.1) (λ players. refl))
-
-pub head_some : (tokens : List Token) (x : Head × List Token) → front_at tokens ≡ Some x → parse_head tokens ≡ Ok x
-head_some tokens x e = value_some (parse_head tokens) x (value_head tokens ∙ e)
-
-pub head_front : (tokens : List Token) (x : Head × List Token) → parse_head tokens ≡ Ok x → front_at tokens ≡ Some x
-head_front tokens x e = sym (value_head tokens) ∙ ap value e
-
--- ---- a head that is read
--- a comment that may come
-record HasTail (tokens : List Token) : Type 0 where
-  pub comment : List Token
-  pub is_comment : IsComment comment
-  pub is : tokens ≡ comment ++ after_text tokens
-  pub again : (more : List Token) → has_text more ≡ has_text (after_text tokens) → after_text (comment ++ more) ≡ more
-
-no_text_after : (more : List Token) → has_text more ≡ false → after_text more ≡ more
-no_text_after (Text text ∷ more) e = cc
-no_text_after _ e = refl
-
-tail_is : (tokens : List Token) → HasTail tokens
-tail_is (Text text ∷ rest) = record { comment = Text text ∷ []; is_comment = inr (text, refl); is = refl; again = λ more h. refl }
-tail_is _ = record { comment = []; is_comment = inl refl; is = refl; again = λ more h. no_text_after more h }
-
--- a title, and what follows it
-pub title_again_so : (letter title : List ℕ) (rest : List Token) → IsLetter letter → parse_title Header (codes "EFG") 2 (Word (codes "EFG") ∷ whole_number 2 ∷ Word letter ∷ Text title ∷ rest) ≡ Ok (title, rest)
-title_again_so letter title rest h = value_some (parse_title Header (codes "EFG") 2 _) (title, rest) (value_title Header (codes "EFG") 2 _ ∙ title_again (codes "EFG") 2 letter title rest h)
-
--- players, and what follows them
-pub names_again_so : (players : List (List ℕ)) (rest : List Token) → 1 ≤ length players → parse_names Players (braced_texts players ++ rest) ≡ Ok (players, rest)
-names_again_so players rest h = value_some (parse_names Players (braced_texts players ++ rest)) (players, rest) (value_names Players (braced_texts players ++ rest) ∙ names_again players rest h)
-
--- The head comes first, and is read whatever follows, unless a text follows here and not there.
-pub record ReadsHead (tokens : List Token) (x : Head × List Token) : Type 0 where
-  pub front : List Token
-  pub is_front : IsFront front x.0.0 x.0.1
-  pub is : tokens ≡ front ++ x.1
-  pub again : (more : List Token) → has_text more ≡ has_text x.1 → parse_head (front ++ more) ≡ Ok (x.0, more)
-  pub few : length x.0.1 ≤ length tokens
-
-pub head_is : (tokens : List Token) (x : Head × List Token) → parse_head tokens ≡ Ok x → ReadsHead tokens x
-unfolding parse_head
-head_is tokens x e =
-    let a = bind_ok (parse_title Header (codes "EFG") 2 tokens) _ x e in
-    let b = bind_ok (parse_names Players a.0.1) _ x a.2 in
-    let t = title_is (codes "EFG") 2 tokens a.0 (sym (value_title Header (codes "EFG") 2 tokens) ∙ ap value a.1) in
-    let p = names_is a.0.1 b.0 (sym (value_names Players a.0.1) ∙ ap value b.1) in
-    let c = tail_is b.0.1 in
-    let names : List Token = braced_texts b.0.0 in
-    let rest : List Token = after_text b.0.1 in
-    let header : List Token = Word (codes "EFG") ∷ whole_number 2 ∷ Word t.0 ∷ [] in
-    let front : List Token = header ++ (Text a.0.0 ∷ (names ++ c.comment)) in
-    let following : a.0.1 ≡ (names ++ c.comment) ++ rest = p.1 ∙ ap (λ (r : List Token). names ++ r) c.is ∙ sym (append_assoc names c.comment rest) in
-    let size : length b.0.0 ≤ length tokens = few_names tokens a.0.1 b.0.1 a.0.0 t.0 b.0.0 t.2 p.1 in
-    let here : ReadsHead tokens ((a.0.0, b.0.0), rest) = record {
-      front = front;
-      is_front = record { header = header; is_header = (t.0, t.1, refl); some_player = p.0; comment = c.comment; is_comment = c.is_comment; is_front = refl };
-      is = t.2 ∙ ap (λ (r : List Token). header ++ (Text a.0.0 ∷ r)) following;
-      again = λ more h. again_so t.0 a.0.0 b.0.0 c.comment more t.1 p.0 (c.again more h);
-      few = size;
-    } in
-    subst (ReadsHead tokens) (ok_same ((a.0.0, b.0.0), rest) x b.2) here
-  where
-    again_so : (letter title : List ℕ) (players : List (List ℕ)) (comment more : List Token) → IsLetter letter → 1 ≤ length players → after_text (comment ++ more) ≡ more
-        → parse_head (Word (codes "EFG") ∷ whole_number 2 ∷ Word letter ∷ Text title ∷ ((braced_texts players ++ comment) ++ more)) ≡ Ok ((title, players), more)
-    again_so letter title players comment more l some h =
-        let all : (braced_texts players ++ comment) ++ more ≡ braced_texts players ++ (comment ++ more) = append_assoc (braced_texts players) comment more in
-        rw (all, title_again_so letter title (braced_texts players ++ (comment ++ more)) l, names_again_so players (comment ++ more) some, h) refl
-
-    few_names : (tokens following rest : List Token) (title letter : List ℕ) (players : List (List ℕ)) → tokens ≡ Word (codes "EFG") ∷ whole_number 2 ∷ Word letter ∷ Text title ∷ following → following ≡ braced_texts players ++ rest → length players ≤ length tokens
-    few_names tokens following rest title letter players e f =
-        let inner : length (map Text players ++ Right ∷ []) ≡ length players + 1 = length-append (map Text players) (Right ∷ []) ∙ ap (λ (n : ℕ). n + 1) (length-map players Text) in
-        let names : length following ≡ suc (length players + 1) + length rest = ap length f ∙ length-append (braced_texts players) rest ∙ ap (λ (n : ℕ). suc n + length rest) inner in
-        let all : length tokens ≡ suc (suc (suc (suc (length following)))) = ap length e in
-        omega (arith, names, all)
+-- what comes cannot come in a file of a tree
+abbrev pub CannotCome : List Token → List Token → Type 0
+CannotCome = CannotComeIn IsFile BeginsFile
 
 -- ---- beginning a file
 -- with more tokens the head and whole nodes are read
 pub begins_by : (before more : List Token) (x : Head × List Token) → parse_head (before ++ more) ≡ Ok x → length x.0.1 < 2 ^ 32 → x.1 ≡ [] → BeginsFile before
 begins_by before more x e few none =
-    let f = partial_is (before ++ more) (x.0, []) (root_alone, []) few (head_front (before ++ more) (x.0, []) (e ∙ ap (λ (r : List Token). Ok (x.0, r)) none)) (none_more (length x.0.1) root_alone []) in
+    let f = partial_is (before ++ more) (x.0, []) (root_alone, []) few (e ∙ ap (λ (r : List Token). Ok (x.0, r)) none) (none_more (length x.0.1) root_alone []) in
     let same : f.0 ≡ before ++ more = sym (f.2 ∙ append-nil f.0) in
     (more, tree_so_far x.0.0 x.0.1 root_alone, open_branches root_alone.branchings, subst (λ (all : List Token). IsPartialFile all (tree_so_far x.0.0 x.0.1 root_alone) (open_branches root_alone.branchings)) same f.1)
 
@@ -117,12 +40,12 @@ begins_by before more x e few none =
 -- what comes where the head stops cannot come
 pub head_cannot : (before rest : List Token) (kind : EfgKind) → ((t : Token) (r more : List Token) → rest ≡ t ∷ r → parse_head (before ++ t ∷ more) ≡ Err (kind, t ∷ more)) → (rest ≡ [] → parse_head before ≡ Err (kind, [])) → CannotCome before rest
 head_cannot before [] kind stays ends = λ f.
-    let read = head_some before _ (tree_front before f.0 f.1) in
+    let read = tree_front before f.0 f.1 in
     absurd (ok_err _ (kind, []) (sym read ∙ ends refl))
 head_cannot before (t ∷ rest) kind stays ends = λ b.
     let file = b.3 in
     let tokens : List Token = (before ++ t ∷ []) ++ b.0 in
-    let read = head_some tokens _ (partial_front tokens tokens [] b.1 b.2 file (sym (append-nil tokens)) (record { no_text = refl; no_list = refl })) in
+    let read = partial_front tokens tokens [] b.1 b.2 file (sym (append-nil tokens)) (record { no_text = refl; no_list = refl }) in
     absurd (ok_err _ (kind, t ∷ b.0) (sym read ∙ ap parse_head (cut before t b.0) ∙ stays t rest b.0 refl))
 
 -- where reading stops before a token or at the end

@@ -8,12 +8,11 @@ use Rattle.game_core.specs.Spacing.{IsShortToken}
 use Rattle.file_parts.specs.declared.refusal.Refusal.{Refusal}
 use Rattle.file_parts.specs.declared.refusal.Refusal.TheVariants.{Unexpected}
 use Rattle.file_parts.specs.Parts.{whole_number}
-use Rattle.file_parts.specs.Reading.{whole_at, label_at}
+use Rattle.file_parts.specs.Reading.{whole_at, label_at, count_at}
 use Rattle.file_parts.specs.Parsing.{IsRefusal}
 use Rattle.file_parts.proofs.TokenLaws.{whole_is, label_again, le_passes}
 use Rattle.file_parts.proofs.TokenReaderLemmas.{some_or_none}
 use Rattle.written_trees.specs.Building.{PartialOutcome}
-use Rattle.tree_grammar.specs.TreeReading.{positive_at}
 use Rattle.tree_grammar.specs.TreeParsing.{parse_named, parse_outcome}
 use Rattle.tree_grammar.specs.declared.kinds.EfgKind.{EfgKind}
 use Rattle.tree_grammar.specs.declared.kinds.EfgKind.TheVariants.{Node}
@@ -30,16 +29,16 @@ label_fits tokens short = elim (some_or_none (whole_at tokens)) [
 ]
 
 -- ---- a number of at least 1
-pub positive_lacks : (tokens : List Token) → AllByRecursion IsShortToken tokens → label_at tokens ≡ None → positive_at tokens ≡ None
-unfolding positive_at
+pub positive_lacks : (tokens : List Token) → AllByRecursion IsShortToken tokens → label_at tokens ≡ None → count_at tokens ≡ None
+unfolding count_at
 positive_lacks tokens short e = rw (← label_fits tokens short, e) refl
 
-pub positive_so : (tokens rest : List Token) (n : ℕ) → AllByRecursion IsShortToken tokens → label_at tokens ≡ Some (n, rest) → 1 ≤ n → positive_at tokens ≡ Some (n, rest)
-unfolding positive_at
+pub positive_so : (tokens rest : List Token) (n : ℕ) → AllByRecursion IsShortToken tokens → label_at tokens ≡ Some (n, rest) → 1 ≤ n → count_at tokens ≡ Some (n, rest)
+unfolding count_at
 positive_so tokens rest n short e h = rw (← label_fits tokens short, e, le_passes 1 n h) refl
 
-pub positive_zero : (tokens rest : List Token) (n : ℕ) → AllByRecursion IsShortToken tokens → label_at tokens ≡ Some (n, rest) → n < 1 → positive_at tokens ≡ None
-unfolding positive_at
+pub positive_zero : (tokens rest : List Token) (n : ℕ) → AllByRecursion IsShortToken tokens → label_at tokens ≡ Some (n, rest) → n < 1 → count_at tokens ≡ None
+unfolding count_at
 positive_zero tokens rest n short e h = let no : nat_le 1 n ≡ false = grind (arith, nat_tests) in rw (← label_fits tokens short, e, no) refl
 
 pub ruleset positives = (positive_lacks, positive_so, positive_zero)

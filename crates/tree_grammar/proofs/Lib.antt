@@ -7,9 +7,11 @@ pub mod CompletedSumLemmas
 pub mod FaultLaws
 pub mod FileLaws
 pub mod FileStatementLemmas
+pub mod HeadLaws
 pub mod HeadLemmas
 pub mod KeptOutcomeLemmas
 pub mod LabelLemmas
+pub mod LocatedReadingLemmas
 pub mod MarkedLaws
 pub mod MarkedNodeLemmas
 pub mod MarkedReaderLemmas
@@ -20,11 +22,14 @@ pub mod NodePointLemmas
 pub mod NodeReaderLemmas
 pub mod NodeRunLemmas
 pub mod NodeStepLemmas
+pub mod NodeStopLemmas
 pub mod NodeValueLemmas
 pub mod NodesLaws
+pub mod NodesReadLaws
 pub mod OutcomeLaws
 pub mod OutcomeStepLemmas
 pub mod PartReaderLemmas
+pub mod PartValueLemmas
 pub mod PayoffListLemmas
 pub mod PointKindLemmas
 pub mod ProbabilityLemmas

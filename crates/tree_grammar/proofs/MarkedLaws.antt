@@ -1,93 +1,26 @@
 -- What is read up to a comma are nodes; nodes with a comma after them are read; and nodes stop where they stop up to a comma.
-use Rattle.std.proofs.Common.{◌≡◌, ℕ, zero, suc, ◌<◌, ◌≤◌, ◌+◌, nat_eq, List, [], ◌∷◌, ◌++◌, length, true, false, true≢false, Option, Some, None, ◌⊎◌, inl, inr, refl, sym, ap, ◌∙◌, subst, append_assoc, length-append, arith}
+use Rattle.std.proofs.Common.{◌≡◌, ℕ, zero, suc, ◌<◌, ◌≤◌, nat_eq, List, [], ◌∷◌, ◌++◌, length, true, false, true≢false, Some, ◌⊎◌, inl, inr, refl, sym, ap, ◌∙◌, subst, append_assoc, arith}
 use Rattle.std.proofs.lemmas.Bool.Decides.{nat_tests}
-use Rattle.std.specs.Prelude.{Result, Ok, Err}
-use Rattle.game_core.specs.declared.too_large.What.{What}
+use Rattle.std.specs.Prelude.{Ok, Err}
 use Rattle.game_core.specs.declared.token.Token.{Token}
 use Rattle.game_core.specs.declared.token.Token.TheVariants.{Comma}
 use Rattle.file_parts.specs.Parsing.{Parsed, ◌>>=◌}
 use Rattle.file_parts.proofs.ReaderLemmas.{bind_ok, bind_err, ok_same, err_same, ok_err}
-use Rattle.file_parts.proofs.ValueLemmas.{value, value_some}
 use Rattle.written_trees.specs.Written.{WrittenNode}
-use Rattle.written_trees.specs.Building.{PartialTree, Branching, add_node, add_nodes, passed}
+use Rattle.written_trees.specs.Building.{PartialTree, Branching, add_nodes}
 use Rattle.tree_grammar.specs.TreeFile.{IsNode, AreNodes}
-use Rattle.tree_grammar.specs.TreeReading.{begins_node, is_whole, within_limit, next_at, one_more_at, nodes_at, and_then}
-use Rattle.tree_grammar.specs.TreeParsing.{has_room, parse_next, parse_at, parse_nodes}
+use Rattle.tree_grammar.specs.TreeParsing.{is_whole}
 use Rattle.tree_grammar.specs.declared.kinds.EfgKind.{EfgKind}
 use Rattle.tree_grammar.specs.declared.kinds.EfgKind.TheVariants.{Node}
-use Rattle.tree_grammar.proofs.SetLaws.{IsBare}
 use Rattle.tree_grammar.proofs.NodeLaws.{node_written, node_begins}
-use Rattle.tree_grammar.proofs.NodesLaws.{BeginsWithNext, BeginsWithNodes, one_more_is, one_more_again, none_more, one_before, place_free, nodes_bare, parts_added, and_then_ok}
-use Rattle.tree_grammar.proofs.NodeValueLemmas.{Keeps, value_next, node_keeps}
+use Rattle.tree_grammar.proofs.NodesLaws.{BeginsWithNodes, none_more, one_before, nodes_bare, parts_added}
+use Rattle.tree_grammar.proofs.NodesReadLaws.{next_is, next_keeps, next_takes, next_again}
+use Rattle.tree_grammar.proofs.NodeValueLemmas.{Keeps, node_keeps}
 use Rattle.tree_grammar.proofs.PartReaderLemmas.{has_comma}
 use Rattle.tree_grammar.proofs.MarkedNodeLemmas.{mark_here, marked}
 use Rattle.std.proofs.lemmas.Option.{same_Some}
 use Rattle.std.proofs.lemmas.Bool.{cases_Bool}
-
--- ---- one more node
--- there is room where no limit is passed
-room_is : (limit : Option What) → has_room limit ≡ true → limit ≡ None
-room_is None e = refl
-room_is (Some what) e = absurd (true≢false (sym e))
-
-next_same : (players : ℕ) (partial : PartialTree) (b : Branching) (rest : List Branching) (tokens : List Token) (x : PartialTree × List Token) → partial.branchings ≡ b ∷ rest → Keeps players partial → parse_next players partial b rest tokens ≡ Ok x → next_at players partial tokens ≡ Some x
-next_same players partial b rest tokens x free k e = sym (value_next players partial b rest tokens free k) ∙ ap value e
-
-pub read_by : (players : ℕ) (partial : PartialTree) (branchings : List Branching) (tokens : List Token) (x : PartialTree × List Token) → partial.branchings ≡ branchings → Keeps players partial → parse_at players partial branchings tokens ≡ Ok x → one_more_at players partial tokens ≡ Ok x
-unfolding one_more_at
-read_by players partial [] tokens x free k e = absurd (ok_err x (Node, tokens) (sym e))
-read_by players partial (b ∷ rest) tokens x free k e = elim (cases_Bool (begins_node tokens)) [
-  | inl n ↦ elim (cases_Bool (has_room (passed partial))) [
-    | inl r ↦
-        let o : parse_next players partial b rest tokens ≡ Ok x = rw (n, r) at e in
-        rw (n, room_is (passed partial) r, next_same players partial b rest tokens x free k o) refl
-    | inr r ↦ let o : ◌≡◌ {A = Parsed EfgKind PartialTree} (Err (Node, tokens)) (Ok x) = rw (n, r) at e in absurd (ok_err x (Node, tokens) (sym o))
-  ]
-  | inr n ↦ let o : ◌≡◌ {A = Parsed EfgKind PartialTree} (Err (Node, tokens)) (Ok x) = rw n at e in absurd (ok_err x (Node, tokens) (sym o))
-]
-
--- what is read as a further node is one
-pub next_is : (players : ℕ) (partial : PartialTree) (tokens : List Token) (x : PartialTree × List Token) → Keeps players partial → parse_at players partial partial.branchings tokens ≡ Ok x → BeginsWithNext players partial tokens x
-next_is players partial tokens x k e = one_more_is players partial tokens x (read_by players partial partial.branchings tokens x refl k e)
-
--- so the tree keeps to its lists
-pub next_keeps : (players : ℕ) (partial : PartialTree) (tokens : List Token) (x : PartialTree × List Token) → Keeps players partial → BeginsWithNext players partial tokens x → Keeps players x.0
-next_keeps players partial tokens x k n = node_keeps players partial x.0 n.node (node_written players n.part n.node n.is_node) k n.added
-
--- and tokens are taken
-pub next_takes : (players : ℕ) (partial : PartialTree) (tokens : List Token) (x : PartialTree × List Token) → BeginsWithNext players partial tokens x → length x.1 < length tokens
-next_takes players partial tokens x n =
-    let word = node_begins players n.part n.node n.is_node in
-    let part : length n.part ≡ suc (length word.tail) = ap length word.is in
-    let all : length tokens ≡ length n.part + length x.1 = ap length n.is ∙ length-append n.part x.1 in
-    omega arith
-
-again_by : (players : ℕ) (partial next : PartialTree) (branchings : List Branching) (part rest : List Token) (node : WrittenNode) → partial.branchings ≡ branchings → nat_eq (length branchings) 0 ≡ false → Keeps players partial → begins_node (part ++ rest) ≡ true → passed partial ≡ None
-    → next_at players partial (part ++ rest) ≡ Some (next, rest) → parse_at players partial branchings (part ++ rest) ≡ Ok (next, rest)
-again_by players partial next [] part rest node free some k n room e = absurd (true≢false some)
-again_by players partial next (b ∷ branchings) part rest node free some k n room e =
-    let o : parse_next players partial b branchings (part ++ rest) ≡ Ok (next, rest) = value_some (parse_next players partial b branchings (part ++ rest)) (next, rest) (value_next players partial b branchings (part ++ rest) free k ∙ e) in
-    rw (n, room) o
-
--- what one more node is read of
-one_more_parts : (players : ℕ) (partial : PartialTree) (tokens : List Token) (x : PartialTree × List Token) → one_more_at players partial tokens ≡ Ok x → (begins_node tokens ≡ true) × (next_at players partial tokens ≡ Some x)
-unfolding one_more_at
-one_more_parts players partial tokens x e = elim (cases_Bool (begins_node tokens)) [
-  | inl n ↦ (n, by (passed partial) (next_at players partial tokens) (rw n at e))
-  | inr n ↦ let o : ◌≡◌ {A = Result (PartialTree × List Token) (Option What)} (Err None) (Ok x) = rw n at e in cc
-]
-  where
-    by : (limit : Option What) (reading : Option (PartialTree × List Token)) → within_limit limit reading ≡ Ok x → reading ≡ Some x
-    by None (Some y) e = cc
-    by None None e = cc
-    by (Some what) reading e = cc
-
--- a further node is read
-pub next_again : (players : ℕ) (partial next : PartialTree) (part rest : List Token) (node : WrittenNode) → Keeps players partial → IsNode players part node → IsBare rest → passed partial ≡ None → add_node partial node ≡ Some next
-    → parse_at players partial partial.branchings (part ++ rest) ≡ Ok (next, rest)
-next_again players partial next part rest node k h bare room added =
-    let o = one_more_parts players partial (part ++ rest) (next, rest) (one_more_again players partial next part rest node h bare room added) in
-    again_by players partial next partial.branchings part rest node refl (place_free partial next node partial.branchings added) k o.0 room o.1
+use Rattle.tree_grammar.proofs.LocatedReadingLemmas.{located_at, located_nodes, located, at_read}
 
 -- ---- up to a comma
 -- the comma was read
@@ -103,9 +36,9 @@ marked_is zero players partial tokens y k e = marked_here players partial tokens
 marked_is (suc most) players partial tokens y k e = elim (cases_Bool (has_comma tokens)) [
   | inl c ↦ marked_here players partial tokens y (rw c at e)
   | inr c ↦
-      let o : (parse_at players partial partial.branchings tokens >>= λ x. marked most players x.0 x.1) ≡ Ok y = rw c at e in
-      let a = bind_ok (parse_at players partial partial.branchings tokens) (λ x. marked most players x.0 x.1) y o in
-      let n = next_is players partial tokens a.0 k a.1 in
+      let o : (located_at players partial partial.branchings tokens >>= λ x. marked most players x.0 x.1) ≡ Ok y = rw c at e in
+      let a = bind_ok (located_at players partial partial.branchings tokens) (λ x. marked most players x.0 x.1) y o in
+      let n = next_is players partial tokens a.0 k (at_read players partial partial.branchings tokens a.0 a.1) in
       one_before players partial tokens a.0 (y.0, Comma ∷ y.1) n (marked_is most players a.0.0 a.0.1 y (next_keeps players partial tokens a.0 k n) a.2)
 ]
 
@@ -129,47 +62,13 @@ marked_again (suc most) players partial more nodes rest (one ∷ written) k h ad
     let tokens : nodes ++ Comma ∷ rest ≡ front ++ (back ++ Comma ∷ rest) = rw h.2 (append_assoc front back (Comma ∷ rest)) in
     let a = parts_added partial more one written added in
     let bare = nodes_bare players back (Comma ∷ rest) written h.4 (record { no_text = refl; no_list = refl }) in
-    let step = next_again players partial a.next front (back ++ Comma ∷ rest) one k h.3 bare a.limit a.added in
+    let step = ap (located (front ++ (back ++ Comma ∷ rest))) (next_again players partial a.next front (back ++ Comma ∷ rest) one k h.3 bare a.limit a.added) in
     let kept = node_keeps players partial a.next one (node_written players front one h.3) k a.added in
     rw (tokens, no_comma_first players front (back ++ Comma ∷ rest) one h.3, step) (marked_again most players a.next more back rest written kept h.4 a.others (omega arith))
 
--- ---- nodes
--- nodes that are read are read without places too
-pub nodes_same : (most players : ℕ) (partial : PartialTree) (tokens : List Token) (x : PartialTree × List Token) → Keeps players partial → parse_nodes most players partial tokens ≡ Ok x → nodes_at most players partial tokens ≡ Ok x
-nodes_same zero players partial tokens x k e = absurd (ok_err x (Node, tokens) (sym e))
-nodes_same (suc most) players partial tokens x k e = elim (cases_Bool (is_whole partial)) [
-  | inl w ↦ let o : ◌≡◌ {A = Parsed EfgKind PartialTree} (Ok (partial, tokens)) (Ok x) = rw w at e in rw w (ap (λ (z : PartialTree × List Token). Ok z) (ok_same (partial, tokens) x o))
-  | inr w ↦
-      let o : (parse_at players partial partial.branchings tokens >>= λ x. parse_nodes most players x.0 x.1) ≡ Ok x = rw w at e in
-      let a = bind_ok (parse_at players partial partial.branchings tokens) (λ x. parse_nodes most players x.0 x.1) x o in
-      let one = read_by players partial partial.branchings tokens a.0 refl k a.1 in
-      let n = one_more_is players partial tokens a.0 one in
-      rw (w, one) (nodes_same most players a.0.0 a.0.1 x (next_keeps players partial tokens a.0 k n) a.2)
-]
-
--- and the other way
-pub nodes_too : (most players : ℕ) (partial : PartialTree) (tokens : List Token) (x : PartialTree × List Token) → Keeps players partial → nodes_at most players partial tokens ≡ Ok x → parse_nodes most players partial tokens ≡ Ok x
-nodes_too zero players partial tokens x k e = cc
-nodes_too (suc most) players partial tokens x k e = elim (cases_Bool (is_whole partial)) [
-  | inl w ↦ let o : ◌≡◌ {A = Result (PartialTree × List Token) (Option What)} (Ok (partial, tokens)) (Ok x) = rw w at e in let same : (partial, tokens) ≡ x = cc in rw w (ap (λ (z : PartialTree × List Token). Ok z) same)
-  | inr w ↦
-      let o : and_then (one_more_at players partial tokens) (λ x. nodes_at most players x.0 x.1) ≡ Ok x = rw w at e in
-      let a = and_then_ok (one_more_at players partial tokens) (λ x. nodes_at most players x.0 x.1) x o in
-      let n = one_more_is players partial tokens a.0 a.1 in
-      let p = one_more_parts players partial tokens a.0 a.1 in
-      let read = too_by partial.branchings refl (place_free partial a.0.0 n.node partial.branchings n.added) p.0 n.limit p.1 in
-      rw (w, read) (nodes_too most players a.0.0 a.0.1 x (next_keeps players partial tokens a.0 k n) a.2)
-]
-  where
-    too_by : (branchings : List Branching) → partial.branchings ≡ branchings → nat_eq (length branchings) 0 ≡ false → {y : PartialTree × List Token} → begins_node tokens ≡ true → passed partial ≡ None → next_at players partial tokens ≡ Some y → parse_at players partial branchings tokens ≡ Ok y
-    too_by [] free some n room e = absurd (true≢false some)
-    too_by (b ∷ rest) free some {y} n room e =
-        let o : parse_next players partial b rest tokens ≡ Ok y = value_some (parse_next players partial b rest tokens) y (value_next players partial b rest tokens free k ∙ e) in
-        rw (n, room) o
-
 -- ---- where nodes stop
 -- a comma where a node is wanted
-comma_stops : (players : ℕ) (partial : PartialTree) (branchings : List Branching) (rest : List Token) → parse_at players partial branchings (Comma ∷ rest) ≡ Err (Node, Comma ∷ rest)
+comma_stops : (players : ℕ) (partial : PartialTree) (branchings : List Branching) (rest : List Token) → located_at players partial branchings (Comma ∷ rest) ≡ Err (Node, Comma ∷ rest)
 comma_stops players partial [] rest = refl
 comma_stops players partial (b ∷ branchings) rest = refl
 
@@ -183,32 +82,32 @@ comma_comes (Comma ∷ rest) e = (rest, refl)
 comma_comes _ e = absurd (true≢false (sym e))
 
 -- where a comma comes
-at_comma : (most players : ℕ) (partial : PartialTree) (tokens : List Token) (kind : EfgKind) (rest : List Token) → has_comma tokens ≡ true → parse_at players partial partial.branchings tokens ≡ Err (kind, rest) → StopsAsMarked (marked (suc most) players partial tokens) kind rest
+at_comma : (most players : ℕ) (partial : PartialTree) (tokens : List Token) (kind : EfgKind) (rest : List Token) → has_comma tokens ≡ true → located_at players partial partial.branchings tokens ≡ Err (kind, rest) → StopsAsMarked (marked (suc most) players partial tokens) kind rest
 at_comma most players partial tokens kind rest c e =
     let t = comma_comes tokens c in
-    let o : ◌≡◌ {A = Parsed EfgKind PartialTree} (Err (Node, Comma ∷ t.0)) (Err (kind, rest)) = sym (ap (parse_at players partial partial.branchings) t.1 ∙ comma_stops players partial partial.branchings t.0) ∙ e in
+    let o : ◌≡◌ {A = Parsed EfgKind PartialTree} (Err (Node, Comma ∷ t.0)) (Err (kind, rest)) = sym (ap (located_at players partial partial.branchings) t.1 ∙ comma_stops players partial partial.branchings t.0) ∙ e in
     let same = err_same (Node, Comma ∷ t.0) (kind, rest) o in
     inr ((partial, t.0), ap (marked (suc most) players partial) t.1, sym (ap (λ (f : EfgKind × List Token). f.0) same), sym (ap (λ (f : EfgKind × List Token). f.1) same))
 
 -- after a node that was read
-one_marked : (most players : ℕ) (partial : PartialTree) (tokens : List Token) (x : PartialTree × List Token) → has_comma tokens ≡ false → parse_at players partial partial.branchings tokens ≡ Ok x → marked (suc most) players partial tokens ≡ marked most players x.0 x.1
+one_marked : (most players : ℕ) (partial : PartialTree) (tokens : List Token) (x : PartialTree × List Token) → has_comma tokens ≡ false → located_at players partial partial.branchings tokens ≡ Ok x → marked (suc most) players partial tokens ≡ marked most players x.0 x.1
 one_marked most players partial tokens x c e = rw (c, e) refl
 
-pub nodes_stop : (steps most players : ℕ) (partial : PartialTree) (tokens : List Token) (kind : EfgKind) (rest : List Token) → Keeps players partial → length tokens < steps → steps ≤ most → parse_nodes steps players partial tokens ≡ Err (kind, rest)
+pub nodes_stop : (steps most players : ℕ) (partial : PartialTree) (tokens : List Token) (kind : EfgKind) (rest : List Token) → Keeps players partial → length tokens < steps → steps ≤ most → located_nodes steps players partial tokens ≡ Err (kind, rest)
     → StopsAsMarked (marked most players partial tokens) kind rest
 nodes_stop zero most players partial tokens kind rest k enough le e = absurd (omega arith)
 nodes_stop (suc steps) zero players partial tokens kind rest k enough le e = absurd (omega arith)
 nodes_stop (suc steps) (suc most) players partial tokens kind rest k enough le e = elim (cases_Bool (is_whole partial)) [
   | inl w ↦ let o : ◌≡◌ {A = Parsed EfgKind PartialTree} (Ok (partial, tokens)) (Err (kind, rest)) = rw w at e in absurd (ok_err (partial, tokens) (kind, rest) o)
   | inr w ↦
-      let o : (parse_at players partial partial.branchings tokens >>= λ x. parse_nodes steps players x.0 x.1) ≡ Err (kind, rest) = rw w at e in
-      elim (bind_err (parse_at players partial partial.branchings tokens) (λ x. parse_nodes steps players x.0 x.1) (kind, rest) o) [
+      let o : (located_at players partial partial.branchings tokens >>= λ x. located_nodes steps players x.0 x.1) ≡ Err (kind, rest) = rw w at e in
+      elim (bind_err (located_at players partial partial.branchings tokens) (λ x. located_nodes steps players x.0 x.1) (kind, rest) o) [
         | inl f ↦ elim (cases_Bool (has_comma tokens)) [
           | inl c ↦ at_comma most players partial tokens kind rest c f
           | inr c ↦ inl (rw (c, f) refl)
         ]
         | inr a ↦
-            let n = next_is players partial tokens a.0 k a.1 in
+            let n = next_is players partial tokens a.0 k (at_read players partial partial.branchings tokens a.0 a.1) in
             let shorter = next_takes players partial tokens a.0 n in
             let c : has_comma tokens ≡ false = rw n.is (no_comma_first players n.part a.0.1 n.node n.is_node) in
             let more = nodes_stop steps most players a.0.0 a.0.1 kind rest (next_keeps players partial tokens a.0 k n) (omega arith) (omega arith) a.2 in
@@ -224,11 +123,11 @@ after_whole most players partial t rest w = elim (cases_Bool (has_comma (t ∷ r
   | inr c ↦ inl (rw (c, whole_stops players partial partial.branchings (t ∷ rest) w) refl)
 ]
   where
-    whole_stops : (players : ℕ) (partial : PartialTree) (branchings : List Branching) (tokens : List Token) → nat_eq (length branchings) 0 ≡ true → parse_at players partial branchings tokens ≡ Err (Node, tokens)
+    whole_stops : (players : ℕ) (partial : PartialTree) (branchings : List Branching) (tokens : List Token) → nat_eq (length branchings) 0 ≡ true → located_at players partial branchings tokens ≡ Err (Node, tokens)
     whole_stops players partial [] tokens w = refl
     whole_stops players partial (b ∷ branchings) tokens w = absurd (grind (arith, nat_tests))
 
-pub nodes_end : (steps most players : ℕ) (partial : PartialTree) (tokens : List Token) (x : PartialTree) (t : Token) (rest : List Token) → Keeps players partial → steps ≤ most → parse_nodes steps players partial tokens ≡ Ok (x, t ∷ rest)
+pub nodes_end : (steps most players : ℕ) (partial : PartialTree) (tokens : List Token) (x : PartialTree) (t : Token) (rest : List Token) → Keeps players partial → steps ≤ most → located_nodes steps players partial tokens ≡ Ok (x, t ∷ rest)
     → StopsAsMarked (marked most players partial tokens) Node (t ∷ rest)
 nodes_end zero most players partial tokens x t rest k le e = absurd (ok_err (x, t ∷ rest) (Node, tokens) (sym e))
 nodes_end (suc steps) zero players partial tokens x t rest k le e = absurd (omega arith)
@@ -238,9 +137,9 @@ nodes_end (suc steps) (suc most) players partial tokens x t rest k le e = elim (
       let same : tokens ≡ t ∷ rest = ap (λ (z : PartialTree × List Token). z.1) (ok_same (partial, tokens) (x, t ∷ rest) o) in
       subst (λ (q : List Token). StopsAsMarked (marked (suc most) players partial q) Node (t ∷ rest)) (sym same) (after_whole most players partial t rest w)
   | inr w ↦
-      let o : (parse_at players partial partial.branchings tokens >>= λ x. parse_nodes steps players x.0 x.1) ≡ Ok (x, t ∷ rest) = rw w at e in
-      let a = bind_ok (parse_at players partial partial.branchings tokens) (λ x. parse_nodes steps players x.0 x.1) (x, t ∷ rest) o in
-      let n = next_is players partial tokens a.0 k a.1 in
+      let o : (located_at players partial partial.branchings tokens >>= λ x. located_nodes steps players x.0 x.1) ≡ Ok (x, t ∷ rest) = rw w at e in
+      let a = bind_ok (located_at players partial partial.branchings tokens) (λ x. located_nodes steps players x.0 x.1) (x, t ∷ rest) o in
+      let n = next_is players partial tokens a.0 k (at_read players partial partial.branchings tokens a.0 a.1) in
       let c : has_comma tokens ≡ false = rw n.is (no_comma_first players n.part a.0.1 n.node n.is_node) in
       let more = nodes_end steps most players a.0.0 a.0.1 x t rest (next_keeps players partial tokens a.0 k n) (omega arith) a.2 in
       let same : marked (suc most) players partial tokens ≡ marked most players a.0.0 a.0.1 = one_marked most players partial tokens a.0 c a.1 in

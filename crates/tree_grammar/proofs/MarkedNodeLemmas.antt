@@ -1,6 +1,6 @@
 -- Nodes up to a comma that stands where a node may begin are a reader. No file has a comma there, so it may come after any nodes,
 -- also where no branch is open or a further node would pass a limit.
-use Rattle.std.proofs.Common.{◌≡◌, ℕ, zero, suc, ◌≤◌, ◌&&◌, if◌then◌else◌, List, [], ◌∷◌, length, Bool, true, false, Option, Some, None, ◌⊎◌, inl, inr, codes, refl, sym, ap, ◌∙◌}
+use Rattle.std.proofs.Common.{◌≡◌, ℕ, zero, suc, ◌≤◌, if◌then◌else◌, List, [], ◌∷◌, length, true, false, Option, Some, None, ◌⊎◌, inl, inr, codes, refl, sym, ap, ◌∙◌}
 use Rattle.std.specs.Prelude.{Ok, Err}
 use Rattle.game_core.specs.declared.tree.Kind.TheVariants.{End}
 use Rattle.game_core.specs.Tree.{kind_of_owner}
@@ -11,8 +11,8 @@ use Rattle.file_parts.specs.Parsing.{Parsed, ◌>>=◌, wanted}
 use Rattle.file_parts.proofs.ReaderLemmas.{IsReader, bind_reader, pure_reader, choose, choose_reader, same_reader, token_reader, ok_err, result_of, chain}
 use Rattle.file_parts.proofs.TokenReaderLemmas.{text_reader, some_or_none}
 use Rattle.written_trees.specs.Building.{PartialTree, Branching, PartialSet, passed}
-use Rattle.tree_grammar.specs.TreeReading.{is_word, is_node_word, begins_node}
-use Rattle.tree_grammar.specs.TreeParsing.{Choice, parse_set, parse_player, parse_outcome, parse_set_choice, parse_own_choice, parse_choice, parse_after, with_parts, parse_next, has_room, parse_at}
+use Rattle.tree_grammar.specs.TreePieces.{is_word, is_node_word, begins_node}
+use Rattle.tree_grammar.specs.TreeParsing.{Choice, parse_set, parse_player, parse_outcome, parse_set_choice, parse_own_choice, parse_choice, parse_after, with_parts, parse_next}
 use Rattle.tree_grammar.specs.declared.kinds.EfgKind.{EfgKind}
 use Rattle.tree_grammar.specs.declared.kinds.EfgKind.TheVariants.{Node}
 use Rattle.tree_grammar.proofs.PartReaderLemmas.{has_comma, comma, comma_first, comma_reader, own_list_reader}
@@ -20,6 +20,8 @@ use Rattle.tree_grammar.proofs.ChanceReaderLemmas.{chance_list_reader}
 use Rattle.tree_grammar.proofs.NodeReaderLemmas.{ReadsNoText, ReadsNoBrace, map_then, first_list_reader}
 use Rattle.tree_grammar.proofs.MarkedReaderLemmas.{outcome_part_reader, set_part_reader, player_reader}
 use Rattle.std.proofs.lemmas.Bool.{cases_Bool}
+use Rattle.game_core.specs.declared.too_large.What.{What}
+use Rattle.tree_grammar.proofs.LocatedReadingLemmas.{located_at, located_unlimited}
 
 -- the comma after nodes
 abbrev pub mark_here : PartialTree → List Token → Parsed EfgKind PartialTree
@@ -28,7 +30,7 @@ mark_here partial tokens = comma tokens >>= λ x. Ok (partial, x.1)
 -- at most so many nodes, and a comma
 abbrev pub marked : ℕ → ℕ → PartialTree → List Token → Parsed EfgKind PartialTree
 marked zero players partial tokens = mark_here partial tokens
-marked (suc most) players partial tokens = if has_comma tokens then mark_here partial tokens else (parse_at players partial partial.branchings tokens >>= λ x. marked most players x.0 x.1)
+marked (suc most) players partial tokens = if has_comma tokens then mark_here partial tokens else (located_at players partial partial.branchings tokens >>= λ x. marked most players x.0 x.1)
 
 mark_reader : (partial : PartialTree) → IsReader (mark_here partial)
 mark_reader partial = bind_reader comma (λ _ tokens. Ok (partial, tokens)) comma_reader (λ _ _ _. pure_reader partial)
@@ -57,7 +59,7 @@ marked_no_brace : (most players : ℕ) (partial : PartialTree) → ReadsNoBrace 
 marked_no_brace zero players partial = record { no_brace = λ rest y e. ok_err y (Node, Left ∷ rest) (sym e) }
 marked_no_brace (suc most) players partial = record { no_brace = λ rest y e. by partial.branchings rest y e }
   where
-    by : (branchings : List Branching) (rest : List Token) (y : PartialTree × List Token) → (parse_at players partial branchings (Left ∷ rest) >>= λ x. marked most players x.0 x.1) ≡ Ok y → ⊥
+    by : (branchings : List Branching) (rest : List Token) (y : PartialTree × List Token) → (located_at players partial branchings (Left ∷ rest) >>= λ x. marked most players x.0 x.1) ≡ Ok y → ⊥
     by [] rest y e = ok_err y (Node, Left ∷ rest) (sym e)
     by (b ∷ branchings) rest y e = ok_err y (Node, Left ∷ rest) (sym e)
 
@@ -65,7 +67,7 @@ marked_no_text : (most players : ℕ) (partial : PartialTree) → ReadsNoText (m
 marked_no_text zero players partial = record { no_text = λ text rest y e. ok_err y (Node, Text text ∷ rest) (sym e) }
 marked_no_text (suc most) players partial = record { no_text = λ text rest y e. by partial.branchings text rest y e }
   where
-    by : (branchings : List Branching) (text : List ℕ) (rest : List Token) (y : PartialTree × List Token) → (parse_at players partial branchings (Text text ∷ rest) >>= λ x. marked most players x.0 x.1) ≡ Ok y → ⊥
+    by : (branchings : List Branching) (text : List ℕ) (rest : List Token) (y : PartialTree × List Token) → (located_at players partial branchings (Text text ∷ rest) >>= λ x. marked most players x.0 x.1) ≡ Ok y → ⊥
     by [] text rest y e = ok_err y (Node, Text text ∷ rest) (sym e)
     by (b ∷ branchings) text rest y e = ok_err y (Node, Text text ∷ rest) (sym e)
 
@@ -142,11 +144,11 @@ named_row most players partial b rest word tokens n = elim (some_or_none (text_a
   | inr none ↦ rw none refl
 ]
 
-further_is : (most players : ℕ) (partial : PartialTree) (b : Branching) (rest : List Branching) → has_room (passed partial) ≡ true → (tokens : List Token)
-    → (parse_at players partial (b ∷ rest) tokens >>= λ x. marked most players x.0 x.1) ≡ further most players partial b rest tokens
+further_is : (most players : ℕ) (partial : PartialTree) (b : Branching) (rest : List Branching) → passed partial ≡ None → (tokens : List Token)
+    → (located_at players partial (b ∷ rest) tokens >>= λ x. marked most players x.0 x.1) ≡ further most players partial b rest tokens
 unfolding further
 further_is most players partial b rest room (Word word ∷ tokens) = elim (cases_Bool (is_node_word word)) [
-  | inl n ↦ rw (n, room) (next_row most players partial b rest (Word word ∷ tokens) ∙ named_row most players partial b rest word tokens n)
+  | inl n ↦ rw (n, room, located_unlimited (Word word ∷ tokens) (parse_next players partial b rest (Word word ∷ tokens))) (next_row most players partial b rest (Word word ∷ tokens) ∙ named_row most players partial b rest word tokens n)
   | inr n ↦ rw n refl
 ]
 further_is most players partial b rest room tokens = refl
@@ -200,38 +202,35 @@ no_further most players partial b rest (Comma ∷ tokens) y h e = ok_err y (Node
 no_further most players partial b rest _ y h e = cc
 
 -- where no node may come
-only_mark : (most players : ℕ) (partial : PartialTree) → ((tokens : List Token) → parse_at players partial partial.branchings tokens ≡ Err (Node, tokens)) → (tokens : List Token) → marked (suc most) players partial tokens ≡ mark_here partial tokens
+only_mark : (most players : ℕ) (partial : PartialTree) → ((tokens : List Token) → located_at players partial partial.branchings tokens ≡ Err (Node, tokens)) → (tokens : List Token) → marked (suc most) players partial tokens ≡ mark_here partial tokens
 only_mark most players partial none (Comma ∷ rest) = refl
 only_mark most players partial none tokens = rw none refl
 
 -- where one may
-or_further : (most players : ℕ) (partial : PartialTree) (b : Branching) (rest : List Branching) → partial.branchings ≡ b ∷ rest → has_room (passed partial) ≡ true → (tokens : List Token)
+or_further : (most players : ℕ) (partial : PartialTree) (b : Branching) (rest : List Branching) → partial.branchings ≡ b ∷ rest → passed partial ≡ None → (tokens : List Token)
     → marked (suc most) players partial tokens ≡ choose has_comma (mark_here partial) (further most players partial b rest) tokens
 or_further most players partial b rest free room tokens =
-    ap (λ (branchings : List Branching). if has_comma tokens then mark_here partial tokens else (parse_at players partial branchings tokens >>= λ x. marked most players x.0 x.1)) free
+    ap (λ (branchings : List Branching). if has_comma tokens then mark_here partial tokens else (located_at players partial branchings tokens >>= λ x. marked most players x.0 x.1)) free
     ∙ ap (λ (o : Parsed EfgKind PartialTree). if has_comma tokens then mark_here partial tokens else o) (further_is most players partial b rest room tokens)
 
 -- no node may come where it would pass a limit
-never : (players : ℕ) (partial : PartialTree) (b : Branching) (rest : List Branching) (tokens : List Token) (begins : Bool) → (if begins && false then parse_next players partial b rest tokens else Err (Node, tokens)) ≡ Err (Node, tokens)
-never players partial b rest tokens true = refl
-never players partial b rest tokens false = refl
+full_at : (players : ℕ) (partial : PartialTree) (b : Branching) (rest : List Branching) (what : What) → passed partial ≡ Some what → (tokens : List Token) → located_at players partial (b ∷ rest) tokens ≡ Err (Node, tokens)
+full_at players partial b rest what full tokens = elim (cases_Bool (begins_node tokens)) [
+  | inl n ↦ rw (n, full) refl
+  | inr n ↦ rw n refl
+]
 
-full_at : (players : ℕ) (partial : PartialTree) (b : Branching) (rest : List Branching) (tokens : List Token) → has_room (passed partial) ≡ false → parse_at players partial (b ∷ rest) tokens ≡ Err (Node, tokens)
-full_at players partial b rest tokens full = rw full (never players partial b rest tokens (begins_node tokens))
-
-no_room : (players : ℕ) (partial : PartialTree) (b : Branching) (rest : List Branching) → partial.branchings ≡ b ∷ rest → has_room (passed partial) ≡ false → (tokens : List Token) → parse_at players partial partial.branchings tokens ≡ Err (Node, tokens)
-no_room players partial b rest free full tokens = ap (λ (branchings : List Branching). parse_at players partial branchings tokens) free ∙ full_at players partial b rest tokens full
-
-no_branch : (players : ℕ) (partial : PartialTree) → partial.branchings ≡ [] → (tokens : List Token) → parse_at players partial partial.branchings tokens ≡ Err (Node, tokens)
-no_branch players partial none tokens = ap (λ (branchings : List Branching). parse_at players partial branchings tokens) none
+-- the branches that are open
+by_branchings : (players : ℕ) (partial : PartialTree) (branchings : List Branching) → partial.branchings ≡ branchings → ((tokens : List Token) → located_at players partial branchings tokens ≡ Err (Node, tokens)) → (tokens : List Token) → located_at players partial partial.branchings tokens ≡ Err (Node, tokens)
+by_branchings players partial branchings are none tokens = ap (λ (branchings : List Branching). located_at players partial branchings tokens) are ∙ none tokens
 
 marked_by : (most players : ℕ) (partial : PartialTree) (branchings : List Branching) → partial.branchings ≡ branchings → 1 ≤ players → ((next : PartialTree) → IsReader (marked most players next)) → IsReader (marked (suc most) players partial)
-marked_by most players partial [] none h M = same_reader (marked (suc most) players partial) (mark_here partial) (only_mark most players partial (no_branch players partial none)) (mark_reader partial)
-marked_by most players partial (b ∷ rest) free h M = elim (cases_Bool (has_room (passed partial))) [
-  | inl room ↦
+marked_by most players partial [] none h M = same_reader (marked (suc most) players partial) (mark_here partial) (only_mark most players partial (by_branchings players partial [] none (λ tokens. refl))) (mark_reader partial)
+marked_by most players partial (b ∷ rest) free h M = elim (some_or_none (passed partial)) [
+  | inl full ↦ same_reader (marked (suc most) players partial) (mark_here partial) (only_mark most players partial (by_branchings players partial (b ∷ rest) free (full_at players partial b rest full.0 full.1))) (mark_reader partial)
+  | inr room ↦
       same_reader (marked (suc most) players partial) (choose has_comma (mark_here partial) (further most players partial b rest)) (or_further most players partial b rest free room)
       (choose_reader has_comma (mark_here partial) (further most players partial b rest) (record { heads = comma_first; only_p = no_mark partial; only_q = no_further most players partial b rest }) (mark_reader partial) (further_reader most players partial b rest h M))
-  | inr full ↦ same_reader (marked (suc most) players partial) (mark_here partial) (only_mark most players partial (no_room players partial b rest free full)) (mark_reader partial)
 ]
 
 pub marked_reader : (most players : ℕ) → 1 ≤ players → (partial : PartialTree) → IsReader (marked most players partial)

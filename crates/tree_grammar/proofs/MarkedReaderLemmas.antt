@@ -1,17 +1,15 @@
 -- Nodes are read token by token, up to a comma where a node may begin. No file has a comma there, so it may come after any nodes.
-use Rattle.std.proofs.Common.{◌≡◌, ℕ, ◌-◌, ◌≤◌, List, [], ◌∷◌, ◌&&◌, if◌then◌else◌, nat_eq, nat_le, slice_get, Option, Some, None, ◌⊎◌, inl, inr, refl, arith}
+use Rattle.std.proofs.Common.{◌≡◌, ℕ, ◌-◌, ◌≤◌, List, [], ◌∷◌, ◌&&◌, if◌then◌else◌, nat_eq, nat_le, slice_get, Option, Some, None, ◌⊎◌, inl, inr, refl}
 use Rattle.std.specs.Prelude.{Ok, Err}
 use Rattle.game_core.specs.declared.token.Token.{Token}
 use Rattle.file_parts.specs.Parts.{whole_number}
-use Rattle.file_parts.specs.Reading.{whole_at, optional_text_at}
+use Rattle.file_parts.specs.Reading.{whole_at, optional_text_at, count_at}
 use Rattle.file_parts.specs.Parsing.{Parsed, ◌>>=◌, wanted}
 use Rattle.file_parts.proofs.ReaderLemmas.{IsReader, bind_reader, same_reader, token_reader, result_of}
-use Rattle.file_parts.proofs.TokenReaderLemmas.{wanted_reader, tested_head, whole_is_head}
+use Rattle.file_parts.proofs.TokenReaderLemmas.{wanted_reader, whole_is_head, count_reader}
 use Rattle.file_parts.proofs.TokenLaws.{whole_again, le_passes}
 use Rattle.written_trees.specs.Building.{PartialSet, PartialOutcome, set_place, outcome_place}
-use Rattle.tree_grammar.specs.TreeReading.{positive_at}
 use Rattle.tree_grammar.specs.TreeParsing.{bare_use, bare_outcome_use, parse_outcome_use, parse_set, parse_named, parse_outcome, parse_player, parse_use, parse_first_list}
-use Rattle.tree_grammar.proofs.SetLaws.{positive_again}
 use Rattle.tree_grammar.proofs.NodeReaderLemmas.{ReadsNoText, ReadsNoBrace, named, named_reader, map_then, use_then, use_reader, use_no_text, outcome_then, outcome_reader, outcome_no_text}
 use Rattle.tree_grammar.specs.declared.kinds.EfgKind.{EfgKind}
 use Rattle.tree_grammar.specs.declared.kinds.EfgKind.TheVariants.{Node, UnknownPlayer}
@@ -20,10 +18,6 @@ use Rattle.std.proofs.lemmas.Bool.{cases_Bool}
 -- ---- numbers
 pub label_reader : IsReader (λ tokens. wanted Node tokens (whole_at tokens))
 label_reader = wanted_reader Node whole_at whole_is_head (whole_number 0) 0 (λ rest. whole_again 0 rest)
-
-pub positive_reader : IsReader (λ tokens. wanted Node tokens (positive_at tokens))
-unfolding positive_at
-positive_reader = wanted_reader Node positive_at (tested_head whole_at whole_is_head (λ n. nat_le 1 n)) (whole_number 1) 1 (λ rest. positive_again 1 rest (omega arith))
 
 -- ---- outcomes
 -- what follows an outcome after its number
@@ -79,9 +73,9 @@ after_set_reader k sets owner g F G N T label =
     (use_no_text k sets (bare_use owner label None) (slice_get sets (set_place sets (owner, label))) (λ more. g (more, set_place sets (owner, label))) (λ more. T (more, set_place sets (owner, label))))
 
 set_is : {X : Type 0} (k : ℕ) (sets : List PartialSet) (owner : Option ℕ) (g : List PartialSet × ℕ → List Token → Parsed EfgKind X) (tokens : List Token)
-    → (parse_set k sets owner tokens >>= λ x. g x.0 x.1) ≡ (wanted Node tokens (positive_at tokens) >>= λ label. after_set k sets owner g label.0 label.1)
+    → (parse_set k sets owner tokens >>= λ x. g x.0 x.1) ≡ (wanted Node tokens (count_at tokens) >>= λ label. after_set k sets owner g label.0 label.1)
 unfolding parse_set after_set
-set_is k sets owner g tokens = elim (result_of (wanted Node tokens (positive_at tokens))) [
+set_is k sets owner g tokens = elim (result_of (wanted Node tokens (count_at tokens))) [
   | inl y ↦
       rw y.1 (map_then (parse_use k sets (bare_use owner y.0.0 (optional_text_at y.0.1).0) (slice_get sets (set_place sets (owner, y.0.0))) (optional_text_at y.0.1).1) (λ more. (more, set_place sets (owner, y.0.0))) g)
   | inr f ↦ rw f.1 refl
@@ -91,8 +85,8 @@ set_is k sets owner g tokens = elim (result_of (wanted Node tokens (positive_at 
 pub set_part_reader : {X : Type 0} (k : ℕ) (sets : List PartialSet) (owner : Option ℕ) (g : List PartialSet × ℕ → List Token → Parsed EfgKind X) → ((label : ℕ) → IsReader (parse_first_list owner label)) → ((x : List PartialSet × ℕ) → IsReader (g x))
     → ((x : List PartialSet × ℕ) → ReadsNoBrace (g x)) → ((x : List PartialSet × ℕ) → ReadsNoText (g x)) → IsReader (λ tokens. parse_set k sets owner tokens >>= λ x. g x.0 x.1)
 set_part_reader k sets owner g F G N T =
-    same_reader (λ tokens. parse_set k sets owner tokens >>= λ x. g x.0 x.1) (λ tokens. wanted Node tokens (positive_at tokens) >>= λ label. after_set k sets owner g label.0 label.1) (set_is k sets owner g)
-    (bind_reader (λ tokens. wanted Node tokens (positive_at tokens)) (λ label tokens. after_set k sets owner g label tokens) positive_reader (λ _ label _. after_set_reader k sets owner g F G N T label))
+    same_reader (λ tokens. parse_set k sets owner tokens >>= λ x. g x.0 x.1) (λ tokens. wanted Node tokens (count_at tokens) >>= λ label. after_set k sets owner g label.0 label.1) (set_is k sets owner g)
+    (bind_reader (λ tokens. wanted Node tokens (count_at tokens)) (λ label tokens. after_set k sets owner g label tokens) (count_reader Node) (λ _ label _. after_set_reader k sets owner g F G N T label))
 
 -- ---- players
 pub player_token : (players : ℕ) (t : Token) → ((x : ℕ) × ((rest : List Token) → parse_player players (t ∷ rest) ≡ Ok (x, rest))) ⊎ ((k : EfgKind) × ((rest : List Token) → parse_player players (t ∷ rest) ≡ Err (k, t ∷ rest)))

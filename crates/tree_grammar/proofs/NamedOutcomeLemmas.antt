@@ -5,7 +5,7 @@ use Rattle.rational.specs.Rational.{ℚ}
 use Rattle.file_parts.specs.Reading.{optional_text_at}
 use Rattle.written_trees.specs.Written.{OutcomeUse}
 use Rattle.written_trees.specs.Building.{PartialOutcome, outcome_place, repeats_payoffs, used_outcome}
-use Rattle.tree_grammar.specs.TreeReading.{optional_at, payoff_list_at, named_outcome_at, later_payoffs_at, with_outcome, named_part_at}
+use Rattle.tree_grammar.proofs.PartValueLemmas.{optional_at, payoff_list_at, named_outcome_at, later_payoffs_at, with_outcome, named_part_at}
 use Rattle.tree_grammar.proofs.RepeatedPayoffLemmas.{came}
 use Rattle.std.specs.Option.{option_or}
 use Rattle.lists.specs.Options.{◌>>=◌}

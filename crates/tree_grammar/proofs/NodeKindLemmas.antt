@@ -21,9 +21,10 @@ use Rattle.written_trees.proofs.FirstUseLemmas.{new_place, known_place}
 use Rattle.written_trees.proofs.OutcomeUseLemmas.{outcome_step}
 use Rattle.written_trees.proofs.BuiltTreeLemmas.{from_uses}
 use Rattle.tree_grammar.specs.TreeFile.{action_tokens}
-use Rattle.tree_grammar.specs.TreeParsing.{parse_list_of, parse_first_list, parse_later_list, bare_use, parse_use, parse_player, parse_set_choice, parse_own_choice, parse_choice, parse_first_payoffs, parse_later_payoffs, bare_outcome_use, parse_outcome_use, parse_tree}
+use Rattle.tree_grammar.specs.TreeParsing.{parse_list_of, parse_first_list, parse_later_list, bare_use, parse_use, parse_player, parse_set_choice, parse_own_choice, parse_choice, parse_first_payoffs, parse_later_payoffs, bare_outcome_use, parse_outcome_use}
 use Rattle.tree_grammar.specs.TreeFaults.{StopsAtPlayer, StopsAtSet, StopsAtOutcome, HasActions, WantsProbability, HasPayoffs}
-use Rattle.tree_grammar.specs.FaultKinds.{WholeComes, TextComes, BraceComes, NumberComes, DiffersFromFirst, sum_of, StopsInChances, SumsTo, PaysOtherwise, IsNodeKind}
+use Rattle.tree_grammar.specs.FaultKinds.{TextComes, BraceComes, NumberComes, DiffersFromFirst, sum_of, StopsInChances, SumsTo, PaysOtherwise, IsNodeKind}
+use Rattle.file_parts.specs.Faults.{WholeComes}
 use Rattle.tree_grammar.specs.declared.kinds.EfgKind.{EfgKind}
 use Rattle.tree_grammar.specs.declared.kinds.EfgKind.TheVariants.{UnknownPlayer, SetMismatch, Probability, ProbabilityRange, OutcomeMismatch}
 use Rattle.tree_grammar.proofs.SetLaws.{IsBare, optional_text_again}
@@ -34,7 +35,7 @@ use Rattle.tree_grammar.proofs.NodeValueLemmas.{nodes_keep}
 use Rattle.tree_grammar.proofs.PartReaderLemmas.{own_list_reader, first_payoffs_reader}
 use Rattle.tree_grammar.proofs.ChanceReaderLemmas.{chance_list_reader}
 use Rattle.tree_grammar.proofs.NodeReaderLemmas.{first_list_reader}
-use Rattle.tree_grammar.proofs.WholeFileLaws.{nothing_keeps}
+use Rattle.tree_grammar.proofs.NodesReadLaws.{nothing_keeps}
 use Rattle.tree_grammar.proofs.TokenEndLemmas.{Within, reader_within, pure_within, set_choice_within}
 use Rattle.tree_grammar.proofs.StopLemmas.{GoesTo, goes_before, stop_kind, not_after}
 use Rattle.tree_grammar.proofs.RunLemmas.{found_none, found_some, run_to}
@@ -42,6 +43,7 @@ use Rattle.tree_grammar.proofs.ChanceListLemmas.{sum_stops, probability_kind, br
 use Rattle.tree_grammar.proofs.RepeatedListLemmas.{later_kind, later_number_kind}
 use Rattle.tree_grammar.proofs.PayoffListLemmas.{PayoffComes, first_payoffs_kind, later_payoffs_kind, lacks_payoffs}
 use Rattle.tree_grammar.proofs.NodeRunLemmas.{after_label, goes_by, choice_goes, next_goes, outcome_comes, outcome_goes}
+use Rattle.tree_grammar.proofs.LocatedReadingLemmas.{located_tree}
 
 -- ---- what is found
 -- of a set with these uses
@@ -67,7 +69,7 @@ outcome_found uses used (first ∷ later) e = ap (slice_get (outcomes_so_far use
 abbrev SetIsRead : SetUse → List (ℕ × SetUse) → List Token → EfgKind → List Token → Type 0
 SetIsRead used earlier more kind rest = (k : ℕ) × (sets : List PartialSet) × GoesTo (parse_use k sets (bare_use used.owner used.label (after_label used.name more).0) (found_of used earlier) (after_label used.name more).1) kind rest
 
-set_point : (before : List Token) (used : SetUse) (earlier : List (ℕ × SetUse)) (list : List Token) → StopsAtSet before used earlier list → (kind : EfgKind) (t : Token) (r : List Token) → parse_tree (before ++ t ∷ r) ≡ Err (kind, t ∷ r) → SetIsRead used earlier (list ++ t ∷ r) kind (t ∷ r)
+set_point : (before : List Token) (used : SetUse) (earlier : List (ℕ × SetUse)) (list : List Token) → StopsAtSet before used earlier list → (kind : EfgKind) (t : Token) (r : List Token) → located_tree (before ++ t ∷ r) ≡ Err (kind, t ∷ r) → SetIsRead used earlier (list ++ t ∷ r) kind (t ∷ r)
 set_point before used earlier list s kind t r e =
     let players = length s.tree.players in
     let tail : List Token = list ++ t ∷ r in
@@ -75,7 +77,7 @@ set_point before used earlier list s kind t r e =
     let word = inner_begins players used.owner s.front used s.is_front in
     let bare : IsBare (s.front ++ tail) = rw word.is (record { no_text = refl; no_list = refl }) in
     let size : length s.front ≡ suc (length word.tail) = ap length word.is in
-    let n = run_to s.partial (s.front ++ tail) s.tree s.free s.is_partial kind t r bare (omega (arith, size, length-append s.front tail, length-append list (t ∷ r))) (ap parse_tree (sym tokens) ∙ e) in
+    let n = run_to s.partial (s.front ++ tail) s.tree s.free s.is_partial kind t r bare (omega (arith, size, length-append s.front tail, length-append list (t ∷ r))) (ap located_tree (sym tokens) ∙ e) in
     let from = from_uses s.is_partial.written n.more n.added in
     let found : slice_get n.more.sets (set_place n.more.sets (key_of used)) ≡ found_of used earlier = ap (λ (sets : List PartialSet). slice_get sets (set_place sets (key_of used))) from.sets_are ∙ found_is (set_uses s.is_partial.written) used earlier s.earlier_are in
     let goes = choice_goes players (length n.more.nodes) n.more.sets used s.front tail (t ∷ r) kind s.is_front s.no_list (next_goes players n.more n.first n.others (s.front ++ tail) (t ∷ r) kind n.goes) in
@@ -108,7 +110,7 @@ lacks_after owner set None (Text text) r kind g = absurd (not_after (parse_first
 lacks_after owner set None t r kind g = lacks_list owner set t r kind g
 
 -- a later list differs
-differs : (before : List Token) (t : Token) (r : List Token) (kind : EfgKind) → DiffersFromFirst before (t ∷ r) → parse_tree (before ++ t ∷ r) ≡ Err (kind, t ∷ r) → kind ≡ SetMismatch
+differs : (before : List Token) (t : Token) (r : List Token) (kind : EfgKind) → DiffersFromFirst before (t ∷ r) → located_tree (before ++ t ∷ r) ≡ Err (kind, t ∷ r) → kind ≡ SetMismatch
 differs before t r kind d e = by d.6
   where
     used : SetUse
@@ -133,7 +135,7 @@ differs before t r kind d e = by d.6
 
 -- ---- in a first list of chance
 -- a probability comes
-chance_number : (before : List Token) (t : Token) (r : List Token) (kind : EfgKind) (set : ℕ) (actions : List Action) (v : ℚ) → StopsInChances before set actions (WantsProbability actions) → NumberComes v (t ∷ r) → parse_tree (before ++ t ∷ r) ≡ Err (kind, t ∷ r)
+chance_number : (before : List Token) (t : Token) (r : List Token) (kind : EfgKind) (set : ℕ) (actions : List Action) (v : ℚ) → StopsInChances before set actions (WantsProbability actions) → NumberComes v (t ∷ r) → located_tree (before ++ t ∷ r) ≡ Err (kind, t ∷ r)
     → (AddFits (sum_of actions) v × (kind ≡ Probability set (sum_of actions +ℚ v))) ⊎ ((AddFits (sum_of actions) v → ⊥) × (kind ≡ ProbabilityRange set (unfit Add (sum_of actions) v)))
 chance_number before t r kind set actions v s n e =
     let used = s.0 in
@@ -148,7 +150,7 @@ chance_number before t r kind set actions v s n e =
     sum_stops set (sum_of actions) v kind (probability_kind set actions name v n.0 kind (subst (λ (q : List Token). GoesTo (parse_first_list None set (Left ∷ (flat_map (action_tokens None) actions ++ Text name ∷ q))) kind q) n.1 its))
 
 -- the brace comes
-chance_brace : (before : List Token) (t : Token) (r : List Token) (kind : EfgKind) (set : ℕ) (actions : List Action) → StopsInChances before set actions (HasActions None actions) → 1 ≤ length actions → BraceComes (t ∷ r) → parse_tree (before ++ t ∷ r) ≡ Err (kind, t ∷ r) → kind ≡ Probability set (sum_of actions)
+chance_brace : (before : List Token) (t : Token) (r : List Token) (kind : EfgKind) (set : ℕ) (actions : List Action) → StopsInChances before set actions (HasActions None actions) → 1 ≤ length actions → BraceComes (t ∷ r) → located_tree (before ++ t ∷ r) ≡ Err (kind, t ∷ r) → kind ≡ Probability set (sum_of actions)
 chance_brace before t r kind set actions s some b e =
     let used = s.0 in
     let inner : List Token = flat_map (action_tokens None) actions in
@@ -160,7 +162,7 @@ chance_brace before t r kind set actions s some b e =
     brace_kind set actions b.0 kind some (subst (λ (q : List Token). GoesTo (parse_first_list None set (Left ∷ (inner ++ q))) kind q) b.1 its)
 
 -- the sum is told
-sums : (before : List Token) (t : Token) (r : List Token) (kind : EfgKind) (set : ℕ) (sum : ℚ) → SumsTo before (t ∷ r) set sum → parse_tree (before ++ t ∷ r) ≡ Err (kind, t ∷ r) → kind ≡ Probability set sum
+sums : (before : List Token) (t : Token) (r : List Token) (kind : EfgKind) (set : ℕ) (sum : ℚ) → SumsTo before (t ∷ r) set sum → located_tree (before ++ t ∷ r) ≡ Err (kind, t ∷ r) → kind ≡ Probability set sum
 sums before t r kind set sum h e = elim h.1 [
   | inl p ↦ elim (chance_number before t r kind set h.0 p.1 p.0 p.2 e) [
     | inl k ↦ k.1 ∙ ap (λ (q : ℚ). Probability set q) (sym p.4)
@@ -176,7 +178,7 @@ OutcomeIsRead players used earlier more kind rest = (outcomes : List PartialOutc
     × GoesTo (parse_outcome_use players outcomes (bare_outcome_use used.label (after_label used.name more).0) (outcome_of used earlier) (after_label used.name more).1) kind rest
     × ((outcome : PartialOutcome) → outcome_of used earlier ≡ Some outcome → length outcome.payoffs ≡ players)
 
-outcome_point : (before : List Token) (used : OutcomeUse) (earlier : List (ℕ × OutcomeUse)) (list : List Token) (s : StopsAtOutcome before used earlier list) (kind : EfgKind) (t : Token) (r : List Token) → parse_tree (before ++ t ∷ r) ≡ Err (kind, t ∷ r) → OutcomeIsRead (length s.tree.players) used earlier (list ++ t ∷ r) kind (t ∷ r)
+outcome_point : (before : List Token) (used : OutcomeUse) (earlier : List (ℕ × OutcomeUse)) (list : List Token) (s : StopsAtOutcome before used earlier list) (kind : EfgKind) (t : Token) (r : List Token) → located_tree (before ++ t ∷ r) ≡ Err (kind, t ∷ r) → OutcomeIsRead (length s.tree.players) used earlier (list ++ t ∷ r) kind (t ∷ r)
 outcome_point before used earlier list s kind t r e =
     let players = length s.tree.players in
     let tail : List Token = list ++ t ∷ r in
@@ -188,7 +190,7 @@ outcome_point before used earlier list s kind t r e =
     let size : length s.choice ≡ suc (length word.tail) = ap length word.is in
     let front : 1 ≤ length s.front = subst (λ (q : List Token). 1 ≤ length q) (sym s.is_front.2) (omega arith) in
     let less : length (t ∷ r) < length more = omega (arith, front, length-append s.front tail, length-append list (t ∷ r)) in
-    let n = run_to s.partial (s.choice ++ more) s.tree s.free s.is_partial kind t r bare (omega (arith, size, less, length-append s.choice more)) (ap parse_tree (sym tokens) ∙ e) in
+    let n = run_to s.partial (s.choice ++ more) s.tree s.free s.is_partial kind t r bare (omega (arith, size, less, length-append s.choice more)) (ap located_tree (sym tokens) ∙ e) in
     let from = from_uses s.is_partial.written n.more n.added in
     let kept = nodes_keep players s.is_partial.written root_alone n.more (all_written players s.is_partial.nodes s.is_partial.written s.is_partial.are_nodes) (nothing_keeps players) n.added in
     let found : slice_get n.more.outcomes (outcome_place n.more.outcomes used.label) ≡ outcome_of used earlier = ap (λ (outcomes : List PartialOutcome). slice_get outcomes (outcome_place outcomes used.label)) from.outcomes_are ∙ outcome_found (outcome_uses s.is_partial.written) used earlier s.earlier_are in
@@ -223,7 +225,7 @@ open_paid players used (first ∷ later) list rest kind p h c =
     let paid : length payoffs ≡ players = p.2 (partial_outcome used.label (first ∷ later)) refl in
     later_payoffs_kind payoffs list rest kind (subst (λ (n : ℕ). HasPayoffs n list) (sym paid) h) c (subst (λ (q : List Token). GoesTo (parse_later_payoffs payoffs q) kind rest) label (later_paid players used first later (list ++ rest) rest kind p))
 
-pays_otherwise : (before : List Token) (t : Token) (r : List Token) (kind : EfgKind) → PaysOtherwise before (t ∷ r) → parse_tree (before ++ t ∷ r) ≡ Err (kind, t ∷ r) → kind ≡ OutcomeMismatch
+pays_otherwise : (before : List Token) (t : Token) (r : List Token) (kind : EfgKind) → PaysOtherwise before (t ∷ r) → located_tree (before ++ t ∷ r) ≡ Err (kind, t ∷ r) → kind ≡ OutcomeMismatch
 pays_otherwise before t r kind p e = elim p.1 [
   | inl s ↦
       let there = outcome_point before p.0 [] [] s.0 kind t r e in
@@ -243,20 +245,20 @@ player_kind players n more kind g = elim (cases_Bool (nat_le 1 n && nat_le n pla
       stop_kind (parse_player players (whole_number n ∷ more)) kind UnknownPlayer (whole_number n ∷ more) (whole_number n ∷ more) same g
 ]
 
-unknown_player : (before : List Token) (t : Token) (r : List Token) (kind : EfgKind) → StopsAtPlayer before → WholeComes (t ∷ r) → parse_tree (before ++ t ∷ r) ≡ Err (kind, t ∷ r) → kind ≡ UnknownPlayer
+unknown_player : (before : List Token) (t : Token) (r : List Token) (kind : EfgKind) → StopsAtPlayer before → WholeComes (t ∷ r) → located_tree (before ++ t ∷ r) ≡ Err (kind, t ∷ r) → kind ≡ UnknownPlayer
 unfolding parse_choice parse_own_choice
 unknown_player before t r kind s w e =
     let players = length s.1.players in
     let front : List Token = Word (codes "p") ∷ Text s.3 ∷ [] in
     let tokens : before ++ t ∷ r ≡ s.0 ++ (Word (codes "p") ∷ Text s.3 ∷ (t ∷ r)) = ap (λ (q : List Token). q ++ t ∷ r) s.5 ∙ append_assoc s.0 front (t ∷ r) in
-    let n = run_to s.0 (Word (codes "p") ∷ Text s.3 ∷ (t ∷ r)) s.1 s.2 s.4 kind t r (record { no_text = refl; no_list = refl }) (omega arith) (ap parse_tree (sym tokens) ∙ e) in
+    let n = run_to s.0 (Word (codes "p") ∷ Text s.3 ∷ (t ∷ r)) s.1 s.2 s.4 kind t r (record { no_text = refl; no_list = refl }) (omega arith) (ap located_tree (sym tokens) ∙ e) in
     let choice = next_goes players n.more n.first n.others (Word (codes "p") ∷ Text s.3 ∷ (t ∷ r)) (t ∷ r) kind n.goes in
     let goes : GoesTo (parse_player players (t ∷ r)) kind (t ∷ r) = goes_before (parse_player players (t ∷ r)) (λ player tokens. parse_set_choice (length n.more.nodes) n.more.sets (Some player) tokens) kind (t ∷ r) (λ player. set_choice_within (length n.more.nodes) n.more.sets (Some player)) choice in
     player_kind players w.0 w.1 kind (subst (λ (q : List Token). GoesTo (parse_player players q) kind q) w.2 goes)
 
 -- ---- all kinds
 -- a fault has the kind that it is
-pub node_kind_told : (kind other : EfgKind) (before : List Token) (t : Token) (r : List Token) → IsNodeKind kind before (t ∷ r) → parse_tree (before ++ t ∷ r) ≡ Err (other, t ∷ r) → other ≡ kind
+pub node_kind_told : (kind other : EfgKind) (before : List Token) (t : Token) (r : List Token) → IsNodeKind kind before (t ∷ r) → located_tree (before ++ t ∷ r) ≡ Err (other, t ∷ r) → other ≡ kind
 node_kind_told UnknownPlayer other before t r h e = unknown_player before t r other h.0 h.1 e
 node_kind_told SetMismatch other before t r h e = elim h [
   | inl l ↦ lacks_after l.0.owner l.0.label l.0.name t r other (first_goes l.0 (t ∷ r) (t ∷ r) other (set_point before l.0 [] [] l.1 other t r e))

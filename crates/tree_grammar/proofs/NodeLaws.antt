@@ -13,7 +13,8 @@ use Rattle.file_parts.proofs.TokenLaws.{text_is, word_is, whole_is, whole_again}
 use Rattle.written_trees.specs.Written.{SetUse, OutcomeUse, WrittenNode}
 use Rattle.written_trees.specs.Laws.{IsActionList, IsSetUse, IsOutcomeUse, IsWrittenNode}
 use Rattle.tree_grammar.specs.TreeFile.{AreActions, IsSetPart, ArePayoffs, IsOutcomePart, IsInnerPart, IsChoicePart, IsNode, IsNodeWord}
-use Rattle.tree_grammar.specs.TreeReading.{set_use_at, outcome_use_at, player_at, chance_use_at, own_use_at, is_word, choice_after, choice_at, node_at, is_node_word, begins_node}
+use Rattle.tree_grammar.specs.TreePieces.{is_word, is_node_word, begins_node}
+use Rattle.tree_grammar.proofs.PartValueLemmas.{set_use_at, outcome_use_at, player_at, chance_use_at, own_use_at, choice_after, choice_at, node_at}
 use Rattle.tree_grammar.proofs.SetLaws.{IsBare, set_is, set_again}
 use Rattle.tree_grammar.proofs.OutcomeLaws.{outcome_is, outcome_again, outcome_bare}
 use Rattle.std.proofs.lemmas.Bool.{or_cases}

@@ -10,29 +10,30 @@ use Rattle.game_core.specs.declared.tree.Kind.TheVariants.{End}
 use Rattle.game_core.specs.declared.token.Token.{Token}
 use Rattle.game_core.specs.declared.token.Token.TheVariants.{Left, Text, Word}
 use Rattle.file_parts.specs.Parts.{whole_number, optional_text}
-use Rattle.file_parts.specs.Reading.{whole_at, optional_text_at, texts_at}
+use Rattle.file_parts.specs.Reading.{whole_at, optional_text_at, texts_at, count_at}
 use Rattle.file_parts.specs.Parsing.{Parsed, wanted}
 use Rattle.file_parts.proofs.ReaderLemmas.{chain, bind_err, err_same, ok_err}
-use Rattle.file_parts.proofs.TokenLaws.{whole_is, optional_text_is}
+use Rattle.file_parts.proofs.TokenLaws.{whole_is, optional_text_is, count_is}
 use Rattle.file_parts.proofs.TokenReaderLemmas.{wanted_faults}
 use Rattle.file_parts.proofs.ValueLemmas.{value, value_wanted}
 use Rattle.written_trees.specs.Written.{SetUse, OutcomeUse}
 use Rattle.written_trees.specs.Described.{key_of}
-use Rattle.written_trees.specs.Building.{PartialTree, PartialSet, PartialOutcome, Branching, set_place, outcome_place, passed, use_some_set}
+use Rattle.written_trees.specs.Building.{PartialTree, PartialSet, PartialOutcome, Branching, set_place, outcome_place, use_some_set}
 use Rattle.tree_grammar.specs.TreeFile.{IsSetPart, IsInnerPart, IsChoicePart, IsOutcomePart}
-use Rattle.tree_grammar.specs.TreeReading.{positive_at, is_word, begins_node, is_whole, choice_at, choice_part_at}
-use Rattle.tree_grammar.specs.TreeParsing.{Choice, parse_own_list, parse_first_list, parse_later_list, bare_use, parse_use, parse_set, parse_player, parse_set_choice, parse_own_choice, parse_after, parse_choice, parse_first_payoffs, parse_later_payoffs, bare_outcome_use, parse_outcome_use, parse_named, parse_outcome, parse_next, has_room, parse_at, parse_nodes}
-use Rattle.tree_grammar.specs.FaultKinds.{WholeComes}
+use Rattle.tree_grammar.specs.TreePieces.{is_word}
+use Rattle.tree_grammar.proofs.PartValueLemmas.{choice_at, choice_part_at}
+use Rattle.tree_grammar.specs.TreeParsing.{is_whole, Choice, parse_own_list, parse_first_list, parse_later_list, bare_use, parse_use, parse_set, parse_player, parse_set_choice, parse_own_choice, parse_after, parse_choice, parse_first_payoffs, parse_later_payoffs, bare_outcome_use, parse_outcome_use, parse_named, parse_outcome, parse_next}
+use Rattle.file_parts.specs.Faults.{WholeComes}
 use Rattle.tree_grammar.specs.declared.kinds.EfgKind.{EfgKind}
 use Rattle.tree_grammar.specs.declared.kinds.EfgKind.TheVariants.{Node, UnknownPlayer, SetMismatch, OutcomeMismatch}
-use Rattle.tree_grammar.proofs.SetLaws.{positive_is}
 use Rattle.tree_grammar.proofs.NodeLaws.{player_is, word_passes, choice_is}
 use Rattle.tree_grammar.proofs.NodesLaws.{BeginsWithNodes, none_more, one_before}
 use Rattle.tree_grammar.proofs.NodeValueLemmas.{Keeps, value_player, value_choice}
-use Rattle.tree_grammar.proofs.MarkedLaws.{next_is, next_keeps, next_takes}
+use Rattle.tree_grammar.proofs.NodesReadLaws.{next_is, next_keeps, next_takes}
 use Rattle.tree_grammar.proofs.ChanceListLemmas.{ChanceListStops, chance_list_stops, closed_err}
 use Rattle.tree_grammar.proofs.RepeatedListLemmas.{LaterListStops, later_list_stops}
 use Rattle.tree_grammar.proofs.PayoffListLemmas.{PayoffsStop, first_payoffs_stop, later_payoffs_stop}
+use Rattle.tree_grammar.proofs.LocatedReadingLemmas.{located_at, located_nodes, at_read, located_err}
 
 -- ---- kinds that are named outright
 node_only : {X : Type 0} {P : Type 0} (tokens : List Token) (f : EfgKind × List Token) → ◌≡◌ {A = Parsed EfgKind X} (Err (Node, tokens)) (Err f) → (f.0 ≡ Node) ⊎ P
@@ -83,12 +84,12 @@ record SetStops (sets : List PartialSet) (owner : Option ℕ) (tokens : List Tok
 
 set_stops : (k : ℕ) (sets : List PartialSet) (owner : Option ℕ) (tokens : List Token) (f : EfgKind × List Token) → parse_set k sets owner tokens ≡ Err f → (f.0 ≡ Node) ⊎ SetStops sets owner tokens f.0 f.1
 unfolding parse_set
-set_stops k sets owner tokens f e = elim (bind_err (wanted Node tokens (positive_at tokens)) _ f e) [
-  | inl g ↦ inl (wanted_faults Node positive_at tokens f g)
+set_stops k sets owner tokens f e = elim (bind_err (wanted Node tokens (count_at tokens)) _ f e) [
+  | inl g ↦ inl (wanted_faults Node count_at tokens f g)
   | inr a ↦
       let name = (optional_text_at a.0.1).0 in
       let after = (optional_text_at a.0.1).1 in
-      let p = positive_is tokens a.0 (sym (value_wanted Node tokens (positive_at tokens)) ∙ ap value a.1) in
+      let p = count_is tokens a.0 (sym (value_wanted Node tokens (count_at tokens)) ∙ ap value a.1) in
       let found = slice_get sets (set_place sets (owner, a.0.0)) in
       elim (bind_err (parse_use k sets (bare_use owner a.0.0 name) found after) _ f a.2) [
         | inl g ↦ elim (use_stops k sets (bare_use owner a.0.0 name) found after f g) [
@@ -315,11 +316,10 @@ next_stops players partial b others tokens f kept e = elim (bind_err (parse_choi
   ]
 ]
 
-at_stops : (players : ℕ) (partial : PartialTree) (branchings : List Branching) (tokens : List Token) (f : EfgKind × List Token) → Keeps players partial → parse_at players partial branchings tokens ≡ Err f → (f.0 ≡ Node) ⊎ NextStops players partial tokens f.0 f.1
-at_stops players partial [] tokens f kept e = node_only {X = PartialTree} tokens f e
-at_stops players partial (b ∷ others) tokens f kept e = elim (cases_Bool (begins_node tokens && has_room (passed partial))) [
-  | inl n ↦ let g : parse_next players partial b others tokens ≡ Err f = rw n at e in next_stops players partial b others tokens f kept g
-  | inr n ↦ let g : ◌≡◌ {A = Parsed EfgKind PartialTree} (Err (Node, tokens)) (Err f) = rw n at e in node_only {X = PartialTree} tokens f g
+at_stops : (players : ℕ) (partial : PartialTree) (branchings : List Branching) (tokens : List Token) (f : EfgKind × List Token) → Keeps players partial → located_at players partial branchings tokens ≡ Err f → (f.0 ≡ Node) ⊎ NextStops players partial tokens f.0 f.1
+at_stops players partial branchings tokens f kept e = elim (located_err players partial branchings tokens f e) [
+  | inl n ↦ inl (sym (ap (λ (z : EfgKind × List Token). z.0) n))
+  | inr s ↦ next_stops players partial s.0.first s.0.others tokens f kept s.1
 ]
 
 -- ---- nodes
@@ -327,19 +327,19 @@ at_stops players partial (b ∷ others) tokens f kept e = elim (cases_Bool (begi
 abbrev pub NodeStops : ℕ → PartialTree → List Token → EfgKind → List Token → Type 0
 NodeStops players partial tokens kind rest = (x : PartialTree × List Token) × BeginsWithNodes players partial tokens x × Keeps players x.0 × NextStops players x.0 x.1 kind rest
 
-pub nodes_stops : (steps players : ℕ) (partial : PartialTree) (tokens : List Token) (f : EfgKind × List Token) → Keeps players partial → length tokens < steps → parse_nodes steps players partial tokens ≡ Err f → (f.0 ≡ Node) ⊎ NodeStops players partial tokens f.0 f.1
+pub nodes_stops : (steps players : ℕ) (partial : PartialTree) (tokens : List Token) (f : EfgKind × List Token) → Keeps players partial → length tokens < steps → located_nodes steps players partial tokens ≡ Err f → (f.0 ≡ Node) ⊎ NodeStops players partial tokens f.0 f.1
 nodes_stops zero players partial tokens f kept enough e = absurd (omega arith)
 nodes_stops (suc steps) players partial tokens f kept enough e = elim (cases_Bool (is_whole partial)) [
   | inl w ↦ let g : ◌≡◌ {A = Parsed EfgKind PartialTree} (Ok (partial, tokens)) (Err f) = rw w at e in absurd (ok_err (partial, tokens) f g)
   | inr w ↦
-      let g : chain (parse_at players partial partial.branchings tokens) (λ x. parse_nodes steps players x.0 x.1) ≡ Err f = rw w at e in
-      elim (bind_err (parse_at players partial partial.branchings tokens) (λ x. parse_nodes steps players x.0 x.1) f g) [
+      let g : chain (located_at players partial partial.branchings tokens) (λ x. located_nodes steps players x.0 x.1) ≡ Err f = rw w at e in
+      elim (bind_err (located_at players partial partial.branchings tokens) (λ x. located_nodes steps players x.0 x.1) f g) [
         | inl h ↦ elim (at_stops players partial partial.branchings tokens f kept h) [
           | inl n ↦ inl n
           | inr s ↦ inr ((partial, tokens), none_more players partial tokens, kept, s)
         ]
         | inr a ↦
-            let n = next_is players partial tokens a.0 kept a.1 in
+            let n = next_is players partial tokens a.0 kept (at_read players partial partial.branchings tokens a.0 a.1) in
             let shorter = next_takes players partial tokens a.0 n in
             elim (nodes_stops steps players a.0.0 a.0.1 f (next_keeps players partial tokens a.0 kept n) (omega arith) a.2) [
               | inl m ↦ inl m

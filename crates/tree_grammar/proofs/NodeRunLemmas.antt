@@ -16,18 +16,18 @@ use Rattle.file_parts.specs.Parsing.{Parsed}
 use Rattle.file_parts.proofs.FrontLemmas.{fronts}
 use Rattle.file_parts.proofs.FrontLemmas.Goes.{same, first, second}
 use Rattle.file_parts.proofs.ReaderLemmas.{chain, IsReader, not_empty, reads_alone}
-use Rattle.file_parts.proofs.TokenLaws.{whole_again}
+use Rattle.file_parts.proofs.TokenLaws.{whole_again, count_again}
 use Rattle.file_parts.proofs.ValueLemmas.{value, value_some}
 use Rattle.written_trees.specs.Written.{SetUse, OutcomeUse}
 use Rattle.written_trees.specs.Described.{SetKey, key_of}
 use Rattle.written_trees.specs.Building.{PartialTree, PartialSet, PartialOutcome, Branching, set_place, outcome_place, repeats_actions, may_be_first, new_set, used_set}
 use Rattle.written_trees.specs.Laws.{IsActionList}
 use Rattle.tree_grammar.specs.TreeFile.{AreActions, ArePayoffs, IsSetPart, IsInnerPart, IsChoicePart, IsOutcomePart}
-use Rattle.tree_grammar.specs.TreeReading.{action_list_at, optional_at, first_list_at, later_list_at}
+use Rattle.tree_grammar.proofs.PartValueLemmas.{action_list_at, optional_at, first_list_at, later_list_at}
 use Rattle.tree_grammar.specs.TreeParsing.{Choice, parse_first_list, parse_repeated_list, bare_use, parse_use, parse_set, parse_player, parse_set_choice, parse_own_choice, parse_choice, bare_outcome_use, parse_outcome_use, parse_named, parse_outcome, with_parts, parse_next}
 use Rattle.tree_grammar.specs.declared.kinds.EfgKind.{EfgKind}
 use Rattle.tree_grammar.specs.declared.kinds.EfgKind.TheVariants.{SetMismatch}
-use Rattle.tree_grammar.proofs.SetLaws.{IsBare, list_tokens, list_bare, optional_text_again, optional_again, action_list_again, positive_again}
+use Rattle.tree_grammar.proofs.SetLaws.{IsBare, list_tokens, list_bare, optional_text_again, optional_again, action_list_again}
 use Rattle.tree_grammar.proofs.NodeLaws.{player_again}
 use Rattle.tree_grammar.proofs.TreeValueLemmas.{AreListed, found_key, mark, value_first_list, value_later_list}
 use Rattle.tree_grammar.proofs.NodeValueLemmas.{value_player}
@@ -62,7 +62,7 @@ set_goes : (k : ℕ) (sets : List PartialSet) (used : SetUse) (part more rest : 
 unfolding parse_set
 set_goes k sets used part more rest kind h none g =
     let reading = parse_use k sets (bare_use used.owner used.label (after_label used.name more).0) (slice_get sets (set_place sets (key_of used))) (after_label used.name more).1 in
-    let same : parse_set k sets used.owner (whole_number used.label ∷ (optional_text used.name ++ more)) ≡ chain reading (λ x. Ok ((x.0, set_place sets (key_of used)), x.1)) = rw (positive_again used.label (optional_text used.name ++ more) h.0) refl in
+    let same : parse_set k sets used.owner (whole_number used.label ∷ (optional_text used.name ++ more)) ≡ chain reading (λ x. Ok ((x.0, set_place sets (key_of used)), x.1)) = rw (count_again used.label (optional_text used.name ++ more) h.0) refl in
     goes_before reading (λ x tokens. Ok ((x, set_place sets (key_of used)), tokens)) kind rest (λ x. pure_within _)
     (goes_by (parse_set k sets used.owner (part ++ more)) (chain reading (λ x. Ok ((x.0, set_place sets (key_of used)), x.1))) kind rest (ap (parse_set k sets used.owner) (set_front part more used h none) ∙ same) g)
 
@@ -173,7 +173,7 @@ set_passes k sets used part more rest kind all h bare less g =
     let text : after_label used.name (list ++ more) ≡ (used.name, list ++ more) = optional_text_again used.name (list ++ more) (list_bare used.owner list more used.actions h.3 bare.no_text) in
     let found = slice_get sets (set_place sets (key_of used)) in
     let reading = parse_use k sets (bare_use used.owner used.label used.name) found (list ++ more) in
-    let same : parse_set k sets used.owner (part ++ more) ≡ chain reading (λ x. Ok ((x.0, set_place sets (key_of used)), x.1)) = ap (parse_set k sets used.owner) tokens ∙ rw (positive_again used.label (optional_text used.name ++ (list ++ more)) h.0, text) refl in
+    let same : parse_set k sets used.owner (part ++ more) ≡ chain reading (λ x. Ok ((x.0, set_place sets (key_of used)), x.1)) = ap (parse_set k sets used.owner) tokens ∙ rw (count_again used.label (optional_text used.name ++ (list ++ more)) h.0, text) refl in
     let there = goes_before reading (λ x tokens. Ok ((x, set_place sets (key_of used)), tokens)) kind rest (λ x. pure_within _) (goes_by (parse_set k sets used.owner (part ++ more)) (chain reading (λ x. Ok ((x.0, set_place sets (key_of used)), x.1))) kind rest same g) in
     let r = use_passes k sets used used.name found list more rest kind (known_set sets used all) used.actions h.3 bare.no_list less there in
     ((r.0, set_place sets (key_of used)), same ∙ ap (λ (o : Parsed EfgKind (List PartialSet)). chain o (λ x. Ok ((x.0, set_place sets (key_of used)), x.1))) r.1)

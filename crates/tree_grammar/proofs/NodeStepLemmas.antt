@@ -6,7 +6,8 @@ use Rattle.game_core.specs.declared.token.Token.{Token}
 use Rattle.written_trees.specs.Written.{SetUse, OutcomeUse, WrittenNode}
 use Rattle.written_trees.specs.Described.{key_of, kind_of_use}
 use Rattle.written_trees.specs.Building.{PartialTree, PartialSet, PartialOutcome, Branching, use_some_set, use_some_outcome, set_place, outcome_place, add_at, add_node}
-use Rattle.tree_grammar.specs.TreeReading.{choice_at, choice_part_at, outcome_use_at, outcome_part_at, with_outcome, node_at, next_at, grown_at, grown}
+use Rattle.tree_grammar.specs.TreeParsing.{grown_at, grown}
+use Rattle.tree_grammar.proofs.PartValueLemmas.{choice_at, choice_part_at, outcome_use_at, outcome_part_at, with_outcome, node_at, next_at}
 
 -- ---- a node in steps
 -- what a step of the choice, and of the outcome, gives

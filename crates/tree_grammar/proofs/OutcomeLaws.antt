@@ -9,7 +9,7 @@ use Rattle.file_parts.proofs.TokenLaws.{left_is, right_is, whole_is, whole_again
 use Rattle.file_parts.proofs.NumberLaws.{payoffs_are, payoffs_again}
 use Rattle.written_trees.specs.Written.{OutcomeUse}
 use Rattle.tree_grammar.specs.TreeFile.{ArePayoffs, IsOutcomePart}
-use Rattle.tree_grammar.specs.TreeReading.{optional_at, payoff_list_at, named_outcome_at, outcome_use_at}
+use Rattle.tree_grammar.proofs.PartValueLemmas.{optional_at, payoff_list_at, named_outcome_at, outcome_use_at}
 use Rattle.tree_grammar.proofs.SetLaws.{IsBare, optional_text_again, optional_is, optional_again, no_list_again}
 use Rattle.std.proofs.lemmas.Option.{same_Some}
 use Rattle.lists.proofs.NumberLemmas.{positive, not_zero}

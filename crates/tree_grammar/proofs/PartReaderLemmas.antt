@@ -11,9 +11,9 @@ use Rattle.file_parts.proofs.ReaderLemmas.{IsReader, token_reader, bind_reader, 
 use Rattle.file_parts.proofs.TokenReaderLemmas.{left_reader, text_reader}
 use Rattle.file_parts.proofs.TokenLaws.{le_passes}
 use Rattle.file_parts.proofs.PartReaderLemmas.{closed_texts, closed_reader}
-use Rattle.tree_grammar.specs.TreeReading.{own_action, closed_at}
+use Rattle.tree_grammar.specs.TreePieces.{closed_at}
 use Rattle.written_trees.proofs.InsertedKeyLemmas.{eq_self}
-use Rattle.tree_grammar.specs.TreeParsing.{parse_own_list, closes, has_text, parse_same, parse_probability, parse_repeated, parse_all_repeated, parse_repeated_list, parse_payoff, parse_payoffs_end, parse_first_payoffs, parse_same_payoff, parse_same_payoffs, parse_repeated_payoffs}
+use Rattle.tree_grammar.specs.TreeParsing.{own_action, parse_own_list, closes, has_text, parse_same, parse_probability, parse_repeated, parse_all_repeated, parse_repeated_list, parse_payoff, parse_payoffs_end, parse_first_payoffs, parse_same_payoff, parse_same_payoffs, parse_repeated_payoffs}
 use Rattle.tree_grammar.specs.declared.kinds.EfgKind.{EfgKind}
 use Rattle.tree_grammar.specs.declared.kinds.EfgKind.TheVariants.{Node, SetMismatch, OutcomeMismatch}
 use Rattle.rational.specs.Tests.{eq_ℚ}

@@ -17,7 +17,7 @@ use Rattle.file_parts.proofs.FrontLemmas.Goes.{same, first, second}
 use Rattle.file_parts.proofs.ValueLemmas.{value, value_some}
 use Rattle.written_trees.specs.Building.{repeats_payoffs}
 use Rattle.tree_grammar.specs.TreeFile.{ArePayoffs}
-use Rattle.tree_grammar.specs.TreeReading.{payoff_list_at, optional_at, later_payoffs_at}
+use Rattle.tree_grammar.proofs.PartValueLemmas.{payoff_list_at, optional_at, later_payoffs_at}
 use Rattle.tree_grammar.specs.TreeParsing.{closes, has_number, parse_payoff, parse_payoffs_end, parse_first_payoffs, parse_same_payoff, parse_same_payoffs, parse_repeated_payoffs, parse_later_payoffs}
 use Rattle.tree_grammar.specs.TreeFaults.{HasPayoffs}
 use Rattle.tree_grammar.specs.FaultKinds.{NumberComes, BraceComes}

@@ -9,7 +9,7 @@ use Rattle.file_parts.specs.Reading.{left_at, right_at, payoff_at}
 use Rattle.file_parts.proofs.ValueLemmas.{payoffs_at, repeat_at}
 use Rattle.file_parts.proofs.TokenLaws.{left_is}
 use Rattle.written_trees.specs.Building.{repeats_payoffs}
-use Rattle.tree_grammar.specs.TreeReading.{payoff_list_at, payoffs_repeated_at, later_payoffs_at}
+use Rattle.tree_grammar.proofs.PartValueLemmas.{payoff_list_at, payoffs_repeated_at, later_payoffs_at}
 use Rattle.lists.specs.Options.{◌>>=◌}
 use Rattle.rational.specs.Tests.{eq_ℚ}
 
@@ -70,9 +70,3 @@ opened_compared payoffs tokens = by (payoffs_at (length payoffs) tokens)
 -- later payoffs are those that repeat the first one by one
 pub later_opened : (payoffs : List ℚ) (tokens inner : List Token) → left_at tokens ≡ Some inner → later_payoffs_at (length payoffs) payoffs tokens ≡ (payoffs_repeated_at 0 payoffs inner >>= right_at)
 later_opened payoffs tokens inner opened = rw (left_is tokens inner opened) (opened_compared payoffs inner ∙ compared 0 payoffs inner)
-
--- no later payoffs come
-pub later_absent : (players : ℕ) (payoffs : List ℚ) (tokens : List Token) → left_at tokens ≡ None → later_payoffs_at players payoffs tokens ≡ Some tokens
-unfolding later_payoffs_at
-later_absent players payoffs (Left ∷ tokens) absent = cc
-later_absent players payoffs _ absent = refl

@@ -8,12 +8,14 @@ use Rattle.rational.specs.Rational.{ℚ, zero_ℚ}
 use Rattle.rational.proofs.PartLemmas.{whole-num}
 use Rattle.game_core.specs.declared.tree.Action.{Action}
 use Rattle.file_parts.specs.Parts.{whole_number, optional_text}
-use Rattle.file_parts.specs.Reading.{left_at, right_at, whole_at, optional_text_at, texts_at, opens}
-use Rattle.file_parts.proofs.TokenLaws.{left_is, right_is, whole_is, whole_again, optional_text_is, passes_le, le_passes}
+use Rattle.file_parts.specs.Reading.{left_at, right_at, optional_text_at, texts_at, opens, count_at}
+use Rattle.file_parts.proofs.TokenLaws.{left_is, right_is, optional_text_is, passes_le, le_passes, count_is, count_again}
 use Rattle.written_trees.specs.Written.{SetUse}
 use Rattle.written_trees.specs.Laws.{HasNoProbability, IsActionList}
 use Rattle.tree_grammar.specs.TreeFile.{action_tokens, AreActions, IsSetPart}
-use Rattle.tree_grammar.specs.TreeReading.{chance_actions_at, own_action, actions_at, closed_at, action_list_at, optional_at, positive_at, set_use_at}
+use Rattle.tree_grammar.specs.TreePieces.{closed_at}
+use Rattle.tree_grammar.specs.TreeParsing.{own_action}
+use Rattle.tree_grammar.proofs.PartValueLemmas.{chance_actions_at, actions_at, action_list_at, optional_at, set_use_at}
 use Rattle.lists.specs.Options.{◌>>=◌}
 use Rattle.lists.proofs.OptionLemmas.{bind_some, either}
 use Rattle.game_core.specs.declared.token.Token.{Token}
@@ -166,20 +168,6 @@ list_bare owner list rest None h e = rw h e
 list_bare owner list rest (Some actions) h e = rw h.1 refl
 
 -- ---- a set
--- what is read as a positive number is one
-pub positive_is : (tokens : List Token) (x : ℕ × List Token) → positive_at tokens ≡ Some x → (1 ≤ x.0) × (tokens ≡ whole_number x.0 ∷ x.1)
-unfolding positive_at
-positive_is tokens x e =
-    let a = bind_some (whole_at tokens) _ x e in
-    let p = cond_some (nat_le 1 a.0.0) a.0 x a.2 in
-    let P : ℕ × List Token → Type 0 = λ y. (1 ≤ y.0) × (tokens ≡ whole_number y.0 ∷ y.1) in
-    subst P p.1 (passes_le 1 a.0.0 p.0, whole_is tokens a.0 a.1)
-
--- a positive number is read
-pub positive_again : (n : ℕ) (rest : List Token) → 1 ≤ n → positive_at (whole_number n ∷ rest) ≡ Some (n, rest)
-unfolding positive_at
-positive_again n rest some = rw (whole_again n rest, le_passes 1 n some) refl
-
 -- a set of this owner comes first
 pub record BeginsWithSet (owner : Option ℕ) (tokens : List Token) (x : SetUse × List Token) : Type 0 where
   pub part : List Token
@@ -191,10 +179,10 @@ pub record BeginsWithSet (owner : Option ℕ) (tokens : List Token) (x : SetUse 
 pub set_is : (owner : Option ℕ) (tokens : List Token) (x : SetUse × List Token) → set_use_at owner tokens ≡ Some x → BeginsWithSet owner tokens x
 unfolding set_use_at
 set_is owner tokens x e =
-    let a = bind_some (positive_at tokens) _ x e in
+    let a = bind_some (count_at tokens) _ x e in
     let following : List Token = (optional_text_at a.0.1).1 in
     let b = bind_some (optional_at (action_list_at owner) following) _ x a.2 in
-    let p = positive_is tokens a.0 a.1 in
+    let p = count_is tokens a.0 a.1 in
     let l = optional_list_is owner following b.0 b.1 in
     let name : List Token = optional_text (optional_text_at a.0.1).0 in
     let after : a.0.1 ≡ (name ++ l.0) ++ b.0.1 = optional_text_is a.0.1 ∙ ap (λ (r : List Token). name ++ r) l.2 ∙ sym (append_assoc name l.0 b.0.1) in
@@ -214,7 +202,7 @@ own_set_again part rest used h bare =
     let list = h.1 in
     let name : List Token = optional_text used.name in
     let tokens : part ++ rest ≡ whole_number used.label ∷ (name ++ (list ++ rest)) = rw h.2 (ap (λ (r : List Token). whole_number used.label ∷ r) (append_assoc name list rest)) in
-    let label = positive_again used.label (name ++ (list ++ rest)) h.0 in
+    let label = count_again used.label (name ++ (list ++ rest)) h.0 in
     let text = optional_text_again used.name (list ++ rest) (list_bare used.owner list rest used.actions h.3 bare.no_text) in
     let actions = optional_list_again used.owner list rest used.actions h.3 bare.no_list in
     rw (tokens, label, text, actions) refl

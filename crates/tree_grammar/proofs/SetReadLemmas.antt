@@ -3,11 +3,11 @@ use Rattle.std.proofs.Common.{◌≡◌, ℕ, Bool, true, false, List, [], ◌�
 use Rattle.game_core.specs.declared.tree.Action.{Action}
 use Rattle.game_core.specs.declared.token.Token.{Token}
 use Rattle.game_core.specs.declared.token.Token.TheVariants.{Left}
-use Rattle.file_parts.specs.Reading.{optional_text_at}
+use Rattle.file_parts.specs.Reading.{optional_text_at, count_at}
 use Rattle.written_trees.specs.Described.{SetKey, key_of}
 use Rattle.written_trees.specs.Written.{SetUse}
 use Rattle.written_trees.specs.Building.{PartialSet, set_place, use_set, may_be_first, repeats_actions}
-use Rattle.tree_grammar.specs.TreeReading.{action_list_at, optional_at, positive_at, set_use_at, first_list_at, set_part_at}
+use Rattle.tree_grammar.proofs.PartValueLemmas.{action_list_at, optional_at, set_use_at, first_list_at, set_part_at}
 use Rattle.tree_grammar.proofs.ActionListLemmas.{first_without, that_comes}
 use Rattle.lists.specs.Options.{◌>>=◌}
 use Rattle.std.specs.Option.{option_or}
@@ -43,7 +43,7 @@ abbrev pub with_list : SetKey → Option (List ℕ) → Option (List Action) × 
 with_list key name list = Some (use_of key name list.0, list.1)
 
 -- the number and the name come first
-pub step_is : (k : ℕ) (sets : List PartialSet) (owner : Option ℕ) (label : ℕ) (name : Option (List ℕ)) (tokens following after : List Token) → positive_at tokens ≡ Some (label, following) → (name, after) ≡ optional_text_at following
+pub step_is : (k : ℕ) (sets : List PartialSet) (owner : Option ℕ) (label : ℕ) (name : Option (List ℕ)) (tokens following after : List Token) → count_at tokens ≡ Some (label, following) → (name, after) ≡ optional_text_at following
     → set_part_at k sets owner tokens ≡ ((optional_at (action_list_at owner) after >>= with_list (owner, label) name) >>= step_after k sets)
 unfolding set_part_at set_use_at
 step_is k sets owner label name tokens following after l n = rw (l, ← n) refl

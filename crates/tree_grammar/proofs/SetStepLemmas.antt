@@ -8,7 +8,7 @@ use Rattle.std.proofs.lemmas.List.{map-append, map-set, length-map}
 use Rattle.std.proofs.Math.Seq.{map-set_same}
 use Rattle.file_parts.specs.declared.refusal.Refusal.{Refusal}
 use Rattle.file_parts.specs.declared.refusal.Refusal.TheVariants.{Unexpected}
-use Rattle.file_parts.specs.Reading.{optional_text_at}
+use Rattle.file_parts.specs.Reading.{optional_text_at, count_at}
 use Rattle.file_parts.specs.Parsing.{IsRefusal}
 use Rattle.file_parts.proofs.ParseLemmas.{refused_first}
 use Rattle.file_parts.proofs.ReaderLemmas.{chain}
@@ -20,7 +20,6 @@ use Rattle.tree_grammar.specs.declared.sets.KeptSet.{KeptSet}
 use Rattle.tree_grammar.specs.declared.sets.SetKey.{SetKey as Key}
 use Rattle.tree_grammar.specs.declared.sets.Sets.TheInside.{Inside as KeptSets}
 use Rattle.tree_grammar.specs.Uses.{partial_set, partial_sets, AreSets}
-use Rattle.tree_grammar.specs.TreeReading.{positive_at}
 use Rattle.tree_grammar.specs.TreeParsing.{bare_use, parse_first_list, parse_later_list, parse_use, parse_set}
 use Rattle.tree_grammar.specs.declared.kinds.EfgKind.{EfgKind}
 use Rattle.tree_grammar.specs.declared.kinds.EfgKind.TheVariants.{Node}
@@ -65,7 +64,7 @@ negated false false e = e
 pub record Comes (sets : KeptSets) (owner : Option ℕ) (tokens after : List Token) (label : ℕ) (name : Option (List ℕ)) (place : ℕ) (is_new : Bool) : Type 0 where
   pub are : AreSets sets
   pub following : List Token
-  pub is_label : positive_at tokens ≡ Some (label, following)
+  pub is_label : count_at tokens ≡ Some (label, following)
   pub is_name : (name, after) ≡ optional_text_at following
   pub is_place : place ≡ position_or_len (λ k. same_set (owner, label) (k.owner, k.label)) sets.keys.keys
   pub within : place < length sets.keys.keys + (if is_new then 1 else 0)
@@ -82,12 +81,12 @@ count_found sets s set e =
     (slice_get-map (λ (set : PartialSet). length set.actions) (map partial_set sets) s ∙ ap (option_map (λ (set : PartialSet). length set.actions)) (slice_get-map partial_set sets s ∙ ap (option_map partial_set) e))
 
 -- no number comes
-pub step_without : (k : ℕ) (sets : List PartialSet) (owner : Option ℕ) (tokens : List Token) (refusal : Refusal EfgKind) → positive_at tokens ≡ None → refusal ≡ Unexpected Node (length tokens) → IsRefusal refusal (parse_set k sets owner tokens)
+pub step_without : (k : ℕ) (sets : List PartialSet) (owner : Option ℕ) (tokens : List Token) (refusal : Refusal EfgKind) → count_at tokens ≡ None → refusal ≡ Unexpected Node (length tokens) → IsRefusal refusal (parse_set k sets owner tokens)
 unfolding parse_set
 step_without k sets owner tokens refusal none u = rw (none, u) refl
 
 -- the number and the name come first
-step_is : (k : ℕ) (sets : List PartialSet) (owner : Option ℕ) (label : ℕ) (name : Option (List ℕ)) (tokens following after : List Token) → positive_at tokens ≡ Some (label, following) → (name, after) ≡ optional_text_at following
+step_is : (k : ℕ) (sets : List PartialSet) (owner : Option ℕ) (label : ℕ) (name : Option (List ℕ)) (tokens following after : List Token) → count_at tokens ≡ Some (label, following) → (name, after) ≡ optional_text_at following
     → parse_set k sets owner tokens ≡ chain {B = (List PartialSet × ℕ) × List Token} (parse_use k sets (bare_use owner label name) (slice_get sets (set_place sets (owner, label))) after) (λ more. Ok ((more.0, set_place sets (owner, label)), more.1))
 unfolding parse_set
 step_is k sets owner label name tokens following after l n = rw (l, ← n) refl

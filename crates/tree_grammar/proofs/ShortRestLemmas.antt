@@ -8,9 +8,8 @@ use Rattle.game_core.specs.Spacing.{IsShortToken}
 use Rattle.file_parts.specs.Reading.{word_at, text_at}
 use Rattle.file_parts.proofs.TokenLaws.{word_is, text_is}
 use Rattle.written_trees.specs.Building.{PartialSet}
-use Rattle.tree_grammar.specs.TreeReading.{Head}
-use Rattle.tree_grammar.specs.TreeParsing.{Choice, parse_head, parse_player, parse_choice}
-use Rattle.tree_grammar.proofs.HeadLemmas.{head_is}
+use Rattle.tree_grammar.specs.TreeParsing.{Head, Choice, parse_head, parse_player, parse_choice}
+use Rattle.tree_grammar.proofs.HeadLaws.{head_is}
 use Rattle.tree_grammar.proofs.NodeLaws.{of_back}
 use Rattle.tree_grammar.proofs.TokenEndLemmas.{Ends, player_within, choice_within}
 

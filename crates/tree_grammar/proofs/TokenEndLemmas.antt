@@ -5,20 +5,21 @@ use Rattle.std.proofs.lemmas.Bool.{cases_Bool}
 use Rattle.game_core.specs.declared.tree.Kind.TheVariants.{End}
 use Rattle.game_core.specs.declared.token.Token.{Token}
 use Rattle.game_core.specs.declared.token.Token.TheVariants.{Text, Word}
-use Rattle.file_parts.specs.Reading.{word_at, text_at, whole_at, optional_text_at, opens}
+use Rattle.file_parts.specs.Reading.{word_at, text_at, whole_at, optional_text_at, opens, count_at}
 use Rattle.file_parts.specs.Parsing.{Parsed, ◌>>=◌, wanted}
 use Rattle.file_parts.proofs.ReaderLemmas.{chain, IsReader, bind_ok, bind_err, ok_same, err_same, ok_err}
-use Rattle.file_parts.proofs.TokenReaderLemmas.{text_reader}
+use Rattle.file_parts.proofs.TokenReaderLemmas.{text_reader, count_reader}
 use Rattle.written_trees.specs.Written.{SetUse, OutcomeUse}
-use Rattle.written_trees.specs.Building.{PartialTree, PartialSet, PartialOutcome, Branching, set_place, outcome_place, passed}
-use Rattle.tree_grammar.specs.TreeReading.{positive_at, is_word, begins_node, is_whole}
-use Rattle.tree_grammar.specs.TreeParsing.{Choice, parse_first_list, parse_repeated_list, parse_later_list, bare_use, parse_use, parse_set, parse_player, parse_set_choice, parse_own_choice, parse_after, parse_choice, parse_first_payoffs, parse_repeated_payoffs, parse_later_payoffs, bare_outcome_use, parse_outcome_use, parse_named, parse_outcome, parse_next, has_room, parse_at, parse_nodes}
+use Rattle.written_trees.specs.Building.{PartialTree, PartialSet, PartialOutcome, Branching, set_place, outcome_place}
+use Rattle.tree_grammar.specs.TreePieces.{is_word}
+use Rattle.tree_grammar.specs.TreeParsing.{is_whole, Choice, parse_first_list, parse_repeated_list, parse_later_list, bare_use, parse_use, parse_set, parse_player, parse_set_choice, parse_own_choice, parse_after, parse_choice, parse_first_payoffs, parse_repeated_payoffs, parse_later_payoffs, bare_outcome_use, parse_outcome_use, parse_named, parse_outcome, parse_next}
 use Rattle.tree_grammar.specs.declared.kinds.EfgKind.{EfgKind}
 use Rattle.tree_grammar.specs.declared.kinds.EfgKind.TheVariants.{Node, UnknownPlayer}
 use Rattle.tree_grammar.proofs.PartReaderLemmas.{own_list_reader, repeated_list_reader, first_payoffs_reader, repeated_payoffs_reader}
 use Rattle.tree_grammar.proofs.ChanceReaderLemmas.{chance_list_reader}
 use Rattle.tree_grammar.proofs.NodeReaderLemmas.{first_list_reader}
-use Rattle.tree_grammar.proofs.MarkedReaderLemmas.{label_reader, positive_reader}
+use Rattle.tree_grammar.proofs.MarkedReaderLemmas.{label_reader}
+use Rattle.tree_grammar.proofs.LocatedReadingLemmas.{located_at, located_nodes, located_ok, located_err}
 
 -- these tokens end those
 abbrev pub Ends : List Token → List Token → Type 0
@@ -95,8 +96,8 @@ after_number_within k sets owner label =
 set_within : (k : ℕ) (sets : List PartialSet) (owner : Option ℕ) → Within (parse_set k sets owner)
 unfolding parse_set
 set_within k sets owner =
-    bind_within (λ tokens. wanted Node tokens (positive_at tokens)) (λ label tokens. parse_use k sets (bare_use owner label (optional_text_at tokens).0) (slice_get sets (set_place sets (owner, label))) (optional_text_at tokens).1 >>= λ more. Ok ((more.0, set_place sets (owner, label)), more.1))
-    (reader_within _ positive_reader) (after_number_within k sets owner)
+    bind_within (λ tokens. wanted Node tokens (count_at tokens)) (λ label tokens. parse_use k sets (bare_use owner label (optional_text_at tokens).0) (slice_get sets (set_place sets (owner, label))) (optional_text_at tokens).1 >>= λ more. Ok ((more.0, set_place sets (owner, label)), more.1))
+    (reader_within _ (count_reader Node)) (after_number_within k sets owner)
 
 -- ---- outcomes
 pub outcome_use_within : (players : ℕ) (outcomes : List PartialOutcome) (used : OutcomeUse) (found : Option PartialOutcome) → Within (parse_outcome_use players outcomes used found)
@@ -199,23 +200,19 @@ pub next_within : (players : ℕ) (partial : PartialTree) (b : Branching) (rest 
 unfolding parse_next
 next_within players partial b rest = bind_within (parse_choice players (length partial.nodes) partial.sets) _ (choice_within players (length partial.nodes) partial.sets) (λ choice. bind_within (parse_outcome players partial.outcomes) _ (outcome_within players partial.outcomes) (λ outcome. pure_within _))
 
-at_within : (players : ℕ) (partial : PartialTree) (branchings : List Branching) → Within (parse_at players partial branchings)
-at_within players partial [] = record { ok = λ tokens x e. absurd (ok_err x (Node, tokens) (sym e)); err = λ tokens f e. ([], ap (λ (z : EfgKind × List Token). z.1) (err_same {A = PartialTree × List Token} (Node, tokens) f e)) }
-at_within players partial (b ∷ rest) = record {
-  ok = λ tokens x e. elim (cases_Bool (begins_node tokens && has_room (passed partial))) [
-    | inl n ↦ let f : parse_next players partial b rest tokens ≡ Ok x = rw n at e in (next_within players partial b rest).ok tokens x f
-    | inr n ↦ let f : ◌≡◌ {A = Parsed EfgKind PartialTree} (Err (Node, tokens)) (Ok x) = rw n at e in absurd (ok_err x (Node, tokens) (sym f))
-  ];
-  err = λ tokens g e. elim (cases_Bool (begins_node tokens && has_room (passed partial))) [
-    | inl n ↦ let f : parse_next players partial b rest tokens ≡ Err g = rw n at e in (next_within players partial b rest).err tokens g f
-    | inr n ↦ let f : ◌≡◌ {A = Parsed EfgKind PartialTree} (Err (Node, tokens)) (Err g) = rw n at e in ([], ap (λ (z : EfgKind × List Token). z.1) (err_same {A = PartialTree × List Token} (Node, tokens) g f))
+at_within : (players : ℕ) (partial : PartialTree) (branchings : List Branching) → Within (located_at players partial branchings)
+at_within players partial branchings = record {
+  ok = λ tokens x e. let s = located_ok players partial branchings tokens x e in (next_within players partial s.0.first s.0.others).ok tokens x s.1;
+  err = λ tokens f e. elim (located_err players partial branchings tokens f e) [
+    | inl n ↦ ([], ap (λ (z : EfgKind × List Token). z.1) n)
+    | inr s ↦ (next_within players partial s.0.first s.0.others).err tokens f s.1
   ];
 }
 
-pub nodes_within : (most players : ℕ) (partial : PartialTree) → Within (parse_nodes most players partial)
+pub nodes_within : (most players : ℕ) (partial : PartialTree) → Within (located_nodes most players partial)
 nodes_within zero players partial = record { ok = λ tokens x e. absurd (ok_err x (Node, tokens) (sym e)); err = λ tokens f e. ([], ap (λ (z : EfgKind × List Token). z.1) (err_same {A = PartialTree × List Token} (Node, tokens) f e)) }
 nodes_within (suc most) players partial = by (is_whole partial) (nodes_within most players)
   where
-    by : (whole : Bool) → ((next : PartialTree) → Within (parse_nodes most players next)) → Within (λ tokens. if whole then Ok (partial, tokens) else (parse_at players partial partial.branchings tokens >>= λ x. parse_nodes most players x.0 x.1))
+    by : (whole : Bool) → ((next : PartialTree) → Within (located_nodes most players next)) → Within (λ tokens. if whole then Ok (partial, tokens) else (located_at players partial partial.branchings tokens >>= λ x. located_nodes most players x.0 x.1))
     by true more = pure_within partial
-    by false more = bind_within (parse_at players partial partial.branchings) (λ x tokens. parse_nodes most players x tokens) (at_within players partial partial.branchings) more
+    by false more = bind_within (located_at players partial partial.branchings) (λ x tokens. located_nodes most players x tokens) (at_within players partial partial.branchings) more

@@ -1,5 +1,5 @@
 -- What a part reads it reads with more tokens after it, where it goes on to a stop before them: so after a file a token is trailing.
-use Rattle.std.proofs.Common.{◌≡◌, ℕ, zero, suc, ◌≤◌, ◌&&◌, if◌then◌else◌, nat_eq, slice_get, List, [], ◌∷◌, ◌++◌, length, length-append, Bool, true, false, true≢false, Option, Some, None, inl, inr, refl, sym, ap, ◌∙◌, append_assoc, arith}
+use Rattle.std.proofs.Common.{◌≡◌, ℕ, zero, suc, ◌≤◌, if◌then◌else◌, nat_eq, slice_get, List, [], ◌∷◌, ◌++◌, length, length-append, Bool, true, false, true≢false, Option, Some, None, inl, inr, refl, sym, ap, ◌∙◌, append_assoc, arith}
 use Rattle.std.specs.Prelude.{Ok, Err, codes}
 use Rattle.std.proofs.lemmas.Bool.{cases_Bool}
 use Rattle.rational.specs.Rational.{ℚ}
@@ -7,27 +7,29 @@ use Rattle.game_core.specs.declared.tree.Action.{Action}
 use Rattle.game_core.specs.declared.tree.Kind.TheVariants.{End}
 use Rattle.game_core.specs.declared.token.Token.{Token}
 use Rattle.game_core.specs.declared.token.Token.TheVariants.{Left, Text, Word}
-use Rattle.file_parts.specs.Reading.{whole_at, optional_text_at, opens}
+use Rattle.file_parts.proofs.TokenReaderLemmas.{count_reader}
+use Rattle.file_parts.specs.Reading.{whole_at, optional_text_at, opens, count_at}
 use Rattle.file_parts.specs.Parsing.{Parsed, ◌>>=◌, wanted}
 use Rattle.file_parts.proofs.ReaderLemmas.{chain, IsReader, bind_ok, ok_same, err_same, ok_err}
 use Rattle.written_trees.specs.Written.{SetUse, OutcomeUse}
-use Rattle.written_trees.specs.Building.{PartialTree, PartialSet, PartialOutcome, Branching, root_alone, set_place, outcome_place, passed}
-use Rattle.tree_grammar.specs.TreeReading.{positive_at, is_word, begins_node, is_whole}
-use Rattle.tree_grammar.specs.TreeParsing.{has_text, Choice, parse_first_list, parse_repeated_list, parse_later_list, bare_use, parse_use, parse_set, parse_player, parse_set_choice, parse_own_choice, parse_after, parse_choice, parse_payoffs_end, parse_first_payoffs, parse_same_payoffs, parse_repeated_payoffs, parse_later_payoffs, bare_outcome_use, parse_outcome_use, parse_named, parse_outcome, parse_next, has_room, parse_at, parse_nodes, parse_head, parse_all_nodes, in_nodes, parse_tree}
+use Rattle.written_trees.specs.Building.{PartialTree, PartialSet, PartialOutcome, Branching, root_alone, set_place, outcome_place}
+use Rattle.tree_grammar.specs.TreePieces.{is_word, begins_node}
+use Rattle.tree_grammar.specs.TreeParsing.{is_whole, has_text, Choice, parse_first_list, parse_repeated_list, parse_later_list, bare_use, parse_use, parse_set, parse_player, parse_set_choice, parse_own_choice, parse_after, parse_choice, parse_payoffs_end, parse_first_payoffs, parse_same_payoffs, parse_repeated_payoffs, parse_later_payoffs, bare_outcome_use, parse_outcome_use, parse_named, parse_outcome, parse_next, parse_head}
 use Rattle.tree_grammar.specs.TreeFaults.{IsFile}
 use Rattle.tree_grammar.specs.declared.kinds.EfgKind.{EfgKind}
 use Rattle.tree_grammar.specs.declared.kinds.EfgKind.TheVariants.{Node, Trailing}
 use Rattle.tree_grammar.proofs.PartReaderLemmas.{own_list_reader, repeated_list_reader, first_payoffs_reader, same_payoffs_reader, payoffs_end_reader, repeated_payoffs_reader}
 use Rattle.tree_grammar.proofs.ChanceReaderLemmas.{chance_list_reader}
 use Rattle.tree_grammar.proofs.NodeReaderLemmas.{first_list_reader, text_first}
-use Rattle.tree_grammar.proofs.MarkedReaderLemmas.{label_reader, positive_reader, player_token}
-use Rattle.tree_grammar.proofs.HeadLemmas.{head_is}
-use Rattle.tree_grammar.proofs.WholeFileLaws.{file_is_read, no_fault, at_end}
+use Rattle.tree_grammar.proofs.MarkedReaderLemmas.{label_reader, player_token}
+use Rattle.tree_grammar.proofs.HeadLaws.{head_is}
+use Rattle.tree_grammar.proofs.FileLaws.{tree_read}
 use Rattle.tree_grammar.proofs.TokenEndLemmas.{Within, reader_within, bind_within, pure_within, use_within, after_number_within, outcome_use_within, after_label_within, set_choice_within, outcome_within, nodes_within}
 use Rattle.tree_grammar.proofs.StopLemmas.{GoesTo, goes_before, not_after}
 use Rattle.tree_grammar.proofs.RepeatedListLemmas.{repeating, repeating_within}
 use Rattle.tree_grammar.proofs.NodeRunLemmas.{goes_by}
 use Rattle.tree_grammar.proofs.RunLemmas.{tree_err}
+use Rattle.tree_grammar.proofs.LocatedReadingLemmas.{located_at, located_nodes, located_end, located_all_nodes, located_tree, located_ok, located_is, all_located}
 
 -- what is read of some tokens is read of them with more after, where reading goes on to a stop before these
 record ReadsOn {X : Type 0} (p : List Token → Parsed EfgKind X) : Type 0 where
@@ -88,8 +90,8 @@ use_on k sets used (Some set) = bind_on (parse_later_list set.owner set.actions)
 set_on : (k : ℕ) (sets : List PartialSet) (owner : Option ℕ) → ReadsOn (parse_set k sets owner)
 unfolding parse_set
 set_on k sets owner =
-    bind_on (λ tokens. wanted Node tokens (positive_at tokens)) (λ label tokens. parse_use k sets (bare_use owner label (optional_text_at tokens).0) (slice_get sets (set_place sets (owner, label))) (optional_text_at tokens).1 >>= λ more. Ok ((more.0, set_place sets (owner, label)), more.1))
-    (reader_on _ positive_reader)
+    bind_on (λ tokens. wanted Node tokens (count_at tokens)) (λ label tokens. parse_use k sets (bare_use owner label (optional_text_at tokens).0) (slice_get sets (set_place sets (owner, label))) (optional_text_at tokens).1 >>= λ more. Ok ((more.0, set_place sets (owner, label)), more.1))
+    (reader_on _ (count_reader Node))
     (λ label. bind_on (λ tokens. parse_use k sets (bare_use owner label (optional_text_at tokens).0) (slice_get sets (set_place sets (owner, label))) (optional_text_at tokens).1) (λ more tokens. Ok ((more, set_place sets (owner, label)), tokens))
     (named_on (λ name. parse_use k sets (bare_use owner label name) (slice_get sets (set_place sets (owner, label)))) (λ name. use_on k sets (bare_use owner label name) (slice_get sets (set_place sets (owner, label)))) (λ name. use_within k sets (bare_use owner label name) (slice_get sets (set_place sets (owner, label))))) (λ more. pure_on _) (λ more. pure_within _))
     (after_number_within k sets owner)
@@ -165,53 +167,48 @@ next_on players partial b others =
     (λ choice. bind_within (parse_outcome players partial.outcomes) _ (outcome_within players partial.outcomes) (λ outcome. pure_within _))
 
 -- the word of a node comes as it came
-begins_on : (room : Bool) (a : List Token) (t : Token) (r : List Token) → (begins_node a && room) ≡ true → (begins_node (a ++ t ∷ r) && room) ≡ true
-begins_on room (Word word ∷ a) t r n = n
-begins_on room a t r n = absurd (true≢false (sym n))
+begins_on : (a : List Token) (t : Token) (r : List Token) → begins_node a ≡ true → begins_node (a ++ t ∷ r) ≡ true
+begins_on (Word word ∷ a) t r n = n
+begins_on a t r n = absurd (true≢false (sym n))
 
-at_on : (players : ℕ) (partial : PartialTree) (branchings : List Branching) → ReadsOn (parse_at players partial branchings)
-at_on players partial [] = record { on = λ a x kind t r e g. absurd (ok_err x (Node, a) (sym e)) }
-at_on players partial (b ∷ others) = record {
-  on = λ a x kind t r e g. elim (cases_Bool (begins_node a && has_room (passed partial))) [
-    | inl n ↦
-        let m = begins_on (has_room (passed partial)) a t r n in
-        let f : parse_next players partial b others a ≡ Ok x = rw n at e in
-        let h : GoesTo (parse_next players partial b others (a ++ t ∷ r)) kind (t ∷ r) = rw m at g in
-        rw m ((next_on players partial b others).on a x kind t r f h)
-    | inr n ↦ let f : ◌≡◌ {A = Parsed EfgKind PartialTree} (Err (Node, a)) (Ok x) = rw n at e in absurd (ok_err x (Node, a) (sym f))
-  ];
+at_on : (players : ℕ) (partial : PartialTree) (branchings : List Branching) → ReadsOn (located_at players partial branchings)
+at_on players partial branchings = record {
+  on = λ a x kind t r e g.
+      let s = located_ok players partial branchings a x e in
+      let is = located_is players partial branchings (a ++ t ∷ r) (record { first = s.0.first; others = s.0.others; are = s.0.are; begins = begins_on a t r s.0.begins; room = s.0.room }) in
+      is ∙ (next_on players partial s.0.first s.0.others).on a x kind t r s.1 (goes_by (located_at players partial branchings (a ++ t ∷ r)) (parse_next players partial s.0.first s.0.others (a ++ t ∷ r)) kind (t ∷ r) is g);
 }
 
-nodes_on : (most other players : ℕ) (partial : PartialTree) (a : List Token) (x : PartialTree × List Token) (kind : EfgKind) (t : Token) (r : List Token) → most ≤ other → parse_nodes most players partial a ≡ Ok x → GoesTo (parse_nodes other players partial (a ++ t ∷ r)) kind (t ∷ r)
-    → parse_nodes other players partial (a ++ t ∷ r) ≡ Ok (x.0, x.1 ++ t ∷ r)
+nodes_on : (most other players : ℕ) (partial : PartialTree) (a : List Token) (x : PartialTree × List Token) (kind : EfgKind) (t : Token) (r : List Token) → most ≤ other → located_nodes most players partial a ≡ Ok x → GoesTo (located_nodes other players partial (a ++ t ∷ r)) kind (t ∷ r)
+    → located_nodes other players partial (a ++ t ∷ r) ≡ Ok (x.0, x.1 ++ t ∷ r)
 nodes_on zero other players partial a x kind t r le e g = absurd (ok_err x (Node, a) (sym e))
 nodes_on (suc most) zero players partial a x kind t r le e g = absurd (omega arith)
 nodes_on (suc most) (suc other) players partial a x kind t r le e g = elim (cases_Bool (is_whole partial)) [
   | inl w ↦ let f : ◌≡◌ {A = Parsed EfgKind PartialTree} (Ok (partial, a)) (Ok x) = rw w at e in rw w (ap (λ (z : PartialTree × List Token). Ok (z.0, z.1 ++ t ∷ r)) (ok_same (partial, a) x f))
   | inr w ↦
-      let f : chain (parse_at players partial partial.branchings a) (λ z. parse_nodes most players z.0 z.1) ≡ Ok x = rw w at e in
-      let h : GoesTo (chain (parse_at players partial partial.branchings (a ++ t ∷ r)) (λ z. parse_nodes other players z.0 z.1)) kind (t ∷ r) = rw w at g in
-      let m = bind_ok (parse_at players partial partial.branchings a) (λ z. parse_nodes most players z.0 z.1) x f in
-      let one = (at_on players partial partial.branchings).on a m.0 kind t r m.1 (goes_before (parse_at players partial partial.branchings (a ++ t ∷ r)) (λ z tokens. parse_nodes other players z tokens) kind (t ∷ r) (nodes_within other players) h) in
-      let same = ap (λ (o : Parsed EfgKind PartialTree). chain o (λ z. parse_nodes other players z.0 z.1)) one in
-      let more = nodes_on most other players m.0.0 m.0.1 x kind t r (omega arith) m.2 (goes_by (chain (parse_at players partial partial.branchings (a ++ t ∷ r)) (λ z. parse_nodes other players z.0 z.1)) (parse_nodes other players m.0.0 (m.0.1 ++ t ∷ r)) kind (t ∷ r) same h) in
+      let f : chain (located_at players partial partial.branchings a) (λ z. located_nodes most players z.0 z.1) ≡ Ok x = rw w at e in
+      let h : GoesTo (chain (located_at players partial partial.branchings (a ++ t ∷ r)) (λ z. located_nodes other players z.0 z.1)) kind (t ∷ r) = rw w at g in
+      let m = bind_ok (located_at players partial partial.branchings a) (λ z. located_nodes most players z.0 z.1) x f in
+      let one = (at_on players partial partial.branchings).on a m.0 kind t r m.1 (goes_before (located_at players partial partial.branchings (a ++ t ∷ r)) (λ z tokens. located_nodes other players z tokens) kind (t ∷ r) (nodes_within other players) h) in
+      let same = ap (λ (o : Parsed EfgKind PartialTree). chain o (λ z. located_nodes other players z.0 z.1)) one in
+      let more = nodes_on most other players m.0.0 m.0.1 x kind t r (omega arith) m.2 (goes_by (chain (located_at players partial partial.branchings (a ++ t ∷ r)) (λ z. located_nodes other players z.0 z.1)) (located_nodes other players m.0.0 (m.0.1 ++ t ∷ r)) kind (t ∷ r) same h) in
       rw w (same ∙ more)
 ]
 
 -- ---- after a file
 -- all nodes are read
-all_on : (players : ℕ) (a : List Token) (partial : PartialTree) (kind : EfgKind) (t : Token) (r : List Token) → parse_all_nodes players a ≡ Ok partial → parse_all_nodes players (a ++ t ∷ r) ≡ Err (kind, t ∷ r) → kind ≡ Trailing
-unfolding parse_all_nodes
+all_on : (players : ℕ) (a : List Token) (partial : PartialTree) (kind : EfgKind) (t : Token) (r : List Token) → located_all_nodes players a ≡ Ok partial → located_all_nodes players (a ++ t ∷ r) ≡ Err (kind, t ∷ r) → kind ≡ Trailing
+unfolding located_all_nodes
 all_on players a partial kind t r e f =
     let steps = suc (length (a ++ t ∷ r)) in
-    let m = bind_ok (parse_nodes (suc (length a)) players root_alone a) at_end partial e in
-    let nodes = parse_nodes steps players root_alone (a ++ t ∷ r) in
+    let m = bind_ok (located_nodes (suc (length a)) players root_alone a) located_end partial e in
+    let nodes = located_nodes steps players root_alone (a ++ t ∷ r) in
     let g = stops_before nodes f in
     let one = nodes_on (suc (length a)) steps players root_alone a m.0 kind t r (omega (arith, length-append a (t ∷ r))) m.1 g in
-    let same : at_end (m.0.0, m.0.1 ++ t ∷ r) ≡ Err (kind, t ∷ r) = ap (λ (o : Parsed EfgKind PartialTree). chain o at_end) (sym one) ∙ f in
+    let same : located_end (m.0.0, m.0.1 ++ t ∷ r) ≡ Err (kind, t ∷ r) = ap (λ (o : Parsed EfgKind PartialTree). chain o located_end) (sym one) ∙ f in
     trailing m.0.0 m.0.1 same
   where
-    stops_before : (o : Parsed EfgKind PartialTree) → chain o at_end ≡ Err (kind, t ∷ r) → GoesTo o kind (t ∷ r)
+    stops_before : (o : Parsed EfgKind PartialTree) → chain o located_end ≡ Err (kind, t ∷ r) → GoesTo o kind (t ∷ r)
     stops_before (Err f) e = inl (ap (λ (z : EfgKind × List Token). Err z) (err_same {A = PartialTree} f (kind, t ∷ r) e))
     stops_before (Ok (one, [])) e = absurd (ok_err one (kind, t ∷ r) e)
     stops_before (Ok (one, u ∷ s)) e =
@@ -219,27 +216,26 @@ all_on players a partial kind t r e f =
         let n : length (u ∷ s) ≡ length (t ∷ r) = ap length same in
         inr ((one, u ∷ s), refl, omega (arith, n))
 
-    trailing : (one : PartialTree) (left : List Token) → at_end (one, left ++ t ∷ r) ≡ Err (kind, t ∷ r) → kind ≡ Trailing
+    trailing : (one : PartialTree) (left : List Token) → located_end (one, left ++ t ∷ r) ≡ Err (kind, t ∷ r) → kind ≡ Trailing
     trailing one [] e = sym (ap (λ (z : EfgKind × List Token). z.0) (err_same {A = PartialTree} (Trailing, t ∷ r) (kind, t ∷ r) e))
     trailing one (u ∷ left) e = sym (ap (λ (z : EfgKind × List Token). z.0) (err_same {A = PartialTree} (Trailing, (u ∷ left) ++ t ∷ r) (kind, t ∷ r) e))
 
 -- without tokens there are no nodes
-some_body : (players : ℕ) (body : List Token) (partial : PartialTree) → parse_all_nodes players body ≡ Ok partial → (u : Token) × (more : List Token) × (body ≡ u ∷ more)
-unfolding parse_all_nodes
+some_body : (players : ℕ) (body : List Token) (partial : PartialTree) → located_all_nodes players body ≡ Ok partial → (u : Token) × (more : List Token) × (body ≡ u ∷ more)
+unfolding located_all_nodes
 some_body players [] partial e = absurd (ok_err partial (Node, []) (sym e))
 some_body players (u ∷ more) partial e = (u, more, refl)
 
 -- a token after a file is trailing
-pub file_trails : (before : List Token) (t : Token) (r : List Token) (kind : EfgKind) → IsFile before → parse_tree (before ++ t ∷ r) ≡ Err (kind, t ∷ r) → kind ≡ Trailing
-unfolding parse_tree
+pub file_trails : (before : List Token) (t : Token) (r : List Token) (kind : EfgKind) → IsFile before → located_tree (before ++ t ∷ r) ≡ Err (kind, t ∷ r) → kind ≡ Trailing
+unfolding located_tree
 file_trails before t r kind file e =
-    let a = bind_ok (parse_head before) _ file.0 (file_is_read before file.0 file.1) in
-    let players = length a.0.0.1 in
-    let b = bind_ok (in_nodes (parse_all_nodes players a.0.1)) _ file.0 a.2 in
-    let all = no_fault (parse_all_nodes players a.0.1) b.0 b.1 in
-    let s = some_body players a.0.1 b.0 all in
-    let h = head_is before a.0 a.1 in
+    let f = tree_read before file.0 file.1 in
+    let players = length f.x.0.1 in
+    let all = all_located players f.x.1 f.partial f.are_nodes in
+    let s = some_body players f.x.1 f.partial all in
+    let h = head_is before f.x f.is_front in
     let text = ap (λ (q : List Token). has_text (q ++ t ∷ r)) s.2 ∙ text_first s.0 (s.1 ++ t ∷ r) s.1 ∙ ap has_text (sym s.2) in
-    let tokens : before ++ t ∷ r ≡ h.front ++ (a.0.1 ++ t ∷ r) = ap (λ (q : List Token). q ++ t ∷ r) h.is ∙ append_assoc h.front a.0.1 (t ∷ r) in
-    let head : parse_head (before ++ t ∷ r) ≡ Ok (a.0.0, a.0.1 ++ t ∷ r) = ap parse_head tokens ∙ h.again (a.0.1 ++ t ∷ r) text in
-    all_on players a.0.1 b.0 kind t r all (tree_err (before ++ t ∷ r) (a.0.0, a.0.1 ++ t ∷ r) kind t r head e)
+    let tokens : before ++ t ∷ r ≡ h.front ++ (f.x.1 ++ t ∷ r) = ap (λ (q : List Token). q ++ t ∷ r) h.is ∙ append_assoc h.front f.x.1 (t ∷ r) in
+    let head : parse_head (before ++ t ∷ r) ≡ Ok (f.x.0, f.x.1 ++ t ∷ r) = ap parse_head tokens ∙ h.again (f.x.1 ++ t ∷ r) text in
+    all_on players f.x.1 f.partial kind t r all (tree_err (before ++ t ∷ r) (f.x.0, f.x.1 ++ t ∷ r) kind t r head e)

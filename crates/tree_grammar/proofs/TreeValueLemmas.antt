@@ -10,17 +10,17 @@ use Rattle.frac128.specs.declared.steps.Op.TheVariants.{Add}
 use Rattle.game_core.specs.declared.tree.Action.{Action}
 use Rattle.game_core.specs.declared.token.Token.{Token}
 use Rattle.game_core.specs.declared.token.Token.TheVariants.{Left, Text, Number}
-use Rattle.file_parts.specs.Reading.{left_at, right_at, number_at, whole_at, optional_text_at, payoff_start, payoff_at, texts_at}
-use Rattle.file_parts.proofs.ValueLemmas.{payoffs_at}
+use Rattle.file_parts.specs.Reading.{left_at, right_at, number_at, whole_at, optional_text_at, payoff_start, payoff_at, texts_at, count_at}
+use Rattle.file_parts.proofs.ValueLemmas.{payoffs_at, value, value_wanted, value_passed, value_chain, value_if, value_each}
 use Rattle.file_parts.specs.Parsing.{passed, parse_each}
 use Rattle.file_parts.proofs.TokenReaderLemmas.{some_or_none}
-use Rattle.file_parts.proofs.ValueLemmas.{value, value_wanted, value_passed, value_chain, value_if, value_each}
 use Rattle.written_trees.specs.Described.{SetKey, same_set}
 use Rattle.written_trees.specs.Building.{PartialSet, PartialOutcome, key_of_partial, set_place, outcome_place, new_set, used_set, new_outcome, used_outcome, add_test, may_follow}
 use Rattle.written_trees.specs.Laws.{IsActionList}
 use Rattle.written_trees.proofs.SetUseLemmas.{same_set-Decides}
-use Rattle.tree_grammar.specs.TreeReading.{action_list_at, optional_at, set_use_at, outcome_use_at, closed_at, own_action, summed_at, first_list_at, repeated_at, all_repeated_at, later_list_at, positive_at, set_part_at, payoff_list_at, payoffs_repeated_at, later_payoffs_at, named_part_at, outcome_part_at}
-use Rattle.tree_grammar.specs.TreeParsing.{closes, has_text, has_number, sum_with, parse_chances, parse_own_list, parse_chance_list, parse_first_list, parse_same, parse_repeated, parse_all_repeated, parse_repeated_list, parse_later_list, bare_use, parse_use, parse_set, parse_payoff, parse_first_payoffs, parse_same_payoff, parse_same_payoffs, parse_repeated_payoffs, parse_later_payoffs, bare_outcome_use, parse_outcome_use, parse_named, parse_outcome}
+use Rattle.tree_grammar.specs.TreePieces.{closed_at}
+use Rattle.tree_grammar.proofs.PartValueLemmas.{action_list_at, optional_at, set_use_at, outcome_use_at, summed_at, first_list_at, repeated_at, all_repeated_at, later_list_at, set_part_at, payoff_list_at, payoffs_repeated_at, later_payoffs_at, named_part_at, outcome_part_at}
+use Rattle.tree_grammar.specs.TreeParsing.{own_action, closes, has_text, has_number, sum_with, parse_chances, parse_own_list, parse_chance_list, parse_first_list, parse_same, parse_repeated, parse_all_repeated, parse_repeated_list, parse_later_list, bare_use, parse_use, parse_set, parse_payoff, parse_first_payoffs, parse_same_payoff, parse_same_payoffs, parse_repeated_payoffs, parse_later_payoffs, bare_outcome_use, parse_outcome_use, parse_named, parse_outcome}
 use Rattle.tree_grammar.specs.declared.kinds.EfgKind.{EfgKind}
 use Rattle.tree_grammar.specs.declared.kinds.EfgKind.TheVariants.{Node, SetMismatch, OutcomeMismatch, Probability, ProbabilityRange}
 use Rattle.tree_grammar.proofs.ActionListLemmas.{closed_sum, first_without, own_list_is, chance_list_is, later_without, later_list_is}
@@ -146,7 +146,7 @@ found_key sets key set e = (same_set-Decides key (key_of_partial set)).0 (found_
 abbrev placed : ℕ → List PartialSet × List Token → Option ((List PartialSet × ℕ) × List Token)
 placed place x = Some ((x.0, place), x.1)
 
-value_use : (k : ℕ) (sets : List PartialSet) (owner : Option ℕ) (label : ℕ) (name : Option (List ℕ)) (after tokens following : List Token) → AreListed sets → positive_at tokens ≡ Some (label, following) → (name, after) ≡ optional_text_at following
+value_use : (k : ℕ) (sets : List PartialSet) (owner : Option ℕ) (label : ℕ) (name : Option (List ℕ)) (after tokens following : List Token) → AreListed sets → count_at tokens ≡ Some (label, following) → (name, after) ≡ optional_text_at following
     → (value (parse_use k sets (bare_use owner label name) (slice_get sets (set_place sets (owner, label))) after) >>= placed (set_place sets (owner, label))) ≡ set_part_at k sets owner tokens
 unfolding later_list_at
 value_use k sets owner label name after tokens following all p n = elim (some_or_none (slice_get sets (set_place sets (owner, label)))) [
@@ -176,12 +176,12 @@ value_use k sets owner label name after tokens following all p n = elim (some_or
     partial_placed (Some x) f place = refl
 
 -- a set without its number
-set_without : (k : ℕ) (sets : List PartialSet) (owner : Option ℕ) (tokens : List Token) → positive_at tokens ≡ None → value (parse_set k sets owner tokens) ≡ set_part_at k sets owner tokens
+set_without : (k : ℕ) (sets : List PartialSet) (owner : Option ℕ) (tokens : List Token) → count_at tokens ≡ None → value (parse_set k sets owner tokens) ≡ set_part_at k sets owner tokens
 unfolding parse_set set_part_at set_use_at
 set_without k sets owner tokens none = rw none refl
 
 -- what follows its number
-set_numbered : (k : ℕ) (sets : List PartialSet) (owner : Option ℕ) (tokens : List Token) (p : ℕ × List Token) → positive_at tokens ≡ Some p
+set_numbered : (k : ℕ) (sets : List PartialSet) (owner : Option ℕ) (tokens : List Token) (p : ℕ × List Token) → count_at tokens ≡ Some p
     → value (parse_set k sets owner tokens) ≡ (value (parse_use k sets (bare_use owner p.0 (optional_text_at p.1).0) (slice_get sets (set_place sets (owner, p.0))) (optional_text_at p.1).1) >>= placed (set_place sets (owner, p.0)))
 unfolding parse_set
 set_numbered k sets owner tokens p e =
@@ -189,7 +189,7 @@ set_numbered k sets owner tokens p e =
     rw e (value_chain o (value o) _ (placed (set_place sets (owner, p.0))) refl (λ x. refl))
 
 pub value_set : (k : ℕ) (sets : List PartialSet) (owner : Option ℕ) (tokens : List Token) → AreListed sets → value (parse_set k sets owner tokens) ≡ set_part_at k sets owner tokens
-value_set k sets owner tokens all = elim (some_or_none (positive_at tokens)) [
+value_set k sets owner tokens all = elim (some_or_none (count_at tokens)) [
   | inl p ↦ set_numbered k sets owner tokens p.0 p.1 ∙ value_use k sets owner p.0.0 (optional_text_at p.0.1).0 (optional_text_at p.0.1).1 tokens p.0.1 all p.1 refl
   | inr none ↦ set_without k sets owner tokens none
 ]

@@ -1,79 +1,50 @@
 -- A file of a tree is read whole, and where reading stops the tokens so far begin a file, and no more of them do.
-use Rattle.std.proofs.Common.{◌≡◌, ℕ, suc, ◌+◌, ◌<◌, ◌≤◌, ◌^◌, if◌then◌else◌, List, [], ◌∷◌, ◌++◌, length, Some, ◌⊎◌, inl, inr, refl, sym, ap, ◌∙◌, subst, append_assoc, arith}
+use Rattle.std.proofs.Common.{◌≡◌, ℕ, suc, ◌+◌, ◌<◌, ◌≤◌, ◌^◌, List, [], ◌∷◌, ◌++◌, length, Some, ◌⊎◌, inl, inr, refl, sym, ap, ◌∙◌, subst, append_assoc, arith}
 use Rattle.std.proofs.lemmas.List.{append-nil}
-use Rattle.std.proofs.lemmas.List.Elements.{All-nil}
-use Rattle.std.specs.Prelude.{Result, Ok, Err, Option, None}
-use Rattle.game_core.specs.declared.too_large.What.{What}
+use Rattle.std.specs.Prelude.{Result, Ok, Err, None}
 use Rattle.game_core.specs.Tree.{GameTree, OpenBranch, most_nodes}
 use Rattle.game_core.specs.declared.token.Token.{Token}
 use Rattle.game_core.specs.declared.token.Token.TheVariants.{Comma}
-use Rattle.file_parts.specs.Reading.{ends}
 use Rattle.file_parts.proofs.ReaderLemmas.{reads_alone, bind_ok, bind_err, ok_same, err_same, ok_err, same_test, same_first, same_rest, same_front, both_cons, not_empty, cut}
 use Rattle.written_trees.specs.Written.{WrittenNode}
-use Rattle.written_trees.specs.Building.{PartialTree, PartialSet, PartialOutcome, root_alone, add_nodes, tree_so_far, open_branches}
-use Rattle.written_trees.specs.Laws.{IsActionList}
+use Rattle.written_trees.specs.Building.{PartialTree, root_alone, add_nodes, tree_so_far, open_branches}
 use Rattle.written_trees.proofs.BuiltTreeLemmas.{built_is_so}
 use Rattle.written_trees.proofs.DescribedTreeLemmas.{described_is_so}
 use Rattle.written_trees.proofs.StandingNodeLemmas.{each_length}
 use Rattle.tree_grammar.specs.TreeFile.{IsFront, AreNodes, IsPartialFile, IsTreeFile}
-use Rattle.tree_grammar.specs.TreeReading.{Head, front_at, nodes_at, whole_nodes_at}
-use Rattle.tree_grammar.specs.TreeParsing.{has_text, parse_head, parse_nodes, in_nodes, parse_all_nodes, parse_tree}
-use Rattle.tree_grammar.specs.TreeFaults.{IsFile, CannotCome}
+use Rattle.tree_grammar.specs.TreeParsing.{Head, has_text, NodeStop, within_limit, parse_head, in_nodes, parse_all_nodes, parse_tree}
+use Rattle.tree_grammar.specs.TreeFaults.{IsFile}
 use Rattle.tree_grammar.specs.declared.kinds.EfgKind.{EfgKind}
 use Rattle.tree_grammar.specs.declared.kinds.EfgKind.TheVariants.{Node, Unfinished, Trailing}
 use Rattle.tree_grammar.proofs.FileLaws.{partial_front, tree_read, read_is_file as is_file_of}
-use Rattle.tree_grammar.proofs.NodesLaws.{all_written, and_then_ok}
+use Rattle.tree_grammar.proofs.NodesLaws.{all_written}
 use Rattle.tree_grammar.proofs.NodeReaderLemmas.{text_first}
-use Rattle.tree_grammar.proofs.NodeValueLemmas.{Keeps}
 use Rattle.tree_grammar.proofs.MarkedNodeLemmas.{marked, marked_reader}
-use Rattle.tree_grammar.proofs.MarkedLaws.{StopsAsMarked, marked_is, marked_again, nodes_same, nodes_too, nodes_stop, nodes_end}
-use Rattle.tree_grammar.proofs.HeadLemmas.{ReadsHead, Stops, head_some, head_front, head_is}
-use Rattle.std.proofs.lemmas.Option.{same_Some}
+use Rattle.tree_grammar.proofs.MarkedLaws.{StopsAsMarked, marked_is, marked_again, nodes_stop, nodes_end}
+use Rattle.tree_grammar.proofs.NodesReadLaws.{nothing_keeps}
+use Rattle.tree_grammar.proofs.NodeStopLemmas.{unlimited_read}
+use Rattle.tree_grammar.proofs.HeadLemmas.{Stops, CannotCome}
+use Rattle.tree_grammar.proofs.HeadLaws.{ReadsHead, head_is}
+use Rattle.tree_grammar.proofs.LocatedReadingLemmas.{located_nodes, located_end, located_all_nodes, in_located, located_tree, tree_located}
 
 -- ---- the whole
--- nothing is partial
-pub nothing_keeps : (players : ℕ) → Keeps players root_alone
-nothing_keeps players = record { listed = All-nil (λ (set : PartialSet). IsActionList set.owner set.actions); paid = All-nil (λ (outcome : PartialOutcome). length outcome.payoffs ≡ players) }
-
--- after nodes the tokens end
-abbrev pub at_end : PartialTree × List Token → Result PartialTree (EfgKind × List Token)
-at_end x = if ends x.1 then Ok x.0 else Err (Trailing, x.1)
-
-ended : (x : PartialTree × List Token) (partial : PartialTree) → at_end x ≡ Ok partial → x ≡ (partial, [])
-ended (one, []) partial e = ap (λ (b : PartialTree). (b, [])) (ok_same one partial e)
-ended (one, t ∷ rest) partial e = absurd (ok_err partial (Trailing, t ∷ rest) (sym e))
-
-pub no_fault : {X : Type 0} (o : Result X (EfgKind × List Token)) (x : X) → in_nodes o ≡ Ok x → o ≡ Ok x
+-- what is read as nodes was read without a fault
+pub no_fault : {X : Type 0} (o : Result X NodeStop) (x : X) → in_nodes o ≡ Ok x → o ≡ Ok x
 no_fault (Ok y) x e = e
-no_fault {X} (Err (kind, [])) x e = absurd (ok_err {A = X} x (Unfinished, []) (sym e))
-no_fault {X} (Err (kind, t ∷ rest)) x e = absurd (ok_err {A = X} x (kind, t ∷ rest) (sym e))
-
--- all nodes are read without places too
-pub whole_same : (players : ℕ) (tokens : List Token) (partial : PartialTree) → parse_all_nodes players tokens ≡ Ok partial → whole_nodes_at players tokens ≡ Ok partial
-unfolding parse_all_nodes whole_nodes_at
-whole_same players tokens partial e =
-    let a = bind_ok (parse_nodes (suc (length tokens)) players root_alone tokens) at_end partial e in
-    let o = nodes_same (suc (length tokens)) players root_alone tokens a.0 (nothing_keeps players) a.1 in
-    rw (o, ended a.0 partial a.2) refl
-
--- at the end
-at_the_end : (x : PartialTree × List Token) (partial : PartialTree) → ◌≡◌ {A = Result PartialTree (Option What)} (if ends x.1 then Ok x.0 else Err None) (Ok partial) → x ≡ (partial, [])
-at_the_end (one, []) partial e = let same : one ≡ partial = cc in ap (λ (b : PartialTree). (b, [])) same
-at_the_end (one, t ∷ rest) partial e = cc
-
-pub whole_too : (players : ℕ) (tokens : List Token) (partial : PartialTree) → whole_nodes_at players tokens ≡ Ok partial → parse_all_nodes players tokens ≡ Ok partial
-unfolding parse_all_nodes whole_nodes_at
-whole_too players tokens partial e =
-    let a = and_then_ok (nodes_at (suc (length tokens)) players root_alone tokens) _ partial e in
-    let o = nodes_too (suc (length tokens)) players root_alone tokens a.0 (nothing_keeps players) a.1 in
-    rw (o, at_the_end a.0 partial a.2) refl
+no_fault {X} (Err (inl (kind, []))) x e = absurd (ok_err {A = X} x (inl (Unfinished, [])) (sym e))
+no_fault {X} (Err (inl (kind, t ∷ rest))) x e = absurd (ok_err {A = X} x (inl (kind, t ∷ rest)) (sym e))
+no_fault {X} (Err (inr what)) x e = absurd (ok_err {A = X} x (inr what) (sym e))
 
 -- a file of a tree is read
 pub file_is_read : (tokens : List Token) (tree : GameTree) → IsTreeFile tokens tree → parse_tree tokens ≡ Ok tree
 unfolding parse_tree
 file_is_read tokens tree f =
     let r = tree_read tokens tree f in
-    rw (head_some tokens r.x r.is_front, whole_too (length r.x.0.1) r.x.1 r.partial r.are_nodes) (ap (λ (t : GameTree). Ok t) (sym r.tree_is))
+    rw (r.is_front, r.are_nodes) (ap (λ (t : GameTree). Ok t) (sym r.tree_is))
+
+-- with its places too
+pub file_is_located : (tokens : List Token) (tree : GameTree) → IsTreeFile tokens tree → located_tree tokens ≡ Ok tree
+file_is_located tokens tree f = tree_located tokens tree (file_is_read tokens tree f)
 
 -- there are fewer players than tokens
 pub few_players : (tokens : List Token) (x : Head × List Token) → length tokens < 2 ^ 32 → parse_head tokens ≡ Ok x → length x.0.1 < 2 ^ 32
@@ -83,9 +54,10 @@ few_players tokens x short e = let h = head_is tokens x e in omega (arith, h.few
 pub few_is_file : (tokens : List Token) (tree : GameTree) → ((x : Head × List Token) → parse_head tokens ≡ Ok x → length x.0.1 < 2 ^ 32) → parse_tree tokens ≡ Ok tree → IsTreeFile tokens tree
 unfolding parse_tree
 few_is_file tokens tree few e =
-    let a = bind_ok (parse_head tokens) _ tree e in
+    let a = bind_ok (within_limit None (parse_head tokens)) _ tree e in
+    let head = unlimited_read (parse_head tokens) a.0 a.1 in
     let b = bind_ok (in_nodes (parse_all_nodes (length a.0.0.1) a.0.1)) _ tree a.2 in
-    subst (IsTreeFile tokens) (ok_same _ _ b.2) (is_file_of tokens a.0 b.0 (few a.0 a.1) (head_front tokens a.0 a.1) (whole_same (length a.0.0.1) a.0.1 b.0 (no_fault (parse_all_nodes (length a.0.0.1) a.0.1) b.0 b.1)))
+    subst (IsTreeFile tokens) (ok_same _ _ b.2) (is_file_of tokens a.0 b.0 (few a.0 head) head (no_fault (parse_all_nodes (length a.0.0.1) a.0.1) b.0 b.1))
 
 -- what is read is a file
 pub read_is_file : (tokens : List Token) (tree : GameTree) → length tokens < 2 ^ 32 → parse_tree tokens ≡ Ok tree → IsTreeFile tokens tree
@@ -119,8 +91,8 @@ pub record ReadsNodes (most : ℕ) (players : ℕ) (nodes : List Token) : Type 0
 pub partial_nodes : (most : ℕ) (front body : List Token) (x : Head) (tree : GameTree) (free : List OpenBranch) → most_nodes ≤ most → parse_head (front ++ body) ≡ Ok (x, body) → IsPartialFile (front ++ body) tree free → ReadsNodes most (length x.1) body
 partial_nodes most front body x tree free le e f =
     let all = front ++ body in
-    let read : front_at all ≡ Some ((tree.title, tree.players), f.nodes ++ []) = partial_front all all [] tree free f (sym (append-nil all)) (record { no_text = refl; no_list = refl }) in
-    let same : ((tree.title, tree.players), f.nodes ++ []) ≡ (x, body) = same_Some _ _ (sym read ∙ head_front all (x, body) e) in
+    let read : parse_head all ≡ Ok ((tree.title, tree.players), f.nodes ++ []) = partial_front all all [] tree free f (sym (append-nil all)) (record { no_text = refl; no_list = refl }) in
+    let same : ((tree.title, tree.players), f.nodes ++ []) ≡ (x, body) = ok_same _ _ (sym read ∙ e) in
     let nodes : f.nodes ≡ body = sym (append-nil f.nodes) ∙ ap (λ (z : Head × List Token). z.1) same in
     let players : length tree.players ≡ length x.1 = ap (λ (z : Head × List Token). length z.0.1) same in
     let built = described_is_so f.written tree free f.describe in
@@ -217,19 +189,19 @@ nodes_stops most tokens x kind rest h few le (inl e) none = stuck_stops most tok
 nodes_stops most tokens x kind rest h few le (inr y) none = subst (StopsAfter tokens h) (sym y.3) (comma_stops most tokens x y.0.0 y.0.1 h few le y.1)
 
 -- all nodes stop where they stop up to a comma
-all_nodes_stop : (most players : ℕ) (tokens : List Token) (kind : EfgKind) (rest : List Token) → suc (length tokens) ≤ most → parse_all_nodes players tokens ≡ Err (kind, rest) → (other : EfgKind) × StopsAsMarked (marked most players root_alone tokens) other rest
-unfolding parse_all_nodes
-all_nodes_stop most players tokens kind rest le e = elim (bind_err (parse_nodes (suc (length tokens)) players root_alone tokens) at_end (kind, rest) e) [
+all_nodes_stop : (most players : ℕ) (tokens : List Token) (kind : EfgKind) (rest : List Token) → suc (length tokens) ≤ most → located_all_nodes players tokens ≡ Err (kind, rest) → (other : EfgKind) × StopsAsMarked (marked most players root_alone tokens) other rest
+unfolding located_all_nodes
+all_nodes_stop most players tokens kind rest le e = elim (bind_err (located_nodes (suc (length tokens)) players root_alone tokens) located_end (kind, rest) e) [
   | inl f ↦ (kind, nodes_stop (suc (length tokens)) most players root_alone tokens kind rest (nothing_keeps players) (omega arith) le f)
   | inr x ↦ (Node, following x.0 x.1 x.2)
 ]
   where
-    following : (x : PartialTree × List Token) → parse_nodes (suc (length tokens)) players root_alone tokens ≡ Ok x → at_end x ≡ Err (kind, rest) → StopsAsMarked (marked most players root_alone tokens) Node rest
+    following : (x : PartialTree × List Token) → located_nodes (suc (length tokens)) players root_alone tokens ≡ Ok x → located_end x ≡ Err (kind, rest) → StopsAsMarked (marked most players root_alone tokens) Node rest
     following (partial, []) e f = absurd (ok_err partial (kind, rest) f)
     following (partial, t ∷ r) e f = subst (λ (q : List Token). StopsAsMarked (marked most players root_alone tokens) Node q) (ap (λ (z : EfgKind × List Token). z.1) (err_same (Trailing, t ∷ r) (kind, rest) f)) (nodes_end (suc (length tokens)) most players root_alone tokens partial t r (nothing_keeps players) le e)
 
 -- inside the nodes the end is a fault of its own
-pub inner_fault : {X : Type 0} (o : Result X (EfgKind × List Token)) (kind : EfgKind) (rest : List Token) → in_nodes o ≡ Err (kind, rest) → (other : EfgKind) × (o ≡ Err (other, rest)) × (((rest ≡ []) × (kind ≡ Unfinished)) ⊎ ((kind ≡ other) × (t : Token) × (r : List Token) × (rest ≡ t ∷ r)))
+pub inner_fault : {X : Type 0} (o : Result X (EfgKind × List Token)) (kind : EfgKind) (rest : List Token) → in_located o ≡ Err (kind, rest) → (other : EfgKind) × (o ≡ Err (other, rest)) × (((rest ≡ []) × (kind ≡ Unfinished)) ⊎ ((kind ≡ other) × (t : Token) × (r : List Token) × (rest ≡ t ∷ r)))
 inner_fault {X} (Ok x) kind rest e = absurd (ok_err x (kind, rest) e)
 inner_fault {X} (Err (other, [])) kind rest e =
     let same = err_same (Unfinished, []) (kind, rest) e in
@@ -241,7 +213,7 @@ inner_fault {X} (Err (other, t ∷ r)) kind rest e =
     (other, ap (λ (q : List Token). Err (other, q)) (sym all), inr (sym (ap (λ (z : EfgKind × List Token). z.0) same), t, r, all))
 
 -- where nodes stop after a head
-pub body_stops : (tokens : List Token) (x : Head × List Token) (kind : EfgKind) (rest : List Token) → length x.0.1 < 2 ^ 32 → parse_head tokens ≡ Ok x → parse_all_nodes (length x.0.1) x.1 ≡ Err (kind, rest) → (¬ (IsFile tokens)) → (h : ReadsHead tokens x) × (s : Stops tokens rest) × (inner : List Token) × (s.before ≡ h.front ++ inner)
+pub body_stops : (tokens : List Token) (x : Head × List Token) (kind : EfgKind) (rest : List Token) → length x.0.1 < 2 ^ 32 → parse_head tokens ≡ Ok x → located_all_nodes (length x.0.1) x.1 ≡ Err (kind, rest) → (¬ (IsFile tokens)) → (h : ReadsHead tokens x) × (s : Stops tokens rest) × (inner : List Token) × (s.before ≡ h.front ++ inner)
 body_stops tokens x kind rest few e f none = by (suc (length x.1) + most_nodes) (omega arith) (omega arith)
   where
     by : (most : ℕ) → suc (length x.1) ≤ most → most_nodes ≤ most → (h : ReadsHead tokens x) × (s : Stops tokens rest) × (inner : List Token) × (s.before ≡ h.front ++ inner)

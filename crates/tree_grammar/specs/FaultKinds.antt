@@ -1,26 +1,22 @@
--- Faults in files of trees. The offset is that of the first token with which no file can begin any more, or the source's length where the
--- tokens end too early; the kind is told by the point of the file at which the tokens before it stop, and by what comes.
-use Rattle.std.specs.Prelude.{ℕ, ◌≤◌, ◌≡◌, ◌≢◌, ◌⊎◌, List, [], ◌∷◌, ◌++◌, length, None}
+-- Faults in files of trees: the kind is told by the point of the file at which the tokens before it stop, and by what comes.
+use Rattle.std.specs.Prelude.{ℕ, ◌≤◌, ◌≡◌, ◌≢◌, ◌⊎◌, List, [], ◌∷◌, length, None}
 use Rattle.rational.specs.Rational.{ℚ, ◌+ℚ◌}
 use Rattle.rational.specs.Sum.{sum_to}
 use Rattle.frac128.specs.Steps.{AddFits, unfit}
 use Rattle.frac128.specs.declared.steps.Op.TheVariants.{Add}
 use Rattle.game_core.specs.declared.tree.Action.{Action}
 use Rattle.game_core.specs.Tree.{probability_at}
-use Rattle.game_core.specs.TokenList.{TokenList, bare}
+use Rattle.game_core.specs.TokenList.{TokenList}
 use Rattle.game_core.specs.declared.token.Token.{Token}
 use Rattle.game_core.specs.declared.token.Token.TheVariants.{Right, Text, Number}
-use Rattle.file_parts.specs.Parts.{whole_number, IsOpen}
-use Rattle.file_parts.specs.Reading.{offset_of}
+use Rattle.file_parts.specs.Faults.{IsFaultAt, WholeComes}
+use Rattle.file_parts.specs.Parts.{IsOpen}
 use Rattle.written_trees.specs.Written.{SetUse, OutcomeUse}
-use Rattle.tree_grammar.specs.TreeFaults.{IsFile, BeginsFile, CannotCome, IsTitle, StopsInPlayers, StopsInNodes, StopsAtPlayer, StopsAtSet, StopsAtOutcome, HasActions, WantsProbability, HasPayoffs}
+use Rattle.tree_grammar.specs.TreeFaults.{IsFile, BeginsFile, IsTitle, StopsInPlayers, StopsInNodes, StopsAtPlayer, StopsAtSet, StopsAtOutcome, HasActions, WantsProbability, HasPayoffs}
 use Rattle.tree_grammar.specs.declared.kinds.EfgKind.{EfgKind}
 use Rattle.tree_grammar.specs.declared.kinds.EfgKind.TheVariants.{Header, Players, Node, UnknownPlayer, SetMismatch, Probability, ProbabilityRange, OutcomeMismatch, Unfinished, Trailing}
 
 -- ---- what comes
-abbrev pub WholeComes : List Token → Type 0
-WholeComes rest = (n : ℕ) × (more : List Token) × (rest ≡ whole_number n ∷ more)
-
 abbrev pub NumberComes : ℚ → List Token → Type 0
 NumberComes v rest = (more : List Token) × (rest ≡ Number v ∷ more)
 
@@ -86,14 +82,6 @@ IsKind Unfinished before rest = StopsInNodes before × (rest ≡ [])
 IsKind Trailing before rest = IsFile before
 IsKind kind before rest = IsNodeKind kind before rest
 
--- a fault of this kind, from these last tokens on: the tokens before them begin a file, and what comes cannot
-pub record IsFaultFrom (tokens : List Token) (kind : EfgKind) (rest : List Token) : Type 0 where
-  pub before : List Token
-  pub are_tokens : tokens ≡ before ++ rest
-  pub begins : BeginsFile before
-  pub stops : CannotCome before rest
-  pub is_kind : IsKind kind before rest
-
--- a fault of this kind at this offset: that of the token named, or the source's length where the tokens end too early
+-- a fault of this kind at this offset
 abbrev pub IsFault : TokenList → EfgKind → ℕ → Type 0
-IsFault tokens kind at = (rest : List Token) × IsFaultFrom (bare tokens) kind rest × (at ≡ offset_of tokens (length rest))
+IsFault = IsFaultAt IsFile BeginsFile IsKind

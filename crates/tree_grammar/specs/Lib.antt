@@ -2,6 +2,6 @@ pub mod FaultKinds
 pub mod TreeFaults
 pub mod TreeFile
 pub mod TreeParsing
-pub mod TreeReading
+pub mod TreePieces
 pub mod UseCodes
 pub mod Uses

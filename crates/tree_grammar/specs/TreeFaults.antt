@@ -1,18 +1,17 @@
--- Files of trees that stop: tokens that begin a file, where they stop doing so, and the points of a node at which they may stop.
--- Source of the offset: the viable-prefix property of Aho, Lam, Sethi and Ullman 2007, "Compilers", section 4.1.3.
-use Rattle.std.specs.Prelude.{ℕ, ◌≤◌, ◌≡◌, List, [], ◌∷◌, ◌++◌, length, codes, Option, Some, None}
+-- Files of trees that stop: tokens that begin a file, and the points of a node at which they may stop.
+use Rattle.std.specs.Prelude.{ℕ, ◌≡◌, List, [], ◌∷◌, ◌++◌, length, codes, Option, Some, None}
 use Rattle.std.specs.List.{flat_map}
 use Rattle.rational.specs.Rational.{ℚ}
 use Rattle.game_core.specs.declared.tree.Action.{Action}
 use Rattle.game_core.specs.Tree.{GameTree, OpenBranch}
 use Rattle.game_core.specs.declared.token.Token.{Token}
 use Rattle.game_core.specs.declared.token.Token.TheVariants.{Left, Text, Word}
-use Rattle.file_parts.specs.Parts.{IsHeader, braced_texts, IsOpen}
+use Rattle.file_parts.specs.Parts.{IsTitlePart, NamesPlayers, IsOpen}
 use Rattle.written_trees.specs.Written.{SetUse, OutcomeUse}
 use Rattle.written_trees.specs.Described.{key_of, set_uses, outcome_uses, uses_of_set, uses_of_outcome}
 use Rattle.tree_grammar.specs.TreeFile.{IsPartialFile, IsTreeFile, IsInnerPart, IsChoicePart, IsOutcomePart, ArePayoffs, action_tokens}
 
--- ---- the offset
+-- ---- files
 -- the tokens are a file of some tree
 abbrev pub IsFile : List Token → Type 0
 IsFile tokens = (tree : GameTree) × IsTreeFile tokens tree
@@ -23,27 +22,18 @@ IsFile tokens = (tree : GameTree) × IsTreeFile tokens tree
 abbrev pub BeginsFile : List Token → Type 0
 BeginsFile tokens = (more : List Token) × (tree : GameTree) × (free : List OpenBranch) × IsPartialFile (tokens ++ more) tree free
 
--- what comes cannot: the tokens before are no file and end, or with the next token they begin none
-abbrev pub CannotCome : List Token → List Token → Type 0
-CannotCome before [] = ¬ (IsFile before)
-CannotCome before (token ∷ rest) = ¬ (BeginsFile (before ++ token ∷ []))
-
 -- ---- the head of a file
 -- the header and the title
 abbrev pub IsTitle : List Token → Type 0
-IsTitle tokens = (header : List Token) × (title : List ℕ) × IsHeader (codes "EFG") 2 header × (tokens ≡ header ++ Text title ∷ [])
-
--- players
-abbrev pub ArePlayers : List Token → Type 0
-ArePlayers tokens = (players : List (List ℕ)) × (1 ≤ length players) × (tokens ≡ braced_texts players)
+IsTitle = IsTitlePart (codes "EFG") 2
 
 -- the title is whole, and the players are not
 abbrev pub StopsInPlayers : List Token → Type 0
-StopsInPlayers tokens = (title part : List Token) × (tokens ≡ title ++ part) × IsTitle title × IsOpen ArePlayers part
+StopsInPlayers tokens = (title part : List Token) × (tokens ≡ title ++ part) × IsTitle title × IsOpen NamesPlayers part
 
 -- the title and the players are whole, and nodes are wanted
 abbrev pub StopsInNodes : List Token → Type 0
-StopsInNodes tokens = ((title names more : List Token) × (tokens ≡ title ++ names ++ more) × IsTitle title × ArePlayers names) × ¬ (IsFile tokens)
+StopsInNodes tokens = ((title names more : List Token) × (tokens ≡ title ++ names ++ more) × IsTitle title × NamesPlayers names) × ¬ (IsFile tokens)
 
 -- ---- points of a node
 -- whole nodes, and after them a node in which the player's number is wanted

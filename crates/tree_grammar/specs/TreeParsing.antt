@@ -1,6 +1,8 @@
 -- Reading a tree with the offset of its fault: each function takes one part off the front and gives what it
--- stands for and the tokens after it, or the kind of the fault and the tokens from the one on that it names.
-use Rattle.std.specs.Prelude.{ℕ, zero, suc, ◌-◌, ◌&&◌, if◌then◌else◌, nat_eq, nat_le, Bool, true, false, List, [], ◌∷◌, ◌++◌, length, map, slice_get, slice_set, Option, Some, None, Result, Ok, Err, codes}
+-- stands for and the tokens after it, or the kind of the fault and the tokens from the one on that it names. Where nodes are
+-- read, a limit may be passed instead.
+use Rattle.std.specs.Prelude.{ℕ, zero, suc, ◌-◌, ◌&&◌, ◌⊎◌, if◌then◌else◌, nat_eq, nat_le, Bool, true, false, List, [], ◌∷◌, ◌++◌, length, map, slice_get, slice_set, Option, Some, None, Result, Ok, Err, codes}
+use mathlib.Core.Logic.{inl, inr}
 use Rattle.rational.specs.Rational.{ℚ, ◌+ℚ◌, zero_ℚ, one_ℚ}
 use Rattle.rational.specs.Tests.{le_test, eq_ℚ}
 use Rattle.frac128.specs.Steps.{unfit}
@@ -12,11 +14,11 @@ use Rattle.game_core.specs.declared.tree.Kind.TheVariants.{End}
 use Rattle.game_core.specs.Tree.{GameTree, kind_of_owner}
 use Rattle.game_core.specs.declared.token.Token.{Token}
 use Rattle.game_core.specs.declared.token.Token.TheVariants.{Right, Text, Number}
-use Rattle.file_parts.specs.Reading.{left_at, right_at, text_at, word_at, number_at, after_text, whole_at, optional_text_at, texts_at, payoff_start, opens, ends}
+use Rattle.file_parts.specs.Reading.{left_at, right_at, text_at, word_at, number_at, after_text, whole_at, optional_text_at, texts_at, payoff_start, opens, ends, count_at}
 use Rattle.file_parts.specs.Parsing.{Parsed, ◌>>=◌, wanted, passed, parse_each, parse_names, parse_title}
 use Rattle.written_trees.specs.Written.{SetUse, OutcomeUse}
 use Rattle.written_trees.specs.Building.{PartialTree, PartialSet, PartialOutcome, Branching, root_alone, tree_so_far, partial_count, add_branches, take_branch, passed as limit_passed, set_place, outcome_place, add_test, new_set, used_set, new_outcome, used_outcome}
-use Rattle.tree_grammar.specs.TreeReading.{Head, positive_at, own_action, closed_at, is_word, begins_node, is_whole}
+use Rattle.tree_grammar.specs.TreePieces.{closed_at, is_word, begins_node}
 use Rattle.tree_grammar.specs.declared.kinds.EfgKind.{EfgKind}
 use Rattle.tree_grammar.specs.declared.kinds.EfgKind.TheVariants.{Header, Players, Node, UnknownPlayer, SetMismatch, Probability, ProbabilityRange, OutcomeMismatch, Unfinished, Trailing}
 
@@ -57,6 +59,10 @@ parse_chances set sum tokens = Ok (([], sum), tokens)
 -- the brace that closes so many actions, which are at least one
 abbrev pub parse_closed : ℕ → List Token → Parsed EfgKind (Unit {0})
 parse_closed count tokens = passed Node tokens (closed_at count tokens)
+
+-- an action of a player
+abbrev pub own_action : List ℕ → Action
+own_action name = record { name = name; prob = zero_ℚ }
 
 -- the actions of a player, and of chance in the set with this number
 unfoldable pub parse_own_list : List Token → Parsed EfgKind (List Action)
@@ -133,7 +139,7 @@ parse_use k sets used (Some set) tokens = do
 -- a set that node k uses: the sets with it, and its place
 unfoldable pub parse_set : ℕ → List PartialSet → Option ℕ → List Token → Parsed EfgKind (List PartialSet × ℕ)
 parse_set k sets owner tokens = do
-  label ← wanted Node tokens (positive_at tokens)
+  label ← wanted Node tokens (count_at tokens)
   more ← parse_use k sets (bare_use owner label.0 (optional_text_at label.1).0) (slice_get sets (set_place sets (owner, label.0))) (optional_text_at label.1).1
   Ok ((more.0, set_place sets (owner, label.0)), more.1)
 
@@ -245,6 +251,14 @@ with_parts partial b rest choice outcome = record {
   branchings = add_branches (length partial.nodes) (partial_count choice.0 choice.1.1) (suc b.depth) (take_branch b rest);
 }
 
+-- the tree with a node of this kind, with this set and this outcome, at the first open branch
+abbrev pub grown_at : PartialTree → Kind → Option ℕ → Option ℕ → List Branching → Option PartialTree
+grown_at partial kind set outcome [] = None
+grown_at partial kind set outcome (b ∷ rest) = Some (with_parts partial b rest (partial.sets, (kind, set)) (partial.outcomes, outcome))
+
+abbrev pub grown : PartialTree → Kind → Option ℕ → Option ℕ → Option PartialTree
+grown partial kind set outcome = grown_at partial kind set outcome partial.branchings
+
 -- a further node at the first of these open branches
 unfoldable pub parse_next : ℕ → PartialTree → Branching → List Branching → List Token → Parsed EfgKind PartialTree
 parse_next players partial b rest tokens = do
@@ -252,30 +266,40 @@ parse_next players partial b rest tokens = do
   outcome ← parse_outcome players partial.outcomes choice.1
   Ok (with_parts partial b rest choice.0 outcome.0, outcome.1)
 
--- whether a further node passes no limit
-abbrev pub has_room : Option What → Bool
-has_room None = true
-has_room (Some what) = false
+-- why nodes are not read: a token does not fit, with its kind and the tokens from it on; or a limit is passed
+abbrev pub NodeStop : Type 0
+NodeStop = (EfgKind × List Token) ⊎ What
 
--- A further node, where a branch is open and a node's word comes that passes no limit. (That a limit is passed is answered in another
--- way; here the word cannot come.)
-abbrev pub parse_at : ℕ → PartialTree → List Branching → List Token → Parsed EfgKind PartialTree
-parse_at players partial [] tokens = Err (Node, tokens)
-parse_at players partial (b ∷ rest) tokens = if begins_node tokens && has_room (limit_passed partial) then parse_next players partial b rest tokens else Err (Node, tokens)
+-- what nodes stand for and the tokens after them, or why they are not read
+abbrev pub ParsedNodes : Type 0 → Type 0
+ParsedNodes X = Result (X × List Token) NodeStop
+
+-- a reading, unless this limit is passed before it
+abbrev pub within_limit : {X : Type 0} → Option What → Result X (EfgKind × List Token) → Result X NodeStop
+within_limit (Some what) reading = Err (inr what)
+within_limit None (Ok x) = Ok x
+within_limit None (Err fault) = Err (inl fault)
+
+-- a further node, where a branch is open and a node's word comes, unless it passes a limit
+abbrev pub parse_at : ℕ → PartialTree → List Branching → List Token → ParsedNodes PartialTree
+parse_at players partial [] tokens = Err (inl (Node, tokens))
+parse_at players partial (b ∷ rest) tokens =
+    if begins_node tokens then within_limit (limit_passed partial) (parse_next players partial b rest tokens) else Err (inl (Node, tokens))
+
+-- whether no branch is open
+abbrev pub is_whole : PartialTree → Bool
+is_whole partial = nat_eq (length partial.branchings) 0
 
 -- nodes until no branch is open, and at most so many
-abbrev pub parse_nodes : ℕ → ℕ → PartialTree → List Token → Parsed EfgKind PartialTree
-parse_nodes zero players partial tokens = Err (Node, tokens)
+abbrev pub parse_nodes : ℕ → ℕ → PartialTree → List Token → ParsedNodes PartialTree
+parse_nodes zero players partial tokens = Err (inl (Node, tokens))
 parse_nodes (suc most) players partial tokens = if is_whole partial then Ok (partial, tokens) else (parse_at players partial partial.branchings tokens >>= λ x. parse_nodes most players x.0 x.1)
 
 -- ---- the file
--- where the tokens end inside the nodes, that is the fault
-abbrev pub in_nodes : {X : Type 0} → Result X (EfgKind × List Token) → Result X (EfgKind × List Token)
-in_nodes (Ok x) = Ok x
-in_nodes (Err (kind, [])) = Err (Unfinished, [])
-in_nodes (Err (kind, token ∷ rest)) = Err (kind, token ∷ rest)
-
 -- the title and the players
+abbrev pub Head : Type 0
+Head = List ℕ × List (List ℕ)
+
 unfoldable pub parse_head : List Token → Parsed EfgKind Head
 parse_head tokens = do
   title ← parse_title Header (codes "EFG") 2 tokens
@@ -283,14 +307,19 @@ parse_head tokens = do
   Ok ((title.0, players.0), after_text players.1)
 
 -- the nodes, with which the file ends
-unfoldable pub parse_all_nodes : ℕ → List Token → Result PartialTree (EfgKind × List Token)
+unfoldable pub parse_all_nodes : ℕ → List Token → Result PartialTree NodeStop
 parse_all_nodes players tokens = do
   partial ← parse_nodes (suc (length tokens)) players root_alone tokens
-  if ends partial.1 then Ok partial.0 else Err (Trailing, partial.1)
+  if ends partial.1 then Ok partial.0 else Err (inl (Trailing, partial.1))
+
+-- where the tokens end inside the nodes, that is the fault
+abbrev pub in_nodes : {X : Type 0} → Result X NodeStop → Result X NodeStop
+in_nodes (Err (inl (kind, []))) = Err (inl (Unfinished, []))
+in_nodes reading = reading
 
 -- the tree of a file
-unfoldable pub parse_tree : List Token → Result GameTree (EfgKind × List Token)
+unfoldable pub parse_tree : List Token → Result GameTree NodeStop
 parse_tree tokens = do
-  head ← parse_head tokens
+  head ← within_limit None (parse_head tokens)
   partial ← in_nodes (parse_all_nodes (length head.0.1) head.1)
   Ok (tree_so_far head.0.0 head.0.1 partial)

@@ -5,8 +5,7 @@ ghost use Rattle.game_core.specs.declared.tree.Action.{Action as action};
 ghost use Rattle.game_core.specs.declared.token.Token.{Token as token};
 ghost use Rattle.file_parts.specs.Reading.{kinds, texts_at};
 ghost use Rattle.file_parts.specs.Parsing.{Parses};
-ghost use Rattle.tree_grammar.specs.TreeReading.{own_action};
-ghost use Rattle.tree_grammar.specs.TreeParsing.{sum_with, parse_chances, parse_closed, parse_first_list, parse_repeated, parse_all_repeated, parse_later_list};
+ghost use Rattle.tree_grammar.specs.TreeParsing.{own_action, sum_with, parse_chances, parse_closed, parse_first_list, parse_repeated, parse_all_repeated, parse_later_list};
 ghost use Rattle.tree_grammar.specs.declared.kinds.EfgKind.TheVariants.{Node, SetMismatch};
 
 use crate::kinds::EfgKind;

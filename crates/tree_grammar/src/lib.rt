@@ -7,10 +7,11 @@
 //! are seen as lists, in the order of first use.
 //! Definitions: `specs::TreeFile` has the grammar, `TreeParsing` the reading functions, and
 //! `FaultKinds` and `TreeFaults` the kinds of faults and where they are.
-//! Private words: `specs::TreeReading`, the nodes as they are read one by one; `Uses` and
+//! Private words: `specs::TreePieces`, the words of nodes and the brace after actions; `Uses` and
 //! `UseCodes`, how sets and outcomes are kept and stored.
-//! Lemmas for callers: `proofs::WholeFileLaws`, that what is read is a file; `NodePointLemmas` on
-//! faults; `ShortRestLemmas`, that the tokens after a part are short.
+//! Lemmas for callers: `proofs::NodesReadLaws`, that what is read as nodes are nodes; `FileLaws`,
+//! that what is read is a file; `FaultLaws` on faults; `ShortRestLemmas`, that the tokens after a
+//! part are short.
 //! A change here touches: `efg_reader`, which reads such files, and what `refusals` says of faults.
 #![tactic(auto)]
 

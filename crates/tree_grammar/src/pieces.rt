@@ -2,9 +2,9 @@
 ghost use Rattle.std.specs.Prelude.{◌≡◌, ◌<◌};
 ghost use Rattle.std.specs.List.{AllByRecursion};
 ghost use Rattle.game_core.specs.Spacing.{IsShortToken};
-ghost use Rattle.file_parts.specs.Reading.{GivesReading, kinds};
+ghost use Rattle.file_parts.specs.Reading.{GivesReading, kinds, count_at};
 ghost use Rattle.file_parts.specs.Parsing.{Parses};
-ghost use Rattle.tree_grammar.specs.TreeReading.{positive_at, begins_node, is_node_word};
+ghost use Rattle.tree_grammar.specs.TreePieces.{begins_node, is_node_word};
 ghost use Rattle.tree_grammar.specs.TreeParsing.{parse_player};
 
 use crate::kinds::EfgKind;
@@ -15,7 +15,7 @@ use game_core::Spanned;
 #[tactic(auto, using(crate::proofs::LabelLemmas::positives))]
 pub fn positive(tokens: &[Spanned]) -> Option<(u64, &[Spanned])>
     requires short { AllByRecursion IsShortToken (kinds tokens.now) }
-    ensures { GivesReading (λ x. (x.0, kinds x.1.now)) result (positive_at (kinds tokens.now)) }
+    ensures { GivesReading (λ x. (x.0, kinds x.1.now)) result (count_at (kinds tokens.now)) }
 {
     let (number, rest) = label(tokens)?;
     if number >= 1 {

@@ -12,11 +12,11 @@ use Rattle.zero_sum_lp.proofs.SystemStartLemmas.{program_is, starts_for}
 pub programs_of_forms : ProgramsAreOfForms
 programs_of_forms f p valid stages =
     let last = stages.2.2.2.2 in
-    let s = last.0 in
-    let n = last.1.1.0 in
-    let is_system : IsSystemOf f s = last.1.0 in
+    let n = last.0 in
+    let s = last.1.0 in
+    let is_system : IsSystemOf f s = last.1.1.0 in
     let start : IsStarted s n = last.1.1.1.2 in
-    let same : with_start f n ≡ p = cc (last.1.1.2) in
+    let same : with_start f n ≡ p = cc (last.2) in
     let begins : IsStartFor f.first f.second n = starts_for f.first f.second s n (record { gain = gains (form f) f.least_one; start = is_system.program; rated = is_system.rated }) start.start start.valid in
     subst (λ p. IsProgram p × IsProgramOfForm (form f) f.least_one p) same (
       record { first = valid.first_is; second = valid.second_is; start = begins },

@@ -7,6 +7,7 @@ use Rattle.lex_tableau.specs.StartStops.{start_in}
 use Rattle.lex_tableau.specs.declared.tableau.StartStop.{StartStop}
 use Rattle.lex_tableau.specs.declared.tableau.StartStop.TheVariants as starts
 use Rattle.game_core.specs.Limits.{most_rows, within}
+use Rattle.game_core.specs.declared.too_large.TooLarge.{TooLarge}
 use Rattle.game_core.specs.declared.too_large.What.TheVariants as what
 use Rattle.sequence_data.specs.Data.{FormData}
 use Rattle.zero_sum_lp.specs.declared.stop.LpStop.{LpStop}
@@ -26,11 +27,11 @@ leave p q r g = gives_first {Z = Program} stops.Memory p (λ _. q) r g
 module _ (f : FormData) (s : Parts) (is_system : IsSystemOf f s) where
   pub start_stop : (stop : StartStop) → Gives starts.Memory (start_in s) (Err stop) → Gives stops.Memory (form_start_in f) (Err (told_start stop))
   start_stop stop (inl m) = inl (ap told_start m)
-  start_stop stop (inr h) = inr (stop, (s, (is_system, inl h)), refl)
+  start_stop stop (inr h) = inr (inl (stop, (s, (is_system, h)), refl))
 
   pub start_goes : (p : Program) → start_in s (Ok p.tableau) → p.first ≡ f.first → p.second ≡ f.second → form_start_in f (Ok p)
   start_goes p h one two =
-      (s, (is_system, (p.tableau, h, ap₂ (λ a b. Ok (record { first = a; second = b; tableau = p.tableau })) one two)))
+      (p.tableau, (s, (is_system, h)), ap₂ (λ a b. Ok (record { first = a; second = b; tableau = p.tableau })) one two)
 
 -- ---- all stages
 module _ (f : FormData) where
@@ -48,6 +49,9 @@ module _ (f : FormData) where
 
   abbrev from_sums : Answer LpStop Program
   from_sums = sums_in f.leaves >> from_constant
+
+  pub size_stop : (limit : TooLarge) → within what.Rows most_rows (size_of f) (Err limit) → Gives stops.Memory (program_in f) (Err (stops.TooLarge limit))
+  size_stop limit h = leave size_stage from_sums (stops.TooLarge limit) (inr (limit, h, refl))
 
   module _ (few : most_rows < size_of f → ⊥) where
     pub sums_stop : (r : LpStop) → Gives stops.Memory (sums_in f.leaves) (Err r) → Gives stops.Memory (program_in f) (Err r)

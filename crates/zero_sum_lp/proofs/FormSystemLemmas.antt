@@ -16,10 +16,10 @@ use Rattle.sequence_forms.specs.Prices.{gains}
 use Rattle.sequence_forms.specs.Sides.{Side, sequences}
 use Rattle.sequence_data.specs.declared.types.Cell.{Cell}
 use Rattle.sequence_data.specs.Data.{FormData, IsFormData, LeafFits, SideData, form, side_of}
-use Rattle.sequence_data.specs.Matrices.{IsInside, placed, HoldsNumbers}
+use Rattle.sequence_data.specs.Matrices.{IsInside, placed, HoldsNumbers, number_at}
 use Rattle.zero_sum_lp.specs.FormPrograms.{IsSystemOf, gain_at, size_of}
 use Rattle.zero_sum_lp.specs.Parts.{IsProgramSystem}
-use Rattle.zero_sum_lp.specs.Systems.{IsSystemFor, gain_of}
+use Rattle.zero_sum_lp.specs.Systems.{IsSystemFor}
 use Rattle.zero_sum_lp.proofs.OptimumLemmas.{sets_are}
 use Rattle.lists.proofs.OptionLemmas.{if_ok-then}
 
@@ -74,17 +74,17 @@ module _ (f : FormData) (valid : IsFormData f) where
       let fits = subst (LeafFits f.first.sequences f.second.sequences) w.3 (valid.leaves_fit w.0 w.1 w.2) in
       (subst (λ n. n < f.first.sequences) w.4.0 fits.row_within, subst (λ n. n < f.second.sequences) w.4.1 fits.column_within)
 
-  pub gains_are : (numbers matrix : List ℚ) → numbers ≡ map (gain_at f.least_one) f.cells → HoldsNumbers f.first.sequences f.second.sequences (placed f.cells numbers) matrix → (r q : ℕ) → r < sequences (side_of f.first) → q < sequences (side_of f.second) → gain_of matrix (sequences (side_of f.second)) r q ≡ gains (form f) f.least_one r q
+  pub gains_are : (numbers matrix : List ℚ) → numbers ≡ map (gain_at f.least_one) f.cells → HoldsNumbers f.first.sequences f.second.sequences (placed f.cells numbers) matrix → (r q : ℕ) → r < sequences (side_of f.first) → q < sequences (side_of f.second) → number_at matrix (sequences (side_of f.second)) r q ≡ gains (form f) f.least_one r q
   gains_are numbers matrix e holds r q hr hq =
       ap (λ n. get_or matrix (r * n + q) zero_ℚ) (sym second_count) ∙ holds r q (subst (λ n. r < n) (sym first_count) hr) (subst (λ n. q < n) (sym second_count) hq) ∙ ap (λ xs. listed_at (placed f.cells xs) r q) e ∙ placed_gains f.least_one f.cells r q
 
-  pub system_has_gains : (numbers matrix : List ℚ) (s : Parts) → numbers ≡ map (gain_at f.least_one) f.cells → HoldsNumbers f.first.sequences f.second.sequences (placed f.cells numbers) matrix → IsSystemFor f.first f.second (gain_of matrix (sequences (side_of f.second))) s → IsSystemOf f s
+  pub system_has_gains : (numbers matrix : List ℚ) (s : Parts) → numbers ≡ map (gain_at f.least_one) f.cells → HoldsNumbers f.first.sequences f.second.sequences (placed f.cells numbers) matrix → IsSystemFor f.first f.second (number_at matrix (sequences (side_of f.second))) s → IsSystemOf f s
   system_has_gains numbers matrix s e holds w =
       record {
         valid = w.valid;
         rated = w.rated;
-        program = alike_trans (program_of (side_of f.first) (side_of f.second) (gains (form f) f.least_one)) (program_of (side_of f.first) (side_of f.second) (gain_of matrix (sequences (side_of f.second)))) (system_of s)
-            (programs_same (side_of f.first) (side_of f.second) (gains (form f) f.least_one) (gain_of matrix (sequences (side_of f.second))) (λ r q hr hq. sym (gains_are numbers matrix e holds r q hr hq))) w.program;
+        program = alike_trans (program_of (side_of f.first) (side_of f.second) (gains (form f) f.least_one)) (program_of (side_of f.first) (side_of f.second) (number_at matrix (sequences (side_of f.second)))) (system_of s)
+            (programs_same (side_of f.first) (side_of f.second) (gains (form f) f.least_one) (number_at matrix (sequences (side_of f.second))) (λ r q hr hq. sym (gains_are numbers matrix e holds r q hr hq))) w.program;
       }
 
   -- a form's size as the code counts it
@@ -98,10 +98,10 @@ module _ (f : FormData) (valid : IsFormData f) (cells : List Cell) (x y : ℕ) (
   inside_read = subst (λ xs. All (IsInside x y) xs) (sym ec) (subst₂ (λ a b. All (IsInside a b) f.cells) (sym ex) (sym ey) (cells_inside f valid))
 
   pub system_read : {R : Type 0} (r : Result Parts R) (first second : SideData) (numbers matrix seen : List ℚ) → first ≡ f.first → second ≡ f.second → seen ≡ matrix → numbers ≡ map (gain_at f.least_one) f.cells → HoldsNumbers x y (placed cells numbers) matrix
-      → IfOk r (IsSystemFor first second (gain_of seen (sequences (side_of second)))) → IfOk r (IsSystemOf f)
+      → IfOk r (IsSystemFor first second (number_at seen (sequences (side_of second)))) → IfOk r (IsSystemOf f)
   system_read r first second numbers matrix seen e g h n holds w =
       let held : HoldsNumbers f.first.sequences f.second.sequences (placed f.cells numbers) matrix = subst₂ (λ a b. HoldsNumbers a b (placed f.cells numbers) matrix) ex ey (subst (λ xs. HoldsNumbers x y (placed xs numbers) matrix) ec holds) in
-      let found : IfOk r (IsSystemFor f.first f.second (gain_of matrix (sequences (side_of f.second)))) = subst₂ (λ a b. IfOk r (IsSystemFor a b (gain_of matrix (sequences (side_of b))))) e g (subst (λ xs. IfOk r (IsSystemFor first second (gain_of xs (sequences (side_of second))))) h w) in
+      let found : IfOk r (IsSystemFor f.first f.second (number_at matrix (sequences (side_of f.second)))) = subst₂ (λ a b. IfOk r (IsSystemFor a b (number_at matrix (sequences (side_of b))))) e g (subst (λ xs. IfOk r (IsSystemFor first second (number_at xs (sequences (side_of second))))) h w) in
       if_ok-then r _ (IsSystemOf f) found (λ s k. system_has_gains f valid numbers matrix s n held k)
 
 -- the system of a form for sides that are its own

@@ -11,13 +11,13 @@ use Rattle.zero_sum_lp.proofs.DeterminedPathLemmas.{entering_once}
 use Rattle.frac128.specs.Steps.{StepFits, IsFirstUnfit}
 use Rattle.frac128.proofs.FirstUnfitLemmas.{unfit_among, unfit_once}
 use Rattle.lex_tableau.specs.Pivots.{pivot_number, steps_of_pivot}
-use Rattle.lex_tableau.specs.Ratio.{variable_at}
+use Rattle.lex_tableau.specs.Ratio.{variable_at, IsLeavingRow}
 use Rattle.lex_tableau.specs.declared.unfit_pivot.UnfitPivot.{UnfitPivot}
 use Rattle.lex_tableau.specs.Rows.{Numbers, tableau, IsPivotOf, IsTableau}
 use Rattle.lex_tableau.proofs.TableauLemmas.{determined}
 use Rattle.zero_sum_lp.specs.Ends.{EndsAreSingle}
 use Rattle.zero_sum_lp.specs.Parts.{Program}
-use Rattle.zero_sum_lp.specs.Steps.{IsFittingPivot, IsLeavingRow, LeadsTo, EndsPath, IsUnfitPivot}
+use Rattle.zero_sum_lp.specs.Steps.{IsFittingPivot, LeadsTo, EndsPath, IsUnfitPivot}
 
 -- ---- one step
 -- the pivot of a tableau that is determined

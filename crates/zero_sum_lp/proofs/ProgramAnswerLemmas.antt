@@ -1,11 +1,12 @@
 -- A form has one program, or one reason why it has none.
 use Rattle.std.proofs.Common.{◌≡◌, ◌∙◌, ◌<◌, List, [], ◌∷◌, ◌++◌, All, Ok, Err, refl, sym, ap, ap₂, subst}
-use Rattle.answers.specs.Answers.{◌>>◌, IsSingle, refused_by}
-use Rattle.answers.proofs.AnswerLemmas.{bind-single, refuse_where-single, refused_by-single}
+use Rattle.answers.specs.Answers.{◌>>◌, IsSingle, only, refused_by}
+use Rattle.answers.proofs.AnswerLemmas.{bind-single, only-single, refuse_where-single, refused_by-single}
 use Rattle.zero_sum_lp.specs.Programs.{program_of}
 use Rattle.linear_systems.proofs.AgreementLemmas.{alike_sym, alike_trans}
 use Rattle.lex_tableau.specs.Starts.{Parts, system_of}
-use Rattle.lex_tableau.proofs.SystemLemmas.{systems_determined, start_for-single}
+use Rattle.lex_tableau.specs.StartStops.{start_of}
+use Rattle.lex_tableau.proofs.SystemLemmas.{systems_determined, start_of-single}
 use Rattle.frac128.proofs.FirstUnfitLemmas.{all_fit-single, front_has, front_one}
 use Rattle.game_core.specs.Limits.{most_rows, too_large, within}
 use Rattle.game_core.specs.declared.too_large.What.TheVariants as what
@@ -14,7 +15,7 @@ use Rattle.sequence_data.specs.declared.types.Leaf.{Leaf}
 use Rattle.sequence_data.specs.Data.{FormData, form, side_of}
 use Rattle.zero_sum_lp.specs.declared.stop.LpStop.TheVariants as stops
 use Rattle.zero_sum_lp.specs.declared.stop.NotConstant.{NotConstant}
-use Rattle.zero_sum_lp.specs.FormPrograms.{AreFirstApart, IsSystemOf, ProgramsAreSingle, gain_steps, gains_in, is_constant, size_of, form_start, form_start_in, sum_at, sum_steps, sums_in, told_start, with_start}
+use Rattle.zero_sum_lp.specs.FormPrograms.{AreFirstApart, IsSystemOf, ProgramsAreSingle, gain_steps, gains_in, is_constant, size_of, form_start_in, sum_at, sum_steps, sums_in, told_start, with_start}
 
 -- ---- the sums
 heads_same : (x y : Leaf) (xs ys : List Leaf) → x ∷ xs ≡ y ∷ ys → x ≡ y
@@ -49,8 +50,10 @@ module _ (f : FormData) where
       let program = program_of (side_of f.first) (side_of f.second) (gains (form f) f.least_one) in
       systems_determined s t h.valid g.valid (alike_trans (system_of s) program (system_of t) (alike_sym program (system_of s) h.program) g.program) (h.rated ∙ sym g.rated)
 
-  form_start-single : IsSingle (form_start f)
-  form_start-single = start_for-single (IsSystemOf f) (with_start f) one_system
+  form_start_in-single : IsSingle (form_start_in f)
+  form_start_in-single =
+      let stage = refused_by told_start (start_of (IsSystemOf f)) in
+      bind-single stage (λ start. only (with_start f start)) (refused_by-single told_start (start_of (IsSystemOf f)) (start_of-single (IsSystemOf f) one_system)) (λ start _. only-single (with_start f start))
 
 -- ---- all stages
 pub programs_single : ProgramsAreSingle
@@ -62,4 +65,4 @@ programs_single f =
     (λ _ _. bind-single (sums_in f.leaves) (λ _. constant >> (numbers >> form_start_in f)) (refused_by-single (λ stop. stops.SumRange stop.0.place stop.1) _ (all_fit-single sum_steps f.leaves))
     (λ _ _. bind-single constant (λ _. numbers >> form_start_in f) (refused_by-single stops.NotConstant _ (is_constant-single f.leaves))
     (λ _ _. bind-single numbers (λ _. form_start_in f) (refused_by-single (λ stop. stops.GainRange stop.0.row stop.0.column stop.1) _ (all_fit-single (gain_steps f.least_one) f.cells))
-    (λ _ _. refused_by-single told_start _ (form_start-single f)))))
+    (λ _ _. form_start_in-single f))))

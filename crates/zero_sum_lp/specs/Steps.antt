@@ -2,11 +2,10 @@
 use Rattle.std.specs.Prelude.{ℕ, zero, suc, ◌+◌, ◌<◌, ◌≤◌, ◌≡◌, length, get_or, Option, MatchOption, All}
 use Rattle.rational.specs.Rational.{zero_ℚ, ◌≤ℚ◌, ◌<ℚ◌}
 use Rattle.linear_systems.specs.Tableau.{Tableau}
-use Rattle.linear_systems.specs.Rows.{IsLexicographicRow}
 use Rattle.zero_sum_lp.specs.Paths.{LinearProgram, IsLinearProgram, IsEntering, IsOptimal}
 use Rattle.lex_tableau.specs.declared.unfit_pivot.UnfitPivot.{UnfitPivot}
 use Rattle.lex_tableau.specs.Rows.{Numbers, tableau, IsPivotOf, IsTableau}
-use Rattle.lex_tableau.specs.Ratio.{variable_at}
+use Rattle.lex_tableau.specs.Ratio.{IsLeavingRow}
 use Rattle.frac128.specs.Steps.{StepFits, IsFirstUnfit}
 use Rattle.lex_tableau.specs.Pivots.{pivot_number, steps_of_pivot}
 
@@ -23,11 +22,6 @@ linear_program n = record {
 pub record IsProgramStart (n : Numbers) : Type 0 where
   pub basics : (i : ℕ) → i < n.rated → get_or n.starts i 0 ≡ get_or n.basics i 0
   pub program : IsLinearProgram (linear_program n)
-
--- the row that leaves where a column enters: the lexicographic one
-abbrev pub IsLeavingRow : Numbers → ℕ → ℕ → Type 0
-IsLeavingRow m column row =
-    IsLexicographicRow m.rated m.rated (variable_at m.starts) (tableau m) column row
 
 -- one step of the path: the entering column, its lexicographic row, and the pivot, all of whose
 -- steps of arithmetic fit

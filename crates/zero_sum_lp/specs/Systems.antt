@@ -1,32 +1,25 @@
 -- The system of a program, entry by entry.
-use Rattle.std.specs.Prelude.{ℕ, ◌≡◌, ◌+◌, ◌*◌, List, get_or}
-use Rattle.rational.specs.Rational.{ℚ, zero_ℚ}
+use Rattle.std.specs.Prelude.{ℕ, ◌≡◌, List}
+use Rattle.rational.specs.Rational.{ℚ}
 use Rattle.linear_systems.specs.Rows.{Alike}
 use Rattle.linear_systems.specs.Tableau.{Tableau}
 use Rattle.zero_sum_lp.specs.Programs.{constraints, program_of, reply_cell}
 use Rattle.lex_tableau.specs.Starts.{Parts, system_of, IsSystem}
 use Rattle.sequence_data.specs.Data.{SideData, side_of}
+use Rattle.sequence_data.specs.Matrices.{number_at}
 use Rattle.sequence_forms.specs.Sides.{sequences}
 
--- the gain at row r and column q, where each row has so many gains
-abbrev pub gain_of : List ℚ → ℕ → ℕ → ℕ → ℚ
-gain_of gains count r q = get_or gains (r * count + q) zero_ℚ
-
--- the gains of two sides: how many there are, and each by its row and column
-abbrev pub gain_count : SideData → SideData → ℕ
-gain_count first second = sequences (side_of first) * sequences (side_of second)
-
 abbrev pub listed_gain : SideData → List ℚ → ℕ → ℕ → ℚ
-listed_gain second gains = gain_of gains (sequences (side_of second))
+listed_gain second gains = number_at gains (sequences (side_of second))
 
 -- their program, and its rows of the second player's sequences
 abbrev pub listed_program : SideData → SideData → List ℚ → Tableau
 listed_program first second gains =
-    program_of (side_of first) (side_of second) (gain_of gains (sequences (side_of second)))
+    program_of (side_of first) (side_of second) (number_at gains (sequences (side_of second)))
 
 abbrev pub listed_reply : SideData → SideData → List ℚ → ℕ → ℕ → ℚ
 listed_reply first second gains =
-    reply_cell (side_of first) (side_of second) (gain_of gains (sequences (side_of second)))
+    reply_cell (side_of first) (side_of second) (number_at gains (sequences (side_of second)))
 
 -- the system of the program of these sides with these gains
 pub record IsSystemFor (first second : SideData) (gain : ℕ → ℕ → ℚ) (s : Parts) : Type 0 where

@@ -12,7 +12,7 @@ use crate::sums::{sums, test_constant};
 use crate::system::system;
 use frac128::{Frac, Memory};
 use game_core::{MOST_ROWS, TooLarge, What};
-use lex_tableau::{StartStop, System};
+use lex_tableau::System;
 use sequence_data::{SeqForm, dense};
 use std::alloc::Global;
 
@@ -44,11 +44,7 @@ fn started(alloc: Global, form: &SeqForm, system: &System) -> Result<Lp, LpStop>
 {
     let first = form.first().copied(alloc)?;
     let second = form.second().copied(alloc)?;
-    match Lp::new(alloc, first, second, system) {
-        Ok(lp) => Ok(lp),
-        Err(StartStop::Unfit { row, unfit }) => Err(LpStop::Start { row, unfit }),
-        Err(StartStop::Memory) => Err(LpStop::Memory),
-    }
+    Ok(Lp::new(alloc, first, second, system)?)
 }
 
 /// The linear program of a sequence form, with the room of its path.
@@ -63,19 +59,9 @@ fn started(alloc: Global, form: &SeqForm, system: &System) -> Result<Lp, LpStop>
 pub fn program(alloc: Global, form: &SeqForm) -> Result<Lp, LpStop>
     ensures { Gives lp_stops.Memory (program_in form.now) result }
 {
-    let count = size(form);
-    if count > MOST_ROWS {
-        return Err(LpStop::TooLarge(TooLarge {
-            what: What::Rows,
-            count,
-            limit: MOST_ROWS,
-        }));
-    }
+    TooLarge::within(What::Rows, MOST_ROWS, size(form))?;
     let sums = sums(alloc, form.leaves())?;
-    match test_constant(form.leaves(), &sums) {
-        Ok(()) => {}
-        Err(stop) => return Err(LpStop::NotConstant(stop)),
-    }
+    test_constant(form.leaves(), &sums)?;
     let gains = gains(alloc, form.least_one(), form.cells())?;
     let system = system_of_form(alloc, form, &gains)?;
     started(alloc, form, &system)

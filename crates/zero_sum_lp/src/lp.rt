@@ -61,20 +61,16 @@ impl Lp {
         ensures start { Gives start_stops.Memory (start_in system.now)
             (map_ok result (λ lp. lp.tableau)) }
     {
-        match Work::new(alloc, system) {
-            Ok(work) => {
-                let objective = 1 + first.sets().len() + second.sequences() as usize;
-                let width = first.sequences() as usize + 1 + second.sets().len();
-                Ok(Lp {
-                    first,
-                    second,
-                    objective,
-                    width,
-                    work,
-                })
-            }
-            Err(stop) => Err(stop),
-        }
+        let work = Work::new(alloc, system)?;
+        let objective = 1 + first.sets().len() + second.sequences() as usize;
+        let width = first.sequences() as usize + 1 + second.sets().len();
+        Ok(Lp {
+            first,
+            second,
+            objective,
+            width,
+            work,
+        })
     }
 
     /// Follows the path to the optimum. Takes no memory. There is always an optimum.
@@ -91,12 +87,9 @@ impl Lp {
             second,
             objective,
             width,
-            work,
+            mut work,
         } = self;
-        let mut work = work;
-        match follow(&mut work, objective, width, pivots) {
-            Ok(()) => Ok(Optimum::new(first, second, objective, width, work)),
-            Err(stop) => Err(stop),
-        }
+        follow(&mut work, objective, width, pivots)?;
+        Ok(Optimum::new(first, second, objective, width, work))
     }
 }

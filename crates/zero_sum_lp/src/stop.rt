@@ -1,6 +1,7 @@
 // Why there is no program, and why there are no plans.
 use frac128::{Frac, Memory, Unfit};
 use game_core::TooLarge;
+use lex_tableau::StartStop;
 use std::alloc::{AllocError, AllocFailed};
 
 /// Two leaves whose payoffs do not sum to the same number: the first leaf, and the first of the
@@ -49,6 +50,42 @@ pub enum LpStop {
     },
     /// Memory ran out.
     Memory,
+}
+
+impl From<TooLarge> for LpStop {
+    ghost use Rattle.std.specs.Prelude.{◌≡◌};
+    ghost use Rattle.zero_sum_lp.specs.declared.stop.LpStop.TheVariants as stops;
+
+    ghost from_gives = { λ limit e. e ≡ stops.TooLarge limit };
+
+    fn from(limit: TooLarge) -> LpStop {
+        LpStop::TooLarge(limit)
+    }
+}
+
+impl From<NotConstant> for LpStop {
+    ghost use Rattle.std.specs.Prelude.{◌≡◌};
+    ghost use Rattle.zero_sum_lp.specs.declared.stop.LpStop.TheVariants as stops;
+
+    ghost from_gives = { λ stop e. e ≡ stops.NotConstant stop };
+
+    fn from(stop: NotConstant) -> LpStop {
+        LpStop::NotConstant(stop)
+    }
+}
+
+impl From<StartStop> for LpStop {
+    ghost use Rattle.std.specs.Prelude.{◌≡◌};
+    ghost use Rattle.zero_sum_lp.specs.FormPrograms.{told_start};
+
+    ghost from_gives = { λ stop e. e ≡ told_start stop };
+
+    fn from(stop: StartStop) -> LpStop {
+        match stop {
+            StartStop::Unfit { row, unfit } => LpStop::Start { row, unfit },
+            StartStop::Memory => LpStop::Memory,
+        }
+    }
 }
 
 impl From<Memory> for LpStop {

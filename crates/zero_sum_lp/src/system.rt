@@ -6,7 +6,8 @@ ghost use Rattle.sequence_data.specs.Data.{IsSideData, side_of};
 ghost use Rattle.sequence_forms.specs.Sides.{sequences};
 ghost use Rattle.zero_sum_lp.specs.Parts.{program_size};
 ghost use Rattle.lex_tableau.specs.Entries.{AreEntries, entry_of};
-ghost use Rattle.zero_sum_lp.specs.Systems.{IsSystemFor, gain_count, listed_gain, listed_program, listed_reply};
+ghost use Rattle.zero_sum_lp.specs.Systems.{IsSystemFor, listed_gain, listed_program, listed_reply};
+ghost use Rattle.sequence_data.specs.Matrices.{matrix_size};
 
 use frac128::{Frac, Memory};
 use lex_tableau::{System, numbered};
@@ -30,7 +31,7 @@ fn plan_entry(first: &Side, row: usize, col: usize) -> Frac
 fn reply_entry(first: &Side, second: &Side, gains: &[Frac], sequence: usize, col: usize) -> Frac
     requires first_side { IsSideData first.now }
     requires second_side { IsSideData second.now }
-    requires gains { length gains.now ≡ gain_count first.now second.now }
+    requires gains { length gains.now ≡ matrix_size first.now second.now }
     requires sequence { sequence < sequences (side_of second.now) }
     requires col { col < columns_of (side_of first.now) (side_of second.now) }
     ensures { result ≡ listed_reply first.now second.now gains.now sequence col }
@@ -59,7 +60,7 @@ fn objective_entry(first: &Side, col: usize) -> Frac
 fn entry(first: &Side, second: &Side, gains: &[Frac], row: usize, col: usize) -> Frac
     requires first_side { IsSideData first.now }
     requires second_side { IsSideData second.now }
-    requires gains { length gains.now ≡ gain_count first.now second.now }
+    requires gains { length gains.now ≡ matrix_size first.now second.now }
     requires row { row ≤ constraints (side_of first.now) (side_of second.now) }
     requires col { col ≤ columns_of (side_of first.now) (side_of second.now) }
     ensures { result ≡ entry_of (listed_program first.now second.now gains.now) row col }
@@ -88,7 +89,7 @@ fn entries(
 ) -> Result<Vec<Frac>, Memory>
     requires first_side { IsSideData first.now }
     requires second_side { IsSideData second.now }
-    requires gains { length gains.now ≡ gain_count first.now second.now }
+    requires gains { length gains.now ≡ matrix_size first.now second.now }
     requires few { rows * size < 2 ^ 32 }
     requires size { size ≡ suc (columns_of (side_of first.now) (side_of second.now)) }
     requires rows { rows ≡ suc (constraints (side_of first.now) (side_of second.now)) }
@@ -106,7 +107,7 @@ fn entries(
 pub fn system(alloc: Global, first: &Side, second: &Side, gains: &[Frac]) -> Result<System, Memory>
     requires first_side { IsSideData first.now }
     requires second_side { IsSideData second.now }
-    requires gains { length gains.now ≡ gain_count first.now second.now }
+    requires gains { length gains.now ≡ matrix_size first.now second.now }
     requires few { program_size (side_of first.now) (side_of second.now) ≤ most_rows }
     ensures { IfOk result (IsSystemFor first.now second.now (listed_gain second.now gains.now)) }
 {

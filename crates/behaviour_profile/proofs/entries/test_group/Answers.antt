@@ -15,15 +15,15 @@ here c = c.index-entries-place.is ∙ get_or-inside c.args.entries.now (c.args.p
 positive : (c : After-signum) → pos 0 ≤ℤ c.signum.result → zero_ℚ ≤ℚ c.index-entries-place.result
 positive c h = (nonneg-num c.index-entries-place.result).1 (sign_nonneg _ (subst (λ z. pos 0 ≤ℤ z) c.signum.ensures h))
 
-pub returns-then-signum-lt0-clause-fault : goal.returns-then-signum-lt0-clause-fault
-returns-then-signum-lt0-clause-fault c =
-    let a = (goal.at.returns-then-signum-lt0-clause-fault c).After-signum in
+pub returns-then-signum-lt0 : goal.returns-then-signum-lt0
+returns-then-signum-lt0 c =
+    let a = (goal.at.returns-then-signum-lt0 c).After-signum in
     negative_here c.args.entries.now c.args.place c.loop-k.k c.index-entries-place.result c.loop-k.sum (here a) c.loop-k.invariant.so_far c.loop-k.invariant.passed c.args.group c.args.count (c.args.place + c.loop-k.k) c.loop-k-test.true refl
     (negative_by_sign c.index-entries-place.result c.signum.result c.signum.ensures (omega (arith, ints)))
 
-pub returns-in-Err-clause-fault : goal.returns-in-Err-clause-fault
-returns-in-Err-clause-fault c =
-    let a = (goal.at.returns-in-Err-clause-fault c).After-signum in
+pub returns-in-Err : goal.returns-in-Err
+returns-in-Err c =
+    let a = (goal.at.returns-in-Err c).After-signum in
     unfit_here c.args.entries.now c.args.place c.loop-k.k c.index-entries-place.result c.loop-k.sum (here a) c.loop-k.invariant.so_far c.loop-k.invariant.passed c.args.group c.args.count _ c.loop-k-test.true (positive a (omega (arith, ints))) c.in-Err.ensures.step c.in-Err.ensures.unfit
 
 pub loop-k-preserved : goal.loop-k-preserved
@@ -34,14 +34,14 @@ loop-k-preserved c =
       passed = passed-next c.args.entries.now c.args.place c.loop-k.k c.index-entries-place.result c.loop-k.sum (here a) c.loop-k.invariant.so_far c.loop-k.invariant.passed (positive a (omega (arith, ints))) c.in-Ok.ensures.fits;
     }
 
-pub returns-then-eq-clause-passed : goal.returns-then-eq-clause-passed
-returns-then-eq-clause-passed c =
+pub returns-then-eq : goal.returns-then-eq
+returns-then-eq c =
     let end : c.loop-k.k ≡ c.args.count = omega arith in
     group-passed c.args.entries.now c.args.place c.args.group c.args.count c.loop-k.sum (c.loop-k.invariant.so_far ∙ ap (sum_below c.args.entries.now c.args.place) end)
     (subst (λ n. All Passes (tests_below c.args.entries.now c.args.place n)) end c.loop-k.invariant.passed) (c.eq.ensures.same.0 c.if-eq.true ∙ c.one.ensures)
 
-pub returns-else-eq-clause-fault : goal.returns-else-eq-clause-fault
-returns-else-eq-clause-fault c =
+pub returns-else-eq : goal.returns-else-eq
+returns-else-eq c =
     let end : c.loop-k.k ≡ c.args.count = omega arith in
     sum_here c.args.entries.now c.args.place c.args.group c.args.count c.loop-k.sum (c.loop-k.invariant.so_far ∙ ap (sum_below c.args.entries.now c.args.place) end)
     (subst (λ n. All Passes (tests_below c.args.entries.now c.args.place n)) end c.loop-k.invariant.passed) (λ e. false≢true (sym c.if-eq.false ∙ c.eq.ensures.same.1 (e ∙ sym c.one.ensures)))

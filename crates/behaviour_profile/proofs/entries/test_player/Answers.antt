@@ -3,7 +3,8 @@ use Rattle.std.specs.Prelude.{sum}
 use Rattle.std.proofs.lemmas.List.{length-take-le}
 use Rattle.game_core.specs.Tree.{InformationSet}
 use Rattle.game_core.specs.TreeGame.{game_of_tree}
-use Rattle.behaviour_profile.specs.EntryTests.{Passes, own_counts, tests_from}
+use Rattle.behaviour_profile.specs.EntryTests.{Passes, tests_from}
+use Rattle.strategy_lists.specs.Decisions.{own_counts}
 use Rattle.behaviour_profile.proofs.GroupListLemmas.{sum-next, end-within, number-within, next_passes, next_fault}
 use Rattle.behaviour_profile.proofs.TreeGroupLemmas.{none-left, set-below, count-at, count-is, count-few}
 use Rattle.behaviour_profile.proofs.entries.test_player.Goals as goal
@@ -50,10 +51,10 @@ pub overflow_add-here : goal.overflow_add-here
 overflow_add-here c =
     omega (arith, c.requires.few, c.loop-set.invariant.place, end (goal.at.overflow_add-here c).After-actions)
 
-pub returns-in-Err-clause-fault : goal.returns-in-Err-clause-fault
-returns-in-Err-clause-fault c =
-    next_fault (own_counts (game_of_tree c.args.tree.now) c.args.player) c.loop-set.number _ (at (goal.at.returns-in-Err-clause-fault c).After-actions)
-    c.args.entries.now c.args.place c.args.group c.loop-set.here (c.args.group + c.loop-set.number) c.loop-set.invariant.place refl c.loop-set.invariant.passed c.in-Err.fault c.in-Err.ensures.fault
+pub returns-in-Err-clause-tests : goal.returns-in-Err-clause-tests
+returns-in-Err-clause-tests c =
+    next_fault (own_counts (game_of_tree c.args.tree.now) c.args.player) c.loop-set.number _ (at (goal.at.returns-in-Err-clause-tests c).After-actions)
+    c.args.entries.now c.args.place c.args.group c.loop-set.here (c.args.group + c.loop-set.number) c.loop-set.invariant.place refl c.loop-set.invariant.passed c.in-Err.fault c.in-Err.ensures
 
 pub overflow_add-number : goal.overflow_add-number
 overflow_add-number c = omega (arith, c.requires.groups, within (goal.at.overflow_add-number c).After-actions)
@@ -69,7 +70,7 @@ loop-set-preserved c =
     record {
       within = omega (arith, within a);
       place = omega (arith, c.loop-set.invariant.place, next);
-      passed = next_passes counts c.loop-set.number _ (at a) c.args.entries.now c.args.place c.args.group c.loop-set.here (c.args.group + c.loop-set.number) c.loop-set.invariant.place refl c.loop-set.invariant.passed c.in-Ok.ensures.passed;
+      passed = next_passes counts c.loop-set.number _ (at a) c.args.entries.now c.args.place c.args.group c.loop-set.here (c.args.group + c.loop-set.number) c.loop-set.invariant.place refl c.loop-set.invariant.passed c.in-Ok.ensures;
     }
 
 pub returns-clause-place : goal.returns-clause-place
@@ -80,6 +81,6 @@ pub returns-clause-group : goal.returns-clause-group
 returns-clause-group c =
     omega (arith, c.loop-set.invariant.within, ap length (all (goal.at.returns-clause-group c).In_default), length-take-le c.loop-set.number (own_counts (game_of_tree c.args.tree.now) c.args.player) c.loop-set.invariant.within)
 
-pub returns-clause-passed : goal.returns-clause-passed
-returns-clause-passed c =
-    subst (λ v. All Passes (tests_from c.args.entries.now c.args.place c.args.group v)) (all (goal.at.returns-clause-passed c).In_default) c.loop-set.invariant.passed
+pub returns-clause-tests : goal.returns-clause-tests
+returns-clause-tests c =
+    subst (λ v. All Passes (tests_from c.args.entries.now c.args.place c.args.group v)) (all (goal.at.returns-clause-tests c).In_default) c.loop-set.invariant.passed

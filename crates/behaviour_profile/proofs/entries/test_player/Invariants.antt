@@ -1,7 +1,8 @@
 use Rattle.std.proofs.Common.{◌≡◌, ◌+◌, ◌-◌, ◌≤◌, All, length, take}
 use Rattle.std.specs.Prelude.{sum}
 use Rattle.game_core.specs.TreeGame.{game_of_tree}
-use Rattle.behaviour_profile.specs.EntryTests.{Passes, own_counts, tests_from}
+use Rattle.behaviour_profile.specs.EntryTests.{Passes, tests_from}
+use Rattle.strategy_lists.specs.Decisions.{own_counts}
 use Rattle.behaviour_profile.proofs.entries.test_player.Given as goal
 
 abbrev pub invariant-loop-set : goal.invariant-loop-set

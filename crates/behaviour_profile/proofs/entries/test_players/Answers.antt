@@ -1,7 +1,7 @@
 use Rattle.std.proofs.Common.{ap, length, ◌<◌, ◌≤◌, ◌+◌, ◌^◌, arith}
 use Rattle.std.specs.Prelude.{sum}
 use Rattle.game_core.specs.TreeGame.{game_of_tree}
-use Rattle.behaviour_profile.specs.EntryTests.{own_counts}
+use Rattle.strategy_lists.specs.Decisions.{own_counts}
 use Rattle.behaviour_profile.proofs.ActionTotalLemmas.{actions-few}
 use Rattle.behaviour_profile.proofs.TreeGroupLemmas.{total-next, groups-next, total-within, groups-within, player_passes, player_fault}
 use Rattle.behaviour_profile.proofs.entries.test_players.Goals as goal
@@ -29,10 +29,10 @@ test_player-tested-requires-clause-few c = omega (arith, total c, few c)
 pub test_player-tested-requires-clause-groups : goal.test_player-tested-requires-clause-groups
 test_player-tested-requires-clause-groups c = groups c
 
-pub returns-in-Err-clause-fault : goal.returns-in-Err-clause-fault
-returns-in-Err-clause-fault c =
+pub returns-in-Err : goal.returns-in-Err
+returns-in-Err c =
     player_fault (game_of_tree c.args.tree.now) c.args.entries.now c.loop-player.player c.loop-player.position.place c.loop-player.position.group c.loop-player.invariant.place c.loop-player.invariant.group c.loop-player.invariant.passed
-    c.in-Err.fault (is_player (goal.at.returns-in-Err-clause-fault c).In-loop-player) c.in-Err.ensures.fault
+    c.in-Err.fault (is_player (goal.at.returns-in-Err c).In-loop-player) c.in-Err.ensures.tests
 
 pub loop-player-preserved : goal.loop-player-preserved
 loop-player-preserved c =
@@ -40,5 +40,5 @@ loop-player-preserved c =
     record {
       place = omega (arith, c.in-Ok.ensures.place, c.loop-player.invariant.place, total-next t c.loop-player.player);
       group = omega (arith, c.in-Ok.ensures.group, c.loop-player.invariant.group, groups-next t c.loop-player.player);
-      passed = player_passes t c.args.entries.now c.loop-player.player c.loop-player.position.place c.loop-player.position.group c.loop-player.invariant.place c.loop-player.invariant.group c.loop-player.invariant.passed c.in-Ok.ensures.passed;
+      passed = player_passes t c.args.entries.now c.loop-player.player c.loop-player.position.place c.loop-player.position.group c.loop-player.invariant.place c.loop-player.invariant.group c.loop-player.invariant.passed c.in-Ok.ensures.tests;
     }

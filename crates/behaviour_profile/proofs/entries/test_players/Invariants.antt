@@ -2,7 +2,8 @@ use Rattle.std.proofs.Common.{◌≡◌, All, length}
 use Rattle.std.specs.Prelude.{sum}
 use Rattle.std.specs.List.{range_with_len, flat_map}
 use Rattle.game_core.specs.TreeGame.{game_of_tree}
-use Rattle.behaviour_profile.specs.EntryTests.{Passes, own_counts, tests_from}
+use Rattle.behaviour_profile.specs.EntryTests.{Passes, tests_from}
+use Rattle.strategy_lists.specs.Decisions.{own_counts}
 use Rattle.behaviour_profile.proofs.entries.test_players.Given as goal
 
 abbrev pub invariant-loop-player : goal.invariant-loop-player

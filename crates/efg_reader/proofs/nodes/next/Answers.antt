@@ -1,13 +1,14 @@
 use Rattle.std.proofs.Common.{◌≡◌, ◌≢◌, suc, ◌≤◌, List, [], ℕ, Option, None, length, sym, ap, ◌∙◌, subst, Ok, arith}
 use Rattle.game_core.specs.declared.token.Token.{Token}
 use Rattle.file_parts.specs.Reading.{kinds}
-use Rattle.file_parts.specs.Parsing.{IsRefusal}
+use Rattle.efg_reader.specs.declared.nodes.Stop.TheVariants.{Refused}
 use Rattle.written_trees.specs.Building.{PartialTree, PartialOutcome, passed}
 use Rattle.efg_reader.specs.PartialCodes.{PartialNodes}
-use Rattle.efg_reader.specs.States.{tree_of}
+use Rattle.efg_reader.specs.States.{tree_of, IsStop}
 use Rattle.tree_grammar.specs.TreeParsing.{Choice, parse_choice, parse_at}
 use Rattle.efg_reader.proofs.OpenBranchLemmas.{same_room}
-use Rattle.efg_reader.proofs.NextStepLemmas.{MayCome, may_come, choice_refused, outcome_refused, node_added, few_sets_more, few_outcomes_more}
+use Rattle.efg_reader.proofs.NextStepLemmas.{may_stand, choice_refused, outcome_refused, node_added, few_sets_more, few_outcomes_more}
+use Rattle.tree_grammar.proofs.NodeStopLemmas.{MayStand}
 use Rattle.tree_grammar.proofs.ShortRestLemmas.{choice_leaves}
 use Rattle.efg_reader.proofs.nodes.next.Goals as goal
 
@@ -29,19 +30,19 @@ add-requires-clause-room c = same_room c.builder.inside.nodes [] c.builder.insid
 pub returns-in-Err : goal.returns-in-Err
 returns-in-Err c =
     let partial = tree_of c.builder.inside.nodes c.builder.inside.sets c.builder.inside.outcomes in
-    let may : MayCome c.args.players partial (kinds c.args.tokens.now) = subst (λ (partial : PartialTree). MayCome c.args.players partial (kinds c.args.tokens.now)) (sym c.builder.view_is) (may_come c.args.players c.args.builder (kinds c.args.tokens.now) c.requires.free c.requires.begins c.requires.room) in
+    let may : MayStand partial partial.branchings (kinds c.args.tokens.now) = subst (λ (partial : PartialTree). MayStand partial partial.branchings (kinds c.args.tokens.now)) (sym c.builder.view_is) (may_stand c.args.builder (kinds c.args.tokens.now) c.requires.free c.requires.begins c.requires.room) in
     let number : c.len.result ≡ length partial.nodes = c.len.ensures ∙ c.nodes.inside.list.ok.0 ∙ ap (λ (n : PartialNodes). length n.list) c.nodes.view_is in
-    subst (λ (partial : PartialTree). IsRefusal c.in-Err.refusal (parse_at c.args.players partial partial.branchings (kinds c.args.tokens.now))) c.builder.view_is
+    subst (λ (partial : PartialTree). IsStop (Refused c.in-Err.refusal) (parse_at c.args.players partial partial.branchings (kinds c.args.tokens.now))) c.builder.view_is
     (choice_refused c.args.players partial (kinds c.args.tokens.now) c.in-Err.refusal may (rw number at c.in-Err.ensures))
 
 pub returns-in-Err-read_outcome : goal.returns-in-Err-read_outcome
 returns-in-Err-read_outcome c =
     let partial = tree_of c.builder.inside.nodes c.builder.inside.sets c.builder.inside.outcomes in
-    let may : MayCome c.args.players partial (kinds c.args.tokens.now) = subst (λ (partial : PartialTree). MayCome c.args.players partial (kinds c.args.tokens.now)) (sym c.builder.view_is) (may_come c.args.players c.args.builder (kinds c.args.tokens.now) c.requires.free c.requires.begins c.requires.room) in
+    let may : MayStand partial partial.branchings (kinds c.args.tokens.now) = subst (λ (partial : PartialTree). MayStand partial partial.branchings (kinds c.args.tokens.now)) (sym c.builder.view_is) (may_stand c.args.builder (kinds c.args.tokens.now) c.requires.free c.requires.begins c.requires.room) in
     let number : c.len.result ≡ length partial.nodes = c.len.ensures ∙ c.nodes.inside.list.ok.0 ∙ ap (λ (n : PartialNodes). length n.list) c.nodes.view_is in
     let step : Choice × List Token = ((c.in-Ok.read.0, (c.in-Ok.read.1.kind, c.in-Ok.read.1.set)), kinds c.in-Ok.read.2.now) in
     let chosen : parse_choice c.args.players (length partial.nodes) partial.sets (kinds c.args.tokens.now) ≡ Ok step = rw number at c.in-Ok.ensures in
-    subst (λ (partial : PartialTree). IsRefusal c.in-Err-read_outcome.refusal (parse_at c.args.players partial partial.branchings (kinds c.args.tokens.now))) c.builder.view_is
+    subst (λ (partial : PartialTree). IsStop (Refused c.in-Err-read_outcome.refusal) (parse_at c.args.players partial partial.branchings (kinds c.args.tokens.now))) c.builder.view_is
     (outcome_refused c.args.players partial (kinds c.args.tokens.now) c.in-Err-read_outcome.refusal step may chosen c.in-Err-read_outcome.ensures)
 
 pub invariant_of-result : goal.invariant_of-result
@@ -61,7 +62,7 @@ invariant_of-result c =
 pub returns-in-Ok-add : goal.returns-in-Ok-add
 returns-in-Ok-add c =
     let partial = tree_of c.builder.inside.nodes c.builder.inside.sets c.builder.inside.outcomes in
-    let may : MayCome c.args.players partial (kinds c.args.tokens.now) = subst (λ (partial : PartialTree). MayCome c.args.players partial (kinds c.args.tokens.now)) (sym c.builder.view_is) (may_come c.args.players c.args.builder (kinds c.args.tokens.now) c.requires.free c.requires.begins c.requires.room) in
+    let may : MayStand partial partial.branchings (kinds c.args.tokens.now) = subst (λ (partial : PartialTree). MayStand partial partial.branchings (kinds c.args.tokens.now)) (sym c.builder.view_is) (may_stand c.args.builder (kinds c.args.tokens.now) c.requires.free c.requires.begins c.requires.room) in
     let number : c.len.result ≡ length partial.nodes = c.len.ensures ∙ c.nodes.inside.list.ok.0 ∙ ap (λ (n : PartialNodes). length n.list) c.nodes.view_is in
     let step : Choice × List Token = ((c.in-Ok.read.0, (c.in-Ok.read.1.kind, c.in-Ok.read.1.set)), kinds c.in-Ok.read.2.now) in
     let paid : (List PartialOutcome × Option ℕ) × List Token = ((c.in-Ok-read_outcome.read.0, c.in-Ok-read_outcome.read.1), kinds c.in-Ok-read_outcome.read.2.now) in

@@ -1,7 +1,6 @@
 use Rattle.std.proofs.Common.{◌≡◌, ◌<◌, ◌^◌, List, length, ◌∙◌, Ok, arith}
 use Rattle.file_parts.specs.Reading.{kinds}
-use Rattle.tree_grammar.specs.TreeReading.{Head}
-use Rattle.tree_grammar.specs.TreeParsing.{parse_head}
+use Rattle.tree_grammar.specs.TreeParsing.{Head, parse_head}
 use Rattle.efg_reader.proofs.FileStopLemmas.{all_short, few_of, front_stop, made_tree, nodes_stop, read_file, read_tree}
 use Rattle.tree_grammar.proofs.ShortRestLemmas.{head_leaves}
 use Rattle.efg_reader.proofs.reading.read.Goals as goal

@@ -1,4 +1,4 @@
-use Rattle.std.proofs.Common.{◌∙◌, ◌≡◌, sym, ap, ap₂, subst₂, arith, add-one}
+use Rattle.std.proofs.Common.{◌∙◌, ◌≡◌, sym, ap, ap₂, subst₂, arith, add-one, length}
 use Rattle.std.proofs.lemmas.List.{get_or_default}
 use Rattle.rational.specs.Rational.{◌+ℚ◌, zero_ℚ}
 use Rattle.rational.specs.Sum.{sum_to}
@@ -7,7 +7,6 @@ use Rattle.frac128.specs.declared.steps.Op.TheVariants.{Add}
 use Rattle.label_pairing.specs.Scaling.{entry_of, addition}
 use Rattle.frac128.proofs.StepListLemmas.{fits-next, unfit-first, fits-all}
 use Rattle.label_pairing.proofs.scaling.sum.Goals as goal
-use Rattle.std.proofs.Common.{length}
 
 pub loop-i-preserved : goal.loop-i-preserved
 loop-i-preserved c =

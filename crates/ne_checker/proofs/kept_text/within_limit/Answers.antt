@@ -1,5 +1,5 @@
 use Rattle.std.proofs.Common.{inr, refl, arith}
-use Rattle.game_core.proofs.LimitLemmas.{text-long, text-short}
+use Rattle.game_core.proofs.LimitLemmas.{text-long}
 use Rattle.ne_checker.proofs.LineStepLemmas.{longer}
 use Rattle.ne_checker.proofs.kept_text.within_limit.Goals as goal
 

@@ -17,10 +17,10 @@ at c =
 pub overflow_cast-player : goal.overflow_cast-player
 overflow_cast-player c = omega (arith, player-few c.args.table.now c.players-player-end.ensures.valid c.loop-player.player (is_player (goal.at.overflow_cast-player c).In-loop-player))
 
-pub returns-in-Err-clause-fault : goal.returns-in-Err-clause-fault
-returns-in-Err-clause-fault c =
-    next_fault (strategy_counts c.args.table.now) c.loop-player.player c.strategy_count-count.result (at (goal.at.returns-in-Err-clause-fault c).After-strategy_count-count) c.args.entries.now 0 0 c.loop-player.place c.loop-player.player
-    (omega (arith, c.loop-player.invariant.place)) (omega arith) c.loop-player.invariant.passed c.in-Err.fault c.in-Err.ensures.fault
+pub returns-in-Err : goal.returns-in-Err
+returns-in-Err c =
+    next_fault (strategy_counts c.args.table.now) c.loop-player.player c.strategy_count-count.result (at (goal.at.returns-in-Err c).After-strategy_count-count) c.args.entries.now 0 0 c.loop-player.place c.loop-player.player
+    (omega (arith, c.loop-player.invariant.place)) (omega arith) c.loop-player.invariant.passed c.in-Err.fault c.in-Err.ensures
 
 pub loop-player-preserved : goal.loop-player-preserved
 loop-player-preserved c =
@@ -29,5 +29,5 @@ loop-player-preserved c =
     record {
       place = omega (arith, c.loop-player.invariant.place, next, c.strategy_count-count.ensures.count);
       passed = next_passes (strategy_counts t) c.loop-player.player c.strategy_count-count.result (at (goal.at.loop-player-preserved c).After-strategy_count-count) c.args.entries.now 0 0 c.loop-player.place c.loop-player.player
-          (omega (arith, c.loop-player.invariant.place)) (omega arith) c.loop-player.invariant.passed c.in-Ok.ensures.passed;
+          (omega (arith, c.loop-player.invariant.place)) (omega arith) c.loop-player.invariant.passed c.in-Ok.ensures;
     }

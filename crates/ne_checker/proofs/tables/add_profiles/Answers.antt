@@ -6,7 +6,8 @@ use Rattle.game_core.specs.Table.{game_of, strategy_counts}
 use Rattle.game_core.proofs.TableCountLemmas.{profile_count-table}
 use Rattle.frac128.specs.Steps.{StepFits, IsFirstUnfit}
 use Rattle.behaviour_profile.specs.EntryTests.{mixed_of}
-use Rattle.ne_checker.specs.TableChecks.{steps_at, value_below}
+use Rattle.ne_checker.specs.TableChecks.{steps_at}
+use Rattle.best_replies.specs.Strategies.{value_below}
 use Rattle.ne_checker.proofs.TableBlockLemmas.{profile-fits, profile-value, sum-unfit, weight-unfit}
 use Rattle.frac128.proofs.StepPartLemmas.{part-fits, part-unfit}
 use Rattle.ne_checker.proofs.tables.add_profiles.Goals as goal

@@ -3,7 +3,8 @@ use Rattle.std.specs.List.{flat_map, range_with_len}
 use Rattle.game_core.specs.Table.{game_of, strategy_counts}
 use Rattle.frac128.specs.Steps.{StepFits}
 use Rattle.behaviour_profile.specs.EntryTests.{mixed_of}
-use Rattle.ne_checker.specs.TableChecks.{steps_at, value_below}
+use Rattle.ne_checker.specs.TableChecks.{steps_at}
+use Rattle.best_replies.specs.Strategies.{value_below}
 use Rattle.ne_checker.proofs.tables.add_profiles.Given as goal
 
 abbrev pub invariant-loop-profile : goal.invariant-loop-profile

@@ -8,7 +8,8 @@ use Rattle.game_core.proofs.TableCountLemmas.{profile_count-table}
 use Rattle.game_core.proofs.StrideLemmas.{HaveStrategies-table, stride-positive, stride_next-at_most}
 use Rattle.behaviour_profile.specs.EntryTests.{mixed_of}
 use Rattle.frac128.specs.Steps.{IsFirstUnfit, StepFits}
-use Rattle.ne_checker.specs.TableChecks.{steps_at, value_below}
+use Rattle.ne_checker.specs.TableChecks.{steps_at}
+use Rattle.best_replies.specs.Strategies.{value_below}
 use Rattle.ne_checker.proofs.TableBlockLemmas.{IsReached, start, at_first, block-within, block-played, next, block-unfit, done}
 use Rattle.ne_checker.proofs.TablePartLemmas.{player-within, profiles-are}
 use Rattle.frac128.proofs.StepPartLemmas.{steps_of}

@@ -1,4 +1,4 @@
-use Rattle.std.proofs.Common.{inr}
+use Rattle.std.proofs.Common.{inr, ap, Ok}
 use Rattle.ne_checker.specs.TreeScratches.{reply_of}
 use Rattle.ne_checker.specs.declared.trees.TreeVerdict.TheVariants as verdicts
 use Rattle.ne_checker.proofs.TreeLineLemmas.{line_out_of_range, line_told, tested_behaviour}
@@ -11,11 +11,11 @@ check_tree-requires-clause-entries c =
 
 pub returns-in-Equilibrium-clause-text : goal.returns-in-Equilibrium-clause-text
 returns-in-Equilibrium-clause-text c =
-    line_told c.args.tree.now c.args.number c.args.line.now c.in-Ok.entries.items c.in-Ok-try_new.behaviour verdicts.Equilibrium (reply_of c.check_tree.new.scratch) c.in_ok-equilibrium-in-Equilibrium.field-0.items c.in-Ok.ensures c.in-Ok-try_new.ensures c.in-Equilibrium.ensures.verdict c.in_ok-equilibrium-in-Equilibrium.ensures
+    line_told c.args.tree.now c.args.number c.args.line.now c.in-Ok.entries.items c.in-Ok-try_new.behaviour verdicts.Equilibrium (reply_of c.check_tree.new.scratch) c.in_ok-equilibrium-in-Equilibrium.field-0.items c.in-Ok.ensures c.in-Ok-try_new.ensures c.in-Equilibrium.ensures.verdict (ap Ok c.in_ok-equilibrium-in-Equilibrium.ensures)
 
 pub returns-in-Better-clause-text : goal.returns-in-Better-clause-text
 returns-in-Better-clause-text c =
-    line_told c.args.tree.now c.args.number c.args.line.now c.in-Ok.entries.items c.in-Ok-try_new.behaviour (verdicts.Better c.in-Better.player c.in-Better.payoff c.in-Better.best) (reply_of c.check_tree.new.scratch) c.in_ok-better_reply-in-Better.field-0.items c.in-Ok.ensures c.in-Ok-try_new.ensures c.in-Better.ensures.verdict c.in_ok-better_reply-in-Better.ensures
+    line_told c.args.tree.now c.args.number c.args.line.now c.in-Ok.entries.items c.in-Ok-try_new.behaviour (verdicts.Better c.in-Better.player c.in-Better.payoff c.in-Better.best) (reply_of c.check_tree.new.scratch) c.in_ok-better_reply-in-Better.field-0.items c.in-Ok.ensures c.in-Ok-try_new.ensures c.in-Better.ensures.verdict (ap Ok c.in_ok-better_reply-in-Better.ensures)
 
 pub returns-clause-text : goal.returns-clause-text
 returns-clause-text c =

@@ -1,6 +1,6 @@
 use Rattle.std.proofs.Common.{◌≡◌, ◌++◌, length, map}
 use Rattle.file_parts.specs.Reading.{kinds, texts_at}
-use Rattle.tree_grammar.specs.TreeReading.{own_action}
+use Rattle.tree_grammar.specs.TreeParsing.{own_action}
 use Rattle.tree_grammar.proofs.actions.own_actions.Given as goal
 
 abbrev pub invariant-loop-name : goal.invariant-loop-name

@@ -1,7 +1,5 @@
-use Rattle.std.proofs.Common.{◌∙◌, Err, subst}
-use Rattle.answers.specs.Answers.{Gives}
-use Rattle.zero_sum_lp.specs.declared.stop.LpStop.TheVariants as stops
-use Rattle.zero_sum_lp.specs.FormPrograms.{form_start_in, told_start}
+use Rattle.std.proofs.Common.{◌∙◌}
+use Rattle.std.proofs.lemmas.Result.{err_from_is_err_and}
 use Rattle.zero_sum_lp.proofs.FormProgramLemmas.{start_goes, start_stop}
 use Rattle.zero_sum_lp.proofs.FormSystemLemmas.{for_sides}
 use Rattle.zero_sum_lp.proofs.form_program.started.Goals as goal
@@ -10,10 +8,11 @@ pub new-requires-clause-program : goal.new-requires-clause-program
 new-requires-clause-program c =
     for_sides c.args.form.now c.args.system.now c.in_ok-first.first c.in_ok-second.second (c.in_ok-first.ensures ∙ c.first.ensures.side) (c.in_ok-second.ensures ∙ c.second.ensures.side) c.requires.system
 
-pub returns-in-Ok : goal.returns-in-Ok
-returns-in-Ok c =
-    start_goes c.args.form.now c.args.system.now c.requires.system c.in-Ok.lp c.in-Ok.ensures.start (c.in-Ok.ensures.first ∙ c.in_ok-first.ensures ∙ c.first.ensures.side) (c.in-Ok.ensures.second ∙ c.in_ok-second.ensures ∙ c.second.ensures.side)
+pub returns-in_err-new : goal.returns-in_err-new
+returns-in_err-new c =
+    let p = err_from_is_err_and c.from_residual-in_err-new.result c.from_residual-in_err-new.ensures.1 in
+    rw (p.1, p.2) (start_stop c.args.form.now c.args.system.now c.requires.system c.in_err-new.field-0.0 c.in_err-new.ensures.start)
 
-pub returns-in-Err-Unfit : goal.returns-in-Err-Unfit
-returns-in-Err-Unfit c =
-    subst (λ stop. Gives stops.Memory (form_start_in c.args.form.now) (Err (told_start stop))) c.in-Err-Unfit.field-0-is (start_stop c.args.form.now c.args.system.now c.requires.system c.in-Err-Unfit.field-0 c.in-Err-Unfit.ensures.start)
+pub returns : goal.returns
+returns c =
+    start_goes c.args.form.now c.args.system.now c.requires.system c.in_ok-new.field-0 c.in_ok-new.ensures.start (c.in_ok-new.ensures.first ∙ c.in_ok-first.ensures ∙ c.first.ensures.side) (c.in_ok-new.ensures.second ∙ c.in_ok-second.ensures ∙ c.second.ensures.side)

@@ -3,7 +3,8 @@ use Rattle.sequence_data.specs.Data.{side_of}
 use Rattle.sequence_data.specs.declared.types.SetRow.{SetRow}
 use Rattle.sequence_forms.specs.Sides.{sequences}
 use Rattle.zero_sum_lp.specs.Programs.{columns_of, constraints}
-use Rattle.zero_sum_lp.specs.Systems.{gain_of, IsSystemFor}
+use Rattle.zero_sum_lp.specs.Systems.{IsSystemFor}
+use Rattle.sequence_data.specs.Matrices.{number_at}
 use Rattle.zero_sum_lp.proofs.OptimumLemmas.{sets_are}
 use Rattle.zero_sum_lp.proofs.SystemLemmas.{system_for}
 use Rattle.zero_sum_lp.proofs.system.system.Goals as goal
@@ -20,6 +21,6 @@ returns c =
     let y = c.sequences.ensures ∙ c.requires.second_side.sequences_are in
     let m_is : m ≡ constraints (side_of first) (side_of second) = omega (arith, a, y) in
     let n_is : n ≡ columns_of (side_of first) (side_of second) = omega (arith, b, x) in
-    subst (IsSystemFor first second (gain_of c.args.gains.now (sequences (side_of second)))) (sym c.new.ensures.value)
-    (system_for first second (gain_of c.args.gains.now (sequences (side_of second))) m n c.push.new.self.items c.in_ok-basics.basics.items c.in_ok-nonbasics.nonbasics.items c.in_ok-cells.cells.items m_is n_is (omega (arith, c.requires.few, m_is, n_is))
+    subst (IsSystemFor first second (number_at c.args.gains.now (sequences (side_of second)))) (sym c.new.ensures.value)
+    (system_for first second (number_at c.args.gains.now (sequences (side_of second))) m n c.push.new.self.items c.in_ok-basics.basics.items c.in_ok-nonbasics.nonbasics.items c.in_ok-cells.cells.items m_is n_is (omega (arith, c.requires.few, m_is, n_is))
     c.in_ok-basics.ensures c.in_ok-push.ensures.items c.in_ok-nonbasics.ensures c.in_ok-cells.ensures)

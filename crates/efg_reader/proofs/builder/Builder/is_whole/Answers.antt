@@ -1,7 +1,7 @@
 use Rattle.std.proofs.Common.{◌∙◌, ap, nat_eq, length}
 use Rattle.written_trees.specs.Building.{PartialTree}
 use Rattle.efg_reader.specs.PartialCodes.{PartialNodes}
-use Rattle.tree_grammar.specs.TreeReading.{is_whole}
+use Rattle.tree_grammar.specs.TreeParsing.{is_whole}
 use Rattle.efg_reader.proofs.NodesLoopLemmas.{whole_by_kept}
 use Rattle.efg_reader.proofs.builder.Builder.is_whole.Goals as goal
 

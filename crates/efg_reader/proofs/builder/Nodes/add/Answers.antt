@@ -2,7 +2,7 @@ use Rattle.std.proofs.Common.{◌≡◌, suc, None, Some, length, length-append,
 use Rattle.written_trees.specs.Building.{passed}
 use Rattle.efg_reader.specs.PartialCodes.{PartialNodes}
 use Rattle.efg_reader.specs.States.{branchings_of, nodes_of, tree_of}
-use Rattle.tree_grammar.specs.TreeReading.{grown}
+use Rattle.tree_grammar.specs.TreeParsing.{grown}
 use Rattle.efg_reader.proofs.OpenBranchLemmas.{near_after, few_next, grown_is, room_for}
 use Rattle.efg_reader.proofs.builder.Nodes.add.Goals as goal
 

@@ -1,21 +1,21 @@
--- Reading a tree, as functions of its tokens: each takes one part off the front and gives what it stands for and the tokens
--- after it, or nothing.
-use Rattle.std.specs.Prelude.{ℕ, zero, suc, ◌-◌, ◌&&◌, ◌||◌, if◌then◌else◌, nat_eq, nat_le, Bool, false, List, [], ◌∷◌, ◌++◌, length, map, option_map, Option, Some, None, Result, Ok, Err, codes}
-use Rattle.std.specs.Cmp.Lexicographic.{pointwise}
-use Rattle.rational.specs.Rational.{ℚ, ◌+ℚ◌, zero_ℚ}
+-- Reading parts of a tree without the kinds and places of faults: each takes one part off the front and gives what it stands for
+-- and the tokens after it, or nothing.
+use Rattle.std.specs.Prelude.{ℕ, suc, ◌-◌, ◌&&◌, if◌then◌else◌, nat_eq, nat_le, List, [], ◌∷◌, length, map, option_map, Option, Some, None, codes}
+use Rattle.rational.specs.Rational.{ℚ, ◌+ℚ◌}
 use Rattle.game_core.specs.declared.tree.Action.{Action}
-use Rattle.game_core.specs.declared.too_large.What.{What}
 use Rattle.game_core.specs.declared.tree.Kind.{Kind}
 use Rattle.game_core.specs.Tree.{kind_of_owner}
-use Rattle.file_parts.specs.Reading.{left_at, right_at, text_at, word_at, number_at, whole_at, optional_text_at, after_text, texts_at, payoff_at, opens, ends}
-use Rattle.file_parts.proofs.ValueLemmas.{names_at, payoffs_at, title_at}
+use Rattle.file_parts.specs.Reading.{left_at, right_at, text_at, word_at, number_at, whole_at, optional_text_at, texts_at, payoff_at, opens, count_at}
+use Rattle.file_parts.proofs.ValueLemmas.{payoffs_at}
 use Rattle.written_trees.specs.Written.{SetUse, OutcomeUse, WrittenNode}
 use Rattle.written_trees.specs.Described.{key_of, kind_of_use}
-use Rattle.written_trees.specs.Building.{PartialTree, use_some_set, use_some_outcome, may_be_first, repeats_actions, repeats_payoffs, PartialSet, PartialOutcome, add_node, use_set, set_place, outcome_place, may_follow, passed, root_alone, Branching, partial_count, take_branch, add_branches}
+use Rattle.written_trees.specs.Building.{PartialTree, use_some_set, use_some_outcome, may_be_first, repeats_actions, repeats_payoffs, PartialSet, PartialOutcome, add_node, use_set, set_place, outcome_place, may_follow}
 use Rattle.rational.specs.Tests.{eq_ℚ}
 use Rattle.lists.specs.Options.{◌>>=◌}
 use Rattle.game_core.specs.declared.token.Token.{Token}
-use Rattle.game_core.specs.declared.token.Token.TheVariants.{Text, Word, Number}
+use Rattle.game_core.specs.declared.token.Token.TheVariants.{Text, Number}
+use Rattle.tree_grammar.specs.TreePieces.{closed_at, is_word}
+use Rattle.tree_grammar.specs.TreeParsing.{own_action}
 
 -- ---- a list of actions
 -- as many actions as come
@@ -24,16 +24,9 @@ chance_actions_at (Text name ∷ Number prob ∷ rest) = chance_actions_at rest 
 chance_actions_at (Text name ∷ rest) = None
 chance_actions_at tokens = Some ([], tokens)
 
-abbrev pub own_action : List ℕ → Action
-own_action name = record { name = name; prob = zero_ℚ }
-
 abbrev pub actions_at : Option ℕ → List Token → Option (List Action × List Token)
 actions_at None tokens = chance_actions_at tokens
 actions_at (Some i) tokens = Some (map own_action (texts_at tokens).0, (texts_at tokens).1)
-
--- the tokens after the brace that closes so many actions, which are at least one
-abbrev pub closed_at : ℕ → List Token → Option (List Token)
-closed_at count tokens = right_at tokens >>= λ rest. if nat_le 1 count then Some rest else None
 
 -- one or more actions, closed by a brace
 unfoldable pub action_list_at : Option ℕ → List Token → Option (List Action × List Token)
@@ -47,16 +40,10 @@ action_list_at owner tokens = do
 abbrev pub optional_at : {X : Type 0} → (List Token → Option (X × List Token)) → List Token → Option (Option X × List Token)
 optional_at reading tokens = if opens tokens then (reading tokens >>= λ x. Some (Some x.0, x.1)) else Some (None, tokens)
 
--- a number of at least 1
-unfoldable pub positive_at : List Token → Option (ℕ × List Token)
-positive_at tokens = do
-  label ← whole_at tokens
-  if nat_le 1 label.0 then Some label else None
-
 -- a set: its number, and maybe its name and its actions
 unfoldable pub set_use_at : Option ℕ → List Token → Option (SetUse × List Token)
 set_use_at owner tokens = do
-  label ← positive_at tokens
+  label ← count_at tokens
   actions ← optional_at (action_list_at owner) (optional_text_at label.1).1
   Some (record { owner = owner; label = label.0; name = (optional_text_at label.1).0; actions = actions.0 }, actions.1)
 
@@ -98,10 +85,6 @@ own_use_at players tokens = do
   used ← set_use_at (Some player.0) player.1
   Some (Some used.0, used.1)
 
--- whether this is the word
-abbrev pub is_word : List ℕ → List ℕ → Bool
-is_word word expected = pointwise nat_eq word expected
-
 -- what follows the word with which a node begins, and its name
 abbrev pub choice_after : ℕ → List ℕ → List Token → Option (Option SetUse × List Token)
 choice_after players word tokens =
@@ -128,57 +111,6 @@ next_at players partial tokens = do
   node ← node_at players tokens
   more ← add_node partial node.0
   Some (more, node.1)
-
--- whether the word of a node comes
-abbrev pub is_node_word : List ℕ → Bool
-is_node_word word = is_word word (codes "c") || (is_word word (codes "p") || is_word word (codes "t"))
-
-abbrev pub begins_node : List Token → Bool
-begins_node (Word word ∷ rest) = is_node_word word
-begins_node _ = false
-
--- Why nodes are not read: for the limit that they pass, or else because they are none.
-abbrev pub Nodes : Type 0
-Nodes = Result (PartialTree × List Token) (Option What)
-
--- a further node, unless it passes a limit
-abbrev pub within_limit : {X : Type 0} → Option What → Option X → Result X (Option What)
-within_limit (Some what) reading = Err (Some what)
-within_limit None (Some x) = Ok x
-within_limit None None = Err None
-
--- what follows, where something was read
-abbrev pub and_then : {X Y : Type 0} → Result X (Option What) → (X → Result Y (Option What)) → Result Y (Option What)
-and_then (Ok x) f = f x
-and_then (Err e) f = Err e
-
--- a further node
-unfoldable pub one_more_at : ℕ → PartialTree → List Token → Nodes
-one_more_at players partial tokens = if begins_node tokens then within_limit (passed partial) (next_at players partial tokens) else Err None
-
--- whether no branch is open
-abbrev pub is_whole : PartialTree → Bool
-is_whole partial = nat_eq (length partial.branchings) 0
-
--- nodes until no branch is open, and at most so many
-abbrev pub nodes_at : ℕ → ℕ → PartialTree → List Token → Nodes
-nodes_at zero players partial tokens = Err None
-nodes_at (suc most) players partial tokens = if is_whole partial then Ok (partial, tokens) else and_then (one_more_at players partial tokens) (λ x. nodes_at most players x.0 x.1)
-
--- ---- the file
--- the title and the players
-abbrev pub Head : Type 0
-Head = List ℕ × List (List ℕ)
-
-unfoldable pub front_at : List Token → Option (Head × List Token)
-front_at tokens = do
-  title ← title_at (codes "EFG") 2 tokens
-  players ← names_at title.1
-  Some ((title.0, players.0), after_text players.1)
-
--- the nodes, with which the file ends
-unfoldable pub whole_nodes_at : ℕ → List Token → Result PartialTree (Option What)
-whole_nodes_at players tokens = and_then (nodes_at (suc (length tokens)) players root_alone tokens) (λ x. if ends x.1 then Ok x.0 else Err None)
 
 -- ---- lists beside those before them
 -- as many actions of chance as come, with their sum after this one
@@ -266,17 +198,3 @@ set_choice_at k sets owner tokens = set_part_at k sets owner tokens >>= λ x. So
 -- the choice of the player whose number comes
 abbrev pub own_choice_at : ℕ → ℕ → List PartialSet → List Token → Option ((List PartialSet × (Kind × Option ℕ)) × List Token)
 own_choice_at players k sets tokens = player_at players tokens >>= λ player. set_choice_at k sets (Some player.0) player.1
-
--- the tree with a node of this kind, with this set and this outcome, at the first open branch
-abbrev pub grown_at : PartialTree → Kind → Option ℕ → Option ℕ → List Branching → Option PartialTree
-grown_at partial kind set outcome [] = None
-grown_at partial kind set outcome (b ∷ rest) =
-    Some (record {
-      nodes = partial.nodes ++ record { kind = kind; parent = b.node; branch = b.next; set = set; outcome = outcome } ∷ [];
-      sets = partial.sets;
-      outcomes = partial.outcomes;
-      branchings = add_branches (length partial.nodes) (partial_count partial.sets set) (suc b.depth) (take_branch b rest);
-    })
-
-abbrev pub grown : PartialTree → Kind → Option ℕ → Option ℕ → Option PartialTree
-grown partial kind set outcome = grown_at partial kind set outcome partial.branchings
