@@ -1,5 +1,5 @@
 -- Two ascending lists with no number in common become one
-use Rattle.std.proofs.Common.{ℕ, ◌<◌, ◌≤◌, ◌≡◌, ◌+◌, ◌++◌, refl, sym, ap, ◌∙◌, subst, arith, inl, inr, List, [], ◌∷◌, length, get_or, eq-or-lt_of_le}
+use Rattle.std.proofs.Common.{ℕ, ◌<◌, ◌≤◌, ◌≡◌, ◌+◌, ◌⊎◌, ◌++◌, refl, sym, ap, ◌∙◌, subst, arith, inl, inr, List, [], ◌∷◌, length, get_or, eq-or-lt_of_le}
 use Rattle.std.specs.List.{Contains}
 use Rattle.std.specs.List.Sorted.{IsStrictlyIncreasing}
 use Rattle.std.proofs.lemmas.List.{length-append}
@@ -7,7 +7,6 @@ use Rattle.std.proofs.lemmas.List.Elements.{Contains-append_left, Contains-appen
 use Rattle.basis_enum.proofs.AscendingNumberLemmas.{first_in, in_cases, increasing_push}
 use Rattle.basis_enum.proofs.NeighbourLemmas.{place_of}
 use Rattle.basis_enum.specs.Merged.{IsMerged, TakesFirst}
-use Rattle.std.specs.Prelude.{◌⊎◌}
 
 -- all has the first i numbers of xs and the first k of ys, which are below the others
 pub record AreMerged (xs ys : List ℕ) (i k : ℕ) (all : List ℕ) : Type 0 where

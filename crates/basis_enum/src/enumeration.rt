@@ -72,11 +72,9 @@ pub fn enumerate_with<R: Threads + Sync, G: Gate, L: Ledger>(
     ensures few { IfOk result (λ v. v.bases ≤ 20000) }
     ensures bounded { pivots.new ≤ pivots.old + 19999 }
 {
-    match reach(rt, alloc, system, helpers, gate, pivots) {
-        Ok(walk) => Ok(Vertices {
-            bases: walk.known.len() as u64,
-            list: in_order(walk.vertices),
-        }),
-        Err(stop) => Err(stop),
-    }
+    let walk = reach(rt, alloc, system, helpers, gate, pivots)?;
+    Ok(Vertices {
+        bases: walk.known.len() as u64,
+        list: in_order(walk.vertices),
+    })
 }

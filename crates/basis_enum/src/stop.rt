@@ -3,6 +3,7 @@ ghost use Rattle.std.specs.Prelude.{◌≡◌};
 
 use frac128::{Memory, Unfit};
 use game_core::TooLarge;
+use lex_tableau::StartStop;
 use std::alloc::{AllocError, AllocFailed};
 use std::marker::Model;
 
@@ -60,6 +61,31 @@ pub enum EnumStop {
     TooLarge(TooLarge),
     /// Memory ran out.
     Memory,
+}
+
+impl From<TooLarge> for EnumStop {
+    ghost use Rattle.std.specs.Prelude.{◌≡◌};
+    ghost use Rattle.basis_enum.specs.declared.stop.EnumStop.TheVariants as stops;
+
+    ghost from_gives = { λ limit e. e ≡ stops.TooLarge limit };
+
+    fn from(limit: TooLarge) -> EnumStop {
+        EnumStop::TooLarge(limit)
+    }
+}
+
+impl From<StartStop> for EnumStop {
+    ghost use Rattle.std.specs.Prelude.{◌≡◌};
+    ghost use Rattle.basis_enum.specs.Reached.{told_start};
+
+    ghost from_gives = { λ stop e. e ≡ told_start stop };
+
+    fn from(stop: StartStop) -> EnumStop {
+        match stop {
+            StartStop::Unfit { row, unfit } => EnumStop::Start { row, unfit },
+            StartStop::Memory => EnumStop::Memory,
+        }
+    }
 }
 
 impl From<Memory> for EnumStop {

@@ -1,8 +1,7 @@
 // The enumeration on its way, level after level.
-ghost use Rattle.std.specs.Prelude.{◌≡◌, ◌<◌, ◌≤◌, ◌+◌, ℕ, [], ◌∷◌, length, map, IfErr, IfOk, OnOk, Ok, Err};
+ghost use Rattle.std.specs.Prelude.{◌≡◌, ◌<◌, ◌≤◌, ◌+◌, ℕ, [], ◌∷◌, length, map, IfErr, IfOk, OnOk, Err};
 ghost use Rattle.std.specs.List.{Contains};
 ghost use Rattle.std.specs.List.Sorted.{IsStrictlyIncreasing};
-ghost use Rattle.lex_tableau.specs.StartStops.{start_in};
 ghost use Rattle.basis_enum.specs.Bases.{IsAscendingListOf};
 ghost use Rattle.basis_enum.specs.Systems.{IsEnumerable};
 ghost use Rattle.basis_enum.specs.Children.{AreAllChildren, IsChildStop, IsExpandable};
@@ -22,7 +21,7 @@ use crate::vertex::Vertex;
 use answers::Memory;
 use claims::Helpers;
 use game_core::{TooLarge, What};
-use lex_tableau::{PivotCount, StartStop, System, Tableau};
+use lex_tableau::{PivotCount, System, Tableau};
 use outside::Gate;
 use std::alloc::Global;
 use std::marker::Sync;
@@ -31,7 +30,7 @@ use std::sync::ledger::Ledger;
 use std::thread::Threads;
 
 // How many bases may be reached.
-const MOST_BASES: usize = 20_000;
+const MOST_BASES: u64 = 20_000;
 
 // A level: its tableaux. Beside it the bases of all levels so far, in ascending order, and the
 // vertices of their tableaux as they were reached.
@@ -40,18 +39,6 @@ pub(crate) struct Walk {
     pub level: Vec<Tableau>,
     pub known: Vec<u128>,
     pub vertices: Vec<Vertex>,
-}
-
-// The start of the system.
-fn first(alloc: Global, system: &System) -> Result<Tableau, EnumStop>
-    ensures first { IfOk result (λ tableau. start_in system.now (Ok tableau)) }
-    ensures stop { IfErr result (IsEnumStop system.now) }
-{
-    match Tableau::start(alloc, system) {
-        Ok(tableau) => Ok(tableau),
-        Err(StartStop::Unfit { row, unfit }) => Err(EnumStop::Start { row, unfit }),
-        Err(StartStop::Memory) => Err(EnumStop::Memory),
-    }
 }
 
 // The list of one item.
@@ -71,7 +58,7 @@ fn start<G: Gate>(alloc: Global, system: &System, gate: &G) -> Result<(Walk, Vec
     ensures one { IfOk result (λ p. length p.0.known.items ≡ 1) }
     ensures stop { IfErr result (IsEnumStop system.now) }
 {
-    let tableau = first(alloc, system)?;
+    let tableau = Tableau::start(alloc, system)?;
     let basis = basis(system.nonbasics());
     let known = list_of(alloc, basis)?;
     gate.pass(0);
@@ -157,15 +144,8 @@ fn check_count(bases: usize, moves: &[Move]) -> Result<(), EnumStop>
     ensures few { OnOk result (bases + length moves.now ≤ 20000) }
     ensures stop { IfErr result (λ stop. bases_within (bases + length moves.now) (Err stop)) }
 {
-    let count = bases + moves.len();
-    if count > MOST_BASES {
-        return Err(EnumStop::TooLarge(TooLarge {
-            what: What::Bases,
-            count: count as u64,
-            limit: MOST_BASES as u64,
-        }));
-    }
-    Ok(())
+    let count = bases as u64 + moves.len() as u64;
+    Ok(TooLarge::within(What::Bases, MOST_BASES, count)?)
 }
 
 // The bases that are known, and with them those to which these pivots lead.

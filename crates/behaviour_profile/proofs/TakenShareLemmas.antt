@@ -1,5 +1,5 @@
 -- The shares of a set's weights in the weight before it, one by one.
-use Rattle.std.proofs.Common.{ℕ, ◌+◌, ◌<◌, ◌≤◌, ◌≡◌, ◌≢◌, inl, inr, Ok, Err, Result, Bool, true, false, pos, List, [], ◌∷◌, ◌++◌, All, length, get_or, take, refl, sym, ap, ap₂, ◌∙◌, subst, subst₂, arith, zero-add}
+use Rattle.std.proofs.Common.{ℕ, ◌+◌, ◌<◌, ◌≤◌, ◌≡◌, ◌≢◌, Ok, Err, Result, Bool, true, false, pos, List, [], ◌∷◌, ◌++◌, All, length, get_or, take, refl, sym, ap, ap₂, ◌∙◌, subst, subst₂, arith, zero-add}
 use Rattle.std.specs.Prelude.{IfOk, IfErr, OnErr, OnOk, if◌then◌else◌}
 use Rattle.std.proofs.lemmas.List.{take_all}
 use Rattle.std.proofs.lemmas.List.Elements.{All-nil}
@@ -7,7 +7,7 @@ use Rattle.std.proofs.lemmas.List.FromFn.{get_or-range_with_len, length-range_wi
 use Rattle.rational.specs.Rational.{ℚ, ◌*ℚ◌, inv_ℚ, frac, zero_ℚ}
 use Rattle.rational.specs.Tests.{eq_test}
 use Rattle.rational.proofs.Decide.{eq_test-true}
-use Rattle.frac128.specs.Steps.{DivFits, unfit, Step, StepFits, IsFirstUnfit}
+use Rattle.frac128.specs.Steps.{DivFits, unfit, Step, StepFits, IsFirstUnfit, StepsGive}
 use Rattle.frac128.specs.declared.steps.Op.TheVariants.{Div}
 use Rattle.game_theory.specs.Lines.{listed}
 use Rattle.game_theory.proofs.EntryLemmas.{listed-push}
@@ -18,7 +18,7 @@ use Rattle.frac128.proofs.FirstUnfitLemmas.{fits_next, first_unfit_here}
 use Rattle.sequence_data.specs.Weights.{weight_at}
 use Rattle.sequence_data.specs.declared.types.SetRow.{SetRow}
 use Rattle.sequence_data.proofs.PlaceLemmas.{get_or-inside}
-use Rattle.behaviour_profile.specs.Shares.{actions_of, share_at, share_in, share_steps, steps_at}
+use Rattle.behaviour_profile.specs.Shares.{actions_of, share_at, share_steps, steps_at}
 
 -- whether the weight before is 0
 test-zero : (before : ℚ) → before ≡ zero_ℚ → eq_test before zero_ℚ ≡ true
@@ -39,8 +39,8 @@ module _ (n : ℕ) (before after : ℚ) where
   none_fit : before ≡ zero_ℚ → All StepFits (share_steps before after)
   none_fit e = subst (λ b. All StepFits (if b then [] else unfit Div after before ∷ [])) (sym (test-zero before e)) (All-nil StepFits)
 
-  pub equal_share : before ≡ zero_ℚ → (v : ℚ) → v ≡ frac (pos 1) n → share_in n before after (Ok v)
-  equal_share e v is = (tt, none_fit e, ap Ok (is ∙ sym (share-none e)))
+  pub equal_share : before ≡ zero_ℚ → (v : ℚ) → v ≡ frac (pos 1) n → StepsGive (share_steps before after) (share n before after) (Ok v)
+  equal_share e v is = (is ∙ sym (share-none e), none_fit e)
 
   -- where it is not, the weight is divided by it
   share-is : before ≢ zero_ℚ → share n before after ≡ after *ℚ inv_ℚ before
@@ -50,18 +50,10 @@ module _ (n : ℕ) (before after : ℚ) where
   share-steps ne = ap (λ b. if b then [] else unfit Div after before ∷ []) (test-other before ne)
 
   -- and the quotient fits, or it is the first step that does not
-  pub divided_share : before ≢ zero_ℚ → (r : Result ℚ Step) → IfOk r (λ v. v ≡ after *ℚ inv_ℚ before) → OnOk r (DivFits after before) → IfErr r (λ e. e ≡ unfit Div after before) → OnErr r (¬ (DivFits after before)) → share_in n before after r
-  divided_share ne (Ok v) value fits step unfits = (tt, subst (All StepFits) (sym (share-steps ne)) (one-fits (unfit Div after before) fits), ap Ok (value ∙ sym (share-is ne)))
+  pub divided_share : before ≢ zero_ℚ → (r : Result ℚ Step) → IfOk r (λ v. v ≡ after *ℚ inv_ℚ before) → OnOk r (DivFits after before) → IfErr r (λ e. e ≡ unfit Div after before) → OnErr r (¬ (DivFits after before)) → StepsGive (share_steps before after) (share n before after) r
+  divided_share ne (Ok v) value fits step unfits = (value ∙ sym (share-is ne), subst (All StepFits) (sym (share-steps ne)) (one-fits (unfit Div after before) fits))
   divided_share ne (Err u) value fits step unfits =
-      inl (subst₂ (λ (ss : List Step) (e : Step). IsFirstUnfit ss e) (sym (share-steps ne)) (sym step) (first_unfit-here (unfit Div after before) [] unfits))
-
-  -- ---- what a share tells
-  pub share_value : (v : ℚ) → share_in n before after (Ok v) → v ≡ share n before after
-  share_value v h = (let e = h.2 in cc)
-
-  pub share_stop : (step : Step) → share_in n before after (Err step) → IsFirstUnfit (share_steps before after) step
-  share_stop step (inl h) = h
-  share_stop step (inr h) = (let e = h.2 in cc)
+      subst₂ (λ (ss : List Step) (e : Step). IsFirstUnfit ss e) (sym (share-steps ne)) (sym step) (first_unfit-here (unfit Div after before) [] unfits)
 
 -- ---- the shares of a set
 -- a weight that is read
@@ -76,8 +68,8 @@ module _ (weights : List ℚ) (row : SetRow) (a : ℕ) (before after : ℚ) (l :
   stands = sym (get_or-range_with_len 0 row.count a a l ∙ zero-add a)
 
   -- one share more
-  pub next_share : (old now new : List ℚ) (x : ℚ) → now ≡ old ++ listed a (share_at weights row) → new ≡ now ++ x ∷ [] → share_in row.count before after (Ok x) → new ≡ old ++ listed (a + 1) (share_at weights row)
-  next_share old now new x so_far push is = listed-push new now old a (share_at weights row) x so_far push (share_value row.count before after x is ∙ ap₂ (share row.count) before_is after_is)
+  pub next_share : (old now new : List ℚ) (x : ℚ) → now ≡ old ++ listed a (share_at weights row) → new ≡ now ++ x ∷ [] → x ≡ share row.count before after → new ≡ old ++ listed (a + 1) (share_at weights row)
+  next_share old now new x so_far push is = listed-push new now old a (share_at weights row) x so_far push (is ∙ ap₂ (share row.count) before_is after_is)
 
   pub next_fits : All (StepsFit (steps_at weights row)) (take a (actions_of row)) → All StepFits (share_steps before after) → All (StepsFit (steps_at weights row)) (take (a + 1) (actions_of row))
   next_fits h f = fits_next (steps_at weights row) (actions_of row) a a within stands h (subst₂ (λ b c. All StepFits (share_steps b c)) before_is after_is f)

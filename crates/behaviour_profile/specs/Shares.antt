@@ -1,12 +1,12 @@
 -- The shares of a player's plan at a set, and the first that does not fit.
 use Rattle.std.specs.Prelude.{ℕ, ◌+◌, List, [], ◌∷◌, if◌then◌else◌}
 use Rattle.std.specs.List.{range_with_len}
-use Rattle.answers.specs.Answers.{Answer, ◌>>◌, only, refused_by}
+use Rattle.answers.specs.Answers.{Answer, refused_by}
 use Rattle.rational.specs.Rational.{ℚ, zero_ℚ}
 use Rattle.rational.specs.Tests.{eq_test}
 use Rattle.frac128.specs.Steps.{unfit, Step}
 use Rattle.frac128.specs.declared.steps.Op.TheVariants.{Div}
-use Rattle.frac128.specs.FirstUnfit.{all_fit, all_steps_fit}
+use Rattle.frac128.specs.FirstUnfit.{all_fit}
 use Rattle.sequence_forms.specs.PlanBehaviour.{share}
 use Rattle.sequence_data.specs.Weights.{weight_at}
 use Rattle.sequence_data.specs.declared.types.SetRow.{SetRow}
@@ -17,10 +17,6 @@ use Rattle.behaviour_profile.specs.declared.plans.BehaviourStop.TheVariants as s
 -- the step of a share: the weight after is divided by the weight before; there is none where that is 0
 abbrev pub share_steps : ℚ → ℚ → List Step
 share_steps before after = if eq_test before zero_ℚ then [] else unfit Div after before ∷ []
-
--- the share of one of so many actions, whose step fits; or the step that does not
-abbrev pub share_in : ℕ → ℚ → ℚ → Answer Step ℚ
-share_in count before after = all_steps_fit (share_steps before after) >> only (share count before after)
 
 -- ---- a set
 -- the share of action a of a set

@@ -51,6 +51,17 @@ pub enum ProfileFault {
     Unfit(Unfit),
 }
 
+impl From<Unfit> for ProfileFault {
+    ghost use Rattle.std.specs.Prelude.{◌≡◌};
+    ghost use Rattle.behaviour_profile.specs.declared.entries.ProfileFault.TheVariants as faults;
+
+    ghost from_gives = { λ unfit e. e ≡ faults.Unfit unfit };
+
+    fn from(unfit: Unfit) -> ProfileFault {
+        ProfileFault::Unfit(unfit)
+    }
+}
+
 // A place among the entries, and the group that begins there.
 #[derive(Clone, Copy)]
 struct Position {
@@ -75,10 +86,7 @@ pub fn test_group(entries: &[Frac], place: u32, group: u32, count: u32) -> Resul
         if entry.signum() < 0 {
             return Err(ProfileFault::Negative { place: place + k });
         }
-        match sum.add(entry) {
-            Ok(more) => sum = more,
-            Err(unfit) => return Err(ProfileFault::Unfit(unfit)),
-        }
+        sum = sum.add(entry)?;
     }
     if sum == Frac::one() {
         Ok(())
@@ -141,10 +149,8 @@ fn test_player(
     let mut number = 0;
     while let Some(set) = tree.own_sets(player, number) {
         let count = tree.sets()[set as usize].actions().len() as u32;
-        match test_group(entries, here, group + number, count) {
-            Ok(()) => here += count,
-            Err(fault) => return Err(fault),
-        }
+        test_group(entries, here, group + number, count)?;
+        here += count;
         number += 1;
     }
     Ok(Position {
@@ -162,11 +168,7 @@ fn test_players(tree: &Tree, entries: &[Frac]) -> Result<(), ProfileFault>
     stands_for_game_tree(tree);
     let mut position = Position { place: 0, group: 0 };
     for player in 0..tree.players().len() {
-        let tested = test_player(tree, player as u32, entries, position.place, position.group);
-        match tested {
-            Ok(following) => position = following,
-            Err(fault) => return Err(fault),
-        }
+        position = test_player(tree, player as u32, entries, position.place, position.group)?;
     }
     Ok(())
 }
@@ -186,10 +188,8 @@ impl Behaviour {
         if !is_count(tree, entries.len()) {
             return Err(ProfileFault::Count);
         }
-        match test_players(tree, entries.as_slice()) {
-            Ok(()) => Ok(Behaviour { entries }),
-            Err(fault) => Err(fault),
-        }
+        test_players(tree, entries.as_slice())?;
+        Ok(Behaviour { entries })
     }
 }
 

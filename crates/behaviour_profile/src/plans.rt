@@ -14,10 +14,11 @@ ghost use Rattle.std.specs.Prelude.{
 };
 ghost use Rattle.answers.specs.Answers.{Gives, IsSingle};
 ghost use Rattle.rational.specs.Rational.{ℚ};
+ghost use Rattle.frac128.specs.Steps.{StepsGive};
 ghost use Rattle.game_theory.specs.Lines.{listed};
 ghost use Rattle.game_theory.specs.OwnSets.{own_sets};
 ghost use Rattle.game_theory.specs.TreeEntries.{own_entries};
-ghost use Rattle.sequence_forms.specs.PlanBehaviour.{behaviour_of};
+ghost use Rattle.sequence_forms.specs.PlanBehaviour.{behaviour_of, share};
 ghost use Rattle.game_core.specs.Tree.{GameTree};
 ghost use Rattle.game_core.specs.TreeGame.{game_of_tree};
 ghost use Rattle.sequence_data.specs.Weights.{weight_at};
@@ -25,7 +26,7 @@ ghost use Rattle.sequence_form.specs.Forms.{tree_form};
 ghost use Rattle.sequence_form.specs.Sequences.{tree_side};
 ghost use Rattle.behaviour_profile.specs.declared.plans.BehaviourStop.TheVariants as stops;
 ghost use Rattle.behaviour_profile.specs.Plans.{label_of, own_quotients_in, plan_behaviour};
-ghost use Rattle.behaviour_profile.specs.Shares.{share_at, share_in, shares_in};
+ghost use Rattle.behaviour_profile.specs.Shares.{share_at, share_steps, shares_in};
 
 use crate::Behaviour;
 use frac128::{Frac, Unfit};
@@ -66,7 +67,7 @@ impl<T: Drop> From<AllocFailed<T>> for BehaviourStop {
 // actions.
 fn share(count: u32, before: Frac, after: Frac) -> Result<Frac, Unfit>
     requires { 0 < count }
-    ensures { share_in count before after result }
+    ensures { StepsGive (share_steps before after) (share count before after) result }
 {
     if before.is_zero() {
         Ok(Frac::over(1, count as u128))

@@ -79,16 +79,12 @@ fn set_choice<'a>(
     ensures { Parses (λ x. ((x.0, (x.1.kind, x.1.set)), kinds x.2.now)) result
         (parse_set_choice number sets owner (kinds tokens.now)) }
 {
-    match read_set(alloc, sets, owner, number, tokens) {
-        Ok((sets, set, rest)) => {
-            let choice = Choice {
-                kind: kind_of(owner),
-                set: Some(set),
-            };
-            Ok((sets, choice, rest))
-        }
-        Err(refusal) => Err(refusal),
-    }
+    let (sets, set, rest) = read_set(alloc, sets, owner, number, tokens)?;
+    let choice = Choice {
+        kind: kind_of(owner),
+        set: Some(set),
+    };
+    Ok((sets, choice, rest))
 }
 
 // The sets with one of the player whose number comes, the choice at it, and the tokens after it.
@@ -105,10 +101,8 @@ fn own_choice<'a>(
     ensures { Parses (λ x. ((x.0, (x.1.kind, x.1.set)), kinds x.2.now)) result
         (parse_own_choice players number sets (kinds tokens.now)) }
 {
-    match player(tokens, players) {
-        Ok((player, following)) => set_choice(alloc, sets, Some(player), number, following),
-        Err(refusal) => Err(refusal),
-    }
+    let (player, following) = player(tokens, players)?;
+    set_choice(alloc, sets, Some(player), number, following)
 }
 
 // A node with this number up to its outcome: the sets with the one that it uses, the choice that is made there, and
@@ -228,10 +222,7 @@ pub fn read_nodes(alloc: Global, players: u32, tokens: &[Spanned]) -> Result<Bui
     let mut builder = Builder::new(alloc)?;
     let mut rest = tokens;
     while !builder.is_whole() {
-        (builder, rest) = match one_more(alloc, builder, players, rest) {
-            Ok(read) => read,
-            Err(stop) => return Err(stop),
-        };
+        (builder, rest) = one_more(alloc, builder, players, rest)?;
     }
     if ends(rest) {
         Ok(builder)

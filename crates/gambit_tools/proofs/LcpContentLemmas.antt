@@ -4,12 +4,13 @@ use Rattle.answers.specs.Answers.{only, ◌>>=◌, refused_by}
 use Rattle.game_core.specs.declared.game.Game.{Game}
 use Rattle.sequence_data.specs.Data.{FormData}
 use Rattle.sequence_form.specs.Counts.{problem_rows}
+use Rattle.lex_tableau.specs.StartStops.{start_of}
 use Rattle.lex_tableau.specs.declared.tableau.StartStop.{StartStop}
 use Rattle.lex_tableau.specs.declared.tableau.StartStop.TheVariants as start_stop
 use Rattle.lex_tableau.proofs.SystemLemmas.{start_not_memory}
 use Rattle.zero_sum_lp.specs.PlanPairs.{PlanPair}
 use Rattle.lemke_pivot.specs.Ends.{solved_in}
-use Rattle.lemke_pivot.specs.FormProblems.{problem_in, form_start, told_start}
+use Rattle.lemke_pivot.specs.FormProblems.{IsSystemOf, problem_in, told_start}
 use Rattle.lemke_pivot.specs.declared.stop.LcpStop.{LcpStop}
 use Rattle.two_player_tools.specs.Entries.{line_in}
 use Rattle.two_player_tools.specs.Lcp.{equilibrium_in, lcp, plans_at}
@@ -19,16 +20,16 @@ use Rattle.two_player_tools.specs.TwoPlayers.{form_in, two_players}
 use Rattle.refusals.specs.declared.refusal.Refusal.{Refusal}
 use Rattle.gambit_tools.proofs.FormContentLemmas.{AreContents, form_in-contents, line_in-contents, only-contents, then-contents, told-contents, two_players-contents}
 
-start-contents : (f : FormData) (stop : StartStop) → form_start f (Err stop) → origin (problem_refusal (told_start stop)) ≡ Contents
+start-contents : (f : FormData) (stop : StartStop) → start_of (IsSystemOf f) (Err stop) → origin (problem_refusal (told_start stop)) ≡ Contents
 start-contents f (start_stop.Unfit row step) h = refl
-start-contents f start_stop.Memory (s, (_, inl h)) = absurd (start_not_memory s h)
-start-contents f start_stop.Memory (_, (_, inr h)) = cc (h.2)
+start-contents f start_stop.Memory (s, (_, h)) = absurd (start_not_memory s h)
 
 problem-contents : (f : FormData) (stop : LcpStop) → problem_in f (Err stop) → origin (problem_refusal stop) ≡ Contents
 problem-contents f stop (inl h) = ap (λ s. origin (problem_refusal s)) h.2
 problem-contents f stop (inr (_, _, inl h)) = ap (λ s. origin (problem_refusal s)) h.2
-problem-contents f stop (inr (_, _, inr (_, _, h))) =
+problem-contents f stop (inr (_, _, inr (_, _, inl h))) =
     ap (λ s. origin (problem_refusal s)) h.2 ∙ start-contents f h.0 h.1
+problem-contents f stop (inr (_, _, inr (_, _, inr (_, _, e)))) = cc e
 
 equilibrium-contents : (f : FormData) → AreContents (equilibrium_in f)
 equilibrium-contents f =

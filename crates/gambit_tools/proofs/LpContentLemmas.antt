@@ -7,11 +7,12 @@ use Rattle.game_theory.specs.Lines.{line_text}
 use Rattle.game_core.specs.declared.game.Game.{Game}
 use Rattle.sequence_data.specs.Data.{FormData}
 use Rattle.sequence_form.specs.Counts.{size_of_program}
+use Rattle.lex_tableau.specs.StartStops.{start_of}
 use Rattle.lex_tableau.specs.declared.tableau.StartStop.{StartStop}
 use Rattle.lex_tableau.specs.declared.tableau.StartStop.TheVariants as start_stop
 use Rattle.lex_tableau.proofs.SystemLemmas.{start_not_memory}
 use Rattle.zero_sum_lp.specs.Ends.{optimum_in}
-use Rattle.zero_sum_lp.specs.FormPrograms.{program_in, form_start, told_start}
+use Rattle.zero_sum_lp.specs.FormPrograms.{IsSystemOf, program_in, told_start}
 use Rattle.zero_sum_lp.specs.Parts.{Program}
 use Rattle.zero_sum_lp.specs.PlanStops.{plans_of}
 use Rattle.zero_sum_lp.specs.declared.stop.LpStop.{LpStop}
@@ -32,18 +33,18 @@ plan-contents o stop (inl h) = ap (λ s. origin (plan_refusal s)) h.2
 plan-contents o stop (inr (_, _, inl h)) = ap (λ s. origin (plan_refusal s)) h.2
 plan-contents o stop (inr (_, _, inr (_, _, h))) = cc (h)
 
-start-contents : (f : FormData) (stop : StartStop) → form_start f (Err stop) → origin (program_refusal (told_start stop)) ≡ Contents
+start-contents : (f : FormData) (stop : StartStop) → start_of (IsSystemOf f) (Err stop) → origin (program_refusal (told_start stop)) ≡ Contents
 start-contents f (start_stop.Unfit row step) h = refl
-start-contents f start_stop.Memory (s, (_, inl h)) = absurd (start_not_memory s h)
-start-contents f start_stop.Memory (_, (_, inr h)) = cc (h.2)
+start-contents f start_stop.Memory (s, (_, h)) = absurd (start_not_memory s h)
 
 program-contents : (f : FormData) (stop : LpStop) → program_in f (Err stop) → origin (program_refusal stop) ≡ Contents
 program-contents f stop (inl h) = ap (λ s. origin (program_refusal s)) h.2
 program-contents f stop (inr (_, _, inl h)) = ap (λ s. origin (program_refusal s)) h.2
 program-contents f stop (inr (_, _, inr (_, _, inl h))) = ap (λ s. origin (program_refusal s)) h.2
 program-contents f stop (inr (_, _, inr (_, _, inr (_, _, inl h)))) = ap (λ s. origin (program_refusal s)) h.2
-program-contents f stop (inr (_, _, inr (_, _, inr (_, _, inr (_, _, h))))) =
+program-contents f stop (inr (_, _, inr (_, _, inr (_, _, inr (_, _, inl h))))) =
     ap (λ s. origin (program_refusal s)) h.2 ∙ start-contents f h.0 h.1
+program-contents f stop (inr (_, _, inr (_, _, inr (_, _, inr (_, _, inr (_, _, e)))))) = cc e
 
 -- ---- the solution
 solution_in-contents : (f : FormData) → AreContents (solution_in f)

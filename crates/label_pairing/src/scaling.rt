@@ -45,6 +45,17 @@ impl<T: Drop> From<AllocFailed<T>> for ScaleStop {
     }
 }
 
+impl From<Unfit> for ScaleStop {
+    ghost use Rattle.std.specs.Prelude.{◌≡◌};
+    ghost use Rattle.label_pairing.specs.declared.scaling.ScaleStop.TheVariants as stops;
+
+    ghost from_gives = { λ unfit e. e ≡ stops.Range unfit };
+
+    fn from(unfit: Unfit) -> ScaleStop {
+        ScaleStop::Range { unfit }
+    }
+}
+
 // The sum of the entries of a point.
 fn sum(point: &[Frac]) -> Result<Frac, Unfit>
     ensures { StepsGive (sum_steps point.now) (sum_to (length point.now) (entry_of point.now))
@@ -52,10 +63,7 @@ fn sum(point: &[Frac]) -> Result<Frac, Unfit>
 {
     let mut sum = Frac::zero();
     for i in 0..point.len() {
-        match sum.add(point[i]) {
-            Ok(next) => sum = next,
-            Err(unfit) => return Err(unfit),
-        }
+        sum = sum.add(point[i])?;
     }
     Ok(sum)
 }
@@ -65,16 +73,10 @@ fn scaled(alloc: Global, point: &[Frac]) -> Result<Vec<Frac>, ScaleStop>
     requires { IsScalable point.now }
     ensures { Gives stops.Memory (scaled_in point.now) (map_ok result (λ scaled. scaled.items)) }
 {
-    let sum = match sum(point) {
-        Ok(sum) => sum,
-        Err(unfit) => return Err(ScaleStop::Range { unfit }),
-    };
+    let sum = sum(point)?;
     let mut scaled = Vec::with_capacity(alloc, point.len())?;
     for i in 0..point.len() {
-        match point[i].div(sum) {
-            Ok(entry) => scaled.push(entry)?,
-            Err(unfit) => return Err(ScaleStop::Range { unfit }),
-        }
+        scaled.push(point[i].div(sum)?)?;
     }
     Ok(scaled)
 }

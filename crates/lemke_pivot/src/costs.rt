@@ -1,7 +1,7 @@
 // What both players' payoffs lack of the greatest ones.
-ghost use Rattle.std.specs.Prelude.{◌≡◌, All, map, IfOk, IfErr, OnOk};
+ghost use Rattle.std.specs.Prelude.{◌≡◌, map, IfOk};
 ghost use Rattle.answers.specs.Answers.{Gives, map_ok};
-ghost use Rattle.frac128.specs.Steps.{StepFits, IsFirstUnfit};
+ghost use Rattle.frac128.specs.Steps.{StepsGive};
 ghost use Rattle.lemke_pivot.specs.declared.stop.LcpStop.TheVariants as stops;
 ghost use Rattle.lemke_pivot.specs.FormProblems.{cost_at, cost_one, cost_steps, cost_two, costs_in};
 
@@ -19,14 +19,10 @@ pub(crate) struct CellCosts {
 
 // The cost of a payoff: the greatest payoff times the weight, less the payoff.
 fn cost(most: Frac, weight: Frac, payoff: Frac) -> Result<Frac, Unfit>
-    ensures value { IfOk result (λ cost. cost ≡ cost_at most weight payoff) }
-    ensures fits { OnOk result (All StepFits (cost_steps most weight payoff)) }
-    ensures unfit { IfErr result (IsFirstUnfit (cost_steps most weight payoff)) }
+    ensures { StepsGive (cost_steps most weight payoff) (cost_at most weight payoff) result }
 {
-    match most.mul(weight) {
-        Ok(part) => part.sub(payoff),
-        Err(unfit) => Err(unfit),
-    }
+    let part = most.mul(weight)?;
+    part.sub(payoff)
 }
 
 // The refusal of a player's cost at a cell.

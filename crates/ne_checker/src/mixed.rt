@@ -51,10 +51,8 @@ fn test_players(table: &Table, entries: &[Frac]) -> Result<(), ProfileFault>
     let mut place = 0;
     for player in 0..table.players().len() {
         let count = table.strategy_count(player) as u32;
-        match test_group(entries, place, player as u32, count) {
-            Ok(()) => place += count,
-            Err(fault) => return Err(fault),
-        }
+        test_group(entries, place, player as u32, count)?;
+        place += count;
     }
     Ok(())
 }
@@ -79,10 +77,8 @@ impl Mixed {
         if entries.len() != entry_count(table) {
             return Err(ProfileFault::Count);
         }
-        match test_players(table, entries.as_slice()) {
-            Ok(()) => Ok(Mixed { entries }),
-            Err(fault) => Err(fault),
-        }
+        test_players(table, entries.as_slice())?;
+        Ok(Mixed { entries })
     }
 
     /// All entries.

@@ -29,6 +29,7 @@ ghost use Rattle.frac128.specs.Steps.{IsFirstUnfit, StepFits, StepsGive};
 ghost use Rattle.best_replies.specs.Strategies.{
   IsBestStrategy,
   strategy_value as value_of,
+  value_below,
   weight,
 };
 ghost use Rattle.behaviour_profile.specs.EntryTests.{mixed_of};
@@ -40,7 +41,6 @@ ghost use Rattle.ne_checker.specs.TableChecks.{
   player_steps,
   strategy_steps,
   table_verdict,
-  value_below,
   value_steps,
   weighed_steps,
   weight_steps,

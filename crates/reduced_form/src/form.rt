@@ -113,10 +113,7 @@ pub fn reduce(alloc: Global, tree: &Tree) -> Result<Reduced, ReduceStop>
     let counts = count_all(alloc, &decisions)?;
     check_choices(tree, &counts)?;
     let choices = strategies_of_all(alloc, &decisions)?;
-    let payoffs = match cells(alloc, tree, &places, &choices, &counts) {
-        Ok(payoffs) => payoffs,
-        Err(stop) => return Err(stop),
-    };
+    let payoffs = cells(alloc, tree, &places, &choices, &counts)?;
     let table = table_of(alloc, tree, &choices, payoffs)?;
     Ok(Reduced { choices, table })
 }

@@ -60,8 +60,8 @@ pub optimum-second : (p o : Program) → IsProgram p → IsOptimumOf p o → IsS
 optimum-second p o h k = subst IsSideData (sym k.second) h.second
 
 module _ (f : FormData) (p o : Program) (plans : PlanPair) (h : IsSolving f p o plans) where
-  starts_so : with_start f h.program.2.2.2.2.1.1.0 ≡ p
-  starts_so = cc (h.program.2.2.2.2.1.1.2)
+  starts_so : with_start f h.program.2.2.2.2.0 ≡ p
+  starts_so = cc (h.program.2.2.2.2.2)
 
   pub first-same : o.first ≡ f.first
   first-same = h.optimum.first ∙ sym (ap (λ (x : Program). x.first) starts_so)

@@ -43,8 +43,8 @@ pub record IsPivoting (f : FormData) (p s : Problem) : Type 0 where
   pub solution : IsSolutionOf p s
 
 module _ (f : FormData) (p s : Problem) (h : IsPivoting f p s) where
-  starts_so : with_start f h.problem.2.2.1.1.0 ≡ p
-  starts_so = cc (h.problem.2.2.1.1.2)
+  starts_so : with_start f h.problem.2.2.0 ≡ p
+  starts_so = cc (h.problem.2.2.2)
 
   pub first-is : s.first ≡ f.first
   first-is = h.solution.first ∙ sym (ap (λ (x : Problem). x.first) starts_so)

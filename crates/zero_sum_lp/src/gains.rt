@@ -1,8 +1,7 @@
 // What player 0's payoffs exceed the least one by.
-ghost use Rattle.std.specs.Prelude.{◌≡◌, map, IfOk, IfErr, OnOk};
+ghost use Rattle.std.specs.Prelude.{◌≡◌, map, IfOk};
 ghost use Rattle.answers.specs.Answers.{Gives, map_ok};
-ghost use Rattle.frac128.specs.FirstUnfit.{StepsFit};
-ghost use Rattle.frac128.specs.Steps.{IsFirstUnfit};
+ghost use Rattle.frac128.specs.Steps.{StepsGive};
 ghost use Rattle.zero_sum_lp.specs.declared.stop.LpStop.TheVariants as lp_stops;
 ghost use Rattle.zero_sum_lp.specs.FormPrograms.{gain_at, gain_steps, gains_in};
 
@@ -13,14 +12,10 @@ use std::alloc::Global;
 
 // The gain of a cell: its payoff less the least payoff times its weight.
 fn gain(least: Frac, cell: Cell) -> Result<Frac, Unfit>
-    ensures value { IfOk result (λ gain. gain ≡ gain_at least cell) }
-    ensures fits { OnOk result (StepsFit (gain_steps least) cell) }
-    ensures unfit { IfErr result (IsFirstUnfit (gain_steps least cell)) }
+    ensures { StepsGive (gain_steps least cell) (gain_at least cell) result }
 {
-    match least.mul(cell.weight) {
-        Ok(part) => cell.one.sub(part),
-        Err(unfit) => Err(unfit),
-    }
+    let part = least.mul(cell.weight)?;
+    cell.one.sub(part)
 }
 
 /// The gain of each cell.

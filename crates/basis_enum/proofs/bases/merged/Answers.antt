@@ -1,6 +1,5 @@
 use Rattle.std.proofs.Common.{rules, refl, sym, subst, ◌+◌}
-use Rattle.basis_enum.proofs.MergedListLemmas.{AreMerged}
-use Rattle.basis_enum.proofs.MergedListLemmas.{merged_first, merged_second, merged_all}
+use Rattle.basis_enum.proofs.MergedListLemmas.{AreMerged, merged_first, merged_second, merged_all}
 use Rattle.basis_enum.proofs.bases.merged.Goals as goal
 
 pub loop-first-preserved-then-takes_known : goal.loop-first-preserved-then-takes_known

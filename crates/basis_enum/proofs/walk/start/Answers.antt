@@ -1,23 +1,29 @@
 use Rattle.std.proofs.Common.{◌≡◌, ◌∙◌, ◌++◌, ◌∷◌, [], List, option_to_list, ap, sym, subst, subst₂, arith}
+use Rattle.std.proofs.lemmas.Result.{err_from_is_err_and}
 use Rattle.std.specs.List.Sorted.{IsStrictlyIncreasing}
 use Rattle.basis_enum.specs.declared.vertex.Vertex.{Vertex}
 use Rattle.basis_enum.specs.Bases.{AreVariables, basis_of}
 use Rattle.basis_enum.specs.Next.{AreNewMoves}
 use Rattle.basis_enum.proofs.LevelMoveLemmas.{found_small, new_moves_are}
-use Rattle.basis_enum.proofs.WalkLemmas.{system_variables, first_ready, first_numbered, first_basis, first_found, first_all_ready, walk_start}
+use Rattle.basis_enum.proofs.WalkLemmas.{start_stop, system_variables, first_ready, first_numbered, first_basis, first_found, first_all_ready, walk_start}
 use Rattle.basis_enum.proofs.walk.start.Goals as goal
+
+pub returns-in_err-tableau-clause-stop : goal.returns-in_err-tableau-clause-stop
+returns-in_err-tableau-clause-stop g c =
+    let p = err_from_is_err_and c.from_residual.result c.from_residual.ensures.1 in
+    rw (p.1, p.2) (start_stop c.args.system.now c.in_err-tableau.field-0.0 c.in_err-tableau.ensures)
 
 pub basis-basis-requires : goal.basis-basis-requires
 basis-basis-requires g c = subst AreVariables (sym c.nonbasics.ensures.value) (system_variables c.args.system.now c.nonbasics.ensures.valid c.requires.enumerable)
 
 pub found_from-requires-clause-numbered : goal.found_from-requires-clause-numbered
-found_from-requires-clause-numbered g c = first_numbered c.args.system.now c.in_ok-tableau.tableau c.nonbasics.ensures.valid c.requires.enumerable c.in_ok-tableau.ensures.first.2
+found_from-requires-clause-numbered g c = first_numbered c.args.system.now c.in_ok-tableau.tableau c.nonbasics.ensures.valid c.requires.enumerable c.in_ok-tableau.ensures.2
 
 pub found_from-requires-clause-ready : goal.found_from-requires-clause-ready
-found_from-requires-clause-ready g c = first_ready c.args.system.now c.in_ok-tableau.tableau c.nonbasics.ensures.valid c.requires.enumerable c.in_ok-tableau.ensures.first.2
+found_from-requires-clause-ready g c = first_ready c.args.system.now c.in_ok-tableau.tableau c.nonbasics.ensures.valid c.requires.enumerable c.in_ok-tableau.ensures.2
 
 pub found_from-requires-clause-basis : goal.found_from-requires-clause-basis
-found_from-requires-clause-basis g c = c.basis-basis.ensures ∙ ap basis_of c.nonbasics.ensures.value ∙ first_basis c.args.system.now c.in_ok-tableau.tableau c.in_ok-tableau.ensures.first.2
+found_from-requires-clause-basis g c = c.basis-basis.ensures ∙ ap basis_of c.nonbasics.ensures.value ∙ first_basis c.args.system.now c.in_ok-tableau.tableau c.in_ok-tableau.ensures.2
 
 pub found_from-requires-clause-known : goal.found_from-requires-clause-known
 found_from-requires-clause-known g c =
@@ -27,14 +33,14 @@ pub next_moves-moves-requires : goal.next_moves-moves-requires
 next_moves-moves-requires g c =
     let s = c.args.system.now in
     let t = c.in_ok-tableau.tableau in
-    let ready = first_ready s t c.nonbasics.ensures.valid c.requires.enumerable c.in_ok-tableau.ensures.first.2 in
+    let ready = first_ready s t c.nonbasics.ensures.valid c.requires.enumerable c.in_ok-tableau.ensures.2 in
     found_small (t ∷ []) c.as_slice.result.now c.in_ok-found.found.moves.items (first_all_ready t ready) (omega arith)
     (first_found t c.as_slice.result.now c.in_ok-found.found.moves.items c.in_ok-found.ensures.moves)
 
 pub returns-clause-walk : goal.returns-clause-walk
 returns-clause-walk g c =
     let vertices : c.add_vertex.new.vertices.items ≡ option_to_list c.in_ok-found.found.vertex = ◌∙◌ {A = List Vertex} c.in_ok-add_vertex.ensures (ap (λ xs. xs ++ option_to_list c.in_ok-found.found.vertex) c.new-vertices.ensures.items) in
-    walk_start c.args.system.now c.in_ok-tableau.tableau (record { level = c.in_ok-level.level; known = c.in_ok-known.known; vertices = c.add_vertex.new.vertices }) c.in_ok-found.found.vertex c.nonbasics.ensures.valid c.in_ok-tableau.ensures.first
+    walk_start c.args.system.now c.in_ok-tableau.tableau (record { level = c.in_ok-level.level; known = c.in_ok-known.known; vertices = c.add_vertex.new.vertices }) c.in_ok-found.found.vertex c.nonbasics.ensures.valid c.in_ok-tableau.ensures
     c.in_ok-level.ensures
     (c.in_ok-known.ensures ∙ ap (λ b. b ∷ []) (c.basis-basis.ensures ∙ ap basis_of c.nonbasics.ensures.value))
     vertices
@@ -44,7 +50,7 @@ pub returns-clause-moves : goal.returns-clause-moves
 returns-clause-moves g c =
     let s = c.args.system.now in
     let t = c.in_ok-tableau.tableau in
-    let ready = first_ready s t c.nonbasics.ensures.valid c.requires.enumerable c.in_ok-tableau.ensures.first.2 in
+    let ready = first_ready s t c.nonbasics.ensures.valid c.requires.enumerable c.in_ok-tableau.ensures.2 in
     subst₂ (λ level known. AreNewMoves level known c.next_moves-moves.result.items) (sym c.in_ok-level.ensures) c.as_slice.ensures.value
     (new_moves_are (t ∷ []) c.as_slice.result.now c.in_ok-found.found.moves.items c.next_moves-moves.result.items (first_all_ready t ready) (omega arith)
     (first_found t c.as_slice.result.now c.in_ok-found.found.moves.items c.in_ok-found.ensures.moves) c.next_moves-moves.ensures)

@@ -1,6 +1,7 @@
 use Rattle.std.proofs.Common.{All, arith, refl, sym, subst, ap, ◌∙◌, ◌≡◌, ◌+◌, ◌≤ℤ◌, pos}
 use Rattle.std.proofs.lemmas.Bool.{false≢true}
 use Rattle.std.proofs.lemmas.Int.{ints}
+use Rattle.std.proofs.lemmas.Result.{err_from_is_err_and}
 use Rattle.rational.specs.Rational.{◌≤ℚ◌, zero_ℚ}
 use Rattle.rational.proofs.PartLemmas.{nonneg-num, sign_nonneg}
 use Rattle.sequence_data.proofs.PlaceLemmas.{get_or-inside}
@@ -21,17 +22,18 @@ returns-then-signum-lt0 c =
     negative_here c.args.entries.now c.args.place c.loop-k.k c.index-entries-place.result c.loop-k.sum (here a) c.loop-k.invariant.so_far c.loop-k.invariant.passed c.args.group c.args.count (c.args.place + c.loop-k.k) c.loop-k-test.true refl
     (negative_by_sign c.index-entries-place.result c.signum.result c.signum.ensures (omega (arith, ints)))
 
-pub returns-in-Err : goal.returns-in-Err
-returns-in-Err c =
-    let a = (goal.at.returns-in-Err c).After-signum in
-    unfit_here c.args.entries.now c.args.place c.loop-k.k c.index-entries-place.result c.loop-k.sum (here a) c.loop-k.invariant.so_far c.loop-k.invariant.passed c.args.group c.args.count _ c.loop-k-test.true (positive a (omega (arith, ints))) c.in-Err.ensures.step c.in-Err.ensures.unfit
+pub returns-in_err-sum : goal.returns-in_err-sum
+returns-in_err-sum c =
+    let a = (goal.at.returns-in_err-sum c).After-signum in
+    let p = err_from_is_err_and c.from_residual.result c.from_residual.ensures.1 in
+    rw (p.1, p.2) (unfit_here c.args.entries.now c.args.place c.loop-k.k c.index-entries-place.result c.loop-k.sum (here a) c.loop-k.invariant.so_far c.loop-k.invariant.passed c.args.group c.args.count _ c.loop-k-test.true (positive a (omega (arith, ints))) c.in_err-sum.ensures.step c.in_err-sum.ensures.unfit)
 
 pub loop-k-preserved : goal.loop-k-preserved
 loop-k-preserved c =
     let a = (goal.at.loop-k-preserved c).After-signum in
     record {
-      so_far = sum-next c.args.entries.now c.args.place c.loop-k.k c.index-entries-place.result c.loop-k.sum (here a) c.loop-k.invariant.so_far c.loop-k.invariant.passed c.in-Ok.more c.in-Ok.ensures.value;
-      passed = passed-next c.args.entries.now c.args.place c.loop-k.k c.index-entries-place.result c.loop-k.sum (here a) c.loop-k.invariant.so_far c.loop-k.invariant.passed (positive a (omega (arith, ints))) c.in-Ok.ensures.fits;
+      so_far = sum-next c.args.entries.now c.args.place c.loop-k.k c.index-entries-place.result c.loop-k.sum (here a) c.loop-k.invariant.so_far c.loop-k.invariant.passed _ c.in_ok-sum.ensures.value;
+      passed = passed-next c.args.entries.now c.args.place c.loop-k.k c.index-entries-place.result c.loop-k.sum (here a) c.loop-k.invariant.so_far c.loop-k.invariant.passed (positive a (omega (arith, ints))) c.in_ok-sum.ensures.fits;
     }
 
 pub returns-then-eq : goal.returns-then-eq

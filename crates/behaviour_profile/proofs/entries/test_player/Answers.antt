@@ -1,6 +1,7 @@
 use Rattle.std.proofs.Common.{ℕ, ◌≡◌, ◌<◌, ◌≤◌, ◌+◌, ◌∙◌, List, All, Some, ap, sym, subst, length, slice_get, take, refl, arith}
 use Rattle.std.specs.Prelude.{sum}
 use Rattle.std.proofs.lemmas.List.{length-take-le}
+use Rattle.std.proofs.lemmas.Result.{err_from_is_err_and}
 use Rattle.game_core.specs.Tree.{InformationSet}
 use Rattle.game_core.specs.TreeGame.{game_of_tree}
 use Rattle.behaviour_profile.specs.EntryTests.{Passes, tests_from}
@@ -51,10 +52,11 @@ pub overflow_add-here : goal.overflow_add-here
 overflow_add-here c =
     omega (arith, c.requires.few, c.loop-set.invariant.place, end (goal.at.overflow_add-here c).After-actions)
 
-pub returns-in-Err-clause-tests : goal.returns-in-Err-clause-tests
-returns-in-Err-clause-tests c =
-    next_fault (own_counts (game_of_tree c.args.tree.now) c.args.player) c.loop-set.number _ (at (goal.at.returns-in-Err-clause-tests c).After-actions)
-    c.args.entries.now c.args.place c.args.group c.loop-set.here (c.args.group + c.loop-set.number) c.loop-set.invariant.place refl c.loop-set.invariant.passed c.in-Err.fault c.in-Err.ensures
+pub returns-in_err-test_group-clause-tests : goal.returns-in_err-test_group-clause-tests
+returns-in_err-test_group-clause-tests c =
+    let p = err_from_is_err_and c.from_residual.result c.from_residual.ensures.1 in
+    rw (p.1, p.2) (next_fault (own_counts (game_of_tree c.args.tree.now) c.args.player) c.loop-set.number _ (at (goal.at.returns-in_err-test_group-clause-tests c).After-actions)
+    c.args.entries.now c.args.place c.args.group c.loop-set.here (c.args.group + c.loop-set.number) c.loop-set.invariant.place refl c.loop-set.invariant.passed c.in_err-test_group.field-0.0 c.in_err-test_group.ensures)
 
 pub overflow_add-number : goal.overflow_add-number
 overflow_add-number c = omega (arith, c.requires.groups, within (goal.at.overflow_add-number c).After-actions)
@@ -70,7 +72,7 @@ loop-set-preserved c =
     record {
       within = omega (arith, within a);
       place = omega (arith, c.loop-set.invariant.place, next);
-      passed = next_passes counts c.loop-set.number _ (at a) c.args.entries.now c.args.place c.args.group c.loop-set.here (c.args.group + c.loop-set.number) c.loop-set.invariant.place refl c.loop-set.invariant.passed c.in-Ok.ensures;
+      passed = next_passes counts c.loop-set.number _ (at a) c.args.entries.now c.args.place c.args.group c.loop-set.here (c.args.group + c.loop-set.number) c.loop-set.invariant.place refl c.loop-set.invariant.passed c.in_ok-test_group.ensures;
     }
 
 pub returns-clause-place : goal.returns-clause-place

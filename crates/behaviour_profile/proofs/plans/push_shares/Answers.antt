@@ -1,5 +1,5 @@
 use Rattle.std.proofs.Common.{◌+◌, ◌<◌, inr, length, refl, arith}
-use Rattle.behaviour_profile.proofs.TakenShareLemmas.{weight_read, next_share, next_fits, first_share, all_shares, share_stop}
+use Rattle.behaviour_profile.proofs.TakenShareLemmas.{weight_read, next_share, next_fits, first_share, all_shares}
 use Rattle.behaviour_profile.proofs.plans.push_shares.Goals as goal
 
 pub returns-in-Err-clause-steps : goal.returns-in-Err-clause-steps
@@ -10,7 +10,7 @@ returns-in-Err-clause-steps c =
     let here : row.first + action < length plan = omega (arith, c.requires.after, c.loop-action-test.true) in
     let before = weight_read plan row.before c.index-plan-row.result c.requires.before c.index-plan-row.is in
     let after = weight_read plan (row.first + action) c.index-plan-first.result here c.index-plan-first.is in
-    inr ((action, c.in-Err.unfit), first_share plan row action c.index-plan-row.result c.index-plan-first.result c.loop-action-test.true before after c.in-Err.unfit c.loop-action.invariant.fit (share_stop row.count c.index-plan-row.result c.index-plan-first.result c.in-Err.unfit c.in-Err.ensures), refl)
+    inr ((action, c.in-Err.unfit), first_share plan row action c.index-plan-row.result c.index-plan-first.result c.loop-action-test.true before after c.in-Err.unfit c.loop-action.invariant.fit c.in-Err.ensures, refl)
 
 pub loop-action-preserved : goal.loop-action-preserved
 loop-action-preserved c =
@@ -21,7 +21,7 @@ loop-action-preserved c =
     let before = weight_read plan row.before c.index-plan-row.result c.requires.before c.index-plan-row.is in
     let after = weight_read plan (row.first + action) c.index-plan-first.result here c.index-plan-first.is in
     record {
-      shares = next_share plan row action c.index-plan-row.result c.index-plan-first.result c.loop-action-test.true before after c.args.entries.now.items c.loop-action.entries.items c.push.new.self.items c.in-Ok.share c.loop-action.invariant.shares c.in_ok-push-in-Ok.ensures.items c.in-Ok.ensures;
+      shares = next_share plan row action c.index-plan-row.result c.index-plan-first.result c.loop-action-test.true before after c.args.entries.now.items c.loop-action.entries.items c.push.new.self.items c.in-Ok.share c.loop-action.invariant.shares c.in_ok-push-in-Ok.ensures.items c.in-Ok.ensures.0;
       fit = next_fits plan row action c.index-plan-row.result c.index-plan-first.result c.loop-action-test.true before after c.loop-action.invariant.fit c.in-Ok.ensures.1;
     }
 

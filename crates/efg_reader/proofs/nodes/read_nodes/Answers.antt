@@ -1,5 +1,6 @@
 use Rattle.std.proofs.Common.{◌<◌, length, ◌∙◌, sym, subst}
 use Rattle.std.proofs.lemmas.List.{length-map}
+use Rattle.std.proofs.lemmas.Result.{err_from_is_err_and}
 use Rattle.file_parts.specs.Reading.{kinds}
 use Rattle.written_trees.specs.Building.{PartialTree}
 use Rattle.efg_reader.proofs.NodesLoopLemmas.{IsUnderWay, at_first, goes_on, takes, refuses_all, whole_read, more_after, some_branching}
@@ -16,17 +17,18 @@ one_more-requires-clause-free c = some_branching c.loop-alloc.builder (sym c.is_
 pub one_more-requires-clause-short : goal.one_more-requires-clause-short
 one_more-requires-clause-short c = c.loop-alloc.invariant.short
 
-pub returns-in-Err : goal.returns-in-Err
-returns-in-Err c =
-    refuses_all c.in-Err.stop c.args.players c.loop-alloc.builder (kinds c.loop-alloc.rest.now) (kinds c.args.tokens.now) (sym c.is_whole.ensures ∙ c.loop-alloc-test.true) c.in-Err.ensures c.loop-alloc.invariant
+pub returns-in_err-builder-2 : goal.returns-in_err-builder-2
+returns-in_err-builder-2 c =
+    let p = err_from_is_err_and c.from_residual-in_err-builder-2.result c.from_residual-in_err-builder-2.ensures.1 in
+    rw (p.1, p.2) (refuses_all c.in_err-builder-2.field-0.0 c.args.players c.loop-alloc.builder (kinds c.loop-alloc.rest.now) (kinds c.args.tokens.now) (sym c.is_whole.ensures ∙ c.loop-alloc-test.true) c.in_err-builder-2.ensures c.loop-alloc.invariant)
 
 pub loop-alloc-preserved : goal.loop-alloc-preserved
 loop-alloc-preserved c =
-    goes_on c.args.players c.loop-alloc.builder c.in-Ok.read.0 (kinds c.loop-alloc.rest.now) (kinds c.in-Ok.read.1.now) (kinds c.args.tokens.now) (sym c.is_whole.ensures ∙ c.loop-alloc-test.true) c.in-Ok.ensures c.loop-alloc.invariant
+    goes_on c.args.players c.loop-alloc.builder c.in_ok-builder-2.field-0-0 (kinds c.loop-alloc.rest.now) (kinds c.in_ok-builder-2.field-0-1.now) (kinds c.args.tokens.now) (sym c.is_whole.ensures ∙ c.loop-alloc-test.true) c.in_ok-builder-2.ensures c.loop-alloc.invariant
 
 pub loop-alloc-smaller : goal.loop-alloc-smaller
 loop-alloc-smaller c =
-    let shorter : length (kinds c.in-Ok.read.1.now) < length (kinds c.loop-alloc.rest.now) = takes c.args.players c.loop-alloc.builder c.in-Ok.read.0 (kinds c.loop-alloc.rest.now) (kinds c.in-Ok.read.1.now) (kinds c.args.tokens.now) c.in-Ok.ensures c.loop-alloc.invariant in
+    let shorter : length (kinds c.in_ok-builder-2.field-0-1.now) < length (kinds c.loop-alloc.rest.now) = takes c.args.players c.loop-alloc.builder c.in_ok-builder-2.field-0-0 (kinds c.loop-alloc.rest.now) (kinds c.in_ok-builder-2.field-0-1.now) (kinds c.args.tokens.now) c.in_ok-builder-2.ensures c.loop-alloc.invariant in
     rw (length-map, length-map) at shorter
 
 pub returns-then-ends : goal.returns-then-ends

@@ -1,6 +1,7 @@
 use Rattle.std.proofs.Common.{◌∙◌, ◌≡◌, [], inl, inr, Ok, refl, length, sym, ap, ap₂, subst₂, arith}
 use Rattle.std.proofs.lemmas.List.{get_or_default}
 use Rattle.std.proofs.lemmas.List.Elements.{All-append}
+use Rattle.std.proofs.lemmas.Result.{err_from_is_err_and}
 use Rattle.rational.specs.Rational.{◌*ℚ◌, inv_ℚ, zero_ℚ}
 use Rattle.rational.proofs.InverseLemmas.{ne_zero_of_pos}
 use Rattle.frac128.specs.Steps.{DivFits, unfit, StepFits}
@@ -16,28 +17,31 @@ use Rattle.label_pairing.proofs.scaling.scaled.Goals as goal
 
 pub div-requires : goal.div-requires
 div-requires c e =
-    ne_zero_of_pos _ (sum-pos (length c.args.point.now) (entry_of c.args.point.now) c.requires.not_negative c.requires.nonzero) (sym c.in-Ok.ensures.0 ∙ e)
+    ne_zero_of_pos _ (sum-pos (length c.args.point.now) (entry_of c.args.point.now) c.requires.not_negative c.requires.nonzero) (sym c.in_ok-sum.ensures.0 ∙ e)
 
-pub returns-in-Err-div : goal.returns-in-Err-div
-returns-in-Err-div c =
+pub returns-in_err-div : goal.returns-in_err-div
+returns-in_err-div c =
     let p = c.args.point.now in
     let read : c.index-point-i.result ≡ entry_of p c.loop-i.i = c.index-point-i.is ∙ get_or_default p c.loop-i.i c.index-point-i.result zero_ℚ c.loop-i-test.true in
-    inr (inl (c.in-Err-div.unfit, first_unfit-following (sum_steps p) _ c.in-Err-div.unfit c.in-Ok.ensures.1 (unfit-first (division p) (length p) c.loop-i.i c.loop-i-test.true c.in-Err-div.unfit c.loop-i.invariant.fits (λ f. c.in-Err-div.ensures.unfit (subst₂ DivFits (sym read) (sym c.in-Ok.ensures.0) f)) (c.in-Err-div.ensures.step ∙ ap₂ (λ x y. unfit Div x y) read c.in-Ok.ensures.0)), refl))
+    let stop = err_from_is_err_and c.from_residual-in_err-div.result c.from_residual-in_err-div.ensures.1 in
+    rw (stop.1, stop.2) (inr (inl (c.in_err-div.field-0.0, first_unfit-following (sum_steps p) _ c.in_err-div.field-0.0 c.in_ok-sum.ensures.1 (unfit-first (division p) (length p) c.loop-i.i c.loop-i-test.true c.in_err-div.field-0.0 c.loop-i.invariant.fits (λ f. c.in_err-div.ensures.unfit (subst₂ DivFits (sym read) (sym c.in_ok-sum.ensures.0) f)) (c.in_err-div.ensures.step ∙ ap₂ (λ x y. unfit Div x y) read c.in_ok-sum.ensures.0)), refl)))
 
-pub returns-in-Err : goal.returns-in-Err
-returns-in-Err c = inr (inl (c.in-Err.unfit, first_unfit-more (sum_steps c.args.point.now) _ c.in-Err.unfit c.in-Err.ensures, refl))
+pub returns-in_err-sum : goal.returns-in_err-sum
+returns-in_err-sum c =
+    let stop = err_from_is_err_and c.from_residual.result c.from_residual.ensures.1 in
+    rw (stop.1, stop.2) (inr (inl (c.in_err-sum.field-0.0, first_unfit-more (sum_steps c.args.point.now) _ c.in_err-sum.field-0.0 c.in_err-sum.ensures, refl)))
 
 pub loop-i-preserved : goal.loop-i-preserved
 loop-i-preserved c =
     let p = c.args.point.now in
     let read : c.index-point-i.result ≡ entry_of p c.loop-i.i = c.index-point-i.is ∙ get_or_default p c.loop-i.i c.index-point-i.result zero_ℚ c.loop-i-test.true in
     record {
-      value = listed-push c.push.new.self.items c.loop-i.scaled.items [] c.loop-i.i (scaled (length p) (entry_of p)) c.in-Ok-div.entry c.loop-i.invariant.value c.in_ok-push-in-Ok-div.ensures.items (c.in-Ok-div.ensures.value ∙ ap₂ (λ x y. x *ℚ inv_ℚ y) read c.in-Ok.ensures.0);
-      fits = fits-next (division p) (length p) c.loop-i.i c.loop-i-test.true c.loop-i.invariant.fits (subst₂ DivFits read c.in-Ok.ensures.0 c.in-Ok-div.ensures.fits);
+      value = listed-push c.push.new.self.items c.loop-i.scaled.items [] c.loop-i.i (scaled (length p) (entry_of p)) c.in_ok-div.field-0 c.loop-i.invariant.value c.in_ok-push.ensures.items (c.in_ok-div.ensures.value ∙ ap₂ (λ x y. x *ℚ inv_ℚ y) read c.in_ok-sum.ensures.0);
+      fits = fits-next (division p) (length p) c.loop-i.i c.loop-i-test.true c.loop-i.invariant.fits (subst₂ DivFits read c.in_ok-sum.ensures.0 c.in_ok-div.ensures.fits);
     }
 
 pub returns : goal.returns
 returns c =
     let p = c.args.point.now in
     let end : c.loop-i.i ≡ length p = omega arith in
-    (tt, All-append StepFits (sum_steps p) _ c.in-Ok.ensures.1 (fits-all (division p) (length p) c.loop-i.i c.loop-i-test.false c.loop-i.invariant.fits), ap Ok (c.loop-i.invariant.value ∙ ap (λ n. listed n (scaled (length p) (entry_of p))) end))
+    (tt, All-append StepFits (sum_steps p) _ c.in_ok-sum.ensures.1 (fits-all (division p) (length p) c.loop-i.i c.loop-i-test.false c.loop-i.invariant.fits), ap Ok (c.loop-i.invariant.value ∙ ap (λ n. listed n (scaled (length p) (entry_of p))) end))

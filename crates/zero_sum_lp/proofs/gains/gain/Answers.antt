@@ -1,8 +1,15 @@
-use Rattle.zero_sum_lp.proofs.ProgramStepLemmas.{product_unfit, difference_unfit}
+use Rattle.std.proofs.lemmas.Result.{err_from_is_err_and}
+use Rattle.frac128.specs.Steps.{unfit}
+use Rattle.frac128.specs.declared.steps.Op.TheVariants.{Mul}
+use Rattle.frac128.proofs.StepRunLemmas.{first_unfit-same}
+use Rattle.zero_sum_lp.proofs.ProgramStepLemmas.{difference_gives}
 use Rattle.zero_sum_lp.proofs.gains.gain.Goals as goal
 
-pub returns-in-Err-clause-unfit : goal.returns-in-Err-clause-unfit
-returns-in-Err-clause-unfit c = product_unfit c.args.least c.args.cell c.in-Err.unfit c.in-Err.ensures.unfit c.in-Err.ensures.step
+pub returns-in_err-part : goal.returns-in_err-part
+returns-in_err-part c =
+    let p = err_from_is_err_and c.from_residual.result c.from_residual.ensures.1 in
+    rw (p.1, p.2) (first_unfit-same (unfit Mul c.args.least c.args.cell.weight) _ c.in_err-part.field-0.0 c.in_err-part.ensures.unfit c.in_err-part.ensures.step)
 
-pub returns-in-Ok-clause-unfit : goal.returns-in-Ok-clause-unfit
-returns-in-Ok-clause-unfit c = difference_unfit c.args.least c.args.cell c.in-Ok.part c.sub.result c.in-Ok.ensures.value c.in-Ok.ensures.fits c.sub.ensures.step c.sub.ensures.unfit
+pub returns : goal.returns
+returns c =
+    difference_gives c.args.least c.args.cell c.in_ok-part.part c.sub.result c.in_ok-part.ensures.value c.in_ok-part.ensures.fits c.sub.ensures.value c.sub.ensures.fits c.sub.ensures.step c.sub.ensures.unfit
