@@ -1,7 +1,7 @@
 -- Laws of answers.
 use Rattle.std.proofs.Common.{◌≡◌, ◌∙◌, inl, inr, ap, sym, subst, refl, Result, Ok, Err}
 use Rattle.std.specs.Result.{IsErrAnd}
-use Rattle.answers.specs.Answers.{Answer, only, such_that, refuse_where, by_case, ◌>>=◌, refused_by, map_err, map_ok, IsSingle, Gives}
+use Rattle.answers.specs.Answers.{Answer, only, refused, such_that, refuse_where, by_case, ◌>>=◌, refused_by, map_err, map_ok, IsSingle, Gives}
 
 -- two values of one answer
 ok_same : {E Y : Type 0} (a b : Y) → ◌≡◌ {A = Result Y E} (Ok a) (Ok b) → a ≡ b
@@ -43,6 +43,10 @@ bind-single p f s t (Err r) (Err q) (inr h) (inr k) =
 -- a value and nothing else is single
 pub only-single : {E Y : Type 0} (y : Y) → IsSingle (only {E = E} y)
 only-single y one other h k = h ∙ sym k
+
+-- so is a refusal and nothing else
+pub refused-single : {E Y : Type 0} (refusal : E) → IsSingle (refused {Y = Y} refusal)
+refused-single refusal one other h k = h ∙ sym k
 
 -- so is a value with a property that one value alone has
 pub such_that-single : {E Y : Type 0} (P : Y → Type 0) → ((a b : Y) → P a → P b → a ≡ b) → IsSingle (such_that {E = E} P)

@@ -12,6 +12,10 @@ Answer E Y = Result Y E → Type 0
 abbrev pub only : {E Y : Type 0} → Y → Answer E Y
 only y answer = answer ≡ Ok y
 
+-- a refusal and nothing else
+abbrev pub refused : {E Y : Type 0} → E → Answer E Y
+refused refusal answer = answer ≡ Err refusal
+
 -- a value with this property, and no refusal
 abbrev pub such_that : {E Y : Type 0} → (Y → Type 0) → Answer E Y
 such_that P (Ok y) = P y

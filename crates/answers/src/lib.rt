@@ -11,7 +11,7 @@
 //! `run`.
 #![tactic(auto)]
 
-ghost use Rattle.std.specs.Prelude.{◌≡◌, Ok, Err, Result};
+ghost use Rattle.std.specs.Prelude.{Ok, Err, Result};
 ghost use Rattle.answers.specs.Answers.{Answer, IsSingle, Gives, then, refused_by, map_err};
 
 mod memory;

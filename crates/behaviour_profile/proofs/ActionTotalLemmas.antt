@@ -12,7 +12,7 @@ use Rattle.strategy_lists.specs.OwnNumbers.{own_numbers}
 use Rattle.strategy_lists.proofs.ActionCountLemmas.{actions-below}
 use Rattle.strategy_lists.proofs.OwnNumberLemmas.{own_sets-numbers}
 use Rattle.behaviour_profile.specs.EntryTests.{action_counts}
-use Rattle.strategy_lists.specs.Decisions.{own_counts}
+use Rattle.game_theory.specs.OwnSets.{own_counts}
 use Rattle.behaviour_profile.proofs.GroupListLemmas.{sum-append, sum-cons, sum-nil}
 use Rattle.lists.proofs.ElementLemmas.{made-next}
 

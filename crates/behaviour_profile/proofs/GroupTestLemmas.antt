@@ -6,14 +6,14 @@ use Rattle.std.proofs.lemmas.Int.{ints}
 use Rattle.std.proofs.lemmas.List.Elements.{All-nil, All-cons, All-append}
 use Rattle.lists.proofs.ElementLemmas.{made-next}
 use Rattle.rational.specs.Rational.{ℚ, ◌+ℚ◌, ◌≤ℚ◌, zero_ℚ, one_ℚ}
-use Rattle.rational.specs.Sum.{sum_to}
+use Rattle.rational.specs.Sum.{sum_to, entry_at}
 use Rattle.rational.specs.Tests.{sign_of}
 use Rattle.rational.proofs.PartLemmas.{nonneg-num}
 use Rattle.frac128.specs.Steps.{AddFits, unfit, Step}
 use Rattle.frac128.specs.declared.steps.Op.TheVariants.{Add}
 use Rattle.behaviour_profile.specs.declared.entries.ProfileFault.{ProfileFault}
 use Rattle.behaviour_profile.specs.declared.entries.ProfileFault.TheVariants as faults
-use Rattle.behaviour_profile.specs.EntryTests.{Test, IsNotNegative, CanBeAdded, SumsToOne, Passes, entry_at, entry_tests, group_tests}
+use Rattle.behaviour_profile.specs.EntryTests.{Test, IsNotNegative, CanBeAdded, SumsToOne, Passes, entry_tests, group_tests}
 use Rattle.behaviour_profile.proofs.FirstFaultLemmas.{fault-more, fault-following, fault-here, tests_in}
 
 -- a number with a negative sign is negative

@@ -15,7 +15,7 @@ use Rattle.sequence_forms.proofs.SequenceLemmas.{own_set-is, sequence-below, sid
 use Rattle.frac128.specs.Steps.{Step}
 use Rattle.frac128.specs.FirstUnfit.{StepsFit, IsFirstUnfitOf}
 use Rattle.sequence_data.specs.Data.{SideData}
-use Rattle.sequence_data.specs.Weights.{weight_at}
+use Rattle.rational.specs.Sum.{entry_at}
 use Rattle.sequence_data.specs.declared.types.SetRow.{SetRow}
 use Rattle.sequence_form.specs.Sequences.{own_set_row, tree_side}
 use Rattle.behaviour_profile.specs.Plans.{OwnAction, actions_at, quotient_steps}
@@ -50,12 +50,12 @@ module _ (t : Tree) (i place : ℕ) (rows : List SetRow) (side : SideData) (rows
       let last = sequence-below t i s (t.actions s - 1) own.0 own.1 (omega (arith, some)) in
       subst₂ (λ (r : SetRow) (n : ℕ). r.first + r.count ≤ n) (sym (row_is d)) sequences_are (omega (arith, some, last))
 
-module _ (t : Tree) (i s : ℕ) (row : SetRow) (weights : List ℚ) (plans : ℕ → ℕ → ℚ) (is : row ≡ own_set_row t i s) (plan : plans i ≡ weight_at weights) (own : t.owner s ≡ Some i) where
+module _ (t : Tree) (i s : ℕ) (row : SetRow) (weights : List ℚ) (plans : ℕ → ℕ → ℚ) (is : row ≡ own_set_row t i s) (plan : plans i ≡ entry_at weights) (own : t.owner s ≡ Some i) where
   -- the weights are the plan's
-  before_is : weight_at weights row.before ≡ plans i (sequence_before t i s)
+  before_is : entry_at weights row.before ≡ plans i (sequence_before t i s)
   before_is = ap (λ (x : ℕ → ℚ). x row.before) (sym plan) ∙ ap (λ (r : SetRow). plans i r.before) is
 
-  after_is : (a : ℕ) → weight_at weights (row.first + a) ≡ plans i (sequence t i (Some (s, a)))
+  after_is : (a : ℕ) → entry_at weights (row.first + a) ≡ plans i (sequence t i (Some (s, a)))
   after_is a =
       let e : sequence t i (Some (s, 0)) + a ≡ sequence t i (Some (s, a)) = omega arith in
       ap (λ (x : ℕ → ℚ). x (row.first + a)) (sym plan) ∙ ap (λ (r : SetRow). plans i (r.first + a)) is ∙ ap (plans i) e

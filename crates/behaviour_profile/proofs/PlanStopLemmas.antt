@@ -16,7 +16,7 @@ use Rattle.game_core.specs.Tree.{GameTree}
 use Rattle.game_core.specs.TreeGame.{game_of_tree}
 use Rattle.frac128.specs.FirstUnfit.{StepsFit}
 use Rattle.frac128.proofs.FirstUnfitLemmas.{all_fit-single}
-use Rattle.sequence_data.specs.Weights.{weight_at}
+use Rattle.rational.specs.Sum.{entry_at}
 use Rattle.sequence_data.specs.declared.types.SetRow.{SetRow}
 use Rattle.sequence_form.specs.Sequences.{own_set_row}
 use Rattle.behaviour_profile.specs.declared.plans.BehaviourStop.{BehaviourStop}
@@ -33,7 +33,7 @@ pub record AddsSets (t : Tree) (i : ℕ) (plans : ℕ → ℕ → ℚ) (n : ℕ)
   pub entries_are : new ≡ old ++ entries_at t (behaviour_of t plans) (take n (own_sets t i))
   pub all_fit : All (StepsFit (quotient_steps t plans)) (flat_map (actions_at t i) (take n (own_sets t i)))
 
-module _ (t : Tree) (i place : ℕ) (row : SetRow) (weights : List ℚ) (plans : ℕ → ℕ → ℚ) (l : place < length (own_sets t i)) (is : row ≡ own_set_row t i (get_or (own_sets t i) place 0)) (plan : plans i ≡ weight_at weights) where
+module _ (t : Tree) (i place : ℕ) (row : SetRow) (weights : List ℚ) (plans : ℕ → ℕ → ℚ) (l : place < length (own_sets t i)) (is : row ≡ own_set_row t i (get_or (own_sets t i) place 0)) (plan : plans i ≡ entry_at weights) where
   abbrev here : ℕ
   here = get_or (own_sets t i) place 0
 
@@ -63,7 +63,7 @@ module _ (t : Tree) (i n : ℕ) (plans : ℕ → ℕ → ℚ) (old new : List �
 
 -- a set stops its player's plan
 pub set_stop : (t : GameTree) (i place label : ℕ) (row : SetRow) (weights : List ℚ) (plans : ℕ → ℕ → ℚ) (old now : List ℚ) (stop : BehaviourStop) → place < length (own_sets (game_of_tree t) i) → row ≡ own_set_row (game_of_tree t) i (get_or (own_sets (game_of_tree t) i) place 0)
-    → plans i ≡ weight_at weights → AddsSets (game_of_tree t) i plans place old now → label ≡ label_of t (get_or (own_sets (game_of_tree t) i) place 0) → Gives stops.Memory (shares_in weights row i label) (Err stop) → Gives stops.Memory (own_quotients_in t plans i) (Err stop)
+    → plans i ≡ entry_at weights → AddsSets (game_of_tree t) i plans place old now → label ≡ label_of t (get_or (own_sets (game_of_tree t) i) place 0) → Gives stops.Memory (shares_in weights row i label) (Err stop) → Gives stops.Memory (own_quotients_in t plans i) (Err stop)
 set_stop t i place label row weights plans old now stop l is plan so_far labelled (inl m) = inl m
 set_stop t i place label row weights plans old now stop l is plan so_far labelled (inr ((a, step), h, told)) =
     let g : Tree = game_of_tree t in

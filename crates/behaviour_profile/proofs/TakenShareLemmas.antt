@@ -15,7 +15,7 @@ use Rattle.sequence_forms.specs.PlanBehaviour.{share}
 use Rattle.frac128.specs.FirstUnfit.{StepsFit, IsFirstUnfitOf}
 use Rattle.frac128.proofs.StepRunLemmas.{first_unfit-here, one-fits}
 use Rattle.frac128.proofs.FirstUnfitLemmas.{fits_next, first_unfit_here}
-use Rattle.sequence_data.specs.Weights.{weight_at}
+use Rattle.rational.specs.Sum.{entry_at}
 use Rattle.sequence_data.specs.declared.types.SetRow.{SetRow}
 use Rattle.sequence_data.proofs.PlaceLemmas.{get_or-inside}
 use Rattle.behaviour_profile.specs.Shares.{actions_of, share_at, share_steps, steps_at}
@@ -57,10 +57,10 @@ module _ (n : ℕ) (before after : ℚ) where
 
 -- ---- the shares of a set
 -- a weight that is read
-pub weight_read : (weights : List ℚ) (q : ℕ) (x : ℚ) → q < length weights → x ≡ get_or weights q x → x ≡ weight_at weights q
+pub weight_read : (weights : List ℚ) (q : ℕ) (x : ℚ) → q < length weights → x ≡ get_or weights q x → x ≡ entry_at weights q
 weight_read weights q x l is = is ∙ get_or-inside weights q x zero_ℚ l
 
-module _ (weights : List ℚ) (row : SetRow) (a : ℕ) (before after : ℚ) (l : a < row.count) (before_is : before ≡ weight_at weights row.before) (after_is : after ≡ weight_at weights (row.first + a)) where
+module _ (weights : List ℚ) (row : SetRow) (a : ℕ) (before after : ℚ) (l : a < row.count) (before_is : before ≡ entry_at weights row.before) (after_is : after ≡ entry_at weights (row.first + a)) where
   within : a < length (actions_of row)
   within = omega (arith, l, length-range_with_len 0 row.count)
 

@@ -12,11 +12,10 @@ use Rattle.game_theory.specs.Mixed.{Mixed, IsValid as is_valid_profile, later}
 use Rattle.game_theory.proofs.ProfileLineLemmas.{entries-same}
 use Rattle.game_theory.specs.Trees.{Tree, IsTree}
 use Rattle.game_theory.specs.Behaviour.{Behaviour, IsValid}
-use Rattle.game_theory.specs.OwnSets.{own_sets}
+use Rattle.game_theory.specs.OwnSets.{own_sets, own_counts}
 use Rattle.game_theory.specs.TreeEntries.{tree_entries, entries_from}
 use Rattle.game_theory.proofs.OwnSetLemmas.{AscendFrom, IsAmong, IsAmong-from, IsAmong-left, IsAmong-parts, IsAmong-right, own_sets-ascend, own_sets-has, own_sets-tell}
 use Rattle.behaviour_profile.specs.EntryTests.{action_counts, profile_in}
-use Rattle.strategy_lists.specs.Decisions.{own_counts}
 use Rattle.behaviour_profile.specs.EntryLaws.{AdditionsFit, TestedEntriesAreBehaviours}
 use Rattle.behaviour_profile.proofs.BehaviourEntryLemmas.{entries_at, entries_from-next}
 use Rattle.lists.proofs.ElementLemmas.{made-next}

@@ -5,12 +5,12 @@ use Rattle.std.proofs.lemmas.List.{get_or-append-add, get_or_append_left, take-a
 use Rattle.std.proofs.lemmas.List.Elements.{All-nil, All-cons, All-append, All-head, All-tail}
 use Rattle.lists.proofs.ElementLemmas.{All-left, All-right, made-next}
 use Rattle.rational.specs.Rational.{ℚ, ◌≤ℚ◌, zero_ℚ, one_ℚ}
-use Rattle.rational.specs.Sum.{sum_to}
+use Rattle.rational.specs.Sum.{sum_to, entry_at}
 use Rattle.rational.proofs.SumLemmas.{sum_to-same}
 use Rattle.game_theory.specs.Lines.{listed, entries}
 use Rattle.game_theory.specs.Mixed.{Mixed, IsValid, later}
 use Rattle.game_theory.proofs.ProfileLineLemmas.{entries-same, length-entries, length-listed, get_or-listed}
-use Rattle.behaviour_profile.specs.EntryTests.{mixed_of, SumsToOne, Passes, entry_at, entry_tests, group_tests, tests_from, profile_in}
+use Rattle.behaviour_profile.specs.EntryTests.{mixed_of, SumsToOne, Passes, entry_tests, group_tests, tests_from, profile_in}
 use Rattle.behaviour_profile.specs.EntryLaws.{AdditionFits, TestedEntriesAreProfiles}
 use Rattle.behaviour_profile.proofs.GroupListLemmas.{sum-cons, sum-nil}
 use Rattle.behaviour_profile.proofs.ProfileAnswerLemmas.{entries_pass, passed_count, passed_tests}

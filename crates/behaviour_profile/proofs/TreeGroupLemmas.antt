@@ -6,7 +6,7 @@ use Rattle.std.proofs.lemmas.Bool.{cases_lt}
 use Rattle.std.proofs.lemmas.List.{take_all, length-map}
 use Rattle.std.proofs.lemmas.Option.{slice_get-map}
 use Rattle.rational.specs.Rational.{ℚ}
-use Rattle.game_theory.specs.OwnSets.{own_sets}
+use Rattle.game_theory.specs.OwnSets.{own_sets, own_counts}
 use Rattle.game_theory.specs.Trees.{Tree, IsTree as is_game_tree}
 use Rattle.game_theory.proofs.OwnSetLemmas.{IsAmong, own_sets-tell}
 use Rattle.game_core.specs.Tree.{GameTree, IsGameTree, InformationSet, own_sets as own_sets_of}
@@ -14,7 +14,6 @@ use Rattle.game_core.specs.TreeGame.{game_of_tree}
 use Rattle.strategy_lists.proofs.ActionCountLemmas.{actions-below}
 use Rattle.behaviour_profile.specs.declared.entries.ProfileFault.{ProfileFault}
 use Rattle.behaviour_profile.specs.EntryTests.{Passes, action_counts, tests_from}
-use Rattle.strategy_lists.specs.Decisions.{own_counts}
 use Rattle.behaviour_profile.proofs.BehaviourEntryLemmas.{actions-counted, own_set-below, place-found}
 use Rattle.behaviour_profile.proofs.FirstFaultLemmas.{tests_in}
 use Rattle.behaviour_profile.proofs.GroupListLemmas.{fault-longer, groups_fault, groups_pass, sum-append, sum-cons, sum-nil}

@@ -1,15 +1,15 @@
 -- Entries in groups, and what is tested of them: a group is one player's strategies, or the actions
 -- of one set.
-use Rattle.std.specs.Prelude.{ℕ, suc, ◌+◌, ◌≡◌, ◌≢◌, List, [], ◌∷◌, ◌++◌, length, slice_index_or, sum, take, All, Ok, Err}
+use Rattle.std.specs.Prelude.{ℕ, suc, ◌+◌, ◌≡◌, ◌≢◌, List, [], ◌∷◌, ◌++◌, length, sum, take, All, Ok, Err}
 use Rattle.std.specs.List.{range_with_len, flat_map}
 use Rattle.answers.specs.Answers.{Answer, ◌>>◌, only, refuse_where, refused_by}
 use Rattle.rational.specs.Rational.{ℚ, ◌≤ℚ◌, zero_ℚ, one_ℚ}
-use Rattle.rational.specs.Sum.{sum_to}
+use Rattle.rational.specs.Sum.{entry_at, sum_to}
 use Rattle.frac128.specs.Steps.{unfit, Step, StepFits}
 use Rattle.frac128.specs.declared.steps.Op.TheVariants.{Add}
 use Rattle.game_theory.specs.Mixed.{Mixed}
 use Rattle.game_theory.specs.Trees.{Tree}
-use Rattle.strategy_lists.specs.Decisions.{own_counts}
+use Rattle.game_theory.specs.OwnSets.{own_counts}
 use Rattle.behaviour_profile.specs.declared.entries.ProfileFault.{ProfileFault}
 use Rattle.behaviour_profile.specs.declared.entries.ProfileFault.TheVariants as faults
 
@@ -31,10 +31,6 @@ abbrev pub fault_of : Test → ProfileFault
 fault_of (IsNotNegative place entry) = faults.Negative place
 fault_of (CanBeAdded step) = faults.Unfit step
 fault_of (SumsToOne group sum) = faults.Sum group
-
--- the entry at a place
-abbrev pub entry_at : List ℚ → ℕ → ℚ
-entry_at entries place = slice_index_or entries place zero_ℚ
 
 -- the tests of entry k of a group that stands from a place on: it is not negative, and it can be
 -- added to those before it

@@ -14,7 +14,7 @@ use Rattle.sequence_forms.specs.Sequences.{sequence, sequence_before}
 use Rattle.game_core.specs.Tree.{GameTree}
 use Rattle.game_core.specs.TreeGame.{game_of_tree}
 use Rattle.frac128.specs.FirstUnfit.{all_fit}
-use Rattle.sequence_data.specs.Weights.{weight_at}
+use Rattle.rational.specs.Sum.{entry_at}
 use Rattle.behaviour_profile.specs.declared.plans.BehaviourStop.{BehaviourStop}
 use Rattle.behaviour_profile.specs.declared.plans.BehaviourStop.TheVariants as stops
 
@@ -42,7 +42,7 @@ quotient_steps t plans k =
 -- ---- the behaviour
 -- the plans of two lists of weights
 abbrev pub both_plans : List ℚ → List ℚ → ℕ → ℕ → ℚ
-both_plans one two = of_two (weight_at one) (weight_at two)
+both_plans one two = of_two (entry_at one) (entry_at two)
 
 -- the number that the file gives set s; 0 where there is no such set
 abbrev pub label_of : GameTree → ℕ → ℕ

@@ -8,7 +8,7 @@ use Rattle.frac128.specs.Steps.{unfit, Step}
 use Rattle.frac128.specs.declared.steps.Op.TheVariants.{Div}
 use Rattle.frac128.specs.FirstUnfit.{all_fit}
 use Rattle.sequence_forms.specs.PlanBehaviour.{share}
-use Rattle.sequence_data.specs.Weights.{weight_at}
+use Rattle.rational.specs.Sum.{entry_at}
 use Rattle.sequence_data.specs.declared.types.SetRow.{SetRow}
 use Rattle.behaviour_profile.specs.declared.plans.BehaviourStop.{BehaviourStop}
 use Rattle.behaviour_profile.specs.declared.plans.BehaviourStop.TheVariants as stops
@@ -21,11 +21,11 @@ share_steps before after = if eq_test before zero_ℚ then [] else unfit Div aft
 -- ---- a set
 -- the share of action a of a set
 abbrev pub share_at : List ℚ → SetRow → ℕ → ℚ
-share_at weights row a = share row.count (weight_at weights row.before) (weight_at weights (row.first + a))
+share_at weights row a = share row.count (entry_at weights row.before) (entry_at weights (row.first + a))
 
 -- its step
 abbrev pub steps_at : List ℚ → SetRow → ℕ → List Step
-steps_at weights row a = share_steps (weight_at weights row.before) (weight_at weights (row.first + a))
+steps_at weights row a = share_steps (entry_at weights row.before) (entry_at weights (row.first + a))
 
 -- the actions of a set
 abbrev pub actions_of : SetRow → List ℕ

@@ -17,7 +17,7 @@ ghost use Rattle.std.specs.Prelude.{
 ghost use Rattle.answers.specs.Answers.{IsSingle, map_ok, refused_by};
 ghost use Rattle.rational.specs.Rational.{ℚ};
 ghost use Rattle.game_core.specs.TreeGame.{game_of_tree};
-ghost use Rattle.strategy_lists.specs.Decisions.{own_counts};
+ghost use Rattle.game_theory.specs.OwnSets.{own_counts};
 ghost use Rattle.behaviour_profile.specs.EntryLaws.{
   TestedEntriesAreBehaviours,
   TestedEntriesAreProfiles,

@@ -21,7 +21,7 @@ ghost use Rattle.game_theory.specs.TreeEntries.{own_entries};
 ghost use Rattle.sequence_forms.specs.PlanBehaviour.{behaviour_of, share};
 ghost use Rattle.game_core.specs.Tree.{GameTree};
 ghost use Rattle.game_core.specs.TreeGame.{game_of_tree};
-ghost use Rattle.sequence_data.specs.Weights.{weight_at};
+ghost use Rattle.rational.specs.Sum.{entry_at};
 ghost use Rattle.sequence_form.specs.Forms.{tree_form};
 ghost use Rattle.sequence_form.specs.Sequences.{tree_side};
 ghost use Rattle.behaviour_profile.specs.declared.plans.BehaviourStop.TheVariants as stops;
@@ -131,9 +131,9 @@ fn push_plan(
     requires side { side.now ≡ tree_side (game_of_tree tree.now) player }
     requires plan { length plan.now ≡ side.now.sequences }
     ensures added { let t = game_of_tree tree.now in
-        (plans : ℕ → ℕ → ℚ) → plans player ≡ weight_at plan.now → OnOk result
+        (plans : ℕ → ℕ → ℚ) → plans player ≡ entry_at plan.now → OnOk result
         (entries.new.items ≡ entries.old.items ++ own_entries t (behaviour_of t plans) player) }
-    ensures steps { (plans : ℕ → ℕ → ℚ) → plans player ≡ weight_at plan.now
+    ensures steps { (plans : ℕ → ℕ → ℚ) → plans player ≡ entry_at plan.now
         → Gives stops.Memory (own_quotients_in tree.now plans player) result }
 {
     stands_for_game_tree(tree);

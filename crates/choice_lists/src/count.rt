@@ -1,8 +1,8 @@
 // Counting choice lists.
-ghost use Rattle.std.specs.Prelude.{◌≡◌, ◌<◌, ◌+◌, ◌*◌, ◌^◌, List, ℕ, true, length, map, min, replicate, slice_index, slice_set, All, IfOk, IsTrue, []};
+ghost use Rattle.std.specs.Prelude.{◌≡◌, ◌<◌, ◌+◌, ◌*◌, ◌^◌, List, ℕ, length, map, min, replicate, slice_index, slice_set, IfOk, []};
 ghost use Rattle.choice_lists.specs.Ends.{ends};
 ghost use Rattle.choice_lists.specs.Walks.{AreLinked, AreWalks};
-ghost use Rattle.choice_lists.specs.Ways.{AreApart, AreAfter, sum_branches, ways_from};
+ghost use Rattle.choice_lists.specs.Ways.{AreApart, AreAfter, sum_branches};
 
 use crate::decision::Decision;
 use crate::kept::{kept_decisions, shared_sets};

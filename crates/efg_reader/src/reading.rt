@@ -9,7 +9,6 @@ ghost use Rattle.tree_grammar.specs.declared.kinds.EfgKind.{EfgKind};
 ghost use Rattle.efg_reader.specs.Stops.{IsEfgStop, IsNodesStop, tree_in};
 ghost use Rattle.efg_reader.specs.declared.fault.EfgStop.TheVariants.{Memory};
 ghost use Rattle.game_core.specs.TokenList.{TokenList, bare};
-ghost use Rattle.game_core.specs.Spacing.{IsShortToken};
 
 use crate::builder::{Builder, MOST_DEPTH, MOST_NODES};
 use crate::fault::{EfgFault, EfgStop};

@@ -73,10 +73,7 @@ pub fn scaled_points(
     let mut points = Vec::with_capacity(alloc, vertices.len())?;
     for i in 0..vertices.len() {
         if used[i] {
-            match scale(alloc, &vertices[i]) {
-                Ok(point) => points.push(point)?,
-                Err(stop) => return Err(stop),
-            }
+            points.push(scale(alloc, &vertices[i])?)?;
         } else {
             points.push(Vec::new(alloc))?;
         }

@@ -4,12 +4,11 @@ use Rattle.std.specs.List.{count_by}
 use Rattle.std.proofs.lemmas.Grind.{flat_map-append}
 use Rattle.std.proofs.lemmas.List.{append-nil}
 use Rattle.rational.specs.Rational.{ℚ}
-use Rattle.game_theory.specs.Profiles.{profile_count, number_of}
+use Rattle.game_theory.specs.Profiles.{profile_count, number_of, strategies_at}
 use Rattle.game_theory.specs.Lines.{line_text, lines_text}
 use Rattle.game_theory.specs.Trees.{Tree}
 use Rattle.enumpure.specs.Replies.{plays_best}
 use Rattle.enumpure.proofs.TotalLemmas.{total, one_if, total-best_replies}
-use Rattle.enumpure_trees.specs.Orders.{ordered}
 use Rattle.game_theory.specs.Ranks.{ranked}
 use Rattle.enumpure_trees.specs.Ranks.{rank_line, ranked_plays_best, listed_below, lines_below}
 use Rattle.enumpure_trees.proofs.ListedLineLemmas.{listed_below-none, listed_below-push, listed_below-skip}
@@ -53,4 +52,4 @@ length-lines_below t strategies orders best_replies n same h long each =
     ∙ ap (λ v. v * n) (ap (λ v. total v (λ q. one_if (ranked_plays_best strategies orders (plays_best best_replies) q))) (long ∙ ap profile_count (sym same)) ∙ sums ∙ ap (λ v. total v (λ k. one_if (plays_best best_replies k))) (sym (long ∙ ap profile_count (sym same))) ∙ total-best_replies best_replies)
   where
     sums : total (profile_count (map length orders)) (λ q. one_if (ranked_plays_best strategies orders (plays_best best_replies) q)) ≡ total (profile_count (map length orders)) (λ k. one_if (plays_best best_replies k))
-    sums = ap (λ ns. total (profile_count (map length orders)) (λ q. one_if (plays_best best_replies (number_of ns (ordered orders (ranked ns q)))))) (sym same) ∙ total-ordered orders (λ k. one_if (plays_best best_replies k)) h
+    sums = ap (λ ns. total (profile_count (map length orders)) (λ q. one_if (plays_best best_replies (number_of ns (strategies_at orders (ranked ns q)))))) (sym same) ∙ total-ordered orders (λ k. one_if (plays_best best_replies k)) h

@@ -4,14 +4,14 @@ use Rattle.std.proofs.lemmas.Bool.{cases_lt}
 use Rattle.std.proofs.lemmas.List.{append-nil}
 use Rattle.std.proofs.lemmas.List.Elements.{All-push, Contains-append_left, Contains-push}
 use Rattle.rational.specs.Rational.{ℚ}
-use Rattle.game_theory.specs.Profiles.{profile_count, IsProfile, number_of}
+use Rattle.game_theory.specs.Profiles.{profile_count, IsProfile, number_of, strategies_at}
 use Rattle.game_theory.specs.Lines.{StandsBefore, AreInOrder}
 use Rattle.game_theory.proofs.LineOrderLemmas.{AreInOrder-push}
 use Rattle.game_theory.proofs.ProfileNumberLemmas.{number_of-below, profile_at-number_of}
 use Rattle.game_theory.specs.Trees.{Tree, IsTree}
 use Rattle.reduced_strategies.specs.StrategicForm.{AreStrategies}
 use Rattle.reduced_strategies.proofs.TreeEquilibriaLemmas.{equilibria-same}
-use Rattle.enumpure_trees.specs.Orders.{AreOrders, ordered}
+use Rattle.enumpure_trees.specs.Orders.{AreOrders}
 use Rattle.game_theory.specs.Ranks.{ranked}
 use Rattle.enumpure_trees.specs.Ranks.{ranked_profile, ranked_plays_best, rank_line, listed_below, lines_below}
 use Rattle.enumpure_trees.proofs.MutualReplyLemmas.{AreEquilibria}
@@ -83,7 +83,7 @@ module _ (t : Tree) (strategies : List (List (List ℕ))) (orders : List (List �
   profile-has_rank : (profile : List ℕ) → IsProfile (map length strategies) profile → (r : ℕ) × (r < profile_count (map length strategies)) × (ranked_profile strategies orders r ≡ profile)
   profile-has_rank profile f =
       let p = profile-has_places strategies orders profile h f in
-      (rank_of (map length strategies) p.places, rank_of-below (map length strategies) p.places p.are_places, ap (ordered orders) (ranked-rank_of (map length strategies) p.places p.are_places) ∙ p.is_profile)
+      (rank_of (map length strategies) p.places, rank_of-below (map length strategies) p.places p.are_places, ap (strategies_at orders) (ranked-rank_of (map length strategies) p.places p.are_places) ∙ p.is_profile)
 
   -- lines stand in the order of ranks
   rank_line-before : (q r : ℕ) → q < r → r < profile_count (map length strategies) → StandsBefore (rank_line t strategies orders q) (rank_line t strategies orders r)

@@ -6,7 +6,7 @@ use Rattle.game_theory.specs.TreeEntries.{tree_entries}
 use Rattle.game_theory.specs.OwnSets.{own_sets}
 use Rattle.game_theory.proofs.OwnSetLemmas.{IsAmong, AscendFrom, IsAmong-from, own_sets-tell, own_sets-ascend}
 use Rattle.lists.specs.Orders.{ComesBefore}
-use Rattle.game_theory.specs.Profiles.{IsProfile}
+use Rattle.game_theory.specs.Profiles.{IsProfile, strategies_at}
 use Rattle.game_theory.specs.Lines.{StandsBefore}
 use Rattle.game_theory.proofs.ProfileLineLemmas.{StandsBefore-entries}
 use Rattle.game_theory.proofs.ProfileNumberLemmas.{length-profile, profile-below}
@@ -16,7 +16,7 @@ use Rattle.reduced_strategies.specs.Choices.{choice_at}
 use Rattle.reduced_strategies.specs.StrategicForm.{AreStrategies, list_of, completed}
 use Rattle.reduced_strategies.proofs.SetLemmas.{choice_at-first, choice_at-later}
 use Rattle.reduced_strategies.proofs.StrategyProfileLemmas.{given_at-own, list_of-reduced, strategies-count}
-use Rattle.enumpure_trees.specs.Orders.{completed_list, completed_of, AreOrders, ordered}
+use Rattle.enumpure_trees.specs.Orders.{completed_list, completed_of, AreOrders}
 use Rattle.enumpure_trees.specs.TreeEquilibria.{profile_line}
 use Rattle.enumpure_trees.proofs.EquilibriumLineLemmas.{AreActions, completed-actions}
 use Rattle.enumpure_trees.proofs.OrderedProfileLemmas.{order-of, IsProfile-ordered, get_or-ordered}
@@ -104,27 +104,27 @@ completed_list-of t strategies profile i a f l =
 -- ---- the lines of ordered profiles
 module _ (t : Tree) (strategies : List (List (List ℕ))) (orders : List (List ℕ)) (w : IsTree t) (a : AreStrategies t strategies) (h : AreOrders strategies orders) where
   -- the list at a place, completed, has the profile's actions
-  completed_of-place : (places : List ℕ) (i : ℕ) → IsProfile (map length strategies) places → i < t.players → completed_of (get_or strategies i []) (get_or (get_or orders i []) (get_or places i 0) 0) ≡ map (completed t strategies (ordered orders places)) (own_sets t i)
+  completed_of-place : (places : List ℕ) (i : ℕ) → IsProfile (map length strategies) places → i < t.players → completed_of (get_or strategies i []) (get_or (get_or orders i []) (get_or places i 0) 0) ≡ map (completed t strategies (strategies_at orders places)) (own_sets t i)
   completed_of-place places i p l =
-      ap (completed_of (get_or strategies i [])) (sym (get_or-ordered strategies orders places i h p (omega (arith, a.one_for_each)))) ∙ completed_list-of t strategies (ordered orders places) i a (IsProfile-ordered strategies orders places h p) l
+      ap (completed_of (get_or strategies i [])) (sym (get_or-ordered strategies orders places i h p (omega (arith, a.one_for_each)))) ∙ completed_list-of t strategies (strategies_at orders places) i a (IsProfile-ordered strategies orders places h p) l
 
   -- equal places have equal actions
-  actions-same : (one other : List ℕ) (i : ℕ) → IsProfile (map length strategies) one → IsProfile (map length strategies) other → i < t.players → get_or one i 0 ≡ get_or other i 0 → map (completed t strategies (ordered orders one)) (own_sets t i) ≡ map (completed t strategies (ordered orders other)) (own_sets t i)
+  actions-same : (one other : List ℕ) (i : ℕ) → IsProfile (map length strategies) one → IsProfile (map length strategies) other → i < t.players → get_or one i 0 ≡ get_or other i 0 → map (completed t strategies (strategies_at orders one)) (own_sets t i) ≡ map (completed t strategies (strategies_at orders other)) (own_sets t i)
   actions-same one other i p q l e =
       sym (completed_of-place one i p l) ∙ ap (λ x. completed_of (get_or strategies i []) (get_or (get_or orders i []) x 0)) e ∙ completed_of-place other i q l
 
   -- the smaller place has the actions that come before
-  actions-before : (one other : List ℕ) (i : ℕ) → IsProfile (map length strategies) one → IsProfile (map length strategies) other → i < t.players → get_or one i 0 < get_or other i 0 → ComesBefore (map (completed t strategies (ordered orders one)) (own_sets t i)) (map (completed t strategies (ordered orders other)) (own_sets t i))
+  actions-before : (one other : List ℕ) (i : ℕ) → IsProfile (map length strategies) one → IsProfile (map length strategies) other → i < t.players → get_or one i 0 < get_or other i 0 → ComesBefore (map (completed t strategies (strategies_at orders one)) (own_sets t i)) (map (completed t strategies (strategies_at orders other)) (own_sets t i))
   actions-before one other i p q l b =
       let order = order-of strategies orders i h (omega (arith, a.one_for_each)) in
       let below = profile-below (map length strategies) other i q (omega (arith, a.one_for_each, length-map strategies (length {A = List ℕ}))) in
       subst₂ (λ x y. ComesBefore x y) (completed_of-place one i p l) (completed_of-place other i q l) (order.ascending (get_or one i 0) (get_or other i 0) b (omega (arith, below, strategies-count strategies i, order.one_for_each)))
 
   -- the line of the places that come before stands before
-  pub ordered-before : (one other : List ℕ) → IsProfile (map length strategies) one → IsProfile (map length strategies) other → ComesBefore one other → StandsBefore (profile_line t strategies (ordered orders one)) (profile_line t strategies (ordered orders other))
+  pub ordered-before : (one other : List ℕ) → IsProfile (map length strategies) one → IsProfile (map length strategies) other → ComesBefore one other → StandsBefore (profile_line t strategies (strategies_at orders one)) (profile_line t strategies (strategies_at orders other))
   ordered-before one other p q c =
       let d = first_difference one other c in
       let player : d.place < t.players = omega (arith, d.is_place, length-profile (map length strategies) one p, length-map strategies (length {A = List ℕ}), a.one_for_each) in
-      let f = completed-actions t strategies (ordered orders one) w a (IsProfile-ordered strategies orders one h p) in
-      let g = completed-actions t strategies (ordered orders other) w a (IsProfile-ordered strategies orders other h q) in
-      entries-before t (completed t strategies (ordered orders one)) (completed t strategies (ordered orders other)) d.place (λ j l. actions-same one other j p q (omega arith) (d.same j l)) (actions-before one other d.place p q player d.before) player f g
+      let f = completed-actions t strategies (strategies_at orders one) w a (IsProfile-ordered strategies orders one h p) in
+      let g = completed-actions t strategies (strategies_at orders other) w a (IsProfile-ordered strategies orders other h q) in
+      entries-before t (completed t strategies (strategies_at orders one)) (completed t strategies (strategies_at orders other)) d.place (λ j l. actions-same one other j p q (omega arith) (d.same j l)) (actions-before one other d.place p q player d.before) player f g

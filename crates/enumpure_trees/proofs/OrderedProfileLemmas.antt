@@ -2,8 +2,8 @@
 use Rattle.std.proofs.Common.{ℕ, zero, suc, ◌<◌, ◌≡◌, List, [], ◌∷◌, length, map, get_or, Contains, refl, ap₂, ◌∙◌, arith}
 use Rattle.std.proofs.lemmas.List.{get_or_default}
 use Rattle.std.proofs.lemmas.Option.{slice_get-get_or}
-use Rattle.game_theory.specs.Profiles.{IsProfile}
-use Rattle.enumpure_trees.specs.Orders.{IsOrder, AreOrders, ordered}
+use Rattle.game_theory.specs.Profiles.{IsProfile, strategies_at}
+use Rattle.enumpure_trees.specs.Orders.{IsOrder, AreOrders}
 
 -- a player's order
 pub order-of : (strategies : List (List (List ℕ))) (orders : List (List ℕ)) (i : ℕ) → AreOrders strategies orders → i < length strategies → IsOrder (get_or strategies i []) (get_or orders i [])
@@ -18,7 +18,7 @@ number-below : (list : List (List ℕ)) (order : List ℕ) (place : ℕ) → IsO
 number-below list order place h l = h.are_numbers place 0 (omega (arith, h.one_for_each))
 
 -- the strategies at places are a profile
-pub IsProfile-ordered : (strategies : List (List (List ℕ))) (orders : List (List ℕ)) (places : List ℕ) → AreOrders strategies orders → IsProfile (map length strategies) places → IsProfile (map length strategies) (ordered orders places)
+pub IsProfile-ordered : (strategies : List (List (List ℕ))) (orders : List (List ℕ)) (places : List ℕ) → AreOrders strategies orders → IsProfile (map length strategies) places → IsProfile (map length strategies) (strategies_at orders places)
 IsProfile-ordered [] [] places h p = tt
 IsProfile-ordered [] (order ∷ orders) places h p = absurd (omega (arith, h.one_for_each))
 IsProfile-ordered (list ∷ strategies) [] places h p = absurd (omega (arith, h.one_for_each))
@@ -30,7 +30,7 @@ IsProfile-ordered (list ∷ strategies) (order ∷ orders) (place ∷ places) h 
 pub record HasPlaces (strategies : List (List (List ℕ))) (orders : List (List ℕ)) (profile : List ℕ) : Type 0 where
   pub places : List ℕ
   pub are_places : IsProfile (map length strategies) places
-  pub is_profile : ordered orders places ≡ profile
+  pub is_profile : strategies_at orders places ≡ profile
 
 -- one player more in front
 HasPlaces-cons : (list : List (List ℕ)) (strategies : List (List (List ℕ))) (order : List ℕ) (orders : List (List ℕ)) (number : ℕ) (profile : List ℕ) → IsOrder list order → Contains order number → HasPlaces strategies orders profile → HasPlaces (list ∷ strategies) (order ∷ orders) (number ∷ profile)
@@ -53,7 +53,7 @@ profile-has_places (list ∷ strategies) (order ∷ orders) (number ∷ profile)
     HasPlaces-cons list strategies order orders number profile first (first.all number p.0) (profile-has_places strategies orders profile (AreOrders-rest list strategies order orders h) p.1)
 
 -- a player's strategy is that at the place
-pub get_or-ordered : (strategies : List (List (List ℕ))) (orders : List (List ℕ)) (places : List ℕ) (i : ℕ) → AreOrders strategies orders → IsProfile (map length strategies) places → i < length strategies → get_or (ordered orders places) i 0 ≡ get_or (get_or orders i []) (get_or places i 0) 0
+pub get_or-ordered : (strategies : List (List (List ℕ))) (orders : List (List ℕ)) (places : List ℕ) (i : ℕ) → AreOrders strategies orders → IsProfile (map length strategies) places → i < length strategies → get_or (strategies_at orders places) i 0 ≡ get_or (get_or orders i []) (get_or places i 0) 0
 get_or-ordered [] orders places i h p l = absurd (omega arith)
 get_or-ordered (list ∷ strategies) [] places i h p l = absurd (omega (arith, h.one_for_each))
 get_or-ordered (list ∷ strategies) (order ∷ orders) [] i h p l = absurd p

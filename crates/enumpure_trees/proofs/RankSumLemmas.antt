@@ -6,9 +6,8 @@ use Rattle.std.proofs.lemmas.List.FromFn.{length-range_with_len, get_or-range_wi
 use Rattle.std.proofs.lemmas.List.Sorted.{sum_by-IsPermutation}
 use Rattle.std.proofs.lemmas.List.Sums.{sum_by-cons}
 use Rattle.std.proofs.lemmas.Nat.{div-mul-add, mod-mul-add}
-use Rattle.game_theory.specs.Profiles.{profile_count, number_of}
+use Rattle.game_theory.specs.Profiles.{profile_count, number_of, strategies_at}
 use Rattle.enumpure.proofs.TotalLemmas.{total, total-same, total-parts, total-exchange}
-use Rattle.enumpure_trees.specs.Orders.{ordered}
 use Rattle.game_theory.specs.Ranks.{ranked}
 
 -- the first term and the others
@@ -39,10 +38,10 @@ AllHaveNumbers (order ∷ orders) = HasNumbers order × AllHaveNumbers orders
 
 -- the number of the profile with a rank
 abbrev rank_number : List (List ℕ) → ℕ → ℕ
-rank_number orders r = number_of (map length orders) (ordered orders (ranked (map length orders) r))
+rank_number orders r = number_of (map length orders) (strategies_at orders (ranked (map length orders) r))
 
 -- a sum over the profiles by their ranks is the sum by their numbers
-pub total-ordered : (orders : List (List ℕ)) (f : ℕ → ℕ) → AllHaveNumbers orders → total (profile_count (map length orders)) (λ r. f (number_of (map length orders) (ordered orders (ranked (map length orders) r)))) ≡ total (profile_count (map length orders)) f
+pub total-ordered : (orders : List (List ℕ)) (f : ℕ → ℕ) → AllHaveNumbers orders → total (profile_count (map length orders)) (λ r. f (number_of (map length orders) (strategies_at orders (ranked (map length orders) r)))) ≡ total (profile_count (map length orders)) f
 total-ordered [] f h = refl
 total-ordered (order ∷ orders) f h =
     total-parts n p (λ r. f (get_or order (r / p) 0 + n * rank_number orders (r % p))) ∙ total-same n _ _ (λ a l. part a (total-ordered orders (λ k. f (get_or order a 0 + n * k)) h.1)) ∙ total-order (λ a. total p (λ k. f (a + n * k))) order h.0 ∙ total-exchange n p (λ a k. f (a + n * k)) ∙ total-same p _ _ (λ k l. total-same n (λ a. f (a + n * k)) (λ a. f (k * n + a)) (λ a b. ap f (omega arith))) ∙ sym (total-parts p n f) ∙ ap (λ v. total v f) (omega arith)

@@ -1,21 +1,20 @@
 -- The profile with a rank, as it is written player by player.
 use Rattle.std.proofs.Common.{ℕ, zero, suc, ◌+◌, ◌/◌, ◌%◌, ◌<◌, ◌≤◌, ◌≡◌, ◌≢◌, List, [], ◌∷◌, length, map, get_or, set, Vec, Global, vec_len, below_more, refl, sym, ap, ◌∙◌, subst, arith, mod-lt}
 use Rattle.std.proofs.lemmas.List.{length-map, get_or-map, get_or_default, get_or-set_same, get_or-set_other, ext_get_or}
-use Rattle.game_theory.specs.Profiles.{profile_count}
+use Rattle.game_theory.specs.Profiles.{profile_count, strategies_at}
 use Rattle.game_theory.proofs.ProfileNumberLemmas.{profile-below}
 use Rattle.game_theory.specs.Ranks.{ranked}
 use Rattle.enumpure.proofs.ProfilePartLemmas.{IsSetBelow, next_part, length-ranked}
 use Rattle.game_theory.proofs.RankLemmas.{IsProfile-ranked}
-use Rattle.enumpure_trees.specs.Orders.{ordered}
 
 -- there is a strategy for each place
-length-ordered : (orders : List (List ℕ)) (places : List ℕ) → length places ≡ length orders → length (ordered orders places) ≡ length orders
+length-ordered : (orders : List (List ℕ)) (places : List ℕ) → length places ≡ length orders → length (strategies_at orders places) ≡ length orders
 length-ordered [] places e = refl
 length-ordered (order ∷ orders) [] e = absurd (omega arith)
 length-ordered (order ∷ orders) (place ∷ places) e = ap suc (length-ordered orders places (omega arith))
 
 -- it is that at the place
-ordered-at : (orders : List (List ℕ)) (places : List ℕ) (i : ℕ) → length places ≡ length orders → i < length orders → get_or (ordered orders places) i 0 ≡ get_or (get_or orders i []) (get_or places i 0) 0
+ordered-at : (orders : List (List ℕ)) (places : List ℕ) (i : ℕ) → length places ≡ length orders → i < length orders → get_or (strategies_at orders places) i 0 ≡ get_or (get_or orders i []) (get_or places i 0) 0
 ordered-at [] places i e l = absurd (omega arith)
 ordered-at (order ∷ orders) [] i e l = absurd (omega arith)
 ordered-at (order ∷ orders) (place ∷ places) zero e l = refl
@@ -58,11 +57,11 @@ IsWrittenBelow-next orders places profile i later rest count value b next is h =
     }
 
 -- at last the profile is written
-pub IsWrittenBelow-all : (orders : List (List ℕ)) (profile : List ℕ) (rank i later rest : ℕ) → length profile ≡ length orders → length orders ≤ i → IsWrittenBelow orders (ranked (map length orders) rank) profile i later rest → profile ≡ ordered orders (ranked (map length orders) rank)
+pub IsWrittenBelow-all : (orders : List (List ℕ)) (profile : List ℕ) (rank i later rest : ℕ) → length profile ≡ length orders → length orders ≤ i → IsWrittenBelow orders (ranked (map length orders) rank) profile i later rest → profile ≡ strategies_at orders (ranked (map length orders) rank)
 IsWrittenBelow-all orders profile rank i later rest e l h =
     let ns : List ℕ = map length orders in
     let long : length (ranked ns rank) ≡ length orders = length-ranked ns rank ∙ length-map orders (length {A = ℕ}) in
-    ext_get_or 0 profile (ordered orders (ranked ns rank)) (e ∙ sym (length-ordered orders (ranked ns rank) long)) (λ j b. h.written j (omega arith) ∙ sym (ordered-at orders (ranked ns rank) j long (omega arith)))
+    ext_get_or 0 profile (strategies_at orders (ranked ns rank)) (e ∙ sym (length-ordered orders (ranked ns rank) long)) (λ j b. h.written j (omega arith) ∙ sym (ordered-at orders (ranked ns rank) j long (omega arith)))
 
 -- the places with a rank are one for each player
 pub length-places : (orders : List (List ℕ)) (rank : ℕ) → length (ranked (map length orders) rank) ≡ length orders

@@ -4,8 +4,8 @@ use Rattle.std.specs.List.{range_with_len}
 use Rattle.std.specs.List.Sorted.{IsPermutation}
 use Rattle.std.proofs.lemmas.List.{length-map, get_or-map, get_or_append_left, get_or_push, ext_get_or}
 use Rattle.std.proofs.lemmas.Option.{get_or_from_slice_get, slice_get_within}
-use Rattle.game_theory.specs.Profiles.{IsProfile, profile_count}
-use Rattle.enumpure_trees.specs.Orders.{IsOrder, AreOrders, ordered}
+use Rattle.game_theory.specs.Profiles.{IsProfile, profile_count, strategies_at}
+use Rattle.enumpure_trees.specs.Orders.{IsOrder, AreOrders}
 use Rattle.game_theory.specs.Ranks.{ranked}
 use Rattle.enumpure_trees.specs.Ranks.{ranked_profile}
 use Rattle.enumpure_trees.proofs.OrderedProfileLemmas.{order-of, IsProfile-ordered}
@@ -39,9 +39,9 @@ pub record IsRanked (strategies : List (List (List ℕ))) (orders : List (List �
   pub is_profile : IsProfile (map length strategies) profile
 
 -- is that with its rank
-pub IsRanked-ordered : (strategies : List (List (List ℕ))) (orders : List (List ℕ)) (r : ℕ) (profile : List ℕ) → AreOrders strategies orders → r < profile_count (map length strategies) → profile ≡ ordered orders (ranked (map length orders) r) → IsRanked strategies orders r profile
+pub IsRanked-ordered : (strategies : List (List (List ℕ))) (orders : List (List ℕ)) (r : ℕ) (profile : List ℕ) → AreOrders strategies orders → r < profile_count (map length strategies) → profile ≡ strategies_at orders (ranked (map length orders) r) → IsRanked strategies orders r profile
 IsRanked-ordered strategies orders r profile h l e =
-    let is : profile ≡ ranked_profile strategies orders r = e ∙ ap (λ ns. ordered orders (ranked ns r)) (orders-counts strategies orders h) in
+    let is : profile ≡ ranked_profile strategies orders r = e ∙ ap (λ ns. strategies_at orders (ranked ns r)) (orders-counts strategies orders h) in
     record { profile_is = is; is_profile = subst (IsProfile (map length strategies)) (sym is) (IsProfile-ordered strategies orders (ranked (map length strategies) r) h (IsProfile-ranked (map length strategies) r l)) }
 
 -- each has the numbers once

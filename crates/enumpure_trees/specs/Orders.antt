@@ -1,5 +1,5 @@
 -- A player's strategies in the order of their lines.
-use Rattle.std.specs.Prelude.{ℕ, ◌-◌, ◌<◌, ◌≡◌, List, [], ◌∷◌, length, map, slice_index, slice_index_or, slice_get, All, Contains, Some}
+use Rattle.std.specs.Prelude.{ℕ, ◌-◌, ◌<◌, ◌≡◌, List, [], length, map, slice_index, slice_index_or, slice_get, All, Contains, Some}
 use Rattle.lists.specs.Orders.{ComesBefore}
 
 -- the actions of a strategy, counted from 0, with the first action where it has none
@@ -21,8 +21,3 @@ pub record IsOrder (strategies : List (List ℕ)) (order : List ℕ) : Type 0 wh
 pub record AreOrders (strategies : List (List (List ℕ))) (orders : List (List ℕ)) : Type 0 where
   pub one_for_each : length orders ≡ length strategies
   pub are_orders : (i : ℕ) (order : List ℕ) → slice_get orders i ≡ Some order → IsOrder (slice_index_or strategies i []) order
-
--- the profile in which each player plays the strategy at a place of the order
-abbrev pub ordered : List (List ℕ) → List ℕ → List ℕ
-ordered (order ∷ orders) (place ∷ places) = slice_index order place ∷ ordered orders places
-ordered _ _ = []

@@ -1,15 +1,14 @@
 -- The ranks of pure profiles in the order of their lines, from 0, and the lines of profiles of best replies.
 use Rattle.std.specs.Prelude.{ℕ, zero, suc, Bool, cond, List, [], ◌∷◌, ◌++◌, length, map}
 use Rattle.rational.specs.Rational.{ℚ}
-use Rattle.game_theory.specs.Profiles.{number_of}
+use Rattle.game_theory.specs.Profiles.{number_of, strategies_at}
 use Rattle.game_theory.specs.Ranks.{ranked}
 use Rattle.game_theory.specs.Trees.{Tree}
-use Rattle.enumpure_trees.specs.Orders.{ordered}
 use Rattle.enumpure_trees.specs.TreeEquilibria.{profile_line}
 
 -- the profile with a rank
 abbrev pub ranked_profile : List (List (List ℕ)) → List (List ℕ) → ℕ → List ℕ
-ranked_profile strategies orders r = ordered orders (ranked (map length strategies) r)
+ranked_profile strategies orders r = strategies_at orders (ranked (map length strategies) r)
 
 -- whether the profile with a rank is one of best replies, which stand by number
 abbrev pub ranked_plays_best : List (List (List ℕ)) → List (List ℕ) → (ℕ → Bool) → ℕ → Bool

@@ -1,13 +1,12 @@
 // The text of the pure equilibria of a tree.
-ghost use Rattle.std.specs.Prelude.{◌≡◌, ◌<◌, ◌≤◌, ◌^◌, ◌++◌, ℕ, List, length, map, IfOk, OnOk, replicate};
+ghost use Rattle.std.specs.Prelude.{◌≡◌, ◌<◌, ◌++◌, ℕ, List, length, map, IfOk, OnOk, replicate};
 ghost use Rattle.answers.specs.Answers.{Gives, IsSingle, map_ok};
-ghost use Rattle.game_theory.specs.Profiles.{IsProfile, profile_count, number_of};
+ghost use Rattle.game_theory.specs.Profiles.{IsProfile, profile_count, number_of, strategies_at};
 ghost use Rattle.game_theory.specs.Lines.{line_text};
 ghost use Rattle.game_theory.specs.Trees.{IsTree, Tree as game_tree};
 ghost use Rattle.game_core.specs.TreeGame.{game_of_tree};
 ghost use Rattle.reduced_form.specs.ReducedForm.{IsReducedForm};
 ghost use Rattle.enumpure_trees.specs.Listing.{listed_text};
-ghost use Rattle.enumpure_trees.specs.Orders.{ordered};
 ghost use Rattle.game_theory.specs.Ranks.{ranked};
 ghost use Rattle.enumpure_trees.specs.TreeEquilibria.{profile_line};
 ghost use Rattle.enumpure.specs.Replies.{plays_best};
@@ -60,7 +59,7 @@ fn set_ordered(profile: &mut [u32], orders: &[Vec<u32>], profiles: usize, rank: 
     requires profiles { profiles ≡ profile_count (map length (map (λ v. v.items) orders.now)) }
     requires rank { rank < profiles }
     ensures { profile.new
-        ≡ ordered (map (λ v. v.items) orders.now)
+        ≡ strategies_at (map (λ v. v.items) orders.now)
         (ranked (map length (map (λ v. v.items) orders.now)) rank) }
 {
     let mut later = profiles;

@@ -9,13 +9,13 @@ use Rattle.rational.specs.Sum.{sum_to}
 use Rattle.rational.proofs.Field.{le_refl, le_trans}
 use Rattle.rational.proofs.Rules.{zero-*ℚ}
 use Rattle.rational.proofs.SumLemmas.{sum_to-same}
-use Rattle.game_theory.specs.Profiles.{Game, number_of}
+use Rattle.game_theory.specs.Profiles.{Game, number_of, strategies_at}
 use Rattle.game_theory.specs.Mixed.{Mixed, IsValid, payoff}
 use Rattle.game_theory.specs.Equilibrium.{IsEquilibrium}
 use Rattle.game_theory.proofs.ProfileNumberLemmas.{profile_at-number_of}
 use Rattle.extreme_equilibria.specs.TwoPlayers.{other, pays_against}
 use Rattle.extreme_equilibria.specs.Elimination.{IsKept, AreKept}
-use Rattle.extreme_equilibria.specs.KeptTable.{AreKeptLists, strategies_at, kept_table, at_kept, IsZeroAtRemoved}
+use Rattle.extreme_equilibria.specs.KeptTable.{AreKeptLists, kept_table, at_kept, IsZeroAtRemoved}
 use Rattle.extreme_equilibria.specs.KeptLaws.{EquilibriaOfTheKeptTable}
 use Rattle.extreme_equilibria.proofs.RoundLemmas.{other-below, kept-within}
 use Rattle.extreme_equilibria.proofs.KeptListLemmas.{place, contains_or_not}

@@ -1,9 +1,9 @@
 -- Bimatrix games: two players with m and n strategies, each with a table of payoffs that has the
 -- own strategy first, so that both are treated alike. Source: Lemke and Howson 1964; von Stengel
 -- 2002.
-use Rattle.std.specs.Prelude.{ℕ, ◌<◌, ◌≡◌}
+use Rattle.std.specs.Prelude.{ℕ, ◌<◌}
 use Rattle.rational.specs.Rational.{ℚ, ◌+ℚ◌, ◌*ℚ◌, ◌-ℚ◌, ◌≤ℚ◌, ◌<ℚ◌, zero_ℚ, one_ℚ}
-use Rattle.rational.specs.Sum.{sum_to}
+use Rattle.rational.specs.Sum.{sum_to, IsWeights}
 use Rattle.extreme_equilibria.specs.ExtremeEquilibria.{AreSame, IsMidpoint}
 
 -- what strategy i gains against the other player's probabilities y of n strategies
@@ -15,9 +15,8 @@ abbrev pub mean_gain : ℕ → ℕ → (ℕ → ℕ → ℚ) → (ℕ → ℚ) �
 mean_gain m n a x y = sum_to m (λ i. x i *ℚ gain n a y i)
 
 -- probabilities of n strategies
-pub record IsMixedStrategy (n : ℕ) (x : ℕ → ℚ) : Type 0 where
-  pub not_negative : (i : ℕ) → i < n → zero_ℚ ≤ℚ x i
-  pub sum_is_one : sum_to n x ≡ one_ℚ
+abbrev pub IsMixedStrategy : ℕ → (ℕ → ℚ) → Type 0
+IsMixedStrategy = IsWeights
 
 -- no strategy gains more than x does against y
 abbrev pub IsBestReply : ℕ → ℕ → (ℕ → ℕ → ℚ) → (ℕ → ℚ) → (ℕ → ℚ) → Type 0

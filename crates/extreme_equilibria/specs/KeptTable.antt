@@ -1,7 +1,8 @@
 -- The game that is left when strategies are removed.
-use Rattle.std.specs.Prelude.{ℕ, ◌<◌, ◌≡◌, List, [], ◌∷◌, length, map, slice_index, slice_index_or, Contains}
+use Rattle.std.specs.Prelude.{ℕ, ◌<◌, ◌≡◌, List, [], length, map, slice_index, slice_index_or, Contains}
 use Rattle.rational.specs.Rational.{ℚ, zero_ℚ}
-use Rattle.game_theory.specs.Profiles.{Game, profile_count, number_of, profile_at}
+use Rattle.rational.specs.Sum.{entry_at}
+use Rattle.game_theory.specs.Profiles.{Game, profile_count, number_of, profile_at, strategies_at}
 use Rattle.game_theory.specs.Mixed.{Mixed}
 use Rattle.extreme_equilibria.specs.Elimination.{IsKept, AreKept}
 
@@ -9,11 +10,6 @@ use Rattle.extreme_equilibria.specs.Elimination.{IsKept, AreKept}
 pub record AreKeptLists (g : Game) (kept : List (List ℕ)) : Type 0 where
   pub one_for_each : length kept ≡ length g.strategies
   pub are_kept : (i : ℕ) → i < length kept → AreKept g i (slice_index_or kept i [])
-
--- the kept strategies at these places of the players' lists
-abbrev pub strategies_at : List (List ℕ) → List ℕ → List ℕ
-strategies_at (list ∷ kept) (place ∷ places) = slice_index list place ∷ strategies_at kept places
-strategies_at _ _ = []
 
 -- the game over the kept strategies: each profile pays what it pays in the game
 abbrev pub kept_table : Game → List (List ℕ) → Game
@@ -37,8 +33,8 @@ IsZeroAtRemoved g m =
 pub record IsSpreadPoint (n : ℕ) (places : List ℕ) (point wide : List ℚ) : Type 0 where
   pub size : length wide ≡ n
   pub at_places : (k : ℕ) → k < length places
-      → slice_index_or wide (slice_index places k) zero_ℚ ≡ slice_index_or point k zero_ℚ
-  pub elsewhere : (s : ℕ) → (Contains places s → ⊥) → slice_index_or wide s zero_ℚ ≡ zero_ℚ
+      → entry_at wide (slice_index places k) ≡ entry_at point k
+  pub elsewhere : (s : ℕ) → (Contains places s → ⊥) → entry_at wide s ≡ zero_ℚ
 
 -- two games with the same numbers of strategies and the same payoffs at each profile
 pub record HaveSameCells (g h : Game) : Type 0 where

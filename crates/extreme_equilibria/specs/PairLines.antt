@@ -1,13 +1,14 @@
 -- The lines of the pairs of vertices that together have all labels.
-use Rattle.std.specs.Prelude.{ℕ, ◌-◌, ◌^◌, ◌≡◌, min, List, ◌++◌, All, Contains, length, get_or, bit_or}
-use Rattle.rational.specs.Rational.{ℚ, zero_ℚ}
+use Rattle.std.specs.Prelude.{ℕ, ◌-◌, ◌^◌, ◌≡◌, min, List, ◌++◌, All, Contains, length, bit_or}
+use Rattle.rational.specs.Rational.{ℚ}
+use Rattle.rational.specs.Sum.{entry_at}
 use Rattle.game_theory.specs.Lines.{listed, AreInOrder}
 use Rattle.linear_systems.specs.Vertices.{MarkedPoint}
 use Rattle.extreme_equilibria.specs.Polytopes.{scaled}
 
 -- the entries divided by their sum
 abbrev pub scaled_point : List ℚ → List ℚ
-scaled_point point = listed (length point) (scaled (length point) (λ i. get_or point i zero_ℚ))
+scaled_point point = listed (length point) (scaled (length point) (entry_at point))
 
 -- the two masks together have all n bits
 pub record HaveAllLabels (n : ℕ) (one two : MarkedPoint) : Type 0 where

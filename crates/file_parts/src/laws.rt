@@ -1,6 +1,6 @@
 // What the reading functions read: exactly what the productions derive. `sound`: what is read stands there. `complete`: what
 // stands there is read, whatever follows.
-ghost use Rattle.std.specs.Prelude.{ℕ, ◌≤◌, ◌≡◌, List, [], ◌∷◌, ◌++◌, length, Ok, Some};
+ghost use Rattle.std.specs.Prelude.{ℕ, ◌≤◌, ◌≡◌, List, ◌∷◌, ◌++◌, length, Ok, Some};
 ghost use Rattle.rational.specs.Rational.{ℚ};
 ghost use Rattle.game_core.specs.declared.token.Token.{Token};
 ghost use Rattle.game_core.specs.declared.token.Token.TheVariants.{Text};

@@ -2,9 +2,9 @@
 use Rattle.std.proofs.Common.{◌≡◌, ◌↔◌, List, [], ◌∷◌, ◌++◌, All, Result, Ok, Err, refl, sym, ap, ◌∙◌, subst, append_assoc}
 use Rattle.std.specs.Prelude.{IfOk, IfErr, OnOk, OnErr}
 use Rattle.std.proofs.lemmas.List.Elements.{All-nil, All-cons, All-head, All-tail, All-append}
-use Rattle.rational.specs.Rational.{ℚ, ◌+ℚ◌, ◌*ℚ◌}
-use Rattle.frac128.specs.Steps.{AddFits, MulFits, unfit, Step, StepFits, IsFirstUnfit, StepsGive}
-use Rattle.frac128.specs.declared.steps.Op.TheVariants.{Add, Mul}
+use Rattle.rational.specs.Rational.{ℚ, ◌+ℚ◌, ◌-ℚ◌, ◌*ℚ◌}
+use Rattle.frac128.specs.Steps.{AddFits, SubFits, MulFits, unfit, Step, StepFits, IsFirstUnfit, StepsGive}
+use Rattle.frac128.specs.declared.steps.Op.TheVariants.{Add, Sub, Mul}
 use Rattle.frac128.specs.declared.steps.Unfit.{Unfit}
 
 -- a step that fits stands alone
@@ -54,6 +54,11 @@ unfit-more steps step u h refused is = first_unfit-following steps (step ∷ [])
 pub added-gives : (a b : ℚ) (r : Result ℚ Unfit) → IfOk r (λ f. f ≡ a +ℚ b) → OnOk r (AddFits a b) → IfErr r (λ e. e ≡ unfit Add a b) → OnErr r (AddFits a b → ⊥) → StepsGive (unfit Add a b ∷ []) (a +ℚ b) r
 added-gives a b (Ok v) value fits step refused = (value, one-fits (unfit Add a b) fits)
 added-gives a b (Err u) value fits step refused = first_unfit-same (unfit Add a b) [] u refused step
+
+-- what a difference gives
+pub subtracted-gives : (a b : ℚ) (r : Result ℚ Unfit) → IfOk r (λ f. f ≡ a -ℚ b) → OnOk r (SubFits a b) → IfErr r (λ e. e ≡ unfit Sub a b) → OnErr r (SubFits a b → ⊥) → StepsGive (unfit Sub a b ∷ []) (a -ℚ b) r
+subtracted-gives a b (Ok v) value fits step refused = (value, one-fits (unfit Sub a b) fits)
+subtracted-gives a b (Err u) value fits step refused = first_unfit-same (unfit Sub a b) [] u refused step
 
 -- what a product gives
 pub product-gives : (a b : ℚ) (r : Result ℚ Unfit) → IfOk r (λ f. f ≡ a *ℚ b) → OnOk r (MulFits a b) → IfErr r (λ e. e ≡ unfit Mul a b) → OnErr r (MulFits a b → ⊥) → StepsGive (unfit Mul a b ∷ []) (a *ℚ b) r

@@ -1,5 +1,5 @@
 //! The type of fractions.
-ghost use Rattle.std.specs.Prelude.{◌≡◌, ◌≢◌, ◌⊎◌, ◌↔◌, ◌<◌, ◌<ℤ◌, ◌^◌, nat_abs, int_lt, pos, IsNone, IfSome, IsTrue, MatchOption};
+ghost use Rattle.std.specs.Prelude.{◌≡◌, ◌≢◌, ◌⊎◌, ◌↔◌, ◌<◌, ◌^◌, nat_abs, pos, IsNone, IfSome, IsTrue, MatchOption};
 ghost use Rattle.frac128.specs.Fraction.{quotient, Fits, PartFits, with_sign};
 ghost use Rattle.rational.specs.Extremes.{IsGreater, IsLesser};
 ghost use Rattle.rational.specs.Gcd.{gcd as gcd_of};

@@ -1,5 +1,5 @@
 //! Sums, by cancelling before anything is multiplied.
-ghost use Rattle.std.specs.Prelude.{◌≡◌, ◌<◌, ◌*◌, ◌^◌, nat_abs, pos, MatchOption};
+ghost use Rattle.std.specs.Prelude.{◌≡◌, ◌<◌, ◌*◌, ◌^◌, nat_abs, MatchOption};
 ghost use Rattle.frac128.specs.Fraction.{Fits};
 ghost use Rattle.frac128.specs.Steps.{AddFits, SubFits};
 ghost use Rattle.rational.specs.Gcd.{gcd as gcd_of};

@@ -1,7 +1,8 @@
 -- What contracts see of a table, and the strategic game that it stands for.
-use Rattle.std.specs.Prelude.{ℕ, ◌+◌, ◌*◌, ◌<◌, ◌≤◌, ◌≡◌, List, length, map, slice_index_or, All, refl}
+use Rattle.std.specs.Prelude.{ℕ, ◌+◌, ◌*◌, ◌<◌, ◌≤◌, ◌≡◌, List, length, map, All, refl}
 use Rattle.std.specs.Coded.{Coded, code_by, coded×, coded_ℕ, coded_list}
-use Rattle.rational.specs.Rational.{ℚ, zero_ℚ}
+use Rattle.rational.specs.Rational.{ℚ}
+use Rattle.rational.specs.Sum.{entry_at}
 use Rattle.rational.proofs.CodeLemmas.{code_ℚ}
 use Rattle.game_theory.specs.Profiles.{Game, profile_count}
 
@@ -35,4 +36,4 @@ pub record IsTable (t : GameTable) : Type 0 where
 
 -- the game that a table stands for
 abbrev pub game_of : GameTable → Game
-game_of t = record { strategies = strategy_counts t; pays = λ i k. slice_index_or t.payoffs (k * length t.players + i) zero_ℚ }
+game_of t = record { strategies = strategy_counts t; pays = λ i k. entry_at t.payoffs (k * length t.players + i) }

@@ -2,7 +2,7 @@
 -- Kuhn 1953.
 use Rattle.std.specs.Prelude.{ℕ, zero, suc, ◌<◌, ◌≤◌, ◌^◌, ◌≡◌, if◌then◌else◌, List, [], ◌∷◌, ◌++◌, length, map, slice_get, slice_index_or, All, IfSome, Option, Some, None}
 use Rattle.rational.specs.Rational.{ℚ, ◌≤ℚ◌, zero_ℚ, one_ℚ}
-use Rattle.rational.specs.Sum.{sum_to}
+use Rattle.rational.specs.Sum.{entry_at, sum_to}
 use Rattle.game_theory.specs.Behaviour.{is_index}
 use Rattle.game_core.specs.declared.tree.Action.{Action}
 use Rattle.game_core.specs.declared.tree.Kind.{Kind}
@@ -47,10 +47,10 @@ action_count sets (Some s) = slice_index_or (map (λ set. length set.actions) se
 abbrev pub OpenBranch : Type 0
 OpenBranch = Option ℕ × ℕ
 
--- the branches of a node's actions, from action a on
-abbrev pub branches_from : ℕ → ℕ → ℕ → List OpenBranch
-branches_from node a zero = []
-branches_from node a (suc n) = (Some node, a) ∷ branches_from node (suc a) n
+-- the branches of so many actions of a node from one on
+abbrev pub branches_after : Option ℕ → ℕ → ℕ → List OpenBranch
+branches_after parent action zero = []
+branches_after parent action (suc n) = (parent, action) ∷ branches_after parent (suc action) n
 
 -- Nodes in prefix order, numbered from k on: each hangs at the first open branch, and the branches of its own actions come
 -- before the others. The rest stays open after the last node.
@@ -58,7 +58,7 @@ abbrev pub AreInPrefixOrder : List InformationSet → ℕ → List Node → List
 AreInPrefixOrder sets k [] free rest = free ≡ rest
 AreInPrefixOrder sets k (node ∷ nodes) [] rest = ⊥
 AreInPrefixOrder sets k (node ∷ nodes) (branch ∷ free) rest =
-    ((node.parent, node.branch) ≡ branch) × AreInPrefixOrder sets (suc k) nodes (branches_from k 0 (action_count sets node.set) ++ free) rest
+    ((node.parent, node.branch) ≡ branch) × AreInPrefixOrder sets (suc k) nodes (branches_after (Some k) 0 (action_count sets node.set) ++ free) rest
 
 -- node k lies d edges below the root
 abbrev pub LiesBelowRoot : List Node → ℕ → ℕ → Type 0
@@ -92,7 +92,7 @@ members_from k s (node ∷ nodes) = if is_index node.set s then k ∷ members_fr
 
 -- the probability of action a in a list of actions
 abbrev pub probability_at : List Action → ℕ → ℚ
-probability_at actions a = slice_index_or (map (λ action. action.prob) actions) a zero_ℚ
+probability_at actions a = entry_at (map (λ action. action.prob) actions) a
 
 -- probabilities of chance: not negative, with the sum 1
 pub record AreChances (actions : List Action) : Type 0 where

@@ -1,6 +1,7 @@
 -- The game that a tree stands for.
 use Rattle.std.specs.Prelude.{ℕ, List, [], length, map, slice_index_or, Option, Some, None}
 use Rattle.rational.specs.Rational.{ℚ, zero_ℚ}
+use Rattle.rational.specs.Sum.{entry_at}
 use Rattle.game_theory.specs.Trees.{Tree}
 use Rattle.game_core.specs.Tree.{GameTree, TreeOutcome, action_count, probability_at}
 
@@ -12,7 +13,7 @@ or_zero (Some n) = n
 -- what the outcome of a node pays player i, and 0 where it has none
 abbrev pub outcome_pays : List TreeOutcome → Option ℕ → ℕ → ℚ
 outcome_pays outcomes None i = zero_ℚ
-outcome_pays outcomes (Some o) i = slice_index_or (slice_index_or (map (λ outcome. outcome.payoffs) outcomes) o []) i zero_ℚ
+outcome_pays outcomes (Some o) i = entry_at (slice_index_or (map (λ outcome. outcome.payoffs) outcomes) o []) i
 
 abbrev pub game_of_tree : GameTree → Tree
 game_of_tree t = record {

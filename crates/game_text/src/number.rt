@@ -1,5 +1,5 @@
 // Reads a number.
-ghost use Rattle.std.specs.Prelude.{◌≡◌, ◌≢◌, List, ℕ, IfOk, IsErrOf};
+ghost use Rattle.std.specs.Prelude.{◌≡◌, ◌≢◌, List, [], ℕ, pos, IfOk, IsErrOf};
 ghost use Rattle.std.specs.Char.{IsAsciiDigit};
 ghost use Rattle.std.specs.List.{All};
 ghost use Rattle.rational.specs.Rational.{ℚ};
@@ -88,6 +88,27 @@ fn read_decimal(
     decimal_value(negative, before, after, falls, power).ok_or(NumberFault::TooLarge)
 }
 
+// The value of a whole number within the limits.
+fn whole_value(negative: bool, digits: &[u8]) -> Option<Frac>
+    requires { All IsAsciiDigit digits.now }
+    ensures { GivesValue (Decimal negative digits.now [] (pos 0)) result }
+{
+    let size = size_of(digits)?;
+    decimal(negative, size, 0, false, 0)
+}
+
+// A whole number with these digits.
+#[tactic(auto, unfolding(crate::specs::NumberReading::decimal_of, crate::specs::NumberReading::power_of))]
+fn read_whole(negative: bool, digits: &[u8]) -> Result<Frac, NumberFault>
+    requires { All IsAsciiDigit digits.now }
+    ensures { Answers (decimal_of negative digits.now [] []) result }
+{
+    if digits.is_empty() {
+        return Err(NumberFault::Bad);
+    }
+    whole_value(negative, digits).ok_or(NumberFault::TooLarge)
+}
+
 // The number with these first digits and what comes after them.
 #[tactic(auto, unfolding(crate::specs::NumberReading::form_with))]
 fn read_rest(negative: bool, before: &[u8], rest: &[u8]) -> Result<Frac, NumberFault>
@@ -95,6 +116,7 @@ fn read_rest(negative: bool, before: &[u8], rest: &[u8]) -> Result<Frac, NumberF
     ensures { Answers (form_with negative before.now rest.now) result }
 {
     match rest {
+        [] => read_whole(negative, before),
         [b'/', bottom @ ..] => read_fraction(negative, before, bottom),
         [b'.', rest @ ..] => {
             let (after, power) = split_digits(rest);

@@ -1,6 +1,7 @@
 -- Three trees worked out: one-card poker, an entry game, and a player who forgets.
 use Rattle.std.specs.Prelude.{ℕ, zero, suc, ◌≡◌, ◌⊎◌, List, [], ◌∷◌, length, slice_index_or, Option, Some, None, ℤ, pos, negsuc}
 use Rattle.rational.specs.Rational.{frac, whole, zero_ℚ}
+use Rattle.rational.specs.Sum.{entry_at}
 use Rattle.game_theory.specs.Trees.{Tree, IsTree}
 use Rattle.game_theory.specs.Behaviour.{Behaviour, IsValid, payoff, pure}
 use Rattle.game_theory.specs.TreeEquilibrium.{IsEquilibrium}
@@ -49,9 +50,9 @@ one_card_poker = tree_of 2
 -- Fred raises on red, and with probability 1/3 on black; Alice meets with probability 2/3.
 abbrev pub bluffs : Behaviour
 bluffs zero a = zero_ℚ
-bluffs (suc zero) a = slice_index_or (whole (pos 1) ∷ whole (pos 0) ∷ []) a zero_ℚ
-bluffs (suc (suc zero)) a = slice_index_or (frac (pos 1) 3 ∷ frac (pos 2) 3 ∷ []) a zero_ℚ
-bluffs (suc (suc (suc s))) a = slice_index_or (frac (pos 2) 3 ∷ frac (pos 1) 3 ∷ []) a zero_ℚ
+bluffs (suc zero) a = entry_at (whole (pos 1) ∷ whole (pos 0) ∷ []) a
+bluffs (suc (suc zero)) a = entry_at (frac (pos 1) 3 ∷ frac (pos 2) 3 ∷ []) a
+bluffs (suc (suc (suc s))) a = entry_at (frac (pos 2) 3 ∷ frac (pos 1) 3 ∷ []) a
 
 -- poker with bluffs is worth 1/3 to Fred
 pub record PokerIsWorthAThird : Type 0 where

@@ -1,28 +1,24 @@
 -- The steps of scaling a point, which divides each entry by the sum of all
-use Rattle.std.specs.Prelude.{ℕ, ◌<◌, List, ◌++◌, length, map, get_or}
+use Rattle.std.specs.Prelude.{ℕ, ◌<◌, List, ◌++◌, length, map}
 use Rattle.std.specs.List.{range_with_len}
 use Rattle.rational.specs.Rational.{ℚ, ◌≤ℚ◌, zero_ℚ}
-use Rattle.rational.specs.Sum.{sum_to}
+use Rattle.rational.specs.Sum.{entry_at, sum_to}
 use Rattle.frac128.specs.Steps.{unfit, Step}
 use Rattle.frac128.specs.declared.steps.Op.TheVariants.{Add, Div}
 use Rattle.extreme_equilibria.specs.Polytopes.{IsNonzero}
 
--- the entries of a point
-abbrev pub entry_of : List ℚ → ℕ → ℚ
-entry_of point i = get_or point i zero_ℚ
-
 -- a point without negative entries that is not 0
 pub record IsScalable (point : List ℚ) : Type 0 where
-  pub not_negative : (i : ℕ) → i < length point → zero_ℚ ≤ℚ entry_of point i
-  pub nonzero : IsNonzero (length point) (entry_of point)
+  pub not_negative : (i : ℕ) → i < length point → zero_ℚ ≤ℚ entry_at point i
+  pub nonzero : IsNonzero (length point) (entry_at point)
 
 -- the entry at a place is added to the sum of those before it
 abbrev pub addition : List ℚ → ℕ → Step
-addition point i = unfit Add (sum_to i (entry_of point)) (entry_of point i)
+addition point i = unfit Add (sum_to i (entry_at point)) (entry_at point i)
 
 -- the entry at a place is divided by the sum of all
 abbrev pub division : List ℚ → ℕ → Step
-division point i = unfit Div (entry_of point i) (sum_to (length point) (entry_of point))
+division point i = unfit Div (entry_at point i) (sum_to (length point) (entry_at point))
 
 -- the sum of the entries in order, from 0 on
 abbrev pub sum_steps : List ℚ → List Step

@@ -1,5 +1,5 @@
 // The pairs of vertices that together have all labels.
-ghost use Rattle.std.specs.Prelude.{◌≡◌, ◌<◌, ◌≤◌, ◌++◌, ◌^◌, List, length, map, get_or, IfOk, OnOk};
+ghost use Rattle.std.specs.Prelude.{◌≡◌, ◌<◌, ◌++◌, ◌^◌, List, length, map, get_or, IfOk, OnOk};
 ghost use Rattle.answers.specs.Answers.{Gives, map_ok};
 ghost use Rattle.basis_enum.specs.Vertices.{marks_of};
 ghost use Rattle.linear_systems.specs.Vertices.{MarkedPoint};

@@ -1,9 +1,9 @@
 // Points divided by the sums of their entries.
 ghost use Rattle.std.specs.Prelude.{length};
-ghost use Rattle.rational.specs.Sum.{sum_to};
+ghost use Rattle.rational.specs.Sum.{sum_to, entry_at};
 ghost use Rattle.answers.specs.Answers.{Gives, map_ok};
 ghost use Rattle.frac128.specs.Steps.{StepsGive};
-ghost use Rattle.label_pairing.specs.Scaling.{entry_of, IsScalable, sum_steps};
+ghost use Rattle.label_pairing.specs.Scaling.{IsScalable, sum_steps};
 ghost use Rattle.label_pairing.specs.Stops.{scaled_in};
 ghost use Rattle.label_pairing.specs.declared.scaling.ScaleStop.TheVariants as stops;
 
@@ -58,7 +58,7 @@ impl From<Unfit> for ScaleStop {
 
 // The sum of the entries of a point.
 fn sum(point: &[Frac]) -> Result<Frac, Unfit>
-    ensures { StepsGive (sum_steps point.now) (sum_to (length point.now) (entry_of point.now))
+    ensures { StepsGive (sum_steps point.now) (sum_to (length point.now) (entry_at point.now))
         result }
 {
     let mut sum = Frac::zero();

@@ -1,14 +1,14 @@
 -- The costs of cells, one after another.
-use Rattle.std.proofs.Common.{ℕ, suc, ◌<◌, ◌≡◌, ◌+◌, List, [], ◌∷◌, ◌++◌, All, Result, Ok, Err, length, take, drop, get_or, refl, sym, ap, ◌∙◌, subst, append_assoc, add-one}
+use Rattle.std.proofs.Common.{ℕ, suc, ◌<◌, ◌≡◌, ◌+◌, List, [], ◌∷◌, ◌++◌, All, Result, length, take, drop, get_or, refl, sym, ap, ◌∙◌, subst, append_assoc, add-one}
 use Rattle.std.specs.Prelude.{IfOk, IfErr, OnOk, OnErr}
 use Rattle.std.proofs.Math.Seq.{take-suc}
 use Rattle.std.proofs.lemmas.List.Elements.{All-nil, All-cons, All-append}
 use Rattle.rational.specs.Rational.{ℚ, ◌-ℚ◌, ◌*ℚ◌}
-use Rattle.frac128.specs.Steps.{MulFits, SubFits, unfit, Step, StepFits, IsFirstUnfit, StepsGive}
+use Rattle.frac128.specs.Steps.{MulFits, SubFits, unfit, Step, IsFirstUnfit, StepsGive}
 use Rattle.frac128.specs.declared.steps.Op.TheVariants.{Sub, Mul}
 use Rattle.frac128.specs.FirstUnfit.{StepsFit, IsFirstUnfitOf}
 use Rattle.frac128.proofs.FirstUnfitLemmas.{split_here}
-use Rattle.frac128.proofs.StepRunLemmas.{first_unfit-next, first_unfit-same, one-fits}
+use Rattle.frac128.proofs.StepRunLemmas.{one-fits, subtracted-gives, following-gives}
 use Rattle.sequence_data.specs.declared.types.Cell.{Cell}
 use Rattle.lemke_pivot.specs.FormProblems.{PlayersCell, both_costs, cost_at, cost_steps, steps_at}
 
@@ -16,11 +16,9 @@ use Rattle.lemke_pivot.specs.FormProblems.{PlayersCell, both_costs, cost_at, cos
 pub difference_gives : (most weight payoff part : ℚ) (r : Result ℚ Step) → part ≡ most *ℚ weight → MulFits most weight
     → IfOk r (λ v. v ≡ part -ℚ payoff) → OnOk r (SubFits part payoff) → IfErr r (λ e. e ≡ unfit Sub part payoff) → OnErr r (SubFits part payoff → ⊥)
     → StepsGive (cost_steps most weight payoff) (cost_at most weight payoff) r
-difference_gives most weight payoff part (Ok v) is product value fits step refused =
-    (value ∙ ap (λ p. p -ℚ payoff) is, All-cons StepFits (unfit Mul most weight) (unfit Sub (most *ℚ weight) payoff ∷ []) product (one-fits (unfit Sub (most *ℚ weight) payoff) (subst (λ p. SubFits p payoff) is fits)))
-difference_gives most weight payoff part (Err e) is product value fits step refused =
-    first_unfit-next (unfit Mul most weight) (unfit Sub (most *ℚ weight) payoff ∷ []) e product
-    (first_unfit-same (unfit Sub (most *ℚ weight) payoff) [] e (λ f. refused (subst (λ p. SubFits p payoff) (sym is) f)) (step ∙ ap (λ p. unfit Sub p payoff) is))
+difference_gives most weight payoff part r is product value fits step refused =
+    following-gives (unfit Mul most weight ∷ []) (unfit Sub (most *ℚ weight) payoff ∷ []) (cost_at most weight payoff) r (one-fits (unfit Mul most weight) product)
+    (subst (λ p. StepsGive (unfit Sub p payoff ∷ []) (p -ℚ payoff) r) is (subtracted-gives part payoff r value fits step refused))
 
 -- ---- both players' costs
 both_append : (xs ys : List Cell) → both_costs (xs ++ ys) ≡ both_costs xs ++ both_costs ys

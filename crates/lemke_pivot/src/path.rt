@@ -1,5 +1,5 @@
 // The path over a tableau that is pivoted in place.
-ghost use Rattle.std.specs.Prelude.{◌≡◌, ◌≢◌, ◌+◌, ◌<◌, ◌≤◌, length, IfErr, OnOk};
+ghost use Rattle.std.specs.Prelude.{◌≡◌, ◌+◌, ◌<◌, ◌≤◌, length, IfErr, OnOk};
 ghost use Rattle.game_core.specs.Limits.{most_rows};
 ghost use Rattle.lex_tableau.specs.Rows.{tableau};
 ghost use Rattle.lemke_pivot.specs.ProblemPaths.{complement};

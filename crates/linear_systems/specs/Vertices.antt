@@ -3,6 +3,7 @@
 use Rattle.std.specs.Prelude.{ℕ, suc, ◌+◌, ◌*◌, ◌-◌, ◌^◌, ◌<◌, ◌≡◌, ◌↔◌, min, List, All, Contains, length, get_or}
 use Rattle.std.specs.Int.{bit_at}
 use Rattle.rational.specs.Rational.{ℚ, zero_ℚ}
+use Rattle.rational.specs.Sum.{entry_at}
 use Rattle.linear_systems.specs.Tableau.{Tableau}
 use Rattle.linear_systems.specs.Points.{IsExtremePoint, IsNonzero}
 
@@ -24,7 +25,7 @@ pub record IsMarkOf (n : ℕ) (s : Tableau) (x : ℕ → ℚ) (mark : MarkedPoin
   pub low : IsZeroWord (min n 64) (λ l. x (suc l)) mark.low
   pub high : IsZeroWord (n - 64) (λ l. x (suc (64 + l))) mark.high
   pub size : length mark.point ≡ s.width
-  pub values : (j : ℕ) → j < s.width → get_or mark.point j zero_ℚ ≡ x (s.nonbasic j)
+  pub values : (j : ℕ) → j < s.width → entry_at mark.point j ≡ x (s.nonbasic j)
 
 -- the mask as a number
 abbrev pub mask_of : MarkedPoint → ℕ

@@ -1,7 +1,7 @@
 -- The check of lines has one answer.
-use Rattle.std.proofs.Common.{ℕ, ◌+◌, ◌≡◌, ◌∙◌, List, [], ◌∷◌, ◌++◌, sym}
+use Rattle.std.proofs.Common.{ℕ, ◌+◌, ◌≡◌, List, [], ◌∷◌, ◌++◌}
 use Rattle.answers.specs.Answers.{Answer, IsSingle, ◌>>=◌, only, refused_by, such_that}
-use Rattle.answers.proofs.AnswerLemmas.{bind-single, only-single, refused_by-single, such_that-single}
+use Rattle.answers.proofs.AnswerLemmas.{bind-single, only-single, refused-single, refused_by-single, such_that-single}
 use Rattle.rational.specs.Rational.{ℚ}
 use Rattle.game_core.specs.Table.{GameTable, strategy_counts}
 use Rattle.game_core.specs.Tree.{GameTree, IsGameTree}
@@ -22,7 +22,7 @@ use Rattle.ne_checker.proofs.TableSingleLemmas.{verdict_once}
 use Rattle.ne_checker.specs.LineChecks.{faulty, limited, line_entries, table_judged, table_line, tree_judged, tree_line, unread, TableChecksAreSingle, TreeChecksAreSingle}
 use Rattle.ne_checker.specs.Lines.{lines_answer}
 use Rattle.ne_printer.specs.TextLines.{lines_of}
-use Rattle.ne_checker.specs.Texts.{better_text, equilibrium_text, refused, table_told, tree_told}
+use Rattle.ne_checker.specs.Texts.{better_text, equilibrium_text, table_told, tree_told}
 use Rattle.ne_checker.specs.declared.stops.CheckStop.{CheckStop}
 use Rattle.ne_checker.specs.declared.stops.CheckStop.TheVariants as stops
 
@@ -50,15 +50,11 @@ entries_once : ProfilesAreSingle → (number : ℕ) (sizes line : List ℕ) → 
 entries_once profile_once number sizes line =
     bind-single (refused_by (unread number) (line_in line)) (λ entries. refused_by (faulty number) (profile_in sizes entries)) (refused_by-single (unread number) (line_in line) (line_told line)) (λ entries h. refused_by-single (faulty number) (profile_in sizes entries) (profile_once sizes entries))
 
--- ---- verdicts
-refused_once : (stop : CheckStop) → IsSingle (refused stop)
-refused_once stop one other h k = h ∙ sym k
-
 -- ---- tables
 table_told_once : (number : ℕ) (verdict : TableVerdict) → IsSingle (table_told number verdict)
 table_told_once number table_verdicts.Equilibrium = only-single equilibrium_text
 table_told_once number (table_verdicts.Better player payoff best reply) = only-single (better_text player payoff best (reply ∷ []))
-table_told_once number (table_verdicts.Range step) = refused_once (stops.Range number step)
+table_told_once number (table_verdicts.Range step) = refused-single (stops.Range number step)
 
 table_judged_once : (number : ℕ) (table : GameTable) (entries : List ℚ) → IsSingle (table_judged number table entries)
 table_judged_once number table entries =
@@ -72,7 +68,7 @@ table_checks_once profile_once table text =
 tree_told_once : (number : ℕ) (verdict : TreeVerdict × List ℕ) → IsSingle (tree_told number verdict)
 tree_told_once number (tree_verdicts.Equilibrium, reply) = only-single equilibrium_text
 tree_told_once number (tree_verdicts.Better player payoff best, reply) = only-single (better_text player payoff best reply)
-tree_told_once number (tree_verdicts.Range step, reply) = refused_once (stops.Range number step)
+tree_told_once number (tree_verdicts.Range step, reply) = refused-single (stops.Range number step)
 
 tree_judged_once : TreeVerdictsAreSingle → (number : ℕ) (tree : GameTree) (entries : List ℚ) → IsGameTree tree → AllRecall tree → IsSingle (tree_judged number tree entries)
 tree_judged_once once number tree entries is recall =

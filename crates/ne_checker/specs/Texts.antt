@@ -1,8 +1,8 @@
 -- The texts of verdicts, and what is told of one. Players, strategies and actions count from 1.
-use Rattle.std.specs.Prelude.{ℕ, ◌+◌, ◌≡◌, List, [], ◌∷◌, ◌++◌, codes, Err}
+use Rattle.std.specs.Prelude.{ℕ, ◌+◌, List, [], ◌∷◌, ◌++◌, codes}
 use Rattle.std.specs.Fmt.{decimal}
 use Rattle.std.specs.List.{flat_map}
-use Rattle.answers.specs.Answers.{Answer, only}
+use Rattle.answers.specs.Answers.{Answer, only, refused}
 use Rattle.rational.specs.Rational.{ℚ}
 use Rattle.game_theory.specs.Lines.{number_text}
 use Rattle.ne_checker.specs.declared.stops.CheckStop.{CheckStop}
@@ -32,10 +32,6 @@ better_text player payoff best reply =
     better_start player payoff best ++ flat_map choice_text reply ++ 10 ∷ []
 
 -- ---- what is told of a verdict
--- this reason to stop and nothing else
-abbrev pub refused : CheckStop → Answer CheckStop (List ℕ)
-refused stop answer = answer ≡ Err stop
-
 -- what is told of a verdict on the mixed profile of the line with this number: its text; or the
 -- step that does not fit
 abbrev pub table_told : ℕ → TableVerdict → Answer CheckStop (List ℕ)

@@ -1,6 +1,7 @@
 -- What the check of a behaviour on a tree reads.
-use Rattle.std.specs.Prelude.{ℕ, ◌+◌, ◌<◌, ◌≤◌, ◌≡◌, List, length, map, slice_index, slice_index_or, Some}
-use Rattle.rational.specs.Rational.{ℚ, zero_ℚ}
+use Rattle.std.specs.Prelude.{ℕ, ◌+◌, ◌<◌, ◌≤◌, ◌≡◌, List, length, map, slice_index, Some}
+use Rattle.rational.specs.Rational.{ℚ}
+use Rattle.rational.specs.Sum.{entry_at}
 use Rattle.game_theory.specs.Trees.{Tree, IsTree}
 use Rattle.game_theory.specs.Behaviour.{Behaviour}
 use Rattle.game_theory.specs.Children.{AreChildren}
@@ -32,4 +33,4 @@ abbrev pub Reads : Board → Behaviour → Type 0
 Reads board b =
     (s i a : ℕ) → s < (game_of board).sets → (game_of board).owner s ≡ Some i
     → a < (game_of board).actions s
-    → slice_index_or board.entries.now (slice_index board.starts.now s + a) zero_ℚ ≡ b s a
+    → entry_at board.entries.now (slice_index board.starts.now s + a) ≡ b s a

@@ -1,6 +1,7 @@
 -- A player's side while its sets are decided from the last to the first.
-use Rattle.std.specs.Prelude.{ℕ, suc, ◌<◌, ◌≤◌, ◌≡◌, ◌⊎◌, List, length, map, slice_index, slice_index_or, Some}
-use Rattle.rational.specs.Rational.{ℚ, zero_ℚ}
+use Rattle.std.specs.Prelude.{ℕ, suc, ◌<◌, ◌≤◌, ◌≡◌, ◌⊎◌, List, length, map, slice_index, Some}
+use Rattle.rational.specs.Rational.{ℚ}
+use Rattle.rational.specs.Sum.{entry_at}
 use Rattle.game_theory.specs.Trees.{Tree, IsTree, IsWithin}
 use Rattle.game_theory.specs.Behaviour.{Behaviour}
 use Rattle.game_theory.specs.Children.{AreChildren}
@@ -47,12 +48,12 @@ pub record AreDecided (t : Tree) (b : Behaviour) (i : ℕ) (choice : ℕ → ℕ
     (choices : List ℕ) (values : List ℚ) (first n : ℕ) : Type 0 where
   pub best : AreBestChoices t b i choice
   pub ascend : AscendOnPaths t i
-  pub weights_are : (k : ℕ) → k < t.size → slice_index_or weights k zero_ℚ ≡ weight t b i k
+  pub weights_are : (k : ℕ) → k < t.size → entry_at weights k ≡ weight t b i k
   pub choices_are : (s : ℕ) → first ≤ s → s < t.sets → t.owner s ≡ Some i
       → slice_index choices s ≡ choice s
   pub values_are : (c s : ℕ) → 0 < c → c < t.size → t.set (t.parent c) ≡ Some s → t.owner s ≡ Some i
       → IsComputed first n s (t.branch c)
-      → slice_index_or values c zero_ℚ ≡ reply_value t b i choice c
+      → entry_at values c ≡ reply_value t b i choice c
 
 -- the choices at player i's own sets are these
 abbrev pub AreChosen : Tree → ℕ → (ℕ → ℕ) → List ℕ → Type 0

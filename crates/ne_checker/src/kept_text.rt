@@ -1,5 +1,5 @@
 // The text that is written.
-ghost use Rattle.std.specs.Prelude.{◌≡◌, ℕ, List, ◌++◌, OnOk};
+ghost use Rattle.std.specs.Prelude.{ℕ, List, ◌++◌, OnOk};
 ghost use Rattle.answers.specs.Answers.{Gives, map_ok};
 ghost use Rattle.ne_checker.specs.LineChecks.{limited};
 ghost use Rattle.ne_checker.specs.Lines.{IsEnoughOf};

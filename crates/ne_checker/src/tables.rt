@@ -1,27 +1,6 @@
 // Whether a mixed profile of a table is an equilibrium.
-ghost use Rattle.std.specs.Prelude.{
-  ◌≡◌,
-  ◌+◌,
-  ◌*◌,
-  ◌<◌,
-  ◌≤◌,
-  ◌↔◌,
-  ℕ,
-  ◌++◌,
-  All,
-  length,
-  sum,
-  slice_index,
-  take,
-  IfOk,
-  IfErr,
-  IsTrue,
-  MatchResult,
-  MatchOption,
-  OnOk,
-};
-ghost use Rattle.std.specs.List.{flat_map, range_with_len};
-ghost use Rattle.rational.specs.Rational.{◌+ℚ◌, ◌*ℚ◌, ◌<ℚ◌, one_ℚ};
+ghost use Rattle.std.specs.Prelude.{◌≡◌, ◌+◌, ◌*◌, ◌<◌, ◌≤◌, ℕ, All, length, sum, slice_index, take, IfOk, IfErr, OnOk};
+ghost use Rattle.rational.specs.Rational.{◌+ℚ◌, ◌*ℚ◌};
 ghost use Rattle.game_theory.specs.Mixed.{payoff as payoff_of};
 ghost use Rattle.game_theory.specs.Profiles.{profile_at, profile_count};
 ghost use Rattle.game_core.specs.Table.{IsTable, game_of, strategy_counts};

@@ -1,19 +1,5 @@
 // The check of one player.
-ghost use Rattle.std.specs.Prelude.{
-  ◌≡◌,
-  ◌<◌,
-  ◌≤◌,
-  ◌↔◌,
-  ℕ,
-  IsTrue,
-  All,
-  MatchResult,
-  length,
-  map,
-  slice_index,
-  take,
-};
-ghost use Rattle.rational.specs.Rational.{◌<ℚ◌};
+ghost use Rattle.std.specs.Prelude.{◌≡◌, ◌<◌, ◌≤◌, ℕ, All, MatchResult, length, map, slice_index, take};
 ghost use Rattle.game_theory.specs.Behaviour.{Behaviour, payoff};
 ghost use Rattle.game_theory.specs.OwnSets.{own_sets};
 ghost use Rattle.game_core.specs.TreeGame.{game_of_tree};

@@ -1,11 +1,11 @@
 // Inputs in memory.
-ghost use Rattle.std.specs.Prelude.{◌≡◌, ◌↔◌, ◌⊎◌, ◌+◌, ◌<◌, ◌^◌, ℕ, [], List, Option, length, map, min, take, drop, ◌++◌, Some, None, Ok, IsTrue, IsErr, IsSome, IfOk, OnOk, OnErr, Contains, is_some, option_map, string_bytes};
+ghost use Rattle.std.specs.Prelude.{◌≡◌, ◌↔◌, ◌⊎◌, ◌+◌, ◌<◌, ◌^◌, [], length, map, min, take, drop, ◌++◌, Some, None, Ok, IsTrue, IsErr, IsSome, IfOk, OnOk, OnErr, Contains, option_map, string_bytes};
 ghost use Rattle.std.specs.Option.{option_copied};
 ghost use Rattle.std.specs.Io.{ReadsAtMost};
-ghost use Rattle.std.specs.Io.KnownBytes.{ReadConsumes, IsAtEnd};
+ghost use Rattle.std.specs.Io.KnownBytes.{ReadConsumes};
 ghost use Rattle.outside.specs.Counts.{Counts, next_count};
 ghost use Rattle.outside.specs.Inputs.{InputName};
-ghost use Rattle.outside.specs.MemInputs.{first_named, bytes_held, selected_bytes, bytes_left, bytes_left-idle};
+ghost use Rattle.outside.specs.MemInputs.{first_named, bytes_held, bytes_left, bytes_left-idle};
 
 use crate::inputs::{Inputs, OpenFailed, ReadFailed};
 use std::marker::Model;

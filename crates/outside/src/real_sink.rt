@@ -1,8 +1,7 @@
 // A sink over a writer.
-ghost use Rattle.std.specs.Prelude.{◌≡◌, ◌<◌, ◌≤◌, false, true, length, take, None, IfOk, IfSome, OnOk, OnErr, IfNone, MatchResult, MatchOption};
+ghost use Rattle.std.specs.Prelude.{◌≡◌, ◌<◌, ◌≤◌, false, true, length, take, None, IfOk, IfSome, OnOk, OnErr, MatchResult, MatchOption};
 ghost use Rattle.std.specs.Io.KnownBytes.{Appends, Keeps};
 ghost use Rattle.outside.specs.Counts.{Counts, next_count};
-ghost use Rattle.outside.specs.Sink.{Takes};
 
 use crate::sink::{Sink, WriteFailed};
 use crate::tries::MOST_TRIES;

@@ -1,5 +1,5 @@
 // What takes bytes.
-ghost use Rattle.std.specs.Prelude.{◌≡◌, ◌<◌, ◌≤◌, ℕ, Bool, true, false, List, Option, length, take, IfOk, OnOk, OnErr, MatchResult};
+ghost use Rattle.std.specs.Prelude.{◌≡◌, ◌<◌, ◌≤◌, true, false, length, take, IfOk, OnOk, OnErr, MatchResult};
 ghost use Rattle.outside.specs.Counts.{Counts};
 ghost use Rattle.outside.specs.Sink.{SinkSeen, Takes};
 

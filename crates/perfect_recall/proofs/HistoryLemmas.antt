@@ -11,7 +11,8 @@ use Rattle.game_theory.specs.Recall.{own_history, HasPerfectRecall}
 use Rattle.reduced_strategies.proofs.HistoryLemmas.{along_paths}
 use Rattle.sequence_forms.specs.Sequences.{last_edge}
 use Rattle.sequence_forms.proofs.SequenceLemmas.{history-own, history-other, last_edge-append, history_before-is}
-use Rattle.perfect_recall.specs.LastEdges.{Chooses, AreLastEdges}
+use Rattle.perfect_recall.specs.LastEdges.{AreLastEdges}
+use Rattle.game_theory.specs.OwnSets.{Chooses}
 use Rattle.perfect_recall.specs.Members.{edge_of, HaveSameEdge, IsOtherMember}
 use Rattle.perfect_recall.specs.Found.{IsAlike, EarlierAreAlike, IsFirstNode, IsFirstOther, edge_before}
 use Rattle.perfect_recall.proofs.MemberLemmas.{AreMembers}

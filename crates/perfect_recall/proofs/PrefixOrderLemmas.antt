@@ -2,7 +2,7 @@
 use Rattle.std.proofs.Common.{◌≡◌, ◌<◌, ◌+◌, ◌-◌, ◌∙◌, sym, ap, subst, refl, ℕ, zero, suc, Some, None, List, [], ◌∷◌, ◌++◌, length, map, get_or, arith}
 use Rattle.game_theory.specs.Trees.{Tree, IsAbove, IsWithin}
 use Rattle.game_core.specs.declared.tree.Node.{Node}
-use Rattle.game_core.specs.Tree.{GameTree, IsGameTree, InformationSet, OpenBranch, AreInPrefixOrder, action_count, branches_from}
+use Rattle.game_core.specs.Tree.{GameTree, IsGameTree, InformationSet, OpenBranch, AreInPrefixOrder, action_count, branches_after}
 use Rattle.game_core.specs.TreeGame.{game_of_tree, or_zero}
 
 -- Free places after node m: the first is one of a node on the path to m, and each further one of a node on the path to the node of
@@ -17,7 +17,7 @@ above-child t m k [] later is h = tt
 above-child t m k (place ∷ free) later is h = (h.0, h.1, (suc h.2.0, (later, subst (IsAbove t h.2.0 h.0) (sym is) h.2.1)), h.3)
 
 -- and after places of the node's own
-above-own : (t : Tree) (k a n : ℕ) (free : List OpenBranch) → AreAbove t k free → AreAbove t k (branches_from k a n ++ free)
+above-own : (t : Tree) (k a n : ℕ) (free : List OpenBranch) → AreAbove t k free → AreAbove t k (branches_after (Some k) a n ++ free)
 above-own t k a zero free h = h
 above-own t k a (suc n) free h = (k, refl, (0, refl), above-own t k (suc a) n free h)
 

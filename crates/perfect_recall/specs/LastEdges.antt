@@ -1,13 +1,9 @@
 -- The players' last own edges on the paths of a tree, while they are computed.
-use Rattle.std.specs.Prelude.{ℕ, ◌<◌, ◌≡◌, List, length, slice_index_or, Option, Some, None}
+use Rattle.std.specs.Prelude.{ℕ, ◌<◌, ◌≡◌, List, length, slice_index_or, Option, None}
 use Rattle.game_theory.specs.Trees.{Tree}
 use Rattle.game_theory.specs.Recall.{own_history}
 use Rattle.sequence_forms.specs.Sequences.{last_edge}
-
--- player i chooses at node k, which is in set s
-pub record Chooses (t : Tree) (k i s : ℕ) : Type 0 where
-  pub at_set : t.set k ≡ Some s
-  pub own : t.owner s ≡ Some i
+use Rattle.game_theory.specs.OwnSets.{Chooses}
 
 -- no player chooses at node k
 abbrev pub NobodyChooses : Tree → ℕ → Type 0

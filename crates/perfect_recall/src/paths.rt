@@ -2,7 +2,8 @@
 ghost use Rattle.std.specs.Prelude.{◌≡◌, ◌<◌, None, Some, length, IfOk, MatchOption};
 ghost use Rattle.game_theory.specs.Trees.{IsWithin};
 ghost use Rattle.game_core.specs.TreeGame.{game_of_tree};
-ghost use Rattle.perfect_recall.specs.LastEdges.{AreLast, AreLastEdges, Chooses, IsEdgeBefore, NobodyChooses};
+ghost use Rattle.perfect_recall.specs.LastEdges.{AreLast, AreLastEdges, IsEdgeBefore, NobodyChooses};
+ghost use Rattle.game_theory.specs.OwnSets.{Chooses};
 
 use answers::Memory;
 use game_core::Tree;

@@ -5,7 +5,7 @@ use Rattle.rational.specs.Gcd.{gcd}
 use Rattle.rational.specs.Rational.{ℚ, frac, ◌+ℚ◌, ◌*ℚ◌, neg_ℚ, inv_ℚ, zero_ℚ, one_ℚ, ◌≤ℚ◌, ◌<ℚ◌}
 use Rattle.rational.specs.Extremes.{IsGreatest, IsLeast}
 use Rattle.rational.specs.Midpoint.{midpoint}
-use Rattle.rational.specs.Sum.{sum_to}
+use Rattle.rational.specs.Sum.{sum_to, IsWeights}
 use Rattle.rational.specs.Tests.{le_test, lt_test, eq_test}
 
 -- What `gcd` gives divides both numbers, and each common divisor divides it.
@@ -80,11 +80,6 @@ pub record SumsAddUp : Type 0 where
   pub append : (m n : ℕ) (f : ℕ → ℚ) → sum_to (m + n) f ≡ sum_to m f +ℚ sum_to n (λ i. f (m + i))
   pub at_most : (n : ℕ) (f g : ℕ → ℚ) → ((i : ℕ) → i < n → f i ≤ℚ g i) → sum_to n f ≤ℚ sum_to n g
   pub each_zero : (n : ℕ) (f : ℕ → ℚ) → ((i : ℕ) → i < n → zero_ℚ ≤ℚ f i) → sum_to n f ≡ zero_ℚ → (i : ℕ) → i < n → f i ≡ zero_ℚ
-
--- x gives weights that are not negative and sum to 1, below n
-pub record IsWeights (n : ℕ) (x : ℕ → ℚ) : Type 0 where
-  pub nonneg : (i : ℕ) → i < n → zero_ℚ ≤ℚ x i
-  pub total : sum_to n x ≡ one_ℚ
 
 -- A mean of values is at most the greatest, and reaches it exactly where it weighs greatest values alone.
 pub record MeansStayBelow : Type 0 where

@@ -7,9 +7,9 @@ use Rattle.std.proofs.Math.Nat.{mod-add-div, mul_comm}
 use native.Mathlib.Nat as N
 use Rattle.lists.proofs.NumberLemmas.{below_two, positive_factor}
 use Rattle.rational.specs.Rational.{ℚ, zero_ℚ}
-use Rattle.game_theory.specs.Profiles.{Game, number_of, profile_at}
+use Rattle.game_theory.specs.Profiles.{Game, number_of, profile_at, strategies_at}
 use Rattle.game_theory.proofs.ProfileNumberLemmas.{profile_at-number_of}
-use Rattle.extreme_equilibria.specs.KeptTable.{kept_table, strategies_at}
+use Rattle.extreme_equilibria.specs.KeptTable.{kept_table}
 
 -- the payoffs of one more profile
 pub cells-next : (u : ℕ → ℕ → ℚ) (n : ℕ) (xs new : List ℚ) (a b : ℚ) → length xs ≡ n * 2 → ((i k : ℕ) → i < 2 → k < n → get_or xs (k * 2 + i) zero_ℚ ≡ u i k)

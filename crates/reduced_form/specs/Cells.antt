@@ -1,6 +1,7 @@
 -- The payoffs of a reduced form as they are computed, profile after profile and in each player after player.
-use Rattle.std.specs.Prelude.{ℕ, ◌+◌, ◌*◌, ◌<◌, ◌≡◌, List, length, map, slice_index_or, All}
-use Rattle.rational.specs.Rational.{ℚ, zero_ℚ}
+use Rattle.std.specs.Prelude.{ℕ, ◌+◌, ◌*◌, ◌<◌, ◌≡◌, List, length, map, All}
+use Rattle.rational.specs.Rational.{ℚ}
+use Rattle.rational.specs.Sum.{entry_at}
 use Rattle.game_theory.specs.Profiles.{profile_at}
 use Rattle.game_theory.specs.Trees.{Tree}
 use Rattle.game_theory.specs.Behaviour.{payoff, pure}
@@ -20,4 +21,4 @@ pub record IsCell (t : Tree) (strategies : List (List (List ℕ))) (k i : ℕ) (
 -- the payoffs so far are those of the first cells
 abbrev pub AreCells : Tree → List (List (List ℕ)) → List ℚ → Type 0
 AreCells t strategies payoffs =
-    (k i : ℕ) → i < t.players → k * t.players + i < length payoffs → IsCell t strategies k i (slice_index_or payoffs (k * t.players + i) zero_ℚ)
+    (k i : ℕ) → i < t.players → k * t.players + i < length payoffs → IsCell t strategies k i (entry_at payoffs (k * t.players + i))

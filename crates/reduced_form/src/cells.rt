@@ -1,5 +1,5 @@
 // The payoffs of a reduced form.
-ghost use Rattle.std.specs.Prelude.{◌≡◌, ◌<◌, ◌≤◌, ◌*◌, ◌+◌, suc, length, map, Err, IfOk, IfErr, OnOk, All};
+ghost use Rattle.std.specs.Prelude.{◌≡◌, ◌<◌, ◌≤◌, ◌*◌, suc, length, map, Err, IfOk, IfErr, OnOk};
 ghost use Rattle.answers.specs.Answers.{Gives, map_ok};
 ghost use Rattle.game_theory.specs.Profiles.{profile_count, profile_at};
 ghost use Rattle.game_core.specs.Table.{most_payoffs};

@@ -1,7 +1,7 @@
 // The kept strategies of a table of two players, and the table over them.
-ghost use Rattle.std.specs.Prelude.{◌≡◌, ◌+◌, ◌*◌, ◌<◌, ◌≤◌, ℕ, [], ◌∷◌, All, IfOk, length, map, get_or, slice_index, slice_index_or, sum};
+ghost use Rattle.std.specs.Prelude.{◌≡◌, ◌+◌, ◌*◌, ◌<◌, ◌≤◌, ℕ, [], ◌∷◌, All, IfOk, length, map, get_or, slice_index, sum};
 ghost use Rattle.answers.specs.Answers.{Gives, IsSingle};
-ghost use Rattle.rational.specs.Rational.{zero_ℚ};
+ghost use Rattle.rational.specs.Sum.{entry_at};
 ghost use Rattle.extreme_equilibria.specs.KeptTable.{AreKeptLists, kept_table};
 ghost use Rattle.game_core.specs.Table.{GameTable, IsTable, game_of, strategy_counts};
 ghost use Rattle.reduced_form.specs.declared.kept_stop.KeptStop.TheVariants as stops;
@@ -91,7 +91,7 @@ fn payoffs_at(
         (λ payoffs. length payoffs.items ≡ length first.now * length second.now * 2) }
     ensures cells { IfOk result (λ payoffs. (i k : ℕ) → i < 2
         → k < length first.now * length second.now
-        → slice_index_or payoffs.items (k * 2 + i) zero_ℚ
+        → entry_at payoffs.items (k * 2 + i)
         ≡ (kept_table (game_of table.now) (first.now ∷ second.now ∷ [])).pays i k) }
 {
     let profiles = first.len() * second.len();

@@ -1,5 +1,5 @@
 // The sizes of a reduced form, counted before it is built.
-ghost use Rattle.std.specs.Prelude.{◌≡◌, ◌<◌, ◌≤◌, ◌*◌, ◌+◌, ◌^◌, length, map, Err, IfOk, IfErr, OnOk};
+ghost use Rattle.std.specs.Prelude.{◌≡◌, ◌<◌, ◌≤◌, ◌*◌, length, Err, IfOk, IfErr, OnOk};
 ghost use Rattle.answers.specs.Answers.{Gives};
 ghost use Rattle.game_theory.specs.Profiles.{profile_count};
 ghost use Rattle.game_core.specs.Table.{most_payoffs};

@@ -1,8 +1,9 @@
 -- Systems of slacks whose cells stand in a list, and the shifted payoffs that are their cells.
-use Rattle.std.specs.Prelude.{ℕ, ◌+◌, ◌*◌, ◌^◌, ◌<◌, ◌≤◌, ◌⊎◌, List, map, slice_index_or}
+use Rattle.std.specs.Prelude.{ℕ, ◌+◌, ◌*◌, ◌^◌, ◌<◌, ◌≤◌, ◌⊎◌, List, map}
 use Rattle.std.specs.List.{range_with_len}
 use Rattle.answers.specs.Answers.{Answer, ◌>>=◌, only}
-use Rattle.rational.specs.Rational.{ℚ, ◌+ℚ◌, zero_ℚ, one_ℚ}
+use Rattle.rational.specs.Rational.{ℚ, ◌+ℚ◌, one_ℚ}
+use Rattle.rational.specs.Sum.{entry_at}
 use Rattle.linear_systems.specs.Tableau.{Tableau}
 use Rattle.game_theory.specs.Profiles.{Game, profile_count}
 use Rattle.extreme_equilibria.specs.Bimatrix.{shift_of}
@@ -13,7 +14,7 @@ use Rattle.reply_polytope.specs.declared.systems.Shape.{Shape}
 -- the number of row i and column j in a list, where rows and columns stand so far apart
 abbrev pub cell_in : List ℚ → ℕ → ℕ → ℕ → ℕ → ℚ
 cell_in numbers row_stride column_stride i j =
-    slice_index_or numbers (i * row_stride + j * column_stride) zero_ℚ
+    entry_at numbers (i * row_stride + j * column_stride)
 
 -- the system of a shape: variables from first ones on, cells from the list, right sides 1
 abbrev pub slack_system : List ℚ → Shape → Tableau

@@ -1,6 +1,7 @@
 -- Numbers of cells as a matrix, row by row.
-use Rattle.std.specs.Prelude.{ℕ, ◌<◌, ◌≡◌, ◌+◌, ◌*◌, List, [], ◌∷◌, get_or}
-use Rattle.rational.specs.Rational.{ℚ, zero_ℚ}
+use Rattle.std.specs.Prelude.{ℕ, ◌<◌, ◌≡◌, ◌+◌, ◌*◌, List, [], ◌∷◌}
+use Rattle.rational.specs.Rational.{ℚ}
+use Rattle.rational.specs.Sum.{entry_at}
 use Rattle.sequence_forms.specs.Lists.{Entry, listed_at}
 use Rattle.sequence_forms.specs.Sides.{sequences}
 use Rattle.sequence_data.specs.Data.{SideData, side_of}
@@ -8,7 +9,7 @@ use Rattle.sequence_data.specs.declared.types.Cell.{Cell}
 
 -- the number at row r and column q of a list that has, row by row, so many numbers in each
 abbrev pub number_at : List ℚ → ℕ → ℕ → ℕ → ℚ
-number_at numbers columns r q = get_or numbers (r * columns + q) zero_ℚ
+number_at numbers columns r q = entry_at numbers (r * columns + q)
 
 -- how many numbers a matrix of two sides has: one for each pair of their sequences
 abbrev pub matrix_size : SideData → SideData → ℕ

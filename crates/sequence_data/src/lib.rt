@@ -5,8 +5,8 @@
 //! the first step that does not fit; `gains_are_not_negative` and `costs_are_not_negative`; `set_at`
 //! and `set_entry` give a set's row and its entries, and `dense` the matrix of the numbers of cells.
 //! Definitions: `specs::Data` says what each form keeps and which sequence form it stands for,
-//! `Cells` what the cells are, `Steps` whether the steps of leaves fit, `Weights` a plan as a
-//! list, `Matrices` numbers of cells as a matrix; `sequence_forms` has the rows of plans.
+//! `Cells` what the cells are, `Steps` whether the steps of leaves fit, `Matrices` numbers of cells
+//! as a matrix; `sequence_forms` has the rows of plans.
 //! Private words: `specs::Gathered`, cells while they are summed up.
 //! Lemmas for callers: `proofs::GainLemmas` on gains and costs, `CellSumLemmas` and `OrderLemmas`
 //! on cells, `StepStageLemmas` on steps, `OneFormLemmas`, that there is one form over leaves.

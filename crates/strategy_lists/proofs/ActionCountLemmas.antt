@@ -8,13 +8,13 @@ use Rattle.std.proofs.lemmas.Option.{none-some, slice_get_within, slice_get-get_
 use Rattle.game_theory.proofs.OwnSetLemmas.{is_index-decides}
 use Rattle.game_core.specs.declared.tree.Node.{Node}
 use Rattle.game_theory.specs.Behaviour.{is_index}
-use Rattle.game_core.specs.Tree.{GameTree, IsGameTree, InformationSet, OpenBranch, AreInPrefixOrder, action_count, branches_from, members_from, own_sets}
+use Rattle.game_core.specs.Tree.{GameTree, IsGameTree, InformationSet, OpenBranch, AreInPrefixOrder, action_count, branches_after, members_from, own_sets}
 use Rattle.game_core.specs.TreeGame.{game_of_tree}
 use Rattle.strategy_lists.proofs.OwnNumberLemmas.{own_from-own_sets, own_sets-numbers, own_numbers-length}
 use Rattle.strategy_lists.proofs.WalkStrategyLemmas.{own_set-tell}
 
 -- a node has a place for each action
-length-places : (node a n : ℕ) → length (branches_from node a n) ≡ n
+length-places : (node a n : ℕ) → length (branches_after (Some node) a n) ≡ n
 length-places node a zero = refl
 length-places node a (suc n) = ap suc (length-places node (suc a) n)
 
@@ -23,21 +23,21 @@ places-taken : (sets : List InformationSet) (k : ℕ) (nodes : List Node) (free 
 places-taken sets k [] free h = omega (arith, ap length h)
 places-taken sets k (node ∷ nodes) [] h = absurd h
 places-taken sets k (node ∷ nodes) (place ∷ free) h =
-    let later = places-taken sets (suc k) nodes (branches_from k 0 (action_count sets node.set) ++ free) h.1 in
-    omega (arith, length-append (branches_from k 0 (action_count sets node.set)) free)
+    let later = places-taken sets (suc k) nodes (branches_after (Some k) 0 (action_count sets node.set) ++ free) h.1 in
+    omega (arith, length-append (branches_after (Some k) 0 (action_count sets node.set)) free)
 
 -- a set with a node has fewer actions than there are nodes
 actions-few : (sets : List InformationSet) (k m s : ℕ) (nodes : List Node) (free : List OpenBranch) → AreInPrefixOrder sets k nodes free [] → 0 < length (members_from m s nodes) → action_count sets (Some s) < length nodes
 actions-few sets k m s [] free h some = absurd (omega arith)
 actions-few sets k m s (node ∷ nodes) [] h some = absurd h
 actions-few sets k m s (node ∷ nodes) (place ∷ free) h some =
-    go (is_index node.set s) (is_index-decides node.set s) (actions-few sets (suc k) (suc m) s nodes (branches_from k 0 (action_count sets node.set) ++ free) h.1) some
+    go (is_index node.set s) (is_index-decides node.set s) (actions-few sets (suc k) (suc m) s nodes (branches_after (Some k) 0 (action_count sets node.set) ++ free) h.1) some
   where
     go : (b : Bool) → Decides b (node.set ≡ Some s) → (0 < length (members_from (suc m) s nodes) → action_count sets (Some s) < length nodes) → 0 < length (if b then m ∷ members_from (suc m) s nodes else members_from (suc m) s nodes) → action_count sets (Some s) < suc (length nodes)
     go true d later some =
-        let taken = places-taken sets (suc k) nodes (branches_from k 0 (action_count sets node.set) ++ free) h.1 in
+        let taken = places-taken sets (suc k) nodes (branches_after (Some k) 0 (action_count sets node.set) ++ free) h.1 in
         let same : action_count sets node.set ≡ action_count sets (Some s) = ap (action_count sets) (d.0 refl) in
-        omega (arith, length-append (branches_from k 0 (action_count sets node.set)) free, length-places k 0 (action_count sets node.set))
+        omega (arith, length-append (branches_after (Some k) 0 (action_count sets node.set)) free, length-places k 0 (action_count sets node.set))
     go false d later some = let few = later some in omega arith
 
 -- the number of a set's actions is that of the game

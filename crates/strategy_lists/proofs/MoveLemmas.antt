@@ -10,7 +10,8 @@ use Rattle.game_core.specs.declared.tree.Node.{Node}
 use Rattle.game_core.specs.Tree.{GameTree, IsGameTree as is_game, kind_at, kind_of_owner}
 use Rattle.game_core.specs.TreeGame.{game_of_tree}
 use Rattle.reduced_strategies.proofs.HistoryLemmas.{own_history-step}
-use Rattle.strategy_lists.specs.Made.{mover_of, owner_of, mover, IsMove, IsLastMove}
+use Rattle.strategy_lists.specs.Made.{mover_of, owner_of, mover, IsLastMove}
+use Rattle.game_theory.specs.OwnSets.{Chooses}
 
 -- who chooses at an owner's set is that owner
 mover-owner : (o : Option ℕ) → mover_of (kind_of_owner o) ≡ o
@@ -35,19 +36,19 @@ module _ (t : GameTree) (k : ℕ) (past : Node) (below : k < length t.nodes) whe
   branch-at = get_or-map (λ node. node.branch) t.nodes k past 0 below
 
 -- a player who moves at a node owns its set
-pub move_at : (t : Tree) (i k : ℕ) → mover t k ≡ Some i → (s : ℕ) × IsMove t i k s
+pub move_at : (t : Tree) (i k : ℕ) → mover t k ≡ Some i → (s : ℕ) × Chooses t k i s
 move_at t i k is = go (t.set k) refl is
   where
-    go : (set : Option ℕ) → t.set k ≡ set → owner_of t set ≡ Some i → (s : ℕ) × IsMove t i k s
+    go : (set : Option ℕ) → t.set k ≡ set → owner_of t set ≡ Some i → (s : ℕ) × Chooses t k i s
     go None at own = absurd (none-some i own)
     go (Some s) at own = (s, record { at_set = at; own = own })
 
 -- the owner of a node's set moves there
-pub mover-move : (t : Tree) (i k s : ℕ) → IsMove t i k s → mover t k ≡ Some i
+pub mover-move : (t : Tree) (i k s : ℕ) → Chooses t k i s → mover t k ≡ Some i
 mover-move t i k s h = ap (owner_of t) h.at_set ∙ h.own
 
 -- the edge from a node at which the player moves
-edge-own : (t : Tree) (i k s a : ℕ) → IsMove t i k s → own_edge t i (t.set k) a ≡ (s, a) ∷ []
+edge-own : (t : Tree) (i k s a : ℕ) → Chooses t k i s → own_edge t i (t.set k) a ≡ (s, a) ∷ []
 edge-own t i k s a h = rw (h.at_set, (is_own-decides t i s).1 h.own) refl
 
 -- the edge from another node

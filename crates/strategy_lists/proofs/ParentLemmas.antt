@@ -5,7 +5,7 @@ use Rattle.std.proofs.lemmas.List.{get_or-map}
 use Rattle.std.proofs.lemmas.Option.{MatchOption-at_none, MatchOption-at_some}
 use Rattle.game_theory.specs.Trees.{IsTree}
 use Rattle.game_core.specs.declared.tree.Node.{Node}
-use Rattle.game_core.specs.Tree.{GameTree, IsGameTree as is_game, InformationSet, OpenBranch, AreInPrefixOrder, action_count, branches_from}
+use Rattle.game_core.specs.Tree.{GameTree, IsGameTree as is_game, InformationSet, OpenBranch, AreInPrefixOrder, action_count, branches_after}
 use Rattle.game_core.specs.TreeGame.{game_of_tree, or_zero}
 
 -- places at nodes
@@ -14,7 +14,7 @@ AreAtNodes [] = Unit {0}
 AreAtNodes (place ∷ places) = IsSome place.0 × AreAtNodes places
 
 -- the places of a node's actions are at a node
-AreAtNodes-more : (node a n : ℕ) (free : List OpenBranch) → AreAtNodes free → AreAtNodes (branches_from node a n ++ free)
+AreAtNodes-more : (node a n : ℕ) (free : List OpenBranch) → AreAtNodes free → AreAtNodes (branches_after (Some node) a n ++ free)
 AreAtNodes-more node a zero free h = h
 AreAtNodes-more node a (suc n) free h = (refl, AreAtNodes-more node (suc a) n free h)
 

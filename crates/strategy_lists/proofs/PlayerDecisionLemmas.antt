@@ -5,15 +5,15 @@ use Rattle.std.proofs.lemmas.Bool.{cases_lt, cases_eq}
 use Rattle.std.proofs.lemmas.List.{length-map, length-set, length_push, get_or-set_same, get_or-set_other, get_or_append_left, get_or_push}
 use Rattle.std.proofs.lemmas.List.Elements.{All-map}
 use Rattle.std.proofs.lemmas.Option.{none-some, same_Some, slice_get_within, slice_get-get_or, slice_get-map, slice_get_read, get_or_from_slice_get}
-use Rattle.game_theory.specs.OwnSets.{own_sets}
+use Rattle.game_theory.specs.OwnSets.{own_sets, own_counts, Chooses}
 use Rattle.lists.proofs.ElementLemmas.{element}
 use Rattle.game_theory.specs.Trees.{Tree, IsTree}
 use Rattle.game_theory.specs.Recall.{own_history}
 use Rattle.choice_lists.specs.declared.decision.Decision.{Decision}
 use Rattle.choice_lists.specs.declared.decision.Edge.{Edge}
 use Rattle.choice_lists.specs.Walks.{AreLinked, ComesFrom}
-use Rattle.strategy_lists.specs.Decisions.{own_counts, history_by, IsDecisionAt, AreDecisions, AreDecisionsOfAll}
-use Rattle.strategy_lists.specs.Made.{mover, IsMove, IsEdgeTo, LeadsTo, IsMadeAt, HasTaken}
+use Rattle.strategy_lists.specs.Decisions.{history_by, IsDecisionAt, AreDecisions, AreDecisionsOfAll}
+use Rattle.strategy_lists.specs.Made.{mover, IsEdgeTo, LeadsTo, IsMadeAt, HasTaken}
 use Rattle.strategy_lists.proofs.OwnNumberLemmas.{slice_get-push, slice_get-push_cases}
 use Rattle.strategy_lists.proofs.MoveLemmas.{mover-move, mover-within}
 use Rattle.strategy_lists.proofs.WalkStrategyLemmas.{own_set-place, own_set-tell}
@@ -251,7 +251,7 @@ AreMadeByAll-nobody t n numbers number latest lists nobody h = record {
 }
 
 -- a node at which a player moves, whose list takes the decision
-module _ {V : Type 0} (items : V → List Decision) (t : Tree) (n player s : ℕ) (numbers : List ℕ) (latest : List (Option ℕ)) (lists : List V) (valid : IsTree t) (h : AreMadeByAll t n numbers latest (map items lists)) (below : n < t.size) (move : IsMove t player n s) where
+module _ {V : Type 0} (items : V → List Decision) (t : Tree) (n player s : ℕ) (numbers : List ℕ) (latest : List (Option ℕ)) (lists : List V) (valid : IsTree t) (h : AreMadeByAll t n numbers latest (map items lists)) (below : n < t.size) (move : Chooses t n player s) where
   -- the player has a list
   pub player-inside : player < length lists
   player-inside =

@@ -4,7 +4,7 @@ use Rattle.std.proofs.lemmas.Bool.{cases_lt}
 use Rattle.std.proofs.lemmas.List.{length-map, get_or-map}
 use Rattle.std.proofs.lemmas.List.Elements.{All-weaker}
 use Rattle.std.proofs.lemmas.Option.{none-some, same_Some, slice_get_within, slice_get-get_or, get_or_from_slice_get}
-use Rattle.game_theory.specs.OwnSets.{own_sets}
+use Rattle.game_theory.specs.OwnSets.{own_sets, own_counts}
 use Rattle.game_theory.proofs.OwnSetLemmas.{own_sets-tell}
 use Rattle.lists.proofs.ElementLemmas.{element, all_at}
 use Rattle.game_theory.specs.Trees.{Tree}
@@ -15,7 +15,7 @@ use Rattle.reduced_strategies.proofs.HistoryLemmas.{Agrees-append}
 use Rattle.choice_lists.specs.declared.decision.Decision.{Decision}
 use Rattle.choice_lists.specs.declared.decision.Edge.{Edge}
 use Rattle.choice_lists.specs.Walks.{ComesFrom, IsLedTo, IsReachedWithin, IsPlaceReached, IsWalk, AreWalks}
-use Rattle.strategy_lists.specs.Decisions.{own_counts, history_by, IsDecisionAt, AreDecisions}
+use Rattle.strategy_lists.specs.Decisions.{history_by, IsDecisionAt, AreDecisions}
 use Rattle.strategy_lists.specs.OwnNumbers.{own_numbers}
 use Rattle.strategy_lists.proofs.OwnNumberLemmas.{own_sets-numbers, own_numbers-at, own_numbers-tell, own_numbers-place}
 

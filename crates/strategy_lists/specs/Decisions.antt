@@ -1,16 +1,12 @@
 -- A player's decisions on a game tree, each after those before it. Nodes of one set with the same own history can share one.
-use Rattle.std.specs.Prelude.{ℕ, ◌<◌, ◌≡◌, List, [], ◌∷◌, ◌++◌, length, map, slice_index, slice_get, Option, Some, None}
-use Rattle.game_theory.specs.OwnSets.{own_sets}
+use Rattle.std.specs.Prelude.{ℕ, ◌<◌, ◌≡◌, List, [], ◌∷◌, ◌++◌, length, slice_index, slice_get, Option, Some, None}
+use Rattle.game_theory.specs.OwnSets.{own_sets, own_counts}
 use Rattle.game_theory.specs.Trees.{Tree}
 use Rattle.game_theory.specs.Recall.{own_history}
 use Rattle.reduced_strategies.specs.Choices.{AreReducedStrategies}
 use Rattle.choice_lists.specs.declared.decision.Decision.{Decision}
 use Rattle.choice_lists.specs.declared.decision.Edge.{Edge}
 use Rattle.choice_lists.specs.Walks.{AreLinked}
-
--- how many actions each of player i's own sets has
-abbrev pub own_counts : Tree → ℕ → List ℕ
-own_counts t i = map t.actions (own_sets t i)
 
 -- the own history of the decision to which an edge leads, where these nodes are the decisions'
 abbrev pub history_by : Tree → ℕ → List ℕ → Option Edge → List (ℕ × ℕ)

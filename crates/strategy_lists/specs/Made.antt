@@ -1,6 +1,6 @@
 -- The decisions of the players, one node of a game tree after another.
 use Rattle.std.specs.Prelude.{ℕ, ◌<◌, ◌≡◌, ◌⊎◌, List, [], ◌∷◌, ◌++◌, slice_index, slice_get, Option, Some, None}
-use Rattle.game_theory.specs.OwnSets.{own_sets}
+use Rattle.game_theory.specs.OwnSets.{own_sets, Chooses}
 use Rattle.game_theory.specs.Trees.{Tree}
 use Rattle.game_theory.specs.Recall.{own_history}
 use Rattle.game_core.specs.declared.tree.Kind.{Kind}
@@ -23,16 +23,11 @@ owner_of t (Some s) = t.owner s
 abbrev pub mover : Tree → ℕ → Option ℕ
 mover t k = owner_of t (t.set k)
 
--- node k is a node of this set of player i
-pub record IsMove (t : Tree) (i k s : ℕ) : Type 0 where
-  pub at_set : t.set k ≡ Some s
-  pub own : t.owner s ≡ Some i
-
 -- node a is the last node above node k at which player i moves, and this action leads from there towards k
 pub record IsLastMove (t : Tree) (i k a action : ℕ) : Type 0 where
   pub above : a < k
   pub set : ℕ
-  pub is_move : IsMove t i a set
+  pub is_move : Chooses t a i set
   pub history_is : own_history t i k ≡ own_history t i a ++ (set, action) ∷ []
 
 -- an edge is that by the last move above node k, where these are the numbers of the decisions at the nodes
@@ -50,7 +45,7 @@ LeadsTo t i numbers k (Some edge) = IsEdgeTo t i numbers k edge
 -- the decision is that of player i at node k
 pub record IsMadeAt (t : Tree) (i : ℕ) (numbers : List ℕ) (k : ℕ) (decision : Decision) : Type 0 where
   pub set : ℕ
-  pub is_move : IsMove t i k set
+  pub is_move : Chooses t k i set
   pub place_is : slice_get (own_sets t i) decision.place ≡ Some set
   pub led_to : LeadsTo t i numbers k decision.before
 

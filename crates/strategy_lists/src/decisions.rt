@@ -4,8 +4,8 @@ ghost use Rattle.game_theory.specs.Recall.{own_history};
 ghost use Rattle.game_core.specs.TreeGame.{game_of_tree};
 ghost use Rattle.reduced_strategies.specs.Places.{ArePlaces};
 ghost use Rattle.strategy_lists.specs.Decisions.{AreDecisionsOfAll};
-ghost use Rattle.strategy_lists.specs.Made.{HasTaken, IsLastMove, IsMadeAt, IsMove, mover, mover_of};
-ghost use Rattle.game_theory.specs.OwnSets.{own_sets};
+ghost use Rattle.strategy_lists.specs.Made.{HasTaken, IsLastMove, IsMadeAt, mover, mover_of};
+ghost use Rattle.game_theory.specs.OwnSets.{Chooses, own_sets};
 
 use answers::Memory;
 use choice_lists::{Decision, Edge};
@@ -26,7 +26,7 @@ fn mover(node: &Node) -> Option<u32>
 fn move_at(tree: &Tree, number: usize) -> Option<(u32, u32)>
     requires { number < length tree.now.nodes }
     ensures { MatchOption result (mover (game_of_tree tree.now) number
-        ≡ None) (λ it. IsMove (game_of_tree tree.now) it.0 number it.1) }
+        ≡ None) (λ it. Chooses (game_of_tree tree.now) number it.0 it.1) }
 {
     let node = &tree.nodes()[number];
     let player = mover(node)?;
@@ -58,7 +58,7 @@ fn last_move(tree: &Tree, number: usize, player: u32) -> Option<(usize, u32)>
 fn place_at(tree: &Tree, places: &[u32], number: usize) -> u32
     requires places { ArePlaces (game_of_tree tree.now) places.now }
     requires within { number < length tree.now.nodes }
-    ensures { (i s : ℕ) → IsMove (game_of_tree tree.now) i number s
+    ensures { (i s : ℕ) → Chooses (game_of_tree tree.now) number i s
         → slice_get (own_sets (game_of_tree tree.now) i) result ≡ Some s }
 {
     match tree.nodes()[number].set {

@@ -3,7 +3,8 @@ ghost use Rattle.std.specs.Prelude.{◌≡◌, ◌<◌, ◌+◌, ◌^◌, ℕ, l
 ghost use Rattle.game_core.specs.TreeGame.{game_of_tree};
 ghost use Rattle.reduced_strategies.specs.Choices.{AreReducedStrategies};
 ghost use Rattle.reduced_strategies.specs.Places.{ArePlaces};
-ghost use Rattle.strategy_lists.specs.Decisions.{own_counts, AreDecisions, HasCount};
+ghost use Rattle.strategy_lists.specs.Decisions.{AreDecisions, HasCount};
+ghost use Rattle.game_theory.specs.OwnSets.{own_counts};
 
 use crate::decisions::decisions_of_all;
 use answers::Memory;

@@ -1,5 +1,4 @@
 // The part of a file up to the nodes.
-ghost use Rattle.std.specs.Prelude.{◌≡◌};
 ghost use Rattle.file_parts.specs.Reading.{kinds};
 ghost use Rattle.file_parts.specs.Parsing.{Parses};
 ghost use Rattle.tree_grammar.specs.TreeParsing.{parse_head};

@@ -9,7 +9,7 @@ use Rattle.sequence_forms.specs.Prices.{costs}
 use Rattle.sequence_forms.specs.Sides.{sequences}
 use Rattle.lemke_pivot.specs.Problems.{Costs, costs_of, at_p, at_p', at_q, at_q'}
 use Rattle.sequence_data.specs.Data.{side_of}
-use Rattle.sequence_data.specs.Weights.{weight_at}
+use Rattle.rational.specs.Sum.{entry_at}
 use Rattle.zero_sum_lp.specs.PlanPairs.{PlanPair}
 use Rattle.lemke_pivot.specs.Parts.{Problem, plan_one, plan_two, z_values}
 use Rattle.lemke_pivot.specs.SolutionLaws.{SolvesForm}
@@ -21,14 +21,14 @@ pub record HavePrices (f : SequenceForm) (greatest_row greatest_column : ℚ) (p
   pub P' : ℕ → ℚ
   pub Q : ℕ → ℚ
   pub Q' : ℕ → ℚ
-  pub solves : SolvesProblem f greatest_row greatest_column (weight_at plans.one) (weight_at plans.two) P P' Q Q'
+  pub solves : SolvesProblem f greatest_row greatest_column (entry_at plans.one) (entry_at plans.two) P P' Q Q'
 
 module _ (f : SequenceForm) (g k : ℚ) (s : Problem) (rows : f.rows ≡ side_of s.first) (columns : f.columns ≡ side_of s.second) where
   abbrev x : ℕ → ℚ
-  x = weight_at (plans_at s).one
+  x = entry_at (plans_at s).one
 
   abbrev y : ℕ → ℚ
-  y = weight_at (plans_at s).two
+  y = entry_at (plans_at s).two
 
   x_is : (r : ℕ) → r < sequences f.rows → plan_one s r ≡ x r
   x_is r l = sym (get_or-listed (sequences (side_of s.first)) (plan_one s) r zero_ℚ (subst (λ d. r < sequences d) rows l))

@@ -15,7 +15,7 @@ use Rattle.sequence_forms.specs.PlanBehaviour.{behaviour_of}
 use Rattle.sequence_forms.specs.Sides.{sequences}
 use Rattle.sequence_forms.proofs.EndLemmas.{solutions_on_tables, solutions_on_trees}
 use Rattle.sequence_data.specs.Data.{FormData, IsFormData, SideData, form, side_of}
-use Rattle.sequence_data.specs.Weights.{weight_at}
+use Rattle.rational.specs.Sum.{entry_at}
 use Rattle.sequence_form.specs.Counts.{problem_rows}
 use Rattle.sequence_form.specs.Forms.{table_form, tree_form}
 use Rattle.sequence_form.specs.Laws.{count_of_columns, count_of_rows}
@@ -72,11 +72,11 @@ module _ (f : FormData) (p s : Problem) (h : IsPivoting f p s) where
   on_table : (t : GameTable) → IsTable t → table_form t (Ok f) → is_table_equilibrium (game_of t) (mixed_of_plans (weights_of (plans_at s)))
   on_table t w k =
       let stands = table_stands t f w k in
-      solutions_on_tables (game_of t) (count_of_rows t) (count_of_columns t) (form f) f.greatest_one f.greatest_two (weight_at (plans_at s).one) (weight_at (plans_at s).two) solved.P solved.P' solved.Q solved.Q' stands.strategies_are stands.alike solved.solves
+      solutions_on_tables (game_of t) (count_of_rows t) (count_of_columns t) (form f) f.greatest_one f.greatest_two (entry_at (plans_at s).one) (entry_at (plans_at s).two) solved.P solved.P' solved.Q solved.Q' stands.strategies_are stands.alike solved.solves
 
   on_tree : (t : GameTree) (before : List (Option (ℕ × ℕ))) → TreesAreGames → IsGameTree t → IsRecallOf (game_of_tree t) before → tree_form t (Ok f) → IsEquilibrium (game_of_tree t) (behaviour_of (game_of_tree t) (weights_of (plans_at s)))
   on_tree t before laws w recall k =
-      solutions_on_trees (game_of_tree t) (form f) f.greatest_one f.greatest_two (weight_at (plans_at s).one) (weight_at (plans_at s).two) solved.P solved.P' solved.Q solved.Q' (two_who_recall t f before laws w recall k) (tree_stands (game_of_tree t) f (tree_form-is t f k)).alike solved.solves
+      solutions_on_trees (game_of_tree t) (form f) f.greatest_one f.greatest_two (entry_at (plans_at s).one) (entry_at (plans_at s).two) solved.P solved.P' solved.Q solved.Q' (two_who_recall t f before laws w recall k) (tree_stands (game_of_tree t) f (tree_form-is t f k)).alike solved.solves
 
   equilibrium : (strategic : Bool) (game : Game) → TreesAreGames → IsGame game → form_in problem_rows strategic game (Ok f) → AreInEquilibrium strategic game (plans_at s)
   equilibrium true (Strategic t) laws w k = (k.0, k.1, on_table k.0 (strategic_form-table (Strategic t) k.0 w k.1) k.2.2)

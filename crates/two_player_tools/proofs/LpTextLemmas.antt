@@ -10,7 +10,7 @@ use Rattle.perfect_recall.specs.Found.{IsRecallOf}
 use Rattle.sequence_forms.specs.PriceLaws.{ProvesValueOfTree}
 use Rattle.sequence_forms.specs.TableLaws.{ProvesValueOfTable}
 use Rattle.sequence_data.specs.Data.{FormData, IsFormData, SideData, form}
-use Rattle.sequence_data.specs.Weights.{weight_at}
+use Rattle.rational.specs.Sum.{entry_at}
 use Rattle.sequence_data.specs.declared.types.Leaf.{Leaf}
 use Rattle.sequence_form.specs.Counts.{size_of_program}
 use Rattle.sequence_form.specs.Forms.{profile_leaf, table_form, tree_form}
@@ -53,14 +53,14 @@ module _ (f : FormData) (p o : Program) (plans : PlanPair) (h : IsSolving f p o 
     proof = plans_prove (form f) f.least_one p o plans is_program is_of_form h.optimum h.planned;
   }
 
-  on_table : (t : GameTable) → IsTable t → table_form t (Ok f) → ProvesValueOfTable (game_of t) (weight_at plans.one) (weight_at plans.two) (solution f o plans).value
+  on_table : (t : GameTable) → IsTable t → table_form t (Ok f) → ProvesValueOfTable (game_of t) (entry_at plans.one) (entry_at plans.two) (solution f o plans).value
   on_table t w k =
       let none : Leaf = profile_leaf t 0 in
       let stands = table_stands t f w k in
       let sums = table_sums t f (constant_of f none) w k (sums_to f none h.valid h.program.2.2.1) in
       plans_solve_tables (game_of t) (count_of_rows t) (count_of_columns t) (form f) f.least_one (constant_of f none) p o plans stands.strategies_are stands.alike sums is_program is_of_form h.optimum h.planned
 
-  on_tree : (t : GameTree) (before : List (Option (ℕ × ℕ))) → TreesAreGames → IsGameTree t → IsRecallOf (game_of_tree t) before → tree_form t (Ok f) → ProvesValueOfTree (game_of_tree t) (weight_at plans.one) (weight_at plans.two) (solution f o plans).value
+  on_tree : (t : GameTree) (before : List (Option (ℕ × ℕ))) → TreesAreGames → IsGameTree t → IsRecallOf (game_of_tree t) before → tree_form t (Ok f) → ProvesValueOfTree (game_of_tree t) (entry_at plans.one) (entry_at plans.two) (solution f o plans).value
   on_tree t before laws w recall k =
       let none : Leaf = leaf_at (game_of_tree t) 0 in
       let two = two_who_recall t f before laws w recall k in

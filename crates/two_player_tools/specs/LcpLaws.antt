@@ -11,7 +11,7 @@ use Rattle.game_core.specs.declared.game.Game.TheVariants.{Extensive}
 use Rattle.sequence_forms.specs.Forms.{mixed_of_plans}
 use Rattle.sequence_forms.specs.PlanBehaviour.{behaviour_of, of_two}
 use Rattle.sequence_data.specs.Data.{FormData}
-use Rattle.sequence_data.specs.Weights.{weight_at}
+use Rattle.rational.specs.Sum.{entry_at}
 use Rattle.sequence_form.specs.Counts.{problem_rows}
 use Rattle.zero_sum_lp.specs.PlanPairs.{PlanPair}
 use Rattle.two_player_tools.specs.Entries.{entries_in}
@@ -22,7 +22,7 @@ use Rattle.two_player_tools.specs.TwoPlayers.{form_in}
 
 -- both players' weights
 abbrev pub weights_of : PlanPair → ℕ → ℕ → ℚ
-weights_of plans = of_two (weight_at plans.one) (weight_at plans.two)
+weights_of plans = of_two (entry_at plans.one) (entry_at plans.two)
 
 -- two plans are in equilibrium on the file's own game: on a tree by their behaviour, else on the
 -- strategic form

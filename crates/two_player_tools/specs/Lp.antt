@@ -1,9 +1,10 @@
 -- The tool `lp`: an equilibrium of a game of two players with constant sum, and the prices that prove its value.
 -- Source: Koller, Megiddo and von Stengel 1996.
-use Rattle.std.specs.Prelude.{ℕ, suc, Bool, true, false, List, [], ◌∷◌, ◌++◌, length, map, slice_index_or, codes}
+use Rattle.std.specs.Prelude.{ℕ, suc, Bool, true, false, List, [], ◌∷◌, ◌++◌, length, map, codes}
 use Rattle.std.specs.List.{range_with_len}
 use Rattle.answers.specs.Answers.{Answer, only, refuse_where, ◌>>=◌, ◌>>◌, refused_by}
-use Rattle.rational.specs.Rational.{ℚ, ◌+ℚ◌, zero_ℚ}
+use Rattle.rational.specs.Rational.{ℚ, ◌+ℚ◌}
+use Rattle.rational.specs.Sum.{entry_at}
 use Rattle.frac128.specs.Steps.{AddFits, unfit}
 use Rattle.frac128.specs.declared.steps.Op.TheVariants.{Add}
 use Rattle.game_theory.specs.Lines.{line_text}
@@ -64,7 +65,7 @@ prices_text f s =
 
 -- the price of the whole game, to which the least payoff is added
 abbrev pub first_price : Solution → ℚ
-first_price s = slice_index_or s.prices_two 0 zero_ℚ
+first_price s = entry_at s.prices_two 0
 
 -- why there is no value
 abbrev pub value_refusal : FormData → Solution → Refusal

@@ -10,7 +10,7 @@ use Rattle.sequence_forms.specs.PriceLaws.{ProvesValueOfTree}
 use Rattle.sequence_forms.specs.Prices.{IsValueProof}
 use Rattle.sequence_forms.specs.TableLaws.{ProvesValueOfTable}
 use Rattle.sequence_data.specs.Data.{FormData, form}
-use Rattle.sequence_data.specs.Weights.{weight_at}
+use Rattle.rational.specs.Sum.{entry_at}
 use Rattle.sequence_form.specs.Counts.{size_of_program}
 use Rattle.two_player_tools.specs.Entries.{entries_in}
 use Rattle.two_player_tools.specs.GameTypes.{IsGame}
@@ -22,10 +22,10 @@ use Rattle.two_player_tools.specs.TwoPlayers.{form_in}
 -- strategic form
 abbrev pub HoldsOn : Bool → Game → Solution → Type 0
 HoldsOn false (Extensive t) s =
-    ProvesValueOfTree (game_of_tree t) (weight_at s.one) (weight_at s.two) s.value
+    ProvesValueOfTree (game_of_tree t) (entry_at s.one) (entry_at s.two) s.value
 HoldsOn _ game s =
     (table : GameTable) × strategic_form game (Ok table)
-    × ProvesValueOfTable (game_of table) (weight_at s.one) (weight_at s.two) s.value
+    × ProvesValueOfTable (game_of table) (entry_at s.one) (entry_at s.two) s.value
 
 -- prices and plans prove the value by the form
 pub record ProvesValue (f : FormData) (s : Solution) : Type 0 where
@@ -33,7 +33,7 @@ pub record ProvesValue (f : FormData) (s : Solution) : Type 0 where
   pub second : ℕ → ℚ
   pub first_are : s.prices_one ≡ listed_prices (suc (length f.first.sets)) first
   pub second_are : s.prices_two ≡ listed_prices (suc (length f.second.sets)) second
-  pub proof : IsValueProof (form f) f.least_one (weight_at s.one) (weight_at s.two) first second s.value
+  pub proof : IsValueProof (form f) f.least_one (entry_at s.one) (entry_at s.two) first second s.value
 
 -- a text is that of a solution
 pub record IsSolved (strategic asked : Bool) (game : Game) (text : List ℕ) : Type 0 where

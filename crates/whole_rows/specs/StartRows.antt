@@ -1,9 +1,10 @@
 -- The rows of a system of fractions as whole numbers, and the steps by which they become so
-use Rattle.std.specs.Prelude.{ℕ, ℤ, pos, zero, suc, ◌+◌, ◌*◌, ◌/◌, ◌<◌, ◌≡◌, List, [], ◌∷◌, ◌++◌, get_or, All}
+use Rattle.std.specs.Prelude.{ℕ, ℤ, pos, zero, suc, ◌+◌, ◌*◌, ◌/◌, ◌<◌, ◌≡◌, List, [], ◌∷◌, ◌++◌, All}
 use Rattle.std.specs.List.{range_with_len}
 use Rattle.answers.specs.Answers.{Answer}
 use Rattle.rational.specs.Gcd.{gcd}
-use Rattle.rational.specs.Rational.{ℚ, zero_ℚ}
+use Rattle.rational.specs.Rational.{ℚ}
+use Rattle.rational.specs.Sum.{entry_at}
 use Rattle.frac128.specs.Fraction.{PartFits}
 use Rattle.whole_rows.specs.Rows.{IsRow, fraction}
 use Rattle.frac128.specs.Steps.{Step, StepFits}
@@ -12,7 +13,7 @@ use Rattle.whole_rows.specs.Steps.{times}
 
 -- the fractions from a place of a list on
 abbrev pub cells_from : List ℚ → ℕ → ℕ → ℚ
-cells_from cells first place = get_or cells (first + place) zero_ℚ
+cells_from cells first place = entry_at cells (first + place)
 
 -- the least common denominator of the first k cells
 abbrev pub common_to : (ℕ → ℚ) → ℕ → ℕ

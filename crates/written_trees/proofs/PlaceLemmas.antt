@@ -3,15 +3,10 @@ use Rattle.std.proofs.Common.{◌≡◌, ℕ, zero, suc, ◌+◌, ◌-◌, ◌<�
 use Rattle.std.proofs.lemmas.Bool.Decides.{nat_tests}
 use Rattle.std.proofs.lemmas.List.Elements.{All-head, All-tail}
 use Rattle.game_core.specs.declared.tree.Node.{Node}
-use Rattle.game_core.specs.Tree.{InformationSet, OpenBranch, branches_from, action_count, AreInPrefixOrder}
-use Rattle.written_trees.specs.Building.{Branching, branches_after, open_branches, take_branch, add_branches}
+use Rattle.game_core.specs.Tree.{InformationSet, OpenBranch, branches_after, action_count, AreInPrefixOrder}
+use Rattle.written_trees.specs.Building.{Branching, open_branches, take_branch, add_branches}
 
 -- ---- open branches
--- the places of a node's actions
-branches_after_are : (k a n : ℕ) → branches_after (Some k) a n ≡ branches_from k a n
-branches_after_are k a zero = refl
-branches_after_are k a (suc n) = ap (λ v. (Some k, a) ∷ v) (branches_after_are k (suc a) n)
-
 -- the first open branch, and those that are free when it is taken
 pub open_branches-take : (b : Branching) (rest : List Branching) → b.next < b.count → open_branches (b ∷ rest) ≡ (b.node, b.next) ∷ open_branches (take_branch b rest)
 open_branches-take b rest lt = rw more (go (nat_lt (suc b.next) b.count) refl)
@@ -27,17 +22,17 @@ open_branches-take b rest lt = rw more (go (nat_lt (suc b.next) b.count) refl)
         rw none refl
 
 -- the places of a new node come first
-pub open_branches-add : (k count depth : ℕ) (rest : List Branching) → open_branches (add_branches k count depth rest) ≡ branches_from k 0 count ++ open_branches rest
+pub open_branches-add : (k count depth : ℕ) (rest : List Branching) → open_branches (add_branches k count depth rest) ≡ branches_after (Some k) 0 count ++ open_branches rest
 open_branches-add k zero depth rest = refl
 open_branches-add k (suc n) depth rest =
     let some : nat_lt 0 (suc n) ≡ true = grind (arith, nat_tests) in
     let all : suc n - 0 ≡ suc n = omega arith in
-    rw (some, all) (ap (λ v. v ++ open_branches rest) (branches_after_are k 0 (suc n)))
+    rw (some, all) refl
 
 -- ---- prefix order
 -- one more node takes the first open branch
 pub order_more : (sets : List InformationSet) (k : ℕ) (nodes : List Node) (node : Node) (free before : List OpenBranch) → AreInPrefixOrder sets k nodes free ((node.parent, node.branch) ∷ before)
-    → AreInPrefixOrder sets k (nodes ++ node ∷ []) free (branches_from (k + length nodes) 0 (action_count sets node.set) ++ before)
+    → AreInPrefixOrder sets k (nodes ++ node ∷ []) free (branches_after (Some (k + length nodes)) 0 (action_count sets node.set) ++ before)
 order_more sets k [] node [] before h = absurd (cc)
 order_more sets k [] node (place ∷ free) before h =
     let e : k + 0 ≡ k = omega arith in

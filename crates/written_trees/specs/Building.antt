@@ -1,5 +1,5 @@
 -- How a tree grows, node by node, as functions: what is partial so far, and what a further node makes of it.
-use Rattle.std.specs.Prelude.{ℕ, zero, suc, ◌-◌, ◌^◌, ◌&&◌, if◌then◌else◌, nat_abs, nat_eq, nat_lt, nat_le, Bool, true, List, [], ◌∷◌, ◌++◌, length, map, slice_get, slice_set, slice_index_or, option_map, ◌+ℤ◌, Option, Some, None}
+use Rattle.std.specs.Prelude.{ℕ, suc, ◌-◌, ◌^◌, ◌&&◌, if◌then◌else◌, nat_abs, nat_eq, nat_lt, nat_le, Bool, true, List, [], ◌∷◌, ◌++◌, length, map, slice_get, slice_set, slice_index_or, option_map, ◌+ℤ◌, Option, Some, None}
 use Rattle.std.specs.List.{position_or_len, flat_map}
 use Rattle.std.specs.Cmp.Lexicographic.{pointwise}
 use Rattle.std.specs.Option.{option_or}
@@ -11,7 +11,7 @@ use Rattle.game_core.specs.declared.tree.Action.{Action}
 use Rattle.game_core.specs.declared.tree.Node.{Node}
 use Rattle.game_core.specs.declared.too_large.What.{What}
 use Rattle.game_core.specs.declared.too_large.What.TheVariants.{Nodes, Depth}
-use Rattle.game_core.specs.Tree.{GameTree, InformationSet, TreeOutcome, OpenBranch, most_nodes, most_depth}
+use Rattle.game_core.specs.Tree.{GameTree, InformationSet, TreeOutcome, OpenBranch, most_nodes, most_depth, branches_after}
 use Rattle.written_trees.specs.Written.{SetUse, OutcomeUse, WrittenNode}
 use Rattle.written_trees.specs.Described.{SetKey, key_of, same_set, or_empty, kind_of_use}
 
@@ -111,11 +111,6 @@ pub record Branching : Type 0 where
   pub next : ℕ
   pub count : ℕ
   pub depth : ℕ
-
--- the open branches of so many actions from one on
-abbrev pub branches_after : Option ℕ → ℕ → ℕ → List OpenBranch
-branches_after from next zero = []
-branches_after from next (suc n) = (from, next) ∷ branches_after from (suc next) n
 
 abbrev pub open_branches : List Branching → List OpenBranch
 open_branches branchings = flat_map (λ b. branches_after b.node b.next (b.count - b.next)) branchings

@@ -2,13 +2,12 @@
 use Rattle.std.proofs.Common.{All, ℕ, suc, ◌<◌, ◌≤◌, ◌≡◌, ◌≢◌, ◌+◌, inl, inr, List, Ok, Err, length, sym, ap, ◌∙◌, subst, subst₂, arith}
 use Rattle.rational.specs.Extremes.{IsLesser}
 use Rattle.rational.specs.Rational.{ℚ, ◌-ℚ◌, one_ℚ}
-use Rattle.rational.specs.Sum.{sum_to}
+use Rattle.rational.specs.Sum.{sum_to, entry_at}
 use Rattle.rational.proofs.SumLemmas.{sum_to-same}
 use Rattle.linear_systems.proofs.LexRowLemmas.{below_cases}
 use Rattle.frac128.specs.declared.steps.Op.TheVariants.{Sub}
 use Rattle.frac128.specs.Steps.{SubFits, unfit, Step, StepFits, IsFirstUnfit}
 use Rattle.sequence_forms.specs.Sides.{Side, first, sequences, IsOrderedSide}
-use Rattle.sequence_data.specs.Weights.{weight_at}
 use Rattle.zero_sum_lp.specs.Plans.{IsCut}
 use Rattle.zero_sum_lp.specs.PlanLists.{AreShares, IsUnfitShare}
 use Rattle.zero_sum_lp.specs.PlanSteps.{rest_steps}
@@ -81,9 +80,9 @@ cut_begins d o x w e h = made_begins d x (cut_plan d x) w _ (is_cut d o x).empty
 pub cut_next : (d : Side) (o : IsOrderedSide d) (n before f count : ℕ) (x w w' : ℕ → ℚ) → IsSetOf d n before f count → IsCutTo d n x w → Cuts w w' before f count → IsCutTo d (n + 1) x w'
 cut_next d o n before f count x w w' s m k = cut_next_set d o n s.within x (cut_plan d x) w (is_cut d o x) m w' (at_set d n before f count (Cuts w w') s k)
 
-pub cut_ends : (d : Side) (o : IsOrderedSide d) (n : ℕ) (x : ℕ → ℚ) (w : List ℚ) → n ≡ d.sets → length w ≡ sequences d → IsCutTo d n x (weight_at w) → cut_in d x (Ok w)
+pub cut_ends : (d : Side) (o : IsOrderedSide d) (n : ℕ) (x : ℕ → ℚ) (w : List ℚ) → n ≡ d.sets → length w ≡ sequences d → IsCutTo d n x (entry_at w) → cut_in d x (Ok w)
 cut_ends d o n x w e c m =
-    let all : IsCutTo d d.sets x (weight_at w) = subst (λ k. IsCutTo d k x (weight_at w)) e m in
+    let all : IsCutTo d d.sets x (entry_at w) = subst (λ k. IsCutTo d k x (entry_at w)) e m in
     cut_in-made d o x (cut_plan d x) w c (λ q l. sym (all.made q l)) (is_cut d o x) all.fits
 
 pub cut_stops : (d : Side) (o : IsOrderedSide d) (n before f count : ℕ) (x w : ℕ → ℚ) (u : Step) → IsSetOf d n before f count → IsCutTo d n x w → IsUnfitShare (w before) (λ a. w (f + a)) count u → cut_in d x (Err u)

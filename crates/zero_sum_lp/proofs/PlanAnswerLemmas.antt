@@ -3,7 +3,7 @@ use Rattle.std.proofs.Common.{◌≡◌, Ok, subst}
 use Rattle.answers.specs.Answers.{◌>>=◌, only, refused_by}
 use Rattle.answers.proofs.AnswerLemmas.{bind-single, only-single, refused_by-single}
 use Rattle.sequence_data.specs.Data.{side_of}
-use Rattle.sequence_data.specs.Weights.{weight_at}
+use Rattle.rational.specs.Sum.{entry_at}
 use Rattle.zero_sum_lp.specs.declared.stop.PlanStop.TheVariants.{Range}
 use Rattle.zero_sum_lp.specs.Parts.{Program, first_raw, second_raw}
 use Rattle.zero_sum_lp.specs.PlanPairs.{PlanPair}
@@ -19,8 +19,8 @@ plans_single o h g =
     (λ one _. bind-single second (λ two. only (record { one = one; two = two })) (refused_by-single (Range 1) _ (cut_in-single (side_of o.second) g.ordered (second_raw o))) (λ two _. only-single (record { one = one; two = two })))
 
 -- the raw weights are raised and cut
-pub plans_made : (o : Program) (plans : PlanPair) → plans_of o (Ok plans) → IsRaised (side_of o.first) (first_raw o) (weight_at plans.one) × IsCut (side_of o.second) (second_raw o) (weight_at plans.two)
+pub plans_made : (o : Program) (plans : PlanPair) → plans_of o (Ok plans) → IsRaised (side_of o.first) (first_raw o) (entry_at plans.one) × IsCut (side_of o.second) (second_raw o) (entry_at plans.two)
 plans_made o plans (one, h, (two, g, e)) =
     (let same : record { one = one; two = two } ≡ plans = cc (e) in
-    subst (λ (pair : PlanPair). IsRaised (side_of o.first) (first_raw o) (weight_at pair.one) × IsCut (side_of o.second) (second_raw o) (weight_at pair.two)) same
+    subst (λ (pair : PlanPair). IsRaised (side_of o.first) (first_raw o) (entry_at pair.one) × IsCut (side_of o.second) (second_raw o) (entry_at pair.two)) same
     ((plan_in-value (IsRaisedPlan (side_of o.first) (first_raw o)) _ one h).1, (plan_in-value (IsCutPlan (side_of o.second) (second_raw o)) _ two g).1))

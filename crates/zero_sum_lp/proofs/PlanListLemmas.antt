@@ -4,13 +4,12 @@ use Rattle.std.proofs.lemmas.Bool.{cases_eq, cases_lt}
 use Rattle.std.proofs.lemmas.List.{length-map}
 use Rattle.std.proofs.lemmas.List.Elements.{All-nil}
 use Rattle.rational.specs.Rational.{ℚ, ◌+ℚ◌, ◌-ℚ◌, one_ℚ}
-use Rattle.rational.specs.Sum.{sum_to}
+use Rattle.rational.specs.Sum.{sum_to, entry_at}
 use Rattle.rational.proofs.SumLemmas.{sum_to-same}
 use Rattle.frac128.specs.Steps.{Step, StepFits, IsFirstUnfit}
 use Rattle.sequence_forms.specs.Sides.{Side, first, sequences, IsOrderedSide}
 use Rattle.sequence_forms.proofs.SideLemmas.{first_up}
 use Rattle.sequence_data.specs.Data.{SideData, side_of}
-use Rattle.sequence_data.specs.Weights.{weight_at}
 use Rattle.zero_sum_lp.specs.Plans.{IsRaised}
 use Rattle.zero_sum_lp.specs.PlanSteps.{raise_steps}
 use Rattle.zero_sum_lp.specs.PlanStops.{raised_in}
@@ -114,9 +113,9 @@ raise_begins d o x w e h = made_begins d x (raised_plan d x) w _ (is_raised d o 
 pub raise_next : (d : Side) (o : IsOrderedSide d) (n before f count : ℕ) (x w w' : ℕ → ℚ) → IsSetOf d n before f count → IsRaisedTo d n x w → Raises w w' before f count → IsRaisedTo d (n + 1) x w'
 raise_next d o n before f count x w w' s m k = raised_next d o n s.within x (raised_plan d x) w (is_raised d o x) m w' (at_set d n before f count (Raises w w') s k)
 
-pub raise_ends : (d : Side) (o : IsOrderedSide d) (n : ℕ) (x : ℕ → ℚ) (w : List ℚ) → n ≡ d.sets → length w ≡ sequences d → IsRaisedTo d n x (weight_at w) → raised_in d x (Ok w)
+pub raise_ends : (d : Side) (o : IsOrderedSide d) (n : ℕ) (x : ℕ → ℚ) (w : List ℚ) → n ≡ d.sets → length w ≡ sequences d → IsRaisedTo d n x (entry_at w) → raised_in d x (Ok w)
 raise_ends d o n x w e c m =
-    let all : IsRaisedTo d d.sets x (weight_at w) = subst (λ k. IsRaisedTo d k x (weight_at w)) e m in
+    let all : IsRaisedTo d d.sets x (entry_at w) = subst (λ k. IsRaisedTo d k x (entry_at w)) e m in
     raised_in-made d o x (raised_plan d x) w c (λ q l. sym (all.made q l)) (is_raised d o x) all.fits
 
 pub raise_stops : (d : Side) (o : IsOrderedSide d) (n before f count : ℕ) (x w : ℕ → ℚ) (u : Step) → IsSetOf d n before f count → IsRaisedTo d n x w → IsFirstUnfit (raise_steps (w before) (λ a. w (f + a)) count) u → raised_in d x (Err u)

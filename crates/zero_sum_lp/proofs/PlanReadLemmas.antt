@@ -8,7 +8,7 @@ use Rattle.frac128.specs.Steps.{Step}
 use Rattle.lex_tableau.specs.Rows.{Numbers, tableau}
 use Rattle.sequence_forms.specs.Sides.{sequences}
 use Rattle.sequence_data.specs.Data.{IsSideData, SideData, side_of}
-use Rattle.sequence_data.specs.Weights.{weight_at}
+use Rattle.rational.specs.Sum.{entry_at}
 use Rattle.zero_sum_lp.specs.Parts.{HasShape, Program, IsOptimum, first_raw, second_raw}
 use Rattle.zero_sum_lp.specs.PlanLists.{AreWeights}
 use Rattle.zero_sum_lp.specs.PlanStops.{cut_in, raised_in}
@@ -45,8 +45,8 @@ slack_variable first second objective width len k s e l =
 
 -- ---- plans
 module _ (o : Program) (sets : SideData) (raw : List ℚ) (h : IsSideData sets) (answer : Result (List ℚ) Step) where
-  pub first_answer : sets ≡ o.first → AreWeights (sequences (side_of o.first)) (first_raw o) raw → raised_in (side_of sets) (weight_at raw) answer → raised_in (side_of o.first) (first_raw o) answer
-  first_answer e w r = raised_in-as (side_of o.first) (subst IsSideData e h).ordered (weight_at raw) (first_raw o) answer w.same (subst (λ s. raised_in (side_of s) (weight_at raw) answer) e r)
+  pub first_answer : sets ≡ o.first → AreWeights (sequences (side_of o.first)) (first_raw o) raw → raised_in (side_of sets) (entry_at raw) answer → raised_in (side_of o.first) (first_raw o) answer
+  first_answer e w r = raised_in-as (side_of o.first) (subst IsSideData e h).ordered (entry_at raw) (first_raw o) answer w.same (subst (λ s. raised_in (side_of s) (entry_at raw) answer) e r)
 
-  pub second_answer : sets ≡ o.second → AreWeights (sequences (side_of o.second)) (second_raw o) raw → cut_in (side_of sets) (weight_at raw) answer → cut_in (side_of o.second) (second_raw o) answer
-  second_answer e w r = cut_in-as (side_of o.second) (subst IsSideData e h).ordered (weight_at raw) (second_raw o) answer w.same (subst (λ s. cut_in (side_of s) (weight_at raw) answer) e r)
+  pub second_answer : sets ≡ o.second → AreWeights (sequences (side_of o.second)) (second_raw o) raw → cut_in (side_of sets) (entry_at raw) answer → cut_in (side_of o.second) (second_raw o) answer
+  second_answer e w r = cut_in-as (side_of o.second) (subst IsSideData e h).ordered (entry_at raw) (second_raw o) answer w.same (subst (λ s. cut_in (side_of s) (entry_at raw) answer) e r)

@@ -10,7 +10,7 @@ use Rattle.frac128.specs.FirstUnfit.{all_steps_fit}
 use Rattle.frac128.specs.Steps.{Step, StepFits, IsFirstUnfit}
 use Rattle.frac128.proofs.FirstUnfitLemmas.{all_steps_fit-single}
 use Rattle.sequence_forms.specs.Sides.{Side, sequences, IsOrderedSide}
-use Rattle.sequence_data.specs.Weights.{weight_at}
+use Rattle.rational.specs.Sum.{entry_at}
 use Rattle.zero_sum_lp.specs.Plans.{IsRaised, IsCut}
 use Rattle.zero_sum_lp.specs.PlanSteps.{raising_steps, cutting_steps}
 use Rattle.zero_sum_lp.specs.PlanStops.{IsCutPlan, IsRaisedPlan, cut_in, plan_in, raised_in}
@@ -42,50 +42,50 @@ module _ (is_plan : List ℚ → Type 0) (steps : List ℚ → List Step) where
 
 -- ---- the weights of a side
 -- lists of a weight for each sequence
-weights_once : (d : Side) (a b : List ℚ) → length a ≡ sequences d → length b ≡ sequences d → Agree d (weight_at a) (weight_at b) → a ≡ b
+weights_once : (d : Side) (a b : List ℚ) → length a ≡ sequences d → length b ≡ sequences d → Agree d (entry_at a) (entry_at b) → a ≡ b
 weights_once d a b p q e = ext_get_or zero_ℚ a b (p ∙ sym q) (λ i l. e i (subst (λ n. i < n) p l))
 
 abbrev weights_of : Side → (ℕ → ℚ) → List ℚ
 weights_of d z = map z (range_with_len 0 (sequences d))
 
-weights_there : (d : Side) (z : ℕ → ℚ) → Agree d z (weight_at (weights_of d z))
+weights_there : (d : Side) (z : ℕ → ℚ) → Agree d z (entry_at (weights_of d z))
 weights_there d z q l = sym (get_or-map-range_with_len z 0 (sequences d) q q zero_ℚ l (omega arith))
 
 module _ (d : Side) (o : IsOrderedSide d) where
   -- ---- raised plans
   pub raised_in-single : (x : ℕ → ℚ) → IsSingle (raised_in d x)
-  raised_in-single x = plan_in-single (IsRaisedPlan d x) (λ plan. raising_steps d x (weight_at plan)) (λ a b h k. weights_once d a b h.0 k.0 (raised_once d o x (weight_at a) (weight_at b) h.1 k.1))
+  raised_in-single x = plan_in-single (IsRaisedPlan d x) (λ plan. raising_steps d x (entry_at plan)) (λ a b h k. weights_once d a b h.0 k.0 (raised_once d o x (entry_at a) (entry_at b) h.1 k.1))
 
-  pub raised_in-made : (x z : ℕ → ℚ) (plan : List ℚ) → length plan ≡ sequences d → Agree d z (weight_at plan) → IsRaised d x z → All StepFits (raising_steps d x z) → raised_in d x (Ok plan)
+  pub raised_in-made : (x z : ℕ → ℚ) (plan : List ℚ) → length plan ≡ sequences d → Agree d z (entry_at plan) → IsRaised d x z → All StepFits (raising_steps d x z) → raised_in d x (Ok plan)
   raised_in-made x z plan c e r f =
-      plan_in-made (IsRaisedPlan d x) (λ plan. raising_steps d x (weight_at plan)) plan (c, raised_as d o x x z (weight_at plan) (λ q l. refl) e r) (subst (All StepFits) (raising_same d o x x z (weight_at plan) (λ q l. refl) e) f)
+      plan_in-made (IsRaisedPlan d x) (λ plan. raising_steps d x (entry_at plan)) plan (c, raised_as d o x x z (entry_at plan) (λ q l. refl) e r) (subst (All StepFits) (raising_same d o x x z (entry_at plan) (λ q l. refl) e) f)
 
   pub raised_in-stop : (x z : ℕ → ℚ) (u : Step) → IsRaised d x z → IsFirstUnfit (raising_steps d x z) u → raised_in d x (Err u)
   raised_in-stop x z u r f =
       let plan = weights_of d z in
-      plan_in-stop (IsRaisedPlan d x) (λ plan. raising_steps d x (weight_at plan)) plan u (length-map-range_with_len z 0 (sequences d), raised_as d o x x z (weight_at plan) (λ q l. refl) (weights_there d z) r)
-      (subst (λ ss. IsFirstUnfit ss u) (raising_same d o x x z (weight_at plan) (λ q l. refl) (weights_there d z)) f)
+      plan_in-stop (IsRaisedPlan d x) (λ plan. raising_steps d x (entry_at plan)) plan u (length-map-range_with_len z 0 (sequences d), raised_as d o x x z (entry_at plan) (λ q l. refl) (weights_there d z) r)
+      (subst (λ ss. IsFirstUnfit ss u) (raising_same d o x x z (entry_at plan) (λ q l. refl) (weights_there d z)) f)
 
   pub raised_in-as : (x y : ℕ → ℚ) (answer : Result (List ℚ) Step) → Agree d x y → raised_in d x answer → raised_in d y answer
   raised_in-as x y answer e =
-      plan_in-as (IsRaisedPlan d x) (λ plan. raising_steps d x (weight_at plan)) (IsRaisedPlan d y) (λ plan. raising_steps d y (weight_at plan)) answer
-      (λ plan h. (h.0, raised_as d o x y (weight_at plan) (weight_at plan) e (λ q l. refl) h.1)) (λ plan. raising_same d o x y (weight_at plan) (weight_at plan) e (λ q l. refl))
+      plan_in-as (IsRaisedPlan d x) (λ plan. raising_steps d x (entry_at plan)) (IsRaisedPlan d y) (λ plan. raising_steps d y (entry_at plan)) answer
+      (λ plan h. (h.0, raised_as d o x y (entry_at plan) (entry_at plan) e (λ q l. refl) h.1)) (λ plan. raising_same d o x y (entry_at plan) (entry_at plan) e (λ q l. refl))
 
   -- ---- cut plans
   pub cut_in-single : (x : ℕ → ℚ) → IsSingle (cut_in d x)
-  cut_in-single x = plan_in-single (IsCutPlan d x) (λ plan. cutting_steps d (weight_at plan)) (λ a b h k. weights_once d a b h.0 k.0 (cut_once d o x (weight_at a) (weight_at b) h.1 k.1))
+  cut_in-single x = plan_in-single (IsCutPlan d x) (λ plan. cutting_steps d (entry_at plan)) (λ a b h k. weights_once d a b h.0 k.0 (cut_once d o x (entry_at a) (entry_at b) h.1 k.1))
 
-  pub cut_in-made : (x z : ℕ → ℚ) (plan : List ℚ) → length plan ≡ sequences d → Agree d z (weight_at plan) → IsCut d x z → All StepFits (cutting_steps d z) → cut_in d x (Ok plan)
+  pub cut_in-made : (x z : ℕ → ℚ) (plan : List ℚ) → length plan ≡ sequences d → Agree d z (entry_at plan) → IsCut d x z → All StepFits (cutting_steps d z) → cut_in d x (Ok plan)
   cut_in-made x z plan c e r f =
-      plan_in-made (IsCutPlan d x) (λ plan. cutting_steps d (weight_at plan)) plan (c, cut_as d o x x z (weight_at plan) (λ q l. refl) e r) (subst (All StepFits) (cutting_same d o z (weight_at plan) e) f)
+      plan_in-made (IsCutPlan d x) (λ plan. cutting_steps d (entry_at plan)) plan (c, cut_as d o x x z (entry_at plan) (λ q l. refl) e r) (subst (All StepFits) (cutting_same d o z (entry_at plan) e) f)
 
   pub cut_in-stop : (x z : ℕ → ℚ) (u : Step) → IsCut d x z → IsFirstUnfit (cutting_steps d z) u → cut_in d x (Err u)
   cut_in-stop x z u r f =
       let plan = weights_of d z in
-      plan_in-stop (IsCutPlan d x) (λ plan. cutting_steps d (weight_at plan)) plan u (length-map-range_with_len z 0 (sequences d), cut_as d o x x z (weight_at plan) (λ q l. refl) (weights_there d z) r)
-      (subst (λ ss. IsFirstUnfit ss u) (cutting_same d o z (weight_at plan) (weights_there d z)) f)
+      plan_in-stop (IsCutPlan d x) (λ plan. cutting_steps d (entry_at plan)) plan u (length-map-range_with_len z 0 (sequences d), cut_as d o x x z (entry_at plan) (λ q l. refl) (weights_there d z) r)
+      (subst (λ ss. IsFirstUnfit ss u) (cutting_same d o z (entry_at plan) (weights_there d z)) f)
 
   pub cut_in-as : (x y : ℕ → ℚ) (answer : Result (List ℚ) Step) → Agree d x y → cut_in d x answer → cut_in d y answer
   cut_in-as x y answer e =
-      plan_in-as (IsCutPlan d x) (λ plan. cutting_steps d (weight_at plan)) (IsCutPlan d y) (λ plan. cutting_steps d (weight_at plan)) answer
-      (λ plan h. (h.0, cut_as d o x y (weight_at plan) (weight_at plan) e (λ q l. refl) h.1)) (λ plan. refl)
+      plan_in-as (IsCutPlan d x) (λ plan. cutting_steps d (entry_at plan)) (IsCutPlan d y) (λ plan. cutting_steps d (entry_at plan)) answer
+      (λ plan h. (h.0, cut_as d o x y (entry_at plan) (entry_at plan) e (λ q l. refl) h.1)) (λ plan. refl)

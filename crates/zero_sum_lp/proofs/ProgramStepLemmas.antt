@@ -1,14 +1,13 @@
 -- The sums and gains of a form, one after another.
-use Rattle.std.proofs.Common.{ℕ, zero, suc, Bool, true, false, true≢false, ◌<◌, ◌≤◌, ◌≡◌, ◌≢◌, ◌+◌, inl, inr, List, [], ◌∷◌, ◌++◌, Result, Ok, Err, length, map, get_or, take, drop, refl, sym, ap, ap₂, ◌∙◌, subst, arith}
+use Rattle.std.proofs.Common.{ℕ, zero, suc, Bool, true, false, true≢false, ◌<◌, ◌≤◌, ◌≡◌, ◌≢◌, ◌+◌, inl, inr, List, [], ◌∷◌, ◌++◌, Result, Ok, length, map, get_or, take, drop, refl, sym, ap, ap₂, ◌∙◌, subst, arith}
 use Rattle.std.specs.Prelude.{IfOk, IfErr, OnOk, OnErr, not}
 use Rattle.std.proofs.lemmas.Bool.{cases_eq}
 use Rattle.std.proofs.lemmas.List.{get_or-map, get_or_default, length-map, length-drop, length-take-le, get_or-take}
-use Rattle.std.proofs.lemmas.List.Elements.{All-cons}
 use Rattle.std.proofs.lemmas.Grind.{get_or_after_one}
 use Rattle.rational.specs.Rational.{ℚ, ◌-ℚ◌, ◌*ℚ◌, zero_ℚ}
-use Rattle.frac128.specs.Steps.{MulFits, SubFits, unfit, Step, StepFits, StepsGive}
+use Rattle.frac128.specs.Steps.{MulFits, SubFits, unfit, Step, StepsGive}
 use Rattle.frac128.specs.declared.steps.Op.TheVariants.{Sub, Mul}
-use Rattle.frac128.proofs.StepRunLemmas.{first_unfit-next, first_unfit-same, one-fits}
+use Rattle.frac128.proofs.StepRunLemmas.{one-fits, subtracted-gives, following-gives}
 use Rattle.sequence_data.specs.declared.types.Cell.{Cell}
 use Rattle.sequence_data.specs.declared.types.Leaf.{Leaf}
 use Rattle.frac128.proofs.FirstUnfitLemmas.{split_here}
@@ -20,11 +19,9 @@ use Rattle.rational.specs.Tests.{eq_ℚ}
 pub difference_gives : (least : ℚ) (c : Cell) (part : ℚ) (r : Result ℚ Step) → part ≡ least *ℚ c.weight → MulFits least c.weight
     → IfOk r (λ v. v ≡ c.one -ℚ part) → OnOk r (SubFits c.one part) → IfErr r (λ e. e ≡ unfit Sub c.one part) → OnErr r (SubFits c.one part → ⊥)
     → StepsGive (gain_steps least c) (gain_at least c) r
-difference_gives least c part (Ok v) is product value fits step refused =
-    (value ∙ ap (λ p. c.one -ℚ p) is, All-cons StepFits (unfit Mul least c.weight) (unfit Sub c.one (least *ℚ c.weight) ∷ []) product (one-fits (unfit Sub c.one (least *ℚ c.weight)) (subst (SubFits c.one) is fits)))
-difference_gives least c part (Err e) is product value fits step refused =
-    first_unfit-next (unfit Mul least c.weight) (unfit Sub c.one (least *ℚ c.weight) ∷ []) e product
-    (first_unfit-same (unfit Sub c.one (least *ℚ c.weight)) [] e (λ f. refused (subst (SubFits c.one) (sym is) f)) (step ∙ ap (unfit Sub c.one) is))
+difference_gives least c part r is product value fits step refused =
+    following-gives (unfit Mul least c.weight ∷ []) (unfit Sub c.one (least *ℚ c.weight) ∷ []) (gain_at least c) r (one-fits (unfit Mul least c.weight) product)
+    (subst (λ p. StepsGive (unfit Sub c.one p ∷ []) (c.one -ℚ p) r) is (subtracted-gives c.one part r value fits step refused))
 
 -- ---- the sums
 module _ (leaves : List Leaf) (sums : List ℚ) (are : sums ≡ map sum_at leaves) where

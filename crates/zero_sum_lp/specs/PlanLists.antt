@@ -2,14 +2,13 @@
 use Rattle.std.specs.Prelude.{ℕ, ◌+◌, ◌<◌, ◌≡◌, List, length}
 use Rattle.rational.specs.Extremes.{IsLesser}
 use Rattle.rational.specs.Rational.{ℚ, ◌-ℚ◌}
-use Rattle.rational.specs.Sum.{sum_to}
+use Rattle.rational.specs.Sum.{sum_to, entry_at}
 use Rattle.frac128.specs.Steps.{Step, IsFirstUnfit}
-use Rattle.sequence_data.specs.Weights.{weight_at}
 use Rattle.zero_sum_lp.specs.PlanSteps.{rest_steps}
 
 -- the weights of the actions of a set with this first sequence
 abbrev pub weights_from : List ℚ → ℕ → ℕ → ℚ
-weights_from weights first a = weight_at weights (first + a)
+weights_from weights first a = entry_at weights (first + a)
 
 -- n actions in order each got the less of their raw weight x and what the ones before left of w
 abbrev pub AreShares : ℚ → (ℕ → ℚ) → (ℕ → ℚ) → ℕ → Type 0
@@ -22,4 +21,4 @@ IsUnfitShare w x n e = (z : ℕ → ℚ) → AreShares w x z n → IsFirstUnfit 
 -- the first n weights of a list
 pub record AreWeights (n : ℕ) (x : ℕ → ℚ) (weights : List ℚ) : Type 0 where
   pub count : length weights ≡ n
-  pub same : (q : ℕ) → q < n → weight_at weights q ≡ x q
+  pub same : (q : ℕ) → q < n → entry_at weights q ≡ x q

@@ -6,7 +6,7 @@ use Rattle.frac128.specs.FirstUnfit.{all_steps_fit}
 use Rattle.frac128.specs.Steps.{Step}
 use Rattle.sequence_forms.specs.Sides.{Side, sequences}
 use Rattle.sequence_data.specs.Data.{IsSideData, side_of}
-use Rattle.sequence_data.specs.Weights.{weight_at}
+use Rattle.rational.specs.Sum.{entry_at}
 use Rattle.zero_sum_lp.specs.declared.stop.PlanStop.{PlanStop}
 use Rattle.zero_sum_lp.specs.declared.stop.PlanStop.TheVariants.{Range}
 use Rattle.zero_sum_lp.specs.Parts.{Program, first_raw, second_raw}
@@ -23,19 +23,19 @@ plan_in is_plan steps = do
 
 -- a weight for each sequence, made of raw weights by raising
 abbrev pub IsRaisedPlan : Side → (ℕ → ℚ) → List ℚ → Type 0
-IsRaisedPlan d raw plan = (length plan ≡ sequences d) × IsRaised d raw (weight_at plan)
+IsRaisedPlan d raw plan = (length plan ≡ sequences d) × IsRaised d raw (entry_at plan)
 
 -- the raised plan, or the first step that does not fit
 abbrev pub raised_in : Side → (ℕ → ℚ) → Answer Step (List ℚ)
-raised_in d raw = plan_in (IsRaisedPlan d raw) (λ plan. raising_steps d raw (weight_at plan))
+raised_in d raw = plan_in (IsRaisedPlan d raw) (λ plan. raising_steps d raw (entry_at plan))
 
 -- a weight for each sequence, made of raw weights by cutting
 abbrev pub IsCutPlan : Side → (ℕ → ℚ) → List ℚ → Type 0
-IsCutPlan d raw plan = (length plan ≡ sequences d) × IsCut d raw (weight_at plan)
+IsCutPlan d raw plan = (length plan ≡ sequences d) × IsCut d raw (entry_at plan)
 
 -- the cut plan, or the first step that does not fit
 abbrev pub cut_in : Side → (ℕ → ℚ) → Answer Step (List ℚ)
-cut_in d raw = plan_in (IsCutPlan d raw) (λ plan. cutting_steps d (weight_at plan))
+cut_in d raw = plan_in (IsCutPlan d raw) (λ plan. cutting_steps d (entry_at plan))
 
 -- The plans of an optimum, the first player's raised and the second's cut; or the player, 0 or 1,
 -- with the first step that does not fit.

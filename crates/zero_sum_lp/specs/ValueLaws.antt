@@ -12,7 +12,7 @@ use Rattle.sequence_forms.specs.Sides.{sequences}
 use Rattle.sequence_forms.specs.TableLaws.{ProvesValueOfTable}
 use Rattle.zero_sum_lp.specs.Programs.{IsProgramOf}
 use Rattle.zero_sum_lp.specs.Parts.{Program, IsProgram, IsOptimumOf, first_prices, second_prices}
-use Rattle.sequence_data.specs.Weights.{weight_at}
+use Rattle.rational.specs.Sum.{entry_at}
 use Rattle.zero_sum_lp.specs.FormPrograms.{program_in}
 use Rattle.zero_sum_lp.specs.PlanStops.{plans_of}
 use Rattle.zero_sum_lp.specs.PlanPairs.{PlanPair}
@@ -32,7 +32,7 @@ abbrev pub OptimalPlansProveTheValue : Type 0
 OptimalPlansProveTheValue =
     (f : SequenceForm) (least : ℚ) (p o : Program) (plans : PlanPair) → IsProgram p
     → IsProgramOfForm f least p → IsOptimumOf p o → plans_of o (Ok plans)
-    → IsValueProof f least (weight_at plans.one) (weight_at plans.two) (first_prices o) (second_prices o)
+    → IsValueProof f least (entry_at plans.one) (entry_at plans.two) (first_prices o) (second_prices o)
     (second_prices o 0 +ℚ least)
 
 -- of a tree whose leaves' payoffs sum to the same number: behaviour in equilibrium, its value, and
@@ -42,7 +42,7 @@ OptimalPlansSolveTrees =
     (t : Tree) (f : SequenceForm) (least sum : ℚ) (p o : Program) (plans : PlanPair)
     → HasTwoWhoRecall t → FormsAlike f (form_of t) → LeavesSumTo t sum → IsProgram p
     → IsProgramOfForm f least p → IsOptimumOf p o → plans_of o (Ok plans)
-    → ProvesValueOfTree t (weight_at plans.one) (weight_at plans.two) (second_prices o 0 +ℚ least)
+    → ProvesValueOfTree t (entry_at plans.one) (entry_at plans.two) (second_prices o 0 +ℚ least)
 
 -- of a table whose payoffs sum to the same number: strategies in equilibrium, their value, and both
 -- guarantees
@@ -52,7 +52,7 @@ OptimalPlansSolveTables =
     → g.strategies ≡ m ∷ n ∷ [] → FormsAlike f (form_of_table g m n)
     → HasConstantSum (form_of_table g m n) sum → IsProgram p
     → IsProgramOfForm f least p → IsOptimumOf p o → plans_of o (Ok plans)
-    → ProvesValueOfTable g (weight_at plans.one) (weight_at plans.two) (second_prices o 0 +ℚ least)
+    → ProvesValueOfTable g (entry_at plans.one) (entry_at plans.two) (second_prices o 0 +ℚ least)
 
 -- The program that a form has is a program, and that of the form, where no gain is negative.
 abbrev pub ProgramsAreOfForms : Type 0

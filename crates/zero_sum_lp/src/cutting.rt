@@ -4,7 +4,7 @@ ghost use Rattle.answers.specs.Answers.{map_ok};
 ghost use Rattle.frac128.specs.Steps.{StepFits};
 ghost use Rattle.sequence_forms.specs.Sides.{sequences};
 ghost use Rattle.sequence_data.specs.Data.{IsSideData, side_of};
-ghost use Rattle.sequence_data.specs.Weights.{weight_at};
+ghost use Rattle.rational.specs.Sum.{entry_at};
 ghost use Rattle.zero_sum_lp.specs.PlanLists.{AreShares, IsUnfitShare, weights_from};
 ghost use Rattle.zero_sum_lp.specs.PlanSteps.{rest_steps};
 ghost use Rattle.zero_sum_lp.specs.PlanStops.{cut_in};
@@ -18,15 +18,15 @@ fn cut_set(weights: &mut [Frac], before: usize, first: usize, count: usize) -> R
     requires before_in { before < first }
     requires actions_in { first + count ≤ length weights.old }
     ensures length { length weights.new ≡ length weights.old }
-    ensures low { (q : ℕ) → q < first → weight_at weights.new q ≡ weight_at weights.old q }
+    ensures low { (q : ℕ) → q < first → entry_at weights.new q ≡ entry_at weights.old q }
     ensures high { OnOk result ((q : ℕ) → first + count ≤ q
-        → weight_at weights.new q ≡ weight_at weights.old q) }
-    ensures shares { OnOk result (AreShares (weight_at weights.old before)
+        → entry_at weights.new q ≡ entry_at weights.old q) }
+    ensures shares { OnOk result (AreShares (entry_at weights.old before)
         (weights_from weights.old first) (weights_from weights.new first) count) }
     ensures fits { OnOk result (All StepFits
-        (rest_steps (weight_at weights.old before) (weights_from weights.new first) count)) }
+        (rest_steps (entry_at weights.old before) (weights_from weights.new first) count)) }
     ensures unfit { IfErr result
-        (IsUnfitShare (weight_at weights.old before) (weights_from weights.old first) count) }
+        (IsUnfitShare (entry_at weights.old before) (weights_from weights.old first) count) }
 {
     let mut left = weight_at(weights, before);
     for action in 0..count {
@@ -46,7 +46,7 @@ pub fn cut(weights: &mut [Frac], side: &Side) -> Result<(), Unfit>
     requires side { IsSideData side.now }
     requires shape { length weights.old ≡ sequences (side_of side.now) }
     ensures length { length weights.new ≡ length weights.old }
-    ensures stage { cut_in (side_of side.now) (weight_at weights.old)
+    ensures stage { cut_in (side_of side.now) (entry_at weights.old)
         (map_ok result (λ _. weights.new)) }
 {
     set_weight(weights, 0, Frac::one());

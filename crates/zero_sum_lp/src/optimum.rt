@@ -4,7 +4,7 @@ ghost use Rattle.std.specs.Prelude.{◌≡◌, ◌≢◌, ◌≤◌, ◌<◌, �
 ghost use Rattle.sequence_forms.specs.Sides.{sequences};
 ghost use Rattle.answers.specs.Answers.{Gives, map_ok};
 ghost use Rattle.zero_sum_lp.specs.declared.stop.PlanStop.TheVariants as plan_stops;
-ghost use Rattle.sequence_data.specs.Weights.{weight_at};
+ghost use Rattle.rational.specs.Sum.{entry_at};
 ghost use Rattle.zero_sum_lp.specs.PlanLists.{AreWeights};
 ghost use Rattle.zero_sum_lp.specs.PlanStops.{cut_in, plans_of, raised_in};
 ghost use Rattle.linear_systems.specs.Rows.{coefficient, HasDistinctVariables};
@@ -80,7 +80,7 @@ impl Plans {
 fn raised(weights: Vec<Frac>, side: &Side) -> Result<Vec<Frac>, Unfit>
     requires side { IsSideData side.now }
     requires shape { length weights.items ≡ sequences (side_of side.now) }
-    ensures { raised_in (side_of side.now) (weight_at weights.items)
+    ensures { raised_in (side_of side.now) (entry_at weights.items)
         (map_ok result (λ plan. plan.items)) }
 {
     let mut weights = weights;
@@ -92,7 +92,7 @@ fn raised(weights: Vec<Frac>, side: &Side) -> Result<Vec<Frac>, Unfit>
 fn lessened(weights: Vec<Frac>, side: &Side) -> Result<Vec<Frac>, Unfit>
     requires side { IsSideData side.now }
     requires shape { length weights.items ≡ sequences (side_of side.now) }
-    ensures { cut_in (side_of side.now) (weight_at weights.items)
+    ensures { cut_in (side_of side.now) (entry_at weights.items)
         (map_ok result (λ plan. plan.items)) }
 {
     let mut weights = weights;
@@ -102,7 +102,7 @@ fn lessened(weights: Vec<Frac>, side: &Side) -> Result<Vec<Frac>, Unfit>
 
 // The entry of the objective row at a variable that is not its own, which counts as 0 where the
 // variable is basic.
-fn entry_at(current: &Tableau, objective: usize, width: usize, variable: u32) -> Frac
+fn objective_entry(current: &Tableau, objective: usize, width: usize, variable: u32) -> Frac
     requires row_in { objective < length current.now.basics }
     requires width_is { width ≡ length current.now.nonbasics }
     requires distinct { HasDistinctVariables (tableau current.now) }
@@ -144,7 +144,7 @@ impl Optimum {
         requires { k ≤ length self.now.first.sets }
         ensures { result ≡ first_prices self.now k }
     {
-        entry_at(self.work.now(), self.objective, self.width, k + 1)
+        objective_entry(self.work.now(), self.objective, self.width, k + 1)
     }
 
     /// The price of the whole game (0) or of the second player's set k - 1, counted from 0.
@@ -177,7 +177,7 @@ impl Optimum {
         let mut raw = Vec::new(alloc);
         let before = self.first.sets().len() + 1;
         for q in 0..self.objective - before {
-            raw.push(entry_at(
+            raw.push(objective_entry(
                 self.work.now(),
                 self.objective,
                 self.width,

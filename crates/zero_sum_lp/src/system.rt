@@ -1,5 +1,5 @@
 // The system of a form's program.
-ghost use Rattle.std.specs.Prelude.{◌≡◌, ◌+◌, ◌*◌, ◌<◌, ◌≤◌, ◌^◌, ℕ, suc, length, get_or, IfOk};
+ghost use Rattle.std.specs.Prelude.{◌≡◌, ◌+◌, ◌*◌, ◌<◌, ◌≤◌, ◌^◌, suc, length, IfOk};
 ghost use Rattle.game_core.specs.Limits.{most_rows};
 ghost use Rattle.zero_sum_lp.specs.Programs.{columns_of, constraints, objective_cell, plan_cell};
 ghost use Rattle.sequence_data.specs.Data.{IsSideData, side_of};

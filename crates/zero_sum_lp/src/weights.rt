@@ -1,13 +1,13 @@
 // Reads and writes of weights and sets.
 ghost use Rattle.std.specs.Prelude.{◌≡◌, ◌≢◌, ◌<◌, ℕ, length};
-ghost use Rattle.sequence_data.specs.Weights.{weight_at};
+ghost use Rattle.rational.specs.Sum.{entry_at};
 
 use frac128::Frac;
 
 /// The weight of a sequence.
 pub fn weight_at(weights: &[Frac], place: usize) -> Frac
     requires { place < length weights.now }
-    ensures { result ≡ weight_at weights.now place }
+    ensures { result ≡ entry_at weights.now place }
 {
     weights[place]
 }
@@ -16,8 +16,8 @@ pub fn weight_at(weights: &[Frac], place: usize) -> Frac
 pub fn set_weight(weights: &mut [Frac], place: usize, value: Frac)
     requires { place < length weights.old }
     ensures length { length weights.new ≡ length weights.old }
-    ensures here { weight_at weights.new place ≡ value }
-    ensures others { (q : ℕ) → q ≢ place → weight_at weights.new q ≡ weight_at weights.old q }
+    ensures here { entry_at weights.new place ≡ value }
+    ensures others { (q : ℕ) → q ≢ place → entry_at weights.new q ≡ entry_at weights.old q }
 {
     weights[place] = value;
 }

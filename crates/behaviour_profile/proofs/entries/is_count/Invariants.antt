@@ -2,7 +2,7 @@ use Rattle.std.proofs.Common.{◌≡◌, ◌+◌}
 use Rattle.std.specs.Prelude.{sum}
 use Rattle.std.specs.List.{range_with_len, flat_map}
 use Rattle.game_core.specs.TreeGame.{game_of_tree}
-use Rattle.strategy_lists.specs.Decisions.{own_counts}
+use Rattle.game_theory.specs.OwnSets.{own_counts}
 use Rattle.behaviour_profile.proofs.entries.is_count.Given as goal
 
 abbrev pub invariant-loop-player : goal.invariant-loop-player

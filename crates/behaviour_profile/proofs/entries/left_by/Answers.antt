@@ -3,8 +3,7 @@ use Rattle.std.specs.Prelude.{sum}
 use Rattle.std.proofs.lemmas.List.{length-map}
 use Rattle.game_core.specs.Tree.{InformationSet}
 use Rattle.game_core.specs.TreeGame.{game_of_tree}
-use Rattle.game_theory.specs.OwnSets.{own_sets}
-use Rattle.strategy_lists.specs.Decisions.{own_counts}
+use Rattle.game_theory.specs.OwnSets.{own_sets, own_counts}
 use Rattle.behaviour_profile.proofs.BehaviourEntryLemmas.{place-below_sets}
 use Rattle.behaviour_profile.proofs.GroupListLemmas.{sum-next, end-within, number-within}
 use Rattle.behaviour_profile.proofs.TreeGroupLemmas.{none-left, set-below, count-at, count-is}

@@ -1,8 +1,7 @@
 use Rattle.std.proofs.Common.{◌≡◌, ◌+◌, ◌-◌, length, take}
 use Rattle.std.specs.Prelude.{sum}
 use Rattle.game_core.specs.TreeGame.{game_of_tree}
-use Rattle.game_theory.specs.OwnSets.{own_sets}
-use Rattle.strategy_lists.specs.Decisions.{own_counts}
+use Rattle.game_theory.specs.OwnSets.{own_sets, own_counts}
 use Rattle.behaviour_profile.proofs.entries.left_by.Given as goal
 
 abbrev pub invariant-loop-set : goal.invariant-loop-set

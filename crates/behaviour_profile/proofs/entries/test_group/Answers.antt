@@ -5,7 +5,8 @@ use Rattle.std.proofs.lemmas.Result.{err_from_is_err_and}
 use Rattle.rational.specs.Rational.{◌≤ℚ◌, zero_ℚ}
 use Rattle.rational.proofs.PartLemmas.{nonneg-num, sign_nonneg}
 use Rattle.sequence_data.proofs.PlaceLemmas.{get_or-inside}
-use Rattle.behaviour_profile.specs.EntryTests.{Passes, entry_at}
+use Rattle.behaviour_profile.specs.EntryTests.{Passes}
+use Rattle.rational.specs.Sum.{entry_at}
 use Rattle.behaviour_profile.proofs.GroupTestLemmas.{tests_below, sum_below, negative_by_sign, negative_here, unfit_here, passed-next, sum-next, group-passed, sum_here}
 use Rattle.behaviour_profile.proofs.entries.test_group.Goals as goal
 use Rattle.behaviour_profile.proofs.entries.test_group.Goals.{After-signum}

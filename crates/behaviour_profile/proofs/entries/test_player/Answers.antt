@@ -5,7 +5,7 @@ use Rattle.std.proofs.lemmas.Result.{err_from_is_err_and}
 use Rattle.game_core.specs.Tree.{InformationSet}
 use Rattle.game_core.specs.TreeGame.{game_of_tree}
 use Rattle.behaviour_profile.specs.EntryTests.{Passes, tests_from}
-use Rattle.strategy_lists.specs.Decisions.{own_counts}
+use Rattle.game_theory.specs.OwnSets.{own_counts}
 use Rattle.behaviour_profile.proofs.GroupListLemmas.{sum-next, end-within, number-within, next_passes, next_fault}
 use Rattle.behaviour_profile.proofs.TreeGroupLemmas.{none-left, set-below, count-at, count-is, count-few}
 use Rattle.behaviour_profile.proofs.entries.test_player.Goals as goal

@@ -2,7 +2,7 @@ use Rattle.std.proofs.Common.{◌≡◌, ◌+◌, ◌-◌, ◌≤◌, All, lengt
 use Rattle.std.specs.Prelude.{sum}
 use Rattle.game_core.specs.TreeGame.{game_of_tree}
 use Rattle.behaviour_profile.specs.EntryTests.{Passes, tests_from}
-use Rattle.strategy_lists.specs.Decisions.{own_counts}
+use Rattle.game_theory.specs.OwnSets.{own_counts}
 use Rattle.behaviour_profile.proofs.entries.test_player.Given as goal
 
 abbrev pub invariant-loop-set : goal.invariant-loop-set

@@ -2,7 +2,7 @@ use Rattle.std.proofs.Common.{ap, length, ◌<◌, ◌≤◌, ◌+◌, ◌^◌, 
 use Rattle.std.specs.Prelude.{sum}
 use Rattle.std.proofs.lemmas.Result.{err_from_is_err_and}
 use Rattle.game_core.specs.TreeGame.{game_of_tree}
-use Rattle.strategy_lists.specs.Decisions.{own_counts}
+use Rattle.game_theory.specs.OwnSets.{own_counts}
 use Rattle.behaviour_profile.proofs.ActionTotalLemmas.{actions-few}
 use Rattle.behaviour_profile.proofs.TreeGroupLemmas.{total-next, groups-next, total-within, groups-within, player_passes, player_fault}
 use Rattle.behaviour_profile.proofs.entries.test_players.Goals as goal

@@ -3,7 +3,7 @@ use Rattle.std.specs.Prelude.{sum}
 use Rattle.std.specs.List.{range_with_len, flat_map}
 use Rattle.game_core.specs.TreeGame.{game_of_tree}
 use Rattle.behaviour_profile.specs.EntryTests.{Passes, tests_from}
-use Rattle.strategy_lists.specs.Decisions.{own_counts}
+use Rattle.game_theory.specs.OwnSets.{own_counts}
 use Rattle.behaviour_profile.proofs.entries.test_players.Given as goal
 
 abbrev pub invariant-loop-player : goal.invariant-loop-player

@@ -11,18 +11,19 @@ use Rattle.game_theory.proofs.EntryLemmas.{listed-push}
 use Rattle.frac128.proofs.StepRunLemmas.{first_unfit-more, first_unfit-following}
 use Rattle.extreme_equilibria.specs.Polytopes.{scaled}
 use Rattle.extreme_equilibria.proofs.PositiveNumberLemmas.{sum-pos}
-use Rattle.label_pairing.specs.Scaling.{entry_of, division, sum_steps}
+use Rattle.label_pairing.specs.Scaling.{division, sum_steps}
+use Rattle.rational.specs.Sum.{entry_at}
 use Rattle.frac128.proofs.StepListLemmas.{fits-next, unfit-first, fits-all}
 use Rattle.label_pairing.proofs.scaling.scaled.Goals as goal
 
 pub div-requires : goal.div-requires
 div-requires c e =
-    ne_zero_of_pos _ (sum-pos (length c.args.point.now) (entry_of c.args.point.now) c.requires.not_negative c.requires.nonzero) (sym c.in_ok-sum.ensures.0 ∙ e)
+    ne_zero_of_pos _ (sum-pos (length c.args.point.now) (entry_at c.args.point.now) c.requires.not_negative c.requires.nonzero) (sym c.in_ok-sum.ensures.0 ∙ e)
 
 pub returns-in_err-div : goal.returns-in_err-div
 returns-in_err-div c =
     let p = c.args.point.now in
-    let read : c.index-point-i.result ≡ entry_of p c.loop-i.i = c.index-point-i.is ∙ get_or_default p c.loop-i.i c.index-point-i.result zero_ℚ c.loop-i-test.true in
+    let read : c.index-point-i.result ≡ entry_at p c.loop-i.i = c.index-point-i.is ∙ get_or_default p c.loop-i.i c.index-point-i.result zero_ℚ c.loop-i-test.true in
     let stop = err_from_is_err_and c.from_residual-in_err-div.result c.from_residual-in_err-div.ensures.1 in
     rw (stop.1, stop.2) (inr (inl (c.in_err-div.field-0.0, first_unfit-following (sum_steps p) _ c.in_err-div.field-0.0 c.in_ok-sum.ensures.1 (unfit-first (division p) (length p) c.loop-i.i c.loop-i-test.true c.in_err-div.field-0.0 c.loop-i.invariant.fits (λ f. c.in_err-div.ensures.unfit (subst₂ DivFits (sym read) (sym c.in_ok-sum.ensures.0) f)) (c.in_err-div.ensures.step ∙ ap₂ (λ x y. unfit Div x y) read c.in_ok-sum.ensures.0)), refl)))
 
@@ -34,9 +35,9 @@ returns-in_err-sum c =
 pub loop-i-preserved : goal.loop-i-preserved
 loop-i-preserved c =
     let p = c.args.point.now in
-    let read : c.index-point-i.result ≡ entry_of p c.loop-i.i = c.index-point-i.is ∙ get_or_default p c.loop-i.i c.index-point-i.result zero_ℚ c.loop-i-test.true in
+    let read : c.index-point-i.result ≡ entry_at p c.loop-i.i = c.index-point-i.is ∙ get_or_default p c.loop-i.i c.index-point-i.result zero_ℚ c.loop-i-test.true in
     record {
-      value = listed-push c.push.new.self.items c.loop-i.scaled.items [] c.loop-i.i (scaled (length p) (entry_of p)) c.in_ok-div.field-0 c.loop-i.invariant.value c.in_ok-push.ensures.items (c.in_ok-div.ensures.value ∙ ap₂ (λ x y. x *ℚ inv_ℚ y) read c.in_ok-sum.ensures.0);
+      value = listed-push c.push.new.self.items c.loop-i.scaled.items [] c.loop-i.i (scaled (length p) (entry_at p)) c.in_ok-div.field-0 c.loop-i.invariant.value c.in_ok-push.ensures.items (c.in_ok-div.ensures.value ∙ ap₂ (λ x y. x *ℚ inv_ℚ y) read c.in_ok-sum.ensures.0);
       fits = fits-next (division p) (length p) c.loop-i.i c.loop-i-test.true c.loop-i.invariant.fits (subst₂ DivFits read c.in_ok-sum.ensures.0 c.in_ok-div.ensures.fits);
     }
 
@@ -44,4 +45,4 @@ pub returns : goal.returns
 returns c =
     let p = c.args.point.now in
     let end : c.loop-i.i ≡ length p = omega arith in
-    (tt, All-append StepFits (sum_steps p) _ c.in_ok-sum.ensures.1 (fits-all (division p) (length p) c.loop-i.i c.loop-i-test.false c.loop-i.invariant.fits), ap Ok (c.loop-i.invariant.value ∙ ap (λ n. listed n (scaled (length p) (entry_of p))) end))
+    (tt, All-append StepFits (sum_steps p) _ c.in_ok-sum.ensures.1 (fits-all (division p) (length p) c.loop-i.i c.loop-i-test.false c.loop-i.invariant.fits), ap Ok (c.loop-i.invariant.value ∙ ap (λ n. listed n (scaled (length p) (entry_at p))) end))

@@ -3,11 +3,12 @@ use Rattle.std.specs.List.{range_with_len}
 use Rattle.game_theory.specs.Lines.{listed}
 use Rattle.frac128.specs.Steps.{StepFits}
 use Rattle.extreme_equilibria.specs.Polytopes.{scaled}
-use Rattle.label_pairing.specs.Scaling.{entry_of, division}
+use Rattle.label_pairing.specs.Scaling.{division}
+use Rattle.rational.specs.Sum.{entry_at}
 use Rattle.label_pairing.proofs.scaling.scaled.Given as goal
 
 abbrev pub invariant-loop-i : goal.invariant-loop-i
 invariant-loop-i l = record {
-  value : l.scaled.items ≡ listed l.i (scaled (length l.point) (entry_of l.point));
+  value : l.scaled.items ≡ listed l.i (scaled (length l.point) (entry_at l.point));
   fits : All StepFits (take l.i (map (division l.point) (range_with_len 0 (length l.point))));
 }

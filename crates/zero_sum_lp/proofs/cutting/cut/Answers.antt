@@ -2,7 +2,7 @@ use Rattle.std.proofs.Common.{◌∙◌, ◌<◌, ap, List, length, subst, arith
 use Rattle.std.proofs.lemmas.Result.{err_from_is_err_and}
 use Rattle.sequence_data.specs.declared.types.SetRow.{SetRow}
 use Rattle.sequence_data.specs.Data.{side_of}
-use Rattle.sequence_data.specs.Weights.{weight_at}
+use Rattle.rational.specs.Sum.{entry_at}
 use Rattle.zero_sum_lp.proofs.CutListLemmas.{cut_begins, cut_ends, cut_next, cut_stops}
 use Rattle.zero_sum_lp.proofs.PlanListLemmas.{IsSetOf, set_read, set_in, set_follows}
 use Rattle.zero_sum_lp.proofs.OptimumLemmas.{sets_are}
@@ -13,7 +13,7 @@ pub loop-j-init : goal.loop-j-init
 loop-j-init c =
     record {
       shape = c.set_weight.ensures.length;
-      cut = cut_begins (side_of c.args.side.now) c.requires.side.ordered (weight_at c.args.weights.now) (weight_at c.set_weight.new.weights) (c.set_weight.ensures.here ∙ c.one.ensures) c.set_weight.ensures.others;
+      cut = cut_begins (side_of c.args.side.now) c.requires.side.ordered (entry_at c.args.weights.now) (entry_at c.set_weight.new.weights) (c.set_weight.ensures.here ∙ c.one.ensures) c.set_weight.ensures.others;
     }
 
 -- the set that was read
@@ -32,17 +32,17 @@ loop-j-preserved c =
     let a = (goal.at.loop-j-preserved c).After-set_at-set in
     record {
       shape = c.cut_set.ensures.length ∙ c.loop-j.invariant.shape;
-      cut = cut_next (side_of c.args.side.now) c.requires.side.ordered c.loop-j.j c.set_at-set.result.before c.set_at-set.result.first c.set_at-set.result.count (weight_at c.args.weights.now) (weight_at c.loop-j.weights) (weight_at c.cut_set.new.weights) (read a) c.loop-j.invariant.cut (record { low = c.cut_set.ensures.low; high = c.in_ok-cut_set.ensures.high; shares = c.in_ok-cut_set.ensures.shares; fits = c.in_ok-cut_set.ensures.fits });
+      cut = cut_next (side_of c.args.side.now) c.requires.side.ordered c.loop-j.j c.set_at-set.result.before c.set_at-set.result.first c.set_at-set.result.count (entry_at c.args.weights.now) (entry_at c.loop-j.weights) (entry_at c.cut_set.new.weights) (read a) c.loop-j.invariant.cut (record { low = c.cut_set.ensures.low; high = c.in_ok-cut_set.ensures.high; shares = c.in_ok-cut_set.ensures.shares; fits = c.in_ok-cut_set.ensures.fits });
     }
 
 pub returns-in_err-cut_set-clause-stage : goal.returns-in_err-cut_set-clause-stage
 returns-in_err-cut_set-clause-stage c =
     let a = (goal.at.returns-in_err-cut_set-clause-stage c).After-set_at-set in
     let p = err_from_is_err_and c.from_residual.result c.from_residual.ensures.1 in
-    rw (p.1, p.2) (cut_stops (side_of c.args.side.now) c.requires.side.ordered c.loop-j.j c.set_at-set.result.before c.set_at-set.result.first c.set_at-set.result.count (weight_at c.args.weights.now) (weight_at c.loop-j.weights) c.in_err-cut_set.field-0.0 (read a) c.loop-j.invariant.cut c.in_err-cut_set.ensures.unfit)
+    rw (p.1, p.2) (cut_stops (side_of c.args.side.now) c.requires.side.ordered c.loop-j.j c.set_at-set.result.before c.set_at-set.result.first c.set_at-set.result.count (entry_at c.args.weights.now) (entry_at c.loop-j.weights) c.in_err-cut_set.field-0.0 (read a) c.loop-j.invariant.cut c.in_err-cut_set.ensures.unfit)
 
 pub returns-clause-stage : goal.returns-clause-stage
 returns-clause-stage c =
     let all = sets_are c.args.side.now in
     let end = ap (λ (xs : List SetRow). length xs) c.sets-j-end.ensures in
-    cut_ends (side_of c.args.side.now) c.requires.side.ordered c.loop-j.j (weight_at c.args.weights.now) c.loop-j.weights (omega arith) (c.loop-j.invariant.shape ∙ c.requires.shape) c.loop-j.invariant.cut
+    cut_ends (side_of c.args.side.now) c.requires.side.ordered c.loop-j.j (entry_at c.args.weights.now) c.loop-j.weights (omega arith) (c.loop-j.invariant.shape ∙ c.requires.shape) c.loop-j.invariant.cut

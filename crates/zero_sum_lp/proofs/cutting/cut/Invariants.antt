@@ -1,6 +1,6 @@
 use Rattle.std.proofs.Common.{◌≡◌, length}
 use Rattle.sequence_data.specs.Data.{side_of}
-use Rattle.sequence_data.specs.Weights.{weight_at}
+use Rattle.rational.specs.Sum.{entry_at}
 use Rattle.zero_sum_lp.proofs.CutListLemmas.{IsCutTo}
 use Rattle.zero_sum_lp.proofs.cutting.cut.Given as goal
 
@@ -8,5 +8,5 @@ abbrev pub invariant-loop-j : goal.invariant-loop-j
 invariant-loop-j l =
     record {
       shape : length l.weights ≡ length l.fn.weights;
-      cut : IsCutTo (side_of l.side) l.j (weight_at l.fn.weights) (weight_at l.weights);
+      cut : IsCutTo (side_of l.side) l.j (entry_at l.fn.weights) (entry_at l.weights);
     }

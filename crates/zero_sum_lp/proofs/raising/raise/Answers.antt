@@ -2,7 +2,7 @@ use Rattle.std.proofs.Common.{◌∙◌, ◌<◌, ap, List, length, subst, arith
 use Rattle.std.proofs.lemmas.Result.{err_from_is_err_and}
 use Rattle.sequence_data.specs.declared.types.SetRow.{SetRow}
 use Rattle.sequence_data.specs.Data.{side_of}
-use Rattle.sequence_data.specs.Weights.{weight_at}
+use Rattle.rational.specs.Sum.{entry_at}
 use Rattle.zero_sum_lp.proofs.PlanListLemmas.{IsSetOf, set_read, set_in, raise_begins, raise_ends, raise_next, raise_stops}
 use Rattle.zero_sum_lp.proofs.OptimumLemmas.{sets_are}
 use Rattle.zero_sum_lp.proofs.raising.raise.Goals as goal
@@ -12,7 +12,7 @@ pub loop-j-init : goal.loop-j-init
 loop-j-init c =
     record {
       shape = c.set_weight.ensures.length;
-      raised = raise_begins (side_of c.args.side.now) c.requires.side.ordered (weight_at c.args.weights.now) (weight_at c.set_weight.new.weights) (c.set_weight.ensures.here ∙ c.one.ensures) c.set_weight.ensures.others;
+      raised = raise_begins (side_of c.args.side.now) c.requires.side.ordered (entry_at c.args.weights.now) (entry_at c.set_weight.new.weights) (c.set_weight.ensures.here ∙ c.one.ensures) c.set_weight.ensures.others;
     }
 
 -- the set that was read
@@ -31,17 +31,17 @@ loop-j-preserved c =
     let a = (goal.at.loop-j-preserved c).After-set_at-set in
     record {
       shape = c.raise_set.ensures.length ∙ c.loop-j.invariant.shape;
-      raised = raise_next (side_of c.args.side.now) c.requires.side.ordered c.loop-j.j c.set_at-set.result.before c.set_at-set.result.first c.set_at-set.result.count (weight_at c.args.weights.now) (weight_at c.loop-j.weights) (weight_at c.raise_set.new.weights) (read a) c.loop-j.invariant.raised (record { first_action = c.in_ok-raise_set.ensures.raised; others = c.raise_set.ensures.others; fits = c.in_ok-raise_set.ensures.fits });
+      raised = raise_next (side_of c.args.side.now) c.requires.side.ordered c.loop-j.j c.set_at-set.result.before c.set_at-set.result.first c.set_at-set.result.count (entry_at c.args.weights.now) (entry_at c.loop-j.weights) (entry_at c.raise_set.new.weights) (read a) c.loop-j.invariant.raised (record { first_action = c.in_ok-raise_set.ensures.raised; others = c.raise_set.ensures.others; fits = c.in_ok-raise_set.ensures.fits });
     }
 
 pub returns-in_err-raise_set-clause-stage : goal.returns-in_err-raise_set-clause-stage
 returns-in_err-raise_set-clause-stage c =
     let a = (goal.at.returns-in_err-raise_set-clause-stage c).After-set_at-set in
     let p = err_from_is_err_and c.from_residual.result c.from_residual.ensures.1 in
-    rw (p.1, p.2) (raise_stops (side_of c.args.side.now) c.requires.side.ordered c.loop-j.j c.set_at-set.result.before c.set_at-set.result.first c.set_at-set.result.count (weight_at c.args.weights.now) (weight_at c.loop-j.weights) c.in_err-raise_set.field-0.0 (read a) c.loop-j.invariant.raised c.in_err-raise_set.ensures.unfit)
+    rw (p.1, p.2) (raise_stops (side_of c.args.side.now) c.requires.side.ordered c.loop-j.j c.set_at-set.result.before c.set_at-set.result.first c.set_at-set.result.count (entry_at c.args.weights.now) (entry_at c.loop-j.weights) c.in_err-raise_set.field-0.0 (read a) c.loop-j.invariant.raised c.in_err-raise_set.ensures.unfit)
 
 pub returns-clause-stage : goal.returns-clause-stage
 returns-clause-stage c =
     let all = sets_are c.args.side.now in
     let end = ap (λ (xs : List SetRow). length xs) c.sets-j-end.ensures in
-    raise_ends (side_of c.args.side.now) c.requires.side.ordered c.loop-j.j (weight_at c.args.weights.now) c.loop-j.weights (omega arith) (c.loop-j.invariant.shape ∙ c.requires.shape) c.loop-j.invariant.raised
+    raise_ends (side_of c.args.side.now) c.requires.side.ordered c.loop-j.j (entry_at c.args.weights.now) c.loop-j.weights (omega arith) (c.loop-j.invariant.shape ∙ c.requires.shape) c.loop-j.invariant.raised

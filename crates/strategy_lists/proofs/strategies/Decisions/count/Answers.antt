@@ -2,7 +2,7 @@ use Rattle.std.proofs.Common.{◌∙◌, refl, ap, subst, length}
 use Rattle.std.proofs.lemmas.Result.{IfOk-weaker}
 use Rattle.game_core.specs.TreeGame.{game_of_tree}
 use Rattle.choice_lists.specs.Walks.{AreWalks}
-use Rattle.strategy_lists.specs.Decisions.{own_counts}
+use Rattle.game_theory.specs.OwnSets.{own_counts}
 use Rattle.strategy_lists.proofs.WalkStrategyLemmas.{walks-strategies}
 use Rattle.strategy_lists.proofs.strategies.Decisions.count.Goals as goal
 

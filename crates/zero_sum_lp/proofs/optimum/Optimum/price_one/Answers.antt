@@ -6,19 +6,19 @@ use Rattle.zero_sum_lp.specs.Parts.{Program}
 use Rattle.zero_sum_lp.proofs.OptimumLemmas.{read_row, read_width, read_distinct, read_other, first_price_is, few_sets}
 use Rattle.zero_sum_lp.proofs.optimum.Optimum.price_one.Goals as goal
 
-pub entry_at-requires-clause-row_in : goal.entry_at-requires-clause-row_in
-entry_at-requires-clause-row_in c = read_row (record { first = c.self.inside.first; second = c.self.inside.second; tableau = c.self.inside.work }) c.self.invariant.0 c.now.result.now c.now.ensures.value c.self.inside.objective c.self.inside.width c.self.invariant.1
+pub objective_entry-requires-clause-row_in : goal.objective_entry-requires-clause-row_in
+objective_entry-requires-clause-row_in c = read_row (record { first = c.self.inside.first; second = c.self.inside.second; tableau = c.self.inside.work }) c.self.invariant.0 c.now.result.now c.now.ensures.value c.self.inside.objective c.self.inside.width c.self.invariant.1
 
-pub entry_at-requires-clause-width_is : goal.entry_at-requires-clause-width_is
-entry_at-requires-clause-width_is c = read_width (record { first = c.self.inside.first; second = c.self.inside.second; tableau = c.self.inside.work }) c.self.invariant.0 c.now.result.now c.now.ensures.value c.self.inside.objective c.self.inside.width c.self.invariant.1
+pub objective_entry-requires-clause-width_is : goal.objective_entry-requires-clause-width_is
+objective_entry-requires-clause-width_is c = read_width (record { first = c.self.inside.first; second = c.self.inside.second; tableau = c.self.inside.work }) c.self.invariant.0 c.now.result.now c.now.ensures.value c.self.inside.objective c.self.inside.width c.self.invariant.1
 
-pub entry_at-requires-clause-distinct : goal.entry_at-requires-clause-distinct
-entry_at-requires-clause-distinct c = read_distinct (record { first = c.self.inside.first; second = c.self.inside.second; tableau = c.self.inside.work }) c.self.invariant.0 c.now.result.now c.now.ensures.value c.self.inside.objective c.self.inside.width c.self.invariant.1
+pub objective_entry-requires-clause-distinct : goal.objective_entry-requires-clause-distinct
+objective_entry-requires-clause-distinct c = read_distinct (record { first = c.self.inside.first; second = c.self.inside.second; tableau = c.self.inside.work }) c.self.invariant.0 c.now.result.now c.now.ensures.value c.self.inside.objective c.self.inside.width c.self.invariant.1
 
-pub entry_at-requires-clause-other : goal.entry_at-requires-clause-other
-entry_at-requires-clause-other c =
+pub objective_entry-requires-clause-other : goal.objective_entry-requires-clause-other
+objective_entry-requires-clause-other c =
     read_other (record { first = c.self.inside.first; second = c.self.inside.second; tableau = c.self.inside.work }) c.self.invariant.0 c.now.result.now c.now.ensures.value c.self.inside.objective c.self.inside.width c.self.invariant.1 (c.args.k + 1) (few_sets c.self.inside.first c.self.inside.second c.args.k (subst (λ (p : Program). c.args.k ≤ length p.first.sets) (sym c.self.view_is) c.requires))
 
 pub returns : goal.returns
 returns c =
-    subst (λ (p : Program). c.entry_at.result ≡ first_price (side_of p.first) (side_of p.second) (tableau p.tableau) c.args.k) c.self.view_is (first_price_is (record { first = c.self.inside.first; second = c.self.inside.second; tableau = c.self.inside.work }) c.self.invariant.0 c.now.result.now c.now.ensures.value c.self.inside.objective c.self.inside.width c.self.invariant.1 c.args.k c.entry_at.result c.entry_at.ensures)
+    subst (λ (p : Program). c.objective_entry.result ≡ first_price (side_of p.first) (side_of p.second) (tableau p.tableau) c.args.k) c.self.view_is (first_price_is (record { first = c.self.inside.first; second = c.self.inside.second; tableau = c.self.inside.work }) c.self.invariant.0 c.now.result.now c.now.ensures.value c.self.inside.objective c.self.inside.width c.self.invariant.1 c.args.k c.objective_entry.result c.objective_entry.ensures)

@@ -7,19 +7,19 @@ use Rattle.zero_sum_lp.proofs.OptimumLemmas.{read_row, read_width, read_distinct
 use Rattle.zero_sum_lp.proofs.PlanReadLemmas.{weights_push, raw_two_is, slack_variable}
 use Rattle.zero_sum_lp.proofs.optimum.Optimum.raw_two.Goals as goal
 
-pub entry_at-requires-clause-row_in : goal.entry_at-requires-clause-row_in
-entry_at-requires-clause-row_in c = read_row (record { first = c.self.inside.first; second = c.self.inside.second; tableau = c.self.inside.work }) c.self.invariant.0 c.now.result.now c.now.ensures.value c.self.inside.objective c.self.inside.width c.self.invariant.1
+pub objective_entry-requires-clause-row_in : goal.objective_entry-requires-clause-row_in
+objective_entry-requires-clause-row_in c = read_row (record { first = c.self.inside.first; second = c.self.inside.second; tableau = c.self.inside.work }) c.self.invariant.0 c.now.result.now c.now.ensures.value c.self.inside.objective c.self.inside.width c.self.invariant.1
 
-pub entry_at-requires-clause-width_is : goal.entry_at-requires-clause-width_is
-entry_at-requires-clause-width_is c = read_width (record { first = c.self.inside.first; second = c.self.inside.second; tableau = c.self.inside.work }) c.self.invariant.0 c.now.result.now c.now.ensures.value c.self.inside.objective c.self.inside.width c.self.invariant.1
+pub objective_entry-requires-clause-width_is : goal.objective_entry-requires-clause-width_is
+objective_entry-requires-clause-width_is c = read_width (record { first = c.self.inside.first; second = c.self.inside.second; tableau = c.self.inside.work }) c.self.invariant.0 c.now.result.now c.now.ensures.value c.self.inside.objective c.self.inside.width c.self.invariant.1
 
-pub entry_at-requires-clause-distinct : goal.entry_at-requires-clause-distinct
-entry_at-requires-clause-distinct c = read_distinct (record { first = c.self.inside.first; second = c.self.inside.second; tableau = c.self.inside.work }) c.self.invariant.0 c.now.result.now c.now.ensures.value c.self.inside.objective c.self.inside.width c.self.invariant.1
+pub objective_entry-requires-clause-distinct : goal.objective_entry-requires-clause-distinct
+objective_entry-requires-clause-distinct c = read_distinct (record { first = c.self.inside.first; second = c.self.inside.second; tableau = c.self.inside.work }) c.self.invariant.0 c.now.result.now c.now.ensures.value c.self.inside.objective c.self.inside.width c.self.invariant.1
 
-pub entry_at-requires-clause-other : goal.entry_at-requires-clause-other
-entry_at-requires-clause-other c =
+pub objective_entry-requires-clause-other : goal.objective_entry-requires-clause-other
+objective_entry-requires-clause-other c =
     read_other (record { first = c.self.inside.first; second = c.self.inside.second; tableau = c.self.inside.work }) c.self.invariant.0 c.now.result.now c.now.ensures.value c.self.inside.objective c.self.inside.width c.self.invariant.1 ((length c.sets.result.now) + 1 + c.loop-q.q + 1) (slack_variable c.self.inside.first c.self.inside.second c.self.inside.objective c.self.inside.width (length c.sets.result.now) c.loop-q.q c.self.invariant.1 (ap (λ (xs : List SetRow). length xs) c.sets.ensures) c.loop-q-test.true).1
 
 pub loop-q-preserved : goal.loop-q-preserved
 loop-q-preserved c =
-    weights_push c.loop-q.q (raw_two (side_of c.self.inside.first) (side_of c.self.inside.second) (tableau c.self.inside.work)) c.loop-q.raw.items c.push.new.self.items c.entry_at.result c.loop-q.invariant (raw_two_is (record { first = c.self.inside.first; second = c.self.inside.second; tableau = c.self.inside.work }) c.self.invariant.0 c.now.result.now c.now.ensures.value c.self.inside.objective c.self.inside.width c.self.invariant.1 c.loop-q.q c.entry_at.result ((length c.sets.result.now) + 1 + c.loop-q.q + 1) (slack_variable c.self.inside.first c.self.inside.second c.self.inside.objective c.self.inside.width (length c.sets.result.now) c.loop-q.q c.self.invariant.1 (ap (λ (xs : List SetRow). length xs) c.sets.ensures) c.loop-q-test.true).0 c.entry_at.ensures) c.in_ok-push.ensures.items
+    weights_push c.loop-q.q (raw_two (side_of c.self.inside.first) (side_of c.self.inside.second) (tableau c.self.inside.work)) c.loop-q.raw.items c.push.new.self.items c.objective_entry.result c.loop-q.invariant (raw_two_is (record { first = c.self.inside.first; second = c.self.inside.second; tableau = c.self.inside.work }) c.self.invariant.0 c.now.result.now c.now.ensures.value c.self.inside.objective c.self.inside.width c.self.invariant.1 c.loop-q.q c.objective_entry.result ((length c.sets.result.now) + 1 + c.loop-q.q + 1) (slack_variable c.self.inside.first c.self.inside.second c.self.inside.objective c.self.inside.width (length c.sets.result.now) c.loop-q.q c.self.invariant.1 (ap (λ (xs : List SetRow). length xs) c.sets.ensures) c.loop-q-test.true).0 c.objective_entry.ensures) c.in_ok-push.ensures.items

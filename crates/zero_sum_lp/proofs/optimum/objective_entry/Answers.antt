@@ -2,7 +2,7 @@ use Rattle.std.proofs.Common.{arith, ap, sym, ◌∙◌}
 use Rattle.lex_tableau.specs.Rows.{tableau}
 use Rattle.linear_systems.specs.Rows.{coefficient}
 use Rattle.linear_systems.proofs.RowLemmas.{coefficient_cell, coefficient_absent}
-use Rattle.zero_sum_lp.proofs.optimum.entry_at.Goals as goal
+use Rattle.zero_sum_lp.proofs.optimum.objective_entry.Goals as goal
 
 pub returns-then-nonbasic-variable : goal.returns-then-nonbasic-variable
 returns-then-nonbasic-variable c =
