@@ -4,11 +4,11 @@ use Rattle.std.specs.Result.{IsErrAnd}
 use Rattle.answers.specs.Answers.{Answer, only, refused, such_that, refuse_where, by_case, ◌>>=◌, refused_by, map_err, map_ok, IsSingle, Gives}
 
 -- two values of one answer
-ok_same : {E Y : Type 0} (a b : Y) → ◌≡◌ {A = Result Y E} (Ok a) (Ok b) → a ≡ b
+pub ok_same : {E Y : Type 0} (a b : Y) → ◌≡◌ {A = Result Y E} (Ok a) (Ok b) → a ≡ b
 ok_same a b e = cc
 
 -- two refusals of one answer
-err_same : {E Y : Type 0} (a b : E) → ◌≡◌ {A = Result Y E} (Err a) (Err b) → a ≡ b
+pub err_same : {E Y : Type 0} (a b : E) → ◌≡◌ {A = Result Y E} (Err a) (Err b) → a ≡ b
 err_same a b e = cc
 
 -- a value is no refusal

@@ -5,8 +5,8 @@ use Rattle.std.proofs.lemmas.List.{take_all}
 use Rattle.std.proofs.lemmas.List.Elements.{All-nil}
 use Rattle.std.proofs.lemmas.List.FromFn.{get_or-range_with_len, length-range_with_len}
 use Rattle.rational.specs.Rational.{ℚ, ◌*ℚ◌, inv_ℚ, frac, zero_ℚ}
-use Rattle.rational.specs.Tests.{eq_test}
-use Rattle.rational.proofs.Decide.{eq_test-true}
+use Rattle.rational.specs.Tests.{eq_ℚ}
+use Rattle.rational.proofs.Decide.{eq_ℚ-decides}
 use Rattle.frac128.specs.Steps.{DivFits, unfit, Step, StepFits, IsFirstUnfit, StepsGive}
 use Rattle.frac128.specs.declared.steps.Op.TheVariants.{Div}
 use Rattle.game_theory.specs.Lines.{listed}
@@ -21,11 +21,11 @@ use Rattle.sequence_data.proofs.PlaceLemmas.{get_or-inside}
 use Rattle.behaviour_profile.specs.Shares.{actions_of, share_at, share_steps, steps_at}
 
 -- whether the weight before is 0
-test-zero : (before : ℚ) → before ≡ zero_ℚ → eq_test before zero_ℚ ≡ true
-test-zero before e = (eq_test-true before zero_ℚ).1 e
+test-zero : (before : ℚ) → before ≡ zero_ℚ → eq_ℚ before zero_ℚ ≡ true
+test-zero before e = (eq_ℚ-decides before zero_ℚ).1 e
 
-test-other : (before : ℚ) → before ≢ zero_ℚ → eq_test before zero_ℚ ≡ false
-test-other before ne = go (eq_test before zero_ℚ) (λ e. ne ((eq_test-true before zero_ℚ).0 e))
+test-other : (before : ℚ) → before ≢ zero_ℚ → eq_ℚ before zero_ℚ ≡ false
+test-other before ne = go (eq_ℚ before zero_ℚ) (λ e. ne ((eq_ℚ-decides before zero_ℚ).0 e))
   where
     go : (b : Bool) → (b ≡ true → ⊥) → b ≡ false
     go true h = absurd (h refl)

@@ -3,7 +3,7 @@ use Rattle.std.specs.Prelude.{ℕ, List, [], ◌∷◌, get_or, map, if◌then�
 use Rattle.std.specs.List.{range_with_len, flat_map}
 use Rattle.answers.specs.Answers.{Answer, ◌>>◌, only, refused_by}
 use Rattle.rational.specs.Rational.{ℚ, zero_ℚ}
-use Rattle.rational.specs.Tests.{eq_test}
+use Rattle.rational.specs.Tests.{eq_ℚ}
 use Rattle.frac128.specs.Steps.{unfit, Step}
 use Rattle.frac128.specs.declared.steps.Op.TheVariants.{Div}
 use Rattle.game_theory.specs.Trees.{Tree}
@@ -37,7 +37,7 @@ own_actions t i = flat_map (actions_at t i) (own_sets t i)
 abbrev pub quotient_steps : Tree → (ℕ → ℕ → ℚ) → OwnAction → List Step
 quotient_steps t plans k =
     let before : ℚ = plans k.player (sequence_before t k.player k.set) in
-    if eq_test before zero_ℚ then [] else unfit Div (plans k.player (sequence t k.player (Some (k.set, k.action)))) before ∷ []
+    if eq_ℚ before zero_ℚ then [] else unfit Div (plans k.player (sequence t k.player (Some (k.set, k.action)))) before ∷ []
 
 -- ---- the behaviour
 -- the plans of two lists of weights

@@ -3,7 +3,7 @@ use Rattle.std.specs.Prelude.{ℕ, ◌+◌, List, [], ◌∷◌, if◌then◌els
 use Rattle.std.specs.List.{range_with_len}
 use Rattle.answers.specs.Answers.{Answer, refused_by}
 use Rattle.rational.specs.Rational.{ℚ, zero_ℚ}
-use Rattle.rational.specs.Tests.{eq_test}
+use Rattle.rational.specs.Tests.{eq_ℚ}
 use Rattle.frac128.specs.Steps.{unfit, Step}
 use Rattle.frac128.specs.declared.steps.Op.TheVariants.{Div}
 use Rattle.frac128.specs.FirstUnfit.{all_fit}
@@ -16,7 +16,7 @@ use Rattle.behaviour_profile.specs.declared.plans.BehaviourStop.TheVariants as s
 -- ---- an action
 -- the step of a share: the weight after is divided by the weight before; there is none where that is 0
 abbrev pub share_steps : ℚ → ℚ → List Step
-share_steps before after = if eq_test before zero_ℚ then [] else unfit Div after before ∷ []
+share_steps before after = if eq_ℚ before zero_ℚ then [] else unfit Div after before ∷ []
 
 -- ---- a set
 -- the share of action a of a set

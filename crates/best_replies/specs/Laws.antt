@@ -10,7 +10,6 @@ use Rattle.game_theory.specs.Behaviour.{Behaviour, IsValid, branch_probability, 
 use Rattle.game_theory.specs.TreeEquilibrium.{IsEquilibrium}
 use Rattle.game_theory.specs.FirstNodes.{AreNumberedByFirstNodes}
 use Rattle.game_theory.specs.Recall.{HasPerfectRecall}
-use Rattle.best_replies.specs.BackwardPass.{value_from}
 use Rattle.best_replies.specs.Deciding.{AreDecidedFrom, with_choice}
 use Rattle.best_replies.specs.Greatest.{IsFirstGreatest, HasFirstGreatest}
 use Rattle.best_replies.specs.Order.{AscendOnPaths, AgreeFrom, AgreeWithin}
@@ -169,19 +168,6 @@ OneListOfBestChoices =
 -- of some numbers there is one that is the first of the greatest
 abbrev pub FirstGreatestExists : Type 0
 FirstGreatestExists = (n : ℕ) (v : ℕ → ℚ) → 0 < n → HasFirstGreatest n v
-
--- ---- values from the last node to the first
--- Before any child is added a node is worth what its outcome pays, each node is added to its parent
--- alone, and when all later nodes have been added its value is there.
-pub record ValuesFromTheLastNode : Type 0 where
-  pub start : (t : Tree) (b : Behaviour) (i k : ℕ) → value_from t b i t.size k ≡ t.pays k i
-  pub added : (t : Tree) (b : Behaviour) (i c : ℕ) → IsTree t → 0 < c → c < t.size
-      → value_from t b i c (t.parent c)
-      ≡ value_from t b i (suc c) (t.parent c) +ℚ (branch_probability t b c *ℚ value t b i c)
-  pub kept : (t : Tree) (b : Behaviour) (i c k : ℕ) → IsTree t → c < t.size
-      → (0 < c → t.parent c ≢ k) → value_from t b i c k ≡ value_from t b i (suc c) k
-  pub whole : (t : Tree) (b : Behaviour) (i n k : ℕ) → IsTree t → k < t.size → n ≤ suc k
-      → value_from t b i n k ≡ value t b i k
 
 -- ---- strategies
 -- what a strategy is worth is what the reply with it pays

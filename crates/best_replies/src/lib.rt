@@ -33,7 +33,6 @@ ghost use Rattle.best_replies.specs.Laws.{
   SetsAreDecidedOneByOne,
   SetsAscendOnPaths,
   StrategyValuesArePayoffs,
-  ValuesFromTheLastNode,
   WeightsAlongPaths,
 };
 
@@ -127,12 +126,6 @@ pub fn one_list_of_best_choices()
 /// Of some numbers one is the first of the greatest.
 pub fn first_greatest_exists()
     ensures { FirstGreatestExists }
-{}
-
-/// The values of all nodes come from adding each node to its parent, from the last node to the
-/// first.
-pub fn values_from_the_last_node()
-    ensures { ValuesFromTheLastNode }
 {}
 
 /// What a strategy is worth is what the reply with it pays.

@@ -6,7 +6,7 @@ use Rattle.std.specs.List.{sum_by}
 use Rattle.std.proofs.lemmas.List.Sums.{sum_by-cons, sum_by_push}
 use Rattle.claims.specs.declared.claim_word.Holding.{Holding}
 use Rattle.claims.proofs.OccurrenceLemmas.{times-append, next_once}
-use Rattle.claims.specs.ClaimWord.{holding, times, one_below, claim_count, KeepsClaims, KnowsWhole, IdleIsEmpty}
+use Rattle.claims.specs.ClaimWord.{holding, times, one_below, claim_count, KeepsClaims, KnowsWhole, SpentIsEmpty}
 
 sum_set : (f : Holding → ℕ) (hs : List Holding) (seat : ℕ) (h w : Holding) → get_elem? hs seat ≡ some h → sum_by f (slice_set hs seat w) + f h ≡ sum_by f hs + f w
 sum_set f [] seat h w at = absurd cc
@@ -21,18 +21,18 @@ sum_set f (x ∷ xs) (suc n) h w at =
     let b = sum_by-cons f x (slice_set xs n w) in omega (arith, i, a, b)
 
 -- a set view is the new one, or an old one
-idle_set : (hs : List Holding) (seat : ℕ) (w : Holding) → (w.parts ≡ 0 → w.claimed ≡ []) → IdleIsEmpty hs → IdleIsEmpty (slice_set hs seat w)
-idle_set [] seat w new old k u at = old k u at
-idle_set (x ∷ xs) zero w new old zero u at = let h : w ≡ u = cc in rw (← h) new
-idle_set (x ∷ xs) zero w new old (suc k) u at = old (suc k) u at
-idle_set (x ∷ xs) (suc n) w new old zero u at = old zero u at
-idle_set (x ∷ xs) (suc n) w new old (suc k) u at = idle_set xs n w new (λ j t e. old (suc j) t e) k u at
+spent_set : (hs : List Holding) (seat : ℕ) (w : Holding) → (w.parts ≡ 0 → w.claimed ≡ []) → SpentIsEmpty hs → SpentIsEmpty (slice_set hs seat w)
+spent_set [] seat w new old k u at = old k u at
+spent_set (x ∷ xs) zero w new old zero u at = let h : w ≡ u = cc in rw (← h) new
+spent_set (x ∷ xs) zero w new old (suc k) u at = old (suc k) u at
+spent_set (x ∷ xs) (suc n) w new old zero u at = old zero u at
+spent_set (x ∷ xs) (suc n) w new old (suc k) u at = spent_set xs n w new (λ j t e. old (suc j) t e) k u at
 
-idle_push : (hs : List Holding) (w : Holding) → (w.parts ≡ 0 → w.claimed ≡ []) → IdleIsEmpty hs → IdleIsEmpty (hs ++ w ∷ [])
-idle_push [] w new old zero u at = let h : w ≡ u = cc in rw (← h) new
-idle_push [] w new old (suc k) u at = absurd cc
-idle_push (x ∷ xs) w new old zero u at = old zero u at
-idle_push (x ∷ xs) w new old (suc k) u at = idle_push xs w new (λ j t e. old (suc j) t e) k u at
+spent_push : (hs : List Holding) (w : Holding) → (w.parts ≡ 0 → w.claimed ≡ []) → SpentIsEmpty hs → SpentIsEmpty (hs ++ w ∷ [])
+spent_push [] w new old zero u at = let h : w ≡ u = cc in rw (← h) new
+spent_push [] w new old (suc k) u at = absurd cc
+spent_push (x ∷ xs) w new old zero u at = old zero u at
+spent_push (x ∷ xs) w new old (suc k) u at = spent_push xs w new (λ j t e. old (suc j) t e) k u at
 
 at_le : (f : Holding → ℕ) (hs : List Holding) (seat : ℕ) (h : Holding) → get_elem? hs seat ≡ some h → f h ≤ sum_by f hs
 at_le f [] seat h at = absurd cc
@@ -40,32 +40,32 @@ at_le f (x ∷ xs) zero h at = let e : x ≡ h = cc in let fe = ap f e in let a 
 at_le f (x ∷ xs) (suc n) h at = let i = at_le f xs n h at in let a = sum_by-cons f x xs in omega (arith, i, a)
 
 -- of a sum that is 0 at each empty list, holders without parts have nothing
-none_left : (f : Holding → ℕ) (hs : List Holding) → ((u : Holding) → u.claimed ≡ [] → f u ≡ 0) → IdleIsEmpty hs → sum_by (λ u. u.parts) hs ≡ 0 → sum_by f hs ≡ 0
-none_left f [] none idle z = refl
-none_left f (x ∷ xs) none idle z =
+none_left : (f : Holding → ℕ) (hs : List Holding) → ((u : Holding) → u.claimed ≡ [] → f u ≡ 0) → SpentIsEmpty hs → sum_by (λ u. u.parts) hs ≡ 0 → sum_by f hs ≡ 0
+none_left f [] none spent z = refl
+none_left f (x ∷ xs) none spent z =
     let p = sum_by-cons (λ (u : Holding). u.parts) x xs in
     let a : x.parts ≡ 0 = omega (arith, z, p) in
-    let c = none x (idle 0 x refl a) in
-    let d = none_left f xs none (λ j t e. idle (suc j) t e) (omega (arith, z, p)) in
+    let c = none x (spent 0 x refl a) in
+    let d = none_left f xs none (λ j t e. spent (suc j) t e) (omega (arith, z, p)) in
     let s = sum_by-cons f x xs in omega (arith, c, d, s)
 
 -- and who has all parts has all of it
-whole_has : (f : Holding → ℕ) (hs : List Holding) (seat : ℕ) (h : Holding) → ((u : Holding) → u.claimed ≡ [] → f u ≡ 0) → IdleIsEmpty hs
+whole_has : (f : Holding → ℕ) (hs : List Holding) (seat : ℕ) (h : Holding) → ((u : Holding) → u.claimed ≡ [] → f u ≡ 0) → SpentIsEmpty hs
     → get_elem? hs seat ≡ some h → sum_by (λ u. u.parts) hs ≡ h.parts → sum_by f hs ≡ f h
-whole_has f [] seat h none idle at all = absurd cc
-whole_has f (x ∷ xs) zero h none idle at all =
+whole_has f [] seat h none spent at all = absurd cc
+whole_has f (x ∷ xs) zero h none spent at all =
     let e : x ≡ h = cc in
     let pe = ap (λ (u : Holding). u.parts) e in
     let p = sum_by-cons (λ (u : Holding). u.parts) x xs in
     let fe = ap f e in
     let s = sum_by-cons f x xs in
-    let r = none_left f xs none (λ j t i. idle (suc j) t i) (omega (arith, all, p, pe)) in omega (arith, fe, r, s)
-whole_has f (x ∷ xs) (suc n) h none idle at all =
+    let r = none_left f xs none (λ j t i. spent (suc j) t i) (omega (arith, all, p, pe)) in omega (arith, fe, r, s)
+whole_has f (x ∷ xs) (suc n) h none spent at all =
     let le = at_le (λ u. u.parts) xs n h at in
     let p = sum_by-cons (λ (u : Holding). u.parts) x xs in
     let a : x.parts ≡ 0 = omega (arith, all, le, p) in
-    let c = none x (idle 0 x refl a) in
-    let d = whole_has f xs n h none (λ j t e. idle (suc j) t e) at (omega (arith, all, le, p)) in
+    let c = none x (spent 0 x refl a) in
+    let d = whole_has f xs n h none (λ j t e. spent (suc j) t e) at (omega (arith, all, le, p)) in
     let s = sum_by-cons f x xs in omega (arith, c, d, s)
 
 pub at_set : (hs : List Holding) (seat : ℕ) (h w : Holding) → get_elem? hs seat ≡ some h → get_elem? (slice_set hs seat w) seat ≡ some w
@@ -81,8 +81,8 @@ at_most_all words hs seat h k at = let l = at_le (λ u. u.parts) hs seat h at in
 pub learns : (words : List ℕ) (hs : List Holding) (seat : ℕ) (h : Holding) → KeepsClaims words hs → get_elem? hs seat ≡ some h → KnowsWhole h.parts h.claimed
 learns words hs seat h k at all few x =
     let whole = k.parts ∙ sym all in
-    let long : claim_count hs ≡ length h.claimed = whole_has (λ u. length u.claimed) hs seat h (λ u e. rw e refl) k.idle at whole in
-    let often : sum_by (λ u. times x u.claimed) hs ≡ times x h.claimed = whole_has (λ u. times x u.claimed) hs seat h (λ u e. rw e refl) k.idle at whole in
+    let long : claim_count hs ≡ length h.claimed = whole_has (λ u. length u.claimed) hs seat h (λ u e. rw e refl) k.spent at whole in
+    let often : sum_by (λ u. times x u.claimed) hs ≡ times x h.claimed = whole_has (λ u. times x u.claimed) hs seat h (λ u e. rw e refl) k.spent at whole in
     sym often ∙ k.each_once (rw long few) x ∙ ap (λ n. one_below n x) long
 
 put_word : (words : List ℕ) (x : ℕ) → length words ≡ 1 → slice_index (slice_set words 0 x) 0 ≡ x
@@ -98,7 +98,7 @@ claim_keeps words hs seat n h is k at some_part =
     record {
       one_word = length-set words 0 ((n + 1) % 2 ^ 64) ∙ k.one_word;
       parts = let t = sum_set (λ u. u.parts) hs seat h w at in omega (arith, t, k.parts);
-      idle = idle_set hs seat w (λ z. absurd (omega (arith, z, some_part))) k.idle;
+      spent = spent_set hs seat w (λ z. absurd (omega (arith, z, some_part))) k.spent;
       word = put_word words ((n + 1) % 2 ^ 64) k.one_word ∙ omega (arith, is, k.word, longer);
       each_once = λ few x.
           let t = sum_set (λ u. times x u.claimed) hs seat h w at in
@@ -119,7 +119,7 @@ split_keeps words hs seat parts h k at given less =
     record {
       one_word = k.one_word;
       parts = let t = sum_set (λ u. u.parts) hs seat h w at in let p = sum_by_push (λ u. u.parts) new (holding parts []) in omega (arith, t, p, k.parts, less);
-      idle = idle_push new (holding parts []) (λ z. absurd (omega (arith, z, given))) (idle_set hs seat w (λ z. absurd (omega (arith, z, less))) k.idle);
+      spent = spent_push new (holding parts []) (λ z. absurd (omega (arith, z, given))) (spent_set hs seat w (λ z. absurd (omega (arith, z, less))) k.spent);
       word = rw same k.word;
       each_once = λ few x.
           let t = sum_set (λ u. times x u.claimed) hs seat h w at in
@@ -140,7 +140,7 @@ join_keeps words hs seat other h u k at given at_other =
     record {
       one_word = k.one_word;
       parts = let t = sum_set (λ z. z.parts) hs seat h w at in let p = sum_set (λ z. z.parts) new other u (holding 0 []) at_other in omega (arith, t, p, k.parts);
-      idle = idle_set new other (holding 0 []) (λ z. refl) (idle_set hs seat w (λ z. absurd (omega (arith, z, given))) k.idle);
+      spent = spent_set new other (holding 0 []) (λ z. refl) (spent_set hs seat w (λ z. absurd (omega (arith, z, given))) k.spent);
       word = rw same k.word;
       each_once = λ few x.
           let t = sum_set (λ z. times x z.claimed) hs seat h w at in

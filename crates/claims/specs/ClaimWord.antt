@@ -11,6 +11,7 @@ pub record PassState : Type 0 where
   pub parts : ℕ
   pub claimed : List ℕ
 
+-- a pass from its parts
 abbrev pub pass_state : TableId → ℕ → List ℕ → PassState
 pass_state claims parts claimed = record { claims = claims; parts = parts; claimed = claimed }
 
@@ -18,6 +19,7 @@ pass_state claims parts claimed = record { claims = claims; parts = parts; claim
 abbrev pub times : ℕ → List ℕ → ℕ
 times x xs = count_by (λ y. y == x) xs
 
+-- 1 for a number below n, and else 0
 abbrev pub one_below : ℕ → ℕ → ℕ
 one_below n x = cond (nat_lt x n) 1 0
 
@@ -31,6 +33,7 @@ abbrev pub KnowsWhole : ℕ → List ℕ → Type 0
 KnowsWhole parts claimed =
     parts ≡ 64 → length claimed < 2 ^ 64 → HasEachBelow (length claimed) claimed
 
+-- what a seat holds, from its parts
 abbrev pub holding : ℕ → List ℕ → Holding
 holding parts claimed = record { parts = parts; claimed = claimed }
 
@@ -39,15 +42,15 @@ abbrev pub claim_count : List Holding → ℕ
 claim_count = sum_by (λ h. length h.claimed)
 
 -- who has no part has claimed nothing
-abbrev pub IdleIsEmpty : List Holding → Type 0
-IdleIsEmpty hs =
+abbrev pub SpentIsEmpty : List Holding → Type 0
+SpentIsEmpty hs =
     (seat : ℕ) (h : Holding) → get_elem? hs seat ≡ some h → h.parts ≡ 0 → h.claimed ≡ []
 
 -- the rule of the claim word, over its one word and over what each seat holds
 pub record KeepsClaims (words : List ℕ) (hs : List Holding) : Type 0 where
   pub one_word : length words ≡ 1
   pub parts : sum_by (λ h. h.parts) hs ≡ 64
-  pub idle : IdleIsEmpty hs
+  pub spent : SpentIsEmpty hs
   pub word : slice_index words 0 ≡ claim_count hs % 2 ^ 64
   pub each_once : claim_count hs < 2 ^ 64 → (x : ℕ)
       → sum_by (λ h. times x h.claimed) hs ≡ one_below (claim_count hs) x

@@ -11,7 +11,7 @@ use Rattle.rational.specs.Rational.{ℚ}
 use Rattle.rational.proofs.Field.{lt_trans}
 use Rattle.game_theory.specs.Lines.{StandsBefore}
 use Rattle.rational.specs.Tests.{cmp_ℚ}
-use Rattle.frac128.proofs.ComparisonLemmas.{cmp_ℚ-less, cmp_ℚ-equal, cmp_ℚ-greater}
+use Rattle.rational.proofs.TestLemmas.{cmp_ℚ-less, cmp_ℚ-equal, cmp_ℚ-greater}
 use Rattle.enummixed.specs.Order.{greater_first, points_of, pair_order}
 
 -- the order of numbers

@@ -13,6 +13,7 @@ pub mod MaskLemmas
 pub mod MeanLemmas
 pub mod PairLineLemmas
 pub mod PositiveNumberLemmas
+pub mod PureEquilibriumLemmas
 pub mod RoundLemmas
 pub mod SameCellLemmas
 pub mod ScalingLemmas

@@ -12,7 +12,7 @@ use Rattle.linear_systems.specs.Reached.{IsVariableOf, in_row, in_column}
 use Rattle.extreme_equilibria.specs.ExtremeEquilibria.{AreSame, IsMidpoint}
 use Rattle.extreme_equilibria.specs.Bimatrix.{gain}
 use Rattle.extreme_equilibria.specs.Polytopes.{IsInPolytope, IsVertex, first_variable, second_variable}
-use Rattle.linear_systems.specs.Points.{IsPoint, IsExtremePoint}
+use Rattle.linear_systems.specs.Points.{IsFeasible, IsExtremePoint}
 use Rattle.extreme_equilibria.specs.Systems.{first_system, second_system}
 use Rattle.extreme_equilibria.specs.Laws.{SolutionsAreThePolytopes}
 use Rattle.extreme_equilibria.proofs.MeanLemmas.{dot-midpoint}
@@ -60,14 +60,14 @@ module _ (k r : ℕ) (c : ℕ → ℕ → ℚ) (w b : ℕ → ℕ) (fill : (ℕ 
   unfolding left
   rows_in x h i l = h i l
 
-  pub point_of : (x : ℕ → ℚ) → IsPoint t x → IsInPolytope k r c (λ j. x (w j))
+  pub point_of : (x : ℕ → ℚ) → IsFeasible t x → IsInPolytope k r c (λ j. x (w j))
   point_of x h =
       record {
         not_negative = λ j l. h.nonnegative (w j) (in_column j l refl);
         rows = λ i l. row_bound (x (b i)) (gain k c (λ j. x (w j)) i) (rows_out x h.solves i l) (h.nonnegative (b i) (in_row i l refl));
       }
 
-  pub filled : (p : ℕ → ℚ) → IsInPolytope k r c p → IsPoint t (fill p)
+  pub filled : (p : ℕ → ℚ) → IsInPolytope k r c p → IsFeasible t (fill p)
   filled p h = record { solves = rows_in (fill p) (λ i d. ap₂ (λ x y. x +ℚ y) (s.slack p i d) (gain-same k c (λ j. fill p (w j)) p i (s.entry p)) ∙ ring rational_ring (gain k c p i ∷ []) (num 1 :- A :+ A) (num 1) refl); nonnegative = nonnegative }
     where
       nonnegative : (v : ℕ) → IsVariableOf t v → zero_ℚ ≤ℚ fill p v
@@ -75,7 +75,7 @@ module _ (k r : ℕ) (c : ℕ → ℕ → ℚ) (w b : ℕ → ℕ) (fill : (ℕ 
       nonnegative v (in_column j l e) = subst (λ v. zero_ℚ ≤ℚ fill p v) e (subst (λ x. zero_ℚ ≤ℚ x) (sym (s.entry p j l)) (h.not_negative j l))
 
   -- the entries determine a solution
-  pub determined : (x : ℕ → ℚ) → IsPoint t x → (v : ℕ) → IsVariableOf t v → x v ≡ fill (λ j. x (w j)) v
+  pub determined : (x : ℕ → ℚ) → IsFeasible t x → (v : ℕ) → IsVariableOf t v → x v ≡ fill (λ j. x (w j)) v
   determined x h v (in_row i l e) = subst (λ v. x v ≡ fill (λ j. x (w j)) v) e (slack_of (x (b i)) (gain k c (λ j. x (w j)) i) (rows_out x h.solves i l) ∙ sym (s.slack (λ j. x (w j)) i l))
   determined x h v (in_column j l e) = subst (λ v. x v ≡ fill (λ j. x (w j)) v) e (sym (s.entry (λ j. x (w j)) j l))
 

@@ -4,9 +4,9 @@ use Rattle.std.specs.Prelude.{ℕ, suc, ◌+◌, ◌<◌, ◌≡◌, ◌⊎◌, 
 use Rattle.rational.specs.Rational.{ℚ, ◌*ℚ◌, inv_ℚ, zero_ℚ}
 use Rattle.linear_systems.specs.Tableau.{Tableau}
 use Rattle.game_theory.specs.Profiles.{Game}
-use Rattle.game_theory.specs.Mixed.{Mixed}
+use Rattle.game_theory.specs.Mixed.{Mixed, pure}
 use Rattle.game_theory.specs.Equilibrium.{IsEquilibrium}
-use Rattle.linear_systems.specs.Points.{IsPoint}
+use Rattle.linear_systems.specs.Points.{IsFeasible}
 use Rattle.linear_systems.specs.Vertices.{MarkedPoint, IsMarkOf, AreVertices}
 use Rattle.extreme_equilibria.specs.ExtremeEquilibria.{AreSame, IsExtremeEquilibrium, AreExtremeEquilibria}
 use Rattle.extreme_equilibria.specs.TwoPlayers.{pays_against}
@@ -19,6 +19,12 @@ use Rattle.extreme_equilibria.specs.PairLines.{scaled_point, HaveAllLabels, AreP
 abbrev pub OneListOfExtremeEquilibria : Type 0
 OneListOfExtremeEquilibria =
     (g : Game) (a b : List (List ℚ)) → AreExtremeEquilibria g a → AreExtremeEquilibria g b → a ≡ b
+
+-- a pure equilibrium is extreme
+abbrev pub PureEquilibriaAreExtreme : Type 0
+PureEquilibriaAreExtreme =
+    (g : Game) (profile : List ℕ) → IsEquilibrium g (pure profile)
+    → IsExtremeEquilibrium g (pure profile)
 
 -- the equilibria of a game of two players, by its two tables
 abbrev pub EquilibriaByTables : Type 0
@@ -105,14 +111,14 @@ ZerosAreLabelled =
 
 -- the points of the two systems are the points of the two polytopes with their slacks
 pub record SolutionsAreThePolytopes : Type 0 where
-  pub first : (m n : ℕ) (c : ℕ → ℕ → ℚ) (x : ℕ → ℚ) → IsPoint (first_system m n c) x
+  pub first : (m n : ℕ) (c : ℕ → ℕ → ℚ) (x : ℕ → ℚ) → IsFeasible (first_system m n c) x
       → IsInPolytope m n c (λ i. x (suc i))
   pub first_back : (m n : ℕ) (c : ℕ → ℕ → ℚ) (p : ℕ → ℚ) → IsInPolytope m n c p
-      → (x : ℕ → ℚ) × IsPoint (first_system m n c) x × AreSame m (λ i. x (suc i)) p
-  pub second : (m n : ℕ) (a : ℕ → ℕ → ℚ) (x : ℕ → ℚ) → IsPoint (second_system m n a) x
+      → (x : ℕ → ℚ) × IsFeasible (first_system m n c) x × AreSame m (λ i. x (suc i)) p
+  pub second : (m n : ℕ) (a : ℕ → ℕ → ℚ) (x : ℕ → ℚ) → IsFeasible (second_system m n a) x
       → IsInPolytope n m a (λ j. x (m + suc j))
   pub second_back : (m n : ℕ) (a : ℕ → ℕ → ℚ) (q : ℕ → ℚ) → IsInPolytope n m a q
-      → (x : ℕ → ℚ) × IsPoint (second_system m n a) x × AreSame n (λ j. x (m + suc j)) q
+      → (x : ℕ → ℚ) × IsFeasible (second_system m n a) x × AreSame n (λ j. x (m + suc j)) q
 
 -- two masks together have all labels exactly where each variable is 0 at one of the two solutions
 abbrev pub MasksDetermineLabels : Type 0

@@ -29,6 +29,7 @@ ghost use Rattle.extreme_equilibria.specs.Laws.{
   OneListOfExtremeEquilibria,
   PairLinesAreExtremeEquilibria,
   PairsScaleDifferently,
+  PureEquilibriaAreExtreme,
   ShiftedPayoffsArePositive,
   ShiftsKeepEquilibria,
   SolutionsAreThePolytopes,
@@ -54,6 +55,11 @@ ghost use Rattle.extreme_equilibria.specs.KeptLaws.{
 /// A game has only one list of its extreme equilibria.
 pub fn one_list_of_extreme_equilibria()
     ensures { OneListOfExtremeEquilibria }
+{}
+
+/// A pure equilibrium is extreme.
+pub fn pure_equilibria_are_extreme()
+    ensures { PureEquilibriaAreExtreme }
 {}
 
 /// The equilibria of a game of two players, extreme ones too, are those of its two tables.

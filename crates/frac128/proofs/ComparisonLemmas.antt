@@ -1,5 +1,5 @@
 -- the order of two rationals
-use Rattle.std.proofs.Common.{ℕ, ◌≡◌, ◌<◌, ◌^◌, ℤ, pos, ◌*ℤ◌, ◌<ℤ◌, nat_abs, sym, ap, ap₂, ◌∙◌, SFits, to_z, of_z, Ordering, Less, Equal, Greater, int_cmp, subst, IsTrue, nat_eq, lit<, ◌↔◌}
+use Rattle.std.proofs.Common.{ℕ, ◌≡◌, ◌<◌, ◌^◌, ℤ, pos, ◌*ℤ◌, ◌<ℤ◌, nat_abs, sym, ap, ap₂, ◌∙◌, SFits, to_z, of_z, Ordering, Less, Equal, Greater, int_cmp, IsTrue, nat_eq, lit<}
 use mir.Syntax.{w128}
 use native.Mathlib.Nat.{le_of_lt}
 use Rattle.std.proofs.lemmas.Int.{to_z-of_z, fits_signed_mul}
@@ -7,10 +7,10 @@ use Rattle.std.specs.Ordering.{MatchOrdering}
 use Rattle.std.proofs.lemmas.Bool.Decides.{Decides-eqb}
 use Rattle.std.specs.Cmp.{int_cmp_is, int_ranks}
 use Rattle.rational.specs.Tests.{cmp_ℚ}
-use Rattle.rational.specs.Rational.{ℚ, ◌<ℚ◌}
+use Rattle.rational.specs.Rational.{ℚ}
 use Rattle.rational.proofs.DenominatorLemmas.{den_pos}
 use Rattle.rational.proofs.OrderLemmas.{lt-times}
-use Rattle.rational.proofs.FractionLemmas.{equal_by_cross, equal_by_parts}
+use Rattle.rational.proofs.FractionLemmas.{equal_by_parts}
 use Rattle.frac128.specs.Fraction.{Fits}
 use Rattle.frac128.proofs.PartLemmas.{kept, kept-part}
 
@@ -60,27 +60,3 @@ pub den_test : (a b : ℚ) (n d m e : ℤ) → Pair a b n d m e → of_z w128 n 
 den_test a b n d m e k same =
     let nums : a.num ≡ b.num = sym (kept-part n a.num k.num k.left.num) ∙ ap (to_z w128) same ∙ kept-part m b.num k.other_num k.right.num in
     (λ t. equal_by_parts a b nums (ap (of_z w128) (sym k.den) ∙ (Decides-eqb (of_z w128 d) (of_z w128 e)).0 t ∙ ap (of_z w128) k.other_den), λ z. (Decides-eqb (of_z w128 d) (of_z w128 e)).1 (ap (of_z w128) k.den ∙ ap (λ (x : ℚ). x.den) z ∙ sym (ap (of_z w128) k.other_den)))
-
--- the order of two rationals, in the words of ◌<ℚ◌ and ◌≡◌
-pub cmp_ℚ_ranks : (a b : ℚ) → MatchOrdering (cmp_ℚ a b) (a <ℚ b) (a ≡ b) (b <ℚ a)
-cmp_ℚ_ranks a b = ranks (cmp_ℚ a b) (int_ranks (a.num *ℤ pos b.den) (b.num *ℤ pos a.den))
-  where
-    ranks : (o : Ordering) → MatchOrdering o ((a.num *ℤ pos b.den) <ℤ (b.num *ℤ pos a.den)) (a.num *ℤ pos b.den ≡ b.num *ℤ pos a.den) ((b.num *ℤ pos a.den) <ℤ (a.num *ℤ pos b.den)) → MatchOrdering o (a <ℚ b) (a ≡ b) (b <ℚ a)
-    ranks Less h = record { cross = h }
-    ranks Equal h = equal_by_cross a b h
-    ranks Greater h = record { cross = h }
-
--- less is ◌<ℚ◌
-pub cmp_ℚ-less : (a b : ℚ) → (cmp_ℚ a b ≡ Less) ↔ (a <ℚ b)
-cmp_ℚ-less a b =
-    (λ e. subst (λ o. MatchOrdering o (a <ℚ b) (a ≡ b) (b <ℚ a)) e (cmp_ℚ_ranks a b), λ h. sym (int_cmp_is (a.num *ℤ pos b.den) (b.num *ℤ pos a.den) Less h.cross))
-
--- equal is ◌≡◌
-pub cmp_ℚ-equal : (a b : ℚ) → (cmp_ℚ a b ≡ Equal) ↔ (a ≡ b)
-cmp_ℚ-equal a b =
-    (λ e. subst (λ o. MatchOrdering o (a <ℚ b) (a ≡ b) (b <ℚ a)) e (cmp_ℚ_ranks a b), λ h. sym (int_cmp_is (a.num *ℤ pos b.den) (b.num *ℤ pos a.den) Equal (ap₂ (λ (x y : ℚ). x.num *ℤ pos y.den) h (sym h))))
-
--- greater is ◌<ℚ◌ the other way
-pub cmp_ℚ-greater : (a b : ℚ) → (cmp_ℚ a b ≡ Greater) ↔ (b <ℚ a)
-cmp_ℚ-greater a b =
-    (λ e. subst (λ o. MatchOrdering o (a <ℚ b) (a ≡ b) (b <ℚ a)) e (cmp_ℚ_ranks a b), λ h. sym (int_cmp_is (a.num *ℤ pos b.den) (b.num *ℤ pos a.den) Greater h.cross))

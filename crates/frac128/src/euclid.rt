@@ -1,4 +1,4 @@
-//! Euclid's algorithm, and comparisons of quotients that form no product of more than 128 bits.
+// Euclid's algorithm, and comparisons of quotients that form no product of more than 128 bits.
 ghost use Rattle.std.specs.Prelude.{◌≡◌, ◌<◌, ◌*◌, ◌/◌, ◌%◌, ◌*ℤ◌, pos};
 ghost use Rattle.std.specs.Ordering.{nat_cmp, int_cmp};
 ghost use Rattle.rational.specs.Gcd.{gcd as gcd_of};

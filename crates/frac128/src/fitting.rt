@@ -1,4 +1,4 @@
-//! Products and sums of a fraction's parts, where they fit.
+// Products and sums of a fraction's parts, where they fit.
 ghost use Rattle.std.specs.Prelude.{◌≡◌, ◌↔◌, ◌<◌, ◌*◌, ◌^◌, ◌+ℤ◌, ◌*ℤ◌, nat_abs, pos, IsTrue, MatchOption};
 ghost use Rattle.std.specs.Option.{SomeIff};
 ghost use Rattle.frac128.specs.Fraction.{PartFits, with_sign};

@@ -1,4 +1,4 @@
-//! The type of fractions.
+// The type of fractions.
 ghost use Rattle.std.specs.Prelude.{◌≡◌, ◌≢◌, ◌⊎◌, ◌↔◌, ◌<◌, ◌^◌, nat_abs, pos, IsNone, IfSome, IsTrue, MatchOption};
 ghost use Rattle.frac128.specs.Fraction.{quotient, Fits, PartFits, with_sign};
 ghost use Rattle.rational.specs.Extremes.{IsGreater, IsLesser};

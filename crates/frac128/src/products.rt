@@ -1,4 +1,4 @@
-//! Products, by cancelling before anything is multiplied.
+// Products, by cancelling before anything is multiplied.
 ghost use Rattle.std.specs.Prelude.{◌≡◌, ◌≢◌, ◌<◌, ◌*◌, MatchOption};
 ghost use Rattle.frac128.specs.Fraction.{Fits, with_sign};
 ghost use Rattle.frac128.specs.Steps.{MulFits, DivFits};

@@ -1,4 +1,4 @@
-//! The four operations. Each gives the exact value, or the step itself where it does not fit.
+// The four operations. Each gives the exact value, or the step itself where it does not fit.
 ghost use Rattle.std.specs.Prelude.{◌≡◌, ◌≢◌, IfOk, IfErr, OnOk, OnErr};
 ghost use Rattle.frac128.specs.Steps.{AddFits, SubFits, MulFits, DivFits, unfit};
 ghost use Rattle.rational.specs.Rational.{zero_ℚ, inv_ℚ, ◌+ℚ◌, ◌-ℚ◌, ◌*ℚ◌};

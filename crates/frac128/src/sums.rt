@@ -1,4 +1,4 @@
-//! Sums, by cancelling before anything is multiplied.
+// Sums, by cancelling before anything is multiplied.
 ghost use Rattle.std.specs.Prelude.{◌≡◌, ◌<◌, ◌*◌, ◌^◌, nat_abs, MatchOption};
 ghost use Rattle.frac128.specs.Fraction.{Fits};
 ghost use Rattle.frac128.specs.Steps.{AddFits, SubFits};

@@ -8,32 +8,22 @@ use std::env::{self, Env};
 use std::io::ErrorKind;
 use std::process::ExitCode;
 
-/// The words after the program's own name, or why there are none.
-#[derive(Debug, Drop)]
-enum Words {
-    Read(Vec<String>),
-    NotText,
-    NoMemory,
-}
-
-/// Reads the words. A word that is not UTF-8 makes a faulty command line.
-fn read_words<R: Env + AllocGlobal>(rt: &R, alloc: Global) -> Words {
+// Reads the words after the program's own name. A word that is not UTF-8 makes a faulty command
+// line.
+fn read_words<R: Env + AllocGlobal>(rt: &R, alloc: Global) -> Result<Vec<String>, Refusal> {
     let given = match env::args(rt) {
         Ok(given) => given,
-        Err(error) if error.kind() == ErrorKind::OutOfMemory => return Words::NoMemory,
-        Err(_) => return Words::NotText,
+        Err(error) if error.kind() == ErrorKind::OutOfMemory => return Err(Refusal::Memory),
+        Err(_) => return Err(Refusal::Usage(Usage::Words)),
     };
-    match given.skip(1).collect::<Vec<String>>(alloc) {
-        Ok(words) => Words::Read(words),
-        Err(_) => Words::NoMemory,
-    }
+    Ok(given.skip(1).collect::<Vec<String>>(alloc)?)
 }
 
 fn main(rt: HostRuntime) -> ExitCode {
     let alloc = rt.alloc();
     let mut err = RealSink::new(rt.stderr());
     let status = match read_words(&rt, alloc) {
-        Words::Read(words) => {
+        Ok(words) => {
             let mut inputs = RealInputs::new(&rt);
             let mut out = RealSink::new(rt.stdout());
             run(
@@ -46,8 +36,7 @@ fn main(rt: HostRuntime) -> ExitCode {
                 &OpenGate,
             )
         }
-        Words::NotText => refuse(alloc, &mut err, Refusal::Usage(Usage::Words)),
-        Words::NoMemory => refuse(alloc, &mut err, Refusal::Memory),
+        Err(refusal) => refuse(alloc, &mut err, refusal),
     };
     ExitCode::from(status)
 }

@@ -1,6 +1,6 @@
 -- Refusals of the tool `check` come from the contents of its inputs, and it has at most one answer.
 use Rattle.std.proofs.Common.{ℕ, ◌+◌, ◌≡◌, ◌∙◌, ◌<◌, ap, refl, Bool, true, false, List, [], ◌∷◌, ◌++◌, length, Err}
-use Rattle.answers.specs.Answers.{Answer, IsSingle, ◌>>=◌, ◌>>◌, only, refused_by, such_that}
+use Rattle.answers.specs.Answers.{Answer, IsSingle, ◌>>=◌, ◌>>◌, only, refused_by, such_that, refused}
 use Rattle.answers.proofs.AnswerLemmas.{bind-single, refuse_where-single, refused_by-single}
 use Rattle.rational.specs.Rational.{ℚ}
 use Rattle.game_core.specs.Table.{GameTable, strategy_counts}
@@ -18,7 +18,7 @@ use Rattle.ne_printer.specs.declared.reading.LineStop.TheVariants as line_stop
 use Rattle.ne_checker.specs.LineChecks.{TableChecksAreSingle, TreeChecksAreSingle, faulty, limited, line_entries, table_check, table_judged, table_line, tree_check, tree_judged, tree_line, unread}
 use Rattle.ne_checker.specs.Lines.{lines_answer}
 use Rattle.ne_checker.specs.TableChecks.{table_verdict}
-use Rattle.ne_checker.specs.Texts.{better_text, equilibrium_text, refused, table_told, tree_told}
+use Rattle.ne_checker.specs.Texts.{better_text, equilibrium_text, table_told, tree_told}
 use Rattle.ne_checker.specs.TreeVerdicts.{tree_verdict}
 use Rattle.ne_printer.specs.TextLines.{lines_of}
 use Rattle.ne_checker.specs.declared.stops.CheckStop.{CheckStop}

@@ -32,7 +32,7 @@ use Rattle.sequence_form.specs.Laws.{count_of_columns, count_of_rows}
 use Rattle.sequence_form.specs.Paths.{node_steps, paths_in, tree_leaves}
 use Rattle.sequence_form.specs.Sequences.{start_side, tree_side}
 use Rattle.sequence_form.specs.declared.counts.Counts.{Counts}
-use Rattle.two_player_tools.specs.Entries.{entries_in, line_in}
+use Rattle.two_player_tools.specs.Entries.{entries_in, plans_line}
 use Rattle.gambit_tools.specs.Origins.{Contents, origin}
 use Rattle.two_player_tools.specs.StrategicForms.{strategic_form}
 use Rattle.two_player_tools.specs.TwoPlayers.{form_in, form_of_table, form_of_tree, table_counts, tree_counts, two_players}
@@ -154,7 +154,7 @@ entries-contents false (Strategic t) one two = only-contents _
 entries-contents true (Extensive t) one two = only-contents _
 entries-contents false (Extensive t) one two = told-contents behaviour_refusal (plan_behaviour t one two) (behaviour-contents t one two)
 
-pub line_in-contents : (strategic : Bool) (game : Game) (one two : List ℚ) → AreContents (line_in strategic game one two)
-line_in-contents strategic game one two =
+pub plans_line-contents : (strategic : Bool) (game : Game) (one two : List ℚ) → AreContents (plans_line strategic game one two)
+plans_line-contents strategic game one two =
     then-contents (entries_in strategic game one two) (λ entries. only (line_text entries)) (entries-contents strategic game one two)
     (λ entries. only-contents (line_text entries))

@@ -12,13 +12,13 @@ use Rattle.zero_sum_lp.specs.PlanPairs.{PlanPair}
 use Rattle.lemke_pivot.specs.Ends.{solved_in}
 use Rattle.lemke_pivot.specs.FormProblems.{IsSystemOf, problem_in, told_start}
 use Rattle.lemke_pivot.specs.declared.stop.LcpStop.{LcpStop}
-use Rattle.two_player_tools.specs.Entries.{line_in}
+use Rattle.two_player_tools.specs.Entries.{plans_line}
 use Rattle.two_player_tools.specs.Lcp.{equilibrium_in, lcp, plans_at}
 use Rattle.gambit_tools.specs.Origins.{Contents, origin}
 use Rattle.refusals.specs.Told.{pivot_refusal, problem_refusal}
 use Rattle.two_player_tools.specs.TwoPlayers.{form_in, two_players}
 use Rattle.refusals.specs.declared.refusal.Refusal.{Refusal}
-use Rattle.gambit_tools.proofs.FormContentLemmas.{AreContents, form_in-contents, line_in-contents, only-contents, then-contents, told-contents, two_players-contents}
+use Rattle.gambit_tools.proofs.FormContentLemmas.{AreContents, form_in-contents, plans_line-contents, only-contents, then-contents, told-contents, two_players-contents}
 
 start-contents : (f : FormData) (stop : StartStop) → start_of (IsSystemOf f) (Err stop) → origin (problem_refusal (told_start stop)) ≡ Contents
 start-contents f (start_stop.Unfit row step) h = refl
@@ -39,7 +39,7 @@ equilibrium-contents f =
 
 pub lcp-origin : (strategic : Bool) (game : Game) (r : Refusal) → lcp strategic game (Err r) → origin r ≡ Contents
 lcp-origin strategic game =
-    let line = λ (plans : PlanPair). line_in strategic game plans.one plans.two in
+    let line = λ (plans : PlanPair). plans_line strategic game plans.one plans.two in
     then-contents (two_players game) (λ _. form_in problem_rows strategic game >>= λ f. (equilibrium_in f >>= line)) (two_players-contents game)
     (λ _. then-contents (form_in problem_rows strategic game) (λ f. equilibrium_in f >>= line) (form_in-contents problem_rows strategic game)
-    (λ f. then-contents (equilibrium_in f) line (equilibrium-contents f) (λ plans. line_in-contents strategic game plans.one plans.two)))
+    (λ f. then-contents (equilibrium_in f) line (equilibrium-contents f) (λ plans. plans_line-contents strategic game plans.one plans.two)))

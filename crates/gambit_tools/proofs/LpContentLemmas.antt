@@ -56,19 +56,19 @@ solution_in-contents f =
     (told-contents plan_refusal (plans_of o) (plan-contents o)) (λ plans. only-contents (solution f o plans))))
 
 -- ---- the text
-prices-contents : (asked : Bool) (f : FormData) (s : Solution) → AreContents (prices_in asked f s)
+prices-contents : (prices : Bool) (f : FormData) (s : Solution) → AreContents (prices_in prices f s)
 prices-contents false f s = only-contents []
 prices-contents true f s =
     then-contents (refuse_where (¬ (AddFits (first_price s) f.least_one)) (refusal.Range site.Value (unfit Add (first_price s) f.least_one))) (λ _. only (prices_text f s))
     (where-contents _ _ refl) (λ _. only-contents (prices_text f s))
 
-text-contents : (strategic asked : Bool) (game : Game) (f : FormData) (s : Solution) → AreContents (solution_text strategic asked game f s)
-text-contents strategic asked game f s =
-    then-contents (entries_in strategic game s.one s.two) (λ entries. prices_in asked f s >>= λ lines. only (line_text entries ++ lines)) (entries-contents strategic game s.one s.two)
-    (λ entries. then-contents (prices_in asked f s) (λ lines. only (line_text entries ++ lines)) (prices-contents asked f s) (λ lines. only-contents (line_text entries ++ lines)))
+text-contents : (strategic prices : Bool) (game : Game) (f : FormData) (s : Solution) → AreContents (solution_text strategic prices game f s)
+text-contents strategic prices game f s =
+    then-contents (entries_in strategic game s.one s.two) (λ entries. prices_in prices f s >>= λ lines. only (line_text entries ++ lines)) (entries-contents strategic game s.one s.two)
+    (λ entries. then-contents (prices_in prices f s) (λ lines. only (line_text entries ++ lines)) (prices-contents prices f s) (λ lines. only-contents (line_text entries ++ lines)))
 
-pub lp-origin : (strategic asked : Bool) (game : Game) (r : Refusal) → lp strategic asked game (Err r) → origin r ≡ Contents
-lp-origin strategic asked game =
-    then-contents (two_players game) (λ _. form_in size_of_program strategic game >>= λ f. (solution_in f >>= λ s. solution_text strategic asked game f s)) (two_players-contents game)
-    (λ _. then-contents (form_in size_of_program strategic game) (λ f. solution_in f >>= λ s. solution_text strategic asked game f s) (form_in-contents size_of_program strategic game)
-    (λ f. then-contents (solution_in f) (λ s. solution_text strategic asked game f s) (solution_in-contents f) (λ s. text-contents strategic asked game f s)))
+pub lp-origin : (strategic prices : Bool) (game : Game) (r : Refusal) → lp strategic prices game (Err r) → origin r ≡ Contents
+lp-origin strategic prices game =
+    then-contents (two_players game) (λ _. form_in size_of_program strategic game >>= λ f. (solution_in f >>= λ s. solution_text strategic prices game f s)) (two_players-contents game)
+    (λ _. then-contents (form_in size_of_program strategic game) (λ f. solution_in f >>= λ s. solution_text strategic prices game f s) (form_in-contents size_of_program strategic game)
+    (λ f. then-contents (solution_in f) (λ s. solution_text strategic prices game f s) (solution_in-contents f) (λ s. text-contents strategic prices game f s)))

@@ -1,6 +1,7 @@
 -- Runs: from the computed text to what is told, and that they are exact.
 use Rattle.std.proofs.Common.{ℕ, suc, ◌≡◌, ◌<◌, ◌⊎◌, ◌∙◌, inl, inr, sym, ap, subst, refl, arith, List, [], ◌∷◌, Contains, Option, None, Some, Result, Ok, Err}
 use Rattle.std.specs.Result.{result_err}
+use Rattle.answers.proofs.AnswerLemmas.{err_same}
 use Rattle.answers.specs.Answers.{IsSingle, map_ok}
 use Rattle.outside.specs.Inputs.{InputName, InputsSeen}
 use Rattle.words.specs.Words.{Command, command_from}
@@ -8,27 +9,27 @@ use Rattle.words.specs.declared.Usage.{Usage}
 use Rattle.gambit_tools.specs.Seen.{Outside, Seen, but_for_err}
 use Rattle.gambit_tools.specs.Input.{AreBytesOf, CountsDetermine}
 use Rattle.gambit_tools.specs.Commands.{inputs_of, answer_of}
-use Rattle.gambit_tools.specs.Origins.{Origin, Words, Outside as OfOutside, Length, Contents as OfContents, Memory, Opening, Reading, Writing, origin}
+use Rattle.gambit_tools.specs.Origins.{Origin, Words, OutsideFault, Length, Contents as OfContents, Memory, Opening, Reading, Writing, origin}
 use Rattle.gambit_tools.specs.Outcome.{RunAnswer, AreContents, AreToldContents, HasAnswer, AreRead, HasReadBefore, IsRunStop, IsCommandRun, IsRunOf, IsExact, IsComplete, NoFault, IsTold, IsToldRun}
-use Rattle.refusals.specs.Refusals.{status_of, run_status, NamesNumbers, IsToldAs}
+use Rattle.refusals.specs.Refusals.{status_of, run_status, HasFormedLine, IsToldAs}
 use Rattle.refusals.specs.declared.refusal.Refusal.{Refusal}
 use Rattle.refusals.specs.declared.refusal.Refusal.TheVariants as refusal
 
 -- ---- what is told
--- a refusal that names numbers comes from the contents
-names_contents : (r : Refusal) → NamesNumbers r → origin r ≡ OfContents
-names_contents (refusal.Text fault) names = refl
-names_contents (refusal.Nfg fault) names = refl
-names_contents (refusal.Efg fault) names = refl
-names_contents (refusal.NotTwoPlayers count) names = refl
-names_contents (refusal.Forgets player set first_node second_node) names = refl
-names_contents (refusal.NotConstant first second first_sum second_sum) names = refl
-names_contents (refusal.TooLarge counted count limit) names = refl
-names_contents (refusal.Range place step) names = refl
-names_contents (refusal.BadLine line) names = refl
-names_contents (refusal.NoSuchPlayer number) names = refl
-names_contents (refusal.SamePlayer number) names = refl
-names_contents _ names = elim names [ ]
+-- a refusal whose line is formed comes from the contents
+formed_contents : (r : Refusal) → HasFormedLine r → origin r ≡ OfContents
+formed_contents (refusal.Text fault) names = refl
+formed_contents (refusal.Nfg fault) names = refl
+formed_contents (refusal.Efg fault) names = refl
+formed_contents (refusal.NotTwoPlayers count) names = refl
+formed_contents (refusal.Forgets player set first_node second_node) names = refl
+formed_contents (refusal.NotConstant first second first_sum second_sum) names = refl
+formed_contents (refusal.TooLarge counted count limit) names = refl
+formed_contents (refusal.Range place step) names = refl
+formed_contents (refusal.BadLine line) names = refl
+formed_contents (refusal.NoSuchPlayer number) names = refl
+formed_contents (refusal.SamePlayer number) names = refl
+formed_contents _ names = elim names [ ]
 
 -- of inputs that were read one is selected, or nothing was read
 later : (names : List InputName) (first name : InputName) → Contains names name → Contains (first ∷ names) name
@@ -45,30 +46,29 @@ memory_told command before after r o h =
     let stopped = subst (IsRunStop command before after r) o h.ends in
     record { ends = (tt, stopped.1); has_read = some_read (inputs_of command) before.inputs after.inputs (subst (HasReadBefore (inputs_of command) before.inputs after.inputs) o h.has_read); selects_few = h.selects_few }
 
-err_same : (a b : Refusal) → ◌≡◌ {A = RunAnswer} (Err a) (Err b) → a ≡ b
-err_same a b e = cc
-
 pub told-run : (given : Result Command Usage) (before after : Outside) (r told : Refusal) → IsToldAs r told → IsRunOf given before after (Err r) → IsRunOf given before after (Err told)
 told-run given before after r told (inl e) h = subst (λ x. IsRunOf given before after (Err x)) (sym e) h
-told-run (Ok command) before after r told (inr (names, e)) h = subst (λ x. IsRunOf (Ok command) before after (Err x)) (sym e) (memory_told command before after r (names_contents r names) h)
+told-run (Ok command) before after r told (inr (names, e)) h = subst (λ x. IsRunOf (Ok command) before after (Err x)) (sym e) (memory_told command before after r (formed_contents r names) h)
 told-run (Err usage) before after r told (inr (names, e)) h = absurd (elim h.is_refused [
-  | inl u ↦ subst NamesNumbers (err_same r (refusal.Usage usage) u) names
-  | inr m ↦ subst NamesNumbers (err_same r refusal.Memory m) names
+  | inl u ↦ subst HasFormedLine (err_same r (refusal.Usage usage) u) names
+  | inr m ↦ subst HasFormedLine (err_same r refusal.Memory m) names
 ])
 
 some_same : (a b : Refusal) → Some a ≡ Some b → a ≡ b
 some_same a b e = cc
 
--- a counted fault of an input shows in the status that is told
-pub status-input_faults : (before after : InputsSeen) (r told : Refusal) (status : ℕ) → IsToldAs r told → status ≡ status_of told → CountsDetermine before after (Some r) → (before.open_faults < after.open_faults) ⊎ (before.read_faults < after.read_faults) → (status ≡ 3) ⊎ (status ≡ 5)
-status-input_faults before after r told status (inl t) e tell (inl h) = inl (e ∙ ap status_of (t ∙ some_same r refusal.OpenFault (tell.opening h)))
-status-input_faults before after r told status (inl t) e tell (inr h) = inl (e ∙ ap status_of (t ∙ some_same r refusal.ReadFault (tell.reading h)))
-status-input_faults before after r told status (inr p) e tell h = inr (e ∙ ap status_of p.1)
+-- a counted fault of an input is told
+pub counts-told : (before after : InputsSeen) (r told : Refusal) → IsToldAs r told → CountsDetermine before after (Some r) → CountsDetermine before after (Some told)
+counts-told before after r told (inl t) counts = subst (λ x. CountsDetermine before after (Some x)) (sym t) counts
+counts-told before after r told (inr p) counts = record {
+  opening = λ l. absurd (subst HasFormedLine (some_same r refusal.OpenFault (counts.opening l)) p.0);
+  reading = λ l. absurd (subst HasFormedLine (some_same r refusal.ReadFault (counts.reading l)) p.0);
+}
 
--- a counted fault of the output shows in the status that is told
-pub status-output_faults : (r told : Refusal) (status : ℕ) → IsToldAs r told → status ≡ status_of told → Some r ≡ Some refusal.WriteFault → status ≡ 4
-status-output_faults r told status (inl t) e f = e ∙ ap status_of (t ∙ some_same r refusal.WriteFault f)
-status-output_faults r told status (inr p) e f = absurd (subst NamesNumbers (some_same r refusal.WriteFault f) p.0)
+-- a counted fault of the output is told
+pub write_fault-told : (r told : Refusal) → IsToldAs r told → Some r ≡ Some refusal.WriteFault → Some told ≡ Some refusal.WriteFault
+write_fault-told r told (inl t) f = ap Some t ∙ f
+write_fault-told r told (inr p) f = absurd (subst HasFormedLine (some_same r refusal.WriteFault f) p.0)
 
 -- ---- runs are exact
 -- contents that are told are the contents
@@ -95,9 +95,9 @@ of_memory _ e = absurd cc
 told_refusal : (command : Command) (before after : Outside) (contents : List (List ℕ)) (r : Refusal) (o : Origin) → origin r ≡ o → IsRunStop command before after r o
     → AreToldContents before.inputs.held (inputs_of command) contents → NoFault before after → (◌≡◌ {A = RunAnswer} (Err r) (Err refusal.Memory)) ⊎ answer_of command contents (Err r)
 told_refusal command before after contents r (Words usage) e h told none = absurd h.0
-told_refusal command before after contents r (OfOutside Opening) e h told none = absurd (none.opening h.0.2.rose)
-told_refusal command before after contents r (OfOutside Reading) e h told none = absurd (none.reading h.0.2.rose)
-told_refusal command before after contents r (OfOutside Writing) e h told none = absurd (none.writing h.0)
+told_refusal command before after contents r (OutsideFault Opening) e h told none = absurd (none.opening h.0.2.rose)
+told_refusal command before after contents r (OutsideFault Reading) e h told none = absurd (none.reading h.0.2.rose)
+told_refusal command before after contents r (OutsideFault Writing) e h told none = absurd (none.writing h.0)
 told_refusal command before after contents r Length e h told none = inr (by_told command before.inputs contents (Err r) told h.0)
 told_refusal command before after contents r OfContents e h told none = inr (by_told command before.inputs contents (Err r) told h.0)
 told_refusal command before after contents r Memory e h told none = inl (ap Err (of_memory r e))
@@ -127,14 +127,14 @@ none_some r e = cc
 pub outcome-text : {X : Type 0} → AnswersAreSingle → (words : List (List ℕ)) (before after : Seen) (answered : Result X Refusal) (view : X → List ℕ) → None ≡ result_err answered
     → IsRunOf (command_from words) (but_for_err before) (but_for_err after) (map_ok answered view) → CountsDetermine before.inputs after.inputs (result_err answered)
     → (before.out.faults < after.out.faults → result_err answered ≡ Some refusal.WriteFault)
-    → ((name : InputName) → after.inputs.held name ≡ before.inputs.held name) → after.err.taken ≡ before.err.taken → IsToldRun words before after 0 (map_ok answered view)
+    → ((name : InputName) → after.inputs.held name ≡ before.inputs.held name) → after.err ≡ before.err → IsToldRun words before after 0 (map_ok answered view)
 outcome-text single words before after (Ok x) view e h counts faults stay untold = record {
   status_is = refl;
   is_run = h;
   is_exact = run-exact single words (but_for_err before) (but_for_err after) (Ok (view x)) h;
   tells = untold;
-  input_faults = λ rose. absurd (elim rose [ inl l ↦ none_some _ (counts.opening l) | inr l ↦ none_some _ (counts.reading l) ]);
-  output_faults = λ rose. absurd (none_some _ (faults rose));
+  input_faults = counts;
+  output_faults = faults;
   inputs_stay = stay;
 }
 outcome-text single words before after (Err r) view e h counts faults stay untold = absurd (none_some r e)
@@ -154,8 +154,8 @@ outcome-told single words before after (Err q) view r told status e h counts fau
       is_run = run;
       is_exact = run-exact single words (but_for_err before) (but_for_err after) (Err told) run;
       tells = tells;
-      input_faults = status-input_faults before.inputs after.inputs q told status same status_is counts;
-      output_faults = λ rose. status-output_faults q told status same status_is (faults rose);
+      input_faults = counts-told before.inputs after.inputs q told same counts;
+      output_faults = λ rose. write_fault-told q told same (faults rose);
       inputs_stay = stay;
     })
 

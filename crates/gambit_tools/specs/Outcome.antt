@@ -9,7 +9,7 @@ use Rattle.words.specs.declared.Usage.{Usage}
 use Rattle.gambit_tools.specs.Seen.{Outside, Seen, but_for_err}
 use Rattle.gambit_tools.specs.Input.{AreBytesOf, IsOpenFault, IsReadFault, IsReadToEnd, IsReadTooFar, CountsDetermine}
 use Rattle.gambit_tools.specs.Commands.{inputs_of, answer_of}
-use Rattle.gambit_tools.specs.Origins.{Origin, Words, Outside as OfOutside, Length, Contents, Memory, Fault, Opening, Reading, Writing, origin}
+use Rattle.gambit_tools.specs.Origins.{Origin, Words, OutsideFault, Length, Contents, Memory, Fault, Opening, Reading, Writing, origin}
 use Rattle.refusals.specs.Refusals.{run_status, refusal_line}
 use Rattle.refusals.specs.declared.refusal.Refusal.{Refusal}
 use Rattle.refusals.specs.declared.refusal.Refusal.TheVariants as refusal
@@ -22,13 +22,15 @@ RunAnswer = Result (List ℕ) Refusal
 -- the contents are those of the inputs with these names, where they are known
 abbrev pub AreContents : (InputName → Option (List ℕ)) → List InputName → List (List ℕ) → Type 0
 AreContents held [] [] = Unit {0}
-AreContents held (name ∷ names) (bytes ∷ contents) = AreBytesOf (held name) bytes × AreContents held names contents
+AreContents held (name ∷ names) (bytes ∷ contents) =
+    AreBytesOf (held name) bytes × AreContents held names contents
 AreContents held _ _ = ⊥
 
 -- the contents are those that the inputs with these names tell
 abbrev pub AreToldContents : (InputName → Option (List ℕ)) → List InputName → List (List ℕ) → Type 0
 AreToldContents held [] [] = Unit {0}
-AreToldContents held (name ∷ names) (bytes ∷ contents) = (held name ≡ Some bytes) × AreToldContents held names contents
+AreToldContents held (name ∷ names) (bytes ∷ contents) =
+    (held name ≡ Some bytes) × AreToldContents held names contents
 AreToldContents held _ _ = ⊥
 
 -- the contents of a command's inputs have this answer
@@ -38,7 +40,8 @@ pub record HasAnswer (command : Command) (before : InputsSeen) (answer : RunAnsw
   pub is_answer : answer_of command contents answer
 
 -- ---- what is read
--- after the inputs with these names were read, one after another: the last of them is selected and was read to its end
+-- after the inputs with these names were read, one after another: the last of them is selected and
+-- was read to its end
 abbrev pub AreRead : List InputName → InputsSeen → InputsSeen → Type 0
 AreRead [] before after = after ≡ before
 AreRead (name ∷ []) before after = IsReadToEnd name after
@@ -47,11 +50,13 @@ AreRead (name ∷ other ∷ names) before after = AreRead (other ∷ names) befo
 -- what was read of inputs with these names before a refusal with this origin
 abbrev pub HasReadBefore : List InputName → InputsSeen → InputsSeen → Origin → Type 0
 HasReadBefore names before after (Words usage) = after ≡ before
-HasReadBefore names before after (OfOutside Writing) = AreRead names before after
-HasReadBefore names before after (OfOutside _) = after.selected ≡ None
-HasReadBefore names before after Length = (name : InputName) × Contains names name × IsReadTooFar name before after
+HasReadBefore names before after (OutsideFault Writing) = AreRead names before after
+HasReadBefore names before after (OutsideFault _) = after.selected ≡ None
+HasReadBefore names before after Length =
+    (name : InputName) × Contains names name × IsReadTooFar name before after
 HasReadBefore names before after Contents = AreRead names before after
-HasReadBefore names before after Memory = (after ≡ before) ⊎ ((name : InputName) × Contains names name × (after.selected ≡ Some name))
+HasReadBefore names before after Memory =
+    (after ≡ before) ⊎ ((name : InputName) × Contains names name × (after.selected ≡ Some name))
 
 -- what a run has read: its last input to the end, or what it had to before a refusal
 abbrev pub HasRead : List InputName → InputsSeen → InputsSeen → RunAnswer → Type 0
@@ -61,14 +66,17 @@ HasRead names before after (Err r) = HasReadBefore names before after (origin r)
 -- ---- what is answered
 -- a fault of an input with one of these names, which its count tells
 abbrev pub IsInputFault : List InputName → InputsSeen → InputsSeen → Fault → Type 0
-IsInputFault names before after Opening = (name : InputName) × Contains names name × IsOpenFault name before after
-IsInputFault names before after Reading = (name : InputName) × Contains names name × IsReadFault name before after
+IsInputFault names before after Opening =
+    (name : InputName) × Contains names name × IsOpenFault name before after
+IsInputFault names before after Reading =
+    (name : InputName) × Contains names name × IsReadFault name before after
 IsInputFault names before after Writing = ⊥
 
 -- why a command's text is not computed, by where the refusal comes from
 abbrev pub IsRefusedIn : Command → InputsSeen → InputsSeen → Refusal → Origin → Type 0
 IsRefusedIn command before after r (Words usage) = ⊥
-IsRefusedIn command before after r (OfOutside fault) = IsInputFault (inputs_of command) before after fault
+IsRefusedIn command before after r (OutsideFault fault) =
+    IsInputFault (inputs_of command) before after fault
 IsRefusedIn command before after r Length = HasAnswer command before (Err r)
 IsRefusedIn command before after r Contents = HasAnswer command before (Err r)
 IsRefusedIn command before after r Memory = Unit {0}
@@ -92,16 +100,21 @@ pub record IsComputed (command : Command) (before after : InputsSeen) (answer : 
   pub inputs_stay : (name : InputName) → after.held name ≡ before.held name
 
 -- ---- what is written
--- why a run with this command does not end well: its text is not computed, and nothing is written, or not written, and a front of it is
+-- why a run with this command does not end well: its text is not computed, and nothing is done to the
+-- output; or it is not written whole, and a front of it is
 abbrev pub IsRunStop : Command → Outside → Outside → Refusal → Origin → Type 0
-IsRunStop command before after r (OfOutside Writing) =
+IsRunStop command before after r (OutsideFault Writing) =
     Rose before.out.faults after.out.faults × (text : List ℕ) × HasAnswer command before.inputs (Ok text)
     × (count : ℕ) × Takes before.out.taken after.out.taken (take count text)
-IsRunStop command before after r o = IsRefusedIn command before.inputs after.inputs r o × (after.out.taken ≡ before.out.taken)
+IsRunStop command before after r o =
+    IsRefusedIn command before.inputs after.inputs r o × (after.out ≡ before.out)
 
--- what a run with this command writes, and why: the whole text, which is flushed, or what it has written before a refusal
+-- what a run with this command writes, and why: the whole text, which is flushed, or what it has
+-- written before a refusal
 abbrev pub Ends : Command → Outside → Outside → RunAnswer → Type 0
-Ends command before after (Ok text) = HasAnswer command before.inputs (Ok text) × Takes before.out.taken after.out.taken text × (after.out.flushed ≡ true)
+Ends command before after (Ok text) =
+    HasAnswer command before.inputs (Ok text) × Takes before.out.taken after.out.taken text
+    × (after.out.flushed ≡ true)
 Ends command before after (Err r) = IsRunStop command before after r (origin r)
 
 -- a run with this command
@@ -110,11 +123,12 @@ pub record IsCommandRun (command : Command) (before after : Outside) (answer : R
   pub has_read : HasRead (inputs_of command) before.inputs after.inputs answer
   pub selects_few : SelectsFew (inputs_of command) before.inputs after.inputs
 
--- a run whose words are refused: it is refused so, or for want of memory, and it reads and writes nothing
+-- a run whose words are refused: it is refused so, or for want of memory, and nothing is done to the
+-- inputs and to the output
 pub record IsUsageRun (usage : Usage) (before after : Outside) (answer : RunAnswer) : Type 0 where
   pub is_refused : (answer ≡ Err (refusal.Usage usage)) ⊎ (answer ≡ Err refusal.Memory)
   pub nothing_read : after.inputs ≡ before.inputs
-  pub nothing_written : after.out.taken ≡ before.out.taken
+  pub nothing_written : after.out ≡ before.out
 
 -- a run whose words give this
 abbrev pub IsRunOf : Result Command Usage → Outside → Outside → RunAnswer → Type 0
@@ -122,14 +136,16 @@ IsRunOf (Ok command) before after answer = IsCommandRun command before after ans
 IsRunOf (Err usage) before after answer = IsUsageRun usage before after answer
 
 -- ---- what is told
--- a front of a line was taken, and all of it where the count of faults did not rise
+-- a front of a line was taken, and all of it, which is flushed, where the count of faults did not rise
 abbrev pub TakesLine : SinkSeen → SinkSeen → List ℕ → Type 0
 TakesLine before after line =
-    (count : ℕ) × Takes before.taken after.taken (take count line) × ((length line ≤ count) ⊎ Rose before.faults after.faults)
+    (count : ℕ) × Takes before.taken after.taken (take count line)
+    × (((length line ≤ count) × (after.flushed ≡ true)) ⊎ Rose before.faults after.faults)
 
--- what standard error took: nothing where nothing is refused, else the line of the refusal
+-- what standard error took: nothing is done to it where nothing is refused, else it took the line of
+-- the refusal
 abbrev pub IsTold : SinkSeen → SinkSeen → Option Refusal → Type 0
-IsTold before after None = after.taken ≡ before.taken
+IsTold before after None = after ≡ before
 IsTold before after (Some r) = TakesLine before after (refusal_line r)
 
 -- ---- runs
@@ -139,20 +155,23 @@ pub record NoFault (before after : Outside) : Type 0 where
   pub reading : Rose before.inputs.read_faults after.inputs.read_faults → ⊥
   pub writing : Rose before.out.faults after.out.faults → ⊥
 
--- Where the words are a command, the inputs tell their contents and no fault was counted, the contents have this answer and no
--- other, unless memory runs out.
+-- Where the words are a command, the inputs tell their contents and no fault was counted, the contents
+-- have this answer and no other, unless memory runs out.
 abbrev pub IsExact : List (List ℕ) → Outside → Outside → RunAnswer → Type 0
 IsExact words before after answer =
     (command : Command) → command_from words ≡ Ok command
-    → (contents : List (List ℕ)) → AreToldContents before.inputs.held (inputs_of command) contents → NoFault before after
+    → (contents : List (List ℕ)) → AreToldContents before.inputs.held (inputs_of command) contents
+    → NoFault before after
     → (answer ≡ Err refusal.Memory)
-    ⊎ (answer_of command contents answer × ((other : RunAnswer) → answer_of command contents other → answer ≡ other))
+    ⊎ (answer_of command contents answer
+    × ((other : RunAnswer) → answer_of command contents other → answer ≡ other))
 
 -- Where then the contents are not refused, the text is written whole, unless memory runs out.
 abbrev pub IsComplete : List (List ℕ) → Outside → Outside → ℕ → Type 0
 IsComplete words before after status =
     (command : Command) → command_from words ≡ Ok command
-    → (contents : List (List ℕ)) → AreToldContents before.inputs.held (inputs_of command) contents → NoFault before after
+    → (contents : List (List ℕ)) → AreToldContents before.inputs.held (inputs_of command) contents
+    → NoFault before after
     → ((r : Refusal) → ¬ (answer_of command contents (Err r))) → (status ≡ 0) ⊎ (status ≡ 5)
 
 -- a run with this answer, which is told by the status and on standard error
@@ -161,8 +180,9 @@ pub record IsToldRun (words : List (List ℕ)) (before after : Seen) (status : �
   pub is_run : IsRunOf (command_from words) (but_for_err before) (but_for_err after) answer
   pub is_exact : IsExact words (but_for_err before) (but_for_err after) answer
   pub tells : IsTold before.err after.err (result_err answer)
-  -- a fault that was counted is told by the status
-  pub input_faults : (before.inputs.open_faults < after.inputs.open_faults) ⊎ (before.inputs.read_faults < after.inputs.read_faults) → (status ≡ 3) ⊎ (status ≡ 5)
-  pub output_faults : before.out.faults < after.out.faults → status ≡ 4
+  -- a fault that was counted is what is told
+  pub input_faults : CountsDetermine before.inputs after.inputs (result_err answer)
+  pub output_faults :
+      before.out.faults < after.out.faults → result_err answer ≡ Some refusal.WriteFault
   -- no input is changed
   pub inputs_stay : (name : InputName) → after.inputs.held name ≡ before.inputs.held name

@@ -14,7 +14,7 @@ use outside::Inputs;
 use refusals::Refusal;
 use std::alloc::Global;
 
-/// Whether a token is the word with which a file of a tree begins.
+// Whether a token is the word with which a file of a tree begins.
 fn is_tree_word(token: &Token) -> bool
     ensures { IsTrue result ↔ (token.now ≡ token_kind.Word (codes "EFG")) }
 {
@@ -24,7 +24,7 @@ fn is_tree_word(token: &Token) -> bool
     }
 }
 
-/// Whether the tokens begin as those of a file of a tree. There are no more tokens than bytes.
+// Whether the tokens begin as those of a file of a tree. There are no more tokens than bytes.
 fn begins_as_tree(tokens: &Tokens) -> bool
     ensures begins { IsTrue result ↔ BeginsAsTree (bare tokens.now) }
     ensures few { length tokens.now.list ≤ tokens.now.length }
@@ -35,7 +35,7 @@ fn begins_as_tree(tokens: &Tokens) -> bool
     }
 }
 
-/// The game in extensive form that the tokens stand for.
+// The game in extensive form that the tokens stand for.
 fn tree_game(alloc: Global, tokens: &Tokens) -> Result<Game, Refusal>
     requires few { length tokens.now.list < 2 ^ 32 }
     ensures { Gives Refusal.Memory (tree_game tokens.now) result }
@@ -44,7 +44,7 @@ fn tree_game(alloc: Global, tokens: &Tokens) -> Result<Game, Refusal>
     Ok(Game::Extensive(tree))
 }
 
-/// The game in strategic form that the tokens stand for.
+// The game in strategic form that the tokens stand for.
 fn table_game(alloc: Global, tokens: &Tokens) -> Result<Game, Refusal>
     ensures { Gives Refusal.Memory (table_game tokens.now) result }
 {
@@ -52,7 +52,7 @@ fn table_game(alloc: Global, tokens: &Tokens) -> Result<Game, Refusal>
     Ok(Game::Strategic(table))
 }
 
-/// The game that the tokens stand for.
+// The game that the tokens stand for.
 fn game_of_tokens(alloc: Global, tokens: &Tokens) -> Result<Game, Refusal>
     requires few { tokens.now.length < 2 ^ 32 }
     ensures { Gives Refusal.Memory (game_of_tokens tokens.now) result }

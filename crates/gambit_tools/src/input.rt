@@ -9,13 +9,13 @@ use outside::Inputs;
 use refusals::Refusal;
 use std::alloc::{AllocError, Global};
 
-/// The most bytes that an input may have.
+// The most bytes that an input may have.
 const MOST_BYTES: usize = 16_777_216;
 
-/// How many bytes are asked for at once.
+// How many bytes are asked for at once.
 const PIECE: usize = 65_536;
 
-/// Room for one piece.
+// Room for one piece.
 fn new_buffer(alloc: Global) -> Result<Vec<u8>, AllocError>
     ensures { IfOk result (λ buffer. 0 < vec_len buffer) }
 {
@@ -24,8 +24,8 @@ fn new_buffer(alloc: Global) -> Result<Vec<u8>, AllocError>
     Ok(buffer)
 }
 
-/// Reads the next piece of the selected input to the end of `bytes`, and answers how long it is. No byte is
-/// read beyond the first above the limit. The length 0 comes only at the end of the input.
+// Reads the next piece of the selected input to the end of `bytes`, and answers how long it is. No byte is
+// read beyond the first above the limit. The length 0 comes only at the end of the input.
 fn read_piece<I: Inputs>(
     inputs: &mut I,
     buffer: &mut [u8],
@@ -66,7 +66,7 @@ fn read_piece<I: Inputs>(
     }
 }
 
-/// Reads the selected input to its end, or to the first byte above the limit.
+// Reads the selected input to its end, or to the first byte above the limit.
 fn read_selected<I: Inputs>(alloc: Global, inputs: &mut I) -> Result<Vec<u8>, Refusal>
     ensures bytes { IfOk result (λ bytes. AreBytesOf (I.seen inputs.old).left bytes.items) }
     ensures within_limit { IfOk result (λ bytes. vec_len bytes ≤ most_bytes) }

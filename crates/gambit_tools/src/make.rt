@@ -14,7 +14,7 @@ use std::alloc::Global;
 use std::marker::Sync;
 use std::thread::Threads;
 
-/// Three lines: bases, vertices and pairs.
+// Three lines: bases, vertices and pairs.
 fn count_lines(
     alloc: Global,
     first_bases: u64,
@@ -31,7 +31,7 @@ fn count_lines(
     )?)
 }
 
-/// The counts of bases, vertices and pairs.
+// The counts of bases, vertices and pairs.
 fn counts_text(alloc: Global, found: &ExtremePairs) -> Result<String, Memory>
     ensures { IfOk result (λ text. string_bytes text ≡ counts_text (pairs_of found.now)) }
 {

@@ -17,7 +17,7 @@ use std::marker::Sync;
 use std::thread::Threads;
 use two_player_tools::two_players;
 
-/// The text of the extreme equilibria of a table, whose strictly dominated strategies are set aside.
+// The text of the extreme equilibria of a table, whose strictly dominated strategies are set aside.
 fn text_of_kept<R: Threads + Sync, G: Gate>(
     rt: &R,
     alloc: Global,
@@ -33,8 +33,8 @@ fn text_of_kept<R: Threads + Sync, G: Gate>(
     Ok(list_equilibria_of_kept(rt, alloc, table, &kept, workers, gate)?)
 }
 
-/// The text of the extreme equilibria of a table, looked for among all strategies or among those that
-/// are not strictly dominated.
+// The text of the extreme equilibria of a table, looked for among all strategies or among those that
+// are not strictly dominated.
 fn table_text<R: Threads + Sync, G: Gate>(
     rt: &R,
     alloc: Global,
@@ -54,7 +54,7 @@ fn table_text<R: Threads + Sync, G: Gate>(
     }
 }
 
-/// The text of the extreme equilibria of a game; those of a tree by its reduced strategies.
+// The text of the extreme equilibria of a game; those of a tree by its reduced strategies.
 fn strategic_text<R: Threads + Sync, G: Gate>(
     rt: &R,
     alloc: Global,
@@ -76,7 +76,7 @@ fn strategic_text<R: Threads + Sync, G: Gate>(
     }
 }
 
-/// The text of the extreme equilibria of a game of two players.
+// The text of the extreme equilibria of a game of two players.
 fn extreme_equilibria<R: Threads + Sync, G: Gate>(
     rt: &R,
     alloc: Global,

@@ -14,7 +14,7 @@ use reduced_form::reduce;
 use refusals::Refusal;
 use std::alloc::Global;
 
-/// The text of the pure equilibria of a game; those of a tree by strategies or as behaviour.
+// The text of the pure equilibria of a game; those of a tree by strategies or as behaviour.
 fn pure_equilibria(alloc: Global, strategic: bool, game: &Game) -> Result<Vec<u8>, Refusal>
     ensures { Gives Refusal.Memory (enumpure strategic game.now)
         (map_ok result (λ text. text.items)) }

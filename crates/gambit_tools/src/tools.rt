@@ -6,7 +6,7 @@ ghost use Rattle.outside.specs.Inputs.{InputName};
 ghost use Rattle.words.specs.Words.{Command, command_of, command_from, IsWithinRanges};
 ghost use Rattle.gambit_tools.specs.Seen.{outside, seen};
 ghost use Rattle.gambit_tools.specs.Input.{CountsDetermine};
-ghost use Rattle.refusals.specs.Refusals.{status_of, IsToldAs, NamesNumbers};
+ghost use Rattle.refusals.specs.Refusals.{status_of, IsToldAs, HasFormedLine};
 ghost use Rattle.gambit_tools.specs.Commands.{answer_of};
 ghost use Rattle.gambit_tools.specs.Laws.{TextsHoldForTheGame};
 ghost use Rattle.gambit_tools.specs.Outcome.{RunAnswer, IsTold, TakesLine, IsComputed, IsRunOf, IsToldRun, IsComplete};
@@ -35,7 +35,7 @@ use std::thread::Threads;
 use two_player_tools::{lcp_texts_are_equilibria, lp_texts_are_solutions};
 use words::{Settings, SettingsStop, read_settings};
 
-/// Reads the inputs that the settings name, and computes the text. Each tool has an arm.
+// Reads the inputs that the settings name, and computes the text. Each tool has an arm.
 #[tactic(auto, using(crate::proofs::MakeLaws::make_computed))]
 fn compute<R: Threads + Sync, I: Inputs, G: Gate>(
     rt: &R,
@@ -81,7 +81,7 @@ fn compute<R: Threads + Sync, I: Inputs, G: Gate>(
     }
 }
 
-/// Reads the words and the inputs, computes the whole text, and only then writes it.
+// Reads the words and the inputs, computes the whole text, and only then writes it.
 fn answer<R: Threads + Sync, I: Inputs, K: Sink, G: Gate>(
     rt: &R,
     alloc: Global,
@@ -113,16 +113,16 @@ fn answer<R: Threads + Sync, I: Inputs, K: Sink, G: Gate>(
     }
 }
 
-/// Writes a line. A fault of the sink ends the writing. Takes no memory.
+// Writes a line. A fault of the sink ends the writing. Takes no memory.
 fn write_line<E: Sink>(err: &mut E, line: &str)
     ensures { TakesLine (E.seen err.old) (E.seen err.new) line.now }
 {
     let _ = write_text(err, line.as_bytes());
 }
 
-/// Writes the line of a refusal that names numbers, or that of want of memory where it cannot be formed.
-fn refuse_with_numbers<E: Sink>(alloc: Global, err: &mut E, refusal: Refusal) -> u8
-    requires { NamesNumbers refusal }
+// Writes the line of a refusal that is formed, or that of want of memory where it cannot be.
+fn refuse_formed<E: Sink>(alloc: Global, err: &mut E, refusal: Refusal) -> u8
+    requires { HasFormedLine refusal }
     ensures { (told : Refusal) × IsToldAs refusal told × (result ≡ status_of told)
         × IsTold (E.seen err.old) (E.seen err.new) (Some told) }
 {
@@ -133,13 +133,14 @@ fn refuse_with_numbers<E: Sink>(alloc: Global, err: &mut E, refusal: Refusal) ->
         }
         Err(_) => {
             write_line(err, "gambit: out of memory\n");
-            5
+            Refusal::Memory.status()
         }
     }
 }
 
-/// Writes the line of a refusal, and answers its status. Where the line names numbers and there is no memory to
-/// form it, want of memory is told in its place. A fault of the sink ends the writing and changes no status.
+/// Writes the line of a refusal and flushes the sink, and answers the refusal's status. Where the
+/// line tells more than the refusal's kind and there is no memory to form it, want of memory is told
+/// in its place. A fault of the sink ends the writing and changes no status.
 pub fn refuse<E: Sink>(alloc: Global, err: &mut E, refusal: Refusal) -> u8
     ensures { (told : Refusal) × IsToldAs refusal told × (result ≡ status_of told)
         × IsTold (E.seen err.old) (E.seen err.new) (Some told) }
@@ -149,7 +150,7 @@ pub fn refuse<E: Sink>(alloc: Global, err: &mut E, refusal: Refusal) -> u8
             write_line(err, line);
             refusal.status()
         }
-        None => refuse_with_numbers(alloc, err, refusal),
+        None => refuse_formed(alloc, err, refusal),
     }
 }
 

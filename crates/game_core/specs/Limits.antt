@@ -13,11 +13,11 @@ too_large what limit count = record { what = what; count = count; limit = limit 
 abbrev pub first_above : What → ℕ → TooLarge
 first_above what limit = too_large what limit (limit + 1)
 
--- nothing, but of a count within its limit; the count is told
+-- refuses a count above its limit, and tells the count
 abbrev pub within : What → ℕ → ℕ → Answer TooLarge (Unit {0})
 within what limit count = refuse_where (limit < count) (too_large what limit count)
 
--- nothing, but of a count within its limit; the first number above it is told
+-- refuses a count above its limit, and tells the first number above it
 abbrev pub counted_within : What → ℕ → ℕ → Answer TooLarge (Unit {0})
 counted_within what limit count = refuse_where (limit < count) (first_above what limit)
 

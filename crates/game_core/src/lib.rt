@@ -5,8 +5,8 @@
 //! `tree_parts` has the parts of its game; `made_games_pay_draws`, of `make_table`.
 //! Definitions: `specs::Table` and `TreeGame` say what a table and a tree stand for (`game_of`,
 //! `game_of_tree`), `Tree` what makes one, `Limits` when a count is within its limit, `Spacing` what
-//! tokens keep.
-//! Private words: `specs::OwnSets` and `TreeCodes`, how a tree keeps its parts.
+//! tokens keep, `TreeCodes` how the parts of trees are coded where models keep them.
+//! Private words: `specs::OwnSets`, how a tree keeps its own sets.
 //! Lemmas for callers: `proofs::TableCountLemmas` on counts of strategies, `StrideLemmas`.
 //! A change here touches: all contracts that name a game, from the readers to `run`.
 #![tactic(auto)]

@@ -30,7 +30,12 @@ impl Model for Table {
 
     ghost coded = { code_of_table };
 
-    ghost view = { λ t. record { title = t.title; players = t.players.items; strategies = map (λ v. v.items) t.strategies.items; payoffs = t.payoffs.items } };
+    ghost view = { λ t. record {
+      title = t.title;
+      players = t.players.items;
+      strategies = map (λ v. v.items) t.strategies.items;
+      payoffs = t.payoffs.items;
+    } };
 
     ghost invariant = { λ t. IsTable
         (record {

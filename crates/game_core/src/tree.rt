@@ -67,7 +67,13 @@ impl Model for InfoSet {
 
     ghost coded = { code_of_set };
 
-    ghost view = { λ s. record { owner = s.owner; label = s.label; name = s.name; actions = s.actions.items; members = s.members.items } };
+    ghost view = { λ s. record {
+      owner = s.owner;
+      label = s.label;
+      name = s.name;
+      actions = s.actions.items;
+      members = s.members.items;
+    } };
 }
 
 impl InfoSet {
@@ -235,7 +241,13 @@ impl Model for Tree {
 
     ghost coded = { code_of_tree };
 
-    ghost view = { λ t. record { title = t.title; players = t.players.items; nodes = t.nodes.items; sets = t.sets.items; outcomes = t.outcomes.items } };
+    ghost view = { λ t. record {
+      title = t.title;
+      players = t.players.items;
+      nodes = t.nodes.items;
+      sets = t.sets.items;
+      outcomes = t.outcomes.items;
+    } };
 
     ghost invariant = { λ t. IsGameTree
         (record {

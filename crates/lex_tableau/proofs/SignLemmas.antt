@@ -8,7 +8,7 @@ use Rattle.rational.specs.Rational.{frac}
 use Rattle.rational.proofs.PartLemmas.{frac-eq, frac-lt}
 use Rattle.rational.proofs.IntegerRing.{integer_ring}
 use Rattle.rational.proofs.Ring.{ring, num, ◌:*◌, A}
-use Rattle.frac128.proofs.SignLemmas.{sign_of-positive, sign_of-zero, sign_of-negative}
+use Rattle.rational.proofs.TestLemmas.{sign_of-positive, sign_of-zero, sign_of-negative}
 
 by_one : (n : ℤ) → n *ℤ pos 1 ≡ n
 by_one n = ring integer_ring (n ∷ []) (A :* num 1) A refl

@@ -15,7 +15,7 @@ use Rattle.linear_systems.specs.Reached.{IsVariableOf, in_row, in_column}
 use Rattle.linear_systems.proofs.LexLemmas.{less_trans, less_apart, compare}
 use Rattle.linear_systems.proofs.LexRowLemmas.{lex_row_is}
 use Rattle.linear_systems.proofs.RowLemmas.{times_zero, coefficient_absent, coefficient_cell}
-use Rattle.linear_systems.specs.Points.{IsPoint, IsExtremePoint, AreEqualAt}
+use Rattle.linear_systems.specs.Points.{IsFeasible, IsExtremePoint, AreEqualAt}
 use Rattle.linear_systems.specs.Reach.{IsFeasibleStart, IsLexReached, IsClosed, HasNeighbour}
 use Rattle.linear_systems.specs.ExtremePointLaws.{HasPoint}
 use Rattle.linear_systems.proofs.SmallStepLemmas.{extreme_alone}
@@ -82,7 +82,7 @@ unfolding mark
 marks p = record { nonnegative = λ v. mark_nonnegative (p v) (trichotomy (p v) zero_ℚ); none = λ v. mark_none (p v) (trichotomy (p v) zero_ℚ); some = λ v. mark_some (p v) (trichotomy (p v) zero_ℚ) }
 
 -- ---- where no column is negative, the basic solution has no weight
-no_weight : (N : ℕ) (s t : Tableau) (w p : ℕ → ℚ) → IsLexReached N s t → IsPoint s p → Marks p w → ((j : ℕ) → j < t.width → zero_ℚ ≤ℚ reduced N w t (unit_at (t.nonbasic j)) zero_ℚ) → (i : ℕ) → i < t.rows → w (t.basic i) *ℚ t.right i ≡ zero_ℚ
+no_weight : (N : ℕ) (s t : Tableau) (w p : ℕ → ℚ) → IsLexReached N s t → IsFeasible s p → Marks p w → ((j : ℕ) → j < t.width → zero_ℚ ≤ℚ reduced N w t (unit_at (t.nonbasic j)) zero_ℚ) → (i : ℕ) → i < t.rows → w (t.basic i) *ℚ t.right i ≡ zero_ℚ
 no_weight N s t w p q hp m best = each_zero t.rows (λ i. w (t.basic i) *ℚ t.right i) (λ i hi. nonneg-mul (w (t.basic i)) (t.right i) (m.nonnegative (t.basic i)) (rights_nonnegative N s t i q (omega (arith, rows)))) none
   where
     rows : t.rows ≡ s.rows

@@ -11,7 +11,7 @@ use Rattle.rational.proofs.Field.{le_refl, le_of_lt, eq_or_lt_of_le, le-mul_left
 use Rattle.rational.proofs.SumLemmas.{sum_to-same, sum_to-add, sum_to-scale}
 use Rattle.linear_systems.specs.Tableau.{Tableau, left, Solves}
 use Rattle.linear_systems.specs.Reached.{IsVariableOf, in_row, in_column}
-use Rattle.linear_systems.specs.Points.{IsPoint, IsExtremePoint, AreEqualAt}
+use Rattle.linear_systems.specs.Points.{IsFeasible, IsExtremePoint, AreEqualAt}
 
 -- q is at most a multiple of p
 record Bounded (n : ℕ) (p q : ℕ → ℚ) : Type 0 where
@@ -49,7 +49,7 @@ record BoundedAt (s : Tableau) (p q : ℕ → ℚ) : Type 0 where
   some : one_ℚ ≤ℚ by
   most : (v : ℕ) → IsVariableOf s v → q v ≤ℚ (by *ℚ p v)
 
-bounded_at : (s : Tableau) (p q : ℕ → ℚ) → IsPoint s p → IsPoint s q → ((v : ℕ) → IsVariableOf s v → p v ≡ zero_ℚ → q v ≡ zero_ℚ) → BoundedAt s p q
+bounded_at : (s : Tableau) (p q : ℕ → ℚ) → IsFeasible s p → IsFeasible s q → ((v : ℕ) → IsVariableOf s v → p v ≡ zero_ℚ → q v ≡ zero_ℚ) → BoundedAt s p q
 bounded_at s p q hp hq z = go (bounded s.rows (λ i. p (s.basic i)) (λ i. q (s.basic i)) (λ i h. hp.nonnegative _ (in_row i h refl)) (λ i h. hq.nonnegative _ (in_row i h refl)) (λ i h. z _ (in_row i h refl))) (bounded s.width (λ j. p (s.nonbasic j)) (λ j. q (s.nonbasic j)) (λ j h. hp.nonnegative _ (in_column j h refl)) (λ j h. hq.nonnegative _ (in_column j h refl)) (λ j h. z _ (in_column j h refl)))
   where
     wider : (a b x y : ℚ) → one_ℚ ≤ℚ b → zero_ℚ ≤ℚ x → y ≤ℚ (a *ℚ x) → y ≤ℚ ((a +ℚ b) *ℚ x)
@@ -87,7 +87,7 @@ back_nonneg p q c by hp hc hq e =
     linear ((p +ℚ (neg_ℚ c *ℚ (q -ℚ p))) ∷ p ∷ (c *ℚ p) ∷ (c *ℚ q) ∷ (c *ℚ (by *ℚ p)) ∷ []) ((at 0 ⟨=⟩ ((at 1 ⟨+⟩ at 2) ⟨-⟩ at 3)) ∷ (lit (pos 0) ⟨≤⟩ at 2) ∷ (at 3 ⟨≤⟩ at 4) ∷ (at 4 ⟨=⟩ at 1) ∷ []) (lit (pos 0) ⟨≤⟩ at 0) (λ one z u v. omega (arith, ints)) (ring rational_ring (p ∷ q ∷ c ∷ []) (A :+ :neg C :* (B :- A)) ((A :+ C :* A) :- C :* B) refl, (nonneg-mul c p hc hp, (le-mul_left c q (by *ℚ p) hc hq, (combine rational_ring (p ∷ c ∷ by ∷ []) ((A times C :* B is num 1) ∷ []) (B :* (C :* A)) A refl (e, tt), tt))))
 
 -- a point that is 0 wherever an extreme point is 0 is that point
-pub extreme_alone : (s : Tableau) (p q : ℕ → ℚ) → IsExtremePoint s p → IsPoint s q → ((v : ℕ) → IsVariableOf s v → p v ≡ zero_ℚ → q v ≡ zero_ℚ) → AreEqualAt s p q
+pub extreme_alone : (s : Tableau) (p q : ℕ → ℚ) → IsExtremePoint s p → IsFeasible s q → ((v : ℕ) → IsVariableOf s v → p v ≡ zero_ℚ → q v ≡ zero_ℚ) → AreEqualAt s p q
 extreme_alone s p q hp hq z v h = go (bounded_at s p q hp.point hq z)
   where
     two_sides : (b : BoundedAt s p q) → b.by *ℚ inv_ℚ b.by ≡ one_ℚ → zero_ℚ ≤ℚ inv_ℚ b.by → p v +ℚ (inv_ℚ b.by *ℚ (q v -ℚ p v)) ≡ p v +ℚ (neg_ℚ (inv_ℚ b.by) *ℚ (q v -ℚ p v))

@@ -15,7 +15,7 @@ use Rattle.linear_systems.specs.Lex.{IsLexPositive}
 use Rattle.linear_systems.specs.Rows.{unit_at, basic_solution, row, key, HasDistinctVariables}
 use Rattle.linear_systems.specs.Reached.{IsCombination, IsReached, IsVariableOf, in_row, in_column}
 use Rattle.linear_systems.proofs.RowLemmas.{unit_self, unit_other, sum_single, times_zero}
-use Rattle.linear_systems.specs.Points.{IsPoint, IsExtremePoint, AreEqualAt}
+use Rattle.linear_systems.specs.Points.{IsFeasible, IsExtremePoint, AreEqualAt}
 use Rattle.linear_systems.specs.Reach.{IsLexReached}
 
 pub one_positive : zero_ℚ <ℚ one_ℚ
@@ -104,7 +104,7 @@ solution_nonnegative N s t v p = go (place t v)
     go (outside j hj e) = subst (λ v. zero_ℚ ≤ℚ basic_solution t v) e (subst (λ a. zero_ℚ ≤ℚ a) (sym (solution_nonbasic t j p.reached.proper hj)) (le_refl zero_ℚ))
     go (absent h g) = subst (λ a. zero_ℚ ≤ℚ a) (sym (solution_elsewhere t v h)) (le_refl zero_ℚ)
 
-pub solution_point : (N : ℕ) (s t : Tableau) → IsLexReached N s t → IsPoint s (basic_solution t)
+pub solution_point : (N : ℕ) (s t : Tableau) → IsLexReached N s t → IsFeasible s (basic_solution t)
 solution_point N s t p = record { solves = solves_start N s t (basic_solution t) p.reached (solution_solves t p.reached.proper); nonnegative = λ v h. solution_nonnegative N s t v p }
 
 -- a solution that is 0 at the nonbasic variables is the basic one
@@ -122,7 +122,7 @@ solution_extreme N s t p = record { point = solution_point N s t p; alone = alon
     two_zeros : (a b : ℚ) → zero_ℚ ≤ℚ a → zero_ℚ ≤ℚ b → a +ℚ b ≡ zero_ℚ +ℚ zero_ℚ → a ≡ zero_ℚ
     two_zeros a b ha hb e = linear (a ∷ b ∷ []) ((lit (pos 0) ⟨≤⟩ at 0) ∷ (lit (pos 0) ⟨≤⟩ at 1) ∷ ((at 0 ⟨+⟩ at 1) ⟨=⟩ lit (pos 0)) ∷ []) (at 0 ⟨=⟩ lit (pos 0)) (λ one z u v. omega (arith, ints)) (ha, (hb, (e ∙ ring rational_ring [] (num 0 :+ num 0) (num 0) refl, tt)))
 
-    alone : (x y : ℕ → ℚ) → IsPoint s x → IsPoint s y → ((v : ℕ) → IsVariableOf s v → x v +ℚ y v ≡ basic_solution t v +ℚ basic_solution t v) → AreEqualAt s x y
+    alone : (x y : ℕ → ℚ) → IsFeasible s x → IsFeasible s y → ((v : ℕ) → IsVariableOf s v → x v +ℚ y v ≡ basic_solution t v +ℚ basic_solution t v) → AreEqualAt s x y
     alone x y hx hy mid v hv = go (p.reached.variables v hv)
       where
         -- at the tableau's nonbasic variables both are 0

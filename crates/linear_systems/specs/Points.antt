@@ -1,12 +1,12 @@
--- The points of a system: its solutions without negative entries, and the extreme ones among them
--- (Avis et al. 2010)
+-- The feasible points of a system: its solutions without negative entries, and the extreme ones among
+-- them (Avis et al. 2010)
 use Rattle.std.specs.Prelude.{ℕ, ◌<◌, ◌≡◌, ◌≢◌}
 use Rattle.rational.specs.Rational.{ℚ, ◌+ℚ◌, zero_ℚ, ◌≤ℚ◌}
 use Rattle.linear_systems.specs.Tableau.{Tableau, Solves}
 use Rattle.linear_systems.specs.Reached.{IsVariableOf}
 
--- x solves s, and no variable of s is negative in it
-pub record IsPoint (s : Tableau) (x : ℕ → ℚ) : Type 0 where
+-- a feasible point: x solves s, and no variable of s is negative in it
+pub record IsFeasible (s : Tableau) (x : ℕ → ℚ) : Type 0 where
   pub solves : Solves s x
   pub nonnegative : (v : ℕ) → IsVariableOf s v → zero_ℚ ≤ℚ x v
 
@@ -14,10 +14,10 @@ pub record IsPoint (s : Tableau) (x : ℕ → ℚ) : Type 0 where
 abbrev pub AreEqualAt : Tableau → (ℕ → ℚ) → (ℕ → ℚ) → Type 0
 AreEqualAt s x y = (v : ℕ) → IsVariableOf s v → x v ≡ y v
 
--- p is a point, and in the middle of no two different points
+-- p is a feasible point, and in the middle of no two different ones
 pub record IsExtremePoint (s : Tableau) (p : ℕ → ℚ) : Type 0 where
-  pub point : IsPoint s p
-  pub alone : (x y : ℕ → ℚ) → IsPoint s x → IsPoint s y
+  pub point : IsFeasible s p
+  pub alone : (x y : ℕ → ℚ) → IsFeasible s x → IsFeasible s y
       → ((v : ℕ) → IsVariableOf s v → x v +ℚ y v ≡ p v +ℚ p v) → AreEqualAt s x y
 
 -- some nonbasic variable of s is not 0

@@ -3,8 +3,8 @@ use Rattle.std.proofs.Common.{◌≡◌, ◌≢◌, Bool, true, false, List, [],
 use Rattle.std.specs.Prelude.{if◌then◌else◌, IfOk, IfErr, OnOk, OnErr}
 use Rattle.std.proofs.lemmas.List.Elements.{All-nil}
 use Rattle.rational.specs.Rational.{ℚ, ◌+ℚ◌, ◌*ℚ◌, zero_ℚ}
-use Rattle.rational.specs.Tests.{eq_test}
-use Rattle.rational.proofs.Decide.{eq_test-true}
+use Rattle.rational.specs.Tests.{eq_ℚ}
+use Rattle.rational.proofs.Decide.{eq_ℚ-decides}
 use Rattle.rational.proofs.RationalRing.{+ℚ-zero}
 use Rattle.rational.proofs.Rules.{zero-*ℚ}
 use Rattle.frac128.specs.Steps.{AddFits, MulFits, unfit, Step, StepFits, IsFirstUnfit, StepsGive}
@@ -23,10 +23,10 @@ module _ (sum weight number : ℚ) where
 
   -- a weight of 0 adds nothing
   weighed-none : weight ≡ zero_ℚ → weighed_steps weight number sum ≡ []
-  weighed-none e = ap (λ b. if b then [] else both) ((eq_test-true weight zero_ℚ).1 e)
+  weighed-none e = ap (λ b. if b then [] else both) ((eq_ℚ-decides weight zero_ℚ).1 e)
 
   weighed-some : weight ≢ zero_ℚ → weighed_steps weight number sum ≡ both
-  weighed-some ne = ap (λ b. if b then [] else both) (not_true (eq_test weight zero_ℚ) (λ e. ne ((eq_test-true weight zero_ℚ).0 e)))
+  weighed-some ne = ap (λ b. if b then [] else both) (not_true (eq_ℚ weight zero_ℚ) (λ e. ne ((eq_ℚ-decides weight zero_ℚ).0 e)))
 
   pub nothing-added : weight ≡ zero_ℚ → StepsGive (weighed_steps weight number sum) (sum +ℚ (weight *ℚ number)) (Ok sum)
   nothing-added e =

@@ -4,7 +4,7 @@ use Rattle.std.specs.Prelude.{ℕ, suc, ◌<◌, ◌≡◌, ◌==◌, if◌then�
 use Rattle.std.specs.List.{range_with_len, flat_map}
 use Rattle.rational.specs.Rational.{ℚ, ◌*ℚ◌, ◌≤ℚ◌, ◌<ℚ◌, zero_ℚ, one_ℚ}
 use Rattle.rational.specs.Sum.{sum_to}
-use Rattle.rational.specs.Tests.{eq_test}
+use Rattle.rational.specs.Tests.{eq_ℚ}
 use Rattle.frac128.specs.Steps.{unfit, Step, StepFits, IsFirstUnfit}
 use Rattle.frac128.specs.declared.steps.Op.TheVariants.{Add, Mul}
 use Rattle.game_theory.specs.Profiles.{Game, profile_count, profile_at}
@@ -25,7 +25,7 @@ product_steps p (q ∷ qs) = unfit Mul p q ∷ product_steps (p *ℚ q) qs
 -- the product of a weight and a number is added to a sum, where the weight is not 0
 abbrev pub weighed_steps : ℚ → ℚ → ℚ → List Step
 weighed_steps w number sum =
-    if eq_test w zero_ℚ then [] else unfit Mul w number ∷ unfit Add sum (w *ℚ number) ∷ []
+    if eq_ℚ w zero_ℚ then [] else unfit Mul w number ∷ unfit Add sum (w *ℚ number) ∷ []
 
 -- the probabilities with which players j and later, other than i, play their strategies
 abbrev pub others_from : Mixed → ℕ → ℕ → List ℕ → List ℚ

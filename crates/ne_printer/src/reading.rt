@@ -1,4 +1,4 @@
-//! Lines of equilibria, read back.
+// Lines of equilibria, read back.
 ghost use Rattle.std.specs.Prelude.{◌≡◌, ◌≢◌, ◌+◌, ◌-◌, ◌*◌, ◌<◌, ◌≤◌, ◌^◌, ℕ, [], ◌++◌, ◌∷◌, ◌↔◌, IsTrue, length, pos, MatchOption};
 ghost use Rattle.std.specs.Char.{IsAsciiDigit, is_ascii_digit, digit_value};
 ghost use Rattle.std.specs.List.{All, list_all};

@@ -33,7 +33,18 @@ impl Model for MemInputs {
 
     ghost Value = { InputsState };
 
-    ghost view = { λ s. record { plain = s.plain.items; named = map (λ p. (string_bytes p.0, p.1.items)) s.named.items; failing = s.failing.items; calls = s.calls; selected = option_map (option_map string_bytes) s.selected; failed = option_map (option_map string_bytes) s.failed; position = s.position; selections = s.selections; open_faults = s.open_faults; read_faults = s.read_faults } };
+    ghost view = { λ s. record {
+      plain = s.plain.items;
+      named = map (λ p. (string_bytes p.0, p.1.items)) s.named.items;
+      failing = s.failing.items;
+      calls = s.calls;
+      selected = option_map (option_map string_bytes) s.selected;
+      failed = option_map (option_map string_bytes) s.failed;
+      position = s.position;
+      selections = s.selections;
+      open_faults = s.open_faults;
+      read_faults = s.read_faults;
+    } };
 }
 
 impl MemInputs {
@@ -111,7 +122,15 @@ impl MemInputs {
 }
 
 impl Inputs for MemInputs {
-    ghost seen = { λ s. record { held = bytes_held s.plain s.named; left = Some (bytes_left s); selected = s.selected; failed = s.failed; selections = s.selections; open_faults = s.open_faults; read_faults = s.read_faults } };
+    ghost seen = { λ s. record {
+      held = bytes_held s.plain s.named;
+      left = Some (bytes_left s);
+      selected = s.selected;
+      failed = s.failed;
+      selections = s.selections;
+      open_faults = s.open_faults;
+      read_faults = s.read_faults;
+    } };
 
     /// Fails exactly where the call's number is one that fails or there is no input of that name.
     fn select(&mut self, name: Option<String>) -> Result<(), OpenFailed>

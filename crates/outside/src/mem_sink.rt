@@ -27,7 +27,14 @@ impl Model for MemSink {
 
     ghost Value = { SinkState };
 
-    ghost view = { λ s. record { taken = s.bytes.items; most = s.most; limit = s.limit; flush_fails = s.flush_fails; flushed = s.flushed; faults = s.faults } };
+    ghost view = { λ s. record {
+      taken = s.bytes.items;
+      most = s.most;
+      limit = s.limit;
+      flush_fails = s.flush_fails;
+      flushed = s.flushed;
+      faults = s.faults;
+    } };
 
     ghost invariant = { λ s. (0 < s.most) × (s.limit ≤ vec_capacity s.bytes)
         × (vec_len s.bytes ≤ s.limit) };

@@ -33,7 +33,15 @@ impl<'a, R: Files + Input + Drop> Model for RealInputs<'a, R> {
 
     ghost Value = { OpenState };
 
-    ghost view = { λ s. record { standard = R.Reader.remaining s.reader; file = option_map R.File.Read.remaining s.file; selected = option_map (option_map string_bytes) s.selected; failed = option_map (option_map string_bytes) s.failed; selections = s.selections; open_faults = s.open_faults; read_faults = s.read_faults } };
+    ghost view = { λ s. record {
+      standard = R.Reader.remaining s.reader;
+      file = option_map R.File.Read.remaining s.file;
+      selected = option_map (option_map string_bytes) s.selected;
+      failed = option_map (option_map string_bytes) s.failed;
+      selections = s.selections;
+      open_faults = s.open_faults;
+      read_faults = s.read_faults;
+    } };
 
     ghost invariant = { λ s. is_some s.file ≡ is_named s.selected };
 }
@@ -62,7 +70,15 @@ impl<'a, R: Files + Input + Drop> RealInputs<'a, R> {
 }
 
 impl<'a, R: Files + Input + Drop> Inputs for RealInputs<'a, R> {
-    ghost seen = { λ s. record { held = λ _. None; left = None; selected = s.selected; failed = s.failed; selections = s.selections; open_faults = s.open_faults; read_faults = s.read_faults } };
+    ghost seen = { λ s. record {
+      held = λ _. None;
+      left = None;
+      selected = s.selected;
+      failed = s.failed;
+      selections = s.selections;
+      open_faults = s.open_faults;
+      read_faults = s.read_faults;
+    } };
 
     fn select(&mut self, name: Option<String>) -> Result<(), OpenFailed>
         ensures selects { OnOk result (self.new.selected ≡ Some (option_map string_bytes name)) }

@@ -23,7 +23,11 @@ impl<W: Write + Drop> Model for RealSink<W> {
 
     ghost Value = { WriterState };
 
-    ghost view = { λ s. record { contents = W.contents s.inner; flushed = s.flushed; faults = s.faults } };
+    ghost view = { λ s. record {
+      contents = W.contents s.inner;
+      flushed = s.flushed;
+      faults = s.faults;
+    } };
 }
 
 impl<W: Write + Drop> RealSink<W> {

@@ -1,11 +1,11 @@
 -- Order and equality of rationals are decidable, and the tests that compute them are right.
-use Rattle.std.proofs.Common.{◌≡◌, ◌≢◌, ◌⊎◌, ◌↔◌, inl, inr, Bool, true, false, IsTrue, Decides, T, refl, sym, ap, ap₂, subst, pos, ◌*ℤ◌}
+use Rattle.std.proofs.Common.{◌≡◌, ◌≢◌, ◌⊎◌, ◌↔◌, inl, inr, Bool, true, false, IsTrue, Decides, T, refl, sym, ap, subst}
 use Rattle.std.proofs.lemmas.Bool.Decides.{Decides-and, Decides-eqb, Decides-int_eq, Decides-like}
 use Rattle.std.specs.Prelude.{nat_eq}
 use Rattle.std.specs.Ordering.{int_eq}
 use Rattle.rational.specs.Rational.{ℚ, zero_ℚ, ◌≤ℚ◌, ◌<ℚ◌}
-use Rattle.rational.specs.Tests.{le_test, lt_test, eq_test, eq_ℚ}
-use Rattle.rational.proofs.FractionLemmas.{equal_by_cross, equal_by_parts}
+use Rattle.rational.specs.Tests.{le_test, lt_test, eq_ℚ}
+use Rattle.rational.proofs.FractionLemmas.{equal_by_parts}
 use Rattle.rational.proofs.Field.{le_or_lt, le_antisymm, ne_of_lt, not_lt_of_le}
 
 -- a is b or is not
@@ -37,11 +37,6 @@ le_test-true a b = (λ e. record { cross = record { le = subst T (sym e) tt } },
 pub lt_test-true : (a b : ℚ) → IsTrue (lt_test a b) ↔ (a <ℚ b)
 unfolding lt_test
 lt_test-true a b = (λ e. record { cross = record { lt = subst T (sym e) tt } }, λ h. T_true _ h.cross.lt)
-
--- the test of equality says whether a is b
-pub eq_test-true : (a b : ℚ) → IsTrue (eq_test a b) ↔ (a ≡ b)
-unfolding eq_test
-eq_test-true a b = (λ e. equal_by_cross a b ((Decides-int_eq (a.num *ℤ pos b.den) (b.num *ℤ pos a.den)).0 e), λ e. (Decides-int_eq (a.num *ℤ pos b.den) (b.num *ℤ pos a.den)).1 (ap₂ (λ (x y : ℚ). x.num *ℤ pos y.den) e (sym e)))
 
 -- two rationals are the same where their parts are
 pub eq_ℚ-decides : (a b : ℚ) → Decides (eq_ℚ a b) (a ≡ b)

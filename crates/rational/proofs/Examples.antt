@@ -4,7 +4,7 @@ use Rattle.std.proofs.lemmas.Int.{ints}
 use Rattle.rational.specs.Gcd.{gcd}
 use Rattle.rational.specs.Rational.{ℚ, frac, is_lowest, whole, ◌+ℚ◌, ◌*ℚ◌, ◌-ℚ◌, inv_ℚ, zero_ℚ, one_ℚ, ◌≤ℚ◌, ◌<ℚ◌}
 use Rattle.rational.proofs.RationalRing.{rational_ring}
-use Rattle.rational.specs.Tests.{le_test, lt_test, eq_test}
+use Rattle.rational.specs.Tests.{le_test, lt_test, eq_ℚ}
 use Rattle.rational.proofs.Decide.{lt_test-true}
 use Rattle.rational.proofs.Rules.{ring_laws, ring_cancels}
 use Rattle.rational.proofs.Ring.{ring, combine, ◌times◌is◌, num, ◌:+◌, ◌:*◌, ◌:-◌, A, B, C, D}
@@ -33,8 +33,8 @@ unfolding frac inv_ℚ gcd is_lowest
 inverse_computes = refl
 
 -- tests of order and equality at literals: 1/3 < 1/2, 2/4 = 1/2, and not 1/2 <= 1/3
-tests_compute : (lt_test (frac (pos 1) 3) (frac (pos 1) 2) ≡ true) × (eq_test (frac (pos 2) 4) (frac (pos 1) 2) ≡ true) × (le_test (frac (pos 1) 2) (frac (pos 1) 3) ≡ false)
-unfolding lt_test eq_test le_test frac gcd is_lowest
+tests_compute : (lt_test (frac (pos 1) 3) (frac (pos 1) 2) ≡ true) × (eq_ℚ (frac (pos 2) 4) (frac (pos 1) 2) ≡ true) × (le_test (frac (pos 1) 2) (frac (pos 1) 3) ≡ false)
+unfolding lt_test le_test frac gcd is_lowest
 tests_compute = (refl, refl, refl)
 
 -- an order at literals, by its test

@@ -18,3 +18,4 @@ pub mod RationalRing
 pub mod Ring
 pub mod Rules
 pub mod SumLemmas
+pub mod TestLemmas

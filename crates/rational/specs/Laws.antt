@@ -1,12 +1,13 @@
 -- The laws of the rational numbers, as statements. Those of a commutative ring and of an ordered field are the usual axioms; each is proved by a function of src/lib.rt.
-use Rattle.std.specs.Prelude.{ℕ, suc, ◌+◌, ◌*◌, ◌<◌, ◌≡◌, ◌≢◌, ◌⊎◌, ◌↔◌, IsTrue, ℤ, pos, neg_ℤ, ◌+ℤ◌, ◌*ℤ◌, ◌≤ℤ◌, ◌<ℤ◌, nat_abs, List}
+use Rattle.std.specs.Prelude.{ℕ, suc, ◌+◌, ◌*◌, ◌<◌, ◌≡◌, ◌≢◌, ◌⊎◌, ◌↔◌, IsTrue, ℤ, pos, negsuc, neg_ℤ, ◌+ℤ◌, ◌*ℤ◌, ◌≤ℤ◌, ◌<ℤ◌, nat_abs, List}
 use Rattle.std.specs.Int.{◌∣◌}
+use Rattle.std.specs.declared.cmp.Ordering.TheVariants.{Less, Equal, Greater}
 use Rattle.rational.specs.Gcd.{gcd}
 use Rattle.rational.specs.Rational.{ℚ, frac, ◌+ℚ◌, ◌*ℚ◌, neg_ℚ, inv_ℚ, zero_ℚ, one_ℚ, ◌≤ℚ◌, ◌<ℚ◌}
 use Rattle.rational.specs.Extremes.{IsGreatest, IsLeast}
 use Rattle.rational.specs.Midpoint.{midpoint}
 use Rattle.rational.specs.Sum.{sum_to, IsWeights}
-use Rattle.rational.specs.Tests.{le_test, lt_test, eq_test}
+use Rattle.rational.specs.Tests.{le_test, lt_test, cmp_ℚ, eq_ℚ, sign_of}
 
 -- What `gcd` gives divides both numbers, and each common divisor divides it.
 pub record GcdIsGreatest : Type 0 where
@@ -50,14 +51,21 @@ pub record IsOrderedField : Type 0 where
   pub le-add_left : (c a b : ℚ) → a ≤ℚ b → (c +ℚ a) ≤ℚ (c +ℚ b)
   pub nonneg-mul : (a b : ℚ) → zero_ℚ ≤ℚ a → zero_ℚ ≤ℚ b → zero_ℚ ≤ℚ (a *ℚ b)
 
--- Order and equality are decidable, and the tests that compute decide them.
+-- Order and equality are decidable, and the tests that compute decide them; what code answers of order
+-- and sign is so.
 pub record OrderIsDecidable : Type 0 where
   pub at_most : (a b : ℚ) → (a ≤ℚ b) ⊎ (b <ℚ a)
   pub never_both : (a b : ℚ) → a ≤ℚ b → ¬ (b <ℚ a)
   pub equal : (a b : ℚ) → (a ≡ b) ⊎ (a ≢ b)
   pub at_most_test : (a b : ℚ) → IsTrue (le_test a b) ↔ (a ≤ℚ b)
   pub below_test : (a b : ℚ) → IsTrue (lt_test a b) ↔ (a <ℚ b)
-  pub equal_test : (a b : ℚ) → IsTrue (eq_test a b) ↔ (a ≡ b)
+  pub equal_test : (a b : ℚ) → IsTrue (eq_ℚ a b) ↔ (a ≡ b)
+  pub compares_less : (a b : ℚ) → (cmp_ℚ a b ≡ Less) ↔ (a <ℚ b)
+  pub compares_equal : (a b : ℚ) → (cmp_ℚ a b ≡ Equal) ↔ (a ≡ b)
+  pub compares_greater : (a b : ℚ) → (cmp_ℚ a b ≡ Greater) ↔ (b <ℚ a)
+  pub positive_sign : (a : ℚ) → (sign_of a ≡ pos 1) ↔ (zero_ℚ <ℚ a)
+  pub zero_sign : (a : ℚ) → (sign_of a ≡ pos 0) ↔ (a ≡ zero_ℚ)
+  pub negative_sign : (a : ℚ) → (sign_of a ≡ negsuc 0) ↔ (a <ℚ zero_ℚ)
 
 -- Between two numbers lies their midpoint, as far from the one as from the other.
 pub record MidpointsLieBetween : Type 0 where
@@ -65,7 +73,7 @@ pub record MidpointsLieBetween : Type 0 where
   pub below : (a b : ℚ) → a <ℚ b → midpoint a b <ℚ b
   pub halfway : (a b m : ℚ) → (m ≡ midpoint a b) ↔ (m +ℚ m ≡ a +ℚ b)
 
--- Of numbers one is the greatest, and one the least.
+-- Numbers have at most one greatest and at most one least.
 pub record ExtremesAreSingle : Type 0 where
   pub greatest : (numbers : List ℚ) (v w : ℚ) → IsGreatest numbers v → IsGreatest numbers w → v ≡ w
   pub least : (numbers : List ℚ) (v w : ℚ) → IsLeast numbers v → IsLeast numbers w → v ≡ w

@@ -1,22 +1,17 @@
--- Tests of order and equality that compute at literals, by the cross products of numerators and denominators; order, equality
--- and sign as code answers them.
+-- Tests of order and equality that compute at literals; order and sign as code answers them.
 use Rattle.std.specs.Prelude.{ℤ, Bool, pos, ◌*ℤ◌, int_le, int_lt, nat_eq}
 use Rattle.std.specs.declared.cmp.Ordering.{Ordering}
 use Rattle.std.specs.Ordering.{int_cmp, int_eq, eq_of_both, on}
 use Rattle.std.specs.Int.{int_signum}
 use Rattle.rational.specs.Rational.{ℚ}
 
--- a is at most b
+-- whether a is at most b, by the cross products of numerators and denominators
 unfoldable pub le_test : ℚ → ℚ → Bool
 le_test a b = int_le (a.num *ℤ pos b.den) (b.num *ℤ pos a.den)
 
--- a is below b
+-- whether a is below b
 unfoldable pub lt_test : ℚ → ℚ → Bool
 lt_test a b = int_lt (a.num *ℤ pos b.den) (b.num *ℤ pos a.den)
-
--- a is b
-unfoldable pub eq_test : ℚ → ℚ → Bool
-eq_test a b = int_eq (a.num *ℤ pos b.den) (b.num *ℤ pos a.den)
 
 -- the order of two rationals, by their cross products
 abbrev pub cmp_ℚ : ℚ → ℚ → Ordering

@@ -35,12 +35,13 @@ pub fn is_an_ordered_field()
     ensures { IsOrderedField }
 {}
 
-/// Order and equality of rationals are decided by tests that compute.
+/// Order and equality of rationals are decided by tests that compute, and so are the order and the
+/// sign that code answers.
 pub fn order_is_decidable()
     ensures { OrderIsDecidable }
 {}
 
-/// Of numbers one is the greatest, and one the least.
+/// Numbers have at most one greatest and at most one least.
 pub fn extremes_are_single()
     ensures { ExtremesAreSingle }
 {}

@@ -133,9 +133,12 @@ refusal_text refusal.OpenFault = codes "cannot open"
 refusal_text refusal.ReadFault = codes "read failed"
 refusal_text refusal.WriteFault = codes "write failed"
 refusal_text refusal.TooLong = codes "file longer than 16777216 bytes"
-refusal_text (refusal.Text fault) = codes "text fault at " ++ decimal fault.at ++ codes ": " ++ text_kind_text fault.kind
-refusal_text (refusal.Nfg fault) = codes "nfg fault at " ++ decimal fault.at ++ codes ": " ++ nfg_kind_text fault.kind
-refusal_text (refusal.Efg fault) = codes "efg fault at " ++ decimal fault.at ++ codes ": " ++ efg_kind_text fault.kind
+refusal_text (refusal.Text fault) =
+    codes "text fault at " ++ decimal fault.at ++ codes ": " ++ text_kind_text fault.kind
+refusal_text (refusal.Nfg fault) =
+    codes "nfg fault at " ++ decimal fault.at ++ codes ": " ++ nfg_kind_text fault.kind
+refusal_text (refusal.Efg fault) =
+    codes "efg fault at " ++ decimal fault.at ++ codes ": " ++ efg_kind_text fault.kind
 refusal_text (refusal.NotTwoPlayers count) = decimal count ++ codes " players, not two"
 refusal_text (refusal.Forgets player set first_node second_node) =
     codes "player " ++ decimal (player + 1) ++ codes " forgets at set " ++ decimal set
@@ -143,8 +146,12 @@ refusal_text (refusal.Forgets player set first_node second_node) =
 refusal_text (refusal.NotConstant first second first_sum second_sum) =
     codes "not constant sum: " ++ decimal (first + 1) ++ codes " has " ++ number_text first_sum
     ++ codes ", " ++ decimal (second + 1) ++ codes " has " ++ number_text second_sum
-refusal_text (refusal.TooLarge counted count limit) = codes "too large: " ++ decimal count ++ codes " " ++ what_text counted ++ codes ", limit " ++ decimal limit
-refusal_text (refusal.Range place step) = codes "range in " ++ site_text place ++ codes ": " ++ op_text step.op ++ codes " " ++ number_text step.left ++ codes " " ++ number_text step.right
+refusal_text (refusal.TooLarge counted count limit) =
+    codes "too large: " ++ decimal count ++ codes " " ++ what_text counted
+    ++ codes ", limit " ++ decimal limit
+refusal_text (refusal.Range place step) =
+    codes "range in " ++ site_text place ++ codes ": " ++ op_text step.op
+    ++ codes " " ++ number_text step.left ++ codes " " ++ number_text step.right
 refusal_text (refusal.BadLine line) = codes "line " ++ decimal line ++ codes " is not a profile"
 refusal_text (refusal.NoSuchPlayer number) = codes "no player " ++ decimal number
 refusal_text (refusal.SamePlayer number) =
@@ -155,21 +162,16 @@ refusal_text refusal.Memory = codes "out of memory"
 abbrev pub refusal_line : Refusal → List ℕ
 refusal_line r = codes "gambit: " ++ refusal_text r ++ 10 ∷ []
 
--- a refusal whose line names numbers, so that forming it takes memory
-abbrev pub NamesNumbers : Refusal → Type 0
-NamesNumbers (refusal.Text fault) = Unit {0}
-NamesNumbers (refusal.Nfg fault) = Unit {0}
-NamesNumbers (refusal.Efg fault) = Unit {0}
-NamesNumbers (refusal.NotTwoPlayers count) = Unit {0}
-NamesNumbers (refusal.Forgets player set first_node second_node) = Unit {0}
-NamesNumbers (refusal.NotConstant first second first_sum second_sum) = Unit {0}
-NamesNumbers (refusal.TooLarge counted count limit) = Unit {0}
-NamesNumbers (refusal.Range place step) = Unit {0}
-NamesNumbers (refusal.BadLine line) = Unit {0}
-NamesNumbers (refusal.NoSuchPlayer number) = Unit {0}
-NamesNumbers (refusal.SamePlayer number) = Unit {0}
-NamesNumbers _ = ⊥
+-- a refusal whose line is formed from what it tells, which takes memory
+abbrev pub HasFormedLine : Refusal → Type 0
+HasFormedLine (refusal.Usage u) = ⊥
+HasFormedLine refusal.OpenFault = ⊥
+HasFormedLine refusal.ReadFault = ⊥
+HasFormedLine refusal.WriteFault = ⊥
+HasFormedLine refusal.TooLong = ⊥
+HasFormedLine refusal.Memory = ⊥
+HasFormedLine _ = Unit {0}
 
 -- the refusal that is told: itself, or want of memory where its line could not be formed
 abbrev pub IsToldAs : Refusal → Refusal → Type 0
-IsToldAs r told = (told ≡ r) ⊎ (NamesNumbers r × (told ≡ refusal.Memory))
+IsToldAs r told = (told ≡ r) ⊎ (HasFormedLine r × (told ≡ refusal.Memory))

@@ -200,7 +200,7 @@ pub enum Refusal {
 
 impl Refusal {
     ghost use Rattle.std.specs.Prelude.{◌≡◌, IfOk, MatchOption, string_bytes};
-    ghost use Rattle.refusals.specs.Refusals.{status_of, refusal_line, NamesNumbers};
+    ghost use Rattle.refusals.specs.Refusals.{status_of, refusal_line, HasFormedLine};
 
     /// The status with which the program ends: 1 for the game, 2 for the words, 3 for an input, 4 for the
     /// output, 5 for want of memory.
@@ -227,9 +227,10 @@ impl Refusal {
         }
     }
 
-    /// The line on standard error, with its line feed, where it names no numbers. Takes no memory.
+    /// The line on standard error, with its line feed, where it is the same for each refusal of its
+    /// kind. Takes no memory.
     pub fn fixed_line(&self) -> Option<&'static str>
-        ensures { MatchOption result (NamesNumbers self.now)
+        ensures { MatchOption result (HasFormedLine self.now)
             (λ line. line.now ≡ refusal_line self.now) }
     {
         match self {
@@ -255,8 +256,9 @@ impl Refusal {
         }
     }
 
-    /// The line on standard error, with its line feed.
-    pub fn line(&self, alloc: Global) -> Result<String, Memory>
+    // The line of a refusal that tells more than its kind.
+    fn formed_line(&self, alloc: Global) -> Result<String, Memory>
+        requires { HasFormedLine self.now }
         ensures { IfOk result (λ line. string_bytes line ≡ refusal_line self.now) }
     {
         match self {
@@ -288,10 +290,22 @@ impl Refusal {
             Refusal::BadLine { line } => profile_line(alloc, *line),
             Refusal::NoSuchPlayer { number } => absent_line(alloc, *number),
             Refusal::SamePlayer { number } => twice_line(alloc, *number),
-            _ => match self.fixed_line() {
-                Some(line) => Ok(String::from_str(alloc, line)?),
-                None => Err(Memory),
-            },
+            Refusal::Usage(_)
+            | Refusal::OpenFault
+            | Refusal::ReadFault
+            | Refusal::WriteFault
+            | Refusal::TooLong
+            | Refusal::Memory => unreachable!(),
+        }
+    }
+
+    /// The line on standard error, with its line feed.
+    pub fn line(&self, alloc: Global) -> Result<String, Memory>
+        ensures { IfOk result (λ line. string_bytes line ≡ refusal_line self.now) }
+    {
+        match self.fixed_line() {
+            Some(line) => Ok(String::from_str(alloc, line)?),
+            None => self.formed_line(alloc),
         }
     }
 }

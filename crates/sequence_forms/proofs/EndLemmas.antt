@@ -11,7 +11,7 @@ use Rattle.sequence_forms.specs.Matrices.{SolvesProblem}
 use Rattle.sequence_forms.specs.Prices.{HasConstantSum, IsValueProof}
 use Rattle.sequence_forms.proofs.AlikeFormLemmas.{alike_back, same_plans, same_best_plans}
 use Rattle.sequence_forms.specs.PlanBehaviour.{chosen_plan}
-use Rattle.sequence_forms.specs.Forms.{SequenceForm, AreBestPlans, row_sum, at_leaf, row, column, chance_of_path, payoff_of_path, form_of, form_of_table, WeighsOne, ProvesValue}
+use Rattle.sequence_forms.specs.Forms.{SequenceForm, AreBestPlans, row_sum, at_leaf, row, column, chance_of_path, payoff_of_path, form_of, form_of_table, WeighsOne, AreOptimal}
 use Rattle.sequence_forms.specs.PriceLaws.{LeavesSumInCells, PricesBoundReplies, ValueProofsHoldOnTrees, SolutionsAreEquilibria}
 use Rattle.sequence_forms.specs.TableLaws.{ValueProofsHoldOnTables, SolutionsAreTableEquilibria}
 use Rattle.sequence_forms.proofs.ChoiceLemmas.{chosen_is_plan}
@@ -62,7 +62,7 @@ taken_over f g a rows columns one =
     }
 
 -- the end of the linear program, over forms that are alike
-value_taken_over : (f g : SequenceForm) (least c : ℚ) (x y P Q : ℕ → ℚ) (v : ℚ) → FormsAlike f g → IsSide g.rows → IsSide g.columns → WeighsOne g → HasConstantSum g c → IsValueProof f least x y P Q v → ProvesValue g x y v
+value_taken_over : (f g : SequenceForm) (least c : ℚ) (x y P Q : ℕ → ℚ) (v : ℚ) → FormsAlike f g → IsSide g.rows → IsSide g.columns → WeighsOne g → HasConstantSum g c → IsValueProof f least x y P Q v → AreOptimal g x y v
 value_taken_over f g least c x y P Q v a rows columns one s p =
     let o = taken_over f g a rows columns one in
     (same_best_plans f g a).value x y v (prices_prove f least c x y P Q v o.rows o.columns o.weigh_one ((same_best_plans g f (alike_back f g a)).constant_sum c s) p)
@@ -76,7 +76,7 @@ best_taken_over f g j k x y P P' Q Q' a rows columns one s =
 -- the end of the linear program
 pub values_on_trees : ValueProofsHoldOnTrees
 values_on_trees t f least c x y P Q v h a s p =
-    let proved : ProvesValue (form_of t) x y v = value_taken_over f (form_of t) least c x y P Q v a (side_of-is t 0 h.is_tree) (side_of-is t 1 h.is_tree) (trees_weigh_one t h) (leaves_sum t c s) p in
+    let proved : AreOptimal (form_of t) x y v = value_taken_over f (form_of t) least c x y P Q v a (side_of-is t 0 h.is_tree) (side_of-is t 1 h.is_tree) (trees_weigh_one t h) (leaves_sum t c s) p in
     let best = proved.best in
     record {
       equilibrium = best_plans_are_equilibria t x y h best;
@@ -95,7 +95,7 @@ solutions_on_trees t f j k x y P P' Q Q' h a s =
 pub values_on_tables : ValueProofsHoldOnTables
 values_on_tables g m n f least c x y P Q v e a s p =
     let form = tables_have_forms g m n in
-    let proved : ProvesValue (form_of_table g m n) x y v = value_taken_over f (form_of_table g m n) least c x y P Q v a form.rows form.columns form.weigh_one s p in
+    let proved : AreOptimal (form_of_table g m n) x y v = value_taken_over f (form_of_table g m n) least c x y P Q v a form.rows form.columns form.weigh_one s p in
     record {
       equilibrium = best_plans_are_table_equilibria g m n x y e proved.best;
       value = table_plans_pay g m n x y 0 e ∙ proved.value;

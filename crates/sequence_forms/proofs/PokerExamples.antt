@@ -4,7 +4,7 @@ use Rattle.lists.proofs.NumberLemmas.{below_two}
 use borrow.Author.Count.{below_none, below_more}
 use Rattle.rational.specs.Gcd.{gcd}
 use Rattle.rational.specs.Rational.{is_lowest, frac, whole, ◌+ℚ◌, ◌*ℚ◌, ◌≤ℚ◌, neg_ℚ, inv_ℚ, zero_ℚ}
-use Rattle.rational.specs.Tests.{eq_test}
+use Rattle.rational.specs.Tests.{eq_ℚ}
 use Rattle.rational.specs.Sum.{sum_to}
 use Rattle.game_theory.specs.TreeExamples.{one_card_poker, bluffs}
 use Rattle.game_theory.proofs.PokerExamples.{poker-worth}
@@ -87,7 +87,7 @@ abbrev plays : ℕ → ℕ → Type 0
 plays s a = behaviour_of one_card_poker (of_two plan_of_fred plan_of_alice) s a ≡ bluffs s a
 
 poker_behaviour : (s i a : ℕ) → s < 4 → one_card_poker.owner s ≡ Some i → a < 2 → plays s a
-unfolding frac ◌+ℚ◌ ◌*ℚ◌ inv_ℚ gcd is_lowest eq_test
+unfolding frac ◌+ℚ◌ ◌*ℚ◌ inv_ℚ gcd is_lowest
 poker_behaviour zero i a h e l = cc
 poker_behaviour (suc zero) i a h e l = below_two (plays 1) refl refl a l
 poker_behaviour (suc (suc zero)) i a h e l = below_two (plays 2) refl refl a l

@@ -4,11 +4,11 @@ use Rattle.std.specs.Prelude.{if◌then◌else◌}
 use Rattle.std.proofs.lemmas.Int.{ints}
 use Rattle.std.proofs.lemmas.Bool.Decides.{not_from_Decides}
 use Rattle.rational.specs.Rational.{ℚ, ◌*ℚ◌, ◌≤ℚ◌, ◌<ℚ◌, inv_ℚ, frac, whole, zero_ℚ, one_ℚ}
-use Rattle.rational.specs.Tests.{eq_test}
+use Rattle.rational.specs.Tests.{eq_ℚ}
 use Rattle.rational.specs.Sum.{sum_to}
 use Rattle.rational.proofs.RationalRing.{rational_ring, *ℚ-one}
 use Rattle.rational.proofs.Rules.{*ℚ-zero}
-use Rattle.rational.proofs.Decide.{eq_test-true}
+use Rattle.rational.proofs.Decide.{eq_ℚ-decides}
 use Rattle.rational.proofs.Field.{nonneg-mul, eq_or_lt_of_le, le_of_lt, *ℚ-inv}
 use Rattle.rational.proofs.InverseLemmas.{ne_zero_of_pos, inv_pos, frac-inv}
 use Rattle.rational.proofs.PartLemmas.{whole-lt}
@@ -35,7 +35,7 @@ even_not_negative n h = subst (λ x. zero_ℚ ≤ℚ x) (sym (even-is n h)) (le_
 
 -- a share times the weight before is the weight, where this is 0 after the weight 0
 pub share-times : (n : ℕ) (before weight : ℚ) → (before ≡ zero_ℚ → weight ≡ zero_ℚ) → share n before weight *ℚ before ≡ weight
-share-times n before weight h = go (eq_test before zero_ℚ) (eq_test-true before zero_ℚ)
+share-times n before weight h = go (eq_ℚ before zero_ℚ) (eq_ℚ-decides before zero_ℚ)
   where
     go : (b : Bool) → Decides b (before ≡ zero_ℚ) → (if b then frac (pos 1) n else weight *ℚ inv_ℚ before) *ℚ before ≡ weight
     go true d = ap (λ x. frac (pos 1) n *ℚ x) (d.0 refl) ∙ *ℚ-zero (frac (pos 1) n) ∙ sym (h (d.0 refl))
@@ -45,7 +45,7 @@ share-times n before weight h = go (eq_test before zero_ℚ) (eq_test-true befor
 
 -- the shares of weights that sum to the weight before sum to 1
 pub share_sum : (n : ℕ) (before : ℚ) (weights : ℕ → ℚ) → 0 < n → sum_to n weights ≡ before → sum_to n (λ a. share n before (weights a)) ≡ one_ℚ
-share_sum n before weights p h = go (eq_test before zero_ℚ) (eq_test-true before zero_ℚ)
+share_sum n before weights p h = go (eq_ℚ before zero_ℚ) (eq_ℚ-decides before zero_ℚ)
   where
     go : (b : Bool) → Decides b (before ≡ zero_ℚ) → sum_to n (λ a. if b then frac (pos 1) n else weights a *ℚ inv_ℚ before) ≡ one_ℚ
     go true d = even_sum n p
@@ -53,7 +53,7 @@ share_sum n before weights p h = go (eq_test before zero_ℚ) (eq_test-true befo
 
 -- a share is not negative
 pub share-not_negative : (n : ℕ) (before weight : ℚ) → 0 < n → zero_ℚ ≤ℚ before → zero_ℚ ≤ℚ weight → zero_ℚ ≤ℚ share n before weight
-share-not_negative n before weight p u v = go (eq_test before zero_ℚ) (eq_test-true before zero_ℚ)
+share-not_negative n before weight p u v = go (eq_ℚ before zero_ℚ) (eq_ℚ-decides before zero_ℚ)
   where
     inverse : before ≢ zero_ℚ → zero_ℚ ≤ℚ inv_ℚ before
     inverse ne = elim (eq_or_lt_of_le zero_ℚ before u) [ inl e ↦ absurd (ne (sym e)) | inr l ↦ le_of_lt zero_ℚ (inv_ℚ before) (inv_pos before l) ]

@@ -16,7 +16,7 @@ use Rattle.perfect_recall.specs.Found.{recall_of}
 use Rattle.sequence_form.specs.Forms.{tree_form, table_form}
 use Rattle.sequence_form.specs.declared.counts.Counts.{Counts}
 use Rattle.sequence_form.proofs.FormLemmas.{table_form-single, tree_form-single}
-use Rattle.two_player_tools.specs.Entries.{entries_in, line_in}
+use Rattle.two_player_tools.specs.Entries.{entries_in, plans_line}
 use Rattle.two_player_tools.specs.GameTypes.{IsGame}
 use Rattle.refusals.specs.Told.{behaviour_refusal, limit_refusal, recall_refusal, sequence_refusal}
 use Rattle.two_player_tools.specs.StrategicForms.{strategic_form}
@@ -64,7 +64,7 @@ entries_in-single false (Strategic t) one two = only-single _
 entries_in-single true (Extensive t) one two = only-single _
 entries_in-single false (Extensive t) one two = refused_by-single behaviour_refusal (plan_behaviour t one two) (plan_behaviour-single t one two)
 
-pub line_in-single : (strategic : Bool) (game : Game) (one two : List ℚ) → IsSingle (line_in strategic game one two)
-line_in-single strategic game one two =
+pub plans_line-single : (strategic : Bool) (game : Game) (one two : List ℚ) → IsSingle (plans_line strategic game one two)
+plans_line-single strategic game one two =
     bind-single (entries_in strategic game one two) (λ entries. only (line_text entries)) (entries_in-single strategic game one two)
     (λ entries _. only-single (line_text entries))

@@ -11,12 +11,12 @@ use Rattle.lemke_pivot.specs.FormProblems.{problem_in}
 use Rattle.lemke_pivot.proofs.FormProblemLemmas.{problems_of_forms}
 use Rattle.lemke_pivot.proofs.PathEndLemmas.{ends_same}
 use Rattle.lemke_pivot.proofs.ProblemAnswerLemmas.{problems_single}
-use Rattle.two_player_tools.specs.Entries.{line_in}
+use Rattle.two_player_tools.specs.Entries.{plans_line}
 use Rattle.two_player_tools.specs.GameTypes.{IsGame}
 use Rattle.two_player_tools.specs.Lcp.{equilibrium_in, lcp, plans_at}
 use Rattle.refusals.specs.Told.{pivot_refusal, problem_refusal}
 use Rattle.two_player_tools.specs.TwoPlayers.{form_in, two_players}
-use Rattle.two_player_tools.proofs.FormSingleLemmas.{RecallsAreSingle, form_in-single, line_in-single, two_players-single}
+use Rattle.two_player_tools.proofs.FormSingleLemmas.{RecallsAreSingle, form_in-single, plans_line-single, two_players-single}
 use Rattle.two_player_tools.proofs.KeptPropertyLemmas.{TreesAreGames, form_in-valid}
 
 -- ---- the plans
@@ -29,8 +29,8 @@ equilibrium_in-single f w =
 -- ---- the text
 pub lcp-single : (strategic : Bool) (game : Game) → TreesAreGames → RecallsAreSingle → IsGame game → IsSingle (lcp strategic game)
 lcp-single strategic game laws recalls w =
-    let line = λ (plans : PlanPair). line_in strategic game plans.one plans.two in
+    let line = λ (plans : PlanPair). plans_line strategic game plans.one plans.two in
     bind-single (two_players game) (λ _. form_in problem_rows strategic game >>= λ f. (equilibrium_in f >>= line))
     (two_players-single game)
     (λ _ _. bind-single (form_in problem_rows strategic game) (λ f. equilibrium_in f >>= line) (form_in-single problem_rows strategic game recalls w)
-    (λ f k. bind-single (equilibrium_in f) line (equilibrium_in-single f (form_in-valid problem_rows strategic game f laws w k)) (λ plans _. line_in-single strategic game plans.one plans.two)))
+    (λ f k. bind-single (equilibrium_in f) line (equilibrium_in-single f (form_in-valid problem_rows strategic game f laws w k)) (λ plans _. plans_line-single strategic game plans.one plans.two)))

@@ -1,5 +1,6 @@
 -- The texts of `lcp` are those of equilibria.
-use Rattle.std.proofs.Common.{ℕ, ◌≡◌, ◌∙◌, sym, ap, subst, Bool, true, false, Option, List, length, Result, Ok}
+use Rattle.std.proofs.Common.{ℕ, ◌≡◌, ◌∙◌, sym, ap, subst, Bool, Option, List, Ok}
+use Rattle.answers.proofs.AnswerLemmas.{ok_same}
 use Rattle.game_theory.specs.Equilibrium.{IsEquilibrium as is_table_equilibrium}
 use Rattle.game_theory.specs.Lines.{line_text}
 use Rattle.game_theory.proofs.ProfileLineLemmas.{length-listed}
@@ -8,13 +9,13 @@ use Rattle.game_core.specs.Table.{GameTable, IsTable, game_of}
 use Rattle.game_core.specs.Tree.{GameTree, IsGameTree}
 use Rattle.game_core.specs.TreeGame.{game_of_tree}
 use Rattle.game_core.specs.declared.game.Game.{Game}
-use Rattle.game_core.specs.declared.game.Game.TheVariants.{Strategic, Extensive}
 use Rattle.perfect_recall.specs.Found.{IsRecallOf}
 use Rattle.sequence_forms.specs.Forms.{mixed_of_plans}
 use Rattle.sequence_forms.specs.PlanBehaviour.{behaviour_of}
 use Rattle.sequence_forms.specs.Sides.{sequences}
 use Rattle.sequence_forms.proofs.EndLemmas.{solutions_on_tables, solutions_on_trees}
 use Rattle.sequence_data.specs.Data.{FormData, IsFormData, SideData, form, side_of}
+use Rattle.rational.specs.Rational.{ℚ}
 use Rattle.rational.specs.Sum.{entry_at}
 use Rattle.sequence_form.specs.Counts.{problem_rows}
 use Rattle.sequence_form.specs.Forms.{table_form, tree_form}
@@ -29,12 +30,13 @@ use Rattle.lemke_pivot.proofs.FormProblemLemmas.{problems_of_forms}
 use Rattle.lemke_pivot.proofs.PathStartLemmas.{solves_the_form}
 use Rattle.two_player_tools.specs.GameTypes.{IsGame}
 use Rattle.two_player_tools.specs.Lcp.{plans_at}
-use Rattle.two_player_tools.specs.LcpLaws.{AreInEquilibrium, LcpTextsAreEquilibria, weights_of}
+use Rattle.two_player_tools.specs.Entries.{entries_in}
+use Rattle.two_player_tools.specs.EquilibriumEntries.{AreOfEquilibrium}
+use Rattle.two_player_tools.specs.LcpLaws.{LcpTextsAreEquilibria}
 use Rattle.two_player_tools.specs.TwoPlayers.{form_in}
-use Rattle.refusals.specs.declared.refusal.Refusal.{Refusal}
-use Rattle.two_player_tools.proofs.StrategicFormLemmas.{strategic_form-table}
 use Rattle.two_player_tools.proofs.KeptPropertyLemmas.{TreesAreGames, form_in-valid, two_who_recall}
 use Rattle.two_player_tools.proofs.LcpPlanLemmas.{HavePrices, have_prices}
+use Rattle.two_player_tools.proofs.PlanEntryLemmas.{HaveAllWeights, own_entries, weights_of}
 
 -- how a form is solved: its problem, and the problem's solution
 pub record IsPivoting (f : FormData) (p s : Problem) : Type 0 where
@@ -78,31 +80,17 @@ module _ (f : FormData) (p s : Problem) (h : IsPivoting f p s) where
   on_tree t before laws w recall k =
       solutions_on_trees (game_of_tree t) (form f) f.greatest_one f.greatest_two (entry_at (plans_at s).one) (entry_at (plans_at s).two) solved.P solved.P' solved.Q solved.Q' (two_who_recall t f before laws w recall k) (tree_stands (game_of_tree t) f (tree_form-is t f k)).alike solved.solves
 
-  equilibrium : (strategic : Bool) (game : Game) → TreesAreGames → IsGame game → form_in problem_rows strategic game (Ok f) → AreInEquilibrium strategic game (plans_at s)
-  equilibrium true (Strategic t) laws w k = (k.0, k.1, on_table k.0 (strategic_form-table (Strategic t) k.0 w k.1) k.2.2)
-  equilibrium false (Strategic t) laws w k = (k.0, k.1, on_table k.0 (strategic_form-table (Strategic t) k.0 w k.1) k.2.2)
-  equilibrium true (Extensive t) laws w k = (k.0, k.1, on_table k.0 (strategic_form-table (Extensive t) k.0 w k.1) k.2.2)
-  equilibrium false (Extensive t) laws w k = on_tree t k.0 laws w k.1 k.2.2
+  weighted : HaveAllWeights f (plans_at s)
+  weighted = record {
+    one_has_all = length-listed (sequences (side_of s.first)) (plan_one s) ∙ sym first-count;
+    two_has_all = length-listed (sequences (side_of s.second)) (plan_two s) ∙ sym second-count;
+  }
 
--- two plans of one answer
-plans_same : (a b : PlanPair) → ◌≡◌ {A = Result PlanPair Refusal} (Ok a) (Ok b) → a ≡ b
-plans_same a b e = cc
-
-text_same : (a b : List ℕ) → ◌≡◌ {A = Result (List ℕ) Refusal} (Ok a) (Ok b) → a ≡ b
-text_same a b e = cc
+  equilibrium : (strategic : Bool) (game : Game) (list : List ℚ) → TreesAreGames → IsGame game → form_in problem_rows strategic game (Ok f) → entries_in strategic game (plans_at s).one (plans_at s).two (Ok list) → AreOfEquilibrium strategic game list
+  equilibrium strategic game list laws w k e = own_entries problem_rows f (plans_at s) h.valid weighted on_table (λ t before. on_tree t before laws) strategic game list w k e
 
 pub lcp_texts : TreesAreGames → LcpTextsAreEquilibria
 lcp_texts laws strategic game text w (_, _, (f, k, (plans, (p, problem, (s, solution, same)), (entries, are_entries, e)))) =
     let h : IsPivoting f p s = record { valid = form_in-valid problem_rows strategic game f laws w k; problem = problem; solution = solution } in
-    let are : plans ≡ plans_at s = plans_same plans (plans_at s) same in
-    record {
-      form = f;
-      is_form = k;
-      plans = plans;
-      one_has_all = ap (λ (v : PlanPair). length v.one) are ∙ length-listed (sequences (side_of s.first)) (plan_one s) ∙ sym (first-count f p s h);
-      two_has_all = ap (λ (v : PlanPair). length v.two) are ∙ length-listed (sequences (side_of s.second)) (plan_two s) ∙ sym (second-count f p s h);
-      equilibrium = subst (AreInEquilibrium strategic game) (sym are) (equilibrium f p s h strategic game laws w k);
-      entries = entries;
-      are_entries = are_entries;
-      text_is = text_same text (line_text entries) e;
-    }
+    let are : plans ≡ plans_at s = ok_same plans (plans_at s) same in
+    (entries, equilibrium f p s h strategic game entries laws w k (subst (λ (v : PlanPair). entries_in strategic game v.one v.two (Ok entries)) are are_entries), ok_same text (line_text entries) e)

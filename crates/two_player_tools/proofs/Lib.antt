@@ -6,4 +6,5 @@ pub mod LcpSingleLemmas
 pub mod LcpTextLemmas
 pub mod LpSingleLemmas
 pub mod LpTextLemmas
+pub mod PlanEntryLemmas
 pub mod StrategicFormLemmas

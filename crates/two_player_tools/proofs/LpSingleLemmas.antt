@@ -41,20 +41,20 @@ solution_in-single f w =
     bind-single (refused_by pivot_refusal (optimum_in p)) (λ o. refused_by plan_refusal (plans_of o) >>= λ plans. only (solution f o plans)) (refused_by-single pivot_refusal (optimum_in p) (ends_same p h)) (λ o l. plans-single f p o h l))
 
 -- ---- the text
-prices_in-single : (asked : Bool) (f : FormData) (s : Solution) → IsSingle (prices_in asked f s)
+prices_in-single : (prices : Bool) (f : FormData) (s : Solution) → IsSingle (prices_in prices f s)
 prices_in-single false f s = only-single []
 prices_in-single true f s =
     bind-single (refuse_where (¬ (AddFits (first_price s) f.least_one)) (refusal.Range site.Value (unfit Add (first_price s) f.least_one))) (λ _. only (prices_text f s))
     (refuse_where-single _ _) (λ _ _. only-single (prices_text f s))
 
-solution_text-single : (strategic asked : Bool) (game : Game) (f : FormData) (s : Solution) → IsSingle (solution_text strategic asked game f s)
-solution_text-single strategic asked game f s =
-    bind-single (entries_in strategic game s.one s.two) (λ entries. prices_in asked f s >>= λ lines. only (line_text entries ++ lines)) (entries_in-single strategic game s.one s.two)
-    (λ entries _. bind-single (prices_in asked f s) (λ lines. only (line_text entries ++ lines)) (prices_in-single asked f s) (λ lines _. only-single (line_text entries ++ lines)))
+solution_text-single : (strategic prices : Bool) (game : Game) (f : FormData) (s : Solution) → IsSingle (solution_text strategic prices game f s)
+solution_text-single strategic prices game f s =
+    bind-single (entries_in strategic game s.one s.two) (λ entries. prices_in prices f s >>= λ lines. only (line_text entries ++ lines)) (entries_in-single strategic game s.one s.two)
+    (λ entries _. bind-single (prices_in prices f s) (λ lines. only (line_text entries ++ lines)) (prices_in-single prices f s) (λ lines _. only-single (line_text entries ++ lines)))
 
-pub lp-single : (strategic asked : Bool) (game : Game) → TreesAreGames → RecallsAreSingle → IsGame game → IsSingle (lp strategic asked game)
-lp-single strategic asked game laws recalls w =
-    bind-single (two_players game) (λ _. form_in size_of_program strategic game >>= λ f. (solution_in f >>= λ s. solution_text strategic asked game f s))
+pub lp-single : (strategic prices : Bool) (game : Game) → TreesAreGames → RecallsAreSingle → IsGame game → IsSingle (lp strategic prices game)
+lp-single strategic prices game laws recalls w =
+    bind-single (two_players game) (λ _. form_in size_of_program strategic game >>= λ f. (solution_in f >>= λ s. solution_text strategic prices game f s))
     (two_players-single game)
-    (λ _ _. bind-single (form_in size_of_program strategic game) (λ f. solution_in f >>= λ s. solution_text strategic asked game f s) (form_in-single size_of_program strategic game recalls w)
-    (λ f k. bind-single (solution_in f) (λ s. solution_text strategic asked game f s) (solution_in-single f (form_in-valid size_of_program strategic game f laws w k)) (λ s _. solution_text-single strategic asked game f s)))
+    (λ _ _. bind-single (form_in size_of_program strategic game) (λ f. solution_in f >>= λ s. solution_text strategic prices game f s) (form_in-single size_of_program strategic game recalls w)
+    (λ f k. bind-single (solution_in f) (λ s. solution_text strategic prices game f s) (solution_in-single f (form_in-valid size_of_program strategic game f laws w k)) (λ s _. solution_text-single strategic prices game f s)))

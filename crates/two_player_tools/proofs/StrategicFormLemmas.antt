@@ -2,7 +2,7 @@
 use Rattle.std.proofs.Common.{◌≡◌, Ok, ap, subst, sym}
 use Rattle.std.specs.Prelude.{Result}
 use Rattle.answers.specs.Answers.{Answer, Gives, IsSingle, only, refused_by, ◌>>=◌}
-use Rattle.answers.proofs.AnswerLemmas.{bind-single, gives_bind, only-single, refused_by-single}
+use Rattle.answers.proofs.AnswerLemmas.{bind-single, gives_bind, only-single, refused_by-single, ok_same}
 use Rattle.game_core.specs.Table.{GameTable, IsTable}
 use Rattle.game_core.specs.Tree.{GameTree}
 use Rattle.game_core.specs.declared.game.Game.{Game}
@@ -23,13 +23,10 @@ strategic_form-single (Strategic table) = only-single table
 strategic_form-single (Extensive tree) =
     bind-single (refused_by form_refusal (reduced_form_of tree)) (λ form. only form.table) (refused_by-single form_refusal (reduced_form_of tree) (form_of-single tree)) (λ form _. only-single form.table)
 
-table_same : (one other : GameTable) → ◌≡◌ {A = Result GameTable Refusal} (Ok one) (Ok other) → one ≡ other
-table_same one other e = cc
-
 -- it is a table
 pub strategic_form-table : (game : Game) (table : GameTable) → IsGame game → strategic_form game (Ok table) → IsTable table
-strategic_form-table (Strategic t) table w h = subst IsTable (sym (table_same table t h)) w
-strategic_form-table (Extensive tree) table w h = subst IsTable (sym (table_same table h.0.table h.2)) (form_of tree h.0 h.1).is_table
+strategic_form-table (Strategic t) table w h = subst IsTable (sym (ok_same table t h)) w
+strategic_form-table (Extensive tree) table w h = subst IsTable (sym (ok_same table h.0.table h.2)) (form_of tree h.0 h.1).is_table
 
 -- what a call gives that goes on with the reduced form of a tree
 pub form-goes_on : {Z : Type 0} (f : GameTable → Answer Refusal Z) (answer : Result Z Refusal) (tree : GameTree) (form : ReducedForm) (table : GameTable) → reduced_form_of tree (Ok form) → table ≡ form.table → Gives refusal.Memory (f table) answer → Gives refusal.Memory (strategic_form (Extensive tree) >>= f) answer

@@ -16,7 +16,7 @@ entries_in false (Extensive t) one two = refused_by behaviour_refusal (plan_beha
 entries_in _ _ one two = only (drop 1 one ++ drop 1 two)
 
 -- their line
-abbrev pub line_in : Bool → Game → List ℚ → List ℚ → Answer Refusal (List ℕ)
-line_in strategic game one two = do
+abbrev pub plans_line : Bool → Game → List ℚ → List ℚ → Answer Refusal (List ℕ)
+plans_line strategic game one two = do
   entries ← entries_in strategic game one two
   only (line_text entries)

@@ -1,4 +1,5 @@
 pub mod Entries
+pub mod EquilibriumEntries
 pub mod GameTypes
 pub mod Lcp
 pub mod LcpLaws

@@ -1,13 +1,12 @@
 -- The tool `lp`: an equilibrium of a game of two players with constant sum, and the prices that prove its value.
 -- Source: Koller, Megiddo and von Stengel 1996.
-use Rattle.std.specs.Prelude.{ℕ, suc, Bool, true, false, List, [], ◌∷◌, ◌++◌, length, map, codes}
-use Rattle.std.specs.List.{range_with_len}
+use Rattle.std.specs.Prelude.{ℕ, suc, Bool, true, false, List, [], ◌∷◌, ◌++◌, length, codes}
 use Rattle.answers.specs.Answers.{Answer, only, refuse_where, ◌>>=◌, ◌>>◌, refused_by}
 use Rattle.rational.specs.Rational.{ℚ, ◌+ℚ◌}
 use Rattle.rational.specs.Sum.{entry_at}
 use Rattle.frac128.specs.Steps.{AddFits, unfit}
 use Rattle.frac128.specs.declared.steps.Op.TheVariants.{Add}
-use Rattle.game_theory.specs.Lines.{line_text}
+use Rattle.game_theory.specs.Lines.{line_text, listed}
 use Rattle.game_core.specs.declared.game.Game.{Game}
 use Rattle.ne_printer.specs.Entries.{numbers_line}
 use Rattle.sequence_data.specs.Data.{FormData}
@@ -34,17 +33,13 @@ pub record Solution : Type 0 where
   pub prices_two : List ℚ
   pub value : ℚ
 
--- the first n prices
-abbrev pub listed_prices : ℕ → (ℕ → ℚ) → List ℚ
-listed_prices n price = map price (range_with_len 0 n)
-
 -- the solution with these plans and the prices of this optimum
 abbrev pub solution : FormData → Program → PlanPair → Solution
 solution f o plans = record {
   one = plans.one;
   two = plans.two;
-  prices_one = listed_prices (suc (length o.first.sets)) (first_prices o);
-  prices_two = listed_prices (suc (length o.second.sets)) (second_prices o);
+  prices_one = listed (suc (length o.first.sets)) (first_prices o);
+  prices_two = listed (suc (length o.second.sets)) (second_prices o);
   value = second_prices o 0 +ℚ f.least_one;
 }
 
@@ -80,15 +75,15 @@ prices_in true f s = do
 
 -- the text of a form's solution
 abbrev pub solution_text : Bool → Bool → Game → FormData → Solution → Answer Refusal (List ℕ)
-solution_text strategic asked game f s = do
+solution_text strategic prices game f s = do
   entries ← entries_in strategic game s.one s.two
-  lines ← prices_in asked f s
+  lines ← prices_in prices f s
   only (line_text entries ++ lines)
 
 -- The answer of `lp`, with a tree's strategies or its behaviour, and with the prices where they are asked for.
 abbrev pub lp : Bool → Bool → Game → Answer Refusal (List ℕ)
-lp strategic asked game = do
+lp strategic prices game = do
   two_players game
   form ← form_in size_of_program strategic game
   solved ← solution_in form
-  solution_text strategic asked game form solved
+  solution_text strategic prices game form solved

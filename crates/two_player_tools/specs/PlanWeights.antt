@@ -3,5 +3,5 @@ use Rattle.zero_sum_lp.specs.PlanPairs.{PlanPair}
 use Rattle.two_player_tools.specs.declared.pivoting.PlanWeights.{PlanWeights}
 
 -- the weights of both players' sequences
-abbrev pub plans_of : PlanWeights → PlanPair
-plans_of w = record { one = w.one.items; two = w.two.items }
+abbrev pub pair_of : PlanWeights → PlanPair
+pair_of w = record { one = w.one.items; two = w.two.items }

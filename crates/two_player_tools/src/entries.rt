@@ -4,7 +4,7 @@ ghost use Rattle.answers.specs.Answers.{Gives, map_ok};
 ghost use Rattle.game_theory.specs.Lines.{line_text};
 ghost use Rattle.game_core.specs.declared.game.Game.TheVariants.{Extensive};
 ghost use Rattle.sequence_form.specs.Forms.{tree_form};
-ghost use Rattle.two_player_tools.specs.Entries.{line_in};
+ghost use Rattle.two_player_tools.specs.Entries.{plans_line};
 ghost use Rattle.two_player_tools.specs.TwoPlayers.{HasForm};
 
 use behaviour_profile::Behaviour;
@@ -48,7 +48,7 @@ fn behaviour_line(
     requires form { tree_form tree.now (Ok form.now) }
     requires one { length one.now ≡ form.now.first.sequences }
     requires two { length two.now ≡ form.now.second.sequences }
-    ensures { Gives Refusal.Memory (line_in false (Extensive tree.now) one.now two.now)
+    ensures { Gives Refusal.Memory (plans_line false (Extensive tree.now) one.now two.now)
         (map_ok result (λ text. text.items)) }
 {
     let behaviour = Behaviour::from_plans(alloc, tree, form, one, two)?;
@@ -67,7 +67,7 @@ pub fn plans_line(
     requires form { HasForm strategic game.now form.now }
     requires one { length one.now ≡ form.now.first.sequences }
     requires two { length two.now ≡ form.now.second.sequences }
-    ensures { Gives Refusal.Memory (line_in strategic game.now one.now two.now)
+    ensures { Gives Refusal.Memory (plans_line strategic game.now one.now two.now)
         (map_ok result (λ text. text.items)) }
 {
     match game {

@@ -22,7 +22,7 @@ pub enum Method {
     Complementarity,
 }
 
-/// How many players a game has.
+// How many players a game has.
 fn player_count(game: &Game) -> u32
     ensures { result ≡ players_of game.now }
 {
@@ -44,8 +44,8 @@ pub fn two_players(game: &Game) -> Result<(), Refusal>
     }
 }
 
-/// How many rows a form of these sizes has: of its linear program with the columns, or of its
-/// complementarity problem.
+// How many rows a form of these sizes has: of its linear program with the columns, or of its
+// complementarity problem.
 fn row_count(method: Method, sizes: &Counts) -> u64
     requires { AreFew sizes.now }
     ensures { result ≡ rows_by method sizes.now }
@@ -56,14 +56,14 @@ fn row_count(method: Method, sizes: &Counts) -> u64
     }
 }
 
-/// Refuses a problem with more rows than there may be. Takes no memory.
+// Refuses a problem with more rows than there may be. Takes no memory.
 fn within_rows(rows: u64) -> Result<(), Refusal>
     ensures { refused_by limit_refusal (within What.Rows most_rows rows) result }
 {
     Ok(TooLarge::within(What::Rows, MOST_ROWS, rows)?)
 }
 
-/// The sequence form of a table, where the rows that the method counts are within the limit.
+// The sequence form of a table, where the rows that the method counts are within the limit.
 fn form_of_table(alloc: Global, method: Method, table: &Table) -> Result<SeqForm, Refusal>
     requires { length table.now.players ≡ 2 }
     ensures { Gives Refusal.Memory (form_of_table (rows_by method) table.now) result }
@@ -72,7 +72,7 @@ fn form_of_table(alloc: Global, method: Method, table: &Table) -> Result<SeqForm
     Ok(build_table(alloc, table)?)
 }
 
-/// The sequence form of a tree, where the rows that the method counts are within the limit.
+// The sequence form of a tree, where the rows that the method counts are within the limit.
 fn form_of_tree(alloc: Global, method: Method, tree: &Tree) -> Result<SeqForm, Refusal>
     requires { length tree.now.players ≡ 2 }
     ensures { Gives Refusal.Memory (form_of_tree (rows_by method) tree.now) result }

@@ -43,8 +43,8 @@ pub fn strategic_forms_are_single()
 
 /// A game has at most one answer by each tool.
 pub fn solutions_are_single()
-    ensures lp { (strategic asked : Bool) (game : Game) → IsGame game
-        → IsSingle (lp strategic asked game) }
+    ensures lp { (strategic prices : Bool) (game : Game) → IsGame game
+        → IsSingle (lp strategic prices game) }
     ensures lcp { (strategic : Bool) (game : Game) → IsGame game → IsSingle (lcp strategic game) }
 {
     trees_are_game_trees();

@@ -1,6 +1,6 @@
 // The tool `lp`.
 ghost use Rattle.answers.specs.Answers.{Gives, map_ok};
-ghost use Rattle.two_player_tools.specs.Entries.{line_in};
+ghost use Rattle.two_player_tools.specs.Entries.{plans_line};
 ghost use Rattle.two_player_tools.specs.Lp.{lp, solution_text};
 ghost use Rattle.two_player_tools.specs.LpLaws.{LpTextsAreSolutions};
 ghost use Rattle.two_player_tools.specs.Solved.{HasSizesOf, solution_of};
@@ -26,7 +26,7 @@ fn solution_line(
     requires form { HasForm strategic game.now form.now }
     requires sizes { HasSizesOf form.now solved.now }
     ensures { Gives Refusal.Memory
-        (line_in strategic game.now solved.now.plans.one solved.now.plans.two)
+        (plans_line strategic game.now solved.now.plans.one solved.now.plans.two)
         (map_ok result (λ text. text.items)) }
 {
     let plans = &solved.plans;
@@ -37,7 +37,7 @@ fn solution_line(
 fn solution_text(
     alloc: Global,
     strategic: bool,
-    asked: bool,
+    prices: bool,
     game: &Game,
     form: &SeqForm,
     solved: &Solved,
@@ -45,25 +45,25 @@ fn solution_text(
     requires form { HasForm strategic game.now form.now }
     requires sizes { HasSizesOf form.now solved.now }
     ensures { Gives Refusal.Memory
-        (solution_text strategic asked game.now form.now (solution_of form.now solved.now))
+        (solution_text strategic prices game.now form.now (solution_of form.now solved.now))
         (map_ok result (λ text. text.items)) }
 {
     let mut text = solution_line(alloc, strategic, game, form, solved)?;
-    let lines = price_lines(alloc, asked, form, solved)?;
+    let lines = price_lines(alloc, prices, form, solved)?;
     text.extend_from_slice(&lines)?;
     Ok(text)
 }
 
 /// The text of `lp`: the line of an equilibrium of a game, with its value and prices where they are
 /// asked for.
-pub fn lp_text(alloc: Global, strategic: bool, asked: bool, game: &Game) -> Result<Vec<u8>, Refusal>
-    ensures { Gives Refusal.Memory (lp strategic asked game.now)
+pub fn lp_text(alloc: Global, strategic: bool, prices: bool, game: &Game) -> Result<Vec<u8>, Refusal>
+    ensures { Gives Refusal.Memory (lp strategic prices game.now)
         (map_ok result (λ text. text.items)) }
 {
     two_players(game)?;
     let form = form_in(alloc, Method::LinearProgram, strategic, game)?;
     let solved = solve(alloc, &form)?;
-    solution_text(alloc, strategic, asked, game, &form, &solved)
+    solution_text(alloc, strategic, prices, game, &form, &solved)
 }
 
 /// Each text of `lp` is that of an equilibrium of the game, whose value the plans and prices of the

@@ -7,7 +7,7 @@ ghost use Rattle.sequence_data.specs.Data.{side_of};
 ghost use Rattle.lemke_pivot.specs.Ends.{solved_in};
 ghost use Rattle.lemke_pivot.specs.Parts.{plan_one, plan_two};
 ghost use Rattle.two_player_tools.specs.Lcp.{equilibrium_in};
-ghost use Rattle.two_player_tools.specs.PlanWeights.{plans_of};
+ghost use Rattle.two_player_tools.specs.PlanWeights.{pair_of};
 
 use frac128::{Frac, Memory};
 use lemke_pivot::{Lcp, Solution, problem};
@@ -67,7 +67,7 @@ fn second_plan(alloc: Global, solution: &Solution, count: u32) -> Result<Vec<Fra
 
 /// The plans of a form in equilibrium.
 pub fn equilibrium_in(alloc: Global, form: &SeqForm) -> Result<PlanWeights, Refusal>
-    ensures answer { Gives Refusal.Memory (equilibrium_in form.now) (map_ok result plans_of) }
+    ensures answer { Gives Refusal.Memory (equilibrium_in form.now) (map_ok result pair_of) }
     ensures one { IfOk result (λ plans. length plans.one.items ≡ form.now.first.sequences) }
     ensures two { IfOk result (λ plans. length plans.two.items ≡ form.now.second.sequences) }
 {

@@ -3,9 +3,10 @@ ghost use Rattle.std.specs.Prelude.{◌≡◌, ◌≤◌, suc, length, IfOk};
 ghost use Rattle.answers.specs.Answers.{Gives, map_ok, refuse_where};
 ghost use Rattle.rational.specs.Rational.{◌+ℚ◌};
 ghost use Rattle.frac128.specs.Steps.{AddFits, unfit};
+ghost use Rattle.game_theory.specs.Lines.{listed};
 ghost use Rattle.game_core.specs.Limits.{most_rows};
 ghost use Rattle.zero_sum_lp.specs.Parts.{first_prices, second_prices};
-ghost use Rattle.two_player_tools.specs.Lp.{listed_prices, prices_in, prices_text};
+ghost use Rattle.two_player_tools.specs.Lp.{prices_in, prices_text};
 ghost use Rattle.two_player_tools.specs.Solved.{HasSizesOf, solution_of};
 
 use crate::solving::Solved;
@@ -37,7 +38,7 @@ fn first_prices(alloc: Global, optimum: &Optimum, sets: u32) -> Result<Vec<Frac>
     requires sets { sets ≡ length optimum.now.first.sets }
     requires few { sets ≤ most_rows }
     ensures { IfOk result (λ prices.
-        prices.items ≡ listed_prices (suc sets) (first_prices optimum.now)) }
+        prices.items ≡ listed (suc sets) (first_prices optimum.now)) }
 {
     let mut prices = Vec::new(alloc);
     for set in 0..sets + 1 {
@@ -51,7 +52,7 @@ fn second_prices(alloc: Global, optimum: &Optimum, sets: u32) -> Result<Vec<Frac
     requires sets { sets ≡ length optimum.now.second.sets }
     requires few { sets ≤ most_rows }
     ensures { IfOk result (λ prices.
-        prices.items ≡ listed_prices (suc sets) (second_prices optimum.now)) }
+        prices.items ≡ listed (suc sets) (second_prices optimum.now)) }
 {
     let mut prices = Vec::new(alloc);
     for set in 0..sets + 1 {
@@ -85,16 +86,16 @@ fn prices_text(
 /// The lines of a solution's value and prices, where they are asked for.
 pub fn price_lines(
     alloc: Global,
-    asked: bool,
+    prices: bool,
     form: &SeqForm,
     solved: &Solved,
 ) -> Result<Vec<u8>, Refusal>
     requires { HasSizesOf form.now solved.now }
     ensures { Gives Refusal.Memory
-        (prices_in asked form.now (solution_of form.now solved.now))
+        (prices_in prices form.now (solution_of form.now solved.now))
         (map_ok result (λ lines. lines.items)) }
 {
-    if !asked {
+    if !prices {
         return Ok(Vec::new(alloc));
     }
     let value = value(solved.optimum.price_two(0), form.least_one())?;

@@ -1,4 +1,4 @@
-//! The words of each tool, collected by a command of `clap`.
+// The words of each tool, collected by a command of `clap`.
 
 ghost use Rattle.std.specs.Prelude.{◌≡◌, [], map, string_bytes, IfOk, IfErr, None, false, true, codes};
 ghost use Rattle.clap.specs.Matches.{found_of};

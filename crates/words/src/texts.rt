@@ -1,4 +1,4 @@
-//! The texts that were collected from the words, each tested by hand.
+// The texts that were collected from the words, each tested by hand.
 
 ghost use Rattle.std.specs.Prelude.{◌≡◌, Some, option_map, string_bytes, IfOk, IfErr};
 ghost use Rattle.words.specs.Commands.{collected};

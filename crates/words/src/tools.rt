@@ -1,4 +1,4 @@
-//! What the words say to each tool.
+// What the words say to each tool.
 
 ghost use Rattle.std.specs.Prelude.{map, string_bytes};
 ghost use Rattle.words.specs.Commands.{collected};

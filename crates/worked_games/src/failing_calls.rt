@@ -74,7 +74,7 @@ fn a_failing_flush_is_told<R: Threads + Sync>(
     case.holds(rt, alloc)
 }
 
-/// Each selection, read, write and flush that fails, in turn, on a table and on a tree: the selection, the first read, the read that
+/// Each selection, read, write and flush that fails, in turn, on tables and on a tree: the selection, the first read, the read that
 /// would find the end; no other call of the inputs is made. Where the text is empty, nothing is written, but a flush still has to
 /// succeed.
 #[test]
@@ -86,13 +86,18 @@ fn each_failing_call_is_told(rt: HostRuntime) -> Result<(), Memory> {
         (&[1, 2, 3], "gambit: cannot open\n"),
     ];
     let rows = [
-        (DILEMMA, "NE,0,1,0,1\n"),
-        (ENTRY, "NE,1,0,1,0\nNE,0,1,0,1\n"),
+        ("enumpure", DILEMMA, "NE,0,1,0,1\n"),
+        ("enumpure", ENTRY, "NE,1,0,1,0\nNE,0,1,0,1\n"),
+        (
+            "enummixed",
+            BATTLE,
+            "NE,1,0,1,0\nNE,2/3,1/3,1/3,2/3\nNE,0,1,0,1\n",
+        ),
     ];
-    for (input, out) in rows {
+    for (words, input, out) in rows {
         let whole = Case {
             out: out.as_bytes(),
-            ..Case::of("enumpure", input.as_bytes())
+            ..Case::of(words, input.as_bytes())
         };
         assert!(rt; failing_inputs_are_told(&rt, rt.alloc(), whole, &calls)?);
         let unread = Case {
@@ -155,6 +160,14 @@ fn failing_outputs(rt: HostRuntime) -> Result<(), Memory> {
             "",
             "\\begin{game}{2}{2}[A][B]\n& 1 & 2 \\\\\n1 & $3,3$ & $0,5$ \\\\\n2 & $5,0$ & $1,1$\n\\end{game}\n",
         ),
+        ("lcp game", DILEMMA, "", "NE,0,1,0,1\n"),
+        ("lp game", PENNIES, "", "NE,1/2,1/2,1/2,1/2\n"),
+        (
+            "make 1 2 2",
+            "",
+            "",
+            "bases 4 3\nvertices 3 2\nequilibria 1\n",
+        ),
     ];
     for (words, game, input, out) in rows {
         let whole = Case {
@@ -163,28 +176,6 @@ fn failing_outputs(rt: HostRuntime) -> Result<(), Memory> {
             ..Case::of(words, input.as_bytes())
         };
         assert!(rt; failing_writes_are_told(&rt, rt.alloc(), whole)?);
-    }
-    Ok(())
-}
-
-/// An output of `enummixed` that takes seven bytes of the line, and an input that cannot be read.
-#[test]
-fn failing_calls_of_enummixed(rt: HostRuntime) -> Result<(), Memory> {
-    let rows: [(&[u64], usize, u8, &str, &str); 3] = [
-        (&[], 24, 0, "NE,1/2,1/2,1/2,1/2\n", ""),
-        (&[], 7, 4, "NE,1/2,", "gambit: write failed\n"),
-        (&[2], 24, 3, "", "gambit: read failed\n"),
-    ];
-    for (failing, room, status, out, err) in rows {
-        let case = Case {
-            failing,
-            room,
-            status,
-            out: out.as_bytes(),
-            err,
-            ..Case::of("enummixed", PENNIES.as_bytes())
-        };
-        assert!(rt; case.holds(&rt, rt.alloc())?);
     }
     Ok(())
 }

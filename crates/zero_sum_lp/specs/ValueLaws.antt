@@ -6,10 +6,10 @@ use Rattle.game_theory.specs.Profiles.{Game}
 use Rattle.game_theory.specs.Trees.{Tree}
 use Rattle.sequence_forms.specs.Alike.{FormsAlike}
 use Rattle.sequence_forms.specs.Forms.{SequenceForm, form_of, form_of_table, HasTwoWhoRecall, LeavesSumTo}
-use Rattle.sequence_forms.specs.PriceLaws.{ProvesValueOfTree}
+use Rattle.sequence_forms.specs.PriceLaws.{AreOptimalOnTree}
 use Rattle.sequence_forms.specs.Prices.{gains, HasConstantSum, IsValueProof}
 use Rattle.sequence_forms.specs.Sides.{sequences}
-use Rattle.sequence_forms.specs.TableLaws.{ProvesValueOfTable}
+use Rattle.sequence_forms.specs.TableLaws.{AreOptimalOnTable}
 use Rattle.zero_sum_lp.specs.Programs.{IsProgramOf}
 use Rattle.zero_sum_lp.specs.Parts.{Program, IsProgram, IsOptimumOf, first_prices, second_prices}
 use Rattle.rational.specs.Sum.{entry_at}
@@ -42,7 +42,7 @@ OptimalPlansSolveTrees =
     (t : Tree) (f : SequenceForm) (least sum : ℚ) (p o : Program) (plans : PlanPair)
     → HasTwoWhoRecall t → FormsAlike f (form_of t) → LeavesSumTo t sum → IsProgram p
     → IsProgramOfForm f least p → IsOptimumOf p o → plans_of o (Ok plans)
-    → ProvesValueOfTree t (entry_at plans.one) (entry_at plans.two) (second_prices o 0 +ℚ least)
+    → AreOptimalOnTree t (entry_at plans.one) (entry_at plans.two) (second_prices o 0 +ℚ least)
 
 -- of a table whose payoffs sum to the same number: strategies in equilibrium, their value, and both
 -- guarantees
@@ -52,7 +52,7 @@ OptimalPlansSolveTables =
     → g.strategies ≡ m ∷ n ∷ [] → FormsAlike f (form_of_table g m n)
     → HasConstantSum (form_of_table g m n) sum → IsProgram p
     → IsProgramOfForm f least p → IsOptimumOf p o → plans_of o (Ok plans)
-    → ProvesValueOfTable g (entry_at plans.one) (entry_at plans.two) (second_prices o 0 +ℚ least)
+    → AreOptimalOnTable g (entry_at plans.one) (entry_at plans.two) (second_prices o 0 +ℚ least)
 
 -- The program that a form has is a program, and that of the form, where no gain is negative.
 abbrev pub ProgramsAreOfForms : Type 0

@@ -4,7 +4,7 @@ use Rattle.std.proofs.lemmas.Int.{to_z-of_z}
 use Rattle.rational.specs.Rational.{zero_ℚ}
 use Rattle.lex_tableau.specs.Rows.{tableau as fractions_of}
 use Rattle.linear_systems.specs.Vertices.{IsZeroWord}
-use Rattle.frac128.proofs.SignLemmas.{sign_of-zero}
+use Rattle.rational.proofs.TestLemmas.{sign_of-zero}
 use Rattle.basis_enum.proofs.MaskLemmas.{solution_to, zeros_of_none, zeros_kept, zeros_cleared}
 use Rattle.basis_enum.proofs.marking.mask.Goals as goal
 use Rattle.basis_enum.proofs.marking.mask.Goals.{then-right_sign-ne0, else-right_sign-ne0}

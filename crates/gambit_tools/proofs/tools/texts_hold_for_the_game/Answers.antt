@@ -1,17 +1,14 @@
-use Rattle.std.proofs.Common.{ℕ, ◌≡◌, Bool, true, false, List, Result, Ok}
+use Rattle.std.proofs.Common.{ℕ, Bool, true, false, List, Ok}
+use Rattle.answers.proofs.AnswerLemmas.{ok_same}
 use Rattle.game_core.specs.MadeTables.{made_game}
 use Rattle.game_core.specs.declared.game.Game.{Game}
 use Rattle.game_core.specs.declared.game.Game.TheVariants.{Strategic, Extensive}
-use Rattle.refusals.specs.declared.refusal.Refusal.{Refusal}
 use Rattle.enumpure.proofs.OneTextLaws.{text-is}
 use Rattle.gambit_tools.specs.Enumpure.{IsPureText, enumpure}
 use Rattle.gambit_tools.specs.Make.{counts_text}
 use Rattle.gambit_tools.proofs.ReadGameLemmas.{game_in-valid}
 use Rattle.gambit_tools.proofs.CheckTextLemmas.{verdicts-tell}
 use Rattle.gambit_tools.proofs.tools.texts_hold_for_the_game.Goals as goal
-
-text_same : (a b : List ℕ) → ◌≡◌ {A = Result (List ℕ) Refusal} (Ok a) (Ok b) → a ≡ b
-text_same a b e = cc
 
 pure_said : (strategic : Bool) (game : Game) (text : List ℕ) → enumpure strategic game (Ok text) → IsPureText strategic game text
 pure_said true (Strategic table) text h = (h.0, h.1, text-is _ text h.2)
@@ -30,5 +27,5 @@ returns c = record {
       (read.0, read.1, verdicts-tell c.table_checks_tell_equilibria.ensures c.tree_checks_tell_equilibria.ensures strategic read.0 lines text (game_in-valid bytes read.0 read.1) read.2));
   make = λ number rows columns workers text h.
       (let many = c.pairs_are_as_many_as_extreme_equilibria.ensures (made_game number rows columns) h.0 h.1 in
-      record { found = h.0; is_found = h.1; is_text = text_same text (counts_text h.0) h.2; lines = many.0; are_extreme_equilibria = many.1; as_many = many.2 });
+      record { found = h.0; is_found = h.1; is_text = ok_same text (counts_text h.0) h.2; lines = many.0; are_extreme_equilibria = many.1; as_many = many.2 });
 }

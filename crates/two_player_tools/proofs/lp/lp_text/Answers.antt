@@ -13,9 +13,9 @@ returns-in_err-solved c =
     let game = c.args.game.now in
     let f = c.in_ok-form.form in
     let r = c.from_residual-in_err-solved.result in
-    gives_bind_as refusal.Memory (two_players game) (λ _. form_in size_of_program strategic game >>= λ f. (solution_in f >>= λ s. solution_text strategic c.args.asked game f s)) c.in_ok-two_players.field-0 r (λ text. text.items) c.in_ok-two_players.ensures
-    (gives_bind_as refusal.Memory (form_in size_of_program strategic game) (λ f. solution_in f >>= λ s. solution_text strategic c.args.asked game f s) f r (λ text. text.items) c.in_ok-form.ensures
-    (gives_exit refusal.Memory (solution_in f) (λ s. solution_text strategic c.args.asked game f s) c.in_err-solved.field-0.0 r (λ text. text.items) c.in_err-solved.ensures.answer c.from_residual-in_err-solved.ensures.1))
+    gives_bind_as refusal.Memory (two_players game) (λ _. form_in size_of_program strategic game >>= λ f. (solution_in f >>= λ s. solution_text strategic c.args.prices game f s)) c.in_ok-two_players.field-0 r (λ text. text.items) c.in_ok-two_players.ensures
+    (gives_bind_as refusal.Memory (form_in size_of_program strategic game) (λ f. solution_in f >>= λ s. solution_text strategic c.args.prices game f s) f r (λ text. text.items) c.in_ok-form.ensures
+    (gives_exit refusal.Memory (solution_in f) (λ s. solution_text strategic c.args.prices game f s) c.in_err-solved.field-0.0 r (λ text. text.items) c.in_err-solved.ensures.answer c.from_residual-in_err-solved.ensures.1))
 
 pub returns : goal.returns
 returns c =
@@ -23,6 +23,6 @@ returns c =
     let game = c.args.game.now in
     let f = c.in_ok-form.form in
     let r = c.solution_text.result in
-    gives_bind_as refusal.Memory (two_players game) (λ _. form_in size_of_program strategic game >>= λ f. (solution_in f >>= λ s. solution_text strategic c.args.asked game f s)) c.in_ok-two_players.field-0 r (λ text. text.items) c.in_ok-two_players.ensures
-    (gives_bind_as refusal.Memory (form_in size_of_program strategic game) (λ f. solution_in f >>= λ s. solution_text strategic c.args.asked game f s) f r (λ text. text.items) c.in_ok-form.ensures
-    (gives_bind_as refusal.Memory (solution_in f) (λ s. solution_text strategic c.args.asked game f s) (solution_of f c.in_ok-solved.solved) r (λ text. text.items) c.in_ok-solved.ensures.answer c.solution_text.ensures))
+    gives_bind_as refusal.Memory (two_players game) (λ _. form_in size_of_program strategic game >>= λ f. (solution_in f >>= λ s. solution_text strategic c.args.prices game f s)) c.in_ok-two_players.field-0 r (λ text. text.items) c.in_ok-two_players.ensures
+    (gives_bind_as refusal.Memory (form_in size_of_program strategic game) (λ f. solution_in f >>= λ s. solution_text strategic c.args.prices game f s) f r (λ text. text.items) c.in_ok-form.ensures
+    (gives_bind_as refusal.Memory (solution_in f) (λ s. solution_text strategic c.args.prices game f s) (solution_of f c.in_ok-solved.solved) r (λ text. text.items) c.in_ok-solved.ensures.answer c.solution_text.ensures))
