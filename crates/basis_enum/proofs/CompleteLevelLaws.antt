@@ -19,7 +19,7 @@ use Rattle.linear_systems.proofs.StartLemmas.{start_reached, alike_reached, pivo
 use Rattle.linear_systems.proofs.SolutionLemmas.{solution_extreme}
 use Rattle.linear_systems.proofs.CoverLemmas.{covers}
 use Rattle.basis_enum.specs.Bases.{basis_of, neighbour_of, HaveDigits}
-use Rattle.basis_enum.specs.Levels.{Levels, Move, no_move, no_tableau, parent_of, target, IsMove, bases_of}
+use Rattle.basis_enum.specs.Levels.{Levels, Pivot, no_pivot, no_tableau, parent_of, target, IsPivot, bases_of}
 use Rattle.basis_enum.specs.Systems.{IsEnumerable}
 use Rattle.basis_enum.specs.Reached.{level_of, reached_in}
 use Rattle.basis_enum.proofs.LevelLemmas.{IsNext, first_read, next_read, level_many}
@@ -85,10 +85,10 @@ level_held s (suc k) l h e (p, hp, q) t c = go (level_held s k p h e hp) (Contai
     go ih (inl a) = ih t (subst (λ xs. Contains xs t) n.next.before a)
     go ih (inr b) =
         let i = b.0 in
-        let size : length l.level ≡ length n.moves = n.next.size in
+        let size : length l.level ≡ length n.pivots = n.next.size in
         let within : i < length l.level = b.1 in
-        let m = get_or n.moves i no_move in
-        let x = n.are.each m (Contains-get_or n.moves i no_move (omega arith)) in
+        let m = get_or n.pivots i no_pivot in
+        let x = n.are.each m (Contains-get_or n.pivots i no_pivot (omega arith)) in
         let y = n.next.tableaux i (omega arith) in
         subst (Held s) (get_or_default l.level i no_tableau t within ∙ b.2) (held_child s (parent_of p.level m) (get_or l.level i no_tableau) m.row m.column h e (ih (parent_of p.level m) (Contains-append_right p.before p.level _ (Contains-get_or p.level m.parent no_tableau x.parent))) x.column x.row y.is_tableau y.pivot)
 
@@ -121,29 +121,29 @@ bases_right : (xs ys : List Numbers) (b : ℕ) → Contains (bases_of ys) b → 
 bases_right xs ys b c = subst (λ zs. Contains zs b) (sym (map-append (λ t. basis_of t.nonbasics) xs ys)) (Contains-append_right (bases_of xs) (bases_of ys) b c)
 
 -- a tableau of the level, as the parent of a pivot
-move_at : (level : List Numbers) (t : Numbers) (c r : ℕ) → (k : Contains level t) → c < length t.nonbasics → IsLeavingRow t c r → IsMove level (record { parent = k.0; row = r; column = c }) × (target level (record { parent = k.0; row = r; column = c }) ≡ neighbour_of t r c)
-move_at level t c r k hc x = let e : get_or level k.0 no_tableau ≡ t = get_or_default level k.0 no_tableau t k.1 ∙ k.2 in
+pivot_numbered : (level : List Numbers) (t : Numbers) (c r : ℕ) → (k : Contains level t) → c < length t.nonbasics → IsLeavingRow t c r → IsPivot level (record { parent = k.0; row = r; column = c }) × (target level (record { parent = k.0; row = r; column = c }) ≡ neighbour_of t r c)
+pivot_numbered level t c r k hc x = let e : get_or level k.0 no_tableau ≡ t = get_or_default level k.0 no_tableau t k.1 ∙ k.2 in
     (record { parent = k.1; column = subst (λ u. c < length u.nonbasics) (sym e) hc; row = subst (λ u. IsLeavingRow u c r) (sym e) x }, ap (λ u. neighbour_of u r c) e)
 
 covered_next : (p l : Levels) → IsNext p l → IsCovered p p.before → IsCovered l l.before
 unfolding IsCovered
 covered_next p l n ih t c column r hc x = subst (λ b. Contains (bases_of (b ++ l.level)) (neighbour_of t r column)) (sym n.next.before) (go (Contains-append_cases p.before p.level t (subst (λ xs. Contains xs t) n.next.before c)))
   where
-    new_one : (m : Move) → IsMove p.level m → (Contains (bases_of (p.before ++ p.level)) (target p.level m) → ⊥) → Contains (bases_of l.level) (target p.level m)
+    new_one : (m : Pivot) → IsPivot p.level m → (Contains (bases_of (p.before ++ p.level)) (target p.level m) → ⊥) → Contains (bases_of l.level) (target p.level m)
     new_one m h away =
-        let z = unmapped (target p.level) (target p.level m) n.moves (n.are.all m h away) in
+        let z = unmapped (target p.level) (target p.level m) n.pivots (n.are.all m h away) in
         let i = (z.1).0 in
-        let within : i < length n.moves = (z.1).1 in
-        let size : length l.level ≡ length n.moves = n.next.size in
-        let k = get_or n.moves i no_move in
-        let same : k ≡ z.0 = get_or_default n.moves i no_move z.0 within ∙ (z.1).2 in
+        let within : i < length n.pivots = (z.1).1 in
+        let size : length l.level ≡ length n.pivots = n.next.size in
+        let k = get_or n.pivots i no_pivot in
+        let same : k ≡ z.0 = get_or_default n.pivots i no_pivot z.0 within ∙ (z.1).2 in
         let child = n.next.tableaux i within in
-        subst (Contains (bases_of l.level)) (ap basis_of (pivoted_nonbasics (parent_of p.level k) (get_or l.level i no_tableau) k.row k.column (n.are.each k (Contains-get_or n.moves i no_move within)).column child.pivot) ∙ ap (target p.level) same ∙ z.2)
+        subst (Contains (bases_of l.level)) (ap basis_of (pivoted_nonbasics (parent_of p.level k) (get_or l.level i no_tableau) k.row k.column (n.are.each k (Contains-get_or n.pivots i no_pivot within)).column child.pivot) ∙ ap (target p.level) same ∙ z.2)
         (mapped (λ t. basis_of t.nonbasics) (get_or l.level i no_tableau) l.level (Contains-get_or l.level i no_tableau (omega arith)))
 
     go : Contains p.before t ⊎ Contains p.level t → Contains (bases_of ((p.before ++ p.level) ++ l.level)) (neighbour_of t r column)
     go (inl a) = bases_left (p.before ++ p.level) l.level _ (ih t a column r hc x)
-    go (inr b) = let m = move_at p.level t column r b hc x in elim (contains_or (bases_of (p.before ++ p.level)) (neighbour_of t r column)) [
+    go (inr b) = let m = pivot_numbered p.level t column r b hc x in elim (contains_or (bases_of (p.before ++ p.level)) (neighbour_of t r column)) [
       | inl known ↦ bases_left (p.before ++ p.level) l.level _ known
       | inr away ↦ bases_right (p.before ++ p.level) l.level _ (subst (Contains (bases_of l.level)) m.1 (new_one _ m.0 (λ k. away (subst (Contains (bases_of (p.before ++ p.level))) m.1 k))))
     ]
@@ -193,7 +193,7 @@ closed s ts h e z = record { to = to }
     known : (t : Numbers) (c r : ℕ) → Contains ts t → c < length t.nonbasics → IsLeavingRow t c r → Contains (bases_of ts) (neighbour_of t r c)
     known t c r k hc x = subst (λ xs. Contains (bases_of xs) (neighbour_of t r c)) (sym z.all) (elim (Contains-append_cases z.levels.before z.levels.level t (subst (λ xs. Contains xs t) z.all k)) [
       | inl a ↦ level_covered s z.number z.levels z.is_level t a c r hc x
-      | inr b ↦ (let m = move_at z.levels.level t c r b hc x in elim (contains_or (bases_of (z.levels.before ++ z.levels.level)) (neighbour_of t r c)) [ inl there ↦ there | inr away ↦ (let w = z.none.all _ m.0 (λ k. away (subst (Contains (bases_of (z.levels.before ++ z.levels.level))) m.1 k)) in absurd (omega (arith, w.1))) ])
+      | inr b ↦ (let m = pivot_numbered z.levels.level t c r b hc x in elim (contains_or (bases_of (z.levels.before ++ z.levels.level)) (neighbour_of t r c)) [ inl there ↦ there | inr away ↦ (let w = z.none.all _ m.0 (λ k. away (subst (Contains (bases_of (z.levels.before ++ z.levels.level))) m.1 k)) in absurd (omega (arith, w.1))) ])
     ])
 
     to : (k : ℕ) → k < length ts → (r c : ℕ) → c < length s.nonbasics → IsLexicographicRow (length s.basics) (length s.basics) (variable_at s.basics) (tableau (get_or ts k no_tableau)) c r → HasNeighbour (length ts) (λ k. tableau (get_or ts k no_tableau)) (tableau (get_or ts k no_tableau)) r c

@@ -3,10 +3,10 @@ pub mod AscendingNumberLemmas
 pub mod BasicValueLemmas
 pub mod CompleteLevelLaws
 pub mod DigitLemmas
-pub mod FirstMoveLemmas
-pub mod FoundMoveLemmas
+pub mod FirstPivotLemmas
+pub mod FoundPivotLemmas
 pub mod LevelLemmas
-pub mod LevelMoveLemmas
+pub mod LevelPivotLemmas
 pub mod MaskLemmas
 pub mod MergedListLemmas
 pub mod NeighbourLemmas
@@ -16,5 +16,6 @@ pub mod OneAnswerLaws
 pub mod OneReachedLaws
 pub mod OrderLemmas
 pub mod SearchLemmas
+pub mod VertexCountLemmas
 pub mod VertexMarkLemmas
 pub mod WalkLemmas

@@ -14,77 +14,77 @@ use Rattle.lex_tableau.specs.StartStops.{start_in}
 use Rattle.lex_tableau.proofs.TableauLemmas.{determined, alike_both}
 use Rattle.lex_tableau.proofs.SystemLemmas.{start_in-single}
 use Rattle.basis_enum.specs.Bases.{IsAscendingListOf}
-use Rattle.basis_enum.specs.Levels.{Levels, Move, AreNextMoves, IsAfterPivot, IsNextLevel, no_move, no_tableau, parent_of, entering, steps_of, count, most, first_level}
-use Rattle.basis_enum.specs.Reached.{AreReached, IsUnfitMove, ReachedAreSingle, bases_within, level_of, next_level, next_moves, pivots_fit, told_start}
+use Rattle.basis_enum.specs.Levels.{Levels, Pivot, AreNextPivots, IsAfterPivot, IsNextLevel, no_pivot, no_tableau, parent_of, entering, steps_of, basis_count, most_bases, first_level}
+use Rattle.basis_enum.specs.Reached.{AreReached, IsUnfitPivot, ReachedAreSingle, bases_within, level_of, next_level, next_pivots, pivots_fit, told_start}
 use Rattle.basis_enum.specs.declared.stop.EnumStop.{EnumStop}
 use Rattle.basis_enum.specs.declared.stop.EnumStop.TheVariants.{Range, TooLarge}
 use Rattle.basis_enum.proofs.AscendingNumberLemmas.{increasing_same}
 use Rattle.basis_enum.proofs.LevelLemmas.{level_valid}
-use Rattle.basis_enum.proofs.NextPivotLemmas.{moves_once}
+use Rattle.basis_enum.proofs.NextPivotLemmas.{pivots_once}
 
 -- ---- one level is next
 levels_same : (l m : Levels) → l.before ≡ m.before → l.level ≡ m.level → l ≡ m
 levels_same l m p q = ap₂ (λ x y. record { before = x; level = y }) p q
 
-after_once : (level : List Numbers) (m : Move) (a b : Numbers) → IsAfterPivot level m a → IsAfterPivot level m b → a ≡ b
+after_once : (level : List Numbers) (m : Pivot) (a b : Numbers) → IsAfterPivot level m a → IsAfterPivot level m b → a ≡ b
 after_once level m a b p q = determined a b p.is_tableau q.is_tableau (p.pivot.starts ∙ sym q.pivot.starts) (p.pivot.rated ∙ sym q.pivot.rated) (alike_both _ _ _ p.pivot.fractions q.pivot.fractions)
 
-tableaux_once : (p : Levels) (moves : List Move) (l m : Levels) → IsNextLevel p moves l → IsNextLevel p moves m → l ≡ m
-tableaux_once p moves l m h g = levels_same l m (h.before ∙ sym g.before) (same_lists l.level m.level (h.size ∙ sym g.size) each)
+tableaux_once : (p : Levels) (pivots : List Pivot) (l m : Levels) → IsNextLevel p pivots l → IsNextLevel p pivots m → l ≡ m
+tableaux_once p pivots l m h g = levels_same l m (h.before ∙ sym g.before) (same_lists l.level m.level (h.size ∙ sym g.size) each)
   where
     each : (i : ℕ) (d : Numbers) → i < length l.level → get_or l.level i d ≡ get_or m.level i d
     each i d w =
-        let first : length l.level ≡ length moves = h.size in
-        let second : length m.level ≡ length moves = g.size in
+        let first : length l.level ≡ length pivots = h.size in
+        let second : length m.level ≡ length pivots = g.size in
         get_or_default l.level i d no_tableau w
-        ∙ after_once p.level (get_or moves i no_move) _ _ (h.tableaux i (omega arith)) (g.tableaux i (omega arith))
+        ∙ after_once p.level (get_or pivots i no_pivot) _ _ (h.tableaux i (omega arith)) (g.tableaux i (omega arith))
         ∙ get_or_default m.level i no_tableau d (omega arith)
 
 -- ---- one pivot is the first that does not fit
 list_once : (vs xs ys : List ℕ) → IsAscendingListOf vs xs → IsAscendingListOf vs ys → xs ≡ ys
 list_once vs xs ys p q = increasing_same xs ys p.ascending q.ascending (λ v h. q.listed v (p.only v h)) (λ v h. p.listed v (q.only v h))
 
-told_once : (k : ℕ) (level : List Numbers) (moves : List Move) (a b : EnumStop) → IsUnfitMove k level moves a → IsUnfitMove k level moves b → a ≡ b
-told_once k level moves a b h g =
-    let same = same_stop (steps_of level) moves h.move g.move h.step g.step h.first g.first in
-    let lists : h.basis ≡ g.basis = list_once (parent_of level g.move).basics h.basis g.basis (subst (λ m. IsAscendingListOf (parent_of level m).basics h.basis) same.0 h.ascending) g.ascending in
-    h.told ∙ ap (λ b. Range k b (entering level h.move) h.step) lists ∙ ap₂ (λ m step. Range k g.basis (entering level m) step) same.0 same.1 ∙ sym g.told
+told_once : (k : ℕ) (level : List Numbers) (pivots : List Pivot) (a b : EnumStop) → IsUnfitPivot k level pivots a → IsUnfitPivot k level pivots b → a ≡ b
+told_once k level pivots a b h g =
+    let same = same_stop (steps_of level) pivots h.pivot g.pivot h.step g.step h.first g.first in
+    let lists : h.basis ≡ g.basis = list_once (parent_of level g.pivot).basics h.basis g.basis (subst (λ m. IsAscendingListOf (parent_of level m).basics h.basis) same.0 h.ascending) g.ascending in
+    h.told ∙ ap (λ b. Range k b (entering level h.pivot) h.step) lists ∙ ap₂ (λ m step. Range k g.basis (entering level m) step) same.0 same.1 ∙ sym g.told
 
-pivots_fit-single : (k : ℕ) (level : List Numbers) (moves : List Move) → IsSingle (pivots_fit k level moves)
-pivots_fit-single k level moves (Ok _) (Ok _) h g = refl
-pivots_fit-single k level moves (Ok _) (Err stop) h g = absurd (no_stop (steps_of level) moves g.move g.step g.first h)
-pivots_fit-single k level moves (Err stop) (Ok _) h g = absurd (no_stop (steps_of level) moves h.move h.step h.first g)
-pivots_fit-single k level moves (Err a) (Err b) h g = ap Err (told_once k level moves a b h g)
+pivots_fit-single : (k : ℕ) (level : List Numbers) (pivots : List Pivot) → IsSingle (pivots_fit k level pivots)
+pivots_fit-single k level pivots (Ok _) (Ok _) h g = refl
+pivots_fit-single k level pivots (Ok _) (Err stop) h g = absurd (no_stop (steps_of level) pivots g.pivot g.step g.first h)
+pivots_fit-single k level pivots (Err stop) (Ok _) h g = absurd (no_stop (steps_of level) pivots h.pivot h.step h.first g)
+pivots_fit-single k level pivots (Err a) (Err b) h g = ap Err (told_once k level pivots a b h g)
 
 bases_within-single : (n : ℕ) → IsSingle (bases_within n)
-bases_within-single n = refused_by-single TooLarge (within what.Bases most n) (refuse_where-single (most < n) (too_large what.Bases most n))
+bases_within-single n = refused_by-single TooLarge (within what.Bases most_bases n) (refuse_where-single (most_bases < n) (too_large what.Bases most_bases n))
 
 -- ---- each level is one
 module _ (k : ℕ) (l : Levels) where
-  abbrev from_steps : List Move → Answer EnumStop Levels
-  from_steps moves = pivots_fit k l.level moves >> such_that (IsNextLevel l moves)
+  abbrev from_steps : List Pivot → Answer EnumStop Levels
+  from_steps pivots = pivots_fit k l.level pivots >> such_that (IsNextLevel l pivots)
 
-  abbrev from_count : List Move → Answer EnumStop Levels
-  from_count moves = bases_within (count l moves) >> from_steps moves
+  abbrev from_count : List Pivot → Answer EnumStop Levels
+  from_count pivots = bases_within (basis_count l pivots) >> from_steps pivots
 
-  abbrev AreMoves : List Move → Type 0
-  AreMoves moves = AreNextMoves l moves × (0 < length moves)
+  abbrev AreSomeNext : List Pivot → Type 0
+  AreSomeNext pivots = AreNextPivots l pivots × (0 < length pivots)
 
   module _ (valid : (t : Numbers) → Contains l.level t → IsTableau t) where
     next_level-single : IsSingle (next_level k l)
     next_level-single =
-        bind-single (next_moves l) from_count (such_that-single AreMoves (λ a b h g. moves_once l a b valid h.0 g.0))
-        (λ moves _. bind-single (bases_within (count l moves)) (λ _. from_steps moves) (bases_within-single (count l moves))
-        (λ _ _. bind-single (pivots_fit k l.level moves) (λ _. such_that (IsNextLevel l moves)) (pivots_fit-single k l.level moves)
-        (λ _ _. such_that-single (IsNextLevel l moves) (tableaux_once l moves))))
+        bind-single (next_pivots l) from_count (such_that-single AreSomeNext (λ a b h g. pivots_once l a b valid h.0 g.0))
+        (λ pivots _. bind-single (bases_within (basis_count l pivots)) (λ _. from_steps pivots) (bases_within-single (basis_count l pivots))
+        (λ _ _. bind-single (pivots_fit k l.level pivots) (λ _. such_that (IsNextLevel l pivots)) (pivots_fit-single k l.level pivots)
+        (λ _ _. such_that-single (IsNextLevel l pivots) (tableaux_once l pivots))))
 
     -- where no basis is next there is no next level
-    none_next : AreNextMoves l [] → (answer : Result Levels EnumStop) → next_level k l answer → ⊥
-    none_next none (Ok m) (moves, (are, some), _) =
-        let c : 0 ≡ length moves = ap length (moves_once l [] moves valid none are) in omega arith
+    none_next : AreNextPivots l [] → (answer : Result Levels EnumStop) → next_level k l answer → ⊥
+    none_next none (Ok m) (pivots, (are, some), _) =
+        let c : 0 ≡ length pivots = ap length (pivots_once l [] pivots valid none are) in omega arith
     none_next none (Err r) (inl h) = h
-    none_next none (Err r) (inr (moves, (are, some), _)) =
-        let c : 0 ≡ length moves = ap length (moves_once l [] moves valid none are) in omega arith
+    none_next none (Err r) (inr (pivots, (are, some), _)) =
+        let c : 0 ≡ length pivots = ap length (pivots_once l [] pivots valid none are) in omega arith
 
 module _ (s : Parts) where
   level_of-single : (k : ℕ) → IsSingle (level_of s k)
@@ -111,7 +111,7 @@ module _ (s : Parts) where
   level_before j (Err r) (inl h) = (Err r, h)
   level_before j (Err r) (inr (p, hp, _)) = (Ok p, hp)
 
-  module _ (k : ℕ) (l : Levels) (h : level_of s k (Ok l)) (none : AreNextMoves l []) where
+  module _ (k : ℕ) (l : Levels) (h : level_of s k (Ok l)) (none : AreNextPivots l []) where
     last_next : (answer : Result Levels EnumStop) → level_of s (suc k) answer → ⊥
     last_next (Ok m) (p, hp, q) =
         none_next k l (level_valid s k l h) none (Ok m) (subst (λ p. next_level k p (Ok m)) (single-value (level_of s k) p l (level_of-single k) hp h) q)

@@ -25,7 +25,7 @@ use Rattle.basis_enum.specs.Systems.{IsEnumerable, variable_count}
 use Rattle.basis_enum.specs.Reached.{reached_in}
 use Rattle.basis_enum.proofs.CompleteLevelLaws.{complete_cover, complete_extreme}
 use Rattle.basis_enum.specs.declared.vertex.Vertex.{Vertex}
-use Rattle.basis_enum.specs.Marks.{AreUpTo, IsVertexOf, IsMarkIn, AreMarksOf, AreInOrder}
+use Rattle.basis_enum.specs.Marks.{AreUpTo, IsVertexOf, IsMarkIn, AreMarksOf, AreSortedOnce}
 use Rattle.basis_enum.specs.Vertices.{mark_of, marks_of}
 use Rattle.basis_enum.proofs.MaskLemmas.{low_word, high_word}
 use Rattle.basis_enum.proofs.OrderLemmas.{is_tie, dedup_ascends, dedup_keeps, map-dedup, IsNonDecreasingBy-map}
@@ -36,6 +36,11 @@ pub reached_numbered : (s : Parts) (t : Numbers) → IsEnumerable s
 reached_numbered s t e r = λ k d h.
     (e.numbered (get_or t.basics k d)).0
     (r.variables (get_or t.basics k d) (in_row k h (get_or_default t.basics k 0 d h)))
+
+-- so are the system's nonbasic variables
+pub nonbasics_numbered : (s : Parts) → IsEnumerable s → AreUpTo (variable_count s) s.nonbasics
+nonbasics_numbered s e = λ k d h.
+    (e.numbered (get_or s.nonbasics k d)).0 (in_column k h (get_or_default s.nonbasics k 0 d h))
 
 -- ---- the vertex of one tableau
 pub vertex_is : (s : Parts) (t : Numbers) (v : Vertex) (word : ℕ)
@@ -116,9 +121,9 @@ marks_more s ts t old (Some v) h is =
 -- ---- sorted, one of each mask
 pub marks_in_order : (old sorted new : List Vertex) → IsPermutation old sorted
     → IsNonDecreasingBy (λ v. mask_of (mark_of v)) sorted
-    → new ≡ dedup (is_tie (λ v. mask_of (mark_of v))) sorted → AreInOrder (marks_of old) (marks_of new)
+    → new ≡ dedup (is_tie (λ v. mask_of (mark_of v))) sorted → AreSortedOnce (marks_of old) (marks_of new)
 marks_in_order old sorted new moved order e =
-    subst (AreInOrder (marks_of old)) (sym (ap marks_of e ∙ map-dedup mark_of mask_of sorted))
+    subst (AreSortedOnce (marks_of old)) (sym (ap marks_of e ∙ map-dedup mark_of mask_of sorted))
     (record {
       kept = λ m c. Contains-permutation (marks_of sorted) (marks_of old) m (IsPermutation-sym (marks_of old) (marks_of sorted) same) (Contains-from_dedup (is_tie mask_of) (marks_of sorted) m c);
       all = λ m c. (let k = dedup_keeps mask_of mask_of (marks_of sorted) m in_order (Contains-permutation (marks_of old) (marks_of sorted) m same c) in (k.0, k.1, k.2));
@@ -214,7 +219,7 @@ extreme_in s ts t h e end c =
     (complete_extreme s ts c.0 h e end c.1)
 
 pub are_vertices : (s : Parts) (ts : List Numbers) (marks list : List MarkedPoint) → IsSystem s
-    → IsEnumerable s → reached_in s (Ok ts) → AreMarksOf s ts marks → AreInOrder marks list
+    → IsEnumerable s → reached_in s (Ok ts) → AreMarksOf s ts marks → AreSortedOnce marks list
     → AreVertices (variable_count s) (system_of s) list
 are_vertices s ts marks list h e end noted order =
     record {

@@ -4,41 +4,40 @@ use Rattle.std.specs.List.{Contains}
 use Rattle.std.specs.Prelude.{Option, option_to_list}
 use Rattle.std.specs.List.Sorted.{IsStrictlyIncreasing}
 use Rattle.std.proofs.lemmas.Grind.{same_number_lists}
-use Rattle.std.proofs.lemmas.List.{append-nil, length-append, length-map, map-append, get_or_default}
+use Rattle.std.proofs.lemmas.List.{append-nil, length-append, length-map, map-append}
 use Rattle.std.proofs.lemmas.List.Elements.{Contains-append_left, Contains-append_right, Contains-append_cases, Contains-get_or}
 use Rattle.std.proofs.Math.ListN.{get_or-map}
 use Rattle.answers.specs.Answers.{Gives, such_that}
 use Rattle.answers.proofs.AnswerLemmas.{gives_first}
 use Rattle.linear_systems.specs.Vertices.{AreVertices}
-use Rattle.linear_systems.specs.Reached.{in_column}
 use Rattle.lex_tableau.specs.Rows.{Numbers}
 use Rattle.lex_tableau.specs.Starts.{Parts, IsSystem, system_of}
 use Rattle.lex_tableau.specs.StartStops.{start_in, IsStarted}
 use Rattle.lex_tableau.specs.declared.tableau.StartStop.{StartStop}
 use Rattle.lex_tableau.specs.declared.tableau.StartStop.TheVariants as starts
 use Rattle.basis_enum.specs.Bases.{basis_of, AreVariables}
-use Rattle.basis_enum.specs.Levels.{Levels, IsMove, AreNextMoves, bases_of, count, no_tableau, parent_of}
+use Rattle.basis_enum.specs.Levels.{Levels, IsPivot, AreNextPivots, bases_of, basis_count, most_bases, no_tableau, parent_of}
 use Rattle.basis_enum.specs.Systems.{IsEnumerable, variable_count}
-use Rattle.basis_enum.specs.Reached.{bases_within, level_of, next_level, next_moves, reached_in, told_start}
+use Rattle.basis_enum.specs.Reached.{bases_within, level_of, next_level, next_pivots, reached_in, told_start}
 use Rattle.basis_enum.proofs.CompleteLevelLaws.{Held, held_start, held_child, held_digits, level_held, pivoted_nonbasics}
 use Rattle.basis_enum.proofs.AscendingNumberLemmas.{unmapped}
 use Rattle.basis_enum.proofs.LevelLemmas.{level_few, level_many}
-use Rattle.basis_enum.specs.declared.moves.Move.{Move}
+use Rattle.basis_enum.specs.declared.found_pivots.FoundPivot.{FoundPivot}
 use Rattle.basis_enum.specs.declared.stop.EnumStop.{EnumStop}
 use Rattle.basis_enum.specs.declared.stop.EnumStop.TheVariants as stops
 use Rattle.basis_enum.specs.declared.vertex.Vertex.{Vertex}
 use Rattle.basis_enum.specs.declared.walk.Walk.{Walk}
-use Rattle.basis_enum.specs.Children.{AreMoves, AreChildren, IsPivoted, LeadToReady}
+use Rattle.basis_enum.specs.Children.{ArePivots, AreChildren, IsPivoted, LeadToReady}
 use Rattle.basis_enum.specs.Enumeration.{IsVertexListOf, vertices_in}
 use Rattle.basis_enum.specs.Found.{AreFound, AreFoundIn, IsFoundIn, IsReady, AreReady, AreKnown}
-use Rattle.basis_enum.specs.Marks.{AreInOrder, AreMarksOf, AreUpTo, IsVertexOf}
+use Rattle.basis_enum.specs.Marks.{AreSortedOnce, AreMarksOf, AreUpTo, IsVertexOf}
 use Rattle.basis_enum.specs.Merged.{IsMerged}
-use Rattle.basis_enum.specs.Next.{AreNewMoves, move_of, no_move, target_of}
+use Rattle.basis_enum.specs.Next.{AreNewPivots, pivot_of, no_found_pivot, target_of}
 use Rattle.basis_enum.specs.Vertices.{VertexList, mark_of, marks_of}
-use Rattle.basis_enum.specs.Walks.{levels_of, IsWalkAt, IsWalkToEnd, HaveEntering, IsMoveStop, IsCountStop, IsEnumStop, AddsMoreVertices, AddsVertices}
-use Rattle.basis_enum.proofs.LevelMoveLemmas.{basis_at, found_in_start, found_in_more, move_is, target_is_there, entering_is, next_are}
+use Rattle.basis_enum.specs.Walks.{levels_of, IsWalkAt, IsWalkToEnd, HaveEntering, IsLevelStop, IsCountStop, IsEnumStop, AddsMoreVertices, AddsVertices}
+use Rattle.basis_enum.proofs.LevelPivotLemmas.{basis_at, found_in_start, found_in_more, pivot_is, target_is_there, entering_is, next_are}
 use Rattle.basis_enum.proofs.NextLevelLemmas.{next_level_is}
-use Rattle.basis_enum.proofs.VertexMarkLemmas.{reached_numbered, no_marks, marks_more, are_vertices}
+use Rattle.basis_enum.proofs.VertexMarkLemmas.{reached_numbered, nonbasics_numbered, no_marks, marks_more, are_vertices}
 
 -- ---- the tableaux of a level
 ready : (s : Parts) (t : Numbers) → IsEnumerable s → Held s t → IsReady t
@@ -55,9 +54,9 @@ ready s t e h =
 pub walk_held : (s : Parts) (k : ℕ) (w : Walk) → IsEnumerable s → IsWalkAt s k w → (i : ℕ) → i < length w.level.items → Held s (get_or w.level.items i no_tableau)
 walk_held s k w e h i hi = level_held s k (levels_of h.before w.level.items) h.valid e h.is_level _ (Contains-append_right h.before w.level.items _ (Contains-get_or w.level.items i no_tableau hi))
 
-pub walk_few : (s : Parts) (k : ℕ) (w : Walk) → IsWalkAt s k w → length w.known.items ≤ 20000
+pub walk_few : (s : Parts) (k : ℕ) (w : Walk) → IsWalkAt s k w → length w.known.items ≤ most_bases
 walk_few s k w h =
-    let few : length (h.before ++ w.level.items) ≤ 20000 = level_few s k (levels_of h.before w.level.items) h.is_level in
+    let few : length (h.before ++ w.level.items) ≤ most_bases = level_few s k (levels_of h.before w.level.items) h.is_level in
     let count : length w.known.items ≡ length (h.before ++ w.level.items) = h.count in
     omega arith
 
@@ -65,55 +64,55 @@ pub walk_ready : (s : Parts) (k : ℕ) (w : Walk) → IsEnumerable s → IsWalkA
 walk_ready s k w e h i hi = ready s _ e (walk_held s k w e h i hi)
 
 -- ---- the pivots to new bases
-pub moves_are : (level : List Numbers) (known : List ℕ) (moves : List Move) → AreNewMoves level known moves → AreMoves level moves
-moves_are level known moves n m c = move_is level known m (n.all.each m (n.firsts.each m c))
+pub pivots_are : (level : List Numbers) (known : List ℕ) (pivots : List FoundPivot) → AreNewPivots level known pivots → ArePivots level pivots
+pivots_are level known pivots n m c = pivot_is level known m (n.all.each m (n.firsts.each m c))
 
-pub moves_enter : (level : List Numbers) (known : List ℕ) (moves : List Move) → AreNewMoves level known moves → HaveEntering level moves
-moves_enter level known moves n m c = entering_is level known m (n.all.each m (n.firsts.each m c))
+pub pivots_enter : (level : List Numbers) (known : List ℕ) (pivots : List FoundPivot) → AreNewPivots level known pivots → HaveEntering level pivots
+pivots_enter level known pivots n m c = entering_is level known m (n.all.each m (n.firsts.each m c))
 
-pub walk_moves : (s : Parts) (k : ℕ) (w : Walk) (moves : List Move) → (h : IsWalkAt s k w) → AreNewMoves w.level.items w.known.items moves → AreNextMoves (levels_of h.before w.level.items) (map move_of moves)
-walk_moves s k w moves h n = next_are (levels_of h.before w.level.items) w.known.items n.found moves h.known n.small n.all n.firsts
+pub walk_pivots : (s : Parts) (k : ℕ) (w : Walk) (pivots : List FoundPivot) → (h : IsWalkAt s k w) → AreNewPivots w.level.items w.known.items pivots → AreNextPivots (levels_of h.before w.level.items) (map pivot_of pivots)
+walk_pivots s k w pivots h n = next_are (levels_of h.before w.level.items) w.known.items n.found pivots h.known n.small n.all n.firsts
 
-pub targets_apart : (level : List Numbers) (known bases : List ℕ) (moves : List Move) → AreNewMoves level known moves → bases ≡ map target_of moves → (b : ℕ) → Contains known b → ¬ (Contains bases b)
-targets_apart level known bases moves n e b k c =
-    let z = unmapped target_of b moves (subst (λ xs. Contains xs b) e c) in
+pub targets_apart : (level : List Numbers) (known bases : List ℕ) (pivots : List FoundPivot) → AreNewPivots level known pivots → bases ≡ map target_of pivots → (b : ℕ) → Contains known b → ¬ (Contains bases b)
+targets_apart level known bases pivots n e b k c =
+    let z = unmapped target_of b pivots (subst (λ xs. Contains xs b) e c) in
     (n.all.each z.0 (n.firsts.each z.0 z.1)).below.found.new (subst (Contains known) (sym z.2) k)
 
 -- they lead to tableaux whose pivots can be found
-pub moves_lead : (s : Parts) (k : ℕ) (w : Walk) (moves : List Move) → IsEnumerable s → IsWalkAt s k w → AreNewMoves w.level.items w.known.items moves → LeadToReady s w.level.items moves
-moves_lead s k w moves e h n m c =
+pub pivots_lead : (s : Parts) (k : ℕ) (w : Walk) (pivots : List FoundPivot) → IsEnumerable s → IsWalkAt s k w → AreNewPivots w.level.items w.known.items pivots → LeadToReady s w.level.items pivots
+pivots_lead s k w pivots e h n m c =
     record {
       ready = λ t q. ready s t e (held t q);
       numbered = λ t q. reached_numbered s t e (held t q).reached;
-      target = λ t q. target_is_there w.level.items w.known.items m found ∙ ap basis_of (sym (pivoted_nonbasics (parent_of w.level.items (move_of m)) t m.row m.column is_move.column q.pivot));
+      target = λ t q. target_is_there w.level.items w.known.items m found ∙ ap basis_of (sym (pivoted_nonbasics (parent_of w.level.items (pivot_of m)) t m.row m.column is_pivot.column q.pivot));
     }
   where
     found : IsFoundIn w.level.items w.known.items m
     found = n.all.each m (n.firsts.each m c)
 
-    is_move : IsMove w.level.items (move_of m)
-    is_move = move_is w.level.items w.known.items m found
+    is_pivot : IsPivot w.level.items (pivot_of m)
+    is_pivot = pivot_is w.level.items w.known.items m found
 
-    held : (t : Numbers) → IsPivoted w.level.items (move_of m) t → Held s t
-    held t q = held_child s (parent_of w.level.items (move_of m)) t m.row m.column h.valid e (walk_held s k w e h m.parent is_move.parent) is_move.column is_move.row q.is_tableau q.pivot
+    held : (t : Numbers) → IsPivoted w.level.items (pivot_of m) t → Held s t
+    held t q = held_child s (parent_of w.level.items (pivot_of m)) t m.row m.column h.valid e (walk_held s k w e h m.parent is_pivot.parent) is_pivot.column is_pivot.row q.is_tableau q.pivot
 
-pub children_ready : (s : Parts) (level next : List Numbers) (moves : List Move) → LeadToReady s level moves → AreChildren level moves (length moves) next → AreReady next
-children_ready s level next moves lead c i hi =
-    let size : length next ≡ length moves = c.size in
-    let within : i < length moves = omega arith in
-    (lead _ (Contains-get_or moves i no_move within)).ready _ (c.each i within)
+pub children_ready : (s : Parts) (level next : List Numbers) (pivots : List FoundPivot) → LeadToReady s level pivots → AreChildren level pivots (length pivots) next → AreReady next
+children_ready s level next pivots lead c i hi =
+    let size : length next ≡ length pivots = c.size in
+    let within : i < length pivots = omega arith in
+    (lead _ (Contains-get_or pivots i no_found_pivot within)).ready _ (c.each i within)
 
 -- the children's bases are the pivots' targets
-children_bases : (s : Parts) (level next : List Numbers) (moves : List Move) → LeadToReady s level moves → AreChildren level moves (length moves) next → map target_of moves ≡ bases_of next
-children_bases s level next moves lead c =
-    same_number_lists (map target_of moves) (bases_of next) (length-map moves target_of ∙ sym c.size ∙ sym (length-map next (λ t. basis_of t.nonbasics))) each
+children_bases : (s : Parts) (level next : List Numbers) (pivots : List FoundPivot) → LeadToReady s level pivots → AreChildren level pivots (length pivots) next → map target_of pivots ≡ bases_of next
+children_bases s level next pivots lead c =
+    same_number_lists (map target_of pivots) (bases_of next) (length-map pivots target_of ∙ sym c.size ∙ sym (length-map next (λ t. basis_of t.nonbasics))) each
   where
-    each : (i : ℕ) → i < length (map target_of moves) → get_or (map target_of moves) i 0 ≡ get_or (bases_of next) i 0
+    each : (i : ℕ) → i < length (map target_of pivots) → get_or (map target_of pivots) i 0 ≡ get_or (bases_of next) i 0
     each i h =
-        let hi : i < length moves = subst (λ m. i < m) (length-map moves target_of) h in
-        let size : length next ≡ length moves = c.size in
-        get_or-map target_of moves i no_move
-        ∙ (lead _ (Contains-get_or moves i no_move hi)).target _ (c.each i hi)
+        let hi : i < length pivots = subst (λ m. i < m) (length-map pivots target_of) h in
+        let size : length next ≡ length pivots = c.size in
+        get_or-map target_of pivots i no_found_pivot
+        ∙ (lead _ (Contains-get_or pivots i no_found_pivot hi)).target _ (c.each i hi)
         ∙ sym (basis_at next (bases_of next) i refl (let w : i < length next = omega arith in w))
 
 -- ---- the vertices of a level
@@ -157,17 +156,17 @@ known_next before level next known all k m =
       ]);
     }
 
-walk_next_level : (s : Parts) (k : ℕ) (w : Walk) (moves : List Move) (next : List Numbers) → (h : IsWalkAt s k w) → AreNewMoves w.level.items w.known.items moves → 0 < length moves → length w.known.items + length moves ≤ 20000 → AreChildren w.level.items moves (length moves) next → next_level k (levels_of h.before w.level.items) (Ok (levels_of (h.before ++ w.level.items) next))
-walk_next_level s k w moves next h n some few c =
-    next_level_is k (levels_of h.before w.level.items) moves next (walk_moves s k w moves h n) some
-    (let sizes : length (map move_of moves) ≡ length moves = length-map moves move_of in let counts : length w.known.items ≡ length (h.before ++ w.level.items) = h.count in omega arith) c
+walk_next_level : (s : Parts) (k : ℕ) (w : Walk) (pivots : List FoundPivot) (next : List Numbers) → (h : IsWalkAt s k w) → AreNewPivots w.level.items w.known.items pivots → 0 < length pivots → length w.known.items + length pivots ≤ most_bases → AreChildren w.level.items pivots (length pivots) next → next_level k (levels_of h.before w.level.items) (Ok (levels_of (h.before ++ w.level.items) next))
+walk_next_level s k w pivots next h n some few c =
+    next_level_is k (levels_of h.before w.level.items) pivots next (walk_pivots s k w pivots h n) some
+    (let sizes : length (map pivot_of pivots) ≡ length pivots = length-map pivots pivot_of in let counts : length w.known.items ≡ length (h.before ++ w.level.items) = h.count in omega arith) c
 
-pub walk_next : (s : Parts) (k : ℕ) (w new : Walk) (moves : List Move) (bases : List ℕ) → IsEnumerable s → IsWalkAt s k w → AreNewMoves w.level.items w.known.items moves → 0 < length moves → length w.known.items + length moves ≤ 20000 → AreChildren w.level.items moves (length moves) new.level.items → bases ≡ map target_of moves → IsMerged w.known.items bases new.known.items → AddsVertices s new.level.items w.vertices.items new.vertices.items → IsWalkAt s (k + 1) new
-walk_next s k w new moves bases enumerable h n some few c e m adds =
+pub walk_next : (s : Parts) (k : ℕ) (w new : Walk) (pivots : List FoundPivot) (bases : List ℕ) → IsEnumerable s → IsWalkAt s k w → AreNewPivots w.level.items w.known.items pivots → 0 < length pivots → length w.known.items + length pivots ≤ most_bases → AreChildren w.level.items pivots (length pivots) new.level.items → bases ≡ map target_of pivots → IsMerged w.known.items bases new.known.items → AddsVertices s new.level.items w.vertices.items new.vertices.items → IsWalkAt s (k + 1) new
+walk_next s k w new pivots bases enumerable h n some few c e m adds =
     record {
       valid = h.valid;
       before = h.before ++ w.level.items;
-      is_level = subst (λ j. level_of s j (Ok (levels_of (h.before ++ w.level.items) new.level.items))) (let q : suc k ≡ k + 1 = omega arith in q) (levels_of h.before w.level.items, h.is_level, walk_next_level s k w moves new.level.items h n some few c);
+      is_level = subst (λ j. level_of s j (Ok (levels_of (h.before ++ w.level.items) new.level.items))) (let q : suc k ≡ k + 1 = omega arith in q) (levels_of h.before w.level.items, h.is_level, walk_next_level s k w pivots new.level.items h n some few c);
       known = known_next h.before w.level.items new.level.items w.known.items new.known.items h.known merged;
       ascending = m.ascending;
       count = m.size ∙ ap₂ (λ x y. x + y) h.count (ap length told ∙ length-map new.level.items (λ t. basis_of t.nonbasics)) ∙ sym (length-append (h.before ++ w.level.items) new.level.items);
@@ -175,7 +174,7 @@ walk_next s k w new moves bases enumerable h n some few c e m adds =
     }
   where
     told : bases ≡ bases_of new.level.items
-    told = e ∙ children_bases s w.level.items new.level.items moves (moves_lead s k w moves enumerable h n) c
+    told = e ∙ children_bases s w.level.items new.level.items pivots (pivots_lead s k w pivots enumerable h n) c
 
     merged : IsMerged w.known.items (bases_of new.level.items) new.known.items
     merged = subst (λ xs. IsMerged w.known.items xs new.known.items) told m
@@ -186,31 +185,31 @@ pub start_stop : (s : Parts) (stop : StartStop) → Gives starts.Memory (start_i
 start_stop s stop (inl memory) = inl (ap told_start memory)
 start_stop s stop (inr h) = inr (0, inl (stop, h, refl))
 
-module _ (s : Parts) (k : ℕ) (w : Walk) (moves : List Move) (stop : EnumStop) (h : IsWalkAt s k w) (n : AreNewMoves w.level.items w.known.items moves) (some : 0 < length moves) where
+module _ (s : Parts) (k : ℕ) (w : Walk) (pivots : List FoundPivot) (stop : EnumStop) (h : IsWalkAt s k w) (n : AreNewPivots w.level.items w.known.items pivots) (some : 0 < length pivots) where
   abbrev l : Levels
   l = levels_of h.before w.level.items
 
-  bases_are : length w.known.items + length moves ≡ count l (map move_of moves)
-  bases_are = ap₂ (λ x y. x + y) h.count (sym (length-map moves move_of))
+  bases_are : length w.known.items + length pivots ≡ basis_count l (map pivot_of pivots)
+  bases_are = ap₂ (λ x y. x + y) h.count (sym (length-map pivots pivot_of))
 
-  next_are_some : next_moves l (Ok (map move_of moves))
-  next_are_some = (walk_moves s k w moves h n, subst (λ n. 0 < n) (sym (length-map moves move_of)) some)
+  next_are_some : next_pivots l (Ok (map pivot_of pivots))
+  next_are_some = (walk_pivots s k w pivots h n, subst (λ n. 0 < n) (sym (length-map pivots pivot_of)) some)
 
   -- so many bases are too many
-  pub count_stop : IsCountStop (length w.known.items + length moves) stop → IsEnumStop s stop
+  pub count_stop : IsCountStop (length w.known.items + length pivots) stop → IsEnumStop s stop
   count_stop (inl memory) = inl memory
   count_stop (inr past) =
-      inr (suc k, inr (l, h.is_level, inr (map move_of moves, next_are_some, inl (subst (λ bases. bases_within bases (Err stop)) bases_are past))))
+      inr (suc k, inr (l, h.is_level, inr (map pivot_of pivots, next_are_some, inl (subst (λ bases. bases_within bases (Err stop)) bases_are past))))
 
   -- a pivot does not fit
-  pub move_stop : length w.known.items + length moves ≤ 20000 → IsMoveStop w.level.items moves k stop → IsEnumStop s stop
-  move_stop few (inl memory) = inl memory
-  move_stop few (inr unfit) =
-      inr (suc k, inr (l, h.is_level, inr (map move_of moves, next_are_some, inr (tt, λ over. omega (arith, over, few, bases_are), inl unfit))))
+  pub level_stop : length w.known.items + length pivots ≤ most_bases → IsLevelStop w.level.items pivots k stop → IsEnumStop s stop
+  level_stop few (inl memory) = inl memory
+  level_stop few (inr unfit) =
+      inr (suc k, inr (l, h.is_level, inr (map pivot_of pivots, next_are_some, inr (tt, λ over. omega (arith, over, few, bases_are), inl unfit))))
 
-pub walk_early : (s : Parts) (k : ℕ) (w : Walk) → IsWalkAt s k w → k < 20000
+pub walk_early : (s : Parts) (k : ℕ) (w : Walk) → IsWalkAt s k w → k < most_bases
 walk_early s k w h =
-    let few : length (h.before ++ w.level.items) ≤ 20000 = level_few s k (levels_of h.before w.level.items) h.is_level in
+    let few : length (h.before ++ w.level.items) ≤ most_bases = level_few s k (levels_of h.before w.level.items) h.is_level in
     let many : k < length (h.before ++ w.level.items) = level_many s k (levels_of h.before w.level.items) h.is_level in
     omega arith
 
@@ -225,7 +224,7 @@ system_variables s h e =
     }
   where
     bounds : (v : ℕ) → Contains s.nonbasics v → (0 < v) × (v ≤ variable_count s)
-    bounds v c = (e.numbered v).0 (in_column c.0 c.1 (get_or_default s.nonbasics c.0 0 v c.1 ∙ c.2))
+    bounds v c = subst (λ w. (0 < w) × (w ≤ variable_count s)) c.2 (nonbasics_numbered s e c.0 v c.1)
 
 first_nonbasics : (s : Parts) (t : Numbers) → IsStarted s t → s.nonbasics ≡ t.nonbasics
 first_nonbasics s t f = same_number_lists s.nonbasics t.nonbasics f.start.fractions.width (λ j h. f.start.fractions.nonbasic j h)
@@ -242,7 +241,7 @@ first_numbered s t h e f = reached_numbered s t e (first_held s t h e f).reached
 pub first_basis : (s : Parts) (t : Numbers) → IsStarted s t → basis_of s.nonbasics ≡ basis_of t.nonbasics
 first_basis s t f = ap basis_of (first_nonbasics s t f)
 
-pub first_found : (t : Numbers) (known : List ℕ) (found : List Move) → AreFound t 0 known (length t.nonbasics) found → AreFoundIn (t ∷ []) known found
+pub first_found : (t : Numbers) (known : List ℕ) (found : List FoundPivot) → AreFound t 0 known (length t.nonbasics) found → AreFoundIn (t ∷ []) known found
 first_found t known found f = found_in_more [] known [] found t (found_in_start known) f
 
 pub first_all_ready : (t : Numbers) → IsReady t → AreReady (t ∷ [])
@@ -266,11 +265,11 @@ walk_start s t w vertex valid f level known vertices is =
     told = ap (λ b. b ∷ []) (first_basis s t f.2) ∙ sym (ap bases_of level)
 
 -- ---- at the last level
-pub walk_vertices : (s : Parts) (w : Walk) (v : VertexList) → IsEnumerable s → IsWalkToEnd s w → v.bases ≡ length w.known.items → AreInOrder (marks_of w.vertices.items) v.list → vertices_in s (Ok v)
+pub walk_vertices : (s : Parts) (w : Walk) (v : VertexList) → IsEnumerable s → IsWalkToEnd s w → v.bases ≡ length w.known.items → AreSortedOnce (marks_of w.vertices.items) v.list → vertices_in s (Ok v)
 walk_vertices s w v e h bases order = (h.walk.before ++ w.level.items, reached, record { bases = bases ∙ h.walk.count; list = list })
   where
     reached : reached_in s (Ok (h.walk.before ++ w.level.items))
-    reached = record { number = h.number; levels = levels_of h.walk.before w.level.items; is_level = h.walk.is_level; none = walk_moves s h.number w [] h.walk h.none; all = refl }
+    reached = record { number = h.number; levels = levels_of h.walk.before w.level.items; is_level = h.walk.is_level; none = walk_pivots s h.number w [] h.walk h.none; all = refl }
 
     list : AreVertices (variable_count s) (system_of s) v.list
     list = are_vertices s (h.walk.before ++ w.level.items) (marks_of w.vertices.items) v.list h.walk.valid e reached h.walk.marks order

@@ -5,7 +5,7 @@ use Rattle.lex_tableau.specs.Rows.{Numbers, IsTableau}
 use Rattle.basis_enum.specs.Bases.{neighbour_of, HaveDigits}
 use Rattle.basis_enum.specs.Levels.{Levels, no_tableau, bases_of}
 use Rattle.lex_tableau.specs.Ratio.{IsLeavingRow}
-use Rattle.basis_enum.specs.declared.moves.Move.{Move}
+use Rattle.basis_enum.specs.declared.found_pivots.FoundPivot.{FoundPivot}
 
 -- all rows are rated, and rows and columns have numbers of 32 bits
 pub record IsWhole (t : Numbers) : Type 0 where
@@ -14,55 +14,57 @@ pub record IsWhole (t : Numbers) : Type 0 where
   pub columns : length t.nonbasics < 2 ^ 32
 
 -- the pivot from t on the lexicographic row of the column, to a basis that is not known
-pub record IsFound (t : Numbers) (place : ℕ) (known : List ℕ) (col : ℕ) (m : Move) : Type 0 where
-  pub parent : m.parent ≡ place
-  pub column : m.column ≡ col
-  pub row : IsLeavingRow t col m.row
-  pub entering : m.entering ≡ get_or t.nonbasics col 0
-  pub target : m.target ≡ neighbour_of t m.row col
-  pub new : ¬ (Contains known m.target)
+pub record IsFound (t : Numbers) (place : ℕ) (known : List ℕ) (col : ℕ) (p : FoundPivot)
+    : Type 0 where
+  pub parent : p.parent ≡ place
+  pub column : p.column ≡ col
+  pub row : IsLeavingRow t col p.row
+  pub entering : p.entering ≡ get_or t.nonbasics col 0
+  pub target : p.target ≡ neighbour_of t p.row col
+  pub new : ¬ (Contains known p.target)
 
 -- the pivot in this column, where there is one, leads to a known basis
 pub record HasNone (t : Numbers) (known : List ℕ) (column : ℕ) : Type 0 where
   pub leads_back : (r : ℕ) → IsLeavingRow t column r → Contains known (neighbour_of t r column)
 
--- among the moves is the pivot in this column
-abbrev pub HasFound : Numbers → ℕ → List ℕ → List Move → ℕ → Type 0
-HasFound t place known moves column =
-    (m : Move) × Contains moves m × IsFound t place known column m
+-- among these is the pivot in this column
+abbrev pub HasFound : Numbers → ℕ → List ℕ → List FoundPivot → ℕ → Type 0
+HasFound t place known pivots column =
+    (p : FoundPivot) × Contains pivots p × IsFound t place known column p
 
 -- a column below the bound, with such a pivot
-pub record IsFoundBelow (t : Numbers) (place : ℕ) (known : List ℕ) (bound : ℕ) (m : Move)
+pub record IsFoundBelow (t : Numbers) (place : ℕ) (known : List ℕ) (bound : ℕ) (p : FoundPivot)
     : Type 0 where
   pub column : ℕ
   pub within : column < bound
-  pub found : IsFound t place known column m
+  pub found : IsFound t place known column p
 
 -- of each column below the bound the pivot is there, or leads to a known basis
-pub record AreFound (t : Numbers) (place : ℕ) (known : List ℕ) (bound : ℕ) (moves : List Move)
-    : Type 0 where
-  pub each : (m : Move) → Contains moves m → IsFoundBelow t place known bound m
+pub record AreFound (t : Numbers) (place : ℕ) (known : List ℕ) (bound : ℕ)
+    (pivots : List FoundPivot) : Type 0 where
+  pub each : (p : FoundPivot) → Contains pivots p → IsFoundBelow t place known bound p
   pub all : (column r : ℕ) → column < bound → IsLeavingRow t column r
-      → ¬ (Contains known (neighbour_of t r column)) → HasFound t place known moves column
+      → ¬ (Contains known (neighbour_of t r column)) → HasFound t place known pivots column
 
--- of each of its columns the pivot is among the moves, or leads to a known basis
-abbrev pub HasAllFound : Numbers → ℕ → List ℕ → List Move → Type 0
-HasAllFound t place known moves =
+-- of each of its columns the pivot is among these, or leads to a known basis
+abbrev pub HasAllFound : Numbers → ℕ → List ℕ → List FoundPivot → Type 0
+HasAllFound t place known pivots =
     (column r : ℕ) → column < length t.nonbasics → IsLeavingRow t column r
-    → ¬ (Contains known (neighbour_of t r column)) → HasFound t place known moves column
+    → ¬ (Contains known (neighbour_of t r column)) → HasFound t place known pivots column
 
 -- a tableau of the level and a column, with such a pivot
-pub record IsFoundIn (level : List Numbers) (known : List ℕ) (m : Move) : Type 0 where
+pub record IsFoundIn (level : List Numbers) (known : List ℕ) (p : FoundPivot) : Type 0 where
   pub place : ℕ
   pub within : place < length level
   pub below : IsFoundBelow (get_or level place no_tableau) place known
-      (length (get_or level place no_tableau).nonbasics) m
+      (length (get_or level place no_tableau).nonbasics) p
 
 -- the pivots from the level that lead to new bases
-pub record AreFoundIn (level : List Numbers) (known : List ℕ) (moves : List Move) : Type 0 where
-  pub each : (m : Move) → Contains moves m → IsFoundIn level known m
+pub record AreFoundIn (level : List Numbers) (known : List ℕ) (pivots : List FoundPivot)
+    : Type 0 where
+  pub each : (p : FoundPivot) → Contains pivots p → IsFoundIn level known p
   pub all : (place : ℕ) → place < length level
-      → HasAllFound (get_or level place no_tableau) place known moves
+      → HasAllFound (get_or level place no_tableau) place known pivots
 
 -- a tableau whose pivots can be found
 pub record IsReady (t : Numbers) : Type 0 where

@@ -9,37 +9,41 @@ use Rattle.lex_tableau.specs.Pivots.{steps_of_pivot}
 use Rattle.basis_enum.specs.Bases.{basis_of, neighbour_of}
 
 -- a pivot from a level: the place of the tableau in the level, a row and a column
-pub record Move : Type 0 where
+pub record Pivot : Type 0 where
   pub parent : ℕ
   pub row : ℕ
   pub column : ℕ
 
-abbrev pub no_move : Move
-no_move = record { parent = 0; row = 0; column = 0 }
+-- what a read past the end of a list of pivots gives
+abbrev pub no_pivot : Pivot
+no_pivot = record { parent = 0; row = 0; column = 0 }
 
+-- what a read past the end of a list of tableaux gives
 abbrev pub no_tableau : Numbers
 no_tableau = record { starts = []; basics = []; nonbasics = []; rated = 0; numbers = [] }
 
--- the tableau from which it goes, the variable that enters, and the basis to which it leads
-abbrev pub parent_of : List Numbers → Move → Numbers
-parent_of level m = get_or level m.parent no_tableau
+-- the tableau from which a pivot goes
+abbrev pub parent_of : List Numbers → Pivot → Numbers
+parent_of level p = get_or level p.parent no_tableau
 
-abbrev pub entering : List Numbers → Move → ℕ
-entering level m = get_or (parent_of level m).nonbasics m.column 0
+-- the variable that enters
+abbrev pub entering : List Numbers → Pivot → ℕ
+entering level p = get_or (parent_of level p).nonbasics p.column 0
 
-abbrev pub target : List Numbers → Move → ℕ
-target level m = neighbour_of (parent_of level m) m.row m.column
+-- the basis to which it leads
+abbrev pub target : List Numbers → Pivot → ℕ
+target level p = neighbour_of (parent_of level p) p.row p.column
 
 -- a pivot of a tableau of the level on the lexicographic row of a column
-pub record IsMove (level : List Numbers) (m : Move) : Type 0 where
-  pub parent : m.parent < length level
-  pub column : m.column < length (parent_of level m).nonbasics
-  pub row : IsLeavingRow (parent_of level m) m.column m.row
+pub record IsPivot (level : List Numbers) (p : Pivot) : Type 0 where
+  pub parent : p.parent < length level
+  pub column : p.column < length (parent_of level p).nonbasics
+  pub row : IsLeavingRow (parent_of level p) p.column p.row
 
 -- by the parent's place in the level, and then by the entering variable
-abbrev pub IsEarlierMove : List Numbers → Move → Move → Type 0
-IsEarlierMove level m k =
-    (m.parent < k.parent) ⊎ ((m.parent ≡ k.parent) × (entering level m < entering level k))
+abbrev pub IsEarlierPivot : List Numbers → Pivot → Pivot → Type 0
+IsEarlierPivot level p q =
+    (p.parent < q.parent) ⊎ ((p.parent ≡ q.parent) × (entering level p < entering level q))
 
 -- a level, and those before it
 pub record Levels : Type 0 where
@@ -56,39 +60,39 @@ IsNew l b = ¬ (Contains (bases_of (l.before ++ l.level)) b)
 
 -- the pivots to the next level: one to each new neighbour, in ascending order of bases, and of
 -- those that lead there the first
-pub record AreNextMoves (l : Levels) (moves : List Move) : Type 0 where
-  pub each : (m : Move) → Contains moves m → IsMove l.level m
-  pub new : (m : Move) → Contains moves m → IsNew l (target l.level m)
-  pub ascending : IsStrictlyIncreasing (map (target l.level) moves)
-  pub all : (m : Move) → IsMove l.level m → IsNew l (target l.level m)
-      → Contains (map (target l.level) moves) (target l.level m)
-  pub first : (m k : Move) → Contains moves m → IsMove l.level k
-      → target l.level k ≡ target l.level m → ¬ (IsEarlierMove l.level k m)
+pub record AreNextPivots (l : Levels) (pivots : List Pivot) : Type 0 where
+  pub each : (p : Pivot) → Contains pivots p → IsPivot l.level p
+  pub new : (p : Pivot) → Contains pivots p → IsNew l (target l.level p)
+  pub ascending : IsStrictlyIncreasing (map (target l.level) pivots)
+  pub all : (p : Pivot) → IsPivot l.level p → IsNew l (target l.level p)
+      → Contains (map (target l.level) pivots) (target l.level p)
+  pub first : (p q : Pivot) → Contains pivots p → IsPivot l.level q
+      → target l.level q ≡ target l.level p → ¬ (IsEarlierPivot l.level q p)
 
 -- the steps of a pivot
-abbrev pub steps_of : List Numbers → Move → List Step
-steps_of level m = steps_of_pivot (parent_of level m) m.row m.column
+abbrev pub steps_of : List Numbers → Pivot → List Step
+steps_of level p = steps_of_pivot (parent_of level p) p.row p.column
 
 -- how many bases the levels and these pivots have
-abbrev pub count : Levels → List Move → ℕ
-count l moves = length (l.before ++ l.level) + length moves
+abbrev pub basis_count : Levels → List Pivot → ℕ
+basis_count l pivots = length (l.before ++ l.level) + length pivots
 
 -- the greatest number of bases
-abbrev pub most : ℕ
-most = 20000
+abbrev pub most_bases : ℕ
+most_bases = 20000
 
 -- new is the tableau after the pivot
-pub record IsAfterPivot (level : List Numbers) (m : Move) (new : Numbers) : Type 0 where
+pub record IsAfterPivot (level : List Numbers) (p : Pivot) (new : Numbers) : Type 0 where
   pub is_tableau : IsTableau new
-  pub pivot : IsPivotOf (parent_of level m) m.row m.column new
+  pub pivot : IsPivotOf (parent_of level p) p.row p.column new
 
 -- level 0, of the start alone
 abbrev pub first_level : Numbers → Levels
 first_level start = record { before = []; level = start ∷ [] }
 
 -- l has the level after p: the tableaux after these pivots
-pub record IsNextLevel (p : Levels) (moves : List Move) (l : Levels) : Type 0 where
+pub record IsNextLevel (p : Levels) (pivots : List Pivot) (l : Levels) : Type 0 where
   pub before : l.before ≡ p.before ++ p.level
-  pub size : length l.level ≡ length moves
-  pub tableaux : (i : ℕ) → i < length moves
-      → IsAfterPivot p.level (get_or moves i no_move) (get_or l.level i no_tableau)
+  pub size : length l.level ≡ length pivots
+  pub tableaux : (i : ℕ) → i < length pivots
+      → IsAfterPivot p.level (get_or pivots i no_pivot) (get_or l.level i no_tableau)

@@ -1,5 +1,5 @@
 -- The marks of the basic solutions of tableaux
-use Rattle.std.specs.Prelude.{ℕ, ◌<◌, ◌≤◌, ◌≡◌, List, length, get_or, map, Option, Some, None}
+use Rattle.std.specs.Prelude.{ℕ, suc, ◌<◌, ◌≤◌, ◌≡◌, ◌≢◌, List, length, get_or, map, Option, Some, None}
 use Rattle.std.specs.List.{All, Contains}
 use Rattle.rational.specs.Rational.{ℚ}
 use Rattle.lex_tableau.specs.Rows.{Numbers, tableau}
@@ -14,6 +14,16 @@ use Rattle.basis_enum.specs.Vertices.{mark_of}
 -- each of the variables is one of 1 to n
 abbrev pub AreUpTo : ℕ → List ℕ → Type 0
 AreUpTo n variables = All (λ v. (0 < v) × (v ≤ n)) variables
+
+-- the row of the first n in which variable v is basic, or none
+abbrev pub IsRowTo : Numbers → ℕ → ℕ → Option ℕ → Type 0
+IsRowTo t n v None = (i : ℕ) → i < n → get_or t.basics i 0 ≢ v
+IsRowTo t n v (Some row) = (row < n) × (get_or t.basics row 0 ≡ v)
+
+-- that of each variable up to 128, for variable v at place v - 1
+pub record AreRowsTo (t : Numbers) (n : ℕ) (rows : List (Option ℕ)) : Type 0 where
+  pub size : length rows ≡ 128
+  pub each : (l : ℕ) → l < 128 → IsRowTo t n (suc l) (get_or rows l None)
 
 -- the values of variables in the basic solution
 abbrev pub values_of : Numbers → List ℕ → List ℚ
@@ -41,7 +51,7 @@ pub record AreMarksOf (s : Parts) (ts : List Numbers) (marks : List MarkedPoint)
       × IsMarkOf (variable_count s) (system_of s) (basic_solution (tableau t)) mark
 
 -- the same marks in ascending order of their masks, one of each mask
-pub record AreInOrder (old new : List MarkedPoint) : Type 0 where
+pub record AreSortedOnce (old new : List MarkedPoint) : Type 0 where
   pub kept : (mark : MarkedPoint) → Contains new mark → Contains old mark
   pub all : (mark : MarkedPoint) → Contains old mark
       → (other : MarkedPoint) × Contains new other × (mask_of other ≡ mask_of mark)

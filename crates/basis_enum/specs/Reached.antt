@@ -12,7 +12,7 @@ use Rattle.lex_tableau.specs.StartStops.{start_in}
 use Rattle.lex_tableau.specs.declared.tableau.StartStop.{StartStop}
 use Rattle.lex_tableau.specs.declared.tableau.StartStop.TheVariants as starts
 use Rattle.basis_enum.specs.Bases.{IsAscendingListOf}
-use Rattle.basis_enum.specs.Levels.{Levels, Move, AreNextMoves, IsNextLevel, parent_of, entering, steps_of, count, most, first_level}
+use Rattle.basis_enum.specs.Levels.{Levels, Pivot, AreNextPivots, IsNextLevel, parent_of, entering, steps_of, basis_count, most_bases, first_level}
 use Rattle.basis_enum.specs.declared.stop.EnumStop.{EnumStop}
 use Rattle.basis_enum.specs.declared.stop.EnumStop.TheVariants.{Start, Range, TooLarge, Memory}
 
@@ -28,35 +28,35 @@ start_level s = refused_by told_start (start_in s) >>= (λ start. only (first_le
 
 -- ---- the level after level k
 -- the pivots to it, where there are any
-abbrev pub next_moves : Levels → Answer EnumStop (List Move)
-next_moves l = such_that (λ moves. AreNextMoves l moves × (0 < length moves))
+abbrev pub next_pivots : Levels → Answer EnumStop (List Pivot)
+next_pivots l = such_that (λ pivots. AreNextPivots l pivots × (0 < length pivots))
 
 -- so many bases are not too many
 abbrev pub bases_within : ℕ → Answer EnumStop (Unit {0})
-bases_within bases = refused_by TooLarge (within what.Bases most bases)
+bases_within bases = refused_by TooLarge (within what.Bases most_bases bases)
 
 -- the first of these pivots with a step that does not fit is told by its level and basis, the
 -- variable that enters and the step
-pub record IsUnfitMove (k : ℕ) (level : List Numbers) (moves : List Move) (stop : EnumStop)
+pub record IsUnfitPivot (k : ℕ) (level : List Numbers) (pivots : List Pivot) (stop : EnumStop)
     : Type 0 where
-  pub move : Move
+  pub pivot : Pivot
   pub step : Step
-  pub first : IsFirstUnfitOf (steps_of level) moves move step
+  pub first : IsFirstUnfitOf (steps_of level) pivots pivot step
   pub basis : List ℕ
-  pub ascending : IsAscendingListOf (parent_of level move).basics basis
-  pub told : stop ≡ Range k basis (entering level move) step
+  pub ascending : IsAscendingListOf (parent_of level pivot).basics basis
+  pub told : stop ≡ Range k basis (entering level pivot) step
 
 -- the steps of these pivots from level k all fit
-abbrev pub pivots_fit : ℕ → List Numbers → List Move → Answer EnumStop (Unit {0})
-pivots_fit k level moves (Ok _) = all_fit (steps_of level) moves (Ok tt)
-pivots_fit k level moves (Err stop) = IsUnfitMove k level moves stop
+abbrev pub pivots_fit : ℕ → List Numbers → List Pivot → Answer EnumStop (Unit {0})
+pivots_fit k level pivots (Ok _) = all_fit (steps_of level) pivots (Ok tt)
+pivots_fit k level pivots (Err stop) = IsUnfitPivot k level pivots stop
 
 -- the pivots, the number of bases, the steps, and the tableaux after the pivots
 abbrev pub next_level : ℕ → Levels → Answer EnumStop Levels
 next_level k l =
-    next_moves l
-    >>= (λ moves. bases_within (count l moves)
-    >> (pivots_fit k l.level moves >> such_that (IsNextLevel l moves)))
+    next_pivots l
+    >>= (λ pivots. bases_within (basis_count l pivots)
+    >> (pivots_fit k l.level pivots >> such_that (IsNextLevel l pivots)))
 
 -- ---- all levels
 -- level k, and those before it
@@ -69,7 +69,7 @@ pub record AreReached (s : Parts) (reached : List Numbers) : Type 0 where
   pub number : ℕ
   pub levels : Levels
   pub is_level : level_of s number (Ok levels)
-  pub none : AreNextMoves levels []
+  pub none : AreNextPivots levels []
   pub all : reached ≡ levels.before ++ levels.level
 
 -- the tableaux of all levels; or why one of them is not reached

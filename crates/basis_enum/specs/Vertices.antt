@@ -13,8 +13,10 @@ pub record VertexList : Type 0 where
 abbrev pub mark_of : Vertex → MarkedPoint
 mark_of v = record { low = get_or v.mask 0 0; high = get_or v.mask 1 0; point = v.point.items }
 
+-- what vertices stand for, in their order
 abbrev pub marks_of : List Vertex → List MarkedPoint
 marks_of vertices = map mark_of vertices
 
+-- what an enumeration's answer stands for
 abbrev pub vertex_list : Vertices → VertexList
 vertex_list v = record { bases = v.bases; list = marks_of v.list.items }

@@ -5,17 +5,16 @@ use Rattle.std.specs.List.{Contains}
 use Rattle.std.specs.List.Sorted.{IsStrictlyIncreasing}
 use Rattle.lex_tableau.specs.Rows.{Numbers}
 use Rattle.lex_tableau.specs.Starts.{Parts, IsSystem}
-use Rattle.basis_enum.specs.Levels as L
-use Rattle.basis_enum.specs.Levels.{Levels}
+use Rattle.basis_enum.specs.Levels.{Levels, entering}
 use Rattle.basis_enum.specs.Reached.{bases_within, level_of, pivots_fit, reached_in}
-use Rattle.basis_enum.specs.declared.moves.Move.{Move}
+use Rattle.basis_enum.specs.declared.found_pivots.FoundPivot.{FoundPivot}
 use Rattle.basis_enum.specs.declared.stop.EnumStop.{EnumStop}
 use Rattle.basis_enum.specs.declared.stop.EnumStop.TheVariants.{Memory}
 use Rattle.basis_enum.specs.declared.vertex.Vertex.{Vertex}
 use Rattle.basis_enum.specs.declared.walk.Walk.{Walk}
 use Rattle.basis_enum.specs.Found.{AreKnown}
 use Rattle.basis_enum.specs.Marks.{AreMarksOf}
-use Rattle.basis_enum.specs.Next.{AreNewMoves, move_of}
+use Rattle.basis_enum.specs.Next.{AreNewPivots, pivot_of}
 use Rattle.basis_enum.specs.Vertices.{marks_of}
 
 -- a level, and those before it
@@ -37,16 +36,16 @@ pub record IsWalkAt (s : Parts) (k : ℕ) (w : Walk) : Type 0 where
 pub record IsWalkToEnd (s : Parts) (w : Walk) : Type 0 where
   pub number : ℕ
   pub walk : IsWalkAt s number w
-  pub none : AreNewMoves w.level.items w.known.items []
+  pub none : AreNewPivots w.level.items w.known.items []
 
 -- the entering variables are those of the columns
-abbrev pub HaveEntering : List Numbers → List Move → Type 0
-HaveEntering level moves =
-    (m : Move) → Contains moves m → m.entering ≡ L.entering level (move_of m)
+abbrev pub HaveEntering : List Numbers → List FoundPivot → Type 0
+HaveEntering level pivots =
+    (p : FoundPivot) → Contains pivots p → p.entering ≡ entering level (pivot_of p)
 
 -- why not all pivots from level k fit, or no memory
-abbrev pub IsMoveStop : List Numbers → List Move → ℕ → EnumStop → Type 0
-IsMoveStop level moves k stop = Gives Memory (pivots_fit k level (map move_of moves)) (Err stop)
+abbrev pub IsLevelStop : List Numbers → List FoundPivot → ℕ → EnumStop → Type 0
+IsLevelStop level pivots k stop = Gives Memory (pivots_fit k level (map pivot_of pivots)) (Err stop)
 
 -- so many bases are too many, or no memory
 abbrev pub IsCountStop : ℕ → EnumStop → Type 0
@@ -62,6 +61,7 @@ AddsVertices s level old new =
     (ts : List Numbers) → AreMarksOf s ts (marks_of old) → AreMarksOf s (ts ++ level) (marks_of new)
 
 -- where the vertices of a level's first tableaux are added, so are then those of more of them
-abbrev pub AddsMoreVertices : Parts → List Numbers → List Numbers → List Vertex → List Vertex → Type 0
+abbrev pub AddsMoreVertices
+    : Parts → List Numbers → List Numbers → List Vertex → List Vertex → Type 0
 AddsMoreVertices s some more old new =
     (first : List Vertex) → AddsVertices s some first old → AddsVertices s more first new

@@ -24,8 +24,8 @@ pub(crate) fn basis(nonbasics: &[u32]) -> u128
     ensures { result ≡ basis_of nonbasics.now }
 {
     let mut basis = 0;
-    for place in 0..nonbasics.len() {
-        basis += digit(nonbasics[place]);
+    for variable in nonbasics {
+        basis += digit(*variable);
     }
     basis
 }
@@ -49,10 +49,7 @@ pub(crate) fn is_known(known: &[u128], basis: u128) -> bool
     ensures known { result ≡ true → Contains known.now basis }
     ensures new { result ≡ false → ¬ (Contains known.now basis) }
 {
-    match known.binary_search(&basis) {
-        Ok(_) => true,
-        Err(_) => false,
-    }
+    known.binary_search(&basis).is_ok()
 }
 
 // Whether the next of the known bases comes before the next of the new ones.

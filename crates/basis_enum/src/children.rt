@@ -1,14 +1,14 @@
 // The tableaux of the next level.
 ghost use Rattle.std.specs.Prelude.{◌≡◌, ◌<◌, ◌≤◌, ◌+◌, ◌++◌, ◌∷◌, [], length, option_to_list, IfOk, IfErr, IfSome, MatchResult, OnOk};
 ghost use Rattle.lex_tableau.specs.PivotStops.{IsPivotStop};
-ghost use Rattle.basis_enum.specs.Levels.{IsMove, parent_of};
+ghost use Rattle.basis_enum.specs.Levels.{IsPivot, parent_of};
 ghost use Rattle.basis_enum.specs.Children.{AreAllChildren, ArePiecesFrom, IsChildAt, IsChildStop, IsChildStopAt, IsExpandable, IsMadeFrom, IsPivoted, IsReachedAt};
 ghost use Rattle.basis_enum.specs.Found.{AreFoundIn, AreReady};
-ghost use Rattle.basis_enum.specs.Next.{move_of};
+ghost use Rattle.basis_enum.specs.Next.{pivot_of};
 ghost use Rattle.basis_enum.specs.Walks.{AddsVertices, AddsMoreVertices};
 
+use crate::found_pivots::{Found, FoundPivot, found_from};
 use crate::marking::add_vertex;
-use crate::moves::{Found, Move, found_from};
 use crate::spent::SpentShare;
 use crate::vertex::Vertex;
 use answers::Memory;
@@ -31,7 +31,7 @@ const PIECES_ALONE: usize = 16;
 pub(crate) struct Expansion<'a, 's> {
     pub system: &'a System,
     pub level: &'a [Tableau],
-    pub moves: &'a [Move],
+    pub pivots: &'a [FoundPivot],
     pub known: &'a [u128],
     pub spent: SpentShare<'s>,
 }
@@ -90,15 +90,15 @@ fn pivoted<L: Ledger>(
     alloc: Global,
     spent: Option<Tableau>,
     level: &[Tableau],
-    next: &Move,
+    next: &FoundPivot,
     blank: Blank,
 ) -> Result<Tableau, PivotStop>
     requires level { AreReady level.now }
-    requires next { IsMove level.now (move_of next.now) }
+    requires next { IsPivot level.now (pivot_of next.now) }
     requires blank { (L.parts ≡ blank.parts) × (L.name ≡ blank.name) × (0 < blank.parts) }
-    ensures child { IfOk result (IsPivoted level.now (move_of next.now)) }
+    ensures child { IfOk result (IsPivoted level.now (pivot_of next.now)) }
     ensures stop { IfErr result
-        (IsPivotStop (parent_of level.now (move_of next.now)) next.now.row next.now.column) }
+        (IsPivotStop (parent_of level.now (pivot_of next.now)) next.now.row next.now.column) }
 {
     let mut pivots = PivotCount::<L>::new(blank);
     let parent = &level[next.parent as usize];
@@ -114,7 +114,7 @@ fn pivoted<L: Ledger>(
 // The tableau of a new basis.
 fn child(alloc: Global, expansion: &Expansion, place: usize) -> Result<Tableau, ChildStop>
     requires expandable { IsExpandable expansion.now }
-    requires place_in { place < length expansion.now.moves.now }
+    requires place_in { place < length expansion.now.pivots.now }
     ensures child { IfOk result (IsChildAt expansion.now place) }
     ensures stop { IfErr result (IsChildStopAt expansion.now place) }
 {
@@ -122,7 +122,7 @@ fn child(alloc: Global, expansion: &Expansion, place: usize) -> Result<Tableau, 
         alloc,
         expansion.spent.take(),
         expansion.level,
-        &expansion.moves[place],
+        &expansion.pivots[place],
         Blank::new(1),
     ) {
         Ok(tableau) => Ok(tableau),
@@ -140,7 +140,7 @@ fn piece<G: Gate>(
     gate: &G,
 ) -> Result<Reached, ChildStop>
     requires expandable { IsExpandable expansion.now }
-    requires place_in { place < length expansion.now.moves.now }
+    requires place_in { place < length expansion.now.pivots.now }
     ensures { MatchResult result (IsReachedAt expansion.now place)
         (IsChildStopAt expansion.now place) }
 {
@@ -151,7 +151,7 @@ fn piece<G: Gate>(
         expansion.system,
         &tableau,
         place as u32,
-        expansion.moves[place].target,
+        expansion.pivots[place].target,
         expansion.known,
     )?;
     Ok(Reached { tableau, found })
@@ -162,21 +162,21 @@ fn piece<G: Gate>(
 #[derive(Drop)]
 pub(crate) struct Made {
     tableaux: Vec<Tableau>,
-    moves: Vec<Move>,
+    pivots: Vec<FoundPivot>,
 }
 
 // Adds a tableau, its pivots and its vertex to those of its level.
 fn add_reached(reached: Reached, made: &mut Made, vertices: &mut Vec<Vertex>) -> Result<(), Memory>
     ensures tableaux { OnOk result
         (made.new.tableaux.items ≡ made.old.tableaux.items ++ reached.tableau ∷ []) }
-    ensures moves { OnOk result
-        (made.new.moves.items ≡ made.old.moves.items ++ reached.found.moves.items) }
+    ensures pivots { OnOk result
+        (made.new.pivots.items ≡ made.old.pivots.items ++ reached.found.pivots.items) }
     ensures vertices { OnOk result
         (vertices.new.items ≡ vertices.old.items ++ option_to_list reached.found.vertex) }
 {
     let mut reached = reached;
     made.tableaux.push(reached.tableau)?;
-    made.moves.append(&mut reached.found.moves)?;
+    made.pivots.append(&mut reached.found.pivots)?;
     add_vertex(vertices, reached.found.vertex)
 }
 
@@ -192,7 +192,7 @@ fn make_children<G: Gate, L: Ledger>(
 ) -> Result<(), ChildStop>
     requires expandable { IsExpandable expansion.now }
     requires made { IsMadeFrom expansion.now made.old }
-    requires left { length made.old.tableaux.items < length expansion.now.moves.now }
+    requires left { length made.old.tableaux.items < length expansion.now.pivots.now }
     ensures made { OnOk result (IsMadeFrom expansion.now made.new) }
     ensures more { OnOk result (length made.old.tableaux.items < length made.new.tableaux.items) }
     ensures vertices { OnOk result (AddsMoreVertices expansion.now.system.now
@@ -201,10 +201,11 @@ fn make_children<G: Gate, L: Ledger>(
     ensures counted { OnOk result (pivots.new + length made.old.tableaux.items
         ≡ pivots.old + length made.new.tableaux.items) }
     ensures bounded { pivots.new + length made.old.tableaux.items
-        ≤ pivots.old + length expansion.now.moves.now }
+        ≤ pivots.old + length expansion.now.pivots.now }
+    ensures risen { pivots.old ≤ pivots.new }
 {
     let first = made.tableaux.len();
-    let end = expansion.moves.len().min(first + PIECES_ALONE);
+    let end = expansion.pivots.len().min(first + PIECES_ALONE);
     for place in first..end {
         gate.pass(place);
         let reached = piece(alloc, expansion, place, gate)?;
@@ -236,7 +237,7 @@ fn boxed_piece<G: Gate>(
     gate: &G,
 ) -> Option<Box<Reached>>
     requires expandable { IsExpandable expansion.now }
-    requires place_in { place < length expansion.now.moves.now }
+    requires place_in { place < length expansion.now.pivots.now }
     ensures { IfSome result (λ b. IsReachedAt expansion.now place b.value) }
 {
     let reached = piece(alloc, expansion, place, gate).ok()?;
@@ -254,14 +255,14 @@ fn shared_pieces<R: Threads + Sync, G: Gate>(
     gate: &G,
 ) -> Result<Vec<Option<Box<Reached>>>, Memory>
     requires expandable { IsExpandable expansion.now }
-    requires first_in { first ≤ length expansion.now.moves.now }
+    requires first_in { first ≤ length expansion.now.pivots.now }
     ensures { IfOk result (λ v. ArePiecesFrom expansion.now first v.items) }
 {
     let (claims, mut pass) = Claims::new(alloc)?;
-    let count = expansion.moves.len() - first;
+    let count = expansion.pivots.len() - first;
     let work = |number: usize| -> Option<Box<Reached>>
         requires expandable { IsExpandable expansion.now }
-        requires place_in { first + number < length expansion.now.moves.now }
+        requires place_in { first + number < length expansion.now.pivots.now }
         ensures { IfSome result (λ b. IsReachedAt expansion.entry.now (first + number) b.value) }
     { boxed_piece(alloc, expansion, first + number, gate) };
     let gate = GateFrom { gate, first };
@@ -276,7 +277,7 @@ fn unboxed(
     boxed: Option<Box<Reached>>,
 ) -> Result<Reached, ChildStop>
     requires expandable { IsExpandable expansion.now }
-    requires place_in { place < length expansion.now.moves.now }
+    requires place_in { place < length expansion.now.pivots.now }
     requires boxed { IfSome boxed (λ b. IsReachedAt expansion.now place b.value) }
     ensures { MatchResult result (IsReachedAt expansion.now place)
         (IsChildStopAt expansion.now place) }
@@ -288,11 +289,11 @@ fn unboxed(
 }
 
 // How many pivots pieces found.
-fn move_count(pieces: &[Option<Box<Reached>>]) -> usize {
+fn found_count(pieces: &[Option<Box<Reached>>]) -> usize {
     let mut count: usize = 0;
     for piece in pieces.iter() {
         if let Some(reached) = piece {
-            count = count.saturating_add(reached.found.moves.len());
+            count = count.saturating_add(reached.found.pivots.len());
         }
     }
     count
@@ -312,20 +313,21 @@ fn share_children<R: Threads + Sync, G: Gate, L: Ledger>(
 ) -> Result<(), ChildStop>
     requires expandable { IsExpandable expansion.now }
     requires made { IsMadeFrom expansion.now made.old }
-    requires left { length made.old.tableaux.items < length expansion.now.moves.now }
+    requires left { length made.old.tableaux.items < length expansion.now.pivots.now }
     ensures made { OnOk result (IsMadeFrom expansion.now made.new) }
-    ensures all { OnOk result (length made.new.tableaux.items ≡ length expansion.now.moves.now) }
+    ensures all { OnOk result (length made.new.tableaux.items ≡ length expansion.now.pivots.now) }
     ensures vertices { OnOk result (AddsMoreVertices expansion.now.system.now
         made.old.tableaux.items made.new.tableaux.items vertices.old.items vertices.new.items) }
     ensures stop { IfErr result (IsChildStop expansion.now) }
     ensures counted { OnOk result (pivots.new + length made.old.tableaux.items
         ≡ pivots.old + length made.new.tableaux.items) }
     ensures bounded { pivots.new + length made.old.tableaux.items
-        ≤ pivots.old + length expansion.now.moves.now }
+        ≤ pivots.old + length expansion.now.pivots.now }
+    ensures risen { pivots.old ≤ pivots.new }
 {
     let first = made.tableaux.len();
     let pieces = shared_pieces(rt, alloc, expansion, first, helpers, gate)?;
-    made.moves.reserve(move_count(&pieces))?;
+    made.pivots.reserve(found_count(&pieces))?;
     for piece in pieces {
         let reached = unboxed(alloc, expansion, made.tableaux.len(), piece)?;
         pivots.tick();
@@ -348,7 +350,7 @@ fn make_more<R: Threads + Sync, G: Gate, L: Ledger>(
 ) -> Result<(), ChildStop>
     requires expandable { IsExpandable expansion.now }
     requires made { IsMadeFrom expansion.now made.old }
-    requires left { length made.old.tableaux.items < length expansion.now.moves.now }
+    requires left { length made.old.tableaux.items < length expansion.now.pivots.now }
     ensures made { OnOk result (IsMadeFrom expansion.now made.new) }
     ensures more { OnOk result (length made.old.tableaux.items < length made.new.tableaux.items) }
     ensures vertices { OnOk result (AddsMoreVertices expansion.now.system.now
@@ -357,9 +359,10 @@ fn make_more<R: Threads + Sync, G: Gate, L: Ledger>(
     ensures counted { OnOk result (pivots.new + length made.old.tableaux.items
         ≡ pivots.old + length made.new.tableaux.items) }
     ensures bounded { pivots.new + length made.old.tableaux.items
-        ≤ pivots.old + length expansion.now.moves.now }
+        ≤ pivots.old + length expansion.now.pivots.now }
+    ensures risen { pivots.old ≤ pivots.new }
 {
-    if helpers.are_free_for(expansion.moves.len() - made.tableaux.len()) {
+    if helpers.are_free_for(expansion.pivots.len() - made.tableaux.len()) {
         share_children(rt, alloc, expansion, helpers, gate, made, vertices, pivots)
     } else {
         make_children(alloc, expansion, gate, made, vertices, pivots)
@@ -377,24 +380,25 @@ pub(crate) fn children<R: Threads + Sync, G: Gate, L: Ledger>(
     gate: &G,
     vertices: &mut Vec<Vertex>,
     pivots: &mut PivotCount<L>,
-) -> Result<(Vec<Tableau>, Vec<Move>), ChildStop>
+) -> Result<(Vec<Tableau>, Vec<FoundPivot>), ChildStop>
     requires expandable { IsExpandable expansion.now }
     ensures children { IfOk result (λ p. AreAllChildren expansion.now p.0.items) }
     ensures found { IfOk result (λ p. AreFoundIn p.0.items expansion.now.known.now p.1.items) }
     ensures vertices { IfOk result (λ p. AddsVertices expansion.now.system.now p.0.items
         vertices.old.items vertices.new.items) }
     ensures stop { IfErr result (IsChildStop expansion.now) }
-    ensures counted { OnOk result (pivots.new ≡ pivots.old + length expansion.now.moves.now) }
-    ensures bounded { pivots.new ≤ pivots.old + length expansion.now.moves.now }
+    ensures counted { OnOk result (pivots.new ≡ pivots.old + length expansion.now.pivots.now) }
+    ensures bounded { pivots.new ≤ pivots.old + length expansion.now.pivots.now }
+    ensures risen { pivots.old ≤ pivots.new }
 {
     let mut made = Made {
-        tableaux: Vec::with_capacity(alloc, expansion.moves.len())?,
-        moves: Vec::new(alloc),
+        tableaux: Vec::with_capacity(alloc, expansion.pivots.len())?,
+        pivots: Vec::new(alloc),
     };
-    while made.tableaux.len() < expansion.moves.len() {
+    while made.tableaux.len() < expansion.pivots.len() {
         make_more(
             rt, alloc, expansion, helpers, gate, &mut made, vertices, pivots,
         )?;
     }
-    Ok((made.tableaux, made.moves))
+    Ok((made.tableaux, made.pivots))
 }

@@ -1,9 +1,10 @@
 // The vertices of a system.
-ghost use Rattle.std.specs.Prelude.{◌≡◌, ◌≤◌, ◌+◌, IfOk};
+ghost use Rattle.std.specs.Prelude.{◌≡◌, ◌<◌, ◌≤◌, ◌+◌, length, IfOk};
 ghost use Rattle.answers.specs.Answers.{Gives, map_ok};
 ghost use Rattle.basis_enum.specs.Systems.{IsEnumerable};
 ghost use Rattle.basis_enum.specs.declared.stop.EnumStop.TheVariants as stops;
 ghost use Rattle.basis_enum.specs.Enumeration.{vertices_in};
+ghost use Rattle.basis_enum.specs.Levels.{most_bases};
 ghost use Rattle.basis_enum.specs.Vertices.{vertex_list};
 
 use crate::marking::in_order;
@@ -23,8 +24,8 @@ use std::thread::Threads;
 /// all nonbasic variables are zero. Each is there once, in ascending order of the masks. So many
 /// workers share the pieces of work of a level that has many, each in a thread of its own where one
 /// can be made, and the answer is the same for any number of them. The gate is passed before each
-/// piece, but not before one that is made again to tell its refusal. The count of pivots rises
-/// by one for each basis but the first.
+/// piece, but not before one that is made again to tell its refusal. There are no more vertices
+/// than bases. The count of pivots rises by one for each basis but the first.
 ///
 /// # Errors
 ///
@@ -44,8 +45,10 @@ pub fn enumerate<R: Threads + Sync, G: Gate, L: Ledger>(
     requires workers { (1 ≤ workers) × (workers ≤ 64) }
     ensures vertices { Gives stops.Memory (vertices_in system.now) (map_ok result vertex_list) }
     ensures counted { IfOk result (λ v. pivots.new + 1 ≡ pivots.old + v.bases) }
-    ensures few { IfOk result (λ v. v.bases ≤ 20000) }
-    ensures bounded { pivots.new ≤ pivots.old + 19999 }
+    ensures few { IfOk result (λ v. v.bases ≤ most_bases) }
+    ensures fewer { IfOk result (λ v. length v.list.items ≤ v.bases) }
+    ensures bounded { pivots.new < pivots.old + most_bases }
+    ensures risen { pivots.old ≤ pivots.new }
 {
     let helpers = Helpers::new(workers - 1, FEWEST_SHARED);
     enumerate_with(rt, alloc, system, &helpers, gate, pivots)
@@ -69,8 +72,10 @@ pub fn enumerate_with<R: Threads + Sync, G: Gate, L: Ledger>(
     requires enumerable { IsEnumerable system.now }
     ensures vertices { Gives stops.Memory (vertices_in system.now) (map_ok result vertex_list) }
     ensures counted { IfOk result (λ v. pivots.new + 1 ≡ pivots.old + v.bases) }
-    ensures few { IfOk result (λ v. v.bases ≤ 20000) }
-    ensures bounded { pivots.new ≤ pivots.old + 19999 }
+    ensures few { IfOk result (λ v. v.bases ≤ most_bases) }
+    ensures fewer { IfOk result (λ v. length v.list.items ≤ v.bases) }
+    ensures bounded { pivots.new < pivots.old + most_bases }
+    ensures risen { pivots.old ≤ pivots.new }
 {
     let walk = reach(rt, alloc, system, helpers, gate, pivots)?;
     Ok(Vertices {

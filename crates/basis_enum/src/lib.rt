@@ -2,9 +2,9 @@
 //! reach.
 //!
 //! Callers may rely on: `enumerate` gives each vertex once, in the order of masks, with the number
-//! of bases, or the first step that does not fit, or the limit; the pivots that are counted are one
-//! fewer than the bases. `enumerate_with` gives the same by `Helpers`, idle workers that several
-//! enumerations share.
+//! of bases, which are no fewer, or the first step that does not fit, or the limit; the pivots that
+//! are counted are one fewer than the bases. `enumerate_with` gives the same by `Helpers`, idle
+//! workers that several enumerations share.
 //! Definitions: `specs::Reached` has the bases of a system in stages, level by level, `Levels` what
 //! levels are, `Bases` bases as numbers, `Enumeration` what a system answers; `linear_systems` says
 //! what vertices are.
@@ -21,8 +21,8 @@ ghost use Rattle.basis_enum.specs.Reached.{ReachedAreSingle};
 mod bases;
 mod children;
 mod enumeration;
+mod found_pivots;
 mod marking;
-mod moves;
 mod spent;
 mod stop;
 mod vertex;

@@ -1,12 +1,12 @@
 // The vertices of tableaux' basic solutions.
-ghost use Rattle.std.specs.Prelude.{◌≡◌, ◌+◌, ◌*◌, ◌/◌, ◌%◌, ◌-◌, ◌^◌, ◌++◌, ◌≤◌, suc, get_or, ◌≢◌, option_to_list, IfOk, MatchBool, OnOk};
+ghost use Rattle.std.specs.Prelude.{◌≡◌, ◌+◌, ◌*◌, ◌/◌, ◌%◌, ◌-◌, ◌^◌, ◌++◌, ◌<◌, ◌≤◌, suc, length, get_or, ◌≢◌, option_to_list, IfOk, MatchBool, OnOk};
 ghost use Rattle.std.specs.List.{All, Any};
 ghost use Rattle.rational.specs.Rational.{zero_ℚ};
 ghost use Rattle.lex_tableau.specs.Rows.{tableau as fractions_of};
 ghost use Rattle.linear_systems.specs.Rows.{basic_solution};
 ghost use Rattle.linear_systems.specs.Vertices.{IsZeroWord, mask_of};
-ghost use Rattle.basis_enum.specs.Marks.{AreInOrder, AreUpTo, IsVertexOf, values_of};
-ghost use Rattle.basis_enum.specs.Systems.{variable_count};
+ghost use Rattle.basis_enum.specs.Marks.{AreRowsTo, AreSortedOnce, AreUpTo, IsVertexOf, values_of};
+ghost use Rattle.basis_enum.specs.Systems.{IsEnumerable, variable_count};
 ghost use Rattle.basis_enum.specs.Vertices.{mark_of, marks_of};
 
 use crate::vertex::Vertex;
@@ -16,6 +16,9 @@ use std::alloc::Global;
 
 // How many masks a word has.
 const WORD: u128 = 1 << 64;
+
+// How many variables a system has at most.
+const MOST_VARIABLES: usize = 128;
 
 // The number with so many bits, all set.
 fn ones(count: usize) -> u128
@@ -58,13 +61,41 @@ fn number(vertex: &Vertex) -> u128
     u128::from(vertex.mask[0]) + WORD * u128::from(vertex.mask[1])
 }
 
+// The row of each basic variable, at the place of the variable: that of variable v is v - 1.
+fn rows_of(tableau: &Tableau) -> [Option<usize>; MOST_VARIABLES]
+    requires { AreUpTo 128 tableau.now.basics }
+    ensures { AreRowsTo tableau.now (length tableau.now.basics) result }
+{
+    let mut rows = [None; MOST_VARIABLES];
+    for (row, variable) in tableau.basics().iter().enumerate() {
+        rows[*variable as usize - 1] = Some(row);
+    }
+    rows
+}
+
+// The value of a variable in a basic solution: the right side of its row, and 0 where it has none.
+fn value(tableau: &Tableau, rows: &[Option<usize>], variable: u32) -> Frac
+    requires rows { AreRowsTo tableau.now (length tableau.now.basics) rows.now }
+    requires above { 0 < variable }
+    requires most { variable ≤ 128 }
+    ensures { result ≡ basic_solution (fractions_of tableau.now) variable }
+{
+    match rows[variable as usize - 1] {
+        Some(row) => tableau.right(row),
+        None => Frac::zero(),
+    }
+}
+
 // The values of variables in a basic solution.
 fn values(alloc: Global, tableau: &Tableau, variables: &[u32]) -> Result<Vec<Frac>, Memory>
+    requires basics { AreUpTo 128 tableau.now.basics }
+    requires variables { AreUpTo 128 variables.now }
     ensures { IfOk result (λ v. v.items ≡ values_of tableau.now variables.now) }
 {
+    let rows = rows_of(tableau);
     let mut values = Vec::with_capacity(alloc, variables.len())?;
     for variable in variables {
-        values.push(tableau.value(*variable))?;
+        values.push(value(tableau, &rows, *variable))?;
     }
     Ok(values)
 }
@@ -84,7 +115,7 @@ pub(crate) fn vertex_of(
     system: &System,
     tableau: &Tableau,
 ) -> Result<Option<Vertex>, Memory>
-    requires few { variable_count system.now ≤ 128 }
+    requires enumerable { IsEnumerable system.now }
     requires numbered { AreUpTo (variable_count system.now) tableau.now.basics }
     ensures { IfOk result (IsVertexOf system.now tableau.now) }
 {
@@ -109,7 +140,7 @@ pub(crate) fn add_vertex(vertices: &mut Vec<Vertex>, vertex: Option<Vertex>) -> 
 
 /// The vertices in ascending order of their masks, one of each mask.
 pub(crate) fn in_order(vertices: Vec<Vertex>) -> Vec<Vertex>
-    ensures { AreInOrder (marks_of vertices.items) (marks_of result.items) }
+    ensures { AreSortedOnce (marks_of vertices.items) (marks_of result.items) }
 {
     let mut vertices = vertices;
     vertices.sort_unstable_by_key(|vertex: &Vertex| number(vertex));

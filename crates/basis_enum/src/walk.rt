@@ -6,15 +6,16 @@ ghost use Rattle.basis_enum.specs.Bases.{IsAscendingListOf};
 ghost use Rattle.basis_enum.specs.Systems.{IsEnumerable};
 ghost use Rattle.basis_enum.specs.Children.{AreAllChildren, IsChildStop, IsExpandable};
 ghost use Rattle.basis_enum.specs.Found.{AreFoundIn};
+ghost use Rattle.basis_enum.specs.Levels.{most_bases};
 ghost use Rattle.basis_enum.specs.Merged.{IsMerged};
-ghost use Rattle.basis_enum.specs.Next.{AreNewMoves, target_of};
+ghost use Rattle.basis_enum.specs.Next.{AreNewPivots, target_of};
 ghost use Rattle.basis_enum.specs.Reached.{bases_within};
-ghost use Rattle.basis_enum.specs.Walks.{AddsVertices, HaveEntering, IsCountStop, IsEnumStop, IsMoveStop, IsWalkAt, IsWalkToEnd};
+ghost use Rattle.basis_enum.specs.Walks.{AddsVertices, HaveEntering, IsCountStop, IsEnumStop, IsLevelStop, IsWalkAt, IsWalkToEnd};
 
 use crate::bases::{basis, merged};
 use crate::children::{ChildStop, Expansion, children};
+use crate::found_pivots::{FoundPivot, found_from, next_pivots, targets};
 use crate::marking::add_vertex;
-use crate::moves::{Move, found_from, next_moves, targets};
 use crate::spent::Spent;
 use crate::stop::{Basis, EnumStop};
 use crate::vertex::Vertex;
@@ -51,10 +52,14 @@ fn list_of<T: Drop>(alloc: Global, item: T) -> Result<Vec<T>, Memory>
 }
 
 // Level 0, and the pivots to the next one.
-fn start<G: Gate>(alloc: Global, system: &System, gate: &G) -> Result<(Walk, Vec<Move>), EnumStop>
+fn start<G: Gate>(
+    alloc: Global,
+    system: &System,
+    gate: &G,
+) -> Result<(Walk, Vec<FoundPivot>), EnumStop>
     requires enumerable { IsEnumerable system.now }
     ensures walk { IfOk result (λ p. IsWalkAt system.now 0 p.0) }
-    ensures moves { IfOk result (λ p. AreNewMoves p.0.level.items p.0.known.items p.1.items) }
+    ensures pivots { IfOk result (λ p. AreNewPivots p.0.level.items p.0.known.items p.1.items) }
     ensures one { IfOk result (λ p. length p.0.known.items ≡ 1) }
     ensures stop { IfErr result (IsEnumStop system.now) }
 {
@@ -66,13 +71,13 @@ fn start<G: Gate>(alloc: Global, system: &System, gate: &G) -> Result<(Walk, Vec
     let level = list_of(alloc, tableau)?;
     let mut vertices = Vec::new(alloc);
     add_vertex(&mut vertices, found.vertex)?;
-    let moves = next_moves(found.moves);
+    let pivots = next_pivots(found.pivots);
     let walk = Walk {
         level,
         known,
         vertices,
     };
-    Ok((walk, moves))
+    Ok((walk, pivots))
 }
 
 // These variables, in ascending order.
@@ -88,13 +93,13 @@ fn ascending(alloc: Global, variables: &[u32]) -> Result<Vec<u32>, Memory>
 // The refusal of the next level.
 fn refusal(alloc: Global, expansion: &Expansion, number: u32, stop: ChildStop) -> EnumStop
     requires expandable { IsExpandable expansion.now }
-    requires entering { HaveEntering expansion.now.level.now expansion.now.moves.now }
+    requires entering { HaveEntering expansion.now.level.now expansion.now.pivots.now }
     requires stop { IsChildStop expansion.now stop }
-    ensures { IsMoveStop expansion.now.level.now expansion.now.moves.now number result }
+    ensures { IsLevelStop expansion.now.level.now expansion.now.pivots.now number result }
 {
     match stop {
         ChildStop::Unfit { place, unfit } => {
-            let next = expansion.moves[place];
+            let next = expansion.pivots[place];
             match ascending(alloc, expansion.level[next.parent as usize].basics()) {
                 Ok(variables) => EnumStop::Range {
                     level: number,
@@ -120,17 +125,18 @@ fn next_level<R: Threads + Sync, G: Gate, L: Ledger>(
     gate: &G,
     vertices: &mut Vec<Vertex>,
     pivots: &mut PivotCount<L>,
-) -> Result<(Vec<Tableau>, Vec<Move>), EnumStop>
+) -> Result<(Vec<Tableau>, Vec<FoundPivot>), EnumStop>
     requires expandable { IsExpandable expansion.now }
-    requires entering { HaveEntering expansion.now.level.now expansion.now.moves.now }
+    requires entering { HaveEntering expansion.now.level.now expansion.now.pivots.now }
     ensures children { IfOk result (λ p. AreAllChildren expansion.now p.0.items) }
     ensures found { IfOk result (λ p. AreFoundIn p.0.items expansion.now.known.now p.1.items) }
     ensures vertices { IfOk result (λ p. AddsVertices expansion.now.system.now p.0.items
         vertices.old.items vertices.new.items) }
     ensures stop { IfErr result
-        (IsMoveStop expansion.now.level.now expansion.now.moves.now number) }
-    ensures counted { OnOk result (pivots.new ≡ pivots.old + length expansion.now.moves.now) }
-    ensures bounded { pivots.new ≤ pivots.old + length expansion.now.moves.now }
+        (IsLevelStop expansion.now.level.now expansion.now.pivots.now number) }
+    ensures counted { OnOk result (pivots.new ≡ pivots.old + length expansion.now.pivots.now) }
+    ensures bounded { pivots.new ≤ pivots.old + length expansion.now.pivots.now }
+    ensures risen { pivots.old ≤ pivots.new }
 {
     match children(rt, alloc, expansion, helpers, gate, vertices, pivots) {
         Ok(next) => Ok(next),
@@ -139,62 +145,64 @@ fn next_level<R: Threads + Sync, G: Gate, L: Ledger>(
 }
 
 // Refuses too many bases.
-fn check_count(bases: usize, moves: &[Move]) -> Result<(), EnumStop>
-    requires { bases ≤ 20000 }
-    ensures few { OnOk result (bases + length moves.now ≤ 20000) }
-    ensures stop { IfErr result (λ stop. bases_within (bases + length moves.now) (Err stop)) }
+fn check_count(bases: usize, pivots: &[FoundPivot]) -> Result<(), EnumStop>
+    requires { bases ≤ most_bases }
+    ensures few { OnOk result (bases + length pivots.now ≤ most_bases) }
+    ensures stop { IfErr result (λ stop. bases_within (bases + length pivots.now) (Err stop)) }
 {
-    let count = bases as u64 + moves.len() as u64;
+    let count = bases as u64 + pivots.len() as u64;
     Ok(TooLarge::within(What::Bases, MOST_BASES, count)?)
 }
 
 // The bases that are known, and with them those to which these pivots lead.
-fn known_after(alloc: Global, known: &[u128], moves: &[Move]) -> Result<Vec<u128>, EnumStop>
-    requires few { length known.now ≤ 20000 }
+fn known_after(alloc: Global, known: &[u128], pivots: &[FoundPivot]) -> Result<Vec<u128>, EnumStop>
+    requires few { length known.now ≤ most_bases }
     requires known { IsStrictlyIncreasing known.now }
-    requires rising { IsStrictlyIncreasing (map target_of moves.now) }
-    requires new { (b : ℕ) → Contains known.now b → ¬ (Contains (map target_of moves.now) b) }
-    ensures few { OnOk result (length known.now + length moves.now ≤ 20000) }
-    ensures merged { IfOk result (λ v. IsMerged known.now (map target_of moves.now) v.items) }
-    ensures stop { IfErr result (IsCountStop (length known.now + length moves.now)) }
+    requires rising { IsStrictlyIncreasing (map target_of pivots.now) }
+    requires new { (b : ℕ) → Contains known.now b → ¬ (Contains (map target_of pivots.now) b) }
+    ensures few { OnOk result (length known.now + length pivots.now ≤ most_bases) }
+    ensures merged { IfOk result (λ v. IsMerged known.now (map target_of pivots.now) v.items) }
+    ensures stop { IfErr result (IsCountStop (length known.now + length pivots.now)) }
 {
-    check_count(known.len(), moves)?;
-    let new = targets(alloc, moves)?;
+    check_count(known.len(), pivots)?;
+    let new = targets(alloc, pivots)?;
     Ok(merged(alloc, known, new.as_slice())?)
 }
 
-// Goes on to the next level, and finds the pivots from there. The tableaux of this level are spent.
+// Goes on to the next level by the pivots to it, and finds those from there. The tableaux of this
+// level are spent.
 fn advance<R: Threads + Sync, G: Gate, L: Ledger>(
     rt: &R,
     alloc: Global,
     system: &System,
     walk: &mut Walk,
     spent: &mut Spent,
-    moves: &[Move],
+    next: &[FoundPivot],
     number: u32,
     helpers: &Helpers,
     gate: &G,
     pivots: &mut PivotCount<L>,
-) -> Result<Vec<Move>, EnumStop>
+) -> Result<Vec<FoundPivot>, EnumStop>
     requires enumerable { IsEnumerable system.now }
     requires walk { IsWalkAt system.now number walk.old }
-    requires moves { AreNewMoves walk.old.level.items walk.old.known.items moves.now }
-    requires some { 0 < length moves.now }
+    requires next { AreNewPivots walk.old.level.items walk.old.known.items next.now }
+    requires some { 0 < length next.now }
     ensures walk { OnOk result (IsWalkAt system.now (number + 1) walk.new) }
-    ensures moves { IfOk result
-        (λ v. AreNewMoves walk.new.level.items walk.new.known.items v.items) }
+    ensures next { IfOk result
+        (λ v. AreNewPivots walk.new.level.items walk.new.known.items v.items) }
     ensures stop { IfErr result (IsEnumStop system.now) }
     ensures counted { OnOk result (pivots.new + length walk.old.known.items
         ≡ pivots.old + length walk.new.known.items) }
-    ensures bounded { pivots.new + length walk.old.known.items ≤ pivots.old + 20000 }
+    ensures bounded { pivots.new + length walk.old.known.items ≤ pivots.old + most_bases }
+    ensures risen { pivots.old ≤ pivots.new }
 {
-    let known = known_after(alloc, walk.known.as_slice(), moves)?;
+    let known = known_after(alloc, walk.known.as_slice(), next)?;
     let expansion = Expansion {
         system,
         level: walk.level.as_slice(),
-        moves,
+        pivots: next,
         known: known.as_slice(),
-        spent: spent.share_among(moves.len()),
+        spent: spent.share_among(next.len()),
     };
     let vertices = &mut walk.vertices;
     let (level, found) = next_level(
@@ -202,7 +210,7 @@ fn advance<R: Threads + Sync, G: Gate, L: Ledger>(
     )?;
     spent.add(mem::replace(&mut walk.level, level));
     walk.known = known;
-    Ok(next_moves(found))
+    Ok(next_pivots(found))
 }
 
 // Goes from level to level, to the last one.
@@ -218,19 +226,20 @@ pub(crate) fn reach<R: Threads + Sync, G: Gate, L: Ledger>(
     ensures walk { IfOk result (IsWalkToEnd system.now) }
     ensures stop { IfErr result (IsEnumStop system.now) }
     ensures counted { IfOk result (λ w. pivots.new + 1 ≡ pivots.old + length w.known.items) }
-    ensures bounded { pivots.new ≤ pivots.old + 19999 }
+    ensures bounded { pivots.new < pivots.old + most_bases }
+    ensures risen { pivots.old ≤ pivots.new }
 {
-    let (mut walk, mut moves) = start(alloc, system, gate)?;
+    let (mut walk, mut next) = start(alloc, system, gate)?;
     let mut spent = Spent::new(alloc)?;
     let mut number = 0;
-    while !moves.is_empty() {
-        moves = advance(
+    while !next.is_empty() {
+        next = advance(
             rt,
             alloc,
             system,
             &mut walk,
             &mut spent,
-            moves.as_slice(),
+            next.as_slice(),
             number,
             helpers,
             gate,

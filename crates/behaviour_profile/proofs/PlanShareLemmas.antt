@@ -18,8 +18,8 @@ use Rattle.sequence_data.specs.Data.{SideData}
 use Rattle.rational.specs.Sum.{entry_at}
 use Rattle.sequence_data.specs.declared.types.SetRow.{SetRow}
 use Rattle.sequence_form.specs.Sequences.{own_set_row, tree_side}
-use Rattle.behaviour_profile.specs.Plans.{OwnAction, actions_at, quotient_steps}
-use Rattle.behaviour_profile.specs.Shares.{actions_of, share_at, share_steps, steps_at}
+use Rattle.behaviour_profile.specs.Plans.{OwnAction, actions_at, quotient_steps, share_steps}
+use Rattle.behaviour_profile.specs.Shares.{actions_of, share_at, steps_at}
 use Rattle.frac128.proofs.UnfitListLemmas.{first_of-map}
 
 module _ (t : Tree) (i place : ℕ) (rows : List SetRow) (side : SideData) (rows_are : rows ≡ side.sets) (side_is : side ≡ tree_side t i) (l : place < length rows) where

@@ -18,7 +18,8 @@ use Rattle.frac128.proofs.FirstUnfitLemmas.{fits_next, first_unfit_here}
 use Rattle.rational.specs.Sum.{entry_at}
 use Rattle.sequence_data.specs.declared.types.SetRow.{SetRow}
 use Rattle.sequence_data.proofs.PlaceLemmas.{get_or-inside}
-use Rattle.behaviour_profile.specs.Shares.{actions_of, share_at, share_steps, steps_at}
+use Rattle.behaviour_profile.specs.Plans.{share_steps}
+use Rattle.behaviour_profile.specs.Shares.{actions_of, share_at, steps_at}
 
 -- whether the weight before is 0
 test-zero : (before : ℚ) → before ≡ zero_ℚ → eq_ℚ before zero_ℚ ≡ true

@@ -33,11 +33,15 @@ actions_at t i s = map (λ a. record { player = i; set = s; action = a }) (range
 abbrev pub own_actions : Tree → ℕ → List OwnAction
 own_actions t i = flat_map (actions_at t i) (own_sets t i)
 
--- The step at an action: the weight of its sequence is divided by the weight before its set; there is none where that weight is 0.
+-- the step of a share: the weight after is divided by the weight before; there is none where that is 0
+abbrev pub share_steps : ℚ → ℚ → List Step
+share_steps before after = if eq_ℚ before zero_ℚ then [] else unfit Div after before ∷ []
+
+-- the step at an action: the weight before its set and that of its sequence give its share
 abbrev pub quotient_steps : Tree → (ℕ → ℕ → ℚ) → OwnAction → List Step
 quotient_steps t plans k =
-    let before : ℚ = plans k.player (sequence_before t k.player k.set) in
-    if eq_ℚ before zero_ℚ then [] else unfit Div (plans k.player (sequence t k.player (Some (k.set, k.action)))) before ∷ []
+    share_steps (plans k.player (sequence_before t k.player k.set))
+    (plans k.player (sequence t k.player (Some (k.set, k.action))))
 
 -- ---- the behaviour
 -- the plans of two lists of weights

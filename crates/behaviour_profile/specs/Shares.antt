@@ -1,24 +1,17 @@
 -- The shares of a player's plan at a set, and the first that does not fit.
-use Rattle.std.specs.Prelude.{ℕ, ◌+◌, List, [], ◌∷◌, if◌then◌else◌}
+use Rattle.std.specs.Prelude.{ℕ, ◌+◌, List}
 use Rattle.std.specs.List.{range_with_len}
 use Rattle.answers.specs.Answers.{Answer, refused_by}
-use Rattle.rational.specs.Rational.{ℚ, zero_ℚ}
-use Rattle.rational.specs.Tests.{eq_ℚ}
-use Rattle.frac128.specs.Steps.{unfit, Step}
-use Rattle.frac128.specs.declared.steps.Op.TheVariants.{Div}
+use Rattle.rational.specs.Rational.{ℚ}
+use Rattle.frac128.specs.Steps.{Step}
 use Rattle.frac128.specs.FirstUnfit.{all_fit}
 use Rattle.sequence_forms.specs.PlanBehaviour.{share}
 use Rattle.rational.specs.Sum.{entry_at}
 use Rattle.sequence_data.specs.declared.types.SetRow.{SetRow}
+use Rattle.behaviour_profile.specs.Plans.{share_steps}
 use Rattle.behaviour_profile.specs.declared.plans.BehaviourStop.{BehaviourStop}
 use Rattle.behaviour_profile.specs.declared.plans.BehaviourStop.TheVariants as stops
 
--- ---- an action
--- the step of a share: the weight after is divided by the weight before; there is none where that is 0
-abbrev pub share_steps : ℚ → ℚ → List Step
-share_steps before after = if eq_ℚ before zero_ℚ then [] else unfit Div after before ∷ []
-
--- ---- a set
 -- the share of action a of a set
 abbrev pub share_at : List ℚ → SetRow → ℕ → ℚ
 share_at weights row a = share row.count (entry_at weights row.before) (entry_at weights (row.first + a))

@@ -25,8 +25,8 @@ ghost use Rattle.rational.specs.Sum.{entry_at};
 ghost use Rattle.sequence_form.specs.Forms.{tree_form};
 ghost use Rattle.sequence_form.specs.Sequences.{tree_side};
 ghost use Rattle.behaviour_profile.specs.declared.plans.BehaviourStop.TheVariants as stops;
-ghost use Rattle.behaviour_profile.specs.Plans.{label_of, own_quotients_in, plan_behaviour};
-ghost use Rattle.behaviour_profile.specs.Shares.{share_at, share_steps, shares_in};
+ghost use Rattle.behaviour_profile.specs.Plans.{label_of, own_quotients_in, plan_behaviour, share_steps};
+ghost use Rattle.behaviour_profile.specs.Shares.{share_at, shares_in};
 
 use crate::Behaviour;
 use frac128::{Frac, Unfit};
@@ -148,7 +148,7 @@ fn push_plan(
 impl Behaviour {
     /// The behaviour of two plans on a tree: each action's entry is its sequence's weight divided by the weight
     /// before its set, and where that is 0, 1 divided by the number of actions. `form` is the tree's sequence form;
-    /// `one` and `two` have a weight for each sequence of players one and two. Time in proportion to entries.
+    /// `one` and `two` have a weight for each sequence of players one and two.
     ///
     /// # Errors
     ///

@@ -1,4 +1,4 @@
--- The ends of the walk are exactly the choice lists, each once.
+-- The ends of the walk are exactly the reduced strategies, each once.
 use Rattle.std.proofs.Common.{ℕ, zero, suc, ◌+◌, ◌<◌, ◌≤◌, ◌≡◌, ◌≢◌, ◌⊎◌, inl, inr, Bool, true, false, ◌&&◌, Some, None, List, [], ◌∷◌, ◌++◌, length, get_or, set, replicate, All, Contains, refl, sym, ap, ◌∙◌, subst, arith}
 use Rattle.std.specs.Prelude.{◌==◌, ◌-◌, slice_get, if◌then◌else◌}
 use Rattle.std.specs.List.{AllPairs}
@@ -9,9 +9,9 @@ use Rattle.std.proofs.lemmas.List.{ext_get_or, get_or-set_same, get_or-set_other
 use Rattle.std.proofs.lemmas.List.Elements.{All-nil, All-cons, All-append, Contains-append_left, Contains-append_right}
 use Rattle.std.proofs.lemmas.List.Kept.{AllPairs-cons}
 use Rattle.choice_lists.specs.declared.decision.Decision.{Decision}
-use Rattle.choice_lists.specs.Walks.{AreLinked, IsWalk}
+use Rattle.choice_lists.specs.Reduced.{AreLinked, IsReducedBy}
 use Rattle.choice_lists.specs.Ends.{is_led_to, branches, ends}
-use Rattle.choice_lists.proofs.ReachedDecisionLemmas.{Extends, IsOnWay, IsOnWay-start, IsOnWay-branch, IsOnWay-pass, AreBelow, IsWalk-end, told-reached, told-extends, led-extends, led-reached, place-within}
+use Rattle.choice_lists.proofs.ReachedDecisionLemmas.{Extends, IsOnWay, IsOnWay-start, IsOnWay-branch, IsOnWay-pass, AreBelow, IsReducedBy-end, told-reached, told-extends, led-extends, led-reached, place-within}
 
 -- ---- branches
 -- what holds in each branch holds in all
@@ -123,26 +123,26 @@ AreRest-none decisions n r k d at = elim (cases_lt k n) [
 pub AreRest-all : (decisions : List Decision) → AreRest decisions 0 decisions
 AreRest-all decisions k = let e : k ≡ 0 + k = omega arith in ap (slice_get decisions) e
 
--- ---- each end is a choice list
+-- ---- each end is a reduced strategy
 ends-sound : (decisions : List Decision) (actions : List ℕ) (ds : List Decision) (reach : List Bool) (choices : List ℕ) (n : ℕ) → AreLinked decisions actions → AreRest decisions n ds → IsOnWay decisions actions reach choices n
-    → All (IsWalk decisions actions) (ends actions ds reach choices)
+    → All (IsReducedBy decisions actions) (ends actions ds reach choices)
 ends-sound decisions actions [] reach choices n w r o =
-    subst (All (IsWalk decisions actions)) (sym (ends-nil actions reach choices))
-    (All-cons (IsWalk decisions actions) choices [] (IsWalk-end decisions actions reach choices n w o (AreRest-none decisions n r)) (All-nil (IsWalk decisions actions)))
+    subst (All (IsReducedBy decisions actions)) (sym (ends-nil actions reach choices))
+    (All-cons (IsReducedBy decisions actions) choices [] (IsReducedBy-end decisions actions reach choices n w o (AreRest-none decisions n r)) (All-nil (IsReducedBy decisions actions)))
 ends-sound decisions actions (d ∷ ds) reach choices n w r o =
     let at = AreRest-first decisions n d ds r in
     let rest = AreRest-later decisions n d ds r in
     elim (branches_or_passes reach choices d) [
-      | inl b ↦ subst (All (IsWalk decisions actions)) (sym (ends-branch actions d ds reach choices b))
-          (All-branches (IsWalk decisions actions) (ends_with actions d ds reach choices) 1 (get_or actions d.place 0)
+      | inl b ↦ subst (All (IsReducedBy decisions actions)) (sym (ends-branch actions d ds reach choices b))
+          (All-branches (IsReducedBy decisions actions) (ends_with actions d ds reach choices) 1 (get_or actions d.place 0)
           (λ a low high. ends-sound decisions actions ds (reach ++ true ∷ []) (set choices d.place a) (suc n) w rest (IsOnWay-branch decisions actions reach choices n d a w o at b.0 b.1 (omega arith) (omega arith))))
-      | inr p ↦ subst (All (IsWalk decisions actions)) (sym (ends-pass actions d ds reach choices p))
+      | inr p ↦ subst (All (IsReducedBy decisions actions)) (sym (ends-pass actions d ds reach choices p))
           (ends-sound decisions actions ds (reach ++ is_led_to reach choices d.before ∷ []) choices (suc n) w rest (IsOnWay-pass decisions actions reach choices n d w o at p))
     ]
 
--- ---- each choice list is an end
+-- ---- each reduced strategy is an end
 -- choices that go on from those at the end are these
-extended_end : (decisions : List Decision) (actions : List ℕ) (reach : List Bool) (choices other : List ℕ) (n : ℕ) → AreLinked decisions actions → AreBelow decisions n → IsOnWay decisions actions reach choices n → IsWalk decisions actions other → Extends choices other
+extended_end : (decisions : List Decision) (actions : List ℕ) (reach : List Bool) (choices other : List ℕ) (n : ℕ) → AreLinked decisions actions → AreBelow decisions n → IsOnWay decisions actions reach choices n → IsReducedBy decisions actions other → Extends choices other
     → (p : ℕ) → p < length actions → get_or choices p 0 ≡ get_or other p 0
 extended_end decisions actions reach choices other n w all o is x p l = elim (cases_lt 0 (get_or choices p 0)) [
   | inl h ↦ sym (x p h)
@@ -164,16 +164,16 @@ Extends-set choices other place x l p h = elim (cases_eq p place) [
   | inr ne ↦ let other_place = get_or-set_other choices place p (get_or other place 0) 0 ne in x p (subst (λ v. 0 < v) other_place h) ∙ sym other_place
 ]
 
--- a choice list that goes on from the choices has an action where the walk branches
+-- a reduced strategy that goes on from the choices has an action where the walk branches
 branch-action : (decisions : List Decision) (actions : List ℕ) (reach : List Bool) (choices other : List ℕ) (n : ℕ) (d : Decision) → AreLinked decisions actions → IsOnWay decisions actions reach choices n → slice_get decisions n ≡ Some d
-    → is_led_to reach choices d.before ≡ true → IsWalk decisions actions other → Extends choices other → 0 < get_or other d.place 0
+    → is_led_to reach choices d.before ≡ true → IsReducedBy decisions actions other → Extends choices other → 0 < get_or other d.place 0
 branch-action decisions actions reach choices other n d w o at led is x =
     let also : is_led_to reach other d.before ≡ true = led-extends decisions reach choices other n n d.before (w.come_from n d at) (omega arith) o.have_actions x ∙ led in
     let reached = led-reached decisions actions reach other n d w (told-extends decisions actions reach choices other n w o x) at also in
     (is.fixed_where_reached d.place (place-within decisions actions n d w at)).1 (n, d, at, refl, reached)
 
--- each choice list that goes on from the choices is an end
-ends-complete : (decisions : List Decision) (actions : List ℕ) (ds : List Decision) (reach : List Bool) (choices other : List ℕ) (n : ℕ) → AreLinked decisions actions → AreRest decisions n ds → IsOnWay decisions actions reach choices n → IsWalk decisions actions other → Extends choices other
+-- each reduced strategy that goes on from the choices is an end
+ends-complete : (decisions : List Decision) (actions : List ℕ) (ds : List Decision) (reach : List Bool) (choices other : List ℕ) (n : ℕ) → AreLinked decisions actions → AreRest decisions n ds → IsOnWay decisions actions reach choices n → IsReducedBy decisions actions other → Extends choices other
     → Contains (ends actions ds reach choices) other
 ends-complete decisions actions [] reach choices other n w r o is x =
     let same : choices ≡ other = ext_get_or 0 choices other (o.one_for_each ∙ sym is.one_for_each) (λ p l. extended_end decisions actions reach choices other n w (AreRest-none decisions n r) o is x p (omega (arith, o.one_for_each))) in
@@ -237,12 +237,12 @@ ends-differ actions (d ∷ ds) reach choices n long within =
 abbrev pub all_ends : List Decision → List ℕ → List (List ℕ)
 all_ends decisions actions = ends actions decisions [] (replicate (length actions) 0)
 
--- each is a choice list
-pub all_ends-sound : (decisions : List Decision) (actions : List ℕ) → AreLinked decisions actions → All (IsWalk decisions actions) (all_ends decisions actions)
+-- each is a reduced strategy
+pub all_ends-sound : (decisions : List Decision) (actions : List ℕ) → AreLinked decisions actions → All (IsReducedBy decisions actions) (all_ends decisions actions)
 all_ends-sound decisions actions w = ends-sound decisions actions decisions [] (replicate (length actions) 0) 0 w (AreRest-all decisions) (IsOnWay-start decisions actions)
 
--- each choice list is one
-pub all_ends-complete : (decisions : List Decision) (actions : List ℕ) (choices : List ℕ) → AreLinked decisions actions → IsWalk decisions actions choices → Contains (all_ends decisions actions) choices
+-- each reduced strategy is one
+pub all_ends-complete : (decisions : List Decision) (actions : List ℕ) (choices : List ℕ) → AreLinked decisions actions → IsReducedBy decisions actions choices → Contains (all_ends decisions actions) choices
 all_ends-complete decisions actions choices w is =
     ends-complete decisions actions decisions [] (replicate (length actions) 0) choices 0 w (AreRest-all decisions) (IsOnWay-start decisions actions) is (λ p h. absurd (omega (arith, (IsOnWay-start decisions actions).fixed p h)))
 

@@ -8,7 +8,7 @@ use Rattle.std.proofs.lemmas.List.{append-nil, get_or_default, get_or_append_lef
 use Rattle.std.proofs.lemmas.Option.{same_Some, slice_get_within, slice_get-get_or}
 use Rattle.choice_lists.specs.declared.decision.Decision.{Decision}
 use Rattle.choice_lists.specs.declared.decision.Edge.{Edge}
-use Rattle.choice_lists.specs.Walks.{ComesFrom, AreLinked}
+use Rattle.choice_lists.specs.Reduced.{ComesFrom, AreLinked}
 use Rattle.choice_lists.specs.Ends.{is_led_to, branches, ends}
 use Rattle.choice_lists.proofs.ReachedDecisionLemmas.{below_or_last, last_entry, one_decision, place-within}
 use Rattle.choice_lists.proofs.EndListLemmas.{AreRest, AreRest-first, AreRest-later, AreRest-all, branches_or_passes, ends-nil, ends-branch, ends-pass, ends_with, all_ends}

@@ -8,7 +8,7 @@ use Rattle.std.proofs.lemmas.List.{get_or-set_same, get_or-set_other, length-rep
 use Rattle.std.proofs.lemmas.Option.{slice_get_within, get_or_from_slice_get}
 use Rattle.choice_lists.specs.declared.decision.Decision.{Decision}
 use Rattle.choice_lists.specs.declared.decision.Edge.{Edge}
-use Rattle.choice_lists.specs.Walks.{ComesFrom, AreLinked, IsLedTo, IsReachedWithin, IsReached, IsWalk}
+use Rattle.choice_lists.specs.Reduced.{ComesFrom, AreLinked, IsLedTo, IsReachedWithin, IsReached, IsReducedBy}
 use Rattle.choice_lists.specs.Ends.{is_led_to}
 
 -- ---- reached decisions that tell
@@ -211,8 +211,8 @@ abbrev pub AreBelow : List Decision → ℕ → Type 0
 AreBelow decisions n = (k : ℕ) (d : Decision) → slice_get decisions k ≡ Some d → k < n
 
 -- the choices at the end have an action exactly where a decision of the set is reached
-pub IsWalk-end : (decisions : List Decision) (actions : List ℕ) (reach : List Bool) (choices : List ℕ) (n : ℕ) → AreLinked decisions actions → IsOnWay decisions actions reach choices n → AreBelow decisions n → IsWalk decisions actions choices
-IsWalk-end decisions actions reach choices n w o all =
+pub IsReducedBy-end : (decisions : List Decision) (actions : List ℕ) (reach : List Bool) (choices : List ℕ) (n : ℕ) → AreLinked decisions actions → IsOnWay decisions actions reach choices n → AreBelow decisions n → IsReducedBy decisions actions choices
+IsReducedBy-end decisions actions reach choices n w o all =
     record {
       one_for_each = o.one_for_each;
       are_actions = λ p l. o.are_actions p;

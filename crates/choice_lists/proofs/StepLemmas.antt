@@ -7,7 +7,7 @@ use Rattle.std.proofs.lemmas.Option.{slice_get_within, get_or_from_slice_get}
 use Rattle.lists.proofs.ElementLemmas.{set-set}
 use Rattle.choice_lists.specs.declared.decision.Decision.{Decision}
 use Rattle.choice_lists.specs.declared.decision.Edge.{Edge}
-use Rattle.choice_lists.specs.Walks.{ComesFrom}
+use Rattle.choice_lists.specs.Reduced.{ComesFrom}
 use Rattle.choice_lists.specs.Ends.{is_led_to, branches, ends, place_of, ends_at, later, FallBelow}
 use Rattle.choice_lists.proofs.EndListLemmas.{ends_with, ends-branch, ends-pass}
 

@@ -8,7 +8,7 @@ use Rattle.std.proofs.lemmas.Grind.{take_at_read}
 use Rattle.std.proofs.lemmas.Option.{slice_get_within, slice_get-get_or, get_or_from_slice_get}
 use Rattle.choice_lists.specs.declared.decision.Decision.{Decision}
 use Rattle.choice_lists.specs.declared.walk.Walk.{Walk}
-use Rattle.choice_lists.specs.Walks.{AreLinked}
+use Rattle.choice_lists.specs.Reduced.{AreLinked}
 use Rattle.choice_lists.specs.Ends.{is_led_to, ends, later, FallBelow, IsAt, IsStart, IsSameGame, ComesTo, later_ends, ends_from}
 use Rattle.choice_lists.proofs.ReachedDecisionLemmas.{place-within}
 use Rattle.choice_lists.proofs.EndListLemmas.{ends-nil}

@@ -9,7 +9,7 @@ use Rattle.std.proofs.lemmas.List.Sorted.{IsPermutation-map, All-permutation, Co
 use Rattle.lists.specs.Orders.{AreAscending}
 use Rattle.choice_lists.specs.declared.decision.Decision.{Decision}
 use Rattle.choice_lists.specs.declared.walk.Walk.{Walk}
-use Rattle.choice_lists.specs.Walks.{AreLinked, IsWalk, AreWalks}
+use Rattle.choice_lists.specs.Reduced.{AreLinked, IsReducedBy, AreReducedBy}
 use Rattle.choice_lists.specs.Ends.{IsAt, ComesTo, later_ends, ends_from}
 use Rattle.choice_lists.proofs.EndListLemmas.{all_ends, all_ends-sound, all_ends-complete, all_ends-differ}
 use Rattle.choice_lists.proofs.AscendingOrderLemmas.{ascending_order, ascending_from_sort, AllPairs-permutation}
@@ -45,29 +45,29 @@ IsTurn-made start there next n (Some m) c h = record { next_at = h.0; ends = end
 all_ends-long : (decisions : List Decision) (actions : List ℕ) → AreLinked decisions actions → All (λ x. length x ≡ length actions) (all_ends decisions actions)
 all_ends-long decisions actions w k d l = (all_ends-sound decisions actions w k d l).one_for_each
 
--- an ascending order of the ends has all choice lists
-walks_in_order : (decisions : List Decision) (actions : List ℕ) (lists : List (List ℕ)) → AreLinked decisions actions → IsPermutation (all_ends decisions actions) lists → AreAscending lists → AreWalks decisions actions lists
+-- an ascending order of the ends has all reduced strategies
+walks_in_order : (decisions : List Decision) (actions : List ℕ) (lists : List (List ℕ)) → AreLinked decisions actions → IsPermutation (all_ends decisions actions) lists → AreAscending lists → AreReducedBy decisions actions lists
 walks_in_order decisions actions lists w p a =
     record {
       ascending = a;
-      sound = All-permutation (IsWalk decisions actions) (all_ends decisions actions) lists p (all_ends-sound decisions actions w);
+      sound = All-permutation (IsReducedBy decisions actions) (all_ends decisions actions) lists p (all_ends-sound decisions actions w);
       complete = λ choices is. Contains-permutation (all_ends decisions actions) lists choices p (all_ends-complete decisions actions choices w is);
     }
 
--- the choice lists are as many as the ends
-walks_of_ends : (decisions : List Decision) (actions : List ℕ) → AreLinked decisions actions → (lists : List (List ℕ)) × AreWalks decisions actions lists × (length lists ≡ length (all_ends decisions actions))
+-- the reduced strategies are as many as the ends
+walks_of_ends : (decisions : List Decision) (actions : List ℕ) → AreLinked decisions actions → (lists : List (List ℕ)) × AreReducedBy decisions actions lists × (length lists ≡ length (all_ends decisions actions))
 walks_of_ends decisions actions w =
     let order = ascending_order (length actions) (all_ends decisions actions) (all_ends-long decisions actions w) (all_ends-differ decisions actions w) in
     (order.0, walks_in_order decisions actions order.0 w order.2 order.1, length_permutation (all_ends decisions actions) order.0 order.2)
 
--- the ends in the order of a sort are the choice lists
-walks_from_sort : (decisions : List Decision) (actions : List ℕ) (lists : List (List ℕ)) → AreLinked decisions actions → IsPermutation (all_ends decisions actions) lists → IsSorted (slice_cmp nat_cmp) lists → AreWalks decisions actions lists
+-- the ends in the order of a sort are the reduced strategies
+walks_from_sort : (decisions : List Decision) (actions : List ℕ) (lists : List (List ℕ)) → AreLinked decisions actions → IsPermutation (all_ends decisions actions) lists → IsSorted (slice_cmp nat_cmp) lists → AreReducedBy decisions actions lists
 walks_from_sort decisions actions lists w p s =
     walks_in_order decisions actions lists w p
     (ascending_from_sort (length actions) lists (All-permutation (λ x. length x ≡ length actions) (all_ends decisions actions) lists p (all_ends-long decisions actions w)) (AllPairs-permutation (all_ends decisions actions) lists p (all_ends-differ decisions actions w)) s)
 
--- a count of the ends up to a limit is one of the choice lists
-pub walks_counted : (decisions : List Decision) (actions : List ℕ) (count limit : ℕ) → AreLinked decisions actions → count ≡ min (length (all_ends decisions actions)) limit → (lists : List (List ℕ)) × AreWalks decisions actions lists × (count ≡ min (length lists) limit)
+-- a count of the ends up to a limit is one of the reduced strategies
+pub walks_counted : (decisions : List Decision) (actions : List ℕ) (count limit : ℕ) → AreLinked decisions actions → count ≡ min (length (all_ends decisions actions)) limit → (lists : List (List ℕ)) × AreReducedBy decisions actions lists × (count ≡ min (length lists) limit)
 walks_counted decisions actions count limit w e =
     let found = walks_of_ends decisions actions w in
     (found.0, found.1, e ∙ ap (λ v. min v limit) (sym found.2))
@@ -85,9 +85,9 @@ sorted-map items (x ∷ xs) h = λ k d low l.
     let within : k + 1 < length (x ∷ xs) = omega (arith, length-map (x ∷ xs) items) in
     subst₂ (λ a b. is_lt (slice_cmp nat_cmp a b) ≡ false) (sym (get_or-map items (x ∷ xs) (k + 1) x d within)) (sym (get_or-map items (x ∷ xs) k x d (omega arith))) (h k x low within)
 
--- all ends, kept and sorted, are the choice lists
+-- all ends, kept and sorted, are the reduced strategies
 pub walks_kept : {X : Type 0} (items : X → List ℕ) (decisions : List Decision) (actions : List ℕ) (lists sorted : List X) → AreLinked decisions actions → all_ends decisions actions ≡ map items lists ++ [] → IsPermutation lists sorted → IsSorted (λ a b. slice_cmp nat_cmp (items a) (items b)) sorted
-    → AreWalks decisions actions (map items sorted)
+    → AreReducedBy decisions actions (map items sorted)
 walks_kept items decisions actions lists sorted w e p s =
     let whole : map items lists ≡ all_ends decisions actions = sym (append-nil (map items lists)) ∙ sym e in
     walks_from_sort decisions actions (map items sorted) w (subst (λ v. IsPermutation v (map items sorted)) whole (IsPermutation-map items lists sorted p)) (sorted-map items sorted s)

@@ -8,7 +8,7 @@ use Rattle.std.proofs.lemmas.List.{get_or-set_same, get_or-set_other, get_or_app
 use Rattle.std.proofs.lemmas.Option.{slice_get_within}
 use Rattle.choice_lists.specs.declared.decision.Decision.{Decision}
 use Rattle.choice_lists.specs.declared.decision.Edge.{Edge}
-use Rattle.choice_lists.specs.Walks.{ComesFrom, AreLinked}
+use Rattle.choice_lists.specs.Reduced.{ComesFrom, AreLinked}
 use Rattle.choice_lists.specs.Ways.{AreAfter, leads_from, product_where, sum_branches, ways_from, ways_where}
 use Rattle.choice_lists.proofs.ReachedDecisionLemmas.{one_decision, below_or_last}
 use Rattle.choice_lists.proofs.StepLemmas.{drop-first}

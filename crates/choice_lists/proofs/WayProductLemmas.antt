@@ -6,7 +6,7 @@ use Rattle.std.proofs.lemmas.Bool.{cases_eq, ne_eqb, eq-eqb}
 use Rattle.std.proofs.lemmas.List.{get_or-set_same, get_or-set_other, length-replicate, get_or-replicate}
 use Rattle.choice_lists.specs.declared.decision.Decision.{Decision}
 use Rattle.choice_lists.specs.declared.decision.Edge.{Edge}
-use Rattle.choice_lists.specs.Walks.{ComesFrom, AreLinked}
+use Rattle.choice_lists.specs.Reduced.{ComesFrom, AreLinked}
 use Rattle.choice_lists.specs.Ends.{is_led_to, branches, ends}
 use Rattle.choice_lists.specs.Ways.{AreApart, leads_from, product_where, sum_branches, ways_from}
 use Rattle.choice_lists.proofs.WayCountLemmas.{is_first}

@@ -3,7 +3,7 @@ use Rattle.std.specs.Prelude.{ℕ, zero, suc, ◌<◌, ◌≤◌, ◌-◌, ◌�
 use Rattle.choice_lists.specs.declared.decision.Decision.{Decision}
 use Rattle.choice_lists.specs.declared.decision.Edge.{Edge}
 use Rattle.choice_lists.specs.declared.walk.Walk.{Walk}
-use Rattle.choice_lists.specs.Walks.{AreLinked}
+use Rattle.choice_lists.specs.Reduced.{AreLinked}
 
 -- whether an edge leads on, by which of the earlier decisions are reached
 abbrev pub is_led_to : List Bool → List ℕ → Option Edge → Bool
@@ -15,7 +15,7 @@ abbrev pub branches : (ℕ → List (List ℕ)) → ℕ → ℕ → List (List �
 branches lists action zero = []
 branches lists action (suc n) = lists action ++ branches lists (suc action) n
 
--- the choice lists at the ends of the walk over the decisions that are left
+-- the choices at the ends of the walk over the decisions that are left
 unfoldable pub ends : List ℕ → List Decision → List Bool → List ℕ → List (List ℕ)
 ends actions [] reach choices = choices ∷ []
 ends actions (d ∷ ds) reach choices =

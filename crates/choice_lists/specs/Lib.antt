@@ -1,4 +1,4 @@
 pub mod Ends
 pub mod LeftOut
-pub mod Walks
+pub mod Reduced
 pub mod Ways

@@ -1,7 +1,7 @@
-// Counting choice lists.
+// Counting reduced strategies.
 ghost use Rattle.std.specs.Prelude.{◌≡◌, ◌<◌, ◌+◌, ◌*◌, ◌^◌, List, ℕ, length, map, min, replicate, slice_index, slice_set, IfOk, []};
 ghost use Rattle.choice_lists.specs.Ends.{ends};
-ghost use Rattle.choice_lists.specs.Walks.{AreLinked, AreWalks};
+ghost use Rattle.choice_lists.specs.Reduced.{AreLinked, AreReducedBy};
 ghost use Rattle.choice_lists.specs.Ways.{AreApart, AreAfter, sum_branches};
 
 use crate::decision::Decision;
@@ -84,9 +84,9 @@ fn count_apart(
     Ok(first)
 }
 
-/// How many choice lists there are, but at most one more than `most`: counting stops there. `actions` has the
+/// How many reduced strategies there are, but at most one more than `most`: counting stops there. `actions` has the
 /// number of actions of each of the player's own sets in order.
-pub fn count_walks(
+pub fn count_reduced(
     alloc: Global,
     decisions: &[Decision],
     actions: &[u32],
@@ -95,7 +95,7 @@ pub fn count_walks(
     requires linked { AreLinked decisions.now actions.now }
     requires most { most + 1 < 2 ^ 64 }
     ensures { IfOk result (λ count. (lists : List (List ℕ))
-        × AreWalks decisions.now actions.now lists × (count ≡ min (length lists) (most + 1))) }
+        × AreReducedBy decisions.now actions.now lists × (count ≡ min (length lists) (most + 1))) }
 {
     let shared = shared_sets(alloc, decisions, actions.len())?;
     if !shared.contains(&true) {

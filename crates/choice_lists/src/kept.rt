@@ -1,6 +1,6 @@
 // The decisions that a count has to go over.
 ghost use Rattle.std.specs.Prelude.{◌≡◌, ◌<◌, ◌^◌, Bool, List, All, length, slice_index, IfOk, IfSome};
-ghost use Rattle.choice_lists.specs.Walks.{AreLinked};
+ghost use Rattle.choice_lists.specs.Reduced.{AreLinked};
 ghost use Rattle.choice_lists.specs.LeftOut.{all_ends, marked, kept_below, renumbered, AreEnough, AreShared};
 
 use crate::decision::{Decision, Edge};
@@ -73,7 +73,7 @@ fn renumbered(decision: Decision, numbers: &[u32]) -> Decision
     Decision { before, ..decision }
 }
 
-/// The decisions that a count has to go over, which are fewer and have as many choice lists.
+/// The decisions that a count has to go over, which are fewer and have as many reduced strategies.
 pub fn kept_decisions(
     alloc: Global,
     decisions: &[Decision],

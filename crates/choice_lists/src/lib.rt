@@ -1,10 +1,10 @@
-//! Choice lists: the lists that give an information set an action exactly where one of its
-//! decisions is reached.
+//! Reduced strategies by a player's decisions. A choice list gives each own set an action or none;
+//! a reduced strategy is one with an action exactly at the sets of which it reaches a decision.
 //!
-//! Callers may rely on: `list_walks` gives all of them, each once, in order; `count_walks` and
-//! `count_ends` their number up to a limit, the first without a walk if no set has two decisions.
-//! Definitions: `specs::Walks` has decisions that are linked (`AreLinked`) and their choice lists
-//! (`AreWalks`).
+//! Callers may rely on: `list_reduced` gives all reduced strategies, each once, in order;
+//! `count_reduced` their number up to a limit, without a walk if no set has two decisions.
+//! Definitions: `specs::Reduced` has decisions that are linked (`AreLinked`) and their reduced
+//! strategies (`AreReducedBy`).
 //! Private words: `specs::Ends`, `Ways` and `LeftOut`, how the code walks and counts.
 //! Lemmas for callers: `proofs::EndListLemmas` on the ends of a walk, `AscendingOrderLemmas` on
 //! lists in order.
@@ -16,6 +16,6 @@ mod decision;
 mod kept;
 mod walk;
 
-pub use count::count_walks;
+pub use count::count_reduced;
 pub use decision::{Decision, Edge};
-pub use walk::{count_ends, list_walks};
+pub use walk::list_reduced;

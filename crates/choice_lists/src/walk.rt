@@ -2,7 +2,7 @@
 ghost use Rattle.std.specs.Prelude.{◌≡◌, ◌<◌, ◌+◌, ◌^◌, List, [], ℕ, length, map, min, replicate, slice_get, IfOk, MatchOption};
 ghost use Rattle.choice_lists.specs.declared.decision.Decision.{Decision};
 ghost use Rattle.choice_lists.specs.Ends.{ends, is_led_to, IsAt, IsStart, ComesTo, later_ends, ends_from};
-ghost use Rattle.choice_lists.specs.Walks.{AreLinked, AreWalks};
+ghost use Rattle.choice_lists.specs.Reduced.{AreLinked, AreReducedBy};
 
 use crate::decision::Decision;
 use answers::Memory;
@@ -100,9 +100,9 @@ impl<'a> Walk<'a> {
     }
 }
 
-/// How many choice lists there are, but at most one more than `most`: counting stops there. The walk ends once for each
-/// of them. `actions` has the number of actions of each of the player's own sets in order.
-pub fn count_ends(
+// How many reduced strategies there are, but at most one more than `most`: counting stops there. The walk ends once for
+// each of them. `actions` has the number of actions of each of the player's own sets in order.
+pub(crate) fn count_ends(
     alloc: Global,
     decisions: &[Decision],
     actions: &[u32],
@@ -111,7 +111,7 @@ pub fn count_ends(
     requires linked { AreLinked decisions.now actions.now }
     requires most { most + 1 < 2 ^ 64 }
     ensures lists { IfOk result (λ count. (lists : List (List ℕ))
-        × AreWalks decisions.now actions.now lists × (count ≡ min (length lists) (most + 1))) }
+        × AreReducedBy decisions.now actions.now lists × (count ≡ min (length lists) (most + 1))) }
     ensures ends { IfOk result (λ count. count
         ≡ min (length (ends actions.now decisions.now [] (replicate (length actions.now) 0)))
         (most + 1)) }
@@ -130,15 +130,16 @@ pub fn count_ends(
     Ok(count)
 }
 
-/// All choice lists in order. `actions` has the number of actions of each of the player's own sets in order.
-pub fn list_walks(
+/// All reduced strategies in order, as choice lists. `actions` has the number of actions of each of the player's own
+/// sets in order.
+pub fn list_reduced(
     alloc: Global,
     decisions: &[Decision],
     actions: &[u32],
 ) -> Result<Vec<Vec<u32>>, Memory>
     requires linked { AreLinked decisions.now actions.now }
     ensures { IfOk result
-        (λ lists. AreWalks decisions.now actions.now (map (λ v. v.items) lists.items)) }
+        (λ lists. AreReducedBy decisions.now actions.now (map (λ v. v.items) lists.items)) }
 {
     let mut walk = Walk::new(alloc, decisions, actions)?;
     let mut lists = Vec::new(alloc);

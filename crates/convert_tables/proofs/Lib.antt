@@ -1,4 +1,4 @@
+pub mod AxisLemmas
 pub mod CellPlaceLemmas
 pub mod NumberedTextLemmas
 pub mod OneLayoutLaws
-pub mod PlanAxisLemmas

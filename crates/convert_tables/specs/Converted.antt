@@ -3,12 +3,20 @@
 use Rattle.std.specs.Prelude.{ℕ, ◌-◌, ◌<◌, ◌≤◌, ◌≡◌, List, length}
 use Rattle.answers.specs.Answers.{Answer, ◌>>◌, refuse_where, refused_by}
 use Rattle.game_core.specs.Table.{GameTable}
-use Rattle.game_core.specs.Limits.{limited_text}
+use Rattle.game_core.specs.Limits.{first_above, limited_text, most_text}
+use Rattle.game_core.specs.declared.too_large.What.TheVariants.{Text}
 use Rattle.convert_tables.specs.declared.marks.Style.{Style}
 use Rattle.convert_tables.specs.declared.marks.Style.TheVariants.{Html, Sgame}
 use Rattle.convert_tables.specs.declared.stops.ConvertStop.{ConvertStop}
 use Rattle.convert_tables.specs.declared.stops.ConvertStop.TheVariants as stops
+use Rattle.convert_tables.specs.declared.stops.LayoutStop.{LayoutStop}
+use Rattle.convert_tables.specs.declared.stops.LayoutStop.TheVariants as layout_stops
 use Rattle.convert_tables.specs.Layouts.{layout}
+
+-- the stop that a layout's becomes
+abbrev pub layout_stop : LayoutStop → ConvertStop
+layout_stop layout_stops.TooLong = stops.TooLarge (first_above Text most_text)
+layout_stop layout_stops.Memory = stops.Memory
 
 -- a number of a player
 abbrev pub IsPlayer : GameTable → ℕ → Type 0

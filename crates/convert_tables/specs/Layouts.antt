@@ -22,8 +22,8 @@ abbrev pub others_counts : GameTable → ℕ → ℕ → List ℕ
 others_counts t row column = slice_set (slice_set (strategy_counts t) row 1) column 1
 
 -- a choice of the others: the strategies of all players, 0 for the row player and the column player
-abbrev pub chosen_strategy : GameTable → ℕ → ℕ → ℕ → List ℕ
-chosen_strategy t row column k = profile_at (others_counts t row column) k
+abbrev pub choice_at : GameTable → ℕ → ℕ → ℕ → List ℕ
+choice_at t row column k = profile_at (others_counts t row column) k
 
 abbrev pub strategy_count : GameTable → ℕ → ℕ
 strategy_count t i = slice_index (strategy_counts t) i
@@ -127,7 +127,7 @@ title_text Sgame title = []
 
 abbrev pub tables_text : Style → GameTable → ℕ → ℕ → List ℕ
 tables_text style t row column =
-    flat_map (λ k. table_text style t row column (chosen_strategy t row column k))
+    flat_map (λ k. table_text style t row column (choice_at t row column k))
     (range_with_len 0 (profile_count (others_counts t row column)))
 
 -- the title, and a table for each choice of the others, the first of whom changes fastest

@@ -9,15 +9,15 @@ ghost use Rattle.convert_tables.specs.Layouts.{other_players, others_counts, pay
 
 use crate::marks::{Mark, Style, mark_text};
 use crate::names::push_marked;
-use crate::stops::TextStop;
+use crate::stops::LayoutStop;
 use frac128::Memory;
 use game_core::{MOST_TEXT, Table};
-use ne_printer::fraction;
+use ne_printer::push_fraction;
 use std::alloc::Global;
 
 /// A table, and the players whose strategies are its rows and its columns, counted from 0.
 #[derive(Drop)]
-pub struct Plan<'a> {
+pub struct Axes<'a> {
     pub style: Style,
     pub table: &'a Table,
     pub row: usize,
@@ -50,8 +50,7 @@ fn push_payoff(
     ensures { OnOk result (text.new.items
         ≡ text.old.items ++ payoff_text table.now number player) }
 {
-    text.extend_from_slice(&fraction(alloc, table.payoff_at(number, player))?)?;
-    Ok(())
+    push_fraction(alloc, text, table.payoff_at(number, player))
 }
 
 // Adds the payoffs of some players, each after a comma.
@@ -75,31 +74,31 @@ fn push_later_payoffs(
 }
 
 // Adds the cell of the profile with a number.
-fn push_cell(alloc: Global, text: &mut Vec<u8>, plan: &Plan, number: usize) -> Result<(), Memory>
-    requires { number < profile_count (strategy_counts plan.now.table.now) }
+fn push_cell(alloc: Global, text: &mut Vec<u8>, axes: &Axes, number: usize) -> Result<(), Memory>
+    requires { number < profile_count (strategy_counts axes.now.table.now) }
     ensures { OnOk result (text.new.items ≡ text.old.items
-        ++ cell_text plan.now.style plan.now.table.now plan.now.row plan.now.column number) }
+        ++ cell_text axes.now.style axes.now.table.now axes.now.row axes.now.column number) }
 {
-    let table = plan.table;
-    text.extend_from_slice(mark_text(plan.style, Mark::CellStart))?;
-    push_payoff(alloc, text, table, number, plan.row)?;
-    push_later_payoffs(alloc, text, table, number, &[plan.column])?;
-    push_later_payoffs(alloc, text, table, number, plan.others)?;
-    text.extend_from_slice(mark_text(plan.style, Mark::CellEnd))?;
+    let table = axes.table;
+    text.extend_from_slice(mark_text(axes.style, Mark::CellStart))?;
+    push_payoff(alloc, text, table, number, axes.row)?;
+    push_later_payoffs(alloc, text, table, number, &[axes.column])?;
+    push_later_payoffs(alloc, text, table, number, axes.others)?;
+    text.extend_from_slice(mark_text(axes.style, Mark::CellEnd))?;
     Ok(())
 }
 
 // Adds the cells of a row, in which the profile of the first has this number.
-fn push_cells(alloc: Global, text: &mut Vec<u8>, plan: &Plan, first: usize) -> Result<(), Memory>
-    requires { (c : ℕ) → c < strategy_count plan.now.table.now plan.now.column
-        → first + plan.now.column_stride * c < profile_count (strategy_counts plan.now.table.now) }
+fn push_cells(alloc: Global, text: &mut Vec<u8>, axes: &Axes, first: usize) -> Result<(), Memory>
+    requires { (c : ℕ) → c < strategy_count axes.now.table.now axes.now.column
+        → first + axes.now.column_stride * c < profile_count (strategy_counts axes.now.table.now) }
     ensures { OnOk result (text.new.items ≡ text.old.items
-        ++ flat_map (λ c. cell_text plan.now.style plan.now.table.now plan.now.row plan.now.column
-        (first + plan.now.column_stride * c))
-        (range_with_len 0 (strategy_count plan.now.table.now plan.now.column))) }
+        ++ flat_map (λ c. cell_text axes.now.style axes.now.table.now axes.now.row axes.now.column
+        (first + axes.now.column_stride * c))
+        (range_with_len 0 (strategy_count axes.now.table.now axes.now.column))) }
 {
-    for column in 0..plan.table.strategy_count(plan.column) {
-        push_cell(alloc, text, plan, first + plan.column_stride * column)?;
+    for column in 0..axes.table.strategy_count(axes.column) {
+        push_cell(alloc, text, axes, first + axes.column_stride * column)?;
     }
     Ok(())
 }
@@ -120,23 +119,23 @@ fn row_end(style: Style, rows: usize, strategy: usize) -> &'static [u8]
 fn push_row(
     alloc: Global,
     text: &mut Vec<u8>,
-    plan: &Plan,
+    axes: &Axes,
     choice: &[u32],
     strategy: usize,
 ) -> Result<(), Memory>
-    requires choice { IsProfile (others_counts plan.now.table.now plan.now.row plan.now.column)
+    requires choice { IsProfile (others_counts axes.now.table.now axes.now.row axes.now.column)
         choice.now }
-    requires strategy { strategy < strategy_count plan.now.table.now plan.now.row }
+    requires strategy { strategy < strategy_count axes.now.table.now axes.now.row }
     ensures { OnOk result (text.new.items ≡ text.old.items
-        ++ row_text plan.now.style plan.now.table.now plan.now.row plan.now.column choice.now
+        ++ row_text axes.now.style axes.now.table.now axes.now.row axes.now.column choice.now
         strategy) }
 {
-    let names = plan.table.strategies(plan.row);
-    let first = plan.table.profile_number(choice) + plan.row_stride * strategy;
+    let names = axes.table.strategies(axes.row);
+    let first = axes.table.profile_number(choice) + axes.row_stride * strategy;
     let name = names[strategy].bytes();
-    push_marked(text, plan.style, Mark::RowStart, name, Mark::RowNameEnd)?;
-    push_cells(alloc, text, plan, first)?;
-    text.extend_from_slice(row_end(plan.style, names.len(), strategy))?;
+    push_marked(text, axes.style, Mark::RowStart, name, Mark::RowNameEnd)?;
+    push_cells(alloc, text, axes, first)?;
+    text.extend_from_slice(row_end(axes.style, names.len(), strategy))?;
     Ok(())
 }
 
@@ -145,20 +144,20 @@ fn push_row(
 pub fn push_rows(
     alloc: Global,
     text: &mut Vec<u8>,
-    plan: &Plan,
+    axes: &Axes,
     choice: &[u32],
-) -> Result<(), TextStop>
-    requires choice { IsProfile (others_counts plan.now.table.now plan.now.row plan.now.column)
+) -> Result<(), LayoutStop>
+    requires choice { IsProfile (others_counts axes.now.table.now axes.now.row axes.now.column)
         choice.now }
     ensures rows { OnOk result (text.new.items ≡ text.old.items
-        ++ rows_text plan.now.style plan.now.table.now plan.now.row plan.now.column choice.now) }
-    ensures long { IsErrOf result TextStop.TooLong → most_text < length (text.old.items
-        ++ rows_text plan.now.style plan.now.table.now plan.now.row plan.now.column choice.now) }
+        ++ rows_text axes.now.style axes.now.table.now axes.now.row axes.now.column choice.now) }
+    ensures long { IsErrOf result LayoutStop.TooLong → most_text < length (text.old.items
+        ++ rows_text axes.now.style axes.now.table.now axes.now.row axes.now.column choice.now) }
 {
-    for strategy in 0..plan.table.strategy_count(plan.row) {
-        push_row(alloc, text, plan, choice, strategy)?;
+    for strategy in 0..axes.table.strategy_count(axes.row) {
+        push_row(alloc, text, axes, choice, strategy)?;
         if text.len() > MOST_TEXT {
-            return Err(TextStop::TooLong);
+            return Err(LayoutStop::TooLong);
         }
     }
     Ok(())

@@ -11,10 +11,10 @@ ghost use Rattle.convert_tables.specs.Marks.{mark_text};
 ghost use Rattle.convert_tables.specs.Names.{name_text};
 ghost use Rattle.convert_tables.specs.Layouts.{others_counts, player_name, strategy_name, strategy_count, sgame_start, table_start, column_text, columns_text, chosen_text, later_chosen_text, heading, table_text, tables_text};
 
-use crate::cells::{Plan, push_rows};
+use crate::cells::{Axes, push_rows};
 use crate::marks::{Mark, Style, mark_text};
 use crate::names::{push_marked, push_name};
-use crate::stops::TextStop;
+use crate::stops::LayoutStop;
 use frac128::Memory;
 use game_core::{Name, Table, profile_count, set_profile};
 use std::alloc::Global;
@@ -45,50 +45,50 @@ fn push_strategy(
 }
 
 // Adds a player and the strategy that is chosen.
-fn push_chosen(text: &mut Vec<u8>, plan: &Plan, choice: &[u32], player: usize) -> Result<(), Memory>
-    requires choice { IsProfile (strategy_counts plan.now.table.now) choice.now }
-    requires player { player < length plan.now.table.now.players }
+fn push_chosen(text: &mut Vec<u8>, axes: &Axes, choice: &[u32], player: usize) -> Result<(), Memory>
+    requires choice { IsProfile (strategy_counts axes.now.table.now) choice.now }
+    requires player { player < length axes.now.table.now.players }
     ensures { OnOk result (text.new.items ≡ text.old.items
-        ++ chosen_text plan.now.style plan.now.table.now choice.now player) }
+        ++ chosen_text axes.now.style axes.now.table.now choice.now player) }
 {
-    push_player(text, plan.style, plan.table, player)?;
+    push_player(text, axes.style, axes.table, player)?;
     text.push(b'=')?;
     let strategy = choice[player] as usize;
-    push_strategy(text, plan.style, plan.table, player, strategy)
+    push_strategy(text, axes.style, axes.table, player, strategy)
 }
 
 // Adds some players and the strategies that are chosen, each after a comma and a space.
 fn push_later_chosen(
     text: &mut Vec<u8>,
-    plan: &Plan,
+    axes: &Axes,
     choice: &[u32],
     players: &[usize],
 ) -> Result<(), Memory>
-    requires choice { IsProfile (strategy_counts plan.now.table.now) choice.now }
-    requires players { All (λ i. i < length plan.now.table.now.players) players.now }
+    requires choice { IsProfile (strategy_counts axes.now.table.now) choice.now }
+    requires players { All (λ i. i < length axes.now.table.now.players) players.now }
     ensures { OnOk result (text.new.items ≡ text.old.items
-        ++ flat_map (later_chosen_text plan.now.style plan.now.table.now choice.now) players.now) }
+        ++ flat_map (later_chosen_text axes.now.style axes.now.table.now choice.now) players.now) }
 {
     for player in players {
         text.extend_from_slice(b", ")?;
-        push_chosen(text, plan, choice, *player)?;
+        push_chosen(text, axes, choice, *player)?;
     }
     Ok(())
 }
 
 // Adds the heading with the choice of the others, where there are any.
-fn push_heading(text: &mut Vec<u8>, plan: &Plan, choice: &[u32]) -> Result<(), Memory>
-    requires { IsProfile (strategy_counts plan.now.table.now) choice.now }
+fn push_heading(text: &mut Vec<u8>, axes: &Axes, choice: &[u32]) -> Result<(), Memory>
+    requires { IsProfile (strategy_counts axes.now.table.now) choice.now }
     ensures { OnOk result (text.new.items ≡ text.old.items
-        ++ heading plan.now.style plan.now.table.now choice.now plan.now.others.now) }
+        ++ heading axes.now.style axes.now.table.now choice.now axes.now.others.now) }
 {
-    let [first, rest @ ..] = plan.others else {
+    let [first, rest @ ..] = axes.others else {
         return Ok(());
     };
-    text.extend_from_slice(mark_text(plan.style, Mark::HeadingStart))?;
-    push_chosen(text, plan, choice, *first)?;
-    push_later_chosen(text, plan, choice, rest)?;
-    text.extend_from_slice(mark_text(plan.style, Mark::HeadingEnd))?;
+    text.extend_from_slice(mark_text(axes.style, Mark::HeadingStart))?;
+    push_chosen(text, axes, choice, *first)?;
+    push_later_chosen(text, axes, choice, rest)?;
+    text.extend_from_slice(mark_text(axes.style, Mark::HeadingEnd))?;
     Ok(())
 }
 
@@ -127,13 +127,13 @@ fn push_sgame_start(
 }
 
 // Adds the start of a table.
-fn push_start(alloc: Global, text: &mut Vec<u8>, plan: &Plan) -> Result<(), Memory>
+fn push_start(alloc: Global, text: &mut Vec<u8>, axes: &Axes) -> Result<(), Memory>
     ensures { OnOk result (text.new.items ≡ text.old.items
-        ++ table_start plan.now.style plan.now.table.now plan.now.row plan.now.column) }
+        ++ table_start axes.now.style axes.now.table.now axes.now.row axes.now.column) }
 {
-    match plan.style {
+    match axes.style {
         Style::Html => Ok(text.extend_from_slice(b"<table>\n<tr><th></th>")?),
-        Style::Sgame => push_sgame_start(alloc, text, plan.table, plan.row, plan.column),
+        Style::Sgame => push_sgame_start(alloc, text, axes.table, axes.row, axes.column),
     }
 }
 
@@ -155,13 +155,13 @@ fn push_column_names(text: &mut Vec<u8>, style: Style, names: &[Name]) -> Result
 }
 
 // Adds the start of a table and the names of its columns.
-fn push_columns(alloc: Global, text: &mut Vec<u8>, plan: &Plan) -> Result<(), Memory>
+fn push_columns(alloc: Global, text: &mut Vec<u8>, axes: &Axes) -> Result<(), Memory>
     ensures { OnOk result (text.new.items ≡ text.old.items
-        ++ columns_text plan.now.style plan.now.table.now plan.now.row plan.now.column) }
+        ++ columns_text axes.now.style axes.now.table.now axes.now.row axes.now.column) }
 {
-    push_start(alloc, text, plan)?;
-    push_column_names(text, plan.style, plan.table.strategies(plan.column))?;
-    text.extend_from_slice(mark_text(plan.style, Mark::ColumnsEnd))?;
+    push_start(alloc, text, axes)?;
+    push_column_names(text, axes.style, axes.table.strategies(axes.column))?;
+    text.extend_from_slice(mark_text(axes.style, Mark::ColumnsEnd))?;
     Ok(())
 }
 
@@ -169,20 +169,20 @@ fn push_columns(alloc: Global, text: &mut Vec<u8>, plan: &Plan) -> Result<(), Me
 fn push_table(
     alloc: Global,
     text: &mut Vec<u8>,
-    plan: &Plan,
+    axes: &Axes,
     choice: &[u32],
-) -> Result<(), TextStop>
-    requires choice { IsProfile (others_counts plan.now.table.now plan.now.row plan.now.column)
+) -> Result<(), LayoutStop>
+    requires choice { IsProfile (others_counts axes.now.table.now axes.now.row axes.now.column)
         choice.now }
     ensures table { OnOk result (text.new.items ≡ text.old.items
-        ++ table_text plan.now.style plan.now.table.now plan.now.row plan.now.column choice.now) }
-    ensures long { IsErrOf result TextStop.TooLong → most_text < length (text.old.items
-        ++ table_text plan.now.style plan.now.table.now plan.now.row plan.now.column choice.now) }
+        ++ table_text axes.now.style axes.now.table.now axes.now.row axes.now.column choice.now) }
+    ensures long { IsErrOf result LayoutStop.TooLong → most_text < length (text.old.items
+        ++ table_text axes.now.style axes.now.table.now axes.now.row axes.now.column choice.now) }
 {
-    push_heading(text, plan, choice)?;
-    push_columns(alloc, text, plan)?;
-    push_rows(alloc, text, plan, choice)?;
-    push_table_end(text, plan.style)?;
+    push_heading(text, axes, choice)?;
+    push_columns(alloc, text, axes)?;
+    push_rows(alloc, text, axes, choice)?;
+    push_table_end(text, axes.style)?;
     Ok(())
 }
 
@@ -201,21 +201,21 @@ fn push_table_end(text: &mut Vec<u8>, style: Style) -> Result<(), Memory>
 pub fn push_tables(
     alloc: Global,
     text: &mut Vec<u8>,
-    plan: &Plan,
+    axes: &Axes,
     counts: &[usize],
     choice: &mut [u32],
-) -> Result<(), TextStop>
+) -> Result<(), LayoutStop>
     requires players { length choice.old ≡ length counts.now }
     requires counts { counts.now
-        ≡ others_counts plan.now.table.now plan.now.row plan.now.column }
+        ≡ others_counts axes.now.table.now axes.now.row axes.now.column }
     ensures tables { OnOk result (text.new.items ≡ text.old.items
-        ++ tables_text plan.now.style plan.now.table.now plan.now.row plan.now.column) }
-    ensures long { IsErrOf result TextStop.TooLong → most_text < length (text.old.items
-        ++ tables_text plan.now.style plan.now.table.now plan.now.row plan.now.column) }
+        ++ tables_text axes.now.style axes.now.table.now axes.now.row axes.now.column) }
+    ensures long { IsErrOf result LayoutStop.TooLong → most_text < length (text.old.items
+        ++ tables_text axes.now.style axes.now.table.now axes.now.row axes.now.column) }
 {
     for number in 0..profile_count(counts) {
         set_profile(choice, counts, number);
-        push_table(alloc, text, plan, choice)?;
+        push_table(alloc, text, axes, choice)?;
     }
     Ok(())
 }

@@ -10,13 +10,13 @@ ghost use Rattle.convert_tables.specs.declared.marks.Style.TheVariants.{Html};
 ghost use Rattle.convert_tables.specs.Converted.{IsPlayer, laid_out, html_text, sgame_text};
 ghost use Rattle.convert_tables.specs.declared.stops.ConvertStop.TheVariants as stops;
 
-use crate::cells::Plan;
+use crate::cells::Axes;
 use crate::choices::push_tables;
 use crate::marks::Style;
 use crate::names::push_name;
-use crate::stops::{ConvertStop, TextStop};
+use crate::stops::{ConvertStop, LayoutStop};
 use frac128::Memory;
-use game_core::{MOST_TEXT, Table, too_long_text};
+use game_core::{MOST_TEXT, Table};
 use std::alloc::Global;
 
 // The players besides the row player and the column player, in order.
@@ -71,19 +71,19 @@ fn write_layout(
     table: &Table,
     row: usize,
     column: usize,
-) -> Result<Vec<u8>, TextStop>
+) -> Result<Vec<u8>, LayoutStop>
     requires row { row < length table.now.players }
     requires column { column < length table.now.players }
     requires apart { row ≢ column }
     ensures layout { IfOk result (λ text. text.items ≡ layout style table.now row column) }
     ensures short { IfOk result (λ text. length text.items ≤ most_text) }
-    ensures long { IsErrOf result TextStop.TooLong
+    ensures long { IsErrOf result LayoutStop.TooLong
         → most_text < length (layout style table.now row column) }
 {
     let mut counts = table.strategy_counts(alloc)?;
     let others = other_players(alloc, table.players().len(), row, column)?;
     let mut choice = zeros(alloc, counts.len())?;
-    let plan = Plan {
+    let axes = Axes {
         style,
         table,
         row,
@@ -96,9 +96,9 @@ fn write_layout(
     counts[column] = 1;
     let mut text = Vec::new(alloc);
     push_title(&mut text, style, table.title().bytes())?;
-    push_tables(alloc, &mut text, &plan, &counts, &mut choice)?;
+    push_tables(alloc, &mut text, &axes, &counts, &mut choice)?;
     if text.len() > MOST_TEXT {
-        return Err(TextStop::TooLong);
+        return Err(LayoutStop::TooLong);
     }
     Ok(text)
 }
@@ -130,11 +130,7 @@ fn lay_out(
     if row == column {
         return Err(ConvertStop::SamePlayer { number: row });
     }
-    match write_layout(alloc, style, table, row as usize - 1, column as usize - 1) {
-        Ok(text) => Ok(text),
-        Err(TextStop::TooLong) => Err(ConvertStop::TooLarge(too_long_text())),
-        Err(TextStop::Memory) => Err(ConvertStop::Memory),
-    }
+    Ok(write_layout(alloc, style, table, row as usize - 1, column as usize - 1)?)
 }
 
 /// The table as a web page's: the title, and a table whose rows and columns are the strategies of

@@ -2,7 +2,7 @@
 ghost use Rattle.std.specs.Prelude.{◌≡◌};
 
 use frac128::Memory;
-use game_core::TooLarge;
+use game_core::{TooLarge, too_long_text};
 
 /// Why a table was not laid out. Players count from 1.
 #[derive(Clone, Copy, Debug, PartialEq, Eq)]
@@ -23,33 +23,36 @@ pub enum ConvertStop {
     Memory,
 }
 
-impl From<Memory> for ConvertStop {
+impl From<LayoutStop> for ConvertStop {
     ghost use Rattle.std.specs.Prelude.{◌≡◌};
-    ghost use Rattle.convert_tables.specs.declared.stops.ConvertStop.TheVariants as stops;
+    ghost use Rattle.convert_tables.specs.Converted.{layout_stop};
 
-    ghost from_gives = { λ _ e. e ≡ stops.Memory };
+    ghost from_gives = { λ stop e. e ≡ layout_stop stop };
 
-    fn from(_memory: Memory) -> ConvertStop {
-        ConvertStop::Memory
+    fn from(stop: LayoutStop) -> ConvertStop {
+        match stop {
+            LayoutStop::TooLong => ConvertStop::TooLarge(too_long_text()),
+            LayoutStop::Memory => ConvertStop::Memory,
+        }
     }
 }
 
 /// Why a layout was not written to its end.
 #[derive(Clone, Copy, Debug, PartialEq, Eq)]
-pub enum TextStop {
+pub enum LayoutStop {
     /// It has more bytes than a text may have.
     TooLong,
     /// Memory ran out.
     Memory,
 }
 
-impl From<Memory> for TextStop {
+impl From<Memory> for LayoutStop {
     ghost use Rattle.std.specs.Prelude.{◌≡◌};
-    ghost use Rattle.convert_tables.specs.declared.stops.TextStop.TheVariants as text_stops;
+    ghost use Rattle.convert_tables.specs.declared.stops.LayoutStop.TheVariants as layout_stops;
 
-    ghost from_gives = { λ _ e. e ≡ text_stops.Memory };
+    ghost from_gives = { λ _ e. e ≡ layout_stops.Memory };
 
-    fn from(_memory: Memory) -> TextStop {
-        TextStop::Memory
+    fn from(_memory: Memory) -> LayoutStop {
+        LayoutStop::Memory
     }
 }

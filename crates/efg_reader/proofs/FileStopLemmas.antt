@@ -9,20 +9,20 @@ use Rattle.game_core.specs.declared.too_large.What.{What}
 use Rattle.game_core.specs.declared.too_large.What.TheVariants as what
 use Rattle.game_core.specs.Tree.{GameTree, IsGameTree}
 use Rattle.file_parts.specs.Reading.{offset_of}
-use Rattle.file_parts.specs.Parsing.{counted, IsRefusal}
-use Rattle.file_parts.specs.declared.refusal.Refusal.{Refusal}
-use Rattle.file_parts.specs.declared.refusal.Refusal.TheVariants as refusals
+use Rattle.file_parts.specs.Parsing.{counted, IsPartStop}
+use Rattle.file_parts.specs.declared.stop.PartStop.{PartStop}
+use Rattle.file_parts.specs.declared.stop.PartStop.TheVariants as part_stops
 use Rattle.file_parts.proofs.ReaderLemmas.{err_same}
 use Rattle.written_trees.specs.Building.{PartialTree, tree_so_far}
 use Rattle.tree_grammar.specs.declared.kinds.EfgKind.{EfgKind}
 use Rattle.efg_reader.specs.declared.fault.EfgStop.{EfgStop}
 use Rattle.efg_reader.specs.declared.fault.EfgStop.TheVariants as stops
-use Rattle.efg_reader.specs.declared.nodes.Stop.{Stop}
-use Rattle.efg_reader.specs.declared.nodes.Stop.TheVariants.{Refused, Passed}
+use Rattle.efg_reader.specs.declared.nodes.NodesStop.{NodesStop}
+use Rattle.efg_reader.specs.declared.nodes.NodesStop.TheVariants.{Refused, Passed}
 use Rattle.efg_reader.specs.States.{IsStop}
 use Rattle.efg_reader.specs.Stops.{IsPassed, IsEfgStop, kind_in_nodes, IsNodesStop, tree_in}
 use Rattle.tree_grammar.specs.TreeFile.{IsTreeFile, PassesLimit}
-use Rattle.tree_grammar.specs.TreeParsing.{Head, parse_head, parse_all_nodes, in_nodes, parse_tree}
+use Rattle.tree_grammar.specs.TreeParsing.{FrontPart, parse_front, parse_all_nodes, in_nodes, parse_tree}
 use Rattle.tree_grammar.specs.TreeFaults.{IsFile}
 use Rattle.tree_grammar.specs.FaultKinds.{IsFault}
 use Rattle.tree_grammar.proofs.FileLaws.{read_is_file, met_is_passed, no_front_is_nothing, no_nodes_are_nothing, one_tree, not_passed, one_limit}
@@ -52,18 +52,18 @@ fault_stop : (tokens : TokenList) (kind : EfgKind) (rest : List Token) (stop : E
     → stop ≡ stops.Fault (record { at = offset_of tokens (length rest); kind = kind }) → Gives stops.Memory (tree_in tokens) (Err stop)
 fault_stop tokens kind rest stop few e none s = subst (λ x. Gives stops.Memory (tree_in tokens) (Err x)) (sym s) (inr ((rest, stop_is_fault (bare tokens) kind rest few e, refl), none))
 
--- a fault of the head is one of the file
-head_fault : (tokens : List Token) (kind : EfgKind) (rest : List Token) → parse_head tokens ≡ Err (kind, rest) → parse_tree tokens ≡ Err (inl (kind, rest))
+-- a fault of the front is one of the file
+front_fault : (tokens : List Token) (kind : EfgKind) (rest : List Token) → parse_front tokens ≡ Err (kind, rest) → parse_tree tokens ≡ Err (inl (kind, rest))
 unfolding parse_tree
-head_fault tokens kind rest e = rw e refl
+front_fault tokens kind rest e = rw e refl
 
 -- a stop for a front that is not read
-pub front_stop : (tokens : TokenList) (refusal : Refusal EfgKind) (stop : EfgStop) → length tokens.list < 2 ^ 32 → IsRefusal refusal (parse_head (bare tokens)) → IsEfgStop refusal tokens stop → Gives stops.Memory (tree_in tokens) (Err stop)
-front_stop tokens refusals.Memory stop few r s = inl s
-front_stop tokens (refusals.Unexpected kind left) stop few r s =
-    let f = counted_fault (parse_head (bare tokens)) kind left r in
+pub front_stop : (tokens : TokenList) (stopped : PartStop EfgKind) (stop : EfgStop) → length tokens.list < 2 ^ 32 → IsPartStop stopped (parse_front (bare tokens)) → IsEfgStop stopped tokens stop → Gives stops.Memory (tree_in tokens) (Err stop)
+front_stop tokens part_stops.Memory stop few r s = inl s
+front_stop tokens (part_stops.Unexpected kind left) stop few r s =
+    let f = counted_fault (parse_front (bare tokens)) kind left r in
     let none = no_front_is_nothing (bare tokens) (kind, f.0) f.1 in
-    let t = head_fault (bare tokens) kind f.0 f.1 in
+    let t = front_fault (bare tokens) kind f.0 f.1 in
     fault_stop tokens kind f.0 stop (rw (length-map tokens.list (λ s. s.token)) few) t none.no_limit (s ∙ ap (λ (n : ℕ). stops.Fault (record { at = offset_of tokens n; kind = kind })) (sym f.2))
 
 -- the limit that is passed
@@ -80,15 +80,15 @@ in_nodes_at kind (t ∷ rest) zero e = absurd (omega arith)
 in_nodes_at kind (t ∷ rest) (suc left) e = refl
 
 -- and so is one of the nodes
-body_fault : (tokens : List Token) (x : Head × List Token) (kind : EfgKind) (rest : List Token) (left : ℕ) → parse_head tokens ≡ Ok x → parse_all_nodes (length x.0.1) x.1 ≡ Err (inl (kind, rest)) → length rest ≡ left → parse_tree tokens ≡ Err (inl (kind_in_nodes kind left, rest))
+body_fault : (tokens : List Token) (x : FrontPart × List Token) (kind : EfgKind) (rest : List Token) (left : ℕ) → parse_front tokens ≡ Ok x → parse_all_nodes (length x.0.1) x.1 ≡ Err (inl (kind, rest)) → length rest ≡ left → parse_tree tokens ≡ Err (inl (kind_in_nodes kind left, rest))
 unfolding parse_tree
 body_fault tokens x kind rest left e f n = rw (e, f, in_nodes_at kind rest left n) refl
 
 -- a stop for nodes that are not read
-pub nodes_stop : (tokens : TokenList) (x : Head × List Token) (stopped : Stop) (stop : EfgStop) → length tokens.list < 2 ^ 32 → parse_head (bare tokens) ≡ Ok x
+pub nodes_stop : (tokens : TokenList) (x : FrontPart × List Token) (stopped : NodesStop) (stop : EfgStop) → length tokens.list < 2 ^ 32 → parse_front (bare tokens) ≡ Ok x
     → IsStop stopped (parse_all_nodes (length x.0.1) x.1) → IsNodesStop stopped tokens stop → Gives stops.Memory (tree_in tokens) (Err stop)
-nodes_stop tokens x (Refused refusals.Memory) stop few e h s = inl s
-nodes_stop tokens x (Refused (refusals.Unexpected kind left)) stop few e h s =
+nodes_stop tokens x (Refused part_stops.Memory) stop few e h s = inl s
+nodes_stop tokens x (Refused (part_stops.Unexpected kind left)) stop few e h s =
     let none = no_nodes_are_nothing (bare tokens) x (kind, h.0) e h.1 in
     let t = body_fault (bare tokens) x kind h.0 left e h.1 h.2 in
     fault_stop tokens (kind_in_nodes kind left) h.0 stop (rw (length-map tokens.list (λ s. s.token)) few) t none.no_limit (s ∙ ap (λ (n : ℕ). stops.Fault (record { at = offset_of tokens n; kind = kind_in_nodes kind left })) (sym h.2))
@@ -97,14 +97,14 @@ nodes_stop tokens x (Passed passed) stop few e h s =
 
 -- ---- the tree
 -- so players are few
-pub few_of : (list : List Spanned) (x : Head × List Token) → length list < 2 ^ 32 → parse_head (map (λ s. s.token) list) ≡ Ok x → length x.0.1 < 2 ^ 32
+pub few_of : (list : List Spanned) (x : FrontPart × List Token) → length list < 2 ^ 32 → parse_front (map (λ s. s.token) list) ≡ Ok x → length x.0.1 < 2 ^ 32
 few_of list x few e = few_players (map (λ s. s.token) list) x (rw (length-map list (λ s. s.token)) few) e
 
 -- what is read is a file, and so a tree
-pub read_file : (list : List Spanned) (x : Head × List Token) (partial : PartialTree) → length list < 2 ^ 32 → parse_head (map (λ s. s.token) list) ≡ Ok x → parse_all_nodes (length x.0.1) x.1 ≡ Ok partial → IsTreeFile (map (λ s. s.token) list) (tree_so_far x.0.0 x.0.1 partial)
+pub read_file : (list : List Spanned) (x : FrontPart × List Token) (partial : PartialTree) → length list < 2 ^ 32 → parse_front (map (λ s. s.token) list) ≡ Ok x → parse_all_nodes (length x.0.1) x.1 ≡ Ok partial → IsTreeFile (map (λ s. s.token) list) (tree_so_far x.0.0 x.0.1 partial)
 read_file list x partial few e f = read_is_file (map (λ s. s.token) list) x partial (few_of list x few e) e f
 
-pub read_tree : (list : List Spanned) (x : Head × List Token) (partial : PartialTree) → length list < 2 ^ 32 → parse_head (map (λ s. s.token) list) ≡ Ok x → parse_all_nodes (length x.0.1) x.1 ≡ Ok partial → IsGameTree (tree_so_far x.0.0 x.0.1 partial)
+pub read_tree : (list : List Spanned) (x : FrontPart × List Token) (partial : PartialTree) → length list < 2 ^ 32 → parse_front (map (λ s. s.token) list) ≡ Ok x → parse_all_nodes (length x.0.1) x.1 ≡ Ok partial → IsGameTree (tree_so_far x.0.0 x.0.1 partial)
 read_tree list x partial few e f = (read_file list x partial few e f).describe.partial
 
 -- a tree that has been made is that of the file

@@ -3,20 +3,20 @@ use Rattle.std.proofs.Common.{◌≡◌, ◌≢◌, ℕ, suc, ◌≤◌, nat_eq,
 use Rattle.std.proofs.lemmas.List.{length-set}
 use Rattle.std.specs.Prelude.{Result, Ok, Err, codes}
 use Rattle.game_core.specs.declared.tree.Kind.TheVariants.{End}
-use Rattle.file_parts.specs.declared.refusal.Refusal.{Refusal}
-use Rattle.file_parts.specs.declared.refusal.Refusal.TheVariants as refusals
+use Rattle.file_parts.specs.declared.stop.PartStop.{PartStop}
+use Rattle.file_parts.specs.declared.stop.PartStop.TheVariants as part_stops
 use Rattle.game_core.specs.declared.too_large.What.{What}
-use Rattle.efg_reader.specs.declared.nodes.Stop.TheVariants.{Refused}
+use Rattle.efg_reader.specs.declared.nodes.NodesStop.TheVariants.{Refused}
 use Rattle.efg_reader.specs.States.{IsStop}
 use Rattle.tree_grammar.proofs.NodeStopLemmas.{MayStand, at_is, unlimited_ok}
 use Rattle.file_parts.specs.Reading.{word_at, text_at, whole_at, optional_text_at, count_at}
-use Rattle.file_parts.specs.Parsing.{Parsed, IsRefusal, wanted}
+use Rattle.file_parts.specs.Parsing.{Parsed, IsPartStop, wanted}
 use Rattle.file_parts.proofs.ParseLemmas.{refused_first}
 use Rattle.file_parts.proofs.ReaderLemmas.{bind_ok, ok_same, err_same, ok_err}
 use Rattle.written_trees.specs.Written.{SetUse, OutcomeUse}
-use Rattle.written_trees.specs.Building.{PartialTree, Branching, PartialSet, PartialOutcome, set_place, outcome_place, passed, new_set, used_set, new_outcome, used_outcome}
+use Rattle.written_trees.specs.Building.{PartialTree, Branching, PartialSet, PartialOutcome, set_place, outcome_place, passed, new_set, used_set, new_outcome, used_outcome, Choice, with_parts}
 use Rattle.tree_grammar.specs.TreePieces.{begins_node, is_word}
-use Rattle.tree_grammar.specs.TreeParsing.{grown_at, grown, Choice, bare_use, parse_first_list, parse_later_list, parse_use, parse_set, parse_player, parse_set_choice, parse_own_choice, parse_after, parse_choice, bare_outcome_use, parse_first_payoffs, parse_later_payoffs, parse_outcome_use, parse_named, parse_outcome, with_parts, parse_next, parse_at, within_limit}
+use Rattle.tree_grammar.specs.TreeParsing.{grown_at, grown, bare_use, parse_first_list, parse_later_list, parse_use, parse_set, parse_player, parse_set_choice, parse_own_choice, parse_after, parse_choice, bare_outcome_use, parse_first_payoffs, parse_later_payoffs, parse_outcome_use, parse_named, parse_outcome, parse_next, parse_at, within_limit}
 use Rattle.tree_grammar.specs.declared.kinds.EfgKind.{EfgKind}
 use Rattle.tree_grammar.specs.declared.kinds.EfgKind.TheVariants.{Node}
 use Rattle.tree_grammar.proofs.NodeStepLemmas.{with_uses}
@@ -25,9 +25,9 @@ use Rattle.game_core.specs.declared.token.Token.{Token}
 use Rattle.std.proofs.lemmas.Bool.{cases_Bool}
 
 -- no node's word comes
-pub no_word : (players : ℕ) (partial : PartialTree) (branchings : List Branching) (tokens : List Token) (refusal : Refusal EfgKind) → begins_node tokens ≡ false → refusal ≡ refusals.Unexpected Node (length tokens) → IsStop (Refused refusal) (parse_at players partial branchings tokens)
-no_word players partial [] tokens refusal n u = rw u (tokens, refl, refl)
-no_word players partial (b ∷ branchings) tokens refusal n u = rw u (tokens, rw n refl, refl)
+pub no_word : (players : ℕ) (partial : PartialTree) (branchings : List Branching) (tokens : List Token) (stopped : PartStop EfgKind) → begins_node tokens ≡ false → stopped ≡ part_stops.Unexpected Node (length tokens) → IsStop (Refused stopped) (parse_at players partial branchings tokens)
+no_word players partial [] tokens stopped n u = rw u (tokens, refl, refl)
+no_word players partial (b ∷ branchings) tokens stopped n u = rw u (tokens, rw n refl, refl)
 
 -- a limit is passed
 beyond_at : (players : ℕ) (partial : PartialTree) (branchings : List Branching) (tokens : List Token) (what : What) → branchings ≢ [] → begins_node tokens ≡ true → passed partial ≡ Some what → parse_at players partial branchings tokens ≡ Err (inr what)
@@ -38,13 +38,13 @@ pub beyond : (players : ℕ) (partial : PartialTree) (tokens : List Token) (what
 beyond players partial tokens what some n limit = beyond_at players partial partial.branchings tokens what some n limit
 
 -- ---- the node
--- a refusal of a part is one of the nodes
-refused_stop : {Y : Type 0} (refusal : Refusal EfgKind) (reading : Result Y (EfgKind × List Token)) → IsRefusal refusal reading → IsStop (Refused refusal) (within_limit None reading)
-refused_stop (refusals.Unexpected kind left) (Ok x) r = cc
-refused_stop (refusals.Unexpected kind left) (Err fault) r =
+-- a stop of a part is one of the nodes
+refused_stop : {Y : Type 0} (stopped : PartStop EfgKind) (reading : Result Y (EfgKind × List Token)) → IsPartStop stopped reading → IsStop (Refused stopped) (within_limit None reading)
+refused_stop (part_stops.Unexpected kind left) (Ok x) r = cc
+refused_stop (part_stops.Unexpected kind left) (Err fault) r =
     let same = err_same (fault.0, length fault.1) (kind, left) r in
     (fault.1, ap (λ (k : EfgKind). Err (inl (k, fault.1))) (ap (λ (f : EfgKind × ℕ). f.0) same), ap (λ (f : EfgKind × ℕ). f.1) same)
-refused_stop refusals.Memory reading r = tt
+refused_stop part_stops.Memory reading r = tt
 
 -- where a node may stand
 may_by : (partial : PartialTree) (branchings : List Branching) (tokens : List Token) → branchings ≢ [] → begins_node tokens ≡ true → passed partial ≡ None → MayStand partial branchings tokens
@@ -55,16 +55,16 @@ pub may_stand : (partial : PartialTree) (tokens : List Token) → partial.branch
 may_stand partial tokens some n room = may_by partial partial.branchings tokens some n room
 
 -- the choice is not read
-pub choice_refused : (players : ℕ) (partial : PartialTree) (tokens : List Token) (refusal : Refusal EfgKind) → MayStand partial partial.branchings tokens → IsRefusal refusal (parse_choice players (length partial.nodes) partial.sets tokens) → IsStop (Refused refusal) (parse_at players partial partial.branchings tokens)
+pub choice_refused : (players : ℕ) (partial : PartialTree) (tokens : List Token) (stopped : PartStop EfgKind) → MayStand partial partial.branchings tokens → IsPartStop stopped (parse_choice players (length partial.nodes) partial.sets tokens) → IsStop (Refused stopped) (parse_at players partial partial.branchings tokens)
 unfolding parse_next
-choice_refused players partial tokens refusal m r = rw (at_is players partial partial.branchings tokens m) (refused_stop refusal (parse_next players partial m.first m.others tokens) (refused_first refusal (parse_choice players (length partial.nodes) partial.sets tokens) _ r))
+choice_refused players partial tokens stopped m r = rw (at_is players partial partial.branchings tokens m) (refused_stop stopped (parse_next players partial m.first m.others tokens) (refused_first stopped (parse_choice players (length partial.nodes) partial.sets tokens) _ r))
 
 -- the outcome is not read
-pub outcome_refused : (players : ℕ) (partial : PartialTree) (tokens : List Token) (refusal : Refusal EfgKind) (c : Choice × List Token) → MayStand partial partial.branchings tokens → parse_choice players (length partial.nodes) partial.sets tokens ≡ Ok c → IsRefusal refusal (parse_outcome players partial.outcomes c.1) → IsStop (Refused refusal) (parse_at players partial partial.branchings tokens)
+pub outcome_refused : (players : ℕ) (partial : PartialTree) (tokens : List Token) (stopped : PartStop EfgKind) (c : Choice × List Token) → MayStand partial partial.branchings tokens → parse_choice players (length partial.nodes) partial.sets tokens ≡ Ok c → IsPartStop stopped (parse_outcome players partial.outcomes c.1) → IsStop (Refused stopped) (parse_at players partial partial.branchings tokens)
 unfolding parse_next
-outcome_refused players partial tokens refusal c m e r =
-    let refused : IsRefusal refusal (parse_next players partial m.first m.others tokens) = rw e (refused_first refusal (parse_outcome players partial.outcomes c.1) _ r) in
-    rw (at_is players partial partial.branchings tokens m) (refused_stop refusal (parse_next players partial m.first m.others tokens) refused)
+outcome_refused players partial tokens stopped c m e r =
+    let refused : IsPartStop stopped (parse_next players partial m.first m.others tokens) = rw e (refused_first stopped (parse_outcome players partial.outcomes c.1) _ r) in
+    rw (at_is players partial partial.branchings tokens m) (refused_stop stopped (parse_next players partial m.first m.others tokens) refused)
 
 -- both are read, and the tree grows
 pub node_added : (players : ℕ) (partial more : PartialTree) (tokens : List Token) (c : Choice × List Token) (o : (List PartialOutcome × Option ℕ) × List Token) → MayStand partial partial.branchings tokens → parse_choice players (length partial.nodes) partial.sets tokens ≡ Ok c → parse_outcome players partial.outcomes c.1 ≡ Ok o

@@ -5,13 +5,13 @@ use Rattle.game_core.specs.Spacing.{IsShortToken}
 use Rattle.std.specs.Prelude.{Vec, vec_len}
 use Rattle.std.specs.Global.{Global}
 use Rattle.std.proofs.lemmas.List.{length-map, length-reverse}
-use Rattle.file_parts.specs.declared.refusal.Refusal.{Refusal}
-use Rattle.file_parts.specs.declared.refusal.Refusal.TheVariants as refusals
+use Rattle.file_parts.specs.declared.stop.PartStop.{PartStop}
+use Rattle.file_parts.specs.declared.stop.PartStop.TheVariants as part_stops
 use Rattle.file_parts.specs.Reading.{ends}
 use Rattle.written_trees.specs.Building.{PartialTree, Branching, root_alone}
 use Rattle.efg_reader.specs.declared.builder.Branching.{Branching as Kept}
-use Rattle.efg_reader.specs.declared.nodes.Stop.{Stop}
-use Rattle.efg_reader.specs.declared.nodes.Stop.TheVariants.{Refused, Passed}
+use Rattle.efg_reader.specs.declared.nodes.NodesStop.{NodesStop}
+use Rattle.efg_reader.specs.declared.nodes.NodesStop.TheVariants.{Refused, Passed}
 use Rattle.efg_reader.specs.States.{branching_of, branchings_of, IsStop}
 use Rattle.tree_grammar.specs.TreeParsing.{NodeStop, is_whole, parse_at, parse_nodes, parse_all_nodes}
 use Rattle.tree_grammar.specs.declared.kinds.EfgKind.{EfgKind}
@@ -70,9 +70,9 @@ stuck players partial rest tokens stop free e way = go way.steps way.enough way.
         let whole : parse_nodes (suc (length tokens)) players root_alone tokens ≡ Err stop = sym gives ∙ rw (free, e) refl in
         rw whole refl
 
-pub refuses_all : (stop : Stop) (players : ℕ) (partial : PartialTree) (rest tokens : List Token) → is_whole partial ≡ false → IsStop stop (parse_at players partial partial.branchings rest) → IsUnderWay players partial rest tokens → IsStop stop (parse_all_nodes players tokens)
-refuses_all (Refused refusals.Memory) players partial rest tokens free r way = tt
-refuses_all (Refused (refusals.Unexpected kind left)) players partial rest tokens free r way = (r.0, stuck players partial rest tokens (inl (kind, r.0)) free r.1 way, r.2)
+pub refuses_all : (stop : NodesStop) (players : ℕ) (partial : PartialTree) (rest tokens : List Token) → is_whole partial ≡ false → IsStop stop (parse_at players partial partial.branchings rest) → IsUnderWay players partial rest tokens → IsStop stop (parse_all_nodes players tokens)
+refuses_all (Refused part_stops.Memory) players partial rest tokens free r way = tt
+refuses_all (Refused (part_stops.Unexpected kind left)) players partial rest tokens free r way = (r.0, stuck players partial rest tokens (inl (kind, r.0)) free r.1 way, r.2)
 refuses_all (Passed what) players partial rest tokens free r way = stuck players partial rest tokens (inr what) free r way
 
 -- ---- the file
@@ -90,9 +90,9 @@ unfolding parse_all_nodes
 whole_read players partial tokens rest w way f = rw (comes_to_end players partial rest tokens w way, f) refl
 
 -- tokens stand after the nodes
-pub more_after : (players : ℕ) (partial : PartialTree) (tokens rest : List Token) (refusal : Refusal EfgKind) → is_whole partial ≡ true → IsUnderWay players partial rest tokens → ends rest ≡ false → refusal ≡ refusals.Unexpected Trailing (length rest) → IsStop (Refused refusal) (parse_all_nodes players tokens)
+pub more_after : (players : ℕ) (partial : PartialTree) (tokens rest : List Token) (stopped : PartStop EfgKind) → is_whole partial ≡ true → IsUnderWay players partial rest tokens → ends rest ≡ false → stopped ≡ part_stops.Unexpected Trailing (length rest) → IsStop (Refused stopped) (parse_all_nodes players tokens)
 unfolding parse_all_nodes
-more_after players partial tokens rest refusal w way f u = rw u (rest, rw (comes_to_end players partial rest tokens w way, f) refl, refl)
+more_after players partial tokens rest stopped w way f u = rw u (rest, rw (comes_to_end players partial rest tokens w way, f) refl, refl)
 
 -- ---- the places
 -- whether the tree is whole, by the branchings that are kept

@@ -5,13 +5,13 @@ use Rattle.std.specs.List.{AllByRecursion}
 use Rattle.game_core.specs.Tree.{most_nodes, most_depth}
 use Rattle.game_core.specs.declared.token.Token.{Token}
 use Rattle.game_core.specs.declared.tree.Node.{Node}
-use Rattle.file_parts.specs.declared.refusal.Refusal.TheVariants as refusals
+use Rattle.file_parts.specs.declared.stop.PartStop.TheVariants as part_stops
 use Rattle.written_trees.specs.Building.{PartialTree, PartialSet, PartialOutcome, Branching, take_branch}
 use Rattle.efg_reader.specs.PartialCodes.{PartialNodes}
 use Rattle.tree_grammar.specs.TreeParsing.{NodeStop}
 use Rattle.efg_reader.specs.declared.builder.Branching.{Branching as Kept}
-use Rattle.efg_reader.specs.declared.nodes.Stop.{Stop}
-use Rattle.efg_reader.specs.declared.nodes.Stop.TheVariants.{Refused, Passed}
+use Rattle.efg_reader.specs.declared.nodes.NodesStop.{NodesStop}
+use Rattle.efg_reader.specs.declared.nodes.NodesStop.TheVariants.{Refused, Passed}
 
 -- a node with open branches
 abbrev pub branching_of : Kept → Branching
@@ -51,12 +51,12 @@ HasTaken (b ∷ rest) None after = ⊥
 HasTaken (b ∷ rest) (Some taken) after = (branching_of taken ≡ b) × (after ≡ take_branch b rest)
 
 -- a stop is the reading's reason, unless memory ran out
-abbrev pub IsStop : {Y : Type 0} → Stop → Result Y NodeStop → Type 0
-IsStop (Refused (refusals.Unexpected kind left)) reading = (rest : List Token) × (reading ≡ Err (inl (kind, rest))) × (length rest ≡ left)
-IsStop (Refused refusals.Memory) reading = Unit {0}
+abbrev pub IsStop : {Y : Type 0} → NodesStop → Result Y NodeStop → Type 0
+IsStop (Refused (part_stops.Unexpected kind left)) reading = (rest : List Token) × (reading ≡ Err (inl (kind, rest))) × (length rest ≡ left)
+IsStop (Refused part_stops.Memory) reading = Unit {0}
 IsStop (Passed what) reading = reading ≡ Err (inr what)
 
 -- what a function of the code answered, seen by view, is what the reading gives, unless memory ran out
-abbrev pub ParsesNodes : {X Y : Type 0} → (X → Y) → Result X Stop → Result Y NodeStop → Type 0
+abbrev pub ParsesNodes : {X Y : Type 0} → (X → Y) → Result X NodesStop → Result Y NodeStop → Type 0
 ParsesNodes view (Ok x) reading = reading ≡ Ok (view x)
 ParsesNodes view (Err stop) reading = IsStop stop reading

@@ -13,11 +13,11 @@ use Rattle.tree_grammar.specs.FaultKinds.{IsFault}
 use Rattle.tree_grammar.specs.declared.kinds.EfgKind.{EfgKind}
 use Rattle.tree_grammar.specs.declared.kinds.EfgKind.TheVariants.{Unfinished}
 use Rattle.file_parts.specs.Reading.{offset_of}
-use Rattle.file_parts.specs.declared.refusal.Refusal.{Refusal}
-use Rattle.file_parts.specs.declared.refusal.Refusal.TheVariants as refusals
+use Rattle.file_parts.specs.declared.stop.PartStop.{PartStop}
+use Rattle.file_parts.specs.declared.stop.PartStop.TheVariants as part_stops
 use Rattle.efg_reader.specs.declared.fault.EfgStop.{EfgStop}
-use Rattle.efg_reader.specs.declared.nodes.Stop.{Stop}
-use Rattle.efg_reader.specs.declared.nodes.Stop.TheVariants.{Refused, Passed}
+use Rattle.efg_reader.specs.declared.nodes.NodesStop.{NodesStop}
+use Rattle.efg_reader.specs.declared.nodes.NodesStop.TheVariants.{Refused, Passed}
 use Rattle.efg_reader.specs.declared.fault.EfgStop.TheVariants as stops
 
 -- a limit is passed, by the number of nodes or by the depth
@@ -34,10 +34,10 @@ tree_in tokens (Err (stops.Fault fault)) = IsFault tokens fault.kind fault.at ×
 tree_in tokens (Err (stops.TooLarge limit)) = IsPassed (bare tokens) limit
 tree_in tokens (Err stops.Memory) = ⊥
 
--- the stop that a refusal of a part becomes
-abbrev pub IsEfgStop : Refusal EfgKind → TokenList → EfgStop → Type 0
-IsEfgStop (refusals.Unexpected kind left) tokens stop = stop ≡ stops.Fault (record { at = offset_of tokens left; kind = kind })
-IsEfgStop refusals.Memory tokens stop = stop ≡ stops.Memory
+-- the stop that a part's becomes
+abbrev pub IsEfgStop : PartStop EfgKind → TokenList → EfgStop → Type 0
+IsEfgStop (part_stops.Unexpected kind left) tokens stop = stop ≡ stops.Fault (record { at = offset_of tokens left; kind = kind })
+IsEfgStop part_stops.Memory tokens stop = stop ≡ stops.Memory
 
 -- the kind inside the nodes: where no token is left, they end too early
 abbrev pub kind_in_nodes : EfgKind → ℕ → EfgKind
@@ -45,8 +45,8 @@ kind_in_nodes kind zero = Unfinished
 kind_in_nodes kind (suc left) = kind
 
 -- the stop that nodes become that are not read
-abbrev pub IsNodesStop : Stop → TokenList → EfgStop → Type 0
-IsNodesStop (Refused (refusals.Unexpected kind left)) tokens stop = stop ≡ stops.Fault (record { at = offset_of tokens left; kind = kind_in_nodes kind left })
-IsNodesStop (Refused refusals.Memory) tokens stop = stop ≡ stops.Memory
+abbrev pub IsNodesStop : NodesStop → TokenList → EfgStop → Type 0
+IsNodesStop (Refused (part_stops.Unexpected kind left)) tokens stop = stop ≡ stops.Fault (record { at = offset_of tokens left; kind = kind_in_nodes kind left })
+IsNodesStop (Refused part_stops.Memory) tokens stop = stop ≡ stops.Memory
 IsNodesStop (Passed Nodes) tokens stop = stop ≡ stops.TooLarge (first_above Nodes most_nodes)
 IsNodesStop (Passed _) tokens stop = stop ≡ stops.TooLarge (first_above Depth most_depth)

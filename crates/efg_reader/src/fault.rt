@@ -1,4 +1,5 @@
 // Why a tree is not read.
+use answers::Memory;
 use game_core::TooLarge;
 use std::alloc::AllocError;
 use tree_grammar::EfgKind;
@@ -31,6 +32,17 @@ impl From<AllocError> for EfgStop {
     ghost from_gives = { λ _ e. e ≡ Memory };
 
     fn from(_error: AllocError) -> EfgStop {
+        EfgStop::Memory
+    }
+}
+
+impl From<Memory> for EfgStop {
+    ghost use Rattle.std.specs.Prelude.{◌≡◌};
+    ghost use Rattle.efg_reader.specs.declared.fault.EfgStop.TheVariants as stops;
+
+    ghost from_gives = { λ _ e. e ≡ stops.Memory };
+
+    fn from(_memory: Memory) -> EfgStop {
         EfgStop::Memory
     }
 }

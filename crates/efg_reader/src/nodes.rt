@@ -11,40 +11,40 @@ ghost use Rattle.tree_grammar.specs.TreeParsing.{parse_set_choice, parse_own_cho
 ghost use Rattle.written_trees.specs.Building.{passed};
 
 use crate::builder::{Builder, Choice};
-use file_parts::{Refusal, ends, text, unexpected, word};
+use file_parts::{PartStop, ends, text, unexpected, word};
 use game_core::{Kind, Name, Spanned, What};
 use std::alloc::{AllocError, Global};
 use tree_grammar::{EfgKind, Sets, begins_node, player, read_outcome, read_set};
 
 /// Why nodes are not read.
 #[derive(Clone, Copy, Debug, PartialEq, Eq)]
-pub enum Stop {
+pub enum NodesStop {
     /// A token does not fit, or memory ran out.
-    Refused(Refusal<EfgKind>),
+    Refused(PartStop<EfgKind>),
     /// A node passes a limit.
     Passed(What),
 }
 
-impl From<Refusal<EfgKind>> for Stop {
+impl From<PartStop<EfgKind>> for NodesStop {
     ghost use Rattle.std.specs.Prelude.{◌≡◌};
-    ghost use Rattle.efg_reader.specs.declared.nodes.Stop.TheVariants.{Refused};
+    ghost use Rattle.efg_reader.specs.declared.nodes.NodesStop.TheVariants.{Refused};
 
-    ghost from_gives = { λ refusal stop. stop ≡ Refused refusal };
+    ghost from_gives = { λ stopped stop. stop ≡ Refused stopped };
 
-    fn from(refusal: Refusal<EfgKind>) -> Stop {
-        Stop::Refused(refusal)
+    fn from(stopped: PartStop<EfgKind>) -> NodesStop {
+        NodesStop::Refused(stopped)
     }
 }
 
-impl From<AllocError> for Stop {
+impl From<AllocError> for NodesStop {
     ghost use Rattle.std.specs.Prelude.{◌≡◌};
-    ghost use Rattle.file_parts.specs.declared.refusal.Refusal.TheVariants.{Memory};
-    ghost use Rattle.efg_reader.specs.declared.nodes.Stop.TheVariants.{Refused};
+    ghost use Rattle.file_parts.specs.declared.stop.PartStop.TheVariants.{Memory};
+    ghost use Rattle.efg_reader.specs.declared.nodes.NodesStop.TheVariants.{Refused};
 
     ghost from_gives = { λ _ stop. stop ≡ Refused Memory };
 
-    fn from(_error: AllocError) -> Stop {
-        Stop::Refused(Refusal::Memory)
+    fn from(_error: AllocError) -> NodesStop {
+        NodesStop::Refused(PartStop::Memory)
     }
 }
 
@@ -73,7 +73,7 @@ fn set_choice<'a>(
     owner: Option<u32>,
     number: u32,
     tokens: &'a [Spanned],
-) -> Result<(Sets, Choice, &'a [Spanned]), Refusal<EfgKind>>
+) -> Result<(Sets, Choice, &'a [Spanned]), PartStop<EfgKind>>
     requires few { length sets < 4294967295 }
     requires short { AllByRecursion IsShortToken (kinds tokens.now) }
     ensures { Parses (λ x. ((x.0, (x.1.kind, x.1.set)), kinds x.2.now)) result
@@ -95,7 +95,7 @@ fn own_choice<'a>(
     players: u32,
     number: u32,
     tokens: &'a [Spanned],
-) -> Result<(Sets, Choice, &'a [Spanned]), Refusal<EfgKind>>
+) -> Result<(Sets, Choice, &'a [Spanned]), PartStop<EfgKind>>
     requires few { length sets < 4294967295 }
     requires short { AllByRecursion IsShortToken (kinds tokens.now) }
     ensures { Parses (λ x. ((x.0, (x.1.kind, x.1.set)), kinds x.2.now)) result
@@ -114,7 +114,7 @@ fn choice<'a>(
     players: u32,
     number: u32,
     tokens: &'a [Spanned],
-) -> Result<(Sets, Choice, &'a [Spanned]), Refusal<EfgKind>>
+) -> Result<(Sets, Choice, &'a [Spanned]), PartStop<EfgKind>>
     requires few { length sets < 4294967295 }
     requires short { AllByRecursion IsShortToken (kinds tokens.now) }
     ensures { Parses (λ x. ((x.0, (x.1.kind, x.1.set)), kinds x.2.now)) result
@@ -147,7 +147,7 @@ fn next<'a>(
     builder: Builder,
     players: u32,
     tokens: &'a [Spanned],
-) -> Result<(Builder, &'a [Spanned]), Stop>
+) -> Result<(Builder, &'a [Spanned]), NodesStop>
     requires begins { begins_node (kinds tokens.now) ≡ true }
     requires room { passed builder ≡ None }
     requires free { builder.branchings ≢ [] }
@@ -160,36 +160,18 @@ fn next<'a>(
         sets,
         outcomes,
     } = builder;
-    let (sets, choice, following) = match choice(
-        alloc,
-        sets,
-        players,
-        nodes.list.len() as u32,
-        tokens,
-    ) {
-        Ok(read) => read,
-        Err(refusal) => return Err(Stop::Refused(refusal)),
-    };
-    let (outcomes, outcome, rest) = match read_outcome(
-        alloc,
-        outcomes,
-        players as usize,
-        following,
-    ) {
-        Ok(read) => read,
-        Err(refusal) => return Err(Stop::Refused(refusal)),
-    };
-    match nodes.add(&sets, choice, outcome) {
-        Ok(nodes) => Ok((
-            Builder {
-                nodes,
-                sets,
-                outcomes,
-            },
-            rest,
-        )),
-        Err(_) => Err(Stop::Refused(Refusal::Memory)),
-    }
+    let number = nodes.list.len() as u32;
+    let (sets, choice, following) = choice(alloc, sets, players, number, tokens)?;
+    let (outcomes, outcome, rest) = read_outcome(alloc, outcomes, players as usize, following)?;
+    let nodes = nodes.add(&sets, choice, outcome)?;
+    Ok((
+        Builder {
+            nodes,
+            sets,
+            outcomes,
+        },
+        rest,
+    ))
 }
 
 // The tree with a further node, and the tokens after it.
@@ -199,23 +181,23 @@ fn one_more<'a>(
     builder: Builder,
     players: u32,
     tokens: &'a [Spanned],
-) -> Result<(Builder, &'a [Spanned]), Stop>
+) -> Result<(Builder, &'a [Spanned]), NodesStop>
     requires free { builder.branchings ≢ [] }
     requires short { AllByRecursion IsShortToken (kinds tokens.now) }
     ensures { ParsesNodes (λ x. (x.0, kinds x.1.now)) result
         (parse_at players builder builder.branchings (kinds tokens.now)) }
 {
     if !begins_node(tokens) {
-        return Err(Stop::Refused(unexpected(EfgKind::Node, tokens)));
+        return Err(NodesStop::Refused(unexpected(EfgKind::Node, tokens)));
     }
     if let Some(what) = builder.passed() {
-        return Err(Stop::Passed(what));
+        return Err(NodesStop::Passed(what));
     }
     next(alloc, builder, players, tokens)
 }
 
 /// The tree of all nodes of a file, after which it ends.
-pub fn read_nodes(alloc: Global, players: u32, tokens: &[Spanned]) -> Result<Builder, Stop>
+pub fn read_nodes(alloc: Global, players: u32, tokens: &[Spanned]) -> Result<Builder, NodesStop>
     requires short { AllByRecursion IsShortToken (kinds tokens.now) }
     ensures { ParsesNodes (λ builder. builder) result (parse_all_nodes players (kinds tokens.now)) }
 {
@@ -227,6 +209,6 @@ pub fn read_nodes(alloc: Global, players: u32, tokens: &[Spanned]) -> Result<Bui
     if ends(rest) {
         Ok(builder)
     } else {
-        Err(Stop::Refused(unexpected(EfgKind::Trailing, rest)))
+        Err(NodesStop::Refused(unexpected(EfgKind::Trailing, rest)))
     }
 }

@@ -12,39 +12,39 @@ ghost use Rattle.game_core.specs.TokenList.{TokenList, bare};
 
 use crate::builder::{Builder, MOST_DEPTH, MOST_NODES};
 use crate::fault::{EfgFault, EfgStop};
-use crate::nodes::{Stop, read_nodes};
-use file_parts::{Refusal, offset};
+use crate::nodes::{NodesStop, read_nodes};
+use file_parts::{PartStop, offset};
 use game_core::{Tokens, TooLarge, Tree, What};
 use std::alloc::Global;
 use tree_grammar::{EfgKind, Front, read_front};
 
-// The stop for a refusal.
-fn stop(refusal: Refusal<EfgKind>, tokens: &Tokens) -> EfgStop
-    ensures { IsEfgStop refusal tokens.now result }
+// The stop that a part's becomes.
+fn stop(stopped: PartStop<EfgKind>, tokens: &Tokens) -> EfgStop
+    ensures { IsEfgStop stopped tokens.now result }
 {
-    match refusal {
-        Refusal::Unexpected(kind, left) => EfgStop::Fault(EfgFault {
+    match stopped {
+        PartStop::Unexpected(kind, left) => EfgStop::Fault(EfgFault {
             at: offset(tokens, left),
             kind,
         }),
-        Refusal::Memory => EfgStop::Memory,
+        PartStop::Memory => EfgStop::Memory,
     }
 }
 
 // The stop for nodes that are not read: where the tokens end inside the nodes, that is the fault.
-fn nodes_stop(stopped: Stop, tokens: &Tokens) -> EfgStop
+fn nodes_stop(stopped: NodesStop, tokens: &Tokens) -> EfgStop
     ensures { IsNodesStop stopped tokens.now result }
 {
     match stopped {
-        Stop::Refused(Refusal::Unexpected(_, 0)) => stop(
-            Refusal::Unexpected(EfgKind::Unfinished, 0),
+        NodesStop::Refused(PartStop::Unexpected(_, 0)) => stop(
+            PartStop::Unexpected(EfgKind::Unfinished, 0),
             tokens,
         ),
-        Stop::Refused(refusal) => stop(refusal, tokens),
-        Stop::Passed(What::Nodes) => {
+        NodesStop::Refused(stopped) => stop(stopped, tokens),
+        NodesStop::Passed(What::Nodes) => {
             EfgStop::TooLarge(TooLarge::first_above(What::Nodes, MOST_NODES as u64))
         }
-        Stop::Passed(_) => {
+        NodesStop::Passed(_) => {
             EfgStop::TooLarge(TooLarge::first_above(What::Depth, MOST_DEPTH as u64))
         }
     }
@@ -65,20 +65,24 @@ fn tree(alloc: Global, front: Front, builder: Builder) -> Result<Tree, EfgStop>
     } = builder;
     let sets = sets.finish(alloc)?;
     let outcomes = outcomes.finish(alloc)?;
-    match Tree::new(alloc, title, players, nodes.list, sets, outcomes) {
-        Ok(tree) => Ok(tree),
-        Err(_) => Err(EfgStop::Memory),
-    }
+    Ok(Tree::new(alloc, title, players, nodes.list, sets, outcomes)?)
 }
 
-/// Reads the tree that the tokens stand for.
+/// Reads the tree that the tokens stand for, of which there are fewer than 2^32.
+///
+/// # Errors
+///
+/// `Fault` exactly where the tokens are no file of a tree and pass no limit: its kind, and the offset of the first
+/// token with which no file can begin any more, or the source's length where the tokens end too early. `TooLarge`
+/// exactly where a node begins that is the 65,537th, or else lies 1,025 edges below the root. `Memory` where memory
+/// ran out.
 pub fn read(alloc: Global, tokens: &Tokens) -> Result<Tree, EfgStop>
     requires few { length tokens.now.list < 2 ^ 32 }
     ensures { Gives Memory (tree_in tokens.now) result }
 {
     let (front, rest) = match read_front(alloc, tokens.list()) {
         Ok(read) => read,
-        Err(refusal) => return Err(stop(refusal, tokens)),
+        Err(stopped) => return Err(stop(stopped, tokens)),
     };
     match read_nodes(alloc, front.players.len() as u32, rest) {
         Ok(builder) => tree(alloc, front, builder),

@@ -35,7 +35,7 @@ use Rattle.basis_enum.specs.Systems.{variable_count}
 use Rattle.label_pairing.specs.Laws.{IsPair}
 use Rattle.label_pairing.specs.Pairs.{mark_at, are_together, all_pairs}
 use Rattle.label_pairing.specs.Scaling.{IsScalable}
-use Rattle.label_pairing.proofs.AllPairLemmas.{pairs_together}
+use Rattle.label_pairing.proofs.AllPairLemmas.{exactly_those, pairs_once}
 use Rattle.enummixed.specs.Order.{line_of, pair_order}
 use Rattle.enummixed.specs.Used.{all_labels, occurs, scaled_used}
 use Rattle.enummixed.proofs.LineOrderLemmas.{before-ordered}
@@ -135,7 +135,7 @@ module _ (n : ℕ) (t u : Tableau) (first second : List MarkedPoint) (vf : AreVe
 
   -- a pair of the list
   pair-is : (p : ℕ × ℕ) → Contains pairs p → IsPair (all_labels n) first second p.0 p.1
-  pair-is p c = (pairs_together.exactly (all_labels n) first second p.0 p.1).0 (subst (λ ps. Contains ps p) all c)
+  pair-is p c = (exactly_those.exactly (all_labels n) first second p.0 p.1).0 (subst (λ ps. Contains ps p) all c)
 
   first-is : (p : ℕ × ℕ) → Contains pairs p → get_or firsts p.0 [] ≡ scaled_point (mark_at first p.0).point
   first-is p c = scaled-at first (occurs (map (λ p. p.0) pairs)) firsts p.0 are_firsts (pair-is p c).in_first (occurs-at (λ p. p.0) pairs p c)
@@ -168,7 +168,7 @@ module _ (n : ℕ) (t u : Tableau) (first second : List MarkedPoint) (vf : AreVe
     sorted-in p c = Contains-permutation sorted pairs p (IsPermutation-sym pairs sorted permuted) c
 
     once : AllPairs (λ p q. p ≢ q) pairs
-    once = subst (AllPairs (λ p q. p ≢ q)) (sym all) (pairs_together.once (all_labels n) first second)
+    once = subst (AllPairs (λ p q. p ≢ q)) (sym all) (pairs_once (all_labels n) first second)
 
     -- neighbours are in order
     neighbours : (j : ℕ) (d : ℕ × ℕ) → j + 1 < length sorted → StandsBefore (line (get_or sorted j d)) (line (get_or sorted (j + 1) d))
@@ -204,7 +204,7 @@ module _ (n : ℕ) (t u : Tableau) (first second : List MarkedPoint) (vf : AreVe
         let at : mark_at first i ≡ one = get_or_default first i none one h ∙ e in
         let at' : mark_at second j ≡ two = get_or_default second j none two l ∙ f in
         let marks : HaveAllLabels n (mark_at first i) (mark_at second j) = subst (λ x. HaveAllLabels n x (mark_at second j)) (sym at) (subst (λ y. HaveAllLabels n one y) (sym at') labels) in
-        let c : Contains {X = ℕ × ℕ} pairs (i, j) = subst (λ ps. Contains {X = ℕ × ℕ} ps (i, j)) (sym all) ((pairs_together.exactly (all_labels n) first second i j).1 (record { in_first = h; in_second = l; together = labels_in n (mark_at first i) (mark_at second j) marks })) in
+        let c : Contains {X = ℕ × ℕ} pairs (i, j) = subst (λ ps. Contains {X = ℕ × ℕ} ps (i, j)) (sym all) ((exactly_those.exactly (all_labels n) first second i j).1 (record { in_first = h; in_second = l; together = labels_in n (mark_at first i) (mark_at second j) marks })) in
         subst (λ z. Contains (map line sorted) z) (line-is (i, j) c ∙ ap₂ pair_line at at') (into-map line sorted (i, j) (Contains-permutation pairs sorted (i, j) permuted c))
 
     -- the lines

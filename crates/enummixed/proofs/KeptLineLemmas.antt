@@ -24,6 +24,7 @@ use Rattle.basis_enum.specs.Systems.{variable_count}
 use Rattle.label_pairing.proofs.StopLemmas.{pairs_are}
 use Rattle.enummixed.specs.Used.{all_labels, occurs, scaled_used}
 use Rattle.enummixed.proofs.ExtremeLineLemmas.{ArePointsOf, point-lengths, extreme-lines}
+use Rattle.enummixed.proofs.StageLemmas.{both-first, both-second}
 use Rattle.enummixed.proofs.VertexPairLemmas.{parts_same}
 
 -- games with the same cells have the same lines
@@ -65,7 +66,7 @@ module _ (g h : Game) (first second : List ℕ) (m n : ℕ) (are : g.strategies 
   pub spread-text : (e : VertexPairs) → extreme_pairs h (Ok e) → (sorted : List (ℕ × ℕ)) → firsts ≡ scaled_used e.first.list (occurs (map (λ p. p.0) e.pairs)) → seconds ≡ scaled_used e.second.list (occurs (map (λ p. p.1) e.pairs)) → IsPermutation e.pairs sorted → IsSortedBy (λ p q. is_lt (pair_order firsts seconds p q)) sorted → IsExtremeEquilibriaText g (lines_text (map (line_of wide wide') sorted))
   spread-text e x sorted =
       subst (λ e. firsts ≡ scaled_used e.first.list (occurs (map (λ p. p.0) e.pairs)) → seconds ≡ scaled_used e.second.list (occurs (map (λ p. p.1) e.pairs)) → IsPermutation e.pairs sorted → IsSortedBy (λ p q. is_lt (pair_order firsts seconds p q)) sorted → IsExtremeEquilibriaText g (lines_text (map (line_of wide wide') sorted)))
-      (sym (parts_same _ _ x.2.2.2.2.2.2))
+      (sym (parts_same _ _ x.2.2.2.2.2))
       (λ f s permuted ordered.
       let p = polytopes_of h x.0.0 x.0.1 x.1 in
       let lengths = two-same p.m p.n (length first) (length second) h.strategies p.strategies cells.strategies in
@@ -73,7 +74,7 @@ module _ (g h : Game) (first second : List ℕ) (m n : ℕ) (are : g.strategies 
         lines = map (line_of wide wide') sorted;
         are_extreme_equilibria = wide-lines sorted
             (λ q c. subst (λ a. ArePointsOf a (length second) firsts seconds q) lengths.0 (subst (λ b. ArePointsOf p.m b firsts seconds q) lengths.1
-            (point-lengths h x.0.0 x.0.1 p x.2.0.list x.2.2.0.list x.2.1.2.list x.2.2.1.2.list firsts seconds x.2.2.2.0 (pairs_are (all_labels (variable_count x.0.0)) x.2.0.list x.2.2.0.list x.2.2.2.0 x.2.2.2.1) f s q (Contains-permutation sorted x.2.2.2.0 q (IsPermutation-sym x.2.2.2.0 sorted permuted) c))))
-            (extreme-lines h x.0.0 x.0.1 p x.2.0.list x.2.2.0.list x.2.1.2.list x.2.2.1.2.list firsts seconds x.2.2.2.0 sorted (pairs_are (all_labels (variable_count x.0.0)) x.2.0.list x.2.2.0.list x.2.2.2.0 x.2.2.2.1) f s permuted ordered);
+            (point-lengths h x.0.0 x.0.1 p x.2.0.0.list x.2.0.1.list (both-first x.0.0 x.0.1 x.2.0 x.2.1).2.list (both-second x.0.0 x.0.1 x.2.0 x.2.1).2.list firsts seconds x.2.2.0 (pairs_are (all_labels (variable_count x.0.0)) x.2.0.0.list x.2.0.1.list x.2.2.0 x.2.2.1) f s q (Contains-permutation sorted x.2.2.0 q (IsPermutation-sym x.2.2.0 sorted permuted) c))))
+            (extreme-lines h x.0.0 x.0.1 p x.2.0.0.list x.2.0.1.list (both-first x.0.0 x.0.1 x.2.0 x.2.1).2.list (both-second x.0.0 x.0.1 x.2.0 x.2.1).2.list firsts seconds x.2.2.0 sorted (pairs_are (all_labels (variable_count x.0.0)) x.2.0.0.list x.2.0.1.list x.2.2.0 x.2.2.1) f s permuted ordered);
         is_text = refl;
       })

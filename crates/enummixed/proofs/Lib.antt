@@ -3,9 +3,9 @@ pub mod ExtremeLineLemmas
 pub mod KeptLineLemmas
 pub mod LineOrderLemmas
 pub mod LineTextLemmas
+pub mod RankLemmas
 pub mod SortedListLemmas
 pub mod SpreadPointLemmas
 pub mod StageLemmas
 pub mod UsedPointLemmas
-pub mod VertexCountLemmas
 pub mod VertexPairLemmas

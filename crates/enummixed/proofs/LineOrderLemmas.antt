@@ -1,10 +1,10 @@
 -- The order of lines.
-use Rattle.std.proofs.Common.{ℕ, zero, suc, ◌≤◌, ◌≡◌, ◌⊎◌, inl, inr, List, [], ◌∷◌, ◌++◌, length, drop, refl, sym, ap, ap₂, ◌∙◌, arith, tests}
+use Rattle.std.proofs.Common.{ℕ, zero, suc, ◌≤◌, ◌≡◌, ◌⊎◌, inl, inr, List, [], ◌∷◌, ◌++◌, length, drop, get_or, refl, sym, ap, ap₂, ◌∙◌, arith, tests}
 use Rattle.std.specs.declared.cmp.Ordering.{Ordering}
 use Rattle.std.specs.declared.cmp.Ordering.TheVariants.{Less, Equal, Greater}
 use Rattle.std.specs.Ordering.{nat_cmp, is_lt, ordering_reverse, ordering_then}
 use Rattle.std.specs.Cmp.{IsTotalOrder, IsStrictWeakOrder}
-use Rattle.std.proofs.lemmas.Cmp.{lists_total}
+use Rattle.std.proofs.lemmas.Cmp.{lists_total, tied_itself}
 use Rattle.std.proofs.lemmas.List.MinMax.{ranks_by}
 use Rattle.std.specs.Cmp.Lexicographic.{slice_cmp}
 use Rattle.rational.specs.Rational.{ℚ}
@@ -12,7 +12,7 @@ use Rattle.rational.proofs.Field.{lt_trans}
 use Rattle.game_theory.specs.Lines.{StandsBefore}
 use Rattle.rational.specs.Tests.{cmp_ℚ}
 use Rattle.rational.proofs.TestLemmas.{cmp_ℚ-less, cmp_ℚ-equal, cmp_ℚ-greater}
-use Rattle.enummixed.specs.Order.{greater_first, points_of, pair_order}
+use Rattle.enummixed.specs.Order.{greater_first, place_order, points_of, pair_order}
 
 -- the order of numbers
 zero_less : (n : ℕ) → nat_cmp 0 (suc n) ≡ Less
@@ -56,15 +56,18 @@ greater_first-total = record { antisymm = antisymm; trans = trans; congr = congr
     congr : (x y z : ℚ) → cmp_ℚ y x ≡ Equal → cmp_ℚ z x ≡ cmp_ℚ z y
     congr x y z e = ap (λ v. cmp_ℚ z v) (sym ((cmp_ℚ-equal y x).0 e))
 
--- so pairs are ordered by their points
+-- so are points ..
+pub points-total : IsTotalOrder (slice_cmp greater_first)
+points-total = lists_total greater_first-total
+
+-- .. and places and pairs by their points
+pub places-ordered : (points : List (List ℚ)) → IsStrictWeakOrder (λ i j. is_lt (place_order points i j))
+places-ordered points = ranks_by points-total (λ i. get_or points i [])
+
 pub pairs-ordered : (firsts seconds : List (List ℚ)) → IsStrictWeakOrder (λ p q. is_lt (pair_order firsts seconds p q))
-pairs-ordered firsts seconds = ranks_by (lists_total (lists_total greater_first-total)) (points_of firsts seconds)
+pairs-ordered firsts seconds = ranks_by (lists_total points-total) (points_of firsts seconds)
 
 -- a line that stands before another has the lesser points
-same-points : (a : List ℚ) → slice_cmp greater_first a a ≡ Equal
-same-points [] = refl
-same-points (x ∷ a) = ap (λ o. ordering_then o (slice_cmp greater_first a a)) ((cmp_ℚ-equal x x).1 refl) ∙ same-points a
-
 before-less : (b d : List ℚ) → StandsBefore b d → slice_cmp greater_first b d ≡ Less
 before-less [] d h = absurd h
 before-less (x ∷ b) [] h = absurd h
@@ -85,5 +88,5 @@ before-parts (x ∷ a) b (y ∷ c) d e (inr p) = elim (before-parts a b c d (ome
 pub before-ordered : (a b c d : List ℚ) → length a ≡ length c → StandsBefore (a ++ b) (c ++ d) → slice_cmp (slice_cmp greater_first) (a ∷ b ∷ []) (c ∷ d ∷ []) ≡ Less
 before-ordered a b c d e h = elim (before-parts a b c d e h) [
   | inl l ↦ ap (λ o. ordering_then o (ordering_then (slice_cmp greater_first b d) Equal)) l
-  | inr q ↦ ap (λ o. ordering_then o (ordering_then (slice_cmp greater_first b d) Equal)) (ap (λ v. slice_cmp greater_first a v) (sym q.0) ∙ same-points a) ∙ ap (λ o. ordering_then o Equal) (before-less b d q.1)
+  | inr q ↦ ap (λ o. ordering_then o (ordering_then (slice_cmp greater_first b d) Equal)) (ap (λ v. slice_cmp greater_first a v) (sym q.0) ∙ tied_itself points-total a) ∙ ap (λ o. ordering_then o Equal) (before-less b d q.1)
 ]

@@ -1,5 +1,5 @@
 -- The stages of a game's pairs, one after another
-use Rattle.std.proofs.Common.{ℕ, ◌<◌, ◌≡◌, List, All, Ok, Err, Result, length, map, get_or, ap, inl, inr, sym, subst, subst₂}
+use Rattle.std.proofs.Common.{ℕ, ◌<◌, ◌≡◌, List, All, Ok, Err, Result, length, map, get_or, ap, sym, subst, subst₂}
 use Rattle.std.specs.Prelude.{Contains}
 use Rattle.std.specs.Result.{IsErrAnd}
 use Rattle.std.proofs.lemmas.List.Elements.{All-map, Contains-get_or}
@@ -16,12 +16,12 @@ use Rattle.basis_enum.specs.Vertices.{VertexList}
 use Rattle.basis_enum.specs.Enumeration.{vertices_in}
 use Rattle.label_pairing.specs.Pairs.{all_pairs}
 use Rattle.label_pairing.specs.Stops.{pairs_in}
-use Rattle.label_pairing.proofs.AllPairLemmas.{pairs_together}
+use Rattle.label_pairing.proofs.AllPairLemmas.{exactly_those}
 use Rattle.label_pairing.specs.declared.pairing.PairStop.{PairStop}
 use Rattle.label_pairing.specs.declared.pairing.PairStop.TheVariants as pair_stops
 use Rattle.enummixed.specs.BothVertices.{both_vertices_in}
 use Rattle.enummixed.specs.ExtremeText.{VertexPairs, extreme_pairs}
-use Rattle.enummixed.specs.Told.{polytopes_stop, enumeration_stop, pairs_stop, scale_stop}
+use Rattle.enummixed.specs.Told.{polytopes_stop, pairs_stop, scale_stop}
 use Rattle.enummixed.specs.Used.{all_labels, occurs, used_points, scaling_in}
 use Rattle.enummixed.specs.declared.stop.MixedStop.{MixedStop}
 use Rattle.enummixed.specs.declared.stop.MixedStop.TheVariants as stops
@@ -36,11 +36,11 @@ two-enumerable game one two p = let e = second_enumerable game one two (polytope
 -- the places of pairs are those of the lists
 pub first-places-in : (all : List ℕ) (first second : List MarkedPoint) (pairs : List (ℕ × ℕ)) → pairs ≡ all_pairs all first second → All (λ i. i < length first) (map (λ p. p.0) pairs)
 first-places-in all first second pairs is =
-    All-map (λ i. i < length first) (λ (p : ℕ × ℕ). p.0) pairs (λ k d l. ((pairs_together.exactly all first second (get_or pairs k d).0 (get_or pairs k d).1).0 (subst (λ ps. Contains ps (get_or pairs k d)) is (Contains-get_or pairs k d l))).in_first)
+    All-map (λ i. i < length first) (λ (p : ℕ × ℕ). p.0) pairs (λ k d l. ((exactly_those.exactly all first second (get_or pairs k d).0 (get_or pairs k d).1).0 (subst (λ ps. Contains ps (get_or pairs k d)) is (Contains-get_or pairs k d l))).in_first)
 
 pub second-places-in : (all : List ℕ) (first second : List MarkedPoint) (pairs : List (ℕ × ℕ)) → pairs ≡ all_pairs all first second → All (λ i. i < length second) (map (λ p. p.1) pairs)
 second-places-in all first second pairs is =
-    All-map (λ i. i < length second) (λ (p : ℕ × ℕ). p.1) pairs (λ k d l. ((pairs_together.exactly all first second (get_or pairs k d).0 (get_or pairs k d).1).0 (subst (λ ps. Contains ps (get_or pairs k d)) is (Contains-get_or pairs k d l))).in_second)
+    All-map (λ i. i < length second) (λ (p : ℕ × ℕ). p.1) pairs (λ k d l. ((exactly_those.exactly all first second (get_or pairs k d).0 (get_or pairs k d).1).0 (subst (λ ps. Contains ps (get_or pairs k d)) is (Contains-get_or pairs k d l))).in_second)
 
 -- the pairs of lists that are read
 pub pairs-as : (l k : List ℕ) (f g s t : List MarkedPoint) (r : Result (List (ℕ × ℕ)) PairStop) → l ≡ k → f ≡ g → s ≡ t → Gives pair_stops.Memory (pairs_in l f s) r → Gives pair_stops.Memory (pairs_in k g t) r
@@ -69,53 +69,31 @@ after-first first second pairs = scale-second second pairs >>= λ _. only (value
 abbrev pub after-pairs : VertexList → VertexList → List (ℕ × ℕ) → Answer MixedStop VertexPairs
 after-pairs first second pairs = scale-first first pairs >>= λ _. after-first first second pairs
 
-abbrev pub after-second : Parts → VertexList → VertexList → Answer MixedStop VertexPairs
-after-second one first second = refused_by pairs_stop (pairs_in (all_labels (variable_count one)) first.list second.list) >>= after-pairs first second
-
-abbrev pub after-one : Parts → Parts → VertexList → Answer MixedStop VertexPairs
-after-one one two first = refused_by (enumeration_stop 1) (vertices_in two) >>= after-second one first
+abbrev pub after-both : Parts → VertexList × VertexList → Answer MixedStop VertexPairs
+after-both one both = refused_by pairs_stop (pairs_in (all_labels (variable_count one)) both.0.list both.1.list) >>= after-pairs both.0 both.1
 
 abbrev pub after-systems : Parts × Parts → Answer MixedStop VertexPairs
-after-systems systems = refused_by (enumeration_stop 0) (vertices_in systems.0) >>= after-one systems.0 systems.1
+after-systems systems = both_vertices_in systems.0 systems.1 >>= after-both systems.0
 
 -- ---- the vertices of both polytopes
 both-values : (a b : VertexList × VertexList) → ◌≡◌ {A = Result (VertexList × VertexList) MixedStop} (Ok a) (Ok b) → a ≡ b
 both-values a b e = cc
 
-no-value : (stop : MixedStop) (a : VertexList × VertexList) → ◌≡◌ {A = Result (VertexList × VertexList) MixedStop} (Err stop) (Ok a) → ⊥
-no-value stop a e = cc
+pub both-first : (one two : Parts) (both : VertexList × VertexList) → both_vertices_in one two (Ok both) → vertices_in one (Ok both.0)
+both-first one two both h = subst (λ v. vertices_in one (Ok v)) (sym (ap (λ b. b.0) (both-values both (h.0, h.2.0) h.2.2))) h.1
 
-pub both-first : (one two : Parts) (first second : VertexList) → both_vertices_in one two (Ok (first, second)) → vertices_in one (Ok first)
-both-first one two first second h =
-    subst (λ v. vertices_in one (Ok v)) (sym (ap (λ b. b.0) (both-values (first, second) (h.0, h.2.0) h.2.2))) h.1
-
-pub both-second : (one two : Parts) (first second : VertexList) → both_vertices_in one two (Ok (first, second)) → vertices_in two (Ok second)
-both-second one two first second h =
-    subst (λ v. vertices_in two (Ok v)) (sym (ap (λ b. b.1) (both-values (first, second) (h.0, h.2.0) h.2.2))) h.2.1
-
-both-refusal : (one two : Parts) (stop : MixedStop) → Gives stops.Memory (both_vertices_in one two) (Err stop) → Gives stops.Memory (after-systems (one, two)) (Err stop)
-both-refusal one two stop (inl m) = inl m
-both-refusal one two stop (inr (inl h)) = inr (inl h)
-both-refusal one two stop (inr (inr (v, h, inl k))) = inr (inr (v, h, inl k))
-both-refusal one two stop (inr (inr (v, h, inr k))) = absurd (no-value stop (v, k.0) k.2)
-
-pub both-exit : {X : Type 0} (one two : Parts) (stop : MixedStop) (r : Result X MixedStop) (view : X → VertexPairs) → Gives stops.Memory (both_vertices_in one two) (Err stop) → IsErrAnd r (λ q. q ≡ stop) → Gives stops.Memory (after-systems (one, two)) (map_ok r view)
-both-exit one two stop (Ok x) view g e = elim e [ ]
-both-exit one two stop (Err q) view g e =
-    subst (λ s. Gives stops.Memory (after-systems (one, two)) (Err s)) (sym e) (both-refusal one two stop g)
+pub both-second : (one two : Parts) (both : VertexList × VertexList) → both_vertices_in one two (Ok both) → vertices_in two (Ok both.1)
+both-second one two both h = subst (λ v. vertices_in two (Ok v)) (sym (ap (λ b. b.1) (both-values both (h.0, h.2.0) h.2.2))) h.2.1
 
 module _ {X : Type 0} (game : Game) (one two : Parts) (p : polytopes_in game (Ok (one, two))) (r : Result X MixedStop) (view : X → VertexPairs) where
   pub up-systems : Gives stops.Memory (after-systems (one, two)) (map_ok r view) → Gives stops.Memory (extreme_pairs game) (map_ok r view)
   up-systems h = gives_bind_as stops.Memory (refused_by polytopes_stop (polytopes_in game)) after-systems (one, two) r view p h
 
-  pub up-one : (first : VertexList) → vertices_in one (Ok first) → Gives stops.Memory (after-one one two first) (map_ok r view) → Gives stops.Memory (extreme_pairs game) (map_ok r view)
-  up-one first v h = up-systems (gives_bind_as stops.Memory (refused_by (enumeration_stop 0) (vertices_in one)) (after-one one two) first r view v h)
+  pub up-both : (both : VertexList × VertexList) → both_vertices_in one two (Ok both) → Gives stops.Memory (after-both one both) (map_ok r view) → Gives stops.Memory (extreme_pairs game) (map_ok r view)
+  up-both both v h = up-systems (gives_bind_as stops.Memory (both_vertices_in one two) (after-both one) both r view v h)
 
-  pub up-second : (first second : VertexList) → vertices_in one (Ok first) → vertices_in two (Ok second) → Gives stops.Memory (after-second one first second) (map_ok r view) → Gives stops.Memory (extreme_pairs game) (map_ok r view)
-  up-second first second v w h = up-one first v (gives_bind_as stops.Memory (refused_by (enumeration_stop 1) (vertices_in two)) (after-second one first) second r view w h)
+  pub up-pairs : (both : VertexList × VertexList) (pairs : List (ℕ × ℕ)) → both_vertices_in one two (Ok both) → pairs_in (all_labels (variable_count one)) both.0.list both.1.list (Ok pairs) → Gives stops.Memory (after-pairs both.0 both.1 pairs) (map_ok r view) → Gives stops.Memory (extreme_pairs game) (map_ok r view)
+  up-pairs both pairs v q h = up-both both v (gives_bind_as stops.Memory (refused_by pairs_stop (pairs_in (all_labels (variable_count one)) both.0.list both.1.list)) (after-pairs both.0 both.1) pairs r view q h)
 
-  pub up-pairs : (first second : VertexList) (pairs : List (ℕ × ℕ)) → vertices_in one (Ok first) → vertices_in two (Ok second) → pairs_in (all_labels (variable_count one)) first.list second.list (Ok pairs) → Gives stops.Memory (after-pairs first second pairs) (map_ok r view) → Gives stops.Memory (extreme_pairs game) (map_ok r view)
-  up-pairs first second pairs v w q h = up-second first second v w (gives_bind_as stops.Memory (refused_by pairs_stop (pairs_in (all_labels (variable_count one)) first.list second.list)) (after-pairs first second) pairs r view q h)
-
-  pub up-first : (first second : VertexList) (pairs : List (ℕ × ℕ)) → vertices_in one (Ok first) → vertices_in two (Ok second) → pairs_in (all_labels (variable_count one)) first.list second.list (Ok pairs) → scale-first first pairs (Ok tt) → Gives stops.Memory (after-first first second pairs) (map_ok r view) → Gives stops.Memory (extreme_pairs game) (map_ok r view)
-  up-first first second pairs v w q s h = up-pairs first second pairs v w q (gives_bind_as stops.Memory (scale-first first pairs) (λ _. after-first first second pairs) tt r view s h)
+  pub up-first : (both : VertexList × VertexList) (pairs : List (ℕ × ℕ)) → both_vertices_in one two (Ok both) → pairs_in (all_labels (variable_count one)) both.0.list both.1.list (Ok pairs) → scale-first both.0 pairs (Ok tt) → Gives stops.Memory (after-first both.0 both.1 pairs) (map_ok r view) → Gives stops.Memory (extreme_pairs game) (map_ok r view)
+  up-first both pairs v q s h = up-pairs both pairs v q (gives_bind_as stops.Memory (scale-first both.0 pairs) (λ _. after-first both.0 both.1 pairs) tt r view s h)

@@ -6,6 +6,7 @@ use Rattle.rational.specs.Rational.{ℚ}
 use Rattle.game_theory.specs.Profiles.{Game}
 use Rattle.game_theory.specs.Lines.{lines_text}
 use Rattle.enummixed.specs.ExtremeText.{VertexPairs, IsExtremeEquilibriaText, extreme_pairs}
+use Rattle.enummixed.specs.BothVertices.{both_vertices_in}
 use Rattle.enummixed.specs.Order.{line_of, pair_order}
 use Rattle.enummixed.specs.Used.{occurs, scaled_used}
 use Rattle.enummixed.specs.declared.stop.MixedStop.{MixedStop}
@@ -20,6 +21,7 @@ use Rattle.enumpure.specs.declared.listing.ListStop.TheVariants as list_stops
 use Rattle.enumpure.proofs.OneTextLaws.{within_text_limit-single}
 use Rattle.reply_polytope.proofs.PolytopeLemmas.{polytopes_of}
 use Rattle.reply_polytope.proofs.SingleLemmas.{polytopes_single}
+use Rattle.lex_tableau.specs.Starts.{Parts}
 use Rattle.basis_enum.specs.Systems.{variable_count}
 use Rattle.label_pairing.specs.Scaling.{scale_steps}
 use Rattle.label_pairing.proofs.AllPairLemmas.{pairs_single}
@@ -34,6 +36,7 @@ use Rattle.basis_enum.proofs.OneAnswerLaws.{one_answer}
 use Rattle.enummixed.proofs.ExtremeLineLemmas.{extreme-lines}
 use Rattle.enummixed.proofs.LineOrderLemmas.{pairs-ordered}
 use Rattle.enummixed.proofs.SortedListLemmas.{sorted}
+use Rattle.enummixed.proofs.StageLemmas.{both-first, both-second}
 
 -- what is written over all of a list
 pub written-over : {X : Type 0} (new old : List X) (n : ℕ) → length new ≡ length old → n ≡ length old → take n (new ++ drop (length new) old) ≡ new
@@ -50,21 +53,21 @@ parts_same e f h = cc
 pub sorted-text : (game : Game) (e : VertexPairs) → extreme_pairs game (Ok e) → (firsts seconds : List (List ℚ)) (sorted : List (ℕ × ℕ)) → firsts ≡ scaled_used e.first.list (occurs (map (λ p. p.0) e.pairs)) → seconds ≡ scaled_used e.second.list (occurs (map (λ p. p.1) e.pairs)) → IsPermutation e.pairs sorted → IsSortedBy (λ p q. is_lt (pair_order firsts seconds p q)) sorted → IsExtremeEquilibriaText game (lines_text (map (line_of firsts seconds) sorted))
 sorted-text game e h firsts seconds sorted =
     subst (λ e. firsts ≡ scaled_used e.first.list (occurs (map (λ p. p.0) e.pairs)) → seconds ≡ scaled_used e.second.list (occurs (map (λ p. p.1) e.pairs)) → IsPermutation e.pairs sorted → IsSortedBy (λ p q. is_lt (pair_order firsts seconds p q)) sorted → IsExtremeEquilibriaText game (lines_text (map (line_of firsts seconds) sorted)))
-    (sym (parts_same _ _ h.2.2.2.2.2.2))
+    (sym (parts_same _ _ h.2.2.2.2.2))
     (λ f s permuted ordered. record {
       lines = map (line_of firsts seconds) sorted;
-      are_extreme_equilibria = extreme-lines game h.0.0 h.0.1 (polytopes_of game h.0.0 h.0.1 h.1) h.2.0.list h.2.2.0.list h.2.1.2.list h.2.2.1.2.list firsts seconds h.2.2.2.0 sorted (pairs_are (all_labels (variable_count h.0.0)) h.2.0.list h.2.2.0.list h.2.2.2.0 h.2.2.2.1) f s permuted ordered;
+      are_extreme_equilibria = extreme-lines game h.0.0 h.0.1 (polytopes_of game h.0.0 h.0.1 h.1) h.2.0.0.list h.2.0.1.list (both-first h.0.0 h.0.1 h.2.0 h.2.1).2.list (both-second h.0.0 h.0.1 h.2.0 h.2.1).2.list firsts seconds h.2.2.0 sorted (pairs_are (all_labels (variable_count h.0.0)) h.2.0.0.list h.2.0.1.list h.2.2.0 h.2.2.1) f s permuted ordered;
       is_text = refl;
     })
 
 -- the lines of the sorted pairs are as many as the pairs
 pub pairs-counted : PairsAreAsManyAsExtremeEquilibria
 pairs-counted game found h =
-    let pairs : List (ℕ × ℕ) = h.2.2.2.0 in
-    let firsts : List (List ℚ) = scaled_used h.2.0.list (occurs (map (λ p. p.0) pairs)) in
-    let seconds : List (List ℚ) = scaled_used h.2.2.0.list (occurs (map (λ p. p.1) pairs)) in
+    let pairs : List (ℕ × ℕ) = h.2.2.0 in
+    let firsts : List (List ℚ) = scaled_used h.2.0.0.list (occurs (map (λ p. p.0) pairs)) in
+    let seconds : List (List ℚ) = scaled_used h.2.0.1.list (occurs (map (λ p. p.1) pairs)) in
     let s = sorted (λ p q. is_lt (pair_order firsts seconds p q)) (pairs-ordered firsts seconds) pairs in
-    (map (line_of firsts seconds) s.0, extreme-lines game h.0.0 h.0.1 (polytopes_of game h.0.0 h.0.1 h.1) h.2.0.list h.2.2.0.list h.2.1.2.list h.2.2.1.2.list firsts seconds pairs s.0 (pairs_are (all_labels (variable_count h.0.0)) h.2.0.list h.2.2.0.list h.2.2.2.0 h.2.2.2.1) refl refl s.1 s.2, length-map s.0 (line_of firsts seconds) ∙ length_permutation pairs s.0 s.1 ∙ ap (λ e. length e.pairs) (sym (parts_same _ _ h.2.2.2.2.2.2)))
+    (map (line_of firsts seconds) s.0, extreme-lines game h.0.0 h.0.1 (polytopes_of game h.0.0 h.0.1 h.1) h.2.0.0.list h.2.0.1.list (both-first h.0.0 h.0.1 h.2.0 h.2.1).2.list (both-second h.0.0 h.0.1 h.2.0 h.2.1).2.list firsts seconds pairs s.0 (pairs_are (all_labels (variable_count h.0.0)) h.2.0.0.list h.2.0.1.list h.2.2.0 h.2.2.1) refl refl s.1 s.2, length-map s.0 (line_of firsts seconds) ∙ length_permutation pairs s.0 s.1 ∙ ap (λ e. length e.pairs) (sym (parts_same _ _ h.2.2.2.2.2)))
 
 -- a text of which more is said
 pub within-weaker : (P Q : List ℕ → Type 0) → ((text : List ℕ) → P text → Q text) → (r : Result (List ℕ) ListStop) → Gives list_stops.Memory (within_text_limit P) r → Gives list_stops.Memory (within_text_limit Q) r
@@ -80,15 +83,19 @@ text-same game one other h k = h.is_text ∙ ap lines_text (extreme_equilibria-d
 scaling-single : (points : List (List ℚ)) → IsSingle (scaling_in points)
 scaling-single points = refused_by-single _ _ (all_fit-single scale_steps points)
 
+both-single : (one two : Parts) → IsSingle (both_vertices_in one two)
+both-single one two =
+    bind-single _ _ (refused_by-single (enumeration_stop 0) _ (one_answer one)) (λ first _.
+    bind-single _ _ (refused_by-single (enumeration_stop 1) _ (one_answer two)) (λ second _. only-single (first, second)))
+
 pub pairs-single : ExtremePairsAreSingle
 pairs-single game =
     bind-single _ _ (refused_by-single polytopes_stop _ (polytopes_single game)) (λ systems _.
-    bind-single _ _ (refused_by-single (enumeration_stop 0) _ (one_answer systems.0)) (λ first _.
-    bind-single _ _ (refused_by-single (enumeration_stop 1) _ (one_answer systems.1)) (λ second _.
-    bind-single _ _ (refused_by-single pairs_stop _ (pairs_single (all_labels (variable_count systems.0)) first.list second.list)) (λ pairs _.
-    bind-single _ _ (refused_by-single (scale_stop 0) _ (scaling-single (used_points first.list (occurs (map (λ p. p.0) pairs))))) (λ _ _.
-    bind-single _ _ (refused_by-single (scale_stop 1) _ (scaling-single (used_points second.list (occurs (map (λ p. p.1) pairs))))) (λ _ _.
-    only-single (let e : VertexPairs = record { first = first; second = second; pairs = pairs } in e)))))))
+    bind-single _ _ (both-single systems.0 systems.1) (λ both _.
+    bind-single _ _ (refused_by-single pairs_stop _ (pairs_single (all_labels (variable_count systems.0)) both.0.list both.1.list)) (λ pairs _.
+    bind-single _ _ (refused_by-single (scale_stop 0) _ (scaling-single (used_points both.0.list (occurs (map (λ p. p.0) pairs))))) (λ _ _.
+    bind-single _ _ (refused_by-single (scale_stop 1) _ (scaling-single (used_points both.1.list (occurs (map (λ p. p.1) pairs))))) (λ _ _.
+    only-single (let e : VertexPairs = record { first = both.0; second = both.1; pairs = pairs } in e))))))
 
 pub texts-single : ExtremeTextsAreSingle
 texts-single game kept =

@@ -9,11 +9,11 @@ use Rattle.enumpure.specs.Stops.{within_text_limit}
 use Rattle.reply_polytope.specs.Stops.{polytopes_in}
 use Rattle.basis_enum.specs.Systems.{variable_count}
 use Rattle.basis_enum.specs.Vertices.{VertexList}
-use Rattle.basis_enum.specs.Enumeration.{vertices_in}
 use Rattle.label_pairing.specs.Stops.{pairs_in}
 use Rattle.label_pairing.specs.declared.pairing.PairStop.{PairStop}
+use Rattle.enummixed.specs.BothVertices.{both_vertices_in}
 use Rattle.enummixed.specs.Used.{all_labels, occurs, used_points, scaling_in}
-use Rattle.enummixed.specs.Told.{polytopes_stop, enumeration_stop, pairs_stop, scale_stop, text_stop}
+use Rattle.enummixed.specs.Told.{polytopes_stop, pairs_stop, scale_stop, text_stop}
 use Rattle.enummixed.specs.declared.stop.MixedStop.{MixedStop}
 
 -- the lines of the game's extreme equilibria, one after another
@@ -37,12 +37,11 @@ pairs_of_labels n first second = pairs_in (all_labels n) first.list second.list
 abbrev pub extreme_pairs : Game → Answer MixedStop VertexPairs
 extreme_pairs game = do
   systems ← refused_by polytopes_stop (polytopes_in game)
-  first ← refused_by (enumeration_stop 0) (vertices_in systems.0)
-  second ← refused_by (enumeration_stop 1) (vertices_in systems.1)
-  pairs ← refused_by pairs_stop (pairs_of_labels (variable_count systems.0) first second)
-  refused_by (scale_stop 0) (scaling_in (used_points first.list (occurs (map (λ p. p.0) pairs))))
-  refused_by (scale_stop 1) (scaling_in (used_points second.list (occurs (map (λ p. p.1) pairs))))
-  only (record { first = first; second = second; pairs = pairs })
+  both ← both_vertices_in systems.0 systems.1
+  pairs ← refused_by pairs_stop (pairs_of_labels (variable_count systems.0) both.0 both.1)
+  refused_by (scale_stop 0) (scaling_in (used_points both.0.list (occurs (map (λ p. p.0) pairs))))
+  refused_by (scale_stop 1) (scaling_in (used_points both.1.list (occurs (map (λ p. p.1) pairs))))
+  only (record { first = both.0; second = both.1; pairs = pairs })
 
 -- The text of a game's extreme equilibria, found by the pairs of another: of the game over the kept
 -- strategies, or of the game itself.

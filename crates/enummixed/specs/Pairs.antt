@@ -7,7 +7,11 @@ use Rattle.enummixed.specs.declared.extreme.ExtremePairs.{ExtremePairs}
 
 -- the vertices and the pairs
 abbrev pub pairs_of : ExtremePairs → VertexPairs
-pairs_of e = record { first = vertex_list e.first; second = vertex_list e.second; pairs = e.pairs.items }
+pairs_of e = record {
+  first = vertex_list e.first;
+  second = vertex_list e.second;
+  pairs = e.pairs.items;
+}
 
 -- the points of the vertices that stand in a pair are scaled
 pub record AreScaled (e : ExtremePairs) : Type 0 where

@@ -4,6 +4,7 @@ ghost use Rattle.answers.specs.Answers.{Gives, refused_by, map_ok};
 ghost use Rattle.game_core.specs.Table.{game_of};
 ghost use Rattle.basis_enum.specs.Systems.{IsEnumerable};
 ghost use Rattle.basis_enum.specs.Enumeration.{vertices_in};
+ghost use Rattle.basis_enum.specs.Levels.{most_bases};
 ghost use Rattle.basis_enum.specs.Vertices.{marks_of, vertex_list};
 ghost use Rattle.label_pairing.specs.Pairs.{mark_at};
 ghost use Rattle.label_pairing.specs.Scaling.{IsScalable};
@@ -65,8 +66,9 @@ fn enumerated<R: Threads + Sync, G: Gate, L: Ledger>(
 ) -> Result<Vertices, EnumStop>
     requires enumerable { IsEnumerable system.now }
     requires blank { (L.parts ≡ blank.parts) × (L.name ≡ blank.name) × (0 < blank.parts) }
-    ensures vertices { Gives enum_stops.Memory (vertices_in system.now) (map_ok result vertex_list) }
-    ensures few { IfOk result (λ v. v.bases ≤ 20000) }
+    ensures vertices { Gives enum_stops.Memory (vertices_in system.now)
+        (map_ok result vertex_list) }
+    ensures few { IfOk result (λ v. length v.list.items ≤ most_bases) }
 {
     let mut pivots = PivotCount::<L>::new(blank);
     enumerate_with(rt, alloc, system, helpers, gate, &mut pivots)
@@ -85,12 +87,11 @@ fn vertices_of<R: Threads + Sync, G: Gate>(
     ensures vertices { Gives stops.Memory
         (refused_by (enumeration_stop polytope) (vertices_in system.now))
         (map_ok result vertex_list) }
-    ensures few { IfOk result (λ v. v.bases ≤ 20000) }
+    ensures few { IfOk result (λ v. length v.list.items ≤ most_bases) }
 {
-    match enumerated::<R, G, Brand>(rt, alloc, system, helpers, gate, Blank::new(1)) {
-        Ok(vertices) => Ok(vertices),
-        Err(stop) => Err(MixedStop::of_enumeration(polytope, stop)),
-    }
+    enumerated::<R, G, Brand>(rt, alloc, system, helpers, gate, Blank::new(1)).map_err(
+        |stop| MixedStop::of_enumeration(polytope, stop),
+    )
 }
 
 // The same by a worker who is a helper afterwards.
@@ -106,7 +107,7 @@ fn vertices_beside<R: Threads + Sync, G: Gate>(
     ensures vertices { Gives stops.Memory
         (refused_by (enumeration_stop polytope) (vertices_in system.now))
         (map_ok result vertex_list) }
-    ensures few { IfOk result (λ v. v.bases ≤ 20000) }
+    ensures few { IfOk result (λ v. length v.list.items ≤ most_bases) }
 {
     make_room(alloc);
     let vertices = vertices_of(rt, alloc, polytope, system, helpers, gate);
@@ -127,7 +128,8 @@ fn one_by_one<R: Threads + Sync, G: Gate>(
     requires two { IsEnumerable two.now }
     ensures vertices { Gives stops.Memory (both_vertices_in one.now two.now)
         (map_ok result both_lists_of) }
-    ensures few { IfOk result (λ both. (both.0.bases ≤ 20000) × (both.1.bases ≤ 20000)) }
+    ensures few { IfOk result (λ both.
+        (length both.0.list.items ≤ most_bases) × (length both.1.list.items ≤ most_bases)) }
 {
     let first = vertices_of(rt, alloc, 0, one, helpers, gate)?;
     let second = vertices_of(rt, alloc, 1, two, helpers, gate)?;
@@ -147,7 +149,8 @@ fn side_by_side<R: Threads + Sync, G: Gate>(
     requires two { IsEnumerable two.now }
     ensures vertices { Gives stops.Memory (both_vertices_in one.now two.now)
         (map_ok result both_lists_of) }
-    ensures few { IfOk result (λ both. (both.0.bases ≤ 20000) × (both.1.bases ≤ 20000)) }
+    ensures few { IfOk result (λ both.
+        (length both.0.list.items ≤ most_bases) × (length both.1.list.items ≤ most_bases)) }
 {
     make_room(alloc);
     let (first, second) = join(
@@ -157,14 +160,14 @@ fn side_by_side<R: Threads + Sync, G: Gate>(
             ensures vertices { Gives stops.Memory
                 (refused_by (enumeration_stop 0) (vertices_in one.entry.now))
                 (map_ok result vertex_list) }
-            ensures few { IfOk result (λ v. v.bases ≤ 20000) }
+            ensures few { IfOk result (λ v. length v.list.items ≤ most_bases) }
         { vertices_beside(rt, alloc, 0, one, helpers, gate) },
         || -> Result<Vertices, MixedStop>
             requires two { IsEnumerable two.now }
             ensures vertices { Gives stops.Memory
                 (refused_by (enumeration_stop 1) (vertices_in two.entry.now))
                 (map_ok result vertex_list) }
-            ensures few { IfOk result (λ v. v.bases ≤ 20000) }
+            ensures few { IfOk result (λ v. length v.list.items ≤ most_bases) }
         { vertices_beside(rt, alloc, 1, two, helpers, gate) },
     );
     Ok((first?, second?))
@@ -184,7 +187,8 @@ fn both_vertices<R: Threads + Sync, G: Gate>(
     requires workers { 1 ≤ workers }
     ensures vertices { Gives stops.Memory (both_vertices_in one.now two.now)
         (map_ok result both_lists_of) }
-    ensures few { IfOk result (λ both. (both.0.bases ≤ 20000) × (both.1.bases ≤ 20000)) }
+    ensures few { IfOk result (λ both.
+        (length both.0.list.items ≤ most_bases) × (length both.1.list.items ≤ most_bases)) }
 {
     if workers < SIDE_BY_SIDE {
         let helpers = Helpers::new(workers - 1, FEWEST_SHARED);

@@ -36,7 +36,7 @@ fn text(alloc: Global, extreme: ExtremePairs) -> Result<Vec<u8>, ListStop>
         seconds,
         ..
     } = extreme;
-    sort_pairs(&mut pairs, &firsts, &seconds);
+    sort_pairs(alloc, &mut pairs, &firsts, &seconds)?;
     write_lines(alloc, &pairs, &firsts, &seconds)
 }
 
@@ -59,7 +59,7 @@ fn spread_text(
         seconds,
         ..
     } = extreme;
-    sort_pairs(&mut pairs, &firsts, &seconds);
+    sort_pairs(alloc, &mut pairs, &firsts, &seconds)?;
     let wide_firsts = spread_points(alloc, &firsts, kept.first(), table.strategies(0).len())?;
     let wide_seconds = spread_points(alloc, &seconds, kept.second(), table.strategies(1).len())?;
     write_lines(alloc, &pairs, &wide_firsts, &wide_seconds)

@@ -2,6 +2,7 @@ pub mod BestPayoffLemmas
 pub mod ExchangeLemmas
 pub mod KeptReplyLemmas
 pub mod LineLengthLemmas
+pub mod ListedLineLemmas
 pub mod ListedProfileLemmas
 pub mod OneTextLaws
 pub mod ProfileEntryLemmas

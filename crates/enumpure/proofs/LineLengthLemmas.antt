@@ -1,9 +1,9 @@
 -- The lengths of lines, and of the text of lines.
-use Rattle.std.proofs.Common.{ℕ, zero, suc, ◌+◌, ◌*◌, ◌^◌, ◌<◌, ◌≤◌, ◌≡◌, ◌≢◌, ◌⊎◌, inl, inr, Bool, true, false, cond, List, [], ◌∷◌, ◌++◌, length, codes, get_or, take, refl, sym, ap, ap₂, ◌∙◌, arith, length-append}
+use Rattle.std.proofs.Common.{ℕ, zero, suc, ◌+◌, ◌*◌, ◌^◌, ◌<◌, ◌≤◌, ◌≡◌, ◌≢◌, ◌⊎◌, inl, inr, Bool, List, [], ◌∷◌, ◌++◌, length, codes, get_or, take, refl, sym, ap, ◌∙◌, arith, length-append}
 use Rattle.std.proofs.lemmas.Bool.{cases_eq}
 use Rattle.std.specs.List.{sum_by, count_by}
 use Rattle.std.proofs.lemmas.Grind.{flat_map-append}
-use Rattle.std.proofs.lemmas.List.{append-nil, take_all}
+use Rattle.std.proofs.lemmas.List.{take_all}
 use Rattle.std.proofs.lemmas.List.Sums.{sum_by-cons}
 use Rattle.std.proofs.Math.Nat.{mul-le-mul, mul-le-mul_left}
 use Rattle.std.specs.Fmt.{digits}
@@ -18,6 +18,7 @@ use Rattle.game_core.specs.Table.{GameTable, IsTable, strategy_counts, most_payo
 use Rattle.ne_printer.specs.Entries.{entry_text, entries_text}
 use Rattle.ne_printer.proofs.LineTextLemmas.{line_text-joined}
 use Rattle.enumpure.specs.Ranks.{ranked_plays_best, rank_line, lines_below}
+use Rattle.enumpure.proofs.ListedLineLemmas.{length-listed_ones}
 use Rattle.enumpure.specs.Replies.{plays_best}
 use Rattle.game_core.proofs.StrideLemmas.{HaveStrategies, HaveStrategies-later, HaveStrategies-table, profile_count-positive}
 use Rattle.enumpure.proofs.TotalLemmas.{total, one_if, total-ranked, total-best_replies}
@@ -92,17 +93,7 @@ all_counted t strategies i h l e = e ∙ ap (sum_by (λ n. n)) (take_all i (stra
 pub few_bytes : (t : GameTable) (n : ℕ) → IsTable t → n ≤ 3 + 2 * most_payoffs → profile_count (strategy_counts t) * n < 2 ^ 64
 few_bytes t n h l = omega (arith, mul-le-mul (profile_count-table t h) l)
 
--- lines of equal lengths
-length-lines_below : (ns : List ℕ) (best_replies : List Bool) (n r : ℕ) → ((q : ℕ) → length (line_text (rank_line ns q)) ≡ n) → length (lines_text (lines_below ns best_replies r)) ≡ total r (λ q. one_if (ranked_plays_best ns best_replies q)) * n
-unfolding lines_below
-length-lines_below ns best_replies n zero h = omega arith
-length-lines_below ns best_replies n (suc r) h = go (length-lines_below ns best_replies n r h) (ranked_plays_best ns best_replies r) refl
-  where
-    go : length (lines_text (lines_below ns best_replies r)) ≡ total r (λ q. one_if (ranked_plays_best ns best_replies q)) * n → (b : Bool) → ranked_plays_best ns best_replies r ≡ b → length (lines_text (lines_below ns best_replies r ++ cond b (rank_line ns r ∷ []) [])) ≡ (total r (λ q. one_if (ranked_plays_best ns best_replies q)) + one_if b) * n
-    go e true f = ap length (flat_map-append line_text (lines_below ns best_replies r) (rank_line ns r ∷ [])) ∙ length-append (lines_text (lines_below ns best_replies r)) (line_text (rank_line ns r) ++ []) ∙ ap₂ (λ x y. x + y) e (ap length (append-nil (line_text (rank_line ns r))) ∙ h r) ∙ omega arith
-    go e false f = ap (λ v. length (lines_text v)) (append-nil (lines_below ns best_replies r)) ∙ e ∙ omega arith
-
 -- the length of the text is that of a line for each entry
 pub length-lines_text : (ns : List ℕ) (best_replies : List Bool) (n : ℕ) → length best_replies ≡ profile_count ns → ((profile : List ℕ) → length (line_text (entries ns (pure profile))) ≡ n) → length (lines_text (lines_below ns best_replies (length best_replies))) ≡ count_by (λ b. b) best_replies * n
 length-lines_text ns best_replies n e h =
-    length-lines_below ns best_replies n (length best_replies) (λ q. h _) ∙ ap (λ v. v * n) (ap (λ v. total v (λ q. one_if (ranked_plays_best ns best_replies q))) e ∙ total-ranked ns (λ k. one_if (plays_best best_replies k)) ∙ ap (λ v. total v (λ k. one_if (plays_best best_replies k))) (sym e) ∙ total-best_replies best_replies)
+    length-listed_ones (rank_line ns) (ranked_plays_best ns best_replies) n (length best_replies) (λ q l. h _) ∙ ap (λ v. v * n) (ap (λ v. total v (λ q. one_if (ranked_plays_best ns best_replies q))) e ∙ total-ranked ns (λ k. one_if (plays_best best_replies k)) ∙ ap (λ v. total v (λ k. one_if (plays_best best_replies k))) (sym e) ∙ total-best_replies best_replies)

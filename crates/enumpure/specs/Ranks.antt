@@ -1,5 +1,7 @@
--- The ranks of pure profiles in the order of their lines, from 0, and the lines of profiles of best replies.
-use Rattle.std.specs.Prelude.{ℕ, zero, suc, Bool, cond, List, [], ◌∷◌, ◌++◌}
+-- The ranks of pure profiles in the order of their lines, from 0, and the lines of profiles of best
+-- replies.
+use Rattle.std.specs.Prelude.{ℕ, Bool, List, map, filter}
+use Rattle.std.specs.List.{range_with_len}
 use Rattle.rational.specs.Rational.{ℚ}
 use Rattle.game_theory.specs.Profiles.{number_of}
 use Rattle.game_theory.specs.Ranks.{ranked}
@@ -15,7 +17,10 @@ ranked_plays_best ns best_replies r = plays_best best_replies (number_of ns (ran
 abbrev pub rank_line : List ℕ → ℕ → List ℚ
 rank_line ns r = entries ns (pure (ranked ns r))
 
+-- of the lines with numbers below r those whose numbers pass
+abbrev pub listed_below : (ℕ → List ℚ) → (ℕ → Bool) → ℕ → List (List ℚ)
+listed_below line passes r = map line (filter passes (range_with_len 0 r))
+
 -- the lines of the profiles of best replies with ranks below r
-unfoldable pub lines_below : List ℕ → List Bool → ℕ → List (List ℚ)
-lines_below ns best_replies zero = []
-lines_below ns best_replies (suc r) = lines_below ns best_replies r ++ cond (ranked_plays_best ns best_replies r) (rank_line ns r ∷ []) []
+abbrev pub lines_below : List ℕ → List Bool → ℕ → List (List ℚ)
+lines_below ns best_replies r = listed_below (rank_line ns) (ranked_plays_best ns best_replies) r

@@ -3,7 +3,8 @@ use Rattle.std.specs.Prelude.{ℕ, ◌+◌, ◌*◌, ◌<◌, ◌≡◌, ◌↔�
 use Rattle.rational.specs.Rational.{ℚ, ◌≤ℚ◌}
 use Rattle.game_theory.specs.Profiles.{Game, profile_count, number_of, profile_at}
 
--- the number of the profile in which player i plays strategy s, and the others as in the profile with number k
+-- the number of the profile in which player i plays strategy s, and the others as in the profile
+-- with number k
 abbrev pub exchanged : List ℕ → ℕ → ℕ → ℕ → ℕ
 exchanged ns k i s = number_of ns (slice_set (profile_at ns k) i s)
 
@@ -21,17 +22,23 @@ pub record IsBest (pays : ℕ → ℚ) (first stride n : ℕ) (best : ℚ) : Typ
   pub upper : (s : ℕ) → s < n → pays (first + stride * s) ≤ℚ best
   pub attained : (s : ℕ) × (s < n) × (best ≡ pays (first + stride * s))
 
--- of the profiles that stand the stride apart, those stay whose payoff reaches the best; all others stay
-pub record KeepsBestInLine (pays : ℕ → ℚ) (first stride n : ℕ) (best : ℚ) (old new : List Bool) : Type 0 where
-  pub in_line : (s : ℕ) → s < n → IsTrue (plays_best new (first + stride * s)) ↔ (IsTrue (plays_best old (first + stride * s)) × (best ≤ℚ pays (first + stride * s)))
-  pub others : (k : ℕ) → ((s : ℕ) → s < n → k ≡ first + stride * s → ⊥) → plays_best new k ≡ plays_best old k
+-- of the profiles that stand the stride apart, those stay whose payoff reaches the best; all others
+-- stay
+pub record KeepsBestInLine (pays : ℕ → ℚ) (first stride n : ℕ) (best : ℚ) (old new : List Bool)
+    : Type 0 where
+  pub in_line : (s : ℕ) → s < n → IsTrue (plays_best new (first + stride * s))
+      ↔ (IsTrue (plays_best old (first + stride * s)) × (best ≤ℚ pays (first + stride * s)))
+  pub others : (k : ℕ) → ((s : ℕ) → s < n → k ≡ first + stride * s → ⊥)
+      → plays_best new k ≡ plays_best old k
 
 -- the profiles that stay are those at which player i plays a best reply
 abbrev pub KeepsBestReplies : Game → ℕ → List Bool → List Bool → Type 0
 KeepsBestReplies g i old new =
-    (k : ℕ) → k < profile_count g.strategies → IsTrue (plays_best new k) ↔ (IsTrue (plays_best old k) × PlaysBestReply g i k)
+    (k : ℕ) → k < profile_count g.strategies
+    → IsTrue (plays_best new k) ↔ (IsTrue (plays_best old k) × PlaysBestReply g i k)
 
 -- for each profile whether each player plays a best reply
 pub record AreMutualBestReplies (g : Game) (best_replies : List Bool) : Type 0 where
   pub of_each : length best_replies ≡ profile_count g.strategies
-  pub all_best : (k : ℕ) → k < profile_count g.strategies → IsTrue (plays_best best_replies k) ↔ ((i : ℕ) → i < length g.strategies → PlaysBestReply g i k)
+  pub all_best : (k : ℕ) → k < profile_count g.strategies → IsTrue (plays_best best_replies k)
+      ↔ ((i : ℕ) → i < length g.strategies → PlaysBestReply g i k)

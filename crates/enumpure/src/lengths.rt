@@ -8,8 +8,8 @@ ghost use Rattle.enumpure.specs.Ranks.{lines_below};
 
 use game_core::Table;
 
-// How many bytes the line of each pure profile has: besides `NE` and the line feed a comma and a digit for
-// each strategy, or a comma alone.
+// How many bytes the line of each pure profile has: besides `NE` and the line feed a comma and a
+// digit for each strategy, or a comma alone.
 fn line_length(table: &Table) -> usize
     ensures each { (profile : List ℕ)
         → length (line_text (entries (strategy_counts table.now) (pure profile))) ≡ result }

@@ -6,7 +6,8 @@
 //! on texts, `Replies` best replies by the numbers of profiles.
 //! Private words: `specs::Ranks`, and `lengths`, which counts bytes before lines are written.
 //! Lemmas for callers: `proofs::OneTextLaws` on texts within the limit; `ListedProfileLemmas`.
-//! A change here touches: `enumpure_trees`, `ne_checker`, `enummixed` and what `enumpure` prints.
+//! A change here touches: `enumpure_trees`, `enummixed`, `refusals`, `gambit_tools` and what
+//! `enumpure` prints.
 #![tactic(auto)]
 
 mod lengths;

@@ -82,7 +82,8 @@ fn set_entries(entries: &mut Vec<Frac>, counts: &[usize], profile: &[u32]) -> Re
     Ok(())
 }
 
-// Adds the lines of the profiles of best replies in the order of their ranks. Writes over `profile` and `entries`.
+// Adds the lines of the profiles of best replies in the order of their ranks. Writes over `profile`
+// and `entries`.
 fn push_lines(
     alloc: Global,
     text: &mut Vec<u8>,
@@ -109,7 +110,8 @@ fn push_lines(
     Ok(())
 }
 
-// The lines of the profiles of best replies, in a text that has room for so many bytes from the start.
+// The lines of the profiles of best replies, in a text that has room for so many bytes from the
+// start.
 fn write_lines(
     alloc: Global,
     table: &Table,
@@ -138,13 +140,14 @@ fn write_lines(
     Ok(text)
 }
 
-/// The lines of the pure equilibria of a table, for any number of players: each pure profile at which no
-/// player has a strategy with a greater payoff, once, in descending order of the lines' entries.
+/// The lines of the pure equilibria of a table, for any number of players: each pure profile at
+/// which no player has a strategy with a greater payoff, once, in descending order of the lines'
+/// entries.
 ///
 /// # Errors
 ///
-/// `TooLarge` exactly where the lines have more than 67,108,864 bytes, which are counted before any line is
-/// written; `Memory` where memory ran out.
+/// `TooLarge` exactly where the lines have more than 67,108,864 bytes, which are counted before any
+/// line is written; `Memory` where memory ran out.
 pub fn list_pure_equilibria(alloc: Global, table: &Table) -> Result<Vec<u8>, ListStop>
     ensures { Gives stops.Memory (pure_text (game_of table.now))
         (map_ok result (λ text. text.items)) }

@@ -8,8 +8,9 @@ use frac128::{Frac, Memory};
 use game_core::{Table, profile_count};
 use std::alloc::Global;
 
-// The best payoff among a player's strategies against what the others play in a profile, `first`, in
-// which the player plays strategy 0. The stride leads to the profile with the player's next strategy.
+// The best payoff among a player's strategies against what the others play in a profile, `first`,
+// in which the player plays strategy 0. The stride leads to the profile with the player's next
+// strategy.
 fn best_payoff(table: &Table, player: usize, stride: usize, first: usize) -> Frac
     requires player { player < length table.now.players }
     requires profiles { (s : ℕ) → s < slice_index (strategy_counts table.now) player

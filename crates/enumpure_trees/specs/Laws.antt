@@ -8,11 +8,14 @@ use Rattle.enumpure_trees.specs.TreeEquilibria.{profile_line, IsTreeEquilibriaTe
 -- two profiles never have the same line
 abbrev pub LinesDetermineProfiles : Type 0
 LinesDetermineProfiles =
-    (t : Tree) (strategies : List (List (List ℕ))) (one other : List ℕ) → IsTree t → AreStrategies t strategies
-    → IsProfile (map length strategies) one → IsProfile (map length strategies) other
+    (t : Tree) (strategies : List (List (List ℕ))) (one other : List ℕ) → IsTree t
+    → AreStrategies t strategies → IsProfile (map length strategies) one
+    → IsProfile (map length strategies) other
     → profile_line t strategies one ≡ profile_line t strategies other → one ≡ other
 
 -- a tree has one text of equilibria
 abbrev pub OneTextOfEquilibria : Type 0
 OneTextOfEquilibria =
-    (t : Tree) (strategies : List (List (List ℕ))) (one other : List ℕ) → IsTreeEquilibriaText t strategies one → IsTreeEquilibriaText t strategies other → one ≡ other
+    (t : Tree) (strategies : List (List (List ℕ))) (one other : List ℕ)
+    → IsTreeEquilibriaText t strategies one → IsTreeEquilibriaText t strategies other
+    → one ≡ other

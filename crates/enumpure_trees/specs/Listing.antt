@@ -9,7 +9,8 @@ use Rattle.enumpure.specs.Replies.{plays_best}
 use Rattle.enumpure_trees.specs.Orders.{AreOrders}
 use Rattle.enumpure_trees.specs.Ranks.{lines_below}
 
--- a tree, its reduced form, the order of each player's strategies, and whether each profile is an equilibrium
+-- a tree, its reduced form, the order of each player's strategies, and whether each profile is an
+-- equilibrium
 pub record Listing : Type 0 where
   pub tree : GameTree
   pub reduced : ReducedForm
@@ -18,7 +19,8 @@ pub record Listing : Type 0 where
 
 -- the listing with these parts
 abbrev pub listing : GameTree → ReducedForm → List (List ℕ) → List Bool → Listing
-listing tree reduced orders all_best = record { tree = tree; reduced = reduced; orders = orders; all_best = all_best }
+listing tree reduced orders all_best =
+    record { tree = tree; reduced = reduced; orders = orders; all_best = all_best }
 
 -- they belong together
 pub record IsListing (l : Listing) : Type 0 where
@@ -28,4 +30,7 @@ pub record IsListing (l : Listing) : Type 0 where
 
 -- the lines of the equilibria
 abbrev pub listed_text : Listing → List ℕ
-listed_text l = lines_text (lines_below (game_of_tree l.tree) l.reduced.choices l.orders (plays_best l.all_best) (length l.all_best))
+listed_text l =
+    lines_text
+    (lines_below (game_of_tree l.tree) l.reduced.choices l.orders (plays_best l.all_best)
+    (length l.all_best))

@@ -15,9 +15,12 @@ pub record IsOrder (strategies : List (List ℕ)) (order : List ℕ) : Type 0 wh
   pub one_for_each : length order ≡ length strategies
   pub are_numbers : All (λ number. number < length strategies) order
   pub all : (number : ℕ) → number < length strategies → Contains order number
-  pub ascending : (d e : ℕ) → d < e → e < length order → ComesBefore (completed_of strategies (slice_index order d)) (completed_of strategies (slice_index order e))
+  pub ascending : (d e : ℕ) → d < e → e < length order
+      → ComesBefore (completed_of strategies (slice_index order d))
+      (completed_of strategies (slice_index order e))
 
 -- an order for each player
 pub record AreOrders (strategies : List (List (List ℕ))) (orders : List (List ℕ)) : Type 0 where
   pub one_for_each : length orders ≡ length strategies
-  pub are_orders : (i : ℕ) (order : List ℕ) → slice_get orders i ≡ Some order → IsOrder (slice_index_or strategies i []) order
+  pub are_orders : (i : ℕ) (order : List ℕ) → slice_get orders i ≡ Some order
+      → IsOrder (slice_index_or strategies i []) order

@@ -8,7 +8,8 @@ use Rattle.enumpure_trees.specs.Orders.{completed_of, IsOrder}
 pub record AreTold (strategies : List (List ℕ)) : Type 0 where
   pub long : ℕ
   pub are_long : (d : ℕ) → d < length strategies → length (slice_index_or strategies d []) ≡ long
-  pub tell : (d e : ℕ) → d < length strategies → e < length strategies → completed_of strategies d ≡ completed_of strategies e → d ≡ e
+  pub tell : (d e : ℕ) → d < length strategies → e < length strategies
+      → completed_of strategies d ≡ completed_of strategies e → d ≡ e
 
 -- the first strategies, each with its number
 abbrev pub first_numbered : List (List ℕ) → ℕ → List (ℕ × List ℕ)
@@ -20,6 +21,8 @@ pub record IsSortedOrder (strategies : List (List ℕ)) (order : List ℕ) : Typ
   pub is_permutation : IsPermutation (range_with_len 0 (length strategies)) order
 
 -- such an order for each player
-pub record AreSortedOrders (strategies : List (List (List ℕ))) (orders : List (List ℕ)) : Type 0 where
+pub record AreSortedOrders (strategies : List (List (List ℕ))) (orders : List (List ℕ))
+    : Type 0 where
   pub one_for_each : length orders ≡ length strategies
-  pub are_sorted : (i : ℕ) → i < length strategies → IsSortedOrder (slice_index_or strategies i []) (slice_index_or orders i [])
+  pub are_sorted : (i : ℕ) → i < length strategies
+      → IsSortedOrder (slice_index_or strategies i []) (slice_index_or orders i [])

@@ -2,9 +2,10 @@
 //!
 //! Callers may rely on: `list_pure_behaviours` gives the text, refused exactly where it is too
 //! long; `one_text_of_equilibria`; two profiles never have the same line.
-//! Definitions: `specs::TreeEquilibria` says which lines there are and in which order, `Orders` the
-//! order of a player's strategies, `Stops` what a tree answers.
-//! Private words: `specs::Ranks` and `specs::StrategyOrders`, how the code sorts and lists.
+//! Definitions: `specs::TreeEquilibria` says which lines there are and in which order, `Stops` what
+//! a tree answers.
+//! Private words: `specs::Orders`, `Ranks`, `StrategyOrders` and `Listing`, how the code sorts and
+//! lists.
 //! Lemmas for callers: `proofs::EquilibriumLineLemmas`, that a tree has one list of lines;
 //! `FormSizeLemmas`.
 //! A change here touches: what `enumpure` prints of a tree without `-S`.

@@ -23,8 +23,8 @@ use reduced_form::Reduced;
 use std::alloc::Global;
 use std::marker::Model;
 
-// What the lines are of: a tree and its reduced form, the order of each player's strategies, and for each profile, by
-// its number, whether it is an equilibrium.
+// What the lines are of: a tree and its reduced form, the order of each player's strategies, and
+// for each profile, by its number, whether it is an equilibrium.
 #[derive(Drop)]
 struct Lines<'a> {
     tree: &'a Tree,
@@ -53,7 +53,8 @@ fn first_profile(alloc: Global, players: usize) -> Result<Vec<u32>, Memory>
     Ok(vec![in alloc; 0; players]?)
 }
 
-// Writes the profile with a rank in the order of lines, in which the strategies of each player stand in their order.
+// Writes the profile with a rank in the order of lines, in which the strategies of each player
+// stand in their order.
 fn set_ordered(profile: &mut [u32], orders: &[Vec<u32>], profiles: usize, rank: usize)
     requires players { length profile.old ≡ length orders.now }
     requires profiles { profiles ≡ profile_count (map length (map (λ v. v.items) orders.now)) }
@@ -102,7 +103,8 @@ impl<'a> Lines<'a> {
         self.all_best[self.reduced.table().profile_number(profile)]
     }
 
-    // Adds the lines of the profiles of best replies in the order of their ranks. Writes over `profile`.
+    // Adds the lines of the profiles of best replies in the order of their ranks. Writes over
+    // `profile`.
     fn push(&self, alloc: Global, text: &mut Vec<u8>, profile: &mut [u32]) -> Result<(), Memory>
         requires { length profile.old ≡ length self.now.orders }
         ensures { OnOk result (text.new.items ≡ text.old.items ++ listed_text self.now) }
@@ -117,8 +119,8 @@ impl<'a> Lines<'a> {
         Ok(())
     }
 
-    // The lines of the profiles of best replies, in a text that has room for so many bytes from the start. Writes over
-    // `profile`.
+    // The lines of the profiles of best replies, in a text that has room for so many bytes from the
+    // start. Writes over `profile`.
     fn text(&self, alloc: Global, profile: &mut [u32], bytes: usize) -> Result<Vec<u8>, Memory>
         requires { length profile.old ≡ length self.now.orders }
         ensures { IfOk result (λ text. text.items ≡ listed_text self.now) }
@@ -129,14 +131,15 @@ impl<'a> Lines<'a> {
     }
 }
 
-/// The lines of the pure equilibria of a tree: each pure profile of the reduced strategic form at which no player has
-/// a strategy with a greater payoff, once, as behaviour with the first action at each set to which the player's
-/// strategy gives none, in descending order of the lines' entries. `reduced` is the tree's reduced form.
+/// The lines of the pure equilibria of a tree: each pure profile of the reduced strategic form at
+/// which no player has a strategy with a greater payoff, once, as behaviour with the first action
+/// at each set to which the player's strategy gives none, in descending order of the lines'
+/// entries. `reduced` is the tree's reduced form.
 ///
 /// # Errors
 ///
-/// `TooLarge` exactly where the lines have more than 67,108,864 bytes, which are counted before any line is
-/// written; `Memory` where memory ran out.
+/// `TooLarge` exactly where the lines have more than 67,108,864 bytes, which are counted before any
+/// line is written; `Memory` where memory ran out.
 pub fn list_pure_behaviours(
     alloc: Global,
     tree: &Tree,

@@ -1,9 +1,8 @@
 -- Pure equilibria are extreme.
-use Rattle.std.proofs.Common.{ℕ, ◌<◌, ◌≡◌, ◌∙◌, inl, inr, List, [], ◌∷◌, length, get_or, ap₂, sym, subst, pos, arith, tests}
+use Rattle.std.proofs.Common.{ℕ, ◌<◌, ◌≡◌, ◌∙◌, inl, inr, [], ◌∷◌, length, get_or, ap₂, sym, subst, pos, arith}
 use Rattle.std.proofs.lemmas.Bool.{cases_eq}
 use Rattle.std.proofs.lemmas.Int.{ints}
 use Rattle.rational.specs.Rational.{ℚ, ◌+ℚ◌, ◌≤ℚ◌, zero_ℚ, one_ℚ}
-use Rattle.rational.specs.Sum.{sum_to}
 use Rattle.rational.proofs.Linear.{linear, at, lit, ◌⟨+⟩◌, ◌⟨≤⟩◌, ◌⟨=⟩◌}
 use Rattle.rational.proofs.SumLemmas.{sum_to-same, term_le_sum}
 use Rattle.game_theory.specs.Profiles.{Game}
@@ -12,6 +11,7 @@ use Rattle.game_theory.specs.Equilibrium.{IsEquilibrium}
 use Rattle.game_theory.proofs.SureStrategyLemmas.{sure-at, sure-other}
 use Rattle.extreme_equilibria.specs.ExtremeEquilibria.{with_part, IsMidpoint, AreSame}
 use Rattle.extreme_equilibria.specs.Laws.{PureEquilibriaAreExtreme}
+use Rattle.extreme_equilibria.proofs.TwoPlayerLemmas.{with_part-at}
 
 -- numbers that are not negative and sum to 0 are the same
 zeros_same : (a b : ℚ) → zero_ℚ ≤ℚ a → zero_ℚ ≤ℚ b → a +ℚ b ≡ zero_ℚ +ℚ zero_ℚ → a ≡ b
@@ -23,18 +23,14 @@ ones_same : (a b : ℚ) → a ≤ℚ one_ℚ → b ≤ℚ one_ℚ → a +ℚ b �
 ones_same a b h k e =
     linear (a ∷ b ∷ []) ((at 0 ⟨≤⟩ lit (pos 1)) ∷ (at 1 ⟨≤⟩ lit (pos 1)) ∷ ((at 0 ⟨+⟩ at 1) ⟨=⟩ (lit (pos 1) ⟨+⟩ lit (pos 1))) ∷ []) (at 0 ⟨=⟩ at 1) (λ one z p h. omega (arith, ints)) (h, (k, (e, tt)))
 
--- the player's own part
-part-at : (m : Mixed) (i : ℕ) (p : ℕ → ℚ) (s : ℕ) → with_part m i p i s ≡ p s
-part-at m i p s = grind (arith, tests)
-
 -- probabilities of a player in an equilibrium
 module _ (g : Game) (m : Mixed) (i : ℕ) (p : ℕ → ℚ) (h : IsEquilibrium g (with_part m i p)) (l : i < length g.strategies) where
   part_not_negative : (s : ℕ) → s < get_or g.strategies i 0 → zero_ℚ ≤ℚ p s
-  part_not_negative s k = subst (λ x. zero_ℚ ≤ℚ x) (part-at m i p s) (h.valid.not_negative i s l k)
+  part_not_negative s k = subst (λ x. zero_ℚ ≤ℚ x) (with_part-at m i p s) (h.valid.not_negative i s l k)
 
   part_at_most : (s : ℕ) → s < get_or g.strategies i 0 → p s ≤ℚ one_ℚ
   part_at_most s k =
-      subst (λ x. p s ≤ℚ x) (sym (sum_to-same (get_or g.strategies i 0) (with_part m i p i) p (λ t _. part-at m i p t)) ∙ h.valid.sum_is_one i l)
+      subst (λ x. p s ≤ℚ x) (sym (sum_to-same (get_or g.strategies i 0) (with_part m i p i) p (λ t _. with_part-at m i p t)) ∙ h.valid.sum_is_one i l)
       (term_le_sum (get_or g.strategies i 0) s p part_not_negative k)
 
 -- a sure strategy is in the middle of no two different parts

@@ -3,9 +3,9 @@ use Rattle.std.proofs.Common.{◌≡◌, ℕ, suc, ◌+◌, ◌-◌, ◌<◌, �
 use Rattle.std.proofs.lemmas.List.{append-nil}
 use Rattle.std.specs.Prelude.{Result, Ok, Err}
 use Rattle.game_core.specs.declared.token.Token.{Token}
-use Rattle.file_parts.specs.declared.refusal.Refusal.{Refusal}
-use Rattle.file_parts.specs.declared.refusal.Refusal.TheVariants as refusals
-use Rattle.file_parts.specs.Parsing.{Parsed, ◌>>=◌, wanted, parse_each, IsRefusal}
+use Rattle.file_parts.specs.declared.stop.PartStop.{PartStop}
+use Rattle.file_parts.specs.declared.stop.PartStop.TheVariants as part_stops
+use Rattle.file_parts.specs.Parsing.{Parsed, ◌>>=◌, wanted, parse_each, IsPartStop}
 use Rattle.file_parts.proofs.ReaderLemmas.{err_same}
 
 -- what was read before, and what is still read
@@ -32,17 +32,17 @@ each_goes_on part front n i tokens one after total lt h so_far =
     sym next ∙ so_far
 
 -- a fault that comes next
-ends_so : {K X : Type 0} (part : ℕ → List Token → Parsed K X) (front : List X) (n i : ℕ) (tokens : List Token) (refusal : Refusal K) (total : Parsed K (List X)) → i < n → (o : Parsed K X) → part i tokens ≡ o → IsRefusal refusal o → following front (parse_each part i (n - i) tokens) ≡ total → IsRefusal refusal total
-ends_so part front n i tokens refusals.Memory total lt o e h so_far = tt
-ends_so part front n i tokens (refusals.Unexpected kind left) total lt (Ok x) e h so_far = cc
-ends_so {K} {X} part front n i tokens (refusals.Unexpected kind left) total lt (Err fault) e h so_far =
+ends_so : {K X : Type 0} (part : ℕ → List Token → Parsed K X) (front : List X) (n i : ℕ) (tokens : List Token) (stopped : PartStop K) (total : Parsed K (List X)) → i < n → (o : Parsed K X) → part i tokens ≡ o → IsPartStop stopped o → following front (parse_each part i (n - i) tokens) ≡ total → IsPartStop stopped total
+ends_so part front n i tokens part_stops.Memory total lt o e h so_far = tt
+ends_so part front n i tokens (part_stops.Unexpected kind left) total lt (Ok x) e h so_far = cc
+ends_so {K} {X} part front n i tokens (part_stops.Unexpected kind left) total lt (Err fault) e h so_far =
     let next : following front (parse_each part i (n - i) tokens) ≡ Err fault = rw (one_part part n i tokens lt, e) refl in
     let all : total ≡ Err fault = sym so_far ∙ next in
     rw all (ap (λ (f : K × ℕ). Err f) (err_same (fault.0, length fault.1) (kind, left) h))
 
 -- a fault comes next
-pub each_ends : {K X : Type 0} (part : ℕ → List Token → Parsed K X) (front : List X) (n i : ℕ) (tokens : List Token) (refusal : Refusal K) (total : Parsed K (List X)) → i < n → IsRefusal refusal (part i tokens) → following front (parse_each part i (n - i) tokens) ≡ total → IsRefusal refusal total
-each_ends part front n i tokens refusal total lt h so_far = ends_so part front n i tokens refusal total lt (part i tokens) refl h so_far
+pub each_ends : {K X : Type 0} (part : ℕ → List Token → Parsed K X) (front : List X) (n i : ℕ) (tokens : List Token) (stopped : PartStop K) (total : Parsed K (List X)) → i < n → IsPartStop stopped (part i tokens) → following front (parse_each part i (n - i) tokens) ≡ total → IsPartStop stopped total
+each_ends part front n i tokens stopped total lt h so_far = ends_so part front n i tokens stopped total lt (part i tokens) refl h so_far
 
 -- all were read
 pub each_done : {K X : Type 0} (part : ℕ → List Token → Parsed K X) (front : List X) (n i : ℕ) (tokens : List Token) (total : Parsed K (List X)) → n ≤ i → following front (parse_each part i (n - i) tokens) ≡ total → total ≡ Ok (front, tokens)
@@ -51,16 +51,16 @@ each_done {K} {X} part front n i tokens total le so_far =
     let next : following front (parse_each part i (n - i) tokens) ≡ Ok (front, tokens) = rw e (ap (λ (xs : List X). Ok (xs, tokens)) (append-nil front)) in
     sym so_far ∙ next
 
--- ---- refusals
--- a refusal of the first part is one of both
-pub refused_first : {K A B : Type 0} (refusal : Refusal K) (o : Result A (K × List Token)) (f : A → Result B (K × List Token)) → IsRefusal refusal o → IsRefusal refusal (o >>= f)
-refused_first (refusals.Unexpected kind left) (Ok x) f e = cc
-refused_first (refusals.Unexpected kind left) (Err fault) f e = cc
-refused_first refusals.Memory o f e = tt
+-- ---- stops
+-- a stop of the first part is one of both
+pub refused_first : {K A B : Type 0} (stopped : PartStop K) (o : Result A (K × List Token)) (f : A → Result B (K × List Token)) → IsPartStop stopped o → IsPartStop stopped (o >>= f)
+refused_first (part_stops.Unexpected kind left) (Ok x) f e = cc
+refused_first (part_stops.Unexpected kind left) (Err fault) f e = cc
+refused_first part_stops.Memory o f e = tt
 
 -- a part that must come and does not
-pub wanted_refused : {K X : Type 0} (kind : K) (tokens : List Token) (o : Option (X × List Token)) (refusal : Refusal K) → o ≡ None → refusal ≡ refusals.Unexpected kind (length tokens) → IsRefusal refusal (wanted kind tokens o)
-wanted_refused kind tokens o refusal n u = rw (n, u) refl
+pub wanted_refused : {K X : Type 0} (kind : K) (tokens : List Token) (o : Option (X × List Token)) (stopped : PartStop K) → o ≡ None → stopped ≡ part_stops.Unexpected kind (length tokens) → IsPartStop stopped (wanted kind tokens o)
+wanted_refused kind tokens o stopped n u = rw (n, u) refl
 
 -- a part that must come and does
 pub wanted_read : {K X : Type 0} (kind : K) (tokens : List Token) (o : Option (X × List Token)) (x : X × List Token) → o ≡ Some x → wanted kind tokens o ≡ Ok x

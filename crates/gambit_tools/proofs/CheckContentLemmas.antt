@@ -60,7 +60,7 @@ entries-reasons number sizes line =
     (inner-reasons check_refusal (unread number) (line_in line) (unread-reasons number line))
     (λ entries. inner-reasons check_refusal (faulty number) (profile_in sizes entries) (λ fault _. faulty-reasons number fault))
 
-refused-reasons : (stop : CheckStop) → origin (check_refusal stop) ≡ Contents → AreReasons check_refusal (refused stop)
+refused-reasons : (stop : CheckStop) → origin (check_refusal stop) ≡ Contents → AreReasons check_refusal (refused {Y = List ℕ} stop)
 refused-reasons stop e other h =
     let same : other ≡ stop = cc h in
     ap (λ r. origin (check_refusal r)) same ∙ e

@@ -29,6 +29,7 @@ use Rattle.label_pairing.specs.declared.pairing.PairStop.{PairStop}
 use Rattle.label_pairing.specs.declared.pairing.PairStop.TheVariants as pair_stop
 use Rattle.label_pairing.specs.declared.scaling.ScaleStop.{ScaleStop}
 use Rattle.label_pairing.specs.declared.scaling.ScaleStop.TheVariants as scaling_stop
+use Rattle.enummixed.specs.BothVertices.{both_vertices_in}
 use Rattle.enummixed.specs.ExtremeText.{IsExtremeEquilibriaText, extreme_pairs, extreme_text, kept_text}
 use Rattle.enummixed.specs.Told.{polytopes_stop, enumeration_stop, pairs_stop, scale_stop, text_stop}
 use Rattle.enummixed.specs.Used.{all_labels, occurs, used_points, scaling_in}
@@ -66,20 +67,24 @@ text-reasons P (list_stop.TooLarge limit) h = refl
 text-reasons P list_stop.Memory (inl h) = absurd h
 text-reasons P list_stop.Memory (inr h) = cc
 
+both-reasons : (one two : Parts) → AreReasons mixed_refusal (both_vertices_in one two)
+both-reasons one two stop (inl h) = inner-reasons mixed_refusal (enumeration_stop 0) (vertices_in one) (vertices-reasons 0 one) stop h
+both-reasons one two stop (inr (first, _, inl h)) = inner-reasons mixed_refusal (enumeration_stop 1) (vertices_in two) (vertices-reasons 1 two) stop h
+both-reasons one two stop (inr (first, _, inr (second, _, h))) = only-reasons mixed_refusal _ stop h
+
 pub pairs-contents : (g : TableGame) → AreReasons mixed_refusal (extreme_pairs g)
 pairs-contents g stop (inl h) = inner-reasons mixed_refusal polytopes_stop (polytopes_in g) (polytopes-reasons g) stop h
-pairs-contents g stop (inr (systems, _, inl h)) = inner-reasons mixed_refusal (enumeration_stop 0) (vertices_in systems.0) (vertices-reasons 0 systems.0) stop h
-pairs-contents g stop (inr (systems, _, inr (first, _, inl h))) = inner-reasons mixed_refusal (enumeration_stop 1) (vertices_in systems.1) (vertices-reasons 1 systems.1) stop h
-pairs-contents g stop (inr (systems, _, inr (first, _, inr (second, _, inl h)))) =
+pairs-contents g stop (inr (systems, _, inl h)) = both-reasons systems.0 systems.1 stop h
+pairs-contents g stop (inr (systems, _, inr (both, _, inl h))) =
     let labels = all_labels (variable_count systems.0) in
-    inner-reasons mixed_refusal pairs_stop (pairs_in labels first.list second.list) (pairs-reasons labels first.list second.list) stop h
-pairs-contents g stop (inr (systems, _, inr (first, _, inr (second, _, inr (pairs, _, inl h))))) =
-    let points = used_points first.list (occurs (map (λ p. p.0) pairs)) in
+    inner-reasons mixed_refusal pairs_stop (pairs_in labels both.0.list both.1.list) (pairs-reasons labels both.0.list both.1.list) stop h
+pairs-contents g stop (inr (systems, _, inr (both, _, inr (pairs, _, inl h)))) =
+    let points = used_points both.0.list (occurs (map (λ p. p.0) pairs)) in
     inner-reasons mixed_refusal (scale_stop 0) (scaling_in points) (scaling-reasons 0 points) stop h
-pairs-contents g stop (inr (systems, _, inr (first, _, inr (second, _, inr (pairs, _, inr (_, _, inl h)))))) =
-    let points = used_points second.list (occurs (map (λ p. p.1) pairs)) in
+pairs-contents g stop (inr (systems, _, inr (both, _, inr (pairs, _, inr (_, _, inl h))))) =
+    let points = used_points both.1.list (occurs (map (λ p. p.1) pairs)) in
     inner-reasons mixed_refusal (scale_stop 1) (scaling_in points) (scaling-reasons 1 points) stop h
-pairs-contents g stop (inr (systems, _, inr (first, _, inr (second, _, inr (pairs, _, inr (_, _, inr (_, _, h))))))) = only-reasons mixed_refusal _ stop h
+pairs-contents g stop (inr (systems, _, inr (both, _, inr (pairs, _, inr (_, _, inr (_, _, h)))))) = only-reasons mixed_refusal _ stop h
 
 text-contents : (g kept : TableGame) → AreReasons mixed_refusal (kept_text g kept)
 text-contents g kept =

@@ -5,8 +5,7 @@ use Rattle.std.proofs.lemmas.Bool.{false_from_ne_true}
 use Rattle.game_text.specs.Tokens.{FirstIs, IsBlank, IsBare, IsRun}
 use Rattle.game_text.specs.Reading.{is_bare, is_blank}
 use Rattle.game_text.proofs.ByteLemmas.{tells_bare, tells_blank}
-use Rattle.game_text.proofs.FrontLemmas.{take_passes, drop_stops, drop-front}
-use Rattle.game_text.proofs.PrefixLemmas.{Stops}
+use Rattle.game_text.proofs.PrefixLemmas.{Stops, front-passes, following-stops, following-is}
 
 -- bare bytes, by test and by fact
 passes_bare : (run : List ℕ) → AllByRecursion (λ b. is_bare b ≡ true) run → AllByRecursion IsBare run
@@ -30,13 +29,13 @@ stops_bare (b ∷ rest) h = false_from_ne_true (is_bare b) (λ e. h ((tells_bare
 pub run_is : (bytes run rest : List ℕ) → run ≡ take (prefix_len is_bare bytes) bytes → rest ≡ drop (prefix_len is_bare bytes) bytes → 0 < length run → IsRun run rest
 run_is bytes run rest e f h = record {
   some = h;
-  bare = rw e (passes_bare (take (prefix_len is_bare bytes) bytes) (take_passes is_bare bytes));
-  longest = rw f (bare_stops (drop (prefix_len is_bare bytes) bytes) (drop_stops is_bare bytes));
+  bare = rw e (passes_bare (take (prefix_len is_bare bytes) bytes) (front-passes is_bare bytes));
+  longest = rw f (bare_stops (drop (prefix_len is_bare bytes) bytes) (following-stops is_bare bytes));
 }
 
 -- what comes after a run
 pub drop-run : (run rest : List ℕ) → IsRun run rest → drop (prefix_len is_bare (run ++ rest)) (run ++ rest) ≡ rest
-drop-run run rest h = drop-front is_bare run rest (bare_passes run h.bare) (stops_bare rest h.longest)
+drop-run run rest h = following-is is_bare run rest (bare_passes run h.bare) (stops_bare rest h.longest)
 
 -- the blanks at the front of bytes
 passes_blank : (bytes : List ℕ) → AllByRecursion (λ b. is_blank b ≡ true) bytes → AllByRecursion IsBlank bytes
@@ -44,7 +43,7 @@ passes_blank [] h = tt
 passes_blank (b ∷ bytes) h = ((tells_blank b).0 h.0, passes_blank bytes h.1)
 
 pub take_blanks : (bytes : List ℕ) → AllByRecursion IsBlank (take (prefix_len is_blank bytes) bytes)
-take_blanks bytes = passes_blank (take (prefix_len is_blank bytes) bytes) (take_passes is_blank bytes)
+take_blanks bytes = passes_blank (take (prefix_len is_blank bytes) bytes) (front-passes is_blank bytes)
 
 blank_stops : (rest : List ℕ) → Stops is_blank rest → ¬ (FirstIs IsBlank rest)
 blank_stops [] s h = h
@@ -52,4 +51,4 @@ blank_stops (b ∷ rest) s h = let e : is_blank b ≡ true = (tells_blank b).1 h
 
 -- no blank comes after the blanks
 pub drop_blanks : (bytes : List ℕ) → ¬ (FirstIs IsBlank (drop (prefix_len is_blank bytes) bytes))
-drop_blanks bytes = blank_stops (drop (prefix_len is_blank bytes) bytes) (drop_stops is_blank bytes)
+drop_blanks bytes = blank_stops (drop (prefix_len is_blank bytes) bytes) (following-stops is_blank bytes)

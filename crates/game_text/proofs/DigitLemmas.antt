@@ -1,5 +1,5 @@
 -- Digits, the numbers that they stand for, and the zeros before and after them.
-use Rattle.std.proofs.Common.{◌≡◌, ℕ, suc, ◌+◌, ◌*◌, ◌-◌, ◌<◌, ◌≤◌, ◌^◌, Bool, true, false, cond, ◌&&◌, ◌==◌, List, [], ◌∷◌, ◌++◌, length, reverse, take, drop, refl, sym, ap, ◌∙◌, subst, mul_comm, lit<, arith, rules, Option, Some, None, MatchOption}
+use Rattle.std.proofs.Common.{◌≡◌, ℕ, suc, ◌+◌, ◌*◌, ◌-◌, ◌<◌, ◌≤◌, ◌^◌, Bool, true, false, cond, ◌&&◌, ◌==◌, List, [], ◌∷◌, ◌++◌, length, reverse, take, drop, refl, sym, ap, ◌∙◌, subst, mul_comm, lit<, one-add, arith, rules, Option, Some, None, MatchOption}
 use Rattle.std.proofs.Math.Nat.{pow-suc, pow-le-pow_right}
 use Rattle.std.proofs.lemmas.Bool.{and_parts, and_from}
 use Rattle.std.proofs.lemmas.Bool.Decides.{Decides-eqb, nat_tests}
@@ -8,10 +8,10 @@ use Rattle.std.proofs.lemmas.List.Elements.{All-append, All-from_recursion, recu
 use Rattle.std.proofs.lemmas.List.Sums.{fold-append}
 use Rattle.std.proofs.lemmas.Str.Parse.{IsNumeralModel, numerals_by_fold, digits_value_short}
 use Rattle.std.specs.Char.{IsAsciiDigit, is_ascii_digit}
-use Rattle.std.specs.List.{All, AllByRecursion, list_all}
+use Rattle.std.specs.List.{All, AllByRecursion, list_all, prefix_len, take_while}
 use Rattle.game_text.specs.Digits.{digits_value, without_leading_zeros, without_trailing_zeros}
-use Rattle.game_text.specs.NumberReading.{GivesSize, digits_after, is_zero, leading, following}
-use Rattle.game_text.proofs.PrefixLemmas.{Stops, leading-following, leading-passes, following-stops}
+use Rattle.game_text.specs.NumberReading.{GivesSize, digits_after, is_zero, following}
+use Rattle.game_text.proofs.PrefixLemmas.{Stops, front-passes, following-stops}
 
 -- ---- tests of digits
 -- a digit passes the test
@@ -43,11 +43,11 @@ passes_each [] h = tt
 passes_each (b ∷ text) h = (passes_digit b h.0, passes_each text h.1)
 
 -- the digits at the front of a text are digits
-pub front_digits : (text : List ℕ) → AllByRecursion IsAsciiDigit (leading is_ascii_digit text)
-front_digits text = passes_each _ (leading-passes is_ascii_digit text)
+pub front_digits : (text : List ℕ) → AllByRecursion IsAsciiDigit (take_while is_ascii_digit text)
+front_digits text = passes_each _ (front-passes is_ascii_digit text)
 
 -- the same at each place
-pub leading_digits : (text : List ℕ) → All IsAsciiDigit (leading is_ascii_digit text)
+pub leading_digits : (text : List ℕ) → All IsAsciiDigit (take_while is_ascii_digit text)
 leading_digits text = All-from_recursion IsAsciiDigit _ (front_digits text)
 
 -- ---- parts of a list
@@ -139,17 +139,18 @@ others_value (d ∷ digits) all e =
 -- striking the leading zeros leaves what is after them
 struck : (digits : List ℕ) → without_leading_zeros digits ≡ following is_zero digits
 struck [] = refl
-struck (d ∷ digits) = ap (λ t. cond (d == 48) t (d ∷ digits)) (struck digits)
+struck (d ∷ digits) =
+    elim (d == 48) as (λ v. cond v (without_leading_zeros digits) (d ∷ digits) ≡ drop (cond v (1 + prefix_len is_zero digits) 0) (d ∷ digits)) [ true ↦ rw one-add (struck digits) | false ↦ refl ]
 
 -- striking leading zeros keeps the number
 struck-value : (digits : List ℕ) → digits_value digits ≡ digits_value (without_leading_zeros digits)
 struck-value digits =
-    ap digits_value (leading-following is_zero digits) ∙ digits_parts 0 (leading is_zero digits) (following is_zero digits) ∙ ap (λ n. digits_after n (following is_zero digits)) (zeros_are_zero _ (leading-passes is_zero digits)) ∙ ap digits_value (sym (struck digits))
+    ap digits_value (sym (take-append-drop (prefix_len is_zero digits) digits)) ∙ digits_parts 0 (take_while is_zero digits) (following is_zero digits) ∙ ap (λ n. digits_after n (following is_zero digits)) (zeros_are_zero _ (front-passes is_zero digits)) ∙ ap digits_value (sym (struck digits))
 
 -- what is left are digits
 struck-digits : (digits : List ℕ) → AllByRecursion IsAsciiDigit digits → AllByRecursion IsAsciiDigit (without_leading_zeros digits)
 struck-digits digits h =
-    subst (AllByRecursion IsAsciiDigit) (sym (struck digits)) (split_all IsAsciiDigit (leading is_zero digits) (following is_zero digits) (subst (AllByRecursion IsAsciiDigit) (leading-following is_zero digits) h)).1
+    subst (AllByRecursion IsAsciiDigit) (sym (struck digits)) (split_all IsAsciiDigit (take_while is_zero digits) (following is_zero digits) (subst (AllByRecursion IsAsciiDigit) (sym (take-append-drop (prefix_len is_zero digits) digits)) h)).1
 
 -- what is left begins with no zero
 struck-stops : (digits : List ℕ) → Stops is_zero (without_leading_zeros digits)
@@ -188,11 +189,11 @@ pub record Struck (digits kept : List ℕ) : Type 0 where
 pub struck_after : (digits : List ℕ) → Struck digits (without_trailing_zeros digits)
 struck_after digits =
     let r = reverse digits in
-    let split : r ≡ leading is_zero r ++ without_leading_zeros r = leading-following is_zero r ∙ ap (λ t. leading is_zero r ++ t) (sym (struck r)) in
+    let split : r ≡ take_while is_zero r ++ without_leading_zeros r = sym (take-append-drop (prefix_len is_zero r) r) ∙ ap (λ t. take_while is_zero r ++ t) (sym (struck r)) in
     record {
-      zeros = reverse (leading is_zero r);
-      are_zeros = all_reversed _ _ (leading-passes is_zero r);
-      is = sym (reverse-reverse digits) ∙ ap reverse split ∙ reverse-append (leading is_zero r) (without_leading_zeros r);
+      zeros = reverse (take_while is_zero r);
+      are_zeros = all_reversed _ _ (front-passes is_zero r);
+      is = sym (reverse-reverse digits) ∙ ap reverse split ∙ reverse-append (take_while is_zero r) (without_leading_zeros r);
     }
 
 -- what is left are digits

@@ -1,8 +1,8 @@
 pub mod ByteLemmas
 pub mod ByteRunLemmas
 pub mod DigitLemmas
+pub mod EveryAnswerLaws
 pub mod FirstByteLemmas
-pub mod FrontLemmas
 pub mod LimitLemmas
 pub mod NextTokenLemmas
 pub mod NumeralFormLemmas

@@ -16,7 +16,7 @@ use Rattle.game_text.proofs.ByteRunLemmas.{run_is}
 
 -- ---- texts
 -- a text that a quote closes
-closed_next : (bytes rest : List ℕ) (c : ℕ) → after_text bytes ≡ c ∷ rest → IsNext (34 ∷ bytes) rest (Text (spelled bytes))
+pub closed_next : (bytes rest : List ℕ) (c : ℕ) → after_text bytes ≡ c ∷ rest → IsNext (34 ∷ bytes) rest (Text (spelled bytes))
 closed_next bytes rest c e =
     let h = text_closes bytes rest c e in record {
       front = 34 ∷ (h.inner ++ 34 ∷ []);

@@ -3,21 +3,21 @@ use Rattle.std.proofs.Common.{◌≡◌, ◌≢◌, ℕ, ◌+◌, ◌<◌, Bool,
 use Rattle.std.proofs.lemmas.Bool.{and_parts, and_from, or_cases}
 use Rattle.std.proofs.lemmas.Bool.Decides.{Decides-eqb, nat_tests}
 use Rattle.std.proofs.lemmas.List.Elements.{All-from_recursion}
-use Rattle.std.proofs.lemmas.List.{append-nil}
+use Rattle.std.proofs.lemmas.List.{append-nil, take-append-drop}
 use Rattle.std.proofs.lemmas.Option.{cond_some, same_Some}
 use Rattle.std.specs.Char.{IsAsciiDigit, is_ascii_digit}
-use Rattle.std.specs.List.{All, AllByRecursion, list_all}
+use Rattle.std.specs.List.{All, AllByRecursion, list_all, prefix_len, take_while}
 use Rattle.lists.proofs.OptionLemmas.{either}
 use Rattle.frac128.specs.Fraction.{with_sign}
 use Rattle.game_text.specs.Digits.{AreDigits, digits_value}
 use Rattle.game_text.specs.Numbers.{NumberForm, Fraction, Decimal, IsSign, IsMantissa, IsExponent, IsWritten}
-use Rattle.game_text.specs.NumberReading.{is_minus, after_sign, leading, following, is_zero, are_digits, power_of, with_power, decimal_of, fraction_of, form_with}
+use Rattle.game_text.specs.NumberReading.{is_minus, after_sign, following, is_zero, are_digits, power_of, with_power, decimal_of, fraction_of, form_with}
 use Rattle.game_text.proofs.DigitLemmas.{passes_digits, digits_pass, each_passes, front_digits, zeros_value, others_value}
-use Rattle.game_text.proofs.PrefixLemmas.{Stops, leading-following, leading-is, following-is}
+use Rattle.game_text.proofs.PrefixLemmas.{Stops, front-is, following-is}
 
 -- the form of a text, where it has one
 unfoldable pub form_of : List ℕ → Option NumberForm
-form_of text = form_with (is_minus text) (leading is_ascii_digit (after_sign text)) (following is_ascii_digit (after_sign text))
+form_of text = form_with (is_minus text) (take_while is_ascii_digit (after_sign text)) (following is_ascii_digit (after_sign text))
 
 -- no answer is no value
 none_some : {A B : Type 0} (x : A) → None ≡ Some x → B
@@ -284,14 +284,14 @@ unfolding form_with
 rest_found sign before [] text negative form s all is e =
     decimal_found sign before before [] [] text negative form s (without_point before all) is e
 rest_found sign before (b ∷ bytes) text negative form s all is e =
-    elim (either (b == 47) (fraction_of negative before bytes) (cond (b == 46) (decimal_of negative before (leading is_ascii_digit bytes) (following is_ascii_digit bytes)) (decimal_of negative before [] (b ∷ bytes))) (Some form) e) [
+    elim (either (b == 47) (fraction_of negative before bytes) (cond (b == 46) (decimal_of negative before (take_while is_ascii_digit bytes) (following is_ascii_digit bytes)) (decimal_of negative before [] (b ∷ bytes))) (Some form) e) [
       | inl h ↦ fraction_found sign before bytes text negative form s all (is ∙ ap (λ a. sign ++ before ++ (a ∷ bytes)) (same_byte b 47 h.0)) h.1
       | inr h ↦
-          elim (either (b == 46) (decimal_of negative before (leading is_ascii_digit bytes) (following is_ascii_digit bytes)) (decimal_of negative before [] (b ∷ bytes)) (Some form) h.1) [
+          elim (either (b == 46) (decimal_of negative before (take_while is_ascii_digit bytes) (following is_ascii_digit bytes)) (decimal_of negative before [] (b ∷ bytes)) (Some form) h.1) [
             | inl k ↦
-                let after = leading is_ascii_digit bytes in
+                let after = take_while is_ascii_digit bytes in
                 let power = following is_ascii_digit bytes in
-                let split : b ∷ bytes ≡ (46 ∷ after) ++ power = ap₂ (λ (a : ℕ) (t : List ℕ). a ∷ t) (same_byte b 46 k.0) (leading-following is_ascii_digit bytes) in
+                let split : b ∷ bytes ≡ (46 ∷ after) ++ power = ap₂ (λ (a : ℕ) (t : List ℕ). a ∷ t) (same_byte b 46 k.0) (sym (take-append-drop (prefix_len is_ascii_digit bytes) bytes)) in
                 let regroup : sign ++ before ++ ((46 ∷ after) ++ power) ≡ sign ++ (before ++ 46 ∷ after) ++ power = simp append_assoc in
                 decimal_found sign (before ++ 46 ∷ after) before after power text negative form s (with_point before after all (front_digits bytes)) (is ∙ ap (λ t. sign ++ before ++ t) split ∙ regroup) k.1
             | inr k ↦ decimal_found sign before before [] (b ∷ bytes) text negative form s (without_point before all) is k.1
@@ -304,8 +304,8 @@ unfolding form_of
 form_found text form e =
     let s = sign_found text in
     let bytes = after_sign text in
-    let split : text ≡ s.sign ++ leading is_ascii_digit bytes ++ following is_ascii_digit bytes = s.is ∙ ap (λ t. s.sign ++ t) (leading-following is_ascii_digit bytes) ∙ sym (append_assoc s.sign (leading is_ascii_digit bytes) (following is_ascii_digit bytes)) in
-    rest_found s.sign (leading is_ascii_digit bytes) (following is_ascii_digit bytes) text (is_minus text) form s.is_sign (front_digits bytes) split e
+    let split : text ≡ s.sign ++ take_while is_ascii_digit bytes ++ following is_ascii_digit bytes = s.is ∙ ap (λ t. s.sign ++ t) (sym (take-append-drop (prefix_len is_ascii_digit bytes) bytes)) ∙ sym (append_assoc s.sign (take_while is_ascii_digit bytes) (following is_ascii_digit bytes)) in
+    rest_found s.sign (take_while is_ascii_digit bytes) (following is_ascii_digit bytes) text (is_minus text) form s.is_sign (front_digits bytes) split e
 
 -- the sign and the first digits are read again
 front_again : (sign before rest text : List ℕ) (negative : Bool) → IsSign sign negative → AllByRecursion IsAsciiDigit before → Stops is_ascii_digit rest → Unsigned (before ++ rest) → text ≡ sign ++ (before ++ rest) → form_of text ≡ form_with negative before rest
@@ -314,7 +314,7 @@ front_again sign before rest text negative s all stops u is =
     let r = sign_again sign (before ++ rest) negative s u in
     let minus : is_minus text ≡ negative = ap is_minus is ∙ r.0 in
     let bytes : after_sign text ≡ before ++ rest = ap after_sign is ∙ r.1 in
-    rw (minus, bytes, leading-is is_ascii_digit before rest (each_passes before all) stops, following-is is_ascii_digit before rest (each_passes before all) stops) refl
+    rw (minus, bytes, front-is is_ascii_digit before rest (each_passes before all) stops, following-is is_ascii_digit before rest (each_passes before all) stops) refl
 
 -- a decimal without a point is read again
 plain_again : (sign before power text : List ℕ) (negative : Bool) (exponent : ℤ) → IsSign sign negative → AreDigits before → IsExponent power exponent → text ≡ sign ++ (before ++ power) → form_of text ≡ Some (Decimal negative before [] exponent)
@@ -325,7 +325,7 @@ plain_again sign before power text negative exponent s d p is =
 point_after : (before after power : List ℕ) (negative : Bool) → AllByRecursion IsAsciiDigit after → Stops is_ascii_digit power → form_with negative before (46 ∷ (after ++ power)) ≡ decimal_of negative before after power
 unfolding form_with
 point_after before after power negative all stops =
-    ap₂ (decimal_of negative before) (leading-is is_ascii_digit after power (each_passes after all) stops) (following-is is_ascii_digit after power (each_passes after all) stops)
+    ap₂ (decimal_of negative before) (front-is is_ascii_digit after power (each_passes after all) stops) (following-is is_ascii_digit after power (each_passes after all) stops)
 
 -- a decimal with a point is read again
 point_again : (sign before after power text : List ℕ) (negative : Bool) (exponent : ℤ) → IsSign sign negative → AllByRecursion IsAsciiDigit before → AllByRecursion IsAsciiDigit after → 0 < length before + length after → IsExponent power exponent → text ≡ sign ++ (before ++ (46 ∷ (after ++ power))) → form_of text ≡ Some (Decimal negative before after exponent)

@@ -1,4 +1,5 @@
 pub mod Digits
+pub mod Laws
 pub mod NumberReading
 pub mod Numbers
 pub mod Reading

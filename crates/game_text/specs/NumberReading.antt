@@ -1,7 +1,7 @@
 -- Reading a number, as functions of its text, and what is answered.
-use Rattle.std.specs.Prelude.{ℕ, ◌+◌, ◌-◌, ◌*◌, ◌^◌, ◌<◌, ◌≤◌, ◌≡◌, Bool, false, if◌then◌else◌, not, ◌&&◌, ◌||◌, ◌==◌, nat_lt, List, [], ◌∷◌, length, fold, Option, Some, None, Result, Ok, Err, MatchOption}
+use Rattle.std.specs.Prelude.{ℕ, ◌+◌, ◌-◌, ◌*◌, ◌^◌, ◌<◌, ◌≤◌, ◌≡◌, Bool, false, if◌then◌else◌, not, ◌&&◌, ◌||◌, ◌==◌, nat_lt, List, [], ◌∷◌, length, fold, drop, Option, Some, None, Result, Ok, Err, MatchOption}
 use Rattle.std.specs.Char.{is_ascii_digit}
-use Rattle.std.specs.List.{list_all}
+use Rattle.std.specs.List.{list_all, prefix_len, take_while}
 use Rattle.rational.specs.Rational.{ℚ}
 use Rattle.frac128.specs.Fraction.{with_sign}
 use Rattle.game_text.specs.Digits.{digits_value, without_leading_zeros}
@@ -21,15 +21,9 @@ abbrev pub after_sign : List ℕ → List ℕ
 after_sign [] = []
 after_sign (b ∷ bytes) = if b == 43 || b == 45 then bytes else b ∷ bytes
 
--- the bytes before the first that fails the test
-abbrev pub leading : (ℕ → Bool) → List ℕ → List ℕ
-leading p [] = []
-leading p (b ∷ bytes) = if p b then b ∷ leading p bytes else []
-
 -- the bytes from the first that fails the test
 abbrev pub following : (ℕ → Bool) → List ℕ → List ℕ
-following p [] = []
-following p (b ∷ bytes) = if p b then following p bytes else b ∷ bytes
+following p bytes = drop (prefix_len p bytes) bytes
 
 -- the number that digits stand for when they follow those of n
 abbrev pub digits_after : ℕ → List ℕ → ℕ
@@ -69,7 +63,7 @@ unfoldable pub form_with : Bool → List ℕ → List ℕ → Option NumberForm
 form_with negative before [] = decimal_of negative before [] []
 form_with negative before (b ∷ bytes) =
     if b == 47 then fraction_of negative before bytes
-    else (if b == 46 then decimal_of negative before (leading is_ascii_digit bytes) (following is_ascii_digit bytes) else decimal_of negative before [] (b ∷ bytes))
+    else (if b == 46 then decimal_of negative before (take_while is_ascii_digit bytes) (following is_ascii_digit bytes) else decimal_of negative before [] (b ∷ bytes))
 
 -- ---- answers
 -- the number that digits stand for, exactly where no more than 36 of them count

@@ -3,10 +3,11 @@
 //! Callers may rely on: `read_tokens` gives the one answer of a text, its tokens or its first
 //! fault; `read_number` a number's exact value, or what is wrong, without memory.
 //! Definitions: `specs::Tokens` has tokens and faults, `specs::Numbers` the texts, values and
-//! limits of numbers, `specs::Stops` what bytes answer (`tokens_of`).
+//! limits of numbers, `specs::Stops` what bytes answer (`tokens_of`), `specs::Laws` that each has
+//! an answer.
 //! Private words: `specs::Reading` and `specs::NumberReading`, which say how the code reads.
-//! Lemmas for callers: `proofs::DigitLemmas`, `PowerLemmas`, and `OneListLaws`, that there is one
-//! answer.
+//! Lemmas for callers: `proofs::DigitLemmas`, `PowerLemmas`, `EveryAnswerLaws`, that there is an
+//! answer, and `OneListLaws`, that there is one only.
 //! A change here touches: the tokens of docs/FORMAT.md, `ne_printer`, `gambit_tools`.
 #![tactic(auto)]
 
@@ -20,4 +21,6 @@ mod values;
 
 pub use game_core::{Spanned, Token, Tokens};
 pub use number::{NumberFault, numbers_have_one_form, numbers_have_one_value, read_number};
-pub use reading::{TextFault, TextKind, TextStop, read_tokens, tokens_are_single};
+pub use reading::{
+    TextFault, TextKind, TextStop, read_tokens, sources_have_answers, tokens_are_single,
+};

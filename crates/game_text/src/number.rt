@@ -5,6 +5,7 @@ ghost use Rattle.std.specs.List.{All};
 ghost use Rattle.rational.specs.Rational.{ℚ};
 ghost use Rattle.frac128.specs.Fraction.{with_sign};
 ghost use Rattle.game_text.specs.Digits.{digits_value};
+ghost use Rattle.game_text.specs.Laws.{EveryTextHasAnAnswer};
 ghost use Rattle.game_text.specs.Numbers.{NumberForm, Fraction, Decimal, IsWritten, IsNumber, IsTooLarge, IsNoNumber};
 ghost use Rattle.game_text.specs.NumberReading.{Answers, GivesValue, decimal_of, form_with, fraction_of};
 
@@ -152,6 +153,7 @@ pub fn numbers_have_one_form()
 
 /// A text is a number of one value, or too large, or no number, and no two of these.
 pub fn numbers_have_one_value()
+    ensures some { EveryTextHasAnAnswer }
     ensures value { (text : List ℕ) (one other : ℚ) → IsNumber text one → IsNumber text other
         → one ≡ other }
     ensures not_too_large { (text : List ℕ) (value : ℚ) → IsNumber text value → IsTooLarge text

@@ -1,9 +1,9 @@
 // The parts of a number's text.
 ghost use Rattle.std.specs.Prelude.{◌≡◌};
 ghost use Rattle.std.specs.Char.{IsAsciiDigit, is_ascii_digit};
-ghost use Rattle.std.specs.List.{All, list_all, prefix_len};
+ghost use Rattle.std.specs.List.{All, list_all, prefix_len, take_while};
 ghost use Rattle.std.specs.Option.{option_map};
-ghost use Rattle.game_text.specs.NumberReading.{are_digits, following, after_sign, is_minus, leading, power_of};
+ghost use Rattle.game_text.specs.NumberReading.{are_digits, following, after_sign, is_minus, power_of};
 
 // Whether the text begins with a minus, and what comes after its sign, if it has one.
 pub fn split_sign(text: &[u8]) -> (bool, &[u8])
@@ -25,9 +25,9 @@ fn digits_count(text: &[u8]) -> usize
 }
 
 // The digits at the front, and what comes after them.
-#[tactic(auto, using(crate::proofs::PrefixLemmas::spans))]
+#[tactic(auto, using(crate::proofs::PrefixLemmas::prefix_lengths))]
 pub fn split_digits(text: &[u8]) -> (&[u8], &[u8])
-    ensures front { result.0.now ≡ leading is_ascii_digit text.now }
+    ensures front { result.0.now ≡ take_while is_ascii_digit text.now }
     ensures digits { All IsAsciiDigit result.0.now }
     ensures rest { result.1.now ≡ following is_ascii_digit text.now }
 {

@@ -4,6 +4,7 @@ ghost use Rattle.answers.specs.Answers.{Gives, IsSingle};
 ghost use Rattle.game_text.specs.Numbers.{IsNumber};
 ghost use Rattle.game_text.specs.Tokens.{FirstIs, IsBlank};
 ghost use Rattle.game_text.specs.Reading.{IsNext, IsNoMark, RefusesNumber, StopsAt};
+ghost use Rattle.game_text.specs.Laws.{EverySourceHasAnAnswer};
 ghost use Rattle.game_text.specs.Stops.{tokens_of};
 ghost use Rattle.game_text.specs.declared.reading.TextStop.TheVariants.{Fault, Memory};
 
@@ -92,7 +93,7 @@ fn number(run: &[u8]) -> Result<Frac, TextKind>
 }
 
 // The word or number that comes next, and the bytes after it.
-#[tactic(auto, using(crate::proofs::FrontLemmas::prefix_lengths))]
+#[tactic(auto, using(crate::proofs::PrefixLemmas::prefix_lengths))]
 fn next_run(alloc: Global, bytes: &[u8], at: usize) -> Result<(Token, &[u8]), TextStop>
     requires { FirstIs IsNoMark bytes.now }
     ensures token { IfOk result (λ x. IsNext bytes.now x.1.now x.0) }
@@ -153,4 +154,9 @@ pub fn read_tokens(alloc: Global, bytes: &[u8]) -> Result<Tokens, TextStop>
 /// A byte string has one answer at most: a list of tokens, or a first fault.
 pub fn tokens_are_single()
     ensures { (bytes : List ℕ) → IsSingle (tokens_of bytes) }
+{}
+
+/// Every byte string has an answer: a list of tokens, or a first fault.
+pub fn sources_have_answers()
+    ensures { EverySourceHasAnAnswer }
 {}

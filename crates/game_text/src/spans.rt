@@ -29,7 +29,7 @@ fn blank_length(bytes: &[u8]) -> usize
 }
 
 /// The bytes from the first that is no blank.
-#[tactic(auto, using(crate::proofs::FrontLemmas::prefix_lengths))]
+#[tactic(auto, using(crate::proofs::PrefixLemmas::prefix_lengths))]
 pub fn without_blanks(bytes: &[u8]) -> &[u8]
     ensures { result.now ≡ drop (prefix_len is_blank bytes.now) bytes.now }
 {

@@ -1,5 +1,5 @@
--- All pairs are exactly the pairs, and none stands twice
-use Rattle.std.proofs.Common.{ℕ, zero, suc, ◌<◌, ◌≡◌, ◌≢◌, inl, inr, Bool, true, false, cond, List, [], ◌∷◌, ◌++◌, All, length, map, get_or, sym, ap, ◌∙◌, subst, arith}
+-- All pairs are exactly the pairs, in ascending order
+use Rattle.std.proofs.Common.{ℕ, zero, suc, ◌<◌, ◌≡◌, ◌≢◌, ◌⊎◌, inl, inr, Bool, true, false, cond, List, [], ◌∷◌, ◌++◌, All, length, map, get_or, refl, sym, ap, ◌∙◌, subst, subst₂, arith}
 use Rattle.std.specs.Prelude.{Contains}
 use Rattle.std.specs.List.{AllPairs, filter, range_with_len}
 use Rattle.std.proofs.lemmas.Bool.{cases_lt}
@@ -13,7 +13,7 @@ use Rattle.game_core.specs.Limits.{within}
 use Rattle.game_core.specs.declared.too_large.What.TheVariants as what
 use Rattle.label_pairing.specs.Pairs.{are_together, mark_at, places, all_pairs, most_pairs}
 use Rattle.label_pairing.specs.declared.pairing.PairStop.TheVariants as stops
-use Rattle.label_pairing.specs.Laws.{IsPair, PairsAreTheTogether, PairsAreSingle}
+use Rattle.label_pairing.specs.Laws.{IsPair, PairsAreExactlyThose, PairsAreSingle}
 use Rattle.label_pairing.proofs.RowLemmas.{places-next}
 
 -- what a filter keeps
@@ -67,23 +67,26 @@ all_pairs-append R (x ∷ xs) ys h g across =
     AllPairs-cons R x (xs ++ ys) (All-append (R x) xs ys (λ k d l. h 0 (suc k) d (omega arith) (omega arith)) (across 0 x (omega arith)))
     (all_pairs-append R xs ys (λ i j d l m. h (suc i) (suc j) d (omega arith) (omega arith)) g (λ k d l. across (suc k) d (omega arith)))
 
--- no place stands twice
-places_once : (m n : ℕ) → AllPairs (λ p q. p ≢ q) (places m n)
-places_once zero n = λ i j d l m. absurd (omega arith)
-places_once (suc m) n =
-    subst (AllPairs (λ p q. p ≢ q)) (sym (places-next m n)) (all_pairs-append (λ p q. p ≢ q) (places m n) (row m n) (places_once m n) row_once across)
-  where
-    row_once : AllPairs (λ p q. p ≢ q) (row m n)
-    row_once i j d l h e =
-        let k : j < n = omega (arith, length-map-range_with_len {X = ℕ × ℕ} (λ j. (m, j)) 0 n) in
-        let same : (let p : ℕ × ℕ = (m, i) in p) ≡ (m, j) = sym (get_or-map-range_with_len {X = ℕ × ℕ} (λ j. (m, j)) 0 n i i d (omega arith) (omega arith)) ∙ e ∙ get_or-map-range_with_len {X = ℕ × ℕ} (λ j. (m, j)) 0 n j j d k (omega arith) in
-        omega (arith, ap (λ (p : ℕ × ℕ). p.1) same)
+-- each place stands before the later ones
+abbrev Earlier : ℕ × ℕ → ℕ × ℕ → Type 0
+Earlier p q = (p.0 < q.0) ⊎ ((p.0 ≡ q.0) × (p.1 < q.1))
 
-    across : All (λ p. All (λ q. p ≢ q) (row m n)) (places m n)
-    across k d h i c l e =
+places_ascending : (m n : ℕ) → AllPairs Earlier (places m n)
+places_ascending zero n = λ i j d l m. absurd (omega arith)
+places_ascending (suc m) n =
+    subst (AllPairs Earlier) (sym (places-next m n)) (all_pairs-append Earlier (places m n) (row m n) (places_ascending m n) row_ascending across)
+  where
+    row_ascending : AllPairs Earlier (row m n)
+    row_ascending i j d l h =
+        let k : j < n = omega (arith, length-map-range_with_len {X = ℕ × ℕ} (λ j. (m, j)) 0 n) in
+        let at : (i : ℕ) → i < n → get_or (row m n) i d ≡ (m, i) = λ i b. get_or-map-range_with_len {X = ℕ × ℕ} (λ j. (m, j)) 0 n i i d b (omega arith) in
+        subst₂ Earlier (sym (at i (omega (arith, l, k)))) (sym (at j k)) (inr (refl, l))
+
+    across : All (λ p. All (Earlier p) (row m n)) (places m n)
+    across k d h i c l =
         let before = places_out m n (get_or (places m n) k d) (Contains-get_or (places m n) k d h) in
         let here = row_out m n (get_or (row m n) i c) (Contains-get_or (row m n) i c l) in
-        omega (arith, before.0, here.0, ap (λ (p : ℕ × ℕ). p.0) e)
+        inl (omega (arith, before.0, here.0))
 
 module _ (all : List ℕ) (first second : List MarkedPoint) where
   abbrev test : ℕ × ℕ → Bool
@@ -98,11 +101,19 @@ module _ (all : List ℕ) (first second : List MarkedPoint) where
   exactly_in : (i j : ℕ) → IsPair all first second i j → Contains (all_pairs all first second) (i, j)
   exactly_in i j h = kept test (places (length first) (length second)) (i, j) h.together (places_in (length first) (length second) i j h.in_first h.in_second)
 
-pub pairs_together : PairsAreTheTogether
-pairs_together = record {
+pub exactly_those : PairsAreExactlyThose
+exactly_those = record {
   exactly = λ all first second i j. (exactly_out all first second i j, exactly_in all first second i j);
-  once = λ all first second. AllPairs-filter (λ p q. p ≢ q) _ (places (length first) (length second)) (places_once (length first) (length second));
+  ascending = λ all first second. AllPairs-filter Earlier _ (places (length first) (length second)) (places_ascending (length first) (length second));
 }
+
+-- so no pair stands twice
+pub pairs_once : (all : List ℕ) (first second : List MarkedPoint) → AllPairs (λ p q. p ≢ q) (all_pairs all first second)
+pairs_once all first second i j d l h e = apart (exactly_those.ascending all first second i j d l h) e
+  where
+    apart : {p q : ℕ × ℕ} → Earlier p q → p ≢ q
+    apart (inl b) same = omega (arith, b, ap (λ (p : ℕ × ℕ). p.0) same)
+    apart (inr (_, b)) same = omega (arith, b, ap (λ (p : ℕ × ℕ). p.1) same)
 
 pub pairs_single : PairsAreSingle
 pairs_single all first second =

@@ -1,5 +1,5 @@
 -- The laws of pairs, as statements. Each is proved by a function of src/lib.rt.
-use Rattle.std.specs.Prelude.{ℕ, ◌<◌, ◌≡◌, ◌≢◌, ◌↔◌, List, Contains, length, true}
+use Rattle.std.specs.Prelude.{ℕ, ◌<◌, ◌≡◌, ◌⊎◌, ◌↔◌, List, Contains, length, true}
 use Rattle.std.specs.List.{AllPairs}
 use Rattle.answers.specs.Answers.{IsSingle}
 use Rattle.linear_systems.specs.Vertices.{MarkedPoint}
@@ -12,12 +12,13 @@ pub record IsPair (all : List ℕ) (first second : List MarkedPoint) (i j : ℕ)
   pub in_second : j < length second
   pub together : are_together all (mark_at first i) (mark_at second j) ≡ true
 
--- All pairs are exactly the pairs, and none stands twice.
-pub record PairsAreTheTogether : Type 0 where
+-- All pairs are exactly the pairs, in ascending order: so none stands twice.
+pub record PairsAreExactlyThose : Type 0 where
   pub exactly : (all : List ℕ) (first second : List MarkedPoint) (i j : ℕ)
       → Contains (all_pairs all first second) (i, j) ↔ IsPair all first second i j
-  pub once : (all : List ℕ) (first second : List MarkedPoint)
-      → AllPairs (λ p q. p ≢ q) (all_pairs all first second)
+  pub ascending : (all : List ℕ) (first second : List MarkedPoint)
+      → AllPairs (λ p q. (p.0 < q.0) ⊎ ((p.0 ≡ q.0) × (p.1 < q.1)))
+      (all_pairs all first second)
 
 -- Two lists have one list of pairs, or too many.
 abbrev pub PairsAreSingle : Type 0

@@ -1,14 +1,13 @@
 -- The pairs of marked points that together have all labels: each variable is 0 at one of the two
 -- (von Stengel 2002)
-use Rattle.std.specs.Prelude.{ℕ, ◌&&◌, Bool, List, [], length, map, get_or, nat_eq, bit_or}
+use Rattle.std.specs.Prelude.{ℕ, Bool, List, [], ◌∷◌, length, map, get_or}
 use Rattle.std.specs.List.{filter, flat_map, range_with_len}
 use Rattle.linear_systems.specs.Vertices.{MarkedPoint}
+use Rattle.label_pairing.specs.Matches.{completes}
 
 -- the masks of two marks together have exactly the bits of all
 abbrev pub are_together : List ℕ → MarkedPoint → MarkedPoint → Bool
-are_together all one two =
-    nat_eq (bit_or one.low two.low) (get_or all 0 0)
-    && nat_eq (bit_or one.high two.high) (get_or all 1 0)
+are_together all one two = completes (one.low ∷ one.high ∷ []) all two.low two.high
 
 -- the mark at a place
 abbrev pub mark_at : List MarkedPoint → ℕ → MarkedPoint

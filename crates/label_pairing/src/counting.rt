@@ -17,8 +17,8 @@ fn union(words: &[u64]) -> u64
     ensures { (i : ℕ) → i < length words.now → HasBitsOf result (get_or words.now i 0) }
 {
     let mut union = 0;
-    for i in 0..words.len() {
-        union |= words[i];
+    for word in words {
+        union |= *word;
     }
     union
 }

@@ -10,7 +10,7 @@
 //! A change here touches: `enummixed`, the limit on pairs and the counts of `make`.
 #![tactic(auto)]
 
-ghost use Rattle.label_pairing.specs.Laws.{PairsAreTheTogether, PairsAreSingle};
+ghost use Rattle.label_pairing.specs.Laws.{PairsAreExactlyThose, PairsAreSingle};
 
 mod counting;
 mod matching;
@@ -21,10 +21,9 @@ pub use matching::matches;
 pub use pairing::{PairStop, pairs};
 pub use scaling::{ScaleStop, scale};
 
-/// The pairs are exactly the places at which the marks together have all bits, and none stands
-/// twice.
-pub fn pairs_are_the_together()
-    ensures { PairsAreTheTogether }
+/// The pairs are exactly the places at which the marks together have all bits, in ascending order.
+pub fn pairs_are_exactly_those()
+    ensures { PairsAreExactlyThose }
 {}
 
 /// Two lists have one list of pairs, or too many.

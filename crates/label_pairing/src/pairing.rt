@@ -56,11 +56,12 @@ fn words(alloc: Global, vertices: &[Vertex], word: usize) -> Result<Vec<u64>, Me
     ensures { IfOk result (λ words. words.items
         ≡ map (λ vertex. get_or vertex.mask word 0) vertices.now) }
 {
-    let mut words = Vec::with_capacity(alloc, vertices.len())?;
-    for i in 0..vertices.len() {
-        words.push(vertices[i].mask[word])?;
-    }
-    Ok(words)
+    Ok(
+        vertices
+            .iter()
+            .map(|vertex| vertex.mask[word])
+            .collect(alloc)?,
+    )
 }
 
 // Adds the pairs of place i with the places that are found.
@@ -68,8 +69,8 @@ fn push_found(pairs: &mut Vec<(u32, u32)>, i: u32, found: &[bool]) -> Result<(),
     requires { length found.now < 2 ^ 32 }
     ensures { OnOk result (pairs.new.items ≡ pairs.old.items ++ flagged_pairs i found.now) }
 {
-    for j in 0..found.len() {
-        if found[j] {
+    for (j, is_found) in found.iter().enumerate() {
+        if *is_found {
             pairs.push((i, j as u32))?;
         }
     }

@@ -62,8 +62,8 @@ fn sum(point: &[Frac]) -> Result<Frac, Unfit>
         result }
 {
     let mut sum = Frac::zero();
-    for i in 0..point.len() {
-        sum = sum.add(point[i])?;
+    for entry in point {
+        sum = sum.add(*entry)?;
     }
     Ok(sum)
 }
@@ -75,8 +75,8 @@ fn scaled(alloc: Global, point: &[Frac]) -> Result<Vec<Frac>, ScaleStop>
 {
     let sum = sum(point)?;
     let mut scaled = Vec::with_capacity(alloc, point.len())?;
-    for i in 0..point.len() {
-        scaled.push(point[i].div(sum)?)?;
+    for entry in point {
+        scaled.push(entry.div(sum)?)?;
     }
     Ok(scaled)
 }

@@ -25,9 +25,9 @@ both_append : (xs ys : List Cell) → both_costs (xs ++ ys) ≡ both_costs xs ++
 both_append [] ys = refl
 both_append (c ∷ xs) ys = ap (λ (rest : List PlayersCell). record { player = 0; cell = c } ∷ record { player = 1; cell = c } ∷ rest) (both_append xs ys)
 
-module _ (most_one most_two : ℚ) (cells : List Cell) (k : ℕ) (c : Cell) (l : k < length cells) (is : c ≡ get_or cells k c) where
+module _ (greatest_one greatest_two : ℚ) (cells : List Cell) (k : ℕ) (c : Cell) (l : k < length cells) (is : c ≡ get_or cells k c) where
   abbrev steps : PlayersCell → List Step
-  steps = steps_at most_one most_two
+  steps = steps_at greatest_one greatest_two
 
   abbrev first : PlayersCell
   first = record { player = 0; cell = c }
@@ -39,13 +39,13 @@ module _ (most_one most_two : ℚ) (cells : List Cell) (k : ℕ) (c : Cell) (l :
   both_split = ap both_costs (split_here (λ (x : Cell). []) cells k c l is) ∙ both_append (take k cells) (c ∷ drop (suc k) cells)
 
   module _ (fit : All (StepsFit steps) (both_costs (take k cells))) where
-    pub unfit_one : (e : Step) → IsFirstUnfit (cost_steps most_one c.weight c.one) e → IsFirstUnfitOf steps (both_costs cells) first e
+    pub unfit_one : (e : Step) → IsFirstUnfit (cost_steps greatest_one c.weight c.one) e → IsFirstUnfitOf steps (both_costs cells) first e
     unfit_one e h = record { before = both_costs (take k cells); after = second ∷ both_costs (drop (suc k) cells); is_there = both_split; earlier_fit = fit; first_unfit = h }
 
     first_fits : StepsFit steps first → All (StepsFit steps) (both_costs (take k cells) ++ first ∷ [])
     first_fits h = All-append (StepsFit steps) (both_costs (take k cells)) (first ∷ []) fit (All-cons (StepsFit steps) first [] h (All-nil (StepsFit steps)))
 
-    pub unfit_two : (e : Step) → StepsFit steps first → IsFirstUnfit (cost_steps most_two c.weight c.two) e → IsFirstUnfitOf steps (both_costs cells) second e
+    pub unfit_two : (e : Step) → StepsFit steps first → IsFirstUnfit (cost_steps greatest_two c.weight c.two) e → IsFirstUnfitOf steps (both_costs cells) second e
     unfit_two e h g =
         record {
           before = both_costs (take k cells) ++ first ∷ [];

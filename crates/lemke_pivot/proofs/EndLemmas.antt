@@ -195,8 +195,8 @@ module _ (n : ℕ) (M : ℕ → ℕ → ℚ) (b : ℕ → ℚ) (r : ℕ) (fr : I
       some zs = go (all_w n M b t R c col hc c_is o.almost none zs)
         where
           here : (k : ℕ) → k < n → c ≡ w_of k → ((v : ℕ) → is_basic t v ≡ basis_without n k v) → (k ≡ r) ⊎ (k ≢ r) → ⊥
-          here k h q same (inl e) = absurd (omega (arith, sym (at_first (pivots n M b) (labels n) (beginning n M b r fr) t c earlier o (λ v. same v ∙ ap (λ s. basis_without n s v) e ∙ sym (first_basis n M b r fr v))), q, e, fr.within))
-          here k h q same (inr ne) = one_row n M b r k (first n M b r fr) t fr.within h (first_keys n M b r fr) R (first_basis n M b r fr) same ne
+          here k h q same (inl e) = absurd (omega (arith, sym (at_first (pivots n M b) (labels n) (beginning n M b r fr) t c earlier o (λ v. same v ∙ ap (λ s. basis_without n s v) e ∙ sym (first_basis n M b r fr v))), q, e, fr.is_least.within))
+          here k h q same (inr ne) = one_row n M b r k (first n M b r fr) t fr.is_least.within h (first_keys n M b r fr) R (first_basis n M b r fr) same ne
 
           go : (k : ℕ) × (k < n) × (c ≡ w_of k) × ((v : ℕ) → is_basic t v ≡ basis_without n k v) → ⊥
           go w = here w.0 w.1 w.2 w.3 (cases_eq w.0 r)

@@ -218,16 +218,16 @@ module _ (n : ℕ) (M : ℕ → ℕ → ℚ) (b : ℕ → ℚ) (r : ℕ) (fr : I
   entry_not e = lt_irrefl zero_ℚ (linear ((start n M b).cell r n ∷ []) ((at 0 ⟨=⟩ minus (lit (pos 1))) ∷ (at 0 ⟨=⟩ lit (pos 0)) ∷ []) (lit (pos 0) ⟨<⟩ lit (pos 0)) (λ one z u v. omega (arith, ints)) (entry, (e, tt)))
 
   reaches_first : Reaches n M b first
-  reaches_first = reached_pivot (suc (suc (n + n))) n (start n M b) (start n M b) r n (omega arith) fr.within (omega arith) entry_not (reached_start (suc (suc (n + n))) n (start n M b) (is_start n M b))
+  reaches_first = reached_pivot (suc (suc (n + n))) n (start n M b) (start n M b) r n (omega arith) fr.is_least.within (omega arith) entry_not (reached_start (suc (suc (n + n))) n (start n M b) (is_start n M b))
 
   pub first_basis : (v : ℕ) → is_basic first v ≡ basis_without n r v
-  first_basis v = basic_swap (start n M b) r n (is_start n M b).proper fr.within (omega arith) v ∙ ap (λ f. swap f (z0_of n) (w_of r) v) (fun_ext (basic_start n M b))
+  first_basis v = basic_swap (start n M b) r n (is_start n M b).proper fr.is_least.within (omega arith) v ∙ ap (λ f. swap f (z0_of n) (w_of r) v) (fun_ext (basic_start n M b))
 
   positive_first : (i : ℕ) → i < n → IsLexPositive (suc n) (key w_of first i)
-  positive_first i h = go (basic_w n M b r fr.within first reaches_first first_basis (first.basic i) (basic_yes first i h))
+  positive_first i h = go (basic_w n M b r fr.is_least.within first reaches_first first_basis (first.basic i) (basic_yes first i h))
     where
       c : (j : ℕ) × (j < first.width) × (first.nonbasic j ≡ w_of r)
-      c = nonbasic_which n M b first reaches_first (w_of r) (omega arith) (let k = fr.within in omega arith) (first_basis (w_of r) ∙ without_s n r fr.within)
+      c = nonbasic_which n M b first reaches_first (w_of r) (omega arith) (let k = fr.is_least.within in omega arith) (first_basis (w_of r) ∙ without_s n r fr.is_least.within)
 
       later : (k : ℕ) → first.basic i ≡ w_of k → k < n → k ≢ r → (b r <ℚ b k) ⊎ ((b r ≡ b k) × (k < r)) → IsLexPositive (suc n) (key w_of first i)
       later k e hk ne (inl l) =
@@ -235,23 +235,23 @@ module _ (n : ℕ) (M : ℕ → ℕ → ℚ) (b : ℕ → ℚ) (r : ℕ) (fr : I
             place = 0;
             within = omega arith;
             before = λ j q. absurd (omega arith);
-            above = linear (first.right i ∷ b k ∷ b r ∷ []) ((at 0 ⟨=⟩ (at 1 ⟨-⟩ at 2)) ∷ (at 2 ⟨<⟩ at 1) ∷ []) (lit (pos 0) ⟨<⟩ at 0) (λ one z u v. omega (arith, ints)) (key_first n M b r fr.within first reaches_first first_basis c.0 c.1 c.2 i k h e hk, (l, tt));
+            above = linear (first.right i ∷ b k ∷ b r ∷ []) ((at 0 ⟨=⟩ (at 1 ⟨-⟩ at 2)) ∷ (at 2 ⟨<⟩ at 1) ∷ []) (lit (pos 0) ⟨<⟩ at 0) (λ one z u v. omega (arith, ints)) (key_first n M b r fr.is_least.within first reaches_first first_basis c.0 c.1 c.2 i k h e hk, (l, tt));
           }
       later k e hk ne (inr w) =
           record {
             place = suc k;
             within = omega arith;
             before = before;
-            above = linear (left first (unit_at (w_of k)) i ∷ unit_at (w_of k) (w_of k) ∷ unit_at (w_of k) (w_of r) ∷ []) ((at 0 ⟨=⟩ (at 1 ⟨-⟩ at 2)) ∷ (at 1 ⟨=⟩ lit (pos 1)) ∷ (at 2 ⟨=⟩ lit (pos 0)) ∷ []) (lit (pos 0) ⟨<⟩ at 0) (λ one z u v. omega (arith, ints)) (key_is n M b r fr.within first reaches_first first_basis c.0 c.1 c.2 i k k h e hk hk, (unit_self (w_of k), (unit_other (w_of k) (w_of r) (λ q. ne (omega (arith, q))), tt)));
+            above = linear (left first (unit_at (w_of k)) i ∷ unit_at (w_of k) (w_of k) ∷ unit_at (w_of k) (w_of r) ∷ []) ((at 0 ⟨=⟩ (at 1 ⟨-⟩ at 2)) ∷ (at 1 ⟨=⟩ lit (pos 1)) ∷ (at 2 ⟨=⟩ lit (pos 0)) ∷ []) (lit (pos 0) ⟨<⟩ at 0) (λ one z u v. omega (arith, ints)) (key_is n M b r fr.is_least.within first reaches_first first_basis c.0 c.1 c.2 i k k h e hk hk, (unit_self (w_of k), (unit_other (w_of k) (w_of r) (λ q. ne (omega (arith, q))), tt)));
           }
         where
           before : (j : ℕ) → j < suc k → key w_of first i j ≡ zero_ℚ
-          before zero q = combine rational_ring (first.right i ∷ b k ∷ b r ∷ []) ((num 1 times A is B :- C) ∷ (:neg (num 1) times C is B) ∷ []) A (num 0) refl (key_first n M b r fr.within first reaches_first first_basis c.0 c.1 c.2 i k h e hk, (w.0, tt))
-          before (suc v) q = let kr = w.1 in key_is n M b r fr.within first reaches_first first_basis c.0 c.1 c.2 i k v h e hk (omega arith) ∙ combine rational_ring (unit_at (w_of v) (w_of k) ∷ unit_at (w_of v) (w_of r) ∷ []) ((num 1 times A is num 0) ∷ (:neg (num 1) times B is num 0) ∷ []) (A :- B) (num 0) refl (unit_other (w_of v) (w_of k) (λ p. absurd (omega (arith, p, q))), (unit_other (w_of v) (w_of r) (λ p. absurd (omega (arith, p, q, kr))), tt))
+          before zero q = combine rational_ring (first.right i ∷ b k ∷ b r ∷ []) ((num 1 times A is B :- C) ∷ (:neg (num 1) times C is B) ∷ []) A (num 0) refl (key_first n M b r fr.is_least.within first reaches_first first_basis c.0 c.1 c.2 i k h e hk, (w.0, tt))
+          before (suc v) q = let kr = w.1 in key_is n M b r fr.is_least.within first reaches_first first_basis c.0 c.1 c.2 i k v h e hk (omega arith) ∙ combine rational_ring (unit_at (w_of v) (w_of k) ∷ unit_at (w_of v) (w_of r) ∷ []) ((num 1 times A is num 0) ∷ (:neg (num 1) times B is num 0) ∷ []) (A :- B) (num 0) refl (unit_other (w_of v) (w_of k) (λ p. absurd (omega (arith, p, q))), (unit_other (w_of v) (w_of r) (λ p. absurd (omega (arith, p, q, kr))), tt))
 
       cases : (k : ℕ) → k < n → k ≢ r → (b r ≡ b k) ⊎ (b r <ℚ b k) → (b r <ℚ b k) ⊎ ((b r ≡ b k) × (k < r))
       cases k h ne (inr l) = inl l
-      cases k h ne (inl q) = elim (cases_lt k r) [ inl l ↦ inr (q, l) | inr l ↦ inl (fr.last k (omega (arith, ne)) h) ]
+      cases k h ne (inl q) = elim (cases_lt k r) [ inl l ↦ inr (q, l) | inr l ↦ inl (fr.is_least.last k (omega (arith, ne)) h) ]
 
       go : (first.basic i ≡ z0_of n) ⊎ ((k : ℕ) × (k < n) × (k ≢ r) × (first.basic i ≡ w_of k)) → IsLexPositive (suc n) (key w_of first i)
       go (inl e) =
@@ -259,9 +259,9 @@ module _ (n : ℕ) (M : ℕ → ℕ → ℚ) (b : ℕ → ℚ) (r : ℕ) (fr : I
             place = 0;
             within = omega arith;
             before = λ j q. absurd (omega arith);
-            above = linear (first.right i ∷ b r ∷ []) ((at 0 ⟨=⟩ minus (at 1)) ∷ (at 1 ⟨<⟩ lit (pos 0)) ∷ []) (lit (pos 0) ⟨<⟩ at 0) (λ one z u v. omega (arith, ints)) (right_is n M b r fr.within first reaches_first first_basis i h ∙ ap (level n b (neg_ℚ (b r))) e ∙ level_z0 n b (neg_ℚ (b r)), (fr.negative, tt));
+            above = linear (first.right i ∷ b r ∷ []) ((at 0 ⟨=⟩ minus (at 1)) ∷ (at 1 ⟨<⟩ lit (pos 0)) ∷ []) (lit (pos 0) ⟨<⟩ at 0) (λ one z u v. omega (arith, ints)) (right_is n M b r fr.is_least.within first reaches_first first_basis i h ∙ ap (level n b (neg_ℚ (b r))) e ∙ level_z0 n b (neg_ℚ (b r)), (fr.negative, tt));
           }
-      go (inr w) = later w.0 w.3 w.1 w.2 (cases w.0 w.1 w.2 (eq_or_lt_of_le (b r) (b w.0) (fr.least w.0 w.1)))
+      go (inr w) = later w.0 w.3 w.1 w.2 (cases w.0 w.1 w.2 (eq_or_lt_of_le (b r) (b w.0) (fr.is_least.least w.0 w.1)))
 
   pub first_keys : HasPositiveKeys n M b first
   first_keys = record { reached = reaches_first; positive = positive_first }
@@ -271,8 +271,8 @@ module _ (n : ℕ) (M : ℕ → ℕ → ℚ) (b : ℕ → ℚ) (r : ℕ) (fr : I
       record {
         first = first;
         enters = z_of n r;
-        almost = subst (λ f. Almost (labels n) f (z_of n r)) (sym (fun_ext first_basis)) (almost_without n r fr.within);
-        dead = λ t t' l same e. minus_one (subst (λ x. zero_ℚ <ℚ x) (cell_is n M b r fr.within t e.0.reached (λ v. same v ∙ first_basis v) e.1.col e.1.col_in (e.1.c_is ∙ complement_of_z n r fr.within) e.1.row (row_in n M b t e.0.reached e.1.row e.1.chosen.within)) e.1.chosen.positive);
+        almost = subst (λ f. Almost (labels n) f (z_of n r)) (sym (fun_ext first_basis)) (almost_without n r fr.is_least.within);
+        dead = λ t t' l same e. minus_one (subst (λ x. zero_ℚ <ℚ x) (cell_is n M b r fr.is_least.within t e.0.reached (λ v. same v ∙ first_basis v) e.1.col e.1.col_in (e.1.c_is ∙ complement_of_z n r fr.is_least.within) e.1.row (row_in n M b t e.0.reached e.1.row e.1.chosen.within)) e.1.chosen.positive);
       }
 
 -- a tableau in memory need agree only where it has cells

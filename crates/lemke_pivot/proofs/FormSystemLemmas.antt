@@ -21,7 +21,8 @@ use Rattle.sequence_data.specs.Data.{FormData, IsFormData, LeafFits, SideData, f
 use Rattle.sequence_data.proofs.GainLemmas.{costs_positive_one, costs_positive_two}
 use Rattle.sequence_data.specs.Matrices.{IsInside, placed, HoldsNumbers, number_at}
 use Rattle.lemke_pivot.specs.FormProblems.{IsSystemOf, cost_at, cost_one, cost_two, form_size}
-use Rattle.lemke_pivot.specs.Parts.{IsProblemSystem, start_of}
+use Rattle.lemke_pivot.specs.Parts.{start_of}
+use Rattle.lemke_pivot.specs.ProblemLaws.{CostsAreNotNegative}
 use Rattle.lemke_pivot.specs.Systems.{IsSystemFor}
 
 -- ---- costs of cells
@@ -134,12 +135,9 @@ module _ (f : FormData) (valid : IsFormData f) (cells : List Cell) (x y : ℕ) (
         if_ok-then r _ (IsSystemOf f) found (λ s k. system_has_costs f valid one two held_one held_two s one_is two_is (held one held_one holds_one) (held two held_two holds_two) k)
 
 -- the system of a form is that of a problem
-pub for_sides : (f : FormData) (s : Parts) (first second : SideData) → IsFormData f → first ≡ f.first → second ≡ f.second → IsSystemOf f s → IsProblemSystem first second s
+pub for_sides : (f : FormData) (s : Parts) (first second : SideData) → IsFormData f → first ≡ f.first → second ≡ f.second → IsSystemOf f s → (one two : ℕ → ℕ → ℚ) × CostsAreNotNegative (costs_of (side_of first) (side_of second) one two) × IsSystemFor first second one two s
 for_sides f s first second valid e g h =
-    subst₂ (λ a b. IsProblemSystem a b s) (sym e) (sym g) (record {
-      one = costs (form f) 0 f.greatest_one;
-      two = costs (form f) 1 f.greatest_two;
-      costs = λ i j hi hj. nonneg-add _ _ (costs_positive_one f i j valid) (costs_positive_two f i j valid);
-      begins = h.begins;
-      rated = h.rated;
-    })
+    let one = costs (form f) 0 f.greatest_one in
+    let two = costs (form f) 1 f.greatest_two in
+    subst₂ (λ (a b : SideData). (one two : ℕ → ℕ → ℚ) × CostsAreNotNegative (costs_of (side_of a) (side_of b) one two) × IsSystemFor a b one two s) (sym e) (sym g)
+    (one, two, (λ i j hi hj. nonneg-add _ _ (costs_positive_one f i j valid) (costs_positive_two f i j valid)), h)

@@ -36,16 +36,16 @@ module _ (n r : ℕ) (m : Numbers) (S : IsPathStart n r m) where
   start_rows = sym S.alike.rows
 
   pub row_rated : r < m.rated
-  row_rated = subst (λ k. r < k) (sym S.rated) S.first.within
+  row_rated = subst (λ k. r < k) (sym S.rated) S.first.is_least.within
 
   pub z0_column : n < length m.nonbasics
   z0_column = subst (λ k. n < k) S.alike.width (omega arith)
 
   pub z0_entry : (tableau m).cell r n ≢ zero_ℚ
-  z0_entry e = entry_not n S.matrix S.right r S.first (S.alike.cell r n S.first.within (omega arith) ∙ e)
+  z0_entry e = entry_not n S.matrix S.right r S.first (S.alike.cell r n S.first.is_least.within (omega arith) ∙ e)
 
   exact_path : (ss : List Numbers) (t : Numbers) (c : ℕ) → ExactPathTo m n r ss t c → PathTo n S.matrix S.right r (map tableau ss) (tableau t) c
-  exact_path = path_of_numbers n r m S.matrix S.right S.alike S.first.within
+  exact_path = path_of_numbers n r m S.matrix S.right S.alike S.first.is_least.within
 
   pub walk_begins : (t : Numbers) (from now : ℕ) → IsPivotOf m r n t → All StepFits (steps_of_pivot m r n) → now ≡ from + 1 → OnWalk n r m t (z_of n r) from now 1
   walk_begins t from now p f e = record { earlier = []; path = (record { valid = S.valid; pivot = p; fits = f }, refl); counts = omega (arith, e); number = refl; starts = p.starts; rated = p.rated ∙ S.rated }

@@ -13,9 +13,9 @@ use Rattle.lex_tableau.specs.Pivots.{pivot_number, steps_of_pivot}
 use Rattle.lex_tableau.specs.declared.unfit_pivot.UnfitPivot.{UnfitPivot}
 use Rattle.lex_tableau.specs.Rows.{Numbers, tableau, IsPivotOf, IsTableau}
 use Rattle.lex_tableau.proofs.TableauLemmas.{determined}
-use Rattle.lemke_pivot.specs.ProblemPaths.{complement, w_of, z0_of}
+use Rattle.lemke_pivot.specs.ProblemPaths.{IsLeastRow, complement, w_of, z0_of}
 use Rattle.lemke_pivot.specs.Ends.{EndsAreSingle}
-use Rattle.lemke_pivot.specs.Parts.{Problem, IsLeastRow, size_of}
+use Rattle.lemke_pivot.specs.Parts.{Problem, size_of}
 use Rattle.lemke_pivot.specs.Paths.{EndsSolved, EndsUnfit, ExactPathTo, ReplacesExactly, StopsAt}
 
 -- ---- the first row

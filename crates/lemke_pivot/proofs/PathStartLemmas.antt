@@ -1,9 +1,7 @@
--- the least row, what is read off at the end, and the start of a problem's path
-use Rattle.std.proofs.Common.{ℕ, suc, ◌<◌, ◌≡◌, ◌+◌, ◌*◌, inl, inr, List, length, get_or, map, sym, ap, ap₂, ◌∙◌, subst, subst₂, arith}
-use Rattle.std.proofs.lemmas.Bool.{cases_eq}
+-- what is read off at the end, and the start of a problem's path
+use Rattle.std.proofs.Common.{ℕ, suc, ◌<◌, ◌≡◌, ◌+◌, ◌*◌, List, length, get_or, map, sym, ap, ap₂, ◌∙◌, subst, subst₂, arith}
 use Rattle.std.proofs.lemmas.List.{length-map}
 use Rattle.rational.specs.Rational.{ℚ, ◌≤ℚ◌, ◌<ℚ◌}
-use Rattle.rational.proofs.Field.{le_refl, le_trans, le_of_lt}
 use Rattle.linear_systems.specs.Rows.{basic_solution, Alike}
 use Rattle.linear_systems.proofs.AgreementLemmas.{alike_trans}
 use Rattle.sequence_forms.specs.Forms.{SequenceForm}
@@ -12,7 +10,7 @@ use Rattle.sequence_forms.specs.Sides.{sequences}
 use Rattle.sequence_forms.proofs.EndLemmas.{solutions_on_trees, solutions_on_tables}
 use Rattle.sequence_forms.proofs.FlowLemmas.{ordered_flow}
 use Rattle.lemke_pivot.specs.Problems.{Costs, costs_of, matrix, right_sides}
-use Rattle.lemke_pivot.specs.ProblemPaths.{IsFirstRow}
+use Rattle.lemke_pivot.specs.ProblemPaths.{IsLeastRow, IsFirstRow}
 use Rattle.lemke_pivot.proofs.CopositiveLemmas.{sides_copositive}
 use Rattle.lemke_pivot.proofs.SolutionLemmas.{solutions_have_plans}
 use Rattle.lemke_pivot.proofs.ProblemPathLemmas.{least_is_negative, solved}
@@ -20,31 +18,12 @@ use Rattle.lex_tableau.specs.Rows.{Numbers, tableau, IsTableau}
 use Rattle.lex_tableau.specs.Starts.{Parts, system_of, IsStartOf}
 use Rattle.sequence_data.specs.declared.types.SetRow.{SetRow}
 use Rattle.sequence_data.specs.Data.{SideData, side_of}
-use Rattle.lemke_pivot.specs.Parts.{Problem, size_of, problem_size, start_of, IsProblem, IsProblemSystem, IsStartFor, IsLeastRow}
+use Rattle.lemke_pivot.specs.Parts.{Problem, size_of, problem_size, start_of, IsProblem, IsStartFor}
 use Rattle.lemke_pivot.specs.Paths.{IsPathStart}
+use Rattle.lemke_pivot.specs.ProblemLaws.{CostsAreNotNegative}
+use Rattle.lemke_pivot.specs.Systems.{IsSystemFor}
 use Rattle.lemke_pivot.specs.SolutionLaws.{SolvesForm, SolutionsSolveTheForm, SolutionsSolveTrees, SolutionsSolveTables}
 use Rattle.lemke_pivot.proofs.KeptWalkLemmas.{path_of_numbers}
-
--- ---- the least row
-pub least_begins : (b : ℕ → ℚ) → IsLeastRow 1 b 0
-least_begins b =
-    record { within = omega arith; least = λ i h. (let e : i ≡ 0 = omega arith in subst (λ j. b 0 ≤ℚ b j) (sym e) (le_refl (b 0))); last = λ i l h. absurd (omega arith) }
-
-pub least_taken : (k : ℕ) (b : ℕ → ℚ) (r : ℕ) → IsLeastRow k b r → b k ≤ℚ b r → IsLeastRow (k + 1) b k
-least_taken k b r p h =
-    record {
-      within = omega arith;
-      least = λ i l. elim (cases_eq i k) [ inl e ↦ subst (λ j. b k ≤ℚ b j) (sym e) (le_refl (b k)) | inr d ↦ le_trans (b k) (b r) (b i) h (p.least i (omega (arith, d))) ];
-      last = λ i l g. absurd (omega arith);
-    }
-
-pub least_kept : (k : ℕ) (b : ℕ → ℚ) (r : ℕ) → IsLeastRow k b r → b r <ℚ b k → IsLeastRow (k + 1) b r
-least_kept k b r p h =
-    record {
-      within = (let w : r < k = p.within in omega arith);
-      least = λ i l. elim (cases_eq i k) [ inl e ↦ subst (λ j. b r ≤ℚ b j) (sym e) (le_of_lt (b r) (b k) h) | inr d ↦ p.least i (omega (arith, d)) ];
-      last = λ i l g. elim (cases_eq i k) [ inl e ↦ subst (λ j. b r <ℚ b j) (sym e) h | inr d ↦ p.last i l (omega (arith, d)) ];
-    }
 
 -- ---- what is read off
 pub read_value : (m work : Numbers) (v w : ℕ) (q : ℚ) → m ≡ work → v ≡ w → q ≡ basic_solution (tableau m) v → q ≡ basic_solution (tableau work) w
@@ -58,10 +37,8 @@ module _ (p : Problem) (P : IsProblem p) (r : ℕ) (L : IsLeastRow (size_of p) (
   first_row : (one two : ℕ → ℕ → ℚ) → Alike (start_of (side_of p.first) (side_of p.second) one two) (tableau p.tableau) → IsFirstRow (size_of p) (right_sides (costs_of (side_of p.first) (side_of p.second) one two)) r
   first_row one two B =
       record {
-        within = L.within;
+        is_least = record { within = L.within; least = least; last = λ i l h. subst (λ a. right_sides (costs_of (side_of p.first) (side_of p.second) one two) r <ℚ a) (sym (B.right i h)) (subst (λ a. a <ℚ (tableau p.tableau).right i) (sym (B.right r L.within)) (L.last i l h)) };
         negative = least_is_negative (side_of p.first) (side_of p.second) one two r least;
-        least = least;
-        last = λ i l h. subst (λ a. right_sides (costs_of (side_of p.first) (side_of p.second) one two) r <ℚ a) (sym (B.right i h)) (subst (λ a. a <ℚ (tableau p.tableau).right i) (sym (B.right r L.within)) (L.last i l h));
       }
     where
       least : (i : ℕ) → i < size_of p → right_sides (costs_of (side_of p.first) (side_of p.second) one two) r ≤ℚ right_sides (costs_of (side_of p.first) (side_of p.second) one two) i
@@ -108,13 +85,13 @@ pub solves_tables : SolutionsSolveTables
 solves_tables game m n f g k p s two alike P F S = solutions_on_tables game m n f g k _ _ _ _ _ _ two alike (solves_the_form f g k p s P F S)
 
 -- ---- the beginning
-pub starts_for : (first second : SideData) (s : Parts) (n : Numbers) → IsProblemSystem first second s → IsStartOf s n → IsTableau n → IsStartFor first second n
-starts_for first second s n P h valid =
+pub starts_for : (first second : SideData) (s : Parts) (n : Numbers) → (one two : ℕ → ℕ → ℚ) × CostsAreNotNegative (costs_of (side_of first) (side_of second) one two) × IsSystemFor first second one two s → IsStartOf s n → IsTableau n → IsStartFor first second n
+starts_for first second s n (one, two, costs, P) h valid =
     record {
-      one = P.one;
-      two = P.two;
-      costs = P.costs;
-      begins = alike_trans (start_of (side_of first) (side_of second) P.one P.two) (system_of s) (tableau n) P.begins h.fractions;
+      one = one;
+      two = two;
+      costs = costs;
+      begins = alike_trans (start_of (side_of first) (side_of second) one two) (system_of s) (tableau n) P.begins h.fractions;
       starts = λ i l. ap (λ xs. get_or xs i 0) h.starts ∙ sym (P.begins.basic i l);
       rated = h.rated ∙ P.rated;
       valid = valid;

@@ -1,5 +1,5 @@
 -- the laws of the path
-use Rattle.std.proofs.Common.{ℕ, zero, suc, pos, ◌≡◌, ◌≢◌, ◌<◌, ◌≤◌, ◌+◌, ◌^◌, ◌⊎◌, inl, inr, Bool, true, false, List, [], ◌∷◌, length, map, refl, sym, ap, ◌∙◌, subst, arith, true≢false}
+use Rattle.std.proofs.Common.{add-one, ℕ, zero, suc, pos, ◌≡◌, ◌≢◌, ◌<◌, ◌≤◌, ◌+◌, ◌^◌, ◌⊎◌, inl, inr, Bool, true, false, List, [], ◌∷◌, length, map, refl, sym, ap, ◌∙◌, subst, arith, true≢false}
 use Rattle.std.proofs.lemmas.Bool.{cases_eq}
 use Rattle.std.proofs.lemmas.Int.{ints}
 use Rattle.std.proofs.lemmas.List.{length-map}
@@ -15,7 +15,7 @@ use Rattle.lemke_pivot.specs.Problems.{costs_of, size, matrix, right_sides, IsCo
 use Rattle.lemke_pivot.specs.Walks.{Apart, Distinct}
 use Rattle.lemke_pivot.proofs.EdgeLemmas.{swap, At, at_begin, at_next, no_basis_twice, swap_out}
 use Rattle.lemke_pivot.specs.Values.{is_basic}
-use Rattle.lemke_pivot.specs.ProblemPaths.{w_of, z_of, z0_of, complement, SolvesAt, IsRayAt, start, IsFirstRow, Replaces, PathTo}
+use Rattle.lemke_pivot.specs.ProblemPaths.{w_of, z_of, z0_of, complement, SolvesAt, IsRayAt, start, IsFirstRow, IsLeastRow, Replaces, PathTo}
 use Rattle.lemke_pivot.proofs.KeyLemmas.{HasPositiveKeys, is_start, row_in, pivots, next_keys, after, basic_past}
 use Rattle.lemke_pivot.specs.ProblemLaws.{NoBasisOccursTwice, PathsAreShort, PathsAreUnique, PathsEndSolved, PathsEndInRays, FirstRowsExist, AlwaysALeavingRow, LeastIsNegative}
 use Rattle.lemke_pivot.proofs.ProblemBlockLemmas.{six_p}
@@ -184,18 +184,38 @@ paths_are_unique n M b r (s ∷ ss) (s' ∷ ss') t t' c c' fr p q e = step (path
         leaves : p.1 ≡ q.1
         leaves = sym p.4.l_is ∙ w.0.basic p.4.row row_is ∙ ap s'.basic row ∙ q.4.l_is
 
--- ---- the first row
-least_row : (n : ℕ) (b : ℕ → ℚ) → 0 < n → (r : ℕ) × (r < n) × ((i : ℕ) → i < n → b r ≤ℚ b i) × ((i : ℕ) → r < i → i < n → b r <ℚ b i)
+-- ---- the least row
+pub least_begins : (b : ℕ → ℚ) → IsLeastRow 1 b 0
+least_begins b =
+    record { within = omega arith; least = λ i h. (let e : i ≡ 0 = omega arith in subst (λ j. b 0 ≤ℚ b j) (sym e) (le_refl (b 0))); last = λ i l h. absurd (omega arith) }
+
+pub least_taken : (k : ℕ) (b : ℕ → ℚ) (r : ℕ) → IsLeastRow k b r → b k ≤ℚ b r → IsLeastRow (k + 1) b k
+least_taken k b r p h =
+    record {
+      within = omega arith;
+      least = λ i l. elim (cases_eq i k) [ inl e ↦ subst (λ j. b k ≤ℚ b j) (sym e) (le_refl (b k)) | inr d ↦ le_trans (b k) (b r) (b i) h (p.least i (omega (arith, d))) ];
+      last = λ i l g. absurd (omega arith);
+    }
+
+pub least_kept : (k : ℕ) (b : ℕ → ℚ) (r : ℕ) → IsLeastRow k b r → b r <ℚ b k → IsLeastRow (k + 1) b r
+least_kept k b r p h =
+    record {
+      within = (let w : r < k = p.within in omega arith);
+      least = λ i l. elim (cases_eq i k) [ inl e ↦ subst (λ j. b r ≤ℚ b j) (sym e) (le_of_lt (b r) (b k) h) | inr d ↦ p.least i (omega (arith, d)) ];
+      last = λ i l g. elim (cases_eq i k) [ inl e ↦ subst (λ j. b r <ℚ b j) (sym e) h | inr d ↦ p.last i l (omega (arith, d)) ];
+    }
+
+least_row : (n : ℕ) (b : ℕ → ℚ) → 0 < n → (r : ℕ) × IsLeastRow n b r
 least_row zero b h = absurd (omega arith)
-least_row (suc zero) b h = (0, omega arith, (λ i k. let e : i ≡ 0 = omega arith in subst (λ j. b 0 ≤ℚ b j) (sym e) (le_refl (b 0))), (λ i k l. absurd (omega arith)))
-least_row (suc (suc n)) b h = go (least_row (suc n) b (omega arith))
-  where
-    go : (r : ℕ) × (r < suc n) × ((i : ℕ) → i < suc n → b r ≤ℚ b i) × ((i : ℕ) → r < i → i < suc n → b r <ℚ b i) → (r : ℕ) × (r < suc (suc n)) × ((i : ℕ) → i < suc (suc n) → b r ≤ℚ b i) × ((i : ℕ) → r < i → i < suc (suc n) → b r <ℚ b i)
-    go w = elim (le_or_lt (b (suc n)) (b w.0)) [
-      | inl l ↦ (suc n, omega arith, (λ i k. elim (cases_eq i (suc n)) [ inl e ↦ subst (λ j. b (suc n) ≤ℚ b j) (sym e) (le_refl (b (suc n))) | inr ne ↦ le_trans (b (suc n)) (b w.0) (b i) l (w.2 i (omega (arith, ne))) ]), (λ i k q. absurd (omega arith)))
-      | inr l ↦ (w.0, (let q = w.1 in omega arith), (λ i k. elim (cases_eq i (suc n)) [ inl e ↦ subst (λ j. b w.0 ≤ℚ b j) (sym e) (le_of_lt (b w.0) (b (suc n)) l) | inr ne ↦ w.2 i (omega (arith, ne)) ]), (λ i k q. elim (cases_eq i (suc n)) [ inl e ↦ subst (λ j. b w.0 <ℚ b j) (sym e) l | inr ne ↦ w.3 i k (omega (arith, ne)) ]))
+least_row (suc zero) b h = (0, least_begins b)
+least_row (suc (suc n)) b h =
+    let w = least_row (suc n) b (omega arith) in
+    elim (le_or_lt (b (suc n)) (b w.0)) [
+      | inl l ↦ (suc n, subst (λ m. IsLeastRow m b (suc n)) (add-one (suc n)) (least_taken (suc n) b w.0 w.1 l))
+      | inr l ↦ (w.0, subst (λ m. IsLeastRow m b w.0) (add-one (suc n)) (least_kept (suc n) b w.0 w.1 l))
     ]
 
+-- ---- the first row
 pub first_rows_exist : FirstRowsExist
 first_rows_exist n b i h neg = let w = least_row n b (omega arith) in
-    (w.0, record { within = w.1; negative = linear (b w.0 ∷ b i ∷ []) ((at 0 ⟨≤⟩ at 1) ∷ (at 1 ⟨<⟩ lit (pos 0)) ∷ []) (at 0 ⟨<⟩ lit (pos 0)) (λ one z p q. omega (arith, ints)) (w.2 i h, (neg, tt)); least = w.2; last = w.3 })
+    (w.0, record { is_least = w.1; negative = linear (b w.0 ∷ b i ∷ []) ((at 0 ⟨≤⟩ at 1) ∷ (at 1 ⟨<⟩ lit (pos 0)) ∷ []) (at 0 ⟨<⟩ lit (pos 0)) (λ one z p q. omega (arith, ints)) (w.1.least i h, (neg, tt)) })

@@ -42,18 +42,18 @@ module _ (s : Costs) (w z : ℕ → ℚ) (c : IsSolution (size s) (matrix s) (ri
 turned : (a b c : ℚ) → a *ℚ b ≡ zero_ℚ → a ≡ c → b *ℚ c ≡ zero_ℚ
 turned a b c e f = ap (λ x. b *ℚ x) (sym f) ∙ ring rational_ring (a ∷ b ∷ []) (B :* A) (A :* B) refl ∙ e
 
-module _ (f : SequenceForm) (greatest_row greatest_column : ℚ) (w z : ℕ → ℚ) where
+module _ (f : SequenceForm) (greatest_one greatest_two : ℚ) (w z : ℕ → ℚ) where
   abbrev s : Costs
-  s = costs_of f.rows f.columns (costs f 0 greatest_row) (costs f 1 greatest_column)
+  s = costs_of f.rows f.columns (costs f 0 greatest_one) (costs f 1 greatest_two)
 
   module _ (c : IsSolution (size s) (matrix s) (right_sides s) w z) where
-    at_row : (i : ℕ) → i < s.X → w i ≡ row_slack f greatest_row (at_y s z) (at_p s z) (at_p' s z) i
+    at_row : (i : ℕ) → i < s.X → w i ≡ row_slack f greatest_one (at_y s z) (at_p s z) (at_p' s z) i
     at_row i h = w_at_x s w z c i h ∙ ap (λ a. (a -ℚ image s.h (transpose s.E) (at_p s z) i) +ℚ image s.h (transpose s.E) (at_p' s z) i) (dot_comm s.Y (s.one i) (at_y s z))
 
-    at_column : (i : ℕ) → i < s.Y → at_y s w i ≡ column_slack f greatest_column z (at_q s z) (at_q' s z) i
+    at_column : (i : ℕ) → i < s.Y → at_y s w i ≡ column_slack f greatest_two z (at_q s z) (at_q' s z) i
     at_column i h = w_at_y s w z c i h ∙ ap (λ a. (a -ℚ image s.k (transpose s.F) (at_q s z) i) +ℚ image s.k (transpose s.F) (at_q' s z) i) (dot_comm s.X (transpose s.two i) z)
 
-    solved : SolvesProblem f greatest_row greatest_column z (at_y s z) (at_p s z) (at_p' s z) (at_q s z) (at_q' s z)
+    solved : SolvesProblem f greatest_one greatest_two z (at_y s z) (at_p s z) (at_p' s z) (at_q s z) (at_q' s z)
     solved =
         record {
           x_sign = λ i h. c.z_sign i (omega arith);
@@ -73,4 +73,4 @@ module _ (f : SequenceForm) (greatest_row greatest_column : ℚ) (w z : ℕ → 
         }
 
 pub solutions_have_plans : SolutionsHavePlans
-solutions_have_plans f greatest_row greatest_column w z c = solved f greatest_row greatest_column w z c
+solutions_have_plans f greatest_one greatest_two w z c = solved f greatest_one greatest_two w z c

@@ -3,7 +3,8 @@ use Rattle.std.specs.Prelude.{ℕ, ◌≡◌, Ok, Err}
 use Rattle.answers.specs.Answers.{Answer, IsSingle}
 use Rattle.lex_tableau.specs.Rows.{tableau}
 use Rattle.lex_tableau.specs.declared.unfit_pivot.UnfitPivot.{UnfitPivot}
-use Rattle.lemke_pivot.specs.Parts.{Problem, IsLeastRow, IsProblem, size_of}
+use Rattle.lemke_pivot.specs.Parts.{Problem, IsProblem, size_of}
+use Rattle.lemke_pivot.specs.ProblemPaths.{IsLeastRow}
 use Rattle.lemke_pivot.specs.Paths.{EndsSolved, EndsUnfit}
 
 -- z0 enters at the last of the rows with the least right side

@@ -52,8 +52,8 @@ both_costs (c ∷ cells) =
     record { player = 0; cell = c } ∷ record { player = 1; cell = c } ∷ both_costs cells
 
 abbrev pub steps_at : ℚ → ℚ → PlayersCell → List Step
-steps_at most_one most_two c =
-    cost_steps (of_player c.player most_one most_two) c.cell.weight
+steps_at greatest_one greatest_two c =
+    cost_steps (of_player c.player greatest_one greatest_two) c.cell.weight
     (of_player c.player c.cell.one c.cell.two)
 
 -- a cell and its step as a refusal tells them
@@ -62,8 +62,8 @@ told_cost stop = stops.Range stop.0.player stop.0.cell.row stop.0.cell.column st
 
 -- the costs of all cells fit; or the first step that does not, with its player, row and column
 abbrev pub costs_in : ℚ → ℚ → List Cell → Answer LcpStop (Unit {0})
-costs_in most_one most_two cells =
-    refused_by told_cost (all_fit (steps_at most_one most_two) (both_costs cells))
+costs_in greatest_one greatest_two cells =
+    refused_by told_cost (all_fit (steps_at greatest_one greatest_two) (both_costs cells))
 
 -- ---- the start
 -- the system of the problem of a form

@@ -1,6 +1,6 @@
 -- What contracts see of a problem and of its solution.
 use Rattle.std.specs.Prelude.{ℕ, suc, ◌+◌, ◌<◌, ◌≤◌, ◌≡◌, get_or}
-use Rattle.rational.specs.Rational.{ℚ, ◌≤ℚ◌, ◌<ℚ◌}
+use Rattle.rational.specs.Rational.{ℚ}
 use Rattle.linear_systems.specs.Tableau.{Tableau}
 use Rattle.linear_systems.specs.Rows.{basic_solution, Alike}
 use Rattle.game_core.specs.Limits.{most_rows}
@@ -11,7 +11,6 @@ use Rattle.lemke_pivot.specs.ProblemLaws.{CostsAreNotNegative}
 use Rattle.lemke_pivot.specs.ProblemPaths.{start, w_of, z_of}
 use Rattle.lemke_pivot.specs.Problems.{costs_of, matrix, right_sides, size}
 use Rattle.lex_tableau.specs.Rows.{Numbers, IsTableau, tableau}
-use Rattle.lex_tableau.specs.Starts.{Parts, system_of}
 use Rattle.sequence_data.specs.Data.{SideData, IsSideData, side_of}
 
 -- both players' sides, and a tableau: of a problem the start, and of a solution the end of the path
@@ -47,14 +46,6 @@ abbrev pub plan_two : Problem → ℕ → ℚ
 plan_two p q = z_values p (sequences (side_of p.first) + q)
 
 -- ---- problems
--- a system is the start of the problem of these sides, for some costs that are not negative
-pub record IsProblemSystem (first second : SideData) (s : Parts) : Type 0 where
-  pub one : ℕ → ℕ → ℚ
-  pub two : ℕ → ℕ → ℚ
-  pub costs : CostsAreNotNegative (costs_of (side_of first) (side_of second) one two)
-  pub begins : Alike (start_of (side_of first) (side_of second) one two) (system_of s)
-  pub rated : s.rated ≡ problem_size (side_of first) (side_of second)
-
 -- a tableau is the start of the problem of these sides, for some costs that are not negative
 pub record IsStartFor (first second : SideData) (n : Numbers) : Type 0 where
   pub one : ℕ → ℕ → ℚ
@@ -74,15 +65,10 @@ pub record IsProblem (p : Problem) : Type 0 where
   pub start : IsStartFor p.first p.second p.tableau
 
 -- a problem is that of a sequence form with these greatest payoffs
-pub record IsProblemOfForm (f : SequenceForm) (most_one most_two : ℚ) (p : Problem) : Type 0 where
+pub record IsProblemOfForm (f : SequenceForm) (greatest_one greatest_two : ℚ) (p : Problem)
+    : Type 0 where
   pub rows : f.rows ≡ side_of p.first
   pub columns : f.columns ≡ side_of p.second
   pub begins :
-      Alike (start_of f.rows f.columns (costs f 0 most_one) (costs f 1 most_two))
+      Alike (start_of f.rows f.columns (costs f 0 greatest_one) (costs f 1 greatest_two))
       (tableau p.tableau)
-
--- the last of the rows with the least right side
-pub record IsLeastRow (n : ℕ) (b : ℕ → ℚ) (r : ℕ) : Type 0 where
-  pub within : r < n
-  pub least : (i : ℕ) → i < n → b r ≤ℚ b i
-  pub last : (i : ℕ) → r < i → i < n → b r <ℚ b i

@@ -34,6 +34,11 @@ ExactPathTo m n r (s ∷ ss) t c = (d : ℕ) × (l : ℕ) × ExactPathTo m n r s
     × (basic_solution (tableau s) (z0_of n) ≢ zero_ℚ) × ReplacesExactly n s d l t
     × (c ≡ complement n l)
 
+-- a path of k pivots, by the first of which z0 enters at row r, leads from m to t
+abbrev pub LeadsTo : Numbers → ℕ → ℕ → ℕ → Numbers → Type 0
+LeadsTo m n r k t =
+    (earlier : List Numbers) × (c : ℕ) × ExactPathTo m n r earlier t c × (k ≡ suc (length earlier))
+
 -- the path ends at t, where the value of z0 is 0
 abbrev pub EndsSolved : Numbers → ℕ → ℕ → Numbers → Type 0
 EndsSolved m n r t =

@@ -82,8 +82,8 @@ LeastIsNegative =
 -- a solution has plans and prices
 abbrev pub SolutionsHavePlans : Type 0
 SolutionsHavePlans =
-    (f : SequenceForm) (greatest_row greatest_column : ℚ) (w z : ℕ → ℚ)
-    → let s = costs_of f.rows f.columns (costs f 0 greatest_row) (costs f 1 greatest_column) in
+    (f : SequenceForm) (greatest_one greatest_two : ℚ) (w z : ℕ → ℚ)
+    → let s = costs_of f.rows f.columns (costs f 0 greatest_one) (costs f 1 greatest_two) in
     IsSolution (size s) (matrix s) (right_sides s) w z
-    → SolvesProblem f greatest_row greatest_column z (at_y s z) (at_p s z) (at_p' s z)
+    → SolvesProblem f greatest_one greatest_two z (at_y s z) (at_p s z) (at_p' s z)
     (at_q s z) (at_q' s z)

@@ -37,12 +37,16 @@ start n M b =
       right = b;
     }
 
--- the row at which z0 enters: the last of those with the least right side, which is negative
-pub record IsFirstRow (n : ℕ) (b : ℕ → ℚ) (r : ℕ) : Type 0 where
+-- the last of the rows with the least right side
+pub record IsLeastRow (n : ℕ) (b : ℕ → ℚ) (r : ℕ) : Type 0 where
   pub within : r < n
-  pub negative : b r <ℚ zero_ℚ
   pub least : (i : ℕ) → i < n → b r ≤ℚ b i
   pub last : (i : ℕ) → r < i → i < n → b r <ℚ b i
+
+-- the row at which z0 enters: that row, where its right side is negative
+pub record IsFirstRow (n : ℕ) (b : ℕ → ℚ) (r : ℕ) : Type 0 where
+  pub is_least : IsLeastRow n b r
+  pub negative : b r <ℚ zero_ℚ
 
 -- t' is the pivot of t by which c enters on its lexicographic row and l leaves
 pub record Replaces (n : ℕ) (t : Tableau) (c l : ℕ) (t' : Tableau) : Type 0 where

@@ -44,23 +44,23 @@ fn refused(player: u32, cell: Cell, unfit: Unfit) -> LcpStop
 /// `Range` exactly at the first step that does not fit. `Memory` where memory ran out.
 pub(crate) fn costs(
     alloc: Global,
-    most_one: Frac,
-    most_two: Frac,
+    greatest_one: Frac,
+    greatest_two: Frac,
     cells: &[Cell],
 ) -> Result<CellCosts, LcpStop>
-    ensures one { IfOk result (λ costs. costs.one.items ≡ map (cost_one most_one) cells.now) }
-    ensures two { IfOk result (λ costs. costs.two.items ≡ map (cost_two most_two) cells.now) }
-    ensures stage { Gives stops.Memory (costs_in most_one most_two cells.now)
+    ensures one { IfOk result (λ costs. costs.one.items ≡ map (cost_one greatest_one) cells.now) }
+    ensures two { IfOk result (λ costs. costs.two.items ≡ map (cost_two greatest_two) cells.now) }
+    ensures stage { Gives stops.Memory (costs_in greatest_one greatest_two cells.now)
         (map_ok result (λ _. tt)) }
 {
     let mut one = Vec::with_capacity(alloc, cells.len())?;
     let mut two = Vec::with_capacity(alloc, cells.len())?;
     for cell in cells {
-        match cost(most_one, cell.weight, cell.one) {
+        match cost(greatest_one, cell.weight, cell.one) {
             Ok(value) => one.push(value)?,
             Err(unfit) => return Err(refused(0, *cell, unfit)),
         }
-        match cost(most_two, cell.weight, cell.two) {
+        match cost(greatest_two, cell.weight, cell.two) {
             Ok(value) => two.push(value)?,
             Err(unfit) => return Err(refused(1, *cell, unfit)),
         }

@@ -1,14 +1,21 @@
 // The problem and its path.
-ghost use Rattle.std.specs.Prelude.{◌≡◌, ◌+◌, ◌<◌, ◌≤◌, length, IfOk};
+ghost use Rattle.std.specs.Prelude.{ℕ, suc, ◌≡◌, ◌+◌, ◌^◌, ◌<◌, ◌≤◌, length, IfErr, IfOk};
 ghost use Rattle.answers.specs.Answers.{Gives, map_ok};
 ghost use Rattle.sequence_data.specs.Data.{IsSideData, side_of};
 ghost use Rattle.sequence_forms.specs.Sides.{sequences};
 ghost use Rattle.game_core.specs.Limits.{most_rows};
+ghost use Rattle.lex_tableau.specs.Pivots.{pivot_number};
 ghost use Rattle.lex_tableau.specs.Rows.{IsTableau, tableau};
 ghost use Rattle.lex_tableau.specs.StartStops.{start_in};
 ghost use Rattle.lex_tableau.specs.declared.tableau.StartStop.TheVariants as start_stops;
+ghost use Rattle.rational.specs.Rational.{ℚ};
 ghost use Rattle.lemke_pivot.specs.Ends.{solved_in};
-ghost use Rattle.lemke_pivot.specs.Parts.{IsLeastRow, IsProblemSystem, plan_one, plan_two, problem_size};
+ghost use Rattle.lemke_pivot.specs.ProblemLaws.{CostsAreNotNegative};
+ghost use Rattle.lemke_pivot.specs.Problems.{costs_of};
+ghost use Rattle.lemke_pivot.specs.Systems.{IsSystemFor};
+ghost use Rattle.lemke_pivot.specs.Parts.{plan_one, plan_two, problem_size, size_of};
+ghost use Rattle.lemke_pivot.specs.ProblemPaths.{IsLeastRow};
+ghost use Rattle.lemke_pivot.specs.Paths.{LeadsTo};
 
 use crate::path::walk;
 use frac128::Frac;
@@ -111,7 +118,9 @@ impl Lcp {
         requires first_side { IsSideData first }
         requires second_side { IsSideData second }
         requires few { problem_size (side_of first) (side_of second) ≤ most_rows }
-        requires problem { IsProblemSystem first second system.now }
+        requires problem { (one two : ℕ → ℕ → ℚ)
+            × CostsAreNotNegative (costs_of (side_of first) (side_of second) one two)
+            × IsSystemFor first second one two system.now }
         ensures first { IfOk result (λ lcp. lcp.first ≡ first) }
         ensures second { IfOk result (λ lcp. lcp.second ≡ second) }
         ensures start { Gives start_stops.Memory (start_in system.now)
@@ -127,13 +136,19 @@ impl Lcp {
         })
     }
 
-    /// Follows the path to the solution. Takes no memory. There is never a ray.
+    /// Follows the path to the solution. Takes no memory. There is never a ray. Each pivot of the
+    /// path counts one, also the one that does not fit.
     ///
     /// # Errors
     ///
     /// The first pivot of the path that has a step that does not fit.
     pub fn solve<L: Ledger>(self, pivots: &mut PivotCount<L>) -> Result<Solution, UnfitPivot>
-        ensures { solved_in self result }
+        ensures end { solved_in self result }
+        ensures cost { pivots.new ≤ pivots.old + suc (2 ^ suc (suc (size_of self + size_of self))) }
+        ensures path { IfOk result (λ solution. (row k : ℕ) × (pivots.new ≡ pivots.old + k)
+            × LeadsTo self.tableau (size_of self) row k solution.tableau) }
+        ensures counted { IfErr result (λ stop.
+            (k : ℕ) × (pivots.new ≡ pivots.old + k) × (stop.number ≡ pivot_number k)) }
     {
         let Lcp {
             first,
@@ -169,7 +184,7 @@ impl Solution {
         &self.second
     }
 
-    /// The weight of a sequence in the first player's plan.
+    /// The weight of a sequence in the first player's plan. Sequences count from 0, the empty one.
     pub fn one(&self, sequence: u32) -> Frac
         requires { sequence < sequences (side_of self.now.first) }
         ensures { result ≡ plan_one self.now sequence }
@@ -178,7 +193,7 @@ impl Solution {
         self.work.now().value(variable as u32)
     }
 
-    /// The weight of a sequence in the second player's plan.
+    /// The weight of a sequence in the second player's plan. Sequences count from 0, the empty one.
     pub fn two(&self, sequence: u32) -> Frac
         requires { sequence < sequences (side_of self.now.second) }
         ensures { result ≡ plan_two self.now sequence }

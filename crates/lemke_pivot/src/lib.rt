@@ -5,7 +5,6 @@
 //! Definitions: `specs::Problems` has problems w = b + M z and that of two sides, `ProblemPaths`
 //! the path of complementary pivots, `FormProblems` what a form answers, `Ends` the end of a path;
 //! `Systems`, `Vectors` and `Values` have the rows of a problem and what a tableau gives.
-//! Private words: `specs::Walks`.
 //! Lemmas for callers: `proofs::ProblemAnswerLemmas` and `PathEndLemmas`, that each is one;
 //! `PathStartLemmas`.
 //! A change here touches: what `lcp` answers and refuses, and `lcp_texts_are_equilibria`.

@@ -1,9 +1,10 @@
 // The path over a tableau that is pivoted in place.
-ghost use Rattle.std.specs.Prelude.{◌≡◌, ◌+◌, ◌<◌, ◌≤◌, length, IfErr, OnOk};
+ghost use Rattle.std.specs.Prelude.{ℕ, suc, ◌≡◌, ◌+◌, ◌^◌, ◌<◌, ◌≤◌, length, IfErr, OnOk};
 ghost use Rattle.game_core.specs.Limits.{most_rows};
+ghost use Rattle.lex_tableau.specs.Pivots.{pivot_number};
 ghost use Rattle.lex_tableau.specs.Rows.{tableau};
 ghost use Rattle.lemke_pivot.specs.ProblemPaths.{complement};
-ghost use Rattle.lemke_pivot.specs.Paths.{EndsSolved, EndsUnfit, IsPathStart, IsNonbasic};
+ghost use Rattle.lemke_pivot.specs.Paths.{EndsSolved, EndsUnfit, IsPathStart, IsNonbasic, LeadsTo};
 
 use lex_tableau::{PivotCount, Tableau, UnfitPivot, Work};
 use std::sync::ledger::Ledger;
@@ -53,6 +54,11 @@ pub(crate) fn walk<L: Ledger>(
     requires start { IsPathStart size first work.old }
     ensures solved { OnOk result (EndsSolved work.old size first work.new) }
     ensures unfit { IfErr result (EndsUnfit work.old size first) }
+    ensures cost { pivots.new ≤ pivots.old + suc (2 ^ suc (suc (size + size))) }
+    ensures path { OnOk result
+        ((k : ℕ) × (pivots.new ≡ pivots.old + k) × LeadsTo work.old size first k work.new) }
+    ensures counted { IfErr result
+        (λ stop. (k : ℕ) × (pivots.new ≡ pivots.old + k) × (stop.number ≡ pivot_number k)) }
 {
     let z0 = (size + size + 1) as u32;
     if let Err(unfit) = work.pivot(first, size, pivots) {

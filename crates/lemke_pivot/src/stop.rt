@@ -5,7 +5,7 @@ use lex_tableau::StartStop;
 use std::alloc::{AllocError, AllocFailed};
 
 /// Why a sequence form has no problem here.
-#[derive(Clone, Copy, Debug)]
+#[derive(Clone, Copy, Debug, PartialEq, Eq)]
 pub enum LcpStop {
     /// There are too many rows.
     TooLarge(TooLarge),
@@ -13,9 +13,9 @@ pub enum LcpStop {
     Range {
         /// The player, 0 or 1, whose cost it is.
         player: u32,
-        /// The sequence of player one.
+        /// The sequence of player one; 0 is the empty one.
         row: u32,
-        /// The sequence of player two.
+        /// The sequence of player two; 0 is the empty one.
         column: u32,
         /// The step.
         unfit: Unfit,

@@ -4,6 +4,7 @@ use Rattle.std.specs.declared.cmp.Ordering.{Ordering}
 use Rattle.std.specs.declared.cmp.Ordering.TheVariants.{Less, Equal, Greater}
 use Rattle.std.specs.Ordering.{MatchOrdering}
 use Rattle.std.specs.Cmp.{int_ranks}
+use Rattle.std.proofs.Math.Numerals.{suc-eq-add-one}
 use Rattle.std.proofs.lemmas.Int.{ints}
 use Rattle.rational.proofs.InverseLemmas.{ne_zero_of_pos}
 use Rattle.rational.specs.Rational.{ℚ, frac, whole, zero_ℚ, inv_ℚ, ◌<ℚ◌, ◌≤ℚ◌, ◌*ℚ◌, ◌-ℚ◌}
@@ -20,7 +21,9 @@ use Rattle.linear_systems.proofs.RowLemmas.{coefficient_own, coefficient_cell, c
 use Rattle.linear_systems.proofs.LexRowLemmas.{lex_first, lex_pass, lex_take, below_cases, quotients_apart}
 use Rattle.whole_rows.specs.Rows.{from_place}
 use Rattle.lex_tableau.specs.Rows.{tableau_of, IsReachedFrom}
-use Rattle.lex_tableau.specs.Ratio.{variable_at, quotient_of, Compares, LexCompares, IsBest}
+use Rattle.lex_tableau.specs.Columns.{IsColumnOf}
+use Rattle.lex_tableau.specs.Ratio.{variable_at, quotient_of, Compares, LexCompares, HasEachOnce, IsBest}
+use Rattle.lex_tableau.proofs.ColumnLemmas.{each_once}
 use Rattle.whole_rows.proofs.RowValueLemmas.{fraction_over, over_entry, whole_ne, pos_ne, frac_over}
 
 -- ---- the numbers of a key
@@ -31,20 +34,25 @@ key_past b t i (suc p) h = ap (λ n. coefficient t i (b n)) (less p)
     less : (p : ℕ) → suc p - 1 ≡ p
     less p = omega arith
 
-module _ (bs ns : List ℕ) (xs : List ℤ) (ss : List ℕ) (i p : ℕ) (d : HasDistinctVariables (tableau_of bs ns xs)) (hi : i < length bs) (pr : pos 0 <ℤ from_place xs (i * (length ns + 2)) 0) (hp : p ≢ 0) where
+module _ (bs ns : List ℕ) (xs : List ℤ) (ss : List ℕ) (i p : ℕ) (d : HasEachOnce bs ns) (hi : i < length bs) (pr : pos 0 <ℤ from_place xs (i * (length ns + 2)) 0) (hp : p ≢ 0) where
   abbrev lead : ℤ
   lead = from_place xs (i * (length ns + 2)) 0
+
+  distinct : HasDistinctVariables (tableau_of bs ns xs)
+  distinct = each_once bs ns [] xs d
 
   pub key_own : get_or bs i 0 ≡ get_or ss (p - 1) 0 → frac lead (nat_abs lead) ≡ key (variable_at ss) (tableau_of bs ns xs) i p
   key_own e =
       fraction_over (from_place xs (i * (length ns + 2))) 0 pr ∙ *ℚ-inv (whole lead) (whole_ne lead (pos_ne lead pr))
-      ∙ sym (coefficient_own (tableau_of bs ns xs) i d hi) ∙ ap (coefficient (tableau_of bs ns xs) i) e ∙ key_past (variable_at ss) (tableau_of bs ns xs) i p hp
+      ∙ sym (coefficient_own (tableau_of bs ns xs) i distinct hi) ∙ ap (coefficient (tableau_of bs ns xs) i) e ∙ key_past (variable_at ss) (tableau_of bs ns xs) i p hp
 
-  pub key_column : (j : ℕ) → j < length ns → get_or ns j 0 ≡ get_or ss (p - 1) 0 → frac (from_place xs (i * (length ns + 2)) (j + 1)) (nat_abs lead) ≡ key (variable_at ss) (tableau_of bs ns xs) i p
-  key_column j hj e =
-      sym (coefficient_cell (tableau_of bs ns xs) i j d hi hj) ∙ ap (coefficient (tableau_of bs ns xs) i) e ∙ key_past (variable_at ss) (tableau_of bs ns xs) i p hp
+  pub key_column : (k : ℕ) → 0 < k → IsColumnOf ns (get_or ss (p - 1) 0) k → frac (from_place xs (i * (length ns + 2)) k) (nat_abs lead) ≡ key (variable_at ss) (tableau_of bs ns xs) i p
+  key_column zero l h = absurd (omega arith)
+  key_column (suc j) l h =
+      ap (λ k. frac (from_place xs (i * (length ns + 2)) k) (nat_abs lead)) (suc-eq-add-one j) ∙ sym (coefficient_cell (tableau_of bs ns xs) i j distinct hi h.0)
+      ∙ ap (coefficient (tableau_of bs ns xs) i) h.1 ∙ key_past (variable_at ss) (tableau_of bs ns xs) i p hp
 
-  pub key_absent : get_or bs i 0 ≢ get_or ss (p - 1) 0 → ((j : ℕ) → j < length ns → get_or ns j 0 ≢ get_or ss (p - 1) 0) → frac (pos 0) (nat_abs lead) ≡ key (variable_at ss) (tableau_of bs ns xs) i p
+  pub key_absent : get_or bs i 0 ≢ get_or ss (p - 1) 0 → IsColumnOf ns (get_or ss (p - 1) 0) 0 → frac (pos 0) (nat_abs lead) ≡ key (variable_at ss) (tableau_of bs ns xs) i p
   key_absent n g =
       frac_over (pos 0) (nat_abs lead) (pos_abs lead pr) ∙ ring rational_ring (inv_ℚ (whole (pos (nat_abs lead))) ∷ []) (num 0 :* A) (num 0) refl
       ∙ sym (coefficient_absent (tableau_of bs ns xs) i (get_or ss (p - 1) 0) n g) ∙ key_past (variable_at ss) (tableau_of bs ns xs) i p hp

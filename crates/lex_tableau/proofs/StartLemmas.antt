@@ -57,7 +57,7 @@ start_shape n rows w r k e f g = e ∙ ap₂ (λ a b. a * b) f (two w k g)
     two : (w k : ℕ) → w ≡ k → w + 1 + 1 ≡ k + 2
     two w k g = omega (arith, g)
 
-pub take_all : (xs ys : List ℤ) (n : ℕ) → length xs ≡ n → take n (xs ++ ys) ≡ xs
+pub take_all : {X : Type 0} (xs ys : List X) (n : ℕ) → length xs ≡ n → take n (xs ++ ys) ≡ xs
 take_all xs ys n e = ap (λ n. take n (xs ++ ys)) (sym e) ∙ take-append_seam xs ys
 
 -- ---- the stages

@@ -1,5 +1,5 @@
 -- The lexicographic row among the first rows, and the order of two rows' quotients.
-use Rattle.std.specs.Prelude.{ℕ, ℤ, pos, ◌<ℤ◌, ◌+◌, ◌<◌, ◌≡◌, nat_abs, suc, List, length, get_or, Option, Some, MatchOption}
+use Rattle.std.specs.Prelude.{ℕ, ℤ, pos, ◌<ℤ◌, ◌+◌, ◌<◌, ◌≡◌, nat_abs, suc, List, [], length, get_or, Option, MatchOption}
 use Rattle.std.specs.declared.cmp.Ordering.{Ordering}
 use Rattle.std.specs.declared.cmp.Ordering.TheVariants.{Less, Equal, Greater}
 use Rattle.rational.specs.Rational.{ℚ, frac, ◌*ℚ◌, inv_ℚ, zero_ℚ, ◌≤ℚ◌, ◌<ℚ◌}
@@ -35,24 +35,24 @@ IsBest k m starts t c o =
     MatchOption o ((i : ℕ) → i < k → t.cell i c ≤ℚ zero_ℚ)
     (λ r. IsLexicographicRow k m (variable_at starts) t c r)
 
--- the lexicographic row of a column of a tableau, or none where no rated row has a positive entry
-abbrev pub IsRatioRow : Numbers → ℕ → Option ℕ → Type 0
-IsRatioRow n col o = IsBest n.rated n.rated n.starts (tableau n) col o
-
 -- the rated row that leaves where a column enters: the lexicographic one
 abbrev pub IsLeavingRow : Numbers → ℕ → ℕ → Type 0
-IsLeavingRow n column row =
-    IsLexicographicRow n.rated n.rated (variable_at n.starts) (tableau n) column row
+IsLeavingRow n col row =
+    IsLexicographicRow n.rated n.rated (variable_at n.starts) (tableau n) col row
+
+-- the row that leaves where a column enters, or none where no rated row has a positive entry there
+abbrev pub IsRatioRow : Numbers → ℕ → Option ℕ → Type 0
+IsRatioRow n col o =
+    MatchOption o ((i : ℕ) → i < n.rated → (tableau n).cell i col ≤ℚ zero_ℚ) (IsLeavingRow n col)
 
 -- the keys of the rated rows are lexicographically positive
 abbrev pub HasPositiveKeys : Numbers → Type 0
 HasPositiveKeys n =
     (i : ℕ) → i < n.rated → IsLexPositive (suc n.rated) (key (variable_at n.starts) (tableau n) i)
 
--- where the row is the column's lexicographic row, keys that are all positive stay so
+-- where the row is the one that leaves, keys that are all positive stay so
 abbrev pub KeepsPositiveKeys : Numbers → ℕ → ℕ → Numbers → Type 0
-KeepsPositiveKeys n row col new =
-    IsRatioRow n col (Some row) → HasPositiveKeys n → HasPositiveKeys new
+KeepsPositiveKeys n row col new = IsLeavingRow n col row → HasPositiveKeys n → HasPositiveKeys new
 
 -- The same of the tableau with these starts, variables and numbers
 
@@ -88,7 +88,6 @@ abbrev pub IsReachedBy : ℕ → List ℕ → List ℕ → List ℕ → List ℤ
 IsReachedBy rated starts basics nonbasics numbers =
     IsReachedFrom rated starts (tableau_of basics nonbasics numbers)
 
--- no variable stands twice in it
-abbrev pub HasEachOnce : List ℕ → List ℕ → List ℤ → Type 0
-HasEachOnce basics nonbasics numbers =
-    HasDistinctVariables (tableau_of basics nonbasics numbers)
+-- no variable stands twice in it, whatever its numbers
+abbrev pub HasEachOnce : List ℕ → List ℕ → Type 0
+HasEachOnce basics nonbasics = HasDistinctVariables (tableau_of basics nonbasics [])

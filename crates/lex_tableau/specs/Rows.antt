@@ -1,5 +1,5 @@
 -- Tableaux of whole numbers, and the tableaux of fractions that they stand for
-use Rattle.std.specs.Prelude.{ℕ, ℤ, ◌+◌, ◌*◌, ◌<◌, ◌≤◌, ◌≡◌, ◌↔◌, List, length, get_or, slice_set}
+use Rattle.std.specs.Prelude.{ℕ, ℤ, ◌+◌, ◌*◌, ◌<◌, ◌≤◌, ◌≡◌, ◌≢◌, ◌↔◌, List, length, get_or, slice_set, Option, MatchOption}
 use Rattle.rational.specs.Rational.{ℚ}
 use Rattle.linear_systems.specs.Tableau.{Tableau, Solves, pivot}
 use Rattle.linear_systems.specs.Rows.{Alike}
@@ -43,12 +43,19 @@ tableau_of basics nonbasics numbers =
       basic = λ i. get_or basics i 0;
       nonbasic = λ j. get_or nonbasics j 0;
       cell = λ i j. fraction (from_place numbers (i * (length nonbasics + 2))) (j + 1);
-      right = λ i. fraction (from_place numbers (i * (length nonbasics + 2))) (length nonbasics + 1);
+      right = λ i. fraction (from_place numbers (i * (length nonbasics + 2)))
+          (length nonbasics + 1);
     }
 
 -- the tableau of fractions
 abbrev pub tableau : Numbers → Tableau
 tableau n = tableau_of n.basics n.nonbasics n.numbers
+
+-- the column in which a variable is nonbasic, or none where it stands in none
+abbrev pub IsNonbasicColumn : Numbers → ℕ → Option ℕ → Type 0
+IsNonbasicColumn n variable o =
+    MatchOption o ((j : ℕ) → j < length n.nonbasics → (tableau n).nonbasic j ≢ variable)
+    (λ j. (j < length n.nonbasics) × ((tableau n).nonbasic j ≡ variable))
 
 -- pivots on the first `rated` rows lead to t from a start with these basic variables
 pub record IsReachedFrom (rated : ℕ) (starts : List ℕ) (t : Tableau) : Type 0 where

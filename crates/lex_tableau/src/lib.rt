@@ -4,7 +4,8 @@
 //! not fit and changes nothing; `Tableau::ratio_row`; `PivotCount` counts pivots at no cost.
 //! Definitions: `specs::Rows` has tableaux and the fractions that they stand for, `Starts` systems
 //! and their starts, `Pivots` the steps of a pivot in order, `Ratio` the lexicographic row.
-//! Private words: the module `ratio`, which compares rows by their keys.
+//! Private words: the module `ratio`, which compares rows by their keys; `columns`, which keeps where
+//! the start's variables stand.
 //! Lemmas for callers: `proofs::SystemLemmas` and `TableauLemmas`, determined by their fractions.
 //! A change here touches: `zero_sum_lp`, `lemke_pivot`, `reply_polytope`, `basis_enum` and
 //! `enummixed`.
@@ -12,6 +13,7 @@
 
 ghost use Rattle.lex_tableau.specs.Laws.{StartsAreSingle, TableauxAreDetermined};
 
+mod columns;
 mod pivot_count;
 mod ratio;
 mod system;

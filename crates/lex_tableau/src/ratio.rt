@@ -1,5 +1,6 @@
 // The lexicographic row of a column.
 ghost use Rattle.std.specs.Prelude.{◌≡◌, suc, pos, ◌+◌, ◌*◌, ◌<◌, ◌≤◌, ◌<ℤ◌, ◌≤ℤ◌, true, false, length};
+ghost use Rattle.lex_tableau.specs.Columns.{AreColumnsOf};
 ghost use Rattle.lex_tableau.specs.Ratio.{ComparesAt, ComparesRows, HasEachOnce, IsBestOf, IsKeyNumber, IsPositiveIn, IsReachedBy};
 ghost use Rattle.whole_rows.specs.Lists.{AllPartsFit, AreRows, row_at};
 
@@ -13,6 +14,7 @@ fn key_number(
     nonbasics: &[u32],
     numbers: &[i128],
     starts: &[u32],
+    columns: &[u32],
     row: usize,
     place: usize,
 ) -> i128
@@ -21,23 +23,22 @@ fn key_number(
     requires shape { length numbers.now ≡ length basics.now * (length nonbasics.now + 2) }
     requires fit { AllPartsFit numbers.now }
     requires positive { pos 0 <ℤ row_at (length nonbasics.now + 2) numbers.now row 0 }
-    requires distinct { HasEachOnce basics.now nonbasics.now numbers.now }
+    requires distinct { HasEachOnce basics.now nonbasics.now }
+    requires columns { AreColumnsOf nonbasics.now starts.now columns.now }
     ensures { IsKeyNumber starts.now basics.now nonbasics.now numbers.now row place result }
 {
     let first = row * (nonbasics.len() + 2);
     if place == 0 {
         return numbers[first + (nonbasics.len() + 1)];
     }
-    let variable = starts[place - 1];
-    if basics[row] == variable {
-        return numbers[first];
+    let column = columns[place - 1] as usize;
+    if column > 0 {
+        numbers[first + column]
+    } else if basics[row] == starts[place - 1] {
+        numbers[first]
+    } else {
+        0
     }
-    for j in 0..nonbasics.len() {
-        if nonbasics[j] == variable {
-            return numbers[first + (j + 1)];
-        }
-    }
-    0
 }
 
 // The order of two rows' quotients at a place.
@@ -46,6 +47,7 @@ fn compare_at(
     nonbasics: &[u32],
     numbers: &[i128],
     starts: &[u32],
+    columns: &[u32],
     column: usize,
     row: usize,
     best: usize,
@@ -58,16 +60,18 @@ fn compare_at(
     requires shape { length numbers.now ≡ length basics.now * (length nonbasics.now + 2) }
     requires fit { AllPartsFit numbers.now }
     requires are_rows { AreRows (length basics.now) (length nonbasics.now + 2) numbers.now }
-    requires distinct { HasEachOnce basics.now nonbasics.now numbers.now }
+    requires distinct { HasEachOnce basics.now nonbasics.now }
+    requires columns { AreColumnsOf nonbasics.now starts.now columns.now }
     requires positive { IsPositiveIn nonbasics.now numbers.now row column }
     requires best_positive { IsPositiveIn nonbasics.now numbers.now best column }
-    ensures { ComparesAt starts.now basics.now nonbasics.now numbers.now column row best place result }
+    ensures { ComparesAt
+        starts.now basics.now nonbasics.now numbers.now column row best place result }
 {
     let size = nonbasics.len() + 2;
     compare_quotients(
-        key_number(basics, nonbasics, numbers, starts, row, place),
+        key_number(basics, nonbasics, numbers, starts, columns, row, place),
         numbers[row * size + (column + 1)],
-        key_number(basics, nonbasics, numbers, starts, best, place),
+        key_number(basics, nonbasics, numbers, starts, columns, best, place),
         numbers[best * size + (column + 1)],
     )
 }
@@ -78,6 +82,7 @@ fn compare_rows(
     nonbasics: &[u32],
     numbers: &[i128],
     starts: &[u32],
+    columns: &[u32],
     rated: usize,
     column: usize,
     row: usize,
@@ -90,14 +95,17 @@ fn compare_rows(
     requires shape { length numbers.now ≡ length basics.now * (length nonbasics.now + 2) }
     requires fit { AllPartsFit numbers.now }
     requires are_rows { AreRows (length basics.now) (length nonbasics.now + 2) numbers.now }
-    requires distinct { HasEachOnce basics.now nonbasics.now numbers.now }
+    requires distinct { HasEachOnce basics.now nonbasics.now }
+    requires columns { AreColumnsOf nonbasics.now starts.now columns.now }
     requires positive { IsPositiveIn nonbasics.now numbers.now row column }
     requires best_positive { IsPositiveIn nonbasics.now numbers.now best column }
     ensures { ComparesRows
         (suc rated) starts.now basics.now nonbasics.now numbers.now column row best result }
 {
     for place in 0..rated + 1 {
-        match compare_at(basics, nonbasics, numbers, starts, column, row, best, place) {
+        match compare_at(
+            basics, nonbasics, numbers, starts, columns, column, row, best, place,
+        ) {
             Ordering::Less => return Ordering::Less,
             Ordering::Equal => {}
             Ordering::Greater => return Ordering::Greater,
@@ -120,6 +128,7 @@ fn next_best(
     nonbasics: &[u32],
     numbers: &[i128],
     starts: &[u32],
+    columns: &[u32],
     rated: usize,
     column: usize,
     row: usize,
@@ -133,8 +142,10 @@ fn next_best(
     requires fit { AllPartsFit numbers.now }
     requires are_rows { AreRows (length basics.now) (length nonbasics.now + 2) numbers.now }
     requires reached { IsReachedBy rated starts.now basics.now nonbasics.now numbers.now }
+    requires columns { AreColumnsOf nonbasics.now starts.now columns.now }
     requires best { IsBestOf row rated starts.now basics.now nonbasics.now numbers.now column best }
-    ensures { IsBestOf (suc row) rated starts.now basics.now nonbasics.now numbers.now column result }
+    ensures { IsBestOf
+        (suc row) rated starts.now basics.now nonbasics.now numbers.now column result }
 {
     if !is_positive(numbers[row * (nonbasics.len() + 2) + (column + 1)]) {
         return best;
@@ -142,7 +153,9 @@ fn next_best(
     let Some(old) = best else {
         return Some(row);
     };
-    match compare_rows(basics, nonbasics, numbers, starts, rated, column, row, old) {
+    match compare_rows(
+        basics, nonbasics, numbers, starts, columns, rated, column, row, old,
+    ) {
         Ordering::Less => Some(row),
         _ => Some(old),
     }
@@ -154,6 +167,7 @@ pub fn ratio_row(
     nonbasics: &[u32],
     numbers: &[i128],
     starts: &[u32],
+    columns: &[u32],
     rated: usize,
     column: usize,
 ) -> Option<usize>
@@ -164,11 +178,14 @@ pub fn ratio_row(
     requires fit { AllPartsFit numbers.now }
     requires are_rows { AreRows (length basics.now) (length nonbasics.now + 2) numbers.now }
     requires reached { IsReachedBy rated starts.now basics.now nonbasics.now numbers.now }
+    requires columns { AreColumnsOf nonbasics.now starts.now columns.now }
     ensures { IsBestOf rated rated starts.now basics.now nonbasics.now numbers.now column result }
 {
     let mut best = None;
     for row in 0..rated {
-        best = next_best(basics, nonbasics, numbers, starts, rated, column, row, best);
+        best = next_best(
+            basics, nonbasics, numbers, starts, columns, rated, column, row, best,
+        );
     }
     best
 }

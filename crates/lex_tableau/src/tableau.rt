@@ -6,7 +6,7 @@ ghost use Rattle.linear_systems.specs.Rows.{basic_solution};
 ghost use Rattle.lex_tableau.specs.PivotStops.{IsPivotStop};
 ghost use Rattle.lex_tableau.specs.Pivots.{HasOtherRows, HasPivotRow, steps_of_pivot};
 ghost use Rattle.lex_tableau.specs.Ratio.{IsRatioRow, KeepsPositiveKeys};
-ghost use Rattle.lex_tableau.specs.Rows.{HasSolutionsOf, IsPivotOf, IsTableau, tableau, with_variables_exchanged};
+ghost use Rattle.lex_tableau.specs.Rows.{HasSolutionsOf, IsNonbasicColumn, IsPivotOf, IsTableau, tableau, with_variables_exchanged};
 ghost use Rattle.lex_tableau.specs.StartStops.{start_in};
 ghost use Rattle.lex_tableau.specs.declared.tableau.StartStop.TheVariants as start_stops;
 ghost use Rattle.whole_rows.specs.Lists.{AllPartsFit};
@@ -14,6 +14,7 @@ ghost use Rattle.whole_rows.specs.Rows.{fraction as fraction_of, from_place};
 ghost use Rattle.frac128.specs.Steps.{StepFits, IsFirstUnfit};
 ghost use Rattle.rational.specs.Tests.{sign_of};
 
+use crate::columns::{exchange_columns, no_columns};
 use crate::pivot_count::PivotCount;
 use crate::ratio::ratio_row;
 use crate::system::System;
@@ -30,6 +31,8 @@ use whole_rows::{fraction, write_pivot, write_starts};
 #[derive(Debug, Drop)]
 pub struct Tableau {
     starts: Vec<u32>,
+    // The column of each of `starts`, counted from 1, and 0 where it is basic.
+    columns: Vec<u32>,
     basics: Vec<u32>,
     nonbasics: Vec<u32>,
     rated: usize,
@@ -37,14 +40,18 @@ pub struct Tableau {
 }
 
 impl Model for Tableau {
+    ghost use Rattle.lex_tableau.specs.Columns.{AreColumnsOf};
     ghost use Rattle.lex_tableau.specs.Rows.{Numbers, numbers_of, IsTableau};
 
     ghost Value = { Numbers };
 
-    ghost view = { λ t. numbers_of t.starts.items t.basics.items t.nonbasics.items t.rated t.numbers.items };
+    ghost view = { λ t.
+        numbers_of t.starts.items t.basics.items t.nonbasics.items t.rated t.numbers.items };
 
-    ghost invariant = { λ t. IsTableau
-        (numbers_of t.starts.items t.basics.items t.nonbasics.items t.rated t.numbers.items) };
+    ghost invariant = { λ t.
+        IsTableau (numbers_of
+        t.starts.items t.basics.items t.nonbasics.items t.rated t.numbers.items)
+        × AreColumnsOf t.nonbasics.items t.starts.items t.columns.items };
 }
 
 // The fraction at a place of a row.
@@ -129,6 +136,7 @@ impl From<Memory> for StartStop {
 #[derive(Drop)]
 struct Room {
     starts: Vec<u32>,
+    columns: Vec<u32>,
     basics: Vec<u32>,
     nonbasics: Vec<u32>,
     numbers: Vec<i128>,
@@ -140,12 +148,14 @@ impl Room {
         match spent {
             Some(tableau) => Room {
                 starts: tableau.starts,
+                columns: tableau.columns,
                 basics: tableau.basics,
                 nonbasics: tableau.nonbasics,
                 numbers: tableau.numbers,
             },
             None => Room {
                 starts: Vec::new(alloc),
+                columns: Vec::new(alloc),
                 basics: Vec::new(alloc),
                 nonbasics: Vec::new(alloc),
                 numbers: Vec::new(alloc),
@@ -187,6 +197,7 @@ impl Tableau {
         };
         let mut numbers = zeros(alloc, total)?;
         let starts = copied(Vec::new(alloc), system.basics.as_slice())?;
+        let columns = no_columns(alloc, rows)?;
         let basics = copied(Vec::new(alloc), system.basics.as_slice())?;
         let nonbasics = copied(Vec::new(alloc), system.nonbasics.as_slice())?;
         match write_starts(system.cells.as_slice(), numbers.as_mut_slice(), rows, count) {
@@ -200,6 +211,7 @@ impl Tableau {
         }
         Ok(Tableau {
             starts,
+            columns,
             basics,
             nonbasics,
             rated: system.rated,
@@ -291,6 +303,19 @@ impl Tableau {
         self.nonbasics[col]
     }
 
+    /// The column in which a variable is nonbasic, counted from 0; `None` where it stands in none.
+    pub fn column_of(&self, variable: u32) -> Option<usize>
+        ensures column { IsNonbasicColumn self.now variable result }
+        ensures valid { IsTableau self.now }
+    {
+        for col in 0..self.nonbasics.len() {
+            if self.nonbasics[col] == variable {
+                return Some(col);
+            }
+        }
+        None
+    }
+
     /// The lexicographic row of a column: the rated row with a positive entry there whose key,
     /// divided by the entry, is least. A row's key is its right side, and then its coefficients of
     /// the start's rated basic variables in order. `None` exactly where no rated row has a positive
@@ -305,15 +330,18 @@ impl Tableau {
             self.nonbasics.as_slice(),
             self.numbers.as_slice(),
             self.starts.as_slice(),
+            self.columns.as_slice(),
             self.rated,
             col,
         )
     }
 
-    // The tableau with these numbers, which the pivot made. Its variables are written over those lists.
+    // The tableau with these numbers, which the pivot made. Its variables are written over those
+    // lists.
     fn with_numbers(
         &self,
         starts: Vec<u32>,
+        columns: Vec<u32>,
         basics: Vec<u32>,
         nonbasics: Vec<u32>,
         numbers: Vec<i128>,
@@ -332,13 +360,23 @@ impl Tableau {
         ensures valid { IfOk result IsTableau }
     {
         let starts = copied(starts, self.starts.as_slice())?;
+        let mut columns = copied(columns, self.columns.as_slice())?;
         let mut basics = copied(basics, self.basics.as_slice())?;
         let mut nonbasics = copied(nonbasics, self.nonbasics.as_slice())?;
+        exchange_columns(
+            columns.as_mut_slice(),
+            self.starts.as_slice(),
+            self.basics.as_slice(),
+            self.nonbasics.as_slice(),
+            row,
+            col,
+        );
         let entering = nonbasics[col];
         nonbasics[col] = basics[row];
         basics[row] = entering;
         Ok(Tableau {
             starts,
+            columns,
             basics,
             nonbasics,
             rated: self.rated,
@@ -346,8 +384,9 @@ impl Tableau {
         })
     }
 
-    /// The pivot on a rated row and a column, as a new tableau. It counts one pivot, also where it is
-    /// refused. A tableau that is spent may be given, so that the new one is written into its room.
+    /// The pivot on a rated row and a column, as a new tableau. It counts one pivot, also where it
+    /// is refused. A tableau that is spent may be given, so that the new one is written into its
+    /// room.
     ///
     /// # Errors
     ///
@@ -376,7 +415,15 @@ impl Tableau {
         let room = Room::of(alloc, spent);
         let mut numbers = filled(alloc, room.numbers, self.numbers.len())?;
         self.write_numbers(numbers.as_mut_slice(), row, col)?;
-        Ok(self.with_numbers(room.starts, room.basics, room.nonbasics, numbers, row, col)?)
+        Ok(self.with_numbers(
+            room.starts,
+            room.columns,
+            room.basics,
+            room.nonbasics,
+            numbers,
+            row,
+            col,
+        )?)
     }
 
     /// The value of a variable where the nonbasic ones are 0: the right side of its row, and 0
@@ -442,6 +489,14 @@ impl Tableau {
         ensures valid { IsTableau self.new }
         ensures spare { spare.new.items ≡ self.old.numbers }
     {
+        exchange_columns(
+            self.columns.as_mut_slice(),
+            self.starts.as_slice(),
+            self.basics.as_slice(),
+            self.nonbasics.as_slice(),
+            row,
+            col,
+        );
         let entering = self.nonbasics[col];
         self.nonbasics[col] = self.basics[row];
         self.basics[row] = entering;

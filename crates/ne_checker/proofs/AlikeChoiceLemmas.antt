@@ -5,7 +5,7 @@ use Rattle.std.specs.List.{flat_map, range_with_len}
 use Rattle.std.proofs.lemmas.List.Elements.{All-filter, filter_passes}
 use Rattle.std.proofs.lemmas.List.FromFn.{length-range_with_len, get_or-range_with_len}
 use Rattle.lists.proofs.ElementLemmas.{made-next}
-use Rattle.rational.specs.Rational.{ℚ, ◌*ℚ◌}
+use Rattle.rational.specs.Rational.{ℚ, ◌*ℚ◌, zero_ℚ}
 use Rattle.rational.specs.Sum.{sum_to}
 use Rattle.rational.proofs.SumLemmas.{sum_to-same}
 use Rattle.frac128.specs.Steps.{unfit, Step}
@@ -19,8 +19,7 @@ use Rattle.game_theory.proofs.OwnSetLemmas.{IsAmong, is_index-decides}
 use Rattle.best_replies.specs.Replies.{reply_value, is_member}
 use Rattle.best_replies.proofs.ReplyValueLemmas.{reply_value-agree}
 use Rattle.best_replies.proofs.WeightLemmas.{own_or_not, if_own, if_other}
-use Rattle.pure_payoffs.specs.Plays.{branch_steps}
-use Rattle.pure_payoffs.specs.Steps.{chance_steps}
+use Rattle.pure_payoffs.specs.Steps.{branch_steps, chance_steps}
 use Rattle.ne_checker.specs.TreeSteps.{sum_steps, child_value, after_steps, after_sum, reply_steps_to, reply_steps, members, member_child, action_steps, decision_steps, player_steps, now_node_steps, now_steps_to, has_factor, weight_step, weight_steps}
 use Rattle.ne_checker.proofs.AlikeBehaviourLemmas.{AreAlike, branch-alike, probability-alike, reply_value-alike, value-alike, weight-alike}
 use Rattle.ne_checker.proofs.TreeOwnSetLemmas.{turned}
@@ -113,7 +112,7 @@ module _ (t : Tree) (b behaviour : Behaviour) (i : ℕ) (choice other : ℕ → 
       go : (o : Option ℕ) → t.set k ≡ o → after_steps t b i choice f k o ≡ after_steps t behaviour i other g k o
       go None e = refl
       go (Some s) e = elim (own_or_not t i s) [
-        | inl o ↦ if_own t i s _ _ o ∙ sum_steps-alike 1 _ _ (λ _. []) (λ _. []) (λ a m. chosen-alike k s l e o) (λ a m. refl) ∙ sym (if_own t i s _ _ o)
+        | inl o ↦ if_own t i s _ _ o ∙ ap (λ x. unfit Add zero_ℚ x ∷ []) (chosen-alike k s l e o) ∙ sym (if_own t i s _ _ o)
         | inr apart ↦ if_other t i s _ _ apart ∙ sum_steps-alike (t.actions s) _ _ (λ a. f (child t k a)) (λ a. g (child t k a)) (λ a m. child-alike k s l e a m) (λ a m. h (child t k a) (child-later t k s a w l e m).1) ∙ sym (if_other t i s _ _ apart)
       ]
 
@@ -123,7 +122,7 @@ module _ (t : Tree) (b behaviour : Behaviour) (i : ℕ) (choice other : ℕ → 
       go : (o : Option ℕ) → t.set k ≡ o → after_sum t b i choice k o ≡ after_sum t behaviour i other k o
       go None e = refl
       go (Some s) e = elim (own_or_not t i s) [
-        | inl o ↦ if_own t i s _ _ o ∙ sum_to-same 1 _ _ (λ a m. chosen-alike k s l e o) ∙ sym (if_own t i s _ _ o)
+        | inl o ↦ if_own t i s _ _ o ∙ chosen-alike k s l e o ∙ sym (if_own t i s _ _ o)
         | inr apart ↦ if_other t i s _ _ apart ∙ sum_to-same (t.actions s) _ _ (λ a m. child-alike k s l e a m) ∙ sym (if_other t i s _ _ apart)
       ]
 

@@ -32,7 +32,7 @@ module _ (t : Tree) (b other : Behaviour) (w : IsTree t) (alike : AreAlike t b o
     choice = h.choice;
     is_best = best_choices-alike t b other w alike player h.choice h.is_best;
     fit = subst (All StepFits) (player_steps-alike player h.choice h.is_best) h.fit;
-    now_is = h.now_is ∙ value-alike t b other w alike player 0 w.some_node;
+    payoff_is = h.payoff_is ∙ value-alike t b other w alike player 0 w.some_node;
     best_is = h.best_is ∙ reply_value-alike t b other w alike player h.choice 0 w.some_node;
     more = h.more;
     reply_is = h.reply_is;

@@ -35,7 +35,7 @@ module _ (t : Tree) (b : Behaviour) (i : ℕ) (choice : ℕ → ℕ) (now best :
     choice = choice;
     is_best = is_best;
     fit = fit;
-    now_is = now_is;
+    payoff_is = now_is;
     best_is = best_is;
     more = more;
     reply_is = is ∙ map-among _ choice (own_sets t i) (λ s among. let own = own_sets-tell t i s among in chosen s own.0 own.1);

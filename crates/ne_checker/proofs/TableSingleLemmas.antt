@@ -4,7 +4,7 @@ use Rattle.std.specs.Prelude.{◌==◌, if◌then◌else◌, true, false}
 use Rattle.std.specs.List.{range_with_len, flat_map}
 use Rattle.std.proofs.lemmas.Bool.{cases_lt}
 use Rattle.rational.specs.Rational.{ℚ, ◌*ℚ◌, ◌≤ℚ◌, ◌<ℚ◌, zero_ℚ, one_ℚ}
-use Rattle.rational.proofs.Field.{lt_of_lt_of_le, not_lt_of_le}
+use Rattle.rational.proofs.Field.{not_lt_of_le}
 use Rattle.rational.proofs.SumLemmas.{sum_to-same}
 use Rattle.game_theory.specs.Mixed.{Mixed, later, probability, payoff as payoff_of}
 use Rattle.game_theory.specs.Profiles.{Game, profile_at, profile_count}
@@ -94,9 +94,7 @@ module _ (g : Game) (m other : Mixed) (same : (i s : ℕ) → i < length g.strat
     no_better-same h =
         record {
           fit = subst (All StepFits) player-same h.fit;
-          best = h.best;
-          is_best = IsFirstGreatest-same (get_or g.strategies i 0) (strategy_value g m i) (strategy_value g other i) h.best (λ s l. value-same i s) h.is_best;
-          no_more = subst (λ x. x ≤ℚ payoff_of g other i) (value-same i h.best) (subst (λ x. strategy_value g m i h.best ≤ℚ x) payoff-same h.no_more);
+          no_more = λ s b. subst (λ x. x ≤ℚ payoff_of g other i) (value-same i s) (subst (λ x. strategy_value g m i s ≤ℚ x) payoff-same (h.no_more s b));
         }
 
     better-same : (payoff best : ℚ) (reply : ℕ) → IsBetterReply g m i payoff best reply → IsBetterReply g other i payoff best reply
@@ -125,9 +123,8 @@ module _ (g : Game) (m other : Mixed) (same : (i s : ℕ) → i < length g.strat
 module _ (g : Game) (m : Mixed) where
   clash : (i reply : ℕ) (payoff best : ℚ) → HasNoBetter g m i → IsBetterReply g m i payoff best reply → ⊥
   clash i reply payoff best h b =
-      not_lt_of_le (strategy_value g m i h.best) (payoff_of g m i) h.no_more
-      (lt_of_lt_of_le (payoff_of g m i) (strategy_value g m i reply) (strategy_value g m i h.best)
-      (subst (λ x. x <ℚ strategy_value g m i reply) b.payoff_is (subst (λ x. payoff <ℚ x) b.best_is b.pays_more)) (h.is_best.greatest reply b.is_best.within))
+      not_lt_of_le (strategy_value g m i reply) (payoff_of g m i) (h.no_more reply b.is_best.within)
+      (subst (λ x. x <ℚ strategy_value g m i reply) b.payoff_is (subst (λ x. payoff <ℚ x) b.best_is b.pays_more))
 
   same_better : (p q r s : ℕ) (a b c d : ℚ) → IsFirstBetter g m p a b r → IsFirstBetter g m q c d s → (let one : TableVerdict = Better p a b r in one) ≡ Better q c d s
   same_better p q r s a b c d h k = elim (cases_lt p q) [

@@ -13,7 +13,8 @@ use Rattle.game_theory.proofs.NamedChildLemmas.{child-is_child, child-later}
 use Rattle.game_theory.proofs.ValueLemmas.{value-by_actions, value-end}
 use Rattle.pure_payoffs.proofs.NodeStepLemmas.{chance_steps-same}
 use Rattle.frac128.proofs.StepRunLemmas.{first_unfit-more, added-gives, following-gives}
-use Rattle.ne_checker.specs.TreeSteps.{now_node_steps, now_steps_to, now_steps_at, now_steps_after, now_value_after}
+use Rattle.ne_checker.specs.TreeBoards.{now_steps_after, now_value_after}
+use Rattle.ne_checker.specs.TreeSteps.{now_node_steps, now_steps_to, now_steps_at}
 use Rattle.ne_checker.proofs.TreeDepthLemmas.{told-recurs}
 
 module _ (t : Tree) (b : Behaviour) (i : ℕ) (w : IsTree t) where

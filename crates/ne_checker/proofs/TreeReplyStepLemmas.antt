@@ -17,7 +17,8 @@ use Rattle.best_replies.specs.Replies.{reply_value}
 use Rattle.best_replies.proofs.ReplyValueLemmas.{reply_values-recur}
 use Rattle.best_replies.proofs.WeightLemmas.{own_or_not, if_own, if_other}
 use Rattle.frac128.proofs.StepRunLemmas.{first_unfit-more, first_unfit-following, first_unfit-here, one-fits, added-gives, following-gives}
-use Rattle.ne_checker.specs.TreeSteps.{sum_steps, child_value, after_steps, after_sum, own_steps, reply_steps_to, reply_steps, after_steps_at, after_sum_at, children_steps, children_sum}
+use Rattle.ne_checker.specs.TreeSides.{after_steps_at, after_sum_at, children_steps, children_sum}
+use Rattle.ne_checker.specs.TreeSteps.{child_value, after_steps, after_sum, own_steps, reply_steps_to, reply_steps}
 use Rattle.ne_checker.proofs.TreeDepthLemmas.{told-recurs}
 use Rattle.ne_checker.proofs.TreeSumLemmas.{sum_steps-same}
 
@@ -32,7 +33,7 @@ module _ (t : Tree) (b : Behaviour) (i : ℕ) (choice : ℕ → ℕ) (w : IsTree
       go : (o : Option ℕ) → t.set k ≡ o → after_steps t b i choice f k o ≡ after_steps t b i choice g k o
       go None e = refl
       go (Some s) e =
-          ap (λ x. if is_own t i s then sum_steps 1 (λ _. child_value t b i choice k (choice s)) (λ _. []) else x)
+          ap (λ x. if is_own t i s then unfit Add zero_ℚ (child_value t b i choice k (choice s)) ∷ [] else x)
           (sum_steps-same (t.actions s) (child_value t b i choice k) (λ a. f (child t k a)) (λ a. g (child t k a)) (λ a m. let c = child-later t k s a w l e m in h (child t k a) c.0 c.1))
 
   -- the steps of a node, by those after it
@@ -41,7 +42,7 @@ module _ (t : Tree) (b : Behaviour) (i : ℕ) (choice : ℕ → ℕ) (w : IsTree
 
   -- what stands after an own node
   pub following-own : (k s : ℕ) → t.set k ≡ Some s → t.owner s ≡ Some i
-      → (after_steps_at t b i choice k ≡ unfit Add zero_ℚ (child_value t b i choice k (choice s)) ∷ []) × (after_sum_at t b i choice k ≡ zero_ℚ +ℚ child_value t b i choice k (choice s))
+      → (after_steps_at t b i choice k ≡ unfit Add zero_ℚ (child_value t b i choice k (choice s)) ∷ []) × (after_sum_at t b i choice k ≡ child_value t b i choice k (choice s))
   following-own k s e o = (
     ap (after_steps t b i choice (reply_steps t b i choice) k) e ∙ if_own t i s _ _ o,
     ap (after_sum t b i choice k) e ∙ if_own t i s _ _ o,
@@ -64,7 +65,7 @@ module _ (t : Tree) (b : Behaviour) (i : ℕ) (choice : ℕ → ℕ) (w : IsTree
       → IfOk r (λ f. f ≡ z +ℚ x) → OnOk r (AddFits z x) → IfErr r (λ u. u ≡ unfit Add z x) → OnErr r (AddFits z x → ⊥) → StepsGive (after_steps_at t b i choice k) (after_sum_at t b i choice k) r
   own-gives k s z x r e o zero_is is sum fits step refused =
       let parts = following-own k s e o in
-      rw (parts.0, parts.1, ← is, ← zero_is) (added-gives z x r sum fits step refused)
+      rw (parts.0, parts.1, ← is, ← zero_is) (subst (λ v. StepsGive (unfit Add z x ∷ []) v r) (ap (λ y. y +ℚ x) zero_is ∙ zero-+ℚ x) (added-gives z x r sum fits step refused))
 
   -- the sum at any other node with a set
   pub other-gives : (k s : ℕ) (r : Result ℚ Unfit) → t.set k ≡ Some s → t.owner s ≢ Some i → StepsGive (children_steps t b i choice k s) (children_sum t b i choice k s) r → StepsGive (after_steps_at t b i choice k) (after_sum_at t b i choice k) r
@@ -80,7 +81,7 @@ module _ (t : Tree) (b : Behaviour) (i : ℕ) (choice : ℕ → ℕ) (w : IsTree
         go (Some s) e = elim (own_or_not t i s) [
           | inl o ↦ let below = chosen s (w.sets_within k s l e) o in
               reply_values-recur.own t b i choice k s (child t k (choice s)) w l e o below (child-is_child t k s (choice s) w l e below)
-              ∙ ap (λ x. (weight t b i k *ℚ t.pays k i) +ℚ x) (sym (zero-+ℚ _) ∙ sym (if_own t i s _ _ o))
+              ∙ ap (λ x. (weight t b i k *ℚ t.pays k i) +ℚ x) (sym (if_own t i s _ _ o))
           | inr apart ↦ reply_values-recur.other t b i choice k s (child t k) w l e apart (λ a m. child-is_child t k s a w l e m)
               ∙ ap (λ x. (weight t b i k *ℚ t.pays k i) +ℚ x) (sym (if_other t i s _ _ apart))
         ]

@@ -45,7 +45,7 @@ module _ (t : Tree) (b : Behaviour) (w : IsTree t) (numbered : AreNumberedByFirs
   -- a player with better choices is not one without
   better-excludes : (p : ℕ) (now best : ℚ) (reply : List ℕ) → IsBetter t b p now best reply → HasNoBetter t b p → ⊥
   better-excludes p now best reply h g =
-      not_le_of_lt _ _ (subst (λ x. x <ℚ best) h.now_is h.more) (subst (λ x. x ≤ℚ payoff t b p) (worth-same p h.within g.choice h.choice g.is_best h.is_best ∙ sym h.best_is) g.no_more)
+      not_le_of_lt _ _ (subst (λ x. x <ℚ best) h.payoff_is h.more) (subst (λ x. x ≤ℚ payoff t b p) (worth-same p h.within g.choice h.choice g.is_best h.is_best ∙ sym h.best_is) g.no_more)
 
   -- nor is one with a step that does not fit
   out-excludes : (step : Step) (h : IsOutOfRange t b step) → (choice : ℕ → ℕ) → AreBestChoices t b h.player choice → All StepFits (player_steps t b h.player choice) → ⊥
@@ -67,7 +67,7 @@ module _ (t : Tree) (b : Behaviour) (w : IsTree t) (numbered : AreNumberedByFirs
   one-better p q now best now' best' reply reply' h g =
       let players : p ≡ q = first-same p q h.earlier g.earlier (better-excludes p now best reply h) (better-excludes q now' best' reply' g) in
       let k : IsBetter t b p now' best' reply' = subst (λ x. IsBetter t b x now' best' reply') (sym players) g in
-      let nows : now ≡ now' = h.now_is ∙ sym k.now_is in
+      let nows : now ≡ now' = h.payoff_is ∙ sym k.payoff_is in
       let bests : best ≡ best' = h.best_is ∙ worth-same p h.within h.choice k.choice h.is_best k.is_best ∙ sym k.best_is in
       (λ j. Better (players j) (nows j) (bests j), h.reply_is ∙ reply-same p h.within h.choice k.choice h.is_best k.is_best ∙ sym k.reply_is)
 

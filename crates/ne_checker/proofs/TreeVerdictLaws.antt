@@ -33,7 +33,7 @@ module _ (t : Tree) (b : Behaviour) (w : IsTree t) (recall : (i : ℕ) → i < t
     has_better = (best_choices-tell t b player h.choice w (recall player h.within) h.is_best).0 more;
     earlier_have_none = λ j l better. let none = h.earlier j l in
         not_le_of_lt _ _ ((best_choices-tell t b j none.choice w (recall j (omega (arith, h.within))) none.is_best).1 better) none.no_more;
-    now_is = h.now_is;
+    payoff_is = h.payoff_is;
     choice = h.choice;
     is_choice = λ s l o. (h.is_best s l o).within;
     actions_are = h.reply_is;
@@ -42,7 +42,7 @@ module _ (t : Tree) (b : Behaviour) (w : IsTree t) (recall : (i : ℕ) → i < t
   }
     where
       more : payoff t b player <ℚ reply_value t b player h.choice 0
-      more = subst (λ x. x <ℚ reply_value t b player h.choice 0) h.now_is (subst (λ x. now <ℚ x) h.best_is h.more)
+      more = subst (λ x. x <ℚ reply_value t b player h.choice 0) h.payoff_is (subst (λ x. now <ℚ x) h.best_is h.more)
 
   -- at an equilibrium where all steps fit there is no other verdict
   only-equilibrium : AllPlayersFit t b → IsEquilibrium t b → (verdict : TreeVerdict) (actions : List ℕ) → IsTreeVerdict t b verdict actions → verdict ≡ Equilibrium

@@ -32,8 +32,9 @@ TellsOfMixed g m text =
 abbrev pub TellsOfBehaviour : Tree → Behaviour → List ℕ → Type 0
 TellsOfBehaviour t b text =
     (IsTreeEquilibrium t b × (text ≡ equilibrium_text))
-    ⊎ ((player : ℕ) × (now : ℚ) × (best : ℚ) × (actions : List ℕ)
-    × ShowsBetterReply t b player now best actions × (text ≡ better_text player now best actions))
+    ⊎ ((player : ℕ) × (payoff : ℚ) × (best : ℚ) × (actions : List ℕ)
+    × ShowsBetterReply t b player payoff best actions
+    × (text ≡ better_text player payoff best actions))
 
 -- a line has the entries of a valid mixed profile of a table, of which the text tells
 pub record TellsOfTableLine (table : GameTable) (line text : List ℕ) : Type 0 where

@@ -84,9 +84,8 @@ player_steps g m i = value_steps g m i ++ payoff_steps g m i
 -- player i's steps fit, and no strategy is worth more than the payoff
 pub record HasNoBetter (g : Game) (m : Mixed) (i : ℕ) : Type 0 where
   pub fit : All StepFits (player_steps g m i)
-  pub best : ℕ
-  pub is_best : IsBestStrategy g m i best
-  pub no_more : strategy_value g m i best ≤ℚ payoff_of g m i
+  pub no_more : (s : ℕ) → s < slice_index g.strategies i
+      → strategy_value g m i s ≤ℚ payoff_of g m i
 
 -- a player's steps fit, and this first best strategy is worth more than the payoff
 pub record IsBetterReply (g : Game) (m : Mixed) (player : ℕ) (payoff best : ℚ) (reply : ℕ)

@@ -1,15 +1,17 @@
 -- A player's side while its sets are decided from the last to the first.
 use Rattle.std.specs.Prelude.{ℕ, suc, ◌<◌, ◌≤◌, ◌≡◌, ◌⊎◌, List, length, map, slice_index, Some}
 use Rattle.rational.specs.Rational.{ℚ}
-use Rattle.rational.specs.Sum.{entry_at}
+use Rattle.rational.specs.Sum.{entry_at, sum_to}
+use Rattle.frac128.specs.Steps.{Step}
 use Rattle.game_theory.specs.Trees.{Tree, IsTree, IsWithin}
 use Rattle.game_theory.specs.Behaviour.{Behaviour}
-use Rattle.game_theory.specs.Children.{AreChildren}
+use Rattle.game_theory.specs.Children.{AreChildren, child}
 use Rattle.game_core.specs.TreeGame.{game_of_tree}
 use Rattle.best_replies.specs.Order.{AscendOnPaths}
 use Rattle.best_replies.specs.Reaching.{weight}
 use Rattle.best_replies.specs.Replies.{reply_value, AreBestChoices}
 use Rattle.ne_checker.specs.declared.trees_side.Side.{Side}
+use Rattle.ne_checker.specs.TreeSteps.{after_steps, after_sum, child_value, reply_steps, sum_steps}
 
 -- a game tree, its nodes' children, a weight for each node, and one of its players
 pub record IsSide (t : Tree) (children : List (List ℕ)) (weights : List ℚ) (i : ℕ) : Type 0 where
@@ -59,3 +61,19 @@ pub record AreDecided (t : Tree) (b : Behaviour) (i : ℕ) (choice : ℕ → ℕ
 abbrev pub AreChosen : Tree → ℕ → (ℕ → ℕ) → List ℕ → Type 0
 AreChosen t i choice choices =
     (s : ℕ) → s < t.sets → t.owner s ≡ Some i → slice_index choices s ≡ choice s
+
+-- the steps after a node, and the sum
+abbrev pub after_steps_at : Tree → Behaviour → ℕ → (ℕ → ℕ) → ℕ → List Step
+after_steps_at t b i choice k = after_steps t b i choice (reply_steps t b i choice) k (t.set k)
+
+abbrev pub after_sum_at : Tree → Behaviour → ℕ → (ℕ → ℕ) → ℕ → ℚ
+after_sum_at t b i choice k = after_sum t b i choice k (t.set k)
+
+-- the steps of the sum of the reply values of all children of a node of set s, and the sum
+abbrev pub children_steps : Tree → Behaviour → ℕ → (ℕ → ℕ) → ℕ → ℕ → List Step
+children_steps t b i choice k s =
+    sum_steps (t.actions s) (child_value t b i choice k)
+    (λ a. reply_steps t b i choice (child t k a))
+
+abbrev pub children_sum : Tree → Behaviour → ℕ → (ℕ → ℕ) → ℕ → ℕ → ℚ
+children_sum t b i choice k s = sum_to (t.actions s) (child_value t b i choice k)

@@ -33,16 +33,6 @@ now_steps_to t b i (suc d) k = now_node_steps t b i (now_steps_to t b i d) k (t.
 abbrev pub now_steps_at : Tree → Behaviour → ℕ → ℕ → List Step
 now_steps_at t b i k = now_steps_to t b i t.size k
 
--- the steps of what comes after a node of set s, and its value
-abbrev pub now_steps_after : Tree → Behaviour → ℕ → ℕ → ℕ → List Step
-now_steps_after t b i k s =
-    chance_steps (t.actions s) (action_probability t b s) (λ a. value t b i (child t k a))
-    (λ a. now_steps_at t b i (child t k a))
-
-abbrev pub now_value_after : Tree → Behaviour → ℕ → ℕ → ℕ → ℚ
-now_value_after t b i k s =
-    sum_to (t.actions s) (λ a. action_probability t b s a *ℚ value t b i (child t k a))
-
 -- ---- weights
 -- whether a node's weight has a factor more than its parent's: no player i's own action leads there
 abbrev pub has_factor : Tree → ℕ → Option ℕ → Bool
@@ -75,14 +65,14 @@ abbrev pub after_steps : Tree → Behaviour → ℕ → (ℕ → ℕ) → (ℕ �
     → List Step
 after_steps t b i choice later k None = []
 after_steps t b i choice later k (Some s) =
-    if is_own t i s then sum_steps 1 (λ _. child_value t b i choice k (choice s)) (λ _. [])
+    if is_own t i s then unfit Add zero_ℚ (child_value t b i choice k (choice s)) ∷ []
     else sum_steps (t.actions s) (child_value t b i choice k) (λ a. later (child t k a))
 
 -- that sum
 abbrev pub after_sum : Tree → Behaviour → ℕ → (ℕ → ℕ) → ℕ → Option ℕ → ℚ
 after_sum t b i choice k None = zero_ℚ
 after_sum t b i choice k (Some s) =
-    if is_own t i s then sum_to 1 (λ _. child_value t b i choice k (choice s))
+    if is_own t i s then child_value t b i choice k (choice s)
     else sum_to (t.actions s) (child_value t b i choice k)
 
 -- a node's own two steps: what its outcome pays by its weight, and the addition of this to the sum
@@ -100,22 +90,6 @@ reply_steps_to t b i choice (suc d) k =
 -- the steps of node k's reply value
 abbrev pub reply_steps : Tree → Behaviour → ℕ → (ℕ → ℕ) → ℕ → List Step
 reply_steps t b i choice k = reply_steps_to t b i choice t.size k
-
--- the steps after a node, and the sum
-abbrev pub after_steps_at : Tree → Behaviour → ℕ → (ℕ → ℕ) → ℕ → List Step
-after_steps_at t b i choice k = after_steps t b i choice (reply_steps t b i choice) k (t.set k)
-
-abbrev pub after_sum_at : Tree → Behaviour → ℕ → (ℕ → ℕ) → ℕ → ℚ
-after_sum_at t b i choice k = after_sum t b i choice k (t.set k)
-
--- the steps of the sum of the reply values of all children of a node of set s, and the sum
-abbrev pub children_steps : Tree → Behaviour → ℕ → (ℕ → ℕ) → ℕ → ℕ → List Step
-children_steps t b i choice k s =
-    sum_steps (t.actions s) (child_value t b i choice k)
-    (λ a. reply_steps t b i choice (child t k a))
-
-abbrev pub children_sum : Tree → Behaviour → ℕ → (ℕ → ℕ) → ℕ → ℕ → ℚ
-children_sum t b i choice k s = sum_to (t.actions s) (child_value t b i choice k)
 
 -- ---- decisions
 -- the nodes of set s in order
@@ -142,8 +116,8 @@ decision_steps t b i choice s =
 abbrev pub decisions : Tree → Behaviour → ℕ → (ℕ → ℕ) → List Step
 decisions t b i choice = flat_map (decision_steps t b i choice) (reverse (own_sets t i))
 
--- ---- the steps of player i's best choices: the weights, the own sets from the last to the first, and
--- what the reply pays
+-- ---- the steps of player i's best choices: the weights, the own sets from the last to the first,
+-- and what the reply pays
 abbrev pub best_steps : Tree → Behaviour → ℕ → (ℕ → ℕ) → List Step
 best_steps t b i choice =
     weight_steps t b i ++ decisions t b i choice ++ reply_steps t b i choice 0

@@ -3,7 +3,7 @@
 use Rattle.std.specs.Prelude.{ℕ, ◌<◌, ◌≡◌, ◌↔◌, List, length, map, All}
 use Rattle.rational.specs.Rational.{ℚ, ◌≤ℚ◌}
 use Rattle.game_theory.specs.Trees.{Tree}
-use Rattle.game_theory.specs.Behaviour.{Behaviour, IsValid, IsChoice, payoff, reply}
+use Rattle.game_theory.specs.Behaviour.{Behaviour, IsValid, IsChoice, payoff as payoff_of, reply}
 use Rattle.game_theory.specs.TreeEquilibrium.{IsEquilibrium}
 use Rattle.game_theory.specs.OwnSets.{own_sets}
 use Rattle.game_theory.specs.Recall.{HasPerfectRecall}
@@ -35,17 +35,17 @@ AllPlayersFit t b =
 
 -- A player has a better reply, no earlier player has one, and the reply's actions pay the most that
 -- any pure reply pays, which is this.
-pub record ShowsBetterReply (t : Tree) (b : Behaviour) (player : ℕ) (now best : ℚ)
+pub record ShowsBetterReply (t : Tree) (b : Behaviour) (player : ℕ) (payoff best : ℚ)
     (actions : List ℕ) : Type 0 where
   pub has_better : HasBetterReply t b player
   pub earlier_have_none : (j : ℕ) → j < player → HasBetterReply t b j → ⊥
-  pub now_is : now ≡ payoff t b player
+  pub payoff_is : payoff ≡ payoff_of t b player
   pub choice : ℕ → ℕ
   pub is_choice : IsChoice t player choice
   pub actions_are : actions ≡ map choice (own_sets t player)
-  pub pays_best : payoff t (reply t b player choice) player ≡ best
+  pub pays_best : payoff_of t (reply t b player choice) player ≡ best
   pub none_pays_more : (other : ℕ → ℕ) → IsChoice t player other
-      → payoff t (reply t b player other) player ≤ℚ best
+      → payoff_of t (reply t b player other) player ≤ℚ best
 
 -- A verdict of equilibrium on valid behaviour is right, and so is a better reply; where all steps
 -- fit, the verdict of equilibrium comes exactly at equilibria.
@@ -54,10 +54,10 @@ pub record TreeVerdictsFindEquilibria : Type 0 where
       → AllRecall tree → IsValid (game_of_tree tree) b
       → IsTreeVerdict (game_of_tree tree) b Equilibrium actions
       → IsEquilibrium (game_of_tree tree) b
-  pub better : (tree : GameTree) (b : Behaviour) (player : ℕ) (now best : ℚ)
+  pub better : (tree : GameTree) (b : Behaviour) (player : ℕ) (payoff best : ℚ)
       (actions : List ℕ) → IsGameTree tree → AllRecall tree
-      → IsTreeVerdict (game_of_tree tree) b (Better player now best) actions
-      → ShowsBetterReply (game_of_tree tree) b player now best actions
+      → IsTreeVerdict (game_of_tree tree) b (Better player payoff best) actions
+      → ShowsBetterReply (game_of_tree tree) b player payoff best actions
   pub exactly : (tree : GameTree) (b : Behaviour) (verdict : TreeVerdict)
       (actions : List ℕ) → IsGameTree tree → AllRecall tree → IsValid (game_of_tree tree) b
       → AllPlayersFit (game_of_tree tree) b → IsTreeVerdict (game_of_tree tree) b verdict actions

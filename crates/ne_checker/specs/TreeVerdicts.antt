@@ -3,7 +3,7 @@
 use Rattle.std.specs.Prelude.{ℕ, ◌<◌, ◌≡◌, List, [], map, All}
 use Rattle.rational.specs.Rational.{ℚ, ◌≤ℚ◌, ◌<ℚ◌}
 use Rattle.game_theory.specs.Trees.{Tree}
-use Rattle.game_theory.specs.Behaviour.{Behaviour, payoff}
+use Rattle.game_theory.specs.Behaviour.{Behaviour, payoff as payoff_of}
 use Rattle.game_theory.specs.OwnSets.{own_sets}
 use Rattle.game_theory.specs.TreeEntries.{tree_entries}
 use Rattle.game_core.specs.Tree.{GameTree}
@@ -19,19 +19,19 @@ pub record HasNoBetter (t : Tree) (b : Behaviour) (i : ℕ) : Type 0 where
   pub choice : ℕ → ℕ
   pub is_best : AreBestChoices t b i choice
   pub fit : All StepFits (player_steps t b i choice)
-  pub no_more : reply_value t b i choice 0 ≤ℚ payoff t b i
+  pub no_more : reply_value t b i choice 0 ≤ℚ payoff_of t b i
 
 -- a player's best choices pay more, and no earlier player's do
-pub record IsBetter (t : Tree) (b : Behaviour) (player : ℕ) (now best : ℚ)
+pub record IsBetter (t : Tree) (b : Behaviour) (player : ℕ) (payoff best : ℚ)
     (reply : List ℕ) : Type 0 where
   pub within : player < t.players
   pub earlier : (j : ℕ) → j < player → HasNoBetter t b j
   pub choice : ℕ → ℕ
   pub is_best : AreBestChoices t b player choice
   pub fit : All StepFits (player_steps t b player choice)
-  pub now_is : now ≡ payoff t b player
+  pub payoff_is : payoff ≡ payoff_of t b player
   pub best_is : best ≡ reply_value t b player choice 0
-  pub more : now <ℚ best
+  pub more : payoff <ℚ best
   pub reply_is : reply ≡ map choice (own_sets t player)
 
 -- a step does not fit, and no earlier one of this or an earlier player
@@ -46,7 +46,7 @@ pub record IsOutOfRange (t : Tree) (b : Behaviour) (step : Step) : Type 0 where
 -- a verdict on behaviour, and the reply that comes with it
 abbrev pub IsTreeVerdict : Tree → Behaviour → TreeVerdict → List ℕ → Type 0
 IsTreeVerdict t b Equilibrium reply = ((i : ℕ) → i < t.players → HasNoBetter t b i) × (reply ≡ [])
-IsTreeVerdict t b (Better player now best) reply = IsBetter t b player now best reply
+IsTreeVerdict t b (Better player payoff best) reply = IsBetter t b player payoff best reply
 IsTreeVerdict t b (Range step) reply = IsOutOfRange t b step × (reply ≡ [])
 
 -- these are the entries of some behaviour

@@ -3,15 +3,16 @@
 //!
 //! Callers may rely on: `check_table` and `check_tree` give the one verdict, or the first step that
 //! does not fit; by law it says where equilibria are (of trees, where all recall).
-//! `check_table_lines` and `check_tree_lines` give the verdicts of all lines, or the first line that
-//! is refused, or that the text is too long; by the laws `table_checks_tell_equilibria` and
+//! `check_table_lines` and `check_tree_lines` give the verdicts of all lines, or the first line
+//! that is refused, or that the text is too long; by the laws `table_checks_tell_equilibria` and
 //! `tree_checks_tell_equilibria` (of trees, where all recall) each text is right by the definition
 //! of equilibrium.
 //! Definitions: `specs::TableChecks` and `specs::TreeVerdicts` have the verdicts, `TreeSteps` the
-//! steps on a tree, `TreeScratches` the reply that is left in the room for a check; `LineChecks` the
-//! verdicts of lines (`table_check`, `tree_check`), `Lines` the lines of a text, `Texts` the texts
-//! of verdicts, `CheckLaws` what these say of equilibria.
-//! Private words: `specs::TreeBoards`, `TreeSides`, `TreeStarts` and `TreeWeights`.
+//! steps on a tree, `TreeScratches` the reply that is left in the room for a check, `TreeStarts`
+//! where the entries of a player's sets begin (`AreStarts`); `LineChecks` the verdicts of lines
+//! (`table_check`, `tree_check`), `Lines` the texts of all lines, one after another, `Texts` the
+//! texts of verdicts, `CheckLaws` what these say of equilibria.
+//! Private words: `specs::TreeBoards`, `TreeSides` and `TreeWeights`.
 //! Lemmas for callers: `proofs::TableSingleLemmas`, that there is one verdict.
 //! A change here touches: the text of `check`, byte for byte, and its refusals.
 #![tactic(auto)]

@@ -36,6 +36,7 @@ pub enum TableVerdict {
     Equilibrium,
     /// The first player who has one.
     Better {
+        /// The player.
         player: u32,
         /// What the profile pays the player.
         payoff: Frac,
@@ -46,6 +47,7 @@ pub enum TableVerdict {
     },
     /// The first step that does not fit.
     Range {
+        /// The step.
         unfit: Unfit,
     },
 }
@@ -240,8 +242,7 @@ fn better_reply(table: &Table, mixed: &Mixed, player: usize) -> Result<Option<Be
 }
 
 /// Whether a mixed profile of a table is an equilibrium: player by player, what each strategy is
-/// worth against the others is compared with what the profile pays. Takes no memory. Each player
-/// takes time in proportion to the profiles times the players.
+/// worth against the others is compared with what the profile pays. Takes no memory.
 pub fn check_table(table: &Table, mixed: &Mixed) -> TableVerdict
     requires { length mixed.now ≡ sum (strategy_counts table.now) }
     ensures { table_verdict table.now mixed.now result }

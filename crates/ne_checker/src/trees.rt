@@ -16,7 +16,7 @@ use game_core::{Tree, sets_are_numbered_by_first_nodes, trees_are_game_trees};
 use perfect_recall::Recall;
 
 /// What a check of a behaviour on a tree finds. Players are numbered from 0.
-#[derive(Clone, Copy, Debug)]
+#[derive(Clone, Copy, Debug, PartialEq, Eq)]
 pub enum TreeVerdict {
     /// No player has a reply that pays more.
     Equilibrium,
@@ -38,7 +38,7 @@ pub enum TreeVerdict {
 
 /// Whether a behaviour is an equilibrium of a tree in which all players recall, and where it is
 /// none the first player with a better reply, and the best reply, which `scratch` has then. Takes no
-/// memory. Time in proportion to players times nodes.
+/// memory.
 pub fn check_tree(
     tree: &Tree,
     recall: &Recall,

@@ -25,17 +25,11 @@ impl<'a> Board<'a> {
     ghost use Rattle.std.specs.Prelude.{◌≡◌, ◌<◌, length, All, MatchResult, Some};
     ghost use Rattle.rational.specs.Rational.{◌+ℚ◌, ◌*ℚ◌};
     ghost use Rattle.game_theory.specs.Behaviour.{Behaviour, action_probability, value};
-    ghost use Rattle.pure_payoffs.specs.Plays.{branch_steps};
+    ghost use Rattle.pure_payoffs.specs.Steps.{branch_steps};
     ghost use Rattle.frac128.specs.Steps.{StepFits, IsFirstUnfit, StepsGive};
     ghost use Rattle.best_replies.specs.Reaching.{weight};
-    ghost use Rattle.ne_checker.specs.TreeBoards.{IsOnBoard, Reads, game_of};
-    ghost use Rattle.ne_checker.specs.TreeSteps.{
-      now_steps_at,
-      now_steps_after,
-      now_value_after,
-      weight_step,
-      weight_steps,
-    };
+    ghost use Rattle.ne_checker.specs.TreeBoards.{IsOnBoard, Reads, game_of, now_steps_after, now_value_after};
+    ghost use Rattle.ne_checker.specs.TreeSteps.{now_steps_at, weight_step, weight_steps};
     ghost use Rattle.ne_checker.specs.TreeWeights.{AreWeights};
 
     /// The probability of an action at a set.

@@ -52,14 +52,14 @@ impl<'a> Side<'a> {
       AreDecided,
       IsOnSide,
       OwnSetsFrom,
-      game_at,
-    };
-    ghost use Rattle.ne_checker.specs.TreeSteps.{
-      action_steps,
       after_steps_at,
       after_sum_at,
       children_steps,
       children_sum,
+      game_at,
+    };
+    ghost use Rattle.ne_checker.specs.TreeSteps.{
+      action_steps,
       decision_steps,
       decisions,
       reply_steps,

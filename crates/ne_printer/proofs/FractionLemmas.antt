@@ -32,9 +32,9 @@ pub record IsOver (top bottom : List ℕ) (q : ℚ) : Type 0 where
 
 -- of a text that is cut at its first `/`
 pub cut_fraction : (text top bottom : List ℕ) (q : ℚ) → All (λ b. b ≢ 47) top → text ≡ top ++ 47 ∷ bottom → IsFraction text q → IsOver top bottom q
-cut_fraction text top bottom q h e (inl f) = absurd (no_cut text top bottom (no_slash text f.1.numeral.digits) e)
+cut_fraction text top bottom q h e (inl f) = absurd (no_cut text top bottom (no_slash text f.1.numeral.is_numeral.1) e)
 cut_fraction text top bottom q h e (inr f) =
-    let same = one_cut f.top f.bottom top bottom (no_slash f.top f.top_is.numeral.digits) h (sym f.text_is ∙ e) in
+    let same = one_cut f.top f.bottom top bottom (no_slash f.top f.top_is.numeral.is_numeral.1) h (sym f.text_is ∙ e) in
     record {
       num = f.num;
       den = f.den;
@@ -47,10 +47,10 @@ cut_fraction text top bottom q h e (inr f) =
 -- a text is one fraction only
 pub one_fraction : (text : List ℕ) (q r : ℚ) → IsFraction text q → IsFraction text r → q ≡ r
 one_fraction text q r (inl f) g =
-    let other = uncut_fraction text r (no_slash text f.1.numeral.digits) g in
+    let other = uncut_fraction text r (no_slash text f.1.numeral.is_numeral.1) g in
     f.2 ∙ ap (λ n. whole (pos n)) (one_number text f.0 other.0 f.1 other.1) ∙ sym other.2
 one_fraction text q r (inr f) g =
-    let other = cut_fraction text f.top f.bottom r (no_slash f.top f.top_is.numeral.digits) f.text_is g in
+    let other = cut_fraction text f.top f.bottom r (no_slash f.top f.top_is.numeral.is_numeral.1) f.text_is g in
     let nums = one_number f.top f.num other.num f.top_is other.top_is in
     let dens = one_number f.bottom f.den other.den f.bottom_is other.bottom_is in
     f.value ∙ ap₂ (λ n d. frac (pos n) d) nums dens ∙ sym other.value

@@ -11,13 +11,13 @@ use Rattle.answers.specs.Answers.{Gives, IsSingle}
 use Rattle.ne_printer.specs.ReadLines.{IsWholeNumber, IsFraction, AreEntries, IsLine, entries_in, line_in}
 use Rattle.ne_printer.specs.declared.reading.LineStop.{LineStop}
 use Rattle.ne_printer.specs.declared.reading.LineStop.TheVariants as stops
-use Rattle.ne_printer.proofs.NumeralLemmas.{all_same, numeral_digits}
+use Rattle.ne_printer.proofs.NumeralLemmas.{numeral_digits}
 use Rattle.ne_printer.proofs.FractionLemmas.{one_fraction}
 
 -- a number has no comma
 number_no_comma : (text : List ℕ) (n : ℕ) → IsWholeNumber text n → All (λ b. (b == 44) ≡ false) text
 number_no_comma text n h =
-    All-weaker IsAsciiDigit (λ b. (b == 44) ≡ false) (λ b digit. ne_eqb b 44 (λ same. omega arith)) text (numeral_digits text (all_same text ∙ h.numeral.digits))
+    All-weaker IsAsciiDigit (λ b. (b == 44) ≡ false) (λ b digit. ne_eqb b 44 (λ same. omega arith)) text (numeral_digits text h.numeral.is_numeral.1)
 
 -- a fraction has none
 no_comma : (text : List ℕ) (q : ℚ) → IsFraction text q → All (λ b. (b == 44) ≡ false) text
@@ -28,7 +28,7 @@ no_comma text q (inr f) =
 
 -- nor is it empty
 fraction_some : (text : List ℕ) (q : ℚ) → IsFraction text q → 0 < length text
-fraction_some text q (inl f) = omega (arith, f.1.numeral.some)
+fraction_some text q (inl f) = omega (arith, f.1.numeral.is_numeral.0)
 fraction_some text q (inr f) = omega (arith, ap length f.text_is, length-append f.top (47 ∷ f.bottom))
 
 -- fractions with commas between them, cut at the commas

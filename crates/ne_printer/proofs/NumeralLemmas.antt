@@ -1,23 +1,28 @@
 -- Digits of a numeral.
-use Rattle.std.proofs.Common.{◌++◌, ◌≢◌, ◌∙◌, suc, ap, ap₂, arith, ℕ, ◌&&◌, ◌≡◌, true, List, [], ◌∷◌, All, refl}
+use Rattle.std.proofs.Common.{◌++◌, ◌≢◌, suc, ap₂, arith, rules, ℕ, ◌≡◌, List, [], ◌∷◌, All, refl}
+use Rattle.std.specs.Bool.{Decides}
 use Rattle.std.specs.Char.{IsAsciiDigit, is_ascii_digit}
-use Rattle.std.specs.List.{list_all}
-use Rattle.std.specs.Str.{all_ascii_digits}
+use Rattle.std.specs.List.{AllByRecursion, list_all}
+use Rattle.std.specs.Str.Parse.{AllDigits, digits_value}
 use Rattle.std.proofs.lemmas.List.Elements.{All-from_recursion}
-use Rattle.game_text.proofs.DigitLemmas.{passes_digits}
+use Rattle.std.proofs.lemmas.Str.Parse.{IsNumeralModel, numerals_by_value}
+use Rattle.game_text.proofs.DigitLemmas.{passes_digits, digits_pass}
 
--- whether all are digits, in both words
-pub all_same : (text : List ℕ) → list_all is_ascii_digit text ≡ all_ascii_digits text
-all_same [] = refl
-all_same (b ∷ text) = ap (λ v. is_ascii_digit b && v) (all_same text)
+-- digits are those of the standard library
+numerals : IsNumeralModel (AllByRecursion IsAsciiDigit) (digits_value 10)
+numerals = numerals_by_value (AllByRecursion IsAsciiDigit) (search rules)
+
+-- whether all are digits
+pub digits_tested : (text : List ℕ) → Decides (list_all is_ascii_digit text) (AllDigits 10 text)
+digits_tested text = (λ e. numerals.to text (passes_digits text e), λ h. digits_pass text (numerals.from text h))
 
 -- the digits of a numeral
-pub numeral_digits : (text : List ℕ) → list_all is_ascii_digit text ≡ true → All IsAsciiDigit text
-numeral_digits text e = All-from_recursion IsAsciiDigit text (passes_digits text e)
+pub numeral_digits : (text : List ℕ) → AllDigits 10 text → All IsAsciiDigit text
+numeral_digits text h = All-from_recursion IsAsciiDigit text (numerals.from text h)
 
 -- no digit is a `/`
-pub no_slash : (text : List ℕ) → all_ascii_digits text ≡ true → All (λ b. b ≢ 47) text
-no_slash text e k d l same = let digit = numeral_digits text (all_same text ∙ e) k d l in omega arith
+pub no_slash : (text : List ℕ) → AllDigits 10 text → All (λ b. b ≢ 47) text
+no_slash text all k d l same = let digit = numeral_digits text all k d l in omega arith
 
 -- a text is cut in one way at the first `/`
 pub one_cut : (a b c d : List ℕ) → All (λ x. x ≢ 47) a → All (λ x. x ≢ 47) c → a ++ (47 ∷ b) ≡ c ++ (47 ∷ d) → (a ≡ c) × (b ≡ d)

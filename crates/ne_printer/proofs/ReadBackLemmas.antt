@@ -1,39 +1,25 @@
 -- The text of a fraction is that fraction.
 use Rattle.std.proofs.Common.{ℕ, ℤ, pos, negsuc, nat_abs, ◌≤ℤ◌, refl, sym, ap, subst, ◌∙◌, ◌^◌, ◌≡◌, ◌==◌, ◌<◌, if◌then◌else◌, codes, List, [], ◌∷◌, ◌++◌, map, All, inl, inr, ⊎_elim, arith, ne_eqb, append_assoc}
-use Rattle.std.specs.Char.{IsAsciiDigit}
 use Rattle.std.specs.Fmt.{decimal, signed_decimal}
-use Rattle.std.specs.List.{AllByRecursion, AllZip, join_with_byte}
-use Rattle.std.specs.Str.Parse.{AllDigits}
+use Rattle.std.specs.List.{AllZip, join_with_byte}
 use Rattle.std.proofs.lemmas.Bool.{cases_lt}
 use Rattle.std.proofs.lemmas.Fmt.{decimal_is_IsNumeral_wide, length-decimal-le_wide}
 use Rattle.std.proofs.lemmas.Int.{ints}
 use Rattle.std.proofs.lemmas.List.{append-nil, append_cancel_right}
 use Rattle.std.proofs.lemmas.List.Elements.{All-head, All-tail}
-use Rattle.std.proofs.lemmas.Str.Parse.{digit_from_value}
 use Rattle.rational.specs.Rational.{ℚ, frac, whole}
 use Rattle.rational.proofs.DenominatorLemmas.{den_pos}
 use Rattle.rational.proofs.FractionLemmas.{frac_self}
 use Rattle.rational.proofs.PartLemmas.{whole-own_num}
-use Rattle.game_text.proofs.DigitLemmas.{digits_pass}
 use Rattle.game_theory.specs.Lines.{number_text, line_text}
 use Rattle.ne_printer.specs.ReadLines.{IsWholeNumber, IsFraction, IsEntry, IsLine}
-use Rattle.ne_printer.proofs.NumeralLemmas.{all_same}
-
--- digits, one by one
-each_digit : (text : List ℕ) → AllDigits 10 text → AllByRecursion IsAsciiDigit text
-each_digit [] h = tt
-each_digit (b ∷ text) h = (digit_from_value b h.0, each_digit text h.1)
 
 -- the decimal of a number is that number
 decimal_number : (n : ℕ) → n < 2 ^ 127 → IsWholeNumber (decimal n) n
 decimal_number n few =
     let digits = decimal_is_IsNumeral_wide n (omega arith) in
     record {
-      numeral = record {
-        digits = sym (all_same (decimal n)) ∙ digits_pass (decimal n) (each_digit (decimal n) digits.0.1);
-        some = omega (arith, digits.0.0);
-        short = length-decimal-le_wide 39 n (omega arith) (omega arith) (omega arith);
-      };
+      numeral = record { is_numeral = digits.0; short = length-decimal-le_wide 39 n (omega arith) (omega arith) (omega arith) };
       value = sym digits.1;
       few = omega arith;
     }

@@ -1,8 +1,7 @@
 -- Lines that are read back: a line feed is no part of them.
-use Rattle.std.specs.Prelude.{ℕ, ◌-◌, ◌≤◌, ◌≤ℤ◌, ◌^◌, ◌≡◌, ◌≢◌, ◌⊎◌, ◌==◌, true, pos, List, [], ◌∷◌, ◌++◌, length, codes, Ok, Err}
+use Rattle.std.specs.Prelude.{ℕ, ◌-◌, ◌≤◌, ◌≤ℤ◌, ◌^◌, ◌≡◌, ◌≢◌, ◌⊎◌, ◌==◌, pos, List, [], ◌∷◌, ◌++◌, length, codes, Ok, Err}
 use Rattle.std.specs.List.{All, AllZip, join_with_byte, slice_split}
-use Rattle.std.specs.Str.{all_ascii_digits}
-use Rattle.std.specs.Str.Parse.{digits_value}
+use Rattle.std.specs.Str.Parse.{IsNumeral, digits_value}
 use Rattle.answers.specs.Answers.{Answer, IsSingle}
 use Rattle.rational.specs.Rational.{ℚ, frac, whole}
 use Rattle.game_theory.specs.Lines.{line_text}
@@ -11,14 +10,13 @@ use Rattle.ne_printer.specs.declared.reading.LineStop.{LineStop}
 use Rattle.ne_printer.specs.declared.reading.LineStop.TheVariants as stops
 
 -- 1 to 39 digits
-pub record IsNumeral (text : List ℕ) : Type 0 where
-  pub digits : all_ascii_digits text ≡ true
-  pub some : 1 ≤ length text
+pub record IsShortNumeral (text : List ℕ) : Type 0 where
+  pub is_numeral : IsNumeral 10 text
   pub short : length text ≤ 39
 
 -- a number: 1 to 39 digits, and not above 2^127 - 1
 pub record IsWholeNumber (text : List ℕ) (n : ℕ) : Type 0 where
-  pub numeral : IsNumeral text
+  pub numeral : IsShortNumeral text
   pub value : n ≡ digits_value 10 text
   pub few : n ≤ 2 ^ 127 - 1
 

@@ -1,8 +1,8 @@
 //! The text of equilibria: lines and fractions, and lines read back.
 //!
-//! Callers may rely on: `line`, `push_line`, `push_numbers` and `fraction` write the defined bytes;
-//! `first_line` cuts a text after its first line; `read_line` gives a line's entries, or `Bad`;
-//! `lines_read_back`.
+//! Callers may rely on: `line`, `push_line`, `push_numbers`, `fraction` and `push_fraction` write the
+//! defined bytes; `first_line` cuts a text after its first line; `read_line` gives a line's entries,
+//! or `Bad`; `lines_read_back`.
 //! Definitions: `game_theory` has the text of a line; `specs::Entries` that of numbers after a
 //! name, `specs::TextLines` the lines of a text (`lines_of`), `specs::ReadLines` what a line reads as
 //! (`line_in`).
@@ -39,6 +39,21 @@ pub fn fraction(alloc: Global, value: Frac) -> Result<Vec<u8>, Memory>
     ensures { IfOk result (λ text. text.items ≡ number_text value) }
 {
     Ok(fraction_text(alloc, value)?.into_bytes())
+}
+
+/// Adds the text of a fraction to a text, which stays as it was where memory runs out. A whole number from 0 to 9,
+/// as most are, takes no memory besides.
+pub fn push_fraction(alloc: Global, text: &mut Vec<u8>, value: Frac) -> Result<(), Memory>
+    ensures fraction { OnOk result (text.new.items ≡ text.old.items ++ number_text value) }
+    ensures memory { OnErr result (text.new.items ≡ text.old.items) }
+{
+    if let Some(digit) = one_digit(value) {
+        text.push(digit)?;
+    } else {
+        let written = fraction_text(alloc, value)?;
+        text.extend_from_slice(written.as_bytes())?;
+    }
+    Ok(())
 }
 
 /// Adds a line to a text: a name, each number after a comma, and a line feed.
@@ -118,14 +133,8 @@ fn push_entry(alloc: Global, text: &mut Vec<u8>, entry: Frac) -> Result<(), Memo
     ensures entry { OnOk result (text.new.items ≡ text.old.items ++ entry_text entry) }
     ensures kept { BeginsWith text.old.items text.new.items }
 {
-    if let Some(digit) = one_digit(entry) {
-        text.extend_from_slice(&[b',', digit])?;
-    } else {
-        let written = fraction_text(alloc, entry)?;
-        text.push(b',')?;
-        text.extend_from_slice(written.as_bytes())?;
-    }
-    Ok(())
+    text.push(b',')?;
+    push_fraction(alloc, text, entry)
 }
 
 // The text of a whole number from 0 to 9, which most entries are, without formatting.

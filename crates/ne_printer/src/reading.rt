@@ -5,7 +5,7 @@ ghost use Rattle.std.specs.List.{All, list_all};
 ghost use Rattle.std.specs.Str.Parse.{digits_value};
 ghost use Rattle.answers.specs.Answers.{Gives, map_ok};
 ghost use Rattle.rational.specs.Rational.{ℚ, frac};
-ghost use Rattle.ne_printer.specs.ReadLines.{IsNumeral, IsWholeNumber, IsFraction, entries_in, line_in, LinesAreSingle, LinesReadBack};
+ghost use Rattle.ne_printer.specs.ReadLines.{IsShortNumeral, IsWholeNumber, IsFraction, entries_in, line_in, LinesAreSingle, LinesReadBack};
 ghost use Rattle.ne_printer.specs.TextLines.{IsFirstLine, lines_of};
 ghost use Rattle.ne_printer.specs.declared.reading.LineStop.TheVariants as stops;
 
@@ -51,7 +51,7 @@ fn with_digit(number: u128, digit: u8) -> Option<u128>
 
 // The number that digits stand for, where it is not above the greatest.
 fn value(digits: &[u8]) -> Option<u128>
-    requires { IsNumeral digits.now }
+    requires { IsShortNumeral digits.now }
     ensures { MatchOption result (2 ^ 127 - 1 < digits_value 10 digits.now)
         (λ n. (n ≡ digits_value 10 digits.now) × (n ≤ 2 ^ 127 - 1)) }
 {
@@ -70,9 +70,9 @@ fn are_digits(text: &[u8]) -> bool
 }
 
 // Whether a text is 1 to 39 digits.
-#[tactic(auto, using(crate::proofs::NumeralLemmas::all_same))]
+#[tactic(auto, using(crate::proofs::NumeralLemmas::digits_tested))]
 fn is_numeral(text: &[u8]) -> bool
-    ensures { IsTrue result ↔ IsNumeral text.now }
+    ensures { IsTrue result ↔ IsShortNumeral text.now }
 {
     !text.is_empty() && text.len() <= 39 && are_digits(text)
 }

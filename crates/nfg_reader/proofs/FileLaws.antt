@@ -82,7 +82,7 @@ not_too_many tokens table f few h =
     let le : length q.0.0.players * profiles q.0.0 ≤ most_payoffs = subst (λ (x : FrontPart × List Token). length x.0.players * profiles x.0 ≤ most_payoffs) same few in
     absurd (omega (arith, le, q.2))
 
--- ---- refusals
+-- ---- stops
 -- no table, and not too many payoffs
 abbrev pub IsNoTable : List Token → Type 0
 IsNoTable tokens = ((table : GameTable) → IsTableFile tokens table → ⊥) × ¬ (HasTooManyPayoffs tokens)

@@ -5,10 +5,10 @@ use Rattle.std.specs.List.{flat_map}
 use Rattle.rational.specs.Rational.{ℚ}
 use Rattle.game_core.specs.declared.token.Spanned.{Spanned}
 use Rattle.game_core.specs.declared.token.Token.{Token}
-use Rattle.file_parts.specs.declared.refusal.Refusal.{Refusal}
-use Rattle.file_parts.specs.declared.refusal.Refusal.TheVariants as refusals
+use Rattle.file_parts.specs.declared.stop.PartStop.{PartStop}
+use Rattle.file_parts.specs.declared.stop.PartStop.TheVariants as part_stops
 use Rattle.file_parts.specs.Reading.{kinds, left_at, right_at, text_at, opens}
-use Rattle.file_parts.specs.Parsing.{Parsed, ◌>>=◌, parse_each, parse_payoffs, IsRefusal}
+use Rattle.file_parts.specs.Parsing.{Parsed, ◌>>=◌, parse_each, parse_payoffs, IsPartStop}
 use Rattle.file_parts.proofs.TokenLaws.{left_is, right_is, text_is}
 use Rattle.file_parts.proofs.NumberLaws.{payoffs_are}
 use Rattle.file_parts.proofs.ParseLemmas.{following, following-cons}
@@ -35,17 +35,17 @@ outcomes_go_on players m n front tokens one after total o lt less h so_far =
     sym next ∙ so_far
 
 -- a fault comes next
-outcomes_fault : (players m : ℕ) (front : List (List ℚ)) (tokens : List Token) (refusal : Refusal NfgKind) (total : Parsed NfgKind (List (List ℚ))) → opens tokens ≡ true → 0 < m → (o : Parsed NfgKind (List ℚ)) → parse_outcome players tokens ≡ o → IsRefusal refusal o → following front (parse_outcomes players m tokens) ≡ total → IsRefusal refusal total
-outcomes_fault players m front tokens refusals.Memory total o lt r e h so_far = tt
-outcomes_fault players m front tokens (refusals.Unexpected kind left) total o lt (Ok x) e h so_far = cc
-outcomes_fault players m front tokens (refusals.Unexpected kind left) total o lt (Err fault) e h so_far =
+outcomes_fault : (players m : ℕ) (front : List (List ℚ)) (tokens : List Token) (stopped : PartStop NfgKind) (total : Parsed NfgKind (List (List ℚ))) → opens tokens ≡ true → 0 < m → (o : Parsed NfgKind (List ℚ)) → parse_outcome players tokens ≡ o → IsPartStop stopped o → following front (parse_outcomes players m tokens) ≡ total → IsPartStop stopped total
+outcomes_fault players m front tokens part_stops.Memory total o lt r e h so_far = tt
+outcomes_fault players m front tokens (part_stops.Unexpected kind left) total o lt (Ok x) e h so_far = cc
+outcomes_fault players m front tokens (part_stops.Unexpected kind left) total o lt (Err fault) e h so_far =
     let next : following front (parse_outcomes players m tokens) ≡ Err fault = rw (one_outcome players m tokens lt o, e) refl in
     let all : total ≡ Err fault = sym so_far ∙ next in
     rw all (ap (λ (f : NfgKind × ℕ). Err f) (err_same (fault.0, length fault.1) (kind, left) h))
 
--- the same by the outcome's own refusal
-pub outcomes_end : (players m : ℕ) (front : List (List ℚ)) (tokens : List Token) (refusal : Refusal NfgKind) (total : Parsed NfgKind (List (List ℚ))) → opens tokens ≡ true → 0 < m → IsRefusal refusal (parse_outcome players tokens) → following front (parse_outcomes players m tokens) ≡ total → IsRefusal refusal total
-outcomes_end players m front tokens refusal total o lt h so_far = outcomes_fault players m front tokens refusal total o lt (parse_outcome players tokens) refl h so_far
+-- the same by the outcome's own stop
+pub outcomes_end : (players m : ℕ) (front : List (List ℚ)) (tokens : List Token) (stopped : PartStop NfgKind) (total : Parsed NfgKind (List (List ℚ))) → opens tokens ≡ true → 0 < m → IsPartStop stopped (parse_outcome players tokens) → following front (parse_outcomes players m tokens) ≡ total → IsPartStop stopped total
+outcomes_end players m front tokens stopped total o lt h so_far = outcomes_fault players m front tokens stopped total o lt (parse_outcome players tokens) refl h so_far
 
 -- nothing opens
 pub no_outcome : (players m : ℕ) (tokens : List Token) → opens tokens ≡ false → outcomes_at players m tokens ≡ Some ([], tokens)
@@ -71,9 +71,9 @@ unfolding parse_number
 any_index outcomes i tokens x e = e
 
 -- and refused
-pub any_refusal : (outcomes i : ℕ) (tokens : List Token) (refusal : Refusal NfgKind) → IsRefusal refusal (parse_number outcomes 0 tokens) → IsRefusal refusal (parse_number outcomes i tokens)
+pub any_stop : (outcomes i : ℕ) (tokens : List Token) (stopped : PartStop NfgKind) → IsPartStop stopped (parse_number outcomes 0 tokens) → IsPartStop stopped (parse_number outcomes i tokens)
 unfolding parse_number
-any_refusal outcomes i tokens refusal r = r
+any_stop outcomes i tokens stopped r = r
 
 -- an element, seen by f
 nth_of : {V : Type 0} (outcomes : List V) (one : V) (n : ℕ) (f : V → List ℚ) → n < length outcomes → one ≡ get_or outcomes n one → f one ≡ get_or (map f outcomes) n []

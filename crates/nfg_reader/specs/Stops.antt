@@ -6,8 +6,8 @@ use Rattle.game_core.specs.Table.{GameTable, IsTable, most_payoffs}
 use Rattle.game_core.specs.declared.too_large.What.TheVariants.{Payoffs}
 use Rattle.game_core.specs.TokenList.{TokenList, bare}
 use Rattle.file_parts.specs.Reading.{offset_of}
-use Rattle.file_parts.specs.declared.refusal.Refusal.{Refusal}
-use Rattle.file_parts.specs.declared.refusal.Refusal.TheVariants as refusals
+use Rattle.file_parts.specs.declared.stop.PartStop.{PartStop}
+use Rattle.file_parts.specs.declared.stop.PartStop.TheVariants as part_stops
 use Rattle.nfg_reader.specs.TableFile.{IsTableFile, HasTooManyPayoffs}
 use Rattle.nfg_reader.specs.Faults.{IsFault}
 use Rattle.nfg_reader.specs.declared.reading.NfgKind.{NfgKind}
@@ -23,7 +23,7 @@ table_in tokens (Err (stops.TooLarge limit)) =
     HasTooManyPayoffs (bare tokens) × (limit ≡ first_above Payoffs most_payoffs)
 table_in tokens (Err stops.Memory) = ⊥
 
--- the stop that a refusal of a part becomes
-abbrev pub IsNfgStop : Refusal NfgKind → TokenList → NfgStop → Type 0
-IsNfgStop (refusals.Unexpected kind left) tokens stop = stop ≡ stops.Fault (record { at = offset_of tokens left; kind = kind })
-IsNfgStop refusals.Memory tokens stop = stop ≡ stops.Memory
+-- the stop that a part's becomes
+abbrev pub IsNfgStop : PartStop NfgKind → TokenList → NfgStop → Type 0
+IsNfgStop (part_stops.Unexpected kind left) tokens stop = stop ≡ stops.Fault (record { at = offset_of tokens left; kind = kind })
+IsNfgStop part_stops.Memory tokens stop = stop ≡ stops.Memory

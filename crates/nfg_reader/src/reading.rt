@@ -14,7 +14,7 @@ ghost use Rattle.nfg_reader.specs.declared.reading.NfgStop.TheVariants.{Memory};
 use crate::front::{Front, read_front};
 use crate::outcomes::last_payoffs;
 use crate::strategies::{profile_count, strategy_names};
-use file_parts::{Refusal, offset};
+use file_parts::{PartStop, offset};
 use frac128::Frac;
 use game_core::{MOST_PAYOFFS, Table, Tokens, TooLarge, What};
 use std::alloc::{AllocError, Global};
@@ -68,16 +68,16 @@ impl From<AllocError> for NfgStop {
     }
 }
 
-// The stop for a refusal.
-fn stop(refusal: Refusal<NfgKind>, tokens: &Tokens) -> NfgStop
-    ensures { IsNfgStop refusal tokens.now result }
+// The stop that a part's becomes.
+fn stop(stopped: PartStop<NfgKind>, tokens: &Tokens) -> NfgStop
+    ensures { IsNfgStop stopped tokens.now result }
 {
-    match refusal {
-        Refusal::Unexpected(kind, left) => NfgStop::Fault(NfgFault {
+    match stopped {
+        PartStop::Unexpected(kind, left) => NfgStop::Fault(NfgFault {
             at: offset(tokens, left),
             kind,
         }),
-        Refusal::Memory => NfgStop::Memory,
+        PartStop::Memory => NfgStop::Memory,
     }
 }
 
@@ -96,12 +96,19 @@ fn table(alloc: Global, front: Front, payoffs: Vec<Frac>) -> Result<Table, Alloc
 }
 
 /// Reads the table that the tokens stand for.
+///
+/// # Errors
+///
+/// `Fault` exactly where the tokens are no file of a table and their strategies do not ask for more than 1,048,576
+/// payoffs: its kind, and the offset of the first token with which no file can begin any more, or the source's length
+/// where the tokens end too early. `TooLarge` exactly where the strategies do ask for more. `Memory` where memory ran
+/// out.
 pub fn read(alloc: Global, tokens: &Tokens) -> Result<Table, NfgStop>
     ensures { Gives Memory (table_in tokens.now) result }
 {
     let (front, rest) = match read_front(alloc, tokens.list()) {
         Ok(read) => read,
-        Err(refusal) => return Err(stop(refusal, tokens)),
+        Err(stopped) => return Err(stop(stopped, tokens)),
     };
     let players = front.players.len();
     let Some(profiles) = profile_count(alloc, players, &front.strategies)? else {
@@ -109,7 +116,7 @@ pub fn read(alloc: Global, tokens: &Tokens) -> Result<Table, NfgStop>
     };
     match last_payoffs(alloc, rest, players, profiles) {
         Ok(payoffs) => Ok(table(alloc, front, payoffs)?),
-        Err(refusal) => Err(stop(refusal, tokens)),
+        Err(stopped) => Err(stop(stopped, tokens)),
     }
 }
 

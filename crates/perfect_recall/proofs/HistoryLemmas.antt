@@ -14,7 +14,7 @@ use Rattle.sequence_forms.proofs.SequenceLemmas.{history-own, history-other, las
 use Rattle.perfect_recall.specs.LastEdges.{AreLastEdges}
 use Rattle.game_theory.specs.OwnSets.{Chooses}
 use Rattle.perfect_recall.specs.Members.{edge_of, HaveSameEdge, IsOtherMember}
-use Rattle.perfect_recall.specs.Found.{IsAlike, EarlierAreAlike, IsFirstNode, IsFirstOther, edge_before}
+use Rattle.perfect_recall.specs.Found.{HaveOneHistory, EarlierHaveOneHistory, IsFirstNode, IsFirstOther, edge_before}
 use Rattle.perfect_recall.proofs.MemberLemmas.{AreMembers}
 
 -- the last node above node k at which player i chooses, and the action there
@@ -51,7 +51,7 @@ edge-none t i k e = ap last_edge e
 pub edge-some : (t : Tree) (i k : ℕ) (h : HasLastChoice t i k) → last_edge (own_history t i k) ≡ Some (h.set, h.action)
 edge-some t i k h = ap last_edge h.history_is ∙ last_edge-append (h.set, h.action) (own_history t i h.node)
 
-module _ (t : Tree) (i s f : ℕ) (w : IsTree t) (order : AreNumberedByFirstNodes t) (earlier : EarlierAreAlike t i s) (first : IsFirstNode t s f) where
+module _ (t : Tree) (i s f : ℕ) (w : IsTree t) (order : AreNumberedByFirstNodes t) (earlier : EarlierHaveOneHistory t i s) (first : IsFirstNode t s f) where
   -- the set of the choice before the first node comes before the set
   set-before : (h : HasLastChoice t i f) → h.set < s
   set-before h =
@@ -95,7 +95,7 @@ first_member t s members h =
     }
 
 module _ (t : Tree) (i s : ℕ) (members : List ℕ) (edges : List (Option (ℕ × ℕ))) (w : IsTree t) (order : AreNumberedByFirstNodes t) (own : t.owner s ≡ Some i)
-    (earlier : EarlierAreAlike t i s) (nodes : AreMembers t s members) (long : length edges ≡ t.size) (are_edges : AreLastEdges t edges) where
+    (earlier : EarlierHaveOneHistory t i s) (nodes : AreMembers t s members) (long : length edges ≡ t.size) (are_edges : AreLastEdges t edges) where
   -- the edge before a member
   edge-is : (j : ℕ) → j < length members → edge_of members edges j ≡ last_edge (own_history t i (get_or members j 0))
   edge-is j l =
@@ -108,7 +108,7 @@ module _ (t : Tree) (i s : ℕ) (members : List ℕ) (edges : List (Option (ℕ 
       same-history t i s (get_or members 0 0) w order earlier (first_member t s members nodes) (get_or members j 0) (nodes.are_nodes j (omega arith)).0 (sym (edge-is j (omega arith)) ∙ h j l ∙ edge-is 0 nodes.some)
 
   -- where all have the same edge, the set is alike
-  pub alike : HaveSameEdge members edges (length members) → IsAlike t i s
+  pub alike : HaveSameEdge members edges (length members) → HaveOneHistory t i s
   alike h k l in_k in_l at_k at_l =
       let a = nodes.are_all k in_k at_k in
       let b = nodes.are_all l in_l at_l in
@@ -137,7 +137,7 @@ module _ (t : Tree) (i s : ℕ) (members : List ℕ) (edges : List (Option (ℕ 
       }
 
 -- a player who recalls is alike in all sets
-pub recall-alike : (t : Tree) (i s : ℕ) → HasPerfectRecall t i → t.owner s ≡ Some i → IsAlike t i s
+pub recall-alike : (t : Tree) (i s : ℕ) → HasPerfectRecall t i → t.owner s ≡ Some i → HaveOneHistory t i s
 recall-alike t i s h own k l in_k in_l at_k at_l = h s k l own in_k in_l at_k at_l
 
 -- ---- the edge before a set

@@ -10,7 +10,7 @@ use Rattle.game_core.specs.Tree.{GameTree, InformationSet}
 use Rattle.game_core.specs.TreeGame.{game_of_tree}
 use Rattle.perfect_recall.specs.declared.recall.Forgets.{Forgets}
 use Rattle.perfect_recall.specs.declared.recall.RecallStop.TheVariants as stops
-use Rattle.perfect_recall.specs.Found.{IsAlike, IsFirstNode, IsFirstOther, ForgetsAt, IsForgetting, IsRecallOf, recall_of}
+use Rattle.perfect_recall.specs.Found.{HaveOneHistory, IsFirstNode, IsFirstOther, ForgetsAt, IsForgetting, IsRecallOf, recall_of}
 use Rattle.perfect_recall.proofs.HistoryLemmas.{recall-alike}
 
 -- the owner of a set by the tree's list
@@ -18,7 +18,7 @@ pub owner-at : (t : GameTree) (n : ℕ) (set : InformationSet) → slice_get t.s
 owner-at t n set is = get_or-map (λ x. x.owner) t.sets n set None (slice_get_within t.sets n set is) ∙ ap (λ x. x.owner) (get_or_from_slice_get t.sets n set set is)
 
 -- where a player forgets, the set is not alike
-not_alike : (t : GameTree) (f : Forgets) (h : ForgetsAt t f) → IsAlike (game_of_tree t) f.player h.number → ⊥
+not_alike : (t : GameTree) (f : Forgets) (h : ForgetsAt t f) → HaveOneHistory (game_of_tree t) f.player h.number → ⊥
 not_alike t f h alike = h.second_is.other (alike f.second_node f.first_node h.second_is.within h.first_is.within h.second_is.in_set h.first_is.in_set)
 
 own : (t : GameTree) (f : Forgets) (h : ForgetsAt t f) → (game_of_tree t).owner h.number ≡ Some f.player
@@ -38,7 +38,7 @@ same_player t f g h k = elim (cases_order f.player g.player) [
 
 -- a set of the player before the one that is named is alike
 set-after : (t : GameTree) (f g : Forgets) (h : ForgetsAt t f) (k : ForgetsAt t g) → f.player ≡ g.player → h.number < k.number → ⊥
-set-after t f g h k same l = not_alike t f h (subst (λ i. IsAlike (game_of_tree t) i h.number) (sym same) (k.sets_before h.number l (own t f h ∙ ap Some same)))
+set-after t f g h k same l = not_alike t f h (subst (λ i. HaveOneHistory (game_of_tree t) i h.number) (sym same) (k.sets_before h.number l (own t f h ∙ ap Some same)))
 
 -- the first set is one
 same_set : (t : GameTree) (f g : Forgets) (h : ForgetsAt t f) (k : ForgetsAt t g) → f.player ≡ g.player → h.number ≡ k.number

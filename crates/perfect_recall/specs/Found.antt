@@ -23,13 +23,15 @@ pub record IsRecallOf (t : Tree) (before : List (Option (ℕ × ℕ))) : Type 0 
   pub before_is : before ≡ map (λ s. edge_before t s (t.owner s)) (range_with_len 0 t.sets)
 
 -- ---- a player who forgets
--- the nodes of set s have the same own history for player i
-abbrev pub IsAlike : Tree → ℕ → ℕ → Type 0
-IsAlike t i s = (k l : ℕ) → k < t.size → l < t.size → t.set k ≡ Some s → t.set l ≡ Some s → own_history t i k ≡ own_history t i l
+-- the nodes of set s have one own history for player i
+abbrev pub HaveOneHistory : Tree → ℕ → ℕ → Type 0
+HaveOneHistory t i s =
+    (k l : ℕ) → k < t.size → l < t.size → t.set k ≡ Some s → t.set l ≡ Some s
+    → own_history t i k ≡ own_history t i l
 
--- player i's own sets before set s are so
-abbrev pub EarlierAreAlike : Tree → ℕ → ℕ → Type 0
-EarlierAreAlike t i s = (r : ℕ) → r < s → t.owner r ≡ Some i → IsAlike t i r
+-- the nodes of each of player i's own sets before set s have one
+abbrev pub EarlierHaveOneHistory : Tree → ℕ → ℕ → Type 0
+EarlierHaveOneHistory t i s = (r : ℕ) → r < s → t.owner r ≡ Some i → HaveOneHistory t i r
 
 -- node k is the first of set s
 pub record IsFirstNode (t : Tree) (s k : ℕ) : Type 0 where
@@ -51,7 +53,7 @@ pub record ForgetsAt (t : GameTree) (f : Forgets) : Type 0 where
   pub set : InformationSet
   pub stands_at : slice_get t.sets number ≡ Some set
   pub own : set.owner ≡ Some f.player
-  pub sets_before : EarlierAreAlike (game_of_tree t) f.player number
+  pub sets_before : EarlierHaveOneHistory (game_of_tree t) f.player number
   pub label_is : f.set ≡ set.label
   pub first_is : IsFirstNode (game_of_tree t) number f.first_node
   pub second_is : IsFirstOther (game_of_tree t) f.player number f.first_node f.second_node

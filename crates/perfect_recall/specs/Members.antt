@@ -3,7 +3,7 @@ use Rattle.std.specs.Prelude.{ℕ, ◌<◌, ◌≡◌, ◌≢◌, List, length, 
 use Rattle.game_core.specs.Tree.{GameTree}
 use Rattle.game_core.specs.TreeGame.{game_of_tree}
 use Rattle.perfect_recall.specs.declared.recall.Forgets.{Forgets}
-use Rattle.perfect_recall.specs.Found.{EarlierAreAlike, ForgetsAt}
+use Rattle.perfect_recall.specs.Found.{EarlierHaveOneHistory, ForgetsAt}
 
 -- the edge before member j
 abbrev pub edge_of : List ℕ → List (Option (ℕ × ℕ)) → ℕ → Option (ℕ × ℕ)
@@ -23,9 +23,9 @@ pub record IsOtherMember (members : List ℕ) (edges : List (Option (ℕ × ℕ)
 
 -- the first player who forgets at one of the first n sets, and where
 pub record IsForgettingBelow (t : GameTree) (n : ℕ) (f : Forgets) : Type 0 where
-  pub players_before : (i : ℕ) → i < f.player → EarlierAreAlike (game_of_tree t) i n
+  pub players_before : (i : ℕ) → i < f.player → EarlierHaveOneHistory (game_of_tree t) i n
   pub forgets : ForgetsAt t f
 
 -- nobody forgets there
 abbrev pub NobodyForgetsBelow : GameTree → ℕ → Type 0
-NobodyForgetsBelow t n = (i : ℕ) → EarlierAreAlike (game_of_tree t) i n
+NobodyForgetsBelow t n = (i : ℕ) → EarlierHaveOneHistory (game_of_tree t) i n

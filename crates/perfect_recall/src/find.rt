@@ -1,5 +1,5 @@
 // Whether the players recall.
-ghost use Rattle.std.specs.Prelude.{◌≡◌, ◌↔◌, ◌<◌, ◌+◌, ℕ, length, slice_index, IsTrue, IfOk, MatchOption, None, Some};
+ghost use Rattle.std.specs.Prelude.{◌≡◌, ◌<◌, ◌+◌, ℕ, length, slice_index, IfOk, MatchOption, Some};
 ghost use Rattle.answers.specs.Answers.{Gives, IsSingle};
 ghost use Rattle.game_theory.specs.Recall.{HasPerfectRecall};
 ghost use Rattle.game_core.specs.Tree.{GameTree, IsGameTree};
@@ -7,7 +7,7 @@ ghost use Rattle.game_core.specs.TreeGame.{game_of_tree};
 ghost use Rattle.perfect_recall.specs.declared.recall.RecallStop.TheVariants as stops;
 ghost use Rattle.perfect_recall.specs.LastEdges.{AreLastEdges};
 ghost use Rattle.perfect_recall.specs.Members.{HaveSameEdge, IsForgettingBelow, IsOtherMember, NobodyForgetsBelow};
-ghost use Rattle.perfect_recall.specs.Found.{EarlierAreAlike, ForgetsAt, IsAlike, IsRecallOf, recall_of, edge_before};
+ghost use Rattle.perfect_recall.specs.Found.{EarlierHaveOneHistory, ForgetsAt, HaveOneHistory, IsRecallOf, recall_of, edge_before};
 
 use crate::paths::last_edges;
 use crate::recall::{Forgets, Recall, RecallStop};
@@ -15,19 +15,6 @@ use answers::Memory;
 use game_core::tree_parts::{owner, stands_for_game_tree};
 use game_core::{Tree, trees_are_game_trees};
 use std::alloc::Global;
-
-// Whether two edges are the same.
-fn are_same(edge: Option<(u32, u32)>, other: Option<(u32, u32)>) -> bool
-    ensures { IsTrue result ↔ (edge ≡ other) }
-{
-    match (edge, other) {
-        (None, None) => true,
-        (Some((set, action)), Some((other_set, other_action))) => {
-            set == other_set && action == other_action
-        }
-        _ => false,
-    }
-}
 
 // The first of these nodes with another edge before it than before the first node, where there is one.
 fn other_member(members: &[u32], edges: &[Option<(u32, u32)>]) -> Option<u32>
@@ -39,7 +26,7 @@ fn other_member(members: &[u32], edges: &[Option<(u32, u32)>]) -> Option<u32>
 {
     let first = edges[members[0] as usize];
     for member in members {
-        if !are_same(edges[*member as usize], first) {
+        if edges[*member as usize] != first {
             return Some(*member);
         }
     }
@@ -57,10 +44,10 @@ fn forgets_at(
     requires edges { AreLastEdges (game_of_tree tree.now) edges.now }
     requires set { number < length tree.now.sets }
     requires own { (game_of_tree tree.now).owner number ≡ Some player }
-    requires earlier { EarlierAreAlike (game_of_tree tree.now) player number }
-    ensures player { MatchOption result (IsAlike (game_of_tree tree.now) player number)
+    requires earlier { EarlierHaveOneHistory (game_of_tree tree.now) player number }
+    ensures player { MatchOption result (HaveOneHistory (game_of_tree tree.now) player number)
         (λ f. f.player ≡ player) }
-    ensures forgets { MatchOption result (IsAlike (game_of_tree tree.now) player number)
+    ensures forgets { MatchOption result (HaveOneHistory (game_of_tree tree.now) player number)
         (ForgetsAt tree.now) }
 {
     stands_for_game_tree(tree);
@@ -100,10 +87,7 @@ fn with_set(
             return found;
         }
     }
-    match forgets_at(tree, edges, player, number) {
-        Some(forgets) => Some(forgets),
-        None => found,
-    }
+    forgets_at(tree, edges, player, number).or(found)
 }
 
 // The first player who forgets, and where; nothing where no player does.
@@ -153,8 +137,7 @@ fn edges_before_sets(
     Ok(before)
 }
 
-/// The last own sets and actions before the sets of a tree in which each player has perfect recall. Time and room in
-/// proportion to nodes, sets and players.
+/// The last own sets and actions before the sets of a tree in which each player has perfect recall.
 ///
 /// # Errors
 ///

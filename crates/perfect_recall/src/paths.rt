@@ -22,7 +22,7 @@ fn choice_at(tree: &Tree, node: usize) -> Option<(u32, u32)>
     Some((player, set))
 }
 
-// The players' last edges at a node are those at a node above it again. `edges` has the edges before the nodes that
+// Turns the players' last edges at a node into those at a node above it. `edges` has the edges before the nodes that
 // come before it.
 fn go_up(
     tree: &Tree,
@@ -48,7 +48,7 @@ fn go_up(
     }
 }
 
-// The players' last edges at a node's parent are those at the node.
+// Turns the players' last edges at a node's parent into those at the node.
 fn go_down(tree: &Tree, last: &mut [Option<(u32, u32)>], node: usize)
     requires node { node < length tree.now.nodes }
     requires later { 0 < node }

@@ -11,8 +11,7 @@ use Rattle.rational.proofs.Rules.{zero-*ℚ}
 use Rattle.frac128.specs.Steps.{AddFits, MulFits, unfit, Step, StepFits, IsFirstUnfit, StepsGive}
 use Rattle.frac128.specs.declared.steps.Op.TheVariants.{Add, Mul}
 use Rattle.frac128.specs.declared.steps.Unfit.{Unfit}
-use Rattle.pure_payoffs.specs.Plays.{branch_steps}
-use Rattle.pure_payoffs.specs.Steps.{chance_steps}
+use Rattle.pure_payoffs.specs.Steps.{branch_steps, chance_steps}
 use Rattle.frac128.proofs.StepRunLemmas.{first_unfit-following, first_unfit-here, first_unfit-more, one-fits, added-gives, following-gives}
 
 -- a branch with the probability 0 adds nothing

@@ -5,24 +5,24 @@ use Rattle.std.proofs.lemmas.List.{length-set, length-map, get_or-map, get_or-se
 use Rattle.std.proofs.lemmas.Option.{slice_get-get_or}
 use Rattle.game_theory.specs.Children.{AreChildren}
 use Rattle.game_theory.specs.Trees.{Tree, IsTree}
-use Rattle.pure_payoffs.specs.Filled.{HaveRoom}
+use Rattle.pure_payoffs.specs.ChildLists.{HaveAsMany, actions_at}
 use Rattle.std.specs.Prelude.{slice_index, slice_index_or}
 
--- the lists have room for all children, and those before node n stand in them
+-- the lists are as long as they will be, and those before node n stand in them
 pub record AreFilled (t : Tree) (n : ℕ) (lists : List (List ℕ)) : Type 0 where
-  pub has_room : HaveRoom t t.size lists
+  pub has_as_many : HaveAsMany t t.size lists
   pub filled : (c : ℕ) → 0 < c → c < n → c < t.size → slice_index (slice_index_or lists (t.parent c) []) (t.branch c) ≡ c
 
 -- at last the lists have the children
 pub filled-all : (t : Tree) (n : ℕ) (lists : List (List ℕ)) → IsTree t → t.size ≤ n → AreFilled t n lists → AreChildren t lists
 filled-all t n lists w all h = record {
-  one_for_each = h.has_room.one_for_each;
+  one_for_each = h.has_as_many.one_for_each;
   are_children = λ k s a l e m. let c = w.some_child k s a l e m in (c.0, found k s a c.0 l e m c.1.0 c.1.1 c.1.2 c.1.3, c.1);
 }
   where
     found : (k s a c : ℕ) → k < t.size → t.set k ≡ Some s → a < t.actions s → 0 < c → c < t.size → t.parent c ≡ k → t.branch c ≡ a → slice_get (get_or lists k []) a ≡ Some c
     found k s a c l e m p q parent branch =
-        let room = h.has_room.room k s l e in
+        let room = h.has_as_many.as_many k l ∙ ap (actions_at t) e in
         let here = h.filled c p (omega arith) q in
         slice_get-get_or (get_or lists k []) a 0 (omega arith) ∙ ap Some (rw (parent, branch) at here)
 
@@ -32,8 +32,8 @@ module _ (t : Tree) (n : ℕ) (lists : List (List ℕ)) (w : IsTree t) (p : 0 < 
   parent-room =
       let led = w.led_to n p l in
       let after = w.after_parent n p l in
-      let room = h.has_room.room (t.parent n) led.0 (omega arith) led.1 in
-      (omega (arith, h.has_room.one_for_each), omega (arith, led.2))
+      let room = h.has_as_many.as_many (t.parent n) (omega arith) ∙ ap (actions_at t) led.1 in
+      (omega (arith, h.has_as_many.one_for_each), omega (arith, led.2))
 
   -- the parent's list with the node
   abbrev with_node : List ℕ
@@ -47,9 +47,9 @@ module _ (t : Tree) (n : ℕ) (lists : List (List ℕ)) (w : IsTree t) (p : 0 < 
   at_parent : (k : ℕ) → k ≡ t.parent n → get_or node_filled k [] ≡ with_node
   at_parent k e = rw e (get_or-set_same lists (t.parent n) with_node [] parent-room.0)
 
-  -- the lists keep their room
-  keep-room : HaveRoom t t.size node_filled
-  keep-room = record { one_for_each = length-set lists (t.parent n) with_node ∙ h.has_room.one_for_each; room = λ k s m e. kept k (cases_eq k (t.parent n)) ∙ h.has_room.room k s m e }
+  -- the lists stay as long
+  keep-as_many : HaveAsMany t t.size node_filled
+  keep-as_many = record { one_for_each = length-set lists (t.parent n) with_node ∙ h.has_as_many.one_for_each; as_many = λ k m. kept k (cases_eq k (t.parent n)) ∙ h.has_as_many.as_many k m }
     where
       kept : (k : ℕ) → (k ≡ t.parent n) ⊎ (k ≢ t.parent n) → length (get_or node_filled k []) ≡ length (get_or lists k [])
       kept k (inl e) = ap length (at_parent k e) ∙ length-set (get_or lists (t.parent n) []) (t.branch n) n ∙ ap (λ x. length (get_or lists x [])) (sym e)
@@ -72,7 +72,7 @@ module _ (t : Tree) (n : ℕ) (lists : List (List ℕ)) (w : IsTree t) (p : 0 < 
 
   -- one more node stands in its parent's list
   filled-more : AreFilled t (n + 1) node_filled
-  filled-more = record { has_room = keep-room; filled = λ c q m r. go c q m (cases_eq c n) }
+  filled-more = record { has_as_many = keep-as_many; filled = λ c q m r. go c q m (cases_eq c n) }
     where
       go : (c : ℕ) → 0 < c → c < n + 1 → (c ≡ n) ⊎ (c ≢ n) → get_or (get_or node_filled (t.parent c) []) (t.branch c) 0 ≡ c
       go c q m (inl e) = rw e (ap (λ x. get_or x (t.branch n) 0) (at_parent (t.parent n) refl) ∙ get_or-set_same (get_or lists (t.parent n) []) (t.branch n) n 0 parent-room.1)

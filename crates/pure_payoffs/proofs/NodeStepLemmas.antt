@@ -11,8 +11,8 @@ use Rattle.game_theory.specs.Mixed.{sure}
 use Rattle.game_theory.specs.Trees.{Tree, IsTree}
 use Rattle.game_theory.specs.Behaviour.{of_owner, action_probability, value, pure}
 use Rattle.game_theory.proofs.ValueLemmas.{value-by_actions, value-end}
-use Rattle.pure_payoffs.specs.Plays.{steps_at, branch_steps, steps_after, value_after}
-use Rattle.pure_payoffs.specs.Steps.{chance_steps, owner_steps, node_steps, steps_to}
+use Rattle.pure_payoffs.specs.Plays.{steps_at}
+use Rattle.pure_payoffs.specs.Steps.{branch_steps, chance_steps, node_steps, steps_after, steps_to, value_after}
 
 -- the sums of products of probabilities and values, where the values are the same
 pub weighted-same : (n : ℕ) (chances v w : ℕ → ℚ) → ((a : ℕ) → a < n → v a ≡ w a) → sum_to n (λ a. chances a *ℚ v a) ≡ sum_to n (λ a. chances a *ℚ w a)
@@ -32,16 +32,14 @@ module _ (t : Tree) (choice : ℕ → ℕ) (i : ℕ) (w : IsTree t) (chosen : (s
   node_steps-same : (f g : ℕ → List Step) (k : ℕ) → k < t.size → ((c : ℕ) → k < c → c < t.size → f c ≡ g c) → node_steps t choice i f k (t.set k) ≡ node_steps t choice i g k (t.set k)
   node_steps-same f g k l h = go (t.set k) refl
     where
-      owned : (s : ℕ) (o : Option ℕ) → t.set k ≡ Some s → t.owner s ≡ o → owner_steps t choice i f k s o ≡ owner_steps t choice i g k s o
-      owned s None e p = ap (λ x. x ++ unfit Add (t.pays k i) (sum_to (t.actions s) (λ a. t.chance s a *ℚ value t (pure choice) i (child t k a))) ∷ [])
-          (chance_steps-same (t.actions s) (t.chance s) _ _ (λ a. f (child t k a)) (λ a. g (child t k a)) (λ a m. refl) (λ a m. let c = child-later t k s a w l e m in h (child t k a) c.0 c.1))
-      owned s (Some j) e p =
-          let c = child-later t k s (choice s) w l e (chosen s j (w.sets_within k s l e) p) in
-          ap (λ x. x ++ unfit Add (t.pays k i) (value t (pure choice) i (child t k (choice s))) ∷ []) (h (child t k (choice s)) c.0 c.1)
+      owned : (s : ℕ) (o : Option ℕ) → t.set k ≡ Some s → t.owner s ≡ o → steps_after t choice i f k s o ≡ steps_after t choice i g k s o
+      owned s None e p =
+          chance_steps-same (t.actions s) (t.chance s) _ _ (λ a. f (child t k a)) (λ a. g (child t k a)) (λ a m. refl) (λ a m. let c = child-later t k s a w l e m in h (child t k a) c.0 c.1)
+      owned s (Some j) e p = let c = child-later t k s (choice s) w l e (chosen s j (w.sets_within k s l e) p) in h (child t k (choice s)) c.0 c.1
 
       go : (o : Option ℕ) → t.set k ≡ o → node_steps t choice i f k o ≡ node_steps t choice i g k o
       go None e = refl
-      go (Some s) e = owned s (t.owner s) e refl
+      go (Some s) e = ap (λ x. x ++ unfit Add (t.pays k i) (value_after t choice i k s (t.owner s)) ∷ []) (owned s (t.owner s) e refl)
 
   -- where no node lies deeper, one more edge adds no step
   steps_to-enough : (d k : ℕ) → k < t.size → t.size ≤ d + k → steps_to t choice i d k ≡ steps_to t choice i (suc d) k
@@ -57,12 +55,8 @@ module _ (t : Tree) (choice : ℕ → ℕ) (i : ℕ) (w : IsTree t) (chosen : (s
   steps_at-end k l e = steps_at-recur k l ∙ ap (node_steps t choice i (steps_at t choice i) k) e
 
   -- at any other node the last step adds what comes after it
-  pub steps_at-inner : (k s : ℕ) → k < t.size → t.set k ≡ Some s → steps_at t choice i k ≡ steps_after t choice i k s (t.owner s) ++ unfit Add (t.pays k i) (value_after t choice i k s (t.owner s)) ∷ []
-  steps_at-inner k s l e = steps_at-recur k l ∙ ap (node_steps t choice i (steps_at t choice i) k) e ∙ by_owner (t.owner s)
-    where
-      by_owner : (o : Option ℕ) → owner_steps t choice i (steps_at t choice i) k s o ≡ steps_after t choice i k s o ++ unfit Add (t.pays k i) (value_after t choice i k s o) ∷ []
-      by_owner None = refl
-      by_owner (Some j) = refl
+  pub steps_at-inner : (k s : ℕ) → k < t.size → t.set k ≡ Some s → steps_at t choice i k ≡ steps_after t choice i (steps_at t choice i) k s (t.owner s) ++ unfit Add (t.pays k i) (value_after t choice i k s (t.owner s)) ∷ []
+  steps_at-inner k s l e = steps_at-recur k l ∙ ap (node_steps t choice i (steps_at t choice i) k) e
 
   -- the weighted values of a node's children sum to the value of what comes after it
   weighted-following : (k s : ℕ) → s < t.sets → sum_to (t.actions s) (λ a. action_probability t (pure choice) s a *ℚ value t (pure choice) i (child t k a)) ≡ value_after t choice i k s (t.owner s)

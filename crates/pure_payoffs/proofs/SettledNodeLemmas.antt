@@ -10,7 +10,7 @@ use Rattle.game_theory.specs.Behaviour.{value, pure}
 use Rattle.game_theory.proofs.SubtreeLemmas.{above_parent, value-agree}
 use Rattle.pure_payoffs.specs.Plays.{GiveAt}
 use Rattle.pure_payoffs.specs.Settled.{IsSettled, Settles}
-use Rattle.pure_payoffs.specs.Steps.{owner_steps, node_steps, steps_to}
+use Rattle.pure_payoffs.specs.Steps.{node_steps, steps_after, steps_to, value_after}
 use Rattle.pure_payoffs.proofs.NodeStepLemmas.{chance_steps-same, weighted-same}
 
 -- ---- what they give
@@ -32,7 +32,8 @@ module _ (t : Tree) (w : IsTree t) where
       steps : (a : ℕ) → a < t.actions s → steps_to t one i d (child t k a) ≡ steps_to t other i d (child t k a)
       steps a m = let c = child-is_child t k s a w l e m in later (child t k a) c.1 (IsSettled-child k a (child t k a) h c)
 
-      by_owner : (o : Option ℕ) → t.owner s ≡ o → owner_steps t one i (steps_to t one i d) k s o ≡ owner_steps t other i (steps_to t other i d) k s o
+      by_owner : (o : Option ℕ) → t.owner s ≡ o → steps_after t one i (steps_to t one i d) k s o ++ unfit Add (t.pays k i) (value_after t one i k s o) ∷ []
+          ≡ steps_after t other i (steps_to t other i d) k s o ++ unfit Add (t.pays k i) (value_after t other i k s o) ∷ []
       by_owner None p =
           ap₂ (λ x y. x ++ unfit Add (t.pays k i) y ∷ [])
           (chance_steps-same (t.actions s) (t.chance s) (λ a. value t (pure one) i (child t k a)) (λ a. value t (pure other) i (child t k a)) (λ a. steps_to t one i d (child t k a)) (λ a. steps_to t other i d (child t k a)) values steps)

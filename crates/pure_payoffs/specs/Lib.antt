@@ -1,5 +1,6 @@
-pub mod Filled
+pub mod ChildLists
 pub mod Plays
 pub mod Settled
 pub mod Shortcuts
 pub mod Steps
+pub mod Stops

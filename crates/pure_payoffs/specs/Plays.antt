@@ -1,11 +1,8 @@
 -- What the steps of a play are computed from.
-use Rattle.std.specs.Prelude.{ℕ, List, [], ◌∷◌, ◌++◌, if◌then◌else◌, map, length, Option, Some, None, Result}
-use Rattle.game_theory.specs.Children.{AreChildren, child}
-use Rattle.rational.specs.Tests.{eq_ℚ}
-use Rattle.rational.specs.Rational.{ℚ, ◌*ℚ◌, zero_ℚ}
-use Rattle.rational.specs.Sum.{sum_to}
-use Rattle.frac128.specs.Steps.{unfit, Step, StepsGive}
-use Rattle.frac128.specs.declared.steps.Op.TheVariants.{Add, Mul}
+use Rattle.std.specs.Prelude.{ℕ, List, map, length, Result}
+use Rattle.game_theory.specs.Children.{AreChildren}
+use Rattle.rational.specs.Rational.{ℚ}
+use Rattle.frac128.specs.Steps.{Step, StepsGive}
 use Rattle.frac128.specs.declared.steps.Unfit.{Unfit}
 use Rattle.game_theory.specs.Profiles.{IsProfile}
 use Rattle.game_theory.specs.Trees.{Tree, IsTree}
@@ -14,7 +11,7 @@ use Rattle.game_core.specs.TreeGame.{game_of_tree}
 use Rattle.reduced_strategies.specs.Places.{ArePlaces}
 use Rattle.reduced_strategies.specs.StrategicForm.{AreStrategies, completed}
 use Rattle.pure_payoffs.specs.declared.payoff.Play.{Play}
-use Rattle.pure_payoffs.specs.Steps.{chance_steps, steps_to}
+use Rattle.pure_payoffs.specs.Steps.{steps_to}
 
 -- a game tree, its nodes' children, its sets' places, and a profile of its reduced strategies
 pub record IsPlay (t : Tree) (children : List (List ℕ)) (places : List ℕ) (strategies : List (List (List ℕ))) (profile : List ℕ) : Type 0 where
@@ -47,18 +44,3 @@ steps_at t choice i k = steps_to t choice i t.size k
 -- what the steps of node k's value for player i give
 abbrev pub GiveAt : Tree → (ℕ → ℕ) → ℕ → ℕ → Result ℚ Unfit → Type 0
 GiveAt t choice i k result = StepsGive (steps_at t choice i k) (value t (pure choice) i k) result
-
--- The steps with which a child's product with its probability is added to a sum: none where the probability is 0, and else those of
--- the child, the product and the addition.
-abbrev pub branch_steps : ℚ → ℚ → ℚ → List Step → List Step
-branch_steps prob sum v steps = if eq_ℚ prob zero_ℚ then [] else steps ++ unfit Mul prob v ∷ unfit Add sum (prob *ℚ v) ∷ []
-
--- the steps of what comes after a node, by the owner of its set
-abbrev pub steps_after : Tree → (ℕ → ℕ) → ℕ → ℕ → ℕ → Option ℕ → List Step
-steps_after t choice i k s None = chance_steps (t.actions s) (t.chance s) (λ a. value t (pure choice) i (child t k a)) (λ a. steps_at t choice i (child t k a))
-steps_after t choice i k s (Some j) = steps_at t choice i (child t k (choice s))
-
--- the value of what comes after a node, by the owner of its set
-abbrev pub value_after : Tree → (ℕ → ℕ) → ℕ → ℕ → ℕ → Option ℕ → ℚ
-value_after t choice i k s None = sum_to (t.actions s) (λ a. t.chance s a *ℚ value t (pure choice) i (child t k a))
-value_after t choice i k s (Some j) = value t (pure choice) i (child t k (choice s))

@@ -6,7 +6,7 @@ use Rattle.frac128.specs.Fraction.{Fits}
 use Rattle.frac128.specs.declared.steps.Unfit.{Unfit}
 use Rattle.game_theory.specs.Trees.{Tree}
 use Rattle.game_theory.specs.Behaviour.{value, pure}
-use Rattle.pure_payoffs.specs.declared.shortcuts.Shortcuts.{Shortcuts}
+use Rattle.pure_payoffs.specs.declared.shortcuts.Entries.{Entries}
 use Rattle.frac128.specs.Steps.{StepsGive}
 use Rattle.pure_payoffs.specs.Plays.{steps_at}
 use Rattle.pure_payoffs.specs.Settled.{KeepValues}
@@ -31,13 +31,13 @@ pub record StandsFor (t : Tree) (choice : ℕ → ℕ) (k s : ℕ) : Type 0 wher
       → StepsGive (steps_at t choice i k) (value t (pure choice) i k) result
 
 -- there is room for the nodes, no entry is from a later round, and the values that are kept are right for every profile
-pub record HasRoom (t : Tree) (shortcuts : Shortcuts) : Type 0 where
-  pub rounds_long : length shortcuts.rounds.items ≡ t.size
-  pub targets_long : length shortcuts.targets.items ≡ t.size
-  pub no_later : (k : ℕ) → slice_index shortcuts.rounds.items k ≤ shortcuts.round
-  pub settled : KeepValues t shortcuts.settled
+pub record HasRoom (t : Tree) (entries : Entries) : Type 0 where
+  pub rounds_long : length entries.rounds.items ≡ t.size
+  pub targets_long : length entries.targets.items ≡ t.size
+  pub no_later : (k : ℕ) → slice_index entries.rounds.items k ≤ entries.round
+  pub settled : KeepValues t entries.settled
 
 -- the entries of the present round are true
-pub record KeepShortcuts (t : Tree) (choice : ℕ → ℕ) (shortcuts : Shortcuts) : Type 0 where
-  pub room : HasRoom t shortcuts
-  pub stand : (k : ℕ) → k < t.size → slice_index shortcuts.rounds.items k ≡ shortcuts.round → StandsFor t choice k (slice_index shortcuts.targets.items k)
+pub record KeepShortcuts (t : Tree) (choice : ℕ → ℕ) (entries : Entries) : Type 0 where
+  pub room : HasRoom t entries
+  pub stand : (k : ℕ) → k < t.size → slice_index entries.rounds.items k ≡ entries.round → StandsFor t choice k (slice_index entries.targets.items k)

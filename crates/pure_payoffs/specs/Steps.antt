@@ -9,27 +9,40 @@ use Rattle.frac128.specs.declared.steps.Op.TheVariants.{Add, Mul}
 use Rattle.game_theory.specs.Trees.{Tree}
 use Rattle.game_theory.specs.Behaviour.{value, pure}
 
--- The steps at a chance node, where these are the probabilities of its first actions, the values of its children and the steps of
--- these: for each action in order whose probability is not 0 the steps of its child, the product of the probability and the
--- child's value, and the addition of the product to the sum so far.
+-- The steps with which a child's product with its probability is added to a sum: none where the probability is 0, and else those
+-- of the child, the product and the addition.
+abbrev pub branch_steps : ℚ → ℚ → ℚ → List Step → List Step
+branch_steps prob sum v steps =
+    if eq_ℚ prob zero_ℚ then [] else steps ++ unfit Mul prob v ∷ unfit Add sum (prob *ℚ v) ∷ []
+
+-- the steps at a chance node, where these are the probabilities of its first actions, the values of its children and the steps of
+-- these: for each action in order those with which the child's product is added to the sum so far
 abbrev pub chance_steps : ℕ → (ℕ → ℚ) → (ℕ → ℚ) → (ℕ → List Step) → List Step
 chance_steps zero chances values later = []
 chance_steps (suc a) chances values later =
     chance_steps a chances values later
-    ++ (if eq_ℚ (chances a) zero_ℚ then [] else later a ++ unfit Mul (chances a) (values a) ∷ unfit Add (sum_to a (λ b. chances b *ℚ values b)) (chances a *ℚ values a) ∷ [])
+    ++ branch_steps (chances a) (sum_to a (λ b. chances b *ℚ values b)) (values a) (later a)
 
--- The steps at a node by the owner of its set: those of what comes after it, and last the addition of this to what the outcome pays.
-abbrev pub owner_steps : Tree → (ℕ → ℕ) → ℕ → (ℕ → List Step) → ℕ → ℕ → Option ℕ → List Step
-owner_steps t choice i later k s None =
-    chance_steps (t.actions s) (t.chance s) (λ a. value t (pure choice) i (child t k a)) (λ a. later (child t k a))
-    ++ unfit Add (t.pays k i) (sum_to (t.actions s) (λ a. t.chance s a *ℚ value t (pure choice) i (child t k a))) ∷ []
-owner_steps t choice i later k s (Some j) =
-    later (child t k (choice s)) ++ unfit Add (t.pays k i) (value t (pure choice) i (child t k (choice s))) ∷ []
+-- the value of what comes after a node, by the owner of its set
+abbrev pub value_after : Tree → (ℕ → ℕ) → ℕ → ℕ → ℕ → Option ℕ → ℚ
+value_after t choice i k s None =
+    sum_to (t.actions s) (λ a. t.chance s a *ℚ value t (pure choice) i (child t k a))
+value_after t choice i k s (Some j) = value t (pure choice) i (child t k (choice s))
 
--- the steps at a node by its set: none at an end
+-- the steps of what comes after a node, by the owner of its set
+abbrev pub steps_after : Tree → (ℕ → ℕ) → ℕ → (ℕ → List Step) → ℕ → ℕ → Option ℕ → List Step
+steps_after t choice i later k s None =
+    chance_steps (t.actions s) (t.chance s) (λ a. value t (pure choice) i (child t k a))
+    (λ a. later (child t k a))
+steps_after t choice i later k s (Some j) = later (child t k (choice s))
+
+-- the steps at a node by its set: none at an end, and else those of what comes after it, and last the addition of this to what the
+-- outcome pays
 abbrev pub node_steps : Tree → (ℕ → ℕ) → ℕ → (ℕ → List Step) → ℕ → Option ℕ → List Step
 node_steps t choice i later k None = []
-node_steps t choice i later k (Some s) = owner_steps t choice i later k s (t.owner s)
+node_steps t choice i later k (Some s) =
+    steps_after t choice i later k s (t.owner s)
+    ++ unfit Add (t.pays k i) (value_after t choice i k s (t.owner s)) ∷ []
 
 -- the steps of node k's value for player i, where what lies more than d edges below has none
 abbrev pub steps_to : Tree → (ℕ → ℕ) → ℕ → ℕ → ℕ → List Step

@@ -1,14 +1,13 @@
 // The payoff of a pure profile.
 ghost use Rattle.std.specs.Prelude.{◌≡◌, ◌<◌, length};
 ghost use Rattle.frac128.specs.Fraction.{Fits};
-ghost use Rattle.game_core.specs.Tree.{IsBelow};
-ghost use Rattle.game_core.specs.TreeGame.{outcome_pays};
 ghost use Rattle.game_theory.specs.Children.{AreChildren};
 
-use crate::children::stands_for_game_tree;
-use crate::shortcuts::Shortcuts;
+use crate::shortcuts::{Entries, Shortcuts};
+use crate::stop::PayoffStop;
 use frac128::{Frac, Unfit};
-use game_core::{Kind, Tree};
+use game_core::Tree;
+use game_core::tree_parts::{action_count, owner, pays, probability, set, stands_for_game_tree};
 
 /// A pure profile of reduced strategies on a tree. Players, nodes, sets and strategies are numbered from 0.
 #[derive(Clone, Copy, Debug)]
@@ -25,18 +24,6 @@ pub struct Play<'a> {
     pub profile: &'a [u32],
 }
 
-// What an outcome pays a player: 0 where there is none.
-fn outcome_payoff(tree: &Tree, outcome: Option<u32>, player: u32) -> Frac
-    requires outcome { IsBelow (length tree.now.outcomes) outcome }
-    requires player { player < length tree.now.players }
-    ensures { result ≡ outcome_pays tree.now.outcomes outcome player }
-{
-    match outcome {
-        Some(outcome) => tree.outcomes()[outcome as usize].payoffs()[player as usize],
-        None => Frac::zero(),
-    }
-}
-
 // A fraction fits. Does nothing.
 fn fits(value: Frac)
     ensures { Fits value }
@@ -45,83 +32,110 @@ fn fits(value: Frac)
 }
 
 impl<'a> Play<'a> {
-    ghost use Rattle.std.specs.Prelude.{◌≡◌, ◌<◌, length, map, All, MatchResult, Some, None};
+    ghost use Rattle.std.specs.Prelude.{◌≡◌, ◌<◌, ◌++◌, length, map, Some, None, OnOk};
     ghost use Rattle.rational.specs.Rational.{◌+ℚ◌, ◌*ℚ◌};
+    ghost use Rattle.answers.specs.Answers.{Gives};
+    ghost use Rattle.game_theory.specs.Lines.{listed};
     ghost use Rattle.game_theory.specs.Profiles.{IsProfile};
     ghost use Rattle.game_theory.specs.Behaviour.{payoff, pure, value};
-    ghost use Rattle.game_core.specs.Tree.{kind_of_owner};
     ghost use Rattle.reduced_strategies.specs.Places.{ArePlaces};
     ghost use Rattle.reduced_strategies.specs.StrategicForm.{AreStrategies};
-    ghost use Rattle.pure_payoffs.specs.Plays.{IsPlayed, game_of, strategies_of, choice_of, steps_at, branch_steps, steps_after, value_after};
+    ghost use Rattle.pure_payoffs.specs.Plays.{IsPlayed, game_of, strategies_of, choice_of, steps_at};
     ghost use Rattle.pure_payoffs.specs.Shortcuts.{KeepShortcuts};
-    ghost use Rattle.frac128.specs.Steps.{StepFits, IsFirstUnfit, StepsGive};
-    ghost use Rattle.pure_payoffs.specs.Steps.{payoff_steps};
+    ghost use Rattle.frac128.specs.Steps.{StepsGive};
+    ghost use Rattle.pure_payoffs.specs.Steps.{branch_steps, steps_after, value_after};
+    ghost use Rattle.pure_payoffs.specs.Stops.{payoffs_in};
+    ghost use Rattle.pure_payoffs.specs.declared.stop.PayoffStop.TheVariants as stops;
 
-    /// What the profile pays a player, where the first action is taken at each set to which the player's strategy
-    /// gives none. Takes no memory. `shortcuts` are those of this profile: the caller forgets
-    /// them before another one.
+    /// Adds to a list what the profile pays each player in order, where the first action is taken at each set to
+    /// which the player's strategy gives none. `shortcuts` are those of the tree.
     ///
     /// # Errors
     ///
-    /// The first step that does not fit.
-    pub fn payoff(&self, shortcuts: &mut Shortcuts, player: u32) -> Result<Frac, Unfit>
-        requires player { player < length self.now.tree.now.players }
+    /// `Range` exactly where a step does not fit: the first, players in order. `Memory` where memory ran out.
+    pub fn push_payoffs(
+        &self,
+        shortcuts: &mut Shortcuts,
+        payoffs: &mut Vec<Frac>,
+    ) -> Result<(), PayoffStop>
         requires children { AreChildren (game_of self.now)
             (map (λ v. v.items) self.now.children.now) }
         requires places { ArePlaces (game_of self.now) self.now.places.now }
         requires strategies { AreStrategies (game_of self.now) (strategies_of self.now) }
         requires profile { IsProfile (map length (strategies_of self.now)) self.now.profile.now }
-        requires keep { KeepShortcuts (game_of self.now) (choice_of self.now) shortcuts.old }
-        ensures keep { KeepShortcuts (game_of self.now) (choice_of self.now) shortcuts.new }
-        ensures gives { let t = game_of self.now in
+        requires tree { shortcuts.old ≡ self.now.tree.now }
+        ensures tree { shortcuts.new ≡ shortcuts.old }
+        ensures pays { let t = game_of self.now in
             let choice = choice_of self.now in
-            MatchResult result
-            (λ value. (value ≡ payoff t (pure choice) player) × All StepFits (payoff_steps t choice player))
-            (IsFirstUnfit (payoff_steps t choice player)) }
+            OnOk result
+            (payoffs.new.items ≡ payoffs.old.items ++ listed t.players (payoff t (pure choice))) }
+        ensures stop { Gives stops.Memory
+            (payoffs_in (game_of self.now) (choice_of self.now)) result }
     {
         stands_for_game_tree(self.tree);
-        self.value(shortcuts, 0, player)
+        shortcuts.entries.forget();
+        self.push_values(&mut shortcuts.entries, payoffs)
+    }
+
+    // The same with the entries of this profile.
+    fn push_values(&self, entries: &mut Entries, payoffs: &mut Vec<Frac>) -> Result<(), PayoffStop>
+        requires play { IsPlayed self.now }
+        requires keep { KeepShortcuts (game_of self.now) (choice_of self.now) entries.old }
+        ensures keep { KeepShortcuts (game_of self.now) (choice_of self.now) entries.new }
+        ensures pays { let t = game_of self.now in
+            let choice = choice_of self.now in
+            OnOk result
+            (payoffs.new.items ≡ payoffs.old.items ++ listed t.players (payoff t (pure choice))) }
+        ensures stop { Gives stops.Memory
+            (payoffs_in (game_of self.now) (choice_of self.now)) result }
+    {
+        for player in 0..self.tree.players().len() as u32 {
+            match self.value(entries, 0, player) {
+                Ok(payoff) => payoffs.push(payoff)?,
+                Err(unfit) => return Err(PayoffStop::Range { player, unfit }),
+            }
+        }
+        Ok(())
     }
 
     // What the profile pays a player from a node on.
     #[cycle(values)]
-    fn value(&self, shortcuts: &mut Shortcuts, node: u32, player: u32) -> Result<Frac, Unfit>
+    fn value(&self, entries: &mut Entries, node: u32, player: u32) -> Result<Frac, Unfit>
         requires play { IsPlayed self.now }
         requires node { node < length self.now.tree.now.nodes }
         requires player { player < length self.now.tree.now.players }
-        requires keep { KeepShortcuts (game_of self.now) (choice_of self.now) shortcuts.old }
-        ensures keep { KeepShortcuts (game_of self.now) (choice_of self.now) shortcuts.new }
+        requires keep { KeepShortcuts (game_of self.now) (choice_of self.now) entries.old }
+        ensures keep { KeepShortcuts (game_of self.now) (choice_of self.now) entries.new }
         ensures gives { let t = game_of self.now in
             let choice = choice_of self.now in
             StepsGive (steps_at t choice player node) (value t (pure choice) player node) result }
     {
-        let target = shortcuts.take(self, node);
-        if let Some(value) = shortcuts.settled_value(self, target, player) {
+        let target = entries.take(self, node);
+        if let Some(value) = entries.settled_value(self, target, player) {
             fits(value);
             return Ok(value);
         }
-        let value = self.value_at(shortcuts, target, player)?;
+        let value = self.value_at(entries, target, player)?;
         fits(value);
-        shortcuts.settle(self, target, player, value);
+        entries.settle(self, target, player, value);
         Ok(value)
     }
 
     // The same, and no node is passed by.
     #[cycle(values)]
-    fn value_at(&self, shortcuts: &mut Shortcuts, node: u32, player: u32) -> Result<Frac, Unfit>
+    fn value_at(&self, entries: &mut Entries, node: u32, player: u32) -> Result<Frac, Unfit>
         requires play { IsPlayed self.now }
         requires node { node < length self.now.tree.now.nodes }
         requires player { player < length self.now.tree.now.players }
-        requires keep { KeepShortcuts (game_of self.now) (choice_of self.now) shortcuts.old }
-        ensures keep { KeepShortcuts (game_of self.now) (choice_of self.now) shortcuts.new }
+        requires keep { KeepShortcuts (game_of self.now) (choice_of self.now) entries.old }
+        ensures keep { KeepShortcuts (game_of self.now) (choice_of self.now) entries.new }
         ensures gives { let t = game_of self.now in
             let choice = choice_of self.now in
             StepsGive (steps_at t choice player node) (value t (pure choice) player node) result }
     {
-        let here = self.tree.nodes()[node as usize];
-        let pays = outcome_payoff(self.tree, here.outcome, player);
-        match here.set {
-            Some(set) => pays.add(self.value_after(shortcuts, node, set, here.kind, player)?),
+        let pays = pays(self.tree, node as usize, player as usize);
+        match set(self.tree, node as usize) {
+            Some(set) => pays.add(self.value_after(entries, node, set, player)?),
             None => Ok(pays),
         }
     }
@@ -130,30 +144,29 @@ impl<'a> Play<'a> {
     #[cycle(values)]
     fn value_after(
         &self,
-        shortcuts: &mut Shortcuts,
+        entries: &mut Entries,
         node: u32,
         set: u32,
-        kind: Kind,
         player: u32,
     ) -> Result<Frac, Unfit>
         requires play { IsPlayed self.now }
         requires node { node < length self.now.tree.now.nodes }
         requires player { player < length self.now.tree.now.players }
         requires set { (game_of self.now).set node ≡ Some set }
-        requires kind { kind ≡ kind_of_owner ((game_of self.now).owner set) }
-        requires keep { KeepShortcuts (game_of self.now) (choice_of self.now) shortcuts.old }
-        ensures keep { KeepShortcuts (game_of self.now) (choice_of self.now) shortcuts.new }
+        requires keep { KeepShortcuts (game_of self.now) (choice_of self.now) entries.old }
+        ensures keep { KeepShortcuts (game_of self.now) (choice_of self.now) entries.new }
         ensures gives { let t = game_of self.now in
             let choice = choice_of self.now in
-            StepsGive (steps_after t choice player node set (t.owner set))
+            StepsGive
+            (steps_after t choice player (steps_at t choice player) node set (t.owner set))
             (value_after t choice player node set (t.owner set)) result }
     {
-        match kind {
-            Kind::Move { player: owner } => {
+        match owner(self.tree, set as usize) {
+            Some(owner) => {
                 let action = self.action_at(owner, set);
-                self.value(shortcuts, self.children[node as usize][action], player)
+                self.value(entries, self.children[node as usize][action], player)
             }
-            _ => self.chance_value(shortcuts, node, set, player),
+            None => self.chance_value(entries, node, set, player),
         }
     }
 
@@ -161,7 +174,7 @@ impl<'a> Play<'a> {
     #[cycle(values)]
     fn chance_value(
         &self,
-        shortcuts: &mut Shortcuts,
+        entries: &mut Entries,
         node: u32,
         set: u32,
         player: u32,
@@ -170,19 +183,18 @@ impl<'a> Play<'a> {
         requires node { node < length self.now.tree.now.nodes }
         requires player { player < length self.now.tree.now.players }
         requires set { (game_of self.now).set node ≡ Some set }
-        requires keep { KeepShortcuts (game_of self.now) (choice_of self.now) shortcuts.old }
-        ensures keep { KeepShortcuts (game_of self.now) (choice_of self.now) shortcuts.new }
+        requires keep { KeepShortcuts (game_of self.now) (choice_of self.now) entries.old }
+        ensures keep { KeepShortcuts (game_of self.now) (choice_of self.now) entries.new }
         ensures gives { let t = game_of self.now in
             let choice = choice_of self.now in
-            StepsGive (steps_after t choice player node set None)
+            StepsGive (steps_after t choice player (steps_at t choice player) node set None)
             (value_after t choice player node set None) result }
     {
-        let actions = self.tree.sets()[set as usize].actions();
         let children = &self.children[node as usize];
         let mut sum = Frac::zero();
-        for action in 0..actions.len() {
-            let prob = actions[action].prob;
-            sum = self.with_branch(shortcuts, sum, prob, children[action], player)?;
+        for action in 0..action_count(self.tree, set as usize) {
+            let prob = probability(self.tree, set as usize, action);
+            sum = self.with_branch(entries, sum, prob, children[action], player)?;
         }
         Ok(sum)
     }
@@ -191,7 +203,7 @@ impl<'a> Play<'a> {
     #[cycle(values)]
     fn with_branch(
         &self,
-        shortcuts: &mut Shortcuts,
+        entries: &mut Entries,
         sum: Frac,
         prob: Frac,
         child: u32,
@@ -200,8 +212,8 @@ impl<'a> Play<'a> {
         requires play { IsPlayed self.now }
         requires node { child < length self.now.tree.now.nodes }
         requires player { player < length self.now.tree.now.players }
-        requires keep { KeepShortcuts (game_of self.now) (choice_of self.now) shortcuts.old }
-        ensures keep { KeepShortcuts (game_of self.now) (choice_of self.now) shortcuts.new }
+        requires keep { KeepShortcuts (game_of self.now) (choice_of self.now) entries.old }
+        ensures keep { KeepShortcuts (game_of self.now) (choice_of self.now) entries.new }
         ensures gives { let t = game_of self.now in
             let choice = choice_of self.now in
             StepsGive (branch_steps prob sum (value t (pure choice) player child)
@@ -211,7 +223,7 @@ impl<'a> Play<'a> {
         if prob.is_zero() {
             return Ok(sum);
         }
-        let value = self.value(shortcuts, child, player)?;
+        let value = self.value(entries, child, player)?;
         sum.add(prob.mul(value)?)
     }
 

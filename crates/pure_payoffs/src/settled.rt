@@ -5,10 +5,10 @@ ghost use Rattle.game_core.specs.TreeGame.{game_of_tree};
 ghost use Rattle.pure_payoffs.specs.Plays.{GiveAt};
 ghost use Rattle.pure_payoffs.specs.Settled.{AreWithoutPlayers, AreSettledNodes, KeepValues, Settles};
 
-use crate::children::stands_for_game_tree;
 use answers::Memory;
 use frac128::Frac;
-use game_core::{Kind, MOST_PAYOFFS, Node, Tree};
+use game_core::tree_parts::{parent, set, stands_for_game_tree};
+use game_core::{Kind, MOST_PAYOFFS, Tree};
 use std::alloc::Global;
 
 /// What nodes in whose subtrees no player moves are worth to the players, as far as it was asked for. Of the nodes
@@ -37,23 +37,22 @@ fn settled_nodes(alloc: Global, tree: &Tree) -> Result<Vec<bool>, Memory>
 {
     stands_for_game_tree(tree);
     let mut idle = nodes_of_chance(alloc, tree)?;
-    let nodes = tree.nodes();
-    for number in (1..nodes.len()).rev() {
-        let parent = nodes[number].parent.unwrap_or(0);
-        if !idle[number] {
-            idle[parent as usize] = false;
+    for node in (1..tree.nodes().len()).rev() {
+        if !idle[node] {
+            idle[parent(tree, node)] = false;
         }
     }
     Ok(idle)
 }
 
 // Whether no player moves in the subtree of a node of chance, and one moves in that of its parent.
-fn is_topmost(idle: &[bool], number: usize, node: &Node) -> bool
-    requires { number < length idle.now }
-    ensures { IsTrue result → slice_index_or idle.now number false ≡ true }
+fn is_topmost(tree: &Tree, idle: &[bool], node: usize) -> bool
+    requires tree { node < length tree.now.nodes }
+    requires idle { node < length idle.now }
+    ensures { IsTrue result → slice_index_or idle.now node false ≡ true }
 {
-    let parent = node.parent.unwrap_or(0) as usize;
-    idle[number] && node.set.is_some() && matches!(idle.get(parent), Some(false))
+    let parent = parent(tree, node);
+    idle[node] && set(tree, node).is_some() && matches!(idle.get(parent), Some(false))
 }
 
 // A place for each of so many players, all free.
@@ -76,9 +75,9 @@ impl Settled {
         let players = tree.players().len();
         let mut room = MOST_PAYOFFS;
         let mut places = Vec::new(alloc);
-        for (number, node) in tree.nodes().iter().enumerate() {
+        for node in 0..tree.nodes().len() {
             let mut of_players = Vec::new(alloc);
-            if players <= room && is_topmost(&idle, number, node) {
+            if players <= room && is_topmost(tree, &idle, node) {
                 room -= players;
                 of_players = free_places(alloc, players)?;
             }

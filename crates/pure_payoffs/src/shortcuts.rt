@@ -1,5 +1,5 @@
 // Shortcuts past nodes at which a profile only leads on.
-ghost use Rattle.std.specs.Prelude.{◌<◌, ℕ, length, MatchOption, ⊤, IfOk, IfSome, Ok};
+ghost use Rattle.std.specs.Prelude.{◌≡◌, ◌<◌, ℕ, length, MatchOption, ⊤, IfOk, IfSome, Ok};
 ghost use Rattle.game_theory.specs.Trees.{Tree as game_tree};
 ghost use Rattle.game_core.specs.TreeGame.{game_of_tree};
 ghost use Rattle.pure_payoffs.specs.Plays.{IsPlayed, GiveAt, game_of, choice_of};
@@ -11,11 +11,12 @@ use answers::Memory;
 use frac128::Frac;
 use game_core::{Kind, Tree};
 use std::alloc::Global;
+use std::marker::Model;
 
-/// For nodes of a tree the first node from there on, along the choices of a profile, at which something is paid or
-/// no player chooses: as far as such nodes were asked for since the last `forget`.
-#[derive(Debug, Drop)]
-pub struct Shortcuts {
+// For nodes of a tree the first node from there on, along the choices of a profile, at which something is paid or no
+// player chooses: as far as such nodes were asked for since the last `forget`.
+#[derive(Drop)]
+pub(crate) struct Entries {
     // The present round, from 1.
     round: u32,
     // For each node the round of its entry, and 0 where it has none.
@@ -59,13 +60,13 @@ fn target(play: &Play, node: u32) -> u32
     here
 }
 
-impl Shortcuts {
-    /// Room for the nodes of a tree, without an entry.
-    pub fn new(alloc: Global, tree: &Tree) -> Result<Shortcuts, Memory>
+impl Entries {
+    // Room for the nodes of a tree, without an entry.
+    fn new(alloc: Global, tree: &Tree) -> Result<Entries, Memory>
         ensures { IfOk result (HasRoom (game_of_tree tree.now)) }
     {
         let nodes = tree.nodes().len();
-        Ok(Shortcuts {
+        Ok(Entries {
             round: 1,
             rounds: vec![in alloc; 0; nodes]?,
             targets: vec![in alloc; 0; nodes]?,
@@ -73,8 +74,8 @@ impl Shortcuts {
         })
     }
 
-    /// Forgets all entries, and keeps what no profile changes.
-    pub fn forget(&mut self)
+    // Forgets all entries, and keeps what no profile changes.
+    pub(crate) fn forget(&mut self)
         ensures { (t : game_tree) (choice : ℕ → ℕ) → HasRoom t self.old
             → KeepShortcuts t choice self.new }
     {
@@ -102,6 +103,7 @@ impl Shortcuts {
         self.targets[number] = target;
         target
     }
+
     // What a node is worth to a player whatever the profile, where that is kept.
     pub(crate) fn settled_value(&self, play: &Play, node: u32, player: u32) -> Option<Frac>
         requires play { IsPlayed play.now }
@@ -122,5 +124,34 @@ impl Shortcuts {
         ensures keep { KeepShortcuts (game_of play.now) (choice_of play.now) self.new }
     {
         self.settled.keep(node, player, worth);
+    }
+}
+
+/// What is kept of a tree from profile to profile, so that not every node is visited for each.
+#[derive(Drop)]
+pub struct Shortcuts<'a> {
+    tree: &'a Tree,
+    pub(crate) entries: Entries,
+}
+
+impl<'a> Model for Shortcuts<'a> {
+    ghost use Rattle.game_core.specs.Tree.{GameTree};
+    ghost use Rattle.game_core.specs.TreeGame.{game_of_tree};
+    ghost use Rattle.pure_payoffs.specs.Shortcuts.{HasRoom};
+
+    ghost Value = { GameTree };
+
+    ghost view = { λ s. s.tree.now };
+
+    ghost invariant = { λ s. HasRoom (game_of_tree s.tree.now) s.entries };
+}
+
+impl<'a> Shortcuts<'a> {
+    /// Those of a tree, before its first profile.
+    pub fn new(alloc: Global, tree: &'a Tree) -> Result<Shortcuts<'a>, Memory>
+        ensures { IfOk result (λ shortcuts. shortcuts ≡ tree.now) }
+    {
+        let entries = Entries::new(alloc, tree)?;
+        Ok(Shortcuts { tree, entries })
     }
 }

@@ -7,8 +7,8 @@ use Rattle.reduced_strategies.specs.StrategicForm.{AreStrategies}
 use Rattle.game_core.specs.Table.{most_payoffs}
 use Rattle.game_core.specs.Tree.{GameTree}
 use Rattle.game_core.specs.TreeGame.{game_of_tree}
-use Rattle.reduced_form.specs.Counts.{AreCounted, choices_by, counts_in}
-use Rattle.reduced_form.specs.Limits.{most_choices}
+use Rattle.reduced_form.specs.Counts.{AreCounted, counts_in}
+use Rattle.reduced_form.specs.Limits.{choices_by, most_choices}
 use Rattle.reduced_form.specs.ReducedForm.{ReducedForm, IsReducedForm}
 use Rattle.reduced_form.specs.Stops.{cells_in, reduced_form_of, within_limits}
 use Rattle.reduced_form.specs.declared.stop.ReduceStop.{ReduceStop}

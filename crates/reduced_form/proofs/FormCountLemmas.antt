@@ -17,8 +17,8 @@ use Rattle.reduced_strategies.proofs.StrategyOrderLemmas.{strategies-determined}
 use Rattle.reduced_strategies.proofs.ExistenceLemmas.{strategies-exist}
 use Rattle.game_core.specs.Table.{most_payoffs}
 use Rattle.strategy_lists.specs.Decisions.{HasCount}
-use Rattle.reduced_form.specs.Counts.{AreCounted, choices_by, counts_in}
-use Rattle.reduced_form.specs.Limits.{choice_count, choices_from, most_choices}
+use Rattle.reduced_form.specs.Counts.{AreCounted, counts_in}
+use Rattle.reduced_form.specs.Limits.{choice_count, choices_by, most_choices}
 use Rattle.game_core.specs.Limits.{first_above}
 use Rattle.game_core.specs.declared.too_large.What.TheVariants as what
 use Rattle.reduced_form.specs.declared.stop.ReduceStop.TheVariants as stops
@@ -163,14 +163,9 @@ choices_by-front t i zero counts = omega arith
 choices_by-front t i (suc k) [] = omega arith
 choices_by-front t i (suc k) (n ∷ counts) = let later = choices_by-front t (suc i) k counts in omega arith
 
--- the choices of the strategies, by their numbers
-choices_from-by : (t : Tree) (i : ℕ) (strategies : List (List (List ℕ))) → choices_from t i strategies ≡ choices_by t i (map length strategies)
-choices_from-by t i [] = refl
-choices_from-by t i (list ∷ lists) = ap (λ x. length list * length (own_sets t i) + x) (choices_from-by t (suc i) lists)
-
 -- the same of the whole form
 pub choice_count-by : (t : Tree) (strategies : List (List (List ℕ))) (counts : List ℕ) → counts ≡ map length strategies → choice_count t strategies ≡ choices_by t 0 counts
-choice_count-by t strategies counts e = choices_from-by t 0 strategies ∙ ap (choices_by t 0) (sym e)
+choice_count-by t strategies counts e = ap (choices_by t 0) (sym e)
 
 -- the first players alone have too many choices
 pub many-choices : (t : Tree) (counts : List ℕ) (k : ℕ) → AreCounted t counts → t.players * profile_count counts ≤ most_payoffs → most_choices < choices_by t 0 (take k counts) → counts_in t (Err (stops.TooLarge (first_above what.Choices most_choices)))

@@ -65,7 +65,7 @@ form-is_form t strategies payoffs table w a is long few cells = subst (λ (x : G
   players_are = refl;
   names_are = refl;
   is_table = form_table-is_table t strategies payoffs w a long few;
-  pays = λ i k l h. (cells k i l (omega (arith, cell_place (length t.players) (profile_count (map length strategies)) k i h l))).value_is;
+  pays = λ i k l h. cells k i l (omega (arith, cell_place (length t.players) (profile_count (map length strategies)) k i h l));
 })
 
 -- each cell is what every completion pays

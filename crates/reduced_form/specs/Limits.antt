@@ -16,14 +16,14 @@ most_choices = 67108864
 abbrev pub payoff_count : Tree → List (List (List ℕ)) → ℕ
 payoff_count t strategies = t.players * profile_count (map length strategies)
 
--- strategies times own sets, added over the players from player i on
-abbrev pub choices_from : Tree → ℕ → List (List (List ℕ)) → ℕ
-choices_from t i [] = 0
-choices_from t i (list ∷ lists) = length list * length (own_sets t i) + choices_from t (suc i) lists
+-- strategies times own sets, added over the players from player i on, by the numbers of strategies
+abbrev pub choices_by : Tree → ℕ → List ℕ → ℕ
+choices_by t i [] = 0
+choices_by t i (n ∷ counts) = n * length (own_sets t i) + choices_by t (suc i) counts
 
 -- how many choices the form over these strategies has
 abbrev pub choice_count : Tree → List (List (List ℕ)) → ℕ
-choice_count t strategies = choices_from t 0 strategies
+choice_count t strategies = choices_by t 0 (map length strategies)
 
 -- a cell: a profile and a player
 abbrev pub Place : Type 0

@@ -1,14 +1,14 @@
 // The payoffs of a reduced form.
-ghost use Rattle.std.specs.Prelude.{◌≡◌, ◌<◌, ◌≤◌, ◌*◌, suc, length, map, Err, IfOk, IfErr, OnOk};
+ghost use Rattle.std.specs.Prelude.{◌≡◌, ◌<◌, ◌≤◌, ◌*◌, ◌++◌, length, map, IfOk, OnOk};
 ghost use Rattle.answers.specs.Answers.{Gives, map_ok};
 ghost use Rattle.game_theory.specs.Profiles.{profile_count, profile_at};
 ghost use Rattle.game_core.specs.Table.{most_payoffs};
 ghost use Rattle.game_core.specs.TreeGame.{game_of_tree};
-ghost use Rattle.pure_payoffs.specs.Plays.{game_of, strategies_of, choice_of};
-ghost use Rattle.pure_payoffs.specs.Shortcuts.{HasRoom, KeepShortcuts};
+ghost use Rattle.game_theory.specs.Lines.{listed};
+ghost use Rattle.pure_payoffs.specs.Plays.{game_of, strategies_of};
 ghost use Rattle.reduced_strategies.specs.Places.{ArePlaces};
-ghost use Rattle.reduced_strategies.specs.StrategicForm.{AreStrategies};
-ghost use Rattle.reduced_form.specs.Cells.{AreCells};
+ghost use Rattle.reduced_strategies.specs.StrategicForm.{AreStrategies, strategic_form};
+ghost use Rattle.reduced_form.specs.Cells.{AreCells, at_profile, profile_cells_in};
 ghost use Rattle.reduced_form.specs.Stops.{cells_in};
 ghost use Rattle.reduced_form.specs.declared.stop.ReduceStop.TheVariants as stops;
 ghost use Rattle.game_theory.specs.Children.{AreChildren};
@@ -17,8 +17,22 @@ use crate::stop::ReduceStop;
 use crate::strategies::Strategies;
 use frac128::Frac;
 use game_core::{Tree, profile_count, set_profile, trees_are_game_trees};
-use pure_payoffs::{Play, Shortcuts, children_of_all};
+use pure_payoffs::{PayoffStop, Play, Shortcuts, children_of_all};
 use std::alloc::Global;
+
+// Why a form has no payoffs, by why the profile with this number has none.
+fn at_profile(profile: u32, stop: PayoffStop) -> ReduceStop
+    ensures { result ≡ at_profile profile stop }
+{
+    match stop {
+        PayoffStop::Range { player, unfit } => ReduceStop::Range {
+            profile,
+            player,
+            unfit,
+        },
+        PayoffStop::Memory => ReduceStop::Memory,
+    }
+}
 
 // Adds what a profile pays each player.
 fn push_cells(
@@ -34,30 +48,18 @@ fn push_cells(
     requires number { number < profile_count (map length (strategies_of play.now)) }
     requires profile { play.now.profile.now
         ≡ profile_at (map length (strategies_of play.now)) number }
-    requires keep { KeepShortcuts (game_of play.now) (choice_of play.now) shortcuts.old }
-    requires so_many { length payoffs.old.items ≡ number * length play.now.tree.now.players }
-    requires cells { AreCells (game_of play.now) (strategies_of play.now) payoffs.old.items }
-    ensures room { HasRoom (game_of play.now) shortcuts.new }
-    ensures so_many { OnOk result (length payoffs.new.items
-        ≡ suc number * length play.now.tree.now.players) }
-    ensures cells { OnOk result
-        (AreCells (game_of play.now) (strategies_of play.now) payoffs.new.items) }
-    ensures stop { IfErr result (λ stop. Gives stops.Memory
-        (cells_in (game_of play.now) (strategies_of play.now)) (Err stop)) }
+    requires tree { shortcuts.old ≡ play.now.tree.now }
+    ensures tree { shortcuts.new ≡ shortcuts.old }
+    ensures cells { let t = game_of play.now in
+        OnOk result (payoffs.new.items ≡ payoffs.old.items
+        ++ listed t.players (λ i. (strategic_form t (strategies_of play.now)).pays i number)) }
+    ensures stop { Gives stops.Memory
+        (profile_cells_in (game_of play.now) (strategies_of play.now) number) result }
 {
-    for player in 0..play.tree.players().len() as u32 {
-        match play.payoff(shortcuts, player) {
-            Ok(payoff) => payoffs.push(payoff)?,
-            Err(unfit) => {
-                return Err(ReduceStop::Range {
-                    profile: number,
-                    player,
-                    unfit,
-                });
-            }
-        }
+    match play.push_payoffs(shortcuts, payoffs) {
+        Ok(()) => Ok(()),
+        Err(stop) => Err(at_profile(number, stop)),
     }
-    Ok(())
 }
 
 /// What each profile pays each player, profiles in file order. `places` has each set's place among its owner's
@@ -89,7 +91,6 @@ pub fn cells(
     let mut payoffs = Vec::with_capacity(alloc, players * profiles)?;
     for number in 0..profiles {
         set_profile(&mut profile, counts, number);
-        shortcuts.forget();
         let play = Play {
             tree,
             children: &children,

@@ -107,6 +107,7 @@ pub fn reduce(alloc: Global, tree: &Tree) -> Result<Reduced, ReduceStop>
     ensures completions { IfOk result (PaysCompletions tree.now) }
 {
     trees_are_game_trees();
+    // Its contract gives what the type keeps.
     let _players = tree.players();
     let places = set_places(alloc, tree)?;
     let decisions = Decisions::new(alloc, tree, &places)?;

@@ -98,7 +98,7 @@ impl Model for SeqForm {
 }
 
 impl SeqForm {
-    /// The form of these sides and leaves. Time in proportion to leaves, with a factor for sorting them.
+    /// The form of these sides and leaves.
     ///
     /// # Errors
     ///

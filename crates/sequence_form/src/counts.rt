@@ -82,6 +82,7 @@ pub fn counts_table(table: &Table) -> Counts
     ensures form { (f : FormData) → IsTableForm table.now f → result ≡ counts_of f.first f.second }
     ensures few { AreFew result }
 {
+    // Its contract gives what the type keeps.
     let _players = table.players();
     Counts {
         sequences_one: table.strategies(0).len() as u64 + 1,

@@ -58,7 +58,7 @@ fn profiles(alloc: Global, table: &Table) -> Result<Vec<Leaf>, Memory>
 }
 
 /// The sequence form of a table of two players: each chooses once, at one set, and the profiles are leaves of
-/// chance 1. Time in proportion to profiles, but for sorting them.
+/// chance 1.
 ///
 /// # Errors
 ///

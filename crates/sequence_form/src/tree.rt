@@ -13,8 +13,7 @@ use perfect_recall::Recall;
 use sequence_data::{SeqForm, SeqStop};
 use std::alloc::Global;
 
-/// The sequence form of a tree of two players, which `recall` is of. Time and room in proportion to nodes and
-/// sets, but for the sorting of the leaves.
+/// The sequence form of a tree of two players, which `recall` is of.
 ///
 /// # Errors
 ///

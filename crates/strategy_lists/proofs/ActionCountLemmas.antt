@@ -11,7 +11,7 @@ use Rattle.game_theory.specs.Behaviour.{is_index}
 use Rattle.game_core.specs.Tree.{GameTree, IsGameTree, InformationSet, OpenBranch, AreInPrefixOrder, action_count, branches_after, members_from, own_sets}
 use Rattle.game_core.specs.TreeGame.{game_of_tree}
 use Rattle.strategy_lists.proofs.OwnNumberLemmas.{own_from-own_sets, own_sets-numbers, own_numbers-length}
-use Rattle.strategy_lists.proofs.WalkStrategyLemmas.{own_set-tell}
+use Rattle.strategy_lists.proofs.ReducedListLemmas.{own_set-tell}
 
 -- a node has a place for each action
 length-places : (node a n : ℕ) → length (branches_after (Some node) a n) ≡ n

@@ -3,4 +3,4 @@ mod MoveLemmas
 pub mod OwnNumberLemmas
 mod ParentLemmas
 mod PlayerDecisionLemmas
-mod WalkStrategyLemmas
+mod ReducedListLemmas

@@ -11,12 +11,12 @@ use Rattle.game_theory.specs.Trees.{Tree, IsTree}
 use Rattle.game_theory.specs.Recall.{own_history}
 use Rattle.choice_lists.specs.declared.decision.Decision.{Decision}
 use Rattle.choice_lists.specs.declared.decision.Edge.{Edge}
-use Rattle.choice_lists.specs.Walks.{AreLinked, ComesFrom}
+use Rattle.choice_lists.specs.Reduced.{AreLinked, ComesFrom}
 use Rattle.strategy_lists.specs.Decisions.{history_by, IsDecisionAt, AreDecisions, AreDecisionsOfAll}
 use Rattle.strategy_lists.specs.Made.{mover, IsEdgeTo, LeadsTo, IsMadeAt, HasTaken}
 use Rattle.strategy_lists.proofs.OwnNumberLemmas.{slice_get-push, slice_get-push_cases}
 use Rattle.strategy_lists.proofs.MoveLemmas.{mover-move, mover-within}
-use Rattle.strategy_lists.proofs.WalkStrategyLemmas.{own_set-place, own_set-tell}
+use Rattle.strategy_lists.proofs.ReducedListLemmas.{own_set-place, own_set-tell}
 
 -- the decisions of player i at the nodes below n, their numbers by node, and by set the number of one of them, where there is one
 pub record AreMade (t : Tree) (n i : ℕ) (numbers : List ℕ) (latest : List (Option ℕ)) (decisions : List Decision) : Type 0 where

@@ -6,7 +6,7 @@ use Rattle.game_theory.specs.Recall.{own_history}
 use Rattle.reduced_strategies.specs.Choices.{AreReducedStrategies}
 use Rattle.choice_lists.specs.declared.decision.Decision.{Decision}
 use Rattle.choice_lists.specs.declared.decision.Edge.{Edge}
-use Rattle.choice_lists.specs.Walks.{AreLinked}
+use Rattle.choice_lists.specs.Reduced.{AreLinked}
 
 -- the own history of the decision to which an edge leads, where these nodes are the decisions'
 abbrev pub history_by : Tree → ℕ → List ℕ → Option Edge → List (ℕ × ℕ)

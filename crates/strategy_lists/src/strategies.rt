@@ -8,7 +8,7 @@ ghost use Rattle.game_theory.specs.OwnSets.{own_counts};
 
 use crate::decisions::decisions_of_all;
 use answers::Memory;
-use choice_lists::{Decision, count_walks, list_walks};
+use choice_lists::{Decision, count_reduced, list_reduced};
 use game_core::Tree;
 use std::alloc::Global;
 use std::marker::Model;
@@ -83,7 +83,7 @@ impl<'a> Decisions<'a> {
             × (count ≡ min all (most + 1))) }
     {
         let actions = own_action_counts(alloc, self.tree, player)?;
-        count_walks(alloc, self.of_player(player), actions.as_slice(), most)
+        count_reduced(alloc, self.of_player(player), actions.as_slice(), most)
     }
 
     /// The reduced strategies of a player in order, each as a list of the actions at the player's own sets,
@@ -95,6 +95,6 @@ impl<'a> Decisions<'a> {
             (map (λ v. v.items) strategies.items)) }
     {
         let actions = own_action_counts(alloc, self.tree, player)?;
-        list_walks(alloc, self.of_player(player), actions.as_slice())
+        list_reduced(alloc, self.of_player(player), actions.as_slice())
     }
 }

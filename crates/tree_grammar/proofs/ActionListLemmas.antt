@@ -12,7 +12,7 @@ use Rattle.game_core.specs.declared.token.Token.TheVariants.{Left, Text, Number}
 use Rattle.file_parts.specs.Reading.{left_at, right_at, texts_at, opens}
 use Rattle.file_parts.proofs.TokenLaws.{left_is, le_passes}
 use Rattle.written_trees.specs.Building.{may_follow, adds_up, may_be_first, repeats_actions}
-use Rattle.written_trees.specs.Laws.{HasNoProbability, IsActionList}
+use Rattle.written_trees.specs.Described.{IsActionOf, IsActionList}
 use Rattle.written_trees.proofs.InsertedKeyLemmas.{eq_self}
 use Rattle.tree_grammar.specs.TreePieces.{closed_at}
 use Rattle.tree_grammar.proofs.PartValueLemmas.{chance_actions_at, actions_at, action_list_at, summed_at, first_list_at, all_repeated_at, later_list_at}
@@ -186,16 +186,16 @@ chance_repeats (action ∷ actions) (Text name ∷ tokens) = refl
 chance_repeats (action ∷ actions) tokens = never (right_at tokens)
 
 -- a player's actions repeat these, and are closed
-own_repeats : (i : ℕ) (actions : List Action) (tokens : List Token) → AllByRecursion (HasNoProbability (Some i)) actions → (actions_at (Some i) tokens >>= repeated_after actions) ≡ (all_repeated_at (Some i) actions tokens >>= right_at)
+own_repeats : (i : ℕ) (actions : List Action) (tokens : List Token) → AllByRecursion (IsActionOf (Some i)) actions → (actions_at (Some i) tokens >>= repeated_after actions) ≡ (all_repeated_at (Some i) actions tokens >>= right_at)
 own_repeats i [] (Text name ∷ tokens) h = never (right_at (texts_at tokens).1)
 own_repeats i [] tokens h = closed_as_it_is (right_at tokens)
 own_repeats i (action ∷ actions) (Text name ∷ tokens) h = rw (h.0, eq_self eq_ℚ eq_ℚ-decides zero_ℚ) (own_repeats i actions tokens h.1)
 own_repeats i (action ∷ actions) tokens h = never (right_at tokens)
 
 -- actions repeat these, and are closed
-actions_repeat : (owner : Option ℕ) (actions : List Action) (tokens : List Token) → All (HasNoProbability owner) actions → (actions_at owner tokens >>= repeated_after actions) ≡ (all_repeated_at owner actions tokens >>= right_at)
+actions_repeat : (owner : Option ℕ) (actions : List Action) (tokens : List Token) → All (IsActionOf owner) actions → (actions_at owner tokens >>= repeated_after actions) ≡ (all_repeated_at owner actions tokens >>= right_at)
 actions_repeat None actions tokens h = chance_repeats actions tokens
-actions_repeat (Some i) actions tokens h = own_repeats i actions tokens (recursion_from_All (HasNoProbability (Some i)) actions h)
+actions_repeat (Some i) actions tokens h = own_repeats i actions tokens (recursion_from_All (IsActionOf (Some i)) actions h)
 
 -- what repeats one or more actions has one or more
 repeats_some : (actions list : List Action) → 0 < length actions → repeats_actions actions (Some list) ≡ true → 1 ≤ length list
@@ -243,4 +243,4 @@ later_without owner actions tokens l = rw (no_left tokens l) refl
 -- a later list is compared as it is read
 pub later_list_is : (owner : Option ℕ) (actions : List Action) (tokens inner : List Token) → IsActionList owner actions → left_at tokens ≡ Some inner → later_list_at owner actions tokens ≡ (all_repeated_at owner actions inner >>= right_at)
 unfolding later_list_at action_list_at
-later_list_is owner actions tokens inner h l = rw (left_is tokens inner l) (list_repeats actions (actions_at owner inner) h.some_action ∙ actions_repeat owner actions inner h.no_probabilities)
+later_list_is owner actions tokens inner h l = rw (left_is tokens inner l) (list_repeats actions (actions_at owner inner) h.some_action ∙ actions_repeat owner actions inner h.are_of_owner)

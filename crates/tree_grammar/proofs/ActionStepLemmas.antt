@@ -5,10 +5,10 @@ use Rattle.std.proofs.Math.Seq.{drop-cons}
 use Rattle.std.specs.Prelude.{Ok, Err}
 use Rattle.rational.specs.Rational.{ℚ, zero_ℚ, one_ℚ}
 use Rattle.game_core.specs.declared.tree.Action.{Action}
-use Rattle.file_parts.specs.declared.refusal.Refusal.{Refusal}
-use Rattle.file_parts.specs.declared.refusal.Refusal.TheVariants as refusals
+use Rattle.file_parts.specs.declared.stop.PartStop.{PartStop}
+use Rattle.file_parts.specs.declared.stop.PartStop.TheVariants as part_stops
 use Rattle.file_parts.specs.Reading.{left_at, text_at, number_at, texts_at}
-use Rattle.file_parts.specs.Parsing.{Parsed, ◌>>=◌, IsRefusal}
+use Rattle.file_parts.specs.Parsing.{Parsed, ◌>>=◌, IsPartStop}
 use Rattle.file_parts.proofs.ParseLemmas.{refused_first}
 use Rattle.file_parts.proofs.ReaderLemmas.{chain, ok_same}
 use Rattle.file_parts.proofs.TokenLaws.{text_is, number_is}
@@ -42,9 +42,9 @@ summed_goes_on set front sum next prob name tokens after rest total t n may so_f
     sym step ∙ so_far
 
 -- its probability may not follow
-pub summed_stops : (set : ℕ) (front : List Action) (sum prob : ℚ) (kind : EfgKind) (name : List ℕ) (tokens after rest : List Token) (refusal : Refusal EfgKind) (total : Summed) → text_at tokens ≡ Some (name, after) → number_at after ≡ Some (prob, rest) → Err kind ≡ sum_with set sum prob
-    → refusal ≡ refusals.Unexpected kind (length after) → after_actions front (parse_chances set sum tokens) ≡ total → IsRefusal refusal total
-summed_stops set front sum prob kind name tokens after rest refusal total t n may u so_far =
+pub summed_stops : (set : ℕ) (front : List Action) (sum prob : ℚ) (kind : EfgKind) (name : List ℕ) (tokens after rest : List Token) (stopped : PartStop EfgKind) (total : Summed) → text_at tokens ≡ Some (name, after) → number_at after ≡ Some (prob, rest) → Err kind ≡ sum_with set sum prob
+    → stopped ≡ part_stops.Unexpected kind (length after) → after_actions front (parse_chances set sum tokens) ≡ total → IsPartStop stopped total
+summed_stops set front sum prob kind name tokens after rest stopped total t n may u so_far =
     let step : after_actions front (parse_chances set sum tokens) ≡ Err (kind, after) = rw (text_is tokens (name, after) t, number_is after (prob, rest) n, ← may) refl in
     rw (u, ← so_far, step) refl
 
@@ -54,9 +54,9 @@ no_number set sum name (Number prob ∷ rest) e = cc
 no_number set sum name _ e = refl
 
 -- no probability comes
-pub summed_lacks : (set : ℕ) (front : List Action) (sum : ℚ) (name : List ℕ) (tokens after : List Token) (refusal : Refusal EfgKind) (total : Summed) → text_at tokens ≡ Some (name, after) → number_at after ≡ None → refusal ≡ refusals.Unexpected Node (length after)
-    → after_actions front (parse_chances set sum tokens) ≡ total → IsRefusal refusal total
-summed_lacks set front sum name tokens after refusal total t n u so_far =
+pub summed_lacks : (set : ℕ) (front : List Action) (sum : ℚ) (name : List ℕ) (tokens after : List Token) (stopped : PartStop EfgKind) (total : Summed) → text_at tokens ≡ Some (name, after) → number_at after ≡ None → stopped ≡ part_stops.Unexpected Node (length after)
+    → after_actions front (parse_chances set sum tokens) ≡ total → IsPartStop stopped total
+summed_lacks set front sum name tokens after stopped total t n u so_far =
     let step : after_actions front (parse_chances set sum tokens) ≡ Err (Node, after) = rw (text_is tokens (name, after) t, no_number set sum name after n) refl in
     rw (u, ← so_far, step) refl
 
@@ -95,18 +95,18 @@ repeats_go_on owner actions i action tokens after total lt is one so_far =
     sym step ∙ so_far
 
 -- one was not
-pub repeats_stop : (owner : Option ℕ) (actions : List Action) (i : ℕ) (action : Action) (tokens : List Token) (refusal : Refusal EfgKind) (total : Parsed EfgKind (Unit {0})) → i < length actions → action ≡ get_or actions i action → IsRefusal refusal (parse_repeated owner action tokens)
-    → parse_all_repeated owner (drop i actions) tokens ≡ total → IsRefusal refusal total
-repeats_stop owner actions i action tokens refusal total lt is r so_far =
-    rw (← so_far, next_repeated owner actions i action tokens lt is) (refused_first refusal (parse_repeated owner action tokens) _ r)
+pub repeats_stop : (owner : Option ℕ) (actions : List Action) (i : ℕ) (action : Action) (tokens : List Token) (stopped : PartStop EfgKind) (total : Parsed EfgKind (Unit {0})) → i < length actions → action ≡ get_or actions i action → IsPartStop stopped (parse_repeated owner action tokens)
+    → parse_all_repeated owner (drop i actions) tokens ≡ total → IsPartStop stopped total
+repeats_stop owner actions i action tokens stopped total lt is r so_far =
+    rw (← so_far, next_repeated owner actions i action tokens lt is) (refused_first stopped (parse_repeated owner action tokens) _ r)
 
 pub ruleset repeat_steps = (repeats_go_on, repeats_stop)
 
 -- ---- first lists
 -- no list comes
-pub first_lacks : (owner : Option ℕ) (set : ℕ) (tokens : List Token) (refusal : Refusal EfgKind) → left_at tokens ≡ None → refusal ≡ refusals.Unexpected SetMismatch (length tokens) → IsRefusal refusal (parse_first_list owner set tokens)
+pub first_lacks : (owner : Option ℕ) (set : ℕ) (tokens : List Token) (stopped : PartStop EfgKind) → left_at tokens ≡ None → stopped ≡ part_stops.Unexpected SetMismatch (length tokens) → IsPartStop stopped (parse_first_list owner set tokens)
 unfolding parse_first_list
-first_lacks owner set tokens refusal none u = rw (none, u) refl
+first_lacks owner set tokens stopped none u = rw (none, u) refl
 
 -- the list of a player, and of chance, after its brace
 pub first_own : (owner : Option ℕ) (i set : ℕ) (tokens inner : List Token) → owner ≡ Some i → left_at tokens ≡ Some inner → parse_first_list owner set tokens ≡ parse_own_list inner
@@ -118,13 +118,13 @@ unfolding parse_first_list
 first_chance owner set tokens inner o l = rw (o, l) refl
 
 -- a player's list that is not closed, and one that is
-pub own_open : (owner : Option ℕ) (i set n : ℕ) (tokens inner following : List Token) (actions : List Action) (refusal : Refusal EfgKind) → owner ≡ Some i → left_at tokens ≡ Some inner → ◌≡◌ {A = Parsed EfgKind (List Action)} (Ok (map own_action (texts_at inner).0, (texts_at inner).1)) (Ok (actions, following)) → n ≡ length actions
-    → IsRefusal refusal (parse_closed n following) → IsRefusal refusal (parse_first_list owner set tokens)
-own_open owner i set n tokens inner following actions refusal o l a e r =
+pub own_open : (owner : Option ℕ) (i set n : ℕ) (tokens inner following : List Token) (actions : List Action) (stopped : PartStop EfgKind) → owner ≡ Some i → left_at tokens ≡ Some inner → ◌≡◌ {A = Parsed EfgKind (List Action)} (Ok (map own_action (texts_at inner).0, (texts_at inner).1)) (Ok (actions, following)) → n ≡ length actions
+    → IsPartStop stopped (parse_closed n following) → IsPartStop stopped (parse_first_list owner set tokens)
+own_open owner i set n tokens inner following actions stopped o l a e r =
     let same : (map own_action (texts_at inner).0, (texts_at inner).1) ≡ (actions, following) = ok_same (map own_action (texts_at inner).0, (texts_at inner).1) (actions, following) a in
     let size : n ≡ length (map own_action (texts_at inner).0) = e ∙ sym (ap (λ (x : List Action × List Token). length x.0) same) in
     let rest : following ≡ (texts_at inner).1 = sym (ap (λ (x : List Action × List Token). x.1) same) in
-    rw (first_own owner i set tokens inner o l, own_list_by n inner size) (refused_first refusal (parse_closed n (texts_at inner).1) _ (subst (λ (q : List Token). IsRefusal refusal (parse_closed n q)) rest r))
+    rw (first_own owner i set tokens inner o l, own_list_by n inner size) (refused_first stopped (parse_closed n (texts_at inner).1) _ (subst (λ (q : List Token). IsPartStop stopped (parse_closed n q)) rest r))
 
 pub own_closed : (owner : Option ℕ) (i set n : ℕ) (tokens inner following rest : List Token) (actions : List Action) → owner ≡ Some i → left_at tokens ≡ Some inner → ◌≡◌ {A = Parsed EfgKind (List Action)} (Ok (map own_action (texts_at inner).0, (texts_at inner).1)) (Ok (actions, following)) → n ≡ length actions
     → parse_closed n following ≡ Ok (tt, rest) → parse_first_list owner set tokens ≡ Ok (actions, rest)
@@ -135,20 +135,20 @@ own_closed owner i set n tokens inner following rest actions o l a e c =
     rw (first_own owner i set tokens inner o l, own_list_by n inner size, closed) (ap (λ (x : List Action × List Token). Ok (x.0, rest)) same)
 
 -- the list of chance: its actions are refused, it is not closed, its sum is another, or it is read
-pub chance_stops : (owner : Option ℕ) (set : ℕ) (tokens inner : List Token) (refusal : Refusal EfgKind) → owner ≡ None → left_at tokens ≡ Some inner → IsRefusal refusal (parse_chances set zero_ℚ inner) → IsRefusal refusal (parse_first_list owner set tokens)
+pub chance_stops : (owner : Option ℕ) (set : ℕ) (tokens inner : List Token) (stopped : PartStop EfgKind) → owner ≡ None → left_at tokens ≡ Some inner → IsPartStop stopped (parse_chances set zero_ℚ inner) → IsPartStop stopped (parse_first_list owner set tokens)
 unfolding parse_chance_list
-chance_stops owner set tokens inner refusal o l r = rw (first_chance owner set tokens inner o l) (refused_first refusal (parse_chances set zero_ℚ inner) _ r)
+chance_stops owner set tokens inner stopped o l r = rw (first_chance owner set tokens inner o l) (refused_first stopped (parse_chances set zero_ℚ inner) _ r)
 
-pub chance_open : (owner : Option ℕ) (set n : ℕ) (tokens inner following : List Token) (actions : List Action) (sum : ℚ) (refusal : Refusal EfgKind) → owner ≡ None → left_at tokens ≡ Some inner → parse_chances set zero_ℚ inner ≡ Ok ((actions, sum), following) → n ≡ length actions
-    → IsRefusal refusal (parse_closed n following) → IsRefusal refusal (parse_first_list owner set tokens)
+pub chance_open : (owner : Option ℕ) (set n : ℕ) (tokens inner following : List Token) (actions : List Action) (sum : ℚ) (stopped : PartStop EfgKind) → owner ≡ None → left_at tokens ≡ Some inner → parse_chances set zero_ℚ inner ≡ Ok ((actions, sum), following) → n ≡ length actions
+    → IsPartStop stopped (parse_closed n following) → IsPartStop stopped (parse_first_list owner set tokens)
 unfolding parse_chance_list
-chance_open owner set n tokens inner following actions sum refusal o l a e r =
-    rw (first_chance owner set tokens inner o l, a) (refused_first refusal (parse_closed (length actions) following) _ (subst (λ (m : ℕ). IsRefusal refusal (parse_closed m following)) e r))
+chance_open owner set n tokens inner following actions sum stopped o l a e r =
+    rw (first_chance owner set tokens inner o l, a) (refused_first stopped (parse_closed (length actions) following) _ (subst (λ (m : ℕ). IsPartStop stopped (parse_closed m following)) e r))
 
-pub chance_differs : (owner : Option ℕ) (set n : ℕ) (tokens inner following rest : List Token) (actions : List Action) (sum : ℚ) (refusal : Refusal EfgKind) → owner ≡ None → left_at tokens ≡ Some inner → parse_chances set zero_ℚ inner ≡ Ok ((actions, sum), following) → n ≡ length actions
-    → parse_closed n following ≡ Ok (tt, rest) → eq_ℚ sum one_ℚ ≡ false → refusal ≡ refusals.Unexpected (Probability set sum) (length following) → IsRefusal refusal (parse_first_list owner set tokens)
+pub chance_differs : (owner : Option ℕ) (set n : ℕ) (tokens inner following rest : List Token) (actions : List Action) (sum : ℚ) (stopped : PartStop EfgKind) → owner ≡ None → left_at tokens ≡ Some inner → parse_chances set zero_ℚ inner ≡ Ok ((actions, sum), following) → n ≡ length actions
+    → parse_closed n following ≡ Ok (tt, rest) → eq_ℚ sum one_ℚ ≡ false → stopped ≡ part_stops.Unexpected (Probability set sum) (length following) → IsPartStop stopped (parse_first_list owner set tokens)
 unfolding parse_chance_list
-chance_differs owner set n tokens inner following rest actions sum refusal o l a e c t u =
+chance_differs owner set n tokens inner following rest actions sum stopped o l a e c t u =
     let closed : parse_closed (length actions) following ≡ Ok (tt, rest) = subst (λ (m : ℕ). parse_closed m following ≡ Ok (tt, rest)) e c in
     rw (first_chance owner set tokens inner o l, a, closed, t, u) refl
 

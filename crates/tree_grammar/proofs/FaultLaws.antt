@@ -19,7 +19,7 @@ use Rattle.written_trees.specs.Building.{PartialTree, root_alone, tree_so_far, o
 use Rattle.written_trees.proofs.BuiltTreeLemmas.{built_is_so}
 use Rattle.tree_grammar.specs.TreeFile.{IsFront, IsPartialFile, IsTreeFile}
 use Rattle.file_parts.proofs.HeaderLaws.{title_is}
-use Rattle.tree_grammar.specs.TreeParsing.{Head, parse_head, parse_tree}
+use Rattle.tree_grammar.specs.TreeParsing.{FrontPart, parse_front, parse_tree}
 use Rattle.tree_grammar.specs.TreeFaults.{IsFile, BeginsFile, IsTitle, StopsInPlayers, StopsAtSet, StopsAtOutcome, HasActions, WantsProbability}
 use Rattle.tree_grammar.specs.FaultKinds.{TextComes, BraceComes, NumberComes, IsNodeKind, IsKind}
 use Rattle.tree_grammar.specs.declared.kinds.EfgKind.{EfgKind}
@@ -27,8 +27,8 @@ use Rattle.tree_grammar.specs.declared.kinds.EfgKind.TheVariants.{Header, Player
 use Rattle.tree_grammar.proofs.FileLaws.{partial_front}
 use Rattle.tree_grammar.proofs.NodesLaws.{no_branching, all_written}
 use Rattle.tree_grammar.proofs.NodesReadLaws.{nothing_keeps, nodes_are}
-use Rattle.tree_grammar.proofs.HeadLemmas.{names_go_on, head_stops, CannotCome}
-use Rattle.tree_grammar.proofs.HeadLaws.{ReadsHead, title_again_so, names_again_so}
+use Rattle.tree_grammar.proofs.FrontLemmas.{names_go_on, front_stops, CannotCome}
+use Rattle.tree_grammar.proofs.FrontLaws.{ReadsFront, title_again_so, names_again_so}
 use Rattle.tree_grammar.proofs.WholeFileLaws.{nodes_begin, few_players, few_is_file, read_is_file, file_is_located, inner_fault, body_stops}
 use Rattle.tree_grammar.proofs.NodeKindLemmas.{node_kind_told}
 use Rattle.tree_grammar.proofs.NodePointLemmas.{nodes_stops}
@@ -60,10 +60,10 @@ title_whole tokens following title e =
     let t = title_is (codes "EFG") 2 tokens (title, following) (sym (value_title Header (codes "EFG") 2 tokens) ∙ ap value e) in
     (Word (codes "EFG") ∷ whole_number 2 ∷ Word t.0 ∷ Text title ∷ [], t.2, (Word (codes "EFG") ∷ whole_number 2 ∷ Word t.0 ∷ [], title, (t.0, t.1, refl), refl))
 
--- the kind where the head stops
-head_kind : (tokens : List Token) (kind : EfgKind) (rest : List Token) → parse_head tokens ≡ Err (kind, rest) → (before : List Token) × (tokens ≡ before ++ rest) × IsKind kind before rest
-unfolding parse_head
-head_kind tokens kind rest e = elim (bind_err (parse_title Header (codes "EFG") 2 tokens) _ (kind, rest) e) [
+-- the kind where the front stops
+front_kind : (tokens : List Token) (kind : EfgKind) (rest : List Token) → parse_front tokens ≡ Err (kind, rest) → (before : List Token) × (tokens ≡ before ++ rest) × IsKind kind before rest
+unfolding parse_front
+front_kind tokens kind rest e = elim (bind_err (parse_title Header (codes "EFG") 2 tokens) _ (kind, rest) e) [
   | inl f ↦
       let o = title_open tokens kind rest f in
       (o.0, o.1, subst (λ (k : EfgKind). IsKind k o.0 rest) (sym (title_faults Header (codes "EFG") 2 tokens (kind, rest) f)) o.2)
@@ -77,13 +77,13 @@ head_kind tokens kind rest e = elim (bind_err (parse_title Header (codes "EFG") 
   ]
 ]
 
--- ---- after the head
+-- ---- after the front
 -- the title and the players are whole
-abbrev IsAfterHead : List Token → Type 0
-IsAfterHead tokens = (title names more : List Token) × (tokens ≡ title ++ names ++ more) × IsTitle title × NamesPlayers names
+abbrev IsAfterFront : List Token → Type 0
+IsAfterFront tokens = (title names more : List Token) × (tokens ≡ title ++ names ++ more) × IsTitle title × NamesPlayers names
 
--- tokens after a front stop after the head
-after_front : (front inner : List Token) (title : List ℕ) (players : List (List ℕ)) → IsFront front title players → IsAfterHead (front ++ inner)
+-- tokens after a front come after a title and names
+after_front : (front inner : List Token) (title : List ℕ) (players : List (List ℕ)) → IsFront front title players → IsAfterFront (front ++ inner)
 after_front front inner title players f =
     let h = f.is_header in
     let names : List Token = braced_texts players in
@@ -93,10 +93,10 @@ after_front front inner title players f =
     (header ++ Text title ∷ [], names, f.comment ++ inner, all, (header, title, (h.0, h.1, refl), refl), (players, (f.some_player, refl)))
 
 -- and so after a partial file
-after_file : (tokens partial tail : List Token) (tree : GameTree) (free : List OpenBranch) → IsPartialFile partial tree free → tokens ≡ partial ++ tail → IsAfterHead tokens
+after_file : (tokens partial tail : List Token) (tree : GameTree) (free : List OpenBranch) → IsPartialFile partial tree free → tokens ≡ partial ++ tail → IsAfterFront tokens
 after_file tokens partial tail tree free f e =
     let all : tokens ≡ f.front ++ (f.nodes ++ tail) = e ∙ ap (λ (q : List Token). q ++ tail) f.are_tokens ∙ append_assoc f.front f.nodes tail in
-    subst IsAfterHead (sym all) (after_front f.front (f.nodes ++ tail) tree.title tree.players f.is_front)
+    subst IsAfterFront (sym all) (after_front f.front (f.nodes ++ tail) tree.title tree.players f.is_front)
 
 -- ---- the kind among the nodes
 -- a kind that has a name of its own
@@ -109,7 +109,7 @@ as_kind Trailing before rest h = absurd h
 as_kind _ before rest h = h
 
 -- the others are ones of the node's form
-node_kind : (before : List Token) (t : Token) (r : List Token) → IsAfterHead before → located_tree (before ++ t ∷ r) ≡ Err (Node, t ∷ r) → IsKind Node before (t ∷ r)
+node_kind : (before : List Token) (t : Token) (r : List Token) → IsAfterFront before → located_tree (before ++ t ∷ r) ≡ Err (Node, t ∷ r) → IsKind Node before (t ∷ r)
 node_kind before t r inside e = (
   (inside, λ file. let same = file_trails before t r Node file e in cc),
   some_token t r,
@@ -117,7 +117,7 @@ node_kind before t r inside e = (
 )
 
 -- nodes that leave no branch open are a file
-whole_file : (tokens : List Token) (x : Head × List Token) (h : ReadsHead tokens x) (partial : PartialTree) (left : List Token) → length x.0.1 < 2 ^ 32 → located_nodes (suc (length x.1)) (length x.0.1) root_alone x.1 ≡ Ok (partial, left) → (before : List Token) × (tokens ≡ before ++ left) × IsFile before
+whole_file : (tokens : List Token) (x : FrontPart × List Token) (h : ReadsFront tokens x) (partial : PartialTree) (left : List Token) → length x.0.1 < 2 ^ 32 → located_nodes (suc (length x.1)) (length x.0.1) root_alone x.1 ≡ Ok (partial, left) → (before : List Token) × (tokens ≡ before ++ left) × IsFile before
 whole_file tokens x h partial left few e =
     let players = length x.0.1 in
     let n = nodes_are (suc (length x.1)) players root_alone x.1 (partial, left) (nothing_keeps players) (nodes_read_back (suc (length x.1)) players root_alone x.1 (partial, left) e) in
@@ -126,7 +126,7 @@ whole_file tokens x h partial left few e =
     (h.front ++ n.0.nodes, h.is ∙ ap (λ (q : List Token). h.front ++ q) n.0.is ∙ sym (append_assoc h.front n.0.nodes left), (tree_so_far x.0.0 x.0.1 partial, whole))
 
 -- where nodes stop, their point has a kind, or the kind is that of the node's form
-point_kind : (tokens : List Token) (x : Head × List Token) (h : ReadsHead tokens x) (kind : EfgKind) (t : Token) (r : List Token) → length x.0.1 < 2 ^ 32 → located_nodes (suc (length x.1)) (length x.0.1) root_alone x.1 ≡ Err (kind, t ∷ r) → (kind ≡ Node) ⊎ KindBefore tokens kind (t ∷ r)
+point_kind : (tokens : List Token) (x : FrontPart × List Token) (h : ReadsFront tokens x) (kind : EfgKind) (t : Token) (r : List Token) → length x.0.1 < 2 ^ 32 → located_nodes (suc (length x.1)) (length x.0.1) root_alone x.1 ≡ Err (kind, t ∷ r) → (kind ≡ Node) ⊎ KindBefore tokens kind (t ∷ r)
 point_kind tokens x h kind t r few e = elim (nodes_stops (suc (length x.1)) (length x.0.1) root_alone x.1 (kind, t ∷ r) (nothing_keeps (length x.0.1)) (omega arith) e) [
   | inl n ↦ inl n
   | inr s ↦
@@ -147,7 +147,7 @@ point_kind tokens x h kind t r few e = elim (nodes_stops (suc (length x.1)) (len
 ]
 
 -- where all nodes stop before a token
-stop_kind_is : (tokens : List Token) (x : Head × List Token) (h : ReadsHead tokens x) (kind : EfgKind) (t : Token) (r before : List Token) → length x.0.1 < 2 ^ 32 → tokens ≡ before ++ t ∷ r → IsAfterHead before → located_tree tokens ≡ Err (kind, t ∷ r) → located_all_nodes (length x.0.1) x.1 ≡ Err (kind, t ∷ r) → IsKind kind before (t ∷ r)
+stop_kind_is : (tokens : List Token) (x : FrontPart × List Token) (h : ReadsFront tokens x) (kind : EfgKind) (t : Token) (r before : List Token) → length x.0.1 < 2 ^ 32 → tokens ≡ before ++ t ∷ r → IsAfterFront before → located_tree tokens ≡ Err (kind, t ∷ r) → located_all_nodes (length x.0.1) x.1 ≡ Err (kind, t ∷ r) → IsKind kind before (t ∷ r)
 unfolding located_all_nodes
 stop_kind_is tokens x h kind t r before few are inside e f = elim (bind_err (located_nodes (suc (length x.1)) (length x.0.1) root_alone x.1) located_end (kind, t ∷ r) f) [
   | inl g ↦ elim (point_kind tokens x h kind t r few g) [
@@ -170,14 +170,14 @@ stop_kind_is tokens x h kind t r before few are inside e f = elim (bind_err (loc
         let front : w.0 ≡ before = same_front w.0 before (t ∷ r) (ap (λ (q : List Token). w.0 ++ q) (sym place) ∙ sym w.1 ∙ are) in
         subst (λ (k : EfgKind). IsKind k before (t ∷ r)) (ap (λ (z : EfgKind × List Token). z.0) same) (subst IsFile front w.2)
 
--- where reading stops after a head is a fault
-inner_stop : (tokens : List Token) (x : Head × List Token) (kind : EfgKind) (rest : List Token) → length x.0.1 < 2 ^ 32 → parse_head tokens ≡ Ok x → located_tree tokens ≡ Err (kind, rest) → in_located (located_all_nodes (length x.0.1) x.1) ≡ Err (kind, rest) → IsFaultFrom tokens kind rest
-inner_stop tokens x kind rest few head e f =
+-- where reading stops after a front is a fault
+inner_stop : (tokens : List Token) (x : FrontPart × List Token) (kind : EfgKind) (rest : List Token) → length x.0.1 < 2 ^ 32 → parse_front tokens ≡ Ok x → located_tree tokens ≡ Err (kind, rest) → in_located (located_all_nodes (length x.0.1) x.1) ≡ Err (kind, rest) → IsFaultFrom tokens kind rest
+inner_stop tokens x kind rest few front e f =
     let i = inner_fault (located_all_nodes (length x.0.1) x.1) kind rest f in
     let no_file : IsFile tokens → ⊥ = λ file. absurd (ok_err file.0 (kind, rest) (sym (file_is_located tokens file.0 file.1) ∙ e)) in
-    let b = body_stops tokens x i.0 rest few head i.1 no_file in
+    let b = body_stops tokens x i.0 rest few front i.1 no_file in
     let s = b.1 in
-    let inside : IsAfterHead s.before = subst IsAfterHead (sym b.3) (after_front b.0.front b.2 x.0.0 x.0.1 b.0.is_front) in
+    let inside : IsAfterFront s.before = subst IsAfterFront (sym b.3) (after_front b.0.front b.2 x.0.0 x.0.1 b.0.is_front) in
     let is_kind : IsKind kind s.before rest = elim i.2 [
       | inl end ↦
           let whole : tokens ≡ s.before = s.are_tokens ∙ ap (λ (q : List Token). s.before ++ q) end.0 ∙ append-nil s.before in
@@ -194,10 +194,10 @@ inner_stop tokens x kind rest few head e f =
 -- where reading stops is a fault
 located_is_fault : (tokens : List Token) (kind : EfgKind) (rest : List Token) → length tokens < 2 ^ 32 → located_tree tokens ≡ Err (kind, rest) → IsFaultFrom tokens kind rest
 unfolding located_tree
-located_is_fault tokens kind rest short e = elim (bind_err (parse_head tokens) _ (kind, rest) e) [
+located_is_fault tokens kind rest short e = elim (bind_err (parse_front tokens) _ (kind, rest) e) [
   | inl f ↦
-      let s = head_stops tokens kind rest short f in
-      let k = head_kind tokens kind rest f in
+      let s = front_stops tokens kind rest short f in
+      let k = front_kind tokens kind rest f in
       let same : k.0 ≡ s.before = same_front k.0 s.before rest (sym k.1 ∙ s.are_tokens) in
       record { before = s.before; are_tokens = s.are_tokens; begins = s.begins; stops = s.stops; is_kind = subst (λ (q : List Token). IsKind kind q rest) same k.2 }
   | inr a ↦ elim (bind_err (in_located (located_all_nodes (length a.0.0.1) a.0.1)) _ (kind, rest) a.2) [
@@ -254,10 +254,10 @@ title_as part h =
 players_as : (part : List Token) (h : NamesPlayers part) → ReadsAs (parse_names Players) part h.0
 players_as part h rest = ap (λ (q : List Token). parse_names Players (q ++ rest)) h.1.1 ∙ names_again_so h.0 rest h.1.0
 
--- the head is whole, whatever follows
-head_whole : (before rest : List Token) (h : IsAfterHead before) → (left : List Token) × (parse_head (before ++ rest) ≡ Ok (((title_as h.0 h.4).0, h.5.0), left))
-unfolding parse_head
-head_whole before rest h =
+-- the front is whole, whatever follows
+front_whole : (before rest : List Token) (h : IsAfterFront before) → (left : List Token) × (parse_front (before ++ rest) ≡ Ok (((title_as h.0 h.4).0, h.5.0), left))
+unfolding parse_front
+front_whole before rest h =
     let t = title_as h.0 h.4 in
     let all : before ++ rest ≡ h.0 ++ (h.1 ++ (h.2 ++ rest)) = ap (λ (q : List Token). q ++ rest) h.3 ∙ append_assoc (h.0 ++ h.1) h.2 rest ∙ append_assoc h.0 h.1 (h.2 ++ rest) in
     (after_text (h.2 ++ rest), rw (all, t.1 (h.1 ++ (h.2 ++ rest)), players_as h.1 h.5 (h.2 ++ rest)) refl)
@@ -269,22 +269,22 @@ part_of Players = Players
 part_of Unfinished = Unfinished
 part_of _ = Node
 
--- it is told by what is read of the head
-abbrev told : Parsed EfgKind Head → List Token → EfgKind
+-- it is told by what is read of the front
+abbrev told : Parsed EfgKind FrontPart → List Token → EfgKind
 told (Err fault) rest = fault.0
 told (Ok x) [] = Unfinished
 told (Ok x) (t ∷ rest) = Node
 
-title_told : (before rest : List Token) → IsOpen IsTitle before → told (parse_head before) rest ≡ Header
-unfolding parse_head
+title_told : (before rest : List Token) → IsOpen IsTitle before → told (parse_front before) rest ≡ Header
+unfolding parse_front
 title_told before rest h =
     let t = title_as (before ++ h.0 ∷ h.1) h.2 in
     let f = ends_early (parse_title Header (codes "EFG") 2) (title_reader Header (codes "EFG") 2) before h.0 h.1 t.0 t.1 in
     let k : f.0 ≡ Header = title_faults Header (codes "EFG") 2 before (f.0, []) f.1 in
     rw f.1 k
 
-players_told : (before rest : List Token) → StopsInPlayers before → told (parse_head before) rest ≡ Players
-unfolding parse_head
+players_told : (before rest : List Token) → StopsInPlayers before → told (parse_front before) rest ≡ Players
+unfolding parse_front
 players_told before rest h =
     let t = title_as h.0 h.3 in
     let p = h.4 in
@@ -293,31 +293,31 @@ players_told before rest h =
     let k : f.0 ≡ Players = names_faults Players h.1 (f.0, []) f.1 in
     rw (h.2, t.1 h.1, f.1) k
 
-some_told : (before rest : List Token) → IsAfterHead before → (rest ≡ [] → ⊥) → told (parse_head before) rest ≡ Node
+some_told : (before rest : List Token) → IsAfterFront before → (rest ≡ [] → ⊥) → told (parse_front before) rest ≡ Node
 some_told before [] h some = absurd (some refl)
 some_told before (t ∷ rest) h some =
-    let w = head_whole before [] h in
-    let head : parse_head before ≡ Ok (((title_as h.0 h.4).0, h.5.0), w.0) = ap parse_head (sym (append-nil before)) ∙ w.1 in
-    rw head refl
+    let w = front_whole before [] h in
+    let front : parse_front before ≡ Ok (((title_as h.0 h.4).0, h.5.0), w.0) = ap parse_front (sym (append-nil before)) ∙ w.1 in
+    rw front refl
 
-end_told : (before rest : List Token) → IsAfterHead before → rest ≡ [] → told (parse_head before) rest ≡ Unfinished
+end_told : (before rest : List Token) → IsAfterFront before → rest ≡ [] → told (parse_front before) rest ≡ Unfinished
 end_told before rest h e =
-    let w = head_whole before [] h in
-    let head : parse_head before ≡ Ok (((title_as h.0 h.4).0, h.5.0), w.0) = ap parse_head (sym (append-nil before)) ∙ w.1 in
-    rw (head, e) refl
+    let w = front_whole before [] h in
+    let front : parse_front before ≡ Ok (((title_as h.0 h.4).0, h.5.0), w.0) = ap parse_front (sym (append-nil before)) ∙ w.1 in
+    rw (front, e) refl
 
--- after the points of a node the head is whole, and something comes
-set_after : (before : List Token) (used : SetUse) (earlier : List (ℕ × SetUse)) (list : List Token) → StopsAtSet before used earlier list → IsAfterHead before
+-- after the points of a node the front is whole, and something comes
+set_after : (before : List Token) (used : SetUse) (earlier : List (ℕ × SetUse)) (list : List Token) → StopsAtSet before used earlier list → IsAfterFront before
 set_after before used earlier list s = after_file before s.partial (s.front ++ list) s.tree s.free s.is_partial (s.are_tokens ∙ append_assoc s.partial s.front list)
 
-outcome_after : (before : List Token) (used : OutcomeUse) (earlier : List (ℕ × OutcomeUse)) (list : List Token) → StopsAtOutcome before used earlier list → IsAfterHead before
+outcome_after : (before : List Token) (used : OutcomeUse) (earlier : List (ℕ × OutcomeUse)) (list : List Token) → StopsAtOutcome before used earlier list → IsAfterFront before
 outcome_after before used earlier list s =
     after_file before s.partial (s.choice ++ (s.front ++ list)) s.tree s.free s.is_partial (s.are_tokens ∙ append_assoc (s.partial ++ s.choice) s.front list ∙ append_assoc s.partial s.choice (s.front ++ list))
 
 comes_some : (rest : List Token) (t : Token) (more : List Token) → rest ≡ t ∷ more → rest ≡ [] → ⊥
 comes_some rest t more e none = some_token t more (sym e ∙ none)
 
-node_after : (kind : EfgKind) (before rest : List Token) → IsNodeKind kind before rest → IsAfterHead before × (rest ≡ [] → ⊥)
+node_after : (kind : EfgKind) (before rest : List Token) → IsNodeKind kind before rest → IsAfterFront before × (rest ≡ [] → ⊥)
 node_after UnknownPlayer before rest h = (after_file before h.0.0 (Word (codes "p") ∷ Text h.0.3 ∷ []) h.0.1 h.0.2 h.0.4 h.0.5, comes_some rest (whole_number h.1.0) h.1.1 h.1.2)
 node_after SetMismatch before rest (inl l) = (set_after before l.0 [] [] l.1, l.2)
 node_after SetMismatch before rest (inr d) = (set_after before d.0 (d.1 ∷ d.2) d.4 d.5, differs_some d.6)
@@ -338,7 +338,7 @@ node_after OutcomeMismatch before rest (used, inr o) = (outcome_after before use
 node_after _ before rest h = absurd h
 
 -- so it is with the kinds among the nodes
-inner_after : (kind : EfgKind) (before rest : List Token) → CannotCome before rest → IsKind kind before rest → part_of kind ≡ Node → IsAfterHead before × (rest ≡ [] → ⊥)
+inner_after : (kind : EfgKind) (before rest : List Token) → CannotCome before rest → IsKind kind before rest → part_of kind ≡ Node → IsAfterFront before × (rest ≡ [] → ⊥)
 inner_after Header before rest c h p = cc
 inner_after Players before rest c h p = cc
 inner_after Unfinished before rest c h p = cc
@@ -347,29 +347,29 @@ inner_after Trailing before rest c h p = (after_file before before [] h.0 [] h.1
 inner_after kind before rest c h p = node_after kind before rest h
 
 -- the part is told
-part_told : (kind : EfgKind) (before rest : List Token) → CannotCome before rest → IsKind kind before rest → told (parse_head before) rest ≡ part_of kind
+part_told : (kind : EfgKind) (before rest : List Token) → CannotCome before rest → IsKind kind before rest → told (parse_front before) rest ≡ part_of kind
 part_told Header before rest c h = title_told before rest h
 part_told Players before rest c h = players_told before rest h
 part_told Unfinished before rest c h = end_told before rest h.0.0 h.1
 part_told kind before rest c h = let n = inner_after kind before rest c h refl in some_told before rest n.0 n.1
 
 -- ---- one kind
--- after the head there are few players
-few_after : (before : List Token) (h : IsAfterHead before) → BeginsFile before → length h.5.0 < 2 ^ 32
+-- after the front there are few players
+few_after : (before : List Token) (h : IsAfterFront before) → BeginsFile before → length h.5.0 < 2 ^ 32
 few_after before h b =
     let all : List Token = before ++ b.0 in
-    let w = head_whole before b.0 h in
+    let w = front_whole before b.0 h in
     let read = partial_front all all [] b.1 b.2 b.3 (sym (append-nil all)) (record { no_text = refl; no_list = refl }) in
-    let same : length b.1.players ≡ length h.5.0 = ap (λ (z : Head × List Token). length z.0.1) (ok_same ((b.1.title, b.1.players), b.3.nodes ++ []) (((title_as h.0 h.4).0, h.5.0), w.0) (sym read ∙ w.1)) in
+    let same : length b.1.players ≡ length h.5.0 = ap (λ (z : FrontPart × List Token). length z.0.1) (ok_same ((b.1.title, b.1.players), b.3.nodes ++ []) (((title_as h.0 h.4).0, h.5.0), w.0) (sym read ∙ w.1)) in
     subst (λ (n : ℕ). n < 2 ^ 32) same b.3.describe.partial.few_players
 
--- after the head reading stops at the place of a fault
-inner_run : (tokens : List Token) (kind : EfgKind) (rest : List Token) (f : IsFaultFrom tokens kind rest) → IsAfterHead f.before → (own : EfgKind) × (located_tree tokens ≡ Err (own, rest)) × IsKind own f.before rest
+-- after the front reading stops at the place of a fault
+inner_run : (tokens : List Token) (kind : EfgKind) (rest : List Token) (f : IsFaultFrom tokens kind rest) → IsAfterFront f.before → (own : EfgKind) × (located_tree tokens ≡ Err (own, rest)) × IsKind own f.before rest
 unfolding located_tree
 inner_run tokens kind rest f h = elim (result_of (located_tree tokens)) [
   | inl y ↦ absurd (file_is_faultless tokens kind rest (y.0, few_is_file tokens y.0 few (tree_read_back tokens y.0 y.1)) f)
-  | inr g ↦ elim (bind_err (parse_head tokens) _ g.0 g.1) [
-    | inl e ↦ absurd (ok_err _ g.0 (sym head ∙ e))
+  | inr g ↦ elim (bind_err (parse_front tokens) _ g.0 g.1) [
+    | inl e ↦ absurd (ok_err _ g.0 (sym front ∙ e))
     | inr a ↦ elim (bind_err (in_located (located_all_nodes (length a.0.0.1) a.0.1)) _ g.0 a.2) [
       | inl e ↦
           let s = inner_stop tokens a.0 g.0.0 g.0.1 (few a.0 a.1) a.1 g.1 e in
@@ -382,13 +382,13 @@ inner_run tokens kind rest f h = elim (result_of (located_tree tokens)) [
 ]
   where
     left : List Token
-    left = (head_whole f.before rest h).0
+    left = (front_whole f.before rest h).0
 
-    head : parse_head tokens ≡ Ok (((title_as h.0 h.4).0, h.5.0), left)
-    head = ap parse_head f.are_tokens ∙ (head_whole f.before rest h).1
+    front : parse_front tokens ≡ Ok (((title_as h.0 h.4).0, h.5.0), left)
+    front = ap parse_front f.are_tokens ∙ (front_whole f.before rest h).1
 
-    few : (x : Head × List Token) → parse_head tokens ≡ Ok x → length x.0.1 < 2 ^ 32
-    few x e = subst (λ (z : Head × List Token). length z.0.1 < 2 ^ 32) (ok_same (((title_as h.0 h.4).0, h.5.0), left) x (sym head ∙ e)) (few_after f.before h f.begins)
+    few : (x : FrontPart × List Token) → parse_front tokens ≡ Ok x → length x.0.1 < 2 ^ 32
+    few x e = subst (λ (z : FrontPart × List Token). length z.0.1 < 2 ^ 32) (ok_same (((title_as h.0 h.4).0, h.5.0), left) x (sym front ∙ e)) (few_after f.before h f.begins)
 
 -- a kind that excludes the others is the only one
 only_node : (own : EfgKind) (before rest : List Token) → IsKind own before rest → IsKind Node before rest → part_of own ≡ Node → own ≡ Node

@@ -6,9 +6,10 @@ use Rattle.game_core.specs.Tree.{GameTree, OpenBranch}
 use Rattle.file_parts.specs.Reading.{optional_text_at, after_text}
 use Rattle.written_trees.specs.Written.{WrittenNode}
 use Rattle.written_trees.specs.Building.{PartialTree, root_alone, passed, tree_so_far, open_branches}
-use Rattle.written_trees.specs.Laws.{PassesAt, IsBuilt}
+use Rattle.written_trees.specs.Described.{PassesAt}
+use Rattle.written_trees.specs.Laws.{IsBuilt}
 use Rattle.tree_grammar.specs.TreeFile.{IsPartialFile, IsTreeFile, PassesLimit}
-use Rattle.tree_grammar.specs.TreeParsing.{Head, NodeStop, parse_head, parse_all_nodes}
+use Rattle.tree_grammar.specs.TreeParsing.{FrontPart, NodeStop, parse_front, parse_all_nodes}
 use Rattle.written_trees.proofs.BuiltTreeLemmas.{built_is_so}
 use Rattle.written_trees.proofs.LimitLemmas.{limits_are_so}
 use Rattle.written_trees.proofs.DescribedTreeLemmas.{described_is_so}
@@ -18,20 +19,20 @@ use Rattle.tree_grammar.proofs.SetLaws.{IsBare}
 use Rattle.tree_grammar.proofs.NodeLaws.{beginning_is}
 use Rattle.tree_grammar.proofs.NodesLaws.{BeginsWithNodes, nodes_bare, whole_again, all_written}
 use Rattle.tree_grammar.proofs.NodesReadLaws.{all_nodes_are, all_nodes_met, all_nodes_again, all_nodes_beyond}
-use Rattle.tree_grammar.proofs.HeadLaws.{head_is, head_again}
+use Rattle.tree_grammar.proofs.FrontLaws.{front_read_is, front_again}
 use Rattle.file_parts.proofs.ReaderLemmas.{ok_same, ok_err}
 use Rattle.game_core.specs.declared.token.Token.{Token}
 use Rattle.game_core.specs.declared.token.Token.TheVariants.{Text, Word}
 
 -- ---- what was read is a file
 -- a file that is partial comes first
-abbrev pub BeginsWithFile : List Token → Head → PartialTree × List Token → Type 0
-BeginsWithFile tokens head y = (partial : List Token) × IsPartialFile partial (tree_so_far head.0 head.1 y.0) (open_branches y.0.branchings) × (tokens ≡ partial ++ y.1)
+abbrev pub BeginsWithFile : List Token → FrontPart → PartialTree × List Token → Type 0
+BeginsWithFile tokens front y = (partial : List Token) × IsPartialFile partial (tree_so_far front.0 front.1 y.0) (open_branches y.0.branchings) × (tokens ≡ partial ++ y.1)
 
 -- a front and nodes after it begin a file
-pub partial_is : (tokens : List Token) (x : Head × List Token) (y : PartialTree × List Token) → length x.0.1 < 2 ^ 32 → parse_head tokens ≡ Ok x → BeginsWithNodes (length x.0.1) root_alone x.1 y → BeginsWithFile tokens x.0 y
+pub partial_is : (tokens : List Token) (x : FrontPart × List Token) (y : PartialTree × List Token) → length x.0.1 < 2 ^ 32 → parse_front tokens ≡ Ok x → BeginsWithNodes (length x.0.1) root_alone x.1 y → BeginsWithFile tokens x.0 y
 partial_is tokens x y few e n =
-    let f = head_is tokens x e in
+    let f = front_read_is tokens x e in
     let is : IsPartialFile (f.front ++ n.nodes) (tree_so_far x.0.0 x.0.1 y.0) (open_branches y.0.branchings) = record {
       front = f.front;
       is_front = f.is_front;
@@ -77,19 +78,19 @@ bare_after (Text text ∷ tokens) = refl
 bare_after _ = refl
 
 -- the front of a file that is partial is read
-pub partial_front : (tokens partial rest : List Token) (t : GameTree) (free : List OpenBranch) (f : IsPartialFile partial t free) → tokens ≡ partial ++ rest → IsBare rest → parse_head tokens ≡ Ok ((t.title, t.players), f.nodes ++ rest)
+pub partial_front : (tokens partial rest : List Token) (t : GameTree) (free : List OpenBranch) (f : IsPartialFile partial t free) → tokens ≡ partial ++ rest → IsBare rest → parse_front tokens ≡ Ok ((t.title, t.players), f.nodes ++ rest)
 partial_front tokens partial rest t free f e bare =
     let all : tokens ≡ f.front ++ (f.nodes ++ rest) = e ∙ ap (λ (r : List Token). r ++ rest) f.are_tokens ∙ append_assoc f.front f.nodes rest in
     let no_text = (nodes_bare (length t.players) f.nodes rest f.written f.are_nodes bare).no_text in
     let following : after_text (f.nodes ++ rest) ≡ f.nodes ++ rest = sym (bare_after (f.nodes ++ rest)) ∙ ap (λ (y : Option (List ℕ) × List Token). y.1) no_text in
-    rw all (head_again f.front (f.nodes ++ rest) t.title t.players f.is_front following)
+    rw all (front_again f.front (f.nodes ++ rest) t.title t.players f.is_front following)
 
 -- the front of a tree's file
-pub tree_front : (tokens : List Token) (t : GameTree) (f : IsTreeFile tokens t) → parse_head tokens ≡ Ok ((t.title, t.players), f.nodes ++ [])
+pub tree_front : (tokens : List Token) (t : GameTree) (f : IsTreeFile tokens t) → parse_front tokens ≡ Ok ((t.title, t.players), f.nodes ++ [])
 tree_front tokens t f = partial_front tokens tokens [] t [] f (sym (append-nil tokens)) (record { no_text = refl; no_list = refl })
 
 -- the front of a file that passes a limit
-passed_front : (tokens : List Token) (what : What) (p : PassesLimit tokens what) → parse_head tokens ≡ Ok ((p.tree.title, p.tree.players), p.is_partial.nodes ++ (Word p.word ∷ p.rest))
+passed_front : (tokens : List Token) (what : What) (p : PassesLimit tokens what) → parse_front tokens ≡ Ok ((p.tree.title, p.tree.players), p.is_partial.nodes ++ (Word p.word ∷ p.rest))
 passed_front tokens what p = partial_front tokens p.partial (Word p.word ∷ p.rest) p.tree p.free p.is_partial p.are_tokens (record { no_text = refl; no_list = refl })
 
 -- tokens of which no front is read stand for nothing
@@ -98,8 +99,8 @@ no_front_is_nothing tokens fault e = record { no_tree = λ t f. absurd (ok_err _
 
 -- what is read of a tree's file
 pub record IsRead (tokens : List Token) (t : GameTree) : Type 0 where
-  pub x : Head × List Token
-  pub is_front : parse_head tokens ≡ Ok x
+  pub x : FrontPart × List Token
+  pub is_front : parse_front tokens ≡ Ok x
   pub partial : PartialTree
   pub are_nodes : parse_all_nodes (length x.0.1) x.1 ≡ Ok partial
   pub tree_is : t ≡ tree_so_far x.0.0 x.0.1 partial
@@ -119,8 +120,8 @@ tree_read tokens t f =
 
 -- what is read of a file that passes a limit
 record IsStopped (tokens : List Token) (what : What) : Type 0 where
-  x : Head × List Token
-  is_front : parse_head tokens ≡ Ok x
+  x : FrontPart × List Token
+  is_front : parse_front tokens ≡ Ok x
   is_met : parse_all_nodes (length x.0.1) x.1 ≡ Err (inr what)
 
 -- what passes by the tree passes by what was built
@@ -146,8 +147,8 @@ stop_read tokens what p =
 
 -- ---- tokens stand for one thing at most
 -- one reading gives one answer
-one_answer : (tokens : List Token) (x y : Head × List Token) (r s : Result PartialTree NodeStop) → parse_head tokens ≡ Ok x → parse_head tokens ≡ Ok y → parse_all_nodes (length x.0.1) x.1 ≡ r → parse_all_nodes (length y.0.1) y.1 ≡ s → r ≡ s
-one_answer tokens x y r s e f g h = sym g ∙ ap (λ (z : Head × List Token). parse_all_nodes (length z.0.1) z.1) (ok_same x y (sym e ∙ f)) ∙ h
+one_answer : (tokens : List Token) (x y : FrontPart × List Token) (r s : Result PartialTree NodeStop) → parse_front tokens ≡ Ok x → parse_front tokens ≡ Ok y → parse_all_nodes (length x.0.1) x.1 ≡ r → parse_all_nodes (length y.0.1) y.1 ≡ s → r ≡ s
+one_answer tokens x y r s e f g h = sym g ∙ ap (λ (z : FrontPart × List Token). parse_all_nodes (length z.0.1) z.1) (ok_same x y (sym e ∙ f)) ∙ h
 
 -- tokens of which no nodes are read stand for nothing
 pub no_nodes_are_nothing : NoNodesAreNothing
@@ -163,7 +164,7 @@ one_tree tokens one other f g =
     let s = tree_read tokens other g in
     let fronts : r.x ≡ s.x = ok_same r.x s.x (sym r.is_front ∙ s.is_front) in
     let nodes : r.partial ≡ s.partial = let same = one_answer tokens r.x s.x (Ok r.partial) (Ok s.partial) r.is_front s.is_front r.are_nodes s.are_nodes in cc in
-    r.tree_is ∙ ap₂ (λ (x : Head × List Token) (b : PartialTree). tree_so_far x.0.0 x.0.1 b) fronts nodes ∙ sym s.tree_is
+    r.tree_is ∙ ap₂ (λ (x : FrontPart × List Token) (b : PartialTree). tree_so_far x.0.0 x.0.1 b) fronts nodes ∙ sym s.tree_is
 
 -- a tree's file passes no limit
 pub not_passed : NotPassed

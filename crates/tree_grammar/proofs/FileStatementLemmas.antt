@@ -4,7 +4,7 @@ use Rattle.game_core.specs.declared.too_large.What.{What}
 use Rattle.game_core.specs.Tree.{GameTree}
 use Rattle.written_trees.specs.Building.{PartialTree, tree_so_far}
 use Rattle.tree_grammar.specs.TreeFile.{IsTreeFile, PassesLimit}
-use Rattle.tree_grammar.specs.TreeParsing.{Head, parse_head, parse_all_nodes}
+use Rattle.tree_grammar.specs.TreeParsing.{FrontPart, parse_front, parse_all_nodes}
 use Rattle.tree_grammar.specs.declared.kinds.EfgKind.{EfgKind}
 use Rattle.game_core.specs.declared.token.Token.{Token}
 
@@ -16,22 +16,22 @@ pub record StandForNothing (tokens : List Token) : Type 0 where
 -- what is read is a file of the tree
 abbrev pub ReadIsFile : Type 0
 ReadIsFile =
-    (tokens : List Token) (x : Head × List Token) (partial : PartialTree) → length x.0.1 < 2 ^ 32 → parse_head tokens ≡ Ok x → parse_all_nodes (length x.0.1) x.1 ≡ Ok partial
+    (tokens : List Token) (x : FrontPart × List Token) (partial : PartialTree) → length x.0.1 < 2 ^ 32 → parse_front tokens ≡ Ok x → parse_all_nodes (length x.0.1) x.1 ≡ Ok partial
     → IsTreeFile tokens (tree_so_far x.0.0 x.0.1 partial)
 
 -- a limit that is met is passed
 abbrev pub MetIsPassed : Type 0
 MetIsPassed =
-    (tokens : List Token) (x : Head × List Token) (what : What) → length x.0.1 < 2 ^ 32 → parse_head tokens ≡ Ok x → parse_all_nodes (length x.0.1) x.1 ≡ Err (inr what)
+    (tokens : List Token) (x : FrontPart × List Token) (what : What) → length x.0.1 < 2 ^ 32 → parse_front tokens ≡ Ok x → parse_all_nodes (length x.0.1) x.1 ≡ Err (inr what)
     → PassesLimit tokens what
 
 -- tokens of which nothing is read stand for nothing
 abbrev pub NoFrontIsNothing : Type 0
-NoFrontIsNothing = (tokens : List Token) (fault : EfgKind × List Token) → parse_head tokens ≡ Err fault → StandForNothing tokens
+NoFrontIsNothing = (tokens : List Token) (fault : EfgKind × List Token) → parse_front tokens ≡ Err fault → StandForNothing tokens
 
 abbrev pub NoNodesAreNothing : Type 0
 NoNodesAreNothing =
-    (tokens : List Token) (x : Head × List Token) (fault : EfgKind × List Token) → parse_head tokens ≡ Ok x → parse_all_nodes (length x.0.1) x.1 ≡ Err (inl fault)
+    (tokens : List Token) (x : FrontPart × List Token) (fault : EfgKind × List Token) → parse_front tokens ≡ Ok x → parse_all_nodes (length x.0.1) x.1 ≡ Err (inl fault)
     → StandForNothing tokens
 
 -- tokens stand for one tree at most, or pass one limit

@@ -8,9 +8,9 @@ use Rattle.std.proofs.lemmas.Bool.Decides.{Decides-eqb}
 use Rattle.std.proofs.lemmas.List.{length-map, map-set, map-append, get_or-map}
 use Rattle.std.proofs.lemmas.Option.{slice_get-get_or, slice_get_past}
 use Rattle.indexmap.specs.IndexSet.{insert_key}
-use Rattle.file_parts.specs.declared.refusal.Refusal.{Refusal}
+use Rattle.file_parts.specs.declared.stop.PartStop.{PartStop}
 use Rattle.file_parts.specs.Reading.{optional_text_at}
-use Rattle.file_parts.specs.Parsing.{IsRefusal}
+use Rattle.file_parts.specs.Parsing.{IsPartStop}
 use Rattle.file_parts.proofs.ParseLemmas.{refused_first}
 use Rattle.file_parts.proofs.ReaderLemmas.{chain}
 use Rattle.written_trees.specs.Building.{PartialOutcome, outcome_place}
@@ -83,8 +83,8 @@ module _ (players label : ℕ) (old : Kept) (are : AreOutcomes old) where
           ∙ ap₂ (λ (found : Option PartialOutcome) (p : ℕ). chain {B = (List PartialOutcome × Option ℕ) × List Token} (parse_outcome_use players (partial_outcomes old) (bare_outcome_use label name) found following) (λ more. Ok ((more.0, Some p), more.1))) nothing_there place_is
 
       -- it is refused without its payoffs
-      pub first_refused : (refusal : Refusal EfgKind) → IsRefusal refusal (parse_first_payoffs players following) → IsRefusal refusal (parse_named players label (partial_outcomes old) tokens)
-      first_refused refusal r = rw first_is (refused_first refusal _ _ (refused_first refusal (parse_first_payoffs players following) _ r))
+      pub first_refused : (stopped : PartStop EfgKind) → IsPartStop stopped (parse_first_payoffs players following) → IsPartStop stopped (parse_named players label (partial_outcomes old) tokens)
+      first_refused stopped r = rw first_is (refused_first stopped _ _ (refused_first stopped (parse_first_payoffs players following) _ r))
 
       -- with them the new outcome is read
       pub first_used : (list : List KeptOutcome) (one : KeptOutcome) (place : ℕ) (rest : List Token) → place ≡ own_place → list ≡ old.list.items ++ one ∷ [] → one.label ≡ label → one.name ≡ name → parse_first_payoffs players following ≡ Ok (one.payoffs.items, rest)
@@ -122,8 +122,8 @@ module _ (players label : ℕ) (old : Kept) (are : AreOutcomes old) where
           ∙ ap (λ (found : Option PartialOutcome). chain {B = (List PartialOutcome × Option ℕ) × List Token} (parse_outcome_use players (partial_outcomes old) (bare_outcome_use label name) found following) (λ more. Ok ((more.0, Some (outcome_place (partial_outcomes old) label)), more.1))) stands_there
 
       -- it is refused with other payoffs
-      pub later_refused : (refusal : Refusal EfgKind) → IsRefusal refusal (parse_later_payoffs before.payoffs.items following) → IsRefusal refusal (parse_named players label (partial_outcomes old) tokens)
-      later_refused refusal r = rw later_is (refused_first refusal _ _ (refused_first refusal (parse_later_payoffs before.payoffs.items following) _ r))
+      pub later_refused : (stopped : PartStop EfgKind) → IsPartStop stopped (parse_later_payoffs before.payoffs.items following) → IsPartStop stopped (parse_named players label (partial_outcomes old) tokens)
+      later_refused stopped r = rw later_is (refused_first stopped _ _ (refused_first stopped (parse_later_payoffs before.payoffs.items following) _ r))
 
       -- with the same payoffs, or none, the outcome that goes on is read
       pub later_used : (after : KeptOutcome) (rest : List Token) → after.label ≡ before.label → after.name ≡ option_or before.name name → after.payoffs.items ≡ before.payoffs.items → parse_later_payoffs before.payoffs.items following ≡ Ok (tt, rest)

@@ -5,11 +5,11 @@ use Rattle.std.specs.Prelude.{Ok}
 use Rattle.std.specs.List.{AllByRecursion}
 use Rattle.game_core.specs.declared.token.Token.{Token}
 use Rattle.game_core.specs.Spacing.{IsShortToken}
-use Rattle.file_parts.specs.declared.refusal.Refusal.{Refusal}
-use Rattle.file_parts.specs.declared.refusal.Refusal.TheVariants.{Unexpected}
+use Rattle.file_parts.specs.declared.stop.PartStop.{PartStop}
+use Rattle.file_parts.specs.declared.stop.PartStop.TheVariants.{Unexpected}
 use Rattle.file_parts.specs.Parts.{whole_number}
 use Rattle.file_parts.specs.Reading.{whole_at, label_at, count_at}
-use Rattle.file_parts.specs.Parsing.{IsRefusal}
+use Rattle.file_parts.specs.Parsing.{IsPartStop}
 use Rattle.file_parts.proofs.TokenLaws.{whole_is, label_again, le_passes}
 use Rattle.file_parts.proofs.TokenReaderLemmas.{some_or_none}
 use Rattle.written_trees.specs.Building.{PartialOutcome}
@@ -44,9 +44,9 @@ positive_zero tokens rest n short e h = let no : nat_le 1 n ≡ false = grind (a
 pub ruleset positives = (positive_lacks, positive_so, positive_zero)
 
 -- ---- the number of an outcome
-pub outcome_lacks : (players : ℕ) (outcomes : List PartialOutcome) (tokens : List Token) (refusal : Refusal EfgKind) → AllByRecursion IsShortToken tokens → label_at tokens ≡ None → refusal ≡ Unexpected Node (length tokens) → IsRefusal refusal (parse_outcome players outcomes tokens)
+pub outcome_lacks : (players : ℕ) (outcomes : List PartialOutcome) (tokens : List Token) (stopped : PartStop EfgKind) → AllByRecursion IsShortToken tokens → label_at tokens ≡ None → stopped ≡ Unexpected Node (length tokens) → IsPartStop stopped (parse_outcome players outcomes tokens)
 unfolding parse_outcome
-outcome_lacks players outcomes tokens refusal short e u = rw (← label_fits tokens short, e, u) refl
+outcome_lacks players outcomes tokens stopped short e u = rw (← label_fits tokens short, e, u) refl
 
 pub outcome_zero : (players : ℕ) (outcomes : List PartialOutcome) (tokens rest : List Token) (n : ℕ) → AllByRecursion IsShortToken tokens → label_at tokens ≡ Some (n, rest) → n ≡ 0 → parse_outcome players outcomes tokens ≡ Ok ((outcomes, None), rest)
 unfolding parse_outcome

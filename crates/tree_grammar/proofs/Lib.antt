@@ -7,8 +7,8 @@ pub mod CompletedSumLemmas
 pub mod FaultLaws
 pub mod FileLaws
 pub mod FileStatementLemmas
-pub mod HeadLaws
-pub mod HeadLemmas
+pub mod FrontLaws
+pub mod FrontLemmas
 pub mod KeptOutcomeLemmas
 pub mod LabelLemmas
 pub mod LocatedReadingLemmas

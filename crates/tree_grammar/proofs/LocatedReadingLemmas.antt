@@ -7,7 +7,7 @@ use Rattle.file_parts.specs.Reading.{ends}
 use Rattle.file_parts.specs.Parsing.{Parsed, ◌>>=◌}
 use Rattle.file_parts.proofs.ReaderLemmas.{chain, ok_same, err_same, ok_err}
 use Rattle.written_trees.specs.Building.{PartialTree, Branching, root_alone, tree_so_far}
-use Rattle.tree_grammar.specs.TreeParsing.{NodeStop, within_limit, is_whole, parse_next, parse_at, parse_nodes, in_nodes, parse_head, parse_all_nodes, parse_tree}
+use Rattle.tree_grammar.specs.TreeParsing.{NodeStop, within_limit, is_whole, parse_next, parse_at, parse_nodes, in_nodes, parse_front, parse_all_nodes, parse_tree}
 use Rattle.tree_grammar.specs.declared.kinds.EfgKind.{EfgKind}
 use Rattle.tree_grammar.specs.declared.kinds.EfgKind.TheVariants.{Node, Trailing}
 use Rattle.tree_grammar.proofs.NodeStopLemmas.{MayStand, at_is, at_ok, at_err}
@@ -43,9 +43,9 @@ in_located reading = located [] (in_nodes (within_limit None reading))
 -- the tree of a file
 unfoldable pub located_tree : List Token → Result GameTree (EfgKind × List Token)
 located_tree tokens = do
-  head ← parse_head tokens
-  partial ← in_located (located_all_nodes (length head.0.1) head.1)
-  Ok (tree_so_far head.0.0 head.0.1 partial)
+  front ← parse_front tokens
+  partial ← in_located (located_all_nodes (length front.0.1) front.1)
+  Ok (tree_so_far front.0.0 front.0.1 partial)
 
 -- ---- a further node
 -- what is read with places is read
@@ -129,8 +129,8 @@ locates_all players tokens = locates_chain (parse_nodes (suc (length tokens)) pl
 
 locates_tree : (tokens : List Token) → Locates (parse_tree tokens) (located_tree tokens)
 unfolding parse_tree located_tree
-locates_tree tokens = locates_chain (within_limit None (parse_head tokens)) (parse_head tokens) _ _ (locates_unlimited (parse_head tokens)) (λ head.
-    locates_chain (in_nodes (parse_all_nodes (length head.0.1) head.1)) (in_located (located_all_nodes (length head.0.1) head.1)) _ _ (locates_in _ _ (locates_all (length head.0.1) head.1)) (λ partial. refl))
+locates_tree tokens = locates_chain (within_limit None (parse_front tokens)) (parse_front tokens) _ _ (locates_unlimited (parse_front tokens)) (λ front.
+    locates_chain (in_nodes (parse_all_nodes (length front.0.1) front.1)) (in_located (located_all_nodes (length front.0.1) front.1)) _ _ (locates_in _ _ (locates_all (length front.0.1) front.1)) (λ partial. refl))
 
 -- what one of them reads the other does
 locates_back : {X : Type 0} (o : Result X NodeStop) (p : Result X (EfgKind × List Token)) (x : X) → Locates o p → p ≡ Ok x → o ≡ Ok x

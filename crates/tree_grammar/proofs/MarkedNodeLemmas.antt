@@ -10,9 +10,9 @@ use Rattle.file_parts.specs.Reading.{text_at, whole_at}
 use Rattle.file_parts.specs.Parsing.{Parsed, ◌>>=◌, wanted}
 use Rattle.file_parts.proofs.ReaderLemmas.{IsReader, bind_reader, pure_reader, choose, choose_reader, same_reader, token_reader, ok_err, result_of, chain}
 use Rattle.file_parts.proofs.TokenReaderLemmas.{text_reader, some_or_none}
-use Rattle.written_trees.specs.Building.{PartialTree, Branching, PartialSet, passed}
+use Rattle.written_trees.specs.Building.{PartialTree, Branching, PartialSet, passed, Choice, with_parts}
 use Rattle.tree_grammar.specs.TreePieces.{is_word, is_node_word, begins_node}
-use Rattle.tree_grammar.specs.TreeParsing.{Choice, parse_set, parse_player, parse_outcome, parse_set_choice, parse_own_choice, parse_choice, parse_after, with_parts, parse_next}
+use Rattle.tree_grammar.specs.TreeParsing.{parse_set, parse_player, parse_outcome, parse_set_choice, parse_own_choice, parse_choice, parse_after, parse_next}
 use Rattle.tree_grammar.specs.declared.kinds.EfgKind.{EfgKind}
 use Rattle.tree_grammar.specs.declared.kinds.EfgKind.TheVariants.{Node}
 use Rattle.tree_grammar.proofs.PartReaderLemmas.{has_comma, comma, comma_first, comma_reader, own_list_reader}

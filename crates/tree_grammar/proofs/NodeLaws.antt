@@ -10,8 +10,10 @@ use Rattle.game_core.specs.declared.tree.Action.{Action}
 use Rattle.file_parts.specs.Parts.{whole_number}
 use Rattle.file_parts.specs.Reading.{text_at, word_at, whole_at}
 use Rattle.file_parts.proofs.TokenLaws.{text_is, word_is, whole_is, whole_again}
+use Rattle.game_core.specs.Tree.{IsBelow}
 use Rattle.written_trees.specs.Written.{SetUse, OutcomeUse, WrittenNode}
-use Rattle.written_trees.specs.Laws.{IsActionList, IsSetUse, IsOutcomeUse, IsWrittenNode}
+use Rattle.written_trees.specs.Described.{IsActionList}
+use Rattle.written_trees.specs.Laws.{IsSetUse, IsOutcomeUse, IsWrittenNode}
 use Rattle.tree_grammar.specs.TreeFile.{AreActions, IsSetPart, ArePayoffs, IsOutcomePart, IsInnerPart, IsChoicePart, IsNode, IsNodeWord}
 use Rattle.tree_grammar.specs.TreePieces.{is_word, is_node_word, begins_node}
 use Rattle.tree_grammar.proofs.PartValueLemmas.{set_use_at, outcome_use_at, player_at, chance_use_at, own_use_at, choice_after, choice_at, node_at}
@@ -144,7 +146,7 @@ actions_are_list owner list None h = tt
 actions_are_list owner list (Some actions) h = h.0
 
 -- an owner is one of the players
-owner_within : (players : ℕ) (owner : Option ℕ) (part : List Token) (used : SetUse) → IsInnerPart players owner part used → IfSome owner (λ i. i < players)
+owner_within : (players : ℕ) (owner : Option ℕ) (part : List Token) (used : SetUse) → IsInnerPart players owner part used → IsBelow players owner
 owner_within players None part used h = tt
 owner_within players (Some i) part used h = h.0
 

@@ -18,11 +18,11 @@ use Rattle.file_parts.proofs.TokenReaderLemmas.{wanted_faults}
 use Rattle.file_parts.proofs.ValueLemmas.{value, value_wanted}
 use Rattle.written_trees.specs.Written.{SetUse, OutcomeUse}
 use Rattle.written_trees.specs.Described.{key_of}
-use Rattle.written_trees.specs.Building.{PartialTree, PartialSet, PartialOutcome, Branching, set_place, outcome_place, use_some_set}
+use Rattle.written_trees.specs.Building.{PartialTree, PartialSet, PartialOutcome, Branching, set_place, outcome_place, use_some_set, Choice}
 use Rattle.tree_grammar.specs.TreeFile.{IsSetPart, IsInnerPart, IsChoicePart, IsOutcomePart}
 use Rattle.tree_grammar.specs.TreePieces.{is_word}
 use Rattle.tree_grammar.proofs.PartValueLemmas.{choice_at, choice_part_at}
-use Rattle.tree_grammar.specs.TreeParsing.{is_whole, Choice, parse_own_list, parse_first_list, parse_later_list, bare_use, parse_use, parse_set, parse_player, parse_set_choice, parse_own_choice, parse_after, parse_choice, parse_first_payoffs, parse_later_payoffs, bare_outcome_use, parse_outcome_use, parse_named, parse_outcome, parse_next}
+use Rattle.tree_grammar.specs.TreeParsing.{is_whole, parse_own_list, parse_first_list, parse_later_list, bare_use, parse_use, parse_set, parse_player, parse_set_choice, parse_own_choice, parse_after, parse_choice, parse_first_payoffs, parse_later_payoffs, bare_outcome_use, parse_outcome_use, parse_named, parse_outcome, parse_next}
 use Rattle.file_parts.specs.Faults.{WholeComes}
 use Rattle.tree_grammar.specs.declared.kinds.EfgKind.{EfgKind}
 use Rattle.tree_grammar.specs.declared.kinds.EfgKind.TheVariants.{Node, UnknownPlayer, SetMismatch, OutcomeMismatch}

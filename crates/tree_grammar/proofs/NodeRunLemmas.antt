@@ -19,12 +19,11 @@ use Rattle.file_parts.proofs.ReaderLemmas.{chain, IsReader, not_empty, reads_alo
 use Rattle.file_parts.proofs.TokenLaws.{whole_again, count_again}
 use Rattle.file_parts.proofs.ValueLemmas.{value, value_some}
 use Rattle.written_trees.specs.Written.{SetUse, OutcomeUse}
-use Rattle.written_trees.specs.Described.{SetKey, key_of}
-use Rattle.written_trees.specs.Building.{PartialTree, PartialSet, PartialOutcome, Branching, set_place, outcome_place, repeats_actions, may_be_first, new_set, used_set}
-use Rattle.written_trees.specs.Laws.{IsActionList}
+use Rattle.written_trees.specs.Described.{SetKey, key_of, IsActionList}
+use Rattle.written_trees.specs.Building.{PartialTree, PartialSet, PartialOutcome, Branching, set_place, outcome_place, repeats_actions, may_be_first, new_set, used_set, Choice, with_parts}
 use Rattle.tree_grammar.specs.TreeFile.{AreActions, ArePayoffs, IsSetPart, IsInnerPart, IsChoicePart, IsOutcomePart}
 use Rattle.tree_grammar.proofs.PartValueLemmas.{action_list_at, optional_at, first_list_at, later_list_at}
-use Rattle.tree_grammar.specs.TreeParsing.{Choice, parse_first_list, parse_repeated_list, bare_use, parse_use, parse_set, parse_player, parse_set_choice, parse_own_choice, parse_choice, bare_outcome_use, parse_outcome_use, parse_named, parse_outcome, with_parts, parse_next}
+use Rattle.tree_grammar.specs.TreeParsing.{parse_first_list, parse_repeated_list, bare_use, parse_use, parse_set, parse_player, parse_set_choice, parse_own_choice, parse_choice, bare_outcome_use, parse_outcome_use, parse_named, parse_outcome, parse_next}
 use Rattle.tree_grammar.specs.declared.kinds.EfgKind.{EfgKind}
 use Rattle.tree_grammar.specs.declared.kinds.EfgKind.TheVariants.{SetMismatch}
 use Rattle.tree_grammar.proofs.SetLaws.{IsBare, list_tokens, list_bare, optional_text_again, optional_again, action_list_again}

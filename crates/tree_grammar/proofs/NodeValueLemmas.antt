@@ -11,9 +11,9 @@ use Rattle.file_parts.specs.Reading.{word_at, text_at, whole_at}
 use Rattle.file_parts.proofs.TokenReaderLemmas.{some_or_none}
 use Rattle.file_parts.proofs.ValueLemmas.{value, value_chain, value_if}
 use Rattle.written_trees.specs.Written.{SetUse, OutcomeUse, WrittenNode}
-use Rattle.written_trees.specs.Described.{key_of}
+use Rattle.written_trees.specs.Described.{key_of, IsActionList}
 use Rattle.written_trees.specs.Building.{PartialTree, PartialSet, PartialOutcome, Branching, set_place, outcome_place, new_set, used_set, new_outcome, used_outcome, may_be_first, repeats_actions, repeats_payoffs, with_use, use_some_set, with_outcome_use, use_some_outcome, with_node, add_at, add_node, add_nodes}
-use Rattle.written_trees.specs.Laws.{IsActionList, IsSetUse, IsOutcomeUse, IsWrittenNode}
+use Rattle.written_trees.specs.Laws.{IsSetUse, IsOutcomeUse, IsWrittenNode}
 use Rattle.tree_grammar.specs.TreePieces.{is_word}
 use Rattle.tree_grammar.proofs.PartValueLemmas.{set_part_at, set_choice_at, player_at, own_choice_at, choice_part_at, outcome_part_at, next_at}
 use Rattle.tree_grammar.specs.TreeParsing.{parse_player, parse_set, parse_set_choice, parse_own_choice, parse_choice, parse_outcome, parse_next}

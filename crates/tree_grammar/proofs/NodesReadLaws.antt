@@ -13,7 +13,7 @@ use Rattle.file_parts.proofs.ReaderLemmas.{chain, bind_ok, bind_err, ok_same, ok
 use Rattle.file_parts.proofs.ValueLemmas.{value, value_some}
 use Rattle.written_trees.specs.Written.{WrittenNode}
 use Rattle.written_trees.specs.Building.{PartialTree, PartialSet, PartialOutcome, Branching, root_alone, open_branches, add_node, add_nodes, passed}
-use Rattle.written_trees.specs.Laws.{IsActionList}
+use Rattle.written_trees.specs.Described.{IsActionList}
 use Rattle.tree_grammar.specs.TreeFile.{IsNode, AreNodes, IsNodeWord}
 use Rattle.tree_grammar.specs.TreePieces.{begins_node}
 use Rattle.tree_grammar.specs.TreeParsing.{NodeStop, ParsedNodes, is_whole, parse_next, parse_at, parse_nodes, parse_all_nodes}

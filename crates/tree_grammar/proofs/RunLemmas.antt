@@ -14,7 +14,7 @@ use Rattle.written_trees.proofs.FirstUseLemmas.{new_place, known_place}
 use Rattle.written_trees.proofs.SetUseLemmas.{same_set-Decides, set_step}
 use Rattle.written_trees.proofs.DescribedTreeLemmas.{described_is_so}
 use Rattle.tree_grammar.specs.TreeFile.{IsPartialFile}
-use Rattle.tree_grammar.specs.TreeParsing.{Head, is_whole, parse_head, parse_next}
+use Rattle.tree_grammar.specs.TreeParsing.{FrontPart, is_whole, parse_front, parse_next}
 use Rattle.tree_grammar.specs.declared.kinds.EfgKind.{EfgKind}
 use Rattle.tree_grammar.specs.declared.kinds.EfgKind.TheVariants.{Node, Trailing}
 use Rattle.tree_grammar.proofs.SetLaws.{IsBare}
@@ -55,11 +55,11 @@ node_goes players more branchings X kind rest less (inl e) = elim (located_err p
 ]
 node_goes players more branchings X kind rest less (inr y) = let s = located_ok players more branchings X y.0 y.1 in (s.0.first, s.0.others, inr (y.0, s.1, y.2))
 
--- a fault after a head is one of the nodes
-pub tree_err : (tokens : List Token) (x : Head × List Token) (kind : EfgKind) (t : Token) (r : List Token) → parse_head tokens ≡ Ok x → located_tree tokens ≡ Err (kind, t ∷ r) → located_all_nodes (length x.0.1) x.1 ≡ Err (kind, t ∷ r)
+-- a fault after a front is one of the nodes
+pub tree_err : (tokens : List Token) (x : FrontPart × List Token) (kind : EfgKind) (t : Token) (r : List Token) → parse_front tokens ≡ Ok x → located_tree tokens ≡ Err (kind, t ∷ r) → located_all_nodes (length x.0.1) x.1 ≡ Err (kind, t ∷ r)
 unfolding located_tree
-tree_err tokens x kind t r head e =
-    let o : chain (in_located (located_all_nodes (length x.0.1) x.1)) (λ partial. Ok (tree_so_far x.0.0 x.0.1 partial)) ≡ Err (kind, t ∷ r) = rw head at e in
+tree_err tokens x kind t r front e =
+    let o : chain (in_located (located_all_nodes (length x.0.1) x.1)) (λ partial. Ok (tree_so_far x.0.0 x.0.1 partial)) ≡ Err (kind, t ∷ r) = rw front at e in
     elim (bind_err (in_located (located_all_nodes (length x.0.1) x.1)) _ (kind, t ∷ r) o) [
       | inl f ↦
           let i = inner_fault (located_all_nodes (length x.0.1) x.1) kind (t ∷ r) f in
@@ -107,9 +107,9 @@ pub run_to : (partial X : List Token) (tree : GameTree) (free : List OpenBranch)
 unfolding located_all_nodes
 run_to partial X tree free f kind t r bare less e =
     let players = length tree.players in
-    let head = partial_front (partial ++ X) partial X tree free f refl bare in
+    let front = partial_front (partial ++ X) partial X tree free f refl bare in
     let built = described_is_so f.written tree free f.describe in
-    let all = tree_err (partial ++ X) ((tree.title, tree.players), f.nodes ++ X) kind t r head e in
+    let all = tree_err (partial ++ X) ((tree.title, tree.players), f.nodes ++ X) kind t r front e in
     let pass = first_nodes_pass (λ most partial tokens. located_nodes most players partial tokens) players built.partial f.nodes X f.written (located_go_on players) f.are_nodes bare built.is_built in
     let following : chain (located_nodes (suc pass.0) players built.partial X) located_end ≡ Err (kind, t ∷ r) = sym (ap (λ (o : Parsed EfgKind PartialTree). chain o located_end) pass.1) ∙ all in
     let n = node_goes players built.partial built.partial.branchings X kind (t ∷ r) less (after_nodes pass.0 players built.partial X kind (t ∷ r) less following) in

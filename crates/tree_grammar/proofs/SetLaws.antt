@@ -11,7 +11,7 @@ use Rattle.file_parts.specs.Parts.{whole_number, optional_text}
 use Rattle.file_parts.specs.Reading.{left_at, right_at, optional_text_at, texts_at, opens, count_at}
 use Rattle.file_parts.proofs.TokenLaws.{left_is, right_is, optional_text_is, passes_le, le_passes, count_is, count_again}
 use Rattle.written_trees.specs.Written.{SetUse}
-use Rattle.written_trees.specs.Laws.{HasNoProbability, IsActionList}
+use Rattle.written_trees.specs.Described.{IsActionOf, IsActionList}
 use Rattle.tree_grammar.specs.TreeFile.{action_tokens, AreActions, IsSetPart}
 use Rattle.tree_grammar.specs.TreePieces.{closed_at}
 use Rattle.tree_grammar.specs.TreeParsing.{own_action}
@@ -72,14 +72,14 @@ own_actions_are i _ = refl
 
 -- actions come first
 abbrev pub BeginWithActions : Option ℕ → List Token → List Action × List Token → Type 0
-BeginWithActions owner tokens x = All (HasNoProbability owner) x.0 × (tokens ≡ flat_map (action_tokens owner) x.0 ++ x.1)
+BeginWithActions owner tokens x = All (IsActionOf owner) x.0 × (tokens ≡ flat_map (action_tokens owner) x.0 ++ x.1)
 
 -- what is read as actions are actions
 actions_are : (owner : Option ℕ) (tokens : List Token) (x : List Action × List Token) → actions_at owner tokens ≡ Some x → BeginWithActions owner tokens x
 actions_are None tokens x e = (λ k d lt. tt, chance_actions_are tokens x e)
 actions_are (Some i) tokens x e =
     let names : List (List ℕ) = (texts_at tokens).0 in
-    let none : All (HasNoProbability (Some i)) (map own_action names) = All-map (HasNoProbability (Some i)) own_action names (λ k d lt. refl) in
+    let none : All (IsActionOf (Some i)) (map own_action names) = All-map (IsActionOf (Some i)) own_action names (λ k d lt. refl) in
     subst (BeginWithActions (Some i) tokens) (same_Some _ _ e) (none, own_actions_are i tokens)
 
 -- chance's actions before a closing brace are read
@@ -96,14 +96,14 @@ own_cons : (i : ℕ) (action : Action) (actions : List Action) (tokens rest : Li
 own_cons i action actions tokens rest same more = ap (λ (y : List Action × List Token). Some (own_action action.name ∷ y.0, y.1)) (same_Some _ _ more) ∙ ap (λ (a : Action). Some (a ∷ actions, rest)) same
 
 -- a player's actions before a closing brace are read
-own_actions_again : (i : ℕ) (actions : List Action) (rest : List Token) → AllByRecursion (HasNoProbability (Some i)) actions → actions_at (Some i) (flat_map (action_tokens (Some i)) actions ++ (Right ∷ rest)) ≡ Some (actions, Right ∷ rest)
+own_actions_again : (i : ℕ) (actions : List Action) (rest : List Token) → AllByRecursion (IsActionOf (Some i)) actions → actions_at (Some i) (flat_map (action_tokens (Some i)) actions ++ (Right ∷ rest)) ≡ Some (actions, Right ∷ rest)
 own_actions_again i [] rest h = refl
 own_actions_again i (action ∷ actions) rest h = own_cons i action actions _ _ (own_again action h.0) (own_actions_again i actions rest h.1)
 
 -- actions before a closing brace are read
-actions_again : (owner : Option ℕ) (actions : List Action) (rest : List Token) → All (HasNoProbability owner) actions → actions_at owner (flat_map (action_tokens owner) actions ++ (Right ∷ rest)) ≡ Some (actions, Right ∷ rest)
+actions_again : (owner : Option ℕ) (actions : List Action) (rest : List Token) → All (IsActionOf owner) actions → actions_at owner (flat_map (action_tokens owner) actions ++ (Right ∷ rest)) ≡ Some (actions, Right ∷ rest)
 actions_again None actions rest h = chance_actions_again actions rest
-actions_again (Some i) actions rest h = own_actions_again i actions rest (recursion_from_All (HasNoProbability (Some i)) actions h)
+actions_again (Some i) actions rest h = own_actions_again i actions rest (recursion_from_All (IsActionOf (Some i)) actions h)
 
 -- ---- a list of actions
 -- what closes a list stands after at least one action
@@ -136,7 +136,7 @@ action_list_is owner tokens x e =
     let actions = actions_are owner a.0 b.0 b.1 in
     let inner : a.0 ≡ flat_map (action_tokens owner) b.0.0 ++ (Right ∷ c.0) = actions.1 ∙ ap (λ (r : List Token). flat_map (action_tokens owner) b.0.0 ++ r) some.1 in
     let all : tokens ≡ list_tokens owner b.0.0 ++ c.0 = left_is tokens a.0 a.1 ∙ ap (λ (r : List Token). Left ∷ r) inner ∙ sym (list_and owner b.0.0 c.0) in
-    let is : IsActionList owner b.0.0 = record { some_action = some.0; no_probabilities = actions.0 } in
+    let is : IsActionList owner b.0.0 = record { some_action = some.0; are_of_owner = actions.0 } in
     subst (BeginsWithList owner tokens) (same_Some _ _ c.2) (is, all)
 
 -- a list of actions is read
@@ -144,7 +144,7 @@ pub action_list_again : (owner : Option ℕ) (actions : List Action) (rest : Lis
 unfolding action_list_at
 action_list_again owner actions rest h =
     let some : 1 ≤ length actions = h.some_action in
-    rw (append_assoc (flat_map (action_tokens owner) actions) (Right ∷ []) rest, actions_again owner actions rest h.no_probabilities, le_passes 1 (length actions) some) refl
+    rw (append_assoc (flat_map (action_tokens owner) actions) (Right ∷ []) rest, actions_again owner actions rest h.are_of_owner, le_passes 1 (length actions) some) refl
 
 -- a list that may come comes first
 abbrev pub MayBeginWithList : Option ℕ → List Token → Option (List Action) × List Token → Type 0

@@ -6,10 +6,10 @@ use Rattle.std.proofs.lemmas.Bool.Decides.{nat_tests}
 use Rattle.std.proofs.lemmas.Option.{get_or_from_slice_get, slice_get-map, slice_get-get_or}
 use Rattle.std.proofs.lemmas.List.{map-append, map-set, length-map}
 use Rattle.std.proofs.Math.Seq.{map-set_same}
-use Rattle.file_parts.specs.declared.refusal.Refusal.{Refusal}
-use Rattle.file_parts.specs.declared.refusal.Refusal.TheVariants.{Unexpected}
+use Rattle.file_parts.specs.declared.stop.PartStop.{PartStop}
+use Rattle.file_parts.specs.declared.stop.PartStop.TheVariants.{Unexpected}
 use Rattle.file_parts.specs.Reading.{optional_text_at, count_at}
-use Rattle.file_parts.specs.Parsing.{IsRefusal}
+use Rattle.file_parts.specs.Parsing.{IsPartStop}
 use Rattle.file_parts.proofs.ParseLemmas.{refused_first}
 use Rattle.file_parts.proofs.ReaderLemmas.{chain}
 use Rattle.written_trees.specs.Described.{SetKey, same_set}
@@ -81,9 +81,9 @@ count_found sets s set e =
     (slice_get-map (λ (set : PartialSet). length set.actions) (map partial_set sets) s ∙ ap (option_map (λ (set : PartialSet). length set.actions)) (slice_get-map partial_set sets s ∙ ap (option_map partial_set) e))
 
 -- no number comes
-pub step_without : (k : ℕ) (sets : List PartialSet) (owner : Option ℕ) (tokens : List Token) (refusal : Refusal EfgKind) → count_at tokens ≡ None → refusal ≡ Unexpected Node (length tokens) → IsRefusal refusal (parse_set k sets owner tokens)
+pub step_without : (k : ℕ) (sets : List PartialSet) (owner : Option ℕ) (tokens : List Token) (stopped : PartStop EfgKind) → count_at tokens ≡ None → stopped ≡ Unexpected Node (length tokens) → IsPartStop stopped (parse_set k sets owner tokens)
 unfolding parse_set
-step_without k sets owner tokens refusal none u = rw (none, u) refl
+step_without k sets owner tokens stopped none u = rw (none, u) refl
 
 -- the number and the name come first
 step_is : (k : ℕ) (sets : List PartialSet) (owner : Option ℕ) (label : ℕ) (name : Option (List ℕ)) (tokens following after : List Token) → count_at tokens ≡ Some (label, following) → (name, after) ≡ optional_text_at following
@@ -126,8 +126,8 @@ module _ {sets : KeptSets} {owner : Option ℕ} {tokens after : List Token} {lab
       ∙ ap₂ (λ (found : Option PartialSet) (p : ℕ). chain {B = (List PartialSet × ℕ) × List Token} (parse_use k (partial_sets sets) (bare_use owner label name) found after) (λ more. Ok ((more.0, p), more.1))) (stands_so_far set at) (sym place_partial)
 
   -- no first list is read
-  pub first_refused : (k : ℕ) (refusal : Refusal EfgKind) → is_new ≡ true → IsRefusal refusal (parse_first_list owner label after) → IsRefusal refusal (parse_set k (partial_sets sets) owner tokens)
-  first_refused k refusal new r = rw (step_begins k new) (refused_first refusal _ _ (refused_first refusal (parse_first_list owner label after) _ r))
+  pub first_refused : (k : ℕ) (stopped : PartStop EfgKind) → is_new ≡ true → IsPartStop stopped (parse_first_list owner label after) → IsPartStop stopped (parse_set k (partial_sets sets) owner tokens)
+  first_refused k stopped new r = rw (step_begins k new) (refused_first stopped _ _ (refused_first stopped (parse_first_list owner label after) _ r))
 
   -- a set was partial
   pub first_used : (k : ℕ) (more : KeptSets) (set : KeptSet) (rest : List Token) → is_new ≡ true → parse_first_list owner label after ≡ Ok (set.actions.items, rest) → partial_set set ≡ new_set k (bare_use owner label name) set.actions.items → more.list.items ≡ sets.list.items ++ set ∷ []
@@ -135,8 +135,8 @@ module _ {sets : KeptSets} {owner : Option ℕ} {tokens after : List Token} {lab
   first_used k more set rest new read is list = rw (list, map-append partial_set sets.list.items (set ∷ []), is) (step_begins k new ∙ rw read refl)
 
   -- no later list is read
-  pub later_refused : (k : ℕ) (set : KeptSet) (refusal : Refusal EfgKind) → is_new ≡ false → set ≡ get_or sets.list.items place set → IsRefusal refusal (parse_later_list set.owner set.actions.items after) → IsRefusal refusal (parse_set k (partial_sets sets) owner tokens)
-  later_refused k set refusal known is r = rw (step_goes_on k set (stands_at sets.list.items place set (known_within known) is)) (refused_first refusal _ _ (refused_first refusal (parse_later_list set.owner set.actions.items after) _ r))
+  pub later_refused : (k : ℕ) (set : KeptSet) (stopped : PartStop EfgKind) → is_new ≡ false → set ≡ get_or sets.list.items place set → IsPartStop stopped (parse_later_list set.owner set.actions.items after) → IsPartStop stopped (parse_set k (partial_sets sets) owner tokens)
+  later_refused k set stopped known is r = rw (step_goes_on k set (stands_at sets.list.items place set (known_within known) is)) (refused_first stopped _ _ (refused_first stopped (parse_later_list set.owner set.actions.items after) _ r))
 
   -- a set was used again
   pub later_used : (k : ℕ) (more : KeptSets) (set next : KeptSet) (rest : List Token) → is_new ≡ false → set ≡ get_or sets.list.items place set → parse_later_list set.owner set.actions.items after ≡ Ok (tt, rest) → partial_set next ≡ used_set k (bare_use owner label name) (partial_set set)

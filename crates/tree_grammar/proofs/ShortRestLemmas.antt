@@ -7,9 +7,9 @@ use Rattle.game_core.specs.declared.token.Token.TheVariants.{Text, Word}
 use Rattle.game_core.specs.Spacing.{IsShortToken}
 use Rattle.file_parts.specs.Reading.{word_at, text_at}
 use Rattle.file_parts.proofs.TokenLaws.{word_is, text_is}
-use Rattle.written_trees.specs.Building.{PartialSet}
-use Rattle.tree_grammar.specs.TreeParsing.{Head, Choice, parse_head, parse_player, parse_choice}
-use Rattle.tree_grammar.proofs.HeadLaws.{head_is}
+use Rattle.written_trees.specs.Building.{PartialSet, Choice}
+use Rattle.tree_grammar.specs.TreeParsing.{FrontPart, parse_front, parse_player, parse_choice}
+use Rattle.tree_grammar.proofs.FrontLaws.{front_read_is}
 use Rattle.tree_grammar.proofs.NodeLaws.{of_back}
 use Rattle.tree_grammar.proofs.TokenEndLemmas.{Ends, player_within, choice_within}
 
@@ -21,9 +21,9 @@ AreShort tokens = AllByRecursion IsShortToken tokens
 end_short : (rest tokens : List Token) → Ends rest tokens → AreShort tokens → AreShort rest
 end_short rest tokens e short = of_back IsShortToken e.0 rest (subst AreShort e.1 short)
 
--- after the head
-pub head_leaves : (tokens : List Token) (x : Head × List Token) → parse_head tokens ≡ Ok x → AreShort tokens → AreShort x.1
-head_leaves tokens x e short = let h = head_is tokens x e in end_short x.1 tokens (h.front, h.is) short
+-- after the front
+pub front_leaves : (tokens : List Token) (x : FrontPart × List Token) → parse_front tokens ≡ Ok x → AreShort tokens → AreShort x.1
+front_leaves tokens x e short = let h = front_read_is tokens x e in end_short x.1 tokens (h.front, h.is) short
 
 -- after the word and the name of a node
 pub short_after : (tokens name_on following : List Token) (word name : List ℕ) → word_at tokens ≡ Some (word, name_on) → text_at name_on ≡ Some (name, following) → AreShort tokens → AreShort following

@@ -10,9 +10,9 @@ use Rattle.file_parts.specs.Parsing.{Parsed, ◌>>=◌, wanted}
 use Rattle.file_parts.proofs.ReaderLemmas.{chain, IsReader, bind_ok, bind_err, ok_same, err_same, ok_err}
 use Rattle.file_parts.proofs.TokenReaderLemmas.{text_reader, count_reader}
 use Rattle.written_trees.specs.Written.{SetUse, OutcomeUse}
-use Rattle.written_trees.specs.Building.{PartialTree, PartialSet, PartialOutcome, Branching, set_place, outcome_place}
+use Rattle.written_trees.specs.Building.{PartialTree, PartialSet, PartialOutcome, Branching, set_place, outcome_place, Choice}
 use Rattle.tree_grammar.specs.TreePieces.{is_word}
-use Rattle.tree_grammar.specs.TreeParsing.{is_whole, Choice, parse_first_list, parse_repeated_list, parse_later_list, bare_use, parse_use, parse_set, parse_player, parse_set_choice, parse_own_choice, parse_after, parse_choice, parse_first_payoffs, parse_repeated_payoffs, parse_later_payoffs, bare_outcome_use, parse_outcome_use, parse_named, parse_outcome, parse_next}
+use Rattle.tree_grammar.specs.TreeParsing.{is_whole, parse_first_list, parse_repeated_list, parse_later_list, bare_use, parse_use, parse_set, parse_player, parse_set_choice, parse_own_choice, parse_after, parse_choice, parse_first_payoffs, parse_repeated_payoffs, parse_later_payoffs, bare_outcome_use, parse_outcome_use, parse_named, parse_outcome, parse_next}
 use Rattle.tree_grammar.specs.declared.kinds.EfgKind.{EfgKind}
 use Rattle.tree_grammar.specs.declared.kinds.EfgKind.TheVariants.{Node, UnknownPlayer}
 use Rattle.tree_grammar.proofs.PartReaderLemmas.{own_list_reader, repeated_list_reader, first_payoffs_reader, repeated_payoffs_reader}

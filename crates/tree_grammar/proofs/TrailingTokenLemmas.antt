@@ -12,9 +12,9 @@ use Rattle.file_parts.specs.Reading.{whole_at, optional_text_at, opens, count_at
 use Rattle.file_parts.specs.Parsing.{Parsed, ◌>>=◌, wanted}
 use Rattle.file_parts.proofs.ReaderLemmas.{chain, IsReader, bind_ok, ok_same, err_same, ok_err}
 use Rattle.written_trees.specs.Written.{SetUse, OutcomeUse}
-use Rattle.written_trees.specs.Building.{PartialTree, PartialSet, PartialOutcome, Branching, root_alone, set_place, outcome_place}
+use Rattle.written_trees.specs.Building.{PartialTree, PartialSet, PartialOutcome, Branching, root_alone, set_place, outcome_place, Choice}
 use Rattle.tree_grammar.specs.TreePieces.{is_word, begins_node}
-use Rattle.tree_grammar.specs.TreeParsing.{is_whole, has_text, Choice, parse_first_list, parse_repeated_list, parse_later_list, bare_use, parse_use, parse_set, parse_player, parse_set_choice, parse_own_choice, parse_after, parse_choice, parse_payoffs_end, parse_first_payoffs, parse_same_payoffs, parse_repeated_payoffs, parse_later_payoffs, bare_outcome_use, parse_outcome_use, parse_named, parse_outcome, parse_next, parse_head}
+use Rattle.tree_grammar.specs.TreeParsing.{is_whole, has_text, parse_first_list, parse_repeated_list, parse_later_list, bare_use, parse_use, parse_set, parse_player, parse_set_choice, parse_own_choice, parse_after, parse_choice, parse_payoffs_end, parse_first_payoffs, parse_same_payoffs, parse_repeated_payoffs, parse_later_payoffs, bare_outcome_use, parse_outcome_use, parse_named, parse_outcome, parse_next, parse_front}
 use Rattle.tree_grammar.specs.TreeFaults.{IsFile}
 use Rattle.tree_grammar.specs.declared.kinds.EfgKind.{EfgKind}
 use Rattle.tree_grammar.specs.declared.kinds.EfgKind.TheVariants.{Node, Trailing}
@@ -22,7 +22,7 @@ use Rattle.tree_grammar.proofs.PartReaderLemmas.{own_list_reader, repeated_list_
 use Rattle.tree_grammar.proofs.ChanceReaderLemmas.{chance_list_reader}
 use Rattle.tree_grammar.proofs.NodeReaderLemmas.{first_list_reader, text_first}
 use Rattle.tree_grammar.proofs.MarkedReaderLemmas.{label_reader, player_token}
-use Rattle.tree_grammar.proofs.HeadLaws.{head_is}
+use Rattle.tree_grammar.proofs.FrontLaws.{front_read_is}
 use Rattle.tree_grammar.proofs.FileLaws.{tree_read}
 use Rattle.tree_grammar.proofs.TokenEndLemmas.{Within, reader_within, bind_within, pure_within, use_within, after_number_within, outcome_use_within, after_label_within, set_choice_within, outcome_within, nodes_within}
 use Rattle.tree_grammar.proofs.StopLemmas.{GoesTo, goes_before, not_after}
@@ -234,8 +234,8 @@ file_trails before t r kind file e =
     let players = length f.x.0.1 in
     let all = all_located players f.x.1 f.partial f.are_nodes in
     let s = some_body players f.x.1 f.partial all in
-    let h = head_is before f.x f.is_front in
+    let h = front_read_is before f.x f.is_front in
     let text = ap (λ (q : List Token). has_text (q ++ t ∷ r)) s.2 ∙ text_first s.0 (s.1 ++ t ∷ r) s.1 ∙ ap has_text (sym s.2) in
     let tokens : before ++ t ∷ r ≡ h.front ++ (f.x.1 ++ t ∷ r) = ap (λ (q : List Token). q ++ t ∷ r) h.is ∙ append_assoc h.front f.x.1 (t ∷ r) in
-    let head : parse_head (before ++ t ∷ r) ≡ Ok (f.x.0, f.x.1 ++ t ∷ r) = ap parse_head tokens ∙ h.again (f.x.1 ++ t ∷ r) text in
-    all_on players f.x.1 f.partial kind t r all (tree_err (before ++ t ∷ r) (f.x.0, f.x.1 ++ t ∷ r) kind t r head e)
+    let front : parse_front (before ++ t ∷ r) ≡ Ok (f.x.0, f.x.1 ++ t ∷ r) = ap parse_front tokens ∙ h.again (f.x.1 ++ t ∷ r) text in
+    all_on players f.x.1 f.partial kind t r all (tree_err (before ++ t ∷ r) (f.x.0, f.x.1 ++ t ∷ r) kind t r front e)

@@ -14,9 +14,8 @@ use Rattle.file_parts.specs.Reading.{left_at, right_at, number_at, whole_at, opt
 use Rattle.file_parts.proofs.ValueLemmas.{payoffs_at, value, value_wanted, value_passed, value_chain, value_if, value_each}
 use Rattle.file_parts.specs.Parsing.{passed, parse_each}
 use Rattle.file_parts.proofs.TokenReaderLemmas.{some_or_none}
-use Rattle.written_trees.specs.Described.{SetKey, same_set}
+use Rattle.written_trees.specs.Described.{SetKey, same_set, IsActionList}
 use Rattle.written_trees.specs.Building.{PartialSet, PartialOutcome, key_of_partial, set_place, outcome_place, new_set, used_set, new_outcome, used_outcome, add_test, may_follow}
-use Rattle.written_trees.specs.Laws.{IsActionList}
 use Rattle.written_trees.proofs.SetUseLemmas.{same_set-Decides}
 use Rattle.tree_grammar.specs.TreePieces.{closed_at}
 use Rattle.tree_grammar.proofs.PartValueLemmas.{action_list_at, optional_at, set_use_at, outcome_use_at, summed_at, first_list_at, repeated_at, all_repeated_at, later_list_at, set_part_at, payoff_list_at, payoffs_repeated_at, later_payoffs_at, named_part_at, outcome_part_at}

@@ -12,7 +12,7 @@ use Rattle.written_trees.proofs.BuiltTreeLemmas.{built_is_so}
 use Rattle.written_trees.proofs.DescribedTreeLemmas.{described_is_so}
 use Rattle.written_trees.proofs.StandingNodeLemmas.{each_length}
 use Rattle.tree_grammar.specs.TreeFile.{IsFront, AreNodes, IsPartialFile, IsTreeFile}
-use Rattle.tree_grammar.specs.TreeParsing.{Head, has_text, NodeStop, within_limit, parse_head, in_nodes, parse_all_nodes, parse_tree}
+use Rattle.tree_grammar.specs.TreeParsing.{FrontPart, has_text, NodeStop, within_limit, parse_front, in_nodes, parse_all_nodes, parse_tree}
 use Rattle.tree_grammar.specs.TreeFaults.{IsFile}
 use Rattle.tree_grammar.specs.declared.kinds.EfgKind.{EfgKind}
 use Rattle.tree_grammar.specs.declared.kinds.EfgKind.TheVariants.{Node, Unfinished, Trailing}
@@ -23,8 +23,8 @@ use Rattle.tree_grammar.proofs.MarkedNodeLemmas.{marked, marked_reader}
 use Rattle.tree_grammar.proofs.MarkedLaws.{StopsAsMarked, marked_is, marked_again, nodes_stop, nodes_end}
 use Rattle.tree_grammar.proofs.NodesReadLaws.{nothing_keeps}
 use Rattle.tree_grammar.proofs.NodeStopLemmas.{unlimited_read}
-use Rattle.tree_grammar.proofs.HeadLemmas.{Stops, CannotCome}
-use Rattle.tree_grammar.proofs.HeadLaws.{ReadsHead, head_is}
+use Rattle.tree_grammar.proofs.FrontLemmas.{Stops, CannotCome}
+use Rattle.tree_grammar.proofs.FrontLaws.{ReadsFront, front_read_is}
 use Rattle.tree_grammar.proofs.LocatedReadingLemmas.{located_nodes, located_end, located_all_nodes, in_located, located_tree, tree_located}
 
 -- ---- the whole
@@ -47,25 +47,25 @@ pub file_is_located : (tokens : List Token) (tree : GameTree) → IsTreeFile tok
 file_is_located tokens tree f = tree_located tokens tree (file_is_read tokens tree f)
 
 -- there are fewer players than tokens
-pub few_players : (tokens : List Token) (x : Head × List Token) → length tokens < 2 ^ 32 → parse_head tokens ≡ Ok x → length x.0.1 < 2 ^ 32
-few_players tokens x short e = let h = head_is tokens x e in omega (arith, h.few, short)
+pub few_players : (tokens : List Token) (x : FrontPart × List Token) → length tokens < 2 ^ 32 → parse_front tokens ≡ Ok x → length x.0.1 < 2 ^ 32
+few_players tokens x short e = let h = front_read_is tokens x e in omega (arith, h.few, short)
 
 -- what is read is a file, where there are few players
-pub few_is_file : (tokens : List Token) (tree : GameTree) → ((x : Head × List Token) → parse_head tokens ≡ Ok x → length x.0.1 < 2 ^ 32) → parse_tree tokens ≡ Ok tree → IsTreeFile tokens tree
+pub few_is_file : (tokens : List Token) (tree : GameTree) → ((x : FrontPart × List Token) → parse_front tokens ≡ Ok x → length x.0.1 < 2 ^ 32) → parse_tree tokens ≡ Ok tree → IsTreeFile tokens tree
 unfolding parse_tree
 few_is_file tokens tree few e =
-    let a = bind_ok (within_limit None (parse_head tokens)) _ tree e in
-    let head = unlimited_read (parse_head tokens) a.0 a.1 in
+    let a = bind_ok (within_limit None (parse_front tokens)) _ tree e in
+    let front = unlimited_read (parse_front tokens) a.0 a.1 in
     let b = bind_ok (in_nodes (parse_all_nodes (length a.0.0.1) a.0.1)) _ tree a.2 in
-    subst (IsTreeFile tokens) (ok_same _ _ b.2) (is_file_of tokens a.0 b.0 (few a.0 head) head (no_fault (parse_all_nodes (length a.0.0.1) a.0.1) b.0 b.1))
+    subst (IsTreeFile tokens) (ok_same _ _ b.2) (is_file_of tokens a.0 b.0 (few a.0 front) front (no_fault (parse_all_nodes (length a.0.0.1) a.0.1) b.0 b.1))
 
 -- what is read is a file
 pub read_is_file : (tokens : List Token) (tree : GameTree) → length tokens < 2 ^ 32 → parse_tree tokens ≡ Ok tree → IsTreeFile tokens tree
 read_is_file tokens tree short e = few_is_file tokens tree (λ x h. few_players tokens x short h) e
 
 -- ---- partial files
--- a head and nodes are a partial file
-pub nodes_begin : (front nodes : List Token) (x : Head) (partial : PartialTree) (written : List WrittenNode) → IsFront front x.0 x.1 → length x.1 < 2 ^ 32 → AreNodes (length x.1) nodes written → add_nodes root_alone written ≡ Some partial
+-- a front and nodes are a partial file
+pub nodes_begin : (front nodes : List Token) (x : FrontPart) (partial : PartialTree) (written : List WrittenNode) → IsFront front x.0 x.1 → length x.1 < 2 ^ 32 → AreNodes (length x.1) nodes written → add_nodes root_alone written ≡ Some partial
     → IsPartialFile (front ++ nodes) (tree_so_far x.0 x.1 partial) (open_branches partial.branchings)
 nodes_begin front nodes x partial written f few n added = record {
   front = front;
@@ -83,18 +83,18 @@ few_written tokens tree free f =
     let same : length tree.nodes ≡ length f.written = each_length f.describe.keys f.describe.labels tree.nodes f.written f.describe.nodes_stand in
     subst (λ (n : ℕ). n ≤ most_nodes) same f.describe.partial.few_nodes
 
--- The nodes of a partial file that begins with this head are read up to a comma.
+-- The nodes of a partial file that begins with this front are read up to a comma.
 pub record ReadsNodes (most : ℕ) (players : ℕ) (nodes : List Token) : Type 0 where
   pub partial : PartialTree
   pub is_read : marked most players root_alone (nodes ++ Comma ∷ []) ≡ Ok (partial, [])
 
-pub partial_nodes : (most : ℕ) (front body : List Token) (x : Head) (tree : GameTree) (free : List OpenBranch) → most_nodes ≤ most → parse_head (front ++ body) ≡ Ok (x, body) → IsPartialFile (front ++ body) tree free → ReadsNodes most (length x.1) body
+pub partial_nodes : (most : ℕ) (front body : List Token) (x : FrontPart) (tree : GameTree) (free : List OpenBranch) → most_nodes ≤ most → parse_front (front ++ body) ≡ Ok (x, body) → IsPartialFile (front ++ body) tree free → ReadsNodes most (length x.1) body
 partial_nodes most front body x tree free le e f =
     let all = front ++ body in
-    let read : parse_head all ≡ Ok ((tree.title, tree.players), f.nodes ++ []) = partial_front all all [] tree free f (sym (append-nil all)) (record { no_text = refl; no_list = refl }) in
+    let read : parse_front all ≡ Ok ((tree.title, tree.players), f.nodes ++ []) = partial_front all all [] tree free f (sym (append-nil all)) (record { no_text = refl; no_list = refl }) in
     let same : ((tree.title, tree.players), f.nodes ++ []) ≡ (x, body) = ok_same _ _ (sym read ∙ e) in
-    let nodes : f.nodes ≡ body = sym (append-nil f.nodes) ∙ ap (λ (z : Head × List Token). z.1) same in
-    let players : length tree.players ≡ length x.1 = ap (λ (z : Head × List Token). length z.0.1) same in
+    let nodes : f.nodes ≡ body = sym (append-nil f.nodes) ∙ ap (λ (z : FrontPart × List Token). z.1) same in
+    let players : length tree.players ≡ length x.1 = ap (λ (z : FrontPart × List Token). length z.0.1) same in
     let built = described_is_so f.written tree free f.describe in
     let few = few_written all tree free f in
     let o = marked_again most (length tree.players) root_alone built.partial f.nodes [] f.written (nothing_keeps (length tree.players)) f.are_nodes built.is_built (le_through (length f.written) most few le) in
@@ -122,7 +122,7 @@ after_comma_too : (before : List Token) (t : Token) (more : List Token) → (bef
 after_comma_too before t more = append_assoc before (t ∷ more) (Comma ∷ [])
 
 -- where nodes stop, what comes cannot come: with what comes the nodes would be read up to a comma
-cannot_by : (most : ℕ) (tokens : List Token) (x : Head × List Token) (h : ReadsHead tokens x) (before rest : List Token) → most_nodes ≤ most → x.1 ≡ before ++ rest
+cannot_by : (most : ℕ) (tokens : List Token) (x : FrontPart × List Token) (h : ReadsFront tokens x) (before rest : List Token) → most_nodes ≤ most → x.1 ≡ before ++ rest
     → ((t : Token) (r more : List Token) → rest ≡ t ∷ r → ReadsNodes most (length x.0.1) (before ++ t ∷ more) → ⊥) → (rest ≡ [] → ¬ (IsFile tokens)) → CannotCome (h.front ++ before) rest
 cannot_by most tokens x h before [] le e never none = λ f.
     let all : h.front ++ before ≡ tokens = sym (h.is ∙ ap (λ (r : List Token). h.front ++ r) (e ∙ append-nil before)) in
@@ -133,12 +133,12 @@ cannot_by most tokens x h before (t ∷ rest) le e never none = λ b.
     let text : has_text body ≡ has_text x.1 = same_test has_text text_first before t b.0 rest ∙ ap has_text (sym e) in
     never t rest b.0 refl (partial_nodes most h.front body x.0 b.1 b.2 le (h.again body text) (subst (λ (q : List Token). IsPartialFile q b.1 b.2) all b.3))
 
--- where reading stops after a head
-abbrev pub StopsAfter : (tokens : List Token) → {x : Head × List Token} → ReadsHead tokens x → List Token → Type 0
+-- where reading stops after a front
+abbrev pub StopsAfter : (tokens : List Token) → {x : FrontPart × List Token} → ReadsFront tokens x → List Token → Type 0
 StopsAfter tokens h rest = (s : Stops tokens rest) × (inner : List Token) × (s.before ≡ h.front ++ inner)
 
 -- nodes stop where they are stuck up to a comma
-stuck_stops : (most : ℕ) (tokens : List Token) (x : Head × List Token) (kind : EfgKind) (rest : List Token) (h : ReadsHead tokens x) → length x.0.1 < 2 ^ 32 → most_nodes ≤ most → marked most (length x.0.1) root_alone x.1 ≡ Err (kind, rest) → (rest ≡ [] → ¬ (IsFile tokens)) → StopsAfter tokens h rest
+stuck_stops : (most : ℕ) (tokens : List Token) (x : FrontPart × List Token) (kind : EfgKind) (rest : List Token) (h : ReadsFront tokens x) → length x.0.1 < 2 ^ 32 → most_nodes ≤ most → marked most (length x.0.1) root_alone x.1 ≡ Err (kind, rest) → (rest ≡ [] → ¬ (IsFile tokens)) → StopsAfter tokens h rest
 stuck_stops most tokens x kind rest h few le e none =
     let players = length x.0.1 in
     let s = ((marked_reader most players h.is_front.some_player root_alone).at x.1).sticks kind rest e in
@@ -159,7 +159,7 @@ stuck_stops most tokens x kind rest h few le e none =
     )
 
 -- nodes stop before a comma
-comma_stops : (most : ℕ) (tokens : List Token) (x : Head × List Token) (partial : PartialTree) (rest : List Token) (h : ReadsHead tokens x) → length x.0.1 < 2 ^ 32 → most_nodes ≤ most → marked most (length x.0.1) root_alone x.1 ≡ Ok (partial, rest) → StopsAfter tokens h (Comma ∷ rest)
+comma_stops : (most : ℕ) (tokens : List Token) (x : FrontPart × List Token) (partial : PartialTree) (rest : List Token) (h : ReadsFront tokens x) → length x.0.1 < 2 ^ 32 → most_nodes ≤ most → marked most (length x.0.1) root_alone x.1 ≡ Ok (partial, rest) → StopsAfter tokens h (Comma ∷ rest)
 comma_stops most tokens x partial rest h few le e =
     let players = length x.0.1 in
     let n = marked_is most players root_alone x.1 (partial, rest) (nothing_keeps players) e in
@@ -184,7 +184,7 @@ comma_stops most tokens x partial rest h few le e =
         absurd (not_empty more Comma [] (sym (ap (λ (z : PartialTree × List Token). z.1) same)))
 
 -- nodes stop
-pub nodes_stops : (most : ℕ) (tokens : List Token) (x : Head × List Token) (kind : EfgKind) (rest : List Token) (h : ReadsHead tokens x) → length x.0.1 < 2 ^ 32 → most_nodes ≤ most → StopsAsMarked (marked most (length x.0.1) root_alone x.1) kind rest → (rest ≡ [] → ¬ (IsFile tokens)) → StopsAfter tokens h rest
+pub nodes_stops : (most : ℕ) (tokens : List Token) (x : FrontPart × List Token) (kind : EfgKind) (rest : List Token) (h : ReadsFront tokens x) → length x.0.1 < 2 ^ 32 → most_nodes ≤ most → StopsAsMarked (marked most (length x.0.1) root_alone x.1) kind rest → (rest ≡ [] → ¬ (IsFile tokens)) → StopsAfter tokens h rest
 nodes_stops most tokens x kind rest h few le (inl e) none = stuck_stops most tokens x kind rest h few le e none
 nodes_stops most tokens x kind rest h few le (inr y) none = subst (StopsAfter tokens h) (sym y.3) (comma_stops most tokens x y.0.0 y.0.1 h few le y.1)
 
@@ -212,13 +212,13 @@ inner_fault {X} (Err (other, t ∷ r)) kind rest e =
     let all : rest ≡ t ∷ r = sym (ap (λ (z : EfgKind × List Token). z.1) same) in
     (other, ap (λ (q : List Token). Err (other, q)) (sym all), inr (sym (ap (λ (z : EfgKind × List Token). z.0) same), t, r, all))
 
--- where nodes stop after a head
-pub body_stops : (tokens : List Token) (x : Head × List Token) (kind : EfgKind) (rest : List Token) → length x.0.1 < 2 ^ 32 → parse_head tokens ≡ Ok x → located_all_nodes (length x.0.1) x.1 ≡ Err (kind, rest) → (¬ (IsFile tokens)) → (h : ReadsHead tokens x) × (s : Stops tokens rest) × (inner : List Token) × (s.before ≡ h.front ++ inner)
+-- where nodes stop after a front
+pub body_stops : (tokens : List Token) (x : FrontPart × List Token) (kind : EfgKind) (rest : List Token) → length x.0.1 < 2 ^ 32 → parse_front tokens ≡ Ok x → located_all_nodes (length x.0.1) x.1 ≡ Err (kind, rest) → (¬ (IsFile tokens)) → (h : ReadsFront tokens x) × (s : Stops tokens rest) × (inner : List Token) × (s.before ≡ h.front ++ inner)
 body_stops tokens x kind rest few e f none = by (suc (length x.1) + most_nodes) (omega arith) (omega arith)
   where
-    by : (most : ℕ) → suc (length x.1) ≤ most → most_nodes ≤ most → (h : ReadsHead tokens x) × (s : Stops tokens rest) × (inner : List Token) × (s.before ≡ h.front ++ inner)
+    by : (most : ℕ) → suc (length x.1) ≤ most → most_nodes ≤ most → (h : ReadsFront tokens x) × (s : Stops tokens rest) × (inner : List Token) × (s.before ≡ h.front ++ inner)
     by most steps limit =
-        let h = head_is tokens x e in
+        let h = front_read_is tokens x e in
         let m = all_nodes_stop most (length x.0.1) x.1 kind rest steps f in
         let s = nodes_stops most tokens x m.0 rest h few limit m.1 (λ _. none) in
         (h, s.0, s.1, s.2)

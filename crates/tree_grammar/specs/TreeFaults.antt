@@ -22,7 +22,7 @@ IsFile tokens = (tree : GameTree) × IsTreeFile tokens tree
 abbrev pub BeginsFile : List Token → Type 0
 BeginsFile tokens = (more : List Token) × (tree : GameTree) × (free : List OpenBranch) × IsPartialFile (tokens ++ more) tree free
 
--- ---- the head of a file
+-- ---- the front of a file
 -- the header and the title
 abbrev pub IsTitle : List Token → Type 0
 IsTitle = IsTitlePart (codes "EFG") 2

@@ -9,8 +9,7 @@ use Rattle.game_core.specs.declared.token.Token.{Token}
 use Rattle.game_core.specs.declared.token.Token.TheVariants.{Left, Right, Text, Word, Number}
 use Rattle.file_parts.specs.Parts.{whole_number, optional_text, IsHeader, braced_texts, IsComment, AreNumbers}
 use Rattle.written_trees.specs.Written.{SetUse, OutcomeUse, WrittenNode}
-use Rattle.written_trees.specs.Described.{Describe}
-use Rattle.written_trees.specs.Laws.{IsActionList, PassesAt}
+use Rattle.written_trees.specs.Described.{Describe, IsActionList, PassesAt}
 
 -- an action: a text, and after it a number where chance chooses
 abbrev pub action_tokens : Option ℕ → Action → List Token

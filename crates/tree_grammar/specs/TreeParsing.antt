@@ -17,7 +17,7 @@ use Rattle.game_core.specs.declared.token.Token.TheVariants.{Right, Text, Number
 use Rattle.file_parts.specs.Reading.{left_at, right_at, text_at, word_at, number_at, after_text, whole_at, optional_text_at, texts_at, payoff_start, opens, ends, count_at}
 use Rattle.file_parts.specs.Parsing.{Parsed, ◌>>=◌, wanted, passed, parse_each, parse_names, parse_title}
 use Rattle.written_trees.specs.Written.{SetUse, OutcomeUse}
-use Rattle.written_trees.specs.Building.{PartialTree, PartialSet, PartialOutcome, Branching, root_alone, tree_so_far, partial_count, add_branches, take_branch, passed as limit_passed, set_place, outcome_place, add_test, new_set, used_set, new_outcome, used_outcome}
+use Rattle.written_trees.specs.Building.{PartialTree, PartialSet, PartialOutcome, Branching, root_alone, tree_so_far, Choice, with_parts, passed as limit_passed, set_place, outcome_place, add_test, new_set, used_set, new_outcome, used_outcome}
 use Rattle.tree_grammar.specs.TreePieces.{closed_at, is_word, begins_node}
 use Rattle.tree_grammar.specs.declared.kinds.EfgKind.{EfgKind}
 use Rattle.tree_grammar.specs.declared.kinds.EfgKind.TheVariants.{Header, Players, Node, UnknownPlayer, SetMismatch, Probability, ProbabilityRange, OutcomeMismatch, Unfinished, Trailing}
@@ -216,9 +216,6 @@ parse_outcome players outcomes tokens = do
 
 -- ---- nodes
 -- who chooses at node k, and the sets with the one that it uses
-abbrev pub Choice : Type 0
-Choice = List PartialSet × (Kind × Option ℕ)
-
 unfoldable pub parse_set_choice : ℕ → List PartialSet → Option ℕ → List Token → Parsed EfgKind Choice
 parse_set_choice k sets owner tokens = do
   used ← parse_set k sets owner tokens
@@ -241,15 +238,6 @@ parse_choice players k sets tokens = do
   word ← wanted Node tokens (word_at tokens)
   name ← wanted Node word.1 (text_at word.1)
   parse_after players k sets word.0 tokens name.1
-
--- the tree with one more node of these parts, at the first open branch
-abbrev pub with_parts : PartialTree → Branching → List Branching → Choice → List PartialOutcome × Option ℕ → PartialTree
-with_parts partial b rest choice outcome = record {
-  nodes = partial.nodes ++ record { kind = choice.1.0; parent = b.node; branch = b.next; set = choice.1.1; outcome = outcome.1 } ∷ [];
-  sets = choice.0;
-  outcomes = outcome.0;
-  branchings = add_branches (length partial.nodes) (partial_count choice.0 choice.1.1) (suc b.depth) (take_branch b rest);
-}
 
 -- the tree with a node of this kind, with this set and this outcome, at the first open branch
 abbrev pub grown_at : PartialTree → Kind → Option ℕ → Option ℕ → List Branching → Option PartialTree
@@ -297,11 +285,11 @@ parse_nodes (suc most) players partial tokens = if is_whole partial then Ok (par
 
 -- ---- the file
 -- the title and the players
-abbrev pub Head : Type 0
-Head = List ℕ × List (List ℕ)
+abbrev pub FrontPart : Type 0
+FrontPart = List ℕ × List (List ℕ)
 
-unfoldable pub parse_head : List Token → Parsed EfgKind Head
-parse_head tokens = do
+unfoldable pub parse_front : List Token → Parsed EfgKind FrontPart
+parse_front tokens = do
   title ← parse_title Header (codes "EFG") 2 tokens
   players ← parse_names Players title.1
   Ok ((title.0, players.0), after_text players.1)
@@ -320,6 +308,6 @@ in_nodes reading = reading
 -- the tree of a file
 unfoldable pub parse_tree : List Token → Result GameTree NodeStop
 parse_tree tokens = do
-  head ← within_limit None (parse_head tokens)
-  partial ← in_nodes (parse_all_nodes (length head.0.1) head.1)
-  Ok (tree_so_far head.0.0 head.0.1 partial)
+  front ← within_limit None (parse_front tokens)
+  partial ← in_nodes (parse_all_nodes (length front.0.1) front.1)
+  Ok (tree_so_far front.0.0 front.0.1 partial)

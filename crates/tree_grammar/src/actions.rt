@@ -9,7 +9,7 @@ ghost use Rattle.tree_grammar.specs.TreeParsing.{own_action, sum_with, parse_cha
 ghost use Rattle.tree_grammar.specs.declared.kinds.EfgKind.TheVariants.{Node, SetMismatch};
 
 use crate::kinds::EfgKind;
-use file_parts::{Refusal, copied, left, number, right, text, unexpected};
+use file_parts::{PartStop, copied, left, number, right, text, unexpected};
 use frac128::Frac;
 use game_core::{Action, Spanned};
 use std::alloc::Global;
@@ -35,7 +35,7 @@ fn chance_actions(
     alloc: Global,
     tokens: &[Spanned],
     set: u64,
-) -> Result<(Vec<Action>, Frac, &[Spanned]), Refusal<EfgKind>>
+) -> Result<(Vec<Action>, Frac, &[Spanned]), PartStop<EfgKind>>
     ensures { Parses (λ x. ((x.0.items, x.1), kinds x.2.now)) result
         (parse_chances set zero_ℚ (kinds tokens.now)) }
 {
@@ -62,7 +62,7 @@ fn chance_actions(
 fn own_actions(
     alloc: Global,
     tokens: &[Spanned],
-) -> Result<(Vec<Action>, &[Spanned]), Refusal<EfgKind>>
+) -> Result<(Vec<Action>, &[Spanned]), PartStop<EfgKind>>
     ensures { Parses {Y = List action
         × List token} (λ x. (x.0.items, kinds x.1.now)) result
         (Ok (map own_action (texts_at (kinds tokens.now)).0, (texts_at (kinds tokens.now)).1)) }
@@ -79,7 +79,7 @@ fn own_actions(
 }
 
 // The tokens after the brace that closes this many actions, which is at least one.
-fn closed(tokens: &[Spanned], count: usize) -> Result<&[Spanned], Refusal<EfgKind>>
+fn closed(tokens: &[Spanned], count: usize) -> Result<&[Spanned], PartStop<EfgKind>>
     ensures { Parses (λ rest. (tt, kinds rest.now)) result (parse_closed count (kinds tokens.now)) }
 {
     match right(tokens) {
@@ -95,7 +95,7 @@ pub fn first_list(
     tokens: &[Spanned],
     owner: Option<u32>,
     set: u64,
-) -> Result<(Vec<Action>, &[Spanned]), Refusal<EfgKind>>
+) -> Result<(Vec<Action>, &[Spanned]), PartStop<EfgKind>>
     ensures { Parses (λ x. (x.0.items, kinds x.1.now)) result
         (parse_first_list owner set (kinds tokens.now)) }
 {
@@ -136,7 +136,7 @@ fn repeated<'a>(
     tokens: &'a [Spanned],
     owner: Option<u32>,
     action: &Action,
-) -> Result<&'a [Spanned], Refusal<EfgKind>>
+) -> Result<&'a [Spanned], PartStop<EfgKind>>
     ensures { Parses (λ rest. (tt, kinds rest.now)) result
         (parse_repeated owner action.now (kinds tokens.now)) }
 {
@@ -159,7 +159,7 @@ fn all_repeated<'a>(
     tokens: &'a [Spanned],
     owner: Option<u32>,
     actions: &[Action],
-) -> Result<&'a [Spanned], Refusal<EfgKind>>
+) -> Result<&'a [Spanned], PartStop<EfgKind>>
     ensures { Parses (λ rest. (tt, kinds rest.now)) result
         (parse_all_repeated owner actions.now (kinds tokens.now)) }
 {
@@ -176,7 +176,7 @@ pub fn later_list<'a>(
     tokens: &'a [Spanned],
     owner: Option<u32>,
     actions: &[Action],
-) -> Result<&'a [Spanned], Refusal<EfgKind>>
+) -> Result<&'a [Spanned], PartStop<EfgKind>>
     ensures { Parses (λ rest. (tt, kinds rest.now)) result
         (parse_later_list owner actions.now (kinds tokens.now)) }
 {

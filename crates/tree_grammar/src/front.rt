@@ -1,10 +1,10 @@
 // The part of a file up to the nodes.
 ghost use Rattle.file_parts.specs.Reading.{kinds};
 ghost use Rattle.file_parts.specs.Parsing.{Parses};
-ghost use Rattle.tree_grammar.specs.TreeParsing.{parse_head};
+ghost use Rattle.tree_grammar.specs.TreeParsing.{parse_front};
 
 use crate::kinds::EfgKind;
-use file_parts::{Refusal, after_text, copied, names, title};
+use file_parts::{PartStop, after_text, copied, names, title};
 use game_core::{Name, Spanned};
 use std::alloc::Global;
 
@@ -19,13 +19,13 @@ pub struct Front {
 
 /// The title and the players at the front of a file, and the tokens after them and the comment that may come. An error
 /// has the fault's kind and how many tokens are left there, or is want of memory.
-#[tactic(auto, using(file_parts::proofs::ParseLemmas::refused_first), unfolding(crate::specs::TreeParsing::parse_head))]
+#[tactic(auto, using(file_parts::proofs::ParseLemmas::refused_first), unfolding(crate::specs::TreeParsing::parse_front))]
 pub fn read_front(
     alloc: Global,
     tokens: &[Spanned],
-) -> Result<(Front, &[Spanned]), Refusal<EfgKind>>
+) -> Result<(Front, &[Spanned]), PartStop<EfgKind>>
     ensures { Parses (λ x. ((x.0.title, x.0.players.items), kinds x.1.now)) result
-        (parse_head (kinds tokens.now)) }
+        (parse_front (kinds tokens.now)) }
 {
     let (title, following) = title(tokens, b"EFG", 2, EfgKind::Header)?;
     let title = copied(alloc, title)?;

@@ -3,12 +3,12 @@
 //!
 //! Callers may rely on: `files_have_one_tree`; `files_are_read`, in both directions; `read_front`,
 //! `player`, `read_set` and `read_outcome` take off the tokens what the reading function of their
-//! part does, or give a `Refusal` with the fault's kind and the tokens left; `Sets` and `Outcomes`
+//! part does, or give a `PartStop` with the fault's kind and the tokens left; `Sets` and `Outcomes`
 //! are seen as lists, in the order of first use.
-//! Definitions: `specs::TreeFile` has the grammar, `TreeParsing` the reading functions, and
-//! `FaultKinds` and `TreeFaults` the kinds of faults and where they are.
-//! Private words: `specs::TreePieces`, the words of nodes and the brace after actions; `Uses` and
-//! `UseCodes`, how sets and outcomes are kept and stored.
+//! Definitions: `specs::TreeFile` has the grammar, `TreePieces` the words of nodes and the brace after
+//! actions, `TreeParsing` the reading functions, `FaultKinds` and `TreeFaults` the kinds of faults
+//! and where they are, and `UseCodes` how sets and outcomes that are seen so far are stored.
+//! Private words: `specs::Uses`, how sets and outcomes are kept.
 //! Lemmas for callers: `proofs::NodesReadLaws`, that what is read as nodes are nodes; `FileLaws`,
 //! that what is read is a file; `FaultLaws` on faults; `ShortRestLemmas`, that the tokens after a
 //! part are short.

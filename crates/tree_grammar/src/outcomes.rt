@@ -2,7 +2,7 @@
 ghost use Rattle.std.specs.Prelude.{◌≡◌, ◌<◌, [], Some, if◌then◌else◌, length, map, option_map, IfOk, OnOk};
 ghost use Rattle.std.specs.List.{AllByRecursion};
 ghost use Rattle.game_core.specs.Spacing.{IsShortToken};
-ghost use Rattle.file_parts.specs.declared.refusal.Refusal.TheVariants.{Unexpected};
+ghost use Rattle.file_parts.specs.declared.stop.PartStop.TheVariants.{Unexpected};
 ghost use Rattle.file_parts.specs.Reading.{kinds, payoff_start};
 ghost use Rattle.file_parts.specs.Parsing.{Parses, parse_each};
 ghost use Rattle.tree_grammar.specs.TreeParsing.{closes, parse_payoff, parse_payoffs_end, parse_first_payoffs, parse_same_payoffs, parse_later_payoffs, parse_named, parse_outcome};
@@ -13,7 +13,7 @@ ghost use Rattle.written_trees.specs.Building.{finished_outcome};
 use crate::kinds::EfgKind;
 use crate::sets::{optional_name, or_empty};
 use file_parts::{
-    Refusal, label, left, number, optional_text, payoff, payoff_start, right, unexpected,
+    PartStop, label, left, number, optional_text, payoff, payoff_start, right, unexpected,
 };
 use frac128::Frac;
 use game_core::{Name, Outcome, Spanned};
@@ -97,7 +97,7 @@ fn mismatch_or_node(differs: bool) -> EfgKind
 }
 
 // That no payoff comes, of which this many came before.
-fn no_payoff(tokens: &[Spanned], index: usize) -> Refusal<EfgKind>
+fn no_payoff(tokens: &[Spanned], index: usize) -> PartStop<EfgKind>
     ensures { result
         ≡ Unexpected
         (if closes (payoff_start index (kinds tokens.now)) then OutcomeMismatch else Node)
@@ -108,7 +108,7 @@ fn no_payoff(tokens: &[Spanned], index: usize) -> Refusal<EfgKind>
 }
 
 // The tokens after the brace that closes payoffs.
-fn closed(tokens: &[Spanned]) -> Result<&[Spanned], Refusal<EfgKind>>
+fn closed(tokens: &[Spanned]) -> Result<&[Spanned], PartStop<EfgKind>>
     ensures { Parses (λ rest. (tt, kinds rest.now)) result (parse_payoffs_end (kinds tokens.now)) }
 {
     match right(tokens) {
@@ -123,7 +123,7 @@ fn payoffs(
     alloc: Global,
     tokens: &[Spanned],
     players: usize,
-) -> Result<(Vec<Frac>, &[Spanned]), Refusal<EfgKind>>
+) -> Result<(Vec<Frac>, &[Spanned]), PartStop<EfgKind>>
     ensures { Parses (λ x. (x.0.items, kinds x.1.now)) result
         (parse_each parse_payoff 0 players (kinds tokens.now)) }
 {
@@ -145,7 +145,7 @@ fn first_payoffs(
     alloc: Global,
     tokens: &[Spanned],
     players: usize,
-) -> Result<(Vec<Frac>, &[Spanned]), Refusal<EfgKind>>
+) -> Result<(Vec<Frac>, &[Spanned]), PartStop<EfgKind>>
     ensures { Parses (λ x. (x.0.items, kinds x.1.now)) result
         (parse_first_payoffs players (kinds tokens.now)) }
 {
@@ -159,16 +159,16 @@ fn first_payoffs(
 
 // The tokens after payoffs that repeat these.
 #[tactic(auto, using(crate::proofs::OutcomeStepLemmas::repeated_steps))]
-fn repeated<'a>(tokens: &'a [Spanned], payoffs: &[Frac]) -> Result<&'a [Spanned], Refusal<EfgKind>>
+fn repeated<'a>(tokens: &'a [Spanned], payoffs: &[Frac]) -> Result<&'a [Spanned], PartStop<EfgKind>>
     ensures { Parses (λ rest. (tt, kinds rest.now)) result
         (parse_same_payoffs 0 payoffs.now (kinds tokens.now)) }
 {
     let mut rest = tokens;
-    for index in 0..payoffs.len() {
+    for (index, payoff_before) in payoffs.iter().enumerate() {
         let Some(next) = payoff(rest, index) else {
             return Err(no_payoff(rest, index));
         };
-        if next.0 != payoffs[index] {
+        if next.0 != *payoff_before {
             return Err(unexpected(EfgKind::OutcomeMismatch, payoff_start(rest, index)));
         }
         rest = next.1;
@@ -181,7 +181,7 @@ fn repeated<'a>(tokens: &'a [Spanned], payoffs: &[Frac]) -> Result<&'a [Spanned]
 fn later_payoffs<'a>(
     tokens: &'a [Spanned],
     payoffs: &[Frac],
-) -> Result<&'a [Spanned], Refusal<EfgKind>>
+) -> Result<&'a [Spanned], PartStop<EfgKind>>
     ensures { Parses (λ rest. (tt, kinds rest.now)) result
         (parse_later_payoffs payoffs.now (kinds tokens.now)) }
 {
@@ -199,7 +199,7 @@ fn first_use<'a>(
     name: Option<&Name>,
     players: usize,
     tokens: &'a [Spanned],
-) -> Result<(KeptOutcome, &'a [Spanned]), Refusal<EfgKind>>
+) -> Result<(KeptOutcome, &'a [Spanned]), PartStop<EfgKind>>
     ensures label { IfOk result (λ x. x.0.label ≡ label) }
     ensures name { IfOk result (λ x. x.0.name ≡ option_map (λ t. t.now) name.entry) }
     ensures read { Parses (λ x. (x.0.payoffs.items, kinds x.1.now)) result
@@ -221,7 +221,7 @@ fn later_use<'a>(
     outcome: &mut KeptOutcome,
     name: Option<&Name>,
     tokens: &'a [Spanned],
-) -> Result<&'a [Spanned], Refusal<EfgKind>>
+) -> Result<&'a [Spanned], PartStop<EfgKind>>
     ensures label { OnOk result (outcome.new.label ≡ outcome.old.label) }
     ensures name { OnOk result (outcome.new.name
         ≡ option_or outcome.old.name (option_map (λ t. t.now) name.entry)) }
@@ -243,7 +243,7 @@ fn read_named<'a>(
     label: u64,
     players: usize,
     tokens: &'a [Spanned],
-) -> Result<(Outcomes, u32, &'a [Spanned]), Refusal<EfgKind>>
+) -> Result<(Outcomes, u32, &'a [Spanned]), PartStop<EfgKind>>
     requires few { length outcomes < 4294967295 }
     ensures { Parses (λ x. ((x.0, Some x.1), kinds x.2.now)) result
         (parse_named players label outcomes (kinds tokens.now)) }
@@ -273,7 +273,7 @@ pub fn read_outcome<'a>(
     outcomes: Outcomes,
     players: usize,
     tokens: &'a [Spanned],
-) -> Result<(Outcomes, Option<u32>, &'a [Spanned]), Refusal<EfgKind>>
+) -> Result<(Outcomes, Option<u32>, &'a [Spanned]), PartStop<EfgKind>>
     requires few { length outcomes < 4294967295 }
     requires short { AllByRecursion IsShortToken (kinds tokens.now) }
     ensures { Parses (λ x. ((x.0, x.1), kinds x.2.now)) result

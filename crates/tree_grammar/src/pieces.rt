@@ -8,7 +8,7 @@ ghost use Rattle.tree_grammar.specs.TreePieces.{begins_node, is_node_word};
 ghost use Rattle.tree_grammar.specs.TreeParsing.{parse_player};
 
 use crate::kinds::EfgKind;
-use file_parts::{Refusal, label, unexpected, whole, word};
+use file_parts::{PartStop, label, unexpected, whole, word};
 use game_core::Spanned;
 
 /// A number of at least 1, and the tokens after it.
@@ -28,7 +28,7 @@ pub fn positive(tokens: &[Spanned]) -> Option<(u64, &[Spanned])>
 /// A player, counted from 0, by the number that comes, which is 1 to the number of players, and the tokens after it. An
 /// error has the fault's kind, which tells no whole number from one of no player, and how many tokens are left there.
 #[tactic(auto, unfolding(crate::specs::TreeParsing::parse_player))]
-pub fn player(tokens: &[Spanned], players: u32) -> Result<(u32, &[Spanned]), Refusal<EfgKind>>
+pub fn player(tokens: &[Spanned], players: u32) -> Result<(u32, &[Spanned]), PartStop<EfgKind>>
     ensures { Parses (λ x. (x.0, kinds x.1.now)) result (parse_player players (kinds tokens.now)) }
 {
     let Some((number, rest)) = whole(tokens) else {

@@ -4,16 +4,16 @@ ghost use Rattle.std.specs.List.{position_or_len, list_any, AllByRecursion};
 ghost use Rattle.game_core.specs.Spacing.{IsShortToken};
 ghost use Rattle.file_parts.specs.Reading.{kinds};
 ghost use Rattle.file_parts.specs.Parsing.{Parses};
-ghost use Rattle.written_trees.specs.Described.{same_set, or_empty};
+ghost use Rattle.written_trees.specs.Described.{same_set};
 ghost use Rattle.written_trees.specs.Building.{partial_count, finished_set};
 ghost use Rattle.tree_grammar.specs.Uses.{partial_set};
 ghost use Rattle.tree_grammar.specs.TreeParsing.{parse_first_list, parse_later_list, parse_set};
-ghost use Rattle.std.specs.Option.{option_or};
+ghost use Rattle.std.specs.Option.{option_or, unwrap_or};
 
 use crate::actions::{first_list, later_list};
 use crate::kinds::EfgKind;
 use crate::pieces::positive;
-use file_parts::{Refusal, copied, optional_text, unexpected};
+use file_parts::{PartStop, copied, optional_text, unexpected};
 use game_core::{Action, InfoSet, Name, Spanned};
 use indexmap::IndexSet;
 use std::alloc::{AllocError, AllocFailed, Global};
@@ -112,7 +112,7 @@ impl Sets {
 
 /// The name that came, and else the empty one.
 pub fn or_empty(alloc: Global, name: Option<Name>) -> Name
-    ensures { result ≡ or_empty name }
+    ensures { result ≡ unwrap_or name [] }
 {
     match name {
         Some(name) => name,
@@ -137,7 +137,7 @@ fn first_use<'a>(
     name: Option<&Name>,
     node: u32,
     tokens: &'a [Spanned],
-) -> Result<(KeptSet, &'a [Spanned]), Refusal<EfgKind>>
+) -> Result<(KeptSet, &'a [Spanned]), PartStop<EfgKind>>
     ensures read { Parses (λ x. (x.0.actions.items, kinds x.1.now)) result
         (parse_first_list key.owner key.label (kinds tokens.now)) }
     ensures set { IfOk result
@@ -170,7 +170,7 @@ fn later_use<'a>(
     name: Option<&Name>,
     node: u32,
     tokens: &'a [Spanned],
-) -> Result<&'a [Spanned], Refusal<EfgKind>>
+) -> Result<&'a [Spanned], PartStop<EfgKind>>
     ensures read { Parses (λ rest. (tt, kinds rest.now)) result
         (parse_later_list set.old.owner set.old.actions.items (kinds tokens.now)) }
     ensures set { OnOk result
@@ -215,7 +215,7 @@ pub fn read_set<'a>(
     owner: Option<u32>,
     node: u32,
     tokens: &'a [Spanned],
-) -> Result<(Sets, u32, &'a [Spanned]), Refusal<EfgKind>>
+) -> Result<(Sets, u32, &'a [Spanned]), PartStop<EfgKind>>
     requires few { length sets < 4294967295 }
     requires short { AllByRecursion IsShortToken (kinds tokens.now) }
     ensures { Parses (λ x. ((x.0, x.1), kinds x.2.now)) result

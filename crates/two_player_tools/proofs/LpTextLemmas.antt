@@ -74,7 +74,7 @@ module _ (f : FormData) (p o : Program) (plans : PlanPair) (h : IsSolving f p o 
       let sums = tree_sums (game_of_tree t) f (constant_of f none) (tree_form-is t f k) (sums_to f none h.valid h.program.2.2.1) in
       plans_solve_trees (game_of_tree t) (form f) f.least_one (constant_of f none) p o plans two (tree_stands (game_of_tree t) f (tree_form-is t f k)).alike sums is_program is_of_form h.optimum h.planned
 
-  pair : PlanPair
+  abbrev pair : PlanPair
   pair = record { one = h.planned.0; two = h.planned.2.0 }
 
   are : plans ≡ pair

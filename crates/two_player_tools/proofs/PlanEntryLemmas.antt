@@ -58,10 +58,10 @@ rest-listed (x ∷ xs) n e =
 -- ---- on a table
 module _ (t : GameTable) (f : FormData) (plans : PlanPair) (valid : IsTable t) (is : IsFormData f) (h : table_form t (Ok f)) (all : HaveAllWeights f plans) where
   one_long : length plans.one ≡ suc (count_of_rows t)
-  one_long = all.one_has_all ∙ is.first_is.sequences_are ∙ counts (side_of f.first) (one_set (count_of_rows t)) (table_stands t f valid h).alike.rows
+  one_long = all.one_has_all ∙ is.first_is.sequences_are ∙ counts (side_of f.first) (one_set (count_of_rows t)) (table_stands t f valid h).alike.rows ∙ omega arith
 
   two_long : length plans.two ≡ suc (count_of_columns t)
-  two_long = all.two_has_all ∙ is.second_is.sequences_are ∙ counts (side_of f.second) (one_set (count_of_columns t)) (table_stands t f valid h).alike.columns
+  two_long = all.two_has_all ∙ is.second_is.sequences_are ∙ counts (side_of f.second) (one_set (count_of_columns t)) (table_stands t f valid h).alike.columns ∙ omega arith
 
   table_entries : drop 1 plans.one ++ drop 1 plans.two ≡ entries (strategy_counts t) (mixed_of_plans (weights_of plans))
   table_entries =
@@ -77,12 +77,12 @@ module _ (rows : Counts → ℕ) (f : FormData) (plans : PlanPair) (is : IsFormD
     (on_table : (t : GameTable) → IsTable t → table_form t (Ok f) → is_table_equilibrium (game_of t) (mixed_of_plans (weights_of plans)))
     (on_tree : (t : GameTree) (before : List (Option (ℕ × ℕ))) → IsGameTree t → IsRecallOf (game_of_tree t) before → tree_form t (Ok f) → IsEquilibrium (game_of_tree t) (behaviour_of (game_of_tree t) (weights_of plans)))
   where
-  table_case : (t : GameTable) (list : List ℚ) → IsTable t → table_form t (Ok f) → only {E = Refusal} (drop 1 plans.one ++ drop 1 plans.two) (Ok list)
-      → (m : Mixed) × is_table_equilibrium (game_of t) m × (list ≡ entries (strategy_counts t) m)
-  table_case t list w h e = (mixed_of_plans (weights_of plans), on_table t w h, ok_same list (drop 1 plans.one ++ drop 1 plans.two) e ∙ table_entries t f plans w is h all)
+    table_case : (t : GameTable) (list : List ℚ) → IsTable t → table_form t (Ok f) → only {E = Refusal} (drop 1 plans.one ++ drop 1 plans.two) (Ok list)
+        → (m : Mixed) × is_table_equilibrium (game_of t) m × (list ≡ entries (strategy_counts t) m)
+    table_case t list w h e = (mixed_of_plans (weights_of plans), on_table t w h, ok_same list (drop 1 plans.one ++ drop 1 plans.two) e ∙ table_entries t f plans w is h all)
 
-  pub own_entries : (strategic : Bool) (game : Game) (list : List ℚ) → IsGame game → form_in rows strategic game (Ok f) → entries_in strategic game plans.one plans.two (Ok list) → AreOfEquilibrium strategic game list
-  own_entries true (Strategic t) list w k e = (k.0, k.1, table_case k.0 list (strategic_form-table (Strategic t) k.0 w k.1) k.2.2 e)
-  own_entries false (Strategic t) list w k e = (k.0, k.1, table_case k.0 list (strategic_form-table (Strategic t) k.0 w k.1) k.2.2 e)
-  own_entries true (Extensive t) list w k e = (k.0, k.1, table_case k.0 list (strategic_form-table (Extensive t) k.0 w k.1) k.2.2 e)
-  own_entries false (Extensive t) list w k e = (behaviour_of (game_of_tree t) (weights_of plans), on_tree t k.0 w k.1 k.2.2, tree_entries_are t plans list e)
+    pub own_entries : (strategic : Bool) (game : Game) (list : List ℚ) → IsGame game → form_in rows strategic game (Ok f) → entries_in strategic game plans.one plans.two (Ok list) → AreOfEquilibrium strategic game list
+    own_entries true (Strategic t) list w k e = (let c = table_case k.0 list (strategic_form-table (Strategic t) k.0 w k.1) k.2.2 e in (k.0, k.1, c.0, c.1, c.2))
+    own_entries false (Strategic t) list w k e = (let c = table_case k.0 list (strategic_form-table (Strategic t) k.0 w k.1) k.2.2 e in (k.0, k.1, c.0, c.1, c.2))
+    own_entries true (Extensive t) list w k e = (let c = table_case k.0 list (strategic_form-table (Extensive t) k.0 w k.1) k.2.2 e in (k.0, k.1, c.0, c.1, c.2))
+    own_entries false (Extensive t) list w k e = (behaviour_of (game_of_tree t) (weights_of plans), on_tree t k.0 w k.1 k.2.2, tree_entries_are t plans list e)

@@ -56,7 +56,12 @@ fn solution_text(
 
 /// The text of `lp`: the line of an equilibrium of a game, with its value and prices where they are
 /// asked for.
-pub fn lp_text(alloc: Global, strategic: bool, prices: bool, game: &Game) -> Result<Vec<u8>, Refusal>
+pub fn lp_text(
+    alloc: Global,
+    strategic: bool,
+    prices: bool,
+    game: &Game,
+) -> Result<Vec<u8>, Refusal>
     ensures { Gives Refusal.Memory (lp strategic prices game.now)
         (map_ok result (λ text. text.items)) }
 {

@@ -42,6 +42,7 @@ pub fn solve(alloc: Global, form: &SeqForm) -> Result<Solved, Refusal>
         (map_ok result (solution_of form.now)) }
     ensures sizes { IfOk result (HasSizesOf form.now) }
 {
+    // Its contract gives what the type keeps.
     let _side = form.first();
     let lp = program(alloc, form)?;
     let optimum = optimum_in(lp)?;

@@ -12,7 +12,7 @@ use Rattle.rational.specs.GcdLaws.{gcd-is}
 use Rattle.frac128.specs.declared.steps.Unfit.{Unfit}
 use Rattle.frac128.specs.Fraction.{PartFits}
 use Rattle.whole_rows.proofs.FittingStepLemmas.{read_back}
-use Rattle.whole_rows.specs.Rows.{from_place, IsCommonDivisor}
+use Rattle.whole_rows.specs.Rows.{from_place, IsGreatestDivisor}
 use Rattle.frac128.specs.Steps.{StepFits, IsFirstUnfit}
 use Rattle.frac128.proofs.StepRunLemmas.{first_unfit-more, first_unfit-following}
 use Rattle.whole_rows.specs.Pivots.{steps_to, place_steps}
@@ -29,7 +29,7 @@ written_next P xs own place x l h rest p hp = elim (cases_eq p place) [
 ]
 
 -- ---- the common divisor
-pub common_first : (f : ℕ → ℤ) (g : ℕ) → pos 0 <ℤ f 0 → g ≡ nat_abs (f 0) → IsCommonDivisor f 1 g
+pub common_first : (f : ℕ → ℤ) (g : ℕ) → pos 0 <ℤ f 0 → g ≡ nat_abs (f 0) → IsGreatestDivisor f 1 g
 common_first f g h e =
     record {
       positive = subst (λ n. 0 < n) (sym e) (size (f 0) h);
@@ -44,7 +44,7 @@ common_first f g h e =
     none : (p : ℕ) → p < 1 → 0 ≡ p
     none p h = omega arith
 
-pub common_next : (f : ℕ → ℤ) (place g h : ℕ) → IsCommonDivisor f place g → h ≡ gcd g (nat_abs (f place)) → IsCommonDivisor f (place + 1) h
+pub common_next : (f : ℕ → ℤ) (place g h : ℕ) → IsGreatestDivisor f place g → h ≡ gcd g (nat_abs (f place)) → IsGreatestDivisor f (place + 1) h
 common_next f place g h k e =
     record {
       positive = subst (λ n. 0 < n) (sym e) (pos_of_dvd g (gcd g (nat_abs (f place))) k.positive (gcd-is g (nat_abs (f place))).0);
@@ -58,7 +58,7 @@ common_next f place g h k e =
     pos_of_dvd : (n d : ℕ) → 0 < n → d ∣ n → 0 < d
     pos_of_dvd n d h q = pos_of_dvd_of_pos q h
 
-pub common_one : (f : ℕ → ℤ) (place size g : ℕ) → place ≤ size → IsCommonDivisor f place g → g ≡ 1 → IsCommonDivisor f size 1
+pub common_one : (f : ℕ → ℤ) (place size g : ℕ) → place ≤ size → IsGreatestDivisor f place g → g ≡ 1 → IsGreatestDivisor f size 1
 common_one f place size g l k e = record { positive = omega arith; divides = λ p hp. one-dvd _; greatest = λ d q. subst (λ n. d ∣ n) e (k.greatest d (λ p hp. q p (omega arith))) }
 
 -- ---- the steps of a row

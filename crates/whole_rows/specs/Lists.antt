@@ -56,7 +56,8 @@ IsPlaceNumber numbers own first column u v place o =
 -- that number, and the steps there fit with any factors of 64 bits
 abbrev pub IsShortNumber : List ℤ → ℕ → ℕ → ℕ → ℤ → ℤ → ℕ → Option ℤ → Type 0
 IsShortNumber numbers own first column u v place o =
-    IfSome o (λ x. (x ≡ place_number_at numbers own first column u v place) × PartFits x × FitsShort (from_place numbers own) (from_place numbers first) column place)
+    IfSome o (λ x. (x ≡ place_number_at numbers own first column u v place) × PartFits x
+    × FitsShort (from_place numbers own) (from_place numbers first) column place)
 
 -- all steps of the row at `own`, with the factors u and v
 abbrev pub steps_at : List ℤ → ℕ → ℕ → ℕ → ℤ → ℤ → ℕ → List Step
@@ -66,12 +67,16 @@ steps_at numbers own first column u v size =
 -- new has the row's numbers at `own`, before they are divided
 abbrev pub IsWritten : List ℤ → ℕ → ℕ → ℕ → ℤ → ℤ → ℕ → List ℤ → Type 0
 IsWritten numbers own first column u v size new =
-    (p : ℕ) → p < size → (from_place new own p ≡ place_number_at numbers own first column u v p) × PartFits (from_place new own p)
+    (p : ℕ) → p < size
+    → (from_place new own p ≡ place_number_at numbers own first column u v p)
+    × PartFits (from_place new own p)
 
 -- new has them divided by d
 abbrev pub IsWrittenBy : ℕ → List ℤ → ℕ → ℕ → ℕ → ℤ → ℤ → ℕ → List ℤ → Type 0
 IsWrittenBy d numbers own first column u v size new =
-    (p : ℕ) → p < size → (from_place new own p *ℤ pos d ≡ place_number_at numbers own first column u v p) × PartFits (from_place new own p)
+    (p : ℕ) → p < size
+    → (from_place new own p *ℤ pos d ≡ place_number_at numbers own first column u v p)
+    × PartFits (from_place new own p)
 
 -- the steps of the row at `own`
 abbrev pub row_steps_at : List ℤ → ℕ → ℕ → ℕ → ℕ → List Step
@@ -81,7 +86,8 @@ row_steps_at numbers own first column size =
 -- new has at `own` what the pivot makes of the row there
 abbrev pub IsPivotedRowAt : List ℤ → ℕ → ℕ → ℕ → ℕ → List ℤ → Type 0
 IsPivotedRowAt numbers own first column size new =
-    IsPivotedRow size (from_place numbers own) (from_place numbers first) column (from_place new own)
+    IsPivotedRow size (from_place numbers own) (from_place numbers first) column
+    (from_place new own)
 
 -- the steps of row i by the pivot on a row: none where it is that row
 abbrev pub steps_of_row : List ℤ → ℕ → ℕ → ℕ → ℕ → List Step

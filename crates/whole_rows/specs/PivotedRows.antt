@@ -9,7 +9,8 @@ pub record IsPivotedRow (size : ℕ) (row b : ℕ → ℤ) (c : ℕ) (new : ℕ 
   pub is_row : IsRow size new
   pub at_column : fraction new c ≡ neg_ℚ (fraction row c *ℚ inv_ℚ (fraction b c))
   pub elsewhere : (p : ℕ) → 0 < p → p < size → p ≢ c
-      → fraction new p ≡ fraction row p -ℚ (fraction row c *ℚ (fraction b p *ℚ inv_ℚ (fraction b c)))
+      → fraction new p
+      ≡ fraction row p -ℚ (fraction row c *ℚ (fraction b p *ℚ inv_ℚ (fraction b c)))
 
 -- new is a row that stands for what the pivot makes of its own row
 pub record IsPivotRow (size : ℕ) (b : ℕ → ℤ) (c : ℕ) (new : ℕ → ℤ) : Type 0 where

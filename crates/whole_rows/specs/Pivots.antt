@@ -4,7 +4,7 @@ use Rattle.rational.specs.Gcd.{gcd, div_ℤ}
 use Rattle.frac128.specs.Steps.{Step}
 use Rattle.whole_rows.specs.Steps.{times, combination_steps}
 
--- n with the sign of p
+-- n times the sign of p, which is 1 where p is 0
 abbrev pub signed_by : ℤ → ℤ → ℤ
 signed_by (pos p) n = n
 signed_by (negsuc p) n = neg_ℤ n
@@ -31,7 +31,8 @@ steps_to row b c u v (suc place) = steps_to row b c u v place ++ place_steps row
 -- the steps of a row: none where its number in the column is 0
 abbrev pub row_steps : ℕ → (ℕ → ℤ) → (ℕ → ℤ) → ℕ → List Step
 row_steps size row b c =
-    cond (eqb (nat_abs (row c)) 0) [] (steps_to row b c (own_factor (b c) (row c)) (other_factor (b c) (row c)) size)
+    cond (eqb (nat_abs (row c)) 0) []
+    (steps_to row b c (own_factor (b c) (row c)) (other_factor (b c) (row c)) size)
 
 -- the steps of the first rows; row r takes none
 abbrev pub pivot_steps : ℕ → (ℕ → ℕ → ℤ) → ℕ → ℕ → ℕ → List Step
@@ -42,7 +43,8 @@ pivot_steps size rows r c (suc i) =
 -- the number at a place of a row before it is divided
 abbrev pub place_number : (ℕ → ℤ) → (ℕ → ℤ) → ℕ → ℤ → ℤ → ℕ → ℤ
 place_number row b c u v place =
-    cond (eqb place 0) (row 0 *ℤ u) (cond (eqb place c) (neg_ℤ (b 0 *ℤ v)) ((row place *ℤ u) -ℤ (b place *ℤ v)))
+    cond (eqb place 0) (row 0 *ℤ u)
+    (cond (eqb place c) (neg_ℤ (b 0 *ℤ v)) ((row place *ℤ u) -ℤ (b place *ℤ v)))
 
 -- the place whose number comes to a place of the pivot's row
 abbrev pub exchanged : ℕ → ℕ → ℕ

@@ -25,7 +25,9 @@ common_to cells (suc k) =
 abbrev pub denominator_steps : (ℕ → ℚ) → ℕ → List Step
 denominator_steps cells zero = []
 denominator_steps cells (suc k) =
-    denominator_steps cells k ++ times (pos (common_to cells k)) (pos ((cells k).den / gcd (common_to cells k) (cells k).den)) ∷ []
+    denominator_steps cells k
+    ++ times (pos (common_to cells k)) (pos ((cells k).den / gcd (common_to cells k) (cells k).den))
+    ∷ []
 
 -- the steps of the first k numbers of a row with the common denominator b
 abbrev pub numerator_steps : (ℕ → ℚ) → ℕ → ℕ → List Step

@@ -14,13 +14,13 @@ use frac128::{Frac, Op, Unfit, cmp_signed_quotients};
 use std::cmp::Ordering;
 
 // 2^63.
-const WORD: i128 = 9223372036854775808;
+const TWO_TO_63: i128 = 9223372036854775808;
 
 // Whether a number fits 64 bits.
-fn is_short(n: i128) -> bool
+fn fits_64_bits(n: i128) -> bool
     ensures { IsTrue result ↔ ((neg_ℤ (pos (2 ^ 63)) ≤ℤ n) × (n <ℤ pos (2 ^ 63))) }
 {
-    -WORD <= n && n < WORD
+    -TWO_TO_63 <= n && n < TWO_TO_63
 }
 
 // A number that fits 64 bits.
@@ -36,7 +36,7 @@ fn shortened(n: i128) -> i64
 pub fn short_factor(n: i128) -> Option<i64>
     ensures { IfSome result (λ u. (u ≡ n) × IsShort u) }
 {
-    if -WORD < n && n < WORD {
+    if -TWO_TO_63 < n && n < TWO_TO_63 {
         Some(n as i64)
     } else {
         None
@@ -56,7 +56,7 @@ pub fn short_times(a: i128, u: i64) -> Option<i128>
     requires { IsShort u }
     ensures { IfSome result (λ p. (p ≡ a *ℤ u) × (nat_abs p < 2 ^ 126) × (nat_abs a ≤ 2 ^ 63)) }
 {
-    if is_short(a) {
+    if fits_64_bits(a) {
         Some(short_product(shortened(a), u))
     } else {
         None
@@ -77,7 +77,7 @@ pub fn short_difference(p: i128, q: i128) -> i128
 pub fn product(a: i128, b: i128) -> Option<i128>
     ensures { MatchOption result (¬ (PartFits (a *ℤ b))) (λ p. (p ≡ a *ℤ b) × PartFits p) }
 {
-    if is_short(a) && is_short(b) {
+    if fits_64_bits(a) && fits_64_bits(b) {
         return Some(short_product(shortened(a), shortened(b)));
     }
     let p = a.checked_mul(b)?;
@@ -102,13 +102,7 @@ pub fn difference(a: i128, b: i128) -> Option<i128>
 pub fn combination(a: i128, u: i128, b: i128, v: i128) -> Option<i128>
     ensures { IsWhereFit (combination_steps a u b v) ((a *ℤ u) -ℤ (b *ℤ v)) result }
 {
-    let Some(left) = product(a, u) else {
-        return None;
-    };
-    let Some(right) = product(b, v) else {
-        return None;
-    };
-    difference(left, right)
+    difference(product(a, u)?, product(b, v)?)
 }
 
 /// The fraction of two numbers, the second positive.
@@ -182,7 +176,7 @@ pub fn exact_quotient(n: i128, d: i128) -> i128
     ensures value { result *ℤ d ≡ n }
     ensures fits { PartFits result }
 {
-    if is_short(n) && is_short(d) {
+    if fits_64_bits(n) && fits_64_bits(d) {
         short_quotient(shortened(n), shortened(d)) as i128
     } else {
         n / d
@@ -195,7 +189,7 @@ pub fn compare_quotients(n: i128, b: i128, m: i128, d: i128) -> Ordering
     requires right { pos 0 <ℤ d }
     ensures { result ≡ int_cmp (n *ℤ d) (m *ℤ b) }
 {
-    if is_short(n) && is_short(b) && is_short(m) && is_short(d) {
+    if fits_64_bits(n) && fits_64_bits(b) && fits_64_bits(m) && fits_64_bits(d) {
         let left = short_product(shortened(n), shortened(d));
         return left.cmp(&short_product(shortened(m), shortened(b)));
     }

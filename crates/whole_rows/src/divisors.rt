@@ -9,7 +9,7 @@ use crate::arithmetic::exact_quotient;
 const BASE: u128 = 18446744073709551616;
 
 // 2^63.
-const HALF: u64 = 9223372036854775808;
+const TWO_TO_63: u64 = 9223372036854775808;
 
 // A divisor: an odd number times 2^zeros, with the odd number's inverse modulo 2^64.
 #[derive(Clone, Copy)]
@@ -66,7 +66,7 @@ impl Divisor {
     {
         let size = n.unsigned_abs();
         let guess = (((size >> self.zeros) % BASE) as u64).wrapping_mul(self.inverse);
-        if guess >= HALF || long_product(guess, self.value) != size {
+        if guess >= TWO_TO_63 || long_product(guess, self.value) != size {
             return None;
         }
         let quotient = guess as i128;

@@ -6,7 +6,7 @@ ghost use Rattle.frac128.specs.Fraction.{PartFits};
 ghost use Rattle.whole_rows.specs.Lists.{AgreeOutside, AllPartsFit, AreOthersPivoted, AreRows, IsPivotAt, IsPivotedAt, IsPivotedRowAt, RowFits, row_steps_at, steps_of_row, steps_of_rows};
 ghost use Rattle.whole_rows.specs.PivotedRows.{IsReduced};
 ghost use Rattle.whole_rows.specs.Pivots.{other_factor, own_factor, signed_by};
-ghost use Rattle.whole_rows.specs.Rows.{IsCommonDivisor, IsRow, from_place};
+ghost use Rattle.whole_rows.specs.Rows.{IsGreatestDivisor, IsRow, from_place};
 ghost use Rattle.frac128.specs.Steps.{StepFits, IsFirstUnfit};
 
 use crate::arithmetic::{exact_quotient, short_factor};
@@ -16,8 +16,8 @@ use crate::rows::{
 };
 use frac128::{Unfit, gcd};
 
-// A number with the sign of p.
-fn signed(p: i128, n: i128) -> i128
+// A number times the sign of p, which is 1 where p is 0.
+fn times_sign(p: i128, n: i128) -> i128
     requires { PartFits n }
     ensures value { result ≡ signed_by p n }
     ensures fits { PartFits result }
@@ -35,7 +35,7 @@ pub fn common_part(p: i128, k: i128) -> i128
     gcd(p.unsigned_abs(), k.unsigned_abs()) as i128
 }
 
-// A number with the sign of p, divided.
+// A number times the sign of p, divided.
 pub fn factor(p: i128, n: i128, common: i128) -> i128
     requires positive { pos 0 <ℤ common }
     requires fits { PartFits n }
@@ -43,7 +43,7 @@ pub fn factor(p: i128, n: i128, common: i128) -> i128
     ensures value { result ≡ div_ℤ (signed_by p n) (nat_abs common) }
     ensures fits { PartFits result }
 {
-    exact_quotient(signed(p, n), common)
+    exact_quotient(times_sign(p, n), common)
 }
 
 // What a row is multiplied by, and the multiple of the pivot's row that is then taken away: of an
@@ -68,7 +68,7 @@ fn row_divisor(numbers: &[i128], own: usize, size: usize) -> i128
     requires positive { pos 0 <ℤ from_place numbers.now own 0 }
     requires fit { RowFits size (from_place numbers.now own) }
     ensures positive { pos 0 <ℤ result }
-    ensures divisor { IsCommonDivisor (from_place numbers.now own) size (nat_abs result) }
+    ensures divisor { IsGreatestDivisor (from_place numbers.now own) size (nat_abs result) }
 {
     common_divisor(numbers, own, size) as i128
 }
@@ -129,10 +129,10 @@ fn write_short(
 {
     let entry = numbers[first + column];
     let number = numbers[own + column];
-    let Some(u) = short_factor(signed(entry, entry)) else {
+    let Some(u) = short_factor(times_sign(entry, entry)) else {
         return false;
     };
-    let Some(v) = short_factor(signed(entry, number)) else {
+    let Some(v) = short_factor(times_sign(entry, number)) else {
         return false;
     };
     let Some(common) = probable_divisor(numbers[own], numbers[first]) else {
@@ -189,13 +189,9 @@ fn write_other(
     }
     let entry = numbers[first + column];
     let (u, v) = factors(entry, number);
-    match write_combination(numbers, spare, own, first, column, size, u, v) {
-        Ok(()) => {
-            reduce_row(spare, own, size);
-            Ok(())
-        }
-        Err(unfit) => Err(unfit),
-    }
+    write_combination(numbers, spare, own, first, column, size, u, v)?;
+    reduce_row(spare, own, size);
+    Ok(())
 }
 
 // Writes what the pivot makes of one row.
@@ -232,13 +228,13 @@ fn write_row(
     }
 }
 
-/// Writes what the pivot makes of rows of so many numbers. `row` is the pivot's row, and `column` the place
-/// of its column in each row.
+/// Writes what the pivot makes of rows of so many numbers. `row` is the pivot's row, and `column`
+/// the place of its column in each row.
 ///
 /// # Errors
 ///
-/// The first step that does not fit, in the order of the rows and in each row in the order of its places.
-/// What `spare` then holds is not said.
+/// The first step that does not fit, in the order of the rows and in each row in the order of its
+/// places. What `spare` then holds is not said.
 pub fn write_pivot(
     numbers: &[i128],
     spare: &mut [i128],

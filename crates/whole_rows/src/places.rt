@@ -30,10 +30,7 @@ pub fn number_at(
     if place == 0 {
         product(numbers[own], u)
     } else if place == column {
-        let Some(number) = product(numbers[first], v) else {
-            return None;
-        };
-        Some(-number)
+        Some(-product(numbers[first], v)?)
     } else {
         combination(numbers[own + place], u, numbers[first + place], v)
     }
@@ -61,18 +58,12 @@ pub fn short_number(
         return short_times(numbers[own], u);
     }
     if place == column {
-        let Some(part) = short_times(numbers[first], v) else {
-            return None;
-        };
-        return Some(-part);
+        return Some(-short_times(numbers[first], v)?);
     }
-    let Some(left) = short_times(numbers[own + place], u) else {
-        return None;
-    };
-    let Some(right) = short_times(numbers[first + place], v) else {
-        return None;
-    };
-    Some(short_difference(left, right))
+    Some(short_difference(
+        short_times(numbers[own + place], u)?,
+        short_times(numbers[first + place], v)?,
+    ))
 }
 
 // The first step at a place that does not fit.

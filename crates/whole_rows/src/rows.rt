@@ -4,7 +4,7 @@ ghost use Rattle.std.specs.Int.{◌∣◌};
 ghost use Rattle.frac128.specs.Fraction.{PartFits};
 ghost use Rattle.whole_rows.specs.Lists.{AgreeOutside, AllPartsFit, AreSame, IsDivided, IsWritten, IsWrittenBy, RowFits, RowFitsShort, steps_at};
 ghost use Rattle.whole_rows.specs.Pivots.{other_factor, own_factor, turned};
-ghost use Rattle.whole_rows.specs.Rows.{IsCommonDivisor, from_place};
+ghost use Rattle.whole_rows.specs.Rows.{IsGreatestDivisor, from_place};
 ghost use Rattle.whole_rows.specs.Shorts.{IsShort};
 ghost use Rattle.frac128.specs.Steps.{StepFits, IsFirstUnfit};
 
@@ -18,7 +18,7 @@ pub fn common_divisor(numbers: &[i128], own: usize, size: usize) -> u128
     requires some { 0 < size }
     requires positive { pos 0 <ℤ from_place numbers.now own 0 }
     requires fit { RowFits size (from_place numbers.now own) }
-    ensures { IsCommonDivisor (from_place numbers.now own) size result }
+    ensures { IsGreatestDivisor (from_place numbers.now own) size result }
 {
     let mut common = numbers[own].unsigned_abs();
     for place in 1..size {

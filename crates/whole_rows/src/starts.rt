@@ -88,10 +88,8 @@ fn write_start_row(
     ensures unfit { IfErr result
         (IsFirstUnfit (start_row_steps count (cells_from cells.now from))) }
 {
-    match common_denominator(cells, from, count) {
-        Ok(common) => write_over(cells, numbers, from, to, count, common),
-        Err(unfit) => Err(unfit),
-    }
+    let common = common_denominator(cells, from, count)?;
+    write_over(cells, numbers, from, to, count, common)
 }
 
 /// A row, counted from 0, and its first step that does not fit.
@@ -105,7 +103,8 @@ pub struct UnfitRow {
 ///
 /// # Errors
 ///
-/// The first row with a step that does not fit, and that step. What `numbers` then holds is not said.
+/// The first row with a step that does not fit, and that step. What `numbers` then holds is not
+/// said.
 pub fn write_starts(
     cells: &[Frac],
     numbers: &mut [i128],

@@ -10,7 +10,7 @@ use Rattle.clap.specs.Lexer.{long_of as long_word_of}
 use Rattle.clap.specs.Walk.{Held, Row, Rule, Text, Walk, settled, walked}
 use Rattle.clap.specs.Kinds.{Kinds, or_else}
 use Rattle.clap.specs.Faults.{settle_fault, turn_fault, walk_fault}
-use Rattle.words.specs.Grammar.{Options, Part, Flag, Value, Prices, Plain, Reading, refused, gives, wants, has_letter, is_word, word_parts, parts_then, reading_of, values_of}
+use Rattle.words.specs.Grammar.{Options, Part, Flag, Value, Prices, Plain, Reading, refused, gives, wants, has_letter, word_parts, parts_then, reading_of, values_of}
 use Rattle.words.specs.Commands.{GivesHyphen, value_id}
 use Rattle.words.proofs.RuleLemmas.{Fits, plain, shape}
 use Rattle.words.proofs.RunLemmas.{Holds, Sound, ready, rows_append, rows_of}
@@ -121,9 +121,9 @@ module _ (o : Options) (c : List Rule) (fits : Fits o c) (sound : Sound o) where
       agrees_step [] (Some (map Plain words)) (calm h b false) (calm h b true) (45 ∷ 45 ∷ []) words rows turn.0 turn.1 (trailing words h b rows holds)
 
   calm_word : (word : Text) (words : List Text) → IsUtf8 word → Calmly words → Asked words → Calmly (word ∷ words)
-  calm_word word words u calmly asked h b rows holds = go (is_word word (codes "--")) refl
+  calm_word word words u calmly asked h b rows holds = go (bytes_eq word (codes "--")) refl
     where
-      go : (t : Bool) → is_word word (codes "--") ≡ t → Agrees o (word_parts o (word ∷ words) None) (total c (calm h b false) (word ∷ words)) (final c (calm h b false) (word ∷ words)) rows
+      go : (t : Bool) → bytes_eq word (codes "--") ≡ t → Agrees o (word_parts o (word ∷ words) None) (total c (calm h b false) (word ∷ words)) (final c (calm h b false) (word ∷ words)) rows
       go true e = rw e (subst (λ w. Agrees o (Some (map Plain words)) (total c (calm h b false) (w ∷ words)) (final c (calm h b false) (w ∷ words)) rows)
           (sym ((bytes_eq-Decides word (codes "--")).0 e)) (calm_end words h b rows holds))
       go false e = rw e (calm_step word words h b rows calmly asked (reading_of o word) (turn_is o c fits sound word u e h b rows holds))

@@ -1,8 +1,9 @@
 -- The command that words give is one of the tool that they name.
-use Rattle.std.proofs.Common.{◌≡◌, ◌∙◌, ap, sym, subst, refl, ℕ, Bool, true, false, if◌then◌else◌, List, [], ◌∷◌, Option, Some, None, Result, Ok, Err, codes, IfOk}
+use Rattle.std.proofs.Common.{◌≡◌, sym, subst, refl, ℕ, Bool, true, false, if◌then◌else◌, List, [], ◌∷◌, Option, Some, None, Result, codes, IfOk}
 use Rattle.std.specs.Prelude.{option_and_then, option_map}
 use Rattle.std.proofs.lemmas.Slice.Eq.{bytes_eq-Decides}
-use Rattle.words.specs.Grammar.{has_flag, has_prices, is_word, word_parts, plain_of, values_of}
+use Rattle.words.specs.Grammar.{has_flag, has_prices, word_parts, plain_of, values_of}
+use Rattle.std.specs.Str.{bytes_eq}
 use Rattle.words.specs.Words.{Command, Enumpure, Enummixed, Lcp, Lp, Convert, Check, Make, answer, command_from, at_most_one, check_of, check_options, check_settings, convert_of, convert_options, enummixed_of, enummixed_options, enumpure_of, enumpure_options, is_one_or_none, layout_of, lcp_of, lcp_options, lp_of, lp_options, make_of, make_options, number_in_range, player_from, table_settings, understood, workers_from}
 use Rattle.words.specs.declared.Usage.{Usage}
 
@@ -76,10 +77,10 @@ understood_named : (tool : List ℕ) (o : Option Command) → Named tool o → N
 understood_named tool None is = tt
 understood_named tool (Some command) is = is
 
-either_named : (tool name : List ℕ) (o : Option Command) (other : Result Command Usage) → Named name o → NamedFirst tool other → NamedFirst tool (if is_word tool name then understood o else other)
-either_named tool name o other is rest = go (is_word tool name) refl
+either_named : (tool name : List ℕ) (o : Option Command) (other : Result Command Usage) → Named name o → NamedFirst tool other → NamedFirst tool (if bytes_eq tool name then understood o else other)
+either_named tool name o other is rest = go (bytes_eq tool name) refl
   where
-    go : (t : Bool) → is_word tool name ≡ t → NamedFirst tool (if t then understood o else other)
+    go : (t : Bool) → bytes_eq tool name ≡ t → NamedFirst tool (if t then understood o else other)
     go true e = understood_named tool o (subst (λ n. Named n o) (sym ((bytes_eq-Decides tool name).0 e)) is)
     go false e = rest
 

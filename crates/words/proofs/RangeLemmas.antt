@@ -1,5 +1,5 @@
 -- The numbers of strategies and of workers that words give are within their ranges.
-use Rattle.std.proofs.Common.{◌≡◌, ◌≤◌, refl, subst, sym, arith, tests, ℕ, Bool, true, false, ◌&&◌, if◌then◌else◌, List, [], ◌∷◌, length, Option, Some, None, Ok, Err, codes, nat_lt, IfOk}
+use Rattle.std.proofs.Common.{◌≡◌, ◌≤◌, refl, subst, sym, arith, tests, ℕ, Bool, true, false, if◌then◌else◌, List, [], ◌∷◌, length, Option, Some, None, Ok, codes, nat_lt}
 use Rattle.std.specs.Prelude.{nat_le, option_and_then, option_map}
 use Rattle.std.specs.Str.{all_ascii_digits}
 use Rattle.std.specs.Str.Parse.{digits_value}
@@ -7,7 +7,7 @@ use Rattle.std.proofs.lemmas.Bool.{and_parts}
 use Rattle.std.proofs.lemmas.Option.{option_and_then_some}
 use Rattle.lists.proofs.OptionLemmas.{mapped_some}
 use Rattle.words.specs.Grammar.{word_parts, plain_of, values_of, has_flag}
-use Rattle.words.specs.Words.{Command, Enummixed, Make, answer, at_most_one, command_from, enummixed_of, enummixed_options, enummixed_settings, make_of, make_options, number_in_range, number_or, table_settings, understood, workers_from, IsFrom, IsWithinRanges}
+use Rattle.words.specs.Words.{Command, Enummixed, Make, answer, at_most_one, command_from, enummixed_of, enummixed_options, make_of, make_options, number_in_range, number_or, table_settings, understood, workers_from, IsFrom, IsWithinRanges}
 use Rattle.words.proofs.NamedToolLemmas.{NamedFirst, any_named}
 use Rattle.words.proofs.NumberLemmas.{passes}
 

@@ -2,7 +2,7 @@
 use Rattle.std.proofs.Common.{◌≡◌, ◌∙◌, ◌≤◌, ◌<◌, refl, ap, sym, arith, tests, ℕ, zero, suc, min, Bool, true, false, ◌==◌, if◌then◌else◌, List, [], ◌∷◌, ◌++◌, length, drop, pos, Some, None, nat_lt}
 use Rattle.std.specs.Prelude.{slice_get, encode_utf8}
 use Rattle.std.specs.Str.{chars, IsUtf8}
-use lib.Utf8.{scalars, encodes, encode}
+use lib.Utf8.{scalars, encodes}
 use Rattle.std.proofs.lemmas.Str.{chars-encodes, chars-nil, char_from_byte, byte_from_char, encode_ascii, IsUtf8-drop, IsCharBoundary-after_ascii}
 use Rattle.clap.specs.Matches.{count_text}
 use Rattle.clap.specs.ValueTests.{accepts}

@@ -12,7 +12,7 @@ use Rattle.clap.specs.Lexer.{long_of as long_word_of}
 use Rattle.clap.specs.Walk.{Held, Outcome, Row, Rule, Text, Waiting, Walk, after_flag, after_step, arg_by_long, bundle, bundle_met, done, idle, is_pending, long_met, option, plain as not_flag, positional, positional_held, pushed, used, walked}
 use Rattle.clap.specs.Kinds.{Kinds, or_else}
 use Rattle.clap.specs.Faults.{bundle_fault, flags_fault, long_fault, positional_fault, react_fault, settle_fault, short_fault, step_fault, turn_fault}
-use Rattle.words.specs.Grammar.{Options, Prices, Plain, Reading, refused, gives, wants, has_letter, is_word, long_of, reading_of, run_of}
+use Rattle.words.specs.Grammar.{Options, Prices, Plain, Reading, refused, gives, wants, has_letter, long_of, reading_of, run_of}
 use Rattle.words.specs.Commands.{value_id}
 use Rattle.words.proofs.RuleLemmas.{Fits, and_false, flag, letter_rule, long_rule, plain, prices, shape, value}
 use Rattle.words.proofs.RunLemmas.{First, byte, wide, first_of, Holds, RunsTo, Sound, asking, attached_is, holds_used, prices_passes, react_passes, rows_of, run_is}
@@ -194,9 +194,9 @@ module _ (o : Options) (c : List Rule) (fits : Fits o c) (sound : Sound o) where
       go false = run_ends (45 ∷ 45 ∷ x ∷ xs) h false rows (long_of o (x ∷ xs)) (long_fault c false (arg_by_long c (name_and_value (x ∷ xs)).0) (name_and_value (x ∷ xs)).1 h) (long_met c (arg_by_long c (name_and_value (x ∷ xs)).0) (name_and_value (x ∷ xs)).1 h) runs
 
   -- a word where no letter waits for its value
-  pub turn_is : (word : Text) → IsUtf8 word → is_word word (codes "--") ≡ false → (h : Held) (b : Bool) (rows : List Row) → Holds c h rows
+  pub turn_is : (word : Text) → IsUtf8 word → bytes_eq word (codes "--") ≡ false → (h : Held) (b : Bool) (rows : List Row) → Holds c h rows
       → TurnsTo o c (reading_of o word) (turn_fault (shape c) [] (calm h b false) word) (walked c [] (calm h b false) word) rows
-  turn_is = by_word (λ word. IsUtf8 word → is_word word (codes "--") ≡ false → (h : Held) (b : Bool) (rows : List Row) → Holds c h rows
+  turn_is = by_word (λ word. IsUtf8 word → bytes_eq word (codes "--") ≡ false → (h : Held) (b : Bool) (rows : List Row) → Holds c h rows
       → TurnsTo o c (reading_of o word) (turn_fault (shape c) [] (calm h b false) word) (walked c [] (calm h b false) word) rows)
       (λ u e. plain_turn [] refl refl refl)
       (λ u e. plain_turn (45 ∷ []) refl refl refl)

@@ -1,7 +1,7 @@
 -- What a command line asks for.
 use Rattle.std.specs.Prelude.{ℕ, Bool, true, false, if◌then◌else◌, ◌&&◌, ◌≡◌, ◌≤◌, List, [], ◌∷◌, length, Option, None, Some, option_map, option_and_then, string_bytes, Result, Ok, Err, codes, nat_le, nat_lt, slice_index}
 use Prim.Native.String.{String}
-use Rattle.std.specs.Str.{all_ascii_digits}
+use Rattle.std.specs.Str.{all_ascii_digits, bytes_eq}
 use Rattle.std.specs.Str.Parse.{digits_value}
 use Rattle.words.specs.declared.Settings.{Settings}
 use Rattle.words.specs.declared.Settings.TheVariants as settings
@@ -9,7 +9,7 @@ use Rattle.words.specs.declared.SettingsStop.{SettingsStop}
 use Rattle.words.specs.declared.SettingsStop.TheVariants as stops
 use Rattle.words.specs.declared.Usage.{Usage}
 use Rattle.words.specs.declared.Usage.TheVariants.{NoTool, UnknownTool, Words}
-use Rattle.words.specs.Grammar.{Options, Part, has_flag, has_prices, is_word, word_parts, plain_of, values_of}
+use Rattle.words.specs.Grammar.{Options, Part, has_flag, has_prices, word_parts, plain_of, values_of}
 
 -- A tool and how it works; a file that is None is standard input. Where `all` is true, `enummixed` looks
 -- through all strategies, and else without the strictly dominated ones.
@@ -55,12 +55,12 @@ player_from default = number_from default 1 4294967295
 -- `-e`, which may be left out or be `1`
 abbrev pub is_one_or_none : Option (List ℕ) → Bool
 is_one_or_none None = true
-is_one_or_none (Some text) = is_word text (codes "1")
+is_one_or_none (Some text) = bytes_eq text (codes "1")
 
 -- `-O`, which must be there: whether it is `html`, and not `sgame`
 abbrev pub layout_of : Option (List ℕ) → Option Bool
 layout_of None = None
-layout_of (Some text) = if is_word text (codes "html") then Some true else if is_word text (codes "sgame") then Some false else None
+layout_of (Some text) = if bytes_eq text (codes "html") then Some true else if bytes_eq text (codes "sgame") then Some false else None
 
 -- ---- the tools, each with its options and what they say
 
@@ -153,13 +153,13 @@ understood None = Err Words
 -- The command that the words after the program's name give, or how they are refused: the first word names the tool.
 abbrev pub command_from : List (List ℕ) → Result Command Usage
 command_from [] = Err NoTool
-command_from (tool ∷ words) = if is_word tool (codes "enumpure") then understood (answer enumpure_options enumpure_of words)
-    else if is_word tool (codes "enummixed") then understood (answer enummixed_options enummixed_of words)
-    else if is_word tool (codes "lcp") then understood (answer lcp_options lcp_of words)
-    else if is_word tool (codes "lp") then understood (answer lp_options lp_of words)
-    else if is_word tool (codes "convert") then understood (answer convert_options convert_of words)
-    else if is_word tool (codes "check") then understood (answer check_options check_of words)
-    else if is_word tool (codes "make") then understood (answer make_options make_of words)
+command_from (tool ∷ words) = if bytes_eq tool (codes "enumpure") then understood (answer enumpure_options enumpure_of words)
+    else if bytes_eq tool (codes "enummixed") then understood (answer enummixed_options enummixed_of words)
+    else if bytes_eq tool (codes "lcp") then understood (answer lcp_options lcp_of words)
+    else if bytes_eq tool (codes "lp") then understood (answer lp_options lp_of words)
+    else if bytes_eq tool (codes "convert") then understood (answer convert_options convert_of words)
+    else if bytes_eq tool (codes "check") then understood (answer check_options check_of words)
+    else if bytes_eq tool (codes "make") then understood (answer make_options make_of words)
     else Err UnknownTool
 
 -- a number from the least to the most

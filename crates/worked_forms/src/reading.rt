@@ -2,7 +2,7 @@
 use crate::games::{POKER, tree_of};
 use frac128::Memory;
 use game_core::{InfoSet, Kind, Name, Node, Outcome, Tree};
-use ne_printer::fraction;
+use ne_printer::push_fraction;
 use std::alloc::Global;
 
 // Adds a name after a space.
@@ -43,7 +43,7 @@ fn push_actions(alloc: Global, text: &mut Vec<u8>, set: &InfoSet) -> Result<(), 
     for action in set.actions() {
         push_name(text, &action.name)?;
         text.push(b' ')?;
-        text.extend_from_slice(&fraction(alloc, action.prob)?)?;
+        push_fraction(alloc, text, action.prob)?;
     }
     Ok(())
 }
@@ -71,7 +71,7 @@ fn push_outcome(alloc: Global, text: &mut Vec<u8>, outcome: &Outcome) -> Result<
     push_name(text, outcome.name())?;
     for payoff in outcome.payoffs() {
         text.push(b' ')?;
-        text.extend_from_slice(&fraction(alloc, *payoff)?)?;
+        push_fraction(alloc, text, *payoff)?;
     }
     text.push(b';')?;
     Ok(())

@@ -2,7 +2,7 @@
 use crate::games::{ALONE, ENTRY, POKER, tree_of};
 use frac128::{Frac, Memory};
 use game_core::{Table, Tree};
-use ne_printer::fraction;
+use ne_printer::push_fraction;
 use perfect_recall::find_recall;
 use reduced_form::reduce;
 use sequence_form::{
@@ -29,7 +29,7 @@ t "" 5 "" { 100, -100 }"#;
 fn push_payoffs(alloc: Global, text: &mut Vec<u8>, payoffs: &[Frac]) -> Result<(), Memory> {
     for payoff in payoffs {
         text.push(b' ')?;
-        text.extend_from_slice(&fraction(alloc, *payoff)?)?;
+        push_fraction(alloc, text, *payoff)?;
     }
     Ok(())
 }

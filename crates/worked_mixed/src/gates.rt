@@ -106,7 +106,7 @@ fn workers_share_a_level(rt: HostRuntime) -> Result<(), Stop> {
 }
 
 /// Both tools hand their workers on, and four workers enumerate both polytopes at once: while one holds the first basis, the other
-/// polytope goes on. Each of the seven bases is passed once for its moves, and each of the five that are not the first of their
+/// polytope goes on. Each of the seven bases is passed once for its pivots, and each of the five that are not the first of their
 /// polytope once for its tableau.
 #[test]
 fn workers_of_both_tools(rt: HostRuntime) -> Result<(), Stop> {

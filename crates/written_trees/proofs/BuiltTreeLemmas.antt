@@ -10,9 +10,9 @@ use Rattle.game_core.specs.declared.tree.Action.{Action}
 use Rattle.game_core.specs.declared.tree.Node.{Node}
 use Rattle.game_core.specs.Tree.{GameTree, InformationSet, IsBelow, ProbabilitiesFit, NodeFits, SetFits, IsPartialTree}
 use Rattle.written_trees.specs.Written.{SetUse, OutcomeUse, WrittenNode}
-use Rattle.written_trees.specs.Described.{SetKey, key_of, same_set, set_uses, outcome_uses, uses_of_set, uses_of_outcome, described_set, described_outcome, IsFirstList, AgreeOnActions}
+use Rattle.written_trees.specs.Described.{SetKey, key_of, same_set, set_uses, outcome_uses, uses_of_set, uses_of_outcome, described_set, described_outcome, IsFirstList, AgreeOnActions, IsActionOf, IsActionList}
 use Rattle.written_trees.specs.Building.{PartialSet, PartialOutcome, outcome_place, repeats_payoffs, new_outcome, used_outcome, with_outcome_use, use_outcome, use_some_outcome, open_branches, PartialTree, root_alone, add_nodes, finished_set, finished_outcome, tree_so_far}
-use Rattle.written_trees.specs.Laws.{HasNoProbability, IsActionList, IsSetUse, IsOutcomeUse, IsWrittenNode, BuiltIsDescribed}
+use Rattle.written_trees.specs.Laws.{IsSetUse, IsOutcomeUse, IsWrittenNode, BuiltIsDescribed}
 use Rattle.written_trees.proofs.UseStepLemmas.{partial_set, sets_so_far, AllAgree, partial_outcome, outcomes_so_far, PayoffsAgree}
 use Rattle.written_trees.proofs.KeyOrderLemmas.{inserted}
 use Rattle.written_trees.proofs.ListLemmas.{map-map}
@@ -108,7 +108,7 @@ all_pay n = built_so (λ written partial. All (IsWrittenNode n) written → PayA
 
 -- ---- sets
 -- probabilities that fit
-probabilities_fit : (owner : Option ℕ) (actions : List Action) → IsFirstList owner actions → All (HasNoProbability owner) actions → ProbabilitiesFit owner actions
+probabilities_fit : (owner : Option ℕ) (actions : List Action) → IsFirstList owner actions → All (IsActionOf owner) actions → ProbabilitiesFit owner actions
 probabilities_fit None actions f h = record { not_negative = f.not_negative; sum_is_one = f.sum_is_one }
 probabilities_fit (Some i) actions f h = h
 
@@ -130,7 +130,7 @@ good_set players key (first ∷ later) same are agree some =
     record {
       owner_within = rw owner of_first.owner_within;
       some_action = rw agree.1 list.some_action;
-      probabilities = rw (owner, agree.1) (probabilities_fit first.1.owner agree.0 agree.2 list.no_probabilities);
+      probabilities = rw (owner, agree.1) (probabilities_fit first.1.owner agree.0 agree.2 list.are_of_owner);
     }
 
 -- ---- the tree

@@ -6,9 +6,9 @@ use Rattle.game_core.specs.declared.tree.Node.{Node}
 use Rattle.game_core.specs.declared.too_large.What.{What}
 use Rattle.game_core.specs.declared.too_large.What.TheVariants.{Nodes, Depth}
 use Rattle.game_core.specs.Tree.{GameTree, OpenBranch, most_nodes, most_depth}
-use Rattle.written_trees.specs.Described.{LiesAt}
+use Rattle.written_trees.specs.Described.{LiesAt, PassesAt}
 use Rattle.written_trees.specs.Building.{Branching, PartialTree, passed_at, open_branches, take_branch, tree_so_far}
-use Rattle.written_trees.specs.Laws.{PassesAt, LimitsAreExact}
+use Rattle.written_trees.specs.Laws.{LimitsAreExact}
 use Rattle.written_trees.proofs.DepthLemmas.{HangsAt, hangs_once, AllLie, few_edges_of}
 use Rattle.written_trees.proofs.PlaceLemmas.{open_branches-take}
 use Rattle.written_trees.proofs.SoundTreeLemmas.{AreBranchings, IsSound, sound}
@@ -44,7 +44,7 @@ module _ (title : List ℕ) (players : List (List ℕ)) (partial : PartialTree) 
       go : (v w : Bool) → nat_le most_nodes (length partial.nodes) ≡ v → nat_lt most_depth b.depth ≡ w → cond v (Some Nodes) (cond w (Some Depth) None) ≡ Some what → PassesAt tree ((b.node, b.next) ∷ more) what
       go true w p q is =
           let full : most_nodes ≤ length partial.nodes = grind (arith, nat_tests) in
-          subst (PassesAt tree ((b.node, b.next) ∷ more)) (same_Some Nodes what is) (omega (arith, h.few_nodes), b.depth, lies_at tree b.node b.next b.depth more are.0.hangs)
+          subst (PassesAt tree ((b.node, b.next) ∷ more)) (same_Some Nodes what is) (omega (arith, h.few_nodes), λ e. cc)
       go false true p q is =
           let deep : most_depth < b.depth = grind (arith, nat_tests) in
           let depth : b.depth ≡ suc most_depth = omega (arith, hangs_few partial.nodes b.node b.depth h.lie are.0.hangs) in
@@ -53,7 +53,7 @@ module _ (title : List ℕ) (players : List (List ℕ)) (partial : PartialTree) 
 
   -- and the other way round
   passed_so_at : (branchings : List Branching) → AreBranchings partial.nodes branchings → (what : What) → PassesAt tree (open_branches branchings) what → passed_at partial branchings ≡ Some what
-  passed_so_at [] are Nodes p = absurd p.2
+  passed_so_at [] are Nodes p = absurd (p.1 refl)
   passed_so_at [] are Depth p = absurd p.1
   passed_so_at (b ∷ rest) are Nodes p =
       let full : nat_le most_nodes (length partial.nodes) ≡ true = grind (arith, nat_tests) in

@@ -1,6 +1,7 @@
 -- One more use of a set.
 use Rattle.std.proofs.Common.{◌≡◌, ℕ, nat_eq, List, [], ◌∷◌, ◌++◌, map, slice_get, slice_set, Option, Some, None, Decides, true≢false, if◌then◌else◌, refl, sym, ap, ap₂, ◌∙◌, subst}
 use Rattle.std.specs.List.{position_or_len}
+use Rattle.std.specs.Option.{option_eq, unwrap_or}
 use Rattle.std.proofs.lemmas.Bool.Decides.{Decides-eqb, Decides-and, Decides-like}
 use Rattle.std.proofs.lemmas.List.{map-append}
 use Rattle.std.proofs.lemmas.List.Elements.{All-nil, All-push}
@@ -8,7 +9,7 @@ use Rattle.written_trees.proofs.NumberedKeyLemmas.{sets_of}
 use Rattle.lists.specs.Options.{◌>>=◌}
 use Rattle.game_core.specs.declared.tree.Action.{Action}
 use Rattle.written_trees.specs.Written.{SetUse}
-use Rattle.written_trees.specs.Described.{SetKey, key_of, same_owner, same_set, uses_of_set, first_some, or_empty, RepeatsActions, AgreeOnActions}
+use Rattle.written_trees.specs.Described.{SetKey, key_of, same_set, uses_of_set, first_some, RepeatsActions, AgreeOnActions}
 use Rattle.written_trees.specs.Building.{PartialSet, key_of_partial, set_place, may_be_first, repeats_actions, new_set, used_set, with_use, use_set}
 use Rattle.written_trees.proofs.ChanceLemmas.{may_be_first-Decides, repeats_actions-Decides}
 use Rattle.written_trees.proofs.InsertedKeyLemmas.{position-map}
@@ -18,7 +19,7 @@ use Rattle.written_trees.proofs.UseStepLemmas.{partial_set, sets_so_far, AllAgre
 
 -- ---- keys
 -- the test of owners says whether they are one
-same_owner-Decides : (a b : Option ℕ) → Decides (same_owner a b) (a ≡ b)
+same_owner-Decides : (a b : Option ℕ) → Decides (option_eq nat_eq a b) (a ≡ b)
 same_owner-Decides None None = (λ e. refl, λ e. refl)
 same_owner-Decides None (Some j) = (λ e. absurd (true≢false (sym e)), λ e. absurd (cc))
 same_owner-Decides (Some i) None = (λ e. absurd (true≢false (sym e)), λ e. absurd (cc))
@@ -27,19 +28,19 @@ same_owner-Decides (Some i) (Some j) = Decides-like (nat_eq i j) (ap Some) (λ e
 -- the test of keys says whether they are one
 pub same_set-Decides : (a b : SetKey) → Decides (same_set a b) (a ≡ b)
 same_set-Decides a b =
-    Decides-like (same_set a b) (λ h. ap₂ (λ owner label. (owner, label)) h.0 h.1) (λ e. (ap (λ (key : SetKey). key.0) e, ap (λ (key : SetKey). key.1) e)) (Decides-and (same_owner a.0 b.0) (nat_eq a.1 b.1) (same_owner-Decides a.0 b.0) (Decides-eqb a.1 b.1))
+    Decides-like (same_set a b) (λ h. ap₂ (λ owner label. (owner, label)) h.0 h.1) (λ e. (ap (λ (key : SetKey). key.0) e, ap (λ (key : SetKey). key.1) e)) (Decides-and (option_eq nat_eq a.0 b.0) (nat_eq a.1 b.1) (same_owner-Decides a.0 b.0) (Decides-eqb a.1 b.1))
 
 -- ---- agreement
 -- a later list that repeats the first keeps the agreement
-AgreeOnActions-push : (first x : ℕ × SetUse) (later : List (ℕ × SetUse)) → AgreeOnActions (first ∷ later) → RepeatsActions (or_empty first.1.actions) x → AgreeOnActions (first ∷ (later ++ x ∷ []))
+AgreeOnActions-push : (first x : ℕ × SetUse) (later : List (ℕ × SetUse)) → AgreeOnActions (first ∷ later) → RepeatsActions (unwrap_or first.1.actions []) x → AgreeOnActions (first ∷ (later ++ x ∷ []))
 AgreeOnActions-push first x later h repeats =
-    (h.0, h.1, h.2, All-push (RepeatsActions h.0) later x h.3 (subst (λ list. RepeatsActions list x) (ap or_empty h.1) repeats))
+    (h.0, h.1, h.2, All-push (RepeatsActions h.0) later x h.3 (subst (λ list. RepeatsActions list x) (ap (λ list. unwrap_or list []) h.1) repeats))
 
 -- the last list repeats the first, and the others agree
-AgreeOnActions-front : (first x : ℕ × SetUse) (later : List (ℕ × SetUse)) → AgreeOnActions (first ∷ (later ++ x ∷ [])) → AgreeOnActions (first ∷ later) × RepeatsActions (or_empty first.1.actions) x
+AgreeOnActions-front : (first x : ℕ × SetUse) (later : List (ℕ × SetUse)) → AgreeOnActions (first ∷ (later ++ x ∷ [])) → AgreeOnActions (first ∷ later) × RepeatsActions (unwrap_or first.1.actions []) x
 AgreeOnActions-front first x later h =
     let parts = All-front (RepeatsActions h.0) later x h.3 in
-    ((h.0, h.1, h.2, parts.0), subst (λ list. RepeatsActions list x) (sym (ap or_empty h.1)) parts.1)
+    ((h.0, h.1, h.2, parts.0), subst (λ list. RepeatsActions list x) (sym (ap (λ list. unwrap_or list []) h.1)) parts.1)
 
 -- a front of uses that agree agrees
 AgreeOnActions-before : (own : List (ℕ × SetUse)) (x : ℕ × SetUse) → AgreeOnActions (own ++ x ∷ []) → AgreeOnActions own
@@ -54,7 +55,7 @@ new_set_is k u actions e =
       owner = u.owner;
       label = u.label;
       name = sym (first_some-push [] u.name) i;
-      actions = sym (ap or_empty e) i;
+      actions = sym (ap (λ list. unwrap_or list []) e) i;
       members = k ∷ [];
     }
 
@@ -65,7 +66,7 @@ used_set_is key first later k u =
       owner = key.0;
       label = key.1;
       name = (sym (first_some-push (map (λ x. x.1.name) (first ∷ later)) u.name) ∙ sym (ap first_some (map-append (λ x. x.1.name) (first ∷ later) ((k, u) ∷ [])))) i;
-      actions = or_empty first.1.actions;
+      actions = unwrap_or first.1.actions [];
       members = sym (map-append (λ x. x.0) (first ∷ later) ((k, u) ∷ [])) i;
     }
 
@@ -109,23 +110,23 @@ module _ (uses : List (ℕ × SetUse)) (k : ℕ) (u : SetUse) where
     known_sets = ap₂ (slice_set (sets_so_far uses)) place_is (used_set_is (key_of u) first later k u) ∙ sym (first_uses.known_numbered same_set key_of same_set-Decides partial_set uses k u first later known)
 
     -- it goes on where the list repeats the first
-    known_use : use_set k (sets_so_far uses) u ≡ (if repeats_actions (or_empty first.1.actions) u.actions then Some (sets_so_far (uses ++ (k, u) ∷ [])) else None)
+    known_use : use_set k (sets_so_far uses) u ≡ (if repeats_actions (unwrap_or first.1.actions []) u.actions then Some (sets_so_far (uses ++ (k, u) ∷ [])) else None)
     known_use =
         ap (with_use k (sets_so_far uses) u) (ap (slice_get (sets_so_far uses)) place_is ∙ first_uses.known_place same_set key_of same_set-Decides partial_set uses k u first later known)
-        ∙ ap (λ sets. if repeats_actions (or_empty first.1.actions) u.actions then Some sets else None) known_sets
+        ∙ ap (λ sets. if repeats_actions (unwrap_or first.1.actions []) u.actions then Some sets else None) known_sets
 
   -- a use that is taken agrees with the others, and gives the sets
   used_so : (own : List (ℕ × SetUse)) (sets : List PartialSet) → uses_of_set (key_of u) uses ≡ own → AgreeOnActions own → use_set k (sets_so_far uses) u ≡ Some sets → AgreeOnActions (own ++ (k, u) ∷ []) × (sets ≡ sets_so_far (uses ++ (k, u) ∷ []))
   used_so [] sets is agree h = new_so is sets (sym (new_use is) ∙ h)
   used_so (first ∷ later) sets is agree h =
-      let t = tested_so (repeats_actions (or_empty first.1.actions) u.actions) (sets_so_far (uses ++ (k, u) ∷ [])) sets (repeats_actions-Decides (or_empty first.1.actions) u.actions) (sym (known_use first later is) ∙ h) in
+      let t = tested_so (repeats_actions (unwrap_or first.1.actions []) u.actions) (sets_so_far (uses ++ (k, u) ∷ [])) sets (repeats_actions-Decides (unwrap_or first.1.actions []) u.actions) (sym (known_use first later is) ∙ h) in
       (AgreeOnActions-push first (k, u) later agree t.0, t.1)
 
   -- a use that agrees is taken
   used_if : (own : List (ℕ × SetUse)) → uses_of_set (key_of u) uses ≡ own → AgreeOnActions (own ++ (k, u) ∷ []) → use_set k (sets_so_far uses) u ≡ Some (sets_so_far (uses ++ (k, u) ∷ []))
   used_if [] is agree = new_use is ∙ new_if is agree
   used_if (first ∷ later) is agree =
-      known_use first later is ∙ tested_if (repeats_actions (or_empty first.1.actions) u.actions) (sets_so_far (uses ++ (k, u) ∷ [])) (repeats_actions-Decides (or_empty first.1.actions) u.actions) (AgreeOnActions-front first (k, u) later agree).1
+      known_use first later is ∙ tested_if (repeats_actions (unwrap_or first.1.actions []) u.actions) (sets_so_far (uses ++ (k, u) ∷ [])) (repeats_actions-Decides (unwrap_or first.1.actions []) u.actions) (AgreeOnActions-front first (k, u) later agree).1
 
   -- the same, of the uses of each set
   built : (sets : List PartialSet) → AllAgree uses → use_set k (sets_so_far uses) u ≡ Some sets → AllAgree (uses ++ (k, u) ∷ []) × (sets ≡ sets_so_far (uses ++ (k, u) ∷ []))

@@ -1,5 +1,5 @@
 -- How a tree grows, node by node, as functions: what is partial so far, and what a further node makes of it.
-use Rattle.std.specs.Prelude.{ℕ, suc, ◌-◌, ◌^◌, ◌&&◌, if◌then◌else◌, nat_abs, nat_eq, nat_lt, nat_le, Bool, true, List, [], ◌∷◌, ◌++◌, length, map, slice_get, slice_set, slice_index_or, option_map, ◌+ℤ◌, Option, Some, None}
+use Rattle.std.specs.Prelude.{ℕ, suc, ◌-◌, ◌^◌, ◌&&◌, if◌then◌else◌, nat_abs, nat_eq, nat_lt, nat_le, Bool, true, List, [], ◌∷◌, ◌++◌, length, map, slice_get, slice_set, slice_index_or, option_map, unwrap_or, ◌+ℤ◌, Option, Some, None}
 use Rattle.std.specs.List.{position_or_len, flat_map}
 use Rattle.std.specs.Cmp.Lexicographic.{pointwise}
 use Rattle.std.specs.Option.{option_or}
@@ -8,12 +8,13 @@ use Rattle.rational.specs.Rational.{ℚ, ◌+ℚ◌, zero_ℚ, one_ℚ}
 use Rattle.rational.specs.Tests.{le_test, eq_ℚ}
 use Rattle.frac128.specs.Steps.{num_beside}
 use Rattle.game_core.specs.declared.tree.Action.{Action}
+use Rattle.game_core.specs.declared.tree.Kind.{Kind}
 use Rattle.game_core.specs.declared.tree.Node.{Node}
 use Rattle.game_core.specs.declared.too_large.What.{What}
 use Rattle.game_core.specs.declared.too_large.What.TheVariants.{Nodes, Depth}
 use Rattle.game_core.specs.Tree.{GameTree, InformationSet, TreeOutcome, OpenBranch, most_nodes, most_depth, branches_after}
 use Rattle.written_trees.specs.Written.{SetUse, OutcomeUse, WrittenNode}
-use Rattle.written_trees.specs.Described.{SetKey, key_of, same_set, or_empty, kind_of_use}
+use Rattle.written_trees.specs.Described.{SetKey, key_of, same_set, kind_of_use}
 
 -- ---- sets
 -- a set as far as it was used: its name may still come
@@ -148,17 +149,25 @@ abbrev pub partial_count : List PartialSet → Option ℕ → ℕ
 partial_count sets None = 0
 partial_count sets (Some s) = slice_index_or (map (λ set. length set.actions) sets) s 0
 
--- the tree with one more node, at the first open branch
+-- the sets with the one that a node uses, who chooses there, and that set's place
+abbrev pub Choice : Type 0
+Choice = List PartialSet × (Kind × Option ℕ)
+
+-- the tree with one more node of these parts, at the first open branch
+abbrev pub with_parts : PartialTree → Branching → List Branching → Choice → List PartialOutcome × Option ℕ → PartialTree
+with_parts partial b rest choice outcome = record {
+  nodes = partial.nodes ++ record { kind = choice.1.0; parent = b.node; branch = b.next; set = choice.1.1; outcome = outcome.1 } ∷ [];
+  sets = choice.0;
+  outcomes = outcome.0;
+  branchings = add_branches (length partial.nodes) (partial_count choice.0 choice.1.1) (suc b.depth) (take_branch b rest);
+}
+
+-- the tree with one more written node
 abbrev pub with_node : PartialTree → WrittenNode → Branching → List Branching → List PartialSet → List PartialOutcome → PartialTree
 with_node partial written b rest sets outcomes =
-    let set = option_map (λ used. set_place partial.sets (key_of used)) written.set in
-    let outcome = option_map (λ used. outcome_place partial.outcomes used.label) written.outcome in
-    record {
-      nodes = partial.nodes ++ record { kind = kind_of_use written.set; parent = b.node; branch = b.next; set = set; outcome = outcome } ∷ [];
-      sets = sets;
-      outcomes = outcomes;
-      branchings = add_branches (length partial.nodes) (partial_count sets set) (suc b.depth) (take_branch b rest);
-    }
+    with_parts partial b rest
+    (sets, (kind_of_use written.set, option_map (λ used. set_place partial.sets (key_of used)) written.set))
+    (outcomes, option_map (λ used. outcome_place partial.outcomes used.label) written.outcome)
 
 -- a further node, where a branch is open and what it says agrees with the others
 abbrev pub add_at : PartialTree → WrittenNode → List Branching → Option PartialTree
@@ -191,10 +200,10 @@ add_nodes partial (one ∷ written) = within_limits (passed partial) (add_node p
 
 -- the name that came, and else the empty one
 abbrev pub finished_set : PartialSet → InformationSet
-finished_set set = record { owner = set.owner; label = set.label; name = or_empty set.name; actions = set.actions; members = set.members }
+finished_set set = record { owner = set.owner; label = set.label; name = unwrap_or set.name []; actions = set.actions; members = set.members }
 
 abbrev pub finished_outcome : PartialOutcome → TreeOutcome
-finished_outcome outcome = record { label = outcome.label; name = or_empty outcome.name; payoffs = outcome.payoffs }
+finished_outcome outcome = record { label = outcome.label; name = unwrap_or outcome.name []; payoffs = outcome.payoffs }
 
 -- the tree as far as it is partial
 abbrev pub tree_so_far : List ℕ → List (List ℕ) → PartialTree → GameTree

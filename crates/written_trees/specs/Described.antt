@@ -1,5 +1,6 @@
 -- The game tree that written nodes describe. Source: Gambit's description of its `.efg` format, version 2.
-use Rattle.std.specs.Prelude.{ℕ, suc, ◌<◌, ◌≡◌, ◌↔◌, ◌&&◌, nat_eq, Bool, true, false, List, [], ◌∷◌, length, map, slice_get, filter, All, Contains, IfSome, option_map, Option, Some, None}
+use Rattle.std.specs.Prelude.{ℕ, suc, ◌<◌, ◌≡◌, ◌≢◌, ◌↔◌, ◌&&◌, nat_eq, Bool, List, [], ◌∷◌, length, map, slice_get, filter, All, Contains, IfSome, option_map, unwrap_or, Option, Some, None}
+use Rattle.std.specs.Option.{option_eq}
 use Rattle.rational.specs.Rational.{ℚ, ◌≤ℚ◌, zero_ℚ, one_ℚ}
 use Rattle.rational.specs.Sum.{sum_to}
 use Rattle.frac128.specs.Steps.{AddFits}
@@ -7,7 +8,9 @@ use Rattle.game_core.specs.declared.tree.Action.{Action}
 use Rattle.game_core.specs.declared.tree.Kind.{Kind}
 use Rattle.game_core.specs.declared.tree.Kind.TheVariants.{End}
 use Rattle.game_core.specs.declared.tree.Node.{Node}
-use Rattle.game_core.specs.Tree.{GameTree, InformationSet, TreeOutcome, OpenBranch, IsPartialTree, LiesBelowRoot, kind_of_owner, probability_at}
+use Rattle.game_core.specs.declared.too_large.What.{What}
+use Rattle.game_core.specs.declared.too_large.What.TheVariants.{Nodes, Depth}
+use Rattle.game_core.specs.Tree.{GameTree, InformationSet, TreeOutcome, OpenBranch, IsPartialTree, LiesBelowRoot, kind_of_owner, probability_at, most_nodes, most_depth}
 use Rattle.written_trees.specs.Written.{SetUse, OutcomeUse, WrittenNode}
 
 -- ---- uses
@@ -35,14 +38,8 @@ SetKey = Option ℕ × ℕ
 abbrev pub key_of : SetUse → SetKey
 key_of used = (used.owner, used.label)
 
-abbrev pub same_owner : Option ℕ → Option ℕ → Bool
-same_owner None None = true
-same_owner None (Some j) = false
-same_owner (Some i) None = false
-same_owner (Some i) (Some j) = nat_eq i j
-
 abbrev pub same_set : SetKey → SetKey → Bool
-same_set one other = same_owner one.0 other.0 && nat_eq one.1 other.1
+same_set one other = option_eq nat_eq one.0 other.0 && nat_eq one.1 other.1
 
 -- a key is used at a place for the first time
 pub record IsFirstUse {K : Type 0} (used : List K) (place : ℕ) (key : K) : Type 0 where
@@ -70,28 +67,33 @@ abbrev pub uses_of_outcome : ℕ → List (ℕ × OutcomeUse) → List (ℕ × O
 uses_of_outcome label uses = filter (λ x. nat_eq label x.1.label) uses
 
 -- ---- what the uses of one set, or of one outcome, say
+-- an action of this owner: a player's has the probability 0
+abbrev pub IsActionOf : Option ℕ → Action → Type 0
+IsActionOf None action = Unit {0}
+IsActionOf (Some i) action = action.prob ≡ zero_ℚ
+
+-- a list of actions of this owner, of which there is at least one
+pub record IsActionList (owner : Option ℕ) (actions : List Action) : Type 0 where
+  pub some_action : 0 < length actions
+  pub are_of_owner : All (IsActionOf owner) actions
+
 -- the first that is there
 abbrev pub first_some : {A : Type 0} → List (Option A) → Option A
 first_some [] = None
 first_some (None ∷ rest) = first_some rest
 first_some (Some x ∷ rest) = Some x
 
--- the list that is there, and else the empty one
-abbrev pub or_empty : {A : Type 0} → Option (List A) → List A
-or_empty None = []
-or_empty (Some list) = list
-
 -- the first list: the first use has it
 abbrev pub first_list : {A : Type 0} → List (Option (List A)) → List A
 first_list [] = []
-first_list (list ∷ later) = or_empty list
+first_list (list ∷ later) = unwrap_or list []
 
 -- a set has its first name, which is empty where none is given, the actions of its first use, and the nodes that use it
 abbrev pub described_set : SetKey → List (ℕ × SetUse) → InformationSet
 described_set key uses = record {
   owner = key.0;
   label = key.1;
-  name = or_empty (first_some (map (λ x. x.1.name) uses));
+  name = unwrap_or (first_some (map (λ x. x.1.name) uses)) [];
   actions = first_list (map (λ x. x.1.actions) uses);
   members = map (λ x. x.0) uses;
 }
@@ -100,7 +102,7 @@ described_set key uses = record {
 abbrev pub described_outcome : ℕ → List (ℕ × OutcomeUse) → TreeOutcome
 described_outcome label uses = record {
   label = label;
-  name = or_empty (first_some (map (λ x. x.1.name) uses));
+  name = unwrap_or (first_some (map (λ x. x.1.name) uses)) [];
   payoffs = first_list (map (λ x. x.1.payoffs) uses);
 }
 
@@ -165,3 +167,9 @@ abbrev pub LiesAt : GameTree → List OpenBranch → ℕ → Type 0
 LiesAt t [] d = ⊥
 LiesAt t ((None, a) ∷ free) d = d ≡ 0
 LiesAt t ((Some k, a) ∷ free) d = (e : ℕ) × LiesBelowRoot t.nodes e k × (d ≡ suc e)
+
+-- a limit is passed where a branch is open and a further node would be one too many, or else one edge too far below the root
+abbrev pub PassesAt : GameTree → List OpenBranch → What → Type 0
+PassesAt t free Nodes = (length t.nodes ≡ most_nodes) × (free ≢ [])
+PassesAt t free Depth = (length t.nodes < most_nodes) × LiesAt t free (suc most_depth)
+PassesAt t free _ = ⊥

@@ -1,26 +1,14 @@
 -- That written nodes describe one tree, and that building gives it.
-use Rattle.std.specs.Prelude.{ℕ, suc, ◌<◌, ◌^◌, ◌≡◌, List, length, All, IfSome, Option, Some, None}
-use Rattle.rational.specs.Rational.{zero_ℚ}
-use Rattle.game_core.specs.declared.tree.Action.{Action}
+use Rattle.std.specs.Prelude.{ℕ, ◌<◌, ◌^◌, ◌≡◌, List, length, All, IfSome, Some}
 use Rattle.game_core.specs.declared.too_large.What.{What}
-use Rattle.game_core.specs.declared.too_large.What.TheVariants.{Nodes, Depth}
-use Rattle.game_core.specs.Tree.{GameTree, OpenBranch, most_nodes, most_depth}
+use Rattle.game_core.specs.Tree.{GameTree, OpenBranch, IsBelow}
 use Rattle.written_trees.specs.Written.{SetUse, OutcomeUse, WrittenNode}
-use Rattle.written_trees.specs.Described.{Describe, LiesAt}
+use Rattle.written_trees.specs.Described.{IsActionList, Describe, PassesAt}
 use Rattle.written_trees.specs.Building.{PartialTree, root_alone, add_nodes, passed, tree_so_far, open_branches}
-
--- a list of actions has at least one, and a player's have no probabilities
-abbrev pub HasNoProbability : Option ℕ → Action → Type 0
-HasNoProbability None action = Unit {0}
-HasNoProbability (Some i) action = action.prob ≡ zero_ℚ
-
-pub record IsActionList (owner : Option ℕ) (actions : List Action) : Type 0 where
-  pub some_action : 0 < length actions
-  pub no_probabilities : All (HasNoProbability owner) actions
 
 -- a use of a set by one of so many players, or by chance
 pub record IsSetUse (players : ℕ) (used : SetUse) : Type 0 where
-  pub owner_within : IfSome used.owner (λ i. i < players)
+  pub owner_within : IsBelow players used.owner
   pub is_list : IfSome used.actions (IsActionList used.owner)
 
 -- a use of an outcome that pays so many players
@@ -49,17 +37,12 @@ pub record IsBuilt (written : List WrittenNode) (t : GameTree) (free : List Open
 abbrev pub DescribedIsBuilt : Type 0
 DescribedIsBuilt = (written : List WrittenNode) (t : GameTree) (free : List OpenBranch) → Describe written t free → IsBuilt written t free
 
--- a limit is passed where a further node would be one too many, or else one edge too far below the root
-abbrev pub PassesAt : GameTree → List OpenBranch → What → Type 0
-PassesAt t free Nodes = (length t.nodes ≡ most_nodes) × (d : ℕ) × LiesAt t free d
-PassesAt t free Depth = (length t.nodes < most_nodes) × LiesAt t free (suc most_depth)
-PassesAt t free _ = ⊥
-
-pub record LimitsAreSeen (written : List WrittenNode) (title : List ℕ) (players : List (List ℕ)) (partial : PartialTree) : Type 0 where
+-- a partial tree passes the limits that a further node of the tree so far would pass
+pub record LimitsAreSeen (title : List ℕ) (players : List (List ℕ)) (partial : PartialTree) : Type 0 where
   pub passes : (what : What) → passed partial ≡ Some what → PassesAt (tree_so_far title players partial) (open_branches partial.branchings) what
   pub passed_so : (what : What) → PassesAt (tree_so_far title players partial) (open_branches partial.branchings) what → passed partial ≡ Some what
 
 abbrev pub LimitsAreExact : Type 0
 LimitsAreExact =
     (written : List WrittenNode) (title : List ℕ) (players : List (List ℕ)) (partial : PartialTree)
-    → add_nodes root_alone written ≡ Some partial → LimitsAreSeen written title players partial
+    → add_nodes root_alone written ≡ Some partial → LimitsAreSeen title players partial

@@ -7,7 +7,7 @@ use Rattle.rational.specs.Rational.{ℚ, zero_ℚ, ◌≤ℚ◌, ◌<ℚ◌}
 use Rattle.rational.proofs.Field.{not_lt_of_le}
 use Rattle.linear_systems.specs.Tableau.{Tableau}
 use Rattle.linear_systems.proofs.LexRowLemmas.{below_cases}
-use Rattle.zero_sum_lp.specs.Steps.{IsEnteringOf}
+use Rattle.zero_sum_lp.specs.Paths.{IsEnteringOf}
 use Rattle.rational.specs.Tests.{sign_of}
 
 module _ (m n : ℕ) (t : Tableau) where

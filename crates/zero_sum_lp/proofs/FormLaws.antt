@@ -17,7 +17,7 @@ programs_of_forms f p valid stages =
     let is_system : IsSystemOf f s = last.1.1.0 in
     let start : IsStarted s n = last.1.1.1.2 in
     let same : with_start f n ≡ p = cc (last.2) in
-    let begins : IsStartFor f.first f.second n = starts_for f.first f.second s n (record { gain = gains (form f) f.least_one; start = is_system.program; rated = is_system.rated }) start.start start.valid in
+    let begins : IsStartFor f.first f.second n = starts_for f.first f.second s n (gains (form f) f.least_one) is_system start.start start.valid in
     subst (λ p. IsProgram p × IsProgramOfForm (form f) f.least_one p) same (
       record { first = valid.first_is; second = valid.second_is; start = begins },
       record { rows = refl; columns = refl; program = program_is f.first f.second (gains (form f) f.least_one) s n is_system.program is_system.rated start.start; gains_not_negative = λ r q _ _. gains_positive f valid r q },

@@ -18,7 +18,6 @@ use Rattle.sequence_data.specs.declared.types.Cell.{Cell}
 use Rattle.sequence_data.specs.Data.{FormData, IsFormData, LeafFits, SideData, form, side_of}
 use Rattle.sequence_data.specs.Matrices.{IsInside, placed, HoldsNumbers, number_at}
 use Rattle.zero_sum_lp.specs.FormPrograms.{IsSystemOf, gain_at, size_of}
-use Rattle.zero_sum_lp.specs.Parts.{IsProgramSystem}
 use Rattle.zero_sum_lp.specs.Systems.{IsSystemFor}
 use Rattle.zero_sum_lp.proofs.OptimumLemmas.{sets_are}
 use Rattle.lists.proofs.OptionLemmas.{if_ok-then}
@@ -105,6 +104,6 @@ module _ (f : FormData) (valid : IsFormData f) (cells : List Cell) (x y : ℕ) (
       if_ok-then r _ (IsSystemOf f) found (λ s k. system_has_gains f valid numbers matrix s n held k)
 
 -- the system of a form for sides that are its own
-pub for_sides : (f : FormData) (s : Parts) (first second : SideData) → first ≡ f.first → second ≡ f.second → IsSystemOf f s → IsProgramSystem first second s
+pub for_sides : (f : FormData) (s : Parts) (first second : SideData) → first ≡ f.first → second ≡ f.second → IsSystemOf f s → (gain : ℕ → ℕ → ℚ) × IsSystemFor first second gain s
 for_sides f s first second e g h =
-    subst₂ (λ a b. IsProgramSystem a b s) (sym e) (sym g) (record { gain = gains (form f) f.least_one; start = h.program; rated = h.rated })
+    (gains (form f) f.least_one, subst₂ (λ a b. IsSystemFor a b (gains (form f) f.least_one) s) (sym e) (sym g) h)

@@ -2,7 +2,7 @@
 use Rattle.std.proofs.Common.{ℕ, suc, ◌<◌, ◌≤◌, ◌≡◌, ◌≢◌, ◌+◌, ◌-◌, length, sym, ap, ap₂, ◌∙◌, subst, arith, add-one}
 use Rattle.std.proofs.lemmas.List.{length-map}
 use Rattle.rational.specs.Rational.{ℚ}
-use Rattle.linear_systems.specs.Rows.{basic_solution, coefficient, HasDistinctVariables}
+use Rattle.linear_systems.specs.Rows.{basic_solution, coefficient}
 use Rattle.sequence_forms.specs.Sides.{sequences}
 use Rattle.zero_sum_lp.specs.Programs.{constraints, price_one, price_two}
 use Rattle.zero_sum_lp.proofs.BoundedObjectiveLemmas.{programs_linear}
@@ -12,7 +12,7 @@ use Rattle.zero_sum_lp.proofs.ProgramLemmas.{basic_last}
 use Rattle.lex_tableau.specs.Rows.{Numbers, tableau}
 use Rattle.sequence_data.specs.Data.{SideData, side_of}
 use Rattle.zero_sum_lp.specs.Parts.{HasShape, Program, IsProgram, IsOptimum}
-use Rattle.zero_sum_lp.specs.Steps.{linear_program, IsProgramStart}
+use Rattle.zero_sum_lp.specs.ExactPaths.{linear_program, IsProgramStart}
 use Rattle.zero_sum_lp.proofs.PathWalkLemmas.{leads_after}
 
 pub program_starts : (p : Program) → IsProgram p → IsProgramStart p.tableau
@@ -33,12 +33,6 @@ module _ (o : Program) (h : IsOptimum o) where
   pub end_rows : length o.tableau.basics ≡ suc (constraints (side_of o.first) (side_of o.second))
   end_rows = end_feasible.reached.rows ∙ sym h.begins.program.start.rows
 
-  pub end_width : length o.tableau.nonbasics ≡ sequences (side_of o.first) + suc (side_of o.second).sets
-  end_width = end_feasible.reached.width ∙ sym h.begins.program.start.width
-
-  end_distinct : HasDistinctVariables (tableau o.tableau)
-  end_distinct = end_feasible.reached.proper
-
   -- the objective row's variable
   pub end_objective : (tableau o.tableau).basic (constraints (side_of o.first) (side_of o.second)) ≡ suc (constraints (side_of o.first) (side_of o.second) + (sequences (side_of o.first) + suc (side_of o.second).sets))
   end_objective =
@@ -52,12 +46,6 @@ module _ (o : Program) (h : IsOptimum o) where
 module _ (o : Program) (h : IsOptimum o) (seen : Numbers) (e : seen ≡ o.tableau) (objective width : ℕ) (s : HasShape o.first o.second objective width) where
   pub read_row : objective < length seen.basics
   read_row = subst (λ n. objective < length n.basics) (sym e) (let r = end_rows o h in let m : objective ≡ constraints (side_of o.first) (side_of o.second) = s.rows in omega arith)
-
-  pub read_width : width ≡ length seen.nonbasics
-  read_width = subst (λ n. width ≡ length n.nonbasics) (sym e) (s.columns ∙ sym (end_width o h))
-
-  pub read_distinct : HasDistinctVariables (tableau seen)
-  read_distinct = subst (λ n. HasDistinctVariables (tableau n)) (sym e) (end_distinct o h)
 
   -- a variable with a smaller number is not the objective row's
   pub read_other : (v : ℕ) → v < suc (constraints (side_of o.first) (side_of o.second) + (sequences (side_of o.first) + suc (side_of o.second).sets)) → (tableau seen).basic objective ≢ v

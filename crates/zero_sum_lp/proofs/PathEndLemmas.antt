@@ -17,7 +17,7 @@ use Rattle.lex_tableau.specs.Rows.{Numbers, tableau, IsPivotOf, IsTableau}
 use Rattle.lex_tableau.proofs.TableauLemmas.{determined}
 use Rattle.zero_sum_lp.specs.Ends.{EndsAreSingle}
 use Rattle.zero_sum_lp.specs.Parts.{Program}
-use Rattle.zero_sum_lp.specs.Steps.{IsFittingPivot, LeadsTo, EndsPath, IsUnfitPivot}
+use Rattle.zero_sum_lp.specs.ExactPaths.{IsFittingPivot, LeadsTo, EndsPath, IsUnfitPivot}
 
 -- ---- one step
 -- the pivot of a tableau that is determined

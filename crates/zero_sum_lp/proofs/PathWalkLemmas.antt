@@ -5,7 +5,7 @@ use Rattle.rational.proofs.Field.{not_lt_of_le}
 use Rattle.linear_systems.specs.Tableau.{Tableau}
 use Rattle.linear_systems.specs.Rows.{coefficient, key, IsLexicographicRow}
 use Rattle.linear_systems.proofs.LexLemmas.{lex_same}
-use Rattle.zero_sum_lp.specs.Paths.{IsEntering, IsOptimal, IsAfter}
+use Rattle.zero_sum_lp.specs.Paths.{IsEnteringOf, IsEntering, IsOptimal, IsAfter}
 use Rattle.zero_sum_lp.proofs.DeterminedPathLemmas.{after_on_path, after_leaves, path_is_short}
 use Rattle.frac128.specs.declared.steps.Unfit.{Unfit}
 use Rattle.lex_tableau.specs.Rows.{Numbers, tableau}
@@ -13,7 +13,7 @@ use Rattle.lex_tableau.specs.Ratio.{variable_at}
 use Rattle.frac128.specs.Steps.{IsFirstUnfit}
 use Rattle.lex_tableau.specs.Pivots.{pivot_number, steps_of_pivot}
 use Rattle.lex_tableau.proofs.PivotNumberLemmas.{pivot_number_next}
-use Rattle.zero_sum_lp.specs.Steps.{linear_program, IsProgramStart, IsFittingPivot, LeadsTo, EndsPath, IsUnfitPivot, IsEnteringOf}
+use Rattle.zero_sum_lp.specs.ExactPaths.{linear_program, IsProgramStart, IsFittingPivot, LeadsTo, EndsPath, IsUnfitPivot}
 
 -- where a walk along the path is: after pivots that were counted from `past` on, and before the pivot
 -- of this number
@@ -79,7 +79,7 @@ module _ (first now : Numbers) (k : ℕ) (s : IsProgramStart first) (w : LeadsTo
   found_enters m n c em en e =
       let same : m ≡ now.rated = em ∙ sym (kept first now k w).1 in
       let all : n ≡ length now.nonbasics = en ∙ sym width_kept in
-      subst (λ o. IsEntering o (tableau now) c) same (record { column = subst (λ x. c < x) all e.column; negative = e.negative; least = λ j hj q. e.least j (subst (λ x. j < x) (sym all) hj) q })
+      subst₂ (λ o k. IsEnteringOf o k (tableau now) c) same all e
 
   pub none_optimal : (m n : ℕ) → m ≡ first.rated → n ≡ length first.nonbasics → ((j : ℕ) → j < n → zero_ℚ ≤ℚ (tableau now).cell m j) → IsOptimal now.rated (tableau now)
   none_optimal m n em en h = λ j hj. subst (λ o. zero_ℚ ≤ℚ (tableau now).cell o j) (em ∙ sym (kept first now k w).1) (h j (subst (λ x. j < x) (sym (en ∙ sym width_kept)) hj))

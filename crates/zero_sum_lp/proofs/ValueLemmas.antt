@@ -11,7 +11,7 @@ use Rattle.zero_sum_lp.proofs.EndPriceLemmas.{value_proved}
 use Rattle.lex_tableau.specs.Rows.{tableau}
 use Rattle.sequence_data.specs.Data.{side_of}
 use Rattle.rational.specs.Sum.{entry_at}
-use Rattle.zero_sum_lp.specs.Steps.{linear_program}
+use Rattle.zero_sum_lp.specs.ExactPaths.{linear_program}
 use Rattle.zero_sum_lp.specs.ValueLaws.{OptimalPlansProveTheValue, OptimalPlansSolveTrees, OptimalPlansSolveTables}
 use Rattle.zero_sum_lp.proofs.OptimumLemmas.{program_starts}
 use Rattle.zero_sum_lp.proofs.PathWalkLemmas.{kept, leads_after}

@@ -1,4 +1,6 @@
 pub mod Ends
+pub mod EnteringColumns
+pub mod ExactPaths
 pub mod FormPrograms
 pub mod Parts
 pub mod PathLaws
@@ -10,6 +12,5 @@ pub mod PlanStops
 pub mod Plans
 pub mod ProgramLaws
 pub mod Programs
-pub mod Steps
 pub mod Systems
 pub mod ValueLaws

@@ -1,14 +1,12 @@
 -- What contracts see of a program and of its optimum.
 use Rattle.std.specs.Prelude.{ℕ, ◌+◌, ◌<◌, ◌≤◌, ◌≡◌, get_or}
 use Rattle.rational.specs.Rational.{ℚ}
-use Rattle.linear_systems.specs.Rows.{Alike}
 use Rattle.game_core.specs.Limits.{most_rows}
 use Rattle.sequence_forms.specs.Sides.{Side}
 use Rattle.sequence_data.specs.Data.{SideData, side_of, IsSideData}
-use Rattle.zero_sum_lp.specs.Programs.{constraints, columns_of, program_of, IsProgramOf, price_one, price_two, raw_one, raw_two}
+use Rattle.zero_sum_lp.specs.Programs.{constraints, columns_of, IsProgramOf, price_one, price_two, raw_one, raw_two}
 use Rattle.lex_tableau.specs.Rows.{Numbers, IsTableau, tableau}
-use Rattle.lex_tableau.specs.Starts.{Parts, system_of}
-use Rattle.zero_sum_lp.specs.Steps.{linear_program, EndsPath}
+use Rattle.zero_sum_lp.specs.ExactPaths.{linear_program, EndsPath}
 
 -- both players' sides, and a tableau: of a program the start, and of an optimum the end of the path
 pub record Program : Type 0 where
@@ -35,12 +33,6 @@ second_raw o = raw_two (side_of o.first) (side_of o.second) (tableau o.tableau)
 -- constraints and columns together
 abbrev pub program_size : Side → Side → ℕ
 program_size rows columns = constraints rows columns + columns_of rows columns
-
--- a system is the program of these sides, for some gains
-pub record IsProgramSystem (first second : SideData) (s : Parts) : Type 0 where
-  pub gain : ℕ → ℕ → ℚ
-  pub start : Alike (program_of (side_of first) (side_of second) gain) (system_of s)
-  pub rated : s.rated ≡ constraints (side_of first) (side_of second)
 
 -- a tableau is the start of the program of these sides, for some gains
 pub record IsStartFor (first second : SideData) (n : Numbers) : Type 0 where

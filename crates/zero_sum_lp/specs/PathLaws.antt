@@ -9,7 +9,8 @@ use Rattle.zero_sum_lp.specs.Paths.{LinearProgram, IsLinearProgram, IsEntering, 
 -- lexicographically greater.
 abbrev pub TheObjectiveRowGrows : Type 0
 TheObjectiveRowGrows =
-    (g : LinearProgram) (n : ℕ) (t u : Tableau) → IsLinearProgram g → IsAfter g n t → IsPathPivot g t u
+    (g : LinearProgram) (n : ℕ) (t u : Tableau) → IsLinearProgram g → IsAfter g n t
+    → IsPathPivot g t u
     → IsLexLess (suc g.rated) (key g.start.basic t g.rated) (key g.start.basic u g.rated)
 
 -- So no basis comes twice, and the path ends: it has fewer steps than there are sets of variables.

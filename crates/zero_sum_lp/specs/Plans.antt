@@ -10,7 +10,8 @@ use Rattle.sequence_forms.specs.Sides.{Side, first}
 pub record IsRaised (d : Side) (x z : ℕ → ℚ) : Type 0 where
   pub empty : z 0 ≡ one_ℚ
   pub first_action : (j : ℕ) → j < d.sets
-      → z (first d j) ≡ x (first d j) +ℚ (z (d.before j) -ℚ sum_to (d.count j) (λ a. x (first d j + a)))
+      → z (first d j)
+      ≡ x (first d j) +ℚ (z (d.before j) -ℚ sum_to (d.count j) (λ a. x (first d j + a)))
   pub others : (j a : ℕ) → j < d.sets → 0 < a → a < d.count j
       → z (first d j + a) ≡ x (first d j + a)
 
@@ -19,4 +20,5 @@ pub record IsRaised (d : Side) (x z : ℕ → ℚ) : Type 0 where
 pub record IsCut (d : Side) (x z : ℕ → ℚ) : Type 0 where
   pub empty : z 0 ≡ one_ℚ
   pub shares : (j a : ℕ) → j < d.sets → a < d.count j
-      → IsLesser (x (first d j + a)) (z (d.before j) -ℚ sum_to a (λ b. z (first d j + b))) (z (first d j + a))
+      → IsLesser (x (first d j + a)) (z (d.before j) -ℚ sum_to a (λ b. z (first d j + b)))
+      (z (first d j + a))

@@ -48,7 +48,8 @@ program_of rows columns gain =
       nonbasic = λ j. suc (constraints rows columns + j);
       cell = λ i j.
           if nat_lt i (suc rows.sets) then plan_cell rows i j
-          else if nat_lt i (constraints rows columns) then reply_cell rows columns gain (i - suc rows.sets) j
+          else if nat_lt i (constraints rows columns)
+          then reply_cell rows columns gain (i - suc rows.sets) j
           else objective_cell rows j;
       right = λ i. if nat_lt i (suc rows.sets) then right_side i else zero_ℚ;
     }

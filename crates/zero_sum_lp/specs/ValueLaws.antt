@@ -16,7 +16,7 @@ use Rattle.rational.specs.Sum.{entry_at}
 use Rattle.zero_sum_lp.specs.FormPrograms.{program_in}
 use Rattle.zero_sum_lp.specs.PlanStops.{plans_of}
 use Rattle.zero_sum_lp.specs.PlanPairs.{PlanPair}
-use Rattle.zero_sum_lp.specs.Steps.{linear_program}
+use Rattle.zero_sum_lp.specs.ExactPaths.{linear_program}
 
 -- a program is that of a sequence form, where no gain is negative
 pub record IsProgramOfForm (f : SequenceForm) (least : ℚ) (p : Program) : Type 0 where
@@ -32,8 +32,8 @@ abbrev pub OptimalPlansProveTheValue : Type 0
 OptimalPlansProveTheValue =
     (f : SequenceForm) (least : ℚ) (p o : Program) (plans : PlanPair) → IsProgram p
     → IsProgramOfForm f least p → IsOptimumOf p o → plans_of o (Ok plans)
-    → IsValueProof f least (entry_at plans.one) (entry_at plans.two) (first_prices o) (second_prices o)
-    (second_prices o 0 +ℚ least)
+    → IsValueProof f least (entry_at plans.one) (entry_at plans.two) (first_prices o)
+    (second_prices o) (second_prices o 0 +ℚ least)
 
 -- of a tree whose leaves' payoffs sum to the same number: behaviour in equilibrium, its value, and
 -- both guarantees

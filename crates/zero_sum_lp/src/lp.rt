@@ -1,13 +1,16 @@
 // The program and its path.
 ghost use Rattle.sequence_data.specs.Data.{IsSideData, side_of};
-ghost use Rattle.std.specs.Prelude.{◌≡◌, ◌+◌, ◌≤◌, ◌^◌, IfOk};
+ghost use Rattle.std.specs.Prelude.{ℕ, ◌≡◌, ◌+◌, ◌≤◌, ◌^◌, IfErr, IfOk};
+ghost use Rattle.rational.specs.Rational.{ℚ};
 ghost use Rattle.answers.specs.Answers.{Gives, map_ok};
 ghost use Rattle.game_core.specs.Limits.{most_rows};
+ghost use Rattle.lex_tableau.specs.Pivots.{pivot_number};
 ghost use Rattle.lex_tableau.specs.StartStops.{start_in};
 ghost use Rattle.lex_tableau.specs.declared.tableau.StartStop.TheVariants as start_stops;
-ghost use Rattle.zero_sum_lp.specs.Parts.{IsProgramSystem, program_size};
+ghost use Rattle.zero_sum_lp.specs.Parts.{program_size};
+ghost use Rattle.zero_sum_lp.specs.Systems.{IsSystemFor};
 ghost use Rattle.zero_sum_lp.specs.Ends.{optimum_in};
-ghost use Rattle.zero_sum_lp.specs.Steps.{linear_program};
+ghost use Rattle.zero_sum_lp.specs.ExactPaths.{linear_program, LeadsTo};
 
 use crate::optimum::Optimum;
 use crate::path::follow;
@@ -55,7 +58,7 @@ impl Lp {
         requires first_side { IsSideData first }
         requires second_side { IsSideData second }
         requires few { program_size (side_of first) (side_of second) ≤ most_rows }
-        requires program { IsProgramSystem first second system.now }
+        requires program { (gain : ℕ → ℕ → ℚ) × IsSystemFor first second gain system.now }
         ensures first { IfOk result (λ lp. lp.first ≡ first) }
         ensures second { IfOk result (λ lp. lp.second ≡ second) }
         ensures start { Gives start_stops.Memory (start_in system.now)
@@ -73,7 +76,8 @@ impl Lp {
         })
     }
 
-    /// Follows the path to the optimum. Takes no memory. There is always an optimum.
+    /// Follows the path to the optimum. Takes no memory. There is always an optimum. Each pivot of
+    /// the path counts one, also the one that does not fit.
     ///
     /// # Errors
     ///
@@ -81,6 +85,10 @@ impl Lp {
     pub fn solve<L: Ledger>(self, pivots: &mut PivotCount<L>) -> Result<Optimum, UnfitPivot>
         ensures end { optimum_in self result }
         ensures cost { pivots.new ≤ pivots.old + 2 ^ (linear_program self.tableau).bound }
+        ensures path { IfOk result (λ optimum.
+            (k : ℕ) × (pivots.new ≡ pivots.old + k) × LeadsTo self.tableau k optimum.tableau) }
+        ensures counted { IfErr result (λ stop.
+            (k : ℕ) × (pivots.new ≡ pivots.old + k) × (stop.number ≡ pivot_number k)) }
     {
         let Lp {
             first,

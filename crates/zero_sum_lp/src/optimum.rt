@@ -7,7 +7,7 @@ ghost use Rattle.zero_sum_lp.specs.declared.stop.PlanStop.TheVariants as plan_st
 ghost use Rattle.rational.specs.Sum.{entry_at};
 ghost use Rattle.zero_sum_lp.specs.PlanLists.{AreWeights};
 ghost use Rattle.zero_sum_lp.specs.PlanStops.{cut_in, plans_of, raised_in};
-ghost use Rattle.linear_systems.specs.Rows.{coefficient, HasDistinctVariables};
+ghost use Rattle.linear_systems.specs.Rows.{coefficient};
 ghost use Rattle.lex_tableau.specs.Rows.{tableau};
 ghost use Rattle.zero_sum_lp.specs.Parts.{HasShape, IsOptimum, first_prices, first_raw, second_prices, second_raw};
 
@@ -102,19 +102,15 @@ fn lessened(weights: Vec<Frac>, side: &Side) -> Result<Vec<Frac>, Unfit>
 
 // The entry of the objective row at a variable that is not its own, which counts as 0 where the
 // variable is basic.
-fn objective_entry(current: &Tableau, objective: usize, width: usize, variable: u32) -> Frac
+fn objective_entry(current: &Tableau, objective: usize, variable: u32) -> Frac
     requires row_in { objective < length current.now.basics }
-    requires width_is { width ≡ length current.now.nonbasics }
-    requires distinct { HasDistinctVariables (tableau current.now) }
     requires other { (tableau current.now).basic objective ≢ variable }
     ensures { result ≡ coefficient (tableau current.now) objective variable }
 {
-    for col in 0..width {
-        if current.nonbasic(col) == variable {
-            return current.entry(objective, col);
-        }
+    match current.column_of(variable) {
+        Some(col) => current.entry(objective, col),
+        None => Frac::zero(),
     }
-    Frac::zero()
 }
 
 impl Optimum {
@@ -144,7 +140,7 @@ impl Optimum {
         requires { k ≤ length self.now.first.sets }
         ensures { result ≡ first_prices self.now k }
     {
-        objective_entry(self.work.now(), self.objective, self.width, k + 1)
+        objective_entry(self.work.now(), self.objective, k + 1)
     }
 
     /// The price of the whole game (0) or of the second player's set k - 1, counted from 0.
@@ -177,12 +173,7 @@ impl Optimum {
         let mut raw = Vec::new(alloc);
         let before = self.first.sets().len() + 1;
         for q in 0..self.objective - before {
-            raw.push(objective_entry(
-                self.work.now(),
-                self.objective,
-                self.width,
-                (before + q + 1) as u32,
-            ))?;
+            raw.push(objective_entry(self.work.now(), self.objective, (before + q + 1) as u32))?;
         }
         Ok(raw)
     }

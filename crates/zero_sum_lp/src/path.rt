@@ -1,8 +1,10 @@
 // The path of a linear program.
-ghost use Rattle.std.specs.Prelude.{◌≡◌, ◌+◌, ◌^◌, ◌<◌, ◌≤◌, suc, length, true, false, IfErr, OnOk};
+ghost use Rattle.std.specs.Prelude.{ℕ, ◌≡◌, ◌+◌, ◌^◌, ◌<◌, ◌≤◌, suc, length, true, false, IfErr, OnOk};
 ghost use Rattle.rational.specs.Rational.{zero_ℚ, ◌≤ℚ◌, ◌<ℚ◌};
 ghost use Rattle.lex_tableau.specs.Rows.{tableau};
-ghost use Rattle.zero_sum_lp.specs.Steps.{linear_program, IsProgramStart, EntersFirst, EndsPath, IsUnfitPivot};
+ghost use Rattle.lex_tableau.specs.Pivots.{pivot_number};
+ghost use Rattle.zero_sum_lp.specs.EnteringColumns.{EntersFirst};
+ghost use Rattle.zero_sum_lp.specs.ExactPaths.{linear_program, IsProgramStart, EndsPath, IsUnfitPivot, LeadsTo};
 
 use lex_tableau::{PivotCount, Tableau, UnfitPivot, Work};
 use std::sync::ledger::Ledger;
@@ -72,6 +74,10 @@ pub fn follow<L: Ledger>(
     ensures end { OnOk result (EndsPath work.old work.new) }
     ensures unfit { IfErr result (IsUnfitPivot work.old) }
     ensures cost { pivots.new ≤ pivots.old + 2 ^ (linear_program work.old).bound }
+    ensures path { OnOk result
+        ((k : ℕ) × (pivots.new ≡ pivots.old + k) × LeadsTo work.old k work.new) }
+    ensures counted { IfErr result
+        (λ stop. (k : ℕ) × (pivots.new ≡ pivots.old + k) × (stop.number ≡ pivot_number k)) }
 {
     let mut number: u64 = 1;
     while let Some(col) = entering(work.now(), objective, width) {

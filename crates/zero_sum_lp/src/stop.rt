@@ -6,11 +6,11 @@ use std::alloc::{AllocError, AllocFailed};
 
 /// Two leaves whose payoffs do not sum to the same number: the first leaf, and the first of the
 /// others that differs.
-#[derive(Clone, Copy, Debug)]
+#[derive(Clone, Copy, Debug, PartialEq, Eq)]
 pub struct NotConstant {
-    /// The node of the first leaf, or the first profile.
+    /// The node of the first leaf, or the first profile, counted from 0.
     pub first: u32,
-    /// That of the other.
+    /// That of the other, counted from 0.
     pub second: u32,
     /// The sum of the payoffs of both players there.
     pub first_sum: Frac,
@@ -19,13 +19,13 @@ pub struct NotConstant {
 }
 
 /// Why a sequence form has no program here.
-#[derive(Clone, Copy, Debug)]
+#[derive(Clone, Copy, Debug, PartialEq, Eq)]
 pub enum LpStop {
     /// There are too many rows and columns together.
     TooLarge(TooLarge),
     /// The sum of the payoffs at a leaf does not fit: the first such leaf.
     SumRange {
-        /// The node, or the profile.
+        /// The node, or the profile, counted from 0.
         place: u32,
         /// The step.
         unfit: Unfit,
@@ -34,9 +34,9 @@ pub enum LpStop {
     NotConstant(NotConstant),
     /// A step of the gains does not fit: the first.
     GainRange {
-        /// The sequence of player one.
+        /// The sequence of player one; 0 is the empty one.
         row: u32,
-        /// The sequence of player two.
+        /// The sequence of player two; 0 is the empty one.
         column: u32,
         /// The step.
         unfit: Unfit,

@@ -26,8 +26,8 @@ pub returns-clause-children : goal.returns-clause-children
 returns-clause-children g c =
     let e = c.args.expansion.now in
     let made = c.loop-alloc.invariant.made.tableaux in
-    let all : length c.loop-alloc.made.tableaux.items ≡ length e.moves.now = omega (arith, made.within, c.loop-alloc-test.false, c.len.ensures, c.loop-alloc.made.tableaux.ok.0) in
-    subst (λ n. AreChildren e.level.now e.moves.now n c.loop-alloc.made.tableaux.items) all made
+    let all : length c.loop-alloc.made.tableaux.items ≡ length e.pivots.now = omega (arith, made.within, c.loop-alloc-test.false, c.len.ensures, c.loop-alloc.made.tableaux.ok.0) in
+    subst (λ n. AreChildren e.level.now e.pivots.now n c.loop-alloc.made.tableaux.items) all made
 
 pub returns-clause-vertices : goal.returns-clause-vertices
 returns-clause-vertices g c = c.loop-alloc.invariant.vertices

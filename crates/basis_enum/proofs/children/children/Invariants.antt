@@ -11,4 +11,4 @@ invariant-loop-alloc g l = record {
 }
 
 abbrev pub decreases-loop-alloc : goal.decreases-loop-alloc
-decreases-loop-alloc g l = length l.expansion.moves.now - length l.made.tableaux.items
+decreases-loop-alloc g l = length l.expansion.pivots.now - length l.made.tableaux.items

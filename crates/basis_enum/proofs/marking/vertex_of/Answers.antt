@@ -1,11 +1,20 @@
-use Rattle.std.proofs.Common.{suc, ◌≡◌, ◌+◌, length, List, ℕ, ◌≢◌, map, ap, ap₂, ◌∙◌, subst}
+use Rattle.std.proofs.Common.{suc, ◌≡◌, ◌+◌, length, List, ℕ, ◌≢◌, map, ap, ap₂, ◌∙◌, subst, sym}
 use Rattle.std.specs.List.{All, Any}
 use Rattle.rational.specs.Rational.{zero_ℚ}
 use Rattle.lex_tableau.specs.Rows.{tableau as fractions_of}
 use Rattle.linear_systems.specs.Rows.{basic_solution}
 use Rattle.linear_systems.specs.Vertices.{IsZeroWord}
-use Rattle.basis_enum.proofs.VertexMarkLemmas.{vertex_is, vertex_none}
+use Rattle.basis_enum.specs.Marks.{AreUpTo}
+use Rattle.basis_enum.proofs.BasicValueLemmas.{up_to_128}
+use Rattle.basis_enum.proofs.VertexMarkLemmas.{nonbasics_numbered, vertex_is, vertex_none}
 use Rattle.basis_enum.proofs.marking.vertex_of.Goals as goal
+
+pub values-requires-clause-basics : goal.values-requires-clause-basics
+values-requires-clause-basics c = up_to_128 _ _ c.requires.enumerable.few c.requires.numbered
+
+pub values-requires-clause-variables : goal.values-requires-clause-variables
+values-requires-clause-variables c =
+    subst (AreUpTo 128) (sym c.nonbasics.ensures.value) (up_to_128 _ _ c.requires.enumerable.few (nonbasics_numbered c.args.system.now c.requires.enumerable))
 
 pub returns : goal.returns
 returns c =

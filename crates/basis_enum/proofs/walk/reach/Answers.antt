@@ -1,32 +1,33 @@
 use Rattle.std.proofs.Common.{◌<◌, ◌≡◌, ◌≤◌, length, subst, arith}
 use Rattle.std.proofs.lemmas.Bool.Decides.{nat_tests}
 use Rattle.std.proofs.lemmas.List.{nil_from_length}
-use Rattle.basis_enum.specs.Next.{AreNewMoves}
+use Rattle.basis_enum.specs.Levels.{most_bases}
+use Rattle.basis_enum.specs.Next.{AreNewPivots}
 use Rattle.basis_enum.proofs.WalkLemmas.{walk_early, walk_few}
 use Rattle.basis_enum.proofs.walk.reach.Goals as goal
 
 pub overflow_add-number : goal.overflow_add-number
 overflow_add-number g c =
-    let early : c.loop-alloc.number < 20000 = walk_early c.args.system.now c.loop-alloc.number c.loop-alloc.walk c.loop-alloc.invariant.walk in
+    let early : c.loop-alloc.number < most_bases = walk_early c.args.system.now c.loop-alloc.number c.loop-alloc.walk c.loop-alloc.invariant.walk in
     omega arith
 
 pub loop-alloc-smaller : goal.loop-alloc-smaller
 loop-alloc-smaller g c =
-    let early : c.loop-alloc.number < 20000 = walk_early c.args.system.now c.loop-alloc.number c.loop-alloc.walk c.loop-alloc.invariant.walk in
+    let early : c.loop-alloc.number < most_bases = walk_early c.args.system.now c.loop-alloc.number c.loop-alloc.walk c.loop-alloc.invariant.walk in
     omega arith
 
 pub returns-clause-walk : goal.returns-clause-walk
 returns-clause-walk g c =
     let w = c.loop-alloc.walk in
     let test = c.loop-alloc-test.ensures in
-    let empty : length c.loop-alloc.moves.items ≡ 0 = grind (arith, nat_tests, c.loop-alloc.moves.ok.0) in
+    let empty : length c.loop-alloc.next.items ≡ 0 = grind (arith, nat_tests, c.loop-alloc.next.ok.0) in
     record {
       number = c.loop-alloc.number;
       walk = c.loop-alloc.invariant.walk;
-      none = subst (AreNewMoves w.level.items w.known.items) (nil_from_length c.loop-alloc.moves.items empty) c.loop-alloc.invariant.moves;
+      none = subst (AreNewPivots w.level.items w.known.items) (nil_from_length c.loop-alloc.next.items empty) c.loop-alloc.invariant.next;
     }
 
 pub returns-clause-bounded : goal.returns-clause-bounded
 returns-clause-bounded g c =
-    let few : length c.loop-alloc.walk.known.items ≤ 20000 = walk_few c.args.system.now c.loop-alloc.number c.loop-alloc.walk c.loop-alloc.invariant.walk in
+    let few : length c.loop-alloc.walk.known.items ≤ most_bases = walk_few c.args.system.now c.loop-alloc.number c.loop-alloc.walk c.loop-alloc.invariant.walk in
     omega (arith, c.loop-alloc.invariant.count)

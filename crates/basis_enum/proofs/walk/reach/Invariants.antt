@@ -1,5 +1,6 @@
-use Rattle.std.proofs.Common.{◌≡◌, ◌+◌, ◌-◌, length}
-use Rattle.basis_enum.specs.Next.{AreNewMoves}
+use Rattle.std.proofs.Common.{◌≡◌, ◌≤◌, ◌+◌, ◌-◌, length}
+use Rattle.basis_enum.specs.Levels.{most_bases}
+use Rattle.basis_enum.specs.Next.{AreNewPivots}
 use Rattle.basis_enum.specs.Walks.{IsWalkAt}
 use Rattle.basis_enum.proofs.walk.reach.Given as goal
 
@@ -7,8 +8,9 @@ abbrev pub invariant-loop-alloc : goal.invariant-loop-alloc
 invariant-loop-alloc g l = record {
   walk : IsWalkAt l.system l.number l.walk;
   count : l.pivots + 1 ≡ l.initial.pivots + length l.walk.known.items;
-  moves : AreNewMoves l.walk.level.items l.walk.known.items l.moves.items;
+  risen : l.initial.pivots ≤ l.pivots;
+  next : AreNewPivots l.walk.level.items l.walk.known.items l.next.items;
 }
 
 abbrev pub decreases-loop-alloc : goal.decreases-loop-alloc
-decreases-loop-alloc g l = 20000 - l.number
+decreases-loop-alloc g l = most_bases - l.number

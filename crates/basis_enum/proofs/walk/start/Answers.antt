@@ -3,8 +3,8 @@ use Rattle.std.proofs.lemmas.Result.{err_from_is_err_and}
 use Rattle.std.specs.List.Sorted.{IsStrictlyIncreasing}
 use Rattle.basis_enum.specs.declared.vertex.Vertex.{Vertex}
 use Rattle.basis_enum.specs.Bases.{AreVariables, basis_of}
-use Rattle.basis_enum.specs.Next.{AreNewMoves}
-use Rattle.basis_enum.proofs.LevelMoveLemmas.{found_small, new_moves_are}
+use Rattle.basis_enum.specs.Next.{AreNewPivots}
+use Rattle.basis_enum.proofs.LevelPivotLemmas.{found_small, new_pivots_are}
 use Rattle.basis_enum.proofs.WalkLemmas.{start_stop, system_variables, first_ready, first_numbered, first_basis, first_found, first_all_ready, walk_start}
 use Rattle.basis_enum.proofs.walk.start.Goals as goal
 
@@ -29,13 +29,13 @@ pub found_from-requires-clause-known : goal.found_from-requires-clause-known
 found_from-requires-clause-known g c =
     subst IsStrictlyIncreasing (sym (c.as_slice.ensures.value ∙ c.in_ok-known.ensures)) (λ k h. absurd (omega arith))
 
-pub next_moves-moves-requires : goal.next_moves-moves-requires
-next_moves-moves-requires g c =
+pub next_pivots-pivots-requires : goal.next_pivots-pivots-requires
+next_pivots-pivots-requires g c =
     let s = c.args.system.now in
     let t = c.in_ok-tableau.tableau in
     let ready = first_ready s t c.nonbasics.ensures.valid c.requires.enumerable c.in_ok-tableau.ensures.2 in
-    found_small (t ∷ []) c.as_slice.result.now c.in_ok-found.found.moves.items (first_all_ready t ready) (omega arith)
-    (first_found t c.as_slice.result.now c.in_ok-found.found.moves.items c.in_ok-found.ensures.moves)
+    found_small (t ∷ []) c.as_slice.result.now c.in_ok-found.found.pivots.items (first_all_ready t ready) (omega arith)
+    (first_found t c.as_slice.result.now c.in_ok-found.found.pivots.items c.in_ok-found.ensures.pivots)
 
 pub returns-clause-walk : goal.returns-clause-walk
 returns-clause-walk g c =
@@ -46,11 +46,11 @@ returns-clause-walk g c =
     vertices
     c.in_ok-found.ensures.vertex
 
-pub returns-clause-moves : goal.returns-clause-moves
-returns-clause-moves g c =
+pub returns-clause-pivots : goal.returns-clause-pivots
+returns-clause-pivots g c =
     let s = c.args.system.now in
     let t = c.in_ok-tableau.tableau in
     let ready = first_ready s t c.nonbasics.ensures.valid c.requires.enumerable c.in_ok-tableau.ensures.2 in
-    subst₂ (λ level known. AreNewMoves level known c.next_moves-moves.result.items) (sym c.in_ok-level.ensures) c.as_slice.ensures.value
-    (new_moves_are (t ∷ []) c.as_slice.result.now c.in_ok-found.found.moves.items c.next_moves-moves.result.items (first_all_ready t ready) (omega arith)
-    (first_found t c.as_slice.result.now c.in_ok-found.found.moves.items c.in_ok-found.ensures.moves) c.next_moves-moves.ensures)
+    subst₂ (λ level known. AreNewPivots level known c.next_pivots-pivots.result.items) (sym c.in_ok-level.ensures) c.as_slice.ensures.value
+    (new_pivots_are (t ∷ []) c.as_slice.result.now c.in_ok-found.found.pivots.items c.next_pivots-pivots.result.items (first_all_ready t ready) (omega arith)
+    (first_found t c.as_slice.result.now c.in_ok-found.found.pivots.items c.in_ok-found.ensures.pivots) c.next_pivots-pivots.ensures)

@@ -2,7 +2,7 @@ use Rattle.std.proofs.Common.{◌≡◌, ◌<◌, ◌++◌, [], ◌∷◌, None,
 use Rattle.std.proofs.lemmas.List.{get_or_default}
 use Rattle.std.proofs.lemmas.Option.{slice_get-get_or}
 use Rattle.choice_lists.specs.declared.decision.Decision.{Decision}
-use Rattle.choice_lists.specs.Walks.{AreLinked}
+use Rattle.choice_lists.specs.Reduced.{AreLinked}
 use Rattle.choice_lists.specs.LeftOut.{all_ends}
 use Rattle.choice_lists.proofs.LeftOutDecisionLemmas.{AreNumbered-kept, AreNumbered-left_out, AreNumbered-all, kept_below-all, edge-numbered, linked-kept, all_ends-kept}
 use Rattle.choice_lists.proofs.kept.kept_decisions.Goals as goal

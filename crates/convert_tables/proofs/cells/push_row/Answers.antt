@@ -4,71 +4,71 @@ use Rattle.game_core.specs.Table.{strategy_counts, most_payoffs}
 use Rattle.convert_tables.specs.Layouts.{cell_text, cells_text, cell_number, strategy_count, strategy_name, row_end}
 use Rattle.convert_tables.specs.declared.marks.Mark.TheVariants.{RowStart, RowNameEnd}
 use Rattle.convert_tables.specs.Names.{marked_text}
-use Rattle.convert_tables.specs.declared.cells.Plan.{Plan}
+use Rattle.convert_tables.specs.declared.cells.Axes.{Axes}
 use Rattle.game_core.proofs.TableCountLemmas.{strategy_count-names}
 use Rattle.convert_tables.proofs.CellPlaceLemmas.{AreAxes, IsChoice, IsChoice-profile, AreCells, AreCells-row, first_few, strategy_name_is}
-use Rattle.convert_tables.proofs.PlanAxisLemmas.{axes}
+use Rattle.convert_tables.proofs.AxisLemmas.{are_axes}
 use Rattle.convert_tables.proofs.NumberedTextLemmas.{each-same, three_parts}
 use Rattle.convert_tables.proofs.cells.push_row.Goals as goal
 
 -- the number of the row's first cell, as it is computed
-first_is : (l : Plan) (start number r : ℕ) → start ≡ number → start + l.row_stride * r ≡ number + stride (strategy_counts l.table.now) l.row * r
+first_is : (l : Axes) (start number r : ℕ) → start ≡ number → start + l.row_stride * r ≡ number + stride (strategy_counts l.table.now) l.row * r
 first_is l start number r e = ap₂ (λ v w. v + w * r) e l.row_stride_is
 
-few : (l : Plan) (choice : List ℕ) (start r : ℕ) → AreAxes l.table.now l.row l.column → IsChoice l.table.now l.row l.column choice → r < strategy_count l.table.now l.row → start ≡ number_of (strategy_counts l.table.now) choice → start + l.row_stride * r ≤ most_payoffs
+few : (l : Axes) (choice : List ℕ) (start r : ℕ) → AreAxes l.table.now l.row l.column → IsChoice l.table.now l.row l.column choice → r < strategy_count l.table.now l.row → start ≡ number_of (strategy_counts l.table.now) choice → start + l.row_stride * r ≤ most_payoffs
 few l choice start r h is b e =
     subst (λ v. v ≤ most_payoffs) (sym (first_is l start _ r e)) (first_few l.table.now l.row l.column choice r h is b)
 
 -- where the row's cells stand
-cells : (l : Plan) (choice : List ℕ) (start r : ℕ) → AreAxes l.table.now l.row l.column → IsChoice l.table.now l.row l.column choice → r < strategy_count l.table.now l.row → start ≡ number_of (strategy_counts l.table.now) choice → AreCells l.table.now l.row l.column choice r (start + l.row_stride * r)
+cells : (l : Axes) (choice : List ℕ) (start r : ℕ) → AreAxes l.table.now l.row l.column → IsChoice l.table.now l.row l.column choice → r < strategy_count l.table.now l.row → start ≡ number_of (strategy_counts l.table.now) choice → AreCells l.table.now l.row l.column choice r (start + l.row_stride * r)
 cells l choice start r h is b e =
     subst (AreCells l.table.now l.row l.column choice r) (sym (first_is l start _ r e)) (AreCells-row l.table.now l.row l.column choice r h is b)
 
 pub profile_number-requires : goal.profile_number-requires
 profile_number-requires c =
-    let l = c.args.plan.now in
-    (IsChoice-profile l.table.now l.row l.column c.args.choice.now (axes l) c.requires.choice).profile
+    let l = c.args.axes.now in
+    (IsChoice-profile l.table.now l.row l.column c.args.choice.now (are_axes l) c.requires.choice).profile
 
 pub overflow_mul-first : goal.overflow_mul-first
 overflow_mul-first c =
-    let l = c.args.plan.now in
-    let h = axes l in
+    let l = c.args.axes.now in
+    let h = are_axes l in
     let is = IsChoice-profile l.table.now l.row l.column c.args.choice.now h c.requires.choice in
     omega (arith, few l c.args.choice.now c.profile_number.result c.args.strategy h is c.requires.strategy c.profile_number.ensures.number)
 
 pub overflow_add-first : goal.overflow_add-first
 overflow_add-first c =
-    let l = c.args.plan.now in
-    let h = axes l in
+    let l = c.args.axes.now in
+    let h = are_axes l in
     let is = IsChoice-profile l.table.now l.row l.column c.args.choice.now h c.requires.choice in
     omega (arith, few l c.args.choice.now c.profile_number.result c.args.strategy h is c.requires.strategy c.profile_number.ensures.number)
 
 pub bounds-names-strategy : goal.bounds-names-strategy
 bounds-names-strategy c =
-    let l = c.args.plan.now in
+    let l = c.args.axes.now in
     omega (arith, c.requires.strategy, strategy_count-names l.table.now l.row c.strategies-names.result.now c.strategies-names.ensures.strategies)
 
 pub push_cells-requires : goal.push_cells-requires
 push_cells-requires c k b =
-    let l = c.args.plan.now in
-    let h = axes l in
+    let l = c.args.axes.now in
+    let h = are_axes l in
     let is = IsChoice-profile l.table.now l.row l.column c.args.choice.now h c.requires.choice in
     let first = c.profile_number.result + l.row_stride * c.args.strategy in
     subst (λ v. first + v * k < profile_count (strategy_counts l.table.now)) (sym l.column_stride_is) ((cells l c.args.choice.now c.profile_number.result c.args.strategy h is c.requires.strategy c.profile_number.ensures.number).below k b)
 
 pub row_end-requires : goal.row_end-requires
 row_end-requires c =
-    let l = c.args.plan.now in
+    let l = c.args.axes.now in
     omega (arith, c.requires.strategy, strategy_count-names l.table.now l.row c.strategies-names.result.now c.strategies-names.ensures.strategies)
 
 pub returns : goal.returns
 returns c =
-    let l = c.args.plan.now in
+    let l = c.args.axes.now in
     let t = l.table.now in
     let choice = c.args.choice.now in
     let r = c.args.strategy in
     let names = c.strategies-names.result.now in
-    let h = axes l in
+    let h = are_axes l in
     let is = IsChoice-profile t l.row l.column choice h c.requires.choice in
     let first = c.profile_number.result + l.row_stride * r in
     let places = cells l choice c.profile_number.result r h is c.requires.strategy c.profile_number.ensures.number in

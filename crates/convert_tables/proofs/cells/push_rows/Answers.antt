@@ -7,12 +7,12 @@ use Rattle.convert_tables.proofs.cells.push_rows.Goals as goal
 
 pub push_row-requires-clause-strategy : goal.push_row-requires-clause-strategy
 push_row-requires-clause-strategy c =
-    let l = c.args.plan.now in
+    let l = c.args.axes.now in
     omega (arith, c.strategy_count-strategy-end.ensures.count)
 
 pub returns-then-len-gt-MOST_TEXT-clause-long : goal.returns-then-len-gt-MOST_TEXT-clause-long
 returns-then-len-gt-MOST_TEXT-clause-long c _ =
-    let l = c.args.plan.now in
+    let l = c.args.axes.now in
     let row = row_text l.style l.table.now l.row l.column c.args.choice.now in
     let k = c.loop-strategy.strategy in
     let n = strategy_count l.table.now l.row in
@@ -23,11 +23,11 @@ returns-then-len-gt-MOST_TEXT-clause-long c _ =
 
 pub loop-strategy-preserved : goal.loop-strategy-preserved
 loop-strategy-preserved c =
-    let l = c.args.plan.now in
+    let l = c.args.axes.now in
     each-next (row_text l.style l.table.now l.row l.column c.args.choice.now) c.args.text.now.items c.loop-strategy.text.items _ c.loop-strategy.strategy c.loop-strategy.invariant c.in_ok-push_row.ensures
 
 pub returns-clause-rows : goal.returns-clause-rows
 returns-clause-rows c =
-    let l = c.args.plan.now in
+    let l = c.args.axes.now in
     let all : c.loop-strategy.strategy ≡ strategy_count l.table.now l.row = omega (arith, c.strategy_count-strategy-end.ensures.count) in
     c.loop-strategy.invariant ∙ ap (λ n. c.args.text.now.items ++ flat_map (row_text l.style l.table.now l.row l.column c.args.choice.now) (range_with_len 0 n)) all

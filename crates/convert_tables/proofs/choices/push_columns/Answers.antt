@@ -9,7 +9,7 @@ use Rattle.convert_tables.proofs.choices.push_columns.Goals as goal
 
 pub returns : goal.returns
 returns c =
-    let l = c.args.plan.now in
+    let l = c.args.axes.now in
     let names : c.strategies.result.now ≡ strategy_names l.table.now l.column = sym (get_or_from_slice_get l.table.now.strategies l.column c.strategies.result.now [] c.strategies.ensures.strategies) in
     three_parts c.args.text.now.items (table_start l.style l.table.now l.row l.column) (flat_map (column_text l.style) (strategy_names l.table.now l.column)) (mark_text l.style ColumnsEnd) c.push_start.new.text.items c.push_column_names.new.text.items _ c.in_ok-push_start.ensures
     (c.in_ok-push_column_names.ensures ∙ ap (λ ns. c.push_start.new.text.items ++ flat_map (column_text l.style) ns) names)

@@ -5,4 +5,4 @@ use Rattle.convert_tables.proofs.choices.push_later_chosen.Given as goal
 
 abbrev pub invariant-loop-player : goal.invariant-loop-player
 invariant-loop-player l =
-    l.text.items ≡ l.initial.text.items ++ flat_map (later_chosen_text l.plan.style l.plan.table.now l.choice) (take l.player-index l.players)
+    l.text.items ≡ l.initial.text.items ++ flat_map (later_chosen_text l.axes.style l.axes.table.now l.choice) (take l.player-index l.players)

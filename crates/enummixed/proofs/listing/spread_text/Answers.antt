@@ -44,7 +44,7 @@ returns c = λ h.
     let first : map (λ v. v.items) c.deref.result.now ≡ firsts = ap (map (λ v. v.items)) (c.deref.ensures.value ∙ sym c.deref-3.ensures.value) in
     let second : map (λ v. v.items) c.deref-2.result.now ≡ seconds = ap (map (λ v. v.items)) (c.deref-2.ensures.value ∙ sym c.deref-4.ensures.value) in
     let permuted : IsPermutation c.args.extreme.pairs.items sorted = subst₂ IsPermutation before after c.sort_pairs.ensures.permutation in
-    let ordered : IsSortedBy (λ p q. is_lt (pair_order firsts seconds p q)) sorted = subst (IsSortedBy (λ p q. is_lt (pair_order firsts seconds p q))) after (subst₂ (λ xs ys. IsSortedBy (λ p q. is_lt (pair_order xs ys p q)) c.sort_pairs.new.pairs) first second c.sort_pairs.ensures.sorted) in
+    let ordered : IsSortedBy (λ p q. is_lt (pair_order firsts seconds p q)) sorted = subst (IsSortedBy (λ p q. is_lt (pair_order firsts seconds p q))) after (subst₂ (λ xs ys. IsSortedBy (λ p q. is_lt (pair_order xs ys p q)) c.sort_pairs.new.pairs) first second c.in_ok-sort_pairs.ensures.sorted) in
     let m = length c.strategies.result.now in
     let n = length c.strategies-2.result.now in
     let spread : AreSpreadPoints m k.first firsts wide = subst₂ (λ places points. AreSpreadPoints m places firsts (map (λ v. v.items) points)) c.first.ensures (sym c.deref-6.ensures.value) (c.in_ok-wide_firsts.ensures {u = tt}) in

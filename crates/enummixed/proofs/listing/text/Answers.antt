@@ -20,5 +20,5 @@ returns c = λ game h.
     let first : map (λ v. v.items) c.deref.result.now ≡ firsts = ap (map (λ v. v.items)) (c.deref.ensures.value ∙ sym c.deref-4.ensures.value) in
     let second : map (λ v. v.items) c.deref-2.result.now ≡ seconds = ap (map (λ v. v.items)) (c.deref-2.ensures.value ∙ sym c.deref-5.ensures.value) in
     let permuted : IsPermutation c.args.extreme.pairs.items sorted = subst₂ IsPermutation before after c.sort_pairs.ensures.permutation in
-    let ordered : IsSortedBy (λ p q. is_lt (pair_order firsts seconds p q)) sorted = subst (IsSortedBy (λ p q. is_lt (pair_order firsts seconds p q))) after (subst₂ (λ xs ys. IsSortedBy (λ p q. is_lt (pair_order xs ys p q)) c.sort_pairs.new.pairs) first second c.sort_pairs.ensures.sorted) in
+    let ordered : IsSortedBy (λ p q. is_lt (pair_order firsts seconds p q)) sorted = subst (IsSortedBy (λ p q. is_lt (pair_order firsts seconds p q))) after (subst₂ (λ xs ys. IsSortedBy (λ p q. is_lt (pair_order xs ys p q)) c.sort_pairs.new.pairs) first second c.in_ok-sort_pairs.ensures.sorted) in
     within-weaker _ (IsExtremeEquilibriaText game) (λ text e. subst (IsExtremeEquilibriaText game) (sym e) (sorted-text game (pairs_of c.args.extreme) h firsts seconds sorted (ap (map (λ v. v.items)) c.deref-4.ensures.value ∙ c.requires.firsts) (ap (map (λ v. v.items)) c.deref-5.ensures.value ∙ c.requires.seconds) permuted ordered)) _ c.write_lines.ensures

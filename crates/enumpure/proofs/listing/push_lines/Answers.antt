@@ -4,15 +4,15 @@ use Rattle.game_theory.specs.Mixed.{pure}
 use Rattle.game_theory.specs.Lines.{entries, line_text, lines_text}
 use Rattle.game_theory.proofs.ProfileNumberLemmas.{number_of-below}
 use Rattle.game_theory.specs.Ranks.{ranked}
-use Rattle.enumpure.specs.Ranks.{lines_below}
+use Rattle.enumpure.specs.Ranks.{lines_below, rank_line, ranked_plays_best}
 use Rattle.enumpure.specs.Replies.{plays_best}
-use Rattle.enumpure.proofs.ListedProfileLemmas.{lines_text-none, lines_text-push, lines_text-skip}
+use Rattle.enumpure.proofs.ListedLineLemmas.{text-none, text-push, text-skip}
 use Rattle.game_theory.proofs.RankLemmas.{IsProfile-ranked}
 use Rattle.enumpure.proofs.listing.push_lines.Goals as goal
 use Rattle.enumpure.proofs.listing.push_lines.Goals.{then-all_best-profile_number+in_ok-set_entries+in_ok-push_line, else-all_best-profile_number}
 
 pub loop-rank-init : goal.loop-rank-init
-loop-rank-init c = lines_text-none c.args.counts.now c.args.all_best.now c.args.text.now.items
+loop-rank-init c = text-none (rank_line c.args.counts.now) (ranked_plays_best c.args.counts.now c.args.all_best.now) c.args.text.now.items
 
 pub profile_number-requires : goal.profile_number-requires
 profile_number-requires c =
@@ -42,8 +42,8 @@ loop-rank-preserved c =
     elim c.if-all_best-profile_number.branch [
       | then-all_best-profile_number+in_ok-set_entries+in_ok-push_line w ↦
           (let line = ap line_text (w.deref.ensures.value ∙ w.in_ok-set_entries.ensures {u = tt} ∙ ap (λ v. entries ns (pure v)) c.set_ranked.ensures) in
-          ap (λ v. v.items) w.text-is ∙ w.in_ok-push_line.ensures.line ∙ ap (λ v. text ++ v) line ∙ lines_text-push ns best_replies r old text c.loop-rank.invariant (sym (ap (plays_best best_replies) e) ∙ w.if-all_best-profile_number.true))
-      | else-all_best-profile_number w ↦ ap (λ v. v.items) w.text-is ∙ lines_text-skip ns best_replies r old text c.loop-rank.invariant (sym (ap (plays_best best_replies) e) ∙ w.if-all_best-profile_number.false)
+          ap (λ v. v.items) w.text-is ∙ w.in_ok-push_line.ensures.line ∙ ap (λ v. text ++ v) line ∙ text-push (rank_line ns) (ranked_plays_best ns best_replies) r old text c.loop-rank.invariant (sym (ap (plays_best best_replies) e) ∙ w.if-all_best-profile_number.true))
+      | else-all_best-profile_number w ↦ ap (λ v. v.items) w.text-is ∙ text-skip (rank_line ns) (ranked_plays_best ns best_replies) r old text c.loop-rank.invariant (sym (ap (plays_best best_replies) e) ∙ w.if-all_best-profile_number.false)
     ]
 
 pub returns : goal.returns

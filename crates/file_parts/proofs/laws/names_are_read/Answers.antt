@@ -5,9 +5,9 @@ use Rattle.file_parts.proofs.TokenLaws.{names_is, names_again}
 use Rattle.file_parts.proofs.ValueLemmas.{value, value_some, value_names}
 use Rattle.file_parts.proofs.laws.names_are_read.Goals as goal
 
-pub returns-clause-sound : goal.returns-clause-sound
-returns-clause-sound g c = λ kind tokens rest names e. names_is tokens (names, rest) (sym (value_names kind tokens) ∙ ap value e)
-
-pub returns-clause-complete : goal.returns-clause-complete
-returns-clause-complete g c = λ kind rest names some.
-    value_some (parse_names kind (braced_texts names ++ rest)) (names, rest) (value_names kind (braced_texts names ++ rest) ∙ names_again names rest some)
+pub returns : goal.returns
+returns g c = record {
+  sound = λ kind tokens rest names e. names_is tokens (names, rest) (sym (value_names kind tokens) ∙ ap value e);
+  complete = λ kind rest names some.
+      value_some (parse_names kind (braced_texts names ++ rest)) (names, rest) (value_names kind (braced_texts names ++ rest) ∙ names_again names rest some);
+}

@@ -4,11 +4,11 @@ use Rattle.file_parts.proofs.NumberLaws.{payoffs_are, payoffs_again}
 use Rattle.file_parts.proofs.ValueLemmas.{value, value_some, value_payoffs}
 use Rattle.file_parts.proofs.laws.payoffs_are_read.Goals as goal
 
-pub returns-clause-sound : goal.returns-clause-sound
-returns-clause-sound g c = λ kind n tokens rest payoffs e.
-    let are = payoffs_are n tokens (payoffs, rest) (sym (value_payoffs kind n tokens) ∙ ap value e) in
-    (are.front, are.are_numbers, are.all, are.is)
-
-pub returns-clause-complete : goal.returns-clause-complete
-returns-clause-complete g c = λ kind front rest payoffs h.
-    value_some (parse_payoffs kind (length payoffs) (front ++ rest)) (payoffs, rest) (value_payoffs kind (length payoffs) (front ++ rest) ∙ payoffs_again front payoffs rest h)
+pub returns : goal.returns
+returns g c = record {
+  sound = λ kind n tokens rest payoffs e.
+      let are = payoffs_are n tokens (payoffs, rest) (sym (value_payoffs kind n tokens) ∙ ap value e) in
+      (are.front, are.are_numbers, are.all, are.is);
+  complete = λ kind front rest payoffs h.
+      value_some (parse_payoffs kind (length payoffs) (front ++ rest)) (payoffs, rest) (value_payoffs kind (length payoffs) (front ++ rest) ∙ payoffs_again front payoffs rest h);
+}

@@ -1,7 +1,11 @@
 use Rattle.std.proofs.Common.{sym, ap, ◌∙◌, subst}
 use Rattle.game_text.specs.Numbers.{IsWithinLimits, form_value}
+use Rattle.game_text.proofs.EveryAnswerLaws.{every_text}
 use Rattle.game_text.proofs.NumeralFormLemmas.{one_form}
 use Rattle.game_text.proofs.number.numbers_have_one_value.Goals as goal
+
+pub returns-clause-some : goal.returns-clause-some
+returns-clause-some c = every_text
 
 pub returns-clause-value : goal.returns-clause-value
 returns-clause-value c text one other p q =

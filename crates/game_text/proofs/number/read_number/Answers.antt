@@ -1,11 +1,12 @@
 use Rattle.std.proofs.Common.{◌≡◌, Bool, List, ℕ, Option, Some, None, Result, Ok, Err, refl, subst}
 use Rattle.std.specs.Prelude.{IfOk, IsErrOf}
 use Rattle.std.specs.Char.{is_ascii_digit}
+use Rattle.std.specs.List.{take_while}
 use Rattle.rational.specs.Rational.{ℚ}
 use Rattle.game_text.specs.declared.number.NumberFault.{NumberFault}
 use Rattle.game_text.specs.declared.number.NumberFault.TheVariants.{Bad, TooLarge}
 use Rattle.game_text.specs.Numbers.{NumberForm, IsNumber, IsTooLarge, IsNoNumber}
-use Rattle.game_text.specs.NumberReading.{Answers, is_minus, after_sign, leading, following, form_with}
+use Rattle.game_text.specs.NumberReading.{Answers, is_minus, after_sign, following, form_with}
 use Rattle.game_text.proofs.NumeralFormLemmas.{form_of}
 use Rattle.game_text.proofs.NumeralFormLemmas.{form_found, form_again}
 use Rattle.game_text.proofs.number.read_number.Goals as goal
@@ -26,7 +27,7 @@ too_large text None (Err fault) e h is = cc
 too_large text (Some form) (Ok f) e h is = cc
 too_large text (Some form) (Err fault) e h is = record { form = form; is_written = form_found text form e; is_beyond = h.1 }
 
-parts_form : (text bytes before rest : List ℕ) (negative : Bool) → negative ≡ is_minus text → bytes ≡ after_sign text → before ≡ leading is_ascii_digit bytes → rest ≡ following is_ascii_digit bytes → form_with negative before rest ≡ form_of text
+parts_form : (text bytes before rest : List ℕ) (negative : Bool) → negative ≡ is_minus text → bytes ≡ after_sign text → before ≡ take_while is_ascii_digit bytes → rest ≡ following is_ascii_digit bytes → form_with negative before rest ≡ form_of text
 unfolding form_of
 parts_form text bytes before rest negative a b f r = rw (f, r, b, a) refl
 

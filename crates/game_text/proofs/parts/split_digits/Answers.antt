@@ -1,11 +1,10 @@
 use Rattle.std.proofs.Common.{take, ap, sym, ◌∙◌, subst}
-use Rattle.std.specs.Char.{IsAsciiDigit, is_ascii_digit}
+use Rattle.std.specs.Char.{IsAsciiDigit}
 use Rattle.std.specs.List.{All}
 use Rattle.game_text.proofs.DigitLemmas.{leading_digits}
-use Rattle.game_text.proofs.PrefixLemmas.{take-prefix_len}
 use Rattle.game_text.proofs.parts.split_digits.Goals as goal
 
 pub returns-clause-digits : goal.returns-clause-digits
 returns-clause-digits c =
     let text = c.args.text.now in
-    subst (All IsAsciiDigit) (sym (c.split_at.ensures.front ∙ ap (λ n. take n text) c.digits_count.ensures ∙ take-prefix_len is_ascii_digit text)) (leading_digits text)
+    subst (All IsAsciiDigit) (sym (c.split_at.ensures.front ∙ ap (λ n. take n text) c.digits_count.ensures)) (leading_digits text)

@@ -23,26 +23,26 @@ div-requires c e =
 pub returns-in_err-div : goal.returns-in_err-div
 returns-in_err-div c =
     let p = c.args.point.now in
-    let read : c.index-point-i.result ≡ entry_at p c.loop-i.i = c.index-point-i.is ∙ get_or_default p c.loop-i.i c.index-point-i.result zero_ℚ c.loop-i-test.true in
+    let read : c.entry-item.result ≡ entry_at p c.loop-entry.entry-index = c.entry-item.is ∙ get_or_default p c.loop-entry.entry-index c.entry-item.result zero_ℚ c.loop-entry-test.true in
     let stop = err_from_is_err_and c.from_residual-in_err-div.result c.from_residual-in_err-div.ensures.1 in
-    rw (stop.1, stop.2) (inr (inl (c.in_err-div.field-0.0, first_unfit-following (sum_steps p) _ c.in_err-div.field-0.0 c.in_ok-sum.ensures.1 (unfit-first (division p) (length p) c.loop-i.i c.loop-i-test.true c.in_err-div.field-0.0 c.loop-i.invariant.fits (λ f. c.in_err-div.ensures.unfit (subst₂ DivFits (sym read) (sym c.in_ok-sum.ensures.0) f)) (c.in_err-div.ensures.step ∙ ap₂ (λ x y. unfit Div x y) read c.in_ok-sum.ensures.0)), refl)))
+    rw (stop.1, stop.2) (inr (inl (c.in_err-div.field-0.0, first_unfit-following (sum_steps p) _ c.in_err-div.field-0.0 c.in_ok-sum.ensures.1 (unfit-first (division p) (length p) c.loop-entry.entry-index c.loop-entry-test.true c.in_err-div.field-0.0 c.loop-entry.invariant.fits (λ f. c.in_err-div.ensures.unfit (subst₂ DivFits (sym read) (sym c.in_ok-sum.ensures.0) f)) (c.in_err-div.ensures.step ∙ ap₂ (λ x y. unfit Div x y) read c.in_ok-sum.ensures.0)), refl)))
 
 pub returns-in_err-sum : goal.returns-in_err-sum
 returns-in_err-sum c =
     let stop = err_from_is_err_and c.from_residual.result c.from_residual.ensures.1 in
     rw (stop.1, stop.2) (inr (inl (c.in_err-sum.field-0.0, first_unfit-more (sum_steps c.args.point.now) _ c.in_err-sum.field-0.0 c.in_err-sum.ensures, refl)))
 
-pub loop-i-preserved : goal.loop-i-preserved
-loop-i-preserved c =
+pub loop-entry-preserved : goal.loop-entry-preserved
+loop-entry-preserved c =
     let p = c.args.point.now in
-    let read : c.index-point-i.result ≡ entry_at p c.loop-i.i = c.index-point-i.is ∙ get_or_default p c.loop-i.i c.index-point-i.result zero_ℚ c.loop-i-test.true in
+    let read : c.entry-item.result ≡ entry_at p c.loop-entry.entry-index = c.entry-item.is ∙ get_or_default p c.loop-entry.entry-index c.entry-item.result zero_ℚ c.loop-entry-test.true in
     record {
-      value = listed-push c.push.new.self.items c.loop-i.scaled.items [] c.loop-i.i (scaled (length p) (entry_at p)) c.in_ok-div.field-0 c.loop-i.invariant.value c.in_ok-push.ensures.items (c.in_ok-div.ensures.value ∙ ap₂ (λ x y. x *ℚ inv_ℚ y) read c.in_ok-sum.ensures.0);
-      fits = fits-next (division p) (length p) c.loop-i.i c.loop-i-test.true c.loop-i.invariant.fits (subst₂ DivFits read c.in_ok-sum.ensures.0 c.in_ok-div.ensures.fits);
+      value = listed-push c.push.new.self.items c.loop-entry.scaled.items [] c.loop-entry.entry-index (scaled (length p) (entry_at p)) c.in_ok-div.field-0 c.loop-entry.invariant.value c.in_ok-push.ensures.items (c.in_ok-div.ensures.value ∙ ap₂ (λ x y. x *ℚ inv_ℚ y) read c.in_ok-sum.ensures.0);
+      fits = fits-next (division p) (length p) c.loop-entry.entry-index c.loop-entry-test.true c.loop-entry.invariant.fits (subst₂ DivFits read c.in_ok-sum.ensures.0 c.in_ok-div.ensures.fits);
     }
 
 pub returns : goal.returns
 returns c =
     let p = c.args.point.now in
-    let end : c.loop-i.i ≡ length p = omega arith in
-    (tt, All-append StepFits (sum_steps p) _ c.in_ok-sum.ensures.1 (fits-all (division p) (length p) c.loop-i.i c.loop-i-test.false c.loop-i.invariant.fits), ap Ok (c.loop-i.invariant.value ∙ ap (λ n. listed n (scaled (length p) (entry_at p))) end))
+    let end : c.loop-entry.entry-index ≡ length p = omega arith in
+    (tt, All-append StepFits (sum_steps p) _ c.in_ok-sum.ensures.1 (fits-all (division p) (length p) c.loop-entry.entry-index c.loop-entry-test.false c.loop-entry.invariant.fits), ap Ok (c.loop-entry.invariant.value ∙ ap (λ n. listed n (scaled (length p) (entry_at p))) end))

@@ -7,8 +7,8 @@ use Rattle.label_pairing.specs.Scaling.{division}
 use Rattle.rational.specs.Sum.{entry_at}
 use Rattle.label_pairing.proofs.scaling.scaled.Given as goal
 
-abbrev pub invariant-loop-i : goal.invariant-loop-i
-invariant-loop-i l = record {
-  value : l.scaled.items ≡ listed l.i (scaled (length l.point) (entry_at l.point));
-  fits : All StepFits (take l.i (map (division l.point) (range_with_len 0 (length l.point))));
+abbrev pub invariant-loop-entry : goal.invariant-loop-entry
+invariant-loop-entry l = record {
+  value : l.scaled.items ≡ listed l.entry-index (scaled (length l.point) (entry_at l.point));
+  fits : All StepFits (take l.entry-index (map (division l.point) (range_with_len 0 (length l.point))));
 }

@@ -1,4 +1,4 @@
-use Rattle.std.proofs.Common.{◌≢◌, ◌+◌, ◌<◌, add-one, suc, sym, ap, ◌∙◌, subst, length, true≢false, arith}
+use Rattle.std.proofs.Common.{◌≢◌, ◌+◌, ◌<◌, add-one, suc, refl, sym, ap, ◌∙◌, subst, length, true≢false, arith}
 use Rattle.rational.specs.Rational.{zero_ℚ}
 use Rattle.rational.proofs.InverseLemmas.{ne_zero_of_pos}
 use Rattle.linear_systems.specs.Rows.{basic_solution}
@@ -64,6 +64,31 @@ returns-in-Err-pivot-clause-unfit g c =
     walk_stops c.args.size c.args.first c.args.work.now c.requires.start l.work l.entering c.args.pivots.now l.pivots l.step o ne c.column_of-col.result c.in-Some.row c.column_of-col.ensures.within (sym (ap (λ (m : Numbers). (tableau m).nonbasic c.column_of-col.result) c.now-in-loop-size.ensures.value) ∙ c.column_of-col.ensures.is)
     (walk_best c.args.size c.args.first c.args.work.now c.requires.start l.work l.entering c.args.pivots.now l.pivots l.step o ne c.now-in-loop-size-2.result.now c.column_of-col.result c.in-Some.row c.ratio_row.result c.now-in-loop-size-2.ensures.value c.in-Some.is c.ratio_row.ensures.best)
     (subst IsTableau c.now.ensures.value c.value.ensures.valid) c.saturating_add-step.result c.in-Err-pivot.unfit (c.saturating_add-step.ensures ∙ ap pivot_number (add-one l.step) ∙ ap (λ k. pivot_number (suc k)) o.number ∙ pivot_number_next (suc (length o.earlier))) c.in-Err-pivot.ensures.unfit
+
+pub returns-then-is_zero-clause-path : goal.returns-then-is_zero-clause-path
+returns-then-is_zero-clause-path g c = let o = c.loop-size.invariant.path in (suc (length o.earlier), sym o.counts, (o.earlier, c.loop-size.entering, o.path, refl))
+
+pub returns-then-is_zero-clause-cost : goal.returns-then-is_zero-clause-cost
+returns-then-is_zero-clause-cost g c =
+    let l = c.loop-size in let b = walk_bound c.args.size c.args.first c.args.work.now c.requires.start l.work l.entering c.args.pivots.now l.pivots l.step l.invariant.path in
+    omega (arith, b)
+
+pub returns-in-Err-clause-counted : goal.returns-in-Err-clause-counted
+returns-in-Err-clause-counted g c = (1, c.pivot.ensures.counted, refl)
+
+pub returns-in-Err-clause-cost : goal.returns-in-Err-clause-cost
+returns-in-Err-clause-cost g c = let e = c.pivot.ensures.counted in omega (arith, e)
+
+pub returns-in-Err-pivot-clause-counted : goal.returns-in-Err-pivot-clause-counted
+returns-in-Err-pivot-clause-counted g c =
+    let l = c.loop-size in let o = l.invariant.path in let e = o.counts in let f = c.pivot-in-loop-size.ensures.counted in
+    (suc (suc (length o.earlier)), omega (arith, e, f), c.saturating_add-step.ensures ∙ ap pivot_number (add-one l.step) ∙ ap (λ k. pivot_number (suc k)) o.number ∙ pivot_number_next (suc (length o.earlier)))
+
+pub returns-in-Err-pivot-clause-cost : goal.returns-in-Err-pivot-clause-cost
+returns-in-Err-pivot-clause-cost g c =
+    let l = c.loop-size in let b = walk_bound c.args.size c.args.first c.args.work.now c.requires.start l.work l.entering c.args.pivots.now l.pivots l.step l.invariant.path in
+    let e = c.pivot-in-loop-size.ensures.counted in
+    omega (arith, b, e)
 
 pub complement_of-entering-requires-clause-positive : goal.complement_of-entering-requires-clause-positive
 complement_of-entering-requires-clause-positive g c =

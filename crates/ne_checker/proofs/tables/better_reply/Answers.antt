@@ -3,7 +3,7 @@ use Rattle.std.proofs.lemmas.Bool.{false≢true}
 use Rattle.std.proofs.lemmas.List.Elements.{All-append}
 use Rattle.std.proofs.lemmas.Result.{err_from_is_err_and}
 use Rattle.rational.specs.Rational.{◌≤ℚ◌}
-use Rattle.rational.proofs.Field.{le_or_lt}
+use Rattle.rational.proofs.Field.{le_or_lt, le_trans}
 use Rattle.game_theory.specs.Mixed.{payoff as payoff_of}
 use Rattle.game_core.specs.Table.{game_of, strategy_counts}
 use Rattle.frac128.specs.Steps.{StepFits}
@@ -37,8 +37,6 @@ returns-else-is_less-clause-found c =
     let m = mixed_of (strategy_counts c.args.table.now) c.args.mixed.now in
     record {
       fit = All-append StepFits (value_steps g m c.args.player) (payoff_steps g m c.args.player) c.in_ok-best.ensures.fits c.in_ok-payoff.ensures.1;
-      best = c.in_ok-best.best.strategy;
-      is_best = c.in_ok-best.ensures.best;
-      no_more = subst (λ x. x ≤ℚ payoff_of g m c.args.player) c.in_ok-best.ensures.value (subst (λ x. c.in_ok-best.best.value ≤ℚ x) c.in_ok-payoff.ensures.0
-          (elim (le_or_lt c.in_ok-best.best.value c.in_ok-payoff.payoff) [ inl le ↦ le | inr lt ↦ absurd (false≢true (sym c.if-is_less.false ∙ c.is_less.ensures.1 lt)) ]));
+      no_more = λ s b. le_trans _ _ _ (c.in_ok-best.ensures.best.greatest s b) (subst (λ x. x ≤ℚ payoff_of g m c.args.player) c.in_ok-best.ensures.value (subst (λ x. c.in_ok-best.best.value ≤ℚ x) c.in_ok-payoff.ensures.0
+          (elim (le_or_lt c.in_ok-best.best.value c.in_ok-payoff.payoff) [ inl le ↦ le | inr lt ↦ absurd (false≢true (sym c.if-is_less.false ∙ c.is_less.ensures.1 lt)) ])));
     }

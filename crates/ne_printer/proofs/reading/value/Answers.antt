@@ -3,7 +3,7 @@ use Rattle.std.specs.Char.{digit_value}
 use Rattle.std.specs.Str.Parse.{digits_value}
 use Rattle.std.proofs.lemmas.Int.Digits.{digits_value_more}
 use Rattle.std.proofs.lemmas.Str.Parse.{digits_value-take-le}
-use Rattle.ne_printer.proofs.NumeralLemmas.{all_same, numeral_digits}
+use Rattle.ne_printer.proofs.NumeralLemmas.{numeral_digits}
 use Rattle.ne_printer.proofs.reading.value.Goals as goal
 
 pub returns-in_err-number : goal.returns-in_err-number
@@ -24,4 +24,4 @@ loop-digit-preserved c =
 pub with_digit-requires-clause-digit : goal.with_digit-requires-clause-digit
 with_digit-requires-clause-digit c =
     let ds = c.args.digits.now in
-    numeral_digits ds (all_same ds ∙ c.requires.digits) c.loop-digit.digit-index 0 (omega arith)
+    numeral_digits ds c.requires.is_numeral.1 c.loop-digit.digit-index 0 (omega arith)

@@ -10,7 +10,7 @@ use Rattle.nfg_reader.proofs.reading.read.Goals as goal
 
 pub returns-in-Err : goal.returns-in-Err
 returns-in-Err c =
-    front_stop c.args.tokens.now c.in-Err.refusal c.stop.result (rw c.list.ensures.list at c.in-Err.ensures) c.stop.ensures
+    front_stop c.args.tokens.now c.in-Err.stopped c.stop.result (rw c.list.ensures.list at c.in-Err.ensures) c.stop.ensures
 
 pub profile_count-requires-clause-some : goal.profile_count-requires-clause-some
 profile_count-requires-clause-some c =
@@ -61,4 +61,4 @@ returns-in-Err-last_payoffs c =
     let players : c.len-players.result ≡ length v.items = omega (arith, c.len-players.ensures, v.ok.0) in
     let read : parse_front tokens ≡ Ok front = rw c.list.ensures.list at c.in-Ok.ensures in
     let count : (c.in-Some.profiles ≡ profiles (front_of c.in-Ok.read.0)) × (c.len-players.result * c.in-Some.profiles ≤ most_payoffs) = rw c.in-Some.is at c.in_ok-profiles.ensures in
-    rest_stop c.args.tokens.now front c.len-players.result c.in-Some.profiles c.in-Err-last_payoffs.refusal c.stop-in-Err-last_payoffs.result read players count.0 count.1 c.in-Err-last_payoffs.ensures c.stop-in-Err-last_payoffs.ensures
+    rest_stop c.args.tokens.now front c.len-players.result c.in-Some.profiles c.in-Err-last_payoffs.stopped c.stop-in-Err-last_payoffs.result read players count.0 count.1 c.in-Err-last_payoffs.ensures c.stop-in-Err-last_payoffs.ensures

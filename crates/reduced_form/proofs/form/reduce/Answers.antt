@@ -5,8 +5,8 @@ use Rattle.game_core.specs.Table.{GameTable}
 use Rattle.game_core.specs.TreeGame.{game_of_tree}
 use Rattle.reduced_strategies.specs.StrategicForm.{AreStrategies}
 use Rattle.reduced_form.specs.Cells.{AreCells}
-use Rattle.reduced_form.specs.Counts.{AreCounted, choices_by}
-use Rattle.reduced_form.specs.Limits.{most_choices}
+use Rattle.reduced_form.specs.Counts.{AreCounted}
+use Rattle.reduced_form.specs.Limits.{choices_by, most_choices}
 use Rattle.reduced_form.specs.ReducedForm.{IsReducedForm}
 use Rattle.reduced_form.specs.Stops.{within_limits}
 use Rattle.reduced_form.proofs.FormCountLemmas.{counted-same}

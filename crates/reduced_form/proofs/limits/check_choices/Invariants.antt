@@ -1,6 +1,6 @@
 use Rattle.std.proofs.Common.{◌≡◌, ◌≤◌, take}
 use Rattle.game_core.specs.TreeGame.{game_of_tree}
-use Rattle.reduced_form.specs.Counts.{choices_by}
+use Rattle.reduced_form.specs.Limits.{choices_by}
 use Rattle.reduced_form.specs.Limits.{most_choices}
 use Rattle.reduced_form.proofs.limits.check_choices.Given as goal
 

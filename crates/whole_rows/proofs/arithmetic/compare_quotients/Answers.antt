@@ -6,11 +6,11 @@ use Rattle.whole_rows.proofs.FittingStepLemmas.{read_back}
 use Rattle.whole_rows.proofs.QuotientLemmas.{shortened_back}
 use Rattle.whole_rows.proofs.arithmetic.compare_quotients.Goals as goal
 
-pub returns-then-is_short-4 : goal.returns-then-is_short-4
-returns-then-is_short-4 c =
+pub returns-then-fits_64_bits-4 : goal.returns-then-fits_64_bits-4
+returns-then-fits_64_bits-4 c =
     c.cmp.ensures ∙ ap₂ int_cmp
-    (read_back c.short_product-left.result c.short_product-left.ensures.fits ∙ c.short_product-left.ensures.value ∙ ap₂ (λ x y. x *ℤ y) (shortened_back c.shortened.result c.args.n (record { sfits = c.shortened.type_inv }) c.ranges.n c.shortened.ensures) (shortened_back c.shortened-then-is_short-4.result c.args.d (record { sfits = c.shortened-then-is_short-4.type_inv }) c.ranges.d c.shortened-then-is_short-4.ensures))
-    (read_back c.short_product.result c.short_product.ensures.fits ∙ c.short_product.ensures.value ∙ ap₂ (λ x y. x *ℤ y) (shortened_back c.shortened-then-is_short-4-2.result c.args.m (record { sfits = c.shortened-then-is_short-4-2.type_inv }) c.ranges.m c.shortened-then-is_short-4-2.ensures) (shortened_back c.shortened-then-is_short-4-3.result c.args.b (record { sfits = c.shortened-then-is_short-4-3.type_inv }) c.ranges.b c.shortened-then-is_short-4-3.ensures))
+    (read_back c.short_product-left.result c.short_product-left.ensures.fits ∙ c.short_product-left.ensures.value ∙ ap₂ (λ x y. x *ℤ y) (shortened_back c.shortened.result c.args.n (record { sfits = c.shortened.type_inv }) c.ranges.n c.shortened.ensures) (shortened_back c.shortened-then-fits_64_bits-4.result c.args.d (record { sfits = c.shortened-then-fits_64_bits-4.type_inv }) c.ranges.d c.shortened-then-fits_64_bits-4.ensures))
+    (read_back c.short_product.result c.short_product.ensures.fits ∙ c.short_product.ensures.value ∙ ap₂ (λ x y. x *ℤ y) (shortened_back c.shortened-then-fits_64_bits-4-2.result c.args.m (record { sfits = c.shortened-then-fits_64_bits-4-2.type_inv }) c.ranges.m c.shortened-then-fits_64_bits-4-2.ensures) (shortened_back c.shortened-then-fits_64_bits-4-3.result c.args.b (record { sfits = c.shortened-then-fits_64_bits-4-3.type_inv }) c.ranges.b c.shortened-then-fits_64_bits-4-3.ensures))
 
 pub returns : goal.returns
 returns c =

@@ -1,7 +1,7 @@
 use Rattle.std.proofs.Common.{◌<◌, ◌^◌, ap, pos, nat_abs, subst, sym}
 use Rattle.std.specs.Int.{w128}
 use Rattle.std.proofs.lemmas.Int.{fits_signed_from_abs}
-use Rattle.whole_rows.specs.Rows.{from_place, IsCommonDivisor}
+use Rattle.whole_rows.specs.Rows.{from_place, IsGreatestDivisor}
 use Rattle.whole_rows.proofs.RowValueLemmas.{divisor_small, row_size, stored, stored_pos}
 use Rattle.whole_rows.proofs.pivots.row_divisor.Goals as goal
 
@@ -15,4 +15,4 @@ pub returns-clause-positive : goal.returns-clause-positive
 returns-clause-positive c = stored_pos c.common_divisor.result c.common_divisor.ensures.positive (small c)
 
 pub returns-clause-divisor : goal.returns-clause-divisor
-returns-clause-divisor c = subst (IsCommonDivisor (from_place c.args.numbers.now c.args.own) c.args.size) (sym (ap nat_abs (stored c.common_divisor.result (small c)))) c.common_divisor.ensures
+returns-clause-divisor c = subst (IsGreatestDivisor (from_place c.args.numbers.now c.args.own) c.args.size) (sym (ap nat_abs (stored c.common_divisor.result (small c)))) c.common_divisor.ensures

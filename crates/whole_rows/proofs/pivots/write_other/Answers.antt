@@ -1,4 +1,5 @@
 use Rattle.std.proofs.Common.{◌∙◌, ◌+◌, ap₂, arith, subst, subst₂, sym, All}
+use Rattle.std.proofs.lemmas.Result.{err_from_is_err_and}
 use Rattle.whole_rows.specs.Rows.{from_place}
 use Rattle.frac128.specs.Steps.{StepFits, IsFirstUnfit}
 use Rattle.whole_rows.specs.Pivots.{own_factor, other_factor, steps_to, place_number}
@@ -12,19 +13,20 @@ returns-then-number-eq0-clause-written c =
 
 pub reduce_row-requires-clause-positive : goal.reduce_row-requires-clause-positive
 reduce_row-requires-clause-positive c =
-    lead_is (from_place c.args.numbers.now c.args.own) (from_place c.args.numbers.now c.args.first) c.args.column c.requires.row.positive c.requires.pivot_row.positive c.requires.entry c.requires.column_positive (own_factor (from_place c.args.numbers.now c.args.first c.args.column) (from_place c.args.numbers.now c.args.own c.args.column)) (other_factor (from_place c.args.numbers.now c.args.first c.args.column) (from_place c.args.numbers.now c.args.own c.args.column)) (own_factor_pos (from_place c.args.numbers.now c.args.first c.args.column) (from_place c.args.numbers.now c.args.own c.args.column) c.requires.entry) (factors_cross (from_place c.args.numbers.now c.args.first c.args.column) (from_place c.args.numbers.now c.args.own c.args.column) c.requires.entry) c.args.size 1 (from_place c.write_combination.new.spare c.args.own) c.requires.column_in (λ p hp. by_one _ _ ((c.in-Ok.ensures.written p hp).0 ∙ ap₂ (λ u v. place_number (from_place c.args.numbers.now c.args.own) (from_place c.args.numbers.now c.args.first) c.args.column u v p) (read_back c.factors-u.result.0 c.factors-u.ensures.own_fits ∙ c.factors-u.ensures.own ∙ ap₂ own_factor (read_at c.args.numbers.now (c.args.first + c.args.column) c.requires.fit) (read_at c.args.numbers.now (c.args.own + c.args.column) c.requires.fit)) (read_back c.factors-u.result.1 c.factors-u.ensures.other_fits ∙ c.factors-u.ensures.other ∙ ap₂ other_factor (read_at c.args.numbers.now (c.args.first + c.args.column) c.requires.fit) (read_at c.args.numbers.now (c.args.own + c.args.column) c.requires.fit))))
+    lead_is (from_place c.args.numbers.now c.args.own) (from_place c.args.numbers.now c.args.first) c.args.column c.requires.row.positive c.requires.pivot_row.positive c.requires.entry c.requires.column_positive (own_factor (from_place c.args.numbers.now c.args.first c.args.column) (from_place c.args.numbers.now c.args.own c.args.column)) (other_factor (from_place c.args.numbers.now c.args.first c.args.column) (from_place c.args.numbers.now c.args.own c.args.column)) (own_factor_pos (from_place c.args.numbers.now c.args.first c.args.column) (from_place c.args.numbers.now c.args.own c.args.column) c.requires.entry) (factors_cross (from_place c.args.numbers.now c.args.first c.args.column) (from_place c.args.numbers.now c.args.own c.args.column) c.requires.entry) c.args.size 1 (from_place c.write_combination.new.spare c.args.own) c.requires.column_in (λ p hp. by_one _ _ ((c.in_ok-write_combination.ensures.written p hp).0 ∙ ap₂ (λ u v. place_number (from_place c.args.numbers.now c.args.own) (from_place c.args.numbers.now c.args.first) c.args.column u v p) (read_back c.factors-u.result.0 c.factors-u.ensures.own_fits ∙ c.factors-u.ensures.own ∙ ap₂ own_factor (read_at c.args.numbers.now (c.args.first + c.args.column) c.requires.fit) (read_at c.args.numbers.now (c.args.own + c.args.column) c.requires.fit)) (read_back c.factors-u.result.1 c.factors-u.ensures.other_fits ∙ c.factors-u.ensures.other ∙ ap₂ other_factor (read_at c.args.numbers.now (c.args.first + c.args.column) c.requires.fit) (read_at c.args.numbers.now (c.args.own + c.args.column) c.requires.fit))))
 
-pub returns-in-Ok-clause-kept : goal.returns-in-Ok-clause-kept
-returns-in-Ok-clause-kept c k h = c.reduce_row.ensures.kept k h ∙ c.in-Ok.ensures.kept k h ∙ c.write_short.ensures.kept k h
+pub returns-clause-kept : goal.returns-clause-kept
+returns-clause-kept c k h = c.reduce_row.ensures.kept k h ∙ c.in_ok-write_combination.ensures.kept k h ∙ c.write_short.ensures.kept k h
 
-pub returns-in-Ok-clause-written : goal.returns-in-Ok-clause-written
-returns-in-Ok-clause-written c =
-    pivoted_row (from_place c.args.numbers.now c.args.own) (from_place c.args.numbers.now c.args.first) c.args.column c.requires.row.positive c.requires.pivot_row.positive c.requires.entry c.requires.column_positive (own_factor (from_place c.args.numbers.now c.args.first c.args.column) (from_place c.args.numbers.now c.args.own c.args.column)) (other_factor (from_place c.args.numbers.now c.args.first c.args.column) (from_place c.args.numbers.now c.args.own c.args.column)) (own_factor_pos (from_place c.args.numbers.now c.args.first c.args.column) (from_place c.args.numbers.now c.args.own c.args.column) c.requires.entry) (factors_cross (from_place c.args.numbers.now c.args.first c.args.column) (from_place c.args.numbers.now c.args.own c.args.column) c.requires.entry) c.args.size 1 (from_place c.write_combination.new.spare c.args.own) (from_place c.reduce_row.new.numbers c.args.own) c.requires.column_in (omega arith) (λ p hp. by_one _ _ ((c.in-Ok.ensures.written p hp).0 ∙ ap₂ (λ u v. place_number (from_place c.args.numbers.now c.args.own) (from_place c.args.numbers.now c.args.first) c.args.column u v p) (read_back c.factors-u.result.0 c.factors-u.ensures.own_fits ∙ c.factors-u.ensures.own ∙ ap₂ own_factor (read_at c.args.numbers.now (c.args.first + c.args.column) c.requires.fit) (read_at c.args.numbers.now (c.args.own + c.args.column) c.requires.fit)) (read_back c.factors-u.result.1 c.factors-u.ensures.other_fits ∙ c.factors-u.ensures.other ∙ ap₂ other_factor (read_at c.args.numbers.now (c.args.first + c.args.column) c.requires.fit) (read_at c.args.numbers.now (c.args.own + c.args.column) c.requires.fit)))) c.reduce_row.ensures.reduced
+pub returns-clause-written : goal.returns-clause-written
+returns-clause-written c =
+    pivoted_row (from_place c.args.numbers.now c.args.own) (from_place c.args.numbers.now c.args.first) c.args.column c.requires.row.positive c.requires.pivot_row.positive c.requires.entry c.requires.column_positive (own_factor (from_place c.args.numbers.now c.args.first c.args.column) (from_place c.args.numbers.now c.args.own c.args.column)) (other_factor (from_place c.args.numbers.now c.args.first c.args.column) (from_place c.args.numbers.now c.args.own c.args.column)) (own_factor_pos (from_place c.args.numbers.now c.args.first c.args.column) (from_place c.args.numbers.now c.args.own c.args.column) c.requires.entry) (factors_cross (from_place c.args.numbers.now c.args.first c.args.column) (from_place c.args.numbers.now c.args.own c.args.column) c.requires.entry) c.args.size 1 (from_place c.write_combination.new.spare c.args.own) (from_place c.reduce_row.new.numbers c.args.own) c.requires.column_in (omega arith) (λ p hp. by_one _ _ ((c.in_ok-write_combination.ensures.written p hp).0 ∙ ap₂ (λ u v. place_number (from_place c.args.numbers.now c.args.own) (from_place c.args.numbers.now c.args.first) c.args.column u v p) (read_back c.factors-u.result.0 c.factors-u.ensures.own_fits ∙ c.factors-u.ensures.own ∙ ap₂ own_factor (read_at c.args.numbers.now (c.args.first + c.args.column) c.requires.fit) (read_at c.args.numbers.now (c.args.own + c.args.column) c.requires.fit)) (read_back c.factors-u.result.1 c.factors-u.ensures.other_fits ∙ c.factors-u.ensures.other ∙ ap₂ other_factor (read_at c.args.numbers.now (c.args.first + c.args.column) c.requires.fit) (read_at c.args.numbers.now (c.args.own + c.args.column) c.requires.fit)))) c.reduce_row.ensures.reduced
 
-pub returns-in-Ok-clause-fits : goal.returns-in-Ok-clause-fits
-returns-in-Ok-clause-fits c =
-    subst (All StepFits) (sym (steps_are c.args.size (from_place c.args.numbers.now c.args.own) (from_place c.args.numbers.now c.args.first) c.args.column (not_zero _ c.if-number-eq0.false))) (subst₂ (λ u v. All StepFits (steps_to (from_place c.args.numbers.now c.args.own) (from_place c.args.numbers.now c.args.first) c.args.column u v c.args.size)) (read_back c.factors-u.result.0 c.factors-u.ensures.own_fits ∙ c.factors-u.ensures.own ∙ ap₂ own_factor (read_at c.args.numbers.now (c.args.first + c.args.column) c.requires.fit) (read_at c.args.numbers.now (c.args.own + c.args.column) c.requires.fit)) (read_back c.factors-u.result.1 c.factors-u.ensures.other_fits ∙ c.factors-u.ensures.other ∙ ap₂ other_factor (read_at c.args.numbers.now (c.args.first + c.args.column) c.requires.fit) (read_at c.args.numbers.now (c.args.own + c.args.column) c.requires.fit)) c.in-Ok.ensures.fits)
+pub returns-clause-fits : goal.returns-clause-fits
+returns-clause-fits c =
+    subst (All StepFits) (sym (steps_are c.args.size (from_place c.args.numbers.now c.args.own) (from_place c.args.numbers.now c.args.first) c.args.column (not_zero _ c.if-number-eq0.false))) (subst₂ (λ u v. All StepFits (steps_to (from_place c.args.numbers.now c.args.own) (from_place c.args.numbers.now c.args.first) c.args.column u v c.args.size)) (read_back c.factors-u.result.0 c.factors-u.ensures.own_fits ∙ c.factors-u.ensures.own ∙ ap₂ own_factor (read_at c.args.numbers.now (c.args.first + c.args.column) c.requires.fit) (read_at c.args.numbers.now (c.args.own + c.args.column) c.requires.fit)) (read_back c.factors-u.result.1 c.factors-u.ensures.other_fits ∙ c.factors-u.ensures.other ∙ ap₂ other_factor (read_at c.args.numbers.now (c.args.first + c.args.column) c.requires.fit) (read_at c.args.numbers.now (c.args.own + c.args.column) c.requires.fit)) c.in_ok-write_combination.ensures.fits)
 
-pub returns-in-Err-clause-unfit : goal.returns-in-Err-clause-unfit
-returns-in-Err-clause-unfit c =
-    subst (λ s. IsFirstUnfit s c.in-Err.unfit) (sym (steps_are c.args.size (from_place c.args.numbers.now c.args.own) (from_place c.args.numbers.now c.args.first) c.args.column (not_zero _ c.if-number-eq0.false))) (subst₂ (λ u v. IsFirstUnfit (steps_to (from_place c.args.numbers.now c.args.own) (from_place c.args.numbers.now c.args.first) c.args.column u v c.args.size) c.in-Err.unfit) (read_back c.factors-u.result.0 c.factors-u.ensures.own_fits ∙ c.factors-u.ensures.own ∙ ap₂ own_factor (read_at c.args.numbers.now (c.args.first + c.args.column) c.requires.fit) (read_at c.args.numbers.now (c.args.own + c.args.column) c.requires.fit)) (read_back c.factors-u.result.1 c.factors-u.ensures.other_fits ∙ c.factors-u.ensures.other ∙ ap₂ other_factor (read_at c.args.numbers.now (c.args.first + c.args.column) c.requires.fit) (read_at c.args.numbers.now (c.args.own + c.args.column) c.requires.fit)) c.in-Err.ensures.unfit)
+pub returns-in_err-write_combination-clause-unfit : goal.returns-in_err-write_combination-clause-unfit
+returns-in_err-write_combination-clause-unfit c =
+    let p = err_from_is_err_and c.from_residual.result c.from_residual.ensures.1 in
+    rw (p.1, p.2) (subst (λ s. IsFirstUnfit s c.in_err-write_combination.field-0.0) (sym (steps_are c.args.size (from_place c.args.numbers.now c.args.own) (from_place c.args.numbers.now c.args.first) c.args.column (not_zero _ c.if-number-eq0.false))) (subst₂ (λ u v. IsFirstUnfit (steps_to (from_place c.args.numbers.now c.args.own) (from_place c.args.numbers.now c.args.first) c.args.column u v c.args.size) c.in_err-write_combination.field-0.0) (read_back c.factors-u.result.0 c.factors-u.ensures.own_fits ∙ c.factors-u.ensures.own ∙ ap₂ own_factor (read_at c.args.numbers.now (c.args.first + c.args.column) c.requires.fit) (read_at c.args.numbers.now (c.args.own + c.args.column) c.requires.fit)) (read_back c.factors-u.result.1 c.factors-u.ensures.other_fits ∙ c.factors-u.ensures.other ∙ ap₂ other_factor (read_at c.args.numbers.now (c.args.first + c.args.column) c.requires.fit) (read_at c.args.numbers.now (c.args.own + c.args.column) c.requires.fit)) c.in_err-write_combination.ensures.unfit))

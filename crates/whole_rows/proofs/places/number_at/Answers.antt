@@ -12,13 +12,13 @@ pub returns-then-place-eq0 : goal.returns-then-place-eq0
 returns-then-place-eq0 c =
     told_lead (from_place c.args.numbers.now c.args.own) (from_place c.args.numbers.now c.args.first) c.args.column c.args.u c.args.v c.args.place c.product.result c.if-place-eq0.true (simp (read_first c.args.numbers.now c.args.own c.requires.fit, to_z-of_z w128 c.args.u c.ranges.u) at c.product.ensures)
 
-pub returns-in_default : goal.returns-in_default
-returns-in_default c =
-    none_column (from_place c.args.numbers.now c.args.own) (from_place c.args.numbers.now c.args.first) c.args.column c.args.u c.args.v c.args.place c.if-place-eq0.false c.if-place-column.true (simp (read_first c.args.numbers.now c.args.first c.requires.fit, to_z-of_z w128 c.args.v c.ranges.v) at c.in_default.ensures)
+pub returns-in_err-product : goal.returns-in_err-product
+returns-in_err-product c =
+    rw c.from_residual.ensures (none_column (from_place c.args.numbers.now c.args.own) (from_place c.args.numbers.now c.args.first) c.args.column c.args.u c.args.v c.args.place c.if-place-eq0.false c.if-place-column.true (simp (read_first c.args.numbers.now c.args.first c.requires.fit, to_z-of_z w128 c.args.v c.ranges.v) at c.in_err-product.ensures))
 
-pub returns-in-Some : goal.returns-in-Some
-returns-in-Some c =
-    some_column (from_place c.args.numbers.now c.args.own) (from_place c.args.numbers.now c.args.first) c.args.column c.args.u c.args.v c.args.place c.in-Some.number _ c.if-place-eq0.false c.if-place-column.true (simp (read_first c.args.numbers.now c.args.first c.requires.fit, to_z-of_z w128 c.args.v c.ranges.v) at c.in-Some.ensures) (turned_back c.in-Some.number c.in-Some.ensures.1)
+pub returns-in_ok-product : goal.returns-in_ok-product
+returns-in_ok-product c =
+    some_column (from_place c.args.numbers.now c.args.own) (from_place c.args.numbers.now c.args.first) c.args.column c.args.u c.args.v c.args.place c.in_ok-product.field-0 _ c.if-place-eq0.false c.if-place-column.true (simp (read_first c.args.numbers.now c.args.first c.requires.fit, to_z-of_z w128 c.args.v c.ranges.v) at c.in_ok-product.ensures) (turned_back c.in_ok-product.field-0 c.in_ok-product.ensures.1)
 
 pub returns-else-place-column : goal.returns-else-place-column
 returns-else-place-column c =

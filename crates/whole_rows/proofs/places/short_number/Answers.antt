@@ -13,10 +13,10 @@ returns-then-place-eq0 c =
 
 pub returns-then-place-column : goal.returns-then-place-column
 returns-then-place-column c =
-    short_column (from_place c.args.numbers.now c.args.own) (from_place c.args.numbers.now c.args.first) c.args.column c.args.place c.args.u c.args.v c.in-Some.part _ c.if-place-eq0.false c.if-place-column.true (simp (read_first c.args.numbers.now c.args.first c.requires.fit, to_z-of_z w64 c.args.v c.ranges.v) at c.in-Some.ensures) (turned_back c.in-Some.part (product_fits c.in-Some.part c.in-Some.ensures.1))
+    short_column (from_place c.args.numbers.now c.args.own) (from_place c.args.numbers.now c.args.first) c.args.column c.args.place c.args.u c.args.v c.in_ok-short_times.field-0 _ c.if-place-eq0.false c.if-place-column.true (simp (read_first c.args.numbers.now c.args.first c.requires.fit, to_z-of_z w64 c.args.v c.ranges.v) at c.in_ok-short_times.ensures) (turned_back c.in_ok-short_times.field-0 (product_fits c.in_ok-short_times.field-0 c.in_ok-short_times.ensures.1))
 
 pub returns : goal.returns
 returns c =
-    short_other (from_place c.args.numbers.now c.args.own) (from_place c.args.numbers.now c.args.first) c.args.column c.args.place c.args.u c.args.v c.in-Some-short_times.left c.in-Some-short_times-2.right _ c.if-place-eq0.false c.if-place-column.false (simp (read_at c.args.numbers.now (c.args.own + c.args.place) c.requires.fit, to_z-of_z w64 c.args.u c.ranges.u) at c.in-Some-short_times.ensures) (simp (read_at c.args.numbers.now (c.args.first + c.args.place) c.requires.fit, to_z-of_z w64 c.args.v c.ranges.v) at c.in-Some-short_times-2.ensures)
-    (read_back c.short_difference.result c.short_difference.ensures.fits ∙ c.short_difference.ensures.value ∙ ap₂ (λ x y. x -ℤ y) (read_back c.in-Some-short_times.left (product_fits c.in-Some-short_times.left c.in-Some-short_times.ensures.1)) (read_back c.in-Some-short_times-2.right (product_fits c.in-Some-short_times-2.right c.in-Some-short_times-2.ensures.1)))
+    short_other (from_place c.args.numbers.now c.args.own) (from_place c.args.numbers.now c.args.first) c.args.column c.args.place c.args.u c.args.v c.in_ok-short_times-2.field-0 c.in_ok-short_times-3.field-0 _ c.if-place-eq0.false c.if-place-column.false (simp (read_at c.args.numbers.now (c.args.own + c.args.place) c.requires.fit, to_z-of_z w64 c.args.u c.ranges.u) at c.in_ok-short_times-2.ensures) (simp (read_at c.args.numbers.now (c.args.first + c.args.place) c.requires.fit, to_z-of_z w64 c.args.v c.ranges.v) at c.in_ok-short_times-3.ensures)
+    (read_back c.short_difference.result c.short_difference.ensures.fits ∙ c.short_difference.ensures.value ∙ ap₂ (λ x y. x -ℤ y) (read_back c.in_ok-short_times-2.field-0 (product_fits c.in_ok-short_times-2.field-0 c.in_ok-short_times-2.ensures.1)) (read_back c.in_ok-short_times-3.field-0 (product_fits c.in_ok-short_times-3.field-0 c.in_ok-short_times-3.ensures.1)))
     (subst PartFits (sym (read_back c.short_difference.result c.short_difference.ensures.fits)) c.short_difference.ensures.fits)

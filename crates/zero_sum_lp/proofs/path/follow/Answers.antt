@@ -1,4 +1,4 @@
-use Rattle.std.proofs.Common.{ℕ, add-one, ap, arith, ◌<◌, ◌≡◌, length, subst, sym, ◌∙◌}
+use Rattle.std.proofs.Common.{ℕ, suc, add-one, ap, arith, ◌<◌, ◌≡◌, length, subst, sym, ◌∙◌}
 use Rattle.rational.specs.Rational.{zero_ℚ, ◌≤ℚ◌}
 use Rattle.lex_tableau.specs.Pivots.{pivot_number}
 use Rattle.lex_tableau.specs.Rows.{Numbers, tableau}
@@ -44,6 +44,9 @@ returns-in-Err-clause-unfit g c =
 pub returns-in-Err-clause-cost : goal.returns-in-Err-clause-cost
 returns-in-Err-clause-cost g c = let b = under_way_less c.args.work.now c.loop-col.work c.args.pivots.now c.loop-col.pivots c.loop-col.number c.requires.start c.loop-col.invariant in let e = c.pivot.ensures.counted in omega arith
 
+pub returns-in-Err-clause-counted : goal.returns-in-Err-clause-counted
+returns-in-Err-clause-counted g c = let u = c.loop-col.invariant in let e = u.counted in let f = c.pivot.ensures.counted in (suc u.count, omega (arith, e, f), u.is_number)
+
 pub loop-col-smaller : goal.loop-col-smaller
 loop-col-smaller g c = measure_falls _ c.loop-col.pivots c.pivot.new.pivots c.pivot.ensures.counted (under_way_less c.args.work.now c.loop-col.work c.args.pivots.now c.loop-col.pivots c.loop-col.number c.requires.start c.loop-col.invariant)
 
@@ -54,6 +57,9 @@ loop-col-preserved g c =
 pub returns-clause-end : goal.returns-clause-end
 returns-clause-end g c =
     read_end c.args.work.now c.loop-col.work c.now.result.now c.args.pivots.now c.loop-col.pivots c.loop-col.number c.args.objective c.args.width c.requires.start c.loop-col.invariant c.requires.objective_is c.requires.width_is c.now.ensures.value c.in_default.ensures
+
+pub returns-clause-path : goal.returns-clause-path
+returns-clause-path g c = let u = c.loop-col.invariant in let e = u.counted in (u.count, omega (arith, e), u.path)
 
 pub returns-clause-cost : goal.returns-clause-cost
 returns-clause-cost g c = let b = under_way_less c.args.work.now c.loop-col.work c.args.pivots.now c.loop-col.pivots c.loop-col.number c.requires.start c.loop-col.invariant in omega arith

@@ -1,6 +1,6 @@
 use Rattle.std.proofs.Common.{subst}
 use Rattle.lex_tableau.specs.Rows.{tableau}
-use Rattle.zero_sum_lp.specs.Steps.{EntersFirst}
+use Rattle.zero_sum_lp.specs.EnteringColumns.{EntersFirst}
 use Rattle.zero_sum_lp.proofs.EnteringColumnLemmas.{found_first}
 use Rattle.zero_sum_lp.proofs.path.next_entering.Goals as goal
 

@@ -6,7 +6,7 @@ use Rattle.enumpure.specs.Replies.{plays_best}
 use Rattle.enumpure_trees.specs.Listing.{Listing}
 use Rattle.enumpure_trees.specs.Ranks.{lines_below, rank_line, ranked_plays_best}
 use Rattle.enumpure_trees.specs.TreeEquilibria.{profile_line}
-use Rattle.enumpure_trees.proofs.ListedCountLemmas.{text-none, text-push, text-skip}
+use Rattle.enumpure.proofs.ListedLineLemmas.{text-none, text-push, text-skip}
 use Rattle.enumpure_trees.proofs.SortedOrderLemmas.{orders-counts, IsRanked-ordered}
 use Rattle.enumpure_trees.proofs.listing.Lines.push.Goals as goal
 use Rattle.enumpure_trees.proofs.listing.Lines.push.Goals.{then-is_mutual+in_ok-behaviour+in_ok-push_line, else-is_mutual}

@@ -2,8 +2,9 @@ use Rattle.std.proofs.Common.{refl, sym, subst}
 use Rattle.std.proofs.lemmas.Result.{err_from_is_err_and}
 use Rattle.lex_tableau.specs.Rows.{Numbers, tableau}
 use Rattle.sequence_data.specs.Data.{side_of}
-use Rattle.lemke_pivot.specs.Parts.{Problem, IsLeastRow, problem_size}
-use Rattle.lemke_pivot.specs.Paths.{IsPathStart, EndsSolved, EndsUnfit}
+use Rattle.lemke_pivot.specs.Parts.{Problem, problem_size}
+use Rattle.lemke_pivot.specs.ProblemPaths.{IsLeastRow}
+use Rattle.lemke_pivot.specs.Paths.{IsPathStart, EndsSolved, EndsUnfit, LeadsTo}
 use Rattle.lemke_pivot.specs.Ends.{IsSolutionOf, IsUnfitPivot}
 use Rattle.lemke_pivot.proofs.PathStartLemmas.{path_start}
 use Rattle.lemke_pivot.proofs.lcp.Lcp.solve.Goals as goal
@@ -15,8 +16,8 @@ walk-requires g c =
     subst (λ k. IsLeastRow k (tableau i.work).right c.least_row-row.result) c.self.invariant.1 (subst (λ (m : Numbers). IsLeastRow i.size (tableau m).right c.least_row-row.result) c.now.ensures.value c.least_row-row.ensures.least) in
     record { start = subst (λ k. IsPathStart k c.least_row-row.result i.work) (sym c.self.invariant.1) (path_start p c.self.invariant.0 c.least_row-row.result l) }
 
-pub returns-in_err-walk : goal.returns-in_err-walk
-returns-in_err-walk g c =
+pub returns-in_err-walk-clause-end : goal.returns-in_err-walk-clause-end
+returns-in_err-walk-clause-end g c =
     let i = c.self.inside in
     let stop = c.in_err-walk.field-0.0 in
     let l : IsLeastRow (problem_size (side_of i.first) (side_of i.second)) (tableau i.work).right c.least_row-row.result =
@@ -26,10 +27,17 @@ returns-in_err-walk g c =
     let p = err_from_is_err_and c.from_residual.result c.from_residual.ensures.1 in
     rw (p.1, p.2) (subst (λ (q : Problem). IsUnfitPivot q stop) c.self.view_is (record { row = c.least_row-row.result; begins = l; path = e }))
 
-pub returns : goal.returns
-returns g c =
+pub returns-clause-end : goal.returns-clause-end
+returns-clause-end g c =
     let i = c.self.inside in
     let l : IsLeastRow (problem_size (side_of i.first) (side_of i.second)) (tableau i.work).right c.least_row-row.result =
     subst (λ k. IsLeastRow k (tableau i.work).right c.least_row-row.result) c.self.invariant.1 (subst (λ (m : Numbers). IsLeastRow i.size (tableau m).right c.least_row-row.result) c.now.ensures.value c.least_row-row.ensures.least) in
     let e : EndsSolved i.work (problem_size (side_of i.first) (side_of i.second)) c.least_row-row.result c.walk.new.work = subst (λ k. EndsSolved i.work k c.least_row-row.result c.walk.new.work) c.self.invariant.1 c.in_ok-walk.ensures.solved in
     subst (λ (q : Problem). IsSolutionOf q (record { first = i.first; second = i.second; tableau = c.walk.new.work })) c.self.view_is (record { first = refl; second = refl; row = c.least_row-row.result; begins = l; path = e })
+
+pub returns-clause-path : goal.returns-clause-path
+returns-clause-path g c =
+    let i = c.self.inside in
+    let way = c.in_ok-walk.ensures.path in
+    let to : LeadsTo i.work (problem_size (side_of i.first) (side_of i.second)) c.least_row-row.result way.0 c.walk.new.work = subst (λ k. LeadsTo i.work k c.least_row-row.result way.0 c.walk.new.work) c.self.invariant.1 way.2 in
+    (c.least_row-row.result, way.0, way.1, subst (λ (q : Problem). LeadsTo q.tableau (problem_size (side_of q.first) (side_of q.second)) c.least_row-row.result way.0 c.walk.new.work) c.self.view_is to)

@@ -9,11 +9,11 @@ use Rattle.lex_tableau.proofs.tableau.Tableau.write_numbers.Goals as goal
 
 pub write_pivot-requires-clause-entry : goal.write_pivot-requires-clause-entry
 write_pivot-requires-clause-entry c =
-    entry_read (record { starts = c.self.inside.starts.items; basics = c.self.inside.basics.items; nonbasics = c.self.inside.nonbasics.items; rated = c.self.inside.rated; numbers = c.self.inside.numbers.items }) c.args.row c.args.col c.as_slice.result.now c.len-2.result c.self.invariant (rated_in (record { starts = c.self.inside.starts.items; basics = c.self.inside.basics.items; nonbasics = c.self.inside.nonbasics.items; rated = c.self.inside.rated; numbers = c.self.inside.numbers.items }) c.args.row c.self.invariant (subst (λ (n : Numbers). c.args.row < n.rated) (sym c.self.view_is) c.requires.row_in)) (subst (λ (n : Numbers). (tableau n).cell c.args.row c.args.col ≢ zero_ℚ) (sym c.self.view_is) c.requires.entry) c.as_slice.ensures.value (c.len-2.ensures ∙ c.self.inside.nonbasics.ok.0)
+    entry_read (record { starts = c.self.inside.starts.items; basics = c.self.inside.basics.items; nonbasics = c.self.inside.nonbasics.items; rated = c.self.inside.rated; numbers = c.self.inside.numbers.items }) c.args.row c.args.col c.as_slice.result.now c.len-2.result c.self.invariant.0 (rated_in (record { starts = c.self.inside.starts.items; basics = c.self.inside.basics.items; nonbasics = c.self.inside.nonbasics.items; rated = c.self.inside.rated; numbers = c.self.inside.numbers.items }) c.args.row c.self.invariant.0 (subst (λ (n : Numbers). c.args.row < n.rated) (sym c.self.view_is) c.requires.row_in)) (subst (λ (n : Numbers). (tableau n).cell c.args.row c.args.col ≢ zero_ℚ) (sym c.self.view_is) c.requires.entry) c.as_slice.ensures.value (c.len-2.ensures ∙ c.self.inside.nonbasics.ok.0)
 
 pub write_pivot-requires-clause-fit : goal.write_pivot-requires-clause-fit
 write_pivot-requires-clause-fit c =
-    numbers_fit_read (record { starts = c.self.inside.starts.items; basics = c.self.inside.basics.items; nonbasics = c.self.inside.nonbasics.items; rated = c.self.inside.rated; numbers = c.self.inside.numbers.items }) c.as_slice.result.now c.self.invariant c.as_slice.ensures.value
+    numbers_fit_read (record { starts = c.self.inside.starts.items; basics = c.self.inside.basics.items; nonbasics = c.self.inside.nonbasics.items; rated = c.self.inside.rated; numbers = c.self.inside.numbers.items }) c.as_slice.result.now c.self.invariant.0 c.as_slice.ensures.value
 
 pub returns-clause-pivot_row : goal.returns-clause-pivot_row
 returns-clause-pivot_row c =

@@ -1,12 +1,11 @@
-use Rattle.std.proofs.Common.{Ok, Err, ℕ, ◌≡◌, ◌∙◌, ◌<◌, ap, refl, get_or, length, arith}
+use Rattle.std.proofs.Common.{Ok, Err, ℕ, ◌≡◌, ◌∙◌, ◌<◌, sym, refl, get_or, arith}
 use Rattle.std.proofs.lemmas.Result.{err_from_is_err_and}
 use Rattle.pure_payoffs.specs.Plays.{choice_of, game_of}
 use Rattle.pure_payoffs.proofs.BranchStepLemmas.{skipped-gives, child-refused, product-refused, product-added, branch-more, branch-refused}
 use Rattle.pure_payoffs.proofs.NodeValueLemmas.{owned-gives, end-gives, following-refused, node-added}
 use Rattle.pure_payoffs.proofs.PlaceLemmas.{child-read, child-found, play-chooses}
-use Rattle.pure_payoffs.proofs.TreePartLemmas.{set-read, pays-read, count-read, prob-read, owner-read}
 use Rattle.pure_payoffs.proofs.payoff.Play.+values.Goals as goal
-use Rattle.pure_payoffs.proofs.payoff.Play.+values.Goals.{value_after-After-index-self-node, chance_value-After-index-actions-action}
+use Rattle.pure_payoffs.proofs.payoff.Play.+values.Goals.{value_after-After-index-self-node, chance_value-After-probability-prob}
 
 pub with_branch-returns-then-is_zero-clause-gives : goal.with_branch-returns-then-is_zero-clause-gives
 with_branch-returns-then-is_zero-clause-gives t c = skipped-gives _ _ _ _ (c.if-is_zero.ensures.0 refl)
@@ -25,31 +24,23 @@ with_branch-returns-clause-gives t c =
 
 pub value_at-returns-in_err-value_after-in-Some-clause-gives : goal.value_at-returns-in_err-value_after-in-Some-clause-gives
 value_at-returns-in_err-value_after-in-Some-clause-gives t c =
-    let below : c.args.node < length c.nodes.result.now = omega (arith, ap length c.nodes.ensures.nodes) in
-    let set = set-read c.args.self.now.tree.now _ c.args.node _ c.nodes.ensures.nodes below ∙ c.in-Some.is in
     let p = err_from_is_err_and c.from_residual.result c.from_residual.ensures.1 in
-    rw (p.1, p.2) (following-refused _ _ c.args.player c.requires.play.tree (play-chooses _ _ _ _ _ c.requires.play) c.args.node c.requires.node _ set _ c.in_err-value_after-in-Some.ensures.gives)
+    rw (p.1, p.2) (following-refused _ _ c.args.player c.requires.play.tree (play-chooses _ _ _ _ _ c.requires.play) c.args.node c.requires.node _ (sym c.set.ensures ∙ c.in-Some.is) _ c.in_err-value_after-in-Some.ensures.gives)
 
 pub value_at-returns-in_ok-value_after-in-Some-clause-gives : goal.value_at-returns-in_ok-value_after-in-Some-clause-gives
 value_at-returns-in_ok-value_after-in-Some-clause-gives t c =
-    let below : c.args.node < length c.nodes.result.now = omega (arith, ap length c.nodes.ensures.nodes) in
-    let set = set-read c.args.self.now.tree.now _ c.args.node _ c.nodes.ensures.nodes below ∙ c.in-Some.is in
-    let pays = pays-read c.args.self.now.tree.now _ c.args.node c.args.player _ _ c.nodes.ensures.nodes below c.outcome_payoff-pays.ensures in
-    node-added _ _ c.args.player c.requires.play.tree (play-chooses _ _ _ _ _ c.requires.play) c.args.node c.requires.node _ set _ _ _ pays c.in_ok-value_after-in-Some.ensures.gives.0 c.in_ok-value_after-in-Some.ensures.gives.1 c.add.ensures.value c.add.ensures.fits c.add.ensures.step c.add.ensures.unfit
+    let following = c.in_ok-value_after-in-Some.ensures.gives in
+    node-added _ _ c.args.player c.requires.play.tree (play-chooses _ _ _ _ _ c.requires.play) c.args.node c.requires.node _ (sym c.set.ensures ∙ c.in-Some.is) _ _ _ c.pays-pays.ensures following.0 following.1 c.add.ensures.value c.add.ensures.fits c.add.ensures.step c.add.ensures.unfit
 
 pub value_at-returns-in-None-clause-gives : goal.value_at-returns-in-None-clause-gives
 value_at-returns-in-None-clause-gives t c =
-    let below : c.args.node < length c.nodes.result.now = omega (arith, ap length c.nodes.ensures.nodes) in
-    let set = set-read c.args.self.now.tree.now _ c.args.node _ c.nodes.ensures.nodes below ∙ c.in-None.is in
-    let pays = pays-read c.args.self.now.tree.now _ c.args.node c.args.player _ _ c.nodes.ensures.nodes below c.outcome_payoff-pays.ensures in
-    end-gives _ _ c.args.player c.requires.play.tree (play-chooses _ _ _ _ _ c.requires.play) c.args.node c.requires.node _ set pays
+    end-gives _ _ c.args.player c.requires.play.tree (play-chooses _ _ _ _ _ c.requires.play) c.args.node c.requires.node _ (sym c.set.ensures ∙ c.in-None.is) c.pays-pays.ensures
 
 -- the owner chooses one of the set's actions
 chosen : (t : ℕ) (c : goal.value_after-After-index-self-node t) → c.action_at-action.result < (game_of c.args.self.now).actions c.args.set
 chosen t c =
     let within = c.requires.play.tree.sets_within c.args.node c.args.set c.requires.node c.requires.set in
-    let owner = owner-read c.args.kind _ c.in-Move.owner c.requires.kind c.in-Move.is in
-    rw c.action_at-action.ensures (play-chooses _ _ _ _ _ c.requires.play c.args.set c.in-Move.owner within owner)
+    rw c.action_at-action.ensures (play-chooses _ _ _ _ _ c.requires.play c.args.set c.in-Some.owner within (sym c.owner.ensures ∙ c.in-Some.is))
 
 pub value_after-index-requires : goal.value_after-index-requires
 value_after-index-requires t c =
@@ -62,60 +53,45 @@ value_after-value-requires t c =
     let found = child-found (λ v. v.items) _ c.args.self.now.children.now c.args.node c.args.set c.action_at-action.result c.index-self-node.result c.index.result.now c.requires.play.tree c.requires.play.children_are c.requires.node c.requires.set below c.index.ensures in
     (omega arith, (c.requires.play, (found.2, (c.requires.player, c.requires.keep))))
 
-pub value_after-returns-in-Move-clause-gives : goal.value_after-returns-in-Move-clause-gives
-value_after-returns-in-Move-clause-gives t c =
-    let below = chosen t (goal.at.value_after-returns-in-Move-clause-gives t c).After-index-self-node in
+pub value_after-returns-in-Some-clause-gives : goal.value_after-returns-in-Some-clause-gives
+value_after-returns-in-Some-clause-gives t c =
+    let below = chosen t (goal.at.value_after-returns-in-Some-clause-gives t c).After-index-self-node in
     let found = child-found (λ v. v.items) _ c.args.self.now.children.now c.args.node c.args.set c.action_at-action.result c.index-self-node.result c.index.result.now c.requires.play.tree c.requires.play.children_are c.requires.node c.requires.set below c.index.ensures in
-    owned-gives (game_of c.args.self.now) (choice_of c.args.self.now) c.args.player c.args.node c.args.set c.in-Move.owner c.index.result.now _ _ (owner-read c.args.kind _ c.in-Move.owner c.requires.kind c.in-Move.is) (rw c.action_at-action.ensures at found.0) c.value.ensures.gives
-
--- the set of a node of chance is one of the sets
-set-within : (t : ℕ) (c : goal.chance_value-After-index-actions-action t) → c.args.set < length c.sets.result.now
-set-within t c =
-    let within = c.requires.play.tree.sets_within c.args.node c.args.set c.requires.node c.requires.set in
-    omega (arith, within, ap length c.sets.ensures.sets)
+    owned-gives (game_of c.args.self.now) (choice_of c.args.self.now) c.args.player c.args.node c.args.set c.in-Some.owner c.index.result.now _ _ (sym c.owner.ensures ∙ c.in-Some.is) (rw c.action_at-action.ensures at found.0) c.value.ensures.gives
 
 -- an action in the loop is one of the set's
-action-within : (t : ℕ) (c : goal.chance_value-After-index-actions-action t) → c.loop-action.action < (game_of c.args.self.now).actions c.args.set
-action-within t c =
-    let count = count-read c.args.self.now.tree.now _ c.args.set _ _ c.sets.ensures.sets (set-within t c) c.index-sets-set.is c.actions-actions.ensures in
-    rw (← count) c.loop-action-test.true
+action-within : (t : ℕ) (c : goal.chance_value-After-probability-prob t) → c.loop-action.action < (game_of c.args.self.now).actions c.args.set
+action-within t c = omega (arith, c.action_count-action-end.ensures)
 
 pub chance_value-index-requires : goal.chance_value-index-requires
 chance_value-index-requires t c =
-    let read = child-read (λ v. v.items) _ c.args.self.now.children.now c.args.node c.args.set c.loop-action.action c.index-self-node.result c.requires.play.tree c.requires.play.children_are c.requires.node c.requires.set (action-within t (goal.at.chance_value-index-requires t c).After-index-actions-action) in
+    let read = child-read (λ v. v.items) _ c.args.self.now.children.now c.args.node c.args.set c.loop-action.action c.index-self-node.result c.requires.play.tree c.requires.play.children_are c.requires.node c.requires.set (action-within t (goal.at.chance_value-index-requires t c).After-probability-prob) in
     rw (get_or c.args.self.now.children.now c.args.node c.index-self-node.result).ok.0 read.0
 
 pub chance_value-with_branch-requires : goal.chance_value-with_branch-requires
 chance_value-with_branch-requires t c =
-    let below = action-within t (goal.at.chance_value-with_branch-requires t c).After-index-actions-action in
+    let below = action-within t (goal.at.chance_value-with_branch-requires t c).After-probability-prob in
     let found = child-found (λ v. v.items) _ c.args.self.now.children.now c.args.node c.args.set c.loop-action.action c.index-self-node.result c.index.result.now c.requires.play.tree c.requires.play.children_are c.requires.node c.requires.set below c.index.ensures in
     (omega arith, (c.requires.play, (found.2, (c.requires.player, c.loop-action.invariant.0))))
 
 pub chance_value-returns-in_err-sum-clause-gives : goal.chance_value-returns-in_err-sum-clause-gives
 chance_value-returns-in_err-sum-clause-gives t c =
-    let before = (goal.at.chance_value-returns-in_err-sum-clause-gives t c).After-index-actions-action in
-    let below = action-within t before in
+    let below = action-within t (goal.at.chance_value-returns-in_err-sum-clause-gives t c).After-probability-prob in
     let found = child-found (λ v. v.items) _ c.args.self.now.children.now c.args.node c.args.set c.loop-action.action c.index-self-node.result c.index.result.now c.requires.play.tree c.requires.play.children_are c.requires.node c.requires.set below c.index.ensures in
-    let prob = prob-read c.args.self.now.tree.now _ c.args.set c.loop-action.action _ _ _ c.sets.ensures.sets (set-within t before) c.index-sets-set.is c.actions-actions.ensures c.loop-action-test.true in
     let p = err_from_is_err_and c.from_residual.result c.from_residual.ensures.1 in
-    rw (p.1, p.2) (branch-refused _ _ _ c.loop-action.action _ _ c.loop-action.invariant.1 prob c.loop-action.invariant.2 _ _ below (rw found.0 at c.in_err-sum.ensures.gives))
+    rw (p.1, p.2) (branch-refused _ _ _ c.loop-action.action _ _ c.loop-action.invariant.1 c.probability-prob.ensures c.loop-action.invariant.2 _ _ below (rw found.0 at c.in_err-sum.ensures.gives))
 
 pub chance_value-loop-action-preserved : goal.chance_value-loop-action-preserved
 chance_value-loop-action-preserved t c =
-    let before = (goal.at.chance_value-loop-action-preserved t c).After-index-actions-action in
-    let below = action-within t before in
+    let below = action-within t (goal.at.chance_value-loop-action-preserved t c).After-probability-prob in
     let found = child-found (λ v. v.items) _ c.args.self.now.children.now c.args.node c.args.set c.loop-action.action c.index-self-node.result c.index.result.now c.requires.play.tree c.requires.play.children_are c.requires.node c.requires.set below c.index.ensures in
-    let prob = prob-read c.args.self.now.tree.now _ c.args.set c.loop-action.action _ _ _ c.sets.ensures.sets (set-within t before) c.index-sets-set.is c.actions-actions.ensures c.loop-action-test.true in
-    let more = branch-more _ _ _ c.loop-action.action _ _ c.loop-action.invariant.1 prob c.loop-action.invariant.2 _ (rw found.0 at c.in_ok-sum.ensures.gives.0) (rw found.0 at c.in_ok-sum.ensures.gives.1) in
+    let more = branch-more _ _ _ c.loop-action.action _ _ c.loop-action.invariant.1 c.probability-prob.ensures c.loop-action.invariant.2 _ (rw found.0 at c.in_ok-sum.ensures.gives.0) (rw found.0 at c.in_ok-sum.ensures.gives.1) in
     (c.in_ok-sum.ensures.keep, more.0, more.1)
 
 pub chance_value-returns-clause-gives : goal.chance_value-returns-clause-gives
 chance_value-returns-clause-gives t c =
-    let within = c.requires.play.tree.sets_within c.args.node c.args.set c.requires.node c.requires.set in
-    let inside : c.args.set < length c.sets.result.now = omega (arith, within, ap length c.sets.ensures.sets) in
-    let count = count-read c.args.self.now.tree.now _ c.args.set _ _ c.sets.ensures.sets inside c.index-sets-set.is c.actions-actions.ensures in
-    let all : c.loop-action.action ≡ length c.actions-actions.result.now = omega arith in
-    rw (← count, ← all) (c.loop-action.invariant.1, c.loop-action.invariant.2)
+    let all : c.loop-action.action ≡ (game_of c.args.self.now).actions c.args.set = omega (arith, c.action_count-action-end.ensures) in
+    rw (← all) (c.loop-action.invariant.1, c.loop-action.invariant.2)
 
 pub value-returns-in_err-value-clause-gives : goal.value-returns-in_err-value-clause-gives
 value-returns-in_err-value-clause-gives t c =

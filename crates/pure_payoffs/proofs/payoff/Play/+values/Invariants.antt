@@ -30,6 +30,6 @@ abbrev pub invariant-chance_value-loop-action : goal.invariant-chance_value-loop
 invariant-chance_value-loop-action l =
     let t = game_of l.self in
     let choice = choice_of l.self in
-    KeepShortcuts t choice l.shortcuts
+    KeepShortcuts t choice l.entries
     × (l.sum ≡ sum_to l.action (λ a. t.chance l.set a *ℚ value t (pure choice) l.player (child t l.node a)))
     × All StepFits (chance_steps l.action (t.chance l.set) (λ a. value t (pure choice) l.player (child t l.node a)) (λ a. steps_at t choice l.player (child t l.node a)))

@@ -4,5 +4,5 @@ use Rattle.pure_payoffs.specs.Settled.{HavePlaces}
 use Rattle.pure_payoffs.proofs.settled.Settled.new.Given as goal
 
 -- the places of the nodes so far
-abbrev pub invariant-loop-number : goal.invariant-loop-number
-invariant-loop-number l = HavePlaces (game_of_tree l.tree) l.number (map (λ v. v.items) l.places.items)
+abbrev pub invariant-loop-node : goal.invariant-loop-node
+invariant-loop-node l = HavePlaces (game_of_tree l.tree) l.node (map (λ v. v.items) l.places.items)

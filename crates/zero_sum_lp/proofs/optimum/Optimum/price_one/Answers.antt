@@ -3,17 +3,11 @@ use Rattle.std.proofs.Common.{sym, ◌≤◌, ◌≡◌, ◌+◌, length, subst}
 use Rattle.zero_sum_lp.specs.Programs.{price_one as first_price}
 use Rattle.lex_tableau.specs.Rows.{tableau}
 use Rattle.zero_sum_lp.specs.Parts.{Program}
-use Rattle.zero_sum_lp.proofs.OptimumLemmas.{read_row, read_width, read_distinct, read_other, first_price_is, few_sets}
+use Rattle.zero_sum_lp.proofs.OptimumLemmas.{read_row, read_other, first_price_is, few_sets}
 use Rattle.zero_sum_lp.proofs.optimum.Optimum.price_one.Goals as goal
 
 pub objective_entry-requires-clause-row_in : goal.objective_entry-requires-clause-row_in
 objective_entry-requires-clause-row_in c = read_row (record { first = c.self.inside.first; second = c.self.inside.second; tableau = c.self.inside.work }) c.self.invariant.0 c.now.result.now c.now.ensures.value c.self.inside.objective c.self.inside.width c.self.invariant.1
-
-pub objective_entry-requires-clause-width_is : goal.objective_entry-requires-clause-width_is
-objective_entry-requires-clause-width_is c = read_width (record { first = c.self.inside.first; second = c.self.inside.second; tableau = c.self.inside.work }) c.self.invariant.0 c.now.result.now c.now.ensures.value c.self.inside.objective c.self.inside.width c.self.invariant.1
-
-pub objective_entry-requires-clause-distinct : goal.objective_entry-requires-clause-distinct
-objective_entry-requires-clause-distinct c = read_distinct (record { first = c.self.inside.first; second = c.self.inside.second; tableau = c.self.inside.work }) c.self.invariant.0 c.now.result.now c.now.ensures.value c.self.inside.objective c.self.inside.width c.self.invariant.1
 
 pub objective_entry-requires-clause-other : goal.objective_entry-requires-clause-other
 objective_entry-requires-clause-other c =

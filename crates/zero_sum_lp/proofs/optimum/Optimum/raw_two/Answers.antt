@@ -3,18 +3,12 @@ use Rattle.sequence_data.specs.declared.types.SetRow.{SetRow}
 use Rattle.zero_sum_lp.specs.Programs.{raw_two}
 use Rattle.lex_tableau.specs.Rows.{tableau}
 use Rattle.sequence_data.specs.Data.{side_of}
-use Rattle.zero_sum_lp.proofs.OptimumLemmas.{read_row, read_width, read_distinct, read_other}
+use Rattle.zero_sum_lp.proofs.OptimumLemmas.{read_row, read_other}
 use Rattle.zero_sum_lp.proofs.PlanReadLemmas.{weights_push, raw_two_is, slack_variable}
 use Rattle.zero_sum_lp.proofs.optimum.Optimum.raw_two.Goals as goal
 
 pub objective_entry-requires-clause-row_in : goal.objective_entry-requires-clause-row_in
 objective_entry-requires-clause-row_in c = read_row (record { first = c.self.inside.first; second = c.self.inside.second; tableau = c.self.inside.work }) c.self.invariant.0 c.now.result.now c.now.ensures.value c.self.inside.objective c.self.inside.width c.self.invariant.1
-
-pub objective_entry-requires-clause-width_is : goal.objective_entry-requires-clause-width_is
-objective_entry-requires-clause-width_is c = read_width (record { first = c.self.inside.first; second = c.self.inside.second; tableau = c.self.inside.work }) c.self.invariant.0 c.now.result.now c.now.ensures.value c.self.inside.objective c.self.inside.width c.self.invariant.1
-
-pub objective_entry-requires-clause-distinct : goal.objective_entry-requires-clause-distinct
-objective_entry-requires-clause-distinct c = read_distinct (record { first = c.self.inside.first; second = c.self.inside.second; tableau = c.self.inside.work }) c.self.invariant.0 c.now.result.now c.now.ensures.value c.self.inside.objective c.self.inside.width c.self.invariant.1
 
 pub objective_entry-requires-clause-other : goal.objective_entry-requires-clause-other
 objective_entry-requires-clause-other c =

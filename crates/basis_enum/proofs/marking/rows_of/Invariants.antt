@@ -1,0 +1,5 @@
+use Rattle.basis_enum.specs.Marks.{AreRowsTo}
+use Rattle.basis_enum.proofs.marking.rows_of.Given as goal
+
+abbrev pub invariant-loop-row : goal.invariant-loop-row
+invariant-loop-row l = AreRowsTo l.tableau l.row l.rows

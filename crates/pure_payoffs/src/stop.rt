@@ -1,0 +1,28 @@
+// Why what a profile pays was not computed.
+use frac128::Unfit;
+use std::alloc::AllocFailed;
+
+/// Why what a profile pays was not computed.
+#[derive(Clone, Copy, Debug, PartialEq, Eq)]
+pub enum PayoffStop {
+    /// A step of a player's payoff does not fit: the first, players in order.
+    Range {
+        /// The player, from 0.
+        player: u32,
+        /// The step.
+        unfit: Unfit,
+    },
+    /// Memory ran out.
+    Memory,
+}
+
+impl<T: Drop> From<AllocFailed<T>> for PayoffStop {
+    ghost use Rattle.std.specs.Prelude.{◌≡◌};
+    ghost use Rattle.pure_payoffs.specs.declared.stop.PayoffStop.TheVariants as stops;
+
+    ghost from_gives = { λ _ e. e ≡ stops.Memory };
+
+    fn from(_refused: AllocFailed<T>) -> PayoffStop {
+        PayoffStop::Memory
+    }
+}
