@@ -1,6 +1,7 @@
--- Refusals of the tool `check` come from the contents of its inputs, and it has at most one answer.
-use Rattle.std.proofs.Common.{ℕ, ◌+◌, ◌≡◌, ◌∙◌, ◌<◌, ap, refl, Bool, true, false, List, [], ◌∷◌, ◌++◌, length, Err}
-use Rattle.answers.specs.Answers.{Answer, IsSingle, ◌>>=◌, ◌>>◌, only, refused_by, such_that, refused}
+-- Refusals of the tool `check` come from the contents of its inputs, the steps that they name do not fit, and it has at
+-- most one answer.
+use Rattle.std.proofs.Common.{ℕ, ◌+◌, ◌≡◌, ◌<◌, inl, inr, refl, subst, sym, Bool, true, false, List, [], ◌∷◌, ◌++◌, length, Err}
+use Rattle.answers.specs.Answers.{Answer, IsSingle, ◌>>=◌, ◌>>◌, only, refused_by, refused}
 use Rattle.answers.proofs.AnswerLemmas.{bind-single, refuse_where-single, refused_by-single}
 use Rattle.rational.specs.Rational.{ℚ}
 use Rattle.game_core.specs.Table.{GameTable, strategy_counts}
@@ -9,9 +10,8 @@ use Rattle.game_core.specs.Tree.{GameTree}
 use Rattle.game_core.specs.TreeGame.{game_of_tree}
 use Rattle.game_core.specs.declared.game.Game.{Game}
 use Rattle.game_core.specs.declared.game.Game.TheVariants.{Strategic, Extensive}
-use Rattle.behaviour_profile.specs.EntryTests.{action_counts, profile_in}
+use Rattle.behaviour_profile.specs.EntryTests.{action_counts, fault_of, profile_in, Passes, Test, IsNotNegative, CanBeAdded, SumsToOne}
 use Rattle.behaviour_profile.specs.declared.entries.ProfileFault.{ProfileFault}
-use Rattle.behaviour_profile.specs.declared.entries.ProfileFault.TheVariants as fault
 use Rattle.ne_printer.specs.ReadLines.{line_in}
 use Rattle.ne_printer.specs.declared.reading.LineStop.{LineStop}
 use Rattle.ne_printer.specs.declared.reading.LineStop.TheVariants as line_stop
@@ -37,51 +37,56 @@ use Rattle.gambit_tools.specs.Check.{check, verdicts}
 use Rattle.two_player_tools.specs.GameTypes.{IsGame}
 use Rattle.gambit_tools.specs.Games.{game_in, within_bytes}
 use Rattle.gambit_tools.specs.Input.{most_bytes}
-use Rattle.gambit_tools.specs.Origins.{Contents, origin}
-use Rattle.gambit_tools.proofs.FormContentLemmas.{AreContents, AreReasons, inner-reasons, only-reasons, recall-contents, strategic_form-contents, then-contents, then-reasons, told-contents}
+use Rattle.gambit_tools.proofs.FormContentLemmas.{AreContents, AreReasons, IsOfContents, inner-reasons, only-reasons, recall-contents, strategic_form-contents, then-contents, then-reasons, told-contents}
 use Rattle.two_player_tools.proofs.FormSingleLemmas.{RecallsAreSingle}
 use Rattle.gambit_tools.proofs.ReadGameLemmas.{game_in-valid}
 use Rattle.gambit_tools.proofs.GameSingleLemmas.{game_in-single}
 
--- ---- origins
-unread-reasons : (number : ℕ) (line : List ℕ) (stop : LineStop) → line_in line (Err stop) → origin (check_refusal (unread number stop)) ≡ Contents
+-- ---- contents
+unread-reasons : (number : ℕ) (line : List ℕ) (stop : LineStop) → line_in line (Err stop) → IsOfContents (check_refusal (unread number stop))
 unread-reasons number line line_stop.Bad h = refl
 unread-reasons number line line_stop.Memory h = absurd h
 
-faulty-reasons : (number : ℕ) (fault : ProfileFault) → origin (check_refusal (faulty number fault)) ≡ Contents
-faulty-reasons number (fault.Unfit step) = refl
-faulty-reasons number fault.Count = refl
-faulty-reasons number (fault.Negative place) = refl
-faulty-reasons number (fault.Sum group) = refl
+-- a test that is not passed
+failed-reasons : (number : ℕ) (test : Test) → ¬ (Passes test) → IsOfContents (check_refusal (faulty number (fault_of test)))
+failed-reasons number (IsNotNegative place entry) fails = refl
+failed-reasons number (CanBeAdded step) fails = fails
+failed-reasons number (SumsToOne group sum) fails = refl
+
+faulty-reasons : (number : ℕ) (sizes : List ℕ) (entries : List ℚ) (fault : ProfileFault) → profile_in sizes entries (Err fault) → IsOfContents (check_refusal (faulty number fault))
+faulty-reasons number sizes entries fault (inl h) = subst (λ s. IsOfContents (check_refusal (faulty number s))) (sym h.1) refl
+faulty-reasons number sizes entries fault (inr (_, _, inl h)) =
+    subst (λ s. IsOfContents (check_refusal (faulty number s))) (sym h.2) (failed-reasons number h.0 h.1.fails)
+faulty-reasons number sizes entries fault (inr (_, _, inr (_, _, h))) = cc
 
 entries-reasons : (number : ℕ) (sizes line : List ℕ) → AreReasons check_refusal (line_entries number sizes line)
 entries-reasons number sizes line =
     then-reasons check_refusal (refused_by (unread number) (line_in line)) (λ entries. refused_by (faulty number) (profile_in sizes entries))
     (inner-reasons check_refusal (unread number) (line_in line) (unread-reasons number line))
-    (λ entries. inner-reasons check_refusal (faulty number) (profile_in sizes entries) (λ fault _. faulty-reasons number fault))
+    (λ entries. inner-reasons check_refusal (faulty number) (profile_in sizes entries) (faulty-reasons number sizes entries))
 
-refused-reasons : (stop : CheckStop) → origin (check_refusal stop) ≡ Contents → AreReasons check_refusal (refused {Y = List ℕ} stop)
-refused-reasons stop e other h =
-    let same : other ≡ stop = cc h in
-    ap (λ r. origin (check_refusal r)) same ∙ e
+refused-reasons : (stop : CheckStop) → IsOfContents (check_refusal stop) → AreReasons check_refusal (refused {Y = List ℕ} stop)
+refused-reasons stop of_contents other h =
+    let same : stop ≡ other = cc h in
+    subst (λ s. IsOfContents (check_refusal s)) same of_contents
 
-table_told-reasons : (number : ℕ) (verdict : TableVerdict) → AreReasons check_refusal (table_told number verdict)
-table_told-reasons number table_verdicts.Equilibrium = only-reasons check_refusal equilibrium_text
-table_told-reasons number (table_verdicts.Better player payoff best reply) = only-reasons check_refusal (better_text player payoff best (reply ∷ []))
-table_told-reasons number (table_verdicts.Range step) = refused-reasons (check_stop.Range number step) refl
+table_told-reasons : (number : ℕ) (table : GameTable) (entries : List ℚ) (verdict : TableVerdict) → table_verdict table entries verdict → AreReasons check_refusal (table_told number verdict)
+table_told-reasons number table entries table_verdicts.Equilibrium v = only-reasons check_refusal equilibrium_text
+table_told-reasons number table entries (table_verdicts.Better player payoff best reply) v = only-reasons check_refusal (better_text player payoff best (reply ∷ []))
+table_told-reasons number table entries (table_verdicts.Range step) v = refused-reasons (check_stop.Range number step) (v.2.first_unfit.does_not_fit)
 
 table_judged-reasons : (number : ℕ) (table : GameTable) (entries : List ℚ) → AreReasons check_refusal (table_judged number table entries)
-table_judged-reasons number table entries =
-    then-reasons check_refusal (such_that (table_verdict table entries)) (table_told number) (λ stop h. absurd h) (table_told-reasons number)
+table_judged-reasons number table entries stop (inl h) = absurd h
+table_judged-reasons number table entries stop (inr (verdict, v, h)) = table_told-reasons number table entries verdict v stop h
 
-tree_told-reasons : (number : ℕ) (verdict : TreeVerdict × List ℕ) → AreReasons check_refusal (tree_told number verdict)
-tree_told-reasons number (tree_verdicts.Equilibrium, reply) = only-reasons check_refusal equilibrium_text
-tree_told-reasons number (tree_verdicts.Better player payoff best, reply) = only-reasons check_refusal (better_text player payoff best reply)
-tree_told-reasons number (tree_verdicts.Range step, reply) = refused-reasons (check_stop.Range number step) refl
+tree_told-reasons : (number : ℕ) (tree : GameTree) (entries : List ℚ) (verdict : TreeVerdict × List ℕ) → tree_verdict tree entries verdict.0 verdict.1 → AreReasons check_refusal (tree_told number verdict)
+tree_told-reasons number tree entries (tree_verdicts.Equilibrium, reply) v = only-reasons check_refusal equilibrium_text
+tree_told-reasons number tree entries (tree_verdicts.Better player payoff best, reply) v = only-reasons check_refusal (better_text player payoff best reply)
+tree_told-reasons number tree entries (tree_verdicts.Range step, reply) v = refused-reasons (check_stop.Range number step) (v.2.0.first.does_not_fit)
 
 tree_judged-reasons : (number : ℕ) (tree : GameTree) (entries : List ℚ) → AreReasons check_refusal (tree_judged number tree entries)
-tree_judged-reasons number tree entries =
-    then-reasons check_refusal (such_that (λ v. tree_verdict tree entries v.0 v.1)) (tree_told number) (λ stop h. absurd h) (tree_told-reasons number)
+tree_judged-reasons number tree entries stop (inl h) = absurd h
+tree_judged-reasons number tree entries stop (inr (verdict, v, h)) = tree_told-reasons number tree entries verdict v stop h
 
 table_line-reasons : (table : GameTable) (number : ℕ) (line : List ℕ) → AreReasons check_refusal (table_line table number line)
 table_line-reasons table number line =
@@ -115,11 +120,11 @@ strategic-contents game lines =
     then-contents (strategic_form game) (λ table. refused_by check_refusal (table_check table lines)) (strategic_form-contents game)
     (λ table. told-contents check_refusal (table_check table lines) (table_check-reasons table lines))
 
-pub verdicts-origin : (strategic : Bool) (game : Game) (lines : List ℕ) (r : Refusal) → verdicts strategic game lines (Err r) → origin r ≡ Contents
-verdicts-origin true (Strategic table) lines = strategic-contents (Strategic table) lines
-verdicts-origin false (Strategic table) lines = strategic-contents (Strategic table) lines
-verdicts-origin true (Extensive tree) lines = strategic-contents (Extensive tree) lines
-verdicts-origin false (Extensive tree) lines =
+pub verdicts-contents : (strategic : Bool) (game : Game) (lines : List ℕ) (r : Refusal) → verdicts strategic game lines (Err r) → IsOfContents r
+verdicts-contents true (Strategic table) lines = strategic-contents (Strategic table) lines
+verdicts-contents false (Strategic table) lines = strategic-contents (Strategic table) lines
+verdicts-contents true (Extensive tree) lines = strategic-contents (Extensive tree) lines
+verdicts-contents false (Extensive tree) lines =
     then-contents (refused_by recall_refusal (recall_of tree)) (λ _. refused_by check_refusal (tree_check tree lines))
     (told-contents recall_refusal (recall_of tree) (recall-contents tree)) (λ _. told-contents check_refusal (tree_check tree lines) (tree_check-reasons tree lines))
 

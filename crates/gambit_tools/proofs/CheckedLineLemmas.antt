@@ -9,13 +9,13 @@ use Rattle.game_core.specs.declared.game.Game.{Game}
 use Rattle.gambit_tools.specs.Check.{check, verdicts}
 use Rattle.gambit_tools.specs.Input.{most_bytes, AreBytesOf, IsInputRefusal, IsReadToEnd, CountsDetermine}
 use Rattle.gambit_tools.specs.Games.{game_in}
-use Rattle.gambit_tools.specs.Origins.{Contents as of_contents, origin}
 use Rattle.gambit_tools.specs.Outcome.{HasAnswer, HasReadBefore, IsComputed, IsRefusedIn, RunAnswer}
 use Rattle.refusals.specs.declared.refusal.Refusal.{Refusal}
 use Rattle.refusals.specs.declared.refusal.Refusal.TheVariants as refusal
-use Rattle.gambit_tools.proofs.CheckContentLemmas.{verdicts-origin}
+use Rattle.gambit_tools.proofs.CheckContentLemmas.{verdicts-contents}
 use Rattle.gambit_tools.proofs.OneInputLemmas.{counts_none, too_long}
-use Rattle.gambit_tools.proofs.ContentLaws.{game_in-origin}
+use Rattle.gambit_tools.proofs.ContentLaws.{game_in-contents}
+use Rattle.gambit_tools.proofs.FormContentLemmas.{IsOfContents, contents-origin}
 
 -- bytes that an input may hold
 some_bytes : (held : Option (List ℕ)) → (bytes : List ℕ) × AreBytesOf held bytes
@@ -134,8 +134,9 @@ module _ (strategic : Bool) (bytes_name : List ℕ) (lines_name : InputName) whe
   whole : (before after : InputsSeen) (bytes lines : List ℕ) (answer : RunAnswer) → AreBothRead before after bytes lines → check strategic bytes lines answer → HasAnswer command before answer
   whole before after bytes lines answer h g = record { contents = bytes ∷ lines ∷ []; are_contents = (h.are_bytes, (h.are_lines, tt)); is_answer = g }
 
-  contents-computed : (before after : InputsSeen) (bytes lines : List ℕ) (r : Refusal) → AreBothRead before after bytes lines → origin r ≡ of_contents → check strategic bytes lines (Err r) → IsComputed command before after (Err r)
-  contents-computed before after bytes lines r h o g =
+  contents-computed : (before after : InputsSeen) (bytes lines : List ℕ) (r : Refusal) → AreBothRead before after bytes lines → IsOfContents r → check strategic bytes lines (Err r) → IsComputed command before after (Err r)
+  contents-computed before after bytes lines r h c g =
+      let o = contents-origin r c in
       let answer : HasAnswer command before (Err r) = whole before after bytes lines (Err r) h g in
       record {
         answers = subst (λ o. IsRefusedIn command before after r o) (sym o) answer;
@@ -153,7 +154,7 @@ module _ (strategic : Bool) (bytes_name : List ℕ) (lines_name : InputName) whe
   pub game-computed : (before after : InputsSeen) (bytes lines : List ℕ) (r : Refusal) → AreBothRead before after bytes lines → Gives refusal.Memory (game_in bytes) (Err r) → IsComputed command before after (Err r)
   game-computed before after bytes lines r h (inl e) = subst (λ r. IsComputed command before after (Err r)) (sym e) (memory-computed before after bytes lines h)
   game-computed before after bytes lines r h (inr g) =
-      contents-computed before after bytes lines r h (game_in-origin bytes r h.few_bytes g)
+      contents-computed before after bytes lines r h (game_in-contents bytes r h.few_bytes g)
       (inr (tt, (λ more. (let few = h.few_bytes in omega (arith, few, more))), inr (tt, (λ more. (let few = h.few_lines in omega (arith, few, more))), inl g)))
 
   -- what the lines are judged to be
@@ -166,4 +167,4 @@ module _ (strategic : Bool) (bytes_name : List ℕ) (lines_name : InputName) whe
     inputs_stay = h.stay;
   }
   verdicts-computed before after bytes lines game (Err r) h k (inl e) = subst (λ r. IsComputed command before after (Err r)) (sym e) (memory-computed before after bytes lines h)
-  verdicts-computed before after bytes lines game (Err r) h k (inr g) = contents-computed before after bytes lines r h (verdicts-origin strategic game lines r g) (later before after bytes lines r h (game, k, g))
+  verdicts-computed before after bytes lines game (Err r) h k (inr g) = contents-computed before after bytes lines r h (verdicts-contents strategic game lines r g) (later before after bytes lines r h (game, k, g))

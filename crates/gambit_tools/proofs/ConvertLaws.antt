@@ -17,8 +17,7 @@ use Rattle.refusals.specs.declared.refusal.Refusal.{Refusal}
 use Rattle.two_player_tools.specs.StrategicForms.{strategic_form}
 use Rattle.two_player_tools.proofs.StrategicFormLemmas.{strategic_form-single}
 use Rattle.gambit_tools.specs.Convert.{convert, layout_in}
-use Rattle.gambit_tools.specs.Origins.{Contents, origin}
-use Rattle.gambit_tools.proofs.FormContentLemmas.{AreReasons, inner-reasons, strategic_form-contents, then-contents, then-reasons, told-contents, where-reasons}
+use Rattle.gambit_tools.proofs.FormContentLemmas.{AreReasons, IsOfContents, inner-reasons, strategic_form-contents, then-contents, then-reasons, told-contents, where-reasons}
 
 -- ---- one answer
 layout_in-single : (html : Bool) (table : GameTable) (row column : ℕ) → IsSingle (layout_in html table row column)
@@ -30,7 +29,7 @@ convert-single html row column game =
     bind-single (strategic_form game) (λ table. refused_by convert_refusal (layout_in html table row column)) (strategic_form-single game)
     (λ table _. refused_by-single convert_refusal (layout_in html table row column) (layout_in-single html table row column))
 
--- ---- origins
+-- ---- contents
 laid_out-reasons : (style : Style) (t : GameTable) (row column : ℕ) → AreReasons convert_refusal (laid_out style t row column)
 laid_out-reasons style t row column =
     let text = layout style t (row - 1) (column - 1) in
@@ -48,7 +47,7 @@ layout_in-reasons : (html : Bool) (table : GameTable) (row column : ℕ) → Are
 layout_in-reasons true table row column = laid_out-reasons Html table row column
 layout_in-reasons false table row column = laid_out-reasons Sgame table row column
 
-pub convert-origin : (html : Bool) (row column : ℕ) (game : Game) (r : Refusal) → convert html row column game (Err r) → origin r ≡ Contents
-convert-origin html row column game =
+pub convert-contents : (html : Bool) (row column : ℕ) (game : Game) (r : Refusal) → convert html row column game (Err r) → IsOfContents r
+convert-contents html row column game =
     then-contents (strategic_form game) (λ table. refused_by convert_refusal (layout_in html table row column)) (strategic_form-contents game)
     (λ table. told-contents convert_refusal (layout_in html table row column) (layout_in-reasons html table row column))

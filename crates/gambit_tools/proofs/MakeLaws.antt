@@ -13,7 +13,7 @@ use Rattle.refusals.specs.declared.refusal.Refusal.TheVariants as refusal
 use Rattle.gambit_tools.specs.Input.{CountsDetermine}
 use Rattle.gambit_tools.specs.Make.{counts_text, make}
 use Rattle.gambit_tools.specs.Outcome.{HasAnswer, HasReadBefore, IsComputed, IsRefusedIn}
-use Rattle.gambit_tools.proofs.FormContentLemmas.{AreContents, only-contents, then-contents, told-contents}
+use Rattle.gambit_tools.proofs.FormContentLemmas.{AreContents, contents-origin, only-contents, then-contents, told-contents}
 use Rattle.gambit_tools.proofs.MixedContentLemmas.{pairs-contents}
 
 pub make-single : (number rows columns : ℕ) → IsSingle (make number rows columns)
@@ -22,8 +22,8 @@ make-single number rows columns =
     bind-single (refused_by mixed_refusal (extreme_pairs g)) (λ pairs. only (counts_text pairs))
     (refused_by-single mixed_refusal (extreme_pairs g) (pairs-single g)) (λ pairs _. only-single (counts_text pairs))
 
-make-origin : (number rows columns : ℕ) → AreContents (make number rows columns)
-make-origin number rows columns =
+pub make-contents : (number rows columns : ℕ) → AreContents (make number rows columns)
+make-contents number rows columns =
     let g = made_game number rows columns in
     then-contents (refused_by mixed_refusal (extreme_pairs g)) (λ pairs. only (counts_text pairs))
     (told-contents mixed_refusal (extreme_pairs g) (pairs-contents g)) (λ pairs. only-contents (counts_text pairs))
@@ -38,7 +38,7 @@ no_counts seen refused = record {
 module _ (number rows columns workers : ℕ) (seen : InputsSeen) where
   of_table : (r : Refusal) → make number rows columns (Err r) → IsComputed (Make number rows columns workers) seen seen (Err r)
   of_table r g =
-      let o = make-origin number rows columns r g in
+      let o = contents-origin r (make-contents number rows columns r g) in
       let answer : HasAnswer (Make number rows columns workers) seen (Err r) = record { contents = []; are_contents = tt; is_answer = g } in
       record {
         answers = subst (λ o. IsRefusedIn (Make number rows columns workers) seen seen r o) (sym o) answer;

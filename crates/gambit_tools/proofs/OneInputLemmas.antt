@@ -8,11 +8,12 @@ use Rattle.game_core.specs.declared.game.Game.{Game}
 use Rattle.gambit_tools.specs.Input.{most_bytes, AreBytesOf, IsInputRefusal, IsReadToEnd, CountsDetermine}
 use Rattle.gambit_tools.specs.Games.{game_in}
 use Rattle.gambit_tools.specs.Commands.{inputs_of, tool_of, game_answer, answer_of}
-use Rattle.gambit_tools.specs.Origins.{Contents as of_contents, origin}
+use Rattle.gambit_tools.specs.Origins.{Contents as of_contents}
 use Rattle.gambit_tools.specs.Outcome.{AreContents, AreRead, RunAnswer, HasAnswer, HasReadBefore, IsComputed, IsRefusedIn, SelectsFew}
 use Rattle.refusals.specs.declared.refusal.Refusal.{Refusal}
 use Rattle.refusals.specs.declared.refusal.Refusal.TheVariants as refusal
-use Rattle.gambit_tools.proofs.ContentLaws.{game_in-origin, game_in-too_long, tool_of-origin}
+use Rattle.gambit_tools.proofs.ContentLaws.{game_in-contents, game_in-too_long, tool_of-contents}
+use Rattle.gambit_tools.proofs.FormContentLemmas.{IsOfContents, contents-origin}
 
 -- the one input that a command names
 the_input : (command : Command) (name : InputName) → inputs_of command ≡ name ∷ [] → Contains (inputs_of command) name
@@ -76,8 +77,9 @@ memory-computed command name before after bytes h =
     record { answers = tt; has_read = inr (name, the_input command name h.one, h.read.selected); selects_few = one_selection command name before after h.one h.once; counts = counts_none before after refusal.Memory h.counts; inputs_stay = h.stay }
 
 -- a refusal by the contents
-contents-computed : (command : Command) (name : InputName) (before after : InputsSeen) (bytes : List ℕ) (r : Refusal) → IsRead command name before after bytes → origin r ≡ of_contents → answer_of command (bytes ∷ []) (Err r) → IsComputed command before after (Err r)
-contents-computed command name before after bytes r h o g =
+contents-computed : (command : Command) (name : InputName) (before after : InputsSeen) (bytes : List ℕ) (r : Refusal) → IsRead command name before after bytes → IsOfContents r → answer_of command (bytes ∷ []) (Err r) → IsComputed command before after (Err r)
+contents-computed command name before after bytes r h c g =
+    let o = contents-origin r c in
     let answer : HasAnswer command before (Err r) = record { contents = bytes ∷ []; are_contents = one_content command name before bytes h.one h.are; is_answer = g } in
     record {
       answers = subst (λ o. IsRefusedIn command before after r o) (sym o) answer;
@@ -90,7 +92,7 @@ contents-computed command name before after bytes r h o g =
 -- a game that is refused
 pub game-computed : (command : Command) (name : InputName) (before after : InputsSeen) (bytes : List ℕ) (r : Refusal) → IsRead command name before after bytes → Gives refusal.Memory (game_in bytes) (Err r) → IsComputed command before after (Err r)
 game-computed command name before after bytes r h (inl e) = subst (λ r. IsComputed command before after (Err r)) (sym e) (memory-computed command name before after bytes h)
-game-computed command name before after bytes r h (inr g) = contents-computed command name before after bytes r h (game_in-origin bytes r h.few g) (one_answer command name bytes (Err r) h.one (inl g))
+game-computed command name before after bytes r h (inr g) = contents-computed command name before after bytes r h (game_in-contents bytes r h.few g) (one_answer command name bytes (Err r) h.one (inl g))
 
 -- what a tool answers for the game
 pub text-computed : (command : Command) (name : InputName) (before after : InputsSeen) (bytes : List ℕ) (game : Game) (answer : RunAnswer) → IsRead command name before after bytes → game_in bytes (Ok game)
@@ -103,4 +105,4 @@ text-computed command name before after bytes game (Ok text) h k g = record {
   inputs_stay = h.stay;
 }
 text-computed command name before after bytes game (Err r) h k (inl e) = subst (λ r. IsComputed command before after (Err r)) (sym e) (memory-computed command name before after bytes h)
-text-computed command name before after bytes game (Err r) h k (inr g) = contents-computed command name before after bytes r h (tool_of-origin command game r g) (one_answer command name bytes (Err r) h.one (inr (game, k, g)))
+text-computed command name before after bytes game (Err r) h k (inr g) = contents-computed command name before after bytes r h (tool_of-contents command game r g) (one_answer command name bytes (Err r) h.one (inr (game, k, g)))

@@ -1,9 +1,11 @@
--- What each text of a tool says of the game that the bytes of its input stand for, or that is made.
-use Rattle.std.specs.Prelude.{ℕ, Bool, List, [], ◌∷◌, Ok}
+-- What each text of a tool says of the game that the bytes of its input stand for, or that is made; and what each refusal
+-- that names a step says of it.
+use Rattle.std.specs.Prelude.{ℕ, Bool, List, [], ◌∷◌, Ok, Err}
+use Rattle.frac128.specs.Steps.{Step, StepFits}
 use Rattle.game_core.specs.declared.game.Game.{Game}
 use Rattle.game_core.specs.MadeTables.{made_game}
 use Rattle.outside.specs.Inputs.{InputName}
-use Rattle.words.specs.Words.{Enumpure, Enummixed, Lcp, Lp, Check, Make}
+use Rattle.words.specs.Words.{Command, Enumpure, Enummixed, Lcp, Lp, Check, Make}
 use Rattle.two_player_tools.specs.LcpLaws.{IsEquilibriumText}
 use Rattle.two_player_tools.specs.LpLaws.{IsSolved}
 use Rattle.gambit_tools.specs.Check.{IsCheckText}
@@ -12,6 +14,8 @@ use Rattle.gambit_tools.specs.Enummixed.{IsExtremeText}
 use Rattle.gambit_tools.specs.Enumpure.{IsPureText}
 use Rattle.gambit_tools.specs.Games.{game_in}
 use Rattle.gambit_tools.specs.Make.{IsCountsText}
+use Rattle.refusals.specs.declared.refusal.Refusal.TheVariants as refusal
+use Rattle.refusals.specs.declared.refusal.Site.{Site}
 
 -- Each text of `enumpure` lists the pure equilibria, that of `enummixed` the extreme ones, that of `lcp` is
 -- an equilibrium, that of `lp` a solution, that of `check` tells of each line, and that of `make` counts.
@@ -34,3 +38,9 @@ pub record TextsHoldForTheGame : Type 0 where
   pub make : (number rows columns workers : ℕ) (text : List ℕ)
       → answer_of (Make number rows columns workers) [] (Ok text)
       → IsCountsText (made_game number rows columns) text
+
+-- The step that a refusal names does not fit.
+abbrev pub RangesDoNotFit : Type 0
+RangesDoNotFit =
+    (command : Command) (contents : List (List ℕ)) (place : Site) (step : Step)
+    → answer_of command contents (Err (refusal.Range place step)) → ¬ (StepFits step)

@@ -8,7 +8,7 @@ ghost use Rattle.gambit_tools.specs.Seen.{outside, seen};
 ghost use Rattle.gambit_tools.specs.Input.{CountsDetermine};
 ghost use Rattle.refusals.specs.Refusals.{status_of, IsToldAs, HasFormedLine};
 ghost use Rattle.gambit_tools.specs.Commands.{answer_of};
-ghost use Rattle.gambit_tools.specs.Laws.{TextsHoldForTheGame};
+ghost use Rattle.gambit_tools.specs.Laws.{RangesDoNotFit, TextsHoldForTheGame};
 ghost use Rattle.gambit_tools.specs.Outcome.{RunAnswer, IsTold, TakesLine, IsComputed, IsRunOf, IsToldRun, IsComplete};
 ghost use Rattle.refusals.specs.declared.refusal.Refusal.{Refusal};
 
@@ -200,6 +200,11 @@ pub fn answers_are_single()
     table_checks_are_single();
     tree_checks_are_single();
 }
+
+/// The step that a refusal names does not fit 128 bits.
+pub fn ranges_do_not_fit()
+    ensures { RangesDoNotFit }
+{}
 
 /// Each text of `enumpure`, `enummixed`, `lcp`, `lp` and `check` says what is so of the game that the
 /// bytes of the input stand for, and that of `make` what is so of the table that is made.
